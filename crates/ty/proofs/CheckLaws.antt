@@ -1,7 +1,7 @@
 -- Laws of the check of a type table. Assumes nothing.
 use mathlib.Core.Path.{_≡_, refl, sym, ap, subst, _∙_}
 use mathlib.Core.List.{List, [], _∷_}
-use mathlib.Core.Bool.{Bool, true, false}
+use mathlib.Core.Bool.{Bool, true, false, _&&_}
 use mathlib.Core.Logic.{_⊎_, inl, inr, ⊎-elim}
 use Prim.Native.Nat.{ℕ, zero, suc, _+_, _-_, _*_, _/_, _≤_, _<_}
 use native.Mathlib.Nat.{eq-or-lt-of-le}
@@ -9,7 +9,7 @@ use native.Mathlib.Numerals.{add-one}
 use native.Mathlib.Omega.{arith}
 use lib.Dec.{ltb, leb, eqb}
 use borrow.Author.Tests.{eq-eqb, ne-eqb, le-leb, lt-leb, leb-true, leb-false}
-use Rattle.word.specs.Num.{pick}
+use Rattle.word.specs.Choice.{if_then_else_}
 use Rattle.ty.specs.Check.{allBelow}
 
 -- a part of n from a on, of m
@@ -32,7 +32,7 @@ module _ (p : ℕ → Bool) where
   unfolding allBelow
   all-next i e h = rw (add-one, e, h) refl
 
-  both-false : (x : Bool) → false ≡ pick x false false
+  both-false : (x : Bool) → false ≡ x && false
   both-false true = refl
   both-false false = refl
 
@@ -47,6 +47,6 @@ module _ (p : ℕ → Bool) where
   pub all-end : (i n : ℕ) → i ≤ n → n ≤ i → allBelow p i ≡ true → true ≡ allBelow p n
   all-end i n h k e = let q : n ≡ i = omega arith in rw q (sym e)
 
-pub and-true : (x : Bool) → x ≡ pick x true false
+pub and-true : (x : Bool) → x ≡ x && true
 and-true true = refl
 and-true false = refl

@@ -2,24 +2,23 @@
 -- Assumes nothing.
 use mathlib.Core.Path.{_≡_, refl, sym, ap, subst, _∙_}
 use mathlib.Core.List.{List, [], _∷_}
-use mathlib.Core.Bool.{Bool, true, false}
+use mathlib.Core.Bool.{Bool, true, false, _&&_}
 use mathlib.Core.Logic.{_⊎_, inl, inr, ⊎-elim}
 use Prim.Native.Nat.{ℕ, zero, suc, _+_, _-_, _*_, _/_, _≤_, _<_, min}
 use native.Mathlib.Nat.{min-eq-left, min-eq-right, min-le-right, le-of-lt}
 use native.Mathlib.Omega.{arith}
 use lib.Dec.{leb}
-use lib.ListN.{length, getD, set, List·getD-eq-default}
+use lib.ListN.{length, getD, set, replicate, List·getD-eq-default}
 use lib.Seq.{ext-getD}
 use types.Run.{OneOf, miss}
 use denote.Enum.Declared.{tagOf}
 use borrow.Author.Tests.{le-leb, lt-leb}
-use Rattle.word.specs.Num.{pick}
-use Rattle.word.specs.InPlace.{Mapped, mapped-none, mapped-more}
+use Rattle.word.proofs.InPlace.{Mapped, mapped-none, mapped-more}
 use Rattle.ty.specs.Types.{Ty, Ty.missing, Ty.int, Ty.physical, Ty.enum, Ty.real, Ty.array, Ty.fields, Ty.access, Ty.file, Ty.protected, Field, Field.field, typeAt}
 use Rattle.ty.specs.Walks.{unfoldFields, unfoldBy, unfoldAt}
 use Rattle.ty.specs.View.{listed, readTy, entryAt, fieldsFrom, typesOf}
 use Rattle.ty.specs.Check.{allBelow, smallAt}
-use Rattle.ty.specs.Counts.{countIn, Capped, fieldSum, fieldSums, nextCount, nextCounts, countsAt, smallIn, ones}
+use Rattle.ty.specs.Counts.{countIn, Capped, fieldSum, fieldSums, nextCount, nextCounts, countsAt, smallIn}
 use Rattle.ty.specs.declared.Entry.{Entry}
 use Rattle.ty.specs.declared.Entry.the-variants.{Missing, Int, Physical, Enum, Real, Array, Record, Access, File, Protected}
 use Rattle.ty.proofs.Entry.{the-type as entry-type}
@@ -168,15 +167,14 @@ by-one f h access = refl
 by-one f h file = refl
 by-one f h protected = refl
 
-pub first-level : (ts : List Ty) (n : ℕ) (l : List ℕ) → l ≡ ones n → l ≡ countsAt ts n 1
-unfolding ones countsAt unfoldAt
-first-level ts n l e =
-    e ∙ listed-ext (λ t. 1) (λ t. min (unfoldAt ts 1 t) 65537) 0 n
-    (λ t. sym (ap (λ (x : ℕ). min (suc x) 65537) (by-one (unfoldAt ts 0) (λ u. refl) (typeAt ts t))))
+ones-listed : (f : ℕ → ℕ) (i n : ℕ) → ((t : ℕ) → f t ≡ 1) → replicate n 1 ≡ listed f i n
+unfolding listed
+ones-listed f i zero h = refl
+ones-listed f i (suc n) h = ap (λ (l : List ℕ). 1 ∷ l) (ones-listed f (i + 1) n h) ∙ ap (λ (x : ℕ). x ∷ listed f (i + 1) n) (sym (h i))
 
-pub ones-filled : (start now : List ℕ) (i : ℕ) → Mapped (λ t. 1) start now i → length start ≤ i → now ≡ ones (length start)
-unfolding ones
-ones-filled start now i m h = filled (λ t. 1) start now i m h
+pub first-level : (ts : List Ty) (n : ℕ) (l : List ℕ) → l ≡ replicate n 1 → l ≡ countsAt ts n 1
+unfolding countsAt unfoldAt
+first-level ts n l e = e ∙ ones-listed (λ t. min (unfoldAt ts 1 t) 65537) 0 n (λ t. ap (λ (x : ℕ). min (suc x) 65537) (by-one (unfoldAt ts 0) (λ u. refl) (typeAt ts t)))
 
 -- sums of fields
 fields-sum : (f : ℕ → ℕ) (fs : List ℕ) (i n m : ℕ) → unfoldFields f (fieldsFrom fs i (n + m)) ≡ unfoldFields f (fieldsFrom fs i n) + unfoldFields f (fieldsFrom fs (i + n) m)
@@ -319,7 +317,7 @@ small-cap x = ⊎-elim
 all-ext : (p q : ℕ → Bool) (n : ℕ) → ((i : ℕ) → i < n → p i ≡ q i) → allBelow p n ≡ allBelow q n
 unfolding allBelow
 all-ext p q zero h = refl
-all-ext p q (suc n) h = ap (λ (x : Bool). pick x (p n) false) (all-ext p q n (λ i l. h i (omega arith))) ∙ ap (λ (x : Bool). pick (allBelow q n) x false) (h n (omega arith))
+all-ext p q (suc n) h = ap (λ (x : Bool). x && p n) (all-ext p q n (λ i l. h i (omega arith))) ∙ ap (λ (x : Bool). allBelow q n && x) (h n (omega arith))
 
 pub all-counted : (ts : List Ty) (n : ℕ) (l : List ℕ) → l ≡ countsAt ts n 65 → allBelow (smallIn l) (length l) ≡ allBelow (smallAt ts) n
 unfolding smallAt countsAt

@@ -5,7 +5,8 @@ use Prim.Native.Nat.{ℕ, zero, suc, _+_, _-_, _*_, _/_, _%_, _^_, _≤_, _<_, m
 use native.Mathlib.Omega.{arith}
 use lib.Dec.{ltb, leb, eqb, lit<}
 use borrow.Author.Tests.{lt-ltb, le-ltb, le-leb, lt-leb, eq-eqb, ne-eqb}
-use Rattle.word.specs.Num.{pick, productAt, alignUp, alignedAt}
+use Rattle.word.specs.Choice.{if_then_else_}
+use Rattle.word.specs.Num.{productAt, alignUp, alignedAt}
 use Rattle.word.specs.declared.Product.{Product}
 use Rattle.word.specs.declared.Product.the-variants.{Fits, TooLarge}
 use Rattle.word.specs.declared.Aligned.{Aligned}
@@ -30,7 +31,7 @@ pub product-is : (a b n : ℕ) (p : Product) → p ≡ productAt 64 a b → p �
 unfolding productAt wordOf
 product-is a b n p e h = go (ltb (a * b) (2 ^ 64)) (sym e ∙ h)
   where
-    go : (x : Bool) → pick x (Fits (a * b)) TooLarge ≡ Fits n → Is n ≡ pick x (Is (a * b)) Over
+    go : (x : Bool) → if_then_else_ x (Fits (a * b)) TooLarge ≡ Fits n → Is n ≡ if_then_else_ x (Is (a * b)) Over
     go true q = let z : a * b ≡ n = cc in ap Is (sym z)
     go false q = let z : _≡_ {A = ℕ} 0 1 = cc in absurd (omega arith)
 
@@ -38,7 +39,7 @@ pub product-over : (a b : ℕ) (p : Product) → p ≡ productAt 64 a b → p �
 unfolding productAt wordOf
 product-over a b p e h = go (ltb (a * b) (2 ^ 64)) (sym e ∙ h)
   where
-    go : (x : Bool) → pick x (Fits (a * b)) TooLarge ≡ TooLarge → Over ≡ pick x (Is (a * b)) Over
+    go : (x : Bool) → if_then_else_ x (Fits (a * b)) TooLarge ≡ TooLarge → Over ≡ if_then_else_ x (Is (a * b)) Over
     go true q = let z : _≡_ {A = ℕ} 0 1 = cc in absurd (omega arith)
     go false q = refl
 
@@ -46,7 +47,7 @@ pub aligned-is : (x a b n : ℕ) (p : Aligned) → b ≡ max a 1 → p ≡ align
 unfolding alignedAt wordOf
 aligned-is x a b n p eb e h = rw (← eb) (go (ltb (alignUp x b) (2 ^ 64)) (sym e ∙ h))
   where
-    go : (t : Bool) → pick t (To (alignUp x b)) TooFar ≡ To n → Is n ≡ pick t (Is (alignUp x b)) Over
+    go : (t : Bool) → if_then_else_ t (To (alignUp x b)) TooFar ≡ To n → Is n ≡ if_then_else_ t (Is (alignUp x b)) Over
     go true q = let z : alignUp x b ≡ n = cc in ap Is (sym z)
     go false q = let z : _≡_ {A = ℕ} 0 1 = cc in absurd (omega arith)
 
@@ -54,7 +55,7 @@ pub aligned-over : (x a b : ℕ) (p : Aligned) → b ≡ max a 1 → p ≡ align
 unfolding alignedAt wordOf
 aligned-over x a b p eb e h = rw (← eb) (go (ltb (alignUp x b) (2 ^ 64)) (sym e ∙ h))
   where
-    go : (t : Bool) → pick t (To (alignUp x b)) TooFar ≡ TooFar → Over ≡ pick t (Is (alignUp x b)) Over
+    go : (t : Bool) → if_then_else_ t (To (alignUp x b)) TooFar ≡ TooFar → Over ≡ if_then_else_ t (Is (alignUp x b)) Over
     go true q = let z : _≡_ {A = ℕ} 0 1 = cc in absurd (omega arith)
     go false q = refl
 

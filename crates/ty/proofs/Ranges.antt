@@ -7,7 +7,7 @@ use native.Mathlib.Omega.{arith}
 use lib.ListN.{length, getD}
 use lib.Dec.{ltb, leb, eqb}
 use borrow.Author.Tests.{leb-true}
-use Rattle.word.specs.Num.{pick}
+use Rattle.word.specs.Choice.{if_then_else_}
 use Rattle.ty.specs.Scalars.{elemSize}
 use Rattle.ty.specs.View.{readTy, entryOf, entryAt, partAt, bare}
 use Rattle.ty.specs.declared.Part.{Part}
@@ -16,7 +16,7 @@ use Rattle.ty.specs.declared.Entry.{Entry}
 use Rattle.ty.specs.declared.Entry.the-variants.{Missing, Int, Physical, Enum, Real, Array, Record, Access, File, Protected}
 
 -- where a constant's part lies
-part-cases : (nb a n : ℕ) (i j k : Bool) (x y : ℕ) → leb (a + n) nb ≡ k → pick i (pick j (pick k (Of a (a + n)) Nowhere) Nowhere) Nowhere ≡ Of x y → (x ≤ y) × (y ≤ nb)
+part-cases : (nb a n : ℕ) (i j k : Bool) (x y : ℕ) → leb (a + n) nb ≡ k → if_then_else_ i (if_then_else_ j (if_then_else_ k (Of a (a + n)) Nowhere) Nowhere) Nowhere ≡ Of x y → (x ≤ y) × (y ≤ nb)
 part-cases nb a n true true true x y h e =
     let p : a ≡ x = cc in
     let q : a + n ≡ y = cc in
@@ -40,7 +40,7 @@ module _ (w : List ℕ) (nb c : ℕ) (p : Part) (ep : p ≡ partAt w nb c) (x y 
   part-end = part-within w nb c x y (sym ep ∙ e) .1
 
 -- a record's fields lie in the table
-entry-cases : (nf a b : ℕ) (i : Bool) (x y : ℕ) → leb (a + b) nf ≡ i → pick i (Record a b) Missing ≡ Record x y → x + y ≤ nf
+entry-cases : (nf a b : ℕ) (i : Bool) (x y : ℕ) → leb (a + b) nf ≡ i → if_then_else_ i (Record a b) Missing ≡ Record x y → x + y ≤ nf
 entry-cases nf a b true x y h e =
     let p : a ≡ x = cc in
     let q : b ≡ y = cc in
@@ -49,7 +49,7 @@ entry-cases nf a b true x y h e =
 entry-cases nf a b false x y h e = let z : _≡_ {A = ℕ} 0 1 = cc in omega arith
 
 class-cases : (nf a b c : ℕ) (i0 i1 i2 i3 i4 i5 i6 i7 i8 : Bool) (x y : ℕ) →
-    pick i0 (Int a b) (pick i1 Physical (pick i2 (Enum a b) (pick i3 Real (pick i4 (Array a b c) (pick i5 (pick (leb (a + b) nf) (Record a b) Missing) (pick i6 Access (pick i7 File (pick i8 Protected Missing)))))))) ≡ Record x y → x + y ≤ nf
+    if_then_else_ i0 (Int a b) (if_then_else_ i1 Physical (if_then_else_ i2 (Enum a b) (if_then_else_ i3 Real (if_then_else_ i4 (Array a b c) (if_then_else_ i5 (if_then_else_ (leb (a + b) nf) (Record a b) Missing) (if_then_else_ i6 Access (if_then_else_ i7 File (if_then_else_ i8 Protected Missing)))))))) ≡ Record x y → x + y ≤ nf
 class-cases nf a b c true i1 i2 i3 i4 i5 i6 i7 i8 x y e = let z : _≡_ {A = ℕ} 0 1 = cc in omega arith
 class-cases nf a b c false true i2 i3 i4 i5 i6 i7 i8 x y e = let z : _≡_ {A = ℕ} 0 1 = cc in omega arith
 class-cases nf a b c false false true i3 i4 i5 i6 i7 i8 x y e = let z : _≡_ {A = ℕ} 0 1 = cc in omega arith
@@ -61,7 +61,7 @@ class-cases nf a b c false false false false false false false true i8 x y e = l
 class-cases nf a b c false false false false false false false false true x y e = let z : _≡_ {A = ℕ} 0 1 = cc in omega arith
 class-cases nf a b c false false false false false false false false false x y e = let z : _≡_ {A = ℕ} 0 1 = cc in omega arith
 
-place-cases : (b : Bool) (e : Entry) (nf x y : ℕ) → (e ≡ Record x y → x + y ≤ nf) → pick b e Missing ≡ Record x y → x + y ≤ nf
+place-cases : (b : Bool) (e : Entry) (nf x y : ℕ) → (e ≡ Record x y → x + y ≤ nf) → if_then_else_ b e Missing ≡ Record x y → x + y ≤ nf
 place-cases true e nf x y h eq = h eq
 place-cases false e nf x y h eq = let z : _≡_ {A = ℕ} 0 1 = cc in omega arith
 

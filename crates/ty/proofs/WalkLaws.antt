@@ -10,7 +10,7 @@ use types.Run.{OneOf, miss}
 use denote.Enum.Declared.{tagOf}
 use borrow.Author.Tests.{eq-eqb, ne-eqb}
 use Rattle.ty.specs.Types.{Ty, Field, Field.field, typeAt, none}
-use Rattle.word.specs.Num.{pick}
+use Rattle.word.specs.Choice.{if_then_else_}
 use Rattle.ty.specs.Words.{wordOf, onWord}
 use Rattle.ty.specs.Walks.{descArray, descFields, descBy, descAt, anyField, handlesBy, handlesAt}
 use Rattle.ty.specs.View.{readTy, entryAt, fieldsFrom, typesOf}

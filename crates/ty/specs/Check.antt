@@ -1,42 +1,43 @@
--- Which type tables are taken (01-scope, "Type table"; refusal 10). Definitions; assumes nothing.
+-- Which type tables are taken (01, "Type table"; otherwise 10).
 use Prim.Native.Nat.{ℕ, zero, suc, _+_, _-_, _*_, _/_, _%_}
 use mathlib.Core.List.{List, [], _∷_}
-use mathlib.Core.Bool.{Bool, true, false}
+use mathlib.Core.Bool.{Bool, true, _&&_}
 use lib.Dec.{ltb, leb, eqb}
 use lib.ListN.{length, getD}
 use Rattle.ty.specs.Types.{Ty}
-use Rattle.word.specs.Num.{pick}
+use Rattle.word.specs.Choice.{if_then_else_}
 use Rattle.ty.specs.View.{typesOf}
 use Rattle.ty.specs.Walks.{unfoldAt}
 
 -- p at every number below n
 unfoldable pub allBelow : (ℕ → Bool) → ℕ → Bool
 allBelow p zero = true
-allBelow p (suc n) = pick (allBelow p n) (p n) false
+allBelow p (suc n) = allBelow p n && p n
 
 unfoldable pub allOf : List Bool → Bool
 allOf [] = true
-allOf (b ∷ bs) = pick b (allOf bs) false
+allOf (b ∷ bs) = b && allOf bs
 
 -- class 0 to 8; of an Enum logic 0 to 3, of an Array dims 0 to 255, of a Record fields within the nf fields
 unfoldable pub goodType : ℕ → ℕ → ℕ → ℕ → ℕ → Bool
 goodType nf class a b c =
-    pick (eqb class 2) (leb b 3) (pick (eqb class 4) (leb c 255) (pick (eqb class 5) (leb (a + b) nf) (leb class 8)))
+    if eqb class 2 then leb b 3 else (if eqb class 4 then leb c 255 else (if eqb class 5 then leb (a + b) nf else leb class 8))
 
 unfoldable pub goodTypeAt : List ℕ → ℕ → ℕ → Bool
 goodTypeAt w nf i = goodType nf (getD w (4 * i) 0) (getD w (4 * i + 1) 0) (getD w (4 * i + 2) 0) (getD w (4 * i + 3) 0)
 
--- plain bytes lie within the nb bytes
+-- a flag 0 or 1; plain bytes lie within the nb bytes
 unfoldable pub goodConst : ℕ → ℕ → ℕ → ℕ → Bool
-goodConst nb flag a n = pick (eqb flag 1) (leb (a + n) nb) (eqb flag 0)
+goodConst nb flag a n = if eqb flag 1 then leb (a + n) nb else eqb flag 0
 
 unfoldable pub goodConstAt : List ℕ → ℕ → ℕ → Bool
 goodConstAt w nb i = goodConst nb (getD w (3 * i) 0) (getD w (3 * i + 1) 0) (getD w (3 * i + 2) 0)
 
--- the unfolding of type t is at most 65,536
+-- each type's unfolding is at most 65,536
 unfoldable pub smallAt : List Ty → ℕ → Bool
 smallAt ts t = leb (unfoldAt ts 65 t) 65536
 
+-- whole rows, at most 4,096 types, 16,384 fields and 4,096 constants, every row good, every unfolding small
 unfoldable pub tableGood : List ℕ → List ℕ → List ℕ → List ℕ → Bool
 tableGood w fs cs b =
     allOf (eqb (length w % 4) 0 ∷ leb (length w / 4) 4096

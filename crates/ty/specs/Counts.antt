@@ -5,7 +5,7 @@ use mathlib.Core.Path.{_≡_}
 use mathlib.Core.List.{List}
 use mathlib.Core.Bool.{Bool}
 use lib.Dec.{leb}
-use lib.ListN.{length, getD}
+use lib.ListN.{length, getD, replicate}
 use Rattle.ty.specs.Types.{Ty, typeAt}
 use Rattle.ty.specs.Walks.{unfoldFields, unfoldBy, unfoldAt}
 use Rattle.ty.specs.View.{listed, fieldsFrom, typesOf}
@@ -38,10 +38,6 @@ countsAt ts n levels = listed (λ t. min (unfoldAt ts levels t) 65537) 0 n
 abbrev pub smallIn : List ℕ → ℕ → Bool
 smallIn counts i = leb (getD counts i 0) 65536
 
--- n ones: the counts at one level
-unfoldable pub ones : ℕ → List ℕ
-ones n = listed (λ t. 1) 0 n
-
 -- scratch of the right lengths
 pub record Fitting (w fs counts other sums : List ℕ) : Type 0 where
   pub types : length w / 4 ≤ 4096
@@ -50,7 +46,7 @@ pub record Fitting (w fs counts other sums : List ℕ) : Type 0 where
   pub second : length other ≡ length w / 4
   pub third : length sums ≡ length fs / 2
 
--- and with the counts at one level
+-- and with the counts at one level, 1 each
 pub record Scratch (w fs counts other sums : List ℕ) : Type 0 where
   pub fits : Fitting w fs counts other sums
-  pub start : counts ≡ ones (length w / 4)
+  pub start : counts ≡ replicate (length w / 4) 1

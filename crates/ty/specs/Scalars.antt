@@ -1,9 +1,9 @@
 -- Sizes of scalars, and the logic kind of nested arrays (01, "Type table": scalars, narrow elements, logic arrays).
 use Prim.Native.Nat.{ℕ, zero, suc, _+_, _-_, _^_}
 use mathlib.Core.List.{List}
-use mathlib.Core.Bool.{Bool, true, false}
+use mathlib.Core.Bool.{Bool, _&&_}
 use lib.Dec.{ltb, leb}
-use Rattle.word.specs.Num.{pick}
+use Rattle.word.specs.Choice.{if_then_else_}
 use Rattle.ty.specs.Words.{rank}
 use Rattle.ty.specs.Types.{Ty, Ty.missing, Ty.int, Ty.physical, Ty.enum, Ty.real, Ty.array, Ty.fields, Ty.access, Ty.file, Ty.protected, typeAt}
 use Rattle.ty.specs.declared.Scalar.{Scalar}
@@ -14,7 +14,7 @@ unfoldable pub scalarSize : Ty → Scalar
 scalarSize missing = Composite
 scalarSize (int lo hi) = Bytes 8
 scalarSize physical = Bytes 8
-scalarSize (enum n logic) = pick (leb n 256) (Bytes 1) (Bytes 4)
+scalarSize (enum n logic) = if leb n 256 then Bytes 1 else Bytes 4
 scalarSize real = Bytes 8
 scalarSize (array e c k) = Composite
 scalarSize (fields fs) = Composite
@@ -24,14 +24,14 @@ scalarSize protected = Bytes 8
 
 -- an Int with lo at least -2^31 and hi at most 2^31 - 1
 unfoldable pub narrow : ℕ → ℕ → Bool
-narrow lo hi = pick (leb (2 ^ 63 - 2 ^ 31) (rank lo)) (ltb (rank hi) (2 ^ 63 + 2 ^ 31)) false
+narrow lo hi = leb (2 ^ 63 - 2 ^ 31) (rank lo) && ltb (rank hi) (2 ^ 63 + 2 ^ 31)
 
 -- in an array a narrow Int takes 4
 unfoldable pub elemSize : Ty → Scalar
 elemSize missing = Composite
-elemSize (int lo hi) = pick (narrow lo hi) (Bytes 4) (Bytes 8)
+elemSize (int lo hi) = if narrow lo hi then Bytes 4 else Bytes 8
 elemSize physical = Bytes 8
-elemSize (enum n logic) = pick (leb n 256) (Bytes 1) (Bytes 4)
+elemSize (enum n logic) = if leb n 256 then Bytes 1 else Bytes 4
 elemSize real = Bytes 8
 elemSize (array e c k) = Composite
 elemSize (fields fs) = Composite

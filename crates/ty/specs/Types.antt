@@ -1,4 +1,4 @@
--- The type table as plain data (01-scope, "Type table"). Definitions; assumes nothing.
+-- The type table as plain data (01, "Type table").
 use Prim.Native.Nat.{ℕ, zero, suc}
 use mathlib.Core.List.{List, [], _∷_}
 use lib.ListN.{getD}

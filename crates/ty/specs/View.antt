@@ -1,11 +1,11 @@
--- The lent slices of a type table, read as plain data. Definitions; assumes nothing.
+-- The lent slices of a type table, read as plain data: four words a type, two a field, three a constant. What is bad reads as missing, so that every
+-- slice is some table.
 use Prim.Native.Nat.{ℕ, zero, suc, _+_, _-_, _*_, _/_}
 use mathlib.Core.List.{List, [], _∷_}
-use mathlib.Core.Bool.{Bool, true, false}
 use lib.Dec.{ltb, leb, eqb}
 use lib.ListN.{length, getD, drop, take}
-use Rattle.ty.specs.Types.{Ty, Ty.missing, Ty.int, Ty.physical, Ty.enum, Ty.real, Ty.array, Ty.fields, Ty.access, Ty.file, Ty.protected, Field, Field.field, Const, Const.plain, Const.other, Table, typeAt, constAt, none}
-use Rattle.word.specs.Num.{pick}
+use Rattle.ty.specs.Types.{Ty, Ty.missing, Ty.int, Ty.physical, Ty.enum, Ty.real, Ty.array, Ty.fields, Ty.access, Ty.file, Ty.protected, Field, Field.field, Const, Const.plain, Const.other, Table}
+use Rattle.word.specs.Choice.{if_then_else_}
 use Rattle.ty.specs.declared.Entry.{Entry}
 use Rattle.ty.specs.declared.Entry.the-variants.{Missing, Int, Physical, Enum, Real, Array, Record, Access, File, Protected}
 use Rattle.ty.specs.declared.Part.{Part}
@@ -14,22 +14,22 @@ use Rattle.ty.specs.declared.Part.the-variants.{Nowhere, Of}
 -- the type whose class is the first of its words; a record whose fields lie outside of the nf fields is missing
 unfoldable pub entryOf : ℕ → ℕ → ℕ → ℕ → ℕ → Entry
 entryOf nf class a b c =
-    pick (eqb class 0) (Int a b)
-    (pick (eqb class 1) Physical
-    (pick (eqb class 2) (Enum a b)
-    (pick (eqb class 3) Real
-    (pick (eqb class 4) (Array a b c)
-    (pick (eqb class 5) (pick (leb (a + b) nf) (Record a b) Missing)
-    (pick (eqb class 6) Access
-    (pick (eqb class 7) File
-    (pick (eqb class 8) Protected Missing))))))))
+    if eqb class 0 then Int a b
+    else (if eqb class 1 then Physical
+    else (if eqb class 2 then Enum a b
+    else (if eqb class 3 then Real
+    else (if eqb class 4 then Array a b c
+    else (if eqb class 5 then (if leb (a + b) nf then Record a b else Missing)
+    else (if eqb class 6 then Access
+    else (if eqb class 7 then File
+    else (if eqb class 8 then Protected else Missing))))))))
 
 -- the entry at i, four words a type
 unfoldable pub entryAt : List ℕ → ℕ → ℕ → Entry
 entryAt w nf t =
-    pick (ltb t (length w / 4))
-    (entryOf nf (getD w (4 * t) 0) (getD w (4 * t + 1) 0) (getD w (4 * t + 2) 0) (getD w (4 * t + 3) 0))
-    Missing
+    if ltb t (length w / 4)
+    then entryOf nf (getD w (4 * t) 0) (getD w (4 * t + 1) 0) (getD w (4 * t + 2) 0) (getD w (4 * t + 3) 0)
+    else Missing
 
 -- n fields from the ith on, two words a field
 unfoldable pub fieldsFrom : List ℕ → ℕ → ℕ → List Field
@@ -56,11 +56,11 @@ listed f i (suc n) = f i ∷ listed f (i + 1) n
 -- where the bytes of constant c lie, three words a constant
 unfoldable pub partAt : List ℕ → ℕ → ℕ → Part
 partAt w nb c =
-    pick (ltb c (length w / 3))
-    (pick (eqb (getD w (3 * c) 0) 1)
-    (pick (leb (getD w (3 * c + 1) 0 + getD w (3 * c + 2) 0) nb)
-    (Of (getD w (3 * c + 1) 0) (getD w (3 * c + 1) 0 + getD w (3 * c + 2) 0))
-    Nowhere) Nowhere) Nowhere
+    if ltb c (length w / 3)
+    then (if eqb (getD w (3 * c) 0) 1
+    then (if leb (getD w (3 * c + 1) 0 + getD w (3 * c + 2) 0) nb
+    then Of (getD w (3 * c + 1) 0) (getD w (3 * c + 1) 0 + getD w (3 * c + 2) 0)
+    else Nowhere) else Nowhere) else Nowhere
 
 unfoldable pub readPart : List ℕ → Part → Const
 readPart b Nowhere = other

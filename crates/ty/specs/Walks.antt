@@ -1,11 +1,11 @@
--- Descriptor size, "has handles" and unfolding of a type (01-scope, "Type table"; ty.rs). Definitions; assumes nothing.
+-- Descriptor size, "has handles" and unfolding of a type (01, "Type table", and ty.rs).
 -- Each goes down levels, of which the first argument says how many are left: 65, for the depths 0 to 64.
 use Prim.Native.Nat.{ℕ, zero, suc, _+_, _-_, _*_, _/_, _%_, _^_}
 use mathlib.Core.List.{List, [], _∷_}
-use mathlib.Core.Bool.{Bool, true, false}
+use mathlib.Core.Bool.{Bool, true, false, _||_}
 use lib.Dec.{ltb, leb, eqb}
 use Rattle.ty.specs.Types.{Ty, Ty.missing, Ty.int, Ty.physical, Ty.enum, Ty.real, Ty.array, Ty.fields, Ty.access, Ty.file, Ty.protected, Field, Field.field, typeAt, none}
-use Rattle.word.specs.Num.{pick}
+use Rattle.word.specs.Choice.{if_then_else_}
 use Rattle.ty.specs.Words.{wordOf, onWord}
 use Rattle.ty.specs.declared.Word.{Word}
 use Rattle.ty.specs.declared.Word.the-variants.{Is, Over}
@@ -14,12 +14,14 @@ use Rattle.ty.specs.declared.Word.the-variants.{Is, Over}
 -- past the last level, and a sum past 64 bits, which no checked table has.
 unfoldable pub descArray : (ℕ → Word) → ℕ → ℕ → ℕ → Word
 descArray next e c k =
-    onWord Over (wordOf (24 * k)) (λ h. pick (eqb c none) (onWord Over (next e) (λ m. wordOf (h + m))) (Is h))
+    onWord Over (wordOf (24 * k)) (λ h. if eqb c none then onWord Over (next e) (λ m. wordOf (h + m)) else Is h)
 
 unfoldable pub descFields : (ℕ → Word) → List Field → ℕ → Word
 descFields next [] n = Is n
 descFields next (field t c ∷ fs) n =
-    pick (eqb c none) (onWord Over (next t) (λ m. onWord Over (wordOf (n + m)) (λ s. descFields next fs s))) (descFields next fs n)
+    if eqb c none
+    then onWord Over (next t) (λ m. onWord Over (wordOf (n + m)) (λ s. descFields next fs s))
+    else descFields next fs n
 
 unfoldable pub descBy : (ℕ → Word) → Ty → Word
 descBy next missing = Over
@@ -43,7 +45,7 @@ descSize ts t = descAt ts 65 t
 -- whether values of a type can hold handles: a missing type, or one past the last level, counts as one that can
 unfoldable pub anyField : (ℕ → Bool) → List Field → Bool
 anyField next [] = false
-anyField next (field t c ∷ fs) = pick (next t) true (anyField next fs)
+anyField next (field t c ∷ fs) = next t || anyField next fs
 
 unfoldable pub handlesBy : (ℕ → Bool) → Ty → Bool
 handlesBy next missing = true

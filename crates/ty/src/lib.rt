@@ -7,7 +7,7 @@ ghost use Rattle.ty.specs.Words.{wordOf, rank, roundUp};
 ghost use Rattle.ty.specs.Scalars.{scalarSize, elemSize, logicLeaf};
 ghost use Rattle.ty.specs.Walks.{descArray, descFields, descAt, descSize, anyField, handlesAt, hasHandles};
 ghost use Rattle.ty.specs.Check.{allBelow, goodType, goodTypeAt, goodConst, goodConstAt, smallAt, tableGood};
-ghost use Rattle.ty.specs.Counts.{countIn, Capped, ones, Fitting, Scratch, fieldSums, nextCount, nextCounts, countsAt, smallIn};
+ghost use Rattle.ty.specs.Counts.{countIn, Capped, Fitting, Scratch, fieldSums, nextCount, nextCounts, countsAt, smallIn};
 ghost use Rattle.ty.specs.View.{entryAt, entryOf, partAt, fieldsFrom, typesOf, bare};
 use word::Aligned;
 use word::Product;
@@ -548,18 +548,6 @@ fn all_small(counts: &[u64]) -> bool
     true
 }
 
-// Every type counts 1 at one level.
-fn first_counts(counts: &mut [u64])
-    ensures { λ _. ⌜ now (counts .exit) ≡ ones (length (now (counts .entry))) ⌝ }
-{
-    let n = counts.len();
-    let mut i: usize = 0;
-    while i < n {
-        counts[i] = 1;
-        i += 1;
-    }
-}
-
 // Whether every type's unfolding is within the bound, with scratch of one word a type, again, and one a field.
 fn unfolds_small(
     types: &[u64],
@@ -571,7 +559,8 @@ fn unfolds_small(
     requires { ⌜ Fitting (now types) (now fields) (now counts) (now other) (now sums) ⌝ }
     ensures { λ r. ⌜ r ≡ allBelow (smallAt (typesOf (now (types .entry)) (now (fields .entry)))) (length (now (types .entry)) / 4) ⌝ }
 {
-    first_counts(counts);
+    let n = counts.len();
+    memory::fill_u64(counts, 0, n, 1);
     unfold_levels(types, fields, counts, other, sums);
     all_small(counts)
 }

@@ -2,7 +2,7 @@
 use borrow.Author.Needs.{needs}
 use Prim.Native.Nat.{_≤_, _-_}
 use native.Mathlib.Omega.{arith}
-use Rattle.word.specs.InPlace.{Mapped, mapped-none, mapped-more}
+use Rattle.word.proofs.InPlace.{Mapped, mapped-none, mapped-more}
 use Rattle.ty.specs.View.{typesOf}
 use Rattle.ty.specs.Counts.{nextCount}
 use Rattle.ty.proofs.CountLaws.{counts-filled}
