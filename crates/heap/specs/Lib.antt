@@ -1,0 +1,8 @@
+pub mod Choice
+pub mod Result
+pub mod Packing
+pub mod State
+pub mod Calls
+pub mod Lent
+pub mod WellFormed
+pub mod Columns
