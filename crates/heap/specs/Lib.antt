@@ -1,8 +1,11 @@
 pub mod Choice
 pub mod Result
+pub mod Bytes
 pub mod Packing
 pub mod State
 pub mod Calls
 pub mod Lent
 pub mod WellFormed
+pub mod Header
 pub mod Columns
+pub mod Checks
