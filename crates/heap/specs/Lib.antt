@@ -1,6 +1,3 @@
-pub mod Choice
-pub mod Result
-pub mod Bytes
 pub mod Packing
 pub mod State
 pub mod Calls
