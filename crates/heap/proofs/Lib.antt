@@ -6,7 +6,4 @@ pub mod Storing
 pub mod Changing
 pub mod Placing
 pub mod Seals
-pub mod Looking
-pub mod Forming
 pub mod Testing
-pub mod Formed

@@ -5,4 +5,3 @@ pub mod Lent
 pub mod WellFormed
 pub mod Header
 pub mod Columns
-pub mod Checks

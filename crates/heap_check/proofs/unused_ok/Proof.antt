@@ -1,8 +1,8 @@
--- `heap::unused_ok` meets its contract: a column that is not zero is refused. Assumes nothing.
-use Rattle.heap.proofs.Looking.{says-yes, no-more-test, holds-test}
+-- `heap_check::unused_ok` meets its contract: a column that is not zero is refused. Assumes nothing.
+use Rattle.heap_check.proofs.Looking.{says-yes, no-more-test, holds-test}
 use borrow.Author.Needs.{needs}
-use Rattle.heap.proofs.unused_ok.Statement.{statement}
-use Rattle.heap.proofs.unused_ok.Tie as tie
+use Rattle.heap_check.proofs.unused_ok.Statement.{statement}
+use Rattle.heap_check.proofs.unused_ok.Tie as tie
 
 zeros-u32-requires : tie.Need-zeros-u32-requires
 zeros-u32-requires c κs = search needs

@@ -9,19 +9,19 @@ use native.Mathlib.Decide.{decLt}
 use lib.ListN.{length, getD, take, drop, set, length-map, length-drop, List·getD-eq-default, List·getD-map, length-append}
 use lib.Seq.{ext-getD, getD-take, length-take-le, take-add, take-all, take-length}
 use lib.Dec.{ltb}
 use Rattle.heap.specs.declared.Heap.{Heap}
 use Rattle.heap.specs.Packing.{pad, flat, ends, tabulate, startOf, dataAt}
 use Rattle.heap.specs.Columns.{datas}
 use Rattle.heap.specs.State.{Slot, State, noSlot, slotAt, dataOf, bit, times}
 use Rattle.heap.proofs.Sound.{Sound, SlotSound, WellFormed}
 use Rattle.heap.specs.Lent.{Lent, lent, stored, view, headerOf, slotIn, slotCount, poolSize}
 use Rattle.heap.specs.WellFormed.{soundSeals}
-use Rattle.heap.specs.Checks.{Zeros, Checked, SlotOk}
+use Rattle.heap_check.specs.Checks.{Zeros, Checked, SlotOk}
 use Rattle.heap.proofs.Packing.{length-pad, getD-pad, flat-suc, flat-split, length-ends, getD-ends, length-tabulate, start-of, end-of, end-at}
 use Rattle.heap.proofs.Storing.{getD-pad-past, column-any}
 use Rattle.heap.proofs.Changing.{Known, known}
 use Rattle.heap.proofs.Seals.{seals-few}
-use Rattle.heap.proofs.Looking.{zeros-at, at-zeros}
+use Rattle.heap_check.proofs.Looking.{zeros-at, at-zeros}
 
 -- ---- lists
 

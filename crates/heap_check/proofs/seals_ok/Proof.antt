@@ -1,11 +1,11 @@
--- `heap::seals_ok` meets its contract. The invariant: all seals are sound exactly if those left are. Assumes nothing.
+-- `heap_check::seals_ok` meets its contract. The invariant: all seals are sound exactly if those left are. Assumes nothing.
 use lib.ListN.{length}
 use Prim.Native.Nat.{_-_}
 use native.Mathlib.Omega.{arith}
 use Rattle.heap.proofs.Seals.{Sealing, sealing-first, sealing-end, seal-other, seal-low, seal-high, seal-new, seal-good}
 use borrow.Author.Needs.{needs}
-use Rattle.heap.proofs.seals_ok.Statement.{statement}
-use Rattle.heap.proofs.seals_ok.Tie as tie
+use Rattle.heap_check.proofs.seals_ok.Statement.{statement}
+use Rattle.heap_check.proofs.seals_ok.Tie as tie
 
 abbrev Inv-loop : tie.InvT-loop
 Inv-loop tag n sealed k₀ from₀ k from = Sealing tag n sealed k from

@@ -1,11 +1,11 @@
--- `heap::mark` meets its contract. The invariant: the entries passed are marked, each once. Assumes nothing.
+-- `heap_check::mark` meets its contract. The invariant: the entries passed are marked, each once. Assumes nothing.
 use lib.ListN.{length}
 use Prim.Native.Nat.{_-_}
 use native.Mathlib.Omega.{arith}
-use Rattle.heap.proofs.Looking.{Marking, mark-first, mark-turn, mark-outside, mark-live, mark-twice, mark-end}
+use Rattle.heap_check.proofs.Looking.{Marking, mark-first, mark-turn, mark-outside, mark-live, mark-twice, mark-end}
 use borrow.Author.Needs.{needs}
-use Rattle.heap.proofs.mark.Statement.{statement}
-use Rattle.heap.proofs.mark.Tie as tie
+use Rattle.heap_check.proofs.mark.Statement.{statement}
+use Rattle.heap_check.proofs.mark.Tie as tie
 
 abbrev Inv-loop : tie.InvT-loop
 Inv-loop list n kind marks₀ j₀ marks j = Marking n kind marks₀ marks list j

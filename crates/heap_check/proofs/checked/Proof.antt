@@ -1,11 +1,11 @@
--- `heap::checked` meets its contract: each part that fails is a field that does not hold. Assumes nothing.
+-- `heap_check::checked` meets its contract: each part that fails is a field that does not hold. Assumes nothing.
 use mathlib.Core.Path.{sym, _∙_}
 use native.Mathlib.Omega.{arith}
 use lib.Seq.{length-take-le}
-use Rattle.heap.proofs.Looking.{says-no, says-yes, false-true, no-more, no-more-test, holds, holds-test}
+use Rattle.heap_check.proofs.Looking.{says-no, says-yes, false-true, no-more, no-more-test, holds, holds-test}
 use borrow.Author.Needs.{needs}
-use Rattle.heap.proofs.checked.Statement.{statement}
-use Rattle.heap.proofs.checked.Tie as tie
+use Rattle.heap_check.proofs.checked.Statement.{statement}
+use Rattle.heap_check.proofs.checked.Tie as tie
 
 header-ok-requires : tie.Need-header-ok-requires
 header-ok-requires c κs = search needs

@@ -1,9 +1,9 @@
--- `heap::slot_ok` meets its contract: each test refuses what one field asks. Assumes nothing.
+-- `heap_check::slot_ok` meets its contract: each test refuses what one field asks. Assumes nothing.
 use native.Mathlib.Omega.{arith}
-use Rattle.heap.proofs.Looking.{says-no}
+use Rattle.heap_check.proofs.Looking.{says-no}
 use borrow.Author.Needs.{needs}
-use Rattle.heap.proofs.slot_ok.Statement.{statement}
-use Rattle.heap.proofs.slot_ok.Tie as tie
+use Rattle.heap_check.proofs.slot_ok.Statement.{statement}
+use Rattle.heap_check.proofs.slot_ok.Tie as tie
 
 returns : tie.Need-returns
 returns c =

@@ -10,14 +10,14 @@ use lib.ListN.{length, getD, set, take, drop, replicate, length-replicate, drop-
 use lib.Seq.{take-all, take-suc, getD-drop, getD-set-same, getD-set-other}
 use lib.Dec.{eqb, ltb}
 use borrow.Author.Tests.{eq-eqb, ne-eqb, lt-ltb, le-ltb}
 use Rattle.heap.proofs.Counting.{times-append, times-member}
 use Rattle.word.proofs.Bools.{both-and}
 use Rattle.memory.specs.Zero.{allZero}
 use Rattle.memory.proofs.Zeros.{zero-from-at}
 use Rattle.heap.proofs.Storing.{getD-zeros}
 use Rattle.heap.specs.Packing.{startOf}
 use Rattle.heap.specs.State.{bit, times}
-use Rattle.heap.specs.Checks.{Says, Zeros, Single, Marked, Covered, Partition}
+use Rattle.heap_check.specs.Checks.{Says, Zeros, Single, Marked, Covered, Partition}
 
 -- an answer, and what it says
 pub says-no : {X : Type 0} → (X → ⊥) → Says false X

@@ -1,11 +1,11 @@
--- `heap::check` meets its contract: what is checked is what well formed means, and the marks are cleared before and after. Assumes nothing.
+-- `heap_check::check` meets its contract: what is checked is what well formed means, and the marks are cleared before and after. Assumes nothing.
 use lib.ListN.{length}
 use denote.Ref.{now}
-use Rattle.heap.proofs.Looking.{zeros-cleared, zeros-as}
-use Rattle.heap.proofs.Formed.{says-formed}
+use Rattle.heap_check.proofs.Looking.{zeros-cleared, zeros-as}
+use Rattle.heap_check.proofs.Formed.{says-formed}
 use borrow.Author.Needs.{needs}
-use Rattle.heap.proofs.check.Statement.{statement}
-use Rattle.heap.proofs.check.Tie as tie
+use Rattle.heap_check.proofs.check.Statement.{statement}
+use Rattle.heap_check.proofs.check.Tie as tie
 
 clear-u8-requires : tie.Need-clear-u8-requires
 clear-u8-requires c κs = search needs

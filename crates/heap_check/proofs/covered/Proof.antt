@@ -1,11 +1,11 @@
--- `heap::covered` meets its contract. The invariant: the slots passed are live or marked. Assumes nothing.
+-- `heap_check::covered` meets its contract. The invariant: the slots passed are live or marked. Assumes nothing.
 use Prim.Native.Nat.{_-_, _≤_}
 use native.Mathlib.Omega.{arith}
 use mathlib.Core.Logic.{⊎-elim}
-use Rattle.heap.proofs.Looking.{says-no, says-yes, Covering, covering-first, covering-live, covering-marked, covering-not, covering-end}
+use Rattle.heap_check.proofs.Looking.{says-no, says-yes, Covering, covering-first, covering-live, covering-marked, covering-not, covering-end}
 use borrow.Author.Needs.{needs}
-use Rattle.heap.proofs.covered.Statement.{statement}
-use Rattle.heap.proofs.covered.Tie as tie
+use Rattle.heap_check.proofs.covered.Statement.{statement}
+use Rattle.heap_check.proofs.covered.Tie as tie
 
 abbrev Inv-loop : tie.InvT-loop
 Inv-loop n kind marks i₀ i = (i ≤ n) × Covering kind marks i

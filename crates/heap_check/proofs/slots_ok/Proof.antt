@@ -1,15 +1,15 @@
--- `heap::slots_ok` meets its contract. The invariant: the slots passed are as asked, and `at` is where the next starts. Assumes nothing.
+-- `heap_check::slots_ok` meets its contract. The invariant: the slots passed are as asked, and `at` is where the next starts. Assumes nothing.
 use mathlib.Core.Path.{_≡_, sym, ap, subst}
 use Prim.Native.Nat.{ℕ, _-_, _≤_, _<_}
 use native.Mathlib.Omega.{arith}
 use lib.ListN.{getD}
 use denote.Ref.{now}
 use Rattle.heap.specs.Packing.{startOf}
-use Rattle.heap.specs.Checks.{SlotOk}
-use Rattle.heap.proofs.Looking.{says-no, says-yes, false-true, below-one-more, start-first, start-next}
+use Rattle.heap_check.specs.Checks.{SlotOk}
+use Rattle.heap_check.proofs.Looking.{says-no, says-yes, false-true, below-one-more, start-first, start-next}
 use borrow.Author.Needs.{needs}
-use Rattle.heap.proofs.slots_ok.Statement.{statement}
-use Rattle.heap.proofs.slots_ok.Tie as tie
+use Rattle.heap_check.proofs.slots_ok.Statement.{statement}
+use Rattle.heap_check.proofs.slots_ok.Tie as tie
 
 abbrev Inv-loop : tie.InvT-loop
 Inv-loop n generation kind ty start end writes room i₀ at₀ i at = (i ≤ n) × (at ≡ startOf end i) × ((j : ℕ) → j < i → SlotOk (getD generation j 0) (getD kind j 0) (getD ty j 0) (getD start j 0) (getD writes j 0) (getD end j 0 - startOf end j)) × ((j : ℕ) → j < i → startOf end j ≤ getD end j 0)
