@@ -1,0 +1,45 @@
+-- The ways out of the calls about types: a table that is not taken, and what the crates below answer. Assumes nothing.
+use mathlib.Core.Path.{_≡_, refl, sym, ap, _∙_}
+use mathlib.Core.Bool.{Bool, true, false, not}
+use mathlib.Core.List.{List}
+use Prim.Native.Nat.{ℕ}
+use borrow.Author.Tests.{not-true, not-false}
+use Rattle.word.specs.Result.{Result, ok, refused}
+use Rattle.ty.specs.Check.{tableGood}
+use Rattle.ty.specs.Walks.{descSize, hasHandles}
+use Rattle.ty.specs.View.{typesOf, tableOf}
+use Rattle.ty.specs.declared.Word.{Word}
+use Rattle.layout.specs.Offsets.{Values, told, layoutCall, writtenBy}
+use Rattle.layout.specs.declared.Answer.{Answer}
+use Rattle.yexwalu.specs.Types.{sized, layoutCalled, sizeCalled, handlesCalled}
+
+module _ (w fs cs b : List ℕ) (t : ℕ) (g : Bool) (eg : g ≡ tableGood w fs cs b) where
+  module _ (h : g ≡ false) where
+    pub layout-refused : (d : List ℕ) (places : ℕ) → refused 10 ≡ layoutCalled w fs cs b t d places
+    unfolding layoutCalled
+    layout-refused d places = rw (← eg, h) refl
+
+    pub size-refused : refused 10 ≡ sizeCalled w fs cs b t
+    unfolding sizeCalled
+    size-refused = rw (← eg, h) refl
+
+    pub handles-refused : refused 10 ≡ handlesCalled w fs cs b t
+    unfolding handlesCalled
+    handles-refused = rw (← eg, h) refl
+
+  module _ (h : g ≡ true) where
+    pub layout-passed : (d : List ℕ) (places : ℕ) (x y : Answer) → told x ≡ layoutCall (tableOf w fs cs b) t d places → x ≡ y → told y ≡ layoutCalled w fs cs b t d places
+    unfolding layoutCalled
+    layout-passed d places x y e q = rw (← eg, h) (ap told (sym q) ∙ e)
+
+    pub size-passed : (x y : Word) → x ≡ descSize (typesOf w fs) t → x ≡ y → sized y ≡ sizeCalled w fs cs b t
+    unfolding sizeCalled
+    size-passed x y e q = rw (← eg, h) (ap sized (sym q ∙ e))
+
+    pub handles-passed : (r : Bool) → r ≡ hasHandles (typesOf w fs) t → ok r ≡ handlesCalled w fs cs b t
+    unfolding handlesCalled
+    handles-passed r e = rw (← eg, h) (ap ok e)
+
+-- the lent list after the call below
+pub written-by : (offs out out′ : List ℕ) (x y : Answer) → out′ ≡ writtenBy (told x) offs out → x ≡ y → out′ ≡ writtenBy (told y) offs out
+written-by offs out out′ x y e q = e ∙ ap (λ (z : Answer). writtenBy (told z) offs out) q
