@@ -3,3 +3,4 @@ pub mod DimLaws
 pub mod Within
 pub mod LayLaws
 pub mod OffsetLaws
+pub mod Cases
