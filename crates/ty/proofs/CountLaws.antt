@@ -100,7 +100,7 @@ module _ (f g : ℕ → ℕ) (h : (t : ℕ) → g t ≡ min (f t) 65537) where
   by-cap protected = refl
 
 -- a type past the table is missing, and counts 1 at every level
-past-one : (ts : List Ty) (m t : ℕ) → length ts ≤ t → unfoldAt ts (suc m) t ≡ 1
+pub past-one : (ts : List Ty) (m t : ℕ) → length ts ≤ t → unfoldAt ts (suc m) t ≡ 1
 unfolding unfoldAt unfoldBy
 past-one ts m t h = ap (λ (y : Ty). suc (unfoldBy (unfoldAt ts m) y)) (List·getD-eq-default ts missing h)
 

@@ -85,6 +85,10 @@ within a n m h k = omega arith
 pub past : (a n m : ℕ) → m < a → m < a + n
 past a n m h = omega arith
 
+-- the word 2^64 - m is the number -m: its rank is that number moved up by 2^63, as `rank-low` says of the others
+pub rank-negative : (m : ℕ) → 0 < m → m ≤ 2 ^ 63 → rank (2 ^ 64 - m) ≡ 2 ^ 63 - m
+rank-negative m p h = sym (rank-high (2 ^ 64 - m) (omega arith)) ∙ omega arith
+
 -- one step of a chain of equations, for a search
 pub on : {A : Type 0} (a b c : A) → a ≡ b → b ≡ c → a ≡ c
 on a b c p q = p ∙ q

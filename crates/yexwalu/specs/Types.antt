@@ -2,13 +2,12 @@
 use Prim.Native.Nat.{ℕ}
 use mathlib.Core.Bool.{Bool}
 use mathlib.Core.List.{List}
+use mathlib.Core.Option.{Option, none, some}
 use Rattle.word.specs.Choice.{if_then_else_}
 use Rattle.word.specs.Result.{Result, ok, refused}
 use Rattle.ty.specs.Check.{tableGood}
-use Rattle.ty.specs.Walks.{descSize, hasHandles}
+use Rattle.ty.specs.Walks.{descBytes, hasHandles}
 use Rattle.ty.specs.View.{typesOf, tableOf}
-use Rattle.ty.specs.declared.Word.{Word}
-use Rattle.ty.specs.declared.Word.the-variants.{Is, Over}
 use Rattle.layout.specs.Offsets.{Values, layoutCall}
 use Rattle.yexwalu.specs.declared.types.LayoutAnswer.{LayoutAnswer}
 use Rattle.yexwalu.specs.declared.types.LayoutAnswer.the-variants.{Layout, BadTable, Malformed, TooLarge, ShortList}
@@ -39,12 +38,12 @@ unfoldable pub layoutCalled : List ℕ → List ℕ → List ℕ → List ℕ �
 layoutCalled w fs cs b t d places = if tableGood w fs cs b then layoutCall (tableOf w fs cs b) t d places else refused 10
 
 -- "no size" is told as 11
-abbrev pub sized : Word → Result ℕ
-sized (Is n) = ok n
-sized Over = refused 11
+abbrev pub sized : Option ℕ → Result ℕ
+sized (some n) = ok n
+sized none = refused 11
 
 unfoldable pub sizeCalled : List ℕ → List ℕ → List ℕ → List ℕ → ℕ → Result ℕ
-sizeCalled w fs cs b t = if tableGood w fs cs b then sized (descSize (typesOf w fs) t) else refused 10
+sizeCalled w fs cs b t = if tableGood w fs cs b then sized (descBytes (typesOf w fs) t) else refused 10
 
 unfoldable pub handlesCalled : List ℕ → List ℕ → List ℕ → List ℕ → ℕ → Result Bool
 handlesCalled w fs cs b t = if tableGood w fs cs b then ok (hasHandles (typesOf w fs) t) else refused 10
