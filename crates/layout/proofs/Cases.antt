@@ -6,7 +6,7 @@ use mathlib.Core.Bool.{Bool, true, false, _&&_}
 use lib.Dec.{eqb}
 use Rattle.word.specs.Le.{le, bytes}
 use Rattle.word.specs.Num.{alignUp}
-use Rattle.ty.specs.Types.{Ty, Ty.int, Ty.enum, Ty.array, Ty.fields, Ty.access, Field, Field.field, Table, none}
+use Rattle.ty.specs.Types.{Ty, Ty.int, Ty.enum, Ty.array, Ty.fields, Ty.access, Field.field, Table, none}
 use Rattle.ty.specs.Words.{wordOf, rank}
 use Rattle.ty.specs.Scalars.{scalarSize, narrow, elemSize, logicLeaf, leafBy}
 use Rattle.layout.specs.Layout.{dimLen, dimsOf, under, arrayLaid, arrayOf, placed, endOf, recordOf, layoutBy, layoutAt, layoutOf}

@@ -1,6 +1,6 @@
 -- The number of levels is 01's own bound, depths 0 to 64, and nothing else: an answer other than malformed is the same with any number of levels more, so
 -- that levels show only where 01 says "depth 65 is malformed". Assumes nothing.
-use mathlib.Core.Path.{_≡_, refl, sym, ap, subst, _∙_}
+use mathlib.Core.Path.{_≡_, refl, ap, subst}
 use mathlib.Core.List.{List, [], _∷_}
 use mathlib.Core.Bool.{Bool, true, false}
 use Prim.Native.Nat.{ℕ, zero, suc, _+_, _*_, _≤_, max}

@@ -1,10 +1,10 @@
 -- Laws of the crate's definitions, over plain numbers. Assumes nothing.
 use mathlib.Core.Path.{_≡_, refl, sym, ap, _∙_}
 use mathlib.Core.Bool.{Bool, true, false}
-use Prim.Native.Nat.{ℕ, zero, suc, _+_, _-_, _*_, _/_, _%_, _^_, _≤_, _<_, max}
+use Prim.Native.Nat.{ℕ, _+_, _-_, _*_, _^_, _≤_, _<_, max}
 use native.Mathlib.Omega.{arith}
-use lib.Dec.{ltb, leb, eqb, lit<}
-use borrow.Author.Tests.{lt-ltb, le-ltb, le-leb, lt-leb, eq-eqb, ne-eqb}
+use lib.Dec.{ltb}
+use borrow.Author.Tests.{lt-ltb, le-ltb, le-leb, lt-leb}
 use Rattle.word.specs.Choice.{if_then_else_}
 use Rattle.word.specs.Num.{productAt, alignUp, alignedAt}
 use Rattle.word.specs.declared.Product.{Product}
@@ -13,9 +13,7 @@ use Rattle.word.specs.declared.Aligned.{Aligned}
 use Rattle.word.specs.declared.Aligned.the-variants.{To, TooLarge as TooFar}
 use Rattle.ty.specs.Words.{wordOf, rank}
 use Rattle.ty.specs.View.{entryOf}
-use Rattle.ty.specs.declared.Entry.{Entry}
 use Rattle.ty.specs.declared.Entry.the-variants.{Missing, Record}
-use Rattle.ty.specs.declared.Word.{Word}
 use Rattle.ty.specs.declared.Word.the-variants.{Is, Over}
 
 pub word-is : (n : ℕ) → n < 2 ^ 64 → wordOf n ≡ Is n

@@ -1,10 +1,10 @@
 -- Descriptor size, "has handles" and unfolding of a type (01, "Type table", and ty.rs).
 -- Each goes down levels, of which the first argument says how many are left: 65, for the depths 0 to 64.
-use Prim.Native.Nat.{ℕ, zero, suc, _+_, _-_, _*_, _/_, _%_, _^_}
+use Prim.Native.Nat.{ℕ, zero, suc, _+_, _*_}
 use mathlib.Core.List.{List, [], _∷_}
 use mathlib.Core.Option.{Option, none, some}
 use mathlib.Core.Bool.{Bool, true, false, _||_}
-use lib.Dec.{ltb, leb, eqb}
+use lib.Dec.{eqb}
 use Rattle.ty.specs.Types.{Ty, Ty.missing, Ty.int, Ty.physical, Ty.enum, Ty.real, Ty.array, Ty.fields, Ty.access, Ty.file, Ty.protected, Field, Field.field, typeAt, none as noConst}
 use Rattle.word.specs.Choice.{if_then_else_}
 use Rattle.ty.specs.Words.{wordOf, onWord}

@@ -1,19 +1,18 @@
 -- The ways out of the calls about types: a table that is not taken, and what the crates below answer. Assumes nothing.
 use mathlib.Core.Path.{_≡_, refl, sym, ap, _∙_}
-use mathlib.Core.Bool.{Bool, true, false, not}
+use mathlib.Core.Bool.{Bool, true, false}
 use mathlib.Core.List.{List}
 use mathlib.Core.Option.{Option, none, some}
 use native.Mathlib.Omega.{arith}
 use Prim.Native.Nat.{ℕ}
-use borrow.Author.Tests.{not-true, not-false}
-use Rattle.word.specs.Result.{Result, ok, refused}
+use Rattle.word.specs.Result.{ok, refused}
 use Rattle.ty.specs.Check.{tableGood}
 use Rattle.ty.specs.Walks.{descSize, descBytes, exactly, hasHandles}
 use Rattle.ty.specs.View.{typesOf, tableOf}
 use Rattle.ty.specs.declared.Word.{Word}
 use Rattle.ty.specs.declared.Word.the-variants.{Is, Over}
 use Rattle.ty.proofs.Sizes.{exact}
-use Rattle.layout.specs.Offsets.{Values, told, layoutCall, writtenBy}
+use Rattle.layout.specs.Offsets.{told, layoutCall, writtenBy}
 use Rattle.layout.specs.declared.Answer.{Answer}
 use Rattle.yexwalu.specs.Types.{sized, layoutCalled, sizeCalled, handlesCalled}
 
