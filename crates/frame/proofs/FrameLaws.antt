@@ -1,16 +1,12 @@
 -- The ways out of a frame's trace, one law for each. Assumes nothing.
-use Prim.Native.Nat.{ℕ, suc, _+_, _-_, _≤_, _<_}
+use Prim.Native.Nat.{ℕ, _+_, _-_, _≤_, _<_}
 use mathlib.Core.Path.{_≡_, refl, sym, ap, _∙_}
-use mathlib.Core.Bool.{Bool, true, false, _&&_}
-use mathlib.Core.Option.{Option, none, some}
 use mathlib.Core.List.{List, [], _∷_}
 use lib.ListN.{length, take, drop, getD, drop-of-length-le}
 use lib.Seq.{drop-cons}
-use lib.Dec.{leb, eqb}
 use borrow.Author.Tests.{le-leb, lt-leb, eq-eqb, ne-eqb}
 use native.Mathlib.Numerals.{add-one}
 use native.Mathlib.Omega.{arith}
-use Rattle.word.specs.Choice.{if_then_else_}
 use Rattle.word.specs.Result.{Result, ok, refused}
 use Rattle.ty.specs.Types.{Table}
 use Rattle.layout.proofs.LayLaws.{rest}
@@ -19,7 +15,7 @@ use Rattle.trace.specs.Emit.{Raw, rawOf, Into, emitted, emitAll, emitting, told
 use Rattle.trace.specs.declared.Answer.{Answer}
 use Rattle.trace.specs.declared.Answer.the-variants.{Traced, Untraceable}
 use Rattle.trace.proofs.Emits.{then-words, fail-words, told-traced, told-untraceable}
-use Rattle.frame.specs.Frame.{Entry, entry, entriesOf, firstWord, entryRoots, entriesRoots, frameRoots}
+use Rattle.frame.specs.Frame.{entry, entriesOf, firstWord, entryRoots, entriesRoots, frameRoots}
 
 -- ---- first_word
 

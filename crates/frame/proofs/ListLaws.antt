@@ -1,13 +1,11 @@
 -- Two checks that count, and then two runs of stores: what a call that lists a frame's roots does. Assumes nothing.
-use Prim.Native.Nat.{ℕ, _+_, _-_, _^_, _≤_, _<_}
-use mathlib.Core.Path.{_≡_, refl, sym, ap, _∙_}
+use Prim.Native.Nat.{ℕ, _-_, _^_, _≤_, _<_}
+use mathlib.Core.Path.{_≡_, refl, ap, _∙_}
 use mathlib.Core.Option.{Option, none, some}
 use mathlib.Core.List.{List}
 use lib.ListN.{length}
 use borrow.Author.Tests.{le-leb, lt-leb}
 use native.Mathlib.Omega.{arith}
-use Rattle.word.specs.Choice.{if_then_else_}
-use Rattle.word.specs.Put.{put}
 use Rattle.word.specs.Result.{Result, ok, refused}
 use Rattle.trace.specs.Emit.{Raw, rawOf, Into, into, emitAll, emitting, told}
 use Rattle.trace.specs.declared.Sink.the-variants.{Check, List as ToList}
@@ -15,8 +13,7 @@ use Rattle.trace.specs.declared.Answer.{Answer}
 use Rattle.trace.specs.declared.Answer.the-variants.{Traced, Untraceable}
 use Rattle.trace.proofs.Emits.{ok-inj, told-traced, told-untraceable}
 use Rattle.trace.proofs.ListLaws.{checked-short, checked-fits, listed}
-use Rattle.frame.specs.Listing.{rootsListing, counts, Frames}
-use Rattle.frame.specs.declared.Framed.{Framed}
+use Rattle.frame.specs.Listing.{rootsListing, Frames}
 use Rattle.frame.specs.declared.Framed.the-variants.{Wrote, Failed, Short}
 
 -- what a trace that succeeds or fails says of the words

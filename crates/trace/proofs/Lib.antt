@@ -6,3 +6,4 @@ pub mod TraceLaws
 pub mod Levels
 pub mod Objects
 pub mod ListLaws
+pub mod Cases

@@ -1,26 +1,23 @@
 -- A check that counts, and then a run of stores: what a call that lists handles does, stated over the words. Assumes nothing.
-use Prim.Native.Nat.{ℕ, zero, suc, _+_, _-_, _^_, _≤_, _<_, min}
+use Prim.Native.Nat.{ℕ, suc, _+_, _-_, _^_, _≤_, _<_}
 use mathlib.Core.Path.{_≡_, refl, sym, ap, _∙_, subst}
 use mathlib.Core.Option.{Option, none, some}
-use mathlib.Core.List.{List, [], _∷_, _++_}
-use lib.ListN.{length, set, drop, length-set}
+use mathlib.Core.List.{List, [], _∷_}
+use lib.ListN.{length, set, length-set}
 use lib.Seq.{sets, sets-eq}
 use borrow.Author.Tests.{le-leb, lt-leb}
 use native.Mathlib.Nat.{zero-add, add-zero}
 use native.Mathlib.Numerals.{add-one}
 use native.Mathlib.Decide.{decLt, decLe}
 use native.Mathlib.Omega.{arith}
-use Rattle.word.specs.Choice.{if_then_else_}
 use Rattle.word.specs.Put.{put}
 use Rattle.word.specs.Result.{Result, ok, refused}
 use Rattle.word.proofs.PutLaws.{put-all}
 use Rattle.trace.specs.Emit.{Raw, rawOf, into, emitted, emitAll, emitting, told}
 use Rattle.trace.specs.Listing.{listing, Lists}
-use Rattle.trace.specs.declared.Sink.{Sink}
 use Rattle.trace.specs.declared.Sink.the-variants.{Check, List as ToList}
 use Rattle.trace.specs.declared.Answer.{Answer}
 use Rattle.trace.specs.declared.Answer.the-variants.{Traced, Untraceable}
-use Rattle.trace.specs.declared.Listed.{Listed}
 use Rattle.trace.specs.declared.Listed.the-variants.{Wrote, Failed, Short}
 use Rattle.trace.proofs.Emits.{check-room, check-full, list-room, ok-inj, told-traced, told-untraceable}
 

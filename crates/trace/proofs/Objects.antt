@@ -1,14 +1,11 @@
 -- The ways out of a trace of a value, an object and a slot of a heap, one law for each. Assumes nothing.
-use Prim.Native.Nat.{ℕ, zero, suc, _+_, _-_, _*_, _/_, _≤_, _<_}
-use mathlib.Core.Path.{_≡_, refl, sym, ap, _∙_}
+use Prim.Native.Nat.{ℕ, suc, _+_, _-_, _/_, _≤_, _<_}
+use mathlib.Core.Path.{_≡_, refl, ap, _∙_}
 use mathlib.Core.Bool.{Bool, true, false, not}
-use mathlib.Core.Option.{Option, none, some}
 use mathlib.Core.List.{List, [], _∷_, map}
 use lib.ListN.{length, take, drop}
-use lib.Dec.{leb}
 use borrow.Author.Tests.{le-leb, lt-leb, eq-eqb, ne-eqb, not-true, not-false}
 use native.Mathlib.Omega.{arith}
-use Rattle.word.specs.Choice.{if_then_else_}
 use Rattle.word.specs.Result.{Result, ok, refused}
 use Rattle.ty.specs.Types.{Table}
 use Rattle.ty.specs.Walks.{descSize, hasHandles}
@@ -16,10 +13,9 @@ use Rattle.ty.specs.View.{tableOf, typesOf}
 use Rattle.ty.specs.declared.Word.{Word}
 use Rattle.ty.specs.declared.Word.the-variants.{Is, Over}
 use Rattle.layout.proofs.LayLaws.{rest}
-use Rattle.trace.specs.Places.{Places, onlyIf, placesAt, objectPlaces, rising, handlesPlaces, kindPlaces, handleAt, wordsAt, valueHandles, objectHandles, handlesOf}
-use Rattle.trace.specs.Emit.{Raw, rawOf, Into, emitted, emitAll, emitting, emittingAt, told}
+use Rattle.trace.specs.Places.{placesAt, objectPlaces, rising, handlesPlaces, kindPlaces, handleAt, wordsAt, valueHandles, objectHandles, handlesOf}
+use Rattle.trace.specs.Emit.{Raw, Into, emitted, emitAll, emitting, emittingAt, told}
 use Rattle.trace.specs.declared.Answer.{Answer}
-use Rattle.trace.specs.declared.Answer.the-variants.{Traced, Untraceable}
 
 -- ---- a value
 

@@ -2,20 +2,20 @@
 use mathlib.Core.Path.{_≡_, refl, sym, ap, subst, _∙_}
 use mathlib.Core.List.{List, [], _∷_}
 use mathlib.Core.Bool.{Bool, true, false, not}
-use mathlib.Core.Option.{Option, none, some}
-use Prim.Native.Nat.{ℕ, zero, suc, _+_, _-_, _*_, _/_, _^_, _≤_, _<_, max}
+use mathlib.Core.Option.{none, some}
+use Prim.Native.Nat.{ℕ, suc, _+_, _-_, _*_, _/_, _^_, _≤_, _<_, max}
 use native.Mathlib.Omega.{arith}
 use lib.ListN.{length, take, drop, getD, length-drop}
-use lib.Dec.{ltb, leb, eqb}
+use lib.Dec.{leb}
 use types.Run.{OneOf, miss}
 use denote.Enum.Declared.{tagOf}
 use borrow.Author.Tests.{eq-eqb, ne-eqb, le-leb, lt-leb, not-true, not-false}
-use Rattle.ty.specs.Types.{Ty, Field, Field.field, Const, Table, typeAt, constAt, none as noConst}
+use Rattle.ty.specs.Types.{Ty, Table, typeAt, none as noConst}
 use Rattle.word.specs.Choice.{if_then_else_}
 use Rattle.ty.specs.Words.{wordOf, onWord, roundUp}
-use Rattle.layout.specs.Layout.{onDims, onLaid, dimsOf, under, usedBy, endOf, placed, arrayOf, arrayLaid, recordOf, layoutAt, layoutOf}
+use Rattle.layout.specs.Layout.{onDims, dimsOf, under, usedBy, endOf, arrayOf, recordOf, layoutAt, layoutOf}
 use Rattle.ty.specs.Walks.{hasHandles}
-use Rattle.ty.specs.View.{readTy, entryAt, fieldsFrom, partAt, readPart, typesOf, constsOf, tableOf}
+use Rattle.ty.specs.View.{readTy, entryAt, fieldsFrom, partAt, readPart, typesOf, tableOf}
 use Rattle.layout.specs.Offsets.{offsetsFrom, offsetsOf, fieldsOf}
 use Rattle.layout.specs.declared.Lay.{Lay}
 use Rattle.layout.specs.declared.Lay.the-variants.{Laid, Malformed, TooLarge}
@@ -33,10 +33,10 @@ use Rattle.ty.proofs.Lookup.{type-at, const-at}
 use Rattle.layout.proofs.Within.{used-within, dims-within}
 use Rattle.ty.proofs.WalkLaws.{fields-first, fields-last, fields-next}
 use Rattle.layout.proofs.LayLaws.{rest, in-array as lay-array, in-record as lay-record}
-use Rattle.trace.specs.Places.{Places, Below, onlyIf, both, many, turns, ifLaid, ifBytes, partPlaces, fieldPlaces, placesBy, placesAt}
+use Rattle.trace.specs.Places.{Places, Below, onlyIf, both, many, turns, ifLaid, partPlaces, placesBy, placesAt}
 use Rattle.trace.specs.Walk.{fieldAt, ifPlaced, walk}
 use Rattle.word.specs.Result.{Result, ok, refused}
-use Rattle.trace.specs.Emit.{Raw, rawOf, Into, emitting, emittingAt, told}
+use Rattle.trace.specs.Emit.{Raw, rawOf, Into, emittingAt, told}
 use Rattle.trace.specs.declared.Placed.{Placed}
 use Rattle.trace.specs.declared.Placed.the-variants.{At, Unplaced}
 use Rattle.trace.specs.declared.Answer.{Answer}

@@ -1,15 +1,15 @@
 -- A record field by field, as the tracer goes, is the record by its layout's offsets. Assumes nothing.
-use mathlib.Core.Path.{_≡_, refl, sym, ap, subst, _∙_}
+use mathlib.Core.Path.{_≡_, refl, sym, ap, _∙_}
 use mathlib.Core.List.{List, [], _∷_}
 use mathlib.Core.Bool.{Bool, true, false}
-use mathlib.Core.Option.{Option, none, some}
-use Prim.Native.Nat.{ℕ, zero, suc, _+_, _-_, _*_, _/_, _^_, _≤_, _<_, max}
+use mathlib.Core.Option.{none, some}
+use Prim.Native.Nat.{ℕ, _+_, _^_, _<_, max}
 use native.Mathlib.Omega.{arith}
 use lib.ListN.{length, drop, length-drop}
-use lib.Dec.{ltb, leb, eqb}
+use lib.Dec.{leb}
 use Rattle.ty.specs.Types.{Field, Field.field, Table}
 use Rattle.ty.specs.Words.{wordOf, onWord, roundUp}
-use Rattle.layout.specs.Layout.{onLaid, under, usedBy, endOf, placed, recordOf, layoutAt}
+use Rattle.layout.specs.Layout.{onLaid, under, usedBy, placed, recordOf, layoutAt}
 use Rattle.layout.specs.Offsets.{ifLaid as offsetsIf, offsetsFrom}
 use Rattle.layout.specs.declared.Lay.{Lay}
 use Rattle.layout.specs.declared.Lay.the-variants.{Laid, Malformed, TooLarge}
@@ -17,7 +17,6 @@ use Rattle.ty.specs.declared.Word.{Word}
 use Rattle.ty.specs.declared.Word.the-variants.{Is, Over}
 use Rattle.trace.specs.Places.{Places, Below, onlyIf, both, ifLaid, partPlaces, fieldDesc, fieldPlaces}
 use Rattle.trace.specs.Walk.{fieldAt, ifPlaced, walk}
-use Rattle.trace.specs.declared.Placed.{Placed}
 use Rattle.trace.specs.declared.Placed.the-variants.{At, Unplaced}
 use Rattle.trace.proofs.DescLaws.{used-is}
 

@@ -1,6 +1,5 @@
 -- Where traced handles go: counted, written to a list, or marked and queued by a collection. Named by inner contracts: Places.antt says which handles there are.
 use Prim.Native.Nat.{ℕ, _+_, _-_, _^_, _≤_, min}
-use mathlib.Core.Path.{_≡_}
 use mathlib.Core.Option.{Option, none, some}
 use mathlib.Core.List.{List, [], _∷_}
 use lib.ListN.{length, getD, set}

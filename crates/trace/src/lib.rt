@@ -740,6 +740,7 @@ pub fn trace_slot(
     if data.len() < start {
         return Answer::Traced(n);
     }
+    let visible = &data[start..];
     if of == 1 {
         return trace_object(
             types,
@@ -747,7 +748,7 @@ pub fn trace_slot(
             consts,
             bytes,
             t,
-            &data[start..],
+            visible,
             tag,
             slots,
             generation,
@@ -759,17 +760,7 @@ pub fn trace_slot(
         );
     }
     if of == 3 {
-        let m = trace_handles(
-            &data[start..],
-            tag,
-            slots,
-            generation,
-            kind,
-            sink,
-            marks,
-            to,
-            n,
-        );
+        let m = trace_handles(visible, tag, slots, generation, kind, sink, marks, to, n);
         return Answer::Traced(m);
     }
     Answer::Traced(n)

@@ -1,5 +1,5 @@
 -- `trace::trace_object` meets its contract. Assumes nothing.
-use mathlib.Core.Path.{_≡_, sym}
+use mathlib.Core.Path.{sym}
 use lib.Seq.{length-take-le}
 use Rattle.trace.proofs.Objects.{object-plain, object-size, object-cut, object-whole}
 use borrow.Author.Needs.{needs}

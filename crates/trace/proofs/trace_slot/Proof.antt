@@ -7,14 +7,14 @@ use Rattle.trace.proofs.trace_slot.Tie as tie
 returns : tie.Need-returns
 returns c = search slot-hidden
 
-sub-trace-object : tie.Need-sub-trace-object
-sub-trace-object c = search needs
+sub-visible : tie.Need-sub-visible
+sub-visible c = search needs
 
-part-trace-object-start : tie.Need-part-trace-object-start
-part-trace-object-start c = search needs
+part-visible-start : tie.Need-part-visible-start
+part-visible-start c = search needs
 
-part-trace-object-end : tie.Need-part-trace-object-end
-part-trace-object-end c = search needs
+part-visible-end : tie.Need-part-visible-end
+part-visible-end c = search needs
 
 trace-object-requires : tie.Need-trace-object-requires
 trace-object-requires c κs = search needs
@@ -27,15 +27,6 @@ same-length-2 c = search needs
 
 returns-2 : tie.Need-returns-2
 returns-2 c = search slot-typed
-
-sub-trace-handles : tie.Need-sub-trace-handles
-sub-trace-handles c = search needs
-
-part-trace-handles-start : tie.Need-part-trace-handles-start
-part-trace-handles-start c = search needs
-
-part-trace-handles-end : tie.Need-part-trace-handles-end
-part-trace-handles-end c = search needs
 
 trace-handles-requires : tie.Need-trace-handles-requires
 trace-handles-requires c κs = search needs
@@ -57,16 +48,13 @@ trace-slot-spec =
     tie.close
     (tie.spec
     returns
-    sub-trace-object
-    part-trace-object-start
-    part-trace-object-end
+    sub-visible
+    part-visible-start
+    part-visible-end
     trace-object-requires
     same-length
     same-length-2
     returns-2
-    sub-trace-handles
-    part-trace-handles-start
-    part-trace-handles-end
     trace-handles-requires
     same-length-3
     same-length-4

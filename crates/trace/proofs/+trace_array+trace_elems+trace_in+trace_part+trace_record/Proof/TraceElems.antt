@@ -5,8 +5,8 @@ use Rattle.trace.specs.Emit.{rawOf, into, resolveIn, emittingAt}
 use Rattle.trace.specs.Walk.{elemPlaces}
 use borrow.Author.Needs.{needs}
 use native.Mathlib.Omega.{arith}
-use Prim.Native.Nat.{ℕ, _+_, _-_, _*_, _≤_}
-use mathlib.Core.Path.{_≡_, refl, sym, ap, _∙_}
+use Prim.Native.Nat.{ℕ}
+use mathlib.Core.Path.{_≡_, refl}
 use Rattle.trace.proofs.trace_elems.Reads as reads
 use Rattle.trace.proofs.+trace_array+trace_elems+trace_in+trace_part+trace_record.Lts-trace_elems as lts
 use Rattle.trace.proofs.+trace_array+trace_elems+trace_in+trace_part+trace_record.Proof.Claims.{trace-elems-at as at, trace-elems-claims as claims}

@@ -3,8 +3,7 @@ use Rattle.trace.proofs.TraceLaws.{in-zero, in-plain, in-missing, in-ac
 use Rattle.ty.proofs.Ranges.{record-within}
 use borrow.Author.Needs.{needs}
 use native.Mathlib.Omega.{arith}
-use Prim.Native.Nat.{ℕ, _+_, _-_, _*_, _≤_}
-use mathlib.Core.Path.{_≡_, refl, sym, ap, _∙_}
+use Prim.Native.Nat.{ℕ}
 use Rattle.trace.proofs.trace_in.Reads as reads
 use Rattle.trace.proofs.+trace_array+trace_elems+trace_in+trace_part+trace_record.Lts-trace_in as lts
 use Rattle.trace.proofs.+trace_array+trace_elems+trace_in+trace_part+trace_record.Proof.Claims.{trace-in-at as at, trace-in-claims as claims}

@@ -3,8 +3,7 @@ use Rattle.trace.proofs.TraceLaws.{part-rest, part-nowhere, part-const}
 use Rattle.ty.proofs.Ranges.{part-start, part-end}
 use borrow.Author.Needs.{needs}
 use native.Mathlib.Omega.{arith}
-use Prim.Native.Nat.{ℕ, _+_, _-_, _*_, _≤_}
-use mathlib.Core.Path.{_≡_, refl, sym, ap, _∙_}
+use Prim.Native.Nat.{ℕ}
 use Rattle.trace.proofs.trace_part.Reads as reads
 use Rattle.trace.proofs.+trace_array+trace_elems+trace_in+trace_part+trace_record.Lts-trace_part as lts
 use Rattle.trace.proofs.+trace_array+trace_elems+trace_in+trace_part+trace_record.Proof.Claims.{trace-part-at as at, trace-part-claims as claims}

@@ -8,7 +8,7 @@ use Rattle.trace.specs.Places.{placesAt}
 use borrow.Author.Needs.{needs}
 use native.Mathlib.Omega.{arith}
 use Prim.Native.Nat.{ℕ, _+_, _-_, _*_, _≤_}
-use mathlib.Core.Path.{_≡_, refl, sym, ap, _∙_}
+use mathlib.Core.Path.{_≡_, refl}
 use Rattle.trace.proofs.trace_record.Reads as reads
 use Rattle.trace.proofs.+trace_array+trace_elems+trace_in+trace_part+trace_record.Lts-trace_record as lts
 use Rattle.trace.proofs.+trace_array+trace_elems+trace_in+trace_part+trace_record.Proof.Claims.{trace-record-at as at, trace-record-claims as claims}
