@@ -1,3 +1,4 @@
 -- The definitions that the public contracts cite.
 pub mod Types
+pub mod Handles
 pub mod Live
