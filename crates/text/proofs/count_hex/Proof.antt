@@ -48,13 +48,13 @@ returns-4 : tie.Need-returns-4 Inv-loop μ-loop
 returns-4 c = hex-second (c .before .before .before .before .before .before .before .before .before .before .before .args .s .now) (c .before .before .before .before .before .before .before .before .before .loop .n) (c .before .before .before .before .before .before .before .before .before .loop .i) (c .before .before .before .before .before .if2 .left) (c .before .before .before .before .before .before .if1 .left) (λ e. c .before .before .before .if3 .left (c .before .before .before .before .hex-value .ensures ∙ e)) (sym (c .before .hex-value2 .ensures) ∙ c .if4 .taken) ∙ sym (c .before .before .before .before .before .before .before .before .before .loop .inv .1)
 
 add-i : tie.Need-add-i Inv-loop μ-loop
-add-i c = omega (arith, c .before .before .before .before .before .if2 .left)
+add-i c = omega arith
 
 add-n : tie.Need-add-n Inv-loop μ-loop
-add-n c = omega (arith, c .before .before .before .before .before .if2 .left)
+add-n c = omega arith
 
 loop-less : tie.Need-loop-less Inv-loop μ-loop
-loop-less c = omega (arith, c .before .before .before .before .before .if2 .left)
+loop-less c = omega arith
 
 loop-again : tie.Need-loop-again Inv-loop μ-loop
 loop-again c = (omega arith, c .before .before .before .before .before .before .before .before .before .loop .inv .1 ∙ hex-next (c .before .before .before .before .before .before .before .before .before .before .before .args .s .now) (c .before .before .before .before .before .before .before .before .before .loop .n) (c .before .before .before .before .before .before .before .before .before .loop .i) (c .before .before .before .before .before .if2 .left) (c .before .before .before .before .before .before .if1 .left) (λ e. c .before .before .before .if3 .left (c .before .before .before .before .hex-value .ensures ∙ e)) (λ e. c .if4 .left (c .before .hex-value2 .ensures ∙ e)))

@@ -9,16 +9,16 @@ use Rattle.text.proofs.digit_at.Statement.{statement}
 use Rattle.text.proofs.digit_at.Tie as tie
 
 returns : tie.Need-returns
-returns c = ap not (sym (ends-stops (drop (c .before .args .at) (c .before .args .s .now)) (stops-end (c .before .args .s .now) (c .before .args .at) (c .if1 .taken))))
+returns c = search (stops-end, ends-stops)
 
 shared-slice-read-b : tie.Need-shared-slice-read-b
 shared-slice-read-b c = search needs
 
 returns-2 : tie.Need-returns-2
-returns-2 c = ap not (sym (ends-stops (drop (c .before .before .before .args .at) (c .before .before .before .args .s .now)) (stops-at (c .before .before .before .args .s .now) (c .before .before .before .args .at) (c .before .before .if1 .left) (low (getD (c .before .before .before .args .s .now) (c .before .before .before .args .at) 0) (c .if2 .taken)))))
+returns-2 c = search (stops-at, low, ends-stops)
 
 returns-3 : tie.Need-returns-3
-returns-3 c = ap not (sym (ends-stops (drop (c .before .before .before .before .args .at) (c .before .before .before .before .args .s .now)) (stops-at (c .before .before .before .before .args .s .now) (c .before .before .before .before .args .at) (c .before .before .before .if1 .left) (high (getD (c .before .before .before .before .args .s .now) (c .before .before .before .before .args .at) 0) (c .if3 .taken)))))
+returns-3 c = search (stops-at, high, ends-stops)
 
 returns-4 : tie.Need-returns-4
 returns-4 c = ap not (sym (goes-on (c .before .before .before .before .args .s .now) (c .before .before .before .before .args .at) (c .before .before .before .if1 .left) ((getD (c .before .before .before .before .args .s .now) (c .before .before .before .before .args .at) 0) - 48) (mid (getD (c .before .before .before .before .args .s .now) (c .before .before .before .before .args .at) 0) (c .before .if2 .left) (c .if3 .left))))

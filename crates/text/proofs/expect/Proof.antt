@@ -21,7 +21,7 @@ add-k : tie.Need-add-k Inv-loop μ-loop
 add-k c = omega arith
 
 returns : tie.Need-returns Inv-loop μ-loop
-returns c = literal-missing (c .before .before .before .args .s .now) (c .before .before .loop .inv .2) (literal-short (c .before .before .before .args .literal .now) (c .before .before .before .args .s .now) (c .before .before .before .args .at) (c .before .before .loop .i) (c .before .loop-test .taken) (c .if1 .taken))
+returns c = search (literal-short, literal-missing)
 
 shared-slice-read-b : tie.Need-shared-slice-read-b Inv-loop μ-loop
 shared-slice-read-b c = omega arith
@@ -39,13 +39,13 @@ loop-again : tie.Need-loop-again Inv-loop μ-loop
 loop-again c = (omega (arith, c .before .before .before .before .loop-test .taken), omega (arith, c .before .before .before .if1 .left), c .before .before .before .before .before .loop .inv .2 ∙ literal-same (c .before .before .before .before .before .before .args .literal .now) (c .before .before .before .before .before .before .args .s .now) (c .before .before .before .before .before .before .args .at) (c .before .before .before .before .before .loop .i) (c .before .before .before .before .loop-test .taken) (c .before .before .before .if1 .left) (c .if2 .taken))
 
 returns-2 : tie.Need-returns-2 Inv-loop μ-loop
-returns-2 c = literal-missing (c .before .before .before .before .before .before .args .s .now) (c .before .before .before .before .before .loop .inv .2) (literal-other (c .before .before .before .before .before .before .args .literal .now) (c .before .before .before .before .before .before .args .s .now) (c .before .before .before .before .before .before .args .at) (c .before .before .before .before .before .loop .i) (c .before .before .before .before .loop-test .taken) (c .before .before .before .if1 .left) (c .if2 .left))
+returns-2 c = search (literal-other, literal-missing)
 
 add-t13 : tie.Need-add-t13 Inv-loop μ-loop
 add-t13 c = omega arith
 
 returns-3 : tie.Need-returns-3 Inv-loop μ-loop
-returns-3 c = literal-past (c .before .before .args .s .now) ((c .before .before .args .at) + (c .before .loop .i)) (c .before .loop .inv .1) (c .before .loop .inv .2) (literal-all (c .before .before .args .literal .now) (c .before .before .args .s .now) (c .before .before .args .at) (c .before .loop .i) (c .loop-test .left) (c .before .loop .inv .1))
+returns-3 c = search (literal-all, literal-past)
 
 pub expect-spec : {M : Type 1} → statement M
 expect-spec =

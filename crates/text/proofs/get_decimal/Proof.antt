@@ -9,16 +9,16 @@ use Rattle.text.proofs.get_decimal.Statement.{statement}
 use Rattle.text.proofs.get_decimal.Tie as tie
 
 returns : tie.Need-returns
-returns c = nothing-there (c .before .before .args .s .now) (c .before .before .args .most) (c .before .before .args .at) (c .if1 .taken)
+returns c = search nothing-there
 
 shared-slice-read-b : tie.Need-shared-slice-read-b
 shared-slice-read-b c = search needs
 
 returns-2 : tie.Need-returns-2
-returns-2 c = no-digit (c .before .before .before .before .args .s .now) (c .before .before .before .before .args .most) (c .before .before .before .before .args .at) (c .before .before .if1 .left) (low (getD (c .before .before .before .before .args .s .now) (c .before .before .before .before .args .at) 0) (c .if2 .taken))
+returns-2 c = search (no-digit, low)
 
 returns-3 : tie.Need-returns-3
-returns-3 c = no-digit (c .before .before .before .before .before .args .s .now) (c .before .before .before .before .before .args .most) (c .before .before .before .before .before .args .at) (c .before .before .before .if1 .left) (high (getD (c .before .before .before .before .before .args .s .now) (c .before .before .before .before .before .args .at) 0) (c .if3 .taken))
+returns-3 c = search (no-digit, high)
 
 add-next : tie.Need-add-next
 add-next c = search needs
@@ -39,7 +39,7 @@ returns-6 : tie.Need-returns-6
 returns-6 c = too-large (c .before .before .before .before .before .before .before .before .args .s .now) (c .before .before .before .before .before .before .before .before .args .most) (c .before .wide .result) _ (c .if6 .taken) (first-digit (c .before .before .before .before .before .before .before .before .args .s .now) (c .before .before .before .before .before .before .before .before .args .most) (c .before .before .before .before .before .before .before .before .args .at) (c .before .before .before .before .before .before .if1 .left) (c .before .wide .result) (one-up (getD (c .before .before .before .before .before .before .before .before .args .s .now) (c .before .before .before .before .before .before .before .before .args .at) 0) (c .before .wide .result) (c .before .before .before .before .if2 .left) (c .before .before .if4 .left) (c .before .wide .ensures)) (mid (getD (c .before .before .before .before .before .before .before .before .args .s .now) (c .before .before .before .before .before .before .before .before .args .at) 0) (c .before .before .before .before .if2 .left) (c .before .before .before .if3 .left) ∙ ap some (sym (c .before .wide .ensures))))
 
 get-more-requires : tie.Need-get-more-requires
-get-more-requires c κs = (omega (arith, c .if6 .left), omega (arith, c .before .before .before .before .before .before .if1 .left))
+get-more-requires c κs = search needs
 
 returns-7 : tie.Need-returns-7
 returns-7 c = c .get-more .ensures ∙ ap (decimalAnswer (length (c .before .before .before .before .before .before .before .before .before .args .s .now))) (sym (first-digit (c .before .before .before .before .before .before .before .before .before .args .s .now) (c .before .before .before .before .before .before .before .before .before .args .most) (c .before .before .before .before .before .before .before .before .before .args .at) (c .before .before .before .before .before .before .before .if1 .left) (c .before .before .wide .result) (one-up (getD (c .before .before .before .before .before .before .before .before .before .args .s .now) (c .before .before .before .before .before .before .before .before .before .args .at) 0) (c .before .before .wide .result) (c .before .before .before .before .before .if2 .left) (c .before .before .before .if4 .left) (c .before .before .wide .ensures)) (mid (getD (c .before .before .before .before .before .before .before .before .before .args .s .now) (c .before .before .before .before .before .before .before .before .before .args .at) 0) (c .before .before .before .before .before .if2 .left) (c .before .before .before .before .if3 .left) ∙ ap some (sym (c .before .before .wide .ensures)))))

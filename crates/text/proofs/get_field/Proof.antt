@@ -15,7 +15,7 @@ enum-told : tie.Need-enum-told
 enum-told c = search needs
 
 returns : tie.Need-returns
-returns c = field-none (c .before .before .before .before .args .s .now) (c .before .before .before .before .args .most) (c .before .before .before .before .args .end) (c .before .before .before .before .args .at) (answer-none (c .before .before .before .before .args .s .now) (readDecimal (c .before .before .before .before .args .most) (drop (c .before .before .before .before .args .at) (c .before .before .before .before .args .s .now))) (c .before .before .get-decimal .ensures) (c .enum-told .given .1))
+returns c = search (field-none, answer-none)
 
 returns-2 : tie.Need-returns-2
 returns-2 c = field-short (c .before .before .before .before .before .before .args .s .now) (c .before .before .before .before .before .before .args .most) (c .before .before .before .before .before .before .args .end) (c .before .before .before .before .before .before .args .at) (c .before .before .n .given .0 .0) (c .before .before .n .given .0 .1 .0) (decimal-found (c .before .before .before .before .before .before .args .s .now) (c .before .before .before .before .before .before .args .most) (c .before .before .before .before .before .before .args .at) (c .before .before .n .given .0 .0) (c .before .before .n .given .0 .1 .0) (c .before .before .before .before .get-decimal .ensures) (c .before .before .n .given .1) .0) (c .if1 .taken)

@@ -1,3 +1,4 @@
+use borrow.Author.Needs.{needs}
 use mathlib.Core.Option.{some}
 use Prim.Native.Nat.{_+_, _*_, _-_, _≤_}
 use Rattle.text.proofs.Getting.{stops-at, stops-end, low, mid, high, step, found, past}
@@ -15,16 +16,16 @@ abbrev μ-loop : tie.MeasureT-loop
 μ-loop s start first most n₀ i₀ n i = length s - i
 
 loop-holds : tie.Need-loop-holds Inv-loop μ-loop
-loop-holds c = (c .before .pre .0, c .before .pre .1, refl)
+loop-holds c = search needs
 
 shared-slice-read-b : tie.Need-shared-slice-read-b Inv-loop μ-loop
 shared-slice-read-b c = omega arith
 
 returns : tie.Need-returns Inv-loop μ-loop
-returns c = found (c .before .before .before .before .before .args .s .now) (c .before .before .before .before .before .args .most) (c .before .before .before .loop .i) (c .before .before .before .loop .n) _ (c .before .before .before .loop .inv .0) (c .before .before .before .loop .inv .1) (c .before .before .before .loop .inv .2) (stops-at (c .before .before .before .before .before .args .s .now) (c .before .before .before .loop .i) (c .before .before .loop-test .taken) (low (getD (c .before .before .before .before .before .args .s .now) (c .before .before .before .loop .i) 0) (c .if1 .taken)))
+returns c = search (stops-at, low, found)
 
 returns-2 : tie.Need-returns-2 Inv-loop μ-loop
-returns-2 c = found (c .before .before .before .before .before .before .args .s .now) (c .before .before .before .before .before .before .args .most) (c .before .before .before .before .loop .i) (c .before .before .before .before .loop .n) _ (c .before .before .before .before .loop .inv .0) (c .before .before .before .before .loop .inv .1) (c .before .before .before .before .loop .inv .2) (stops-at (c .before .before .before .before .before .before .args .s .now) (c .before .before .before .before .loop .i) (c .before .before .before .loop-test .taken) (high (getD (c .before .before .before .before .before .before .args .s .now) (c .before .before .before .before .loop .i) 0) (c .if2 .taken)))
+returns-2 c = search (stops-at, high, found)
 
 wide-requires : tie.Need-wide-requires Inv-loop μ-loop
 wide-requires c κs = tt
@@ -36,22 +37,22 @@ returns-4 : tie.Need-returns-4 Inv-loop μ-loop
 returns-4 c = past (c .before .before .before .before .before .before .before .before .before .args .s .now) (c .before .before .before .before .before .before .before .before .before .args .most) ((c .before .before .before .before .before .before .before .loop .n) * 10 + c .before .before .wide .result) (drop ((c .before .before .before .before .before .before .before .loop .i) + 1) (c .before .before .before .before .before .before .before .before .before .args .s .now)) _ (omega (arith, c .if4 .taken, c .before .if3 .left)) (c .before .before .before .before .before .before .before .loop .inv .2 ∙ step (c .before .before .before .before .before .before .before .before .before .args .s .now) (c .before .before .before .before .before .before .before .loop .i) (c .before .before .before .before .before .before .loop-test .taken) (c .before .before .before .before .before .before .before .loop .n) (c .before .before .wide .result) (mid (getD (c .before .before .before .before .before .before .before .before .before .args .s .now) (c .before .before .before .before .before .before .before .loop .i) 0) (c .before .before .before .before .if1 .left) (c .before .before .before .if2 .left) ∙ ap some (sym (c .before .before .wide .ensures))))
 
 mul-n : tie.Need-mul-n Inv-loop μ-loop
-mul-n c = omega (arith, c .if4 .left, c .before .if3 .left)
+mul-n c = omega arith
 
 add-n : tie.Need-add-n Inv-loop μ-loop
-add-n c = omega (arith, c .if4 .left, c .before .if3 .left)
+add-n c = omega arith
 
 add-i : tie.Need-add-i Inv-loop μ-loop
-add-i c = omega (arith, c .before .before .before .before .before .before .loop-test .taken)
+add-i c = omega arith
 
 loop-less : tie.Need-loop-less Inv-loop μ-loop
-loop-less c = omega (arith, c .before .before .before .before .before .before .loop-test .taken)
+loop-less c = omega arith
 
 loop-again : tie.Need-loop-again Inv-loop μ-loop
 loop-again c = (omega (arith, c .if4 .left, c .before .if3 .left), omega (arith, c .before .before .before .before .before .before .loop-test .taken), (c .before .before .before .before .before .before .before .loop .inv .2 ∙ step (c .before .before .before .before .before .before .before .before .before .args .s .now) (c .before .before .before .before .before .before .before .loop .i) (c .before .before .before .before .before .before .loop-test .taken) (c .before .before .before .before .before .before .before .loop .n) (c .before .before .wide .result) (mid (getD (c .before .before .before .before .before .before .before .before .before .args .s .now) (c .before .before .before .before .before .before .before .loop .i) 0) (c .before .before .before .before .if1 .left) (c .before .before .before .if2 .left) ∙ ap some (sym (c .before .before .wide .ensures)))))
 
 returns-5 : tie.Need-returns-5 Inv-loop μ-loop
-returns-5 c = found (c .before .before .before .args .s .now) (c .before .before .before .args .most) (c .before .loop .i) (c .before .loop .n) _ (c .before .loop .inv .0) (c .before .loop .inv .1) (c .before .loop .inv .2) (stops-end (c .before .before .before .args .s .now) (c .before .loop .i) (c .loop-test .left))
+returns-5 c = search (stops-end, found)
 
 pub get-more-spec : {M : Type 1} → statement M
 get-more-spec =

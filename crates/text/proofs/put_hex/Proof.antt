@@ -1,3 +1,4 @@
+use borrow.Author.Needs.{needs}
 use lib.Seq.{length-take-le}
 use Rattle.text.proofs.Putting.{puts-none, hex-step, puts-all-hex}
 use Rattle.text.proofs.Laws.{hex-length}
@@ -51,7 +52,7 @@ loop-again : tie.Need-loop-again Inv-loop μ-loop
 loop-again c = (omega arith, simp length-set (c .before .before .before .before .loop .inv .1), rw (c .before .hex-digit-of .ensures, c .hex-digit-of2 .ensures) (hex-step (c .before .before .before .before .before .before .before .args .out .now) (c .before .before .before .before .loop .out) (c .before .before .before .before .before .before .before .args .at) (c .before .before .before .before .loop .k) (c .before .before .before .before .loop .i) (c .before .before .before .before .before .before .before .args .bytes .now) (c .before .before .before .loop-test .taken) (c .before .before .before .before .before .before .before .pre) (c .before .before .before .before .loop .inv .1) (c .before .before .before .before .loop .inv .2)))
 
 same-length : tie.Need-same-length Inv-loop μ-loop
-same-length c = c .before .loop .inv .1
+same-length c = search needs
 
 returns : tie.Need-returns Inv-loop μ-loop
 returns c = puts-all-hex (c .before .loop .i) (c .before .before .before .before .args .bytes .now) (c .before .loop .inv .2) (omega arith)

@@ -1,3 +1,4 @@
+use borrow.Author.Needs.{needs}
 use Rattle.text.proofs.Putting.{puts-none, puts-at, literal-step, puts-all}
 use Rattle.text.specs.Put.{Puts}
 use lib.ListN.{length, take, length-set}
@@ -38,7 +39,7 @@ add-result : tie.Need-add-result Inv-loop μ-loop
 add-result c = omega arith
 
 same-length : tie.Need-same-length Inv-loop μ-loop
-same-length c = c .before .loop .inv .1
+same-length c = search needs
 
 returns : tie.Need-returns Inv-loop μ-loop
 returns c = puts-all (c .before .loop .i) (c .before .before .args .literal .now) (c .before .loop .inv .2) (omega arith)

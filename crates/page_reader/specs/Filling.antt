@@ -1,0 +1,29 @@
+-- What the second pass leaves in the lent columns.
+use Prim.Native.Nat.{ℕ}
+use mathlib.Core.List.{List, [], map}
+use mathlib.Core.Option.{none, some}
+use mathlib.Core.Path.{_≡_}
+use lib.ListN.{drop}
+use Rattle.text.specs.Text.{give}
+use Rattle.text.specs.Format.{readAll}
+use Rattle.text.specs.Put.{put}
+use Rattle.pages.specs.Heap.{Slot}
+use Rattle.pages.specs.Page.{slotFormat}
+use Rattle.pages.specs.WellFormed.{ends}
+
+-- the slots whose lines stand in a text from `at` on
+unfoldable pub slotsAt : List ℕ → (at count : ℕ) → List Slot
+slotsAt s at count = elim (readAll (slotFormat .read) count (drop at s)) [ none ↦ [] | some r ↦ r .0 ]
+
+-- they do stand there
+pub record SlotsParsed (s : List ℕ) (at count : ℕ) : Type 0 where
+  pub rest : List ℕ
+  pub reads : readAll (slotFormat .read) count (drop at s) ≡ give (slotsAt s at count) rest
+
+-- a column holds one part of each slot, and is as it was after these
+abbrev pub column : (Slot → ℕ) → List Slot → List ℕ → List ℕ
+column part l before = put before 0 (map part l)
+
+-- where data ends goes up by each slot's bytes
+abbrev pub endColumn : List Slot → List ℕ → List ℕ
+endColumn l before = put before 0 (ends 0 l)
