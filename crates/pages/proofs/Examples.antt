@@ -6,11 +6,11 @@ use mathlib.Core.Path.{_≡_, refl}
 use lib.ListN.{replicate}
 use Rattle.text.specs.Text.{ascii, digits, decimal, hexDigit, hex, line, digitOf, ends, scan, capped, after, readDecimal, hexDigitOf, byteOf, readHex, readLiteral, readField}
 use Rattle.text.specs.Format.{number, bytesLine, afterLiteral, pair, times, mapped, readAll}
-use Rattle.pages.specs.Heap.{State}
+use Rattle.heap.specs.State.{State}
 use Rattle.pages.specs.Page.{slotLine, valueLine, heapNames, slotNames, freeName, quarantineName, sealedName, numbersLine, heapLine, pageText, slotFormat, headFormat, bodyFormat, pageFormat, readPage}
 
 sample : State
-sample = record { tag = 1; since-gc = 34; reclaim-at = 4096; live-bytes = 0; epoch = 0; log = replicate 16 0; slots = record { generation = 1; kind = 2; type = 0; start = 0; writes = 0; bytes = 65 ∷ 66 ∷ [] } ∷ []; free = []; quarantine = []; sealed = [] }
+sample = record { tag = 1; sinceGc = 34; reclaimAt = 4096; liveBytes = 0; epoch = 0; log = replicate 16 0; slots = record { generation = 1; kind = 2; type = 0; start = 0; writes = 0; bytes = 65 ∷ 66 ∷ [] } ∷ []; free = []; quarantine = []; sealed = [] }
 
 text : String
 text = "tag,since_gc,reclaim_at,live_bytes,slots,free,quarantine,sealed\n1,34,4096,0,1,0,0,0\ngeneration,kind,type,start,writes,data\n1,2,0,0,0,4142\nfree\nquarantine\nsealed\n"

@@ -8,7 +8,7 @@ use lib.ListN.{length}
 use Rattle.text.specs.Text.{give, _>>=_, line, newline, comma, Bytes, digitOf}
 use Rattle.text.specs.Format.{Right, number, bytesLine, afterLiteral, pair, times, mapped, All}
 use Rattle.text.proofs.Laws.{none-not-some, bind-some, some-inj, number-right, bytes-line-right, after-literal-right, pair-right, times-right, mapped-right, injective}
-use Rattle.pages.specs.Heap.{Slot, State}
+use Rattle.heap.specs.State.{Slot, State}
 use Rattle.pages.specs.Page.{slotLine, valueLine, heapNames, slotNames, freeName, quarantineName, sealedName, numbersLine, heapLine, pageText, SlotWithin, Within, Unsaved, Fields, slotOf, fieldsOf, slotFormat, Head, headFormat, Body, bodyFormat, pageFormat, stateOf, saved, whole, readPage}
 
 no-comma : digitOf comma ≡ none
@@ -89,10 +89,12 @@ body-prints : (h : State) → bodyFormat (saved h .0) .print (saved h .1) ≡
     ++ (quarantineName ++ (flatMap valueLine (h .quarantine) ++ (sealedName ++ flatMap valueLine (h .sealed)))))))
 unfolding bodyFormat afterLiteral pair times
 body-prints h =
-    rw (flatMap-same (slotFormat .print) slotLine slot-prints (h .slots),
-    flatMap-same (number 32 newline .print) valueLine (value-prints 32) (h .free),
-    flatMap-same (number 32 newline .print) valueLine (value-prints 32) (h .quarantine),
-    flatMap-same (number 64 newline .print) valueLine (value-prints 64) (h .sealed))
+    rw (
+      flatMap-same (slotFormat .print) slotLine slot-prints (h .slots),
+      flatMap-same (number 32 newline .print) valueLine (value-prints 32) (h .free),
+      flatMap-same (number 32 newline .print) valueLine (value-prints 32) (h .quarantine),
+      flatMap-same (number 64 newline .print) valueLine (value-prints 64) (h .sealed),
+    )
 
 pub page-prints : (h : State) → pageFormat .print (saved h) ≡ pageText h
 unfolding pageFormat afterLiteral pair pageText
@@ -111,22 +113,30 @@ all-map f [] h = tt
 all-map f (a ∷ l) h = (f a (h .0), all-map f l (h .1))
 
 good-saved : (h : State) → Within h → Head-good (saved h .0) × Body-good (saved h .0) (saved h .1)
-good-saved h w =
-    ((w .tag, (w .since-gc, (w .reclaim-at, (w .live-bytes, (w .slot-count, (w .free-count, (w .quarantine-count, w .sealed-count))))))),
-    ((all-map fields-within (h .slots) (w .slots), refl), ((w .free, refl), ((w .quarantine, refl), (w .sealed, refl)))))
+good-saved h w = (
+  (w .tag, (w .sinceGc, (w .reclaimAt, (w .liveBytes, (w .slot-count, (w .free-count, (w .quarantine-count, w .sealed-count))))))),
+  ((all-map fields-within (h .slots) (w .slots), refl), ((w .free, refl), ((w .quarantine, refl), (w .sealed, refl)))),
+)
 
 -- a text that was read is the page of what was read
 within-state : (p : Head × Body) → Head-good (p .0) → Body-good (p .0) (p .1) → Within (stateOf p) × (saved (stateOf p) ≡ p)
-within-state p g b =
-    (record {
-      tag = g .0; since-gc = g .1 .0; reclaim-at = g .1 .1 .0; live-bytes = g .1 .1 .1 .0;
-      slot-count = rw (b .0 .1) (g .1 .1 .1 .1 .0);
-      free-count = rw (b .1 .0 .1) (g .1 .1 .1 .1 .1 .0);
-      quarantine-count = rw (b .1 .1 .0 .1) (g .1 .1 .1 .1 .1 .1 .0);
-      sealed-count = rw (b .1 .1 .1 .1) (g .1 .1 .1 .1 .1 .1 .1);
-      slots = all-map within-fields (p .1 .0) (b .0 .0); free = b .1 .0 .0; quarantine = b .1 .1 .0 .0; sealed = b .1 .1 .1 .0
-    },
-    rw (b .0 .1, b .1 .0 .1, b .1 .1 .0 .1, b .1 .1 .1 .1))
+within-state p g b = (
+  record {
+    tag = g .0;
+    sinceGc = g .1 .0;
+    reclaimAt = g .1 .1 .0;
+    liveBytes = g .1 .1 .1 .0;
+    slot-count = rw (b .0 .1) (g .1 .1 .1 .1 .0);
+    free-count = rw (b .1 .0 .1) (g .1 .1 .1 .1 .1 .0);
+    quarantine-count = rw (b .1 .1 .0 .1) (g .1 .1 .1 .1 .1 .1 .0);
+    sealed-count = rw (b .1 .1 .1 .1) (g .1 .1 .1 .1 .1 .1 .1);
+    slots = all-map within-fields (p .1 .0) (b .0 .0);
+    free = b .1 .0 .0;
+    quarantine = b .1 .1 .0 .0;
+    sealed = b .1 .1 .1 .0;
+  },
+  rw (b .0 .1, b .1 .0 .1, b .1 .1 .0 .1, b .1 .1 .1 .1),
+)
 
 whole-some : {A : Type 0} (r : A × List ℕ) (a : A) → whole r ≡ some a → r ≡ (a, [])
 whole-some {A} r a e = go (r .0) (r .1) e
@@ -142,7 +152,7 @@ pub read-written : (h : State) → Within h → readPage (pageText h) ≡ some (
 unfolding readPage
 read-written h w =
     let e : pageFormat .read (pageText h) ≡ give (saved h) [] =
-      ap (pageFormat .read) (sym (append-nil (pageText h)) ∙ ap (λ (t : List ℕ). t ++ []) (sym (page-prints h))) ∙ page-right .forth (saved h) [] (good-saved h w) in
+    ap (pageFormat .read) (sym (append-nil (pageText h)) ∙ ap (λ (t : List ℕ). t ++ []) (sym (page-prints h))) ∙ page-right .forth (saved h) [] (good-saved h w) in
     rw e
 
 -- writing what was read gives the same text
@@ -150,7 +160,7 @@ pub written-read : (t : List ℕ) (h : State) → readPage t ≡ some h → (pag
 unfolding readPage
 written-read t h e =
     let p : (r : (Head × Body) × List ℕ) × (pageFormat .read t ≡ some r) × ((whole r >>= λ p. some (stateOf p)) ≡ some h) =
-      bind-some (pageFormat .read t) (λ r. whole r >>= λ p. some (stateOf p)) h e in
+    bind-some (pageFormat .read t) (λ r. whole r >>= λ p. some (stateOf p)) h e in
     let q : (x : Head × Body) × (whole (p .0) ≡ some x) × (some (stateOf x) ≡ some h) = bind-some (whole (p .0)) (λ p. some (stateOf p)) h (p .2) in
     finish t h (q .0) (p .1 ∙ ap some (whole-some (p .0) (q .0) (q .1))) (some-inj (q .2))
   where
@@ -158,15 +168,16 @@ written-read t h e =
     finish t h x f v =
         let b : (Head-good (x .0) × Body-good (x .0) (x .1)) × (pageFormat .print x ++ [] ≡ t) = page-right .back t x [] f in
         let w : Within (stateOf x) × (saved (stateOf x) ≡ x) = within-state x (b .0 .0) (b .0 .1) in
-        rw (← v)
-        (sym (page-prints (stateOf x)) ∙ ap (pageFormat .print) (w .1) ∙ sym (append-nil (pageFormat .print x)) ∙ b .1,
-        w .0,
-        record { epoch = refl; log = refl })
+        rw (← v) (
+          sym (page-prints (stateOf x)) ∙ ap (pageFormat .print) (w .1) ∙ sym (append-nil (pageFormat .print x)) ∙ b .1,
+          w .0,
+          record { epoch = refl; log = refl },
+        )
 
 -- the heap that a page brings back
 same-unsaved : (h : State) → Unsaved h → stateOf (saved h) ≡ h
 same-unsaved h u i =
-    record { tag = h .tag; since-gc = h .since-gc; reclaim-at = h .reclaim-at; live-bytes = h .live-bytes; epoch = sym (u .epoch) i; log = sym (u .log) i; slots = h .slots; free = h .free; quarantine = h .quarantine; sealed = h .sealed }
+    record { tag = h .tag; sinceGc = h .sinceGc; reclaimAt = h .reclaimAt; liveBytes = h .liveBytes; epoch = sym (u .epoch) i; log = sym (u .log) i; slots = h .slots; free = h .free; quarantine = h .quarantine; sealed = h .sealed }
 
 -- a text is read as a heap exactly if it is that heap's page
 pub read-exactly : (t : List ℕ) (h : State) → (readPage t ≡ some h) ↔ ((pageText h ≡ t) × Within h × Unsaved h)

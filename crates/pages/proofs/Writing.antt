@@ -10,10 +10,11 @@ use Rattle.text.specs.Text.{decimal, hex, line}
 use Rattle.text.specs.Put.{put, Puts}
 use Rattle.text.proofs.Laws.{hex-length}
 use Rattle.text.proofs.Putting.{puts-puts, puts-byte, puts-length, puts-at}
-use Rattle.pages.specs.Heap.{Slot}
+use Rattle.heap.specs.State.{Slot}
 use Rattle.pages.specs.Page.{valueLine, slotLine, numbersLine}
-use Rattle.pages.specs.Columns.{slot, Columns, begin, slotIn, slotsIn, Laid}
-use native.Mathlib.Nat.{add-zero, zero-add}
+use Rattle.heap.specs.Lent.{Lent, slotIn}
+use Rattle.heap.specs.Packing.{tabulate, startOf, dataAt}
+use Rattle.pages.specs.Columns.{slot, slotsIn, Laid}
 
 module _ {A : Type 0} (f : A → List ℕ) where
   flat-append : (xs ys : List A) → flatMap f (xs ++ ys) ≡ flatMap f xs ++ flatMap f ys
@@ -98,59 +99,67 @@ module _ {a b1 b2 b3 b4 b5 b6 : List ℕ} {at k1 k2 k3 k4 k5 k6 : ℕ} (g k t s 
 
 -- SLOTS IN COLUMNS
 
-pub slots-length : (c : Columns) (n i : ℕ) → length (slotsIn c n i) ≡ n
-slots-length c zero i = refl
-slots-length c (suc n) i = ap suc (slots-length c n (i + 1))
+module _ {A : Type 0} where
+  length-tabulate : (n : ℕ) (f : ℕ → A) → length (tabulate n f) ≡ n
+  unfolding tabulate
+  length-tabulate zero f = refl
+  length-tabulate (suc n) f = ap suc (length-tabulate n (λ i. f (suc i)))
 
-slotsAt : (c : Columns) (n i j : ℕ) (d : Slot) → j < n → getD (slotsIn c n i) j d ≡ slotIn c (i + j)
-slotsAt c zero i j d h = absurd (omega arith)
-slotsAt c (suc n) i zero d h = ap (slotIn c) (sym (add-zero i))
-slotsAt c (suc n) i (suc j) d h = slotsAt c n (i + 1) j d (omega arith) ∙ ap (slotIn c) (let e : i + 1 + j ≡ i + suc j = omega arith in e)
+  getD-tabulate : (n : ℕ) (f : ℕ → A) (j : ℕ) (d : A) → j < n → getD (tabulate n f) j d ≡ f j
+  unfolding tabulate
+  getD-tabulate zero f j d h = absurd (omega arith)
+  getD-tabulate (suc n) f zero d h = refl
+  getD-tabulate (suc n) f (suc j) d h = getD-tabulate n (λ i. f (suc i)) j d (omega arith)
 
-pub slot-at : (c : Columns) (n j : ℕ) (d : Slot) → j < n → getD (slotsIn c n 0) j d ≡ slotIn c j
-slot-at c n j d h = slotsAt c n 0 j d h ∙ ap (slotIn c) (zero-add j)
+pub slots-length : (c : Lent) (n : ℕ) → length (slotsIn c n) ≡ n
+slots-length c n = length-tabulate n (slotIn c)
 
-pub begin-next : (ends : List ℕ) (i : ℕ) → getD ends i 0 ≡ begin ends (i + 1)
-begin-next ends i = rw (add-one i)
+pub slot-at : (c : Lent) (n j : ℕ) (d : Slot) → j < n → getD (slotsIn c n) j d ≡ slotIn c j
+slot-at c n j d h = getD-tabulate n (slotIn c) j d h
+
+pub start-next : (ends : List ℕ) (i : ℕ) → getD ends i 0 ≡ startOf ends (i + 1)
+unfolding startOf
+start-next ends i = rw (add-one i)
 
 abbrev pub blank : Slot
 blank = slot 0 0 0 0 0 []
 
-abbrev pub lines : Columns → (n i : ℕ) → List ℕ
-lines c n i = flatMap slotLine (take i (slotsIn c n 0))
+abbrev pub lines : Lent → (n i : ℕ) → List ℕ
+lines c n i = flatMap slotLine (take i (slotsIn c n))
 
-pub lines-all : (c : Columns) (n : ℕ) → lines c n n ≡ flatMap slotLine (slotsIn c n 0)
-lines-all c n = ap (flatMap slotLine) (take-all n (slotsIn c n 0) (omega (arith, slots-length c n 0)))
+pub lines-all : (c : Lent) (n : ℕ) → lines c n n ≡ flatMap slotLine (slotsIn c n)
+lines-all c n = ap (flatMap slotLine) (take-all n (slotsIn c n) (omega (arith, slots-length c n)))
 
 -- one slot's line more
-pub line-more-length : (c : Columns) (n i : ℕ) → i < n → length (lines c n (i + 1)) ≡ length (lines c n i) + length (slotLine (slotIn c i))
+pub line-more-length : (c : Lent) (n i : ℕ) → i < n → length (lines c n (i + 1)) ≡ length (lines c n i) + length (slotLine (slotIn c i))
 line-more-length c n i h =
-    flat-more-length slotLine (slotsIn c n 0) i blank (omega (arith, slots-length c n 0))
+    flat-more-length slotLine (slotsIn c n) i blank (omega (arith, slots-length c n))
     ∙ ap (λ (s : Slot). length (lines c n i) + length (slotLine s)) (slot-at c n i blank h)
 
-pub line-room : (c : Columns) (n i : ℕ) → i < n → length (lines c n i) + length (slotLine (slotIn c i)) ≤ length (flatMap slotLine (slotsIn c n 0))
+pub line-room : (c : Lent) (n i : ℕ) → i < n → length (lines c n i) + length (slotLine (slotIn c i)) ≤ length (flatMap slotLine (slotsIn c n))
 line-room c n i h =
     rw (← ap (λ (s : Slot). length (slotLine s)) (slot-at c n i blank h), ← lines-all c n)
-    (flat-room slotLine (slotsIn c n 0) i n blank h (omega (arith, slots-length c n 0)))
+    (flat-room slotLine (slotsIn c n) i n blank h (omega (arith, slots-length c n)))
 
-pub puts-line : (k : Columns) (n i : ℕ) (a b c : List ℕ) (at m r : ℕ) → i < n → at ≤ length a →
+pub puts-line : (k : Lent) (n i : ℕ) (a b c : List ℕ) (at m r : ℕ) → i < n → at ≤ length a →
     Puts a b at m (lines k n i) → Puts b c m r (slotLine (slotIn k i)) → Puts a c at r (lines k n (i + 1))
 puts-line k n i a b c at m r h l p q =
-    puts-more slotLine a b c at m r (slotsIn k n 0) i blank (omega (arith, slots-length k n 0)) p (puts-at q refl (ap slotLine (sym (slot-at k n i blank h)))) l
+    puts-more slotLine a b c at m r (slotsIn k n) i blank (omega (arith, slots-length k n)) p (puts-at q refl (ap slotLine (sym (slot-at k n i blank h)))) l
 
 -- a slot whose data the code has found from `from` on
-abbrev pub slot-from : (c : Columns) (i from : ℕ) → Slot
+abbrev pub slot-from : (c : Lent) (i from : ℕ) → Slot
 slot-from c i from =
     slot (getD (c .generation) i 0) (getD (c .kind) i 0) (getD (c .type) i 0) (getD (c .start) i 0) (getD (c .writes) i 0)
     (take (getD (c .end) i 0 - from) (drop from (c .pool)))
 
-pub slot-found : (c : Columns) (i from : ℕ) → from ≡ begin (c .end) i → slot-from c i from ≡ slotIn c i
+pub slot-found : (c : Lent) (i from : ℕ) → from ≡ startOf (c .end) i → slot-from c i from ≡ slotIn c i
+unfolding slotIn dataAt
 slot-found c i from e = ap (slot-from c i) e
 
 pub part-length : (pool : List ℕ) (from to : ℕ) → from ≤ to → to ≤ length pool → length (take (to - from) (drop from pool)) ≡ to - from
 part-length pool from to h k = simp (length-take, length-drop) (omega arith)
 
-pub rises : (c : Columns) (n i from : ℕ) → Laid c n → i < n → from ≡ begin (c .end) i → from ≤ getD (c .end) i 0
+pub rises : (c : Lent) (n i from : ℕ) → Laid c n → i < n → from ≡ startOf (c .end) i → from ≤ getD (c .end) i 0
 rises c n i from l h e = rw e (l .rising i h)
 
 -- THE LINE OF NUMBERS
@@ -168,8 +177,17 @@ module _ (t s r l n f q z : ℕ) where
       length (decimal t) + length (decimal s) + length (decimal r) + length (decimal l) + length (decimal n) + length (decimal f) + length (decimal q) + length (decimal z) + 8
   head-length-decimal =
       head-length
-      ∙ omega (arith, length-append (decimal t) (44 ∷ []), length-append (decimal s) (44 ∷ []), length-append (decimal r) (44 ∷ []), length-append (decimal l) (44 ∷ []),
-      length-append (decimal n) (44 ∷ []), length-append (decimal f) (44 ∷ []), length-append (decimal q) (44 ∷ []), length-append (decimal z) (10 ∷ []))
+      ∙ omega (
+        arith,
+        length-append (decimal t) (44 ∷ []),
+        length-append (decimal s) (44 ∷ []),
+        length-append (decimal r) (44 ∷ []),
+        length-append (decimal l) (44 ∷ []),
+        length-append (decimal n) (44 ∷ []),
+        length-append (decimal f) (44 ∷ []),
+        length-append (decimal q) (44 ∷ []),
+        length-append (decimal z) (10 ∷ []),
+      )
 
   pub puts-head : {a b1 b2 b3 b4 b5 b6 b7 b8 : List ℕ} {at k1 k2 k3 k4 k5 k6 k7 k8 : ℕ} →
       Puts a b1 at k1 (field t 44) → Puts b1 b2 k1 k2 (field s 44) → Puts b2 b3 k2 k3 (field r 44) → Puts b3 b4 k3 k4 (field l 44) →
@@ -178,7 +196,8 @@ module _ (t s r l n f q z : ℕ) where
   puts-head p1 p2 p3 p4 p5 p6 p7 p8 h =
       puts-at (puts-puts (puts-puts (puts-puts (puts-puts (puts-puts (puts-puts (puts-puts p1 p2 h) p3 h) p4 h) p5 h) p6 h) p7 h) p8 h) refl head-parts
 
-pub final-bound : (ends pool : List ℕ) (count i from n : ℕ) → n ≤ 59 * i + 2 * from → i ≤ count → from ≡ begin ends i →
+pub final-bound : (ends pool : List ℕ) (count i from n : ℕ) → n ≤ 59 * i + 2 * from → i ≤ count → from ≡ startOf ends i →
     ((j : ℕ) → j < count → getD ends j 0 ≤ length pool) → n ≤ 59 * count + 2 * length pool
+unfolding startOf
 final-bound ends pool count zero from n h k e inside = omega arith
 final-bound ends pool count (suc i) from n h k e inside = omega (arith, inside i (omega arith))

@@ -1,68 +1,42 @@
--- How a heap's slots lie in lent columns, and what the code's heap is.
-use Prim.Native.Nat.{ℕ, zero, suc, _+_, _-_, _≤_, _<_}
-use mathlib.Core.List.{List, [], _∷_}
-use lib.ListN.{length, getD, take, drop}
-use Rattle.pages.specs.Heap.{Slot, State}
-use Rattle.pages.specs.declared.Heap.{Heap}
+-- The parts of the writer's contracts: the slots that lie in seven columns, and what the writer needs of a well-formed heap.
+use Prim.Native.Nat.{ℕ, _≤_, _<_}
+use mathlib.Core.List.{List, []}
+use lib.ListN.{length, getD}
+use Rattle.heap.specs.State.{Slot}
+use Rattle.heap.specs.Calls.{new}
+use Rattle.heap.specs.Packing.{tabulate, startOf}
+use Rattle.heap.specs.Lent.{Lent, lent, headerOf, slotIn}
 
--- a column for each part of a slot; `end` is where a slot's data ends in the pool
-pub record Columns : Type 0 where
-  pub generation : List ℕ
-  pub kind : List ℕ
-  pub type : List ℕ
-  pub start : List ℕ
-  pub end : List ℕ
-  pub writes : List ℕ
-  pub pool : List ℕ
+-- lent memory of which the slots' columns alone are looked at
+abbrev pub columns : (generation kind type start end writes pool : List ℕ) → Lent
+columns g k t s e w p = lent (headerOf (new 0)) g k t s e w p [] [] []
 
-abbrev pub columns : (generation kind type start end writes pool : List ℕ) → Columns
-columns g k t s e w p = record { generation = g; kind = k; type = t; start = s; end = e; writes = w; pool = p }
-
--- where the data of slot i begins: where the slot before ends
-abbrev pub begin : List ℕ → ℕ → ℕ
-begin ends zero = 0
-begin ends (suc j) = getD ends j 0
+-- the first n slots
+abbrev pub slotsIn : Lent → (n : ℕ) → List Slot
+slotsIn l n = tabulate n (slotIn l)
 
 abbrev pub slot : (generation kind type start writes : ℕ) (bytes : List ℕ) → Slot
 slot g k t s w bs = record { generation = g; kind = k; type = t; start = s; writes = w; bytes = bs }
 
-abbrev pub slotIn : Columns → ℕ → Slot
-slotIn c i =
-    slot (getD (c .generation) i 0) (getD (c .kind) i 0) (getD (c .type) i 0) (getD (c .start) i 0) (getD (c .writes) i 0)
-    (take (getD (c .end) i 0 - begin (c .end) i) (drop (begin (c .end) i) (c .pool)))
-
--- n slots from index i on
-abbrev pub slotsIn : Columns → (n i : ℕ) → List Slot
-slotsIn c zero i = []
-slotsIn c (suc n) i = slotIn c i ∷ slotsIn c n (i + 1)
-
--- the heap that lies in lent memory
-unfoldable pub view : Heap → Columns → (free quarantine sealed : List ℕ) → State
-view h c free quarantine sealed =
-    record {
-      tag = h .tag; since-gc = h .«since_gc»; reclaim-at = h .«reclaim_at»; live-bytes = h .«live_bytes»; epoch = h .epoch; log = h .log;
-      slots = slotsIn c (h .slots) 0; free = take (h .free) free; quarantine = take (h .quarantine) quarantine; sealed = take (h .sealed) sealed
-    }
-
 -- n slots lie in columns: their data in the pool one after the other
-pub record Laid (c : Columns) (n : ℕ) : Type 0 where
-  pub generation : n ≤ length (c .generation)
-  pub kind : n ≤ length (c .kind)
-  pub type : n ≤ length (c .type)
-  pub start : n ≤ length (c .start)
-  pub end : n ≤ length (c .end)
-  pub writes : n ≤ length (c .writes)
-  pub rising : (i : ℕ) → i < n → begin (c .end) i ≤ getD (c .end) i 0
-  pub inside : (i : ℕ) → i < n → getD (c .end) i 0 ≤ length (c .pool)
+pub record Laid (l : Lent) (n : ℕ) : Type 0 where
+  pub generation : n ≤ length (l .generation)
+  pub kind : n ≤ length (l .kind)
+  pub type : n ≤ length (l .type)
+  pub start : n ≤ length (l .start)
+  pub end : n ≤ length (l .end)
+  pub writes : n ≤ length (l .writes)
+  pub rising : (i : ℕ) → i < n → startOf (l .end) i ≤ getD (l .end) i 0
+  pub inside : (i : ℕ) → i < n → getD (l .end) i 0 ≤ length (l .pool)
 
--- a heap that can be written: what well-formedness gives
-pub record Ready (h : Heap) (c : Columns) (f q z : List ℕ) : Type 0 where
-  pub laid : Laid c (h .slots)
-  pub slot-count : h .slots ≤ 16777216
-  pub pool : length (c .pool) ≤ 1073741824
-  pub free-count : h .free ≤ 16777216
-  pub quarantine-count : h .quarantine ≤ 16777216
-  pub sealed-count : h .sealed ≤ 16777216
-  pub free : h .free ≤ length f
-  pub quarantine : h .quarantine ≤ length q
-  pub sealed : h .sealed ≤ length z
+-- a heap that can be written
+pub record Ready (l : Lent) : Type 0 where
+  pub laid : Laid l (l .header .slots)
+  pub slotCount : l .header .slots ≤ 16777216
+  pub pool : length (l .pool) ≤ 1073741824
+  pub freeCount : l .header .free ≤ 16777216
+  pub quarantineCount : l .header .quarantine ≤ 16777216
+  pub sealedCount : l .header .sealed ≤ 16777216
+  pub free : l .header .free ≤ length (l .free)
+  pub quarantine : l .header .quarantine ≤ length (l .quarantine)
+  pub sealed : l .header .sealed ≤ length (l .sealed)

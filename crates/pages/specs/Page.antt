@@ -6,7 +6,7 @@ use mathlib.Core.Path.{_≡_}
 use lib.ListN.{length, replicate}
 use Rattle.text.specs.Text.{_>>=_, ascii, decimal, hex, line, newline, comma, Bytes}
 use Rattle.text.specs.Format.{Format, number, bytesLine, afterLiteral, pair, times, mapped, All}
-use Rattle.pages.specs.Heap.{Slot, State}
+use Rattle.heap.specs.State.{Slot, State}
 
 -- WRITING
 
@@ -33,13 +33,13 @@ quarantineName = ascii "quarantine\n"
 unfoldable pub sealedName : List ℕ
 sealedName = ascii "sealed\n"
 
-unfoldable pub numbersLine : (tag since-gc reclaim-at live-bytes slots free quarantine sealed : ℕ) → List ℕ
+unfoldable pub numbersLine : (tag sinceGc reclaimAt liveBytes slots free quarantine sealed : ℕ) → List ℕ
 numbersLine t s r l n f q z =
     line (decimal t ∷ decimal s ∷ decimal r ∷ decimal l ∷ decimal n ∷ decimal f ∷ decimal q ∷ decimal z ∷ [])
 
 unfoldable pub heapLine : State → List ℕ
 heapLine h =
-    numbersLine (h .tag) (h .since-gc) (h .reclaim-at) (h .live-bytes) (length (h .slots)) (length (h .free)) (length (h .quarantine)) (length (h .sealed))
+    numbersLine (h .tag) (h .sinceGc) (h .reclaimAt) (h .liveBytes) (length (h .slots)) (length (h .free)) (length (h .quarantine)) (length (h .sealed))
 
 unfoldable pub pageText : State → List ℕ
 pageText h =
@@ -61,9 +61,9 @@ pub record SlotWithin (s : Slot) : Type 0 where
 
 pub record Within (h : State) : Type 0 where
   pub tag : h .tag < 2 ^ 8
-  pub since-gc : h .since-gc < 2 ^ 64
-  pub reclaim-at : h .reclaim-at < 2 ^ 64
-  pub live-bytes : h .live-bytes < 2 ^ 64
+  pub sinceGc : h .sinceGc < 2 ^ 64
+  pub reclaimAt : h .reclaimAt < 2 ^ 64
+  pub liveBytes : h .liveBytes < 2 ^ 64
   pub slot-count : length (h .slots) < 2 ^ 32
   pub free-count : length (h .free) < 2 ^ 32
   pub quarantine-count : length (h .quarantine) < 2 ^ 32
@@ -120,14 +120,23 @@ pageFormat = afterLiteral heapNames (pair headFormat bodyFormat)
 abbrev pub stateOf : Head × Body → State
 stateOf p =
     record {
-      tag = p .0 .0; since-gc = p .0 .1 .0; reclaim-at = p .0 .1 .1 .0; live-bytes = p .0 .1 .1 .1 .0; epoch = 0; log = replicate 16 0;
-      slots = p .1 .0; free = p .1 .1 .0; quarantine = p .1 .1 .1 .0; sealed = p .1 .1 .1 .1
+      tag = p .0 .0;
+      sinceGc = p .0 .1 .0;
+      reclaimAt = p .0 .1 .1 .0;
+      liveBytes = p .0 .1 .1 .1 .0;
+      epoch = 0;
+      log = replicate 16 0;
+      slots = p .1 .0;
+      free = p .1 .1 .0;
+      quarantine = p .1 .1 .1 .0;
+      sealed = p .1 .1 .1 .1;
     }
 
 abbrev pub saved : State → Head × Body
-saved h =
-    ((h .tag, (h .since-gc, (h .reclaim-at, (h .live-bytes, (length (h .slots), (length (h .free), (length (h .quarantine), length (h .sealed)))))))),
-    (h .slots, (h .free, (h .quarantine, h .sealed))))
+saved h = (
+  (h .tag, (h .sinceGc, (h .reclaimAt, (h .liveBytes, (length (h .slots), (length (h .free), (length (h .quarantine), length (h .sealed)))))))),
+  (h .slots, (h .free, (h .quarantine, h .sealed))),
+)
 
 abbrev pub whole : {A : Type 0} → A × List ℕ → Option A
 whole {A} r = go (r .1)

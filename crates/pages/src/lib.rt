@@ -1,4 +1,5 @@
 // The page: a heap as text.
+use heap::Heap;
 ghost use mathlib.Core.Path.{_≡_};
 ghost use mathlib.Core.List.{List, [], _∷_, _++_, flatMap};
 ghost use Prim.Native.Nat.{ℕ, _+_, _-_, _*_, _≤_, _<_};
@@ -6,22 +7,11 @@ ghost use lib.ListN.{length, take, drop};
 ghost use Rattle.text.specs.Text.{decimal, hex};
 ghost use Rattle.text.specs.Put.{Puts};
 ghost use Rattle.pages.specs.Page.{valueLine, slotLine, numbersLine, pageText};
-ghost use Rattle.pages.specs.Columns.{slot, columns, slotsIn, Laid, view, Ready};
+ghost use Rattle.pages.specs.Columns.{slot, columns, slotsIn, Laid, Ready};
+ghost use Rattle.heap.specs.Lent.{lent, view};
+ghost use Rattle.heap.specs.WellFormed.{wellFormed};
+ghost use mathlib.Core.Bool.{true};
 ghost use Rattle.pages.specs.Answer.{PageWritten};
-
-// A heap's numbers, and how many entries of each lent column are in use.
-pub struct Heap {
-    pub tag: u8,
-    pub since_gc: u64,
-    pub reclaim_at: usize,
-    pub live_bytes: u64,
-    pub epoch: u64,
-    pub log: [u32; 16],
-    pub slots: usize,
-    pub free: usize,
-    pub quarantine: usize,
-    pub sealed: usize,
-}
 
 fn wide(x: u32) -> u64
     ensures { λ r. ⌜ r ≡ x ⌝ }
@@ -113,7 +103,16 @@ fn slot_len(generation: u32, kind: u8, ty: u32, start: usize, writes: u32, bytes
 }
 
 // Puts a slot's line from `at` on.
-fn put_slot(out: &mut [u8], at: usize, generation: u32, kind: u8, ty: u32, start: usize, writes: u32, bytes: &[u8]) -> usize
+fn put_slot(
+    out: &mut [u8],
+    at: usize,
+    generation: u32,
+    kind: u8,
+    ty: u32,
+    start: usize,
+    writes: u32,
+    bytes: &[u8],
+) -> usize
     requires { ⌜ at + length (slotLine (slot generation kind ty start writes (now bytes))) ≤ length (now out) ⌝ }
     ensures { λ r. ⌜ Puts (now (out .entry)) (now (out .exit)) at r (slotLine (slot generation kind ty start writes (now (bytes .entry)))) ⌝ }
 {
@@ -128,10 +127,19 @@ fn put_slot(out: &mut [u8], at: usize, generation: u32, kind: u8, ty: u32, start
 }
 
 // How long the lines of the first `count` slots are.
-fn slots_len(count: usize, generation: &[u32], kind: &[u8], ty: &[u32], start: &[usize], end: &[usize], writes: &[u32], pool: &[u8]) -> usize
+fn slots_len(
+    count: usize,
+    generation: &[u32],
+    kind: &[u8],
+    ty: &[u32],
+    start: &[usize],
+    end: &[usize],
+    writes: &[u32],
+    pool: &[u8],
+) -> usize
     requires { ⌜ Laid (columns (now generation) (now kind) (now ty) (now start) (now end) (now writes) (now pool)) count ⌝ }
     requires { ⌜ (count ≤ 16777216) × (length (now pool) ≤ 1073741824) ⌝ }
-    ensures { λ r. ⌜ r ≡ length (flatMap slotLine (slotsIn (columns (now (generation .entry)) (now (kind .entry)) (now (ty .entry)) (now (start .entry)) (now (end .entry)) (now (writes .entry)) (now (pool .entry))) count 0)) ⌝ }
+    ensures { λ r. ⌜ r ≡ length (flatMap slotLine (slotsIn (columns (now (generation .entry)) (now (kind .entry)) (now (ty .entry)) (now (start .entry)) (now (end .entry)) (now (writes .entry)) (now (pool .entry))) count)) ⌝ }
     ensures { λ r. ⌜ r ≤ 59 * count + 2 * length (now (pool .entry)) ⌝ }
 {
     let mut n = 0;
@@ -139,7 +147,14 @@ fn slots_len(count: usize, generation: &[u32], kind: &[u8], ty: &[u32], start: &
     let mut i = 0;
     while i < count {
         let to = end[i];
-        let d = slot_len(generation[i], kind[i], ty[i], start[i], writes[i], &pool[from..to]);
+        let d = slot_len(
+            generation[i],
+            kind[i],
+            ty[i],
+            start[i],
+            writes[i],
+            &pool[from..to],
+        );
         n = n + d;
         from = to;
         i += 1;
@@ -148,17 +163,37 @@ fn slots_len(count: usize, generation: &[u32], kind: &[u8], ty: &[u32], start: &
 }
 
 // Puts the lines of the first `count` slots from `at` on.
-fn put_slots(out: &mut [u8], at: usize, count: usize, generation: &[u32], kind: &[u8], ty: &[u32], start: &[usize], end: &[usize], writes: &[u32], pool: &[u8]) -> usize
+fn put_slots(
+    out: &mut [u8],
+    at: usize,
+    count: usize,
+    generation: &[u32],
+    kind: &[u8],
+    ty: &[u32],
+    start: &[usize],
+    end: &[usize],
+    writes: &[u32],
+    pool: &[u8],
+) -> usize
     requires { ⌜ Laid (columns (now generation) (now kind) (now ty) (now start) (now end) (now writes) (now pool)) count ⌝ }
-    requires { ⌜ at + length (flatMap slotLine (slotsIn (columns (now generation) (now kind) (now ty) (now start) (now end) (now writes) (now pool)) count 0)) ≤ length (now out) ⌝ }
-    ensures { λ r. ⌜ Puts (now (out .entry)) (now (out .exit)) at r (flatMap slotLine (slotsIn (columns (now (generation .entry)) (now (kind .entry)) (now (ty .entry)) (now (start .entry)) (now (end .entry)) (now (writes .entry)) (now (pool .entry))) count 0)) ⌝ }
+    requires { ⌜ at + length (flatMap slotLine (slotsIn (columns (now generation) (now kind) (now ty) (now start) (now end) (now writes) (now pool)) count)) ≤ length (now out) ⌝ }
+    ensures { λ r. ⌜ Puts (now (out .entry)) (now (out .exit)) at r (flatMap slotLine (slotsIn (columns (now (generation .entry)) (now (kind .entry)) (now (ty .entry)) (now (start .entry)) (now (end .entry)) (now (writes .entry)) (now (pool .entry))) count)) ⌝ }
 {
     let mut k = at;
     let mut from = 0;
     let mut i = 0;
     while i < count {
         let to = end[i];
-        k = put_slot(out, k, generation[i], kind[i], ty[i], start[i], writes[i], &pool[from..to]);
+        k = put_slot(
+            out,
+            k,
+            generation[i],
+            kind[i],
+            ty[i],
+            start[i],
+            writes[i],
+            &pool[from..to],
+        );
         from = to;
         i += 1;
     }
@@ -216,9 +251,21 @@ fn put_handles_after(out: &mut [u8], at: usize, name: &[u8], list: &[u64], count
 }
 
 // How long a heap's page is.
-fn page_len(h: Heap, generation: &[u32], kind: &[u8], ty: &[u32], start: &[usize], end: &[usize], writes: &[u32], pool: &[u8], free: &[u32], quarantine: &[u32], sealed: &[u64]) -> usize
-    requires { ⌜ Ready h (columns (now generation) (now kind) (now ty) (now start) (now end) (now writes) (now pool)) (now free) (now quarantine) (now sealed) ⌝ }
-    ensures { λ r. ⌜ r ≡ length (pageText (view h (columns (now (generation .entry)) (now (kind .entry)) (now (ty .entry)) (now (start .entry)) (now (end .entry)) (now (writes .entry)) (now (pool .entry))) (now (free .entry)) (now (quarantine .entry)) (now (sealed .entry)))) ⌝ }
+fn page_len(
+    h: Heap,
+    generation: &[u32],
+    kind: &[u8],
+    ty: &[u32],
+    start: &[usize],
+    end: &[usize],
+    writes: &[u32],
+    pool: &[u8],
+    free: &[u32],
+    quarantine: &[u32],
+    sealed: &[u64],
+) -> usize
+    requires { ⌜ Ready (lent h (now generation) (now kind) (now ty) (now start) (now end) (now writes) (now pool) (now free) (now quarantine) (now sealed)) ⌝ }
+    ensures { λ r. ⌜ r ≡ length (pageText (view (lent h (now (generation .entry)) (now (kind .entry)) (now (ty .entry)) (now (start .entry)) (now (end .entry)) (now (writes .entry)) (now (pool .entry)) (now (free .entry)) (now (quarantine .entry)) (now (sealed .entry))))) ⌝ }
 {
     let a = head_len(h);
     let b = slots_len(h.slots, generation, kind, ty, start, end, writes, pool);
@@ -235,18 +282,58 @@ pub enum Written {
 }
 
 // Writes a heap's page to `out`.
-pub fn write_page(out: &mut [u8], h: Heap, generation: &[u32], kind: &[u8], ty: &[u32], start: &[usize], end: &[usize], writes: &[u32], pool: &[u8], free: &[u32], quarantine: &[u32], sealed: &[u64]) -> Written
-    requires { ⌜ Ready h (columns (now generation) (now kind) (now ty) (now start) (now end) (now writes) (now pool)) (now free) (now quarantine) (now sealed) ⌝ }
-    ensures { λ r. ⌜ PageWritten (now (out .entry)) (now (out .exit)) (pageText (view h (columns (now (generation .entry)) (now (kind .entry)) (now (ty .entry)) (now (start .entry)) (now (end .entry)) (now (writes .entry)) (now (pool .entry))) (now (free .entry)) (now (quarantine .entry)) (now (sealed .entry)))) r ⌝ }
+pub fn write_page(
+    out: &mut [u8],
+    h: Heap,
+    generation: &[u32],
+    kind: &[u8],
+    ty: &[u32],
+    start: &[usize],
+    end: &[usize],
+    writes: &[u32],
+    pool: &[u8],
+    free: &[u32],
+    quarantine: &[u32],
+    sealed: &[u64],
+) -> Written
+    requires { ⌜ wellFormed (lent h (now generation) (now kind) (now ty) (now start) (now end) (now writes) (now pool) (now free) (now quarantine) (now sealed)) ≡ true ⌝ }
+    ensures { λ r. ⌜ PageWritten (now (out .entry)) (now (out .exit)) (pageText (view (lent h (now (generation .entry)) (now (kind .entry)) (now (ty .entry)) (now (start .entry)) (now (end .entry)) (now (writes .entry)) (now (pool .entry)) (now (free .entry)) (now (quarantine .entry)) (now (sealed .entry))))) r ⌝ }
 {
-    let n = page_len(h, generation, kind, ty, start, end, writes, pool, free, quarantine, sealed);
+    let n = page_len(
+        h,
+        generation,
+        kind,
+        ty,
+        start,
+        end,
+        writes,
+        pool,
+        free,
+        quarantine,
+        sealed,
+    );
     if out.len() < n {
         return Written::Short;
     }
-    let a = text::put_literal(out, 0, b"tag,since_gc,reclaim_at,live_bytes,slots,free,quarantine,sealed\n");
+    let a = text::put_literal(
+        out,
+        0,
+        b"tag,since_gc,reclaim_at,live_bytes,slots,free,quarantine,sealed\n",
+    );
     let b = put_head(out, a, h);
     let c = text::put_literal(out, b, b"generation,kind,type,start,writes,data\n");
-    let d = put_slots(out, c, h.slots, generation, kind, ty, start, end, writes, pool);
+    let d = put_slots(
+        out,
+        c,
+        h.slots,
+        generation,
+        kind,
+        ty,
+        start,
+        end,
+        writes,
+        pool,
+    );
     let e = put_indices_after(out, d, b"free\n", free, h.free);
     let f = put_indices_after(out, e, b"quarantine\n", quarantine, h.quarantine);
     let g = put_handles_after(out, f, b"sealed\n", sealed, h.sealed);

@@ -20,9 +20,10 @@ unfolding hex
 digits-at [] t i h = absurd (omega arith)
 digits-at (x ∷ bs) t zero h = (refl, refl)
 digits-at (x ∷ bs) t (suc i) h =
-    let r = digits-at bs t i (omega arith) in
-    (ap (λ (n : ℕ). getD (hex (x ∷ bs) ++ t) n 0) (let v : 2 * suc i ≡ suc (suc (2 * i)) = omega arith in v) ∙ r .0,
-    ap (λ (n : ℕ). getD (hex (x ∷ bs) ++ t) n 0) (let v : 2 * suc i + 1 ≡ suc (suc (2 * i + 1)) = omega arith in v) ∙ r .1)
+    let r = digits-at bs t i (omega arith) in (
+      ap (λ (n : ℕ). getD (hex (x ∷ bs) ++ t) n 0) (let v : 2 * suc i ≡ suc (suc (2 * i)) = omega arith in v) ∙ r .0,
+      ap (λ (n : ℕ). getD (hex (x ∷ bs) ++ t) n 0) (let v : 2 * suc i + 1 ≡ suc (suc (2 * i + 1)) = omega arith in v) ∙ r .1,
+    )
 
 module _ (s : List ℕ) (at : ℕ) (p : HexParsed s at) (i : ℕ) (h : i < length (hexAt s at)) where
   spelled : Bytes (hexAt s at) × (hex (hexAt s at) ++ (newline ∷ p .rest) ≡ drop at s)

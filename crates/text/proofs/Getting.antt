@@ -291,7 +291,7 @@ hex-found s at {r} n k e f = go (readHex (drop at s)) refl e
         let v1 : length s - length (x .1) ≡ k = cc in
         let b : Bytes (x .0) × (hex (x .0) ++ (newline ∷ x .1) ≡ drop at s) = hex-back (drop at s) (x .0) (x .1) q in
         let t : x .1 ≡ drop (length s - length (x .1)) s =
-          suffix (hex (x .0) ++ (newline ∷ [])) (x .1) s at (append-assoc (hex (x .0)) (newline ∷ []) (x .1) ∙ b .1) in
+        suffix (hex (x .0) ++ (newline ∷ [])) (x .1) s at (append-assoc (hex (x .0)) (newline ∷ []) (x .1) ∙ b .1) in
         (x .0, q ∙ ap (give (x .0)) (t ∙ ap (λ (m : ℕ). drop m s) v1), v0, omega arith)
 
 pub hex-missing : (s : List ℕ) (at : ℕ) {r : Hex} → r ≡ hexAnswer (length s) (readHex (drop at s)) → r ≡ NoHex → readHex (drop at s) ≡ none

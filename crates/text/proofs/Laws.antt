@@ -219,10 +219,11 @@ after-back most b t n rest (suc d) h k f =
     let p : (leb (scan (suc d) t .0) most ≡ true) × (some (scan (suc d) t) ≡ give n rest) = passed (leb (scan (suc d) t .0) most) (some (scan (suc d) t)) (n, rest) f in
     let v : scan (suc d) t ≡ (n, rest) = some-inj (p .1) in
     let v0 : scan (suc d) t .0 ≡ n = ap (λ (x : ℕ × List ℕ). x .0) v in
-    let v1 : scan (suc d) t .1 ≡ rest = ap (λ (x : ℕ × List ℕ). x .1) v in
-    (omega (arith, leb-true (scan (suc d) t .0) most (p .0)),
-    rw (← v0, ← v1, k) (scan-back (suc d) t (omega arith) ∙ rw (decimal-one (suc d) h)),
-    rw (← v1) (scan-ends (suc d) t))
+    let v1 : scan (suc d) t .1 ≡ rest = ap (λ (x : ℕ × List ℕ). x .1) v in (
+      omega (arith, leb-true (scan (suc d) t .0) most (p .0)),
+      rw (← v0, ← v1, k) (scan-back (suc d) t (omega arith) ∙ rw (decimal-one (suc d) h)),
+      rw (← v1) (scan-ends (suc d) t),
+    )
 
 -- What was read was printed from just that number, and no digit follows
 pub decimal-back : (most : ℕ) (t : List ℕ) (n : ℕ) (rest : List ℕ) → readDecimal most t ≡ give n rest → (n ≤ most) × (decimal n ++ rest ≡ t) × stops rest
@@ -266,6 +267,7 @@ hex-digit-back b d e =
         let l : 48 ≤ b = leb-true 48 b (q .0) in
         let u : b ≤ 57 = leb-true b 57 (q .1) in
         (omega arith, rw (lt-ltb d 10 (omega arith)) (omega arith))
+
     second : ((leb 97 b && leb b 102) ≡ true) × (some (b - 87) ≡ some d) → (d < 16) × (hexDigit d ≡ b)
     second p =
         let q : (leb 97 b ≡ true) × (leb b 102 ≡ true) = both (leb 97 b) (leb b 102) (p .0) in
@@ -286,10 +288,11 @@ byte-back a b x e =
     let q : (v : ℕ) × (hexDigitOf b ≡ some v) × (some (p .0 * 16 + v) ≡ some x) = bind-some (hexDigitOf b) (λ y. some (p .0 * 16 + y)) x (p .2) in
     let w : p .0 * 16 + q .0 ≡ x = some-inj (q .2) in
     let f : (p .0 < 16) × (hexDigit (p .0) ≡ a) = hex-digit-back a (p .0) (p .1) in
-    let g : (q .0 < 16) × (hexDigit (q .0) ≡ b) = hex-digit-back b (q .0) (q .1) in
-    (omega arith,
-    ap hexDigit (let v : x / 16 ≡ p .0 = omega arith in v) ∙ f .1,
-    ap hexDigit (let v : x % 16 ≡ q .0 = omega arith in v) ∙ g .1)
+    let g : (q .0 < 16) × (hexDigit (q .0) ≡ b) = hex-digit-back b (q .0) (q .1) in (
+      omega arith,
+      ap hexDigit (let v : x / 16 ≡ p .0 = omega arith in v) ∙ f .1,
+      ap hexDigit (let v : x % 16 ≡ q .0 = omega arith in v) ∙ g .1,
+    )
 
 -- no hexadecimal digit is the line's end
 pub hex-digit-above : (d : ℕ) → 48 ≤ hexDigit d
@@ -326,6 +329,7 @@ hex-back (a ∷ b ∷ t) bs rest e =
         let v0 : [] ≡ bs = ap (λ (x : List ℕ × List ℕ). x .0) v in
         let v1 : b ∷ t ≡ rest = ap (λ (x : List ℕ × List ℕ). x .1) v in
         (rw (← v0) tt, rw (← v0, ← v1, eqb-true a 10 k))
+
     more : ((cs : List ℕ) → readHex t ≡ some (cs, rest) → Bytes cs × (hex cs ++ (newline ∷ rest) ≡ t)) →
         (byteOf a b >>= λ x. readHex t >>= λ r. give (x ∷ r .0) (r .1)) ≡ give bs rest → Bytes bs × (hex bs ++ (newline ∷ rest) ≡ a ∷ b ∷ t)
     more ih f =
@@ -367,19 +371,19 @@ number-right width end none-of =
     let most : ℕ = 2 ^ width - 1 in
     record {
       forth = λ n rest h.
-        rw (append-assoc (decimal n) (end ∷ []) rest, decimal-forth most n (end ∷ rest) (le-ones width h) none-of, literal-forth (end ∷ []) rest);
+          rw (append-assoc (decimal n) (end ∷ []) rest, decimal-forth most n (end ∷ rest) (le-ones width h) none-of, literal-forth (end ∷ []) rest);
       back = λ t n rest e.
-        let p : (r : ℕ × List ℕ) × (readDecimal most t ≡ some r) × ((readLiteral (end ∷ []) (r .1) >>= λ u. give (r .0) u) ≡ give n rest) =
+          let p : (r : ℕ × List ℕ) × (readDecimal most t ≡ some r) × ((readLiteral (end ∷ []) (r .1) >>= λ u. give (r .0) u) ≡ give n rest) =
           bind-some (readDecimal most t) (λ r. readLiteral (end ∷ []) (r .1) >>= λ u. give (r .0) u) (n, rest) e in
-        let q : (u : List ℕ) × (readLiteral (end ∷ []) (p .0 .1) ≡ some u) × (give (p .0 .0) u ≡ give n rest) =
+          let q : (u : List ℕ) × (readLiteral (end ∷ []) (p .0 .1) ≡ some u) × (give (p .0 .0) u ≡ give n rest) =
           bind-some (readLiteral (end ∷ []) (p .0 .1)) (λ u. give (p .0 .0) u) (n, rest) (p .2) in
-        let v : _≡_ {A = ℕ × List ℕ} (p .0 .0, q .0) (n, rest) = some-inj (q .2) in
-        let v0 : p .0 .0 ≡ n = ap (λ (x : ℕ × List ℕ). x .0) v in
-        let v1 : q .0 ≡ rest = ap (λ (x : ℕ × List ℕ). x .1) v in
-        let d : (p .0 .0 ≤ most) × (decimal (p .0 .0) ++ p .0 .1 ≡ t) × stops (p .0 .1) = decimal-back most t (p .0 .0) (p .0 .1) (p .1) in
-        let l : end ∷ q .0 ≡ p .0 .1 = literal-back (end ∷ []) (p .0 .1) (q .0) (q .1) in
-        let j : (n ≤ most) × ((decimal n ++ (end ∷ [])) ++ rest ≡ t) = number-join most (p .0 .0) n end t (p .0 .1) (q .0) rest (d .0) (d .1) l v0 v1 in
-        (lt-of-le-ones width (j .0), j .1)
+          let v : _≡_ {A = ℕ × List ℕ} (p .0 .0, q .0) (n, rest) = some-inj (q .2) in
+          let v0 : p .0 .0 ≡ n = ap (λ (x : ℕ × List ℕ). x .0) v in
+          let v1 : q .0 ≡ rest = ap (λ (x : ℕ × List ℕ). x .1) v in
+          let d : (p .0 .0 ≤ most) × (decimal (p .0 .0) ++ p .0 .1 ≡ t) × stops (p .0 .1) = decimal-back most t (p .0 .0) (p .0 .1) (p .1) in
+          let l : end ∷ q .0 ≡ p .0 .1 = literal-back (end ∷ []) (p .0 .1) (q .0) (q .1) in
+          let j : (n ≤ most) × ((decimal n ++ (end ∷ [])) ++ rest ≡ t) = number-join most (p .0 .0) n end t (p .0 .1) (q .0) rest (d .0) (d .1) l v0 v1 in
+          (lt-of-le-ones width (j .0), j .1);
     }
 
 pub bytes-line-right : Right bytesLine Bytes
@@ -388,8 +392,8 @@ bytes-line-right =
     record {
       forth = λ bs rest h. rw (append-assoc (hex bs) (newline ∷ []) rest) (hex-forth bs rest h);
       back = λ t bs rest e.
-        let p : Bytes bs × (hex bs ++ (newline ∷ rest) ≡ t) = hex-back t bs rest e in
-        (p .0, append-assoc (hex bs) (newline ∷ []) rest ∙ p .1)
+          let p : Bytes bs × (hex bs ++ (newline ∷ rest) ≡ t) = hex-back t bs rest e in
+          (p .0, append-assoc (hex bs) (newline ∷ []) rest ∙ p .1);
     }
 
 pub after-literal-right : {A : Type 0} (cs : List ℕ) {f : Format A} {good : A → Type 0} → Right f good → Right (afterLiteral cs f) good
@@ -398,9 +402,9 @@ after-literal-right cs {f} r =
     record {
       forth = λ a rest h. rw (append-assoc cs (f .print a) rest, literal-forth cs (f .print a ++ rest)) (r .forth a rest h);
       back = λ t a rest e.
-        let p : (u : List ℕ) × (readLiteral cs t ≡ some u) × (f .read u ≡ give a rest) = bind-some (readLiteral cs t) (λ u. f .read u) (a, rest) e in
-        let b = r .back (p .0) a rest (p .2) in
-        (b .0, append-assoc cs (f .print a) rest ∙ rw (b .1) (literal-back cs t (p .0) (p .1)))
+          let p : (u : List ℕ) × (readLiteral cs t ≡ some u) × (f .read u ≡ give a rest) = bind-some (readLiteral cs t) (λ u. f .read u) (a, rest) e in
+          let b = r .back (p .0) a rest (p .2) in
+          (b .0, append-assoc cs (f .print a) rest ∙ rw (b .1) (literal-back cs t (p .0) (p .1)));
     }
 
 pair-join : {A B : Type 0} (f : Format A) (g : A → Format B) (good : A → Type 0) (fine : A → B → Type 0) (t : List ℕ) (p : A × B) (rest : List ℕ)
@@ -416,16 +420,16 @@ unfolding pair
 pair-right {A} {B} {f} {g} {good} {fine} r s =
     record {
       forth = λ p rest h.
-        rw (append-assoc (f .print (p .0)) (g (p .0) .print (p .1)) rest, r .forth (p .0) (g (p .0) .print (p .1) ++ rest) (h .0), s (p .0) .forth (p .1) rest (h .1));
+          rw (append-assoc (f .print (p .0)) (g (p .0) .print (p .1)) rest, r .forth (p .0) (g (p .0) .print (p .1) ++ rest) (h .0), s (p .0) .forth (p .1) rest (h .1));
       back = λ t p rest e.
-        let x : (x : A × List ℕ) × (f .read t ≡ some x) × ((g (x .0) .read (x .1) >>= λ q. give {A = A × B} (x .0, q .0) (q .1)) ≡ give p rest) =
+          let x : (x : A × List ℕ) × (f .read t ≡ some x) × ((g (x .0) .read (x .1) >>= λ q. give {A = A × B} (x .0, q .0) (q .1)) ≡ give p rest) =
           bind-some (f .read t) (λ r. g (r .0) .read (r .1) >>= λ q. give {A = A × B} (r .0, q .0) (q .1)) (p, rest) e in
-        let y : (y : B × List ℕ) × (g (x .0 .0) .read (x .0 .1) ≡ some y) × (give {A = A × B} (x .0 .0, y .0) (y .1) ≡ give p rest) =
+          let y : (y : B × List ℕ) × (g (x .0 .0) .read (x .0 .1) ≡ some y) × (give {A = A × B} (x .0 .0, y .0) (y .1) ≡ give p rest) =
           bind-some (g (x .0 .0) .read (x .0 .1)) (λ q. give {A = A × B} (x .0 .0, q .0) (q .1)) (p, rest) (x .2) in
-        let v : _≡_ {A = (A × B) × List ℕ} ((x .0 .0, y .0 .0), y .0 .1) (p, rest) = some-inj (y .2) in
-        let v0 : _≡_ {A = A × B} (x .0 .0, y .0 .0) p = ap (λ (z : (A × B) × List ℕ). z .0) v in
-        let v1 : y .0 .1 ≡ rest = ap (λ (z : (A × B) × List ℕ). z .1) v in
-        pair-join f g good fine t p rest (x .0 .0) (y .0 .0) (x .0 .1) (y .0 .1) v0 v1 (r .back t (x .0 .0) (x .0 .1) (x .1)) (s (x .0 .0) .back (x .0 .1) (y .0 .0) (y .0 .1) (y .1))
+          let v : _≡_ {A = (A × B) × List ℕ} ((x .0 .0, y .0 .0), y .0 .1) (p, rest) = some-inj (y .2) in
+          let v0 : _≡_ {A = A × B} (x .0 .0, y .0 .0) p = ap (λ (z : (A × B) × List ℕ). z .0) v in
+          let v1 : y .0 .1 ≡ rest = ap (λ (z : (A × B) × List ℕ). z .1) v in
+          pair-join f g good fine t p rest (x .0 .0) (y .0 .0) (x .0 .1) (y .0 .1) v0 v1 (r .back t (x .0 .0) (x .0 .1) (x .1)) (s (x .0 .0) .back (x .0 .1) (y .0 .0) (y .0 .1) (y .1));
     }
 
 module _ {A : Type 0} {f : Format A} {good : A → Type 0} (r : Right f good) where
@@ -454,9 +458,9 @@ module _ {A : Type 0} {f : Format A} {good : A → Type 0} (r : Right f good) wh
       rw (← v0) ((tt, refl), sym v1)
   all-back (suc n) t l rest e =
       let x : (x : A × List ℕ) × (f .read t ≡ some x) × ((readAll (f .read) n (x .1) >>= λ y. give (x .0 ∷ y .0) (y .1)) ≡ give l rest) =
-        bind-some (f .read t) (λ x. readAll (f .read) n (x .1) >>= λ y. give (x .0 ∷ y .0) (y .1)) (l, rest) e in
+      bind-some (f .read t) (λ x. readAll (f .read) n (x .1) >>= λ y. give (x .0 ∷ y .0) (y .1)) (l, rest) e in
       let y : (y : List A × List ℕ) × (readAll (f .read) n (x .0 .1) ≡ some y) × (give (x .0 .0 ∷ y .0) (y .1) ≡ give l rest) =
-        bind-some (readAll (f .read) n (x .0 .1)) (λ y. give (x .0 .0 ∷ y .0) (y .1)) (l, rest) (x .2) in
+      bind-some (readAll (f .read) n (x .0 .1)) (λ y. give (x .0 .0 ∷ y .0) (y .1)) (l, rest) (x .2) in
       let v : _≡_ {A = List A × List ℕ} (x .0 .0 ∷ y .0 .0, y .0 .1) (l, rest) = some-inj (y .2) in
       all-join n t l rest (x .0 .0) (x .0 .1) (y .0 .0) (y .0 .1) (ap (λ (z : List A × List ℕ). z .0) v) (ap (λ (z : List A × List ℕ). z .1) v)
       (r .back t (x .0 .0) (x .0 .1) (x .1)) (all-back n (x .0 .1) (y .0 .0) (y .0 .1) (y .1))
@@ -472,9 +476,9 @@ mapped-right {A} {B} {f} {good} to from there back-again r =
     record {
       forth = λ b rest h. rw (r .forth (from b) rest h, there b);
       back = λ t b rest e.
-        let p : (x : A × List ℕ) × (f .read t ≡ some x) × (give (to (x .0)) (x .1) ≡ give b rest) = bind-some (f .read t) (λ r. give (to (r .0)) (r .1)) (b, rest) e in
-        let v : _≡_ {A = B × List ℕ} (to (p .0 .0), p .0 .1) (b, rest) = some-inj (p .2) in
-        go t (p .0 .0) b (p .0 .1) rest (ap (λ (x : B × List ℕ). x .0) v) (ap (λ (x : B × List ℕ). x .1) v) (r .back t (p .0 .0) (p .0 .1) (p .1))
+          let p : (x : A × List ℕ) × (f .read t ≡ some x) × (give (to (x .0)) (x .1) ≡ give b rest) = bind-some (f .read t) (λ r. give (to (r .0)) (r .1)) (b, rest) e in
+          let v : _≡_ {A = B × List ℕ} (to (p .0 .0), p .0 .1) (b, rest) = some-inj (p .2) in
+          go t (p .0 .0) b (p .0 .1) rest (ap (λ (x : B × List ℕ). x .0) v) (ap (λ (x : B × List ℕ). x .1) v) (r .back t (p .0 .0) (p .0 .1) (p .1));
     }
   where
     go : (t : List ℕ) (a : A) (b : B) (u rest : List ℕ) → to a ≡ b → u ≡ rest → good a × (f .print a ++ u ≡ t) → good (from b) × (f .print (from b) ++ rest ≡ t)

@@ -31,9 +31,9 @@ put-put out at t u h =
     let x : List ℕ = (take at out ++ t) ++ drop (at + length t) out in
     let o : take at out ++ (t ++ drop (at + length t) out) ≡ x = sym (append-assoc (take at out) t (drop (at + length t) out)) in
     let d : drop (at + length t + length u) x ≡ drop (at + length t + length u) out =
-      sym (drop-drop (length u) (at + length t) x)
-      ∙ ap (drop (length u)) (drop-at (take at out ++ t) (drop (at + length t) out) (at + length t) l)
-      ∙ drop-drop (length u) (at + length t) out in
+    sym (drop-drop (length u) (at + length t) x)
+    ∙ ap (drop (length u)) (drop-at (take at out ++ t) (drop (at + length t) out) (at + length t) l)
+    ∙ drop-drop (length u) (at + length t) out in
     let n : at + length (t ++ u) ≡ at + length t + length u = omega (arith, length-append t u) in
     rw o
     (rw (take-at (take at out ++ t) (drop (at + length t) out) (at + length t) l, d, n)
@@ -45,8 +45,8 @@ puts-puts {a} {b} {c} {at} {k} {r} {t} {u} p q h =
     record {
       next = omega (arith, p .next, q .next, length-append t u);
       out =
-        q .out ∙ ap (λ (x : List ℕ). put x k u) (p .out) ∙ ap (λ (n : ℕ). put (put a at t) n u) (p .next)
-        ∙ put-put a at t u h
+          q .out ∙ ap (λ (x : List ℕ). put x k u) (p .out) ∙ ap (λ (n : ℕ). put (put a at t) n u) (p .next)
+          ∙ put-put a at t u h;
     }
 
 -- the first digit of a number, and one more
@@ -106,7 +106,7 @@ hex-step a b at k i l h f m p =
     let b1 : List ℕ = set b k (hexDigit (x / 16)) in
     let one : Puts b b1 k (k + 1) (hexDigit (x / 16) ∷ []) = puts-byte b k (hexDigit (x / 16)) (omega (arith, hex-length l)) in
     let two : Puts b1 (set b1 (k + 1) (hexDigit (x % 16))) (k + 1) (k + 1 + 1) (hexDigit (x % 16) ∷ []) =
-      puts-byte b1 (k + 1) (hexDigit (x % 16)) (rw (length-set b k (hexDigit (x / 16))) (omega (arith, hex-length l))) in
+    puts-byte b1 (k + 1) (hexDigit (x % 16)) (rw (length-set b k (hexDigit (x / 16))) (omega (arith, hex-length l))) in
     puts-at
     (puts-puts p (puts-puts one two (omega (arith, hex-length l))) (omega arith))
     (omega arith)

@@ -19,7 +19,7 @@ unfoldable pub number : (width end : ℕ) → Format ℕ
 number width end =
     record {
       print = λ n. decimal n ++ (end ∷ []);
-      read = readField (2 ^ width - 1) end
+      read = readField (2 ^ width - 1) end;
     }
 
 -- bytes in hexadecimal, and the line's end
@@ -36,7 +36,7 @@ unfoldable pub pair : {A B : Type 0} → Format A → (A → Format B) → Forma
 pair {A} {B} f g =
     record {
       print = λ p. f .print (p .0) ++ g (p .0) .print (p .1);
-      read = λ t. f .read t >>= λ r. g (r .0) .read (r .1) >>= λ q. give {A = A × B} (r .0, q .0) (q .1)
+      read = λ t. f .read t >>= λ r. g (r .0) .read (r .1) >>= λ q. give {A = A × B} (r .0, q .0) (q .1);
     }
 
 unfoldable pub readAll : {A : Type 0} → Reader A → ℕ → Reader (List A)

@@ -12,11 +12,7 @@ ghost use Rattle.text.specs.Answer.{hexAt, HexParsed};
 pub fn decimal_len(n: u64) -> usize
     ensures { λ r. ⌜ r ≡ length (decimal n) ⌝ }
 {
-    if n < 10 {
-        1
-    } else {
-        decimal_len(n / 10) + 1
-    }
+    if n < 10 { 1 } else { decimal_len(n / 10) + 1 }
 }
 
 // Puts a number in decimal from `at` on, and answers where it ends.

@@ -1,5 +1,4 @@
 use Rattle.pages.proofs.Whole.{page-sum}
-use Rattle.pages.specs.Columns.{columns}
 use native.Mathlib.Omega.{arith}
 use Prim.Native.Nat.{_-_}
 use borrow.Author.Needs.{needs}
@@ -37,7 +36,7 @@ add-result-5 : tie.Need-add-result-5
 add-result-5 c = search needs
 
 returns : tie.Need-returns
-returns c = omega (arith, page-sum (c .before .before .before .before .before .before .before .before .before .before .before .before .before .before .before .args .h) (columns (c .before .before .before .before .before .before .before .before .before .before .before .before .before .before .before .args .generation .now) (c .before .before .before .before .before .before .before .before .before .before .before .before .before .before .before .args .kind .now) (c .before .before .before .before .before .before .before .before .before .before .before .before .before .before .before .args .ty .now) (c .before .before .before .before .before .before .before .before .before .before .before .before .before .before .before .args .start .now) (c .before .before .before .before .before .before .before .before .before .before .before .before .before .before .before .args .end .now) (c .before .before .before .before .before .before .before .before .before .before .before .before .before .before .before .args .writes .now) (c .before .before .before .before .before .before .before .before .before .before .before .before .before .before .before .args .pool .now)) (c .before .before .before .before .before .before .before .before .before .before .before .before .before .before .before .args .free .now) (c .before .before .before .before .before .before .before .before .before .before .before .before .before .before .before .args .quarantine .now) (c .before .before .before .before .before .before .before .before .before .before .before .before .before .before .before .args .sealed .now) (c .before .before .before .before .before .before .before .before .before .before .before .before .before .before .before .pre), c .before .before .before .before .head-len .ensures .0, c .before .before .before .slots-len .ensures .0, c .before .before .indices-len .ensures .0, c .before .indices-len2 .ensures .0, c .handles-len .ensures .0)
+returns c = omega (arith, page-sum (c .before .before .before .before .before .before .before .before .before .before .before .before .before .before .before .args .h) (c .before .before .before .before .before .before .before .before .before .before .before .before .before .before .before .args .generation .now) (c .before .before .before .before .before .before .before .before .before .before .before .before .before .before .before .args .kind .now) (c .before .before .before .before .before .before .before .before .before .before .before .before .before .before .before .args .ty .now) (c .before .before .before .before .before .before .before .before .before .before .before .before .before .before .before .args .start .now) (c .before .before .before .before .before .before .before .before .before .before .before .before .before .before .before .args .end .now) (c .before .before .before .before .before .before .before .before .before .before .before .before .before .before .before .args .writes .now) (c .before .before .before .before .before .before .before .before .before .before .before .before .before .before .before .args .pool .now) (c .before .before .before .before .before .before .before .before .before .before .before .before .before .before .before .args .free .now) (c .before .before .before .before .before .before .before .before .before .before .before .before .before .before .before .args .quarantine .now) (c .before .before .before .before .before .before .before .before .before .before .before .before .before .before .before .args .sealed .now) (c .before .before .before .before .before .before .before .before .before .before .before .before .before .before .before .pre), c .before .before .before .before .head-len .ensures .0, c .before .before .before .slots-len .ensures .0, c .before .before .indices-len .ensures .0, c .before .indices-len2 .ensures .0, c .handles-len .ensures .0)
 
 pub page-len-spec : {M : Type 1} → statement M
 page-len-spec =

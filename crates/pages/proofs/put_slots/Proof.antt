@@ -1,6 +1,7 @@
-use Rattle.pages.specs.Heap.{Slot}
-use Rattle.pages.proofs.Writing.{slot-found, rises, lines, lines-all, line-room, puts-line, begin-next}
-use Rattle.pages.specs.Columns.{columns, begin}
+use Rattle.heap.specs.State.{Slot}
+use Rattle.pages.proofs.Writing.{slot-found, rises, lines, lines-all, line-room, puts-line, start-next}
+use Rattle.heap.specs.Packing.{startOf}
+use Rattle.pages.specs.Columns.{columns}
 use Rattle.pages.specs.Page.{slotLine}
 use Rattle.text.proofs.Putting.{puts-none, puts-at}
 use Rattle.text.specs.Put.{Puts}
@@ -13,13 +14,13 @@ use Rattle.pages.proofs.put_slots.Statement.{statement}
 use Rattle.pages.proofs.put_slots.Tie as tie
 
 abbrev Inv-loop : tie.InvT-loop
-Inv-loop out₀ at count generation kind ty start end writes pool k₀ from₀ i₀ out k from i = (i ≤ count) × (from ≡ begin end i) × (length out ≡ length out₀) × Puts out₀ out at k (lines (columns generation kind ty start end writes pool) count i)
+Inv-loop out₀ at count generation kind ty start end writes pool k₀ from₀ i₀ out k from i = (i ≤ count) × (from ≡ startOf end i) × (length out ≡ length out₀) × Puts out₀ out at k (lines (columns generation kind ty start end writes pool) count i)
 
 abbrev μ-loop : tie.MeasureT-loop
 μ-loop out₀ at count generation kind ty start end writes pool k₀ from₀ i₀ out k from i = count - i
 
 loop-holds : tie.Need-loop-holds Inv-loop μ-loop
-unfolding flatMap
+unfolding flatMap startOf
 loop-holds c = (omega arith, refl, refl, puts-none (c .before .before .before .before .before .before .before .before .args .out .now) (c .before .before .before .before .before .before .before .before .args .at) (omega (arith, c .before .before .before .before .before .before .before .before .pre .1)))
 
 mul-to : tie.Need-mul-to Inv-loop μ-loop
@@ -74,7 +75,7 @@ loop-less : tie.Need-loop-less Inv-loop μ-loop
 loop-less c = omega (arith, c .before .before .before .before .before .before .before .before .before .before .before .loop-test .taken)
 
 loop-again : tie.Need-loop-again Inv-loop μ-loop
-loop-again c = (omega (arith, c .before .before .before .before .before .before .before .before .before .before .before .loop-test .taken), begin-next (c .before .before .before .before .before .before .before .before .before .before .before .before .before .before .before .before .before .before .before .before .before .args .end .now) (c .before .before .before .before .before .before .before .before .before .before .before .before .loop .i), c .before .before .put-slot .kept .0 ∙ c .before .before .before .before .before .before .before .before .before .before .before .before .loop .inv .2, puts-line (columns (c .before .before .before .before .before .before .before .before .before .before .before .before .before .before .before .before .before .before .before .before .before .args .generation .now) (c .before .before .before .before .before .before .before .before .before .before .before .before .before .before .before .before .before .before .before .before .before .args .kind .now) (c .before .before .before .before .before .before .before .before .before .before .before .before .before .before .before .before .before .before .before .before .before .args .ty .now) (c .before .before .before .before .before .before .before .before .before .before .before .before .before .before .before .before .before .before .before .before .before .args .start .now) (c .before .before .before .before .before .before .before .before .before .before .before .before .before .before .before .before .before .before .before .before .before .args .end .now) (c .before .before .before .before .before .before .before .before .before .before .before .before .before .before .before .before .before .before .before .before .before .args .writes .now) (c .before .before .before .before .before .before .before .before .before .before .before .before .before .before .before .before .before .before .before .before .before .args .pool .now)) (c .before .before .before .before .before .before .before .before .before .before .before .before .before .before .before .before .before .before .before .before .before .args .count) (c .before .before .before .before .before .before .before .before .before .before .before .before .loop .i) (c .before .before .before .before .before .before .before .before .before .before .before .before .before .before .before .before .before .before .before .before .before .args .out .now) (c .before .before .before .before .before .before .before .before .before .before .before .before .loop .out) (c .before .before .put-slot .last .0) (c .before .before .before .before .before .before .before .before .before .before .before .before .before .before .before .before .before .before .before .before .before .args .at) (c .before .before .before .before .before .before .before .before .before .before .before .before .loop .k) (c .before .before .put-slot .result) (c .before .before .before .before .before .before .before .before .before .before .before .loop-test .taken) (omega (arith, c .before .before .before .before .before .before .before .before .before .before .before .before .before .before .before .before .before .before .before .before .before .pre .1)) (c .before .before .before .before .before .before .before .before .before .before .before .before .loop .inv .3) (puts-at (c .before .before .put-slot .ensures) refl (ap slotLine (slot-found (columns (c .before .before .before .before .before .before .before .before .before .before .before .before .before .before .before .before .before .before .before .before .before .args .generation .now) (c .before .before .before .before .before .before .before .before .before .before .before .before .before .before .before .before .before .before .before .before .before .args .kind .now) (c .before .before .before .before .before .before .before .before .before .before .before .before .before .before .before .before .before .before .before .before .before .args .ty .now) (c .before .before .before .before .before .before .before .before .before .before .before .before .before .before .before .before .before .before .before .before .before .args .start .now) (c .before .before .before .before .before .before .before .before .before .before .before .before .before .before .before .before .before .before .before .before .before .args .end .now) (c .before .before .before .before .before .before .before .before .before .before .before .before .before .before .before .before .before .before .before .before .before .args .writes .now) (c .before .before .before .before .before .before .before .before .before .before .before .before .before .before .before .before .before .before .before .before .before .args .pool .now)) (c .before .before .before .before .before .before .before .before .before .before .before .before .loop .i) (c .before .before .before .before .before .before .before .before .before .before .before .before .loop .from) (c .before .before .before .before .before .before .before .before .before .before .before .before .loop .inv .1)))))
+loop-again c = (omega (arith, c .before .before .before .before .before .before .before .before .before .before .before .loop-test .taken), start-next (c .before .before .before .before .before .before .before .before .before .before .before .before .before .before .before .before .before .before .before .before .before .args .end .now) (c .before .before .before .before .before .before .before .before .before .before .before .before .loop .i), c .before .before .put-slot .kept .0 ∙ c .before .before .before .before .before .before .before .before .before .before .before .before .loop .inv .2, puts-line (columns (c .before .before .before .before .before .before .before .before .before .before .before .before .before .before .before .before .before .before .before .before .before .args .generation .now) (c .before .before .before .before .before .before .before .before .before .before .before .before .before .before .before .before .before .before .before .before .before .args .kind .now) (c .before .before .before .before .before .before .before .before .before .before .before .before .before .before .before .before .before .before .before .before .before .args .ty .now) (c .before .before .before .before .before .before .before .before .before .before .before .before .before .before .before .before .before .before .before .before .before .args .start .now) (c .before .before .before .before .before .before .before .before .before .before .before .before .before .before .before .before .before .before .before .before .before .args .end .now) (c .before .before .before .before .before .before .before .before .before .before .before .before .before .before .before .before .before .before .before .before .before .args .writes .now) (c .before .before .before .before .before .before .before .before .before .before .before .before .before .before .before .before .before .before .before .before .before .args .pool .now)) (c .before .before .before .before .before .before .before .before .before .before .before .before .before .before .before .before .before .before .before .before .before .args .count) (c .before .before .before .before .before .before .before .before .before .before .before .before .loop .i) (c .before .before .before .before .before .before .before .before .before .before .before .before .before .before .before .before .before .before .before .before .before .args .out .now) (c .before .before .before .before .before .before .before .before .before .before .before .before .loop .out) (c .before .before .put-slot .last .0) (c .before .before .before .before .before .before .before .before .before .before .before .before .before .before .before .before .before .before .before .before .before .args .at) (c .before .before .before .before .before .before .before .before .before .before .before .before .loop .k) (c .before .before .put-slot .result) (c .before .before .before .before .before .before .before .before .before .before .before .loop-test .taken) (omega (arith, c .before .before .before .before .before .before .before .before .before .before .before .before .before .before .before .before .before .before .before .before .before .pre .1)) (c .before .before .before .before .before .before .before .before .before .before .before .before .loop .inv .3) (puts-at (c .before .before .put-slot .ensures) refl (ap slotLine (slot-found (columns (c .before .before .before .before .before .before .before .before .before .before .before .before .before .before .before .before .before .before .before .before .before .args .generation .now) (c .before .before .before .before .before .before .before .before .before .before .before .before .before .before .before .before .before .before .before .before .before .args .kind .now) (c .before .before .before .before .before .before .before .before .before .before .before .before .before .before .before .before .before .before .before .before .before .args .ty .now) (c .before .before .before .before .before .before .before .before .before .before .before .before .before .before .before .before .before .before .before .before .before .args .start .now) (c .before .before .before .before .before .before .before .before .before .before .before .before .before .before .before .before .before .before .before .before .before .args .end .now) (c .before .before .before .before .before .before .before .before .before .before .before .before .before .before .before .before .before .before .before .before .before .args .writes .now) (c .before .before .before .before .before .before .before .before .before .before .before .before .before .before .before .before .before .before .before .before .before .args .pool .now)) (c .before .before .before .before .before .before .before .before .before .before .before .before .loop .i) (c .before .before .before .before .before .before .before .before .before .before .before .before .loop .from) (c .before .before .before .before .before .before .before .before .before .before .before .before .loop .inv .1)))))
 
 same-length : tie.Need-same-length Inv-loop μ-loop
 same-length c = c .before .loop .inv .2
