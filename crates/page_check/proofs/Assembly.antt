@@ -230,9 +230,20 @@ module _ (s : List ℕ) (x : HeadRead) (sl : List Slot) (fl ql zl : List ℕ) wh
       r ≡ (a1 && (a2 && a3) && a4 && soundReclaim (x .«reclaim_at»)) →
       b ≤ length s → d ≤ length s → i ≤ length s → k ≤ length s →
       Sectioned s (record {
-        tag = x .tag; «since_gc» = x .«since_gc»; «reclaim_at» = x .«reclaim_at»; «live_bytes» = x .«live_bytes»;
-        slots = x .slots; free = x .free; quarantine = x .quarantine; sealed = x .sealed;
-        «slots_at» = b; «free_at» = d; «quarantine_at» = i; «sealed_at» = k; size = size; sound = r
+        tag = x .tag;
+        «since_gc» = x .«since_gc»;
+        «reclaim_at» = x .«reclaim_at»;
+        «live_bytes» = x .«live_bytes»;
+        slots = x .slots;
+        free = x .free;
+        quarantine = x .quarantine;
+        sealed = x .sealed;
+        «slots_at» = b;
+        «free_at» = d;
+        «quarantine_at» = i;
+        «sealed_at» = k;
+        size = size;
+        sound = r;
       })
   sectioned b c d g i j k size rest a1 a2 a3 a4 r page es h1 hs ef h2 eq h3 ez h4 hr lb ld li lk =
       let w : heapIn s ≡ made = heap-is s made page in
@@ -257,7 +268,7 @@ module _ (s : List ℕ) (x : HeadRead) (sl : List Slot) (fl ql zl : List ℕ) wh
         sealedCount = sym (values-count 64 s k (x .sealed) zl rest ez) ∙ ap (λ (h : State). length (h .sealed)) (sym w);
         size = hs ∙ ap (λ (h : State). dataSize (h .slots)) (sym w);
         sound =
-          hr ∙ rw (h1, h2, h3, h4, ← all-append (λ i. ltb i (x .slots)) fl ql, ← n) refl ∙ ap soundBut (sym w);
+            hr ∙ rw (h1, h2, h3, h4, ← all-append (λ i. ltb i (x .slots)) fl ql, ← n) refl ∙ ap soundBut (sym w);
         slotsInside = lb;
         freeInside = ld;
         quarantineInside = li;

@@ -6,3 +6,4 @@ pub mod Once
 pub mod Lists
 pub mod Heads
 pub mod Assembly
+pub mod Verdict

@@ -7,7 +7,7 @@ use lib.Dec.{leb, ltb, eqb}
 use lib.ListN.{length}
 use Rattle.heap.specs.State.{dataSize, Slot, State}
 use Rattle.heap.specs.WellFormed.{all, soundSlot, soundSeals, sound}
-use Rattle.text.specs.Text.{if_then_else_}
+use Rattle.word.specs.Choice.{if_then_else_}
 use Rattle.handle.specs.Handle.{tagOf, indexOf, generationOf}
 use Rattle.pages.specs.Page.{Head}
 use Rattle.page_check.specs.declared.HeadLine.{HeadLine}

@@ -4,12 +4,12 @@ use mathlib.Core.List.{List, [], _∷_}
 use mathlib.Core.Option.{none, some}
 use mathlib.Core.Path.{_≡_}
 use mathlib.Core.Bool.{Bool, true, _&&_}
-use Rattle.heap.specs.State.{Slot}
+use Rattle.heap.specs.State.{Slot, bit, times}
 use lib.Dec.{eqb, ltb}
 use lib.ListN.{length, getD, drop}
-use Rattle.text.specs.Text.{give, if_then_else_}
+use Rattle.text.specs.Text.{give}
+use Rattle.word.specs.Choice.{if_then_else_}
 use Rattle.text.specs.Format.{number, readAll}
-use Rattle.heap.specs.State.{bit, times}
 
 -- the values of a width in bits that stand in a text from `at` on, one a line
 unfoldable pub valuesAt : (width : ℕ) → List ℕ → (at count : ℕ) → List ℕ

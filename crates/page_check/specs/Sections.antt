@@ -8,13 +8,17 @@ use lib.Dec.{ltb}
 use lib.ListN.{length}
 use Rattle.heap.specs.State.{State, dataSize}
 use Rattle.heap.specs.Calls.{new}
-use Rattle.heap.specs.WellFormed.{all, soundSlot, soundSeals, soundReclaim}
+use Rattle.word.specs.Choice.{if_then_else_}
+use Rattle.word.specs.Result.{Result, ok, refused}
+use Rattle.heap.specs.WellFormed.{all, soundSlot, soundSeals, soundReclaim, sound}
 use Rattle.pages.specs.Page.{readPage}
 use Rattle.page_check.specs.Partition.{valuesAt, ValuesParsed}
 use Rattle.page_check.specs.Filling.{slotsAt, SlotsParsed}
 use Rattle.page_check.specs.declared.Sections.{Sections}
 use Rattle.page_check.specs.declared.Parsed.{Parsed as Answer}
 use Rattle.page_check.specs.declared.Parsed.the-variants.{Page, NotPage}
+use Rattle.page_check.specs.declared.Checked.{Checked}
+use Rattle.page_check.specs.declared.Checked.the-variants as checked
 
 -- the heap whose page a text is; a text that is none's has no use for it
 unfoldable pub heapIn : List ℕ → State
@@ -56,3 +60,23 @@ pub record Sectioned (s : List ℕ) (x : Sections) : Type 0 where
 abbrev pub Parsing : List ℕ → Answer → Type 0
 Parsing s (Page x) = Sectioned s x
 Parsing s NotPage = readPage s ≡ none
+
+-- what a text is refused for, in 01's order, or its heap: not a page 17, lent sizes out of range or a heap that is not sound 1, beyond the pool 6,
+-- beyond the lent slots 5
+unfoldable pub verdict : (sizes : Bool) (S P : ℕ) → Option State → Result State
+verdict sizes S P none = refused 17
+verdict sizes S P (some h) =
+    if sizes && sound h then (if ltb P (dataSize (h .slots)) then refused 6 else if ltb S (length (h .slots)) then refused 5 else ok h)
+    else refused 1
+
+-- a page that can be read
+pub record Accepted (s : List ℕ) (v : Result State) (x : Sections) : Type 0 where
+  pub verdict : v ≡ ok (heapIn s)
+  pub sections : Sectioned s x
+
+abbrev pub Checking : List ℕ → (verdict : Result State) → Checked → Type 0
+Checking s v (checked.Page x) = Accepted s v x
+Checking s v checked.NotPage = v ≡ refused 17
+Checking s v checked.Broken = v ≡ refused 1
+Checking s v checked.NoRoom = v ≡ refused 6
+Checking s v checked.Full = v ≡ refused 5

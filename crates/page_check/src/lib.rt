@@ -17,7 +17,7 @@ ghost use lib.Dec.{eqb, leb};
 ghost use Prim.Native.Nat.{_%_};
 ghost use Rattle.handle.specs.Handle.{tagOf, indexOf, generationOf};
 ghost use Rattle.heap.specs.WellFormed.{soundReclaim};
-ghost use Rattle.page_check.specs.Sections.{Parsing};
+ghost use Rattle.page_check.specs.Sections.{Parsing, verdict, Checking};
 ghost use mathlib.Core.Bool.{true};
 
 // What a slot's line says: its numbers, how many bytes of data, and where the next line begins.
@@ -204,17 +204,6 @@ fn check_chunk(s: &[u8], at: usize, count: usize, counts: &[u8]) -> Chunk
     Chunk { ok: ok, next: k }
 }
 
-// Sets all of the scratch to zero.
-fn clear(scratch: &mut [u8])
-    ensures { λ _. ⌜ now (scratch .exit) ≡ replicate (length (now (scratch .entry))) 0 ⌝ }
-{
-    let mut i = 0;
-    while i < scratch.len() {
-        scratch[i] = 0;
-        i += 1;
-    }
-}
-
 fn least(a: usize, b: usize) -> usize
     ensures { λ r. ⌜ (r ≤ a) × (r ≤ b) ⌝ }
     ensures { λ r. ⌜ (1 ≤ a → 1 ≤ b → 1 ≤ r) ⌝ }
@@ -240,7 +229,7 @@ fn partition(
     ensures { λ r. ⌜ r ≡ eachOnce (valuesAt 32 (now (s .entry)) «free_at» free ++ valuesAt 32 (now (s .entry)) «quarantine_at» quarantine) (slotsAt (now (s .entry)) «slots_at» n) 0 ⌝ }
     ensures { λ _. ⌜ now (scratch .exit) ≡ replicate (length (now (scratch .entry))) 0 ⌝ }
 {
-    clear(scratch);
+    memory::clear_u8(scratch);
     let mut ok = true;
     let mut k = slots_at;
     let mut base = 0;
@@ -251,7 +240,7 @@ fn partition(
         let c = check_chunk(s, k, m, scratch);
         ok = both(ok, c.ok);
         k = c.next;
-        clear(scratch);
+        memory::clear_u8(scratch);
         base += m;
     }
     ok
@@ -438,7 +427,11 @@ pub enum Parsed {
 pub fn parse_page(s: &[u8]) -> Parsed
     ensures { λ r. ⌜ Parsing (now (s .entry)) r ⌝ }
 {
-    let Literal::Past(a) = text::expect(s, 0, b"tag,since_gc,reclaim_at,live_bytes,slots,free,quarantine,sealed\n") else {
+    let Literal::Past(a) = text::expect(
+        s,
+        0,
+        b"tag,since_gc,reclaim_at,live_bytes,slots,free,quarantine,sealed\n",
+    ) else {
         return Parsed::NotPage;
     };
     let HeadLine::Head(x) = get_head(s, a) else {
@@ -449,7 +442,8 @@ pub fn parse_page(s: &[u8]) -> Parsed
     let nq = x.quarantine as usize;
     let nz = x.sealed as usize;
     let after = x.next;
-    let Literal::Past(b) = text::expect(s, after, b"generation,kind,type,start,writes,data\n") else {
+    let Literal::Past(b) = text::expect(s, after, b"generation,kind,type,start,writes,data\n")
+    else {
         return Parsed::NotPage;
     };
     let Slots::Lines(ok1, size, c) = check_slots(s, b, n) else {
@@ -493,4 +487,48 @@ pub fn parse_page(s: &[u8]) -> Parsed
         size: size,
         sound: sound,
     })
+}
+
+// What the first pass tells of a text: a page that can be read, or why it is refused.
+pub enum Checked {
+    Page(Sections),
+    NotPage,
+    Broken,
+    NoRoom,
+    Full,
+}
+
+// The first pass: is a text the page of a sound heap that fits into `lent` slots and `room` bytes? `sizes` says whether the lent sizes are in range.
+pub fn check_page(s: &[u8], sizes: bool, lent: usize, room: usize, marks: &mut [u8]) -> Checked
+    requires { ⌜ (sizes ≡ true → 1 ≤ length (now marks)) ⌝ }
+    ensures { λ r. ⌜ Checking (now (s .entry)) (verdict sizes lent room (readPage (now (s .entry)))) r ⌝ }
+    ensures { λ _. ⌜ now (marks .exit) ≡ replicate (length (now (marks .entry))) 0 ⌝ }
+{
+    memory::clear_u8(marks);
+    let Parsed::Page(x) = parse_page(s) else {
+        return Checked::NotPage;
+    };
+    if sizes {} else {
+        return Checked::Broken;
+    }
+    let once = partition(
+        s,
+        x.slots_at,
+        x.slots,
+        x.free_at,
+        x.free,
+        x.quarantine_at,
+        x.quarantine,
+        marks,
+    );
+    if both(x.sound, once) {} else {
+        return Checked::Broken;
+    }
+    if room < x.size {
+        return Checked::NoRoom;
+    }
+    if lent < x.slots {
+        return Checked::Full;
+    }
+    Checked::Page(x)
 }

@@ -7,7 +7,7 @@ use lib.Seq.{take-suc, take-all}
 use native.Mathlib.Omega.{arith}
 use native.Mathlib.Numerals.{add-one}
 use Rattle.text.specs.Text.{decimal, hex, line}
-use Rattle.text.specs.Put.{put, Puts}
+use Rattle.text.specs.Put.{putText, Puts}
 use Rattle.text.proofs.Laws.{hex-length}
 use Rattle.text.proofs.Putting.{puts-puts, puts-byte, puts-length, puts-at}
 use Rattle.heap.specs.State.{Slot}
@@ -51,7 +51,7 @@ module _ {A : Type 0} (f : A → List ℕ) where
       length (flatMap f (take i l)) + length (f (getD l i d)) ≤ length (flatMap f (take n l))
   flat-room l i n d h k = omega (arith, flat-more-length l i d (omega arith), flat-le l (i + 1) n (omega arith))
 
-  -- a line more was put
+  -- a line more was putText
   pub puts-more : (a b c : List ℕ) (at k r : ℕ) (l : List A) (i : ℕ) (d : A) → i < length l →
       Puts a b at k (flatMap f (take i l)) → Puts b c k r (f (getD l i d)) → at ≤ length a →
       Puts a c at r (flatMap f (take (i + 1) l))

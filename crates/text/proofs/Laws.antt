@@ -11,7 +11,8 @@ use lib.ListN.{length, length-append}
 use lib.Pow.{le-ones, lt-of-le-ones}
 use borrow.Author.Tests.{lt-ltb, le-ltb, le-leb, lt-leb, eq-eqb, ne-eqb, ltb-true, ltb-false, leb-true, eqb-true}
 use native.Mathlib.Omega.{arith}
-use Rattle.text.specs.Text.{if_then_else_, _>>=_, give, Bytes, newline, digits, decimal, hexDigit, hex, digitOf, stops, ends, scan, capped, after, readDecimal, hexDigitOf, byteOf, readHex, readLiteral, readField}
+use Rattle.text.specs.Text.{_>>=_, give, Bytes, newline, digits, decimal, hexDigit, hex, digitOf, stops, ends, scan, capped, after, readDecimal, hexDigitOf, byteOf, readHex, readLiteral, readField}
+use Rattle.word.specs.Choice.{if_then_else_}
 use Rattle.text.specs.Format.{Format, Right, number, bytesLine, afterLiteral, pair, times, mapped, readAll, All}
 
 -- Options

@@ -1,43 +1,26 @@
--- The laws of `put`.
+-- The laws of `putText`.
 use Prim.Native.Nat.{ℕ, _+_, _-_, _*_, _/_, _%_, _≤_, _<_}
-use mathlib.Core.List.{List, [], _∷_, _++_, append-assoc}
+use mathlib.Core.List.{List, [], _∷_, _++_}
 use mathlib.Core.Path.{_≡_, refl, sym, ap, _∙_}
-use lib.ListN.{length, getD, take, drop, set, length-append, length-take, length-drop, length-set, take-append-drop}
-use lib.Seq.{set-split, take-at, drop-at, drop-drop, length-take-le, take-suc, take-all}
+use lib.ListN.{length, getD, take, set, length-append, length-set}
+use lib.Seq.{length-take-le, take-suc, take-all}
 use native.Mathlib.Omega.{arith}
 use native.Mathlib.Numerals.{add-one}
 use native.Mathlib.Nat.{add-zero}
-use Rattle.text.specs.Put.{put, Puts}
+use Rattle.word.proofs.PutLaws.{put-none, length-put, put-put, copy-turn}
+use Rattle.text.specs.Put.{putText, Puts}
 use Rattle.text.specs.Text.{decimal, hex, hexDigit}
 use Rattle.text.proofs.Laws.{decimal-one, decimal-more, decimal-length-one, decimal-length-more, hex-length}
 
-pub put-one : (out : List ℕ) (at b : ℕ) → at < length out → set out at b ≡ put out at (b ∷ [])
-unfolding put
-put-one out at b h = set-split out at b h ∙ rw (← add-one at)
+pub put-one : (out : List ℕ) (at b : ℕ) → at < length out → set out at b ≡ putText out at (b ∷ [])
+put-one out at b h =
+    ap (λ (n : ℕ). set out n b) (sym (add-zero at)) ∙ copy-turn out out at (b ∷ []) 0 0 (put-none out at (b ∷ [])) (omega arith) (omega arith)
 
-pub put-length : (out : List ℕ) (at : ℕ) (t : List ℕ) → at + length t ≤ length out → length (put out at t) ≡ length out
-unfolding put
-put-length out at t h = simp (length-append, length-take, length-drop) (omega arith)
+pub put-length : (out : List ℕ) (at : ℕ) (t : List ℕ) → at + length t ≤ length out → length (putText out at t) ≡ length out
+put-length out at t h = length-put out at t (length t) h (omega arith)
 
-pub put-nothing : (out : List ℕ) (at : ℕ) → at ≤ length out → put out at [] ≡ out
-unfolding put
-put-nothing out at h = rw (add-zero at) (take-append-drop at out)
-
--- one text after another
-pub put-put : (out : List ℕ) (at : ℕ) (t u : List ℕ) → at ≤ length out → put (put out at t) (at + length t) u ≡ put out at (t ++ u)
-unfolding put
-put-put out at t u h =
-    let l : length (take at out ++ t) ≡ at + length t = simp (length-append, length-take) (omega arith) in
-    let x : List ℕ = (take at out ++ t) ++ drop (at + length t) out in
-    let o : take at out ++ (t ++ drop (at + length t) out) ≡ x = sym (append-assoc (take at out) t (drop (at + length t) out)) in
-    let d : drop (at + length t + length u) x ≡ drop (at + length t + length u) out =
-    sym (drop-drop (length u) (at + length t) x)
-    ∙ ap (drop (length u)) (drop-at (take at out ++ t) (drop (at + length t) out) (at + length t) l)
-    ∙ drop-drop (length u) (at + length t) out in
-    let n : at + length (t ++ u) ≡ at + length t + length u = omega (arith, length-append t u) in
-    rw o
-    (rw (take-at (take at out ++ t) (drop (at + length t) out) (at + length t) l, d, n)
-    (simp append-assoc))
+pub put-nothing : (out : List ℕ) (at : ℕ) → putText out at [] ≡ out
+put-nothing out at = sym (put-none out at [])
 
 -- two calls, one after the other
 pub puts-puts : {a b c : List ℕ} {at k r : ℕ} {t u : List ℕ} → Puts a b at k t → Puts b c k r u → at ≤ length a → Puts a c at r (t ++ u)
@@ -45,7 +28,7 @@ puts-puts {a} {b} {c} {at} {k} {r} {t} {u} p q h =
     record {
       next = omega (arith, p .next, q .next, length-append t u);
       out =
-          q .out ∙ ap (λ (x : List ℕ). put x k u) (p .out) ∙ ap (λ (n : ℕ). put (put a at t) n u) (p .next)
+          q .out ∙ ap (λ (x : List ℕ). putText x k u) (p .out) ∙ ap (λ (n : ℕ). putText (putText a at t) n u) (p .next)
           ∙ put-put a at t u h;
     }
 
@@ -70,7 +53,7 @@ puts-more out mid at k n h l p =
     (puts-puts p (puts-byte mid k (48 + n % 10) (omega (arith, p .next))) (omega arith))
 
 pub puts-none : (out : List ℕ) (at : ℕ) → at ≤ length out → Puts out out at at []
-puts-none out at h = record { next = sym (add-zero at); out = sym (put-nothing out at h) }
+puts-none out at h = record { next = sym (add-zero at); out = sym (put-nothing out at) }
 
 pub puts-at : {a b : List ℕ} {at r q : ℕ} {t u : List ℕ} → Puts a b at r t → r ≡ q → t ≡ u → Puts a b at q u
 puts-at {a} {b} {at} {r} {q} {t} {u} p e f = rw (← e, ← f) p

@@ -8,12 +8,9 @@ use mathlib.Core.Bool.{Bool, true, false, _&&_}
 use mathlib.Core.Option.{Option, none, some}
 use mathlib.Core.Path.{_≡_}
 use lib.Dec.{ltb, leb, eqb}
+use Rattle.word.specs.Choice.{if_then_else_}
 
-infix 10 if_then_else_
-abbrev pub if_then_else_ {ℓ} : {A : Type ℓ} → Bool → A → A → A
-if_then_else_ true a b = a
-if_then_else_ false a b = b
-
+-- one reader after another
 infixl 20 _>>=_
 abbrev pub _>>=_ : {A B : Type 0} → Option A → (A → Option B) → Option B
 none >>= f = none

@@ -1,6 +1,6 @@
 use Rattle.text.proofs.Getting.{stops-at, stops-end, goes-on, low, mid, high}
 use Rattle.text.proofs.Laws.{ends-stops}
-use lib.ListN.{drop, getD}
+use lib.ListN.{getD}
 use mathlib.Core.Bool.{not}
 use mathlib.Core.Path.{sym, ap}
 use Prim.Native.Nat.{_-_}

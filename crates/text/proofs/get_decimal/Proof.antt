@@ -1,6 +1,5 @@
 use Rattle.text.proofs.Getting.{nothing-there, no-digit, spare-zero, just-zero, first-digit, too-large, one-up, low, high, mid}
 use Rattle.text.specs.Answer.{decimalAnswer}
-use native.Mathlib.Omega.{arith}
 use lib.ListN.{getD, length}
 use mathlib.Core.Option.{some}
 use mathlib.Core.Path.{sym, ap, _∙_}

@@ -1,6 +1,4 @@
 use Rattle.text.proofs.Getting.{field-none, answer-none, decimal-found, field-short, field-there, field-other}
-use Rattle.text.specs.Text.{readDecimal}
-use lib.ListN.{drop}
 use borrow.Author.Needs.{needs}
 use Rattle.text.proofs.get_field.Statement.{statement}
 use Rattle.text.proofs.get_field.Tie as tie

@@ -5,7 +5,7 @@ use Rattle.text.proofs.Getting.{stops-at, stops-end, low, mid, high, st
 use Rattle.text.specs.Text.{scan}
 use lib.ListN.{length, drop, getD}
 use native.Mathlib.Omega.{arith}
-use mathlib.Core.Path.{_≡_, refl, sym, ap, _∙_}
+use mathlib.Core.Path.{_≡_, sym, ap, _∙_}
 use Rattle.text.proofs.get_more.Statement.{statement}
 use Rattle.text.proofs.get_more.Tie as tie
 
