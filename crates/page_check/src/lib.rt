@@ -69,7 +69,7 @@ pub fn get_slot(s: &[u8], at: usize) -> SlotLine
     })
 }
 
-fn both(a: bool, b: bool) -> bool
+pub fn both(a: bool, b: bool) -> bool
     ensures { λ r. ⌜ r ≡ (a && b) ⌝ }
 {
     if a { b } else { false }
