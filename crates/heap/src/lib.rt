@@ -1,4 +1,12 @@
-// A heap in lent memory: its header, how it lies in ten columns, and whether it is well formed.
+// A heap in lent memory: its header, and how a slot and its data in the packed pool are replaced.
+ghost use mathlib.Core.Path.{_≡_};
+ghost use Prim.Native.Nat.{_≤_};
+ghost use lib.ListN.{length};
+ghost use Rattle.heap.specs.Packing.{startOf};
+ghost use Rattle.heap.specs.Calls.{new as newHeap};
+ghost use Rattle.heap.specs.Lent.{headerOf};
+ghost use Rattle.heap.specs.Header.{setCharged, setChanged, setSince, setReclaim, setLive, setSlots, setFree, setQuarantine, setSealed};
+ghost use Rattle.heap.specs.Columns.{CanSplice, Spliced, CanPlace, PlacedIn};
 
 // The numbers of a heap, and how many entries of the slots and of each list are in use.
 pub struct Heap {
@@ -12,4 +20,144 @@ pub struct Heap {
     pub free: usize,
     pub quarantine: usize,
     pub sealed: usize,
+}
+
+impl Heap {
+    // The header of a new heap.
+    pub fn new(tag: u8) -> Heap
+        ensures { λ r. ⌜ r ≡ headerOf (newHeap tag) ⌝ }
+    {
+        Heap {
+            tag: tag,
+            since_gc: 0,
+            reclaim_at: 4096,
+            live_bytes: 0,
+            epoch: 0,
+            log: [0; 16],
+            slots: 0,
+            free: 0,
+            quarantine: 0,
+            sealed: 0,
+        }
+    }
+
+    // `n` more bytes since the last collection, saturating.
+    pub fn charged(mut self, n: u64) -> Heap
+        ensures { λ r. ⌜ r ≡ setCharged self n ⌝ }
+    {
+        self.since_gc = word::saturating_add(self.since_gc, n);
+        self
+    }
+
+    // The next epoch, with slot `i` logged for it.
+    pub fn changed(mut self, i: u32) -> Heap
+        ensures { λ r. ⌜ r ≡ setChanged self i ⌝ }
+    {
+        let e = std::num::wrapping_add_u64(self.epoch, 1);
+        self.epoch = e;
+        let k = (e % 16) as usize;
+        self.log[k] = i;
+        self
+    }
+
+    pub fn with_since(mut self, n: u64) -> Heap
+        ensures { λ r. ⌜ r ≡ setSince self n ⌝ }
+    {
+        self.since_gc = n;
+        self
+    }
+
+    pub fn with_reclaim(mut self, n: usize) -> Heap
+        ensures { λ r. ⌜ r ≡ setReclaim self n ⌝ }
+    {
+        self.reclaim_at = n;
+        self
+    }
+
+    pub fn with_live(mut self, n: u64) -> Heap
+        ensures { λ r. ⌜ r ≡ setLive self n ⌝ }
+    {
+        self.live_bytes = n;
+        self
+    }
+
+    pub fn with_slots(mut self, n: usize) -> Heap
+        ensures { λ r. ⌜ r ≡ setSlots self n ⌝ }
+    {
+        self.slots = n;
+        self
+    }
+
+    pub fn with_free(mut self, n: usize) -> Heap
+        ensures { λ r. ⌜ r ≡ setFree self n ⌝ }
+    {
+        self.free = n;
+        self
+    }
+
+    pub fn with_quarantine(mut self, n: usize) -> Heap
+        ensures { λ r. ⌜ r ≡ setQuarantine self n ⌝ }
+    {
+        self.quarantine = n;
+        self
+    }
+
+    pub fn with_sealed(mut self, n: usize) -> Heap
+        ensures { λ r. ⌜ r ≡ setSealed self n ⌝ }
+    {
+        self.sealed = n;
+        self
+    }
+}
+
+// Where the data of slot `i` starts in the pool.
+pub fn start_of(end: &[usize], i: usize) -> usize
+    requires { ⌜ i ≤ length (now end) ⌝ }
+    ensures { λ r. ⌜ r ≡ startOf (now (end .entry)) i ⌝ }
+{
+    if i == 0 { 0 } else { end[i - 1] }
+}
+
+// The data of slot `i` of `n` becomes `new`; what lies after it moves up or down. The last slot's data moves no other byte.
+pub fn splice(end: &mut [usize], pool: &mut [u8], n: usize, i: usize, new: &[u8])
+    requires { ⌜ CanSplice n i (now end) (now pool) (now new) ⌝ }
+    ensures { λ _. ⌜ Spliced n i (now (end .entry)) (now (pool .entry)) (now (new .entry)) (now (end .exit)) (now (pool .exit)) ⌝ }
+{
+    let a = start_of(end, i);
+    let b = end[i];
+    let e = start_of(end, n);
+    let m = new.len();
+    memory::move_u8(pool, b, a + m, e - b);
+    memory::copy_u8(pool, a, new);
+    memory::fill_u8(pool, a + m + (e - b), e, 0);
+    memory::shift_usize(end, i, n, b - a, m);
+}
+
+// Slot `i` of `n` gets these numbers and this data.
+pub fn place(
+    generation: &mut [u32],
+    kind: &mut [u8],
+    ty: &mut [u32],
+    start: &mut [usize],
+    end: &mut [usize],
+    writes: &mut [u32],
+    pool: &mut [u8],
+    n: usize,
+    i: usize,
+    g: u32,
+    k: u8,
+    t: u32,
+    s: usize,
+    w: u32,
+    bytes: &[u8],
+)
+    requires { ⌜ CanPlace n i (now generation) (now kind) (now ty) (now start) (now end) (now writes) (now pool) (now bytes) ⌝ }
+    ensures { λ _. ⌜ PlacedIn n i (now (generation .entry)) (now (kind .entry)) (now (ty .entry)) (now (start .entry)) (now (end .entry)) (now (writes .entry)) (now (pool .entry)) g k t s w (now (bytes .entry)) (now (generation .exit)) (now (kind .exit)) (now (ty .exit)) (now (start .exit)) (now (end .exit)) (now (writes .exit)) (now (pool .exit)) ⌝ }
+{
+    generation[i] = g;
+    kind[i] = k;
+    ty[i] = t;
+    start[i] = s;
+    writes[i] = w;
+    splice(end, pool, n, i, bytes);
 }

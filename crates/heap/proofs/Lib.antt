@@ -1,0 +1,10 @@
+pub mod Packing
+pub mod Splicing
+pub mod Sound
+pub mod Counting
+pub mod Storing
+pub mod Changing
+pub mod Placing
+pub mod Seals
+pub mod Testing
+pub mod Keeping

@@ -1,0 +1,5 @@
+-- What the proofs of several functions and other crates use.
+pub mod DimLaws
+pub mod Within
+pub mod LayLaws
+pub mod OffsetLaws

@@ -1,0 +1,52 @@
+-- Laws of the check of a type table. Assumes nothing.
+use mathlib.Core.Path.{_≡_, refl, sym, ap, subst, _∙_}
+use mathlib.Core.List.{List, [], _∷_}
+use mathlib.Core.Bool.{Bool, true, false, _&&_}
+use mathlib.Core.Logic.{_⊎_, inl, inr, ⊎-elim}
+use Prim.Native.Nat.{ℕ, zero, suc, _+_, _-_, _*_, _/_, _≤_, _<_}
+use native.Mathlib.Nat.{eq-or-lt-of-le}
+use native.Mathlib.Numerals.{add-one}
+use native.Mathlib.Omega.{arith}
+use lib.Dec.{ltb, leb, eqb}
+use borrow.Author.Tests.{eq-eqb, ne-eqb, le-leb, lt-leb, leb-true, leb-false}
+use Rattle.word.specs.Choice.{if_then_else_}
+use Rattle.ty.specs.Check.{allBelow}
+
+-- a part of n from a on, of m
+pub leb-part : (a n m : ℕ) → a ≤ m → leb n (m - a) ≡ leb (a + n) m
+leb-part a n m h = go (leb n (m - a)) refl
+  where
+    go : (x : Bool) → leb n (m - a) ≡ x → x ≡ leb (a + n) m
+    go true e = let k = leb-true n (m - a) e in sym (le-leb (a + n) m (omega arith))
+    go false e = let k = leb-false n (m - a) e in sym (lt-leb (a + n) m (omega arith))
+
+pub leb-past : (a n m : ℕ) → m < a → false ≡ leb (a + n) m
+leb-past a n m h = sym (lt-leb (a + n) m (omega arith))
+
+module _ (p : ℕ → Bool) where
+  pub all-start : allBelow p 0 ≡ true
+  unfolding allBelow
+  all-start = refl
+
+  pub all-next : (i : ℕ) → allBelow p i ≡ true → p i ≡ true → allBelow p (i + 1) ≡ true
+  unfolding allBelow
+  all-next i e h = rw (add-one, e, h) refl
+
+  both-false : (x : Bool) → false ≡ x && false
+  both-false true = refl
+  both-false false = refl
+
+  pub all-false : (i n : ℕ) → i < n → p i ≡ false → false ≡ allBelow p n
+  unfolding allBelow
+  all-false i zero h e = absurd (omega arith)
+  all-false i (suc n) h e = ⊎-elim
+      (λ q. rw (← q, e) (both-false (allBelow p i)))
+      (λ l. rw (← all-false i n l e) refl)
+      (eq-or-lt-of-le {n = i} {m = n} (omega arith))
+
+  pub all-end : (i n : ℕ) → i ≤ n → n ≤ i → allBelow p i ≡ true → true ≡ allBelow p n
+  all-end i n h k e = let q : n ≡ i = omega arith in rw q (sym e)
+
+pub and-true : (x : Bool) → x ≡ x && true
+and-true true = refl
+and-true false = refl
