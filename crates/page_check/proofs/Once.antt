@@ -17,7 +17,7 @@ use Rattle.heap.specs.State.{Slot}
 use Rattle.pages.specs.Page.{slotFormat}
 use Rattle.heap.specs.State as wf
 use Rattle.pages.proofs.Laws.{slot-right}
-use Rattle.pages.proofs.Bound.{times-append}
+use Rattle.heap.proofs.Counting.{times-append}
 use Rattle.page_check.specs.Partition.{more, bump, expected, agree, eachOnce, Marks}
 use Rattle.page_check.specs.Filling.{slotsAt, SlotsParsed}
 

@@ -15,7 +15,7 @@ use Rattle.word.proofs.Bools.{bool-ext}
 use Rattle.heap.specs.State.{Slot, State, noSlot, slotAt, live, bit, times}
 use Rattle.heap.specs.WellFormed.{all, allBelow, places, partitioned, soundSlot, soundSeals, soundReclaim, sound}
 use Rattle.pages.specs.Page.{readPage}
-use Rattle.pages.proofs.Bound.{times-append}
+use Rattle.heap.proofs.Counting.{times-append}
 use Rattle.page_check.specs.Partition.{valuesAt, expected, eachOnce}
 use Rattle.page_check.specs.Filling.{slotsAt}
 use Rattle.page_check.specs.Sections.{heapIn, Sectioned, Parsing, verdict, Accepted}

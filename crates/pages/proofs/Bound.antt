@@ -1,20 +1,21 @@
 -- A page takes at most 256 + 96 × slots + 2 × data bytes.
-use Prim.Native.Nat.{ℕ, zero, suc, _+_, _-_, _*_, _^_, _≤_, _<_}
+use Prim.Native.Nat.{ℕ, _+_, _-_, _*_, _^_, _≤_, _<_}
 use mathlib.Core.List.{List, [], _∷_, _++_, flatMap}
-use mathlib.Core.Bool.{Bool, true, false, _&&_}
-use mathlib.Core.Path.{_≡_, refl}
-use lib.Dec.{ltb, leb, eqb}
+use mathlib.Core.Bool.{Bool, true, _&&_}
+use mathlib.Core.Path.{_≡_, refl, ap, _∙_}
 use lib.ListN.{length, length-append}
 use native.Mathlib.Omega.{arith}
-use lib.Arith.{lt-of-le-ne}
-use borrow.Author.Tests.{ltb-true, leb-true, eqb-true, eqb-false}
+use borrow.Author.Tests.{lt-ltb, le-ltb}
 use Rattle.text.specs.Text.{ascii, decimal, line}
 use Rattle.text.specs.Format.{All}
-use Rattle.text.proofs.Laws.{both, decimal-length, hex-length}
-use Rattle.heap.specs.State.{Slot, State, dataOf, dataSize, times}
+use Rattle.text.proofs.Laws.{decimal-length, hex-length}
+use Rattle.word.proofs.Bools.{and-both}
+use Rattle.heap.proofs.Counting.{sum, sum-add, sum-same, sum-ones, times-append, times-length}
+use Rattle.heap.proofs.Seals.{seals-few}
+use Rattle.heap.proofs.Testing.{parts-tested}
+use Rattle.heap.specs.State.{Slot, State, dataOf, dataSize, times, slotAt, live, bit}
 use Rattle.heap.specs.Packing.{flat}
-use Rattle.handle.specs.Handle.{tagOf, indexOf, generationOf}
-use Rattle.heap.specs.WellFormed.{all, allBelow, places, partitioned, soundSlot, soundSeals, soundReclaim, sound}
+use Rattle.heap.specs.WellFormed.{all, partitioned, soundSlot, soundSeals, soundReclaim, sound}
 use Rattle.pages.specs.Page.{slotLine, valueLine, heapNames, slotNames, freeName, quarantineName, sealedName, numbersLine, heapLine, pageText, SlotWithin, Within}
 
 -- numbers of each width
@@ -82,68 +83,21 @@ page-length-lists h w f s =
     simp length-append
     (omega (arith, names-length, head-length h w, slots-length (h .slots) (w .slots), middle-lines (h .free) (w .free), middle-lines (h .quarantine) (w .quarantine), long-lines (h .sealed) (w .sealed)))
 
--- seals rise, so there is at most one a slot
-seals-length : (tag n from : ℕ) (xs : List ℕ) → soundSeals tag n from xs ≡ true → length xs ≤ n - from
-unfolding soundSeals
-seals-length tag n from [] e = omega arith
-seals-length tag n from (x ∷ xs) e =
-    let p = both (eqb (tagOf x) tag && leb from (indexOf x) && ltb (indexOf x) n && leb 1 (generationOf x)) (soundSeals tag n (suc (indexOf x)) xs) e in
-    let q = both (eqb (tagOf x) tag && leb from (indexOf x) && ltb (indexOf x) n) (leb 1 (generationOf x)) (p .0) in
-    let r = both (eqb (tagOf x) tag && leb from (indexOf x)) (ltb (indexOf x) n) (q .0) in
-    let s = both (eqb (tagOf x) tag) (leb from (indexOf x)) (r .0) in
-    omega (arith, leb-true from (indexOf x) (s .1), ltb-true (indexOf x) n (r .1), seals-length tag n (suc (indexOf x)) xs (p .1))
-
--- how often the numbers below k stand in a list, together
-sum : List ℕ → ℕ → ℕ
-sum l zero = 0
-sum l (suc k) = sum l k + times k l
-
-sum-grows : (j : ℕ) (l : List ℕ) (k : ℕ) → sum l k ≤ sum (j ∷ l) k
-unfolding sum times
-sum-grows j l zero = omega arith
-sum-grows j l (suc k) = omega (arith, sum-grows j l k)
-
-sum-more : (j : ℕ) (l : List ℕ) (k : ℕ) → j < k → 1 + sum l k ≤ sum (j ∷ l) k
-unfolding sum times
-sum-more j l zero h = absurd (omega arith)
-sum-more j l (suc k) h = go (λ b. sum-more j l k b) (eqb j k) refl
-  where
-    go : (j < k → 1 + sum l k ≤ sum (j ∷ l) k) → (b : Bool) → eqb j k ≡ b → 1 + sum l (suc k) ≤ sum (j ∷ l) (suc k)
-    go ih true e = rw e (omega (arith, sum-grows j l k))
-    go ih false e =
-        let n : j ≡ k → ⊥ = eqb-false j k e in
-        omega (arith, ih (lt-of-le-ne (omega arith) n))
-
-length-sum : (l : List ℕ) (k : ℕ) → all (λ i. ltb i k) l ≡ true → length l ≤ sum l k
-unfolding all
-length-sum [] k e = omega arith
-length-sum (j ∷ l) k e =
-    let p = both (ltb j k) (all (λ i. ltb i k) l) e in
-    omega (arith, length-sum l k (p .1), sum-more j l k (ltb-true j k (p .0)))
-
-pub times-append : (i : ℕ) (xs ys : List ℕ) → times i (xs ++ ys) ≡ times i xs + times i ys
-unfolding times
-times-append i [] ys = omega arith
-times-append i (x ∷ xs) ys = omega (arith, times-append i xs ys)
-
-once-sum : (h : State) (k : ℕ) → allBelow (λ i. eqb (places h i) 1) k ≡ true → sum (h .free ++ h .quarantine) k ≤ k
-unfolding allBelow sum
-once-sum h zero e = omega arith
-once-sum h (suc k) e =
-    let p = both (allBelow (λ i. eqb (places h i) 1) k) (eqb (places h k) 1) e in
-    let q : places h k ≡ 1 = eqb-true (places h k) 1 (p .1) in
-    omega (arith, once-sum h k (p .0), times-append k (h .free) (h .quarantine))
-
 -- each slot is in one list at most
 pub dead-length : (h : State) → partitioned h ≡ true → length (h .free) + length (h .quarantine) ≤ length (h .slots)
-unfolding partitioned
 dead-length h e =
     let n : ℕ = length (h .slots) in
-    let p = both (allBelow (λ i. eqb (places h i) 1) n) (all (λ i. ltb i n) (h .free ++ h .quarantine)) e in
-    omega (arith, length-append (h .free) (h .quarantine), length-sum (h .free ++ h .quarantine) n (p .1), once-sum h n (p .0))
+    let T : ℕ → ℕ = λ i. times i (h .free ++ h .quarantine) in
+    let L : ℕ → ℕ = λ i. bit (live (slotAt h i)) in
+    let listed : sum n T ≡ length (h .free ++ h .quarantine) =
+    times-length n (h .free ++ h .quarantine) (λ i k. omega (arith, parts-tested h e i, ap bit (le-ltb i n k), times-append i (h .free) (h .quarantine))) in
+    let once : sum n (λ i. L i + T i) ≡ n =
+    sum-same n (λ i. L i + T i) (λ i. 1) (λ i k. omega (arith, parts-tested h e i, ap bit (lt-ltb i n k), times-append i (h .free) (h .quarantine))) ∙ sum-ones n in
+    omega (arith, sum-add n L T, length-append (h .free) (h .quarantine))
 
+-- seals rise, so there is at most one a slot
 pub sealed-length : (h : State) → soundSeals (h .tag) (length (h .slots)) 0 (h .sealed) ≡ true → length (h .sealed) ≤ length (h .slots)
-sealed-length h e = omega (arith, seals-length (h .tag) (length (h .slots)) 0 (h .sealed) e)
+sealed-length h e = omega (arith, seals-few (h .tag) (length (h .slots)) 0 (h .sealed) (omega arith) e)
 
 -- the parts of a sound heap
 pub record Parts (h : State) : Type 0 where
@@ -157,9 +111,9 @@ unfolding sound
 parts h e =
     let a : Bool = all soundSlot (h .slots) in
     let d : Bool = soundSeals (h .tag) (length (h .slots)) 0 (h .sealed) in
-    let p = both (a && partitioned h && d) (soundReclaim (h .reclaimAt)) e in
-    let q = both (a && partitioned h) d (p .0) in
-    let r = both a (partitioned h) (q .0) in
+    let p = and-both (a && partitioned h && d) (soundReclaim (h .reclaimAt)) e in
+    let q = and-both (a && partitioned h) d (p .0) in
+    let r = and-both a (partitioned h) (q .0) in
     record { slots = r .0; partition = r .1; seals = q .1; reclaim = p .1 }
 
 -- THE BOUND

@@ -7,6 +7,7 @@ use lib.Seq.{take-suc, take-all}
 use native.Mathlib.Omega.{arith}
 use native.Mathlib.Numerals.{add-one}
 use Rattle.text.specs.Text.{decimal, hex, line}
+use Rattle.heap.proofs.Packing.{length-tabulate}
 use Rattle.text.specs.Put.{putText, Puts}
 use Rattle.text.proofs.Laws.{hex-length}
 use Rattle.text.proofs.Putting.{puts-puts, puts-byte, puts-length, puts-at}
@@ -99,17 +100,11 @@ module _ {a b1 b2 b3 b4 b5 b6 : List ℕ} {at k1 k2 k3 k4 k5 k6 : ℕ} (g k t s 
 
 -- SLOTS IN COLUMNS
 
-module _ {A : Type 0} where
-  length-tabulate : (n : ℕ) (f : ℕ → A) → length (tabulate n f) ≡ n
-  unfolding tabulate
-  length-tabulate zero f = refl
-  length-tabulate (suc n) f = ap suc (length-tabulate n (λ i. f (suc i)))
-
-  getD-tabulate : (n : ℕ) (f : ℕ → A) (j : ℕ) (d : A) → j < n → getD (tabulate n f) j d ≡ f j
-  unfolding tabulate
-  getD-tabulate zero f j d h = absurd (omega arith)
-  getD-tabulate (suc n) f zero d h = refl
-  getD-tabulate (suc n) f (suc j) d h = getD-tabulate n (λ i. f (suc i)) j d (omega arith)
+getD-tabulate : {A : Type 0} (n : ℕ) (f : ℕ → A) (j : ℕ) (d : A) → j < n → getD (tabulate n f) j d ≡ f j
+unfolding tabulate
+getD-tabulate zero f j d h = absurd (omega arith)
+getD-tabulate (suc n) f zero d h = refl
+getD-tabulate (suc n) f (suc j) d h = getD-tabulate n (λ i. f (suc i)) j d (omega arith)
 
 pub slots-length : (c : Lent) (n : ℕ) → length (slotsIn c n) ≡ n
 slots-length c n = length-tabulate n (slotIn c)
