@@ -1,4 +1,4 @@
--- What the second pass leaves in the lent columns.
+-- The slots whose lines stand in a text.
 use Prim.Native.Nat.{ℕ}
 use mathlib.Core.List.{List, []}
 use mathlib.Core.Option.{none, some}
