@@ -2,3 +2,5 @@
 pub mod Types
 pub mod Handles
 pub mod Live
+pub mod Scratch
+pub mod Page
