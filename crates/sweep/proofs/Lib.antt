@@ -1,0 +1,5 @@
+pub mod Compacting
+pub mod Sizing
+pub mod Dropping
+pub mod Releasing
+pub mod Sweeping
