@@ -15,7 +15,7 @@ use Rattle.word.specs.Choice.{if_then_else_}
 use Rattle.word.proofs.PutLaws.{put-none, length-put, take-put, drop-put}
 use Rattle.heap.specs.Packing.{pad, flat, ends, dataAt, startOf}
 use Rattle.heap.specs.Columns.{datas}
-use Rattle.heap.proofs.Packing.{length-pad, flat-suc, length-ends, getD-ends, start-of, end-at, data-at, length-tabulate}
+use Rattle.heap.proofs.Packing.{flat-suc, length-ends, getD-ends, start-of, end-at, data-at, length-tabulate}
 use Rattle.heap.proofs.Splicing.{flat-mono}
 use Rattle.sweep.specs.Columns.{kept, CanCompact, Compacted, keptSize, CanSettle, Settled}
 

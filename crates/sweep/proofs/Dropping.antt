@@ -1,20 +1,19 @@
 -- Slots dropped one after the other: the heap stays sound, and what each slot becomes. Assumes nothing.
 use mathlib.Core.Path.{_≡_, refl, sym, ap, _∙_, subst}
 use mathlib.Core.Bool.{Bool, true, false, _&&_}
-use mathlib.Core.List.{List, [], _∷_, _++_, append-assoc, append-nil}
-use mathlib.Core.Logic.{⊎-elim}
+use mathlib.Core.List.{List, [], _∷_, _++_}
 use Prim.Native.Nat.{ℕ, zero, suc, _+_, _≤_, _<_}
 use native.Mathlib.Omega.{arith}
 use native.Mathlib.Decide.{decLt, ℕ-discrete}
-use lib.ListN.{length, getD, take, set, length-set, length-append, List·getD-eq-default}
+use lib.ListN.{length, getD, take, set, length-set, List·getD-eq-default}
 use lib.Seq.{take-suc, take-all, length-take-le}
 use lib.Dec.{eqb, ltb}
 use borrow.Author.Tests.{eq-eqb, ne-eqb, lt-ltb, ltb-true}
 use Rattle.word.specs.Choice.{if_then_else_}
-use Rattle.word.proofs.Bools.{either, and-both}
-use Rattle.heap.specs.State.{Slot, State, noSlot, slotAt, live, bit, times, withFree}
-use Rattle.heap.specs.Calls.{withSlot, changed, released}
-use Rattle.heap.proofs.Sound.{Sound, SlotSound, liveBit}
+use Rattle.word.proofs.Bools.{and-both}
+use Rattle.heap.specs.State.{Slot, State, noSlot, slotAt, live, bit, times}
+use Rattle.heap.specs.Calls.{changed, released}
+use Rattle.heap.proofs.Sound.{Sound, liveBit}
 use Rattle.heap.proofs.Keeping.{sound-change, at-same, at-other, each-set, data-set, released-sound}
 use Rattle.heap.proofs.Counting.{inside, times-append}
 use Rattle.sweep.specs.Swept.{goes, dropped, dropSlot, dropSlots, allDropped, dropUnmarked}

@@ -3,3 +3,4 @@ pub mod Sizing
 pub mod Dropping
 pub mod Releasing
 pub mod Sweeping
+pub mod Laws

@@ -7,7 +7,7 @@ use native.Mathlib.Omega.{arith}
 use native.Mathlib.Numerals.{add-one}
 use lib.ListN.{length, getD, set, length-set, length-append}
 use lib.Dec.{eqb, ltb}
-use borrow.Author.Tests.{lt-ltb, le-ltb, ltb-true, eq-eqb, ne-eqb}
+use borrow.Author.Tests.{lt-ltb, le-ltb, eq-eqb, ne-eqb}
 use Rattle.word.specs.Choice.{if_then_else_}
 use Rattle.heap.specs.Packing.{pad}
 use Rattle.heap.specs.State.{Slot, State, slotAt, live, bit}
@@ -23,7 +23,7 @@ use Rattle.heap.proofs.Counting.{sum-one, all-slots}
 use Rattle.heap.proofs.Testing.{formed-tested}
 use Rattle.sweep.specs.Swept.{goes, dropped, dropSlot, dropSlots, allDropped}
 use Rattle.sweep.specs.Columns.{Columns, columns, columnsOf, releasedIn, visitedIn, CanRelease, CanVisit, CanSweep}
-use Rattle.sweep.proofs.Dropping.{after, after-next, after-all, after-sound, Dropping, dropping, goes-live, live-inside}
+use Rattle.sweep.proofs.Dropping.{after, after-next, after-all, after-sound, Dropping, dropping, goes-live}
 
 -- ---- the ways out of `release` and `visit`
 

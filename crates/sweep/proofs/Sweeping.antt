@@ -1,8 +1,8 @@
 -- The sweep put together: slots released, pool packed, survivors counted. Assumes nothing.
 use mathlib.Core.Path.{_≡_, refl, sym, ap, _∙_, subst}
 use mathlib.Core.Bool.{Bool, true, false}
-use mathlib.Core.List.{List, [], _∷_}
-use Prim.Native.Nat.{ℕ, _≤_, _<_}
+use mathlib.Core.List.{List, []}
+use Prim.Native.Nat.{ℕ, _<_}
 use native.Mathlib.Omega.{arith}
 use lib.ListN.{length, getD, length-map, List·getD-map}
 use lib.Seq.{ext-getD}
@@ -18,8 +18,8 @@ use Rattle.heap.specs.Header.{setSince, setLive}
 use Rattle.heap.specs.Done.{Leaves}
 use Rattle.heap.specs.declared.Heap.{Heap}
 use Rattle.heap.proofs.Sound.{Sound, WellFormed}
-use Rattle.heap.proofs.Changing.{Lying, column-size}
-use Rattle.heap.proofs.Placing.{lies-packed, end-long, pool-long}
+use Rattle.heap.proofs.Changing.{column-size}
+use Rattle.heap.proofs.Placing.{lies-packed, end-long}
 use Rattle.heap.proofs.Testing.{formed-tested}
 use Rattle.heap.proofs.Keeping.{leaves}
 use Rattle.sweep.specs.Swept.{goes, allDropped, liveSize, dropUnmarked}
