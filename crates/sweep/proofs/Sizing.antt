@@ -54,11 +54,14 @@ unfolding sizesIn
 sizing-first n ks es = record { few = omega arith; from-is = start-zero es 0 refl; sum-is = refl; bound = omega arith }
 
 module _ {n : ℕ} {ks es : List ℕ} (can : CanSize n ks es) {i from sum : ℕ} (v : Sizing n ks es i from sum) (less : i < n) where
-  pub sizing-can : (from ≤ getD es i 0) × (getD es i 0 ≤ 1073741824)
-  sizing-can = (omega (arith, can .rising i less, v .from-is), omega (arith, can .small (i + 1) (omega arith), next-start es i))
+  pub sizing-low : from ≤ getD es i 0
+  sizing-low = omega (arith, can .rising i less, v .from-is)
+
+  pub sizing-high : getD es i 0 ≤ 1073741824
+  sizing-high = omega (arith, can .small (i + 1) (omega arith), next-start es i)
 
   pub sizing-fits : {r : ℕ} → r ≡ oneSize (getD ks i 0) from (getD es i 0) → sum + r ≤ 4294967296
-  sizing-fits e = omega (arith, sizing-can, size-most (getD ks i 0) from (getD es i 0), v .bound, can .few)
+  sizing-fits e = omega (arith, sizing-low, sizing-high, size-most (getD ks i 0) from (getD es i 0), v .bound, can .few)
 
   pub sizing-turn : {r : ℕ} → r ≡ oneSize (getD ks i 0) from (getD es i 0) → Sizing n ks es (i + 1) (getD es i 0) (sum + r)
   unfolding sizesIn
@@ -70,7 +73,7 @@ module _ {n : ℕ} {ks es : List ℕ} (can : CanSize n ks es) {i from sum : ℕ}
             (λ j. v .sum-is j + e j)
             ∙ ap (λ (x : ℕ). sizesIn i ks es + oneSize (getD ks i 0) x (getD es i 0)) (v .from-is)
             ∙ ap (λ (k : ℕ). sizesIn k ks es) (sym (add-one i));
-        bound = omega (arith, sizing-can, size-most (getD ks i 0) from (getD es i 0), v .bound);
+        bound = omega (arith, sizing-low, sizing-high, size-most (getD ks i 0) from (getD es i 0), v .bound);
       }
 
 pub sizing-last : {n : ℕ} {ks es : List ℕ} {i from sum : ℕ} → Sizing n ks es i from sum → n ≤ i → sum ≡ sizesIn n ks es

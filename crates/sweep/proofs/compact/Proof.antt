@@ -12,7 +12,7 @@ abbrev μ-loop : tie.MeasureT-loop
 μ-loop n kind end₀ pool₀ i₀ from₀ to₀ end pool i from to = n - i
 
 loop-holds : tie.Need-loop-holds Inv-loop μ-loop
-loop-holds c = pack-first (c .before .before .before .pre)
+loop-holds c = search pack-first
 
 mul-e : tie.Need-mul-e Inv-loop μ-loop
 mul-e c = search needs
@@ -24,7 +24,7 @@ shared-slice-read-settle : tie.Need-shared-slice-read-settle Inv-loop μ-loop
 shared-slice-read-settle c = search needs
 
 settle-requires : tie.Need-settle-requires Inv-loop μ-loop
-settle-requires c κs = pack-can (c .before .before .before .before .before .before .before .before .pre) (c .before .before .before .before .loop .inv) (c .before .before .before .loop-test .taken)
+settle-requires c κs = search pack-can
 
 mul-end : tie.Need-mul-end Inv-loop μ-loop
 mul-end c = search needs
@@ -39,10 +39,10 @@ loop-less : tie.Need-loop-less Inv-loop μ-loop
 loop-less c = search needs
 
 loop-again : tie.Need-loop-again Inv-loop μ-loop
-loop-again c = pack-turn (c .before .before .before .before .before .before .before .before .before .before .before .pre) (c .before .before .before .before .before .before .before .loop .inv) (c .before .before .before .before .before .before .loop-test .taken) (c .before .before .settle .ensures)
+loop-again c = search pack-turn
 
 fill-u8-requires : tie.Need-fill-u8-requires Inv-loop μ-loop
-fill-u8-requires c κs = pack-clear (c .before .before .before .before .before .before .pre) (c .before .before .loop .inv)
+fill-u8-requires c κs = search pack-clear
 
 same-length : tie.Need-same-length Inv-loop μ-loop
 same-length c = search needs
@@ -51,7 +51,7 @@ same-length-2 : tie.Need-same-length-2 Inv-loop μ-loop
 same-length-2 c = search needs
 
 returns : tie.Need-returns Inv-loop μ-loop
-returns c = pack-last (c .before .before .before .before .before .before .before .before .before .pre) (c .before .before .before .before .before .loop .inv) (search needs) (c .before .before .fill-u8 .ensures)
+returns c = search pack-last
 
 pub compact-spec : {M : Type 1} → statement M
 compact-spec =

@@ -1,7 +1,7 @@
 -- `sweep::live_size` meets its contract. The invariant: `sum` counts the first `i` slots, and `from` is where the next starts. Assumes nothing.
 use Prim.Native.Nat.{_-_}
 use native.Mathlib.Omega.{arith}
-use Rattle.sweep.proofs.Sizing.{Sizing, sizing-first, sizing-can, sizing-fits, sizing-turn, sizing-last}
+use Rattle.sweep.proofs.Sizing.{Sizing, sizing-first, sizing-low, sizing-high, sizing-fits, sizing-turn, sizing-last}
 use borrow.Author.Needs.{needs}
 use Rattle.sweep.proofs.live_size.Statement.{statement}
 use Rattle.sweep.proofs.live_size.Tie as tie
@@ -13,7 +13,7 @@ abbrev μ-loop : tie.MeasureT-loop
 μ-loop n kind end i₀ from₀ sum₀ i from sum = n - i
 
 loop-holds : tie.Need-loop-holds Inv-loop μ-loop
-loop-holds c = sizing-first _ _ _
+loop-holds c = search sizing-first
 
 mul-e : tie.Need-mul-e Inv-loop μ-loop
 mul-e c = search needs
@@ -25,7 +25,7 @@ shared-slice-read-size-one : tie.Need-shared-slice-read-size-one Inv-loop μ-loo
 shared-slice-read-size-one c = search needs
 
 size-one-requires : tie.Need-size-one-requires Inv-loop μ-loop
-size-one-requires c κs = sizing-can (c .before .before .before .before .before .before .pre) (c .before .before .before .loop .inv) (c .before .before .loop-test .taken)
+size-one-requires c κs = search (sizing-low, sizing-high)
 
 add-sum : tie.Need-add-sum Inv-loop μ-loop
 add-sum c = omega (arith, sizing-fits (c .before .before .before .before .before .before .before .pre) (c .before .before .before .before .loop .inv) (c .before .before .before .loop-test .taken) (c .size-one .ensures))
@@ -37,10 +37,10 @@ loop-less : tie.Need-loop-less Inv-loop μ-loop
 loop-less c = search needs
 
 loop-again : tie.Need-loop-again Inv-loop μ-loop
-loop-again c = sizing-turn (c .before .before .before .before .before .before .before .pre) (c .before .before .before .before .loop .inv) (c .before .before .before .loop-test .taken) (c .size-one .ensures)
+loop-again c = search sizing-turn
 
 returns : tie.Need-returns Inv-loop μ-loop
-returns c = sizing-last (c .before .loop .inv) (search needs)
+returns c = search sizing-last
 
 pub live-size-spec : {M : Type 1} → statement M
 live-size-spec =

@@ -77,7 +77,7 @@ same-length-6 : tie.Need-same-length-6
 same-length-6 c = search needs
 
 returns : tie.Need-returns
-returns c = released-in _ _ _ _ _ _ _ _ _ _ _ (c .before .before .next-generation .ensures) (c .before .changed .ensures) (c .with-free .ensures)
+returns c = search released-in
 
 pub release-spec : {M : Type 1} → statement M
 release-spec =

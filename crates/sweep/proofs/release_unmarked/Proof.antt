@@ -15,13 +15,13 @@ abbrev μ-loop : tie.MeasureT-loop
 μ-loop generation₀ kind₀ ty₀ start₀ end writes₀ pool free₀ quarantine sealed marks n h₀ i₀ generation kind ty start writes free h i = n - i
 
 loop-holds : tie.Need-loop-holds Inv-loop μ-loop
-loop-holds c = release-first (c .before .before .before .before .before .before .before .before .before .before .before .pre) refl
+loop-holds c = search release-first
 
 shared-slice-read-visit : tie.Need-shared-slice-read-visit Inv-loop μ-loop
 shared-slice-read-visit c = search needs
 
 visit-requires : tie.Need-visit-requires Inv-loop μ-loop
-visit-requires c κs = release-can (c .before .before .before .before .before .before .before .before .before .before .before .before .before .before .before .before .before .before .before .before .pre) refl (c .before .before .before .before .before .before .before .before .loop .inv) (c .before .before .before .before .before .before .before .loop-test .taken)
+visit-requires c κs = search release-can
 
 add-i : tie.Need-add-i Inv-loop μ-loop
 add-i c = search needs
@@ -30,7 +30,7 @@ loop-less : tie.Need-loop-less Inv-loop μ-loop
 loop-less c = search needs
 
 loop-again : tie.Need-loop-again Inv-loop μ-loop
-loop-again c = release-turn (c .before .before .before .before .before .before .before .before .before .before .before .before .before .before .before .before .before .before .before .before .before .before .before .before .before .before .before .before .before .before .before .before .before .pre) refl (c .before .before .before .before .before .before .before .before .before .before .before .before .before .before .before .before .before .before .before .before .before .loop .inv) (c .before .before .before .before .before .before .before .before .before .before .before .before .before .before .before .before .before .before .before .before .loop-test .taken) (c .before .before .before .before .before .before .before .before .before .before .before .before .visit .ensures)
+loop-again c = search release-turn
 
 same-length : tie.Need-same-length Inv-loop μ-loop
 same-length c = search needs

@@ -1,12 +1,11 @@
 -- `sweep::settle` meets its contract. Assumes nothing.
-use mathlib.Core.Path.{refl}
 use Rattle.sweep.proofs.Compacting.{settled-gone, settled-kept}
 use borrow.Author.Needs.{needs}
 use Rattle.sweep.proofs.settle.Statement.{statement}
 use Rattle.sweep.proofs.settle.Tie as tie
 
 returns : tie.Need-returns
-returns c = settled-gone _ _ _ _ _ (c .if1 .taken)
+returns c = search settled-gone
 
 sub-move-u8 : tie.Need-sub-move-u8
 sub-move-u8 c = search needs
@@ -24,7 +23,7 @@ same-length : tie.Need-same-length
 same-length c = search needs
 
 returns-2 : tie.Need-returns-2
-returns-2 c = settled-kept _ _ _ _ _ _ _ (c .before .before .before .before .if1 .left) (c .before .before .move-u8 .ensures) refl
+returns-2 c = search settled-kept
 
 pub settle-spec : {M : Type 1} → statement M
 settle-spec =

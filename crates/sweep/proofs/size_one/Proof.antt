@@ -5,7 +5,7 @@ use Rattle.sweep.proofs.size_one.Statement.{statement}
 use Rattle.sweep.proofs.size_one.Tie as tie
 
 returns : tie.Need-returns
-returns c = size-dead _ _ _ (c .if1 .taken)
+returns c = search size-dead
 
 sub-result : tie.Need-sub-result
 sub-result c = search needs
@@ -14,7 +14,7 @@ add-result : tie.Need-add-result
 add-result c = search needs
 
 returns-2 : tie.Need-returns-2
-returns-2 c = size-live _ _ _ (c .if1 .left)
+returns-2 c = search size-live
 
 pub size-one-spec : {M : Type 1} → statement M
 size-one-spec = tie.close (tie.spec returns sub-result add-result returns-2)

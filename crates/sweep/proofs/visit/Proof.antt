@@ -8,13 +8,13 @@ slice-read-k : tie.Need-slice-read-k
 slice-read-k c = search needs
 
 returns : tie.Need-returns
-returns c = visit-dead _ _ _ (c .if1 .taken)
+returns c = search visit-dead
 
 returns-2 : tie.Need-returns-2
-returns-2 c = visit-kept _ _ _ (c .if2 .taken)
+returns-2 c = search visit-kept
 
 release-requires : tie.Need-release-requires
-release-requires c κs = can-release _ _ (c .before .before .before .before .before .before .before .before .before .before .before .before .before .before .before .pre) (c .before .before .before .before .before .before .before .if1 .left)
+release-requires c κs = search can-release
 
 same-length : tie.Need-same-length
 same-length c = search needs
@@ -35,7 +35,7 @@ same-length-6 : tie.Need-same-length-6
 same-length-6 c = search needs
 
 returns-3 : tie.Need-returns-3
-returns-3 c = visit-gone _ _ _ _ (c .before .before .before .before .before .before .before .before .before .before .before .before .before .before .before .before .before .before .before .before .if1 .left) (c .before .before .before .before .before .before .before .before .before .before .before .before .before .before .before .before .before .before .before .if2 .left) (c .before .before .before .before .before .before .before .before .before .before .before .before .release .ensures)
+returns-3 c = search visit-gone
 
 pub visit-spec : {M : Type 1} → statement M
 visit-spec =
