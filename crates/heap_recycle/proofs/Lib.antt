@@ -1,0 +1,2 @@
+pub mod Recycling
+pub mod Searching
