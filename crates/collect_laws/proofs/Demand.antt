@@ -11,12 +11,13 @@ use lib.ListN.{length, getD}
 use Rattle.word.specs.Result.{Result, ok, refused}
 use Rattle.heap.specs.State.{State, slotAt, live}
 use Rattle.heap.specs.Calls.{resolve}
-use Rattle.reach.specs.Reach.{Starts, Reached, Stuck}
+use Rattle.heap.proofs.Sound.{Sound}
+use Rattle.reach.specs.Reach.{Graph, Starts, Reached, Stuck}
 use Rattle.reach.specs.Marking.{State as Marks, marking}
 use Rattle.reach.proofs.Sound.{Sized, Marked, Answer, marking-answer, reached-ind, reached-below, refused as stuck-exactly, kept as marked-exactly}
 use Rattle.sweep.specs.Swept.{swept}
 use Rattle.sweep.proofs.Dropping.{live-inside}
-use Rattle.sweep.proofs.Laws.{survivor, only-marked, resolved-live, resolved-before, outlives}
+use Rattle.sweep.proofs.Laws.{swept-sound, survivor, only-marked, resolved-live, resolved-before, outlives}
 use Rattle.collect_laws.specs.Collected.{found, graph, starts, sweptBy, collected}
 use Rattle.collect_laws.specs.Demand.{Survived, Collects}
 
@@ -95,3 +96,12 @@ module _ (h : State) (handles : ℕ → Option (List ℕ)) where
 pub collect-demand : (h : State) (handles : ℕ → Option (List ℕ)) (roots pins : List ℕ)
     → Collects (graph h handles) (starts h roots pins) h (collected (graph h handles) (starts h roots pins) h)
 collect-demand h handles roots pins = demand h handles (starts h roots pins)
+
+-- a heap that is sound and fits stays so
+pub collected-sound : (L P : ℕ) (G : Graph) (S : Starts) (h : State) → Sound L P h → Sound L P (collected G S h .heap)
+unfolding collected
+collected-sound L P G S h fine = go (marking G S (length (h .slots)))
+  where
+    go : (r : Option Marks) → Sound L P (sweptBy h (S .pins) r .heap)
+    go none = fine
+    go (some m) = swept-sound L P h (m .marks) (S .pins) fine

@@ -17,8 +17,12 @@ use Rattle.handle.specs.Handle.{indexOf, resolveBy}
 use Rattle.handle.proofs.ResolveLaws.{Resolves, resolve-ok, resolve-same}
 use Rattle.heap.specs.State.{Slot, State, slotAt, live, times}
 use Rattle.heap.specs.Calls.{resolve, released, filter, member, recycle}
+use Rattle.heap.specs.WellFormed.{sound, fits}
+use Rattle.heap.proofs.Sound.{Sound}
+use Rattle.heap.proofs.Testing.{sound-tested, sound-test}
+use Rattle.heap_recycle.proofs.Recycling.{recycle-sound}
 use Rattle.sweep.specs.Swept.{goes, dropped, dropSlot, dropSlots, liveSize, dropUnmarked, swept}
-use Rattle.sweep.proofs.Dropping.{sweptSlot, all-dropped, dropped-slot, drop-append}
+use Rattle.sweep.proofs.Dropping.{sweptSlot, all-dropped, dropped-slot, drop-append, unmarked-sound}
 
 -- ---- slots
 
@@ -56,6 +60,14 @@ only-marked h marks pins j alive = go (live (slotAt h j)) (eqb (getD marks j 0) 
         zero : getD marks j 0 ≡ 0 → eqb (getD marks j 0) 0 ≡ false → ⊥
         zero e q = let t : eqb (getD marks j 0) 0 ≡ true = eq-eqb (getD marks j 0) 0 e in let z : _≡_ {A = ℕ} 0 1 = cc in omega arith
     go false b ea eb k = let z : _≡_ {A = ℕ} 0 1 = cc in absurd (omega arith)
+
+-- a heap that is sound and fits stays so
+pub swept-sound : (S P : ℕ) (h : State) (marks pins : List ℕ) → Sound S P h → Sound S P (swept h marks pins)
+unfolding swept
+swept-sound S P h marks pins fine = recycle-sound S P (dropUnmarked h marks) pins (unmarked-sound S P marks h fine)
+
+pub swept-formed : (S P : ℕ) (h : State) (marks pins : List ℕ) → fits S P h ≡ true → sound h ≡ true → (fits S P (swept h marks pins) && sound (swept h marks pins)) ≡ true
+swept-formed S P h marks pins f s = sound-test S P (swept h marks pins) (swept-sound S P h marks pins (sound-tested S P h f s))
 
 -- ---- handles
 

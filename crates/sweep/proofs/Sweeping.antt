@@ -12,7 +12,7 @@ use Rattle.word.specs.Choice.{if_then_else_}
 use Rattle.heap.specs.Packing.{pad, flat, ends}
 use Rattle.heap.specs.Columns.{datas, Packed}
 use Rattle.heap.specs.State.{Slot, State, noSlot, slotAt, dataOf, live}
-use Rattle.heap.specs.Calls.{released}
+use Rattle.heap.specs.Calls.{released, recycle}
 use Rattle.heap.specs.Lent.{Lent, lent, stored, view, headerOf, slotCount, poolSize}
 use Rattle.heap.specs.Header.{setSince, setLive}
 use Rattle.heap.specs.Done.{Leaves}
@@ -20,9 +20,10 @@ use Rattle.heap.specs.declared.Heap.{Heap}
 use Rattle.heap.proofs.Sound.{Sound, WellFormed}
 use Rattle.heap.proofs.Changing.{column-size}
 use Rattle.heap.proofs.Placing.{lies-packed, end-long}
+use Rattle.heap.proofs.Storing.{view-stored, slots-stored, pool-stored}
 use Rattle.heap.proofs.Testing.{formed-tested}
 use Rattle.heap.proofs.Keeping.{leaves}
-use Rattle.sweep.specs.Swept.{goes, allDropped, liveSize, dropUnmarked}
+use Rattle.sweep.specs.Swept.{goes, allDropped, liveSize, dropUnmarked, swept}
 use Rattle.sweep.specs.Columns.{kept, CanCompact, Compacted, Columns, columns, columnsOf, CanSize, sizesIn, CanSweep}
 use Rattle.sweep.proofs.Compacting.{length-kept, kept-at}
 use Rattle.sweep.proofs.Sizing.{can-size, sizes-are}
@@ -137,3 +138,14 @@ module _ {l : Lent} {marks : List ℕ} (can : CanSweep l marks) {n : ℕ} (hn : 
           leaves l (lent h₂ gs ks ts ss es ws ps fs (l .quarantine) (l .sealed)) (dropUnmarked (view l) marks) (unmarked-sound S P marks (view l) (formed .sound))
           (ap (λ (x : Heap). lent x gs ks ts ss es ws ps fs (l .quarantine) (l .sealed)) header
           ∙ ap (λ (x : Lent). lent (setLive (setSince (x .header) 0) (liveSize (A .slots))) (x .generation) (x .kind) (x .type) (x .start) (x .end) (x .writes) (x .pool) (x .free) (x .quarantine) (x .sealed)) packed-lies)
+
+-- and then the quarantine is recycled
+pub sweep-leaves : {l l₁ l₂ : Lent} {marks : List ℕ} (pins : List ℕ) → CanSweep l marks → Leaves l l₁ (dropUnmarked (view l) marks) → Leaves l₁ l₂ (recycle (view l₁) pins) → Leaves l l₂ (swept (view l) marks pins)
+unfolding swept
+sweep-leaves {l} {l₁} {l₂} {marks} pins can first second =
+    let d : State = dropUnmarked (view l) marks in
+    let s : Sound (slotCount l) (poolSize l) d = unmarked-sound (slotCount l) (poolSize l) marks (view l) (formed-tested l (can .formed) .sound) in
+    let slots : slotCount l₁ ≡ slotCount l = ap slotCount (first .lies) ∙ slots-stored (slotCount l) (poolSize l) d (s .slots-fit) in
+    let bytes : poolSize l₁ ≡ poolSize l = ap poolSize (first .lies) ∙ pool-stored (slotCount l) (poolSize l) d (s .data-fit) in
+    let heap : view l₁ ≡ d = ap view (first .lies) ∙ view-stored (slotCount l) (poolSize l) d in
+    record { lies = second .lies ∙ (λ j. stored (slots j) (bytes j) (recycle (heap j) pins)); formed = second .formed }

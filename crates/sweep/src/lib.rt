@@ -1,10 +1,13 @@
-// The sweep of a collection, over lent columns: what is not marked is released, the pool is packed again in one pass, and the survivors are counted.
+// The sweep of a collection, over lent columns: what is not marked is released, the pool is packed again in one pass, the survivors are counted and the
+// quarantine is recycled. Linear in the slots and the pool, `recycle` apart, which looks each quarantined slot up among the pins by halves.
 ghost use mathlib.Core.Path.{_≡_};
+ghost use mathlib.Core.Bool.{true};
 ghost use Prim.Native.Nat.{_≤_};
 ghost use lib.ListN.{length};
 ghost use Rattle.heap.specs.Lent.{lent, view};
 ghost use Rattle.heap.specs.Done.{Leaves};
-ghost use Rattle.sweep.specs.Swept.{allDropped, dropUnmarked};
+ghost use Rattle.heap_recycle.specs.Pins.{rising};
+ghost use Rattle.sweep.specs.Swept.{allDropped, dropUnmarked, swept};
 ghost use Rattle.sweep.specs.Columns.{CanCompact, Compacted, CanSettle, Settled, columns, columnsOf, releasedIn, visitedIn, CanRelease, CanVisit, CanSize, sizesIn, oneSize, CanSweep};
 use heap::Heap;
 
@@ -146,7 +149,7 @@ fn live_size(n: usize, kind: &[u8], end: &[usize]) -> u64
 }
 
 // The sweep, up to the recycling of the quarantine: what is not marked is dropped, and what is left is counted.
-pub fn drop_unmarked(
+fn drop_unmarked(
     heap: Heap,
     generation: &mut [u32],
     kind: &mut [u8],
@@ -181,4 +184,54 @@ pub fn drop_unmarked(
     compact(n, kind, end, pool);
     let total = live_size(n, kind, end);
     h.with_since(0).with_live(total)
+}
+
+// The sweep of a collection: what is not marked is dropped, what is left is counted, and the quarantine is recycled.
+pub fn sweep(
+    heap: Heap,
+    generation: &mut [u32],
+    kind: &mut [u8],
+    ty: &mut [u32],
+    start: &mut [usize],
+    end: &mut [usize],
+    writes: &mut [u32],
+    pool: &mut [u8],
+    free: &mut [u32],
+    quarantine: &mut [u32],
+    sealed: &[u64],
+    marks: &[u8],
+    pins: &[u32],
+) -> Heap
+    requires { ⌜ CanSweep (lent heap (now generation) (now kind) (now ty) (now start) (now end) (now writes) (now pool) (now free) (now quarantine) (now sealed)) (now marks) ⌝ }
+    requires { ⌜ rising (now pins) ≡ true ⌝ }
+    ensures { λ r. ⌜ Leaves (lent heap (now (generation .entry)) (now (kind .entry)) (now (ty .entry)) (now (start .entry)) (now (end .entry)) (now (writes .entry)) (now (pool .entry)) (now (free .entry)) (now (quarantine .entry)) (now (sealed .entry))) (lent r (now (generation .exit)) (now (kind .exit)) (now (ty .exit)) (now (start .exit)) (now (end .exit)) (now (writes .exit)) (now (pool .exit)) (now (free .exit)) (now (quarantine .exit)) (now (sealed .entry))) (swept (view (lent heap (now (generation .entry)) (now (kind .entry)) (now (ty .entry)) (now (start .entry)) (now (end .entry)) (now (writes .entry)) (now (pool .entry)) (now (free .entry)) (now (quarantine .entry)) (now (sealed .entry)))) (now (marks .entry)) (now (pins .entry))) ⌝ }
+{
+    let h = drop_unmarked(
+        heap,
+        generation,
+        kind,
+        ty,
+        start,
+        end,
+        writes,
+        pool,
+        free,
+        quarantine,
+        sealed,
+        marks,
+    );
+    heap_recycle::recycle(
+        h,
+        generation,
+        kind,
+        ty,
+        start,
+        end,
+        writes,
+        pool,
+        free,
+        quarantine,
+        sealed,
+        pins,
+    )
 }
