@@ -7,17 +7,21 @@ use mathlib.Core.Logic.{_↔_, ⊎-elim}
 use mathlib.Core.Option.{Option, none, some}
 use Prim.Native.Nat.{ℕ, _<_}
 use native.Mathlib.Omega.{arith}
+use native.Mathlib.Decide.{decLt}
 use lib.ListN.{length, getD}
+use lib.Dec.{eqb}
+use borrow.Author.Tests.{eqb-true, eq-eqb}
 use Rattle.word.specs.Result.{Result, ok, refused}
+use Rattle.word.proofs.Bools.{bool-ext}
 use Rattle.heap.specs.State.{State, slotAt, live}
-use Rattle.heap.specs.Calls.{resolve}
+use Rattle.heap.specs.Calls.{done, resolve}
 use Rattle.heap.proofs.Sound.{Sound}
 use Rattle.reach.specs.Reach.{Graph, Starts, Reached, Stuck}
 use Rattle.reach.specs.Marking.{State as Marks, marking}
-use Rattle.reach.proofs.Sound.{Sized, Marked, Answer, marking-answer, reached-ind, reached-below, refused as stuck-exactly, kept as marked-exactly}
+use Rattle.reach.proofs.Sound.{Sized, Marked, Answer, marking-answer, reached-ind, reached-below, refused as stuck-exactly, kept as marked-exactly, lost as lost-exactly}
 use Rattle.sweep.specs.Swept.{swept}
 use Rattle.sweep.proofs.Dropping.{live-inside}
-use Rattle.sweep.proofs.Laws.{swept-sound, survivor, only-marked, resolved-live, resolved-before, outlives}
+use Rattle.sweep.proofs.Laws.{swept-sound, swept-same, survivor, only-marked, resolved-live, resolved-before, outlives}
 use Rattle.collect_laws.specs.Collected.{found, graph, starts, sweptBy, collected}
 use Rattle.collect_laws.specs.Demand.{Survived, Collects}
 
@@ -91,6 +95,26 @@ module _ (h : State) (handles : ℕ → Option (List ℕ)) where
           where
             free : Stuck (graph h handles) S → ⊥
             free x = let w : marking (graph h handles) S (length (h .slots)) ≡ none = exactly .1 x in let z : _≡_ {A = ℕ} 0 1 = cc in omega arith
+
+    -- the heap after it is decided by what is reached: any marks that mark just that give the same
+    pub collected-by : (marks : List ℕ) → (Stuck (graph h handles) S → ⊥) → ((o : ℕ) → o < length (h .slots) → (0 < getD marks o 0) ↔ Reached (graph h handles) S o)
+        → collected (graph h handles) S h ≡ done tt (swept h marks (S .pins))
+    unfolding collected
+    collected-by marks free keeps = go (marking (graph h handles) S (length (h .slots))) refl
+      where
+        same : (m : Marks) → marking (graph h handles) S (length (h .slots)) ≡ some m → (o : ℕ) → o < length (h .slots) → eqb (getD (m .marks) o 0) 0 ≡ eqb (getD marks o 0) 0
+        same m e o less =
+            let none-reached : (getD (m .marks) o 0 ≡ 0) ↔ (Reached (graph h handles) S o → ⊥) = lost-exactly (graph h handles) S (length (h .slots)) sized m e o less in
+            bool-ext (eqb (getD (m .marks) o 0) 0) (eqb (getD marks o 0) 0)
+            (λ t. eq-eqb (getD marks o 0) 0 (not-marked (λ some-mark. none-reached .0 (eqb-true (getD (m .marks) o 0) 0 t) (keeps o less .0 some-mark))))
+            (λ t. eq-eqb (getD (m .marks) o 0) 0 (none-reached .1 (λ r. let some-mark = keeps o less .1 r in let z = eqb-true (getD marks o 0) 0 t in omega arith)))
+          where
+            not-marked : (0 < getD marks o 0 → ⊥) → getD marks o 0 ≡ 0
+            not-marked never = elim (decLt 0 (getD marks o 0)) [ yes y ↦ absurd (never y) | no n ↦ omega arith ]
+
+        go : (r : Option Marks) → marking (graph h handles) S (length (h .slots)) ≡ r → sweptBy h (S .pins) r ≡ done tt (swept h marks (S .pins))
+        go none e = absurd (free (stuck-exactly (graph h handles) S (length (h .slots)) sized .0 e))
+        go (some m) e = ap (λ (x : State). done tt x) (swept-same h (m .marks) marks (S .pins) (same m e))
 
 -- `collect` with roots and pins given
 pub collect-demand : (h : State) (handles : ℕ → Option (List ℕ)) (roots pins : List ℕ)

@@ -3,7 +3,7 @@ use mathlib.Core.Path.{_≡_, refl, sym, ap, _∙_, subst}
 use mathlib.Core.Bool.{Bool, true, false, not, _&&_}
 use mathlib.Core.List.{List, [], _∷_, _++_, append-assoc, append-nil}
 use mathlib.Core.Logic.{_↔_}
-use Prim.Native.Nat.{ℕ, _+_, _<_, _%_, _^_}
+use Prim.Native.Nat.{ℕ, suc, _+_, _<_, _%_, _^_}
 use native.Mathlib.Omega.{arith}
 use native.Mathlib.Decide.{decLt}
 use lib.ListN.{length, getD, replicate, length-set}
@@ -15,7 +15,7 @@ use Rattle.word.specs.Result.{ok}
 use Rattle.word.specs.Num.{nextFrom}
 use Rattle.handle.specs.Handle.{indexOf, resolveBy}
 use Rattle.handle.proofs.ResolveLaws.{Resolves, resolve-ok, resolve-same}
-use Rattle.heap.specs.State.{Slot, State, slotAt, live, times}
+use Rattle.heap.specs.State.{Slot, State, slotAt, live, times, withSince, withLive}
 use Rattle.heap.specs.Calls.{resolve, released, filter, member, recycle}
 use Rattle.heap.specs.WellFormed.{sound, fits}
 use Rattle.heap.proofs.Sound.{Sound}
@@ -154,6 +154,24 @@ last-logged h xs x long =
     let e : ℕ = (d .epoch + 1) % 2 ^ 64 in
     let small : e % 16 < length (d .log) = omega (arith, drop-log h xs) in
     ap (λ (s : State). getD (s .log) (s .epoch % 16) 0) (drop-append h xs (x ∷ [])) ∙ getD-set-same (d .log) (e % 16) x 0 small
+
+-- ---- which marks are 0, for the slots that there are, decides all
+
+dropped-same : (m m′ : List ℕ) (i : ℕ) (ss : List Slot) → ((k : ℕ) → k < length ss → eqb (getD m (i + k) 0) 0 ≡ eqb (getD m′ (i + k) 0) 0) → dropped m i ss ≡ dropped m′ i ss
+unfolding dropped
+dropped-same m m′ i [] e = refl
+dropped-same m m′ i (s ∷ ss) e =
+    let first : i + 0 ≡ i = omega arith in
+    let here : eqb (getD m i 0) 0 ≡ eqb (getD m′ i 0) 0 = subst (λ (x : ℕ). eqb (getD m x 0) 0 ≡ eqb (getD m′ x 0) 0) first (e 0 (omega arith)) in
+    let rest : dropped m (suc i) ss ≡ dropped m′ (suc i) ss = dropped-same m m′ (suc i) ss (λ k less. subst (λ (x : ℕ). eqb (getD m x 0) 0 ≡ eqb (getD m′ x 0) 0) (omega arith) (e (suc k) (omega arith))) in
+    λ j. if (live s && here j) then (i ∷ rest j) else rest j
+
+pub swept-same : (h : State) (m m′ pins : List ℕ) → ((i : ℕ) → i < length (h .slots) → eqb (getD m i 0) 0 ≡ eqb (getD m′ i 0) 0) → swept h m pins ≡ swept h m′ pins
+unfolding swept dropUnmarked
+swept-same h m m′ pins e =
+    let same : dropped m 0 (h .slots) ≡ dropped m′ 0 (h .slots) =
+    dropped-same m m′ 0 (h .slots) (λ k less. subst (λ (x : ℕ). eqb (getD m x 0) 0 ≡ eqb (getD m′ x 0) 0) (omega arith) (e k less)) in
+    ap (λ (xs : List ℕ). recycle (withLive (withSince (dropSlots h xs) 0) (liveSize (dropSlots h xs .slots))) pins) same
 
 -- ---- an example: slot 0 is kept, 1 and 3 go (the generation of 3 wraps, and so does the epoch), 2 is in quarantine and not pinned, 4 is and is pinned
 
