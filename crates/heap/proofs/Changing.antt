@@ -1,20 +1,19 @@
--- One change of the columns, one change of the state: `l ≡ stored S P st` before and after.
-use mathlib.Core.Path.{_≡_, refl, sym, ap, _∙_, subst}
+-- One change of the columns, one change of the state: `l ≡ stored S P st` before and after. Assumes nothing.
+use mathlib.Core.Path.{_≡_, refl, sym, ap, _∙_}
 use mathlib.Core.List.{List, [], _∷_, _++_, append-assoc, append-nil, map, map-append}
 use Prim.Native.Nat.{ℕ, zero, suc, _+_, _-_, _≤_, _<_}
 use native.Mathlib.Omega.{arith}
-use lib.ListN.{length, getD, take, drop, set, replicate, length-append, length-set, length-map, length-replicate, replicate-append-replicate}
+use lib.ListN.{length, take, set, replicate, length-append, length-set, length-map}
 use lib.Seq.{length-take-le}
-use Rattle.heap.specs.declared.Heap.{Heap}
-use Rattle.heap.specs.Packing.{pad, flat, ends, tabulate, dataAt}
+use Rattle.heap.specs.Packing.{pad, flat, ends}
 use Rattle.heap.specs.Columns.{datas, Packed}
-use Rattle.heap.specs.State.{Slot, State, noSlot, dataOf, withSince, withSlots, withFree, withQuarantine}
-use Rattle.heap.proofs.Sound.{Sound, WellFormed}
-use Rattle.heap.specs.Lent.{Lent, lent, stored, view, headerOf, slotIn}
+use Rattle.heap.specs.State.{Slot, State, noSlot, dataOf, withSince, withFree, withQuarantine}
+use Rattle.heap.proofs.Sound.{Sound}
+use Rattle.heap.specs.Lent.{Lent, lent, stored, headerOf}
 use Rattle.heap.specs.Header.{setSince, setSlots, setFree, setQuarantine, setChanged}
 use Rattle.heap.specs.Calls.{withSlot, grown, butLast, changed}
-use Rattle.heap.proofs.Packing.{length-pad, getD-pad, take-pad, tabulate-list, data-at, datas-packed, flat-append, length-ends, length-tabulate}
-use Rattle.heap.proofs.Storing.{pad-set, pad-push, pad-pop, map-set, column-set}
+use Rattle.heap.proofs.Packing.{length-pad, datas-packed, flat-append, length-ends}
+use Rattle.heap.proofs.Storing.{pad-push, pad-pop, map-set, column-set}
 use Rattle.heap.proofs.Counting.{all-slots}
 
 -- ---- what is known of a heap that lies as a sound state does

@@ -1,7 +1,6 @@
 -- A sound heap stays sound: what a changed slot, list or number has to meet. Assumes nothing.
 use mathlib.Core.Path.{_≡_, refl, sym, ap, _∙_, subst}
-use mathlib.Core.Bool.{Bool, true}
-use mathlib.Core.List.{List, [], _∷_}
+use mathlib.Core.List.{List, []}
 use Prim.Native.Nat.{ℕ, suc, _+_, _≤_, _<_}
 use native.Mathlib.Omega.{arith}
 use native.Mathlib.Decide.{ℕ-discrete}
@@ -10,17 +9,16 @@ use lib.Seq.{getD-set-same, getD-set-other}
 use lib.Dec.{ltb}
 use borrow.Author.Tests.{eq-eqb, ne-eqb}
 use Rattle.word.specs.Num.{nextFrom}
-use Rattle.word.specs.Result.{Result}
 use Rattle.heap.specs.Packing.{flat}
 use Rattle.heap.specs.State.{Slot, State, noSlot, slotAt, dataOf, bit, times, withSince, withEpoch}
-use Rattle.heap.specs.Lent.{Lent, stored, view, slotCount, poolSize}
+use Rattle.heap.specs.Lent.{Lent, stored, slotCount, poolSize}
 use Rattle.heap.specs.WellFormed.{wellFormed}
-use Rattle.heap.specs.Calls.{Changed, withSlot, step, typeFor, allocated, released}
-use Rattle.heap.specs.Done.{Leaves, Does}
+use Rattle.heap.specs.Calls.{withSlot, step, allocated, released}
+use Rattle.heap.specs.Done.{Leaves}
 use Rattle.heap.proofs.Packing.{flat-set, flat-split}
 use Rattle.heap.proofs.Storing.{map-set, well-stored}
 use Rattle.heap.proofs.Seals.{seals-more}
-use Rattle.heap.proofs.Sound.{Sound, SlotSound, WellFormed, liveBit}
+use Rattle.heap.proofs.Sound.{Sound, SlotSound, liveBit}
 use Rattle.heap.proofs.Testing.{formed-test}
 
 -- a heap with the same seals and limits is sound where its slots and lists are

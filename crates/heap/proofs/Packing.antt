@@ -1,14 +1,13 @@
--- Data packed into a pool: where each lies, and what replacing one does.
+-- Data packed into a pool: where each lies, and what replacing one does. Assumes nothing.
 use mathlib.Core.Path.{_≡_, refl, sym, ap, _∙_}
-use mathlib.Core.List.{List, [], _∷_, _++_, append-assoc, append-nil, map}
-use Prim.Native.Nat.{ℕ, zero, suc, _+_, _-_, _≤_, _<_, max}
+use mathlib.Core.List.{List, [], _∷_, _++_, append-assoc, append-nil}
+use Prim.Native.Nat.{ℕ, zero, suc, _+_, _-_, _≤_, _<_}
 use native.Mathlib.Omega.{arith}
-use native.Mathlib.Nat.{zero-add, sub-zero, zero-sub, suc-sub-suc, le-of-suc-le-suc, not-suc-le-zero, add-assoc}
-use lib.ListN.{length, getD, take, drop, set, replicate, List·getD-append, length-append, length-take, length-drop, length-replicate, length-set, length-map, replicate-append-replicate, drop-of-length-le}
-use lib.Seq.{take-suc, split-at, set-split, take-at, drop-at, take-append-le, drop-append-le, take-length, length-take-le, drop-drop, take-all, ext-getD}
-use Rattle.word.specs.Put.{put}
+use native.Mathlib.Nat.{zero-add, sub-zero, zero-sub, suc-sub-suc, le-of-suc-le-suc, not-suc-le-zero}
+use lib.ListN.{length, getD, take, drop, set, replicate, List·getD-append, length-append, length-replicate}
+use lib.Seq.{take-suc, split-at, set-split, take-at, drop-at}
 use Rattle.heap.specs.Packing.{pad, flat, ends, tabulate, startOf, dataAt}
-use Rattle.heap.specs.Columns.{datas, Packed}
+use Rattle.heap.specs.Columns.{datas}
 
 -- ---- zeros after a list
 

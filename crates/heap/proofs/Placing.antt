@@ -1,18 +1,16 @@
--- An object placed in a slot: what `place` asks, and what it does to the state.
-use mathlib.Core.Path.{_≡_, refl, sym, ap, _∙_, subst}
-use mathlib.Core.List.{List, [], _∷_, _++_, map}
+-- An object placed in a slot: what `place` asks, and what it does to the state. Assumes nothing.
+use mathlib.Core.Path.{_≡_, sym, ap, _∙_}
+use mathlib.Core.List.{List, []}
 use Prim.Native.Nat.{ℕ, zero, suc, _+_, _-_, _≤_, _<_}
 use native.Mathlib.Omega.{arith}
 use lib.ListN.{length, getD, take, drop, set, length-append, length-map}
 use Rattle.heap.specs.Packing.{pad, flat, ends}
-use Rattle.heap.specs.Columns.{datas, CanSplice, Spliced}
-use Rattle.heap.specs.State.{Slot, State, noSlot, slotAt, dataOf}
-use Rattle.heap.proofs.Sound.{Sound}
-use Rattle.heap.specs.Lent.{Lent, lent, stored, headerOf}
+use Rattle.heap.specs.Columns.{datas}
+use Rattle.heap.specs.State.{Slot, State, dataOf}
+use Rattle.heap.specs.Lent.{Lent, lent, stored}
 use Rattle.heap.specs.Calls.{withSlot}
 use Rattle.heap.specs.Columns.{CanPlace, PlacedIn}
 use Rattle.heap.proofs.Packing.{length-pad, flat-set, flat-split, length-ends}
-use Rattle.heap.proofs.Storing.{column-at}
 use Rattle.heap.proofs.Changing.{Lying, lying, column-size, place-lies}
 
 module _ (S P : ℕ) (st : State) (l : Lent) (lies : l ≡ stored S P st) (fit : length (st .slots) ≤ S) (room : length (flat (dataOf (st .slots))) ≤ P) where

@@ -1,11 +1,11 @@
 -- What well formed means, fact by fact: a record for each test of `WellFormed`, and that the test passes exactly if its record holds.
 -- Assumes nothing.
-use mathlib.Core.Path.{_≡_, refl, sym, ap, _∙_, subst}
-use mathlib.Core.Bool.{Bool, true, false, _&&_, _||_}
-use mathlib.Core.List.{List, [], _∷_, _++_}
+use mathlib.Core.Path.{_≡_}
+use mathlib.Core.Bool.{true}
+use mathlib.Core.List.{[]}
 use Prim.Native.Nat.{ℕ, zero, suc, _+_, _%_, _≤_, _<_}
-use lib.ListN.{length, getD}
-use lib.Dec.{eqb, ltb, leb}
+use lib.ListN.{length}
+use lib.Dec.{ltb}
 use Rattle.heap.specs.Packing.{flat}
 use Rattle.heap.specs.State.{Slot, State, slotAt, dataOf, live, bit, times}
 use Rattle.heap.specs.Lent.{Lent, stored, view, slotCount, poolSize}

@@ -1,15 +1,15 @@
--- The data of one slot replaced in the packed pool: what the moves of bytes and of ends come to.
+-- The data of one slot replaced in the packed pool: what the moves of bytes and of ends come to. Assumes nothing.
 use mathlib.Core.Path.{_≡_, refl, sym, ap, _∙_}
-use mathlib.Core.List.{List, [], _∷_, _++_, append-assoc, append-nil, map, map-append}
-use Prim.Native.Nat.{ℕ, zero, suc, _+_, _-_, _≤_, _<_, max}
+use mathlib.Core.List.{List, [], _∷_, _++_, append-assoc, map, map-append}
+use Prim.Native.Nat.{ℕ, zero, suc, _+_, _-_, _≤_, _<_}
 use native.Mathlib.Omega.{arith}
 use native.Mathlib.Nat.{not-suc-le-zero, le-of-suc-le-suc}
-use lib.ListN.{length, getD, take, drop, set, replicate, length-append, length-take, length-drop, length-replicate, length-set, length-map, replicate-append-replicate, take-append-drop}
-use lib.Seq.{take-at, drop-at, take-append-add, drop-append-add, take-append-le, drop-append-le, take-length, length-take-le, drop-drop, take-all, take-take}
+use lib.ListN.{length, getD, take, drop, set, replicate, length-append, length-drop, length-replicate, length-set, length-map, replicate-append-replicate, take-append-drop}
+use lib.Seq.{take-at, drop-at, take-append-add, drop-append-add, take-append-le, drop-append-le, length-take-le, drop-drop, take-all, take-take}
 use Rattle.word.specs.Put.{put}
 use Rattle.heap.specs.Packing.{pad, flat, ends, startOf, dataAt}
-use Rattle.heap.specs.Columns.{datas, Packed, CanSplice, Spliced}
-use Rattle.heap.proofs.Packing.{flat-append, end-at, drop-replicate, length-pad, flat-split, flat-set, start-of, end-of, length-ends, length-tabulate}
+use Rattle.heap.specs.Columns.{datas, CanSplice, Spliced}
+use Rattle.heap.proofs.Packing.{flat-append, end-at, drop-replicate, flat-split, flat-set, start-of, end-of, length-ends, length-tabulate}
 
 -- ---- bytes
 

@@ -1,17 +1,16 @@
--- How a state lies in lent memory: one store of the code is one change of the state.
-use mathlib.Core.Path.{_≡_, refl, sym, ap, _∙_, subst}
-use mathlib.Core.List.{List, [], _∷_, _++_, append-assoc, append-nil, map, map-append}
+-- How a state lies in lent memory: one store of the code is one change of the state. Assumes nothing.
+use mathlib.Core.Path.{_≡_, refl, sym, ap, _∙_}
+use mathlib.Core.List.{List, [], _∷_, _++_, append-assoc, map, map-append}
 use Prim.Native.Nat.{ℕ, zero, suc, _+_, _-_, _≤_, _<_}
 use native.Mathlib.Omega.{arith}
-use native.Mathlib.Nat.{not-suc-le-zero, le-of-suc-le-suc}
 use native.Mathlib.Decide.{decLt}
-use lib.ListN.{length, getD, take, drop, set, replicate, length-append, length-set, length-map, length-replicate, List·getD-map, List·getD-eq-default, replicate-append-replicate}
-use lib.Seq.{set-append-left, set-at, take-at, take-suc, length-take-le, take-all, getD-append-seam, getD-append-add}
+use lib.ListN.{length, getD, take, set, replicate, length-append, length-set, length-map, List·getD-map, List·getD-eq-default}
+use lib.Seq.{set-append-left, set-at, take-suc, length-take-le, take-all, getD-append-add}
 use Rattle.heap.specs.Packing.{pad, flat, ends, tabulate, dataAt}
-use Rattle.heap.specs.State.{Slot, State, noSlot, dataOf, withSince, withSlots, withFree, withQuarantine}
+use Rattle.heap.specs.State.{Slot, State, noSlot, dataOf}
 use Rattle.heap.proofs.Sound.{Sound, WellFormed}
-use Rattle.heap.specs.Lent.{Lent, stored, view, headerOf, slotIn}
-use Rattle.heap.proofs.Packing.{length-pad, getD-pad, take-pad, tabulate-list, data-at, flat-append, length-ends}
+use Rattle.heap.specs.Lent.{stored, view, headerOf, slotIn}
+use Rattle.heap.proofs.Packing.{length-pad, getD-pad, take-pad, tabulate-list, data-at}
 
 -- ---- a list in S places
 

@@ -1,15 +1,15 @@
 -- The tests of `WellFormed` pass exactly if what they test holds. Assumes nothing.
-use mathlib.Core.Path.{_≡_, refl, sym, ap, ap₂, _∙_, subst}
-use mathlib.Core.Bool.{Bool, true, false, _&&_, _||_}
+use mathlib.Core.Path.{_≡_, refl, sym, ap, _∙_}
+use mathlib.Core.Bool.{Bool, true, _&&_, _||_}
 use mathlib.Core.List.{List, [], _∷_, _++_}
-use mathlib.Core.Logic.{_⊎_, inl, inr, ⊎-elim}
+use mathlib.Core.Logic.{_⊎_, ⊎-elim}
 use Prim.Native.Nat.{ℕ, zero, suc, _+_, _%_, _≤_, _<_}
 use native.Mathlib.Omega.{arith}
 use native.Mathlib.Decide.{decLt, ℕ-discrete}
 use lib.ListN.{length, getD, List·getD-eq-default}
 use lib.Dec.{eqb, ltb, leb}
-use borrow.Author.Tests.{lt-ltb, le-ltb, ltb-true, ltb-false, leb-true, le-leb, eqb-true, eq-eqb, ne-eqb}
-use Rattle.word.proofs.Bools.{and-both, both-and, or-cases, or-left, or-right, bool-ext}
+use borrow.Author.Tests.{lt-ltb, le-ltb, ltb-true, leb-true, le-leb, eqb-true, eq-eqb, ne-eqb}
+use Rattle.word.proofs.Bools.{and-both, both-and, or-cases, or-left, or-right}
 use Rattle.heap.specs.Packing.{flat}
 use Rattle.heap.specs.State.{Slot, State, noSlot, slotAt, dataOf, live, bit, times}
 use Rattle.heap.specs.Lent.{Lent, lent, stored, view, slotCount, poolSize}

@@ -1,6 +1,6 @@
 -- What each call of a heap but `collect` answers and leaves (01, "Heap"). What is refused before a call looks at the heap's content
 -- (18, 1, 8, 14) belongs to the front door. S is the number of lent slots, P of pool bytes.
-use mathlib.Core.Bool.{Bool, true, false, not, _&&_}
+use mathlib.Core.Bool.{Bool, not, _&&_}
 use mathlib.Core.List.{List, [], _∷_, _++_}
 use Prim.Native.Nat.{ℕ, suc, _+_, _*_, _-_, _%_, _^_, max}
 use lib.ListN.{length, getD, take, drop, set, replicate}
@@ -9,7 +9,7 @@ use Rattle.word.specs.Num.{nextFrom, saturating}
 use Rattle.word.specs.Put.{put}
 use Rattle.handle.specs.Handle.{packed, resolveBy}
 use Rattle.word.specs.Choice.{if_then_else_}
-use Rattle.word.specs.Result.{Result, ok, refused, _>>=_}
+use Rattle.word.specs.Result.{Result, ok, refused}
 use Rattle.heap.specs.State.{Slot, State, noSlot, slotAt, live, dataSize, bit, times, withSince, withReclaim, withEpoch, withSlots, withFree, withQuarantine, withSealed}
 
 -- an answer, and the heap after it

@@ -1,5 +1,5 @@
 -- When a heap is well formed (01, "Well formed" and "Added"): tests that other definitions branch on.
-use mathlib.Core.Bool.{Bool, true, false, not, _&&_, _||_}
+use mathlib.Core.Bool.{Bool, true, false, _&&_, _||_}
 use mathlib.Core.List.{List, [], _∷_, _++_}
 use Prim.Native.Nat.{ℕ, zero, suc, _+_, _%_}
 use lib.ListN.{length}

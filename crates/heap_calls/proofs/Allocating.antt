@@ -1,25 +1,25 @@
 -- `alloc` by its ways out, and that it keeps a heap sound. Assumes nothing.
 use mathlib.Core.Path.{_≡_, refl, sym, ap, _∙_, subst}
-use mathlib.Core.Bool.{Bool, true, false}
-use mathlib.Core.List.{List, [], _∷_, _++_, map, map-append}
-use Prim.Native.Nat.{ℕ, zero, suc, _+_, _-_, _≤_, _<_, _^_}
+use mathlib.Core.Bool.{true}
+use mathlib.Core.List.{List, [], _∷_, _++_, map-append}
+use Prim.Native.Nat.{ℕ, zero, suc, _+_, _-_, _≤_, _<_}
 use native.Mathlib.Omega.{arith}
 use native.Mathlib.Decide.{decLt, ℕ-discrete}
 use lib.ListN.{length, getD, take, set, length-append, length-map, length-set, List·getD-append, List·getD-eq-default}
 use lib.Seq.{take-all, take-suc, getD-at}
-use lib.Dec.{leb, ltb, eqb}
+use lib.Dec.{ltb, eqb}
 use borrow.Author.Tests.{le-leb, lt-leb, lt-ltb, le-ltb, eq-eqb, ne-eqb}
 use Rattle.word.specs.Num.{saturating}
-use Rattle.word.specs.Result.{Result, ok, refused}
+use Rattle.word.specs.Result.{Result, ok}
 use Rattle.handle.specs.Handle.{packed}
 use Rattle.heap.specs.declared.Heap.{Heap}
-use Rattle.heap.specs.Packing.{pad, flat, ends, startOf}
-use Rattle.heap.specs.State.{Slot, State, noSlot, slotAt, dataOf, bit, times, withSince, withFree}
+use Rattle.heap.specs.Packing.{flat, ends, startOf}
+use Rattle.heap.specs.State.{Slot, State, noSlot, slotAt, dataOf, bit, times, withFree}
 use Rattle.heap.specs.Lent.{Lent, lent, stored, view, headerOf, slotIn, slotCount, poolSize}
 use Rattle.heap.specs.WellFormed.{wellFormed}
-use Rattle.heap.specs.Header.{setSince, setSlots, setFree, setCharged}
+use Rattle.heap.specs.Header.{setSlots, setFree, setCharged}
 use Rattle.heap.specs.Calls.{Changed, refuse, allocFrom, charged, placed, grown, last, butLast, allocated, withSlot, step, typeFor}
-use Rattle.heap.specs.Columns.{CanPlace, PlacedIn}
+use Rattle.heap.specs.Columns.{PlacedIn}
 use Rattle.heap.specs.Done.{Leaves, Does}
 use Rattle.heap.proofs.Sound.{Sound, SlotSound, WellFormed, liveBit}
 use Rattle.heap.proofs.Packing.{start-of, getD-pad}
@@ -31,7 +31,6 @@ use Rattle.heap.proofs.Keeping.{sound-change, at-same, at-other, each-set, data
 use Rattle.heap.proofs.Testing.{formed-tested}
 use Rattle.heap_calls.specs.Answers.{toldAlloc}
 use Rattle.heap_calls.specs.Asks.{CanAlloc, CanFill, FilledIn}
-use Rattle.heap_calls.specs.declared.AllocAnswer.{AllocAnswer}
 use Rattle.heap_calls.specs.declared.AllocAnswer.the-variants.{Handle, Full, NoRoom}
 
 -- ---- a slot filled

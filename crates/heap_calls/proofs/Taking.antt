@@ -1,7 +1,7 @@
 -- `take` and `free` by their ways out, and that they keep a heap sound. Assumes nothing.
 use mathlib.Core.Path.{_≡_, refl, sym, ap, _∙_, subst}
-use mathlib.Core.Bool.{Bool, true, false, not, _&&_}
-use mathlib.Core.List.{List, [], _∷_, _++_, map}
+use mathlib.Core.Bool.{Bool, true, not, _&&_}
+use mathlib.Core.List.{List, [], _∷_, _++_}
 use Prim.Native.Nat.{ℕ, zero, suc, _+_, _-_, _≤_, _<_}
 use native.Mathlib.Omega.{arith}
 use native.Mathlib.Decide.{decLt, ℕ-discrete}
@@ -14,21 +14,21 @@ use Rattle.word.proofs.Bools.{true-false}
 use Rattle.handle.specs.Handle.{indexOf, resolveBy, told}
 use Rattle.handle.specs.Columns.{liveIn}
 use Rattle.handle.specs.declared.Resolved.{Resolved}
-use Rattle.handle.proofs.ResolveLaws.{Resolves, resolve-same, resolve-ok}
+use Rattle.handle.proofs.ResolveLaws.{resolve-same, resolve-ok}
 use Rattle.heap.specs.declared.Heap.{Heap}
 use Rattle.heap.specs.Packing.{flat, startOf, dataAt}
 use Rattle.heap.specs.State.{Slot, State, noSlot, slotAt, dataOf, live, bit, times, withQuarantine}
-use Rattle.heap.specs.Lent.{Lent, lent, stored, view, headerOf, slotCount, poolSize}
+use Rattle.heap.specs.Lent.{Lent, lent, stored, view, slotCount, poolSize}
 use Rattle.heap.specs.WellFormed.{wellFormed}
 use Rattle.heap.specs.Header.{setChanged, setQuarantine}
 use Rattle.heap.specs.Calls.{Changed, Object, onSlot, refuse, resolve, changed, release, released, withSlot, step, takeSlot, takeInto, free}
 use Rattle.heap.specs.Columns.{CanPlace, PlacedIn}
 use Rattle.heap.specs.Done.{Leaves, Does}
-use Rattle.heap.proofs.Sound.{Sound, SlotSound, WellFormed, liveBit}
+use Rattle.heap.proofs.Sound.{Sound, WellFormed, liveBit}
 use Rattle.heap.proofs.Packing.{data-at, start-of, end-of, flat-split}
 use Rattle.heap.proofs.Counting.{all-slots, inside, sum, sum-one}
 use Rattle.heap.proofs.Storing.{column-any}
-use Rattle.heap.proofs.Changing.{Known, known, log-lies, push-lies}
+use Rattle.heap.proofs.Changing.{Known, log-lies, push-lies}
 use Rattle.heap.proofs.Placing.{can-place, placed-lies}
 use Rattle.heap.proofs.Keeping.{sound-change, at-same, at-other, each-set, data-set, released-sound, leaves}
 use Rattle.heap_calls.specs.Answers.{toldTake, toldFree, extent, handedOut}

@@ -3,7 +3,7 @@ use mathlib.Core.List.{List}
 use Prim.Native.Nat.{ℕ}
 use lib.ListN.{length}
 use Rattle.word.specs.Put.{put}
-use Rattle.word.specs.Result.{Result, ok, refused, _>>=_}
+use Rattle.word.specs.Result.{Result, ok, refused}
 use Rattle.heap.specs.Calls.{Object}
 use Rattle.heap_calls.specs.declared.AllocAnswer.{AllocAnswer}
 use Rattle.heap_calls.specs.declared.AllocAnswer.the-variants.{Handle, Full, NoRoom}

@@ -6,7 +6,7 @@ use Prim.Native.Nat.{ℕ, _+_, _≤_, _<_, _^_}
 use lib.ListN.{length, getD}
 use lib.Dec.{ltb}
 use Rattle.word.specs.Choice.{if_then_else_}
-use Rattle.word.specs.Result.{Result, ok, _>>=_}
+use Rattle.word.specs.Result.{ok, _>>=_}
 use Rattle.handle.specs.Handle.{packed}
 use Rattle.heap.specs.State.{State, slotAt, live, dataSize, withFree}
 use Rattle.heap.specs.Lent.{Lent, view, slotCount, poolSize}
@@ -14,7 +14,7 @@ use Rattle.heap.specs.WellFormed.{wellFormed}
 use Rattle.heap.specs.Calls.{Changed, refuse, Object, step, typeFor, placed, grown, last, butLast, allocFrom, takeSlot, takeInto, free}
 use Rattle.heap.specs.Columns.{CanPlace, PlacedIn}
 use Rattle.heap.specs.Done.{Leaves, Does}
-use Rattle.heap_calls.specs.Answers.{Extent, extent, toldAlloc, toldTake, toldFree, handedOut}
+use Rattle.heap_calls.specs.Answers.{extent, toldAlloc, toldTake, toldFree, handedOut}
 use Rattle.heap_calls.specs.declared.AllocAnswer.{AllocAnswer}
 use Rattle.heap_calls.specs.declared.TakeAnswer.{TakeAnswer}
 use Rattle.heap_calls.specs.declared.FreeAnswer.{FreeAnswer}

@@ -1,6 +1,6 @@
 -- A test that is true exactly if all that is checked holds is the test of well-formedness. Assumes nothing.
 use mathlib.Core.Path.{_≡_}
-use mathlib.Core.Bool.{Bool, true}
+use mathlib.Core.Bool.{Bool}
 use Rattle.word.proofs.Bools.{bool-ext}
 use Rattle.heap.specs.Lent.{Lent}
 use Rattle.heap.specs.WellFormed.{wellFormed}

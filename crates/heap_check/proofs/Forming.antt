@@ -1,23 +1,21 @@
--- What the check looks at is what well formed means.
+-- What the check looks at is what well formed means. Assumes nothing.
 use mathlib.Core.Path.{_≡_, refl, sym, ap, _∙_, subst}
-use mathlib.Core.Bool.{Bool, true, false}
 use mathlib.Core.List.{List, [], _∷_, _++_, map}
 use Prim.Native.Nat.{ℕ, zero, suc, _+_, _-_, _≤_, _<_}
 use native.Mathlib.Omega.{arith}
 use native.Mathlib.Nat.{zero-add}
 use native.Mathlib.Decide.{decLt}
-use lib.ListN.{length, getD, take, drop, set, length-map, length-drop, List·getD-eq-default, List·getD-map, length-append}
-use lib.Seq.{ext-getD, getD-take, length-take-le, take-add, take-all, take-length}
+use lib.ListN.{length, getD, take, drop, length-map, List·getD-eq-default, List·getD-map}
+use lib.Seq.{ext-getD, getD-take, length-take-le, take-add, take-all}
 use lib.Dec.{ltb}
 use Rattle.heap.specs.declared.Heap.{Heap}
 use Rattle.heap.specs.Packing.{pad, flat, ends, tabulate, startOf, dataAt}
 use Rattle.heap.specs.Columns.{datas}
-use Rattle.heap.specs.State.{Slot, State, noSlot, slotAt, dataOf, bit, times}
+use Rattle.heap.specs.State.{Slot, noSlot, slotAt, dataOf, bit, times}
 use Rattle.heap.proofs.Sound.{Sound, SlotSound, WellFormed}
 use Rattle.heap.specs.Lent.{Lent, lent, stored, view, headerOf, slotIn, slotCount, poolSize}
-use Rattle.heap.specs.WellFormed.{soundSeals}
 use Rattle.heap_check.specs.Checks.{Zeros, Checked, SlotOk}
-use Rattle.heap.proofs.Packing.{length-pad, getD-pad, flat-suc, flat-split, length-ends, getD-ends, length-tabulate, start-of, end-of, end-at}
+use Rattle.heap.proofs.Packing.{length-pad, getD-pad, flat-suc, length-ends, getD-ends, length-tabulate, start-of, end-of}
 use Rattle.heap.proofs.Storing.{getD-pad-past, column-any}
 use Rattle.heap.proofs.Changing.{Known, known}
 use Rattle.heap.proofs.Seals.{seals-few}

@@ -1,16 +1,16 @@
--- The loops of the check.
+-- The loops of the check. Assumes nothing.
 use mathlib.Core.Path.{_≡_, refl, sym, ap, _∙_, subst}
 use mathlib.Core.Bool.{Bool, true, false}
-use mathlib.Core.List.{List, [], _∷_, _++_, append-nil}
+use mathlib.Core.List.{List, [], _∷_}
 use Prim.Native.Nat.{ℕ, zero, suc, _+_, _-_, _≤_, _<_}
 use native.Mathlib.Omega.{arith}
 use native.Mathlib.Decide.{decLt, ℕ-discrete}
 use native.Mathlib.Numerals.{add-one}
-use lib.ListN.{length, getD, set, take, drop, replicate, length-replicate, drop-of-length-le, length-set, take-append-drop, List·getD-eq-default}
+use lib.ListN.{length, getD, set, take, drop, replicate, length-set, take-append-drop}
 use lib.Seq.{take-all, take-suc, getD-drop, getD-set-same, getD-set-other}
 use lib.Dec.{eqb, ltb}
 use borrow.Author.Tests.{eq-eqb, ne-eqb, lt-ltb, le-ltb}
-use Rattle.heap.proofs.Counting.{times-append, times-member}
+use Rattle.heap.proofs.Counting.{times-append}
 use Rattle.word.proofs.Bools.{both-and}
 use Rattle.memory.specs.Zero.{allZero}
 use Rattle.memory.proofs.Zeros.{zero-from-at}

@@ -1,20 +1,19 @@
 -- The cases of a layout, one law for each way out of the code. Assumes nothing.
-use mathlib.Core.Path.{_≡_, refl, sym, ap, subst, _∙_}
+use mathlib.Core.Path.{_≡_, refl, sym, ap, _∙_}
 use mathlib.Core.List.{List, [], _∷_}
 use mathlib.Core.Bool.{Bool, true, false}
-use Prim.Native.Nat.{ℕ, zero, suc, _+_, _-_, _*_, _/_, _^_, _≤_, _<_, max}
+use Prim.Native.Nat.{ℕ, suc, _+_, _-_, _*_, _/_, _^_, _≤_, _<_, max}
 use native.Mathlib.Omega.{arith}
 use lib.ListN.{length, take, drop, getD, length-drop}
-use lib.Dec.{ltb, leb, eqb}
+use lib.Dec.{eqb}
 use types.Run.{OneOf, miss}
 use denote.Enum.Declared.{tagOf}
-use borrow.Author.Tests.{eq-eqb, ne-eqb, leb-true}
-use Rattle.ty.specs.Types.{Ty, Field, Field.field, Const, Const.plain, Const.other, Table, typeAt, constAt, none}
+use borrow.Author.Tests.{eq-eqb, ne-eqb}
+use Rattle.ty.specs.Types.{Const, Const.plain, Const.other, Table, constAt, none}
 use Rattle.word.specs.Choice.{if_then_else_}
-use Rattle.ty.specs.Words.{wordOf, onWord}
-use Rattle.layout.specs.Layout.{dimsOf, onDims, onLaid, onBytes, under, usedBy, arrayLaid, arrayOf, endOf, placed, recordOf, scalarLaid, sizeOr, layoutBy, layoutAt}
+use Rattle.layout.specs.Layout.{dimsOf, onLaid, onBytes, under, usedBy, arrayLaid, arrayOf, endOf, placed, recordOf, scalarLaid, sizeOr, layoutBy, layoutAt}
 use Rattle.ty.specs.Scalars.{scalarSize, elemSize, logicLeaf}
-use Rattle.ty.specs.View.{readTy, entryOf, entryAt, fieldsFrom, partAt, readPart, typesOf, constsOf, tableOf, bare}
+use Rattle.ty.specs.View.{readTy, entryAt, fieldsFrom, partAt, readPart, typesOf, constsOf, tableOf, bare}
 use Rattle.layout.specs.declared.Lay.{Lay}
 use Rattle.layout.specs.declared.Lay.the-variants.{Laid, Malformed, TooLarge}
 use Rattle.layout.specs.declared.Dims.{Dims}

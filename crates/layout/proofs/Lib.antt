@@ -3,3 +3,6 @@ pub mod DimLaws
 pub mod Within
 pub mod LayLaws
 pub mod OffsetLaws
+pub mod Levels
+pub mod Complete
+pub mod Cases

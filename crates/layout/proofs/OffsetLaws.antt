@@ -1,7 +1,7 @@
 -- Laws of a record's offsets: a turn over the fields, and what the call for a layout answers. Assumes nothing.
 use mathlib.Core.Path.{_≡_, refl, sym, ap, _∙_}
 use mathlib.Core.List.{List, [], _∷_}
-use Prim.Native.Nat.{ℕ, zero, suc, _+_, _-_, _*_, _/_, _≤_, _<_, max}
+use Prim.Native.Nat.{ℕ, zero, suc, _+_, _-_, _*_, _/_, _≤_, _<_}
 use native.Mathlib.Nat.{zero-add}
 use native.Mathlib.Omega.{arith}
 use lib.ListN.{length, take, drop, getD, set}
@@ -9,9 +9,9 @@ use types.Run.{OneOf, miss}
 use denote.Enum.Declared.{tagOf}
 use borrow.Author.Tests.{lt-leb, le-leb}
 use Rattle.word.specs.Put.{put}
-use Rattle.word.specs.Result.{Result, ok, refused}
+use Rattle.word.specs.Result.{refused}
 use Rattle.word.proofs.PutLaws.{put-none, Filling, fill-start, fill-next, fill-stop, fill-length}
-use Rattle.ty.specs.Types.{Ty, Field, Field.field, Table, typeAt}
+use Rattle.ty.specs.Types.{Field, Field.field, Table, typeAt}
 use Rattle.ty.specs.Words.{wordOf, onWord, roundUp}
 use Rattle.ty.specs.View.{fieldsFrom, readTy, entryAt, typesOf, tableOf}
 use Rattle.ty.specs.declared.Word.{Word}
@@ -25,7 +25,6 @@ use Rattle.layout.specs.Layout.{under, usedBy, layoutAt, layoutOf}
 use Rattle.layout.specs.Offsets.{ifLaid, offsetsFrom, offsetsOf, fieldsOf, told, layoutCall}
 use Rattle.layout.specs.declared.Lay.{Lay}
 use Rattle.layout.specs.declared.Lay.the-variants.{Laid, Malformed, TooLarge}
-use Rattle.layout.specs.declared.Answer.{Answer}
 use Rattle.layout.specs.declared.Answer.the-variants.{Layout}
 use Rattle.layout.proofs.Lay.{the-type as lay-type}
 use Rattle.layout.proofs.LayLaws.{rest}

@@ -19,7 +19,7 @@ ifLaid (Laid s a st n u) f = f s a u
 ifLaid Malformed f = []
 ifLaid TooLarge f = []
 
--- the offsets of the fields, up to the first that cannot be placed, of which a record that has a layout has none (OffsetLaws)
+-- the offsets of the fields, up to the first that cannot be placed, of which a record that has a layout has none (proofs/Complete.antt)
 unfoldable pub offsetsFrom : Table → (ℕ → List ℕ → Lay) → List Field → List ℕ → ℕ → ℕ → List ℕ
 offsetsFrom T next [] d off used = []
 offsetsFrom T next (field t c ∷ fs) d off used =

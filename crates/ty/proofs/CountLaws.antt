@@ -2,8 +2,8 @@
 -- Assumes nothing.
 use mathlib.Core.Path.{_≡_, refl, sym, ap, subst, _∙_}
 use mathlib.Core.List.{List, [], _∷_}
-use mathlib.Core.Bool.{Bool, true, false, _&&_}
-use mathlib.Core.Logic.{_⊎_, inl, inr, ⊎-elim}
+use mathlib.Core.Bool.{Bool, _&&_}
+use mathlib.Core.Logic.{⊎-elim}
 use Prim.Native.Nat.{ℕ, zero, suc, _+_, _-_, _*_, _/_, _≤_, _<_, min}
 use native.Mathlib.Nat.{min-eq-left, min-eq-right, min-le-right, le-of-lt}
 use native.Mathlib.Omega.{arith}
@@ -12,7 +12,7 @@ use lib.ListN.{length, getD, set, replicate, List·getD-eq-default}
 use lib.Seq.{ext-getD}
 use types.Run.{OneOf, miss}
 use denote.Enum.Declared.{tagOf}
-use borrow.Author.Tests.{le-leb, lt-leb}
+use borrow.Author.Tests.{lt-leb}
 use Rattle.word.proofs.InPlace.{Mapped, mapped-none, mapped-more}
 use Rattle.ty.specs.Types.{Ty, Ty.missing, Ty.int, Ty.physical, Ty.enum, Ty.real, Ty.array, Ty.fields, Ty.access, Ty.file, Ty.protected, Field, Field.field, typeAt}
 use Rattle.ty.specs.Walks.{unfoldFields, unfoldBy, unfoldAt}
@@ -100,7 +100,7 @@ module _ (f g : ℕ → ℕ) (h : (t : ℕ) → g t ≡ min (f t) 65537) where
   by-cap protected = refl
 
 -- a type past the table is missing, and counts 1 at every level
-past-one : (ts : List Ty) (m t : ℕ) → length ts ≤ t → unfoldAt ts (suc m) t ≡ 1
+pub past-one : (ts : List Ty) (m t : ℕ) → length ts ≤ t → unfoldAt ts (suc m) t ≡ 1
 unfolding unfoldAt unfoldBy
 past-one ts m t h = ap (λ (y : Ty). suc (unfoldBy (unfoldAt ts m) y)) (List·getD-eq-default ts missing h)
 

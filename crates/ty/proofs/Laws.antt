@@ -1,10 +1,10 @@
 -- Laws of the crate's definitions, over plain numbers. Assumes nothing.
 use mathlib.Core.Path.{_≡_, refl, sym, ap, _∙_}
 use mathlib.Core.Bool.{Bool, true, false}
-use Prim.Native.Nat.{ℕ, zero, suc, _+_, _-_, _*_, _/_, _%_, _^_, _≤_, _<_, max}
+use Prim.Native.Nat.{ℕ, _+_, _-_, _*_, _^_, _≤_, _<_, max}
 use native.Mathlib.Omega.{arith}
-use lib.Dec.{ltb, leb, eqb, lit<}
-use borrow.Author.Tests.{lt-ltb, le-ltb, le-leb, lt-leb, eq-eqb, ne-eqb}
+use lib.Dec.{ltb}
+use borrow.Author.Tests.{lt-ltb, le-ltb, le-leb, lt-leb}
 use Rattle.word.specs.Choice.{if_then_else_}
 use Rattle.word.specs.Num.{productAt, alignUp, alignedAt}
 use Rattle.word.specs.declared.Product.{Product}
@@ -13,9 +13,7 @@ use Rattle.word.specs.declared.Aligned.{Aligned}
 use Rattle.word.specs.declared.Aligned.the-variants.{To, TooLarge as TooFar}
 use Rattle.ty.specs.Words.{wordOf, rank}
 use Rattle.ty.specs.View.{entryOf}
-use Rattle.ty.specs.declared.Entry.{Entry}
 use Rattle.ty.specs.declared.Entry.the-variants.{Missing, Record}
-use Rattle.ty.specs.declared.Word.{Word}
 use Rattle.ty.specs.declared.Word.the-variants.{Is, Over}
 
 pub word-is : (n : ℕ) → n < 2 ^ 64 → wordOf n ≡ Is n
@@ -84,6 +82,10 @@ within a n m h k = omega arith
 
 pub past : (a n m : ℕ) → m < a → m < a + n
 past a n m h = omega arith
+
+-- the word 2^64 - m is the number -m: its rank is that number moved up by 2^63, as `rank-low` says of the others
+pub rank-negative : (m : ℕ) → 0 < m → m ≤ 2 ^ 63 → rank (2 ^ 64 - m) ≡ 2 ^ 63 - m
+rank-negative m p h = sym (rank-high (2 ^ 64 - m) (omega arith)) ∙ omega arith
 
 -- one step of a chain of equations, for a search
 pub on : {A : Type 0} (a b c : A) → a ≡ b → b ≡ c → a ≡ c

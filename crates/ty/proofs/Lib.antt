@@ -5,3 +5,4 @@ pub mod Ranges
 pub mod WalkLaws
 pub mod CheckLaws
 pub mod CountLaws
+pub mod Sizes

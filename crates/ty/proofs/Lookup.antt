@@ -1,18 +1,16 @@
 -- Laws of looking a type or a constant up in the table, and of the cases of an entry. Assumes nothing.
-use mathlib.Core.Path.{_≡_, refl, sym, ap, subst, _∙_}
+use mathlib.Core.Path.{_≡_, refl, sym, ap, _∙_}
 use mathlib.Core.List.{List, [], _∷_}
 use mathlib.Core.Logic.{_⊎_, inl, inr, ⊎-elim}
-use Prim.Native.Nat.{ℕ, zero, suc, _+_, _-_, _*_, _/_, _%_, _^_, _≤_, _<_, max}
+use Prim.Native.Nat.{ℕ, zero, suc, _+_, _-_, _/_, _≤_, _<_}
 use native.Mathlib.Nat.{lt-of-not-le}
 use native.Mathlib.Decide.{decLe}
-use native.Mathlib.Numerals.{add-one}
 use native.Mathlib.Omega.{arith}
 use lib.ListN.{length, getD, List·getD-eq-default}
-use lib.Dec.{ltb, leb, eqb}
 use types.Run.{OneOf, miss}
 use denote.Enum.Declared.{tagOf}
-use borrow.Author.Tests.{lt-ltb, le-ltb}
-use Rattle.ty.specs.Types.{Ty, Ty.missing, Const, Const.plain, Const.other, typeAt, constAt}
+use borrow.Author.Tests.{le-ltb}
+use Rattle.ty.specs.Types.{Ty, Ty.missing, Const.other, typeAt, constAt}
 use Rattle.ty.specs.Scalars.{scalarSize, elemSize, logicLeaf, leafBy}
 use Rattle.ty.specs.View.{listed, readTy, entryAt, typesOf, readPart, partAt, constsOf, bare}
 use Rattle.ty.specs.declared.Entry.{Entry}

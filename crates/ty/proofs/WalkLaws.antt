@@ -1,17 +1,15 @@
 -- Laws of the walks down a type: descriptor size and "has handles", one law for each way out of the code. Assumes nothing.
-use mathlib.Core.Path.{_≡_, refl, sym, ap, subst, _∙_}
+use mathlib.Core.Path.{_≡_, refl, sym, ap, _∙_}
 use mathlib.Core.List.{List, [], _∷_}
 use mathlib.Core.Bool.{Bool, true, false}
-use Prim.Native.Nat.{ℕ, zero, suc, _+_, _-_, _*_, _/_, _^_, _≤_, _<_}
+use Prim.Native.Nat.{ℕ, suc, _+_, _-_, _*_, _/_, _≤_, _<_}
 use native.Mathlib.Omega.{arith}
 use lib.ListN.{length, getD}
-use lib.Dec.{ltb, leb, eqb}
 use types.Run.{OneOf, miss}
 use denote.Enum.Declared.{tagOf}
 use borrow.Author.Tests.{eq-eqb, ne-eqb}
-use Rattle.ty.specs.Types.{Ty, Field, Field.field, typeAt, none}
-use Rattle.word.specs.Choice.{if_then_else_}
-use Rattle.ty.specs.Words.{wordOf, onWord}
+use Rattle.ty.specs.Types.{Ty, Field.field, typeAt, none}
+use Rattle.ty.specs.Words.{wordOf}
 use Rattle.ty.specs.Walks.{descArray, descFields, descBy, descAt, anyField, handlesBy, handlesAt}
 use Rattle.ty.specs.View.{readTy, entryAt, fieldsFrom, typesOf}
 use Rattle.ty.specs.declared.Word.{Word}

@@ -1,8 +1,8 @@
 -- Which type tables are taken (01, "Type table"; otherwise 10).
-use Prim.Native.Nat.{ℕ, zero, suc, _+_, _-_, _*_, _/_, _%_}
+use Prim.Native.Nat.{ℕ, zero, suc, _+_, _*_, _/_, _%_}
 use mathlib.Core.List.{List, [], _∷_}
 use mathlib.Core.Bool.{Bool, true, _&&_}
-use lib.Dec.{ltb, leb, eqb}
+use lib.Dec.{leb, eqb}
 use lib.ListN.{length, getD}
 use Rattle.ty.specs.Types.{Ty}
 use Rattle.word.specs.Choice.{if_then_else_}

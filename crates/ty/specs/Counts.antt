@@ -8,7 +8,7 @@ use lib.Dec.{leb}
 use lib.ListN.{length, getD, replicate}
 use Rattle.ty.specs.Types.{Ty, typeAt}
 use Rattle.ty.specs.Walks.{unfoldFields, unfoldBy, unfoldAt}
-use Rattle.ty.specs.View.{listed, fieldsFrom, typesOf}
+use Rattle.ty.specs.View.{listed, fieldsFrom}
 
 -- a type past the counts is missing, and counts 1
 unfoldable pub countIn : List ℕ → ℕ → ℕ

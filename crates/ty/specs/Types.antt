@@ -1,6 +1,6 @@
 -- The type table as plain data (01, "Type table").
-use Prim.Native.Nat.{ℕ, zero, suc}
-use mathlib.Core.List.{List, [], _∷_}
+use Prim.Native.Nat.{ℕ}
+use mathlib.Core.List.{List}
 use lib.ListN.{getD}
 
 -- a field of a record: its type, and its static descriptor's constant

@@ -17,7 +17,7 @@ onWord z (Is n) f = f n
 
 -- The rank of a 64-bit word read as a signed number in two's complement: that number moved up by 2^63. A word x below 2^63 is the number x and has the
 -- rank 2^63 + x, the word 2^64 - m is the number -m and has the rank 2^63 - m; so ranks have the order of the signed numbers, and the differences of
--- ranks are theirs (RankLaws).
+-- ranks are theirs (proofs/Laws.antt: rank-low, rank-negative).
 unfoldable pub rank : ℕ → ℕ
 rank x = if ltb x (2 ^ 63) then (x + 2 ^ 63) else (x - 2 ^ 63)
 

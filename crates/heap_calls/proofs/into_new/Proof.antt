@@ -1,5 +1,5 @@
 -- `heap_calls::into_new` meets its contract: the new slot starts empty where the data ends, and is filled. Assumes nothing.
-use mathlib.Core.Path.{_≡_, _∙_}
+use mathlib.Core.Path.{_∙_}
 use native.Mathlib.Omega.{arith}
 use lib.ListN.{length-set}
 use denote.Ref.{now}

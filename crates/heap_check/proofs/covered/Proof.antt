@@ -1,6 +1,5 @@
 -- `heap_check::covered` meets its contract. The invariant: the slots passed are live or marked. Assumes nothing.
 use Prim.Native.Nat.{_-_, _≤_}
-use native.Mathlib.Omega.{arith}
 use mathlib.Core.Logic.{⊎-elim}
 use Rattle.heap_check.proofs.Looking.{says-no, says-yes, Covering, covering-first, covering-live, covering-marked, covering-not, covering-end}
 use borrow.Author.Needs.{needs}

@@ -1,6 +1,5 @@
 -- `layout::dim_len` meets its contract. Assumes nothing.
 use borrow.Author.Needs.{needs}
-use mathlib.Core.Path.{_≡_, refl}
 use borrow.Author.Tests.{eq-eqb, ne-eqb}
 use Rattle.layout.specs.Layout.{dimLen}
 use Rattle.layout.proofs.dim_len.Statement.{statement}

@@ -1,6 +1,6 @@
 -- `layout::place` meets its contract. Assumes nothing.
 use borrow.Author.Needs.{needs}
-use mathlib.Core.Path.{_≡_, refl, _∙_}
+use mathlib.Core.Path.{refl}
 use Rattle.layout.specs.Layout.{placed}
 use Rattle.layout.proofs.place.Statement.{statement}
 use Rattle.layout.proofs.place.Tie as tie

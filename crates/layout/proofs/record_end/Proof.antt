@@ -1,7 +1,6 @@
 -- `layout::record_end` meets its contract. Assumes nothing.
 use borrow.Author.Needs.{needs}
-use mathlib.Core.Path.{_≡_, refl, sym, ap, _∙_}
-use Prim.Native.Nat.{ℕ}
+use mathlib.Core.Path.{refl}
 use Rattle.layout.specs.Layout.{endOf}
 use Rattle.layout.proofs.record_end.Statement.{statement}
 use Rattle.layout.proofs.record_end.Tie as tie

@@ -1,6 +1,6 @@
 -- `layout::scalar_laid` meets its contract. Assumes nothing.
 use borrow.Author.Needs.{needs}
-use mathlib.Core.Path.{_≡_, refl}
+use mathlib.Core.Path.{refl}
 use Rattle.layout.proofs.scalar_laid.Statement.{statement}
 use Rattle.layout.proofs.scalar_laid.Tie as tie
 

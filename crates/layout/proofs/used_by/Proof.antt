@@ -1,5 +1,4 @@
 -- `layout::used_by` meets its contract. Assumes nothing.
-use borrow.Author.Needs.{needs}
 use borrow.Author.Tests.{eq-eqb, ne-eqb}
 use Rattle.layout.proofs.used_by.Statement.{statement}
 use Rattle.layout.proofs.used_by.Tie as tie

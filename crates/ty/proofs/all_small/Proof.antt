@@ -1,5 +1,4 @@
 -- `ty::all_small` meets its contract. Assumes nothing.
-use borrow.Author.Needs.{needs}
 use Prim.Native.Nat.{_≤_, _-_}
 use mathlib.Core.Path.{_≡_}
 use mathlib.Core.Bool.{true}

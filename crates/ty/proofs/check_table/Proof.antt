@@ -1,7 +1,6 @@
 -- `ty::check_table` meets its contract. Assumes nothing.
 use borrow.Author.Needs.{needs}
-use mathlib.Core.Path.{_≡_, refl, ap, _∙_, sym}
-use mathlib.Core.Bool.{Bool, true, false}
+use mathlib.Core.Path.{refl}
 use borrow.Author.Tests.{lt-leb, le-leb, eq-eqb, ne-eqb, not-true, not-false}
 use Rattle.ty.specs.Check.{tableGood, allOf}
 use Rattle.ty.proofs.CheckLaws.{and-true}

@@ -1,5 +1,4 @@
 -- `ty::count_types` meets its contract. Assumes nothing.
-use borrow.Author.Needs.{needs}
 use Prim.Native.Nat.{_≤_, _-_}
 use native.Mathlib.Omega.{arith}
 use Rattle.word.proofs.InPlace.{Mapped, mapped-none, mapped-more}

@@ -1,9 +1,8 @@
 -- `ty::elem_size` meets its contract. Assumes nothing.
 use borrow.Author.Needs.{needs}
-use mathlib.Core.Path.{_≡_, refl, ap, _∙_, sym}
-use Prim.Native.Nat.{ℕ}
+use mathlib.Core.Path.{refl, _∙_}
 use borrow.Author.Tests.{lt-leb, le-leb, lt-ltb, le-ltb}
-use Rattle.ty.specs.Scalars.{elemSize, scalarSize, narrow}
+use Rattle.ty.specs.Scalars.{elemSize, narrow}
 use Rattle.ty.specs.View.{readTy}
 use Rattle.ty.proofs.Lookup.{not-int}
 use Rattle.ty.proofs.elem_size.Statement.{statement}

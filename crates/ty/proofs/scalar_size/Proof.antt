@@ -2,8 +2,8 @@
 use borrow.Author.Needs.{needs}
 use borrow.Author.Tests.{le-leb, lt-leb}
 use Rattle.ty.specs.Scalars.{scalarSize}
-use mathlib.Core.Path.{_≡_, refl, sym, ap, _∙_}
-use Rattle.ty.specs.View.{readTy, bare}
+use mathlib.Core.Path.{refl}
+use Rattle.ty.specs.View.{readTy}
 use Rattle.ty.proofs.scalar_size.Statement.{statement}
 use Rattle.ty.proofs.scalar_size.Tie as tie
 

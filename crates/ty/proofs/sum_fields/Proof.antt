@@ -2,7 +2,6 @@
 use borrow.Author.Needs.{needs}
 use Prim.Native.Nat.{_-_, _*_}
 use native.Mathlib.Omega.{arith}
-use lib.ListN.{length}
 use Rattle.ty.proofs.CountLaws.{Summing, summing-start, summing-next, summing-end, count-small}
 use Rattle.ty.proofs.sum_fields.Statement.{statement}
 use Rattle.ty.proofs.sum_fields.Tie as tie

@@ -1,9 +1,7 @@
 -- `ty::unfold_levels` meets its contract. Assumes nothing.
-use borrow.Author.Needs.{needs}
 use Prim.Native.Nat.{_-_, _*_, _+_}
 use mathlib.Core.Path.{_∙_, sym}
 use native.Mathlib.Omega.{arith}
-use lib.ListN.{length}
 use Rattle.ty.proofs.CountLaws.{Unfolding, first-level, next-level, capped-counts, length-counts, unfolding-end}
 use Rattle.ty.proofs.unfold_levels.Statement.{statement}
 use Rattle.ty.proofs.unfold_levels.Tie as tie

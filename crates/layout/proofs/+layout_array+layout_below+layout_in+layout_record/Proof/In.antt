@@ -4,7 +4,6 @@ use native.Mathlib.Omega.{arith}
 use Prim.Native.Nat.{ℕ}
 use Rattle.layout.proofs.LayLaws.{in-array, in-record, in-scalar}
 use Rattle.ty.proofs.Ranges.{record-within}
-use mathlib.Core.Path.{_≡_, refl, sym, _∙_}
 use Rattle.layout.proofs.layout_in.Reads as reads
 use Rattle.layout.proofs.+layout_array+layout_below+layout_in+layout_record.Lts-layout_in as lts
 use Rattle.layout.proofs.+layout_array+layout_below+layout_in+layout_record.Proof.Claims.{layout-in-at as at, layout-in-claims as claims}

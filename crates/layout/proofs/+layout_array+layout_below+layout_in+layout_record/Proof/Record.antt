@@ -3,7 +3,7 @@ use borrow.Author.Needs.{needs}
 use native.Mathlib.Omega.{arith}
 use Prim.Native.Nat.{ℕ, _+_, _-_, _*_, _≤_}
 use Rattle.layout.proofs.LayLaws.{record-last, record-none, record-over, record-more, record-first, rest-used, rest-word}
-use mathlib.Core.Path.{_≡_, refl, sym, ap, _∙_}
+use mathlib.Core.Path.{_≡_}
 use lib.ListN.{length}
 use Rattle.layout.specs.Layout.{recordOf, layoutAt}
 use Rattle.ty.specs.View.{tableOf, fieldsFrom}

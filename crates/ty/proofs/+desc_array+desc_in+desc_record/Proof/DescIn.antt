@@ -1,8 +1,7 @@
 -- What `ty::desc_in` leaves, at the measure t. Assumes nothing.
 use borrow.Author.Needs.{needs}
 use native.Mathlib.Omega.{arith}
-use Prim.Native.Nat.{ℕ, _+_, _-_, _*_, _≤_}
-use mathlib.Core.Path.{_≡_, refl, sym, ap, _∙_}
+use Prim.Native.Nat.{ℕ}
 use Rattle.ty.proofs.WalkLaws.{desc-none, desc-missing, desc-of-array, desc-of-record, desc-other}
 use Rattle.ty.proofs.Ranges.{record-within}
 use Rattle.ty.proofs.desc_in.Reads as reads

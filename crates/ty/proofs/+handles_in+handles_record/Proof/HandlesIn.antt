@@ -1,8 +1,7 @@
 -- What `ty::handles_in` leaves, at the measure t. Assumes nothing.
 use borrow.Author.Needs.{needs}
 use native.Mathlib.Omega.{arith}
-use Prim.Native.Nat.{ℕ, _+_, _-_, _*_, _≤_}
-use mathlib.Core.Path.{_≡_, refl, sym, ap, _∙_}
+use Prim.Native.Nat.{ℕ}
 use Rattle.ty.proofs.WalkLaws.{handles-none, handles-missing, handles-access, handles-protected, handles-of-array, handles-of-record, handles-other}
 use Rattle.ty.proofs.Ranges.{record-within}
 use Rattle.ty.proofs.handles_in.Reads as reads

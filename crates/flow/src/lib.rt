@@ -1,0 +1,1 @@
+// Functions, walks and the dataflow over them: definitions (specs/) and laws (proofs/). No code stands here.

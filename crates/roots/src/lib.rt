@@ -1,0 +1,28 @@
+// The live map: which registers are live at a function's safepoints. Inner functions: the front door tests what they require.
+pub mod at;
+pub mod check;
+pub mod fixpoint;
+pub mod row;
+
+// Which registers are asked for, by their class.
+pub enum Tracked {
+    // Classes 2 and 4.
+    References,
+    // Class 4.
+    Handles,
+    All,
+}
+
+// What `live_at` answers.
+pub enum LiveAt {
+    // So many registers are listed.
+    Registers(usize),
+    // 18
+    Scratch,
+    // 15
+    Function,
+    // 16
+    NoMap,
+    // 7
+    Short,
+}

@@ -1,0 +1,3 @@
+-- The definitions that the public contracts cite.
+pub mod Types
+pub mod Live

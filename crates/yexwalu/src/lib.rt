@@ -1,0 +1,3 @@
+// The front door: every public call. None has a `requires`; each takes all inputs and refuses in the order of document 01.
+pub mod types; // layouts, descriptor sizes, "has handles"
+pub mod live; // the registers that are roots at a safepoint
