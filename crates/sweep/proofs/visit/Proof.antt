@@ -1,0 +1,54 @@
+-- `sweep::visit` meets its contract. Assumes nothing.
+use Rattle.sweep.proofs.Releasing.{can-release, visit-dead, visit-kept, visit-gone}
+use borrow.Author.Needs.{needs}
+use Rattle.sweep.proofs.visit.Statement.{statement}
+use Rattle.sweep.proofs.visit.Tie as tie
+
+slice-read-k : tie.Need-slice-read-k
+slice-read-k c = search needs
+
+returns : tie.Need-returns
+returns c = search visit-dead
+
+returns-2 : tie.Need-returns-2
+returns-2 c = search visit-kept
+
+release-requires : tie.Need-release-requires
+release-requires c κs = search can-release
+
+same-length : tie.Need-same-length
+same-length c = search needs
+
+same-length-2 : tie.Need-same-length-2
+same-length-2 c = search needs
+
+same-length-3 : tie.Need-same-length-3
+same-length-3 c = search needs
+
+same-length-4 : tie.Need-same-length-4
+same-length-4 c = search needs
+
+same-length-5 : tie.Need-same-length-5
+same-length-5 c = search needs
+
+same-length-6 : tie.Need-same-length-6
+same-length-6 c = search needs
+
+returns-3 : tie.Need-returns-3
+returns-3 c = search visit-gone
+
+pub visit-spec : {M : Type 1} → statement M
+visit-spec =
+    tie.close
+    (tie.spec
+    slice-read-k
+    returns
+    returns-2
+    release-requires
+    same-length
+    same-length-2
+    same-length-3
+    same-length-4
+    same-length-5
+    same-length-6
+    returns-3)
