@@ -1,4 +1,3 @@
-pub mod Paste
 pub mod Packing
 pub mod Splicing
 pub mod Sound
@@ -6,3 +5,5 @@ pub mod Counting
 pub mod Storing
 pub mod Changing
 pub mod Placing
+pub mod Seals
+pub mod Testing

@@ -6,7 +6,7 @@ use native.Mathlib.Omega.{arith}
 use native.Mathlib.Nat.{zero-add, sub-zero, zero-sub, suc-sub-suc, le-of-suc-le-suc, not-suc-le-zero, add-assoc}
 use lib.ListN.{length, getD, take, drop, set, replicate, List·getD-append, length-append, length-take, length-drop, length-replicate, length-set, length-map, replicate-append-replicate, drop-of-length-le}
 use lib.Seq.{take-suc, split-at, set-split, take-at, drop-at, take-append-le, drop-append-le, take-length, length-take-le, drop-drop, take-all, ext-getD}
-use Rattle.heap.specs.Bytes.{put}
+use Rattle.word.specs.Put.{put}
 use Rattle.heap.specs.Packing.{pad, flat, ends, tabulate, startOf, dataAt}
 use Rattle.heap.specs.Columns.{datas, Packed}
 

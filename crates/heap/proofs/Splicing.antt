@@ -6,7 +6,7 @@ use native.Mathlib.Omega.{arith}
 use native.Mathlib.Nat.{not-suc-le-zero, le-of-suc-le-suc}
 use lib.ListN.{length, getD, take, drop, set, replicate, length-append, length-take, length-drop, length-replicate, length-set, length-map, replicate-append-replicate, take-append-drop}
 use lib.Seq.{take-at, drop-at, take-append-add, drop-append-add, take-append-le, drop-append-le, take-length, length-take-le, drop-drop, take-all, take-take}
-use Rattle.heap.specs.Bytes.{put}
+use Rattle.word.specs.Put.{put}
 use Rattle.heap.specs.Packing.{pad, flat, ends, startOf, dataAt}
 use Rattle.heap.specs.Columns.{datas, Packed, CanSplice, Spliced}
 use Rattle.heap.proofs.Packing.{flat-append, end-at, drop-replicate, length-pad, flat-split, flat-set, start-of, end-of, length-ends, length-tabulate}

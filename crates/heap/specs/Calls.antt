@@ -2,13 +2,14 @@
 -- (18, 1, 8, 14) belongs to the front door. S is the number of lent slots, P of pool bytes.
 use mathlib.Core.Bool.{Bool, true, false, not, _&&_}
 use mathlib.Core.List.{List, [], _∷_, _++_}
-use Prim.Native.Nat.{ℕ, suc, _+_, _*_, _-_, _%_, _^_, min, max}
+use Prim.Native.Nat.{ℕ, suc, _+_, _*_, _-_, _%_, _^_, max}
 use lib.ListN.{length, getD, take, drop, set, replicate}
 use lib.Dec.{eqb, ltb, leb}
-use Rattle.word.specs.Num.{nextFrom}
-use Rattle.handle.specs.Handle.{packed, tagOf, indexOf, generationOf}
-use Rattle.heap.specs.Choice.{if_then_else_}
-use Rattle.heap.specs.Result.{Result, ok, refused, _>>=_}
+use Rattle.word.specs.Num.{nextFrom, saturating}
+use Rattle.word.specs.Put.{put}
+use Rattle.handle.specs.Handle.{packed, resolveBy}
+use Rattle.word.specs.Choice.{if_then_else_}
+use Rattle.word.specs.Result.{Result, ok, refused, _>>=_}
 use Rattle.heap.specs.State.{Slot, State, noSlot, slotAt, live, dataSize, bit, times, withSince, withReclaim, withEpoch, withSlots, withFree, withQuarantine, withSealed}
 
 -- an answer, and the heap after it
@@ -33,7 +34,7 @@ step g = nextFrom 32 g
 
 -- since_gc grows by n, saturating
 abbrev pub charged : State → ℕ → State
-charged h n = withSince h (min (h .sinceGc + n) (2 ^ 64 - 1))
+charged h n = withSince h (saturating 64 (h .sinceGc) n)
 
 -- the epoch rises, wrapping, and then the slot is logged at epoch mod 16
 abbrev pub changed : State → ℕ → State
@@ -109,12 +110,7 @@ allocFrom S P h kind type start bytes =
 
 -- the slot that a handle leads to
 unfoldable pub resolve : State → (handle : ℕ) → Result ℕ
-resolve h x =
-    let s : Slot = slotAt h (indexOf x) in
-    if eqb x 0 then refused 2
-    else if not (eqb (tagOf x) (h .tag)) then refused 3
-    else if live s && eqb (s .generation) (generationOf x) then ok (indexOf x)
-    else refused 4
+resolve h x = resolveBy (h .tag) (λ i. live (slotAt h i)) (λ i. slotAt h i .generation) x
 
 -- a call on the slot that a handle leads to
 abbrev pub onSlot : {A : Type 0} → State → Result ℕ → (ℕ → Changed A) → Changed A
@@ -132,10 +128,6 @@ editSlot P h bytes start i =
 unfoldable pub edit : (P : ℕ) → State → (handle : ℕ) → List ℕ → (start : ℕ) → Changed ℕ
 edit P h x bytes start = onSlot h (resolve h x) (editSlot P h bytes start)
 
--- d with s in place of what stands from `at` on
-abbrev pub overwrite : List ℕ → ℕ → List ℕ → List ℕ
-overwrite d at s = take at d ++ s ++ drop (at + length s) d
-
 -- bytes put over the visible data of slot i, from an offset in it: writes rises for a live slot even where nothing is visible
 unfoldable pub write : State → (i at : ℕ) → List ℕ → Changed Unit
 write h i at bytes =
@@ -143,7 +135,7 @@ write h i at bytes =
     if not (live s) then refuse 9 h
     else if ltb (length (s .bytes)) (s .start) then refuse 9 (withSlot h i (rewritten s (s .start) (s .bytes)))
     else if ltb (length (s .bytes)) (s .start + at + length bytes) then refuse 9 h
-    else done tt (withSlot h i (rewritten s (s .start) (overwrite (s .bytes) (s .start + at) bytes)))
+    else done tt (withSlot h i (rewritten s (s .start) (put (s .bytes) (s .start + at) bytes (length bytes))))
 
 -- a new handle for slot i, also for a dead one
 abbrev pub reissued : Slot → Slot

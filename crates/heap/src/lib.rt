@@ -1,19 +1,12 @@
-// A heap in lent memory: its header, how its slots' data is replaced in the packed pool, and whether it is well formed.
+// A heap in lent memory: its header, and how a slot and its data in the packed pool are replaced.
 ghost use mathlib.Core.Path.{_≡_};
-ghost use mathlib.Core.Bool.{true};
-ghost use mathlib.Core.List.{map, []};
-ghost use Prim.Native.Nat.{ℕ, _+_, _-_, _≤_, _<_, _^_};
-ghost use lib.ListN.{length, getD, drop, replicate};
-ghost use lib.ListN.{take as takeList};
-ghost use Rattle.heap.specs.Bytes.{put};
+ghost use Prim.Native.Nat.{_≤_};
+ghost use lib.ListN.{length};
 ghost use Rattle.heap.specs.Packing.{startOf};
-ghost use Rattle.heap.specs.State.{times};
 ghost use Rattle.heap.specs.Calls.{new as newHeap};
-ghost use Rattle.heap.specs.Lent.{lent, headerOf};
-ghost use Rattle.heap.specs.WellFormed.{wellFormed, soundSeals};
+ghost use Rattle.heap.specs.Lent.{headerOf};
 ghost use Rattle.heap.specs.Header.{setCharged, setChanged, setSince, setReclaim, setLive, setSlots, setFree, setQuarantine, setSealed};
 ghost use Rattle.heap.specs.Columns.{CanSplice, Spliced, CanPlace, PlacedIn};
-ghost use Rattle.heap.specs.Checks.{Says, HeaderOk, LengthsOk, Zeros, UnusedOk, SlotOk, SlotsOk, Single, Covered, Partition, Checked};
 
 // The numbers of a heap, and how many entries of the slots and of each list are in use.
 pub struct Heap {
@@ -117,78 +110,6 @@ impl Heap {
     }
 }
 
-// Writes all of `src` into `dst` from index `at`.
-pub fn copy_in(dst: &mut [u8], at: usize, src: &[u8])
-    requires { ⌜ at + length (now src) ≤ length (now dst) ⌝ }
-    ensures { λ _. ⌜ now (dst .exit) ≡ put (now (dst .entry)) at (now (src .entry)) (length (now (src .entry))) ⌝ }
-{
-    let mut j = 0;
-    while j < src.len() {
-        dst[at + j] = src[j];
-        j += 1;
-    }
-}
-
-// Zeros from index `from` up to `to`; nothing where `to` is not above `from`.
-pub fn clear(dst: &mut [u8], from: usize, to: usize)
-    requires { ⌜ to ≤ length (now dst) ⌝ }
-    ensures { λ _. ⌜ now (dst .exit) ≡ put (now (dst .entry)) from (replicate (to - from) 0) (to - from) ⌝ }
-{
-    let mut k = from;
-    while k < to {
-        dst[k] = 0;
-        k += 1;
-    }
-}
-
-// The `n` bytes from `from` on come to stand from `to` on, below.
-pub fn move_down(p: &mut [u8], from: usize, to: usize, n: usize)
-    requires { ⌜ (to ≤ from) × (from + n ≤ length (now p)) ⌝ }
-    ensures { λ _. ⌜ now (p .exit) ≡ put (now (p .entry)) to (drop from (now (p .entry))) n ⌝ }
-{
-    let mut j = 0;
-    while j < n {
-        p[to + j] = p[from + j];
-        j += 1;
-    }
-}
-
-// The `n` bytes from `from` on come to stand from `to` on, above.
-fn move_up(p: &mut [u8], from: usize, to: usize, n: usize)
-    requires { ⌜ (from ≤ to) × (to + n ≤ length (now p)) ⌝ }
-    ensures { λ _. ⌜ now (p .exit) ≡ put (now (p .entry)) to (drop from (now (p .entry))) n ⌝ }
-{
-    let mut j = n;
-    while 0 < j {
-        j -= 1;
-        p[to + j] = p[from + j];
-    }
-}
-
-// The `n` bytes from `from` on come to stand from `to` on.
-fn move_bytes(p: &mut [u8], from: usize, to: usize, n: usize)
-    requires { ⌜ (from + n ≤ length (now p)) × (to + n ≤ length (now p)) ⌝ }
-    ensures { λ _. ⌜ now (p .exit) ≡ put (now (p .entry)) to (drop from (now (p .entry))) n ⌝ }
-{
-    if to <= from {
-        move_down(p, from, to, n);
-    } else {
-        move_up(p, from, to, n);
-    }
-}
-
-// Each of the ends from slot `i` up to `n` moves by what the slot's data grew: `new` bytes for `old`.
-fn shift_ends(end: &mut [usize], i: usize, n: usize, old: usize, new: usize)
-    requires { ⌜ (i ≤ n) × (n ≤ length (now end)) × ((k : ℕ) → i ≤ k → k < n → (old ≤ getD (now end) k 0) × (getD (now end) k 0 + new < 2 ^ 64)) ⌝ }
-    ensures { λ _. ⌜ now (end .exit) ≡ put (now (end .entry)) i (map (λ (x : ℕ). x + new - old) (drop i (now (end .entry)))) (n - i) ⌝ }
-{
-    let mut j = i;
-    while j < n {
-        end[j] = end[j] + new - old;
-        j += 1;
-    }
-}
-
 // Where the data of slot `i` starts in the pool.
 pub fn start_of(end: &[usize], i: usize) -> usize
     requires { ⌜ i ≤ length (now end) ⌝ }
@@ -206,10 +127,10 @@ pub fn splice(end: &mut [usize], pool: &mut [u8], n: usize, i: usize, new: &[u8]
     let b = end[i];
     let e = start_of(end, n);
     let m = new.len();
-    move_bytes(pool, b, a + m, e - b);
-    copy_in(pool, a, new);
-    clear(pool, a + m + (e - b), e);
-    shift_ends(end, i, n, b - a, m);
+    memory::move_u8(pool, b, a + m, e - b);
+    memory::copy_u8(pool, a, new);
+    memory::fill_u8(pool, a + m + (e - b), e, 0);
+    memory::shift_usize(end, i, n, b - a, m);
 }
 
 // Slot `i` of `n` gets these numbers and this data.

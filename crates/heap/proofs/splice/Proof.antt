@@ -10,13 +10,6 @@ use borrow.Author.Needs.{needs}
 use borrow.Author.Needs.{needs}
 use Rattle.heap.proofs.splice.Statement.{statement}
 use Rattle.heap.proofs.splice.Tie as tie
-use Rattle.heap.proofs.splice.Reads as reads
-use Rattle.heap.proofs.splice.Lts as lts
-use Rattle.heap.proofs.clear.Reads as clear-reads
-use Rattle.heap.proofs.copy_in.Reads as copy-in-reads
-use Rattle.heap.proofs.move_bytes.Reads as move-bytes-reads
-use Rattle.heap.proofs.shift_ends.Reads as shift-ends-reads
-use Rattle.heap.proofs.start_of.Reads as start-of-reads
 
 -- what is known once the numbers are computed
 abbrev Knows : tie.After-start-of2 → Type 0
@@ -46,44 +39,44 @@ start-of-requires-2 : tie.Need-start-of-requires-2
 start-of-requires-2 c κs = search needs
 
 -- src/lib.rt:111:25
-add-move-bytes : tie.Need-add-move-bytes
-add-move-bytes c = omega (arith, knows (c .before))
+add-move-u8 : tie.Need-add-move-u8
+add-move-u8 c = omega (arith, knows (c .before))
 
 -- src/lib.rt:111:32
-sub-move-bytes : tie.Need-sub-move-bytes
-sub-move-bytes c = omega (arith, knows (c .before))
+sub-move-u8 : tie.Need-sub-move-u8
+sub-move-u8 c = omega (arith, knows (c .before))
 
 -- src/lib.rt:111:5
-move-bytes-requires : tie.Need-move-bytes-requires
-move-bytes-requires c κs = omega (arith, knows (c .before))
+move-u8-requires : tie.Need-move-u8-requires
+move-u8-requires c κs = omega (arith, knows (c .before))
 
 -- src/lib.rt:112:5
-copy-in-requires : tie.Need-copy-in-requires
-copy-in-requires c κs = omega (arith, knows (c .before .before .before .before .before))
+copy-u8-requires : tie.Need-copy-u8-requires
+copy-u8-requires c κs = omega (arith, knows (c .before .before .before .before .before))
 
 -- src/lib.rt:113:17
-add-clear : tie.Need-add-clear
-add-clear c = omega (arith, knows (c .before .before .before .before .before .before .before .before .before))
+add-fill-u8 : tie.Need-add-fill-u8
+add-fill-u8 c = omega (arith, knows (c .before .before .before .before .before .before .before .before .before))
 
 -- src/lib.rt:113:26
-sub-clear : tie.Need-sub-clear
-sub-clear c = omega (arith, knows (c .before .before .before .before .before .before .before .before .before))
+sub-fill-u8 : tie.Need-sub-fill-u8
+sub-fill-u8 c = omega (arith, knows (c .before .before .before .before .before .before .before .before .before))
 
 -- src/lib.rt:113:17
-add-clear-2 : tie.Need-add-clear-2
-add-clear-2 c = omega (arith, knows (c .before .before .before .before .before .before .before .before .before))
+add-fill-u8-2 : tie.Need-add-fill-u8-2
+add-fill-u8-2 c = omega (arith, knows (c .before .before .before .before .before .before .before .before .before))
 
 -- src/lib.rt:113:5
-clear-requires : tie.Need-clear-requires
-clear-requires c κs = omega (arith, knows (c .before .before .before .before .before .before .before .before .before))
+fill-u8-requires : tie.Need-fill-u8-requires
+fill-u8-requires c κs = omega (arith, knows (c .before .before .before .before .before .before .before .before .before))
 
 -- src/lib.rt:114:27
-sub-shift-ends : tie.Need-sub-shift-ends
-sub-shift-ends c = omega (arith, knows (c .before .before .before .before .before .before .before .before .before .before .before .before .before))
+sub-shift-usize : tie.Need-sub-shift-usize
+sub-shift-usize c = omega (arith, knows (c .before .before .before .before .before .before .before .before .before .before .before .before .before))
 
 -- src/lib.rt:114:5
-shift-ends-requires : tie.Need-shift-ends-requires
-shift-ends-requires c κs = (omega (arith, knows (c .before .before .before .before .before .before .before .before .before .before .before .before .before)), knows (c .before .before .before .before .before .before .before .before .before .before .before .before .before) .few, λ j h h′. omega (arith, knows (c .before .before .before .before .before .before .before .before .before .before .before .before .before), knows (c .before .before .before .before .before .before .before .before .before .before .before .before .before) .each j h h′))
+shift-usize-requires : tie.Need-shift-usize-requires
+shift-usize-requires c κs = (omega (arith, knows (c .before .before .before .before .before .before .before .before .before .before .before .before .before)), knows (c .before .before .before .before .before .before .before .before .before .before .before .before .before) .few, λ j h h′. omega (arith, knows (c .before .before .before .before .before .before .before .before .before .before .before .before .before), knows (c .before .before .before .before .before .before .before .before .before .before .before .before .before) .each j h h′))
 
 -- src/lib.rt:103:1
 same-length : tie.Need-same-length
@@ -95,7 +88,7 @@ same-length-2 c = search needs
 
 -- src/lib.rt:103:1
 returns : tie.Need-returns
-returns c = splice-whole _ _ _ _ _ _ _ _ _ _ _ (c .before .before .before .before .before .before .before .before .before .before .before .before .before .before .before .before .before .before .before .before .before .before .before .before .pre) (c .before .before .before .before .before .before .before .before .before .before .before .before .before .before .before .before .before .before .before .start-of .ensures) (c .before .before .before .before .before .before .before .before .before .before .before .before .before .before .before .before .start-of2 .ensures) (c .before .before .before .before .before .before .before .before .before .before .before .before .before .before .move-bytes .ensures) (c .before .before .before .before .before .before .before .before .before .before .copy-in .ensures) (c .before .before .before .before .before .before .clear .ensures) (c .before .before .shift-ends .ensures)
+returns c = splice-whole _ _ _ _ _ _ _ _ _ _ _ (c .before .before .before .before .before .before .before .before .before .before .before .before .before .before .before .before .before .before .before .before .before .before .before .before .pre) (c .before .before .before .before .before .before .before .before .before .before .before .before .before .before .before .before .before .before .before .start-of .ensures) (c .before .before .before .before .before .before .before .before .before .before .before .before .before .before .before .before .start-of2 .ensures) (c .before .before .before .before .before .before .before .before .before .before .before .before .before .before .move-u8 .ensures) (c .before .before .before .before .before .before .before .before .before .before .copy-u8 .ensures) (c .before .before .before .before .before .before .fill-u8 .ensures) (c .before .before .shift-usize .ensures)
 
 pub splice-spec : {M : Type 1} → statement M
 splice-spec =
@@ -105,16 +98,16 @@ splice-spec =
     mul-b
     slice-read-b
     start-of-requires-2
-    add-move-bytes
-    sub-move-bytes
-    move-bytes-requires
-    copy-in-requires
-    add-clear
-    sub-clear
-    add-clear-2
-    clear-requires
-    sub-shift-ends
-    shift-ends-requires
+    add-move-u8
+    sub-move-u8
+    move-u8-requires
+    copy-u8-requires
+    add-fill-u8
+    sub-fill-u8
+    add-fill-u8-2
+    fill-u8-requires
+    sub-shift-usize
+    shift-usize-requires
     same-length
     same-length-2
     returns)

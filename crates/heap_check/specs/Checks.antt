@@ -5,11 +5,12 @@ use mathlib.Core.List.{List}
 use Prim.Native.Nat.{ℕ, _+_, _-_, _%_, _≤_, _<_}
 use lib.ListN.{length, getD, take}
 use lib.Dec.{ltb}
+use Rattle.memory.specs.Zero.{zeroFrom}
 use Rattle.heap.specs.Packing.{startOf}
 use Rattle.heap.specs.State.{bit, times}
 use Rattle.heap.specs.Lent.{Lent}
 use Rattle.heap.specs.WellFormed.{soundSeals}
 use Rattle.heap.specs.declared.Heap.{Heap}
 
 -- b is true exactly if X holds
 abbrev pub Says : Bool → Type 0 → Type 0
@@ -41,7 +42,7 @@ pub record LengthsOk (S k t s e w f q x : ℕ) : Type 0 where
 
 -- nothing but zeros from index n on
 abbrev pub Zeros : ℕ → List ℕ → Type 0
-Zeros n xs = (k : ℕ) → n ≤ k → getD xs k 0 ≡ 0
+Zeros n xs = zeroFrom n xs ≡ true
 
 pub record UnusedOk (n f q x : ℕ) (gs ks ts ss es ws fs qs xs : List ℕ) : Type 0 where
   pub generation : Zeros n gs
@@ -69,6 +70,11 @@ pub record SlotsOk (n : ℕ) (gs ks ts ss es ws : List ℕ) (room : ℕ) : Type 
 -- each index below n at most once live, marked or in the list, and no other
 abbrev pub Single : ℕ → List ℕ → List ℕ → List ℕ → Type 0
 Single n ks marks xs = (i : ℕ) → bit (ltb 0 (getD ks i 0)) + (getD marks i 0 + times i xs) ≤ bit (ltb i n)
+
+-- the list's entries marked, where that leaves each index at most once
+pub record Marked (r : Bool) (n : ℕ) (ks marks xs marks′ : List ℕ) : Type 0 where
+  pub single : Says r (Single n ks marks xs)
+  pub counted : r ≡ true → (i : ℕ) → getD marks′ i 0 ≡ getD marks i 0 + times i xs
 
 -- each index below n is live or marked
 abbrev pub Covered : ℕ → List ℕ → List ℕ → Type 0

@@ -1,0 +1,266 @@
+-- The tests of `WellFormed` pass exactly if what they test holds. Assumes nothing.
+use mathlib.Core.Path.{_≡_, refl, sym, ap, ap₂, _∙_, subst}
+use mathlib.Core.Bool.{Bool, true, false, _&&_, _||_}
+use mathlib.Core.List.{List, [], _∷_, _++_}
+use mathlib.Core.Logic.{_⊎_, inl, inr, ⊎-elim}
+use Prim.Native.Nat.{ℕ, zero, suc, _+_, _%_, _≤_, _<_}
+use native.Mathlib.Omega.{arith}
+use native.Mathlib.Decide.{decLt, ℕ-discrete}
+use lib.ListN.{length, getD, List·getD-eq-default}
+use lib.Dec.{eqb, ltb, leb}
+use borrow.Author.Tests.{lt-ltb, le-ltb, ltb-true, ltb-false, leb-true, le-leb, eqb-true, eq-eqb, ne-eqb}
+use Rattle.word.proofs.Bools.{and-both, both-and, or-cases, or-left, or-right, bool-ext}
+use Rattle.heap.specs.Packing.{flat}
+use Rattle.heap.specs.State.{Slot, State, noSlot, slotAt, dataOf, live, bit, times}
+use Rattle.heap.specs.Lent.{Lent, lent, stored, view, slotCount, poolSize}
+use Rattle.heap.specs.WellFormed.{all, allBelow, soundSlot, places, partitioned, soundSeals, soundReclaim, sound, fits, sameList, sameHeader, sameLent, wellFormed}
+use Rattle.heap.specs.declared.Heap.{Heap}
+use Rattle.heap.proofs.Sound.{SlotSound, Sound, WellFormed, liveBit}
+use Rattle.heap.proofs.Counting.{times-append, times-member}
+use Rattle.heap.proofs.Storing.{well-stored}
+
+-- ---- all entries, all numbers below n
+
+pub all-at : {A : Type 0} (test : A → Bool) (xs : List A) (d : A) → all test xs ≡ true → (i : ℕ) → i < length xs → test (getD xs i d) ≡ true
+unfolding all
+all-at test [] d h i k = absurd (omega arith)
+all-at test (x ∷ xs) d h zero k = and-both (test x) (all test xs) h .0
+all-at test (x ∷ xs) d h (suc i) k = all-at test xs d (and-both (test x) (all test xs) h .1) i (omega arith)
+
+pub at-all : {A : Type 0} (test : A → Bool) (xs : List A) (d : A) → ((i : ℕ) → i < length xs → test (getD xs i d) ≡ true) → all test xs ≡ true
+unfolding all
+at-all test [] d h = refl
+at-all test (x ∷ xs) d h = both-and (test x) (all test xs) (h zero (omega arith)) (at-all test xs d (λ i k. h (suc i) (omega arith)))
+
+pub below-at : (test : ℕ → Bool) (n : ℕ) → allBelow test n ≡ true → (i : ℕ) → i < n → test i ≡ true
+unfolding allBelow
+below-at test zero h i k = absurd (omega arith)
+below-at test (suc n) h i k = elim (decLt i n) [ yes y ↦ below-at test n (and-both (allBelow test n) (test n) h .0) i y | no y ↦ last (omega arith) ]
+  where
+    last : i ≡ n → test i ≡ true
+    last e = ap test e ∙ and-both (allBelow test n) (test n) h .1
+
+pub at-below : (test : ℕ → Bool) (n : ℕ) → ((i : ℕ) → i < n → test i ≡ true) → allBelow test n ≡ true
+unfolding allBelow
+at-below test zero h = refl
+at-below test (suc n) h = both-and (allBelow test n) (test n) (at-below test n (λ i k. h i (omega arith))) (h n (omega arith))
+
+-- ---- a slot
+
+no-bytes : (xs : List ℕ) → length xs ≡ 0 → xs ≡ []
+no-bytes [] h = refl
+no-bytes (x ∷ xs) h = absurd (omega arith)
+
+pub slot-tested : (s : Slot) → soundSlot s ≡ true → SlotSound s
+unfolding soundSlot
+slot-tested s h =
+    let a = and-both (leb (s .kind) 3 && leb 1 (s .generation) && (eqb (s .kind) 1 || eqb (s .type) 0)) _ h in
+    let b = and-both (leb (s .kind) 3 && leb 1 (s .generation)) _ (a .0) in
+    let d = and-both (leb (s .kind) 3) _ (b .0) in
+    record {
+      kinds = leb-true _ _ (d .0);
+      aged = leb-true _ _ (d .1);
+      untyped = λ two. ⊎-elim (λ e. absurd (omega (arith, eqb-true (s .kind) 1 e))) (λ e. eqb-true _ _ e) (or-cases (eqb (s .kind) 1) _ (b .1));
+      dead = λ z. ⊎-elim (λ e. absurd (omega (arith, ltb-true 0 (s .kind) e))) (λ e. nothing z e (⊎-elim (λ q. absurd (omega (arith, eqb-true (s .kind) 1 q))) (λ q. eqb-true _ _ q) (or-cases (eqb (s .kind) 1) _ (b .1)))) (or-cases (live s) _ (a .1));
+    }
+  where
+    nothing : s .kind ≡ 0 → (eqb (s .start) 0 && eqb (s .writes) 0 && eqb (length (s .bytes)) 0) ≡ true → s .type ≡ 0 → s ≡ record { generation = s .generation; kind = 0; type = 0; start = 0; writes = 0; bytes = [] }
+    nothing z e t =
+        let a = and-both (eqb (s .start) 0 && eqb (s .writes) 0) _ e in
+        let b = and-both (eqb (s .start) 0) _ (a .0) in
+        let st : s .start ≡ 0 = eqb-true _ _ (b .0) in
+        let w : s .writes ≡ 0 = eqb-true _ _ (b .1) in
+        let d : s .bytes ≡ [] = no-bytes (s .bytes) (eqb-true _ _ (a .1)) in
+        λ j. record { generation = s .generation; kind = z j; type = t j; start = st j; writes = w j; bytes = d j }
+
+pub slot-tests : (s : Slot) → SlotSound s → soundSlot s ≡ true
+unfolding soundSlot
+slot-tests s k =
+    both-and (leb (s .kind) 3 && leb 1 (s .generation) && (eqb (s .kind) 1 || eqb (s .type) 0)) (live s || eqb (s .start) 0 && eqb (s .writes) 0 && eqb (length (s .bytes)) 0)
+    (both-and (leb (s .kind) 3 && leb 1 (s .generation)) (eqb (s .kind) 1 || eqb (s .type) 0) (both-and (leb (s .kind) 3) (leb 1 (s .generation)) (le-leb (s .kind) 3 (k .kinds)) (le-leb 1 (s .generation) (k .aged))) typed)
+    quiet
+  where
+    typed : (eqb (s .kind) 1 || eqb (s .type) 0) ≡ true
+    typed = elim (ℕ-discrete (s .kind) 1) [
+      | yes e ↦ or-left (eqb (s .kind) 1) _ (eq-eqb _ _ e)
+      | no ne ↦ or-right (eqb (s .kind) 1) _ (eq-eqb (s .type) 0 (elim (decLt 1 (s .kind)) [ yes y ↦ k .untyped y | no y ↦ ap (λ (x : Slot). x .type) (k .dead (omega arith)) ]))
+    ]
+
+    quiet : (live s || eqb (s .start) 0 && eqb (s .writes) 0 && eqb (length (s .bytes)) 0) ≡ true
+    quiet = elim (decLt 0 (s .kind)) [
+      | yes y ↦ or-left (live s) _ (lt-ltb _ _ y)
+      | no y ↦
+          let d = k .dead (omega arith) in
+          or-right (live s) _
+          (both-and (eqb (s .start) 0 && eqb (s .writes) 0) _
+          (both-and (eqb (s .start) 0) _ (eq-eqb _ _ (ap (λ (x : Slot). x .start) d)) (eq-eqb _ _ (ap (λ (x : Slot). x .writes) d)))
+          (eq-eqb _ _ (ap (λ (x : Slot). length (x .bytes)) d)))
+    ]
+
+-- ---- the partition
+
+times-none : (xs : List ℕ) (n i : ℕ) → all (λ j. ltb j n) xs ≡ true → n ≤ i → times i xs ≡ 0
+unfolding all times
+times-none [] n i h k = refl
+times-none (x ∷ xs) n i h k =
+    let a = and-both (ltb x n) (all (λ j. ltb j n) xs) h in
+    omega (arith, times-none xs n i (a .1) k, ap bit (ne-eqb x i (λ e. omega (arith, ltb-true x n (a .0)))))
+
+pub parts-tested : (h : State) → partitioned h ≡ true → (i : ℕ) → places h i ≡ bit (ltb i (length (h .slots)))
+unfolding partitioned
+parts-tested h t i =
+    let a = and-both (allBelow (λ i. eqb (places h i) 1) (length (h .slots))) _ t in
+    elim (decLt i (length (h .slots))) [
+      | yes y ↦ eqb-true _ _ (below-at (λ i. eqb (places h i) 1) (length (h .slots)) (a .0) i y) ∙ sym (ap bit (lt-ltb i (length (h .slots)) y))
+      | no y ↦
+          let z : times i (h .free ++ h .quarantine) ≡ 0 = times-none (h .free ++ h .quarantine) (length (h .slots)) i (a .1) (omega arith) in
+          let blank : slotAt h i ≡ noSlot = List·getD-eq-default (h .slots) noSlot (omega arith) in
+          omega (arith, times-append i (h .free) (h .quarantine), ap liveBit blank, ap bit (le-ltb i (length (h .slots)) (omega arith)))
+    ]
+
+pub parts-test : (h : State) → ((i : ℕ) → places h i ≡ bit (ltb i (length (h .slots)))) → partitioned h ≡ true
+unfolding partitioned
+parts-test h p =
+    both-and (allBelow (λ i. eqb (places h i) 1) (length (h .slots))) _
+    (at-below (λ i. eqb (places h i) 1) (length (h .slots)) (λ i y. eq-eqb _ _ (p i ∙ ap bit (lt-ltb i (length (h .slots)) y))))
+    (at-all (λ i. ltb i (length (h .slots))) (h .free ++ h .quarantine) 0 (λ k y. inside (getD (h .free ++ h .quarantine) k 0) (times-member (h .free ++ h .quarantine) k y)))
+  where
+    inside : (i : ℕ) → 1 ≤ times i (h .free ++ h .quarantine) → ltb i (length (h .slots)) ≡ true
+    inside i m = elim (decLt i (length (h .slots))) [
+      | yes y ↦ lt-ltb _ _ y
+      | no y ↦ absurd (omega (arith, p i, times-append i (h .free) (h .quarantine), ap bit (le-ltb i (length (h .slots)) (omega arith))))
+    ]
+
+-- ---- equal lists, equal lent memory
+
+pub same-tested : (xs ys : List ℕ) → sameList xs ys ≡ true → xs ≡ ys
+unfolding sameList
+same-tested [] [] h = refl
+same-tested [] (y ∷ ys) h = cc
+same-tested (x ∷ xs) [] h = cc
+same-tested (x ∷ xs) (y ∷ ys) h =
+    let a = and-both (eqb x y) (sameList xs ys) h in
+    let e : x ≡ y = eqb-true _ _ (a .0) in
+    let r : xs ≡ ys = same-tested xs ys (a .1) in
+    λ j. e j ∷ r j
+
+pub same-test : (xs : List ℕ) → sameList xs xs ≡ true
+unfolding sameList
+same-test [] = refl
+same-test (x ∷ xs) = both-and (eqb x x) (sameList xs xs) (eq-eqb x x refl) (same-test xs)
+
+pub lent-tested : (a b : Lent) → sameLent a b ≡ true → a ≡ b
+unfolding sameLent sameHeader
+lent-tested a b t =
+    let h₁ : Heap = a .header in
+    let h₂ : Heap = b .header in
+    let c₁ = and-both _ (sameList (a .sealed) (b .sealed)) t in
+    let c₂ = and-both _ (sameList (a .quarantine) (b .quarantine)) (c₁ .0) in
+    let c₃ = and-both _ (sameList (a .free) (b .free)) (c₂ .0) in
+    let c₄ = and-both _ (sameList (a .pool) (b .pool)) (c₃ .0) in
+    let c₅ = and-both _ (sameList (a .writes) (b .writes)) (c₄ .0) in
+    let c₆ = and-both _ (sameList (a .end) (b .end)) (c₅ .0) in
+    let c₇ = and-both _ (sameList (a .start) (b .start)) (c₆ .0) in
+    let c₈ = and-both _ (sameList (a .type) (b .type)) (c₇ .0) in
+    let c₉ = and-both _ (sameList (a .kind) (b .kind)) (c₈ .0) in
+    let d₀ = and-both _ (sameList (a .generation) (b .generation)) (c₉ .0) in
+    let d₁ = and-both _ (eqb (h₁ .sealed) (h₂ .sealed)) (d₀ .0) in
+    let d₂ = and-both _ (eqb (h₁ .quarantine) (h₂ .quarantine)) (d₁ .0) in
+    let d₃ = and-both _ (eqb (h₁ .free) (h₂ .free)) (d₂ .0) in
+    let d₄ = and-both _ (eqb (h₁ .slots) (h₂ .slots)) (d₃ .0) in
+    let d₅ = and-both _ (sameList (h₁ .log) (h₂ .log)) (d₄ .0) in
+    let d₆ = and-both _ (eqb (h₁ .epoch) (h₂ .epoch)) (d₅ .0) in
+    let d₇ = and-both _ (eqb (h₁ .«live_bytes») (h₂ .«live_bytes»)) (d₆ .0) in
+    let d₈ = and-both _ (eqb (h₁ .«reclaim_at») (h₂ .«reclaim_at»)) (d₇ .0) in
+    let d₉ = and-both (eqb (h₁ .tag) (h₂ .tag)) (eqb (h₁ .«since_gc») (h₂ .«since_gc»)) (d₈ .0) in
+    λ j. lent
+    (record {
+      tag = eqb-true (h₁ .tag) (h₂ .tag) (d₉ .0) j;
+      «since_gc» = eqb-true (h₁ .«since_gc») (h₂ .«since_gc») (d₉ .1) j;
+      «reclaim_at» = eqb-true (h₁ .«reclaim_at») (h₂ .«reclaim_at») (d₈ .1) j;
+      «live_bytes» = eqb-true (h₁ .«live_bytes») (h₂ .«live_bytes») (d₇ .1) j;
+      epoch = eqb-true (h₁ .epoch) (h₂ .epoch) (d₆ .1) j;
+      log = same-tested (h₁ .log) (h₂ .log) (d₅ .1) j;
+      slots = eqb-true (h₁ .slots) (h₂ .slots) (d₄ .1) j;
+      free = eqb-true (h₁ .free) (h₂ .free) (d₃ .1) j;
+      quarantine = eqb-true (h₁ .quarantine) (h₂ .quarantine) (d₂ .1) j;
+      sealed = eqb-true (h₁ .sealed) (h₂ .sealed) (d₁ .1) j;
+    })
+    (same-tested (a .generation) (b .generation) (d₀ .1) j)
+    (same-tested (a .kind) (b .kind) (c₉ .1) j)
+    (same-tested (a .type) (b .type) (c₈ .1) j)
+    (same-tested (a .start) (b .start) (c₇ .1) j)
+    (same-tested (a .end) (b .end) (c₆ .1) j)
+    (same-tested (a .writes) (b .writes) (c₅ .1) j)
+    (same-tested (a .pool) (b .pool) (c₄ .1) j)
+    (same-tested (a .free) (b .free) (c₃ .1) j)
+    (same-tested (a .quarantine) (b .quarantine) (c₂ .1) j)
+    (same-tested (a .sealed) (b .sealed) (c₁ .1) j)
+
+same-number : (n : ℕ) → eqb n n ≡ true
+same-number n = eq-eqb n n refl
+
+pub lent-test : (a : Lent) → sameLent a a ≡ true
+unfolding sameLent sameHeader
+lent-test a = simp (same-number, same-test)
+
+-- ---- all of it
+
+pub sound-tested : (S P : ℕ) (h : State) → fits S P h ≡ true → sound h ≡ true → Sound S P h
+unfolding fits sound soundReclaim
+sound-tested S P h f t =
+    let f₁ = and-both (leb 1 S && leb S 16777216 && leb P 1073741824 && leb (length (h .slots)) S) (leb (length (flat (dataOf (h .slots)))) P) f in
+    let f₂ = and-both (leb 1 S && leb S 16777216 && leb P 1073741824) (leb (length (h .slots)) S) (f₁ .0) in
+    let f₃ = and-both (leb 1 S && leb S 16777216) (leb P 1073741824) (f₂ .0) in
+    let f₄ = and-both (leb 1 S) (leb S 16777216) (f₃ .0) in
+    let t₁ = and-both (all soundSlot (h .slots) && partitioned h && soundSeals (h .tag) (length (h .slots)) 0 (h .sealed)) (soundReclaim (h .reclaimAt)) t in
+    let t₂ = and-both (all soundSlot (h .slots) && partitioned h) (soundSeals (h .tag) (length (h .slots)) 0 (h .sealed)) (t₁ .0) in
+    let t₃ = and-both (all soundSlot (h .slots)) (partitioned h) (t₂ .0) in
+    let r₁ = and-both (eqb (h .reclaimAt % 2) 0 && leb 4096 (h .reclaimAt)) (leb (h .reclaimAt) 33554432) (t₁ .1) in
+    let r₂ = and-both (eqb (h .reclaimAt % 2) 0) (leb 4096 (h .reclaimAt)) (r₁ .0) in
+    record {
+      slot-range = (leb-true 1 S (f₄ .0), leb-true S 16777216 (f₄ .1));
+      pool-range = leb-true P 1073741824 (f₃ .1);
+      slots-fit = leb-true (length (h .slots)) S (f₂ .1);
+      data-fit = leb-true (length (flat (dataOf (h .slots)))) P (f₁ .1);
+      partition = parts-tested h (t₃ .1);
+      each-slot = λ i k. slot-tested (slotAt h i) (all-at soundSlot (h .slots) noSlot (t₃ .0) i k);
+      seals = t₂ .1;
+      reclaim-range = (leb-true 4096 (h .reclaimAt) (r₂ .1), leb-true (h .reclaimAt) 33554432 (r₁ .1));
+      reclaim-even = eqb-true (h .reclaimAt % 2) 0 (r₂ .0);
+    }
+
+pub sound-test : (S P : ℕ) (h : State) → Sound S P h → (fits S P h && sound h) ≡ true
+unfolding fits sound soundReclaim
+sound-test S P h s =
+    simp (
+      le-leb 1 S (s .slot-range .0),
+      le-leb S 16777216 (s .slot-range .1),
+      le-leb P 1073741824 (s .pool-range),
+      le-leb (length (h .slots)) S (s .slots-fit),
+      le-leb (length (flat (dataOf (h .slots)))) P (s .data-fit),
+      at-all soundSlot (h .slots) noSlot (λ i k. slot-tests (slotAt h i) (s .each-slot i k)),
+      parts-test h (s .partition),
+      s .seals,
+      le-leb 4096 (h .reclaimAt) (s .reclaim-range .0),
+      le-leb (h .reclaimAt) 33554432 (s .reclaim-range .1),
+      eq-eqb (h .reclaimAt % 2) 0 (s .reclaim-even),
+    )
+
+-- well formed: exactly if it lies as a sound heap does that fits there
+pub formed-tested : (l : Lent) → wellFormed l ≡ true → WellFormed l
+unfolding wellFormed
+formed-tested l t =
+    let a = and-both (fits (slotCount l) (poolSize l) (view l) && sound (view l)) (sameLent l (stored (slotCount l) (poolSize l) (view l))) t in
+    let b = and-both (fits (slotCount l) (poolSize l) (view l)) (sound (view l)) (a .0) in
+    record { lies = lent-tested l (stored (slotCount l) (poolSize l) (view l)) (a .1); sound = sound-tested (slotCount l) (poolSize l) (view l) (b .0) (b .1) }
+
+pub formed-test : (l : Lent) → WellFormed l → wellFormed l ≡ true
+unfolding wellFormed
+formed-test l w =
+    both-and (fits (slotCount l) (poolSize l) (view l) && sound (view l)) (sameLent l (stored (slotCount l) (poolSize l) (view l)))
+    (sound-test (slotCount l) (poolSize l) (view l) (w .sound))
+    (ap (sameLent l) (sym (w .lies)) ∙ lent-test l)
+
+pub stored-formed : (S P : ℕ) (h : State) → fits S P h ≡ true → sound h ≡ true → wellFormed (stored S P h) ≡ true
+stored-formed S P h f t = formed-test (stored S P h) (well-stored S P h (sound-tested S P h f t))
