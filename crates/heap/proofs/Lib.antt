@@ -7,3 +7,4 @@ pub mod Changing
 pub mod Placing
 pub mod Seals
 pub mod Testing
+pub mod Keeping
