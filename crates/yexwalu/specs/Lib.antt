@@ -1,0 +1,2 @@
+pub mod HeapCalls
+pub mod HeapTold
