@@ -1,5 +1,5 @@
 -- `yexwalu::heaps::gc_due` meets its contract. Assumes nothing.
-use mathlib.Core.Path.{ap, sym}
+use mathlib.Core.Path.{ap}
 use Rattle.yexwalu.specs.HeapTold.{toldEntry}
 use Rattle.word.specs.Result.{ok}
 use Rattle.heap_edit.proofs.Lying.{held}

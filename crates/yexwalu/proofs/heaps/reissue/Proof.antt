@@ -1,5 +1,5 @@
 -- `yexwalu::heaps::reissue` meets its contract. Assumes nothing.
-use mathlib.Core.Path.{ap, sym}
+use mathlib.Core.Path.{ap}
 use Rattle.yexwalu.specs.HeapTold.{toldEntry}
 use Rattle.yexwalu.proofs.HeapDoor.{entered, call-refused, call-ready}
 use borrow.Author.Needs.{needs}
