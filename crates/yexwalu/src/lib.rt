@@ -3,3 +3,4 @@ pub mod types; // layouts, descriptor sizes, "has handles"
 pub mod handles; // the handles of objects, values and frames
 pub mod live; // the registers that are roots at a safepoint
 pub mod page; // a heap as text, both ways
+pub mod heaps; // the calls on a heap

@@ -1,0 +1,54 @@
+-- `heap_door::gc_due` meets its contract. Assumes nothing.
+use mathlib.Core.Path.{ap}
+use Rattle.heap_door.specs.HeapTold.{toldEntry}
+use Rattle.word.specs.Result.{ok}
+use Rattle.heap_edit.proofs.Lying.{held}
+use Rattle.heap_door.proofs.Doors.{entered, ask-refused, ask-ready}
+use borrow.Author.Needs.{needs}
+use Rattle.heap_door.proofs.gc_due.Statement.{statement}
+use Rattle.heap_door.proofs.gc_due.Tie as tie
+
+enter-requires : tie.Need-enter-requires
+enter-requires c κs = search needs
+
+enum-known-why : tie.Need-enum-known-why
+enum-known-why c = search needs
+
+enum-told : tie.Need-enum-told
+enum-told c = search needs
+
+gc-due-requires : tie.Need-gc-due-requires
+gc-due-requires c κs = search needs
+
+same-length : tie.Need-same-length
+same-length c = search needs
+
+same-length-2 : tie.Need-same-length-2
+same-length-2 c = search needs
+
+returns : tie.Need-returns
+returns c = ask-refused _ _ _ _ _ _ _ _ (c .before .before .before .before .before .before .before .enter .ensures) (ap toldEntry (c .before .why .given .1))
+
+same-length-3 : tie.Need-same-length-3
+same-length-3 c = search needs
+
+same-length-4 : tie.Need-same-length-4
+same-length-4 c = search needs
+
+returns-2 : tie.Need-returns-2
+returns-2 c = ask-ready _ _ _ _ _ _ _ _ (c .before .before .before .before .before .before .before .enter .ensures) (ap toldEntry (c .before .enum-told .given .1)) (ap ok (c .gc-due .ensures _ (held _ (entered _ _ _ _ _ _ (c .before .before .before .before .before .before .before .enter .ensures) (ap toldEntry (c .before .enum-told .given .1))) .header)))
+
+pub gc-due-spec : {M : Type 1} → statement M
+gc-due-spec =
+    tie.close
+    (tie.spec
+    enter-requires
+    enum-known-why
+    enum-told
+    gc-due-requires
+    same-length
+    same-length-2
+    returns
+    same-length-3
+    same-length-4
+    returns-2)
