@@ -1,4 +1,4 @@
-// The map of all safepoints of a function.
+// The map of all safepoints of a function: which registers are live before each. Inner functions: the front door is crate `yexwalu`.
 use roots::Tracked;
 use roots::at::find_block;
 use roots::check::check_function;
@@ -15,8 +15,6 @@ ghost use lib.Dec.{ltb};
 ghost use lib.ListN.{length, take, drop};
 ghost use Rattle.rows.specs.Row.{listed};
 ghost use Rattle.word.specs.Put.{put};
-ghost use Rattle.flow.specs.Function.{safepoint, safepoints};
-ghost use Rattle.flow.specs.Dataflow.{liveRow};
 ghost use Rattle.roots.specs.View.{view, formed};
 ghost use Rattle.root_map.specs.Calls.{LiveRefsCall};
 ghost use Rattle.roots.specs.Columns.{wanted, seen, Fixed};
@@ -206,53 +204,33 @@ pub fn live_refs(
     blocks: &[u32],
     classes: &[u8],
     which: Tracked,
-    scratch: &mut [u64],
+    s: &mut [u64],
     pcs: &mut [u32],
     bounds: &mut [u32],
     regs: &mut [u32],
 ) -> LiveRefs
     ensures { λ r. ⌜ LiveRefsCall (record { kinds = now (kinds .entry); ends = now (ends .entry); refs = now (refs .entry); blocks = now (blocks .entry); classes = now (classes .entry) })
-        (wanted which) (now (scratch .entry)) (now (pcs .entry)) (now (bounds .entry)) (now (regs .entry)) (now (scratch .exit)) (now (pcs .exit)) (now (bounds .exit)) (now (regs .exit)) r ⌝ }
+        (wanted which) (now (s .entry)) (now (pcs .entry)) (now (bounds .entry)) (now (regs .entry)) (now (s .exit)) (now (pcs .exit)) (now (bounds .exit)) (now (regs .exit)) r ⌝ }
 {
     let words = (classes.len() + 63) / 64;
     let nb = blocks.len() / 2;
-    if !enough(scratch.len(), 3 * nb + 2, words) {
+    if !enough(s.len(), 3 * nb + 2, words) {
         return LiveRefs::Scratch;
     }
     if !check_function(kinds, ends, refs, blocks, classes) {
-        memory::clear_u64(scratch);
+        memory::clear_u64(s);
         return LiveRefs::Function;
     }
-    analyse(
-        scratch,
-        kinds,
-        ends,
-        refs,
-        blocks,
-        classes,
-        which,
-        nb,
-        words,
-    );
-    let c = count_map(
-        scratch,
-        kinds,
-        ends,
-        refs,
-        blocks,
-        classes,
-        which,
-        nb,
-        words,
-    );
+    analyse(s, kinds, ends, refs, blocks, classes, which, nb, words);
+    let c = count_map(s, kinds, ends, refs, blocks, classes, which, nb, words);
     let points = c.points;
     let registers = c.registers;
     if short(points, registers, pcs.len(), bounds.len(), regs.len()) {
-        memory::clear_u64(scratch);
+        memory::clear_u64(s);
         return LiveRefs::Short;
     }
     write_map(
-        scratch,
+        s,
         kinds,
         ends,
         refs,
@@ -265,6 +243,6 @@ pub fn live_refs(
         bounds,
         regs,
     );
-    memory::clear_u64(scratch);
+    memory::clear_u64(s);
     LiveRefs::Map(points, registers)
 }

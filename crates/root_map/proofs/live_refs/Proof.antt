@@ -85,7 +85,7 @@ write-map-requires c κs =
       good,
       (
         (refl, omega (arith, (c .before .before .before .before .before .before .before .before .before .before .before .before .before .before .before .before .before .enough .ensures .0 (not-false _ (c .before .before .before .before .before .before .before .before .before .before .before .before .before .before .before .before .if1 .left))), need-is (length (o .blocks .now) / 2) ((length (o .classes .now) + 63) / 64), c .before .before .before .before .before .before .before .before .before .before .before .before .analyse .ensures .0, c .before .before .before .before .before .before .before .before .count-map .ensures .frame .kept), omega arith, omega (arith, fit .class-count), fit .code-count),
-        (fixed-out (c .before .before .before .before .before .before .before .before .before .before .before .before .analyse .ensures .1) (c .before .before .before .before .before .before .before .before .count-map .ensures .frame), room-for (record { kinds = o .kinds .now; ends = o .ends .now; refs = o .refs .now; blocks = o .blocks .now; classes = o .classes .now }) (wanted (o .which)) (o .scratch .now) _ _ _ good (c .before .before .before .before .before .before .before .before .count-map .ensures) (c .before .before .before .before .before .short .ensures) (c .before .before .before .before .if3 .left)),
+        (fixed-out (c .before .before .before .before .before .before .before .before .before .before .before .before .analyse .ensures .1) (c .before .before .before .before .before .before .before .before .count-map .ensures .frame), room-for (record { kinds = o .kinds .now; ends = o .ends .now; refs = o .refs .now; blocks = o .blocks .now; classes = o .classes .now }) (wanted (o .which)) (o .s .now) _ _ _ good (c .before .before .before .before .before .before .before .before .count-map .ensures) (c .before .before .before .before .before .short .ensures) (c .before .before .before .before .if3 .left)),
       ),
     )
 
