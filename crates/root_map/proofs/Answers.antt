@@ -47,9 +47,9 @@ module _ (l : Lent) (t : ℕ → Bool) where
       live = live;
       is = λ g p s. row-is l t p g s;
       answer = a ∙ sym e;
-      points = sym (ap (λ (u : Result Size). after u pcs (put pcs 0 points (length points))) e);
-      limits-are = sym (ap (λ (u : Result Size). after u bounds (put bounds 0 (limits live 0 points) (length points))) e);
-      registers = sym (ap (λ (u : Result Size). after u regs (put regs 0 (flatMap live points) (length (flatMap live points)))) e);
+      points = sym (ap (λ (u : Result Size). after u pcs (put pcs 0 points (length points))) a);
+      limits-are = sym (ap (λ (u : Result Size). after u bounds (put bounds 0 (limits live 0 points) (length points))) a);
+      registers = sym (ap (λ (u : Result Size). after u regs (put regs 0 (flatMap live points) (length (flatMap live points)))) a);
       scratch = z;
     }
 
@@ -102,15 +102,13 @@ module _ (l : Lent) (t : ℕ → Bool) where
         pub refs-map : b ≡ false → {r r′ pcs′ bounds′ regs′ : List ℕ} → Written t (l .kinds) (l .ends) (l .refs) (l .blocks) (l .classes) r r′ pcs pcs′ bounds bounds′ regs regs′ words nb (length (l .kinds))
             → LiveRefsCall l t rows pcs bounds regs rows′ pcs′ bounds′ regs′ (Refs.Map p n)
         refs-map h w =
-            let e = answer-is h in
             let all = all-points good in
             record {
               live = live;
               is = λ g i k. row-is l t i g k;
-              answer = ap₂ (λ (x y : ℕ). ok (record { points = x; registers = y })) points-count registers-count ∙ sym e;
-              points = w .points ∙ ap (λ (u : List ℕ). put pcs 0 u (length u)) all ∙ sym (ap (λ (u : Result Size). after u pcs (put pcs 0 points (length points))) e);
-              limits-are = w .limits-are ∙ ap (λ (u : List ℕ). put bounds 0 (limits live 0 u) (length u)) all ∙ sym (ap (λ (u : Result Size). after u bounds (put bounds 0 (limits live 0 points) (length points))) e);
-              registers = w .registers ∙ ap (λ (u : List ℕ). put regs 0 (flatMap live u) (length (flatMap live u))) all
-                  ∙ sym (ap (λ (u : Result Size). after u regs (put regs 0 (flatMap live points) (length (flatMap live points)))) e);
+              answer = ap₂ (λ (x y : ℕ). ok (record { points = x; registers = y })) points-count registers-count ∙ sym (answer-is h);
+              points = w .points ∙ ap (λ (u : List ℕ). put pcs 0 u (length u)) all;
+              limits-are = w .limits-are ∙ ap (λ (u : List ℕ). put bounds 0 (limits live 0 u) (length u)) all;
+              registers = w .registers ∙ ap (λ (u : List ℕ). put regs 0 (flatMap live u) (length (flatMap live u))) all;
               scratch = scratch-is room rows′ clean;
             }

@@ -1,37 +1,25 @@
 -- The map of all safepoints, an instruction a turn. Assumes nothing.
-use mathlib.Core.Path.{_≡_, refl, sym, ap, ap₂, _∙_, subst, fun-ext}
-use mathlib.Core.Logic.{_⊎_, inl, inr}
-use mathlib.Core.Bool.{Bool, true, false, not, _||_}
+use mathlib.Core.Path.{_≡_, refl, sym, ap, ap₂, _∙_, subst}
+use mathlib.Core.Bool.{Bool, true, false}
 use mathlib.Core.List.{List, [], _∷_, _++_, append-assoc, append-nil, flatMap}
-use Prim.Native.Nat.{ℕ, zero, suc, _+_, _-_, _*_, _/_, _≤_, _<_}
+use Prim.Native.Nat.{ℕ, suc, _+_, _-_, _*_, _≤_, _<_}
 use native.Mathlib.Omega.{arith}
-use native.Mathlib.Nat.{add-assoc}
-use lib.ListN.{length, getD, take, drop, replicate, length-append, length-take, length-drop}
+use lib.ListN.{length, take, drop, length-append}
 use lib.Seq.{drop-drop}
-use lib.Dec.{ltb}
-use borrow.Author.Tests.{lt-ltb, le-ltb}
 use borrow.Rule.Slice.PartMut.{putMid}
-use Rattle.word.specs.Choice.{if_then_else_}
-use Rattle.word.specs.Result.{Result, ok, refused}
 use Rattle.word.specs.Ones.{passing}
 use Rattle.word.specs.Put.{put}
-use Rattle.word.proofs.OnesLaws.{passing-append, passing-fewer}
+use Rattle.word.proofs.OnesLaws.{passing-append}
 use Rattle.word.proofs.PutLaws.{put-none, put-all, put-put, put-whole, length-put}
 use Rattle.rows.specs.Row.{listed}
 use Rattle.rows.proofs.Listing.{passing-one, passing-not, passing-snoc}
-use Rattle.flow.specs.Function.{Function, safepoint, safepoints}
-use Rattle.flow.specs.Dataflow.{liveIn, liveRow, track}
-use Rattle.roots.specs.View.{view, formed}
-use Rattle.roots.specs.Calls.{Lent, function, right, need, after, scratchAfter}
-use Rattle.root_map.specs.Calls.{limits, Size, liveRefsAnswer, toldRefs, LiveRefsCall}
-use Rattle.roots.specs.Columns.{seen, Outside, cell, liveAt, Linked, Fixed}
-use Rattle.root_map.specs.Columns.{one, pointsTo, liveOf, Pointed, Counted, Fits, Written}
-use Rattle.root_map.specs.declared.LiveRefs.{LiveRefs}
-use Rattle.root_map.specs.declared.LiveRefs.the-variants as Refs
+use Rattle.flow.specs.Function.{Function, safepoint}
+use Rattle.roots.specs.View.{view}
+use Rattle.root_map.specs.Calls.{limits}
+use Rattle.roots.specs.Columns.{Outside, Fixed}
+use Rattle.root_map.specs.Columns.{one, rowAt, pointsTo, liveOf, Pointed, Counted, Fits, Written}
 use Rattle.roots.proofs.Scratch.{mid-length, outside-refl, outside-trans, live-frame}
 use Rattle.roots.proofs.Passes.{linked-out}
-use Rattle.roots.proofs.Forms.{code-count, formed-parts}
-use Rattle.roots.proofs.Answers.{row-is, yes-then, no-then}
 
 -- the fixpoint lies before the row that is gathered
 pub fixed-out : {f : Function} {bs s s₁ : List ℕ} {W nb : ℕ} → Fixed f bs s W nb → Outside s s₁ (nb * (3 * W)) W → Fixed f bs s₁ W nb
@@ -59,7 +47,7 @@ length-limits live from [] = refl
 length-limits live from (x ∷ xs) = ap suc (length-limits live (from + length (live x)) xs)
 
 -- a list that replaces a part of its own length
-pub mid-is-put : (a k : ℕ) (xs ys : List ℕ) → length ys ≡ k → putMid a k xs ys ≡ put xs a ys (length ys)
+mid-is-put : (a k : ℕ) (xs ys : List ℕ) → length ys ≡ k → putMid a k xs ys ≡ put xs a ys (length ys)
 mid-is-put a k xs ys e =
     sym (append-assoc (take a xs) ys (drop k (drop a xs)))
     ∙ ap (λ (l : List ℕ). (take a xs ++ ys) ++ l) (drop-drop k a xs ∙ ap (λ (u : ℕ). drop (a + u) xs) (sym e))
@@ -92,7 +80,7 @@ module _ (t : ℕ → Bool) (kinds ends refs bs cs : List ℕ) where
     counted-none s = record { frame = outside-refl s (nb * (3 * W)) W; points-are = refl; registers-are = refl; few = (omega arith, omega arith) }
 
     module _ {s₀ s s₁ : List ℕ} {i points registers : ℕ} (inv : Counted t kinds ends refs bs cs s₀ s W nb i points registers) where
-      pub counted-yes : Pointed t kinds ends refs bs cs s s₁ W nb i true → (n : ℕ) → n ≡ length (listed (take ((nb * (3 * W) + W) - nb * (3 * W)) (drop (nb * (3 * W)) s₁))) → n ≤ 16384
+      pub counted-yes : Pointed t kinds ends refs bs cs s s₁ W nb i true → (n : ℕ) → n ≡ length (listed (rowAt s₁ (nb * (3 * W)) W)) → n ≤ 16384
           → Counted t kinds ends refs bs cs s₀ s₁ W nb (i + 1) (points + 1) (registers + n)
       counted-yes p n e h = record {
         frame = outside-trans (inv .frame) (p .frame);
@@ -114,6 +102,12 @@ module _ (t : ℕ → Bool) (kinds ends refs bs cs : List ℕ) where
         registers-are = inv .registers-are ∙ ap (λ (l : List ℕ). length (flatMap (liveOf t kinds ends refs bs cs W) l)) (sym (points-no i (sym (p .is))));
         few = (omega (arith, inv .few .0), omega (arith, inv .few .1));
       }
+
+    module _ {s₀ s : List ℕ} {i points registers : ℕ} (inv : Counted t kinds ends refs bs cs s₀ s W nb i points registers) where
+      pub counted-end : i ≤ length kinds → length kinds ≤ i → Counted t kinds ends refs bs cs s₀ s W nb (length kinds) points registers
+      counted-end h k =
+          let e : i ≡ length kinds = omega arith in
+          subst (λ (u : ℕ). Counted t kinds ends refs bs cs s₀ s W nb u points registers) e inv
 
     -- what the loop keeps: the map so far, and where it goes on
     pub record Writing (s₀ s pcs₀ pcs bounds₀ bounds regs₀ regs : List ℕ) (i k from : ℕ) : Type 0 where
@@ -156,7 +150,7 @@ module _ (t : ℕ → Bool) (kinds ends refs bs cs : List ℕ) where
               (omega (arith, length-limits (liveOf t kinds ends refs bs cs W) 0 (pointsTo kinds ends refs bs cs i))),
         )
 
-        pub room-registers : from + length (listed (take ((nb * (3 * W) + W) - nb * (3 * W)) (drop (nb * (3 * W)) s₁))) ≤ length regs
+        pub room-registers : from + length (listed (rowAt s₁ (nb * (3 * W)) W)) ≤ length regs
         room-registers =
             let live = liveOf t kinds ends refs bs cs W in
             let a : length (flatMap live (pointsTo kinds ends refs bs cs (length kinds))) ≡ length (flatMap live (pointsTo kinds ends refs bs cs i ++ (i ∷ []))) + length (flatMap live rest)
@@ -175,9 +169,9 @@ module _ (t : ℕ → Bool) (kinds ends refs bs cs : List ℕ) where
             )
 
       pub writing-yes : Pointed t kinds ends refs bs cs s s₁ W nb i true → (pcs₁ bounds₁ regs₁ : List ℕ) (n : ℕ) → n ≤ from + 16384
-          → n ≡ from + length (listed (take ((nb * (3 * W) + W) - nb * (3 * W)) (drop (nb * (3 * W)) s₁)))
+          → n ≡ from + length (listed (rowAt s₁ (nb * (3 * W)) W))
           → pcs₁ ≡ put pcs k (one i) 1 → bounds₁ ≡ put bounds k (one n) 1
-          → regs₁ ≡ put regs from (listed (take ((nb * (3 * W) + W) - nb * (3 * W)) (drop (nb * (3 * W)) s₁))) (length (listed (take ((nb * (3 * W) + W) - nb * (3 * W)) (drop (nb * (3 * W)) s₁))))
+          → regs₁ ≡ put regs from (listed (rowAt s₁ (nb * (3 * W)) W)) (length (listed (rowAt s₁ (nb * (3 * W)) W)))
           → Writing s₀ s₁ pcs₀ pcs₁ bounds₀ bounds₁ regs₀ regs₁ (i + 1) (k + 1) n
       writing-yes p pcs₁ bounds₁ regs₁ n few en ep eb er = record {
         written = record {
@@ -192,7 +186,7 @@ module _ (t : ℕ → Bool) (kinds ends refs bs cs : List ℕ) where
               ∙ put-put regs₀ 0 (flatMap live S) (live i) (omega arith)
               ∙ ap (λ (l : List ℕ). put regs₀ 0 l (length l)) (sym (flat-snoc live S i) ∙ ap (flatMap live) (sym (points-yes i (sym (p .is)))));
         };
-        counted = subst (λ (u : ℕ). Counted t kinds ends refs bs cs s₀ s₁ W nb (i + 1) (k + 1) u) (sym en) (counted-yes (inv .counted) p (length (listed (take ((nb * (3 * W) + W) - nb * (3 * W)) (drop (nb * (3 * W)) s₁)))) refl (omega arith));
+        counted = subst (λ (u : ℕ). Counted t kinds ends refs bs cs s₀ s₁ W nb (i + 1) (k + 1) u) (sym en) (counted-yes (inv .counted) p (length (listed (rowAt s₁ (nb * (3 * W)) W))) refl (omega arith));
       }
         where
           S : List ℕ

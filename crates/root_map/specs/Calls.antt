@@ -23,13 +23,20 @@ pub record Size : Type 0 where
   pub points : ℕ
   pub registers : ℕ
 
--- `live p`: the registers at instruction p; lent: room for that many safepoints, ends and registers
+-- the safepoints of the lent function, rising, and the registers of all of them in that order (`live p`: those at instruction p)
+abbrev pub pointsOf : Lent → List ℕ
+pointsOf l = safepoints (function l)
+
+abbrev pub registersOf : Lent → (ℕ → List ℕ) → List ℕ
+registersOf l live = flatMap live (pointsOf l)
+
+-- lent: so many words of scratch, and room for so many safepoints, bounds and registers
 unfoldable pub liveRefsAnswer : Lent → (rows points bounds room : ℕ) (live : ℕ → List ℕ) → Result Size
 liveRefsAnswer l rows points bounds room live =
     if ltb rows (need l) then refused 18
     else if not (right l) then refused 15
-    else if ltb points (length (safepoints (function l))) || (ltb bounds (length (safepoints (function l))) || ltb room (length (flatMap live (safepoints (function l))))) then refused 7
-    else ok (record { points = length (safepoints (function l)); registers = length (flatMap live (safepoints (function l))) })
+    else if ltb points (length (pointsOf l)) || (ltb bounds (length (pointsOf l)) || ltb room (length (registersOf l live))) then refused 7
+    else ok (record { points = length (pointsOf l); registers = length (registersOf l live) })
 
 abbrev pub toldRefs : LiveRefs → Result Size
 toldRefs (Refs.Map p n) = ok (record { points = p; registers = n })
@@ -37,11 +44,13 @@ toldRefs Refs.Scratch = refused 18
 toldRefs Refs.Function = refused 15
 toldRefs Refs.Short = refused 7
 
+-- The lists are those of the registers asked for that are live before each safepoint, rising; safepoints, bounds and registers stand at the start of the lent
+-- lists, and what is after them, or all of it where the call refuses, stays.
 pub record LiveRefsCall (l : Lent) (asked : ℕ → Bool) (rows pcs bounds regs rows′ pcs′ bounds′ regs′ : List ℕ) (r : LiveRefs) : Type 0 where
   pub live : ℕ → List ℕ
   pub is : right l ≡ true → (p : ℕ) → safepoint (function l) p ≡ true → LiveList (function l) asked p (live p)
   pub answer : toldRefs r ≡ liveRefsAnswer l (length rows) (length pcs) (length bounds) (length regs) live
-  pub points : pcs′ ≡ after (liveRefsAnswer l (length rows) (length pcs) (length bounds) (length regs) live) pcs (put pcs 0 (safepoints (function l)) (length (safepoints (function l))))
-  pub limits-are : bounds′ ≡ after (liveRefsAnswer l (length rows) (length pcs) (length bounds) (length regs) live) bounds (put bounds 0 (limits live 0 (safepoints (function l))) (length (safepoints (function l))))
-  pub registers : regs′ ≡ after (liveRefsAnswer l (length rows) (length pcs) (length bounds) (length regs) live) regs (put regs 0 (flatMap live (safepoints (function l))) (length (flatMap live (safepoints (function l)))))
+  pub points : pcs′ ≡ after (toldRefs r) pcs (put pcs 0 (pointsOf l) (length (pointsOf l)))
+  pub limits-are : bounds′ ≡ after (toldRefs r) bounds (put bounds 0 (limits live 0 (pointsOf l)) (length (pointsOf l)))
+  pub registers : regs′ ≡ after (toldRefs r) regs (put regs 0 (registersOf l live) (length (registersOf l live)))
   pub scratch : rows′ ≡ scratchAfter l rows

@@ -16,6 +16,10 @@ use Rattle.root_map.specs.Calls.{limits}
 abbrev pub one : ℕ → List ℕ
 one x = x ∷ []
 
+-- the row of w words that starts at word a
+abbrev pub rowAt : List ℕ → (a w : ℕ) → List ℕ
+rowAt s a w = take ((a + w) - a) (drop a s)
+
 -- the safepoints among the first i instructions, and the registers at each
 abbrev pub pointsTo : (kinds ends refs bs cs : List ℕ) → ℕ → List ℕ
 pointsTo kinds ends refs bs cs i = passing (safepoint (view kinds ends refs bs cs)) 0 i
@@ -27,7 +31,7 @@ liveOf t kinds ends refs bs cs W p = liveRow (W * 64) (seen t kinds ends refs bs
 pub record Pointed (t : ℕ → Bool) (kinds ends refs bs cs s s′ : List ℕ) (W nb pc : ℕ) (r : Bool) : Type 0 where
   pub frame : Outside s s′ (nb * (3 * W)) W
   pub is : r ≡ safepoint (view kinds ends refs bs cs) pc
-  pub row : r ≡ true → listed (take ((nb * (3 * W) + W) - nb * (3 * W)) (drop (nb * (3 * W)) s′)) ≡ liveOf t kinds ends refs bs cs W pc
+  pub row : r ≡ true → listed (rowAt s′ (nb * (3 * W)) W) ≡ liveOf t kinds ends refs bs cs W pc
 
 -- the first i instructions are counted
 pub record Counted (t : ℕ → Bool) (kinds ends refs bs cs s s′ : List ℕ) (W nb i points registers : ℕ) : Type 0 where

@@ -8,17 +8,16 @@ use roots::fixpoint::back_at;
 use roots::fixpoint::gather;
 use roots::row::wide;
 ghost use mathlib.Core.Path.{_≡_};
-ghost use mathlib.Core.Bool.{Bool, true, _||_};
-ghost use mathlib.Core.List.{List};
-ghost use Prim.Native.Nat.{ℕ, _+_, _-_, _*_, _/_, _≤_, _<_};
+ghost use mathlib.Core.Bool.{true, _||_};
+ghost use Prim.Native.Nat.{_+_, _-_, _*_, _/_, _≤_, _<_};
 ghost use lib.Dec.{ltb};
-ghost use lib.ListN.{length, take, drop};
+ghost use lib.ListN.{length};
 ghost use Rattle.rows.specs.Row.{listed};
 ghost use Rattle.word.specs.Put.{put};
-ghost use Rattle.roots.specs.View.{view, formed};
+ghost use Rattle.roots.specs.View.{formed};
 ghost use Rattle.root_map.specs.Calls.{LiveRefsCall};
 ghost use Rattle.roots.specs.Columns.{wanted, seen, Fixed};
-ghost use Rattle.root_map.specs.Columns.{one, Pointed, Counted, Fits, Written};
+ghost use Rattle.root_map.specs.Columns.{one, rowAt, Pointed, Counted, Fits, Written};
 
 // What `live_refs` answers.
 pub enum LiveRefs {
@@ -82,7 +81,7 @@ fn point_row(
 // How many registers the row at `at` has.
 fn count_at(s: &[u64], at: usize, words: usize) -> usize
     requires { ⌜ (at + words ≤ length (now s)) × (words ≤ 256) ⌝ }
-    ensures { λ r. ⌜ (r ≡ length (listed (take ((at + words) - at) (drop at (now (s .entry)))))) × (r ≤ 16384) ⌝ }
+    ensures { λ r. ⌜ (r ≡ length (listed (rowAt (now (s .entry)) at words))) × (r ≤ 16384) ⌝ }
 {
     let past = at + words;
     rows::count(&s[at..past])
@@ -146,10 +145,10 @@ fn write_point(
     from: usize,
 ) -> usize
     requires { ⌜ (at + words ≤ length (now s)) × (words ≤ 256) × (pc < 65536) × (k < length (now pcs)) × (k < length (now bounds)) × (from ≤ 1073741824) ⌝ }
-    requires { ⌜ from + length (listed (take ((at + words) - at) (drop at (now s)))) ≤ length (now regs) ⌝ }
-    ensures { λ r. ⌜ (r ≡ from + length (listed (take ((at + words) - at) (drop at (now (s .entry)))))) × (r ≤ from + 16384)
+    requires { ⌜ from + length (listed (rowAt (now s) at words)) ≤ length (now regs) ⌝ }
+    ensures { λ r. ⌜ (r ≡ from + length (listed (rowAt (now (s .entry)) at words))) × (r ≤ from + 16384)
         × (now (pcs .exit) ≡ put (now (pcs .entry)) k (one pc) 1) × (now (bounds .exit) ≡ put (now (bounds .entry)) k (one r) 1)
-        × (now (regs .exit) ≡ put (now (regs .entry)) from (listed (take ((at + words) - at) (drop at (now (s .entry))))) (length (listed (take ((at + words) - at) (drop at (now (s .entry))))))) ⌝ }
+        × (now (regs .exit) ≡ put (now (regs .entry)) from (listed (rowAt (now (s .entry)) at words)) (length (listed (rowAt (now (s .entry)) at words)))) ⌝ }
 {
     let n = count_at(s, at, words);
     let to = from + n;

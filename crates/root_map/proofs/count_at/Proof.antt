@@ -1,9 +1,8 @@
 -- `root_map::count_at` meets its contract. Assumes nothing.
 use native.Mathlib.Omega.{arith}
-use Prim.Native.Nat.{_+_, _-_}
-use lib.ListN.{take, drop}
 use Rattle.roots.proofs.Growth.{listed-le}
 use Rattle.roots.proofs.Scratch.{mid-length}
+use Rattle.root_map.specs.Columns.{rowAt}
 use Rattle.root_map.proofs.count_at.Statement.{statement}
 use Rattle.root_map.proofs.count_at.Tie as tie
 
@@ -23,10 +22,13 @@ part-count-end : tie.Need-part-count-end
 part-count-end c = omega arith
 
 count-requires : tie.Need-count-requires
-count-requires c κs = omega (arith, mid-length (c .before .before .args .at) (c .before .before .args .words) (c .before .before .args .s .now) (c .before .before .pre .0), c .before .before .pre .1)
+count-requires c κs = let o = c .before .before in omega (arith, mid-length (o .args .at) (o .args .words) (o .args .s .now) (o .pre .0), o .pre .1)
 
 returns : tie.Need-returns
-returns c = (c .count .ensures, omega (arith, c .count .ensures, listed-le (take ((c .before .before .before .args .at + c .before .before .before .args .words) - c .before .before .before .args .at) (drop (c .before .before .before .args .at) (c .before .before .before .args .s .now))), mid-length (c .before .before .before .args .at) (c .before .before .before .args .words) (c .before .before .before .args .s .now) (c .before .before .before .pre .0), c .before .before .before .pre .1))
+returns c =
+    let o = c .before .before .before in
+    let n = c .count .ensures in
+    (n, omega (arith, n, listed-le (rowAt (o .args .s .now) (o .args .at) (o .args .words)), mid-length (o .args .at) (o .args .words) (o .args .s .now) (o .pre .0), o .pre .1))
 
 pub count-at-spec : {M : Type 1} → statement M
 count-at-spec =

@@ -5,6 +5,7 @@ use borrow.Author.Tests.{not-true, not-false}
 use mathlib.Core.Path.{refl, sym, _∙_, ap}
 use Prim.Native.Nat.{ℕ, _+_, _/_}
 use lib.ListN.{length, replicate}
+use Rattle.roots.specs.Calls.{Lent}
 use Rattle.roots.specs.Columns.{wanted}
 use Rattle.roots.proofs.Checks.{refuted, above, formed-fit}
 use Rattle.roots.proofs.Answers.{need-is}
@@ -28,7 +29,8 @@ enough-requires c κs = search needs
 returns : tie.Need-returns
 returns c =
     let o = c .before .before .before .before .before .before .before .before .before .before .before .args in
-    refs-scratch (record { kinds = o .kinds .now; ends = o .ends .now; refs = o .refs .now; blocks = o .blocks .now; classes = o .classes .now }) (wanted (o .which)) _ _ _ _ (above _ _ (refuted _ (c .before .enough .ensures) (not-true _ (c .if1 .taken))))
+    let l : Lent = record { kinds = o .kinds .now; ends = o .ends .now; refs = o .refs .now; blocks = o .blocks .now; classes = o .classes .now } in
+    refs-scratch l (wanted (o .which)) _ _ _ _ (above _ _ (refuted _ (c .before .enough .ensures) (not-true _ (c .if1 .taken))))
 
 check-function-requires : tie.Need-check-function-requires
 check-function-requires c κs = search needs
@@ -42,21 +44,26 @@ same-length c = search needs
 returns-2 : tie.Need-returns-2
 returns-2 c =
     let o = c .before .before .before .before .before .before .before .before .before .before .before .before .before .before .before .before .before .args in
-    refs-function (record { kinds = o .kinds .now; ends = o .ends .now; refs = o .refs .now; blocks = o .blocks .now; classes = o .classes .now }) (wanted (o .which)) _ _ _ _ (c .before .before .before .before .before .before .before .enough .ensures .0 (not-false _ (c .before .before .before .before .before .before .if1 .left))) _ (c .before .before .clear-u64 .ensures) (sym (c .before .before .before .before .before .check-function .ensures) ∙ not-true _ (c .before .before .before .before .if2 .taken))
+    let l : Lent = record { kinds = o .kinds .now; ends = o .ends .now; refs = o .refs .now; blocks = o .blocks .now; classes = o .classes .now } in
+    let room = c .before .before .before .before .before .before .before .enough .ensures .0 (not-false _ (c .before .before .before .before .before .before .if1 .left)) in
+    refs-function l (wanted (o .which)) _ _ _ _ room _ (c .before .before .clear-u64 .ensures) (sym (c .before .before .before .before .before .check-function .ensures) ∙ not-true _ (c .before .before .before .before .if2 .taken))
 
 analyse-requires : tie.Need-analyse-requires
 analyse-requires c κs =
     let o = c .before .before .before .before .before .before .before .before .before .before .before .before .before .before .args in
-    ((sym (c .before .before .check-function .ensures) ∙ not-false _ (c .before .if2 .left)), (refl, omega (arith, (c .before .before .before .before .enough .ensures .0 (not-false _ (c .before .before .before .if1 .left))), need-is (length (o .blocks .now) / 2) ((length (o .classes .now) + 63) / 64)), omega arith))
+    let good = sym (c .before .before .check-function .ensures) ∙ not-false _ (c .before .if2 .left) in
+    let room = c .before .before .before .before .enough .ensures .0 (not-false _ (c .before .before .before .if1 .left)) in
+    (good, (refl, omega (arith, room, need-is (length (o .blocks .now) / 2) ((length (o .classes .now) + 63) / 64)), omega arith))
 
 count-map-requires : tie.Need-count-map-requires
 count-map-requires c κs =
     let o = c .before .before .before .before .before .before .before .before .before .before .before .before .before .before .before .before .before .before .args in
-    let good = (sym (c .before .before .before .before .before .before .check-function .ensures) ∙ not-false _ (c .before .before .before .before .before .if2 .left)) in
+    let room = c .before .before .before .before .before .before .before .before .enough .ensures .0 (not-false _ (c .before .before .before .before .before .before .before .if1 .left)) in
+    let good = sym (c .before .before .before .before .before .before .check-function .ensures) ∙ not-false _ (c .before .before .before .before .before .if2 .left) in
     let fit = formed-fit (o .kinds .now) (o .ends .now) (o .refs .now) (o .blocks .now) (o .classes .now) good in (
       good,
       (
-        (refl, omega (arith, (c .before .before .before .before .before .before .before .before .enough .ensures .0 (not-false _ (c .before .before .before .before .before .before .before .if1 .left))), need-is (length (o .blocks .now) / 2) ((length (o .classes .now) + 63) / 64), c .before .before .before .analyse .ensures .0), omega arith, omega (arith, fit .class-count), fit .code-count),
+        (refl, omega (arith, room, need-is (length (o .blocks .now) / 2) ((length (o .classes .now) + 63) / 64), c .before .before .before .analyse .ensures .0), omega arith, omega (arith, fit .class-count), fit .code-count),
         c .before .before .before .analyse .ensures .1,
       ),
     )
@@ -73,19 +80,24 @@ same-length-2 c = search needs
 returns-3 : tie.Need-returns-3
 returns-3 c =
     let o = c .before .before .before .before .before .before .before .before .before .before .before .before .before .before .before .before .before .before .before .before .before .before .before .before .before .before .before .args in
+    let l : Lent = record { kinds = o .kinds .now; ends = o .ends .now; refs = o .refs .now; blocks = o .blocks .now; classes = o .classes .now } in
+    let good = sym (c .before .before .before .before .before .before .before .before .before .before .before .before .before .before .before .check-function .ensures) ∙ not-false _ (c .before .before .before .before .before .before .before .before .before .before .before .before .before .before .if2 .left) in
+    let room = c .before .before .before .before .before .before .before .before .before .before .before .before .before .before .before .before .before .enough .ensures .0 (not-false _ (c .before .before .before .before .before .before .before .before .before .before .before .before .before .before .before .before .if1 .left)) in
     let kept = c .before .before .before .before .before .before .before .before .count-map .ensures .frame .kept ∙ c .before .before .before .before .before .before .before .before .before .before .before .before .analyse .ensures .0 in
-    refs-short (record { kinds = o .kinds .now; ends = o .ends .now; refs = o .refs .now; blocks = o .blocks .now; classes = o .classes .now }) (wanted (o .which)) _ _ _ _ (sym (c .before .before .before .before .before .before .before .before .before .before .before .before .before .before .before .check-function .ensures) ∙ not-false _ (c .before .before .before .before .before .before .before .before .before .before .before .before .before .before .if2 .left)) (c .before .before .before .before .before .before .before .before .count-map .ensures) (c .before .before .before .before .before .short .ensures) (c .before .before .before .before .before .before .before .before .before .before .before .before .before .before .before .before .before .enough .ensures .0 (not-false _ (c .before .before .before .before .before .before .before .before .before .before .before .before .before .before .before .before .if1 .left))) _
+    refs-short l (wanted (o .which)) _ _ _ _ good (c .before .before .before .before .before .before .before .before .count-map .ensures) (c .before .before .before .before .before .short .ensures) room _
     (c .before .before .clear-u642 .ensures ∙ ap (λ (u : ℕ). replicate u 0) kept) (c .before .before .before .before .if3 .taken)
 
 write-map-requires : tie.Need-write-map-requires
 write-map-requires c κs =
     let o = c .before .before .before .before .before .before .before .before .before .before .before .before .before .before .before .before .before .before .before .before .before .before .before .before .before .before .before .args in
-    let good = (sym (c .before .before .before .before .before .before .before .before .before .before .before .before .before .before .before .check-function .ensures) ∙ not-false _ (c .before .before .before .before .before .before .before .before .before .before .before .before .before .before .if2 .left)) in
+    let l : Lent = record { kinds = o .kinds .now; ends = o .ends .now; refs = o .refs .now; blocks = o .blocks .now; classes = o .classes .now } in
+    let room = c .before .before .before .before .before .before .before .before .before .before .before .before .before .before .before .before .before .enough .ensures .0 (not-false _ (c .before .before .before .before .before .before .before .before .before .before .before .before .before .before .before .before .if1 .left)) in
+    let good = sym (c .before .before .before .before .before .before .before .before .before .before .before .before .before .before .before .check-function .ensures) ∙ not-false _ (c .before .before .before .before .before .before .before .before .before .before .before .before .before .before .if2 .left) in
     let fit = formed-fit (o .kinds .now) (o .ends .now) (o .refs .now) (o .blocks .now) (o .classes .now) good in (
       good,
       (
-        (refl, omega (arith, (c .before .before .before .before .before .before .before .before .before .before .before .before .before .before .before .before .before .enough .ensures .0 (not-false _ (c .before .before .before .before .before .before .before .before .before .before .before .before .before .before .before .before .if1 .left))), need-is (length (o .blocks .now) / 2) ((length (o .classes .now) + 63) / 64), c .before .before .before .before .before .before .before .before .before .before .before .before .analyse .ensures .0, c .before .before .before .before .before .before .before .before .count-map .ensures .frame .kept), omega arith, omega (arith, fit .class-count), fit .code-count),
-        (fixed-out (c .before .before .before .before .before .before .before .before .before .before .before .before .analyse .ensures .1) (c .before .before .before .before .before .before .before .before .count-map .ensures .frame), room-for (record { kinds = o .kinds .now; ends = o .ends .now; refs = o .refs .now; blocks = o .blocks .now; classes = o .classes .now }) (wanted (o .which)) (o .s .now) _ _ _ good (c .before .before .before .before .before .before .before .before .count-map .ensures) (c .before .before .before .before .before .short .ensures) (c .before .before .before .before .if3 .left)),
+        (refl, omega (arith, room, need-is (length (o .blocks .now) / 2) ((length (o .classes .now) + 63) / 64), c .before .before .before .before .before .before .before .before .before .before .before .before .analyse .ensures .0, c .before .before .before .before .before .before .before .before .count-map .ensures .frame .kept), omega arith, omega (arith, fit .class-count), fit .code-count),
+        (fixed-out (c .before .before .before .before .before .before .before .before .before .before .before .before .analyse .ensures .1) (c .before .before .before .before .before .before .before .before .count-map .ensures .frame), room-for l (wanted (o .which)) (o .s .now) _ _ _ good (c .before .before .before .before .before .before .before .before .count-map .ensures) (c .before .before .before .before .before .short .ensures) (c .before .before .before .before .if3 .left)),
       ),
     )
 
@@ -107,8 +119,11 @@ same-length-6 c = search needs
 returns-4 : tie.Need-returns-4
 returns-4 c =
     let o = c .before .before .before .before .before .before .before .before .before .before .before .before .before .before .before .before .before .before .before .before .before .before .before .before .before .before .before .before .before .before .before .before .before .before .before .before .before .before .before .before .args in
+    let l : Lent = record { kinds = o .kinds .now; ends = o .ends .now; refs = o .refs .now; blocks = o .blocks .now; classes = o .classes .now } in
+    let good = sym (c .before .before .before .before .before .before .before .before .before .before .before .before .before .before .before .before .before .before .before .before .before .before .before .before .before .before .before .before .check-function .ensures) ∙ not-false _ (c .before .before .before .before .before .before .before .before .before .before .before .before .before .before .before .before .before .before .before .before .before .before .before .before .before .before .before .if2 .left) in
+    let room = c .before .before .before .before .before .before .before .before .before .before .before .before .before .before .before .before .before .before .before .before .before .before .before .before .before .before .before .before .before .before .enough .ensures .0 (not-false _ (c .before .before .before .before .before .before .before .before .before .before .before .before .before .before .before .before .before .before .before .before .before .before .before .before .before .before .before .before .before .if1 .left)) in
     let kept = c .before .before .before .before .before .before .before .before .before .before .before .before .write-map .ensures .frame .kept ∙ c .before .before .before .before .before .before .before .before .before .before .before .before .before .before .before .before .before .before .before .before .before .count-map .ensures .frame .kept ∙ c .before .before .before .before .before .before .before .before .before .before .before .before .before .before .before .before .before .before .before .before .before .before .before .before .before .analyse .ensures .0 in
-    refs-map (record { kinds = o .kinds .now; ends = o .ends .now; refs = o .refs .now; blocks = o .blocks .now; classes = o .classes .now }) (wanted (o .which)) _ _ _ _ (sym (c .before .before .before .before .before .before .before .before .before .before .before .before .before .before .before .before .before .before .before .before .before .before .before .before .before .before .before .before .check-function .ensures) ∙ not-false _ (c .before .before .before .before .before .before .before .before .before .before .before .before .before .before .before .before .before .before .before .before .before .before .before .before .before .before .before .if2 .left)) (c .before .before .before .before .before .before .before .before .before .before .before .before .before .before .before .before .before .before .before .before .before .count-map .ensures) (c .before .before .before .before .before .before .before .before .before .before .before .before .before .before .before .before .before .before .short .ensures) (c .before .before .before .before .before .before .before .before .before .before .before .before .before .before .before .before .before .before .before .before .before .before .before .before .before .before .before .before .before .before .enough .ensures .0 (not-false _ (c .before .before .before .before .before .before .before .before .before .before .before .before .before .before .before .before .before .before .before .before .before .before .before .before .before .before .before .before .before .if1 .left))) _
+    refs-map l (wanted (o .which)) _ _ _ _ good (c .before .before .before .before .before .before .before .before .before .before .before .before .before .before .before .before .before .before .before .before .before .count-map .ensures) (c .before .before .before .before .before .before .before .before .before .before .before .before .before .before .before .before .before .before .short .ensures) room _
     (c .before .before .clear-u643 .ensures ∙ ap (λ (u : ℕ). replicate u 0) kept) (c .before .before .before .before .before .before .before .before .before .before .before .before .before .before .before .before .before .if3 .left) (c .before .before .before .before .before .before .before .before .before .before .before .before .write-map .ensures)
 
 pub live-refs-spec : {M : Type 1} → statement M
