@@ -1,4 +1,5 @@
 // The live map of some small functions, an answer a line: the number that the host is told, then the registers.
+use root_map::LiveRefs;
 use roots::LiveAt;
 
 fn number(n: u64) {
@@ -127,6 +128,69 @@ fn short(scratch: &mut [u64], regs: &mut [u32]) {
     show(a, &[0u32; 4]);
 }
 
+// How many safepoints and registers a map has, then both lists of safepoints, then the registers and what stood after them.
+fn show_map(a: LiveRefs, pcs: &[u32; 2], bounds: &[u32; 2], regs: &[u32; 6]) {
+    match a {
+        LiveRefs::Map(points, registers) => {
+            number(0);
+            number(points as u64);
+            number(registers as u64);
+            register(pcs[0]);
+            register(pcs[1]);
+            register(bounds[0]);
+            register(bounds[1]);
+            register(regs[0]);
+            register(regs[1]);
+            register(regs[2]);
+            register(regs[3]);
+            register(regs[4]);
+            register(regs[5]);
+        }
+        LiveRefs::Scratch => number(18),
+        LiveRefs::Function => number(15),
+        LiveRefs::Short => number(7),
+    }
+    io::write_all(1, b"\n");
+}
+
+// The safepoint 0, in block 0, reads register 2; the block ends in a branch to block 2. The safepoint 2 is in no block. The safepoint 3, in block 2, reads
+// register 1 and writes 0, which is read after it and so is live after it only. The class of register 3, which is read there too, is `class`.
+fn map_of(class: u8, all: bool, pcs: &mut [u32], bounds: &mut [u32], regs: &mut [u32]) -> LiveRefs {
+    let kinds = [1, 2, 1, 1, 5];
+    let ends = [0, 1, 1, 1, 1, 2, 2, 2, 2, 3, 4, 4, 4, 6, 6];
+    let refs = [2, 2, 0, 1, 0, 3];
+    let blocks = [0, 2, 2, 2, 3, 5];
+    let classes = [4, 2, 4, class];
+    let mut scratch = [7u64; 11];
+    yexwalu::live::live_refs(
+        &kinds,
+        &ends,
+        &refs,
+        &blocks,
+        &classes,
+        all,
+        &mut scratch,
+        pcs,
+        bounds,
+        regs,
+    )
+}
+
+fn whole(class: u8, all: bool) {
+    let mut pcs = [9u32; 2];
+    let mut bounds = [9u32; 2];
+    let mut regs = [9u32; 6];
+    let a = map_of(class, all, &mut pcs, &mut bounds, &mut regs);
+    show_map(a, &pcs, &bounds, &regs);
+}
+
+// Room for one safepoint, or for two registers, and not for all.
+fn cramped(pcs: &mut [u32], regs: &mut [u32]) {
+    let mut bounds = [9u32; 2];
+    let a = map_of(0, false, pcs, &mut bounds, regs);
+    show_map(a, &[9u32; 2], &bounds, &[9u32; 6]);
+}
+
 fn main() {
     looping(3, 5, 2, false);
     looping(3, 2, 2, false);
@@ -145,4 +209,11 @@ fn main() {
     let mut two = [9u32; 2];
     short(&mut few, &mut two);
     short(&mut enough, &mut one);
+    whole(0, false);
+    whole(0, true);
+    whole(5, true);
+    let mut six = [9u32; 6];
+    cramped(&mut one, &mut six);
+    let mut points = [9u32; 2];
+    cramped(&mut points, &mut two);
 }

@@ -35,10 +35,10 @@ use Rattle.roots.proofs.Checks.{Fit, formed-fit}
 pub need-is : (nb W : ℕ) → (3 * nb + 2) * W ≡ nb * (3 * W) + 2 * W
 need-is nb W = add-mul (3 * nb) 2 W ∙ ap (λ (u : ℕ). u + 2 * W) (ap (λ (u : ℕ). u * W) (mul-comm 3 nb) ∙ mul-assoc nb 3 W)
 
-yes-then : {A : Type 0} (b : Bool) (x y : A) → b ≡ true → (if b then x else y) ≡ x
+pub yes-then : {A : Type 0} (b : Bool) (x y : A) → b ≡ true → (if b then x else y) ≡ x
 yes-then b x y h = rw h
 
-no-then : {A : Type 0} (b : Bool) (x y : A) → b ≡ false → (if b then x else y) ≡ y
+pub no-then : {A : Type 0} (b : Bool) (x y : A) → b ≡ false → (if b then x else y) ≡ y
 no-then b x y h = rw h
 
 -- ---- the row of an instruction

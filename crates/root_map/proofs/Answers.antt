@@ -1,0 +1,114 @@
+-- What `live_refs` answers, a law for each way out. Assumes nothing.
+use mathlib.Core.Path.{_≡_, refl, sym, ap, ap₂, _∙_}
+use mathlib.Core.Bool.{Bool, true, false, not, _||_, true≢false}
+use mathlib.Core.List.{List, flatMap}
+use Prim.Native.Nat.{ℕ, _+_, _/_, _≤_, _<_}
+use native.Mathlib.Omega.{arith}
+use lib.ListN.{length, replicate}
+use lib.Dec.{ltb}
+use borrow.Author.Tests.{lt-ltb, le-ltb, ltb-false}
+use Rattle.word.specs.Result.{Result, ok, refused}
+use Rattle.word.specs.Ones.{passing}
+use Rattle.word.specs.Put.{put}
+use Rattle.flow.specs.Function.{safepoint, safepoints}
+use Rattle.roots.specs.Calls.{Lent, function, right, need, after, scratchAfter}
+use Rattle.roots.proofs.Forms.{code-count, formed-parts}
+use Rattle.roots.proofs.Answers.{row-is, yes-then, no-then}
+use Rattle.root_map.specs.Calls.{limits, Size, liveRefsAnswer, toldRefs, LiveRefsCall}
+use Rattle.root_map.specs.Columns.{pointsTo, liveOf, Counted, Fits, Written}
+use Rattle.root_map.specs.declared.LiveRefs.{LiveRefs}
+use Rattle.root_map.specs.declared.LiveRefs.the-variants as Refs
+
+neither : (a b : Bool) → a || b ≡ false → (a ≡ false) × (b ≡ false)
+neither false b h = (refl, h)
+neither true b h = absurd (true≢false h)
+
+module _ (l : Lent) (t : ℕ → Bool) where
+  abbrev words : ℕ
+  words = (length (l .classes) + 63) / 64
+
+  abbrev live : ℕ → List ℕ
+  live = liveOf t (l .kinds) (l .ends) (l .refs) (l .blocks) (l .classes) words
+
+  abbrev points : List ℕ
+  points = safepoints (function l)
+
+  -- all instructions have been looked at
+  all-points : right l ≡ true → pointsTo (l .kinds) (l .ends) (l .refs) (l .blocks) (l .classes) (length (l .kinds)) ≡ points
+  unfolding safepoints
+  all-points h = ap (passing (safepoint (function l)) 0) (sym (code-count (l .kinds) (l .ends) (l .refs) (l .blocks) (l .classes) (formed-parts h .three)))
+
+  module _ (rows pcs bounds regs : List ℕ) where
+    abbrev answer : Result Size
+    answer = liveRefsAnswer l (length rows) (length pcs) (length bounds) (length regs) live
+
+    refuse : (rows′ : List ℕ) → rows′ ≡ scratchAfter l rows → (n : ℕ) (r : LiveRefs) → toldRefs r ≡ refused n → answer ≡ refused n → LiveRefsCall l t rows pcs bounds regs rows′ pcs bounds regs r
+    refuse rows′ z n r a e = record {
+      live = live;
+      is = λ g p s. row-is l t p g s;
+      answer = a ∙ sym e;
+      points = sym (ap (λ (u : Result Size). after u pcs (put pcs 0 points (length points))) a);
+      limits-are = sym (ap (λ (u : Result Size). after u bounds (put bounds 0 (limits live 0 points) (length points))) a);
+      registers = sym (ap (λ (u : Result Size). after u regs (put regs 0 (flatMap live points) (length (flatMap live points)))) a);
+      scratch = z;
+    }
+
+    pub refs-scratch : length rows < need l → LiveRefsCall l t rows pcs bounds regs rows pcs bounds regs Refs.Scratch
+    unfolding liveRefsAnswer scratchAfter
+    refs-scratch h = let e = lt-ltb (length rows) (need l) h in refuse rows (sym (yes-then _ _ _ e)) 18 Refs.Scratch refl (yes-then _ _ _ e)
+
+    module _ (room : need l ≤ length rows) (rows′ : List ℕ) (clean : rows′ ≡ replicate (length rows) 0) where
+      scratch-is : rows′ ≡ scratchAfter l rows
+      unfolding scratchAfter
+      scratch-is = clean ∙ sym (no-then _ _ _ (le-ltb (length rows) (need l) room))
+
+      pub refs-function : right l ≡ false → LiveRefsCall l t rows pcs bounds regs rows′ pcs bounds regs Refs.Function
+      unfolding liveRefsAnswer
+      refs-function h = refuse rows′ scratch-is 15 Refs.Function refl (no-then _ _ _ (le-ltb (length rows) (need l) room) ∙ yes-then _ _ _ (ap not h))
+
+    -- what was counted, and whether there is room for it
+    module _ (good : right l ≡ true) {s s′ : List ℕ} {nb p n : ℕ} (counted : Counted t (l .kinds) (l .ends) (l .refs) (l .blocks) (l .classes) s s′ words nb (length (l .kinds)) p n)
+        {b : Bool} (test : b ≡ (ltb (length pcs) p || (ltb (length bounds) p || ltb (length regs) n))) where
+      points-count : p ≡ length points
+      points-count = counted .points-are ∙ ap length (all-points good)
+
+      registers-count : n ≡ length (flatMap live points)
+      registers-count = counted .registers-are ∙ ap (λ (u : List ℕ). length (flatMap live u)) (all-points good)
+
+      pub room-for : b ≡ false → Fits t (l .kinds) (l .ends) (l .refs) (l .blocks) (l .classes) pcs bounds regs words
+      room-for h =
+          let a = neither (ltb (length pcs) p) _ (sym test ∙ h) in
+          let d = neither (ltb (length bounds) p) _ (a .1) in
+          record {
+            for-points = omega (arith, counted .points-are, ltb-false (length pcs) p (a .0));
+            for-bounds = omega (arith, counted .points-are, ltb-false (length bounds) p (d .0));
+            for-registers = omega (arith, counted .registers-are, ltb-false (length regs) n (d .1));
+          }
+
+      tested : (ltb (length pcs) (length points) || (ltb (length bounds) (length points) || ltb (length regs) (length (flatMap live points)))) ≡ b
+      tested = sym (test ∙ ap₂ (λ (x y : ℕ). ltb (length pcs) x || (ltb (length bounds) x || ltb (length regs) y)) points-count registers-count)
+
+      module _ (room : need l ≤ length rows) (rows′ : List ℕ) (clean : rows′ ≡ replicate (length rows) 0) where
+        pub refs-short : b ≡ true → LiveRefsCall l t rows pcs bounds regs rows′ pcs bounds regs Refs.Short
+        unfolding liveRefsAnswer
+        refs-short h =
+            refuse rows′ (scratch-is room rows′ clean) 7 Refs.Short refl
+            (no-then _ _ _ (le-ltb (length rows) (need l) room) ∙ no-then _ _ _ (ap not good) ∙ yes-then _ _ _ (tested ∙ h))
+
+        answer-is : b ≡ false → answer ≡ ok (record { points = length points; registers = length (flatMap live points) })
+        unfolding liveRefsAnswer
+        answer-is h = no-then _ _ _ (le-ltb (length rows) (need l) room) ∙ no-then _ _ _ (ap not good) ∙ no-then _ _ _ (tested ∙ h)
+
+        pub refs-map : b ≡ false → {r r′ pcs′ bounds′ regs′ : List ℕ} → Written t (l .kinds) (l .ends) (l .refs) (l .blocks) (l .classes) r r′ pcs pcs′ bounds bounds′ regs regs′ words nb (length (l .kinds))
+            → LiveRefsCall l t rows pcs bounds regs rows′ pcs′ bounds′ regs′ (Refs.Map p n)
+        refs-map h w =
+            let all = all-points good in
+            record {
+              live = live;
+              is = λ g i k. row-is l t i g k;
+              answer = ap₂ (λ (x y : ℕ). ok (record { points = x; registers = y })) points-count registers-count ∙ sym (answer-is h);
+              points = w .points ∙ ap (λ (u : List ℕ). put pcs 0 u (length u)) all;
+              limits-are = w .limits-are ∙ ap (λ (u : List ℕ). put bounds 0 (limits live 0 u) (length u)) all;
+              registers = w .registers ∙ ap (λ (u : List ℕ). put regs 0 (flatMap live u) (length (flatMap live u))) all;
+              scratch = scratch-is room rows′ clean;
+            }

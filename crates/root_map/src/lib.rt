@@ -1,0 +1,247 @@
+// The map of all safepoints of a function: which registers are live before each. Inner functions: the front door is crate `yexwalu`.
+use roots::Tracked;
+use roots::at::find_block;
+use roots::check::check_function;
+use roots::check::enough;
+use roots::fixpoint::analyse;
+use roots::fixpoint::back_at;
+use roots::fixpoint::gather;
+use roots::row::wide;
+ghost use mathlib.Core.Path.{_≡_};
+ghost use mathlib.Core.Bool.{true, _||_};
+ghost use Prim.Native.Nat.{_+_, _-_, _*_, _/_, _≤_, _<_};
+ghost use lib.Dec.{ltb};
+ghost use lib.ListN.{length};
+ghost use Rattle.rows.specs.Row.{listed};
+ghost use Rattle.word.specs.Put.{put};
+ghost use Rattle.roots.specs.View.{formed};
+ghost use Rattle.root_map.specs.Calls.{LiveRefsCall};
+ghost use Rattle.roots.specs.Columns.{wanted, seen, Fixed};
+ghost use Rattle.root_map.specs.Columns.{one, rowAt, Pointed, Counted, Fits, Written};
+
+// What `live_refs` answers.
+pub enum LiveRefs {
+    // So many safepoints, and so many registers in all, are listed.
+    Map(usize, usize),
+    // 18
+    Scratch,
+    // 15
+    Function,
+    // 7
+    Short,
+}
+
+// How many safepoints, and registers live at them, there are.
+pub struct Counts {
+    pub points: usize,
+    pub registers: usize,
+}
+
+// Where instruction pc is a safepoint inside a block, the row after the blocks' becomes the registers that are live before it. Whether it is one.
+fn point_row(
+    s: &mut [u64],
+    kinds: &[u8],
+    ends: &[u32],
+    refs: &[u32],
+    blocks: &[u32],
+    classes: &[u8],
+    which: Tracked,
+    nb: usize,
+    words: usize,
+    pc: usize,
+) -> bool
+    requires { ⌜ formed (now kinds) (now ends) (now refs) (now blocks) (now classes) ≡ true ⌝ }
+    requires { ⌜ (nb ≡ length (now blocks) / 2) × (nb * (3 * words) + 2 * words ≤ length (now s)) × (length (now classes) ≤ 64 * words) × (pc < length (now kinds)) ⌝ }
+    requires { ⌜ Fixed (seen (wanted which) (now kinds) (now ends) (now refs) (now blocks) (now classes)) (now blocks) (now s) words nb ⌝ }
+    ensures { λ r. ⌜ Pointed (wanted which) (now (kinds .entry)) (now (ends .entry)) (now (refs .entry)) (now (blocks .entry)) (now (classes .entry)) (now (s .entry)) (now (s .exit)) words nb pc r ⌝ }
+{
+    if kinds[pc] != 1 {
+        return false;
+    }
+    let b = find_block(blocks, nb, pc);
+    if nb <= b {
+        return false;
+    }
+    gather(s, kinds, ends, refs, blocks, nb, words, b);
+    let e = wide(blocks[2 * b + 1]);
+    back_at(
+        s,
+        nb * (3 * words),
+        words,
+        ends,
+        refs,
+        classes,
+        which,
+        pc,
+        e,
+    );
+    true
+}
+
+// How many registers the row at `at` has.
+fn count_at(s: &[u64], at: usize, words: usize) -> usize
+    requires { ⌜ (at + words ≤ length (now s)) × (words ≤ 256) ⌝ }
+    ensures { λ r. ⌜ (r ≡ length (listed (rowAt (now (s .entry)) at words))) × (r ≤ 16384) ⌝ }
+{
+    let past = at + words;
+    rows::count(&s[at..past])
+}
+
+// Counts the map.
+fn count_map(
+    s: &mut [u64],
+    kinds: &[u8],
+    ends: &[u32],
+    refs: &[u32],
+    blocks: &[u32],
+    classes: &[u8],
+    which: Tracked,
+    nb: usize,
+    words: usize,
+) -> Counts
+    requires { ⌜ formed (now kinds) (now ends) (now refs) (now blocks) (now classes) ≡ true ⌝ }
+    requires { ⌜ (nb ≡ length (now blocks) / 2) × (nb * (3 * words) + 2 * words ≤ length (now s)) × (length (now classes) ≤ 64 * words) × (words ≤ 256) × (length (now kinds) ≤ 65536) ⌝ }
+    requires { ⌜ Fixed (seen (wanted which) (now kinds) (now ends) (now refs) (now blocks) (now classes)) (now blocks) (now s) words nb ⌝ }
+    ensures { λ r. ⌜ Counted (wanted which) (now (kinds .entry)) (now (ends .entry)) (now (refs .entry)) (now (blocks .entry)) (now (classes .entry)) (now (s .entry)) (now (s .exit)) words nb (length (now (kinds .entry))) (r .points) (r .registers) ⌝ }
+{
+    let at = nb * (3 * words);
+    let mut points: usize = 0;
+    let mut registers: usize = 0;
+    let mut pc = 0;
+    while pc < kinds.len() {
+        let p = pc;
+        pc += 1;
+        if point_row(s, kinds, ends, refs, blocks, classes, which, nb, words, p) {
+            points += 1;
+            registers += count_at(s, at, words);
+        }
+    }
+    Counts { points, registers }
+}
+
+// Whether the lent lists have too little room for so many safepoints and registers.
+fn short(points: usize, registers: usize, pcs: usize, bounds: usize, regs: usize) -> bool
+    ensures { λ r. ⌜ r ≡ (ltb pcs points || (ltb bounds points || ltb regs registers)) ⌝ }
+{
+    if pcs < points {
+        return true;
+    }
+    if bounds < points {
+        return true;
+    }
+    regs < registers
+}
+
+// Writes one safepoint: its place, where its registers end, and its registers, those of the row at `at`. Where they end.
+fn write_point(
+    s: &[u64],
+    at: usize,
+    words: usize,
+    pc: usize,
+    pcs: &mut [u32],
+    bounds: &mut [u32],
+    regs: &mut [u32],
+    k: usize,
+    from: usize,
+) -> usize
+    requires { ⌜ (at + words ≤ length (now s)) × (words ≤ 256) × (pc < 65536) × (k < length (now pcs)) × (k < length (now bounds)) × (from ≤ 1073741824) ⌝ }
+    requires { ⌜ from + length (listed (rowAt (now s) at words)) ≤ length (now regs) ⌝ }
+    ensures { λ r. ⌜ (r ≡ from + length (listed (rowAt (now (s .entry)) at words))) × (r ≤ from + 16384)
+        × (now (pcs .exit) ≡ put (now (pcs .entry)) k (one pc) 1) × (now (bounds .exit) ≡ put (now (bounds .entry)) k (one r) 1)
+        × (now (regs .exit) ≡ put (now (regs .entry)) from (listed (rowAt (now (s .entry)) at words)) (length (listed (rowAt (now (s .entry)) at words)))) ⌝ }
+{
+    let n = count_at(s, at, words);
+    let to = from + n;
+    let past = at + words;
+    rows::list_row(&s[at..past], &mut regs[from..to]);
+    pcs[k] = pc as u32;
+    bounds[k] = to as u32;
+    to
+}
+
+// Writes the map.
+fn write_map(
+    s: &mut [u64],
+    kinds: &[u8],
+    ends: &[u32],
+    refs: &[u32],
+    blocks: &[u32],
+    classes: &[u8],
+    which: Tracked,
+    nb: usize,
+    words: usize,
+    pcs: &mut [u32],
+    bounds: &mut [u32],
+    regs: &mut [u32],
+)
+    requires { ⌜ formed (now kinds) (now ends) (now refs) (now blocks) (now classes) ≡ true ⌝ }
+    requires { ⌜ (nb ≡ length (now blocks) / 2) × (nb * (3 * words) + 2 * words ≤ length (now s)) × (length (now classes) ≤ 64 * words) × (words ≤ 256) × (length (now kinds) ≤ 65536) ⌝ }
+    requires { ⌜ Fixed (seen (wanted which) (now kinds) (now ends) (now refs) (now blocks) (now classes)) (now blocks) (now s) words nb ⌝ }
+    requires { ⌜ Fits (wanted which) (now kinds) (now ends) (now refs) (now blocks) (now classes) (now pcs) (now bounds) (now regs) words ⌝ }
+    ensures { λ _. ⌜ Written (wanted which) (now (kinds .entry)) (now (ends .entry)) (now (refs .entry)) (now (blocks .entry)) (now (classes .entry)) (now (s .entry)) (now (s .exit))
+        (now (pcs .entry)) (now (pcs .exit)) (now (bounds .entry)) (now (bounds .exit)) (now (regs .entry)) (now (regs .exit)) words nb (length (now (kinds .entry))) ⌝ }
+{
+    let at = nb * (3 * words);
+    let mut k: usize = 0;
+    let mut from: usize = 0;
+    let mut pc = 0;
+    while pc < kinds.len() {
+        let p = pc;
+        pc += 1;
+        if point_row(s, kinds, ends, refs, blocks, classes, which, nb, words, p) {
+            from = write_point(s, at, words, p, pcs, bounds, regs, k, from);
+            k += 1;
+        }
+    }
+}
+
+// The registers that are live before each safepoint, rising, the safepoints rising too.
+pub fn live_refs(
+    kinds: &[u8],
+    ends: &[u32],
+    refs: &[u32],
+    blocks: &[u32],
+    classes: &[u8],
+    which: Tracked,
+    s: &mut [u64],
+    pcs: &mut [u32],
+    bounds: &mut [u32],
+    regs: &mut [u32],
+) -> LiveRefs
+    ensures { λ r. ⌜ LiveRefsCall (record { kinds = now (kinds .entry); ends = now (ends .entry); refs = now (refs .entry); blocks = now (blocks .entry); classes = now (classes .entry) })
+        (wanted which) (now (s .entry)) (now (pcs .entry)) (now (bounds .entry)) (now (regs .entry)) (now (s .exit)) (now (pcs .exit)) (now (bounds .exit)) (now (regs .exit)) r ⌝ }
+{
+    let words = (classes.len() + 63) / 64;
+    let nb = blocks.len() / 2;
+    if !enough(s.len(), 3 * nb + 2, words) {
+        return LiveRefs::Scratch;
+    }
+    if !check_function(kinds, ends, refs, blocks, classes) {
+        memory::clear_u64(s);
+        return LiveRefs::Function;
+    }
+    analyse(s, kinds, ends, refs, blocks, classes, which, nb, words);
+    let c = count_map(s, kinds, ends, refs, blocks, classes, which, nb, words);
+    let points = c.points;
+    let registers = c.registers;
+    if short(points, registers, pcs.len(), bounds.len(), regs.len()) {
+        memory::clear_u64(s);
+        return LiveRefs::Short;
+    }
+    write_map(
+        s,
+        kinds,
+        ends,
+        refs,
+        blocks,
+        classes,
+        which,
+        nb,
+        words,
+        pcs,
+        bounds,
+        regs,
+    );
+    memory::clear_u64(s);
+    LiveRefs::Map(points, registers)
+}
