@@ -1,2 +1,4 @@
 -- What the proofs of several calls use.
 mod TypeCalls
+mod HandleCalls
+pub mod Paging

@@ -1,3 +1,6 @@
 -- The definitions that the public contracts cite.
 pub mod Types
+pub mod Handles
 pub mod Live
+pub mod Scratch
+pub mod Page

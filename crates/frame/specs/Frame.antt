@@ -1,0 +1,49 @@
+-- The handles and the addresses of a frame's memory by its map (01, "Frame map and joined collection"; slot_roots of heap.rs).
+use Prim.Native.Nat.{ℕ}
+use mathlib.Core.Bool.{_&&_}
+use mathlib.Core.Option.{Option, none, some}
+use mathlib.Core.List.{List, [], _∷_}
+use lib.ListN.{length, drop}
+use lib.Dec.{leb, eqb}
+use Rattle.word.specs.Choice.{if_then_else_}
+use Rattle.ty.specs.Types.{Table}
+use Rattle.trace.specs.Places.{both, handleAt, valueHandles}
+
+-- an entry of a frame map: offset, kind and type. Kind 0 Handle, 1 Address, 2 Composite with its type
+pub data Entry : Type 0 where
+  entry : ℕ → ℕ → ℕ → Entry
+
+-- the map as it is lent: three lists of one length
+unfoldable pub entriesOf : List ℕ → List ℕ → List ℕ → List Entry
+entriesOf [] ks ts = []
+entriesOf (o ∷ os) [] ts = []
+entriesOf (o ∷ os) (k ∷ ks) [] = []
+entriesOf (o ∷ os) (k ∷ ks) (t ∷ ts) = entry o k t ∷ entriesOf os ks ts
+
+-- the word at the start of bytes; fewer than eight give none
+unfoldable pub firstWord : List ℕ → List ℕ
+firstWord v = if leb 8 (length v) then (handleAt v 0 ∷ []) else []
+
+-- What one entry gives of a kind, 0 for handles, 1 for addresses. An offset beyond the memory, another kind or an untraceable composite fails.
+unfoldable pub entryRoots : Table → ℕ → List ℕ → Entry → Option (List ℕ)
+entryRoots T want m (entry off kind t) =
+    if leb off (length m)
+    then (if eqb kind 2 then (if eqb want 0 then valueHandles T t (drop off m) else some [])
+    else (if leb kind 1 then (if eqb kind want then some (firstWord (drop off m)) else some []) else none))
+    else none
+
+-- all entries, in the map's order
+unfoldable pub entriesRoots : Table → ℕ → List ℕ → List Entry → Option (List ℕ)
+entriesRoots T want m [] = some []
+entriesRoots T want m (e ∷ es) = both (entryRoots T want m e) (entriesRoots T want m es)
+
+-- a map whose lists are of unlike lengths fails
+unfoldable pub frameRoots : Table → ℕ → (offsets kinds types memory : List ℕ) → Option (List ℕ)
+frameRoots T want os ks ts m = if eqb (length ks) (length os) && eqb (length ts) (length os) then entriesRoots T want m (entriesOf os ks ts) else none
+
+-- the handles and the addresses of a frame
+abbrev pub frameHandles : Table → (offsets kinds types memory : List ℕ) → Option (List ℕ)
+frameHandles T os ks ts m = frameRoots T 0 os ks ts m
+
+abbrev pub frameAddresses : Table → (offsets kinds types memory : List ℕ) → Option (List ℕ)
+frameAddresses T os ks ts m = frameRoots T 1 os ks ts m

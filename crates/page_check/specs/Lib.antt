@@ -1,0 +1,4 @@
+pub mod Filling
+pub mod Partition
+pub mod Answer
+pub mod Sections

@@ -1,0 +1,82 @@
+-- What the first pass over a text finds (01, "Page").
+use Prim.Native.Nat.{ℕ, _≤_}
+use mathlib.Core.List.{List, _++_}
+use mathlib.Core.Option.{Option, none, some}
+use mathlib.Core.Bool.{Bool, _&&_}
+use mathlib.Core.Path.{_≡_}
+use lib.Dec.{ltb}
+use lib.ListN.{length}
+use Rattle.heap.specs.State.{State, dataSize}
+use Rattle.heap.specs.Calls.{new}
+use Rattle.word.specs.Choice.{if_then_else_}
+use Rattle.word.specs.Result.{Result, ok, refused}
+use Rattle.heap.specs.WellFormed.{all, soundSlot, soundSeals, soundReclaim, sound}
+use Rattle.pages.specs.Page.{readPage}
+use Rattle.page_check.specs.Partition.{valuesAt, ValuesParsed}
+use Rattle.page_check.specs.Filling.{slotsAt, SlotsParsed}
+use Rattle.page_check.specs.declared.Sections.{Sections}
+use Rattle.page_check.specs.declared.Parsed.{Parsed as Answer}
+use Rattle.page_check.specs.declared.Parsed.the-variants.{Page, NotPage}
+use Rattle.page_check.specs.declared.Checked.{Checked}
+use Rattle.page_check.specs.declared.Checked.the-variants as checked
+
+-- the heap whose page a text is; a text that is none's has no use for it
+unfoldable pub heapIn : List ℕ → State
+heapIn t = elim (readPage t) [ none ↦ new 0 | some h ↦ h ]
+
+-- sound, the partition apart
+abbrev pub soundBut : State → Bool
+soundBut h =
+    all soundSlot (h .slots) && all (λ i. ltb i (length (h .slots))) (h .free ++ h .quarantine)
+    && soundSeals (h .tag) (length (h .slots)) 0 (h .sealed) && soundReclaim (h .reclaimAt)
+
+-- a page's sections are those of its heap
+pub record Sectioned (s : List ℕ) (x : Sections) : Type 0 where
+  pub page : readPage s ≡ some (heapIn s)
+  pub tag : x .tag ≡ heapIn s .tag
+  pub since : x .«since_gc» ≡ heapIn s .sinceGc
+  pub reclaim : x .«reclaim_at» ≡ heapIn s .reclaimAt
+  pub live : x .«live_bytes» ≡ heapIn s .liveBytes
+  pub slots : SlotsParsed s (x .«slots_at») (x .slots)
+  pub slotsAre : slotsAt s (x .«slots_at») (x .slots) ≡ heapIn s .slots
+  pub slotCount : x .slots ≡ length (heapIn s .slots)
+  pub free : ValuesParsed 32 s (x .«free_at») (x .free)
+  pub freeAre : valuesAt 32 s (x .«free_at») (x .free) ≡ heapIn s .free
+  pub freeCount : x .free ≡ length (heapIn s .free)
+  pub quarantine : ValuesParsed 32 s (x .«quarantine_at») (x .quarantine)
+  pub quarantineAre : valuesAt 32 s (x .«quarantine_at») (x .quarantine) ≡ heapIn s .quarantine
+  pub quarantineCount : x .quarantine ≡ length (heapIn s .quarantine)
+  pub sealed : ValuesParsed 64 s (x .«sealed_at») (x .sealed)
+  pub sealedAre : valuesAt 64 s (x .«sealed_at») (x .sealed) ≡ heapIn s .sealed
+  pub sealedCount : x .sealed ≡ length (heapIn s .sealed)
+  pub size : x .size ≡ dataSize (heapIn s .slots)
+  pub sound : x .sound ≡ soundBut (heapIn s)
+  pub slotsInside : x .«slots_at» ≤ length s
+  pub freeInside : x .«free_at» ≤ length s
+  pub quarantineInside : x .«quarantine_at» ≤ length s
+  pub sealedInside : x .«sealed_at» ≤ length s
+
+-- a text is a page with these sections, or it is none
+abbrev pub Parsing : List ℕ → Answer → Type 0
+Parsing s (Page x) = Sectioned s x
+Parsing s NotPage = readPage s ≡ none
+
+-- what a text is refused for, in 01's order, or its heap: not a page 17, lent sizes out of range or a heap that is not sound 1, beyond the pool 6,
+-- beyond the lent slots 5
+unfoldable pub verdict : (sizes : Bool) (S P : ℕ) → Option State → Result State
+verdict sizes S P none = refused 17
+verdict sizes S P (some h) =
+    if sizes && sound h then (if ltb P (dataSize (h .slots)) then refused 6 else if ltb S (length (h .slots)) then refused 5 else ok h)
+    else refused 1
+
+-- a page that can be read
+pub record Accepted (s : List ℕ) (v : Result State) (x : Sections) : Type 0 where
+  pub verdict : v ≡ ok (heapIn s)
+  pub sections : Sectioned s x
+
+abbrev pub Checking : List ℕ → (verdict : Result State) → Checked → Type 0
+Checking s v (checked.Page x) = Accepted s v x
+Checking s v checked.NotPage = v ≡ refused 17
+Checking s v checked.Broken = v ≡ refused 1
+Checking s v checked.NoRoom = v ≡ refused 6
+Checking s v checked.Full = v ≡ refused 5

@@ -1,0 +1,184 @@
+-- The whole heap as the second pass leaves it, and what a call of the reader answers. Assumes nothing.
+use Prim.Native.Nat.{ℕ, _≤_}
+use mathlib.Core.List.{List}
+use mathlib.Core.Bool.{Bool, true, false, _&&_}
+use mathlib.Core.Option.{Option, some}
+use mathlib.Core.Path.{_≡_, refl, sym, ap, _∙_, subst}
+use lib.Dec.{leb, ltb, eqb}
+use lib.ListN.{length}
+use native.Mathlib.Omega.{arith}
+use borrow.Author.Tests.{leb-true, ltb-false, eqb-true}
+use Rattle.word.specs.Result.{Result, ok, refused}
+use Rattle.word.proofs.Bools.{and-both}
+use Rattle.heap.specs.State.{State, dataOf, dataSize}
+use Rattle.heap.specs.Packing.{pad, flat, ends}
+use Rattle.heap.specs.Lent.{Lent, lent, headerOf, stored, column, slotCount, poolSize}
+use Rattle.heap.specs.WellFormed.{sound}
+use Rattle.heap.specs.declared.Heap.{Heap}
+use Rattle.pages.specs.Page.{readPage}
+use Rattle.pages.proofs.Bound.{parts, dead-length, sealed-length}
+use Rattle.page_check.specs.Filling.{slotsAt}
+use Rattle.page_check.specs.Partition.{valuesAt}
+use Rattle.page_check.specs.Sections.{heapIn, Sectioned, Accepted, Checking, verdict}
+use Rattle.page_check.specs.declared.Sections.{Sections}
+use Rattle.page_check.specs.declared.Checked.{Checked}
+use Rattle.page_check.specs.declared.Checked.the-variants as checked
+use Rattle.page_reader.specs.Columns.{Roomy}
+use Rattle.page_reader.specs.Reading.{sizesFit, inRange, readInto, told, PageRead}
+use Rattle.page_reader.specs.declared.Reading.{Reading}
+use Rattle.page_reader.specs.declared.Reading.the-variants.{Done, NotPage, Broken, NoRoom, Full}
+
+-- each column, as `stored` has it
+module _ (s : List ℕ) (x : Sections) (g k t b e w p f q z : List ℕ) (c : Sectioned s x)
+    (r : Roomy (length g) (length k) (length t) (length b) (length e) (length w) (length p) (length f) (length q) (length z) (heapIn s)) where
+  pub loaded : {h : Heap} {g′ k′ t′ b′ e′ w′ p′ f′ q′ z′ : List ℕ} → h ≡ headerOf (heapIn s) →
+      g′ ≡ column (length g) (λ y. y .generation) (slotsAt s (x .«slots_at») (x .slots)) → k′ ≡ column (length k) (λ y. y .kind) (slotsAt s (x .«slots_at») (x .slots)) →
+      t′ ≡ column (length t) (λ y. y .type) (slotsAt s (x .«slots_at») (x .slots)) → b′ ≡ column (length b) (λ y. y .start) (slotsAt s (x .«slots_at») (x .slots)) →
+      e′ ≡ pad (length e) (ends 0 (dataOf (slotsAt s (x .«slots_at») (x .slots)))) → w′ ≡ column (length w) (λ y. y .writes) (slotsAt s (x .«slots_at») (x .slots)) →
+      p′ ≡ pad (length p) (flat (dataOf (slotsAt s (x .«slots_at») (x .slots)))) →
+      f′ ≡ pad (length f) (valuesAt 32 s (x .«free_at») (x .free)) → q′ ≡ pad (length q) (valuesAt 32 s (x .«quarantine_at») (x .quarantine)) →
+      z′ ≡ pad (length z) (valuesAt 64 s (x .«sealed_at») (x .sealed)) →
+      lent h g′ k′ t′ b′ e′ w′ p′ f′ q′ z′ ≡ stored (length g) (length p) (heapIn s)
+  unfolding stored
+  loaded eh eg ek et eb ee ew ep ef eq ez =
+      (λ i. lent (eh i) (eg i) (ek i) (et i) (eb i) (ee i) (ew i) (ep i) (ef i) (eq i) (ez i))
+      ∙ (λ i. lent (headerOf (heapIn s)) (column (length g) (λ y. y .generation) (c .slotsAre i)) (column (r .kindSize i) (λ y. y .kind) (c .slotsAre i))
+      (column (r .typeSize i) (λ y. y .type) (c .slotsAre i)) (column (r .startSize i) (λ y. y .start) (c .slotsAre i)) (pad (r .endSize i) (ends 0 (dataOf (c .slotsAre i))))
+      (column (r .writesSize i) (λ y. y .writes) (c .slotsAre i)) (pad (length p) (flat (dataOf (c .slotsAre i)))) (pad (r .freeSize i) (c .freeAre i))
+      (pad (r .quarantineSize i) (c .quarantineAre i)) (pad (r .sealedSize i) (c .sealedAre i)))
+
+  pub room-data : dataSize (slotsAt s (x .«slots_at») (x .slots)) ≤ length p
+  room-data = rw (c .slotsAre) (r .bytes)
+
+-- THE ANSWER
+
+-- what the tests of the lent sizes say
+record Sizes (g k t b e w p f q z : ℕ) : Type 0 where
+  some : 1 ≤ g
+  kind : k ≡ g
+  type : t ≡ g
+  start : b ≡ g
+  end : e ≡ g
+  writes : w ≡ g
+  free : f ≡ g
+  quarantine : q ≡ g
+  sealed : z ≡ g
+
+sizes : (g k t b e w p f q z : ℕ) → sizesFit g k t b e w p f q z ≡ true → Sizes g k t b e w p f q z
+unfolding sizesFit
+sizes g k t b e w p f q z h =
+    let x2 : Bool = leb 1 g && leb g 16777216 in
+    let x3 : Bool = x2 && leb p 1073741824 in
+    let x4 : Bool = x3 && eqb k g in
+    let x5 : Bool = x4 && eqb t g in
+    let x6 : Bool = x5 && eqb b g in
+    let x7 : Bool = x6 && eqb e g in
+    let x8 : Bool = x7 && eqb w g in
+    let x9 : Bool = x8 && eqb f g in
+    let x10 : Bool = x9 && eqb q g in
+    let p1 = and-both x10 (eqb z g) h in
+    let p2 = and-both x9 (eqb q g) (p1 .0) in
+    let p3 = and-both x8 (eqb f g) (p2 .0) in
+    let p4 = and-both x7 (eqb w g) (p3 .0) in
+    let p5 = and-both x6 (eqb e g) (p4 .0) in
+    let p6 = and-both x5 (eqb b g) (p5 .0) in
+    let p7 = and-both x4 (eqb t g) (p6 .0) in
+    let p8 = and-both x3 (eqb k g) (p7 .0) in
+    let p9 = and-both x2 (leb p 1073741824) (p8 .0) in
+    let p10 = and-both (leb 1 g) (leb g 16777216) (p9 .0) in
+    record {
+      some = leb-true 1 g (p10 .0);
+      kind = eqb-true k g (p8 .1);
+      type = eqb-true t g (p7 .1);
+      start = eqb-true b g (p6 .1);
+      end = eqb-true e g (p5 .1);
+      writes = eqb-true w g (p4 .1);
+      free = eqb-true f g (p3 .1);
+      quarantine = eqb-true q g (p2 .1);
+      sealed = eqb-true z g (p1 .1);
+    }
+
+pub sizes-some : (g k t b e w p f q z m : ℕ) {r : Bool} → r ≡ sizesFit g k t b e w p f q z → g ≤ m → r ≡ true → 1 ≤ m
+sizes-some g k t b e w p f q z m v h d = omega (arith, sizes g k t b e w p f q z (sym v ∙ d) .some)
+
+-- what an accepted heap has passed
+record Passed (r : Bool) (S P : ℕ) (h : State) : Type 0 where
+  sizes : r ≡ true
+  sound : sound h ≡ true
+  room : dataSize (h .slots) ≤ P
+  slots : length (h .slots) ≤ S
+
+not-ok : {h : State} (n : ℕ) → refused n ≡ ok h → ⊥
+not-ok n e = let z : _≡_ {A = ℕ} 0 1 = cc in omega arith
+
+passed : (r : Bool) (S P : ℕ) (o : Option State) (h : State) → o ≡ some h → verdict r S P o ≡ ok h → Passed r S P h
+unfolding verdict
+passed r S P o h e v = go (r && sound h) refl (ltb P (dataSize (h .slots))) refl (ltb S (length (h .slots))) refl (sym (ap (verdict r S P) e) ∙ v)
+  where
+    go : (a : Bool) → (r && sound h) ≡ a → (b : Bool) → ltb P (dataSize (h .slots)) ≡ b → (d : Bool) → ltb S (length (h .slots)) ≡ d → verdict r S P (some h) ≡ ok h → Passed r S P h
+    go false ea b eb d ed u = absurd (not-ok 1 (rw ea at u))
+    go true ea true eb d ed u = absurd (not-ok 6 (rw (ea, eb) at u))
+    go true ea false eb true ed u = absurd (not-ok 5 (rw (ea, eb, ed) at u))
+    go true ea false eb false ed u =
+        let p = and-both r (sound h) ea in
+        record { sizes = p .0; sound = p .1; room = ltb-false P (dataSize (h .slots)) eb; slots = ltb-false S (length (h .slots)) ed }
+
+pub is-page : (s : List ℕ) (v : Result State) (x : Sections) {r : Checked} → Checking s v r → r ≡ checked.Page x → Accepted s v x
+is-page s v x c e = subst (Checking s v) e c
+
+pub roomy : (s : List ℕ) (g k t b e w p f q z : ℕ) (x : Sections) {r : Bool} → r ≡ sizesFit g k t b e w p f q z → Accepted s (verdict r g p (readPage s)) x →
+    Roomy g k t b e w p f q z (heapIn s)
+roomy s g k t b e w p f q z x {r} v a =
+    let d = passed r g p (readPage s) (heapIn s) (a .sections .page) (a .verdict) in
+    let n = sizes g k t b e w p f q z (sym v ∙ d .sizes) in
+    let u = parts (heapIn s) (d .sound) in
+    let o = dead-length (heapIn s) (u .partition) in
+    let j = sealed-length (heapIn s) (u .seals) in
+    let m = d .slots in
+    record {
+      kindSize = n .kind;
+      typeSize = n .type;
+      startSize = n .start;
+      endSize = n .end;
+      writesSize = n .writes;
+      freeSize = n .free;
+      quarantineSize = n .quarantine;
+      sealedSize = n .sealed;
+      slots = m;
+      bytes = d .room;
+      freeRoom = omega arith;
+      quarantineRoom = omega arith;
+      sealedRoom = omega arith;
+    }
+
+module _ (l : Lent) (s : List ℕ) {r : Bool} (v : r ≡ inRange l) where
+  pub read-done : (l′ : Lent) (x : Sections) → Accepted s (verdict r (slotCount l) (poolSize l) (readPage s)) x →
+      l′ ≡ stored (slotCount l) (poolSize l) (heapIn s) → PageRead l l′ s Done
+  unfolding readInto
+  read-done l′ x a e =
+      let w : verdict (inRange l) (slotCount l) (poolSize l) (readPage s) ≡ ok (heapIn s) =
+      ap (λ (t : Bool). verdict t (slotCount l) (poolSize l) (readPage s)) (sym v) ∙ a .verdict in
+      record { lent = rw w e; answer = rw w }
+
+  pub read-refused : (n : ℕ) (a : Reading) → verdict r (slotCount l) (poolSize l) (readPage s) ≡ refused n → told a ≡ refused n → PageRead l l s a
+  unfolding readInto
+  read-refused n a e f =
+      let w : verdict (inRange l) (slotCount l) (poolSize l) (readPage s) ≡ refused n =
+      ap (λ (t : Bool). verdict t (slotCount l) (poolSize l) (readPage s)) (sym v) ∙ e in
+      record { lent = rw w; answer = rw w f }
+
+  module _ {c : Checked} (k : Checking s (verdict r (slotCount l) (poolSize l) (readPage s)) c) where
+    told-by : (d : Checked) → c ≡ d → Checking s (verdict r (slotCount l) (poolSize l) (readPage s)) d
+    told-by d e = subst (Checking s (verdict r (slotCount l) (poolSize l) (readPage s))) e k
+
+    pub refused-17 : c ≡ checked.NotPage → PageRead l l s NotPage
+    refused-17 e = read-refused 17 NotPage (told-by checked.NotPage e) refl
+
+    pub refused-1 : c ≡ checked.Broken → PageRead l l s Broken
+    refused-1 e = read-refused 1 Broken (told-by checked.Broken e) refl
+
+    pub refused-6 : c ≡ checked.NoRoom → PageRead l l s NoRoom
+    refused-6 e = read-refused 6 NoRoom (told-by checked.NoRoom e) refl
+
+    pub refused-5 : c ≡ checked.Full → PageRead l l s Full
+    refused-5 e = read-refused 5 Full (told-by checked.Full e) refl

@@ -1,0 +1,82 @@
+-- The page of the heap that lies in lent memory, part by part as the writer puts it.
+use Prim.Native.Nat.{ℕ, _+_, _-_, _≤_, _<_}
+use mathlib.Core.List.{List, _++_, append-assoc, flatMap}
+use mathlib.Core.Path.{_≡_, refl, sym, ap, _∙_}
+use lib.ListN.{length, take, length-append}
+use lib.Seq.{length-take-le}
+use native.Mathlib.Omega.{arith}
+use native.Mathlib.Nat.{zero-add}
+use borrow.Author.Tests.{le-leb, lt-leb}
+use Rattle.text.specs.Text.{ascii}
+use Rattle.text.specs.Put.{Puts}
+use Rattle.text.proofs.Putting.{puts-puts, puts-at}
+use Rattle.pages.specs.Page.{valueLine, slotLine, numbersLine, heapLine, heapNames, slotNames, freeName, quarantineName, sealedName, pageText}
+use Rattle.heap.specs.Lent.{Lent, lent, slotIn, view}
+use Rattle.pages.specs.Columns.{columns, slotsIn, Ready}
+use Rattle.pages.specs.Answer.{PageWritten}
+use Rattle.heap.specs.declared.Heap.{Heap}
+use Rattle.pages.specs.declared.Written.the-variants.{Page, Short}
+use Rattle.pages.proofs.Writing.{slots-length}
+
+abbrev pub numbers : Heap → List ℕ
+numbers h = numbersLine (h .tag) (h .«since_gc») (h .«reclaim_at») (h .«live_bytes») (h .slots) (h .free) (h .quarantine) (h .sealed)
+
+module _ (h : Heap) (g k t s e w p f q z : List ℕ) (r : Ready (lent h g k t s e w p f q z)) where
+  abbrev heap : Lent
+  heap = lent h g k t s e w p f q z
+
+  -- the lines of the slots, which seven columns give
+  abbrev slotLines : List ℕ
+  slotLines = flatMap slotLine (slotsIn (columns g k t s e w p) (h .slots))
+
+  slots-are : view heap .slots ≡ slotsIn (columns g k t s e w p) (h .slots)
+  unfolding view slotIn
+  slots-are = refl
+
+  head-is : heapLine (view heap) ≡ numbers h
+  unfolding heapLine view
+  head-is =
+      rw (slots-length heap (h .slots), length-take-le (h .free) f (r .free), length-take-le (h .quarantine) q (r .quarantine), length-take-le (h .sealed) z (r .sealed))
+
+  pub page-parts :
+      heapNames ++ numbers h ++ slotNames ++ slotLines ++ (freeName ++ flatMap valueLine (take (h .free) f))
+      ++ (quarantineName ++ flatMap valueLine (take (h .quarantine) q)) ++ (sealedName ++ flatMap valueLine (take (h .sealed) z)) ≡ pageText (view heap)
+  unfolding pageText view
+  page-parts = rw (head-is, slots-are) (simp append-assoc)
+
+  pub page-size :
+      length (pageText (view heap)) ≡
+      length heapNames + length (numbers h) + length slotNames + length slotLines + length (freeName ++ flatMap valueLine (take (h .free) f))
+      + length (quarantineName ++ flatMap valueLine (take (h .quarantine) q)) + length (sealedName ++ flatMap valueLine (take (h .sealed) z))
+  page-size = ap length (sym page-parts) ∙ go
+    where
+      go : length (heapNames ++ numbers h ++ slotNames ++ slotLines ++ (freeName ++ flatMap valueLine (take (h .free) f))
+          ++ (quarantineName ++ flatMap valueLine (take (h .quarantine) q)) ++ (sealedName ++ flatMap valueLine (take (h .sealed) z))) ≡
+          length heapNames + length (numbers h) + length slotNames + length slotLines + length (freeName ++ flatMap valueLine (take (h .free) f))
+          + length (quarantineName ++ flatMap valueLine (take (h .quarantine) q)) + length (sealedName ++ flatMap valueLine (take (h .sealed) z))
+      go = simp length-append
+
+  pub page-sum :
+      length (pageText (view heap)) ≡
+      126 + length (numbers h) + length slotLines + length (flatMap valueLine (take (h .free) f))
+      + length (flatMap valueLine (take (h .quarantine) q)) + length (flatMap valueLine (take (h .sealed) z))
+  unfolding heapNames slotNames freeName quarantineName sealedName ascii
+  page-sum =
+      omega (arith, page-size, length-append freeName (flatMap valueLine (take (h .free) f)), length-append quarantineName (flatMap valueLine (take (h .quarantine) q)), length-append sealedName (flatMap valueLine (take (h .sealed) z)))
+
+  pub puts-page : {a b1 b2 b3 b4 b5 b6 b7 : List ℕ} {at k1 k2 k3 k4 k5 k6 k7 : ℕ} →
+      Puts a b1 at k1 heapNames → Puts b1 b2 k1 k2 (numbers h) → Puts b2 b3 k2 k3 slotNames → Puts b3 b4 k3 k4 slotLines →
+      Puts b4 b5 k4 k5 (freeName ++ flatMap valueLine (take (h .free) f)) → Puts b5 b6 k5 k6 (quarantineName ++ flatMap valueLine (take (h .quarantine) q)) →
+      Puts b6 b7 k6 k7 (sealedName ++ flatMap valueLine (take (h .sealed) z)) → at ≤ length a → Puts a b7 at k7 (pageText (view heap))
+  puts-page p1 p2 p3 p4 p5 p6 p7 l =
+      puts-at (puts-puts (puts-puts (puts-puts (puts-puts (puts-puts (puts-puts p1 p2 l) p3 l) p4 l) p5 l) p6 l) p7 l) refl page-parts
+
+pub wrote : {a b t : List ℕ} {k : ℕ} → Puts a b 0 k t → length t ≤ length a → PageWritten a b t (Page k)
+wrote {a} {b} {t} {k} p h =
+    record {
+      answer = rw (le-leb (length t) (length a) h) (ap Page (p .next ∙ zero-add (length t)));
+      out = rw (le-leb (length t) (length a) h) (p .out);
+    }
+
+pub short : (a t : List ℕ) → length a < length t → PageWritten a a t Short
+short a t h = record { answer = rw (lt-leb (length t) (length a) h); out = rw (lt-leb (length t) (length a) h) }

@@ -1,0 +1,64 @@
+use Rattle.pages.proofs.Writing.{flat-more-length, value-length}
+use Rattle.pages.specs.Page.{valueLine}
+use Rattle.text.proofs.Laws.{decimal-length}
+use lib.ListN.{length, take, getD}
+use native.Mathlib.Omega.{arith}
+use mathlib.Core.List.{flatMap}
+use mathlib.Core.Path.{_≡_, refl, ap, _∙_}
+use Prim.Native.Nat.{ℕ, _-_, _≤_, _*_}
+use Rattle.pages.proofs.handles_len.Statement.{statement}
+use Rattle.pages.proofs.handles_len.Tie as tie
+
+abbrev Inv-loop : tie.InvT-loop
+Inv-loop list count n₀ i₀ n i = (i ≤ count) × (n ≡ length (flatMap valueLine (take i list))) × (n ≤ 21 * i)
+
+abbrev μ-loop : tie.MeasureT-loop
+μ-loop list count n₀ i₀ n i = count - i
+
+loop-holds : tie.Need-loop-holds Inv-loop μ-loop
+unfolding flatMap
+loop-holds c = (omega arith, refl, omega arith)
+
+mul-decimal-len : tie.Need-mul-decimal-len Inv-loop μ-loop
+mul-decimal-len c = omega arith
+
+shared-slice-read-decimal-len : tie.Need-shared-slice-read-decimal-len Inv-loop μ-loop
+shared-slice-read-decimal-len c = omega arith
+
+decimal-len-requires : tie.Need-decimal-len-requires Inv-loop μ-loop
+decimal-len-requires c κs = tt
+
+add-n : tie.Need-add-n Inv-loop μ-loop
+add-n c = omega (arith, c .decimal-len .ensures, decimal-length 19 (getD (c .before .before .before .before .before .args .list .now) (c .before .before .before .loop .i) 0) (omega (arith, c .before .shared-slice-known2 .given (c .before .before .before .loop .i))))
+
+add-n-2 : tie.Need-add-n-2 Inv-loop μ-loop
+add-n-2 c = omega (arith, c .decimal-len .ensures, decimal-length 19 (getD (c .before .before .before .before .before .args .list .now) (c .before .before .before .loop .i) 0) (omega (arith, c .before .shared-slice-known2 .given (c .before .before .before .loop .i))))
+
+add-i : tie.Need-add-i Inv-loop μ-loop
+add-i c = omega arith
+
+loop-less : tie.Need-loop-less Inv-loop μ-loop
+loop-less c = omega arith
+
+loop-again : tie.Need-loop-again Inv-loop μ-loop
+loop-again c = (omega arith, omega (arith, c .decimal-len .ensures, decimal-length 19 (getD (c .before .before .before .before .before .args .list .now) (c .before .before .before .loop .i) 0) (omega (arith, c .before .shared-slice-known2 .given (c .before .before .before .loop .i))), flat-more-length valueLine (c .before .before .before .before .before .args .list .now) (c .before .before .before .loop .i) 0 (omega arith), value-length (getD (c .before .before .before .before .before .args .list .now) (c .before .before .before .loop .i) 0)), omega (arith, c .decimal-len .ensures, decimal-length 19 (getD (c .before .before .before .before .before .args .list .now) (c .before .before .before .loop .i) 0) (omega (arith, c .before .shared-slice-known2 .given (c .before .before .before .loop .i)))))
+
+returns : tie.Need-returns Inv-loop μ-loop
+returns c = (c .before .loop .inv .1 ∙ ap (λ (m : ℕ). length (flatMap valueLine (take m (c .before .before .before .args .list .now)))) (let e : c .before .loop .i ≡ c .before .before .before .args .count = omega arith in e), omega arith)
+
+pub handles-len-spec : {M : Type 1} → statement M
+handles-len-spec =
+    tie.close
+    (tie.spec
+    Inv-loop
+    μ-loop
+    loop-holds
+    mul-decimal-len
+    shared-slice-read-decimal-len
+    decimal-len-requires
+    add-n
+    add-n-2
+    add-i
+    loop-less
+    loop-again
+    returns)

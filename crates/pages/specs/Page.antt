@@ -1,0 +1,150 @@
+-- The page (01, "Page"): a heap as text. Epoch and log are not saved, and read as 0.
+use Prim.Native.Nat.{ℕ, _<_, _^_}
+use mathlib.Core.List.{List, [], _∷_, _++_, flatMap}
+use mathlib.Core.Option.{Option, none, some}
+use mathlib.Core.Path.{_≡_}
+use lib.ListN.{length, replicate}
+use Rattle.text.specs.Text.{_>>=_, ascii, decimal, hex, line, newline, comma, Bytes}
+use Rattle.text.specs.Format.{Format, number, bytesLine, afterLiteral, pair, times, mapped, All}
+use Rattle.heap.specs.State.{Slot, State}
+
+-- WRITING
+
+unfoldable pub slotLine : Slot → List ℕ
+slotLine s =
+    line (decimal (s .generation) ∷ decimal (s .kind) ∷ decimal (s .type) ∷ decimal (s .start) ∷ decimal (s .writes) ∷ hex (s .bytes) ∷ [])
+
+-- one value a line
+unfoldable pub valueLine : ℕ → List ℕ
+valueLine n = line (decimal n ∷ [])
+
+unfoldable pub heapNames : List ℕ
+heapNames = ascii "tag,since_gc,reclaim_at,live_bytes,slots,free,quarantine,sealed\n"
+
+unfoldable pub slotNames : List ℕ
+slotNames = ascii "generation,kind,type,start,writes,data\n"
+
+unfoldable pub freeName : List ℕ
+freeName = ascii "free\n"
+
+unfoldable pub quarantineName : List ℕ
+quarantineName = ascii "quarantine\n"
+
+unfoldable pub sealedName : List ℕ
+sealedName = ascii "sealed\n"
+
+unfoldable pub numbersLine : (tag sinceGc reclaimAt liveBytes slots free quarantine sealed : ℕ) → List ℕ
+numbersLine t s r l n f q z =
+    line (decimal t ∷ decimal s ∷ decimal r ∷ decimal l ∷ decimal n ∷ decimal f ∷ decimal q ∷ decimal z ∷ [])
+
+unfoldable pub heapLine : State → List ℕ
+heapLine h =
+    numbersLine (h .tag) (h .sinceGc) (h .reclaimAt) (h .liveBytes) (length (h .slots)) (length (h .free)) (length (h .quarantine)) (length (h .sealed))
+
+unfoldable pub pageText : State → List ℕ
+pageText h =
+    heapNames ++ heapLine h
+    ++ slotNames ++ flatMap slotLine (h .slots)
+    ++ freeName ++ flatMap valueLine (h .free)
+    ++ quarantineName ++ flatMap valueLine (h .quarantine)
+    ++ sealedName ++ flatMap valueLine (h .sealed)
+
+-- Numbers within their widths: tag and kind 8 bits; generation, type, writes, counts and slot indices 32; the rest 64; data are bytes
+
+pub record SlotWithin (s : Slot) : Type 0 where
+  pub generation : s .generation < 2 ^ 32
+  pub kind : s .kind < 2 ^ 8
+  pub type : s .type < 2 ^ 32
+  pub start : s .start < 2 ^ 64
+  pub writes : s .writes < 2 ^ 32
+  pub bytes : Bytes (s .bytes)
+
+pub record Within (h : State) : Type 0 where
+  pub tag : h .tag < 2 ^ 8
+  pub sinceGc : h .sinceGc < 2 ^ 64
+  pub reclaimAt : h .reclaimAt < 2 ^ 64
+  pub liveBytes : h .liveBytes < 2 ^ 64
+  pub slot-count : length (h .slots) < 2 ^ 32
+  pub free-count : length (h .free) < 2 ^ 32
+  pub quarantine-count : length (h .quarantine) < 2 ^ 32
+  pub sealed-count : length (h .sealed) < 2 ^ 32
+  pub slots : All SlotWithin (h .slots)
+  pub free : All (λ i. i < 2 ^ 32) (h .free)
+  pub quarantine : All (λ i. i < 2 ^ 32) (h .quarantine)
+  pub sealed : All (λ x. x < 2 ^ 64) (h .sealed)
+
+-- what a page does not say
+pub record Unsaved (h : State) : Type 0 where
+  pub epoch : h .epoch ≡ 0
+  pub log : h .log ≡ replicate 16 0
+
+-- READING: the page's format, field after field
+
+abbrev pub Fields : Type 0
+Fields = ℕ × (ℕ × (ℕ × (ℕ × (ℕ × List ℕ))))
+
+abbrev pub slotOf : Fields → Slot
+slotOf f = record { generation = f .0; kind = f .1 .0; type = f .1 .1 .0; start = f .1 .1 .1 .0; writes = f .1 .1 .1 .1 .0; bytes = f .1 .1 .1 .1 .1 }
+
+abbrev pub fieldsOf : Slot → Fields
+fieldsOf s = (s .generation, (s .kind, (s .type, (s .start, (s .writes, s .bytes)))))
+
+unfoldable pub slotFormat : Format Slot
+slotFormat =
+    mapped slotOf fieldsOf
+    (pair (number 32 comma) λ _. pair (number 8 comma) λ _. pair (number 32 comma) λ _. pair (number 64 comma) λ _. pair (number 32 comma) λ _. bytesLine)
+
+-- the numbers of line 2: tag, since_gc, reclaim_at, live_bytes, then the counts
+abbrev pub Head : Type 0
+Head = ℕ × (ℕ × (ℕ × (ℕ × (ℕ × (ℕ × (ℕ × ℕ))))))
+
+unfoldable pub headFormat : Format Head
+headFormat =
+    pair (number 8 comma) λ _. pair (number 64 comma) λ _. pair (number 64 comma) λ _. pair (number 64 comma)
+    λ _. pair (number 32 comma) λ _. pair (number 32 comma) λ _. pair (number 32 comma) λ _. number 32 newline
+
+-- the slots, then the three lists
+abbrev pub Body : Type 0
+Body = List Slot × (List ℕ × (List ℕ × List ℕ))
+
+unfoldable pub bodyFormat : Head → Format Body
+bodyFormat d =
+    afterLiteral slotNames (pair (times (d .1 .1 .1 .1 .0) slotFormat)
+    λ _. afterLiteral freeName (pair (times (d .1 .1 .1 .1 .1 .0) (number 32 newline))
+    λ _. afterLiteral quarantineName (pair (times (d .1 .1 .1 .1 .1 .1 .0) (number 32 newline))
+    λ _. afterLiteral sealedName (times (d .1 .1 .1 .1 .1 .1 .1) (number 64 newline)))))
+
+unfoldable pub pageFormat : Format (Head × Body)
+pageFormat = afterLiteral heapNames (pair headFormat bodyFormat)
+
+abbrev pub stateOf : Head × Body → State
+stateOf p =
+    record {
+      tag = p .0 .0;
+      sinceGc = p .0 .1 .0;
+      reclaimAt = p .0 .1 .1 .0;
+      liveBytes = p .0 .1 .1 .1 .0;
+      epoch = 0;
+      log = replicate 16 0;
+      slots = p .1 .0;
+      free = p .1 .1 .0;
+      quarantine = p .1 .1 .1 .0;
+      sealed = p .1 .1 .1 .1;
+    }
+
+abbrev pub saved : State → Head × Body
+saved h = (
+  (h .tag, (h .sinceGc, (h .reclaimAt, (h .liveBytes, (length (h .slots), (length (h .free), (length (h .quarantine), length (h .sealed)))))))),
+  (h .slots, (h .free, (h .quarantine, h .sealed))),
+)
+
+abbrev pub whole : {A : Type 0} → A × List ℕ → Option A
+whole {A} r = go (r .1)
+  where
+    go : List ℕ → Option A
+    go [] = some (r .0)
+    go (b ∷ t) = none
+
+-- the heap whose page a text is, if it is one's
+unfoldable pub readPage : List ℕ → Option State
+readPage t = pageFormat .read t >>= λ r. whole r >>= λ p. some (stateOf p)

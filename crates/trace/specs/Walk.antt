@@ -1,0 +1,57 @@
+-- What the tracer goes by, level for level: a record field by field, as its layout is found. proofs/Walks shows that it is `placesAt`.
+use Prim.Native.Nat.{ℕ, _+_, _*_, _≤_, _<_, max}
+use mathlib.Core.Path.{_≡_}
+use mathlib.Core.Option.{none, some}
+use mathlib.Core.List.{List, [], _∷_}
+use lib.ListN.{drop}
+use lib.Dec.{leb}
+use Rattle.ty.specs.Types.{Field, Field.field, Table}
+use Rattle.ty.specs.Words.{wordOf, onWord, roundUp}
+use Rattle.ty.specs.View.{tableOf, fieldsFrom}
+use Rattle.layout.specs.Layout.{under, usedBy, endOf, arrayOf, layoutAt}
+use Rattle.layout.specs.declared.Lay.{Lay}
+use Rattle.layout.specs.declared.Lay.the-variants.{Laid, Malformed, TooLarge}
+use Rattle.trace.specs.Places.{Places, Below, onlyIf, both, many, turns, ifLaid, partPlaces, placesAt}
+use Rattle.trace.specs.declared.Placed.{Placed}
+use Rattle.trace.specs.declared.Placed.the-variants.{At, Unplaced}
+
+-- where a field of a layout lies that comes after off
+abbrev pub fieldAt : Lay → ℕ → Placed
+fieldAt (Laid s a st n u) off = onWord Unplaced (wordOf (roundUp off a)) (λ o. onWord Unplaced (wordOf (o + s)) (λ e. At o e a u))
+fieldAt Malformed off = Unplaced
+fieldAt TooLarge off = Unplaced
+
+abbrev pub ifPlaced : Placed → (ℕ → ℕ → ℕ → ℕ → Places) → Places
+ifPlaced (At o e a u) f = f o e a u
+ifPlaced Unplaced f = none
+
+-- the fields that are left, after off and with so much of the descriptor used
+unfoldable pub walk : Table → Below → ℕ → ℕ → List Field → List ℕ → ℕ → ℕ → ℕ → Places
+walk T next end at [] d off al used = ifLaid (endOf off al used) (λ st n. some [])
+walk T next end at (field t c ∷ fs) d off al used =
+    ifPlaced (fieldAt (under T (layoutAt T 64) t c (drop used d)) off) (λ o e a u.
+    onlyIf (leb (at + o) end) (both (partPlaces T next t c (drop used d) (at + o)) (walk T next end at fs d e (max al a) (used + usedBy c u))))
+
+-- r is o, or both are beyond the data
+pub record Stepped (len o r : ℕ) : Type 0 where
+  pub within : o ≤ len → r ≡ o
+  pub beyond : len < o → len < r
+
+-- the definitions at the lists of the four lent slices, and data of so many bytes
+module _ (w fs cs b : List ℕ) (end : ℕ) where
+  abbrev pub typePlaces : ℕ → List ℕ → ℕ → ℕ → Places
+  typePlaces t d left at = placesAt (tableOf w fs cs b) end left t d at
+
+  abbrev pub belowPlaces : ℕ → ℕ → List ℕ → ℕ → ℕ → Places
+  belowPlaces t c d left at = partPlaces (tableOf w fs cs b) (placesAt (tableOf w fs cs b) end left) t c d at
+
+  abbrev pub elemPlaces : ℕ → ℕ → List ℕ → ℕ → ℕ → ℕ → ℕ → Places
+  elemPlaces t c d left st n at = many end (partPlaces (tableOf w fs cs b) (placesAt (tableOf w fs cs b) end left) t c d) st n at
+
+  abbrev pub arrayPlaces : ℕ → ℕ → ℕ → ℕ → List ℕ → ℕ → ℕ → Places
+  arrayPlaces t e c k d left at =
+      ifLaid (arrayOf (tableOf w fs cs b) (layoutAt (tableOf w fs cs b) 64) t e c k d) (λ st n.
+      many end (partPlaces (tableOf w fs cs b) (placesAt (tableOf w fs cs b) end left) e c (drop (24 * k) d)) st (turns st n) at)
+
+  abbrev pub recordPlaces : ℕ → ℕ → List ℕ → ℕ → ℕ → Places
+  recordPlaces i n d left at = walk (tableOf w fs cs b) (placesAt (tableOf w fs cs b) end left) end at (fieldsFrom fs i n) d 0 1 0
