@@ -3,3 +3,4 @@ pub mod States
 pub mod Bridge
 pub mod Draining
 pub mod Graphs
+pub mod Formed
