@@ -1,0 +1,183 @@
+-- The loop that goes through the queue: what is left, from the state that is there, gives what all gives. Assumes nothing.
+use Prim.Native.Nat.{ℕ, zero, suc, _+_, _-_, _≤_, _<_}
+use mathlib.Core.Path.{_≡_, refl, sym, ap, _∙_, subst}
+use mathlib.Core.Bool.{Bool, true, false}
+use mathlib.Core.Option.{Option, none, some}
+use mathlib.Core.List.{List, [], _∷_, _++_}
+use lib.ListN.{length, getD, take, drop, replicate}
+use lib.Seq.{length-take-le, getD-take}
+use lib.Dec.{ltb}
+use borrow.Author.Tests.{lt-ltb, le-ltb}
+use native.Mathlib.Nat.{sub-zero}
+use native.Mathlib.Numerals.{add-one}
+use native.Mathlib.Omega.{arith}
+use Rattle.reach.specs.Reach.{Graph, _∈_}
+use Rattle.reach.specs.Marking.{State, Good, followAll, drained, orDone, orStuck, marking}
+use Rattle.handle.specs.Columns.{liveIn}
+use Rattle.heap.specs.Packing.{pad}
+use Rattle.heap.proofs.Packing.{drop-replicate}
+use Rattle.ty.specs.Types.{Table}
+use Rattle.trace.specs.declared.Answer.{Answer}
+use Rattle.trace.specs.declared.Answer.the-variants.{Traced, Untraceable}
+use Rattle.mark.specs.Shown.{leadsTo, shownIn, graphIn}
+use Rattle.mark.specs.Scratch.{stateOf, Scratch, Holds, following, Traces, seededFrom}
+use Rattle.mark.specs.Told.{marksIn, startsOf, Ready}
+use Rattle.mark.proofs.States.{scratch-start}
+use Rattle.mark.proofs.Graphs.{sized-in}
+use Rattle.reach.proofs.Grown.{Grown, ∈-getD, good-room}
+use Rattle.reach.proofs.Sound.{Sized, follows-grown}
+
+-- ---- the function's clauses
+
+pub drained-end : (G : Graph) (f : ℕ) (s : State) (k : ℕ) → length (s .queue) ≤ k → drained G f s k ≡ some s
+unfolding drained
+drained-end G zero s k h = refl
+drained-end G (suc f) s k h = rw (le-ltb k (length (s .queue)) h)
+
+pub drained-stuck : (G : Graph) (f : ℕ) (s : State) (k : ℕ) → k < length (s .queue) → G .handles (getD (s .queue) k 0) ≡ none → drained G (suc f) s k ≡ none
+unfolding drained
+drained-stuck G f s k h e = rw (lt-ltb k (length (s .queue)) h, e)
+
+pub drained-next : (G : Graph) (f : ℕ) (s : State) (k : ℕ) (hs : List ℕ) → k < length (s .queue) → G .handles (getD (s .queue) k 0) ≡ some hs → drained G (suc f) s k ≡ drained G f (followAll (G .resolve) s hs) (suc k)
+unfolding drained
+drained-next G f s k hs h e = rw (lt-ltb k (length (s .queue)) h, e)
+
+-- ---- the loop
+
+pub record Draining (G : Graph) (slots : ℕ) (marks₀ work₀ : List ℕ) (total : Option State) (marks work : List ℕ) (count next : ℕ) : Type 0 where
+  pub scratch : Scratch slots marks work count
+  -- what is left, from the state that is there, gives what all gives from the state at the start
+  pub same : drained G (slots - next) (stateOf marks work count) next ≡ total
+  pub long : length marks ≡ length marks₀
+  pub words : length work ≡ length work₀
+
+module _ (slots : ℕ) (marks work : List ℕ) (count : ℕ) (s : Scratch slots marks work count) where
+  pub queue-length : length (take count work) ≡ count
+  queue-length = length-take-le count work (s .room)
+
+  pub queue-slots : count ≤ slots
+  queue-slots = omega (arith, good-room slots (stateOf marks work count) (s .good), queue-length)
+
+  pub queue-at : (k : ℕ) → k < count → getD (take count work) k 0 ≡ getD work k 0
+  queue-at k h = getD-take count work k 0 h
+
+  pub queue-below : (k : ℕ) → k < count → getD work k 0 < slots
+  queue-below k h =
+      subst (λ (i : ℕ). i < slots) (queue-at k h) (s .good .within (getD (take count work) k 0) (∈-getD (take count work) k (omega (arith, queue-length))))
+
+module _ (G : Graph) (slots : ℕ) (z : Sized G slots) (marks₀ work₀ : List ℕ) (total : Option State) (marks work : List ℕ) (count next : ℕ) (d : Draining G slots marks₀ work₀ total marks work count next) where
+  pub draining-end : count ≤ next → total ≡ some (stateOf marks work count)
+  draining-end h = sym (d .same) ∙ drained-end G (slots - next) (stateOf marks work count) next (omega (arith, queue-length slots marks work count (d .scratch)))
+
+  module _ (h : next < count) where
+    inside : next < length (take count work)
+    inside = omega (arith, queue-length slots marks work count (d .scratch))
+
+    fuel : slots - next ≡ suc (slots - suc next)
+    fuel = omega (arith, queue-slots slots marks work count (d .scratch))
+
+    at-queue : (o : Option (List ℕ)) → G .handles (getD work next 0) ≡ o → G .handles (getD (take count work) next 0) ≡ o
+    at-queue o e = ap (G .handles) (queue-at slots marks work count (d .scratch) next h) ∙ e
+
+    pub draining-stuck : following (G .resolve) (stateOf marks work count) (G .handles (getD work next 0)) ≡ none → total ≡ none
+    draining-stuck e = go (G .handles (getD work next 0)) refl e
+      where
+        go : (o : Option (List ℕ)) → G .handles (getD work next 0) ≡ o → following (G .resolve) (stateOf marks work count) o ≡ none → total ≡ none
+        go none w e′ = sym (d .same) ∙ ap (λ (f : ℕ). drained G f (stateOf marks work count) next) fuel ∙ drained-stuck G (slots - suc next) (stateOf marks work count) next inside (at-queue none w)
+        go (some hs) w e′ = let x : _≡_ {A = ℕ} 0 1 = cc in absurd (omega arith)
+
+    pub draining-next : (marks′ work′ : List ℕ) (count′ : ℕ) → (following (G .resolve) (stateOf marks work count) (G .handles (getD work next 0)) ≡ some (stateOf marks′ work′ count′)) → Scratch slots marks′ work′ count′ → length marks′ ≡ length marks → length work′ ≡ length work
+        → Draining G slots marks₀ work₀ total marks′ work′ count′ (next + 1)
+    draining-next marks′ work′ count′ e r a b = go (G .handles (getD work next 0)) refl e
+      where
+        inj : (x y : State) → some x ≡ some y → x ≡ y
+        inj x y w = cc
+
+        go : (o : Option (List ℕ)) → G .handles (getD work next 0) ≡ o → following (G .resolve) (stateOf marks work count) o ≡ some (stateOf marks′ work′ count′) → Draining G slots marks₀ work₀ total marks′ work′ count′ (next + 1)
+        go none w e′ = let x : _≡_ {A = ℕ} 0 1 = cc in absurd (omega arith)
+        go (some hs) w e′ =
+            let q : followAll (G .resolve) (stateOf marks work count) hs ≡ stateOf marks′ work′ count′ = inj _ _ e′ in
+            record {
+              scratch = r;
+              same =
+                  ap (λ (k : ℕ). drained G (slots - k) (stateOf marks′ work′ count′) k) (add-one next)
+                  ∙ sym (ap (λ (t : State). drained G (slots - suc next) t (suc next)) q)
+                  ∙ sym (drained-next G (slots - suc next) (stateOf marks work count) next hs inside (at-queue (some hs) w))
+                  ∙ sym (ap (λ (f : ℕ). drained G f (stateOf marks work count) next) fuel)
+                  ∙ d .same;
+              long = a ∙ d .long;
+              words = b ∙ d .words;
+            }
+
+pub draining-start : (G : Graph) (slots : ℕ) (marks work : List ℕ) (n : ℕ) → Scratch slots marks work n → Draining G slots marks work (drained G slots (stateOf marks work n) 0) marks work n 0
+draining-start G slots marks work n s =
+    record { scratch = s; same = ap (λ (f : ℕ). drained G f (stateOf marks work n) 0) (sub-zero slots); long = refl; words = refl }
+
+-- ---- the loop over the columns' graph, with what `trace_at` ensures
+
+abbrev pub Drains : Table → (tag slots : ℕ) (gs ks ts ss es ps marks₀ work₀ : List ℕ) (total : Option State) (marks work : List ℕ) (count next : ℕ) → Type 0
+Drains T tag slots gs ks ts ss es ps marks₀ work₀ total marks work count next = Draining (graphIn T tag slots gs ks ts ss es ps) slots marks₀ work₀ total marks work count next
+
+module _ (T : Table) (tag slots : ℕ) (gs ks ts ss es ps marks₀ work₀ : List ℕ) (total : Option State) (marks work : List ℕ) (count next : ℕ) (d : Drains T tag slots gs ks ts ss es ps marks₀ work₀ total marks work count next) where
+  pub drains-end : count ≤ next → total ≡ some (stateOf marks work count)
+  drains-end h = draining-end (graphIn T tag slots gs ks ts ss es ps) slots (sized-in T tag slots gs ks ts ss es ps) marks₀ work₀ total marks work count next d h
+
+  module _ (h : next < count) where
+    module _ (r : Answer) (marks′ work′ : List ℕ) (t : Traces r slots marks′ work′ (following (leadsTo tag slots gs ks) (stateOf marks work count) (shownIn T ks ts ss es ps (getD work next 0)))) where
+      pub drains-stuck : r ≡ Untraceable → total ≡ none
+      drains-stuck e =
+          draining-stuck (graphIn T tag slots gs ks ts ss es ps) slots (sized-in T tag slots gs ks ts ss es ps) marks₀ work₀ total marks work count next d h
+          (subst (λ (x : Answer). Traces x slots marks′ work′ (following (leadsTo tag slots gs ks) (stateOf marks work count) (shownIn T ks ts ss es ps (getD work next 0)))) e t)
+
+      pub drains-next : (m : ℕ) → r ≡ Traced m → length marks′ ≡ length marks → length work′ ≡ length work → Drains T tag slots gs ks ts ss es ps marks₀ work₀ total marks′ work′ m (next + 1)
+      drains-next m e a b =
+          let q = subst (λ (x : Answer). Traces x slots marks′ work′ (following (leadsTo tag slots gs ks) (stateOf marks work count) (shownIn T ks ts ss es ps (getD work next 0)))) e t in
+          draining-next (graphIn T tag slots gs ks ts ss es ps) slots (sized-in T tag slots gs ks ts ss es ps) marks₀ work₀ total marks work count next d h marks′ work′ m (q .0) (q .1) a b
+
+-- ---- the whole
+
+pub from-done : (G : Graph) (slots : ℕ) (marks work : List ℕ) (n : ℕ) (s : State) → Holds slots marks work n s → (r : Answer) (marks′ work′ : List ℕ) → Traces r slots marks′ work′ (drained G slots (stateOf marks work n) 0)
+    → Traces r slots marks′ work′ (drained G slots s 0)
+from-done G slots marks work n s h r marks′ work′ t = subst (λ (x : State). Traces r slots marks′ work′ (drained G slots x 0)) (h .state) t
+
+take-zeros : (n m : ℕ) → n ≤ m → take {A = ℕ} n (replicate m 0) ≡ replicate n 0
+take-zeros zero m h = refl
+take-zeros (suc n) zero h = absurd (omega arith)
+take-zeros (suc n) (suc m) h = ap (λ (l : List ℕ). 0 ∷ l) (take-zeros n m (omega arith))
+
+module _ (slots : ℕ) (marks work : List ℕ) (ready : Ready slots marks work) where
+  first-clear : take slots marks ≡ replicate slots 0
+  first-clear = ap (take slots) (ready .clear) ∙ take-zeros slots (length marks) (ready .marked)
+
+  pub ready-scratch : Scratch slots (take slots marks) work 0
+  ready-scratch = scratch-start slots (take slots marks) work first-clear (ready .queued)
+
+  pub first-long : slots ≡ length (take slots marks)
+  first-long = sym (length-take-le slots marks (ready .marked))
+
+  module _ (T : Table) (tag : ℕ) (gs ks ts ss es ps roots sealed pins : List ℕ) (r : Answer) (marks′ work′ : List ℕ)
+      (t : Traces r slots marks′ work′ (drained (graphIn T tag slots gs ks ts ss es ps) slots (seededFrom (leadsTo tag slots gs ks) (liveIn slots ks) (stateOf (take slots marks) work 0) roots sealed pins) 0)) where
+    abbrev start : Option State
+    start = drained (graphIn T tag slots gs ks ts ss es ps) slots (seededFrom (leadsTo tag slots gs ks) (liveIn slots ks) (stateOf (take slots marks) work 0) roots sealed pins) 0
+
+    abbrev answer : Option State
+    answer = marking (graphIn T tag slots gs ks ts ss es ps) (startsOf roots sealed pins) slots
+
+    as-marking : start ≡ answer
+    unfolding marking
+    as-marking =
+        ap (λ (m : List ℕ). drained (graphIn T tag slots gs ks ts ss es ps) slots (seededFrom (leadsTo tag slots gs ks) (liveIn slots ks) (record { marks = m; queue = [] }) roots sealed pins) 0) first-clear
+
+    at : (x : Answer) → r ≡ x → Traces x slots marks′ work′ answer
+    at x e = subst (λ (o : Option State). Traces x slots marks′ work′ o) as-marking (subst (λ (y : Answer). Traces y slots marks′ work′ start) e t)
+
+    pub whole-stuck : r ≡ Untraceable → none ≡ marksIn (length marks) (marking (graphIn T tag slots gs ks ts ss es ps) (startsOf roots sealed pins) slots)
+    whole-stuck e = sym (ap (marksIn (length marks)) (at Untraceable e))
+
+    pub whole-marked : (n : ℕ) → r ≡ Traced n → some (marks′ ++ drop slots marks) ≡ marksIn (length marks) (marking (graphIn T tag slots gs ks ts ss es ps) (startsOf roots sealed pins) slots)
+    unfolding pad
+    whole-marked n e =
+        let a = at (Traced n) e in
+        let rest : drop slots marks ≡ replicate (length marks - length marks′) 0 =
+        ap (drop slots) (ready .clear) ∙ drop-replicate slots (length marks) 0 ∙ ap (λ (k : ℕ). replicate (length marks - k) 0) (sym (a .1 .size)) in
+        ap (λ (l : List ℕ). some (marks′ ++ l)) rest ∙ sym (ap (marksIn (length marks)) (a .0))

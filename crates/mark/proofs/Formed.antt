@@ -1,0 +1,139 @@
+-- In well formed lent memory the columns fit, and what they show a collection is what the heap that lies there shows. Assumes nothing.
+use Prim.Native.Nat.{ℕ, zero, suc, _-_, _≤_, _<_}
+use mathlib.Core.Path.{_≡_, refl, sym, ap, _∙_, fun-ext}
+use mathlib.Core.Bool.{Bool, true, not, _&&_}
+use mathlib.Core.Option.{Option}
+use mathlib.Core.List.{List, []}
+use lib.ListN.{length, getD, take, drop, length-map, List·getD-map, List·getD-eq-default}
+use lib.Seq.{take-all}
+use lib.Dec.{eqb, ltb}
+use borrow.Author.Tests.{lt-ltb, le-ltb, ne-eqb}
+use native.Mathlib.Decide.{decLt}
+use native.Mathlib.Omega.{arith}
+use Rattle.handle.specs.Handle.{indexOf}
+use Rattle.handle.specs.Columns.{liveIn}
+use Rattle.handle.proofs.ResolveLaws.{resolve-same}
+use Rattle.heap.specs.Packing.{pad, flat, ends, startOf, dataAt}
+use Rattle.heap.specs.State.{Slot, State, noSlot, slotAt, dataOf, live}
+use Rattle.heap.specs.Lent.{Lent, view, slotCount, poolSize}
+use Rattle.heap.specs.WellFormed.{wellFormed}
+use Rattle.heap.specs.Calls.{resolve}
+use Rattle.heap.proofs.Sound.{WellFormed}
+use Rattle.heap.proofs.Packing.{data-at, start-of, end-of, length-ends, flat-split, end-at}
+use Rattle.heap.proofs.Splicing.{flat-mono}
+use Rattle.heap.proofs.Storing.{column-any, getD-pad-past}
+use Rattle.heap.proofs.Changing.{Known, known}
+use Rattle.heap.proofs.Testing.{formed-tested}
+use Rattle.ty.specs.Types.{Table}
+use Rattle.trace.specs.Places.{handlesOf}
+use Rattle.trace.specs.Emit.{resolveIn}
+use Rattle.reach.specs.Reach.{Graph, Starts}
+use Rattle.collect_laws.specs.Collected.{found, graph, starts}
+use Rattle.mark.specs.Shown.{shown, shownIn, graphIn, leadsTo, Fit}
+use Rattle.mark.specs.Told.{startsOf}
+
+positive : (m : ℕ) → not (eqb m 0) ≡ ltb 0 m
+positive zero = refl
+positive (suc m) = ap not (ne-eqb (suc m) 0 (λ e. omega arith)) ∙ sym (lt-ltb 0 (suc m) (omega arith))
+
+module _ (l : Lent) (wf : wellFormed l ≡ true) where
+  formed : WellFormed l
+  formed = formed-tested l wf
+
+  facts : Known (slotCount l) (poolSize l) (view l) l
+  facts = known (slotCount l) (poolSize l) (view l) l (formed .sound) (formed .lies)
+
+  pub formed-count : l .header .slots ≡ length (view l .slots)
+  formed-count = facts .slot-count
+
+  n-data : length (dataOf (view l .slots)) ≡ length (view l .slots)
+  n-data = length-map (view l .slots) (λ (s : Slot). s .bytes)
+
+  -- ---- the columns have each slot, and the data its place
+
+  start-is : (i : ℕ) → i ≤ length (view l .slots) → startOf (l .end) i ≡ length (flat (take i (dataOf (view l .slots))))
+  start-is i h = ap (λ (e : List ℕ). startOf e i) (facts .end) ∙ start-of (slotCount l) (dataOf (view l .slots)) i (omega (arith, n-data))
+
+  end-is : (i : ℕ) → i < length (view l .slots) → getD (l .end) i 0 ≡ length (flat (take (suc i) (dataOf (view l .slots))))
+  end-is i h = ap (λ (e : List ℕ). getD e i 0) (facts .end) ∙ end-at (slotCount l) (dataOf (view l .slots)) i (omega (arith, n-data))
+
+  pub formed-fit : Fit (l .header .slots) (l .generation) (l .kind) (l .type) (l .start) (l .end) (l .pool)
+  formed-fit =
+      record {
+        columns = record { generations = omega (arith, facts .slots-fit, facts .slot-count); kinds = omega (arith, facts .slots-fit, facts .slot-count, facts .kind-size) };
+        types = omega (arith, facts .slots-fit, facts .slot-count, facts .type-size);
+        starts = omega (arith, facts .slots-fit, facts .slot-count, facts .start-size);
+        ends = omega (arith, facts .slots-fit, facts .slot-count, facts .end-size);
+        rising = λ i h.
+            let j : i < length (view l .slots) = omega (arith, facts .slot-count) in
+            omega (arith, start-is i (omega arith), end-is i j, flat-mono (dataOf (view l .slots)) i (suc i) (omega arith));
+        pooled = λ i h.
+            let j : i < length (view l .slots) = omega (arith, facts .slot-count) in
+            omega (arith, end-is i j, facts .data-fit, facts .pool-size, flat-mono (dataOf (view l .slots)) (suc i) (length (dataOf (view l .slots))) (omega (arith, n-data)), all-data);
+      }
+    where
+      all-data : length (flat (take (length (dataOf (view l .slots))) (dataOf (view l .slots)))) ≡ length (flat (dataOf (view l .slots)))
+      all-data = ap (λ (d : List (List ℕ)). length (flat d)) (take-all (length (dataOf (view l .slots))) (dataOf (view l .slots)) (omega arith))
+
+  -- ---- what the columns have of a slot, also where there is none
+
+  past : (i : ℕ) → length (view l .slots) ≤ i → slotAt (view l) i ≡ noSlot
+  past i h = List·getD-eq-default (view l .slots) noSlot h
+
+  kind-same : (i : ℕ) → getD (l .kind) i 0 ≡ slotAt (view l) i .kind
+  kind-same i = ap (λ (x : List ℕ). getD x i 0) (facts .kind) ∙ column-any (slotCount l) (λ s. s .kind) (view l .slots) i refl
+
+  type-same : (i : ℕ) → getD (l .type) i 0 ≡ slotAt (view l) i .type
+  type-same i = ap (λ (x : List ℕ). getD x i 0) (facts .type) ∙ column-any (slotCount l) (λ s. s .type) (view l .slots) i refl
+
+  start-same : (i : ℕ) → getD (l .start) i 0 ≡ slotAt (view l) i .start
+  start-same i = ap (λ (x : List ℕ). getD x i 0) (facts .start) ∙ column-any (slotCount l) (λ s. s .start) (view l .slots) i refl
+
+  generation-same : (i : ℕ) → getD (l .generation) i 0 ≡ slotAt (view l) i .generation
+  generation-same i = ap (λ (x : List ℕ). getD x i 0) (facts .generation) ∙ column-any (slotCount l) (λ s. s .generation) (view l .slots) i refl
+
+  bytes-same : (i : ℕ) → dataAt (l .end) (l .pool) i ≡ slotAt (view l) i .bytes
+  unfolding dataAt
+  bytes-same i = go (decLt i (length (view l .slots)))
+    where
+      go : Dec (i < length (view l .slots)) → dataAt (l .end) (l .pool) i ≡ slotAt (view l) i .bytes
+      go (yes h) =
+          (λ j. dataAt (facts .end j) (facts .pool j) i)
+          ∙ data-at (slotCount l) (poolSize l) (dataOf (view l .slots)) i (omega (arith, n-data))
+          ∙ List·getD-map (λ (s : Slot). s .bytes) (view l .slots) i noSlot
+      go (no h) =
+          let e : getD (l .end) i 0 ≡ 0 = ap (λ (x : List ℕ). getD x i 0) (facts .end) ∙ getD-pad-past (slotCount l) (ends 0 (dataOf (view l .slots))) i (omega (arith, n-data, length-ends 0 (dataOf (view l .slots)))) in
+          let z : getD (l .end) i 0 - startOf (l .end) i ≡ 0 = omega arith in
+          ap (λ (m : ℕ). take m (drop (startOf (l .end) i) (l .pool))) z ∙ sym (ap (λ (s : Slot). s .bytes) (past i (omega arith)))
+
+  live-same : (i : ℕ) → liveIn (l .header .slots) (l .kind) i ≡ live (slotAt (view l) i)
+  unfolding liveIn
+  live-same i =
+      elim (decLt i (length (view l .slots))) [
+        | yes h ↦ ap (λ (b : Bool). b && not (eqb (getD (l .kind) i 0) 0)) (lt-ltb i (l .header .slots) (omega (arith, facts .slot-count))) ∙ ap (λ (m : ℕ). not (eqb m 0)) (kind-same i) ∙ positive (slotAt (view l) i .kind)
+        | no h ↦ ap (λ (b : Bool). b && not (eqb (getD (l .kind) i 0) 0)) (le-ltb i (l .header .slots) (omega (arith, facts .slot-count))) ∙ sym (ap live (past i (omega arith)))
+      ]
+
+  leads-same : (x : ℕ) → leadsTo (l .header .tag) (l .header .slots) (l .generation) (l .kind) x ≡ found (resolve (view l) x)
+  unfolding resolveIn resolve view
+  leads-same x =
+      ap found
+      (resolve-same (l .header .tag) (liveIn (l .header .slots) (l .kind)) (λ i. live (slotAt (view l) i)) (λ i. getD (l .generation) i 0) (λ i. slotAt (view l) i .generation) x
+      (live-same (indexOf x)) (generation-same (indexOf x)))
+
+  module _ (T : Table) where
+    shown-same : (i : ℕ) → shownIn T (l .kind) (l .type) (l .start) (l .end) (l .pool) i ≡ shown T (view l) i
+    shown-same i = λ j. handlesOf T (kind-same i j) (type-same i j) (start-same i j) (bytes-same i j)
+
+    -- the columns' graph is the heap's
+    pub formed-graph : graphIn T (l .header .tag) (l .header .slots) (l .generation) (l .kind) (l .type) (l .start) (l .end) (l .pool) ≡ graph (view l) (shown T (view l))
+    formed-graph =
+        let a : _≡_ {A = ℕ → Bool} (liveIn (l .header .slots) (l .kind)) (λ i. live (slotAt (view l) i)) = fun-ext live-same in
+        let b : _≡_ {A = ℕ → Option ℕ} (leadsTo (l .header .tag) (l .header .slots) (l .generation) (l .kind)) (λ x. found (resolve (view l) x)) = fun-ext leads-same in
+        let c : _≡_ {A = ℕ → Option (List ℕ)} (shownIn T (l .kind) (l .type) (l .start) (l .end) (l .pool)) (shown T (view l)) = fun-ext shown-same in
+        λ j. record { live = a j; resolve = b j; handles = c j }
+
+  -- and so are the starts
+  pub formed-starts : (roots pins : List ℕ) → startsOf roots (take (l .header .sealed) (l .sealed)) pins ≡ starts (view l) roots pins
+  unfolding view
+  formed-starts roots pins = refl

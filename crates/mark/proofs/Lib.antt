@@ -1,0 +1,6 @@
+-- What the proofs of several functions and other crates use.
+pub mod States
+pub mod Bridge
+pub mod Draining
+pub mod Graphs
+pub mod Formed

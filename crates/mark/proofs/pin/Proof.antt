@@ -1,0 +1,42 @@
+-- `mark::pin` meets its contract. Assumes nothing.
+use Rattle.mark.proofs.States.{pin-beyond, pin-dead, pin-live}
+use Rattle.mark.proofs.Bridge.{queue-met}
+use borrow.Author.Needs.{needs}
+use Rattle.mark.proofs.pin.Statement.{statement}
+use Rattle.mark.proofs.pin.Tie as tie
+use Rattle.mark.proofs.pin.Reads as reads
+use Rattle.mark.proofs.pin.Lts as lts
+use Rattle.trace.proofs.queue.Reads as queue-reads
+
+returns : tie.Need-returns
+returns c = search pin-beyond
+
+shared-slice-read-if2 : tie.Need-shared-slice-read-if2
+shared-slice-read-if2 c = search needs
+
+returns-2 : tie.Need-returns-2
+returns-2 c = search pin-dead
+
+queue-requires : tie.Need-queue-requires
+queue-requires c κs = search needs
+
+same-length : tie.Need-same-length
+same-length c = search needs
+
+same-length-2 : tie.Need-same-length-2
+same-length-2 c = search needs
+
+returns-3 : tie.Need-returns-3
+returns-3 c = search (pin-live, queue-met)
+
+pub pin-spec : {M : Type 1} → statement M
+pin-spec =
+    tie.close
+    (tie.spec
+    returns
+    shared-slice-read-if2
+    returns-2
+    queue-requires
+    same-length
+    same-length-2
+    returns-3)
