@@ -1,0 +1,116 @@
+-- `object_door::free` meets its contract. Assumes nothing.
+use mathlib.Core.Path.{ap}
+use Rattle.heap_door.specs.HeapTold.{toldEntry}
+use Rattle.heap_door.proofs.Doors.{entered, call-refused, call-ready}
+use borrow.Author.Needs.{needs}
+use Rattle.object_door.proofs.free.Statement.{statement}
+use Rattle.object_door.proofs.free.Tie as tie
+
+enter-requires : tie.Need-enter-requires
+enter-requires c κs = search needs
+
+enum-known-why : tie.Need-enum-known-why
+enum-known-why c = search needs
+
+enum-told : tie.Need-enum-told
+enum-told c = search needs
+
+free-requires : tie.Need-free-requires
+free-requires c κs = entered _ _ _ _ _ _ (c .before .before .before .before .before .before .before .before .before .before .before .before .before .before .enter .ensures) (ap toldEntry (c .before .before .before .before .before .before .before .before .enum-told .given .1))
+
+same-length : tie.Need-same-length
+same-length c = search needs
+
+same-length-2 : tie.Need-same-length-2
+same-length-2 c = search needs
+
+same-length-3 : tie.Need-same-length-3
+same-length-3 c = search needs
+
+same-length-4 : tie.Need-same-length-4
+same-length-4 c = search needs
+
+same-length-5 : tie.Need-same-length-5
+same-length-5 c = search needs
+
+same-length-6 : tie.Need-same-length-6
+same-length-6 c = search needs
+
+same-length-7 : tie.Need-same-length-7
+same-length-7 c = search needs
+
+same-length-8 : tie.Need-same-length-8
+same-length-8 c = search needs
+
+same-length-9 : tie.Need-same-length-9
+same-length-9 c = search needs
+
+same-length-10 : tie.Need-same-length-10
+same-length-10 c = search needs
+
+returns : tie.Need-returns
+returns c = call-refused _ _ _ _ _ _ _ _ (c .before .before .before .before .before .before .before .enter .ensures) (ap toldEntry (c .before .why .given .1))
+
+same-length-11 : tie.Need-same-length-11
+same-length-11 c = search needs
+
+same-length-12 : tie.Need-same-length-12
+same-length-12 c = search needs
+
+same-length-13 : tie.Need-same-length-13
+same-length-13 c = search needs
+
+same-length-14 : tie.Need-same-length-14
+same-length-14 c = search needs
+
+same-length-15 : tie.Need-same-length-15
+same-length-15 c = search needs
+
+same-length-16 : tie.Need-same-length-16
+same-length-16 c = search needs
+
+same-length-17 : tie.Need-same-length-17
+same-length-17 c = search needs
+
+same-length-18 : tie.Need-same-length-18
+same-length-18 c = search needs
+
+same-length-19 : tie.Need-same-length-19
+same-length-19 c = c .before .before .before .before .before .before .before .before .before .before .before .before .before .before .before .before .before .before .before .before .before .before .before .before .before .before .before .before .before .before .before .before .enter .kept .1 .1 .1 .1 .1 .1 .1 .1 .1 .1 .1 .0
+
+same-length-20 : tie.Need-same-length-20
+same-length-20 c = c .before .before .before .before .before .before .before .before .before .before .before .before .before .before .before .before .before .before .before .before .before .before .before .before .before .before .before .before .before .before .before .before .enter .kept .1 .1 .1 .1 .1 .1 .1 .1 .1 .1 .1 .1 .0
+
+returns-2 : tie.Need-returns-2
+returns-2 c = call-ready _ _ _ _ _ _ _ _ _ (c .before .before .before .before .before .before .before .before .before .before .before .before .before .before .before .before .before .before .before .before .before .before .before .before .before .before .before .before .before .before .before .before .enter .ensures) (ap toldEntry (c .before .before .before .before .before .before .before .before .before .before .before .before .before .before .before .before .before .before .before .before .before .before .before .before .before .before .enum-told .given .1)) (c .before .before .before .before .before .before .before .before .before .before .before .before .before .before .before .before .before .free .ensures)
+
+pub free-spec : {M : Type 1} → statement M
+free-spec =
+    tie.close
+    (tie.spec
+    enter-requires
+    enum-known-why
+    enum-told
+    free-requires
+    same-length
+    same-length-2
+    same-length-3
+    same-length-4
+    same-length-5
+    same-length-6
+    same-length-7
+    same-length-8
+    same-length-9
+    same-length-10
+    returns
+    same-length-11
+    same-length-12
+    same-length-13
+    same-length-14
+    same-length-15
+    same-length-16
+    same-length-17
+    same-length-18
+    same-length-19
+    same-length-20
+    returns-2)
