@@ -1,19 +1,17 @@
 -- The two ways out of a collection. Assumes nothing.
 use mathlib.Core.Path.{_≡_, refl, sym, ap, _∙_, subst}
-use mathlib.Core.Bool.{true}
 use mathlib.Core.List.{List, [], _∷_}
 use mathlib.Core.Option.{Option, none, some}
-use Prim.Native.Nat.{ℕ, _≤_, _<_}
+use Prim.Native.Nat.{ℕ, _≤_}
 use native.Mathlib.Omega.{arith}
 use types.Run.{OneOf, miss}
 use denote.Enum.Declared.{tagOf}
 use lib.ListN.{length, getD, take, replicate}
 use lib.Dec.{eqb}
-use Rattle.word.specs.Result.{Result, ok, refused}
+use Rattle.word.specs.Result.{ok, refused}
 use Rattle.heap.specs.Packing.{pad}
 use Rattle.heap.specs.State.{State}
 use Rattle.heap.specs.Lent.{Lent, headerOf, stored, view, slotCount}
-use Rattle.heap.specs.Calls.{Changed, done, refuse}
 use Rattle.heap.specs.Done.{Leaves, Does}
 use Rattle.heap.proofs.Packing.{getD-pad}
 use Rattle.heap.proofs.Testing.{formed-tested}

@@ -24,7 +24,7 @@ use Rattle.collect_laws.specs.Collected.{found}
 use Rattle.mark.specs.Scratch.{stateOf, Scratch, Holds, following, Traces, seededFrom}
 use Rattle.mark.specs.Shown.{leadsTo, shownIn, Fit}
 use Rattle.mark.proofs.States.{unmarked-room, meet-marked, meet-new, Pushing, pushing-next, pushing-end, drop-cons-one}
-use Rattle.mark.proofs.Graphs.{resolves-in}
+use Rattle.mark.proofs.Inside.{resolves-in}
 
 abbrev pub HoldsRaw : ℕ → Raw → State → Type 0
 HoldsRaw n r s = Holds n (r .marks) (r .words) (r .count) s

@@ -1,18 +1,16 @@
 -- The loop that goes through the queue: what is left, from the state that is there, gives what all gives. Assumes nothing.
 use Prim.Native.Nat.{ℕ, zero, suc, _+_, _-_, _≤_, _<_}
 use mathlib.Core.Path.{_≡_, refl, sym, ap, _∙_, subst}
-use mathlib.Core.Bool.{Bool, true, false}
 use mathlib.Core.Option.{Option, none, some}
 use mathlib.Core.List.{List, [], _∷_, _++_}
 use lib.ListN.{length, getD, take, drop, replicate}
 use lib.Seq.{length-take-le, getD-take}
-use lib.Dec.{ltb}
 use borrow.Author.Tests.{lt-ltb, le-ltb}
 use native.Mathlib.Nat.{sub-zero}
 use native.Mathlib.Numerals.{add-one}
 use native.Mathlib.Omega.{arith}
-use Rattle.reach.specs.Reach.{Graph, _∈_}
-use Rattle.reach.specs.Marking.{State, Good, followAll, drained, orDone, orStuck, marking}
+use Rattle.reach.specs.Reach.{Graph}
+use Rattle.reach.specs.Marking.{State, followAll, drained, marking}
 use Rattle.handle.specs.Columns.{liveIn}
 use Rattle.heap.specs.Packing.{pad}
 use Rattle.heap.proofs.Packing.{drop-replicate}
@@ -23,9 +21,7 @@ use Rattle.mark.specs.Shown.{leadsTo, shownIn, graphIn}
 use Rattle.mark.specs.Scratch.{stateOf, Scratch, Holds, following, Traces, seededFrom}
 use Rattle.mark.specs.Told.{marksIn, startsOf, Ready}
 use Rattle.mark.proofs.States.{scratch-start}
-use Rattle.mark.proofs.Graphs.{sized-in}
-use Rattle.reach.proofs.Grown.{Grown, ∈-getD, good-room}
-use Rattle.reach.proofs.Sound.{Sized, follows-grown}
+use Rattle.reach.proofs.Grown.{∈-getD, good-room}
 
 -- ---- the function's clauses
 
@@ -65,7 +61,7 @@ module _ (slots : ℕ) (marks work : List ℕ) (count : ℕ) (s : Scratch slots 
   queue-below k h =
       subst (λ (i : ℕ). i < slots) (queue-at k h) (s .good .within (getD (take count work) k 0) (∈-getD (take count work) k (omega (arith, queue-length))))
 
-module _ (G : Graph) (slots : ℕ) (z : Sized G slots) (marks₀ work₀ : List ℕ) (total : Option State) (marks work : List ℕ) (count next : ℕ) (d : Draining G slots marks₀ work₀ total marks work count next) where
+module _ (G : Graph) (slots : ℕ) (marks₀ work₀ : List ℕ) (total : Option State) (marks work : List ℕ) (count next : ℕ) (d : Draining G slots marks₀ work₀ total marks work count next) where
   pub draining-end : count ≤ next → total ≡ some (stateOf marks work count)
   draining-end h = sym (d .same) ∙ drained-end G (slots - next) (stateOf marks work count) next (omega (arith, queue-length slots marks work count (d .scratch)))
 
@@ -120,19 +116,19 @@ Drains T tag slots gs ks ts ss es ps marks₀ work₀ total marks work count nex
 
 module _ (T : Table) (tag slots : ℕ) (gs ks ts ss es ps marks₀ work₀ : List ℕ) (total : Option State) (marks work : List ℕ) (count next : ℕ) (d : Drains T tag slots gs ks ts ss es ps marks₀ work₀ total marks work count next) where
   pub drains-end : count ≤ next → total ≡ some (stateOf marks work count)
-  drains-end h = draining-end (graphIn T tag slots gs ks ts ss es ps) slots (sized-in T tag slots gs ks ts ss es ps) marks₀ work₀ total marks work count next d h
+  drains-end h = draining-end (graphIn T tag slots gs ks ts ss es ps) slots marks₀ work₀ total marks work count next d h
 
   module _ (h : next < count) where
     module _ (r : Answer) (marks′ work′ : List ℕ) (t : Traces r slots marks′ work′ (following (leadsTo tag slots gs ks) (stateOf marks work count) (shownIn T ks ts ss es ps (getD work next 0)))) where
       pub drains-stuck : r ≡ Untraceable → total ≡ none
       drains-stuck e =
-          draining-stuck (graphIn T tag slots gs ks ts ss es ps) slots (sized-in T tag slots gs ks ts ss es ps) marks₀ work₀ total marks work count next d h
+          draining-stuck (graphIn T tag slots gs ks ts ss es ps) slots marks₀ work₀ total marks work count next d h
           (subst (λ (x : Answer). Traces x slots marks′ work′ (following (leadsTo tag slots gs ks) (stateOf marks work count) (shownIn T ks ts ss es ps (getD work next 0)))) e t)
 
       pub drains-next : (m : ℕ) → r ≡ Traced m → length marks′ ≡ length marks → length work′ ≡ length work → Drains T tag slots gs ks ts ss es ps marks₀ work₀ total marks′ work′ m (next + 1)
       drains-next m e a b =
           let q = subst (λ (x : Answer). Traces x slots marks′ work′ (following (leadsTo tag slots gs ks) (stateOf marks work count) (shownIn T ks ts ss es ps (getD work next 0)))) e t in
-          draining-next (graphIn T tag slots gs ks ts ss es ps) slots (sized-in T tag slots gs ks ts ss es ps) marks₀ work₀ total marks work count next d h marks′ work′ m (q .0) (q .1) a b
+          draining-next (graphIn T tag slots gs ks ts ss es ps) slots marks₀ work₀ total marks work count next d h marks′ work′ m (q .0) (q .1) a b
 
 -- ---- the whole
 

@@ -3,7 +3,7 @@ use Prim.Native.Nat.{ℕ, zero, suc, _-_, _≤_, _<_}
 use mathlib.Core.Path.{_≡_, refl, sym, ap, _∙_, fun-ext}
 use mathlib.Core.Bool.{Bool, true, not, _&&_}
 use mathlib.Core.Option.{Option}
-use mathlib.Core.List.{List, []}
+use mathlib.Core.List.{List}
 use lib.ListN.{length, getD, take, drop, length-map, List·getD-map, List·getD-eq-default}
 use lib.Seq.{take-all}
 use lib.Dec.{eqb, ltb}
@@ -13,13 +13,13 @@ use native.Mathlib.Omega.{arith}
 use Rattle.handle.specs.Handle.{indexOf}
 use Rattle.handle.specs.Columns.{liveIn}
 use Rattle.handle.proofs.ResolveLaws.{resolve-same}
-use Rattle.heap.specs.Packing.{pad, flat, ends, startOf, dataAt}
-use Rattle.heap.specs.State.{Slot, State, noSlot, slotAt, dataOf, live}
+use Rattle.heap.specs.Packing.{flat, ends, startOf, dataAt}
+use Rattle.heap.specs.State.{Slot, noSlot, slotAt, dataOf, live}
 use Rattle.heap.specs.Lent.{Lent, view, slotCount, poolSize}
 use Rattle.heap.specs.WellFormed.{wellFormed}
 use Rattle.heap.specs.Calls.{resolve}
 use Rattle.heap.proofs.Sound.{WellFormed}
-use Rattle.heap.proofs.Packing.{data-at, start-of, end-of, length-ends, flat-split, end-at}
+use Rattle.heap.proofs.Packing.{data-at, start-of, length-ends, end-at}
 use Rattle.heap.proofs.Splicing.{flat-mono}
 use Rattle.heap.proofs.Storing.{column-any, getD-pad-past}
 use Rattle.heap.proofs.Changing.{Known, known}
@@ -27,7 +27,6 @@ use Rattle.heap.proofs.Testing.{formed-tested}
 use Rattle.ty.specs.Types.{Table}
 use Rattle.trace.specs.Places.{handlesOf}
 use Rattle.trace.specs.Emit.{resolveIn}
-use Rattle.reach.specs.Reach.{Graph, Starts}
 use Rattle.collect_laws.specs.Collected.{found, graph, starts}
 use Rattle.mark.specs.Shown.{shown, shownIn, graphIn, leadsTo, Fit}
 use Rattle.mark.specs.Told.{startsOf}

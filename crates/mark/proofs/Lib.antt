@@ -2,5 +2,5 @@
 pub mod States
 pub mod Bridge
 pub mod Draining
-pub mod Graphs
+pub mod Inside
 pub mod Formed

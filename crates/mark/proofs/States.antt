@@ -1,12 +1,10 @@
 -- The scratch as a state: one object met, and a list of handles or pins taken in turn. Room in the queue comes by counting the marks. Assumes nothing.
-use Prim.Native.Nat.{ℕ, zero, suc, _+_, _≤_, _<_}
+use Prim.Native.Nat.{ℕ, _+_, _≤_, _<_}
 use mathlib.Core.Path.{_≡_, refl, sym, ap, _∙_, subst}
 use mathlib.Core.Logic.{⊎-elim}
-use mathlib.Core.Bool.{Bool, true, false}
 use mathlib.Core.List.{List, [], _∷_}
-use lib.ListN.{length, getD, take, drop, set, length-set, replicate, length-replicate}
+use lib.ListN.{length, getD, drop, set, length-set, replicate, length-replicate}
 use lib.Seq.{drop-cons, take-suc-set, getD-set-same, getD-set-other}
-use lib.Dec.{eqb}
 use borrow.Author.Tests.{eq-eqb, ne-eqb}
 use native.Mathlib.Numerals.{add-one}
 use native.Mathlib.Decide.{ℕ-discrete}
@@ -14,7 +12,7 @@ use native.Mathlib.Omega.{arith}
 use Rattle.handle.specs.Columns.{liveIn}
 use Rattle.handle.proofs.ResolveLaws.{live-beyond, live-not, live-there}
 use Rattle.reach.specs.Marking.{State, Good, visit, pinIf}
-use Rattle.reach.proofs.Grown.{Grown, sum-set, sum-le, visit-grown, good-nothing}
+use Rattle.reach.proofs.Grown.{sum-set, sum-le, visit-grown, good-nothing}
 use Rattle.mark.specs.Scratch.{stateOf, Holds, Scratch}
 
 -- an unmarked slot leaves room in the queue
