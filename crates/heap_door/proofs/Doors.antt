@@ -58,7 +58,7 @@ never q = absurd (omega arith)
 
 module _ (m w m′ w′ : List ℕ) (l : Lent) where
   -- by what the tests say
-  by-tests : {X : Type 0} (a : Result Unit) → toldWith a m′ w′ ≡ heapAsk m w l there
+  pub by-tests : {X : Type 0} (a : Result Unit) → toldWith a m′ w′ ≡ heapAsk m w l there
       → (enough m w l ≡ false → a ≡ refused 18 → m′ ≡ m → w′ ≡ w → X)
       → (enough m w l ≡ true → wellFormed l ≡ false → a ≡ refused 1 → m′ ≡ zeros m → w′ ≡ zeros w → X)
       → (enough m w l ≡ true → wellFormed l ≡ true → a ≡ ready → m′ ≡ zeros m → w′ ≡ zeros w → X) → X

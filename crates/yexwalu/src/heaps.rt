@@ -1,4 +1,7 @@
 // The calls on a heap in lent memory. They stand in crates of their own, so that each is checked in a short time.
+pub use collect_door::CollectReply;
+pub use collect_door::Collected;
+pub use collect_door::collect;
 pub use heap_door::Count;
 pub use heap_door::DataReply;
 pub use heap_door::EditReply;
