@@ -589,12 +589,12 @@ class Writer:
 
     def scalar(self):
         return self.pick(
-            (6, (ACCESS,)),
-            (2, (PROTECTED,)),
+            (5, (ACCESS,)),
+            (1, (PROTECTED,)),
             (2, (ENUM, self.r.choice([0, 2, 256, 257, 300]), self.r.choice([0, 0, 1, 2, 3]))),
             (2, self.integer()),
             (1, (PHYSICAL,)),
-            (1, (REAL,)),
+            (2, (REAL,)),
             (1, (FILE,)),
         )
 
@@ -626,7 +626,7 @@ class Writer:
             e = part()
             return (ARRAY, e, self.constrain(table, e, bad), self.pick((7, 1), (2, 2), (1, 0), (1, 3)))
         fields = []
-        for _ in range(self.r.randint(0, 4)):
+        for _ in range(self.r.choice([0, 1, 2, 2, 3, 3, 4, 6])):
             f = part()
             fields.append((f, self.constrain(table, f, bad)))
         return (RECORD, tuple(fields))
@@ -764,13 +764,14 @@ class Function:
             while r.random() < 0.08:
                 code.append((r.randrange(7), some(1), some(2), some(1)))
             start = len(code)
-            if r.random() < 0.12:
-                blocks.append(r.choice([(start, start), (start + 3, start), (start, 0), (U32, U32), (0, 0)]))
+            if r.random() < 0.2:
+                # Often where the next nonempty block starts: falling through must pass over it.
+                blocks.append(r.choice([(start, start), (start, start), (start, 0), (start + 3, start), (U32, U32), (0, 0)]))
                 continue
             for _ in range(r.randint(1, 7)):
                 kind = r.choices([0, 1, 2, 3, 4, 5, 6], [40, 40, 3, 3, 3, 1, 1])[0]
                 code.append((kind, some(2), some(3), cls.targets(r, n)))
-            if r.random() < 0.75:
+            if r.random() < 0.6:
                 kind = r.choices([2, 3, 4, 5, 6, 1, 0], [6, 8, 6, 3, 1, 2, 2])[0]
                 code.append((kind, some(1), some(2), cls.targets(r, n)))
             blocks.append((start, len(code)))
