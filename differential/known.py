@@ -10,6 +10,8 @@ OUTSIDE = {
     "reissue beyond": "`reissue` of an index beyond the slots is 9 in the port and a panic in the Rust. Only indices of slots are given",
     "unsorted pins": "pins that do not rise are 14 in the port; the Rust's binary search loses them. All pins rise",
     "no pool": "the Rust has no pool, so 6 never comes. Pools are lent large enough for what is allocated",
+    "pool field": "`new` and `load` have a pool's size in the port; the oracle reads past it",
+    "panic and hang": "lines on which the Rust panics or does not end have no answer to compare. None is made; the generator stops with the line if one is",
     "shared blocks": "blocks past the code or sharing an instruction are 15 in the port; the Rust panics or lists a safepoint twice. No such function is made",
     "broken heap": "`load` gives well formed heaps only: the oracle does not test them, the port answers 1",
     "checked epoch": "the epoch wraps in both; in a checked build of the Rust it would panic. The release build is compared",
