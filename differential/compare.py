@@ -3,6 +3,7 @@
 
     compare.py --oracle PATH [--replay PATH] --seeds 1-20 [--lines 2000]     scripts made from seeds
     compare.py --oracle PATH --replay PATH --script FILE                     a script from a file
+    compare.py --oracle PATH --replay PATH --shapes                          the fixed scripts of shapes.py; --large for the large ones
 
 Without --replay it runs the oracle alone and prints the spread of its answers. A disagreement is cut down to a smallest script and printed.
 The end is a table of calls by command and answer, and one line of sums."""
@@ -14,6 +15,7 @@ import time
 
 import generate
 import known
+import shapes
 from machine import answers
 
 YES_NO = ("gcdue", "reclaimdue", "hasquarantine", "isplain", "hashandles")
@@ -158,6 +160,23 @@ def seeds(text):
         yield from range(int(a), int(b or a) + 1)
 
 
+def scripts(a):
+    """Name, lines and the oracle's answers of each script that was asked for."""
+    fixed = []
+    if a.script:
+        with open(a.script) as f:
+            fixed.append((a.script, commands(f.read().splitlines())))
+    if a.shapes:
+        fixed += [(s.__name__, list(s())) for s in shapes.ALL]
+    if a.large:
+        fixed += [(s.__name__, list(s())) for s in shapes.LARGE]
+    for name, lines in fixed:
+        left = answers(a.oracle, lines)[0]
+        yield name, lines[: len(left)], left
+    for seed in seeds(a.seeds) if a.seeds else []:
+        yield f"seed {seed}", *generate.script(a.oracle, seed, a.lines)
+
+
 def main():
     p = argparse.ArgumentParser(description=__doc__.splitlines()[0])
     p.add_argument("--oracle", required=True)
@@ -165,26 +184,21 @@ def main():
     p.add_argument("--seeds", help="numbers and ranges, such as 1-20,77")
     p.add_argument("--lines", type=int, default=2000, help="lines a script, at least")
     p.add_argument("--script", help="a script instead of seeds")
+    p.add_argument("--shapes", action="store_true", help="the fixed scripts instead of seeds")
+    p.add_argument("--large", action="store_true", help="the large fixed scripts instead of seeds")
     p.add_argument("--stop", type=int, default=5, help="disagreements after which to stop")
     a = p.parse_args()
     sums, began, found_all = Sums(), time.time(), []
     pair = Pair(a.oracle, a.replay)
-    for name in [a.script] if a.script else seeds(a.seeds):
-        if a.script:
-            with open(a.script) as f:
-                lines = commands(f.read().splitlines())
-            left = answers(a.oracle, lines)[0]
-        else:
-            lines, left = generate.script(a.oracle, name, a.lines)
+    for name, lines, left in scripts(a):
         right = answers(a.replay, lines)[0] if a.replay else None
-        lines = lines[: len(left)] if a.script else lines
         sums.add(lines, left, right)
         if right is None:
             continue
         found = unlike(lines, left, right)
         if found:
             sums.disagreements += 1
-            report(f"seed {name}" if not a.script else name, pair, lines, found)
+            report(name, pair, lines, found)
             if sums.disagreements >= a.stop:
                 break
     print(sums.table())
