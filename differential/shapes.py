@@ -196,8 +196,8 @@ def joined():
 
 def reclaims():
     """A quarantine that makes a recycling due, and pins that keep more than 2,048 slots: long lines."""
-    rows = ["1,0,0,0,0,"] * 4099 + ["1,2,0,0,0,41"]
-    yield from [f"load 4200 64 {page([1, 0, 4096, 0], rows, [4098, 5], [i for i in range(4097, -1, -1) if i != 5])}", "reclaimdue", "gcdue 0"]
+    rows = ["1,0,0,0,0,"] * 4097 + ["1,2,0,0,0,41"]
+    yield from [f"load 4200 64 {page([1, 0, 4096, 0], rows, [5], [i for i in range(4096, -1, -1) if i != 5])}", "reclaimdue", "gcdue 0"]
     pins = ",".join(str(i) for i in range(0, 4400, 2))
     yield from [f"recycle {pins}", "page", "reclaimdue", f"collect - {pins}", "page", "recycle 1,2,3", "page", "reclaimdue", "hasquarantine"]
     yield from ["alloc 2 0 0 42", "alloc 2 0 0 43", "slots", "collect - 0,1,2", "page", "epoch"]
