@@ -1,0 +1,59 @@
+"""The named differences between the port and the Rust (docs/DIFFERENCES.md), as the comparison meets them.
+
+Most are kept out of the scripts by the generator: `OUTSIDE` names these with their reason, and a script from elsewhere that meets one is told so. `SAME` are answers
+that are written in two ways and mean the same."""
+
+OUTSIDE = {
+    "stride 0": "the Rust walks an array of stride 0 `count` times and may not end (`hang`); the port does not walk it. "
+    "No object, value or frame is made whose walk takes more than some thousand turns",
+    "aligning": "where a record's aligning overflows 64 bits the port answers 12 and the Rust wraps or panics. No such descriptor is made",
+    "reissue beyond": "`reissue` of an index beyond the slots is 9 in the port and a panic in the Rust. Only indices of slots are given",
+    "unsorted pins": "pins that do not rise are 14 in the port; the Rust's binary search loses them. All pins rise",
+    "no pool": "the Rust has no pool, so 6 never comes. Pools are lent large enough for what is allocated",
+    "pool field": "`new` and `load` have a pool's size in the port; the oracle reads past it",
+    "panic and hang": "lines on which the Rust panics or does not end have no answer to compare. None is made; the generator stops with the line if one is",
+    "shared blocks": "blocks past the code or sharing an instruction are 15 in the port; the Rust panics or lists a safepoint twice. No such function is made",
+    "broken heap": "`load` gives well formed heaps only: the oracle does not test them, the port answers 1",
+    "checked epoch": "the epoch wraps in both; in a checked build of the Rust it would panic. The release build is compared",
+    "leftovers": "a dead slot's type, start and writes are zero in the port and leftovers in the Rust. `page` shows dead slots as document 01 does, in both",
+}
+
+
+def number(answer):
+    return answer.split(" ", 1)[0]
+
+
+def pushed(command, oracle, replay):
+    """On 13 the port writes nothing; the Rust leaves what it had pushed."""
+    return command in ("objh", "valh", "slotroots") and number(oracle) == number(replay) == "13"
+
+
+def no_size(command, oracle, replay):
+    """`desc_size` without an answer is told as 11 by the port (docs/DECISIONS.md); the oracle prints the Rust's None."""
+    return command == "descsize" and oracle == "none" and replay == "11"
+
+
+SAME = {"partial output on 13": pushed, "no descriptor size": no_size}
+
+
+def outside(command, oracle, replay):
+    """The named difference that a line of a script from elsewhere meets, or None."""
+    if command == "reissue" and oracle.startswith("panic") and number(replay) == "9":
+        return "reissue beyond"
+    if oracle == "hang":
+        return "stride 0"
+    if number(replay) == "14":
+        return "unsorted pins"
+    if number(replay) == "6":
+        return "no pool"
+    return None
+
+
+def same(command, oracle, replay):
+    """The name under which two answers count as the same: `equal`, a key of SAME, or None."""
+    if oracle == replay:
+        return "equal"
+    for name, test in SAME.items():
+        if test(command, oracle, replay):
+            return name
+    return None

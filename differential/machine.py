@@ -1,0 +1,41 @@
+"""The two programs behind pipes: the oracle one line at a time, and either of them over a whole script."""
+
+import os
+import subprocess
+
+
+class Hang(Exception):
+    pass
+
+
+class Oracle:
+    """The oracle in the loop of the generator, which needs its handles."""
+
+    def __init__(self, path, seconds=5):
+        env = dict(os.environ, ORACLE_FLUSH="1", ORACLE_SECONDS=str(seconds))
+        self.p = subprocess.Popen([path], stdin=subprocess.PIPE, stdout=subprocess.PIPE, env=env, bufsize=1 << 16)
+
+    def ask(self, line):
+        self.p.stdin.write(line.encode() + b"\n")
+        self.p.stdin.flush()
+        answer = self.p.stdout.readline().decode().rstrip("\n")
+        if answer in ("hang", ""):
+            raise Hang(line)
+        return answer
+
+    def close(self):
+        self.p.stdin.close()
+        self.p.stdout.close()
+        self.p.wait()
+
+
+def answers(path, lines, seconds=600):
+    """What the program prints for a script, and how it ended (0, another code, or `time`)."""
+    env = dict(os.environ, ORACLE_SECONDS="5")
+    try:
+        r = subprocess.run(
+            [path], input=("\n".join(lines) + "\n").encode(), stdout=subprocess.PIPE, stderr=subprocess.DEVNULL, env=env, timeout=seconds
+        )
+    except subprocess.TimeoutExpired as e:
+        return (e.stdout or b"").decode(errors="replace").splitlines(), "time"
+    return r.stdout.decode(errors="replace").splitlines(), r.returncode

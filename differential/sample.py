@@ -1,0 +1,87 @@
+#!/usr/bin/env python3
+"""Writes the sample that the gate runs: the shapes, then episodes from a seed, with the oracle's answers.
+
+    sample.py --oracle PATH --seed N --lines N --out FOLDER       writes FOLDER/stdin and FOLDER/stdout
+
+An answer stands as the port gives it: 13 without what the Rust had pushed, and 11 for a descriptor without a size. It stops if a call or an answer that the Rust can
+give is missing."""
+
+import argparse
+import os
+import sys
+
+import generate
+import known
+import shapes
+from compare import kind
+from machine import Oracle
+
+# The answers that the Rust can give to each call, yes (`0 1`) and no (`0 0`) apart.
+RESOLVES = ["0", "2", "3", "4"]
+YES_NO = ["0 0", "0 1"]
+ANSWERS = {
+    "new": ["0"], "load": ["0"], "setepoch": ["0"], "alloc": ["0", "5"], "edit": RESOLVES, "write": ["0", "9"], "reissue": ["0"],
+    "take": RESOLVES, "free": RESOLVES, "recycle": ["0"], "seal": ["0"], "gcdue": YES_NO, "hasquarantine": YES_NO, "isplain": YES_NO,
+    "reclaimdue": ["0 0"], "resolve": RESOLVES, "data": ["0", "9"], "kind": ["0", "9"], "stamp": ["0", "9"], "slots": ["0"],
+    "collect": ["0", "13"], "joined": ["0", "13", "16"], "page": ["0"], "epoch": ["0"], "table": ["0"], "ty": ["0"], "const": ["0"],
+    "layout": ["0", "11", "12"], "descsize": ["0", "11"], "hashandles": YES_NO, "objh": ["0", "13"], "valh": ["0", "13"],
+    "slotroots": ["0", "13"], "func": ["0"], "inst": ["0"], "live": ["0"], "liveat": ["0", "16"],
+}
+
+
+class Short(generate.Limits):
+    """Small heaps and short lines keep the sample readable."""
+
+    slots = 32
+    pool = 4096
+    line = 2000
+    data = 96
+
+
+def as_port(line, answer):
+    """The answer as the port writes it."""
+    if answer == "none":
+        return "11"
+    if line.split(" ", 1)[0] in ("objh", "valh", "slotroots") and known.number(answer) == "13":
+        return "13"
+    return answer
+
+
+def sample(oracle, seed, lines):
+    o = Oracle(oracle)
+    w = generate.Writer(seed, o.ask, Short)
+    for line in shapes.lines():
+        w.do(line)
+    # Shapes leave a table, a heap and a function of their own; an episode begins with its own.
+    w.table = generate.Table()
+    w.do("func - -")
+    while len(w.lines) < lines:
+        w.episode(length=40)
+    o.close()
+    return w.lines, [as_port(a, b) for a, b in zip(w.lines, w.answers)]
+
+
+def main():
+    p = argparse.ArgumentParser(description=__doc__.splitlines()[0])
+    p.add_argument("--oracle", required=True)
+    p.add_argument("--seed", type=int, required=True)
+    p.add_argument("--lines", type=int, default=3000)
+    p.add_argument("--out", required=True)
+    a = p.parse_args()
+    lines, told = sample(a.oracle, a.seed, a.lines)
+    seen = {kind(x, y) for x, y in zip(lines, told)}
+    wanted = {(c, n) for c, answers in ANSWERS.items() for n in answers}
+    if wanted - seen:
+        print("missing: " + ", ".join(" ".join(x) for x in sorted(wanted - seen)), file=sys.stderr)
+        return 1
+    os.makedirs(a.out, exist_ok=True)
+    for name, text in (("stdin", lines), ("stdout", told)):
+        with open(os.path.join(a.out, name), "w") as f:
+            f.write("\n".join(text) + "\n")
+    longest = max(map(len, lines))
+    print(f"{len(lines)} lines, {len(seen)} pairs of command and answer, longest line {longest} bytes, seed {a.seed}")
+    return 0
+
+
+if __name__ == "__main__":
+    sys.exit(main())
