@@ -1,5 +1,6 @@
 -- Lent memory holds numbers within their widths (01, "Page"): tag, kind and data 8 bits; generation, type, writes and slot indices 32; the rest 64.
--- A caller has every part from the types of what it lends: a `u32` is below 2 ^ 32, and so is each entry of a `&[u32]`, and 0 stands past its end.
+-- A caller has every part from the types of what it lends: a `u32` is below 2 ^ 32, and so is each entry of a `&[u32]`, past whose end 0 stands.
+-- The function `words` of this crate, which does nothing and asks for nothing, ensures it.
 use Prim.Native.Nat.{ℕ, _<_, _^_}
 use mathlib.Core.List.{List}
 use lib.ListN.{getD}
