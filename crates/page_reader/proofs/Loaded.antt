@@ -2,7 +2,7 @@
 use Prim.Native.Nat.{ℕ, _≤_}
 use mathlib.Core.List.{List}
 use mathlib.Core.Bool.{Bool, true, false, _&&_}
-use mathlib.Core.Option.{Option, some}
+use mathlib.Core.Option.{Option, none, some}
 use mathlib.Core.Path.{_≡_, refl, sym, ap, _∙_, subst}
 use lib.Dec.{leb, ltb, eqb}
 use lib.ListN.{length}
@@ -101,27 +101,31 @@ sizes g k t b e w p f q z h =
 pub sizes-some : (g k t b e w p f q z m : ℕ) {r : Bool} → r ≡ sizesFit g k t b e w p f q z → g ≤ m → r ≡ true → 1 ≤ m
 sizes-some g k t b e w p f q z m v h d = omega (arith, sizes g k t b e w p f q z (sym v ∙ d) .some)
 
--- what an accepted heap has passed
-record Passed (r : Bool) (S P : ℕ) (h : State) : Type 0 where
-  sizes : r ≡ true
-  sound : sound h ≡ true
-  room : dataSize (h .slots) ≤ P
-  slots : length (h .slots) ≤ S
+-- what a text has passed that is accepted
+pub record Passed (r : Bool) (S P : ℕ) (o : Option State) (h : State) : Type 0 where
+  pub page : o ≡ some h
+  pub sizes : r ≡ true
+  pub sound : sound h ≡ true
+  pub room : dataSize (h .slots) ≤ P
+  pub slots : length (h .slots) ≤ S
 
-not-ok : {h : State} (n : ℕ) → refused n ≡ ok h → ⊥
+pub not-ok : {A : Type 0} {a : A} (n : ℕ) → refused n ≡ ok a → ⊥
 not-ok n e = let z : _≡_ {A = ℕ} 0 1 = cc in omega arith
 
-passed : (r : Bool) (S P : ℕ) (o : Option State) (h : State) → o ≡ some h → verdict r S P o ≡ ok h → Passed r S P h
+pub passed : (r : Bool) (S P : ℕ) (o : Option State) (h : State) → verdict r S P o ≡ ok h → Passed r S P o h
 unfolding verdict
-passed r S P o h e v = go (r && sound h) refl (ltb P (dataSize (h .slots))) refl (ltb S (length (h .slots))) refl (sym (ap (verdict r S P) e) ∙ v)
+passed r S P none h v = absurd (not-ok 17 v)
+passed r S P (some g) h v = go (r && sound g) refl (ltb P (dataSize (g .slots))) refl (ltb S (length (g .slots))) refl v
   where
-    go : (a : Bool) → (r && sound h) ≡ a → (b : Bool) → ltb P (dataSize (h .slots)) ≡ b → (d : Bool) → ltb S (length (h .slots)) ≡ d → verdict r S P (some h) ≡ ok h → Passed r S P h
+    go : (a : Bool) → (r && sound g) ≡ a → (b : Bool) → ltb P (dataSize (g .slots)) ≡ b → (d : Bool) → ltb S (length (g .slots)) ≡ d → verdict r S P (some g) ≡ ok h → Passed r S P (some g) h
     go false ea b eb d ed u = absurd (not-ok 1 (rw ea at u))
     go true ea true eb d ed u = absurd (not-ok 6 (rw (ea, eb) at u))
     go true ea false eb true ed u = absurd (not-ok 5 (rw (ea, eb, ed) at u))
     go true ea false eb false ed u =
-        let p = and-both r (sound h) ea in
-        record { sizes = p .0; sound = p .1; room = ltb-false P (dataSize (h .slots)) eb; slots = ltb-false S (length (h .slots)) ed }
+        let q : ok g ≡ ok h = rw (ea, eb, ed) at u in
+        let e : g ≡ h = cc in
+        let p = and-both r (sound g) ea in
+        rw (← e) (record { page = refl; sizes = p .0; sound = p .1; room = ltb-false P (dataSize (g .slots)) eb; slots = ltb-false S (length (g .slots)) ed })
 
 pub is-page : (s : List ℕ) (v : Result State) (x : Sections) {r : Checked} → Checking s v r → r ≡ checked.Page x → Accepted s v x
 is-page s v x c e = subst (Checking s v) e c
@@ -129,7 +133,7 @@ is-page s v x c e = subst (Checking s v) e c
 pub roomy : (s : List ℕ) (g k t b e w p f q z : ℕ) (x : Sections) {r : Bool} → r ≡ sizesFit g k t b e w p f q z → Accepted s (verdict r g p (readPage s)) x →
     Roomy g k t b e w p f q z (heapIn s)
 roomy s g k t b e w p f q z x {r} v a =
-    let d = passed r g p (readPage s) (heapIn s) (a .sections .page) (a .verdict) in
+    let d = passed r g p (readPage s) (heapIn s) (a .verdict) in
     let n = sizes g k t b e w p f q z (sym v ∙ d .sizes) in
     let u = parts (heapIn s) (d .sound) in
     let o = dead-length (heapIn s) (u .partition) in

@@ -1,0 +1,3 @@
+pub mod Widths
+pub mod Reading
+pub mod Trips
