@@ -11,6 +11,23 @@ ghost use Rattle.heap.specs.Done.{Leaves};
 ghost use Rattle.heap_recycle.specs.Pins.{rising};
 ghost use Rattle.heap_recycle.specs.Sorting.{Half, Sorted, RecycledIn};
 
+// Do the pins rise strictly?
+pub fn rise(pins: &[u32]) -> bool
+    ensures { λ r. ⌜ r ≡ rising (now (pins .entry)) ⌝ }
+{
+    let mut k = 0;
+    let mut from = 0;
+    while k < pins.len() {
+        let x = pins[k] as usize;
+        if x < from {
+            return false;
+        }
+        from = x + 1;
+        k += 1;
+    }
+    true
+}
+
 // The half of a range that is searched on.
 pub struct Range {
     pub low: usize,

@@ -11,7 +11,6 @@ ghost use mathlib.Core.Path.{_≡_};
 ghost use lib.ListN.{length};
 ghost use Rattle.heap.specs.Lent.{lent};
 ghost use Rattle.heap.specs.Calls.{free as freed};
-ghost use Rattle.heap_recycle.specs.Pins.{rising};
 ghost use Rattle.heap_door.specs.HeapCalls.{outcome, heapCall};
 ghost use Rattle.object_door.specs.ObjectCalls.{isKind, allocating, recycling, handed, takeCall};
 ghost use Rattle.object_door.specs.ObjectTold.{toldPlaced, toldRecycled, toldFreed, toldTaken};
@@ -157,23 +156,6 @@ pub fn alloc(
     )
 }
 
-// Do the pins rise strictly?
-fn rise(pins: &[u32]) -> bool
-    ensures { λ r. ⌜ r ≡ rising (now (pins .entry)) ⌝ }
-{
-    let mut k = 0;
-    let mut from = 0;
-    while k < pins.len() {
-        let x = pins[k] as usize;
-        if x < from {
-            return false;
-        }
-        from = x + 1;
-        k += 1;
-    }
-    true
-}
-
 pub enum RecycleReply {
     Recycled,
     Pins,
@@ -224,7 +206,7 @@ pub fn recycle(
             answer: RecycleReply::Refused(why),
         },
         Entry::Ready => {
-            if rise(pins) {
+            if heap_recycle::rise(pins) {
                 let after = heap_recycle::recycle(
                     heap,
                     generation,
