@@ -8,17 +8,15 @@ use native.Mathlib.Nat.{mul-le-mul-right}
 use native.Mathlib.Omega.{arith}
 use lib.ListN.{length, getD, replicate}
 use borrow.Author.Tests.{not-true, not-false}
-use Rattle.word.specs.Choice.{if_then_else_}
 use Rattle.word.specs.Result.{Result, refused}
 use Rattle.word.specs.Ones.{passing}
 use Rattle.rows.specs.Row.{bitIn, part}
 use Rattle.ty.specs.Types.{Table}
 use Rattle.heap.specs.Lent.{Lent as Heap, view}
 use Rattle.heap.specs.WellFormed.{wellFormed}
-use Rattle.heap.specs.Calls.{Changed, refuse}
 use Rattle.heap.specs.Done.{Does}
 use Rattle.heap.proofs.Testing.{formed-tested}
-use Rattle.flow.specs.Function.{Function, safepoint}
+use Rattle.flow.specs.Function.{safepoint}
 use Rattle.flow.specs.Dataflow.{liveBefore, liveRow, holder, track}
 use Rattle.flow.proofs.Lists.{passing-same}
 use Rattle.roots.specs.View.{view as functionIn}
@@ -40,9 +38,9 @@ pub record Small (f : Lent) : Type 0 where
   pub past : rowStart f + rowWords f < 2 ^ 64
   pub bytes : rowStart f * 8 < 2 ^ 64
 
-pub small : (f : Lent) → right f ≡ true → Small f
-small f good =
-    let v = formed-fit (f .kinds) (f .ends) (f .refs) (f .blocks) (f .classes) good in
+pub small : (f : Lent) (values rows : List ℕ) → CanLook f values rows → Small f
+small f values rows can =
+    let v = formed-fit (f .kinds) (f .ends) (f .refs) (f .blocks) (f .classes) (can .formed) in
     let w : rowWords f ≤ 256 = omega (arith, v .class-count) in
     let m : rowStart f ≤ 4096 * (3 * rowWords f) = mul-le-mul-right (3 * rowWords f) (v .block-count) in
     record { sum = omega (arith, v .class-count); three = omega arith; start = omega arith; past = omega arith; bytes = omega arith }
@@ -50,9 +48,6 @@ small f good =
 -- ---- the row
 
 module _ (f : Lent) (pc : ℕ) (rows : List ℕ) (good : right f ≡ true) (room : need f ≤ length rows) where
-  abbrev blockCount : ℕ
-  blockCount = length (f .blocks) / 2
-
   -- the rows of the blocks and two more
   pub look-room : length (f .blocks) / 2 * (3 * rowWords f) + 2 * rowWords f ≤ length rows
   look-room = omega (arith, room, need-is (length (f .blocks) / 2) (rowWords f))

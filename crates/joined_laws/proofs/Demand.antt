@@ -1,23 +1,22 @@
 -- THE THEOREM of demand 3 for the joined collection, over its definition: for every heap, type table, function, safepoint, values, frame and pins. Assumes nothing.
-use mathlib.Core.Path.{_≡_, refl, sym, ap, _∙_, subst}
+use mathlib.Core.Path.{_≡_, refl, sym, _∙_, subst}
 use mathlib.Core.Logic.{_⊎_, inl, inr, ⊎-elim, _↔_}
 use mathlib.Core.Bool.{true}
 use mathlib.Core.List.{List, [], _∷_, _++_}
 use mathlib.Core.Option.{Option, none, some}
 use Prim.Native.Nat.{ℕ}
 use native.Mathlib.Omega.{arith}
-use Rattle.word.specs.Result.{ok, refused}
 use Rattle.ty.specs.Types.{Table}
 use Rattle.heap.specs.State.{State}
 use Rattle.heap.specs.Calls.{Changed}
 use Rattle.flow.specs.Function.{Function, valid, safepoint}
-use Rattle.reach.specs.Reach.{Graph, Starts, First, Linked, Chain, LeadsTo, Reached, Stuck, _∈_}
+use Rattle.reach.specs.Reach.{Graph, Starts, First, Chain, Reached, Stuck, _∈_}
 use Rattle.collect_laws.specs.Collected.{graph, starts, collected}
 use Rattle.collect_laws.specs.Demand.{Survived, Collects}
 use Rattle.collect_laws.proofs.Demand.{collect-demand}
 use Rattle.mark.specs.Shown.{shown}
 use Rattle.joined_laws.specs.Joined.{rootRegisters, valuesOf, joined}
-use Rattle.joined_laws.specs.Demand.{JoinedStarts, StuckAt, Joins}
+use Rattle.joined_laws.specs.Demand.{JoinedStarts, Joins}
 use Rattle.joined_laws.proofs.Registers.{joined-starts}
 
 -- ---- what is reached rests on which handles chains start at, not on their order

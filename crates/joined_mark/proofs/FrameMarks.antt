@@ -18,7 +18,7 @@ use Rattle.mark.specs.Scratch.{stateOf, Scratch, Holds, following, Traces, seed
 use Rattle.mark.specs.Told.{marksIn, Ready}
 use Rattle.mark.proofs.Bridge.{traces, follows-append}
 use Rattle.mark.proofs.Inside.{resolves-in}
-use Rattle.mark.proofs.Draining.{ready-scratch, whole-stuck, whole-marked}
+use Rattle.mark.proofs.Draining.{whole-stuck, whole-marked}
 use Rattle.joined_mark.specs.Joining.{joinedFrom, joinedMarking}
 
 -- the scratch after the frame

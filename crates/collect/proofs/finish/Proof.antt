@@ -1,5 +1,4 @@
 -- `collect::finish` meets its contract. Assumes nothing.
-use mathlib.Core.Path.{_∙_}
 use Rattle.collect.proofs.Collecting.{finish-stuck, finish-done}
 use borrow.Author.Needs.{needs}
 use Rattle.collect.proofs.finish.Statement.{statement}
