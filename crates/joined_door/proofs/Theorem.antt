@@ -29,7 +29,8 @@ use Rattle.joined_laws.specs.Joined.{rootRegisters, valuesOf, joinedBy, joined}
 use Rattle.joined_laws.specs.Demand.{Joins}
 use Rattle.joined_laws.proofs.Demand.{joined-demand}
 use Rattle.joined_at.specs.Safepoint.{atSafepoint}
-use Rattle.joined_door.specs.JoinedCalls.{Asked, table, frame, admittedBy, admitted, orRefuse, joining, JoinedOutcome, joinedOutcome, roomy, joinedCall}
+use Rattle.joined_door.specs.JoinedCalls.{Asked, table, frame, admitted, orRefuse, joining, JoinedOutcome, joinedOutcome, roomy, joinedCall}
+use Rattle.joined_entry.specs.Admitting.{admittedBy}
 use Rattle.joined_door.specs.JoinedDemand.{Heard, Demand}
 
 never : {X : Type 0} → _≡_ {A = ℕ} 0 1 → X

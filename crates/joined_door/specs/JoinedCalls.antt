@@ -20,6 +20,7 @@ use Rattle.heap_recycle.specs.Pins.{rising}
 use Rattle.heap_door.specs.HeapCalls.{Outcome, outcome, enough, zeros}
 use Rattle.roots.specs.Calls.{Lent as Code, function, right, need}
 use Rattle.joined_at.specs.Safepoint.{atSafepoint}
+use Rattle.joined_entry.specs.Admitting.{admittedBy}
 
 -- what is lent to be read: the type table, the function, one value a register, the frame map with the frame's memory, and the pins
 pub record Asked : Type 0 where
@@ -44,9 +45,6 @@ abbrev pub coded : Asked → Bool
 coded a = right (a .code) && eqb (length (a .values)) (length (a .code .classes))
 
 -- type table (10), function (15), pins (14)
-unfoldable pub admittedBy : (table code pins : Bool) → Result Unit
-admittedBy table code pins = if not table then refused 10 else if not code then refused 15 else if not pins then refused 14 else ok tt
-
 abbrev pub admitted : Asked → Result Unit
 admitted a = admittedBy (tableGood (a .types) (a .fields) (a .consts) (a .bytes)) (coded a) (rising (a .pins))
 
@@ -79,20 +77,3 @@ joinedCall a marks work rows l =
     if not (roomy a marks work rows l) then joinedOutcome (refused 18) l marks work rows
     else if not (wellFormed l) then joinedOutcome (refused 1) l (zeros marks) (zeros work) (zeros rows)
     else joinedOutcome (joining a (view l) .answer) (stored (slotCount l) (poolSize l) (joining a (view l) .heap)) (zeros marks) (zeros work) (zeros rows)
-
--- the tests that come first: what they tell, and the scratch afterwards
-pub record Entered : Type 0 where
-  pub answer : Result Unit
-  pub marks : List ℕ
-  pub work : List ℕ
-  pub rows : List ℕ
-
-abbrev pub entered : Result Unit → (marks work rows : List ℕ) → Entered
-entered a m w r = record { answer = a; marks = m; work = w; rows = r }
-
--- so many words are needed
-unfoldable pub entering : (words : ℕ) (marks work rows : List ℕ) → Lent → Entered
-entering words marks work rows l =
-    if not (enough marks work l && leb words (length rows)) then entered (refused 18) marks work rows
-    else if not (wellFormed l) then entered (refused 1) (zeros marks) (zeros work) (zeros rows)
-    else entered (ok tt) (zeros marks) (zeros work) (zeros rows)

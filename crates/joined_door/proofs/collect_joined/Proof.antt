@@ -1,7 +1,7 @@
 -- `joined_door::collect_joined` meets its contract. Assumes nothing.
 use mathlib.Core.Path.{ap, _∙_}
 use Rattle.heap_door.specs.HeapTold.{toldEntry}
-use Rattle.joined_door.specs.JoinedTold.{toldInputs}
+use Rattle.joined_entry.specs.Admitting.{toldInputs}
 use Rattle.joined_door.proofs.JoinedDoors.{not-entered, door-open, door-flawed, door-done}
 use borrow.Author.Needs.{needs}
 use Rattle.joined_door.proofs.collect_joined.Statement.{statement}

@@ -1,10 +1,10 @@
--- `joined_door::admit` meets its contract. Assumes nothing.
+-- `joined_entry::admit` meets its contract. Assumes nothing.
 use lib.ListN.{length}
 use Rattle.heap_recycle.specs.Pins.{rising}
-use Rattle.joined_door.proofs.JoinedDoors.{flaw-table, flaw-code, flaw-pins, no-flaw, not-code, not-valued, is-coded}
+use Rattle.joined_entry.proofs.EntryLaws.{flaw-table, flaw-code, flaw-pins, no-flaw, not-code, not-valued, is-coded}
 use borrow.Author.Needs.{needs}
-use Rattle.joined_door.proofs.admit.Statement.{statement}
-use Rattle.joined_door.proofs.admit.Tie as tie
+use Rattle.joined_entry.proofs.admit.Statement.{statement}
+use Rattle.joined_entry.proofs.admit.Tie as tie
 
 check-table-requires : tie.Need-check-table-requires
 check-table-requires c κs = search needs

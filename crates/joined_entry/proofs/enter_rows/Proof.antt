@@ -1,8 +1,8 @@
--- `joined_door::enter_rows` meets its contract. Assumes nothing.
-use Rattle.joined_door.proofs.JoinedDoors.{no-marks, no-words, no-rows, is-formed, not-formed}
+-- `joined_entry::enter_rows` meets its contract. Assumes nothing.
+use Rattle.joined_entry.proofs.EntryLaws.{no-marks, no-words, no-rows, is-formed, not-formed}
 use borrow.Author.Needs.{needs}
-use Rattle.joined_door.proofs.enter_rows.Statement.{statement}
-use Rattle.joined_door.proofs.enter_rows.Tie as tie
+use Rattle.joined_entry.proofs.enter_rows.Statement.{statement}
+use Rattle.joined_entry.proofs.enter_rows.Tie as tie
 
 returns : tie.Need-returns
 returns c = no-marks _ _ _ _ _ (c .if1 .taken)

@@ -1,8 +1,8 @@
--- `joined_door::rows_enough` meets its contract. Assumes nothing.
-use Rattle.joined_door.proofs.JoinedDoors.{by-leb}
+-- `joined_entry::rows_enough` meets its contract. Assumes nothing.
+use Rattle.joined_entry.proofs.EntryLaws.{by-leb}
 use borrow.Author.Needs.{needs}
-use Rattle.joined_door.proofs.rows_enough.Statement.{statement}
-use Rattle.joined_door.proofs.rows_enough.Tie as tie
+use Rattle.joined_entry.proofs.rows_enough.Statement.{statement}
+use Rattle.joined_entry.proofs.rows_enough.Tie as tie
 
 add-words : tie.Need-add-words
 add-words c = search needs
