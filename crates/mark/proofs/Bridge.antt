@@ -116,7 +116,7 @@ module _ (slots : ℕ) (kind list marks₀ work₀ : List ℕ) (total : State) (
 
 -- ---- the starts
 
-follows-append : (R : ℕ → Option ℕ) (s : State) (a b : List ℕ) → followAll R s (a ++ b) ≡ followAll R (followAll R s a) b
+pub follows-append : (R : ℕ → Option ℕ) (s : State) (a b : List ℕ) → followAll R s (a ++ b) ≡ followAll R (followAll R s a) b
 follows-append R s [] b = refl
 follows-append R s (h ∷ a) b = follows-append R (follow R s h) a b
 

@@ -1,0 +1,103 @@
+-- THE THEOREM of demand 3 for the joined collection, over its definition: for every heap, type table, function, safepoint, values, frame and pins. Assumes nothing.
+use mathlib.Core.Path.{_≡_, refl, sym, _∙_, subst}
+use mathlib.Core.Logic.{_⊎_, inl, inr, ⊎-elim, _↔_}
+use mathlib.Core.Bool.{true}
+use mathlib.Core.List.{List, [], _∷_, _++_}
+use mathlib.Core.Option.{Option, none, some}
+use Prim.Native.Nat.{ℕ}
+use native.Mathlib.Omega.{arith}
+use Rattle.ty.specs.Types.{Table}
+use Rattle.heap.specs.State.{State}
+use Rattle.heap.specs.Calls.{Changed}
+use Rattle.flow.specs.Function.{Function, valid, safepoint}
+use Rattle.reach.specs.Reach.{Graph, Starts, First, Chain, Reached, Stuck, _∈_}
+use Rattle.collect_laws.specs.Collected.{graph, starts, collected}
+use Rattle.collect_laws.specs.Demand.{Survived, Collects}
+use Rattle.collect_laws.proofs.Demand.{collect-demand}
+use Rattle.mark.specs.Shown.{shown}
+use Rattle.joined_laws.specs.Joined.{rootRegisters, valuesOf, joined}
+use Rattle.joined_laws.specs.Demand.{JoinedStarts, Joins}
+use Rattle.joined_laws.proofs.Registers.{joined-starts}
+
+-- ---- what is reached rests on which handles chains start at, not on their order
+
+module _ (G : Graph) (S S′ : Starts) (pins : S .pins ≡ S′ .pins) (roots : (x : ℕ) → x ∈ S .roots → x ∈ S′ .roots) where
+  first-other : (o : ℕ) → First G S o → First G S′ o
+  first-other o f =
+      ⊎-elim {C = First G S′ o} (λ p. inl (subst (λ (l : List ℕ). o ∈ l) pins (p .0), p .1)) (λ r. inr (r .0, roots (r .0) (r .1), r .2)) f
+
+  reached-other : (o : ℕ) → Reached G S o → Reached G S′ o
+  reached-other o (c, k, l) = (c, go c k, l)
+    where
+      go : (c : List ℕ) → Chain G S c → Chain G S′ c
+      go [] z = z
+      go (p ∷ ps) z = (first-other p (z .0), z .1)
+
+  stuck-other : Stuck G S → Stuck G S′
+  stuck-other (o, r, e) = (o, reached-other o r, e)
+
+module _ (h : State) (G : Graph) (S S′ : Starts) (pins : S .pins ≡ S′ .pins) (roots : (x : ℕ) → (x ∈ S .roots) ↔ (x ∈ S′ .roots)) where
+  to : (o : ℕ) → Reached G S o → Reached G S′ o
+  to = reached-other G S S′ pins (λ x. roots x .0)
+
+  back : (o : ℕ) → Reached G S′ o → Reached G S o
+  back = reached-other G S′ S (sym pins) (λ x. roots x .1)
+
+  survived-other : (h′ : State) → Survived G S h h′ → Survived G S′ h h′
+  survived-other h′ s =
+      record {
+        outlives = λ x o was. let e = s .outlives x o was in (λ r. to o (e .0 r), λ r. e .1 (back o r));
+        alive = λ o. let e = s .alive o in (λ r. to o (e .0 r), λ r. e .1 (back o r));
+        known = s .known;
+        same = λ o r. s .same o (back o r);
+      }
+
+  collects-other : (r : Changed Unit) → Collects G S h r → Collects G S′ h r
+  collects-other r c =
+      record {
+        untraceable = (λ e. stuck-other G S S′ pins (λ x. roots x .0) (c .untraceable .0 e), λ k. c .untraceable .1 (stuck-other G S′ S (sym pins) (λ x. roots x .1) k));
+        unchanged = c .unchanged;
+        succeeds = λ no. c .succeeds (λ k. no (stuck-other G S S′ pins (λ x. roots x .0) k));
+        survived = λ e. survived-other (r .heap) (c .survived e);
+      }
+
+-- ---- THE THEOREM
+
+module _ (T : Table) (f : Function) (pc : ℕ) (good : valid f ≡ true) (at : safepoint f pc ≡ true) (values : List ℕ) (frame : Option (List ℕ)) (pins : List ℕ) (h : State) where
+  pub joined-demand : Joins T f pc values frame pins h (joined T f pc values frame pins h)
+  unfolding joined
+  joined-demand = go frame
+    where
+      go : (o : Option (List ℕ)) → Joins T f pc values o pins h (joined T f pc values o pins h)
+      go none =
+          record {
+            untraceable = (λ q. inl refl, λ k. refl);
+            unchanged = λ q. refl;
+            succeeds = λ no other. absurd (no refl);
+            collects = λ hs e. let z : _≡_ {A = ℕ} 0 1 = cc in absurd (omega arith);
+          }
+      go (some handles) =
+          record {
+            untraceable = (
+              λ q. inr (handles, refl, record { from = S; starts = begins; stuck = all .untraceable .0 q }),
+              λ k. ⊎-elim (λ e. let z : _≡_ {A = ℕ} 0 1 = cc in absurd (omega arith)) (λ (hs, e, s). other hs e (s .from) (s .starts) .untraceable .1 (s .stuck)) k,
+            );
+            unchanged = all .unchanged;
+            succeeds = λ no free. all .succeeds (λ k. free handles refl (record { from = S; starts = begins; stuck = k }));
+            collects = λ hs e S′ b. other hs e S′ b;
+          }
+        where
+          S : Starts
+          S = starts h (handles ++ valuesOf values (rootRegisters f pc)) pins
+
+          begins : JoinedStarts f pc values handles (h .sealed) pins S
+          begins = joined-starts f pc good at values handles pins h
+
+          all : Collects (graph h (shown T h)) S h (collected (graph h (shown T h)) S h)
+          all = collect-demand h (shown T h) (handles ++ valuesOf values (rootRegisters f pc)) pins
+
+          other : (hs : List ℕ) → some handles ≡ some hs → (S′ : Starts) → JoinedStarts f pc values hs (h .sealed) pins S′ → Collects (graph h (shown T h)) S′ h (collected (graph h (shown T h)) S h)
+          other hs e S′ b =
+              let w : handles ≡ hs = cc in
+              let b′ : JoinedStarts f pc values handles (h .sealed) pins S′ = subst (λ (l : List ℕ). JoinedStarts f pc values l (h .sealed) pins S′) (sym w) b in
+              collects-other h (graph h (shown T h)) S S′ (begins .pinned ∙ sym (b′ .pinned)) (λ x. (λ m. b′ .rooted x .1 (begins .rooted x .0 m), λ m. begins .rooted x .1 (b′ .rooted x .0 m))) _ all
