@@ -4,13 +4,13 @@ use mathlib.Core.Path.{_≡_}
 use mathlib.Core.Logic.{_⊎_}
 use mathlib.Core.Bool.{Bool, true, false, cond, not, _&&_, _||_}
 use mathlib.Core.List.{List, [], _∷_}
-use Prim.Native.Nat.{ℕ, zero, suc, _+_, _-_, _*_, _/_, _%_, _≤_, _<_}
+use Prim.Native.Nat.{ℕ, zero, _+_, _-_, _*_, _/_, _%_, _≤_, _<_}
 use lib.ListN.{length, getD, take}
 use lib.Dec.{ltb, eqb}
 use Rattle.word.specs.Bit.{bit}
 use Rattle.rows.specs.Row.{bitIn, listed}
-use Rattle.flow.specs.Function.{Function, firstAt, start, end}
-use Rattle.flow.specs.Dataflow.{gen, kill, into, Sound, Closed, liveIn, track}
+use Rattle.flow.specs.Function.{Function, firstAt, end}
+use Rattle.flow.specs.Dataflow.{gen, kill, into, Sound, liveIn, track}
 use Rattle.roots.specs.View.{startOf, tabulate, blockAt, view}
 use Rattle.roots.specs.declared.Tracked.{Tracked}
 use Rattle.roots.specs.declared.Tracked.the-variants.{References, Handles, All}

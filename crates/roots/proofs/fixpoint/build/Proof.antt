@@ -1,5 +1,4 @@
 -- `roots::fixpoint::build` meets its contract. Assumes nothing.
-use native.Mathlib.Omega.{arith}
 use borrow.Author.Needs.{needs}
 use mathlib.Core.Path.{refl}
 use Rattle.roots.proofs.Chaining.{chains-none}
