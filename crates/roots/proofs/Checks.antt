@@ -12,7 +12,7 @@ use lib.Dec.{leb}
 use borrow.Author.Count.{below-more}
 use borrow.Author.Tests.{leb-true, le-leb}
 use Rattle.flow.specs.Function.{Block, Instruction, every, inside, apart}
-use Rattle.flow.proofs.Laws.{same-bool}
+use Rattle.word.proofs.Bools.{bool-ext}
 use Rattle.flow.proofs.Lists.{every-at, at-every}
 use Rattle.flow.proofs.Validity.{apart-one, one-apart}
 use Rattle.roots.specs.View.{startOf, instAt, view, formed}
@@ -194,4 +194,4 @@ module _ (kinds ends refs bs classes : List ℕ) where
       }
 
   pub is-formed : (r : Bool) → (r ≡ true) ↔ Fit kinds ends refs bs classes → r ≡ formed kinds ends refs bs classes
-  is-formed r e = same-bool r (formed kinds ends refs bs classes) (λ h. fit-formed (e .0 h)) (λ h. e .1 (formed-fit h))
+  is-formed r e = bool-ext r (formed kinds ends refs bs classes) (λ h. fit-formed (e .0 h)) (λ h. e .1 (formed-fit h))

@@ -1,9 +1,6 @@
 -- `root_map::block_row` meets its contract. Assumes nothing.
 use native.Mathlib.Omega.{arith}
 use borrow.Author.Needs.{needs}
-use mathlib.Core.Path.{sym, subst}
-use Prim.Native.Nat.{ℕ, _*_, _≤_}
-use lib.ListN.{length}
 use Rattle.roots.specs.Columns.{wanted}
 use Rattle.roots.proofs.Forms.{formed-columns, ends-inside}
 use Rattle.root_map.proofs.Pointing.{entered-none, entered-block}
@@ -45,7 +42,7 @@ back-at-requires c κs =
     let e = c .before .wide .ensures in
     let here = c .before .before .before .before .before .before .before .before .find-block .ensures .here (c .before .before .before .before .before .before .before .if1 .left) in
     let inside = ends-inside _ _ _ _ _ (c .before .before .before .before .before .before .before .before .before .before .before .before .before .before .before .pre .0) (c .before .before .before .before .before .before .before .before .before .before .before .before .before .before .before .args .nb) (c .before .before .before .before .before .before .before .before .before .before .before .before .before .before .before .pre .1 .0 .0) (c .before .before .before .before .before .before .before .before .find-block .result) (c .before .before .before .before .before .before .before .if1 .left) (omega (arith, here .0, here .1)) in
-    (omega (arith, c .before .before .before .before .before .before .before .before .before .before .before .before .before .before .before .pre .1 .0 .1, c .before .before .before .before .before .gather .ensures .0 .kept), (omega (arith, here .1, e), subst (λ (u : ℕ). 3 * u ≤ length (c .before .before .before .before .before .before .before .before .before .before .before .before .before .before .before .args .ends .now)) (sym e) inside, c .before .before .before .before .before .before .before .before .before .before .before .before .before .before .before .pre .1 .0 .2, formed-columns _ _ _ _ _ (c .before .before .before .before .before .before .before .before .before .before .before .before .before .before .before .pre .0) .lists))
+    (omega (arith, c .before .before .before .before .before .before .before .before .before .before .before .before .before .before .before .pre .1 .0 .1, c .before .before .before .before .before .gather .ensures .0 .kept), (omega (arith, here .1, e), omega (arith, inside, e, here .1), c .before .before .before .before .before .before .before .before .before .before .before .before .before .before .before .pre .1 .0 .2, formed-columns _ _ _ _ _ (c .before .before .before .before .before .before .before .before .before .before .before .before .before .before .before .pre .0) .lists))
 
 same-length : tie.Need-same-length
 same-length c = search needs

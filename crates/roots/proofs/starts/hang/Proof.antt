@@ -34,7 +34,7 @@ wide-requires-2 : tie.Need-wide-requires-2
 wide-requires-2 c κs = search needs
 
 returns : tie.Need-returns
-returns c = chains-empty (c .before .before .before .before .before .before .before .before .pre .3) (c .before .before .before .before .before .before .before .before .pre .2) _ _ (c .before .before .before .wide .ensures) (c .before .wide2 .ensures) (c .if1 .taken)
+returns c = chains-empty (c .before .before .before .before .before .before .before .before .pre .3) (c .before .before .before .before .before .before .before .before .pre .2) _ _ (c .before .before .before .wide .ensures) (c .before .wide2 .ensures) (omega (arith, c .if1 .taken))
 
 mul-links : tie.Need-mul-links
 mul-links c = search needs
