@@ -1,15 +1,16 @@
 -- The dataflow as a computation gives exactly the live registers, and the passes end: as many as there are blocks are enough. Assumes nothing.
-use mathlib.Core.Path.{_≡_, refl, sym, ap, ap₂, _∙_, subst}
+use mathlib.Core.Path.{_≡_, sym, ap, ap₂, _∙_, subst}
 use mathlib.Core.Logic.{_⊎_, inl, inr, ⊎-elim, _↔_}
 use mathlib.Core.Bool.{Bool, true, false, cond, not, _&&_, _||_, true≢false, false≢true}
 use mathlib.Core.List.{List, [], _∷_}
 use Prim.Native.Nat.{ℕ, zero, suc, _+_, _-_, _≤_, _<_}
 use native.Mathlib.Omega.{arith}
 use native.Mathlib.Decide.{ℕ-discrete}
-use lib.ListN.{length, getD}
+use lib.ListN.{length}
 use Rattle.flow.specs.Function.{Function, start, end, Live}
-use Rattle.flow.specs.Dataflow.{back, out, into, Closed, Sound, passOf, still, passes, liveIn, liveBefore}
-use Rattle.flow.proofs.Laws.{or-true, or-left, or-right, and-true, bool-cases, same-bool, Disjoint, step-sound, exact, least}
+use Rattle.flow.specs.Dataflow.{into, Closed, Sound, passOf, still, passes, liveIn, liveBefore}
+use Rattle.word.proofs.Bools.{or-cases, or-left, or-right, and-both, either, bool-ext}
+use Rattle.flow.proofs.Laws.{Disjoint, step-sound, exact, least}
 
 -- how many of the first n blocks are not in X
 abbrev missing : (ℕ → Bool) → ℕ → ℕ
@@ -18,7 +19,7 @@ missing X (suc n) = missing X n + cond (X n) 0 1
 
 missing-le : (X : ℕ → Bool) (n : ℕ) → missing X n ≤ n
 missing-le X zero = omega arith
-missing-le X (suc n) = go (missing-le X n) (bool-cases (X n))
+missing-le X (suc n) = go (missing-le X n) (either (X n))
   where
     go : missing X n ≤ n → (X n ≡ true) ⊎ (X n ≡ false) → missing X n + cond (X n) 0 1 ≤ suc n
     go h (inl e) = rw e (omega arith)
@@ -27,7 +28,7 @@ missing-le X (suc n) = go (missing-le X n) (bool-cases (X n))
 -- Y has all of X: fewer are missing, and fewer still where Y has b and X has not
 missing-more : (X Y : ℕ → Bool) → ((b : ℕ) → X b ≡ true → Y b ≡ true) → (n : ℕ) → missing Y n ≤ missing X n
 missing-more X Y sub zero = omega arith
-missing-more X Y sub (suc n) = go (missing-more X Y sub n) (bool-cases (X n)) (bool-cases (Y n))
+missing-more X Y sub (suc n) = go (missing-more X Y sub n) (either (X n)) (either (Y n))
   where
     go : missing Y n ≤ missing X n → (X n ≡ true) ⊎ (X n ≡ false) → (Y n ≡ true) ⊎ (Y n ≡ false) → missing Y n + cond (Y n) 0 1 ≤ missing X n + cond (X n) 0 1
     go h (inl x) y = rw (x, sub n x) (omega arith)
@@ -36,7 +37,7 @@ missing-more X Y sub (suc n) = go (missing-more X Y sub n) (bool-cases (X n)) (b
 
 missing-less : (X Y : ℕ → Bool) → ((b : ℕ) → X b ≡ true → Y b ≡ true) → (n b : ℕ) → b < n → X b ≡ false → Y b ≡ true → missing Y n < missing X n
 missing-less X Y sub zero b l x y = absurd (omega arith)
-missing-less X Y sub (suc n) b l x y = go (λ k. missing-less X Y sub n b k x y) (ℕ-discrete b n) (bool-cases (X n)) (bool-cases (Y n))
+missing-less X Y sub (suc n) b l x y = go (λ k. missing-less X Y sub n b k x y) (ℕ-discrete b n) (either (X n)) (either (Y n))
   where
     go : (b < n → missing Y n < missing X n) → Dec (b ≡ n) → (X n ≡ true) ⊎ (X n ≡ false) → (Y n ≡ true) ⊎ (Y n ≡ false)
         → missing Y n + cond (Y n) 0 1 < missing X n + cond (X n) 0 1
@@ -50,7 +51,7 @@ missing-less X Y sub (suc n) b l x y = go (λ k. missing-less X Y sub n b k x y)
 
 none-missing : (X : ℕ → Bool) (n : ℕ) → missing X n ≤ 0 → (b : ℕ) → b < n → X b ≡ true
 none-missing X zero h b l = absurd (omega arith)
-none-missing X (suc n) h b l = go (λ k. none-missing X n (omega arith) b k) (ℕ-discrete b n) (bool-cases (X n))
+none-missing X (suc n) h b l = go (λ k. none-missing X n (omega arith) b k) (ℕ-discrete b n) (either (X n))
   where
     go : (b < n → X b ≡ true) → Dec (b ≡ n) → (X n ≡ true) ⊎ (X n ≡ false) → X b ≡ true
     go rec (yes e) (inl x) = ap X e ∙ x
@@ -60,18 +61,18 @@ none-missing X (suc n) h b l = go (λ k. none-missing X n (omega arith) b k) (�
 module _ (f : Function) (r : ℕ) where
   still-closed : (X : ℕ → Bool) (n : ℕ) → still f r X n ≡ true → (b : ℕ) → b < n → into f r X b ≡ true → X b ≡ true
   still-closed X zero h b l x = absurd (omega arith)
-  still-closed X (suc n) h b l x = go (still-closed X n (and-true (still f r X n) _ h .0)) (ℕ-discrete b n)
+  still-closed X (suc n) h b l x = go (still-closed X n (and-both (still f r X n) _ h .0)) (ℕ-discrete b n)
     where
       go : ((b : ℕ) → b < n → into f r X b ≡ true → X b ≡ true) → Dec (b ≡ n) → X b ≡ true
       go rec (yes e) =
           ap X e ∙ ⊎-elim (λ u. u) (λ u. absurd (false≢true (sym (ap not (ap (into f r X) (sym e) ∙ x)) ∙ u)))
-          (or-true (X n) (not (into f r X n)) (and-true (still f r X n) _ h .1))
+          (or-cases (X n) (not (into f r X n)) (and-both (still f r X n) _ h .1))
       go rec (no e) = rec b (omega arith) x
 
   -- where a pass adds something, it adds a block
   not-still : (X : ℕ → Bool) (n : ℕ) → still f r X n ≡ false → (b : ℕ) × (b < n) × (X b ≡ false) × (into f r X b ≡ true)
   not-still X zero h = absurd (true≢false h)
-  not-still X (suc n) h = go (not-still X n) (bool-cases (still f r X n)) (bool-cases (X n)) (bool-cases (into f r X n))
+  not-still X (suc n) h = go (not-still X n) (either (still f r X n)) (either (X n)) (either (into f r X n))
     where
       go : (still f r X n ≡ false → (b : ℕ) × (b < n) × (X b ≡ false) × (into f r X b ≡ true))
           → (still f r X n ≡ true) ⊎ (still f r X n ≡ false) → (X n ≡ true) ⊎ (X n ≡ false) → (into f r X n ≡ true) ⊎ (into f r X n ≡ false)
@@ -84,7 +85,7 @@ module _ (f : Function) (r : ℕ) where
   -- the passes end: where k passes are left and no more than k blocks are missing, the result is closed
   pub passes-closed : (k : ℕ) (X : ℕ → Bool) → missing X (length (f .blocks)) ≤ k → Closed f r (passes f r k X)
   passes-closed zero X h = λ b l x. none-missing X (length (f .blocks)) h b l
-  passes-closed (suc k) X h = go (passes-closed k (passOf f r X)) (bool-cases (still f r X (length (f .blocks))))
+  passes-closed (suc k) X h = go (passes-closed k (passOf f r X)) (either (still f r X (length (f .blocks))))
     where
       n : ℕ
       n = length (f .blocks)
@@ -94,12 +95,12 @@ module _ (f : Function) (r : ℕ) where
       go rec (inl s) = rw s (still-closed X (length (f .blocks)) s)
       go rec (inr s) =
           let (b, l, u, v) = not-still X (length (f .blocks)) s in
-          let m = missing-less X (passOf f r X) (λ c x. or-left (into f r X c) x) (length (f .blocks)) b l u (or-right (X b) v) in
+          let m = missing-less X (passOf f r X) (λ c x. or-left _ (into f r X c) x) (length (f .blocks)) b l u (or-right (X b) _ v) in
           rw s (rec (omega arith))
 
   pub passes-sound : (k : ℕ) (X : ℕ → Bool) → Sound f r X → Sound f r (passes f r k X)
   passes-sound zero X snd = snd
-  passes-sound (suc k) X snd = go (passes-sound k (passOf f r X) (λ b x. ⊎-elim (snd b) (step-sound f r X snd b) (or-true (X b) (into f r X b) x))) (bool-cases (still f r X (length (f .blocks))))
+  passes-sound (suc k) X snd = go (passes-sound k (passOf f r X) (λ b x. ⊎-elim (snd b) (step-sound f r X snd b) (or-cases (X b) (into f r X b) x))) (either (still f r X (length (f .blocks))))
     where
       go : Sound f r (passes f r k (passOf f r X)) → (still f r X (length (f .blocks)) ≡ true) ⊎ (still f r X (length (f .blocks)) ≡ false) → Sound f r (passes f r (suc k) X)
       go rec (inl s) = rw s snd
@@ -121,4 +122,4 @@ computed f fine b p r s l = exact f r (liveIn f r) fine (liveIn-sound f r) (live
 -- any set of blocks that is sound and closed is the computed one: the least fixpoint
 pub fixpoint-is : (f : Function) (r : ℕ) (X : ℕ → Bool) → Disjoint f → Sound f r X → Closed f r X → (b : ℕ) → X b ≡ liveIn f r b
 fixpoint-is f r X fine snd closed b =
-    same-bool (X b) (liveIn f r b) (least f r X (liveIn f r) fine snd (liveIn-closed f r) b) (least f r (liveIn f r) X fine (liveIn-sound f r) closed b)
+    bool-ext (X b) (liveIn f r b) (least f r X (liveIn f r) fine snd (liveIn-closed f r) b) (least f r (liveIn f r) X fine (liveIn-sound f r) closed b)

@@ -2,47 +2,17 @@
 -- backward walk inside a block gives exactly the registers that are live at an instruction. Assumes nothing.
 use mathlib.Core.Path.{_≡_, refl, sym, ap, _∙_, subst}
 use mathlib.Core.Logic.{_⊎_, inl, inr, ⊎-elim, _↔_}
-use mathlib.Core.Bool.{Bool, true, false, not, _&&_, _||_, true≢false, false≢true}
+use mathlib.Core.Bool.{Bool, true, false, not, _&&_, _||_, false≢true}
 use mathlib.Core.List.{List, [], _∷_}
 use Prim.Native.Nat.{ℕ, zero, suc, _+_, _-_, _≤_, _<_}
 use native.Mathlib.Omega.{arith}
-use native.Mathlib.Numerals.{add-one}
-use lib.ListN.{length, getD, List·getD-eq-default}
-use lib.Dec.{leb, ltb, eqb}
-use borrow.Author.Tests.{eqb-true, ltb-true, eq-eqb, le-ltb}
-use native.Mathlib.Decide.{decLt, decLe}
-use Rattle.flow.specs.Function.{Function, Block, Instruction, has, reads, writes, block, start, end, successors, Within, Leaves, Next, Walk, ReadFirst, Live}
+use lib.ListN.{length, getD}
+use lib.Dec.{eqb}
+use borrow.Author.Tests.{eqb-true, eq-eqb, le-ltb}
+use native.Mathlib.Decide.{decLt}
+use Rattle.flow.specs.Function.{Function, Block, has, reads, writes, block, start, end, successors, Within, Leaves, Next, Walk, ReadFirst, Live}
 use Rattle.flow.specs.Dataflow.{turn, back, killed, gen, kill, anyOf, out, into, Closed, Sound}
-
--- ---- Booleans
-
-pub or-true : (a b : Bool) → a || b ≡ true → (a ≡ true) ⊎ (b ≡ true)
-or-true true b h = inl refl
-or-true false b h = inr h
-
-pub or-left : {a : Bool} (b : Bool) → a ≡ true → a || b ≡ true
-or-left b h = rw h
-
-pub or-right : (a : Bool) {b : Bool} → b ≡ true → a || b ≡ true
-or-right true h = refl
-or-right false h = h
-
-pub and-true : (a b : Bool) → a && b ≡ true → (a ≡ true) × (b ≡ true)
-and-true true b h = (refl, h)
-and-true false b h = absurd (false≢true h)
-
-pub not-true′ : (a : Bool) → not a ≡ true → a ≡ false
-not-true′ true h = absurd (false≢true h)
-not-true′ false h = refl
-
-pub bool-cases : (a : Bool) → (a ≡ true) ⊎ (a ≡ false)
-bool-cases true = inl refl
-bool-cases false = inr refl
-
-pub same-bool : (a b : Bool) → (a ≡ true → b ≡ true) → (b ≡ true → a ≡ true) → a ≡ b
-same-bool true b f g = sym (f refl)
-same-bool false true f g = g refl
-same-bool false false f g = refl
+use Rattle.word.proofs.Bools.{or-cases, or-left, or-right}
 
 -- ---- no instruction is in two blocks
 
@@ -106,12 +76,12 @@ module _ (f : Function) (r b : ℕ) (x : Bool) (after : x ≡ true → Onward f 
 any-has : (X : ℕ → Bool) (l : List ℕ) → anyOf X l ≡ true → (s : ℕ) × (has l s ≡ true) × (X s ≡ true)
 any-has X [] h = absurd (false≢true h)
 any-has X (s ∷ ss) h =
-    ⊎-elim {C = (t : ℕ) × (has (s ∷ ss) t ≡ true) × (X t ≡ true)} (λ w. (s, or-left (has ss s) (eq-eqb s s refl), w)) (λ w. let (t, m, x) = any-has X ss w in (t, or-right (eqb s t) m, x)) (or-true (X s) (anyOf X ss) h)
+    ⊎-elim {C = (t : ℕ) × (has (s ∷ ss) t ≡ true) × (X t ≡ true)} (λ w. (s, or-left _ (has ss s) (eq-eqb s s refl), w)) (λ w. let (t, m, x) = any-has X ss w in (t, or-right (eqb s t) _ m, x)) (or-cases (X s) (anyOf X ss) h)
 
 has-any : (X : ℕ → Bool) (l : List ℕ) (s : ℕ) → has l s ≡ true → X s ≡ true → anyOf X l ≡ true
 has-any X [] s h x = absurd (false≢true h)
 has-any X (t ∷ ts) s h x =
-    ⊎-elim (λ e. or-left (anyOf X ts) (subst (λ (u : ℕ). X u ≡ true) (sym (eqb-true t s e)) x)) (λ e. or-right (X t) (has-any X ts s e x)) (or-true (eqb t s) (has ts s) h)
+    ⊎-elim (λ e. or-left _ (anyOf X ts) (subst (λ (u : ℕ). X u ≡ true) (sym (eqb-true t s e)) x)) (λ e. or-right (X t) _ (has-any X ts s e x)) (or-cases (eqb t s) (has ts s) h)
 
 -- ---- the theorem
 

@@ -1,18 +1,18 @@
 -- Lists of numbers: what passes a test, rising; a rising list is known by its members; and the tests over every entry. Assumes nothing.
-use mathlib.Core.Path.{_≡_, refl, sym, ap, ap₂, _∙_, subst}
-use mathlib.Core.Logic.{_⊎_, inl, inr, ⊎-elim, _↔_}
-use mathlib.Core.Bool.{Bool, true, false, cond, not, _&&_, _||_, true≢false, false≢true}
+use mathlib.Core.Path.{_≡_, refl, sym, ap, ap₂, _∙_}
+use mathlib.Core.Logic.{_⊎_, ⊎-elim, _↔_}
+use mathlib.Core.Bool.{Bool, true, false, cond, _&&_, _||_, true≢false, false≢true}
 use mathlib.Core.List.{List, [], _∷_}
 use Prim.Native.Nat.{ℕ, zero, suc, _+_, _-_, _≤_, _<_}
 use native.Mathlib.Omega.{arith}
 use native.Mathlib.Decide.{ℕ-discrete, decLt}
 use lib.ListN.{length, getD}
-use lib.Dec.{leb, ltb, eqb}
-use borrow.Author.Tests.{eqb-true, ltb-true, eq-eqb, ne-eqb, lt-ltb, le-ltb}
+use lib.Dec.{ltb, eqb}
+use borrow.Author.Tests.{eqb-true, ltb-true, eq-eqb, ne-eqb, lt-ltb}
 use Rattle.word.specs.Ones.{keep, passing}
 use Rattle.flow.specs.Function.{has, every, some, rising}
 use Rattle.flow.specs.Dataflow.{sift}
-use Rattle.flow.proofs.Laws.{or-true, or-left, or-right, and-true, bool-cases, same-bool}
+use Rattle.word.proofs.Bools.{or-cases, or-left, or-right, and-both}
 
 pub both-true : {a b : Bool} → a ≡ true → b ≡ true → a && b ≡ true
 both-true p q = rw p q
@@ -47,7 +47,7 @@ has-passing P b (suc n) r h = go (has-passing P (suc b) n r) (P b) refl h
     go : (has (passing P (suc b) n) r ≡ true → Member P (suc b) n r) → (x : Bool) → P b ≡ x → has (keep x b (passing P (suc b) n)) r ≡ true → Member P b (suc n) r
     go rec true e k =
         ⊎-elim (λ u. let d = eqb-true b r u in record { low = omega arith; high = omega arith; is = ap P (sym d) ∙ e }) (λ u. wide (rec u))
-        (or-true (eqb b r) (has (passing P (suc b) n) r) k)
+        (or-cases (eqb b r) (has (passing P (suc b) n) r) k)
     go rec false e k = wide (rec k)
 
 passing-has : (P : ℕ → Bool) (b n r : ℕ) → b ≤ r → r < b + n → P r ≡ true → has (passing P b n) r ≡ true
@@ -56,9 +56,9 @@ passing-has P b zero r l m h = absurd (omega arith)
 passing-has P b (suc n) r l m h = go (λ k. passing-has P (suc b) n r k (omega arith) h) (ℕ-discrete b r) (P b) refl
   where
     go : (suc b ≤ r → has (passing P (suc b) n) r ≡ true) → Dec (b ≡ r) → (x : Bool) → P b ≡ x → has (keep x b (passing P (suc b) n)) r ≡ true
-    go rec (yes d) true e = or-left (has (passing P (suc b) n) r) (eq-eqb b r d)
+    go rec (yes d) true e = or-left _ (has (passing P (suc b) n) r) (eq-eqb b r d)
     go rec (yes d) false e = absurd (true≢false (sym (ap P d ∙ h) ∙ e))
-    go rec (no d) true e = or-right (eqb b r) (rec (omega arith))
+    go rec (no d) true e = or-right (eqb b r) _ (rec (omega arith))
     go rec (no d) false e = rec (omega arith)
 
 pub passing-exactly : (P : ℕ → Bool) (n r : ℕ) → ((k : ℕ) → n ≤ k → P k ≡ false) → (has (passing P 0 n) r ≡ true) ↔ (P r ≡ true)
@@ -94,44 +94,44 @@ passing-rising P b (suc n) = go (passing-rising P (suc b) n) (P b)
 every-has : (p : ℕ → Bool) (l : List ℕ) (r : ℕ) → every p l ≡ true → has l r ≡ true → p r ≡ true
 every-has p [] r h k = absurd (false≢true k)
 every-has p (x ∷ l) r h k =
-    ⊎-elim (λ e. ap p (sym (eqb-true x r e)) ∙ and-true (p x) (every p l) h .0) (λ e. every-has p l r (and-true (p x) (every p l) h .1) e) (or-true (eqb x r) (has l r) k)
+    ⊎-elim (λ e. ap p (sym (eqb-true x r e)) ∙ and-both (p x) (every p l) h .0) (λ e. every-has p l r (and-both (p x) (every p l) h .1) e) (or-cases (eqb x r) (has l r) k)
 
 pub rising-unique : (l k : List ℕ) → rising l ≡ true → rising k ≡ true → ((r : ℕ) → has l r ≡ true → has k r ≡ true) → ((r : ℕ) → has k r ≡ true → has l r ≡ true) → l ≡ k
 rising-unique [] [] u v f g = refl
-rising-unique [] (y ∷ k) u v f g = absurd (false≢true (g y (or-left (has k y) (eq-eqb y y refl))))
-rising-unique (x ∷ l) [] u v f g = absurd (false≢true (f x (or-left (has l x) (eq-eqb x x refl))))
+rising-unique [] (y ∷ k) u v f g = absurd (false≢true (g y (or-left _ (has k y) (eq-eqb y y refl))))
+rising-unique (x ∷ l) [] u v f g = absurd (false≢true (f x (or-left _ (has l x) (eq-eqb x x refl))))
 rising-unique (x ∷ l) (y ∷ k) u v f g = ap₂ (λ (a : ℕ) (b : List ℕ). a ∷ b) same (rising-unique l k (ul .1) (vk .1) f′ g′)
   where
     ul : (every (ltb x) l ≡ true) × (rising l ≡ true)
-    ul = and-true (every (ltb x) l) (rising l) u
+    ul = and-both (every (ltb x) l) (rising l) u
 
     vk : (every (ltb y) k ≡ true) × (rising k ≡ true)
-    vk = and-true (every (ltb y) k) (rising k) v
+    vk = and-both (every (ltb y) k) (rising k) v
 
     same : x ≡ y
     same =
         ⊎-elim (λ e. sym (eqb-true y x e))
         (λ e. ⊎-elim (λ d. eqb-true x y d)
         (λ d. absurd (let p = ltb-true y x (every-has (ltb y) k x (vk .0) e) in let q = ltb-true x y (every-has (ltb x) l y (ul .0) d) in omega arith))
-        (or-true (eqb x y) (has l y) (g y (or-left (has k y) (eq-eqb y y refl)))))
-        (or-true (eqb y x) (has k x) (f x (or-left (has l x) (eq-eqb x x refl))))
+        (or-cases (eqb x y) (has l y) (g y (or-left _ (has k y) (eq-eqb y y refl)))))
+        (or-cases (eqb y x) (has k x) (f x (or-left _ (has l x) (eq-eqb x x refl))))
 
     f′ : (r : ℕ) → has l r ≡ true → has k r ≡ true
     f′ r h =
         ⊎-elim (λ e. absurd (let p = ltb-true x r (every-has (ltb x) l r (ul .0) h) in let d = eqb-true y r e in omega (arith, same))) (λ e. e)
-        (or-true (eqb y r) (has k r) (f r (or-right (eqb x r) h)))
+        (or-cases (eqb y r) (has k r) (f r (or-right (eqb x r) _ h)))
 
     g′ : (r : ℕ) → has k r ≡ true → has l r ≡ true
     g′ r h =
         ⊎-elim (λ e. absurd (let p = ltb-true y r (every-has (ltb y) k r (vk .0) h) in let d = eqb-true x r e in omega (arith, same))) (λ e. e)
-        (or-true (eqb x r) (has l r) (g r (or-right (eqb y r) h)))
+        (or-cases (eqb x r) (has l r) (g r (or-right (eqb y r) _ h)))
 
 -- ---- tests over every entry, by index
 
 pub every-at : {A : Type 0} (p : A → Bool) (l : List A) (d : A) (i : ℕ) → every p l ≡ true → i < length l → p (getD l i d) ≡ true
 every-at p [] d i h k = absurd (omega arith)
-every-at p (x ∷ l) d zero h k = and-true (p x) (every p l) h .0
-every-at p (x ∷ l) d (suc i) h k = every-at p l d i (and-true (p x) (every p l) h .1) (omega arith)
+every-at p (x ∷ l) d zero h k = and-both (p x) (every p l) h .0
+every-at p (x ∷ l) d (suc i) h k = every-at p l d i (and-both (p x) (every p l) h .1) (omega arith)
 
 pub at-every : {A : Type 0} (p : A → Bool) (l : List A) (d : A) → ((i : ℕ) → i < length l → p (getD l i d) ≡ true) → every p l ≡ true
 at-every p [] d h = refl
@@ -139,14 +139,14 @@ at-every p (x ∷ l) d h = both-true (h 0 (omega arith)) (at-every p l d (λ i k
 
 pub some-at : {A : Type 0} (p : A → Bool) (l : List A) (d : A) (i : ℕ) → i < length l → p (getD l i d) ≡ true → some p l ≡ true
 some-at p [] d i k h = absurd (omega arith)
-some-at p (x ∷ l) d zero k h = or-left (some p l) h
-some-at p (x ∷ l) d (suc i) k h = or-right (p x) (some-at p l d i (omega arith) h)
+some-at p (x ∷ l) d zero k h = or-left _ (some p l) h
+some-at p (x ∷ l) d (suc i) k h = or-right (p x) _ (some-at p l d i (omega arith) h)
 
 pub at-some : {A : Type 0} (p : A → Bool) (l : List A) (d : A) → some p l ≡ true → (i : ℕ) × (i < length l) × (p (getD l i d) ≡ true)
 at-some p [] d h = absurd (false≢true h)
 at-some p (x ∷ l) d h =
     ⊎-elim {C = (i : ℕ) × (i < length (x ∷ l)) × (p (getD (x ∷ l) i d) ≡ true)} (λ e. (0, omega arith, e))
-    (λ e. let (i, k, q) = at-some p l d e in (suc i, omega arith, q)) (or-true (p x) (some p l) h)
+    (λ e. let (i, k, q) = at-some p l d e in (suc i, omega arith, q)) (or-cases (p x) (some p l) h)
 
 -- ---- those of a list that pass
 

@@ -1,15 +1,15 @@
 -- A function whose instructions name only registers of some classes has the same walks, and those of its live registers. Assumes nothing.
-use mathlib.Core.Path.{_≡_, refl, sym, ap, ap₂, _∙_, subst}
-use mathlib.Core.Logic.{_⊎_, inl, inr, ⊎-elim, _↔_}
-use mathlib.Core.Bool.{Bool, true, false, cond, not, _&&_, _||_, true≢false, false≢true}
+use mathlib.Core.Path.{_≡_, refl, sym, ap, _∙_}
+use mathlib.Core.Logic.{inl, inr, _↔_}
+use mathlib.Core.Bool.{Bool, true, false, cond, _&&_}
 use mathlib.Core.List.{List, [], _∷_}
-use Prim.Native.Nat.{ℕ, zero, suc, _+_, _-_, _≤_, _<_}
-use native.Mathlib.Omega.{arith}
+use Prim.Native.Nat.{ℕ, zero, suc, _-_}
 use lib.ListN.{length, getD}
-use lib.Dec.{leb, ltb, eqb}
-use Rattle.flow.specs.Function.{Function, Instruction, Block, has, reads, writes, inst, block, start, end, exits, successors, Within, Leaves, Next, Walk, ReadFirst, Live}
-use Rattle.flow.specs.Dataflow.{asked, sift, only, onlyAll, track}
-use Rattle.flow.proofs.Laws.{and-true, Disjoint}
+use lib.Dec.{ltb}
+use Rattle.flow.specs.Function.{Function, Instruction, has, reads, writes, inst, start, end, exits, successors, Next, Walk, ReadFirst, Live}
+use Rattle.flow.specs.Dataflow.{asked, only, onlyAll, track}
+use Rattle.word.proofs.Bools.{and-both}
+use Rattle.flow.proofs.Laws.{Disjoint}
 use Rattle.flow.proofs.Lists.{both-true, has-sift}
 
 only-at : (t : ℕ → Bool) (l : List Instruction) (p : ℕ) (d : Instruction) → getD (onlyAll t l) p (only t d) ≡ only t (getD l p d)
@@ -75,11 +75,11 @@ module _ (t : ℕ → Bool) (f : Function) where
 
   -- the register that a walk reads at last is of such a class
   read-asked : (qs : List ℕ) (p r : ℕ) → ReadFirst (track t f) r p qs → asked t (f .classes) r ≡ true
-  read-asked [] p r h = and-true (asked t (f .classes) r) (reads f p r) (sym (reads-track p r) ∙ h) .0
+  read-asked [] p r h = and-both (asked t (f .classes) r) (reads f p r) (sym (reads-track p r) ∙ h) .0
   read-asked (q ∷ qs) p r h = read-asked qs q r (h .1)
 
   read-from : (qs : List ℕ) (p r : ℕ) → ReadFirst (track t f) r p qs → ReadFirst f r p qs
-  read-from [] p r h = and-true (asked t (f .classes) r) (reads f p r) (sym (reads-track p r) ∙ h) .1
+  read-from [] p r h = and-both (asked t (f .classes) r) (reads f p r) (sym (reads-track p r) ∙ h) .1
   read-from (q ∷ qs) p r h = (kept-false (read-asked qs q r (h .1)) (sym (writes-track p r) ∙ h .0), read-from qs q r (h .1))
 
   read-to : (qs : List ℕ) (p r : ℕ) → asked t (f .classes) r ≡ true → ReadFirst f r p qs → ReadFirst (track t f) r p qs
@@ -89,14 +89,14 @@ module _ (t : ℕ → Bool) (f : Function) where
   -- a live register is one that the function knows
   read-known : (qs : List ℕ) (p r : ℕ) → ReadFirst f r p qs → ltb r (length (f .classes)) ≡ true
   unfolding reads
-  read-known [] p r h = and-true (ltb r (length (f .classes))) (has (inst f p .reads) r) h .0
+  read-known [] p r h = and-both (ltb r (length (f .classes))) (has (inst f p .reads) r) h .0
   read-known (q ∷ qs) p r h = read-known qs q r (h .1)
 
   pub live-track : (p r : ℕ) → Live (track t f) p r ↔ (Live f p r × (t (getD (f .classes) r 0) ≡ true))
   live-track p r = (
     λ v. (
       record { rest = v .rest; walk = walk-from (v .rest) p (v .walk); read = read-from (v .rest) p r (v .read) },
-      and-true (ltb r (length (f .classes))) (t (getD (f .classes) r 0)) (read-asked (v .rest) p r (v .read)) .1,
+      and-both (ltb r (length (f .classes))) (t (getD (f .classes) r 0)) (read-asked (v .rest) p r (v .read)) .1,
     ),
     λ v. record { rest = v .0 .rest; walk = walk-to (v .0 .rest) p (v .0 .walk); read = read-to (v .0 .rest) p r (both-true (read-known (v .0 .rest) p r (v .0 .read)) (v .1)) (v .0 .read) },
   )

@@ -1,19 +1,20 @@
 -- What the tests of a function say of it, and the map by the dataflow: its rows are the lists of live registers. Assumes nothing.
-use mathlib.Core.Path.{_≡_, refl, sym, ap, ap₂, _∙_, subst}
-use mathlib.Core.Logic.{_⊎_, inl, inr, ⊎-elim, _↔_}
-use mathlib.Core.Bool.{Bool, true, false, cond, not, _&&_, _||_, true≢false, false≢true}
+use mathlib.Core.Path.{_≡_, refl, sym, ap, _∙_, subst}
+use mathlib.Core.Logic.{_⊎_, ⊎-elim, _↔_}
+use mathlib.Core.Bool.{Bool, true, false, cond, not, true≢false, false≢true}
 use mathlib.Core.List.{List, [], _∷_}
 use Prim.Native.Nat.{ℕ, zero, suc, _+_, _-_, _≤_, _<_, min, max}
 use native.Mathlib.Omega.{arith}
-use native.Mathlib.Decide.{ℕ-discrete, decLt}
+use native.Mathlib.Decide.{decLt}
 use lib.ListN.{length, getD}
 use lib.Dec.{leb, ltb, eqb}
-use borrow.Author.Tests.{eqb-true, ltb-true, leb-true, eq-eqb, ne-eqb, lt-ltb, le-ltb, le-leb}
+use borrow.Author.Tests.{not-true, ltb-true, leb-true, lt-ltb, le-ltb, le-leb}
 use Rattle.word.specs.Ones.{passing}
-use Rattle.flow.specs.Function.{Function, Instruction, Block, has, every, some, inst, block, start, end, rising, holds, safepoint, share, apart, inside, valid, Live, LiveList}
+use Rattle.flow.specs.Function.{Function, Block, has, every, some, inst, block, start, end, holds, safepoint, share, apart, inside, valid, Live, LiveList}
 use Rattle.flow.specs.Dataflow.{liveBefore, holder, liveRow, track}
-use Rattle.flow.proofs.Laws.{and-true, or-true, not-true′, bool-cases, Disjoint, filled-known}
-use Rattle.flow.proofs.Lists.{both-true, passing-exactly, passing-rising, rising-unique, every-at, at-every, at-some, some-at}
+use Rattle.word.proofs.Bools.{or-cases, and-both, either}
+use Rattle.flow.proofs.Laws.{Disjoint, filled-known}
+use Rattle.flow.proofs.Lists.{both-true, passing-exactly, passing-rising, rising-unique, every-at, at-every, some-at}
 use Rattle.flow.proofs.Fixpoint.{computed}
 use Rattle.flow.proofs.Tracking.{live-track, live-known, disjoint-track}
 
@@ -25,7 +26,7 @@ pub record Apart (l : List Block) : Type 0 where
   pub one : (a b p : ℕ) → getD l a none .start ≤ p → p < getD l a none .end → getD l b none .start ≤ p → p < getD l b none .end → a ≡ b
 
 no-share : (b c : Block) (p : ℕ) → not (share b c) ≡ true → b .start ≤ p → p < b .end → c .start ≤ p → p < c .end → ⊥
-no-share b c p h i j k l = true≢false (sym (lt-ltb (max (b .start) (c .start)) (min (b .end) (c .end)) (omega arith)) ∙ not-true′ (share b c) h)
+no-share b c p h i j k l = true≢false (sym (lt-ltb (max (b .start) (c .start)) (min (b .end) (c .end)) (omega arith)) ∙ not-true (share b c) h)
 
 unshared : (b c : Block) → ((p : ℕ) → b .start ≤ p → p < b .end → c .start ≤ p → p < c .end → ⊥) → not (share b c) ≡ true
 unshared b c h = go (decLt (max (b .start) (c .start)) (min (b .end) (c .end)))
@@ -41,10 +42,10 @@ apart-one l h = record { one = go l h }
     go [] h a b p i j k m = absurd (omega arith)
     go (x ∷ l) h zero zero p i j k m = refl
     go (x ∷ l) h zero (suc b) p i j k m =
-        absurd (no-share x (getD l b none) p (every-at (λ c. not (share x c)) l none b (and-true (every (λ c. not (share x c)) l) (apart l) h .0) (filled-known l b (omega arith))) i j k m)
+        absurd (no-share x (getD l b none) p (every-at (λ c. not (share x c)) l none b (and-both (every (λ c. not (share x c)) l) (apart l) h .0) (filled-known l b (omega arith))) i j k m)
     go (x ∷ l) h (suc a) zero p i j k m =
-        absurd (no-share x (getD l a none) p (every-at (λ c. not (share x c)) l none a (and-true (every (λ c. not (share x c)) l) (apart l) h .0) (filled-known l a (omega arith))) k m i j)
-    go (x ∷ l) h (suc a) (suc b) p i j k m = ap suc (go l (and-true (every (λ c. not (share x c)) l) (apart l) h .1) a b p i j k m)
+        absurd (no-share x (getD l a none) p (every-at (λ c. not (share x c)) l none a (and-both (every (λ c. not (share x c)) l) (apart l) h .0) (filled-known l a (omega arith))) k m i j)
+    go (x ∷ l) h (suc a) (suc b) p i j k m = ap suc (go l (and-both (every (λ c. not (share x c)) l) (apart l) h .1) a b p i j k m)
 
 pub one-apart : (l : List Block) → Apart l → apart l ≡ true
 one-apart l h = go l (h .one)
@@ -71,12 +72,12 @@ pub record Valid (f : Function) : Type 0 where
 pub valid-parts : (f : Function) → valid f ≡ true → Valid f
 unfolding valid
 valid-parts f h =
-    let a = and-true _ _ h in
-    let b = and-true _ _ (a .1) in
-    let c = and-true _ _ (b .1) in
-    let d = and-true _ _ (c .1) in
-    let e = and-true _ _ (d .1) in
-    let g = and-true _ _ (e .1) in
+    let a = and-both _ _ h in
+    let b = and-both _ _ (a .1) in
+    let c = and-both _ _ (b .1) in
+    let d = and-both _ _ (c .1) in
+    let e = and-both _ _ (d .1) in
+    let g = and-both _ _ (e .1) in
     record {
       code-count = leb-true (length (f .code)) 65536 (a .0);
       block-count = leb-true (length (f .blocks)) 4096 (b .0);
@@ -100,7 +101,7 @@ valid-disjoint f h = apart-disjoint f (valid-parts f h .apart)
 -- ---- the block of an instruction
 
 pub holds-parts : (p : ℕ) (b : Block) → holds p b ≡ true → (b .start ≤ p) × (p < b .end)
-holds-parts p b h = let a = and-true (leb (b .start) p) (ltb p (b .end)) h in (leb-true (b .start) p (a .0), ltb-true p (b .end) (a .1))
+holds-parts p b h = let a = and-both (leb (b .start) p) (ltb p (b .end)) h in (leb-true (b .start) p (a .0), ltb-true p (b .end) (a .1))
 
 pub parts-holds : (p : ℕ) (b : Block) → b .start ≤ p → p < b .end → holds p b ≡ true
 parts-holds p b i j = both-true (le-leb (b .start) p i) (lt-ltb p (b .end) j)
@@ -113,7 +114,7 @@ holder-at (b ∷ bs) p i h = go (holder-at bs p (suc i)) (holds p b) refl
         → (x : Bool) → holds p b ≡ x → (k : ℕ) × (cond x i (holder bs p (suc i)) ≡ k + i) × (holds p (getD (b ∷ bs) k none) ≡ true)
     go rec true e = (0, omega arith, e)
     go rec false e =
-        let (k, q, r) = rec (⊎-elim (λ u. absurd (false≢true (sym e ∙ u))) (λ u. u) (or-true (holds p b) (some (holds p) bs) h)) in
+        let (k, q, r) = rec (⊎-elim (λ u. absurd (false≢true (sym e ∙ u))) (λ u. u) (or-cases (holds p b) (some (holds p) bs) h)) in
         let z : k + suc i ≡ suc k + i = omega arith in (suc k, q ∙ z, r)
 
 -- an instruction that a block holds
@@ -129,7 +130,7 @@ holder-holds f p h =
 
 pub safepoint-held : (f : Function) (p : ℕ) → safepoint f p ≡ true → held f p ≡ true
 unfolding safepoint
-safepoint-held f p h = and-true (eqb (inst f p .kind) 1) (held f p) h .1
+safepoint-held f p h = and-both (eqb (inst f p .kind) 1) (held f p) h .1
 
 -- ---- the map
 
@@ -154,7 +155,7 @@ module _ (f : Function) (t : ℕ → Bool) (fine : Disjoint f) (p : ℕ) (at : h
       past : (k : ℕ) → m ≤ k → liveBefore (track t f) (holder (track t f .blocks) p 0) p k ≡ false
       past k l =
           ⊎-elim (λ e. absurd (let z = ltb-true k (length (f .classes)) (live-known t f p k (row-exact k .0 e .0)) in omega arith)) (λ e. e)
-          (bool-cases (liveBefore (track t f) (holder (track t f .blocks) p 0) p k))
+          (either (liveBefore (track t f) (holder (track t f .blocks) p 0) p k))
 
       go : (r : ℕ) → (has (passing (liveBefore (track t f) (holder (track t f .blocks) p 0) p) 0 m) r ≡ true) ↔ (liveBefore (track t f) (holder (track t f .blocks) p 0) p r ≡ true)
           → (has (passing (liveBefore (track t f) (holder (track t f .blocks) p 0) p) 0 m) r ≡ true) ↔ (Live f p r × (t (getD (f .classes) r 0) ≡ true))

@@ -3,7 +3,6 @@ use mathlib.Core.Path.{_≡_, refl, sym, ap, ap₂, _∙_}
 use mathlib.Core.Bool.{Bool, true, false, not, _||_, true≢false}
 use mathlib.Core.List.{List, flatMap}
 use Prim.Native.Nat.{ℕ, _+_, _/_, _≤_, _<_}
-use native.Mathlib.Omega.{arith}
 use lib.ListN.{length, replicate}
 use lib.Dec.{ltb}
 use borrow.Author.Tests.{lt-ltb, le-ltb, ltb-false}
@@ -75,14 +74,17 @@ module _ (l : Lent) (t : ℕ → Bool) where
       registers-count : n ≡ length (flatMap live points)
       registers-count = counted .registers-are ∙ ap (λ (u : List ℕ). length (flatMap live u)) (all-points good)
 
-      pub room-for : b ≡ false → Fits t (l .kinds) (l .ends) (l .refs) (l .blocks) (l .classes) pcs bounds regs words
+      pub room-for : b ≡ false → Fits t (l .kinds) (l .ends) (l .refs) (l .blocks) (l .classes) pcs bounds regs words p n
       room-for h =
           let a = neither (ltb (length pcs) p) _ (sym test ∙ h) in
           let d = neither (ltb (length bounds) p) _ (a .1) in
           record {
-            for-points = omega (arith, counted .points-are, ltb-false (length pcs) p (a .0));
-            for-bounds = omega (arith, counted .points-are, ltb-false (length bounds) p (d .0));
-            for-registers = omega (arith, counted .registers-are, ltb-false (length regs) n (d .1));
+            points-are = counted .points-are;
+            registers-are = counted .registers-are;
+            few = counted .few .1;
+            for-points = ltb-false (length pcs) p (a .0);
+            for-bounds = ltb-false (length bounds) p (d .0);
+            for-registers = ltb-false (length regs) n (d .1);
           }
 
       tested : (ltb (length pcs) (length points) || (ltb (length bounds) (length points) || ltb (length regs) (length (flatMap live points)))) ≡ b

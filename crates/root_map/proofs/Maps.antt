@@ -1,46 +1,47 @@
--- The map of all safepoints, an instruction a turn. Assumes nothing.
+-- The map of all safepoints, an instruction a turn, the last first. Assumes nothing.
 use mathlib.Core.Path.{_≡_, refl, sym, ap, ap₂, _∙_, subst}
 use mathlib.Core.Bool.{Bool, true, false}
 use mathlib.Core.List.{List, [], _∷_, _++_, append-assoc, append-nil, flatMap}
 use Prim.Native.Nat.{ℕ, suc, _+_, _-_, _*_, _≤_, _<_}
 use native.Mathlib.Omega.{arith}
-use lib.ListN.{length, take, drop, length-append}
-use lib.Seq.{drop-drop}
+use native.Mathlib.Numerals.{add-one}
+use lib.ListN.{length, take, drop, set, length-append}
+use lib.Seq.{drop-drop, take-append-le, take-take, drop-at, length-take-le}
+use borrow.Author.Tests.{lt-ltb, le-ltb}
 use borrow.Rule.Slice.PartMut.{putMid}
-use Rattle.word.specs.Ones.{passing}
+use Rattle.word.specs.Ones.{keep, passing}
 use Rattle.word.specs.Put.{put}
 use Rattle.word.proofs.OnesLaws.{passing-append}
-use Rattle.word.proofs.PutLaws.{put-none, put-all, put-put, put-whole, length-put}
+use Rattle.word.proofs.PutLaws.{put-none, put-all, put-front, put-whole, length-put}
 use Rattle.rows.specs.Row.{listed}
 use Rattle.rows.proofs.Listing.{passing-one, passing-not, passing-snoc}
-use Rattle.flow.specs.Function.{Function, safepoint}
+use Rattle.flow.specs.Function.{safepoint}
 use Rattle.roots.specs.View.{view}
 use Rattle.root_map.specs.Calls.{limits}
-use Rattle.roots.specs.Columns.{Outside, Fixed}
-use Rattle.root_map.specs.Columns.{one, rowAt, pointsTo, liveOf, Pointed, Counted, Fits, Written}
-use Rattle.roots.proofs.Scratch.{mid-length, outside-refl, outside-trans, live-frame}
-use Rattle.roots.proofs.Passes.{linked-out}
+use Rattle.roots.specs.Columns.{Outside}
+use Rattle.root_map.specs.Columns.{rowAt, pointsTo, liveOf, Standing, Pointed, Counted, Fits, Written}
+use Rattle.roots.proofs.Scratch.{mid-length, outside-refl, outside-trans}
+use Rattle.root_map.proofs.Pointing.{standing-none}
 
--- the fixpoint lies before the row that is gathered
-pub fixed-out : {f : Function} {bs s s₁ : List ℕ} {W nb : ℕ} → Fixed f bs s W nb → Outside s s₁ (nb * (3 * W)) W → Fixed f bs s₁ W nb
-fixed-out {f} {bs} {s} {s₁} {W} {nb} v o = record { linked = λ h. linked-out (v .linked h) o; lives = λ b q h. live-frame nb W o q h b ∙ v .lives b q h }
-
-flat-snoc : (live : ℕ → List ℕ) (xs : List ℕ) (p : ℕ) → flatMap live (xs ++ (p ∷ [])) ≡ flatMap live xs ++ live p
-unfolding flatMap
-flat-snoc live [] p = append-nil (live p)
-flat-snoc live (x ∷ xs) p = ap (λ (l : List ℕ). live x ++ l) (flat-snoc live xs p) ∙ sym (append-assoc (live x) (flatMap live xs) (live p))
+pub back-one : (i : ℕ) → 0 < i → i ≡ (i - 1) + 1
+back-one i h = omega arith
 
 flat-two : (live : ℕ → List ℕ) (xs ys : List ℕ) → flatMap live (xs ++ ys) ≡ flatMap live xs ++ flatMap live ys
 unfolding flatMap
 flat-two live [] ys = refl
 flat-two live (x ∷ xs) ys = ap (λ (l : List ℕ). live x ++ l) (flat-two live xs ys) ∙ sym (append-assoc (live x) (flatMap live xs) (flatMap live ys))
 
-limits-snoc : (live : ℕ → List ℕ) (from : ℕ) (xs : List ℕ) (p : ℕ) → limits live from (xs ++ (p ∷ [])) ≡ limits live from xs ++ (((from + length (flatMap live xs)) + length (live p)) ∷ [])
+flat-cons : (live : ℕ → List ℕ) (x : ℕ) (xs : List ℕ) → flatMap live (x ∷ xs) ≡ live x ++ flatMap live xs
 unfolding flatMap
-limits-snoc live from [] p = let z : from + length (live p) ≡ (from + 0) + length (live p) = omega arith in ap (λ (u : ℕ). u ∷ []) z
-limits-snoc live from (x ∷ xs) p =
-    let z : ((from + length (live x)) + length (flatMap live xs)) + length (live p) ≡ (from + length (live x ++ flatMap live xs)) + length (live p) = omega (arith, length-append (live x) (flatMap live xs)) in
-    ap (λ (l : List ℕ). (from + length (live x)) ∷ l) (limits-snoc live (from + length (live x)) xs p ∙ ap (λ (u : ℕ). limits live (from + length (live x)) xs ++ (u ∷ [])) z)
+flat-cons live x xs = refl
+
+flat-one : (live : ℕ → List ℕ) (x : ℕ) → flatMap live (x ∷ []) ≡ live x
+unfolding flatMap
+flat-one live x = append-nil (live x)
+
+flat-none : (live : ℕ → List ℕ) → flatMap live [] ≡ []
+unfolding flatMap
+flat-none live = refl
 
 length-limits : (live : ℕ → List ℕ) (from : ℕ) (xs : List ℕ) → length (limits live from xs) ≡ length xs
 length-limits live from [] = refl
@@ -54,180 +55,279 @@ mid-is-put a k xs ys e =
     ∙ sym (put-all xs a ys)
 
 -- a list that is written over the whole of a part
-pub put-part : (a n : ℕ) (xs ys l : List ℕ) → a + n ≤ length xs → n ≡ length l → ys ≡ put (take ((a + n) - a) (drop a xs)) 0 l (length l)
-    → putMid a ((a + n) - a) xs ys ≡ put xs a l (length l)
-put-part a n xs ys l h e w =
-    let whole : ys ≡ l = w ∙ put-whole (take ((a + n) - a) (drop a xs)) l (length l) (mid-length a n xs h ∙ e) refl in
-    ap (putMid a ((a + n) - a) xs) whole ∙ mid-is-put a ((a + n) - a) xs l (omega arith)
+pub put-part : (a e : ℕ) (xs ys l : List ℕ) → a + length l ≡ e → e ≤ length xs → ys ≡ put (take (e - a) (drop a xs)) 0 l (length l)
+    → putMid a (e - a) xs ys ≡ put xs a l (length l)
+put-part a e xs ys l s h w =
+    let n : e - a ≡ length l = omega arith in
+    let z : (a + length l) - a ≡ length l = omega arith in
+    let m : length (take (e - a) (drop a xs)) ≡ length l = ap (λ (u : ℕ). length (take u (drop a xs))) (n ∙ sym z) ∙ mid-length a (length l) xs (omega arith) in
+    let whole : ys ≡ l = w ∙ put-whole (take (e - a) (drop a xs)) l (length l) m refl in
+    ap (putMid a (e - a) xs) whole ∙ mid-is-put a (e - a) xs l (omega arith)
 
--- the answer of the test, by its name
-pub pointed-is : {t : ℕ → Bool} {kinds ends refs bs cs s s₁ : List ℕ} {W nb pc : ℕ} {r b : Bool} → r ≡ b → Pointed t kinds ends refs bs cs s s₁ W nb pc r → Pointed t kinds ends refs bs cs s s₁ W nb pc b
-pointed-is {t} {kinds} {ends} {refs} {bs} {cs} {s} {s₁} {W} {nb} {pc} e p = subst (λ (b : Bool). Pointed t kinds ends refs bs cs s s₁ W nb pc b) e p
+-- a list that is written in front of another
+put-before : (d : List ℕ) (a e : ℕ) (l r : List ℕ) → e ≡ a + length l → e + length r ≤ length d
+    → put (put d e r (length r)) a l (length l) ≡ put d a (l ++ r) (length (l ++ r))
+put-before d a e l r q h =
+    let one : length (take e d) ≡ e = length-take-le e d (omega arith) in
+    let all : put d e r (length r) ≡ take e d ++ (r ++ drop (e + length r) d) = put-all d e r ∙ append-assoc (take e d) r (drop (e + length r) d) in
+    let low : take a (put d e r (length r)) ≡ take a d = ap (take a) all ∙ take-append-le a (take e d) (r ++ drop (e + length r) d) (omega arith) ∙ take-take a e d (omega arith) in
+    let high : drop (a + length l) (put d e r (length r)) ≡ r ++ drop (e + length r) d = ap (drop (a + length l)) all ∙ drop-at (take e d) (r ++ drop (e + length r) d) (a + length l) (one ∙ q) in
+    let n : e + length r ≡ a + length (l ++ r) = omega (arith, length-append l r) in
+    put-all (put d e r (length r)) a l
+    ∙ ap₂ (λ (x y : List ℕ). (x ++ l) ++ y) low (high ∙ ap (λ (u : ℕ). r ++ drop u d) n)
+    ∙ sym (append-assoc (take a d ++ l) r (drop (a + length (l ++ r)) d))
+    ∙ ap (λ (x : List ℕ). x ++ drop (a + length (l ++ r)) d) (append-assoc (take a d) l r)
+    ∙ sym (put-all d a (l ++ r))
+
+-- the answer says whether it is a safepoint
+module _ {t : ℕ → Bool} {kinds ends refs bs cs s s₁ : List ℕ} {W nb pc r : ℕ} (p : Pointed t kinds ends refs bs cs s s₁ W nb pc r) where
+  is-point : r < nb → safepoint (view kinds ends refs bs cs) pc ≡ true
+  is-point h = sym (p .is) ∙ lt-ltb r nb h
+
+  no-point : nb ≤ r → safepoint (view kinds ends refs bs cs) pc ≡ false
+  no-point h = sym (p .is) ∙ le-ltb r nb h
 
 module _ (t : ℕ → Bool) (kinds ends refs bs cs : List ℕ) where
-  points-yes : (i : ℕ) → safepoint (view kinds ends refs bs cs) i ≡ true → pointsTo kinds ends refs bs cs (i + 1) ≡ pointsTo kinds ends refs bs cs i ++ (i ∷ [])
-  points-yes i h =
+  -- the safepoints from instruction i on
+  abbrev pub pointsFrom : ℕ → List ℕ
+  pointsFrom i = passing (safepoint (view kinds ends refs bs cs)) i (length kinds - i)
+
+  to-yes : (i : ℕ) → safepoint (view kinds ends refs bs cs) i ≡ true → pointsTo kinds ends refs bs cs (i + 1) ≡ pointsTo kinds ends refs bs cs i ++ (i ∷ [])
+  to-yes i h =
       passing-snoc (safepoint (view kinds ends refs bs cs)) i ∙ ap (λ (l : List ℕ). pointsTo kinds ends refs bs cs i ++ l) (passing-one (safepoint (view kinds ends refs bs cs)) i h)
 
-  points-no : (i : ℕ) → safepoint (view kinds ends refs bs cs) i ≡ false → pointsTo kinds ends refs bs cs (i + 1) ≡ pointsTo kinds ends refs bs cs i
-  points-no i h =
+  to-no : (i : ℕ) → safepoint (view kinds ends refs bs cs) i ≡ false → pointsTo kinds ends refs bs cs (i + 1) ≡ pointsTo kinds ends refs bs cs i
+  to-no i h =
       passing-snoc (safepoint (view kinds ends refs bs cs)) i ∙ ap (λ (l : List ℕ). pointsTo kinds ends refs bs cs i ++ l) (passing-not (safepoint (view kinds ends refs bs cs)) i h)
       ∙ append-nil (pointsTo kinds ends refs bs cs i)
 
+  from-next : (i : ℕ) → i < length kinds → pointsFrom i ≡ keep (safepoint (view kinds ends refs bs cs) i) i (pointsFrom (i + 1))
+  unfolding passing
+  from-next i h =
+      let e : length kinds - i ≡ suc (length kinds - (i + 1)) = omega arith in
+      ap (passing (safepoint (view kinds ends refs bs cs)) i) e
+      ∙ ap (λ (u : ℕ). keep (safepoint (view kinds ends refs bs cs) i) i (passing (safepoint (view kinds ends refs bs cs)) u (length kinds - (i + 1)))) (sym (add-one i))
+
+  from-yes : (i : ℕ) → i < length kinds → safepoint (view kinds ends refs bs cs) i ≡ true → pointsFrom i ≡ i ∷ pointsFrom (i + 1)
+  from-yes i h e = from-next i h ∙ ap (λ (b : Bool). keep b i (pointsFrom (i + 1))) e
+
+  from-no : (i : ℕ) → i < length kinds → safepoint (view kinds ends refs bs cs) i ≡ false → pointsFrom i ≡ pointsFrom (i + 1)
+  from-no i h e = from-next i h ∙ ap (λ (b : Bool). keep b i (pointsFrom (i + 1))) e
+
+  from-end : pointsFrom (length kinds) ≡ []
+  unfolding passing
+  from-end = let e : length kinds - length kinds ≡ 0 = omega arith in ap (passing (safepoint (view kinds ends refs bs cs)) (length kinds)) e
+
+  to-none : pointsTo kinds ends refs bs cs 0 ≡ []
+  unfolding passing
+  to-none = refl
+
+  from-start : pointsFrom 0 ≡ pointsTo kinds ends refs bs cs (length kinds)
+  from-start = let e : length kinds - 0 ≡ length kinds = omega arith in ap (passing (safepoint (view kinds ends refs bs cs)) 0) e
+
+  whole : (i : ℕ) → i ≤ length kinds → pointsTo kinds ends refs bs cs (length kinds) ≡ pointsTo kinds ends refs bs cs i ++ pointsFrom i
+  whole i h =
+      let e : length kinds ≡ i + (length kinds - i) = omega arith in
+      let z : 0 + i ≡ i = omega arith in
+      ap (pointsTo kinds ends refs bs cs) e ∙ passing-append (safepoint (view kinds ends refs bs cs)) 0 i (length kinds - i)
+      ∙ ap (λ (u : ℕ). pointsTo kinds ends refs bs cs i ++ passing (safepoint (view kinds ends refs bs cs)) u (length kinds - i)) z
+
   module _ (W nb : ℕ) where
-    pub counted-none : (s : List ℕ) → Counted t kinds ends refs bs cs s s W nb 0 0 0
-    unfolding passing flatMap
-    counted-none s = record { frame = outside-refl s (nb * (3 * W)) W; points-are = refl; registers-are = refl; few = (omega arith, omega arith) }
+    abbrev live : ℕ → List ℕ
+    live = liveOf t kinds ends refs bs cs W
 
-    module _ {s₀ s s₁ : List ℕ} {i points registers : ℕ} (inv : Counted t kinds ends refs bs cs s₀ s W nb i points registers) where
-      pub counted-yes : Pointed t kinds ends refs bs cs s s₁ W nb i true → (n : ℕ) → n ≡ length (listed (rowAt s₁ (nb * (3 * W)) W)) → n ≤ 16384
-          → Counted t kinds ends refs bs cs s₀ s₁ W nb (i + 1) (points + 1) (registers + n)
-      counted-yes p n e h = record {
-        frame = outside-trans (inv .frame) (p .frame);
-        points-are = omega (arith, inv .points-are, ap length (points-yes i (sym (p .is))), length-append (pointsTo kinds ends refs bs cs i) (i ∷ []));
-        registers-are = omega (
-          arith,
-          inv .registers-are,
-          e ∙ ap length (p .row refl),
-          ap (λ (l : List ℕ). length (flatMap (liveOf t kinds ends refs bs cs W) l)) (points-yes i (sym (p .is))) ∙ ap length (flat-snoc (liveOf t kinds ends refs bs cs W) (pointsTo kinds ends refs bs cs i) i),
-          length-append (flatMap (liveOf t kinds ends refs bs cs W) (pointsTo kinds ends refs bs cs i)) (liveOf t kinds ends refs bs cs W i),
-        );
-        few = (omega (arith, inv .few .0), omega (arith, inv .few .1));
+    -- where the loops stand: instruction i is the last that is done, and the row is that of q in block b
+    pub record Going (s₀ s : List ℕ) (i b q : ℕ) : Type 0 where
+      pub frame : Outside s₀ s (nb * (3 * W)) W
+      pub high : i ≤ length kinds
+      pub standing : Standing t kinds ends refs bs cs s W nb b q
+      pub below : b < nb → i ≤ q
+
+    going-none : (s : List ℕ) (q : ℕ) → Going s s (length kinds) nb q
+    going-none s q = record { frame = outside-refl s (nb * (3 * W)) W; high = omega arith; standing = standing-none t kinds ends refs bs cs W nb s q; below = λ h. absurd (omega arith) }
+
+    module _ {s₀ s s₁ : List ℕ} {i b q p r : ℕ} (g : Going s₀ s i b q) (step : i ≡ p + 1) (v : Pointed t kinds ends refs bs cs s s₁ W nb p r) where
+      going-yes : Going s₀ s₁ p r p
+      going-yes = record { frame = outside-trans (g .frame) (v .frame); high = omega (arith, g .high); standing = v .standing; below = λ h. omega arith }
+
+      going-no : nb ≤ r → Going s₀ s₁ p b q
+      going-no h = record {
+        frame = outside-trans (g .frame) (v .frame);
+        high = omega (arith, g .high);
+        standing = subst (λ (u : List ℕ). Standing t kinds ends refs bs cs u W nb b q) (sym (v .kept h)) (g .standing);
+        below = λ k. omega (arith, g .below k);
       }
 
-      pub counted-no : Pointed t kinds ends refs bs cs s s₁ W nb i false → Counted t kinds ends refs bs cs s₀ s₁ W nb (i + 1) points registers
-      counted-no p = record {
-        frame = outside-trans (inv .frame) (p .frame);
-        points-are = inv .points-are ∙ ap length (sym (points-no i (sym (p .is))));
-        registers-are = inv .registers-are ∙ ap (λ (l : List ℕ). length (flatMap (liveOf t kinds ends refs bs cs W) l)) (sym (points-no i (sym (p .is))));
-        few = (omega (arith, inv .few .0), omega (arith, inv .few .1));
-      }
+    -- ---- counted
 
-    module _ {s₀ s : List ℕ} {i points registers : ℕ} (inv : Counted t kinds ends refs bs cs s₀ s W nb i points registers) where
-      pub counted-end : i ≤ length kinds → length kinds ≤ i → Counted t kinds ends refs bs cs s₀ s W nb (length kinds) points registers
-      counted-end h k =
-          let e : i ≡ length kinds = omega arith in
-          subst (λ (u : ℕ). Counted t kinds ends refs bs cs s₀ s W nb u points registers) e inv
+    pub record Counting (s₀ s : List ℕ) (i points registers b q : ℕ) : Type 0 where
+      pub going : Going s₀ s i b q
+      pub points-are : points ≡ length (pointsFrom i)
+      pub registers-are : registers ≡ length (flatMap live (pointsFrom i))
+      pub few : (points + i ≤ length kinds) × (registers ≤ (length kinds - i) * 16384)
 
-    -- what the loop keeps: the map so far, and where it goes on
-    pub record Writing (s₀ s pcs₀ pcs bounds₀ bounds regs₀ regs : List ℕ) (i k from : ℕ) : Type 0 where
-      pub written : Written t kinds ends refs bs cs s₀ s pcs₀ pcs bounds₀ bounds regs₀ regs W nb i
-      pub counted : Counted t kinds ends refs bs cs s₀ s W nb i k from
-
-    pub writing-none : (s pcs bounds regs : List ℕ) → Writing s s pcs pcs bounds bounds regs regs 0 0 0
-    unfolding passing flatMap
-    writing-none s pcs bounds regs = record {
-      written = record { frame = outside-refl s (nb * (3 * W)) W; points = put-none pcs 0 []; limits-are = put-none bounds 0 []; registers = put-none regs 0 [] };
-      counted = counted-none s;
+    pub counting-none : (s : List ℕ) (q : ℕ) → Counting s s (length kinds) 0 0 nb q
+    counting-none s q = record {
+      going = going-none s q;
+      points-are = sym (ap length from-end);
+      registers-are = sym (ap (λ (l : List ℕ). length (flatMap live l)) from-end ∙ ap length (flat-none live));
+      few = (omega arith, omega arith);
     }
 
-    module _ {s₀ s s₁ pcs₀ pcs bounds₀ bounds regs₀ regs : List ℕ} {i k from : ℕ} (inv : Writing s₀ s pcs₀ pcs bounds₀ bounds regs₀ regs i k from) where
-      -- there is room for one safepoint more
-      module _ (fits : Fits t kinds ends refs bs cs pcs₀ bounds₀ regs₀ W) (high : i < length kinds) (p : Pointed t kinds ends refs bs cs s s₁ W nb i true) where
-        rest : List ℕ
-        rest = passing (safepoint (view kinds ends refs bs cs)) (0 + (i + 1)) (length kinds - (i + 1))
-
-        whole : pointsTo kinds ends refs bs cs (length kinds) ≡ (pointsTo kinds ends refs bs cs i ++ (i ∷ [])) ++ rest
-        unfolding rest
-        whole =
-            let z : length kinds ≡ (i + 1) + (length kinds - (i + 1)) = omega arith in
-            ap (pointsTo kinds ends refs bs cs) z ∙ passing-append (safepoint (view kinds ends refs bs cs)) 0 (i + 1) (length kinds - (i + 1))
-            ∙ ap (λ (l : List ℕ). l ++ passing (safepoint (view kinds ends refs bs cs)) (0 + (i + 1)) (length kinds - (i + 1))) (points-yes i (sym (p .is)))
-
-        points-room : k < length (pointsTo kinds ends refs bs cs (length kinds))
-        points-room = omega (arith, inv .counted .points-are, ap length whole, length-append (pointsTo kinds ends refs bs cs i ++ (i ∷ [])) rest, length-append (pointsTo kinds ends refs bs cs i) (i ∷ []))
-
-        pub room-points : k < length pcs
-        room-points = omega (arith, points-room, fits .for-points, ap length (inv .written .points), length-put pcs₀ 0 (pointsTo kinds ends refs bs cs i) (length (pointsTo kinds ends refs bs cs i)) (omega (arith, points-room, inv .counted .points-are, fits .for-points)) (omega arith))
-
-        pub room-bounds : k < length bounds
-        room-bounds = omega (
-          arith,
-          points-room,
-          fits .for-bounds,
-          ap length (inv .written .limits-are),
-          length-put bounds₀ 0 (limits (liveOf t kinds ends refs bs cs W) 0 (pointsTo kinds ends refs bs cs i)) (length (pointsTo kinds ends refs bs cs i)) (omega (arith, points-room, inv .counted .points-are, fits .for-bounds))
-              (omega (arith, length-limits (liveOf t kinds ends refs bs cs W) 0 (pointsTo kinds ends refs bs cs i))),
-        )
-
-        pub room-registers : from + length (listed (rowAt s₁ (nb * (3 * W)) W)) ≤ length regs
-        room-registers =
-            let live = liveOf t kinds ends refs bs cs W in
-            let a : length (flatMap live (pointsTo kinds ends refs bs cs (length kinds))) ≡ length (flatMap live (pointsTo kinds ends refs bs cs i ++ (i ∷ []))) + length (flatMap live rest)
-            = ap (λ (l : List ℕ). length (flatMap live l)) whole ∙ ap length (flat-two live (pointsTo kinds ends refs bs cs i ++ (i ∷ [])) rest) ∙ length-append (flatMap live (pointsTo kinds ends refs bs cs i ++ (i ∷ []))) (flatMap live rest) in
-            let b : length (flatMap live (pointsTo kinds ends refs bs cs i ++ (i ∷ []))) ≡ length (flatMap live (pointsTo kinds ends refs bs cs i)) + length (live i)
-            = ap length (flat-snoc live (pointsTo kinds ends refs bs cs i) i) ∙ length-append (flatMap live (pointsTo kinds ends refs bs cs i)) (live i) in
-            omega (
-              arith,
-              a,
-              b,
-              ap length (p .row refl),
-              inv .counted .registers-are,
-              fits .for-registers,
-              ap length (inv .written .registers),
-              length-put regs₀ 0 (flatMap live (pointsTo kinds ends refs bs cs i)) (length (flatMap live (pointsTo kinds ends refs bs cs i))) (omega (arith, a, b, fits .for-registers)) (omega arith),
-            )
-
-      pub writing-yes : Pointed t kinds ends refs bs cs s s₁ W nb i true → (pcs₁ bounds₁ regs₁ : List ℕ) (n : ℕ) → n ≤ from + 16384
-          → n ≡ from + length (listed (rowAt s₁ (nb * (3 * W)) W))
-          → pcs₁ ≡ put pcs k (one i) 1 → bounds₁ ≡ put bounds k (one n) 1
-          → regs₁ ≡ put regs from (listed (rowAt s₁ (nb * (3 * W)) W)) (length (listed (rowAt s₁ (nb * (3 * W)) W)))
-          → Writing s₀ s₁ pcs₀ pcs₁ bounds₀ bounds₁ regs₀ regs₁ (i + 1) (k + 1) n
-      writing-yes p pcs₁ bounds₁ regs₁ n few en ep eb er = record {
-        written = record {
-          frame = outside-trans (inv .written .frame) (p .frame);
-          points = ep ∙ ap₂ (λ (d : List ℕ) (u : ℕ). put d u (i ∷ []) 1) (inv .written .points) (inv .counted .points-are ∙ z (length S)) ∙ put-put pcs₀ 0 S (i ∷ []) (omega arith) ∙ ap (λ (l : List ℕ). put pcs₀ 0 l (length l)) (sym (points-yes i (sym (p .is))));
-          limits-are = eb ∙ ap₂ (λ (d : List ℕ) (u : ℕ). put d u (n ∷ []) 1) (inv .written .limits-are ∙ ap (put bounds₀ 0 (limits live 0 S)) (sym (length-limits live 0 S))) (inv .counted .points-are ∙ sym (length-limits live 0 S) ∙ z (length (limits live 0 S)))
-              ∙ put-put bounds₀ 0 (limits live 0 S) (n ∷ []) (omega arith)
-              ∙ ap₂ (λ (l : List ℕ) (u : ℕ). put bounds₀ 0 l u) (ap (λ (u : ℕ). limits live 0 S ++ (u ∷ [])) sum ∙ sym (limits-snoc live 0 S i) ∙ ap (limits live 0) (sym (points-yes i (sym (p .is)))))
-              (length-append (limits live 0 S) (n ∷ []) ∙ ap (λ (u : ℕ). u + 1) (length-limits live 0 S) ∙ sym (ap length (points-yes i (sym (p .is))) ∙ length-append S (i ∷ [])));
-          registers = er ∙ ap (λ (l : List ℕ). put regs from l (length l)) (p .row refl)
-              ∙ ap₂ (λ (d : List ℕ) (u : ℕ). put d u (live i) (length (live i))) (inv .written .registers) (inv .counted .registers-are ∙ z (length (flatMap live S)))
-              ∙ put-put regs₀ 0 (flatMap live S) (live i) (omega arith)
-              ∙ ap (λ (l : List ℕ). put regs₀ 0 l (length l)) (sym (flat-snoc live S i) ∙ ap (flatMap live) (sym (points-yes i (sym (p .is)))));
-        };
-        counted = subst (λ (u : ℕ). Counted t kinds ends refs bs cs s₀ s₁ W nb (i + 1) (k + 1) u) (sym en) (counted-yes (inv .counted) p (length (listed (rowAt s₁ (nb * (3 * W)) W))) refl (omega arith));
-      }
+    module _ {s₀ s s₁ : List ℕ} {i points registers b q p r : ℕ} (inv : Counting s₀ s i points registers b q) (step : i ≡ p + 1) (v : Pointed t kinds ends refs bs cs s s₁ W nb p r) where
+      more : (length kinds - p) * 16384 ≡ (length kinds - i) * 16384 + 16384
+      more = let h = inv .going .high in let e : length kinds - p ≡ (length kinds - i) + 1 = omega arith in ap (λ (u : ℕ). u * 16384) e ∙ wide (length kinds - i)
         where
-          S : List ℕ
-          S = pointsTo kinds ends refs bs cs i
+          wide : (m : ℕ) → (m + 1) * 16384 ≡ m * 16384 + 16384
+          wide m = omega arith
 
-          live : ℕ → List ℕ
-          live = liveOf t kinds ends refs bs cs W
-
-          z : (x : ℕ) → x ≡ 0 + x
-          z x = omega arith
-
-          sum : n ≡ (0 + length (flatMap live S)) + length (live i)
-          sum = en ∙ ap₂ (λ (x y : ℕ). x + y) (inv .counted .registers-are ∙ z (length (flatMap live S))) (ap length (p .row refl))
-
-      pub writing-no : Pointed t kinds ends refs bs cs s s₁ W nb i false → Writing s₀ s₁ pcs₀ pcs bounds₀ bounds regs₀ regs (i + 1) k from
-      writing-no p =
-          let e = sym (points-no i (sym (p .is))) in
+      pub counting-yes : r < nb → (n : ℕ) → n ≡ length (listed (rowAt s₁ (nb * (3 * W)) W)) → n ≤ 16384 → Counting s₀ s₁ p (points + 1) (registers + n) r p
+      counting-yes h n e k =
+          let x : pointsFrom p ≡ p ∷ pointsFrom i = from-yes p (omega (arith, inv .going .high)) (is-point v h) ∙ ap (λ (u : ℕ). p ∷ pointsFrom u) (sym step) in
           record {
-            written = record {
-              frame = outside-trans (inv .written .frame) (p .frame);
-              points = inv .written .points ∙ ap (λ (l : List ℕ). put pcs₀ 0 l (length l)) e;
-              limits-are = inv .written .limits-are ∙ ap (λ (l : List ℕ). put bounds₀ 0 (limits (liveOf t kinds ends refs bs cs W) 0 l) (length l)) e;
-              registers = inv .written .registers ∙ ap (λ (l : List ℕ). put regs₀ 0 (flatMap (liveOf t kinds ends refs bs cs W) l) (length (flatMap (liveOf t kinds ends refs bs cs W) l))) e;
-            };
-            counted = counted-no (inv .counted) p;
+            going = going-yes (inv .going) step v;
+            points-are = omega (arith, inv .points-are, ap length x);
+            registers-are = omega (arith, inv .registers-are, e ∙ ap length (v .row h), ap (λ (l : List ℕ). length (flatMap live l)) x ∙ ap length (flat-cons live p (pointsFrom i)), length-append (live p) (flatMap live (pointsFrom i)));
+            few = (omega (arith, inv .few .0), omega (arith, inv .few .1, more));
           }
 
-    module _ {s₀ s pcs₀ pcs bounds₀ bounds regs₀ regs : List ℕ} {i k from : ℕ} (inv : Writing s₀ s pcs₀ pcs bounds₀ bounds regs₀ regs i k from) where
-      pub writing-end : i ≤ length kinds → length kinds ≤ i → Written t kinds ends refs bs cs s₀ s pcs₀ pcs bounds₀ bounds regs₀ regs W nb (length kinds)
-      writing-end h k =
-          let e : i ≡ length kinds = omega arith in
-          subst (λ (u : ℕ). Written t kinds ends refs bs cs s₀ s pcs₀ pcs bounds₀ bounds regs₀ regs W nb u) e (inv .written)
+      pub counting-no : nb ≤ r → Counting s₀ s₁ p points registers b q
+      counting-no h =
+          let x : pointsFrom i ≡ pointsFrom p = ap pointsFrom step ∙ sym (from-no p (omega (arith, inv .going .high)) (no-point v h)) in
+          record {
+            going = going-no (inv .going) step v h;
+            points-are = inv .points-are ∙ ap length x;
+            registers-are = inv .registers-are ∙ ap (λ (l : List ℕ). length (flatMap live l)) x;
+            few = (omega (arith, inv .few .0), omega (arith, inv .few .1, more));
+          }
 
-    -- the lent lists keep their lengths
-    module _ {s₀ s pcs₀ pcs bounds₀ bounds regs₀ regs : List ℕ} (fits : Fits t kinds ends refs bs cs pcs₀ bounds₀ regs₀ W) (done : Written t kinds ends refs bs cs s₀ s pcs₀ pcs bounds₀ bounds regs₀ regs W nb (length kinds)) where
-      pub points-kept : length pcs ≡ length pcs₀
-      points-kept = ap length (done .points) ∙ length-put pcs₀ 0 _ _ (omega (arith, fits .for-points)) (omega arith)
+    pub counting-end : {s₀ s : List ℕ} {i points registers b q : ℕ} → Counting s₀ s i points registers b q → i ≡ 0 → Counted t kinds ends refs bs cs s₀ s W nb (length kinds) points registers
+    counting-end {s₀} {s} {i} inv e =
+        let x : pointsFrom i ≡ pointsTo kinds ends refs bs cs (length kinds) = ap pointsFrom e ∙ from-start in
+        let z : length kinds - i ≡ length kinds = omega arith in
+        record {
+          frame = inv .going .frame;
+          points-are = inv .points-are ∙ ap length x;
+          registers-are = inv .registers-are ∙ ap (λ (l : List ℕ). length (flatMap live l)) x;
+          few = (omega (arith, inv .few .0), omega (arith, inv .few .1, ap (λ (u : ℕ). u * 16384) z));
+        }
 
-      pub bounds-kept : length bounds ≡ length bounds₀
-      bounds-kept =
-          ap length (done .limits-are) ∙ length-put bounds₀ 0 _ _ (omega (arith, fits .for-bounds)) (omega (arith, length-limits (liveOf t kinds ends refs bs cs W) 0 (pointsTo kinds ends refs bs cs (length kinds))))
+    -- ---- written
 
-      pub registers-kept : length regs ≡ length regs₀
-      registers-kept = ap length (done .registers) ∙ length-put regs₀ 0 _ _ (omega (arith, fits .for-registers)) (omega arith)
+    pub record Writing (s₀ s pcs₀ pcs bounds₀ bounds regs₀ regs : List ℕ) (i k to b q : ℕ) : Type 0 where
+      pub going : Going s₀ s i b q
+      pub place : k ≡ length (pointsTo kinds ends refs bs cs i)
+      pub upto : to ≡ length (flatMap live (pointsTo kinds ends refs bs cs i))
+      pub points : pcs ≡ put pcs₀ k (pointsFrom i) (length (pointsFrom i))
+      pub limits-are : bounds ≡ put bounds₀ k (limits live to (pointsFrom i)) (length (pointsFrom i))
+      pub registers : regs ≡ put regs₀ to (flatMap live (pointsFrom i)) (length (flatMap live (pointsFrom i)))
+
+    module _ {pcs₀ bounds₀ regs₀ : List ℕ} {np nr : ℕ} (fits : Fits t kinds ends refs bs cs pcs₀ bounds₀ regs₀ W np nr) where
+      pub writing-none : (s : List ℕ) (q : ℕ) → Writing s s pcs₀ pcs₀ bounds₀ bounds₀ regs₀ regs₀ (length kinds) np nr nb q
+      writing-none s q = record {
+        going = going-none s q;
+        place = fits .points-are;
+        upto = fits .registers-are;
+        points = put-none pcs₀ np [] ∙ ap (λ (l : List ℕ). put pcs₀ np l (length l)) (sym from-end);
+        limits-are = put-none bounds₀ np [] ∙ ap (λ (l : List ℕ). put bounds₀ np (limits live nr l) (length l)) (sym from-end);
+        registers = put-none regs₀ nr [] ∙ ap (λ (l : List ℕ). put regs₀ nr l (length l)) (sym (ap (flatMap live) from-end ∙ flat-none live));
+      }
+
+      module _ {s₀ s pcs bounds regs : List ℕ} {i k to b q : ℕ} (inv : Writing s₀ s pcs₀ pcs bounds₀ bounds regs₀ regs i k to b q) where
+        points-sum : np ≡ k + length (pointsFrom i)
+        points-sum = fits .points-are ∙ ap length (whole i (inv .going .high)) ∙ length-append (pointsTo kinds ends refs bs cs i) (pointsFrom i) ∙ ap (λ (u : ℕ). u + length (pointsFrom i)) (sym (inv .place))
+
+        registers-sum : nr ≡ to + length (flatMap live (pointsFrom i))
+        registers-sum =
+            fits .registers-are ∙ ap (λ (l : List ℕ). length (flatMap live l)) (whole i (inv .going .high)) ∙ ap length (flat-two live (pointsTo kinds ends refs bs cs i) (pointsFrom i))
+            ∙ length-append (flatMap live (pointsTo kinds ends refs bs cs i)) (flatMap live (pointsFrom i)) ∙ ap (λ (u : ℕ). u + length (flatMap live (pointsFrom i))) (sym (inv .upto))
+
+        pub points-kept : length pcs ≡ length pcs₀
+        points-kept = ap length (inv .points) ∙ length-put pcs₀ k (pointsFrom i) (length (pointsFrom i)) (omega (arith, points-sum, fits .for-points)) (omega arith)
+
+        pub bounds-kept : length bounds ≡ length bounds₀
+        bounds-kept =
+            ap length (inv .limits-are) ∙ length-put bounds₀ k (limits live to (pointsFrom i)) (length (pointsFrom i)) (omega (arith, points-sum, fits .for-bounds)) (omega (arith, length-limits live to (pointsFrom i)))
+
+        pub registers-kept : length regs ≡ length regs₀
+        registers-kept = ap length (inv .registers) ∙ length-put regs₀ to (flatMap live (pointsFrom i)) (length (flatMap live (pointsFrom i))) (omega (arith, registers-sum, fits .for-registers)) (omega arith)
+
+        pub registers-room : (to ≤ length regs) × (to ≤ length kinds * 16384)
+        registers-room = (omega (arith, registers-sum, fits .for-registers, registers-kept), omega (arith, registers-sum, fits .few))
+
+        pub writing-end : i ≡ 0 → Written t kinds ends refs bs cs s₀ s pcs₀ pcs bounds₀ bounds regs₀ regs W nb (length kinds)
+        writing-end e =
+            let x : pointsFrom i ≡ pointsTo kinds ends refs bs cs (length kinds) = ap pointsFrom e ∙ from-start in
+            let k0 : k ≡ 0 = inv .place ∙ ap (λ (u : ℕ). length (pointsTo kinds ends refs bs cs u)) e ∙ ap length to-none in
+            let t0 : to ≡ 0 = inv .upto ∙ ap (λ (u : ℕ). length (flatMap live (pointsTo kinds ends refs bs cs u))) e ∙ ap (λ (l : List ℕ). length (flatMap live l)) to-none ∙ ap length (flat-none live) in
+            record {
+              frame = inv .going .frame;
+              points = inv .points ∙ ap₂ (λ (u : ℕ) (l : List ℕ). put pcs₀ u l (length l)) k0 x;
+              limits-are = inv .limits-are ∙ ap (λ (u : ℕ). put bounds₀ u (limits live to (pointsFrom i)) (length (pointsFrom i))) k0 ∙ ap₂ (λ (u : ℕ) (l : List ℕ). put bounds₀ 0 (limits live u l) (length l)) t0 x;
+              registers = inv .registers ∙ ap₂ (λ (u : ℕ) (l : List ℕ). put regs₀ u (flatMap live l) (length (flatMap live l))) t0 x;
+            }
+
+        module _ {s₁ : List ℕ} {p r : ℕ} (step : i ≡ p + 1) (v : Pointed t kinds ends refs bs cs s s₁ W nb p r) where
+          pub writing-no : nb ≤ r → Writing s₀ s₁ pcs₀ pcs bounds₀ bounds regs₀ regs p k to b q
+          writing-no h =
+              let x : pointsFrom i ≡ pointsFrom p = ap pointsFrom step ∙ sym (from-no p (omega (arith, inv .going .high)) (no-point v h)) in
+              let y : pointsTo kinds ends refs bs cs i ≡ pointsTo kinds ends refs bs cs p = ap (pointsTo kinds ends refs bs cs) step ∙ to-no p (no-point v h) in
+              record {
+                going = going-no (inv .going) step v h;
+                place = inv .place ∙ ap length y;
+                upto = inv .upto ∙ ap (λ (l : List ℕ). length (flatMap live l)) y;
+                points = inv .points ∙ ap (λ (l : List ℕ). put pcs₀ k l (length l)) x;
+                limits-are = inv .limits-are ∙ ap (λ (l : List ℕ). put bounds₀ k (limits live to l) (length l)) x;
+                registers = inv .registers ∙ ap (λ (l : List ℕ). put regs₀ to (flatMap live l) (length (flatMap live l))) x;
+              }
+
+          module _ (h : r < nb) where
+            before : pointsTo kinds ends refs bs cs i ≡ pointsTo kinds ends refs bs cs p ++ (p ∷ [])
+            before = ap (pointsTo kinds ends refs bs cs) step ∙ to-yes p (is-point v h)
+
+            pub one-less : k ≡ suc (length (pointsTo kinds ends refs bs cs p))
+            one-less = let n = length-append (pointsTo kinds ends refs bs cs p) (p ∷ []) in omega (arith, inv .place, ap length before)
+
+            fewer : to ≡ length (flatMap live (pointsTo kinds ends refs bs cs p)) + length (live p)
+            fewer =
+                inv .upto ∙ ap (λ (l : List ℕ). length (flatMap live l)) before ∙ ap length (flat-two live (pointsTo kinds ends refs bs cs p) (p ∷ []))
+                ∙ length-append (flatMap live (pointsTo kinds ends refs bs cs p)) (flatMap live (p ∷ [])) ∙ ap (λ (l : List ℕ). length (flatMap live (pointsTo kinds ends refs bs cs p)) + length l) (flat-one live p)
+
+            pub room-points : k - 1 < length pcs
+            room-points = omega (arith, one-less, points-sum, fits .for-points, points-kept)
+
+            pub room-bounds : k - 1 < length bounds
+            room-bounds = omega (arith, one-less, points-sum, fits .for-bounds, bounds-kept)
+
+            pub room-registers : length (listed (rowAt s₁ (nb * (3 * W)) W)) ≤ to
+            room-registers = omega (arith, fewer, ap length (v .row h))
+
+            pub writing-yes : (pcs₁ bounds₁ regs₁ : List ℕ) (from : ℕ) → to ≡ from + length (listed (rowAt s₁ (nb * (3 * W)) W))
+                → pcs₁ ≡ set pcs (k - 1) p → bounds₁ ≡ set bounds (k - 1) to
+                → regs₁ ≡ put regs from (listed (rowAt s₁ (nb * (3 * W)) W)) (length (listed (rowAt s₁ (nb * (3 * W)) W)))
+                → Writing s₀ s₁ pcs₀ pcs₁ bounds₀ bounds₁ regs₀ regs₁ p (k - 1) from r p
+            writing-yes pcs₁ bounds₁ regs₁ from en ep eb er = record {
+              going = going-yes (inv .going) step v;
+              place = omega (arith, one-less);
+              upto = omega (arith, fewer, sum);
+              points = ep ∙ ap (λ (l : List ℕ). set l (k - 1) p) (inv .points ∙ ap (λ (u : ℕ). put pcs₀ u S (length S)) last)
+                  ∙ put-front pcs₀ (k - 1) S (length S) p 0 (omega (arith, one-less, points-sum, fits .for-points)) ∙ ap (λ (l : List ℕ). put pcs₀ (k - 1) l (length l)) (sym x);
+              limits-are = eb ∙ ap (λ (l : List ℕ). set l (k - 1) to) (inv .limits-are ∙ ap (λ (u : ℕ). put bounds₀ u (limits live to S) (length S)) last)
+                  ∙ put-front bounds₀ (k - 1) (limits live to S) (length S) to 0 (omega (arith, one-less, points-sum, fits .for-bounds))
+                  ∙ ap (λ (u : ℕ). put bounds₀ (k - 1) (u ∷ limits live u S) (suc (length S))) sum ∙ ap (λ (l : List ℕ). put bounds₀ (k - 1) (limits live from l) (length l)) (sym x);
+              registers = er ∙ ap (λ (l : List ℕ). put regs from l (length l)) (v .row h) ∙ ap (λ (l : List ℕ). put l from (live p) (length (live p))) (inv .registers)
+                  ∙ put-before regs₀ from to (live p) (flatMap live S) sum (omega (arith, registers-sum, fits .for-registers))
+                  ∙ ap (λ (l : List ℕ). put regs₀ from l (length l)) (sym (ap (flatMap live) x ∙ flat-cons live p S));
+            }
+              where
+                S : List ℕ
+                S = pointsFrom i
+
+                x : pointsFrom p ≡ p ∷ pointsFrom i
+                x = from-yes p (omega (arith, inv .going .high)) (is-point v h) ∙ ap (λ (u : ℕ). p ∷ pointsFrom u) (sym step)
+
+                last : k ≡ suc (k - 1)
+                last = omega (arith, one-less)
+
+                sum : to ≡ from + length (live p)
+                sum = en ∙ ap (λ (l : List ℕ). from + length l) (v .row h)

@@ -11,13 +11,13 @@ ghost use mathlib.Core.Path.{_≡_};
 ghost use mathlib.Core.Bool.{true, _||_};
 ghost use Prim.Native.Nat.{_+_, _-_, _*_, _/_, _≤_, _<_};
 ghost use lib.Dec.{ltb};
-ghost use lib.ListN.{length};
+ghost use lib.ListN.{length, set};
 ghost use Rattle.rows.specs.Row.{listed};
 ghost use Rattle.word.specs.Put.{put};
 ghost use Rattle.roots.specs.View.{formed};
 ghost use Rattle.root_map.specs.Calls.{LiveRefsCall};
 ghost use Rattle.roots.specs.Columns.{wanted, seen, Fixed};
-ghost use Rattle.root_map.specs.Columns.{one, rowAt, Pointed, Counted, Fits, Written};
+ghost use Rattle.root_map.specs.Columns.{rowAt, Standing, Entered, Pointed, Counted, Fits, Written};
 
 // What `live_refs` answers.
 pub enum LiveRefs {
@@ -37,8 +37,8 @@ pub struct Counts {
     pub registers: usize,
 }
 
-// Where instruction pc is a safepoint inside a block, the row after the blocks' becomes the registers that are live before it. Whether it is one.
-fn point_row(
+// The row after the blocks' becomes the registers that are live before instruction pc. The block that holds pc; nb if none does, and nothing changes.
+fn block_row(
     s: &mut [u64],
     kinds: &[u8],
     ends: &[u32],
@@ -49,18 +49,15 @@ fn point_row(
     nb: usize,
     words: usize,
     pc: usize,
-) -> bool
+) -> usize
     requires { ⌜ formed (now kinds) (now ends) (now refs) (now blocks) (now classes) ≡ true ⌝ }
-    requires { ⌜ (nb ≡ length (now blocks) / 2) × (nb * (3 * words) + 2 * words ≤ length (now s)) × (length (now classes) ≤ 64 * words) × (pc < length (now kinds)) ⌝ }
+    requires { ⌜ (nb ≡ length (now blocks) / 2) × (nb * (3 * words) + 2 * words ≤ length (now s)) × (length (now classes) ≤ 64 * words) ⌝ }
     requires { ⌜ Fixed (seen (wanted which) (now kinds) (now ends) (now refs) (now blocks) (now classes)) (now blocks) (now s) words nb ⌝ }
-    ensures { λ r. ⌜ Pointed (wanted which) (now (kinds .entry)) (now (ends .entry)) (now (refs .entry)) (now (blocks .entry)) (now (classes .entry)) (now (s .entry)) (now (s .exit)) words nb pc r ⌝ }
+    ensures { λ r. ⌜ Entered (wanted which) (now (kinds .entry)) (now (ends .entry)) (now (refs .entry)) (now (blocks .entry)) (now (classes .entry)) (now (s .entry)) (now (s .exit)) words nb pc r ⌝ }
 {
-    if kinds[pc] != 1 {
-        return false;
-    }
     let b = find_block(blocks, nb, pc);
     if nb <= b {
-        return false;
+        return b;
     }
     gather(s, kinds, ends, refs, blocks, nb, words, b);
     let e = wide(blocks[2 * b + 1]);
@@ -75,7 +72,52 @@ fn point_row(
         pc,
         e,
     );
-    true
+    b
+}
+
+// Where instruction pc is a safepoint inside a block, the row after the blocks' becomes the registers that are live before it. Its block, or nb. The row
+// is that before instruction q of block b, where b is a block: within it the walk goes on from there.
+fn point_row(
+    s: &mut [u64],
+    kinds: &[u8],
+    ends: &[u32],
+    refs: &[u32],
+    blocks: &[u32],
+    classes: &[u8],
+    which: Tracked,
+    nb: usize,
+    words: usize,
+    b: usize,
+    q: usize,
+    pc: usize,
+) -> usize
+    requires { ⌜ formed (now kinds) (now ends) (now refs) (now blocks) (now classes) ≡ true ⌝ }
+    requires { ⌜ (nb ≡ length (now blocks) / 2) × (nb * (3 * words) + 2 * words ≤ length (now s)) × (length (now classes) ≤ 64 * words) × (pc < length (now kinds)) ⌝ }
+    requires { ⌜ Fixed (seen (wanted which) (now kinds) (now ends) (now refs) (now blocks) (now classes)) (now blocks) (now s) words nb ⌝ }
+    requires { ⌜ Standing (wanted which) (now kinds) (now ends) (now refs) (now blocks) (now classes) (now s) words nb b q × (b < nb → pc < q) ⌝ }
+    ensures { λ r. ⌜ Pointed (wanted which) (now (kinds .entry)) (now (ends .entry)) (now (refs .entry)) (now (blocks .entry)) (now (classes .entry)) (now (s .entry)) (now (s .exit)) words nb pc r ⌝ }
+{
+    if kinds[pc] != 1 {
+        return nb;
+    }
+    if b < nb {
+        let st = wide(blocks[2 * b]);
+        if st <= pc {
+            back_at(
+                s,
+                nb * (3 * words),
+                words,
+                ends,
+                refs,
+                classes,
+                which,
+                pc,
+                q,
+            );
+            return b;
+        }
+    }
+    block_row(s, kinds, ends, refs, blocks, classes, which, nb, words, pc)
 }
 
 // How many registers the row at `at` has.
@@ -87,7 +129,7 @@ fn count_at(s: &[u64], at: usize, words: usize) -> usize
     rows::count(&s[at..past])
 }
 
-// Counts the map.
+// Counts the map, the last instruction first.
 fn count_map(
     s: &mut [u64],
     kinds: &[u8],
@@ -107,11 +149,28 @@ fn count_map(
     let at = nb * (3 * words);
     let mut points: usize = 0;
     let mut registers: usize = 0;
-    let mut pc = 0;
-    while pc < kinds.len() {
-        let p = pc;
-        pc += 1;
-        if point_row(s, kinds, ends, refs, blocks, classes, which, nb, words, p) {
+    let mut b = nb;
+    let mut q: usize = 0;
+    let mut pc = kinds.len();
+    while 0 < pc {
+        pc -= 1;
+        let r = point_row(
+            s,
+            kinds,
+            ends,
+            refs,
+            blocks,
+            classes,
+            which,
+            nb,
+            words,
+            b,
+            q,
+            pc,
+        );
+        if r < nb {
+            b = r;
+            q = pc;
             points += 1;
             registers += count_at(s, at, words);
         }
@@ -132,7 +191,7 @@ fn short(points: usize, registers: usize, pcs: usize, bounds: usize, regs: usize
     regs < registers
 }
 
-// Writes one safepoint: its place, where its registers end, and its registers, those of the row at `at`. Where they end.
+// Writes one safepoint: its place, where its registers end, and its registers, those of the row at `at`. Where they begin.
 fn write_point(
     s: &[u64],
     at: usize,
@@ -142,24 +201,24 @@ fn write_point(
     bounds: &mut [u32],
     regs: &mut [u32],
     k: usize,
-    from: usize,
+    to: usize,
 ) -> usize
-    requires { ⌜ (at + words ≤ length (now s)) × (words ≤ 256) × (pc < 65536) × (k < length (now pcs)) × (k < length (now bounds)) × (from ≤ 1073741824) ⌝ }
-    requires { ⌜ from + length (listed (rowAt (now s) at words)) ≤ length (now regs) ⌝ }
-    ensures { λ r. ⌜ (r ≡ from + length (listed (rowAt (now (s .entry)) at words))) × (r ≤ from + 16384)
-        × (now (pcs .exit) ≡ put (now (pcs .entry)) k (one pc) 1) × (now (bounds .exit) ≡ put (now (bounds .entry)) k (one r) 1)
-        × (now (regs .exit) ≡ put (now (regs .entry)) from (listed (rowAt (now (s .entry)) at words)) (length (listed (rowAt (now (s .entry)) at words)))) ⌝ }
+    requires { ⌜ (at + words ≤ length (now s)) × (words ≤ 256) × (pc < 65536) × (k < length (now pcs)) × (k < length (now bounds)) × (to ≤ 1073741824) ⌝ }
+    requires { ⌜ (length (listed (rowAt (now s) at words)) ≤ to) × (to ≤ length (now regs)) ⌝ }
+    ensures { λ r. ⌜ (to ≡ r + length (listed (rowAt (now (s .entry)) at words)))
+        × (now (pcs .exit) ≡ set (now (pcs .entry)) k pc) × (now (bounds .exit) ≡ set (now (bounds .entry)) k to)
+        × (now (regs .exit) ≡ put (now (regs .entry)) r (listed (rowAt (now (s .entry)) at words)) (length (listed (rowAt (now (s .entry)) at words)))) ⌝ }
 {
     let n = count_at(s, at, words);
-    let to = from + n;
+    let from = to - n;
     let past = at + words;
     rows::list_row(&s[at..past], &mut regs[from..to]);
     pcs[k] = pc as u32;
     bounds[k] = to as u32;
-    to
+    from
 }
 
-// Writes the map.
+// Writes the map, of so many safepoints and registers, the last instruction first.
 fn write_map(
     s: &mut [u64],
     kinds: &[u8],
@@ -173,24 +232,43 @@ fn write_map(
     pcs: &mut [u32],
     bounds: &mut [u32],
     regs: &mut [u32],
+    points: usize,
+    registers: usize,
 )
     requires { ⌜ formed (now kinds) (now ends) (now refs) (now blocks) (now classes) ≡ true ⌝ }
     requires { ⌜ (nb ≡ length (now blocks) / 2) × (nb * (3 * words) + 2 * words ≤ length (now s)) × (length (now classes) ≤ 64 * words) × (words ≤ 256) × (length (now kinds) ≤ 65536) ⌝ }
     requires { ⌜ Fixed (seen (wanted which) (now kinds) (now ends) (now refs) (now blocks) (now classes)) (now blocks) (now s) words nb ⌝ }
-    requires { ⌜ Fits (wanted which) (now kinds) (now ends) (now refs) (now blocks) (now classes) (now pcs) (now bounds) (now regs) words ⌝ }
+    requires { ⌜ Fits (wanted which) (now kinds) (now ends) (now refs) (now blocks) (now classes) (now pcs) (now bounds) (now regs) words points registers ⌝ }
     ensures { λ _. ⌜ Written (wanted which) (now (kinds .entry)) (now (ends .entry)) (now (refs .entry)) (now (blocks .entry)) (now (classes .entry)) (now (s .entry)) (now (s .exit))
         (now (pcs .entry)) (now (pcs .exit)) (now (bounds .entry)) (now (bounds .exit)) (now (regs .entry)) (now (regs .exit)) words nb (length (now (kinds .entry))) ⌝ }
 {
     let at = nb * (3 * words);
-    let mut k: usize = 0;
-    let mut from: usize = 0;
-    let mut pc = 0;
-    while pc < kinds.len() {
-        let p = pc;
-        pc += 1;
-        if point_row(s, kinds, ends, refs, blocks, classes, which, nb, words, p) {
-            from = write_point(s, at, words, p, pcs, bounds, regs, k, from);
-            k += 1;
+    let mut k = points;
+    let mut to = registers;
+    let mut b = nb;
+    let mut q: usize = 0;
+    let mut pc = kinds.len();
+    while 0 < pc {
+        pc -= 1;
+        let r = point_row(
+            s,
+            kinds,
+            ends,
+            refs,
+            blocks,
+            classes,
+            which,
+            nb,
+            words,
+            b,
+            q,
+            pc,
+        );
+        if r < nb {
+            b = r;
+            q = pc;
+            k -= 1;
+            to = write_point(s, at, words, pc, pcs, bounds, regs, k, to);
         }
     }
 }
@@ -241,6 +319,8 @@ pub fn live_refs(
         pcs,
         bounds,
         regs,
+        points,
+        registers,
     );
     memory::clear_u64(s);
     LiveRefs::Map(points, registers)

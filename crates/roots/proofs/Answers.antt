@@ -1,14 +1,14 @@
 -- From the steps' contracts to the answers of the calls: one law for each way out. Assumes nothing.
-use mathlib.Core.Path.{_≡_, refl, sym, ap, ap₂, _∙_, subst, fun-ext}
-use mathlib.Core.Logic.{_⊎_, inl, inr, ⊎-elim, _↔_}
-use mathlib.Core.Bool.{Bool, true, false, not, _&&_, _||_, true≢false, false≢true}
+use mathlib.Core.Path.{_≡_, refl, sym, ap, ap₂, _∙_, fun-ext}
+use mathlib.Core.Logic.{_⊎_, inl, inr}
+use mathlib.Core.Bool.{Bool, true, false, not, _&&_}
 use mathlib.Core.List.{List, [], _∷_}
-use Prim.Native.Nat.{ℕ, _+_, _-_, _*_, _/_, _%_, _≤_, _<_}
+use Prim.Native.Nat.{ℕ, _+_, _-_, _*_, _/_, _≤_, _<_}
 use native.Mathlib.Omega.{arith}
 use native.Mathlib.Nat.{add-mul, mul-assoc, mul-comm}
 use lib.ListN.{length, getD, take, drop, replicate, length-take, length-drop}
-use lib.Dec.{ltb, eqb, leb}
-use borrow.Author.Tests.{lt-ltb, le-ltb, eq-eqb, ne-eqb, eqb-true}
+use lib.Dec.{ltb}
+use borrow.Author.Tests.{lt-ltb, le-ltb, eq-eqb, ne-eqb}
 use borrow.Author.Count.{below-more}
 use Rattle.word.specs.Choice.{if_then_else_}
 use Rattle.word.specs.Result.{Result, ok, refused}
@@ -16,21 +16,19 @@ use Rattle.word.specs.Put.{put}
 use Rattle.word.specs.Ones.{passing}
 use Rattle.rows.specs.Row.{bitIn, part, listed}
 use Rattle.rows.specs.Listing.{listing, listedInto}
-use Rattle.flow.specs.Function.{Function, Block, Instruction, LiveList, holds, some, inst, block, start, end, safepoint, safepoints}
-use Rattle.flow.specs.Dataflow.{back, out, liveIn, liveBefore, holder, liveRow, track}
-use Rattle.flow.proofs.Laws.{and-true, bool-cases, Disjoint}
+use Rattle.flow.specs.Function.{Function, Block, Instruction, LiveList, holds, inst, block, start, end, safepoint, safepoints}
+use Rattle.flow.specs.Dataflow.{back, out, liveBefore, holder, liveRow, track}
+use Rattle.word.proofs.Bools.{either}
 use Rattle.flow.proofs.Lists.{passing-same, some-at, at-some, both-true}
 use Rattle.flow.proofs.Validity.{held, holder-is, holds-parts, parts-holds, safepoint-held, row-list}
-use Rattle.roots.specs.View.{view, formed, blockAt, instAt}
+use Rattle.roots.specs.View.{view, formed}
 use Rattle.roots.specs.Calls.{Lent, function, right, need, after, scratchAfter, liveAtAnswer, toldAt, LiveAtCall}
-use Rattle.roots.specs.Columns.{seen, Columns, cell, liveAt, Fixed, Found}
+use Rattle.roots.specs.Columns.{seen, cell, liveAt, Fixed, Found}
 use Rattle.roots.specs.declared.LiveAt.{LiveAt}
 use Rattle.roots.specs.declared.LiveAt.the-variants as At
 use Rattle.roots.proofs.Turns.{inst-view}
-use Rattle.roots.proofs.Scratch.{end-view}
 use Rattle.roots.proofs.Steps.{part-cell}
-use Rattle.roots.proofs.Forms.{formed-columns, formed-disjoint, formed-parts, blocks-count, block-at}
-use Rattle.roots.proofs.Checks.{Fit, formed-fit}
+use Rattle.roots.proofs.Forms.{formed-columns, formed-disjoint, blocks-count, block-at}
 
 pub need-is : (nb W : ℕ) → (3 * nb + 2) * W ≡ nb * (3 * W) + 2 * W
 need-is nb W = add-mul (3 * nb) 2 W ∙ ap (λ (u : ℕ). u + 2 * W) (ap (λ (u : ℕ). u * W) (mul-comm 3 nb) ∙ mul-assoc nb 3 W)
@@ -93,7 +91,7 @@ module _ (kinds ends refs bs classes : List ℕ) (good : formed kinds ends refs 
   not-safepoint k n = ap (λ (u : Bool). u && held (view kinds ends refs bs classes) pc) (ne-eqb (inst (view kinds ends refs bs classes) pc .kind) 1 (λ e. n (sym (kind-view k) ∙ e)))
 
   pub not-held : {r : ℕ} → Found bs (length bs / 2) pc r → length bs / 2 ≤ r → safepoint (view kinds ends refs bs classes) pc ≡ false
-  not-held g h = go (bool-cases (safepoint (view kinds ends refs bs classes) pc))
+  not-held g h = go (either (safepoint (view kinds ends refs bs classes) pc))
     where
       go : (safepoint (view kinds ends refs bs classes) pc ≡ true) ⊎ (safepoint (view kinds ends refs bs classes) pc ≡ false) → safepoint (view kinds ends refs bs classes) pc ≡ false
       go (inr e) = e

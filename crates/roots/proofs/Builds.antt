@@ -1,7 +1,7 @@
 -- The rows of one block in words that were zero, and a turn of the loop that builds those of every block. Assumes nothing.
 use mathlib.Core.Path.{_≡_, refl, sym, ap, ap₂, _∙_, subst}
 use mathlib.Core.Logic.{_⊎_, inl, inr, ⊎-elim}
-use mathlib.Core.Bool.{Bool, true, false, not, _&&_, _||_, false≢true}
+use mathlib.Core.Bool.{Bool, true, false, _||_, false≢true}
 use mathlib.Core.List.{List}
 use Prim.Native.Nat.{ℕ, _+_, _-_, _*_, _/_, _%_, _≤_, _<_}
 use native.Mathlib.Omega.{arith}
@@ -12,11 +12,12 @@ use lib.ListN.{length, getD, set, length-set}
 use lib.Seq.{getD-set-same, getD-set-other}
 use Rattle.word.specs.Bit.{bit}
 use Rattle.word.proofs.BitLaws.{bit-of-zero}
-use Rattle.flow.specs.Function.{Function, firstAt, start, end}
+use Rattle.flow.specs.Function.{firstAt}
 use Rattle.flow.specs.Dataflow.{back, killed, gen, kill}
-use Rattle.flow.proofs.Laws.{step-sound, or-true, or-left}
+use Rattle.word.proofs.Bools.{or-left}
+use Rattle.flow.proofs.Laws.{step-sound}
 use Rattle.roots.specs.View.{tabulate, blockAt}
-use Rattle.roots.specs.Columns.{seen, Outside, cell, liveAt, oneBelow, Rows, Linked, Begun, Built}
+use Rattle.roots.specs.Columns.{seen, Outside, cell, liveAt, oneBelow, Begun, Built}
 use Rattle.roots.proofs.Scratch.{block-fits, cell-before, cell-after, live-of, live-not, start-view, end-view, or-false}
 
 pub zero-cell : (s : List ℕ) (a q : ℕ) → ((i : ℕ) → a ≤ i → getD s i 0 ≡ 0) → cell s a q ≡ false
@@ -133,7 +134,7 @@ module _ {t : ℕ → Bool} {ends refs bs cs s₀ s : List ℕ} {nb W b : ℕ} (
     rows = λ ks. record {
       gens = λ c q k l g. live-of s W nb q c k ∙ inv .lives ks c q (omega arith) l ∙ g;
       kills = λ c q k l. inv .kills ks c q (omega arith) l;
-      sound = λ q l c x. step-sound (seen t ks ends refs bs cs) q (λ u. false) (λ u y. absurd (false≢true y)) c (or-left _ (from ks q l c (decLt c nb) x));
+      sound = λ q l c x. step-sound (seen t ks ends refs bs cs) q (λ u. false) (λ u y. absurd (false≢true y)) c (or-left _ _ (from ks q l c (decLt c nb) x));
     };
   }
     where

@@ -1,24 +1,24 @@
 -- Tests over every index, and what they say together: the test of the lent columns. Assumes nothing.
-use mathlib.Core.Path.{_≡_, refl, sym, ap, ap₂, _∙_, subst}
-use mathlib.Core.Logic.{_⊎_, inl, inr, ⊎-elim, _↔_}
+use mathlib.Core.Path.{_≡_, refl, sym, ap, _∙_}
+use mathlib.Core.Logic.{_↔_}
 use mathlib.Core.Bool.{Bool, true, false, true≢false, false≢true}
 use mathlib.Core.List.{List}
-use Prim.Native.Nat.{ℕ, _+_, _-_, _*_, _/_, _%_, _≤_, _<_, max}
+use Prim.Native.Nat.{ℕ, _+_, _-_, _*_, _/_, _%_, _≤_, _<_}
 use native.Mathlib.Omega.{arith}
-use native.Mathlib.Decide.{ℕ-discrete, decLt, decLe}
+use native.Mathlib.Decide.{decLt, decLe}
 use native.Mathlib.Nat.{div-lt-iff-lt-mul, mul-zero}
 use lib.ListN.{length, getD, List·getD-eq-default}
 use lib.Dec.{leb}
 use borrow.Author.Count.{below-more}
 use borrow.Author.Tests.{leb-true, le-leb}
-use Rattle.flow.specs.Function.{Function, Block, Instruction, every, inside, apart}
-use Rattle.flow.proofs.Laws.{same-bool}
+use Rattle.flow.specs.Function.{Block, Instruction, every, inside, apart}
+use Rattle.word.proofs.Bools.{bool-ext}
 use Rattle.flow.proofs.Lists.{every-at, at-every}
-use Rattle.flow.proofs.Validity.{Valid, Apart, apart-one, one-apart}
-use Rattle.roots.specs.View.{startOf, tabulate, instAt, blockAt, view, formed}
+use Rattle.flow.proofs.Validity.{apart-one, one-apart}
+use Rattle.roots.specs.View.{startOf, instAt, view, formed}
 use Rattle.roots.specs.Columns.{Lists, In, Separate, AtMost, Inside}
-use Rattle.roots.proofs.Turns.{getD-tabulate, length-tabulate}
-use Rattle.roots.proofs.Forms.{Formed, formed-parts, parts-formed, blocks-count, code-count, block-at, every-inside, inside-every}
+use Rattle.roots.proofs.Turns.{getD-tabulate}
+use Rattle.roots.proofs.Forms.{formed-parts, parts-formed, blocks-count, code-count, block-at, every-inside, inside-every}
 
 pub holds : {Q : Type 0} → Q → (true ≡ true) ↔ Q
 holds v = (λ e. v, λ w. refl)
@@ -50,23 +50,11 @@ Fine ends refs k = (startOf ends k ≤ getD ends k 0) × (getD ends k 0 ≤ leng
 abbrev pub Ends : List ℕ → ℕ → ℕ → Type 0
 Ends bs count b = getD bs (2 * b) 0 < getD bs (2 * b + 1) 0 → getD bs (2 * b + 1) 0 ≤ count
 
-abbrev pub Clear : List ℕ → ℕ → ℕ → Type 0
-Clear bs a b = (p : ℕ) → In bs a p → In bs b p → ⊥
-
 abbrev pub ClearBelow : List ℕ → ℕ → Type 0
 ClearBelow bs a = (b p : ℕ) → b < a → In bs a p → In bs b p → ⊥
 
 pub lists-of : (ends refs : List ℕ) → ((k : ℕ) → k < length ends → Fine ends refs k) → Lists ends refs
 lists-of ends refs f = record { rising = λ k h. f k h .0; inside = λ k h. f k h .1 }
-
--- two blocks share the larger of their starts, or nothing
-pub clear-of : (bs : List ℕ) (a b sa ea sb eb low : ℕ) → sa ≡ getD bs (2 * a) 0 → ea ≡ getD bs (2 * a + 1) 0 → sb ≡ getD bs (2 * b) 0 → eb ≡ getD bs (2 * b + 1) 0
-    → low ≡ max sa sb → (ea ≤ low) ⊎ (eb ≤ low) → Clear bs a b
-clear-of bs a b sa ea sb eb low h₁ h₂ h₃ h₄ e d p x y = ⊎-elim (λ l. omega (arith, x .0, x .1, y .0, y .1)) (λ l. omega (arith, x .0, x .1, y .0, y .1)) d
-
-pub shared : (bs : List ℕ) (a b sa ea sb eb low : ℕ) → sa ≡ getD bs (2 * a) 0 → ea ≡ getD bs (2 * a + 1) 0 → sb ≡ getD bs (2 * b) 0 → eb ≡ getD bs (2 * b + 1) 0
-    → low ≡ max sa sb → low < ea → low < eb → Clear bs a b → ⊥
-shared bs a b sa ea sb eb low h₁ h₂ h₃ h₄ e l m c = c low (omega arith, omega arith) (omega arith, omega arith)
 
 pub apart-of : (bs : List ℕ) (nb : ℕ) → nb ≡ length bs / 2 → ((a : ℕ) → a < nb → ClearBelow bs a) → Separate bs
 apart-of bs nb size f = record { one = λ a b p ka kb h i j k. go a b p (omega arith) (omega arith) h i j k (decLt a b) (decLt b a) }
@@ -206,4 +194,4 @@ module _ (kinds ends refs bs classes : List ℕ) where
       }
 
   pub is-formed : (r : Bool) → (r ≡ true) ↔ Fit kinds ends refs bs classes → r ≡ formed kinds ends refs bs classes
-  is-formed r e = same-bool r (formed kinds ends refs bs classes) (λ h. fit-formed (e .0 h)) (λ h. e .1 (formed-fit h))
+  is-formed r e = bool-ext r (formed kinds ends refs bs classes) (λ h. fit-formed (e .0 h)) (λ h. e .1 (formed-fit h))

@@ -1,21 +1,22 @@
 -- What the test of the lent columns says of them. Assumes nothing.
-use mathlib.Core.Path.{_≡_, refl, sym, ap, ap₂, _∙_, subst}
-use mathlib.Core.Logic.{_⊎_, inl, inr, ⊎-elim}
-use mathlib.Core.Bool.{Bool, true, false, not, _&&_, _||_, true≢false, false≢true}
+use mathlib.Core.Path.{_≡_, refl, sym, ap, _∙_, subst}
+use mathlib.Core.Logic.{_⊎_, ⊎-elim}
+use mathlib.Core.Bool.{Bool, true}
 use mathlib.Core.List.{List, [], _∷_}
 use Prim.Native.Nat.{ℕ, zero, suc, _+_, _-_, _*_, _/_, _%_, _≤_, _<_}
 use native.Mathlib.Omega.{arith}
-use native.Mathlib.Decide.{decLe, decLt}
+use native.Mathlib.Decide.{decLt}
 use lib.ListN.{length, getD}
-use lib.Dec.{leb, ltb, eqb}
-use borrow.Author.Tests.{eqb-true, ltb-true, leb-true, eq-eqb, lt-ltb, le-leb, lt-leb}
-use Rattle.flow.specs.Function.{Function, Block, Instruction, every, inside, apart, valid}
+use lib.Dec.{leb, eqb}
+use borrow.Author.Tests.{eqb-true, leb-true, eq-eqb, le-leb}
+use Rattle.flow.specs.Function.{every, inside, valid}
 use Rattle.flow.specs.Dataflow.{track}
-use Rattle.flow.proofs.Laws.{and-true, or-true, or-left, or-right, Disjoint}
+use Rattle.word.proofs.Bools.{or-cases, or-left, or-right, and-both}
+use Rattle.flow.proofs.Laws.{Disjoint}
 use Rattle.flow.proofs.Lists.{both-true, every-at, at-every}
 use Rattle.flow.proofs.Tracking.{disjoint-track}
-use Rattle.flow.proofs.Validity.{Valid, valid-parts, parts-valid, Apart, apart-one, one-apart, valid-disjoint}
-use Rattle.roots.specs.View.{tabulate, startOf, instAt, blockAt, view, ranged, formed}
+use Rattle.flow.proofs.Validity.{Valid, valid-parts, parts-valid, valid-disjoint}
+use Rattle.roots.specs.View.{startOf, instAt, blockAt, view, ranged, formed}
 use Rattle.roots.specs.Columns.{seen, Lists, Columns}
 use Rattle.roots.proofs.Turns.{getD-tabulate, length-tabulate}
 
@@ -29,11 +30,11 @@ ranged-at : (ends : List ℕ) (from n k : ℕ) → ranged from ends n ≡ true �
 unfolding fromOf
 ranged-at [] from n k h l = absurd (omega arith)
 ranged-at (e ∷ es) from n zero h l =
-    let a = and-true (leb from e) _ h in let b = and-true (leb e n) (ranged e es n) (a .1) in (leb-true from e (a .0), leb-true e n (b .0))
+    let a = and-both (leb from e) _ h in let b = and-both (leb e n) (ranged e es n) (a .1) in (leb-true from e (a .0), leb-true e n (b .0))
 ranged-at (e ∷ es) from n (suc zero) h l =
-    ranged-at es e n zero (and-true (leb e n) (ranged e es n) (and-true (leb from e) _ h .1) .1) (omega arith)
+    ranged-at es e n zero (and-both (leb e n) (ranged e es n) (and-both (leb from e) _ h .1) .1) (omega arith)
 ranged-at (e ∷ es) from n (suc (suc k)) h l =
-    ranged-at es e n (suc k) (and-true (leb e n) (ranged e es n) (and-true (leb from e) _ h .1) .1) (omega arith)
+    ranged-at es e n (suc k) (and-both (leb e n) (ranged e es n) (and-both (leb from e) _ h .1) .1) (omega arith)
 
 at-ranged : (ends : List ℕ) (from n : ℕ) → ((k : ℕ) → k < length ends → (fromOf from ends k ≤ getD ends k 0) × (getD ends k 0 ≤ n)) → ranged from ends n ≡ true
 unfolding fromOf
@@ -71,9 +72,9 @@ pub record Formed (kinds ends refs blocks classes : List ℕ) : Type 0 where
 pub formed-parts : {kinds ends refs blocks classes : List ℕ} → formed kinds ends refs blocks classes ≡ true → Formed kinds ends refs blocks classes
 unfolding formed
 formed-parts {kinds} {ends} {refs} {blocks} {classes} h =
-    let a = and-true (eqb (length ends) (3 * length kinds)) _ h in
-    let b = and-true (eqb (length blocks % 2) 0) _ (a .1) in
-    let c = and-true (ranged 0 ends (length refs)) (valid (view kinds ends refs blocks classes)) (b .1) in
+    let a = and-both (eqb (length ends) (3 * length kinds)) _ h in
+    let b = and-both (eqb (length blocks % 2) 0) _ (a .1) in
+    let c = and-both (ranged 0 ends (length refs)) (valid (view kinds ends refs blocks classes)) (b .1) in
     record {
       three = eqb-true (length ends) (3 * length kinds) (a .0);
       pairs = eqb-true (length blocks % 2) 0 (b .0);
@@ -109,7 +110,7 @@ module _ (kinds ends refs blocks classes : List ℕ) where
       → (b : ℕ) → b < length blocks / 2 → getD blocks (2 * b) 0 < getD blocks (2 * b + 1) 0 → getD blocks (2 * b + 1) 0 ≤ n
   every-inside n h b k l =
       ⊎-elim (λ u. absurd (let z = leb-true (getD blocks (2 * b + 1) 0) (getD blocks (2 * b) 0) u in omega arith)) (λ u. leb-true (getD blocks (2 * b + 1) 0) n u)
-      (or-true (leb (getD blocks (2 * b + 1) 0) (getD blocks (2 * b) 0)) _
+      (or-cases (leb (getD blocks (2 * b + 1) 0) (getD blocks (2 * b) 0)) _
       (ap (inside n) (sym (block-at b k)) ∙ every-at (inside n) (view kinds ends refs blocks classes .blocks) (record { start = 0; end = 0 }) b h (omega (arith, blocks-count))))
 
   pub inside-every : (n : ℕ) → ((b : ℕ) → b < length blocks / 2 → getD blocks (2 * b) 0 < getD blocks (2 * b + 1) 0 → getD blocks (2 * b + 1) 0 ≤ n)
@@ -119,8 +120,8 @@ module _ (kinds ends refs blocks classes : List ℕ) where
       (λ b k. let l : b < length blocks / 2 = omega (arith, blocks-count) in ap (inside n) (block-at b l) ∙ go b l (decLt (getD blocks (2 * b) 0) (getD blocks (2 * b + 1) 0)))
     where
       go : (b : ℕ) → b < length blocks / 2 → Dec (getD blocks (2 * b) 0 < getD blocks (2 * b + 1) 0) → inside n (blockAt blocks b) ≡ true
-      go b l (yes m) = or-right (leb (getD blocks (2 * b + 1) 0) (getD blocks (2 * b) 0)) (le-leb _ _ (h b l m))
-      go b l (no m) = or-left _ (le-leb (getD blocks (2 * b + 1) 0) (getD blocks (2 * b) 0) (omega arith))
+      go b l (yes m) = or-right (leb (getD blocks (2 * b + 1) 0) (getD blocks (2 * b) 0)) _ (le-leb _ _ (h b l m))
+      go b l (no m) = or-left _ _ (le-leb (getD blocks (2 * b + 1) 0) (getD blocks (2 * b) 0) (omega arith))
 
   pub formed-columns : formed kinds ends refs blocks classes ≡ true → Columns kinds ends refs blocks
   formed-columns h =

@@ -8,8 +8,9 @@ use native.Mathlib.Omega.{arith}
 use native.Mathlib.Decide.{ℕ-discrete, decLt}
 use lib.ListN.{length, getD, replicate, getD-replicate, List·getD-eq-default, length-replicate}
 use Rattle.flow.specs.Function.{Function, firstAt, start, end, Live}
-use Rattle.flow.specs.Dataflow.{gen, kill, out, into, Sound, Closed, liveIn}
-use Rattle.flow.proofs.Laws.{bool-cases, step-sound, or-true, or-right, or-left, Disjoint, filled-known}
+use Rattle.flow.specs.Dataflow.{gen, kill, out, into}
+use Rattle.word.proofs.Bools.{or-cases, or-left, or-right}
+use Rattle.flow.proofs.Laws.{step-sound, Disjoint}
 use Rattle.flow.proofs.Fixpoint.{fixpoint-is}
 use Rattle.roots.specs.View.{tabulate, blockAt}
 use Rattle.roots.specs.Columns.{seen, Outside, cell, liveAt, oneBelow, setBits, Rows, Linked, Pass, Solved, Fixed}
@@ -81,7 +82,7 @@ module _ (f : Function) (s s₁ s₂ : List ℕ) (nb W b : ℕ) (changed : Bool)
   grows q t h x = go (ℕ-discrete t b)
     where
       go : Dec (t ≡ b) → liveAt s₂ W nb q t ≡ true
-      go (yes e) = ap (liveAt s₂ W nb q) e ∙ met q h ∙ or-left _ (ap (liveAt s W nb q) (sym e) ∙ x)
+      go (yes e) = ap (liveAt s₂ W nb q) e ∙ met q h ∙ or-left _ _ (ap (liveAt s W nb q) (sym e) ∙ x)
       go (no e) = other q t h e ∙ x
 
   pub turn-rows : Rows f s₂ W nb
@@ -94,8 +95,8 @@ module _ (f : Function) (s s₁ s₂ : List ℕ) (nb W b : ℕ) (changed : Bool)
       go : (q : ℕ) → q < 64 * W → (t : ℕ) → Dec (t ≡ b) → liveAt s₂ W nb q t ≡ true → (start f t < end f t) × Live f (start f t) q
       go q h t (yes e) x =
           subst (λ (u : ℕ). (start f u < end f u) × Live f (start f u) q) (sym e)
-          (⊎-elim (rows .sound q h b) (λ y. step-sound f q (liveAt s W nb q) (rows .sound q h) b (or-right (gen f q b) y))
-          (or-true _ _ (sym (met q h) ∙ ap (liveAt s₂ W nb q) (sym e) ∙ x)))
+          (⊎-elim (rows .sound q h b) (λ y. step-sound f q (liveAt s W nb q) (rows .sound q h) b (or-right (gen f q b) _ y))
+          (or-cases _ _ (sym (met q h) ∙ ap (liveAt s₂ W nb q) (sym e) ∙ x)))
       go q h t (no e) x = rows .sound q h t (sym (other q t h e) ∙ x)
 
   -- where nothing changed, b is closed, and so are the blocks that were
@@ -104,8 +105,8 @@ module _ (f : Function) (s s₁ s₂ : List ℕ) (nb W b : ℕ) (changed : Bool)
 
   pub turn-closed : s₂ ≡ s₁ → (q : ℕ) → q < 64 * W → into f q (liveAt s₂ W nb q) b ≡ true → liveAt s₂ W nb q b ≡ true
   turn-closed e q h x =
-      ⊎-elim (λ g. grows q b h (rows .gens b q known h g)) (λ y. met q h ∙ or-right (liveAt s W nb q b) y)
-      (or-true (gen f q b) _ (ap (λ (X : ℕ → Bool). into f q X b) (sym (turn-same e q h)) ∙ x))
+      ⊎-elim (λ g. grows q b h (rows .gens b q known h g)) (λ y. met q h ∙ or-right (liveAt s W nb q b) _ y)
+      (or-cases (gen f q b) _ (ap (λ (X : ℕ → Bool). into f q X b) (sym (turn-same e q h)) ∙ x))
 
 pub passes-none : (ks ends refs bs s : List ℕ) (nb W : ℕ) → Linked bs s W nb → Pass ks ends refs bs s s nb W nb false
 passes-none ks ends refs bs s nb W l =

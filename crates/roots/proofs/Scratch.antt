@@ -1,29 +1,27 @@
 -- Rows in the scratch: a turn of each loop over the words, and the frames. Assumes nothing.
 use mathlib.Core.Path.{_≡_, refl, sym, ap, ap₂, _∙_, subst, fun-ext}
 use mathlib.Core.Logic.{_⊎_, inl, inr, ⊎-elim}
-use mathlib.Core.Bool.{Bool, true, false, cond, not, _&&_, _||_, true≢false, false≢true}
-use mathlib.Core.List.{List, [], _∷_, _++_, append-nil}
-use Prim.Native.Nat.{ℕ, zero, suc, _+_, _-_, _*_, _/_, _%_, _^_, _≤_, _<_}
+use mathlib.Core.Bool.{Bool, true, false, cond, _&&_, _||_}
+use mathlib.Core.List.{List, [], _∷_, _++_}
+use Prim.Native.Nat.{ℕ, suc, _+_, _-_, _*_, _/_, _%_, _≤_, _<_}
 use native.Mathlib.Omega.{arith}
 use native.Mathlib.Numerals.{add-one}
-use native.Mathlib.Decide.{ℕ-discrete, decLt, decLe}
+use native.Mathlib.Decide.{ℕ-discrete, decLt}
 use native.Mathlib.Nat.{zero-add, mul-le-mul-right, suc-mul}
-use borrow.Rule.Slice.PartMut.{putMid, postOf, midOf, same-len-mid}
-use lib.ListN.{length, getD, set, replicate, drop, take, getD-replicate, List·getD-append, List·getD-eq-default, length-set, length-drop, length-replicate, length-append, drop-of-length-le}
+use borrow.Rule.Slice.PartMut.{putMid, postOf, same-len-mid}
+use lib.ListN.{length, getD, set, replicate, drop, take, getD-replicate, List·getD-append, List·getD-eq-default, length-set, length-drop, length-replicate}
 use lib.Seq.{slice, slice-cons, slice-empty, getD-set-same, getD-set-other, getD-take, getD-drop, getD-append-add, length-take-le}
 use lib.Dec.{eqb, ltb, leb}
-use lib.Bits.{bitAnd, bitOr}
-use borrow.Author.Tests.{eqb-true, eq-eqb, ne-eqb, lt-ltb, le-ltb, ltb-true, le-leb, lt-leb}
-use borrow.Author.Fill.{fill-none, fill-more}
+use lib.Bits.{bitOr}
+use borrow.Author.Tests.{eq-eqb, ne-eqb, lt-ltb, le-ltb, le-leb, lt-leb}
 use Rattle.word.specs.Bit.{bit}
 use Rattle.word.proofs.BitLaws.{bit-or, bit-of-zero}
 use Rattle.rows.specs.Row.{bitIn}
 use Rattle.rows.proofs.RowLaws.{or-swap as or-comm}
-use Rattle.flow.specs.Function.{Function, Instruction, Block, has, inst, block, start, end, existing, firstAt, exits, successors}
+use Rattle.flow.specs.Function.{Function, Instruction, Block, inst, block, start, end, existing, firstAt, exits, successors}
 use Rattle.flow.specs.Dataflow.{anyOf, out, track}
-use Rattle.flow.proofs.Laws.{same-bool, bool-cases}
-use Rattle.roots.specs.View.{tabulate, startOf, listAt, instAt, blockAt, view}
-use Rattle.roots.specs.Columns.{seen, Lists, Columns, Outside, cell, liveAt, oneBelow}
+use Rattle.roots.specs.View.{tabulate, listAt, blockAt, view}
+use Rattle.roots.specs.Columns.{seen, Columns, Outside, cell, liveAt, oneBelow}
 use Rattle.roots.proofs.Turns.{getD-tabulate, length-tabulate, inst-seen, list-next}
 
 -- ---- joining rows

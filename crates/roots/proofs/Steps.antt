@@ -1,18 +1,17 @@
 -- One block of a pass: the row after the blocks' has its live-out, and `rows::step_at` adds what is not killed to its live-in row. Assumes nothing.
 use mathlib.Core.Path.{_≡_, refl, sym, ap, ap₂, _∙_, subst}
-use mathlib.Core.Logic.{_⊎_, inl, inr, ⊎-elim}
+use mathlib.Core.Logic.{_⊎_, inl, ⊎-elim}
 use mathlib.Core.Bool.{Bool, true, false, not, _&&_, _||_}
-use mathlib.Core.List.{List, _++_, append-assoc}
-use Prim.Native.Nat.{ℕ, zero, suc, _+_, _-_, _*_, _/_, _%_, _≤_, _<_}
+use mathlib.Core.List.{List}
+use Prim.Native.Nat.{ℕ, _+_, _-_, _*_, _/_, _%_, _≤_, _<_}
 use native.Mathlib.Omega.{arith}
 use native.Mathlib.Decide.{decLt}
 use lib.ListN.{length, getD, take, drop, length-drop, length-take}
-use lib.Seq.{take-take, getD-take, getD-drop, ext-getD, length-take-le, drop-drop}
+use lib.Seq.{take-take, getD-take, getD-drop, ext-getD}
 use Rattle.word.specs.Bit.{bit}
 use Rattle.rows.specs.Row.{bitIn, part, Part, Stepped, listed}
 use Rattle.roots.proofs.Growth.{stepped-more}
 use Rattle.roots.specs.Columns.{Outside, cell, setBits}
-use Rattle.roots.proofs.Scratch.{or-false}
 
 -- bits of a part
 pub part-cell : (a W : ℕ) (s : List ℕ) (q : ℕ) → q < 64 * W → bitIn 64 (part a (a + W) s) q ≡ cell s a q

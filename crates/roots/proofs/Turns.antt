@@ -8,22 +8,22 @@ use native.Mathlib.Numerals.{add-one}
 use native.Mathlib.Nat.{zero-add}
 use lib.ListN.{length, getD}
 use lib.Seq.{slice, slice-cons, slice-empty}
-use lib.Dec.{eqb, ltb, leb}
+use lib.Dec.{eqb, ltb}
 use borrow.Author.Tests.{eqb-true, eq-eqb, ne-eqb, lt-ltb, le-ltb, ltb-true}
 use Rattle.rows.specs.Row.{bitIn}
-use Rattle.flow.specs.Function.{Function, Instruction, Block, has, inst, reads, writes}
-use Rattle.flow.specs.Dataflow.{turn, back, killed, asked, only, track}
-use Rattle.flow.proofs.Laws.{and-true, same-bool, back-open, back-none}
-use Rattle.flow.proofs.Lists.{has-sift}
+use Rattle.flow.specs.Function.{Function, Instruction, has, inst, reads, writes}
+use Rattle.flow.specs.Dataflow.{turn, back, killed, asked, only}
+use Rattle.word.proofs.Bools.{and-both, bool-ext}
+use Rattle.flow.proofs.Laws.{back-open, back-none}
 use Rattle.flow.proofs.Tracking.{inst-track, reads-track, writes-track}
-use Rattle.roots.specs.View.{tabulate, startOf, listAt, instAt, blockAt, view}
+use Rattle.roots.specs.View.{tabulate, startOf, listAt, instAt, view}
 use Rattle.roots.specs.Columns.{wanted, seen, Lists}
 use Rattle.roots.specs.declared.Tracked.{Tracked}
 use Rattle.roots.specs.declared.Tracked.the-variants.{References, Handles, All}
 
 -- a register that takes part is one that the function has
 pub asked-known : (t : ℕ → Bool) (cs : List ℕ) (r : ℕ) → asked t cs r ≡ true → r < length cs
-asked-known t cs r h = ltb-true r (length cs) (and-true (ltb r (length cs)) (t (getD cs r 0)) h .0)
+asked-known t cs r h = ltb-true r (length cs) (and-both (ltb r (length cs)) (t (getD cs r 0)) h .0)
 
 pub asked-past : (t : ℕ → Bool) (cs : List ℕ) (r : ℕ) → length cs ≤ r → false ≡ asked t cs r
 asked-past t cs r h = sym (ap (λ (u : Bool). u && t (getD cs r 0)) (le-ltb r (length cs) h))
@@ -55,7 +55,7 @@ clear-bool false true h b k = absurd (false≢true (k refl))
 clear-bool false false h b k = refl
 
 eqb-swap : (a b : ℕ) → eqb a b ≡ eqb b a
-eqb-swap a b = same-bool (eqb a b) (eqb b a) (λ h. eq-eqb b a (sym (eqb-true a b h))) (λ h. eq-eqb a b (sym (eqb-true b a h)))
+eqb-swap a b = bool-ext (eqb a b) (eqb b a) (λ h. eq-eqb b a (sym (eqb-true a b h))) (λ h. eq-eqb a b (sym (eqb-true b a h)))
 
 module _ (t : ℕ → Bool) (refs : List ℕ) (i to q : ℕ) (h : i < to) (l : to ≤ length refs) where
   same-test : {x : Bool} → t (getD refs i 0) ≡ x → eqb (getD refs i 0) q ≡ true → t q ≡ x

@@ -4,13 +4,13 @@ use mathlib.Core.Path.{_≡_}
 use mathlib.Core.Logic.{_⊎_}
 use mathlib.Core.Bool.{Bool, true, false, cond, not, _&&_, _||_}
 use mathlib.Core.List.{List, [], _∷_}
-use Prim.Native.Nat.{ℕ, zero, suc, _+_, _-_, _*_, _/_, _%_, _≤_, _<_}
+use Prim.Native.Nat.{ℕ, zero, _+_, _-_, _*_, _/_, _%_, _≤_, _<_}
 use lib.ListN.{length, getD, take}
 use lib.Dec.{ltb, eqb}
 use Rattle.word.specs.Bit.{bit}
-use Rattle.rows.specs.Row.{listed}
-use Rattle.flow.specs.Function.{Function, firstAt, start, end}
-use Rattle.flow.specs.Dataflow.{gen, kill, into, Sound, Closed, liveIn, track}
+use Rattle.rows.specs.Row.{bitIn, listed}
+use Rattle.flow.specs.Function.{Function, firstAt, end}
+use Rattle.flow.specs.Dataflow.{gen, kill, into, Sound, liveIn, track}
 use Rattle.roots.specs.View.{startOf, tabulate, blockAt, view}
 use Rattle.roots.specs.declared.Tracked.{Tracked}
 use Rattle.roots.specs.declared.Tracked.the-variants.{References, Handles, All}
@@ -69,6 +69,25 @@ pub record Linked (bs s : List ℕ) (W nb : ℕ) : Type 0 where
   pub next : (b : ℕ) → b < nb → getD bs (2 * b) 0 < getD bs (2 * b + 1) 0 → firstAt (tabulate 0 nb (blockAt bs)) (getD bs (2 * b + 1) 0) 0 ≡ oneBelow (getD s (b * (3 * W) + 2 * W) 0) nb
   pub blank : (q : ℕ) → q < 64 * W → cell s (nb * (3 * W) + W) q ≡ false
 
+-- c is the first of i, i + 1, .. with P, or n where none of them below n has it
+pub record First (P : ℕ → Type 0) (i n c : ℕ) : Type 0 where
+  pub low : i ≤ c
+  pub high : c ≤ n
+  pub none : (j : ℕ) → i ≤ j → j < c → P j → ⊥
+  pub here : c < n → P c
+
+-- block b is not empty, and starts in bucket k of 4,096
+abbrev pub Starting : List ℕ → ℕ → ℕ → Type 0
+Starting bs k b = (getD bs (2 * b) 0 < getD bs (2 * b + 1) 0) × (getD bs (2 * b) 0 % 4096 ≡ k)
+
+-- the blocks from b on, in a chain for each bucket: the head is the first of them, and the link of a block the next one after it
+pub record Chains (bs : List ℕ) (nb b : ℕ) (heads links : List ℕ) : Type 0 where
+  pub many : length heads ≡ 4096
+  pub room : length links ≡ 4096
+  pub few : nb ≤ 4096
+  pub head : (k : ℕ) → k < 4096 → First (Starting bs k) b nb (getD heads k 0)
+  pub link : (j : ℕ) → b ≤ j → j < nb → getD bs (2 * j) 0 < getD bs (2 * j + 1) 0 → First (Starting bs (getD bs (2 * j) 0 % 4096)) (j + 1) nb (getD links j 0)
+
 -- the rows of block b are begun, in words that were zero
 pub record Begun (t : ℕ → Bool) (ends refs bs cs s s′ : List ℕ) (nb W b : ℕ) : Type 0 where
   pub frame : Outside s s′ (b * (3 * W)) (3 * W)
@@ -116,6 +135,14 @@ pub record Found (bs : List ℕ) (nb pc r : ℕ) : Type 0 where
 -- block b holds instruction p
 abbrev pub In : List ℕ → ℕ → ℕ → Type 0
 In bs b p = (getD bs (2 * b) 0 ≤ p) × (p < getD bs (2 * b + 1) 0)
+
+-- the bits from..to of m are set in m′ and no others are new, where r is true: none of them was set. Where r is false, one was.
+pub record Marked (m m′ : List ℕ) (from to : ℕ) (r : Bool) : Type 0 where
+  pub kept : r ≡ true → (p : ℕ) → bitIn 64 m p ≡ true → bitIn 64 m′ p ≡ true
+  pub put : r ≡ true → (p : ℕ) → from ≤ p → p < to → bitIn 64 m′ p ≡ true
+  pub only : r ≡ true → (p : ℕ) → bitIn 64 m′ p ≡ true → ((from ≤ p) × (p < to)) ⊎ (bitIn 64 m p ≡ true)
+  pub fresh : r ≡ true → (p : ℕ) → from ≤ p → p < to → bitIn 64 m p ≡ true → ⊥
+  pub met : r ≡ false → (p : ℕ) × (from ≤ p) × (p < to) × (bitIn 64 m p ≡ true)
 
 -- no two blocks share an instruction
 pub record Separate (bs : List ℕ) : Type 0 where

@@ -4,10 +4,10 @@ use crate::row::wide;
 ghost use mathlib.Core.Path.{_≡_};
 ghost use mathlib.Core.Bool.{Bool, true, false};
 ghost use mathlib.Core.Logic.{_↔_};
-ghost use Prim.Native.Nat.{ℕ, _+_, _*_, _/_, _≤_, _<_, max};
+ghost use Prim.Native.Nat.{_*_, _/_, _≤_, _<_};
 ghost use lib.ListN.{length};
 ghost use Rattle.roots.specs.View.{formed};
-ghost use Rattle.roots.specs.Columns.{Lists, In, Separate, AtMost, Inside};
+ghost use Rattle.roots.specs.Columns.{Lists, Separate, AtMost, Inside, Marked};
 
 // Whether every byte is at most limit.
 fn all_at_most(bytes: &[u8], limit: u8) -> bool
@@ -61,54 +61,41 @@ fn blocks_inside(blocks: &[u32], nb: usize, count: usize) -> bool
     true
 }
 
-// The larger of two numbers.
-fn larger(x: usize, y: usize) -> usize
-    ensures { λ r. ⌜ r ≡ max x y ⌝ }
+// Marks the instructions from..to, one bit each. Whether none of them was marked before; where one was, the marking ends.
+fn mark_block(marks: &mut [u64], from: usize, to: usize) -> bool
+    requires { ⌜ (from < to → to ≤ 64 * length (now marks)) ⌝ }
+    ensures { λ r. ⌜ Marked (now (marks .entry)) (now (marks .exit)) from to r ⌝ }
 {
-    if x < y {
-        return y;
+    let mut p = from;
+    while p < to {
+        if rows::test_bit(marks, p) {
+            return false;
+        }
+        rows::set_bit(marks, p);
+        p += 1;
     }
-    x
+    true
 }
 
-// Whether block a shares no instruction with a block before it.
-fn apart_from(blocks: &[u32], nb: usize, a: usize) -> bool
-    requires { ⌜ (nb ≡ length (now blocks) / 2) × (a < nb) ⌝ }
-    ensures { λ r. ⌜ ((r ≡ true) ↔ ((b p : ℕ) → b < a → In (now (blocks .entry)) a p → In (now (blocks .entry)) b p → ⊥)) ⌝ }
+// Whether no two blocks share an instruction: each instruction is marked at most once.
+fn blocks_apart(blocks: &[u32], nb: usize) -> bool
+    requires { ⌜ (nb ≡ length (now blocks) / 2) × Inside (now blocks) 65536 ⌝ }
+    ensures { λ r. ⌜ ((r ≡ true) ↔ Separate (now (blocks .entry))) ⌝ }
 {
-    let sa = wide(blocks[2 * a]);
-    let ea = wide(blocks[2 * a + 1]);
+    let mut marks = [0u64; 1024];
     let mut b = 0;
-    while b < a {
-        let sb = wide(blocks[2 * b]);
-        let eb = wide(blocks[2 * b + 1]);
-        let low = larger(sa, sb);
-        if low < ea {
-            if low < eb {
-                return false;
-            }
+    while b < nb {
+        let st = wide(blocks[2 * b]);
+        let e = wide(blocks[2 * b + 1]);
+        if !mark_block(&mut marks, st, e) {
+            return false;
         }
         b += 1;
     }
     true
 }
 
-// Whether no two blocks share an instruction.
-fn blocks_apart(blocks: &[u32], nb: usize) -> bool
-    requires { ⌜ nb ≡ length (now blocks) / 2 ⌝ }
-    ensures { λ r. ⌜ ((r ≡ true) ↔ Separate (now (blocks .entry))) ⌝ }
-{
-    let mut a = 0;
-    while a < nb {
-        if !apart_from(blocks, nb, a) {
-            return false;
-        }
-        a += 1;
-    }
-    true
-}
-
-// Whether the lent columns are a function. Blocks are compared in pairs.
+// Whether the lent columns are a function.
 pub fn check_function(
     kinds: &[u8],
     ends: &[u32],

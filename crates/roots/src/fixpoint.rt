@@ -1,16 +1,18 @@
 // The rows of all blocks in one scratch: gen and kill, the live-out of a block, and the passes to the least fixpoint.
 use crate::Tracked;
 use crate::row::wide;
+use crate::starts::chain;
+use crate::starts::first_at;
 ghost use mathlib.Core.Path.{_≡_};
-ghost use mathlib.Core.Bool.{Bool, true, false, not, _&&_, _||_};
+ghost use mathlib.Core.Bool.{Bool, true, false, _||_};
 ghost use mathlib.Core.List.{List};
 ghost use Prim.Native.Nat.{ℕ, _+_, _-_, _*_, _/_, _≤_, _<_};
 ghost use lib.ListN.{length, getD};
 ghost use lib.Seq.{slice};
-ghost use Rattle.flow.specs.Function.{existing, firstAt};
+ghost use Rattle.flow.specs.Function.{existing};
 ghost use Rattle.flow.specs.Dataflow.{back, killed, anyOf, out};
-ghost use Rattle.roots.specs.View.{tabulate, blockAt, formed};
-ghost use Rattle.roots.specs.Columns.{wanted, seen, Lists, Columns, Outside, cell, liveAt, oneBelow, Linked, Begun, Built, Pass, Solved, Fixed};
+ghost use Rattle.roots.specs.View.{formed};
+ghost use Rattle.roots.specs.Columns.{wanted, seen, Lists, Columns, Outside, cell, liveAt, Linked, Chains, Begun, Built, Pass, Solved, Fixed};
 
 // A number of 64 bits as an index.
 fn index(x: u64) -> usize
@@ -100,25 +102,6 @@ fn join_targets(s: &mut [u64], refs: &[u32], from: usize, to: usize, nb: usize, 
         }
         i += 1;
     }
-}
-
-// The first nonempty block that starts at pc, or nb.
-fn first_at(blocks: &[u32], nb: usize, pc: usize) -> usize
-    requires { ⌜ nb * 2 ≤ length (now blocks) ⌝ }
-    ensures { λ r. ⌜ firstAt (tabulate 0 nb (blockAt (now (blocks .entry)))) pc 0 ≡ oneBelow r nb ⌝ }
-{
-    let mut i = 0;
-    while i < nb {
-        let st = wide(blocks[2 * i]);
-        let e = wide(blocks[2 * i + 1]);
-        if st == pc {
-            if st < e {
-                return i;
-            }
-        }
-        i += 1;
-    }
-    nb
 }
 
 // The row after the blocks' gets the live-out of block b.
@@ -250,8 +233,10 @@ fn start_block(
     nb: usize,
     words: usize,
     b: usize,
+    heads: &[u16],
+    links: &[u16],
 )
-    requires { ⌜ (nb ≡ length (now blocks) / 2) × (b < nb) × (nb * (3 * words) + 2 * words ≤ length (now s)) × (length (now classes) ≤ 64 * words) × (0 < words) × Lists (now ends) (now refs) ⌝ }
+    requires { ⌜ (nb ≡ length (now blocks) / 2) × (b < nb) × (nb * (3 * words) + 2 * words ≤ length (now s)) × (length (now classes) ≤ 64 * words) × (0 < words) × Lists (now ends) (now refs) × Chains (now blocks) nb 0 (now heads) (now links) ⌝ }
     requires { ⌜ (getD (now blocks) (2 * b) 0 < getD (now blocks) (2 * b + 1) 0 → 3 * getD (now blocks) (2 * b + 1) 0 ≤ length (now ends)) ⌝ }
     requires { ⌜ ((i : ℕ) → b * (3 * words) ≤ i → getD (now s) i 0 ≡ 0) ⌝ }
     ensures { λ _. ⌜ Begun (wanted which) (now (ends .entry)) (now (refs .entry)) (now (blocks .entry)) (now (classes .entry)) (now (s .entry)) (now (s .exit)) nb words b ⌝ }
@@ -264,8 +249,45 @@ fn start_block(
     let at = b * (3 * words);
     back_at(s, at, words, ends, refs, classes, which, st, e);
     kill_at(s, at + words, words, ends, refs, classes, which, st, e);
-    let t = first_at(blocks, nb, e);
+    let t = first_at(blocks, nb, heads, links, e);
     s[at + 2 * words] = t as u64;
+}
+
+// The rows of every block, in a scratch of zeros, from the chains of the blocks.
+fn start_blocks(
+    s: &mut [u64],
+    ends: &[u32],
+    refs: &[u32],
+    blocks: &[u32],
+    classes: &[u8],
+    which: Tracked,
+    nb: usize,
+    words: usize,
+    heads: &[u16],
+    links: &[u16],
+)
+    requires { ⌜ (nb ≡ length (now blocks) / 2) × (nb * (3 * words) + 2 * words ≤ length (now s)) × (length (now classes) ≤ 64 * words) × (0 < words) × Lists (now ends) (now refs) × Chains (now blocks) nb 0 (now heads) (now links) ⌝ }
+    requires { ⌜ ((b : ℕ) → b < nb → getD (now blocks) (2 * b) 0 < getD (now blocks) (2 * b + 1) 0 → 3 * getD (now blocks) (2 * b + 1) 0 ≤ length (now ends)) ⌝ }
+    requires { ⌜ ((i : ℕ) → getD (now s) i 0 ≡ 0) ⌝ }
+    ensures { λ _. ⌜ Built (wanted which) (now (ends .entry)) (now (refs .entry)) (now (blocks .entry)) (now (classes .entry)) (now (s .entry)) (now (s .exit)) nb words ⌝ }
+{
+    let mut b = 0;
+    while b < nb {
+        start_block(
+            s,
+            ends,
+            refs,
+            blocks,
+            classes,
+            which,
+            nb,
+            words,
+            b,
+            heads,
+            links,
+        );
+        b += 1;
+    }
 }
 
 // The rows of every block, in a scratch of zeros.
@@ -279,16 +301,27 @@ fn build(
     nb: usize,
     words: usize,
 )
-    requires { ⌜ (nb ≡ length (now blocks) / 2) × (nb * (3 * words) + 2 * words ≤ length (now s)) × (length (now classes) ≤ 64 * words) × (0 < words) × Lists (now ends) (now refs) ⌝ }
+    requires { ⌜ (nb ≡ length (now blocks) / 2) × (nb * (3 * words) + 2 * words ≤ length (now s)) × (length (now classes) ≤ 64 * words) × (0 < words) × Lists (now ends) (now refs) × (nb ≤ 4096) ⌝ }
     requires { ⌜ ((b : ℕ) → b < nb → getD (now blocks) (2 * b) 0 < getD (now blocks) (2 * b + 1) 0 → 3 * getD (now blocks) (2 * b + 1) 0 ≤ length (now ends)) ⌝ }
     requires { ⌜ ((i : ℕ) → getD (now s) i 0 ≡ 0) ⌝ }
     ensures { λ _. ⌜ Built (wanted which) (now (ends .entry)) (now (refs .entry)) (now (blocks .entry)) (now (classes .entry)) (now (s .entry)) (now (s .exit)) nb words ⌝ }
 {
-    let mut b = 0;
-    while b < nb {
-        start_block(s, ends, refs, blocks, classes, which, nb, words, b);
-        b += 1;
-    }
+    let none = nb as u16;
+    let mut heads = [none; 4096];
+    let mut links = [none; 4096];
+    chain(blocks, nb, &mut heads, &mut links);
+    start_blocks(
+        s,
+        ends,
+        refs,
+        blocks,
+        classes,
+        which,
+        nb,
+        words,
+        &heads,
+        &links,
+    );
 }
 
 // The live-in row of every block.

@@ -3,6 +3,7 @@ pub mod at;
 pub mod check;
 pub mod fixpoint;
 pub mod row;
+pub mod starts;
 
 // Which registers are asked for, by their class.
 pub enum Tracked {

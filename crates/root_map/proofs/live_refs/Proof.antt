@@ -9,7 +9,7 @@ use Rattle.roots.specs.Calls.{Lent}
 use Rattle.roots.specs.Columns.{wanted}
 use Rattle.roots.proofs.Checks.{refuted, above, formed-fit}
 use Rattle.roots.proofs.Answers.{need-is}
-use Rattle.root_map.proofs.Maps.{fixed-out}
+use Rattle.root_map.proofs.Pointing.{fixed-out}
 use Rattle.root_map.proofs.Answers.{refs-scratch, refs-function, room-for, refs-short, refs-map}
 use Rattle.root_map.proofs.live_refs.Statement.{statement}
 use Rattle.root_map.proofs.live_refs.Tie as tie

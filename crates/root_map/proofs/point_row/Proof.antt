@@ -1,102 +1,57 @@
 -- `root_map::point_row` meets its contract. Assumes nothing.
 use native.Mathlib.Omega.{arith}
 use borrow.Author.Needs.{needs}
-use mathlib.Core.Path.{sym, _∙_, subst}
-use mathlib.Core.Bool.{false≢true}
-use Prim.Native.Nat.{ℕ, _*_, _/_, _≤_, _<_}
-use lib.ListN.{length}
-use Rattle.roots.specs.Columns.{wanted, seen, Found}
-use Rattle.roots.proofs.Scratch.{end-view, outside-refl, outside-trans}
-use Rattle.roots.proofs.Forms.{formed-columns, ends-inside}
-use Rattle.roots.proofs.Answers.{live-row-cells, row-listed, found-held, found-holder, seen-holder, is-safepoint, not-safepoint, not-held}
+use Rattle.roots.specs.Columns.{wanted}
+use Rattle.roots.proofs.Forms.{formed-columns}
+use Rattle.root_map.proofs.Pointing.{pointed-other, pointed-on, pointed-in}
 use Rattle.root_map.proofs.point_row.Statement.{statement}
 use Rattle.root_map.proofs.point_row.Tie as tie
 
 shared-slice-read-if1 : tie.Need-shared-slice-read-if1
-shared-slice-read-if1 c = c .before .before .before .before .before .before .before .pre .1 .0 .3
+shared-slice-read-if1 c = search needs
 
 returns : tie.Need-returns
-returns c =
-    let o = c .before .before .before .before .before .before .before .before in
-    record { frame = outside-refl _ _ _; is = sym (not-safepoint _ _ _ _ _ (o .pre .0) _ (o .pre .1 .0 .3) (c .if1 .taken)); row = λ e. absurd (false≢true e) }
-
-find-block-requires : tie.Need-find-block-requires
-find-block-requires c κs = c .before .before .before .before .before .before .before .before .pre .1 .0 .0
-
-returns-2 : tie.Need-returns-2
-returns-2 c =
-    let o = c .before .before .before .before .before .before .before .before .before .before in
-    let found = c .before .find-block in
-    record {
-      frame = outside-refl _ _ _;
-      is = sym (not-held _ _ _ _ _ (o .pre .0) _ (subst (λ (n : ℕ). Found (o .args .blocks .now) n (o .args .pc) (found .result)) (o .pre .1 .0 .0) (found .ensures)) (omega (arith, o .pre .1 .0 .0, c .if2 .taken)));
-      row = λ e. absurd (false≢true e);
-    }
-
-gather-requires : tie.Need-gather-requires
-gather-requires c κs =
-    let o = c .before .before .before .before .before .before .before .before .before .before .before in
-    (formed-columns _ _ _ _ _ (o .pre .0), (o .pre .1 .0 .0, c .before .if2 .left, o .pre .1 .0 .1, λ h. o .pre .1 .1 .linked h))
+returns c = pointed-other (wanted (c .before .before .before .before .before .before .before .before .args .which)) _ _ _ _ _ _ _ (c .before .before .before .before .before .before .before .before .pre .0) (c .before .before .before .before .before .before .before .before .pre .1 .0 .0) _ (c .before .before .before .before .before .before .before .before .pre .1 .0 .3) _ (c .if1 .taken)
 
 mul-wide : tie.Need-mul-wide
-mul-wide c = omega arith
-
-add-wide : tie.Need-add-wide
-add-wide c = omega arith
+mul-wide c = search needs
 
 mul-wide-2 : tie.Need-mul-wide-2
-mul-wide-2 c = omega arith
+mul-wide-2 c = search needs
 
 shared-slice-read-wide : tie.Need-shared-slice-read-wide
-shared-slice-read-wide c = omega arith
+shared-slice-read-wide c = search needs
 
 wide-requires : tie.Need-wide-requires
 wide-requires c κs = search needs
 
 mul-back-at : tie.Need-mul-back-at
-mul-back-at c = omega (arith, c .before .before .before .before .before .before .before .before .before .before .before .before .before .before .before .before .before .pre .1 .0 .1)
+mul-back-at c = search needs
 
 mul-back-at-2 : tie.Need-mul-back-at-2
-mul-back-at-2 c = omega (arith, c .before .before .before .before .before .before .before .before .before .before .before .before .before .before .before .before .before .pre .1 .0 .1)
+mul-back-at-2 c = search needs
 
 back-at-requires : tie.Need-back-at-requires
 back-at-requires c κs =
-    let o = c .before .before .before .before .before .before .before .before .before .before .before .before .before .before .before .before .before in
-    let e = c .before .wide .ensures in
-    let b = c .before .before .before .before .before .before .before .if2 .left in
-    let here = c .before .before .before .before .before .before .before .before .find-block .ensures .here b in
-    let inside = ends-inside _ _ _ _ _ (o .pre .0) (o .args .nb) (o .pre .1 .0 .0) (c .before .before .before .before .before .before .before .before .find-block .result) b (omega (arith, here .0, here .1)) in (
-      omega (arith, o .pre .1 .0 .1, c .before .before .before .before .before .gather .ensures .0 .kept),
-      (
-        omega (arith, here .1, e),
-        subst (λ (u : ℕ). 3 * u ≤ length (o .args .ends .now)) (sym e) inside,
-        o .pre .1 .0 .2,
-        formed-columns _ _ _ _ _ (o .pre .0) .lists,
-      ),
-    )
+    let i = c .before .before .before .before .before .before .before .before .before .before .before .before .before .pre .1 .1 .1 .0 .here (c .before .before .before .before .if2 .taken) in
+    let v = formed-columns _ _ _ _ _ (c .before .before .before .before .before .before .before .before .before .before .before .before .before .pre .0) in
+    let l = v .inside (c .before .before .before .before .before .before .before .before .before .before .before .before .before .args .b) (omega (arith, c .before .before .before .before .before .before .before .before .before .before .before .before .before .pre .1 .0 .0, c .before .before .before .before .if2 .taken)) (omega (arith, i .0, i .1)) in
+    (omega (arith, c .before .before .before .before .before .before .before .before .before .before .before .before .before .pre .1 .0 .1), (omega (arith, c .before .before .before .before .before .before .before .before .before .before .before .before .before .pre .1 .1 .1 .1 (c .before .before .before .before .if2 .taken)), omega (arith, v .three, i .1, l), c .before .before .before .before .before .before .before .before .before .before .before .before .before .pre .1 .0 .2, v .lists))
 
 same-length : tie.Need-same-length
 same-length c = search needs
 
+returns-2 : tie.Need-returns-2
+returns-2 c = pointed-on (wanted (c .before .before .before .before .before .before .before .before .before .before .before .before .before .before .before .before .args .which)) _ _ _ _ _ _ _ (c .before .before .before .before .before .before .before .before .before .before .before .before .before .before .before .before .pre .0) (c .before .before .before .before .before .before .before .before .before .before .before .before .before .before .before .before .pre .1 .0 .0) _ (c .before .before .before .before .before .before .before .before .before .before .before .before .before .before .before .before .pre .1 .0 .3) _ _ _ _ _ (c .before .before .before .before .before .before .before .before .if1 .left) (c .before .before .before .before .before .before .before .before .before .before .before .before .before .before .before .before .pre .1 .0 .1) (c .before .before .before .before .before .before .before .before .before .before .before .before .before .before .before .before .pre .1 .1 .1 .0) (c .before .before .before .before .before .before .before .if2 .taken) (c .before .before .before .before .before .before .before .before .before .before .before .before .before .before .before .before .pre .1 .1 .1 .1 (c .before .before .before .before .before .before .before .if2 .taken)) (c .before .before .before .before .before .wide .ensures) (c .before .before .before .before .if3 .taken) (c .before .before .back-at .ensures .0) (c .before .before .back-at .ensures .1 (c .before .before .before .before .before .before .before .before .before .before .before .before .before .before .before .before .args .kinds .now) (c .before .before .before .before .before .before .before .before .before .before .before .before .before .before .before .before .args .blocks .now))
+
+block-row-requires : tie.Need-block-row-requires
+block-row-requires c κs = (c .before .before .before .before .before .before .before .before .before .before .pre .0, ((c .before .before .before .before .before .before .before .before .before .before .pre .1 .0 .0, c .before .before .before .before .before .before .before .before .before .before .pre .1 .0 .1, c .before .before .before .before .before .before .before .before .before .before .pre .1 .0 .2), c .before .before .before .before .before .before .before .before .before .before .pre .1 .1 .0))
+
+same-length-2 : tie.Need-same-length-2
+same-length-2 c = search needs
+
 returns-3 : tie.Need-returns-3
-returns-3 c =
-    let o = c .before .before .before .before .before .before .before .before .before .before .before .before .before .before .before .before .before .before .before .before in
-    let a = o .args in
-    let t = wanted (a .which) in
-    let f = seen t (a .kinds .now) (a .ends .now) (a .refs .now) (a .blocks .now) (a .classes .now) in
-    let found = c .before .before .before .before .before .before .before .before .before .before .before .find-block in
-    let gathered = c .before .before .before .before .before .before .before .before .gather .ensures in
-    let walked = c .before .before .back-at .ensures in
-    let b : found .result < length (a .blocks .now) / 2 = omega (arith, c .before .before .before .before .before .before .before .before .before .before .if2 .left, o .pre .1 .0 .0) in
-    let here = found .ensures .here (c .before .before .before .before .before .before .before .before .before .before .if2 .left) in
-    record {
-      frame = outside-trans (gathered .0) (walked .0);
-      is = sym (is-safepoint _ _ _ _ _ (o .pre .0) _ (found-held _ _ _ _ _ (o .pre .0) _ _ b (here .0) (here .1)) (o .pre .1 .0 .3) (c .before .before .before .before .before .before .before .before .before .before .before .before .if1 .left));
-      row = λ e. row-listed f _ (a .nb * (3 * a .words)) (a .words) (found .result) (a .pc) (omega (arith, o .pre .1 .0 .1, gathered .0 .kept, walked .0 .kept))
-          (live-row-cells f (a .blocks .now) _ _ _ (a .words) (a .nb) (found .result) (a .pc) (c .before .before .before .before .wide .result) (o .pre .1 .1) (c .before .before .before .before .wide .ensures ∙ sym (end-view t _ _ _ _ _ _ b))
-          (gathered .1 t (a .classes .now)) (walked .1 (a .kinds .now) (a .blocks .now)))
-          (seen-holder t _ _ _ _ _ (a .pc) _ (found-holder _ _ _ _ _ (o .pre .0) _ _ b (here .0) (here .1)));
-    }
+returns-3 c = pointed-in (wanted (c .before .before .before .before .before .before .before .before .before .before .before .before .before .args .which)) _ _ _ _ _ _ _ (c .before .before .before .before .before .before .before .before .before .before .before .before .before .pre .0) (c .before .before .before .before .before .before .before .before .before .before .before .before .before .pre .1 .0 .0) _ (c .before .before .before .before .before .before .before .before .before .before .before .before .before .pre .1 .0 .3) _ _ _ (c .before .before .before .before .before .if1 .left) (c .before .before .before .before .before .before .before .before .before .before .before .before .before .pre .1 .0 .1) (c .before .before .block-row .ensures)
 
 pub point-row-spec : {M : Type 1} → statement M
 point-row-spec =
@@ -104,11 +59,7 @@ point-row-spec =
     (tie.spec
     shared-slice-read-if1
     returns
-    find-block-requires
-    returns-2
-    gather-requires
     mul-wide
-    add-wide
     mul-wide-2
     shared-slice-read-wide
     wide-requires
@@ -116,4 +67,7 @@ point-row-spec =
     mul-back-at-2
     back-at-requires
     same-length
+    returns-2
+    block-row-requires
+    same-length-2
     returns-3)

@@ -1,6 +1,7 @@
 -- `roots::check::check_function` meets its contract. Assumes nothing.
 use native.Mathlib.Omega.{arith}
 use borrow.Author.Needs.{needs}
+use mathlib.Core.Path.{refl}
 use borrow.Author.Tests.{not-true, not-false}
 use Rattle.roots.proofs.Checks.{holds, fails, refuted, is-formed}
 use Rattle.roots.proofs.check.check_function.Statement.{statement}
@@ -49,7 +50,7 @@ returns-9 : tie.Need-returns-9
 returns-9 c = is-formed (c .before .before .before .before .before .before .before .before .before .before .before .before .before .before .before .before .before .before .args .kinds .now) (c .before .before .before .before .before .before .before .before .before .before .before .before .before .before .before .before .before .before .args .ends .now) (c .before .before .before .before .before .before .before .before .before .before .before .before .before .before .before .before .before .before .args .refs .now) (c .before .before .before .before .before .before .before .before .before .before .before .before .before .before .before .before .before .before .args .blocks .now) (c .before .before .before .before .before .before .before .before .before .before .before .before .before .before .before .before .before .before .args .classes .now) _ (fails (λ v. refuted _ (c .before .blocks-inside .ensures) (not-true _ (c .if9 .taken)) (v .inside)))
 
 blocks-apart-requires : tie.Need-blocks-apart-requires
-blocks-apart-requires c κs = search needs
+blocks-apart-requires c κs = (refl, λ b k l. omega (arith, c .before .blocks-inside .ensures .0 (not-false _ (c .if9 .left)) b k l, c .before .before .before .before .before .before .before .before .before .before .before .before .if1 .left))
 
 returns-10 : tie.Need-returns-10
 returns-10 c = is-formed (c .before .before .before .before .before .before .before .before .before .before .before .before .before .before .before .before .before .before .before .before .args .kinds .now) (c .before .before .before .before .before .before .before .before .before .before .before .before .before .before .before .before .before .before .before .before .args .ends .now) (c .before .before .before .before .before .before .before .before .before .before .before .before .before .before .before .before .before .before .before .before .args .refs .now) (c .before .before .before .before .before .before .before .before .before .before .before .before .before .before .before .before .before .before .before .before .args .blocks .now) (c .before .before .before .before .before .before .before .before .before .before .before .before .before .before .before .before .before .before .before .before .args .classes .now) _ (fails (λ v. refuted _ (c .before .blocks-apart .ensures) (not-true _ (c .if10 .taken)) (v .apart)))

@@ -6,6 +6,7 @@ use lib.ListN.{length}
 use Rattle.roots.specs.Columns.{wanted}
 use Rattle.roots.proofs.Passes.{zeros-at, solved-fixed}
 use Rattle.roots.proofs.Forms.{formed-columns, ends-inside, seen-disjoint, seen-count}
+use Rattle.roots.proofs.Checks.{formed-fit}
 use Rattle.roots.proofs.fixpoint.analyse.Statement.{statement}
 use Rattle.roots.proofs.fixpoint.analyse.Tie as tie
 
@@ -19,7 +20,7 @@ returns : tie.Need-returns
 returns c = (c .before .before .before .clear-u64 .kept .0, record { linked = λ h. absurd (omega (arith, c .if1 .taken)); lives = λ b q h. absurd (omega (arith, c .if1 .taken)) })
 
 build-requires : tie.Need-build-requires
-build-requires c κs = ((c .before .before .before .before .before .before .before .before .before .before .before .before .pre .1 .0, omega (arith, c .before .before .before .before .before .before .before .before .before .before .before .before .pre .1 .1, c .before .before .before .before .clear-u64 .kept .0), c .before .before .before .before .before .before .before .before .before .before .before .before .pre .1 .2, omega (arith, c .before .if1 .left), formed-columns (c .before .before .before .before .before .before .before .before .before .before .before .before .args .kinds .now) (c .before .before .before .before .before .before .before .before .before .before .before .before .args .ends .now) (c .before .before .before .before .before .before .before .before .before .before .before .before .args .refs .now) (c .before .before .before .before .before .before .before .before .before .before .before .before .args .blocks .now) (c .before .before .before .before .before .before .before .before .before .before .before .before .args .classes .now) (c .before .before .before .before .before .before .before .before .before .before .before .before .pre .0) .lists), (ends-inside (c .before .before .before .before .before .before .before .before .before .before .before .before .args .kinds .now) (c .before .before .before .before .before .before .before .before .before .before .before .before .args .ends .now) (c .before .before .before .before .before .before .before .before .before .before .before .before .args .refs .now) (c .before .before .before .before .before .before .before .before .before .before .before .before .args .blocks .now) (c .before .before .before .before .before .before .before .before .before .before .before .before .args .classes .now) (c .before .before .before .before .before .before .before .before .before .before .before .before .pre .0) (c .before .before .before .before .before .before .before .before .before .before .before .before .args .nb) (c .before .before .before .before .before .before .before .before .before .before .before .before .pre .1 .0), zeros-at (c .before .before .before .before .clear-u64 .last .0) (length (c .before .before .before .before .before .before .before .before .before .before .before .before .args .s .now)) (c .before .before .before .before .clear-u64 .ensures)))
+build-requires c κs = ((c .before .before .before .before .before .before .before .before .before .before .before .before .pre .1 .0, omega (arith, c .before .before .before .before .before .before .before .before .before .before .before .before .pre .1 .1, c .before .before .before .before .clear-u64 .kept .0), c .before .before .before .before .before .before .before .before .before .before .before .before .pre .1 .2, omega (arith, c .before .if1 .left), formed-columns (c .before .before .before .before .before .before .before .before .before .before .before .before .args .kinds .now) (c .before .before .before .before .before .before .before .before .before .before .before .before .args .ends .now) (c .before .before .before .before .before .before .before .before .before .before .before .before .args .refs .now) (c .before .before .before .before .before .before .before .before .before .before .before .before .args .blocks .now) (c .before .before .before .before .before .before .before .before .before .before .before .before .args .classes .now) (c .before .before .before .before .before .before .before .before .before .before .before .before .pre .0) .lists, omega (arith, formed-fit _ _ _ _ _ (c .before .before .before .before .before .before .before .before .before .before .before .before .pre .0) .block-count, c .before .before .before .before .before .before .before .before .before .before .before .before .pre .1 .0)), (ends-inside (c .before .before .before .before .before .before .before .before .before .before .before .before .args .kinds .now) (c .before .before .before .before .before .before .before .before .before .before .before .before .args .ends .now) (c .before .before .before .before .before .before .before .before .before .before .before .before .args .refs .now) (c .before .before .before .before .before .before .before .before .before .before .before .before .args .blocks .now) (c .before .before .before .before .before .before .before .before .before .before .before .before .args .classes .now) (c .before .before .before .before .before .before .before .before .before .before .before .before .pre .0) (c .before .before .before .before .before .before .before .before .before .before .before .before .args .nb) (c .before .before .before .before .before .before .before .before .before .before .before .before .pre .1 .0), zeros-at (c .before .before .before .before .clear-u64 .last .0) (length (c .before .before .before .before .before .before .before .before .before .before .before .before .args .s .now)) (c .before .before .before .before .clear-u64 .ensures)))
 
 solve-requires : tie.Need-solve-requires
 solve-requires c κs = (formed-columns (c .before .before .before .before .before .before .before .before .before .before .before .before .before .before .before .before .args .kinds .now) (c .before .before .before .before .before .before .before .before .before .before .before .before .before .before .before .before .args .ends .now) (c .before .before .before .before .before .before .before .before .before .before .before .before .before .before .before .before .args .refs .now) (c .before .before .before .before .before .before .before .before .before .before .before .before .before .before .before .before .args .blocks .now) (c .before .before .before .before .before .before .before .before .before .before .before .before .before .before .before .before .args .classes .now) (c .before .before .before .before .before .before .before .before .before .before .before .before .before .before .before .before .pre .0), (c .before .before .before .before .before .before .before .before .before .before .before .before .before .before .before .before .pre .1 .0, omega (arith, c .before .before .before .before .before .before .before .before .before .before .before .before .before .before .before .before .pre .1 .1, c .before .before .before .build .ensures .kept, c .before .before .before .before .before .before .before .before .clear-u64 .kept .0), c .before .before .before .build .ensures .linked))

@@ -1,48 +1,47 @@
 -- `roots::fixpoint::build` meets its contract. Assumes nothing.
-use native.Mathlib.Omega.{arith}
-use Prim.Native.Nat.{_-_}
-use Rattle.roots.specs.Columns.{wanted}
-use Rattle.roots.proofs.Builds.{Builds, builds-none, builds-on, builds-end}
+use borrow.Author.Needs.{needs}
+use mathlib.Core.Path.{refl}
+use Rattle.roots.proofs.Chaining.{chains-none}
 use Rattle.roots.proofs.fixpoint.build.Statement.{statement}
 use Rattle.roots.proofs.fixpoint.build.Tie as tie
 
-abbrev Inv-loop : tie.InvT-loop
-Inv-loop s₀ ends refs blocks classes which nb words b₀ s b = Builds (wanted which) ends refs blocks classes s₀ s nb words b
+cast-none : tie.Need-cast-none
+cast-none c = search needs
 
-abbrev μ-loop : tie.MeasureT-loop
-μ-loop s₀ ends refs blocks classes which nb words b₀ s b = nb - b
+slice-aggregate-chain : tie.Need-slice-aggregate-chain
+slice-aggregate-chain c = search needs
 
-loop-holds : tie.Need-loop-holds Inv-loop μ-loop
-loop-holds c = builds-none _ _ _ _ _ _ _ _ (c .before .before .before .before .before .pre .1 .1)
+slice-aggregate-chain-2 : tie.Need-slice-aggregate-chain-2
+slice-aggregate-chain-2 c = search needs
 
-start-block-requires : tie.Need-start-block-requires Inv-loop μ-loop
-start-block-requires c κs = ((c .before .before .before .before .before .before .before .before .pre .0 .0, c .before .loop-test .taken, omega (arith, c .before .before .loop .inv .kept, c .before .before .before .before .before .before .before .before .pre .0 .1), c .before .before .before .before .before .before .before .before .pre .0 .2, c .before .before .before .before .before .before .before .before .pre .0 .3, c .before .before .before .before .before .before .before .before .pre .0 .4), (c .before .before .before .before .before .before .before .before .pre .1 .0 (c .before .before .loop .b) (c .before .loop-test .taken), c .before .before .loop .inv .rest))
+chain-requires : tie.Need-chain-requires
+chain-requires c κs = (c .before .before .before .before .before .before .before .pre .0 .0, c .before .before .before .before .before .before .before .pre .0 .5, chains-none _ _ 4096 _ _ refl refl refl (c .before .before .before .before .before .before .before .pre .0 .5))
 
-add-b : tie.Need-add-b Inv-loop μ-loop
-add-b c = omega arith
+slice-aggregate-start-blocks : tie.Need-slice-aggregate-start-blocks
+slice-aggregate-start-blocks c = search needs
 
-loop-less : tie.Need-loop-less Inv-loop μ-loop
-loop-less c = omega arith
+slice-aggregate-start-blocks-2 : tie.Need-slice-aggregate-start-blocks-2
+slice-aggregate-start-blocks-2 c = search needs
 
-loop-again : tie.Need-loop-again Inv-loop μ-loop
-loop-again c = builds-on (c .before .before .before .before .before .loop .inv) (c .before .before .before .before .loop-test .taken) (c .before .before .before .before .before .before .before .before .before .before .before .pre .0 .3) _ (c .before .before .start-block .ensures)
+start-blocks-requires : tie.Need-start-blocks-requires
+start-blocks-requires c κs = ((c .before .before .before .before .before .before .before .before .before .before .before .before .before .pre .0 .0, c .before .before .before .before .before .before .before .before .before .before .before .before .before .pre .0 .1, c .before .before .before .before .before .before .before .before .before .before .before .before .before .pre .0 .2, c .before .before .before .before .before .before .before .before .before .before .before .before .before .pre .0 .3, c .before .before .before .before .before .before .before .before .before .before .before .before .before .pre .0 .4, c .before .before .before .before .before .chain .ensures), (c .before .before .before .before .before .before .before .before .before .before .before .before .before .pre .1 .0, c .before .before .before .before .before .before .before .before .before .before .before .before .before .pre .1 .1))
 
-same-length : tie.Need-same-length Inv-loop μ-loop
-same-length c = c .before .loop .inv .kept
+same-length : tie.Need-same-length
+same-length c = search needs
 
-returns : tie.Need-returns Inv-loop μ-loop
-returns c = builds-end (c .before .loop .inv) (c .loop-test .left) (c .before .before .before .before .before .before .before .pre .0 .3)
+returns : tie.Need-returns
+returns c = c .before .before .start-blocks .ensures
 
 pub build-spec : {M : Type 1} → statement M
 build-spec =
     tie.close
     (tie.spec
-    Inv-loop
-    μ-loop
-    loop-holds
-    start-block-requires
-    add-b
-    loop-less
-    loop-again
+    cast-none
+    slice-aggregate-chain
+    slice-aggregate-chain-2
+    chain-requires
+    slice-aggregate-start-blocks
+    slice-aggregate-start-blocks-2
+    start-blocks-requires
     same-length
     returns)
