@@ -1,0 +1,2 @@
+-- Laws about what is sent of the page calls.
+pub mod Sheets

@@ -1,0 +1,2 @@
+-- Laws about what is sent of these calls.
+pub mod Telling

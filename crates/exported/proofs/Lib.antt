@@ -1,0 +1,2 @@
+-- Laws about what is sent to a host.
+pub mod Sending

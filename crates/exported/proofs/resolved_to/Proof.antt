@@ -1,0 +1,69 @@
+-- `exported::resolved_to` meets its contract. Assumes nothing.
+use borrow.Author.Needs.{needs}
+use Rattle.exported.specs.Sent.{answered, here, nothing}
+use Rattle.handle.specs.Handle.{told}
+use Rattle.handle.specs.declared.Resolved.{Resolved}
+use Rattle.exported.specs.declared.Answer.{Answer}
+use Rattle.exported.proofs.Sending.{case}
+use Rattle.exported.proofs.resolved_to.Statement.{statement}
+use Rattle.exported.proofs.resolved_to.Tie as tie
+
+abbrev F : Resolved → Answer
+F a = answered here nothing (told a)
+
+enum-known-a : tie.Need-enum-known-a
+enum-known-a c = search needs
+
+cast-value : tie.Need-cast-value
+cast-value c = search needs
+
+value-requires : tie.Need-value-requires
+value-requires c κs = search needs
+
+enum-told : tie.Need-enum-told
+enum-told c = search needs
+
+refuse-requires : tie.Need-refuse-requires
+refuse-requires c κs = search needs
+
+enum-told-2 : tie.Need-enum-told-2
+enum-told-2 c = search needs
+
+refuse-requires-2 : tie.Need-refuse-requires-2
+refuse-requires-2 c κs = search needs
+
+enum-told-3 : tie.Need-enum-told-3
+enum-told-3 c = search needs
+
+refuse-requires-3 : tie.Need-refuse-requires-3
+refuse-requires-3 c κs = search needs
+
+returns : tie.Need-returns
+returns c = search (case F)
+
+returns-2 : tie.Need-returns-2
+returns-2 c = search (case F)
+
+returns-3 : tie.Need-returns-3
+returns-3 c = search (case F)
+
+returns-4 : tie.Need-returns-4
+returns-4 c = search (case F)
+
+pub resolved-to-spec : {M : Type 1} → statement M
+resolved-to-spec =
+    tie.close
+    (tie.spec
+    enum-known-a
+    cast-value
+    value-requires
+    enum-told
+    refuse-requires
+    enum-told-2
+    refuse-requires-2
+    enum-told-3
+    refuse-requires-3
+    returns
+    returns-2
+    returns-3
+    returns-4)

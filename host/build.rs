@@ -1,0 +1,39 @@
+// Finds libyexwalu.a, which the Rattle toolchain makes: $YEXWALU_LIB (the archive, or the folder that has it), else target/staticlib of the repository.
+use std::path::{Path, PathBuf};
+use std::{env, process};
+
+fn archive() -> PathBuf {
+    match env::var_os("YEXWALU_LIB") {
+        Some(given) => {
+            let given = PathBuf::from(given);
+            if given.is_dir() {
+                given.join("libyexwalu.a")
+            } else {
+                given
+            }
+        }
+        None => {
+            let here = PathBuf::from(env::var_os("CARGO_MANIFEST_DIR").expect("cargo sets it"));
+            here.join("../target/staticlib/libyexwalu.a")
+        }
+    }
+}
+
+fn named_as_expected(path: &Path) -> bool {
+    path.file_name().is_some_and(|n| n == "libyexwalu.a")
+}
+
+fn main() {
+    println!("cargo:rerun-if-env-changed=YEXWALU_LIB");
+    let path = archive();
+    if !path.is_file() || !named_as_expected(&path) {
+        eprintln!("yexwalu: there is no archive {}.", path.display());
+        eprintln!("Run `host/archive` at the top of the repository (it needs the Rattle toolchain, `rt`, and takes some minutes),");
+        eprintln!("or set YEXWALU_LIB to a libyexwalu.a or to the folder that has it.");
+        process::exit(1);
+    }
+    println!("cargo:rerun-if-changed={}", path.display());
+    let folder = path.parent().expect("a file stands in a folder");
+    println!("cargo:rustc-link-search=native={}", folder.display());
+    println!("cargo:rustc-link-lib=static=yexwalu");
+}

@@ -1,0 +1,50 @@
+/*
+ * A first heap from C: it places an object, writes the heap as a page, reads the page back and takes the object out again.
+ *
+ *     cc -std=c11 -Wall -Wextra -I host/include host/c/page.c target/staticlib/libyexwalu.a -o target/c-page
+ *
+ * at the top of the repository, after `host/archive`. It prints the page and ends with status 0; 1 if any answer is not the one expected.
+ */
+#include <stdio.h>
+#include <string.h>
+#include "yexwalu.h"
+
+#define SLOTS 64
+#define POOL 4096
+#define TEXT (256 + 96 * SLOTS + 2 * POOL)
+
+static uint32_t generation[SLOTS], ty[SLOTS], writes[SLOTS], free_list[SLOTS], quarantine[SLOTS];
+static uint8_t kind[SLOTS], pool[POOL], marks[SLOTS], text[TEXT], object[POOL];
+static size_t start[SLOTS], end[SLOTS];
+static uint64_t sealed[SLOTS], work[SLOTS];
+
+static const yexwalu_memory memory = {SLOTS, POOL, generation, kind, ty, start, end, writes, pool, free_list, quarantine, sealed, marks, work};
+
+static int failed(const char *call, yexwalu_answer a) {
+    fprintf(stderr, "%s: %llu\n", call, (unsigned long long)a.number);
+    return 1;
+}
+
+int main(void) {
+    yexwalu_done made = yexwalu_new(1, YEXWALU_COLUMNS(memory), YEXWALU_SCRATCH(memory));
+    if (made.answer.number != 0) return failed("new", made.answer);
+
+    static const uint8_t bytes[2] = {'A', 'B'};
+    yexwalu_done placed = yexwalu_alloc_from(made.heap, YEXWALU_COLUMNS(memory), YEXWALU_SCRATCH(memory), 2, 0, 0, bytes, sizeof bytes);
+    if (placed.answer.number != 0 || placed.answer.first != 72057594037927937u) return failed("alloc_from", placed.answer);
+    uint64_t handle = placed.answer.first;
+
+    yexwalu_answer page = yexwalu_write_page(placed.heap, YEXWALU_COLUMNS(memory), text, sizeof text, YEXWALU_SCRATCH(memory));
+    if (page.number != 0) return failed("write_page", page);
+    fwrite(text, 1, page.first, stdout);
+
+    yexwalu_done read = yexwalu_read_page(placed.heap, text, page.first, YEXWALU_COLUMNS(memory), YEXWALU_SCRATCH(memory));
+    if (read.answer.number != 0) return failed("read_page", read.answer);
+
+    yexwalu_done taken = yexwalu_take(read.heap, YEXWALU_COLUMNS(memory), YEXWALU_SCRATCH(memory), handle, object, sizeof object);
+    if (taken.answer.number != 0 || taken.answer.first != 2 || memcmp(object, bytes, 2) != 0) return failed("take", taken.answer);
+
+    yexwalu_answer gone = yexwalu_resolve(taken.heap, YEXWALU_COLUMNS(memory), YEXWALU_SCRATCH(memory), handle);
+    if (gone.number != 4) return failed("resolve", gone);
+    return 0;
+}

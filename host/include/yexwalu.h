@@ -1,0 +1,544 @@
+/*
+ * The heap of a saved VHDL run, with its type layouts and root maps: the calls that libyexwalu.a exports.
+ *
+ * Each call is proved to do what its contract in crates/export_... says, for all values of its parameters. What a caller owes is what C always asks: a pointer
+ * leads to as many elements as the length after it says, is aligned and not null (also where the length is 0), memory that a call may write is lent
+ * to no other parameter of it, and a bool is 0 or 1. Calls allocate nothing, keep no pointer and have no state of their own.
+ *
+ * An answer has document 01's number, 0 for success, and up to two values, zeros after a refusal. A refusal changes nothing, but 5 in alloc_from (since_gc),
+ * 9 in a write to a live slot with nothing visible (its write count), and scratch, which is zero after all answers but 18.
+ * The numbers: 1 broken heap, 2 null, 3 wrong heap, 4 stale, 5 full, 6 no room, 7 short list, 8 kind, 9 nothing there, 10 type table, 11 malformed, 12 too large,
+ * 13 untraceable, 14 pins, 15 function, 16 no map, 17 page, 18 scratch.
+ *
+ * A heap lies in ten lent columns and a header. All columns but the pool are as long as the heap has slots. The header goes in by value and comes back in the
+ * answer of a call that may change it: take it from there, after a refusal too. `marks` and `work` are scratch, each at least as long as there are slots.
+ */
+#ifndef YEXWALU_H
+#define YEXWALU_H
+
+#include <stdbool.h>
+#include <stddef.h>
+#include <stdint.h>
+
+#ifdef __cplusplus
+extern "C" {
+#endif
+
+/* The numbers of a heap, and how many entries of the slots and of each list are in use. */
+typedef struct {
+    uint8_t tag;
+    uint64_t since_gc;
+    size_t reclaim_at;
+    uint64_t live_bytes;
+    uint64_t epoch;
+    uint32_t log[16];
+    size_t slots;
+    size_t free;
+    size_t quarantine;
+    size_t sealed;
+} yexwalu_header;
+
+typedef struct {
+    uint64_t number;
+    uint64_t first;
+    uint64_t second;
+} yexwalu_answer;
+
+/* The header after a call, and its answer. */
+typedef struct {
+    yexwalu_header heap;
+    yexwalu_answer answer;
+} yexwalu_done;
+
+/* offsets: how many of a record's fields' offsets were written. */
+typedef struct {
+    uint64_t number;
+    uint64_t size;
+    uint64_t align;
+    uint64_t stride;
+    uint64_t count;
+    uint64_t used;
+    uint64_t offsets;
+} yexwalu_layout_answer;
+
+/* The memory that a heap lies in, with its scratch: for callers who keep it in one place. */
+typedef struct {
+    size_t slots;
+    size_t pool_size;
+    uint32_t *generation;
+    uint8_t *kind;
+    uint32_t *ty;
+    size_t *start;
+    size_t *end;
+    uint32_t *writes;
+    uint8_t *pool;
+    uint32_t *free;
+    uint32_t *quarantine;
+    uint64_t *sealed;
+    uint8_t *marks;
+    uint64_t *work;
+} yexwalu_memory;
+
+/* The columns and the scratch of a yexwalu_memory, as the calls take them. */
+#define YEXWALU_COLUMNS(m) \
+    (m).generation, (m).slots, (m).kind, (m).slots, (m).ty, (m).slots, (m).start, (m).slots, (m).end, (m).slots, (m).writes, (m).slots, \
+    (m).pool, (m).pool_size, (m).free, (m).slots, (m).quarantine, (m).slots, (m).sealed, (m).slots
+#define YEXWALU_SCRATCH(m) (m).marks, (m).slots, (m).work, (m).slots
+
+/* ---- A heap, and its objects ---- */
+
+/* Makes an empty heap of the tag in the lent memory: all of it is cleared. Slots 1 to 16,777,216, pool at most 1,073,741,824 bytes, otherwise 1. */
+yexwalu_done yexwalu_new(
+    uint8_t tag,
+    uint32_t *generation, size_t generation_len,
+    uint8_t *kind, size_t kind_len,
+    uint32_t *ty, size_t ty_len,
+    size_t *start, size_t start_len,
+    size_t *end, size_t end_len,
+    uint32_t *writes, size_t writes_len,
+    uint8_t *pool, size_t pool_len,
+    uint32_t *free, size_t free_len,
+    uint32_t *quarantine, size_t quarantine_len,
+    uint64_t *sealed, size_t sealed_len,
+    uint8_t *marks, size_t marks_len,
+    uint64_t *work, size_t work_len);
+
+/* Places the object `bytes`, visible from byte `s` on, of kind `k` (1 Typed, 2 Bytes, 3 Handles) and type `t`. first: its handle. 18, 1, 8, 6, 5. */
+yexwalu_done yexwalu_alloc_from(
+    yexwalu_header heap,
+    uint32_t *generation, size_t generation_len,
+    uint8_t *kind, size_t kind_len,
+    uint32_t *ty, size_t ty_len,
+    size_t *start, size_t start_len,
+    size_t *end, size_t end_len,
+    uint32_t *writes, size_t writes_len,
+    uint8_t *pool, size_t pool_len,
+    uint32_t *free, size_t free_len,
+    const uint32_t *quarantine, size_t quarantine_len,
+    const uint64_t *sealed, size_t sealed_len,
+    uint8_t *marks, size_t marks_len,
+    uint64_t *work, size_t work_len,
+    uint8_t k,
+    uint32_t t,
+    size_t s,
+    const uint8_t *bytes, size_t bytes_len);
+
+/* Hands out the whole data of an object, and removes it; its slot goes into quarantine. first: its length, second: its start. 18, 1, 2, 3, 4, 7. */
+yexwalu_done yexwalu_take(
+    yexwalu_header heap,
+    uint32_t *generation, size_t generation_len,
+    uint8_t *kind, size_t kind_len,
+    uint32_t *ty, size_t ty_len,
+    size_t *start, size_t start_len,
+    size_t *end, size_t end_len,
+    uint32_t *writes, size_t writes_len,
+    uint8_t *pool, size_t pool_len,
+    const uint32_t *free, size_t free_len,
+    uint32_t *quarantine, size_t quarantine_len,
+    const uint64_t *sealed, size_t sealed_len,
+    uint8_t *marks, size_t marks_len,
+    uint64_t *work, size_t work_len,
+    uint64_t x,
+    uint8_t *out, size_t out_len);
+
+/* As take, without handing out the object. 18, 1, 2, 3, 4. */
+yexwalu_done yexwalu_free(
+    yexwalu_header heap,
+    uint32_t *generation, size_t generation_len,
+    uint8_t *kind, size_t kind_len,
+    uint32_t *ty, size_t ty_len,
+    size_t *start, size_t start_len,
+    size_t *end, size_t end_len,
+    uint32_t *writes, size_t writes_len,
+    uint8_t *pool, size_t pool_len,
+    const uint32_t *free, size_t free_len,
+    uint32_t *quarantine, size_t quarantine_len,
+    const uint64_t *sealed, size_t sealed_len,
+    uint8_t *marks, size_t marks_len,
+    uint64_t *work, size_t work_len,
+    uint64_t x);
+
+/* Slots in quarantine join the free list, but those pinned: slot indices, strictly rising (14). 18, 1, 14. */
+yexwalu_done yexwalu_recycle(
+    yexwalu_header heap,
+    const uint32_t *generation, size_t generation_len,
+    const uint8_t *kind, size_t kind_len,
+    const uint32_t *ty, size_t ty_len,
+    const size_t *start, size_t start_len,
+    const size_t *end, size_t end_len,
+    const uint32_t *writes, size_t writes_len,
+    const uint8_t *pool, size_t pool_len,
+    uint32_t *free, size_t free_len,
+    uint32_t *quarantine, size_t quarantine_len,
+    const uint64_t *sealed, size_t sealed_len,
+    uint8_t *marks, size_t marks_len,
+    uint64_t *work, size_t work_len,
+    const uint32_t *pins, size_t pins_len);
+
+/* ---- Questions, and changes in place ---- */
+
+/* first: 1 if a collection is due, else 0. 18, 1. */
+yexwalu_answer yexwalu_gc_due(
+    yexwalu_header heap,
+    const uint32_t *generation, size_t generation_len,
+    const uint8_t *kind, size_t kind_len,
+    const uint32_t *ty, size_t ty_len,
+    const size_t *start, size_t start_len,
+    const size_t *end, size_t end_len,
+    const uint32_t *writes, size_t writes_len,
+    const uint8_t *pool, size_t pool_len,
+    const uint32_t *free, size_t free_len,
+    const uint32_t *quarantine, size_t quarantine_len,
+    const uint64_t *sealed, size_t sealed_len,
+    uint8_t *marks, size_t marks_len,
+    uint64_t *work, size_t work_len,
+    uint64_t threshold);
+
+/* first: 1 if the quarantine should be recycled, else 0. 18, 1. */
+yexwalu_answer yexwalu_reclaim_due(
+    yexwalu_header heap,
+    const uint32_t *generation, size_t generation_len,
+    const uint8_t *kind, size_t kind_len,
+    const uint32_t *ty, size_t ty_len,
+    const size_t *start, size_t start_len,
+    const size_t *end, size_t end_len,
+    const uint32_t *writes, size_t writes_len,
+    const uint8_t *pool, size_t pool_len,
+    const uint32_t *free, size_t free_len,
+    const uint32_t *quarantine, size_t quarantine_len,
+    const uint64_t *sealed, size_t sealed_len,
+    uint8_t *marks, size_t marks_len,
+    uint64_t *work, size_t work_len);
+
+/* first: 1 if a slot is in quarantine, else 0. 18, 1. */
+yexwalu_answer yexwalu_has_quarantine(
+    yexwalu_header heap,
+    const uint32_t *generation, size_t generation_len,
+    const uint8_t *kind, size_t kind_len,
+    const uint32_t *ty, size_t ty_len,
+    const size_t *start, size_t start_len,
+    const size_t *end, size_t end_len,
+    const uint32_t *writes, size_t writes_len,
+    const uint8_t *pool, size_t pool_len,
+    const uint32_t *free, size_t free_len,
+    const uint32_t *quarantine, size_t quarantine_len,
+    const uint64_t *sealed, size_t sealed_len,
+    uint8_t *marks, size_t marks_len,
+    uint64_t *work, size_t work_len);
+
+/* first: 1 if it is the heap of this tag with nothing sealed, else 0. 18, 1. */
+yexwalu_answer yexwalu_is_plain(
+    yexwalu_header heap,
+    const uint32_t *generation, size_t generation_len,
+    const uint8_t *kind, size_t kind_len,
+    const uint32_t *ty, size_t ty_len,
+    const size_t *start, size_t start_len,
+    const size_t *end, size_t end_len,
+    const uint32_t *writes, size_t writes_len,
+    const uint8_t *pool, size_t pool_len,
+    const uint32_t *free, size_t free_len,
+    const uint32_t *quarantine, size_t quarantine_len,
+    const uint64_t *sealed, size_t sealed_len,
+    uint8_t *marks, size_t marks_len,
+    uint64_t *work, size_t work_len,
+    uint8_t tag);
+
+/* first: the number of slots, live and dead. 18, 1. */
+yexwalu_answer yexwalu_slots(
+    yexwalu_header heap,
+    const uint32_t *generation, size_t generation_len,
+    const uint8_t *kind, size_t kind_len,
+    const uint32_t *ty, size_t ty_len,
+    const size_t *start, size_t start_len,
+    const size_t *end, size_t end_len,
+    const uint32_t *writes, size_t writes_len,
+    const uint8_t *pool, size_t pool_len,
+    const uint32_t *free, size_t free_len,
+    const uint32_t *quarantine, size_t quarantine_len,
+    const uint64_t *sealed, size_t sealed_len,
+    uint8_t *marks, size_t marks_len,
+    uint64_t *work, size_t work_len);
+
+/* first: the number of live slots. 18, 1. */
+yexwalu_answer yexwalu_live(
+    yexwalu_header heap,
+    const uint32_t *generation, size_t generation_len,
+    const uint8_t *kind, size_t kind_len,
+    const uint32_t *ty, size_t ty_len,
+    const size_t *start, size_t start_len,
+    const size_t *end, size_t end_len,
+    const uint32_t *writes, size_t writes_len,
+    const uint8_t *pool, size_t pool_len,
+    const uint32_t *free, size_t free_len,
+    const uint32_t *quarantine, size_t quarantine_len,
+    const uint64_t *sealed, size_t sealed_len,
+    uint8_t *marks, size_t marks_len,
+    uint64_t *work, size_t work_len);
+
+/* first: the slot that a handle leads to. 18, 1, 2, 3, 4. */
+yexwalu_answer yexwalu_resolve(
+    yexwalu_header heap,
+    const uint32_t *generation, size_t generation_len,
+    const uint8_t *kind, size_t kind_len,
+    const uint32_t *ty, size_t ty_len,
+    const size_t *start, size_t start_len,
+    const size_t *end, size_t end_len,
+    const uint32_t *writes, size_t writes_len,
+    const uint8_t *pool, size_t pool_len,
+    const uint32_t *free, size_t free_len,
+    const uint32_t *quarantine, size_t quarantine_len,
+    const uint64_t *sealed, size_t sealed_len,
+    uint8_t *marks, size_t marks_len,
+    uint64_t *work, size_t work_len,
+    uint64_t x);
+
+/* Where the visible data of slot `i` lies. first: from which byte of the pool on, second: how many bytes. 18, 1, 9. */
+yexwalu_answer yexwalu_data(
+    yexwalu_header heap,
+    const uint32_t *generation, size_t generation_len,
+    const uint8_t *kind, size_t kind_len,
+    const uint32_t *ty, size_t ty_len,
+    const size_t *start, size_t start_len,
+    const size_t *end, size_t end_len,
+    const uint32_t *writes, size_t writes_len,
+    const uint8_t *pool, size_t pool_len,
+    const uint32_t *free, size_t free_len,
+    const uint32_t *quarantine, size_t quarantine_len,
+    const uint64_t *sealed, size_t sealed_len,
+    uint8_t *marks, size_t marks_len,
+    uint64_t *work, size_t work_len,
+    size_t i);
+
+/* first: the kind of slot `i`, second: its type. 18, 1, 9. */
+yexwalu_answer yexwalu_kind(
+    yexwalu_header heap,
+    const uint32_t *generation, size_t generation_len,
+    const uint8_t *kind, size_t kind_len,
+    const uint32_t *ty, size_t ty_len,
+    const size_t *start, size_t start_len,
+    const size_t *end, size_t end_len,
+    const uint32_t *writes, size_t writes_len,
+    const uint8_t *pool, size_t pool_len,
+    const uint32_t *free, size_t free_len,
+    const uint32_t *quarantine, size_t quarantine_len,
+    const uint64_t *sealed, size_t sealed_len,
+    uint8_t *marks, size_t marks_len,
+    uint64_t *work, size_t work_len,
+    size_t i);
+
+/* first: the generation of slot `i`, second: its write count. 18, 1, 9. */
+yexwalu_answer yexwalu_stamp(
+    yexwalu_header heap,
+    const uint32_t *generation, size_t generation_len,
+    const uint8_t *kind, size_t kind_len,
+    const uint32_t *ty, size_t ty_len,
+    const size_t *start, size_t start_len,
+    const size_t *end, size_t end_len,
+    const uint32_t *writes, size_t writes_len,
+    const uint8_t *pool, size_t pool_len,
+    const uint32_t *free, size_t free_len,
+    const uint32_t *quarantine, size_t quarantine_len,
+    const uint64_t *sealed, size_t sealed_len,
+    uint8_t *marks, size_t marks_len,
+    uint64_t *work, size_t work_len,
+    size_t i);
+
+/* A new handle for slot `i`, also for a dead one. first: the handle. 18, 1, 9. */
+yexwalu_done yexwalu_reissue(
+    yexwalu_header heap,
+    uint32_t *generation, size_t generation_len,
+    const uint8_t *kind, size_t kind_len,
+    const uint32_t *ty, size_t ty_len,
+    const size_t *start, size_t start_len,
+    const size_t *end, size_t end_len,
+    uint32_t *writes, size_t writes_len,
+    const uint8_t *pool, size_t pool_len,
+    const uint32_t *free, size_t free_len,
+    const uint32_t *quarantine, size_t quarantine_len,
+    const uint64_t *sealed, size_t sealed_len,
+    uint8_t *marks, size_t marks_len,
+    uint64_t *work, size_t work_len,
+    size_t i,
+    uint64_t grown);
+
+/* New bytes and a new start for an object. first: its slot. 18, 1, 2, 3, 4, 6. */
+yexwalu_done yexwalu_edit(
+    yexwalu_header heap,
+    const uint32_t *generation, size_t generation_len,
+    const uint8_t *kind, size_t kind_len,
+    const uint32_t *ty, size_t ty_len,
+    size_t *start, size_t start_len,
+    size_t *end, size_t end_len,
+    uint32_t *writes, size_t writes_len,
+    uint8_t *pool, size_t pool_len,
+    const uint32_t *free, size_t free_len,
+    const uint32_t *quarantine, size_t quarantine_len,
+    const uint64_t *sealed, size_t sealed_len,
+    uint8_t *marks, size_t marks_len,
+    uint64_t *work, size_t work_len,
+    uint64_t x,
+    const uint8_t *bytes, size_t bytes_len,
+    size_t first);
+
+/* Bytes over the visible data of slot `i`, from the offset `at` in it. 18, 1, 9. */
+yexwalu_answer yexwalu_write(
+    yexwalu_header heap,
+    const uint32_t *generation, size_t generation_len,
+    const uint8_t *kind, size_t kind_len,
+    const uint32_t *ty, size_t ty_len,
+    const size_t *start, size_t start_len,
+    const size_t *end, size_t end_len,
+    uint32_t *writes, size_t writes_len,
+    uint8_t *pool, size_t pool_len,
+    const uint32_t *free, size_t free_len,
+    const uint32_t *quarantine, size_t quarantine_len,
+    const uint64_t *sealed, size_t sealed_len,
+    uint8_t *marks, size_t marks_len,
+    uint64_t *work, size_t work_len,
+    size_t i,
+    size_t at,
+    const uint8_t *bytes, size_t bytes_len);
+
+/* The seals become the handles of all live slots. 18, 1. */
+yexwalu_done yexwalu_seal(
+    yexwalu_header heap,
+    const uint32_t *generation, size_t generation_len,
+    const uint8_t *kind, size_t kind_len,
+    const uint32_t *ty, size_t ty_len,
+    const size_t *start, size_t start_len,
+    const size_t *end, size_t end_len,
+    const uint32_t *writes, size_t writes_len,
+    const uint8_t *pool, size_t pool_len,
+    const uint32_t *free, size_t free_len,
+    const uint32_t *quarantine, size_t quarantine_len,
+    uint64_t *sealed, size_t sealed_len,
+    uint8_t *marks, size_t marks_len,
+    uint64_t *work, size_t work_len);
+
+/* ---- Types, the handles of values and frames, live registers ---- */
+
+/* The layout of type `t` under a descriptor; the offsets of a record's fields stand at the front of `out`. 10, 11, 12, 7. */
+yexwalu_layout_answer yexwalu_layout(
+    const uint64_t *types, size_t types_len,
+    const uint32_t *fields, size_t fields_len,
+    const uint64_t *consts, size_t consts_len,
+    const uint8_t *bytes, size_t bytes_len,
+    uint64_t t,
+    const uint8_t *desc, size_t desc_len,
+    uint64_t *out, size_t out_len);
+
+/* first: the bytes of a descriptor of type `t`. 10, 11 where it has no fixed size. */
+yexwalu_answer yexwalu_desc_size(
+    const uint64_t *types, size_t types_len,
+    const uint32_t *fields, size_t fields_len,
+    const uint64_t *consts, size_t consts_len,
+    const uint8_t *bytes, size_t bytes_len,
+    uint64_t t);
+
+/* first: 1 if values of type `t` can hold handles, else 0. 10. */
+yexwalu_answer yexwalu_has_handles(
+    const uint64_t *types, size_t types_len,
+    const uint32_t *fields, size_t fields_len,
+    const uint64_t *consts, size_t consts_len,
+    const uint8_t *bytes, size_t bytes_len,
+    uint64_t t);
+
+/* The handles of an object's visible data (descriptor, then value) stand at the front of `out`. first: how many. 10, 13, 7. */
+yexwalu_answer yexwalu_object_handles(
+    const uint64_t *types, size_t types_len,
+    const uint32_t *fields, size_t fields_len,
+    const uint64_t *consts, size_t consts_len,
+    const uint8_t *bytes, size_t bytes_len,
+    uint64_t t,
+    const uint8_t *data, size_t data_len,
+    uint64_t *out, size_t out_len);
+
+/* The handles of a value that needs no descriptor stand at the front of `out`. first: how many. 10, 13, 7. */
+yexwalu_answer yexwalu_value_handles(
+    const uint64_t *types, size_t types_len,
+    const uint32_t *fields, size_t fields_len,
+    const uint64_t *consts, size_t consts_len,
+    const uint8_t *bytes, size_t bytes_len,
+    uint64_t t,
+    const uint8_t *data, size_t data_len,
+    uint64_t *out, size_t out_len);
+
+/* The handles and the addresses of a frame's memory by its map. first: how many handles, second: how many addresses. 10, 13, 7. */
+yexwalu_answer yexwalu_slot_roots(
+    const uint64_t *types, size_t types_len,
+    const uint32_t *fields, size_t fields_len,
+    const uint64_t *consts, size_t consts_len,
+    const uint8_t *bytes, size_t bytes_len,
+    const uint32_t *offsets, size_t offsets_len,
+    const uint8_t *kinds, size_t kinds_len,
+    const uint32_t *tys, size_t tys_len,
+    const uint8_t *memory, size_t memory_len,
+    uint64_t *handles, size_t handles_len,
+    uint64_t *addresses, size_t addresses_len);
+
+/* The registers that are live before the safepoint `pc`, rising: those of classes 2 and 4, or all. first: how many. 18, 15, 16, 7. */
+yexwalu_answer yexwalu_live_at(
+    const uint8_t *kinds, size_t kinds_len,
+    const uint32_t *ends, size_t ends_len,
+    const uint32_t *refs, size_t refs_len,
+    const uint32_t *blocks, size_t blocks_len,
+    const uint8_t *classes, size_t classes_len,
+    bool all,
+    size_t pc,
+    uint64_t *scratch, size_t scratch_len,
+    uint32_t *regs, size_t regs_len);
+
+/* All safepoints, rising, where the registers of each end in `regs`, and the registers. first: how many safepoints, second: how many registers. 18, 15, 7. */
+yexwalu_answer yexwalu_live_refs(
+    const uint8_t *kinds, size_t kinds_len,
+    const uint32_t *ends, size_t ends_len,
+    const uint32_t *refs, size_t refs_len,
+    const uint32_t *blocks, size_t blocks_len,
+    const uint8_t *classes, size_t classes_len,
+    bool all,
+    uint64_t *scratch, size_t scratch_len,
+    uint32_t *pcs, size_t pcs_len,
+    uint32_t *bounds, size_t bounds_len,
+    uint32_t *regs, size_t regs_len);
+
+/* ---- A heap as a page of text ---- */
+
+/* Writes the heap as a page to the front of `out`. first: how many bytes. 18, 1, 7. */
+yexwalu_answer yexwalu_write_page(
+    yexwalu_header heap,
+    const uint32_t *generation, size_t generation_len,
+    const uint8_t *kind, size_t kind_len,
+    const uint32_t *ty, size_t ty_len,
+    const size_t *start, size_t start_len,
+    const size_t *end, size_t end_len,
+    const uint32_t *writes, size_t writes_len,
+    const uint8_t *pool, size_t pool_len,
+    const uint32_t *free, size_t free_len,
+    const uint32_t *quarantine, size_t quarantine_len,
+    const uint64_t *sealed, size_t sealed_len,
+    uint8_t *out, size_t out_len,
+    uint8_t *marks, size_t marks_len,
+    uint64_t *work, size_t work_len);
+
+/* Reads a page into the lent memory; what it held is not looked at. 18, 17, 1, 6, 5. */
+yexwalu_done yexwalu_read_page(
+    yexwalu_header heap,
+    const uint8_t *text, size_t text_len,
+    uint32_t *generation, size_t generation_len,
+    uint8_t *kind, size_t kind_len,
+    uint32_t *ty, size_t ty_len,
+    size_t *start, size_t start_len,
+    size_t *end, size_t end_len,
+    uint32_t *writes, size_t writes_len,
+    uint8_t *pool, size_t pool_len,
+    uint32_t *free, size_t free_len,
+    uint32_t *quarantine, size_t quarantine_len,
+    uint64_t *sealed, size_t sealed_len,
+    uint8_t *marks, size_t marks_len,
+    uint64_t *work, size_t work_len);
+
+#ifdef __cplusplus
+}
+#endif
+
+#endif

@@ -1,0 +1,178 @@
+use crate::ffi;
+use crate::Refusal;
+
+/// What an instruction does.
+#[derive(Clone, Copy, Debug, PartialEq, Eq)]
+#[allow(missing_docs)]
+pub enum InstKind {
+    Plain = 0,
+    Safepoint = 1,
+    Branch = 2,
+    Conditional = 3,
+    Case = 4,
+    Return = 5,
+    Unreachable = 6,
+}
+
+/// What a register holds.
+#[derive(Clone, Copy, Debug, PartialEq, Eq)]
+#[allow(missing_docs)]
+pub enum Class {
+    I64 = 0,
+    F64 = 1,
+    Ptr = 2,
+    Sig = 3,
+    Handle = 4,
+}
+
+/// Which registers a live map has.
+#[derive(Clone, Copy, Debug, PartialEq, Eq)]
+pub enum Wanted {
+    /// Those of classes `Ptr` and `Handle`.
+    References,
+    /// All.
+    All,
+}
+
+/// The code of a function, as the live map reads it.
+///
+/// ```
+/// use yexwalu::{Class, Function, InstKind, Refusal, Wanted};
+/// let mut f = Function::new();
+/// let hall = f.register(Class::Handle);
+/// let count = f.register(Class::I64);
+/// let start = f.position();
+/// f.instruction(InstKind::Plain, &[hall, count], &[], &[]);
+/// let call = f.instruction(InstKind::Safepoint, &[], &[], &[]);
+/// f.instruction(InstKind::Return, &[], &[hall, count], &[]);
+/// f.block(start, f.position());
+/// assert_eq!(f.live_at(call, Wanted::References)?, [hall]);
+/// assert_eq!(f.live_refs(Wanted::All)?, [(call, vec![hall, count])]);
+/// # Ok::<(), Refusal>(())
+/// ```
+#[derive(Clone, Debug, Default, PartialEq, Eq)]
+pub struct Function {
+    /// One an instruction.
+    pub kinds: Vec<u8>,
+    /// Three an instruction: where its registers written, its registers read and its target blocks end in `refs`.
+    pub ends: Vec<u32>,
+    /// All registers and targets in a row.
+    pub refs: Vec<u32>,
+    /// Start and end of each block.
+    pub blocks: Vec<u32>,
+    /// One a register.
+    pub classes: Vec<u8>,
+}
+
+impl Function {
+    /// A function without code.
+    pub fn new() -> Function {
+        Function::default()
+    }
+
+    /// A new register; the answer is its number.
+    pub fn register(&mut self, class: Class) -> u32 {
+        self.classes.push(class as u8);
+        (self.classes.len() - 1) as u32
+    }
+
+    /// The number of the next instruction.
+    pub fn position(&self) -> u32 {
+        self.kinds.len() as u32
+    }
+
+    /// A new instruction; the answer is its number. Targets are block numbers; those of a case are its arms, then the default.
+    pub fn instruction(&mut self, kind: InstKind, writes: &[u32], reads: &[u32], targets: &[u32]) -> u32 {
+        self.kinds.push(kind as u8);
+        for part in [writes, reads, targets] {
+            self.refs.extend_from_slice(part);
+            self.ends.push(self.refs.len() as u32);
+        }
+        (self.kinds.len() - 1) as u32
+    }
+
+    /// A block of the instructions from `start` up to `end`; the answer is its number.
+    pub fn block(&mut self, start: u32, end: u32) -> u32 {
+        self.blocks.extend_from_slice(&[start, end]);
+        (self.blocks.len() / 2 - 1) as u32
+    }
+
+    /// How many words of scratch the live map takes: (3 × blocks + 2) × words per row.
+    pub fn scratch_words(&self) -> usize {
+        (3 * (self.blocks.len() / 2) + 2) * self.classes.len().div_ceil(64)
+    }
+
+    /// The registers that are live before a safepoint, rising.
+    pub fn live_at(&self, pc: u32, wanted: Wanted) -> Result<Vec<u32>, Refusal> {
+        let mut regs = vec![0; self.classes.len()];
+        let n = self.live_at_into(pc, wanted, &mut vec![0; self.scratch_words()], &mut regs)?;
+        regs.truncate(n);
+        Ok(regs)
+    }
+
+    /// As `live_at`, with lent scratch and output. The answer is the number of registers.
+    pub fn live_at_into(&self, pc: u32, wanted: Wanted, scratch: &mut [u64], regs: &mut [u32]) -> Result<usize, Refusal> {
+        // The call reads the function and writes scratch and output, each within the length that is passed with it.
+        let answer = unsafe {
+            ffi::yexwalu_live_at(
+                self.kinds.as_ptr(), self.kinds.len(),
+                self.ends.as_ptr(), self.ends.len(),
+                self.refs.as_ptr(), self.refs.len(),
+                self.blocks.as_ptr(), self.blocks.len(),
+                self.classes.as_ptr(), self.classes.len(),
+                wanted == Wanted::All,
+                pc as usize,
+                scratch.as_mut_ptr(), scratch.len(),
+                regs.as_mut_ptr(), regs.len(),
+            )
+        };
+        Refusal::check(answer.number)?;
+        Ok(answer.first as usize)
+    }
+
+    /// Every safepoint, rising, with the registers that are live before it, rising.
+    pub fn live_refs(&self, wanted: Wanted) -> Result<Vec<(u32, Vec<u32>)>, Refusal> {
+        let mut scratch = vec![0; self.scratch_words()];
+        let mut pcs = vec![0; self.kinds.len()];
+        let mut bounds = vec![0; self.kinds.len()];
+        let mut room = self.kinds.len();
+        loop {
+            let mut regs = vec![0; room];
+            match self.live_refs_into(wanted, &mut scratch, &mut pcs, &mut bounds, &mut regs) {
+                Err(Refusal::ShortList) => room = 2 * room + 1,
+                Err(why) => return Err(why),
+                Ok((points, _)) => {
+                    let mut from = 0;
+                    let mut map = Vec::with_capacity(points);
+                    for i in 0..points {
+                        let to = bounds[i] as usize;
+                        map.push((pcs[i], regs[from..to].to_vec()));
+                        from = to;
+                    }
+                    return Ok(map);
+                }
+            }
+        }
+    }
+
+    /// As `live_refs`, with lent scratch and outputs: the safepoints, where the registers of each end, the registers. The answer is how many safepoints and registers.
+    pub fn live_refs_into(&self, wanted: Wanted, scratch: &mut [u64], pcs: &mut [u32], bounds: &mut [u32], regs: &mut [u32]) -> Result<(usize, usize), Refusal> {
+        // The call reads the function and writes scratch and outputs, each within the length that is passed with it.
+        let answer = unsafe {
+            ffi::yexwalu_live_refs(
+                self.kinds.as_ptr(), self.kinds.len(),
+                self.ends.as_ptr(), self.ends.len(),
+                self.refs.as_ptr(), self.refs.len(),
+                self.blocks.as_ptr(), self.blocks.len(),
+                self.classes.as_ptr(), self.classes.len(),
+                wanted == Wanted::All,
+                scratch.as_mut_ptr(), scratch.len(),
+                pcs.as_mut_ptr(), pcs.len(),
+                bounds.as_mut_ptr(), bounds.len(),
+                regs.as_mut_ptr(), regs.len(),
+            )
+        };
+        Refusal::check(answer.number)?;
+        Ok((answer.first as usize, answer.second as usize))
+    }
+}

@@ -1,0 +1,432 @@
+use crate::ffi::{self, Done, Header};
+use crate::{Handle, Refusal};
+use std::cell::RefCell;
+use std::ops::Range;
+
+/// What an object is: its kind, and the type of a typed one.
+#[derive(Clone, Copy, Debug, PartialEq, Eq, Hash)]
+pub enum Kind {
+    /// A value of a type of the table, after its descriptor.
+    Typed(u32),
+    /// Bytes that hold no handles.
+    Bytes,
+    /// Handles at offsets 24, 32, ..
+    Handles,
+}
+
+impl Kind {
+    fn numbers(self) -> (u8, u32) {
+        match self {
+            Kind::Typed(ty) => (1, ty),
+            Kind::Bytes => (2, 0),
+            Kind::Handles => (3, 0),
+        }
+    }
+
+    fn of(kind: u64, ty: u64) -> Kind {
+        match kind {
+            1 => Kind::Typed(ty as u32),
+            2 => Kind::Bytes,
+            _ => Kind::Handles,
+        }
+    }
+}
+
+/// An object that was taken from its heap: all its bytes, and where its visible data starts in them.
+#[derive(Clone, Debug, PartialEq, Eq)]
+pub struct Object {
+    /// All bytes, those before the start too.
+    pub bytes: Vec<u8>,
+    /// Where the visible data starts; beyond the bytes nothing is visible.
+    pub start: usize,
+}
+
+/// Generation and write count of a slot.
+#[derive(Clone, Copy, Debug, PartialEq, Eq, Hash)]
+pub struct Stamp {
+    /// How often the slot was given out or released, from 1 on.
+    pub generation: u32,
+    /// How often its object was written or edited.
+    pub writes: u32,
+}
+
+/// The memory that a heap lies in. A heap's is made with it; the fields are public so that a host can save, damage or lend them as it likes: every call looks whether it holds a heap.
+#[derive(Clone, Debug, PartialEq, Eq)]
+#[allow(missing_docs)]
+pub struct Memory {
+    pub generation: Vec<u32>,
+    pub kind: Vec<u8>,
+    pub ty: Vec<u32>,
+    pub start: Vec<usize>,
+    pub end: Vec<usize>,
+    pub writes: Vec<u32>,
+    pub pool: Vec<u8>,
+    pub free: Vec<u32>,
+    pub quarantine: Vec<u32>,
+    pub sealed: Vec<u64>,
+}
+
+impl Memory {
+    /// Zeros for so many slots and bytes of data.
+    pub fn zeros(slots: usize, pool: usize) -> Memory {
+        Memory {
+            generation: vec![0; slots],
+            kind: vec![0; slots],
+            ty: vec![0; slots],
+            start: vec![0; slots],
+            end: vec![0; slots],
+            writes: vec![0; slots],
+            pool: vec![0; pool],
+            free: vec![0; slots],
+            quarantine: vec![0; slots],
+            sealed: vec![0; slots],
+        }
+    }
+}
+
+/// Scratch: one byte and one word a slot. All of it is zero after every call that was lent enough.
+#[derive(Clone, Debug, PartialEq, Eq)]
+#[allow(missing_docs)]
+pub struct Scratch {
+    pub marks: Vec<u8>,
+    pub work: Vec<u64>,
+}
+
+impl Scratch {
+    /// Scratch for so many slots.
+    pub fn zeros(slots: usize) -> Scratch {
+        Scratch {
+            marks: vec![0; slots],
+            work: vec![0; slots],
+        }
+    }
+}
+
+/// A heap of objects, in memory of its own. Every call checks the heap first, so none can be misled by memory that was changed behind it.
+///
+/// ```
+/// use yexwalu::{Heap, Kind, Refusal};
+/// let mut heap = Heap::new(1, 64, 4096)?;
+/// let hall = heap.alloc(Kind::Bytes, b"AB")?;
+/// assert_eq!(hall.0, 72_057_594_037_927_937);
+/// let slot = heap.resolve(hall)?;
+/// assert_eq!(heap.data(slot)?, b"AB");
+/// let object = heap.take(hall)?;
+/// assert_eq!(object.bytes, b"AB");
+/// assert_eq!(heap.resolve(hall), Err(Refusal::Stale));
+/// # Ok::<(), Refusal>(())
+/// ```
+#[derive(Clone, Debug)]
+pub struct Heap {
+    header: Header,
+    memory: Memory,
+    scratch: RefCell<Scratch>,
+}
+
+impl PartialEq for Heap {
+    fn eq(&self, other: &Heap) -> bool {
+        self.header == other.header && self.memory == other.memory
+    }
+}
+
+impl Eq for Heap {}
+
+// A call that only reads: its columns are shared, scratch is not.
+macro_rules! ask {
+    ($heap:ident, $call:ident ($($between:expr),*) ($($after:expr),*)) => {{
+        let m = &$heap.memory;
+        let mut s = $heap.scratch.borrow_mut();
+        // The call reads the columns and writes scratch and the outputs given, each within the length that is passed with it.
+        unsafe {
+            ffi::$call(
+                $heap.header,
+                m.generation.as_ptr() as *mut u32, m.generation.len(),
+                m.kind.as_ptr() as *mut u8, m.kind.len(),
+                m.ty.as_ptr() as *mut u32, m.ty.len(),
+                m.start.as_ptr() as *mut usize, m.start.len(),
+                m.end.as_ptr() as *mut usize, m.end.len(),
+                m.writes.as_ptr() as *mut u32, m.writes.len(),
+                m.pool.as_ptr() as *mut u8, m.pool.len(),
+                m.free.as_ptr() as *mut u32, m.free.len(),
+                m.quarantine.as_ptr() as *mut u32, m.quarantine.len(),
+                m.sealed.as_ptr() as *mut u64, m.sealed.len(),
+                $($between,)*
+                s.marks.as_mut_ptr(), s.marks.len(),
+                s.work.as_mut_ptr(), s.work.len(),
+                $($after),*
+            )
+        }
+    }};
+}
+
+// A call that may change the columns.
+macro_rules! change {
+    ($memory:expr, $scratch:expr, $call:ident ($($before:expr),*) ($($after:expr),*)) => {{
+        let m: &mut Memory = $memory;
+        let s: &mut Scratch = $scratch;
+        // The call writes columns, scratch and the outputs given, each within the length that is passed with it.
+        unsafe {
+            ffi::$call(
+                $($before,)*
+                m.generation.as_mut_ptr(), m.generation.len(),
+                m.kind.as_mut_ptr(), m.kind.len(),
+                m.ty.as_mut_ptr(), m.ty.len(),
+                m.start.as_mut_ptr(), m.start.len(),
+                m.end.as_mut_ptr(), m.end.len(),
+                m.writes.as_mut_ptr(), m.writes.len(),
+                m.pool.as_mut_ptr(), m.pool.len(),
+                m.free.as_mut_ptr(), m.free.len(),
+                m.quarantine.as_mut_ptr(), m.quarantine.len(),
+                m.sealed.as_mut_ptr(), m.sealed.len(),
+                s.marks.as_mut_ptr(), s.marks.len(),
+                s.work.as_mut_ptr(), s.work.len(),
+                $($after),*
+            )
+        }
+    }};
+}
+
+impl Heap {
+    /// An empty heap of this tag with room for so many objects (1 to 16,777,216) and so many bytes of data (at most 1,073,741,824).
+    pub fn new(tag: u8, slots: usize, pool: usize) -> Result<Heap, Refusal> {
+        Heap::new_in(tag, Memory::zeros(slots, pool), Scratch::zeros(slots)).map_err(|e| e.0)
+    }
+
+    /// An empty heap in memory that is given. After a refusal the memory comes back.
+    pub fn new_in(tag: u8, mut memory: Memory, mut scratch: Scratch) -> Result<Heap, (Refusal, Memory, Scratch)> {
+        let done = change!(&mut memory, &mut scratch, yexwalu_new(tag)());
+        match Refusal::check(done.answer.number) {
+            Ok(()) => Ok(Heap {
+                header: done.heap,
+                memory,
+                scratch: RefCell::new(scratch),
+            }),
+            Err(why) => Err((why, memory, scratch)),
+        }
+    }
+
+    /// A heap put together from its parts. Nothing is looked at here: every call refuses (1) where they are no heap, and (18) where scratch is short.
+    pub fn from_parts(header: Header, memory: Memory, scratch: Scratch) -> Heap {
+        Heap {
+            header,
+            memory,
+            scratch: RefCell::new(scratch),
+        }
+    }
+
+    /// The parts of the heap.
+    pub fn into_parts(self) -> (Header, Memory, Scratch) {
+        (self.header, self.memory, self.scratch.into_inner())
+    }
+
+    /// The heap's numbers.
+    pub fn header(&self) -> &Header {
+        &self.header
+    }
+
+    /// The memory that it lies in.
+    pub fn memory(&self) -> &Memory {
+        &self.memory
+    }
+
+    /// The scratch, as the last call left it.
+    pub fn scratch(&self) -> Scratch {
+        self.scratch.borrow().clone()
+    }
+
+    fn done(&mut self, done: Done) -> Result<(u64, u64), Refusal> {
+        self.header = done.heap;
+        Refusal::check(done.answer.number)?;
+        Ok((done.answer.first, done.answer.second))
+    }
+
+    /// Places an object; the answer is its handle.
+    pub fn alloc(&mut self, kind: Kind, bytes: &[u8]) -> Result<Handle, Refusal> {
+        self.alloc_from(kind, 0, bytes)
+    }
+
+    /// Places an object whose visible data starts at `start`.
+    pub fn alloc_from(&mut self, kind: Kind, start: usize, bytes: &[u8]) -> Result<Handle, Refusal> {
+        let (k, t) = kind.numbers();
+        self.alloc_raw(k, t, start, bytes)
+    }
+
+    /// As `alloc_from`, with the kind as a number, which may be wrong (8).
+    pub fn alloc_raw(&mut self, kind: u8, ty: u32, start: usize, bytes: &[u8]) -> Result<Handle, Refusal> {
+        let done = change!(&mut self.memory, self.scratch.get_mut(), yexwalu_alloc_from(self.header)(kind, ty, start, bytes.as_ptr(), bytes.len()));
+        Ok(Handle(self.done(done)?.0))
+    }
+
+    /// The number of bytes of slot `i`'s object, those before its start too, as the memory has it.
+    fn size_of(&self, i: usize) -> usize {
+        let end = &self.memory.end;
+        match end.get(i) {
+            Some(e) => e.saturating_sub(if i == 0 { 0 } else { end[i - 1] }),
+            None => 0,
+        }
+    }
+
+    /// Takes an object out of the heap. Its slot goes into quarantine, until `recycle`.
+    pub fn take(&mut self, handle: Handle) -> Result<Object, Refusal> {
+        let mut bytes = vec![0; self.size_of(handle.index() as usize)];
+        let (size, start) = self.take_into(handle, &mut bytes)?;
+        bytes.truncate(size);
+        Ok(Object { bytes, start })
+    }
+
+    /// As `take`, with the bytes written to the front of a lent output. The answer is how many, and the start. Too short an output is refused (7), and nothing changes.
+    pub fn take_into(&mut self, handle: Handle, out: &mut [u8]) -> Result<(usize, usize), Refusal> {
+        let done = change!(&mut self.memory, self.scratch.get_mut(), yexwalu_take(self.header)(handle.0, out.as_mut_ptr(), out.len()));
+        let (size, start) = self.done(done)?;
+        Ok((size as usize, start as usize))
+    }
+
+    /// As `take`, without handing out the object.
+    pub fn free(&mut self, handle: Handle) -> Result<(), Refusal> {
+        let done = change!(&mut self.memory, self.scratch.get_mut(), yexwalu_free(self.header)(handle.0));
+        self.done(done).map(|_| ())
+    }
+
+    /// Slots in quarantine join the free list, but those pinned (slot indices, strictly rising).
+    pub fn recycle(&mut self, pins: &[u32]) -> Result<(), Refusal> {
+        let done = change!(&mut self.memory, self.scratch.get_mut(), yexwalu_recycle(self.header)(pins.as_ptr(), pins.len()));
+        self.done(done).map(|_| ())
+    }
+
+    /// New bytes and a new start for an object; the answer is its slot.
+    pub fn edit(&mut self, handle: Handle, bytes: &[u8], start: usize) -> Result<u32, Refusal> {
+        let done = change!(&mut self.memory, self.scratch.get_mut(), yexwalu_edit(self.header)(handle.0, bytes.as_ptr(), bytes.len(), start));
+        Ok(self.done(done)?.0 as u32)
+    }
+
+    /// Bytes over the visible data of a slot, from the offset `at` in it.
+    pub fn write(&mut self, slot: u32, at: usize, bytes: &[u8]) -> Result<(), Refusal> {
+        let answer = change!(&mut self.memory, self.scratch.get_mut(), yexwalu_write(self.header)(slot as usize, at, bytes.as_ptr(), bytes.len()));
+        Refusal::check(answer.number)
+    }
+
+    /// A new handle for a slot, also for a dead one, whose handle then leads nowhere; `grown` is added to the bytes since the last collection.
+    pub fn reissue(&mut self, slot: u32, grown: u64) -> Result<Handle, Refusal> {
+        let done = change!(&mut self.memory, self.scratch.get_mut(), yexwalu_reissue(self.header)(slot as usize, grown));
+        Ok(Handle(self.done(done)?.0))
+    }
+
+    /// The seals become the handles of all live slots.
+    pub fn seal(&mut self) -> Result<(), Refusal> {
+        let done = change!(&mut self.memory, self.scratch.get_mut(), yexwalu_seal(self.header)());
+        self.done(done).map(|_| ())
+    }
+
+    fn yes(answer: ffi::Answer) -> Result<bool, Refusal> {
+        Refusal::check(answer.number)?;
+        Ok(answer.first == 1)
+    }
+
+    fn pair(answer: ffi::Answer) -> Result<(u64, u64), Refusal> {
+        Refusal::check(answer.number)?;
+        Ok((answer.first, answer.second))
+    }
+
+    /// Is a collection due?
+    pub fn gc_due(&self, threshold: u64) -> Result<bool, Refusal> {
+        Heap::yes(ask!(self, yexwalu_gc_due()(threshold)))
+    }
+
+    /// Are so many slots in quarantine that they should be recycled?
+    pub fn reclaim_due(&self) -> Result<bool, Refusal> {
+        Heap::yes(ask!(self, yexwalu_reclaim_due()()))
+    }
+
+    /// Is any slot in quarantine?
+    pub fn has_quarantine(&self) -> Result<bool, Refusal> {
+        Heap::yes(ask!(self, yexwalu_has_quarantine()()))
+    }
+
+    /// Is it the heap of this tag, with nothing sealed?
+    pub fn is_plain(&self, tag: u8) -> Result<bool, Refusal> {
+        Heap::yes(ask!(self, yexwalu_is_plain()(tag)))
+    }
+
+    /// The number of slots, live and dead.
+    pub fn slots(&self) -> Result<usize, Refusal> {
+        Ok(Heap::pair(ask!(self, yexwalu_slots()()))?.0 as usize)
+    }
+
+    /// The number of live slots.
+    pub fn live(&self) -> Result<usize, Refusal> {
+        Ok(Heap::pair(ask!(self, yexwalu_live()()))?.0 as usize)
+    }
+
+    /// The slot that a handle leads to.
+    pub fn resolve(&self, handle: Handle) -> Result<u32, Refusal> {
+        Ok(Heap::pair(ask!(self, yexwalu_resolve()(handle.0)))?.0 as u32)
+    }
+
+    /// Where the visible data of a slot lies in the pool.
+    pub fn place(&self, slot: u32) -> Result<Range<usize>, Refusal> {
+        let (from, size) = Heap::pair(ask!(self, yexwalu_data()(slot as usize)))?;
+        Ok(from as usize..from as usize + size as usize)
+    }
+
+    /// The visible data of a slot.
+    pub fn data(&self, slot: u32) -> Result<&[u8], Refusal> {
+        let place = self.place(slot)?;
+        Ok(&self.memory.pool[place])
+    }
+
+    /// The kind of a slot's object.
+    pub fn kind(&self, slot: u32) -> Result<Kind, Refusal> {
+        let (kind, ty) = Heap::pair(ask!(self, yexwalu_kind()(slot as usize)))?;
+        Ok(Kind::of(kind, ty))
+    }
+
+    /// The generation and the write count of a slot.
+    pub fn stamp(&self, slot: u32) -> Result<Stamp, Refusal> {
+        let (generation, writes) = Heap::pair(ask!(self, yexwalu_stamp()(slot as usize)))?;
+        Ok(Stamp {
+            generation: generation as u32,
+            writes: writes as u32,
+        })
+    }
+
+    /// The heap as a page of text.
+    ///
+    /// ```
+    /// use yexwalu::{Heap, Kind, Refusal};
+    /// let mut heap = Heap::new(1, 64, 4096)?;
+    /// heap.alloc(Kind::Bytes, b"AB")?;
+    /// let page = heap.write_page()?;
+    /// assert_eq!(page, b"tag,since_gc,reclaim_at,live_bytes,slots,free,quarantine,sealed\n1,34,4096,0,1,0,0,0\n\
+    /// generation,kind,type,start,writes,data\n1,2,0,0,0,4142\nfree\nquarantine\nsealed\n");
+    /// assert_eq!(Heap::read_page(64, 4096, &page)?.write_page()?, page);
+    /// # Ok::<(), Refusal>(())
+    /// ```
+    pub fn write_page(&self) -> Result<Vec<u8>, Refusal> {
+        let slots = self.header.slots.min(self.memory.end.len());
+        let data = if slots == 0 { 0 } else { self.memory.end[slots - 1].min(self.memory.pool.len()) };
+        // document 01: a page takes at most 256 + 96 × slots + 2 × data bytes
+        let mut out = vec![0; 256 + 96 * slots + 2 * data];
+        let size = self.write_page_into(&mut out)?;
+        out.truncate(size);
+        Ok(out)
+    }
+
+    /// The heap as a page, written to the front of a lent output. The answer is the number of bytes.
+    pub fn write_page_into(&self, out: &mut [u8]) -> Result<usize, Refusal> {
+        let answer = ask!(self, yexwalu_write_page(out.as_mut_ptr(), out.len())());
+        Ok(Heap::pair(answer)?.0 as usize)
+    }
+
+    /// The heap of a page, in new memory for so many objects and bytes of data.
+    pub fn read_page(slots: usize, pool: usize, text: &[u8]) -> Result<Heap, Refusal> {
+        let mut heap = Heap::from_parts(Header::default(), Memory::zeros(slots, pool), Scratch::zeros(slots));
+        heap.read_page_over(text)?;
+        Ok(heap)
+    }
+
+    /// Reads a page into this heap's memory. What it held is not looked at, and stays after a refusal.
+    pub fn read_page_over(&mut self, text: &[u8]) -> Result<(), Refusal> {
+        let done = change!(&mut self.memory, self.scratch.get_mut(), yexwalu_read_page(self.header, text.as_ptr(), text.len())());
+        self.done(done).map(|_| ())
+    }
+}

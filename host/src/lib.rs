@@ -1,0 +1,31 @@
+//! The heap of a saved VHDL run, with its type layouts and root maps: a safe interface to calls that are proved to do what their contracts say.
+//!
+//! The work is done by the archive `libyexwalu.a` (see `build.rs`). It allocates nothing: this crate owns the memory and lends it call by call.
+//!
+//! ```
+//! use yexwalu::{Heap, Kind, Refusal};
+//! let mut heap = Heap::new(1, 64, 4096)?;
+//! let first = heap.alloc(Kind::Bytes, b"reverberation")?;
+//! heap.seal()?;
+//! heap.free(first)?;
+//! assert_eq!(heap.free(first), Err(Refusal::Stale));
+//! assert!(heap.has_quarantine()?);
+//! heap.recycle(&[])?;
+//! assert_eq!(heap.live()?, 0);
+//! # Ok::<(), Refusal>(())
+//! ```
+#![warn(missing_docs)]
+
+pub mod ffi;
+mod function;
+mod handle;
+mod heap;
+mod refusal;
+mod types;
+
+pub use ffi::Header;
+pub use function::{Class, Function, InstKind, Wanted};
+pub use handle::Handle;
+pub use heap::{Heap, Kind, Memory, Object, Scratch, Stamp};
+pub use refusal::Refusal;
+pub use types::{descriptor, ConstId, Direction, FrameSlot, Layout, TypeId, TypeTable, NO_CONSTANT};

@@ -1,0 +1,268 @@
+use crate::ffi;
+use crate::{Handle, Refusal};
+
+/// A type's number in its table.
+pub type TypeId = u32;
+
+/// A constant's number in its table.
+pub type ConstId = u32;
+
+/// No constant: the value brings its own descriptor.
+pub const NO_CONSTANT: ConstId = u32::MAX;
+
+/// The types of a saved run, and the constants that describe fields and elements.
+///
+/// ```
+/// use yexwalu::{TypeTable, Refusal, descriptor, Direction};
+/// let mut table = TypeTable::new();
+/// let byte = table.enumeration(4, 0);
+/// let access = table.access();
+/// let record = table.record(&[(byte, None), (access, None), (byte, None)]);
+/// let layout = table.layout(record, &[])?;
+/// assert_eq!((layout.size, layout.offsets), (24, vec![0, 8, 16]));
+/// let int = table.integer(0, 100);
+/// let array = table.array(int, None, 1);
+/// let five = descriptor(&[(1, 5, Direction::To)]);
+/// assert_eq!(table.layout(array, &five)?.size, 20);
+/// # Ok::<(), Refusal>(())
+/// ```
+#[derive(Clone, Debug, Default, PartialEq, Eq)]
+pub struct TypeTable {
+    /// Four words a type.
+    pub types: Vec<u64>,
+    /// Two words a field of a record.
+    pub fields: Vec<u32>,
+    /// Three words a constant.
+    pub consts: Vec<u64>,
+    /// The bytes of the constants.
+    pub bytes: Vec<u8>,
+}
+
+/// Which way an array's index goes.
+#[derive(Clone, Copy, Debug, PartialEq, Eq)]
+pub enum Direction {
+    /// Rising.
+    To,
+    /// Falling.
+    Downto,
+}
+
+/// The descriptor bytes of dimensions: left, right and direction of each.
+pub fn descriptor(dimensions: &[(i64, i64, Direction)]) -> Vec<u8> {
+    let mut bytes = Vec::new();
+    for (left, right, direction) in dimensions {
+        bytes.extend_from_slice(&left.to_le_bytes());
+        bytes.extend_from_slice(&right.to_le_bytes());
+        bytes.extend_from_slice(&i64::from(*direction == Direction::Downto).to_le_bytes());
+    }
+    bytes
+}
+
+/// A layout.
+#[derive(Clone, Debug, PartialEq, Eq)]
+pub struct Layout {
+    /// Bytes of a value.
+    pub size: u64,
+    /// Alignment of a value.
+    pub align: u64,
+    /// Bytes from one element of an array to the next; 0 for other types and packed logic.
+    pub stride: u64,
+    /// Elements of an array; 1 for other types.
+    pub count: u64,
+    /// Bytes of the descriptor that were used.
+    pub used: usize,
+    /// Where each field of a record lies.
+    pub offsets: Vec<u64>,
+}
+
+/// One entry of a frame map.
+#[derive(Clone, Copy, Debug, PartialEq, Eq)]
+pub struct FrameSlot {
+    /// Where it lies in the frame's memory.
+    pub offset: u32,
+    /// What it holds: 0 a handle, 1 an address, 2 a composite.
+    pub kind: u8,
+    /// The type of a composite.
+    pub ty: TypeId,
+}
+
+macro_rules! on_table {
+    ($table:ident, $call:ident ($($after:expr),*)) => {
+        // The call reads the table and writes the outputs given, each within the length that is passed with it.
+        unsafe {
+            ffi::$call(
+                $table.types.as_ptr(), $table.types.len(),
+                $table.fields.as_ptr(), $table.fields.len(),
+                $table.consts.as_ptr(), $table.consts.len(),
+                $table.bytes.as_ptr(), $table.bytes.len(),
+                $($after),*
+            )
+        }
+    };
+}
+
+impl TypeTable {
+    /// A table without types.
+    pub fn new() -> TypeTable {
+        TypeTable::default()
+    }
+
+    fn add(&mut self, row: [u64; 4]) -> TypeId {
+        self.types.extend_from_slice(&row);
+        (self.types.len() / 4 - 1) as TypeId
+    }
+
+    /// Whole numbers from `lo` to `hi`.
+    pub fn integer(&mut self, lo: i64, hi: i64) -> TypeId {
+        self.add([0, lo as u64, hi as u64, 0])
+    }
+
+    /// A physical type.
+    pub fn physical(&mut self) -> TypeId {
+        self.add([1, 0, 0, 0])
+    }
+
+    /// So many literals; `logic` is 0, or 1 to 3 for a logic type.
+    pub fn enumeration(&mut self, literals: u64, logic: u64) -> TypeId {
+        self.add([2, literals, logic, 0])
+    }
+
+    /// Floating point numbers.
+    pub fn real(&mut self) -> TypeId {
+        self.add([3, 0, 0, 0])
+    }
+
+    /// An array of so many dimensions; `elem_desc` describes an element that needs it.
+    pub fn array(&mut self, elem: TypeId, elem_desc: Option<ConstId>, dims: u8) -> TypeId {
+        self.add([4, elem.into(), elem_desc.unwrap_or(NO_CONSTANT).into(), dims.into()])
+    }
+
+    /// A record of these fields, each with the constant that describes it, if it has one.
+    pub fn record(&mut self, fields: &[(TypeId, Option<ConstId>)]) -> TypeId {
+        let first = self.fields.len() / 2;
+        for (ty, desc) in fields {
+            self.fields.extend_from_slice(&[*ty, desc.unwrap_or(NO_CONSTANT)]);
+        }
+        self.add([5, first as u64, fields.len() as u64, 0])
+    }
+
+    /// Handles.
+    pub fn access(&mut self) -> TypeId {
+        self.add([6, 0, 0, 0])
+    }
+
+    /// A file type.
+    pub fn file(&mut self) -> TypeId {
+        self.add([7, 0, 0, 0])
+    }
+
+    /// A protected type: a handle.
+    pub fn protected(&mut self) -> TypeId {
+        self.add([8, 0, 0, 0])
+    }
+
+    /// A constant of plain bytes.
+    pub fn constant(&mut self, bytes: &[u8]) -> ConstId {
+        self.consts.extend_from_slice(&[1, self.bytes.len() as u64, bytes.len() as u64]);
+        self.bytes.extend_from_slice(bytes);
+        (self.consts.len() / 3 - 1) as ConstId
+    }
+
+    /// A constant that is not plain bytes.
+    pub fn other_constant(&mut self) -> ConstId {
+        self.consts.extend_from_slice(&[0, 0, 0]);
+        (self.consts.len() / 3 - 1) as ConstId
+    }
+
+    /// The layout of a type under a descriptor.
+    pub fn layout(&self, ty: TypeId, desc: &[u8]) -> Result<Layout, Refusal> {
+        // no record has more fields than the table
+        let mut offsets = vec![0; self.fields.len() / 2];
+        let layout = self.layout_into(ty, desc, &mut offsets)?;
+        offsets.truncate(layout.offsets as usize);
+        Ok(Layout {
+            size: layout.size,
+            align: layout.align,
+            stride: layout.stride,
+            count: layout.count,
+            used: layout.used as usize,
+            offsets,
+        })
+    }
+
+    /// As `layout`, with the offsets written to the front of a lent list.
+    pub fn layout_into(&self, ty: TypeId, desc: &[u8], offsets: &mut [u64]) -> Result<ffi::RawLayout, Refusal> {
+        let layout = on_table!(self, yexwalu_layout(ty.into(), desc.as_ptr(), desc.len(), offsets.as_mut_ptr(), offsets.len()));
+        Refusal::check(layout.number)?;
+        Ok(layout)
+    }
+
+    /// The bytes of a descriptor of a type; a type that has none of a fixed size is refused (11).
+    pub fn desc_size(&self, ty: TypeId) -> Result<u64, Refusal> {
+        let answer = on_table!(self, yexwalu_desc_size(ty.into()));
+        Refusal::check(answer.number)?;
+        Ok(answer.first)
+    }
+
+    /// Can values of the type hold handles?
+    pub fn has_handles(&self, ty: TypeId) -> Result<bool, Refusal> {
+        let answer = on_table!(self, yexwalu_has_handles(ty.into()));
+        Refusal::check(answer.number)?;
+        Ok(answer.first == 1)
+    }
+
+    // Eight bytes a handle, but composites of a frame may overlap: where the first try is too short, the room is doubled.
+    fn listed(mut room: usize, mut call: impl FnMut(&mut [u64]) -> Result<usize, Refusal>) -> Result<Vec<Handle>, Refusal> {
+        loop {
+            let mut out = vec![0; room];
+            match call(&mut out) {
+                Err(Refusal::ShortList) => room = 2 * room + 1,
+                Err(why) => return Err(why),
+                Ok(n) => return Ok(out[..n].iter().map(|x| Handle(*x)).collect()),
+            }
+        }
+    }
+
+    /// The handles of an object's visible data: its descriptor, then its value.
+    pub fn object_handles(&self, ty: TypeId, data: &[u8]) -> Result<Vec<Handle>, Refusal> {
+        TypeTable::listed(data.len() / 8, |out| self.object_handles_into(ty, data, out))
+    }
+
+    /// As `object_handles`, with the handles written to the front of a lent list. The answer is how many.
+    pub fn object_handles_into(&self, ty: TypeId, data: &[u8], out: &mut [u64]) -> Result<usize, Refusal> {
+        let answer = on_table!(self, yexwalu_object_handles(ty.into(), data.as_ptr(), data.len(), out.as_mut_ptr(), out.len()));
+        Refusal::check(answer.number)?;
+        Ok(answer.first as usize)
+    }
+
+    /// The handles of a value of a type that needs no descriptor.
+    pub fn value_handles(&self, ty: TypeId, data: &[u8]) -> Result<Vec<Handle>, Refusal> {
+        TypeTable::listed(data.len() / 8, |out| self.value_handles_into(ty, data, out))
+    }
+
+    /// As `value_handles`, with the handles written to the front of a lent list. The answer is how many.
+    pub fn value_handles_into(&self, ty: TypeId, data: &[u8], out: &mut [u64]) -> Result<usize, Refusal> {
+        let answer = on_table!(self, yexwalu_value_handles(ty.into(), data.as_ptr(), data.len(), out.as_mut_ptr(), out.len()));
+        Refusal::check(answer.number)?;
+        Ok(answer.first as usize)
+    }
+
+    /// The handles and the addresses of a frame's memory by its map.
+    pub fn slot_roots(&self, map: &[FrameSlot], memory: &[u8]) -> Result<(Vec<Handle>, Vec<u64>), Refusal> {
+        let offsets: Vec<u32> = map.iter().map(|s| s.offset).collect();
+        let kinds: Vec<u8> = map.iter().map(|s| s.kind).collect();
+        let tys: Vec<u32> = map.iter().map(|s| s.ty).collect();
+        let mut addresses = vec![0; map.len()];
+        let mut found = 0;
+        let handles = TypeTable::listed(map.len() + memory.len() / 8, |out| {
+            let answer = on_table!(self, yexwalu_slot_roots(
+                offsets.as_ptr(), offsets.len(), kinds.as_ptr(), kinds.len(), tys.as_ptr(), tys.len(), memory.as_ptr(), memory.len(),
+                out.as_mut_ptr(), out.len(), addresses.as_mut_ptr(), addresses.len()));
+            Refusal::check(answer.number)?;
+            found = answer.second as usize;
+            Ok(answer.first as usize)
+        })?;
+        addresses.truncate(found);
+        Ok((handles, addresses))
+    }
+}

@@ -1,0 +1,201 @@
+//! Random calls held against the Rust that this repository ports, which answers over a pipe (oracle/README.md). YEXWALU_ORACLE names the built oracle; without it this test says so
+//! and passes. The Rust knows no pool, so 6 never comes, and panics where a slot to reissue is not there, so that is not asked.
+mod common;
+use common::Random;
+use std::io::{BufRead, BufReader, Write};
+use std::process::{Child, ChildStdin, ChildStdout, Command, Stdio};
+use yexwalu::{Handle, Heap, Kind, Refusal};
+
+struct Oracle {
+    child: Child,
+    ask: ChildStdin,
+    answers: BufReader<ChildStdout>,
+}
+
+impl Oracle {
+    fn start() -> Option<Oracle> {
+        let path = std::env::var_os("YEXWALU_ORACLE")?;
+        let mut child = Command::new(path)
+            .env("ORACLE_FLUSH", "1")
+            .stdin(Stdio::piped())
+            .stdout(Stdio::piped())
+            .spawn()
+            .expect("the oracle starts");
+        let ask = child.stdin.take().unwrap();
+        let answers = BufReader::new(child.stdout.take().unwrap());
+        Some(Oracle { child, ask, answers })
+    }
+
+    fn ask(&mut self, line: &str) -> String {
+        writeln!(self.ask, "{line}").unwrap();
+        self.ask.flush().unwrap();
+        let mut answer = String::new();
+        self.answers.read_line(&mut answer).unwrap();
+        answer.trim_end().to_string()
+    }
+}
+
+impl Drop for Oracle {
+    fn drop(&mut self) {
+        let _ = self.child.kill();
+        let _ = self.child.wait();
+    }
+}
+
+fn hex(bytes: &[u8]) -> String {
+    if bytes.is_empty() {
+        return "-".into();
+    }
+    bytes.iter().map(|b| format!("{b:02x}")).collect()
+}
+
+fn list<T: ToString>(items: &[T]) -> String {
+    if items.is_empty() {
+        return "-".into();
+    }
+    items.iter().map(T::to_string).collect::<Vec<_>>().join(",")
+}
+
+fn told<T>(answer: Result<T, Refusal>, show: impl Fn(T) -> String) -> String {
+    match answer {
+        Ok(value) => format!("0 {}", show(value)).trim_end().to_string(),
+        Err(why) => why.number().to_string(),
+    }
+}
+
+struct Run {
+    random: Random,
+    heap: Heap,
+    handles: Vec<Handle>,
+}
+
+impl Run {
+    fn handle(&mut self) -> Handle {
+        match self.random.below(12) {
+            0 => Handle::NULL,
+            1 => Handle(self.random.word()),
+            _ if self.handles.is_empty() => Handle(1),
+            _ => self.handles[self.random.below(self.handles.len() as u64) as usize],
+        }
+    }
+
+    fn slot(&mut self) -> u32 {
+        self.random.below(self.heap.header().slots as u64 + 2) as u32
+    }
+
+    // One random call: the line for the oracle, and the answer here.
+    fn step(&mut self) -> (String, String) {
+        match self.random.below(18) {
+            0..=4 => {
+                let (k, kind) = match self.random.below(3) {
+                    0 => (1, Kind::Typed(self.random.below(9) as u32)),
+                    1 => (2, Kind::Bytes),
+                    _ => (3, Kind::Handles),
+                };
+                let ty = if let Kind::Typed(t) = kind { t } else { 0 };
+                let bytes = self.random.bytes(40);
+                let start = self.random.below(12) as usize;
+                let answer = self.heap.alloc_from(kind, start, &bytes);
+                if let Ok(h) = answer {
+                    self.handles.push(h);
+                }
+                (format!("alloc {k} {ty} {start} {}", hex(&bytes)), told(answer, |h| h.to_string()))
+            }
+            5 | 6 => {
+                let h = self.handle();
+                (format!("take {h}"), told(self.heap.take(h), |o| format!("{} {}", hex(&o.bytes), o.start)))
+            }
+            7 => {
+                let h = self.handle();
+                (format!("free {h}"), told(self.heap.free(h), |()| String::new()))
+            }
+            8 => {
+                let (h, bytes, start) = (self.handle(), self.random.bytes(40), self.random.below(12) as usize);
+                (format!("edit {h} {} {start}", hex(&bytes)), told(self.heap.edit(h, &bytes, start), |i| i.to_string()))
+            }
+            9 => {
+                let (i, at, bytes) = (self.slot(), self.random.below(12) as usize, self.random.bytes(9));
+                (format!("write {i} {at} {}", hex(&bytes)), told(self.heap.write(i, at, &bytes), |()| String::new()))
+            }
+            10 if self.heap.header().slots > 0 => {
+                let i = self.random.below(self.heap.header().slots as u64) as u32;
+                let grown = self.random.below(99);
+                let answer = self.heap.reissue(i, grown);
+                self.handles.extend(answer.ok());
+                (format!("reissue {i} {grown}"), told(answer, |h| h.to_string()))
+            }
+            10 | 11 => {
+                let mut pins: Vec<u32> = (0..self.random.below(4)).map(|_| self.random.below(40) as u32).collect();
+                pins.sort();
+                pins.dedup();
+                (format!("recycle {}", list(&pins)), told(self.heap.recycle(&pins), |()| String::new()))
+            }
+            12 => ("seal".into(), told(self.heap.seal(), |()| String::new())),
+            13 => {
+                let h = self.handle();
+                (format!("resolve {h}"), told(self.heap.resolve(h), |i| i.to_string()))
+            }
+            14 => {
+                let i = self.slot();
+                (format!("data {i}"), told(self.heap.data(i), hex))
+            }
+            15 => {
+                let i = self.slot();
+                let show = |k| match k {
+                    Kind::Typed(t) => format!("1 {t}"),
+                    Kind::Bytes => "2 0".into(),
+                    Kind::Handles => "3 0".into(),
+                };
+                (format!("kind {i}"), told(self.heap.kind(i), show))
+            }
+            16 => {
+                let i = self.slot();
+                (format!("stamp {i}"), told(self.heap.stamp(i), |s| format!("{} {}", s.generation, s.writes)))
+            }
+            _ => {
+                let yes = |b: bool| u8::from(b).to_string();
+                match self.random.below(5) {
+                    0 => {
+                        let n = self.random.below(2000);
+                        (format!("gcdue {n}"), told(self.heap.gc_due(n), yes))
+                    }
+                    1 => ("reclaimdue".into(), told(self.heap.reclaim_due(), yes)),
+                    2 => ("hasquarantine".into(), told(self.heap.has_quarantine(), yes)),
+                    3 => {
+                        let tag = self.random.below(4) as u8;
+                        (format!("isplain {tag}"), told(self.heap.is_plain(tag), yes))
+                    }
+                    _ => {
+                        let live = self.heap.live().unwrap();
+                        ("slots".into(), told(self.heap.slots(), |n| format!("{n} {live}")))
+                    }
+                }
+            }
+        }
+    }
+}
+
+#[test]
+fn random_calls_answer_as_the_rust() {
+    let Some(mut oracle) = Oracle::start() else {
+        println!("YEXWALU_ORACLE is not set: nothing was compared");
+        return;
+    };
+    for seed in 1..=40 {
+        let slots = 1 + seed as usize % 33;
+        let mut run = Run {
+            random: Random::new(seed),
+            heap: Heap::new(seed as u8, slots, 8192).unwrap(),
+            handles: Vec::new(),
+        };
+        assert_eq!(oracle.ask(&format!("new {} {slots}", seed as u8)), "0");
+        for step in 0..250 {
+            let (line, here) = run.step();
+            assert_eq!(oracle.ask(&line), here, "seed {seed}, call {step}: {line}");
+        }
+        let page = String::from_utf8(run.heap.write_page().unwrap()).unwrap();
+        assert_eq!(oracle.ask("page"), format!("0 {}", page.replace('\n', ";")), "seed {seed}");
+        let header = run.heap.header();
+        assert_eq!(oracle.ask("epoch"), format!("0 {} {}", header.epoch, list(&header.log)), "seed {seed}");
+    }
+}
