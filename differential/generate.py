@@ -251,7 +251,7 @@ class Writer:
             g = self.pick((3, self.r.randint(1, 5)), (3, U32), (2, U32 - 1), (1, self.r.randint(1, U32)))
             self.rows.append(Row(g, 2, 0, 0, b""))
         self.states(n)
-        self.do(f"load {self.S} {self.pool} {self.page_text()}")
+        self.do(f"load {self.S} {self.page_text()} {self.pool}")
 
     def states(self, n):
         for i in range(n):
