@@ -28,7 +28,7 @@ ROWS = [
     ("a block past the code", ["func - 0:1", "live 0"], "15", "panic", "panic"),
     ("blocks that share an instruction", ["func - 0:1,0:1", "inst 1 - - -", "live 0"], "15", "0 0=-;0=-", "0 0=-;0=-"),
     ("pins that do not rise", TWO_DEAD + ["recycle 1,0", "page"], "14", LOST, LOST),
-    ("a free slot beyond the slots", [f"load 1 64 {HEAD};1,0,4096,0,0,1,0,0;{COLUMNS};free;0;quarantine;sealed;", "alloc 2 0 0 -"], "1", "panic", "panic"),
+    ("a free slot beyond the slots", [f"load 1 {HEAD};1,0,4096,0,0,1,0,0;{COLUMNS};free;0;quarantine;sealed; 64", "alloc 2 0 0 -"], "1", "panic", "panic"),
     ("a write to a dead slot", ["new 1 1 64", "alloc 2 0 0 -", f"free {h(0, 1)}", "write 0 0 -", "raw"], None, "0 2/Bytes/0/1/dead ", "0 2/Bytes/0/1/dead "),
     ("a dead slot's leftovers", ["new 1 1 64", "alloc 1 9 3 41", f"free {h(0, 1)}", "raw"], None, "0 2/Typed(TyId(9))/3/0/dead ", "0 2/Typed(TyId(9))/3/0/dead "),
     ("the epoch's end", ["new 1 1 64", "alloc 2 0 0 -", f"setepoch {U64} {LOG}", f"edit {h(0, 1)} - 0"], "0 0", "0 0", "panic"),

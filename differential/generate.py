@@ -26,6 +26,7 @@ class Limits:
     """What the program under test lends: no script goes beyond."""
 
     slots = 64
+    most_slots = 512
     pool = 1 << 16
     line = 1 << 15
     data = 400
@@ -251,7 +252,7 @@ class Writer:
             g = self.pick((3, self.r.randint(1, 5)), (3, U32), (2, U32 - 1), (1, self.r.randint(1, U32)))
             self.rows.append(Row(g, 2, 0, 0, b""))
         self.states(n)
-        self.do(f"load {self.S} {self.pool} {self.page_text()}")
+        self.do(f"load {self.S} {self.page_text()} {self.pool}")
 
     def states(self, n):
         for i in range(n):
@@ -708,6 +709,26 @@ class Writer:
         ),
     }
 
+    def many(self):
+        """A heap of hundreds of objects that hold each other, thinned out and collected."""
+        self.S, self.pool, self.tag = self.limits.most_slots, self.limits.pool, self.r.choice([1, 2, 200])
+        self.do(f"new {self.tag} {self.S} {self.pool}")
+        self.rows, self.free, self.quarantine, self.old = [], [], [], []
+        self.new_func()
+        for _ in range(self.r.randint(2, 4)):
+            for _ in range(self.r.randint(60, 200)):
+                # Mostly to the objects just made: long chains.
+                near = [self.handle_of(i) for i in self.live()[-3:]] or [0]
+                words = [self.r.choice(near) if self.chance(0.7) else self.handle() for _ in range(self.r.randint(1, 2))]
+                self.alloc(3, 0, bytes(24) + b"".join(w.to_bytes(8, "little") for w in words))
+            for _ in range(self.r.randint(5, 60)):
+                self.release()
+            if self.chance(0.3):
+                self.recycle()
+            (self.joined if self.chance(0.3) else self.collect)()
+            self.ask_heap()
+            self.page()
+
     def seal(self):
         self.do("seal")
         if self.chance(0.5):
@@ -731,6 +752,8 @@ class Writer:
             if mode == "func" and self.chance(0.06):
                 self.new_func()
             getattr(self, self.r.choices(names, weights)[0])()
+        if length is None and self.chance(0.02):
+            self.many()
         self.page()
         self.do("epoch")
 
@@ -749,7 +772,9 @@ class Function:
 
     @classmethod
     def any(cls, r):
-        regs = r.choice([0, 1, 2, 4, 4, 6, 6, 8, 10, 63, 64, 65, 66, 130])
+        # Now and then a large one.
+        large = r.random() < 0.03
+        regs = r.choice([129, 200, 320]) if large else r.choice([0, 1, 2, 4, 4, 6, 6, 8, 10, 63, 64, 65, 66, 130])
         classes = [r.choice([4, 4, 4, 2, 2, 0, 1, 3]) for _ in range(regs)]
         near = [r.randrange(regs) for _ in range(8)] if regs else []
 
@@ -758,7 +783,7 @@ class Function:
             out = [r.choice(known) for _ in range(r.randint(0, n))] if known else []
             return out + ([r.choice([regs, regs + 5, U32])] if r.random() < 0.04 else [])
 
-        n, code, blocks = r.choice([0, 1, 1, 2, 3, 4, 5, 6, 8]), [], []
+        n, code, blocks = r.randint(20, 70) if large else r.choice([0, 1, 1, 2, 3, 4, 5, 6, 8]), [], []
         for b in range(n):
             # Instructions between blocks belong to none.
             while r.random() < 0.08:

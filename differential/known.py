@@ -57,3 +57,12 @@ def same(command, oracle, replay):
         if test(command, oracle, replay):
             return name
     return None
+
+
+def as_port(line, answer):
+    """The oracle's answer as the port writes it."""
+    if answer == "none":
+        return "11"
+    if line.split(" ", 1)[0] in ("objh", "valh", "slotroots") and number(answer) == "13":
+        return "13"
+    return answer

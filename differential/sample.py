@@ -1,19 +1,20 @@
 #!/usr/bin/env python3
-"""Writes the sample that the gate runs: the shapes, then episodes from a seed, with the oracle's answers.
+"""Writes the sample that the gate runs: the shapes, then episodes from a seed, with the oracle's answers; last, the refusals that the Rust does not have.
 
     sample.py --oracle PATH --seed N --lines N --out FOLDER       writes FOLDER/stdin and FOLDER/stdout
 
 An answer stands as the port gives it: 13 without what the Rust had pushed, and 11 for a descriptor without a size. It stops if a call or an answer that the Rust can
-give is missing."""
+give is missing. The last part's refusals come from document 01 (refusals.py); its other lines are the oracle's too."""
 
 import argparse
 import os
 import sys
 
 import generate
-import known
+import refusals
 import shapes
 from compare import kind
+from known import as_port
 from machine import Oracle
 
 # The answers that the Rust can give to each call, yes (`0 1`) and no (`0 0`) apart.
@@ -36,15 +37,6 @@ class Short(generate.Limits):
     pool = 4096
     line = 2000
     data = 96
-
-
-def as_port(line, answer):
-    """The answer as the port writes it."""
-    if answer == "none":
-        return "11"
-    if line.split(" ", 1)[0] in ("objh", "valh", "slotroots") and known.number(answer) == "13":
-        return "13"
-    return answer
 
 
 def sample(oracle, seed, lines):
@@ -74,12 +66,14 @@ def main():
     if wanted - seen:
         print("missing: " + ", ".join(" ".join(x) for x in sorted(wanted - seen)), file=sys.stderr)
         return 1
+    own = refusals.script(a.oracle)
+    lines, told = lines + own[0], told + own[1]
     os.makedirs(a.out, exist_ok=True)
     for name, text in (("stdin", lines), ("stdout", told)):
         with open(os.path.join(a.out, name), "w") as f:
             f.write("\n".join(text) + "\n")
     longest = max(map(len, lines))
-    print(f"{len(lines)} lines, {len(seen)} pairs of command and answer, longest line {longest} bytes, seed {a.seed}")
+    print(f"{len(lines)} lines, the last {len(own[0])} with document 01's own refusals; {len(seen)} pairs of command and answer by the Rust; longest line {longest} bytes; seed {a.seed}")
     return 0
 
 

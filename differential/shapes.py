@@ -48,7 +48,7 @@ def handles():
 def generations():
     """(c): a generation goes from its end to 1, in alloc, reissue, take and collect; a dead slot may be reissued."""
     rows = [f"{U32},2,0,0,{U32},41", f"{U32},0,0,0,0,", f"{U32 - 1},2,0,0,7,42", f"{U32},3,0,0,0,"]
-    yield from [f"load 5 64 {page([1, U64, 4096, 0], rows, [1])}", "page", "stamp 0", "write 0 0 43", "stamp 0", f"edit {h(0, U32)} 44 0"]
+    yield from [f"load 5 {page([1, U64, 4096, 0], rows, [1])} 64", "page", "stamp 0", "write 0 0 43", "stamp 0", f"edit {h(0, U32)} 44 0"]
     yield from ["stamp 0", "reissue 0 5", "stamp 0", f"resolve {h(0, U32)}", "reissue 1 0", "reissue 1 0", "alloc 2 0 0 45", f"take {h(3, U32)}"]
     yield from ["reissue 3 1", "reissue 3 1", "collect - -", "page", "epoch", "alloc 2 0 0 -", "alloc 2 0 0 -", "alloc 2 0 0 -", "alloc 2 0 0 -", "page"]
 
@@ -197,7 +197,7 @@ def joined():
 def reclaims():
     """A quarantine that makes a recycling due, and pins that keep more than 2,048 slots: long lines."""
     rows = ["1,0,0,0,0,"] * 4097 + ["1,2,0,0,0,41"]
-    yield from [f"load 4200 64 {page([1, 0, 4096, 0], rows, [5], [i for i in range(4096, -1, -1) if i != 5])}", "reclaimdue", "gcdue 0"]
+    yield from [f"load 4200 {page([1, 0, 4096, 0], rows, [5], [i for i in range(4096, -1, -1) if i != 5])} 64", "reclaimdue", "gcdue 0"]
     pins = ",".join(str(i) for i in range(0, 4400, 2))
     yield from [f"recycle {pins}", "page", "reclaimdue", f"collect - {pins}", "page", "recycle 1,2,3", "page", "reclaimdue", "hasquarantine"]
     yield from ["alloc 2 0 0 42", "alloc 2 0 0 43", "slots", "collect - 0,1,2", "page", "epoch"]

@@ -223,7 +223,7 @@ impl State {
             }
             "load" => {
                 let s = slot_limit(a.next())?;
-                let heap = load(a.next_back().ok_or("no page")?)?;
+                let heap = load(a.next().ok_or("no page")?)?;
                 limit::set(s);
                 self.heap = heap;
                 "0".into()
