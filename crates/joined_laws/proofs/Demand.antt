@@ -73,6 +73,7 @@ module _ (T : Table) (f : Function) (pc : ℕ) (good : valid f ≡ true) (at : s
           record {
             untraceable = (λ q. inl refl, λ k. refl);
             unchanged = λ q. refl;
+            begins = λ hs e. let z : _≡_ {A = ℕ} 0 1 = cc in absurd (omega arith);
             succeeds = λ no other. absurd (no refl);
             collects = λ hs e. let z : _≡_ {A = ℕ} 0 1 = cc in absurd (omega arith);
           }
@@ -83,6 +84,7 @@ module _ (T : Table) (f : Function) (pc : ℕ) (good : valid f ≡ true) (at : s
               λ k. ⊎-elim (λ e. let z : _≡_ {A = ℕ} 0 1 = cc in absurd (omega arith)) (λ (hs, e, s). other hs e (s .from) (s .starts) .untraceable .1 (s .stuck)) k,
             );
             unchanged = all .unchanged;
+            begins = λ hs e. (S, at-handles hs e begins);
             succeeds = λ no free. all .succeeds (λ k. free handles refl (record { from = S; starts = begins; stuck = k }));
             collects = λ hs e S′ b. other hs e S′ b;
           }
@@ -92,6 +94,9 @@ module _ (T : Table) (f : Function) (pc : ℕ) (good : valid f ≡ true) (at : s
 
           begins : JoinedStarts f pc values handles (h .sealed) pins S
           begins = joined-starts f pc good at values handles pins h
+
+          at-handles : (hs : List ℕ) → some handles ≡ some hs → JoinedStarts f pc values handles (h .sealed) pins S → JoinedStarts f pc values hs (h .sealed) pins S
+          at-handles hs e b = let w : handles ≡ hs = cc in subst (λ (l : List ℕ). JoinedStarts f pc values l (h .sealed) pins S) w b
 
           all : Collects (graph h (shown T h)) S h (collected (graph h (shown T h)) S h)
           all = collect-demand h (shown T h) (handles ++ valuesOf values (rootRegisters f pc)) pins

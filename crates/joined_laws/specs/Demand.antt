@@ -40,6 +40,8 @@ pub record Joins (T : Table) (f : Function) (pc : ℕ) (values : List ℕ) (fram
   -- refused exactly when the frame map or a reached object can't be traced, and then the heap is unchanged
   pub untraceable : (r .answer ≡ refused 13) ↔ ((frame ≡ none) ⊎ ((handles : List ℕ) × (frame ≡ some handles) × StuckAt T f pc values handles pins h))
   pub unchanged : r .answer ≡ refused 13 → r .heap ≡ h
+  -- there is such a start for chains wherever the frame map can be traced
+  pub begins : (handles : List ℕ) → frame ≡ some handles → (S : Starts) × JoinedStarts f pc values handles (h .sealed) pins S
   -- otherwise it succeeds, an object outlives it exactly if it was reached, nothing else is live afterwards, and survivors are as they were
   pub succeeds : (frame ≡ none → ⊥) → ((handles : List ℕ) → frame ≡ some handles → StuckAt T f pc values handles pins h → ⊥) → r .answer ≡ ok tt
   pub collects : (handles : List ℕ) → frame ≡ some handles → (S : Starts) → JoinedStarts f pc values handles (h .sealed) pins S → Collects (graph h (shown T h)) S h r
