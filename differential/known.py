@@ -28,12 +28,7 @@ def pushed(command, oracle, replay):
     return command in ("objh", "valh", "slotroots") and number(oracle) == number(replay) == "13"
 
 
-def no_size(command, oracle, replay):
-    """`desc_size` without an answer is told as 11 by the port (docs/DECISIONS.md); the oracle prints the Rust's None."""
-    return command == "descsize" and oracle == "none" and replay == "11"
-
-
-SAME = {"partial output on 13": pushed, "no descriptor size": no_size}
+SAME = {"partial output on 13": pushed}
 
 
 def outside(command, oracle, replay):
@@ -61,8 +56,6 @@ def same(command, oracle, replay):
 
 def as_port(line, answer):
     """The oracle's answer as the port writes it."""
-    if answer == "none":
-        return "11"
     if line.split(" ", 1)[0] in ("objh", "valh", "slotroots") and number(answer) == "13":
         return "13"
     return answer

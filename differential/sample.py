@@ -3,8 +3,7 @@
 
     sample.py --oracle PATH --seed N --lines N --out FOLDER       writes FOLDER/stdin and FOLDER/stdout
 
-An answer stands as the port gives it: 13 without what the Rust had pushed, and 11 for a descriptor without a size. It stops if a call or an answer that the Rust can
-give is missing. The last part's refusals come from document 01 (refusals.py); its other lines are the oracle's too."""
+An answer stands as the port gives it: 13 without what the Rust had pushed. It stops if a call or an answer that the Rust can give is missing. The last part's refusals come from document 01 (refusals.py); its other lines are the oracle's too."""
 
 import argparse
 import os
@@ -25,7 +24,7 @@ ANSWERS = {
     "take": RESOLVES, "free": RESOLVES, "recycle": ["0"], "seal": ["0"], "gcdue": YES_NO, "hasquarantine": YES_NO, "isplain": YES_NO,
     "reclaimdue": ["0 0"], "resolve": RESOLVES, "data": ["0", "9"], "kind": ["0", "9"], "stamp": ["0", "9"], "slots": ["0"],
     "collect": ["0", "13"], "joined": ["0", "13", "16"], "page": ["0"], "epoch": ["0"], "table": ["0"], "ty": ["0"], "const": ["0"],
-    "layout": ["0", "11", "12"], "descsize": ["0", "11"], "hashandles": YES_NO, "objh": ["0", "13"], "valh": ["0", "13"],
+    "layout": ["0", "11", "12"], "descsize": ["0", "none"], "hashandles": YES_NO, "objh": ["0", "13"], "valh": ["0", "13"],
     "slotroots": ["0", "13"], "func": ["0"], "inst": ["0"], "live": ["0"], "liveat": ["0", "16"],
 }
 
