@@ -1,10 +1,10 @@
 -- What the code's readers say of a line: one law for each way out. Assumes nothing.
 use Prim.Native.Nat.{ℕ, _≤_, _<_, _^_}
 use mathlib.Core.List.{List, [], _∷_}
-use mathlib.Core.Option.{Option, none, some}
+use mathlib.Core.Option.{Option, none}
 use mathlib.Core.Path.{_≡_, refl, sym, ap, _∙_, subst}
 use lib.ListN.{length, drop}
-use Rattle.text.specs.Text.{give, _>>=_, ascii, comma, digitOf, readHex, readLiteral, readField}
+use Rattle.text.specs.Text.{give, ascii, comma, digitOf, readHex, readLiteral, readField}
 use Rattle.text.specs.Format.{number, bytesLine, pair}
 use Rattle.text.specs.Answer.{decimalAnswer, literalAnswer, hexAnswer, hexAt}
 use Rattle.text.specs.declared.Decimal.{Decimal}
@@ -16,7 +16,6 @@ use Rattle.text.specs.declared.Hex.the-variants.{Count, NoHex}
 use Rattle.text.proofs.Getting.{answer-none, field-found, hex-found, hex-missing, literal-found, literal-lost}
 use Rattle.script.specs.Script.{Call, alloc, take, seal, recycle, allocFormat, readAlloc, readTake, readCall}
 use Rattle.script.specs.Found.{AllocRead, Reads, LineRead}
-use Rattle.script.specs.declared.AllocLine.{AllocLine}
 use Rattle.script.specs.declared.Line.{Line}
 
 no-comma : digitOf comma ≡ none

@@ -4,10 +4,10 @@ use mathlib.Core.Bool.{Bool, true, false}
 use mathlib.Core.List.{List, [], _∷_, _++_, append-assoc}
 use mathlib.Core.Path.{_≡_, refl, sym, ap, _∙_}
 use lib.Dec.{eqb, ltb}
+use lib.ListN.{length, length-append}
 use native.Mathlib.Omega.{arith}
 use borrow.Author.Tests.{ne-eqb, ltb-true, ltb-false}
-use Rattle.word.specs.Choice.{if_then_else_}
-use Rattle.text.specs.Text.{ascii, newline, comma, decimal, hexDigit, hex, line}
+use Rattle.text.specs.Text.{ascii, newline, comma, decimal, hex, line}
 use Rattle.text.specs.Format.{All}
 use Rattle.text.proofs.Laws.{decimal-one, decimal-more, hex-digit-above}
 use Rattle.heap.specs.Packing.{flat}
@@ -127,3 +127,7 @@ pub lines-call : (c : Call) (rest : List ℕ) → lines (callLine c ++ rest) ≡
 lines-call c rest =
     let p = plain-call c in
     rw (p .1) (ap lines (append-assoc (p .0) (newline ∷ []) rest) ∙ lines-first (p .0) rest (p .2))
+
+-- a call's line is not empty
+pub call-long : (c : Call) → 0 < length (callLine c)
+call-long c = let p = plain-call c in rw (p .1, length-append (p .0) (newline ∷ [])) (omega arith)

@@ -4,7 +4,7 @@ use mathlib.Core.List.{List, [], _∷_, _++_, append-assoc, append-nil}
 use mathlib.Core.Option.{Option, none, some}
 use mathlib.Core.Path.{_≡_, refl, sym, ap, _∙_}
 use mathlib.Core.Logic.{_↔_}
-use Rattle.text.specs.Text.{Reader, give, _>>=_, ascii, newline, comma, decimal, digits, hex, line, Bytes, digitOf, readLiteral}
+use Rattle.text.specs.Text.{Reader, give, _>>=_, ascii, comma, decimal, digits, line, Bytes, digitOf, readLiteral}
 use Rattle.text.specs.Format.{Right, number, bytesLine, pair}
 use Rattle.text.proofs.Laws.{none-not-some, bind-some, some-inj, literal-forth, literal-back, number-right, bytes-line-right, pair-right}
 use Rattle.pages.specs.Page.{whole}

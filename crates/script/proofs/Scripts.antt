@@ -1,9 +1,11 @@
 -- Laws of running a script: its first line, and its parts. Assumes nothing.
-use Prim.Native.Nat.{ℕ}
+use Prim.Native.Nat.{ℕ, _<_}
 use mathlib.Core.Bool.{true}
 use mathlib.Core.List.{List, [], _∷_, _++_}
 use mathlib.Core.Option.{Option, none, some}
 use mathlib.Core.Path.{_≡_, refl, sym, ap, _∙_}
+use lib.ListN.{length, length-append}
+use native.Mathlib.Omega.{arith}
 use Rattle.word.specs.Result.{Result, ok, refused}
 use Rattle.text.specs.Text.{give}
 use Rattle.text.proofs.Laws.{none-not-some}
@@ -12,7 +14,11 @@ use Rattle.heap.specs.Packing.{flat}
 use Rattle.heap.specs.Calls.{Changed, refuse, done}
 use Rattle.script.specs.Script.{Call, callLine, readCall, callOf, lines, endsLine, doing, lineDoes, unless, andThen, runLines, runScript}
 use Rattle.script.proofs.Reading.{call-forth, call-back, call-of-line, line-of-call}
-use Rattle.script.proofs.Lining.{lines-flat, lines-some, lines-append, lines-call}
+use Rattle.script.proofs.Lining.{call-long, lines-flat, lines-some, lines-append, lines-call}
+
+-- a call that was read leaves less to read
+pub call-shorter : (t rest : List ℕ) (c : Call) → readCall t ≡ give c rest → length rest < length t
+call-shorter t rest c e = omega (arith, ap length (call-back t c rest e .1), length-append (callLine c) rest, call-long c)
 
 module _ (S P : ℕ) where
   -- an empty script changes nothing

@@ -1,13 +1,13 @@
 -- A script (01, "Page" and "What the host is told"): calls as lines of text, and what running them does to a heap.
 use Prim.Native.Nat.{ℕ, _^_, _-_, _<_}
-use mathlib.Core.Bool.{Bool, true, _&&_, not}
+use mathlib.Core.Bool.{Bool, true, not}
 use mathlib.Core.List.{List, [], _∷_}
 use mathlib.Core.Option.{Option, none, some}
 use lib.Dec.{eqb, leb}
 use lib.ListN.{length}
 use Rattle.word.specs.Choice.{if_then_else_}
 use Rattle.word.specs.Result.{Result, ok, refused}
-use Rattle.text.specs.Text.{Reader, give, _>>=_, ascii, newline, comma, decimal, hex, line, Bytes, readLiteral, readField}
+use Rattle.text.specs.Text.{Reader, give, _>>=_, ascii, newline, comma, decimal, hex, line, Bytes, readLiteral}
 use Rattle.text.specs.Format.{Format, number, bytesLine, pair}
 use Rattle.heap.specs.State.{State}
 use Rattle.heap.specs.Lent.{Lent, slotCount, poolSize}
@@ -86,12 +86,12 @@ endsLine (b ∷ c ∷ t) = endsLine (c ∷ t)
 -- ---- running
 
 -- `alloc` tells its handle to no one
+abbrev pub silent : {A : Type 0} → Result A → Result Unit
+silent (ok a) = ok tt
+silent (refused n) = refused n
+
 abbrev pub quiet : {A : Type 0} → Changed A → Changed Unit
-quiet {A} c = record { answer = go (c .answer); heap = c .heap }
-  where
-    go : Result A → Result Unit
-    go (ok a) = ok tt
-    go (refused n) = refused n
+quiet c = record { answer = silent (c .answer); heap = c .heap }
 
 -- what a call does: `alloc` with start 0, `take` without its object, `recycle` without pins
 unfoldable pub doing : (S P : ℕ) → Call → State → Changed Unit
