@@ -49,3 +49,7 @@ pub use object_door::alloc_from;
 pub use object_door::free;
 pub use object_door::recycle;
 pub use object_door::take;
+pub use run_door::Ran;
+pub use run_door::RunAnswer;
+pub use run_door::RunReply;
+pub use run_door::run;

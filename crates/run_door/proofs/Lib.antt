@@ -1,0 +1,4 @@
+pub mod Placing
+pub mod Moving
+pub mod Looping
+pub mod Entering

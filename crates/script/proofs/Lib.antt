@@ -1,0 +1,4 @@
+pub mod Reading
+pub mod Lining
+pub mod Scripts
+pub mod Finding
