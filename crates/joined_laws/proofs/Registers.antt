@@ -11,7 +11,7 @@ use lib.Dec.{eqb}
 use borrow.Author.Tests.{eqb-true, eq-eqb}
 use Rattle.heap.specs.State.{State}
 use Rattle.flow.specs.Function.{Function, has, valid, safepoint, LiveList}
-use Rattle.flow.proofs.Laws.{or-true, or-left, or-right}
+use Rattle.word.proofs.Bools.{or-cases, or-left, or-right}
 use Rattle.flow.proofs.Validity.{valid-disjoint, safepoint-held, row-list}
 use Rattle.reach.specs.Reach.{_∈_}
 use Rattle.collect_laws.specs.Collected.{starts}
@@ -35,14 +35,14 @@ in-values : (values rs : List ℕ) (x : ℕ) → x ∈ valuesOf values rs → (r
 unfolding valuesOf
 in-values values [] x m = absurd m
 in-values values (r ∷ rs) x m =
-    ⊎-elim {C = (q : ℕ) × (has (r ∷ rs) q ≡ true) × (getD values q 0 ≡ x)} (λ e. (r, or-left (has rs r) (eq-eqb r r refl), sym e))
-    (λ k. let (q, a, b) = in-values values rs x k in (q, or-right (eqb r q) a, b)) m
+    ⊎-elim {C = (q : ℕ) × (has (r ∷ rs) q ≡ true) × (getD values q 0 ≡ x)} (λ e. (r, or-left _ (has rs r) (eq-eqb r r refl), sym e))
+    (λ k. let (q, a, b) = in-values values rs x k in (q, or-right (eqb r q) _ a, b)) m
 
 values-in : (values rs : List ℕ) (r : ℕ) → has rs r ≡ true → getD values r 0 ∈ valuesOf values rs
 unfolding valuesOf
 values-in values [] r h = absurd (false≢true h)
 values-in values (q ∷ rs) r h =
-    ⊎-elim (λ e. inl (ap (λ (k : ℕ). getD values k 0) (sym (eqb-true q r e)))) (λ e. inr (values-in values rs r e)) (or-true (eqb q r) (has rs r) h)
+    ⊎-elim (λ e. inl (ap (λ (k : ℕ). getD values k 0) (sym (eqb-true q r e)))) (λ e. inr (values-in values rs r e)) (or-cases (eqb q r) (has rs r) h)
 
 module _ (f : Function) (pc : ℕ) (good : valid f ≡ true) (at : safepoint f pc ≡ true) (values : List ℕ) where
   pub live-values : (x : ℕ) → (x ∈ valuesOf values (rootRegisters f pc)) ↔ LiveValue f pc values x
