@@ -162,19 +162,19 @@ def seeds(text):
 
 def scripts(a):
     """Name, lines and the oracle's answers of each script that was asked for."""
-    fixed = []
+    fixed, without = [], a.without.split(",")
     if a.script:
         with open(a.script) as f:
             fixed.append((a.script, commands(f.read().splitlines())))
     if a.shapes:
-        fixed += [(s.__name__, list(s())) for s in shapes.ALL]
+        fixed += [(s.__name__, [x for x in s() if x.split(" ", 1)[0] not in without]) for s in shapes.ALL]
     if a.large:
         fixed += [(s.__name__, list(s())) for s in shapes.LARGE]
     for name, lines in fixed:
         left = answers(a.oracle, lines)[0]
         yield name, lines[: len(left)], left
     for seed in seeds(a.seeds) if a.seeds else []:
-        yield f"seed {seed}", *generate.script(a.oracle, seed, a.lines)
+        yield f"seed {seed}", *generate.script(a.oracle, seed, a.lines, without=without)
 
 
 def main():
@@ -186,6 +186,7 @@ def main():
     p.add_argument("--script", help="a script instead of seeds")
     p.add_argument("--shapes", action="store_true", help="the fixed scripts instead of seeds")
     p.add_argument("--large", action="store_true", help="the large fixed scripts instead of seeds")
+    p.add_argument("--without", default="", help="commands to leave out of the scripts: collect, joined or both")
     p.add_argument("--stop", type=int, default=5, help="disagreements after which to stop")
     a = p.parse_args()
     sums, began, found_all = Sums(), time.time(), []

@@ -48,8 +48,9 @@ class Row:
 class Writer:
     """A script as it grows, and what is known of the heap, the table and the function behind it."""
 
-    def __init__(self, seed, ask, limits=Limits):
+    def __init__(self, seed, ask, limits=Limits, without=()):
         self.r = random.Random(seed)
+        self.without = without
         self.ask = ask
         self.limits = limits
         self.lines, self.answers = [], []
@@ -487,7 +488,7 @@ class Writer:
                 if self.number(f"write {i} 24 {to.to_bytes(8, 'little').hex()}") == 0:
                     s = self.rows[i]
                     s.data = s.data[:24] + to.to_bytes(8, "little") + s.data[32:]
-        if made and self.chance(0.6):
+        if made and "collect" not in self.without and self.chance(0.6):
             self.leave_out()
             roots = [self.r.choice(made)] if self.chance(0.6) else []
             pins = self.pins() if self.chance(0.5) else []
@@ -495,7 +496,7 @@ class Writer:
 
     def stuck(self):
         """An object that cannot be traced, held by another one: a collection is refused exactly if it is reached."""
-        if not self.wild:
+        if not self.wild or "collect" in self.without:
             return
         t, data = self.r.choice([(len(self.table.types), b""), (U32, self.words(8)), (self.static_type(), self.words(7))])
         bad = self.alloc(1, t, data, self.pick((4, 0), (1, 9)))
@@ -725,7 +726,9 @@ class Writer:
                 self.release()
             if self.chance(0.3):
                 self.recycle()
-            (self.joined if self.chance(0.3) else self.collect)()
+            how = "joined" if self.chance(0.3) else "collect"
+            if how not in self.without:
+                getattr(self, how)()
             self.ask_heap()
             self.page()
 
@@ -746,7 +749,7 @@ class Writer:
             self.load()
         if self.chance(0.7 if mode in ("func", "mixed", "collect") else 0.1):
             self.new_func()
-        ops = self.MODES[mode]
+        ops = {name: weight for name, weight in self.MODES[mode].items() if name not in self.without}
         names, weights = list(ops), list(ops.values())
         for _ in range(length or self.r.randint(30, 120)):
             if mode == "func" and self.chance(0.06):
@@ -814,10 +817,10 @@ def show_list(v):
     return ",".join(map(str, v)) or "-"
 
 
-def script(oracle, seed, lines, limits=Limits):
+def script(oracle, seed, lines, limits=Limits, without=()):
     """A script of at least so many lines, and the oracle's answers to it."""
     o = Oracle(oracle)
-    w = Writer(seed, o.ask, limits)
+    w = Writer(seed, o.ask, limits, without)
     try:
         while len(w.lines) < lines:
             w.episode()
