@@ -2,7 +2,6 @@
 use Prim.Native.Nat.{_≤_, _-_}
 use native.Mathlib.Omega.{arith}
 use lib.ListN.{length}
-use borrow.Author.Needs.{needs}
 use Rattle.damaged.proofs.find.Statement.{statement}
 use Rattle.damaged.proofs.find.Tie as tie
 
