@@ -33,7 +33,7 @@ mod state {
 
 use std::hint::black_box;
 use yavs_ir::{Block, BlockId, Field, Func, Inst, Ops, Program, Reg, RegTy, Ty, TyId};
-use yexwalu::{Class, Direction, Function, Heap, InstKind, Kind, TypeTable, Wanted, descriptor};
+use yexwalu::{Class, Direction, Function, Handle, Heap, InstKind, Kind, TypeTable, Wanted, descriptor};
 
 #[repr(C)]
 struct Timespec {
@@ -222,6 +222,33 @@ fn pages(objects: usize) {
     println!("| page of {objects} objects (MB/s) | {} | write {:.0} | read {:.0} | memcpy {:.0}, Rust's formatter {:.0} |", page.len(), speed(write), speed(read), speed(copy), speed(plain));
 }
 
+// Objects of handles, all reached from the first, so that each collection does the same work again.
+fn collections(shape: &str, n: usize, edges: impl Fn(usize) -> std::ops::Range<usize>) {
+    let handle = |i: usize| heap::pack(1, (i % n) as u32, 1);
+    let mut page = format!("tag,since_gc,reclaim_at,live_bytes,slots,free,quarantine,sealed\n1,0,4096,0,{n},0,0,0\ngeneration,kind,type,start,writes,data\n");
+    let mut rust = heap::Heap::new(1);
+    let mut pool = 0;
+    for i in 0..n {
+        let mut data = vec![0; 24];
+        data.extend(edges(i).flat_map(|j| handle(j).to_le_bytes()));
+        pool += data.len();
+        page.push_str("1,3,0,0,0,");
+        for b in &data {
+            page.push(char::from_digit(u32::from(b >> 4), 16).unwrap());
+            page.push(char::from_digit(u32::from(b & 15), 16).unwrap());
+        }
+        page.push('\n');
+        rust.alloc(heap::Obj::Handles, data).unwrap();
+    }
+    page.push_str("free\nquarantine\nsealed\n");
+    let mut port = Heap::read_page(n, pool, page.as_bytes()).unwrap();
+    let (types, prog) = (TypeTable::new(), Program::default());
+    let a = time(|| port.collect(&types, &[Handle(handle(0))], &[]).unwrap());
+    let b = time(|| assert!(rust.collect(&prog, &[handle(0)], &[])));
+    assert!(port.live().unwrap() == n && rust.live() == n);
+    row(&format!("collect, {shape} (ns)"), n, a, b);
+}
+
 fn main() {
     println!("| Work | Size | Port | Rust | Port / Rust |\n|---|---|---|---|---|");
     for slots in [16, 256, 4096, 65536] {
@@ -235,6 +262,12 @@ fn main() {
     }
     for (blocks, registers) in [(4, 8), (64, 64), (1024, 256), (4096, 1024)] {
         live(blocks, registers);
+    }
+    for n in [1_000, 10_000, 100_000, 1_000_000] {
+        collections("chain", n, |i| if i + 1 < n { i + 1..i + 2 } else { 0..0 });
+        collections("ring", n, |i| i + 1..i + 2);
+        collections("wide", n, |i| if i == 0 { 1..n } else { 0..0 });
+        collections("tree", n, |i| (2 * i + 1).min(n)..(2 * i + 3).min(n));
     }
     println!("\n| Pages | Bytes | | | |\n|---|---|---|---|---|");
     for objects in [16, 1024, 16384] {

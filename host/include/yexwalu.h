@@ -501,6 +501,63 @@ yexwalu_answer yexwalu_live_refs(
     uint32_t *bounds, size_t bounds_len,
     uint32_t *regs, size_t regs_len);
 
+/* ---- Collections ---- */
+
+/* Drops the objects to which no chain leads from a root, a seal or a pin: slot indices, strictly rising (14). 18, 1, 10, 14, 13. */
+yexwalu_done yexwalu_collect(
+    const uint64_t *types, size_t types_len,
+    const uint32_t *fields, size_t fields_len,
+    const uint64_t *consts, size_t consts_len,
+    const uint8_t *bytes, size_t bytes_len,
+    yexwalu_header heap,
+    uint32_t *generation, size_t generation_len,
+    uint8_t *kind, size_t kind_len,
+    uint32_t *ty, size_t ty_len,
+    size_t *start, size_t start_len,
+    size_t *end, size_t end_len,
+    uint32_t *writes, size_t writes_len,
+    uint8_t *pool, size_t pool_len,
+    uint32_t *free, size_t free_len,
+    uint32_t *quarantine, size_t quarantine_len,
+    const uint64_t *sealed, size_t sealed_len,
+    uint8_t *marks, size_t marks_len,
+    uint64_t *work, size_t work_len,
+    const uint64_t *roots, size_t roots_len,
+    const uint32_t *pins, size_t pins_len);
+
+/* As collect, from a stopped function: roots are the live registers of class 4 at the safepoint `pc`, with one value a register (15), and the handles of the frame. `rows` is scratch: (3 * blocks + 2) * words per row. 18, 1, 10, 15, 14, 16, 13. */
+yexwalu_done yexwalu_collect_joined(
+    const uint64_t *types, size_t types_len,
+    const uint32_t *fields, size_t fields_len,
+    const uint64_t *consts, size_t consts_len,
+    const uint8_t *bytes, size_t bytes_len,
+    yexwalu_header heap,
+    uint32_t *generation, size_t generation_len,
+    uint8_t *kind, size_t kind_len,
+    uint32_t *ty, size_t ty_len,
+    size_t *start, size_t start_len,
+    size_t *end, size_t end_len,
+    uint32_t *writes, size_t writes_len,
+    uint8_t *pool, size_t pool_len,
+    uint32_t *free, size_t free_len,
+    uint32_t *quarantine, size_t quarantine_len,
+    const uint64_t *sealed, size_t sealed_len,
+    const uint8_t *kinds, size_t kinds_len,
+    const uint32_t *ends, size_t ends_len,
+    const uint32_t *refs, size_t refs_len,
+    const uint32_t *blocks, size_t blocks_len,
+    const uint8_t *classes, size_t classes_len,
+    size_t pc,
+    const uint64_t *values, size_t values_len,
+    const uint32_t *offsets, size_t offsets_len,
+    const uint8_t *slot_kinds, size_t slot_kinds_len,
+    const uint32_t *slot_types, size_t slot_types_len,
+    const uint8_t *memory, size_t memory_len,
+    const uint32_t *pins, size_t pins_len,
+    uint8_t *marks, size_t marks_len,
+    uint64_t *work, size_t work_len,
+    uint64_t *rows, size_t rows_len);
+
 /* ---- A heap as a page of text ---- */
 
 /* Writes the heap as a page to the front of `out`. first: how many bytes. 18, 1, 7. */

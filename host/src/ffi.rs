@@ -91,6 +91,13 @@ heap_calls! {
     yexwalu_stamp(heap: Header;; i: usize) -> Answer;
     yexwalu_write_page(heap: Header; out: *mut u8, out_len: usize;) -> Answer;
     yexwalu_read_page(heap: Header, text: *const u8, text_len: usize;;) -> Done;
+    yexwalu_collect(types: *const u64, types_len: usize, fields: *const u32, fields_len: usize, consts: *const u64, consts_len: usize, bytes: *const u8, bytes_len: usize, heap: Header;;
+        roots: *const u64, roots_len: usize, pins: *const u32, pins_len: usize) -> Done;
+    yexwalu_collect_joined(types: *const u64, types_len: usize, fields: *const u32, fields_len: usize, consts: *const u64, consts_len: usize, bytes: *const u8, bytes_len: usize, heap: Header;
+        kinds: *const u8, kinds_len: usize, ends: *const u32, ends_len: usize, refs: *const u32, refs_len: usize, blocks: *const u32, blocks_len: usize, classes: *const u8, classes_len: usize,
+        pc: usize, values: *const u64, values_len: usize, offsets: *const u32, offsets_len: usize, slot_kinds: *const u8, slot_kinds_len: usize, slot_types: *const u32, slot_types_len: usize,
+        memory: *const u8, memory_len: usize, pins: *const u32, pins_len: usize;
+        rows: *mut u64, rows_len: usize) -> Done;
 }
 
 macro_rules! table_calls {

@@ -1,5 +1,5 @@
 use crate::ffi::{self, Done, Header};
-use crate::{Handle, Refusal};
+use crate::{FrameSlot, Function, Handle, Refusal, TypeTable};
 use std::cell::RefCell;
 use std::ops::Range;
 
@@ -161,7 +161,10 @@ macro_rules! ask {
 
 // A call that may change the columns.
 macro_rules! change {
-    ($memory:expr, $scratch:expr, $call:ident ($($before:expr),*) ($($after:expr),*)) => {{
+    ($memory:expr, $scratch:expr, $call:ident ($($before:expr),*) ($($after:expr),*)) => {
+        change!($memory, $scratch, $call ($($before),*) () ($($after),*))
+    };
+    ($memory:expr, $scratch:expr, $call:ident ($($before:expr),*) ($($between:expr),*) ($($after:expr),*)) => {{
         let m: &mut Memory = $memory;
         let s: &mut Scratch = $scratch;
         // The call writes columns, scratch and the outputs given, each within the length that is passed with it.
@@ -178,6 +181,7 @@ macro_rules! change {
                 m.free.as_mut_ptr(), m.free.len(),
                 m.quarantine.as_mut_ptr(), m.quarantine.len(),
                 m.sealed.as_mut_ptr(), m.sealed.len(),
+                $($between,)*
                 s.marks.as_mut_ptr(), s.marks.len(),
                 s.work.as_mut_ptr(), s.work.len(),
                 $($after),*
@@ -314,6 +318,63 @@ impl Heap {
     /// The seals become the handles of all live slots.
     pub fn seal(&mut self) -> Result<(), Refusal> {
         let done = change!(&mut self.memory, self.scratch.get_mut(), yexwalu_seal(self.header)());
+        self.done(done).map(|_| ())
+    }
+
+    /// Drops the objects to which no chain leads from a root, a seal or a pin (slot indices, strictly rising). Where a reached object can't be traced (13) nothing changes.
+    ///
+    /// ```
+    /// use yexwalu::{Handle, Heap, Kind, Refusal, TypeTable};
+    /// let mut table = TypeTable::new();
+    /// let access = table.access();
+    /// let mut heap = Heap::new(1, 64, 4096)?;
+    /// let kept = heap.alloc(Kind::Bytes, b"kept")?;
+    /// let root = heap.alloc(Kind::Typed(access), &kept.0.to_le_bytes())?;
+    /// let lost = heap.alloc(Kind::Bytes, b"lost")?;
+    /// heap.collect(&table, &[root], &[])?;
+    /// assert!(heap.resolve(kept).is_ok());
+    /// assert_eq!(heap.resolve(lost), Err(Refusal::Stale));
+    /// # Ok::<(), Refusal>(())
+    /// ```
+    pub fn collect(&mut self, types: &TypeTable, roots: &[Handle], pins: &[u32]) -> Result<(), Refusal> {
+        let roots: Vec<u64> = roots.iter().map(|h| h.0).collect();
+        let done = change!(&mut self.memory, self.scratch.get_mut(), yexwalu_collect(
+            types.types.as_ptr(), types.types.len(), types.fields.as_ptr(), types.fields.len(),
+            types.consts.as_ptr(), types.consts.len(), types.bytes.as_ptr(), types.bytes.len(), self.header)
+            (roots.as_ptr(), roots.len(), pins.as_ptr(), pins.len()));
+        self.done(done).map(|_| ())
+    }
+
+    /// As `collect`, from a stopped function: the roots are the registers of class `Handle` that are live at the safepoint `pc`, with one value a register, and the handles of its frame.
+    ///
+    /// ```
+    /// use yexwalu::{Class, Function, Heap, InstKind, Kind, Refusal, TypeTable};
+    /// let mut f = Function::new();
+    /// let (used, done) = (f.register(Class::Handle), f.register(Class::Handle));
+    /// let call = f.instruction(InstKind::Safepoint, &[], &[], &[]);
+    /// f.instruction(InstKind::Return, &[], &[used], &[]);
+    /// f.block(0, 2);
+    /// let mut heap = Heap::new(1, 64, 4096)?;
+    /// let values = [heap.alloc(Kind::Bytes, b"used")?, heap.alloc(Kind::Bytes, b"done")?];
+    /// heap.collect_joined(&TypeTable::new(), &f, call, &[values[0].0, values[1].0], &[], &[], &[])?;
+    /// assert!(heap.resolve(values[used as usize]).is_ok());
+    /// assert_eq!(heap.resolve(values[done as usize]), Err(Refusal::Stale));
+    /// # Ok::<(), Refusal>(())
+    /// ```
+    #[allow(clippy::too_many_arguments)]
+    pub fn collect_joined(&mut self, types: &TypeTable, function: &Function, pc: u32, values: &[u64], map: &[FrameSlot], frame: &[u8], pins: &[u32]) -> Result<(), Refusal> {
+        let offsets: Vec<u32> = map.iter().map(|s| s.offset).collect();
+        let kinds: Vec<u8> = map.iter().map(|s| s.kind).collect();
+        let tys: Vec<u32> = map.iter().map(|s| s.ty).collect();
+        let mut rows = vec![0; function.scratch_words()];
+        let f = function;
+        let done = change!(&mut self.memory, self.scratch.get_mut(), yexwalu_collect_joined(
+            types.types.as_ptr(), types.types.len(), types.fields.as_ptr(), types.fields.len(),
+            types.consts.as_ptr(), types.consts.len(), types.bytes.as_ptr(), types.bytes.len(), self.header)
+            (f.kinds.as_ptr(), f.kinds.len(), f.ends.as_ptr(), f.ends.len(), f.refs.as_ptr(), f.refs.len(), f.blocks.as_ptr(), f.blocks.len(),
+            f.classes.as_ptr(), f.classes.len(), pc as usize, values.as_ptr(), values.len(), offsets.as_ptr(), offsets.len(), kinds.as_ptr(), kinds.len(),
+            tys.as_ptr(), tys.len(), frame.as_ptr(), frame.len(), pins.as_ptr(), pins.len())
+            (rows.as_mut_ptr(), rows.len()));
         self.done(done).map(|_| ())
     }
 

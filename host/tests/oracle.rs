@@ -4,7 +4,7 @@ mod common;
 use common::Random;
 use std::io::{BufRead, BufReader, Write};
 use std::process::{Child, ChildStdin, ChildStdout, Command, Stdio};
-use yexwalu::{Handle, Heap, Kind, Refusal};
+use yexwalu::{Handle, Heap, Kind, Refusal, TypeTable};
 
 struct Oracle {
     child: Child,
@@ -64,6 +64,7 @@ fn told<T>(answer: Result<T, Refusal>, show: impl Fn(T) -> String) -> String {
 }
 
 struct Run {
+    table: TypeTable,
     random: Random,
     heap: Heap,
     handles: Vec<Handle>,
@@ -85,7 +86,7 @@ impl Run {
 
     // One random call: the line for the oracle, and the answer here.
     fn step(&mut self) -> (String, String) {
-        match self.random.below(18) {
+        match self.random.below(20) {
             0..=4 => {
                 let (k, kind) = match self.random.below(3) {
                     0 => (1, Kind::Typed(self.random.below(9) as u32)),
@@ -152,6 +153,14 @@ impl Run {
                 let i = self.slot();
                 (format!("stamp {i}"), told(self.heap.stamp(i), |s| format!("{} {}", s.generation, s.writes)))
             }
+            17 | 18 => {
+                let roots: Vec<Handle> = (0..self.random.below(5)).map(|_| self.handle()).collect();
+                let mut pins: Vec<u32> = (0..self.random.below(3)).map(|_| self.random.below(40) as u32).collect();
+                pins.sort();
+                pins.dedup();
+                let answer = self.heap.collect(&self.table, &roots, &pins);
+                (format!("collect {} {}", list(&roots), list(&pins)), told(answer, |()| String::new()))
+            }
             _ => {
                 let yes = |b: bool| u8::from(b).to_string();
                 match self.random.below(5) {
@@ -175,6 +184,19 @@ impl Run {
     }
 }
 
+// The same types for both: a real, a handle, a record with two handles, an array of handles; types 4 to 8 are missing.
+fn types(oracle: &mut Oracle) -> TypeTable {
+    let mut table = TypeTable::new();
+    let (real, access) = (table.real(), table.access());
+    let pair = table.record(&[(access, None), (real, None), (access, None)]);
+    table.array(access, None, 1);
+    for (line, number) in [("table", 0), ("ty 3", real), ("ty 6", access), ("ty 5 1:4294967295,0:4294967295,1:4294967295", pair), ("ty 4 1 4294967295 1", 3)] {
+        let answer = oracle.ask(line);
+        assert!(answer == "0" || answer == format!("0 {number}"), "{line}: {answer}");
+    }
+    table
+}
+
 #[test]
 fn random_calls_answer_as_the_rust() {
     let Some(mut oracle) = Oracle::start() else {
@@ -184,6 +206,7 @@ fn random_calls_answer_as_the_rust() {
     for seed in 1..=40 {
         let slots = 1 + seed as usize % 33;
         let mut run = Run {
+            table: types(&mut oracle),
             random: Random::new(seed),
             heap: Heap::new(seed as u8, slots, 8192).unwrap(),
             handles: Vec::new(),

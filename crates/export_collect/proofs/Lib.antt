@@ -1,0 +1,2 @@
+-- A law about what is sent of the joined collection.
+pub mod SendingRows
