@@ -1,0 +1,126 @@
+-- Nothing has to hold from turn to turn; the measure is the number of turns that are left, which no run uses up.
+use borrow.Author.Needs.{needs}
+use native.Mathlib.Omega.{arith}
+use Rattle.replay.proofs.main.Statement.{statement}
+use Rattle.replay.proofs.main.Tie as tie
+
+abbrev Inv-loop : tie.InvT-loop
+Inv-loop generation₀ kind₀ ty₀ start₀ end₀ writes₀ pool₀ free₀ quarantine₀ sealed₀ marks₀ work₀ bytes₀ list₀ pins₀ text₀ taken₀ buffer₀ out₀ n₀ state₀ input₀ turns₀ t28 generation kind ty start end writes pool free quarantine sealed marks work bytes list pins text taken buffer out n state input turns = Unit {0}
+
+abbrev μ-loop : tie.MeasureT-loop
+μ-loop generation₀ kind₀ ty₀ start₀ end₀ writes₀ pool₀ free₀ quarantine₀ sealed₀ marks₀ work₀ bytes₀ list₀ pins₀ text₀ taken₀ buffer₀ out₀ n₀ state₀ input₀ turns₀ t28 generation kind ty start end writes pool free quarantine sealed marks work bytes list pins text taken buffer out n state input turns = turns
+
+start-requires : tie.Need-start-requires Inv-loop μ-loop
+start-requires c κs = tt
+
+start-requires-2 : tie.Need-start-requires-2 Inv-loop μ-loop
+start-requires-2 c κs = tt
+
+loop-holds : tie.Need-loop-holds Inv-loop μ-loop
+loop-holds c = tt
+
+sub-turns : tie.Need-sub-turns Inv-loop μ-loop
+sub-turns c = omega arith
+
+next-line-requires : tie.Need-next-line-requires Inv-loop μ-loop
+next-line-requires c κs = tt
+
+enum-known-from : tie.Need-enum-known-from Inv-loop μ-loop
+enum-known-from c = search needs
+
+is-silent-requires : tie.Need-is-silent-requires Inv-loop μ-loop
+is-silent-requires c κs = tt
+
+loop-less : tie.Need-loop-less Inv-loop μ-loop
+loop-less c = omega arith
+
+loop-again : tie.Need-loop-again Inv-loop μ-loop
+loop-again c = tt
+
+one-line-requires : tie.Need-one-line-requires Inv-loop μ-loop
+one-line-requires c κs = tt
+
+next-input-requires : tie.Need-next-input-requires Inv-loop μ-loop
+next-input-requires c κs = tt
+
+loop-less-2 : tie.Need-loop-less-2 Inv-loop μ-loop
+loop-less-2 c = omega (arith, c .before .before .before .before .before .before .before .before .before .before .before .before .before .before .before .before .before .before .before .before .before .before .before .before .before .before .before .before .before .before)
+
+loop-again-2 : tie.Need-loop-again-2 Inv-loop μ-loop
+loop-again-2 c = tt
+
+enum-known-rest : tie.Need-enum-known-rest Inv-loop μ-loop
+enum-known-rest c = search needs
+
+slice-aggregate-put-bytes : tie.Need-slice-aggregate-put-bytes Inv-loop μ-loop
+slice-aggregate-put-bytes c = search needs
+
+put-bytes-requires : tie.Need-put-bytes-requires Inv-loop μ-loop
+put-bytes-requires c κs = tt
+
+loop-less-3 : tie.Need-loop-less-3 Inv-loop μ-loop
+loop-less-3 c = omega arith
+
+loop-again-3 : tie.Need-loop-again-3 Inv-loop μ-loop
+loop-again-3 c = tt
+
+enum-told : tie.Need-enum-told Inv-loop μ-loop
+enum-told c = search needs
+
+flush-requires : tie.Need-flush-requires Inv-loop μ-loop
+flush-requires c κs = tt
+
+more-requires : tie.Need-more-requires Inv-loop μ-loop
+more-requires c κs = tt
+
+loop-less-4 : tie.Need-loop-less-4 Inv-loop μ-loop
+loop-less-4 c = omega arith
+
+loop-again-4 : tie.Need-loop-again-4 Inv-loop μ-loop
+loop-again-4 c = tt
+
+enum-told-2 : tie.Need-enum-told-2 Inv-loop μ-loop
+enum-told-2 c = search needs
+
+flush-requires-2 : tie.Need-flush-requires-2 Inv-loop μ-loop
+flush-requires-2 c κs = tt
+
+returns : tie.Need-returns Inv-loop μ-loop
+returns c = tt
+
+returns-2 : tie.Need-returns-2 Inv-loop μ-loop
+returns-2 c = tt
+
+pub main-spec : {M : Type 1} → statement M
+main-spec =
+    tie.close
+    (tie.spec
+    Inv-loop
+    μ-loop
+    start-requires
+    start-requires-2
+    loop-holds
+    sub-turns
+    next-line-requires
+    enum-known-from
+    is-silent-requires
+    loop-less
+    loop-again
+    one-line-requires
+    next-input-requires
+    loop-less-2
+    loop-again-2
+    enum-known-rest
+    slice-aggregate-put-bytes
+    put-bytes-requires
+    loop-less-3
+    loop-again-3
+    enum-told
+    flush-requires
+    more-requires
+    loop-less-4
+    loop-again-4
+    enum-told-2
+    flush-requires-2
+    returns
+    returns-2)
