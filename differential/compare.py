@@ -160,9 +160,22 @@ def seeds(text):
         yield from range(int(a), int(b or a) + 1)
 
 
+HEAP = set(
+    "new load setepoch alloc fill edit write reissue take free recycle seal gcdue reclaimdue hasquarantine isplain "
+    "resolve data kind stamp slots page epoch".split()
+)
+
+
+def heap_only(oracle, lines):
+    """The commands on the heap alone, collections apart, with the oracle's answers to them."""
+    kept = [x for x in lines if x.split(" ", 1)[0] in HEAP]
+    left = answers(oracle, kept)[0]
+    return kept[: len(left)], left
+
+
 def scripts(a):
     """Name, lines and the oracle's answers of each script that was asked for."""
-    fixed, without = [], a.without.split(",")
+    fixed, without = [], ["collect", "joined"] if a.heap else a.without.split(",")
     if a.script:
         with open(a.script) as f:
             fixed.append((a.script, commands(f.read().splitlines())))
@@ -174,7 +187,8 @@ def scripts(a):
         left = answers(a.oracle, lines)[0]
         yield name, lines[: len(left)], left
     for seed in seeds(a.seeds) if a.seeds else []:
-        yield f"seed {seed}", *generate.script(a.oracle, seed, a.lines, without=without)
+        lines, left = generate.script(a.oracle, seed, a.lines, without=without)
+        yield f"seed {seed}", *(heap_only(a.oracle, lines) if a.heap else (lines, left))
 
 
 def main():
@@ -187,6 +201,7 @@ def main():
     p.add_argument("--shapes", action="store_true", help="the fixed scripts instead of seeds")
     p.add_argument("--large", action="store_true", help="the large fixed scripts instead of seeds")
     p.add_argument("--without", default="", help="commands to leave out of the scripts: collect, joined or both")
+    p.add_argument("--heap", action="store_true", help="of the scripts from seeds only the commands on the heap, collections apart")
     p.add_argument("--stop", type=int, default=5, help="disagreements after which to stop")
     a = p.parse_args()
     sums, began, found_all = Sums(), time.time(), []
