@@ -257,46 +257,6 @@ pub fn alloc_from(
     }
 }
 
-// Places the object `bytes`, visible from its first byte on.
-pub fn alloc(
-    heap: Heap,
-    generation: &mut [u32],
-    kind: &mut [u8],
-    ty: &mut [u32],
-    start: &mut [usize],
-    end: &mut [usize],
-    writes: &mut [u32],
-    pool: &mut [u8],
-    free: &mut [u32],
-    quarantine: &[u32],
-    sealed: &[u64],
-    k: u8,
-    t: u32,
-    bytes: &[u8],
-) -> Allocated
-    requires { ⌜ wellFormed (lent heap (now generation) (now kind) (now ty) (now start) (now end) (now writes) (now pool) (now free) (now quarantine) (now sealed)) ≡ true ⌝ }
-    requires { ⌜ (1 ≤ k) × (k ≤ 3) ⌝ }
-    ensures { λ r. ⌜ AllocDoes (lent heap (now (generation .entry)) (now (kind .entry)) (now (ty .entry)) (now (start .entry)) (now (end .entry)) (now (writes .entry)) (now (pool .entry)) (now (free .entry)) (now (quarantine .entry)) (now (sealed .entry))) (lent (r .heap) (now (generation .exit)) (now (kind .exit)) (now (ty .exit)) (now (start .exit)) (now (end .exit)) (now (writes .exit)) (now (pool .exit)) (now (free .exit)) (now (quarantine .entry)) (now (sealed .entry))) (r .answer) k t 0 (now (bytes .entry)) ⌝ }
-{
-    alloc_from(
-        heap,
-        generation,
-        kind,
-        ty,
-        start,
-        end,
-        writes,
-        pool,
-        free,
-        quarantine,
-        sealed,
-        k,
-        t,
-        0,
-        bytes,
-    )
-}
-
 // The live slot `i` loses its object, one generation on, and goes into quarantine; the change is logged.
 fn put_away(
     heap: Heap,

@@ -192,7 +192,7 @@ fn pass(
         b -= 1;
         gather(s, kinds, ends, refs, blocks, nb, words, b);
         let live = b * stride;
-        let grown = rows::step_at(s, words, live, at + words, at, live + words);
+        let grown = rows::step_block(s, words, live, at + words, at, live + words, at + 2 * words);
         if grown {
             changed = true;
         }

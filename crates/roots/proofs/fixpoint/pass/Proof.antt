@@ -34,26 +34,42 @@ gather-requires c κs = (c .before .before .before .before .before .before .befo
 mul-live : tie.Need-mul-live Inv-loop μ-loop
 mul-live c = omega (arith, block-fits (c .before .before .before .before .before .loop .b - 1) (c .before .before .before .before .before .before .before .before .before .before .before .args .nb) (3 * c .before .before .before .before .before .before .before .before .before .before .before .args .words) (below-high (c .before .before .before .before .loop-test .taken) (c .before .before .before .before .before .loop .inv .high)))
 
-add-step-at : tie.Need-add-step-at Inv-loop μ-loop
-add-step-at c = omega (arith, c .before .before .before .before .before .before .before .before .before .before .before .before .pre .1 .1)
+add-step-block : tie.Need-add-step-block Inv-loop μ-loop
+add-step-block c = omega (arith, c .before .before .before .before .before .before .before .before .before .before .before .before .pre .1 .1)
 
-add-step-at-2 : tie.Need-add-step-at-2 Inv-loop μ-loop
-add-step-at-2 c = omega (arith, block-fits (c .before .before .before .before .before .before .loop .b - 1) (c .before .before .before .before .before .before .before .before .before .before .before .before .args .nb) (3 * c .before .before .before .before .before .before .before .before .before .before .before .before .args .words) (below-high (c .before .before .before .before .before .loop-test .taken) (c .before .before .before .before .before .before .loop .inv .high)), c .before .before .before .before .before .before .before .before .before .before .before .before .pre .1 .1)
+add-step-block-2 : tie.Need-add-step-block-2 Inv-loop μ-loop
+add-step-block-2 c = omega (arith, block-fits (c .before .before .before .before .before .before .loop .b - 1) (c .before .before .before .before .before .before .before .before .before .before .before .before .args .nb) (3 * c .before .before .before .before .before .before .before .before .before .before .before .before .args .words) (below-high (c .before .before .before .before .before .loop-test .taken) (c .before .before .before .before .before .before .loop .inv .high)), c .before .before .before .before .before .before .before .before .before .before .before .before .pre .1 .1)
 
-step-at-requires : tie.Need-step-at-requires Inv-loop μ-loop
-step-at-requires c κs = record { live-in = omega (arith, block-fits (c .before .before .before .before .before .before .loop .b - 1) (c .before .before .before .before .before .before .before .before .before .before .before .before .args .nb) (3 * c .before .before .before .before .before .before .before .before .before .before .before .before .args .words) (below-high (c .before .before .before .before .before .loop-test .taken) (c .before .before .before .before .before .before .loop .inv .high)), c .before .before .before .before .before .before .before .before .before .before .before .before .pre .1 .1, c .before .before .before .before .before .before .loop .inv .kept, c .before .before .before .gather .ensures .0 .kept); made-in = omega (arith, c .before .before .before .before .before .before .before .before .before .before .before .before .pre .1 .1, c .before .before .before .before .before .before .loop .inv .kept, c .before .before .before .gather .ensures .0 .kept); out-in = omega (arith, c .before .before .before .before .before .before .before .before .before .before .before .before .pre .1 .1, c .before .before .before .before .before .before .loop .inv .kept, c .before .before .before .gather .ensures .0 .kept); kill-in = omega (arith, block-fits (c .before .before .before .before .before .before .loop .b - 1) (c .before .before .before .before .before .before .before .before .before .before .before .before .args .nb) (3 * c .before .before .before .before .before .before .before .before .before .before .before .before .args .words) (below-high (c .before .before .before .before .before .loop-test .taken) (c .before .before .before .before .before .before .loop .inv .high)), c .before .before .before .before .before .before .before .before .before .before .before .before .pre .1 .1, c .before .before .before .before .before .before .loop .inv .kept, c .before .before .before .gather .ensures .0 .kept); made-apart = inl (omega (arith, block-fits (c .before .before .before .before .before .before .loop .b - 1) (c .before .before .before .before .before .before .before .before .before .before .before .before .args .nb) (3 * c .before .before .before .before .before .before .before .before .before .before .before .before .args .words) (below-high (c .before .before .before .before .before .loop-test .taken) (c .before .before .before .before .before .before .loop .inv .high)))); out-apart = inl (omega (arith, block-fits (c .before .before .before .before .before .before .loop .b - 1) (c .before .before .before .before .before .before .before .before .before .before .before .before .args .nb) (3 * c .before .before .before .before .before .before .before .before .before .before .before .before .args .words) (below-high (c .before .before .before .before .before .loop-test .taken) (c .before .before .before .before .before .before .loop .inv .high)))); kill-apart = inl (omega arith) }
+mul-step-block : tie.Need-mul-step-block Inv-loop μ-loop
+mul-step-block c = omega (arith, c .before .before .before .before .before .before .before .before .before .before .before .before .pre .1 .1)
+
+add-step-block-3 : tie.Need-add-step-block-3 Inv-loop μ-loop
+add-step-block-3 c = omega (arith, c .before .before .before .before .before .before .before .before .before .before .before .before .pre .1 .1)
+
+step-block-requires : tie.Need-step-block-requires Inv-loop μ-loop
+step-block-requires c κs =
+    let fits = block-fits (c .before .before .before .before .before .before .loop .b - 1) (c .before .before .before .before .before .before .before .before .before .before .before .before .args .nb) (3 * c .before .before .before .before .before .before .before .before .before .before .before .before .args .words) (below-high (c .before .before .before .before .before .loop-test .taken) (c .before .before .before .before .before .before .loop .inv .high)) in
+    let all = c .before .before .before .before .before .before .before .before .before .before .before .before .pre .1 .1 in
+    let kept = c .before .before .before .before .before .before .loop .inv .kept in
+    let gathered = c .before .before .before .gather .ensures .0 .kept in (
+      record { live-in = omega (arith, fits); made-in = omega arith; out-in = omega arith; kill-in = omega (arith, fits); made-apart = inl (omega (arith, fits)); out-apart = inl (omega (arith, fits)); kill-apart = inl (omega arith) },
+      omega (arith, all, kept, gathered),
+      omega (arith, fits),
+      omega (arith, fits),
+      omega arith,
+    )
 
 loop-less : tie.Need-loop-less Inv-loop μ-loop
 loop-less c = omega arith
 
 loop-again : tie.Need-loop-again Inv-loop μ-loop
-loop-again c = pass-grown (c .before .before .before .before .before .before .before .before .before .before .loop .inv) (c .before .before .before .before .before .before .before .before .before .loop-test .taken) (c .before .before .before .before .before .before .before .gather .last .0) (c .before .before .before .step-at .last .0) (c .before .before .before .before .before .before .before .gather .ensures .0) (c .before .before .before .before .before .before .before .gather .ensures .1) (met-of (c .before .before .before .before .before .before .before .before .before .before .before .before .before .before .before .before .args .nb * (3 * c .before .before .before .before .before .before .before .before .before .before .before .before .before .before .before .before .args .words)) (c .before .before .before .before .before .before .before .before .before .before .before .before .before .before .before .before .args .words) ((c .before .before .before .before .before .before .before .before .before .before .loop .b - 1) * (3 * c .before .before .before .before .before .before .before .before .before .before .before .before .before .before .before .before .args .words)) (c .before .before .before .before .before .before .before .before .before .before .before .before .before .before .before .before .args .nb * (3 * c .before .before .before .before .before .before .before .before .before .before .before .before .before .before .before .before .args .words) + c .before .before .before .before .before .before .before .before .before .before .before .before .before .before .before .before .args .words) (c .before .before .before .before .before .before .before .before .before .before .before .before .before .before .before .before .args .nb * (3 * c .before .before .before .before .before .before .before .before .before .before .before .before .before .before .before .before .args .words)) ((c .before .before .before .before .before .before .before .before .before .before .loop .b - 1) * (3 * c .before .before .before .before .before .before .before .before .before .before .before .before .before .before .before .before .args .words) + c .before .before .before .before .before .before .before .before .before .before .before .before .before .before .before .before .args .words) (c .before .before .before .step-at .ensures) (omega (arith, block-fits (c .before .before .before .before .before .before .before .before .before .before .loop .b - 1) (c .before .before .before .before .before .before .before .before .before .before .before .before .before .before .before .before .args .nb) (3 * c .before .before .before .before .before .before .before .before .before .before .before .before .before .before .before .before .args .words) (below-high (c .before .before .before .before .before .before .before .before .before .loop-test .taken) (c .before .before .before .before .before .before .before .before .before .before .loop .inv .high)))) (omega (arith, c .before .before .before .before .before .before .before .before .before .before .before .before .before .before .before .before .pre .1 .1, c .before .before .before .before .before .before .before .before .before .before .loop .inv .kept, c .before .before .before .before .before .before .before .gather .ensures .0 .kept)) (linked-out (c .before .before .before .before .before .before .before .before .before .before .loop .inv .linked) (c .before .before .before .before .before .before .before .gather .ensures .0) .blank)) (c .if1 .taken)
+loop-again c = pass-grown (c .before .before .before .before .before .before .before .before .before .before .loop .inv) (c .before .before .before .before .before .before .before .before .before .loop-test .taken) (c .before .before .before .before .before .before .before .gather .last .0) (c .before .before .before .step-block .last .0) (c .before .before .before .before .before .before .before .gather .ensures .0) (c .before .before .before .before .before .before .before .gather .ensures .1) (met-of (c .before .before .before .before .before .before .before .before .before .before .before .before .before .before .before .before .args .nb * (3 * c .before .before .before .before .before .before .before .before .before .before .before .before .before .before .before .before .args .words)) (c .before .before .before .before .before .before .before .before .before .before .before .before .before .before .before .before .args .words) ((c .before .before .before .before .before .before .before .before .before .before .loop .b - 1) * (3 * c .before .before .before .before .before .before .before .before .before .before .before .before .before .before .before .before .args .words)) (c .before .before .before .before .before .before .before .before .before .before .before .before .before .before .before .before .args .nb * (3 * c .before .before .before .before .before .before .before .before .before .before .before .before .before .before .before .before .args .words) + c .before .before .before .before .before .before .before .before .before .before .before .before .before .before .before .before .args .words) (c .before .before .before .before .before .before .before .before .before .before .before .before .before .before .before .before .args .nb * (3 * c .before .before .before .before .before .before .before .before .before .before .before .before .before .before .before .before .args .words)) ((c .before .before .before .before .before .before .before .before .before .before .loop .b - 1) * (3 * c .before .before .before .before .before .before .before .before .before .before .before .before .before .before .before .before .args .words) + c .before .before .before .before .before .before .before .before .before .before .before .before .before .before .before .before .args .words) (c .before .before .before .step-block .ensures) (omega (arith, block-fits (c .before .before .before .before .before .before .before .before .before .before .loop .b - 1) (c .before .before .before .before .before .before .before .before .before .before .before .before .before .before .before .before .args .nb) (3 * c .before .before .before .before .before .before .before .before .before .before .before .before .before .before .before .before .args .words) (below-high (c .before .before .before .before .before .before .before .before .before .loop-test .taken) (c .before .before .before .before .before .before .before .before .before .before .loop .inv .high)))) (omega (arith, c .before .before .before .before .before .before .before .before .before .before .before .before .before .before .before .before .pre .1 .1, c .before .before .before .before .before .before .before .before .before .before .loop .inv .kept, c .before .before .before .before .before .before .before .gather .ensures .0 .kept)) (linked-out (c .before .before .before .before .before .before .before .before .before .before .loop .inv .linked) (c .before .before .before .before .before .before .before .gather .ensures .0) .blank)) (c .if1 .taken)
 
 loop-less-2 : tie.Need-loop-less-2 Inv-loop μ-loop
 loop-less-2 c = omega arith
 
 loop-again-2 : tie.Need-loop-again-2 Inv-loop μ-loop
-loop-again-2 c = pass-still (c .before .before .before .before .before .before .before .before .before .before .loop .inv) (c .before .before .before .before .before .before .before .before .before .loop-test .taken) (c .before .before .before .before .before .before .before .gather .last .0) (c .before .before .before .step-at .last .0) (c .before .before .before .before .before .before .before .gather .ensures .0) (c .before .before .before .before .before .before .before .gather .ensures .1) (met-of (c .before .before .before .before .before .before .before .before .before .before .before .before .before .before .before .before .args .nb * (3 * c .before .before .before .before .before .before .before .before .before .before .before .before .before .before .before .before .args .words)) (c .before .before .before .before .before .before .before .before .before .before .before .before .before .before .before .before .args .words) ((c .before .before .before .before .before .before .before .before .before .before .loop .b - 1) * (3 * c .before .before .before .before .before .before .before .before .before .before .before .before .before .before .before .before .args .words)) (c .before .before .before .before .before .before .before .before .before .before .before .before .before .before .before .before .args .nb * (3 * c .before .before .before .before .before .before .before .before .before .before .before .before .before .before .before .before .args .words) + c .before .before .before .before .before .before .before .before .before .before .before .before .before .before .before .before .args .words) (c .before .before .before .before .before .before .before .before .before .before .before .before .before .before .before .before .args .nb * (3 * c .before .before .before .before .before .before .before .before .before .before .before .before .before .before .before .before .args .words)) ((c .before .before .before .before .before .before .before .before .before .before .loop .b - 1) * (3 * c .before .before .before .before .before .before .before .before .before .before .before .before .before .before .before .before .args .words) + c .before .before .before .before .before .before .before .before .before .before .before .before .before .before .before .before .args .words) (c .before .before .before .step-at .ensures) (omega (arith, block-fits (c .before .before .before .before .before .before .before .before .before .before .loop .b - 1) (c .before .before .before .before .before .before .before .before .before .before .before .before .before .before .before .before .args .nb) (3 * c .before .before .before .before .before .before .before .before .before .before .before .before .before .before .before .before .args .words) (below-high (c .before .before .before .before .before .before .before .before .before .loop-test .taken) (c .before .before .before .before .before .before .before .before .before .before .loop .inv .high)))) (omega (arith, c .before .before .before .before .before .before .before .before .before .before .before .before .before .before .before .before .pre .1 .1, c .before .before .before .before .before .before .before .before .before .before .loop .inv .kept, c .before .before .before .before .before .before .before .gather .ensures .0 .kept)) (linked-out (c .before .before .before .before .before .before .before .before .before .before .loop .inv .linked) (c .before .before .before .before .before .before .before .gather .ensures .0) .blank)) (c .if1 .left)
+loop-again-2 c = pass-still (c .before .before .before .before .before .before .before .before .before .before .loop .inv) (c .before .before .before .before .before .before .before .before .before .loop-test .taken) (c .before .before .before .before .before .before .before .gather .last .0) (c .before .before .before .step-block .last .0) (c .before .before .before .before .before .before .before .gather .ensures .0) (c .before .before .before .before .before .before .before .gather .ensures .1) (met-of (c .before .before .before .before .before .before .before .before .before .before .before .before .before .before .before .before .args .nb * (3 * c .before .before .before .before .before .before .before .before .before .before .before .before .before .before .before .before .args .words)) (c .before .before .before .before .before .before .before .before .before .before .before .before .before .before .before .before .args .words) ((c .before .before .before .before .before .before .before .before .before .before .loop .b - 1) * (3 * c .before .before .before .before .before .before .before .before .before .before .before .before .before .before .before .before .args .words)) (c .before .before .before .before .before .before .before .before .before .before .before .before .before .before .before .before .args .nb * (3 * c .before .before .before .before .before .before .before .before .before .before .before .before .before .before .before .before .args .words) + c .before .before .before .before .before .before .before .before .before .before .before .before .before .before .before .before .args .words) (c .before .before .before .before .before .before .before .before .before .before .before .before .before .before .before .before .args .nb * (3 * c .before .before .before .before .before .before .before .before .before .before .before .before .before .before .before .before .args .words)) ((c .before .before .before .before .before .before .before .before .before .before .loop .b - 1) * (3 * c .before .before .before .before .before .before .before .before .before .before .before .before .before .before .before .before .args .words) + c .before .before .before .before .before .before .before .before .before .before .before .before .before .before .before .before .args .words) (c .before .before .before .step-block .ensures) (omega (arith, block-fits (c .before .before .before .before .before .before .before .before .before .before .loop .b - 1) (c .before .before .before .before .before .before .before .before .before .before .before .before .before .before .before .before .args .nb) (3 * c .before .before .before .before .before .before .before .before .before .before .before .before .before .before .before .before .args .words) (below-high (c .before .before .before .before .before .before .before .before .before .loop-test .taken) (c .before .before .before .before .before .before .before .before .before .before .loop .inv .high)))) (omega (arith, c .before .before .before .before .before .before .before .before .before .before .before .before .before .before .before .before .pre .1 .1, c .before .before .before .before .before .before .before .before .before .before .loop .inv .kept, c .before .before .before .before .before .before .before .gather .ensures .0 .kept)) (linked-out (c .before .before .before .before .before .before .before .before .before .before .loop .inv .linked) (c .before .before .before .before .before .before .before .gather .ensures .0) .blank)) (c .if1 .left)
 
 same-length : tie.Need-same-length Inv-loop μ-loop
 same-length c = c .before .loop .inv .kept
@@ -73,9 +89,11 @@ pass-spec =
     sub-b
     gather-requires
     mul-live
-    add-step-at
-    add-step-at-2
-    step-at-requires
+    add-step-block
+    add-step-block-2
+    mul-step-block
+    add-step-block-3
+    step-block-requires
     loop-less
     loop-again
     loop-less-2
