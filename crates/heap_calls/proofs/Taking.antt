@@ -7,6 +7,8 @@ use native.Mathlib.Omega.{arith}
 use native.Mathlib.Decide.{decLt, ℕ-discrete}
 use lib.ListN.{length, getD, take, drop, set, length-append, length-map, length-set, List·getD-map, List·getD-eq-default}
 use lib.Dec.{eqb, ltb}
+use types.Run.{OneOf, miss}
+use denote.Enum.Declared.{tagOf}
 use borrow.Author.Tests.{lt-ltb, le-ltb, eq-eqb, ne-eqb}
 use Rattle.word.specs.Put.{put}
 use Rattle.word.specs.Result.{Result, ok, refused, _>>=_}
@@ -14,6 +16,8 @@ use Rattle.word.proofs.Bools.{true-false}
 use Rattle.handle.specs.Handle.{indexOf, resolveBy, told}
 use Rattle.handle.specs.Columns.{liveIn}
 use Rattle.handle.specs.declared.Resolved.{Resolved}
+use Rattle.handle.specs.declared.Resolved.the-variants.{Null, WrongHeap, Stale, At}
+use Rattle.handle.proofs.Resolved.{the-type as resolved-type}
 use Rattle.handle.proofs.ResolveLaws.{resolve-same, resolve-ok}
 use Rattle.heap.specs.declared.Heap.{Heap}
 use Rattle.heap.specs.Packing.{flat, startOf, dataAt}
@@ -31,7 +35,7 @@ use Rattle.heap.proofs.Storing.{column-any}
 use Rattle.heap.proofs.Changing.{Known, log-lies, push-lies}
 use Rattle.heap.proofs.Placing.{can-place, placed-lies}
 use Rattle.heap.proofs.Keeping.{sound-change, at-same, at-other, each-set, data-set, released-sound, leaves}
-use Rattle.heap_calls.specs.Answers.{toldTake, toldFree, extent, handedOut}
+use Rattle.heap_calls.specs.Answers.{toldTake, notTaken, toldFree, extent, handedOut}
 use Rattle.heap_calls.specs.Asks.{CanTake, TakeSlotDoes, takeRoom, TakeDoes}
 use Rattle.heap_calls.specs.declared.TakeAnswer.{TakeAnswer}
 use Rattle.heap_calls.specs.declared.TakeAnswer.the-variants.{Object as Taken, Short}
@@ -204,7 +208,7 @@ module _ (l : Lent) (wf : wellFormed l ≡ true) (x : ℕ) where
   unfolding resolve
   resolved-can i e = record { formed = wf; alive = resolve-ok (view l .tag) (λ i. live (slotAt (view l) i)) (λ i. slotAt (view l) i .generation) x i (sym e) .alive }
 
-  pub take-refused : (n : ℕ) (a : TakeAnswer) (out : List ℕ) → refused n ≡ resolve (view l) x → toldTake a ≡ refused n → TakeDoes l l a x out out
+  take-refused : (n : ℕ) (a : TakeAnswer) (out : List ℕ) → refused n ≡ resolve (view l) x → toldTake a ≡ refused n → TakeDoes l l a x out out
   unfolding takeInto
   take-refused n a out e t =
       let w : takeInto (length out) (view l) x ≡ refuse n (view l) = ap (λ (r : Result ℕ). onSlot (view l) r (takeRoom (length out) (view l))) (sym e) in
@@ -213,6 +217,12 @@ module _ (l : Lent) (wf : wellFormed l ≡ true) (x : ℕ) where
         says = t ∙ ap (λ (c : Changed Object). c .answer >>= λ o. ok (extent o)) (sym w);
         wrote = ap (λ (c : Changed Object). handedOut out (c .answer)) (sym w);
       }
+
+  pub take-unfound : (f : Resolved) (out : List ℕ) → OneOf (0 ∷ 1 ∷ 2 ∷ []) (tagOf resolved-type f) → told f ≡ resolve (view l) x → TakeDoes l l (notTaken f) x out out
+  take-unfound Null out k e = take-refused 2 _ out e refl
+  take-unfound WrongHeap out k e = take-refused 3 _ out e refl
+  take-unfound Stale out k e = take-refused 4 _ out e refl
+  take-unfound (At i) out k e = absurd (miss (0 ∷ 1 ∷ 2 ∷ []) 3 tt k)
 
   pub take-at : (l′ : Lent) (a : TakeAnswer) (i : ℕ) (out out′ : List ℕ) → ok i ≡ resolve (view l) x → TakeSlotDoes l l′ a i out out′ → TakeDoes l l′ a x out out′
   unfolding takeInto

@@ -8,6 +8,7 @@ ghost use lib.ListN.{length};
 ghost use Rattle.heap.specs.Lent.{lent};
 ghost use Rattle.heap.specs.WellFormed.{wellFormed};
 ghost use Rattle.heap.specs.Calls.{typeFor};
+ghost use Rattle.heap_calls.specs.Answers.{notTaken};
 ghost use Rattle.heap_calls.specs.Asks.{CanAlloc, CanFill, FilledIn, IntoFree, IntoNew, AllocDoes, CanTake, PutAway, TakeSlotDoes, TakeDoes, FreeDoes};
 
 pub enum AllocAnswer {
@@ -357,6 +358,18 @@ fn take_slot(
     }
 }
 
+// The answer of `take` to a handle that leads to no object.
+fn not_taken(found: Resolved) -> TakeAnswer
+    ensures { λ r. ⌜ r ≡ notTaken found ⌝ }
+{
+    match found {
+        Resolved::Null => TakeAnswer::Null,
+        Resolved::WrongHeap => TakeAnswer::WrongHeap,
+        Resolved::Stale => TakeAnswer::Stale,
+        Resolved::At(_) => TakeAnswer::Stale,
+    }
+}
+
 // Hands out the whole data of the object that `x` names, and its start; the slot goes into quarantine.
 pub fn take(
     heap: Heap,
@@ -377,35 +390,27 @@ pub fn take(
     ensures { λ r. ⌜ TakeDoes (lent heap (now (generation .entry)) (now (kind .entry)) (now (ty .entry)) (now (start .entry)) (now (end .entry)) (now (writes .entry)) (now (pool .entry)) (now (free .entry)) (now (quarantine .entry)) (now (sealed .entry))) (lent (r .heap) (now (generation .exit)) (now (kind .exit)) (now (ty .exit)) (now (start .exit)) (now (end .exit)) (now (writes .exit)) (now (pool .exit)) (now (free .entry)) (now (quarantine .exit)) (now (sealed .entry))) (r .answer) x (now (out .entry)) (now (out .exit)) ⌝ }
 {
     let found = handle::resolve(heap.tag, heap.slots, generation, kind, x);
-    match found {
-        Resolved::Null => Taken {
+    let Resolved::At(i) = found else {
+        return Taken {
             heap: heap,
-            answer: TakeAnswer::Null,
-        },
-        Resolved::WrongHeap => Taken {
-            heap: heap,
-            answer: TakeAnswer::WrongHeap,
-        },
-        Resolved::Stale => Taken {
-            heap: heap,
-            answer: TakeAnswer::Stale,
-        },
-        Resolved::At(i) => take_slot(
-            heap,
-            generation,
-            kind,
-            ty,
-            start,
-            end,
-            writes,
-            pool,
-            free,
-            quarantine,
-            sealed,
-            i,
-            out,
-        ),
-    }
+            answer: not_taken(found),
+        };
+    };
+    take_slot(
+        heap,
+        generation,
+        kind,
+        ty,
+        start,
+        end,
+        writes,
+        pool,
+        free,
+        quarantine,
+        sealed,
+        i,
+        out,
+    )
 }
 
 // The header after a free, and its answer.
