@@ -1,5 +1,6 @@
 -- The dataflow for one register r: gen and kill of a block, its live-out and live-in from a set X of blocks, and the backward walk inside it. What the
--- code's inner functions compute; that it gives the live registers is proved in proofs/Fixpoint.antt, and no public statement rests on these words.
+-- code's inner functions compute, and by which the registers of a joined collection are computed. What is right is `Live` in Function.antt; that the dataflow
+-- gives exactly the live registers is proved in proofs/Fixpoint.antt.
 use mathlib.Core.Bool.{Bool, true, false, cond, not, _&&_, _||_}
 use mathlib.Core.List.{List, [], _∷_}
 use mathlib.Core.Path.{_≡_}

@@ -8,11 +8,16 @@ use run_door::RunReply;
 use text::Decimal;
 use text::Literal;
 use yexwalu::page::Written;
+ghost use mathlib.Core.Path.{_≡_};
 ghost use Prim.Native.Nat.{_+_, _≤_};
 ghost use lib.ListN.{length};
+ghost use Rattle.word.specs.Result.{number};
+ghost use Rattle.run_door.specs.Steps.{toldReply};
 
 // The number of a refusal, or 0.
-fn number_of(r: RunReply) -> u64 {
+fn number_of(r: RunReply) -> u64
+    ensures { λ n. ⌜ n ≡ number (toldReply r) ⌝ }
+{
     match r {
         RunReply::Told(a) => match a {
             RunAnswer::Done => 0,

@@ -1,5 +1,5 @@
--- How the collection finds what is reached, as a function that inner contracts cite: each object is marked and queued when it is first met, and the queue is
--- gone through from the front. What is right stands in Reach.antt, and proofs/Sound.antt shows that the two agree.
+-- How the collection finds what is reached, as a function that contracts can compute with: each object is marked and queued when it is first met, and the
+-- queue is gone through from the front. What is right stands in Reach.antt, and proofs/Sound.antt shows that the two agree.
 use Prim.Native.Nat.{ℕ, zero, suc, _+_, _<_}
 use mathlib.Core.Path.{_≡_}
 use mathlib.Core.Bool.{Bool, true, false}
