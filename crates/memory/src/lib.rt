@@ -42,11 +42,14 @@ fn move_up_u8(p: &mut [u8], from: usize, to: usize, n: usize)
     }
 }
 
-// The n bytes from `from` on come to stand from `to` on.
+// The n bytes from `from` on come to stand from `to` on. Bytes that stay are not touched.
 pub fn move_u8(p: &mut [u8], from: usize, to: usize, n: usize)
     requires { ⌜ (from + n ≤ length (now p)) × (to + n ≤ length (now p)) ⌝ }
     ensures { λ _. ⌜ now (p .exit) ≡ put (now (p .entry)) to (drop from (now (p .entry))) n ⌝ }
 {
+    if to == from {
+        return;
+    }
     if to <= from {
         move_down_u8(p, from, to, n);
     } else {
@@ -86,18 +89,17 @@ pub fn clear_u8(dst: &mut [u8])
     fill_u8(dst, 0, n, 0);
 }
 
-// Is there nothing but zeros from index `from` on?
+// Is there nothing but zeros from index `from` on? All are or-ed, so that the compiler takes many at a time: a loop that may stop early it takes one by one.
 pub fn zeros_u8(s: &[u8], from: usize) -> bool
     ensures { λ r. ⌜ r ≡ zeroFrom from (now (s .entry)) ⌝ }
 {
     let mut k = from;
+    let mut seen: u8 = 0;
     while k < s.len() {
-        if s[k] != 0 {
-            return false;
-        }
+        seen = seen | s[k];
         k += 1;
     }
-    true
+    seen == 0
 }
 
 // `v` at each index from `from` up to `to`; nothing where `to` is not above `from`.
@@ -125,13 +127,12 @@ pub fn zeros_u32(s: &[u32], from: usize) -> bool
     ensures { λ r. ⌜ r ≡ zeroFrom from (now (s .entry)) ⌝ }
 {
     let mut k = from;
+    let mut seen: u32 = 0;
     while k < s.len() {
-        if s[k] != 0 {
-            return false;
-        }
+        seen = seen | s[k];
         k += 1;
     }
-    true
+    seen == 0
 }
 
 // `v` at each index from `from` up to `to`; nothing where `to` is not above `from`.
@@ -159,13 +160,12 @@ pub fn zeros_u64(s: &[u64], from: usize) -> bool
     ensures { λ r. ⌜ r ≡ zeroFrom from (now (s .entry)) ⌝ }
 {
     let mut k = from;
+    let mut seen: u64 = 0;
     while k < s.len() {
-        if s[k] != 0 {
-            return false;
-        }
+        seen = seen | s[k];
         k += 1;
     }
-    true
+    seen == 0
 }
 
 // `v` at each index from `from` up to `to`; nothing where `to` is not above `from`.
@@ -193,11 +193,10 @@ pub fn zeros_usize(s: &[usize], from: usize) -> bool
     ensures { λ r. ⌜ r ≡ zeroFrom from (now (s .entry)) ⌝ }
 {
     let mut k = from;
+    let mut seen: usize = 0;
     while k < s.len() {
-        if s[k] != 0 {
-            return false;
-        }
+        seen = seen | s[k];
         k += 1;
     }
-    true
+    seen == 0
 }

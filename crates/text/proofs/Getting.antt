@@ -1,22 +1,25 @@
 -- What the code's tests say of the readers.
-use Prim.Native.Nat.{ℕ, zero, suc, _+_, _-_, _*_, _^_, _≤_, _<_}
+use Prim.Native.Nat.{ℕ, zero, suc, _+_, _-_, _*_, _/_, _^_, _≤_, _<_}
 use mathlib.Core.List.{List, [], _∷_, _++_, append-assoc}
 use mathlib.Core.Bool.{Bool, true, false, not}
 use mathlib.Core.Option.{Option, none, some}
-use mathlib.Core.Path.{_≡_, refl, sym, ap, _∙_}
-use lib.Dec.{leb}
+use mathlib.Core.Path.{_≡_, refl, sym, ap, _∙_, subst}
+use lib.Bits.{bitOr}
+use lib.Dec.{leb, eqb}
 use lib.ListN.{length, drop, getD, length-drop, drop-of-length-le}
 use lib.Seq.{drop-cons, drop-drop, drop-append-seam}
+use native.Mathlib.Decide.{ℕ-discrete}
 use native.Mathlib.Omega.{arith}
 use native.Mathlib.Numerals.{add-one}
 use native.Mathlib.Nat.{zero-add}
-use borrow.Author.Tests.{le-leb, lt-leb, not-true, not-false, eq-eqb, ne-eqb, leb-true, leb-false}
+use borrow.Author.Tests.{le-leb, lt-leb, not-true, not-false, eq-eqb, ne-eqb, leb-true, leb-false, eqb-true}
+use Rattle.word.proofs.BitLaws.{or-none}
 use Rattle.text.specs.Text.{_>>=_, give, decimal, hex, newline, Bytes, digitOf, stops, ends, scan, capped, after, readDecimal, readLiteral, hexDigitOf, byteOf, readHex, readField}
 use Rattle.text.specs.Format.{number}
 use Rattle.text.specs.declared.Decimal.{Decimal}
 use Rattle.text.specs.declared.Hex.{Hex}
 use Rattle.text.specs.declared.Literal.{Literal}
-use Rattle.text.specs.Answer.{decimalAnswer, literalAnswer, hexAnswer, hexMore, valueOr16}
+use Rattle.text.specs.Answer.{decimalAnswer, literalAnswer, hexAnswer, hexMore, valueOr16, HexDigit, HexDigits, HexRun}
 use Rattle.text.specs.declared.Literal.the-variants.{Past, Missing}
 use Rattle.text.specs.declared.Hex.the-variants.{Count, NoHex}
 use Rattle.text.specs.declared.Decimal.the-variants.{Number, NoNumber}
@@ -210,6 +213,79 @@ module _ (s : List ℕ) (n i : ℕ) where
       let d = value-some (getD s i 0) f in
       let b = value-some (getD s (i + 1) 0) g in
       rw (two h) (rw (both-some (getD s i 0) (getD s (i + 1) 0) (d .0) (b .0) (drop (i + 2) s) e (d .1) (b .1)) (one-more (length s) n (d .0 * 16 + b .0) (readHex (drop (i + 2) s))))
+
+-- which bytes are hexadecimal digits
+pub digit-hex : (b : ℕ) → 48 ≤ b → b ≤ 57 → HexDigit b
+unfolding hexDigitOf
+digit-hex b l h =
+    let w : hexDigitOf b ≡ some (b - 48) = rw (le-leb 48 b l, le-leb b 57 h) in
+    λ e. omega (arith, sym (ap valueOr16 w) ∙ e)
+
+pub letter-hex : (b : ℕ) → 97 ≤ b → b ≤ 102 → HexDigit b
+unfolding hexDigitOf
+letter-hex b l h =
+    let w : hexDigitOf b ≡ some (b - 87) = rw (le-leb 48 b (omega arith), lt-leb b 57 (omega arith), le-leb 97 b l, le-leb b 102 h) in
+    λ e. omega (arith, sym (ap valueOr16 w) ∙ e)
+
+-- a block of them, j looked at
+pub record Looking (s : List ℕ) (at j seen : ℕ) : Type 0 where
+  pub room : at + 32 ≤ length s
+  pub few : j ≤ 32
+  pub each : seen ≡ 0 → (k : ℕ) → k < j → HexDigit (getD s (at + k) 0)
+
+pub looking-first : (s : List ℕ) (at : ℕ) → at + 32 ≤ length s → Looking s at 0 0
+looking-first s at room = record { room = room; few = omega arith; each = λ z k h. absurd (omega arith) }
+
+pub looking-next : {s : List ℕ} {at j seen r : ℕ} → Looking s at j seen → j < 32 → (r ≡ 0 → HexDigit (getD s (at + j) 0)) → Looking s at (j + 1) (bitOr seen r)
+looking-next {s} {at} {j} {seen} {r} v less d =
+    record {
+      room = v .room;
+      few = omega arith;
+      each = λ z k h. let w = or-none seen r z in elim (ℕ-discrete k j) [
+        | yes e ↦ subst (λ (x : ℕ). HexDigit (getD s (at + x) 0)) (sym e) (d (w .1))
+        | no n ↦ v .each (w .0) k (omega (arith, n))
+      ];
+    }
+
+pub looking-last : {s : List ℕ} {at j seen : ℕ} → Looking s at j seen → 32 ≤ j → eqb seen 0 ≡ true → HexDigits s at 32
+looking-last {s} {at} {j} {seen} v all e = record { within = v .room; each = λ k h. v .each (eqb-true seen 0 e) k (omega arith) }
+
+-- a digit is no line's end
+digit-inside : (b : ℕ) → HexDigit b → b ≡ 10 → ⊥
+unfolding hexDigitOf
+digit-inside b d e = d (ap (λ (x : ℕ). valueOr16 (hexDigitOf x)) e)
+
+-- the digits of k bytes are passed
+hex-skip : (s : List ℕ) (n i k : ℕ) → i + 2 * k ≤ length s → ((j : ℕ) → j < 2 * k → HexDigit (getD s (i + j) 0))
+    → hexMore (length s) n (readHex (drop i s)) ≡ hexMore (length s) (n + k) (readHex (drop (i + 2 * k) s))
+hex-skip s n i zero room each =
+    let e : n ≡ n + 0 = omega arith in
+    let f : i ≡ i + 2 * 0 = omega arith in
+    λ j. hexMore (length s) (e j) (readHex (drop (f j) s))
+hex-skip s n i (suc k) room each =
+    let e : n + 1 + k ≡ n + suc k = omega arith in
+    let f : i + 2 + 2 * k ≡ i + 2 * suc k = omega arith in
+    let here : HexDigit (getD s i 0) = subst (λ (x : ℕ). HexDigit (getD s x 0)) (let z : i + 0 ≡ i = omega arith in z) (each 0 (omega arith)) in
+    hex-next s n i (omega arith) (digit-inside (getD s i 0) here) here (each 1 (omega arith))
+    ∙ hex-skip s (n + 1) (i + 2) k (omega arith) (λ j h. subst (λ (x : ℕ). HexDigit (getD s x 0)) (let z : i + (2 + j) ≡ i + 2 + j = omega arith in z) (each (2 + j) (omega arith)))
+    ∙ (λ j. hexMore (length s) (e j) (readHex (drop (f j) s)))
+
+module _ (s : List ℕ) (at : ℕ) where
+  run-named : (r c d : ℕ) → HexRun s at r c → c ≡ d → HexRun s at r d
+  run-named r c d w e = subst (HexRun s at r) e w
+
+  pub run-none : HexRun s at at ((at - at) / 2)
+  run-none = run-named at 0 ((at - at) / 2) (record { far = omega arith; reads = hex-begin (length s) (readHex (drop at s)) }) (omega arith)
+
+  pub run-more : (i : ℕ) → HexRun s at i ((i - at) / 2) → HexDigits s i 32 → HexRun s at (i + 32) ((i + 32 - at) / 2)
+  run-more i w d =
+      let n : ℕ = (i - at) / 2 in
+      run-named (i + 32) (n + 16) ((i + 32 - at) / 2)
+      (record { far = omega (arith, w .far); reads = w .reads ∙ hex-skip s n i 16 (d .within) (d .each) })
+      (omega (arith, w .far))
+
+  pub run-counted : (r c : ℕ) (x : Hex) → HexRun s at r c → x ≡ hexMore (length s) c (readHex (drop r s)) → x ≡ hexAnswer (length s) (readHex (drop at s))
+  run-counted r c x w e = e ∙ sym (w .reads)
 
 -- FROM ANSWERS BACK TO READERS
 

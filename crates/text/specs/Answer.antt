@@ -1,10 +1,10 @@
 -- What the code answers for what a reader gives: where the rest of the text begins, in a text of length `len`.
-use Prim.Native.Nat.{ℕ, _+_, _-_}
+use Prim.Native.Nat.{ℕ, _+_, _-_, _*_, _≤_, _<_}
 use mathlib.Core.List.{List, []}
 use mathlib.Core.Option.{Option, none, some}
 use mathlib.Core.Path.{_≡_}
-use lib.ListN.{length, drop}
-use Rattle.text.specs.Text.{readHex, give}
+use lib.ListN.{length, getD, drop}
+use Rattle.text.specs.Text.{readHex, hexDigitOf, give}
 use Rattle.text.specs.declared.Decimal.{Decimal}
 use Rattle.text.specs.declared.Decimal.the-variants.{Number, NoNumber}
 use Rattle.text.specs.declared.Literal.{Literal}
@@ -41,3 +41,17 @@ hexAt s at = elim (readHex (drop at s)) [ none ↦ [] | some r ↦ r .0 ]
 pub record HexParsed (s : List ℕ) (at : ℕ) : Type 0 where
   pub rest : List ℕ
   pub reads : readHex (drop at s) ≡ give (hexAt s at) rest
+
+-- a byte is a hexadecimal digit
+abbrev pub HexDigit : ℕ → Type 0
+HexDigit b = valueOr16 (hexDigitOf b) ≡ 16 → ⊥
+
+-- n of them stand from `at` on
+pub record HexDigits (s : List ℕ) (at n : ℕ) : Type 0 where
+  pub within : at + n ≤ length s
+  pub each : (j : ℕ) → j < n → HexDigit (getD s (at + j) 0)
+
+-- the text from `at` up to r spells `count` bytes, whatever follows
+pub record HexRun (s : List ℕ) (at r count : ℕ) : Type 0 where
+  pub far : r ≡ at + 2 * count
+  pub reads : hexAnswer (length s) (readHex (drop at s)) ≡ hexMore (length s) count (readHex (drop r s))

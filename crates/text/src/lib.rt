@@ -1,12 +1,12 @@
 // Text as bytes: decimal numbers without spare zeros, lowercase hexadecimal, literals.
 ghost use mathlib.Core.Path.{_≡_};
-ghost use Prim.Native.Nat.{ℕ, _+_, _-_, _≤_, _<_};
+ghost use Prim.Native.Nat.{ℕ, _+_, _-_, _/_, _≤_, _<_};
 ghost use lib.ListN.{length, take, drop};
-ghost use mathlib.Core.Bool.{not};
+ghost use mathlib.Core.Bool.{not, true};
 ghost use Rattle.text.specs.Text.{decimal, hex, hexDigit, ends, scan, capped, readDecimal, readLiteral, hexDigitOf, readHex, readField};
-ghost use Rattle.text.specs.Answer.{decimalAnswer, literalAnswer, hexAnswer, valueOr16};
+ghost use Rattle.text.specs.Answer.{decimalAnswer, literalAnswer, hexAnswer, hexMore, valueOr16};
 ghost use Rattle.text.specs.Put.{Puts};
-ghost use Rattle.text.specs.Answer.{hexAt, HexParsed};
+ghost use Rattle.text.specs.Answer.{hexAt, HexParsed, HexDigit, HexDigits, HexRun};
 
 // How many digits a number has.
 pub fn decimal_len(n: u64) -> usize
@@ -205,12 +205,62 @@ fn hex_value(b: u8) -> u8
     16
 }
 
-// Reads bytes in hexadecimal and the line's end from `at` on.
-pub fn count_hex(s: &[u8], at: usize) -> Hex
-    ensures { λ r. ⌜ r ≡ hexAnswer (length (now (s .entry))) (readHex (drop at (now (s .entry)))) ⌝ }
+// 0 for a hexadecimal digit, 1 for any other byte. By itself and not from `hex_value`: so the compiler takes many bytes at a time.
+fn no_digit(b: u8) -> u8
+    ensures { λ r. ⌜ (r ≡ 0 → HexDigit b) ⌝ }
+{
+    if b < 48 {
+        return 1;
+    }
+    if b <= 57 {
+        return 0;
+    }
+    if b < 97 {
+        return 1;
+    }
+    if b <= 102 {
+        return 0;
+    }
+    1
+}
+
+// Are there 32 hexadecimal digits from `at` on? All are looked at, so that the compiler takes many at a time.
+fn hex_block(s: &[u8], at: usize) -> bool
+    ensures { λ r. ⌜ (r ≡ true → HexDigits (now (s .entry)) at 32) ⌝ }
+{
+    if s.len() < 32 {
+        return false;
+    }
+    if s.len() - 32 < at {
+        return false;
+    }
+    let mut j = 0;
+    let mut seen: u8 = 0;
+    while j < 32 {
+        seen = seen | no_digit(s[at + j]);
+        j += 1;
+    }
+    seen == 0
+}
+
+// Where the blocks of 32 hexadecimal digits end that stand from `at` on.
+fn hex_blocks(s: &[u8], at: usize) -> usize
+    ensures { λ r. ⌜ HexRun (now (s .entry)) at r ((r - at) / 2) ⌝ }
 {
     let mut i = at;
-    let mut n = 0;
+    while hex_block(s, i) {
+        i += 32;
+    }
+    i
+}
+
+// Reads bytes in hexadecimal and the line's end from `first` on, digit by digit, after `count` bytes.
+fn count_more(s: &[u8], first: usize, count: usize) -> Hex
+    requires { ⌜ count ≤ first ⌝ }
+    ensures { λ r. ⌜ r ≡ hexMore (length (now (s .entry))) count (readHex (drop first (now (s .entry)))) ⌝ }
+{
+    let mut i = first;
+    let mut n = count;
     while i < s.len() {
         let a = s[i];
         if a == 10 {
@@ -231,6 +281,14 @@ pub fn count_hex(s: &[u8], at: usize) -> Hex
         n += 1;
     }
     Hex::NoHex
+}
+
+// Reads bytes in hexadecimal and the line's end from `at` on.
+pub fn count_hex(s: &[u8], at: usize) -> Hex
+    ensures { λ r. ⌜ r ≡ hexAnswer (length (now (s .entry))) (readHex (drop at (now (s .entry)))) ⌝ }
+{
+    let first = hex_blocks(s, at);
+    count_more(s, first, (first - at) / 2)
 }
 
 // Reads a number of at most `most` and the byte `end` after it, from `at` on.
