@@ -5,15 +5,16 @@ use mathlib.Core.Bool.{Bool, true, false}
 use Prim.Native.Nat.{ℕ, suc, _+_, _-_, _*_, _/_, _^_, _≤_, _<_, max}
 use native.Mathlib.Omega.{arith}
 use lib.ListN.{length, take, drop, getD, length-drop}
-use lib.Dec.{eqb}
+use lib.Dec.{eqb, leb}
 use types.Run.{OneOf, miss}
 use denote.Enum.Declared.{tagOf}
 use borrow.Author.Tests.{eq-eqb, ne-eqb}
-use Rattle.ty.specs.Types.{Const, Const.plain, Const.other, Table, constAt, none}
+use Rattle.ty.specs.Types.{Ty, Ty.missing, Ty.int, Ty.physical, Ty.enum, Ty.real, Ty.array, Ty.fields, Ty.access, Ty.file, Ty.protected, typeAt, Const, Const.plain, Const.other, Table, constAt, none}
 use Rattle.word.specs.Choice.{if_then_else_}
 use Rattle.layout.specs.Layout.{dimsOf, onLaid, onBytes, under, usedBy, arrayLaid, arrayOf, endOf, placed, recordOf, scalarLaid, sizeOr, layoutBy, layoutAt}
 use Rattle.ty.specs.Scalars.{scalarSize, elemSize, logicLeaf}
 use Rattle.ty.specs.View.{readTy, entryAt, fieldsFrom, partAt, readPart, typesOf, constsOf, tableOf, bare}
+use Rattle.layout.specs.Lent.{scalarPart}
 use Rattle.layout.specs.declared.Lay.{Lay}
 use Rattle.layout.specs.declared.Lay.the-variants.{Laid, Malformed, TooLarge}
 use Rattle.layout.specs.declared.Dims.{Dims}
@@ -23,6 +24,7 @@ use Rattle.ty.specs.declared.Word.the-variants.{Is, Over}
 use Rattle.ty.specs.declared.Part.{Part}
 use Rattle.ty.specs.declared.Part.the-variants.{Nowhere, Of}
 use Rattle.ty.specs.declared.Scalar.{Scalar}
+use Rattle.ty.specs.declared.Scalar.the-variants.{Bytes, Composite}
 use Rattle.ty.specs.declared.Entry.{Entry}
 use Rattle.ty.specs.declared.Entry.the-variants.{Missing, Int, Physical, Enum, Real, Array, Record, Access, File, Protected}
 use Rattle.ty.proofs.Entry.{the-type as entry-type}
@@ -90,6 +92,60 @@ module _ (w fs cs b : List ℕ) where
       pub below-const : (left ≡ 0 → ⊥) → (x y : ℕ) → p ≡ Of x y → (r : Lay) → r ≡ layoutAt (tableOf w fs cs b) (suc (left - 1)) t (take (y - x) (drop x b)) → r ≡ under (tableOf w fs cs b) (layoutAt (tableOf w fs cs b) left) t c d
       unfolding under readPart
       below-const n x y e r er = rw (ne-eqb c none h, const-at, ← ep, e) (er ∙ ap (λ (m : ℕ). layoutAt (tableOf w fs cs b) m t (take (y - x) (drop x b))) (one-less n))
+
+    -- layout_field
+    no-size : {A : Type 0} (n : ℕ) → n ≡ 0 → (n ≡ 0 → ⊥) → A
+    no-size n e h = absurd (h e)
+
+    enum-laid : (x : Bool) (n : ℕ) → n ≡ sizeOr (if_then_else_ x (Bytes 1) (Bytes 4)) 0 → Laid n n 0 1 0 ≡ scalarLaid (if_then_else_ x (Bytes 1) (Bytes 4))
+    enum-laid true n e = rw e refl
+    enum-laid false n e = rw e refl
+
+    scalar-by : (next : ℕ → List ℕ → Lay) (y : Ty) (n : ℕ) → n ≡ sizeOr (scalarSize y) 0 → (n ≡ 0 → ⊥) → Laid n n 0 1 0 ≡ layoutBy (tableOf w fs cs b) next t d y
+    unfolding layoutBy scalarSize
+    scalar-by next missing n e h = no-size n e h
+    scalar-by next (int lo hi) n e h = rw e refl
+    scalar-by next physical n e h = rw e refl
+    scalar-by next (enum k l) n e h = enum-laid (leb k 256) n e
+    scalar-by next real n e h = rw e refl
+    scalar-by next (array el k m) n e h = no-size n e h
+    scalar-by next (fields gs) n e h = no-size n e h
+    scalar-by next access n e h = rw e refl
+    scalar-by next file n e h = rw e refl
+    scalar-by next protected n e h = rw e refl
+
+    below-case : (i : Bool) (n : ℕ) → (left ≡ 0 → ⊥) → n ≡ if_then_else_ i (sizeOr (scalarSize (typeAt (typesOf w fs) t)) 0) 0 → (n ≡ 0 → ⊥) → Laid n n 0 1 0 ≡ if_then_else_ i (layoutAt (tableOf w fs cs b) left t d) (onBytes (constAt (constsOf cs b) c) (layoutAt (tableOf w fs cs b) left t))
+    unfolding layoutAt
+    below-case true n z e h = scalar-by (layoutAt (tableOf w fs cs b) (left - 1)) (typeAt (typesOf w fs) t) n e h ∙ ap (λ (m : ℕ). layoutAt (tableOf w fs cs b) m t d) (one-less z)
+    below-case false n z e h = no-size n e h
+
+    pub below-scalar : (left ≡ 0 → ⊥) → (n : ℕ) → n ≡ scalarPart w fs t c → (n ≡ 0 → ⊥) → Laid n n 0 1 0 ≡ under (tableOf w fs cs b) (layoutAt (tableOf w fs cs b) left) t c d
+    unfolding under scalarPart
+    below-scalar z n e h = below-case (eqb c none) n z e h
+
+  -- scalar_bytes
+  module _ (t c : ℕ) where
+    pub scalar-const : (c ≡ 4294967295 → ⊥) → 0 ≡ scalarPart w fs t c
+    unfolding scalarPart
+    scalar-const h = rw (ne-eqb c none h) refl
+
+    entry-size : (e : Entry) → scalarSize (bare e) ≡ scalarSize (readTy fs e)
+    unfolding scalarSize readTy
+    entry-size Missing = refl
+    entry-size (Int lo hi) = refl
+    entry-size Physical = refl
+    entry-size (Enum n l) = refl
+    entry-size Real = refl
+    entry-size (Array el k m) = refl
+    entry-size (Record i n) = refl
+    entry-size Access = refl
+    entry-size File = refl
+    entry-size Protected = refl
+
+    pub scalar-read : (c ≡ 4294967295) → (e : Entry) → e ≡ entryAt w (length fs / 2) t → (s : Scalar) → s ≡ scalarSize (bare e) → (r : ℕ) → r ≡ sizeOr s 0 → r ≡ scalarPart w fs t c
+    unfolding scalarPart
+    scalar-read h e ee s es r er =
+        rw (eq-eqb c none h) (er ∙ ap (λ (x : Scalar). sizeOr x 0) (es ∙ entry-size e ∙ ap scalarSize (ap (readTy fs) ee ∙ sym (type-at w fs t))))
 
   -- layout_in
   module _ (left t : ℕ) (d : List ℕ) (e : Entry) (ee : e ≡ entryAt w (length fs / 2) t) (r : Lay) where

@@ -1,10 +1,18 @@
 -- What the contracts of the layout's functions cite: the definitions, at the lists of the four lent slices.
 use Prim.Native.Nat.{ℕ, suc}
 use mathlib.Core.List.{List}
-use Rattle.ty.specs.View.{tableOf, fieldsFrom}
-use Rattle.layout.specs.Layout.{under, arrayOf, recordOf, layoutAt}
+use lib.Dec.{eqb}
+use Rattle.word.specs.Choice.{if_then_else_}
+use Rattle.ty.specs.Types.{typeAt, none}
+use Rattle.ty.specs.Scalars.{scalarSize}
+use Rattle.ty.specs.View.{typesOf, tableOf, fieldsFrom}
+use Rattle.layout.specs.Layout.{under, arrayOf, recordOf, layoutAt, sizeOr}
 use Rattle.layout.specs.Offsets.{offsetsFrom}
 use Rattle.layout.specs.declared.Lay.{Lay}
+
+-- the bytes of a field that is a scalar without a constant, 0 of another
+unfoldable pub scalarPart : List ℕ → List ℕ → ℕ → ℕ → ℕ
+scalarPart w fs t c = if eqb c none then sizeOr (scalarSize (typeAt (typesOf w fs) t)) 0 else 0
 
 module _ (w fs cs b : List ℕ) where
   -- a type at a depth of 64 less left

@@ -9,7 +9,7 @@ ghost use Rattle.ty.specs.Scalars.{scalarSize};
 ghost use Rattle.ty.specs.View.{tableOf, bare};
 ghost use Rattle.layout.specs.Layout.{dimLen, dimsOf, sizeOr, usedBy, arrayLaid, placed, endOf, scalarLaid};
 ghost use Rattle.layout.specs.Offsets.{offsetsOf, told, layoutCall, writtenBy};
-ghost use Rattle.layout.specs.Lent.{typeLaid, partLaid, arrayIn, recordIn, offsetsIn};
+ghost use Rattle.layout.specs.Lent.{scalarPart, typeLaid, partLaid, arrayIn, recordIn, offsetsIn};
 use ty::Entry;
 use ty::Part;
 use ty::Scalar;
@@ -215,6 +215,16 @@ fn scalar_laid(e: Entry) -> Lay
     }
 }
 
+// The bytes of a field that is a scalar without a constant, 0 of another.
+fn scalar_bytes(types: &[u64], fields: &[u32], t: u64, c: u64) -> u64
+    ensures { λ r. ⌜ r ≡ scalarPart (now (types .entry)) (now (fields .entry)) t c ⌝ }
+{
+    if c != 4294967295 {
+        return 0;
+    }
+    size_or(ty::scalar_size(ty::ty_at(types, fields, t)), 0)
+}
+
 // The layout of type t, whose depth is 64 less left.
 pub fn layout_in(
     types: &[u64],
@@ -313,7 +323,7 @@ pub fn layout_record(
         let k = 2 * (first + i);
         let t = fields[k] as u64;
         let c = fields[k + 1] as u64;
-        let fl = layout_below(types, fields, consts, bytes, t, c, &desc[used..], left);
+        let fl = layout_field(types, fields, consts, bytes, t, c, &desc[used..], left);
         let Lay::Laid {
             size,
             align: a,
@@ -362,6 +372,35 @@ pub fn layout_below(
     layout_in(types, fields, consts, bytes, t, &bytes[a..e], left - 1)
 }
 
+// The same, and a scalar without looking further: in a loop over fields that takes no call.
+pub fn layout_field(
+    types: &[u64],
+    fields: &[u32],
+    consts: &[u64],
+    bytes: &[u8],
+    t: u64,
+    c: u64,
+    desc: &[u8],
+    left: u64,
+) -> Lay
+    ensures { λ r. ⌜ r ≡ partLaid (now (types .entry)) (now (fields .entry)) (now (consts .entry)) (now (bytes .entry)) t c (now (desc .entry)) left ⌝ }
+{
+    if left == 0 {
+        return Lay::Malformed;
+    }
+    let n = scalar_bytes(types, fields, t, c);
+    if n == 0 {
+        return layout_below(types, fields, consts, bytes, t, c, desc, left);
+    }
+    Lay::Laid {
+        size: n,
+        align: n,
+        stride: 0,
+        count: 1,
+        used: 0,
+    }
+}
+
 // Writes the offsets of count fields from the first on.
 fn write_offsets(
     types: &[u64],
@@ -383,7 +422,7 @@ fn write_offsets(
         let k = 2 * (first + i);
         let t = fields[k] as u64;
         let c = fields[k + 1] as u64;
-        let fl = layout_below(types, fields, consts, bytes, t, c, &desc[used..], 64);
+        let fl = layout_field(types, fields, consts, bytes, t, c, &desc[used..], 64);
         let Lay::Laid {
             size,
             align: a,

@@ -2,7 +2,7 @@
 -- Assumes nothing.
 use mathlib.Core.Path.{_≡_, refl, sym, ap, subst, _∙_}
 use mathlib.Core.List.{List, [], _∷_}
-use mathlib.Core.Bool.{Bool, _&&_}
+use mathlib.Core.Bool.{Bool, true, _&&_}
 use mathlib.Core.Logic.{⊎-elim}
 use Prim.Native.Nat.{ℕ, zero, suc, _+_, _-_, _*_, _/_, _≤_, _<_, min}
 use native.Mathlib.Nat.{min-eq-left, min-eq-right, min-le-right, le-of-lt}
@@ -12,7 +12,7 @@ use lib.ListN.{length, getD, set, replicate, List·getD-eq-default}
 use lib.Seq.{ext-getD}
 use types.Run.{OneOf, miss}
 use denote.Enum.Declared.{tagOf}
-use borrow.Author.Tests.{lt-leb}
+use borrow.Author.Tests.{lt-leb, le-leb}
 use Rattle.word.proofs.InPlace.{Mapped, mapped-none, mapped-more}
 use Rattle.ty.specs.Types.{Ty, Ty.missing, Ty.int, Ty.physical, Ty.enum, Ty.real, Ty.array, Ty.fields, Ty.access, Ty.file, Ty.protected, Field, Field.field, typeAt}
 use Rattle.ty.specs.Walks.{unfoldFields, unfoldBy, unfoldAt}
@@ -328,6 +328,13 @@ all-counted ts n l e =
     ∙ ap (λ (x : ℕ). leb x 65536) (getD-listed (λ t. min (unfoldAt ts 65 t) 65537) 0 n i 0 h)
     ∙ small-cap (unfoldAt ts 65 (0 + i))
     ∙ ap (λ (t : ℕ). leb (unfoldAt ts 65 t) 65536) (omega arith))
+
+pub all-within : (ts : List Ty) (n : ℕ) → ((t : ℕ) → t < n → unfoldAt ts 65 t ≤ 65536) → allBelow (smallAt ts) n ≡ true
+unfolding allBelow smallAt
+all-within ts zero h = refl
+all-within ts (suc n) h =
+    ap (λ (x : Bool). x && leb (unfoldAt ts 65 n) 65536) (all-within ts n (λ t l. h t (omega arith)))
+    ∙ ap (λ (x : Bool). true && x) (le-leb (unfoldAt ts 65 n) 65536 (h n (omega arith)))
 
 -- the turns over the levels
 pub record Unfolding (w fs counts other sums : List ℕ) (k : ℕ) : Type 0 where

@@ -14,6 +14,7 @@ use Rattle.word.specs.declared.Aligned.the-variants.{To, TooLarge as TooFar}
 use Rattle.ty.specs.Words.{wordOf, rank}
 use Rattle.ty.specs.View.{entryOf}
 use Rattle.ty.specs.declared.Entry.the-variants.{Missing, Record}
+use Rattle.ty.specs.declared.Word.{Word}
 use Rattle.ty.specs.declared.Word.the-variants.{Is, Over}
 
 pub word-is : (n : ℕ) → n < 2 ^ 64 → wordOf n ≡ Is n
@@ -56,6 +57,10 @@ aligned-over x a b p eb e h = rw (← eb) (go (ltb (alignUp x b) (2 ^ 64)) (sym 
     go : (t : Bool) → if_then_else_ t (To (alignUp x b)) TooFar ≡ TooFar → Over ≡ if_then_else_ t (Is (alignUp x b)) Over
     go true q = let z : _≡_ {A = ℕ} 0 1 = cc in absurd (omega arith)
     go false q = refl
+
+-- the same alignment by another name
+pub same-up : (x a b : ℕ) (r : Word) → a ≡ b → r ≡ wordOf (alignUp x (max b 1)) → r ≡ wordOf (alignUp x (max a 1))
+same-up x a b r h e = e ∙ ap (λ (y : ℕ). wordOf (alignUp x (max y 1))) (sym h)
 
 pub rank-low : (x : ℕ) → x < 2 ^ 63 → x + 2 ^ 63 ≡ rank x
 unfolding rank

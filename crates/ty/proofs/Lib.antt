@@ -5,4 +5,5 @@ pub mod Ranges
 pub mod WalkLaws
 pub mod CheckLaws
 pub mod CountLaws
+pub mod BoundLaws
 pub mod Sizes

@@ -6,3 +6,4 @@ pub mod View
 pub mod Walks
 pub mod Check
 pub mod Counts
+pub mod Bounds

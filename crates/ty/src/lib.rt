@@ -1,12 +1,15 @@
 // The type table of a saved run: its rows read as types, its check, and what a type says without a descriptor. A port of ty.rs.
 ghost use mathlib.Core.Path.{_≡_};
 ghost use mathlib.Core.List.{_∷_};
+ghost use mathlib.Core.Bool.{true};
 ghost use Prim.Native.Nat.{ℕ, suc, _+_, _-_, _*_, _/_, _≤_, _<_, _^_, max, min};
 ghost use lib.ListN.{length, getD};
+ghost use Rattle.ty.specs.Types.{typeAt};
 ghost use Rattle.ty.specs.Words.{wordOf, rank, roundUp};
 ghost use Rattle.ty.specs.Scalars.{scalarSize, elemSize, logicLeaf};
 ghost use Rattle.ty.specs.Walks.{descArray, descFields, descAt, descSize, anyField, handlesAt, hasHandles};
 ghost use Rattle.ty.specs.Check.{allBelow, goodType, goodTypeAt, goodConst, goodConstAt, smallAt, tableGood};
+ghost use Rattle.ty.specs.Bounds.{boundIn, boundFields, boundBy};
 ghost use Rattle.ty.specs.Counts.{countIn, Capped, Fitting, Scratch, fieldSums, nextCount, nextCounts, countsAt, smallIn};
 ghost use Rattle.ty.specs.View.{entryAt, entryOf, partAt, fieldsFrom, typesOf, bare};
 use word::Aligned;
@@ -73,7 +76,7 @@ fn at_least_one(a: u64) -> u64
 }
 
 // The first multiple of a, or of 1 where a is 0, from x on.
-pub fn align_up(x: u64, a: u64) -> Word
+fn rounded(x: u64, a: u64) -> Word
     ensures { λ r. ⌜ r ≡ wordOf (roundUp x a) ⌝ }
 {
     let up = word::align_up(x, at_least_one(a));
@@ -81,6 +84,22 @@ pub fn align_up(x: u64, a: u64) -> Word
         return Word::Over;
     };
     Word::Is(n)
+}
+
+// The same. The alignments of scalars are written out, because a known one needs no division.
+pub fn align_up(x: u64, a: u64) -> Word
+    ensures { λ r. ⌜ r ≡ wordOf (roundUp x a) ⌝ }
+{
+    if a == 8 {
+        return rounded(x, 8);
+    }
+    if a == 4 {
+        return rounded(x, 4);
+    }
+    if a == 1 {
+        return rounded(x, 1);
+    }
+    rounded(x, a)
 }
 
 // A signed word moved up by 2^63, so that signed order is the order of the ranks.
@@ -587,8 +606,8 @@ fn unfolds_within(
     )
 }
 
-// Whether every type's unfolding is within the bound: 65 levels over all types and fields, some 1.3 million steps at most.
-fn unfolds_good(types: &[u64], fields: &[u32]) -> bool
+// The same level by level: 65 levels over all types and fields, some 1.3 million steps at most.
+fn unfolds_exactly(types: &[u64], fields: &[u32]) -> bool
     requires { ⌜ (length (now types) / 4 ≤ 4096) × (length (now fields) / 2 ≤ 16384) ⌝ }
     ensures { λ r. ⌜ r ≡ allBelow (smallAt (typesOf (now (types .entry)) (now (fields .entry)))) (length (now (types .entry)) / 4) ⌝ }
 {
@@ -596,6 +615,143 @@ fn unfolds_good(types: &[u64], fields: &[u32]) -> bool
     let mut other = [0u64; 4096];
     let mut sums = [0u64; 16384];
     unfolds_within(types, fields, &mut counts, &mut other, &mut sums)
+}
+
+// The bound of type t among those of the first i of n types: 1 where it is missing, 65,537 where it comes later.
+fn bound_at(counts: &[u64], i: usize, n: usize, t: u64) -> u64
+    requires { ⌜ i ≤ length (now counts) ⌝ }
+    ensures { λ r. ⌜ r ≡ boundIn (now (counts .entry)) i n t ⌝ }
+{
+    let at = t as usize;
+    if at < i {
+        return counts[at];
+    }
+    if at < n { 65537 } else { 1 }
+}
+
+// One more than the bounds of count fields from the first on.
+fn bound_fields(
+    fields: &[u32],
+    counts: &[u64],
+    i: usize,
+    n: usize,
+    first: usize,
+    count: usize,
+) -> u64
+    requires { ⌜ (first + count ≤ length (now fields) / 2) × (i ≤ length (now counts)) ⌝ }
+    ensures { λ r. ⌜ r ≡ boundFields (boundIn (now (counts .entry)) i n) (fieldsFrom (now (fields .entry)) first count) 1 ⌝ }
+{
+    let mut s: u64 = 1;
+    let mut j: usize = 0;
+    while j < count {
+        let k = 2 * (first + j);
+        let t = fields[k] as u64;
+        s = capped(s, bound_at(counts, i, n, t));
+        j += 1;
+    }
+    s
+}
+
+// The bound of the unfolding of type i.
+fn bound_type(types: &[u64], fields: &[u32], counts: &[u64], i: usize, n: usize) -> u64
+    requires { ⌜ i ≤ length (now counts) ⌝ }
+    ensures { λ r. ⌜ r ≡ boundBy (boundIn (now (counts .entry)) i n) (typeAt (typesOf (now (types .entry)) (now (fields .entry))) i) ⌝ }
+{
+    let e = ty_at(types, fields, i as u64);
+    match e {
+        Entry::Array {
+            elem,
+            desc: _,
+            dims: _,
+        } => capped(1, bound_at(counts, i, n, elem)),
+        Entry::Record { first, count } => bound_fields(fields, counts, i, n, first, count),
+        _ => 1,
+    }
+}
+
+// How many fields type i has: it only says how long the pass below goes on.
+fn fields_in(types: &[u64], fields: &[u32], i: usize) -> usize {
+    let e = ty_at(types, fields, i as u64);
+    match e {
+        Entry::Record { first: _, count } => count,
+        _ => 0,
+    }
+}
+
+// Whether one pass over the types shows that every unfolding is within the bound. It does where each type comes after those that it is made of and no field
+// belongs to two records; other tables need all levels.
+fn unfolds_in_order(types: &[u64], fields: &[u32], counts: &mut [u64]) -> bool
+    requires { ⌜ length (now types) / 4 ≤ length (now counts) ⌝ }
+    ensures { λ r. ⌜ (r ≡ true → allBelow (smallAt (typesOf (now (types .entry)) (now (fields .entry)))) (length (now (types .entry)) / 4) ≡ true) ⌝ }
+{
+    let n = types.len() / 4;
+    let mut room = fields.len() / 2;
+    let mut i: usize = 0;
+    while i < n {
+        let k = fields_in(types, fields, i);
+        if room < k {
+            return false;
+        }
+        let b = bound_type(types, fields, counts, i, n);
+        if 65536 < b {
+            return false;
+        }
+        counts[i] = b;
+        room -= k;
+        i += 1;
+    }
+    true
+}
+
+// Whether every type's unfolding is within the bound, of at most 32 types. Scratch is cleared on each call: a small table takes a small one.
+fn unfolds_32(types: &[u64], fields: &[u32]) -> bool
+    requires { ⌜ (length (now types) / 4 ≤ 32) × (length (now fields) / 2 ≤ 16384) ⌝ }
+    ensures { λ r. ⌜ r ≡ allBelow (smallAt (typesOf (now (types .entry)) (now (fields .entry)))) (length (now (types .entry)) / 4) ⌝ }
+{
+    let mut counts = [0u64; 32];
+    if unfolds_in_order(types, fields, &mut counts) {
+        return true;
+    }
+    unfolds_exactly(types, fields)
+}
+
+// The same of at most 256 types.
+fn unfolds_256(types: &[u64], fields: &[u32]) -> bool
+    requires { ⌜ (length (now types) / 4 ≤ 256) × (length (now fields) / 2 ≤ 16384) ⌝ }
+    ensures { λ r. ⌜ r ≡ allBelow (smallAt (typesOf (now (types .entry)) (now (fields .entry)))) (length (now (types .entry)) / 4) ⌝ }
+{
+    let mut counts = [0u64; 256];
+    if unfolds_in_order(types, fields, &mut counts) {
+        return true;
+    }
+    unfolds_exactly(types, fields)
+}
+
+// The same of as many types as there may be.
+fn unfolds_4096(types: &[u64], fields: &[u32]) -> bool
+    requires { ⌜ (length (now types) / 4 ≤ 4096) × (length (now fields) / 2 ≤ 16384) ⌝ }
+    ensures { λ r. ⌜ r ≡ allBelow (smallAt (typesOf (now (types .entry)) (now (fields .entry)))) (length (now (types .entry)) / 4) ⌝ }
+{
+    let mut counts = [0u64; 4096];
+    if unfolds_in_order(types, fields, &mut counts) {
+        return true;
+    }
+    unfolds_exactly(types, fields)
+}
+
+// Whether every type's unfolding is within the bound.
+fn unfolds_good(types: &[u64], fields: &[u32]) -> bool
+    requires { ⌜ (length (now types) / 4 ≤ 4096) × (length (now fields) / 2 ≤ 16384) ⌝ }
+    ensures { λ r. ⌜ r ≡ allBelow (smallAt (typesOf (now (types .entry)) (now (fields .entry)))) (length (now (types .entry)) / 4) ⌝ }
+{
+    let n = types.len() / 4;
+    if n <= 32 {
+        return unfolds_32(types, fields);
+    }
+    if n <= 256 {
+        return unfolds_256(types, fields);
+    }
+    unfolds_4096(types, fields)
 }
 
 // Whether a type table is taken.

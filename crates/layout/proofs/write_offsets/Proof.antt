@@ -44,17 +44,17 @@ shared-slice-read-c c = omega (arith, c .before .before .before .loop .inv .low)
 cast-c : tie.Need-cast-c Inv-loop μ-loop
 cast-c c = omega (arith, c .shared-slice-known7 .given (2 * (c .before .before .before .before .before .before .before .before .before .before .args .first + c .before .before .before .loop .i) + 1))
 
-sub-layout-below : tie.Need-sub-layout-below Inv-loop μ-loop
-sub-layout-below c = c .before .before .before .loop .inv .within
+sub-layout-field : tie.Need-sub-layout-field Inv-loop μ-loop
+sub-layout-field c = c .before .before .before .loop .inv .within
 
-part-layout-below-start : tie.Need-part-layout-below-start Inv-loop μ-loop
-part-layout-below-start c = c .before .before .before .loop .inv .within
+part-layout-field-start : tie.Need-part-layout-field-start Inv-loop μ-loop
+part-layout-field-start c = c .before .before .before .loop .inv .within
 
-part-layout-below-end : tie.Need-part-layout-below-end Inv-loop μ-loop
-part-layout-below-end c = omega arith
+part-layout-field-end : tie.Need-part-layout-field-end Inv-loop μ-loop
+part-layout-field-end c = omega arith
 
-layout-below-requires : tie.Need-layout-below-requires Inv-loop μ-loop
-layout-below-requires c κs = search needs
+layout-field-requires : tie.Need-layout-field-requires Inv-loop μ-loop
+layout-field-requires c κs = search needs
 
 enum-known-fl : tie.Need-enum-known-fl Inv-loop μ-loop
 enum-known-fl c = search needs
@@ -105,7 +105,7 @@ used-by-requires : tie.Need-used-by-requires Inv-loop μ-loop
 used-by-requires c κs = search needs
 
 add-used : tie.Need-add-used Inv-loop μ-loop
-add-used c = let k = rest-used _ _ _ _ _ (c .before .before .before .before .before .before .before .before .before .before .before .before .before .before .before .before .before .before .before .before .before .before .before .before .args .desc .now) _ (c .before .before .before .before .before .before .before .before .before .before .before .before .layout-below .ensures) _ _ _ _ _ (c .before .before .before .before .before .before .before .before .before .before .fl .given .1) _ (c .used-by .ensures) (c .before .before .before .before .before .before .before .before .before .before .before .before .before .before .before .before .before .loop .inv .within) in omega (arith, c .before .before .before .before .before .before .before .before .before .before .before .before .before .before .before .before .before .before .before .before .before .before .before .before .good)
+add-used c = let k = rest-used _ _ _ _ _ (c .before .before .before .before .before .before .before .before .before .before .before .before .before .before .before .before .before .before .before .before .before .before .before .before .args .desc .now) _ (c .before .before .before .before .before .before .before .before .before .before .before .before .layout-field .ensures) _ _ _ _ _ (c .before .before .before .before .before .before .before .before .before .before .fl .given .1) _ (c .used-by .ensures) (c .before .before .before .before .before .before .before .before .before .before .before .before .before .before .before .before .before .loop .inv .within) in omega (arith, c .before .before .before .before .before .before .before .before .before .before .before .before .before .before .before .before .before .before .before .before .before .before .before .before .good)
 
 add-i : tie.Need-add-i Inv-loop μ-loop
 add-i c = omega (arith, c .before .before .before .before .before .before .before .before .before .before .before .before .before .before .before .before .before .loop .inv .low, c .before .before .before .before .before .before .before .before .before .before .before .before .before .before .before .before .before .before .before .before .before .before .before .before .fits)
@@ -114,7 +114,7 @@ loop-less : tie.Need-loop-less Inv-loop μ-loop
 loop-less c = omega (arith, c .before .before .before .before .before .before .before .before .before .before .before .before .before .before .before .before .before .loop .inv .low)
 
 loop-again : tie.Need-loop-again Inv-loop μ-loop
-loop-again c = writing-next _ _ _ _ _ _ _ _ _ _ (c .before .before .before .before .before .before .before .before .before .before .before .before .before .before .before .before .before .loop .inv) (c .before .before .before .before .before .before .before .before .before .before .before .before .before .before .before .before .loop-test .taken) _ _ _ (off-more _ _ _ _ _ _ _ _ _ (c .before .before .before .before .before .before .before .before .before .before .before .before .before .before .before .before .loop-test .taken) _ (c .before .before .before .before .before .before .before .before .before .before .before .before .layout-below .ensures) _ _ _ _ _ (c .before .before .before .before .before .before .before .before .before .before .fl .given .1) _ (c .before .before .before .before .before .before .before .before .align-up .ensures) _ (c .before .before .before .before .before .before .w .given .1) _ (c .before .before .before .before .sum .ensures) _ (c .before .before .p .given .1) _ (c .used-by .ensures)) (rest-used _ _ _ _ _ (c .before .before .before .before .before .before .before .before .before .before .before .before .before .before .before .before .before .before .before .before .before .before .before .before .args .desc .now) _ (c .before .before .before .before .before .before .before .before .before .before .before .before .layout-below .ensures) _ _ _ _ _ (c .before .before .before .before .before .before .before .before .before .before .fl .given .1) _ (c .used-by .ensures) (c .before .before .before .before .before .before .before .before .before .before .before .before .before .before .before .before .before .loop .inv .within))
+loop-again c = writing-next _ _ _ _ _ _ _ _ _ _ (c .before .before .before .before .before .before .before .before .before .before .before .before .before .before .before .before .before .loop .inv) (c .before .before .before .before .before .before .before .before .before .before .before .before .before .before .before .before .loop-test .taken) _ _ _ (off-more _ _ _ _ _ _ _ _ _ (c .before .before .before .before .before .before .before .before .before .before .before .before .before .before .before .before .loop-test .taken) _ (c .before .before .before .before .before .before .before .before .before .before .before .before .layout-field .ensures) _ _ _ _ _ (c .before .before .before .before .before .before .before .before .before .before .fl .given .1) _ (c .before .before .before .before .before .before .before .before .align-up .ensures) _ (c .before .before .before .before .before .before .w .given .1) _ (c .before .before .before .before .sum .ensures) _ (c .before .before .p .given .1) _ (c .used-by .ensures)) (rest-used _ _ _ _ _ (c .before .before .before .before .before .before .before .before .before .before .before .before .before .before .before .before .before .before .before .before .before .before .before .before .args .desc .now) _ (c .before .before .before .before .before .before .before .before .before .before .before .before .layout-field .ensures) _ _ _ _ _ (c .before .before .before .before .before .before .before .before .before .before .fl .given .1) _ (c .used-by .ensures) (c .before .before .before .before .before .before .before .before .before .before .before .before .before .before .before .before .before .loop .inv .within))
 
 same-length-4 : tie.Need-same-length-4 Inv-loop μ-loop
 same-length-4 c = writing-same _ _ _ _ _ _ _ _ _ _ (c .before .loop .inv)
@@ -138,10 +138,10 @@ write-offsets-spec =
     mul-c
     shared-slice-read-c
     cast-c
-    sub-layout-below
-    part-layout-below-start
-    part-layout-below-end
-    layout-below-requires
+    sub-layout-field
+    part-layout-field-start
+    part-layout-field-end
+    layout-field-requires
     enum-known-fl
     same-length
     returns

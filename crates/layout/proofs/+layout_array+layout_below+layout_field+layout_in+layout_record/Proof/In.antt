@@ -5,8 +5,8 @@ use Prim.Native.Nat.{ℕ}
 use Rattle.layout.proofs.LayLaws.{in-array, in-record, in-scalar}
 use Rattle.ty.proofs.Ranges.{record-within}
 use Rattle.layout.proofs.layout_in.Reads as reads
-use Rattle.layout.proofs.+layout_array+layout_below+layout_in+layout_record.Lts-layout_in as lts
-use Rattle.layout.proofs.+layout_array+layout_below+layout_in+layout_record.Proof.Claims.{layout-in-at as at, layout-in-claims as claims}
+use Rattle.layout.proofs.+layout_array+layout_below+layout_field+layout_in+layout_record.Lts-layout_in as lts
+use Rattle.layout.proofs.+layout_array+layout_below+layout_field+layout_in+layout_record.Proof.Claims.{layout-in-at as at, layout-in-claims as claims}
 
 module _ (t : ℕ) where
   ty-at-requires : lts.Need-ty-at-requires (claims t) (at t) reads.Post

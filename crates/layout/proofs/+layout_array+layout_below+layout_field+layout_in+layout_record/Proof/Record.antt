@@ -8,8 +8,8 @@ use lib.ListN.{length}
 use Rattle.layout.specs.Layout.{recordOf, layoutAt}
 use Rattle.ty.specs.View.{tableOf, fieldsFrom}
 use Rattle.layout.proofs.layout_record.Reads as reads
-use Rattle.layout.proofs.+layout_array+layout_below+layout_in+layout_record.Lts-layout_record as lts
-use Rattle.layout.proofs.+layout_array+layout_below+layout_in+layout_record.Proof.Claims.{layout-record-at as at, layout-record-claims as claims}
+use Rattle.layout.proofs.+layout_array+layout_below+layout_field+layout_in+layout_record.Lts-layout_record as lts
+use Rattle.layout.proofs.+layout_array+layout_below+layout_field+layout_in+layout_record.Proof.Claims.{layout-record-at as at, layout-record-claims as claims}
 
 abbrev Inv-loop : lts.InvT-loop
 Inv-loop types fields consts bytes first count desc left off₀ align₀ used₀ i₀ off align used i =
@@ -51,17 +51,17 @@ module _ (t : ℕ) where
   cast-c : lts.Need-cast-c (claims t) (at t) reads.Post Inv-loop μ-loop
   cast-c c = omega (arith, c .shared-slice-known7 .given (2 * (c .before .before .before .before .before .before .before .before .before .args .first + c .before .before .before .loop .i) + 1))
 
-  sub-layout-below : lts.Need-sub-layout-below (claims t) (at t) reads.Post Inv-loop μ-loop
-  sub-layout-below c = omega arith
+  sub-layout-field : lts.Need-sub-layout-field (claims t) (at t) reads.Post Inv-loop μ-loop
+  sub-layout-field c = omega arith
 
-  part-layout-below-start : lts.Need-part-layout-below-start (claims t) (at t) reads.Post Inv-loop μ-loop
-  part-layout-below-start c = omega arith
+  part-layout-field-start : lts.Need-part-layout-field-start (claims t) (at t) reads.Post Inv-loop μ-loop
+  part-layout-field-start c = omega arith
 
-  part-layout-below-end : lts.Need-part-layout-below-end (claims t) (at t) reads.Post Inv-loop μ-loop
-  part-layout-below-end c = search needs
+  part-layout-field-end : lts.Need-part-layout-field-end (claims t) (at t) reads.Post Inv-loop μ-loop
+  part-layout-field-end c = search needs
 
-  layout-below-requires : lts.Need-layout-below-requires (claims t) (at t) reads.Post Inv-loop μ-loop
-  layout-below-requires c κs = (omega arith, tt)
+  layout-field-requires : lts.Need-layout-field-requires (claims t) (at t) reads.Post Inv-loop μ-loop
+  layout-field-requires c κs = (omega arith, tt)
 
   enum-known-fl : lts.Need-enum-known-fl (claims t) (at t) reads.Post Inv-loop μ-loop
   enum-known-fl c = search needs
@@ -119,10 +119,10 @@ closed t =
     (mul-c t)
     (shared-slice-read-c t)
     (cast-c t)
-    (sub-layout-below t)
-    (part-layout-below-start t)
-    (part-layout-below-end t)
-    (layout-below-requires t)
+    (sub-layout-field t)
+    (part-layout-field-start t)
+    (part-layout-field-end t)
+    (layout-field-requires t)
     (enum-known-fl t)
     (returns t)
     (place-requires t)

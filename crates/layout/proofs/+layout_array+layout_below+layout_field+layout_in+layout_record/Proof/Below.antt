@@ -5,8 +5,8 @@ use Prim.Native.Nat.{ℕ}
 use Rattle.layout.proofs.LayLaws.{below-zero, below-rest, below-nowhere, below-const}
 use Rattle.ty.proofs.Ranges.{part-start, part-end}
 use Rattle.layout.proofs.layout_below.Reads as reads
-use Rattle.layout.proofs.+layout_array+layout_below+layout_in+layout_record.Lts-layout_below as lts
-use Rattle.layout.proofs.+layout_array+layout_below+layout_in+layout_record.Proof.Claims.{layout-below-at as at, layout-below-claims as claims}
+use Rattle.layout.proofs.+layout_array+layout_below+layout_field+layout_in+layout_record.Lts-layout_below as lts
+use Rattle.layout.proofs.+layout_array+layout_below+layout_field+layout_in+layout_record.Proof.Claims.{layout-below-at as at, layout-below-claims as claims}
 
 module _ (t : ℕ) where
   returns : lts.Need-returns (claims t) (at t) reads.Post

@@ -4,8 +4,8 @@ use native.Mathlib.Omega.{arith}
 use Prim.Native.Nat.{ℕ}
 use Rattle.layout.proofs.LayLaws.{array-bad, array-large, array-none, array-some, rest-word, dims-fit, dims-word}
 use Rattle.layout.proofs.layout_array.Reads as reads
-use Rattle.layout.proofs.+layout_array+layout_below+layout_in+layout_record.Lts-layout_array as lts
-use Rattle.layout.proofs.+layout_array+layout_below+layout_in+layout_record.Proof.Claims.{layout-array-at as at, layout-array-claims as claims}
+use Rattle.layout.proofs.+layout_array+layout_below+layout_field+layout_in+layout_record.Lts-layout_array as lts
+use Rattle.layout.proofs.+layout_array+layout_below+layout_field+layout_in+layout_record.Proof.Claims.{layout-array-at as at, layout-array-claims as claims}
 
 module _ (t : ℕ) where
   dims-count-requires : lts.Need-dims-count-requires (claims t) (at t) reads.Post
