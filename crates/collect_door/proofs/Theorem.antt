@@ -21,10 +21,10 @@ use Rattle.heap.proofs.Testing.{formed-tested}
 use Rattle.heap.proofs.Keeping.{leaves}
 use Rattle.heap_recycle.specs.Pins.{rising}
 use Rattle.reach.specs.Reach.{Graph, Starts, Reached, Stuck}
-use Rattle.reach.specs.Marking.{State as Marks, marking}
 use Rattle.sweep.specs.Swept.{swept}
-use Rattle.collect_laws.specs.Collected.{starts, sweptBy, collected}
+use Rattle.collect_laws.specs.Collected.{starts, collected}
 use Rattle.collect_laws.specs.Demand.{Collects}
+use Rattle.collect_laws.proofs.Answers.{not-both, same-number, two-answers}
 use Rattle.collect_laws.proofs.Demand.{collect-demand, collected-by, collected-sound}
 use Rattle.mark.specs.Shown.{shown}
 use Rattle.heap_door.specs.HeapCalls.{Outcome, outcome, enough, zeros, heapCall}
@@ -34,13 +34,6 @@ use Rattle.collect_door.specs.CollectDemand.{firstFailed, objects, leavi
 never : {X : Type 0} → _≡_ {A = ℕ} 0 1 → X
 never q = absurd (omega arith)
 
--- an answer is a success or one refusal
-not-both : {X : Type 0} (r : Result Unit) (n : ℕ) → r ≡ ok tt → r ≡ refused n → X
-not-both r n p q = never (cc)
-
-same-number : (r : Result Unit) (n k : ℕ) → r ≡ refused n → r ≡ refused k → n ≡ k
-same-number r n k p q = cc
-
 same-answer : {a b : Outcome Unit} → a ≡ b → a .told .answer ≡ b .told .answer
 same-answer e = ap (λ (x : Outcome Unit). x .told .answer) e
 
@@ -49,15 +42,6 @@ same-heap e = ap (λ (x : Outcome Unit). x .heap) e
 
 same-scratch : {a b : Outcome Unit} → a ≡ b → (a .told .marks ≡ b .told .marks) × (a .told .work ≡ b .told .work)
 same-scratch e = (ap (λ (x : Outcome Unit). x .told .marks) e, ap (λ (x : Outcome Unit). x .told .work) e)
-
--- a collection is refused with 13, or done
-two-answers : (G : Graph) (S : Starts) (h : State) → (collected G S h .answer ≡ refused 13) ⊎ (collected G S h .answer ≡ ok tt)
-unfolding collected
-two-answers G S h = go (marking G S (length (h .slots)))
-  where
-    go : (m : Option Marks) → (sweptBy h (S .pins) m .answer ≡ refused 13) ⊎ (sweptBy h (S .pins) m .answer ≡ ok tt)
-    go none = inl refl
-    go (some m) = inr refl
 
 module _ (types fields consts bytes marks work : List ℕ) (l : Lent) (roots pins : List ℕ) where
   abbrev G : Graph

@@ -4,16 +4,21 @@ use mathlib.Core.Logic.{_⊎_, inl, inr, ⊎-elim, _↔_}
 use mathlib.Core.Bool.{true}
 use mathlib.Core.List.{List, [], _∷_, _++_}
 use mathlib.Core.Option.{Option, none, some}
-use Prim.Native.Nat.{ℕ}
+use Prim.Native.Nat.{ℕ, _<_}
 use native.Mathlib.Omega.{arith}
+use lib.ListN.{length, getD}
+use Rattle.word.specs.Result.{ok, refused}
 use Rattle.ty.specs.Types.{Table}
 use Rattle.heap.specs.State.{State}
-use Rattle.heap.specs.Calls.{Changed}
+use Rattle.heap.specs.Calls.{Changed, done}
+use Rattle.heap.proofs.Sound.{Sound}
 use Rattle.flow.specs.Function.{Function, valid, safepoint}
 use Rattle.reach.specs.Reach.{Graph, Starts, First, Chain, Reached, Stuck, _∈_}
+use Rattle.sweep.specs.Swept.{swept}
 use Rattle.collect_laws.specs.Collected.{graph, starts, collected}
 use Rattle.collect_laws.specs.Demand.{Survived, Collects}
-use Rattle.collect_laws.proofs.Demand.{collect-demand}
+use Rattle.collect_laws.proofs.Answers.{two-answers}
+use Rattle.collect_laws.proofs.Demand.{collect-demand, collected-by, collected-sound}
 use Rattle.mark.specs.Shown.{shown}
 use Rattle.joined_laws.specs.Joined.{rootRegisters, valuesOf, joined}
 use Rattle.joined_laws.specs.Demand.{JoinedStarts, Joins}
@@ -106,3 +111,51 @@ module _ (T : Table) (f : Function) (pc : ℕ) (good : valid f ≡ true) (at : s
               let w : handles ≡ hs = cc in
               let b′ : JoinedStarts f pc values handles (h .sealed) pins S′ = subst (λ (l : List ℕ). JoinedStarts f pc values l (h .sealed) pins S′) (sym w) b in
               collects-other h (graph h (shown T h)) S S′ (begins .pinned ∙ sym (b′ .pinned)) (λ x. (λ m. b′ .rooted x .1 (begins .rooted x .0 m), λ m. begins .rooted x .1 (b′ .rooted x .0 m))) _ all
+
+  -- ---- the heap after it is decided by what is reached: any marks that mark just that give the same
+
+  pub joined-by : (handles : List ℕ) → frame ≡ some handles → (S : Starts) → JoinedStarts f pc values handles (h .sealed) pins S
+      → (Stuck (graph h (shown T h)) S → ⊥)
+      → (marks : List ℕ) → ((o : ℕ) → o < length (h .slots) → (0 < getD marks o 0) ↔ Reached (graph h (shown T h)) S o)
+      → joined T f pc values frame pins h ≡ done tt (swept h marks pins)
+  unfolding joined
+  joined-by handles e S′ b free marks just =
+      subst (λ (x : Option (List ℕ)). joined T f pc values x pins h ≡ done tt (swept h marks pins)) (sym e)
+      (collected-by h (shown T h) S marks (λ k. free (stuck-other G S S′ same-pins (λ x. same-roots x .0) k))
+      (λ o less. (λ m. back h G S S′ same-pins same-roots o (just o less .0 m), λ r. just o less .1 (to h G S S′ same-pins same-roots o r))))
+    where
+      G : Graph
+      G = graph h (shown T h)
+
+      S : Starts
+      S = starts h (handles ++ valuesOf values (rootRegisters f pc)) pins
+
+      begins : JoinedStarts f pc values handles (h .sealed) pins S
+      begins = joined-starts f pc good at values handles pins h
+
+      same-pins : S .pins ≡ S′ .pins
+      same-pins = begins .pinned ∙ sym (b .pinned)
+
+      same-roots : (x : ℕ) → (x ∈ S .roots) ↔ (x ∈ S′ .roots)
+      same-roots x = (λ m. b .rooted x .1 (begins .rooted x .0 m), λ m. begins .rooted x .1 (b .rooted x .0 m))
+
+-- ---- at any instruction, of any code
+
+module _ (T : Table) (f : Function) (pc : ℕ) (values : List ℕ) (frame : Option (List ℕ)) (pins : List ℕ) (h : State) where
+  -- it is refused with 13, or done
+  pub joined-answers : (joined T f pc values frame pins h .answer ≡ refused 13) ⊎ (joined T f pc values frame pins h .answer ≡ ok tt)
+  unfolding joined
+  joined-answers = go frame
+    where
+      go : (o : Option (List ℕ)) → (joined T f pc values o pins h .answer ≡ refused 13) ⊎ (joined T f pc values o pins h .answer ≡ ok tt)
+      go none = inl refl
+      go (some handles) = two-answers (graph h (shown T h)) (starts h (handles ++ valuesOf values (rootRegisters f pc)) pins) h
+
+  -- a heap that is sound and fits stays so
+  pub joined-sound : (L P : ℕ) → Sound L P h → Sound L P (joined T f pc values frame pins h .heap)
+  unfolding joined
+  joined-sound L P fine = go frame
+    where
+      go : (o : Option (List ℕ)) → Sound L P (joined T f pc values o pins h .heap)
+      go none = fine
+      go (some handles) = collected-sound L P (graph h (shown T h)) (starts h (handles ++ valuesOf values (rootRegisters f pc)) pins) h fine

@@ -35,10 +35,14 @@ pub record StuckAt (T : Table) (f : Function) (pc : ℕ) (values handles pins : 
   pub starts : JoinedStarts f pc values handles (h .sealed) pins from
   pub stuck : Stuck (graph h (shown T h)) from
 
--- what the joined collection of h at pc has to answer and leave; `frame` are the frame's handles, none where the frame map can't be traced
+-- the frame map can't be traced, or an object that such a chain leads to; `frame` are the frame's handles, none where the frame map can't be traced
+abbrev pub Untraceable : Table → Function → (pc : ℕ) (values : List ℕ) (frame : Option (List ℕ)) (pins : List ℕ) → State → Type 0
+Untraceable T f pc values frame pins h = (frame ≡ none) ⊎ ((handles : List ℕ) × (frame ≡ some handles) × StuckAt T f pc values handles pins h)
+
+-- what the joined collection of h at pc has to answer and leave
 pub record Joins (T : Table) (f : Function) (pc : ℕ) (values : List ℕ) (frame : Option (List ℕ)) (pins : List ℕ) (h : State) (r : Changed Unit) : Type 0 where
   -- refused exactly when the frame map or a reached object can't be traced, and then the heap is unchanged
-  pub untraceable : (r .answer ≡ refused 13) ↔ ((frame ≡ none) ⊎ ((handles : List ℕ) × (frame ≡ some handles) × StuckAt T f pc values handles pins h))
+  pub untraceable : (r .answer ≡ refused 13) ↔ Untraceable T f pc values frame pins h
   pub unchanged : r .answer ≡ refused 13 → r .heap ≡ h
   -- there is such a start for chains wherever the frame map can be traced
   pub begins : (handles : List ℕ) → frame ≡ some handles → (S : Starts) × JoinedStarts f pc values handles (h .sealed) pins S
