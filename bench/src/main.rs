@@ -126,6 +126,7 @@ fn churn(table: &mut Table, slots: usize, script: bool) {
             black_box(port.take(h).unwrap());
             port.recycle(&[]).unwrap();
         });
+        assert!(port.live().unwrap() == slots / 2 && rust.live() == slots / 2);
         return table.row("alloc, take, recycle (ns a turn), by slots", slots, a, b);
     }
     // placing and taking each step the slot's generation
