@@ -1,5 +1,5 @@
-//! Times the port and the Rust that it ports on the same inputs, and prints a table. Each figure is processor time, the median of five rounds; a round repeats the work for at least
-//! 20 ms.
+//! Times the port and the Rust that it ports on the same inputs, after seeing that both answer the same, and prints a table. Each figure is processor time, the median of five rounds; a
+//! round repeats the work for at least 20 ms. Words on the command line pick rows, as in `cargo run --release -- layout collect`.
 #![allow(dead_code)]
 
 include!(concat!(env!("OUT_DIR"), "/mods.rs"));
@@ -31,9 +31,14 @@ mod state {
     }
 }
 
+mod page;
 use std::hint::black_box;
+use std::ops::Range;
 use yavs_ir::{Block, BlockId, Field, Func, Inst, Ops, Program, Reg, RegTy, Ty, TyId};
-use yexwalu::{Class, Direction, Function, Handle, Heap, InstKind, Kind, TypeTable, Wanted, descriptor};
+use yexwalu::{Class, Direction, Function, Handle, Heap, InstKind, Kind, Memory, TypeTable, Wanted, descriptor};
+
+const SIZES: [usize; 4] = [1_000, 10_000, 100_000, 1_000_000];
+const OBJECTS: [usize; 3] = [16, 1024, 16384];
 
 #[repr(C)]
 struct Timespec {
@@ -72,13 +77,28 @@ fn time(mut work: impl FnMut()) -> f64 {
     rounds[2]
 }
 
-fn row(what: &str, size: usize, port: f64, rust: f64) {
-    println!("| {what} | {size} | {port:.0} | {rust:.0} | {:.2} |", port / rust);
+// The rows of the table, and what was measured for the size before.
+#[derive(Default)]
+struct Table {
+    last: Option<(String, [f64; 3])>,
+}
+
+impl Table {
+    fn row(&mut self, what: &str, size: usize, port: f64, rust: f64) {
+        let figures = [size as f64, port, rust];
+        let grown = match &self.last {
+            Some((same, before)) if same == what => (0..3).map(|i| format!("{:.1}", figures[i] / before[i])).collect::<Vec<_>>().join(" | "),
+            _ => " | | ".into(),
+        };
+        println!("| {what} | {size} | {port:.0} | {rust:.0} | {:.2} | {grown} |", port / rust);
+        self.last = Some((what.into(), figures));
+    }
 }
 
 // A heap of so many slots whose first ones hold these bytes, read from its page: placing them one by one would check the heap each time.
 fn heap_with(slots: usize, objects: usize, bytes: &[u8]) -> Heap {
-    let hex: String = bytes.iter().map(|b| format!("{b:02x}")).collect();
+    let mut hex = String::new();
+    page::hex(bytes, &mut hex);
     let mut page = format!("tag,since_gc,reclaim_at,live_bytes,slots,free,quarantine,sealed\n1,0,4096,0,{objects},0,0,0\ngeneration,kind,type,start,writes,data\n");
     for _ in 0..objects {
         page.push_str(&format!("1,2,0,0,0,{hex}\n"));
@@ -87,25 +107,35 @@ fn heap_with(slots: usize, objects: usize, bytes: &[u8]) -> Heap {
     Heap::read_page(slots, slots * bytes.len(), page.as_bytes()).unwrap()
 }
 
-// Half the slots hold objects of 32 bytes; each turn places one, takes it out again and recycles.
-fn churn(slots: usize) {
+// Half the slots hold objects of 32 bytes; each turn places one, takes it out again and recycles. By single calls, or by a script of a thousand turns.
+fn churn(table: &mut Table, slots: usize, script: bool) {
     let bytes = [7u8; 32];
     let mut port = heap_with(slots, slots / 2, &bytes);
     let mut rust = heap::Heap::new(1);
     for _ in 0..slots / 2 {
         rust.alloc(heap::Obj::Bytes, bytes.to_vec()).unwrap();
     }
-    let a = time(|| {
-        let h = port.alloc(Kind::Bytes, &bytes).unwrap();
-        black_box(port.take(h).unwrap());
-        port.recycle(&[]).unwrap();
-    });
     let b = time(|| {
         let h = rust.alloc(heap::Obj::Bytes, bytes.to_vec()).unwrap();
         black_box(rust.take(h).unwrap());
         rust.recycle(&[]);
     });
-    row("alloc, take, recycle (ns a turn)", slots, a, b);
+    if !script {
+        let a = time(|| {
+            let h = port.alloc(Kind::Bytes, &bytes).unwrap();
+            black_box(port.take(h).unwrap());
+            port.recycle(&[]).unwrap();
+        });
+        assert!(port.live().unwrap() == slots / 2 && rust.live() == slots / 2);
+        return table.row("alloc, take, recycle (ns a turn), by slots", slots, a, b);
+    }
+    // placing and taking each step the slot's generation
+    let turn = |i: u32| format!("alloc,0,2,{}\ntake,{},0,\nrecycle,0,0,\n", "07".repeat(32), heap::pack(1, slots as u32 / 2, 2 * i + 1));
+    let text: String = (0..1000).map(turn).collect();
+    let mut room = vec![0; port.memory().pool.len()];
+    let copy = time(|| drop(black_box(port.clone())));
+    let a = time(|| port.clone().run_with(text.as_bytes(), &mut room).unwrap());
+    table.row("alloc, take, recycle in a script (ns a turn), by slots", slots, (a - copy) / 1000.0, b);
 }
 
 fn field(ty: u32) -> Field {
@@ -113,7 +143,7 @@ fn field(ty: u32) -> Field {
 }
 
 // A record of so many fields, by turns a byte, a real and a handle.
-fn layouts(fields: usize) {
+fn layouts(rows: &mut Table, fields: usize) {
     let mut table = TypeTable::new();
     let mut prog = Program::default();
     let (byte, real, access) = (table.enumeration(4, 0), table.real(), table.access());
@@ -124,17 +154,19 @@ fn layouts(fields: usize) {
     let of = |i: usize| [byte, real, access][i % 3];
     let record = table.record(&(0..fields).map(|i| (of(i), None)).collect::<Vec<_>>());
     prog.types.push(Ty::Record { fields: (0..fields).map(|i| field(of(i))).collect() });
+    let (here, (there, _)) = (table.layout(record, &[]).unwrap(), Ty::layout(&prog.types, &prog.consts, TyId(record), &[]).unwrap());
+    assert!(here.size == there.size && here.align == there.align && here.offsets[..] == there.offsets[..]);
     let a = time(|| {
         black_box(table.layout(record, &[]).unwrap());
     });
     let b = time(|| {
         black_box(Ty::layout(&prog.types, &prog.consts, TyId(record), &[]).unwrap());
     });
-    row("layout of a record (ns), by fields", fields, a, b);
+    rows.row("layout of a record (ns), by fields", fields, a, b);
 }
 
 // An array of so many records of two handles and a real.
-fn objects(count: usize) {
+fn objects(rows: &mut Table, count: usize) {
     let mut table = TypeTable::new();
     let mut prog = Program::default();
     let (access, real) = (table.access(), table.real());
@@ -147,6 +179,9 @@ fn objects(count: usize) {
     let mut data = descriptor(&[(1, count as i64, Direction::To)]);
     data.extend((0..3 * count as u64).flat_map(|x| (x + 1).to_le_bytes()));
     let mut out = vec![0; 2 * count];
+    let mut there = Vec::new();
+    assert!(heap::object_handles(&prog, TyId(array), &data, &mut there));
+    assert!(table.object_handles_into(array, &data, &mut out) == Ok(2 * count) && out == there);
     let a = time(|| {
         black_box(table.object_handles_into(array, &data, &mut out).unwrap());
     });
@@ -155,14 +190,13 @@ fn objects(count: usize) {
         assert!(heap::object_handles(&prog, TyId(array), &data, &mut out));
         black_box(out);
     });
-    row("object_handles (ns), by elements", count, a, b);
+    rows.row("object_handles (ns), by elements", count, a, b);
 }
 
 // So many blocks in a row, each of a write, a safepoint, a read and a conditional branch back and on.
-fn live(blocks: usize, registers: usize) {
+fn code(blocks: usize, registers: usize) -> (Function, Func) {
     let mut port = Function::new();
     let mut rust = Func::default();
-    let prog = Program::default();
     for _ in 0..registers {
         port.register(Class::Handle);
         rust.reg_ty.push(RegTy::Handle);
@@ -182,7 +216,15 @@ fn live(blocks: usize, registers: usize) {
         rust.code.push(Inst::CondBr { ops: Ops { uses: vec![Reg(r)], ..Ops::default() }, to: to.iter().map(|t| BlockId(*t)).collect() });
         rust.blocks.push(Block { start, end: start + 4 });
     }
+    (port, rust)
+}
+
+fn live(table: &mut Table, blocks: usize, registers: usize) {
+    let (port, rust) = code(blocks, registers);
+    let prog = Program::default();
     let map = port.live_refs(Wanted::References).unwrap();
+    let there = roots::live_refs(&prog, &rust, false);
+    assert!(map.len() == blocks && map.iter().all(|(pc, regs)| there.get(*pc).unwrap().iter().map(|r| r.0).eq(regs.iter().copied())));
     let total = map.iter().map(|m| m.1.len()).sum::<usize>();
     let (mut scratch, mut pcs, mut bounds, mut regs) = (vec![0; port.scratch_words()], vec![0; map.len()], vec![0; map.len()], vec![0; total]);
     let a = time(|| {
@@ -191,86 +233,110 @@ fn live(blocks: usize, registers: usize) {
     let b = time(|| {
         black_box(roots::live_refs(&prog, &rust, false));
     });
-    row("live_refs (ns), by blocks", blocks, a, b);
+    table.row("live_refs (ns), by blocks", blocks, a, b);
 }
 
-// A page of so many objects of 64 bytes: the port, a copy of the page's bytes, and a page by Rust's formatter.
-fn pages(objects: usize) {
-    let bytes = [0xa5u8; 64];
-    let heap = heap_with(objects, objects, &bytes);
-    let page = heap.write_page().unwrap();
-    let mut out = vec![0; page.len()];
-    let write = time(|| {
-        black_box(heap.write_page_into(&mut out).unwrap());
-    });
-    let mut other = heap.clone();
-    let read = time(|| other.read_page_over(black_box(&page)).unwrap());
-    let copy = time(|| black_box(&mut out).copy_from_slice(black_box(&page)));
-    let plain = time(|| {
-        use std::fmt::Write;
-        let mut o = String::with_capacity(page.len());
-        for _ in 0..objects {
-            let _ = write!(o, "{},{},{},{},{},", 1, 2, 0, 0, 0);
-            for b in black_box(&bytes) {
-                let _ = write!(o, "{b:02x}");
-            }
-            o.push('\n');
-        }
-        black_box(o);
-    });
-    let speed = |ns: f64| page.len() as f64 / ns * 1000.0;
-    println!("| page of {objects} objects (MB/s) | {} | write {:.0} | read {:.0} | memcpy {:.0}, Rust's formatter {:.0} |", page.len(), speed(write), speed(read), speed(copy), speed(plain));
+// A page of so many objects of 64 bytes, written and read by the port and by plain Rust.
+fn pages(table: &mut Table, objects: usize, read: bool) {
+    let bytes: Vec<u8> = (0..64).map(|i| i * 37).collect();
+    let mut heap = heap_with(objects, objects, &bytes);
+    let text = heap.write_page().unwrap();
+    let mut out = vec![0; text.len()];
+    let mut plain = (String::new(), Memory::zeros(objects, heap.memory().pool.len()));
+    page::write(&heap, &mut plain.0);
+    assert_eq!(plain.0.as_bytes(), text);
+    assert!(page::read(&text, &mut plain.1) == Some(*heap.header()) && plain.1 == *heap.memory());
+    if read {
+        let b = time(|| assert!(page::read(black_box(&text), &mut plain.1).is_some()));
+        let a = time(|| heap.read_page_over(black_box(&text)).unwrap());
+        table.row("read_page (ns), by bytes", text.len(), a, b);
+    } else {
+        let b = time(|| page::write(black_box(&heap), &mut plain.0));
+        let a = time(|| assert!(black_box(&heap).write_page_into(&mut out).is_ok()));
+        table.row("write_page (ns), by bytes", text.len(), a, b);
+    }
 }
 
-// Objects of handles, all reached from the first, so that each collection does the same work again.
-fn collections(shape: &str, n: usize, edges: impl Fn(usize) -> std::ops::Range<usize>) {
+// A copy of the bytes of the same page, for scale.
+fn copies(table: &mut Table, objects: usize) {
+    let text = heap_with(objects, objects, &[7; 64]).write_page().unwrap();
+    let mut out = vec![0; text.len()];
+    let copy = time(|| black_box(&mut out).copy_from_slice(black_box(&text)));
+    table.row("memcpy of a page (ns), by bytes", text.len(), copy, copy);
+}
+
+// Objects of handles, all reached from the first, so that each collection does the same work again: the two heaps, and the handle of the first.
+fn graph(n: usize, edges: impl Fn(usize) -> Range<usize>) -> (Heap, heap::Heap, u64) {
     let handle = |i: usize| heap::pack(1, (i % n) as u32, 1);
-    let mut page = format!("tag,since_gc,reclaim_at,live_bytes,slots,free,quarantine,sealed\n1,0,4096,0,{n},0,0,0\ngeneration,kind,type,start,writes,data\n");
+    let mut text = format!("tag,since_gc,reclaim_at,live_bytes,slots,free,quarantine,sealed\n1,0,4096,0,{n},0,0,0\ngeneration,kind,type,start,writes,data\n");
     let mut rust = heap::Heap::new(1);
     let mut pool = 0;
     for i in 0..n {
         let mut data = vec![0; 24];
         data.extend(edges(i).flat_map(|j| handle(j).to_le_bytes()));
         pool += data.len();
-        page.push_str("1,3,0,0,0,");
-        for b in &data {
-            page.push(char::from_digit(u32::from(b >> 4), 16).unwrap());
-            page.push(char::from_digit(u32::from(b & 15), 16).unwrap());
-        }
-        page.push('\n');
+        text.push_str("1,3,0,0,0,");
+        page::hex(&data, &mut text);
+        text.push('\n');
         rust.alloc(heap::Obj::Handles, data).unwrap();
     }
-    page.push_str("free\nquarantine\nsealed\n");
-    let mut port = Heap::read_page(n, pool, page.as_bytes()).unwrap();
-    let (types, prog) = (TypeTable::new(), Program::default());
-    let a = time(|| port.collect(&types, &[Handle(handle(0))], &[]).unwrap());
-    let b = time(|| assert!(rust.collect(&prog, &[handle(0)], &[])));
-    assert!(port.live().unwrap() == n && rust.live() == n);
-    row(&format!("collect, {shape} (ns)"), n, a, b);
+    text.push_str("free\nquarantine\nsealed\n");
+    (Heap::read_page(n, pool, text.as_bytes()).unwrap(), rust, handle(0))
 }
 
+fn collections(table: &mut Table, shape: &str, n: usize, edges: impl Fn(usize) -> Range<usize>) {
+    let (mut port, mut rust, first) = graph(n, edges);
+    let (types, prog) = (TypeTable::new(), Program::default());
+    let a = time(|| port.collect(&types, &[Handle(first)], &[]).unwrap());
+    let b = time(|| assert!(rust.collect(&prog, &[first], &[])));
+    assert!(port.live().unwrap() == n && rust.live() == n);
+    table.row(&format!("collect, {shape} (ns), by slots"), n, a, b);
+}
+
+// A ring that a live register leads to, collected at a safepoint of a function of 64 blocks; the Rust's calls put together.
+fn joined(table: &mut Table, n: usize) {
+    let (mut port, mut rust, first) = graph(n, |i| i + 1..i + 2);
+    let (function, func) = code(64, 64);
+    let (types, prog) = (TypeTable::new(), Program::default());
+    let (pc, _) = function.live_refs(Wanted::References).unwrap().into_iter().find(|m| !m.1.is_empty()).unwrap();
+    let values = vec![first; 64];
+    let a = time(|| port.collect_joined(&types, &function, pc, &values, &[], &[], &[]).unwrap());
+    let b = time(|| {
+        let map = roots::live_refs(&prog, &func, false);
+        let mut refs = heap::Refs::default();
+        refs.handles.extend(map.get(pc).unwrap().iter().map(|r| values[r.0 as usize]));
+        assert!(heap::slot_roots(&prog, &[], &[], &mut refs) && rust.collect(&prog, &refs.handles, &[]));
+    });
+    assert!(port.live().unwrap() == n && rust.live() == n);
+    table.row("collect_joined, ring (ns), by slots", n, a, b);
+}
+
+const ROWS: [&str; 10] = ["churn", "script", "layout", "object_handles", "live_refs", "collect", "joined", "write_page", "read_page", "memcpy"];
+
 fn main() {
-    println!("| Work | Size | Port | Rust | Port / Rust |\n|---|---|---|---|---|");
-    for slots in [16, 256, 4096, 65536] {
-        churn(slots);
+    let words: Vec<String> = std::env::args().skip(1).collect();
+    if let Some(word) = words.iter().find(|w| !ROWS.contains(&w.as_str())) {
+        eprintln!("no rows {word}; there are {}", ROWS.join(", "));
+        std::process::exit(2);
     }
-    for fields in [3, 30, 300] {
-        layouts(fields);
-    }
-    for count in [10, 1000, 100_000] {
-        objects(count);
-    }
-    for (blocks, registers) in [(4, 8), (64, 64), (1024, 256), (4096, 1024)] {
-        live(blocks, registers);
-    }
-    for n in [1_000, 10_000, 100_000, 1_000_000] {
-        collections("chain", n, |i| if i + 1 < n { i + 1..i + 2 } else { 0..0 });
-        collections("ring", n, |i| i + 1..i + 2);
-        collections("wide", n, |i| if i == 0 { 1..n } else { 0..0 });
-        collections("tree", n, |i| (2 * i + 1).min(n)..(2 * i + 3).min(n));
-    }
-    println!("\n| Pages | Bytes | | | |\n|---|---|---|---|---|");
-    for objects in [16, 1024, 16384] {
-        pages(objects);
+    let picked = |row: &str| words.is_empty() || words.iter().any(|w| w == row);
+    let mut table = Table::default();
+    println!("| Work | Size | Port | Rust | Port / Rust | Size grows | Port grows | Rust grows |\n|---|---|---|---|---|---|---|---|");
+    for row in ROWS.into_iter().filter(|r| picked(r)) {
+        match row {
+            "churn" | "script" => [16, 256, 4096, 65536].iter().for_each(|n| churn(&mut table, *n, row == "script")),
+            "layout" => [3, 30, 300].iter().for_each(|n| layouts(&mut table, *n)),
+            "object_handles" => [10, 1000, 100_000].iter().for_each(|n| objects(&mut table, *n)),
+            "live_refs" => [(4, 8), (64, 64), (1024, 256), (4096, 1024)].iter().for_each(|(b, r)| live(&mut table, *b, *r)),
+            "collect" => {
+                SIZES.iter().for_each(|n| collections(&mut table, "chain", *n, |i| if i + 1 < *n { i + 1..i + 2 } else { 0..0 }));
+                SIZES.iter().for_each(|n| collections(&mut table, "ring", *n, |i| i + 1..i + 2));
+                SIZES.iter().for_each(|n| collections(&mut table, "wide", *n, |i| if i == 0 { 1..*n } else { 0..0 }));
+                SIZES.iter().for_each(|n| collections(&mut table, "tree", *n, |i| (2 * i + 1).min(*n)..(2 * i + 3).min(*n)));
+            }
+            "joined" => SIZES.iter().for_each(|n| joined(&mut table, *n)),
+            "memcpy" => OBJECTS.iter().for_each(|n| copies(&mut table, *n)),
+            _ => OBJECTS.iter().for_each(|n| pages(&mut table, *n, row == "read_page")),
+        }
     }
 }

@@ -1,5 +1,5 @@
 /*
- * A first heap from C: it places an object, writes the heap as a page, reads the page back and takes the object out again.
+ * A first heap from C: it places an object, writes the heap as a page, reads the page back, takes the object out again and runs a script of calls.
  *
  *     cc -std=c11 -Wall -Wextra -I host/include host/c/page.c target/staticlib/libyexwalu.a -o target/c-page
  *
@@ -14,7 +14,7 @@
 #define TEXT (256 + 96 * SLOTS + 2 * POOL)
 
 static uint32_t generation[SLOTS], ty[SLOTS], writes[SLOTS], free_list[SLOTS], quarantine[SLOTS];
-static uint8_t kind[SLOTS], pool[POOL], marks[SLOTS], text[TEXT], object[POOL];
+static uint8_t kind[SLOTS], pool[POOL], marks[SLOTS], text[TEXT], object[POOL], room[POOL];
 static size_t start[SLOTS], end[SLOTS];
 static uint64_t sealed[SLOTS], work[SLOTS];
 
@@ -46,5 +46,9 @@ int main(void) {
 
     yexwalu_answer gone = yexwalu_resolve(taken.heap, YEXWALU_COLUMNS(memory), YEXWALU_SCRATCH(memory), handle);
     if (gone.number != 4) return failed("resolve", gone);
+
+    static const char script[] = "recycle,0,0,\nalloc,0,2,4344\nseal,0,0,\n";
+    yexwalu_done ran = yexwalu_run(taken.heap, YEXWALU_COLUMNS(memory), YEXWALU_SCRATCH(memory), room, sizeof room, (const uint8_t *)script, sizeof script - 1);
+    if (ran.answer.number != 0 || ran.heap.sealed != 1 || memcmp(pool, "CD", 2) != 0) return failed("run", ran.answer);
     return 0;
 }

@@ -5,8 +5,8 @@
  * leads to as many elements as the length after it says, is aligned and not null (also where the length is 0), memory that a call may write is lent
  * to no other parameter of it, and a bool is 0 or 1. Calls allocate nothing, keep no pointer and have no state of their own.
  *
- * An answer has document 01's number, 0 for success, and up to two values, zeros after a refusal. A refusal changes nothing, but 5 in alloc_from (since_gc),
- * 9 in a write to a live slot with nothing visible (its write count), and scratch, which is zero after all answers but 18.
+ * An answer has document 01's number, 0 for success, and up to two values, zeros after a refusal. A refusal changes nothing, but 5 in alloc and
+ * alloc_from (since_gc), 9 in a write to a live slot with nothing visible (its write count), and scratch, which is zero after all answers but 18.
  * The numbers: 1 broken heap, 2 null, 3 wrong heap, 4 stale, 5 full, 6 no room, 7 short list, 8 kind, 9 nothing there, 10 type table, 11 malformed, 12 too large,
  * 13 untraceable, 14 pins, 15 function, 16 no map, 17 page, 18 scratch.
  *
@@ -121,6 +121,25 @@ yexwalu_done yexwalu_alloc_from(
     uint8_t k,
     uint32_t t,
     size_t s,
+    const uint8_t *bytes, size_t bytes_len);
+
+/* As alloc_from, all of `bytes` visible. first: its handle. 18, 1, 8, 6, 5. */
+yexwalu_done yexwalu_alloc(
+    yexwalu_header heap,
+    uint32_t *generation, size_t generation_len,
+    uint8_t *kind, size_t kind_len,
+    uint32_t *ty, size_t ty_len,
+    size_t *start, size_t start_len,
+    size_t *end, size_t end_len,
+    uint32_t *writes, size_t writes_len,
+    uint8_t *pool, size_t pool_len,
+    uint32_t *free, size_t free_len,
+    const uint32_t *quarantine, size_t quarantine_len,
+    const uint64_t *sealed, size_t sealed_len,
+    uint8_t *marks, size_t marks_len,
+    uint64_t *work, size_t work_len,
+    uint8_t k,
+    uint32_t t,
     const uint8_t *bytes, size_t bytes_len);
 
 /* Hands out the whole data of an object, and removes it; its slot goes into quarantine. first: its length, second: its start. 18, 1, 2, 3, 4, 7. */
@@ -557,6 +576,30 @@ yexwalu_done yexwalu_collect_joined(
     uint8_t *marks, size_t marks_len,
     uint64_t *work, size_t work_len,
     uint64_t *rows, size_t rows_len);
+
+/* ---- A script of calls ---- */
+
+/*
+ * Runs a script of calls, one a line, on a heap that is checked once: `alloc,TYPE,KIND,HEX`, `take,HANDLE,0,`, `seal,0,0,` and `recycle,0,0,`, each with byte 10
+ * at its end. The first line that is refused, or is no such line (17), ends it; what the lines before it did stays. `room` is scratch besides, at least as long as the
+ * pool. 18, 1, then 17, or 8, 6, 5 of an alloc and 2, 3, 4 of a take.
+ */
+yexwalu_done yexwalu_run(
+    yexwalu_header heap,
+    uint32_t *generation, size_t generation_len,
+    uint8_t *kind, size_t kind_len,
+    uint32_t *ty, size_t ty_len,
+    size_t *start, size_t start_len,
+    size_t *end, size_t end_len,
+    uint32_t *writes, size_t writes_len,
+    uint8_t *pool, size_t pool_len,
+    uint32_t *free, size_t free_len,
+    uint32_t *quarantine, size_t quarantine_len,
+    uint64_t *sealed, size_t sealed_len,
+    uint8_t *marks, size_t marks_len,
+    uint64_t *work, size_t work_len,
+    uint8_t *room, size_t room_len,
+    const uint8_t *script, size_t script_len);
 
 /* ---- A heap as a page of text ---- */
 

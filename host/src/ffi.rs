@@ -72,6 +72,7 @@ macro_rules! heap_calls {
 heap_calls! {
     yexwalu_new(tag: u8;;) -> Done;
     yexwalu_alloc_from(heap: Header;; k: u8, t: u32, s: usize, bytes: *const u8, bytes_len: usize) -> Done;
+    yexwalu_alloc(heap: Header;; k: u8, t: u32, bytes: *const u8, bytes_len: usize) -> Done;
     yexwalu_take(heap: Header;; x: u64, out: *mut u8, out_len: usize) -> Done;
     yexwalu_free(heap: Header;; x: u64) -> Done;
     yexwalu_recycle(heap: Header;; pins: *const u32, pins_len: usize) -> Done;
@@ -79,6 +80,7 @@ heap_calls! {
     yexwalu_write(heap: Header;; i: usize, at: usize, bytes: *const u8, bytes_len: usize) -> Answer;
     yexwalu_reissue(heap: Header;; i: usize, grown: u64) -> Done;
     yexwalu_seal(heap: Header;;) -> Done;
+    yexwalu_run(heap: Header;; room: *mut u8, room_len: usize, script: *const u8, script_len: usize) -> Done;
     yexwalu_gc_due(heap: Header;; threshold: u64) -> Answer;
     yexwalu_reclaim_due(heap: Header;;) -> Answer;
     yexwalu_has_quarantine(heap: Header;;) -> Answer;

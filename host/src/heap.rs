@@ -246,7 +246,9 @@ impl Heap {
 
     /// Places an object; the answer is its handle.
     pub fn alloc(&mut self, kind: Kind, bytes: &[u8]) -> Result<Handle, Refusal> {
-        self.alloc_from(kind, 0, bytes)
+        let (k, t) = kind.numbers();
+        let done = change!(&mut self.memory, self.scratch.get_mut(), yexwalu_alloc(self.header)(k, t, bytes.as_ptr(), bytes.len()));
+        Ok(Handle(self.done(done)?.0))
     }
 
     /// Places an object whose visible data starts at `start`.
@@ -363,10 +365,23 @@ impl Heap {
     /// ```
     #[allow(clippy::too_many_arguments)]
     pub fn collect_joined(&mut self, types: &TypeTable, function: &Function, pc: u32, values: &[u64], map: &[FrameSlot], frame: &[u8], pins: &[u32]) -> Result<(), Refusal> {
-        let offsets: Vec<u32> = map.iter().map(|s| s.offset).collect();
-        let kinds: Vec<u8> = map.iter().map(|s| s.kind).collect();
-        let tys: Vec<u32> = map.iter().map(|s| s.ty).collect();
-        let mut rows = vec![0; function.scratch_words()];
+        self.collect_joined_with(types, function, pc, values, map, frame, pins, &mut vec![0; function.scratch_words()])
+    }
+
+    /// As `collect_joined`, with lent scratch for the live map: `Function::scratch_words` at least (18).
+    #[allow(clippy::too_many_arguments)]
+    pub fn collect_joined_with(
+        &mut self,
+        types: &TypeTable,
+        function: &Function,
+        pc: u32,
+        values: &[u64],
+        map: &[FrameSlot],
+        frame: &[u8],
+        pins: &[u32],
+        rows: &mut [u64],
+    ) -> Result<(), Refusal> {
+        let (offsets, kinds, tys) = FrameSlot::columns(map);
         let f = function;
         let done = change!(&mut self.memory, self.scratch.get_mut(), yexwalu_collect_joined(
             types.types.as_ptr(), types.types.len(), types.fields.as_ptr(), types.fields.len(),
@@ -375,6 +390,30 @@ impl Heap {
             f.classes.as_ptr(), f.classes.len(), pc as usize, values.as_ptr(), values.len(), offsets.as_ptr(), offsets.len(), kinds.as_ptr(), kinds.len(),
             tys.as_ptr(), tys.len(), frame.as_ptr(), frame.len(), pins.as_ptr(), pins.len())
             (rows.as_mut_ptr(), rows.len()));
+        self.done(done).map(|_| ())
+    }
+
+    /// Runs a script of calls, one a line: `alloc,TYPE,KIND,HEX`, `take,HANDLE,0,`, `seal,0,0,` and `recycle,0,0,`. The heap is checked once, so this is the way to do many calls. The
+    /// first line that is refused, or is no such line (17), ends it; what the lines before it did stays.
+    ///
+    /// ```
+    /// use yexwalu::{Handle, Heap, Kind, Refusal};
+    /// let mut heap = Heap::new(1, 64, 4096)?;
+    /// heap.run(b"alloc,0,2,4142\nalloc,0,2,6c6f7374\ntake,72057598332895233,0,\nseal,0,0,\nrecycle,0,0,\n")?;
+    /// assert_eq!(heap.data(0)?, b"AB");
+    /// assert_eq!((heap.slots()?, heap.live()?, heap.has_quarantine()?), (2, 1, false));
+    /// assert_eq!(heap.run(b"alloc,0,2,43\nfree,0,0,\n"), Err(Refusal::Page));
+    /// assert_eq!(heap.live()?, 2);
+    /// # Ok::<(), Refusal>(())
+    /// ```
+    pub fn run(&mut self, script: &[u8]) -> Result<(), Refusal> {
+        let mut room = vec![0; self.memory.pool.len()];
+        self.run_with(script, &mut room)
+    }
+
+    /// As `run`, with lent room for the bytes of one object, at least as long as the pool (18).
+    pub fn run_with(&mut self, script: &[u8], room: &mut [u8]) -> Result<(), Refusal> {
+        let done = change!(&mut self.memory, self.scratch.get_mut(), yexwalu_run(self.header)(room.as_mut_ptr(), room.len(), script.as_ptr(), script.len()));
         self.done(done).map(|_| ())
     }
 

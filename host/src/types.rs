@@ -86,6 +86,13 @@ pub struct FrameSlot {
     pub ty: TypeId,
 }
 
+impl FrameSlot {
+    // A map as the calls take it: offsets, kinds and types.
+    pub(crate) fn columns(map: &[FrameSlot]) -> (Vec<u32>, Vec<u8>, Vec<u32>) {
+        (map.iter().map(|s| s.offset).collect(), map.iter().map(|s| s.kind).collect(), map.iter().map(|s| s.ty).collect())
+    }
+}
+
 macro_rules! on_table {
     ($table:ident, $call:ident ($($after:expr),*)) => {
         // The call reads the table and writes the outputs given, each within the length that is passed with it.
@@ -224,6 +231,18 @@ impl TypeTable {
     }
 
     /// The handles of an object's visible data: its descriptor, then its value.
+    ///
+    /// ```
+    /// use yexwalu::{descriptor, Direction, Handle, Refusal, TypeTable};
+    /// let mut table = TypeTable::new();
+    /// let access = table.access();
+    /// let list = table.array(access, None, 1);
+    /// let mut data = descriptor(&[(1, 2, Direction::To)]);
+    /// data.extend([7u64, 8].iter().flat_map(|x| x.to_le_bytes()));
+    /// assert_eq!(table.object_handles(list, &data)?, [Handle(7), Handle(8)]);
+    /// assert_eq!(table.object_handles(list, &data[..39]), Err(Refusal::Untraceable));
+    /// # Ok::<(), Refusal>(())
+    /// ```
     pub fn object_handles(&self, ty: TypeId, data: &[u8]) -> Result<Vec<Handle>, Refusal> {
         TypeTable::listed(data.len() / 8, |out| self.object_handles_into(ty, data, out))
     }
@@ -248,21 +267,37 @@ impl TypeTable {
     }
 
     /// The handles and the addresses of a frame's memory by its map.
+    ///
+    /// ```
+    /// use yexwalu::{FrameSlot, Handle, Refusal, TypeTable};
+    /// let mut table = TypeTable::new();
+    /// let access = table.access();
+    /// let pair = table.record(&[(access, None), (access, None)]);
+    /// let memory: Vec<u8> = [10u64, 11, 12].iter().flat_map(|x| x.to_le_bytes()).collect();
+    /// let map = [FrameSlot { offset: 0, kind: 1, ty: 0 }, FrameSlot { offset: 8, kind: 2, ty: pair }];
+    /// assert_eq!(table.slot_roots(&map, &memory)?, (vec![Handle(11), Handle(12)], vec![10]));
+    /// assert_eq!(table.slot_roots(&map, &memory[..23]), Err(Refusal::Untraceable));
+    /// # Ok::<(), Refusal>(())
+    /// ```
     pub fn slot_roots(&self, map: &[FrameSlot], memory: &[u8]) -> Result<(Vec<Handle>, Vec<u64>), Refusal> {
-        let offsets: Vec<u32> = map.iter().map(|s| s.offset).collect();
-        let kinds: Vec<u8> = map.iter().map(|s| s.kind).collect();
-        let tys: Vec<u32> = map.iter().map(|s| s.ty).collect();
         let mut addresses = vec![0; map.len()];
         let mut found = 0;
         let handles = TypeTable::listed(map.len() + memory.len() / 8, |out| {
-            let answer = on_table!(self, yexwalu_slot_roots(
-                offsets.as_ptr(), offsets.len(), kinds.as_ptr(), kinds.len(), tys.as_ptr(), tys.len(), memory.as_ptr(), memory.len(),
-                out.as_mut_ptr(), out.len(), addresses.as_mut_ptr(), addresses.len()));
-            Refusal::check(answer.number)?;
-            found = answer.second as usize;
-            Ok(answer.first as usize)
+            let (handles, rest) = self.slot_roots_into(map, memory, out, &mut addresses)?;
+            found = rest;
+            Ok(handles)
         })?;
         addresses.truncate(found);
         Ok((handles, addresses))
+    }
+
+    /// As `slot_roots`, with the handles and the addresses written to the front of lent lists. The answer is how many of each.
+    pub fn slot_roots_into(&self, map: &[FrameSlot], memory: &[u8], handles: &mut [u64], addresses: &mut [u64]) -> Result<(usize, usize), Refusal> {
+        let (offsets, kinds, tys) = FrameSlot::columns(map);
+        let answer = on_table!(self, yexwalu_slot_roots(
+            offsets.as_ptr(), offsets.len(), kinds.as_ptr(), kinds.len(), tys.as_ptr(), tys.len(), memory.as_ptr(), memory.len(),
+            handles.as_mut_ptr(), handles.len(), addresses.as_mut_ptr(), addresses.len()));
+        Refusal::check(answer.number)?;
+        Ok((answer.first as usize, answer.second as usize))
     }
 }

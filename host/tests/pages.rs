@@ -68,6 +68,100 @@ fn a_page_with_any_byte_changed() {
 }
 
 #[test]
+fn a_page_with_lines_lost_doubled_or_turned_round() {
+    let page = String::from_utf8(sample(8, 64).0.write_page().unwrap()).unwrap();
+    let lines: Vec<&str> = page.split_inclusive('\n').collect();
+    for i in 0..lines.len() {
+        let mut less = lines.clone();
+        less.remove(i);
+        assert_eq!(read(8, 64, less.concat().as_bytes()).err(), Some(Refusal::Page), "without line {i}");
+        let mut more = lines.clone();
+        more.insert(i, lines[i]);
+        assert_eq!(read(8, 64, more.concat().as_bytes()).err(), Some(Refusal::Page), "line {i} twice");
+        for j in 0..i {
+            let mut turned = lines.clone();
+            turned.swap(i, j);
+            // two live slots, and the two dead ones, may change places
+            assert!(matches!(read(8, 64, turned.concat().as_bytes()).err(), None | Some(Refusal::Page | Refusal::BrokenHeap)), "lines {i} and {j}");
+        }
+    }
+}
+
+// What stands once in the sample's page, what is put there, and the answer.
+const LINE: &str = "1,1,3,2,1,7468547264\n";
+const SEAL: &str = "sealed\n504403162560462849\n";
+const DAMAGE: [(&str, &str, u64); 38] = [
+    ("\n7,216,", "\n07,216,", 17),
+    ("\n7,216,", "\n+7,216,", 17),
+    ("\n7,216,", "\n-7,216,", 17),
+    ("\n7,216,", "\n 7,216,", 17),
+    ("\n7,216,", "\n,216,", 17),
+    ("\n7,216,", "\n256,216,", 17),
+    ("\n7,216,", "\n8,216,", 1),
+    ("216,4096,", "18446744073709551615,4096,", 0),
+    ("216,4096,", "18446744073709551616,4096,", 17),
+    ("4096,0,5,", "4097,0,5,", 1),
+    ("4096,0,5,", "4094,0,5,", 1),
+    ("4096,0,5,", "33554432,0,5,", 0),
+    ("4096,0,5,", "33554434,0,5,", 1),
+    ("4096,0,5,", "4096,0,6,", 17),
+    ("4096,0,5,", "4096,0,4294967301,", 17),
+    (LINE, "0,1,3,2,1,7468547264\n", 1),
+    (LINE, "4294967295,1,3,2,1,7468547264\n", 0),
+    (LINE, "4294967296,1,3,2,1,7468547264\n", 17),
+    (LINE, "1,4,3,2,1,7468547264\n", 1),
+    (LINE, "1,256,3,2,1,7468547264\n", 17),
+    (LINE, "1,2,3,2,1,7468547264\n", 1),
+    (LINE, "1,1,4294967296,2,1,7468547264\n", 17),
+    (LINE, "1,1,3,18446744073709551615,1,7468547264\n", 0),
+    (LINE, "1,1,3,18446744073709551616,1,7468547264\n", 17),
+    (LINE, "1,1,3,2,4294967296,7468547264\n", 17),
+    (LINE, "1,1,3,2,1,746854726\n", 17),
+    (LINE, "1,1,3,2,1,746854726A\n", 17),
+    (LINE, "1,1,3,2,1,7468547264\r\n", 17),
+    (LINE, "1,0,3,2,1,7468547264\n", 1),
+    (LINE, "1,0,0,0,0,\n", 1),
+    ("free\n0\n", "free\n1\n", 1),
+    ("free\n0\n", "free\n2\n", 1),
+    ("free\n0\n", "free\n5\n", 1),
+    ("free\n0\n", "free\n4294967296\n", 17),
+    ("quarantine\n1\n", "quarantine\n0\n", 1),
+    (SEAL, "sealed\n504403162560462848\n", 1),
+    (SEAL, "sealed\n504403175445364737\n", 1),
+    (SEAL, "sealed\n18446744073709551616\n", 17),
+];
+
+#[test]
+fn a_page_with_a_number_changed() {
+    let page = String::from_utf8(sample(8, 64).0.write_page().unwrap()).unwrap();
+    for (old, new, number) in DAMAGE {
+        assert_eq!(page.matches(old).count(), 1, "{old:?} in {page}");
+        let answer = read(8, 64, page.replace(old, new).as_bytes());
+        assert_eq!(answer.err().map_or(0, Refusal::number), number, "{old:?} to {new:?}");
+    }
+}
+
+#[test]
+fn pages_with_several_bytes_changed() {
+    let page = sample(8, 64).0.write_page().unwrap();
+    let mut random = Random::new(11);
+    let mut answers = [0u32; 19];
+    for _ in 0..4000 {
+        let mut bad = page.clone();
+        for _ in 0..2 + random.below(3) {
+            let i = random.below(bad.len() as u64) as usize;
+            match random.below(3) {
+                0 => bad[i] = b"0123456789abcdef,\n"[random.below(18) as usize],
+                1 => drop(bad.remove(i)),
+                _ => bad.insert(i, b"0123456789abcdef,\n"[random.below(18) as usize]),
+            }
+        }
+        answers[read(8, 64, &bad).err().map_or(0, Refusal::number) as usize] += 1;
+    }
+    assert!(answers[17] > 3000);
+}
+
+#[test]
 fn noise_is_17() {
     let mut random = Random::new(3);
     for _ in 0..500 {

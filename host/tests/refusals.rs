@@ -1,12 +1,14 @@
-//! Lent lengths one short of each size, and other refusals: 18, 1, 7, 8, 5, 6, 9, 14. After each, what was lent is as it was.
+//! Lent lengths one short of each size, for every column, scratch and output of every call, and other refusals: 18, 1, 7, 8, 5, 6, 9, 10, 13, 14, 15. After each, what was lent is as
+//! it was.
 mod common;
 use common::sample;
-use yexwalu::{descriptor, Class, Direction, FrameSlot, Function, Handle, Header, Heap, InstKind, Kind, Memory, Refusal, Scratch, TypeTable, Wanted};
+use yexwalu::{descriptor, ffi, Class, Direction, FrameSlot, Function, Handle, Header, Heap, InstKind, Kind, Memory, Refusal, Scratch, TypeTable, Wanted};
 
 type Call = (&'static str, fn(&mut Heap) -> Result<(), Refusal>);
 
 // Every call on a heap, each one that succeeds on the sample.
-const CALLS: [Call; 20] = [
+const CALLS: [Call; 24] = [
+    ("alloc", |h| h.alloc(Kind::Bytes, b"x").map(drop)),
     ("alloc_from", |h| h.alloc_from(Kind::Bytes, 0, b"x").map(drop)),
     ("take", |h| h.take_into(Handle(7 << 56 | 2 << 32 | 1), &mut [0; 64]).map(drop)),
     ("free", |h| h.free(Handle(7 << 56 | 2 << 32 | 1))),
@@ -26,8 +28,31 @@ const CALLS: [Call; 20] = [
     ("kind", |h| h.kind(2).map(drop)),
     ("stamp", |h| h.stamp(2).map(drop)),
     ("write_page", |h| h.write_page_into(&mut [0; 4096]).map(drop)),
+    ("collect", |h| h.collect(&plain(), &[Handle(7 << 56 | 2 << 32 | 1)], &[1])),
+    ("collect_joined", |h| h.collect_joined(&plain(), &stopped(), 1, &[7 << 56 | 2 << 32 | 1, 0], &[], &[], &[1])),
+    ("run", |h| h.run(b"alloc,0,2,41\nseal,0,0,\n")),
     ("read_page", |h| h.read_page_over(b"tag,since_gc,reclaim_at,live_bytes,slots,free,quarantine,sealed\n1,0,4096,0,0,0,0,0\ngeneration,kind,type,start,writes,data\nfree\nquarantine\nsealed\n")),
 ];
+
+// Types without handles, so that the sample can be traced.
+fn plain() -> TypeTable {
+    let mut table = TypeTable::new();
+    for _ in 0..4 {
+        table.real();
+    }
+    table
+}
+
+// A function of three instructions, the second a safepoint before which both registers are live.
+fn stopped() -> Function {
+    let mut f = Function::new();
+    let (hall, address) = (f.register(Class::Handle), f.register(Class::Ptr));
+    f.instruction(InstKind::Plain, &[hall, address], &[], &[]);
+    f.instruction(InstKind::Safepoint, &[], &[], &[]);
+    f.instruction(InstKind::Return, &[], &[hall, address], &[]);
+    f.block(0, 3);
+    f
+}
 
 fn refused(name: &str, call: fn(&mut Heap) -> Result<(), Refusal>, heap: &Heap, why: Refusal) {
     let before = heap.clone();
@@ -70,7 +95,39 @@ fn scratch_one_short_is_18() {
         for (name, call) in CALLS {
             refused(name, call, &Heap::from_parts(header, memory.clone(), scratch.clone()), Refusal::Scratch);
         }
+        assert!(matches!(Heap::new_in(1, memory.clone(), scratch.clone()), Err((Refusal::Scratch, m, s)) if m == memory && s == scratch));
     }
+}
+
+#[test]
+fn the_other_scratch_one_short_is_18() {
+    let (header, memory, _) = sample(8, 64).0.into_parts();
+    let heap = Heap::from_parts(header, memory, dirty(9));
+    let mut after = heap.clone();
+    let mut room = [0xa5; 63];
+    assert_eq!(after.run_with(b"seal,0,0,\n", &mut room), Err(Refusal::Scratch));
+    assert!(after == heap && after.scratch() == dirty(9) && room == [0xa5; 63]);
+    let mut room = [0xa5; 65];
+    assert_eq!(after.run_with(b"alloc,0,2,4142\n", &mut room), Ok(()));
+    assert_eq!(room, [0; 65]);
+
+    let f = stopped();
+    let words = f.scratch_words();
+    let joined = |h: &mut Heap, rows: &mut [u64]| h.collect_joined_with(&plain(), &f, 1, &[0, 0], &[], &[], &[], rows);
+    let mut after = heap.clone();
+    let mut rows = vec![3; words - 1];
+    assert_eq!(joined(&mut after, &mut rows), Err(Refusal::Scratch));
+    assert!(after == heap && after.scratch() == dirty(9) && rows == vec![3; words - 1]);
+    let mut rows = vec![3; words + 1];
+    assert_eq!(joined(&mut after, &mut rows), Ok(()));
+    assert_eq!(rows, vec![0; words + 1]);
+    assert_eq!(after.scratch(), Scratch::zeros(9));
+
+    let (mut pcs, mut bounds, mut regs) = ([77; 1], [77; 1], [77; 2]);
+    let mut scratch = vec![1; words - 1];
+    assert_eq!(f.live_at_into(1, Wanted::All, &mut scratch, &mut regs), Err(Refusal::Scratch));
+    assert_eq!(f.live_refs_into(Wanted::All, &mut scratch, &mut pcs, &mut bounds, &mut regs), Err(Refusal::Scratch));
+    assert!(scratch == vec![1; words - 1] && pcs == [77] && bounds == [77] && regs == [77; 2]);
 }
 
 fn shortened(memory: &Memory) -> Vec<Memory> {
@@ -90,6 +147,20 @@ fn a_column_one_short_is_1() {
             refused(name, call, &Heap::from_parts(header, memory.clone(), dirty(8)), Refusal::BrokenHeap);
         }
         assert!(matches!(Heap::new_in(1, memory.clone(), dirty(8)), Err((Refusal::BrokenHeap, m, _)) if m == memory));
+    }
+}
+
+#[test]
+fn a_pool_one_short_of_the_data_is_1() {
+    let (header, mut memory, _) = sample(8, 64).0.into_parts();
+    memory.pool.truncate(11);
+    assert_eq!(Heap::from_parts(header, memory.clone(), dirty(8)).live(), Ok(3));
+    memory.pool.pop();
+    for (name, call) in CALLS {
+        // what is lent for a page is not looked at
+        if name != "read_page" {
+            refused(name, call, &Heap::from_parts(header, memory.clone(), dirty(8)), Refusal::BrokenHeap);
+        }
     }
 }
 
@@ -183,58 +254,167 @@ fn pins_rise_and_slots_are_there() {
     assert_eq!(heap.header().quarantine, 1);
 }
 
-#[test]
-fn types_and_their_outputs() {
+// Two handles in a record, an array of it, and a constant of one dimension for a field.
+fn handles() -> (TypeTable, u32, u32) {
     let mut table = TypeTable::new();
     let access = table.access();
     let pair = table.record(&[(access, None), (access, None)]);
     let list = table.array(pair, None, 1);
+    let two = table.constant(&descriptor(&[(1, 2, Direction::To)]));
+    table.record(&[(list, Some(two))]);
+    (table, pair, list)
+}
+
+fn words(numbers: std::ops::Range<u64>) -> Vec<u8> {
+    numbers.flat_map(u64::to_le_bytes).collect()
+}
+
+#[test]
+fn types_and_their_outputs() {
+    let (mut table, pair, list) = handles();
     let mut offsets = [9; 1];
     assert_eq!(table.layout_into(pair, &[], &mut offsets), Err(Refusal::ShortList));
     assert_eq!(offsets, [9]);
     assert_eq!(table.layout(pair, &[]).unwrap().offsets, [0, 8]);
     let two = descriptor(&[(1, 2, Direction::To)]);
     let mut object = two.clone();
-    object.extend((1..5u64).flat_map(u64::to_le_bytes));
-    assert_eq!(table.object_handles_into(list, &object, &mut [0; 3]), Err(Refusal::ShortList));
-    assert_eq!(table.object_handles(list, &object).unwrap(), [Handle(1), Handle(2), Handle(3), Handle(4)]);
+    object.extend(words(1..5));
+    let mut out = [9; 5];
+    assert_eq!(table.object_handles_into(list, &object, &mut out[..3]), Err(Refusal::ShortList));
+    assert_eq!(table.value_handles_into(pair, &object[24..], &mut out[..1]), Err(Refusal::ShortList));
+    assert_eq!(out, [9; 5]);
+    assert_eq!(table.object_handles_into(list, &object, &mut out), Ok(4));
+    assert_eq!(out, [1, 2, 3, 4, 9]);
     assert_eq!(table.object_handles(list, &object[..object.len() - 1]), Err(Refusal::Untraceable));
     assert_eq!(table.object_handles(list, &two[..23]), Err(Refusal::Untraceable));
     assert_eq!(table.value_handles(pair, &object[24..]).unwrap(), [Handle(1), Handle(2)]);
+    assert_eq!(table.value_handles(pair, &object[24..39]), Err(Refusal::Untraceable));
     assert_eq!(table.desc_size(list), Ok(24));
     assert_eq!(table.has_handles(list), Ok(true));
-    let map = [FrameSlot { offset: 0, kind: 0, ty: 0 }, FrameSlot { offset: 8, kind: 1, ty: 0 }, FrameSlot { offset: 16, kind: 2, ty: pair }];
-    assert_eq!(table.slot_roots(&map, &object[24..]).unwrap(), (vec![Handle(1), Handle(3), Handle(4)], vec![2]));
-    assert_eq!(table.slot_roots(&map, &object[24..55]), Err(Refusal::Untraceable));
-    let whole = table.array(table.types.len() as u32 / 4, None, 1);
+    let missing = table.types.len() as u32 / 4;
+    assert_eq!(table.desc_size(missing), Err(Refusal::Malformed));
+    let whole = table.array(missing, None, 1);
     assert_eq!(table.layout(whole, &[]), Err(Refusal::Malformed));
     let int = table.integer(0, 1 << 40);
     let ints = table.array(int, None, 1);
     assert_eq!(table.layout(ints, &descriptor(&[(i64::MIN, i64::MAX, Direction::To)])), Err(Refusal::TooLarge));
-    table.types.pop();
-    assert_eq!(table.has_handles(access), Err(Refusal::TypeTable));
+}
+
+#[test]
+fn frames_and_their_outputs() {
+    let (table, pair, _) = handles();
+    let memory = words(1..6);
+    let map = [FrameSlot { offset: 0, kind: 0, ty: 0 }, FrameSlot { offset: 8, kind: 1, ty: 0 }, FrameSlot { offset: 16, kind: 2, ty: pair }, FrameSlot { offset: 32, kind: 1, ty: 0 }];
+    let (mut found, mut addresses) = ([9; 4], [9; 3]);
+    assert_eq!(table.slot_roots_into(&map, &memory, &mut found[..2], &mut addresses), Err(Refusal::ShortList));
+    assert_eq!(table.slot_roots_into(&map, &memory, &mut found, &mut addresses[..1]), Err(Refusal::ShortList));
+    assert!(found == [9; 4] && addresses == [9; 3]);
+    assert_eq!(table.slot_roots_into(&map, &memory, &mut found, &mut addresses), Ok((3, 2)));
+    assert!(found == [1, 3, 4, 9] && addresses == [2, 5, 9]);
+    // seven bytes are no handle and no address, but the composite is cut short
+    assert_eq!(table.slot_roots(&map, &memory[..39]).unwrap().1, [2]);
+    assert_eq!(table.slot_roots(&map[..3], &memory[..31]), Err(Refusal::Untraceable));
+    assert_eq!(table.slot_roots(&map, &memory[..31]), Err(Refusal::Untraceable));
+    assert_eq!(table.slot_roots(&[FrameSlot { offset: 0, kind: 3, ty: 0 }], &memory), Err(Refusal::Untraceable));
+
+    // a map whose lists are not of one length
+    let (offsets, kinds, tys) = ([0u32, 8], [0u8, 1], [0u32, 0]);
+    for (o, k, t) in [(2, 2, 2), (1, 2, 2), (2, 1, 2), (2, 2, 1)] {
+        let answer = unsafe {
+            ffi::yexwalu_slot_roots(
+                table.types.as_ptr(), table.types.len(), table.fields.as_ptr(), table.fields.len(), table.consts.as_ptr(), table.consts.len(), table.bytes.as_ptr(), table.bytes.len(),
+                offsets.as_ptr(), o, kinds.as_ptr(), k, tys.as_ptr(), t, memory.as_ptr(), memory.len(), found.as_mut_ptr(), found.len(), addresses.as_mut_ptr(), addresses.len(),
+            )
+        };
+        assert_eq!(answer.number, if (o, k, t) == (2, 2, 2) { 0 } else { 13 });
+    }
+}
+
+// Each list of the table one short.
+fn cut_tables() -> Vec<TypeTable> {
+    let whole = handles().0;
+    let mut all = Vec::new();
+    macro_rules! cut {
+        ($($list:ident),*) => { $({ let mut t = whole.clone(); t.$list.pop(); all.push(t); })* };
+    }
+    cut!(types, fields, consts, bytes);
+    all
+}
+
+#[test]
+fn a_table_one_short_is_10() {
+    for table in cut_tables() {
+        let mut out = [9; 4];
+        assert_eq!(table.layout_into(0, &[], &mut out), Err(Refusal::TypeTable));
+        assert_eq!(table.desc_size(0), Err(Refusal::TypeTable));
+        assert_eq!(table.has_handles(0), Err(Refusal::TypeTable));
+        assert_eq!(table.object_handles_into(0, &words(1..2), &mut out), Err(Refusal::TypeTable));
+        assert_eq!(table.value_handles_into(0, &words(1..2), &mut out), Err(Refusal::TypeTable));
+        assert_eq!(table.slot_roots_into(&[], &[], &mut out, &mut [9; 2]), Err(Refusal::TypeTable));
+        assert_eq!(out, [9; 4]);
+        let (mut heap, _) = sample(8, 64);
+        let before = heap.clone();
+        assert_eq!(heap.collect(&table, &[], &[]), Err(Refusal::TypeTable));
+        assert_eq!(heap.collect_joined(&table, &stopped(), 1, &[0, 0], &[], &[], &[]), Err(Refusal::TypeTable));
+        assert!(heap == before && heap.scratch() == Scratch::zeros(8));
+    }
+}
+
+// Each list of the function one short; without a register's class its values are one too many.
+fn cut_functions() -> Vec<Function> {
+    let whole = stopped();
+    let mut all = Vec::new();
+    macro_rules! cut {
+        ($($list:ident),*) => { $({ let mut f = whole.clone(); f.$list.pop(); all.push(f); })* };
+    }
+    cut!(kinds, ends, refs, blocks);
+    all
+}
+
+#[test]
+fn a_function_one_short_is_15() {
+    let (heap, _) = sample(8, 64);
+    let joined = |f: &Function, values: &[u64]| {
+        let mut after = heap.clone();
+        let answer = after.collect_joined(&plain(), f, 1, values, &[], &[], &[]);
+        assert!(answer.is_ok() || after == heap && after.scratch() == Scratch::zeros(8));
+        answer
+    };
+    for f in cut_functions() {
+        assert_eq!(f.live_at(1, Wanted::All), Err(Refusal::Function));
+        assert_eq!(f.live_refs(Wanted::All), Err(Refusal::Function));
+        assert_eq!(joined(&f, &[0, 0]), Err(Refusal::Function));
+    }
+    let mut f = stopped();
+    assert_eq!(joined(&f, &[0, 0]), Ok(()));
+    assert_eq!(joined(&f, &[0]), Err(Refusal::Function));
+    assert_eq!(joined(&f, &[0, 0, 0]), Err(Refusal::Function));
+    f.classes.pop();
+    assert_eq!(joined(&f, &[0, 0]), Err(Refusal::Function));
+    assert_eq!(joined(&f, &[0]), Ok(()));
 }
 
 #[test]
 fn live_registers_and_their_outputs() {
-    let mut f = Function::new();
-    let hall = f.register(Class::Handle);
-    let address = f.register(Class::Ptr);
-    f.instruction(InstKind::Plain, &[hall, address], &[], &[]);
-    let call = f.instruction(InstKind::Safepoint, &[], &[], &[]);
-    f.instruction(InstKind::Return, &[], &[hall, address], &[]);
-    f.block(0, 3);
+    let mut f = stopped();
     let words = f.scratch_words();
     let mut regs = [77; 3];
-    assert_eq!(f.live_at_into(call, Wanted::All, &mut vec![1; words - 1], &mut regs), Err(Refusal::Scratch));
-    assert_eq!(f.live_at_into(call, Wanted::All, &mut vec![1; words], &mut regs[..1]), Err(Refusal::ShortList));
+    assert_eq!(f.live_at_into(1, Wanted::All, &mut vec![1; words], &mut regs[..1]), Err(Refusal::ShortList));
     assert_eq!(regs, [77; 3]);
     let mut scratch = vec![1; words];
-    assert_eq!(f.live_at_into(call, Wanted::References, &mut scratch, &mut regs), Ok(2));
-    assert!(scratch.iter().all(|w| *w == 0));
-    assert_eq!(regs, [hall, address, 77]);
+    assert_eq!(f.live_at_into(1, Wanted::References, &mut scratch, &mut regs), Ok(2));
+    assert_eq!((scratch, regs), (vec![0; words], [0, 1, 77]));
     assert_eq!(f.live_at(0, Wanted::All), Err(Refusal::NoMap));
-    assert_eq!(f.live_refs(Wanted::All).unwrap(), [(call, vec![hall, address])]);
+    assert_eq!(f.live_refs(Wanted::All).unwrap(), [(1, vec![0, 1])]);
+
+    let (mut pcs, mut bounds, mut regs) = ([77; 2], [77; 2], [77; 3]);
+    for (p, b, r) in [(0, 1, 2), (1, 0, 2), (1, 1, 1)] {
+        let mut scratch = vec![1; words];
+        assert_eq!(f.live_refs_into(Wanted::All, &mut scratch, &mut pcs[..p], &mut bounds[..b], &mut regs[..r]), Err(Refusal::ShortList));
+        assert_eq!((scratch, pcs, bounds, regs), (vec![0; words], [77; 2], [77; 2], [77; 3]));
+    }
+    assert_eq!(f.live_refs_into(Wanted::All, &mut vec![1; words], &mut pcs, &mut bounds, &mut regs), Ok((1, 2)));
+    assert_eq!((pcs, bounds, regs), ([1, 77], [2, 77], [0, 1, 77]));
     f.block(0, 4);
     assert_eq!(f.live_refs(Wanted::All), Err(Refusal::Function));
 }

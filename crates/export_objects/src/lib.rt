@@ -90,6 +90,48 @@ pub extern "C" fn yexwalu_alloc_from(
     ))
 }
 
+// As `alloc_from`, all of `bytes` visible.
+#[no_mangle]
+pub extern "C" fn yexwalu_alloc(
+    heap: Header,
+    generation: &mut [u32],
+    kind: &mut [u8],
+    ty: &mut [u32],
+    start: &mut [usize],
+    end: &mut [usize],
+    writes: &mut [u32],
+    pool: &mut [u8],
+    free: &mut [u32],
+    quarantine: &[u32],
+    sealed: &[u64],
+    marks: &mut [u8],
+    work: &mut [u64],
+    k: u8,
+    t: u32,
+    bytes: &[u8],
+) -> Done
+    ensures { λ r. ⌜ sent (r .answer) (lent (heapOf (r .heap)) (now (generation .exit)) (now (kind .exit)) (now (ty .exit)) (now (start .exit)) (now (end .exit)) (now (writes .exit)) (now (pool .exit)) (now (free .exit)) (now (quarantine .entry)) (now (sealed .entry))) (now (marks .exit)) (now (work .exit)) ≡ sending here nothing (heapCall (now (marks .entry)) (now (work .entry)) (lent (heapOf heap) (now (generation .entry)) (now (kind .entry)) (now (ty .entry)) (now (start .entry)) (now (end .entry)) (now (writes .entry)) (now (pool .entry)) (now (free .entry)) (now (quarantine .entry)) (now (sealed .entry))) (allocating (length (now (generation .entry))) (length (now (pool .entry))) k t 0 (now (bytes .entry)))) ⌝ }
+{
+    exported::placed(object_door::alloc(
+        exported::heap_of(heap),
+        generation,
+        kind,
+        ty,
+        start,
+        end,
+        writes,
+        pool,
+        free,
+        quarantine,
+        sealed,
+        marks,
+        work,
+        k,
+        t,
+        bytes,
+    ))
+}
+
 // Hands out the whole data of the object that `x` names, and its start; the slot goes into quarantine.
 #[no_mangle]
 pub extern "C" fn yexwalu_take(

@@ -1,67 +1,8 @@
-//! Random calls held against the Rust that this repository ports, which answers over a pipe (oracle/README.md). YEXWALU_ORACLE names the built oracle; without it this test says so
-//! and passes. The Rust knows no pool, so 6 never comes, and panics where a slot to reissue is not there, so that is not asked.
-mod common;
-use common::Random;
-use std::io::{BufRead, BufReader, Write};
-use std::process::{Child, ChildStdin, ChildStdout, Command, Stdio};
-use yexwalu::{Handle, Heap, Kind, Refusal, TypeTable};
-
-struct Oracle {
-    child: Child,
-    ask: ChildStdin,
-    answers: BufReader<ChildStdout>,
-}
-
-impl Oracle {
-    fn start() -> Option<Oracle> {
-        let path = std::env::var_os("YEXWALU_ORACLE")?;
-        let mut child = Command::new(path)
-            .env("ORACLE_FLUSH", "1")
-            .stdin(Stdio::piped())
-            .stdout(Stdio::piped())
-            .spawn()
-            .expect("the oracle starts");
-        let ask = child.stdin.take().unwrap();
-        let answers = BufReader::new(child.stdout.take().unwrap());
-        Some(Oracle { child, ask, answers })
-    }
-
-    fn ask(&mut self, line: &str) -> String {
-        writeln!(self.ask, "{line}").unwrap();
-        self.ask.flush().unwrap();
-        let mut answer = String::new();
-        self.answers.read_line(&mut answer).unwrap();
-        answer.trim_end().to_string()
-    }
-}
-
-impl Drop for Oracle {
-    fn drop(&mut self) {
-        let _ = self.child.kill();
-        let _ = self.child.wait();
-    }
-}
-
-fn hex(bytes: &[u8]) -> String {
-    if bytes.is_empty() {
-        return "-".into();
-    }
-    bytes.iter().map(|b| format!("{b:02x}")).collect()
-}
-
-fn list<T: ToString>(items: &[T]) -> String {
-    if items.is_empty() {
-        return "-".into();
-    }
-    items.iter().map(T::to_string).collect::<Vec<_>>().join(",")
-}
-
-fn told<T>(answer: Result<T, Refusal>, show: impl Fn(T) -> String) -> String {
-    match answer {
-        Ok(value) => format!("0 {}", show(value)).trim_end().to_string(),
-        Err(why) => why.number().to_string(),
-    }
-}
+//! Random calls on a heap.
+use crate::common::Random;
+use crate::tables::same;
+use crate::{hex, list, seeds, told, Oracle};
+use yexwalu::{Handle, Heap, Kind, TypeTable};
 
 struct Run {
     table: TypeTable,
@@ -188,22 +129,18 @@ impl Run {
 fn types(oracle: &mut Oracle) -> TypeTable {
     let mut table = TypeTable::new();
     let (real, access) = (table.real(), table.access());
-    let pair = table.record(&[(access, None), (real, None), (access, None)]);
+    table.record(&[(access, None), (real, None), (access, None)]);
     table.array(access, None, 1);
-    for (line, number) in [("table", 0), ("ty 3", real), ("ty 6", access), ("ty 5 1:4294967295,0:4294967295,1:4294967295", pair), ("ty 4 1 4294967295 1", 3)] {
-        let answer = oracle.ask(line);
-        assert!(answer == "0" || answer == format!("0 {number}"), "{line}: {answer}");
+    for line in ["table", "ty 3", "ty 6", "ty 5 1:4294967295,0:4294967295,1:4294967295", "ty 4 1 4294967295 1"] {
+        oracle.set(line);
     }
     table
 }
 
 #[test]
 fn random_calls_answer_as_the_rust() {
-    let Some(mut oracle) = Oracle::start() else {
-        println!("YEXWALU_ORACLE is not set: nothing was compared");
-        return;
-    };
-    for seed in 1..=40 {
+    let Some(mut oracle) = Oracle::start() else { return };
+    for seed in seeds(40) {
         let slots = 1 + seed as usize % 33;
         let mut run = Run {
             table: types(&mut oracle),
@@ -211,14 +148,11 @@ fn random_calls_answer_as_the_rust() {
             heap: Heap::new(seed as u8, slots, 8192).unwrap(),
             handles: Vec::new(),
         };
-        assert_eq!(oracle.ask(&format!("new {} {slots}", seed as u8)), "0");
+        oracle.set(&format!("new {} {slots}", seed as u8));
         for step in 0..250 {
             let (line, here) = run.step();
-            assert_eq!(oracle.ask(&line), here, "seed {seed}, call {step}: {line}");
+            oracle.agrees(&line, &here, &format!("seed {seed}, call {step}"));
         }
-        let page = String::from_utf8(run.heap.write_page().unwrap()).unwrap();
-        assert_eq!(oracle.ask("page"), format!("0 {}", page.replace('\n', ";")), "seed {seed}");
-        let header = run.heap.header();
-        assert_eq!(oracle.ask("epoch"), format!("0 {} {}", header.epoch, list(&header.log)), "seed {seed}");
+        same(&mut oracle, &run.heap, &format!("seed {seed}"));
     }
 }

@@ -1,0 +1,2 @@
+-- A law about what is sent of a script.
+pub mod SendingRoom

@@ -1,0 +1,2 @@
+-- The definitions that the exported contract cites.
+pub mod SentRoom

@@ -1,0 +1,103 @@
+//! Random calls held against the Rust that this repository ports, which answers over a pipe (oracle/README.md). YEXWALU_ORACLE names the built oracle; without it these tests say so
+//! and pass. Seeds are fixed; YEXWALU_TIMES makes them more. What docs/DIFFERENCES.md names is kept out: long walks over elements of no size, aligning past 64 bits, pins that do not rise, blocks that share an
+//! instruction, and slots to reissue that are not there. Pools are large enough, since the Rust has none.
+#[path = "../common/mod.rs"]
+mod common;
+mod functions;
+mod heap;
+mod tables;
+use std::collections::BTreeMap;
+use std::io::{BufRead, BufReader, Write};
+use std::process::{Child, ChildStdin, ChildStdout, Command, Stdio};
+use yexwalu::Refusal;
+
+struct Oracle {
+    child: Child,
+    ask: ChildStdin,
+    answers: BufReader<ChildStdout>,
+    /// How often each command had each number for an answer.
+    told: BTreeMap<(String, String), u32>,
+}
+
+impl Oracle {
+    fn start() -> Option<Oracle> {
+        let Some(path) = std::env::var_os("YEXWALU_ORACLE") else {
+            println!("YEXWALU_ORACLE is not set: nothing was compared");
+            return None;
+        };
+        let mut child = Command::new(path)
+            .env("ORACLE_FLUSH", "1")
+            .stdin(Stdio::piped())
+            .stdout(Stdio::piped())
+            .spawn()
+            .expect("the oracle starts");
+        let ask = child.stdin.take().unwrap();
+        let answers = BufReader::new(child.stdout.take().unwrap());
+        Some(Oracle { child, ask, answers, told: BTreeMap::new() })
+    }
+
+    fn ask(&mut self, line: &str) -> String {
+        writeln!(self.ask, "{line}").unwrap();
+        let mut answer = String::new();
+        self.answers.read_line(&mut answer).unwrap();
+        answer.trim_end().to_string()
+    }
+
+    /// Gives the oracle something to work on.
+    fn set(&mut self, line: &str) {
+        let answer = self.ask(line);
+        assert!(answer == "0" || answer.starts_with("0 "), "{line}: {answer}");
+    }
+
+    /// The oracle's answer to a call is the one given. On 13 the Rust leaves what it had pushed, which is not compared.
+    fn agrees(&mut self, line: &str, here: &str, place: &str) {
+        let answer = self.ask(line);
+        let there = if answer.starts_with("13 ") { "13" } else { &answer };
+        assert_eq!(there, here, "{place}: {line}");
+        let first = |s: &str| s.split(' ').next().unwrap().to_string();
+        *self.told.entry((first(line), first(here))).or_default() += 1;
+    }
+
+    /// Every one of these commands has had every one of these answers, and no other: nothing was compared in vain.
+    fn saw(&self, commands: &[(&str, &[&str])]) {
+        let seen: Vec<(&str, &str)> = self.told.keys().map(|(c, n)| (c.as_str(), n.as_str())).collect();
+        let mut all: Vec<(&str, &str)> = commands.iter().flat_map(|(c, numbers)| numbers.iter().map(|n| (*c, *n))).collect();
+        all.sort();
+        println!("{:?}", self.told);
+        assert_eq!(seen, all);
+    }
+}
+
+impl Drop for Oracle {
+    fn drop(&mut self) {
+        let _ = self.child.kill();
+        let _ = self.child.wait();
+    }
+}
+
+/// So many seeds, or YEXWALU_TIMES as many.
+fn seeds(count: u64) -> std::ops::RangeInclusive<u64> {
+    let times = std::env::var("YEXWALU_TIMES").map_or(1, |t| t.parse().expect("YEXWALU_TIMES is a number"));
+    1..=count * times
+}
+
+fn hex(bytes: &[u8]) -> String {
+    if bytes.is_empty() {
+        return "-".into();
+    }
+    bytes.iter().map(|b| format!("{b:02x}")).collect()
+}
+
+fn list<T: ToString>(items: &[T]) -> String {
+    if items.is_empty() {
+        return "-".into();
+    }
+    items.iter().map(T::to_string).collect::<Vec<_>>().join(",")
+}
+
+fn told<T>(answer: Result<T, Refusal>, show: impl Fn(T) -> String) -> String {
+    match answer {
+        Ok(value) => format!("0 {}", show(value)).trim_end().to_string(),
+        Err(why) => why.number().to_string(),
+    }
+}
