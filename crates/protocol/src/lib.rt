@@ -3,6 +3,7 @@ ghost use Prim.Native.Nat.{_≤_};
 
 pub mod command;
 pub mod input;
+pub mod map;
 pub mod read;
 pub mod write;
 

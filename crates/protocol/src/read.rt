@@ -46,7 +46,7 @@ fn whole(line: &[u8], x: u64, at: usize) -> Field {
 }
 
 // A list of `n` entries that ends at `at`, as a whole field.
-fn listed(line: &[u8], n: usize, at: usize) -> Run {
+pub fn listed(line: &[u8], n: usize, at: usize) -> Run {
     if ends(line, at) {
         return Run::Is(n, past(line, at, 32));
     }
@@ -87,7 +87,7 @@ pub fn is_word(line: &[u8], word: &[u8]) -> bool {
 }
 
 // Is the field at `at` a `-`, which stands for an empty list?
-fn is_empty(line: &[u8], at: usize) -> bool {
+pub fn is_empty(line: &[u8], at: usize) -> bool {
     if byte_at(line, at) == 45 {
         return ends(line, past(line, at, 45));
     }
