@@ -5,8 +5,8 @@ use mathlib.Core.Option.{Option, none, some}
 use mathlib.Core.Bool.{Bool, not, _&&_, _||_}
 use lib.Dec.{leb, ltb, eqb}
 use lib.ListN.{length}
-use Rattle.heap.specs.State.{dataSize, Slot, State}
-use Rattle.heap.specs.WellFormed.{all, soundSlot, soundSeals, sound}
+use Rattle.heap.specs.State.{dataSize, Slot}
+use Rattle.heap.specs.WellFormed.{all, soundSlot, soundSeals}
 use Rattle.word.specs.Choice.{if_then_else_}
 use Rattle.handle.specs.Handle.{tagOf, indexOf, generationOf}
 use Rattle.pages.specs.Page.{Head}
@@ -62,9 +62,3 @@ sealsMore len tag n from ok (some r) = Good (ok && soundSeals tag n from (r .0))
 abbrev pub headAnswer : (len : ℕ) → Option (Head × List ℕ) → HeadLine
 headAnswer len none = NoHead
 headAnswer len (some r) = Head-of (record { tag = r .0 .0; «since_gc» = r .0 .1 .0; «reclaim_at» = r .0 .1 .1 .0; «live_bytes» = r .0 .1 .1 .1 .0; slots = r .0 .1 .1 .1 .1 .0; free = r .0 .1 .1 .1 .1 .1 .0; quarantine = r .0 .1 .1 .1 .1 .1 .1 .0; sealed = r .0 .1 .1 .1 .1 .1 .1 .1; next = len - length (r .1) })
-
--- the refusal of a text, or 0: not a page 17, not sound 1, beyond the pool 6, beyond the lent slots 5
-unfoldable pub pageNumber : (lent room : ℕ) → Option State → ℕ
-pageNumber lent room none = 17
-pageNumber lent room (some h) =
-    if sound h then (if ltb room (dataSize (h .slots)) then 6 else (if ltb lent (length (h .slots)) then 5 else 0)) else 1

@@ -12,7 +12,7 @@ ghost use Rattle.text.specs.Format.{readAll, number};
 ghost use mathlib.Core.Bool.{_&&_};
 ghost use Rattle.page_check.specs.Partition.{valuesAt, ValuesParsed, more, Hit, Marks, expected, agree, eachOnce};
 ghost use Rattle.page_check.specs.Filling.{slotsAt, SlotsParsed};
-ghost use Rattle.page_check.specs.Answer.{slotAnswer, slotsAnswer, soundNumbers, indicesMore, sealsMore, sealTest, headAnswer, pageNumber};
+ghost use Rattle.page_check.specs.Answer.{slotAnswer, slotsAnswer, soundNumbers, indicesMore, sealsMore, sealTest, headAnswer};
 ghost use lib.Dec.{eqb, leb};
 ghost use Prim.Native.Nat.{_%_};
 ghost use Rattle.handle.specs.Handle.{tagOf, indexOf, generationOf};

@@ -121,6 +121,3 @@ unfoldBy next protected = 0
 unfoldable pub unfoldAt : List Ty → ℕ → ℕ → ℕ
 unfoldAt ts zero t = 0
 unfoldAt ts (suc n) t = suc (unfoldBy (unfoldAt ts n) (typeAt ts t))
-
-abbrev pub unfolding-of : List Ty → ℕ → ℕ
-unfolding-of ts t = unfoldAt ts 65 t

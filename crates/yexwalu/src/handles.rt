@@ -6,8 +6,8 @@ ghost use Rattle.trace.specs.Listing.{listing, Lists};
 ghost use Rattle.frame.specs.Frame.{frameHandles, frameAddresses};
 ghost use Rattle.frame.specs.Listing.{rootsListing, Frames};
 ghost use Rattle.yexwalu.specs.Handles.{onTable};
-use frame::Framed;
-use trace::Listed;
+pub use frame::Framed;
+pub use trace::Listed;
 
 // The handles of an object's visible data, which is of type t: its descriptor, then its value. They go to the lent list from its front on.
 pub fn object_handles(

@@ -1,7 +1,7 @@
 // The live map of a function that is lent as columns: `kinds`, one an instruction; `ends`, three an instruction, where its registers written, its registers
 // read and its target blocks end in `refs`; `blocks`, start and end of each; `classes`, one a register.
-use root_map::LiveRefs;
-use roots::LiveAt;
+pub use root_map::LiveRefs;
+pub use roots::LiveAt;
 use roots::Tracked;
 ghost use mathlib.Core.Path.{_≡_};
 ghost use Rattle.roots.specs.Calls.{LiveAtCall};
