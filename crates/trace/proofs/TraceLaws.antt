@@ -6,16 +6,16 @@ use mathlib.Core.Option.{none, some}
 use Prim.Native.Nat.{ℕ, suc, _+_, _-_, _*_, _/_, _^_, _≤_, _<_, max}
 use native.Mathlib.Omega.{arith}
 use lib.ListN.{length, take, drop, getD, length-drop}
-use lib.Dec.{leb}
+use lib.Dec.{leb, eqb}
 use types.Run.{OneOf, miss}
 use denote.Enum.Declared.{tagOf}
 use borrow.Author.Tests.{eq-eqb, ne-eqb, le-leb, lt-leb, not-true, not-false}
-use Rattle.ty.specs.Types.{Ty, Table, typeAt, none as noConst}
+use Rattle.ty.specs.Types.{Ty, Ty.missing, Ty.int, Ty.physical, Ty.enum, Ty.real, Ty.array, Ty.fields, Ty.access, Ty.file, Ty.protected, Const, Const.plain, Const.other, Table, typeAt, constAt, none as noConst}
 use Rattle.word.specs.Choice.{if_then_else_}
 use Rattle.ty.specs.Words.{wordOf, onWord, roundUp}
 use Rattle.layout.specs.Layout.{onDims, dimsOf, under, usedBy, endOf, arrayOf, recordOf, layoutAt, layoutOf}
-use Rattle.ty.specs.Walks.{hasHandles}
-use Rattle.ty.specs.View.{readTy, entryAt, fieldsFrom, partAt, readPart, typesOf, tableOf}
+use Rattle.ty.specs.Walks.{hasHandles, handlesBy, handlesAt}
+use Rattle.ty.specs.View.{readTy, entryAt, fieldsFrom, partAt, readPart, typesOf, constsOf, tableOf}
 use Rattle.layout.specs.Offsets.{offsetsFrom, offsetsOf, fieldsOf}
 use Rattle.layout.specs.declared.Lay.{Lay}
 use Rattle.layout.specs.declared.Lay.the-variants.{Laid, Malformed, TooLarge}
@@ -33,8 +33,10 @@ use Rattle.ty.proofs.Lookup.{type-at, const-at}
 use Rattle.layout.proofs.Within.{used-within, dims-within}
 use Rattle.ty.proofs.WalkLaws.{fields-first, fields-last, fields-next}
 use Rattle.layout.proofs.LayLaws.{rest, in-array as lay-array, in-record as lay-record}
-use Rattle.trace.specs.Places.{Places, Below, onlyIf, both, many, turns, ifLaid, partPlaces, placesBy, placesAt}
-use Rattle.trace.specs.Walk.{fieldAt, ifPlaced, walk}
+use Rattle.trace.specs.Places.{Places, Below, onlyIf, both, many, turns, ifLaid, ifBytes, partPlaces, placesBy, placesAt}
+use Rattle.trace.specs.Walk.{leafOf, partLeaf, fieldAt, ifPlaced, walk}
+use Rattle.trace.specs.declared.Leaf.{Leaf}
+use Rattle.trace.specs.declared.Leaf.the-variants.{Own, Free, Deep}
 use Rattle.word.specs.Result.{Result, ok, refused}
 use Rattle.trace.specs.Emit.{Raw, rawOf, Into, emittingAt, told}
 use Rattle.trace.specs.declared.Placed.{Placed}
@@ -129,6 +131,137 @@ module _ (w fs cs b : List ℕ) (left t c : ℕ) (d : List ℕ) (at : ℕ) (k : 
     pub part-const : (x y : ℕ) → p ≡ Of x y → (r : Answer) (ms to : List ℕ) → told r ms to ≡ emittingAt k v s (placesAt (tableOf w fs cs b) (length v) left t (take (y - x) (drop x b)) at) → told r ms to ≡ emittingAt k v s (partPlaces (tableOf w fs cs b) (placesAt (tableOf w fs cs b) (length v) left) t c d at)
     unfolding partPlaces readPart
     part-const x y e r ms to er = rw (ne-eqb c noConst h, const-at, ← ep, e) er
+
+-- ---- trace_field
+
+deep-own : {A : Type 0} → Deep ≡ Own → A
+deep-own q = let z : _≡_ {A = ℕ} 0 1 = cc in absurd (omega arith)
+
+free-own : {A : Type 0} → Free ≡ Own → A
+free-own q = let z : _≡_ {A = ℕ} 0 1 = cc in absurd (omega arith)
+
+deep-free : {A : Type 0} → Deep ≡ Free → A
+deep-free q = let z : _≡_ {A = ℕ} 0 1 = cc in absurd (omega arith)
+
+own-free : {A : Type 0} → Own ≡ Free → A
+own-free q = let z : _≡_ {A = ℕ} 0 1 = cc in absurd (omega arith)
+
+module _ (T : Table) (next : Below) (f : ℕ → Bool) (end t : ℕ) (d : List ℕ) (at : ℕ) where
+  own-by : (y : Ty) → leafOf y ≡ Own → if_then_else_ (handlesBy f y) (placesBy T next end t d at y) (some []) ≡ onlyIf (leb (at + 8) end) (some (at ∷ []))
+  unfolding leafOf handlesBy placesBy
+  own-by missing q = deep-own q
+  own-by (int lo hi) q = free-own q
+  own-by physical q = free-own q
+  own-by (enum n l) q = free-own q
+  own-by real q = free-own q
+  own-by (array e c k) q = deep-own q
+  own-by (fields gs) q = deep-own q
+  own-by access q = refl
+  own-by file q = free-own q
+  own-by protected q = refl
+
+  free-by : (y : Ty) → leafOf y ≡ Free → if_then_else_ (handlesBy f y) (placesBy T next end t d at y) (some []) ≡ some []
+  unfolding leafOf handlesBy placesBy
+  free-by missing q = deep-free q
+  free-by (int lo hi) q = refl
+  free-by physical q = refl
+  free-by (enum n l) q = refl
+  free-by real q = refl
+  free-by (array e c k) q = deep-free q
+  free-by (fields gs) q = deep-free q
+  free-by access q = own-free q
+  free-by file q = refl
+  free-by protected q = own-free q
+
+module _ (w fs cs b : List ℕ) (left t c : ℕ) (d : List ℕ) (at : ℕ) (k : Into) (v : List ℕ) (s : Raw) where
+  no-part : (i : Bool) (x : Const) → _≡_ {A = Places} (if_then_else_ i none (ifBytes x (λ e. none))) none
+  no-part true x = refl
+  no-part false (plain e) = refl
+  no-part false other = refl
+
+  part-none : partPlaces (tableOf w fs cs b) (placesAt (tableOf w fs cs b) (length v) 0) t c d at ≡ none
+  unfolding partPlaces placesAt
+  part-none = no-part (eqb c noConst) (constAt (constsOf cs b) c)
+
+  pub part-zero : left ≡ 0 → refused 13 ≡ emittingAt k v s (partPlaces (tableOf w fs cs b) (placesAt (tableOf w fs cs b) (length v) left) t c d at)
+  part-zero h = emit-none k v s _ (ap (λ (m : ℕ). partPlaces (tableOf w fs cs b) (placesAt (tableOf w fs cs b) (length v) m) t c d at) h ∙ part-none)
+
+  module _ (h : left ≡ 0 → ⊥) (l : Leaf) (el : l ≡ partLeaf w fs t c) where
+    opened : placesAt (tableOf w fs cs b) (length v) left t d at ≡ if_then_else_ (handlesBy (handlesAt (typesOf w fs) 64) (typeAt (typesOf w fs) t)) (placesBy (tableOf w fs cs b) (placesAt (tableOf w fs cs b) (length v) (left - 1)) (length v) t d at (typeAt (typesOf w fs) t)) (some [])
+    unfolding placesAt handlesAt
+    opened =
+        let one : left ≡ suc (left - 1) = omega arith in
+        ap (λ (m : ℕ). placesAt (tableOf w fs cs b) (length v) m t d at) one
+
+    own-case : (i : Bool) → if_then_else_ i (leafOf (typeAt (typesOf w fs) t)) Deep ≡ Own → if_then_else_ i (placesAt (tableOf w fs cs b) (length v) left t d at) (ifBytes (constAt (constsOf cs b) c) (λ e. placesAt (tableOf w fs cs b) (length v) left t e at)) ≡ onlyIf (leb (at + 8) (length v)) (some (at ∷ []))
+    own-case true q = opened ∙ own-by (tableOf w fs cs b) (placesAt (tableOf w fs cs b) (length v) (left - 1)) (handlesAt (typesOf w fs) 64) (length v) t d at (typeAt (typesOf w fs) t) q
+    own-case false q = deep-own q
+
+    free-case : (i : Bool) → if_then_else_ i (leafOf (typeAt (typesOf w fs) t)) Deep ≡ Free → if_then_else_ i (placesAt (tableOf w fs cs b) (length v) left t d at) (ifBytes (constAt (constsOf cs b) c) (λ e. placesAt (tableOf w fs cs b) (length v) left t e at)) ≡ some []
+    free-case true q = opened ∙ free-by (tableOf w fs cs b) (placesAt (tableOf w fs cs b) (length v) (left - 1)) (handlesAt (typesOf w fs) 64) (length v) t d at (typeAt (typesOf w fs) t) q
+    free-case false q = deep-free q
+
+    own-part : l ≡ Own → partPlaces (tableOf w fs cs b) (placesAt (tableOf w fs cs b) (length v) left) t c d at ≡ onlyIf (leb (at + 8) (length v)) (some (at ∷ []))
+    unfolding partPlaces partLeaf
+    own-part q = own-case (eqb c noConst) (sym el ∙ q)
+
+    free-part : l ≡ Free → partPlaces (tableOf w fs cs b) (placesAt (tableOf w fs cs b) (length v) left) t c d at ≡ some []
+    unfolding partPlaces partLeaf
+    free-part q = free-case (eqb c noConst) (sym el ∙ q)
+
+    pub part-own : l ≡ Own → (r : Answer) (ms to : List ℕ) → told r ms to ≡ emittingAt k v s (onlyIf (leb (at + 8) (length v)) (some (at ∷ []))) → told r ms to ≡ emittingAt k v s (partPlaces (tableOf w fs cs b) (placesAt (tableOf w fs cs b) (length v) left) t c d at)
+    part-own q r ms to er = er ∙ ap (emittingAt k v s) (sym (own-part q))
+
+    pub part-free : l ≡ Free → ok s ≡ emittingAt k v s (partPlaces (tableOf w fs cs b) (placesAt (tableOf w fs cs b) (length v) left) t c d at)
+    part-free q = emit-nil k v s _ (free-part q)
+
+-- ---- leaf_at
+
+module _ (w fs : List ℕ) (t c : ℕ) where
+  pub leaf-const : (c ≡ 4294967295 → ⊥) → Deep ≡ partLeaf w fs t c
+  unfolding partLeaf
+  leaf-const h = rw (ne-eqb c noConst h) refl
+
+  module _ (h : c ≡ 4294967295) (e : Entry) (ee : e ≡ entryAt w (length fs / 2) t) where
+    leaf-here : partLeaf w fs t c ≡ leafOf (readTy fs e)
+    unfolding partLeaf
+    leaf-here = rw (eq-eqb c noConst h) (ap leafOf (type-at w fs t ∙ ap (readTy fs) (sym ee)))
+
+    pub leaf-missing : e ≡ Missing → Deep ≡ partLeaf w fs t c
+    unfolding leafOf readTy
+    leaf-missing q = sym (leaf-here ∙ ap (λ (x : Entry). leafOf (readTy fs x)) q)
+
+    pub leaf-array : (el m j : ℕ) → e ≡ Array el m j → Deep ≡ partLeaf w fs t c
+    unfolding leafOf readTy
+    leaf-array el m j q = sym (leaf-here ∙ ap (λ (x : Entry). leafOf (readTy fs x)) q)
+
+    pub leaf-record : (i n : ℕ) → e ≡ Record i n → Deep ≡ partLeaf w fs t c
+    unfolding leafOf readTy
+    leaf-record i n q = sym (leaf-here ∙ ap (λ (x : Entry). leafOf (readTy fs x)) q)
+
+    pub leaf-access : e ≡ Access → Own ≡ partLeaf w fs t c
+    unfolding leafOf readTy
+    leaf-access q = sym (leaf-here ∙ ap (λ (x : Entry). leafOf (readTy fs x)) q)
+
+    pub leaf-protected : e ≡ Protected → Own ≡ partLeaf w fs t c
+    unfolding leafOf readTy
+    leaf-protected q = sym (leaf-here ∙ ap (λ (x : Entry). leafOf (readTy fs x)) q)
+
+    leaf-cases : (x : Entry) → OneOf (1 ∷ 2 ∷ 3 ∷ 4 ∷ 8 ∷ []) (tagOf entry-type x) → Free ≡ leafOf (readTy fs x)
+    unfolding leafOf readTy
+    leaf-cases Missing o = absurd (miss (1 ∷ 2 ∷ 3 ∷ 4 ∷ 8 ∷ []) 0 tt o)
+    leaf-cases (Int lo hi) o = refl
+    leaf-cases Physical o = refl
+    leaf-cases (Enum x l) o = refl
+    leaf-cases Real o = refl
+    leaf-cases (Array el m j) o = absurd (miss (1 ∷ 2 ∷ 3 ∷ 4 ∷ 8 ∷ []) 5 tt o)
+    leaf-cases (Record i n) o = absurd (miss (1 ∷ 2 ∷ 3 ∷ 4 ∷ 8 ∷ []) 6 tt o)
+    leaf-cases Access o = absurd (miss (1 ∷ 2 ∷ 3 ∷ 4 ∷ 8 ∷ []) 7 tt o)
+    leaf-cases File o = refl
+    leaf-cases Protected o = absurd (miss (1 ∷ 2 ∷ 3 ∷ 4 ∷ 8 ∷ []) 9 tt o)
+
+    pub leaf-other : OneOf (1 ∷ 2 ∷ 3 ∷ 4 ∷ 8 ∷ []) (tagOf entry-type e) → Free ≡ partLeaf w fs t c
+    leaf-other o = leaf-cases e o ∙ sym leaf-here
 
 -- ---- trace_array
 

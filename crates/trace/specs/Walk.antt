@@ -4,16 +4,36 @@ use mathlib.Core.Path.{_≡_}
 use mathlib.Core.Option.{none, some}
 use mathlib.Core.List.{List, [], _∷_}
 use lib.ListN.{drop}
-use lib.Dec.{leb}
-use Rattle.ty.specs.Types.{Field, Field.field, Table}
+use lib.Dec.{leb, eqb}
+use Rattle.word.specs.Choice.{if_then_else_}
+use Rattle.ty.specs.Types.{Ty, Ty.missing, Ty.int, Ty.physical, Ty.enum, Ty.real, Ty.array, Ty.fields, Ty.access, Ty.file, Ty.protected, Field, Field.field, Table, typeAt, none as noConst}
 use Rattle.ty.specs.Words.{wordOf, onWord, roundUp}
-use Rattle.ty.specs.View.{tableOf, fieldsFrom}
+use Rattle.ty.specs.View.{typesOf, tableOf, fieldsFrom}
 use Rattle.layout.specs.Layout.{under, usedBy, endOf, arrayOf, layoutAt}
 use Rattle.layout.specs.declared.Lay.{Lay}
 use Rattle.layout.specs.declared.Lay.the-variants.{Laid, Malformed, TooLarge}
 use Rattle.trace.specs.Places.{Places, Below, onlyIf, both, many, turns, ifLaid, partPlaces, placesAt}
 use Rattle.trace.specs.declared.Placed.{Placed}
 use Rattle.trace.specs.declared.Placed.the-variants.{At, Unplaced}
+use Rattle.trace.specs.declared.Leaf.{Leaf}
+use Rattle.trace.specs.declared.Leaf.the-variants.{Own, Free, Deep}
+
+-- what a value of a type is to a tracer: a handle itself, free of handles, or something to look into
+unfoldable pub leafOf : Ty → Leaf
+leafOf missing = Deep
+leafOf (int lo hi) = Free
+leafOf physical = Free
+leafOf (enum n l) = Free
+leafOf real = Free
+leafOf (array e c k) = Deep
+leafOf (fields fs) = Deep
+leafOf access = Own
+leafOf file = Free
+leafOf protected = Own
+
+-- the same of a field; one with a constant is looked into
+unfoldable pub partLeaf : List ℕ → List ℕ → ℕ → ℕ → Leaf
+partLeaf w fs t c = if eqb c noConst then leafOf (typeAt (typesOf w fs) t) else Deep
 
 -- where a field of a layout lies that comes after off
 abbrev pub fieldAt : Lay → ℕ → Placed

@@ -15,7 +15,7 @@ ghost use Rattle.ty.specs.View.{tableOf, typesOf};
 ghost use Rattle.ty.specs.Walks.{hasHandles};
 ghost use Rattle.layout.specs.Lent.{partLaid};
 ghost use Rattle.trace.specs.Places.{onlyIf, turns, handleAt, handlesPlaces, valueHandles, objectHandles, handlesOf};
-ghost use Rattle.trace.specs.Walk.{Stepped, fieldAt, typePlaces, belowPlaces, elemPlaces, arrayPlaces, recordPlaces};
+ghost use Rattle.trace.specs.Walk.{Stepped, partLeaf, fieldAt, typePlaces, belowPlaces, elemPlaces, arrayPlaces, recordPlaces};
 ghost use Rattle.trace.specs.Emit.{rawOf, into, resolveIn, Columns, queued, emitted, emitAll, emitting, emittingAt, told};
 ghost use Rattle.trace.specs.Listing.{listing, Lists};
 
@@ -42,6 +42,13 @@ pub enum Placed {
         used: usize,
     },
     Unplaced,
+}
+
+// What a field is to a tracer: a handle itself, a scalar free of handles, or something to look into.
+pub enum Leaf {
+    Own,
+    Free,
+    Deep,
 }
 
 // How many handles were written to the lent list, or why none were.
@@ -467,7 +474,7 @@ fn place_field(
 ) -> Placed
     ensures { λ r. ⌜ r ≡ fieldAt (partLaid (now (types .entry)) (now (fields .entry)) (now (consts .entry)) (now (bytes .entry)) t c (now (desc .entry)) 64) off ⌝ }
 {
-    let l = layout::layout_below(types, fields, consts, bytes, t, c, desc, 64);
+    let l = layout::layout_field(types, fields, consts, bytes, t, c, desc, 64);
     let Lay::Laid {
         size,
         align,
@@ -491,6 +498,87 @@ fn place_field(
         end,
         align,
         used,
+    }
+}
+
+// What a field of type t with the constant c is to a tracer.
+fn leaf_at(types: &[u64], fields: &[u32], t: u64, c: u64) -> Leaf
+    ensures { λ r. ⌜ r ≡ partLeaf (now (types .entry)) (now (fields .entry)) t c ⌝ }
+{
+    if c != 4294967295 {
+        return Leaf::Deep;
+    }
+    let e = ty::ty_at(types, fields, t);
+    match e {
+        Entry::Missing => Leaf::Deep,
+        Entry::Array {
+            elem: _,
+            desc: _,
+            dims: _,
+        } => Leaf::Deep,
+        Entry::Record { first: _, count: _ } => Leaf::Deep,
+        Entry::Access => Leaf::Own,
+        Entry::Protected => Leaf::Own,
+        _ => Leaf::Free,
+    }
+}
+
+// A field: a handle or a scalar without looking further.
+fn trace_field(
+    types: &[u64],
+    fields: &[u32],
+    consts: &[u64],
+    bytes: &[u8],
+    t: u64,
+    c: u64,
+    desc: &[u8],
+    left: u64,
+    data: &[u8],
+    at: usize,
+    tag: u8,
+    slots: usize,
+    generation: &[u32],
+    kind: &[u8],
+    sink: Sink,
+    marks: &mut [u8],
+    to: &mut [u64],
+    n: usize,
+) -> Answer
+    requires { ⌜ (at ≤ length (now «data»)) × Columns slots (now generation) (now kind) ⌝ }
+    ensures { λ r. ⌜ told r (now (marks .exit)) (now (to .exit)) ≡ emittingAt (into sink (resolveIn tag slots (now (generation .entry)) (now (kind .entry)))) (now («data» .entry)) (rawOf (now (marks .entry)) (now (to .entry)) n)
+        (belowPlaces (now (types .entry)) (now (fields .entry)) (now (consts .entry)) (now (bytes .entry)) (length (now («data» .entry))) t c (now (desc .entry)) left at) ⌝ }
+{
+    if left == 0 {
+        return Answer::Untraceable;
+    }
+    let l = leaf_at(types, fields, t, c);
+    match l {
+        Leaf::Free => Answer::Traced(n),
+        Leaf::Own => trace_word(data, at, tag, slots, generation, kind, sink, marks, to, n),
+        Leaf::Deep => {
+            let holds = ty::has_handles(types, fields, t);
+            trace_part(
+                types,
+                fields,
+                consts,
+                bytes,
+                t,
+                c,
+                desc,
+                left,
+                holds,
+                data,
+                at,
+                tag,
+                slots,
+                generation,
+                kind,
+                sink,
+                marks,
+                to,
+                n,
+            )
+        }
     }
 }
 
@@ -542,8 +630,7 @@ fn trace_record(
         if data.len() - at < o {
             return Answer::Untraceable;
         }
-        let holds = ty::has_handles(types, fields, t);
-        let r = trace_part(
+        let r = trace_field(
             types,
             fields,
             consts,
@@ -552,7 +639,6 @@ fn trace_record(
             c,
             &desc[used..],
             left,
-            holds,
             data,
             at + o,
             tag,

@@ -4,8 +4,8 @@ use borrow.Author.Needs.{needs}
 use Rattle.trace.proofs.place_field.Statement.{statement}
 use Rattle.trace.proofs.place_field.Tie as tie
 
-layout-below-requires : tie.Need-layout-below-requires
-layout-below-requires c κs = search needs
+layout-field-requires : tie.Need-layout-field-requires
+layout-field-requires c κs = search needs
 
 enum-known-l : tie.Need-enum-known-l
 enum-known-l c = search needs
@@ -44,7 +44,7 @@ pub place-field-spec : {M : Type 1} → statement M
 place-field-spec =
     tie.close
     (tie.spec
-    layout-below-requires
+    layout-field-requires
     enum-known-l
     returns
     align-up-requires

@@ -5,8 +5,8 @@ use borrow.Author.Needs.{needs}
 use native.Mathlib.Omega.{arith}
 use Prim.Native.Nat.{ℕ}
 use Rattle.trace.proofs.trace_part.Reads as reads
-use Rattle.trace.proofs.+trace_array+trace_elems+trace_in+trace_part+trace_record.Lts-trace_part as lts
-use Rattle.trace.proofs.+trace_array+trace_elems+trace_in+trace_part+trace_record.Proof.Claims.{trace-part-at as at, trace-part-claims as claims}
+use Rattle.trace.proofs.+trace_array+trace_elems+trace_field+trace_in+trace_part+trace_record.Lts-trace_part as lts
+use Rattle.trace.proofs.+trace_array+trace_elems+trace_field+trace_in+trace_part+trace_record.Proof.Claims.{trace-part-at as at, trace-part-claims as claims}
 
 module _ (t : ℕ) where
   trace-in-requires : lts.Need-trace-in-requires (claims t) (at t) reads.Post

@@ -4,19 +4,23 @@ use borrow.Fn.Kinds.{In}
 use borrow.Fn.PlainCycle.{Measures, is, falls, and}
 use Rattle.trace.proofs.trace_array.Reads as trace-array
 use Rattle.trace.proofs.trace_array.Kinds as trace-array-kinds
-use Rattle.trace.proofs.+trace_array+trace_elems+trace_in+trace_part+trace_record.Lts-trace_array as trace-array-lts
+use Rattle.trace.proofs.+trace_array+trace_elems+trace_field+trace_in+trace_part+trace_record.Lts-trace_array as trace-array-lts
 use Rattle.trace.proofs.trace_elems.Reads as trace-elems
 use Rattle.trace.proofs.trace_elems.Kinds as trace-elems-kinds
-use Rattle.trace.proofs.+trace_array+trace_elems+trace_in+trace_part+trace_record.Lts-trace_elems as trace-elems-lts
+use Rattle.trace.proofs.+trace_array+trace_elems+trace_field+trace_in+trace_part+trace_record.Lts-trace_elems as trace-elems-lts
+use Rattle.trace.proofs.trace_field.Reads as trace-field
+use Rattle.trace.proofs.trace_field.Kinds as trace-field-kinds
+use Rattle.trace.proofs.+trace_array+trace_elems+trace_field+trace_in+trace_part+trace_record.Lts-trace_field as trace-field-lts
 use Rattle.trace.proofs.trace_in.Reads as trace-in
 use Rattle.trace.proofs.trace_in.Kinds as trace-in-kinds
-use Rattle.trace.proofs.+trace_array+trace_elems+trace_in+trace_part+trace_record.Lts-trace_in as trace-in-lts
+use Rattle.trace.proofs.+trace_array+trace_elems+trace_field+trace_in+trace_part+trace_record.Lts-trace_in as trace-in-lts
 use Rattle.trace.proofs.trace_part.Reads as trace-part
 use Rattle.trace.proofs.trace_part.Kinds as trace-part-kinds
-use Rattle.trace.proofs.+trace_array+trace_elems+trace_in+trace_part+trace_record.Lts-trace_part as trace-part-lts
+use Rattle.trace.proofs.+trace_array+trace_elems+trace_field+trace_in+trace_part+trace_record.Lts-trace_part as trace-part-lts
 use Rattle.trace.proofs.trace_record.Reads as trace-record
 use Rattle.trace.proofs.trace_record.Kinds as trace-record-kinds
-use Rattle.trace.proofs.+trace_array+trace_elems+trace_in+trace_part+trace_record.Lts-trace_record as trace-record-lts
+use Rattle.trace.proofs.+trace_array+trace_elems+trace_field+trace_in+trace_part+trace_record.Lts-trace_record as trace-record-lts
+use Rattle.trace.proofs.leaf_at.Reads as leaf-at-reads
 use Rattle.trace.proofs.place_field.Reads as place-field-reads
 use Rattle.trace.proofs.step.Reads as step-reads
 use Rattle.trace.proofs.trace_word.Reads as trace-word-reads
@@ -30,19 +34,22 @@ use Rattle.ty.proofs.part_at.Reads as part-at-reads
 use Rattle.ty.proofs.ty_at.Reads as ty-at-reads
 
 abbrev pub μ-trace-array : Measures 10 trace-array-kinds.ps ℕ
-μ-trace-array κs a = 4 * a .1 .1 .1 .1 .1 .1 .1 .1 .1 .0 + 3
+μ-trace-array κs a = 5 * a .1 .1 .1 .1 .1 .1 .1 .1 .1 .0 + 3
 
 abbrev pub μ-trace-elems : Measures 10 trace-elems-kinds.ps ℕ
-μ-trace-elems κs a = 4 * a .1 .1 .1 .1 .1 .1 .1 .0 + 2
+μ-trace-elems κs a = 5 * a .1 .1 .1 .1 .1 .1 .1 .0 + 2
+
+abbrev pub μ-trace-field : Measures 10 trace-field-kinds.ps ℕ
+μ-trace-field κs a = 5 * a .1 .1 .1 .1 .1 .1 .1 .0 + 2
 
 abbrev pub μ-trace-in : Measures 10 trace-in-kinds.ps ℕ
-μ-trace-in κs a = 4 * a .1 .1 .1 .1 .1 .1 .0
+μ-trace-in κs a = 5 * a .1 .1 .1 .1 .1 .1 .0
 
 abbrev pub μ-trace-part : Measures 10 trace-part-kinds.ps ℕ
-μ-trace-part κs a = 4 * a .1 .1 .1 .1 .1 .1 .1 .0 + 1
+μ-trace-part κs a = 5 * a .1 .1 .1 .1 .1 .1 .1 .0 + 1
 
 abbrev pub μ-trace-record : Measures 10 trace-record-kinds.ps ℕ
-μ-trace-record κs a = 4 * a .1 .1 .1 .1 .1 .1 .1 .0 + 2
+μ-trace-record κs a = 5 * a .1 .1 .1 .1 .1 .1 .1 .0 + 3
 
 abbrev pub trace-array-at : ℕ → In 10 trace-array-kinds.ps
 trace-array-at t = and 10 trace-array-kinds.ps (is 10 trace-array-kinds.ps μ-trace-array t) trace-array.Pre
@@ -55,6 +62,12 @@ trace-elems-at t = and 10 trace-elems-kinds.ps (is 10 trace-elems-kinds.ps μ-tr
 
 abbrev pub trace-elems-below : ℕ → In 10 trace-elems-kinds.ps
 trace-elems-below t = and 10 trace-elems-kinds.ps (falls 10 trace-elems-kinds.ps _<_ μ-trace-elems t) trace-elems.Pre
+
+abbrev pub trace-field-at : ℕ → In 10 trace-field-kinds.ps
+trace-field-at t = and 10 trace-field-kinds.ps (is 10 trace-field-kinds.ps μ-trace-field t) trace-field.Pre
+
+abbrev pub trace-field-below : ℕ → In 10 trace-field-kinds.ps
+trace-field-below t = and 10 trace-field-kinds.ps (falls 10 trace-field-kinds.ps _<_ μ-trace-field t) trace-field.Pre
 
 abbrev pub trace-in-at : ℕ → In 10 trace-in-kinds.ps
 trace-in-at t = and 10 trace-in-kinds.ps (is 10 trace-in-kinds.ps μ-trace-in t) trace-in.Pre
@@ -80,6 +93,9 @@ trace-array-claims t = (layout-array-reads.Asked, layout-array-reads.Learnt, tur
 abbrev pub trace-elems-claims : ℕ → trace-elems-lts.Claims
 trace-elems-claims t = (trace-part-below t, trace-part.Post, step-reads.Asked, step-reads.Learnt)
 
+abbrev pub trace-field-claims : ℕ → trace-field-lts.Claims
+trace-field-claims t = (leaf-at-reads.Asked, leaf-at-reads.Learnt, trace-word-reads.Asked, trace-word-reads.Learnt, has-handles-reads.Asked, has-handles-reads.Learnt, trace-part-below t, trace-part.Post)
+
 abbrev pub trace-in-claims : ℕ → trace-in-lts.Claims
 trace-in-claims t = (ty-at-reads.Asked, ty-at-reads.Learnt, trace-array-below t, trace-array.Post, trace-record-below t, trace-record.Post, trace-word-reads.Asked, trace-word-reads.Learnt)
 
@@ -87,4 +103,4 @@ abbrev pub trace-part-claims : ℕ → trace-part-lts.Claims
 trace-part-claims t = (trace-in-below t, trace-in.Post, part-at-reads.Asked, part-at-reads.Learnt)
 
 abbrev pub trace-record-claims : ℕ → trace-record-lts.Claims
-trace-record-claims t = (place-field-reads.Asked, place-field-reads.Learnt, has-handles-reads.Asked, has-handles-reads.Learnt, trace-part-below t, trace-part.Post, larger-reads.Asked, larger-reads.Learnt, used-by-reads.Asked, used-by-reads.Learnt, record-end-reads.Asked, record-end-reads.Learnt)
+trace-record-claims t = (place-field-reads.Asked, place-field-reads.Learnt, trace-field-below t, trace-field.Post, larger-reads.Asked, larger-reads.Learnt, used-by-reads.Asked, used-by-reads.Learnt, record-end-reads.Asked, record-end-reads.Learnt)

@@ -8,8 +8,8 @@ use native.Mathlib.Omega.{arith}
 use Prim.Native.Nat.{ℕ}
 use mathlib.Core.Path.{_≡_, refl}
 use Rattle.trace.proofs.trace_elems.Reads as reads
-use Rattle.trace.proofs.+trace_array+trace_elems+trace_in+trace_part+trace_record.Lts-trace_elems as lts
-use Rattle.trace.proofs.+trace_array+trace_elems+trace_in+trace_part+trace_record.Proof.Claims.{trace-elems-at as at, trace-elems-claims as claims}
+use Rattle.trace.proofs.+trace_array+trace_elems+trace_field+trace_in+trace_part+trace_record.Lts-trace_elems as lts
+use Rattle.trace.proofs.+trace_array+trace_elems+trace_field+trace_in+trace_part+trace_record.Proof.Claims.{trace-elems-at as at, trace-elems-claims as claims}
 
 abbrev Inv-loop : lts.InvT-loop
 Inv-loop types fields consts bytes t c desc left holds «data» at stride count tag slots generation kind sink marks₀ to₀ n k₀ o₀ m₀ marks to k o m =

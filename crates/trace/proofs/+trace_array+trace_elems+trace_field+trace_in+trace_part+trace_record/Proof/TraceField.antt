@@ -1,0 +1,73 @@
+-- What `trace::trace_field` leaves, at the measure t. Assumes nothing.
+use Rattle.trace.proofs.TraceLaws.{part-zero, part-own, part-free}
+use borrow.Author.Needs.{needs}
+use native.Mathlib.Omega.{arith}
+use Prim.Native.Nat.{ℕ}
+use Rattle.trace.proofs.trace_field.Reads as reads
+use Rattle.trace.proofs.+trace_array+trace_elems+trace_field+trace_in+trace_part+trace_record.Lts-trace_field as lts
+use Rattle.trace.proofs.+trace_array+trace_elems+trace_field+trace_in+trace_part+trace_record.Proof.Claims.{trace-field-at as at, trace-field-claims as claims}
+
+module _ (t : ℕ) where
+  returns : lts.Need-returns (claims t) (at t) reads.Post
+  returns c = search part-zero
+
+  leaf-at-requires : lts.Need-leaf-at-requires (claims t) (at t) reads.Post
+  leaf-at-requires c κs = search needs
+
+  enum-told : lts.Need-enum-told (claims t) (at t) reads.Post
+  enum-told c = search needs
+
+  enum-told-2 : lts.Need-enum-told-2 (claims t) (at t) reads.Post
+  enum-told-2 c = search needs
+
+  trace-word-requires : lts.Need-trace-word-requires (claims t) (at t) reads.Post
+  trace-word-requires c κs = search needs
+
+  enum-told-3 : lts.Need-enum-told-3 (claims t) (at t) reads.Post
+  enum-told-3 c = search needs
+
+  has-handles-requires : lts.Need-has-handles-requires (claims t) (at t) reads.Post
+  has-handles-requires c κs = search needs
+
+  trace-part-requires : lts.Need-trace-part-requires (claims t) (at t) reads.Post
+  trace-part-requires c κs = (omega arith, search needs)
+
+  returns-2 : lts.Need-returns-2 (claims t) (at t) reads.Post
+  returns-2 c = search part-free
+
+  same-length : lts.Need-same-length (claims t) (at t) reads.Post
+  same-length c = search needs
+
+  same-length-2 : lts.Need-same-length-2 (claims t) (at t) reads.Post
+  same-length-2 c = search needs
+
+  returns-3 : lts.Need-returns-3 (claims t) (at t) reads.Post
+  returns-3 c = search part-own
+
+  same-length-3 : lts.Need-same-length-3 (claims t) (at t) reads.Post
+  same-length-3 c = search needs
+
+  same-length-4 : lts.Need-same-length-4 (claims t) (at t) reads.Post
+  same-length-4 c = search needs
+
+  returns-4 : lts.Need-returns-4 (claims t) (at t) reads.Post
+  returns-4 c = search needs
+
+pub closed : {M : Type 1} (t : ℕ) → lts.Closed (claims t) (at t) reads.Post M
+closed t =
+    lts.spec (claims t) (at t) reads.Post
+    (returns t)
+    (leaf-at-requires t)
+    (enum-told t)
+    (enum-told-2 t)
+    (trace-word-requires t)
+    (enum-told-3 t)
+    (has-handles-requires t)
+    (trace-part-requires t)
+    (returns-2 t)
+    (same-length t)
+    (same-length-2 t)
+    (returns-3 t)
+    (same-length-3 t)
+    (same-length-4 t)
+    (returns-4 t)
