@@ -8,16 +8,18 @@ use native.Mathlib.Decide.{decLt, ℕ-discrete}
 use native.Mathlib.Numerals.{add-one}
 use lib.ListN.{length, getD, set, take, drop, replicate, length-set, take-append-drop}
 use lib.Seq.{take-all, take-suc, getD-drop, getD-set-same, getD-set-other}
+use lib.Bits.{bitOr, or-zero-l}
 use lib.Dec.{eqb, ltb}
-use borrow.Author.Tests.{eq-eqb, ne-eqb, lt-ltb, le-ltb}
+use borrow.Author.Tests.{eq-eqb, ne-eqb, eqb-true, lt-ltb, le-ltb}
 use Rattle.heap.proofs.Counting.{times-append}
+use Rattle.word.proofs.BitLaws.{or-none}
 use Rattle.word.proofs.Bools.{both-and}
 use Rattle.memory.specs.Zero.{allZero}
 use Rattle.memory.proofs.Zeros.{zero-from-at}
 use Rattle.heap.proofs.Storing.{getD-zeros}
 use Rattle.heap.specs.Packing.{startOf}
 use Rattle.heap.specs.State.{bit, times}
-use Rattle.heap_check.specs.Checks.{Says, Zeros, Single, Marked, Covered, Partition}
+use Rattle.heap_check.specs.Checks.{Says, Zeros, Single, Marked, Missed, Covered, Partition}
 
 -- an answer, and what it says
 pub says-no : {X : Type 0} → (X → ⊥) → Says false X
@@ -146,28 +148,36 @@ mark-end {n} {ks} {marks₀} {marks} {xs} {j} inv h =
 
 -- ---- cover
 
--- the slots below i are live or marked
-pub record Covering (ks marks : List ℕ) (i : ℕ) : Type 0 where
-  pub below : Covered i ks marks
+-- the ways out of `missed`
+pub missed-live : (k m : ℕ) → (k ≡ 0 → ⊥) → Missed 0 k m
+missed-live k m alive = (λ z. omega (arith, ap bit (lt-ltb 0 k (let p : 0 < k = omega (arith, alive) in p))), λ h. refl)
 
-pub covering-first : {ks marks : List ℕ} → Covering ks marks 0
-covering-first = record { below = λ j h. absurd (omega arith) }
+pub missed-marked : (k m : ℕ) → (m ≡ 0 → ⊥) → Missed 0 k m
+missed-marked k m some = (λ z. omega (arith, some), λ h. refl)
 
-module _ {ks marks : List ℕ} {i : ℕ} (inv : Covering ks marks i) where
-  covering-next : 1 ≤ bit (ltb 0 (getD ks i 0)) + getD marks i 0 → Covering ks marks (i + 1)
-  covering-next one = record { below = below-one-more (λ j. 1 ≤ bit (ltb 0 (getD ks j 0)) + getD marks j 0) i (inv .below) one }
+pub missed-both : (k m : ℕ) → k ≡ 0 → m ≡ 0 → Missed 1 k m
+missed-both k m dead none = (λ z. absurd (omega arith), λ h. absurd (omega (arith, ap bit (le-ltb 0 k (let p : k ≤ 0 = omega arith in p)))))
 
-  pub covering-live : (getD ks i 0 ≡ 0 → ⊥) → Covering ks marks (i + 1)
-  covering-live alive = covering-next (omega (arith, ap bit (lt-ltb 0 (getD ks i 0) (omega arith))))
+-- nothing is seen exactly if the slots below i are live or marked
+pub record Covering (n : ℕ) (ks marks : List ℕ) (i seen : ℕ) : Type 0 where
+  pub few : i ≤ n
+  pub yes : seen ≡ 0 → Covered i ks marks
+  pub no : Covered i ks marks → seen ≡ 0
 
-  pub covering-marked : (getD marks i 0 ≡ 0 → ⊥) → Covering ks marks (i + 1)
-  covering-marked m = covering-next (omega arith)
+pub covering-first : (n : ℕ) (ks marks : List ℕ) → Covering n ks marks 0 0
+covering-first n ks marks = record { few = omega arith; yes = λ z j h. absurd (omega arith); no = λ c. refl }
 
-  pub covering-end : {n : ℕ} → n ≤ i → Covered n ks marks
-  covering-end e j h = inv .below j (omega arith)
+pub covering-next : {n : ℕ} {ks marks : List ℕ} {i seen r : ℕ} → Covering n ks marks i seen → i < n → Missed r (getD ks i 0) (getD marks i 0) → Covering n ks marks (i + 1) (bitOr seen r)
+covering-next {n} {ks} {marks} {i} {seen} {r} v less m =
+    record {
+      few = omega arith;
+      yes = λ z. let w = or-none seen r z in below-one-more (λ j. 1 ≤ bit (ltb 0 (getD ks j 0)) + getD marks j 0) i (v .yes (w .0)) (m .0 (w .1));
+      no = λ c. (λ j. bitOr (v .no (λ k h. c k (omega arith)) j) (m .1 (c i (omega arith)) j)) ∙ or-zero-l 0;
+    }
 
-  pub covering-not : {n : ℕ} → i < n → getD ks i 0 ≡ 0 → getD marks i 0 ≡ 0 → Covered n ks marks → ⊥
-  covering-not h k m c = omega (arith, c i h, ap bit (le-ltb 0 (getD ks i 0) (omega arith)))
+pub covering-end : {n : ℕ} {ks marks : List ℕ} {i seen : ℕ} → Covering n ks marks i seen → n ≤ i → Says (eqb seen 0) (Covered n ks marks)
+covering-end {n} {ks} {marks} {i} {seen} v all =
+    (λ e j h. v .yes (eqb-true seen 0 e) j (omega arith), λ c. eq-eqb seen 0 (v .no (λ j h. c j (omega (arith, v .few)))))
 
 -- ---- the partition, from the marks of two lists
 

@@ -76,6 +76,10 @@ pub record Marked (r : Bool) (n : ℕ) (ks marks xs marks′ : List ℕ) : Type 
   pub single : Says r (Single n ks marks xs)
   pub counted : r ≡ true → (i : ℕ) → getD marks′ i 0 ≡ getD marks i 0 + times i xs
 
+-- r is 0 exactly for a kind and a mark of which one is not 0
+abbrev pub Missed : (r kind mark : ℕ) → Type 0
+Missed r k m = (r ≡ 0 → 1 ≤ bit (ltb 0 k) + m) × (1 ≤ bit (ltb 0 k) + m → r ≡ 0)
+
 -- each index below n is live or marked
 abbrev pub Covered : ℕ → List ℕ → List ℕ → Type 0
 Covered n ks marks = (i : ℕ) → i < n → 1 ≤ bit (ltb 0 (getD ks i 0)) + getD marks i 0

@@ -5,7 +5,7 @@ ghost use Prim.Native.Nat.{_≤_};
 ghost use lib.ListN.{length, replicate};
 ghost use Rattle.heap.specs.Lent.{lent};
 ghost use Rattle.heap.specs.WellFormed.{wellFormed, soundSeals};
-ghost use Rattle.heap_check.specs.Checks.{Says, HeaderOk, LengthsOk, Zeros, UnusedOk, SlotOk, SlotsOk, Single, Covered, Partition, Marked, Checked};
+ghost use Rattle.heap_check.specs.Checks.{Says, HeaderOk, LengthsOk, Zeros, UnusedOk, SlotOk, SlotsOk, Single, Missed, Covered, Partition, Marked, Checked};
 use heap::Heap;
 
 // The header's numbers in range, for this many lent slots and pool bytes.
@@ -257,21 +257,31 @@ fn mark(list: &[u32], n: usize, kind: &[u8], marks: &mut [u8]) -> bool
     true
 }
 
-// Each of the first `n` slots is live or marked.
+// 1 for a slot of kind `k` with the mark `m` that is neither live nor marked, 0 for any other.
+fn missed(k: u8, m: u8) -> u8
+    ensures { λ r. ⌜ Missed r k m ⌝ }
+{
+    if k != 0 {
+        return 0;
+    }
+    if m != 0 {
+        return 0;
+    }
+    1
+}
+
+// Each of the first `n` slots is live or marked. All are looked at, so that the compiler takes many at a time.
 fn covered(n: usize, kind: &[u8], marks: &[u8]) -> bool
     requires { ⌜ (n ≤ length (now kind)) × (n ≤ length (now marks)) ⌝ }
     ensures { λ r. ⌜ Says r (Covered n (now (kind .entry)) (now (marks .entry))) ⌝ }
 {
     let mut i = 0;
+    let mut seen: u8 = 0;
     while i < n {
-        if kind[i] == 0 {
-            if marks[i] == 0 {
-                return false;
-            }
-        }
+        seen = seen | missed(kind[i], marks[i]);
         i += 1;
     }
-    true
+    seen == 0
 }
 
 // Each slot is in one place: live, in the free list or in the quarantine. `marks` is zero where it starts.

@@ -41,6 +41,15 @@ dropped-append marks i (x ∷ xs) ys =
     ap (λ (l : List ℕ). if goes marks i x then (i ∷ l) else l) r
     ∙ if-append (goes marks i x) i (dropped marks (suc i) xs) (dropped marks (i + suc (length xs)) ys)
 
+-- where none goes
+pub dropped-none : (marks : List ℕ) (i : ℕ) (ss : List Slot) → ((k : ℕ) → k < length ss → goes marks (i + k) (getD ss k noSlot) ≡ false) → dropped marks i ss ≡ []
+unfolding dropped
+dropped-none marks i [] e = refl
+dropped-none marks i (s ∷ ss) e =
+    let here : goes marks i s ≡ false = subst (λ (x : ℕ). goes marks x s ≡ false) (let z : i + 0 ≡ i = omega arith in z) (e 0 (omega arith)) in
+    let rest : dropped marks (suc i) ss ≡ [] = dropped-none marks (suc i) ss (λ k less. subst (λ (x : ℕ). goes marks x (getD ss k noSlot) ≡ false) (let z : i + suc k ≡ suc i + k = omega arith in z) (e (suc k) (omega arith))) in
+    (λ j. if here j then (i ∷ rest j) else rest j)
+
 drop-one : (b : Bool) (h : State) (n : ℕ) → dropSlots h (if b then (n ∷ []) else []) ≡ (if b then dropSlot h n else h)
 unfolding dropSlots
 drop-one true h n = refl

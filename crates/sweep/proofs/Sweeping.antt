@@ -1,12 +1,12 @@
 -- The sweep put together: slots released, pool packed, survivors counted. Assumes nothing.
 use mathlib.Core.Path.{_≡_, refl, sym, ap, _∙_, subst}
-use mathlib.Core.Bool.{Bool, true, false}
+use mathlib.Core.Bool.{Bool, true, false, _&&_}
 use mathlib.Core.List.{List, []}
-use Prim.Native.Nat.{ℕ, _<_}
+use Prim.Native.Nat.{ℕ, _+_, _≤_, _<_}
 use native.Mathlib.Omega.{arith}
 use lib.ListN.{length, getD, length-map, List·getD-map}
 use lib.Seq.{ext-getD}
-use lib.Dec.{ltb}
+use lib.Dec.{eqb, ltb}
 use borrow.Author.Tests.{ltb-false}
 use Rattle.word.specs.Choice.{if_then_else_}
 use Rattle.heap.specs.Packing.{pad, flat, ends}
@@ -18,17 +18,17 @@ use Rattle.heap.specs.Header.{setSince, setLive}
 use Rattle.heap.specs.Done.{Leaves}
 use Rattle.heap.specs.declared.Heap.{Heap}
 use Rattle.heap.proofs.Sound.{Sound, WellFormed}
-use Rattle.heap.proofs.Changing.{column-size}
+use Rattle.heap.proofs.Changing.{column-size, Known, known}
 use Rattle.heap.proofs.Placing.{lies-packed, end-long}
 use Rattle.heap.proofs.Storing.{view-stored, slots-stored, pool-stored}
 use Rattle.heap.proofs.Testing.{formed-tested}
 use Rattle.heap.proofs.Keeping.{leaves}
-use Rattle.sweep.specs.Swept.{goes, allDropped, liveSize, dropUnmarked, swept}
-use Rattle.sweep.specs.Columns.{kept, CanCompact, Compacted, Columns, columns, columnsOf, CanSize, sizesIn, CanSweep}
+use Rattle.sweep.specs.Swept.{goes, dropSlots, allDropped, liveSize, dropUnmarked, swept}
+use Rattle.sweep.specs.Columns.{kept, CanCompact, Compacted, Columns, columns, columnsOf, CanSize, sizesIn, Stays, CanSweep}
 use Rattle.sweep.proofs.Compacting.{length-kept, kept-at}
 use Rattle.sweep.proofs.Sizing.{can-size, sizes-are}
-use Rattle.sweep.proofs.Dropping.{sweptSlot, Dropping, all-dropped, dropped-slot, all-sound, unmarked-sound}
-use Rattle.sweep.proofs.Releasing.{kind-at, count-is}
+use Rattle.sweep.proofs.Dropping.{sweptSlot, dropped-none, Dropping, all-dropped, dropped-slot, all-sound, unmarked-sound}
+use Rattle.sweep.proofs.Releasing.{columns-stored, kind-at, count-is}
 
 -- the data of a slot goes with it
 slot-bytes : (marks : List ℕ) (i : ℕ) (s : Slot) → (s .kind ≡ 0 → s .bytes ≡ []) → (if live (sweptSlot marks i s) then s .bytes else []) ≡ sweptSlot marks i s .bytes
@@ -138,6 +138,48 @@ module _ {l : Lent} {marks : List ℕ} (can : CanSweep l marks) {n : ℕ} (hn : 
           leaves l (lent h₂ gs ks ts ss es ws ps fs (l .quarantine) (l .sealed)) (dropUnmarked (view l) marks) (unmarked-sound S P marks (view l) (formed .sound))
           (ap (λ (x : Heap). lent x gs ks ts ss es ws ps fs (l .quarantine) (l .sealed)) header
           ∙ ap (λ (x : Lent). lent (setLive (setSince (x .header) 0) (liveSize (A .slots))) (x .generation) (x .kind) (x .type) (x .start) (x .end) (x .writes) (x .pool) (x .free) (x .quarantine) (x .sealed)) packed-lies)
+
+-- ---- nothing goes
+
+module _ {l : Lent} {marks : List ℕ} (can : CanSweep l marks) {n : ℕ} (hn : n ≡ l .header .slots) where
+  pub can-look : (n ≤ length (l .kind)) × (n ≤ length marks)
+  can-look =
+      let k : Known (slotCount l) (poolSize l) (view l) l = known (slotCount l) (poolSize l) (view l) l (formed can hn .sound) (formed can hn .lies) in
+      (omega (arith, k .kind-size, n-is can hn, formed can hn .sound .slots-fit), omega (arith, can .marked, n-is can hn, formed can hn .sound .slots-fit))
+
+  module _ (stays : Stays n (l .kind) marks) where
+    -- all that is dropped is nothing
+    same-after : allDropped (view l) marks ≡ view l
+    unfolding dropSlots
+    same-after = ap (dropSlots (view l)) (dropped-none marks 0 (view l .slots) one)
+      where
+        one : (k : ℕ) → k < length (view l .slots) → goes marks (0 + k) (getD (view l .slots) k noSlot) ≡ false
+        one k less =
+            let e : getD (l .kind) k 0 ≡ slotAt (view l) k .kind =
+            ap (λ (c : Columns). getD (c .kind) k 0) (columns-stored (slotCount l) (poolSize l) (view l) l (formed can hn .lies))
+            ∙ kind-at (slotCount l) (poolSize l) (view l) (formed can hn .sound) k less in
+            let z : 0 + k ≡ k = omega arith in
+            (λ j. ltb 0 (sym e j) && eqb (getD marks (z j) 0) 0) ∙ stays k (omega (arith, n-is can hn))
+
+    columns-same : columns (l .header) (l .generation) (l .kind) (l .type) (l .start) (l .writes) (l .free) ≡ columnsOf (slotCount l) (allDropped (view l) marks)
+    columns-same = columns-stored (slotCount l) (poolSize l) (view l) l (formed can hn .lies) ∙ ap (columnsOf (slotCount l)) (sym same-after)
+
+    packed-same : Compacted n (l .kind) (l .end) (l .pool) (l .end) (l .pool)
+    unfolding stored
+    packed-same =
+        let d : dataOf (view l .slots) ≡ kept (l .kind) (datas n (l .end) (l .pool)) = ap (λ (h : State). dataOf (h .slots)) (sym same-after) ∙ sym (data-now can hn columns-same) in
+        let f = formed can hn in
+        record {
+          places = ap (λ (x : Lent). x .end) (f .lies) ∙ (λ j. pad (sym (end-long (slotCount l) (poolSize l) (view l) l (f .lies) (f .sound .slots-fit) (f .sound .data-fit)) j) (ends 0 (d j)));
+          bytes = ap (λ (x : Lent). x .pool) (f .lies) ∙ (λ j. pad (poolSize l) (flat (d j)));
+        }
+
+    pub kept-count : CanSize n (l .kind) (l .end)
+    kept-count = can-count can hn columns-same packed-same
+
+    pub kept-leaves : {h₁ h₂ : Heap} {total : ℕ} → total ≡ sizesIn n (l .kind) (l .end) → h₁ ≡ setSince (l .header) 0 → h₂ ≡ setLive h₁ total
+        → Leaves l (lent h₂ (l .generation) (l .kind) (l .type) (l .start) (l .end) (l .writes) (l .pool) (l .free) (l .quarantine) (l .sealed)) (dropUnmarked (view l) marks)
+    kept-leaves = dropped-leaves can hn columns-same packed-same
 
 -- and then the quarantine is recycled
 pub sweep-leaves : {l l₁ l₂ : Lent} {marks : List ℕ} (pins : List ℕ) → CanSweep l marks → Leaves l l₁ (dropUnmarked (view l) marks) → Leaves l₁ l₂ (recycle (view l₁) pins) → Leaves l l₂ (swept (view l) marks pins)

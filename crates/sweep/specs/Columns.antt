@@ -1,6 +1,6 @@
 -- What the inner functions ask and ensure of the columns.
 use mathlib.Core.Path.{_≡_}
-use mathlib.Core.Bool.{true, _&&_}
+use mathlib.Core.Bool.{true, false, _&&_}
 use mathlib.Core.List.{List, [], _∷_}
 use Prim.Native.Nat.{ℕ, zero, suc, _+_, _-_, _<_, _≤_}
 use lib.ListN.{length, getD, set, drop}
@@ -112,6 +112,10 @@ pub record CanSize (n : ℕ) (ks es : List ℕ) : Type 0 where
   pub ends : n ≤ length es
   pub rising : (i : ℕ) → i < n → startOf es i ≤ getD es i 0
   pub small : (i : ℕ) → i ≤ n → startOf es i ≤ 1073741824
+
+-- ---- nothing goes: each of the first n slots is dead or marked
+abbrev pub Stays : ℕ → (kinds marks : List ℕ) → Type 0
+Stays n ks ms = (i : ℕ) → i < n → (ltb 0 (getD ks i 0) && eqb (getD ms i 0) 0) ≡ false
 
 -- ---- the whole: a well formed heap, and a mark for each lent slot
 pub record CanSweep (l : Lent) (marks : List ℕ) : Type 0 where

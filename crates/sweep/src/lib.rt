@@ -1,14 +1,15 @@
 // The sweep of a collection, over lent columns: what is not marked is released, the pool is packed again in one pass, the survivors are counted and the
 // quarantine is recycled. Linear in the slots and the pool, `recycle` apart, which looks each quarantined slot up among the pins by halves.
 ghost use mathlib.Core.Path.{_≡_};
-ghost use mathlib.Core.Bool.{true};
+ghost use mathlib.Core.Bool.{true, false, _&&_};
 ghost use Prim.Native.Nat.{_≤_};
+ghost use lib.Dec.{eqb, ltb};
 ghost use lib.ListN.{length};
 ghost use Rattle.heap.specs.Lent.{lent, view};
 ghost use Rattle.heap.specs.Done.{Leaves};
 ghost use Rattle.heap_recycle.specs.Pins.{rising};
 ghost use Rattle.sweep.specs.Swept.{allDropped, dropUnmarked, swept};
-ghost use Rattle.sweep.specs.Columns.{CanCompact, Compacted, CanSettle, Settled, columns, columnsOf, releasedIn, visitedIn, CanRelease, CanVisit, CanSize, sizesIn, oneSize, CanSweep};
+ghost use Rattle.sweep.specs.Columns.{CanCompact, Compacted, CanSettle, Settled, columns, columnsOf, releasedIn, visitedIn, CanRelease, CanVisit, CanSize, sizesIn, oneSize, Stays, CanSweep};
 use heap::Heap;
 
 // The data from `from` to `e` comes to stand from `to` on, unless the kind `k` is 0; where the next goes.
@@ -148,8 +149,35 @@ fn live_size(n: usize, kind: &[u8], end: &[usize]) -> u64
     sum
 }
 
-// The sweep, up to the recycling of the quarantine: what is not marked is dropped, and what is left is counted.
-fn drop_unmarked(
+// 1 for a live slot of kind `k` whose mark `m` is 0: it goes. 0 for any other.
+fn going(k: u8, m: u8) -> u8
+    ensures { λ r. ⌜ (r ≡ 0 → (ltb 0 k && eqb m 0) ≡ false) ⌝ }
+{
+    if k == 0 {
+        return 0;
+    }
+    if m == 0 {
+        return 1;
+    }
+    0
+}
+
+// Is each of the first `n` slots dead or marked? All are looked at, so that the compiler takes many at a time.
+fn all_stay(n: usize, kind: &[u8], marks: &[u8]) -> bool
+    requires { ⌜ (n ≤ length (now kind)) × (n ≤ length (now marks)) ⌝ }
+    ensures { λ r. ⌜ (r ≡ true → Stays n (now (kind .entry)) (now (marks .entry))) ⌝ }
+{
+    let mut i = 0;
+    let mut seen: u8 = 0;
+    while i < n {
+        seen = seen | going(kind[i], marks[i]);
+        i += 1;
+    }
+    seen == 0
+}
+
+// What is not marked is dropped, and what is left is counted, where something goes.
+fn drop_some(
     heap: Heap,
     generation: &mut [u32],
     kind: &mut [u8],
@@ -184,6 +212,45 @@ fn drop_unmarked(
     compact(n, kind, end, pool);
     let total = live_size(n, kind, end);
     h.with_since(0).with_live(total)
+}
+
+// The sweep, up to the recycling of the quarantine: what is not marked is dropped, and what is left is counted. Where nothing goes, no column and no byte moves.
+fn drop_unmarked(
+    heap: Heap,
+    generation: &mut [u32],
+    kind: &mut [u8],
+    ty: &mut [u32],
+    start: &mut [usize],
+    end: &mut [usize],
+    writes: &mut [u32],
+    pool: &mut [u8],
+    free: &mut [u32],
+    quarantine: &[u32],
+    sealed: &[u64],
+    marks: &[u8],
+) -> Heap
+    requires { ⌜ CanSweep (lent heap (now generation) (now kind) (now ty) (now start) (now end) (now writes) (now pool) (now free) (now quarantine) (now sealed)) (now marks) ⌝ }
+    ensures { λ r. ⌜ Leaves (lent heap (now (generation .entry)) (now (kind .entry)) (now (ty .entry)) (now (start .entry)) (now (end .entry)) (now (writes .entry)) (now (pool .entry)) (now (free .entry)) (now (quarantine .entry)) (now (sealed .entry))) (lent r (now (generation .exit)) (now (kind .exit)) (now (ty .exit)) (now (start .exit)) (now (end .exit)) (now (writes .exit)) (now (pool .exit)) (now (free .exit)) (now (quarantine .entry)) (now (sealed .entry))) (dropUnmarked (view (lent heap (now (generation .entry)) (now (kind .entry)) (now (ty .entry)) (now (start .entry)) (now (end .entry)) (now (writes .entry)) (now (pool .entry)) (now (free .entry)) (now (quarantine .entry)) (now (sealed .entry)))) (now (marks .entry))) ⌝ }
+{
+    let n = heap.slots;
+    if all_stay(n, kind, marks) {
+        let total = live_size(n, kind, end);
+        return heap.with_since(0).with_live(total);
+    }
+    drop_some(
+        heap,
+        generation,
+        kind,
+        ty,
+        start,
+        end,
+        writes,
+        pool,
+        free,
+        quarantine,
+        sealed,
+        marks,
+    )
 }
 
 // The sweep of a collection: what is not marked is dropped, what is left is counted, and the quarantine is recycled.

@@ -1,28 +1,27 @@
--- `heap_check::covered` meets its contract. The invariant: the slots passed are live or marked. Assumes nothing.
-use Prim.Native.Nat.{_-_, _≤_}
-use mathlib.Core.Logic.{⊎-elim}
-use Rattle.heap_check.proofs.Looking.{says-no, says-yes, Covering, covering-first, covering-live, covering-marked, covering-not, covering-end}
+-- `heap_check::covered` meets its contract. The invariant: nothing is seen exactly if the slots passed are live or marked. Assumes nothing.
+use Prim.Native.Nat.{_-_}
+use Rattle.heap_check.proofs.Looking.{Covering, covering-first, covering-next, covering-end}
 use borrow.Author.Needs.{needs}
 use Rattle.heap_check.proofs.covered.Statement.{statement}
 use Rattle.heap_check.proofs.covered.Tie as tie
 
 abbrev Inv-loop : tie.InvT-loop
-Inv-loop n kind marks i₀ i = (i ≤ n) × Covering kind marks i
+Inv-loop n kind marks i₀ seen₀ i seen = Covering n kind marks i seen
 
 abbrev μ-loop : tie.MeasureT-loop
-μ-loop n kind marks i₀ i = n - i
+μ-loop n kind marks i₀ seen₀ i seen = n - i
 
 loop-holds : tie.Need-loop-holds Inv-loop μ-loop
-loop-holds c = (search needs, covering-first)
+loop-holds c = covering-first _ _ _
 
-shared-slice-read-if1 : tie.Need-shared-slice-read-if1 Inv-loop μ-loop
-shared-slice-read-if1 c = search needs
+shared-slice-read-missed : tie.Need-shared-slice-read-missed Inv-loop μ-loop
+shared-slice-read-missed c = search needs
 
-shared-slice-read-if2 : tie.Need-shared-slice-read-if2 Inv-loop μ-loop
-shared-slice-read-if2 c = search needs
+shared-slice-read-missed-2 : tie.Need-shared-slice-read-missed-2 Inv-loop μ-loop
+shared-slice-read-missed-2 c = search needs
 
-returns : tie.Need-returns Inv-loop μ-loop
-returns c = says-no (covering-not (c .before .before .before .before .before .loop .inv .1) (c .before .before .before .before .loop-test .taken) (c .before .before .if1 .taken) (c .if2 .taken))
+missed-requires : tie.Need-missed-requires Inv-loop μ-loop
+missed-requires c κs = search needs
 
 add-i : tie.Need-add-i Inv-loop μ-loop
 add-i c = search needs
@@ -31,10 +30,10 @@ loop-less : tie.Need-loop-less Inv-loop μ-loop
 loop-less c = search needs
 
 loop-again : tie.Need-loop-again Inv-loop μ-loop
-loop-again c = (search needs, ⊎-elim (λ w. covering-marked (c .before .before .before .loop .inv .1) (w .2 .left)) (λ w. covering-live (c .before .before .before .loop .inv .1) (w .left)) (c .if1 .came))
+loop-again c = search covering-next
 
-returns-2 : tie.Need-returns-2 Inv-loop μ-loop
-returns-2 c = says-yes (covering-end (c .before .loop .inv .1) (c .loop-test .left))
+returns : tie.Need-returns Inv-loop μ-loop
+returns c = covering-end (c .before .loop .inv) (c .loop-test .left)
 
 pub covered-spec : {M : Type 1} → statement M
 covered-spec =
@@ -43,10 +42,10 @@ covered-spec =
     Inv-loop
     μ-loop
     loop-holds
-    shared-slice-read-if1
-    shared-slice-read-if2
-    returns
+    shared-slice-read-missed
+    shared-slice-read-missed-2
+    missed-requires
     add-i
     loop-less
     loop-again
-    returns-2)
+    returns)
