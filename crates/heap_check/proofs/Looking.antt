@@ -74,10 +74,6 @@ pub start-first : (es : List ℕ) → 0 ≡ startOf es 0
 unfolding startOf
 start-first es = refl
 
-pub start-next : (es : List ℕ) (i : ℕ) → getD es i 0 ≡ startOf es (i + 1)
-unfolding startOf
-start-next es i = rw add-one refl
-
 -- ---- marks
 
 pub times-next : (xs : List ℕ) (j i : ℕ) → j < length xs → times i (take (j + 1) xs) ≡ times i (take j xs) + bit (eqb (getD xs j 0) i)
