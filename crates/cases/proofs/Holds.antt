@@ -10,8 +10,8 @@ use Rattle.ty.specs.Words.{wordOf, rank}
 use Rattle.ty.specs.Scalars.{scalarSize, narrow, elemSize, logicLeaf, leafBy}
 use Rattle.layout.specs.Layout.{dimLen, dimsOf, under, arrayLaid, arrayOf, placed, endOf, recordOf, layoutBy, layoutAt, layoutOf}
 use Rattle.layout.specs.Offsets.{offsetsFrom, offsetsOf}
-use Rattle.layout.proofs.Cases.{dim, sample, nested, answered, cases}
 use Rattle.trace.specs.Places.{rising, handlesPlaces, kindPlaces, wordsAt, handlesOf}
+use Rattle.cases.specs.Layouts.{dim, sample, nested, answered, cases}
 use Rattle.cases.specs.Table.{laid, handlesIn, table, allRight}
 
 pub table-holds : allRight table ≡ true

@@ -11,7 +11,7 @@ use Rattle.handle.specs.Handle.{packed}
 use Rattle.heap.specs.Calls.{new, resolve}
 use Rattle.ty.specs.Types.{Table}
 use Rattle.trace.specs.Places.{handlesOf}
-use Rattle.layout.proofs.Cases.{Case, answered, cases}
+use Rattle.cases.specs.Layouts.{Case, answered, cases}
 use Rattle.layout.specs.Layout.{layoutOf}
 use Rattle.layout.specs.Offsets.{offsetsOf}
 

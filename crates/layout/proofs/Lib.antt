@@ -5,4 +5,3 @@ pub mod LayLaws
 pub mod OffsetLaws
 pub mod Levels
 pub mod Complete
-pub mod Cases

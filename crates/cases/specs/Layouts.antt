@@ -1,18 +1,10 @@
--- Cases (d) to (j) of 01's proved table, and the depths at which nesting ends, of the definitions by computation: one statement over a table. Assumes nothing.
+-- Cases (d) to (j) of 01's proved table, and the depths at which nesting ends: the types, the type and the descriptor that are asked about, and the answer.
 use Prim.Native.Nat.{ℕ, zero, suc, _+_, _-_, _^_}
-use mathlib.Core.Path.{_≡_, refl}
 use mathlib.Core.List.{List, [], _∷_, _++_}
-use mathlib.Core.Bool.{Bool, true}
-use Rattle.word.specs.Le.{le, bytes}
-use Rattle.word.specs.Lists.{all, sameList}
-use Rattle.word.specs.Num.{alignUp}
-use Rattle.ty.specs.Types.{Ty, Ty.int, Ty.enum, Ty.array, Ty.fields, Ty.access, Field.field, Table, none}
-use Rattle.ty.specs.Words.{wordOf, rank}
-use Rattle.ty.specs.Scalars.{scalarSize, narrow, elemSize, logicLeaf, leafBy}
-use Rattle.layout.specs.Layout.{dimLen, dimsOf, under, arrayLaid, arrayOf, placed, endOf, recordOf, layoutBy, layoutAt, layoutOf}
-use Rattle.layout.specs.Offsets.{offsetsFrom, offsetsOf}
+use Rattle.word.specs.Le.{bytes}
+use Rattle.ty.specs.Types.{Ty, Ty.int, Ty.enum, Ty.array, Ty.fields, Ty.access, Field.field, none}
 use Rattle.layout.specs.declared.Lay.{Lay}
 use Rattle.layout.specs.declared.Lay.the-variants.{Laid, Malformed, TooLarge}
 
 -- a descriptor of one dimension: left, right, direction
 unfoldable pub dim : ℕ → ℕ → ℕ → List ℕ
@@ -72,14 +64,3 @@ cases =
     ∷ record { types = nested (enum 9 1) 0 64; type = 0; desc = []; answer = 0 ∷ 32 ∷ 8 ∷ 32 ∷ 1 ∷ 0 ∷ [] }
     ∷ record { types = nested (enum 9 1) 0 65; type = 0; desc = []; answer = 11 ∷ [] }
     ∷ []
-
--- the definitions answer it so
-unfoldable pub right : Case → Bool
-right x =
-    let T : Table = record { types = x .types; consts = [] } in
-    sameList (answered (layoutOf T (x .type) (x .desc)) (offsetsOf T (x .type) (x .desc))) (x .answer)
-
--- every case of the table
-pub cases-right : all right cases ≡ true
-unfolding all right sameList cases dim bytes le sample nested answered layoutOf layoutAt layoutBy arrayOf arrayLaid dimsOf wordOf dimLen rank alignUp under elemSize scalarSize narrow logicLeaf leafBy recordOf endOf placed offsetsOf offsetsFrom
-cases-right = refl
