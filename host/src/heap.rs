@@ -397,7 +397,7 @@ impl Heap {
     /// first line that is refused, or is no such line (17), ends it; what the lines before it did stays.
     ///
     /// ```
-    /// use yexwalu::{Handle, Heap, Kind, Refusal};
+    /// use yexwalu::{Heap, Refusal};
     /// let mut heap = Heap::new(1, 64, 4096)?;
     /// heap.run(b"alloc,0,2,4142\nalloc,0,2,6c6f7374\ntake,72057598332895233,0,\nseal,0,0,\nrecycle,0,0,\n")?;
     /// assert_eq!(heap.data(0)?, b"AB");

@@ -20,18 +20,18 @@ fn constant(random: &mut Random, table: &mut TypeTable, oracle: &mut Oracle) {
     oracle.set(&format!("const {}", hex(&bytes)));
 }
 
-// A type that is mostly one of those before, at times a later or a missing one.
+// A type that is mostly one of those before, rather a late one; at times a later or a missing one.
 fn reference(random: &mut Random, before: u64) -> u64 {
-    if before == 0 || random.below(16) == 0 {
+    if before == 0 || random.below(20) == 0 {
         random.below(before + 4)
     } else {
-        random.below(before)
+        random.below(before).max(random.below(before))
     }
 }
 
 // Mostly no constant, at times a missing one.
 fn described(random: &mut Random, table: &TypeTable) -> u64 {
-    if random.below(3) > 0 {
+    if random.below(4) > 0 {
         return NO;
     }
     random.below(table.consts.len() as u64 / 3 + 1)
@@ -43,40 +43,40 @@ fn some(constant: u64) -> Option<ConstId> {
 
 fn add(random: &mut Random, table: &mut TypeTable) -> String {
     let before = table.types.len() as u64 / 4;
-    match random.below(14) {
-        0 | 1 => {
+    match random.below(16) {
+        0 => {
             let (lo, hi) = (ENDS[random.below(8) as usize], ENDS[random.below(8) as usize]);
             table.integer(lo, hi);
             format!("ty 0 {lo} {hi}")
         }
-        2 => {
+        1 => {
             table.physical();
             "ty 1".into()
         }
-        3 => {
+        2 => {
             let (literals, logic) = ([1, 2, 256, 257][random.below(4) as usize], random.below(4));
             table.enumeration(literals, logic);
             format!("ty 2 {literals} {logic}")
         }
-        4 => {
+        3 => {
             table.real();
             "ty 3".into()
         }
-        5..=7 => {
+        4..=7 => {
             let (elem, constant, dims) = (reference(random, before), described(random, table), random.below(3));
             table.array(elem as u32, some(constant), dims as u8);
             format!("ty 4 {elem} {constant} {dims}")
         }
-        8 | 9 => {
+        8..=10 => {
             let fields: Vec<(u64, u64)> = (0..random.below(5)).map(|_| (reference(random, before), described(random, table))).collect();
             table.record(&fields.iter().map(|(t, c)| (*t as u32, some(*c))).collect::<Vec<_>>());
             format!("ty 5 {}", list(&fields.iter().map(|(t, c)| format!("{t}:{c}")).collect::<Vec<_>>()))
         }
-        10 | 11 => {
+        11..=13 => {
             table.access();
             "ty 6".into()
         }
-        12 => {
+        14 => {
             table.file();
             "ty 7".into()
         }
@@ -103,7 +103,7 @@ pub fn table(random: &mut Random, oracle: &mut Oracle) -> TypeTable {
                 oracle.set(&format!("ty 4 {n} {NO} 0"));
             }
         } else {
-            for _ in 0..1 + random.below(12) {
+            for _ in 0..1 + random.below(16) {
                 let line = add(random, &mut table);
                 oracle.set(&line);
             }
