@@ -1,4 +1,4 @@
--- Lists of numbers: what passes a test, rising; a rising list is known by its members; and the tests over every entry. Assumes nothing.
+-- Lists of numbers: what passes a test, rising; a rising list is known by its members; and a test of some entry. Assumes nothing.
 use mathlib.Core.Path.{_≡_, refl, sym, ap, ap₂, _∙_}
 use mathlib.Core.Logic.{_⊎_, ⊎-elim, _↔_}
 use mathlib.Core.Bool.{Bool, true, false, cond, _&&_, _||_, true≢false, false≢true}
@@ -9,13 +9,11 @@ use native.Mathlib.Decide.{ℕ-discrete, decLt}
 use lib.ListN.{length, getD}
 use lib.Dec.{ltb, eqb}
 use borrow.Author.Tests.{eqb-true, ltb-true, eq-eqb, ne-eqb, lt-ltb}
+use Rattle.word.specs.Lists.{all}
 use Rattle.word.specs.Ones.{keep, passing}
-use Rattle.flow.specs.Function.{has, every, some, rising}
+use Rattle.flow.specs.Function.{has, some, rising}
 use Rattle.flow.specs.Dataflow.{sift}
-use Rattle.word.proofs.Bools.{or-cases, or-left, or-right, and-both}
-
-pub both-true : {a b : Bool} → a ≡ true → b ≡ true → a && b ≡ true
-both-true p q = rw p q
+use Rattle.word.proofs.Bools.{or-cases, or-left, or-right, and-both, and-false, both-and}
 
 -- ---- what passes
 
@@ -71,13 +69,13 @@ passing-exactly P n r past = (λ h. has-passing P 0 n r h .is, λ h. passing-has
         go (yes l) = omega arith
         go (no l) = absurd (false≢true (sym (past r (omega arith)) ∙ h))
 
-above-passing : (P : ℕ → Bool) (x b n : ℕ) → x < b → every (ltb x) (passing P b n) ≡ true
-unfolding passing
+above-passing : (P : ℕ → Bool) (x b n : ℕ) → x < b → all (ltb x) (passing P b n) ≡ true
+unfolding passing all
 above-passing P x b zero h = refl
 above-passing P x b (suc n) h = go (above-passing P x (suc b) n (omega arith)) (P b)
   where
-    go : every (ltb x) (passing P (suc b) n) ≡ true → (y : Bool) → every (ltb x) (keep y b (passing P (suc b) n)) ≡ true
-    go rec true = both-true (lt-ltb x b h) rec
+    go : all (ltb x) (passing P (suc b) n) ≡ true → (y : Bool) → all (ltb x) (keep y b (passing P (suc b) n)) ≡ true
+    go rec true = both-and _ _ (lt-ltb x b h) rec
     go rec false = rec
 
 pub passing-rising : (P : ℕ → Bool) (b n : ℕ) → rising (passing P b n) ≡ true
@@ -86,15 +84,16 @@ passing-rising P b zero = refl
 passing-rising P b (suc n) = go (passing-rising P (suc b) n) (P b)
   where
     go : rising (passing P (suc b) n) ≡ true → (y : Bool) → rising (keep y b (passing P (suc b) n)) ≡ true
-    go rec true = both-true (above-passing P b (suc b) n (omega arith)) rec
+    go rec true = both-and _ _ (above-passing P b (suc b) n (omega arith)) rec
     go rec false = rec
 
 -- ---- a rising list is known by its members
 
-every-has : (p : ℕ → Bool) (l : List ℕ) (r : ℕ) → every p l ≡ true → has l r ≡ true → p r ≡ true
-every-has p [] r h k = absurd (false≢true k)
-every-has p (x ∷ l) r h k =
-    ⊎-elim (λ e. ap p (sym (eqb-true x r e)) ∙ and-both (p x) (every p l) h .0) (λ e. every-has p l r (and-both (p x) (every p l) h .1) e) (or-cases (eqb x r) (has l r) k)
+all-has : (p : ℕ → Bool) (l : List ℕ) (r : ℕ) → all p l ≡ true → has l r ≡ true → p r ≡ true
+unfolding all
+all-has p [] r h k = absurd (false≢true k)
+all-has p (x ∷ l) r h k =
+    ⊎-elim (λ e. ap p (sym (eqb-true x r e)) ∙ and-both (p x) (all p l) h .0) (λ e. all-has p l r (and-both (p x) (all p l) h .1) e) (or-cases (eqb x r) (has l r) k)
 
 pub rising-unique : (l k : List ℕ) → rising l ≡ true → rising k ≡ true → ((r : ℕ) → has l r ≡ true → has k r ≡ true) → ((r : ℕ) → has k r ≡ true → has l r ≡ true) → l ≡ k
 rising-unique [] [] u v f g = refl
@@ -102,40 +101,31 @@ rising-unique [] (y ∷ k) u v f g = absurd (false≢true (g y (or-left _ (has k
 rising-unique (x ∷ l) [] u v f g = absurd (false≢true (f x (or-left _ (has l x) (eq-eqb x x refl))))
 rising-unique (x ∷ l) (y ∷ k) u v f g = ap₂ (λ (a : ℕ) (b : List ℕ). a ∷ b) same (rising-unique l k (ul .1) (vk .1) f′ g′)
   where
-    ul : (every (ltb x) l ≡ true) × (rising l ≡ true)
-    ul = and-both (every (ltb x) l) (rising l) u
+    ul : (all (ltb x) l ≡ true) × (rising l ≡ true)
+    ul = and-both (all (ltb x) l) (rising l) u
 
-    vk : (every (ltb y) k ≡ true) × (rising k ≡ true)
-    vk = and-both (every (ltb y) k) (rising k) v
+    vk : (all (ltb y) k ≡ true) × (rising k ≡ true)
+    vk = and-both (all (ltb y) k) (rising k) v
 
     same : x ≡ y
     same =
         ⊎-elim (λ e. sym (eqb-true y x e))
         (λ e. ⊎-elim (λ d. eqb-true x y d)
-        (λ d. absurd (let p = ltb-true y x (every-has (ltb y) k x (vk .0) e) in let q = ltb-true x y (every-has (ltb x) l y (ul .0) d) in omega arith))
+        (λ d. absurd (let p = ltb-true y x (all-has (ltb y) k x (vk .0) e) in let q = ltb-true x y (all-has (ltb x) l y (ul .0) d) in omega arith))
         (or-cases (eqb x y) (has l y) (g y (or-left _ (has k y) (eq-eqb y y refl)))))
         (or-cases (eqb y x) (has k x) (f x (or-left _ (has l x) (eq-eqb x x refl))))
 
     f′ : (r : ℕ) → has l r ≡ true → has k r ≡ true
     f′ r h =
-        ⊎-elim (λ e. absurd (let p = ltb-true x r (every-has (ltb x) l r (ul .0) h) in let d = eqb-true y r e in omega (arith, same))) (λ e. e)
+        ⊎-elim (λ e. absurd (let p = ltb-true x r (all-has (ltb x) l r (ul .0) h) in let d = eqb-true y r e in omega (arith, same))) (λ e. e)
         (or-cases (eqb y r) (has k r) (f r (or-right (eqb x r) _ h)))
 
     g′ : (r : ℕ) → has k r ≡ true → has l r ≡ true
     g′ r h =
-        ⊎-elim (λ e. absurd (let p = ltb-true y r (every-has (ltb y) k r (vk .0) h) in let d = eqb-true x r e in omega (arith, same))) (λ e. e)
+        ⊎-elim (λ e. absurd (let p = ltb-true y r (all-has (ltb y) k r (vk .0) h) in let d = eqb-true x r e in omega (arith, same))) (λ e. e)
         (or-cases (eqb x r) (has l r) (g r (or-right (eqb y r) _ h)))
 
--- ---- tests over every entry, by index
-
-pub every-at : {A : Type 0} (p : A → Bool) (l : List A) (d : A) (i : ℕ) → every p l ≡ true → i < length l → p (getD l i d) ≡ true
-every-at p [] d i h k = absurd (omega arith)
-every-at p (x ∷ l) d zero h k = and-both (p x) (every p l) h .0
-every-at p (x ∷ l) d (suc i) h k = every-at p l d i (and-both (p x) (every p l) h .1) (omega arith)
-
-pub at-every : {A : Type 0} (p : A → Bool) (l : List A) (d : A) → ((i : ℕ) → i < length l → p (getD l i d) ≡ true) → every p l ≡ true
-at-every p [] d h = refl
-at-every p (x ∷ l) d h = both-true (h 0 (omega arith)) (at-every p l d (λ i k. h (suc i) (omega arith)))
+-- ---- a test of some entry, by index
 
 pub some-at : {A : Type 0} (p : A → Bool) (l : List A) (d : A) (i : ℕ) → i < length l → p (getD l i d) ≡ true → some p l ≡ true
 some-at p [] d i k h = absurd (omega arith)
@@ -152,10 +142,6 @@ at-some p (x ∷ l) d h =
 
 pub has-sift : (t : ℕ → Bool) (l : List ℕ) (r : ℕ) → has (sift t l) r ≡ t r && has l r
 has-sift t [] r = sym (and-false (t r))
-  where
-    and-false : (b : Bool) → b && false ≡ false
-    and-false true = refl
-    and-false false = refl
 has-sift t (x ∷ l) r = go (has-sift t l r) (t x) refl (ℕ-discrete x r)
   where
     mid : (a b c : Bool) → a ≡ true → b ≡ true → b || (a && c) ≡ a && (b || c)

@@ -8,9 +8,9 @@ use lib.ListN.{length, getD}
 use lib.Dec.{ltb}
 use Rattle.flow.specs.Function.{Function, Instruction, has, reads, writes, inst, start, end, exits, successors, Next, Walk, ReadFirst, Live}
 use Rattle.flow.specs.Dataflow.{asked, only, onlyAll, track}
-use Rattle.word.proofs.Bools.{and-both}
+use Rattle.word.proofs.Bools.{and-both, both-and}
 use Rattle.flow.proofs.Laws.{Disjoint}
-use Rattle.flow.proofs.Lists.{both-true, has-sift}
+use Rattle.flow.proofs.Lists.{has-sift}
 
 only-at : (t : ℕ → Bool) (l : List Instruction) (p : ℕ) (d : Instruction) → getD (onlyAll t l) p (only t d) ≡ only t (getD l p d)
 only-at t [] p d = refl
@@ -83,7 +83,7 @@ module _ (t : ℕ → Bool) (f : Function) where
   read-from (q ∷ qs) p r h = (kept-false (read-asked qs q r (h .1)) (sym (writes-track p r) ∙ h .0), read-from qs q r (h .1))
 
   read-to : (qs : List ℕ) (p r : ℕ) → asked t (f .classes) r ≡ true → ReadFirst f r p qs → ReadFirst (track t f) r p qs
-  read-to [] p r k h = reads-track p r ∙ both-true k h
+  read-to [] p r k h = reads-track p r ∙ both-and _ _ k h
   read-to (q ∷ qs) p r k h = (writes-track p r ∙ false-kept (asked t (f .classes) r) (h .0), read-to qs q r k (h .1))
 
   -- a live register is one that the function knows
@@ -98,7 +98,7 @@ module _ (t : ℕ → Bool) (f : Function) where
       record { rest = v .rest; walk = walk-from (v .rest) p (v .walk); read = read-from (v .rest) p r (v .read) },
       and-both (ltb r (length (f .classes))) (t (getD (f .classes) r 0)) (read-asked (v .rest) p r (v .read)) .1,
     ),
-    λ v. record { rest = v .0 .rest; walk = walk-to (v .0 .rest) p (v .0 .walk); read = read-to (v .0 .rest) p r (both-true (read-known (v .0 .rest) p r (v .0 .read)) (v .1)) (v .0 .read) },
+    λ v. record { rest = v .0 .rest; walk = walk-to (v .0 .rest) p (v .0 .walk); read = read-to (v .0 .rest) p r (both-and _ _ (read-known (v .0 .rest) p r (v .0 .read)) (v .1)) (v .0 .read) },
   )
 
   pub live-known : (p r : ℕ) → Live f p r → ltb r (length (f .classes)) ≡ true

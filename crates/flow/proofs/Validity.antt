@@ -9,12 +9,14 @@ use native.Mathlib.Decide.{decLt}
 use lib.ListN.{length, getD}
 use lib.Dec.{leb, ltb, eqb}
 use borrow.Author.Tests.{not-true, ltb-true, leb-true, lt-ltb, le-ltb, le-leb}
+use Rattle.word.specs.Lists.{all}
 use Rattle.word.specs.Ones.{passing}
-use Rattle.flow.specs.Function.{Function, Block, has, every, some, inst, block, start, end, holds, safepoint, share, apart, inside, valid, Live, LiveList}
+use Rattle.flow.specs.Function.{Function, Block, has, some, inst, block, start, end, holds, safepoint, share, apart, inside, valid, Live, LiveList}
 use Rattle.flow.specs.Dataflow.{liveBefore, holder, liveRow, track}
-use Rattle.word.proofs.Bools.{or-cases, and-both, either}
+use Rattle.word.proofs.Bools.{or-cases, and-both, either, both-and}
+use Rattle.word.proofs.ListLaws.{all-at, at-all}
 use Rattle.flow.proofs.Laws.{Disjoint, filled-known}
-use Rattle.flow.proofs.Lists.{both-true, passing-exactly, passing-rising, rising-unique, every-at, at-every, some-at}
+use Rattle.flow.proofs.Lists.{passing-exactly, passing-rising, rising-unique, some-at}
 use Rattle.flow.proofs.Fixpoint.{computed}
 use Rattle.flow.proofs.Tracking.{live-track, live-known, disjoint-track}
 
@@ -42,10 +44,10 @@ apart-one l h = record { one = go l h }
     go [] h a b p i j k m = absurd (omega arith)
     go (x ∷ l) h zero zero p i j k m = refl
     go (x ∷ l) h zero (suc b) p i j k m =
-        absurd (no-share x (getD l b none) p (every-at (λ c. not (share x c)) l none b (and-both (every (λ c. not (share x c)) l) (apart l) h .0) (filled-known l b (omega arith))) i j k m)
+        absurd (no-share x (getD l b none) p (all-at (λ c. not (share x c)) l none (and-both (all (λ c. not (share x c)) l) (apart l) h .0) b (filled-known l b (omega arith))) i j k m)
     go (x ∷ l) h (suc a) zero p i j k m =
-        absurd (no-share x (getD l a none) p (every-at (λ c. not (share x c)) l none a (and-both (every (λ c. not (share x c)) l) (apart l) h .0) (filled-known l a (omega arith))) k m i j)
-    go (x ∷ l) h (suc a) (suc b) p i j k m = ap suc (go l (and-both (every (λ c. not (share x c)) l) (apart l) h .1) a b p i j k m)
+        absurd (no-share x (getD l a none) p (all-at (λ c. not (share x c)) l none (and-both (all (λ c. not (share x c)) l) (apart l) h .0) a (filled-known l a (omega arith))) k m i j)
+    go (x ∷ l) h (suc a) (suc b) p i j k m = ap suc (go l (and-both (all (λ c. not (share x c)) l) (apart l) h .1) a b p i j k m)
 
 pub one-apart : (l : List Block) → Apart l → apart l ≡ true
 one-apart l h = go l (h .one)
@@ -53,7 +55,7 @@ one-apart l h = go l (h .one)
     go : (l : List Block) → ((a b p : ℕ) → getD l a none .start ≤ p → p < getD l a none .end → getD l b none .start ≤ p → p < getD l b none .end → a ≡ b) → apart l ≡ true
     go [] h = refl
     go (x ∷ l) h =
-        both-true (at-every (λ c. not (share x c)) l none (λ b k. unshared x (getD l b none) (λ p i j m o. let e : 0 ≡ suc b = h 0 (suc b) p i j m o in omega arith)))
+        both-and _ _ (at-all (λ c. not (share x c)) l none (λ b k. unshared x (getD l b none) (λ p i j m o. let e : 0 ≡ suc b = h 0 (suc b) p i j m o in omega arith)))
         (go l (λ a b p i j k m. let e : suc a ≡ suc b = h (suc a) (suc b) p i j k m in omega arith))
 
 pub apart-disjoint : (f : Function) → apart (f .blocks) ≡ true → Disjoint f
@@ -64,9 +66,9 @@ pub record Valid (f : Function) : Type 0 where
   pub code-count : length (f .code) ≤ 65536
   pub block-count : length (f .blocks) ≤ 4096
   pub class-count : length (f .classes) ≤ 16384
-  pub kinds : every (λ i. leb (i .kind) 6) (f .code) ≡ true
-  pub classes : every (λ k. leb k 4) (f .classes) ≡ true
-  pub inside : every (inside (length (f .code))) (f .blocks) ≡ true
+  pub kinds : all (λ i. leb (i .kind) 6) (f .code) ≡ true
+  pub classes : all (λ k. leb k 4) (f .classes) ≡ true
+  pub inside : all (inside (length (f .code))) (f .blocks) ≡ true
   pub apart : apart (f .blocks) ≡ true
 
 pub valid-parts : (f : Function) → valid f ≡ true → Valid f
@@ -91,9 +93,9 @@ valid-parts f h =
 pub parts-valid : (f : Function) → Valid f → valid f ≡ true
 unfolding valid
 parts-valid f v =
-    both-true (le-leb (length (f .code)) 65536 (v .code-count))
-    (both-true (le-leb (length (f .blocks)) 4096 (v .block-count))
-    (both-true (le-leb (length (f .classes)) 16384 (v .class-count)) (both-true (v .kinds) (both-true (v .classes) (both-true (v .inside) (v .apart))))))
+    both-and _ _ (le-leb (length (f .code)) 65536 (v .code-count))
+    (both-and _ _ (le-leb (length (f .blocks)) 4096 (v .block-count))
+    (both-and _ _ (le-leb (length (f .classes)) 16384 (v .class-count)) (both-and _ _ (v .kinds) (both-and _ _ (v .classes) (both-and _ _ (v .inside) (v .apart))))))
 
 pub valid-disjoint : (f : Function) → valid f ≡ true → Disjoint f
 valid-disjoint f h = apart-disjoint f (valid-parts f h .apart)
@@ -104,7 +106,7 @@ pub holds-parts : (p : ℕ) (b : Block) → holds p b ≡ true → (b .start ≤
 holds-parts p b h = let a = and-both (leb (b .start) p) (ltb p (b .end)) h in (leb-true (b .start) p (a .0), ltb-true p (b .end) (a .1))
 
 pub parts-holds : (p : ℕ) (b : Block) → b .start ≤ p → p < b .end → holds p b ≡ true
-parts-holds p b i j = both-true (le-leb (b .start) p i) (lt-ltb p (b .end) j)
+parts-holds p b i j = both-and _ _ (le-leb (b .start) p i) (lt-ltb p (b .end) j)
 
 holder-at : (l : List Block) (p i : ℕ) → some (holds p) l ≡ true → (k : ℕ) × (holder l p i ≡ k + i) × (holds p (getD l k none) ≡ true)
 holder-at [] p i h = absurd (false≢true h)

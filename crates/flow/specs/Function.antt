@@ -7,6 +7,7 @@ use mathlib.Core.List.{List, [], _∷_}
 use Prim.Native.Nat.{ℕ, suc, _+_, _-_, _≤_, _<_, min, max}
 use lib.ListN.{length, getD}
 use lib.Dec.{leb, ltb, eqb}
+use Rattle.word.specs.Lists.{all}
 use Rattle.word.specs.Ones.{passing}
 
 -- kind: 0 plain, 1 safepoint, 2 branch, 3 conditional, 4 case, 5 return, 6 unreachable; registers written; registers read; target blocks (a case: arms, then default)
@@ -32,11 +33,7 @@ abbrev pub has : List ℕ → ℕ → Bool
 has [] x = false
 has (y ∷ ys) x = eqb y x || has ys x
 
--- the test holds of each of the list, and of some
-abbrev pub every : {A : Type 0} → (A → Bool) → List A → Bool
-every p [] = true
-every p (x ∷ xs) = p x && every p xs
-
+-- the test holds of some of the list
 abbrev pub some : {A : Type 0} → (A → Bool) → List A → Bool
 some p [] = false
 some p (x ∷ xs) = p x || some p xs
@@ -127,7 +124,7 @@ pub record Live (f : Function) (p r : ℕ) : Type 0 where
 -- each number is below all that follow it
 abbrev pub rising : List ℕ → Bool
 rising [] = true
-rising (x ∷ xs) = every (ltb x) xs && rising xs
+rising (x ∷ xs) = all (ltb x) xs && rising xs
 
 -- l has the registers that are live before instruction p and whose class passes the test, rising
 pub record LiveList (f : Function) (asked : ℕ → Bool) (p : ℕ) (l : List ℕ) : Type 0 where
@@ -154,7 +151,7 @@ share b c = ltb (max (b .start) (c .start)) (min (b .end) (c .end))
 
 abbrev pub apart : List Block → Bool
 apart [] = true
-apart (b ∷ bs) = every (λ c. not (share b c)) bs && apart bs
+apart (b ∷ bs) = all (λ c. not (share b c)) bs && apart bs
 
 -- a nonempty block lies in the code
 abbrev pub inside : ℕ → Block → Bool
@@ -163,5 +160,5 @@ inside n b = leb (b .end) (b .start) || leb (b .end) n
 unfoldable pub valid : Function → Bool
 valid f =
     leb (length (f .code)) 65536 && (leb (length (f .blocks)) 4096 && (leb (length (f .classes)) 16384
-    && (every (λ i. leb (i .kind) 6) (f .code) && (every (λ k. leb k 4) (f .classes)
-    && (every (inside (length (f .code))) (f .blocks) && apart (f .blocks))))))
+    && (all (λ i. leb (i .kind) 6) (f .code) && (all (λ k. leb k 4) (f .classes)
+    && (all (inside (length (f .code))) (f .blocks) && apart (f .blocks))))))

@@ -6,11 +6,13 @@ use native.Mathlib.Omega.{arith}
 use native.Mathlib.Decide.{decLt}
 use lib.ListN.{length, getD, take, set, replicate, length-append, length-set, length-map, List·getD-map, List·getD-eq-default}
 use lib.Seq.{set-append-left, set-at, take-suc, length-take-le, take-all, getD-append-add}
-use Rattle.heap.specs.Packing.{pad, flat, ends, tabulate, dataAt}
+use Rattle.word.specs.Lists.{tabulate}
+use Rattle.word.proofs.ListLaws.{tabulate-list}
+use Rattle.heap.specs.Packing.{pad, flat, ends, dataAt}
 use Rattle.heap.specs.State.{Slot, State, noSlot, dataOf}
 use Rattle.heap.proofs.Sound.{Sound, WellFormed}
 use Rattle.heap.specs.Lent.{stored, view, headerOf, slotIn}
-use Rattle.heap.proofs.Packing.{length-pad, getD-pad, take-pad, tabulate-list, data-at}
+use Rattle.heap.proofs.Packing.{length-pad, getD-pad, take-pad, data-at}
 
 -- ---- a list in S places
 

@@ -1,6 +1,6 @@
 -- The tests of `WellFormed` pass exactly if what they test holds. Assumes nothing.
 use mathlib.Core.Path.{_≡_, refl, sym, ap, _∙_}
-use mathlib.Core.Bool.{Bool, true, _&&_, _||_}
+use mathlib.Core.Bool.{Bool, true, false, _&&_, _||_}
 use mathlib.Core.List.{List, [], _∷_, _++_}
 use mathlib.Core.Logic.{_⊎_, ⊎-elim}
 use Prim.Native.Nat.{ℕ, zero, suc, _+_, _%_, _≤_, _<_}
@@ -9,41 +9,18 @@ use native.Mathlib.Decide.{decLt, ℕ-discrete}
 use lib.ListN.{length, getD, List·getD-eq-default}
 use lib.Dec.{eqb, ltb, leb}
 use borrow.Author.Tests.{lt-ltb, le-ltb, ltb-true, leb-true, le-leb, eqb-true, eq-eqb, ne-eqb}
+use Rattle.word.specs.Lists.{all, allBelow, sameList}
 use Rattle.word.proofs.Bools.{and-both, both-and, or-cases, or-left, or-right}
+use Rattle.word.proofs.ListLaws.{all-at, at-all, below-at, at-below, same-tested, same-test}
 use Rattle.heap.specs.Packing.{flat}
+use Rattle.heap.specs.Columns.{EqualSizes}
 use Rattle.heap.specs.State.{Slot, State, noSlot, slotAt, dataOf, live, bit, times}
 use Rattle.heap.specs.Lent.{Lent, lent, stored, view, slotCount, poolSize}
-use Rattle.heap.specs.WellFormed.{all, allBelow, soundSlot, places, partitioned, soundSeals, soundReclaim, sound, fits, sameList, sameHeader, sameLent, wellFormed}
+use Rattle.heap.specs.WellFormed.{soundSlot, places, partitioned, soundSeals, soundReclaim, sound, fits, sizesFit, sameHeader, sameLent, wellFormed}
 use Rattle.heap.specs.declared.Heap.{Heap}
 use Rattle.heap.proofs.Sound.{SlotSound, Sound, WellFormed, liveBit}
 use Rattle.heap.proofs.Counting.{times-append, times-member}
 use Rattle.heap.proofs.Storing.{well-stored}
-
--- ---- all entries, all numbers below n
-
-pub all-at : {A : Type 0} (test : A → Bool) (xs : List A) (d : A) → all test xs ≡ true → (i : ℕ) → i < length xs → test (getD xs i d) ≡ true
-unfolding all
-all-at test [] d h i k = absurd (omega arith)
-all-at test (x ∷ xs) d h zero k = and-both (test x) (all test xs) h .0
-all-at test (x ∷ xs) d h (suc i) k = all-at test xs d (and-both (test x) (all test xs) h .1) i (omega arith)
-
-pub at-all : {A : Type 0} (test : A → Bool) (xs : List A) (d : A) → ((i : ℕ) → i < length xs → test (getD xs i d) ≡ true) → all test xs ≡ true
-unfolding all
-at-all test [] d h = refl
-at-all test (x ∷ xs) d h = both-and (test x) (all test xs) (h zero (omega arith)) (at-all test xs d (λ i k. h (suc i) (omega arith)))
-
-pub below-at : (test : ℕ → Bool) (n : ℕ) → allBelow test n ≡ true → (i : ℕ) → i < n → test i ≡ true
-unfolding allBelow
-below-at test zero h i k = absurd (omega arith)
-below-at test (suc n) h i k = elim (decLt i n) [ yes y ↦ below-at test n (and-both (allBelow test n) (test n) h .0) i y | no y ↦ last (omega arith) ]
-  where
-    last : i ≡ n → test i ≡ true
-    last e = ap test e ∙ and-both (allBelow test n) (test n) h .1
-
-pub at-below : (test : ℕ → Bool) (n : ℕ) → ((i : ℕ) → i < n → test i ≡ true) → allBelow test n ≡ true
-unfolding allBelow
-at-below test zero h = refl
-at-below test (suc n) h = both-and (allBelow test n) (test n) (at-below test n (λ i k. h i (omega arith))) (h n (omega arith))
 
 -- ---- a slot
 
@@ -131,23 +108,7 @@ parts-test h p =
       | no y ↦ absurd (omega (arith, p i, times-append i (h .free) (h .quarantine), ap bit (le-ltb i (length (h .slots)) (omega arith))))
     ]
 
--- ---- equal lists, equal lent memory
-
-pub same-tested : (xs ys : List ℕ) → sameList xs ys ≡ true → xs ≡ ys
-unfolding sameList
-same-tested [] [] h = refl
-same-tested [] (y ∷ ys) h = cc
-same-tested (x ∷ xs) [] h = cc
-same-tested (x ∷ xs) (y ∷ ys) h =
-    let a = and-both (eqb x y) (sameList xs ys) h in
-    let e : x ≡ y = eqb-true _ _ (a .0) in
-    let r : xs ≡ ys = same-tested xs ys (a .1) in
-    λ j. e j ∷ r j
-
-pub same-test : (xs : List ℕ) → sameList xs xs ≡ true
-unfolding sameList
-same-test [] = refl
-same-test (x ∷ xs) = both-and (eqb x x) (sameList xs xs) (eq-eqb x x refl) (same-test xs)
+-- ---- equal lent memory
 
 pub lent-tested : (a b : Lent) → sameLent a b ≡ true → a ≡ b
 unfolding sameLent sameHeader
@@ -203,6 +164,57 @@ same-number n = eq-eqb n n refl
 pub lent-test : (a : Lent) → sameLent a a ≡ true
 unfolding sameLent sameHeader
 lent-test a = simp (same-number, same-test)
+
+-- ---- sizes
+
+pub record Sizes (g k t s e w p f q x : ℕ) : Type 0 where
+  pub low : 1 ≤ g
+  pub high : g ≤ 16777216
+  pub room : p ≤ 1073741824
+  pub equal : EqualSizes g k t s e w f q x
+
+module _ (g k t s e w p f q x : ℕ) where
+  pub sizes-tested : sizesFit g k t s e w p f q x ≡ true → Sizes g k t s e w p f q x
+  unfolding sizesFit
+  sizes-tested h₀ =
+      let h₁ = and-both (leb 1 g && leb g 16777216 && leb p 1073741824 && eqb k g && eqb t g && eqb s g && eqb e g && eqb w g && eqb f g && eqb q g) (eqb x g) h₀ in
+      let h₂ = and-both (leb 1 g && leb g 16777216 && leb p 1073741824 && eqb k g && eqb t g && eqb s g && eqb e g && eqb w g && eqb f g) (eqb q g) (h₁ .0) in
+      let h₃ = and-both (leb 1 g && leb g 16777216 && leb p 1073741824 && eqb k g && eqb t g && eqb s g && eqb e g && eqb w g) (eqb f g) (h₂ .0) in
+      let h₄ = and-both (leb 1 g && leb g 16777216 && leb p 1073741824 && eqb k g && eqb t g && eqb s g && eqb e g) (eqb w g) (h₃ .0) in
+      let h₅ = and-both (leb 1 g && leb g 16777216 && leb p 1073741824 && eqb k g && eqb t g && eqb s g) (eqb e g) (h₄ .0) in
+      let h₆ = and-both (leb 1 g && leb g 16777216 && leb p 1073741824 && eqb k g && eqb t g) (eqb s g) (h₅ .0) in
+      let h₇ = and-both (leb 1 g && leb g 16777216 && leb p 1073741824 && eqb k g) (eqb t g) (h₆ .0) in
+      let h₈ = and-both (leb 1 g && leb g 16777216 && leb p 1073741824) (eqb k g) (h₇ .0) in
+      let h₉ = and-both (leb 1 g && leb g 16777216) (leb p 1073741824) (h₈ .0) in
+      let h₁₀ = and-both (leb 1 g) (leb g 16777216) (h₉ .0) in
+      record {
+        low = leb-true 1 g (h₁₀ .0);
+        high = leb-true g 16777216 (h₁₀ .1);
+        room = leb-true p 1073741824 (h₉ .1);
+        equal =
+            record {
+              kind = eqb-true k g (h₈ .1);
+              type = eqb-true t g (h₇ .1);
+              start = eqb-true s g (h₆ .1);
+              end = eqb-true e g (h₅ .1);
+              writes = eqb-true w g (h₄ .1);
+              free = eqb-true f g (h₃ .1);
+              quarantine = eqb-true q g (h₂ .1);
+              sealed = eqb-true x g (h₁ .1);
+            };
+      }
+
+  pub sizes-no : (Sizes g k t s e w p f q x → ⊥) → false ≡ sizesFit g k t s e w p f q x
+  sizes-no bad = go (sizesFit g k t s e w p f q x) refl
+    where
+      go : (b : Bool) → sizesFit g k t s e w p f q x ≡ b → false ≡ sizesFit g k t s e w p f q x
+      go true h = absurd (bad (sizes-tested h))
+      go false h = sym h
+
+  pub sizes-yes : 1 ≤ g → g ≤ 16777216 → p ≤ 1073741824 → k ≡ g → t ≡ g → s ≡ g → e ≡ g → w ≡ g → f ≡ g → q ≡ g → x ≡ g → true ≡ sizesFit g k t s e w p f q x
+  unfolding sizesFit
+  sizes-yes a b c h₁ h₂ h₃ h₄ h₅ h₆ h₇ h₈ =
+      simp (le-leb 1 g a, le-leb g 16777216 b, le-leb p 1073741824 c, eq-eqb k g h₁, eq-eqb t g h₂, eq-eqb s g h₃, eq-eqb e g h₄, eq-eqb w g h₅, eq-eqb f g h₆, eq-eqb q g h₇, eq-eqb x g h₈)
 
 -- ---- all of it
 

@@ -3,7 +3,19 @@ use mathlib.Core.Path.{_≡_}
 use mathlib.Core.List.{List}
 use Prim.Native.Nat.{ℕ, _≤_, _<_}
 use lib.ListN.{length, set}
-use Rattle.heap.specs.Packing.{pad, flat, ends, tabulate, dataAt}
+use Rattle.word.specs.Lists.{tabulate}
+use Rattle.heap.specs.Packing.{pad, flat, ends, dataAt}
+
+-- columns of S entries
+pub record EqualSizes (S k t s e w f q x : ℕ) : Type 0 where
+  pub kind : k ≡ S
+  pub type : t ≡ S
+  pub start : s ≡ S
+  pub end : e ≡ S
+  pub writes : w ≡ S
+  pub free : f ≡ S
+  pub quarantine : q ≡ S
+  pub sealed : x ≡ S
 
 -- the data of the first n slots
 unfoldable pub datas : ℕ → List ℕ → List ℕ → List (List ℕ)

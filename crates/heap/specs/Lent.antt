@@ -2,7 +2,8 @@
 use mathlib.Core.List.{List, map}
 use Prim.Native.Nat.{ℕ}
 use lib.ListN.{length, getD, take}
-use Rattle.heap.specs.Packing.{pad, flat, ends, tabulate, dataAt}
+use Rattle.word.specs.Lists.{tabulate}
+use Rattle.heap.specs.Packing.{pad, flat, ends, dataAt}
 use Rattle.heap.specs.State.{Slot, State, dataOf}
 use Rattle.heap.specs.declared.Heap.{Heap}
 

@@ -1,23 +1,14 @@
 -- When a heap is well formed (01, "Well formed" and "Added"): tests that other definitions branch on.
-use mathlib.Core.Bool.{Bool, true, false, _&&_, _||_}
+use mathlib.Core.Bool.{Bool, true, _&&_, _||_}
 use mathlib.Core.List.{List, [], _∷_, _++_}
-use Prim.Native.Nat.{ℕ, zero, suc, _+_, _%_}
+use Prim.Native.Nat.{ℕ, suc, _+_, _%_}
 use lib.ListN.{length}
 use lib.Dec.{eqb, ltb, leb}
+use Rattle.word.specs.Lists.{all, allBelow, sameList}
 use Rattle.handle.specs.Handle.{tagOf, indexOf, generationOf}
 use Rattle.heap.specs.State.{Slot, State, slotAt, live, dataSize, bit, times}
 use Rattle.heap.specs.Lent.{Lent, stored, view, slotCount, poolSize}
 use Rattle.heap.specs.declared.Heap.{Heap}
-
--- every entry passes the test
-unfoldable pub all : {A : Type 0} → (A → Bool) → List A → Bool
-all test [] = true
-all test (x ∷ xs) = test x && all test xs
-
--- every number below n passes the test
-unfoldable pub allBelow : (ℕ → Bool) → ℕ → Bool
-allBelow test zero = true
-allBelow test (suc n) = allBelow test n && test n
 
 -- kinds 0 to 3; generations at least 1; kinds 2 and 3 keep type 0; a dead slot has no data, and type, start and writes 0
 unfoldable pub soundSlot : Slot → Bool
@@ -57,13 +48,18 @@ unfoldable pub fits : (S P : ℕ) → State → Bool
 fits S P h =
     leb 1 S && leb S 16777216 && leb P 1073741824 && leb (length (h .slots)) S && leb (dataSize (h .slots)) P
 
--- equal lists, equal lent memory
-unfoldable pub sameList : List ℕ → List ℕ → Bool
-sameList [] [] = true
-sameList [] (y ∷ ys) = false
-sameList (x ∷ xs) [] = false
-sameList (x ∷ xs) (y ∷ ys) = eqb x y && sameList xs ys
+-- S and pool in range, and every other column as long as the generations
+unfoldable pub sizesFit : (generation kind type start end writes pool free quarantine sealed : ℕ) → Bool
+sizesFit g k t s e w p f q x =
+    leb 1 g && leb g 16777216 && leb p 1073741824
+    && eqb k g && eqb t g && eqb s g && eqb e g && eqb w g && eqb f g && eqb q g && eqb x g
 
+abbrev pub inRange : Lent → Bool
+inRange l =
+    sizesFit (slotCount l) (length (l .kind)) (length (l .type)) (length (l .start)) (length (l .end)) (length (l .writes))
+    (poolSize l) (length (l .free)) (length (l .quarantine)) (length (l .sealed))
+
+-- equal headers, equal lent memory
 unfoldable pub sameHeader : Heap → Heap → Bool
 sameHeader a b =
     eqb (a .tag) (b .tag) && eqb (a .«since_gc») (b .«since_gc») && eqb (a .«reclaim_at») (b .«reclaim_at»)

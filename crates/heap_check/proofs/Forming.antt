@@ -8,14 +8,16 @@ use native.Mathlib.Decide.{decLt}
 use lib.ListN.{length, getD, take, drop, length-map, List·getD-eq-default, List·getD-map}
 use lib.Seq.{ext-getD, getD-take, length-take-le, take-add, take-all}
 use lib.Dec.{ltb}
+use Rattle.word.specs.Lists.{tabulate}
+use Rattle.word.proofs.ListLaws.{length-tabulate, getD-tabulate, tabulate-take, map-tabulate}
 use Rattle.heap.specs.declared.Heap.{Heap}
-use Rattle.heap.specs.Packing.{pad, flat, ends, tabulate, startOf, dataAt}
+use Rattle.heap.specs.Packing.{pad, flat, ends, startOf, dataAt}
 use Rattle.heap.specs.Columns.{datas}
 use Rattle.heap.specs.State.{Slot, noSlot, slotAt, dataOf, bit, times}
 use Rattle.heap.proofs.Sound.{Sound, SlotSound, WellFormed}
 use Rattle.heap.specs.Lent.{Lent, lent, stored, view, headerOf, slotIn, slotCount, poolSize}
 use Rattle.heap_check.specs.Checks.{Zeros, Checked, SlotOk}
-use Rattle.heap.proofs.Packing.{length-pad, getD-pad, flat-suc, length-ends, getD-ends, length-tabulate, start-of, end-of}
+use Rattle.heap.proofs.Packing.{length-pad, getD-pad, flat-suc, length-ends, getD-ends, start-of, end-of}
 use Rattle.heap.proofs.Storing.{getD-pad-past, column-any}
 use Rattle.heap.proofs.Changing.{Known, known}
 use Rattle.heap.proofs.Seals.{seals-few}
@@ -31,23 +33,6 @@ pad-take S xs n e h z =
       | yes y ↦ sym (getD-pad S (take n xs) i (omega arith) ∙ getD-take n xs i 0 y)
       | no y ↦ zeros-at n xs z i (omega arith) ∙ sym (getD-pad-past S (take n xs) i (omega arith))
     ])
-
-map-tabulate : {A B : Type 0} (f : A → B) (n : ℕ) (g : ℕ → A) → map f (tabulate n g) ≡ tabulate n (λ i. f (g i))
-unfolding tabulate
-map-tabulate f zero g = refl
-map-tabulate f (suc n) g = ap (λ l. f (g zero) ∷ l) (map-tabulate f n (λ i. g (suc i)))
-
-tabulate-take : (n : ℕ) (xs : List ℕ) → n ≤ length xs → tabulate n (λ i. getD xs i 0) ≡ take n xs
-unfolding tabulate
-tabulate-take zero xs h = refl
-tabulate-take (suc n) [] h = absurd (omega arith)
-tabulate-take (suc n) (x ∷ xs) h = ap (λ (l : List ℕ). x ∷ l) (tabulate-take n xs (omega arith))
-
-pub getD-tabulate : {A : Type 0} (n : ℕ) (f : ℕ → A) (i : ℕ) (d : A) → i < n → getD (tabulate n f) i d ≡ f i
-unfolding tabulate
-getD-tabulate zero f i d h = absurd (omega arith)
-getD-tabulate (suc n) f zero d h = refl
-getD-tabulate (suc n) f (suc i) d h = getD-tabulate n (λ i. f (suc i)) i d (omega arith)
 
 -- ---- data that lie in order
 
@@ -109,7 +94,7 @@ module _ (l : Lent) (k : Checked l) where
       let n : ℕ = l .header .slots in
       let S : ℕ = slotCount l in
       pad-take S xs n e (k .header .slots) z
-      ∙ ap (pad S) (sym (tabulate-take n xs (omega (arith, k .header .slots))) ∙ ap (tabulate n) (λ j i. sym (h i) j) ∙ sym (map-tabulate f n (slotIn l)))
+      ∙ ap (pad S) (sym (tabulate-take n xs 0 (omega (arith, k .header .slots))) ∙ ap (tabulate n) (λ j i. sym (h i) j) ∙ sym (map-tabulate f n (slotIn l)))
 
   data-formed : dataOf (tabulate (l .header .slots) (slotIn l)) ≡ datas (l .header .slots) (l .end) (l .pool)
   unfolding datas slotIn

@@ -7,6 +7,7 @@ use lib.ListN.{length, getD, take}
 use lib.Dec.{ltb}
 use Rattle.memory.specs.Zero.{zeroFrom}
 use Rattle.heap.specs.Packing.{startOf}
+use Rattle.heap.specs.Columns.{EqualSizes}
 use Rattle.heap.specs.State.{bit, times}
 use Rattle.heap.specs.Lent.{Lent}
 use Rattle.heap.specs.WellFormed.{soundSeals}
@@ -28,17 +29,6 @@ pub record HeaderOk (h : Heap) (S P : ℕ) : Type 0 where
   pub reclaim-low : 4096 ≤ h .«reclaim_at»
   pub reclaim-high : h .«reclaim_at» ≤ 33554432
   pub reclaim-even : h .«reclaim_at» % 2 ≡ 0
-
--- the columns' lengths: all S
-pub record LengthsOk (S k t s e w f q x : ℕ) : Type 0 where
-  pub kind : k ≡ S
-  pub type : t ≡ S
-  pub start : s ≡ S
-  pub end : e ≡ S
-  pub writes : w ≡ S
-  pub free : f ≡ S
-  pub quarantine : q ≡ S
-  pub sealed : x ≡ S
 
 -- nothing but zeros from index n on
 abbrev pub Zeros : ℕ → List ℕ → Type 0
@@ -87,7 +77,7 @@ Partition n ks fs qs = (i : ℕ) → bit (ltb 0 (getD ks i 0)) + (times i fs + t
 -- all of them
 pub record Checked (l : Lent) : Type 0 where
   pub header : HeaderOk (l .header) (length (l .generation)) (length (l .pool))
-  pub lengths : LengthsOk (length (l .generation)) (length (l .kind)) (length (l .type)) (length (l .start)) (length (l .end)) (length (l .writes)) (length (l .free)) (length (l .quarantine)) (length (l .sealed))
+  pub lengths : EqualSizes (length (l .generation)) (length (l .kind)) (length (l .type)) (length (l .start)) (length (l .end)) (length (l .writes)) (length (l .free)) (length (l .quarantine)) (length (l .sealed))
   pub unused : UnusedOk (l .header .slots) (l .header .free) (l .header .quarantine) (l .header .sealed) (l .generation) (l .kind) (l .type) (l .start) (l .end) (l .writes) (l .free) (l .quarantine) (l .sealed)
   pub slots : SlotsOk (l .header .slots) (l .generation) (l .kind) (l .type) (l .start) (l .end) (l .writes) (length (l .pool))
   pub pool : Zeros (startOf (l .end) (l .header .slots)) (l .pool)

@@ -5,7 +5,8 @@ ghost use Prim.Native.Nat.{_≤_};
 ghost use lib.ListN.{length, replicate};
 ghost use Rattle.heap.specs.Lent.{lent};
 ghost use Rattle.heap.specs.WellFormed.{wellFormed, soundSeals};
-ghost use Rattle.heap_check.specs.Checks.{Says, HeaderOk, LengthsOk, Zeros, UnusedOk, SlotOk, SlotsOk, Single, Covered, Partition, Marked, Checked};
+ghost use Rattle.heap.specs.Columns.{EqualSizes};
+ghost use Rattle.heap_check.specs.Checks.{Says, HeaderOk, Zeros, UnusedOk, SlotOk, SlotsOk, Single, Covered, Partition, Marked, Checked};
 use heap::Heap;
 
 // The header's numbers in range, for this many lent slots and pool bytes.
@@ -62,7 +63,7 @@ fn lengths_ok(
     q: usize,
     x: usize,
 ) -> bool
-    ensures { λ r. ⌜ Says r (LengthsOk g k t s e w f q x) ⌝ }
+    ensures { λ r. ⌜ Says r (EqualSizes g k t s e w f q x) ⌝ }
 {
     if k != g {
         return false;

@@ -24,13 +24,13 @@ use Rattle.heap.specs.State.{Slot, State, slotAt, live, dataSize}
 use Rattle.heap.specs.Lent.{Lent, lent, stored, view, headerOf, slotCount, poolSize}
 use Rattle.heap.specs.WellFormed.{wellFormed}
 use Rattle.heap.specs.Header.{setCharged, setChanged, setSealed}
-use Rattle.heap.specs.Columns.{CanSplice, Spliced}
+use Rattle.heap.specs.Columns.{CanSplice, Spliced, EqualSizes}
 use Rattle.heap.specs.Done.{Leaves, Does}
 use Rattle.heap.specs.Calls.{Changed, refuse, done, withSlot, charged, changed, rewritten, reissued, resolve, edit, write, reissue, seal, liveHandles, new}
 use Rattle.heap.specs.declared.Heap.{Heap}
 use Rattle.heap.proofs.Keeping.{leaves}
 use Rattle.heap.proofs.Changing.{charge-lies, log-lies}
-use Rattle.heap_edit.specs.Asked.{EqualSizes, CanList, Listed}
+use Rattle.heap_edit.specs.Asked.{CanList, Listed}
 use Rattle.heap_edit.specs.Answers.{seenAt}
 use Rattle.heap_edit.specs.declared.Visible.{Visible}
 use Rattle.heap_edit.specs.declared.Visible.the-variants.{Dead, Hidden, Shown}

@@ -15,17 +15,6 @@ pub record Readable (n : ℕ) (kind start end : List ℕ) : Type 0 where
   pub ends : n ≤ length end
   pub rising : (k : ℕ) → k < n → startOf end k ≤ getD end k 0
 
--- columns of S entries
-pub record EqualSizes (S k t s e w f q x : ℕ) : Type 0 where
-  pub kind : k ≡ S
-  pub type : t ≡ S
-  pub start : s ≡ S
-  pub end : e ≡ S
-  pub writes : w ≡ S
-  pub free : f ≡ S
-  pub quarantine : q ≡ S
-  pub sealed : x ≡ S
-
 -- slot i of n, whose data lies within what all slots use of the room
 pub record CanFit (end : List ℕ) (room n i : ℕ) : Type 0 where
   pub inside : i < n

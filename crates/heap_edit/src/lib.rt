@@ -17,7 +17,8 @@ ghost use Rattle.heap.specs.Calls.{gcDue, reclaimDue, hasQuarantine, isPlain, l
 ghost use Rattle.heap.specs.Calls.{resolve as resolved, edit as edited, write as written, reissue as reissued, seal as sealedBy, new as newHeap};
 ghost use Rattle.heap_edit.specs.Answers.{seenAt, toldPlace, toldKind, toldStamp, toldEdit, toldWrite, toldReissue};
 ghost use Rattle.heap.specs.Done.{Leaves, Does};
-ghost use Rattle.heap_edit.specs.Asked.{Readable, EqualSizes, CanFit, CanList, Listing, Listed};
+ghost use Rattle.heap.specs.Columns.{EqualSizes};
+ghost use Rattle.heap_edit.specs.Asked.{Readable, CanFit, CanList, Listing, Listed};
 
 // ---- What the header alone answers
 

@@ -6,23 +6,23 @@ use Prim.Native.Nat.{ℕ}
 use native.Mathlib.Omega.{arith}
 use lib.ListN.{length}
 use borrow.Author.Tests.{le-leb}
+use Rattle.word.specs.Lists.{all, allBelow}
 use Rattle.word.specs.Result.{Result, ok, refused}
 use Rattle.heap.specs.State.{State}
 use Rattle.heap.specs.Packing.{flat}
 use Rattle.heap.specs.Lent.{Lent, stored, view, slotCount, poolSize}
-use Rattle.heap.specs.WellFormed.{all, allBelow, partitioned, soundSeals, soundReclaim, sound, fits, wellFormed}
+use Rattle.heap.specs.WellFormed.{partitioned, soundSeals, soundReclaim, sound, fits, inRange, wellFormed}
 use Rattle.heap.specs.Calls.{Changed, new}
 use Rattle.heap.proofs.Storing.{view-stored}
-use Rattle.heap.proofs.Testing.{stored-formed}
+use Rattle.heap.proofs.Testing.{stored-formed, sizes-tested}
 use Rattle.heap_door.specs.HeapCalls.{Outcome, outcome, toldWith, enough, zeros, heapAsk, heapCall}
-use Rattle.heap_new.specs.Making.{canHold, newCall}
-use Rattle.heap_new.proofs.Sizes.{sizes-tested}
+use Rattle.heap_new.specs.Making.{newCall}
 
 new-sound : (tag : ℕ) → sound (new tag) ≡ true
 unfolding sound new all partitioned allBelow soundSeals soundReclaim
 new-sound tag = refl
 
-module _ (l : Lent) (tag : ℕ) (h : canHold l ≡ true) where
+module _ (l : Lent) (tag : ℕ) (h : inRange l ≡ true) where
   -- where the heap is made
   abbrev made : Lent
   made = stored (slotCount l) (poolSize l) (new tag)
@@ -45,7 +45,7 @@ module _ (l : Lent) (tag : ℕ) (h : canHold l ≡ true) where
 -- THE CALL
 
 -- `new` on sizes in range, with scratch, succeeds
-pub new-made : (m w : List ℕ) (l : Lent) (tag : ℕ) → enough m w l ≡ true → canHold l ≡ true →
+pub new-made : (m w : List ℕ) (l : Lent) (tag : ℕ) → enough m w l ≡ true → inRange l ≡ true →
     newCall m w l tag ≡ outcome (ok tt) (stored (slotCount l) (poolSize l) (new tag)) (zeros m) (zeros w)
 unfolding newCall
 new-made m w l tag e h = rw (e, h)
@@ -57,9 +57,9 @@ not-ok n e = let z : _≡_ {A = ℕ} 0 1 = cc in omega arith
 pub new-formed : (m w : List ℕ) (l : Lent) (tag : ℕ) → newCall m w l tag .told .answer ≡ ok tt →
     (wellFormed (newCall m w l tag .heap) ≡ true) × (view (newCall m w l tag .heap) ≡ new tag)
 unfolding newCall
-new-formed m w l tag e = go (enough m w l) refl (canHold l) refl e
+new-formed m w l tag e = go (enough m w l) refl (inRange l) refl e
   where
-    go : (a : Bool) → enough m w l ≡ a → (b : Bool) → canHold l ≡ b → newCall m w l tag .told .answer ≡ ok tt →
+    go : (a : Bool) → enough m w l ≡ a → (b : Bool) → inRange l ≡ b → newCall m w l tag .told .answer ≡ ok tt →
         (wellFormed (newCall m w l tag .heap) ≡ true) × (view (newCall m w l tag .heap) ≡ new tag)
     go false ea b eb u = absurd (not-ok 18 (rw ea at u))
     go true ea false eb u = absurd (not-ok 1 (rw (ea, eb) at u))

@@ -7,7 +7,8 @@ ghost use mathlib.Core.Path.{_≡_};
 ghost use Rattle.heap.specs.Lent.{lent};
 ghost use Rattle.heap_door.specs.HeapCalls.{outcome};
 ghost use Rattle.heap_door.specs.HeapTold.{toldEntry};
-ghost use Rattle.heap_new.specs.Making.{rightSizes, noHeader, newCall};
+ghost use Rattle.heap.specs.WellFormed.{sizesFit};
+ghost use Rattle.heap_new.specs.Making.{noHeader, newCall};
 
 // The header that a refusal returns: zeros, which no call takes for a heap.
 fn no_heap() -> Heap
@@ -40,7 +41,7 @@ fn right_sizes(
     q: usize,
     x: usize,
 ) -> bool
-    ensures { λ r. ⌜ r ≡ rightSizes g k t s e w p f q x ⌝ }
+    ensures { λ r. ⌜ r ≡ sizesFit g k t s e w p f q x ⌝ }
 {
     if g < 1 {
         return false;

@@ -8,12 +8,14 @@ use lib.Dec.{ltb}
 use lib.ListN.{length, drop, drop-of-length-le}
 use lib.Seq.{drop-cons}
 use native.Mathlib.Omega.{arith}
+use Rattle.word.specs.Lists.{all}
+use Rattle.word.proofs.ListLaws.{all-append}
 use Rattle.text.specs.Text.{give, readLiteral}
 use Rattle.text.specs.Format.{Format, Right, number, pair, times, afterLiteral, readAll}
 use Rattle.text.proofs.Laws.{times-right, number-right}
 use Rattle.text.proofs.Getting.{suffix}
 use Rattle.heap.specs.State.{Slot, State, dataSize}
-use Rattle.heap.specs.WellFormed.{all, soundSlot, soundSeals, soundReclaim, sound}
+use Rattle.heap.specs.WellFormed.{soundSlot, soundSeals, soundReclaim, sound}
 use Rattle.pages.specs.Page.{Head, headFormat, bodyFormat, slotFormat, pageFormat, readPage, whole, stateOf, heapNames, slotNames, freeName, quarantineName, sealedName}
 use Rattle.pages.proofs.Laws.{slot-right, head-right}
 use Rattle.page_check.specs.Answer.{headAnswer, slotsAnswer, indicesMore, sealsMore}
@@ -203,15 +205,6 @@ module _ (width : ℕ) (s : List ℕ) (k m : ℕ) (l u : List ℕ) (e : readAll 
 
 pub slots-parsed : (s : List ℕ) (k m : ℕ) (l : List Slot) (u : List ℕ) → readAll (slotFormat .read) m (drop k s) ≡ give l u → SlotsParsed s k m
 slots-parsed s k m l u e = record { rest = u; reads = e ∙ ap (λ (x : List Slot). give x u) (sym (slots-are s k m l u e)) }
-
-pub all-append : (t : ℕ → Bool) (xs ys : List ℕ) → all t (xs ++ ys) ≡ (all t xs && all t ys)
-unfolding all
-all-append t [] ys = refl
-all-append t (x ∷ xs) ys = ap (λ (b : Bool). t x && b) (all-append t xs ys) ∙ sym (go (t x) (all t xs) (all t ys))
-  where
-    go : (a b c : Bool) → ((a && b) && c) ≡ (a && (b && c))
-    go true b c = refl
-    go false b c = refl
 
 pub heap-is : (s : List ℕ) (h : State) → readPage s ≡ some h → heapIn s ≡ h
 unfolding heapIn

@@ -5,6 +5,7 @@ use mathlib.Core.Option.{Option, none, some}
 use mathlib.Core.Path.{_≡_, refl, sym, ap, _∙_, subst}
 use mathlib.Core.Bool.{Bool, true, false, _&&_}
 use lib.Dec.{eqb}
+use Rattle.word.proofs.Bools.{and-true, and-assoc}
 use Rattle.page_check.specs.Partition.{expected, agree}
 use lib.ListN.{length, drop, getD, length-drop, drop-of-length-le, replicate}
 use lib.Seq.{drop-cons}
@@ -65,14 +66,6 @@ module _ {A : Type 0} (r : Reader A) (d : A) where
 
 -- AGREEMENT WITH COUNTS
 
-and-regroup : (a b c : Bool) → ((a && b) && c) ≡ (a && (b && c))
-and-regroup true b c = refl
-and-regroup false b c = refl
-
-and-unit : (a : Bool) → (a && true) ≡ a
-and-unit true = refl
-and-unit false = refl
-
 drop-at : (l : List Slot) (i : ℕ) → i < length l → drop i l ≡ getD l i blank ∷ drop (i + 1) l
 drop-at l i h = drop-cons l i blank h ∙ ap (λ (n : ℕ). getD l i blank ∷ drop n l) (sym (add-one i))
 
@@ -80,12 +73,12 @@ pub agree-next : (l : List Slot) (counts : List ℕ) (i : ℕ) (ok b t : Bool) (
     e ≡ expected kind → kind ≡ getD l i blank .kind → t ≡ eqb (getD counts i 0) e → b ≡ (ok && t) → total ≡ (b && agree (drop (i + 1) l) counts (i + 1))
 agree-next l counts i ok b t total kind e h q f g u v =
     q ∙ ap (λ (m : List Slot). ok && agree m counts i) (drop-at l i h)
-    ∙ sym (and-regroup ok (eqb (getD counts i 0) (expected (getD l i blank .kind))) (agree (drop (i + 1) l) counts (i + 1)))
+    ∙ sym (and-assoc ok (eqb (getD counts i 0) (expected (getD l i blank .kind))) (agree (drop (i + 1) l) counts (i + 1)))
     ∙ ap (λ (x : Bool). x && agree (drop (i + 1) l) counts (i + 1))
     (ap (λ (k : ℕ). ok && eqb (getD counts i 0) (expected k)) (sym g) ∙ ap (λ (k : ℕ). ok && eqb (getD counts i 0) k) (sym f) ∙ ap (λ (x : Bool). ok && x) (sym u) ∙ sym v)
 
 pub agree-done : (l : List Slot) (counts : List ℕ) (i : ℕ) (ok total : Bool) → length l ≤ i → total ≡ (ok && agree (drop i l) counts i) → ok ≡ total
-agree-done l counts i ok total h q = sym (q ∙ ap (λ (m : List Slot). ok && agree m counts i) (drop-of-length-le l {i = i} h) ∙ and-unit ok)
+agree-done l counts i ok total h q = sym (q ∙ ap (λ (m : List Slot). ok && agree m counts i) (drop-of-length-le l {i = i} h) ∙ and-true ok)
 
 module _ {A : Type 0} (r : Reader A) where
   done-step : (t : List ℕ) (l : List A) (i : ℕ) (rest : List ℕ) → readAll r zero t ≡ give (drop i l) rest → t ≡ rest

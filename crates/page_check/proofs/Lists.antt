@@ -8,26 +8,20 @@ use lib.Dec.{ltb}
 use lib.ListN.{length, drop, length-drop}
 use native.Mathlib.Omega.{arith}
 use native.Mathlib.Numerals.{add-one}
+use Rattle.word.specs.Lists.{all}
+use Rattle.word.proofs.Bools.{and-true, and-assoc}
 use Rattle.text.specs.Text.{give, _>>=_, digitOf, readField}
 use Rattle.text.specs.Format.{number, readAll}
 use Rattle.text.specs.Answer.{decimalAnswer}
 use Rattle.text.specs.declared.Decimal.{Decimal}
 use Rattle.text.specs.declared.Decimal.the-variants.{Number, NoNumber}
 use Rattle.text.proofs.Getting.{answer-none, field-found}
-use Rattle.heap.specs.WellFormed.{all, soundSeals}
+use Rattle.heap.specs.WellFormed.{soundSeals}
 use Rattle.handle.specs.Handle.{indexOf}
 use Rattle.page_check.specs.Answer.{indicesMore, sealsMore, sealTest}
 use Rattle.page_check.specs.declared.Values.{Values}
 use Rattle.page_check.specs.declared.Values.the-variants.{Good, NoValues}
 use Rattle.page_check.proofs.Reading.{all-none, all-some, all-done}
-
-and-regroup : (a b c : Bool) → ((a && b) && c) ≡ (a && (b && c))
-and-regroup true b c = refl
-and-regroup false b c = refl
-
-and-unit : (a : Bool) → (a && true) ≡ a
-and-unit true = refl
-and-unit false = refl
 
 pub value-found : (s : List ℕ) (width at : ℕ) {r : Decimal} (n k : ℕ) → r ≡ decimalAnswer (length s) (readField (2 ^ width - 1) 10 (drop at s)) → r ≡ Number n k →
     (number width 10 .read (drop at s) ≡ give n (drop k s)) × (k ≤ length s) × (n < 2 ^ width)
@@ -42,14 +36,14 @@ value-none s width at e f = answer-none s (readField (2 ^ width - 1) 10 (drop at
 indices-step : (len n : ℕ) (ok : Bool) (x : ℕ) (o : Option (List ℕ × List ℕ)) → indicesMore len n ok (o >>= λ y. give (x ∷ y .0) (y .1)) ≡ indicesMore len n (ok && ltb x n) o
 unfolding all
 indices-step len n ok x none = refl
-indices-step len n ok x (some r) = ap (λ (b : Bool). Good b (len - length (r .1))) (sym (and-regroup ok (ltb x n) (all (λ i. ltb i n) (r .0))))
+indices-step len n ok x (some r) = ap (λ (b : Bool). Good b (len - length (r .1))) (sym (and-assoc ok (ltb x n) (all (λ i. ltb i n) (r .0))))
 
 seals-step : (len tag n from : ℕ) (ok : Bool) (x : ℕ) (o : Option (List ℕ × List ℕ)) →
     sealsMore len tag n from ok (o >>= λ y. give (x ∷ y .0) (y .1)) ≡ sealsMore len tag n (indexOf x + 1) (ok && sealTest tag n from x) o
 unfolding soundSeals sealTest
 seals-step len tag n from ok x none = refl
 seals-step len tag n from ok x (some r) =
-    rw (add-one (indexOf x)) (ap (λ (b : Bool). Good b (len - length (r .1))) (sym (and-regroup ok (sealTest tag n from x) (soundSeals tag n (suc (indexOf x)) (r .0)))))
+    rw (add-one (indexOf x)) (ap (λ (b : Bool). Good b (len - length (r .1))) (sym (and-assoc ok (sealTest tag n from x) (soundSeals tag n (suc (indexOf x)) (r .0)))))
 
 -- the values that are left, from position k on
 module _ (width : ℕ) (s : List ℕ) (k i count : ℕ) where
@@ -68,7 +62,7 @@ module _ (s : List ℕ) (n : ℕ) (ok : Bool) (k i count : ℕ) {now : Values} (
   pub indices-done : count ≤ i → k ≤ length s → Good ok k ≡ now
   unfolding all
   indices-done h l =
-      (λ j. Good (sym (and-unit ok) j) ((let v : k ≡ length s - length (drop k s) = omega (arith, length-drop k s) in v) j))
+      (λ j. Good (sym (and-true ok) j) ((let v : k ≡ length s - length (drop k s) = omega (arith, length-drop k s) in v) j))
       ∙ sym (e ∙ ap (indicesMore (length s) n ok) (all-done (number 32 10 .read) i count (drop k s) h))
 
 module _ (s : List ℕ) (tag n from : ℕ) (ok : Bool) (k i count : ℕ) {now : Values} (e : now ≡ sealsMore (length s) tag n from ok (left 64 s k i count)) where
@@ -85,5 +79,5 @@ module _ (s : List ℕ) (tag n from : ℕ) (ok : Bool) (k i count : ℕ) {now : 
   pub seals-done : count ≤ i → k ≤ length s → Good ok k ≡ now
   unfolding soundSeals
   seals-done h l =
-      (λ j. Good (sym (and-unit ok) j) ((let v : k ≡ length s - length (drop k s) = omega (arith, length-drop k s) in v) j))
+      (λ j. Good (sym (and-true ok) j) ((let v : k ≡ length s - length (drop k s) = omega (arith, length-drop k s) in v) j))
       ∙ sym (e ∙ ap (sealsMore (length s) tag n from ok) (all-done (number 64 10 .read) i count (drop k s) h))

@@ -10,6 +10,7 @@ use lib.Seq.{drop-drop}
 use native.Mathlib.Omega.{arith}
 use native.Mathlib.Nat.{zero-add, add-zero}
 use borrow.Author.Tests.{ne-eqb, le-ltb}
+use Rattle.word.proofs.Bools.{and-true, and-assoc}
 use Rattle.text.specs.Text.{give, Reader, _>>=_}
 use Rattle.text.specs.Format.{readAll, times}
 use Rattle.text.proofs.Laws.{bind-some, some-inj, times-right}
@@ -65,17 +66,13 @@ agrees dead counts n base c (x ∷ l) i h =
     ∙ ap (λ (b : Bool). eqb (wf.times (base + i) dead) (expected (x .kind)) && b)
     (agrees dead counts n base c l (i + 1) (omega arith) ∙ ap (eachOnce dead l) (let v : base + (i + 1) ≡ base + i + 1 = omega arith in v))
 
-and-regroup : (a b c : Bool) → ((a && b) && c) ≡ (a && (b && c))
-and-regroup true b c = refl
-and-regroup false b c = refl
-
 once-append : (dead : List ℕ) (xs ys : List Slot) (i : ℕ) → eachOnce dead (xs ++ ys) i ≡ (eachOnce dead xs i && eachOnce dead ys (i + length xs))
 unfolding eachOnce
 once-append dead [] ys i = ap (eachOnce dead ys) (sym (add-zero i))
 once-append dead (x ∷ xs) ys i =
     ap (λ (b : Bool). eqb (wf.times i dead) (expected (x .kind)) && b)
     (once-append dead xs ys (i + 1) ∙ ap (λ (n : ℕ). eachOnce dead xs (i + 1) && eachOnce dead ys n) (let v : i + 1 + length xs ≡ i + suc (length xs) = omega arith in v))
-    ∙ sym (and-regroup (eqb (wf.times i dead) (expected (x .kind))) (eachOnce dead xs (i + 1)) (eachOnce dead ys (i + suc (length xs))))
+    ∙ sym (and-assoc (eqb (wf.times i dead) (expected (x .kind))) (eachOnce dead xs (i + 1)) (eachOnce dead ys (i + suc (length xs))))
 
 -- reading a + b lines is reading a, then b
 module _ {A : Type 0} (r : Reader A) where
@@ -147,13 +144,9 @@ once-next dead counts size base m n s k l rest ok good b total p h c e g v =
     ∙ ap (λ (y : ℕ). eachOnce dead chunk base && eachOnce dead (drop (base + m) l) (base + y)) (p .count) in
     let y : good ≡ eachOnce dead chunk base =
     g ∙ ap (λ (z : List Slot). agree z counts 0) (p .slots) ∙ agrees dead counts size base c chunk 0 (omega (arith, p .count)) ∙ ap (eachOnce dead chunk) (add-zero base) in
-    e ∙ ap (λ (z : Bool). ok && z) x ∙ sym (and-regroup ok (eachOnce dead chunk base) (eachOnce dead (drop (base + m) l) (base + m)))
+    e ∙ ap (λ (z : Bool). ok && z) x ∙ sym (and-assoc ok (eachOnce dead chunk base) (eachOnce dead (drop (base + m) l) (base + m)))
     ∙ ap (λ (z : Bool). (ok && z) && eachOnce dead (drop (base + m) l) (base + m)) (sym y) ∙ ap (λ (z : Bool). z && eachOnce dead (drop (base + m) l) (base + m)) (sym v)
 
 pub once-done : (dead : List ℕ) (l : List Slot) (base : ℕ) (ok total : Bool) → length l ≤ base → total ≡ (ok && eachOnce dead (drop base l) base) → ok ≡ total
 unfolding eachOnce
-once-done dead l base ok total h e = sym (e ∙ ap (λ (x : List Slot). ok && eachOnce dead x base) (drop-of-length-le l {i = base} h) ∙ go ok)
-  where
-    go : (a : Bool) → (a && true) ≡ a
-    go true = refl
-    go false = refl
+once-done dead l base ok total h e = sym (e ∙ ap (λ (x : List Slot). ok && eachOnce dead x base) (drop-of-length-le l {i = base} h) ∙ and-true ok)

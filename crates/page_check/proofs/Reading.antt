@@ -7,6 +7,8 @@ use mathlib.Core.Bool.{Bool, true, false, _&&_}
 use native.Mathlib.Nat.{zero-add}
 use lib.ListN.{length, drop, length-drop, length-append}
 use native.Mathlib.Omega.{arith}
+use Rattle.word.specs.Lists.{all}
+use Rattle.word.proofs.Bools.{and-true, and-assoc}
 use Rattle.text.specs.Text.{give, Reader, decimal, _>>=_, digitOf, readField, readHex}
 use Rattle.text.specs.Format.{number, bytesLine, pair, mapped, readAll}
 use Rattle.text.specs.Answer.{decimalAnswer}
@@ -15,7 +17,7 @@ use Rattle.text.specs.declared.Decimal.the-variants.{Number, NoNumber}
 use Rattle.text.proofs.Getting.{answer-none, field-found, suffix}
 use Rattle.pages.proofs.Laws.{slot-right, slot-prints, Fields-good}
 use Rattle.pages.proofs.Writing.{slot-length-decimal}
-use Rattle.heap.specs.WellFormed.{all, soundSlot}
+use Rattle.heap.specs.WellFormed.{soundSlot}
 use Rattle.page_check.specs.declared.SlotLine.{SlotLine}
 use Rattle.page_check.specs.declared.SlotRead.{SlotRead}
 use Rattle.page_check.specs.declared.Slots.{Slots}
@@ -88,14 +90,6 @@ line-there s g k t p w n f bs o e l h =
 pub data-cons : (y : Slot) (l : List Slot) → dataSize (y ∷ l) ≡ length (y .bytes) + dataSize l
 unfolding flat
 data-cons y l = length-append (y .bytes) (flat (dataOf l))
-
-and-assoc : (a b c : Bool) → ((a && b) && c) ≡ (a && (b && c))
-and-assoc true b c = refl
-and-assoc false b c = refl
-
-and-true : (a : Bool) → (a && true) ≡ a
-and-true true = refl
-and-true false = refl
 
 pub slots-begin : (len : ℕ) (o : Option (List Slot × List ℕ)) → slotsAnswer len o ≡ slotsMore len true 0 o
 slots-begin len none = refl

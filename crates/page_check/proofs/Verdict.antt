@@ -9,11 +9,13 @@ use lib.ListN.{length, getD, replicate}
 use native.Mathlib.Omega.{arith}
 use native.Mathlib.Nat.{zero-add, add-zero}
 use borrow.Author.Tests.{eqb-true, eq-eqb, lt-ltb, le-ltb}
+use Rattle.word.specs.Lists.{all, allBelow}
 use Rattle.word.specs.Choice.{if_then_else_}
 use Rattle.word.specs.Result.{refused}
-use Rattle.word.proofs.Bools.{bool-ext}
+use Rattle.word.proofs.Bools.{bool-ext, and-true, and-false}
+use Rattle.word.proofs.ListLaws.{below-same, below-front}
 use Rattle.heap.specs.State.{Slot, State, noSlot, slotAt, live, bit, times}
-use Rattle.heap.specs.WellFormed.{all, allBelow, places, partitioned, soundSlot, soundSeals, soundReclaim, sound}
+use Rattle.heap.specs.WellFormed.{places, partitioned, soundSlot, soundSeals, soundReclaim, sound}
 use Rattle.pages.specs.Page.{readPage}
 use Rattle.heap.proofs.Counting.{times-append}
 use Rattle.page_check.specs.Partition.{valuesAt, expected, eachOnce}
@@ -22,25 +24,6 @@ use Rattle.page_check.specs.Sections.{heapIn, Sectioned, Parsing, verdic
 use Rattle.page_check.specs.declared.Parsed.{Parsed}
 use Rattle.page_check.specs.declared.Parsed.the-variants.{Page, NotPage}
 use Rattle.page_check.specs.declared.Sections.{Sections}
-
-and-assoc : (a b c : Bool) → ((a && b) && c) ≡ (a && (b && c))
-and-assoc true b c = refl
-and-assoc false b c = refl
-
-and-true : (a : Bool) → (a && true) ≡ a
-and-true true = refl
-and-true false = refl
-
--- the first number tested first
-below-front : (t : ℕ → Bool) (n : ℕ) → allBelow t (suc n) ≡ (t 0 && allBelow (λ i. t (suc i)) n)
-unfolding allBelow
-below-front t zero = sym (and-true (t 0))
-below-front t (suc n) = ap (λ (b : Bool). b && t (suc n)) (below-front t n) ∙ and-assoc (t 0) (allBelow (λ i. t (suc i)) n) (t (suc n))
-
-below-same : (t u : ℕ → Bool) (n : ℕ) → ((i : ℕ) → t i ≡ u i) → allBelow t n ≡ allBelow u n
-unfolding allBelow
-below-same t u zero h = refl
-below-same t u (suc n) h = (λ j. below-same t u n h j && h n j)
 
 -- slot by slot from index i on
 abbrev rightly : (dead : List ℕ) → List Slot → (i j : ℕ) → Bool
@@ -52,7 +35,7 @@ once-below dead [] i = refl
 once-below dead (x ∷ l) i =
     ap (λ (b : Bool). eqb (times i dead) (expected (x .kind)) && b) (once-below dead l (i + 1))
     ∙ (λ k. eqb (times (sym (add-zero i) k) dead) (expected (x .kind))
-    && below-same (rightly dead l (i + 1)) (λ j. rightly dead (x ∷ l) i (suc j)) (length l) (λ j. ap (λ (m : ℕ). eqb (times m dead) (expected (getD l j noSlot .kind))) (let e : i + 1 + j ≡ i + suc j = omega arith in e)) k)
+    && below-same (rightly dead l (i + 1)) (λ j. rightly dead (x ∷ l) i (suc j)) (length l) (λ j u. ap (λ (m : ℕ). eqb (times m dead) (expected (getD l j noSlot .kind))) (let e : i + 1 + j ≡ i + suc j = omega arith in e)) k)
     ∙ sym (below-front (rightly dead (x ∷ l) i) (length l))
 
 -- a live slot stands in no list, a dead one once: it is in one place
@@ -64,16 +47,12 @@ pub once-places : (h : State) → eachOnce (h .free ++ h .quarantine) (h .slots)
 once-places h =
     once-below (h .free ++ h .quarantine) (h .slots) 0
     ∙ below-same (rightly (h .free ++ h .quarantine) (h .slots) 0) (λ i. eqb (places h i) 1) (length (h .slots))
-    (λ i. ap (λ (n : ℕ). eqb n (expected (slotAt h i .kind))) (ap (λ (m : ℕ). times m (h .free ++ h .quarantine)) (zero-add i) ∙ times-append i (h .free) (h .quarantine))
+    (λ i u. ap (λ (n : ℕ). eqb n (expected (slotAt h i .kind))) (ap (λ (m : ℕ). times m (h .free ++ h .quarantine)) (zero-add i) ∙ times-append i (h .free) (h .quarantine))
     ∙ in-one (live (slotAt h i)) (times i (h .free) + times i (h .quarantine)))
 
 regroup : (a p i s r : Bool) → ((a && i && s && r) && p) ≡ (a && (p && i) && s && r)
 regroup true true i s r = and-true (i && s && r)
-regroup true false i s r = go (i && s && r)
-  where
-    go : (b : Bool) → (b && false) ≡ false
-    go true = refl
-    go false = refl
+regroup true false i s r = and-false (i && s && r)
 regroup false p i s r = refl
 
 module _ (s : List ℕ) (x : Sections) (p : Sectioned s x) where

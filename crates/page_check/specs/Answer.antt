@@ -5,8 +5,9 @@ use mathlib.Core.Option.{Option, none, some}
 use mathlib.Core.Bool.{Bool, not, _&&_, _||_}
 use lib.Dec.{leb, ltb, eqb}
 use lib.ListN.{length}
+use Rattle.word.specs.Lists.{all}
 use Rattle.heap.specs.State.{dataSize, Slot, State}
-use Rattle.heap.specs.WellFormed.{all, soundSlot, soundSeals, sound}
+use Rattle.heap.specs.WellFormed.{soundSlot, soundSeals, sound}
 use Rattle.word.specs.Choice.{if_then_else_}
 use Rattle.handle.specs.Handle.{tagOf, indexOf, generationOf}
 use Rattle.pages.specs.Page.{Head}

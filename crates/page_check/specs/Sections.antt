@@ -6,11 +6,12 @@ use mathlib.Core.Bool.{Bool, _&&_}
 use mathlib.Core.Path.{_≡_}
 use lib.Dec.{ltb}
 use lib.ListN.{length}
+use Rattle.word.specs.Lists.{all}
 use Rattle.heap.specs.State.{State, dataSize}
 use Rattle.heap.specs.Calls.{new}
 use Rattle.word.specs.Choice.{if_then_else_}
 use Rattle.word.specs.Result.{Result, ok, refused}
-use Rattle.heap.specs.WellFormed.{all, soundSlot, soundSeals, soundReclaim, sound}
+use Rattle.heap.specs.WellFormed.{soundSlot, soundSeals, soundReclaim, sound}
 use Rattle.pages.specs.Page.{readPage}
 use Rattle.page_check.specs.Partition.{valuesAt, ValuesParsed}
 use Rattle.page_check.specs.Filling.{slotsAt, SlotsParsed}

@@ -13,7 +13,7 @@ use Rattle.word.proofs.Bools.{true-false}
 use Rattle.heap.specs.State.{Slot, State, dataOf, dataSize}
 use Rattle.heap.specs.Packing.{pad, ends}
 use Rattle.heap.specs.Lent.{Lent, stored, view, slotCount, poolSize}
-use Rattle.heap.specs.WellFormed.{partitioned, sound, fits, wellFormed}
+use Rattle.heap.specs.WellFormed.{partitioned, sound, fits, sizesFit, inRange, wellFormed}
 use Rattle.heap.proofs.Sound.{WellFormed}
 use Rattle.heap.proofs.Packing.{length-pad, length-ends}
 use Rattle.heap.proofs.Counting.{all-slots}
@@ -22,7 +22,7 @@ use Rattle.heap.proofs.Testing.{stored-formed, formed-tested}
 use Rattle.pages.specs.Page.{pageText, Within, readPage}
 use Rattle.pages.proofs.Laws.{read-written}
 use Rattle.page_check.specs.Sections.{verdict}
-use Rattle.page_reader.specs.Reading.{sizesFit, inRange, reply, readInto}
+use Rattle.page_reader.specs.Reading.{reply, readInto}
 use Rattle.page_reader.proofs.Loaded.{not-ok, passed}
 use Rattle.page_laws.specs.Trips.{unlogged, Room, SameSizes}
 

@@ -5,12 +5,13 @@ use mathlib.Core.List.{List, [], _∷_}
 use mathlib.Core.Path.{_≡_}
 use lib.ListN.{length, getD, take, drop, length-take}
 use native.Mathlib.Omega.{arith}
+use Rattle.word.specs.Lists.{tabulate}
+use Rattle.word.proofs.ListLaws.{length-tabulate}
 use Rattle.text.specs.Text.{Bytes}
 use Rattle.text.specs.Format.{All}
-use Rattle.heap.specs.Packing.{tabulate, startOf, dataAt}
+use Rattle.heap.specs.Packing.{startOf, dataAt}
 use Rattle.heap.specs.Lent.{Lent, slotIn, view}
 use Rattle.heap.specs.WellFormed.{wellFormed}
-use Rattle.heap.proofs.Packing.{length-tabulate}
 use Rattle.pages.specs.Page.{SlotWithin, Within}
 use Rattle.pages.specs.Columns.{Ready}
 use Rattle.pages.proofs.Ready.{ready}

@@ -7,8 +7,7 @@ use lib.ListN.{length, drop, replicate}
 use Rattle.heap.specs.State.{State, dataSize, withEpoch}
 use Rattle.heap.specs.Header.{setEpoch}
 use Rattle.heap.specs.Lent.{Lent, lent, stored, view, slotCount, poolSize}
-use Rattle.heap.specs.WellFormed.{wellFormed}
-use Rattle.page_reader.specs.Reading.{inRange}
+use Rattle.heap.specs.WellFormed.{inRange, wellFormed}
 use Rattle.yexwalu.specs.declared.page.Written.{Written}
 use Rattle.yexwalu.specs.declared.page.Written.the-variants as written
 use Rattle.yexwalu.specs.declared.page.Read.{Read}

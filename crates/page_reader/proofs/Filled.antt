@@ -12,6 +12,7 @@ use Rattle.word.proofs.PutLaws.{put-put}
 use Rattle.heap.specs.State.{Slot, dataOf, dataSize}
 use Rattle.heap.specs.Packing.{flat, ends}
 use Rattle.pages.proofs.Writing.{blank}
+use Rattle.page_check.proofs.Reading.{data-cons}
 
 -- COLUMNS
 
@@ -54,10 +55,6 @@ pub ends-length : (from : ℕ) (l : List Slot) → length (ends from (dataOf l))
 unfolding ends
 ends-length from [] = refl
 ends-length from (y ∷ l) = ap suc (ends-length (from + length (y .bytes)) l)
-
-pub data-cons : (y : Slot) (l : List Slot) → dataSize (y ∷ l) ≡ length (y .bytes) + dataSize l
-unfolding flat
-data-cons y l = length-append (y .bytes) (flat (dataOf l))
 
 pub data-snoc : (l : List Slot) (x : Slot) → dataSize (l ++ (x ∷ [])) ≡ dataSize l + length (x .bytes)
 unfolding flat

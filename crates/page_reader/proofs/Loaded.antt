@@ -4,17 +4,18 @@ use mathlib.Core.List.{List}
 use mathlib.Core.Bool.{Bool, true, false, _&&_}
 use mathlib.Core.Option.{Option, none, some}
 use mathlib.Core.Path.{_≡_, refl, sym, ap, _∙_, subst}
-use lib.Dec.{leb, ltb, eqb}
+use lib.Dec.{ltb}
 use lib.ListN.{length}
 use native.Mathlib.Omega.{arith}
-use borrow.Author.Tests.{leb-true, ltb-false, eqb-true}
+use borrow.Author.Tests.{ltb-false}
 use Rattle.word.specs.Result.{Result, ok, refused}
 use Rattle.word.proofs.Bools.{and-both}
 use Rattle.heap.specs.State.{State, dataOf, dataSize}
 use Rattle.heap.specs.Packing.{pad, flat, ends}
 use Rattle.heap.specs.Lent.{Lent, lent, headerOf, stored, column, slotCount, poolSize}
-use Rattle.heap.specs.WellFormed.{sound}
+use Rattle.heap.specs.WellFormed.{sound, sizesFit, inRange}
 use Rattle.heap.specs.declared.Heap.{Heap}
+use Rattle.heap.proofs.Testing.{sizes-tested}
 use Rattle.pages.specs.Page.{readPage}
 use Rattle.pages.proofs.Bound.{parts, dead-length, sealed-length}
 use Rattle.page_check.specs.Filling.{slotsAt}
@@ -24,7 +25,7 @@ use Rattle.page_check.specs.declared.Sections.{Sections}
 use Rattle.page_check.specs.declared.Checked.{Checked}
 use Rattle.page_check.specs.declared.Checked.the-variants as checked
 use Rattle.page_reader.specs.Columns.{Roomy}
-use Rattle.page_reader.specs.Reading.{sizesFit, inRange, readInto, told, PageRead}
+use Rattle.page_reader.specs.Reading.{readInto, told, PageRead}
 use Rattle.page_reader.specs.declared.Reading.{Reading}
 use Rattle.page_reader.specs.declared.Reading.the-variants.{Done, NotPage, Broken, NoRoom, Full}
 
@@ -52,54 +53,8 @@ module _ (s : List ℕ) (x : Sections) (g k t b e w p f q z : List ℕ) (c : Sec
 
 -- THE ANSWER
 
--- what the tests of the lent sizes say
-record Sizes (g k t b e w p f q z : ℕ) : Type 0 where
-  some : 1 ≤ g
-  kind : k ≡ g
-  type : t ≡ g
-  start : b ≡ g
-  end : e ≡ g
-  writes : w ≡ g
-  free : f ≡ g
-  quarantine : q ≡ g
-  sealed : z ≡ g
-
-sizes : (g k t b e w p f q z : ℕ) → sizesFit g k t b e w p f q z ≡ true → Sizes g k t b e w p f q z
-unfolding sizesFit
-sizes g k t b e w p f q z h =
-    let x2 : Bool = leb 1 g && leb g 16777216 in
-    let x3 : Bool = x2 && leb p 1073741824 in
-    let x4 : Bool = x3 && eqb k g in
-    let x5 : Bool = x4 && eqb t g in
-    let x6 : Bool = x5 && eqb b g in
-    let x7 : Bool = x6 && eqb e g in
-    let x8 : Bool = x7 && eqb w g in
-    let x9 : Bool = x8 && eqb f g in
-    let x10 : Bool = x9 && eqb q g in
-    let p1 = and-both x10 (eqb z g) h in
-    let p2 = and-both x9 (eqb q g) (p1 .0) in
-    let p3 = and-both x8 (eqb f g) (p2 .0) in
-    let p4 = and-both x7 (eqb w g) (p3 .0) in
-    let p5 = and-both x6 (eqb e g) (p4 .0) in
-    let p6 = and-both x5 (eqb b g) (p5 .0) in
-    let p7 = and-both x4 (eqb t g) (p6 .0) in
-    let p8 = and-both x3 (eqb k g) (p7 .0) in
-    let p9 = and-both x2 (leb p 1073741824) (p8 .0) in
-    let p10 = and-both (leb 1 g) (leb g 16777216) (p9 .0) in
-    record {
-      some = leb-true 1 g (p10 .0);
-      kind = eqb-true k g (p8 .1);
-      type = eqb-true t g (p7 .1);
-      start = eqb-true b g (p6 .1);
-      end = eqb-true e g (p5 .1);
-      writes = eqb-true w g (p4 .1);
-      free = eqb-true f g (p3 .1);
-      quarantine = eqb-true q g (p2 .1);
-      sealed = eqb-true z g (p1 .1);
-    }
-
 pub sizes-some : (g k t b e w p f q z m : ℕ) {r : Bool} → r ≡ sizesFit g k t b e w p f q z → g ≤ m → r ≡ true → 1 ≤ m
-sizes-some g k t b e w p f q z m v h d = omega (arith, sizes g k t b e w p f q z (sym v ∙ d) .some)
+sizes-some g k t b e w p f q z m v h d = omega (arith, sizes-tested g k t b e w p f q z (sym v ∙ d) .low)
 
 -- what a text has passed that is accepted
 pub record Passed (r : Bool) (S P : ℕ) (o : Option State) (h : State) : Type 0 where
@@ -134,20 +89,20 @@ pub roomy : (s : List ℕ) (g k t b e w p f q z : ℕ) (x : Sections) {r : Bool}
     Roomy g k t b e w p f q z (heapIn s)
 roomy s g k t b e w p f q z x {r} v a =
     let d = passed r g p (readPage s) (heapIn s) (a .verdict) in
-    let n = sizes g k t b e w p f q z (sym v ∙ d .sizes) in
+    let n = sizes-tested g k t b e w p f q z (sym v ∙ d .sizes) in
     let u = parts (heapIn s) (d .sound) in
     let o = dead-length (heapIn s) (u .partition) in
     let j = sealed-length (heapIn s) (u .seals) in
     let m = d .slots in
     record {
-      kindSize = n .kind;
-      typeSize = n .type;
-      startSize = n .start;
-      endSize = n .end;
-      writesSize = n .writes;
-      freeSize = n .free;
-      quarantineSize = n .quarantine;
-      sealedSize = n .sealed;
+      kindSize = n .equal .kind;
+      typeSize = n .equal .type;
+      startSize = n .equal .start;
+      endSize = n .equal .end;
+      writesSize = n .equal .writes;
+      freeSize = n .equal .free;
+      quarantineSize = n .equal .quarantine;
+      sealedSize = n .equal .sealed;
       slots = m;
       bytes = d .room;
       freeRoom = omega arith;

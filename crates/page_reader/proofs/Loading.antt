@@ -4,27 +4,23 @@ use mathlib.Core.List.{List, _++_}
 use mathlib.Core.Path.{_≡_, sym, ap, _∙_}
 use lib.ListN.{length, drop, replicate}
 use native.Mathlib.Omega.{arith}
-use native.Mathlib.Nat.{zero-add, sub-zero}
+use native.Mathlib.Nat.{zero-add}
 use Rattle.word.proofs.PutLaws.{put-all}
 use Rattle.text.specs.Put.{putText}
 use Rattle.heap.specs.Packing.{pad}
 use Rattle.heap.specs.Lent.{headerOf}
 use Rattle.heap.specs.declared.Heap.{Heap}
+use Rattle.heap.proofs.Packing.{drop-replicate}
 use Rattle.pages.specs.Page.{Unsaved}
 use Rattle.pages.proofs.Laws.{written-read}
 use Rattle.page_check.specs.Sections.{heapIn, Sectioned}
 use Rattle.page_check.specs.declared.Sections.{Sections}
 
-drop-zeros : (k n : ℕ) → drop {A = ℕ} k (replicate n 0) ≡ replicate (n - k) 0
-drop-zeros zero n = ap (λ (m : ℕ). replicate m 0) (sym (sub-zero n))
-drop-zeros (suc k) zero = ap (λ (m : ℕ). replicate m 0) (let e : 0 ≡ 0 - suc k = omega arith in e)
-drop-zeros (suc k) (suc n) = drop-zeros k n ∙ ap (λ (m : ℕ). replicate m 0) (let e : n - k ≡ suc n - suc k = omega arith in e)
-
 pub padded : (a b c xs : List ℕ) → b ≡ replicate (length a) 0 → c ≡ putText b 0 xs → c ≡ pad (length a) xs
 unfolding pad
 padded a b c xs e f =
     f ∙ ap (λ (z : List ℕ). putText z 0 xs) e ∙ put-all (replicate (length a) 0) 0 xs
-    ∙ ap (λ (n : ℕ). xs ++ drop n (replicate (length a) 0)) (zero-add (length xs)) ∙ ap (λ (z : List ℕ). xs ++ z) (drop-zeros (length xs) (length a))
+    ∙ ap (λ (n : ℕ). xs ++ drop n (replicate (length a) 0)) (zero-add (length xs)) ∙ ap (λ (z : List ℕ). xs ++ z) (drop-replicate (length xs) (length a) 0)
 
 -- room is kept by a call that keeps the length
 pub still : (n : ℕ) (a b : List ℕ) → n ≤ length a → length b ≡ length a → n ≤ length b

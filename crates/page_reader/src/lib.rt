@@ -15,9 +15,10 @@ ghost use Rattle.page_check.specs.Partition.{valuesAt, ValuesParsed};
 ghost use Rattle.page_check.specs.Filling.{slotsAt, SlotsParsed};
 ghost use Rattle.heap.specs.Packing.{pad, ends};
 ghost use Rattle.heap.specs.Lent.{lent, headerOf, stored, column};
+ghost use Rattle.heap.specs.WellFormed.{sizesFit};
 ghost use Rattle.page_check.specs.Sections.{heapIn, Sectioned};
 ghost use Rattle.page_reader.specs.Columns.{filled, filledEnds, Roomy};
-ghost use Rattle.page_reader.specs.Reading.{sizesFit, PageRead};
+ghost use Rattle.page_reader.specs.Reading.{PageRead};
 
 // Fills the columns of numbers from the lines of `count` slots that stand from `at` on.
 fn fill_slots(

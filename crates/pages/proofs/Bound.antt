@@ -9,13 +9,14 @@ use borrow.Author.Tests.{lt-ltb, le-ltb}
 use Rattle.text.specs.Text.{ascii, decimal, line}
 use Rattle.text.specs.Format.{All}
 use Rattle.text.proofs.Laws.{decimal-length, hex-length}
+use Rattle.word.specs.Lists.{all}
 use Rattle.word.proofs.Bools.{and-both}
 use Rattle.heap.proofs.Counting.{sum, sum-add, sum-same, sum-ones, times-append, times-length}
 use Rattle.heap.proofs.Seals.{seals-few}
 use Rattle.heap.proofs.Testing.{parts-tested}
 use Rattle.heap.specs.State.{Slot, State, dataOf, dataSize, times, slotAt, live, bit}
 use Rattle.heap.specs.Packing.{flat}
-use Rattle.heap.specs.WellFormed.{all, partitioned, soundSlot, soundSeals, soundReclaim, sound}
+use Rattle.heap.specs.WellFormed.{partitioned, soundSlot, soundSeals, soundReclaim, sound}
 use Rattle.pages.specs.Page.{slotLine, valueLine, heapNames, slotNames, freeName, quarantineName, sealedName, numbersLine, heapLine, pageText, SlotWithin, Within}
 
 -- numbers of each width

@@ -5,6 +5,7 @@ use mathlib.Core.Bool.{true}
 use mathlib.Core.Path.{_≡_, ap, _∙_}
 use lib.ListN.{length, getD, take, drop, length-append, length-take, length-map}
 use native.Mathlib.Omega.{arith}
+use Rattle.word.proofs.ListLaws.{length-tabulate}
 use Rattle.heap.specs.State.{Slot, dataOf}
 use Rattle.heap.specs.Packing.{pad, flat, ends, startOf}
 use Rattle.heap.specs.Lent.{Lent, lent, headerOf, stored, view, slotCount, poolSize}
@@ -14,7 +15,7 @@ use Rattle.heap.proofs.Sound.{WellFormed}
 use Rattle.heap.proofs.Testing.{formed-tested}
 use Rattle.heap.proofs.Counting.{all-slots}
 use Rattle.heap.proofs.Seals.{seals-few}
-use Rattle.heap.proofs.Packing.{length-pad, length-ends, length-tabulate, flat-split, start-of, end-of}
+use Rattle.heap.proofs.Packing.{length-pad, length-ends, flat-split, start-of, end-of}
 use Rattle.pages.specs.Columns.{columns, Laid, Ready}
 
 -- the data of the slots lies in order, inside the pool

@@ -7,14 +7,14 @@ use lib.Seq.{take-suc, take-all}
 use native.Mathlib.Omega.{arith}
 use native.Mathlib.Numerals.{add-one}
 use Rattle.text.specs.Text.{decimal, hex, line}
-use Rattle.heap.proofs.Packing.{length-tabulate}
+use Rattle.word.proofs.ListLaws.{length-tabulate, getD-tabulate}
 use Rattle.text.specs.Put.{putText, Puts}
 use Rattle.text.proofs.Laws.{hex-length}
 use Rattle.text.proofs.Putting.{puts-puts, puts-byte, puts-length, puts-at}
 use Rattle.heap.specs.State.{Slot}
 use Rattle.pages.specs.Page.{valueLine, slotLine, numbersLine}
 use Rattle.heap.specs.Lent.{Lent, slotIn}
-use Rattle.heap.specs.Packing.{tabulate, startOf, dataAt}
+use Rattle.heap.specs.Packing.{startOf, dataAt}
 use Rattle.pages.specs.Columns.{slot, slotsIn, Laid}
 
 module _ {A : Type 0} (f : A → List ℕ) where
@@ -100,21 +100,11 @@ module _ {a b1 b2 b3 b4 b5 b6 : List ℕ} {at k1 k2 k3 k4 k5 k6 : ℕ} (g k t s 
 
 -- SLOTS IN COLUMNS
 
-getD-tabulate : {A : Type 0} (n : ℕ) (f : ℕ → A) (j : ℕ) (d : A) → j < n → getD (tabulate n f) j d ≡ f j
-unfolding tabulate
-getD-tabulate zero f j d h = absurd (omega arith)
-getD-tabulate (suc n) f zero d h = refl
-getD-tabulate (suc n) f (suc j) d h = getD-tabulate n (λ i. f (suc i)) j d (omega arith)
-
 pub slots-length : (c : Lent) (n : ℕ) → length (slotsIn c n) ≡ n
 slots-length c n = length-tabulate n (slotIn c)
 
 pub slot-at : (c : Lent) (n j : ℕ) (d : Slot) → j < n → getD (slotsIn c n) j d ≡ slotIn c j
 slot-at c n j d h = getD-tabulate n (slotIn c) j d h
-
-pub start-next : (ends : List ℕ) (i : ℕ) → getD ends i 0 ≡ startOf ends (i + 1)
-unfolding startOf
-start-next ends i = rw (add-one i)
 
 abbrev pub blank : Slot
 blank = slot 0 0 0 0 0 []

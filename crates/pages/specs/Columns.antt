@@ -2,9 +2,10 @@
 use Prim.Native.Nat.{ℕ, _≤_, _<_}
 use mathlib.Core.List.{List, []}
 use lib.ListN.{length, getD}
+use Rattle.word.specs.Lists.{tabulate}
 use Rattle.heap.specs.State.{Slot}
 use Rattle.heap.specs.Calls.{new}
-use Rattle.heap.specs.Packing.{tabulate, startOf}
+use Rattle.heap.specs.Packing.{startOf}
 use Rattle.heap.specs.Lent.{Lent, lent, headerOf, slotIn}
 
 -- lent memory of which the slots' columns alone are looked at

@@ -18,8 +18,8 @@ use Rattle.rows.specs.Row.{bitIn, part, listed}
 use Rattle.rows.specs.Listing.{listing, listedInto}
 use Rattle.flow.specs.Function.{Function, Block, Instruction, LiveList, holds, inst, block, start, end, safepoint, safepoints}
 use Rattle.flow.specs.Dataflow.{back, out, liveBefore, holder, liveRow, track}
-use Rattle.word.proofs.Bools.{either}
-use Rattle.flow.proofs.Lists.{passing-same, some-at, at-some, both-true}
+use Rattle.word.proofs.Bools.{either, both-and}
+use Rattle.flow.proofs.Lists.{passing-same, some-at, at-some}
 use Rattle.flow.proofs.Validity.{held, holder-is, holds-parts, parts-holds, safepoint-held, row-list}
 use Rattle.roots.specs.View.{view, formed}
 use Rattle.roots.specs.Calls.{Lent, function, right, need, after, scratchAfter, liveAtAnswer, toldAt, LiveAtCall}
@@ -84,7 +84,7 @@ module _ (kinds ends refs bs classes : List ℕ) (good : formed kinds ends refs 
 
   pub is-safepoint : held (view kinds ends refs bs classes) pc ≡ true → pc < length kinds → getD kinds pc 0 ≡ 1 → safepoint (view kinds ends refs bs classes) pc ≡ true
   unfolding safepoint
-  is-safepoint h k e = both-true (eq-eqb (inst (view kinds ends refs bs classes) pc .kind) 1 (kind-view k ∙ e)) h
+  is-safepoint h k e = both-and _ _ (eq-eqb (inst (view kinds ends refs bs classes) pc .kind) 1 (kind-view k ∙ e)) h
 
   pub not-safepoint : pc < length kinds → (getD kinds pc 0 ≡ 1 → ⊥) → safepoint (view kinds ends refs bs classes) pc ≡ false
   unfolding safepoint

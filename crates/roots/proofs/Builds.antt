@@ -15,8 +15,9 @@ use Rattle.word.proofs.BitLaws.{bit-of-zero}
 use Rattle.flow.specs.Function.{firstAt}
 use Rattle.flow.specs.Dataflow.{back, killed, gen, kill}
 use Rattle.word.proofs.Bools.{or-left}
+use Rattle.word.specs.Lists.{tabulate}
 use Rattle.flow.proofs.Laws.{step-sound}
-use Rattle.roots.specs.View.{tabulate, blockAt}
+use Rattle.roots.specs.View.{blockAt}
 use Rattle.roots.specs.Columns.{seen, Outside, cell, liveAt, oneBelow, Begun, Built}
 use Rattle.roots.proofs.Scratch.{block-fits, cell-before, cell-after, live-of, live-not, start-view, end-view, or-false}
 
@@ -57,7 +58,7 @@ module _ (t : ℕ → Bool) (ends refs bs cs : List ℕ) (nb W b : ℕ) (h : b <
       → ((ks bs′ : List ℕ) (q : ℕ) → q < 64 * W → cell s₁ (b * (3 * W)) q ≡ back (seen t ks ends refs bs′ cs) q st (e - st) (cell s (b * (3 * W)) q))
       → Outside s₁ s₂ (b * (3 * W) + W) W
       → ((ks bs′ : List ℕ) (q : ℕ) → q < 64 * W → cell s₂ (b * (3 * W) + W) q ≡ killed (seen t ks ends refs bs′ cs) q st (e - st) || cell s₁ (b * (3 * W) + W) q)
-      → firstAt (tabulate 0 nb (blockAt bs)) e 0 ≡ oneBelow v nb
+      → firstAt (tabulate nb (blockAt bs)) e 0 ≡ oneBelow v nb
       → Begun t ends refs bs cs s (set s₂ (b * (3 * W) + 2 * W) v) nb W b
   begun-rows s₁ s₂ v pos fit o₁ c₁ o₂ c₂ first = record {
     frame = record {
@@ -70,7 +71,7 @@ module _ (t : ℕ → Bool) (ends refs bs cs : List ℕ) (nb W b : ℕ) (h : b <
     kills = λ ks q l. off (b * (3 * W) + W) q (omega arith) l ∙ c₂ ks bs q l
         ∙ ap (λ (u : Bool). killed (seen t ks ends refs bs cs) q st (e - st) || u) (cell-after o₁ (b * (3 * W) + W) q (omega arith) ∙ zero-cell s (b * (3 * W) + W) q (λ i o. zeros i (omega arith)))
         ∙ or-false (killed (seen t ks ends refs bs cs) q st (e - st)) ∙ sym (kill-is ks q);
-    next = λ l. ap (λ (u : ℕ). firstAt (tabulate 0 nb (blockAt bs)) u 0) (sym ee) ∙ first
+    next = λ l. ap (λ (u : ℕ). firstAt (tabulate nb (blockAt bs)) u 0) (sym ee) ∙ first
         ∙ ap (λ (u : ℕ). oneBelow u nb) (sym (getD-set-same s₂ (b * (3 * W) + 2 * W) v 0 (omega (arith, o₁ .kept, o₂ .kept, block-fits b nb (3 * W) h))));
   }
     where
@@ -86,7 +87,7 @@ pub record Builds (t : ℕ → Bool) (ends refs bs cs s₀ s : List ℕ) (nb W b
   pub rest : (i : ℕ) → b * (3 * W) ≤ i → getD s i 0 ≡ 0
   pub lives : (ks : List ℕ) (c q : ℕ) → c < b → q < 64 * W → cell s (c * (3 * W)) q ≡ gen (seen t ks ends refs bs cs) q c
   pub kills : (ks : List ℕ) (c q : ℕ) → c < b → q < 64 * W → cell s (c * (3 * W) + W) q ≡ kill (seen t ks ends refs bs cs) q c
-  pub nexts : (c : ℕ) → c < b → getD bs (2 * c) 0 < getD bs (2 * c + 1) 0 → firstAt (tabulate 0 nb (blockAt bs)) (getD bs (2 * c + 1) 0) 0 ≡ oneBelow (getD s (c * (3 * W) + 2 * W) 0) nb
+  pub nexts : (c : ℕ) → c < b → getD bs (2 * c) 0 < getD bs (2 * c + 1) 0 → firstAt (tabulate nb (blockAt bs)) (getD bs (2 * c + 1) 0) 0 ≡ oneBelow (getD s (c * (3 * W) + 2 * W) 0) nb
 
 pub builds-none : (t : ℕ → Bool) (ends refs bs cs s : List ℕ) (nb W : ℕ) → ((i : ℕ) → getD s i 0 ≡ 0) → Builds t ends refs bs cs s s nb W 0
 builds-none t ends refs bs cs s nb W z =
@@ -114,9 +115,9 @@ module _ {t : ℕ → Bool} {ends refs bs cs s₀ s : List ℕ} {nb W b : ℕ} (
       kl ks c q (yes d) l m = rw d (g .kills ks q m)
       kl ks c q (no d) l m = old c W q (omega arith) m (omega arith) ∙ inv .kills ks c q (omega arith) m
 
-      nx : (c : ℕ) → Dec (c ≡ b) → c < b + 1 → getD bs (2 * c) 0 < getD bs (2 * c + 1) 0 → firstAt (tabulate 0 nb (blockAt bs)) (getD bs (2 * c + 1) 0) 0 ≡ oneBelow (getD s′ (c * (3 * W) + 2 * W) 0) nb
+      nx : (c : ℕ) → Dec (c ≡ b) → c < b + 1 → getD bs (2 * c) 0 < getD bs (2 * c + 1) 0 → firstAt (tabulate nb (blockAt bs)) (getD bs (2 * c + 1) 0) 0 ≡ oneBelow (getD s′ (c * (3 * W) + 2 * W) 0) nb
       nx c (yes d) l m =
-          subst (λ (u : ℕ). firstAt (tabulate 0 nb (blockAt bs)) (getD bs (2 * u + 1) 0) 0 ≡ oneBelow (getD s′ (u * (3 * W) + 2 * W) 0) nb) (sym d)
+          subst (λ (u : ℕ). firstAt (tabulate nb (blockAt bs)) (getD bs (2 * u + 1) 0) 0 ≡ oneBelow (getD s′ (u * (3 * W) + 2 * W) 0) nb) (sym d)
           (g .next (subst (λ (u : ℕ). getD bs (2 * u) 0 < getD bs (2 * u + 1) 0) d m))
       nx c (no d) l m =
           let k : c < b = omega arith in

@@ -7,8 +7,9 @@ use native.Mathlib.Numerals.{add-one}
 use native.Mathlib.Decide.{ℕ-discrete}
 use lib.ListN.{length, getD, set, replicate, length-set, getD-replicate, length-replicate}
 use lib.Seq.{getD-set-same, getD-set-other}
+use Rattle.word.specs.Lists.{tabulate}
 use Rattle.flow.specs.Function.{firstAt}
-use Rattle.roots.specs.View.{tabulate, blockAt}
+use Rattle.roots.specs.View.{blockAt}
 use Rattle.roots.specs.Columns.{oneBelow, First, Starting, Chains}
 use Rattle.roots.proofs.Scratch.{Firsts, firsts-none, firsts-found, firsts-empty, firsts-other, firsts-end}
 
@@ -125,8 +126,8 @@ module _ {bs : List ℕ} {nb pc c : ℕ} (inv : Chase bs nb pc c) where
           later : (j < c → ⊥) → (c + 1 ≤ j → ⊥) → ⊥
           later x y = r (omega arith)
 
-  pub chase-found : c < nb → (st : ℕ) → st ≡ getD bs (2 * c) 0 → st ≡ pc → firstAt (tabulate 0 nb (blockAt bs)) pc 0 ≡ oneBelow c nb
+  pub chase-found : c < nb → (st : ℕ) → st ≡ getD bs (2 * c) 0 → st ≡ pc → firstAt (tabulate nb (blockAt bs)) pc 0 ≡ oneBelow c nb
   chase-found h st est q = firsts-found (passed bs nb pc c (inv .high) (inv .none)) h _ _ refl refl (sym est ∙ q) (inv .here h .0)
 
-  pub chase-end : nb ≤ c → firstAt (tabulate 0 nb (blockAt bs)) pc 0 ≡ oneBelow nb nb
+  pub chase-end : nb ≤ c → firstAt (tabulate nb (blockAt bs)) pc 0 ≡ oneBelow nb nb
   chase-end h = let e : c ≡ nb = omega (arith, inv .high) in firsts-end (subst (Firsts bs nb pc) e (passed bs nb pc c (inv .high) (inv .none))) (omega arith)

@@ -11,14 +11,14 @@ use lib.ListN.{length, getD, List·getD-eq-default}
 use lib.Dec.{leb}
 use borrow.Author.Count.{below-more}
 use borrow.Author.Tests.{leb-true, le-leb}
-use Rattle.flow.specs.Function.{Block, Instruction, every, inside, apart}
+use Rattle.flow.specs.Function.{Block, Instruction, inside, apart}
 use Rattle.word.proofs.Bools.{bool-ext}
-use Rattle.flow.proofs.Lists.{every-at, at-every}
+use Rattle.word.proofs.ListLaws.{all-at, at-all, getD-tabulate}
+use Rattle.word.specs.Lists.{all}
 use Rattle.flow.proofs.Validity.{apart-one, one-apart}
 use Rattle.roots.specs.View.{startOf, instAt, view, formed}
 use Rattle.roots.specs.Columns.{Lists, In, Separate, AtMost, Inside}
-use Rattle.roots.proofs.Turns.{getD-tabulate}
-use Rattle.roots.proofs.Forms.{formed-parts, parts-formed, blocks-count, code-count, block-at, every-inside, inside-every}
+use Rattle.roots.proofs.Forms.{formed-parts, parts-formed, blocks-count, code-count, block-at, all-inside, inside-all}
 
 pub holds : {Q : Type 0} → Q → (true ≡ true) ↔ Q
 holds v = (λ e. v, λ w. refl)
@@ -137,23 +137,23 @@ module _ (kinds ends refs bs classes : List ℕ) where
 
   inst-at : (p : ℕ) → p < length ends / 3 → getD (view kinds ends refs bs classes .code) p (record { kind = 0; writes = List.[]; reads = List.[]; targets = List.[] }) ≡ instAt kinds ends refs p
   unfolding view
-  inst-at p h = let z : 0 + p ≡ p = omega arith in getD-tabulate 0 (length ends / 3) (instAt kinds ends refs) p _ h ∙ ap (instAt kinds ends refs) z
+  inst-at p h = getD-tabulate (length ends / 3) (instAt kinds ends refs) p _ h
 
   class-length : length classes ≤ 16384 → length (view kinds ends refs bs classes .classes) ≤ 16384
   unfolding view
   class-length h = h
 
-  class-every : AtMost classes 4 → every (λ k. leb k 4) (view kinds ends refs bs classes .classes) ≡ true
+  class-all : AtMost classes 4 → all (λ k. leb k 4) (view kinds ends refs bs classes .classes) ≡ true
   unfolding view
-  class-every h = at-every (λ k. leb k 4) classes 0 (λ i k. le-leb (getD classes i 0) 4 (h i k))
+  class-all h = at-all (λ k. leb k 4) classes 0 (λ i k. le-leb (getD classes i 0) 4 (h i k))
 
   length-class : length (view kinds ends refs bs classes .classes) ≤ 16384 → length classes ≤ 16384
   unfolding view
   length-class h = h
 
-  class-at : every (λ k. leb k 4) (view kinds ends refs bs classes .classes) ≡ true → (i : ℕ) → i < length classes → leb (getD classes i 0) 4 ≡ true
+  class-at : all (λ k. leb k 4) (view kinds ends refs bs classes .classes) ≡ true → (i : ℕ) → i < length classes → leb (getD classes i 0) 4 ≡ true
   unfolding view
-  class-at h i k = every-at (λ k. leb k 4) classes 0 i h k
+  class-at h i k = all-at (λ k. leb k 4) classes 0 h i k
 
   pub fit-formed : Fit kinds ends refs bs classes → formed kinds ends refs bs classes ≡ true
   fit-formed v =
@@ -166,10 +166,10 @@ module _ (kinds ends refs bs classes : List ℕ) where
           code-count = omega (arith, c, v .code-count);
           block-count = omega (arith, blocks-count kinds ends refs bs classes, v .block-count);
           class-count = class-length (v .class-count);
-          kinds = at-every (λ i. leb (i .kind) 6) (view kinds ends refs bs classes .code) (record { kind = 0; writes = List.[]; reads = List.[]; targets = List.[] })
+          kinds = at-all (λ i. leb (i .kind) 6) (view kinds ends refs bs classes .code) (record { kind = 0; writes = List.[]; reads = List.[]; targets = List.[] })
               (λ p k. ap (λ (i : Instruction). leb (i .kind) 6) (inst-at p (omega (arith, c, v .three))) ∙ le-leb (getD kinds p 0) 6 (v .kinds-known p (omega (arith, c))));
-          classes = class-every (v .classes-known);
-          inside = inside-every kinds ends refs bs classes (length (view kinds ends refs bs classes .code)) (λ b k l. let z = v .inside b k l in omega (arith, c));
+          classes = class-all (v .classes-known);
+          inside = inside-all kinds ends refs bs classes (length (view kinds ends refs bs classes .code)) (λ b k l. let z = v .inside b k l in omega (arith, c));
           apart = separate-apart (v .apart);
         };
       })
@@ -187,9 +187,9 @@ module _ (kinds ends refs bs classes : List ℕ) where
         lists = v .lists;
         kinds-known = λ p k. leb-true (getD kinds p 0) 6
             (ap (λ (i : Instruction). leb (i .kind) 6) (sym (inst-at p (omega (arith, v .three))))
-            ∙ every-at (λ i. leb (i .kind) 6) (view kinds ends refs bs classes .code) (record { kind = 0; writes = List.[]; reads = List.[]; targets = List.[] }) p (v .valid .kinds) (omega (arith, c)));
+            ∙ all-at (λ i. leb (i .kind) 6) (view kinds ends refs bs classes .code) (record { kind = 0; writes = List.[]; reads = List.[]; targets = List.[] }) (v .valid .kinds) p (omega (arith, c)));
         classes-known = λ i k. leb-true (getD classes i 0) 4 (class-at (v .valid .classes) i k);
-        inside = λ b k l. let z = every-inside kinds ends refs bs classes (length (view kinds ends refs bs classes .code)) (v .valid .inside) b k l in omega (arith, c);
+        inside = λ b k l. let z = all-inside kinds ends refs bs classes (length (view kinds ends refs bs classes .code)) (v .valid .inside) b k l in omega (arith, c);
         apart = apart-separate (v .valid .apart);
       }
 

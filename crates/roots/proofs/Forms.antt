@@ -9,16 +9,16 @@ use native.Mathlib.Decide.{decLt}
 use lib.ListN.{length, getD}
 use lib.Dec.{leb, eqb}
 use borrow.Author.Tests.{eqb-true, leb-true, eq-eqb, le-leb}
-use Rattle.flow.specs.Function.{every, inside, valid}
+use Rattle.flow.specs.Function.{inside, valid}
 use Rattle.flow.specs.Dataflow.{track}
-use Rattle.word.proofs.Bools.{or-cases, or-left, or-right, and-both}
+use Rattle.word.proofs.Bools.{or-cases, or-left, or-right, and-both, both-and}
+use Rattle.word.proofs.ListLaws.{all-at, at-all, length-tabulate, getD-tabulate}
+use Rattle.word.specs.Lists.{all}
 use Rattle.flow.proofs.Laws.{Disjoint}
-use Rattle.flow.proofs.Lists.{both-true, every-at, at-every}
 use Rattle.flow.proofs.Tracking.{disjoint-track}
 use Rattle.flow.proofs.Validity.{Valid, valid-parts, parts-valid, valid-disjoint}
 use Rattle.roots.specs.View.{startOf, instAt, blockAt, view, ranged, formed}
 use Rattle.roots.specs.Columns.{seen, Lists, Columns}
-use Rattle.roots.proofs.Turns.{getD-tabulate, length-tabulate}
 
 -- ---- the ends never fall
 
@@ -40,7 +40,7 @@ at-ranged : (ends : List ℕ) (from n : ℕ) → ((k : ℕ) → k < length ends 
 unfolding fromOf
 at-ranged [] from n h = refl
 at-ranged (e ∷ es) from n h =
-    both-true (le-leb from e (h 0 (omega arith) .0)) (both-true (le-leb e n (h 0 (omega arith) .1)) (at-ranged es e n (λ k l. step k l)))
+    both-and _ _ (le-leb from e (h 0 (omega arith) .0)) (both-and _ _ (le-leb e n (h 0 (omega arith) .1)) (at-ranged es e n (λ k l. step k l)))
   where
     step : (k : ℕ) → k < length es → (fromOf e es k ≤ getD es k 0) × (getD es k 0 ≤ n)
     step zero l = h 1 (omega arith)
@@ -85,38 +85,38 @@ formed-parts {kinds} {ends} {refs} {blocks} {classes} h =
 pub parts-formed : {kinds ends refs blocks classes : List ℕ} → Formed kinds ends refs blocks classes → formed kinds ends refs blocks classes ≡ true
 unfolding formed
 parts-formed {kinds} {ends} {refs} {blocks} {classes} v =
-    both-true (eq-eqb (length ends) (3 * length kinds) (v .three))
-    (both-true (eq-eqb (length blocks % 2) 0 (v .pairs)) (both-true (lists-ranged ends refs (v .lists)) (parts-valid (view kinds ends refs blocks classes) (v .valid))))
+    both-and _ _ (eq-eqb (length ends) (3 * length kinds) (v .three))
+    (both-and _ _ (eq-eqb (length blocks % 2) 0 (v .pairs)) (both-and _ _ (lists-ranged ends refs (v .lists)) (parts-valid (view kinds ends refs blocks classes) (v .valid))))
 
 module _ (kinds ends refs blocks classes : List ℕ) where
   pub blocks-count : length (view kinds ends refs blocks classes .blocks) ≡ length blocks / 2
   unfolding view
-  blocks-count = length-tabulate 0 (length blocks / 2) (blockAt blocks)
+  blocks-count = length-tabulate (length blocks / 2) (blockAt blocks)
 
   pub code-count : length ends ≡ 3 * length kinds → length (view kinds ends refs blocks classes .code) ≡ length kinds
   unfolding view
-  code-count h = length-tabulate 0 (length ends / 3) (instAt kinds ends refs) ∙ omega arith
+  code-count h = length-tabulate (length ends / 3) (instAt kinds ends refs) ∙ omega arith
 
   pub seen-count : (t : ℕ → Bool) → length (seen t kinds ends refs blocks classes .blocks) ≡ length blocks / 2
   unfolding view track
-  seen-count t = length-tabulate 0 (length blocks / 2) (blockAt blocks)
+  seen-count t = length-tabulate (length blocks / 2) (blockAt blocks)
 
   pub block-at : (b : ℕ) → b < length blocks / 2 → getD (view kinds ends refs blocks classes .blocks) b (record { start = 0; end = 0 }) ≡ blockAt blocks b
   unfolding view
-  block-at b h = let z : 0 + b ≡ b = omega arith in getD-tabulate 0 (length blocks / 2) (blockAt blocks) b _ h ∙ ap (blockAt blocks) z
+  block-at b h = getD-tabulate (length blocks / 2) (blockAt blocks) b _ h
 
   -- nonempty blocks end within the code
-  pub every-inside : (n : ℕ) → every (inside n) (view kinds ends refs blocks classes .blocks) ≡ true
+  pub all-inside : (n : ℕ) → all (inside n) (view kinds ends refs blocks classes .blocks) ≡ true
       → (b : ℕ) → b < length blocks / 2 → getD blocks (2 * b) 0 < getD blocks (2 * b + 1) 0 → getD blocks (2 * b + 1) 0 ≤ n
-  every-inside n h b k l =
+  all-inside n h b k l =
       ⊎-elim (λ u. absurd (let z = leb-true (getD blocks (2 * b + 1) 0) (getD blocks (2 * b) 0) u in omega arith)) (λ u. leb-true (getD blocks (2 * b + 1) 0) n u)
       (or-cases (leb (getD blocks (2 * b + 1) 0) (getD blocks (2 * b) 0)) _
-      (ap (inside n) (sym (block-at b k)) ∙ every-at (inside n) (view kinds ends refs blocks classes .blocks) (record { start = 0; end = 0 }) b h (omega (arith, blocks-count))))
+      (ap (inside n) (sym (block-at b k)) ∙ all-at (inside n) (view kinds ends refs blocks classes .blocks) (record { start = 0; end = 0 }) h b (omega (arith, blocks-count))))
 
-  pub inside-every : (n : ℕ) → ((b : ℕ) → b < length blocks / 2 → getD blocks (2 * b) 0 < getD blocks (2 * b + 1) 0 → getD blocks (2 * b + 1) 0 ≤ n)
-      → every (inside n) (view kinds ends refs blocks classes .blocks) ≡ true
-  inside-every n h =
-      at-every (inside n) (view kinds ends refs blocks classes .blocks) (record { start = 0; end = 0 })
+  pub inside-all : (n : ℕ) → ((b : ℕ) → b < length blocks / 2 → getD blocks (2 * b) 0 < getD blocks (2 * b + 1) 0 → getD blocks (2 * b + 1) 0 ≤ n)
+      → all (inside n) (view kinds ends refs blocks classes .blocks) ≡ true
+  inside-all n h =
+      at-all (inside n) (view kinds ends refs blocks classes .blocks) (record { start = 0; end = 0 })
       (λ b k. let l : b < length blocks / 2 = omega (arith, blocks-count) in ap (inside n) (block-at b l) ∙ go b l (decLt (getD blocks (2 * b) 0) (getD blocks (2 * b + 1) 0)))
     where
       go : (b : ℕ) → b < length blocks / 2 → Dec (getD blocks (2 * b) 0 < getD blocks (2 * b + 1) 0) → inside n (blockAt blocks b) ≡ true
@@ -129,7 +129,7 @@ module _ (kinds ends refs blocks classes : List ℕ) where
       record {
         three = v .three;
         lists = v .lists;
-        inside = every-inside (length kinds) (subst (λ (n : ℕ). every (inside n) (view kinds ends refs blocks classes .blocks) ≡ true) (code-count (v .three)) (v .valid .inside));
+        inside = all-inside (length kinds) (subst (λ (n : ℕ). all (inside n) (view kinds ends refs blocks classes .blocks) ≡ true) (code-count (v .three)) (v .valid .inside));
       }
 
   pub formed-disjoint : formed kinds ends refs blocks classes ≡ true → Disjoint (view kinds ends refs blocks classes)

@@ -10,9 +10,10 @@ use lib.ListN.{length, getD, replicate, getD-replicate, List·getD-eq-default, l
 use Rattle.flow.specs.Function.{Function, firstAt, start, end, Live}
 use Rattle.flow.specs.Dataflow.{gen, kill, out, into}
 use Rattle.word.proofs.Bools.{or-cases, or-left, or-right}
+use Rattle.word.specs.Lists.{tabulate}
 use Rattle.flow.proofs.Laws.{step-sound, Disjoint}
 use Rattle.flow.proofs.Fixpoint.{fixpoint-is}
-use Rattle.roots.specs.View.{tabulate, blockAt}
+use Rattle.roots.specs.View.{blockAt}
 use Rattle.roots.specs.Columns.{seen, Outside, cell, liveAt, oneBelow, setBits, Rows, Linked, Pass, Solved, Fixed}
 use Rattle.roots.proofs.Scratch.{block-fits, cell-before, cell-after, live-of, live-not, live-frame}
 use Rattle.roots.proofs.Steps.{Met, bits-kept}
@@ -203,9 +204,9 @@ solved-fixed {ks} {ends} {refs} {bs} {s₀} {s} {nb} {W} t cs v r d size = recor
 
 -- the block that block b falls through to
 pub linked-next : {bs s : List ℕ} {W nb : ℕ} → Linked bs s W nb → (b st e v : ℕ) → b < nb → st ≡ getD bs (2 * b) 0 → e ≡ getD bs (2 * b + 1) 0 → st < e
-    → v ≡ getD s (b * (3 * W) + 2 * W) 0 → firstAt (tabulate 0 nb (blockAt bs)) e 0 ≡ oneBelow v nb
+    → v ≡ getD s (b * (3 * W) + 2 * W) 0 → firstAt (tabulate nb (blockAt bs)) e 0 ≡ oneBelow v nb
 linked-next {bs} {s} {W} {nb} l b st e v known est ee h ev =
-    ap (λ (u : ℕ). firstAt (tabulate 0 nb (blockAt bs)) u 0) ee ∙ l .next b known (omega arith) ∙ ap (λ (u : ℕ). oneBelow u nb) (sym ev)
+    ap (λ (u : ℕ). firstAt (tabulate nb (blockAt bs)) u 0) ee ∙ l .next b known (omega arith) ∙ ap (λ (u : ℕ). oneBelow u nb) (sym ev)
 
 pub below-high : {b nb : ℕ} → 0 < b → b ≤ nb → b - 1 < nb
 below-high h k = omega arith

@@ -9,20 +9,23 @@ use native.Mathlib.Numerals.{add-one}
 use native.Mathlib.Decide.{ℕ-discrete, decLt}
 use native.Mathlib.Nat.{zero-add, mul-le-mul-right, suc-mul}
 use borrow.Rule.Slice.PartMut.{putMid, postOf, same-len-mid}
-use lib.ListN.{length, getD, set, replicate, drop, take, getD-replicate, List·getD-append, List·getD-eq-default, length-set, length-drop, length-replicate}
-use lib.Seq.{slice, slice-cons, slice-empty, getD-set-same, getD-set-other, getD-take, getD-drop, getD-append-add, length-take-le}
+use lib.ListN.{length, getD, set, replicate, drop, take, getD-replicate, List·getD-append, List·getD-eq-default, length-set, length-drop, length-replicate, drop-of-length-le}
+use lib.Seq.{slice, slice-cons, slice-empty, getD-set-same, getD-set-other, getD-take, getD-drop, getD-append-add, length-take-le, drop-cons}
 use lib.Dec.{eqb, ltb, leb}
 use lib.Bits.{bitOr}
 use borrow.Author.Tests.{eq-eqb, ne-eqb, lt-ltb, le-ltb, le-leb, lt-leb}
 use Rattle.word.specs.Bit.{bit}
 use Rattle.word.proofs.BitLaws.{bit-or, bit-of-zero}
+use Rattle.word.specs.Lists.{tabulate}
+use Rattle.word.proofs.ListLaws.{length-tabulate, getD-tabulate}
+use Rattle.word.proofs.Bools.{both-and}
 use Rattle.rows.specs.Row.{bitIn}
 use Rattle.rows.proofs.RowLaws.{or-swap as or-comm}
 use Rattle.flow.specs.Function.{Function, Instruction, Block, inst, block, start, end, existing, firstAt, exits, successors}
 use Rattle.flow.specs.Dataflow.{anyOf, out, track}
-use Rattle.roots.specs.View.{tabulate, listAt, blockAt, view}
+use Rattle.roots.specs.View.{listAt, blockAt, view}
 use Rattle.roots.specs.Columns.{seen, Columns, Outside, cell, liveAt, oneBelow}
-use Rattle.roots.proofs.Turns.{getD-tabulate, length-tabulate, inst-seen, list-next}
+use Rattle.roots.proofs.Turns.{inst-seen, list-next}
 
 -- ---- joining rows
 
@@ -175,34 +178,32 @@ and-right-false false b h = refl
 -- ---- the first block at an instruction
 
 module _ (blocks : List ℕ) (nb pc i : ℕ) where
-  pub first-next : i < nb → firstAt (tabulate i (nb - i) (blockAt blocks)) pc i
-      ≡ cond (eqb (getD blocks (2 * i) 0) pc && ltb (getD blocks (2 * i) 0) (getD blocks (2 * i + 1) 0)) (i ∷ []) (firstAt (tabulate (i + 1) (nb - (i + 1)) (blockAt blocks)) pc (i + 1))
+  pub first-next : i < nb → firstAt (drop i (tabulate nb (blockAt blocks))) pc i
+      ≡ cond (eqb (getD blocks (2 * i) 0) pc && ltb (getD blocks (2 * i) 0) (getD blocks (2 * i + 1) 0)) (i ∷ []) (firstAt (drop (i + 1) (tabulate nb (blockAt blocks))) pc (i + 1))
   first-next h =
-      let k : nb - i ≡ suc (nb - (i + 1)) = omega arith in
       let j : suc i ≡ i + 1 = omega arith in
-      ap (λ (u : ℕ). firstAt (tabulate i u (blockAt blocks)) pc i) k
-      ∙ ap (λ (u : ℕ). cond (eqb (getD blocks (2 * i) 0) pc && ltb (getD blocks (2 * i) 0) (getD blocks (2 * i + 1) 0)) (i ∷ []) (firstAt (tabulate u (nb - (i + 1)) (blockAt blocks)) pc u)) j
+      ap (λ (l : List Block). firstAt l pc i) (drop-cons (tabulate nb (blockAt blocks)) i (blockAt blocks i) (omega (arith, length-tabulate nb (blockAt blocks))))
+      ∙ ap (λ (x : Block). firstAt (x ∷ drop (suc i) (tabulate nb (blockAt blocks))) pc i) (getD-tabulate nb (blockAt blocks) i (blockAt blocks i) h)
+      ∙ ap (λ (u : ℕ). cond (eqb (getD blocks (2 * i) 0) pc && ltb (getD blocks (2 * i) 0) (getD blocks (2 * i + 1) 0)) (i ∷ []) (firstAt (drop u (tabulate nb (blockAt blocks))) pc u)) j
 
 pub record Firsts (blocks : List ℕ) (nb pc i : ℕ) : Type 0 where
   pub high : i ≤ nb
-  pub is : firstAt (tabulate 0 nb (blockAt blocks)) pc 0 ≡ firstAt (tabulate i (nb - i) (blockAt blocks)) pc i
+  pub is : firstAt (tabulate nb (blockAt blocks)) pc 0 ≡ firstAt (drop i (tabulate nb (blockAt blocks))) pc i
 
 pub firsts-none : (blocks : List ℕ) (nb pc : ℕ) → Firsts blocks nb pc 0
-firsts-none blocks nb pc =
-    let k : nb ≡ nb - 0 = omega arith in
-    record { high = omega arith; is = ap (λ (u : ℕ). firstAt (tabulate 0 u (blockAt blocks)) pc 0) k }
+firsts-none blocks nb pc = record { high = omega arith; is = refl }
 
 module _ {blocks : List ℕ} {nb pc i : ℕ} where
   pub firsts-found : Firsts blocks nb pc i → i < nb → (a e : ℕ) → a ≡ getD blocks (2 * i) 0 → e ≡ getD blocks (2 * i + 1) 0 → a ≡ pc → a < e
-      → firstAt (tabulate 0 nb (blockAt blocks)) pc 0 ≡ oneBelow i nb
+      → firstAt (tabulate nb (blockAt blocks)) pc 0 ≡ oneBelow i nb
   firsts-found inv h a e ea ee x y =
       inv .is ∙ first-next blocks nb pc i h
-      ∙ ap (λ (u : Bool). cond u (i ∷ []) (firstAt (tabulate (i + 1) (nb - (i + 1)) (blockAt blocks)) pc (i + 1))) (ap₂ (λ (u v : Bool). u && v) (eq-eqb (getD blocks (2 * i) 0) pc (sym ea ∙ x)) (lt-ltb (getD blocks (2 * i) 0) (getD blocks (2 * i + 1) 0) (omega arith)))
+      ∙ ap (λ (u : Bool). cond u (i ∷ []) (firstAt (drop (i + 1) (tabulate nb (blockAt blocks))) pc (i + 1))) (ap₂ (λ (u v : Bool). u && v) (eq-eqb (getD blocks (2 * i) 0) pc (sym ea ∙ x)) (lt-ltb (getD blocks (2 * i) 0) (getD blocks (2 * i + 1) 0) (omega arith)))
       ∙ sym (ap (λ (u : Bool). cond u (i ∷ []) []) (lt-ltb i nb h))
 
   pub firsts-on : Firsts blocks nb pc i → i < nb → (eqb (getD blocks (2 * i) 0) pc && ltb (getD blocks (2 * i) 0) (getD blocks (2 * i + 1) 0) ≡ false)
       → Firsts blocks nb pc (i + 1)
-  firsts-on inv h z = record { high = omega arith; is = inv .is ∙ first-next blocks nb pc i h ∙ ap (λ (u : Bool). cond u (i ∷ []) (firstAt (tabulate (i + 1) (nb - (i + 1)) (blockAt blocks)) pc (i + 1))) z }
+  firsts-on inv h z = record { high = omega arith; is = inv .is ∙ first-next blocks nb pc i h ∙ ap (λ (u : Bool). cond u (i ∷ []) (firstAt (drop (i + 1) (tabulate nb (blockAt blocks))) pc (i + 1))) z }
 
   pub firsts-empty : Firsts blocks nb pc i → i < nb → (a e : ℕ) → a ≡ getD blocks (2 * i) 0 → e ≡ getD blocks (2 * i + 1) 0 → e ≤ a → Firsts blocks nb pc (i + 1)
   firsts-empty inv h a e ea ee y =
@@ -212,10 +213,11 @@ module _ {blocks : List ℕ} {nb pc i : ℕ} where
   firsts-other inv h a ea y =
       firsts-on inv h (and-left-false (eqb (getD blocks (2 * i) 0) pc) (ltb (getD blocks (2 * i) 0) (getD blocks (2 * i + 1) 0)) (ne-eqb (getD blocks (2 * i) 0) pc (λ z. y (ea ∙ z))))
 
-  pub firsts-end : Firsts blocks nb pc i → nb ≤ i → firstAt (tabulate 0 nb (blockAt blocks)) pc 0 ≡ oneBelow nb nb
+  pub firsts-end : Firsts blocks nb pc i → nb ≤ i → firstAt (tabulate nb (blockAt blocks)) pc 0 ≡ oneBelow nb nb
   firsts-end inv h =
-      let k : nb - i ≡ 0 = omega arith in
-      inv .is ∙ ap (λ (u : ℕ). firstAt (tabulate i u (blockAt blocks)) pc i) k ∙ sym (ap (λ (u : Bool). cond u (nb ∷ []) []) (le-ltb nb nb (omega arith)))
+      inv .is
+      ∙ ap (λ (l : List Block). firstAt l pc i) (drop-of-length-le (tabulate nb (blockAt blocks)) {i = i} (omega (arith, length-tabulate nb (blockAt blocks))))
+      ∙ sym (ap (λ (u : Bool). cond u (nb ∷ []) []) (le-ltb nb nb (omega arith)))
 
 -- ---- a middle part lent on
 
@@ -274,7 +276,7 @@ zero-bit n q = ap (λ (x : ℕ). bit x (q % 64)) (go (decLt (q / 64) n)) ∙ bit
 module _ (t : ℕ → Bool) (ks ends refs bs cs : List ℕ) (b : ℕ) (known : b < length bs / 2) where
   pub block-view : block (seen t ks ends refs bs cs) b ≡ blockAt bs b
   unfolding view track
-  block-view = getD-tabulate 0 (length bs / 2) (blockAt bs) b _ known ∙ ap (blockAt bs) (zero-add b)
+  block-view = getD-tabulate (length bs / 2) (blockAt bs) b _ known
 
   pub start-view : start (seen t ks ends refs bs cs) b ≡ getD bs (2 * b) 0
   start-view = ap (λ (x : Block). x .start) block-view
@@ -282,7 +284,7 @@ module _ (t : ℕ → Bool) (ks ends refs bs cs : List ℕ) (b : ℕ) (known : b
   pub end-view : end (seen t ks ends refs bs cs) b ≡ getD bs (2 * b + 1) 0
   end-view = ap (λ (x : Block). x .end) block-view
 
-pub blocks-view : (t : ℕ → Bool) (ks ends refs bs cs : List ℕ) → seen t ks ends refs bs cs .blocks ≡ tabulate 0 (length bs / 2) (blockAt bs)
+pub blocks-view : (t : ℕ → Bool) (ks ends refs bs cs : List ℕ) → seen t ks ends refs bs cs .blocks ≡ tabulate (length bs / 2) (blockAt bs)
 unfolding view track
 blocks-view t ks ends refs bs cs = refl
 
@@ -291,9 +293,6 @@ cut b x y h = rw h
 
 keep : (b : Bool) (x y : List ℕ) → b ≡ true → cond b x y ≡ x
 keep b x y h = rw h
-
-both : {a b : Bool} → a ≡ true → b ≡ true → a && b ≡ true
-both p q = rw p q
 
 module _ {ks ends refs bs : List ℕ} (cols : Columns ks ends refs bs) (t : ℕ → Bool) (cs : List ℕ) (nb b st e : ℕ) (size : nb ≡ length bs / 2) (known : b < nb)
     (est : st ≡ getD bs (2 * b) 0) (ee : e ≡ getD bs (2 * b + 1) 0) where
@@ -317,7 +316,7 @@ module _ {ks ends refs bs : List ℕ} (cols : Columns ks ends refs bs) (t : ℕ 
       let g : Function = seen t ks ends refs bs cs in
       ap (anyOf X) (cut (ltb (start g b) (end g b)) (exits g (inst g (end g b - 1)) (end g b)) [] (le-ltb (start g b) (end g b) (omega (arith, at-start, at-end))))
 
-  opened : st < e → successors f b ≡ cond (leb 2 k && leb k 4) (existing nb (listAt ends refs (3 * (e - 1) + 2))) (cond (leb 5 k && leb k 6) [] (firstAt (tabulate 0 nb (blockAt bs)) e 0))
+  opened : st < e → successors f b ≡ cond (leb 2 k && leb k 4) (existing nb (listAt ends refs (3 * (e - 1) + 2))) (cond (leb 5 k && leb k 6) [] (firstAt (tabulate nb (blockAt bs)) e 0))
   unfolding successors f k
   opened h =
       let g : Function = seen t ks ends refs bs cs in
@@ -327,10 +326,10 @@ module _ {ks ends refs bs : List ℕ} (cols : Columns ks ends refs bs) (t : ℕ 
       ∙ ap (λ (u : Instruction). exits g u e) (inst-seen t ks ends refs bs cs (e - 1) (omega (arith, cols .three)))
       ∙ ap (λ (l : List Block). cond (leb 2 (getD ks (e - 1) 0) && leb (getD ks (e - 1) 0) 4) (existing (length l) (listAt ends refs (3 * (e - 1) + 2)))
       (cond (leb 5 (getD ks (e - 1) 0) && leb (getD ks (e - 1) 0) 6) [] (firstAt l e 0)))
-      (blocks-view t ks ends refs bs cs ∙ ap (λ (u : ℕ). tabulate 0 u (blockAt bs)) (sym size))
+      (blocks-view t ks ends refs bs cs ∙ ap (λ (u : ℕ). tabulate u (blockAt bs)) (sym size))
       ∙ ap (λ (u : ℕ). cond (leb 2 (getD ks (e - 1) 0) && leb (getD ks (e - 1) 0) 4) (existing u (listAt ends refs (3 * (e - 1) + 2)))
-      (cond (leb 5 (getD ks (e - 1) 0) && leb (getD ks (e - 1) 0) 6) [] (firstAt (tabulate 0 nb (blockAt bs)) e 0)))
-      (length-tabulate 0 nb (blockAt bs))
+      (cond (leb 5 (getD ks (e - 1) 0) && leb (getD ks (e - 1) 0) 6) [] (firstAt (tabulate nb (blockAt bs)) e 0)))
+      (length-tabulate nb (blockAt bs))
 
   pub leave-targets : (X : ℕ → Bool) → st < e → 2 ≤ getD ks (e - 1) 0 → getD ks (e - 1) 0 ≤ 4 → (from to : ℕ)
       → from ≡ getD ends (3 * (e - 1) + 1) 0 → to ≡ getD ends (3 * (e - 1) + 1 + 1) 0
@@ -340,7 +339,7 @@ module _ {ks ends refs bs : List ℕ} (cols : Columns ks ends refs bs) (t : ℕ 
       let z : 3 * (e - 1) + 2 ≡ 3 * (e - 1) + 1 + 1 = omega arith in
       ap (anyOf X)
       (opened h
-      ∙ keep _ (existing nb (listAt ends refs (3 * (e - 1) + 2))) _ (both (le-leb 2 (getD ks (e - 1) 0) l) (le-leb (getD ks (e - 1) 0) 4 g))
+      ∙ keep _ (existing nb (listAt ends refs (3 * (e - 1) + 2))) _ (both-and _ _ (le-leb 2 (getD ks (e - 1) 0) l) (le-leb (getD ks (e - 1) 0) 4 g))
       ∙ ap (existing nb) (ap (listAt ends refs) z ∙ list-next ends refs (3 * (e - 1) + 1)
       ∙ sym (ap₂ (λ (x y : ℕ). slice x y refs) ef et)))
 
@@ -350,10 +349,10 @@ module _ {ks ends refs bs : List ℕ} (cols : Columns ks ends refs bs) (t : ℕ 
       ap (anyOf X)
       (opened h
       ∙ cut _ (existing nb (listAt ends refs (3 * (e - 1) + 2))) _ (and-right-false (leb 2 (getD ks (e - 1) 0)) _ (lt-leb (getD ks (e - 1) 0) 4 l))
-      ∙ keep _ [] _ (both (le-leb 5 (getD ks (e - 1) 0) l) (le-leb (getD ks (e - 1) 0) 6 g)))
+      ∙ keep _ [] _ (both-and _ _ (le-leb 5 (getD ks (e - 1) 0) l) (le-leb (getD ks (e - 1) 0) 6 g)))
 
   pub leave-next : (X : ℕ → Bool) → st < e → (getD ks (e - 1) 0 < 2) ⊎ (6 < getD ks (e - 1) 0) → (v : ℕ)
-      → firstAt (tabulate 0 nb (blockAt bs)) e 0 ≡ oneBelow v nb
+      → firstAt (tabulate nb (blockAt bs)) e 0 ≡ oneBelow v nb
       → out (seen t ks ends refs bs cs) X b ≡ anyOf X (oneBelow v nb)
   unfolding f k
   leave-next X h d v ft =

@@ -13,10 +13,11 @@ use borrow.Author.Tests.{eqb-true, eq-eqb, ne-eqb, lt-ltb, le-ltb, ltb-true}
 use Rattle.rows.specs.Row.{bitIn}
 use Rattle.flow.specs.Function.{Function, Instruction, has, inst, reads, writes}
 use Rattle.flow.specs.Dataflow.{turn, back, killed, asked, only}
-use Rattle.word.proofs.Bools.{and-both, bool-ext}
+use Rattle.word.proofs.Bools.{and-both, bool-ext, and-false}
+use Rattle.word.proofs.ListLaws.{getD-tabulate}
 use Rattle.flow.proofs.Laws.{back-open, back-none}
 use Rattle.flow.proofs.Tracking.{inst-track, reads-track, writes-track}
-use Rattle.roots.specs.View.{tabulate, startOf, listAt, instAt, view}
+use Rattle.roots.specs.View.{startOf, listAt, instAt, view}
 use Rattle.roots.specs.Columns.{wanted, seen, Lists}
 use Rattle.roots.specs.declared.Tracked.{Tracked}
 use Rattle.roots.specs.declared.Tracked.the-variants.{References, Handles, All}
@@ -81,10 +82,6 @@ module _ (t : ℕ → Bool) (refs : List ℕ) (i to q : ℕ) (h : i < to) (l : t
 -- nothing is left
 has-none : (t : ℕ → Bool) (refs : List ℕ) (q to : ℕ) → t q && has (slice to to refs) q ≡ false
 has-none t refs q to = ap (λ (x : List ℕ). t q && has x q) (slice-empty to refs) ∙ and-false (t q)
-  where
-    and-false : (b : Bool) → b && false ≡ false
-    and-false true = refl
-    and-false false = refl
 
 -- what the loops keep: what is left to do, done to the row now, is all of it done to the row at the start
 pub record Sets (t : ℕ → Bool) (refs : List ℕ) (to : ℕ) (row₀ row : List ℕ) (i₀ i : ℕ) : Type 0 where
@@ -155,19 +152,10 @@ start-pred ends (suc k) h = let e : k ≡ suc k - 1 = omega arith in ap (λ (x :
 
 -- ---- the view at an instruction
 
-pub length-tabulate : {A : Type 0} (i n : ℕ) (g : ℕ → A) → length (tabulate i n g) ≡ n
-length-tabulate i zero g = refl
-length-tabulate i (suc n) g = ap suc (length-tabulate (suc i) n g)
-
-pub getD-tabulate : {A : Type 0} (i n : ℕ) (g : ℕ → A) (k : ℕ) (d : A) → k < n → getD (tabulate i n g) k d ≡ g (i + k)
-getD-tabulate i zero g k d h = absurd (omega arith)
-getD-tabulate i (suc n) g zero d h = let e : i ≡ i + 0 = omega arith in ap g e
-getD-tabulate i (suc n) g (suc k) d h = let e : suc i + k ≡ i + suc k = omega arith in getD-tabulate (suc i) n g k d (omega arith) ∙ ap g e
-
 module _ (t : ℕ → Bool) (ks ends refs bs cs : List ℕ) (p : ℕ) (h : 3 * p + 2 < length ends) where
   pub inst-view : inst (view ks ends refs bs cs) p ≡ instAt ks ends refs p
   unfolding view
-  inst-view = getD-tabulate 0 (length ends / 3) (instAt ks ends refs) p _ (omega arith) ∙ ap (instAt ks ends refs) (zero-add p)
+  inst-view = getD-tabulate (length ends / 3) (instAt ks ends refs) p _ (omega arith)
 
   pub inst-seen : inst (seen t ks ends refs bs cs) p ≡ only (asked t cs) (instAt ks ends refs p)
   unfolding view

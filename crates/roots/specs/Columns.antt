@@ -8,10 +8,11 @@ use Prim.Native.Nat.{ℕ, zero, _+_, _-_, _*_, _/_, _%_, _≤_, _<_}
 use lib.ListN.{length, getD, take}
 use lib.Dec.{ltb, eqb}
 use Rattle.word.specs.Bit.{bit}
+use Rattle.word.specs.Lists.{tabulate}
 use Rattle.rows.specs.Row.{bitIn, listed}
 use Rattle.flow.specs.Function.{Function, firstAt, end}
 use Rattle.flow.specs.Dataflow.{gen, kill, into, Sound, liveIn, track}
-use Rattle.roots.specs.View.{startOf, tabulate, blockAt, view}
+use Rattle.roots.specs.View.{startOf, blockAt, view}
 use Rattle.roots.specs.declared.Tracked.{Tracked}
 use Rattle.roots.specs.declared.Tracked.the-variants.{References, Handles, All}
 
@@ -66,7 +67,7 @@ pub record Rows (f : Function) (s : List ℕ) (W nb : ℕ) : Type 0 where
 -- the third row of a nonempty block begins with the block that it falls through to, and the last row is zero
 pub record Linked (bs s : List ℕ) (W nb : ℕ) : Type 0 where
   pub wide : 0 < W
-  pub next : (b : ℕ) → b < nb → getD bs (2 * b) 0 < getD bs (2 * b + 1) 0 → firstAt (tabulate 0 nb (blockAt bs)) (getD bs (2 * b + 1) 0) 0 ≡ oneBelow (getD s (b * (3 * W) + 2 * W) 0) nb
+  pub next : (b : ℕ) → b < nb → getD bs (2 * b) 0 < getD bs (2 * b + 1) 0 → firstAt (tabulate nb (blockAt bs)) (getD bs (2 * b + 1) 0) 0 ≡ oneBelow (getD s (b * (3 * W) + 2 * W) 0) nb
   pub blank : (q : ℕ) → q < 64 * W → cell s (nb * (3 * W) + W) q ≡ false
 
 -- c is the first of i, i + 1, .. with P, or n where none of them below n has it
@@ -93,7 +94,7 @@ pub record Begun (t : ℕ → Bool) (ends refs bs cs s s′ : List ℕ) (nb W b 
   pub frame : Outside s s′ (b * (3 * W)) (3 * W)
   pub lives : (ks : List ℕ) (q : ℕ) → q < 64 * W → cell s′ (b * (3 * W)) q ≡ gen (seen t ks ends refs bs cs) q b
   pub kills : (ks : List ℕ) (q : ℕ) → q < 64 * W → cell s′ (b * (3 * W) + W) q ≡ kill (seen t ks ends refs bs cs) q b
-  pub next : getD bs (2 * b) 0 < getD bs (2 * b + 1) 0 → firstAt (tabulate 0 nb (blockAt bs)) (getD bs (2 * b + 1) 0) 0 ≡ oneBelow (getD s′ (b * (3 * W) + 2 * W) 0) nb
+  pub next : getD bs (2 * b) 0 < getD bs (2 * b + 1) 0 → firstAt (tabulate nb (blockAt bs)) (getD bs (2 * b + 1) 0) 0 ≡ oneBelow (getD s′ (b * (3 * W) + 2 * W) 0) nb
 
 -- those of every block
 pub record Built (t : ℕ → Bool) (ends refs bs cs s s′ : List ℕ) (nb W : ℕ) : Type 0 where

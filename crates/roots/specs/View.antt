@@ -6,12 +6,8 @@ use Prim.Native.Nat.{ℕ, zero, suc, _+_, _*_, _-_, _/_, _%_, _≤_, _<_}
 use lib.Dec.{leb, eqb}
 use lib.ListN.{length, getD}
 use lib.Seq.{slice}
+use Rattle.word.specs.Lists.{tabulate}
 use Rattle.flow.specs.Function.{Function, Instruction, Block, valid}
-
--- g i, g (i + 1), .., n of them
-abbrev pub tabulate : {A : Type 0} → ℕ → ℕ → (ℕ → A) → List A
-tabulate i zero g = []
-tabulate i (suc n) g = g i ∷ tabulate (suc i) n g
 
 abbrev pub startOf : List ℕ → ℕ → ℕ
 startOf ends zero = 0
@@ -30,7 +26,7 @@ blockAt blocks b = record { start = getD blocks (2 * b) 0; end = getD blocks (2 
 
 unfoldable pub view : (kinds ends refs blocks classes : List ℕ) → Function
 view kinds ends refs blocks classes =
-    record { code = tabulate 0 (length ends / 3) (instAt kinds ends refs); blocks = tabulate 0 (length blocks / 2) (blockAt blocks); classes = classes }
+    record { code = tabulate (length ends / 3) (instAt kinds ends refs); blocks = tabulate (length blocks / 2) (blockAt blocks); classes = classes }
 
 -- the ends never fall, from `from` on, and none is above n
 abbrev pub ranged : ℕ → List ℕ → ℕ → Bool

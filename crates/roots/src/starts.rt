@@ -5,7 +5,8 @@ ghost use mathlib.Core.Path.{_≡_};
 ghost use Prim.Native.Nat.{_+_, _*_, _/_, _≤_, _<_};
 ghost use lib.ListN.{length};
 ghost use Rattle.flow.specs.Function.{firstAt};
-ghost use Rattle.roots.specs.View.{tabulate, blockAt};
+ghost use Rattle.word.specs.Lists.{tabulate};
+ghost use Rattle.roots.specs.View.{blockAt};
 ghost use Rattle.roots.specs.Columns.{oneBelow, Chains};
 
 // A number of 16 bits as an index.
@@ -45,7 +46,7 @@ pub fn chain(blocks: &[u32], nb: usize, heads: &mut [u16], links: &mut [u16])
 // The first nonempty block that starts at pc, or nb.
 pub fn first_at(blocks: &[u32], nb: usize, heads: &[u16], links: &[u16], pc: usize) -> usize
     requires { ⌜ (nb * 2 ≤ length (now blocks)) × Chains (now blocks) nb 0 (now heads) (now links) ⌝ }
-    ensures { λ r. ⌜ firstAt (tabulate 0 nb (blockAt (now (blocks .entry)))) pc 0 ≡ oneBelow r nb ⌝ }
+    ensures { λ r. ⌜ firstAt (tabulate nb (blockAt (now (blocks .entry)))) pc 0 ≡ oneBelow r nb ⌝ }
 {
     let mut c = short(heads[pc % 4096]);
     while c < nb {

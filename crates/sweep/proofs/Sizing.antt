@@ -13,7 +13,7 @@ use Rattle.word.specs.Choice.{if_then_else_}
 use Rattle.heap.specs.Packing.{pad, flat, ends, startOf}
 use Rattle.heap.specs.State.{Slot, noSlot, dataOf, live}
 use Rattle.heap.specs.Lent.{column}
-use Rattle.heap.proofs.Packing.{length-pad, length-ends, start-of, end-of, start-zero, start-one}
+use Rattle.heap.proofs.Packing.{length-pad, length-ends, start-of, end-of, start-zero, start-next}
 use Rattle.heap.proofs.Splicing.{flat-mono}
 use Rattle.heap.proofs.Storing.{column-at}
 use Rattle.heap.proofs.Changing.{column-size}
@@ -38,11 +38,6 @@ size-most k from e = most (ltb 0 k)
 
 -- ---- the loop
 
-next-start : (es : List ℕ) (i : ℕ) → getD es i 0 ≡ startOf es (i + 1)
-next-start es i =
-    let back : i + 1 - 1 ≡ i = omega arith in
-    ap (λ (k : ℕ). getD es k 0) (sym back) ∙ start-one es (i + 1) (λ e. omega arith)
-
 pub record Sizing (n : ℕ) (ks es : List ℕ) (i from sum : ℕ) : Type 0 where
   pub few : i ≤ n
   pub from-is : from ≡ startOf es i
@@ -58,7 +53,7 @@ module _ {n : ℕ} {ks es : List ℕ} (can : CanSize n ks es) {i from sum : ℕ}
   sizing-low = omega (arith, can .rising i less, v .from-is)
 
   pub sizing-high : getD es i 0 ≤ 1073741824
-  sizing-high = omega (arith, can .small (i + 1) (omega arith), next-start es i)
+  sizing-high = omega (arith, can .small (i + 1) (omega arith), start-next es i)
 
   pub sizing-fits : {r : ℕ} → r ≡ oneSize (getD ks i 0) from (getD es i 0) → sum + r ≤ 4294967296
   sizing-fits e = omega (arith, sizing-low, sizing-high, size-most (getD ks i 0) from (getD es i 0), v .bound, can .few)
@@ -68,7 +63,7 @@ module _ {n : ℕ} {ks es : List ℕ} (can : CanSize n ks es) {i from sum : ℕ}
   sizing-turn e =
       record {
         few = omega arith;
-        from-is = next-start es i;
+        from-is = start-next es i;
         sum-is =
             (λ j. v .sum-is j + e j)
             ∙ ap (λ (x : ℕ). sizesIn i ks es + oneSize (getD ks i 0) x (getD es i 0)) (v .from-is)

@@ -13,6 +13,7 @@ use borrow.Author.Tests.{lt-ltb, le-ltb, le-leb, lt-leb, eq-eqb, ne-eqb, ltb-tru
 use native.Mathlib.Omega.{arith}
 use Rattle.text.specs.Text.{_>>=_, give, Bytes, newline, digits, decimal, hexDigit, hex, digitOf, stops, ends, scan, capped, after, readDecimal, hexDigitOf, byteOf, readHex, readLiteral, readField}
 use Rattle.word.specs.Choice.{if_then_else_}
+use Rattle.word.proofs.Bools.{and-both}
 use Rattle.text.specs.Format.{Format, Right, number, bytesLine, afterLiteral, pair, times, mapped, readAll, All}
 
 -- Options
@@ -63,11 +64,6 @@ digit-of-digit d h =
     rw (le-leb 48 (48 + d) (omega arith), le-leb (48 + d) 57 (omega arith))
     (ap some (let e : 48 + d - 48 ≡ d = omega arith in e))
 
-pub both : (a b : Bool) → (a && b) ≡ true → (a ≡ true) × (b ≡ true)
-both true true e = (refl, refl)
-both true false e = absurd (let z : _≡_ {A = ℕ} 0 1 = cc in omega arith)
-both false b e = absurd (let z : _≡_ {A = ℕ} 0 1 = cc in omega arith)
-
 pub some-inj : {A : Type 0} {a b : A} → some a ≡ some b → a ≡ b
 some-inj e = cc
 
@@ -75,7 +71,7 @@ pub digit-of-some : (b d : ℕ) → digitOf b ≡ some d → (d < 10) × (b ≡ 
 unfolding digitOf
 digit-of-some b d e =
     let p : ((leb 48 b && leb b 57) ≡ true) × (some (b - 48) ≡ some d) = passed (leb 48 b && leb b 57) (some (b - 48)) d e in
-    let q : (leb 48 b ≡ true) × (leb b 57 ≡ true) = both (leb 48 b) (leb b 57) (p .0) in
+    let q : (leb 48 b ≡ true) × (leb b 57 ≡ true) = and-both (leb 48 b) (leb b 57) (p .0) in
     let l : 48 ≤ b = leb-true 48 b (q .0) in
     let u : b ≤ 57 = leb-true b 57 (q .1) in
     let v : b - 48 ≡ d = some-inj (p .1) in
@@ -264,14 +260,14 @@ hex-digit-back b d e =
   where
     first : (leb 48 b && leb b 57) ≡ true → b - 48 ≡ d → (d < 16) × (hexDigit d ≡ b)
     first t v =
-        let q : (leb 48 b ≡ true) × (leb b 57 ≡ true) = both (leb 48 b) (leb b 57) t in
+        let q : (leb 48 b ≡ true) × (leb b 57 ≡ true) = and-both (leb 48 b) (leb b 57) t in
         let l : 48 ≤ b = leb-true 48 b (q .0) in
         let u : b ≤ 57 = leb-true b 57 (q .1) in
         (omega arith, rw (lt-ltb d 10 (omega arith)) (omega arith))
 
     second : ((leb 97 b && leb b 102) ≡ true) × (some (b - 87) ≡ some d) → (d < 16) × (hexDigit d ≡ b)
     second p =
-        let q : (leb 97 b ≡ true) × (leb b 102 ≡ true) = both (leb 97 b) (leb b 102) (p .0) in
+        let q : (leb 97 b ≡ true) × (leb b 102 ≡ true) = and-both (leb 97 b) (leb b 102) (p .0) in
         let l : 97 ≤ b = leb-true 97 b (q .0) in
         let u : b ≤ 102 = leb-true b 102 (q .1) in
         let v : b - 87 ≡ d = some-inj (p .1) in

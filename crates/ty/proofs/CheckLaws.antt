@@ -8,7 +8,8 @@ use native.Mathlib.Numerals.{add-one}
 use native.Mathlib.Omega.{arith}
 use lib.Dec.{leb}
 use borrow.Author.Tests.{le-leb, lt-leb, leb-true, leb-false}
-use Rattle.ty.specs.Check.{allBelow}
+use Rattle.word.specs.Lists.{allBelow}
+use Rattle.word.proofs.Bools.{and-false}
 
 -- a part of n from a on, of m
 pub leb-part : (a n m : ℕ) → a ≤ m → leb n (m - a) ≡ leb (a + n) m
@@ -30,21 +31,13 @@ module _ (p : ℕ → Bool) where
   unfolding allBelow
   all-next i e h = rw (add-one, e, h) refl
 
-  both-false : (x : Bool) → false ≡ x && false
-  both-false true = refl
-  both-false false = refl
-
   pub all-false : (i n : ℕ) → i < n → p i ≡ false → false ≡ allBelow p n
   unfolding allBelow
   all-false i zero h e = absurd (omega arith)
   all-false i (suc n) h e = ⊎-elim
-      (λ q. rw (← q, e) (both-false (allBelow p i)))
+      (λ q. rw (← q, e) (sym (and-false (allBelow p i))))
       (λ l. rw (← all-false i n l e) refl)
       (eq-or-lt-of-le {n = i} {m = n} (omega arith))
 
   pub all-end : (i n : ℕ) → i ≤ n → n ≤ i → allBelow p i ≡ true → true ≡ allBelow p n
   all-end i n h k e = let q : n ≡ i = omega arith in rw q (sym e)
-
-pub and-true : (x : Bool) → x ≡ x && true
-and-true true = refl
-and-true false = refl

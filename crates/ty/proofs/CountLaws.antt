@@ -2,7 +2,6 @@
 -- Assumes nothing.
 use mathlib.Core.Path.{_≡_, refl, sym, ap, subst, _∙_}
 use mathlib.Core.List.{List, [], _∷_}
-use mathlib.Core.Bool.{Bool, _&&_}
 use mathlib.Core.Logic.{⊎-elim}
 use Prim.Native.Nat.{ℕ, zero, suc, _+_, _-_, _*_, _/_, _≤_, _<_, min}
 use native.Mathlib.Nat.{min-eq-left, min-eq-right, min-le-right, le-of-lt}
@@ -13,16 +12,18 @@ use lib.Seq.{ext-getD}
 use types.Run.{OneOf, miss}
 use denote.Enum.Declared.{tagOf}
 use borrow.Author.Tests.{lt-leb}
+use Rattle.word.specs.Lists.{allBelow, tabulate}
+use Rattle.word.proofs.ListLaws.{below-same, length-tabulate, getD-tabulate, tabulate-past, tabulate-same}
 use Rattle.word.proofs.InPlace.{Mapped, mapped-none, mapped-more}
 use Rattle.ty.specs.Types.{Ty, Ty.missing, Ty.int, Ty.physical, Ty.enum, Ty.real, Ty.array, Ty.fields, Ty.access, Ty.file, Ty.protected, Field, Field.field, typeAt}
 use Rattle.ty.specs.Walks.{unfoldFields, unfoldBy, unfoldAt}
-use Rattle.ty.specs.View.{listed, readTy, entryAt, fieldsFrom, typesOf}
-use Rattle.ty.specs.Check.{allBelow, smallAt}
+use Rattle.ty.specs.View.{readTy, entryAt, fieldsFrom, typesOf}
+use Rattle.ty.specs.Check.{smallAt}
 use Rattle.ty.specs.Counts.{countIn, Capped, fieldSum, fieldSums, nextCount, nextCounts, countsAt, smallIn}
 use Rattle.ty.specs.declared.Entry.{Entry}
 use Rattle.ty.specs.declared.Entry.the-variants.{Missing, Int, Physical, Enum, Real, Array, Record, Access, File, Protected}
 use Rattle.ty.proofs.Entry.{the-type as entry-type}
-use Rattle.ty.proofs.Lookup.{le-or-lt, length-listed, getD-listed, getD-past, type-at}
+use Rattle.ty.proofs.Lookup.{le-or-lt, type-at}
 
 -- an element that is there does not go by the default
 default-free : (l : List ℕ) (i d e : ℕ) → i < length l → getD l i d ≡ getD l i e
@@ -39,16 +40,11 @@ unfolding countIn
 count-missing l t h = sym (List·getD-eq-default l 1 h)
 
 -- a list that was filled by f from the front
-filled : (f : ℕ → ℕ) (l₀ l : List ℕ) (i : ℕ) → Mapped f l₀ l i → length l₀ ≤ i → l ≡ listed f 0 (length l₀)
+filled : (f : ℕ → ℕ) (l₀ l : List ℕ) (i : ℕ) → Mapped f l₀ l i → length l₀ ≤ i → l ≡ tabulate (length l₀) f
 filled f l₀ l i m h =
     let n = m .len in
-    ext-getD 0 l (listed f 0 (length l₀)) (m .len ∙ sym (length-listed f 0 (length l₀)))
-    (λ k lt. m .done k (omega arith) ∙ sym (getD-listed f 0 (length l₀) k 0 (omega arith) ∙ ap f (omega arith)))
-
-listed-ext : (f g : ℕ → ℕ) (i n : ℕ) → ((t : ℕ) → f t ≡ g t) → listed f i n ≡ listed g i n
-unfolding listed
-listed-ext f g i zero h = refl
-listed-ext f g i (suc n) h = ap (λ (x : ℕ). x ∷ listed f (i + 1) n) (h i) ∙ ap (λ (l : List ℕ). g i ∷ l) (listed-ext f g (i + 1) n h)
+    ext-getD 0 l (tabulate (length l₀) f) (m .len ∙ sym (length-tabulate (length l₀) f))
+    (λ k lt. m .done k (omega arith) ∙ sym (getD-tabulate (length l₀) f k 0 (omega arith)))
 
 -- the cap
 cap-mid : (a x u : ℕ) → min (a + (min x 65537 + u)) 65537 ≡ min (a + (x + u)) 65537
@@ -109,8 +105,8 @@ module _ (ts : List Ty) (n : ℕ) (all : length ts ≡ n) where
   counted : (m t : ℕ) → countIn (countsAt ts n (suc m)) t ≡ min (unfoldAt ts (suc m) t) 65537
   unfolding countsAt countIn
   counted m t = ⊎-elim
-      (λ h. getD-past (λ u. min (unfoldAt ts (suc m) u) 65537) 0 n t 1 h ∙ sym (ap (λ (x : ℕ). min x 65537) (past-one ts m t (omega arith))))
-      (λ h. getD-listed (λ u. min (unfoldAt ts (suc m) u) 65537) 0 n t 1 h ∙ ap (λ (u : ℕ). min (unfoldAt ts (suc m) u) 65537) (omega arith))
+      (λ h. tabulate-past n (λ u. min (unfoldAt ts (suc m) u) 65537) t 1 h ∙ sym (ap (λ (x : ℕ). min x 65537) (past-one ts m t (omega arith))))
+      (λ h. getD-tabulate n (λ u. min (unfoldAt ts (suc m) u) 65537) t 1 h)
       (le-or-lt n t)
 
   next-one : (m t : ℕ) → nextCount ts (countsAt ts n (suc m)) t ≡ min (unfoldAt ts (suc (suc m)) t) 65537
@@ -119,15 +115,15 @@ module _ (ts : List Ty) (n : ℕ) (all : length ts ≡ n) where
 
   next-all : (m : ℕ) → nextCounts ts (countsAt ts n (suc m)) n ≡ countsAt ts n (suc (suc m))
   unfolding nextCounts countsAt
-  next-all m = listed-ext (nextCount ts (countsAt ts n (suc m))) (λ t. min (unfoldAt ts (suc (suc m)) t) 65537) 0 n (next-one m)
+  next-all m = tabulate-same n (nextCount ts (countsAt ts n (suc m))) (λ t. min (unfoldAt ts (suc (suc m)) t) 65537) (next-one m)
 
 pub length-types : (w fs : List ℕ) → length (typesOf w fs) ≡ length w / 4
 unfolding typesOf
-length-types w fs = length-listed (λ i. readTy fs (entryAt w (length fs / 2) i)) 0 (length w / 4)
+length-types w fs = length-tabulate (length w / 4) (λ i. readTy fs (entryAt w (length fs / 2) i))
 
 pub length-counts : (ts : List Ty) (n m : ℕ) (l : List ℕ) → l ≡ countsAt ts n m → length l ≡ n
 unfolding countsAt
-length-counts ts n m l e = ap length e ∙ length-listed (λ t. min (unfoldAt ts m t) 65537) 0 n
+length-counts ts n m l e = ap length e ∙ length-tabulate n (λ t. min (unfoldAt ts m t) 65537)
 
 -- the two halves of a turn over the levels
 pub next-level : (w fs : List ℕ) (m k : ℕ) (l l′ : List ℕ) (n : ℕ) → l ≡ countsAt (typesOf w fs) (length w / 4) m → 0 < m → k ≡ suc m → n ≡ length w / 4 → l′ ≡ nextCounts (typesOf w fs) l n → l′ ≡ countsAt (typesOf w fs) (length w / 4) k
@@ -143,8 +139,8 @@ pub capped-counts : (ts : List Ty) (n m : ℕ) (l : List ℕ) → l ≡ countsAt
 unfolding countsAt countIn
 capped-counts ts n m l e = record {
   most = λ t. subst (λ (x : List ℕ). countIn x t ≤ 65537) (sym e) (⊎-elim
-      (λ h. subst (λ (x : ℕ). x ≤ 65537) (sym (getD-past (λ u. min (unfoldAt ts m u) 65537) 0 n t 1 h)) (omega arith))
-      (λ h. subst (λ (x : ℕ). x ≤ 65537) (sym (getD-listed (λ u. min (unfoldAt ts m u) 65537) 0 n t 1 h)) (min-le-right (unfoldAt ts m (0 + t)) 65537))
+      (λ h. subst (λ (x : ℕ). x ≤ 65537) (sym (tabulate-past n (λ u. min (unfoldAt ts m u) 65537) t 1 h)) (omega arith))
+      (λ h. subst (λ (x : ℕ). x ≤ 65537) (sym (getD-tabulate n (λ u. min (unfoldAt ts m u) 65537) t 1 h)) (min-le-right (unfoldAt ts m t) 65537))
       (le-or-lt n t));
 }
 
@@ -167,14 +163,14 @@ by-one f h access = refl
 by-one f h file = refl
 by-one f h protected = refl
 
-ones-listed : (f : ℕ → ℕ) (i n : ℕ) → ((t : ℕ) → f t ≡ 1) → replicate n 1 ≡ listed f i n
-unfolding listed
-ones-listed f i zero h = refl
-ones-listed f i (suc n) h = ap (λ (l : List ℕ). 1 ∷ l) (ones-listed f (i + 1) n h) ∙ ap (λ (x : ℕ). x ∷ listed f (i + 1) n) (sym (h i))
+ones-tabulate : (f : ℕ → ℕ) (n : ℕ) → ((t : ℕ) → f t ≡ 1) → replicate n 1 ≡ tabulate n f
+unfolding tabulate
+ones-tabulate f zero h = refl
+ones-tabulate f (suc n) h = ap (λ (l : List ℕ). 1 ∷ l) (ones-tabulate (λ i. f (suc i)) n (λ t. h (suc t))) ∙ ap (λ (x : ℕ). x ∷ tabulate n (λ i. f (suc i))) (sym (h 0))
 
 pub first-level : (ts : List Ty) (n : ℕ) (l : List ℕ) → l ≡ replicate n 1 → l ≡ countsAt ts n 1
 unfolding countsAt unfoldAt
-first-level ts n l e = e ∙ ones-listed (λ t. min (unfoldAt ts 1 t) 65537) 0 n (λ t. ap (λ (x : ℕ). min (suc x) 65537) (by-one (unfoldAt ts 0) (λ u. refl) (typeAt ts t)))
+first-level ts n l e = e ∙ ones-tabulate (λ t. min (unfoldAt ts 1 t) 65537) n (λ t. ap (λ (x : ℕ). min (suc x) 65537) (by-one (unfoldAt ts 0) (λ u. refl) (typeAt ts t)))
 
 -- sums of fields
 fields-sum : (f : ℕ → ℕ) (fs : List ℕ) (i n m : ℕ) → unfoldFields f (fieldsFrom fs i (n + m)) ≡ unfoldFields f (fieldsFrom fs i n) + unfoldFields f (fieldsFrom fs (i + n) m)
@@ -210,11 +206,11 @@ sum-read : (fs counts : List ℕ) (n : ℕ) → n ≤ length fs / 2 → getD (0 
 unfolding fieldSums
 sum-read fs counts zero h = sum-none fs counts
 sum-read fs counts (suc n) h =
-    getD-listed (λ i. fieldSum fs counts (i + 1)) 0 (length fs / 2) n 0 (omega arith) ∙ ap (fieldSum fs counts) (omega arith)
+    getD-tabulate (length fs / 2) (λ i. fieldSum fs counts (i + 1)) n 0 (omega arith) ∙ ap (fieldSum fs counts) (omega arith)
 
 pub length-sums : (fs counts l : List ℕ) → l ≡ fieldSums fs counts → length l ≡ length fs / 2
 unfolding fieldSums
-length-sums fs counts l e = ap length e ∙ length-listed (λ i. fieldSum fs counts (i + 1)) 0 (length fs / 2)
+length-sums fs counts l e = ap length e ∙ length-tabulate (length fs / 2) (λ i. fieldSum fs counts (i + 1))
 
 -- the sum before field n, as it is read
 pub sum-at : (l : List ℕ) (n : ℕ) → (n ≡ 0 → ⊥) → getD l (n - 1) 0 ≡ getD (0 ∷ l) n 0
@@ -250,7 +246,7 @@ summing-next fs counts start now s i m lt h x e =
 pub summing-end : (fs counts start now : List ℕ) (s i : ℕ) → Summing fs counts start now s i → length start ≤ i → length start ≡ length fs / 2 → now ≡ fieldSums fs counts
 unfolding fieldSums
 summing-end fs counts start now s i m h e =
-    filled (λ k. fieldSum fs counts (k + 1)) start now i (m .done) h ∙ ap (listed (λ k. fieldSum fs counts (k + 1)) 0) e
+    filled (λ k. fieldSum fs counts (k + 1)) start now i (m .done) h ∙ ap (λ (n : ℕ). tabulate n (λ k. fieldSum fs counts (k + 1))) e
 
 pub counts-filled : (ts : List Ty) (counts start now : List ℕ) (i : ℕ) → Mapped (nextCount ts counts) start now i → length start ≤ i → now ≡ nextCounts ts counts (length start)
 unfolding nextCounts
@@ -314,20 +310,14 @@ small-cap x = ⊎-elim
     (λ h. ap (λ (y : ℕ). leb y 65536) (min-eq-right (le-of-lt h)) ∙ sym (lt-leb x 65536 (omega arith)))
     (le-or-lt x 65537)
 
-all-ext : (p q : ℕ → Bool) (n : ℕ) → ((i : ℕ) → i < n → p i ≡ q i) → allBelow p n ≡ allBelow q n
-unfolding allBelow
-all-ext p q zero h = refl
-all-ext p q (suc n) h = ap (λ (x : Bool). x && p n) (all-ext p q n (λ i l. h i (omega arith))) ∙ ap (λ (x : Bool). allBelow q n && x) (h n (omega arith))
-
 pub all-counted : (ts : List Ty) (n : ℕ) (l : List ℕ) → l ≡ countsAt ts n 65 → allBelow (smallIn l) (length l) ≡ allBelow (smallAt ts) n
 unfolding smallAt countsAt
 all-counted ts n l e =
     ap (allBelow (smallIn l)) (length-counts ts n 65 l e)
-    ∙ all-ext (smallIn l) (smallAt ts) n (λ i h.
+    ∙ below-same (smallIn l) (smallAt ts) n (λ i h.
     ap (λ (x : List ℕ). leb (getD x i 0) 65536) e
-    ∙ ap (λ (x : ℕ). leb x 65536) (getD-listed (λ t. min (unfoldAt ts 65 t) 65537) 0 n i 0 h)
-    ∙ small-cap (unfoldAt ts 65 (0 + i))
-    ∙ ap (λ (t : ℕ). leb (unfoldAt ts 65 t) 65536) (omega arith))
+    ∙ ap (λ (x : ℕ). leb x 65536) (getD-tabulate n (λ t. min (unfoldAt ts 65 t) 65537) i 0 h)
+    ∙ small-cap (unfoldAt ts 65 i))
 
 -- the turns over the levels
 pub record Unfolding (w fs counts other sums : List ℕ) (k : ℕ) : Type 0 where

@@ -6,34 +6,20 @@ use Prim.Native.Nat.{ℕ, zero, suc, _+_, _-_, _/_, _≤_, _<_}
 use native.Mathlib.Nat.{lt-of-not-le}
 use native.Mathlib.Decide.{decLe}
 use native.Mathlib.Omega.{arith}
-use lib.ListN.{length, getD, List·getD-eq-default}
+use lib.ListN.{length}
 use types.Run.{OneOf, miss}
 use denote.Enum.Declared.{tagOf}
 use borrow.Author.Tests.{le-ltb}
+use Rattle.word.proofs.ListLaws.{getD-tabulate, tabulate-past}
 use Rattle.ty.specs.Types.{Ty, Ty.missing, Const.other, typeAt, constAt}
 use Rattle.ty.specs.Scalars.{scalarSize, elemSize, logicLeaf, leafBy}
-use Rattle.ty.specs.View.{listed, readTy, entryAt, typesOf, readPart, partAt, constsOf, bare}
+use Rattle.ty.specs.View.{readTy, entryAt, typesOf, readPart, partAt, constsOf, bare}
 use Rattle.ty.specs.declared.Entry.{Entry}
 use Rattle.ty.specs.declared.Entry.the-variants.{Missing, Int, Physical, Enum, Real, Array, Record, Access, File, Protected}
 use Rattle.ty.proofs.Entry.{the-type}
 
 pub le-or-lt : (a b : ℕ) → (a ≤ b) ⊎ (b < a)
 le-or-lt a b = elim (decLe a b) [ yes h ↦ inl h | no h ↦ inr (lt-of-not-le h) ]
-
-module _ {A : Type 0} (f : ℕ → A) where
-  pub length-listed : (i n : ℕ) → length (listed f i n) ≡ n
-  unfolding listed
-  length-listed i zero = refl
-  length-listed i (suc n) = ap suc (length-listed (i + 1) n)
-
-  pub getD-listed : (i n t : ℕ) (z : A) → t < n → getD (listed f i n) t z ≡ f (i + t)
-  unfolding listed
-  getD-listed i zero t z h = absurd (omega arith)
-  getD-listed i (suc n) zero z h = ap f (omega arith)
-  getD-listed i (suc n) (suc t) z h = getD-listed (i + 1) n t z (omega arith) ∙ ap f (omega arith)
-
-  pub getD-past : (i n t : ℕ) (z : A) → n ≤ t → getD (listed f i n) t z ≡ z
-  getD-past i n t z h = List·getD-eq-default (listed f i n) z (omega (arith, length-listed i n))
 
 type-out : (w fs : List ℕ) (t : ℕ) → length w / 4 ≤ t → readTy fs (entryAt w (length fs / 2) t) ≡ missing
 unfolding entryAt readTy
@@ -47,15 +33,15 @@ const-out w b c h = simp (le-ltb c (length w / 3) h)
 pub type-at : (w fs : List ℕ) (t : ℕ) → typeAt (typesOf w fs) t ≡ readTy fs (entryAt w (length fs / 2) t)
 unfolding typesOf
 type-at w fs t = ⊎-elim
-    (λ h. getD-past (λ i. readTy fs (entryAt w (length fs / 2) i)) 0 (length w / 4) t missing h ∙ sym (type-out w fs t h))
-    (λ h. getD-listed (λ i. readTy fs (entryAt w (length fs / 2) i)) 0 (length w / 4) t missing h ∙ ap (λ (i : ℕ). readTy fs (entryAt w (length fs / 2) i)) (omega arith))
+    (λ h. tabulate-past (length w / 4) (λ i. readTy fs (entryAt w (length fs / 2) i)) t missing h ∙ sym (type-out w fs t h))
+    (λ h. getD-tabulate (length w / 4) (λ i. readTy fs (entryAt w (length fs / 2) i)) t missing h)
     (le-or-lt (length w / 4) t)
 
 pub const-at : (w b : List ℕ) (c : ℕ) → constAt (constsOf w b) c ≡ readPart b (partAt w (length b) c)
 unfolding constsOf
 const-at w b c = ⊎-elim
-    (λ h. getD-past (λ i. readPart b (partAt w (length b) i)) 0 (length w / 3) c other h ∙ sym (const-out w b c h))
-    (λ h. getD-listed (λ i. readPart b (partAt w (length b) i)) 0 (length w / 3) c other h ∙ ap (λ (i : ℕ). readPart b (partAt w (length b) i)) (omega arith))
+    (λ h. tabulate-past (length w / 3) (λ i. readPart b (partAt w (length b) i)) c other h ∙ sym (const-out w b c h))
+    (λ h. getD-tabulate (length w / 3) (λ i. readPart b (partAt w (length b) i)) c other h)
     (le-or-lt (length w / 3) c)
 
 -- an entry that is no Int

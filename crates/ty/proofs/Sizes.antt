@@ -5,18 +5,19 @@ use mathlib.Core.Bool.{Bool, true, false}
 use mathlib.Core.Logic.{⊎-elim}
 use mathlib.Core.Option.{Option, none, some}
 use Prim.Native.Nat.{ℕ, zero, suc, _+_, _*_, _/_, _^_, _≤_, _<_}
-use native.Mathlib.Nat.{eq-or-lt-of-le}
 use native.Mathlib.Omega.{arith}
 use lib.Dec.{ltb, leb, eqb}
 use lib.ListN.{length, getD}
 use borrow.Author.Tests.{ltb-true, ltb-false, leb-true}
 use Rattle.word.specs.Choice.{if_then_else_}
+use Rattle.word.specs.Lists.{allBelow}
 use Rattle.word.proofs.Bools.{and-both}
+use Rattle.word.proofs.ListLaws.{below-at}
 use Rattle.ty.specs.Types.{Ty, Ty.missing, Ty.int, Ty.physical, Ty.enum, Ty.real, Ty.array, Ty.fields, Ty.access, Ty.file, Ty.protected, Field, Field.field, typeAt, none as noConst}
 use Rattle.ty.specs.Words.{wordOf, onWord}
 use Rattle.ty.specs.View.{readTy, entryOf, entryAt, typesOf}
 use Rattle.ty.specs.Walks.{descArray, descFields, descBy, descAt, descSize, plus, sizeFields, sizeBy, sizeAt, descBytes, exactly, unfoldFields, unfoldBy, unfoldAt}
-use Rattle.ty.specs.Check.{allBelow, allOf, goodType, goodTypeAt, smallAt, tableGood}
+use Rattle.ty.specs.Check.{allOf, goodType, goodTypeAt, smallAt, tableGood}
 use Rattle.ty.specs.declared.Word.{Word}
 use Rattle.ty.specs.declared.Word.the-variants.{Is, Over}
 use Rattle.ty.specs.declared.Entry.the-variants.{Missing, Int, Physical, Enum, Real, Array, Record, Access, File, Protected}
@@ -185,13 +186,6 @@ at-small ts few zero t = tt
 at-small ts few (suc n) t = by-small (sizeAt ts n) (unfoldAt ts n) (at-small ts few n) (typeAt ts t) (few t)
 
 -- what a checked table promises
-all-get : (p : ℕ → Bool) (n : ℕ) → allBelow p n ≡ true → (i : ℕ) → i < n → p i ≡ true
-unfolding allBelow
-all-get p zero e i h = absurd (omega arith)
-all-get p (suc n) e i h =
-    let k = and-both (allBelow p n) (p n) e in
-    ⊎-elim (λ q. ap p q ∙ k .1) (λ l. all-get p n (k .0) i l) (eq-or-lt-of-le {n = i} {m = n} (omega arith))
-
 all-in : (bs : List Bool) (i : ℕ) → allOf bs ≡ true → getD bs i true ≡ true
 unfolding allOf
 all-in [] i e = refl
@@ -234,13 +228,13 @@ module _ (w fs cs b : List ℕ) (good : tableGood w fs cs b ≡ true) where
   few : (t : ℕ) → FewDims (typeAt (typesOf w fs) t)
   unfolding entryAt
   few t = subst (λ (y : Ty). FewDims y) (sym (type-at w fs t))
-      (few-entry fs w (length fs / 2) t (ltb t (length w / 4)) (λ e. all-get (goodTypeAt w (length fs / 2)) (length w / 4) (parts .0) t (ltb-true t (length w / 4) e)))
+      (few-entry fs w (length fs / 2) t (ltb t (length w / 4)) (λ e. below-at (goodTypeAt w (length fs / 2)) (length w / 4) (parts .0) t (ltb-true t (length w / 4) e)))
 
   small : (t : ℕ) → unfoldAt (typesOf w fs) 65 t ≤ 65536
   unfolding smallAt
   small t = ⊎-elim
       (λ h. omega (arith, past-one (typesOf w fs) 64 t (omega (arith, length-types w fs))))
-      (λ h. leb-true (unfoldAt (typesOf w fs) 65 t) 65536 (all-get (smallAt (typesOf w fs)) (length w / 4) (parts .1) t h))
+      (λ h. leb-true (unfoldAt (typesOf w fs) 65 t) 65536 (below-at (smallAt (typesOf w fs)) (length w / 4) (parts .1) t h))
       (le-or-lt (length w / 4) t)
 
   exact-cases : (x : Option ℕ) (b : ℕ) → b < 2 ^ 64 → Small x b → asWord x ≡ exactly x

@@ -1,18 +1,14 @@
 -- Which type tables are taken (01, "Type table"; otherwise 10).
-use Prim.Native.Nat.{ℕ, zero, suc, _+_, _*_, _/_, _%_}
+use Prim.Native.Nat.{ℕ, _+_, _*_, _/_, _%_}
 use mathlib.Core.List.{List, [], _∷_}
 use mathlib.Core.Bool.{Bool, true, _&&_}
 use lib.Dec.{leb, eqb}
 use lib.ListN.{length, getD}
 use Rattle.ty.specs.Types.{Ty}
 use Rattle.word.specs.Choice.{if_then_else_}
+use Rattle.word.specs.Lists.{allBelow}
 use Rattle.ty.specs.View.{typesOf}
 use Rattle.ty.specs.Walks.{unfoldAt}
-
--- p at every number below n
-unfoldable pub allBelow : (ℕ → Bool) → ℕ → Bool
-allBelow p zero = true
-allBelow p (suc n) = allBelow p n && p n
 
 unfoldable pub allOf : List Bool → Bool
 allOf [] = true

@@ -6,9 +6,10 @@ use mathlib.Core.List.{List}
 use mathlib.Core.Bool.{Bool}
 use lib.Dec.{leb}
 use lib.ListN.{length, getD, replicate}
+use Rattle.word.specs.Lists.{tabulate}
 use Rattle.ty.specs.Types.{Ty, typeAt}
 use Rattle.ty.specs.Walks.{unfoldFields, unfoldBy, unfoldAt}
-use Rattle.ty.specs.View.{listed, fieldsFrom}
+use Rattle.ty.specs.View.{fieldsFrom}
 
 -- a type past the counts is missing, and counts 1
 unfoldable pub countIn : List ℕ → ℕ → ℕ
@@ -22,18 +23,18 @@ unfoldable pub fieldSum : List ℕ → List ℕ → ℕ → ℕ
 fieldSum fs counts j = unfoldFields (countIn counts) (fieldsFrom fs 0 j)
 
 unfoldable pub fieldSums : List ℕ → List ℕ → List ℕ
-fieldSums fs counts = listed (λ i. fieldSum fs counts (i + 1)) 0 (length fs / 2)
+fieldSums fs counts = tabulate (length fs / 2) (λ i. fieldSum fs counts (i + 1))
 
 -- one level more, of the type t and of n types
 unfoldable pub nextCount : List Ty → List ℕ → ℕ → ℕ
 nextCount ts counts t = min (suc (unfoldBy (countIn counts) (typeAt ts t))) 65537
 
 unfoldable pub nextCounts : List Ty → List ℕ → ℕ → List ℕ
-nextCounts ts counts n = listed (nextCount ts counts) 0 n
+nextCounts ts counts n = tabulate n (nextCount ts counts)
 
 -- the counts of n types at so many levels
 unfoldable pub countsAt : List Ty → ℕ → ℕ → List ℕ
-countsAt ts n levels = listed (λ t. min (unfoldAt ts levels t) 65537) 0 n
+countsAt ts n levels = tabulate n (λ t. min (unfoldAt ts levels t) 65537)
 
 abbrev pub smallIn : List ℕ → ℕ → Bool
 smallIn counts i = leb (getD counts i 0) 65536

@@ -6,6 +6,7 @@ use lib.Dec.{ltb, leb, eqb}
 use lib.ListN.{length, getD, drop, take}
 use Rattle.ty.specs.Types.{Ty, Ty.missing, Ty.int, Ty.physical, Ty.enum, Ty.real, Ty.array, Ty.fields, Ty.access, Ty.file, Ty.protected, Field, Field.field, Const, Const.plain, Const.other, Table}
 use Rattle.word.specs.Choice.{if_then_else_}
+use Rattle.word.specs.Lists.{tabulate}
 use Rattle.ty.specs.declared.Entry.{Entry}
 use Rattle.ty.specs.declared.Entry.the-variants.{Missing, Int, Physical, Enum, Real, Array, Record, Access, File, Protected}
 use Rattle.ty.specs.declared.Part.{Part}
@@ -48,11 +49,6 @@ readTy fs Access = access
 readTy fs File = file
 readTy fs Protected = protected
 
--- f i, f (i + 1), ..: n of them
-unfoldable pub listed : {A : Type 0} → (ℕ → A) → ℕ → ℕ → List A
-listed f i zero = []
-listed f i (suc n) = f i ∷ listed f (i + 1) n
-
 -- where the bytes of constant c lie, three words a constant
 unfoldable pub partAt : List ℕ → ℕ → ℕ → Part
 partAt w nb c =
@@ -67,10 +63,10 @@ readPart b Nowhere = other
 readPart b (Of a e) = plain (take (e - a) (drop a b))
 
 unfoldable pub typesOf : List ℕ → List ℕ → List Ty
-typesOf w fs = listed (λ i. readTy fs (entryAt w (length fs / 2) i)) 0 (length w / 4)
+typesOf w fs = tabulate (length w / 4) (λ i. readTy fs (entryAt w (length fs / 2) i))
 
 unfoldable pub constsOf : List ℕ → List ℕ → List Const
-constsOf cs b = listed (λ i. readPart b (partAt cs (length b) i)) 0 (length cs / 3)
+constsOf cs b = tabulate (length cs / 3) (λ i. readPart b (partAt cs (length b) i))
 
 abbrev pub tableOf : List ℕ → List ℕ → List ℕ → List ℕ → Table
 tableOf w fs cs b = record { types = typesOf w fs; consts = constsOf cs b }

@@ -6,7 +6,8 @@ use lib.ListN.{getD}
 use denote.Ref.{now}
 use Rattle.heap.specs.Packing.{startOf}
 use Rattle.heap_check.specs.Checks.{SlotOk}
-use Rattle.heap_check.proofs.Looking.{says-no, says-yes, false-true, below-one-more, start-first, start-next}
+use Rattle.heap.proofs.Packing.{start-next}
+use Rattle.heap_check.proofs.Looking.{says-no, says-yes, false-true, below-one-more, start-first}
 use borrow.Author.Needs.{needs}
 use Rattle.heap_check.proofs.slots_ok.Statement.{statement}
 use Rattle.heap_check.proofs.slots_ok.Tie as tie

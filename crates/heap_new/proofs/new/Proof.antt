@@ -1,6 +1,7 @@
 -- `heap_new::new` meets its contract. Assumes nothing.
 use mathlib.Core.Path.{sym, _∙_}
-use Rattle.heap_new.proofs.Sizes.{sizes-tested, no-marks, no-words, not-right, made}
+use Rattle.heap.proofs.Testing.{sizes-tested}
+use Rattle.heap_new.proofs.Ways.{no-marks, no-words, not-right, made}
 use borrow.Author.Needs.{needs}
 use Rattle.heap_new.proofs.new.Statement.{statement}
 use Rattle.heap_new.proofs.new.Tie as tie

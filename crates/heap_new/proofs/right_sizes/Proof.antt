@@ -1,6 +1,6 @@
 -- `heap_new::right_sizes` meets its contract. Each test refuses what one size asks. Assumes nothing.
 use native.Mathlib.Omega.{arith}
-use Rattle.heap_new.proofs.Sizes.{sizes-no, sizes-yes}
+use Rattle.heap.proofs.Testing.{sizes-no, sizes-yes}
 use Rattle.heap_new.proofs.right_sizes.Statement.{statement}
 use Rattle.heap_new.proofs.right_sizes.Tie as tie
 

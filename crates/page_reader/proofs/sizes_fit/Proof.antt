@@ -1,4 +1,4 @@
-use Rattle.page_reader.specs.Reading.{sizesFit}
+use Rattle.heap.specs.WellFormed.{sizesFit}
 use borrow.Author.Needs.{needs}
 use Rattle.page_reader.proofs.sizes_fit.Statement.{statement}
 use Rattle.page_reader.proofs.sizes_fit.Tie as tie

@@ -1,5 +1,6 @@
 use Rattle.heap.specs.State.{Slot}
-use Rattle.pages.proofs.Writing.{slot-found, rises, lines, lines-all, line-room, puts-line, start-next}
+use Rattle.heap.proofs.Packing.{start-next}
+use Rattle.pages.proofs.Writing.{slot-found, rises, lines, lines-all, line-room, puts-line}
 use Rattle.heap.specs.Packing.{startOf}
 use Rattle.pages.specs.Columns.{columns}
 use Rattle.pages.specs.Page.{slotLine}

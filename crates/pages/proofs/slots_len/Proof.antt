@@ -1,4 +1,5 @@
-use Rattle.pages.proofs.Writing.{final-bound, slot-found, part-length, rises, lines, lines-all, line-more-length, start-next}
+use Rattle.heap.proofs.Packing.{start-next}
+use Rattle.pages.proofs.Writing.{final-bound, slot-found, part-length, rises, lines, lines-all, line-more-length}
 use Rattle.heap.specs.State.{Slot}
 use Rattle.heap.specs.Packing.{startOf}
 use Rattle.pages.specs.Columns.{columns}

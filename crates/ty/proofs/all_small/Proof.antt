@@ -5,7 +5,7 @@ use mathlib.Core.Bool.{true}
 use native.Mathlib.Omega.{arith}
 use lib.ListN.{length}
 use borrow.Author.Tests.{le-leb, lt-leb}
-use Rattle.ty.specs.Check.{allBelow}
+use Rattle.word.specs.Lists.{allBelow}
 use Rattle.ty.specs.Counts.{smallIn}
 use Rattle.ty.proofs.CheckLaws.{all-start, all-next, all-false, all-end}
 use Rattle.ty.proofs.all_small.Statement.{statement}

@@ -1,9 +1,9 @@
 -- `ty::check_table` meets its contract. Assumes nothing.
 use borrow.Author.Needs.{needs}
-use mathlib.Core.Path.{refl}
+use mathlib.Core.Path.{refl, sym}
 use borrow.Author.Tests.{lt-leb, le-leb, eq-eqb, ne-eqb, not-true, not-false}
+use Rattle.word.proofs.Bools.{and-true}
 use Rattle.ty.specs.Check.{tableGood, allOf}
-use Rattle.ty.proofs.CheckLaws.{and-true}
 use Rattle.ty.proofs.check_table.Statement.{statement}
 use Rattle.ty.proofs.check_table.Tie as tie
 
@@ -50,7 +50,7 @@ unfolds-good-requires c κs = search needs
 
 returns-9 : tie.Need-returns-9
 unfolding tableGood allOf
-returns-9 c = rw (eq-eqb _ _ (c .before .before .before .before .before .before .before .before .before .before .if1 .left), le-leb _ _ (c .before .before .before .before .before .before .before .before .before .if2 .left), eq-eqb _ _ (c .before .before .before .before .before .before .before .before .if3 .left), le-leb _ _ (c .before .before .before .before .before .before .before .if4 .left), eq-eqb _ _ (c .before .before .before .before .before .before .if5 .left), le-leb _ _ (c .before .before .before .before .before .if6 .left), ← c .before .before .before .before .types-good .ensures, not-false (c .before .before .before .before .types-good .result) (c .before .before .before .if7 .left), ← c .before .before .consts-good .ensures, not-false (c .before .before .consts-good .result) (c .before .if8 .left), ← c .unfolds-good .ensures) (and-true _)
+returns-9 c = rw (eq-eqb _ _ (c .before .before .before .before .before .before .before .before .before .before .if1 .left), le-leb _ _ (c .before .before .before .before .before .before .before .before .before .if2 .left), eq-eqb _ _ (c .before .before .before .before .before .before .before .before .if3 .left), le-leb _ _ (c .before .before .before .before .before .before .before .if4 .left), eq-eqb _ _ (c .before .before .before .before .before .before .if5 .left), le-leb _ _ (c .before .before .before .before .before .if6 .left), ← c .before .before .before .before .types-good .ensures, not-false (c .before .before .before .before .types-good .result) (c .before .before .before .if7 .left), ← c .before .before .consts-good .ensures, not-false (c .before .before .consts-good .result) (c .before .if8 .left), ← c .unfolds-good .ensures) (sym (and-true _))
 
 pub check-table-spec : {M : Type 1} → statement M
 check-table-spec =
