@@ -1,6 +1,7 @@
 -- The proved table of 01 holds of the definitions, by computation: one statement over the table. Assumes nothing.
 use mathlib.Core.Path.{_≡_, refl}
 use mathlib.Core.Bool.{Bool, true}
+use Rattle.word.specs.Lists.{all, sameList}
 use Rattle.word.specs.Num.{nextFrom, alignUp}
 use Rattle.word.specs.Le.{le, bytes}
 use Rattle.handle.specs.Handle.{packed, tagOf, indexOf, generationOf, resolveBy}
@@ -11,8 +12,8 @@ use Rattle.layout.specs.Layout.{dimLen, dimsOf, under, arrayLaid, arrayOf, plac
 use Rattle.layout.specs.Offsets.{offsetsFrom, offsetsOf}
 use Rattle.layout.proofs.Cases.{dim, sample, nested, answered, cases}
 use Rattle.trace.specs.Places.{rising, handlesPlaces, kindPlaces, wordsAt, handlesOf}
-use Rattle.cases.specs.Table.{laid, handlesIn, table, same, allRight}
+use Rattle.cases.specs.Table.{laid, handlesIn, table, allRight}
 
 pub table-holds : allRight table ≡ true
-unfolding allRight same table laid handlesIn packed nextFrom resolve new resolveBy tagOf indexOf generationOf handlesOf kindPlaces handlesPlaces rising wordsAt le bytes cases dim sample nested answered layoutOf layoutAt layoutBy arrayOf arrayLaid dimsOf wordOf dimLen rank alignUp under elemSize scalarSize narrow logicLeaf leafBy recordOf endOf placed offsetsOf offsetsFrom
+unfolding allRight all sameList table laid handlesIn packed nextFrom resolve new resolveBy tagOf indexOf generationOf handlesOf kindPlaces handlesPlaces rising wordsAt le bytes cases dim sample nested answered layoutOf layoutAt layoutBy arrayOf arrayLaid dimsOf wordOf dimLen rank alignUp under elemSize scalarSize narrow logicLeaf leafBy recordOf endOf placed offsetsOf offsetsFrom
 table-holds = refl

@@ -1,10 +1,10 @@
 -- The proved table of 01, cases (a) to (k), and the depths at which nesting ends: what each definition gives, and what it should give, as numbers.
 use Prim.Native.Nat.{ℕ}
-use mathlib.Core.Bool.{Bool, true, false, _&&_}
+use mathlib.Core.Bool.{Bool}
 use mathlib.Core.List.{List, [], _∷_, _++_}
 use mathlib.Core.Option.{Option, none, some}
-use lib.Dec.{eqb}
 use lib.ListN.{length, replicate}
+use Rattle.word.specs.Lists.{all, sameList}
 use Rattle.word.specs.Num.{nextFrom}
 use Rattle.word.specs.Result.{Result, ok, refused}
 use Rattle.handle.specs.Handle.{packed}
@@ -56,12 +56,6 @@ table =
     -- (d) to (j), and the depths of nesting
     ∷ laid cases
 
-unfoldable pub same : List ℕ → List ℕ → Bool
-same [] [] = true
-same [] (y ∷ ys) = false
-same (x ∷ xs) [] = false
-same (x ∷ xs) (y ∷ ys) = eqb x y && same xs ys
-
+-- every entry is right
 unfoldable pub allRight : List Entry → Bool
-allRight [] = true
-allRight (e ∷ es) = same (e .gives) (e .says) && allRight es
+allRight es = all (λ e. sameList (e .gives) (e .says)) es

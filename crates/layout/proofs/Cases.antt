@@ -2,9 +2,9 @@
 use Prim.Native.Nat.{ℕ, zero, suc, _+_, _-_, _^_}
 use mathlib.Core.Path.{_≡_, refl}
 use mathlib.Core.List.{List, [], _∷_, _++_}
-use mathlib.Core.Bool.{Bool, true, false, _&&_}
-use lib.Dec.{eqb}
+use mathlib.Core.Bool.{Bool, true}
 use Rattle.word.specs.Le.{le, bytes}
+use Rattle.word.specs.Lists.{all, sameList}
 use Rattle.word.specs.Num.{alignUp}
 use Rattle.ty.specs.Types.{Ty, Ty.int, Ty.enum, Ty.array, Ty.fields, Ty.access, Field.field, Table, none}
 use Rattle.ty.specs.Words.{wordOf, rank}
@@ -73,23 +73,13 @@ cases =
     ∷ record { types = nested (enum 9 1) 0 65; type = 0; desc = []; answer = 11 ∷ [] }
     ∷ []
 
-unfoldable pub same : List ℕ → List ℕ → Bool
-same [] [] = true
-same [] (y ∷ ys) = false
-same (x ∷ xs) [] = false
-same (x ∷ xs) (y ∷ ys) = eqb x y && same xs ys
-
 -- the definitions answer it so
 unfoldable pub right : Case → Bool
 right x =
     let T : Table = record { types = x .types; consts = [] } in
-    same (answered (layoutOf T (x .type) (x .desc)) (offsetsOf T (x .type) (x .desc))) (x .answer)
-
-unfoldable pub allRight : List Case → Bool
-allRight [] = true
-allRight (x ∷ xs) = right x && allRight xs
+    sameList (answered (layoutOf T (x .type) (x .desc)) (offsetsOf T (x .type) (x .desc))) (x .answer)
 
 -- every case of the table
-pub cases-right : allRight cases ≡ true
-unfolding allRight right same cases dim bytes le sample nested answered layoutOf layoutAt layoutBy arrayOf arrayLaid dimsOf wordOf dimLen rank alignUp under elemSize scalarSize narrow logicLeaf leafBy recordOf endOf placed offsetsOf offsetsFrom
+pub cases-right : all right cases ≡ true
+unfolding all right sameList cases dim bytes le sample nested answered layoutOf layoutAt layoutBy arrayOf arrayLaid dimsOf wordOf dimLen rank alignUp under elemSize scalarSize narrow logicLeaf leafBy recordOf endOf placed offsetsOf offsetsFrom
 cases-right = refl
