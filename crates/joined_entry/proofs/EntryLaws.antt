@@ -11,7 +11,8 @@ use Rattle.word.specs.Result.{ok, refused}
 use Rattle.word.proofs.Bools.{bool-ext}
 use Rattle.heap.specs.Lent.{Lent, slotCount}
 use Rattle.heap.specs.WellFormed.{wellFormed}
-use Rattle.heap_door.specs.HeapCalls.{enough, zeros}
+use Rattle.heap_door.specs.HeapCalls.{zeros}
+use Rattle.heap_door.proofs.Doors.{few-marks, few-words, is-enough}
 use Rattle.joined_entry.specs.Entering.{entered, entering}
 use Rattle.joined_entry.specs.Admitting.{admittedBy}
 
@@ -22,29 +23,29 @@ by-leb b n k e = bool-ext b (leb n k) (λ h. le-leb n k (e .0 h)) (λ h. e .1 (l
 
 module _ (n : ℕ) (m w r : List ℕ) (l : Lent) where
   pub no-marks : length m < slotCount l → entered (refused 18) m w r ≡ entering n m w r l
-  unfolding entering enough
-  no-marks h = simp (lt-leb (slotCount l) (length m) h)
+  unfolding entering
+  no-marks h = simp (few-marks m w l h)
 
   pub no-words : slotCount l ≤ length m → length w < slotCount l → entered (refused 18) m w r ≡ entering n m w r l
-  unfolding entering enough
-  no-words h k = simp (le-leb (slotCount l) (length m) h, lt-leb (slotCount l) (length w) k)
+  unfolding entering
+  no-words h k = simp (few-words m w l h k)
 
   pub no-rows : slotCount l ≤ length m → slotCount l ≤ length w → (q : Bool) → q ≡ leb n (length r) → not q ≡ true → entered (refused 18) m w r ≡ entering n m w r l
-  unfolding entering enough
-  no-rows h k q e j = simp (le-leb (slotCount l) (length m) h, le-leb (slotCount l) (length w) k, sym e ∙ not-true _ j)
+  unfolding entering
+  no-rows h k q e j = simp (is-enough m w l h k, sym e ∙ not-true _ j)
 
   module _ (h : slotCount l ≤ length m) (k : slotCount l ≤ length w) (q : Bool) (eq : q ≡ leb n (length r)) (j : not q ≡ false) (b : Bool) (m′ w′ r′ : List ℕ) (f : (b ≡ wellFormed l) × (m′ ≡ zeros m)) (z : w′ ≡ zeros w) (y : r′ ≡ zeros r) where
     pub not-formed : b ≡ false → entered (refused 1) m′ w′ r′ ≡ entering n m w r l
-    unfolding entering enough
+    unfolding entering
     not-formed e =
         (λ i. entered (refused 1) (f .1 i) (z i) (y i))
-        ∙ simp (le-leb (slotCount l) (length m) h, le-leb (slotCount l) (length w) k, sym eq ∙ not-false _ j, sym (f .0) ∙ e)
+        ∙ simp (is-enough m w l h k, sym eq ∙ not-false _ j, sym (f .0) ∙ e)
 
     pub is-formed : b ≡ true → entered (ok tt) m′ w′ r′ ≡ entering n m w r l
-    unfolding entering enough
+    unfolding entering
     is-formed e =
         (λ i. entered (ok tt) (f .1 i) (z i) (y i))
-        ∙ simp (le-leb (slotCount l) (length m) h, le-leb (slotCount l) (length w) k, sym eq ∙ not-false _ j, sym (f .0) ∙ e)
+        ∙ simp (is-enough m w l h k, sym eq ∙ not-false _ j, sym (f .0) ∙ e)
 
 -- ---- what is lent to be read
 

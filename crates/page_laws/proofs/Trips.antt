@@ -8,7 +8,7 @@ use lib.ListN.{length, take, drop}
 use lib.Seq.{take-all}
 use native.Mathlib.Omega.{arith}
 use native.Mathlib.Nat.{zero-add}
-use borrow.Author.Tests.{le-leb, lt-leb, le-ltb, leb-true}
+use borrow.Author.Tests.{le-leb, lt-leb, leb-true}
 use Rattle.word.specs.Result.{ok, refused}
 use Rattle.word.proofs.Bools.{and-both}
 use Rattle.word.proofs.PutLaws.{take-put, put-all}
@@ -23,7 +23,8 @@ use Rattle.pages.proofs.Bound.{page-length}
 use Rattle.pages.proofs.Laws as pages
 use Rattle.page_reader.specs.Reading.{Reply, readInto}
 use Rattle.page_reader.proofs.Loaded.{not-ok}
-use Rattle.yexwalu.specs.Scratch.{tooShort}
+use Rattle.heap_door.specs.HeapCalls.{enough}
+use Rattle.heap_door.proofs.Doors.{is-enough}
 use Rattle.yexwalu.specs.Page.{toldWritten, writeAnswer, PageWritten, toldRead, PageRead}
 use Rattle.yexwalu.specs.declared.page.Written.{Written}
 use Rattle.yexwalu.specs.declared.page.Written.the-variants as written
@@ -34,8 +35,8 @@ use Rattle.page_laws.specs.Trips.{unlogged, unloggedLent, pageBound, Scr
 use Rattle.page_laws.proofs.Widths.{words-within}
 use Rattle.page_laws.proofs.Reading.{sound-unlogged, room-formed, read-in, taken, same-room}
 
-enough : (l : Lent) (marks work : List ℕ) → Scratch l marks work → tooShort l marks work ≡ false
-enough l marks work s = rw (le-ltb (length marks) (slotCount l) (s .marks), le-ltb (length work) (slotCount l) (s .work))
+scratched : (l : Lent) (marks work : List ℕ) → Scratch l marks work → enough marks work l ≡ true
+scratched l marks work s = is-enough marks work l (s .marks) (s .work)
 
 -- the answer of each number
 told-page : (r : Written) (n : ℕ) → toldWritten r ≡ ok n → r ≡ written.Page n
@@ -75,14 +76,14 @@ module _ (l : Lent) (out marks work : List ℕ) where
 
   wrote : (n : ℕ) → writeAnswer l out marks work ≡ ok n → Wrote n
   unfolding writeAnswer
-  wrote n e = go (tooShort l marks work) refl (wellFormed l) refl (leb (length (pageText (view l))) (length out)) refl e
+  wrote n e = go (enough marks work l) refl (wellFormed l) refl (leb (length (pageText (view l))) (length out)) refl e
     where
-      go : (a : Bool) → tooShort l marks work ≡ a → (b : Bool) → wellFormed l ≡ b → (d : Bool) → leb (length (pageText (view l))) (length out) ≡ d →
+      go : (a : Bool) → enough marks work l ≡ a → (b : Bool) → wellFormed l ≡ b → (d : Bool) → leb (length (pageText (view l))) (length out) ≡ d →
           writeAnswer l out marks work ≡ ok n → Wrote n
-      go true ea b eb d ed u = absurd (not-ok 18 (rw ea at u))
-      go false ea false eb d ed u = absurd (not-ok 1 (rw (ea, eb) at u))
-      go false ea true eb false ed u = absurd (not-ok 7 (rw (ea, eb, ed) at u))
-      go false ea true eb true ed u =
+      go false ea b eb d ed u = absurd (not-ok 18 (rw ea at u))
+      go true ea false eb d ed u = absurd (not-ok 1 (rw (ea, eb) at u))
+      go true ea true eb false ed u = absurd (not-ok 7 (rw (ea, eb, ed) at u))
+      go true ea true eb true ed u =
           let q : ok (length (pageText (view l))) ≡ ok n = rw (ea, eb, ed) at u in
           record { formed = eb; room = leb-true (length (pageText (view l))) (length out) ed; size = (cc) }
 
@@ -90,11 +91,11 @@ module _ (l : Lent) (out marks work : List ℕ) where
   module _ (f : wellFormed l ≡ true) (s : Scratch l marks work) where
     writes : length (pageText (view l)) ≤ length out → writeAnswer l out marks work ≡ ok (length (pageText (view l)))
     unfolding writeAnswer
-    writes h = rw (enough l marks work s, f, le-leb (length (pageText (view l))) (length out) h)
+    writes h = rw (scratched l marks work s, f, le-leb (length (pageText (view l))) (length out) h)
 
     refuses : length out < length (pageText (view l)) → writeAnswer l out marks work ≡ refused 7
     unfolding writeAnswer
-    refuses h = rw (enough l marks work s, f, lt-leb (length (pageText (view l))) (length out) h)
+    refuses h = rw (scratched l marks work s, f, lt-leb (length (pageText (view l))) (length out) h)
 
 put-start : (out t : List ℕ) → putText out 0 t ≡ t ++ drop (length t) out
 put-start out t = put-all out 0 t ∙ ap (λ (n : ℕ). t ++ drop n out) (zero-add (length t))
@@ -125,7 +126,7 @@ module _ {l : Lent} {out marks work : List ℕ} {n : ℕ} {out′ marks′ work�
 pub page-taken : {h : State} {m m′ : Lent} {marks work marks′ work′ : List ℕ} {r : Read} → Within h → sound h ≡ true → Room h m → Scratch m marks work →
     PageRead m (pageText h) marks work r m′ marks′ work′ → TookIn h m r m′
 page-taken {h} {m} {m′} {marks} {work} {r = r} w s v q c =
-    let e = enough m marks work q in
+    let e = scratched m marks work q in
     let i = read-in h m w s v in
     let a : toldRead r ≡ readInto m (pageText h) .answer = rw e at (c .answer) in
     let p : m′ ≡ readInto m (pageText h) .lent = rw e at (c .heap) in
@@ -164,11 +165,11 @@ module _ {l : Lent} {text marks work : List ℕ} {l′ : Lent} {marks′ work′
     page : pageText (view l′) ≡ text
 
   left : Left
-  left = go (tooShort l marks work) refl
+  left = go (enough marks work l) refl
     where
-      go : (t : Bool) → tooShort l marks work ≡ t → Left
-      go true e = absurd (not-ok 18 (sym (rw e at (c .answer))))
-      go false e =
+      go : (t : Bool) → enough marks work l ≡ t → Left
+      go false e = absurd (not-ok 18 (sym (rw e at (c .answer))))
+      go true e =
           let a : ok tt ≡ readInto l text .answer = rw e at (c .answer) in
           let p : l′ ≡ readInto l text .lent = rw e at (c .heap) in
           let t = taken l text (sym a) in

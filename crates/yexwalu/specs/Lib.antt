@@ -2,5 +2,4 @@
 pub mod Types
 pub mod Handles
 pub mod Live
-pub mod Scratch
 pub mod Page

@@ -1,5 +1,6 @@
 -- The page's two calls (01, "Page"), each refusal in 01's order. What is not named in an answer stays as it was.
 use Prim.Native.Nat.{ℕ}
+use mathlib.Core.Bool.{not}
 use mathlib.Core.List.{List}
 use mathlib.Core.Path.{_≡_}
 use lib.Dec.{leb}
@@ -13,7 +14,7 @@ use Rattle.pages.specs.Page.{pageText}
 use Rattle.page_reader.specs.Reading.{readInto}
 use Rattle.page_reader.specs.declared.Reading.{Reading}
 use Rattle.page_reader.specs.declared.Reading.the-variants as core
-use Rattle.yexwalu.specs.Scratch.{tooShort, zeros}
+use Rattle.heap_door.specs.HeapCalls.{enough, zeros}
 use Rattle.yexwalu.specs.declared.page.Written.{Written}
 use Rattle.yexwalu.specs.declared.page.Written.the-variants as written
 use Rattle.yexwalu.specs.declared.page.Read.{Read}
@@ -29,7 +30,7 @@ toldWritten written.Short = refused 7
 -- the answer of `write_page`: scratch 18, broken heap 1, output too short 7
 unfoldable pub writeAnswer : Lent → (out marks work : List ℕ) → Result ℕ
 writeAnswer l out marks work =
-    if tooShort l marks work then refused 18
+    if not (enough marks work l) then refused 18
     else if wellFormed l then (if leb (length (pageText (view l))) (length out) then ok (length (pageText (view l))) else refused 7)
     else refused 1
 
@@ -40,7 +41,7 @@ writtenOut l out (refused n) = out
 
 -- all of scratch is zero, but after 18
 abbrev pub scratchAfter : Lent → (marks work : List ℕ) → List ℕ → List ℕ
-scratchAfter l marks work before = if tooShort l marks work then before else zeros before
+scratchAfter l marks work before = if not (enough marks work l) then before else zeros before
 
 pub record PageWritten (l : Lent) (out₀ marks₀ work₀ : List ℕ) (r : Written) (out′ marks′ work′ : List ℕ) : Type 0 where
   pub answer : toldWritten r ≡ writeAnswer l out₀ marks₀ work₀
@@ -66,7 +67,7 @@ readAnswer core.Full = read.Full
 
 -- `read_page`: scratch 18, then what reading the text into lent memory answers and leaves
 pub record PageRead (l : Lent) (text marks₀ work₀ : List ℕ) (r : Read) (l′ : Lent) (marks′ work′ : List ℕ) : Type 0 where
-  pub answer : toldRead r ≡ (if tooShort l marks₀ work₀ then refused 18 else readInto l text .answer)
-  pub heap : l′ ≡ (if tooShort l marks₀ work₀ then l else readInto l text .lent)
+  pub answer : toldRead r ≡ (if not (enough marks₀ work₀ l) then refused 18 else readInto l text .answer)
+  pub heap : l′ ≡ (if not (enough marks₀ work₀ l) then l else readInto l text .lent)
   pub marks : marks′ ≡ scratchAfter l marks₀ work₀ marks₀
   pub work : work′ ≡ scratchAfter l marks₀ work₀ work₀
