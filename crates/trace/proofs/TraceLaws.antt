@@ -1,6 +1,6 @@
 -- The ways out of the tracer, one law for each. Assumes nothing.
 use mathlib.Core.Path.{_≡_, refl, sym, ap, subst, _∙_}
-use mathlib.Core.List.{List, [], _∷_}
+use mathlib.Core.List.{List, [], _∷_, _++_}
 use mathlib.Core.Bool.{Bool, true, false, not}
 use mathlib.Core.Option.{none, some}
 use Prim.Native.Nat.{ℕ, suc, _+_, _-_, _*_, _/_, _^_, _≤_, _<_, max}
@@ -214,6 +214,23 @@ module _ (w fs cs b : List ℕ) (left t c : ℕ) (d : List ℕ) (at : ℕ) (k : 
 
     pub part-free : l ≡ Free → ok s ≡ emittingAt k v s (partPlaces (tableOf w fs cs b) (placesAt (tableOf w fs cs b) (length v) left) t c d at)
     part-free q = emit-nil k v s _ (free-part q)
+
+  -- one element is a field
+  append-nil : (l : List ℕ) → l ++ [] ≡ l
+  append-nil [] = refl
+  append-nil (x ∷ l) = ap (λ (m : List ℕ). x ∷ m) (append-nil l)
+
+  both-nil : (o : Places) → both o (some []) ≡ o
+  unfolding both
+  both-nil none = refl
+  both-nil (some a) = ap some (append-nil a)
+
+  one-part : at ≤ length v → (f : ℕ → Places) (st : ℕ) → many (length v) f st 1 at ≡ f at
+  unfolding many
+  one-part h f st = ap (λ (x : Bool). onlyIf x (both (f at) (some []))) (le-leb at (length v) h) ∙ both-nil (f at)
+
+  pub part-one : at ≤ length v → (st : ℕ) (r : Answer) (ms to : List ℕ) → told r ms to ≡ emittingAt k v s (many (length v) (partPlaces (tableOf w fs cs b) (placesAt (tableOf w fs cs b) (length v) left) t c d) st 1 at) → told r ms to ≡ emittingAt k v s (partPlaces (tableOf w fs cs b) (placesAt (tableOf w fs cs b) (length v) left) t c d at)
+  part-one h st r ms to er = er ∙ ap (emittingAt k v s) (one-part h (partPlaces (tableOf w fs cs b) (placesAt (tableOf w fs cs b) (length v) left) t c d) st)
 
 -- ---- leaf_at
 

@@ -523,7 +523,7 @@ fn leaf_at(types: &[u64], fields: &[u32], t: u64, c: u64) -> Leaf
     }
 }
 
-// A field: a handle or a scalar without looking further.
+// A field: a handle or a scalar without looking further, anything else as one element would be.
 fn trace_field(
     types: &[u64],
     fields: &[u32],
@@ -557,7 +557,7 @@ fn trace_field(
         Leaf::Own => trace_word(data, at, tag, slots, generation, kind, sink, marks, to, n),
         Leaf::Deep => {
             let holds = ty::has_handles(types, fields, t);
-            trace_part(
+            trace_elems(
                 types,
                 fields,
                 consts,
@@ -569,6 +569,8 @@ fn trace_field(
                 holds,
                 data,
                 at,
+                0,
+                1,
                 tag,
                 slots,
                 generation,

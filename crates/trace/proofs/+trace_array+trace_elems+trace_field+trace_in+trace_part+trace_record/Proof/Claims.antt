@@ -40,7 +40,7 @@ abbrev pub μ-trace-elems : Measures 10 trace-elems-kinds.ps ℕ
 μ-trace-elems κs a = 5 * a .1 .1 .1 .1 .1 .1 .1 .0 + 2
 
 abbrev pub μ-trace-field : Measures 10 trace-field-kinds.ps ℕ
-μ-trace-field κs a = 5 * a .1 .1 .1 .1 .1 .1 .1 .0 + 2
+μ-trace-field κs a = 5 * a .1 .1 .1 .1 .1 .1 .1 .0 + 3
 
 abbrev pub μ-trace-in : Measures 10 trace-in-kinds.ps ℕ
 μ-trace-in κs a = 5 * a .1 .1 .1 .1 .1 .1 .0
@@ -49,7 +49,7 @@ abbrev pub μ-trace-part : Measures 10 trace-part-kinds.ps ℕ
 μ-trace-part κs a = 5 * a .1 .1 .1 .1 .1 .1 .1 .0 + 1
 
 abbrev pub μ-trace-record : Measures 10 trace-record-kinds.ps ℕ
-μ-trace-record κs a = 5 * a .1 .1 .1 .1 .1 .1 .1 .0 + 3
+μ-trace-record κs a = 5 * a .1 .1 .1 .1 .1 .1 .1 .0 + 4
 
 abbrev pub trace-array-at : ℕ → In 10 trace-array-kinds.ps
 trace-array-at t = and 10 trace-array-kinds.ps (is 10 trace-array-kinds.ps μ-trace-array t) trace-array.Pre
@@ -94,7 +94,7 @@ abbrev pub trace-elems-claims : ℕ → trace-elems-lts.Claims
 trace-elems-claims t = (trace-part-below t, trace-part.Post, step-reads.Asked, step-reads.Learnt)
 
 abbrev pub trace-field-claims : ℕ → trace-field-lts.Claims
-trace-field-claims t = (leaf-at-reads.Asked, leaf-at-reads.Learnt, trace-word-reads.Asked, trace-word-reads.Learnt, has-handles-reads.Asked, has-handles-reads.Learnt, trace-part-below t, trace-part.Post)
+trace-field-claims t = (leaf-at-reads.Asked, leaf-at-reads.Learnt, trace-word-reads.Asked, trace-word-reads.Learnt, has-handles-reads.Asked, has-handles-reads.Learnt, trace-elems-below t, trace-elems.Post)
 
 abbrev pub trace-in-claims : ℕ → trace-in-lts.Claims
 trace-in-claims t = (ty-at-reads.Asked, ty-at-reads.Learnt, trace-array-below t, trace-array.Post, trace-record-below t, trace-record.Post, trace-word-reads.Asked, trace-word-reads.Learnt)

@@ -1,5 +1,5 @@
 -- What `trace::trace_field` leaves, at the measure t. Assumes nothing.
-use Rattle.trace.proofs.TraceLaws.{part-zero, part-own, part-free}
+use Rattle.trace.proofs.TraceLaws.{part-zero, part-own, part-free, part-one}
 use borrow.Author.Needs.{needs}
 use native.Mathlib.Omega.{arith}
 use Prim.Native.Nat.{ℕ}
@@ -29,8 +29,8 @@ module _ (t : ℕ) where
   has-handles-requires : lts.Need-has-handles-requires (claims t) (at t) reads.Post
   has-handles-requires c κs = search needs
 
-  trace-part-requires : lts.Need-trace-part-requires (claims t) (at t) reads.Post
-  trace-part-requires c κs = (omega arith, search needs)
+  trace-elems-requires : lts.Need-trace-elems-requires (claims t) (at t) reads.Post
+  trace-elems-requires c κs = (omega arith, search needs)
 
   returns-2 : lts.Need-returns-2 (claims t) (at t) reads.Post
   returns-2 c = search part-free
@@ -51,7 +51,7 @@ module _ (t : ℕ) where
   same-length-4 c = search needs
 
   returns-4 : lts.Need-returns-4 (claims t) (at t) reads.Post
-  returns-4 c = search needs
+  returns-4 c = part-one _ _ _ _ _ _ _ _ _ _ _ _ (c .before .before .before .before .before .before .before .before .before .before .before .before .before .before .before .before .before .before .before .before .before .before .pre .1 .0) _ (c .before .before .before .before .trace-elems .result) (c .before .before .before .before .trace-elems .last .1 .1 .1 .1 .1 .1 .1 .1 .1 .1 .1 .1 .1 .1 .1 .1 .1 .1 .0) (c .before .before .before .before .trace-elems .last .1 .1 .1 .1 .1 .1 .1 .1 .1 .1 .1 .1 .1 .1 .1 .1 .1 .1 .1 .0) (c .before .before .before .before .trace-elems .ensures)
 
 pub closed : {M : Type 1} (t : ℕ) → lts.Closed (claims t) (at t) reads.Post M
 closed t =
@@ -63,7 +63,7 @@ closed t =
     (trace-word-requires t)
     (enum-told-3 t)
     (has-handles-requires t)
-    (trace-part-requires t)
+    (trace-elems-requires t)
     (returns-2 t)
     (same-length t)
     (same-length-2 t)
