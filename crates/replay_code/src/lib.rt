@@ -1,6 +1,5 @@
 // The function commands of the program `replay`: one function as columns, which are lent, and its live map.
 use crate::build::Built;
-use crate::live::Question;
 use protocol::command::CodeCall;
 use protocol::read::second;
 use protocol::write::put_bytes;
