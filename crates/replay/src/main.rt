@@ -23,7 +23,6 @@ fn main() {
     let mut marks = [0u8; 8192];
     let mut work = [0u64; 8192];
     let mut bytes = [0u8; 65536];
-    let mut list = [0u64; 16384];
     let mut pins = [0u32; 16384];
     let mut text = [0u8; 262144];
     let mut taken = [0u8; 65536];
@@ -59,7 +58,6 @@ fn main() {
                     &mut marks,
                     &mut work,
                     &mut bytes,
-                    &mut list,
                     &mut pins,
                     &mut text,
                     &mut taken,

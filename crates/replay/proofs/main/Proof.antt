@@ -5,10 +5,10 @@ use Rattle.replay.proofs.main.Statement.{statement}
 use Rattle.replay.proofs.main.Tie as tie
 
 abbrev Inv-loop : tie.InvT-loop
-Inv-loop generation₀ kind₀ ty₀ start₀ end₀ writes₀ pool₀ free₀ quarantine₀ sealed₀ marks₀ work₀ bytes₀ list₀ pins₀ text₀ taken₀ buffer₀ out₀ n₀ state₀ input₀ turns₀ t28 generation kind ty start end writes pool free quarantine sealed marks work bytes list pins text taken buffer out n state input turns = Unit {0}
+Inv-loop generation₀ kind₀ ty₀ start₀ end₀ writes₀ pool₀ free₀ quarantine₀ sealed₀ marks₀ work₀ bytes₀ pins₀ text₀ taken₀ buffer₀ out₀ n₀ state₀ input₀ turns₀ t27 generation kind ty start end writes pool free quarantine sealed marks work bytes pins text taken buffer out n state input turns = Unit {0}
 
 abbrev μ-loop : tie.MeasureT-loop
-μ-loop generation₀ kind₀ ty₀ start₀ end₀ writes₀ pool₀ free₀ quarantine₀ sealed₀ marks₀ work₀ bytes₀ list₀ pins₀ text₀ taken₀ buffer₀ out₀ n₀ state₀ input₀ turns₀ t28 generation kind ty start end writes pool free quarantine sealed marks work bytes list pins text taken buffer out n state input turns = turns
+μ-loop generation₀ kind₀ ty₀ start₀ end₀ writes₀ pool₀ free₀ quarantine₀ sealed₀ marks₀ work₀ bytes₀ pins₀ text₀ taken₀ buffer₀ out₀ n₀ state₀ input₀ turns₀ t27 generation kind ty start end writes pool free quarantine sealed marks work bytes pins text taken buffer out n state input turns = turns
 
 start-requires : tie.Need-start-requires Inv-loop μ-loop
 start-requires c κs = tt
@@ -44,7 +44,7 @@ next-input-requires : tie.Need-next-input-requires Inv-loop μ-loop
 next-input-requires c κs = tt
 
 loop-less-2 : tie.Need-loop-less-2 Inv-loop μ-loop
-loop-less-2 c = omega (arith, c .before .before .before .before .before .before .before .before .before .before .before .before .before .before .before .before .before .before .before .before .before .before .before .before .before .before .before .before .before .before)
+loop-less-2 c = omega (arith, c .before .before .before .before .before .before .before .before .before .before .before .before .before .before .before .before .before .before .before .before .before .before .before .before .before .before .before .before)
 
 loop-again-2 : tie.Need-loop-again-2 Inv-loop μ-loop
 loop-again-2 c = tt
