@@ -60,6 +60,7 @@ class Writer:
         self.rows, self.free, self.quarantine = [], [], []
         self.old = []
         self.wild = False
+        self.walked = 0
 
     # ---- lines
 
@@ -169,8 +170,10 @@ class Writer:
 
     def descriptor(self, t, wild, depth=0):
         """A descriptor of the type, as long as it must be where it has a size."""
+        # A record that holds itself twice and has no bytes would be walked 2^64 times.
+        self.walked = self.walked + 1 if depth else 0
         ty = self.table.get(t)
-        if ty is None or depth > 64:
+        if ty is None or depth > 64 or self.walked > UNFOLDING:
             return b""
         if ty[0] == ARRAY:
             d = b"".join(self.dim(wild) for _ in range(ty[3]))
