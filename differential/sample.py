@@ -1,9 +1,9 @@
 #!/usr/bin/env python3
 """Writes the sample that the gate runs: the shapes, then episodes from a seed, with the oracle's answers; last, the refusals that the Rust does not have.
 
-    sample.py --oracle PATH --seed N --lines N --out FOLDER       writes FOLDER/stdin and FOLDER/stdout
+    sample.py --oracle PATH --seed N [--lines N] [--out FOLDER]       writes FOLDER/stdin and FOLDER/stdout, by default those of crates/replay
 
-An answer stands as the port gives it: 13 without what the Rust had pushed. It stops if a call or an answer that the Rust can give is missing. The last part's refusals come from document 01 (refusals.py); its other lines are the oracle's too."""
+What stands in FOLDER/stdin up to the line that begins with `# From here on` is kept, with its answers: lines written by hand. An answer stands as the port gives it: 13 without what the Rust had pushed. It stops if a call or an answer that the Rust can give is missing. The last part's refusals come from document 01 (refusals.py); its other lines are the oracle's too."""
 
 import argparse
 import os
@@ -12,7 +12,7 @@ import sys
 import generate
 import refusals
 import shapes
-from compare import kind
+from compare import commands, kind
 from known import as_port
 from machine import Oracle
 
@@ -27,6 +27,25 @@ ANSWERS = {
     "layout": ["0", "11", "12"], "descsize": ["0", "none"], "hashandles": YES_NO, "objh": ["0", "13"], "valh": ["0", "13"],
     "slotroots": ["0", "13"], "func": ["0"], "inst": ["0"], "live": ["0"], "liveat": ["0", "16"],
 }
+
+
+# The line of the script after which the sample stands.
+MARK = "# From here on"
+REPLAY = os.path.join(os.path.dirname(os.path.abspath(__file__)), "..", "crates", "replay")
+
+
+def by_hand(folder):
+    """The lines that were written by hand, the mark among them, and their answers."""
+    texts = []
+    for name in ("stdin", "stdout"):
+        path = os.path.join(folder, name)
+        if not os.path.exists(path):
+            return [], []
+        with open(path) as f:
+            texts.append(f.read().splitlines())
+    marks = [k for k, line in enumerate(texts[0]) if line.startswith(MARK)]
+    lines = texts[0][: marks[0] + 1] if marks else []
+    return lines, texts[1][: len(commands(lines))]
 
 
 class Short(generate.Limits):
@@ -57,7 +76,7 @@ def main():
     p.add_argument("--oracle", required=True)
     p.add_argument("--seed", type=int, required=True)
     p.add_argument("--lines", type=int, default=3000)
-    p.add_argument("--out", required=True)
+    p.add_argument("--out", default=REPLAY)
     a = p.parse_args()
     lines, told = sample(a.oracle, a.seed, a.lines)
     seen = {kind(x, y) for x, y in zip(lines, told)}
@@ -65,14 +84,14 @@ def main():
     if wanted - seen:
         print("missing: " + ", ".join(" ".join(x) for x in sorted(wanted - seen)), file=sys.stderr)
         return 1
-    own = refusals.script(a.oracle)
-    lines, told = lines + own[0], told + own[1]
+    own, first = refusals.script(a.oracle), by_hand(a.out)
+    lines, told = first[0] + lines + own[0], first[1] + told + own[1]
     os.makedirs(a.out, exist_ok=True)
     for name, text in (("stdin", lines), ("stdout", told)):
         with open(os.path.join(a.out, name), "w") as f:
             f.write("\n".join(text) + "\n")
     longest = max(map(len, lines))
-    print(f"{len(lines)} lines, the last {len(own[0])} with document 01's own refusals; {len(seen)} pairs of command and answer by the Rust; longest line {longest} bytes; seed {a.seed}")
+    print(f"{len(lines)} lines, the first {len(first[0])} written by hand, the last {len(own[0])} with document 01's own refusals; {len(seen)} pairs of command and answer by the Rust; longest line {longest} bytes; seed {a.seed}")
     return 0
 
 

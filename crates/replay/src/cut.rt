@@ -1,30 +1,10 @@
 // A heap command on the part of the columns that the heap has.
-ghost use Prim.Native.Nat.{_≤_};
 use crate::serve::Job;
 use heap::Heap;
 use protocol::least;
 use replay_change::run;
 use replay_heap::Done;
-
-// The least of these: how many slots are asked for, and the columns' lengths.
-fn shortest(
-    slots: usize,
-    a: usize,
-    b: usize,
-    c: usize,
-    d: usize,
-    e: usize,
-    f: usize,
-    g: usize,
-    h: usize,
-    i: usize,
-) -> usize
-    ensures { λ r. ⌜ (r ≤ a) × (r ≤ b) × (r ≤ c) × (r ≤ d) × (r ≤ e) × (r ≤ f) × (r ≤ g) × (r ≤ h) × (r ≤ i) ⌝ }
-{
-    let first = least(slots, least(a, least(b, c)));
-    let second = least(d, least(e, f));
-    least(first, least(second, least(g, least(h, i))))
-}
+use replay_heap::shortest;
 
 // The lists of the line are cut to what it gave, the columns to the job's sizes.
 pub fn run(

@@ -7,7 +7,6 @@ use protocol::read::halves;
 use protocol::read::hex;
 use protocol::read::number;
 use protocol::read::page;
-use protocol::read::words;
 use replay_heap::Request;
 
 pub enum Asked {
@@ -25,7 +24,6 @@ fn numbers(x: u64, y: u64, z: u64, bytes: usize) -> Asked {
         y: y,
         z: z,
         bytes: bytes,
-        words: 0,
         pins: 0,
         text: 0,
     })
@@ -93,7 +91,6 @@ fn load(line: &[u8], at: usize, text: &mut [u8; 262144]) -> Asked {
         y: y,
         z: z,
         bytes: 0,
-        words: 0,
         pins: 0,
         text: k,
     })
@@ -144,8 +141,8 @@ fn write(line: &[u8], at: usize, bytes: &mut [u8; 65536]) -> Asked {
     numbers(x, y, 0, k)
 }
 
-// Words and pins, of which the words may be left out: then `at` is where the pins are.
-fn lists(line: &[u8], at: usize, x: u64, count: usize, pins: &mut [u32; 16384]) -> Asked {
+// Pins, and a number beside them.
+fn pinned(line: &[u8], at: usize, x: u64, pins: &mut [u32; 16384]) -> Asked {
     let Run::Is(k, _) = halves(line, at, pins, 0) else {
         return Asked::Bad;
     };
@@ -154,7 +151,6 @@ fn lists(line: &[u8], at: usize, x: u64, count: usize, pins: &mut [u32; 16384]) 
         y: 0,
         z: 0,
         bytes: 0,
-        words: count,
         pins: k,
         text: 0,
     })
@@ -165,19 +161,11 @@ fn epoch(line: &[u8], at: usize, pins: &mut [u32; 16384]) -> Asked {
     let Field::Is(x, b) = number(line, at, WORD) else {
         return Asked::Bad;
     };
-    let a = lists(line, b, x, 0, pins);
+    let a = pinned(line, b, x, pins);
     match a {
         Asked::For(r) => if r.pins == 16 { a } else { Asked::Bad },
         Asked::Bad => Asked::Bad,
     }
-}
-
-// Roots and pins.
-fn collect(line: &[u8], at: usize, roots: &mut [u64; 16384], pins: &mut [u32; 16384]) -> Asked {
-    let Run::Is(k, b) = words(line, at, WORD, roots) else {
-        return Asked::Bad;
-    };
-    lists(line, b, 0, k, pins)
 }
 
 // What a change is to be made with.
@@ -186,7 +174,6 @@ pub fn changing(
     line: &[u8],
     at: usize,
     bytes: &mut [u8; 65536],
-    roots: &mut [u64; 16384],
     pins: &mut [u32; 16384],
     text: &mut [u8; 262144],
 ) -> Asked {
@@ -201,9 +188,8 @@ pub fn changing(
         Change::Reissue => two(line, at),
         Change::Take => one(line, at, WORD),
         Change::Free => one(line, at, WORD),
-        Change::Recycle => lists(line, at, 0, 0, pins),
+        Change::Recycle => pinned(line, at, 0, pins),
         Change::Seal => none(),
-        Change::Collect => collect(line, at, roots, pins),
         _ => Asked::Bad,
     }
 }

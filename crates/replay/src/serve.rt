@@ -96,7 +96,6 @@ fn none() -> Request {
         y: 0,
         z: 0,
         bytes: 0,
-        words: 0,
         pins: 0,
         text: 0,
     }
@@ -167,7 +166,6 @@ fn job_of(
     to: usize,
     state: State,
     bytes: &mut [u8; 65536],
-    roots: &mut [u64; 16384],
     pins: &mut [u32; 16384],
     text: &mut [u8; 262144],
 ) -> Job {
@@ -179,7 +177,7 @@ fn job_of(
     if let Change::Unknown = change {
         return question(line, sizes);
     }
-    match changing(change, line, second(line), bytes, roots, pins, text) {
+    match changing(change, line, second(line), bytes, pins, text) {
         Asked::For(request) => changed(change, request, state),
         Asked::Bad => bad(sizes),
     }
@@ -233,14 +231,13 @@ pub fn one_line(
     marks: &mut [u8; 8192],
     work: &mut [u64; 8192],
     bytes: &mut [u8; 65536],
-    list: &mut [u64; 16384],
     pins: &mut [u32; 16384],
     text: &mut [u8; 262144],
     taken: &mut [u8; 65536],
     out: &mut [u8; 65536],
     n: &mut usize,
 ) -> State {
-    let next = job_of(buffer, from, to, state, bytes, list, pins, text);
+    let next = job_of(buffer, from, to, state, bytes, pins, text);
     let heap = state.heap;
     let done = cut::run(
         next,

@@ -1,5 +1,7 @@
 // The heap commands of the program `replay`: the public calls on one heap, whose columns are lent.
+ghost use Prim.Native.Nat.{_≤_};
 use heap::Heap;
+use protocol::least;
 
 pub mod ask;
 pub mod header;
@@ -10,6 +12,26 @@ pub mod told;
 pub struct Sizes {
     pub slots: usize,
     pub pool: usize,
+}
+
+// The least of these: how many slots are asked for, and the columns' lengths.
+pub fn shortest(
+    slots: usize,
+    a: usize,
+    b: usize,
+    c: usize,
+    d: usize,
+    e: usize,
+    f: usize,
+    g: usize,
+    h: usize,
+    i: usize,
+) -> usize
+    ensures { λ r. ⌜ (r ≤ a) × (r ≤ b) × (r ≤ c) × (r ≤ d) × (r ≤ e) × (r ≤ f) × (r ≤ g) × (r ≤ h) × (r ≤ i) ⌝ }
+{
+    let first = least(slots, least(a, least(b, c)));
+    let second = least(d, least(e, f));
+    least(first, least(second, least(g, least(h, i))))
 }
 
 // What is printed: a number; 0 and a value; 0, an object's bytes, so many, and its start.
@@ -29,7 +51,6 @@ pub struct Request {
     pub y: u64,
     pub z: u64,
     pub bytes: usize,
-    pub words: usize,
     pub pins: usize,
     pub text: usize,
 }
