@@ -212,9 +212,9 @@ fn after(state: State, job: Job, done: Done) -> State {
     }
 }
 
-// Runs the line that lies in the buffer from `from` up to `to`.
-pub fn one_line(
-    buffer: &[u8; 262144],
+// The same with room for what the line lists, and scratch.
+fn heap_in(
+    buffer: &[u8],
     from: usize,
     to: usize,
     state: State,
@@ -264,4 +264,55 @@ pub fn one_line(
     let reply = done.reply;
     tell(out, n, next, reply, taken);
     after(state, next, done)
+}
+
+// Runs a line on the heap, which lies in the buffer from `from` up to `to`.
+pub fn heap_line(
+    buffer: &[u8; 262144],
+    from: usize,
+    to: usize,
+    state: State,
+    generation: &mut [u32; 8192],
+    kind: &mut [u8; 8192],
+    ty: &mut [u32; 8192],
+    start: &mut [usize; 8192],
+    end: &mut [usize; 8192],
+    writes: &mut [u32; 8192],
+    pool: &mut [u8; 65536],
+    free: &mut [u32; 8192],
+    quarantine: &mut [u32; 8192],
+    sealed: &mut [u64; 8192],
+    out: &mut [u8; 65536],
+    n: &mut usize,
+) -> State {
+    let mut marks = [0u8; 8192];
+    let mut work = [0u64; 8192];
+    let mut bytes = [0u8; 65536];
+    let mut pins = [0u32; 16384];
+    let mut text = [0u8; 262144];
+    let mut taken = [0u8; 65536];
+    heap_in(
+        buffer,
+        from,
+        to,
+        state,
+        generation,
+        kind,
+        ty,
+        start,
+        end,
+        writes,
+        pool,
+        free,
+        quarantine,
+        sealed,
+        &mut marks,
+        &mut work,
+        &mut bytes,
+        &mut pins,
+        &mut text,
+        &mut taken,
+        out,
+        n,
+    )
 }

@@ -53,10 +53,13 @@ fn way(line: &[u8]) -> Route {
     }
 }
 
+fn way_in(buffer: &[u8], from: usize, to: usize) -> Route {
+    let e = least(to, buffer.len());
+    let a = least(from, e);
+    way(&buffer[a..e])
+}
+
 // The way of the line that lies in the buffer from `from` up to `to`.
 pub fn way_of(buffer: &[u8; 262144], from: usize, to: usize) -> Route {
-    let all = &buffer[..];
-    let e = least(to, all.len());
-    let a = least(from, e);
-    way(&all[a..e])
+    way_in(buffer, from, to)
 }

@@ -2,8 +2,8 @@
 use Prim.Native.Nat.{ℕ, _-_}
 use borrow.Rule.Slice.PartMut.{same-len-mid}
 use borrow.Author.Needs.{needs}
-use Rattle.replay.proofs.cut.run.Statement.{statement}
-use Rattle.replay.proofs.cut.run.Tie as tie
+use Rattle.replay_lines.proofs.cut.run.Statement.{statement}
+use Rattle.replay_lines.proofs.cut.run.Tie as tie
 
 shortest-requires : tie.Need-shortest-requires
 shortest-requires c κs = tt
