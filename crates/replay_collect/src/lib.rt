@@ -1,5 +1,4 @@
-// The collections of the program `replay`: the public calls `collect` and `collect_joined` on one heap, a type table and a function, whose columns are lent.
+// The collections of the program `replay`: the fields of their lines, their answers, and the public call `collect` on a heap and a type table, whose columns are lent.
 pub mod plain;
 pub mod request;
-pub mod safepoint;
 pub mod told;

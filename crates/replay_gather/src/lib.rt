@@ -3,7 +3,6 @@
 use protocol::least;
 use replay_code::Code;
 use replay_collect::plain;
-use replay_collect::safepoint;
 use replay_heap::Done;
 use replay_heap::show;
 use replay_lines::serve::State;
@@ -190,7 +189,7 @@ fn joined_in(
     let h = least(code.classes, classes.len());
     let sizes = state.sizes;
     let heap = state.heap;
-    let done = safepoint::answer(
+    let done = replay_joined::answer(
         &buffer[a..e],
         sizes,
         heap,

@@ -1,10 +1,10 @@
-// The joined collection: from a frame, the registers that are live at a safepoint, seals and pins.
-use crate::request::Lists;
-use crate::request::Wanted;
-use crate::request::frame_of;
-use crate::told;
+// The joined collection of the program `replay`: from a frame, the registers that are live at a safepoint, seals and pins.
 use heap::Heap;
 use protocol::least;
+use replay_collect::request::Lists;
+use replay_collect::request::Wanted;
+use replay_collect::request::frame_of;
+use replay_collect::told;
 use replay_heap::Done;
 use replay_heap::Reply;
 use replay_heap::Sizes;

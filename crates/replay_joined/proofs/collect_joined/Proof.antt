@@ -2,8 +2,8 @@
 use Prim.Native.Nat.{ℕ, _-_}
 use borrow.Rule.Slice.PartMut.{same-len-mid}
 use borrow.Author.Needs.{needs}
-use Rattle.replay_collect.proofs.safepoint.collect_joined.Statement.{statement}
-use Rattle.replay_collect.proofs.safepoint.collect_joined.Tie as tie
+use Rattle.replay_joined.proofs.collect_joined.Statement.{statement}
+use Rattle.replay_joined.proofs.collect_joined.Tie as tie
 
 shortest-requires : tie.Need-shortest-requires
 shortest-requires c κs = tt
