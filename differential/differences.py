@@ -30,6 +30,9 @@ ROWS = [
     ("pins that do not rise", TWO_DEAD + ["recycle 1,0", "page"], "14", LOST, LOST),
     ("a free slot beyond the slots", [f"load 1 {HEAD};1,0,4096,0,0,1,0,0;{COLUMNS};free;0;quarantine;sealed; 64", "alloc 2 0 0 -"], "1", "panic", "panic"),
     ("a write to a dead slot", ["new 1 1 64", "alloc 2 0 0 -", f"free {h(0, 1)}", "write 0 0 -", "raw"], None, "0 2/Bytes/0/1/dead ", "0 2/Bytes/0/1/dead "),
+    # The oracle's `write` tests the range first, its `rawwrite` calls `data_mut` first.
+    ("a write beyond the visible data", ["new 1 1 64", "alloc 2 0 0 -", "rawwrite 0 1 41", "stamp 0"], None, "0 1 1", "0 1 1"),
+    ("the same, tested first", ["new 1 1 64", "alloc 2 0 0 -", "write 0 1 41", "stamp 0"], "0 1 0", "0 1 0", "0 1 0"),
     ("a dead slot's leftovers", ["new 1 1 64", "alloc 1 9 3 41", f"free {h(0, 1)}", "raw"], None, "0 2/Typed(TyId(9))/3/0/dead ", "0 2/Typed(TyId(9))/3/0/dead "),
     ("the epoch's end", ["new 1 1 64", "alloc 2 0 0 -", f"setepoch {U64} {LOG}", f"edit {h(0, 1)} - 0"], "0 0", "0 0", "panic"),
     # The script's word for the public call's 11.
