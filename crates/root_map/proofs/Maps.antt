@@ -2,12 +2,11 @@
 use mathlib.Core.Path.{_≡_, refl, sym, ap, ap₂, _∙_, subst}
 use mathlib.Core.Bool.{Bool, true, false}
 use mathlib.Core.List.{List, [], _∷_, _++_, append-assoc, append-nil, flatMap}
-use Prim.Native.Nat.{ℕ, suc, _+_, _-_, _*_, _≤_, _<_}
+use Prim.Native.Nat.{ℕ, suc, _+_, _-_, _*_, _/_, _≤_, _<_}
 use native.Mathlib.Omega.{arith}
 use native.Mathlib.Numerals.{add-one}
 use lib.ListN.{length, take, drop, set, length-append}
 use lib.Seq.{drop-drop, take-append-le, take-take, drop-at, length-take-le}
-use borrow.Author.Tests.{lt-ltb, le-ltb}
 use borrow.Rule.Slice.PartMut.{putMid}
 use Rattle.word.specs.Ones.{keep, passing}
 use Rattle.word.specs.Put.{put}
@@ -16,12 +15,13 @@ use Rattle.word.proofs.PutLaws.{put-none, put-all, put-front, put-whole, length
 use Rattle.rows.specs.Row.{listed}
 use Rattle.rows.proofs.Listing.{passing-one, passing-not, passing-snoc}
 use Rattle.flow.specs.Function.{safepoint}
-use Rattle.roots.specs.View.{view}
+use Rattle.roots.specs.View.{view, formed}
 use Rattle.root_map.specs.Calls.{limits}
-use Rattle.roots.specs.Columns.{Outside}
+use Rattle.roots.specs.Columns.{Outside, Found}
 use Rattle.root_map.specs.Columns.{rowAt, pointsTo, liveOf, Standing, Pointed, Counted, Fits, Written}
+use Rattle.roots.proofs.Checks.{formed-fit}
 use Rattle.roots.proofs.Scratch.{mid-length, outside-refl, outside-trans}
-use Rattle.root_map.proofs.Pointing.{standing-none}
+use Rattle.root_map.proofs.Pointing.{found-end, standing-none, standing-next}
 
 pub back-one : (i : ℕ) → 0 < i → i ≡ (i - 1) + 1
 back-one i h = omega arith
@@ -79,14 +79,6 @@ put-before d a e l r q h =
     ∙ ap (λ (x : List ℕ). x ++ drop (a + length (l ++ r)) d) (append-assoc (take a d) l r)
     ∙ sym (put-all d a (l ++ r))
 
--- the answer says whether it is a safepoint
-module _ {t : ℕ → Bool} {kinds ends refs bs cs s s₁ : List ℕ} {W nb pc r : ℕ} (p : Pointed t kinds ends refs bs cs s s₁ W nb pc r) where
-  is-point : r < nb → safepoint (view kinds ends refs bs cs) pc ≡ true
-  is-point h = sym (p .is) ∙ lt-ltb r nb h
-
-  no-point : nb ≤ r → safepoint (view kinds ends refs bs cs) pc ≡ false
-  no-point h = sym (p .is) ∙ le-ltb r nb h
-
 module _ (t : ℕ → Bool) (kinds ends refs bs cs : List ℕ) where
   -- the safepoints from instruction i on
   abbrev pub pointsFrom : ℕ → List ℕ
@@ -136,27 +128,40 @@ module _ (t : ℕ → Bool) (kinds ends refs bs cs : List ℕ) where
     abbrev live : ℕ → List ℕ
     live = liveOf t kinds ends refs bs cs W
 
-    -- where the loops stand: instruction i is the last that is done, and the row is that of q in block b
+    -- block b holds instruction i, and the row is that of q in it
+    pub record Placed (s : List ℕ) (i b q : ℕ) : Type 0 where
+      pub found : Found bs nb i b
+      pub standing : Standing t kinds ends refs bs cs s W nb b q
+      pub below : i ≤ q
+
+    pub found-next : {s : List ℕ} {i b q : ℕ} (p : ℕ) → Placed s i b q → i ≡ p + 1 → Found bs nb (p + 1) b
+    found-next {s} {i} {b} p v step = subst (λ (u : ℕ). Found bs nb u b) step (v .found)
+
+    pub placed-next : {s : List ℕ} {i p b d q : ℕ} → formed kinds ends refs bs cs ≡ true → nb ≡ length bs / 2 → Placed s i b q → i ≡ p + 1 → Found bs nb p d → Placed s p d q
+    placed-next {s} {i} {p} {b} {d} {q} good size v step f =
+        record { found = f; standing = standing-next t kinds ends refs bs cs W nb s (formed-fit kinds ends refs bs cs good .apart) size (found-next p v step) f (omega (arith, v .below)) (v .standing); below = omega (arith, v .below) }
+
+    -- where the loops stand: instruction i is the last that is done
     pub record Going (s₀ s : List ℕ) (i b q : ℕ) : Type 0 where
       pub frame : Outside s₀ s (nb * (3 * W)) W
       pub high : i ≤ length kinds
-      pub standing : Standing t kinds ends refs bs cs s W nb b q
-      pub below : b < nb → i ≤ q
+      pub placed : Placed s i b q
 
-    going-none : (s : List ℕ) (q : ℕ) → Going s s (length kinds) nb q
-    going-none s q = record { frame = outside-refl s (nb * (3 * W)) W; high = omega arith; standing = standing-none t kinds ends refs bs cs W nb s q; below = λ h. absurd (omega arith) }
+    going-none : formed kinds ends refs bs cs ≡ true → nb ≡ length bs / 2 → (s : List ℕ) → Going s s (length kinds) nb (length kinds)
+    going-none good size s = record {
+      frame = outside-refl s (nb * (3 * W)) W;
+      high = omega arith;
+      placed = record { found = found-end bs nb (length kinds) size (formed-fit kinds ends refs bs cs good .inside); standing = standing-none t kinds ends refs bs cs W nb s (length kinds); below = omega arith };
+    }
 
-    module _ {s₀ s s₁ : List ℕ} {i b q p r : ℕ} (g : Going s₀ s i b q) (step : i ≡ p + 1) (v : Pointed t kinds ends refs bs cs s s₁ W nb p r) where
-      going-yes : Going s₀ s₁ p r p
-      going-yes = record { frame = outside-trans (g .frame) (v .frame); high = omega (arith, g .high); standing = v .standing; below = λ h. omega arith }
+    -- the next instruction, p of block d
+    module _ {s₀ s s₁ : List ℕ} {i b q p d : ℕ} {r : Bool} (g : Going s₀ s i b q) (step : i ≡ p + 1) (n : Placed s p d q) (v : Pointed t kinds ends refs bs cs s s₁ W nb d p r) where
+      going-yes : r ≡ true → Going s₀ s₁ p d p
+      going-yes h =
+          record { frame = outside-trans (g .frame) (v .frame); high = omega (arith, g .high); placed = record { found = n .found; standing = v .standing h; below = omega arith } }
 
-      going-no : nb ≤ r → Going s₀ s₁ p b q
-      going-no h = record {
-        frame = outside-trans (g .frame) (v .frame);
-        high = omega (arith, g .high);
-        standing = subst (λ (u : List ℕ). Standing t kinds ends refs bs cs u W nb b q) (sym (v .kept h)) (g .standing);
-        below = λ k. omega (arith, g .below k);
-      }
+      going-no : r ≡ false → Going s₀ s₁ p d q
+      going-no h = record { frame = outside-trans (g .frame) (v .frame); high = omega (arith, g .high); placed = subst (λ (u : List ℕ). Placed u p d q) (sym (v .kept h)) n }
 
     -- ---- counted
 
@@ -166,36 +171,37 @@ module _ (t : ℕ → Bool) (kinds ends refs bs cs : List ℕ) where
       pub registers-are : registers ≡ length (flatMap live (pointsFrom i))
       pub few : (points + i ≤ length kinds) × (registers ≤ (length kinds - i) * 16384)
 
-    pub counting-none : (s : List ℕ) (q : ℕ) → Counting s s (length kinds) 0 0 nb q
-    counting-none s q = record {
-      going = going-none s q;
+    pub counting-none : formed kinds ends refs bs cs ≡ true → nb ≡ length bs / 2 → (s : List ℕ) → Counting s s (length kinds) 0 0 nb (length kinds)
+    counting-none good size s = record {
+      going = going-none good size s;
       points-are = sym (ap length from-end);
       registers-are = sym (ap (λ (l : List ℕ). length (flatMap live l)) from-end ∙ ap length (flat-none live));
       few = (omega arith, omega arith);
     }
 
-    module _ {s₀ s s₁ : List ℕ} {i points registers b q p r : ℕ} (inv : Counting s₀ s i points registers b q) (step : i ≡ p + 1) (v : Pointed t kinds ends refs bs cs s s₁ W nb p r) where
+    module _ {s₀ s s₁ : List ℕ} {i points registers b q p d : ℕ} {r : Bool} (inv : Counting s₀ s i points registers b q) (step : i ≡ p + 1)
+        (v : Pointed t kinds ends refs bs cs s s₁ W nb d p r) where
       more : (length kinds - p) * 16384 ≡ (length kinds - i) * 16384 + 16384
       more = let h = inv .going .high in let e : length kinds - p ≡ (length kinds - i) + 1 = omega arith in ap (λ (u : ℕ). u * 16384) e ∙ wide (length kinds - i)
         where
           wide : (m : ℕ) → (m + 1) * 16384 ≡ m * 16384 + 16384
           wide m = omega arith
 
-      pub counting-yes : r < nb → (n : ℕ) → n ≡ length (listed (rowAt s₁ (nb * (3 * W)) W)) → n ≤ 16384 → Counting s₀ s₁ p (points + 1) (registers + n) r p
-      counting-yes h n e k =
-          let x : pointsFrom p ≡ p ∷ pointsFrom i = from-yes p (omega (arith, inv .going .high)) (is-point v h) ∙ ap (λ (u : ℕ). p ∷ pointsFrom u) (sym step) in
+      pub counting-yes : r ≡ true → Placed s p d q → (n : ℕ) → n ≡ length (listed (rowAt s₁ (nb * (3 * W)) W)) → n ≤ 16384 → Counting s₀ s₁ p (points + 1) (registers + n) d p
+      counting-yes h turn n e k =
+          let x : pointsFrom p ≡ p ∷ pointsFrom i = from-yes p (omega (arith, inv .going .high)) (sym (v .is) ∙ h) ∙ ap (λ (u : ℕ). p ∷ pointsFrom u) (sym step) in
           record {
-            going = going-yes (inv .going) step v;
+            going = going-yes (inv .going) step turn v h;
             points-are = omega (arith, inv .points-are, ap length x);
             registers-are = omega (arith, inv .registers-are, e ∙ ap length (v .row h), ap (λ (l : List ℕ). length (flatMap live l)) x ∙ ap length (flat-cons live p (pointsFrom i)), length-append (live p) (flatMap live (pointsFrom i)));
             few = (omega (arith, inv .few .0), omega (arith, inv .few .1, more));
           }
 
-      pub counting-no : nb ≤ r → Counting s₀ s₁ p points registers b q
-      counting-no h =
-          let x : pointsFrom i ≡ pointsFrom p = ap pointsFrom step ∙ sym (from-no p (omega (arith, inv .going .high)) (no-point v h)) in
+      pub counting-no : r ≡ false → Placed s p d q → Counting s₀ s₁ p points registers d q
+      counting-no h turn =
+          let x : pointsFrom i ≡ pointsFrom p = ap pointsFrom step ∙ sym (from-no p (omega (arith, inv .going .high)) (sym (v .is) ∙ h)) in
           record {
-            going = going-no (inv .going) step v h;
+            going = going-no (inv .going) step turn v h;
             points-are = inv .points-are ∙ ap length x;
             registers-are = inv .registers-are ∙ ap (λ (l : List ℕ). length (flatMap live l)) x;
             few = (omega (arith, inv .few .0), omega (arith, inv .few .1, more));
@@ -223,9 +229,9 @@ module _ (t : ℕ → Bool) (kinds ends refs bs cs : List ℕ) where
       pub registers : regs ≡ put regs₀ to (flatMap live (pointsFrom i)) (length (flatMap live (pointsFrom i)))
 
     module _ {pcs₀ bounds₀ regs₀ : List ℕ} {np nr : ℕ} (fits : Fits t kinds ends refs bs cs pcs₀ bounds₀ regs₀ W np nr) where
-      pub writing-none : (s : List ℕ) (q : ℕ) → Writing s s pcs₀ pcs₀ bounds₀ bounds₀ regs₀ regs₀ (length kinds) np nr nb q
-      writing-none s q = record {
-        going = going-none s q;
+      pub writing-none : formed kinds ends refs bs cs ≡ true → nb ≡ length bs / 2 → (s : List ℕ) → Writing s s pcs₀ pcs₀ bounds₀ bounds₀ regs₀ regs₀ (length kinds) np nr nb (length kinds)
+      writing-none good size s = record {
+        going = going-none good size s;
         place = fits .points-are;
         upto = fits .registers-are;
         points = put-none pcs₀ np [] ∙ ap (λ (l : List ℕ). put pcs₀ np l (length l)) (sym from-end);
@@ -267,13 +273,13 @@ module _ (t : ℕ → Bool) (kinds ends refs bs cs : List ℕ) where
               registers = inv .registers ∙ ap₂ (λ (u : ℕ) (l : List ℕ). put regs₀ u (flatMap live l) (length (flatMap live l))) t0 x;
             }
 
-        module _ {s₁ : List ℕ} {p r : ℕ} (step : i ≡ p + 1) (v : Pointed t kinds ends refs bs cs s s₁ W nb p r) where
-          pub writing-no : nb ≤ r → Writing s₀ s₁ pcs₀ pcs bounds₀ bounds regs₀ regs p k to b q
-          writing-no h =
-              let x : pointsFrom i ≡ pointsFrom p = ap pointsFrom step ∙ sym (from-no p (omega (arith, inv .going .high)) (no-point v h)) in
-              let y : pointsTo kinds ends refs bs cs i ≡ pointsTo kinds ends refs bs cs p = ap (pointsTo kinds ends refs bs cs) step ∙ to-no p (no-point v h) in
+        module _ {s₁ : List ℕ} {p d : ℕ} {r : Bool} (step : i ≡ p + 1) (v : Pointed t kinds ends refs bs cs s s₁ W nb d p r) where
+          pub writing-no : r ≡ false → Placed s p d q → Writing s₀ s₁ pcs₀ pcs bounds₀ bounds regs₀ regs p k to d q
+          writing-no h turn =
+              let x : pointsFrom i ≡ pointsFrom p = ap pointsFrom step ∙ sym (from-no p (omega (arith, inv .going .high)) (sym (v .is) ∙ h)) in
+              let y : pointsTo kinds ends refs bs cs i ≡ pointsTo kinds ends refs bs cs p = ap (pointsTo kinds ends refs bs cs) step ∙ to-no p (sym (v .is) ∙ h) in
               record {
-                going = going-no (inv .going) step v h;
+                going = going-no (inv .going) step turn v h;
                 place = inv .place ∙ ap length y;
                 upto = inv .upto ∙ ap (λ (l : List ℕ). length (flatMap live l)) y;
                 points = inv .points ∙ ap (λ (l : List ℕ). put pcs₀ k l (length l)) x;
@@ -281,9 +287,9 @@ module _ (t : ℕ → Bool) (kinds ends refs bs cs : List ℕ) where
                 registers = inv .registers ∙ ap (λ (l : List ℕ). put regs₀ to (flatMap live l) (length (flatMap live l))) x;
               }
 
-          module _ (h : r < nb) where
+          module _ (h : r ≡ true) where
             before : pointsTo kinds ends refs bs cs i ≡ pointsTo kinds ends refs bs cs p ++ (p ∷ [])
-            before = ap (pointsTo kinds ends refs bs cs) step ∙ to-yes p (is-point v h)
+            before = ap (pointsTo kinds ends refs bs cs) step ∙ to-yes p (sym (v .is) ∙ h)
 
             pub one-less : k ≡ suc (length (pointsTo kinds ends refs bs cs p))
             one-less = let n = length-append (pointsTo kinds ends refs bs cs p) (p ∷ []) in omega (arith, inv .place, ap length before)
@@ -302,12 +308,12 @@ module _ (t : ℕ → Bool) (kinds ends refs bs cs : List ℕ) where
             pub room-registers : length (listed (rowAt s₁ (nb * (3 * W)) W)) ≤ to
             room-registers = omega (arith, fewer, ap length (v .row h))
 
-            pub writing-yes : (pcs₁ bounds₁ regs₁ : List ℕ) (from : ℕ) → to ≡ from + length (listed (rowAt s₁ (nb * (3 * W)) W))
+            pub writing-yes : Placed s p d q → (pcs₁ bounds₁ regs₁ : List ℕ) (from : ℕ) → to ≡ from + length (listed (rowAt s₁ (nb * (3 * W)) W))
                 → pcs₁ ≡ set pcs (k - 1) p → bounds₁ ≡ set bounds (k - 1) to
                 → regs₁ ≡ put regs from (listed (rowAt s₁ (nb * (3 * W)) W)) (length (listed (rowAt s₁ (nb * (3 * W)) W)))
-                → Writing s₀ s₁ pcs₀ pcs₁ bounds₀ bounds₁ regs₀ regs₁ p (k - 1) from r p
-            writing-yes pcs₁ bounds₁ regs₁ from en ep eb er = record {
-              going = going-yes (inv .going) step v;
+                → Writing s₀ s₁ pcs₀ pcs₁ bounds₀ bounds₁ regs₀ regs₁ p (k - 1) from d p
+            writing-yes turn pcs₁ bounds₁ regs₁ from en ep eb er = record {
+              going = going-yes (inv .going) step turn v h;
               place = omega (arith, one-less);
               upto = omega (arith, fewer, sum);
               points = ep ∙ ap (λ (l : List ℕ). set l (k - 1) p) (inv .points ∙ ap (λ (u : ℕ). put pcs₀ u S (length S)) last)
@@ -324,7 +330,7 @@ module _ (t : ℕ → Bool) (kinds ends refs bs cs : List ℕ) where
                 S = pointsFrom i
 
                 x : pointsFrom p ≡ p ∷ pointsFrom i
-                x = from-yes p (omega (arith, inv .going .high)) (is-point v h) ∙ ap (λ (u : ℕ). p ∷ pointsFrom u) (sym step)
+                x = from-yes p (omega (arith, inv .going .high)) (sym (v .is) ∙ h) ∙ ap (λ (u : ℕ). p ∷ pointsFrom u) (sym step)
 
                 last : k ≡ suc (k - 1)
                 last = omega (arith, one-less)

@@ -1,9 +1,8 @@
 -- What the inner functions ensure: the map of the first i instructions, counted, then written.
 use mathlib.Core.Path.{_≡_}
-use mathlib.Core.Bool.{Bool}
+use mathlib.Core.Bool.{Bool, true, false}
 use mathlib.Core.List.{List, [], _∷_, flatMap}
 use Prim.Native.Nat.{ℕ, _+_, _-_, _*_, _≤_, _<_}
-use lib.Dec.{ltb}
 use lib.ListN.{length, getD, take, drop}
 use Rattle.word.specs.Ones.{passing}
 use Rattle.word.specs.Put.{put}
@@ -11,7 +10,7 @@ use Rattle.rows.specs.Row.{listed}
 use Rattle.flow.specs.Function.{safepoint}
 use Rattle.flow.specs.Dataflow.{liveBefore, liveRow}
 use Rattle.roots.specs.View.{view}
-use Rattle.roots.specs.Columns.{seen, cell, Outside, Found}
+use Rattle.roots.specs.Columns.{seen, cell, Outside}
 use Rattle.root_map.specs.Calls.{limits}
 
 -- the row of w words that starts at word a
@@ -25,25 +24,17 @@ pointsTo kinds ends refs bs cs i = passing (safepoint (view kinds ends refs bs c
 abbrev pub liveOf : (ℕ → Bool) → (kinds ends refs bs cs : List ℕ) → ℕ → ℕ → List ℕ
 liveOf t kinds ends refs bs cs W p = liveRow (W * 64) (seen t kinds ends refs bs cs) p
 
--- the row after the blocks' is what is live before instruction q of block b, where b is a block
+-- where q is before the end of block b, the row after the blocks' is what is live before instruction q of it
 pub record Standing (t : ℕ → Bool) (kinds ends refs bs cs s : List ℕ) (W nb b q : ℕ) : Type 0 where
-  pub here : b < nb → (getD bs (2 * b) 0 ≤ q) × (q < getD bs (2 * b + 1) 0)
-  pub row : b < nb → (r : ℕ) → r < 64 * W → cell s (nb * (3 * W)) r ≡ liveBefore (seen t kinds ends refs bs cs) b q r
+  pub row : b < nb → q < getD bs (2 * b + 1) 0 → (r : ℕ) → r < 64 * W → cell s (nb * (3 * W)) r ≡ liveBefore (seen t kinds ends refs bs cs) b q r
 
--- r is the block that holds instruction pc, and the row is what is live before it; or no block holds it, r is nb, and nothing changed
-pub record Entered (t : ℕ → Bool) (kinds ends refs bs cs s s′ : List ℕ) (W nb pc r : ℕ) : Type 0 where
+-- r says whether instruction pc, which block b holds, is a safepoint inside a block: then the row is what is live before it, and otherwise nothing changed
+pub record Pointed (t : ℕ → Bool) (kinds ends refs bs cs s s′ : List ℕ) (W nb b pc : ℕ) (r : Bool) : Type 0 where
   pub frame : Outside s s′ (nb * (3 * W)) W
-  pub found : Found bs nb pc r
-  pub standing : Standing t kinds ends refs bs cs s′ W nb r pc
-  pub kept : nb ≤ r → s′ ≡ s
-
--- the same for a safepoint: another instruction has no block here
-pub record Pointed (t : ℕ → Bool) (kinds ends refs bs cs s s′ : List ℕ) (W nb pc r : ℕ) : Type 0 where
-  pub frame : Outside s s′ (nb * (3 * W)) W
-  pub is : ltb r nb ≡ safepoint (view kinds ends refs bs cs) pc
-  pub row : r < nb → listed (rowAt s′ (nb * (3 * W)) W) ≡ liveOf t kinds ends refs bs cs W pc
-  pub standing : Standing t kinds ends refs bs cs s′ W nb r pc
-  pub kept : nb ≤ r → s′ ≡ s
+  pub is : r ≡ safepoint (view kinds ends refs bs cs) pc
+  pub row : r ≡ true → listed (rowAt s′ (nb * (3 * W)) W) ≡ liveOf t kinds ends refs bs cs W pc
+  pub standing : r ≡ true → Standing t kinds ends refs bs cs s′ W nb b pc
+  pub kept : r ≡ false → s′ ≡ s
 
 -- the first i instructions are counted
 pub record Counted (t : ℕ → Bool) (kinds ends refs bs cs s s′ : List ℕ) (W nb i points registers : ℕ) : Type 0 where

@@ -1,6 +1,7 @@
 // The map of all safepoints of a function: which registers are live before each. Inner functions: the front door is crate `yexwalu`.
 use roots::Tracked;
-use roots::at::find_block;
+use roots::chains::chain;
+use roots::chains::first_at;
 use roots::check::check_function;
 use roots::check::enough;
 use roots::fixpoint::analyse;
@@ -9,15 +10,16 @@ use roots::fixpoint::gather;
 use roots::row::wide;
 ghost use mathlib.Core.Path.{_≡_};
 ghost use mathlib.Core.Bool.{true, _||_};
-ghost use Prim.Native.Nat.{_+_, _-_, _*_, _/_, _≤_, _<_};
+ghost use Prim.Native.Nat.{ℕ, _+_, _-_, _*_, _/_, _≤_, _<_};
 ghost use lib.Dec.{ltb};
 ghost use lib.ListN.{length, set};
 ghost use Rattle.rows.specs.Row.{listed};
+ghost use Rattle.flow.specs.Dataflow.{liveBefore};
 ghost use Rattle.word.specs.Put.{put};
 ghost use Rattle.roots.specs.View.{formed};
 ghost use Rattle.root_map.specs.Calls.{LiveRefsCall};
-ghost use Rattle.roots.specs.Columns.{wanted, seen, Fixed};
-ghost use Rattle.root_map.specs.Columns.{rowAt, Standing, Entered, Pointed, Counted, Fits, Written};
+ghost use Rattle.roots.specs.Columns.{wanted, seen, cell, Outside, Fixed, Found, In, Separate, Chains};
+ghost use Rattle.root_map.specs.Columns.{rowAt, Standing, Pointed, Counted, Fits, Written};
 
 // What `live_refs` answers.
 pub enum LiveRefs {
@@ -37,7 +39,23 @@ pub struct Counts {
     pub registers: usize,
 }
 
-// The row after the blocks' becomes the registers that are live before instruction pc. The block that holds pc; nb if none does, and nothing changes.
+// The block that holds instruction pc, or nb, where b is that of pc + 1. From the last instruction to the first, a block is entered at its last one: where b
+// does not hold pc too, only a block that ends at pc + 1 can, and the chains of the blocks by their end have it.
+fn block_of(blocks: &[u32], nb: usize, heads: &[u16], links: &[u16], b: usize, pc: usize) -> usize
+    requires { ⌜ (nb ≡ length (now blocks) / 2) × Separate (now blocks) × Chains (now blocks) 1 nb 0 (now heads) (now links) × (pc < 65536) × Found (now blocks) nb (pc + 1) b ⌝ }
+    ensures { λ r. ⌜ Found (now (blocks .entry)) nb pc r ⌝ }
+{
+    if b < nb {
+        let st = wide(blocks[2 * b]);
+        if st <= pc {
+            return b;
+        }
+    }
+    first_at(blocks, nb, 1, heads, links, pc + 1)
+}
+
+// The row after the blocks' becomes the registers that are live before instruction pc of block b. Where q is before the block's end, the row is that before
+// q, and the walk goes on from there.
 fn block_row(
     s: &mut [u64],
     kinds: &[u8],
@@ -48,35 +66,29 @@ fn block_row(
     which: Tracked,
     nb: usize,
     words: usize,
+    b: usize,
+    q: usize,
     pc: usize,
-) -> usize
+)
     requires { ⌜ formed (now kinds) (now ends) (now refs) (now blocks) (now classes) ≡ true ⌝ }
-    requires { ⌜ (nb ≡ length (now blocks) / 2) × (nb * (3 * words) + 2 * words ≤ length (now s)) × (length (now classes) ≤ 64 * words) ⌝ }
+    requires { ⌜ (nb ≡ length (now blocks) / 2) × (nb * (3 * words) + 2 * words ≤ length (now s)) × (length (now classes) ≤ 64 * words) × (b < nb) × In (now blocks) b pc × (pc < q) ⌝ }
     requires { ⌜ Fixed (seen (wanted which) (now kinds) (now ends) (now refs) (now blocks) (now classes)) (now blocks) (now s) words nb ⌝ }
-    ensures { λ r. ⌜ Entered (wanted which) (now (kinds .entry)) (now (ends .entry)) (now (refs .entry)) (now (blocks .entry)) (now (classes .entry)) (now (s .entry)) (now (s .exit)) words nb pc r ⌝ }
+    requires { ⌜ Standing (wanted which) (now kinds) (now ends) (now refs) (now blocks) (now classes) (now s) words nb b q ⌝ }
+    ensures { λ _. ⌜ Outside (now (s .entry)) (now (s .exit)) (nb * (3 * words)) words × ((r : ℕ) → r < 64 * words → cell (now (s .exit)) (nb * (3 * words)) r
+        ≡ liveBefore (seen (wanted which) (now (kinds .entry)) (now (ends .entry)) (now (refs .entry)) (now (blocks .entry)) (now (classes .entry))) b pc r) ⌝ }
 {
-    let b = find_block(blocks, nb, pc);
-    if nb <= b {
-        return b;
+    let at = nb * (3 * words);
+    let e = wide(blocks[2 * b + 1]);
+    if q < e {
+        back_at(s, at, words, ends, refs, classes, which, pc, q);
+        return;
     }
     gather(s, kinds, ends, refs, blocks, nb, words, b);
-    let e = wide(blocks[2 * b + 1]);
-    back_at(
-        s,
-        nb * (3 * words),
-        words,
-        ends,
-        refs,
-        classes,
-        which,
-        pc,
-        e,
-    );
-    b
+    back_at(s, at, words, ends, refs, classes, which, pc, e);
 }
 
-// Where instruction pc is a safepoint inside a block, the row after the blocks' becomes the registers that are live before it. Its block, or nb. The row
-// is that before instruction q of block b, where b is a block: within it the walk goes on from there.
+// Whether instruction pc, which block b holds if b is a block, is a safepoint inside a block. Then the row after the blocks' becomes the registers that are
+// live before it.
 fn point_row(
     s: &mut [u64],
     kinds: &[u8],
@@ -90,34 +102,34 @@ fn point_row(
     b: usize,
     q: usize,
     pc: usize,
-) -> usize
+) -> bool
     requires { ⌜ formed (now kinds) (now ends) (now refs) (now blocks) (now classes) ≡ true ⌝ }
-    requires { ⌜ (nb ≡ length (now blocks) / 2) × (nb * (3 * words) + 2 * words ≤ length (now s)) × (length (now classes) ≤ 64 * words) × (pc < length (now kinds)) ⌝ }
+    requires { ⌜ (nb ≡ length (now blocks) / 2) × (nb * (3 * words) + 2 * words ≤ length (now s)) × (length (now classes) ≤ 64 * words) × (pc < length (now kinds)) × (pc < q) × Found (now blocks) nb pc b ⌝ }
     requires { ⌜ Fixed (seen (wanted which) (now kinds) (now ends) (now refs) (now blocks) (now classes)) (now blocks) (now s) words nb ⌝ }
-    requires { ⌜ Standing (wanted which) (now kinds) (now ends) (now refs) (now blocks) (now classes) (now s) words nb b q × (b < nb → pc < q) ⌝ }
-    ensures { λ r. ⌜ Pointed (wanted which) (now (kinds .entry)) (now (ends .entry)) (now (refs .entry)) (now (blocks .entry)) (now (classes .entry)) (now (s .entry)) (now (s .exit)) words nb pc r ⌝ }
+    requires { ⌜ Standing (wanted which) (now kinds) (now ends) (now refs) (now blocks) (now classes) (now s) words nb b q ⌝ }
+    ensures { λ r. ⌜ Pointed (wanted which) (now (kinds .entry)) (now (ends .entry)) (now (refs .entry)) (now (blocks .entry)) (now (classes .entry)) (now (s .entry)) (now (s .exit)) words nb b pc r ⌝ }
 {
     if kinds[pc] != 1 {
-        return nb;
+        return false;
     }
-    if b < nb {
-        let st = wide(blocks[2 * b]);
-        if st <= pc {
-            back_at(
-                s,
-                nb * (3 * words),
-                words,
-                ends,
-                refs,
-                classes,
-                which,
-                pc,
-                q,
-            );
-            return b;
-        }
+    if nb <= b {
+        return false;
     }
-    block_row(s, kinds, ends, refs, blocks, classes, which, nb, words, pc)
+    block_row(
+        s,
+        kinds,
+        ends,
+        refs,
+        blocks,
+        classes,
+        which,
+        nb,
+        words,
+        b,
+        q,
+        pc,
+    );
+    true
 }
 
 // How many registers the row at `at` has.
@@ -140,9 +152,11 @@ fn count_map(
     which: Tracked,
     nb: usize,
     words: usize,
+    heads: &[u16],
+    links: &[u16],
 ) -> Counts
     requires { ⌜ formed (now kinds) (now ends) (now refs) (now blocks) (now classes) ≡ true ⌝ }
-    requires { ⌜ (nb ≡ length (now blocks) / 2) × (nb * (3 * words) + 2 * words ≤ length (now s)) × (length (now classes) ≤ 64 * words) × (words ≤ 256) × (length (now kinds) ≤ 65536) ⌝ }
+    requires { ⌜ (nb ≡ length (now blocks) / 2) × (nb * (3 * words) + 2 * words ≤ length (now s)) × (length (now classes) ≤ 64 * words) × (words ≤ 256) × (length (now kinds) ≤ 65536) × Chains (now blocks) 1 nb 0 (now heads) (now links) ⌝ }
     requires { ⌜ Fixed (seen (wanted which) (now kinds) (now ends) (now refs) (now blocks) (now classes)) (now blocks) (now s) words nb ⌝ }
     ensures { λ r. ⌜ Counted (wanted which) (now (kinds .entry)) (now (ends .entry)) (now (refs .entry)) (now (blocks .entry)) (now (classes .entry)) (now (s .entry)) (now (s .exit)) words nb (length (now (kinds .entry))) (r .points) (r .registers) ⌝ }
 {
@@ -150,11 +164,12 @@ fn count_map(
     let mut points: usize = 0;
     let mut registers: usize = 0;
     let mut b = nb;
-    let mut q: usize = 0;
     let mut pc = kinds.len();
+    let mut q = pc;
     while 0 < pc {
         pc -= 1;
-        let r = point_row(
+        b = block_of(blocks, nb, heads, links, b, pc);
+        if point_row(
             s,
             kinds,
             ends,
@@ -167,9 +182,7 @@ fn count_map(
             b,
             q,
             pc,
-        );
-        if r < nb {
-            b = r;
+        ) {
             q = pc;
             points += 1;
             registers += count_at(s, at, words);
@@ -229,6 +242,8 @@ fn write_map(
     which: Tracked,
     nb: usize,
     words: usize,
+    heads: &[u16],
+    links: &[u16],
     pcs: &mut [u32],
     bounds: &mut [u32],
     regs: &mut [u32],
@@ -236,7 +251,7 @@ fn write_map(
     registers: usize,
 )
     requires { ⌜ formed (now kinds) (now ends) (now refs) (now blocks) (now classes) ≡ true ⌝ }
-    requires { ⌜ (nb ≡ length (now blocks) / 2) × (nb * (3 * words) + 2 * words ≤ length (now s)) × (length (now classes) ≤ 64 * words) × (words ≤ 256) × (length (now kinds) ≤ 65536) ⌝ }
+    requires { ⌜ (nb ≡ length (now blocks) / 2) × (nb * (3 * words) + 2 * words ≤ length (now s)) × (length (now classes) ≤ 64 * words) × (words ≤ 256) × (length (now kinds) ≤ 65536) × Chains (now blocks) 1 nb 0 (now heads) (now links) ⌝ }
     requires { ⌜ Fixed (seen (wanted which) (now kinds) (now ends) (now refs) (now blocks) (now classes)) (now blocks) (now s) words nb ⌝ }
     requires { ⌜ Fits (wanted which) (now kinds) (now ends) (now refs) (now blocks) (now classes) (now pcs) (now bounds) (now regs) words points registers ⌝ }
     ensures { λ _. ⌜ Written (wanted which) (now (kinds .entry)) (now (ends .entry)) (now (refs .entry)) (now (blocks .entry)) (now (classes .entry)) (now (s .entry)) (now (s .exit))
@@ -246,11 +261,12 @@ fn write_map(
     let mut k = points;
     let mut to = registers;
     let mut b = nb;
-    let mut q: usize = 0;
     let mut pc = kinds.len();
+    let mut q = pc;
     while 0 < pc {
         pc -= 1;
-        let r = point_row(
+        b = block_of(blocks, nb, heads, links, b, pc);
+        if point_row(
             s,
             kinds,
             ends,
@@ -263,9 +279,7 @@ fn write_map(
             b,
             q,
             pc,
-        );
-        if r < nb {
-            b = r;
+        ) {
             q = pc;
             k -= 1;
             to = write_point(s, at, words, pc, pcs, bounds, regs, k, to);
@@ -298,8 +312,24 @@ pub fn live_refs(
         memory::clear_u64(s);
         return LiveRefs::Function;
     }
+    // The chains of the blocks by their end; 65,535 is no block.
+    let mut heads = [65535u16; 4096];
+    let mut links = [65535u16; 4096];
+    chain(blocks, nb, 1, &mut heads, &mut links);
     analyse(s, kinds, ends, refs, blocks, classes, which, nb, words);
-    let c = count_map(s, kinds, ends, refs, blocks, classes, which, nb, words);
+    let c = count_map(
+        s,
+        kinds,
+        ends,
+        refs,
+        blocks,
+        classes,
+        which,
+        nb,
+        words,
+        &heads,
+        &links,
+    );
     let points = c.points;
     let registers = c.registers;
     if short(points, registers, pcs.len(), bounds.len(), regs.len()) {
@@ -316,6 +346,8 @@ pub fn live_refs(
         which,
         nb,
         words,
+        &heads,
+        &links,
         pcs,
         bounds,
         regs,

@@ -70,24 +70,27 @@ pub record Linked (bs s : List ℕ) (W nb : ℕ) : Type 0 where
   pub next : (b : ℕ) → b < nb → getD bs (2 * b) 0 < getD bs (2 * b + 1) 0 → firstAt (tabulate nb (blockAt bs)) (getD bs (2 * b + 1) 0) 0 ≡ oneBelow (getD s (b * (3 * W) + 2 * W) 0) nb
   pub blank : (q : ℕ) → q < 64 * W → cell s (nb * (3 * W) + W) q ≡ false
 
--- c is the first of i, i + 1, .. with P, or n where none of them below n has it
+-- c is the first of i, i + 1, .. that has P, if it is below n; otherwise none of them below n has it
 pub record First (P : ℕ → Type 0) (i n c : ℕ) : Type 0 where
   pub low : i ≤ c
-  pub high : c ≤ n
-  pub none : (j : ℕ) → i ≤ j → j < c → P j → ⊥
+  pub none : (j : ℕ) → i ≤ j → j < c → j < n → P j → ⊥
   pub here : c < n → P c
 
--- block b is not empty, and starts in bucket k of 4,096
-abbrev pub Starting : List ℕ → ℕ → ℕ → Type 0
-Starting bs k b = (getD bs (2 * b) 0 < getD bs (2 * b + 1) 0) × (getD bs (2 * b) 0 % 4096 ≡ k)
+-- block b is not empty, and its word w is x: word 0 is its start, word 1 its end
+abbrev pub Keyed : List ℕ → ℕ → ℕ → ℕ → Type 0
+Keyed bs w x b = (getD bs (2 * b) 0 < getD bs (2 * b + 1) 0) × (getD bs (2 * b + w) 0 ≡ x)
 
--- the blocks from b on, in a chain for each bucket: the head is the first of them, and the link of a block the next one after it
-pub record Chains (bs : List ℕ) (nb b : ℕ) (heads links : List ℕ) : Type 0 where
+-- the same with its word w in bucket k of 4,096
+abbrev pub Bucketed : List ℕ → ℕ → ℕ → ℕ → Type 0
+Bucketed bs w k b = (getD bs (2 * b) 0 < getD bs (2 * b + 1) 0) × (getD bs (2 * b + w) 0 % 4096 ≡ k)
+
+-- the blocks from b on, in a chain for each bucket of their word w: the head is the first of them, and the link of a block the next one after it
+pub record Chains (bs : List ℕ) (w nb b : ℕ) (heads links : List ℕ) : Type 0 where
   pub many : length heads ≡ 4096
   pub room : length links ≡ 4096
   pub few : nb ≤ 4096
-  pub head : (k : ℕ) → k < 4096 → First (Starting bs k) b nb (getD heads k 0)
-  pub link : (j : ℕ) → b ≤ j → j < nb → getD bs (2 * j) 0 < getD bs (2 * j + 1) 0 → First (Starting bs (getD bs (2 * j) 0 % 4096)) (j + 1) nb (getD links j 0)
+  pub head : (k : ℕ) → k < 4096 → First (Bucketed bs w k) b nb (getD heads k 0)
+  pub link : (j : ℕ) → b ≤ j → j < nb → getD bs (2 * j) 0 < getD bs (2 * j + 1) 0 → First (Bucketed bs w (getD bs (2 * j + w) 0 % 4096)) (j + 1) nb (getD links j 0)
 
 -- the rows of block b are begun, in words that were zero
 pub record Begun (t : ℕ → Bool) (ends refs bs cs s s′ : List ℕ) (nb W b : ℕ) : Type 0 where

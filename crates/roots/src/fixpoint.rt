@@ -1,8 +1,8 @@
 // The rows of all blocks in one scratch: gen and kill, the live-out of a block, and the passes to the least fixpoint.
 use crate::Tracked;
+use crate::chains::chain;
+use crate::chains::first_at;
 use crate::row::wide;
-use crate::starts::chain;
-use crate::starts::first_at;
 ghost use mathlib.Core.Path.{_≡_};
 ghost use mathlib.Core.Bool.{Bool, true, false, _||_};
 ghost use mathlib.Core.List.{List};
@@ -236,7 +236,7 @@ fn start_block(
     heads: &[u16],
     links: &[u16],
 )
-    requires { ⌜ (nb ≡ length (now blocks) / 2) × (b < nb) × (nb * (3 * words) + 2 * words ≤ length (now s)) × (length (now classes) ≤ 64 * words) × (0 < words) × Lists (now ends) (now refs) × Chains (now blocks) nb 0 (now heads) (now links) ⌝ }
+    requires { ⌜ (nb ≡ length (now blocks) / 2) × (b < nb) × (nb * (3 * words) + 2 * words ≤ length (now s)) × (length (now classes) ≤ 64 * words) × (0 < words) × Lists (now ends) (now refs) × Chains (now blocks) 0 nb 0 (now heads) (now links) ⌝ }
     requires { ⌜ (getD (now blocks) (2 * b) 0 < getD (now blocks) (2 * b + 1) 0 → 3 * getD (now blocks) (2 * b + 1) 0 ≤ length (now ends)) ⌝ }
     requires { ⌜ ((i : ℕ) → b * (3 * words) ≤ i → getD (now s) i 0 ≡ 0) ⌝ }
     ensures { λ _. ⌜ Begun (wanted which) (now (ends .entry)) (now (refs .entry)) (now (blocks .entry)) (now (classes .entry)) (now (s .entry)) (now (s .exit)) nb words b ⌝ }
@@ -249,11 +249,11 @@ fn start_block(
     let at = b * (3 * words);
     back_at(s, at, words, ends, refs, classes, which, st, e);
     kill_at(s, at + words, words, ends, refs, classes, which, st, e);
-    let t = first_at(blocks, nb, heads, links, e);
+    let t = first_at(blocks, nb, 0, heads, links, e);
     s[at + 2 * words] = t as u64;
 }
 
-// The rows of every block, in a scratch of zeros, from the chains of the blocks.
+// The rows of every block, in a scratch of zeros, from the chains of the blocks by their start.
 fn start_blocks(
     s: &mut [u64],
     ends: &[u32],
@@ -266,7 +266,7 @@ fn start_blocks(
     heads: &[u16],
     links: &[u16],
 )
-    requires { ⌜ (nb ≡ length (now blocks) / 2) × (nb * (3 * words) + 2 * words ≤ length (now s)) × (length (now classes) ≤ 64 * words) × (0 < words) × Lists (now ends) (now refs) × Chains (now blocks) nb 0 (now heads) (now links) ⌝ }
+    requires { ⌜ (nb ≡ length (now blocks) / 2) × (nb * (3 * words) + 2 * words ≤ length (now s)) × (length (now classes) ≤ 64 * words) × (0 < words) × Lists (now ends) (now refs) × Chains (now blocks) 0 nb 0 (now heads) (now links) ⌝ }
     requires { ⌜ ((b : ℕ) → b < nb → getD (now blocks) (2 * b) 0 < getD (now blocks) (2 * b + 1) 0 → 3 * getD (now blocks) (2 * b + 1) 0 ≤ length (now ends)) ⌝ }
     requires { ⌜ ((i : ℕ) → getD (now s) i 0 ≡ 0) ⌝ }
     ensures { λ _. ⌜ Built (wanted which) (now (ends .entry)) (now (refs .entry)) (now (blocks .entry)) (now (classes .entry)) (now (s .entry)) (now (s .exit)) nb words ⌝ }
@@ -306,10 +306,10 @@ fn build(
     requires { ⌜ ((i : ℕ) → getD (now s) i 0 ≡ 0) ⌝ }
     ensures { λ _. ⌜ Built (wanted which) (now (ends .entry)) (now (refs .entry)) (now (blocks .entry)) (now (classes .entry)) (now (s .entry)) (now (s .exit)) nb words ⌝ }
 {
-    let none = nb as u16;
-    let mut heads = [none; 4096];
-    let mut links = [none; 4096];
-    chain(blocks, nb, &mut heads, &mut links);
+    // 65,535 is no block.
+    let mut heads = [65535u16; 4096];
+    let mut links = [65535u16; 4096];
+    chain(blocks, nb, 0, &mut heads, &mut links);
     start_blocks(
         s,
         ends,

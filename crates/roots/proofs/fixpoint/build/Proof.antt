@@ -1,12 +1,10 @@
 -- `roots::fixpoint::build` meets its contract. Assumes nothing.
+use native.Mathlib.Omega.{arith}
 use borrow.Author.Needs.{needs}
 use mathlib.Core.Path.{refl}
 use Rattle.roots.proofs.Chaining.{chains-none}
 use Rattle.roots.proofs.fixpoint.build.Statement.{statement}
 use Rattle.roots.proofs.fixpoint.build.Tie as tie
-
-cast-none : tie.Need-cast-none
-cast-none c = search needs
 
 slice-aggregate-chain : tie.Need-slice-aggregate-chain
 slice-aggregate-chain c = search needs
@@ -15,7 +13,7 @@ slice-aggregate-chain-2 : tie.Need-slice-aggregate-chain-2
 slice-aggregate-chain-2 c = search needs
 
 chain-requires : tie.Need-chain-requires
-chain-requires c κs = (c .before .before .before .before .before .before .before .pre .0 .0, c .before .before .before .before .before .before .before .pre .0 .5, chains-none _ _ 4096 _ _ refl refl refl (c .before .before .before .before .before .before .before .pre .0 .5))
+chain-requires c κs = (c .before .before .before .before .before .before .before .pre .0 .0, c .before .before .before .before .before .before .before .pre .0 .5, omega arith, chains-none _ _ _ 4096 _ _ refl refl refl (c .before .before .before .before .before .before .before .pre .0 .5))
 
 slice-aggregate-start-blocks : tie.Need-slice-aggregate-start-blocks
 slice-aggregate-start-blocks c = search needs
@@ -36,7 +34,6 @@ pub build-spec : {M : Type 1} → statement M
 build-spec =
     tie.close
     (tie.spec
-    cast-none
     slice-aggregate-chain
     slice-aggregate-chain-2
     chain-requires

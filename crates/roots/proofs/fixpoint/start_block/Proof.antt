@@ -6,6 +6,7 @@ use Prim.Native.Nat.{ℕ, _*_, _≤_}
 use lib.ListN.{length, length-set}
 use Rattle.roots.specs.Columns.{wanted}
 use Rattle.roots.proofs.Scratch.{block-fits}
+use Rattle.roots.proofs.Chaining.{first-start}
 use Rattle.roots.proofs.Builds.{begun-none, begun-rows}
 use Rattle.roots.proofs.fixpoint.start_block.Statement.{statement}
 use Rattle.roots.proofs.fixpoint.start_block.Tie as tie
@@ -56,10 +57,10 @@ kill-at-requires : tie.Need-kill-at-requires
 kill-at-requires c κs = (omega (arith, block-fits (c .before .before .before .before .before .before .before .before .before .before .before .before .before .before .before .before .before .args .b) (c .before .before .before .before .before .before .before .before .before .before .before .before .before .before .before .before .before .args .nb) (3 * c .before .before .before .before .before .before .before .before .before .before .before .before .before .before .before .before .before .args .words) (c .before .before .before .before .before .before .before .before .before .before .before .before .before .before .before .before .before .pre .0 .1), c .before .before .before .before .before .before .before .before .before .before .before .before .before .before .before .before .before .pre .0 .2, c .before .before .before .back-at .ensures .0 .kept), (omega (arith, c .before .before .before .before .before .if1 .left), subst (λ (u : ℕ). 3 * u ≤ length (c .before .before .before .before .before .before .before .before .before .before .before .before .before .before .before .before .before .args .ends .now)) (sym (c .before .before .before .before .before .before .wide2 .ensures)) (c .before .before .before .before .before .before .before .before .before .before .before .before .before .before .before .before .before .pre .1 .0 (omega (arith, c .before .before .before .before .before .before .before .before .wide .ensures, c .before .before .before .before .before .before .wide2 .ensures, c .before .before .before .before .before .if1 .left))), c .before .before .before .before .before .before .before .before .before .before .before .before .before .before .before .before .before .pre .0 .3, c .before .before .before .before .before .before .before .before .before .before .before .before .before .before .before .before .before .pre .0 .5))
 
 first-at-requires : tie.Need-first-at-requires
-first-at-requires c κs = (omega (arith, c .before .before .before .before .before .before .before .before .before .before .before .before .before .before .before .before .before .before .before .before .pre .0 .0), c .before .before .before .before .before .before .before .before .before .before .before .before .before .before .before .before .before .before .before .before .pre .0 .6)
+first-at-requires c κs = (omega (arith, c .before .before .before .before .before .before .before .before .before .before .before .before .before .before .before .before .before .before .before .before .pre .0 .0), omega arith, c .before .before .before .before .before .before .before .before .before .before .before .before .before .before .before .before .before .before .before .before .pre .0 .6)
 
 mul-s : tie.Need-mul-s
-mul-s c = omega arith
+mul-s c = omega (arith, block-fits (c .before .before .before .before .before .before .before .before .before .before .before .before .before .before .before .before .before .before .before .before .before .args .b) (c .before .before .before .before .before .before .before .before .before .before .before .before .before .before .before .before .before .before .before .before .before .args .nb) (3 * c .before .before .before .before .before .before .before .before .before .before .before .before .before .before .before .before .before .before .before .before .before .args .words) (c .before .before .before .before .before .before .before .before .before .before .before .before .before .before .before .before .before .before .before .before .before .pre .0 .1), c .before .before .before .before .before .before .before .before .before .before .before .before .before .before .before .before .before .before .before .before .before .pre .0 .2, c .before .before .before .before .before .before .before .back-at .ensures .0 .kept, c .before .before .before .kill-at .ensures .0 .kept)
 
 add-s : tie.Need-add-s
 add-s c = omega (arith, block-fits (c .before .before .before .before .before .before .before .before .before .before .before .before .before .before .before .before .before .before .before .before .before .args .b) (c .before .before .before .before .before .before .before .before .before .before .before .before .before .before .before .before .before .before .before .before .before .args .nb) (3 * c .before .before .before .before .before .before .before .before .before .before .before .before .before .before .before .before .before .before .before .before .before .args .words) (c .before .before .before .before .before .before .before .before .before .before .before .before .before .before .before .before .before .before .before .before .before .pre .0 .1), c .before .before .before .before .before .before .before .before .before .before .before .before .before .before .before .before .before .before .before .before .before .pre .0 .2, c .before .before .before .before .before .before .before .back-at .ensures .0 .kept, c .before .before .before .kill-at .ensures .0 .kept)
@@ -74,7 +75,7 @@ same-length : tie.Need-same-length
 same-length c = length-set (c .before .before .before .kill-at .last .0) _ _ ∙ c .before .before .before .kill-at .ensures .0 .kept ∙ c .before .before .before .before .before .before .before .back-at .ensures .0 .kept
 
 returns-2 : tie.Need-returns-2
-returns-2 c = begun-rows (wanted (c .before .before .before .before .before .before .before .before .before .before .before .before .before .before .before .before .before .before .before .before .before .args .which)) (c .before .before .before .before .before .before .before .before .before .before .before .before .before .before .before .before .before .before .before .before .before .args .ends .now) (c .before .before .before .before .before .before .before .before .before .before .before .before .before .before .before .before .before .before .before .before .before .args .refs .now) (c .before .before .before .before .before .before .before .before .before .before .before .before .before .before .before .before .before .before .before .before .before .args .blocks .now) (c .before .before .before .before .before .before .before .before .before .before .before .before .before .before .before .before .before .before .before .before .before .args .classes .now) (c .before .before .before .before .before .before .before .before .before .before .before .before .before .before .before .before .before .before .before .before .before .args .nb) (c .before .before .before .before .before .before .before .before .before .before .before .before .before .before .before .before .before .before .before .before .before .args .words) (c .before .before .before .before .before .before .before .before .before .before .before .before .before .before .before .before .before .before .before .before .before .args .b) (c .before .before .before .before .before .before .before .before .before .before .before .before .before .before .before .before .before .before .before .before .before .pre .0 .1) (c .before .before .before .before .before .before .before .before .before .before .before .before .before .before .before .before .before .before .before .before .before .pre .0 .0) _ _ (c .before .before .before .before .before .before .before .before .before .before .before .before .wide .ensures) (c .before .before .before .before .before .before .before .before .before .before .wide2 .ensures) (c .before .before .before .before .before .before .before .before .before .before .before .before .before .before .before .before .before .before .before .before .before .args .s .now) (c .before .before .before .before .before .before .before .before .before .before .before .before .before .before .before .before .before .before .before .before .before .pre .1 .1) (c .before .before .before .before .before .before .before .back-at .last .0) (c .before .before .before .kill-at .last .0) _ (c .before .before .before .before .before .before .before .before .before .before .before .before .before .before .before .before .before .before .before .before .before .pre .0 .4) (omega (arith, c .before .before .before .before .before .before .before .before .before .before .before .before .before .before .before .before .before .before .before .before .before .pre .0 .2)) (c .before .before .before .before .before .before .before .back-at .ensures .0) (c .before .before .before .before .before .before .before .back-at .ensures .1) (c .before .before .before .kill-at .ensures .0) (c .before .before .before .kill-at .ensures .1) (c .first-at .ensures)
+returns-2 c = begun-rows (wanted (c .before .before .before .before .before .before .before .before .before .before .before .before .before .before .before .before .before .before .before .before .before .args .which)) (c .before .before .before .before .before .before .before .before .before .before .before .before .before .before .before .before .before .before .before .before .before .args .ends .now) (c .before .before .before .before .before .before .before .before .before .before .before .before .before .before .before .before .before .before .before .before .before .args .refs .now) (c .before .before .before .before .before .before .before .before .before .before .before .before .before .before .before .before .before .before .before .before .before .args .blocks .now) (c .before .before .before .before .before .before .before .before .before .before .before .before .before .before .before .before .before .before .before .before .before .args .classes .now) (c .before .before .before .before .before .before .before .before .before .before .before .before .before .before .before .before .before .before .before .before .before .args .nb) (c .before .before .before .before .before .before .before .before .before .before .before .before .before .before .before .before .before .before .before .before .before .args .words) (c .before .before .before .before .before .before .before .before .before .before .before .before .before .before .before .before .before .before .before .before .before .args .b) (c .before .before .before .before .before .before .before .before .before .before .before .before .before .before .before .before .before .before .before .before .before .pre .0 .1) (c .before .before .before .before .before .before .before .before .before .before .before .before .before .before .before .before .before .before .before .before .before .pre .0 .0) _ _ (c .before .before .before .before .before .before .before .before .before .before .before .before .wide .ensures) (c .before .before .before .before .before .before .before .before .before .before .wide2 .ensures) (c .before .before .before .before .before .before .before .before .before .before .before .before .before .before .before .before .before .before .before .before .before .args .s .now) (c .before .before .before .before .before .before .before .before .before .before .before .before .before .before .before .before .before .before .before .before .before .pre .1 .1) (c .before .before .before .before .before .before .before .back-at .last .0) (c .before .before .before .kill-at .last .0) _ (c .before .before .before .before .before .before .before .before .before .before .before .before .before .before .before .before .before .before .before .before .before .pre .0 .4) (omega (arith, c .before .before .before .before .before .before .before .before .before .before .before .before .before .before .before .before .before .before .before .before .before .pre .0 .2)) (c .before .before .before .before .before .before .before .back-at .ensures .0) (c .before .before .before .before .before .before .before .back-at .ensures .1) (c .before .before .before .kill-at .ensures .0) (c .before .before .before .kill-at .ensures .1) (first-start (c .before .before .before .before .before .before .before .before .before .before .before .before .before .before .before .before .before .before .before .before .before .args .blocks .now) _ _ _ (c .first-at .ensures))
 
 pub start-block-spec : {M : Type 1} → statement M
 start-block-spec =

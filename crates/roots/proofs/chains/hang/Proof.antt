@@ -1,10 +1,10 @@
--- `roots::starts::hang` meets its contract. Assumes nothing.
+-- `roots::chains::hang` meets its contract. Assumes nothing.
 use borrow.Author.Needs.{needs}
 use native.Mathlib.Omega.{arith}
 use mathlib.Core.Path.{refl}
 use Rattle.roots.proofs.Chaining.{chains-empty, chains-hang}
-use Rattle.roots.proofs.starts.hang.Statement.{statement}
-use Rattle.roots.proofs.starts.hang.Tie as tie
+use Rattle.roots.proofs.chains.hang.Statement.{statement}
+use Rattle.roots.proofs.chains.hang.Tie as tie
 
 mul-wide : tie.Need-mul-wide
 mul-wide c = search needs
@@ -34,7 +34,22 @@ wide-requires-2 : tie.Need-wide-requires-2
 wide-requires-2 c κs = search needs
 
 returns : tie.Need-returns
-returns c = chains-empty (c .before .before .before .before .before .before .before .before .pre .3) (c .before .before .before .before .before .before .before .before .pre .2) _ _ (c .before .before .before .wide .ensures) (c .before .wide2 .ensures) (omega (arith, c .if1 .taken))
+returns c = chains-empty (c .before .before .before .before .before .before .before .before .pre .4) (c .before .before .before .before .before .before .before .before .pre .3) _ _ (c .before .before .before .wide .ensures) (c .before .wide2 .ensures) (omega (arith, c .if1 .taken))
+
+mul-wide-5 : tie.Need-mul-wide-5
+mul-wide-5 c = search needs
+
+add-wide-2 : tie.Need-add-wide-2
+add-wide-2 c = search needs
+
+mul-wide-6 : tie.Need-mul-wide-6
+mul-wide-6 c = search needs
+
+shared-slice-read-wide-3 : tie.Need-shared-slice-read-wide-3
+shared-slice-read-wide-3 c = search needs
+
+wide-requires-3 : tie.Need-wide-requires-3
+wide-requires-3 c κs = search needs
 
 mul-links : tie.Need-mul-links
 mul-links c = search needs
@@ -64,7 +79,7 @@ same-length-2 : tie.Need-same-length-2
 same-length-2 c = search needs
 
 returns-2 : tie.Need-returns-2
-returns-2 c = chains-hang (c .before .before .before .before .before .before .before .before .before .pre .3) (c .before .before .before .before .before .before .before .before .before .pre .2) _ _ (c .before .before .before .before .wide .ensures) (c .before .before .wide2 .ensures) _ refl (omega (arith, c .before .if1 .left))
+returns-2 c = chains-hang (c .before .before .before .before .before .before .before .before .before .before .before .pre .4) (c .before .before .before .before .before .before .before .before .before .before .before .pre .3) _ _ (c .before .before .before .before .before .before .wide .ensures) (c .before .before .before .before .wide2 .ensures) _ _ (c .before .wide3 .ensures) refl (omega (arith, c .before .before .before .if1 .left))
 
 pub hang-spec : {M : Type 1} → statement M
 hang-spec =
@@ -80,6 +95,11 @@ hang-spec =
     shared-slice-read-wide-2
     wide-requires-2
     returns
+    mul-wide-5
+    add-wide-2
+    mul-wide-6
+    shared-slice-read-wide-3
+    wide-requires-3
     mul-links
     slice-read-links
     mul-links-2
