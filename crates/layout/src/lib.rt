@@ -216,7 +216,7 @@ fn scalar_laid(e: Entry) -> Lay
 }
 
 // The bytes of a field that is a scalar without a constant, 0 of another.
-fn scalar_bytes(types: &[u64], fields: &[u32], t: u64, c: u64) -> u64
+pub fn scalar_bytes(types: &[u64], fields: &[u32], t: u64, c: u64) -> u64
     ensures { λ r. ⌜ r ≡ scalarPart (now (types .entry)) (now (fields .entry)) t c ⌝ }
 {
     if c != 4294967295 {

@@ -3,6 +3,7 @@
 use Prim.Native.Nat.{ℕ, zero, suc, _+_, _-_, _/_, _^_, _≤_, _<_, min}
 use mathlib.Core.Path.{_≡_, refl, sym, ap, _∙_, subst}
 use mathlib.Core.Option.{Option, none, some}
+use mathlib.Core.Bool.{Bool, true, false}
 use mathlib.Core.List.{List, [], _∷_, _++_, map}
 use lib.ListN.{length, getD, set}
 use lib.Dec.{leb, eqb}
@@ -160,7 +161,7 @@ told-untraceable r ms to o t e = subst (λ (x : Answer). told x ms to ≡ o) e t
 
 -- ---- many values
 
-many-end : (len : ℕ) (f : ℕ → Places) (w c o : ℕ) → c ≤ 0 → many len f w c o ≡ some []
+pub many-end : (len : ℕ) (f : ℕ → Places) (w c o : ℕ) → c ≤ 0 → many len f w c o ≡ some []
 unfolding many
 many-end len f w zero o h = refl
 many-end len f w (suc c) o h = absurd (omega arith)
@@ -188,6 +189,38 @@ many-cons len f w (suc c) o h l = step ∙ ap (λ (j : ℕ). both (f o) (many le
   where
     step : many len f w (suc c) o ≡ both (f o) (many len f w c (o + w))
     step = rw (le-leb o len l) refl
+
+-- many values by two functions that agree
+pub many-ext : (end : ℕ) (f g : ℕ → Places) → ((p : ℕ) → f p ≡ g p) → (st n at : ℕ) → many end f st n at ≡ many end g st n at
+unfolding many
+many-ext end f g h st zero at = refl
+many-ext end f g h st (suc n) at =
+    ap (λ (x : Places). onlyIf (leb at end) (both x (many end f st n (at + st)))) (h at)
+    ∙ ap (λ (x : Places). onlyIf (leb at end) (both (g at) x)) (many-ext end f g h st n (at + st))
+
+only-none : (i : Bool) → onlyIf i none ≡ none
+only-none true = refl
+only-none false = refl
+
+-- none at any place is none of them all
+pub many-none : (end : ℕ) (f : ℕ → Places) → ((p : ℕ) → f p ≡ none) → (st n at : ℕ) → (n ≡ 0 → ⊥) → many end f st n at ≡ none
+unfolding many both
+many-none end f h st zero at z = absurd (omega arith)
+many-none end f h st (suc n) at z = ap (λ (x : Places). onlyIf (leb at end) (both x (many end f st n (at + st)))) (h at) ∙ only-none (leb at end)
+
+-- one value
+append-nil : (l : List ℕ) → l ++ [] ≡ l
+append-nil [] = refl
+append-nil (x ∷ l) = ap (λ (m : List ℕ). x ∷ m) (append-nil l)
+
+both-nil : (o : Places) → both o (some []) ≡ o
+unfolding both
+both-nil none = refl
+both-nil (some a) = ap some (append-nil a)
+
+pub many-one : (end : ℕ) (f : ℕ → Places) (st at : ℕ) → at ≤ end → many end f st 1 at ≡ f at
+unfolding many
+many-one end f st at h = ap (λ (x : Bool). onlyIf x (both (f at) (some []))) (le-leb at end h) ∙ both-nil (f at)
 
 -- The turns that are left at byte o of len: one for each stride that begins within the data, however many elements there are; of elements that take no
 -- room, as many as are left.

@@ -20,15 +20,9 @@ use Rattle.layout.specs.declared.Dims.{Dims}
 use Rattle.layout.specs.declared.Dims.the-variants.{Count, Bad, Large}
 use Rattle.ty.specs.declared.Word.{Word}
 use Rattle.ty.specs.declared.Word.the-variants.{Is, Over}
-use Rattle.trace.specs.Places.{Places, Below, onlyIf, both, many, turns, ifLaid, ifBytes, partPlaces, fieldDesc, fieldPlaces, placesBy, placesAt}
+use Rattle.trace.specs.Places.{Places, Below, onlyIf, both, turns, ifLaid, ifBytes, partPlaces, fieldDesc, fieldPlaces, placesBy, placesAt}
 use Rattle.trace.proofs.DescLaws.{used-is-at}
-
-many-ext : (end : ℕ) (f g : ℕ → Places) → ((p : ℕ) → f p ≡ g p) → (st n at : ℕ) → many end f st n at ≡ many end g st n at
-unfolding many
-many-ext end f g h st zero at = refl
-many-ext end f g h st (suc n) at =
-    ap (λ (x : Places). onlyIf (leb at end) (both x (many end f st n (at + st)))) (h at)
-    ∙ ap (λ (x : Places). onlyIf (leb at end) (both (g at) x)) (many-ext end f g h st n (at + st))
+use Rattle.trace.proofs.Emits.{many-ext}
 
 laid-ext : (l : Lay) (f g : ℕ → ℕ → Places) → ((st n : ℕ) → f st n ≡ g st n) → ifLaid l f ≡ ifLaid l g
 laid-ext (Laid s a st n u) f g h = h st n

@@ -1,6 +1,6 @@
 -- The ways out of the tracer, one law for each. Assumes nothing.
 use mathlib.Core.Path.{_≡_, refl, sym, ap, subst, _∙_}
-use mathlib.Core.List.{List, [], _∷_, _++_}
+use mathlib.Core.List.{List, [], _∷_}
 use mathlib.Core.Bool.{Bool, true, false, not}
 use mathlib.Core.Option.{none, some}
 use Prim.Native.Nat.{ℕ, suc, _+_, _-_, _*_, _/_, _^_, _≤_, _<_, max}
@@ -16,6 +16,7 @@ use Rattle.ty.specs.Words.{wordOf, onWord, roundUp}
 use Rattle.layout.specs.Layout.{onDims, dimsOf, under, usedBy, endOf, arrayOf, recordOf, layoutAt, layoutOf}
 use Rattle.ty.specs.Walks.{hasHandles, handlesBy, handlesAt}
 use Rattle.ty.specs.View.{readTy, entryAt, fieldsFrom, partAt, readPart, typesOf, constsOf, tableOf}
+use Rattle.layout.specs.Lent.{scalarPart}
 use Rattle.layout.specs.Offsets.{offsetsFrom, offsetsOf, fieldsOf}
 use Rattle.layout.specs.declared.Lay.{Lay}
 use Rattle.layout.specs.declared.Lay.the-variants.{Laid, Malformed, TooLarge}
@@ -32,9 +33,10 @@ use Rattle.layout.proofs.Lay.{the-type as lay-type}
 use Rattle.ty.proofs.Lookup.{type-at, const-at}
 use Rattle.layout.proofs.Within.{used-within, dims-within}
 use Rattle.ty.proofs.WalkLaws.{fields-first, fields-last, fields-next}
-use Rattle.layout.proofs.LayLaws.{rest, in-array as lay-array, in-record as lay-record}
+use Rattle.layout.proofs.LayLaws.{rest, below-scalar, in-array as lay-array, in-record as lay-record}
 use Rattle.trace.specs.Places.{Places, Below, onlyIf, both, many, turns, ifLaid, ifBytes, partPlaces, placesBy, placesAt}
-use Rattle.trace.specs.Walk.{leafOf, partLeaf, fieldAt, ifPlaced, walk}
+use Rattle.trace.specs.Walk.{leafOf, partLeaf, placedAfter, fieldAt, ifPlaced, walk, Looked}
+use Rattle.trace.specs.declared.Fields.the-variants.{Of as Fields·Of, Not}
 use Rattle.trace.specs.declared.Leaf.{Leaf}
 use Rattle.trace.specs.declared.Leaf.the-variants.{Own, Free, Deep}
 use Rattle.word.specs.Result.{Result, ok, refused}
@@ -43,7 +45,7 @@ use Rattle.trace.specs.declared.Placed.{Placed}
 use Rattle.trace.specs.declared.Placed.the-variants.{At, Unplaced}
 use Rattle.trace.specs.declared.Answer.{Answer}
 use Rattle.trace.specs.declared.Answer.the-variants.{Traced, Untraceable}
-use Rattle.trace.proofs.Emits.{then-some, then-none, emit-none, emit-nil, told-traced, told-untraceable}
+use Rattle.trace.proofs.Emits.{then-some, then-none, emit-none, emit-nil, told-traced, told-untraceable, many-end, many-ext, many-none, many-one}
 use Rattle.trace.proofs.Walks.{walk-is}
 
 -- ---- trace_in
@@ -93,12 +95,16 @@ module _ (w fs cs b : List ℕ) (left t : ℕ) (d : List ℕ) (at : ℕ) (k : In
       unfolding offsetsOf readTy
       record-offsets i n q = ap (λ (y : Ty). offsetsFrom (tableOf w fs cs b) (layoutAt (tableOf w fs cs b) 64) (fieldsOf y) d 0 0) (sym (type-at w fs t ∙ ap (readTy fs) (sym ee ∙ q)))
 
-      pub in-record : (i n : ℕ) → e ≡ Record i n → length d < 2 ^ 64 → (r : Answer) (ms to : List ℕ) → told r ms to ≡ emittingAt k v s (walk (tableOf w fs cs b) (placesAt (tableOf w fs cs b) (length v) (left - 1)) (length v) at (fieldsFrom fs i n) d 0 1 0) → told r ms to ≡ emittingAt k v s (placesAt (tableOf w fs cs b) (length v) left t d at)
+      record-is : (i n : ℕ) → e ≡ Record i n → length d < 2 ^ 64 → walk (tableOf w fs cs b) (placesAt (tableOf w fs cs b) (length v) (left - 1)) (length v) at (fieldsFrom fs i n) d 0 1 0 ≡ placesAt (tableOf w fs cs b) (length v) left t d at
       unfolding placesBy readTy layoutOf
-      in-record i n q g r ms to er =
+      record-is i n q g =
           let l : recordOf (tableOf w fs cs b) (layoutAt (tableOf w fs cs b) 64) (fieldsFrom fs i n) d 0 1 0 ≡ layoutAt (tableOf w fs cs b) 65 t d = lay-record w fs cs b 64 t d e ee _ i n q refl in
           let f : offsetsFrom (tableOf w fs cs b) (layoutAt (tableOf w fs cs b) 64) (fieldsFrom fs i n) d 0 0 ≡ offsetsOf (tableOf w fs cs b) t d = record-offsets i n q in
-          rw (level, q, ← l, ← f) (er ∙ ap (emittingAt k v s) (walk-is (tableOf w fs cs b) (placesAt (tableOf w fs cs b) (length v) (left - 1)) (length v) at (fieldsFrom fs i n) d 0 1 0 g))
+          rw (level, q, ← l, ← f) (walk-is (tableOf w fs cs b) (placesAt (tableOf w fs cs b) (length v) (left - 1)) (length v) at (fieldsFrom fs i n) d 0 1 0 g)
+
+      -- it is traced as one record of one
+      pub in-record : (i n : ℕ) → e ≡ Record i n → length d < 2 ^ 64 → at ≤ length v → (st : ℕ) (r : Answer) (ms to : List ℕ) → told r ms to ≡ emittingAt k v s (many (length v) (λ p. walk (tableOf w fs cs b) (placesAt (tableOf w fs cs b) (length v) (left - 1)) (length v) p (fieldsFrom fs i n) d 0 1 0) st 1 at) → told r ms to ≡ emittingAt k v s (placesAt (tableOf w fs cs b) (length v) left t d at)
+      in-record i n q g h′ st r ms to er = er ∙ ap (emittingAt k v s) (many-one (length v) (λ p. walk (tableOf w fs cs b) (placesAt (tableOf w fs cs b) (length v) (left - 1)) (length v) p (fieldsFrom fs i n) d 0 1 0) st at h′ ∙ record-is i n q g)
 
       other-cases : (x : Entry) → OneOf (1 ∷ 2 ∷ 3 ∷ 4 ∷ 8 ∷ []) (tagOf entry-type x) → placesBy (tableOf w fs cs b) (placesAt (tableOf w fs cs b) (length v) (left - 1)) (length v) t d at (readTy fs x) ≡ some []
       unfolding placesBy readTy
@@ -116,21 +122,38 @@ module _ (w fs cs b : List ℕ) (left t : ℕ) (d : List ℕ) (at : ℕ) (k : In
       pub in-other : OneOf (1 ∷ 2 ∷ 3 ∷ 4 ∷ 8 ∷ []) (tagOf entry-type e) → ok s ≡ emittingAt k v s (placesAt (tableOf w fs cs b) (length v) left t d at)
       in-other z = emit-nil k v s _ (level ∙ other-cases e z)
 
--- ---- trace_part
+-- ---- fields_at
 
-module _ (w fs cs b : List ℕ) (left t c : ℕ) (d : List ℕ) (at : ℕ) (k : Into) (v : List ℕ) (s : Raw) where
-  pub part-rest : c ≡ 4294967295 → (r : Answer) (ms to : List ℕ) → told r ms to ≡ emittingAt k v s (placesAt (tableOf w fs cs b) (length v) left t d at) → told r ms to ≡ emittingAt k v s (partPlaces (tableOf w fs cs b) (placesAt (tableOf w fs cs b) (length v) left) t c d at)
+pub looked-not : (w fs : List ℕ) (t left : ℕ) (x : Bool) (i n : ℕ) → Not ≡ Fields·Of i n → Looked w fs t left x i n
+looked-not w fs t left x i n e = let z : _≡_ {A = ℕ} 0 1 = cc in absurd (omega arith)
+
+pub looked-of : (w fs : List ℕ) (t left : ℕ) (x : Bool) → (left ≡ 0 → ⊥) → not x ≡ false → (e : Entry) → e ≡ entryAt w (length fs / 2) t → (i n : ℕ) → e ≡ Record i n → (i′ n′ : ℕ) → Fields·Of i n ≡ Fields·Of i′ n′ → Looked w fs t left x i′ n′
+looked-of w fs t left x h o e ee i n q i′ n′ z = record { level = h; handles = not-false x o; row = cc }
+
+-- ---- trace_elems
+
+module _ (w fs cs b : List ℕ) (left t : ℕ) (d : List ℕ) (k : Into) (v : List ℕ) (s : Raw) (x : Bool) (ex : x ≡ hasHandles (typesOf w fs) t) (i n : ℕ) (g : length d < 2 ^ 64) (l : Looked w fs t left x i n) where
+  pub looked-records : (st q at : ℕ) (r : Answer) (ms to : List ℕ) → told r ms to ≡ emittingAt k v s (many (length v) (λ p. walk (tableOf w fs cs b) (placesAt (tableOf w fs cs b) (length v) (left - 1)) (length v) p (fieldsFrom fs i n) d 0 1 0) st q at) → told r ms to ≡ emittingAt k v s (many (length v) (placesAt (tableOf w fs cs b) (length v) left t d) st q at)
+  looked-records st q at r ms to er = er ∙ ap (emittingAt k v s) (many-ext (length v) _ _ (λ p. record-is w fs cs b left t d p k v s (l .level) x ex (ap not (l .handles)) (Record i n) (sym (l .row)) i n refl g) st q at)
+
+-- ---- trace_parts
+
+module _ (w fs cs b : List ℕ) (left t c : ℕ) (d : List ℕ) (st n at : ℕ) (k : Into) (v : List ℕ) (s : Raw) where
+  pub parts-rest : c ≡ 4294967295 → (r : Answer) (ms to : List ℕ) → told r ms to ≡ emittingAt k v s (many (length v) (placesAt (tableOf w fs cs b) (length v) left t d) st n at) → told r ms to ≡ emittingAt k v s (many (length v) (partPlaces (tableOf w fs cs b) (placesAt (tableOf w fs cs b) (length v) left) t c d) st n at)
   unfolding partPlaces
-  part-rest h r ms to er = rw (eq-eqb c noConst h) er
+  parts-rest h r ms to er = er ∙ ap (emittingAt k v s) (many-ext (length v) _ _ (λ p. rw (eq-eqb c noConst h) refl) st n at)
+
+  pub parts-end : n ≡ 0 → ok s ≡ emittingAt k v s (many (length v) (partPlaces (tableOf w fs cs b) (placesAt (tableOf w fs cs b) (length v) left) t c d) st n at)
+  parts-end h = emit-nil k v s _ (many-end (length v) _ st n at (omega arith))
 
   module _ (h : c ≡ 4294967295 → ⊥) (p : Part) (ep : p ≡ partAt cs (length b) c) where
-    pub part-nowhere : p ≡ Nowhere → refused 13 ≡ emittingAt k v s (partPlaces (tableOf w fs cs b) (placesAt (tableOf w fs cs b) (length v) left) t c d at)
+    pub parts-nowhere : (n ≡ 0 → ⊥) → p ≡ Nowhere → refused 13 ≡ emittingAt k v s (many (length v) (partPlaces (tableOf w fs cs b) (placesAt (tableOf w fs cs b) (length v) left) t c d) st n at)
     unfolding partPlaces readPart
-    part-nowhere e = emit-none k v s _ (rw (ne-eqb c noConst h, const-at, ← ep, e) refl)
+    parts-nowhere z e = emit-none k v s _ (many-none (length v) _ (λ q. rw (ne-eqb c noConst h, const-at, ← ep, e) refl) st n at z)
 
-    pub part-const : (x y : ℕ) → p ≡ Of x y → (r : Answer) (ms to : List ℕ) → told r ms to ≡ emittingAt k v s (placesAt (tableOf w fs cs b) (length v) left t (take (y - x) (drop x b)) at) → told r ms to ≡ emittingAt k v s (partPlaces (tableOf w fs cs b) (placesAt (tableOf w fs cs b) (length v) left) t c d at)
+    pub parts-const : (x y : ℕ) → p ≡ Of x y → (r : Answer) (ms to : List ℕ) → told r ms to ≡ emittingAt k v s (many (length v) (placesAt (tableOf w fs cs b) (length v) left t (take (y - x) (drop x b))) st n at) → told r ms to ≡ emittingAt k v s (many (length v) (partPlaces (tableOf w fs cs b) (placesAt (tableOf w fs cs b) (length v) left) t c d) st n at)
     unfolding partPlaces readPart
-    part-const x y e r ms to er = rw (ne-eqb c noConst h, const-at, ← ep, e) er
+    parts-const x y e r ms to er = er ∙ ap (emittingAt k v s) (many-ext (length v) _ _ (λ q. rw (ne-eqb c noConst h, const-at, ← ep, e) refl) st n at)
 
 -- ---- trace_field
 
@@ -215,22 +238,9 @@ module _ (w fs cs b : List ℕ) (left t c : ℕ) (d : List ℕ) (at : ℕ) (k : 
     pub part-free : l ≡ Free → ok s ≡ emittingAt k v s (partPlaces (tableOf w fs cs b) (placesAt (tableOf w fs cs b) (length v) left) t c d at)
     part-free q = emit-nil k v s _ (free-part q)
 
-  -- one element is a field
-  append-nil : (l : List ℕ) → l ++ [] ≡ l
-  append-nil [] = refl
-  append-nil (x ∷ l) = ap (λ (m : List ℕ). x ∷ m) (append-nil l)
-
-  both-nil : (o : Places) → both o (some []) ≡ o
-  unfolding both
-  both-nil none = refl
-  both-nil (some a) = ap some (append-nil a)
-
-  one-part : at ≤ length v → (f : ℕ → Places) (st : ℕ) → many (length v) f st 1 at ≡ f at
-  unfolding many
-  one-part h f st = ap (λ (x : Bool). onlyIf x (both (f at) (some []))) (le-leb at (length v) h) ∙ both-nil (f at)
-
-  pub part-one : at ≤ length v → (st : ℕ) (r : Answer) (ms to : List ℕ) → told r ms to ≡ emittingAt k v s (many (length v) (partPlaces (tableOf w fs cs b) (placesAt (tableOf w fs cs b) (length v) left) t c d) st 1 at) → told r ms to ≡ emittingAt k v s (partPlaces (tableOf w fs cs b) (placesAt (tableOf w fs cs b) (length v) left) t c d at)
-  part-one h st r ms to er = er ∙ ap (emittingAt k v s) (one-part h (partPlaces (tableOf w fs cs b) (placesAt (tableOf w fs cs b) (length v) left) t c d) st)
+-- one element is a field
+pub part-one : (T : Table) (next : Below) (t c used : ℕ) (d : List ℕ) (at : ℕ) (k : Into) (v : List ℕ) (s : Raw) → at ≤ length v → (st : ℕ) (r : Answer) (ms to : List ℕ) → told r ms to ≡ emittingAt k v s (many (length v) (partPlaces T next t c (take (length d - used) (drop used d))) st 1 at) → told r ms to ≡ emittingAt k v s (partPlaces T next t c (drop used d) at)
+part-one T next t c used d at k v s h st r ms to er = rw (← rest used d) (er ∙ ap (emittingAt k v s) (many-one (length v) (partPlaces T next t c (take (length d - used) (drop used d))) st at h))
 
 -- ---- leaf_at
 
@@ -308,6 +318,19 @@ module _ (T : Table) (lay : ℕ → List ℕ → Lay) (next : Below) (t el c j :
     pub array-some : (q : ℕ) → q ≡ turns st n → (r : Answer) (ms to : List ℕ) → told r ms to ≡ emittingAt k v s (many (length v) (partPlaces T next el c (take (length d - 24 * j) (drop (24 * j) d))) st q at) → told r ms to ≡ emittingAt k v s (ifLaid (arrayOf T lay t el c j d) (λ st n. many (length v) (partPlaces T next el c (drop (24 * j) d)) st (turns st n) at))
     array-some q eq r ms to er = rw (← el′, o, ← eq, ← rest (24 * j) d) er
 
+-- ---- place_after
+
+module _ (off s a u : ℕ) (p : Word) (ep : p ≡ wordOf (roundUp off a)) where
+  pub place-over : p ≡ Over → Unplaced ≡ placedAfter off s a u
+  place-over h = rw (← ep, h) refl
+
+  module _ (x : ℕ) (h : p ≡ Is x) (q : Word) (eq : q ≡ wordOf (x + s)) where
+    pub place-past : q ≡ Over → Unplaced ≡ placedAfter off s a u
+    place-past g = rw (← ep, h, ← eq, g) refl
+
+    pub place-some : (e : ℕ) → q ≡ Is e → At x e a u ≡ placedAfter off s a u
+    place-some e g = rw (← ep, h, ← eq, g) refl
+
 -- ---- place_field
 
 unplaced : (l : Lay) (off : ℕ) → OneOf (1 ∷ 2 ∷ []) (tagOf lay-type l) → Unplaced ≡ fieldAt l off
@@ -315,20 +338,16 @@ unplaced (Laid s a st m u) off h = absurd (miss (1 ∷ 2 ∷ []) 0 tt h)
 unplaced Malformed off h = refl
 unplaced TooLarge off h = refl
 
-module _ (T : Table) (lay : ℕ → List ℕ → Lay) (t c : ℕ) (d : List ℕ) (off : ℕ) (l : Lay) (el : l ≡ under T lay t c d) where
-  pub place-none : OneOf (1 ∷ 2 ∷ []) (tagOf lay-type l) → Unplaced ≡ fieldAt (under T lay t c d) off
-  place-none h = unplaced l off h ∙ ap (λ (x : Lay). fieldAt x off) el
+module _ (w fs cs b : List ℕ) (t c used : ℕ) (d : List ℕ) (off : ℕ) where
+  pub place-scalar : (n : ℕ) → n ≡ scalarPart w fs t c → (n ≡ 0 → ⊥) → (r : Placed) → r ≡ placedAfter off n n 0 → r ≡ fieldAt (under (tableOf w fs cs b) (layoutAt (tableOf w fs cs b) 64) t c (drop used d)) off
+  place-scalar n e h r er = er ∙ ap (λ (x : Lay). fieldAt x off) (below-scalar w fs cs b 64 t c (drop used d) (λ z. omega arith) n e h)
 
-  module _ (s a st m u : ℕ) (o : l ≡ Laid s a st m u) (p : Word) (ep : p ≡ wordOf (roundUp off a)) where
-    pub place-over : p ≡ Over → Unplaced ≡ fieldAt (under T lay t c d) off
-    place-over h = rw (← el, o, ← ep, h) refl
+  module _ (l : Lay) (el : l ≡ under (tableOf w fs cs b) (layoutAt (tableOf w fs cs b) 64) t c (take (length d - used) (drop used d))) where
+    pub place-none : OneOf (1 ∷ 2 ∷ []) (tagOf lay-type l) → Unplaced ≡ fieldAt (under (tableOf w fs cs b) (layoutAt (tableOf w fs cs b) 64) t c (drop used d)) off
+    place-none h = rw (← rest used d) (unplaced l off h ∙ ap (λ (x : Lay). fieldAt x off) el)
 
-    module _ (x : ℕ) (h : p ≡ Is x) (q : Word) (eq : q ≡ wordOf (x + s)) where
-      pub place-past : q ≡ Over → Unplaced ≡ fieldAt (under T lay t c d) off
-      place-past g = rw (← el, o, ← ep, h, ← eq, g) refl
-
-      pub place-some : (e : ℕ) → q ≡ Is e → At x e a u ≡ fieldAt (under T lay t c d) off
-      place-some e g = rw (← el, o, ← ep, h, ← eq, g) refl
+    pub place-laid : (s a st m u : ℕ) → l ≡ Laid s a st m u → (r : Placed) → r ≡ placedAfter off s a u → r ≡ fieldAt (under (tableOf w fs cs b) (layoutAt (tableOf w fs cs b) 64) t c (drop used d)) off
+    place-laid s a st m u o r er = rw (← rest used d, ← el, o) er
 
 -- a field that is placed has a layout
 module _ (o e a u : ℕ) where
@@ -364,10 +383,10 @@ module _ (T : Table) (next : Below) (fs : List ℕ) (f n i : ℕ) (d : List ℕ)
     pub fields-over : OneOf (1 ∷ 2 ∷ []) (tagOf lay-type z) → refused 13 ≡ G
     fields-over o = emit-none k v (rawOf ms to m) _ (last-is ∙ no-laid z _ o) ∙ inv
 
-  module _ (lt : i < n) (p : Placed) (ep : p ≡ fieldAt (under T (layoutAt T 64) (getD fs (2 * (f + i)) 0) (getD fs (2 * (f + i) + 1) 0) (take (length d - used) (drop used d))) off) where
-    next-is : walk T next (length v) at (fieldsFrom fs (f + i) (n - i)) d off al used ≡ ifPlaced p (λ o e a u. onlyIf (leb (at + o) (length v)) (both (partPlaces T next (getD fs (2 * (f + i)) 0) (getD fs (2 * (f + i) + 1) 0) (take (length d - used) (drop used d)) (at + o)) (walk T next (length v) at (fieldsFrom fs (f + (i + 1)) (n - (i + 1))) d e (max al a) (used + usedBy (getD fs (2 * (f + i) + 1) 0) u))))
+  module _ (lt : i < n) (p : Placed) (ep : p ≡ fieldAt (under T (layoutAt T 64) (getD fs (2 * (f + i)) 0) (getD fs (2 * (f + i) + 1) 0) (drop used d)) off) where
+    next-is : walk T next (length v) at (fieldsFrom fs (f + i) (n - i)) d off al used ≡ ifPlaced p (λ o e a u. onlyIf (leb (at + o) (length v)) (both (partPlaces T next (getD fs (2 * (f + i)) 0) (getD fs (2 * (f + i) + 1) 0) (drop used d) (at + o)) (walk T next (length v) at (fieldsFrom fs (f + (i + 1)) (n - (i + 1))) d e (max al a) (used + usedBy (getD fs (2 * (f + i) + 1) 0) u))))
     unfolding walk
-    next-is = rw (fields-next fs f n i lt, ep, rest used d) refl
+    next-is = rw (fields-next fs f n i lt, ep) refl
 
     pub field-unplaced : p ≡ Unplaced → refused 13 ≡ G
     field-unplaced o = emit-none k v (rawOf ms to m) _ (rw (next-is, o) refl) ∙ inv
@@ -375,7 +394,7 @@ module _ (T : Table) (next : Below) (fs : List ℕ) (f n i : ℕ) (d : List ℕ)
     module _ (o e a u : ℕ) (q : p ≡ At o e a u) where
       pub field-used : used ≤ length d → (u′ : ℕ) → u′ ≡ usedBy (getD fs (2 * (f + i) + 1) 0) u → used + u′ ≤ length d
       field-used h u′ eu =
-          let g = placed-within o e a u T 64 (getD fs (2 * (f + i)) 0) (getD fs (2 * (f + i) + 1) 0) (drop used d) off _ refl (ap (λ (x : List ℕ). fieldAt (under T (layoutAt T 64) (getD fs (2 * (f + i)) 0) (getD fs (2 * (f + i) + 1) 0) x) off) (sym (rest used d)) ∙ sym ep ∙ q) in
+          let g = placed-within o e a u T 64 (getD fs (2 * (f + i)) 0) (getD fs (2 * (f + i) + 1) 0) (drop used d) off _ refl (sym ep ∙ q) in
           omega (arith, length-drop used d)
 
       pub field-word : used ≤ length d → length d < 2 ^ 64 → (u′ : ℕ) → u′ ≡ usedBy (getD fs (2 * (f + i) + 1) 0) u → used + u′ < 2 ^ 64
@@ -384,8 +403,8 @@ module _ (T : Table) (next : Below) (fs : List ℕ) (f n i : ℕ) (d : List ℕ)
       pub field-beyond : at ≤ length v → length v - at < o → refused 13 ≡ G
       field-beyond h l = emit-none k v (rawOf ms to m) _ (rw (next-is, q, lt-leb (at + o) (length v) (omega arith)) refl) ∙ inv
 
-      module _ (h : at ≤ length v) (l : o ≤ length v - at) (r : Answer) (ms′ to′ : List ℕ) (er : told r ms′ to′ ≡ emittingAt k v (rawOf ms to m) (partPlaces T next (getD fs (2 * (f + i)) 0) (getD fs (2 * (f + i) + 1) 0) (take (length d - used) (drop used d)) (at + o))) where
-        turn : walk T next (length v) at (fieldsFrom fs (f + i) (n - i)) d off al used ≡ both (partPlaces T next (getD fs (2 * (f + i)) 0) (getD fs (2 * (f + i) + 1) 0) (take (length d - used) (drop used d)) (at + o)) (walk T next (length v) at (fieldsFrom fs (f + (i + 1)) (n - (i + 1))) d e (max al a) (used + usedBy (getD fs (2 * (f + i) + 1) 0) u))
+      module _ (h : at ≤ length v) (l : o ≤ length v - at) (r : Answer) (ms′ to′ : List ℕ) (er : told r ms′ to′ ≡ emittingAt k v (rawOf ms to m) (partPlaces T next (getD fs (2 * (f + i)) 0) (getD fs (2 * (f + i) + 1) 0) (drop used d) (at + o))) where
+        turn : walk T next (length v) at (fieldsFrom fs (f + i) (n - i)) d off al used ≡ both (partPlaces T next (getD fs (2 * (f + i)) 0) (getD fs (2 * (f + i) + 1) 0) (drop used d) (at + o)) (walk T next (length v) at (fieldsFrom fs (f + (i + 1)) (n - (i + 1))) d e (max al a) (used + usedBy (getD fs (2 * (f + i) + 1) 0) u))
         turn = rw (next-is, q, le-leb (at + o) (length v) (omega arith)) refl
 
         pub field-fail : r ≡ Untraceable → refused 13 ≡ G

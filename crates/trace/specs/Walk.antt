@@ -1,14 +1,16 @@
 -- What the tracer goes by, level for level: a record field by field, as its layout is found. proofs/Walks shows that it is `placesAt`.
-use Prim.Native.Nat.{ℕ, _+_, _*_, _≤_, _<_, max}
+use Prim.Native.Nat.{ℕ, _+_, _*_, _/_, _≤_, _<_, max}
 use mathlib.Core.Path.{_≡_}
+use mathlib.Core.Bool.{Bool, true}
 use mathlib.Core.Option.{none, some}
 use mathlib.Core.List.{List, [], _∷_}
-use lib.ListN.{drop}
+use lib.ListN.{length, drop}
 use lib.Dec.{leb, eqb}
 use Rattle.word.specs.Choice.{if_then_else_}
 use Rattle.ty.specs.Types.{Ty, Ty.missing, Ty.int, Ty.physical, Ty.enum, Ty.real, Ty.array, Ty.fields, Ty.access, Ty.file, Ty.protected, Field, Field.field, Table, typeAt, none as noConst}
 use Rattle.ty.specs.Words.{wordOf, onWord, roundUp}
-use Rattle.ty.specs.View.{typesOf, tableOf, fieldsFrom}
+use Rattle.ty.specs.View.{typesOf, tableOf, fieldsFrom, entryAt}
+use Rattle.ty.specs.declared.Entry.the-variants.{Record}
 use Rattle.layout.specs.Layout.{under, usedBy, endOf, arrayOf, layoutAt}
 use Rattle.layout.specs.declared.Lay.{Lay}
 use Rattle.layout.specs.declared.Lay.the-variants.{Laid, Malformed, TooLarge}
@@ -35,9 +37,13 @@ leafOf protected = Own
 unfoldable pub partLeaf : List ℕ → List ℕ → ℕ → ℕ → Leaf
 partLeaf w fs t c = if eqb c noConst then leafOf (typeAt (typesOf w fs) t) else Deep
 
--- where a field of a layout lies that comes after off
+-- where a field of size s and alignment a lies that comes after off and uses u of the descriptor
+abbrev pub placedAfter : ℕ → ℕ → ℕ → ℕ → Placed
+placedAfter off s a u = onWord Unplaced (wordOf (roundUp off a)) (λ o. onWord Unplaced (wordOf (o + s)) (λ e. At o e a u))
+
+-- the same of a layout
 abbrev pub fieldAt : Lay → ℕ → Placed
-fieldAt (Laid s a st n u) off = onWord Unplaced (wordOf (roundUp off a)) (λ o. onWord Unplaced (wordOf (o + s)) (λ e. At o e a u))
+fieldAt (Laid s a st n u) off = placedAfter off s a u
 fieldAt Malformed off = Unplaced
 fieldAt TooLarge off = Unplaced
 
@@ -57,6 +63,12 @@ pub record Stepped (len o r : ℕ) : Type 0 where
   pub within : o ≤ len → r ≡ o
   pub beyond : len < o → len < r
 
+-- values of type t are records of n fields from field i on, and are looked into
+pub record Looked (w fs : List ℕ) (t left : ℕ) (holds : Bool) (i n : ℕ) : Type 0 where
+  pub level : left ≡ 0 → ⊥
+  pub handles : holds ≡ true
+  pub row : entryAt w (length fs / 2) t ≡ Record i n
+
 -- the definitions at the lists of the four lent slices, and data of so many bytes
 module _ (w fs cs b : List ℕ) (end : ℕ) where
   abbrev pub typePlaces : ℕ → List ℕ → ℕ → ℕ → Places
@@ -65,8 +77,11 @@ module _ (w fs cs b : List ℕ) (end : ℕ) where
   abbrev pub belowPlaces : ℕ → ℕ → List ℕ → ℕ → ℕ → Places
   belowPlaces t c d left at = partPlaces (tableOf w fs cs b) (placesAt (tableOf w fs cs b) end left) t c d at
 
-  abbrev pub elemPlaces : ℕ → ℕ → List ℕ → ℕ → ℕ → ℕ → ℕ → Places
-  elemPlaces t c d left st n at = many end (partPlaces (tableOf w fs cs b) (placesAt (tableOf w fs cs b) end left) t c d) st n at
+  abbrev pub elemPlaces : ℕ → List ℕ → ℕ → ℕ → ℕ → ℕ → Places
+  elemPlaces t d left st n at = many end (placesAt (tableOf w fs cs b) end left t d) st n at
+
+  abbrev pub partsPlaces : ℕ → ℕ → List ℕ → ℕ → ℕ → ℕ → ℕ → Places
+  partsPlaces t c d left st n at = many end (partPlaces (tableOf w fs cs b) (placesAt (tableOf w fs cs b) end left) t c d) st n at
 
   abbrev pub arrayPlaces : ℕ → ℕ → ℕ → ℕ → List ℕ → ℕ → ℕ → Places
   arrayPlaces t e c k d left at =
@@ -75,3 +90,6 @@ module _ (w fs cs b : List ℕ) (end : ℕ) where
 
   abbrev pub recordPlaces : ℕ → ℕ → List ℕ → ℕ → ℕ → Places
   recordPlaces i n d left at = walk (tableOf w fs cs b) (placesAt (tableOf w fs cs b) end left) end at (fieldsFrom fs i n) d 0 1 0
+
+  abbrev pub recordsPlaces : ℕ → ℕ → List ℕ → ℕ → ℕ → ℕ → ℕ → Places
+  recordsPlaces i n d left st k at = many end (λ p. walk (tableOf w fs cs b) (placesAt (tableOf w fs cs b) end left) end p (fieldsFrom fs i n) d 0 1 0) st k at

@@ -9,13 +9,13 @@ ghost use mathlib.Core.Path.{_≡_};
 ghost use mathlib.Core.Option.{some};
 ghost use mathlib.Core.List.{[], _∷_, map};
 ghost use Prim.Native.Nat.{ℕ, _+_, _-_, _*_, _/_, _≤_, _<_};
-ghost use lib.ListN.{length};
+ghost use lib.ListN.{length, drop};
 ghost use lib.Dec.{leb};
 ghost use Rattle.ty.specs.View.{tableOf, typesOf};
 ghost use Rattle.ty.specs.Walks.{hasHandles};
 ghost use Rattle.layout.specs.Lent.{partLaid};
 ghost use Rattle.trace.specs.Places.{onlyIf, turns, handleAt, handlesPlaces, valueHandles, objectHandles, handlesOf};
-ghost use Rattle.trace.specs.Walk.{Stepped, partLeaf, fieldAt, typePlaces, belowPlaces, elemPlaces, arrayPlaces, recordPlaces};
+ghost use Rattle.trace.specs.Walk.{Stepped, Looked, partLeaf, placedAfter, fieldAt, typePlaces, belowPlaces, elemPlaces, partsPlaces, arrayPlaces, recordPlaces, recordsPlaces};
 ghost use Rattle.trace.specs.Emit.{rawOf, into, resolveIn, Columns, queued, emitted, emitAll, emitting, emittingAt, told};
 ghost use Rattle.trace.specs.Listing.{listing, Lists};
 
@@ -49,6 +49,12 @@ pub enum Leaf {
     Own,
     Free,
     Deep,
+}
+
+// The fields of elements that are records to look into: the first, and how many.
+pub enum Fields {
+    Of(usize, usize),
+    Not,
 }
 
 // How many handles were written to the lent list, or why none were.
@@ -204,7 +210,7 @@ fn trace_in(
             to,
             n,
         ),
-        Entry::Record { first, count } => trace_record(
+        Entry::Record { first, count } => trace_records(
             types,
             fields,
             consts,
@@ -215,6 +221,8 @@ fn trace_in(
             left - 1,
             data,
             at,
+            0,
+            1,
             tag,
             slots,
             generation,
@@ -284,7 +292,7 @@ fn trace_array(
     let skip = 24 * (dims as usize);
     let k = turns_of(stride, count);
     let holds = ty::has_handles(types, fields, elem);
-    trace_elems(
+    trace_parts(
         types,
         fields,
         consts,
@@ -321,8 +329,166 @@ fn step(data: &[u8], o: usize, stride: u64) -> usize
     data.len() + 1
 }
 
-// The handles in count elements, the first at byte `at`. Each turn passes a stride's bytes of the data, so that a walk ends within its length whatever the count.
+// The fields of a record that is looked into: its type holds handles, and a level is left for it.
+fn fields_at(types: &[u64], fields: &[u32], t: u64, left: u64, holds: bool) -> Fields
+    ensures { λ r. ⌜ ((i n : ℕ) → r ≡ Fields.Of i n → Looked (now (types .entry)) (now (fields .entry)) t left holds i n) ⌝ }
+{
+    if left == 0 {
+        return Fields::Not;
+    }
+    if !holds {
+        return Fields::Not;
+    }
+    let e = ty::ty_at(types, fields, t);
+    let Entry::Record { first, count } = e else {
+        return Fields::Not;
+    };
+    Fields::Of(first, count)
+}
+
+// The handles in count elements of one type under one descriptor, the first at byte `at`. Each turn passes a stride's bytes of the data, so that a walk ends within
+// its length whatever the count.
+fn trace_each(
+    types: &[u64],
+    fields: &[u32],
+    consts: &[u64],
+    bytes: &[u8],
+    t: u64,
+    desc: &[u8],
+    left: u64,
+    holds: bool,
+    data: &[u8],
+    at: usize,
+    stride: u64,
+    count: u64,
+    tag: u8,
+    slots: usize,
+    generation: &[u32],
+    kind: &[u8],
+    sink: Sink,
+    marks: &mut [u8],
+    to: &mut [u64],
+    n: usize,
+) -> Answer
+    requires { ⌜ (holds ≡ hasHandles (typesOf (now types) (now fields)) t) × Columns slots (now generation) (now kind) ⌝ }
+    ensures { λ r. ⌜ told r (now (marks .exit)) (now (to .exit)) ≡ emittingAt (into sink (resolveIn tag slots (now (generation .entry)) (now (kind .entry)))) (now («data» .entry)) (rawOf (now (marks .entry)) (now (to .entry)) n)
+        (elemPlaces (now (types .entry)) (now (fields .entry)) (now (consts .entry)) (now (bytes .entry)) (length (now («data» .entry))) t (now (desc .entry)) left stride count at) ⌝ }
+{
+    let mut k = count;
+    let mut p = at;
+    let mut m = n;
+    while 0 < k {
+        if data.len() < p {
+            return Answer::Untraceable;
+        }
+        let r = trace_in(
+            types,
+            fields,
+            consts,
+            bytes,
+            t,
+            desc,
+            left,
+            holds,
+            data,
+            p,
+            tag,
+            slots,
+            generation,
+            kind,
+            sink,
+            marks,
+            to,
+            m,
+        );
+        let Answer::Traced(q) = r else {
+            return Answer::Untraceable;
+        };
+        m = q;
+        p = step(data, p, stride);
+        k -= 1;
+    }
+    Answer::Traced(m)
+}
+
+// The same, and records without asking again for each what they are.
 fn trace_elems(
+    types: &[u64],
+    fields: &[u32],
+    consts: &[u64],
+    bytes: &[u8],
+    t: u64,
+    desc: &[u8],
+    left: u64,
+    holds: bool,
+    data: &[u8],
+    at: usize,
+    stride: u64,
+    count: u64,
+    tag: u8,
+    slots: usize,
+    generation: &[u32],
+    kind: &[u8],
+    sink: Sink,
+    marks: &mut [u8],
+    to: &mut [u64],
+    n: usize,
+) -> Answer
+    requires { ⌜ (holds ≡ hasHandles (typesOf (now types) (now fields)) t) × Columns slots (now generation) (now kind) ⌝ }
+    ensures { λ r. ⌜ told r (now (marks .exit)) (now (to .exit)) ≡ emittingAt (into sink (resolveIn tag slots (now (generation .entry)) (now (kind .entry)))) (now («data» .entry)) (rawOf (now (marks .entry)) (now (to .entry)) n)
+        (elemPlaces (now (types .entry)) (now (fields .entry)) (now (consts .entry)) (now (bytes .entry)) (length (now («data» .entry))) t (now (desc .entry)) left stride count at) ⌝ }
+{
+    let f = fields_at(types, fields, t, left, holds);
+    let Fields::Of(first, len) = f else {
+        return trace_each(
+            types,
+            fields,
+            consts,
+            bytes,
+            t,
+            desc,
+            left,
+            holds,
+            data,
+            at,
+            stride,
+            count,
+            tag,
+            slots,
+            generation,
+            kind,
+            sink,
+            marks,
+            to,
+            n,
+        );
+    };
+    trace_records(
+        types,
+        fields,
+        consts,
+        bytes,
+        first,
+        len,
+        desc,
+        left - 1,
+        data,
+        at,
+        stride,
+        count,
+        tag,
+        slots,
+        generation,
+        kind,
+        sink,
+        marks,
+        to,
+        n,
+    )
+}
+
+// Elements, or a field as one of them: under the rest of the descriptor, or under their own constant, which is looked up once for all of them.
+fn trace_parts(
     types: &[u64],
     fields: &[u32],
     consts: &[u64],
@@ -347,74 +513,10 @@ fn trace_elems(
 ) -> Answer
     requires { ⌜ (holds ≡ hasHandles (typesOf (now types) (now fields)) t) × Columns slots (now generation) (now kind) ⌝ }
     ensures { λ r. ⌜ told r (now (marks .exit)) (now (to .exit)) ≡ emittingAt (into sink (resolveIn tag slots (now (generation .entry)) (now (kind .entry)))) (now («data» .entry)) (rawOf (now (marks .entry)) (now (to .entry)) n)
-        (elemPlaces (now (types .entry)) (now (fields .entry)) (now (consts .entry)) (now (bytes .entry)) (length (now («data» .entry))) t c (now (desc .entry)) left stride count at) ⌝ }
-{
-    let mut k = count;
-    let mut o = at;
-    let mut m = n;
-    while 0 < k {
-        if data.len() < o {
-            return Answer::Untraceable;
-        }
-        let r = trace_part(
-            types,
-            fields,
-            consts,
-            bytes,
-            t,
-            c,
-            desc,
-            left,
-            holds,
-            data,
-            o,
-            tag,
-            slots,
-            generation,
-            kind,
-            sink,
-            marks,
-            to,
-            m,
-        );
-        let Answer::Traced(q) = r else {
-            return Answer::Untraceable;
-        };
-        m = q;
-        o = step(data, o, stride);
-        k -= 1;
-    }
-    Answer::Traced(m)
-}
-
-// An element or a field: under the rest of the descriptor, or under its own constant.
-fn trace_part(
-    types: &[u64],
-    fields: &[u32],
-    consts: &[u64],
-    bytes: &[u8],
-    t: u64,
-    c: u64,
-    desc: &[u8],
-    left: u64,
-    holds: bool,
-    data: &[u8],
-    at: usize,
-    tag: u8,
-    slots: usize,
-    generation: &[u32],
-    kind: &[u8],
-    sink: Sink,
-    marks: &mut [u8],
-    to: &mut [u64],
-    n: usize,
-) -> Answer
-    requires { ⌜ (holds ≡ hasHandles (typesOf (now types) (now fields)) t) × (at ≤ length (now «data»)) × Columns slots (now generation) (now kind) ⌝ }
-    ensures { λ r. ⌜ told r (now (marks .exit)) (now (to .exit)) ≡ emittingAt (into sink (resolveIn tag slots (now (generation .entry)) (now (kind .entry)))) (now («data» .entry)) (rawOf (now (marks .entry)) (now (to .entry)) n)
-        (belowPlaces (now (types .entry)) (now (fields .entry)) (now (consts .entry)) (now (bytes .entry)) (length (now («data» .entry))) t c (now (desc .entry)) left at) ⌝ }
+        (partsPlaces (now (types .entry)) (now (fields .entry)) (now (consts .entry)) (now (bytes .entry)) (length (now («data» .entry))) t c (now (desc .entry)) left stride count at) ⌝ }
 {
     if c == 4294967295 {
-        return trace_in(
+        return trace_elems(
             types,
             fields,
             consts,
@@ -425,6 +527,8 @@ fn trace_part(
             holds,
             data,
             at,
+            stride,
+            count,
             tag,
             slots,
             generation,
@@ -435,11 +539,14 @@ fn trace_part(
             n,
         );
     }
+    if count == 0 {
+        return Answer::Traced(n);
+    }
     let p = ty::part_at(consts, bytes.len(), c);
     let Part::Of(a, e) = p else {
         return Answer::Untraceable;
     };
-    trace_in(
+    trace_elems(
         types,
         fields,
         consts,
@@ -450,6 +557,8 @@ fn trace_part(
         holds,
         data,
         at,
+        stride,
+        count,
         tag,
         slots,
         generation,
@@ -461,30 +570,10 @@ fn trace_part(
     )
 }
 
-// Where a field lies that comes after off.
-fn place_field(
-    types: &[u64],
-    fields: &[u32],
-    consts: &[u64],
-    bytes: &[u8],
-    t: u64,
-    c: u64,
-    desc: &[u8],
-    off: u64,
-) -> Placed
-    ensures { λ r. ⌜ r ≡ fieldAt (partLaid (now (types .entry)) (now (fields .entry)) (now (consts .entry)) (now (bytes .entry)) t c (now (desc .entry)) 64) off ⌝ }
+// Where a field of a size and an alignment lies that comes after off.
+fn place_after(off: u64, size: u64, align: u64, used: usize) -> Placed
+    ensures { λ r. ⌜ r ≡ placedAfter off size align used ⌝ }
 {
-    let l = layout::layout_field(types, fields, consts, bytes, t, c, desc, 64);
-    let Lay::Laid {
-        size,
-        align,
-        stride: _,
-        count: _,
-        used,
-    } = l
-    else {
-        return Placed::Unplaced;
-    };
     let w = ty::align_up(off, align);
     let Word::Is(offset) = w else {
         return Placed::Unplaced;
@@ -499,6 +588,39 @@ fn place_field(
         align,
         used,
     }
+}
+
+// Where a field lies that comes after off. A scalar needs no part of the descriptor, so that none is made for it.
+fn place_field(
+    types: &[u64],
+    fields: &[u32],
+    consts: &[u64],
+    bytes: &[u8],
+    t: u64,
+    c: u64,
+    desc: &[u8],
+    used: usize,
+    off: u64,
+) -> Placed
+    requires { ⌜ used ≤ length (now desc) ⌝ }
+    ensures { λ r. ⌜ r ≡ fieldAt (partLaid (now (types .entry)) (now (fields .entry)) (now (consts .entry)) (now (bytes .entry)) t c (drop used (now (desc .entry))) 64) off ⌝ }
+{
+    let n = layout::scalar_bytes(types, fields, t, c);
+    if n != 0 {
+        return place_after(off, n, n, 0);
+    }
+    let l = layout::layout_below(types, fields, consts, bytes, t, c, &desc[used..], 64);
+    let Lay::Laid {
+        size,
+        align,
+        stride: _,
+        count: _,
+        used: u,
+    } = l
+    else {
+        return Placed::Unplaced;
+    };
+    place_after(off, size, align, u)
 }
 
 // What a field of type t with the constant c is to a tracer.
@@ -532,6 +654,7 @@ fn trace_field(
     t: u64,
     c: u64,
     desc: &[u8],
+    used: usize,
     left: u64,
     data: &[u8],
     at: usize,
@@ -544,9 +667,9 @@ fn trace_field(
     to: &mut [u64],
     n: usize,
 ) -> Answer
-    requires { ⌜ (at ≤ length (now «data»)) × Columns slots (now generation) (now kind) ⌝ }
+    requires { ⌜ (used ≤ length (now desc)) × (at ≤ length (now «data»)) × Columns slots (now generation) (now kind) ⌝ }
     ensures { λ r. ⌜ told r (now (marks .exit)) (now (to .exit)) ≡ emittingAt (into sink (resolveIn tag slots (now (generation .entry)) (now (kind .entry)))) (now («data» .entry)) (rawOf (now (marks .entry)) (now (to .entry)) n)
-        (belowPlaces (now (types .entry)) (now (fields .entry)) (now (consts .entry)) (now (bytes .entry)) (length (now («data» .entry))) t c (now (desc .entry)) left at) ⌝ }
+        (belowPlaces (now (types .entry)) (now (fields .entry)) (now (consts .entry)) (now (bytes .entry)) (length (now («data» .entry))) t c (drop used (now (desc .entry))) left at) ⌝ }
 {
     if left == 0 {
         return Answer::Untraceable;
@@ -557,14 +680,14 @@ fn trace_field(
         Leaf::Own => trace_word(data, at, tag, slots, generation, kind, sink, marks, to, n),
         Leaf::Deep => {
             let holds = ty::has_handles(types, fields, t);
-            trace_elems(
+            trace_parts(
                 types,
                 fields,
                 consts,
                 bytes,
                 t,
                 c,
-                desc,
+                &desc[used..],
                 left,
                 holds,
                 data,
@@ -618,7 +741,7 @@ fn trace_record(
         let k = 2 * (first + i);
         let t = fields[k] as u64;
         let c = fields[k + 1] as u64;
-        let fl = place_field(types, fields, consts, bytes, t, c, &desc[used..], off);
+        let fl = place_field(types, fields, consts, bytes, t, c, desc, used, off);
         let Placed::At {
             offset,
             end,
@@ -639,7 +762,8 @@ fn trace_record(
             bytes,
             t,
             c,
-            &desc[used..],
+            desc,
+            used,
             left,
             data,
             at + o,
@@ -672,6 +796,70 @@ fn trace_record(
     else {
         return Answer::Untraceable;
     };
+    Answer::Traced(m)
+}
+
+// The handles in count records of one type, as trace_each finds those in elements. trace_record is called here alone, so that the compiler puts it into this loop.
+fn trace_records(
+    types: &[u64],
+    fields: &[u32],
+    consts: &[u64],
+    bytes: &[u8],
+    first: usize,
+    len: usize,
+    desc: &[u8],
+    left: u64,
+    data: &[u8],
+    at: usize,
+    stride: u64,
+    count: u64,
+    tag: u8,
+    slots: usize,
+    generation: &[u32],
+    kind: &[u8],
+    sink: Sink,
+    marks: &mut [u8],
+    to: &mut [u64],
+    n: usize,
+) -> Answer
+    requires { ⌜ (first + len ≤ length (now fields) / 2) × Columns slots (now generation) (now kind) ⌝ }
+    ensures { λ r. ⌜ told r (now (marks .exit)) (now (to .exit)) ≡ emittingAt (into sink (resolveIn tag slots (now (generation .entry)) (now (kind .entry)))) (now («data» .entry)) (rawOf (now (marks .entry)) (now (to .entry)) n)
+        (recordsPlaces (now (types .entry)) (now (fields .entry)) (now (consts .entry)) (now (bytes .entry)) (length (now («data» .entry))) first len (now (desc .entry)) left stride count at) ⌝ }
+{
+    let mut k = count;
+    let mut o = at;
+    let mut m = n;
+    while 0 < k {
+        if data.len() < o {
+            return Answer::Untraceable;
+        }
+        let r = trace_record(
+            types,
+            fields,
+            consts,
+            bytes,
+            first,
+            len,
+            desc,
+            left,
+            data,
+            o,
+            tag,
+            slots,
+            generation,
+            kind,
+            sink,
+            marks,
+            to,
+            m,
+        );
+        let Answer::Traced(q) = r else {
+            return Answer::Untraceable;
+        };
+        m = q;
+        o = step(data, o, stride);
+        k -= 1;
+    }
     Answer::Traced(m)
 }
 

@@ -4,8 +4,8 @@ use borrow.Author.Needs.{needs}
 use native.Mathlib.Omega.{arith}
 use Prim.Native.Nat.{ℕ}
 use Rattle.trace.proofs.trace_field.Reads as reads
-use Rattle.trace.proofs.+trace_array+trace_elems+trace_field+trace_in+trace_part+trace_record.Lts-trace_field as lts
-use Rattle.trace.proofs.+trace_array+trace_elems+trace_field+trace_in+trace_part+trace_record.Proof.Claims.{trace-field-at as at, trace-field-claims as claims}
+use Rattle.trace.proofs.+trace_array+trace_each+trace_elems+trace_field+trace_in+trace_parts+trace_record+trace_records.Lts-trace_field as lts
+use Rattle.trace.proofs.+trace_array+trace_each+trace_elems+trace_field+trace_in+trace_parts+trace_record+trace_records.Proof.Claims.{trace-field-at as at, trace-field-claims as claims}
 
 module _ (t : ℕ) where
   returns : lts.Need-returns (claims t) (at t) reads.Post
@@ -29,8 +29,17 @@ module _ (t : ℕ) where
   has-handles-requires : lts.Need-has-handles-requires (claims t) (at t) reads.Post
   has-handles-requires c κs = search needs
 
-  trace-elems-requires : lts.Need-trace-elems-requires (claims t) (at t) reads.Post
-  trace-elems-requires c κs = (omega arith, search needs)
+  sub-trace-parts : lts.Need-sub-trace-parts (claims t) (at t) reads.Post
+  sub-trace-parts c = search needs
+
+  part-trace-parts-start : lts.Need-part-trace-parts-start (claims t) (at t) reads.Post
+  part-trace-parts-start c = search needs
+
+  part-trace-parts-end : lts.Need-part-trace-parts-end (claims t) (at t) reads.Post
+  part-trace-parts-end c = search needs
+
+  trace-parts-requires : lts.Need-trace-parts-requires (claims t) (at t) reads.Post
+  trace-parts-requires c κs = (omega arith, search needs)
 
   returns-2 : lts.Need-returns-2 (claims t) (at t) reads.Post
   returns-2 c = search part-free
@@ -51,7 +60,7 @@ module _ (t : ℕ) where
   same-length-4 c = search needs
 
   returns-4 : lts.Need-returns-4 (claims t) (at t) reads.Post
-  returns-4 c = part-one _ _ _ _ _ _ _ _ _ _ _ _ (c .before .before .before .before .before .before .before .before .before .before .before .before .before .before .before .before .before .before .before .before .before .before .pre .1 .0) _ (c .before .before .before .before .trace-elems .result) (c .before .before .before .before .trace-elems .last .1 .1 .1 .1 .1 .1 .1 .1 .1 .1 .1 .1 .1 .1 .1 .1 .1 .1 .0) (c .before .before .before .before .trace-elems .last .1 .1 .1 .1 .1 .1 .1 .1 .1 .1 .1 .1 .1 .1 .1 .1 .1 .1 .1 .0) (c .before .before .before .before .trace-elems .ensures)
+  returns-4 c = part-one _ _ _ _ (c .before .before .before .before .before .before .before .before .before .before .before .before .before .before .before .before .before .before .before .before .before .before .before .args .used) (c .before .before .before .before .before .before .before .before .before .before .before .before .before .before .before .before .before .before .before .before .before .before .before .args .desc .now) _ _ _ _ (c .before .before .before .before .before .before .before .before .before .before .before .before .before .before .before .before .before .before .before .before .before .before .before .pre .1 .1) 0 (c .before .before .before .before .trace-parts .result) (c .before .before .before .before .trace-parts .last .1 .1 .1 .1 .1 .1 .1 .1 .1 .1 .1 .1 .1 .1 .1 .1 .1 .1 .0) (c .before .before .before .before .trace-parts .last .1 .1 .1 .1 .1 .1 .1 .1 .1 .1 .1 .1 .1 .1 .1 .1 .1 .1 .1 .0) (c .before .before .before .before .trace-parts .ensures)
 
 pub closed : {M : Type 1} (t : ℕ) → lts.Closed (claims t) (at t) reads.Post M
 closed t =
@@ -63,7 +72,10 @@ closed t =
     (trace-word-requires t)
     (enum-told-3 t)
     (has-handles-requires t)
-    (trace-elems-requires t)
+    (sub-trace-parts t)
+    (part-trace-parts-start t)
+    (part-trace-parts-end t)
+    (trace-parts-requires t)
     (returns-2 t)
     (same-length t)
     (same-length-2 t)

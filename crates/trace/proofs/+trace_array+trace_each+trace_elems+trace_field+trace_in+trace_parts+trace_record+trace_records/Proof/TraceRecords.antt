@@ -1,24 +1,24 @@
--- What `trace::trace_elems` leaves, at the measure t. Assumes nothing.
+-- What `trace::trace_records` leaves, at the measure t. Assumes nothing.
 use Rattle.trace.proofs.Emits.{elems-end, elems-beyond, elems-fail, elems-next, turnsLeft, turns-fall}
 use lib.ListN.{length}
 use Rattle.trace.specs.Emit.{rawOf, into, resolveIn, emittingAt}
-use Rattle.trace.specs.Walk.{elemPlaces}
+use Rattle.trace.specs.Walk.{recordsPlaces}
 use borrow.Author.Needs.{needs}
 use native.Mathlib.Omega.{arith}
 use Prim.Native.Nat.{ℕ}
 use mathlib.Core.Path.{_≡_, refl}
-use Rattle.trace.proofs.trace_elems.Reads as reads
-use Rattle.trace.proofs.+trace_array+trace_elems+trace_field+trace_in+trace_part+trace_record.Lts-trace_elems as lts
-use Rattle.trace.proofs.+trace_array+trace_elems+trace_field+trace_in+trace_part+trace_record.Proof.Claims.{trace-elems-at as at, trace-elems-claims as claims}
+use Rattle.trace.proofs.trace_records.Reads as reads
+use Rattle.trace.proofs.+trace_array+trace_each+trace_elems+trace_field+trace_in+trace_parts+trace_record+trace_records.Lts-trace_records as lts
+use Rattle.trace.proofs.+trace_array+trace_each+trace_elems+trace_field+trace_in+trace_parts+trace_record+trace_records.Proof.Claims.{trace-records-at as at, trace-records-claims as claims}
 
 abbrev Inv-loop : lts.InvT-loop
-Inv-loop types fields consts bytes t c desc left holds «data» at stride count tag slots generation kind sink marks₀ to₀ n k₀ o₀ m₀ marks to k o m =
-    (emittingAt (into sink (resolveIn tag slots generation kind)) «data» (rawOf marks to m) (elemPlaces types fields consts bytes (length «data») t c desc left stride k o)
-    ≡ emittingAt (into sink (resolveIn tag slots generation kind)) «data» (rawOf marks₀ to₀ n) (elemPlaces types fields consts bytes (length «data») t c desc left stride count at))
+Inv-loop types fields consts bytes first len desc left «data» at stride count tag slots generation kind sink marks₀ to₀ n k₀ o₀ m₀ marks to k o m =
+    (emittingAt (into sink (resolveIn tag slots generation kind)) «data» (rawOf marks to m) (recordsPlaces types fields consts bytes (length «data») first len desc left stride k o)
+    ≡ emittingAt (into sink (resolveIn tag slots generation kind)) «data» (rawOf marks₀ to₀ n) (recordsPlaces types fields consts bytes (length «data») first len desc left stride count at))
     × (length marks ≡ length marks₀) × (length to ≡ length to₀)
 
 abbrev μ-loop : lts.MeasureT-loop
-μ-loop types fields consts bytes t c desc left holds «data» at stride count tag slots generation kind sink marks₀ to₀ n k₀ o₀ m₀ marks to k o m =
+μ-loop types fields consts bytes first len desc left «data» at stride count tag slots generation kind sink marks₀ to₀ n k₀ o₀ m₀ marks to k o m =
     turnsLeft (length «data») stride k o
 
 module _ (t : ℕ) where
@@ -34,8 +34,8 @@ module _ (t : ℕ) where
   returns : lts.Need-returns (claims t) (at t) reads.Post Inv-loop μ-loop
   returns c = search elems-beyond
 
-  trace-part-requires : lts.Need-trace-part-requires (claims t) (at t) reads.Post Inv-loop μ-loop
-  trace-part-requires c κs = (omega arith, (c .before .before .before .before .before .before .before .before .before .before .before .before .before .before .before .pre .1 .0, omega arith, c .before .before .before .before .before .before .before .before .before .before .before .before .before .before .before .pre .1 .1))
+  trace-record-requires : lts.Need-trace-record-requires (claims t) (at t) reads.Post Inv-loop μ-loop
+  trace-record-requires c κs = (omega arith, (c .before .before .before .before .before .before .before .before .before .before .before .before .before .before .before .pre .1 .0, omega arith, c .before .before .before .before .before .before .before .before .before .before .before .before .before .before .before .pre .1 .1))
 
   enum-known-r : lts.Need-enum-known-r (claims t) (at t) reads.Post Inv-loop μ-loop
   enum-known-r c = search needs
@@ -80,7 +80,7 @@ closed t =
     (same-length t)
     (same-length-2 t)
     (returns t)
-    (trace-part-requires t)
+    (trace-record-requires t)
     (enum-known-r t)
     (enum-told t)
     (same-length-3 t)

@@ -5,8 +5,8 @@ use borrow.Author.Needs.{needs}
 use native.Mathlib.Omega.{arith}
 use Prim.Native.Nat.{ℕ}
 use Rattle.trace.proofs.trace_in.Reads as reads
-use Rattle.trace.proofs.+trace_array+trace_elems+trace_field+trace_in+trace_part+trace_record.Lts-trace_in as lts
-use Rattle.trace.proofs.+trace_array+trace_elems+trace_field+trace_in+trace_part+trace_record.Proof.Claims.{trace-in-at as at, trace-in-claims as claims}
+use Rattle.trace.proofs.+trace_array+trace_each+trace_elems+trace_field+trace_in+trace_parts+trace_record+trace_records.Lts-trace_in as lts
+use Rattle.trace.proofs.+trace_array+trace_each+trace_elems+trace_field+trace_in+trace_parts+trace_record+trace_records.Proof.Claims.{trace-in-at as at, trace-in-claims as claims}
 
 module _ (t : ℕ) where
   returns : lts.Need-returns (claims t) (at t) reads.Post
@@ -33,11 +33,11 @@ module _ (t : ℕ) where
   enum-known-e-2 : lts.Need-enum-known-e-2 (claims t) (at t) reads.Post
   enum-known-e-2 c = search needs
 
-  sub-trace-record : lts.Need-sub-trace-record (claims t) (at t) reads.Post
-  sub-trace-record c = omega arith
+  sub-trace-records : lts.Need-sub-trace-records (claims t) (at t) reads.Post
+  sub-trace-records c = omega arith
 
-  trace-record-requires : lts.Need-trace-record-requires (claims t) (at t) reads.Post
-  trace-record-requires c κs = (omega arith, (record-within _ _ _ _ (c .before .before .before .before .before .ty-at .ensures) _ _ (c .before .before .before .e2 .given .1), c .before .before .before .before .before .before .before .before .before .before .before .before .before .before .before .before .before .before .pre .1 .1, c .before .before .before .before .before .before .before .before .before .before .before .before .before .before .before .before .before .before .pre .1 .2))
+  trace-records-requires : lts.Need-trace-records-requires (claims t) (at t) reads.Post
+  trace-records-requires c κs = (omega arith, (record-within _ _ _ _ (c .before .before .before .before .before .ty-at .ensures) _ _ (c .before .before .before .e2 .given .1), c .before .before .before .before .before .before .before .before .before .before .before .before .before .before .before .before .before .before .pre .1 .2))
 
   enum-told-2 : lts.Need-enum-told-2 (claims t) (at t) reads.Post
   enum-told-2 c = search needs
@@ -70,7 +70,7 @@ module _ (t : ℕ) where
   same-length-4 c = search needs
 
   returns-5 : lts.Need-returns-5 (claims t) (at t) reads.Post
-  returns-5 c = in-record _ _ _ _ _ _ _ _ _ _ _ (c .before .before .before .before .before .before .before .before .before .before .before .before .if1 .left) _ (c .before .before .before .before .before .before .before .before .before .before .before .before .before .before .before .before .before .before .before .before .before .before .before .pre .1 .0) (c .before .before .before .before .before .before .before .before .before .before .before .if2 .left) _ (c .before .before .before .before .before .before .before .before .before .before .ty-at .ensures) _ _ (c .before .before .before .before .before .before .before .before .e2 .given .1) (omega (arith, c .before .before .before .before .before .before .before .before .before .before .before .before .before .before .before .before .before .before .before .before .before .before .before .good)) (c .before .before .before .before .trace-record .result) (c .before .before .before .before .trace-record .last .1 .1 .1 .1 .1 .1 .1 .1 .1 .1 .1 .1 .1 .1 .1 .0) (c .before .before .before .before .trace-record .last .1 .1 .1 .1 .1 .1 .1 .1 .1 .1 .1 .1 .1 .1 .1 .1 .0) (c .before .before .before .before .trace-record .ensures)
+  returns-5 c = in-record _ _ _ _ _ _ _ _ _ _ _ (c .before .before .before .before .before .before .before .before .before .before .before .before .if1 .left) _ (c .before .before .before .before .before .before .before .before .before .before .before .before .before .before .before .before .before .before .before .before .before .before .before .pre .1 .0) (c .before .before .before .before .before .before .before .before .before .before .before .if2 .left) _ (c .before .before .before .before .before .before .before .before .before .before .ty-at .ensures) _ _ (c .before .before .before .before .before .before .before .before .e2 .given .1) (omega (arith, c .before .before .before .before .before .before .before .before .before .before .before .before .before .before .before .before .before .before .before .before .before .before .before .good)) (c .before .before .before .before .before .before .before .before .before .before .before .before .before .before .before .before .before .before .before .before .before .before .before .pre .1 .1) _ (c .before .before .before .before .trace-records .result) (c .before .before .before .before .trace-records .last .1 .1 .1 .1 .1 .1 .1 .1 .1 .1 .1 .1 .1 .1 .1 .1 .1 .0) (c .before .before .before .before .trace-records .last .1 .1 .1 .1 .1 .1 .1 .1 .1 .1 .1 .1 .1 .1 .1 .1 .1 .1 .0) (c .before .before .before .before .trace-records .ensures)
 
   same-length-5 : lts.Need-same-length-5 (claims t) (at t) reads.Post
   same-length-5 c = search needs
@@ -104,8 +104,8 @@ closed t =
     (sub-trace-array t)
     (trace-array-requires t)
     (enum-known-e-2 t)
-    (sub-trace-record t)
-    (trace-record-requires t)
+    (sub-trace-records t)
+    (trace-records-requires t)
     (enum-told-2 t)
     (trace-word-requires t)
     (enum-told-3 t)
