@@ -5,3 +5,4 @@ pub mod LayLaws
 pub mod OffsetLaws
 pub mod Levels
 pub mod Complete
+pub mod ScalarLaws

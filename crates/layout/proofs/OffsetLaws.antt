@@ -61,7 +61,7 @@ module _ (T : Table) (next : ℕ → List ℕ → Lay) (fs : List ℕ) (f n i : 
         unfolding offsetsFrom
         off-more e k u′ eu = rw (fields-next fs f n i lt, ← here, o, ← ep, h, ← eq, k, ← eu) refl
 
-length-fields : (fs : List ℕ) (i n : ℕ) → length (fieldsFrom fs i n) ≡ n
+pub length-fields : (fs : List ℕ) (i n : ℕ) → length (fieldsFrom fs i n) ≡ n
 unfolding fieldsFrom
 length-fields fs i zero = refl
 length-fields fs i (suc n) = ap suc (length-fields fs (i + 1) n)
@@ -138,6 +138,11 @@ module _ (T : Table) (fs : List ℕ) (first count : ℕ) (d start now : List ℕ
       filling = rw (zero-add i) at (fill-next start now 0 i _ _ o _ (g .filling) q fits);
     }
 
+-- the fields of a record's row
+pub fields-are : (w fs : List ℕ) (t : ℕ) (e : Entry) → e ≡ entryAt w (length fs / 2) t → (i n : ℕ) → e ≡ Record i n → fieldsOf (typeAt (typesOf w fs) t) ≡ fieldsFrom fs i n
+unfolding readTy
+fields-are w fs t e ee i n h = ap fieldsOf (type-at w fs t ∙ ap (readTy fs) (sym ee ∙ h))
+
 -- what the call answers, one law for each way out
 module _ (w fs cs b : List ℕ) (t : ℕ) (d : List ℕ) (places : ℕ) (l : Lay) (el : l ≡ layoutAt (tableOf w fs cs b) 65 t d) where
   pub call-bad : l ≡ Malformed → refused 11 ≡ layoutCall (tableOf w fs cs b) t d places
@@ -162,18 +167,14 @@ module _ (w fs cs b : List ℕ) (t : ℕ) (d : List ℕ) (places : ℕ) (l : Lay
       bare-offsets out = rw are-none (put-none out 0 [])
 
     module _ (i n : ℕ) (h : e ≡ Record i n) where
-      are : fieldsOf (typeAt (typesOf w fs) t) ≡ fieldsFrom fs i n
-      unfolding readTy
-      are = ap fieldsOf (type-at w fs t ∙ ap (readTy fs) (sym ee ∙ h))
-
       pub call-short : places < n → refused 7 ≡ layoutCall (tableOf w fs cs b) t d places
       unfolding layoutCall layoutOf
-      call-short k = rw (← el, o, are, length-fields fs i n, lt-leb n places k) refl
+      call-short k = rw (← el, o, fields-are w fs t e ee i n h, length-fields fs i n, lt-leb n places k) refl
 
       pub call-full : n ≤ places → told (Layout s a st m u n) ≡ layoutCall (tableOf w fs cs b) t d places
       unfolding layoutCall layoutOf
-      call-full k = rw (← el, o, are, length-fields fs i n, le-leb n places k) refl
+      call-full k = rw (← el, o, fields-are w fs t e ee i n h, length-fields fs i n, le-leb n places k) refl
 
       pub full-offsets : (out out′ : List ℕ) → out′ ≡ put out 0 (offsetsFrom (tableOf w fs cs b) (layoutAt (tableOf w fs cs b) 64) (fieldsFrom fs i n) d 0 0) (length (offsetsFrom (tableOf w fs cs b) (layoutAt (tableOf w fs cs b) 64) (fieldsFrom fs i n) d 0 0)) → out′ ≡ put out 0 (offsetsOf (tableOf w fs cs b) t d) (length (offsetsOf (tableOf w fs cs b) t d))
       unfolding offsetsOf
-      full-offsets out out′ q = rw are q
+      full-offsets out out′ q = rw (fields-are w fs t e ee i n h) q

@@ -1,15 +1,16 @@
 // The layout of a value of a type under a descriptor, and a record's offsets. A port of ty.rs.
 ghost use mathlib.Core.Path.{_≡_};
+ghost use mathlib.Core.Bool.{true};
 ghost use Prim.Native.Nat.{ℕ, _+_, _-_, _*_, _/_, _≤_, max};
 ghost use lib.ListN.{length};
 ghost use Rattle.word.specs.Put.{put};
 ghost use Rattle.ty.specs.Types.{typeAt};
-ghost use Rattle.ty.specs.Words.{wordOf};
+ghost use Rattle.ty.specs.Words.{wordOf, roundUp};
 ghost use Rattle.ty.specs.Scalars.{scalarSize};
 ghost use Rattle.ty.specs.View.{tableOf, bare};
 ghost use Rattle.layout.specs.Layout.{dimLen, dimsOf, sizeOr, usedBy, arrayLaid, placed, endOf, scalarLaid};
 ghost use Rattle.layout.specs.Offsets.{offsetsOf, told, layoutCall, writtenBy};
-ghost use Rattle.layout.specs.Lent.{scalarPart, typeLaid, partLaid, arrayIn, recordIn, offsetsIn};
+ghost use Rattle.layout.specs.Lent.{scalarPart, typeLaid, partLaid, arrayIn, recordIn, offsetsIn, ScalarFields, ScalarRecord, ScalarsLaid};
 use ty::Entry;
 use ty::Part;
 use ty::Scalar;
@@ -48,6 +49,12 @@ pub enum Answer {
     BadDesc,
     OverSize,
     Short,
+}
+
+// The fields of a record, the first and how many, if all are scalars without constants.
+pub enum Scalars {
+    Of(usize, usize),
+    Not,
 }
 
 // The length of the range from lo to hi, by their ranks.
@@ -448,8 +455,93 @@ fn write_offsets(
     }
 }
 
-// The layout of type t under the descriptor, with the offsets of its fields in the lent list.
-pub fn layout(
+// Whether count fields from the first on are scalars without constants.
+fn scalar_fields(types: &[u64], fields: &[u32], first: usize, count: usize) -> bool
+    requires { ⌜ first + count ≤ length (now fields) / 2 ⌝ }
+    ensures { λ r. ⌜ (r ≡ true → ScalarFields (now (types .entry)) (now (fields .entry)) first count) ⌝ }
+{
+    let mut i: usize = 0;
+    while i < count {
+        let k = 2 * (first + i);
+        let t = fields[k] as u64;
+        let c = fields[k + 1] as u64;
+        if scalar_bytes(types, fields, t, c) == 0 {
+            return false;
+        }
+        i += 1;
+    }
+    true
+}
+
+// The fields of type t, if it is a record of such fields alone and a list of so many places has room for their offsets. So few fields cannot pass 64 bits.
+fn scalar_record(types: &[u64], fields: &[u32], t: u64, places: usize) -> Scalars
+    ensures { λ r. ⌜ ScalarRecord (now (types .entry)) (now (fields .entry)) t places r ⌝ }
+{
+    let e = ty::ty_at(types, fields, t);
+    let Entry::Record { first, count } = e else {
+        return Scalars::Not;
+    };
+    if places < count {
+        return Scalars::Not;
+    }
+    if 16384 < count {
+        return Scalars::Not;
+    }
+    if scalar_fields(types, fields, first, count) {
+        return Scalars::Of(first, count);
+    }
+    Scalars::Not
+}
+
+// The first multiple of a from x on, where it cannot pass 64 bits.
+fn padded(x: u64, a: u64) -> u64
+    requires { ⌜ (x ≤ 4294967296) × (a ≤ 8) ⌝ }
+    ensures { λ r. ⌜ (r ≡ roundUp x a) × (r ≤ x + 8) ⌝ }
+{
+    let w = ty::align_up(x, a);
+    let Word::Is(n) = w else {
+        return x;
+    };
+    n
+}
+
+// The layout of such a record, with the offsets of its fields in the lent list: nothing can fail, so one walk does both.
+fn layout_scalars(
+    types: &[u64],
+    fields: &[u32],
+    first: usize,
+    count: usize,
+    out: &mut [u64],
+) -> Answer
+    requires { ⌜ (first + count ≤ length (now fields) / 2) × (count ≤ length (now out)) × (count ≤ 16384) × ScalarFields (now types) (now fields) first count ⌝ }
+    ensures { λ r. ⌜ ScalarsLaid (now (types .entry)) (now (fields .entry)) first count (now (out .entry)) (now (out .exit)) r ⌝ }
+{
+    let mut off: u64 = 0;
+    let mut align: u64 = 1;
+    let mut i: usize = 0;
+    while i < count {
+        let k = 2 * (first + i);
+        let t = fields[k] as u64;
+        let c = fields[k + 1] as u64;
+        let n = scalar_bytes(types, fields, t, c);
+        let o = padded(off, n);
+        out[i] = o;
+        off = o + n;
+        align = larger(align, n);
+        i += 1;
+    }
+    Answer::Layout {
+        size: padded(off, align),
+        align,
+        stride: 0,
+        count: 1,
+        used: 0,
+        offsets: count,
+    }
+}
+
+// The layout of type t under the descriptor, then the offsets of its fields in the lent list: a walk for each, since a refusal leaves the list as it was.
+fn layout_any(
     types: &[u64],
     fields: &[u32],
     consts: &[u64],
@@ -497,4 +589,24 @@ pub fn layout(
             }
         }
     }
+}
+
+// The layout of type t under the descriptor, with the offsets of its fields in the lent list.
+pub fn layout(
+    types: &[u64],
+    fields: &[u32],
+    consts: &[u64],
+    bytes: &[u8],
+    t: u64,
+    desc: &[u8],
+    out: &mut [u64],
+) -> Answer
+    ensures answer { λ r. ⌜ told r ≡ layoutCall (tableOf (now (types .entry)) (now (fields .entry)) (now (consts .entry)) (now (bytes .entry))) t (now (desc .entry)) (length (now (out .entry))) ⌝ }
+    ensures written { λ r. ⌜ now (out .exit) ≡ writtenBy (told r) (offsetsOf (tableOf (now (types .entry)) (now (fields .entry)) (now (consts .entry)) (now (bytes .entry))) t (now (desc .entry))) (now (out .entry)) ⌝ }
+{
+    let p = scalar_record(types, fields, t, out.len());
+    let Scalars::Of(first, count) = p else {
+        return layout_any(types, fields, consts, bytes, t, desc, out);
+    };
+    layout_scalars(types, fields, first, count, out)
 }

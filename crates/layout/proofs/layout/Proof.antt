@@ -1,64 +1,50 @@
 -- `layout::layout` meets its contract. Assumes nothing.
+use Rattle.layout.proofs.ScalarLaws.{row-within, scalars-answer, scalars-written}
 use borrow.Author.Needs.{needs}
-use mathlib.Core.Path.{refl}
-use Rattle.ty.proofs.Ranges.{record-within}
-use Rattle.layout.proofs.OffsetLaws.{call-bad, call-large, call-bare, bare-offsets, call-short, call-full, full-offsets}
 use Rattle.layout.proofs.layout.Statement.{statement}
 use Rattle.layout.proofs.layout.Tie as tie
 
-layout-in-requires : tie.Need-layout-in-requires
-layout-in-requires c κs = search needs
+scalar-record-requires : tie.Need-scalar-record-requires
+scalar-record-requires c κs = search needs
+
+enum-known-p : tie.Need-enum-known-p
+enum-known-p c = search needs
 
 enum-told : tie.Need-enum-told
 enum-told c = search needs
 
-enum-told-2 : tie.Need-enum-told-2
-enum-told-2 c = search needs
-
-enum-known-l : tie.Need-enum-known-l
-enum-known-l c = search needs
-
-ty-at-requires : tie.Need-ty-at-requires
-ty-at-requires c κs = search needs
-
-enum-known-e : tie.Need-enum-known-e
-enum-known-e c = search needs
-
-returns : tie.Need-returns
-returns c = (search call-bare, search bare-offsets)
-
-returns-2 : tie.Need-returns-2
-returns-2 c = (search call-short, refl)
-
-write-offsets-requires : tie.Need-write-offsets-requires
-write-offsets-requires c κs = (search record-within, c .before .if1 .left)
-
-returns-3 : tie.Need-returns-3
-returns-3 c = (search call-bad, refl)
-
-returns-4 : tie.Need-returns-4
-returns-4 c = (search call-large, refl)
+layout-any-requires : tie.Need-layout-any-requires
+layout-any-requires c κs = search needs
 
 same-length : tie.Need-same-length
 same-length c = search needs
 
-returns-5 : tie.Need-returns-5
-returns-5 c = (search call-full, search full-offsets)
+returns : tie.Need-returns
+returns c = search needs
+
+layout-scalars-requires : tie.Need-layout-scalars-requires
+layout-scalars-requires c κs =
+    let g = c .before .before .before .before .scalar-record .ensures _ _ (c .before .before .p .given .1) in
+    (row-within _ _ _ _ _ _ g, g .room, g .few, g .scalars)
+
+same-length-2 : tie.Need-same-length-2
+same-length-2 c = search needs
+
+returns-2 : tie.Need-returns-2
+returns-2 c =
+    let g = c .before .before .before .before .before .before .before .scalar-record .ensures _ _ (c .before .before .before .before .before .p .given .1) in
+    (scalars-answer _ _ _ _ _ _ _ _ (g .row) _ _ _ (c .before .before .layout-scalars .ensures), scalars-written _ _ _ _ _ _ _ _ (g .row) _ _ _ (c .before .before .layout-scalars .ensures))
 
 pub layout-spec : {M : Type 1} → statement M
 layout-spec =
     tie.close
     (tie.spec
-    layout-in-requires
+    scalar-record-requires
+    enum-known-p
     enum-told
-    enum-told-2
-    enum-known-l
-    ty-at-requires
-    enum-known-e
-    returns
-    returns-2
-    write-offsets-requires
-    returns-3
-    returns-4
+    layout-any-requires
     same-length
-    returns-5)
+    returns
+    layout-scalars-requires
+    same-length-2
+    returns-2)
