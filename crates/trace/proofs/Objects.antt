@@ -58,15 +58,9 @@ unfolding handlesPlaces
 handles-first k v s = refl
 
 module _ (k : Into) (v : List ℕ) (at : ℕ) (s G : Raw) (inv : emitAll k s (map (handleAt v) (rising ((length v - at) / 8) at)) ≡ G) where
-  stop : length v - at < 8 → s ≡ G
-  unfolding emitAll
-  stop h = rw (rest-none (length v) at h) at inv
-
-  pub handles-past : length v < at → s ≡ G
-  handles-past h = stop (omega arith)
-
   pub handles-end : length v - at < 8 → s ≡ G
-  handles-end h = stop h
+  unfolding emitAll
+  handles-end h = rw (rest-none (length v) at h) at inv
 
   pub handles-next : 8 ≤ length v - at → (h : ℕ) → h ≡ handleAt v at → (t : Raw) → t ≡ emitted k s h → emitAll k t (map (handleAt v) (rising ((length v - (at + 8)) / 8) (at + 8))) ≡ G
   unfolding emitAll
@@ -78,6 +72,9 @@ module _ (T : Table) (kind t start : ℕ) (v : List ℕ) (k : Into) (s : Raw) wh
   pub slot-hidden : length v < start → ok s ≡ emitting k s (handlesOf T kind t start v)
   unfolding handlesOf emitting emitAll
   slot-hidden h = rw (lt-leb start (length v) h) refl
+
+  pub slot-one : kind ≡ 1 → (r : Answer) (ms to : List ℕ) → told r ms to ≡ emitting k s (handlesOf T 1 t start v) → told r ms to ≡ emitting k s (handlesOf T kind t start v)
+  slot-one h r ms to er = rw h er
 
   module _ (l : start ≤ length v) where
     pub slot-typed : kind ≡ 1 → (r : Answer) (ms to : List ℕ) → told r ms to ≡ emitting k s (objectHandles T t (take (length v - start) (drop start v))) → told r ms to ≡ emitting k s (handlesOf T kind t start v)

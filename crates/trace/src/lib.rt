@@ -977,17 +977,58 @@ pub fn trace_handles(
     requires { ⌜ Columns slots (now generation) (now kind) ⌝ }
     ensures { λ r. ⌜ rawOf (now (marks .exit)) (now (to .exit)) r ≡ emitAll (into sink (resolveIn tag slots (now (generation .entry)) (now (kind .entry)))) (rawOf (now (marks .entry)) (now (to .entry)) n) (map (handleAt (now («data» .entry))) (handlesPlaces (length (now («data» .entry))))) ⌝ }
 {
+    if data.len() < 32 {
+        return n;
+    }
+    let last = data.len() - 8;
     let mut at: usize = 24;
     let mut m = n;
-    while at <= data.len() {
-        if data.len() - at < 8 {
-            return m;
-        }
+    while at <= last {
         let h = word::get_le(data, at, 8);
         m = emit(tag, slots, generation, kind, sink, marks, to, m, h);
         at += 8;
     }
     m
+}
+
+// The handles that a Typed slot shows. It stands apart so that other slots, which need no types, are traced without a call.
+fn trace_typed(
+    types: &[u64],
+    fields: &[u32],
+    consts: &[u64],
+    bytes: &[u8],
+    t: u64,
+    start: usize,
+    data: &[u8],
+    tag: u8,
+    slots: usize,
+    generation: &[u32],
+    kind: &[u8],
+    sink: Sink,
+    marks: &mut [u8],
+    to: &mut [u64],
+    n: usize,
+) -> Answer
+    requires { ⌜ (start ≤ length (now «data»)) × Columns slots (now generation) (now kind) ⌝ }
+    ensures { λ r. ⌜ told r (now (marks .exit)) (now (to .exit)) ≡ emitting (into sink (resolveIn tag slots (now (generation .entry)) (now (kind .entry)))) (rawOf (now (marks .entry)) (now (to .entry)) n)
+        (handlesOf (tableOf (now (types .entry)) (now (fields .entry)) (now (consts .entry)) (now (bytes .entry))) 1 t start (now («data» .entry))) ⌝ }
+{
+    trace_object(
+        types,
+        fields,
+        consts,
+        bytes,
+        t,
+        &data[start..],
+        tag,
+        slots,
+        generation,
+        kind,
+        sink,
+        marks,
+        to,
+        n,
+    )
 }
 
 // The handles that a slot of a heap shows: bytes before start are never traced.
@@ -1016,15 +1057,15 @@ pub fn trace_slot(
     if data.len() < start {
         return Answer::Traced(n);
     }
-    let visible = &data[start..];
     if of == 1 {
-        return trace_object(
+        return trace_typed(
             types,
             fields,
             consts,
             bytes,
             t,
-            visible,
+            start,
+            data,
             tag,
             slots,
             generation,
@@ -1036,7 +1077,17 @@ pub fn trace_slot(
         );
     }
     if of == 3 {
-        let m = trace_handles(visible, tag, slots, generation, kind, sink, marks, to, n);
+        let m = trace_handles(
+            &data[start..],
+            tag,
+            slots,
+            generation,
+            kind,
+            sink,
+            marks,
+            to,
+            n,
+        );
         return Answer::Traced(m);
     }
     Answer::Traced(n)

@@ -1,23 +1,14 @@
 -- `trace::trace_slot` meets its contract. Assumes nothing.
+use Rattle.trace.proofs.Objects.{slot-hidden, slot-one, slot-handles, slot-bytes}
 use borrow.Author.Needs.{needs}
-use Rattle.trace.proofs.Objects.{slot-hidden, slot-typed, slot-handles, slot-bytes}
 use Rattle.trace.proofs.trace_slot.Statement.{statement}
 use Rattle.trace.proofs.trace_slot.Tie as tie
 
 returns : tie.Need-returns
 returns c = search slot-hidden
 
-sub-visible : tie.Need-sub-visible
-sub-visible c = search needs
-
-part-visible-start : tie.Need-part-visible-start
-part-visible-start c = search needs
-
-part-visible-end : tie.Need-part-visible-end
-part-visible-end c = search needs
-
-trace-object-requires : tie.Need-trace-object-requires
-trace-object-requires c κs = search needs
+trace-typed-requires : tie.Need-trace-typed-requires
+trace-typed-requires c κs = search needs
 
 same-length : tie.Need-same-length
 same-length c = search needs
@@ -26,7 +17,16 @@ same-length-2 : tie.Need-same-length-2
 same-length-2 c = search needs
 
 returns-2 : tie.Need-returns-2
-returns-2 c = search slot-typed
+returns-2 c = search slot-one
+
+sub-trace-handles : tie.Need-sub-trace-handles
+sub-trace-handles c = search needs
+
+part-trace-handles-start : tie.Need-part-trace-handles-start
+part-trace-handles-start c = search needs
+
+part-trace-handles-end : tie.Need-part-trace-handles-end
+part-trace-handles-end c = search needs
 
 trace-handles-requires : tie.Need-trace-handles-requires
 trace-handles-requires c κs = search needs
@@ -48,13 +48,13 @@ trace-slot-spec =
     tie.close
     (tie.spec
     returns
-    sub-visible
-    part-visible-start
-    part-visible-end
-    trace-object-requires
+    trace-typed-requires
     same-length
     same-length-2
     returns-2
+    sub-trace-handles
+    part-trace-handles-start
+    part-trace-handles-end
     trace-handles-requires
     same-length-3
     same-length-4
