@@ -11,7 +11,7 @@ use lib.ListN.{length, getD}
 use Rattle.flow.specs.Function.{Function, safepoint, end, reads, writes}
 use Rattle.flow.specs.Dataflow.{turn, back, out, liveIn, liveBefore}
 use Rattle.roots.specs.View.{view, formed}
-use Rattle.roots.specs.Columns.{seen, cell, liveAt, Outside, Fixed, Found, In, First, Keyed, Separate, Inside}
+use Rattle.roots.specs.Columns.{seen, cell, liveAt, Outside, Fixed, Found, First, Keyed, Separate, Inside}
 use Rattle.roots.proofs.Scratch.{end-view, outside-refl, live-frame}
 use Rattle.roots.proofs.Passes.{linked-out}
 use Rattle.roots.proofs.Answers.{live-row-cells, row-listed, found-held, found-holder, seen-holder, is-safepoint, not-safepoint, not-held}

@@ -1,6 +1,6 @@
 // Which block starts, or ends, at an instruction: chains of the nonempty blocks by the remainder of one of their two words by 4,096. Word 0 is a block's
 // start and word 1 its end. Blocks that share no instruction of 65,536 have at most 16 starts, and 16 ends, of one remainder.
-// 65,535 is no block: its two bytes are equal, so that arrays of it are filled at the speed of memory.
+// 65,535 is no block: its two bytes are equal, so that an array of it is filled as bytes are, in half the time.
 use crate::row::wide;
 ghost use mathlib.Core.Path.{_≡_};
 ghost use Prim.Native.Nat.{_+_, _*_, _/_, _≤_, _<_};

@@ -19,7 +19,7 @@ wide-requires : tie.Need-wide-requires
 wide-requires c κs = search needs
 
 returns : tie.Need-returns
-returns c = found-on (c .before .before .before .before .before .before .before .pre .1) (c .before .before .before .before .before .before .before .pre .0) (c .before .before .before .before .before .before .before .pre .4) (c .before .before .before .if1 .taken) _ (c .before .wide .ensures) (c .if2 .taken)
+returns c = found-on (c .before .before .before .before .before .before .before .pre .1) (c .before .before .before .before .before .before .before .pre .0) (c .before .before .before .before .before .before .before .pre .4) (c .before .before .before .if1 .taken) _ (c .before .wide .ensures) (omega (arith, c .if2 .taken))
 
 add-first-at : tie.Need-add-first-at
 add-first-at c = search needs
