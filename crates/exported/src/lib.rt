@@ -230,7 +230,9 @@ fn edit_answer(a: EditAnswer) -> Answer
     match a {
         EditAnswer::Slot(i) => value(i as u64),
         EditAnswer::NoRoom => refuse(6),
-        EditAnswer::Unresolved(why) => resolved_to(why),
+        EditAnswer::Null => refuse(2),
+        EditAnswer::WrongHeap => refuse(3),
+        EditAnswer::Stale => refuse(4),
     }
 }
 

@@ -31,7 +31,7 @@ use Rattle.heap.specs.declared.Heap.{Heap}
 use Rattle.heap.proofs.Keeping.{leaves}
 use Rattle.heap.proofs.Changing.{charge-lies, log-lies}
 use Rattle.heap_edit.specs.Asked.{CanList, Listed}
-use Rattle.heap_edit.specs.Answers.{seenAt}
+use Rattle.heap_edit.specs.Answers.{seenAt, toldEdit, notEdited}
 use Rattle.heap_edit.specs.declared.Visible.{Visible}
 use Rattle.heap_edit.specs.declared.Visible.the-variants.{Dead, Hidden, Shown}
 use Rattle.heap_edit.proofs.Asking.{generation-at, kind-at, type-at, start-at, writes-at, from-at, to-at}
@@ -294,17 +294,13 @@ new-lies tag S P k t s e w f q x hd gs ks ts ss es ws ps fs qs xs z eh eg ek et 
     λ j. lent (eh j) ((eg ∙ zeros S S refl) j) ((ek ∙ zeros k S (z .kind)) j) ((et ∙ zeros t S (z .type)) j) ((es′ ∙ zeros s S (z .start)) j) ((ee ∙ zeros e S (z .end)) j) ((ew ∙ zeros w S (z .writes)) j)
     ((ep ∙ zeros P P refl) j) ((ef ∙ zeros f S (z .free)) j) ((eq ∙ zeros q S (z .quarantine)) j) ((ex ∙ zeros x S (z .sealed)) j)
 
--- an answer of `resolve` that is no slot is a refusal
-no-slot : (r : Resolved) → OneOf (0 ∷ 1 ∷ 2 ∷ []) (tagOf resolved-type r) → (R : Result ℕ → Type 0) → ((n : ℕ) → told r ≡ refused n → R (refused n)) → R (told r)
-no-slot Null k R f = f 2 refl
-no-slot WrongHeap k R f = f 3 refl
-no-slot Stale k R f = f 4 refl
-no-slot (At i) k R f = absurd (miss (0 ∷ 1 ∷ 2 ∷ []) 3 tt k)
-
+-- an answer of `resolve` that is no slot is that refusal of `edit`
 pub edit-unfound : (l : Lent) (w : wellFormed l ≡ true) (x : ℕ) (bytes : List ℕ) (first : ℕ) (r : Resolved) → OneOf (0 ∷ 1 ∷ 2 ∷ []) (tagOf resolved-type r) → told r ≡ resolve (view l) x
-    → Does l l (told r) (edit (poolSize l) (view l) x bytes first)
-edit-unfound l w x bytes first r k e =
-    no-slot r k (λ a. Does l l a (edit (poolSize l) (view l) x bytes first)) (λ n q. edit-no l w x bytes first n (sym e ∙ q))
+    → Does l l (toldEdit (notEdited r)) (edit (poolSize l) (view l) x bytes first)
+edit-unfound l w x bytes first Null k e = edit-no l w x bytes first 2 (sym e)
+edit-unfound l w x bytes first WrongHeap k e = edit-no l w x bytes first 3 (sym e)
+edit-unfound l w x bytes first Stale k e = edit-no l w x bytes first 4 (sym e)
+edit-unfound l w x bytes first (At i) k e = absurd (miss (0 ∷ 1 ∷ 2 ∷ []) 3 tt k)
 
 -- what `resolve` found in the heap that lies there
 pub found : (l : Lent) → wellFormed l ≡ true → (x : ℕ) (r : Resolved)

@@ -8,7 +8,8 @@ use Rattle.word.specs.Choice.{if_then_else_}
 use Rattle.word.specs.Result.{Result, ok, refused}
 use Rattle.heap.specs.State.{Slot, State, slotAt, live, dataSize}
 use Rattle.heap.specs.Calls.{Place, Kind, Stamp}
-use Rattle.handle.specs.Handle.{told}
+use Rattle.handle.specs.declared.Resolved.{Resolved}
+use Rattle.handle.specs.declared.Resolved.the-variants.{At, Null as NullHandle, WrongHeap as OtherHeap, Stale as StaleHandle}
 use Rattle.heap_edit.specs.declared.Visible.{Visible}
 use Rattle.heap_edit.specs.declared.Visible.the-variants.{Dead, Hidden, Shown}
 use Rattle.heap_edit.specs.declared.DataAnswer.{DataAnswer}
@@ -18,7 +19,7 @@ use Rattle.heap_edit.specs.declared.KindAnswer.the-variants.{Is, Nothing
 use Rattle.heap_edit.specs.declared.StampAnswer.{StampAnswer}
 use Rattle.heap_edit.specs.declared.StampAnswer.the-variants.{Is as Stamped, Nothing as NoStamp}
 use Rattle.heap_edit.specs.declared.EditAnswer.{EditAnswer}
-use Rattle.heap_edit.specs.declared.EditAnswer.the-variants.{Slot as Edited, NoRoom, Unresolved}
+use Rattle.heap_edit.specs.declared.EditAnswer.the-variants.{Slot as Edited, NoRoom, Null, WrongHeap, Stale}
 use Rattle.heap_edit.specs.declared.WriteAnswer.{WriteAnswer}
 use Rattle.heap_edit.specs.declared.WriteAnswer.the-variants.{Written, Nothing as NotWritten}
 use Rattle.heap_edit.specs.declared.ReissueAnswer.{ReissueAnswer}
@@ -47,7 +48,16 @@ toldStamp NoStamp = refused 9
 abbrev pub toldEdit : EditAnswer → Result ℕ
 toldEdit (Edited i) = ok i
 toldEdit NoRoom = refused 6
-toldEdit (Unresolved r) = told r
+toldEdit Null = refused 2
+toldEdit WrongHeap = refused 3
+toldEdit Stale = refused 4
+
+-- the answer of `edit` to a handle that leads to no object
+abbrev pub notEdited : Resolved → EditAnswer
+notEdited NullHandle = Null
+notEdited OtherHeap = WrongHeap
+notEdited StaleHandle = Stale
+notEdited (At i) = Stale
 
 abbrev pub toldWrite : WriteAnswer → Result Unit
 toldWrite Written = ok tt

@@ -15,7 +15,7 @@ ghost use Rattle.heap.specs.Lent.{lent, stored, view, headerOf};
 ghost use Rattle.heap.specs.WellFormed.{wellFormed};
 ghost use Rattle.heap.specs.Calls.{gcDue, reclaimDue, hasQuarantine, isPlain, liveCount, liveHandles, placeAt, kindAt, stampAt};
 ghost use Rattle.heap.specs.Calls.{resolve as resolved, edit as edited, write as written, reissue as reissued, seal as sealedBy, new as newHeap};
-ghost use Rattle.heap_edit.specs.Answers.{seenAt, toldPlace, toldKind, toldStamp, toldEdit, toldWrite, toldReissue};
+ghost use Rattle.heap_edit.specs.Answers.{seenAt, toldPlace, toldKind, toldStamp, toldEdit, notEdited, toldWrite, toldReissue};
 ghost use Rattle.heap.specs.Done.{Leaves, Does};
 ghost use Rattle.heap.specs.Columns.{EqualSizes};
 ghost use Rattle.heap_edit.specs.Asked.{Readable, CanFit, CanList, Listing, Listed};
@@ -233,13 +233,26 @@ pub enum EditAnswer {
     // The slot that was edited.
     Slot(u32),
     NoRoom,
-    // What `resolve` answered.
-    Unresolved(Resolved),
+    Null,
+    WrongHeap,
+    Stale,
 }
 
 pub struct Edited {
     pub heap: Heap,
     pub answer: EditAnswer,
+}
+
+// The answer of `edit` to a handle that leads to no object.
+fn not_edited(found: Resolved) -> EditAnswer
+    ensures { λ r. ⌜ r ≡ notEdited found ⌝ }
+{
+    match found {
+        Resolved::Null => EditAnswer::Null,
+        Resolved::WrongHeap => EditAnswer::WrongHeap,
+        Resolved::Stale => EditAnswer::Stale,
+        Resolved::At(_) => EditAnswer::Stale,
+    }
 }
 
 // New bytes and a new start for the object that a handle leads to.
@@ -267,7 +280,7 @@ pub fn edit(
     let Resolved::At(index) = found else {
         return Edited {
             heap: heap,
-            answer: EditAnswer::Unresolved(found),
+            answer: not_edited(found),
         };
     };
     let i = index as usize;

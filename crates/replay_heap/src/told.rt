@@ -67,7 +67,9 @@ fn edit(a: EditAnswer) -> Reply {
     match a {
         EditAnswer::Slot(i) => Reply::Value(i as u64),
         EditAnswer::NoRoom => Reply::Number(6),
-        EditAnswer::Unresolved(r) => resolved(r),
+        EditAnswer::Null => Reply::Number(2),
+        EditAnswer::WrongHeap => Reply::Number(3),
+        EditAnswer::Stale => Reply::Number(4),
     }
 }
 

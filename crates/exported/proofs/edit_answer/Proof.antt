@@ -26,11 +26,23 @@ enum-told c = search needs
 refuse-requires : tie.Need-refuse-requires
 refuse-requires c κs = search needs
 
-enum-known-a-2 : tie.Need-enum-known-a-2
-enum-known-a-2 c = search needs
+enum-told-2 : tie.Need-enum-told-2
+enum-told-2 c = search needs
 
-resolved-to-requires : tie.Need-resolved-to-requires
-resolved-to-requires c κs = search needs
+refuse-requires-2 : tie.Need-refuse-requires-2
+refuse-requires-2 c κs = search needs
+
+enum-told-3 : tie.Need-enum-told-3
+enum-told-3 c = search needs
+
+refuse-requires-3 : tie.Need-refuse-requires-3
+refuse-requires-3 c κs = search needs
+
+enum-told-4 : tie.Need-enum-told-4
+enum-told-4 c = search needs
+
+refuse-requires-4 : tie.Need-refuse-requires-4
+refuse-requires-4 c κs = search needs
 
 returns : tie.Need-returns
 returns c = search (case F)
@@ -41,6 +53,12 @@ returns-2 c = search (case F)
 returns-3 : tie.Need-returns-3
 returns-3 c = search (case F)
 
+returns-4 : tie.Need-returns-4
+returns-4 c = search (case F)
+
+returns-5 : tie.Need-returns-5
+returns-5 c = search (case F)
+
 pub edit-answer-spec : {M : Type 1} → statement M
 edit-answer-spec =
     tie.close
@@ -50,8 +68,14 @@ edit-answer-spec =
     value-requires
     enum-told
     refuse-requires
-    enum-known-a-2
-    resolved-to-requires
+    enum-told-2
+    refuse-requires-2
+    enum-told-3
+    refuse-requires-3
+    enum-told-4
+    refuse-requires-4
     returns
     returns-2
-    returns-3)
+    returns-3
+    returns-4
+    returns-5)

@@ -15,8 +15,11 @@ resolve-requires c κs = (held _ (c .before .before .before .before .before .bef
 enum-known-found : tie.Need-enum-known-found
 enum-known-found c = search needs
 
+not-edited-requires : tie.Need-not-edited-requires
+not-edited-requires c κs = search needs
+
 returns : tie.Need-returns
-returns c = edit-unfound _ (c .before .before .before .before .before .before .before .before .before .before .before .before .before .pre) _ _ _ (c .before .resolve .result) (c .match .keys2) (found _ (c .before .before .before .before .before .before .before .before .before .before .before .before .before .pre) _ (c .before .resolve .result) (c .before .resolve .ensures))
+returns c = rw (c .not-edited .ensures) (edit-unfound _ (c .before .before .before .before .before .before .before .before .before .before .before .before .before .before .pre) _ _ _ (c .before .before .resolve .result) (c .before .match .keys2) (found _ (c .before .before .before .before .before .before .before .before .before .before .before .before .before .before .pre) _ (c .before .before .resolve .result) (c .before .before .resolve .ensures)))
 
 cast-i : tie.Need-cast-i
 cast-i c = search needs
@@ -66,6 +69,7 @@ edit-spec =
     (tie.spec
     resolve-requires
     enum-known-found
+    not-edited-requires
     returns
     cast-i
     fits-requires
