@@ -1,4 +1,4 @@
-//! What heap.rs and roots.rs name of the interpreter, besides each other. They look for these modules at the top of the crate.
+//! What heap.rs and roots.rs name of the interpreter, besides each other. They look for these modules at the top of the crate. bench/ has this file too.
 
 pub mod exec {
     /// Stand-in: `{space: u8, index: u24, offset: u32}`.
