@@ -1,5 +1,9 @@
 use crate::ffi;
-use crate::Refusal;
+use crate::{number, Refusal};
+use std::borrow::Cow;
+
+const MAX_BLOCKS: usize = 4096;
+const MAX_REGISTERS: usize = 16384;
 
 /// What an instruction does.
 #[derive(Clone, Copy, Debug, PartialEq, Eq)]
@@ -35,6 +39,8 @@ pub enum Wanted {
 }
 
 /// The code of a function, as the live map reads it.
+///
+/// The methods that add something panic past 4,294,967,295 of its sort: there would be no number for it.
 ///
 /// ```
 /// use yexwalu::{Class, Function, InstKind, Refusal, Wanted};
@@ -72,40 +78,53 @@ impl Function {
 
     /// A new register; the answer is its number.
     pub fn register(&mut self, class: Class) -> u32 {
+        let register = number(self.classes.len());
         self.classes.push(class as u8);
-        (self.classes.len() - 1) as u32
+        register
     }
 
     /// The number of the next instruction.
     pub fn position(&self) -> u32 {
-        self.kinds.len() as u32
+        number(self.kinds.len())
     }
 
     /// A new instruction; the answer is its number. Targets are block numbers; those of a case are its arms, then the default.
     pub fn instruction(&mut self, kind: InstKind, writes: &[u32], reads: &[u32], targets: &[u32]) -> u32 {
+        let instruction = self.position();
         self.kinds.push(kind as u8);
         for part in [writes, reads, targets] {
             self.refs.extend_from_slice(part);
-            self.ends.push(self.refs.len() as u32);
+            self.ends.push(number(self.refs.len()));
         }
-        (self.kinds.len() - 1) as u32
+        instruction
     }
 
     /// A block of the instructions from `start` up to `end`; the answer is its number.
     pub fn block(&mut self, start: u32, end: u32) -> u32 {
+        let block = number(self.blocks.len() / 2);
         self.blocks.extend_from_slice(&[start, end]);
-        (self.blocks.len() / 2 - 1) as u32
+        block
     }
 
     /// How many words of scratch the live map takes: (3 × blocks + 2) × words per row.
     pub fn scratch_words(&self) -> usize {
-        (3 * (self.blocks.len() / 2) + 2) * self.classes.len().div_ceil(64)
+        (3 * (self.blocks.len() / 2) + 2).saturating_mul(self.classes.len().div_ceil(64))
+    }
+
+    // What the calls with scratch of their own are made on. A function of too many blocks or registers is refused (15), but only after too little scratch (18), and it may take more than there is:
+    // a small function that is refused like it stands for it. Its block lies past its code.
+    pub(crate) fn within_counts(&self) -> Cow<'_, Function> {
+        if self.blocks.len() / 2 <= MAX_BLOCKS && self.classes.len() <= MAX_REGISTERS {
+            return Cow::Borrowed(self);
+        }
+        Cow::Owned(Function { blocks: vec![0, 1], ..Function::default() })
     }
 
     /// The registers that are live before a safepoint, rising.
     pub fn live_at(&self, pc: u32, wanted: Wanted) -> Result<Vec<u32>, Refusal> {
-        let mut regs = vec![0; self.classes.len()];
-        let n = self.live_at_into(pc, wanted, &mut vec![0; self.scratch_words()], &mut regs)?;
+        let f = self.within_counts();
+        let mut regs = vec![0; f.classes.len()];
+        let n = f.live_at_into(pc, wanted, &mut vec![0; f.scratch_words()], &mut regs)?;
         regs.truncate(n);
         Ok(regs)
     }
@@ -132,13 +151,14 @@ impl Function {
 
     /// Every safepoint, rising, with the registers that are live before it, rising.
     pub fn live_refs(&self, wanted: Wanted) -> Result<Vec<(u32, Vec<u32>)>, Refusal> {
-        let mut scratch = vec![0; self.scratch_words()];
-        let mut pcs = vec![0; self.kinds.len()];
-        let mut bounds = vec![0; self.kinds.len()];
-        let mut room = self.kinds.len();
+        let f = self.within_counts();
+        let mut scratch = vec![0; f.scratch_words()];
+        let mut pcs = vec![0; f.kinds.len()];
+        let mut bounds = vec![0; f.kinds.len()];
+        let mut room = f.kinds.len();
         loop {
             let mut regs = vec![0; room];
-            match self.live_refs_into(wanted, &mut scratch, &mut pcs, &mut bounds, &mut regs) {
+            match f.live_refs_into(wanted, &mut scratch, &mut pcs, &mut bounds, &mut regs) {
                 Err(Refusal::ShortList) => room = 2 * room + 1,
                 Err(why) => return Err(why),
                 Ok((points, _)) => {

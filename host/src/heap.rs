@@ -191,9 +191,30 @@ macro_rules! change {
 }
 
 impl Heap {
-    /// An empty heap of this tag with room for so many objects (1 to 16,777,216) and so many bytes of data (at most 1,073,741,824).
+    /// The most slots that a heap can have.
+    pub const MAX_SLOTS: usize = 16_777_216;
+
+    /// The most bytes of data that a heap can have.
+    pub const MAX_POOL: usize = 1_073_741_824;
+
+    // New memory for a heap. Sizes out of range are refused (1), and so is no memory at all: what can't be a heap is not asked for, since it may not be there.
+    fn memory_for(slots: usize, pool: usize) -> (Memory, Scratch) {
+        let good = slots <= Heap::MAX_SLOTS && pool <= Heap::MAX_POOL;
+        let (slots, pool) = if good { (slots, pool) } else { (0, 0) };
+        (Memory::zeros(slots, pool), Scratch::zeros(slots))
+    }
+
+    /// An empty heap of this tag with room for so many objects (1 to `MAX_SLOTS`) and so many bytes of data (at most `MAX_POOL`); other sizes are refused (1).
+    ///
+    /// ```
+    /// use yexwalu::{Heap, Refusal};
+    /// assert!(Heap::new(1, 64, 4096).is_ok());
+    /// assert_eq!(Heap::new(1, 0, 4096), Err(Refusal::BrokenHeap));
+    /// assert_eq!(Heap::new(1, usize::MAX, 4096), Err(Refusal::BrokenHeap));
+    /// ```
     pub fn new(tag: u8, slots: usize, pool: usize) -> Result<Heap, Refusal> {
-        Heap::new_in(tag, Memory::zeros(slots, pool), Scratch::zeros(slots)).map_err(|e| e.0)
+        let (memory, scratch) = Heap::memory_for(slots, pool);
+        Heap::new_in(tag, memory, scratch).map_err(|e| e.0)
     }
 
     /// An empty heap in memory that is given. After a refusal the memory comes back.
@@ -263,11 +284,11 @@ impl Heap {
         Ok(Handle(self.done(done)?.0))
     }
 
-    /// The number of bytes of slot `i`'s object, those before its start too, as the memory has it.
+    // The number of bytes of slot `i`'s object, those before its start too. Memory that was not checked may say anything: more than the pool is no object's.
     fn size_of(&self, i: usize) -> usize {
         let end = &self.memory.end;
         match end.get(i) {
-            Some(e) => e.saturating_sub(if i == 0 { 0 } else { end[i - 1] }),
+            Some(e) => e.saturating_sub(if i == 0 { 0 } else { end[i - 1] }).min(self.memory.pool.len()),
             None => 0,
         }
     }
@@ -365,7 +386,8 @@ impl Heap {
     /// ```
     #[allow(clippy::too_many_arguments)]
     pub fn collect_joined(&mut self, types: &TypeTable, function: &Function, pc: u32, values: &[u64], map: &[FrameSlot], frame: &[u8], pins: &[u32]) -> Result<(), Refusal> {
-        self.collect_joined_with(types, function, pc, values, map, frame, pins, &mut vec![0; function.scratch_words()])
+        let function = function.within_counts();
+        self.collect_joined_with(types, &function, pc, values, map, frame, pins, &mut vec![0; function.scratch_words()])
     }
 
     /// As `collect_joined`, with lent scratch for the live map: `Function::scratch_words` at least (18).
@@ -519,7 +541,8 @@ impl Heap {
 
     /// The heap of a page, in new memory for so many objects and bytes of data.
     pub fn read_page(slots: usize, pool: usize, text: &[u8]) -> Result<Heap, Refusal> {
-        let mut heap = Heap::from_parts(Header::default(), Memory::zeros(slots, pool), Scratch::zeros(slots));
+        let (memory, scratch) = Heap::memory_for(slots, pool);
+        let mut heap = Heap::from_parts(Header::default(), memory, scratch);
         heap.read_page_over(text)?;
         Ok(heap)
     }

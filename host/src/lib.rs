@@ -29,3 +29,11 @@ pub use handle::Handle;
 pub use heap::{Heap, Kind, Memory, Object, Scratch, Stamp};
 pub use refusal::Refusal;
 pub use types::{descriptor, ConstId, Direction, FrameSlot, Layout, TypeId, TypeTable, NO_CONSTANT};
+
+// Answers have 64 bits, and so have sizes where the archive is compiled for: none is cut.
+const _: () = assert!(usize::BITS == 64);
+
+// The number of the next thing of a list that has so many.
+fn number(length: usize) -> u32 {
+    u32::try_from(length).expect("numbers have 32 bits")
+}

@@ -1,5 +1,5 @@
 use crate::ffi;
-use crate::{Handle, Refusal};
+use crate::{number, Handle, Refusal};
 
 /// A type's number in its table.
 pub type TypeId = u32;
@@ -11,6 +11,8 @@ pub type ConstId = u32;
 pub const NO_CONSTANT: ConstId = u32::MAX;
 
 /// The types of a saved run, and the constants that describe fields and elements.
+///
+/// The methods that add something panic past 4,294,967,295 of its sort: there would be no number for it.
 ///
 /// ```
 /// use yexwalu::{TypeTable, Refusal, descriptor, Direction};
@@ -115,8 +117,9 @@ impl TypeTable {
     }
 
     fn add(&mut self, row: [u64; 4]) -> TypeId {
+        let ty = number(self.types.len() / 4);
         self.types.extend_from_slice(&row);
-        (self.types.len() / 4 - 1) as TypeId
+        ty
     }
 
     /// Whole numbers from `lo` to `hi`.
@@ -168,17 +171,22 @@ impl TypeTable {
         self.add([8, 0, 0, 0])
     }
 
+    fn add_constant(&mut self, row: [u64; 3]) -> ConstId {
+        let constant = number(self.consts.len() / 3);
+        self.consts.extend_from_slice(&row);
+        constant
+    }
+
     /// A constant of plain bytes.
     pub fn constant(&mut self, bytes: &[u8]) -> ConstId {
-        self.consts.extend_from_slice(&[1, self.bytes.len() as u64, bytes.len() as u64]);
+        let constant = self.add_constant([1, self.bytes.len() as u64, bytes.len() as u64]);
         self.bytes.extend_from_slice(bytes);
-        (self.consts.len() / 3 - 1) as ConstId
+        constant
     }
 
     /// A constant that is not plain bytes.
     pub fn other_constant(&mut self) -> ConstId {
-        self.consts.extend_from_slice(&[0, 0, 0]);
-        (self.consts.len() / 3 - 1) as ConstId
+        self.add_constant([0, 0, 0])
     }
 
     /// The layout of a type under a descriptor.
