@@ -1,4 +1,4 @@
-// Finds libyexwalu.a, which the Rattle toolchain makes: $YEXWALU_LIB (the archive, or the folder that has it), else target/staticlib of the repository.
+// Finds libyexwalu.a, which the Rattle toolchain makes: $YEXWALU_LIB (the archive, or the folder that has it; a relative path begins in this folder), else target/staticlib of the repository.
 use std::path::{Path, PathBuf};
 use std::{env, path, process};
 

@@ -330,7 +330,7 @@ fn types_and_their_outputs() {
 fn frames_and_their_outputs() {
     let (table, pair, _) = handles();
     let memory = words(1..6);
-    let map = [FrameSlot { offset: 0, kind: 0, ty: 0 }, FrameSlot { offset: 8, kind: 1, ty: 0 }, FrameSlot { offset: 16, kind: 2, ty: pair }, FrameSlot { offset: 32, kind: 1, ty: 0 }];
+    let map = [FrameSlot::handle(0), FrameSlot::address(8), FrameSlot::composite(16, pair), FrameSlot::address(32)];
     let (mut found, mut addresses) = ([9; 4], [9; 3]);
     assert_eq!(table.slot_roots_into(&map, &memory, &mut found[..2], &mut addresses), Err(Refusal::ShortList));
     assert_eq!(table.slot_roots_into(&map, &memory, &mut found, &mut addresses[..1]), Err(Refusal::ShortList));
