@@ -491,6 +491,7 @@ impl Heap {
         Ok(answer.first == 1)
     }
 
+    // The values of an answer. Slot indices, generations and write counts have 32 bits at most, so that casts to them cut nothing.
     fn pair(answer: ffi::Answer) -> Result<(u64, u64), Refusal> {
         Refusal::check(answer.number)?;
         Ok((answer.first, answer.second))
