@@ -6,7 +6,7 @@ use std::{env, fs};
 /// its text, and gives the text of the copy.
 pub fn modules(krate: &str, names: &[&str], change: impl Fn(&str, String) -> String) {
     println!("cargo:rerun-if-env-changed=ORACLE_SRC");
-    let src = env::var("ORACLE_SRC").expect("ORACLE_SRC names a checkout of yavs (see oracle/README.md)");
+    let src = env::var("ORACLE_SRC").expect("ORACLE_SRC must name a checkout of yavs (see oracle/README.md)");
     let out = env::var("OUT_DIR").unwrap();
     let mut mods = String::new();
     for name in names {

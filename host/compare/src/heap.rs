@@ -139,7 +139,7 @@ fn types(oracle: &mut Oracle) -> TypeTable {
 
 #[test]
 fn random_calls_answer_as_the_rust() {
-    let Some(mut oracle) = Oracle::start() else { return };
+    let mut oracle = Oracle::default();
     for seed in seeds(40) {
         let slots = 1 + seed as usize % 33;
         let mut run = Run {
@@ -155,4 +155,27 @@ fn random_calls_answer_as_the_rust() {
         }
         same(&mut oracle, &run.heap, &format!("seed {seed}"));
     }
+    let found = &["0", "2", "3", "4"];
+    oracle.saw(&[
+        ("alloc", &["0", "5"]),
+        ("take", found),
+        ("free", found),
+        ("edit", found),
+        ("write", &["0", "9"]),
+        ("reissue", &["0"]),
+        ("recycle", &["0"]),
+        ("seal", &["0"]),
+        ("resolve", found),
+        ("data", &["0", "9"]),
+        ("kind", &["0", "9"]),
+        ("stamp", &["0", "9"]),
+        ("collect", &["0", "13"]),
+        ("gcdue", &["0"]),
+        ("reclaimdue", &["0"]),
+        ("hasquarantine", &["0"]),
+        ("isplain", &["0"]),
+        ("slots", &["0"]),
+        ("page", &["0"]),
+        ("epoch", &["0"]),
+    ]);
 }

@@ -276,7 +276,7 @@ fn traces(random: &mut Random, oracle: &mut Oracle, table: &TypeTable, place: &s
 
 #[test]
 fn random_types_answer_as_the_rust() {
-    let Some(mut oracle) = Oracle::start() else { return };
+    let mut oracle = Oracle::default();
     for seed in seeds(400) {
         let mut random = Random::new(seed);
         let table = table(&mut random, &mut oracle);
@@ -362,7 +362,7 @@ pub fn same(oracle: &mut Oracle, heap: &Heap, place: &str) {
 
 #[test]
 fn random_collections_answer_as_the_rust() {
-    let Some(mut oracle) = Oracle::start() else { return };
+    let mut oracle = Oracle::default();
     for seed in seeds(400) {
         let mut random = Random::new(seed ^ 1 << 32);
         let table = table(&mut random, &mut oracle);
