@@ -141,8 +141,8 @@ fn types(oracle: &mut Oracle) -> TypeTable {
 
 #[test]
 fn random_calls_answer_as_the_rust() {
-    let mut oracle = Oracle::default();
-    for seed in seeds(40) {
+    let mut oracle = Oracle::new();
+    for seed in seeds(200) {
         let slots = 1 + seed as usize % 33;
         let mut run = Run {
             table: types(&mut oracle),
@@ -207,7 +207,7 @@ fn reclaim(oracle: &mut Oracle, heap: &mut Heap, placed: usize, released: usize)
 // As many slots in quarantine as make `reclaim_due` say yes, and as many pinned as move its bound. Random heaps are too small for either.
 #[test]
 fn a_large_quarantine_answers_as_the_rust() {
-    let mut oracle = Oracle::default();
+    let mut oracle = Oracle::new();
     let mut heap = Heap::new(9, 4301, 0).unwrap();
     oracle.set("new 9 4301");
     assert!(!reclaim(&mut oracle, &mut heap, 4300, 4095));

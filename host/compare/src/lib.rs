@@ -8,27 +8,60 @@ mod functions;
 mod heap;
 mod tables;
 use std::collections::BTreeMap;
+use std::io::{self, Write};
+use std::sync::{Arc, Mutex};
+use std::time::{Duration, Instant};
+use std::{process, thread};
 use yavs_interp::Machine;
 use yexwalu::Refusal;
 
+// A line that the Rust is at, and since when.
+type At = Arc<Mutex<Option<(Instant, String)>>>;
+
 /// The Rust, as one test talks to it. Each test has its own.
-#[derive(Default)]
 struct Oracle {
     machine: Machine,
+    at: At,
     /// How often each command had each number for an answer.
     told: BTreeMap<(String, String), u32>,
 }
 
 impl Oracle {
+    fn new() -> Oracle {
+        let at = At::default();
+        // The Rust need not end, and no thread can be ended from outside: the process is. What a thread prints is kept until its test ends, but not what is written to standard error.
+        let watched = Arc::downgrade(&at);
+        thread::spawn(move || {
+            while let Some(at) = watched.upgrade() {
+                if let Some((since, line)) = &*at.lock().unwrap() {
+                    if since.elapsed() > Duration::from_secs(30) {
+                        let _ = writeln!(io::stderr(), "the Rust does not end: {line}");
+                        process::exit(3);
+                    }
+                }
+                drop(at);
+                thread::sleep(Duration::from_secs(1));
+            }
+        });
+        Oracle { machine: Machine::new(), at, told: BTreeMap::new() }
+    }
+
+    fn answer(&mut self, line: &str) -> String {
+        *self.at.lock().unwrap() = Some((Instant::now(), line.into()));
+        let answer = self.machine.answer(line);
+        *self.at.lock().unwrap() = None;
+        answer
+    }
+
     /// Gives the oracle something to work on.
     fn set(&mut self, line: &str) {
-        let answer = self.machine.answer(line);
+        let answer = self.answer(line);
         assert!(answer == "0" || answer.starts_with("0 "), "{line}: {answer}");
     }
 
     /// The oracle's answer to a call is the one given. On 13 the Rust leaves what it had pushed, which is not compared.
     fn agrees(&mut self, line: &str, here: &str, place: &str) {
-        let answer = self.machine.answer(line);
+        let answer = self.answer(line);
         let there = if answer.starts_with("13 ") { "13" } else { &answer };
         assert_eq!(there, here, "{place}: {line}");
         let first = |s: &str| s.split(' ').next().unwrap().to_string();
