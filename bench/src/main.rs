@@ -4,32 +4,9 @@
 
 include!(concat!(env!("OUT_DIR"), "/mods.rs"));
 
-mod exec {
-    /// Stand-in, as the oracle has it: `{space: u8, index: u24, offset: u32}`.
-    pub fn split(a: u64) -> (u8, u32, u32) {
-        ((a >> 56) as u8, ((a >> 32) & 0xff_ffff) as u32, a as u32)
-    }
-}
-mod reflect {
-    /// Stand-in: mirrors are left out.
-    pub fn mirror_handles(_: &yavs_ir::Program, _: &[u8], _: &mut Vec<u64>) -> bool {
-        true
-    }
-}
-mod state {
-    pub struct BlockRef<'a>(pub &'a [u8]);
-    pub struct Block(pub Vec<u8>);
-    impl serde::Serialize for BlockRef<'_> {
-        fn serialize<S: serde::Serializer>(&self, s: S) -> Result<S::Ok, S::Error> {
-            s.bytes(self.0)
-        }
-    }
-    impl<'de> serde::Deserialize<'de> for Block {
-        fn from_opt(v: Option<Vec<u8>>) -> Option<Self> {
-            v.map(Block)
-        }
-    }
-}
+#[path = "../../oracle/crates/yavs-interp/src/stand_ins.rs"]
+mod stand_ins;
+use stand_ins::{exec, reflect, state};
 
 mod page;
 use std::hint::black_box;

@@ -38,6 +38,7 @@ typedef struct {
     size_t sealed;
 } yexwalu_header;
 
+/* Document 01's number, and the values of a call, which says below what they are. */
 typedef struct {
     uint64_t number;
     uint64_t first;
@@ -50,7 +51,10 @@ typedef struct {
     yexwalu_answer answer;
 } yexwalu_done;
 
-/* offsets: how many of a record's fields' offsets were written. */
+/*
+ * A layout: document 01's number, then bytes and alignment of a value, bytes from one element of an array to the next (0 for packed logic and for what is no array), number of elements (of packed
+ * logic the positions; 1 for what is no array), bytes of the descriptor that were used, and how many of a record's fields' offsets were written; zeros after a refusal.
+ */
 typedef struct {
     uint64_t number;
     uint64_t size;
@@ -434,7 +438,28 @@ yexwalu_done yexwalu_seal(
     uint8_t *marks, size_t marks_len,
     uint64_t *work, size_t work_len);
 
-/* ---- Types, the handles of values and frames, live registers ---- */
+/*
+ * ---- Types, the handles of values and frames, live registers ----
+ *
+ * A type table lies in four lists: at most 4,096 types, 16,384 fields and 4,096 constants.
+ *   types    four words a type: its class, then what the class has. 0 Int: lo, hi, both signed; 1 Physical; 2 Enum: literals, logic (0 none, 1 std_ulogic, 2 bit, 3 boolean); 3 Real;
+ *            4 Array: type of its elements, their constant, dimensions (0 to 255); 5 Record: first field, number of fields; 6 Access; 7 File; 8 Protected. Words left over are not looked at.
+ *   fields   two words a field of a record: its type, its constant
+ *   consts   three words a constant: 1 for plain bytes, 0 for others; its first byte in `bytes`; how many bytes
+ *   bytes    the bytes of the constants
+ * A constant describes an element or a field; where there is none stands 4,294,967,295, and the value's descriptor goes on with it. A descriptor has 24 bytes a dimension, three signed
+ * little-endian words: left, right, direction (0 to, 1 downto).
+ *
+ * A frame map lies in three lists of one length: where each entry lies in the frame's memory, its kind (0 a handle, 1 an address, 2 a composite), and the type of a composite.
+ *
+ * A function lies in five lists: at most 65,536 instructions, 4,096 blocks and 16,384 registers.
+ *   kinds    one an instruction: 0 plain, 1 safepoint, 2 branch, 3 conditional, 4 case, 5 return, 6 unreachable
+ *   ends     three an instruction: where its registers written, its registers read and its target blocks (a case: arms, then default) end in `refs`
+ *   refs     all registers and targets in a row
+ *   blocks   two a block: its first instruction, and the one after its last
+ *   classes  one a register: 0 I64, 1 F64, 2 Ptr, 3 Sig, 4 Handle
+ * Its live registers take (3 * blocks + 2) * words per row of scratch, a word for every 64 registers begun.
+ */
 
 /* The layout of type `t` under a descriptor; the offsets of a record's fields stand at the front of `out`. 10, 11, 12, 7. */
 yexwalu_layout_answer yexwalu_layout(
@@ -544,7 +569,7 @@ yexwalu_done yexwalu_collect(
     const uint64_t *roots, size_t roots_len,
     const uint32_t *pins, size_t pins_len);
 
-/* As collect, from a stopped function: roots are the live registers of class 4 at the safepoint `pc`, with one value a register (15), and the handles of the frame. `rows` is scratch: (3 * blocks + 2) * words per row. 18, 1, 10, 15, 14, 16, 13. */
+/* As collect, from a stopped function: roots are the live registers of class 4 at the safepoint `pc`, with one value a register (15), and the handles of the frame. `rows` is scratch for the live registers. 18, 1, 10, 15, 14, 16, 13. */
 yexwalu_done yexwalu_collect_joined(
     const uint64_t *types, size_t types_len,
     const uint32_t *fields, size_t fields_len,

@@ -1,21 +1,21 @@
 use crate::ffi::{self, Done, Header};
-use crate::{FrameSlot, Function, Handle, Refusal, TypeTable};
+use crate::{FrameSlot, Function, Handle, Refusal, TypeId, TypeTable};
 use std::cell::RefCell;
 use std::ops::Range;
 
-/// What an object is: its kind, and the type of a typed one.
+/// What an object is: its kind, and the type of a typed one. It says where a collection looks for handles in the object's visible data.
 #[derive(Clone, Copy, Debug, PartialEq, Eq, Hash)]
 pub enum Kind {
-    /// A value of a type of the table, after its descriptor.
-    Typed(u32),
+    /// A value of a type of the table, after its descriptor (`TypeTable::object_handles`). The type is not looked at before a collection.
+    Typed(TypeId),
     /// Bytes that hold no handles.
     Bytes,
-    /// Handles at offsets 24, 32, ..
+    /// Handles at offsets 24, 32, .. while eight bytes fit.
     Handles,
 }
 
 impl Kind {
-    fn numbers(self) -> (u8, u32) {
+    fn numbers(self) -> (u8, TypeId) {
         match self {
             Kind::Typed(ty) => (1, ty),
             Kind::Bytes => (2, 0),
@@ -23,9 +23,10 @@ impl Kind {
         }
     }
 
+    // The kind of a live slot of a heap that was checked: 1 to 3, and a type of 32 bits.
     fn of(kind: u64, ty: u64) -> Kind {
         match kind {
-            1 => Kind::Typed(ty as u32),
+            1 => Kind::Typed(ty as TypeId),
             2 => Kind::Bytes,
             _ => Kind::Handles,
         }
@@ -41,28 +42,38 @@ pub struct Object {
     pub start: usize,
 }
 
-/// Generation and write count of a slot.
+/// Generation and write count of a slot. While both stay as they were, the object has not been touched.
 #[derive(Clone, Copy, Debug, PartialEq, Eq, Hash)]
 pub struct Stamp {
-    /// How often the slot was given out or released, from 1 on.
+    /// How often the slot was given out, given a new handle or released; after 4,294,967,295 comes 1.
     pub generation: u32,
-    /// How often its object was written or edited.
+    /// How often its object was written or edited since then; after 4,294,967,295 comes 0.
     pub writes: u32,
 }
 
-/// The memory that a heap lies in. A heap's is made with it; the fields are public so that a host can save, damage or lend them as it likes: every call looks whether it holds a heap.
+/// The memory that a heap lies in: columns with one entry a slot, and the pool. A heap's is made with it; the fields are public so that a host can save, damage or lend them as it likes: every
+/// call looks whether it holds a heap. `Header` has how many entries of the columns are in use; the others are zero.
 #[derive(Clone, Debug, PartialEq, Eq)]
-#[allow(missing_docs)]
 pub struct Memory {
+    /// Each slot's generation, at least 1.
     pub generation: Vec<u32>,
+    /// Each slot's kind: 0 dead, 1 Typed, 2 Bytes, 3 Handles.
     pub kind: Vec<u8>,
+    /// Each slot's type, 0 where the kind is not 1.
     pub ty: Vec<u32>,
+    /// From which byte of its data on a slot's object is visible.
     pub start: Vec<usize>,
+    /// Where each slot's data ends in the pool; it begins where that of the slot before ends.
     pub end: Vec<usize>,
+    /// How often each slot's object was written.
     pub writes: Vec<u32>,
+    /// The data of all objects, in slot order from byte 0 on.
     pub pool: Vec<u8>,
+    /// The dead slots that may be given out; the last one is next.
     pub free: Vec<u32>,
+    /// The dead slots that wait for `Heap::recycle`.
     pub quarantine: Vec<u32>,
+    /// The handles that were sealed, in slot order.
     pub sealed: Vec<u64>,
 }
 
@@ -84,11 +95,12 @@ impl Memory {
     }
 }
 
-/// Scratch: one byte and one word a slot. All of it is zero after every call that was lent enough.
+/// Scratch, which says nothing about the heap. All of it is zero after every call that was lent enough.
 #[derive(Clone, Debug, PartialEq, Eq)]
-#[allow(missing_docs)]
 pub struct Scratch {
+    /// One byte a slot, or more.
     pub marks: Vec<u8>,
+    /// One word a slot, or more.
     pub work: Vec<u64>,
 }
 
@@ -102,7 +114,13 @@ impl Scratch {
     }
 }
 
-/// A heap of objects, in memory of its own. Every call checks the heap first, so none can be misled by memory that was changed behind it.
+/// A heap of objects, in memory of its own. Every call checks the heap first, so none can be misled by memory that was changed behind it. That takes time in proportion to slots and pool:
+/// `run` does many calls with one check.
+///
+/// Every call can be refused because scratch is short (18) or the memory holds no heap (1); both cannot happen to a heap that was made by `new` or `read_page` and is changed by calls alone. What else
+/// refuses a call is said there. A refusal changes nothing, but for two counts (`alloc`, `write`) and what the lines of a script did before it (`run`).
+///
+/// Two heaps are equal if headers and memory are; scratch is left out. A heap can be sent to another thread, but not be shared between threads, because questions use its scratch.
 ///
 /// ```
 /// use yexwalu::{Heap, Kind, Refusal};
@@ -136,7 +154,8 @@ macro_rules! ask {
     ($heap:ident, $call:ident ($($between:expr),*) ($($after:expr),*)) => {{
         let m = &$heap.memory;
         let mut s = $heap.scratch.borrow_mut();
-        // The call reads the columns and writes scratch and the outputs given, each within the length that is passed with it.
+        // SAFETY: each pointer leads to as many elements as the length after it says. The call only reads the columns, though `ffi` has them as mutable for the sake of one declaration of
+        // all calls; it writes scratch and the outputs given, which are borrowed mutably here.
         unsafe {
             ffi::$call(
                 $heap.header,
@@ -167,7 +186,7 @@ macro_rules! change {
     ($memory:expr, $scratch:expr, $call:ident ($($before:expr),*) ($($between:expr),*) ($($after:expr),*)) => {{
         let m: &mut Memory = $memory;
         let s: &mut Scratch = $scratch;
-        // The call writes columns, scratch and the outputs given, each within the length that is passed with it.
+        // SAFETY: each pointer leads to as many elements as the length after it says. What the call may write, columns, scratch and the outputs given, is borrowed mutably, so none is lent twice.
         unsafe {
             ffi::$call(
                 $($before,)*
@@ -191,12 +210,35 @@ macro_rules! change {
 }
 
 impl Heap {
-    /// An empty heap of this tag with room for so many objects (1 to 16,777,216) and so many bytes of data (at most 1,073,741,824).
-    pub fn new(tag: u8, slots: usize, pool: usize) -> Result<Heap, Refusal> {
-        Heap::new_in(tag, Memory::zeros(slots, pool), Scratch::zeros(slots)).map_err(|e| e.0)
+    /// The most slots that a heap can have.
+    pub const MAX_SLOTS: usize = 16_777_216;
+
+    /// The most bytes of data that a heap can have.
+    pub const MAX_POOL: usize = 1_073_741_824;
+
+    // New memory for a heap. Sizes out of range are refused (1), and so is no memory at all: what can't be a heap is not asked for, since it may not be there.
+    fn memory_for(slots: usize, pool: usize) -> (Memory, Scratch) {
+        let good = slots <= Heap::MAX_SLOTS && pool <= Heap::MAX_POOL;
+        let (slots, pool) = if good { (slots, pool) } else { (0, 0) };
+        (Memory::zeros(slots, pool), Scratch::zeros(slots))
     }
 
-    /// An empty heap in memory that is given. After a refusal the memory comes back.
+    /// An empty heap of this tag with room for so many objects (1 to `MAX_SLOTS`) and so many bytes of data (at most `MAX_POOL`); other sizes are refused (1).
+    ///
+    /// ```
+    /// use yexwalu::{Heap, Refusal};
+    /// assert!(Heap::new(1, 64, 4096).is_ok());
+    /// assert_eq!(Heap::new(1, 0, 4096), Err(Refusal::BrokenHeap));
+    /// assert_eq!(Heap::new(1, usize::MAX, 4096), Err(Refusal::BrokenHeap));
+    /// ```
+    pub fn new(tag: u8, slots: usize, pool: usize) -> Result<Heap, Refusal> {
+        let (memory, scratch) = Heap::memory_for(slots, pool);
+        Heap::new_in(tag, memory, scratch).map_err(|e| e.0)
+    }
+
+    /// An empty heap in memory that is given, which is cleared. It must be of such sizes, its columns of one length (1). After a refusal it comes back as it was, and scratch with it.
+    // the heap of a success is no smaller
+    #[allow(clippy::result_large_err)]
     pub fn new_in(tag: u8, mut memory: Memory, mut scratch: Scratch) -> Result<Heap, (Refusal, Memory, Scratch)> {
         let done = change!(&mut memory, &mut scratch, yexwalu_new(tag)());
         match Refusal::check(done.answer.number) {
@@ -209,7 +251,7 @@ impl Heap {
         }
     }
 
-    /// A heap put together from its parts. Nothing is looked at here: every call refuses (1) where they are no heap, and (18) where scratch is short.
+    /// A heap put together from its parts. Nothing is looked at here: every call is refused where they are no heap (1) or scratch is short (18).
     pub fn from_parts(header: Header, memory: Memory, scratch: Scratch) -> Heap {
         Heap {
             header,
@@ -218,7 +260,7 @@ impl Heap {
         }
     }
 
-    /// The parts of the heap.
+    /// The parts of the heap, for `from_parts`.
     pub fn into_parts(self) -> (Header, Memory, Scratch) {
         (self.header, self.memory, self.scratch.into_inner())
     }
@@ -244,35 +286,36 @@ impl Heap {
         Ok((done.answer.first, done.answer.second))
     }
 
-    /// Places an object; the answer is its handle.
+    /// Places an object; the answer is its handle. It is refused where the pool has too few bytes left (6), or no slot is left (5); the latter still counts its bytes as used since the last
+    /// collection.
     pub fn alloc(&mut self, kind: Kind, bytes: &[u8]) -> Result<Handle, Refusal> {
         let (k, t) = kind.numbers();
         let done = change!(&mut self.memory, self.scratch.get_mut(), yexwalu_alloc(self.header)(k, t, bytes.as_ptr(), bytes.len()));
         Ok(Handle(self.done(done)?.0))
     }
 
-    /// Places an object whose visible data starts at `start`.
+    /// As `alloc`, but only the bytes from `start` on are visible. A start beyond the bytes is taken: then nothing is visible.
     pub fn alloc_from(&mut self, kind: Kind, start: usize, bytes: &[u8]) -> Result<Handle, Refusal> {
         let (k, t) = kind.numbers();
         self.alloc_raw(k, t, start, bytes)
     }
 
-    /// As `alloc_from`, with the kind as a number, which may be wrong (8).
-    pub fn alloc_raw(&mut self, kind: u8, ty: u32, start: usize, bytes: &[u8]) -> Result<Handle, Refusal> {
+    /// As `alloc_from`, with the kind as a number: 1 Typed, 2 Bytes, 3 Handles; others are refused (8). Kinds 2 and 3 ignore the type.
+    pub fn alloc_raw(&mut self, kind: u8, ty: TypeId, start: usize, bytes: &[u8]) -> Result<Handle, Refusal> {
         let done = change!(&mut self.memory, self.scratch.get_mut(), yexwalu_alloc_from(self.header)(kind, ty, start, bytes.as_ptr(), bytes.len()));
         Ok(Handle(self.done(done)?.0))
     }
 
-    /// The number of bytes of slot `i`'s object, those before its start too, as the memory has it.
+    // The number of bytes of slot `i`'s object, those before its start too. Memory that was not checked may say anything: more than the pool is no object's.
     fn size_of(&self, i: usize) -> usize {
         let end = &self.memory.end;
         match end.get(i) {
-            Some(e) => e.saturating_sub(if i == 0 { 0 } else { end[i - 1] }),
+            Some(e) => e.saturating_sub(if i == 0 { 0 } else { end[i - 1] }).min(self.memory.pool.len()),
             None => 0,
         }
     }
 
-    /// Takes an object out of the heap. Its slot goes into quarantine, until `recycle`.
+    /// Takes an object out of the heap. Its slot goes into quarantine, until `recycle`. It is refused where the handle does not lead to one (2, 3, 4).
     pub fn take(&mut self, handle: Handle) -> Result<Object, Refusal> {
         let mut bytes = vec![0; self.size_of(handle.index() as usize)];
         let (size, start) = self.take_into(handle, &mut bytes)?;
@@ -287,43 +330,66 @@ impl Heap {
         Ok((size as usize, start as usize))
     }
 
-    /// As `take`, without handing out the object.
+    /// As `take`, without handing out the object: it is gone.
     pub fn free(&mut self, handle: Handle) -> Result<(), Refusal> {
         let done = change!(&mut self.memory, self.scratch.get_mut(), yexwalu_free(self.header)(handle.0));
         self.done(done).map(|_| ())
     }
 
-    /// Slots in quarantine join the free list, but those pinned (slot indices, strictly rising).
+    /// Slots in quarantine join the free list, but those pinned: slot indices, strictly rising (14), of which some may be of no slot.
     pub fn recycle(&mut self, pins: &[u32]) -> Result<(), Refusal> {
         let done = change!(&mut self.memory, self.scratch.get_mut(), yexwalu_recycle(self.header)(pins.as_ptr(), pins.len()));
         self.done(done).map(|_| ())
     }
 
-    /// New bytes and a new start for an object; the answer is its slot.
+    /// New bytes and a new start for an object; the answer is its slot. Its handle stays. It is refused where the handle does not lead to an object (2, 3, 4) or the pool has too few bytes left (6).
+    ///
+    /// ```
+    /// use yexwalu::{Heap, Kind, Refusal};
+    /// let mut heap = Heap::new(1, 64, 4096)?;
+    /// let line = heap.alloc(Kind::Bytes, b"reverb")?;
+    /// let slot = heap.edit(line, b"reverberation", 6)?;
+    /// assert_eq!(heap.data(slot)?, b"eration");
+    /// # Ok::<(), Refusal>(())
+    /// ```
     pub fn edit(&mut self, handle: Handle, bytes: &[u8], start: usize) -> Result<u32, Refusal> {
         let done = change!(&mut self.memory, self.scratch.get_mut(), yexwalu_edit(self.header)(handle.0, bytes.as_ptr(), bytes.len(), start));
         Ok(self.done(done)?.0 as u32)
     }
 
-    /// Bytes over the visible data of a slot, from the offset `at` in it.
+    /// Bytes over the visible data of a slot, from the offset `at` in it. Bytes that are not there are refused (9); where nothing of a live slot is visible the write still counts.
+    ///
+    /// ```
+    /// use yexwalu::{Heap, Kind, Refusal};
+    /// let mut heap = Heap::new(1, 64, 4096)?;
+    /// let hall = heap.alloc_from(Kind::Bytes, 2, b"..hall")?;
+    /// let slot = heap.resolve(hall)?;
+    /// heap.write(slot, 0, b"b")?;
+    /// assert_eq!(heap.data(slot)?, b"ball");
+    /// assert_eq!(heap.write(slot, 3, b"ls"), Err(Refusal::NothingThere));
+    /// assert_eq!(heap.stamp(slot)?.writes, 1);
+    /// # Ok::<(), Refusal>(())
+    /// ```
     pub fn write(&mut self, slot: u32, at: usize, bytes: &[u8]) -> Result<(), Refusal> {
         let answer = change!(&mut self.memory, self.scratch.get_mut(), yexwalu_write(self.header)(slot as usize, at, bytes.as_ptr(), bytes.len()));
         Refusal::check(answer.number)
     }
 
-    /// A new handle for a slot, also for a dead one, whose handle then leads nowhere; `grown` is added to the bytes since the last collection.
+    /// A new handle for a slot: older ones become stale, and its writes are counted from 0 again. A dead slot takes one too, which leads nowhere. `grown` is added to the bytes since the last
+    /// collection. A slot that is not there is refused (9).
     pub fn reissue(&mut self, slot: u32, grown: u64) -> Result<Handle, Refusal> {
         let done = change!(&mut self.memory, self.scratch.get_mut(), yexwalu_reissue(self.header)(slot as usize, grown));
         Ok(Handle(self.done(done)?.0))
     }
 
-    /// The seals become the handles of all live slots.
+    /// The seals become the handles of all live slots: collections keep what these lead to.
     pub fn seal(&mut self) -> Result<(), Refusal> {
         let done = change!(&mut self.memory, self.scratch.get_mut(), yexwalu_seal(self.header)());
         self.done(done).map(|_| ())
     }
 
-    /// Drops the objects to which no chain leads from a root, a seal or a pin (slot indices, strictly rising). Where a reached object can't be traced (13) nothing changes.
+    /// Drops the objects to which no chain of handles leads from a root, a seal or a pin, then recycles as `recycle` does with these pins. Pins are slot indices, strictly rising (14); roots that lead
+    /// nowhere are skipped. It is refused where the type table is not in order (10) or a reached object can't be traced (13).
     ///
     /// ```
     /// use yexwalu::{Handle, Heap, Kind, Refusal, TypeTable};
@@ -339,15 +405,17 @@ impl Heap {
     /// # Ok::<(), Refusal>(())
     /// ```
     pub fn collect(&mut self, types: &TypeTable, roots: &[Handle], pins: &[u32]) -> Result<(), Refusal> {
-        let roots: Vec<u64> = roots.iter().map(|h| h.0).collect();
+        // a handle is its number: `repr(transparent)`
+        let numbers: *const u64 = roots.as_ptr().cast();
         let done = change!(&mut self.memory, self.scratch.get_mut(), yexwalu_collect(
             types.types.as_ptr(), types.types.len(), types.fields.as_ptr(), types.fields.len(),
             types.consts.as_ptr(), types.consts.len(), types.bytes.as_ptr(), types.bytes.len(), self.header)
-            (roots.as_ptr(), roots.len(), pins.as_ptr(), pins.len()));
+            (numbers, roots.len(), pins.as_ptr(), pins.len()));
         self.done(done).map(|_| ())
     }
 
-    /// As `collect`, from a stopped function: the roots are the registers of class `Handle` that are live at the safepoint `pc`, with one value a register, and the handles of its frame.
+    /// As `collect`, from a stopped function: the roots are the registers of class `Handle` that are live at the safepoint `pc`, by the values given, and the handles of its frame. Besides what refuses
+    /// `collect` it is refused where the function is not in order or there is not one value a register (15), where `pc` is no safepoint of a block (16), and where the frame can't be traced (13).
     ///
     /// ```
     /// use yexwalu::{Class, Function, Heap, InstKind, Kind, Refusal, TypeTable};
@@ -365,7 +433,8 @@ impl Heap {
     /// ```
     #[allow(clippy::too_many_arguments)]
     pub fn collect_joined(&mut self, types: &TypeTable, function: &Function, pc: u32, values: &[u64], map: &[FrameSlot], frame: &[u8], pins: &[u32]) -> Result<(), Refusal> {
-        self.collect_joined_with(types, function, pc, values, map, frame, pins, &mut vec![0; function.scratch_words()])
+        let function = function.within_counts();
+        self.collect_joined_with(types, &function, pc, values, map, frame, pins, &mut vec![0; function.scratch_words()])
     }
 
     /// As `collect_joined`, with lent scratch for the live map: `Function::scratch_words` at least (18).
@@ -393,8 +462,8 @@ impl Heap {
         self.done(done).map(|_| ())
     }
 
-    /// Runs a script of calls, one a line: `alloc,TYPE,KIND,HEX`, `take,HANDLE,0,`, `seal,0,0,` and `recycle,0,0,`. The heap is checked once, so this is the way to do many calls. The
-    /// first line that is refused, or is no such line (17), ends it; what the lines before it did stays.
+    /// Runs a script of calls, one a line: `alloc,TYPE,KIND,HEX`, `take,HANDLE,0,`, `seal,0,0,` and `recycle,0,0,`, each with byte 10 at its end. The heap is checked once, so this is the way to do
+    /// many calls. The first line that is refused, or is no such line (17), ends it; what the lines before it did stays.
     ///
     /// ```
     /// use yexwalu::{Heap, Refusal};
@@ -422,12 +491,13 @@ impl Heap {
         Ok(answer.first == 1)
     }
 
+    // The values of an answer. Slot indices, generations and write counts have 32 bits at most, so that casts to them cut nothing.
     fn pair(answer: ffi::Answer) -> Result<(u64, u64), Refusal> {
         Refusal::check(answer.number)?;
         Ok((answer.first, answer.second))
     }
 
-    /// Is a collection due?
+    /// Is a collection due: was more allocated since the last one than the threshold, and than it left?
     pub fn gc_due(&self, threshold: u64) -> Result<bool, Refusal> {
         Heap::yes(ask!(self, yexwalu_gc_due()(threshold)))
     }
@@ -457,30 +527,30 @@ impl Heap {
         Ok(Heap::pair(ask!(self, yexwalu_live()()))?.0 as usize)
     }
 
-    /// The slot that a handle leads to.
+    /// The slot that a handle leads to. The null handle (2), one of another heap (3) and one whose object is gone (4) are refused.
     pub fn resolve(&self, handle: Handle) -> Result<u32, Refusal> {
         Ok(Heap::pair(ask!(self, yexwalu_resolve()(handle.0)))?.0 as u32)
     }
 
-    /// Where the visible data of a slot lies in the pool.
+    /// Where the visible data of a slot lies in the pool. It is refused (9) where the slot is not there or dead, or nothing is visible.
     pub fn place(&self, slot: u32) -> Result<Range<usize>, Refusal> {
         let (from, size) = Heap::pair(ask!(self, yexwalu_data()(slot as usize)))?;
         Ok(from as usize..from as usize + size as usize)
     }
 
-    /// The visible data of a slot.
+    /// The visible data of a slot, refused as by `place`.
     pub fn data(&self, slot: u32) -> Result<&[u8], Refusal> {
         let place = self.place(slot)?;
         Ok(&self.memory.pool[place])
     }
 
-    /// The kind of a slot's object.
+    /// The kind of a slot's object; a slot that is not there or dead is refused (9).
     pub fn kind(&self, slot: u32) -> Result<Kind, Refusal> {
         let (kind, ty) = Heap::pair(ask!(self, yexwalu_kind()(slot as usize)))?;
         Ok(Kind::of(kind, ty))
     }
 
-    /// The generation and the write count of a slot.
+    /// The generation and the write count of a slot; one that is not there or dead is refused (9).
     pub fn stamp(&self, slot: u32) -> Result<Stamp, Refusal> {
         let (generation, writes) = Heap::pair(ask!(self, yexwalu_stamp()(slot as usize)))?;
         Ok(Stamp {
@@ -489,7 +559,7 @@ impl Heap {
         })
     }
 
-    /// The heap as a page of text.
+    /// The heap as a page of text, without epoch and log (docs/FORMAT.md).
     ///
     /// ```
     /// use yexwalu::{Heap, Kind, Refusal};
@@ -511,20 +581,22 @@ impl Heap {
         Ok(out)
     }
 
-    /// The heap as a page, written to the front of a lent output. The answer is the number of bytes.
+    /// As `write_page`, with the text written to the front of a lent output. The answer is the number of bytes. Too short an output is refused (7); 256 + 96 × slots + 2 × data bytes always do.
     pub fn write_page_into(&self, out: &mut [u8]) -> Result<usize, Refusal> {
         let answer = ask!(self, yexwalu_write_page(out.as_mut_ptr(), out.len())());
         Ok(Heap::pair(answer)?.0 as usize)
     }
 
-    /// The heap of a page, in new memory for so many objects and bytes of data.
+    /// The heap of a page, in new memory for so many objects and bytes of data, as `new` takes them. It is refused where the text is no page (17), what it shows is no heap or the sizes are out
+    /// of range (1), and where the heap has more data (6) or more slots (5).
     pub fn read_page(slots: usize, pool: usize, text: &[u8]) -> Result<Heap, Refusal> {
-        let mut heap = Heap::from_parts(Header::default(), Memory::zeros(slots, pool), Scratch::zeros(slots));
+        let (memory, scratch) = Heap::memory_for(slots, pool);
+        let mut heap = Heap::from_parts(Header::default(), memory, scratch);
         heap.read_page_over(text)?;
         Ok(heap)
     }
 
-    /// Reads a page into this heap's memory. What it held is not looked at, and stays after a refusal.
+    /// As `read_page`, into this heap's memory. What it held is not looked at, and stays after a refusal.
     pub fn read_page_over(&mut self, text: &[u8]) -> Result<(), Refusal> {
         let done = change!(&mut self.memory, self.scratch.get_mut(), yexwalu_read_page(self.header, text.as_ptr(), text.len())());
         self.done(done).map(|_| ())

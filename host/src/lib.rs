@@ -2,6 +2,9 @@
 //!
 //! The work is done by the archive `libyexwalu.a` (see `build.rs`). It allocates nothing: this crate owns the memory and lends it call by call.
 //!
+//! A [`Heap`] has objects, which are found by a [`Handle`]. A [`TypeTable`] says where in an object other handles stand, and a [`Function`] which registers are still needed where a run was stopped: a
+//! collection goes by both. A call that is not done says why by a [`Refusal`]: the number that document 01, "The access heap of a saved run", gives it. Numbers in parentheses are these.
+//!
 //! ```
 //! use yexwalu::{Heap, Kind, Refusal};
 //! let mut heap = Heap::new(1, 64, 4096)?;
@@ -29,3 +32,11 @@ pub use handle::Handle;
 pub use heap::{Heap, Kind, Memory, Object, Scratch, Stamp};
 pub use refusal::Refusal;
 pub use types::{descriptor, ConstId, Direction, FrameSlot, Layout, TypeId, TypeTable, NO_CONSTANT};
+
+// Answers have 64 bits, and so have sizes where the archive is compiled for: none is cut.
+const _: () = assert!(usize::BITS == 64);
+
+// The number of the next thing of a list that has so many.
+fn number(length: usize) -> u32 {
+    u32::try_from(length).expect("numbers have 32 bits")
+}

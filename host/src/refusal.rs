@@ -1,6 +1,7 @@
 use std::fmt;
 
-/// Why a call was not done: a row of document 01's table.
+/// Why a call was not done: a row of document 01's table, by its number and its word. Where several would refuse a call, 18 comes first, then 17, 1, 10, 15, 8, 14, 16, 2, 3, 4, 9, 6, 5, then 11 or 12 as met,
+/// 13 and 7.
 ///
 /// ```
 /// use yexwalu::Refusal;
@@ -10,41 +11,41 @@ use std::fmt;
 /// ```
 #[derive(Clone, Copy, Debug, PartialEq, Eq, PartialOrd, Ord, Hash)]
 pub enum Refusal {
-    /// The heap is not well formed.
+    /// 1, broken heap: the heap is not well formed.
     BrokenHeap = 1,
-    /// The handle 0.
+    /// 2, null: the handle 0.
     Null = 2,
-    /// A handle of another heap.
+    /// 3, wrong heap: a handle of another heap.
     WrongHeap = 3,
-    /// No such slot, a dead slot, or another generation.
+    /// 4, stale: no such slot, a dead slot, or another generation.
     Stale = 4,
-    /// The free list is empty and every slot is in use.
+    /// 5, full: the free list is empty and every slot is in use, or a page has more slots.
     Full = 5,
-    /// Live data would exceed the pool.
+    /// 6, no room: live data after the call would exceed the pool.
     NoRoom = 6,
-    /// A lent output is too short.
+    /// 7, short list: a lent output is too short.
     ShortList = 7,
-    /// Not a kind of object.
+    /// 8, kind: not a kind of object.
     Kind = 8,
-    /// No such slot, or no such visible bytes.
+    /// 9, nothing there: no such slot, or no such visible bytes.
     NothingThere = 9,
-    /// The type table is not in order.
+    /// 10, type table: the type table is not in order.
     TypeTable = 10,
-    /// A descriptor or type that has no layout.
+    /// 11, malformed: a descriptor or type that has no layout.
     Malformed = 11,
-    /// A layout past 64 bits.
+    /// 12, too large: a layout past 64 bits.
     TooLarge = 12,
-    /// A value or a frame that can't be traced.
+    /// 13, untraceable: a value or a frame that can't be traced.
     Untraceable = 13,
-    /// Pins that do not rise strictly.
+    /// 14, pins: pins that do not rise strictly.
     Pins = 14,
-    /// The function's code is not in order.
+    /// 15, function: the function's code is not in order.
     Function = 15,
-    /// Not a safepoint inside a block.
+    /// 16, no map: not a safepoint inside a block.
     NoMap = 16,
-    /// Not a page.
+    /// 17, page: not a page, or not a line of a script.
     Page = 17,
-    /// Too little scratch.
+    /// 18, scratch: too little scratch.
     Scratch = 18,
 }
 
@@ -82,7 +83,7 @@ impl Refusal {
         ALL[self as usize - 1].1
     }
 
-    /// The refusal of a number; none for 0 and for numbers that no call answers.
+    /// The refusal of a number; none for 0, which is success, and for numbers that no call answers.
     pub fn from_number(number: u64) -> Option<Refusal> {
         ALL.iter().map(|row| row.0).find(|r| r.number() == number)
     }

@@ -1,5 +1,5 @@
 use crate::ffi;
-use crate::{Handle, Refusal};
+use crate::{number, Handle, Refusal};
 
 /// A type's number in its table.
 pub type TypeId = u32;
@@ -10,7 +10,11 @@ pub type ConstId = u32;
 /// No constant: the value brings its own descriptor.
 pub const NO_CONSTANT: ConstId = u32::MAX;
 
-/// The types of a saved run, and the constants that describe fields and elements.
+/// The types of a saved run, and the constants that describe fields and elements. A type may name one that comes later; where it names one that is not there, its layout is malformed (11) and
+/// its values can't be traced (13). At most 4,096 types, 16,384 fields and 4,096 constants; a type may not unfold into more than 65,536 parts. What is not so is refused (10) when the table is used,
+/// not before.
+///
+/// The methods that add something panic past 4,294,967,295 of its sort: there would be no number for it.
 ///
 /// ```
 /// use yexwalu::{TypeTable, Refusal, descriptor, Direction};
@@ -28,18 +32,19 @@ pub const NO_CONSTANT: ConstId = u32::MAX;
 /// ```
 #[derive(Clone, Debug, Default, PartialEq, Eq)]
 pub struct TypeTable {
-    /// Four words a type.
+    /// Four words a type: its class, then what the class has. 0 Int: lo, hi; 1 Physical; 2 Enum: literals, logic; 3 Real; 4 Array: element's type, its constant or `NO_CONSTANT`, dimensions; 5 Record:
+    /// first field, number of fields; 6 Access; 7 File; 8 Protected. Words that are left over are not looked at.
     pub types: Vec<u64>,
-    /// Two words a field of a record.
+    /// Two words a field of a record: its type, and the constant that describes it or `NO_CONSTANT`.
     pub fields: Vec<u32>,
-    /// Three words a constant.
+    /// Three words a constant: 1 if it is plain bytes, else 0; from where on in `bytes`; how many.
     pub consts: Vec<u64>,
     /// The bytes of the constants.
     pub bytes: Vec<u8>,
 }
 
 /// Which way an array's index goes.
-#[derive(Clone, Copy, Debug, PartialEq, Eq)]
+#[derive(Clone, Copy, Debug, PartialEq, Eq, Hash)]
 pub enum Direction {
     /// Rising.
     To,
@@ -47,7 +52,7 @@ pub enum Direction {
     Downto,
 }
 
-/// The descriptor bytes of dimensions: left, right and direction of each.
+/// The descriptor bytes of dimensions: left, right and direction of each, three signed little-endian words.
 pub fn descriptor(dimensions: &[(i64, i64, Direction)]) -> Vec<u8> {
     let mut bytes = Vec::new();
     for (left, right, direction) in dimensions {
@@ -58,7 +63,7 @@ pub fn descriptor(dimensions: &[(i64, i64, Direction)]) -> Vec<u8> {
     bytes
 }
 
-/// A layout.
+/// Where the parts of a value lie.
 #[derive(Clone, Debug, PartialEq, Eq)]
 pub struct Layout {
     /// Bytes of a value.
@@ -67,7 +72,7 @@ pub struct Layout {
     pub align: u64,
     /// Bytes from one element of an array to the next; 0 for other types and packed logic.
     pub stride: u64,
-    /// Elements of an array; 1 for other types.
+    /// Elements of an array in all its dimensions, of packed logic the positions; 1 for other types.
     pub count: u64,
     /// Bytes of the descriptor that were used.
     pub used: usize,
@@ -76,17 +81,32 @@ pub struct Layout {
 }
 
 /// One entry of a frame map.
-#[derive(Clone, Copy, Debug, PartialEq, Eq)]
+#[derive(Clone, Copy, Debug, PartialEq, Eq, Hash)]
 pub struct FrameSlot {
     /// Where it lies in the frame's memory.
     pub offset: u32,
-    /// What it holds: 0 a handle, 1 an address, 2 a composite.
+    /// What it holds: 0 a handle, 1 an address, 2 a composite; others are refused (13).
     pub kind: u8,
-    /// The type of a composite.
+    /// The type of a composite; not looked at for others.
     pub ty: TypeId,
 }
 
 impl FrameSlot {
+    /// A handle at this offset.
+    pub fn handle(offset: u32) -> FrameSlot {
+        FrameSlot { offset, kind: 0, ty: 0 }
+    }
+
+    /// An address at this offset.
+    pub fn address(offset: u32) -> FrameSlot {
+        FrameSlot { offset, kind: 1, ty: 0 }
+    }
+
+    /// A value of this type at this offset.
+    pub fn composite(offset: u32, ty: TypeId) -> FrameSlot {
+        FrameSlot { offset, kind: 2, ty }
+    }
+
     // A map as the calls take it: offsets, kinds and types.
     pub(crate) fn columns(map: &[FrameSlot]) -> (Vec<u32>, Vec<u8>, Vec<u32>) {
         (map.iter().map(|s| s.offset).collect(), map.iter().map(|s| s.kind).collect(), map.iter().map(|s| s.ty).collect())
@@ -95,7 +115,7 @@ impl FrameSlot {
 
 macro_rules! on_table {
     ($table:ident, $call:ident ($($after:expr),*)) => {
-        // The call reads the table and writes the outputs given, each within the length that is passed with it.
+        // SAFETY: each pointer leads to as many elements as the length after it says. What the call writes, the outputs given, is borrowed mutably.
         unsafe {
             ffi::$call(
                 $table.types.as_ptr(), $table.types.len(),
@@ -115,12 +135,14 @@ impl TypeTable {
     }
 
     fn add(&mut self, row: [u64; 4]) -> TypeId {
+        let ty = number(self.types.len() / 4);
         self.types.extend_from_slice(&row);
-        (self.types.len() / 4 - 1) as TypeId
+        ty
     }
 
     /// Whole numbers from `lo` to `hi`.
     pub fn integer(&mut self, lo: i64, hi: i64) -> TypeId {
+        // words of the table have 64 bits; a class says which are signed
         self.add([0, lo as u64, hi as u64, 0])
     }
 
@@ -129,7 +151,7 @@ impl TypeTable {
         self.add([1, 0, 0, 0])
     }
 
-    /// So many literals; `logic` is 0, or 1 to 3 for a logic type.
+    /// An enumeration of so many literals; `logic` is 1 for std_ulogic, 2 for bit, 3 for boolean, and 0 for others. Arrays of logic are packed.
     pub fn enumeration(&mut self, literals: u64, logic: u64) -> TypeId {
         self.add([2, literals, logic, 0])
     }
@@ -139,12 +161,12 @@ impl TypeTable {
         self.add([3, 0, 0, 0])
     }
 
-    /// An array of so many dimensions; `elem_desc` describes an element that needs it.
+    /// An array of so many dimensions. An element that needs a descriptor has that of the constant; without one it is described after the dimensions.
     pub fn array(&mut self, elem: TypeId, elem_desc: Option<ConstId>, dims: u8) -> TypeId {
         self.add([4, elem.into(), elem_desc.unwrap_or(NO_CONSTANT).into(), dims.into()])
     }
 
-    /// A record of these fields, each with the constant that describes it, if it has one.
+    /// A record of these fields. A field that needs a descriptor has that of the constant; without one it is described in the record's descriptor, in the order of fields.
     pub fn record(&mut self, fields: &[(TypeId, Option<ConstId>)]) -> TypeId {
         let first = self.fields.len() / 2;
         for (ty, desc) in fields {
@@ -168,20 +190,26 @@ impl TypeTable {
         self.add([8, 0, 0, 0])
     }
 
-    /// A constant of plain bytes.
+    fn add_constant(&mut self, row: [u64; 3]) -> ConstId {
+        let constant = number(self.consts.len() / 3);
+        self.consts.extend_from_slice(&row);
+        constant
+    }
+
+    /// A constant of plain bytes, such as `descriptor` gives them.
     pub fn constant(&mut self, bytes: &[u8]) -> ConstId {
-        self.consts.extend_from_slice(&[1, self.bytes.len() as u64, bytes.len() as u64]);
+        let constant = self.add_constant([1, self.bytes.len() as u64, bytes.len() as u64]);
         self.bytes.extend_from_slice(bytes);
-        (self.consts.len() / 3 - 1) as ConstId
+        constant
     }
 
-    /// A constant that is not plain bytes.
+    /// A constant that is not plain bytes: in a layout it is malformed.
     pub fn other_constant(&mut self) -> ConstId {
-        self.consts.extend_from_slice(&[0, 0, 0]);
-        (self.consts.len() / 3 - 1) as ConstId
+        self.add_constant([0, 0, 0])
     }
 
-    /// The layout of a type under a descriptor.
+    /// The layout of a type under a descriptor, of which the front is used. It is refused where the table is not in order (10), and where type or descriptor are malformed (11) or the size is past 64
+    /// bits (12).
     pub fn layout(&self, ty: TypeId, desc: &[u8]) -> Result<Layout, Refusal> {
         // no record has more fields than the table
         let mut offsets = vec![0; self.fields.len() / 2];
@@ -197,7 +225,7 @@ impl TypeTable {
         })
     }
 
-    /// As `layout`, with the offsets written to the front of a lent list.
+    /// As `layout`, with the offsets written to the front of a lent list; `offsets` of the answer is how many. Too short a list is refused (7).
     pub fn layout_into(&self, ty: TypeId, desc: &[u8], offsets: &mut [u64]) -> Result<ffi::RawLayout, Refusal> {
         let layout = on_table!(self, yexwalu_layout(ty.into(), desc.as_ptr(), desc.len(), offsets.as_mut_ptr(), offsets.len()));
         Refusal::check(layout.number)?;
@@ -211,14 +239,14 @@ impl TypeTable {
         Ok(answer.first)
     }
 
-    /// Can values of the type hold handles?
+    /// Can values of the type hold handles? A type that is missing, or deeper than 64 levels, counts as one that can.
     pub fn has_handles(&self, ty: TypeId) -> Result<bool, Refusal> {
         let answer = on_table!(self, yexwalu_has_handles(ty.into()));
         Refusal::check(answer.number)?;
         Ok(answer.first == 1)
     }
 
-    // Eight bytes a handle, but composites of a frame may overlap: where the first try is too short, the room is doubled.
+    // A handle takes eight bytes, but composites of a frame may overlap: where the first try is too short, the room is doubled.
     fn listed(mut room: usize, mut call: impl FnMut(&mut [u64]) -> Result<usize, Refusal>) -> Result<Vec<Handle>, Refusal> {
         loop {
             let mut out = vec![0; room];
@@ -230,7 +258,7 @@ impl TypeTable {
         }
     }
 
-    /// The handles of an object's visible data: its descriptor, then its value.
+    /// The handles of an object's visible data: its descriptor, then its value. It is refused where the table is not in order (10) or the data can't be traced (13). Data beyond the value is not looked at.
     ///
     /// ```
     /// use yexwalu::{descriptor, Direction, Handle, Refusal, TypeTable};
@@ -247,26 +275,26 @@ impl TypeTable {
         TypeTable::listed(data.len() / 8, |out| self.object_handles_into(ty, data, out))
     }
 
-    /// As `object_handles`, with the handles written to the front of a lent list. The answer is how many.
+    /// As `object_handles`, with the handles written to the front of a lent list (7). The answer is how many.
     pub fn object_handles_into(&self, ty: TypeId, data: &[u8], out: &mut [u64]) -> Result<usize, Refusal> {
         let answer = on_table!(self, yexwalu_object_handles(ty.into(), data.as_ptr(), data.len(), out.as_mut_ptr(), out.len()));
         Refusal::check(answer.number)?;
         Ok(answer.first as usize)
     }
 
-    /// The handles of a value of a type that needs no descriptor.
+    /// The handles of a value of a type that needs no descriptor, refused as by `object_handles`.
     pub fn value_handles(&self, ty: TypeId, data: &[u8]) -> Result<Vec<Handle>, Refusal> {
         TypeTable::listed(data.len() / 8, |out| self.value_handles_into(ty, data, out))
     }
 
-    /// As `value_handles`, with the handles written to the front of a lent list. The answer is how many.
+    /// As `value_handles`, with the handles written to the front of a lent list (7). The answer is how many.
     pub fn value_handles_into(&self, ty: TypeId, data: &[u8], out: &mut [u64]) -> Result<usize, Refusal> {
         let answer = on_table!(self, yexwalu_value_handles(ty.into(), data.as_ptr(), data.len(), out.as_mut_ptr(), out.len()));
         Refusal::check(answer.number)?;
         Ok(answer.first as usize)
     }
 
-    /// The handles and the addresses of a frame's memory by its map.
+    /// The handles and the addresses of a frame's memory by its map. It is refused where the table is not in order (10), or an entry lies beyond the memory or can't be traced (13).
     ///
     /// ```
     /// use yexwalu::{FrameSlot, Handle, Refusal, TypeTable};
@@ -274,7 +302,7 @@ impl TypeTable {
     /// let access = table.access();
     /// let pair = table.record(&[(access, None), (access, None)]);
     /// let memory: Vec<u8> = [10u64, 11, 12].iter().flat_map(|x| x.to_le_bytes()).collect();
-    /// let map = [FrameSlot { offset: 0, kind: 1, ty: 0 }, FrameSlot { offset: 8, kind: 2, ty: pair }];
+    /// let map = [FrameSlot::address(0), FrameSlot::composite(8, pair)];
     /// assert_eq!(table.slot_roots(&map, &memory)?, (vec![Handle(11), Handle(12)], vec![10]));
     /// assert_eq!(table.slot_roots(&map, &memory[..23]), Err(Refusal::Untraceable));
     /// # Ok::<(), Refusal>(())
@@ -291,7 +319,7 @@ impl TypeTable {
         Ok((handles, addresses))
     }
 
-    /// As `slot_roots`, with the handles and the addresses written to the front of lent lists. The answer is how many of each.
+    /// As `slot_roots`, with the handles and the addresses written to the front of lent lists (7). The answer is how many of each.
     pub fn slot_roots_into(&self, map: &[FrameSlot], memory: &[u8], handles: &mut [u64], addresses: &mut [u64]) -> Result<(usize, usize), Refusal> {
         let (offsets, kinds, tys) = FrameSlot::columns(map);
         let answer = on_table!(self, yexwalu_slot_roots(

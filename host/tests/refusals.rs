@@ -199,6 +199,32 @@ fn new_takes_1_to_16777216_slots() {
 }
 
 #[test]
+fn sizes_that_no_heap_has_are_1() {
+    let page = sample(8, 64).0.write_page().unwrap();
+    for (slots, pool) in [(0, 64), (Heap::MAX_SLOTS + 1, 64), (usize::MAX, 64), (8, Heap::MAX_POOL + 1), (8, usize::MAX), (usize::MAX, usize::MAX)] {
+        assert_eq!(Heap::new(1, slots, pool), Err(Refusal::BrokenHeap));
+        assert_eq!(Heap::read_page(slots, pool, &page), Err(Refusal::BrokenHeap));
+        assert_eq!(Heap::read_page(slots, pool, &page[1..]), Err(Refusal::Page));
+    }
+}
+
+#[test]
+fn an_object_beyond_all_memory_is_1() {
+    let (header, memory, scratch) = sample(8, 64).0.into_parts();
+    for i in 0..8 {
+        for end in [65, 1 << 40, usize::MAX] {
+            let mut bad = memory.clone();
+            bad.end[i] = end;
+            let mut heap = Heap::from_parts(header, bad, scratch.clone());
+            for slot in 0..10 {
+                assert_eq!(heap.take(Handle(7 << 56 | slot << 32 | 1)), Err(Refusal::BrokenHeap));
+            }
+            assert_eq!(heap.write_page(), Err(Refusal::BrokenHeap));
+        }
+    }
+}
+
+#[test]
 fn outputs_one_short_are_7() {
     let (mut heap, all) = sample(8, 64);
     let page = heap.write_page().unwrap();
@@ -304,7 +330,7 @@ fn types_and_their_outputs() {
 fn frames_and_their_outputs() {
     let (table, pair, _) = handles();
     let memory = words(1..6);
-    let map = [FrameSlot { offset: 0, kind: 0, ty: 0 }, FrameSlot { offset: 8, kind: 1, ty: 0 }, FrameSlot { offset: 16, kind: 2, ty: pair }, FrameSlot { offset: 32, kind: 1, ty: 0 }];
+    let map = [FrameSlot::handle(0), FrameSlot::address(8), FrameSlot::composite(16, pair), FrameSlot::address(32)];
     let (mut found, mut addresses) = ([9; 4], [9; 3]);
     assert_eq!(table.slot_roots_into(&map, &memory, &mut found[..2], &mut addresses), Err(Refusal::ShortList));
     assert_eq!(table.slot_roots_into(&map, &memory, &mut found, &mut addresses[..1]), Err(Refusal::ShortList));
@@ -392,6 +418,34 @@ fn a_function_one_short_is_15() {
     f.classes.pop();
     assert_eq!(joined(&f, &[0, 0]), Err(Refusal::Function));
     assert_eq!(joined(&f, &[0]), Ok(()));
+}
+
+// Scratch for such a function would not fit into any memory: it is refused before it is asked for.
+#[test]
+fn a_function_past_the_counts_is_15() {
+    let mut f = stopped();
+    f.classes.resize(1 << 24, 0);
+    f.blocks.resize(1 << 24, 0);
+    assert_eq!(f.live_at(1, Wanted::All), Err(Refusal::Function));
+    assert_eq!(f.live_refs(Wanted::All), Err(Refusal::Function));
+    assert_eq!(f.live_at_into(1, Wanted::All, &mut [0; 64], &mut []), Err(Refusal::Scratch));
+    let (heap, _) = sample(8, 64);
+    let joined = |heap: &Heap, table: &TypeTable| heap.clone().collect_joined(table, &f, 1, &[], &[], &[], &[2, 1]);
+    assert_eq!(joined(&heap, &plain()), Err(Refusal::Function));
+    // what comes first is still told first
+    assert_eq!(joined(&heap, &cut_tables()[0]), Err(Refusal::TypeTable));
+    let (header, memory, scratch) = heap.into_parts();
+    assert_eq!(joined(&Heap::from_parts(Header { tag: 8, ..header }, memory, scratch), &plain()), Err(Refusal::BrokenHeap));
+    // the counts themselves are taken
+    let mut f = stopped();
+    f.classes.resize(16384, 0);
+    f.blocks.resize(2 * 4096, 0);
+    assert_eq!(f.live_at(1, Wanted::References), Ok(vec![0, 1]));
+    f.classes.push(0);
+    assert_eq!(f.live_at(1, Wanted::References), Err(Refusal::Function));
+    f.classes.pop();
+    f.blocks.extend([0, 0]);
+    assert_eq!(f.live_refs(Wanted::References), Err(Refusal::Function));
 }
 
 #[test]

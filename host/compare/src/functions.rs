@@ -77,8 +77,8 @@ fn place_in(random: &mut Random, f: &Function) -> u32 {
 
 #[test]
 fn random_functions_answer_as_the_rust() {
-    let Some(mut oracle) = Oracle::start() else { return };
-    for seed in seeds(500) {
+    let mut oracle = Oracle::new();
+    for seed in seeds(2500) {
         let mut random = Random::new(seed ^ 2 << 32);
         let f = function(&mut random, &mut oracle);
         for (all, wanted) in [(0, Wanted::References), (1, Wanted::All)] {
@@ -99,8 +99,8 @@ fn random_functions_answer_as_the_rust() {
 
 #[test]
 fn random_joined_collections_answer_as_the_rust() {
-    let Some(mut oracle) = Oracle::start() else { return };
-    for seed in seeds(400) {
+    let mut oracle = Oracle::new();
+    for seed in seeds(2000) {
         let mut random = Random::new(seed ^ 3 << 32);
         let table = table(&mut random, &mut oracle);
         let f = function(&mut random, &mut oracle);

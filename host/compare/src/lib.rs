@@ -1,57 +1,67 @@
-//! Random calls held against the Rust that this repository ports, which answers over a pipe (oracle/README.md). YEXWALU_ORACLE names the built oracle; without it these tests say so
-//! and pass. Seeds are fixed; YEXWALU_TIMES makes them more. What docs/DIFFERENCES.md names is kept out: long walks over elements of no size, aligning past 64 bits, pins that do not rise, blocks that share an
+//! Random calls held against the Rust that this repository ports, which runs in the same process (oracle/README.md): ORACLE_SRC names the checkout of yavs that it is built from. Seeds are
+//! fixed; YEXWALU_TIMES makes them more. What docs/DIFFERENCES.md names is kept out: long walks over elements of no size, aligning past 64 bits, pins that do not rise, blocks that share an
 //! instruction, and slots to reissue that are not there. Pools are large enough, since the Rust has none.
-#[path = "../common/mod.rs"]
+#![cfg(test)]
+#[path = "../../tests/common/mod.rs"]
 mod common;
 mod functions;
 mod heap;
 mod tables;
 use std::collections::BTreeMap;
-use std::io::{BufRead, BufReader, Write};
-use std::process::{Child, ChildStdin, ChildStdout, Command, Stdio};
+use std::io::{self, Write};
+use std::sync::{Arc, Mutex};
+use std::time::{Duration, Instant};
+use std::{process, thread};
+use yavs_interp::Machine;
 use yexwalu::Refusal;
 
+// A line that the Rust is at, and since when.
+type At = Arc<Mutex<Option<(Instant, String)>>>;
+
+/// The Rust, as one test talks to it. Each test has its own.
 struct Oracle {
-    child: Child,
-    ask: ChildStdin,
-    answers: BufReader<ChildStdout>,
+    machine: Machine,
+    at: At,
     /// How often each command had each number for an answer.
     told: BTreeMap<(String, String), u32>,
 }
 
 impl Oracle {
-    fn start() -> Option<Oracle> {
-        let Some(path) = std::env::var_os("YEXWALU_ORACLE") else {
-            println!("YEXWALU_ORACLE is not set: nothing was compared");
-            return None;
-        };
-        let mut child = Command::new(path)
-            .env("ORACLE_FLUSH", "1")
-            .stdin(Stdio::piped())
-            .stdout(Stdio::piped())
-            .spawn()
-            .expect("the oracle starts");
-        let ask = child.stdin.take().unwrap();
-        let answers = BufReader::new(child.stdout.take().unwrap());
-        Some(Oracle { child, ask, answers, told: BTreeMap::new() })
+    fn new() -> Oracle {
+        let at = At::default();
+        // The Rust need not end, and no thread can be ended from outside: the process is. What a thread prints is kept until its test ends, but not what is written to standard error.
+        let watched = Arc::downgrade(&at);
+        thread::spawn(move || {
+            while let Some(at) = watched.upgrade() {
+                if let Some((since, line)) = &*at.lock().unwrap() {
+                    if since.elapsed() > Duration::from_secs(30) {
+                        let _ = writeln!(io::stderr(), "the Rust does not end: {line}");
+                        process::exit(3);
+                    }
+                }
+                drop(at);
+                thread::sleep(Duration::from_secs(1));
+            }
+        });
+        Oracle { machine: Machine::new(), at, told: BTreeMap::new() }
     }
 
-    fn ask(&mut self, line: &str) -> String {
-        writeln!(self.ask, "{line}").unwrap();
-        let mut answer = String::new();
-        self.answers.read_line(&mut answer).unwrap();
-        answer.trim_end().to_string()
+    fn answer(&mut self, line: &str) -> String {
+        *self.at.lock().unwrap() = Some((Instant::now(), line.into()));
+        let answer = self.machine.answer(line);
+        *self.at.lock().unwrap() = None;
+        answer
     }
 
     /// Gives the oracle something to work on.
     fn set(&mut self, line: &str) {
-        let answer = self.ask(line);
+        let answer = self.answer(line);
         assert!(answer == "0" || answer.starts_with("0 "), "{line}: {answer}");
     }
 
     /// The oracle's answer to a call is the one given. On 13 the Rust leaves what it had pushed, which is not compared.
     fn agrees(&mut self, line: &str, here: &str, place: &str) {
-        let answer = self.ask(line);
+        let answer = self.answer(line);
         let there = if answer.starts_with("13 ") { "13" } else { &answer };
         assert_eq!(there, here, "{place}: {line}");
         let first = |s: &str| s.split(' ').next().unwrap().to_string();
@@ -63,15 +73,8 @@ impl Oracle {
         let seen: Vec<(&str, &str)> = self.told.keys().map(|(c, n)| (c.as_str(), n.as_str())).collect();
         let mut all: Vec<(&str, &str)> = commands.iter().flat_map(|(c, numbers)| numbers.iter().map(|n| (*c, *n))).collect();
         all.sort();
-        println!("{:?}", self.told);
+        println!("{} calls: {:?}", self.told.values().sum::<u32>(), self.told);
         assert_eq!(seen, all);
-    }
-}
-
-impl Drop for Oracle {
-    fn drop(&mut self) {
-        let _ = self.child.kill();
-        let _ = self.child.wait();
     }
 }
 

@@ -276,8 +276,8 @@ fn traces(random: &mut Random, oracle: &mut Oracle, table: &TypeTable, place: &s
 
 #[test]
 fn random_types_answer_as_the_rust() {
-    let Some(mut oracle) = Oracle::start() else { return };
-    for seed in seeds(400) {
+    let mut oracle = Oracle::new();
+    for seed in seeds(2000) {
         let mut random = Random::new(seed);
         let table = table(&mut random, &mut oracle);
         for step in 0..12 {
@@ -362,8 +362,8 @@ pub fn same(oracle: &mut Oracle, heap: &Heap, place: &str) {
 
 #[test]
 fn random_collections_answer_as_the_rust() {
-    let Some(mut oracle) = Oracle::start() else { return };
-    for seed in seeds(400) {
+    let mut oracle = Oracle::new();
+    for seed in seeds(2000) {
         let mut random = Random::new(seed ^ 1 << 32);
         let table = table(&mut random, &mut oracle);
         let (mut heap, handles) = filled(&mut random, &mut oracle, &table, &format!("seed {seed}"));

@@ -106,7 +106,9 @@ impl Run {
                 let yes = |b: bool| u8::from(b).to_string();
                 match self.random.below(5) {
                     0 => {
-                        let n = self.random.below(2000);
+                        // at the bound and next to it, or anywhere
+                        let since = self.heap.header().since_gc;
+                        let n = [since, since.saturating_sub(1), self.random.below(2000)][self.random.below(3) as usize];
                         (format!("gcdue {n}"), told(self.heap.gc_due(n), yes))
                     }
                     1 => ("reclaimdue".into(), told(self.heap.reclaim_due(), yes)),
@@ -139,8 +141,8 @@ fn types(oracle: &mut Oracle) -> TypeTable {
 
 #[test]
 fn random_calls_answer_as_the_rust() {
-    let Some(mut oracle) = Oracle::start() else { return };
-    for seed in seeds(40) {
+    let mut oracle = Oracle::new();
+    for seed in seeds(200) {
         let slots = 1 + seed as usize % 33;
         let mut run = Run {
             table: types(&mut oracle),
@@ -155,4 +157,65 @@ fn random_calls_answer_as_the_rust() {
         }
         same(&mut oracle, &run.heap, &format!("seed {seed}"));
     }
+    let found = &["0", "2", "3", "4"];
+    oracle.saw(&[
+        ("alloc", &["0", "5"]),
+        ("take", found),
+        ("free", found),
+        ("edit", found),
+        ("write", &["0", "9"]),
+        ("reissue", &["0"]),
+        ("recycle", &["0"]),
+        ("seal", &["0"]),
+        ("resolve", found),
+        ("data", &["0", "9"]),
+        ("kind", &["0", "9"]),
+        ("stamp", &["0", "9"]),
+        ("collect", &["0", "13"]),
+        ("gcdue", &["0"]),
+        ("reclaimdue", &["0"]),
+        ("hasquarantine", &["0"]),
+        ("isplain", &["0"]),
+        ("slots", &["0"]),
+        ("page", &["0"]),
+        ("epoch", &["0"]),
+    ]);
+}
+
+// The handles of all live slots.
+fn live(heap: &Heap) -> Vec<Handle> {
+    let (header, memory) = (heap.header(), heap.memory());
+    let handle = |i: usize| Handle(u64::from(header.tag) << 56 | (i as u64) << 32 | u64::from(memory.generation[i]));
+    (0..header.slots).filter(|i| memory.kind[*i] != 0).map(handle).collect()
+}
+
+// Places so many objects and releases the first so many live ones, here by scripts: each single call would check the whole heap. Then both say whether to recycle.
+fn reclaim(oracle: &mut Oracle, heap: &mut Heap, placed: usize, released: usize) -> bool {
+    let place = format!("{placed} placed, {released} released");
+    heap.run("alloc,0,2,\n".repeat(placed).as_bytes()).unwrap();
+    oracle.set(&format!("fill {placed}"));
+    let handles = &live(heap)[..released];
+    let script: String = handles.iter().map(|h| format!("take,{h},0,\n")).collect();
+    heap.run(script.as_bytes()).unwrap();
+    handles.iter().for_each(|h| oracle.set(&format!("free {h}")));
+    let due = heap.reclaim_due().unwrap();
+    oracle.agrees("reclaimdue", &format!("0 {}", u8::from(due)), &place);
+    same(oracle, heap, &place);
+    due
+}
+
+// As many slots in quarantine as make `reclaim_due` say yes, and as many pinned as move its bound. Random heaps are too small for either.
+#[test]
+fn a_large_quarantine_answers_as_the_rust() {
+    let mut oracle = Oracle::new();
+    let mut heap = Heap::new(9, 4301, 0).unwrap();
+    oracle.set("new 9 4301");
+    assert!(!reclaim(&mut oracle, &mut heap, 4300, 4095));
+    assert!(reclaim(&mut oracle, &mut heap, 1, 1));
+    let pins: Vec<u32> = (0..2100).collect();
+    oracle.agrees(&format!("recycle {}", list(&pins)), &told(heap.recycle(&pins), |()| String::new()), "2100 pinned");
+    // twice what was kept
+    assert!(!reclaim(&mut oracle, &mut heap, 1995, 2099));
+    assert!(reclaim(&mut oracle, &mut heap, 1, 1));
+    oracle.saw(&[("reclaimdue", &["0"]), ("recycle", &["0"]), ("page", &["0"]), ("epoch", &["0"])]);
 }
