@@ -97,7 +97,10 @@ def shorter(line):
     parts = line.split(" ")
     for k in range(1, len(parts)):
         f, small = parts[k], []
-        if "," in f and ";" not in f:
+        if parts[0] == "run" and f.endswith(";"):
+            calls = f.split(";")[:-1]
+            small = ["".join(x + ";" for x in calls[:j] + calls[j + 1 :]) or "-" for j in range(len(calls))]
+        elif "," in f and ";" not in f:
             items = f.split(",")
             small = [",".join(items[:j] + items[j + 1 :]) for j in range(len(items))]
         elif f.isdecimal() and len(f) < 21 and f not in ("0", "1"):
@@ -162,7 +165,7 @@ def seeds(text):
 
 HEAP = set(
     "new load setepoch alloc fill edit write reissue take free recycle seal gcdue reclaimdue hasquarantine isplain "
-    "resolve data kind stamp slots page epoch".split()
+    "run resolve data kind stamp slots page epoch".split()
 )
 
 

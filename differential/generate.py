@@ -233,6 +233,12 @@ class Writer:
             row.sure = (self.version, self.table.object_compared(row.type, row.visible()))
         return row.sure[1]
 
+    def takes(self, row):
+        """May the heap have this object? Where nothing is wild, every object can be traced."""
+        if not self.sure(row):
+            return False
+        return row.kind != 1 or self.wild or self.number(f"objh {row.type} {show_hex(row.visible())}") == 0
+
     # ---- the heap
 
     def new(self):
@@ -308,7 +314,7 @@ class Writer:
             g, k, t, start, _, data = line.split(",")
             rows.append(Row(int(g), int(k), int(t), int(start), bytes.fromhex(data) if k != "0" else None))
         for i, s in enumerate(self.rows):
-            if i < len(rows) and s.data is not None and rows[i].data is None:
+            if i < len(rows) and s.data is not None and rows[i].generation != s.generation:
                 self.forget(self.tag << 56 | i << 32 | s.generation)
             elif i < len(rows) and rows[i].data == s.data and rows[i].type == s.type:
                 rows[i].sure = s.sure
@@ -341,9 +347,7 @@ class Writer:
         if not self.size(len(data)) or len(data) * 2 > self.limits.line - 100:
             return None
         row = Row(0, kind, t if kind == 1 else 0, start, data)
-        if not self.sure(row):
-            return None
-        if kind == 1 and not self.wild and self.number(f"objh {t} {show_hex(row.visible())}") != 0:
+        if not self.takes(row):
             return None
         a = self.do(f"alloc {kind} {t} {start} {show_hex(data)}").split(" ")
         if a[0] != "0":
@@ -425,6 +429,18 @@ class Writer:
         self.do("recycle " + show_list(pins))
         self.free += [i for i in self.quarantine if i not in pins]
         self.quarantine = [i for i in self.quarantine if i in pins]
+
+    def run(self):
+        """A script of calls in one line; the page then says what it left, also where it was refused on the way."""
+        script = Script(self)
+        if self.chance(0.06):
+            # More objects than there are slots.
+            for _ in range(self.S + 1):
+                script.alloc(2, 0, b"")
+        for _ in range(self.r.randint(0, 8)):
+            getattr(script, self.pick((6, "any_alloc"), (5, "any_take"), (1, "seal"), (1, "recycle")))()
+        self.do("run " + ("".join(x + ";" for x in script.lines) or "-"))
+        self.page()
 
     def ask_heap(self):
         how = self.r.choice(["gcdue", "resolve", "resolve", "data", "data", "kind", "stamp", "stamp", "isplain", "slots", "reclaimdue", "hasquarantine", "epoch"])
@@ -703,13 +719,13 @@ class Writer:
     # ---- episodes
 
     MODES = {
-        "heap": dict(alloc=30, edit=12, write=14, reissue=6, release=12, recycle=4, ask_heap=24, collect=3, page=2, setepoch=1, ring=1, seal=0.3),
-        "collect": dict(alloc=30, edit=4, write=14, reissue=2, release=6, recycle=1, ask_heap=4, collect=10, joined=4, page=1, ring=5, stuck=3, seal=0.3),
+        "heap": dict(alloc=30, edit=12, write=14, reissue=6, release=12, recycle=4, ask_heap=24, collect=3, page=2, setepoch=1, ring=1, seal=0.3, run=4),
+        "collect": dict(alloc=30, edit=4, write=14, reissue=2, release=6, recycle=1, ask_heap=4, collect=10, joined=4, page=1, ring=5, stuck=3, seal=0.3, run=1),
         "types": dict(layout=50, trace=40, slotroots=10),
         "func": dict(live_map=60, joined=12, alloc=12, ring=2, slotroots=3),
         "mixed": dict(
             alloc=20, edit=6, write=8, reissue=3, release=6, recycle=2, ask_heap=8, collect=4, joined=4, page=1, layout=8, trace=8,
-            slotroots=3, live_map=5, setepoch=0.5, ring=2, stuck=1, seal=0.3,
+            slotroots=3, live_map=5, setepoch=0.5, ring=2, stuck=1, seal=0.3, run=1.5,
         ),
     }
 
@@ -762,6 +778,63 @@ class Writer:
             self.many()
         self.page()
         self.do("epoch")
+
+
+class Script:
+    """The lines of a `run` as they grow, with the slots as its calls leave them: a line may take what an earlier one makes."""
+
+    def __init__(self, writer):
+        self.w, self.lines, self.data = writer, [], 0
+        self.generations = [s.generation for s in writer.rows]
+        self.live, self.free, self.quarantine = writer.live(), list(writer.free), list(writer.quarantine)
+
+    def step(self, i):
+        self.generations[i] = self.generations[i] % U32 + 1
+
+    def alloc(self, kind, t, data):
+        w = self.w
+        # What the script takes is not counted as room.
+        if not w.size(self.data + len(data)) or sum(map(len, self.lines)) + 2 * len(data) > w.limits.line - 300:
+            return
+        if not w.takes(Row(0, kind, t if kind == 1 else 0, 0, data)):
+            return
+        self.lines.append(f"alloc,{t},{kind},{data.hex()}")
+        self.data += len(data)
+        if not self.free and len(self.generations) == w.S:
+            return
+        if not self.free:
+            self.free.append(len(self.generations))
+            self.generations.append(0)
+        i = self.free.pop()
+        self.step(i)
+        self.live.append(i)
+
+    def any_alloc(self):
+        w = self.w
+        kind = w.pick((3, 1), (2, 2), (2, 3))
+        t = w.type_number() if kind == 1 or w.chance(0.2) else 0
+        self.alloc(kind, t, w.contents(kind, t)[0])
+
+    def any_take(self):
+        w = self.w
+        if not self.live or w.chance(0.2):
+            # Mostly one that does not resolve, which ends the script: null, another tag, the next generation.
+            h = w.handle()
+            self.lines.append(f"take,{w.r.choice([0, h ^ 1 << 56, h + 1 & U64, h])},0,")
+            return
+        i = w.r.choice(self.live)
+        self.lines.append(f"take,{w.tag << 56 | i << 32 | self.generations[i]},0,")
+        self.live.remove(i)
+        self.step(i)
+        self.quarantine.append(i)
+
+    def seal(self):
+        self.lines.append("seal,0,0,")
+
+    def recycle(self):
+        self.lines.append("recycle,0,0,")
+        self.free += self.quarantine
+        self.quarantine = []
 
 
 class Function:

@@ -1,28 +1,37 @@
 #!/usr/bin/env python3
-"""Refusals that the Rust does not have: 1, 6, 8, 10, 14, 15, 17, 5 and 6 of a page, and the named differences. Their numbers come from document 01, by hand.
+"""Refusals that the Rust does not have: 1, 6, 8, 10, 14, 15, 17, 5 and 6 of a page, those of a script of calls, and the named differences. Their numbers come from document 01, by hand.
 
     refusals.py --oracle PATH --replay PATH
 
-A refusal changes nothing, so the other lines are answered by the oracle as if the refused ones were not there: a page after a refusal shows that."""
+A refusal changes nothing, so the other lines are answered by the oracle as if the refused ones were not there: a page after a refusal shows that. Of a script that is
+refused on the way, the oracle is given the calls before."""
 
 import argparse
 import sys
 
 from known import as_port
 from machine import answers
-from shapes import COLUMNS, HEAD, I64, NO, U32, U64, h, le, page, to
+from shapes import COLUMNS, HEAD, I64, NO, U32, U64, h, le, page, script as run, to
 
 HEAP = ["new 1 4 16", "alloc 2 0 0 4142434445", "alloc 3 0 0 46"]
 
 
+# A line, the number that it must have where the oracle does not say it, and what the oracle is given for it.
+
+
 def refused(number, *lines):
     """Lines that are refused with this number."""
-    return [(line, number) for line in lines]
+    return [(line, number, None) for line in lines]
 
 
 def asked(*lines):
     """Lines that the oracle answers."""
-    return [(line, None) for line in lines]
+    return [(line, None, line) for line in lines]
+
+
+def stopped(number, calls, *texts):
+    """Scripts of these calls and then a text that is refused with this number: the calls keep their effect."""
+    return [("run " + "".join(x + ";" for x in calls) + text, number, run(*calls)) for text in texts]
 
 
 def heaps():
@@ -33,6 +42,33 @@ def heaps():
     yield from asked(f"edit {h(0, 1)} {'00' * 15} 0", "alloc 2 0 0 -", "alloc 2 0 0 -", "page") + refused("6", "alloc 2 0 0 00") + asked("page", "alloc 2 0 0 -", "page")
     yield from refused("9", "reissue 4 7", f"reissue {U32} {U64}") + refused("14", "recycle 1,0", "recycle 2,2", "recycle 0,1,2,1") + asked("page", "epoch")
     yield from refused("1", "new 1 0 64") + asked("page", "new 3 1 0", "alloc 2 0 0 -", "page") + refused("6", "alloc 2 0 0 00") + asked("page")
+
+
+def scripts():
+    """17 for a text that is no call's line, 8 before 6 before 5; what stands before the refused line keeps its effect, what stands behind it has none."""
+    def take(*which):
+        return f"take,{h(*which)},0,"
+
+    def none(n, kind=2):
+        return f"alloc,0,{kind},{'00' * n}"
+
+    yield from asked(*HEAP, "page") + stopped(
+        "17", [], ";", ";seal,0,0,;", "-;", "--", "alloc", "alloc,0,2,41", "alloc,0,2,4;", "alloc,0,2,4A;", "alloc,0,2,-;", "alloc,0,2;", "alloc,0,2,41,;", "alloc,,2,41;", "alloc,0,,41;", "alloc,00,2,41;",
+        "alloc,0,02,41;", "alloc,4294967296,2,41;", "alloc,0,256,41;", "alloc,-1,2,41;", "Alloc,0,2,41;", "allocs,0,2,41;", take(0, 1), f"take,{h(0, 1)},0;", f"take,{h(0, 1)},1,;", f"{take(0, 1)}00;",
+        f"take,0{h(0, 1)},0,;", "take,18446744073709551616,0,;", "take,,0,;", f"free,{h(0, 1)},0,;", "seal;", "seal,0,0,", "seal,0,0;", "seal,1,0,;", "seal,0,1,;", "seal,00,0,;", "seal,0,0,00;", "recycle,0,0,",
+        "recycle,1,0,;", "recycle,0,0,0;", "collect,0,0,;", "call,number,kind,bytes;seal,0,0,;",
+    )
+    yield from asked("page", "epoch") + stopped("17", ["alloc,0,2,46", take(0, 1), "seal,0,0,"], ";seal,0,0,;") + asked("page", "epoch")
+    yield from stopped("17", ["recycle,0,0,", "alloc,3,1,47"], "alloc,0,2,48") + asked("page", "epoch") + stopped("17", [take(1, 1)], f"take,{h(2, 1)},0;{take(2, 1)};") + asked("page", "epoch")
+    # A refused call before a line that is none.
+    yield from stopped("2", ["seal,0,0,", "take,0,0,"], "x;") + stopped("3", [take(0, 3, 2)], "x;") + stopped("4", [take(2, 1), take(2, 1)], "x;") + asked("page", "epoch")
+    yield from asked(*HEAP) + stopped("8", [], none(0, 0) + ";", none(1, 4) + ";", "alloc,4294967295,255,;", none(11, 0) + ";", none(99, 4) + ";", none(0, 4) + ";x;") + asked("page")
+    yield from stopped("8", ["alloc,0,2,46"], "alloc,0,0,47;seal,0,0,;") + asked("page")
+    # No room: more than the pool has left, or than all of it. Taking an object makes room.
+    yield from stopped("6", [], none(10) + ";", none(17, 3) + ";", none(99, 1) + ";", none(10) + ";x;") + stopped("6", ["alloc,0,2,48", "seal,0,0,"], none(9) + ";recycle,0,0,;") + asked("page", "epoch")
+    yield from asked(run(take(0, 1), "recycle,0,0,", none(13)), "page") + stopped("6", [take(1, 1)], none(2) + ";") + asked("page", "epoch")
+    # since_gc rises on 5 alone.
+    yield from asked("new 1 1 2", run(none(2))) + stopped("6", [], none(1) + ";", none(3) + ";") + asked("page") + stopped("5", ["seal,0,0,", none(0)], "x;") + asked("page")
 
 
 def load(number, head, rows, free=(), quarantine=(), sealed=(), slots=4, pool=16):
@@ -101,14 +137,18 @@ def differences():
     yield from refused("0 -", f"objh 7 {wide + to((1, 0))}")
 
 
-ALL = [heaps, pages, tables, functions, collections, differences]
+ALL = [heaps, scripts, pages, tables, functions, collections, differences]
 
 
 def script(oracle):
     """The lines and the answers that they must have."""
-    lines = [pair for part in ALL for pair in part()]
-    told = iter(answers(oracle, [line for line, number in lines if number is None])[0])
-    return [line for line, _ in lines], [as_port(line, next(told)) if number is None else number for line, number in lines]
+    lines = [x for part in ALL for x in part()]
+    told = iter(answers(oracle, [given for _, _, given in lines if given is not None])[0])
+    wanted = []
+    for line, number, given in lines:
+        answer = number if given is None else as_port(line, next(told))
+        wanted.append(answer if number is None else number)
+    return [line for line, _, _ in lines], wanted
 
 
 def main():

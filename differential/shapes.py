@@ -89,6 +89,25 @@ def seals():
     yield from ["seal", "page", f"free {h(0, 1)}", f"free {h(3, 1)}", "seal", "isplain 1", "page"]
 
 
+def script(*calls):
+    return "run " + ("".join(x + ";" for x in calls) or "-")
+
+
+def scripts():
+    """A script of calls: each sees what the ones before it did, which stays where a later one is refused; a script's 5 raises since_gc."""
+    def take(*which):
+        return f"take,{h(*which)},0,"
+
+    yield from ["new 1 3 64", script(), "page", script("alloc,0,2,4142", "alloc,7,1,00", "alloc,9,3,"), "page", "epoch", script("alloc,0,2,414243", "seal,0,0,"), "page"]
+    yield from [script("seal,0,0,", take(1, 1), "take,0,0,", take(2, 1)), "page", "epoch", script(take(0, 1), take(0, 1), take(2, 1)), "page", script(take(2, 1), take(2, 2, 2)), "page"]
+    yield from [script("alloc,0,2,"), "page", script("recycle,0,0,", "alloc,0,2,44", "alloc,4294967295,1,", "seal,0,0,", take(2, 3), "recycle,0,0,", "alloc,0,3,45"), "page", "epoch"]
+    yield from [script(take(2, 5), take(1, 3), take(7, 1)), "page", "isplain 1", script(f"take,{U64},0,"), script(f"take,{h(0, 0)},0,"), "page", "epoch"]
+    # Generations and the epoch at their ends.
+    rows = [f"{U32},2,0,0,{U32},41", f"{U32},0,0,0,0,"]
+    yield from [f"load 2 {page([0, U64, 4096, 0], rows, [1])} 64", f"setepoch {U64} {LOG}", script(take(0, U32, 0), "take,1,0,"), "page", "epoch"]
+    yield from [script("alloc,0,2,46", "recycle,0,0,", "alloc,0,2,47", take(1, 1, 0), take(0, 2, 0), "recycle,0,0,", "seal,0,0,"), "page", "epoch", script("take,0,0,", "seal,0,0,"), "page"]
+
+
 def epochs():
     """The epoch wraps; each dropped slot is logged, also beyond 16."""
     yield from ["new 1 32 256", f"setepoch {U64} {LOG}"] + ["alloc 2 0 0 -"] * 20 + [f"free {h(3, 1)}", "epoch", f"setepoch {U64 - 3} {LOG}", f"edit {h(4, 1)} 00 0", "epoch", "collect - -", "epoch", "page"]
@@ -207,7 +226,7 @@ def reclaims():
 LARGE = [reclaims]
 
 ALL = [
-    handles, generations, full, visible, handles_objects, quarantine, seals, epochs, rings, untraceable, layouts, levels, constants, tracing, stride_zero,
+    handles, generations, full, visible, handles_objects, quarantine, seals, scripts, epochs, rings, untraceable, layouts, levels, constants, tracing, stride_zero,
     frames, live, joined,
 ]
 

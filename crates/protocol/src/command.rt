@@ -15,6 +15,7 @@ pub enum Change {
     Free,
     Recycle,
     Seal,
+    Run,
     Collect,
     Joined,
     Unknown,
@@ -95,6 +96,9 @@ pub fn change_of(line: &[u8]) -> Change {
     }
     if is_word(line, b"seal") {
         return Change::Seal;
+    }
+    if is_word(line, b"run") {
+        return Change::Run;
     }
     if is_word(line, b"collect") {
         return Change::Collect;

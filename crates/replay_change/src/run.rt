@@ -1,4 +1,5 @@
 // A heap command, whose fields are read.
+use crate::calls;
 use crate::objects;
 use crate::whole;
 use heap::Heap;
@@ -108,6 +109,23 @@ pub fn run(
             sealed,
             marks,
             work,
+            text,
+        ),
+        Task::Run => calls::run_script(
+            heap,
+            generation,
+            kind,
+            ty,
+            start,
+            end,
+            writes,
+            pool,
+            free,
+            quarantine,
+            sealed,
+            marks,
+            work,
+            taken,
             text,
         ),
         Task::Ask => {

@@ -61,6 +61,8 @@ pub enum Task {
     Edit,
     List,
     Whole,
+    // A script of calls.
+    Run,
     Ask,
     // Only the header is changed.
     Header,

@@ -16,6 +16,8 @@ use yexwalu::heaps::FreeReply;
 use yexwalu::heaps::RecycleReply;
 use yexwalu::heaps::Refusal;
 use yexwalu::heaps::ReissueReply;
+use yexwalu::heaps::RunAnswer;
+use yexwalu::heaps::RunReply;
 use yexwalu::heaps::TakeReply;
 use yexwalu::heaps::WriteReply;
 use yexwalu::page::Read;
@@ -146,6 +148,26 @@ pub fn recycled(a: RecycleReply) -> Reply {
         RecycleReply::Recycled => Reply::Number(0),
         RecycleReply::Pins => Reply::Number(14),
         RecycleReply::Refused(why) => refused(why),
+    }
+}
+
+fn run(a: RunAnswer) -> Reply {
+    match a {
+        RunAnswer::Done => Reply::Number(0),
+        RunAnswer::NotCall => Reply::Number(17),
+        RunAnswer::Kind => Reply::Number(8),
+        RunAnswer::NoRoom => Reply::Number(6),
+        RunAnswer::Full => Reply::Number(5),
+        RunAnswer::Null => Reply::Number(2),
+        RunAnswer::WrongHeap => Reply::Number(3),
+        RunAnswer::Stale => Reply::Number(4),
+    }
+}
+
+pub fn ran(a: RunReply) -> Reply {
+    match a {
+        RunReply::Told(t) => run(t),
+        RunReply::Refused(why) => refused(why),
     }
 }
 

@@ -3,8 +3,10 @@ use protocol::command::Ask;
 use protocol::command::Change;
 use protocol::read::Field;
 use protocol::read::Run;
+use protocol::read::ends;
 use protocol::read::halves;
 use protocol::read::hex;
+use protocol::read::is_empty;
 use protocol::read::number;
 use protocol::read::page;
 use replay_heap::Request;
@@ -90,6 +92,27 @@ fn load(line: &[u8], at: usize, text: &mut [u8; 262144]) -> Asked {
         x: 0,
         y: y,
         z: z,
+        bytes: 0,
+        pins: 0,
+        text: k,
+    })
+}
+
+// A script, whose lines have `;` for byte 10; `-` for one without lines.
+fn script(line: &[u8], at: usize, text: &mut [u8; 262144]) -> Asked {
+    if is_empty(line, at) {
+        return none();
+    }
+    if ends(line, at) {
+        return Asked::Bad;
+    }
+    let Run::Is(k, _) = page(line, at, text) else {
+        return Asked::Bad;
+    };
+    Asked::For(Request {
+        x: 0,
+        y: 0,
+        z: 0,
         bytes: 0,
         pins: 0,
         text: k,
@@ -190,6 +213,7 @@ pub fn changing(
         Change::Free => one(line, at, WORD),
         Change::Recycle => pinned(line, at, 0, pins),
         Change::Seal => none(),
+        Change::Run => script(line, at, text),
         _ => Asked::Bad,
     }
 }

@@ -60,6 +60,7 @@ fn task_of(change: Change) -> Task {
         Change::Alloc => Task::Place,
         Change::Take => Task::Place,
         Change::Free => Task::Place,
+        Change::Run => Task::Run,
         _ => Task::Bad,
     }
 }

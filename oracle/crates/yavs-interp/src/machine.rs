@@ -89,6 +89,63 @@ fn refusal(e: HeapError) -> String {
 fn opt_const(c: u32) -> Option<ConstId> {
     (c != NO_CONST).then_some(ConstId(c))
 }
+fn object(kind: u8, ty: u32) -> Result<Obj, String> {
+    Ok(match kind {
+        1 => Obj::Typed(TyId(ty)),
+        2 => Obj::Bytes,
+        3 => Obj::Handles,
+        _ => return Err("alloc kind".into()),
+    })
+}
+/// The last field of a line of a page or of a script: no bytes are an empty field.
+fn line_hex(s: Option<&str>) -> Result<Vec<u8>, String> {
+    match s {
+        Some("") => Ok(Vec::new()),
+        Some("-") => Err("hex".into()),
+        h => hex(h),
+    }
+}
+
+/// A line of a script.
+enum Call {
+    Alloc(Obj, Vec<u8>),
+    Take(u64),
+    Seal,
+    Recycle,
+}
+
+impl Call {
+    fn read(line: &str) -> Result<Call, String> {
+        Ok(match line.split(',').collect::<Vec<_>>()[..] {
+            ["alloc", ty, kind, data] => {
+                Call::Alloc(object(num(Some(kind))?, num(Some(ty))?)?, line_hex(Some(data))?)
+            }
+            ["take", x, "0", ""] => Call::Take(num(Some(x))?),
+            ["seal", "0", "0", ""] => Call::Seal,
+            ["recycle", "0", "0", ""] => Call::Recycle,
+            _ => return Err("line of a script".into()),
+        })
+    }
+
+    fn run(self, h: &mut Heap) -> Result<(), HeapError> {
+        match self {
+            Call::Alloc(o, data) => drop(h.alloc_from(o, data, 0)?),
+            Call::Take(x) => drop(h.take(x)?),
+            Call::Seal => h.seal(),
+            Call::Recycle => h.recycle(&[]),
+        }
+        Ok(())
+    }
+}
+
+/// The calls of a script (`;` for byte 10, `-` for an empty one). One line that is no call makes all of it bad: nothing is run.
+fn calls(text: &str) -> Result<Vec<Call>, String> {
+    if text == "-" {
+        return Ok(Vec::new());
+    }
+    let lines = text.strip_suffix(';').ok_or("end of a script")?;
+    lines.split(';').map(Call::read).collect()
+}
 
 /// Reads a page (`;` for byte 10) without testing it: the runner gives only well formed ones.
 fn load(text: &str) -> Result<Heap, String> {
@@ -110,10 +167,7 @@ fn load(text: &str) -> Result<Heap, String> {
             ty: num(f.next())?,
             start: num(f.next())?,
             writes: num(f.next())?,
-            data: match f.next() {
-                Some("") => Vec::new(),
-                h => hex(h)?,
-            },
+            data: line_hex(f.next())?,
         });
     }
     next()?;
@@ -231,13 +285,7 @@ impl Machine {
                 let ty: u32 = num(a.next())?;
                 let start: u64 = num(a.next())?;
                 let data = hex(a.next())?;
-                let o = match kind {
-                    1 => Obj::Typed(TyId(ty)),
-                    2 => Obj::Bytes,
-                    3 => Obj::Handles,
-                    _ => return Err("alloc kind".into()),
-                };
-                match h.alloc_from(o, data, start as usize) {
+                match h.alloc_from(object(kind, ty)?, data, start as usize) {
                     Ok(x) => format!("0 {x}"),
                     Err(e) => refusal(e),
                 }
@@ -306,6 +354,14 @@ impl Machine {
             "seal" => {
                 h.seal();
                 "0".into()
+            }
+            // The calls one by one, up to the first that is refused.
+            "run" => {
+                let script = calls(a.next().ok_or("no script")?)?;
+                match script.into_iter().try_for_each(|c| c.run(h)) {
+                    Ok(()) => "0".into(),
+                    Err(e) => refusal(e),
+                }
             }
             "gcdue" => format!("0 {}", u8::from(h.gc_due(num(a.next())?))),
             "reclaimdue" => format!("0 {}", u8::from(h.reclaim_due())),

@@ -31,20 +31,26 @@ whole-requires c κs = tt
 enum-told-5 : tie.Need-enum-told-5
 enum-told-5 c = search needs
 
-answer-requires : tie.Need-answer-requires
-answer-requires c κs = tt
+run-script-requires : tie.Need-run-script-requires
+run-script-requires c κs = tt
 
 enum-told-6 : tie.Need-enum-told-6
 enum-told-6 c = search needs
 
-with-epoch-requires : tie.Need-with-epoch-requires
-with-epoch-requires c κs = tt
+answer-requires : tie.Need-answer-requires
+answer-requires c κs = tt
 
 enum-told-7 : tie.Need-enum-told-7
 enum-told-7 c = search needs
 
+with-epoch-requires : tie.Need-with-epoch-requires
+with-epoch-requires c κs = tt
+
 enum-told-8 : tie.Need-enum-told-8
 enum-told-8 c = search needs
+
+enum-told-9 : tie.Need-enum-told-9
+enum-told-9 c = search needs
 
 same-length : tie.Need-same-length
 same-length c = c .before .before .before .before .before .before .before .before .before .before .before .before .before .before .before .before .before .before .place .kept .1 .1 .1 .0
@@ -179,37 +185,67 @@ returns-4 : tie.Need-returns-4
 returns-4 c = tt
 
 same-length-41 : tie.Need-same-length-41
-same-length-41 c = refl
+same-length-41 c = c .before .before .before .before .before .before .before .before .before .before .before .before .before .before .before .before .before .before .before .before .run-script .kept .1 .0
 
 same-length-42 : tie.Need-same-length-42
-same-length-42 c = refl
+same-length-42 c = c .before .before .before .before .before .before .before .before .before .before .before .before .before .before .before .before .before .before .before .before .run-script .kept .1 .1 .0
 
 same-length-43 : tie.Need-same-length-43
-same-length-43 c = refl
+same-length-43 c = c .before .before .before .before .before .before .before .before .before .before .before .before .before .before .before .before .before .before .before .before .run-script .kept .1 .1 .1 .0
 
 same-length-44 : tie.Need-same-length-44
-same-length-44 c = refl
+same-length-44 c = c .before .before .before .before .before .before .before .before .before .before .before .before .before .before .before .before .before .before .before .before .run-script .kept .1 .1 .1 .1 .0
 
 same-length-45 : tie.Need-same-length-45
-same-length-45 c = refl
+same-length-45 c = c .before .before .before .before .before .before .before .before .before .before .before .before .before .before .before .before .before .before .before .before .run-script .kept .1 .1 .1 .1 .1 .0
 
 same-length-46 : tie.Need-same-length-46
-same-length-46 c = refl
+same-length-46 c = c .before .before .before .before .before .before .before .before .before .before .before .before .before .before .before .before .before .before .before .before .run-script .kept .1 .1 .1 .1 .1 .1 .0
 
 same-length-47 : tie.Need-same-length-47
-same-length-47 c = refl
+same-length-47 c = c .before .before .before .before .before .before .before .before .before .before .before .before .before .before .before .before .before .before .before .before .run-script .kept .1 .1 .1 .1 .1 .1 .1 .0
 
 same-length-48 : tie.Need-same-length-48
-same-length-48 c = refl
+same-length-48 c = c .before .before .before .before .before .before .before .before .before .before .before .before .before .before .before .before .before .before .before .before .run-script .kept .1 .1 .1 .1 .1 .1 .1 .1 .0
 
 same-length-49 : tie.Need-same-length-49
-same-length-49 c = refl
+same-length-49 c = c .before .before .before .before .before .before .before .before .before .before .before .before .before .before .before .before .before .before .before .before .run-script .kept .1 .1 .1 .1 .1 .1 .1 .1 .1 .0
 
 same-length-50 : tie.Need-same-length-50
-same-length-50 c = refl
+same-length-50 c = c .before .before .before .before .before .before .before .before .before .before .before .before .before .before .before .before .before .before .before .before .run-script .kept .1 .1 .1 .1 .1 .1 .1 .1 .1 .1 .0
 
 returns-5 : tie.Need-returns-5
 returns-5 c = tt
+
+same-length-51 : tie.Need-same-length-51
+same-length-51 c = refl
+
+same-length-52 : tie.Need-same-length-52
+same-length-52 c = refl
+
+same-length-53 : tie.Need-same-length-53
+same-length-53 c = refl
+
+same-length-54 : tie.Need-same-length-54
+same-length-54 c = refl
+
+same-length-55 : tie.Need-same-length-55
+same-length-55 c = refl
+
+same-length-56 : tie.Need-same-length-56
+same-length-56 c = refl
+
+same-length-57 : tie.Need-same-length-57
+same-length-57 c = refl
+
+same-length-58 : tie.Need-same-length-58
+same-length-58 c = refl
+
+same-length-59 : tie.Need-same-length-59
+same-length-59 c = refl
+
+same-length-60 : tie.Need-same-length-60
+same-length-60 c = refl
 
 returns-6 : tie.Need-returns-6
 returns-6 c = tt
@@ -219,6 +255,9 @@ returns-7 c = tt
 
 returns-8 : tie.Need-returns-8
 returns-8 c = tt
+
+returns-9 : tie.Need-returns-9
+returns-9 c = tt
 
 pub run-spec : {M : Type 1} → statement M
 run-spec =
@@ -233,11 +272,13 @@ run-spec =
     enum-told-4
     whole-requires
     enum-told-5
-    answer-requires
+    run-script-requires
     enum-told-6
-    with-epoch-requires
+    answer-requires
     enum-told-7
+    with-epoch-requires
     enum-told-8
+    enum-told-9
     same-length
     same-length-2
     same-length-3
@@ -293,6 +334,17 @@ run-spec =
     same-length-49
     same-length-50
     returns-5
+    same-length-51
+    same-length-52
+    same-length-53
+    same-length-54
+    same-length-55
+    same-length-56
+    same-length-57
+    same-length-58
+    same-length-59
+    same-length-60
     returns-6
     returns-7
-    returns-8)
+    returns-8
+    returns-9)
