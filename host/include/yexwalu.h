@@ -6,7 +6,8 @@
  * to no other parameter of it, and a bool is 0 or 1. Calls allocate nothing, keep no pointer and have no state of their own.
  *
  * An answer has document 01's number, 0 for success, and up to two values, zeros after a refusal. A refusal changes nothing, but 5 in alloc and
- * alloc_from (since_gc), 9 in a write to a live slot with nothing visible (its write count), and scratch, which is zero after all answers but 18.
+ * alloc_from (since_gc), 9 in a write to a live slot with nothing visible (its write count), run, whose lines before the refused one keep their effect, and
+ * scratch, which is zero after all answers but 18.
  * The numbers: 1 broken heap, 2 null, 3 wrong heap, 4 stale, 5 full, 6 no room, 7 short list, 8 kind, 9 nothing there, 10 type table, 11 malformed, 12 too large,
  * 13 untraceable, 14 pins, 15 function, 16 no map, 17 page, 18 scratch.
  *
