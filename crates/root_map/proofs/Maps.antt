@@ -187,7 +187,7 @@ module _ (t : ℕ → Bool) (kinds ends refs bs cs : List ℕ) where
           wide : (m : ℕ) → (m + 1) * 16384 ≡ m * 16384 + 16384
           wide m = omega arith
 
-      pub counting-yes : r ≡ true → Placed s p d q → (n : ℕ) → n ≡ length (listed (rowAt s₁ (nb * (3 * W)) W)) → n ≤ 16384 → Counting s₀ s₁ p (points + 1) (registers + n) d p
+      pub counting-yes : r ≡ true → Placed s p d q → (n : ℕ) → n ≡ length (listed 64 (rowAt s₁ (nb * (3 * W)) W)) → n ≤ 16384 → Counting s₀ s₁ p (points + 1) (registers + n) d p
       counting-yes h turn n e k =
           let x : pointsFrom p ≡ p ∷ pointsFrom i = from-yes p (omega (arith, inv .going .high)) (sym (v .is) ∙ h) ∙ ap (λ (u : ℕ). p ∷ pointsFrom u) (sym step) in
           record {
@@ -305,12 +305,12 @@ module _ (t : ℕ → Bool) (kinds ends refs bs cs : List ℕ) where
             pub room-bounds : k - 1 < length bounds
             room-bounds = omega (arith, one-less, points-sum, fits .for-bounds, bounds-kept)
 
-            pub room-registers : length (listed (rowAt s₁ (nb * (3 * W)) W)) ≤ to
+            pub room-registers : length (listed 64 (rowAt s₁ (nb * (3 * W)) W)) ≤ to
             room-registers = omega (arith, fewer, ap length (v .row h))
 
-            pub writing-yes : Placed s p d q → (pcs₁ bounds₁ regs₁ : List ℕ) (from : ℕ) → to ≡ from + length (listed (rowAt s₁ (nb * (3 * W)) W))
+            pub writing-yes : Placed s p d q → (pcs₁ bounds₁ regs₁ : List ℕ) (from : ℕ) → to ≡ from + length (listed 64 (rowAt s₁ (nb * (3 * W)) W))
                 → pcs₁ ≡ set pcs (k - 1) p → bounds₁ ≡ set bounds (k - 1) to
-                → regs₁ ≡ put regs from (listed (rowAt s₁ (nb * (3 * W)) W)) (length (listed (rowAt s₁ (nb * (3 * W)) W)))
+                → regs₁ ≡ put regs from (listed 64 (rowAt s₁ (nb * (3 * W)) W)) (length (listed 64 (rowAt s₁ (nb * (3 * W)) W)))
                 → Writing s₀ s₁ pcs₀ pcs₁ bounds₀ bounds₁ regs₀ regs₁ p (k - 1) from d p
             writing-yes turn pcs₁ bounds₁ regs₁ from en ep eb er = record {
               going = going-yes (inv .going) step turn v h;

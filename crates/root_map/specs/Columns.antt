@@ -32,7 +32,7 @@ pub record Standing (t : ℕ → Bool) (kinds ends refs bs cs s : List ℕ) (W n
 pub record Pointed (t : ℕ → Bool) (kinds ends refs bs cs s s′ : List ℕ) (W nb b pc : ℕ) (r : Bool) : Type 0 where
   pub frame : Outside s s′ (nb * (3 * W)) W
   pub is : r ≡ safepoint (view kinds ends refs bs cs) pc
-  pub row : r ≡ true → listed (rowAt s′ (nb * (3 * W)) W) ≡ liveOf t kinds ends refs bs cs W pc
+  pub row : r ≡ true → listed 64 (rowAt s′ (nb * (3 * W)) W) ≡ liveOf t kinds ends refs bs cs W pc
   pub standing : r ≡ true → Standing t kinds ends refs bs cs s′ W nb b pc
   pub kept : r ≡ false → s′ ≡ s
 

@@ -135,7 +135,7 @@ fn point_row(
 // How many registers the row at `at` has.
 fn count_at(s: &[u64], at: usize, words: usize) -> usize
     requires { ⌜ (at + words ≤ length (now s)) × (words ≤ 256) ⌝ }
-    ensures { λ r. ⌜ (r ≡ length (listed (rowAt (now (s .entry)) at words))) × (r ≤ 16384) ⌝ }
+    ensures { λ r. ⌜ (r ≡ length (listed 64 (rowAt (now (s .entry)) at words))) × (r ≤ 16384) ⌝ }
 {
     let past = at + words;
     rows::count(&s[at..past])
@@ -217,10 +217,10 @@ fn write_point(
     to: usize,
 ) -> usize
     requires { ⌜ (at + words ≤ length (now s)) × (words ≤ 256) × (pc < 65536) × (k < length (now pcs)) × (k < length (now bounds)) × (to ≤ 1073741824) ⌝ }
-    requires { ⌜ (length (listed (rowAt (now s) at words)) ≤ to) × (to ≤ length (now regs)) ⌝ }
-    ensures { λ r. ⌜ (to ≡ r + length (listed (rowAt (now (s .entry)) at words)))
+    requires { ⌜ (length (listed 64 (rowAt (now s) at words)) ≤ to) × (to ≤ length (now regs)) ⌝ }
+    ensures { λ r. ⌜ (to ≡ r + length (listed 64 (rowAt (now (s .entry)) at words)))
         × (now (pcs .exit) ≡ set (now (pcs .entry)) k pc) × (now (bounds .exit) ≡ set (now (bounds .entry)) k to)
-        × (now (regs .exit) ≡ put (now (regs .entry)) r (listed (rowAt (now (s .entry)) at words)) (length (listed (rowAt (now (s .entry)) at words)))) ⌝ }
+        × (now (regs .exit) ≡ put (now (regs .entry)) r (listed 64 (rowAt (now (s .entry)) at words)) (length (listed 64 (rowAt (now (s .entry)) at words)))) ⌝ }
 {
     let n = count_at(s, at, words);
     let from = to - n;

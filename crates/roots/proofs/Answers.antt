@@ -51,7 +51,7 @@ live-row-cells f bs s s₁ s₂ W nb b pc e v ee c₁ c₂ q h =
 
 -- its set bits are the registers
 pub row-listed : (f : Function) (s : List ℕ) (a W b pc : ℕ) → a + W ≤ length s → ((q : ℕ) → q < 64 * W → cell s a q ≡ liveBefore f b pc q) → holder (f .blocks) pc 0 ≡ b
-    → listed (take ((a + W) - a) (drop a s)) ≡ liveRow (W * 64) f pc
+    → listed 64 (take ((a + W) - a) (drop a s)) ≡ liveRow (W * 64) f pc
 unfolding listed liveRow part
 row-listed f s a W b pc fit c e =
     let n : length (take ((a + W) - a) (drop a s)) ≡ W = omega (arith, length-take ((a + W) - a) (drop a s), length-drop a s) in
@@ -141,8 +141,8 @@ module _ (l : Lent) (t : ℕ → Bool) where
       unfolding liveAtAnswer
       at-no-map h s = refuse 16 At.NoMap refl (no-then _ _ _ (le-ltb (length rows) (need l) room) ∙ no-then _ _ _ (ap not h) ∙ yes-then _ _ _ (ap not s))
 
-      pub at-listed : right l ≡ true → safepoint (function l) pc ≡ true → (row regs′ : List ℕ) (r : LiveAt) → listed row ≡ rowAt pc
-          → toldAt r ≡ listing row (length regs) → regs′ ≡ listedInto row regs → LiveAtCall l t pc rows regs rows′ regs′ r
+      pub at-listed : right l ≡ true → safepoint (function l) pc ≡ true → (row regs′ : List ℕ) (r : LiveAt) → listed 64 row ≡ rowAt pc
+          → toldAt r ≡ listing 64 row (length regs) → regs′ ≡ listedInto 64 row regs → LiveAtCall l t pc rows regs rows′ regs′ r
       unfolding liveAtAnswer listing listedInto
       at-listed h s row regs′ r e a o = record {
         live = rowAt pc;

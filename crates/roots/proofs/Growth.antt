@@ -66,7 +66,7 @@ passing-more p q b (suc n) h (suc j) l pf qt =
 -- ---- a step that changed anything
 
 module _ (s s′ : List ℕ) (a e : ℕ) (made out kill : List ℕ) (low : a ≤ e) (high : e ≤ length s) (changed : Bool)
-    (p : Part s s′ a e (λ l l′. Stepped l made out kill l′ changed)) where
+    (p : Part s s′ a e (λ l l′. Stepped 64 l made out kill l′ changed)) where
   -- every bit that was set is set
   pub stepped-keeps : (k : ℕ) → bitIn 64 s k ≡ true → bitIn 64 s′ k ≡ true
   stepped-keeps k h = go (order (k / 64) a) (order (k / 64) e)
@@ -92,7 +92,7 @@ module _ (s s′ : List ℕ) (a e : ℕ) (made out kill : List ℕ) (low : a ≤
       go (inr (inr b)) (inr (inr o)) = outside (inr (omega arith))
 
   -- a step that changed anything set more bits than there were: a loop of such steps ends
-  pub stepped-more : changed ≡ true → length (listed s) < length (listed s′)
+  pub stepped-more : changed ≡ true → length (listed 64 s) < length (listed 64 s′)
   unfolding listed part
   stepped-more c =
       let t = p .inside .more c in
@@ -107,6 +107,6 @@ module _ (s s′ : List ℕ) (a e : ℕ) (made out kill : List ℕ) (low : a ≤
       subst (λ (m : ℕ). length (passing (bitIn 64 s) 0 (length s * 64)) < length (passing (bitIn 64 s′) 0 (m * 64))) (sym n) more
 
 -- a row has no more set bits than bits
-pub listed-le : (s : List ℕ) → length (listed s) ≤ length s * 64
+pub listed-le : (s : List ℕ) → length (listed 64 s) ≤ length s * 64
 unfolding listed
 listed-le s = passing-le (bitIn 64 s) 0 (length s * 64)

@@ -83,7 +83,7 @@ pub record Met (s s′ : List ℕ) (m W live out kill : ℕ) (changed : Bool) : 
   pub more : changed ≡ true → setBits m s < setBits m s′
 
 pub met-of : {s s′ : List ℕ} (m W live made out kill : ℕ) {changed : Bool}
-    → Part s s′ live (live + W) (λ l l′. Stepped l (part made (made + W) s) (part out (out + W) s) (part kill (kill + W) s) l′ changed)
+    → Part s s′ live (live + W) (λ l l′. Stepped 64 l (part made (made + W) s) (part out (out + W) s) (part kill (kill + W) s) l′ changed)
     → live + W ≤ m → m ≤ length s → ((q : ℕ) → q < 64 * W → cell s made q ≡ false) → Met s s′ m W live out kill changed
 met-of {s} {s′} m W live made out kill {changed} p low high blank = record {
   frame = part-frame p W refl;
@@ -100,6 +100,6 @@ met-of {s} {s′} m W live made out kill {changed} p low high blank = record {
 -- words from m on do not count
 pub bits-kept : {s s′ : List ℕ} {a w : ℕ} (m : ℕ) → m ≤ a → Outside s s′ a w → setBits m s′ ≡ setBits m s
 bits-kept {s} {s′} m h o =
-    ap (λ (l : List ℕ). length (listed l))
+    ap (λ (l : List ℕ). length (listed 64 l))
     (ext-getD 0 (take m s′) (take m s) (omega (arith, length-take m s, length-take m s′, o .kept))
     (λ i k. let l : i < m = omega (arith, length-take m s′) in getD-take m s′ i 0 l ∙ o .same i (inl (omega arith)) ∙ sym (getD-take m s i 0 l)))

@@ -56,7 +56,7 @@ oneBelow t n = cond (ltb t n) (t ∷ []) []
 
 -- how many bits of the first k words are set
 abbrev pub setBits : ℕ → List ℕ → ℕ
-setBits k s = length (listed (take k s))
+setBits k s = length (listed 64 (take k s))
 
 -- the live-in rows have gen, the kill rows are right, and r is live into each block whose live-in row has it
 pub record Rows (f : Function) (s : List ℕ) (W nb : ℕ) : Type 0 where

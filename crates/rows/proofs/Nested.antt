@@ -69,10 +69,10 @@ moved-apart n words a made out kill p m o k = record {
 }
 
 -- the step in a part that was lent, said of the whole
-pub stepped-first : (s s′ : List ℕ) (a e words made out kill : ℕ) (r : Bool) → Apart e words a made out kill → a ≤ made → a ≤ out → a ≤ kill
-    → Part s s′ a e (λ m m′. Part m m′ 0 (0 + words) (λ l l′. Stepped l (part (made - a) ((made - a) + words) m) (part (out - a) ((out - a) + words) m) (part (kill - a) ((kill - a) + words) m) l′ r))
-    → Part s s′ a (a + words) (λ l l′. Stepped l (part made (made + words) s) (part out (out + words) s) (part kill (kill + words) s) l′ r)
-stepped-first s s′ a e words made out kill r p m o k q =
+pub stepped-first : (W : ℕ) (s s′ : List ℕ) (a e words made out kill : ℕ) (r : Bool) → Apart e words a made out kill → a ≤ made → a ≤ out → a ≤ kill
+    → Part s s′ a e (λ m m′. Part m m′ 0 (0 + words) (λ l l′. Stepped W l (part (made - a) ((made - a) + words) m) (part (out - a) ((out - a) + words) m) (part (kill - a) ((kill - a) + words) m) l′ r))
+    → Part s s′ a (a + words) (λ l l′. Stepped W l (part made (made + words) s) (part out (out + words) s) (part kill (kill + words) s) l′ r)
+stepped-first W s s′ a e words made out kill r p m o k q =
     part-first s s′ a e words _ (p .live-in)
     (record {
       len = q .len;

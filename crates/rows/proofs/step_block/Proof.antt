@@ -45,7 +45,7 @@ returns : tie.Need-returns
 returns c =
     let b = c .before .before .before .before .before in
     let h = b .pre .0 .live-in in
-    stepped-first (b .args .scratch .now) _ (b .args .live) (b .args .past) (b .args .words) (b .args .made) (b .args .out) (b .args .kill) _
+    stepped-first 64 (b .args .scratch .now) _ (b .args .live) (b .args .past) (b .args .words) (b .args .made) (b .args .out) (b .args .kill) _
     (b .pre .0) (b .pre .2) (b .pre .3) (b .pre .4)
     (put-part (b .args .live) (b .args .past) (b .args .scratch .now) (c .before .before .step-at .last .0) _ (omega arith) (b .pre .1)
     (c .before .before .step-at .kept .0 ∙ mid-len (b .args .live) (b .args .past) (b .args .scratch .now) (b .pre .1))
