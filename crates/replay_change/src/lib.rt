@@ -1,5 +1,4 @@
 // The heap commands of the program `replay`, by what they do with the columns.
 pub mod calls;
-pub mod objects;
 pub mod run;
 pub mod whole;

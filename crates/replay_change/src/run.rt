@@ -1,6 +1,5 @@
 // A heap command, whose fields are read.
 use crate::calls;
-use crate::objects;
 use crate::whole;
 use heap::Heap;
 use protocol::command::Ask;
@@ -39,7 +38,7 @@ pub fn run(
     n: &mut usize,
 ) -> Done {
     match task {
-        Task::Place => objects::place(
+        Task::Place => replay_objects::place(
             change,
             request,
             heap,
@@ -58,7 +57,7 @@ pub fn run(
             bytes,
             taken,
         ),
-        Task::Edit => objects::edit(
+        Task::Edit => replay_objects::edit(
             change,
             request,
             heap,

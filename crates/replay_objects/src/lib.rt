@@ -1,4 +1,4 @@
-// Changes to objects: their slots, their bytes, and the lists that they leave and join.
+// Changes to objects by the program `replay`: their slots, their bytes, and the lists that they leave and join.
 use heap::Heap;
 use protocol::command::Change;
 use protocol::read::low;
