@@ -270,6 +270,24 @@ fn collections(table: &mut Table, shape: &str, n: usize, edges: impl Fn(usize) -
     table.row(&format!("collect, {shape} (ns), by slots"), n, a, b);
 }
 
+// A chain over every second object: the others go, and the data of those that stay moves together. Each turn collects a copy, whose own time is taken off.
+fn dropping(table: &mut Table, n: usize) {
+    let (port, rust, first) = graph(n, |i| if i % 2 == 0 && i + 2 < n { i + 2..i + 3 } else { 0..0 });
+    let (types, prog) = (TypeTable::new(), Program::default());
+    let collected = |mut heap: Heap| {
+        heap.collect(&types, &[Handle(first)], &[]).unwrap();
+        heap
+    };
+    let there = |mut heap: heap::Heap| {
+        assert!(heap.collect(&prog, &[first], &[]));
+        heap
+    };
+    assert!(collected(port.clone()).live().unwrap() == n / 2 && there(rust.clone()).live() == n / 2);
+    let a = time(|| drop(black_box(collected(port.clone())))) - time(|| drop(black_box(port.clone())));
+    let b = time(|| drop(black_box(there(rust.clone())))) - time(|| drop(black_box(rust.clone())));
+    table.row("collect, half of a chain goes (ns), by slots", n, a, b);
+}
+
 // A ring that a live register leads to, collected at a safepoint of a function of 64 blocks; the Rust's calls put together.
 fn joined(table: &mut Table, n: usize) {
     let (mut port, mut rust, first) = graph(n, |i| i + 1..i + 2);
@@ -309,6 +327,7 @@ fn main() {
                 SIZES.iter().for_each(|n| collections(&mut table, "chain", *n, |i| if i + 1 < *n { i + 1..i + 2 } else { 0..0 }));
                 SIZES.iter().for_each(|n| collections(&mut table, "ring", *n, |i| i + 1..i + 2));
                 SIZES.iter().for_each(|n| collections(&mut table, "wide", *n, |i| if i == 0 { 1..*n } else { 0..0 }));
+                SIZES.iter().for_each(|n| dropping(&mut table, *n));
                 SIZES.iter().for_each(|n| collections(&mut table, "tree", *n, |i| (2 * i + 1).min(*n)..(2 * i + 3).min(*n)));
             }
             "joined" => SIZES.iter().for_each(|n| joined(&mut table, *n)),
