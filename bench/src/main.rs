@@ -54,6 +54,25 @@ fn time(mut work: impl FnMut()) -> f64 {
     rounds[2]
 }
 
+// Nanoseconds of work on what is made anew each time; the making is not counted.
+fn time_on<T>(mut make: impl FnMut() -> T, mut work: impl FnMut(&mut T)) -> f64 {
+    let mut rounds: Vec<f64> = (0..5)
+        .map(|_| {
+            let (mut spent, mut turns) = (0.0, 0);
+            while spent < 2e7 {
+                let mut on = make();
+                let begin = now();
+                work(&mut on);
+                spent += now() - begin;
+                turns += 1;
+            }
+            spent / f64::from(turns)
+        })
+        .collect();
+    rounds.sort_by(f64::total_cmp);
+    rounds[2]
+}
+
 // The rows of the table, and what was measured for the size before.
 #[derive(Default)]
 struct Table {
@@ -270,21 +289,15 @@ fn collections(table: &mut Table, shape: &str, n: usize, edges: impl Fn(usize) -
     table.row(&format!("collect, {shape} (ns), by slots"), n, a, b);
 }
 
-// A chain over every second object: the others go, and the data of those that stay moves together. Each turn collects a copy, whose own time is taken off.
+// A chain over every second object: the others go, and the data of those that stay moves together. Each turn collects a fresh copy.
 fn dropping(table: &mut Table, n: usize) {
     let (port, rust, first) = graph(n, |i| if i % 2 == 0 && i + 2 < n { i + 2..i + 3 } else { 0..0 });
     let (types, prog) = (TypeTable::new(), Program::default());
-    let collected = |mut heap: Heap| {
-        heap.collect(&types, &[Handle(first)], &[]).unwrap();
-        heap
-    };
-    let there = |mut heap: heap::Heap| {
-        assert!(heap.collect(&prog, &[first], &[]));
-        heap
-    };
-    assert!(collected(port.clone()).live().unwrap() == n / 2 && there(rust.clone()).live() == n / 2);
-    let a = time(|| drop(black_box(collected(port.clone())))) - time(|| drop(black_box(port.clone())));
-    let b = time(|| drop(black_box(there(rust.clone())))) - time(|| drop(black_box(rust.clone())));
+    let a = time_on(|| port.clone(), |h| h.collect(&types, &[Handle(first)], &[]).unwrap());
+    let b = time_on(|| rust.clone(), |h| assert!(h.collect(&prog, &[first], &[])));
+    let (mut here, mut there) = (port, rust);
+    assert!(here.collect(&types, &[Handle(first)], &[]).is_ok() && there.collect(&prog, &[first], &[]));
+    assert!(here.live().unwrap() == n.div_ceil(2) && there.live() == n.div_ceil(2));
     table.row("collect, half of a chain goes (ns), by slots", n, a, b);
 }
 
