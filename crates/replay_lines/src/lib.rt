@@ -2,6 +2,5 @@
 // program's.
 pub mod beside;
 pub mod cut;
-pub mod request;
 pub mod route;
 pub mod serve;

@@ -1,8 +1,5 @@
 // What a line asks of the heap, and what is kept from line to line.
 use crate::cut;
-use crate::request::Asked;
-use crate::request::asking;
-use crate::request::changing;
 use heap::Heap;
 use protocol::command::Ask;
 use protocol::command::Change;
@@ -17,6 +14,9 @@ use replay_heap::Request;
 use replay_heap::Sizes;
 use replay_heap::Task;
 use replay_heap::show;
+use replay_request::Asked;
+use replay_request::asking;
+use replay_request::changing;
 
 // The heap's header, how much of the columns it has, and how many times the same line has still to be run.
 pub struct State {

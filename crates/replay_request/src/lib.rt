@@ -1,4 +1,4 @@
-// The fields of a heap command's line.
+// The fields of a heap command's line of the program `replay`.
 use protocol::command::Ask;
 use protocol::command::Change;
 use protocol::read::Field;
