@@ -799,7 +799,7 @@ fn trace_record(
     Answer::Traced(m)
 }
 
-// The handles in count records of one type, as trace_each finds those in elements. trace_record is called here alone, so that the compiler puts it into this loop.
+// The handles in count records of one type, as trace_each finds those in elements. A type is looked up once for all of them, where trace_in would look it up for each.
 fn trace_records(
     types: &[u64],
     fields: &[u32],
