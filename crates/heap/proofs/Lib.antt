@@ -8,3 +8,5 @@ pub mod Placing
 pub mod Seals
 pub mod Testing
 pub mod Keeping
+pub mod Runs
+pub mod Telling
