@@ -41,7 +41,7 @@ module _ (m w narrow wide pool : List ℕ) (tag : ℕ) where
       go true ea true eb u = rw (ea, eb) (made-formed (length narrow) (length wide) (length pool) tag (sizes-tested _ _ _ eb), view-stored (length narrow / 6) (length pool) (new tag))
 
   -- the next call
-  module _ {A : Type 0} (first second : A → ℕ) (m₂ w₂ : List ℕ) (e : enough m w (lent noHeader narrow wide pool) ≡ true) (h : sizesFit (length narrow) (length wide) (length pool) ≡ true) (s : enough m₂ w₂ made ≡ true) where
+  module _ {A : Type 0} (first second : A → ℕ) (m₂ w₂ : List ℕ) (h : sizesFit (length narrow) (length wide) (length pool) ≡ true) (s : enough m₂ w₂ made ≡ true) where
     made-view : view made ≡ new tag
     made-view = view-stored (length narrow / 6) (length pool) (new tag)
 
