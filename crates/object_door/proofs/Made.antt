@@ -10,12 +10,11 @@ use Rattle.refusal.specs.Told.{answered, nothing}
 use Rattle.heap.specs.State.{State}
 use Rattle.heap.specs.Lent.{Lent, lent, stored, view}
 use Rattle.heap.specs.WellFormed.{wellFormed}
-use Rattle.heap.specs.Calls.{Changed, new, done}
+use Rattle.heap.specs.Calls.{Changed, new}
 use Rattle.heap.proofs.Storing.{view-stored}
-use Rattle.door.specs.HeapCalls.{Outcome, admitted, outcome, enough, zeros, calling, heapCall, Asked, asked, heapAsk}
-use Rattle.door.specs.declared.Entry.the-variants.{Ready}
+use Rattle.door.specs.HeapCalls.{Outcome, admitted, outcome, enough, zeros, calling, heapCall, asked, heapAsk}
 use Rattle.door.proofs.Entering.{calling-ready, asking-ready}
-use Rattle.object_door.specs.Making.{noHeader, sizesFit, newTests, newCall}
+use Rattle.object_door.specs.Making.{noHeader, sizesFit, newTests, making, newCall}
 use Rattle.object_door.proofs.Making.{sizes-tested, made-formed}
 
 module _ (m w narrow wide pool : List ℕ) (tag : ℕ) where
@@ -26,7 +25,7 @@ module _ (m w narrow wide pool : List ℕ) (tag : ℕ) where
   pub new-made : enough m w (lent noHeader narrow wide pool) ≡ true → sizesFit (length narrow) (length wide) (length pool) ≡ true
       → newCall m w narrow wide pool tag ≡ outcome (record { number = 0; first = 0; second = 0 }) made (zeros m) (zeros w)
   unfolding admitted
-  new-made e h = calling-ready nothing nothing (m ∷ w ∷ []) (newTests m w narrow wide pool) (lent noHeader narrow wide pool) (λ x. done tt (new tag)) (simp (e, h))
+  new-made e h = calling-ready nothing nothing (m ∷ w ∷ []) (newTests m w narrow wide pool) (lent noHeader narrow wide pool) (making tag) (simp (e, h))
 
   -- where it succeeded, the lent memory that it leaves is well formed and holds the empty heap of the tag
   pub new-formed : newCall m w narrow wide pool tag .answer .number ≡ 0

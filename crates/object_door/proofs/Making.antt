@@ -1,6 +1,6 @@
 -- The ways out of `new`. Assumes nothing.
-use mathlib.Core.Path.{_≡_, refl, sym, ap, subst, _∙_}
-use mathlib.Core.Bool.{Bool, true, false}
+use mathlib.Core.Path.{_≡_, refl, sym, ap, _∙_}
+use mathlib.Core.Bool.{Bool, true, false, _&&_}
 use mathlib.Core.List.{List, [], _∷_}
 use mathlib.Core.Logic.{_⊎_, inl, inr}
 use Prim.Native.Nat.{ℕ, _*_, _/_, _≤_, _<_}
@@ -16,9 +16,9 @@ use Rattle.refusal.specs.declared.Refusal.{Refusal}
 use Rattle.refusal.specs.declared.Refusal.the-variants.{BrokenHeap, Scratch}
 use Rattle.refusal.specs.declared.Reply.the-variants.{Is, Not as Refused}
 use Rattle.heap.specs.Packing.{flat}
-use Rattle.heap.specs.Lent.{Lent, lent, stored, slotCount, poolSize}
+use Rattle.heap.specs.Lent.{Lent, lent, stored, view}
 use Rattle.heap.specs.WellFormed.{partitioned, soundSeals, soundReclaim, sound, fits, wellFormed}
-use Rattle.heap.specs.Calls.{new, done}
+use Rattle.heap.specs.Calls.{new}
 use Rattle.heap.specs.Done.{Tells}
 use Rattle.heap.specs.declared.Heap.{Heap}
 use Rattle.heap.proofs.Testing.{stored-formed}
@@ -26,7 +26,7 @@ use Rattle.door.specs.HeapCalls.{test, admitted, zeros, Entered, outcome}
 use Rattle.door.specs.declared.Entry.{Entry}
 use Rattle.door.specs.declared.Entry.the-variants.{Ready, Not}
 use Rattle.door.proofs.Entering.{fails, passes, passed, few-marks, few-words, is-enough, call-refused, call-ready}
-use Rattle.object_door.specs.Making.{noHeader, sizesFit, newTests, newCall}
+use Rattle.object_door.specs.Making.{noHeader, sizesFit, newTests, making, newCall}
 
 -- ---- sizes
 
@@ -114,16 +114,16 @@ module _ (m w narrow wide pool : List ℕ) where
 
 -- ---- the call
 
-module _ {m w m′ w′ narrow wide pool : List ℕ} {e : Entry} (s : Entered (m ∷ w ∷ []) (newTests m w narrow wide pool) e (m′ ∷ w′ ∷ [])) (tag : ℕ) where
+module _ (m w narrow wide pool : List ℕ) {m′ w′ : List ℕ} {e : Entry} (s : Entered (m ∷ w ∷ []) (newTests m w narrow wide pool) e (m′ ∷ w′ ∷ [])) (tag : ℕ) where
   pub new-can : e ≡ Ready → Sizes (length narrow) (length wide) (length pool)
   new-can i = sizes-tested _ _ _ (passed _ _ _ (passed _ _ _ (sym (s .found) ∙ i) .1) .0)
 
   pub new-refused : {why : Refusal} {h : Heap} {r : Answer} → e ≡ Not why → h ≡ noHeader → r ≡ told (Refused why) → outcome r (lent h narrow wide pool) m′ w′ ≡ newCall m w narrow wide pool tag
   new-refused {r = r} i eh t =
-      (λ j. outcome r (lent (eh j) narrow wide pool) m′ w′) ∙ call-refused s nothing nothing (λ h. done tt (new tag)) i t
+      (λ j. outcome r (lent (eh j) narrow wide pool) m′ w′) ∙ call-refused s nothing nothing (making tag) i t
 
   pub new-ready : {l′ : Lent} {r : Answer} → e ≡ Ready → l′ ≡ stored (length narrow / 6) (length pool) (new tag) → r ≡ told (Is 0 0) → outcome r l′ m′ w′ ≡ newCall m w narrow wide pool tag
   new-ready {l′} i lies t =
-      let d : Tells nothing nothing (lent noHeader narrow wide pool) l′ (Is 0 0) (done tt (new tag)) =
+      let d : Tells nothing nothing (lent noHeader narrow wide pool) l′ (Is 0 0) (making tag (view (lent noHeader narrow wide pool))) =
       record { leaves = record { lies = lies; formed = ap wellFormed lies ∙ made-formed (length narrow) (length wide) (length pool) tag (new-can i) }; says = refl } in
-      call-ready s nothing nothing (λ h. done tt (new tag)) i d t
+      call-ready s nothing nothing (making tag) i d t

@@ -6,8 +6,9 @@ use lib.ListN.{length, replicate}
 use lib.Dec.{eqb, leb}
 use Rattle.refusal.specs.Told.{nothing}
 use Rattle.refusal.specs.declared.Refusal.the-variants.{BrokenHeap, Scratch}
+use Rattle.heap.specs.State.{State}
 use Rattle.heap.specs.Lent.{lent}
-use Rattle.heap.specs.Calls.{new, done}
+use Rattle.heap.specs.Calls.{Changed, new, done}
 use Rattle.heap.specs.declared.Heap.{Heap}
 use Rattle.door.specs.HeapCalls.{Test, test, Outcome, enough, calling}
 
@@ -23,7 +24,10 @@ abbrev pub newTests : (marks work narrow wide pool : List ℕ) → List Test
 newTests marks work narrow wide pool =
     test (enough marks work (lent noHeader narrow wide pool)) Scratch ∷ test (sizesFit (length narrow) (length wide) (length pool)) BrokenHeap ∷ []
 
--- an empty heap of the tag; what was lent holds no heap before
+-- an empty heap of the tag, whatever was there
+abbrev pub making : (tag : ℕ) → State → Changed Unit
+making tag h = done tt (new tag)
+
 abbrev pub newCall : (marks work narrow wide pool : List ℕ) → (tag : ℕ) → Outcome
 newCall marks work narrow wide pool tag =
-    calling nothing nothing (marks ∷ work ∷ []) (newTests marks work narrow wide pool) (lent noHeader narrow wide pool) (λ h. done tt (new tag))
+    calling nothing nothing (marks ∷ work ∷ []) (newTests marks work narrow wide pool) (lent noHeader narrow wide pool) (making tag)

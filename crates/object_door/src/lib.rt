@@ -60,13 +60,7 @@ fn sizes_fit(narrow: usize, wide: usize, pool: usize) -> bool
 }
 
 // Is there scratch enough, and are the lent sizes in range?
-fn enter_new(
-    narrow: &[u32],
-    wide: &[u64],
-    pool: &[u8],
-    marks: &mut [u8],
-    work: &mut [u64],
-) -> Entry
+fn enter_new(narrow: &[u32], wide: &[u64], pool: &[u8], marks: &mut [u8], work: &mut [u64]) -> Entry
     ensures { λ r. ⌜ Entered (now (marks .entry) ∷ now (work .entry) ∷ [])
         (newTests (now (marks .entry)) (now (work .entry)) (now (narrow .entry)) (now (wide .entry)) (now (pool .entry)))
         r (now (marks .exit) ∷ now (work .exit) ∷ []) ⌝ }
@@ -144,8 +138,7 @@ pub extern "C" fn yexwalu_alloc_from(
 ) -> Done
     ensures { λ r. ⌜ outcome (r .answer)
         (lent (r .heap) (now (narrow .exit)) (now (wide .exit)) (now (pool .exit))) (now (marks .exit)) (now (work .exit))
-        ≡ heapCall here nothing (now (marks .entry)) (now (work .entry))
-        (lent heap (now (narrow .entry)) (now (wide .entry)) (now (pool .entry)))
+        ≡ heapCall here nothing (now (marks .entry)) (now (work .entry)) (lent heap (now (narrow .entry)) (now (wide .entry)) (now (pool .entry)))
         (allocating (length (now (narrow .entry)) / 6) (length (now (pool .entry))) kind ty start (now (bytes .entry))) ⌝ }
 {
     match enter(heap, narrow, wide, pool, marks, work) {
@@ -186,8 +179,7 @@ pub extern "C" fn yexwalu_alloc(
 ) -> Done
     ensures { λ r. ⌜ outcome (r .answer)
         (lent (r .heap) (now (narrow .exit)) (now (wide .exit)) (now (pool .exit))) (now (marks .exit)) (now (work .exit))
-        ≡ heapCall here nothing (now (marks .entry)) (now (work .entry))
-        (lent heap (now (narrow .entry)) (now (wide .entry)) (now (pool .entry)))
+        ≡ heapCall here nothing (now (marks .entry)) (now (work .entry)) (lent heap (now (narrow .entry)) (now (wide .entry)) (now (pool .entry)))
         (allocating (length (now (narrow .entry)) / 6) (length (now (pool .entry))) kind ty 0 (now (bytes .entry))) ⌝ }
 {
     yexwalu_alloc_from(heap, narrow, wide, pool, kind, ty, 0, bytes, marks, work)
@@ -241,8 +233,7 @@ pub extern "C" fn yexwalu_free(
 ) -> Done
     ensures { λ r. ⌜ outcome (r .answer)
         (lent (r .heap) (now (narrow .exit)) (now (wide .exit)) (now (pool .exit))) (now (marks .exit)) (now (work .exit))
-        ≡ heapCall nothing nothing (now (marks .entry)) (now (work .entry))
-        (lent heap (now (narrow .entry)) (now (wide .entry)) (now (pool .entry)))
+        ≡ heapCall nothing nothing (now (marks .entry)) (now (work .entry)) (lent heap (now (narrow .entry)) (now (wide .entry)) (now (pool .entry)))
         (λ h. freed h handle) ⌝ }
 {
     match enter(heap, narrow, wide, pool, marks, work) {
@@ -275,8 +266,7 @@ pub extern "C" fn yexwalu_recycle(
 ) -> Done
     ensures { λ r. ⌜ outcome (r .answer)
         (lent (r .heap) (now (narrow .exit)) (now (wide .entry)) (now (pool .entry))) (now (marks .exit)) (now (work .exit))
-        ≡ heapCall nothing nothing (now (marks .entry)) (now (work .entry))
-        (lent heap (now (narrow .entry)) (now (wide .entry)) (now (pool .entry)))
+        ≡ heapCall nothing nothing (now (marks .entry)) (now (work .entry)) (lent heap (now (narrow .entry)) (now (wide .entry)) (now (pool .entry)))
         (recycling (now (pins .entry))) ⌝ }
 {
     match enter(heap, narrow, wide, pool, marks, work) {
