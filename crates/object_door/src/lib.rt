@@ -1,4 +1,4 @@
-// Public calls that place and remove objects on a heap in lent memory, part of the front door: scratch (18) and the heap (1) are tested first, each time.
+// Public calls that make a heap in lent memory and place and remove objects there, part of the front door: scratch (18) and the heap (1) are tested first, each time.
 // `marks` and `work` are scratch.
 use door::Done;
 use door::Entry;
@@ -7,13 +7,107 @@ use heap::Heap;
 use refusal::Refusal;
 use refusal::Reply;
 ghost use mathlib.Core.Path.{_≡_};
+ghost use mathlib.Core.List.{[], _∷_};
 ghost use Prim.Native.Nat.{_/_};
 ghost use lib.ListN.{length};
 ghost use Rattle.refusal.specs.Told.{here, nothing};
 ghost use Rattle.heap.specs.Lent.{lent};
 ghost use Rattle.heap.specs.Calls.{free as freed};
-ghost use Rattle.door.specs.HeapCalls.{outcome, heapCall};
+ghost use Rattle.door.specs.HeapCalls.{Entered, outcome, heapCall};
 ghost use Rattle.object_door.specs.ObjectCalls.{isKind, allocating, recycling, handed, takeCall};
+ghost use Rattle.object_door.specs.Making.{noHeader, sizesFit, newTests, newCall};
+
+// The header that a refusal returns: zeros, which no call takes for a heap.
+fn no_heap() -> Heap
+    ensures { λ r. ⌜ r ≡ noHeader ⌝ }
+{
+    Heap {
+        tag: 0,
+        since_gc: 0,
+        reclaim_at: 0,
+        live_bytes: 0,
+        epoch: 0,
+        log: [0; 16],
+        slots: 0,
+        free: 0,
+        quarantine: 0,
+        retired: 0,
+        sealed: 0,
+    }
+}
+
+// Are the lent sizes in range: six narrow runs and four wide ones?
+fn sizes_fit(narrow: usize, wide: usize, pool: usize) -> bool
+    ensures { λ r. ⌜ r ≡ sizesFit narrow wide pool ⌝ }
+{
+    let all = narrow / 6;
+    if all < 1 {
+        return false;
+    }
+    if 16777216 < all {
+        return false;
+    }
+    if 1073741824 < pool {
+        return false;
+    }
+    if narrow != 6 * all {
+        return false;
+    }
+    if wide != 4 * all {
+        return false;
+    }
+    true
+}
+
+// Is there scratch enough, and are the lent sizes in range?
+fn enter_new(narrow: &[u32], wide: &[u64], pool: &[u8], marks: &mut [u8], work: &mut [u64]) -> Entry
+    ensures { λ r. ⌜ Entered (now (marks .entry) ∷ now (work .entry) ∷ [])
+        (newTests (now (marks .entry)) (now (work .entry)) (now (narrow .entry)) (now (wide .entry)) (now (pool .entry)))
+        r (now (marks .exit) ∷ now (work .exit) ∷ []) ⌝ }
+{
+    let slots = narrow.len() / 6;
+    if marks.len() < slots {
+        return Entry::Not(Refusal::Scratch);
+    }
+    if work.len() < slots {
+        return Entry::Not(Refusal::Scratch);
+    }
+    memory::clear_u8(marks);
+    memory::clear_u64(work);
+    if sizes_fit(narrow.len(), wide.len(), pool.len()) {
+        return Entry::Ready;
+    }
+    Entry::Not(Refusal::BrokenHeap)
+}
+
+// An empty heap in lent memory: all of it is cleared.
+#[no_mangle]
+pub extern "C" fn yexwalu_new(
+    tag: u8,
+    narrow: &mut [u32],
+    wide: &mut [u64],
+    pool: &mut [u8],
+    marks: &mut [u8],
+    work: &mut [u64],
+) -> Done
+    ensures { λ r. ⌜ outcome (r .answer)
+        (lent (r .heap) (now (narrow .exit)) (now (wide .exit)) (now (pool .exit))) (now (marks .exit)) (now (work .exit))
+        ≡ newCall (now (marks .entry)) (now (work .entry)) (now (narrow .entry)) (now (wide .entry)) (now (pool .entry)) tag ⌝ }
+{
+    match enter_new(narrow, wide, pool, marks, work) {
+        Entry::Not(why) => Done {
+            heap: no_heap(),
+            answer: Reply::Not(why).numbers(),
+        },
+        Entry::Ready => {
+            let after = heap_edit::new(tag, narrow, wide, pool);
+            Done {
+                heap: after,
+                answer: Reply::Is(0, 0).numbers(),
+            }
+        }
+    }
+}
 
 // Is `k` the kind of an object: Typed, Bytes or Handles?
 pub fn is_kind(k: u8) -> bool
@@ -44,8 +138,7 @@ pub extern "C" fn yexwalu_alloc_from(
 ) -> Done
     ensures { λ r. ⌜ outcome (r .answer)
         (lent (r .heap) (now (narrow .exit)) (now (wide .exit)) (now (pool .exit))) (now (marks .exit)) (now (work .exit))
-        ≡ heapCall here nothing (now (marks .entry)) (now (work .entry))
-        (lent heap (now (narrow .entry)) (now (wide .entry)) (now (pool .entry)))
+        ≡ heapCall here nothing (now (marks .entry)) (now (work .entry)) (lent heap (now (narrow .entry)) (now (wide .entry)) (now (pool .entry)))
         (allocating (length (now (narrow .entry)) / 6) (length (now (pool .entry))) kind ty start (now (bytes .entry))) ⌝ }
 {
     match enter(heap, narrow, wide, pool, marks, work) {
@@ -86,8 +179,7 @@ pub extern "C" fn yexwalu_alloc(
 ) -> Done
     ensures { λ r. ⌜ outcome (r .answer)
         (lent (r .heap) (now (narrow .exit)) (now (wide .exit)) (now (pool .exit))) (now (marks .exit)) (now (work .exit))
-        ≡ heapCall here nothing (now (marks .entry)) (now (work .entry))
-        (lent heap (now (narrow .entry)) (now (wide .entry)) (now (pool .entry)))
+        ≡ heapCall here nothing (now (marks .entry)) (now (work .entry)) (lent heap (now (narrow .entry)) (now (wide .entry)) (now (pool .entry)))
         (allocating (length (now (narrow .entry)) / 6) (length (now (pool .entry))) kind ty 0 (now (bytes .entry))) ⌝ }
 {
     yexwalu_alloc_from(heap, narrow, wide, pool, kind, ty, 0, bytes, marks, work)
@@ -141,8 +233,7 @@ pub extern "C" fn yexwalu_free(
 ) -> Done
     ensures { λ r. ⌜ outcome (r .answer)
         (lent (r .heap) (now (narrow .exit)) (now (wide .exit)) (now (pool .exit))) (now (marks .exit)) (now (work .exit))
-        ≡ heapCall nothing nothing (now (marks .entry)) (now (work .entry))
-        (lent heap (now (narrow .entry)) (now (wide .entry)) (now (pool .entry)))
+        ≡ heapCall nothing nothing (now (marks .entry)) (now (work .entry)) (lent heap (now (narrow .entry)) (now (wide .entry)) (now (pool .entry)))
         (λ h. freed h handle) ⌝ }
 {
     match enter(heap, narrow, wide, pool, marks, work) {
@@ -175,8 +266,7 @@ pub extern "C" fn yexwalu_recycle(
 ) -> Done
     ensures { λ r. ⌜ outcome (r .answer)
         (lent (r .heap) (now (narrow .exit)) (now (wide .entry)) (now (pool .entry))) (now (marks .exit)) (now (work .exit))
-        ≡ heapCall nothing nothing (now (marks .entry)) (now (work .entry))
-        (lent heap (now (narrow .entry)) (now (wide .entry)) (now (pool .entry)))
+        ≡ heapCall nothing nothing (now (marks .entry)) (now (work .entry)) (lent heap (now (narrow .entry)) (now (wide .entry)) (now (pool .entry)))
         (recycling (now (pins .entry))) ⌝ }
 {
     match enter(heap, narrow, wide, pool, marks, work) {
