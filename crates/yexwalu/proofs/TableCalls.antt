@@ -8,7 +8,7 @@ use Rattle.word.specs.Result.{Result, refused}
 use Rattle.ty.specs.Check.{tableGood}
 use Rattle.yexwalu.specs.Table.{onTable}
 
-module _ {w fs cs b : List ℕ} {g : Bool} (eg : g ≡ tableGood w fs cs b) {A : Type 0} (call : Result A) where
+module _ (w fs cs b : List ℕ) {g : Bool} (eg : g ≡ tableGood w fs cs b) {A : Type 0} (call : Result A) where
   pub table-bad : not g ≡ true → onTable w fs cs b call ≡ refused 10
   unfolding onTable
   table-bad h = rw (← eg, not-true g h) refl

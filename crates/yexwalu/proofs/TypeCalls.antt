@@ -34,10 +34,10 @@ sized-none (some m) e = let z : _≡_ {A = ℕ} 0 1 = cc in absurd (omega arith)
 module _ (w fs cs b : List ℕ) (t : ℕ) {g : Bool} (eg : g ≡ tableGood w fs cs b) where
   -- refused: whatever the call is
   pub answer-refused : {r : Answer} (call : Result ℕ) → not g ≡ true → r ≡ refusedBy 10 → r ≡ answered here nothing (onTable w fs cs b call)
-  answer-refused call h e = e ∙ sym (ap (answered here nothing) (table-bad eg call h))
+  answer-refused call h e = e ∙ sym (ap (answered here nothing) (table-bad w fs cs b eg call h))
 
   answer-passed : {r : Answer} {x y : Result ℕ} → not g ≡ false → x ≡ y → r ≡ answered here nothing y → r ≡ answered here nothing (onTable w fs cs b x)
-  answer-passed {r} {x} {y} h q e = e ∙ sym (ap (answered here nothing) (table-good eg x h ∙ q))
+  answer-passed {r} {x} {y} h q e = e ∙ sym (ap (answered here nothing) (table-good w fs cs b eg x h ∙ q))
 
   -- a checked table's size is exact
   size-exact : {x y : Word} → not g ≡ false → x ≡ descSize (typesOf w fs) t → x ≡ y → exactly (descBytes (typesOf w fs) t) ≡ y
@@ -59,10 +59,10 @@ module _ (w fs cs b : List ℕ) (t : ℕ) {g : Bool} (eg : g ≡ tableGood w fs 
 
   module _ (d : List ℕ) (offs out : List ℕ) (places : ℕ) where
     pub layout-refused : {r : Layout} → not g ≡ true → r ≡ laid (refused 10) → (r ≡ laid (layoutCalled w fs cs b t d places)) × (out ≡ writtenBy (layoutCalled w fs cs b t d places) offs out)
-    layout-refused h e = let q = table-bad eg (layoutCall (tableOf w fs cs b) t d places) h in (e ∙ sym (ap laid q), sym (ap (λ (u : Result Values). writtenBy u offs out) q))
+    layout-refused h e = let q = table-bad w fs cs b eg (layoutCall (tableOf w fs cs b) t d places) h in (e ∙ sym (ap laid q), sym (ap (λ (u : Result Values). writtenBy u offs out) q))
 
     pub layout-passed : {r : Layout} {x : Result Values} {out′ : List ℕ} → not g ≡ false → x ≡ layoutCall (tableOf w fs cs b) t d places → out′ ≡ writtenBy x offs out → r ≡ laid x
         → (r ≡ laid (layoutCalled w fs cs b t d places)) × (out′ ≡ writtenBy (layoutCalled w fs cs b t d places) offs out)
     layout-passed h p o e =
-        let q = p ∙ sym (table-good eg (layoutCall (tableOf w fs cs b) t d places) h) in
+        let q = p ∙ sym (table-good w fs cs b eg (layoutCall (tableOf w fs cs b) t d places) h) in
         (e ∙ ap laid q, o ∙ ap (λ (u : Result Values). writtenBy u offs out) q)
