@@ -313,9 +313,9 @@ impl Heap {
 
     // The number of bytes of slot `i`'s object, those before its start too. Memory that was not checked may say anything: more than the pool is no object's.
     fn size_of(&self, i: usize) -> usize {
-        let end = &self.memory.end;
+        let (end, pool) = (self.memory.end(), self.memory.pool.len() as u64);
         match end.get(i) {
-            Some(e) => e.saturating_sub(if i == 0 { 0 } else { end[i - 1] }).min(self.memory.pool.len()),
+            Some(e) => e.saturating_sub(if i == 0 { 0 } else { end[i - 1] }).min(pool) as usize,
             None => 0,
         }
     }
@@ -455,14 +455,14 @@ impl Heap {
         pins: &[u32],
         rows: &mut [u64],
     ) -> Result<(), Refusal> {
-        let (offsets, kinds, tys) = FrameSlot::columns(map);
+        let map = FrameSlot::words(map);
         let f = function;
         let done = change!(&mut self.memory, self.scratch.get_mut(), yexwalu_collect_joined(
             types.types.as_ptr(), types.types.len(), types.fields.as_ptr(), types.fields.len(),
             types.consts.as_ptr(), types.consts.len(), types.bytes.as_ptr(), types.bytes.len(), self.header)
             (f.kinds.as_ptr(), f.kinds.len(), f.ends.as_ptr(), f.ends.len(), f.refs.as_ptr(), f.refs.len(), f.blocks.as_ptr(), f.blocks.len(),
-            f.classes.as_ptr(), f.classes.len(), pc as usize, values.as_ptr(), values.len(), offsets.as_ptr(), offsets.len(), kinds.as_ptr(), kinds.len(),
-            tys.as_ptr(), tys.len(), frame.as_ptr(), frame.len(), pins.as_ptr(), pins.len())
+            f.classes.as_ptr(), f.classes.len(), pc as usize, values.as_ptr(), values.len(), map.as_ptr(), map.len(),
+            frame.as_ptr(), frame.len(), pins.as_ptr(), pins.len())
             (rows.as_mut_ptr(), rows.len()));
         self.done(done).map(|_| ())
     }
@@ -496,7 +496,7 @@ impl Heap {
         Ok(answer.first == 1)
     }
 
-    // The values of an answer. Slot indices, generations and write counts have 32 bits at most, so that casts to them cut nothing.
+    // The values of an answer. Slot indices and generations have 32 bits at most, so that casts to them cut nothing.
     fn pair(answer: ffi::Answer) -> Result<(u64, u64), Refusal> {
         Refusal::check(answer.number)?;
         Ok((answer.first, answer.second))
@@ -560,7 +560,7 @@ impl Heap {
         let (generation, writes) = Heap::pair(ask!(self, yexwalu_stamp(slot as usize)))?;
         Ok(Stamp {
             generation: generation as u32,
-            writes: writes as u32,
+            writes,
         })
     }
 
@@ -577,8 +577,9 @@ impl Heap {
     /// # Ok::<(), Refusal>(())
     /// ```
     pub fn write_page(&self) -> Result<Vec<u8>, Refusal> {
-        let slots = self.header.slots.min(self.memory.end.len());
-        let data = if slots == 0 { 0 } else { self.memory.end[slots - 1].min(self.memory.pool.len()) };
+        let (end, pool) = (self.memory.end(), self.memory.pool.len() as u64);
+        let slots = self.header.slots.min(end.len());
+        let data = if slots == 0 { 0 } else { end[slots - 1].min(pool) as usize };
         // document 01: a page takes at most 256 + 96 × slots + 2 × data bytes
         let mut out = vec![0; 256 + 96 * slots + 2 * data];
         let size = self.write_page_into(&mut out)?;
