@@ -1,5 +1,5 @@
-use Rattle.heap.specs.WellFormed.{sizesFit}
 use borrow.Author.Needs.{needs}
+use Rattle.page_reader.specs.Reading.{sizesFit}
 use Rattle.page_reader.proofs.sizes_fit.Statement.{statement}
 use Rattle.page_reader.proofs.sizes_fit.Tie as tie
 
@@ -9,29 +9,17 @@ both-requires c κs = search needs
 both-requires-2 : tie.Need-both-requires-2
 both-requires-2 c κs = search needs
 
+mul-both : tie.Need-mul-both
+mul-both c = search needs
+
 both-requires-3 : tie.Need-both-requires-3
 both-requires-3 c κs = search needs
 
+mul-both-2 : tie.Need-mul-both-2
+mul-both-2 c = search needs
+
 both-requires-4 : tie.Need-both-requires-4
 both-requires-4 c κs = search needs
-
-both-requires-5 : tie.Need-both-requires-5
-both-requires-5 c κs = search needs
-
-both-requires-6 : tie.Need-both-requires-6
-both-requires-6 c κs = search needs
-
-both-requires-7 : tie.Need-both-requires-7
-both-requires-7 c κs = search needs
-
-both-requires-8 : tie.Need-both-requires-8
-both-requires-8 c κs = search needs
-
-both-requires-9 : tie.Need-both-requires-9
-both-requires-9 c κs = search needs
-
-both-requires-10 : tie.Need-both-requires-10
-both-requires-10 c κs = search needs
 
 returns : tie.Need-returns
 unfolding sizesFit
@@ -43,12 +31,8 @@ sizes-fit-spec =
     (tie.spec
     both-requires
     both-requires-2
+    mul-both
     both-requires-3
+    mul-both-2
     both-requires-4
-    both-requires-5
-    both-requires-6
-    both-requires-7
-    both-requires-8
-    both-requires-9
-    both-requires-10
     returns)
