@@ -1,6 +1,6 @@
 -- The public call `data` answers two numbers: the pool's bytes there are the visible data (01, "Heap": visible data runs from start). Assumes nothing.
 use mathlib.Core.Path.{_≡_, refl, sym, ap, _∙_}
-use mathlib.Core.Bool.{Bool, true, false, not}
+use mathlib.Core.Bool.{Bool, true, false}
 use mathlib.Core.List.{List, [], _∷_, _++_, append-assoc}
 use Prim.Native.Nat.{ℕ, suc, _+_, _-_, _≤_, _<_}
 use native.Mathlib.Omega.{arith}
@@ -8,7 +8,6 @@ use lib.ListN.{length, getD, take, drop, replicate, length-drop, length-map, Lis
 use lib.Seq.{take-at, drop-append-add, drop-append-le}
 use lib.Dec.{leb}
 use borrow.Author.Tests.{leb-true}
-use Rattle.word.specs.Choice.{if_then_else_}
 use Rattle.word.specs.Result.{Result, ok, refused}
 use Rattle.heap.specs.Packing.{pad, flat}
 use Rattle.heap.specs.State.{Slot, State, noSlot, slotAt, dataOf, dataSize, live}
