@@ -10,11 +10,11 @@ use Rattle.word.specs.Run.{run}
 use Rattle.word.proofs.RunLaws.{run-get, first-get}
 use Rattle.heap.specs.Packing.{pad, flat, ends, startOf}
 use Rattle.heap.specs.State.{Slot, State, noSlot, slotAt, dataOf, dataSize}
-use Rattle.heap.specs.Lent.{Lent, lent, stored, view, headerOf, slotCount, poolSize}
+use Rattle.heap.specs.Lent.{Lent, lent, stored, view, slotCount, poolSize}
 use Rattle.heap.specs.WellFormed.{wellFormed}
 use Rattle.heap.specs.declared.Heap.{Heap}
 use Rattle.heap.proofs.Packing.{start-of, end-of, flat-split}
-use Rattle.heap.proofs.Sound.{Sound, WellFormed}
+use Rattle.heap.proofs.Sound.{WellFormed}
 use Rattle.heap.proofs.Storing.{column-any}
 use Rattle.heap.proofs.Changing.{Known, known}
 use Rattle.heap.proofs.Testing.{formed-tested}

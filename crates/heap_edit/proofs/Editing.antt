@@ -18,12 +18,12 @@ use Rattle.handle.specs.Handle.{told, replied}
 use Rattle.handle.specs.declared.Resolved.{Resolved}
 use Rattle.handle.specs.declared.Resolved.the-variants.{Null, WrongHeap, Stale, At}
 use Rattle.handle.proofs.Resolved.{the-type as resolved-type}
-use Rattle.heap.specs.State.{Slot, State, slotAt, dataSize}
+use Rattle.heap.specs.State.{Slot, slotAt, dataSize}
 use Rattle.heap.specs.Lent.{Lent, lent, stored, view, slotCount, poolSize}
 use Rattle.heap.specs.WellFormed.{wellFormed}
 use Rattle.heap.specs.Header.{setChanged}
 use Rattle.heap.specs.Columns.{CanSplice, CanPlace, PlacedIn, putSlot}
-use Rattle.heap.specs.Done.{Leaves, Does, Tells}
+use Rattle.heap.specs.Done.{Does, Tells}
 use Rattle.heap.specs.Calls.{Changed, refuse, changed, rewritten, resolve, edit}
 use Rattle.heap.specs.declared.Heap.{Heap}
 use Rattle.heap.proofs.Keeping.{leaves}

@@ -2,7 +2,7 @@
 use mathlib.Core.Path.{_≡_, refl, sym, ap, _∙_, subst}
 use mathlib.Core.Bool.{Bool, true, false}
 use mathlib.Core.List.{List, [], _∷_, _++_, append-nil}
-use Prim.Native.Nat.{ℕ, zero, suc, _+_, _-_, _*_, _/_, _≤_, _<_}
+use Prim.Native.Nat.{ℕ, suc, _+_, _-_, _/_, _≤_, _<_}
 use native.Mathlib.Decide.{ℕ-discrete}
 use native.Mathlib.Nat.{zero-add}
 use native.Mathlib.Numerals.{add-one}
@@ -11,7 +11,7 @@ use lib.ListN.{length, getD, take, drop, set, replicate, length-append, length-d
 use lib.Seq.{drop-cons, take-at, take-all}
 use Rattle.word.specs.Choice.{if_then_else_}
 use Rattle.word.specs.Put.{put}
-use Rattle.word.proofs.PutLaws.{Filling, fill-start, fill-next, fill-stop, put-all}
+use Rattle.word.proofs.PutLaws.{Filling, fill-start, fill-next}
 use Rattle.handle.specs.Handle.{packed}
 use Rattle.heap.specs.Packing.{pad}
 use Rattle.heap.specs.State.{Slot, State, noSlot, slotAt, live, bit}

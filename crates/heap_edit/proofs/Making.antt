@@ -1,12 +1,12 @@
 -- `new`: cleared lists are how the empty heap lies. Assumes nothing.
-use mathlib.Core.Path.{_≡_, refl, sym, ap, _∙_}
+use mathlib.Core.Path.{_≡_, refl, ap, _∙_}
 use mathlib.Core.List.{List, [], _∷_, _++_}
 use Prim.Native.Nat.{ℕ, zero, suc, _+_, _-_, _*_, _/_, _≤_}
 use native.Mathlib.Omega.{arith}
 use lib.ListN.{length, take, drop, replicate, length-replicate}
 use Rattle.word.specs.Run.{run}
 use Rattle.heap.specs.Packing.{pad, flat, ends}
-use Rattle.heap.specs.Lent.{Lent, columns, cut, lent, stored, headerOf}
+use Rattle.heap.specs.Lent.{columns, cut, lent, stored, headerOf}
 use Rattle.heap.specs.Calls.{new}
 use Rattle.heap.specs.declared.Heap.{Heap}
 use Rattle.heap.proofs.Packing.{drop-replicate}

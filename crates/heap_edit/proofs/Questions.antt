@@ -1,15 +1,13 @@
 -- The questions by their ways out: what the header and the slots say. Assumes nothing.
 use mathlib.Core.Path.{_≡_, refl, sym, ap, _∙_}
-use mathlib.Core.Bool.{Bool, true, false, not, _&&_}
-use mathlib.Core.List.{List}
+use mathlib.Core.Bool.{Bool, true, false}
 use Prim.Native.Nat.{ℕ, zero, suc, _+_, _-_, _≤_, _<_, max}
 use native.Mathlib.Decide.{decLt, ℕ-discrete}
 use native.Mathlib.Omega.{arith}
 use lib.ListN.{length, getD, take, List·getD-eq-default}
 use lib.Dec.{eqb, ltb, leb}
 use borrow.Author.Tests.{ltb-true, lt-ltb, le-ltb, le-leb, lt-leb, eq-eqb, ne-eqb}
-use Rattle.word.specs.Choice.{if_then_else_}
-use Rattle.word.specs.Result.{Result, ok, refused}
+use Rattle.word.specs.Result.{ok}
 use Rattle.word.proofs.Bools.{bool-ext}
 use Rattle.refusal.specs.Told.{refusedBy, told, answered, here, nothing}
 use Rattle.refusal.specs.declared.Answer.{Answer}

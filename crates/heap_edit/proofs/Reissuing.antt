@@ -6,8 +6,8 @@ use Prim.Native.Nat.{ℕ, _+_, _*_, _/_, _≤_, _<_}
 use native.Mathlib.Omega.{arith}
 use lib.ListN.{length, getD, set, length-set}
 use Rattle.word.specs.Num.{nextFrom}
-use Rattle.word.specs.Result.{ok, refused}
-use Rattle.refusal.specs.Told.{answered, here, nothing}
+use Rattle.word.specs.Result.{ok}
+use Rattle.refusal.specs.Told.{here, nothing}
 use Rattle.refusal.specs.declared.Refusal.the-variants.{NothingThere}
 use Rattle.refusal.specs.declared.Reply.the-variants.{Is, Not}
 use Rattle.handle.specs.Handle.{packed}
@@ -15,12 +15,12 @@ use Rattle.heap.specs.State.{Slot, slotAt}
 use Rattle.heap.specs.Lent.{Lent, lent, stored, view, slotCount, poolSize}
 use Rattle.heap.specs.WellFormed.{wellFormed}
 use Rattle.heap.specs.Header.{setCharged}
-use Rattle.heap.specs.Done.{Leaves, Does, Tells}
-use Rattle.heap.specs.Calls.{Changed, done, refuse, charged, reissued, reissue}
+use Rattle.heap.specs.Done.{Does, Tells}
+use Rattle.heap.specs.Calls.{Changed, refuse, charged, reissued, reissue}
 use Rattle.heap.specs.declared.Heap.{Heap}
 use Rattle.heap.proofs.Keeping.{leaves}
 use Rattle.heap.proofs.Changing.{charge-lies}
-use Rattle.heap.proofs.Telling.{tells-is, tells-not}
+use Rattle.heap.proofs.Telling.{tells-is}
 use Rattle.heap.proofs.Runs.{recount, set-generation, set-writes, with-header, with-generation, with-writes}
 use Rattle.heap_edit.proofs.Columns.{formed, knows, generation-is, kind-is, type-is, start-is, sizes, reads}
 use Rattle.heap_edit.proofs.Cases.{reissue-none, reissue-done}

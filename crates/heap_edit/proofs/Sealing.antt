@@ -1,5 +1,5 @@
 -- `seal`: the run of seals is replaced by the handles of the live slots. Assumes nothing.
-use mathlib.Core.Path.{_≡_, refl, sym, ap, _∙_, subst}
+use mathlib.Core.Path.{_≡_, ap, _∙_, subst}
 use mathlib.Core.Bool.{true}
 use mathlib.Core.List.{List, _++_}
 use Prim.Native.Nat.{ℕ, _+_, _-_, _*_, _/_, _^_, _≤_, _<_}
@@ -21,7 +21,7 @@ use Rattle.heap.proofs.Packing.{length-pad}
 use Rattle.heap.proofs.Keeping.{leaves}
 use Rattle.heap.proofs.Runs.{with-header, with-sealed}
 use Rattle.heap_edit.specs.inner.Handles.{CanList, AllListed}
-use Rattle.heap_edit.proofs.Columns.{formed, knows, sizes, reads}
+use Rattle.heap_edit.proofs.Columns.{formed, sizes, reads}
 use Rattle.heap_edit.proofs.Soundness.{seal-sound}
 use Rattle.heap_edit.proofs.Listing.{few-handles}
 

@@ -1,14 +1,12 @@
 -- Each call keeps a heap sound and within its lent memory: one law a call, on states. Assumes nothing.
 use mathlib.Core.Path.{_≡_, refl, sym, ap, _∙_, subst}
 use mathlib.Core.Bool.{Bool, true, false}
-use mathlib.Core.List.{List, [], _∷_, map}
+use mathlib.Core.List.{List, [], _∷_}
 use Prim.Native.Nat.{ℕ, zero, suc, _+_, _-_, _^_, _≤_, _<_}
-use native.Mathlib.Decide.{decLt, ℕ-discrete}
+use native.Mathlib.Decide.{decLt}
 use native.Mathlib.Omega.{arith}
-use lib.ListN.{length, getD, take, drop, set, length-append, length-map, length-set, List·getD-map, List·getD-eq-default}
-use lib.Seq.{getD-set-same, getD-set-other}
-use lib.Dec.{eqb, ltb, leb}
-use borrow.Author.Tests.{ltb-true, ltb-false, lt-ltb, le-ltb, lt-leb, le-leb, eq-eqb, ne-eqb}
+use lib.ListN.{length, getD, List·getD-eq-default}
+use borrow.Author.Tests.{ltb-true}
 use mathlib.Core.Logic.{⊎-elim}
 use Rattle.word.specs.Choice.{if_then_else_}
 use Rattle.word.specs.Num.{nextFrom}
@@ -16,17 +14,15 @@ use Rattle.word.proofs.Bools.{either}
 use Rattle.word.specs.Put.{put}
 use Rattle.word.specs.Result.{Result, ok, refused}
 use Rattle.word.proofs.PutLaws.{length-put}
-use Rattle.handle.specs.Handle.{packed, tagOf, indexOf, generationOf, resolveBy}
+use Rattle.handle.specs.Handle.{packed, indexOf}
 use Rattle.handle.proofs.HandleLaws.{tag-packed, index-packed, generation-packed}
-use Rattle.handle.proofs.ResolveLaws.{Resolves, resolve-ok}
-use Rattle.heap.specs.Packing.{flat}
-use Rattle.heap.specs.State.{Slot, State, noSlot, slotAt, live, dataOf, dataSize, bit, times, withSince, withEpoch, withSealed}
+use Rattle.handle.proofs.ResolveLaws.{resolve-ok}
+use Rattle.heap.specs.State.{Slot, State, noSlot, slotAt, live, dataSize, withSealed}
 use Rattle.heap.specs.WellFormed.{soundSeals}
-use Rattle.heap.specs.Calls.{Changed, withSlot, changed, charged, rewritten, reissued, resolve, onSlot, editSlot, edit, write, reissue, seal, liveHandles}
-use Rattle.heap.proofs.Packing.{flat-set, flat-split}
-use Rattle.heap.proofs.Sound.{SlotSound, Sound, liveBit}
+use Rattle.heap.specs.Calls.{Changed, withSlot, rewritten, reissued, resolve, edit, write, reissue, seal, liveHandles}
+use Rattle.heap.proofs.Sound.{SlotSound, Sound}
 use Rattle.heap.proofs.Seals.{seals-join}
-use Rattle.heap.proofs.Keeping.{data-set, slot-sound, since-sound, epoch-sound, step-aged}
+use Rattle.heap.proofs.Keeping.{slot-sound, since-sound, epoch-sound, step-aged}
 use Rattle.heap_edit.proofs.Columns.{data-upto}
 use Rattle.heap_edit.proofs.Cases.{edit-unresolved, edit-full, edit-done, write-dead, write-hidden, write-beyond, write-done, reissue-none, reissue-done}
 

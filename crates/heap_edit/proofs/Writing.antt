@@ -1,13 +1,12 @@
 -- `write` by its ways out. Assumes nothing.
 use mathlib.Core.Path.{_≡_, refl, sym, ap, _∙_, subst}
-use mathlib.Core.Bool.{Bool, true, false}
+use mathlib.Core.Bool.{true, false}
 use mathlib.Core.List.{List}
 use mathlib.Core.Logic.{⊎-elim}
 use Prim.Native.Nat.{ℕ, _+_, _-_, _*_, _/_, _%_, _^_, _≤_, _<_}
 use native.Mathlib.Decide.{decLt}
 use native.Mathlib.Omega.{arith}
 use lib.ListN.{length, getD, take, set}
-use lib.Dec.{ltb}
 use borrow.Author.Tests.{lt-ltb, le-ltb}
 use Rattle.word.specs.Put.{put}
 use Rattle.word.specs.Result.{Result, ok, refused}
@@ -20,14 +19,13 @@ use Rattle.heap.specs.Packing.{startOf}
 use Rattle.heap.specs.State.{State, slotAt, live, dataSize}
 use Rattle.heap.specs.Lent.{Lent, lent, columns, stored, view, slotCount, poolSize}
 use Rattle.heap.specs.WellFormed.{wellFormed}
-use Rattle.heap.specs.Done.{Leaves, Does, Tells}
-use Rattle.heap.specs.Calls.{Changed, refuse, done, withSlot, rewritten, write}
+use Rattle.heap.specs.Done.{Does, Tells}
+use Rattle.heap.specs.Calls.{Changed, refuse, withSlot, rewritten, write}
 use Rattle.heap.specs.declared.Heap.{Heap}
 use Rattle.heap.proofs.Keeping.{leaves}
 use Rattle.heap.proofs.Telling.{tells-is, tells-not}
 use Rattle.heap.proofs.Runs.{set-writes}
 use Rattle.heap_edit.specs.inner.Seen.{seenAt}
-use Rattle.heap_edit.specs.declared.Visible.{Visible}
 use Rattle.heap_edit.specs.declared.Visible.the-variants.{Dead, Hidden, Shown}
 use Rattle.heap_edit.proofs.Columns.{formed, knows, generation-is, kind-is, type-is, start-is, writes-is, from-is, data-upto, sizes}
 use Rattle.heap_edit.proofs.Cases.{write-dead, write-hidden, write-beyond, write-done}

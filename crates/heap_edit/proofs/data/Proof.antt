@@ -1,8 +1,6 @@
 -- `heap_edit::data` meets its contract. Assumes nothing.
 use denote.Ref.{now}
-use native.Mathlib.Omega.{arith}
 use Rattle.heap.specs.Lent.{Lent, lent, view}
-use Prim.Native.Nat.{_<_}
 use Rattle.heap_edit.proofs.Questions.{place-told}
 use borrow.Author.Needs.{needs}
 use Rattle.heap_edit.proofs.data.Statement.{statement}

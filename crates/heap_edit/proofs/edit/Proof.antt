@@ -1,7 +1,7 @@
 -- `heap_edit::edit` meets its contract. Assumes nothing.
 use denote.Ref.{now}
 use native.Mathlib.Omega.{arith}
-use Rattle.heap.specs.Lent.{Lent, lent, view}
+use Rattle.heap.specs.Lent.{Lent, lent}
 use Rattle.heap_edit.proofs.Columns.{Sizes, sizes, reads}
 use Rattle.heap_edit.proofs.Editing.{found, edit-unfound, edit-inside, edit-not, edit-can, edit-yes}
 use borrow.Author.Needs.{needs}

@@ -1,7 +1,7 @@
 -- `heap_edit::reissue` meets its contract. Assumes nothing.
 use denote.Ref.{now}
 use native.Mathlib.Omega.{arith}
-use Rattle.heap.specs.Lent.{Lent, lent, view}
+use Rattle.heap.specs.Lent.{Lent, lent}
 use Rattle.heap_edit.proofs.Columns.{Sizes, sizes}
 use Rattle.heap_edit.proofs.Reissuing.{reissue-no, reissue-yes}
 use borrow.Author.Needs.{needs}

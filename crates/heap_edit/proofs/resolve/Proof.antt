@@ -1,8 +1,7 @@
 -- `heap_edit::resolve` meets its contract. Assumes nothing.
 use denote.Ref.{now}
 use native.Mathlib.Omega.{arith}
-use Rattle.heap.specs.Lent.{Lent, lent, view}
-use Prim.Native.Nat.{_<_}
+use Rattle.heap.specs.Lent.{Lent, lent}
 use mathlib.Core.Path.{ap, _∙_}
 use Rattle.refusal.specs.Told.{told, answered, here, nothing}
 use Rattle.handle.proofs.ResolveLaws.{replied-told}

@@ -1,7 +1,7 @@
 -- `heap_edit::write` meets its contract. Assumes nothing.
 use denote.Ref.{now}
 use native.Mathlib.Omega.{arith}
-use Rattle.heap.specs.Lent.{Lent, lent, view}
+use Rattle.heap.specs.Lent.{Lent, lent}
 use Prim.Native.Nat.{_<_}
 use mathlib.Core.Path.{sym, _∙_}
 use Rattle.heap_edit.proofs.Columns.{Sizes, Reads, sizes, reads}
