@@ -11,8 +11,8 @@ use Rattle.handle.specs.Handle.{packed, tagOf, indexOf, generationOf, resolveBy
 use Rattle.heap.specs.State.{Slot, State, times}
 use Rattle.heap.specs.Calls.{Changed, refuse, recycle, resolve}
 use Rattle.reach.specs.Marking.{visit, follow, drained, marking}
-use Rattle.sweep.specs.Swept.{dropped, dropSlots, liveSize, dropUnmarked, swept}
-use Rattle.collect_laws.specs.Collected.{graph, starts, collected}
+use Rattle.collection.specs.Swept.{dropped, dropSlots, liveSize, dropUnmarked, swept}
+use Rattle.collection.specs.Collected.{graph, starts, collected}
 
 abbrev object : (generation : ℕ) → Slot
 object g = record { generation = g; kind = 3; type = 0; start = 0; writes = 0; bytes = [] }

@@ -8,7 +8,7 @@ use Rattle.heap.specs.State.{State, slotAt, live}
 use Rattle.heap.specs.Calls.{Changed, refuse, done, resolve}
 use Rattle.reach.specs.Reach.{Graph, Starts}
 use Rattle.reach.specs.Marking.{State as Marks, marking}
-use Rattle.sweep.specs.Swept.{swept}
+use Rattle.collection.specs.Swept.{swept}
 
 -- the slot, where there is one
 abbrev pub found : Result ℕ → Option ℕ

@@ -14,9 +14,9 @@ use Rattle.heap.specs.Calls.{Changed, refuse, recycle, resolve}
 use Rattle.flow.specs.Function.{Function, reads, writes, successors}
 use Rattle.flow.specs.Dataflow.{gen, kill, liveIn, liveBefore, liveRow, track}
 use Rattle.reach.specs.Marking.{visit, follow, drained, marking}
-use Rattle.sweep.specs.Swept.{dropped, dropSlots, liveSize, dropUnmarked, swept}
-use Rattle.collect_laws.specs.Collected.{collected}
-use Rattle.joined_laws.specs.Joined.{rootRegisters, valuesOf, joined}
+use Rattle.collection.specs.Swept.{dropped, dropSlots, liveSize, dropUnmarked, swept}
+use Rattle.collection.specs.Collected.{collected}
+use Rattle.collection.specs.Joined.{rootRegisters, valuesOf, joined}
 
 abbrev object : (generation : ℕ) → Slot
 object g = record { generation = g; kind = 2; type = 0; start = 0; writes = 0; bytes = [] }

@@ -16,7 +16,7 @@ use Rattle.heap.specs.Calls.{changed, released}
 use Rattle.heap.proofs.Sound.{Sound, liveBit}
 use Rattle.heap.proofs.Keeping.{sound-change, at-same, at-other, each-set, data-set, released-sound}
 use Rattle.heap.proofs.Counting.{inside, times-append}
-use Rattle.sweep.specs.Swept.{goes, dropped, dropSlot, dropSlots, allDropped, dropUnmarked}
+use Rattle.collection.specs.Swept.{goes, dropped, dropSlot, dropSlots, allDropped, dropUnmarked}
 
 -- ---- the heap once the first n slots are looked at
 

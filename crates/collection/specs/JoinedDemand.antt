@@ -12,9 +12,9 @@ use Rattle.heap.specs.State.{State}
 use Rattle.heap.specs.Calls.{Changed}
 use Rattle.flow.specs.Function.{Function, Live}
 use Rattle.reach.specs.Reach.{Starts, Stuck, _∈_}
-use Rattle.collect_laws.specs.Collected.{graph}
-use Rattle.collect_laws.specs.Demand.{Collects}
-use Rattle.mark.specs.Shown.{shown}
+use Rattle.collection.specs.Collected.{graph}
+use Rattle.collection.specs.Demand.{Collects}
+use Rattle.collection.specs.Shown.{shown}
 
 -- x is the value of a register of class 4 that is live before instruction pc: some walk from there reads the register before writing it
 pub record LiveValue (f : Function) (pc : ℕ) (values : List ℕ) (x : ℕ) : Type 0 where

@@ -14,15 +14,15 @@ use Rattle.heap.specs.Calls.{Changed, done}
 use Rattle.heap.proofs.Sound.{Sound}
 use Rattle.flow.specs.Function.{Function, valid, safepoint}
 use Rattle.reach.specs.Reach.{Graph, Starts, First, Chain, Reached, Stuck, _∈_}
-use Rattle.sweep.specs.Swept.{swept}
-use Rattle.collect_laws.specs.Collected.{graph, starts, collected}
-use Rattle.collect_laws.specs.Demand.{Survived, Collects}
-use Rattle.collect_laws.proofs.Answers.{two-answers}
-use Rattle.collect_laws.proofs.Demand.{collect-demand, collected-by, collected-sound}
-use Rattle.mark.specs.Shown.{shown}
-use Rattle.joined_laws.specs.Joined.{rootRegisters, valuesOf, joined}
-use Rattle.joined_laws.specs.Demand.{JoinedStarts, Joins}
-use Rattle.joined_laws.proofs.Registers.{joined-starts}
+use Rattle.collection.specs.Swept.{swept}
+use Rattle.collection.specs.Collected.{graph, starts, collected}
+use Rattle.collection.specs.Demand.{Survived, Collects}
+use Rattle.collection.proofs.Answers.{two-answers}
+use Rattle.collection.proofs.Demand.{collect-demand, collected-by, collected-sound}
+use Rattle.collection.specs.Shown.{shown}
+use Rattle.collection.specs.Joined.{rootRegisters, valuesOf, joined}
+use Rattle.collection.specs.JoinedDemand.{JoinedStarts, Joins}
+use Rattle.collection.proofs.Registers.{joined-starts}
 
 -- ---- what is reached rests on which handles chains start at, not on their order
 

@@ -11,8 +11,8 @@ use Rattle.heap.specs.State.{State}
 use Rattle.heap.specs.Calls.{Changed, refuse}
 use Rattle.flow.specs.Function.{Function}
 use Rattle.flow.specs.Dataflow.{liveRow, track}
-use Rattle.collect_laws.specs.Collected.{graph, starts, collected}
-use Rattle.mark.specs.Shown.{shown}
+use Rattle.collection.specs.Collected.{graph, starts, collected}
+use Rattle.collection.specs.Shown.{shown}
 
 -- class 4: Handle
 abbrev pub isHandle : ℕ → Bool

@@ -14,9 +14,9 @@ use Rattle.flow.specs.Function.{Function, has, valid, safepoint, LiveList}
 use Rattle.word.proofs.Bools.{or-cases, or-left, or-right}
 use Rattle.flow.proofs.Validity.{valid-disjoint, safepoint-held, row-list}
 use Rattle.reach.specs.Reach.{_∈_}
-use Rattle.collect_laws.specs.Collected.{starts}
-use Rattle.joined_laws.specs.Joined.{isHandle, rootRegisters, valuesOf}
-use Rattle.joined_laws.specs.Demand.{LiveValue, JoinedStarts}
+use Rattle.collection.specs.Collected.{starts}
+use Rattle.collection.specs.Joined.{isHandle, rootRegisters, valuesOf}
+use Rattle.collection.specs.JoinedDemand.{LiveValue, JoinedStarts}
 
 -- rising, and exactly the registers of class 4 that some walk reads before writing
 pub root-registers : (f : Function) (pc : ℕ) → valid f ≡ true → safepoint f pc ≡ true → LiveList f isHandle pc (rootRegisters f pc)

@@ -19,11 +19,11 @@ use Rattle.heap.proofs.Sound.{Sound}
 use Rattle.reach.specs.Reach.{Graph, Starts, Reached, Stuck}
 use Rattle.reach.specs.Marking.{State as Marks, marking}
 use Rattle.reach.proofs.Sound.{Sized, Marked, Answer, marking-answer, reached-ind, reached-below, refused as stuck-exactly, kept as marked-exactly, lost as lost-exactly}
-use Rattle.sweep.specs.Swept.{swept}
-use Rattle.sweep.proofs.Dropping.{live-inside}
-use Rattle.sweep.proofs.Laws.{swept-sound, swept-same, survivor, only-marked, resolved-live, resolved-before, outlives}
-use Rattle.collect_laws.specs.Collected.{found, graph, starts, sweptBy, collected}
-use Rattle.collect_laws.specs.Demand.{Survived, Collects}
+use Rattle.collection.specs.Swept.{swept}
+use Rattle.collection.proofs.Dropping.{live-inside}
+use Rattle.collection.proofs.SweptLaws.{swept-sound, swept-same, survivor, only-marked, resolved-live, resolved-before, outlives}
+use Rattle.collection.specs.Collected.{found, graph, starts, sweptBy, collected}
+use Rattle.collection.specs.Demand.{Survived, Collects}
 
 found-ok : (r : Result ℕ) (i : ℕ) → found r ≡ some i → r ≡ ok i
 found-ok (ok j) i e = let w : j ≡ i = cc in ap ok w
@@ -52,10 +52,13 @@ module _ (h : State) (handles : ℕ → Option (List ℕ)) where
           let one : getD (m .marks) o 0 ≡ 1 = marked-exactly (graph h handles) S (length (h .slots)) sized m e o (reached-below (graph h handles) S (length (h .slots)) sized o r) .1 r in
           omega arith
 
-      reached : (o : ℕ) → live (slotAt h o) ≡ true → 0 < getD (m .marks) o 0 → Reached (graph h handles) S o
-      reached o alive some-mark =
+      marked-reached : (o : ℕ) → o < length (h .slots) → 0 < getD (m .marks) o 0 → Reached (graph h handles) S o
+      marked-reached o less some-mark =
           let a : Marked (graph h handles) S (length (h .slots)) m = subst (Answer (graph h handles) S (length (h .slots))) e (marking-answer (graph h handles) S (length (h .slots)) sized) in
-          ⊎-elim (λ z. absurd (omega arith)) (λ q. a .sound o (q .1)) (a .good .bits o (live-inside h o alive))
+          ⊎-elim (λ z. absurd (omega arith)) (λ q. a .sound o (q .1)) (a .good .bits o less)
+
+      reached : (o : ℕ) → live (slotAt h o) ≡ true → 0 < getD (m .marks) o 0 → Reached (graph h handles) S o
+      reached o alive = marked-reached o (live-inside h o alive)
 
       survived-sweep : Survived (graph h handles) S h (swept h (m .marks) (S .pins))
       survived-sweep =
@@ -115,6 +118,15 @@ module _ (h : State) (handles : ℕ → Option (List ℕ)) where
         go : (r : Option Marks) → marking (graph h handles) S (length (h .slots)) ≡ r → sweptBy h (S .pins) r ≡ done tt (swept h marks (S .pins))
         go none e = absurd (free (stuck-exactly (graph h handles) S (length (h .slots)) sized .0 e))
         go (some m) e = ap (λ (x : State). done tt x) (swept-same h (m .marks) marks (S .pins) (same m e))
+
+    -- and there are such marks
+    pub marks-there : (Stuck (graph h handles) S → ⊥) → (marks : List ℕ) × ((o : ℕ) → o < length (h .slots) → (0 < getD marks o 0) ↔ Reached (graph h handles) S o)
+    marks-there free = go (marking (graph h handles) S (length (h .slots))) refl
+      where
+        go : (r : Option Marks) → marking (graph h handles) S (length (h .slots)) ≡ r
+            → (marks : List ℕ) × ((o : ℕ) → o < length (h .slots) → (0 < getD marks o 0) ↔ Reached (graph h handles) S o)
+        go none e = absurd (free (stuck-exactly (graph h handles) S (length (h .slots)) sized .0 e))
+        go (some m) e = (m .marks, λ o less. (marked-reached m e o less, marked m e o))
 
 -- `collect` with roots and pins given
 pub collect-demand : (h : State) (handles : ℕ → Option (List ℕ)) (roots pins : List ℕ)
