@@ -1,8 +1,8 @@
--- `joined_mark::push_if` meets its contract. Assumes nothing.
-use Rattle.joined_mark.proofs.RowPushes.{if-set, if-clear}
+-- `mark::joined::push_if` meets its contract. Assumes nothing.
+use Rattle.mark.proofs.RowPushes.{if-set, if-clear}
 use borrow.Author.Needs.{needs}
-use Rattle.joined_mark.proofs.push_if.Statement.{statement}
-use Rattle.joined_mark.proofs.push_if.Tie as tie
+use Rattle.mark.proofs.joined.push_if.Statement.{statement}
+use Rattle.mark.proofs.joined.push_if.Tie as tie
 
 test-bit-requires : tie.Need-test-bit-requires
 test-bit-requires c κs = search needs

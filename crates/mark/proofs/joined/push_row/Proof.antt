@@ -1,31 +1,31 @@
--- `joined_mark::push_row` meets its contract. Assumes nothing.
+-- `mark::joined::push_row` meets its contract. Assumes nothing.
 use Prim.Native.Nat.{_-_}
 use lib.ListN.{length}
 use Rattle.reach.specs.Marking.{followAll}
-use Rattle.mark.specs.Shown.{leadsTo}
+use Rattle.mark.specs.Graph.{leadsTo}
 use Rattle.mark.specs.Scratch.{stateOf}
-use Rattle.joined_mark.specs.Joining.{rowValues}
-use Rattle.joined_mark.proofs.RowPushes.{RowPushes, row-first, row-next, row-end}
+use Rattle.mark.specs.Joining.{rowValues}
+use Rattle.mark.proofs.RowPushes.{RowPushes, row-first, row-next, row-end}
 use borrow.Author.Needs.{needs}
-use Rattle.joined_mark.proofs.push_row.Statement.{statement}
-use Rattle.joined_mark.proofs.push_row.Tie as tie
+use Rattle.mark.proofs.joined.push_row.Statement.{statement}
+use Rattle.mark.proofs.joined.push_row.Tie as tie
 
 abbrev Inv-loop : tie.InvT-loop
-Inv-loop tag slots generation kind row values marks₀ work₀ n count₀ q₀ marks work count q =
-    RowPushes tag slots generation kind row values marks₀ work₀ (followAll (leadsTo tag slots generation kind) (stateOf marks₀ work₀ n) (rowValues row values)) marks work count q
+Inv-loop tag slots s narrow row values marks₀ work₀ n count₀ q₀ marks work count q =
+    RowPushes tag slots s narrow row values marks₀ work₀ (followAll (leadsTo tag slots s narrow) (stateOf marks₀ work₀ n) (rowValues row values)) marks work count q
 
 abbrev μ-loop : tie.MeasureT-loop
-μ-loop tag slots generation kind row values marks₀ work₀ n count₀ q₀ marks work count q =
+μ-loop tag slots s narrow row values marks₀ work₀ n count₀ q₀ marks work count q =
     length values - q
 
 loop-holds : tie.Need-loop-holds Inv-loop μ-loop
 loop-holds c = search row-first
 
-mul-push-if : tie.Need-mul-push-if Inv-loop μ-loop
-mul-push-if c = search needs
+mul-v : tie.Need-mul-v Inv-loop μ-loop
+mul-v c = search needs
 
-shared-slice-read-push-if : tie.Need-shared-slice-read-push-if Inv-loop μ-loop
-shared-slice-read-push-if c = search needs
+shared-slice-read-v : tie.Need-shared-slice-read-v Inv-loop μ-loop
+shared-slice-read-v c = search needs
 
 push-if-requires : tie.Need-push-if-requires Inv-loop μ-loop
 push-if-requires c κs = search needs
@@ -55,8 +55,8 @@ push-row-spec =
     Inv-loop
     μ-loop
     loop-holds
-    mul-push-if
-    shared-slice-read-push-if
+    mul-v
+    shared-slice-read-v
     push-if-requires
     add-q
     loop-less

@@ -6,11 +6,13 @@ use Prim.Native.Nat.{ℕ}
 use lib.ListN.{length}
 use Rattle.word.specs.Ones.{passing}
 use Rattle.rows.specs.Row.{bitIn}
+use Rattle.heap.specs.State.{State as Heap}
+use Rattle.ty.specs.Types.{Table}
 use Rattle.reach.specs.Reach.{Graph}
-use Rattle.reach.specs.Marking.{State, follow, drained, marking}
+use Rattle.reach.specs.Marking.{State, follow, drained}
 use Rattle.mark.specs.Scratch.{seededFrom}
-use Rattle.mark.specs.Told.{startsOf}
-use Rattle.joined_laws.specs.Joined.{valuesOf}
+use Rattle.mark.specs.Told.{heapMarks}
+use Rattle.collection.specs.Joined.{valuesOf}
 
 -- the values whose register's bit is set
 abbrev pub rowValues : (row values : List ℕ) → List ℕ
@@ -26,6 +28,7 @@ abbrev pub joinedFrom : Graph → (slots : ℕ) → State → (frame : Option (L
 joinedFrom G slots s none values sealed pins = none
 joinedFrom G slots s (some handles) values sealed pins = drained G slots (seededFrom (G .resolve) (G .live) s (handles ++ values) sealed pins) 0
 
-abbrev pub joinedMarking : Graph → (slots : ℕ) → (frame : Option (List ℕ)) (values sealed pins : List ℕ) → Option State
-joinedMarking G slots none values sealed pins = none
-joinedMarking G slots (some handles) values sealed pins = marking G (startsOf (handles ++ values) sealed pins) slots
+-- the marking of a heap from the frame's handles and other roots: none where the frame map fails
+abbrev pub joinedMarks : Table → Heap → (frame : Option (List ℕ)) (values pins : List ℕ) → Option State
+joinedMarks T h none values pins = none
+joinedMarks T h (some handles) values pins = heapMarks T h (handles ++ values) pins
