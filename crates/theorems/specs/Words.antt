@@ -1,4 +1,4 @@
--- Lent memory holds numbers within their widths (01, "Page"): tag, kind and data 8 bits; generation, type, writes and slot indices 32; the rest 64.
+-- Lent memory holds machine words: tag and data 8 bits; generation, kind, type and slot indices 32; the rest 64.
 -- A caller has every part from the types of what it lends: a `u32` is below 2 ^ 32, and so is each entry of a `&[u32]`, past whose end 0 stands.
 -- The function `words` of this crate, which does nothing and asks for nothing, ensures it.
 use Prim.Native.Nat.{ℕ, _<_, _^_}
@@ -16,10 +16,10 @@ pub record Words (l : Lent) : Type 0 where
   pub reclaimAt : l .header .«reclaim_at» < 2 ^ 64
   pub liveBytes : l .header .«live_bytes» < 2 ^ 64
   pub generation : Entries 32 (l .generation)
-  pub kind : Entries 8 (l .kind)
+  pub kind : Entries 32 (l .kind)
   pub type : Entries 32 (l .type)
   pub start : Entries 64 (l .start)
-  pub writes : Entries 32 (l .writes)
+  pub writes : Entries 64 (l .writes)
   pub pool : Entries 8 (l .pool)
   pub free : Entries 32 (l .free)
   pub quarantine : Entries 32 (l .quarantine)
