@@ -1,0 +1,6 @@
+-- The great theorems, one file each: what is claimed.
+pub mod Words
+pub mod PageCalls
+pub mod HeapPageHeap
+pub mod PageHeapPage
+pub mod PageBound
