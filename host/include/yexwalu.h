@@ -293,7 +293,7 @@ yexwalu_done yexwalu_reissue(
     yexwalu_header heap,
     uint32_t *narrow, size_t narrow_len,
     uint64_t *wide, size_t wide_len,
-    uint8_t *pool, size_t pool_len,
+    const uint8_t *pool, size_t pool_len,
     size_t i,
     uint64_t grown,
     uint8_t *marks, size_t marks_len,
@@ -314,7 +314,7 @@ yexwalu_done yexwalu_edit(
 /* Bytes over the visible data of slot `i`, from the offset `at` in it. 18, 1, 9. */
 yexwalu_answer yexwalu_write(
     yexwalu_header heap,
-    uint32_t *narrow, size_t narrow_len,
+    const uint32_t *narrow, size_t narrow_len,
     uint64_t *wide, size_t wide_len,
     uint8_t *pool, size_t pool_len,
     size_t i,
@@ -326,9 +326,9 @@ yexwalu_answer yexwalu_write(
 /* The seals become the handles of all live slots. 18, 1. */
 yexwalu_done yexwalu_seal(
     yexwalu_header heap,
-    uint32_t *narrow, size_t narrow_len,
+    const uint32_t *narrow, size_t narrow_len,
     uint64_t *wide, size_t wide_len,
-    uint8_t *pool, size_t pool_len,
+    const uint8_t *pool, size_t pool_len,
     uint8_t *marks, size_t marks_len,
     uint64_t *work, size_t work_len);
 

@@ -95,10 +95,12 @@ fn point_row(
     pc: usize,
 ) -> bool
     requires { ⌜ formed (now kinds) (now ends) (now refs) (now blocks) (now classes) ≡ true ⌝ }
-    requires { ⌜ (nb ≡ length (now blocks) / 2) × (nb * (3 * words) + 2 * words ≤ length (now s)) × (length (now classes) ≤ 64 * words) × (pc < length (now kinds)) × (pc < q) × Found (now blocks) nb pc b ⌝ }
+    requires { ⌜ (nb ≡ length (now blocks) / 2) × (nb * (3 * words) + 2 * words ≤ length (now s)) × (length (now classes) ≤ 64 * words) × (pc < length (now kinds)) × (pc < q)
+        × Found (now blocks) nb pc b ⌝ }
     requires { ⌜ Fixed (seen (wanted which) (now kinds) (now ends) (now refs) (now blocks) (now classes)) (now blocks) (now s) words nb ⌝ }
     requires { ⌜ Standing (wanted which) (now kinds) (now ends) (now refs) (now blocks) (now classes) (now s) words nb b q ⌝ }
-    ensures { λ r. ⌜ Pointed (wanted which) (now (kinds .entry)) (now (ends .entry)) (now (refs .entry)) (now (blocks .entry)) (now (classes .entry)) (now (s .entry)) (now (s .exit)) words nb b pc r ⌝ }
+    ensures { λ r. ⌜ Pointed (wanted which) (now (kinds .entry)) (now (ends .entry)) (now (refs .entry)) (now (blocks .entry)) (now (classes .entry)) (now (s .entry))
+        (now (s .exit)) words nb b pc r ⌝ }
 {
     if kinds[pc] != 1 {
         return false;
@@ -147,9 +149,11 @@ fn count_map(
     links: &[u16],
 ) -> Counts
     requires { ⌜ formed (now kinds) (now ends) (now refs) (now blocks) (now classes) ≡ true ⌝ }
-    requires { ⌜ (nb ≡ length (now blocks) / 2) × (nb * (3 * words) + 2 * words ≤ length (now s)) × (length (now classes) ≤ 64 * words) × (words ≤ 256) × (length (now kinds) ≤ 65536) × Chains (now blocks) 1 nb 0 (now heads) (now links) ⌝ }
+    requires { ⌜ (nb ≡ length (now blocks) / 2) × (nb * (3 * words) + 2 * words ≤ length (now s)) × (length (now classes) ≤ 64 * words) × (words ≤ 256) × (length (now kinds) ≤ 65536)
+        × Chains (now blocks) 1 nb 0 (now heads) (now links) ⌝ }
     requires { ⌜ Fixed (seen (wanted which) (now kinds) (now ends) (now refs) (now blocks) (now classes)) (now blocks) (now s) words nb ⌝ }
-    ensures { λ r. ⌜ Counted (wanted which) (now (kinds .entry)) (now (ends .entry)) (now (refs .entry)) (now (blocks .entry)) (now (classes .entry)) (now (s .entry)) (now (s .exit)) words nb (length (now (kinds .entry))) (r .points) (r .registers) ⌝ }
+    ensures { λ r. ⌜ Counted (wanted which) (now (kinds .entry)) (now (ends .entry)) (now (refs .entry)) (now (blocks .entry)) (now (classes .entry)) (now (s .entry))
+        (now (s .exit)) words nb (length (now (kinds .entry))) (r .points) (r .registers) ⌝ }
 {
     let at = nb * (3 * words);
     let mut points: usize = 0;
@@ -242,7 +246,8 @@ fn write_map(
     registers: usize,
 )
     requires { ⌜ formed (now kinds) (now ends) (now refs) (now blocks) (now classes) ≡ true ⌝ }
-    requires { ⌜ (nb ≡ length (now blocks) / 2) × (nb * (3 * words) + 2 * words ≤ length (now s)) × (length (now classes) ≤ 64 * words) × (words ≤ 256) × (length (now kinds) ≤ 65536) × Chains (now blocks) 1 nb 0 (now heads) (now links) ⌝ }
+    requires { ⌜ (nb ≡ length (now blocks) / 2) × (nb * (3 * words) + 2 * words ≤ length (now s)) × (length (now classes) ≤ 64 * words) × (words ≤ 256) × (length (now kinds) ≤ 65536)
+        × Chains (now blocks) 1 nb 0 (now heads) (now links) ⌝ }
     requires { ⌜ Fixed (seen (wanted which) (now kinds) (now ends) (now refs) (now blocks) (now classes)) (now blocks) (now s) words nb ⌝ }
     requires { ⌜ Fits (wanted which) (now kinds) (now ends) (now refs) (now blocks) (now classes) (now pcs) (now bounds) (now regs) points registers ⌝ }
     ensures { λ _. ⌜ Written (wanted which) (now (kinds .entry)) (now (ends .entry)) (now (refs .entry)) (now (blocks .entry)) (now (classes .entry)) (now (s .entry)) (now (s .exit))

@@ -79,7 +79,8 @@ pub fn live_row(
 // The registers of the row at `at` are listed, if they fit, and the scratch becomes zero.
 fn list_at(s: &mut [u64], at: usize, words: usize, regs: &mut [u32]) -> Reply
     requires { ⌜ (at + words ≤ length (now s)) × (words ≤ 256) ⌝ }
-    ensures { λ r. ⌜ (told r ≡ answered here nothing (listing 64 (take ((at + words) - at) (drop at (now (s .entry)))) (length (now (regs .entry))))) × (now (regs .exit) ≡ listedInto 64 (take ((at + words) - at) (drop at (now (s .entry)))) (now (regs .entry)))
+    ensures { λ r. ⌜ (told r ≡ answered here nothing (listing 64 (take ((at + words) - at) (drop at (now (s .entry)))) (length (now (regs .entry)))))
+        × (now (regs .exit) ≡ listedInto 64 (take ((at + words) - at) (drop at (now (s .entry)))) (now (regs .entry)))
         × (now (s .exit) ≡ replicate (length (now (s .entry))) 0) ⌝ }
 {
     let past = at + words;
