@@ -39,6 +39,10 @@ use Rattle.heap_edit.proofs.Questions.{resolves}
 use Rattle.handle.specs.Handle.{resolveBy}
 use Rattle.handle.specs.Columns.{liveIn}
 
+-- a slot placed with one write more
+pub placed-raised : {l l′ : Lent} {i g k t s w w′ : ℕ} {bytes : List ℕ} → PlacedIn l l′ i g k t s w bytes → w ≡ w′ → PlacedIn l l′ i g k t s w′ bytes
+placed-raised {l} {l′} {i} {g} {k} {t} {s} {w} {w′} {bytes} done e = subst (λ (v : ℕ). PlacedIn l l′ i g k t s v bytes) e done
+
 -- what `resolve` found in the heap that lies there
 pub found : (l : Lent) → wellFormed l ≡ true → (x : ℕ) (r : Resolved) → told r ≡ resolveBy (l .header .tag) (liveIn (l .header .slots) (l .kind)) (λ i. getD (l .generation) i 0) x → told r ≡ resolve (view l) x
 found l w x r e = e ∙ resolves l w x
@@ -111,10 +115,10 @@ module _ (h : Heap) (narrow wide pool : List ℕ) (w : wellFormed (lent h narrow
     (s : told r ≡ resolve (view (lent h narrow wide pool)) x) (f : r ≡ At i) {b : Bool}
     (q : b ≡ leb (dataSize (view (lent h narrow wide pool) .slots) - length (slotAt (view (lent h narrow wide pool)) i .bytes) + length bytes) (length pool)) (t : b ≡ true)
     {hd : Heap} (eh : hd ≡ setChanged h i) where
-  pub edit-yes : (l′ : Lent) (w′ : ℕ) → w′ ≡ (getD wide (2 * (length narrow / 6) + i) 0 + 1) % 2 ^ 32
-      → PlacedIn (lent hd narrow wide pool) l′ i (getD narrow i 0) (getD narrow (length narrow / 6 + i) 0) (getD narrow (2 * (length narrow / 6) + i) 0) first w′ bytes
+  pub edit-yes : (l′ : Lent)
+      → PlacedIn (lent hd narrow wide pool) l′ i (getD narrow i 0) (getD narrow (length narrow / 6 + i) 0) (getD narrow (2 * (length narrow / 6) + i) 0) first ((getD wide (2 * (length narrow / 6) + i) 0 + 1) % 2 ^ 32) bytes
       → Tells here nothing (lent h narrow wide pool) l′ (Is i 0) (edit (length pool) (view (lent h narrow wide pool)) x bytes first)
-  edit-yes l′ w′ ew done =
+  edit-yes l′ done =
       let l : Lent = lent h narrow wide pool in
       let v : Reads h narrow wide pool i = reads h narrow wide pool w i (edit-inside l w x bytes first s f) in
-      tells-is here nothing (edit-at l w x bytes first s f q t eh l′ _ _ _ w′ (v .generation) (v .kind) (v .type) (ew ∙ ap (λ (n : ℕ). (n + 1) % 2 ^ 32) (v .writes)) done)
+      tells-is here nothing (edit-at l w x bytes first s f q t eh l′ _ _ _ _ (v .generation) (v .kind) (v .type) (ap (λ (n : ℕ). (n + 1) % 2 ^ 32) (v .writes)) done)

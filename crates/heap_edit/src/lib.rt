@@ -17,6 +17,7 @@ ghost use Rattle.heap.specs.Lent.{lent, stored, view};
 ghost use Rattle.heap.specs.WellFormed.{wellFormed};
 ghost use Rattle.heap.specs.Calls.{gcDue, reclaimDue, hasQuarantine, isPlain, liveCount, Place, placeAt, Kind, kindAt, Stamp, stampAt};
 ghost use Rattle.heap.specs.Calls.{resolve as resolved, edit as edited, write as written, reissue as reissued, seal as sealedBy, new as newHeap};
+ghost use Rattle.heap.specs.Columns.{CanPlace, PlacedIn};
 ghost use Rattle.heap.specs.Done.{Leaves, Tells};
 ghost use Rattle.heap_edit.specs.Header.{OfHeader};
 ghost use Rattle.heap_edit.specs.inner.Seen.{seenAt};
@@ -218,6 +219,31 @@ fn fits(heap: Heap, narrow: &[u32], wide: &[u64], pool: &[u8], i: usize, m: usiz
     m <= pool.len() - (used - size)
 }
 
+// Slot `i` gets this start and these bytes, and one write more.
+fn replace(
+    heap: Heap,
+    narrow: &mut [u32],
+    wide: &mut [u64],
+    pool: &mut [u8],
+    i: usize,
+    start: usize,
+    bytes: &[u8],
+)
+    requires { ⌜ CanPlace (lent heap (now narrow) (now wide) (now pool)) i (now bytes) ⌝ }
+    requires { ⌜ getD (now wide) (2 * (length (now narrow) / 6) + i) 0 < 2 ^ 32 ⌝ }
+    ensures { λ _. ⌜ PlacedIn (lent heap (now (narrow .entry)) (now (wide .entry)) (now (pool .entry)))
+        (lent heap (now (narrow .exit)) (now (wide .exit)) (now (pool .exit))) i (getD (now (narrow .entry)) i 0)
+        (getD (now (narrow .entry)) (length (now (narrow .entry)) / 6 + i) 0) (getD (now (narrow .entry)) (2 * (length (now (narrow .entry)) / 6) + i) 0)
+        start ((getD (now (wide .entry)) (2 * (length (now (narrow .entry)) / 6) + i) 0 + 1) % 2 ^ 32) (now (bytes .entry)) ⌝ }
+{
+    let s = narrow.len() / 6;
+    let g = narrow[i];
+    let k = narrow[s + i];
+    let t = narrow[2 * s + i];
+    let w = raised(wide[2 * s + i]);
+    heap::place(heap, narrow, wide, pool, i, g, k, t, start as u64, w, bytes);
+}
+
 // New bytes and a new start for the object that a handle leads to.
 pub fn edit(
     heap: Heap,
@@ -233,8 +259,7 @@ pub fn edit(
         (lent (r .heap) (now (narrow .exit)) (now (wide .exit)) (now (pool .exit))) (r .reply)
         (edited (length (now (pool .entry))) (view (lent heap (now (narrow .entry)) (now (wide .entry)) (now (pool .entry)))) x (now (bytes .entry)) start) ⌝ }
 {
-    let s = narrow.len() / 6;
-    let found = handle::resolve(heap.tag, heap.slots, s, narrow, x);
+    let found = handle::resolve(heap.tag, heap.slots, narrow.len() / 6, narrow, x);
     let Resolved::At(index) = found else {
         return Changed {
             heap: heap,
@@ -249,23 +274,7 @@ pub fn edit(
         };
     }
     let after = heap.changed(index);
-    let g = narrow[i];
-    let k = narrow[s + i];
-    let t = narrow[2 * s + i];
-    let w = raised(wide[2 * s + i]);
-    heap::place(
-        after,
-        narrow,
-        wide,
-        pool,
-        i,
-        g,
-        k,
-        t,
-        start as u64,
-        w,
-        bytes,
-    );
+    replace(after, narrow, wide, pool, i, start, bytes);
     Changed {
         heap: after,
         reply: Reply::Is(index as u64, 0),
