@@ -2,6 +2,9 @@
 use refusal::Answer;
 use refusal::Refusal;
 use refusal::Reply;
+pub use yexwalu_object_handles as object_handles;
+pub use yexwalu_slot_roots as slot_roots;
+pub use yexwalu_value_handles as value_handles;
 ghost use lib.ListN.{length};
 ghost use Rattle.ty.specs.View.{tableOf};
 ghost use Rattle.trace.specs.Places.{valueHandles, objectHandles};

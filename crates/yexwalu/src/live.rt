@@ -2,6 +2,8 @@
 // read and its target blocks end in `refs`; `blocks`, start and end of each; `classes`, one a register.
 use refusal::Answer;
 use roots::Tracked;
+pub use yexwalu_live_at as live_at;
+pub use yexwalu_live_refs as live_refs;
 ghost use mathlib.Core.Path.{_≡_};
 ghost use Rattle.roots.specs.Calls.{LiveAtCall};
 ghost use Rattle.roots.specs.Columns.{wanted};
