@@ -78,6 +78,3 @@ pub extern "C" fn yexwalu_read_page(
         answer: reply.numbers(),
     }
 }
-
-pub use yexwalu_read_page as read_page;
-pub use yexwalu_write_page as write_page;

@@ -108,7 +108,8 @@ fn fill_lists(s: &[u8], x: Sections, narrow: &mut [u32], wide: &mut [u64])
     requires { ⌜ Sectioned (now s) x ⌝ }
     requires { ⌜ (length (heapIn (now s) .free) ≤ length (now narrow) / 6) × (length (heapIn (now s) .quarantine) ≤ length (now narrow) / 6) ⌝ }
     requires { ⌜ (length (heapIn (now s) .sealed) ≤ length (now narrow) / 6) × (4 * (length (now narrow) / 6) ≤ length (now wide)) ⌝ }
-    ensures { λ _. ⌜ ListsFilled (now (narrow .entry)) (now (wide .entry)) (now (narrow .exit)) (now (wide .exit)) (heapIn (now (s .entry)) .free) (heapIn (now (s .entry)) .quarantine) (heapIn (now (s .entry)) .sealed) ⌝ }
+    ensures { λ _. ⌜ ListsFilled (now (narrow .entry)) (now (wide .entry)) (now (narrow .exit)) (now (wide .exit))
+        (heapIn (now (s .entry)) .free) (heapIn (now (s .entry)) .quarantine) (heapIn (now (s .entry)) .sealed) ⌝ }
 {
     let all = narrow.len() / 6;
     let three = 3 * all;

@@ -213,7 +213,8 @@ fn head_len(h: Heap) -> usize
 // Puts the line of a heap's numbers from `at` on.
 fn put_head(out: &mut [u8], at: usize, h: Heap) -> usize
     requires { ⌜ at + length (numbersLine (h .tag) (h .«since_gc») (h .«reclaim_at») (h .«live_bytes») (h .slots) (h .free) (h .quarantine) (h .sealed)) ≤ length (now out) ⌝ }
-    ensures { λ r. ⌜ Puts (now (out .entry)) (now (out .exit)) at r (numbersLine (h .tag) (h .«since_gc») (h .«reclaim_at») (h .«live_bytes») (h .slots) (h .free) (h .quarantine) (h .sealed)) ⌝ }
+    ensures { λ r. ⌜ Puts (now (out .entry)) (now (out .exit)) at r
+        (numbersLine (h .tag) (h .«since_gc») (h .«reclaim_at») (h .«live_bytes») (h .slots) (h .free) (h .quarantine) (h .sealed)) ⌝ }
 {
     let a = put_number(out, at, h.tag as u64, 44);
     let b = put_number(out, a, h.since_gc, 44);
