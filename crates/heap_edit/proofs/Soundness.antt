@@ -22,11 +22,12 @@ use Rattle.handle.proofs.ResolveLaws.{Resolves, resolve-ok}
 use Rattle.heap.specs.Packing.{flat}
 use Rattle.heap.specs.State.{Slot, State, noSlot, slotAt, live, dataOf, dataSize, bit, times, withSince, withEpoch, withSealed}
 use Rattle.heap.specs.WellFormed.{soundSeals}
-use Rattle.heap.specs.Calls.{Changed, withSlot, changed, charged, rewritten, reissued, resolve, onSlot, editSlot, edit, write, reissue, seal, liveHandles, new}
+use Rattle.heap.specs.Calls.{Changed, withSlot, changed, charged, rewritten, reissued, resolve, onSlot, editSlot, edit, write, reissue, seal, liveHandles}
 use Rattle.heap.proofs.Packing.{flat-set, flat-split}
 use Rattle.heap.proofs.Sound.{SlotSound, Sound, liveBit}
 use Rattle.heap.proofs.Seals.{seals-join}
 use Rattle.heap.proofs.Keeping.{data-set, slot-sound, since-sound, epoch-sound, step-aged}
+use Rattle.heap_edit.proofs.Columns.{data-upto}
 use Rattle.heap_edit.proofs.Cases.{edit-unresolved, edit-full, edit-done, write-dead, write-hidden, write-beyond, write-done, reissue-none, reissue-done}
 
 -- new seals
@@ -43,24 +44,16 @@ live-inside h i e =
       | no b ↦ absurd (omega (arith, ltb-true 0 (slotAt h i .kind) e, ap (λ (s : Slot). s .kind) (List·getD-eq-default (h .slots) noSlot {n = i} (omega arith))))
     ]
 
--- a slot's data is part of all data
-pub data-part : (slots : List Slot) (i : ℕ) → i < length slots → length (getD slots i noSlot .bytes) ≤ dataSize slots
-data-part slots i b =
-    let ds : List (List ℕ) = dataOf slots in
-    let inside : i < length ds = omega (arith, length-map slots (λ (s : Slot). s .bytes)) in
-    let old : getD ds i [] ≡ getD slots i noSlot .bytes = List·getD-map (λ (s : Slot). s .bytes) slots i noSlot in
-    let before : length (flat ds) ≡ length (flat (take i ds)) + (length (getD ds i []) + length (flat (drop (suc i) ds))) = ap length (flat-split ds i inside) ∙ simp length-append in
-    omega (arith, ap length old)
-
 rewritten-sound : (s : Slot) (start : ℕ) (bytes : List ℕ) → SlotSound s → live s ≡ true → SlotSound (rewritten s start bytes)
 rewritten-sound s start bytes k e =
-    record { kinds = k .kinds; aged = k .aged; untyped = k .untyped; dead = λ z. absurd (omega (arith, ltb-true 0 (s .kind) e)) }
+    record { kinds = k .kinds; aged = k .aged; narrow = omega arith; untyped = k .untyped; dead = λ z. absurd (omega (arith, ltb-true 0 (s .kind) e)) }
 
 reissued-sound : (s : Slot) → SlotSound s → SlotSound (reissued s)
 reissued-sound s k =
     record {
       kinds = k .kinds;
       aged = step-aged (s .generation);
+      narrow = omega arith;
       untyped = k .untyped;
       dead = λ z. let d = k .dead z in λ j. record { generation = nextFrom 32 (s .generation); kind = z j; type = ap (λ (x : Slot). x .type) d j; start = ap (λ (x : Slot). x .start) d j; writes = 0; bytes = ap (λ (x : Slot). x .bytes) d j };
     }
@@ -72,7 +65,7 @@ module _ (S P : ℕ) (h : State) (k : Sound S P h) (i : ℕ) (alive : live (slot
       let b : i < length (h .slots) = live-inside h i alive in
       let s : Slot = rewritten (slotAt h i) start bytes in
       slot-sound S P h i s k b (rewritten-sound (slotAt h i) start bytes (k .each-slot i b) alive) refl
-      (omega (arith, data-part (h .slots) i b))
+      (omega (arith, data-upto (h .slots) i b))
 
 -- ---- the calls
 
@@ -105,7 +98,7 @@ write-sound S P h i at bytes k = ⊎-elim alive (λ d. keeps S P _ _ (write-dead
     alive : live (slotAt h i) ≡ true → Sound S P (write h i at bytes .heap)
     alive a =
         let b : i < length (h .slots) = live-inside h i a in
-        let part = data-part (h .slots) i b in
+        let part = data-upto (h .slots) i b in
         elim (decLt (length (s .bytes)) (s .start)) [
           | yes y ↦ keeps S P _ _ (write-hidden h i at bytes a y) (rewrite-sound S P h k i a (s .start) (s .bytes) (omega (arith, k .data-fit)))
           | no y ↦ elim (decLt (length (s .bytes)) (s .start + at + length bytes)) [
@@ -144,13 +137,8 @@ handles-sound tag n i from (s ∷ ss) e few low each =
         (record { ours = tag-packed tag i (s .generation) (omega arith) (g .1); above = omega arith; inside = omega arith; aged = omega (arith, generation-packed tag i (s .generation) (g .1), g .0) })
         ∙ rest (suc (indexOf (packed tag i (s .generation)))) (omega arith)
 
-pub seal-sound : (S P : ℕ) (h : State) → ((i : ℕ) → slotAt h i .generation < 2 ^ 32) → Sound S P h → Sound S P (seal h)
+pub seal-sound : (S P : ℕ) (h : State) → ((i : ℕ) → i < length (h .slots) → slotAt h i .generation < 2 ^ 32) → Sound S P h → Sound S P (seal h)
 unfolding seal
 seal-sound S P h low k =
     seals-sound S P h (liveHandles (h .tag) 0 (h .slots)) k
-    (handles-sound (h .tag) (length (h .slots)) 0 0 (h .slots) (omega arith) (omega (arith, k .slots-fit, k .slot-range)) (omega arith) (λ j b. (k .each-slot j b .aged, low j)))
-
-pub new-sound : (S P tag : ℕ) → 1 ≤ S → S ≤ 16777216 → P ≤ 1073741824 → Sound S P (new tag)
-unfolding new flat times soundSeals
-new-sound S P tag some few small =
-    record { slot-range = (some, few); pool-range = small; slots-fit = omega arith; data-fit = omega arith; partition = λ i. ap bit (sym (le-ltb i 0 (omega arith))); each-slot = λ i b. absurd (omega arith); seals = refl; reclaim-range = (omega arith, omega arith); reclaim-even = refl }
+    (handles-sound (h .tag) (length (h .slots)) 0 0 (h .slots) (omega arith) (omega (arith, k .slots-fit, k .slot-range)) (omega arith) (λ j b. (k .each-slot j b .aged, low j b)))
