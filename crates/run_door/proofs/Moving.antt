@@ -7,41 +7,36 @@ use Prim.Native.Nat.{ℕ, _+_, _<_}
 use native.Mathlib.Omega.{arith}
 use lib.ListN.{length, getD, drop, length-drop}
 use Rattle.text.proofs.Getting.{drop-at}
+use Rattle.refusal.specs.Told.{nothing}
+use Rattle.refusal.specs.declared.Refusal.the-variants.{Page}
+use Rattle.refusal.specs.declared.Reply.{Reply}
+use Rattle.refusal.specs.declared.Reply.the-variants.{Is, Not}
 use Rattle.heap.specs.Lent.{Lent, view, stored, slotCount, poolSize}
 use Rattle.heap.specs.Calls.{free, recycle, seal as sealed}
-use Rattle.heap.specs.Done.{Leaves, Does}
+use Rattle.heap.specs.Done.{Leaves, Tells}
 use Rattle.heap.proofs.Storing.{view-stored}
-use Rattle.heap_calls.specs.Answers.{toldFree}
-use Rattle.heap_calls.specs.declared.FreeAnswer.{FreeAnswer}
-use Rattle.heap_calls.specs.declared.FreeAnswer.the-variants.{Freed, Null, WrongHeap, Stale}
-use Rattle.heap_recycle.specs.Pins.{risingFrom, rising}
-use Rattle.object_door.proofs.Objects.{of-pins}
+use Rattle.heap_calls.specs.Pins.{risingFrom, rising}
+use Rattle.object_door.specs.ObjectCalls.{recycling}
 use Rattle.script.specs.Script.{Call, take, seal, recycle as recycles, readCall, doing, andThen, runScript}
 use Rattle.script.specs.Found.{callAt, DataThere, AllocRead, Reads, LineRead}
 use Rattle.script.specs.declared.AllocLine.{AllocLine}
 use Rattle.script.specs.declared.Line.{Line}
 use Rattle.script.specs.declared.Line.the-variants.{Alloc, Take, Seal, Recycle, Bad}
 use Rattle.script.proofs.Scripts.{call-shorter, run-call, run-bad}
-use Rattle.run_door.specs.Steps.{toldRun, afterFree, CanRun, Stepping}
-use Rattle.run_door.specs.declared.RunAnswer.{RunAnswer}
-use Rattle.run_door.specs.declared.RunAnswer.the-variants.{Done, NotCall}
+use Rattle.script.proofs.Refusing.{free-numbered}
+use Rattle.run_door.specs.inner.Steps.{Ends, CanRun, Stepping}
+use Rattle.run_door.proofs.Answering.{ends-as, silent-unit}
 
 pub no-pins : rising [] ≡ true
 unfolding risingFrom
 no-pins = refl
-
-told-freed : (a : FreeAnswer) → toldRun (afterFree a) ≡ toldFree a
-told-freed Freed = refl
-told-freed Null = refl
-told-freed WrongHeap = refl
-told-freed Stale = refl
 
 -- the data of an `alloc` line that was read
 pub line-data : (o : Option (Call × List ℕ)) (s : List ℕ) (r : Line) (a : AllocLine) → LineRead o s r → r ≡ Alloc a → DataThere s a
 line-data o s r a h e = (subst (λ (x : Line). LineRead o s x) e h) .there
 
 module _ (l : Lent) (s : List ℕ) (at : ℕ) (r : Line) (h : LineRead (readCall (drop at s)) s r) where
-  pub step-bad : (room : List ℕ) → CanRun l room → at < length s → r ≡ Bad → Stepping l l s at NotCall (length s)
+  pub step-bad : (room : List ℕ) → CanRun l room → at < length s → r ≡ Bad → Stepping l l s at (Not Page) (length s)
   step-bad room can k e =
       let n : readCall (drop at s) ≡ none = subst (λ (x : Line). LineRead (readCall (drop at s)) s x) e h in
       record {
@@ -52,8 +47,8 @@ module _ (l : Lent) (s : List ℕ) (at : ℕ) (r : Line) (h : LineRead (readCall
       }
 
   -- a call that was read and made
-  step-call : (l′ : Lent) (c : Call) (a : RunAnswer) (next : ℕ) → Reads (readCall (drop at s)) s c next → Does l l′ (toldRun a) (doing (slotCount l) (poolSize l) c (view l)) → Stepping l l′ s at a next
-  step-call l′ c a next q d =
+  step-call : (l′ : Lent) (c : Call) (reply : Reply) (next : ℕ) → Reads (readCall (drop at s)) s c next → Ends l l′ reply (doing (slotCount l) (poolSize l) c (view l)) → Stepping l l′ s at reply next
+  step-call l′ c reply next q d =
       let v : doing (slotCount l) (poolSize l) c (view l) .heap ≡ view l′ = sym (ap view (d .leaves .lies) ∙ view-stored (slotCount l) (poolSize l) (doing (slotCount l) (poolSize l) c (view l) .heap)) in
       record {
         formed = d .leaves .formed;
@@ -63,23 +58,26 @@ module _ (l : Lent) (s : List ℕ) (at : ℕ) (r : Line) (h : LineRead (readCall
         inside = q .inside;
       }
 
-  pub step-alloc : (l′ : Lent) (a : AllocLine) (answer : RunAnswer) → r ≡ Alloc a → Does l l′ (toldRun answer) (doing (slotCount l) (poolSize l) (callAt s a) (view l)) → Stepping l l′ s at answer (a .next)
-  step-alloc l′ a answer e d =
+  pub step-alloc : (l′ : Lent) (a : AllocLine) (reply : Reply) → r ≡ Alloc a → Ends l l′ reply (doing (slotCount l) (poolSize l) (callAt s a) (view l)) → Stepping l l′ s at reply (a .next)
+  step-alloc l′ a reply e d =
       let q : AllocRead (readCall (drop at s)) s a = subst (λ (x : Line). LineRead (readCall (drop at s)) s x) e h in
-      step-call l′ (callAt s a) answer (a .next) (record { call = q .call; inside = q .inside }) d
+      step-call l′ (callAt s a) reply (a .next) (record { call = q .call; inside = q .inside }) d
 
-  pub step-take : (l′ : Lent) (x next : ℕ) (f : FreeAnswer) (answer : RunAnswer) → r ≡ Take x next → Does l l′ (toldFree f) (free (view l) x) → answer ≡ afterFree f → Stepping l l′ s at answer next
+  pub step-take : (l′ : Lent) (x next : ℕ) (reply : Reply) → r ≡ Take x next → Tells nothing nothing l l′ reply (free (view l) x) → Stepping l l′ s at reply next
   unfolding doing
-  step-take l′ x next f answer e d g =
-      step-call l′ (take x) answer next (subst (λ (y : Line). LineRead (readCall (drop at s)) s y) e h)
-      (record { leaves = d .leaves; says = ap toldRun g ∙ told-freed f ∙ d .says })
+  step-take l′ x next reply e d =
+      step-call l′ (take x) reply next (subst (λ (y : Line). LineRead (readCall (drop at s)) s y) e h)
+      (record {
+        leaves = d .leaves;
+        says = ends-as nothing nothing reply (free (view l) x .answer) (free-numbered (view l) x) (d .says) ∙ silent-unit (free (view l) x .answer);
+      })
 
-  pub step-seal : (l′ : Lent) (next : ℕ) → r ≡ Seal next → Leaves l l′ (sealed (view l)) → Stepping l l′ s at Done next
+  pub step-seal : (l′ : Lent) (next : ℕ) → r ≡ Seal next → Leaves l l′ (sealed (view l)) → Stepping l l′ s at (Is 0 0) next
   unfolding doing
-  step-seal l′ next e d = step-call l′ seal Done next (subst (λ (y : Line). LineRead (readCall (drop at s)) s y) e h) (record { leaves = d; says = refl })
+  step-seal l′ next e d = step-call l′ seal (Is 0 0) next (subst (λ (y : Line). LineRead (readCall (drop at s)) s y) e h) (record { leaves = d; says = refl })
 
-  pub step-recycle : (l′ : Lent) (next : ℕ) (pins : List ℕ) → r ≡ Recycle next → pins ≡ [] → Leaves l l′ (recycle (view l) pins) → Stepping l l′ s at Done next
-  unfolding doing
+  pub step-recycle : (l′ : Lent) (next : ℕ) (pins : List ℕ) → r ≡ Recycle next → pins ≡ [] → Leaves l l′ (recycle (view l) pins) → Stepping l l′ s at (Is 0 0) next
+  unfolding doing recycling
   step-recycle l′ next pins e g d =
-      step-call l′ recycles Done next (subst (λ (y : Line). LineRead (readCall (drop at s)) s y) e h)
-      (of-pins l [] l′ no-pins (subst (λ (p : List ℕ). Leaves l l′ (recycle (view l) p)) g d))
+      let f : Leaves l l′ (recycle (view l) []) = subst (λ (p : List ℕ). Leaves l l′ (recycle (view l) p)) g d in
+      step-call l′ recycles (Is 0 0) next (subst (λ (y : Line). LineRead (readCall (drop at s)) s y) e h) (rw no-pins (record { leaves = f; says = refl }))

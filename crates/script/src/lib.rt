@@ -2,9 +2,10 @@
 use text::Decimal;
 use text::Hex;
 use text::Literal;
+ghost use mathlib.Core.Path.{_≡_};
 ghost use Prim.Native.Nat.{_≤_};
 ghost use lib.ListN.{length, drop};
-ghost use Rattle.script.specs.Script.{readAlloc, readTake, readCall};
+ghost use Rattle.script.specs.Script.{readAlloc, readTake, readCall, beginsCall};
 ghost use Rattle.script.specs.Found.{LineRead};
 
 // A line `alloc`: type, kind, and data that stands in hexadecimal from `from` on; the next line begins at `next`.
@@ -78,4 +79,17 @@ pub fn read_line(s: &[u8], at: usize) -> Line
             },
         },
     }
+}
+
+// Is the first line a call's, if there is a line?
+pub fn begins_call(s: &[u8]) -> bool
+    ensures { λ r. ⌜ r ≡ beginsCall (now (s .entry)) ⌝ }
+{
+    if s.len() == 0 {
+        return true;
+    }
+    let Line::Bad = read_line(s, 0) else {
+        return true;
+    };
+    false
 }
