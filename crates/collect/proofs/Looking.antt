@@ -8,13 +8,16 @@ use native.Mathlib.Nat.{mul-le-mul-right}
 use native.Mathlib.Omega.{arith}
 use lib.ListN.{length, getD, replicate}
 use borrow.Author.Tests.{not-true, not-false}
-use Rattle.word.specs.Result.{Result, refused}
 use Rattle.word.specs.Ones.{passing}
 use Rattle.rows.specs.Row.{bitIn, part}
+use Rattle.refusal.specs.Told.{nothing}
+use Rattle.refusal.specs.declared.Refusal.the-variants.{NoMap}
+use Rattle.refusal.specs.declared.Reply.{Reply}
+use Rattle.refusal.specs.declared.Reply.the-variants.{Not}
 use Rattle.ty.specs.Types.{Table}
 use Rattle.heap.specs.Lent.{Lent as Heap, view}
 use Rattle.heap.specs.WellFormed.{wellFormed}
-use Rattle.heap.specs.Done.{Does}
+use Rattle.heap.specs.Done.{Tells}
 use Rattle.heap.proofs.Testing.{formed-tested}
 use Rattle.flow.specs.Function.{safepoint}
 use Rattle.flow.specs.Dataflow.{liveBefore, liveRow, holder, track}
@@ -25,9 +28,9 @@ use Rattle.roots.specs.Columns.{seen, cell, Found}
 use Rattle.roots.proofs.Checks.{formed-fit}
 use Rattle.roots.proofs.Steps.{part-cell}
 use Rattle.roots.proofs.Answers.{need-is, found-held, found-holder, seen-holder, in-code, is-safepoint, not-safepoint, not-held}
-use Rattle.joined_laws.specs.Joined.{isHandle, rootRegisters, valuesOf, joinedBy, joined}
-use Rattle.joined_mark.specs.Joining.{rowValues}
-use Rattle.joined_at.specs.Safepoint.{atSafepoint, rowWords, rowStart, rowIn, CanLook, RootRow}
+use Rattle.collection.specs.Joined.{isHandle, rootRegisters, valuesOf, joinedBy, joined}
+use Rattle.mark.specs.Joining.{rowValues}
+use Rattle.collect.specs.Safepoint.{atSafepoint, rowWords, rowStart, rowIn, CanLook, RootRow}
 
 -- ---- places in the rows are words
 
@@ -113,15 +116,16 @@ module _ (f : Lent) (pc : ℕ) (values rows rows′ : List ℕ) (can : CanLook f
   rows-again rows″ e = e ∙ ap (λ (n : ℕ). replicate n 0) (row .kept) ∙ sym (can .clear)
 
   module _ (T : Table) (frame : Option (List ℕ)) (pins : List ℕ) (l : Heap) where
-    pub at-none : not r ≡ true → wellFormed l ≡ true → Does l l (refused 16) (atSafepoint T (function f) pc values frame pins (view l))
+    pub at-none : not r ≡ true → wellFormed l ≡ true → Tells nothing nothing l l (Not NoMap) (atSafepoint T (function f) pc values frame pins (view l))
     unfolding atSafepoint
     at-none e formed =
         let s : safepoint (function f) pc ≡ false = sym (row .says) ∙ not-true _ e in
         rw s (record { leaves = record { lies = formed-tested l formed .lies; formed = formed }; says = refl })
 
-    pub at-row : not r ≡ false → (l′ : Heap) (a : Result Unit) → Does l l′ a (joinedBy T frame (rowValues (rowIn f rows′) values) pins (view l)) → Does l l′ a (atSafepoint T (function f) pc values frame pins (view l))
+    pub at-row : not r ≡ false → (l′ : Heap) (a : Reply) → Tells nothing nothing l l′ a (joinedBy T frame (rowValues (rowIn f rows′) values) pins (view l))
+        → Tells nothing nothing l l′ a (atSafepoint T (function f) pc values frame pins (view l))
     unfolding atSafepoint joined
     at-row e l′ a d =
         let t : r ≡ true = not-false _ e in
         let s : safepoint (function f) pc ≡ true = sym (row .says) ∙ t in
-        rw s (subst (λ (x : List ℕ). Does l l′ a (joinedBy T frame x pins (view l))) (row-values t) d)
+        rw s (subst (λ (x : List ℕ). Tells nothing nothing l l′ a (joinedBy T frame x pins (view l))) (row-values t) d)

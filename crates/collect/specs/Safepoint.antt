@@ -6,7 +6,6 @@ use mathlib.Core.Option.{Option}
 use Prim.Native.Nat.{ℕ, _+_, _-_, _*_, _/_, _≤_}
 use lib.ListN.{length, take, drop, replicate}
 use Rattle.word.specs.Choice.{if_then_else_}
-use Rattle.word.specs.Result.{Result, refused}
 use Rattle.word.specs.Ones.{passing}
 use Rattle.rows.specs.Row.{bitIn}
 use Rattle.ty.specs.Types.{Table}
@@ -14,18 +13,11 @@ use Rattle.heap.specs.State.{State}
 use Rattle.heap.specs.Calls.{Changed, refuse}
 use Rattle.flow.specs.Function.{Function, safepoint}
 use Rattle.roots.specs.Calls.{Lent, function, right, need}
-use Rattle.collect.specs.Collect.{toldCollect}
-use Rattle.joined_laws.specs.Joined.{rootRegisters, joined}
-use Rattle.joined_at.specs.declared.AtAnswer.{AtAnswer}
-use Rattle.joined_at.specs.declared.AtAnswer.the-variants.{Told, NoMap}
+use Rattle.collection.specs.Joined.{rootRegisters, joined}
 
--- 16 where pc is no safepoint inside a block, the heap unchanged
+-- no map (16) where pc is no safepoint inside a block, the heap unchanged
 unfoldable pub atSafepoint : Table → Function → (pc : ℕ) (values : List ℕ) (frame : Option (List ℕ)) (pins : List ℕ) → State → Changed Unit
 atSafepoint T f pc values frame pins h = if safepoint f pc then joined T f pc values frame pins h else refuse 16 h
-
-abbrev pub toldSafepoint : AtAnswer → Result Unit
-toldSafepoint (Told a) = toldCollect a
-toldSafepoint NoMap = refused 16
 
 -- words of a row, and where the row of live registers starts: after the three rows of each block
 abbrev pub rowWords : Lent → ℕ
