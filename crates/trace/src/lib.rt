@@ -1050,7 +1050,7 @@ pub fn trace_slot(
     slots: usize,
     s: usize,
     narrow: &[u32],
-    of: u8,
+    of: u32,
     t: u64,
     start: usize,
     data: &[u8],
