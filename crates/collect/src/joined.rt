@@ -49,7 +49,21 @@ fn collect_row(
     ensures { λ _. ⌜ (now (marks .exit) ≡ now (marks .entry)) × (now (work .exit) ≡ now (work .entry)) ⌝ }
 {
     let r = mark::joined::mark_joined(
-        types, fields, consts, bytes, heap, narrow, wide, pool, row, values, map, memory, pins, marks, work,
+        types,
+        fields,
+        consts,
+        bytes,
+        heap,
+        narrow,
+        wide,
+        pool,
+        row,
+        values,
+        map,
+        memory,
+        pins,
+        marks,
+        work,
     );
     finish(r, heap, narrow, wide, pool, pins, marks, work)
 }
@@ -79,7 +93,19 @@ fn root_row(
     if kinds[pc] != 1 {
         return false;
     }
-    roots::at::live_row(rows, kinds, ends, refs, blocks, classes, Tracked::Handles, nb, words, b, pc);
+    roots::at::live_row(
+        rows,
+        kinds,
+        ends,
+        refs,
+        blocks,
+        classes,
+        Tracked::Handles,
+        nb,
+        words,
+        b,
+        pc,
+    );
     true
 }
 
@@ -129,7 +155,21 @@ pub fn collect_at(
     let at = blocks.len() / 2 * (3 * words);
     let past = at + words;
     let r = collect_row(
-        types, fields, consts, bytes, heap, narrow, wide, pool, &rows[at..past], values, map, memory, pins, marks, work,
+        types,
+        fields,
+        consts,
+        bytes,
+        heap,
+        narrow,
+        wide,
+        pool,
+        &rows[at..past],
+        values,
+        map,
+        memory,
+        pins,
+        marks,
+        work,
     );
     memory::clear_u64(rows);
     r

@@ -15,6 +15,7 @@ ghost use Rattle.heap_calls.specs.Pins.{rising};
 ghost use Rattle.ty.specs.View.{tableOf};
 ghost use Rattle.sweep.specs.Columns.{CanSweep};
 ghost use Rattle.collect.specs.Collect.{collecting, finished, CanCollect};
+
 pub mod joined; // at a safepoint, from the frame and the live registers
 
 // What follows a marking: the objects without a mark are dropped, unless one can't be traced. The scratch is zero afterwards.
@@ -75,6 +76,19 @@ pub fn collect(
         (view (lent heap (now (narrow .entry)) (now (wide .entry)) (now (pool .entry))))) ⌝ }
     ensures { λ _. ⌜ (now (marks .exit) ≡ now (marks .entry)) × (now (work .exit) ≡ now (work .entry)) ⌝ }
 {
-    let r = mark::mark(types, fields, consts, bytes, heap, narrow, wide, pool, roots, pins, marks, work);
+    let r = mark::mark(
+        types,
+        fields,
+        consts,
+        bytes,
+        heap,
+        narrow,
+        wide,
+        pool,
+        roots,
+        pins,
+        marks,
+        work,
+    );
     finish(r, heap, narrow, wide, pool, pins, marks, work)
 }
