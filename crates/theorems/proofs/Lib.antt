@@ -5,3 +5,5 @@ pub mod PageWriting
 pub mod HeapPageHeap
 pub mod PageHeapPage
 pub mod PageBound
+pub mod NoRoom
+pub mod StrideZero

@@ -4,3 +4,4 @@ pub mod PageCalls
 pub mod HeapPageHeap
 pub mod PageHeapPage
 pub mod PageBound
+pub mod StrideZero
