@@ -7,3 +7,4 @@ pub mod PageHeapPage
 pub mod PageBound
 pub mod NoRoom
 pub mod StrideZero
+pub mod ProvedTable

@@ -5,3 +5,5 @@ pub mod HeapPageHeap
 pub mod PageHeapPage
 pub mod PageBound
 pub mod StrideZero
+pub mod TableLayouts
+pub mod ProvedTable

@@ -11,8 +11,8 @@ use Rattle.ty.specs.Scalars.{scalarSize, narrow, elemSize, logicLeaf, leafBy}
 use Rattle.layout.specs.Layout.{dimLen, dimsOf, under, arrayLaid, arrayOf, placed, endOf, recordOf, layoutBy, layoutAt, layoutOf}
 use Rattle.layout.specs.Offsets.{offsetsFrom, offsetsOf}
 use Rattle.trace.specs.Places.{rising, handlesPlaces, kindPlaces, wordsAt, handlesOf}
-use Rattle.cases.specs.Layouts.{dim, sample, nested, answered, cases}
-use Rattle.cases.specs.Table.{laid, handlesIn, table, allRight}
+use Rattle.theorems.specs.TableLayouts.{dim, sample, nested, answered, cases}
+use Rattle.theorems.specs.ProvedTable.{laid, handlesIn, table, allRight}
 
 pub table-holds : allRight table ≡ true
 unfolding allRight all sameList table laid handlesIn packed nextFrom resolve new resolveBy tagOf indexOf generationOf handlesOf kindPlaces handlesPlaces rising wordsAt le bytes cases dim sample nested answered layoutOf layoutAt layoutBy arrayOf arrayLaid dimsOf wordOf dimLen rank alignUp under elemSize scalarSize narrow logicLeaf leafBy recordOf endOf placed offsetsOf offsetsFrom

@@ -11,7 +11,7 @@ use Rattle.handle.specs.Handle.{packed}
 use Rattle.heap.specs.Calls.{new, resolve}
 use Rattle.ty.specs.Types.{Table}
 use Rattle.trace.specs.Places.{handlesOf}
-use Rattle.cases.specs.Layouts.{Case, answered, cases}
+use Rattle.theorems.specs.TableLayouts.{Case, answered, cases}
 use Rattle.layout.specs.Layout.{layoutOf}
 use Rattle.layout.specs.Offsets.{offsetsOf}
 
