@@ -1,5 +1,4 @@
 -- What other crates use: the laws of the sweep's definition, demand 3 of both collections' definitions, and examples by computation.
-pub mod Quarantine
 pub mod Dropping
 pub mod SweptLaws
 pub mod Answers

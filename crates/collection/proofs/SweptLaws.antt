@@ -20,7 +20,7 @@ use Rattle.heap.specs.Calls.{resolve, released, filter, member, recycle}
 use Rattle.heap.specs.WellFormed.{sound, fits}
 use Rattle.heap.proofs.Sound.{Sound}
 use Rattle.heap.proofs.Testing.{sound-tested, sound-test}
-use Rattle.collection.proofs.Quarantine.{recycle-sound}
+use Rattle.heap.proofs.Recycled.{recycle-sound}
 use Rattle.collection.specs.Swept.{goes, dropped, dropSlot, dropSlots, liveSize, dropUnmarked, swept}
 use Rattle.collection.proofs.Dropping.{sweptSlot, all-dropped, dropped-slot, drop-append, unmarked-sound}
 

@@ -14,7 +14,8 @@ use Rattle.heap.specs.Calls.{Changed, new}
 use Rattle.heap.proofs.Storing.{view-stored}
 use Rattle.door.specs.HeapCalls.{Outcome, admitted, outcome, enough, zeros, calling, heapCall, asked, heapAsk}
 use Rattle.door.proofs.Entering.{calling-ready, asking-ready}
-use Rattle.object_door.specs.Making.{noHeader, sizesFit, newTests, making, newCall}
+use Rattle.object_door.specs.Making.{noHeader, newTests, making, newCall}
+use Rattle.heap.specs.Sizes.{sizesFit}
 use Rattle.object_door.proofs.Making.{sizes-tested, made-formed}
 
 module _ (m w narrow wide pool : List ℕ) (tag : ℕ) where

@@ -1,24 +1,19 @@
 -- `new` on lent memory (01, "Heap" and "What the host is told"): 18, then 1 where the lent sizes are out of range.
-use mathlib.Core.Bool.{Bool, _&&_}
 use mathlib.Core.List.{List, [], _∷_}
-use Prim.Native.Nat.{ℕ, _*_, _/_}
+use Prim.Native.Nat.{ℕ}
 use lib.ListN.{length, replicate}
-use lib.Dec.{eqb, leb}
 use Rattle.refusal.specs.Told.{nothing}
 use Rattle.refusal.specs.declared.Refusal.the-variants.{BrokenHeap, Scratch}
 use Rattle.heap.specs.State.{State}
 use Rattle.heap.specs.Lent.{lent}
 use Rattle.heap.specs.Calls.{Changed, new, done}
+use Rattle.heap.specs.Sizes.{sizesFit}
 use Rattle.heap.specs.declared.Heap.{Heap}
 use Rattle.door.specs.HeapCalls.{Test, test, Outcome, enough, calling}
 
 -- a refusal returns zeros, which are no heap: reclaim_at is at least 4,096 in one
 abbrev pub noHeader : Heap
 noHeader = record { tag = 0; «since_gc» = 0; «reclaim_at» = 0; «live_bytes» = 0; epoch = 0; log = replicate 16 0; slots = 0; free = 0; quarantine = 0; retired = 0; sealed = 0 }
-
--- the lengths of what is lent: S and pool in range, six narrow runs of S and four wide ones
-unfoldable pub sizesFit : (narrow wide pool : ℕ) → Bool
-sizesFit n w p = leb 1 (n / 6) && leb (n / 6) 16777216 && leb p 1073741824 && eqb n (6 * (n / 6)) && eqb w (4 * (n / 6))
 
 abbrev pub newTests : (marks work narrow wide pool : List ℕ) → List Test
 newTests marks work narrow wide pool =

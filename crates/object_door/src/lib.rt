@@ -15,7 +15,7 @@ ghost use Rattle.heap.specs.Lent.{lent};
 ghost use Rattle.heap.specs.Calls.{free as freed};
 ghost use Rattle.door.specs.HeapCalls.{Entered, outcome, heapCall};
 ghost use Rattle.object_door.specs.ObjectCalls.{isKind, allocating, recycling, handed, takeCall};
-ghost use Rattle.object_door.specs.Making.{noHeader, sizesFit, newTests, newCall};
+ghost use Rattle.object_door.specs.Making.{noHeader, newTests, newCall};
 
 // The header that a refusal returns: zeros, which no call takes for a heap.
 fn no_heap() -> Heap
@@ -36,29 +36,6 @@ fn no_heap() -> Heap
     }
 }
 
-// Are the lent sizes in range: six narrow runs and four wide ones?
-fn sizes_fit(narrow: usize, wide: usize, pool: usize) -> bool
-    ensures { λ r. ⌜ r ≡ sizesFit narrow wide pool ⌝ }
-{
-    let all = narrow / 6;
-    if all < 1 {
-        return false;
-    }
-    if 16777216 < all {
-        return false;
-    }
-    if 1073741824 < pool {
-        return false;
-    }
-    if narrow != 6 * all {
-        return false;
-    }
-    if wide != 4 * all {
-        return false;
-    }
-    true
-}
-
 // Is there scratch enough, and are the lent sizes in range?
 fn enter_new(narrow: &[u32], wide: &[u64], pool: &[u8], marks: &mut [u8], work: &mut [u64]) -> Entry
     ensures { λ r. ⌜ Entered (now (marks .entry) ∷ now (work .entry) ∷ [])
@@ -74,7 +51,7 @@ fn enter_new(narrow: &[u32], wide: &[u64], pool: &[u8], marks: &mut [u8], work: 
     }
     memory::clear_u8(marks);
     memory::clear_u64(work);
-    if sizes_fit(narrow.len(), wide.len(), pool.len()) {
+    if heap::sizes_fit(narrow.len(), wide.len(), pool.len()) {
         return Entry::Ready;
     }
     Entry::Not(Refusal::BrokenHeap)

@@ -32,7 +32,9 @@ use Rattle.page_check.specs.declared.Sections.{Sections}
 use Rattle.page_check.specs.declared.Checked.{Checked}
 use Rattle.page_check.specs.declared.Checked.the-variants as checked
 use Rattle.page_reader.specs.Columns.{withNumbers, withLists, NumbersFilled, ListsFilled, Roomy}
-use Rattle.page_reader.specs.Reading.{sizesFit, inRange, readInto, PageRead}
+use Rattle.page_reader.specs.Reading.{inRange, readInto, PageRead}
+use Rattle.heap.specs.Sizes.{sizesFit}
+use Rattle.heap.proofs.Sizes.{Sizes, sizes-tested}
 use Rattle.page_reader.proofs.Loading.{padded}
 
 -- ZEROS
@@ -101,32 +103,6 @@ module _ (s : List ℕ) (x : Sections) (narrow wide pool : List ℕ) (c : Sectio
 -- SIZES
 
 -- what the sizes of lent memory say
-pub record Sizes (n w p : ℕ) : Type 0 where
-  pub low : 1 ≤ n / 6
-  pub high : n / 6 ≤ 16777216
-  pub pool : p ≤ 1073741824
-  pub narrow : n ≡ 6 * (n / 6)
-  pub wide : w ≡ 4 * (n / 6)
-
-pub sizes-tested : (n w p : ℕ) → sizesFit n w p ≡ true → Sizes n w p
-unfolding sizesFit
-sizes-tested n w p h =
-    let a = leb 1 (n / 6) in
-    let b = leb (n / 6) 16777216 in
-    let c = leb p 1073741824 in
-    let d = eqb n (6 * (n / 6)) in
-    let t₁ = and-both (a && b && c && d) (eqb w (4 * (n / 6))) h in
-    let t₂ = and-both (a && b && c) d (t₁ .0) in
-    let t₃ = and-both (a && b) c (t₂ .0) in
-    let t₄ = and-both a b (t₃ .0) in
-    record {
-      low = leb-true 1 (n / 6) (t₄ .0);
-      high = leb-true (n / 6) 16777216 (t₄ .1);
-      pool = leb-true p 1073741824 (t₃ .1);
-      narrow = eqb-true n (6 * (n / 6)) (t₂ .1);
-      wide = eqb-true w (4 * (n / 6)) (t₁ .1);
-    }
-
 regroup : (r a b c d e : Bool) → (r ≡ true → (a && b) ≡ (c && d && e)) → (r && a && b) ≡ (r && c && d && e)
 regroup true a b c d e h = h refl
 regroup false a b c d e h = refl

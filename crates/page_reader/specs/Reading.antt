@@ -1,5 +1,5 @@
 -- What reading a page answers and leaves (01, "Page"): 17, then 1, 6 and 5; a refusal changes nothing, and what the lent heap held before isn't looked at.
-use Prim.Native.Nat.{ℕ, _*_, _/_}
+use Prim.Native.Nat.{ℕ}
 use mathlib.Core.Bool.{Bool, _&&_}
 use mathlib.Core.List.{List}
 use mathlib.Core.Path.{_≡_}
@@ -13,11 +13,7 @@ use Rattle.heap.specs.Lent.{Lent, stored, slotCount, poolSize}
 use Rattle.pages.specs.Page.{readPage}
 use Rattle.page_check.specs.Sections.{verdict}
 
--- the lengths of what is lent: S and pool in range, six narrow runs of S and four wide ones
-unfoldable pub sizesFit : (narrow wide pool : ℕ) → Bool
-sizesFit n w p = leb 1 (n / 6) && leb (n / 6) 16777216 && leb p 1073741824 && eqb n (6 * (n / 6)) && eqb w (4 * (n / 6))
-
--- the same of the runs: S and pool in range, the last run of either list has S entries, and nothing lies past them
+-- the lengths of what is lent are right (`sizesFit`), said of the runs: S and pool in range, the last run of either list has S entries, and nothing lies past them
 unfoldable pub inRange : Lent → Bool
 inRange l =
     leb 1 (slotCount l) && leb (slotCount l) 16777216 && leb (poolSize l) 1073741824

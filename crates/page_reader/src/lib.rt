@@ -18,7 +18,7 @@ ghost use Rattle.page_check.specs.Filling.{slotsAt, SlotsParsed};
 ghost use Rattle.heap.specs.Lent.{lent, headerOf, stored};
 ghost use Rattle.page_check.specs.Sections.{heapIn, Sectioned};
 ghost use Rattle.page_reader.specs.Columns.{NumbersFilled, ListsFilled, Roomy};
-ghost use Rattle.page_reader.specs.Reading.{sizesFit, PageRead};
+ghost use Rattle.page_reader.specs.Reading.{PageRead};
 
 // Puts the numbers of `count` slots, whose lines stand from `at` on, into their runs.
 fn fill_slots(s: &[u8], at: usize, count: usize, narrow: &mut [u32], wide: &mut [u64])
@@ -120,17 +120,6 @@ fn fill_lists(s: &[u8], x: Sections, narrow: &mut [u32], wide: &mut [u64])
     fill_handles(s, x.sealed_at, x.sealed, &mut wide[three..four]);
 }
 
-// Are the lent sizes in range: six narrow runs and four wide ones?
-fn sizes_fit(narrow: usize, wide: usize, pool: usize) -> bool
-    ensures { λ r. ⌜ r ≡ sizesFit narrow wide pool ⌝ }
-{
-    let all = narrow / 6;
-    let a = page_check::both(1 <= all, all <= 16777216);
-    let b = page_check::both(a, pool <= 1073741824);
-    let c = page_check::both(b, narrow == 6 * all);
-    page_check::both(c, wide == 4 * all)
-}
-
 // The header of the heap whose page was found: epoch and log read as 0.
 fn header(s: &[u8], x: Sections) -> Heap
     requires { ⌜ Sectioned (now s) x ⌝ }
@@ -180,7 +169,7 @@ pub fn read(
         (lent (r .heap) (now (narrow .exit)) (now (wide .exit)) (now (pool .exit))) (now (s .entry)) (r .reply) ⌝ }
     ensures { λ _. ⌜ now (marks .exit) ≡ replicate (length (now (marks .entry))) 0 ⌝ }
 {
-    let sizes = sizes_fit(narrow.len(), wide.len(), pool.len());
+    let sizes = heap::sizes_fit(narrow.len(), wide.len(), pool.len());
     let found = page_check::check_page(s, sizes, narrow.len() / 6, pool.len(), marks);
     match found {
         Checked::Page(x) => {

@@ -1,9 +1,9 @@
--- `object_door::sizes_fit` meets its contract. Each test refuses what one size asks. Assumes nothing.
+-- `heap::sizes_fit` meets its contract. Each test refuses what one size asks. Assumes nothing.
 use native.Mathlib.Omega.{arith}
-use Rattle.object_door.proofs.Making.{sizes-no, sizes-yes}
+use Rattle.heap.proofs.Sizes.{sizes-no, sizes-yes}
 use borrow.Author.Needs.{needs}
-use Rattle.object_door.proofs.sizes_fit.Statement.{statement}
-use Rattle.object_door.proofs.sizes_fit.Tie as tie
+use Rattle.heap.proofs.sizes_fit.Statement.{statement}
+use Rattle.heap.proofs.sizes_fit.Tie as tie
 
 returns : tie.Need-returns
 returns c = sizes-no _ _ _ (λ z. omega (arith, z))

@@ -7,12 +7,12 @@ use native.Mathlib.Omega.{arith}
 use lib.ListN.{length}
 use lib.Dec.{eqb}
 use Rattle.word.specs.Choice.{if_then_else_}
 use Rattle.heap.specs.State.{State, bit, times}
 use Rattle.heap.specs.Calls.{filter, member, recycle}
 use Rattle.heap.proofs.Sound.{Sound}
 use Rattle.heap.proofs.Counting.{all-slots, times-append}
 
-filter-total : (p : ℕ → Bool) (xs : List ℕ) → length (filter p xs) + length (filter (λ i. not (p i)) xs) ≡ length xs
+pub filter-total : (p : ℕ → Bool) (xs : List ℕ) → length (filter p xs) + length (filter (λ i. not (p i)) xs) ≡ length xs
 filter-total p [] = omega arith
 filter-total p (x ∷ xs) = one (p x) (filter-total p xs)
   where
