@@ -21,7 +21,8 @@ use Rattle.heap.proofs.Testing.{formed-tested}
 use Rattle.heap.proofs.Telling.{tells-is}
 use Rattle.script.specs.Script.{andThen, runScript}
 use Rattle.script.proofs.Scripts.{run-nothing}
-use Rattle.run_door.specs.inner.Steps.{endOf, CanRun, Stepping}
+use Rattle.run_door.specs.inner.Steps.{endOf, CanRun}
+use Rattle.run_door.proofs.Moving.{Stepping}
 use Rattle.run_door.proofs.Answering.{is-done, tells-why}
 
 -- lists of the same lengths

@@ -1,6 +1,7 @@
 -- The ways out of an `alloc` line. Assumes nothing.
 use mathlib.Core.Path.{_≡_, refl, sym, ap, _∙_}
 use mathlib.Core.List.{List}
+use mathlib.Core.Option.{some}
 use Prim.Native.Nat.{ℕ, _≤_, _<_}
 use native.Mathlib.Omega.{arith}
 use lib.ListN.{length, take}
@@ -22,7 +23,7 @@ use Rattle.script.specs.Script.{doing}
 use Rattle.script.specs.Found.{DataThere, callAt}
 use Rattle.script.specs.declared.AllocLine.{AllocLine}
 use Rattle.script.proofs.Refusing.{alloc-numbered}
-use Rattle.run_door.specs.inner.Steps.{Ends, CanRun}
+use Rattle.run_door.specs.inner.Steps.{CanRun, LineEnds}
 use Rattle.run_door.proofs.Answering.{ends-as}
 
 -- the part of the room that has the data
@@ -37,7 +38,7 @@ decoded room room′ s r from count p e =
 
 module _ (l : Lent) (room s : List ℕ) (a : AllocLine) (can : CanRun l room) where
   ended : (l′ : Lent) (r : Reply) → Tells here nothing l l′ r (allocating (slotCount l) (poolSize l) (a .kind) (a .ty) 0 (hexAt s (a .from)) (view l))
-      → Ends l l′ r (doing (slotCount l) (poolSize l) (callAt s a) (view l))
+      → LineEnds l l′ r (some (callAt s a))
   unfolding doing
   ended l′ r d =
       record {
@@ -47,14 +48,14 @@ module _ (l : Lent) (room s : List ℕ) (a : AllocLine) (can : CanRun l room) wh
             (d .says);
       }
 
-  pub placed-low : a .kind < 1 → Ends l l (Not Kind) (doing (slotCount l) (poolSize l) (callAt s a) (view l))
+  pub placed-low : a .kind < 1 → LineEnds l l (Not Kind) (some (callAt s a))
   placed-low h = ended l (Not Kind) (no-kind l (a .kind) (a .ty) 0 (hexAt s (a .from)) (sym (kind-low (a .kind) h)) (can .formed))
 
-  pub placed-high : 1 ≤ a .kind → 3 < a .kind → Ends l l (Not Kind) (doing (slotCount l) (poolSize l) (callAt s a) (view l))
+  pub placed-high : 1 ≤ a .kind → 3 < a .kind → LineEnds l l (Not Kind) (some (callAt s a))
   placed-high g h = ended l (Not Kind) (no-kind l (a .kind) (a .ty) 0 (hexAt s (a .from)) (sym (kind-high (a .kind) g h)) (can .formed))
 
   module _ (low : 1 ≤ a .kind) (high : a .kind ≤ 3) (there : DataThere s a) where
-    pub placed-none : poolSize l < a .count → Ends l l (Not NoRoom) (doing (slotCount l) (poolSize l) (callAt s a) (view l))
+    pub placed-none : poolSize l < a .count → LineEnds l l (Not NoRoom) (some (callAt s a))
     placed-none h =
         let e : allocFrom (slotCount l) (poolSize l) (view l) (a .kind) (a .ty) 0 (hexAt s (a .from)) ≡ refuse 6 (view l) =
         alloc-none (slotCount l) (poolSize l) (view l) (a .kind) (a .ty) 0 (hexAt s (a .from)) (omega (arith, there .counted)) in
@@ -63,6 +64,6 @@ module _ (l : Lent) (room s : List ℕ) (a : AllocLine) (can : CanRun l room) wh
 
     pub placed-done : (l′ : Lent) (reply : Reply) (bytes : List ℕ) → bytes ≡ hexAt s (a .from)
         → Tells here nothing l l′ reply (allocFrom (slotCount l) (poolSize l) (view l) (a .kind) (a .ty) 0 bytes)
-        → Ends l l′ reply (doing (slotCount l) (poolSize l) (callAt s a) (view l))
+        → LineEnds l l′ reply (some (callAt s a))
     placed-done l′ reply bytes e d =
         ended l′ reply (of-kind l (a .kind) (a .ty) 0 (hexAt s (a .from)) l′ reply (sym (kind-good (a .kind) low high)) (rw (← e) d))

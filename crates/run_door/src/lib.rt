@@ -10,19 +10,21 @@ use refusal::Reply;
 use script::AllocLine;
 use script::Line;
 use script::begins_call;
+use script::next_after;
 use script::read_line;
 ghost use mathlib.Core.List.{[], _∷_};
+ghost use mathlib.Core.Option.{some};
 ghost use mathlib.Core.Path.{_≡_};
-ghost use Prim.Native.Nat.{_/_, _<_};
+ghost use Prim.Native.Nat.{_/_};
 ghost use lib.ListN.{length};
 ghost use Rattle.heap.specs.Lent.{lent, view};
 ghost use Rattle.heap.specs.Done.{Tells};
 ghost use Rattle.refusal.specs.Told.{nothing};
 ghost use Rattle.door.specs.HeapCalls.{Entered, outcomeOf};
-ghost use Rattle.script.specs.Script.{doing, runScript};
-ghost use Rattle.script.specs.Found.{DataThere, callAt};
+ghost use Rattle.script.specs.Script.{runScript};
+ghost use Rattle.script.specs.Found.{DataThere, callAt, DataIn, callIn};
 ghost use Rattle.run_door.specs.Run.{runTests, runCall};
-ghost use Rattle.run_door.specs.inner.Steps.{Ends, CanRun, Stepping};
+ghost use Rattle.run_door.specs.inner.Steps.{LineEnds, CanRun};
 
 // The call of an `alloc` line: 8, then 6, then 5. Data longer than the pool is not decoded, so that the room is enough.
 fn do_alloc(
@@ -36,11 +38,9 @@ fn do_alloc(
 ) -> Changed
     requires { ⌜ CanRun (lent heap (now narrow) (now wide) (now pool)) (now room) ⌝ }
     requires { ⌜ DataThere (now s) a ⌝ }
-    ensures { λ r. ⌜ Ends
+    ensures { λ r. ⌜ LineEnds
         (lent heap (now (narrow .entry)) (now (wide .entry)) (now (pool .entry)))
-        (lent (r .heap) (now (narrow .exit)) (now (wide .exit)) (now (pool .exit))) (r .reply)
-        (doing (length (now (narrow .entry)) / 6) (length (now (pool .entry))) (callAt (now (s .entry)) a)
-        (view (lent heap (now (narrow .entry)) (now (wide .entry)) (now (pool .entry))))) ⌝ }
+        (lent (r .heap) (now (narrow .exit)) (now (wide .exit)) (now (pool .exit))) (r .reply) (some (callAt (now (s .entry)) a)) ⌝ }
 {
     let k = a.kind;
     let count = a.count;
@@ -63,82 +63,46 @@ fn do_alloc(
         };
     }
     text::copy_hex(s, a.from, count, room, 0);
-    heap_calls::alloc_from(
-        heap,
-        narrow,
-        wide,
-        pool,
-        k as u8,
-        a.ty as u32,
-        0,
-        &room[..count],
-    )
+    let ty = a.ty as u32;
+    heap_calls::alloc_from(heap, narrow, wide, pool, k as u8, ty, 0, &room[..count])
 }
 
-// The header after a line, what the line's call replied, and where the next line begins.
-pub struct Stepped {
-    pub heap: Heap,
-    pub reply: Reply,
-    pub next: usize,
-}
-
-// Runs the line that begins at `at`.
-fn step(
+// The call of a line that was read. A bad line is 17.
+fn do_line(
     heap: Heap,
     narrow: &mut [u32],
     wide: &mut [u64],
     pool: &mut [u8],
     s: &[u8],
-    at: usize,
+    line: Line,
     room: &mut [u8],
-) -> Stepped
+) -> Changed
     requires { ⌜ CanRun (lent heap (now narrow) (now wide) (now pool)) (now room) ⌝ }
-    requires { ⌜ at < length (now s) ⌝ }
-    ensures { λ r. ⌜ Stepping
+    requires { ⌜ DataIn (now s) line ⌝ }
+    ensures { λ r. ⌜ LineEnds
         (lent heap (now (narrow .entry)) (now (wide .entry)) (now (pool .entry)))
-        (lent (r .heap) (now (narrow .exit)) (now (wide .exit)) (now (pool .exit))) (now (s .entry)) at (r .reply) (r .next) ⌝ }
+        (lent (r .heap) (now (narrow .exit)) (now (wide .exit)) (now (pool .exit))) (r .reply) (callIn (now (s .entry)) line) ⌝ }
 {
-    match read_line(s, at) {
-        Line::Bad => Stepped {
+    match line {
+        Line::Bad => Changed {
             heap: heap,
             reply: Reply::Not(Refusal::Page),
-            next: s.len(),
         },
-        Line::Alloc(a) => {
-            let done = do_alloc(heap, narrow, wide, pool, s, a, room);
-            let after = done.heap;
-            let reply = done.reply;
-            Stepped {
-                heap: after,
-                reply: reply,
-                next: a.next,
-            }
-        }
-        Line::Take(x, next) => {
-            let done = heap_calls::free(heap, narrow, wide, pool, x);
-            let after = done.heap;
-            let reply = done.reply;
-            Stepped {
-                heap: after,
-                reply: reply,
-                next: next,
-            }
-        }
-        Line::Seal(next) => {
+        Line::Alloc(a) => do_alloc(heap, narrow, wide, pool, s, a, room),
+        Line::Take(x, _) => heap_calls::free(heap, narrow, wide, pool, x),
+        Line::Seal(_) => {
             let after = heap_edit::seal(heap, narrow, wide, pool);
-            Stepped {
+            Changed {
                 heap: after,
                 reply: Reply::Is(0, 0),
-                next: next,
             }
         }
-        Line::Recycle(next) => {
+        Line::Recycle(_) => {
             let pins = [0u32; 0];
             let after = heap_calls::recycle::recycle(heap, narrow, wide, pool, &pins);
-            Stepped {
+            Changed {
                 heap: after,
                 reply: Reply::Is(0, 0),
-                next: next,
             }
         }
     }
@@ -163,9 +127,10 @@ fn run_lines(
     let mut h = heap;
     let mut at = 0;
     while at < s.len() {
-        let done = step(h, narrow, wide, pool, s, at, room);
+        let line = read_line(s, at);
+        let done = do_line(h, narrow, wide, pool, s, line, room);
         h = done.heap;
-        at = done.next;
+        at = next_after(line, s.len());
         let reply = done.reply;
         let Reply::Is(_, _) = reply else {
             return Changed {

@@ -17,16 +17,16 @@ returns-2 : tie.Need-returns-2
 returns-2 c = placed-high (L (c .before .before .before .before .before .before .before)) _ _ (c .before .before .before .before .before .before .before .args .a) (c .before .before .before .before .before .before .before .pre .0) (c .before .if1 .left) (c .if2 .taken)
 
 returns-3 : tie.Need-returns-3
-returns-3 c = placed-none (L (c .before .before .before .before .before .before .before .before)) _ _ _ (c .before .before .before .before .before .before .before .before .pre .0) (c .before .before .if1 .left) (c .before .if2 .left) (c .before .before .before .before .before .before .before .before .pre .1) (c .if3 .taken)
+returns-3 c = placed-none (L (c .before .before .before .before .before .before .before .before)) _ _ (c .before .before .before .before .before .before .before .before .args .a) (c .before .before .before .before .before .before .before .before .pre .0) (c .before .before .if1 .left) (c .before .if2 .left) (c .before .before .before .before .before .before .before .before .pre .1) (c .if3 .taken)
 
 copy-hex-requires : tie.Need-copy-hex-requires
 copy-hex-requires c κs = search needs
 
+cast-ty : tie.Need-cast-ty
+cast-ty c = search needs
+
 cast-alloc-from : tie.Need-cast-alloc-from
 cast-alloc-from c = search needs
-
-cast-alloc-from-2 : tie.Need-cast-alloc-from-2
-cast-alloc-from-2 c = search needs
 
 slice-reshare-prefix-alloc-from : tie.Need-slice-reshare-prefix-alloc-from
 slice-reshare-prefix-alloc-from c = search needs
@@ -50,7 +50,7 @@ same-length-4 : tie.Need-same-length-4
 same-length-4 c = c .before .before .before .before .before .before .before .before .before .before .before .before .before .before .copy-hex .kept .1 .1 .1 .0
 
 returns-4 : tie.Need-returns-4
-returns-4 c = placed-done (L (c .before .before .before .before .before .before .before .before .before .before .before .before .before .before .before .before .before .before .before .before .before .before .before .before)) _ _ _ (c .before .before .before .before .before .before .before .before .before .before .before .before .before .before .before .before .before .before .before .before .before .before .before .before .pre .0) (c .before .before .before .before .before .before .before .before .before .before .before .before .before .before .before .before .before .before .if1 .left) (c .before .before .before .before .before .before .before .before .before .before .before .before .before .before .before .before .before .if2 .left) (c .before .before .before .before .before .before .before .before .before .before .before .before .before .before .before .before .before .before .before .before .before .before .before .before .pre .1) _ _ _ (decoded _ _ _ _ _ _ (c .before .before .before .before .before .before .before .before .before .before .before .before .before .before .copy-hex .ensures) (c .before .before .before .before .before .before .before .before .before .before .before .before .before .before .before .before .before .before .before .before .before .before .before .before .pre .1 .counted)) (c .before .before .before .before .before .before .alloc-from .ensures)
+returns-4 c = placed-done (L (c .before .before .before .before .before .before .before .before .before .before .before .before .before .before .before .before .before .before .before .before .before .before .before .before)) _ _ (c .before .before .before .before .before .before .before .before .before .before .before .before .before .before .before .before .before .before .before .before .before .before .before .before .args .a) (c .before .before .before .before .before .before .before .before .before .before .before .before .before .before .before .before .before .before .before .before .before .before .before .before .pre .0) (c .before .before .before .before .before .before .before .before .before .before .before .before .before .before .before .before .before .before .if1 .left) (c .before .before .before .before .before .before .before .before .before .before .before .before .before .before .before .before .before .if2 .left) (c .before .before .before .before .before .before .before .before .before .before .before .before .before .before .before .before .before .before .before .before .before .before .before .before .pre .1) _ _ _ (decoded _ _ _ _ _ _ (c .before .before .before .before .before .before .before .before .before .before .before .before .before .before .copy-hex .ensures) (c .before .before .before .before .before .before .before .before .before .before .before .before .before .before .before .before .before .before .before .before .before .before .before .before .pre .1 .counted)) (c .before .before .before .before .before .before .alloc-from .ensures)
 
 pub do-alloc-spec : {M : Type 1} → statement M
 do-alloc-spec =
@@ -60,8 +60,8 @@ do-alloc-spec =
     returns-2
     returns-3
     copy-hex-requires
+    cast-ty
     cast-alloc-from
-    cast-alloc-from-2
     slice-reshare-prefix-alloc-from
     slice-aggregate-alloc-from
     alloc-from-requires
