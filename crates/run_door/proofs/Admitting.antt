@@ -15,7 +15,7 @@ use Rattle.refusal.specs.declared.Reply.{Reply}
 use Rattle.heap.specs.Lent.{Lent, view, slotCount, poolSize}
 use Rattle.heap.specs.WellFormed.{wellFormed}
 use Rattle.heap.specs.Done.{Tells}
-use Rattle.door.specs.HeapCalls.{Test, test, admitted, enough, heapTests, zeros, scratchAfter, Entered, outcomeOf}
+use Rattle.door.specs.HeapCalls.{test, admitted, enough, heapTests, zeros, scratchAfter, Entered, outcomeOf}
 use Rattle.door.specs.declared.Entry.{Entry}
 use Rattle.door.specs.declared.Entry.the-variants.{Ready, Not}
 use Rattle.door.proofs.Entering.{fails, passes, few-marks, few-words, is-enough, holding, cleared-in, call-cleared}

@@ -15,7 +15,7 @@ use Rattle.refusal.proofs.Reply.{the-type as reply-type}
 use Rattle.heap.specs.State.{State}
 use Rattle.heap.specs.Lent.{Lent, view, stored, slotCount, poolSize}
 use Rattle.heap.specs.WellFormed.{wellFormed}
-use Rattle.heap.specs.Calls.{Changed, done}
+use Rattle.heap.specs.Calls.{Changed}
 use Rattle.heap.specs.Done.{Does, Tells}
 use Rattle.heap.proofs.Testing.{formed-tested}
 use Rattle.heap.proofs.Telling.{tells-is}

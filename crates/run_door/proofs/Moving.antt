@@ -2,7 +2,7 @@
 use mathlib.Core.Path.{_≡_, refl, sym, ap, _∙_, subst}
 use mathlib.Core.Bool.{true}
 use mathlib.Core.List.{List, []}
-use mathlib.Core.Option.{Option, none, some}
+use mathlib.Core.Option.{Option, some}
 use Prim.Native.Nat.{ℕ, _+_, _≤_, _<_}
 use native.Mathlib.Omega.{arith}
 use lib.ListN.{length, getD, drop, length-drop}
@@ -12,7 +12,7 @@ use Rattle.refusal.specs.Told.{nothing}
 use Rattle.refusal.specs.declared.Refusal.the-variants.{Page}
 use Rattle.refusal.specs.declared.Reply.{Reply}
 use Rattle.refusal.specs.declared.Reply.the-variants.{Is, Not}
-use Rattle.heap.specs.Lent.{Lent, view, stored, slotCount, poolSize}
+use Rattle.heap.specs.Lent.{Lent, view, slotCount, poolSize}
 use Rattle.heap.specs.Calls.{Changed, refuse, free, recycle, seal as sealed}
 use Rattle.heap.specs.WellFormed.{wellFormed}
 use Rattle.heap.specs.Done.{Leaves, Tells}
@@ -20,7 +20,7 @@ use Rattle.heap.proofs.Storing.{view-stored}
 use Rattle.heap.proofs.Testing.{formed-tested}
 use Rattle.heap_calls.specs.Pins.{risingFrom, rising}
 use Rattle.object_door.specs.ObjectCalls.{recycling}
-use Rattle.script.specs.Script.{Call, take, seal, recycle as recycles, readCall, doing, lineDoes, andThen, runScript}
+use Rattle.script.specs.Script.{Call, take, seal, recycle as recycles, readCall, doing, andThen, runScript}
 use Rattle.script.specs.Found.{callAt, DataThere, LineRead, callIn, nextAfter, DataIn}
 use Rattle.script.specs.declared.AllocLine.{AllocLine}
 use Rattle.script.specs.declared.Line.{Line}

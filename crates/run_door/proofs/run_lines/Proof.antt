@@ -5,7 +5,7 @@ use native.Mathlib.Omega.{arith}
 use lib.ListN.{length}
 use borrow.Author.Needs.{needs}
 use Rattle.heap.specs.Lent.{lent}
-use Rattle.run_door.proofs.Moving.{line-data, stepped, Stepping}
+use Rattle.run_door.proofs.Moving.{line-data, stepped}
 use Rattle.run_door.proofs.Looping.{Sizes, same, on, Running, run-first, run-can, run-turn, run-stop, run-end}
 use Rattle.run_door.proofs.run_lines.Statement.{statement}
 use Rattle.run_door.proofs.run_lines.Tie as tie
