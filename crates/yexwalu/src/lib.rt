@@ -1,6 +1,5 @@
-// The front door: every public call. None has a `requires`; each takes all inputs and refuses in the order of document 01.
-pub mod types; // layouts, descriptor sizes, "has handles"
-pub mod handles; // the handles of objects, values and frames
-pub mod live; // the registers that are roots at a safepoint
-pub mod page; // a heap as text, both ways
-pub mod heaps; // the calls on a heap
+pub mod handles;
+pub mod heaps;
+pub mod live;
+pub mod page;
+pub mod types;

@@ -1,4 +1,0 @@
-pub mod Placing
-pub mod Moving
-pub mod Looping
-pub mod Entering

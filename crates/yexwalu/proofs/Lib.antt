@@ -1,4 +1,0 @@
--- What the proofs of several calls use.
-mod TypeCalls
-mod HandleCalls
-pub mod Paging
