@@ -1,0 +1,5 @@
+-- What the proofs of several calls use.
+mod TableCalls
+mod TypeCalls
+mod HandleCalls
+mod LiveCalls
