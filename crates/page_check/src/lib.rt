@@ -11,14 +11,14 @@ ghost use Rattle.text.specs.Text.{give};
 ghost use Rattle.pages.specs.Page.{slotFormat, headFormat, readPage};
 ghost use Rattle.text.specs.Format.{readAll, number};
 ghost use mathlib.Core.Bool.{_&&_};
-ghost use Rattle.page_check.specs.Partition.{valuesAt, ValuesParsed, more, Hit, Marks, expected, agree, eachOnce};
-ghost use Rattle.page_check.specs.Filling.{slotsAt, SlotsParsed};
+ghost use Rattle.page_check.specs.Partition.{valuesAt, ValuesParsed, marked, Marked, expected, agree, eachOnce};
+ghost use Rattle.page_check.specs.Filling.{slotsAt, SlotsParsed, RunChecked};
 ghost use Rattle.page_check.specs.Answer.{slotAnswer, slotsAnswer, soundNumbers, indicesMore, sealsMore, sealTest, headAnswer};
 ghost use lib.Dec.{eqb, leb};
 ghost use Prim.Native.Nat.{_%_};
 ghost use Rattle.handle.specs.Handle.{tagOf, indexOf, generationOf};
 ghost use Rattle.heap.specs.WellFormed.{soundReclaim};
-ghost use Rattle.page_check.specs.Sections.{Parsing, verdict, Checking};
+ghost use Rattle.page_check.specs.Sections.{heapIn, Sectioned, Parsing, verdict, Checking};
 ghost use mathlib.Core.Bool.{true};
 
 // What a slot's line says: its numbers, how many bytes of data, and where the next line begins.
@@ -131,43 +131,50 @@ pub fn check_slots(s: &[u8], at: usize, count: usize) -> Slots
     Slots::Lines(ok, size, k)
 }
 
-fn one_more(x: u8) -> u8
-    ensures { λ r. ⌜ r ≡ more x ⌝ }
-{
-    if x < 1 { 1 } else { 2 }
-}
-
-// Counts a value in the byte of its slot, if that is among those from `base` on.
-fn mark_one(scratch: &mut [u8], base: usize, v: usize)
-    ensures { λ _. ⌜ Hit (now (scratch .entry)) (now (scratch .exit)) base v ⌝ }
+// Sets the bit of a slot, if it is among the `m` from `base` on. False: it is set already.
+fn mark_one(row: &mut [u64], base: usize, m: usize, v: usize) -> bool
+    requires { ⌜ m ≤ 64 * length (now row) ⌝ }
+    ensures { λ r. ⌜ Marked (now (row .entry)) (now (row .exit)) base m (v ∷ []) r ⌝ }
 {
     if v < base {
-        return;
+        return true;
     }
     let j = v - base;
-    if scratch.len() <= j {
-        return;
+    if m <= j {
+        return true;
     }
-    let x = scratch[j];
-    scratch[j] = one_more(x);
+    if rows::test_bit(row, j) {
+        return false;
+    }
+    rows::set_bit(row, j);
+    true
 }
 
-// Counts the values of a list, from `at` on, in the bytes of their slots.
-fn mark(s: &[u8], at: usize, count: usize, base: usize, scratch: &mut [u8])
+// Sets the bits of the values of a list, from `at` on, that are among the `m` slots from `base` on. False: one of them was set already.
+fn mark(s: &[u8], at: usize, count: usize, base: usize, m: usize, row: &mut [u64]) -> bool
     requires { ⌜ ValuesParsed 32 (now s) at count ⌝ }
-    requires { ⌜ at ≤ length (now s) ⌝ }
-    ensures { λ _. ⌜ Marks (now (scratch .entry)) (now (scratch .exit)) base (valuesAt 32 (now (s .entry)) at count) ⌝ }
+    requires { ⌜ (at ≤ length (now s)) × (m ≤ 64 * length (now row)) ⌝ }
+    ensures { λ r. ⌜ Marked (now (row .entry)) (now (row .exit)) base m (valuesAt 32 (now (s .entry)) at count) r ⌝ }
 {
     let mut k = at;
     let mut i = 0;
     while i < count {
         let Decimal::Number(v, next) = text::get_field(s, k, 4294967295, 10) else {
-            return;
+            return false;
         };
-        mark_one(scratch, base, v as usize);
+        if mark_one(row, base, m, v as usize) {} else {
+            return false;
+        }
         k = next;
         i += 1;
     }
+    true
+}
+
+fn bit_of(row: &[u64], i: usize) -> u8
+    ensures { λ r. ⌜ r ≡ marked (now (row .entry)) i ⌝ }
+{
+    if rows::test_bit(row, i) { 1 } else { 0 }
 }
 
 fn expected_of(kind: u64) -> u8
@@ -176,16 +183,16 @@ fn expected_of(kind: u64) -> u8
     if 0 < kind { 0 } else { 1 }
 }
 
-// Whether counts are what the lines of `count` slots ask for, and what comes after the lines.
+// Whether bits are what the lines of `count` slots ask for, and what comes after the lines.
 pub struct Chunk {
     pub ok: bool,
     pub next: usize,
 }
 
-fn check_chunk(s: &[u8], at: usize, count: usize, counts: &[u8]) -> Chunk
+fn check_chunk(s: &[u8], at: usize, count: usize, row: &[u64]) -> Chunk
     requires { ⌜ SlotsParsed (now s) at count ⌝ }
-    requires { ⌜ (at ≤ length (now s)) × (count ≤ length (now counts)) ⌝ }
-    ensures { λ r. ⌜ r .ok ≡ agree (slotsAt (now (s .entry)) at count) (now (counts .entry)) 0 ⌝ }
+    requires { ⌜ at ≤ length (now s) ⌝ }
+    ensures { λ r. ⌜ r .ok ≡ agree (slotsAt (now (s .entry)) at count) (now (row .entry)) 0 ⌝ }
     ensures { λ r. ⌜ readAll (slotFormat .read) count (drop at (now (s .entry))) ≡ give (slotsAt (now (s .entry)) at count) (drop (r .next) (now (s .entry))) ⌝ }
     ensures { λ r. ⌜ r .next ≤ length (now (s .entry)) ⌝ }
 {
@@ -196,7 +203,7 @@ fn check_chunk(s: &[u8], at: usize, count: usize, counts: &[u8]) -> Chunk
         let SlotLine::Line(x) = get_slot(s, k) else {
             return Chunk { ok: false, next: k };
         };
-        let c = counts[i];
+        let c = bit_of(row, i);
         let e = expected_of(x.kind);
         ok = both(ok, c == e);
         k = x.next;
@@ -205,46 +212,56 @@ fn check_chunk(s: &[u8], at: usize, count: usize, counts: &[u8]) -> Chunk
     Chunk { ok: ok, next: k }
 }
 
-fn least(a: usize, b: usize) -> usize
-    ensures { λ r. ⌜ (r ≤ a) × (r ≤ b) ⌝ }
-    ensures { λ r. ⌜ (1 ≤ a → 1 ≤ b → 1 ≤ r) ⌝ }
+// Is each of the `m` slots from `base` on, whose lines stand from `at` on, in exactly one place?
+fn check_run(s: &[u8], x: Sections, at: usize, m: usize, base: usize, row: &mut [u64]) -> Chunk
+    requires { ⌜ Sectioned (now s) x ⌝ }
+    requires { ⌜ SlotsParsed (now s) at m ⌝ }
+    requires { ⌜ (at ≤ length (now s)) × (m ≤ 64 * length (now row)) ⌝ }
+    ensures { λ r. ⌜ RunChecked (now (s .entry)) (heapIn (now (s .entry)) .free ++ heapIn (now (s .entry)) .quarantine) at m base (r .ok) (r .next) ⌝ }
 {
-    if a < b { a } else { b }
+    memory::clear_u64(row);
+    if mark(s, x.free_at, x.free, base, m, row) {} else {
+        return Chunk {
+            ok: false,
+            next: at,
+        };
+    }
+    if mark(s, x.quarantine_at, x.quarantine, base, m, row) {} else {
+        return Chunk {
+            ok: false,
+            next: at,
+        };
+    }
+    check_chunk(s, at, m, row)
 }
 
-// Is each slot in exactly one place: live, or once in one of the two lists? As many slots at a time as there are scratch bytes.
-fn partition(
-    s: &[u8],
-    slots_at: usize,
-    n: usize,
-    free_at: usize,
-    free: usize,
-    quarantine_at: usize,
-    quarantine: usize,
-    scratch: &mut [u8],
-) -> bool
-    requires { ⌜ SlotsParsed (now s) «slots_at» n ⌝ }
-    requires { ⌜ ValuesParsed 32 (now s) «free_at» free ⌝ }
-    requires { ⌜ ValuesParsed 32 (now s) «quarantine_at» quarantine ⌝ }
-    requires { ⌜ («slots_at» ≤ length (now s)) × («free_at» ≤ length (now s)) × («quarantine_at» ≤ length (now s)) × (1 ≤ length (now scratch)) ⌝ }
-    ensures { λ r. ⌜ r ≡ eachOnce (valuesAt 32 (now (s .entry)) «free_at» free ++ valuesAt 32 (now (s .entry)) «quarantine_at» quarantine) (slotsAt (now (s .entry)) «slots_at» n) 0 ⌝ }
-    ensures { λ _. ⌜ now (scratch .exit) ≡ replicate (length (now (scratch .entry))) 0 ⌝ }
+// How many of the slots that are left go into one run: one a bit.
+fn run_of(words: usize, left: usize) -> usize
+    ensures { λ r. ⌜ (r ≤ left) × (r ≤ 64 * words) ⌝ }
+    ensures { λ r. ⌜ (1 ≤ words → 1 ≤ left → 1 ≤ r) ⌝ }
 {
-    memory::clear_u8(scratch);
-    let mut ok = true;
-    let mut k = slots_at;
+    if left / 64 < words { left } else { 64 * words }
+}
+
+// Is each slot of a page in exactly one place: live, or once in one of the two lists? The lines of the slots are read once, the lists once a run:
+// one run where the lent words have a bit for each slot.
+fn partition(s: &[u8], x: Sections, row: &mut [u64]) -> bool
+    requires { ⌜ Sectioned (now s) x ⌝ }
+    requires { ⌜ 1 ≤ length (now row) ⌝ }
+    ensures { λ r. ⌜ r ≡ eachOnce (heapIn (now (s .entry)) .free ++ heapIn (now (s .entry)) .quarantine) (heapIn (now (s .entry)) .slots) 0 ⌝ }
+{
+    let mut k = x.slots_at;
     let mut base = 0;
-    while base < n {
-        let m = least(scratch.len(), n - base);
-        mark(s, free_at, free, base, scratch);
-        mark(s, quarantine_at, quarantine, base, scratch);
-        let c = check_chunk(s, k, m, scratch);
-        ok = both(ok, c.ok);
+    while base < x.slots {
+        let m = run_of(row.len(), x.slots - base);
+        let c = check_run(s, x, k, m, base, row);
+        if c.ok {} else {
+            return false;
+        }
         k = c.next;
-        memory::clear_u8(scratch);
         base += m;
     }
-    ok
+    true
 }
 
 // Whether the values of a list are as they are to be, and what comes after them.
@@ -497,29 +514,21 @@ pub enum Checked {
 }
 
 // The first pass: is a text the page of a sound heap that fits into `lent` slots and `room` bytes? `sizes` says whether the lent sizes are in range.
-pub fn check_page(s: &[u8], sizes: bool, lent: usize, room: usize, marks: &mut [u8]) -> Checked
-    requires { ⌜ (sizes ≡ true → 1 ≤ length (now marks)) ⌝ }
+pub fn check_page(s: &[u8], sizes: bool, lent: usize, room: usize, work: &mut [u64]) -> Checked
+    requires { ⌜ (sizes ≡ true → 1 ≤ length (now work)) ⌝ }
     ensures { λ r. ⌜ Checking (now (s .entry)) (verdict sizes lent room (readPage (now (s .entry)))) r ⌝ }
-    ensures { λ _. ⌜ now (marks .exit) ≡ replicate (length (now (marks .entry))) 0 ⌝ }
+    ensures { λ _. ⌜ now (work .exit) ≡ replicate (length (now (work .entry))) 0 ⌝ }
 {
-    memory::clear_u8(marks);
+    memory::clear_u64(work);
     let Parsed::Page(x) = parse_page(s) else {
         return Checked::Not(Refusal::Page);
     };
-    if sizes {} else {
+    if both(sizes, x.sound) {} else {
         return Checked::Not(Refusal::BrokenHeap);
     }
-    let once = partition(
-        s,
-        x.slots_at,
-        x.slots,
-        x.free_at,
-        x.free,
-        x.quarantine_at,
-        x.quarantine,
-        marks,
-    );
-    if both(x.sound, once) {} else {
+    let once = partition(s, x, work);
+    memory::clear_u64(work);
+    if once {} else {
         return Checked::Not(Refusal::BrokenHeap);
     }
     if room < x.size {
