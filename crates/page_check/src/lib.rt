@@ -8,17 +8,19 @@ ghost use mathlib.Core.List.{List, [], _∷_, _++_};
 ghost use Prim.Native.Nat.{ℕ, _+_, _-_, _*_, _≤_, _<_};
 ghost use lib.ListN.{length, take, drop, replicate};
 ghost use Rattle.text.specs.Text.{give};
-ghost use Rattle.pages.specs.Page.{slotFormat, headFormat, readPage};
+ghost use Rattle.pages.specs.Page.{slotFormat, headFormat, readPage, sealedName};
 ghost use Rattle.text.specs.Format.{readAll, number};
 ghost use mathlib.Core.Bool.{_&&_};
 ghost use Rattle.page_check.specs.Partition.{valuesAt, ValuesParsed, marked, Marked, expected, agree, eachOnce};
 ghost use Rattle.page_check.specs.Filling.{slotsAt, SlotsParsed, RunChecked};
 ghost use Rattle.page_check.specs.Answer.{slotAnswer, slotsAnswer, soundNumbers, indicesMore, sealsMore, sealTest, headAnswer};
-ghost use lib.Dec.{eqb, leb};
+ghost use lib.Dec.{eqb, leb, ltb};
 ghost use Prim.Native.Nat.{_%_};
 ghost use Rattle.handle.specs.Handle.{tagOf, indexOf, generationOf};
-ghost use Rattle.heap.specs.WellFormed.{soundReclaim};
+ghost use Rattle.heap.specs.WellFormed.{soundSeals, soundReclaim};
 ghost use Rattle.page_check.specs.Sections.{heapIn, Sectioned, Parsing, verdict, Checking};
+ghost use Rattle.page_check.specs.Parts.{sectionsOf, HeadSectioned, SlotSectioned, ListSectioned};
+ghost use Rattle.word.specs.Lists.{all};
 ghost use mathlib.Core.Bool.{true};
 
 // What a slot's line says: its numbers, how many bytes of data, and where the next line begins.
@@ -353,10 +355,10 @@ pub struct HeadRead {
     pub since_gc: u64,
     pub reclaim_at: u64,
     pub live_bytes: u64,
-    pub slots: u64,
-    pub free: u64,
-    pub quarantine: u64,
-    pub sealed: u64,
+    pub slots: usize,
+    pub free: usize,
+    pub quarantine: usize,
+    pub sealed: usize,
     pub next: usize,
 }
 
@@ -398,10 +400,10 @@ pub fn get_head(s: &[u8], at: usize) -> HeadLine
         since_gc: u,
         reclaim_at: r,
         live_bytes: l,
-        slots: n,
-        free: f,
-        quarantine: q,
-        sealed: z,
+        slots: n as usize,
+        free: f as usize,
+        quarantine: q as usize,
+        sealed: z as usize,
         next: i,
     })
 }
@@ -441,70 +443,128 @@ pub enum Parsed {
     NotPage,
 }
 
-// Is a text a page? Nothing but the text is looked at.
-pub fn parse_page(s: &[u8]) -> Parsed
-    ensures { λ r. ⌜ Parsing (now (s .entry)) r ⌝ }
+fn assembled(
+    x: HeadRead,
+    slots_at: usize,
+    free_at: usize,
+    quarantine_at: usize,
+    sealed_at: usize,
+    size: usize,
+    sound: bool,
+) -> Sections
+    ensures { λ r. ⌜ r ≡ sectionsOf x «slots_at» «free_at» «quarantine_at» «sealed_at» size sound ⌝ }
+{
+    Sections {
+        tag: x.tag,
+        since_gc: x.since_gc,
+        reclaim_at: x.reclaim_at,
+        live_bytes: x.live_bytes,
+        slots: x.slots,
+        free: x.free,
+        quarantine: x.quarantine,
+        sealed: x.sealed,
+        slots_at: slots_at,
+        free_at: free_at,
+        quarantine_at: quarantine_at,
+        sealed_at: sealed_at,
+        size: size,
+        sound: sound,
+    }
+}
+
+// Reads the first two lines.
+fn head_section(s: &[u8]) -> HeadLine
+    ensures { λ r. ⌜ HeadSectioned (now (s .entry)) r ⌝ }
 {
     let Literal::Past(a) = text::expect(
         s,
         0,
         b"tag,since_gc,reclaim_at,live_bytes,slots,free,quarantine,sealed\n",
     ) else {
+        return HeadLine::NoHead;
+    };
+    get_head(s, a)
+}
+
+// The lines of slots after their names line: where they begin, then as `Slots`.
+pub enum SlotSection {
+    Found(usize, bool, usize, usize),
+    Lost,
+}
+
+// Reads the names line of the slots, then `count` slots.
+fn slot_section(s: &[u8], at: usize, count: usize) -> SlotSection
+    requires { ⌜ at ≤ length (now s) ⌝ }
+    ensures { λ r. ⌜ SlotSectioned (now (s .entry)) at count r ⌝ }
+{
+    let Literal::Past(b) = text::expect(s, at, b"generation,kind,type,start,writes,data\n") else {
+        return SlotSection::Lost;
+    };
+    let Slots::Lines(ok, size, next) = check_slots(s, b, count) else {
+        return SlotSection::Lost;
+    };
+    SlotSection::Found(b, ok, size, next)
+}
+
+// The values of a list after its name: where they begin, then as `Values`.
+pub enum ListSection {
+    Listed(usize, bool, usize),
+    Unlisted,
+}
+
+// Reads a list's name, then `count` slot indices: are all below n?
+fn index_section(s: &[u8], name: &[u8], at: usize, count: usize, n: usize) -> ListSection
+    requires { ⌜ at ≤ length (now s) ⌝ }
+    ensures { λ r. ⌜ ListSectioned 32 (now (name .entry)) (now (s .entry)) at count (all (λ i. ltb i n)) r ⌝ }
+{
+    let Literal::Past(b) = text::expect(s, at, name) else {
+        return ListSection::Unlisted;
+    };
+    let Values::Good(ok, next) = check_indices(s, b, count, n) else {
+        return ListSection::Unlisted;
+    };
+    ListSection::Listed(b, ok, next)
+}
+
+// Reads the name of the seals, then `count` seals: are they sound, slots rising?
+fn seal_section(s: &[u8], at: usize, count: usize, tag: u64, n: usize) -> ListSection
+    requires { ⌜ at ≤ length (now s) ⌝ }
+    ensures { λ r. ⌜ ListSectioned 64 sealedName (now (s .entry)) at count (soundSeals tag n 0) r ⌝ }
+{
+    let Literal::Past(b) = text::expect(s, at, b"sealed\n") else {
+        return ListSection::Unlisted;
+    };
+    let Values::Good(ok, next) = check_seals(s, b, count, tag, n) else {
+        return ListSection::Unlisted;
+    };
+    ListSection::Listed(b, ok, next)
+}
+
+// Is a text a page? Nothing but the text is looked at.
+pub fn parse_page(s: &[u8]) -> Parsed
+    ensures { λ r. ⌜ Parsing (now (s .entry)) r ⌝ }
+{
+    let HeadLine::Head(x) = head_section(s) else {
         return Parsed::NotPage;
     };
-    let HeadLine::Head(x) = get_head(s, a) else {
+    let SlotSection::Found(b, ok1, size, c) = slot_section(s, x.next, x.slots) else {
         return Parsed::NotPage;
     };
-    let n = x.slots as usize;
-    let nf = x.free as usize;
-    let nq = x.quarantine as usize;
-    let nz = x.sealed as usize;
-    let after = x.next;
-    let Literal::Past(b) = text::expect(s, after, b"generation,kind,type,start,writes,data\n")
+    let ListSection::Listed(d, ok2, e) = index_section(s, b"free\n", c, x.free, x.slots) else {
+        return Parsed::NotPage;
+    };
+    let ListSection::Listed(g, ok3, i) = index_section(s, b"quarantine\n", e, x.quarantine, x.slots)
     else {
         return Parsed::NotPage;
     };
-    let Slots::Lines(ok1, size, c) = check_slots(s, b, n) else {
-        return Parsed::NotPage;
-    };
-    let Literal::Past(d) = text::expect(s, c, b"free\n") else {
-        return Parsed::NotPage;
-    };
-    let Values::Good(ok2, e) = check_indices(s, d, nf, n) else {
-        return Parsed::NotPage;
-    };
-    let Literal::Past(g) = text::expect(s, e, b"quarantine\n") else {
-        return Parsed::NotPage;
-    };
-    let Values::Good(ok3, i) = check_indices(s, g, nq, n) else {
-        return Parsed::NotPage;
-    };
-    let Literal::Past(j) = text::expect(s, i, b"sealed\n") else {
-        return Parsed::NotPage;
-    };
-    let Values::Good(ok4, k) = check_seals(s, j, nz, x.tag, n) else {
+    let ListSection::Listed(j, ok4, k) = seal_section(s, i, x.sealed, x.tag, x.slots) else {
         return Parsed::NotPage;
     };
     if k < s.len() {
         return Parsed::NotPage;
     }
     let sound = sound_parts(ok1, ok2, ok3, ok4, x.reclaim_at);
-    Parsed::Page(Sections {
-        tag: x.tag,
-        since_gc: x.since_gc,
-        reclaim_at: x.reclaim_at,
-        live_bytes: x.live_bytes,
-        slots: n,
-        free: nf,
-        quarantine: nq,
-        sealed: nz,
-        slots_at: b,
-        free_at: d,
-        quarantine_at: g,
-        sealed_at: j,
-        size: size,
-        sound: sound,
-    })
+    Parsed::Page(assembled(x, b, d, g, j, size, sound))
 }
 
 // What the first pass tells of a text: a page that can be read, or why it is refused.
