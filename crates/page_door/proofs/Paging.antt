@@ -47,8 +47,8 @@ module _ (l : Lent) (text marks work : List ℕ) {b : Bool} (v : b ≡ (leb (slo
   unfolding reading
   few-scratch f t = ap (λ (a : Answer). outcome a l marks work) t ∙ rw (← is-enough, f)
 
-  pub has-marks : b ≡ true → slotCount l ≤ length marks
-  has-marks f = leb-true (slotCount l) (length marks) (and-both (leb (slotCount l) (length marks)) (leb (slotCount l) (length work)) (sym v ∙ f) .0)
+  pub has-work : b ≡ true → slotCount l ≤ length work
+  has-work f = leb-true (slotCount l) (length work) (and-both (leb (slotCount l) (length marks)) (leb (slotCount l) (length work)) (sym v ∙ f) .1)
 
   pub page-read : {r : Answer} {reply : Reply} {l′ : Lent} {marks′ work′ : List ℕ} → b ≡ true → PageRead l l′ text reply → r ≡ told reply → marks′ ≡ zeros marks → work′ ≡ zeros work →
       outcome r l′ marks′ work′ ≡ reading marks work l text

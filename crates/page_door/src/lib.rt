@@ -69,8 +69,8 @@ pub extern "C" fn yexwalu_read_page(
             answer: Reply::Not(Refusal::Scratch).numbers(),
         };
     }
-    memory::clear_u64(work);
-    let done = page_reader::read(heap, narrow, wide, pool, text, marks);
+    memory::clear_u8(marks);
+    let done = page_reader::read(heap, narrow, wide, pool, text, work);
     let after = done.heap;
     let reply = done.reply;
     Done {

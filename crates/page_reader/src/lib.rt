@@ -155,22 +155,22 @@ fn load(s: &[u8], x: Sections, narrow: &mut [u32], wide: &mut [u64], pool: &mut 
     header(s, x)
 }
 
-// Reads a page into lent memory. `marks` has a byte for each slot.
+// Reads a page into lent memory. `work` has a word for each slot.
 pub fn read(
     heap: Heap,
     narrow: &mut [u32],
     wide: &mut [u64],
     pool: &mut [u8],
     s: &[u8],
-    marks: &mut [u8],
+    work: &mut [u64],
 ) -> Changed
-    requires { ⌜ length (now narrow) / 6 ≤ length (now marks) ⌝ }
+    requires { ⌜ length (now narrow) / 6 ≤ length (now work) ⌝ }
     ensures { λ r. ⌜ PageRead (lent heap (now (narrow .entry)) (now (wide .entry)) (now (pool .entry)))
         (lent (r .heap) (now (narrow .exit)) (now (wide .exit)) (now (pool .exit))) (now (s .entry)) (r .reply) ⌝ }
-    ensures { λ _. ⌜ now (marks .exit) ≡ replicate (length (now (marks .entry))) 0 ⌝ }
+    ensures { λ _. ⌜ now (work .exit) ≡ replicate (length (now (work .entry))) 0 ⌝ }
 {
     let sizes = heap::sizes_fit(narrow.len(), wide.len(), pool.len());
-    let found = page_check::check_page(s, sizes, narrow.len() / 6, pool.len(), marks);
+    let found = page_check::check_page(s, sizes, narrow.len() / 6, pool.len(), work);
     match found {
         Checked::Page(x) => {
             let loaded = load(s, x, narrow, wide, pool);
