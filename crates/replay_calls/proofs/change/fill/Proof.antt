@@ -17,11 +17,11 @@ nothing-requires c κs = tt
 loop-holds : tie.Need-loop-holds Inv-loop μ-loop
 loop-holds c = (refl, (refl, refl))
 
-slice-aggregate-yexwalu-alloc-from : tie.Need-slice-aggregate-yexwalu-alloc-from Inv-loop μ-loop
-slice-aggregate-yexwalu-alloc-from c = search needs
+slice-aggregate-alloc-from : tie.Need-slice-aggregate-alloc-from Inv-loop μ-loop
+slice-aggregate-alloc-from c = search needs
 
-yexwalu-alloc-from-requires : tie.Need-yexwalu-alloc-from-requires Inv-loop μ-loop
-yexwalu-alloc-from-requires c κs = tt
+alloc-from-requires : tie.Need-alloc-from-requires Inv-loop μ-loop
+alloc-from-requires c κs = tt
 
 sub-left : tie.Need-sub-left Inv-loop μ-loop
 sub-left c = omega arith
@@ -30,7 +30,7 @@ loop-less : tie.Need-loop-less Inv-loop μ-loop
 loop-less c = omega arith
 
 loop-again : tie.Need-loop-again Inv-loop μ-loop
-loop-again c = (c .before .before .before .before .before .before .before .before .yexwalu-alloc-from .kept .1 .0 ∙ c .before .before .before .before .before .before .before .before .before .before .before .before .before .before .before .before .loop .inv .0, (c .before .before .before .before .before .before .before .before .yexwalu-alloc-from .kept .1 .1 .0 ∙ c .before .before .before .before .before .before .before .before .before .before .before .before .before .before .before .before .loop .inv .1 .0, c .before .before .before .before .before .before .before .before .yexwalu-alloc-from .kept .1 .1 .1 .0 ∙ c .before .before .before .before .before .before .before .before .before .before .before .before .before .before .before .before .loop .inv .1 .1))
+loop-again c = (c .before .before .before .before .before .before .before .before .alloc-from .kept .1 .0 ∙ c .before .before .before .before .before .before .before .before .before .before .before .before .before .before .before .before .loop .inv .0, (c .before .before .before .before .before .before .before .before .alloc-from .kept .1 .1 .0 ∙ c .before .before .before .before .before .before .before .before .before .before .before .before .before .before .before .before .loop .inv .1 .0, c .before .before .before .before .before .before .before .before .alloc-from .kept .1 .1 .1 .0 ∙ c .before .before .before .before .before .before .before .before .before .before .before .before .before .before .before .before .loop .inv .1 .1))
 
 same-requires : tie.Need-same-requires Inv-loop μ-loop
 same-requires c κs = tt
@@ -55,8 +55,8 @@ fill-spec =
     μ-loop
     nothing-requires
     loop-holds
-    slice-aggregate-yexwalu-alloc-from
-    yexwalu-alloc-from-requires
+    slice-aggregate-alloc-from
+    alloc-from-requires
     sub-left
     loop-less
     loop-again
