@@ -8,3 +8,7 @@ pub mod Placing
 pub mod Seals
 pub mod Testing
 pub mod Keeping
+pub mod Runs
+pub mod Telling
+pub mod Sizes
+pub mod Recycled

@@ -3,7 +3,7 @@ use mathlib.Core.Path.{_≡_, refl, sym, ap, _∙_}
 use mathlib.Core.Bool.{Bool, true, false, _&&_, _||_}
 use mathlib.Core.List.{List, [], _∷_, _++_}
 use mathlib.Core.Logic.{_⊎_, ⊎-elim}
-use Prim.Native.Nat.{ℕ, zero, suc, _+_, _%_, _≤_, _<_}
+use Prim.Native.Nat.{ℕ, zero, suc, _+_, _%_, _^_, _≤_, _<_}
 use native.Mathlib.Omega.{arith}
 use native.Mathlib.Decide.{decLt, ℕ-discrete}
 use lib.ListN.{length, getD, List·getD-eq-default}
@@ -13,10 +13,9 @@ use Rattle.word.specs.Lists.{all, allBelow, sameList}
 use Rattle.word.proofs.Bools.{and-both, both-and, or-cases, or-left, or-right}
 use Rattle.word.proofs.ListLaws.{all-at, at-all, below-at, at-below, same-tested, same-test}
 use Rattle.heap.specs.Packing.{flat}
-use Rattle.heap.specs.Columns.{EqualSizes}
 use Rattle.heap.specs.State.{Slot, State, noSlot, slotAt, dataOf, live, bit, times}
-use Rattle.heap.specs.Lent.{Lent, lent, stored, view, slotCount, poolSize}
-use Rattle.heap.specs.WellFormed.{soundSlot, places, partitioned, soundSeals, soundReclaim, sound, fits, sizesFit, sameHeader, sameLent, wellFormed}
+use Rattle.heap.specs.Lent.{Lent, columns, stored, view, slotCount, poolSize}
+use Rattle.heap.specs.WellFormed.{soundSlot, places, partitioned, soundSeals, soundReclaim, sound, fits, sameHeader, sameLent, wellFormed}
 use Rattle.heap.specs.declared.Heap.{Heap}
 use Rattle.heap.proofs.Sound.{SlotSound, Sound, WellFormed, liveBit}
 use Rattle.heap.proofs.Counting.{times-append, times-member}
@@ -31,10 +30,12 @@ no-bytes (x ∷ xs) h = absurd (omega arith)
 pub slot-tested : (s : Slot) → soundSlot s ≡ true → SlotSound s
 unfolding soundSlot
 slot-tested s h =
-    let a = and-both (leb (s .kind) 3 && leb 1 (s .generation) && (eqb (s .kind) 1 || eqb (s .type) 0)) _ h in
-    let b = and-both (leb (s .kind) 3 && leb 1 (s .generation)) _ (a .0) in
-    let d = and-both (leb (s .kind) 3) _ (b .0) in
+    let a = and-both (leb (s .kind) 3 && leb 1 (s .generation) && ltb (s .writes) (2 ^ 32) && (eqb (s .kind) 1 || eqb (s .type) 0)) _ h in
+    let b = and-both (leb (s .kind) 3 && leb 1 (s .generation) && ltb (s .writes) (2 ^ 32)) _ (a .0) in
+    let f = and-both (leb (s .kind) 3 && leb 1 (s .generation)) _ (b .0) in
+    let d = and-both (leb (s .kind) 3) _ (f .0) in
     record {
+      narrow = ltb-true _ _ (f .1);
       kinds = leb-true _ _ (d .0);
       aged = leb-true _ _ (d .1);
       untyped = λ two. ⊎-elim (λ e. absurd (omega (arith, eqb-true (s .kind) 1 e))) (λ e. eqb-true _ _ e) (or-cases (eqb (s .kind) 1) _ (b .1));
@@ -53,8 +54,10 @@ slot-tested s h =
 pub slot-tests : (s : Slot) → SlotSound s → soundSlot s ≡ true
 unfolding soundSlot
 slot-tests s k =
-    both-and (leb (s .kind) 3 && leb 1 (s .generation) && (eqb (s .kind) 1 || eqb (s .type) 0)) (live s || eqb (s .start) 0 && eqb (s .writes) 0 && eqb (length (s .bytes)) 0)
-    (both-and (leb (s .kind) 3 && leb 1 (s .generation)) (eqb (s .kind) 1 || eqb (s .type) 0) (both-and (leb (s .kind) 3) (leb 1 (s .generation)) (le-leb (s .kind) 3 (k .kinds)) (le-leb 1 (s .generation) (k .aged))) typed)
+    both-and (leb (s .kind) 3 && leb 1 (s .generation) && ltb (s .writes) (2 ^ 32) && (eqb (s .kind) 1 || eqb (s .type) 0)) (live s || eqb (s .start) 0 && eqb (s .writes) 0 && eqb (length (s .bytes)) 0)
+    (both-and (leb (s .kind) 3 && leb 1 (s .generation) && ltb (s .writes) (2 ^ 32)) (eqb (s .kind) 1 || eqb (s .type) 0)
+    (both-and (leb (s .kind) 3 && leb 1 (s .generation)) (ltb (s .writes) (2 ^ 32)) (both-and (leb (s .kind) 3) (leb 1 (s .generation)) (le-leb (s .kind) 3 (k .kinds)) (le-leb 1 (s .generation) (k .aged))) (lt-ltb (s .writes) (2 ^ 32) (k .narrow)))
+    typed)
     quiet
   where
     typed : (eqb (s .kind) 1 || eqb (s .type) 0) ≡ true
@@ -115,7 +118,9 @@ unfolding sameLent sameHeader
 lent-tested a b t =
     let h₁ : Heap = a .header in
     let h₂ : Heap = b .header in
-    let c₁ = and-both _ (sameList (a .sealed) (b .sealed)) t in
+    let o = and-both _ (sameList (a .over) (b .over)) t in
+    let r = and-both _ (sameList (a .retired) (b .retired)) (o .0) in
+    let c₁ = and-both _ (sameList (a .sealed) (b .sealed)) (r .0) in
     let c₂ = and-both _ (sameList (a .quarantine) (b .quarantine)) (c₁ .0) in
     let c₃ = and-both _ (sameList (a .free) (b .free)) (c₂ .0) in
     let c₄ = and-both _ (sameList (a .pool) (b .pool)) (c₃ .0) in
@@ -125,8 +130,10 @@ lent-tested a b t =
     let c₈ = and-both _ (sameList (a .type) (b .type)) (c₇ .0) in
     let c₉ = and-both _ (sameList (a .kind) (b .kind)) (c₈ .0) in
     let d₀ = and-both _ (sameList (a .generation) (b .generation)) (c₉ .0) in
-    let d₁ = and-both _ (eqb (h₁ .sealed) (h₂ .sealed)) (d₀ .0) in
-    let d₂ = and-both _ (eqb (h₁ .quarantine) (h₂ .quarantine)) (d₁ .0) in
+    let n = and-both _ (eqb (a .count) (b .count)) (d₀ .0) in
+    let d₁ = and-both _ (eqb (h₁ .sealed) (h₂ .sealed)) (n .0) in
+    let e₁ = and-both _ (eqb (h₁ .retired) (h₂ .retired)) (d₁ .0) in
+    let d₂ = and-both _ (eqb (h₁ .quarantine) (h₂ .quarantine)) (e₁ .0) in
     let d₃ = and-both _ (eqb (h₁ .free) (h₂ .free)) (d₂ .0) in
     let d₄ = and-both _ (eqb (h₁ .slots) (h₂ .slots)) (d₃ .0) in
     let d₅ = and-both _ (sameList (h₁ .log) (h₂ .log)) (d₄ .0) in
@@ -134,7 +141,7 @@ lent-tested a b t =
     let d₇ = and-both _ (eqb (h₁ .«live_bytes») (h₂ .«live_bytes»)) (d₆ .0) in
     let d₈ = and-both _ (eqb (h₁ .«reclaim_at») (h₂ .«reclaim_at»)) (d₇ .0) in
     let d₉ = and-both (eqb (h₁ .tag) (h₂ .tag)) (eqb (h₁ .«since_gc») (h₂ .«since_gc»)) (d₈ .0) in
-    λ j. lent
+    λ j. columns
     (record {
       tag = eqb-true (h₁ .tag) (h₂ .tag) (d₉ .0) j;
       «since_gc» = eqb-true (h₁ .«since_gc») (h₂ .«since_gc») (d₉ .1) j;
@@ -145,8 +152,10 @@ lent-tested a b t =
       slots = eqb-true (h₁ .slots) (h₂ .slots) (d₄ .1) j;
       free = eqb-true (h₁ .free) (h₂ .free) (d₃ .1) j;
       quarantine = eqb-true (h₁ .quarantine) (h₂ .quarantine) (d₂ .1) j;
+      retired = eqb-true (h₁ .retired) (h₂ .retired) (e₁ .1) j;
       sealed = eqb-true (h₁ .sealed) (h₂ .sealed) (d₁ .1) j;
     })
+    (eqb-true (a .count) (b .count) (n .1) j)
     (same-tested (a .generation) (b .generation) (d₀ .1) j)
     (same-tested (a .kind) (b .kind) (c₉ .1) j)
     (same-tested (a .type) (b .type) (c₈ .1) j)
@@ -157,6 +166,8 @@ lent-tested a b t =
     (same-tested (a .free) (b .free) (c₃ .1) j)
     (same-tested (a .quarantine) (b .quarantine) (c₂ .1) j)
     (same-tested (a .sealed) (b .sealed) (c₁ .1) j)
+    (same-tested (a .retired) (b .retired) (r .1) j)
+    (same-tested (a .over) (b .over) (o .1) j)
 
 same-number : (n : ℕ) → eqb n n ≡ true
 same-number n = eq-eqb n n refl
@@ -164,57 +175,6 @@ same-number n = eq-eqb n n refl
 pub lent-test : (a : Lent) → sameLent a a ≡ true
 unfolding sameLent sameHeader
 lent-test a = simp (same-number, same-test)
-
--- ---- sizes
-
-pub record Sizes (g k t s e w p f q x : ℕ) : Type 0 where
-  pub low : 1 ≤ g
-  pub high : g ≤ 16777216
-  pub room : p ≤ 1073741824
-  pub equal : EqualSizes g k t s e w f q x
-
-module _ (g k t s e w p f q x : ℕ) where
-  pub sizes-tested : sizesFit g k t s e w p f q x ≡ true → Sizes g k t s e w p f q x
-  unfolding sizesFit
-  sizes-tested h₀ =
-      let h₁ = and-both (leb 1 g && leb g 16777216 && leb p 1073741824 && eqb k g && eqb t g && eqb s g && eqb e g && eqb w g && eqb f g && eqb q g) (eqb x g) h₀ in
-      let h₂ = and-both (leb 1 g && leb g 16777216 && leb p 1073741824 && eqb k g && eqb t g && eqb s g && eqb e g && eqb w g && eqb f g) (eqb q g) (h₁ .0) in
-      let h₃ = and-both (leb 1 g && leb g 16777216 && leb p 1073741824 && eqb k g && eqb t g && eqb s g && eqb e g && eqb w g) (eqb f g) (h₂ .0) in
-      let h₄ = and-both (leb 1 g && leb g 16777216 && leb p 1073741824 && eqb k g && eqb t g && eqb s g && eqb e g) (eqb w g) (h₃ .0) in
-      let h₅ = and-both (leb 1 g && leb g 16777216 && leb p 1073741824 && eqb k g && eqb t g && eqb s g) (eqb e g) (h₄ .0) in
-      let h₆ = and-both (leb 1 g && leb g 16777216 && leb p 1073741824 && eqb k g && eqb t g) (eqb s g) (h₅ .0) in
-      let h₇ = and-both (leb 1 g && leb g 16777216 && leb p 1073741824 && eqb k g) (eqb t g) (h₆ .0) in
-      let h₈ = and-both (leb 1 g && leb g 16777216 && leb p 1073741824) (eqb k g) (h₇ .0) in
-      let h₉ = and-both (leb 1 g && leb g 16777216) (leb p 1073741824) (h₈ .0) in
-      let h₁₀ = and-both (leb 1 g) (leb g 16777216) (h₉ .0) in
-      record {
-        low = leb-true 1 g (h₁₀ .0);
-        high = leb-true g 16777216 (h₁₀ .1);
-        room = leb-true p 1073741824 (h₉ .1);
-        equal =
-            record {
-              kind = eqb-true k g (h₈ .1);
-              type = eqb-true t g (h₇ .1);
-              start = eqb-true s g (h₆ .1);
-              end = eqb-true e g (h₅ .1);
-              writes = eqb-true w g (h₄ .1);
-              free = eqb-true f g (h₃ .1);
-              quarantine = eqb-true q g (h₂ .1);
-              sealed = eqb-true x g (h₁ .1);
-            };
-      }
-
-  pub sizes-no : (Sizes g k t s e w p f q x → ⊥) → false ≡ sizesFit g k t s e w p f q x
-  sizes-no bad = go (sizesFit g k t s e w p f q x) refl
-    where
-      go : (b : Bool) → sizesFit g k t s e w p f q x ≡ b → false ≡ sizesFit g k t s e w p f q x
-      go true h = absurd (bad (sizes-tested h))
-      go false h = sym h
-
-  pub sizes-yes : 1 ≤ g → g ≤ 16777216 → p ≤ 1073741824 → k ≡ g → t ≡ g → s ≡ g → e ≡ g → w ≡ g → f ≡ g → q ≡ g → x ≡ g → true ≡ sizesFit g k t s e w p f q x
-  unfolding sizesFit
-  sizes-yes a b c h₁ h₂ h₃ h₄ h₅ h₆ h₇ h₈ =
-      simp (le-leb 1 g a, le-leb g 16777216 b, le-leb p 1073741824 c, eq-eqb k g h₁, eq-eqb t g h₂, eq-eqb s g h₃, eq-eqb e g h₄, eq-eqb w g h₅, eq-eqb f g h₆, eq-eqb q g h₇, eq-eqb x g h₈)
 
 -- ---- all of it
 

@@ -1,14 +1,17 @@
--- A heap in lent memory: a header by value and ten columns, how a heap lies there, and the heap that lies there (01, "Heap", Added).
-use mathlib.Core.List.{List, map}
-use Prim.Native.Nat.{ℕ}
-use lib.ListN.{length, getD, take}
+-- A heap in lent memory: a header by value, two lists of runs and a pool; how a heap lies there, and the heap that lies there (01, "Heap", Added).
+use mathlib.Core.List.{List, [], _++_, map}
+use Prim.Native.Nat.{ℕ, _*_, _/_}
+use lib.ListN.{length, getD, take, drop}
+use Rattle.word.specs.Run.{run}
 use Rattle.word.specs.Lists.{tabulate}
 use Rattle.heap.specs.Packing.{pad, flat, ends, dataAt}
 use Rattle.heap.specs.State.{Slot, State, dataOf}
 use Rattle.heap.specs.declared.Heap.{Heap}
 
+-- S, and what lies where
 pub record Lent : Type 0 where
   pub header : Heap
+  pub count : ℕ
   pub generation : List ℕ
   pub kind : List ℕ
   pub type : List ℕ
@@ -19,10 +22,38 @@ pub record Lent : Type 0 where
   pub free : List ℕ
   pub quarantine : List ℕ
   pub sealed : List ℕ
+  pub retired : List ℕ
+  -- what lies past the runs
+  pub over : List ℕ
 
 -- header and columns together
-abbrev pub lent : Heap → (generation kind type start end writes pool free quarantine sealed : List ℕ) → Lent
-lent h g k t s e w p f q x = record { header = h; generation = g; kind = k; type = t; start = s; end = e; writes = w; pool = p; free = f; quarantine = q; sealed = x }
+abbrev pub columns : Heap → (S : ℕ) → (generation kind type start end writes pool free quarantine sealed retired over : List ℕ) → Lent
+columns h S g k t s e w p f q x r o =
+    record { header = h; count = S; generation = g; kind = k; type = t; start = s; end = e; writes = w; pool = p; free = f; quarantine = q; sealed = x; retired = r; over = o }
+
+-- the six narrow and the four wide runs of S
+abbrev pub cut : Heap → (S : ℕ) → (narrow wide pool : List ℕ) → Lent
+cut h S narrow wide pool =
+    record {
+      header = h;
+      count = S;
+      generation = run S 0 narrow;
+      kind = run S S narrow;
+      type = run S (2 * S) narrow;
+      free = run S (3 * S) narrow;
+      quarantine = run S (4 * S) narrow;
+      retired = run S (5 * S) narrow;
+      start = run S 0 wide;
+      end = run S S wide;
+      writes = run S (2 * S) wide;
+      sealed = run S (3 * S) wide;
+      pool = pool;
+      over = drop (6 * S) narrow ++ drop (4 * S) wide;
+    }
+
+-- as it is lent: S is a sixth of the narrow list
+abbrev pub lent : Heap → (narrow wide pool : List ℕ) → Lent
+lent h narrow wide pool = cut h (length narrow / 6) narrow wide pool
 
 -- the numbers of a heap, and how many entries of its lists are in use
 unfoldable pub headerOf : State → Heap
@@ -37,6 +68,7 @@ headerOf h =
       slots = length (h .slots);
       free = length (h .free);
       quarantine = length (h .quarantine);
+      retired = 0;
       sealed = length (h .sealed);
     }
 
@@ -49,6 +81,7 @@ unfoldable pub stored : (S P : ℕ) → State → Lent
 stored S P h =
     record {
       header = headerOf h;
+      count = S;
       generation = column S (λ s. s .generation) (h .slots);
       kind = column S (λ s. s .kind) (h .slots);
       type = column S (λ s. s .type) (h .slots);
@@ -59,6 +92,8 @@ stored S P h =
       free = pad S (h .free);
       quarantine = pad S (h .quarantine);
       sealed = pad S (h .sealed);
+      retired = pad S [];
+      over = [];
     }
 
 -- the slot at i, as the columns have it
@@ -91,7 +126,7 @@ view l =
 
 -- S: the number of lent slots
 abbrev pub slotCount : Lent → ℕ
-slotCount l = length (l .generation)
+slotCount l = l .count
 
 abbrev pub poolSize : Lent → ℕ
 poolSize l = length (l .pool)

@@ -1,7 +1,7 @@
 -- When a heap is well formed (01, "Well formed" and "Added"): tests that other definitions branch on.
 use mathlib.Core.Bool.{Bool, true, _&&_, _||_}
 use mathlib.Core.List.{List, [], _∷_, _++_}
-use Prim.Native.Nat.{ℕ, suc, _+_, _%_}
+use Prim.Native.Nat.{ℕ, suc, _+_, _%_, _^_}
 use lib.ListN.{length}
 use lib.Dec.{eqb, ltb, leb}
 use Rattle.word.specs.Lists.{all, allBelow, sameList}
@@ -10,10 +10,10 @@ use Rattle.heap.specs.State.{Slot, State, slotAt, live, dataSize, bit, t
 use Rattle.heap.specs.Lent.{Lent, stored, view, slotCount, poolSize}
 use Rattle.heap.specs.declared.Heap.{Heap}
 
--- kinds 0 to 3; generations at least 1; kinds 2 and 3 keep type 0; a dead slot has no data, and type, start and writes 0
+-- kinds 0 to 3; generations at least 1; writes of 32 bits; kinds 2 and 3 keep type 0; a dead slot has no data, and type, start and writes 0
 unfoldable pub soundSlot : Slot → Bool
 soundSlot s =
-    leb (s .kind) 3 && leb 1 (s .generation)
+    leb (s .kind) 3 && leb 1 (s .generation) && ltb (s .writes) (2 ^ 32)
     && (eqb (s .kind) 1 || eqb (s .type) 0)
     && (live s || eqb (s .start) 0 && eqb (s .writes) 0 && eqb (length (s .bytes)) 0)
 
@@ -48,31 +48,22 @@ unfoldable pub fits : (S P : ℕ) → State → Bool
 fits S P h =
     leb 1 S && leb S 16777216 && leb P 1073741824 && leb (length (h .slots)) S && leb (dataSize (h .slots)) P
 
--- S and pool in range, and every other column as long as the generations
-unfoldable pub sizesFit : (generation kind type start end writes pool free quarantine sealed : ℕ) → Bool
-sizesFit g k t s e w p f q x =
-    leb 1 g && leb g 16777216 && leb p 1073741824
-    && eqb k g && eqb t g && eqb s g && eqb e g && eqb w g && eqb f g && eqb q g && eqb x g
-
-abbrev pub inRange : Lent → Bool
-inRange l =
-    sizesFit (slotCount l) (length (l .kind)) (length (l .type)) (length (l .start)) (length (l .end)) (length (l .writes))
-    (poolSize l) (length (l .free)) (length (l .quarantine)) (length (l .sealed))
-
 -- equal headers, equal lent memory
 unfoldable pub sameHeader : Heap → Heap → Bool
 sameHeader a b =
     eqb (a .tag) (b .tag) && eqb (a .«since_gc») (b .«since_gc») && eqb (a .«reclaim_at») (b .«reclaim_at»)
     && eqb (a .«live_bytes») (b .«live_bytes») && eqb (a .epoch) (b .epoch) && sameList (a .log) (b .log)
-    && eqb (a .slots) (b .slots) && eqb (a .free) (b .free) && eqb (a .quarantine) (b .quarantine) && eqb (a .sealed) (b .sealed)
+    && eqb (a .slots) (b .slots) && eqb (a .free) (b .free) && eqb (a .quarantine) (b .quarantine)
+    && eqb (a .retired) (b .retired) && eqb (a .sealed) (b .sealed)
 
 unfoldable pub sameLent : Lent → Lent → Bool
 sameLent a b =
-    sameHeader (a .header) (b .header)
+    sameHeader (a .header) (b .header) && eqb (a .count) (b .count)
     && sameList (a .generation) (b .generation) && sameList (a .kind) (b .kind) && sameList (a .type) (b .type)
     && sameList (a .start) (b .start) && sameList (a .end) (b .end) && sameList (a .writes) (b .writes)
     && sameList (a .pool) (b .pool)
     && sameList (a .free) (b .free) && sameList (a .quarantine) (b .quarantine) && sameList (a .sealed) (b .sealed)
+    && sameList (a .retired) (b .retired) && sameList (a .over) (b .over)
 
 -- lent memory in which a sound heap lies that fits there
 unfoldable pub wellFormed : Lent → Bool

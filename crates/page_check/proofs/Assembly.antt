@@ -20,6 +20,7 @@ use Rattle.pages.specs.Page.{Head, headFormat, bodyFormat, slotFormat, pageForm
 use Rattle.pages.proofs.Laws.{slot-right, head-right}
 use Rattle.page_check.specs.Answer.{headAnswer, slotsAnswer, indicesMore, sealsMore}
 use Rattle.page_check.specs.Partition.{valuesAt, ValuesParsed}
+use Rattle.page_check.specs.Parts.{numbersOf}
 use Rattle.page_check.specs.Sections.{heapIn, soundBut, Sectioned}
 use Rattle.page_check.specs.Filling.{SlotsParsed}
 use Rattle.page_check.proofs.Once.{slots-are, read-count}
@@ -39,21 +40,18 @@ rest-of : {A : Type 0} {f : Format A} {good : A → Type 0} → Right f good →
     rest ≡ drop (length s - length rest) s
 rest-of {A} {f} r s k a rest e = suffix (f .print a) rest s k (r .back (drop k s) a rest e .1)
 
-abbrev pub numbers-of : HeadRead → Head
-numbers-of x = (x .tag, (x .«since_gc», (x .«reclaim_at», (x .«live_bytes», (x .slots, (x .free, (x .quarantine, x .sealed)))))))
-
 pub head-found : (s : List ℕ) (k : ℕ) {r : HeadLine} (x : HeadRead) → r ≡ headAnswer (length s) (headFormat .read (drop k s)) → r ≡ Head-of x →
-    (headFormat .read (drop k s) ≡ give (numbers-of x) (drop (x .next) s)) × (x .next ≤ length s)
+    (headFormat .read (drop k s) ≡ give (numbersOf x) (drop (x .next) s)) × (x .next ≤ length s)
 head-found s k {r} x e f = go (headFormat .read (drop k s)) refl e
   where
     go : (o : Option (Head × List ℕ)) → headFormat .read (drop k s) ≡ o → r ≡ headAnswer (length s) o →
-        (headFormat .read (drop k s) ≡ give (numbers-of x) (drop (x .next) s)) × (x .next ≤ length s)
+        (headFormat .read (drop k s) ≡ give (numbersOf x) (drop (x .next) s)) × (x .next ≤ length s)
     go none q g = absurd (contradiction cc)
     go (some y) q g =
         let v : headAnswer (length s) (some y) ≡ Head-of x = sym g ∙ f in
         let z : HeadRead = record { tag = y .0 .0; «since_gc» = y .0 .1 .0; «reclaim_at» = y .0 .1 .1 .0; «live_bytes» = y .0 .1 .1 .1 .0; slots = y .0 .1 .1 .1 .1 .0; free = y .0 .1 .1 .1 .1 .1 .0; quarantine = y .0 .1 .1 .1 .1 .1 .1 .0; sealed = y .0 .1 .1 .1 .1 .1 .1 .1; next = length s - length (y .1) } in
         let w : z ≡ x = cc in
-        subst (λ (x : HeadRead). (headFormat .read (drop k s) ≡ give (numbers-of x) (drop (x .next) s)) × (x .next ≤ length s)) w
+        subst (λ (x : HeadRead). (headFormat .read (drop k s) ≡ give (numbersOf x) (drop (x .next) s)) × (x .next ≤ length s)) w
         (q ∙ ap (give (y .0)) (rest-of head-right s k (y .0) (y .1) q), omega arith)
 
 pub head-lost : (s : List ℕ) (k : ℕ) {r : HeadLine} → r ≡ headAnswer (length s) (headFormat .read (drop k s)) → r ≡ NoHead → headFormat .read (drop k s) ≡ none
@@ -137,7 +135,7 @@ module _ (s : List ℕ) where
     unfolding readPage pageFormat afterLiteral pair bodyFormat times
     page-none-2 q = rw (e1, q)
 
-    module _ (x : HeadRead) (e2 : headFormat .read (drop a s) ≡ give (numbers-of x) (drop (x .next) s)) where
+    module _ (x : HeadRead) (e2 : headFormat .read (drop a s) ≡ give (numbersOf x) (drop (x .next) s)) where
       pub page-none-3 : readLiteral slotNames (drop (x .next) s) ≡ none → readPage s ≡ none
       unfolding readPage pageFormat afterLiteral pair bodyFormat times
       page-none-3 q = rw (e1, e2, q)
@@ -185,7 +183,7 @@ module _ (s : List ℕ) where
                       pub page-long : k < length s → readPage s ≡ none
                       page-long h = page-more (lib.ListN.getD s k 0) (drop (suc k) s) (drop-cons s k 0 h)
 
-                      pub page-whole : length s ≤ k → readPage s ≡ some (stateOf (numbers-of x, (sl, (fl, (ql, zl)))))
+                      pub page-whole : length s ≤ k → readPage s ≡ some (stateOf (numbersOf x, (sl, (fl, (ql, zl)))))
                       unfolding readPage pageFormat afterLiteral pair bodyFormat times
                       page-whole h = rw (e1, e2, e3, e4, e5, e6, e7, e8, e9, e10, drop-of-length-le s {i = k} h)
 
@@ -213,7 +211,7 @@ heap-is s h e = rw (e, heapIn)
 -- the sections that were read are those of the heap that they make up
 module _ (s : List ℕ) (x : HeadRead) (sl : List Slot) (fl ql zl : List ℕ) where
   abbrev pub made : State
-  made = stateOf (numbers-of x, (sl, (fl, (ql, zl))))
+  made = stateOf (numbersOf x, (sl, (fl, (ql, zl))))
 
   pub sectioned : (b c d g i j k size : ℕ) (rest : List ℕ) (a1 a2 a3 a4 r : Bool) → readPage s ≡ some made →
       readAll (slotFormat .read) (x .slots) (drop b s) ≡ give sl (drop c s) → a1 ≡ all soundSlot sl → size ≡ dataSize sl →

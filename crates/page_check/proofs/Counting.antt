@@ -1,16 +1,17 @@
--- Counting in lent bytes.
+-- Marking the values of a list, one bit each.
 use Prim.Native.Nat.{ℕ, zero, suc, _+_, _-_, _^_, _≤_, _<_}
 use mathlib.Core.List.{List, [], _∷_, _++_}
 use mathlib.Core.Option.{Option, none, some}
-use mathlib.Core.Bool.{Bool, true, false}
+use mathlib.Core.Bool.{Bool, true, false, _||_}
 use mathlib.Core.Path.{_≡_, refl, sym, ap, _∙_, subst}
 use lib.Dec.{eqb}
-use lib.ListN.{length, take, drop, getD, set, length-drop}
-use lib.Seq.{take-suc, take-all, getD-set-same, getD-set-other}
+use lib.ListN.{length, take, drop, getD, length-drop, take-append-drop}
+use lib.Seq.{take-suc, take-all}
 use native.Mathlib.Omega.{arith}
-use native.Mathlib.Nat.{add-zero}
 use native.Mathlib.Numerals.{add-one}
-use borrow.Author.Tests.{eq-eqb, ne-eqb}
+use borrow.Author.Tests.{eq-eqb, ne-eqb, eqb-true, eqb-false}
+use Rattle.word.proofs.Bools.{true-false}
+use Rattle.rows.specs.Row.{bitIn}
 use Rattle.text.specs.Text.{give, Reader, _>>=_, digitOf, readField}
 use Rattle.text.specs.Format.{number, readAll}
 use Rattle.text.specs.Answer.{decimalAnswer}
@@ -18,46 +19,85 @@ use Rattle.text.specs.declared.Decimal.{Decimal}
 use Rattle.text.specs.declared.Decimal.the-variants.{Number, NoNumber}
 use Rattle.text.proofs.Laws.{bind-some, some-inj, none-not-some}
 use Rattle.text.proofs.Getting.{answer-none, field-found}
-use Rattle.heap.specs.State.{times}
-use Rattle.page_check.specs.Partition.{more, bump, hit, Hit, Marks}
+use Rattle.heap.specs.State.{bit, times}
+use Rattle.heap.proofs.Counting.{times-append}
+use Rattle.page_check.specs.Partition.{marked, Marked}
 
-pub hit-none : (a : List ℕ) (base v : ℕ) → ((j : ℕ) → j < length a → base + j ≡ v → ⊥) → Hit a a base v
-hit-none a base v h = record { at = λ j l. rw (ne-eqb v (base + j) (λ e. h j l (sym e))) }
+-- ONE VALUE
 
-pub hit-one : (a : List ℕ) (base v j : ℕ) → j < length a → j ≡ v - base → base ≤ v → Hit a (set a j (more (getD a j 0))) base v
-hit-one a base v j h e b = record { at = λ i l. go i l (eqb i j) refl }
-  where
-    go : (i : ℕ) → i < length a → (t : Bool) → eqb i j ≡ t → getD (set a j (more (getD a j 0))) i 0 ≡ bump (getD a i 0) (hit (base + i) v)
-    go i l true q =
-        let w : i ≡ j = borrow.Author.Tests.eqb-true i j q in
-        rw (w, getD-set-same a j (more (getD a j 0)) 0 h, eq-eqb v (base + j) (omega arith))
-    go i l false q =
-        let n : i ≡ j → ⊥ = borrow.Author.Tests.eqb-false i j q in
-        rw (getD-set-other a j i (more (getD a j 0)) 0 n, ne-eqb v (base + i) (λ x. n (omega arith)))
-
-times-snoc : (i v : ℕ) (l : List ℕ) → times i (l ++ (v ∷ [])) ≡ times i l + hit i v
+times-one : (i v : ℕ) → times i (v ∷ []) ≡ bit (eqb v i)
 unfolding times
-times-snoc i v [] = omega arith
-times-snoc i v (x ∷ l) = omega (arith, times-snoc i v l)
+times-one i v = omega arith
 
-bump-hit : (x t i v : ℕ) → bump (bump x t) (hit i v) ≡ bump x (t + hit i v)
-bump-hit x t i v = go (eqb v i) refl
-  where
-    go : (b : Bool) → eqb v i ≡ b → bump (bump x t) (hit i v) ≡ bump x (t + hit i v)
-    go true e = rw (e, add-one t)
-    go false e = rw (e, add-zero t)
+times-here : (i v : ℕ) → v ≡ i → times i (v ∷ []) ≡ 1
+times-here i v e = times-one i v ∙ ap bit (eq-eqb v i e)
 
-pub marks-none : (a : List ℕ) (base : ℕ) → Marks a a base []
+times-not : (i v : ℕ) → (v ≡ i → ⊥) → times i (v ∷ []) ≡ 0
+times-not i v n = times-one i v ∙ ap bit (ne-eqb v i n)
+
+module _ (a : List ℕ) (base m v : ℕ) where
+  pub mark-none : ((j : ℕ) → j < m → base + j ≡ v → ⊥) → Marked a a base m (v ∷ []) true
+  mark-none h = record { once = λ e j l. omega (arith, times-not (base + j) v (λ x. h j l (sym x))); twice = λ e. absurd (true-false e) }
+
+  module _ (j : ℕ) (h : j < m) (e : j ≡ v - base) (b : base ≤ v) {t : Bool} (w : t ≡ bitIn 64 a j) where
+    pub mark-twice : t ≡ true → Marked a a base m (v ∷ []) false
+    mark-twice q =
+        record {
+          once = λ x. absurd (true-false (sym x));
+          twice = λ x. (j, h, omega (arith, ap bit (sym w ∙ q), times-here (base + j) v (omega arith)));
+        }
+
+    pub mark-first : (c : List ℕ) → t ≡ false → ((k : ℕ) → bitIn 64 c k ≡ (eqb k j || bitIn 64 a k)) → Marked a c base m (v ∷ []) true
+    mark-first c q f = record { once = λ x k l. go k (eqb k j) refl; twice = λ x. absurd (true-false x) }
+      where
+        go : (k : ℕ) (u : Bool) → eqb k j ≡ u → marked c k ≡ marked a k + times (base + k) (v ∷ [])
+        go k true x =
+            let y : k ≡ j = eqb-true k j x in
+            let z : marked c k ≡ 1 = ap bit (f k ∙ ap (λ (o : Bool). o || bitIn 64 a k) x) in
+            let n : marked a k ≡ 0 = ap bit (ap (bitIn 64 a) y ∙ sym w ∙ q) in
+            omega (arith, z, n, times-here (base + k) v (omega arith))
+        go k false x =
+            let y : k ≡ j → ⊥ = eqb-false k j x in
+            let z : marked c k ≡ marked a k = ap bit (f k ∙ ap (λ (o : Bool). o || bitIn 64 a k) x) in
+            omega (arith, z, times-not (base + k) v (λ o. y (omega arith)))
+
+-- ONE LIST AFTER ANOTHER
+
+pub mark-nothing : (a : List ℕ) (base m : ℕ) → Marked a a base m [] true
 unfolding times
-marks-none a base = record { at = λ j h. refl }
+mark-nothing a base m = record { once = λ e j h. omega arith; twice = λ e. absurd (true-false e) }
 
-pub marks-more : (a b c : List ℕ) (base v : ℕ) (l : List ℕ) → length b ≡ length a → Marks a b base l → Hit b c base v → Marks a c base (l ++ (v ∷ []))
-marks-more a b c base v l e m h =
+pub mark-both : (a b c : List ℕ) (base m : ℕ) (l k : List ℕ) {t : Bool} → Marked a b base m l true → Marked b c base m k t → Marked a c base m (l ++ k) t
+mark-both a b c base m l k p q =
     record {
-      at = λ j k.
-          h .at j (omega arith) ∙ ap (λ (x : ℕ). bump x (hit (base + j) v)) (m .at j k) ∙ bump-hit (getD a j 0) (times (base + j) l) (base + j) v
-          ∙ ap (bump (getD a j 0)) (sym (times-snoc (base + j) v l));
+      once = λ e j h. omega (arith, p .once refl j h, q .once e j h, times-append (base + j) l k);
+      twice = λ e. let d = q .twice e in (d .0, d .1, omega (arith, d .2, p .once refl (d .0) (d .1), times-append (base + d .0) l k));
     }
+
+pub mark-spoilt : (a b c : List ℕ) (base m : ℕ) (l k : List ℕ) → Marked a b base m l false → Marked a c base m (l ++ k) false
+mark-spoilt a b c base m l k p =
+    record { once = λ e. absurd (true-false (sym e)); twice = λ e. let d = p .twice refl in (d .0, d .1, omega (arith, d .2, times-append (base + d .0) l k)) }
+
+pub mark-told : (a b : List ℕ) (base m : ℕ) (l : List ℕ) {t u : Bool} → Marked a b base m l t → t ≡ u → Marked a b base m l u
+mark-told a b base m l p e = subst (Marked a b base m l) e p
+
+-- a list value by value
+module _ (a b c : List ℕ) (base m v i : ℕ) (l : List ℕ) {t : Bool} (p : Marked a b base m (take i l) true) (q : Marked b c base m (v ∷ []) t) (k : i < length l) (e : v ≡ getD l i 0) where
+  one-more : Marked a c base m (take (i + 1) l) t
+  one-more =
+      subst (λ (x : List ℕ). Marked a c base m x t) (ap (λ (x : ℕ). take i l ++ (x ∷ [])) e ∙ sym (take-suc l i 0 k) ∙ ap (λ (n : ℕ). take n l) (sym (add-one i)))
+      (mark-both a b c base m (take i l) (v ∷ []) p q)
+
+  pub mark-next : t ≡ true → Marked a c base m (take (i + 1) l) true
+  mark-next f = mark-told a c base m (take (i + 1) l) one-more f
+
+  pub mark-stop : t ≡ false → Marked a c base m l false
+  mark-stop f =
+      subst (λ (x : List ℕ). Marked a c base m x false) (take-append-drop (i + 1) l)
+      (mark-spoilt a c c base m (take (i + 1) l) (drop (i + 1) l) (mark-told a c base m (take (i + 1) l) one-more f))
+
+pub mark-all : (a b : List ℕ) (base m i : ℕ) (l : List ℕ) → Marked a b base m (take i l) true → length l ≤ i → Marked a b base m l true
+mark-all a b base m i l p h = subst (λ (x : List ℕ). Marked a b base m x true) (take-all i l h) p
 
 -- the first of the values that are left
 pub record Next (s : List ℕ) (k i count v next : ℕ) (l rest : List ℕ) : Type 0 where
@@ -115,13 +155,3 @@ line-value s at n k e f = field-found s 32 10 at n k refl e f
 pub line-none : (s : List ℕ) (at : ℕ) {r : Decimal} → r ≡ decimalAnswer (length s) (readField 4294967295 10 (drop at s)) → r ≡ NoNumber → number 32 10 .read (drop at s) ≡ none
 unfolding number
 line-none s at e f = answer-none s (readField 4294967295 10 (drop at s)) e f
-
-pub marks-next : (a b c : List ℕ) (base v i : ℕ) (l : List ℕ) → length b ≡ length a → Marks a b base (take i l) → Hit b c base v → i < length l → v ≡ getD l i 0 →
-    Marks a c base (take (i + 1) l)
-marks-next a b c base v i l e m h k q =
-    subst (Marks a c base)
-    (ap (λ (x : ℕ). take i l ++ (x ∷ [])) q ∙ sym (take-suc l i 0 k) ∙ ap (λ (n : ℕ). take n l) (sym (add-one i)))
-    (marks-more a b c base v (take i l) e m h)
-
-pub marks-all : (a b : List ℕ) (base i : ℕ) (l : List ℕ) → Marks a b base (take i l) → length l ≤ i → Marks a b base l
-marks-all a b base i l m h = subst (Marks a b base) (take-all i l h) m

@@ -7,3 +7,4 @@ pub mod Lists
 pub mod Heads
 pub mod Assembly
 pub mod Verdict
+pub mod Parts

@@ -1,52 +1,42 @@
--- Counts in chunks say that each slot is in exactly one place.
-use Prim.Native.Nat.{ℕ, zero, suc, _+_, _-_, _≤_, _<_}
+-- Bits, run after run, say that each slot is in exactly one place.
+use Prim.Native.Nat.{ℕ, zero, suc, _+_, _-_, _*_, _/_, _%_, _≤_, _<_}
 use mathlib.Core.List.{List, [], _∷_, _++_}
 use mathlib.Core.Option.{some}
 use mathlib.Core.Bool.{Bool, true, false, _&&_}
-use mathlib.Core.Path.{_≡_, refl, sym, ap, _∙_}
+use mathlib.Core.Path.{_≡_, refl, sym, ap, _∙_, subst}
 use lib.Dec.{eqb, ltb}
-use lib.ListN.{length, take, drop, getD, replicate, getD-replicate, take-append-drop, drop-of-length-le}
+use lib.ListN.{length, take, drop, getD, replicate, take-append-drop, drop-of-length-le}
 use lib.Seq.{drop-drop}
 use native.Mathlib.Omega.{arith}
-use native.Mathlib.Nat.{zero-add, add-zero}
-use borrow.Author.Tests.{ne-eqb, le-ltb}
-use Rattle.word.proofs.Bools.{and-true, and-assoc}
+use native.Mathlib.Nat.{zero-add, add-zero, sub-zero}
+use borrow.Author.Tests.{ne-eqb}
+use Rattle.word.specs.Bit as word
+use Rattle.word.proofs.Bools.{true-false, and-false, and-assoc}
+use Rattle.word.proofs.BitLaws.{bit-of-zero}
+use Rattle.rows.specs.Row.{bitIn}
 use Rattle.text.specs.Text.{give, Reader, _>>=_}
 use Rattle.text.specs.Format.{readAll, times}
 use Rattle.text.proofs.Laws.{bind-some, some-inj, times-right}
-use Rattle.heap.specs.State.{Slot}
+use Rattle.heap.specs.State.{Slot, bit}
 use Rattle.pages.specs.Page.{slotFormat}
 use Rattle.heap.specs.State as wf
 use Rattle.pages.proofs.Laws.{slot-right}
 use Rattle.heap.proofs.Counting.{times-append}
-use Rattle.page_check.specs.Partition.{more, bump, expected, agree, eachOnce, Marks}
-use Rattle.page_check.specs.Filling.{slotsAt, SlotsParsed}
+use Rattle.page_check.specs.Partition.{valuesAt, marked, Marked, expected, agree, eachOnce}
+use Rattle.page_check.specs.Filling.{slotsAt, SlotsParsed, RunChecked}
+use Rattle.page_check.specs.Sections.{heapIn, Sectioned}
+use Rattle.page_check.specs.declared.Sections.{Sections}
+use Rattle.page_check.proofs.Counting.{mark-told, mark-both}
 
-bump-add : (x a b : ℕ) → bump (bump x a) b ≡ bump x (a + b)
-bump-add x a zero = ap (bump x) (sym (add-zero a))
-bump-add x a (suc b) = ap more (bump-add x a b) ∙ ap (bump x) (let v : suc (a + b) ≡ a + suc b = omega arith in v)
+-- a row of zeros has no bit
+no-word : (n j : ℕ) → _≡_ {A = ℕ} (getD (replicate n 0) j 0) 0
+no-word zero j = refl
+no-word (suc n) zero = refl
+no-word (suc n) (suc j) = no-word n j
 
--- both lists counted from zero
-pub counted : (n base : ℕ) (a b f q : List ℕ) → length a ≡ n → Marks (replicate n 0) a base f → Marks a b base q →
-    (j : ℕ) → j < n → getD b j 0 ≡ bump 0 (wf.times (base + j) (f ++ q))
-counted n base a b f q l m k j h =
-    k .at j (omega arith) ∙ ap (λ (x : ℕ). bump x (wf.times (base + j) q)) (m .at j (rw (lib.ListN.length-replicate {A = ℕ} n 0) h) ∙ ap (λ (x : ℕ). bump x (wf.times (base + j) f)) (getD-replicate n j 0 0 h))
-    ∙ bump-add 0 (wf.times (base + j) f) (wf.times (base + j) q) ∙ ap (bump 0) (sym (times-append (base + j) f q))
-
-bump-low : (t : ℕ) → 1 ≤ bump 0 (suc t)
-bump-low t = go (ltb (bump 0 t) 1) refl
-  where
-    go : (b : Bool) → ltb (bump 0 t) 1 ≡ b → 1 ≤ more (bump 0 t)
-    go true e = rw e (omega arith)
-    go false e = rw e (omega arith)
-
-bump-two : (t : ℕ) → bump 0 (suc (suc t)) ≡ 2
-bump-two t = rw (le-ltb (bump 0 (suc t)) 1 (bump-low t))
-
-eqb-bump : (t e : ℕ) → e ≤ 1 → eqb (bump 0 t) e ≡ eqb t e
-eqb-bump zero e h = refl
-eqb-bump (suc zero) e h = refl
-eqb-bump (suc (suc t)) e h = ap (λ (x : ℕ). eqb x e) (bump-two t) ∙ ne-eqb 2 e (λ x. omega arith) ∙ sym (ne-eqb (suc (suc t)) e (λ x. omega arith))
+zero-row : (n j : ℕ) → marked (replicate n 0) j ≡ 0
+unfolding bitIn
+zero-row n j = ap (λ (x : ℕ). bit (word.bit x (j % 64))) (no-word n (j / 64)) ∙ ap bit (bit-of-zero (j % 64))
 
 low : (k : ℕ) → expected k ≤ 1
 low k = go (ltb 0 k) refl
@@ -55,16 +45,26 @@ low k = go (ltb 0 k) refl
     go true e = rw e (omega arith)
     go false e = rw e (omega arith)
 
--- counts that are right say what eachOnce says
-pub agrees : (dead counts : List ℕ) (n base : ℕ) → ((j : ℕ) → j < n → getD counts j 0 ≡ bump 0 (wf.times (base + j) dead)) →
-    (l : List Slot) (i : ℕ) → i + length l ≤ n → agree l counts i ≡ eachOnce dead l (base + i)
+-- bits that are right say what eachOnce says
+agrees : (dead row : List ℕ) (n base : ℕ) → ((j : ℕ) → j < n → marked row j ≡ wf.times (base + j) dead) →
+    (l : List Slot) (i : ℕ) → i + length l ≤ n → agree l row i ≡ eachOnce dead l (base + i)
 unfolding eachOnce
-agrees dead counts n base c [] i h = refl
-agrees dead counts n base c (x ∷ l) i h =
-    ap (λ (m : ℕ). eqb m (expected (x .kind)) && agree l counts (i + 1)) (c i (omega arith))
-    ∙ ap (λ (b : Bool). b && agree l counts (i + 1)) (eqb-bump (wf.times (base + i) dead) (expected (x .kind)) (low (x .kind)))
+agrees dead row n base c [] i h = refl
+agrees dead row n base c (x ∷ l) i h =
+    ap (λ (m : ℕ). eqb m (expected (x .kind)) && agree l row (i + 1)) (c i (omega arith))
     ∙ ap (λ (b : Bool). eqb (wf.times (base + i) dead) (expected (x .kind)) && b)
-    (agrees dead counts n base c l (i + 1) (omega arith) ∙ ap (eachOnce dead l) (let v : base + (i + 1) ≡ base + i + 1 = omega arith in v))
+    (agrees dead row n base c l (i + 1) (omega arith) ∙ ap (eachOnce dead l) (let v : base + (i + 1) ≡ base + i + 1 = omega arith in v))
+
+-- a slot that was met twice is in no one place
+twice-wrong : (dead : List ℕ) (l : List Slot) (base j : ℕ) → j < length l → 2 ≤ wf.times (base + j) dead → eachOnce dead l base ≡ false
+unfolding eachOnce
+twice-wrong dead [] base j h t = absurd (omega arith)
+twice-wrong dead (x ∷ l) base zero h t =
+    ap (λ (b : Bool). b && eachOnce dead l (base + 1))
+    (ne-eqb (wf.times base dead) (expected (x .kind)) (λ e. let z : wf.times (base + 0) dead ≡ wf.times base dead = ap (λ (n : ℕ). wf.times n dead) (add-zero base) in omega (arith, low (x .kind), z)))
+twice-wrong dead (x ∷ l) base (suc j) h t =
+    let z : wf.times (base + 1 + j) dead ≡ wf.times (base + suc j) dead = ap (λ (n : ℕ). wf.times n dead) (let v : base + 1 + j ≡ base + suc j = omega arith in v) in
+    ap (λ (b : Bool). eqb (wf.times base dead) (expected (x .kind)) && b) (twice-wrong dead l (base + 1) j (omega arith) (omega arith)) ∙ and-false (eqb (wf.times base dead) (expected (x .kind)))
 
 once-append : (dead : List ℕ) (xs ys : List Slot) (i : ℕ) → eachOnce dead (xs ++ ys) i ≡ (eachOnce dead xs i && eachOnce dead ys (i + length xs))
 unfolding eachOnce
@@ -132,21 +132,106 @@ part s k m base n l rest h e =
               ap (readAll (slotFormat .read) (n - (base + m))) (sym w) ∙ g ∙ ap (λ (x : List Slot). give x rest) (drop-drop m base l);
         }
 
--- one chunk more is right
-pub once-next : (dead counts : List ℕ) (size base m n : ℕ) (s : List ℕ) (k : ℕ) (l : List Slot) (rest : List ℕ) (ok good b total : Bool) → Part s k m base n l rest → m ≤ size →
-    ((j : ℕ) → j < size → getD counts j 0 ≡ bump 0 (wf.times (base + j) dead)) → total ≡ (ok && eachOnce dead (drop base l) base) →
-    good ≡ agree (slotsAt s k m) counts 0 → b ≡ (ok && good) → total ≡ (b && eachOnce dead (drop (base + m) l) (base + m))
-once-next dead counts size base m n s k l rest ok good b total p h c e g v =
-    let chunk : List Slot = take m (drop base l) in
-    let x : eachOnce dead (drop base l) base ≡ (eachOnce dead chunk base && eachOnce dead (drop (base + m) l) (base + m)) =
-    ap (λ (y : List Slot). eachOnce dead y base) (sym (take-append-drop m (drop base l))) ∙ once-append dead chunk (drop m (drop base l)) base
-    ∙ ap (λ (y : List Slot). eachOnce dead chunk base && eachOnce dead y (base + length chunk)) (drop-drop m base l)
-    ∙ ap (λ (y : ℕ). eachOnce dead chunk base && eachOnce dead (drop (base + m) l) (base + y)) (p .count) in
-    let y : good ≡ eachOnce dead chunk base =
-    g ∙ ap (λ (z : List Slot). agree z counts 0) (p .slots) ∙ agrees dead counts size base c chunk 0 (omega (arith, p .count)) ∙ ap (eachOnce dead chunk) (add-zero base) in
-    e ∙ ap (λ (z : Bool). ok && z) x ∙ sym (and-assoc ok (eachOnce dead chunk base) (eachOnce dead (drop (base + m) l) (base + m)))
-    ∙ ap (λ (z : Bool). (ok && z) && eachOnce dead (drop (base + m) l) (base + m)) (sym y) ∙ ap (λ (z : Bool). z && eachOnce dead (drop (base + m) l) (base + m)) (sym v)
+-- ONE RUN
 
-pub once-done : (dead : List ℕ) (l : List Slot) (base : ℕ) (ok total : Bool) → length l ≤ base → total ≡ (ok && eachOnce dead (drop base l) base) → ok ≡ total
+module _ (s : List ℕ) (k m base : ℕ) (p : SlotsParsed s k m) where
+  run-length : length (slotsAt s k m) ≡ m
+  run-length = read-count m (drop k s) (slotsAt s k m) (p .rest) (p .reads)
+
+  run-wrong : (dead : List ℕ) (j next : ℕ) → j < m → 2 ≤ wf.times (base + j) dead → RunChecked s dead k m base false next
+  run-wrong dead j next h t =
+      record {
+        once = sym (twice-wrong dead (slotsAt s k m) base j (omega (arith, run-length)) t);
+        after = λ e. absurd (true-false (sym e));
+        inside = λ e. absurd (true-false (sym e));
+      }
+
+  module _ (x : Sections) (q : Sectioned s x) (n : ℕ) {z a : List ℕ} {t : Bool} (e : z ≡ replicate n 0) (f : Marked z a base m (valuesAt 32 s (x .«free_at») (x .free)) t) where
+    zero-at : (j : ℕ) → marked z j ≡ 0
+    zero-at j = ap (λ (r : List ℕ). marked r j) e ∙ zero-row n j
+
+    pub run-free : (next : ℕ) → t ≡ false → RunChecked s (heapIn s .free ++ heapIn s .quarantine) k m base false next
+    run-free next w =
+        let d = f .twice w in
+        let u : wf.times (base + d .0) (valuesAt 32 s (x .«free_at») (x .free)) ≡ wf.times (base + d .0) (heapIn s .free) = ap (wf.times (base + d .0)) (q .freeAre) in
+        run-wrong (heapIn s .free ++ heapIn s .quarantine) (d .0) next (d .1) (omega (arith, d .2, zero-at (d .0), u, times-append (base + d .0) (heapIn s .free) (heapIn s .quarantine)))
+
+    module _ {b : List ℕ} {o : Bool} (w : t ≡ true) (g : Marked a b base m (valuesAt 32 s (x .«quarantine_at») (x .quarantine)) o) where
+      lists : Marked z b base m (heapIn s .free ++ heapIn s .quarantine) o
+      lists =
+          subst (λ (l : List ℕ). Marked z b base m l o) (λ i. q .freeAre i ++ q .quarantineAre i)
+          (mark-both z a b base m (valuesAt 32 s (x .«free_at») (x .free)) (valuesAt 32 s (x .«quarantine_at») (x .quarantine)) (mark-told z a base m (valuesAt 32 s (x .«free_at») (x .free)) f w) g)
+
+      pub run-quarantine : (next : ℕ) → o ≡ false → RunChecked s (heapIn s .free ++ heapIn s .quarantine) k m base false next
+      run-quarantine next v =
+          let d = lists .twice v in
+          run-wrong (heapIn s .free ++ heapIn s .quarantine) (d .0) next (d .1) (omega (arith, d .2, zero-at (d .0)))
+
+      pub run-told : (ok : Bool) (next : ℕ) → o ≡ true → ok ≡ agree (slotsAt s k m) b 0 →
+          readAll (slotFormat .read) m (drop k s) ≡ give (slotsAt s k m) (drop next s) → next ≤ length s → RunChecked s (heapIn s .free ++ heapIn s .quarantine) k m base ok next
+      run-told ok next v y r l =
+          record {
+            once =
+                y
+                ∙ agrees (heapIn s .free ++ heapIn s .quarantine) b m base (λ j h. omega (arith, lists .once v j h, zero-at j)) (slotsAt s k m) 0 (omega (arith, run-length))
+                ∙ ap (eachOnce (heapIn s .free ++ heapIn s .quarantine) (slotsAt s k m)) (add-zero base);
+            after = λ e. r;
+            inside = λ e. l;
+          }
+
+-- RUN AFTER RUN
+
+-- what is left after `base` slots decides
+pub record Left (s : List ℕ) (x : Sections) (k base : ℕ) : Type 0 where
+  pub below : base ≤ x .slots
+  pub inside : k ≤ length s
+  pub same : eachOnce (heapIn s .free ++ heapIn s .quarantine) (heapIn s .slots) 0 ≡ eachOnce (heapIn s .free ++ heapIn s .quarantine) (drop base (heapIn s .slots)) base
+  pub rest : List ℕ
+  pub reads : readAll (slotFormat .read) (x .slots - base) (drop k s) ≡ give (drop base (heapIn s .slots)) rest
+
+pub left-whole : (s : List ℕ) (x : Sections) → Sectioned s x → Left s x (x .«slots_at») 0
+left-whole s x q =
+    record {
+      below = omega arith;
+      inside = q .slotsInside;
+      same = refl;
+      rest = q .slots .rest;
+      reads = ap (λ (n : ℕ). readAll (slotFormat .read) n (drop (x .«slots_at») s)) (sub-zero (x .slots)) ∙ q .slots .reads ∙ ap (λ (l : List Slot). give l (q .slots .rest)) (q .slotsAre);
+    }
+
+module _ (s : List ℕ) (x : Sections) (k m base : ℕ) (p : Left s x k base) (h : base + m ≤ x .slots) where
+  run-part : Part s k m base (x .slots) (heapIn s .slots) (p .rest)
+  run-part = part s k m base (x .slots) (heapIn s .slots) (p .rest) h (p .reads)
+
+  pub run-parsed : SlotsParsed s k m
+  run-parsed = run-part .parsed
+
+  module _ {ok : Bool} {next : ℕ} (c : RunChecked s (heapIn s .free ++ heapIn s .quarantine) k m base ok next) where
+    run-splits : eachOnce (heapIn s .free ++ heapIn s .quarantine) (heapIn s .slots) 0
+        ≡ (ok && eachOnce (heapIn s .free ++ heapIn s .quarantine) (drop (base + m) (heapIn s .slots)) (base + m))
+    run-splits =
+        let l : List Slot = heapIn s .slots in
+        let d : List ℕ = heapIn s .free ++ heapIn s .quarantine in
+        let chunk : List Slot = take m (drop base l) in
+        p .same ∙ ap (λ (y : List Slot). eachOnce d y base) (sym (take-append-drop m (drop base l))) ∙ once-append d chunk (drop m (drop base l)) base
+        ∙ ap (λ (y : List Slot). eachOnce d chunk base && eachOnce d y (base + length chunk)) (drop-drop m base l)
+        ∙ ap (λ (y : ℕ). eachOnce d chunk base && eachOnce d (drop (base + m) l) (base + y)) (run-part .count)
+        ∙ ap (λ (b : Bool). b && eachOnce d (drop (base + m) l) (base + m)) (ap (λ (z : List Slot). eachOnce d z base) (sym (run-part .slots)) ∙ sym (c .once))
+
+    pub left-wrong : ok ≡ false → false ≡ eachOnce (heapIn s .free ++ heapIn s .quarantine) (heapIn s .slots) 0
+    left-wrong e = sym (run-splits ∙ ap (λ (b : Bool). b && eachOnce (heapIn s .free ++ heapIn s .quarantine) (drop (base + m) (heapIn s .slots)) (base + m)) e)
+
+    pub left-next : ok ≡ true → Left s x next (base + m)
+    left-next e =
+        record {
+          below = h;
+          inside = c .inside e;
+          same = run-splits ∙ ap (λ (b : Bool). b && eachOnce (heapIn s .free ++ heapIn s .quarantine) (drop (base + m) (heapIn s .slots)) (base + m)) e;
+          rest = p .rest;
+          reads = run-part .after next (c .after e);
+        }
+
+pub left-none : (s : List ℕ) (x : Sections) (k base : ℕ) → Sectioned s x → Left s x k base → x .slots ≤ base → true ≡ eachOnce (heapIn s .free ++ heapIn s .quarantine) (heapIn s .slots) 0
 unfolding eachOnce
-once-done dead l base ok total h e = sym (e ∙ ap (λ (x : List Slot). ok && eachOnce dead x base) (drop-of-length-le l {i = base} h) ∙ and-true ok)
+left-none s x k base q p h =
+    sym (p .same ∙ ap (λ (l : List Slot). eachOnce (heapIn s .free ++ heapIn s .quarantine) l base) (drop-of-length-le (heapIn s .slots) {i = base} (omega (arith, q .slotCount))))

@@ -5,21 +5,20 @@ use mathlib.Core.Option.{none}
 use mathlib.Core.Bool.{Bool, true, false, _&&_}
 use mathlib.Core.Path.{_≡_, refl, sym, ap, _∙_, subst}
 use lib.Dec.{ltb, eqb}
-use lib.ListN.{length, getD, replicate}
+use lib.ListN.{length, getD}
 use native.Mathlib.Omega.{arith}
 use native.Mathlib.Nat.{zero-add, add-zero}
 use borrow.Author.Tests.{eqb-true, eq-eqb, lt-ltb, le-ltb}
 use Rattle.word.specs.Lists.{all, allBelow}
 use Rattle.word.specs.Choice.{if_then_else_}
 use Rattle.word.specs.Result.{refused}
-use Rattle.word.proofs.Bools.{bool-ext, and-true, and-false}
+use Rattle.word.proofs.Bools.{bool-ext, and-true, and-false, and-both, and-assoc}
 use Rattle.word.proofs.ListLaws.{below-same, below-front}
 use Rattle.heap.specs.State.{Slot, State, noSlot, slotAt, live, bit, times}
 use Rattle.heap.specs.WellFormed.{places, partitioned, soundSlot, soundSeals, soundReclaim, sound}
 use Rattle.pages.specs.Page.{readPage}
 use Rattle.heap.proofs.Counting.{times-append}
-use Rattle.page_check.specs.Partition.{valuesAt, expected, eachOnce}
-use Rattle.page_check.specs.Filling.{slotsAt}
+use Rattle.page_check.specs.Partition.{expected, eachOnce}
 use Rattle.page_check.specs.Sections.{heapIn, Sectioned, Parsing, verdict, Accepted}
 use Rattle.page_check.specs.declared.Parsed.{Parsed}
 use Rattle.page_check.specs.declared.Parsed.the-variants.{Page, NotPage}
@@ -57,24 +56,33 @@ regroup false p i s r = refl
 
 module _ (s : List ℕ) (x : Sections) (p : Sectioned s x) where
   -- the tests of the first pass are those of `sound`
-  pub sound-is : {b o : Bool} →
-      o ≡ eachOnce (valuesAt 32 s (x .«free_at») (x .free) ++ valuesAt 32 s (x .«quarantine_at») (x .quarantine)) (slotsAt s (x .«slots_at») (x .slots)) 0 →
-      b ≡ (x .sound && o) → b ≡ sound (heapIn s)
+  sound-parts : {o : Bool} → o ≡ eachOnce (heapIn s .free ++ heapIn s .quarantine) (heapIn s .slots) 0 → sound (heapIn s) ≡ (x .sound && o)
   unfolding sound partitioned
-  sound-is {b} {o} e q =
+  sound-parts {o} e =
       let h : State = heapIn s in
       let n : ℕ = length (h .slots) in
-      let w : o ≡ allBelow (λ i. eqb (places h i) 1) n =
-      e ∙ (λ k. eachOnce (p .freeAre k ++ p .quarantineAre k) (p .slotsAre k) 0) ∙ once-places h in
-      q ∙ (λ k. p .sound k && w k)
-      ∙ regroup (all soundSlot (h .slots)) (allBelow (λ i. eqb (places h i) 1) n) (all (λ i. ltb i n) (h .free ++ h .quarantine)) (soundSeals (h .tag) n 0 (h .sealed)) (soundReclaim (h .reclaimAt))
+      let w : o ≡ allBelow (λ i. eqb (places h i) 1) n = e ∙ once-places h in
+      sym ((λ k. p .sound k && w k)
+      ∙ regroup (all soundSlot (h .slots)) (allBelow (λ i. eqb (places h i) 1) n) (all (λ i. ltb i n) (h .free ++ h .quarantine)) (soundSeals (h .tag) n 0 (h .sealed)) (soundReclaim (h .reclaimAt)))
+
+  pub sound-is : (t : Bool) {a o : Bool} → a ≡ (t && x .sound) → a ≡ true → o ≡ eachOnce (heapIn s .free ++ heapIn s .quarantine) (heapIn s .slots) 0 → o ≡ sound (heapIn s)
+  sound-is t {a} {o} q f e = sym (sound-parts e ∙ ap (λ (b : Bool). b && o) (and-both t (x .sound) (sym q ∙ f) .1))
+
+  -- a part that fails is enough
+  unsound : (t : Bool) {a : Bool} → a ≡ (t && x .sound) → a ≡ false → (t && sound (heapIn s)) ≡ false
+  unsound t {a} q f =
+      ap (λ (b : Bool). t && b) (sound-parts refl) ∙ sym (and-assoc t (x .sound) (eachOnce (heapIn s .free ++ heapIn s .quarantine) (heapIn s .slots) 0))
+      ∙ ap (λ (b : Bool). b && eachOnce (heapIn s .free ++ heapIn s .quarantine) (heapIn s .slots) 0) (sym q ∙ f)
 
   module _ (S P : ℕ) where
-    pub sizes-1 : {t : Bool} → t ≡ false → verdict t S P (readPage s) ≡ refused 1
+    pub sizes-1 : (t : Bool) {a : Bool} → a ≡ (t && x .sound) → a ≡ false → verdict t S P (readPage s) ≡ refused 1
     unfolding verdict
-    sizes-1 e = rw (p .page, e)
+    sizes-1 t q f = rw (p .page, unsound t q f)
 
-    module _ {t b : Bool} (e : t ≡ true) (v : b ≡ sound (heapIn s)) where
+    module _ (t : Bool) {a b : Bool} (q : a ≡ (t && x .sound)) (w : a ≡ true) (v : b ≡ sound (heapIn s)) where
+      e : t ≡ true
+      e = and-both t (x .sound) (sym q ∙ w) .0
+
       pub sound-1 : b ≡ false → verdict t S P (readPage s) ≡ refused 1
       unfolding verdict
       sound-1 f = rw (p .page, e, ← v, f)
@@ -91,6 +99,9 @@ module _ (s : List ℕ) (x : Sections) (p : Sectioned s x) where
       unfolding verdict
       accepted f h k = record { verdict = rw (p .page, e, ← v, f, ← p .size, le-ltb P (x .size) h, ← p .slotCount, le-ltb S (x .slots) k); sections = p }
 
+pub sizes-on : (t b : Bool) {a : Bool} → a ≡ (t && b) → a ≡ true → t ≡ true
+sizes-on t b q f = and-both t b (sym q ∙ f) .0
+
 pub not-17 : (s : List ℕ) (t : Bool) (S P : ℕ) → readPage s ≡ none → verdict t S P (readPage s) ≡ refused 17
 unfolding verdict
 not-17 s t S P e = rw e
@@ -101,7 +112,3 @@ is-page s x p e = subst (Parsing s) e p
 
 pub is-none : (s : List ℕ) {r : Parsed} → Parsing s r → r ≡ NotPage → readPage s ≡ none
 is-none s p e = subst (Parsing s) e p
-
--- scratch is zero after two calls as after one
-pub still-zero : (a b : List ℕ) (n : ℕ) → b ≡ replicate (length a) 0 → length a ≡ n → b ≡ replicate n 0
-still-zero a b n e h = e ∙ ap (λ (m : ℕ). replicate m 0) h

@@ -1,13 +1,15 @@
 -- The slots whose lines stand in a text.
-use Prim.Native.Nat.{ℕ}
+use Prim.Native.Nat.{ℕ, _≤_}
 use mathlib.Core.List.{List, []}
 use mathlib.Core.Option.{none, some}
 use mathlib.Core.Path.{_≡_}
-use lib.ListN.{drop}
+use mathlib.Core.Bool.{Bool, true}
+use lib.ListN.{length, drop}
 use Rattle.text.specs.Text.{give}
 use Rattle.text.specs.Format.{readAll}
 use Rattle.heap.specs.State.{Slot}
 use Rattle.pages.specs.Page.{slotFormat}
+use Rattle.page_check.specs.Partition.{eachOnce}
 
 -- the slots whose lines stand in a text from `at` on
 unfoldable pub slotsAt : List ℕ → (at count : ℕ) → List Slot
@@ -17,3 +19,9 @@ slotsAt s at count = elim (readAll (slotFormat .read) count (drop at s)) [ none 
 pub record SlotsParsed (s : List ℕ) (at count : ℕ) : Type 0 where
   pub rest : List ℕ
   pub reads : readAll (slotFormat .read) count (drop at s) ≡ give (slotsAt s at count) rest
+
+-- `count` slots from `base` on, whose lines stand from `at` on: is each in exactly one place? If so, the next line stands at `next`.
+pub record RunChecked (s dead : List ℕ) (at count base : ℕ) (ok : Bool) (next : ℕ) : Type 0 where
+  pub once : ok ≡ eachOnce dead (slotsAt s at count) base
+  pub after : ok ≡ true → readAll (slotFormat .read) count (drop at s) ≡ give (slotsAt s at count) (drop next s)
+  pub inside : ok ≡ true → next ≤ length s

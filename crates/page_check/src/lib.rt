@@ -1,4 +1,5 @@
 // The first pass over a page: what stands in the text, without touching the lent heap.
+use refusal::Refusal;
 use text::Decimal;
 use text::Hex;
 use text::Literal;
@@ -7,17 +8,19 @@ ghost use mathlib.Core.List.{List, [], _∷_, _++_};
 ghost use Prim.Native.Nat.{ℕ, _+_, _-_, _*_, _≤_, _<_};
 ghost use lib.ListN.{length, take, drop, replicate};
 ghost use Rattle.text.specs.Text.{give};
-ghost use Rattle.pages.specs.Page.{slotFormat, headFormat, readPage};
+ghost use Rattle.pages.specs.Page.{slotFormat, headFormat, readPage, sealedName};
 ghost use Rattle.text.specs.Format.{readAll, number};
 ghost use mathlib.Core.Bool.{_&&_};
-ghost use Rattle.page_check.specs.Partition.{valuesAt, ValuesParsed, more, Hit, Marks, expected, agree, eachOnce};
-ghost use Rattle.page_check.specs.Filling.{slotsAt, SlotsParsed};
+ghost use Rattle.page_check.specs.Partition.{valuesAt, ValuesParsed, marked, Marked, expected, agree, eachOnce};
+ghost use Rattle.page_check.specs.Filling.{slotsAt, SlotsParsed, RunChecked};
 ghost use Rattle.page_check.specs.Answer.{slotAnswer, slotsAnswer, soundNumbers, indicesMore, sealsMore, sealTest, headAnswer};
-ghost use lib.Dec.{eqb, leb};
+ghost use lib.Dec.{eqb, leb, ltb};
 ghost use Prim.Native.Nat.{_%_};
 ghost use Rattle.handle.specs.Handle.{tagOf, indexOf, generationOf};
-ghost use Rattle.heap.specs.WellFormed.{soundReclaim};
-ghost use Rattle.page_check.specs.Sections.{Parsing, verdict, Checking};
+ghost use Rattle.heap.specs.WellFormed.{soundSeals, soundReclaim};
+ghost use Rattle.page_check.specs.Sections.{heapIn, Sectioned, Parsing, verdict, Checking};
+ghost use Rattle.page_check.specs.Parts.{sectionsOf, HeadSectioned, SlotSectioned, ListSectioned};
+ghost use Rattle.word.specs.Lists.{all};
 ghost use mathlib.Core.Bool.{true};
 
 // What a slot's line says: its numbers, how many bytes of data, and where the next line begins.
@@ -130,43 +133,50 @@ pub fn check_slots(s: &[u8], at: usize, count: usize) -> Slots
     Slots::Lines(ok, size, k)
 }
 
-fn one_more(x: u8) -> u8
-    ensures { λ r. ⌜ r ≡ more x ⌝ }
-{
-    if x < 1 { 1 } else { 2 }
-}
-
-// Counts a value in the byte of its slot, if that is among those from `base` on.
-fn mark_one(scratch: &mut [u8], base: usize, v: usize)
-    ensures { λ _. ⌜ Hit (now (scratch .entry)) (now (scratch .exit)) base v ⌝ }
+// Sets the bit of a slot, if it is among the `m` from `base` on. False: it is set already.
+fn mark_one(row: &mut [u64], base: usize, m: usize, v: usize) -> bool
+    requires { ⌜ m ≤ 64 * length (now row) ⌝ }
+    ensures { λ r. ⌜ Marked (now (row .entry)) (now (row .exit)) base m (v ∷ []) r ⌝ }
 {
     if v < base {
-        return;
+        return true;
     }
     let j = v - base;
-    if scratch.len() <= j {
-        return;
+    if m <= j {
+        return true;
     }
-    let x = scratch[j];
-    scratch[j] = one_more(x);
+    if rows::test_bit(row, j) {
+        return false;
+    }
+    rows::set_bit(row, j);
+    true
 }
 
-// Counts the values of a list, from `at` on, in the bytes of their slots.
-fn mark(s: &[u8], at: usize, count: usize, base: usize, scratch: &mut [u8])
+// Sets the bits of the values of a list, from `at` on, that are among the `m` slots from `base` on. False: one of them was set already.
+fn mark(s: &[u8], at: usize, count: usize, base: usize, m: usize, row: &mut [u64]) -> bool
     requires { ⌜ ValuesParsed 32 (now s) at count ⌝ }
-    requires { ⌜ at ≤ length (now s) ⌝ }
-    ensures { λ _. ⌜ Marks (now (scratch .entry)) (now (scratch .exit)) base (valuesAt 32 (now (s .entry)) at count) ⌝ }
+    requires { ⌜ (at ≤ length (now s)) × (m ≤ 64 * length (now row)) ⌝ }
+    ensures { λ r. ⌜ Marked (now (row .entry)) (now (row .exit)) base m (valuesAt 32 (now (s .entry)) at count) r ⌝ }
 {
     let mut k = at;
     let mut i = 0;
     while i < count {
         let Decimal::Number(v, next) = text::get_field(s, k, 4294967295, 10) else {
-            return;
+            return false;
         };
-        mark_one(scratch, base, v as usize);
+        if mark_one(row, base, m, v as usize) {} else {
+            return false;
+        }
         k = next;
         i += 1;
     }
+    true
+}
+
+fn bit_of(row: &[u64], i: usize) -> u8
+    ensures { λ r. ⌜ r ≡ marked (now (row .entry)) i ⌝ }
+{
+    if rows::test_bit(row, i) { 1 } else { 0 }
 }
 
 fn expected_of(kind: u64) -> u8
@@ -175,16 +185,16 @@ fn expected_of(kind: u64) -> u8
     if 0 < kind { 0 } else { 1 }
 }
 
-// Whether counts are what the lines of `count` slots ask for, and what comes after the lines.
+// Whether bits are what the lines of `count` slots ask for, and what comes after the lines.
 pub struct Chunk {
     pub ok: bool,
     pub next: usize,
 }
 
-fn check_chunk(s: &[u8], at: usize, count: usize, counts: &[u8]) -> Chunk
+fn check_chunk(s: &[u8], at: usize, count: usize, row: &[u64]) -> Chunk
     requires { ⌜ SlotsParsed (now s) at count ⌝ }
-    requires { ⌜ (at ≤ length (now s)) × (count ≤ length (now counts)) ⌝ }
-    ensures { λ r. ⌜ r .ok ≡ agree (slotsAt (now (s .entry)) at count) (now (counts .entry)) 0 ⌝ }
+    requires { ⌜ at ≤ length (now s) ⌝ }
+    ensures { λ r. ⌜ r .ok ≡ agree (slotsAt (now (s .entry)) at count) (now (row .entry)) 0 ⌝ }
     ensures { λ r. ⌜ readAll (slotFormat .read) count (drop at (now (s .entry))) ≡ give (slotsAt (now (s .entry)) at count) (drop (r .next) (now (s .entry))) ⌝ }
     ensures { λ r. ⌜ r .next ≤ length (now (s .entry)) ⌝ }
 {
@@ -195,7 +205,7 @@ fn check_chunk(s: &[u8], at: usize, count: usize, counts: &[u8]) -> Chunk
         let SlotLine::Line(x) = get_slot(s, k) else {
             return Chunk { ok: false, next: k };
         };
-        let c = counts[i];
+        let c = bit_of(row, i);
         let e = expected_of(x.kind);
         ok = both(ok, c == e);
         k = x.next;
@@ -204,46 +214,56 @@ fn check_chunk(s: &[u8], at: usize, count: usize, counts: &[u8]) -> Chunk
     Chunk { ok: ok, next: k }
 }
 
-fn least(a: usize, b: usize) -> usize
-    ensures { λ r. ⌜ (r ≤ a) × (r ≤ b) ⌝ }
-    ensures { λ r. ⌜ (1 ≤ a → 1 ≤ b → 1 ≤ r) ⌝ }
+// Is each of the `m` slots from `base` on, whose lines stand from `at` on, in exactly one place?
+fn check_run(s: &[u8], x: Sections, at: usize, m: usize, base: usize, row: &mut [u64]) -> Chunk
+    requires { ⌜ Sectioned (now s) x ⌝ }
+    requires { ⌜ SlotsParsed (now s) at m ⌝ }
+    requires { ⌜ (at ≤ length (now s)) × (m ≤ 64 * length (now row)) ⌝ }
+    ensures { λ r. ⌜ RunChecked (now (s .entry)) (heapIn (now (s .entry)) .free ++ heapIn (now (s .entry)) .quarantine) at m base (r .ok) (r .next) ⌝ }
 {
-    if a < b { a } else { b }
+    memory::clear_u64(row);
+    if mark(s, x.free_at, x.free, base, m, row) {} else {
+        return Chunk {
+            ok: false,
+            next: at,
+        };
+    }
+    if mark(s, x.quarantine_at, x.quarantine, base, m, row) {} else {
+        return Chunk {
+            ok: false,
+            next: at,
+        };
+    }
+    check_chunk(s, at, m, row)
 }
 
-// Is each slot in exactly one place: live, or once in one of the two lists? As many slots at a time as there are scratch bytes.
-fn partition(
-    s: &[u8],
-    slots_at: usize,
-    n: usize,
-    free_at: usize,
-    free: usize,
-    quarantine_at: usize,
-    quarantine: usize,
-    scratch: &mut [u8],
-) -> bool
-    requires { ⌜ SlotsParsed (now s) «slots_at» n ⌝ }
-    requires { ⌜ ValuesParsed 32 (now s) «free_at» free ⌝ }
-    requires { ⌜ ValuesParsed 32 (now s) «quarantine_at» quarantine ⌝ }
-    requires { ⌜ («slots_at» ≤ length (now s)) × («free_at» ≤ length (now s)) × («quarantine_at» ≤ length (now s)) × (1 ≤ length (now scratch)) ⌝ }
-    ensures { λ r. ⌜ r ≡ eachOnce (valuesAt 32 (now (s .entry)) «free_at» free ++ valuesAt 32 (now (s .entry)) «quarantine_at» quarantine) (slotsAt (now (s .entry)) «slots_at» n) 0 ⌝ }
-    ensures { λ _. ⌜ now (scratch .exit) ≡ replicate (length (now (scratch .entry))) 0 ⌝ }
+// How many of the slots that are left go into one run: one a bit.
+fn run_of(words: usize, left: usize) -> usize
+    ensures { λ r. ⌜ (r ≤ left) × (r ≤ 64 * words) ⌝ }
+    ensures { λ r. ⌜ (1 ≤ words → 1 ≤ left → 1 ≤ r) ⌝ }
 {
-    memory::clear_u8(scratch);
-    let mut ok = true;
-    let mut k = slots_at;
+    if left / 64 < words { left } else { 64 * words }
+}
+
+// Is each slot of a page in exactly one place: live, or once in one of the two lists? The lines of the slots are read once, the lists once a run:
+// one run where the lent words have a bit for each slot.
+fn partition(s: &[u8], x: Sections, row: &mut [u64]) -> bool
+    requires { ⌜ Sectioned (now s) x ⌝ }
+    requires { ⌜ 1 ≤ length (now row) ⌝ }
+    ensures { λ r. ⌜ r ≡ eachOnce (heapIn (now (s .entry)) .free ++ heapIn (now (s .entry)) .quarantine) (heapIn (now (s .entry)) .slots) 0 ⌝ }
+{
+    let mut k = x.slots_at;
     let mut base = 0;
-    while base < n {
-        let m = least(scratch.len(), n - base);
-        mark(s, free_at, free, base, scratch);
-        mark(s, quarantine_at, quarantine, base, scratch);
-        let c = check_chunk(s, k, m, scratch);
-        ok = both(ok, c.ok);
+    while base < x.slots {
+        let m = run_of(row.len(), x.slots - base);
+        let c = check_run(s, x, k, m, base, row);
+        if c.ok {} else {
+            return false;
+        }
         k = c.next;
-        memory::clear_u8(scratch);
         base += m;
     }
-    ok
+    true
 }
 
 // Whether the values of a list are as they are to be, and what comes after them.
@@ -335,10 +355,10 @@ pub struct HeadRead {
     pub since_gc: u64,
     pub reclaim_at: u64,
     pub live_bytes: u64,
-    pub slots: u64,
-    pub free: u64,
-    pub quarantine: u64,
-    pub sealed: u64,
+    pub slots: usize,
+    pub free: usize,
+    pub quarantine: usize,
+    pub sealed: usize,
     pub next: usize,
 }
 
@@ -380,10 +400,10 @@ pub fn get_head(s: &[u8], at: usize) -> HeadLine
         since_gc: u,
         reclaim_at: r,
         live_bytes: l,
-        slots: n,
-        free: f,
-        quarantine: q,
-        sealed: z,
+        slots: n as usize,
+        free: f as usize,
+        quarantine: q as usize,
+        sealed: z as usize,
         next: i,
     })
 }
@@ -423,112 +443,159 @@ pub enum Parsed {
     NotPage,
 }
 
-// Is a text a page? Nothing but the text is looked at.
-pub fn parse_page(s: &[u8]) -> Parsed
-    ensures { λ r. ⌜ Parsing (now (s .entry)) r ⌝ }
+fn assembled(
+    x: HeadRead,
+    slots_at: usize,
+    free_at: usize,
+    quarantine_at: usize,
+    sealed_at: usize,
+    size: usize,
+    sound: bool,
+) -> Sections
+    ensures { λ r. ⌜ r ≡ sectionsOf x «slots_at» «free_at» «quarantine_at» «sealed_at» size sound ⌝ }
+{
+    Sections {
+        tag: x.tag,
+        since_gc: x.since_gc,
+        reclaim_at: x.reclaim_at,
+        live_bytes: x.live_bytes,
+        slots: x.slots,
+        free: x.free,
+        quarantine: x.quarantine,
+        sealed: x.sealed,
+        slots_at: slots_at,
+        free_at: free_at,
+        quarantine_at: quarantine_at,
+        sealed_at: sealed_at,
+        size: size,
+        sound: sound,
+    }
+}
+
+// Reads the first two lines.
+fn head_section(s: &[u8]) -> HeadLine
+    ensures { λ r. ⌜ HeadSectioned (now (s .entry)) r ⌝ }
 {
     let Literal::Past(a) = text::expect(
         s,
         0,
         b"tag,since_gc,reclaim_at,live_bytes,slots,free,quarantine,sealed\n",
     ) else {
+        return HeadLine::NoHead;
+    };
+    get_head(s, a)
+}
+
+// The lines of slots after their names line: where they begin, then as `Slots`.
+pub enum SlotSection {
+    Found(usize, bool, usize, usize),
+    Lost,
+}
+
+// Reads the names line of the slots, then `count` slots.
+fn slot_section(s: &[u8], at: usize, count: usize) -> SlotSection
+    requires { ⌜ at ≤ length (now s) ⌝ }
+    ensures { λ r. ⌜ SlotSectioned (now (s .entry)) at count r ⌝ }
+{
+    let Literal::Past(b) = text::expect(s, at, b"generation,kind,type,start,writes,data\n") else {
+        return SlotSection::Lost;
+    };
+    let Slots::Lines(ok, size, next) = check_slots(s, b, count) else {
+        return SlotSection::Lost;
+    };
+    SlotSection::Found(b, ok, size, next)
+}
+
+// The values of a list after its name: where they begin, then as `Values`.
+pub enum ListSection {
+    Listed(usize, bool, usize),
+    Unlisted,
+}
+
+// Reads a list's name, then `count` slot indices: are all below n?
+fn index_section(s: &[u8], name: &[u8], at: usize, count: usize, n: usize) -> ListSection
+    requires { ⌜ at ≤ length (now s) ⌝ }
+    ensures { λ r. ⌜ ListSectioned 32 (now (name .entry)) (now (s .entry)) at count (all (λ i. ltb i n)) r ⌝ }
+{
+    let Literal::Past(b) = text::expect(s, at, name) else {
+        return ListSection::Unlisted;
+    };
+    let Values::Good(ok, next) = check_indices(s, b, count, n) else {
+        return ListSection::Unlisted;
+    };
+    ListSection::Listed(b, ok, next)
+}
+
+// Reads the name of the seals, then `count` seals: are they sound, slots rising?
+fn seal_section(s: &[u8], at: usize, count: usize, tag: u64, n: usize) -> ListSection
+    requires { ⌜ at ≤ length (now s) ⌝ }
+    ensures { λ r. ⌜ ListSectioned 64 sealedName (now (s .entry)) at count (soundSeals tag n 0) r ⌝ }
+{
+    let Literal::Past(b) = text::expect(s, at, b"sealed\n") else {
+        return ListSection::Unlisted;
+    };
+    let Values::Good(ok, next) = check_seals(s, b, count, tag, n) else {
+        return ListSection::Unlisted;
+    };
+    ListSection::Listed(b, ok, next)
+}
+
+// Is a text a page? Nothing but the text is looked at.
+pub fn parse_page(s: &[u8]) -> Parsed
+    ensures { λ r. ⌜ Parsing (now (s .entry)) r ⌝ }
+{
+    let HeadLine::Head(x) = head_section(s) else {
         return Parsed::NotPage;
     };
-    let HeadLine::Head(x) = get_head(s, a) else {
+    let SlotSection::Found(b, ok1, size, c) = slot_section(s, x.next, x.slots) else {
         return Parsed::NotPage;
     };
-    let n = x.slots as usize;
-    let nf = x.free as usize;
-    let nq = x.quarantine as usize;
-    let nz = x.sealed as usize;
-    let after = x.next;
-    let Literal::Past(b) = text::expect(s, after, b"generation,kind,type,start,writes,data\n")
+    let ListSection::Listed(d, ok2, e) = index_section(s, b"free\n", c, x.free, x.slots) else {
+        return Parsed::NotPage;
+    };
+    let ListSection::Listed(g, ok3, i) = index_section(s, b"quarantine\n", e, x.quarantine, x.slots)
     else {
         return Parsed::NotPage;
     };
-    let Slots::Lines(ok1, size, c) = check_slots(s, b, n) else {
-        return Parsed::NotPage;
-    };
-    let Literal::Past(d) = text::expect(s, c, b"free\n") else {
-        return Parsed::NotPage;
-    };
-    let Values::Good(ok2, e) = check_indices(s, d, nf, n) else {
-        return Parsed::NotPage;
-    };
-    let Literal::Past(g) = text::expect(s, e, b"quarantine\n") else {
-        return Parsed::NotPage;
-    };
-    let Values::Good(ok3, i) = check_indices(s, g, nq, n) else {
-        return Parsed::NotPage;
-    };
-    let Literal::Past(j) = text::expect(s, i, b"sealed\n") else {
-        return Parsed::NotPage;
-    };
-    let Values::Good(ok4, k) = check_seals(s, j, nz, x.tag, n) else {
+    let ListSection::Listed(j, ok4, k) = seal_section(s, i, x.sealed, x.tag, x.slots) else {
         return Parsed::NotPage;
     };
     if k < s.len() {
         return Parsed::NotPage;
     }
     let sound = sound_parts(ok1, ok2, ok3, ok4, x.reclaim_at);
-    Parsed::Page(Sections {
-        tag: x.tag,
-        since_gc: x.since_gc,
-        reclaim_at: x.reclaim_at,
-        live_bytes: x.live_bytes,
-        slots: n,
-        free: nf,
-        quarantine: nq,
-        sealed: nz,
-        slots_at: b,
-        free_at: d,
-        quarantine_at: g,
-        sealed_at: j,
-        size: size,
-        sound: sound,
-    })
+    Parsed::Page(assembled(x, b, d, g, j, size, sound))
 }
 
 // What the first pass tells of a text: a page that can be read, or why it is refused.
 pub enum Checked {
     Page(Sections),
-    NotPage,
-    Broken,
-    NoRoom,
-    Full,
+    Not(Refusal),
 }
 
 // The first pass: is a text the page of a sound heap that fits into `lent` slots and `room` bytes? `sizes` says whether the lent sizes are in range.
-pub fn check_page(s: &[u8], sizes: bool, lent: usize, room: usize, marks: &mut [u8]) -> Checked
-    requires { ⌜ (sizes ≡ true → 1 ≤ length (now marks)) ⌝ }
+pub fn check_page(s: &[u8], sizes: bool, lent: usize, room: usize, work: &mut [u64]) -> Checked
+    requires { ⌜ (sizes ≡ true → 1 ≤ length (now work)) ⌝ }
     ensures { λ r. ⌜ Checking (now (s .entry)) (verdict sizes lent room (readPage (now (s .entry)))) r ⌝ }
-    ensures { λ _. ⌜ now (marks .exit) ≡ replicate (length (now (marks .entry))) 0 ⌝ }
+    ensures { λ _. ⌜ now (work .exit) ≡ replicate (length (now (work .entry))) 0 ⌝ }
 {
-    memory::clear_u8(marks);
+    memory::clear_u64(work);
     let Parsed::Page(x) = parse_page(s) else {
-        return Checked::NotPage;
+        return Checked::Not(Refusal::Page);
     };
-    if sizes {} else {
-        return Checked::Broken;
+    if both(sizes, x.sound) {} else {
+        return Checked::Not(Refusal::BrokenHeap);
     }
-    let once = partition(
-        s,
-        x.slots_at,
-        x.slots,
-        x.free_at,
-        x.free,
-        x.quarantine_at,
-        x.quarantine,
-        marks,
-    );
-    if both(x.sound, once) {} else {
-        return Checked::Broken;
+    let once = partition(s, x, work);
+    memory::clear_u64(work);
+    if once {} else {
+        return Checked::Not(Refusal::BrokenHeap);
     }
     if room < x.size {
-        return Checked::NoRoom;
+        return Checked::Not(Refusal::NoRoom);
     }
     if lent < x.slots {
-        return Checked::Full;
+        return Checked::Not(Refusal::Full);
     }
     Checked::Page(x)
 }

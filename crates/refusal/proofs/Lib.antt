@@ -1,0 +1,3 @@
+-- What the proofs and other crates' proofs cite.
+pub mod Cases
+pub mod Numbers
