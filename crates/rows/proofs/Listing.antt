@@ -25,6 +25,20 @@ after W row i = passing (bitIn W row) (i * W) ((length row - i) * W)
 unfoldable pub leftover : (W : ℕ) (row : List ℕ) (i rest : ℕ) → List ℕ
 leftover W row i rest = onesFrom W rest (i * W) ++ after W row (i + 1)
 
+-- one position
+module _ (p : ℕ → Bool) (i : ℕ) where
+  pub passing-one : p i ≡ true → passing p i 1 ≡ i ∷ []
+  unfolding passing
+  passing-one e = ap (λ (b : Bool). keep b i []) e
+
+  pub passing-not : p i ≡ false → passing p i 1 ≡ []
+  unfolding passing
+  passing-not e = ap (λ (b : Bool). keep b i []) e
+
+-- one more position
+pub passing-snoc : (p : ℕ → Bool) (i : ℕ) → passing p 0 (i + 1) ≡ passing p 0 i ++ passing p i 1
+passing-snoc p i = passing-append p 0 i 1 ∙ ap (λ (b : ℕ). passing p 0 i ++ passing p b 1) (zero-add i)
+
 -- past a list there are zeros
 pub getD-past : (l : List ℕ) (k : ℕ) → length l ≤ k → getD l k 0 ≡ 0
 getD-past [] k h = refl
