@@ -222,9 +222,9 @@ fn live(table: &mut Table, blocks: usize, registers: usize) {
     let there = roots::live_refs(&prog, &rust, false);
     assert!(map.len() == blocks && map.iter().all(|(pc, regs)| there.get(*pc).unwrap().iter().map(|r| r.0).eq(regs.iter().copied())));
     let total = map.iter().map(|m| m.1.len()).sum::<usize>();
-    let (mut scratch, mut pcs, mut bounds, mut regs) = (vec![0; port.scratch_words()], vec![0; map.len()], vec![0; map.len()], vec![0; total]);
+    let (mut pcs, mut bounds, mut regs, mut rows) = (vec![0; map.len()], vec![0; map.len()], vec![0; total], vec![0; port.scratch_words()]);
     let a = time(|| {
-        black_box(port.live_refs_into(Wanted::References, &mut scratch, &mut pcs, &mut bounds, &mut regs).unwrap());
+        black_box(port.live_refs_into(Wanted::References, &mut pcs, &mut bounds, &mut regs, &mut rows).unwrap());
     });
     let b = time(|| {
         black_box(roots::live_refs(&prog, &rust, false));

@@ -1,4 +1,4 @@
-//! The page's text (docs/FORMAT.md) in plain Rust, over the columns that the port has: what the port's writer and reader are measured against. The reader takes a good page for granted
+//! The page's text (docs/FORMAT.md) in plain Rust, over the memory that the port has: what the port's writer and reader are measured against. The reader takes a good page for granted
 //! beyond what it must parse: it does not see whether the heap is well formed.
 use std::fmt::Write;
 use yexwalu::{Heap, Header, Memory};
@@ -18,23 +18,24 @@ fn lines<T: std::fmt::Display>(values: &[T], out: &mut String) {
 
 pub fn write(heap: &Heap, out: &mut String) {
     let (h, m) = (heap.header(), heap.memory());
+    let (generation, kind, ty, start, end, writes) = (m.generation(), m.kind(), m.ty(), m.start(), m.end(), m.writes());
     out.clear();
     out.push_str("tag,since_gc,reclaim_at,live_bytes,slots,free,quarantine,sealed\n");
     let _ = writeln!(out, "{},{},{},{},{},{},{},{}", h.tag, h.since_gc, h.reclaim_at, h.live_bytes, h.slots, h.free, h.quarantine, h.sealed);
     out.push_str("generation,kind,type,start,writes,data\n");
     let mut from = 0;
     for i in 0..h.slots {
-        let _ = write!(out, "{},{},{},{},{},", m.generation[i], m.kind[i], m.ty[i], m.start[i], m.writes[i]);
-        hex(&m.pool[from..m.end[i]], out);
+        let _ = write!(out, "{},{},{},{},{},", generation[i], kind[i], ty[i], start[i], writes[i]);
+        hex(&m.pool[from..end[i] as usize], out);
         out.push('\n');
-        from = m.end[i];
+        from = end[i] as usize;
     }
     out.push_str("free\n");
-    lines(&m.free[..h.free], out);
+    lines(&m.free()[..h.free], out);
     out.push_str("quarantine\n");
-    lines(&m.quarantine[..h.quarantine], out);
+    lines(&m.quarantine()[..h.quarantine], out);
     out.push_str("sealed\n");
-    lines(&m.sealed[..h.sealed], out);
+    lines(&m.sealed()[..h.sealed], out);
 }
 
 fn digit(b: u8) -> Option<u8> {
@@ -74,34 +75,39 @@ pub fn read(text: &[u8], m: &mut Memory) -> Option<Header> {
     }
     let mut numbers = lines.next()?.split(',').map(|n| n.parse::<u64>().ok());
     let mut number = || numbers.next()?;
-    let h = Header {
-        tag: number()? as u8,
-        since_gc: number()?,
-        reclaim_at: number()? as usize,
-        live_bytes: number()?,
-        slots: number()? as usize,
-        free: number()? as usize,
-        quarantine: number()? as usize,
-        sealed: number()? as usize,
-        ..Header::default()
-    };
+    let mut h = Header::default();
+    h.tag = number()? as u8;
+    h.since_gc = number()?;
+    h.reclaim_at = number()? as usize;
+    h.live_bytes = number()?;
+    h.slots = number()? as usize;
+    h.free = number()? as usize;
+    h.quarantine = number()? as usize;
+    h.sealed = number()? as usize;
     if lines.next()? != "generation,kind,type,start,writes,data" {
         return None;
     }
-    let mut at = 0;
+    let (mut at, slots) = (0, m.slots());
+    let (start, rest) = m.wide.split_at_mut(slots);
+    let (end, rest) = rest.split_at_mut(slots);
+    let (writes, sealed) = rest.split_at_mut(slots);
+    let (generation, rest) = m.narrow.split_at_mut(slots);
+    let (kind, rest) = rest.split_at_mut(slots);
+    let (ty, rest) = rest.split_at_mut(slots);
+    let (free, quarantine) = rest.split_at_mut(slots);
     for i in 0..h.slots {
         let mut fields = lines.next()?.split(',');
         let mut number = || fields.next()?.parse::<u64>().ok();
-        *m.generation.get_mut(i)? = number()? as u32;
-        m.kind[i] = number()? as u8;
-        m.ty[i] = number()? as u32;
-        m.start[i] = number()? as usize;
-        m.writes[i] = number()? as u32;
+        *generation.get_mut(i)? = number()? as u32;
+        kind[i] = number()? as u32;
+        ty[i] = number()? as u32;
+        start[i] = number()?;
+        writes[i] = number()?;
         at = decode(fields.next()?, &mut m.pool, at)?;
-        m.end[i] = at;
+        end[i] = at as u64;
     }
-    list(&mut lines, "free", m.free.get_mut(..h.free)?)?;
-    list(&mut lines, "quarantine", m.quarantine.get_mut(..h.quarantine)?)?;
-    list(&mut lines, "sealed", m.sealed.get_mut(..h.sealed)?)?;
+    list(&mut lines, "free", free.get_mut(..h.free)?)?;
+    list(&mut lines, "quarantine", quarantine.get_mut(..h.quarantine)?)?;
+    list(&mut lines, "sealed", sealed.get_mut(..h.sealed)?)?;
     Some(h)
 }

@@ -13,12 +13,11 @@
 #define POOL 4096
 #define TEXT (256 + 96 * SLOTS + 2 * POOL)
 
-static uint32_t generation[SLOTS], ty[SLOTS], writes[SLOTS], free_list[SLOTS], quarantine[SLOTS];
-static uint8_t kind[SLOTS], pool[POOL], marks[SLOTS], text[TEXT], object[POOL], room[POOL];
-static size_t start[SLOTS], end[SLOTS];
-static uint64_t sealed[SLOTS], work[SLOTS];
+static uint32_t narrow[YEXWALU_NARROW_RUNS * SLOTS];
+static uint64_t wide[YEXWALU_WIDE_RUNS * SLOTS], work[SLOTS];
+static uint8_t pool[POOL], marks[SLOTS], text[TEXT], object[POOL], room[POOL];
 
-static const yexwalu_memory memory = {SLOTS, POOL, generation, kind, ty, start, end, writes, pool, free_list, quarantine, sealed, marks, work};
+static const yexwalu_memory memory = {SLOTS, POOL, narrow, wide, pool, marks, work};
 
 static int failed(const char *call, yexwalu_answer a) {
     fprintf(stderr, "%s: %llu\n", call, (unsigned long long)a.number);
@@ -26,29 +25,29 @@ static int failed(const char *call, yexwalu_answer a) {
 }
 
 int main(void) {
-    yexwalu_done made = yexwalu_new(1, YEXWALU_COLUMNS(memory), YEXWALU_SCRATCH(memory));
-    if (made.answer.number != 0) return failed("new", made.answer);
+    yexwalu_done made = yexwalu_new(1, YEXWALU_LISTS(memory), YEXWALU_MARKS(memory));
+    if (made.answer.number != YEXWALU_OK) return failed("new", made.answer);
 
     static const uint8_t bytes[2] = {'A', 'B'};
-    yexwalu_done placed = yexwalu_alloc_from(made.heap, YEXWALU_COLUMNS(memory), YEXWALU_SCRATCH(memory), 2, 0, 0, bytes, sizeof bytes);
-    if (placed.answer.number != 0 || placed.answer.first != 72057594037927937u) return failed("alloc_from", placed.answer);
+    yexwalu_done placed = yexwalu_alloc_from(made.heap, YEXWALU_LISTS(memory), YEXWALU_BYTES, 0, 0, bytes, sizeof bytes, YEXWALU_MARKS(memory));
+    if (placed.answer.number != YEXWALU_OK || placed.answer.first != 72057594037927937u) return failed("alloc_from", placed.answer);
     uint64_t handle = placed.answer.first;
 
-    yexwalu_answer page = yexwalu_write_page(placed.heap, YEXWALU_COLUMNS(memory), text, sizeof text, YEXWALU_SCRATCH(memory));
-    if (page.number != 0) return failed("write_page", page);
+    yexwalu_answer page = yexwalu_write_page(placed.heap, YEXWALU_LISTS(memory), text, sizeof text, YEXWALU_MARKS(memory));
+    if (page.number != YEXWALU_OK) return failed("write_page", page);
     fwrite(text, 1, page.first, stdout);
 
-    yexwalu_done read = yexwalu_read_page(placed.heap, text, page.first, YEXWALU_COLUMNS(memory), YEXWALU_SCRATCH(memory));
-    if (read.answer.number != 0) return failed("read_page", read.answer);
+    yexwalu_done read = yexwalu_read_page(placed.heap, YEXWALU_LISTS(memory), text, page.first, YEXWALU_MARKS(memory));
+    if (read.answer.number != YEXWALU_OK) return failed("read_page", read.answer);
 
-    yexwalu_done taken = yexwalu_take(read.heap, YEXWALU_COLUMNS(memory), YEXWALU_SCRATCH(memory), handle, object, sizeof object);
-    if (taken.answer.number != 0 || taken.answer.first != 2 || memcmp(object, bytes, 2) != 0) return failed("take", taken.answer);
+    yexwalu_done taken = yexwalu_take(read.heap, YEXWALU_LISTS(memory), handle, object, sizeof object, YEXWALU_MARKS(memory));
+    if (taken.answer.number != YEXWALU_OK || taken.answer.first != 2 || memcmp(object, bytes, 2) != 0) return failed("take", taken.answer);
 
-    yexwalu_answer gone = yexwalu_resolve(taken.heap, YEXWALU_COLUMNS(memory), YEXWALU_SCRATCH(memory), handle);
-    if (gone.number != 4) return failed("resolve", gone);
+    yexwalu_answer gone = yexwalu_resolve(taken.heap, YEXWALU_LISTS(memory), handle, YEXWALU_MARKS(memory));
+    if (gone.number != YEXWALU_STALE) return failed("resolve", gone);
 
     static const char script[] = "recycle,0,0,\nalloc,0,2,4344\nseal,0,0,\n";
-    yexwalu_done ran = yexwalu_run(taken.heap, YEXWALU_COLUMNS(memory), YEXWALU_SCRATCH(memory), room, sizeof room, (const uint8_t *)script, sizeof script - 1);
-    if (ran.answer.number != 0 || ran.heap.sealed != 1 || memcmp(pool, "CD", 2) != 0) return failed("run", ran.answer);
+    yexwalu_done ran = yexwalu_run(taken.heap, YEXWALU_LISTS(memory), (const uint8_t *)script, sizeof script - 1, room, sizeof room, YEXWALU_MARKS(memory));
+    if (ran.answer.number != YEXWALU_OK || ran.heap.sealed != 1 || memcmp(pool, "CD", 2) != 0) return failed("run", ran.answer);
     return 0;
 }

@@ -1,18 +1,21 @@
 /*
  * The heap of a saved VHDL run, with its type layouts and root maps: the calls that libyexwalu.a exports.
  *
- * Each call is proved to do what its contract in crates/export_... says, for all values of its parameters. What a caller owes is what C always asks: a pointer
- * leads to as many elements as the length after it says, is aligned and not null (also where the length is 0), memory that a call may write is lent
- * to no other parameter of it, and a bool is 0 or 1. Calls allocate nothing, keep no pointer and have no state of their own.
+ * Each call is proved to do what its contract says, in the crate that has it (crates/heap_door, object_door, collect_door, page_door, run_door and yexwalu), for all
+ * values of its parameters. What a caller owes is what C always asks: a pointer leads to as many elements as the length after it says, is aligned and not null (also
+ * where the length is 0), memory that a call may write is lent to no other parameter of it, and a bool is 0 or 1. Calls allocate nothing, keep no pointer and have no
+ * state of their own.
  *
  * An answer has document 01's number, 0 for success, and up to two values, zeros after a refusal. A refusal changes nothing, but 5 in alloc and
  * alloc_from (since_gc), 9 in a write to a live slot with nothing visible (its write count), run, whose lines before the refused one keep their effect, and
- * scratch, which is zero after all answers but 18.
- * The numbers: 1 broken heap, 2 null, 3 wrong heap, 4 stale, 5 full, 6 no room, 7 short list, 8 kind, 9 nothing there, 10 type table, 11 malformed, 12 too large,
- * 13 untraceable, 14 pins, 15 function, 16 no map, 17 page, 18 scratch.
+ * scratch, which is zero after all answers but 18. Numbers after a call's comment are its refusals.
  *
- * A heap lies in ten lent columns and a header. All columns but the pool are as long as the heap has slots. The header goes in by value and comes back in the
- * answer of a call that may change it: take it from there, after a refusal too. `marks` and `work` are scratch, each at least as long as there are slots.
+ * A heap of S slots lies in a header and three lists:
+ *   narrow   six runs of S numbers, run after run: generation, kind (0 dead, 1 Typed, 2 Bytes, 3 Handles), type, free list, quarantine, retired slots
+ *   wide     four runs of S numbers: start, end, writes, sealed handles
+ *   pool     the data of all objects, in slot order from byte 0 on
+ * The header goes in by value and comes back in the answer of a call that may change it: take it from there, after a refusal too. `marks` and `work` are scratch,
+ * each at least as long as there are slots.
  */
 #ifndef YEXWALU_H
 #define YEXWALU_H
@@ -25,6 +28,42 @@
 extern "C" {
 #endif
 
+/* Document 01's numbers. There may become more. */
+enum {
+    YEXWALU_OK = 0,
+    YEXWALU_BROKEN_HEAP = 1,
+    YEXWALU_NULL = 2,
+    YEXWALU_WRONG_HEAP = 3,
+    YEXWALU_STALE = 4,
+    YEXWALU_FULL = 5,
+    YEXWALU_NO_ROOM = 6,
+    YEXWALU_SHORT_LIST = 7,
+    YEXWALU_KIND = 8,
+    YEXWALU_NOTHING_THERE = 9,
+    YEXWALU_TYPE_TABLE = 10,
+    YEXWALU_MALFORMED = 11,
+    YEXWALU_TOO_LARGE = 12,
+    YEXWALU_UNTRACEABLE = 13,
+    YEXWALU_PINS = 14,
+    YEXWALU_FUNCTION = 15,
+    YEXWALU_NO_MAP = 16,
+    YEXWALU_PAGE = 17,
+    YEXWALU_SCRATCH = 18
+};
+
+/* The kinds of objects. */
+enum {
+    YEXWALU_TYPED = 1,
+    YEXWALU_BYTES = 2,
+    YEXWALU_HANDLES = 3
+};
+
+/* How many runs of one entry a slot `narrow` and `wide` have. */
+enum {
+    YEXWALU_NARROW_RUNS = 6,
+    YEXWALU_WIDE_RUNS = 4
+};
+
 /* The numbers of a heap, and how many entries of the slots and of each list are in use. */
 typedef struct {
     uint8_t tag;
@@ -36,6 +75,7 @@ typedef struct {
     size_t slots;
     size_t free;
     size_t quarantine;
+    size_t retired;
     size_t sealed;
 } yexwalu_header;
 
@@ -70,372 +110,225 @@ typedef struct {
 typedef struct {
     size_t slots;
     size_t pool_size;
-    uint32_t *generation;
-    uint8_t *kind;
-    uint32_t *ty;
-    size_t *start;
-    size_t *end;
-    uint32_t *writes;
+    uint32_t *narrow;
+    uint64_t *wide;
     uint8_t *pool;
-    uint32_t *free;
-    uint32_t *quarantine;
-    uint64_t *sealed;
     uint8_t *marks;
     uint64_t *work;
 } yexwalu_memory;
 
-/* The columns and the scratch of a yexwalu_memory, as the calls take them. */
-#define YEXWALU_COLUMNS(m) \
-    (m).generation, (m).slots, (m).kind, (m).slots, (m).ty, (m).slots, (m).start, (m).slots, (m).end, (m).slots, (m).writes, (m).slots, \
-    (m).pool, (m).pool_size, (m).free, (m).slots, (m).quarantine, (m).slots, (m).sealed, (m).slots
-#define YEXWALU_SCRATCH(m) (m).marks, (m).slots, (m).work, (m).slots
+/* The lists and the scratch of a yexwalu_memory, as the calls take them. */
+#define YEXWALU_LISTS(m) (m).narrow, YEXWALU_NARROW_RUNS * (m).slots, (m).wide, YEXWALU_WIDE_RUNS * (m).slots, (m).pool, (m).pool_size
+#define YEXWALU_MARKS(m) (m).marks, (m).slots, (m).work, (m).slots
 
 /* ---- A heap, and its objects ---- */
 
-/* Makes an empty heap of the tag in the lent memory: all of it is cleared. Slots 1 to 16,777,216, pool at most 1,073,741,824 bytes, otherwise 1. */
+/* Makes an empty heap of the tag in the lent memory: all of it is cleared. Slots 1 to 16,777,216, pool at most 1,073,741,824 bytes, otherwise 1. 18, 1. */
 yexwalu_done yexwalu_new(
     uint8_t tag,
-    uint32_t *generation, size_t generation_len,
-    uint8_t *kind, size_t kind_len,
-    uint32_t *ty, size_t ty_len,
-    size_t *start, size_t start_len,
-    size_t *end, size_t end_len,
-    uint32_t *writes, size_t writes_len,
+    uint32_t *narrow, size_t narrow_len,
+    uint64_t *wide, size_t wide_len,
     uint8_t *pool, size_t pool_len,
-    uint32_t *free, size_t free_len,
-    uint32_t *quarantine, size_t quarantine_len,
-    uint64_t *sealed, size_t sealed_len,
     uint8_t *marks, size_t marks_len,
     uint64_t *work, size_t work_len);
 
-/* Places the object `bytes`, visible from byte `s` on, of kind `k` (1 Typed, 2 Bytes, 3 Handles) and type `t`. first: its handle. 18, 1, 8, 6, 5. */
+/* Places the object `bytes`, visible from byte `start` on, of a kind (1 Typed, 2 Bytes, 3 Handles) and a type. first: its handle. 18, 1, 8, 6, 5. */
 yexwalu_done yexwalu_alloc_from(
     yexwalu_header heap,
-    uint32_t *generation, size_t generation_len,
-    uint8_t *kind, size_t kind_len,
-    uint32_t *ty, size_t ty_len,
-    size_t *start, size_t start_len,
-    size_t *end, size_t end_len,
-    uint32_t *writes, size_t writes_len,
+    uint32_t *narrow, size_t narrow_len,
+    uint64_t *wide, size_t wide_len,
     uint8_t *pool, size_t pool_len,
-    uint32_t *free, size_t free_len,
-    const uint32_t *quarantine, size_t quarantine_len,
-    const uint64_t *sealed, size_t sealed_len,
+    uint8_t kind,
+    uint32_t ty,
+    size_t start,
+    const uint8_t *bytes, size_t bytes_len,
     uint8_t *marks, size_t marks_len,
-    uint64_t *work, size_t work_len,
-    uint8_t k,
-    uint32_t t,
-    size_t s,
-    const uint8_t *bytes, size_t bytes_len);
+    uint64_t *work, size_t work_len);
 
 /* As alloc_from, all of `bytes` visible. first: its handle. 18, 1, 8, 6, 5. */
 yexwalu_done yexwalu_alloc(
     yexwalu_header heap,
-    uint32_t *generation, size_t generation_len,
-    uint8_t *kind, size_t kind_len,
-    uint32_t *ty, size_t ty_len,
-    size_t *start, size_t start_len,
-    size_t *end, size_t end_len,
-    uint32_t *writes, size_t writes_len,
+    uint32_t *narrow, size_t narrow_len,
+    uint64_t *wide, size_t wide_len,
     uint8_t *pool, size_t pool_len,
-    uint32_t *free, size_t free_len,
-    const uint32_t *quarantine, size_t quarantine_len,
-    const uint64_t *sealed, size_t sealed_len,
+    uint8_t kind,
+    uint32_t ty,
+    const uint8_t *bytes, size_t bytes_len,
     uint8_t *marks, size_t marks_len,
-    uint64_t *work, size_t work_len,
-    uint8_t k,
-    uint32_t t,
-    const uint8_t *bytes, size_t bytes_len);
+    uint64_t *work, size_t work_len);
 
-/* Hands out the whole data of an object, and removes it; its slot goes into quarantine. first: its length, second: its start. 18, 1, 2, 3, 4, 7. */
+/* Takes an object out of the heap; its bytes stand at the front of `out`. first: how many, second: its start. 18, 1, 2, 3, 4, 7. */
 yexwalu_done yexwalu_take(
     yexwalu_header heap,
-    uint32_t *generation, size_t generation_len,
-    uint8_t *kind, size_t kind_len,
-    uint32_t *ty, size_t ty_len,
-    size_t *start, size_t start_len,
-    size_t *end, size_t end_len,
-    uint32_t *writes, size_t writes_len,
+    uint32_t *narrow, size_t narrow_len,
+    uint64_t *wide, size_t wide_len,
     uint8_t *pool, size_t pool_len,
-    const uint32_t *free, size_t free_len,
-    uint32_t *quarantine, size_t quarantine_len,
-    const uint64_t *sealed, size_t sealed_len,
+    uint64_t handle,
+    uint8_t *out, size_t out_len,
     uint8_t *marks, size_t marks_len,
-    uint64_t *work, size_t work_len,
-    uint64_t x,
-    uint8_t *out, size_t out_len);
+    uint64_t *work, size_t work_len);
 
-/* As take, without handing out the object. 18, 1, 2, 3, 4. */
+/* As take, and nobody gets the bytes. 18, 1, 2, 3, 4. */
 yexwalu_done yexwalu_free(
     yexwalu_header heap,
-    uint32_t *generation, size_t generation_len,
-    uint8_t *kind, size_t kind_len,
-    uint32_t *ty, size_t ty_len,
-    size_t *start, size_t start_len,
-    size_t *end, size_t end_len,
-    uint32_t *writes, size_t writes_len,
+    uint32_t *narrow, size_t narrow_len,
+    uint64_t *wide, size_t wide_len,
     uint8_t *pool, size_t pool_len,
-    const uint32_t *free, size_t free_len,
-    uint32_t *quarantine, size_t quarantine_len,
-    const uint64_t *sealed, size_t sealed_len,
+    uint64_t handle,
     uint8_t *marks, size_t marks_len,
-    uint64_t *work, size_t work_len,
-    uint64_t x);
+    uint64_t *work, size_t work_len);
 
-/* Slots in quarantine join the free list, but those pinned: slot indices, strictly rising (14). 18, 1, 14. */
+/* Moves the slots in quarantine but those pinned to the free list. Pins are slot indices, strictly rising (14). 18, 1, 14. */
 yexwalu_done yexwalu_recycle(
     yexwalu_header heap,
-    const uint32_t *generation, size_t generation_len,
-    const uint8_t *kind, size_t kind_len,
-    const uint32_t *ty, size_t ty_len,
-    const size_t *start, size_t start_len,
-    const size_t *end, size_t end_len,
-    const uint32_t *writes, size_t writes_len,
+    uint32_t *narrow, size_t narrow_len,
+    const uint64_t *wide, size_t wide_len,
     const uint8_t *pool, size_t pool_len,
-    uint32_t *free, size_t free_len,
-    uint32_t *quarantine, size_t quarantine_len,
-    const uint64_t *sealed, size_t sealed_len,
+    const uint32_t *pins, size_t pins_len,
     uint8_t *marks, size_t marks_len,
-    uint64_t *work, size_t work_len,
-    const uint32_t *pins, size_t pins_len);
+    uint64_t *work, size_t work_len);
 
-/* ---- Questions, and changes in place ---- */
+/* ---- Questions about a heap ---- */
 
-/* first: 1 if a collection is due, else 0. 18, 1. */
+/* first: 1 if more was allocated since the last collection than `threshold`, and than it left, else 0. 18, 1. */
 yexwalu_answer yexwalu_gc_due(
     yexwalu_header heap,
-    const uint32_t *generation, size_t generation_len,
-    const uint8_t *kind, size_t kind_len,
-    const uint32_t *ty, size_t ty_len,
-    const size_t *start, size_t start_len,
-    const size_t *end, size_t end_len,
-    const uint32_t *writes, size_t writes_len,
+    const uint32_t *narrow, size_t narrow_len,
+    const uint64_t *wide, size_t wide_len,
     const uint8_t *pool, size_t pool_len,
-    const uint32_t *free, size_t free_len,
-    const uint32_t *quarantine, size_t quarantine_len,
-    const uint64_t *sealed, size_t sealed_len,
+    uint64_t threshold,
     uint8_t *marks, size_t marks_len,
-    uint64_t *work, size_t work_len,
-    uint64_t threshold);
+    uint64_t *work, size_t work_len);
 
-/* first: 1 if the quarantine should be recycled, else 0. 18, 1. */
+/* first: 1 if so many slots are in quarantine that they should be recycled, else 0. 18, 1. */
 yexwalu_answer yexwalu_reclaim_due(
     yexwalu_header heap,
-    const uint32_t *generation, size_t generation_len,
-    const uint8_t *kind, size_t kind_len,
-    const uint32_t *ty, size_t ty_len,
-    const size_t *start, size_t start_len,
-    const size_t *end, size_t end_len,
-    const uint32_t *writes, size_t writes_len,
+    const uint32_t *narrow, size_t narrow_len,
+    const uint64_t *wide, size_t wide_len,
     const uint8_t *pool, size_t pool_len,
-    const uint32_t *free, size_t free_len,
-    const uint32_t *quarantine, size_t quarantine_len,
-    const uint64_t *sealed, size_t sealed_len,
     uint8_t *marks, size_t marks_len,
     uint64_t *work, size_t work_len);
 
-/* first: 1 if a slot is in quarantine, else 0. 18, 1. */
+/* first: 1 if any slot is in quarantine, else 0. 18, 1. */
 yexwalu_answer yexwalu_has_quarantine(
     yexwalu_header heap,
-    const uint32_t *generation, size_t generation_len,
-    const uint8_t *kind, size_t kind_len,
-    const uint32_t *ty, size_t ty_len,
-    const size_t *start, size_t start_len,
-    const size_t *end, size_t end_len,
-    const uint32_t *writes, size_t writes_len,
+    const uint32_t *narrow, size_t narrow_len,
+    const uint64_t *wide, size_t wide_len,
     const uint8_t *pool, size_t pool_len,
-    const uint32_t *free, size_t free_len,
-    const uint32_t *quarantine, size_t quarantine_len,
-    const uint64_t *sealed, size_t sealed_len,
     uint8_t *marks, size_t marks_len,
     uint64_t *work, size_t work_len);
 
-/* first: 1 if it is the heap of this tag with nothing sealed, else 0. 18, 1. */
+/* first: 1 if it is the heap of this tag, with nothing sealed, else 0. 18, 1. */
 yexwalu_answer yexwalu_is_plain(
     yexwalu_header heap,
-    const uint32_t *generation, size_t generation_len,
-    const uint8_t *kind, size_t kind_len,
-    const uint32_t *ty, size_t ty_len,
-    const size_t *start, size_t start_len,
-    const size_t *end, size_t end_len,
-    const uint32_t *writes, size_t writes_len,
+    const uint32_t *narrow, size_t narrow_len,
+    const uint64_t *wide, size_t wide_len,
     const uint8_t *pool, size_t pool_len,
-    const uint32_t *free, size_t free_len,
-    const uint32_t *quarantine, size_t quarantine_len,
-    const uint64_t *sealed, size_t sealed_len,
-    uint8_t *marks, size_t marks_len,
-    uint64_t *work, size_t work_len,
-    uint8_t tag);
-
-/* first: the number of slots, live and dead. 18, 1. */
-yexwalu_answer yexwalu_slots(
-    yexwalu_header heap,
-    const uint32_t *generation, size_t generation_len,
-    const uint8_t *kind, size_t kind_len,
-    const uint32_t *ty, size_t ty_len,
-    const size_t *start, size_t start_len,
-    const size_t *end, size_t end_len,
-    const uint32_t *writes, size_t writes_len,
-    const uint8_t *pool, size_t pool_len,
-    const uint32_t *free, size_t free_len,
-    const uint32_t *quarantine, size_t quarantine_len,
-    const uint64_t *sealed, size_t sealed_len,
+    uint8_t tag,
     uint8_t *marks, size_t marks_len,
     uint64_t *work, size_t work_len);
 
-/* first: the number of live slots. 18, 1. */
+/* first: how many slots are in use, live and dead. 18, 1. */
+yexwalu_answer yexwalu_slots(
+    yexwalu_header heap,
+    const uint32_t *narrow, size_t narrow_len,
+    const uint64_t *wide, size_t wide_len,
+    const uint8_t *pool, size_t pool_len,
+    uint8_t *marks, size_t marks_len,
+    uint64_t *work, size_t work_len);
+
+/* first: how many slots are live. 18, 1. */
 yexwalu_answer yexwalu_live(
     yexwalu_header heap,
-    const uint32_t *generation, size_t generation_len,
-    const uint8_t *kind, size_t kind_len,
-    const uint32_t *ty, size_t ty_len,
-    const size_t *start, size_t start_len,
-    const size_t *end, size_t end_len,
-    const uint32_t *writes, size_t writes_len,
+    const uint32_t *narrow, size_t narrow_len,
+    const uint64_t *wide, size_t wide_len,
     const uint8_t *pool, size_t pool_len,
-    const uint32_t *free, size_t free_len,
-    const uint32_t *quarantine, size_t quarantine_len,
-    const uint64_t *sealed, size_t sealed_len,
     uint8_t *marks, size_t marks_len,
     uint64_t *work, size_t work_len);
 
 /* first: the slot that a handle leads to. 18, 1, 2, 3, 4. */
 yexwalu_answer yexwalu_resolve(
     yexwalu_header heap,
-    const uint32_t *generation, size_t generation_len,
-    const uint8_t *kind, size_t kind_len,
-    const uint32_t *ty, size_t ty_len,
-    const size_t *start, size_t start_len,
-    const size_t *end, size_t end_len,
-    const uint32_t *writes, size_t writes_len,
+    const uint32_t *narrow, size_t narrow_len,
+    const uint64_t *wide, size_t wide_len,
     const uint8_t *pool, size_t pool_len,
-    const uint32_t *free, size_t free_len,
-    const uint32_t *quarantine, size_t quarantine_len,
-    const uint64_t *sealed, size_t sealed_len,
+    uint64_t handle,
     uint8_t *marks, size_t marks_len,
-    uint64_t *work, size_t work_len,
-    uint64_t x);
+    uint64_t *work, size_t work_len);
 
-/* Where the visible data of slot `i` lies. first: from which byte of the pool on, second: how many bytes. 18, 1, 9. */
+/* first: where the visible data of slot `i` begins in the pool, second: how many bytes. 18, 1, 9. */
 yexwalu_answer yexwalu_data(
     yexwalu_header heap,
-    const uint32_t *generation, size_t generation_len,
-    const uint8_t *kind, size_t kind_len,
-    const uint32_t *ty, size_t ty_len,
-    const size_t *start, size_t start_len,
-    const size_t *end, size_t end_len,
-    const uint32_t *writes, size_t writes_len,
+    const uint32_t *narrow, size_t narrow_len,
+    const uint64_t *wide, size_t wide_len,
     const uint8_t *pool, size_t pool_len,
-    const uint32_t *free, size_t free_len,
-    const uint32_t *quarantine, size_t quarantine_len,
-    const uint64_t *sealed, size_t sealed_len,
+    size_t i,
     uint8_t *marks, size_t marks_len,
-    uint64_t *work, size_t work_len,
-    size_t i);
+    uint64_t *work, size_t work_len);
 
 /* first: the kind of slot `i`, second: its type. 18, 1, 9. */
 yexwalu_answer yexwalu_kind(
     yexwalu_header heap,
-    const uint32_t *generation, size_t generation_len,
-    const uint8_t *kind, size_t kind_len,
-    const uint32_t *ty, size_t ty_len,
-    const size_t *start, size_t start_len,
-    const size_t *end, size_t end_len,
-    const uint32_t *writes, size_t writes_len,
+    const uint32_t *narrow, size_t narrow_len,
+    const uint64_t *wide, size_t wide_len,
     const uint8_t *pool, size_t pool_len,
-    const uint32_t *free, size_t free_len,
-    const uint32_t *quarantine, size_t quarantine_len,
-    const uint64_t *sealed, size_t sealed_len,
+    size_t i,
     uint8_t *marks, size_t marks_len,
-    uint64_t *work, size_t work_len,
-    size_t i);
+    uint64_t *work, size_t work_len);
 
 /* first: the generation of slot `i`, second: its write count. 18, 1, 9. */
 yexwalu_answer yexwalu_stamp(
     yexwalu_header heap,
-    const uint32_t *generation, size_t generation_len,
-    const uint8_t *kind, size_t kind_len,
-    const uint32_t *ty, size_t ty_len,
-    const size_t *start, size_t start_len,
-    const size_t *end, size_t end_len,
-    const uint32_t *writes, size_t writes_len,
+    const uint32_t *narrow, size_t narrow_len,
+    const uint64_t *wide, size_t wide_len,
     const uint8_t *pool, size_t pool_len,
-    const uint32_t *free, size_t free_len,
-    const uint32_t *quarantine, size_t quarantine_len,
-    const uint64_t *sealed, size_t sealed_len,
+    size_t i,
     uint8_t *marks, size_t marks_len,
-    uint64_t *work, size_t work_len,
-    size_t i);
+    uint64_t *work, size_t work_len);
+
+/* ---- Changes in place ---- */
 
 /* A new handle for slot `i`, also for a dead one. first: the handle. 18, 1, 9. */
 yexwalu_done yexwalu_reissue(
     yexwalu_header heap,
-    uint32_t *generation, size_t generation_len,
-    const uint8_t *kind, size_t kind_len,
-    const uint32_t *ty, size_t ty_len,
-    const size_t *start, size_t start_len,
-    const size_t *end, size_t end_len,
-    uint32_t *writes, size_t writes_len,
+    uint32_t *narrow, size_t narrow_len,
+    uint64_t *wide, size_t wide_len,
     const uint8_t *pool, size_t pool_len,
-    const uint32_t *free, size_t free_len,
-    const uint32_t *quarantine, size_t quarantine_len,
-    const uint64_t *sealed, size_t sealed_len,
-    uint8_t *marks, size_t marks_len,
-    uint64_t *work, size_t work_len,
     size_t i,
-    uint64_t grown);
+    uint64_t grown,
+    uint8_t *marks, size_t marks_len,
+    uint64_t *work, size_t work_len);
 
 /* New bytes and a new start for an object. first: its slot. 18, 1, 2, 3, 4, 6. */
 yexwalu_done yexwalu_edit(
     yexwalu_header heap,
-    const uint32_t *generation, size_t generation_len,
-    const uint8_t *kind, size_t kind_len,
-    const uint32_t *ty, size_t ty_len,
-    size_t *start, size_t start_len,
-    size_t *end, size_t end_len,
-    uint32_t *writes, size_t writes_len,
+    uint32_t *narrow, size_t narrow_len,
+    uint64_t *wide, size_t wide_len,
     uint8_t *pool, size_t pool_len,
-    const uint32_t *free, size_t free_len,
-    const uint32_t *quarantine, size_t quarantine_len,
-    const uint64_t *sealed, size_t sealed_len,
-    uint8_t *marks, size_t marks_len,
-    uint64_t *work, size_t work_len,
-    uint64_t x,
+    uint64_t handle,
     const uint8_t *bytes, size_t bytes_len,
-    size_t first);
+    size_t start,
+    uint8_t *marks, size_t marks_len,
+    uint64_t *work, size_t work_len);
 
 /* Bytes over the visible data of slot `i`, from the offset `at` in it. 18, 1, 9. */
 yexwalu_answer yexwalu_write(
     yexwalu_header heap,
-    const uint32_t *generation, size_t generation_len,
-    const uint8_t *kind, size_t kind_len,
-    const uint32_t *ty, size_t ty_len,
-    const size_t *start, size_t start_len,
-    const size_t *end, size_t end_len,
-    uint32_t *writes, size_t writes_len,
+    const uint32_t *narrow, size_t narrow_len,
+    uint64_t *wide, size_t wide_len,
     uint8_t *pool, size_t pool_len,
-    const uint32_t *free, size_t free_len,
-    const uint32_t *quarantine, size_t quarantine_len,
-    const uint64_t *sealed, size_t sealed_len,
-    uint8_t *marks, size_t marks_len,
-    uint64_t *work, size_t work_len,
     size_t i,
     size_t at,
-    const uint8_t *bytes, size_t bytes_len);
+    const uint8_t *bytes, size_t bytes_len,
+    uint8_t *marks, size_t marks_len,
+    uint64_t *work, size_t work_len);
 
 /* The seals become the handles of all live slots. 18, 1. */
 yexwalu_done yexwalu_seal(
     yexwalu_header heap,
-    const uint32_t *generation, size_t generation_len,
-    const uint8_t *kind, size_t kind_len,
-    const uint32_t *ty, size_t ty_len,
-    const size_t *start, size_t start_len,
-    const size_t *end, size_t end_len,
-    const uint32_t *writes, size_t writes_len,
+    const uint32_t *narrow, size_t narrow_len,
+    uint64_t *wide, size_t wide_len,
     const uint8_t *pool, size_t pool_len,
-    const uint32_t *free, size_t free_len,
-    const uint32_t *quarantine, size_t quarantine_len,
-    uint64_t *sealed, size_t sealed_len,
     uint8_t *marks, size_t marks_len,
     uint64_t *work, size_t work_len);
 
@@ -451,7 +344,7 @@ yexwalu_done yexwalu_seal(
  * A constant describes an element or a field; where there is none stands 4,294,967,295, and the value's descriptor goes on with it. A descriptor has 24 bytes a dimension, three signed
  * little-endian words: left, right, direction (0 to, 1 downto).
  *
- * A frame map lies in three lists of one length: where each entry lies in the frame's memory, its kind (0 a handle, 1 an address, 2 a composite), and the type of a composite.
+ * A frame map has three words an entry: where it lies in the frame's memory, its kind (0 a handle, 1 an address, 2 a composite), and the type of a composite.
  *
  * A function lies in five lists: at most 65,536 instructions, 4,096 blocks and 16,384 registers.
  *   kinds    one an instruction: 0 plain, 1 safepoint, 2 branch, 3 conditional, 4 case, 5 return, 6 unreachable
@@ -459,7 +352,7 @@ yexwalu_done yexwalu_seal(
  *   refs     all registers and targets in a row
  *   blocks   two a block: its first instruction, and the one after its last
  *   classes  one a register: 0 I64, 1 F64, 2 Ptr, 3 Sig, 4 Handle
- * Its live registers take (3 * blocks + 2) * words per row of scratch, a word for every 64 registers begun.
+ * Its live registers take (3 * blocks + 2) * words per row of scratch (`rows`), a word for every 64 registers begun.
  */
 
 /* The layout of type `t` under a descriptor; the offsets of a record's fields stand at the front of `out`. 10, 11, 12, 7. */
@@ -514,9 +407,7 @@ yexwalu_answer yexwalu_slot_roots(
     const uint32_t *fields, size_t fields_len,
     const uint64_t *consts, size_t consts_len,
     const uint8_t *bytes, size_t bytes_len,
-    const uint32_t *offsets, size_t offsets_len,
-    const uint8_t *kinds, size_t kinds_len,
-    const uint32_t *tys, size_t tys_len,
+    const uint32_t *map, size_t map_len,
     const uint8_t *memory, size_t memory_len,
     uint64_t *handles, size_t handles_len,
     uint64_t *addresses, size_t addresses_len);
@@ -530,8 +421,8 @@ yexwalu_answer yexwalu_live_at(
     const uint8_t *classes, size_t classes_len,
     bool all,
     size_t pc,
-    uint64_t *scratch, size_t scratch_len,
-    uint32_t *regs, size_t regs_len);
+    uint32_t *regs, size_t regs_len,
+    uint64_t *rows, size_t rows_len);
 
 /* All safepoints, rising, where the registers of each end in `regs`, and the registers. first: how many safepoints, second: how many registers. 18, 15, 7. */
 yexwalu_answer yexwalu_live_refs(
@@ -541,10 +432,10 @@ yexwalu_answer yexwalu_live_refs(
     const uint32_t *blocks, size_t blocks_len,
     const uint8_t *classes, size_t classes_len,
     bool all,
-    uint64_t *scratch, size_t scratch_len,
     uint32_t *pcs, size_t pcs_len,
     uint32_t *bounds, size_t bounds_len,
-    uint32_t *regs, size_t regs_len);
+    uint32_t *regs, size_t regs_len,
+    uint64_t *rows, size_t rows_len);
 
 /* ---- Collections ---- */
 
@@ -555,20 +446,13 @@ yexwalu_done yexwalu_collect(
     const uint64_t *consts, size_t consts_len,
     const uint8_t *bytes, size_t bytes_len,
     yexwalu_header heap,
-    uint32_t *generation, size_t generation_len,
-    uint8_t *kind, size_t kind_len,
-    uint32_t *ty, size_t ty_len,
-    size_t *start, size_t start_len,
-    size_t *end, size_t end_len,
-    uint32_t *writes, size_t writes_len,
+    uint32_t *narrow, size_t narrow_len,
+    uint64_t *wide, size_t wide_len,
     uint8_t *pool, size_t pool_len,
-    uint32_t *free, size_t free_len,
-    uint32_t *quarantine, size_t quarantine_len,
-    const uint64_t *sealed, size_t sealed_len,
-    uint8_t *marks, size_t marks_len,
-    uint64_t *work, size_t work_len,
     const uint64_t *roots, size_t roots_len,
-    const uint32_t *pins, size_t pins_len);
+    const uint32_t *pins, size_t pins_len,
+    uint8_t *marks, size_t marks_len,
+    uint64_t *work, size_t work_len);
 
 /* As collect, from a stopped function: roots are the live registers of class 4 at the safepoint `pc`, with one value a register (15), and the handles of the frame. `rows` is scratch for the live registers. 18, 1, 10, 15, 14, 16, 13. */
 yexwalu_done yexwalu_collect_joined(
@@ -577,16 +461,9 @@ yexwalu_done yexwalu_collect_joined(
     const uint64_t *consts, size_t consts_len,
     const uint8_t *bytes, size_t bytes_len,
     yexwalu_header heap,
-    uint32_t *generation, size_t generation_len,
-    uint8_t *kind, size_t kind_len,
-    uint32_t *ty, size_t ty_len,
-    size_t *start, size_t start_len,
-    size_t *end, size_t end_len,
-    uint32_t *writes, size_t writes_len,
+    uint32_t *narrow, size_t narrow_len,
+    uint64_t *wide, size_t wide_len,
     uint8_t *pool, size_t pool_len,
-    uint32_t *free, size_t free_len,
-    uint32_t *quarantine, size_t quarantine_len,
-    const uint64_t *sealed, size_t sealed_len,
     const uint8_t *kinds, size_t kinds_len,
     const uint32_t *ends, size_t ends_len,
     const uint32_t *refs, size_t refs_len,
@@ -594,9 +471,7 @@ yexwalu_done yexwalu_collect_joined(
     const uint8_t *classes, size_t classes_len,
     size_t pc,
     const uint64_t *values, size_t values_len,
-    const uint32_t *offsets, size_t offsets_len,
-    const uint8_t *slot_kinds, size_t slot_kinds_len,
-    const uint32_t *slot_types, size_t slot_types_len,
+    const uint32_t *map, size_t map_len,
     const uint8_t *memory, size_t memory_len,
     const uint32_t *pins, size_t pins_len,
     uint8_t *marks, size_t marks_len,
@@ -612,36 +487,22 @@ yexwalu_done yexwalu_collect_joined(
  */
 yexwalu_done yexwalu_run(
     yexwalu_header heap,
-    uint32_t *generation, size_t generation_len,
-    uint8_t *kind, size_t kind_len,
-    uint32_t *ty, size_t ty_len,
-    size_t *start, size_t start_len,
-    size_t *end, size_t end_len,
-    uint32_t *writes, size_t writes_len,
+    uint32_t *narrow, size_t narrow_len,
+    uint64_t *wide, size_t wide_len,
     uint8_t *pool, size_t pool_len,
-    uint32_t *free, size_t free_len,
-    uint32_t *quarantine, size_t quarantine_len,
-    uint64_t *sealed, size_t sealed_len,
-    uint8_t *marks, size_t marks_len,
-    uint64_t *work, size_t work_len,
+    const uint8_t *script, size_t script_len,
     uint8_t *room, size_t room_len,
-    const uint8_t *script, size_t script_len);
+    uint8_t *marks, size_t marks_len,
+    uint64_t *work, size_t work_len);
 
 /* ---- A heap as a page of text ---- */
 
 /* Writes the heap as a page to the front of `out`. first: how many bytes. 18, 1, 7. */
 yexwalu_answer yexwalu_write_page(
     yexwalu_header heap,
-    const uint32_t *generation, size_t generation_len,
-    const uint8_t *kind, size_t kind_len,
-    const uint32_t *ty, size_t ty_len,
-    const size_t *start, size_t start_len,
-    const size_t *end, size_t end_len,
-    const uint32_t *writes, size_t writes_len,
+    const uint32_t *narrow, size_t narrow_len,
+    const uint64_t *wide, size_t wide_len,
     const uint8_t *pool, size_t pool_len,
-    const uint32_t *free, size_t free_len,
-    const uint32_t *quarantine, size_t quarantine_len,
-    const uint64_t *sealed, size_t sealed_len,
     uint8_t *out, size_t out_len,
     uint8_t *marks, size_t marks_len,
     uint64_t *work, size_t work_len);
@@ -649,17 +510,10 @@ yexwalu_answer yexwalu_write_page(
 /* Reads a page into the lent memory; what it held is not looked at. 18, 17, 1, 6, 5. */
 yexwalu_done yexwalu_read_page(
     yexwalu_header heap,
-    const uint8_t *text, size_t text_len,
-    uint32_t *generation, size_t generation_len,
-    uint8_t *kind, size_t kind_len,
-    uint32_t *ty, size_t ty_len,
-    size_t *start, size_t start_len,
-    size_t *end, size_t end_len,
-    uint32_t *writes, size_t writes_len,
+    uint32_t *narrow, size_t narrow_len,
+    uint64_t *wide, size_t wide_len,
     uint8_t *pool, size_t pool_len,
-    uint32_t *free, size_t free_len,
-    uint32_t *quarantine, size_t quarantine_len,
-    uint64_t *sealed, size_t sealed_len,
+    const uint8_t *text, size_t text_len,
     uint8_t *marks, size_t marks_len,
     uint64_t *work, size_t work_len);
 

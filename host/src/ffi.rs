@@ -3,9 +3,10 @@
 //! A call is proved to do what its contract says for all values of its parameters, so what makes one unsafe is only what C always asks: a pointer leads to as many elements as the length after it says,
 //! is aligned and not null (also where the length is 0), and memory that a call may write is lent to no other parameter of it.
 
-/// The numbers of a heap that lies in lent memory. A host may read them, and save them with the memory; a header that does not fit its memory is refused (1).
+/// The numbers of a heap that lies in lent memory. A host may read them, and save them with the memory; a header that does not fit its memory is refused (1). It may get more fields.
 #[repr(C)]
 #[derive(Clone, Copy, Debug, Default, PartialEq, Eq)]
+#[non_exhaustive]
 pub struct Header {
     /// The tag of the heap, which is in each of its handles.
     pub tag: u8,
@@ -25,6 +26,8 @@ pub struct Header {
     pub free: usize,
     /// How many slots are in quarantine.
     pub quarantine: usize,
+    /// How many slots are retired: none.
+    pub retired: usize,
     /// How many handles are sealed.
     pub sealed: usize,
 }
@@ -72,21 +75,14 @@ pub struct RawLayout {
 }
 
 macro_rules! heap_calls {
-    ($($(#[$doc:meta])* $name:ident ( $($before:ident : $b:ty),* ; $($between:ident : $m:ty),* ; $($after:ident : $a:ty),* ) -> $r:ty;)*) => {
+    ($($(#[$doc:meta])* $name:ident ( $($before:ident : $b:ty),* ; $($given:ident : $g:ty),* ; $($after:ident : $a:ty),* ) -> $r:ty;)*) => {
         extern "C" {
             $($(#[$doc])* pub fn $name(
                 $($before: $b,)*
-                generation: *mut u32, generation_len: usize,
-                kind: *mut u8, kind_len: usize,
-                ty: *mut u32, ty_len: usize,
-                start: *mut usize, start_len: usize,
-                end: *mut usize, end_len: usize,
-                writes: *mut u32, writes_len: usize,
+                narrow: *mut u32, narrow_len: usize,
+                wide: *mut u64, wide_len: usize,
                 pool: *mut u8, pool_len: usize,
-                free: *mut u32, free_len: usize,
-                quarantine: *mut u32, quarantine_len: usize,
-                sealed: *mut u64, sealed_len: usize,
-                $($between: $m,)*
+                $($given: $g,)*
                 marks: *mut u8, marks_len: usize,
                 work: *mut u64, work_len: usize,
                 $($after: $a),*
@@ -99,57 +95,56 @@ heap_calls! {
     /// See [`Heap::new_in`](crate::Heap::new_in).
     yexwalu_new(tag: u8;;) -> Done;
     /// See [`Heap::alloc_raw`](crate::Heap::alloc_raw).
-    yexwalu_alloc_from(heap: Header;; k: u8, t: u32, s: usize, bytes: *const u8, bytes_len: usize) -> Done;
+    yexwalu_alloc_from(heap: Header; kind: u8, ty: u32, start: usize, bytes: *const u8, bytes_len: usize;) -> Done;
     /// See [`Heap::alloc`](crate::Heap::alloc).
-    yexwalu_alloc(heap: Header;; k: u8, t: u32, bytes: *const u8, bytes_len: usize) -> Done;
+    yexwalu_alloc(heap: Header; kind: u8, ty: u32, bytes: *const u8, bytes_len: usize;) -> Done;
     /// See [`Heap::take_into`](crate::Heap::take_into).
-    yexwalu_take(heap: Header;; x: u64, out: *mut u8, out_len: usize) -> Done;
+    yexwalu_take(heap: Header; handle: u64, out: *mut u8, out_len: usize;) -> Done;
     /// See [`Heap::free`](crate::Heap::free).
-    yexwalu_free(heap: Header;; x: u64) -> Done;
+    yexwalu_free(heap: Header; handle: u64;) -> Done;
     /// See [`Heap::recycle`](crate::Heap::recycle).
-    yexwalu_recycle(heap: Header;; pins: *const u32, pins_len: usize) -> Done;
+    yexwalu_recycle(heap: Header; pins: *const u32, pins_len: usize;) -> Done;
     /// See [`Heap::edit`](crate::Heap::edit).
-    yexwalu_edit(heap: Header;; x: u64, bytes: *const u8, bytes_len: usize, first: usize) -> Done;
+    yexwalu_edit(heap: Header; handle: u64, bytes: *const u8, bytes_len: usize, start: usize;) -> Done;
     /// See [`Heap::write`](crate::Heap::write).
-    yexwalu_write(heap: Header;; i: usize, at: usize, bytes: *const u8, bytes_len: usize) -> Answer;
+    yexwalu_write(heap: Header; i: usize, at: usize, bytes: *const u8, bytes_len: usize;) -> Answer;
     /// See [`Heap::reissue`](crate::Heap::reissue).
-    yexwalu_reissue(heap: Header;; i: usize, grown: u64) -> Done;
+    yexwalu_reissue(heap: Header; i: usize, grown: u64;) -> Done;
     /// See [`Heap::seal`](crate::Heap::seal).
     yexwalu_seal(heap: Header;;) -> Done;
     /// See [`Heap::run_with`](crate::Heap::run_with).
-    yexwalu_run(heap: Header;; room: *mut u8, room_len: usize, script: *const u8, script_len: usize) -> Done;
+    yexwalu_run(heap: Header; script: *const u8, script_len: usize, room: *mut u8, room_len: usize;) -> Done;
     /// See [`Heap::gc_due`](crate::Heap::gc_due).
-    yexwalu_gc_due(heap: Header;; threshold: u64) -> Answer;
+    yexwalu_gc_due(heap: Header; threshold: u64;) -> Answer;
     /// See [`Heap::reclaim_due`](crate::Heap::reclaim_due).
     yexwalu_reclaim_due(heap: Header;;) -> Answer;
     /// See [`Heap::has_quarantine`](crate::Heap::has_quarantine).
     yexwalu_has_quarantine(heap: Header;;) -> Answer;
     /// See [`Heap::is_plain`](crate::Heap::is_plain).
-    yexwalu_is_plain(heap: Header;; tag: u8) -> Answer;
+    yexwalu_is_plain(heap: Header; tag: u8;) -> Answer;
     /// See [`Heap::slots`](crate::Heap::slots).
     yexwalu_slots(heap: Header;;) -> Answer;
     /// See [`Heap::live`](crate::Heap::live).
     yexwalu_live(heap: Header;;) -> Answer;
     /// See [`Heap::resolve`](crate::Heap::resolve).
-    yexwalu_resolve(heap: Header;; x: u64) -> Answer;
+    yexwalu_resolve(heap: Header; handle: u64;) -> Answer;
     /// See [`Heap::place`](crate::Heap::place).
-    yexwalu_data(heap: Header;; i: usize) -> Answer;
+    yexwalu_data(heap: Header; i: usize;) -> Answer;
     /// See [`Heap::kind`](crate::Heap::kind).
-    yexwalu_kind(heap: Header;; i: usize) -> Answer;
+    yexwalu_kind(heap: Header; i: usize;) -> Answer;
     /// See [`Heap::stamp`](crate::Heap::stamp).
-    yexwalu_stamp(heap: Header;; i: usize) -> Answer;
+    yexwalu_stamp(heap: Header; i: usize;) -> Answer;
     /// See [`Heap::write_page_into`](crate::Heap::write_page_into).
     yexwalu_write_page(heap: Header; out: *mut u8, out_len: usize;) -> Answer;
     /// See [`Heap::read_page_over`](crate::Heap::read_page_over).
-    yexwalu_read_page(heap: Header, text: *const u8, text_len: usize;;) -> Done;
+    yexwalu_read_page(heap: Header; text: *const u8, text_len: usize;) -> Done;
     /// See [`Heap::collect`](crate::Heap::collect).
-    yexwalu_collect(types: *const u64, types_len: usize, fields: *const u32, fields_len: usize, consts: *const u64, consts_len: usize, bytes: *const u8, bytes_len: usize, heap: Header;;
-        roots: *const u64, roots_len: usize, pins: *const u32, pins_len: usize) -> Done;
+    yexwalu_collect(types: *const u64, types_len: usize, fields: *const u32, fields_len: usize, consts: *const u64, consts_len: usize, bytes: *const u8, bytes_len: usize, heap: Header;
+        roots: *const u64, roots_len: usize, pins: *const u32, pins_len: usize;) -> Done;
     /// See [`Heap::collect_joined_with`](crate::Heap::collect_joined_with).
     yexwalu_collect_joined(types: *const u64, types_len: usize, fields: *const u32, fields_len: usize, consts: *const u64, consts_len: usize, bytes: *const u8, bytes_len: usize, heap: Header;
         kinds: *const u8, kinds_len: usize, ends: *const u32, ends_len: usize, refs: *const u32, refs_len: usize, blocks: *const u32, blocks_len: usize, classes: *const u8, classes_len: usize,
-        pc: usize, values: *const u64, values_len: usize, offsets: *const u32, offsets_len: usize, slot_kinds: *const u8, slot_kinds_len: usize, slot_types: *const u32, slot_types_len: usize,
-        memory: *const u8, memory_len: usize, pins: *const u32, pins_len: usize;
+        pc: usize, values: *const u64, values_len: usize, map: *const u32, map_len: usize, memory: *const u8, memory_len: usize, pins: *const u32, pins_len: usize;
         rows: *mut u64, rows_len: usize) -> Done;
 }
 
@@ -179,8 +174,7 @@ table_calls! {
     /// See [`TypeTable::value_handles_into`](crate::TypeTable::value_handles_into).
     yexwalu_value_handles(t: u64, data: *const u8, data_len: usize, out: *mut u64, out_len: usize) -> Answer;
     /// See [`TypeTable::slot_roots_into`](crate::TypeTable::slot_roots_into).
-    yexwalu_slot_roots(offsets: *const u32, offsets_len: usize, kinds: *const u8, kinds_len: usize, tys: *const u32, tys_len: usize,
-        memory: *const u8, memory_len: usize, handles: *mut u64, handles_len: usize, addresses: *mut u64, addresses_len: usize) -> Answer;
+    yexwalu_slot_roots(map: *const u32, map_len: usize, memory: *const u8, memory_len: usize, handles: *mut u64, handles_len: usize, addresses: *mut u64, addresses_len: usize) -> Answer;
 }
 
 extern "C" {
@@ -192,8 +186,8 @@ extern "C" {
         blocks: *const u32, blocks_len: usize,
         classes: *const u8, classes_len: usize,
         all: bool, pc: usize,
-        scratch: *mut u64, scratch_len: usize,
         regs: *mut u32, regs_len: usize,
+        rows: *mut u64, rows_len: usize,
     ) -> Answer;
     /// See [`Function::live_refs_into`](crate::Function::live_refs_into).
     pub fn yexwalu_live_refs(
@@ -203,9 +197,9 @@ extern "C" {
         blocks: *const u32, blocks_len: usize,
         classes: *const u8, classes_len: usize,
         all: bool,
-        scratch: *mut u64, scratch_len: usize,
         pcs: *mut u32, pcs_len: usize,
         bounds: *mut u32, bounds_len: usize,
         regs: *mut u32, regs_len: usize,
+        rows: *mut u64, rows_len: usize,
     ) -> Answer;
 }

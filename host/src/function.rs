@@ -135,13 +135,13 @@ impl Function {
     pub fn live_at(&self, pc: u32, wanted: Wanted) -> Result<Vec<u32>, Refusal> {
         let f = self.within_counts();
         let mut regs = vec![0; f.classes.len()];
-        let n = f.live_at_into(pc, wanted, &mut vec![0; f.scratch_words()], &mut regs)?;
+        let n = f.live_at_into(pc, wanted, &mut regs, &mut vec![0; f.scratch_words()])?;
         regs.truncate(n);
         Ok(regs)
     }
 
-    /// As `live_at`, with lent scratch, of `scratch_words` at least (18), and the registers written to the front of a lent output (7). The answer is how many.
-    pub fn live_at_into(&self, pc: u32, wanted: Wanted, scratch: &mut [u64], regs: &mut [u32]) -> Result<usize, Refusal> {
+    /// As `live_at`, with the registers written to the front of a lent output (7), and lent scratch, of `scratch_words` at least (18). The answer is how many.
+    pub fn live_at_into(&self, pc: u32, wanted: Wanted, regs: &mut [u32], rows: &mut [u64]) -> Result<usize, Refusal> {
         // SAFETY: each pointer leads to as many elements as the length after it says. What the call writes, scratch and output, is borrowed mutably.
         let answer = unsafe {
             ffi::yexwalu_live_at(
@@ -152,8 +152,8 @@ impl Function {
                 self.classes.as_ptr(), self.classes.len(),
                 wanted == Wanted::All,
                 pc as usize,
-                scratch.as_mut_ptr(), scratch.len(),
                 regs.as_mut_ptr(), regs.len(),
+                rows.as_mut_ptr(), rows.len(),
             )
         };
         Refusal::check(answer.number)?;
@@ -163,13 +163,13 @@ impl Function {
     /// Every safepoint of a block, rising, with the registers that are live before it, rising. It is refused where the function is not in order (15).
     pub fn live_refs(&self, wanted: Wanted) -> Result<Vec<(u32, Vec<u32>)>, Refusal> {
         let f = self.within_counts();
-        let mut scratch = vec![0; f.scratch_words()];
+        let mut rows = vec![0; f.scratch_words()];
         let mut pcs = vec![0; f.kinds.len()];
         let mut bounds = vec![0; f.kinds.len()];
         let mut room = f.kinds.len();
         loop {
             let mut regs = vec![0; room];
-            match f.live_refs_into(wanted, &mut scratch, &mut pcs, &mut bounds, &mut regs) {
+            match f.live_refs_into(wanted, &mut pcs, &mut bounds, &mut regs, &mut rows) {
                 Err(Refusal::ShortList) => room = 2 * room + 1,
                 Err(why) => return Err(why),
                 Ok((points, _)) => {
@@ -186,9 +186,9 @@ impl Function {
         }
     }
 
-    /// As `live_refs`, with lent scratch, of `scratch_words` at least (18), and the answer at the front of lent outputs (7): the safepoints, where the registers of each end, the registers. The answer is how
+    /// As `live_refs`, with the answer at the front of lent outputs (7): the safepoints, where the registers of each end, the registers; and lent scratch, of `scratch_words` at least (18). The answer is how
     /// many safepoints and registers.
-    pub fn live_refs_into(&self, wanted: Wanted, scratch: &mut [u64], pcs: &mut [u32], bounds: &mut [u32], regs: &mut [u32]) -> Result<(usize, usize), Refusal> {
+    pub fn live_refs_into(&self, wanted: Wanted, pcs: &mut [u32], bounds: &mut [u32], regs: &mut [u32], rows: &mut [u64]) -> Result<(usize, usize), Refusal> {
         // SAFETY: each pointer leads to as many elements as the length after it says. What the call writes, scratch and outputs, is borrowed mutably.
         let answer = unsafe {
             ffi::yexwalu_live_refs(
@@ -198,10 +198,10 @@ impl Function {
                 self.blocks.as_ptr(), self.blocks.len(),
                 self.classes.as_ptr(), self.classes.len(),
                 wanted == Wanted::All,
-                scratch.as_mut_ptr(), scratch.len(),
                 pcs.as_mut_ptr(), pcs.len(),
                 bounds.as_mut_ptr(), bounds.len(),
                 regs.as_mut_ptr(), regs.len(),
+                rows.as_mut_ptr(), rows.len(),
             )
         };
         Refusal::check(answer.number)?;

@@ -42,56 +42,76 @@ pub struct Object {
     pub start: usize,
 }
 
-/// Generation and write count of a slot. While both stay as they were, the object has not been touched.
+/// Generation and write count of a slot. While both stay as they were, the object has not been touched. It may get more fields.
 #[derive(Clone, Copy, Debug, PartialEq, Eq, Hash)]
+#[non_exhaustive]
 pub struct Stamp {
     /// How often the slot was given out, given a new handle or released; after 4,294,967,295 comes 1.
     pub generation: u32,
     /// How often its object was written or edited since then; after 4,294,967,295 comes 0.
-    pub writes: u32,
+    pub writes: u64,
 }
 
-/// The memory that a heap lies in: columns with one entry a slot, and the pool. A heap's is made with it; the fields are public so that a host can save, damage or lend them as it likes: every
-/// call looks whether it holds a heap. `Header` has how many entries of the columns are in use; the others are zero.
+/// The memory that a heap lies in: numbers of 32 bits, numbers of 64 bits, and the data. A heap's is made with it; the fields are public so that a host can save, damage or lend them as it likes: every
+/// call looks whether they hold a heap. They may become more.
+///
+/// With S slots, `narrow` has six runs of S numbers and `wide` four, run after run; entry i of a run is that of slot i, or the list's entry i. `Header` has how many entries are in use; the others are zero.
 #[derive(Clone, Debug, PartialEq, Eq)]
+#[non_exhaustive]
 pub struct Memory {
-    /// Each slot's generation, at least 1.
-    pub generation: Vec<u32>,
-    /// Each slot's kind: 0 dead, 1 Typed, 2 Bytes, 3 Handles.
-    pub kind: Vec<u8>,
-    /// Each slot's type, 0 where the kind is not 1.
-    pub ty: Vec<u32>,
-    /// From which byte of its data on a slot's object is visible.
-    pub start: Vec<usize>,
-    /// Where each slot's data ends in the pool; it begins where that of the slot before ends.
-    pub end: Vec<usize>,
-    /// How often each slot's object was written.
-    pub writes: Vec<u32>,
+    /// Runs of S: generation, kind, type, free list, quarantine, retired slots.
+    pub narrow: Vec<u32>,
+    /// Runs of S: start, end, writes, sealed handles.
+    pub wide: Vec<u64>,
     /// The data of all objects, in slot order from byte 0 on.
     pub pool: Vec<u8>,
-    /// The dead slots that may be given out; the last one is next.
-    pub free: Vec<u32>,
-    /// The dead slots that wait for `Heap::recycle`.
-    pub quarantine: Vec<u32>,
-    /// The handles that were sealed, in slot order.
-    pub sealed: Vec<u64>,
+}
+
+macro_rules! runs {
+    ($($(#[$doc:meta])* $name:ident, $list:ident, $number:ty, $run:expr;)*) => {
+        $($(#[$doc])* pub fn $name(&self) -> &[$number] {
+            let from = $run * self.slots();
+            self.$list.get(from..from + self.slots()).unwrap_or(&[])
+        })*
+    };
 }
 
 impl Memory {
     /// Zeros for so many slots and bytes of data.
     pub fn zeros(slots: usize, pool: usize) -> Memory {
         Memory {
-            generation: vec![0; slots],
-            kind: vec![0; slots],
-            ty: vec![0; slots],
-            start: vec![0; slots],
-            end: vec![0; slots],
-            writes: vec![0; slots],
+            narrow: vec![0; 6 * slots],
+            wide: vec![0; 4 * slots],
             pool: vec![0; pool],
-            free: vec![0; slots],
-            quarantine: vec![0; slots],
-            sealed: vec![0; slots],
         }
+    }
+
+    /// The number of slots that it has room for, S.
+    pub fn slots(&self) -> usize {
+        self.narrow.len() / 6
+    }
+
+    runs! {
+        /// Each slot's generation, at least 1.
+        generation, narrow, u32, 0;
+        /// Each slot's kind: 0 dead, 1 Typed, 2 Bytes, 3 Handles.
+        kind, narrow, u32, 1;
+        /// Each slot's type, 0 where the kind is not 1.
+        ty, narrow, u32, 2;
+        /// The dead slots that may be given out; the last one in use is next.
+        free, narrow, u32, 3;
+        /// The dead slots that wait for `Heap::recycle`.
+        quarantine, narrow, u32, 4;
+        /// The slots that are given out no more: none.
+        retired, narrow, u32, 5;
+        /// From which byte of its data on a slot's object is visible.
+        start, wide, u64, 0;
+        /// Where each slot's data ends in the pool; it begins where that of the slot before ends.
+        end, wide, u64, 1;
+        /// How often each slot's object was written.
+        writes, wide, u64, 2;
+        /// The handles that were sealed, in slot order.
+        sealed, wide, u64, 3;
     }
 }
 
@@ -149,58 +169,43 @@ impl PartialEq for Heap {
 
 impl Eq for Heap {}
 
-// A call that only reads: its columns are shared, scratch is not.
+// A call that only reads: memory is shared, scratch is not.
 macro_rules! ask {
-    ($heap:ident, $call:ident ($($between:expr),*) ($($after:expr),*)) => {{
+    ($heap:ident, $call:ident ($($given:expr),*)) => {{
         let m = &$heap.memory;
         let mut s = $heap.scratch.borrow_mut();
-        // SAFETY: each pointer leads to as many elements as the length after it says. The call only reads the columns, though `ffi` has them as mutable for the sake of one declaration of
+        // SAFETY: each pointer leads to as many elements as the length after it says. The call only reads the memory, though `ffi` has it as mutable for the sake of one declaration of
         // all calls; it writes scratch and the outputs given, which are borrowed mutably here.
         unsafe {
             ffi::$call(
                 $heap.header,
-                m.generation.as_ptr() as *mut u32, m.generation.len(),
-                m.kind.as_ptr() as *mut u8, m.kind.len(),
-                m.ty.as_ptr() as *mut u32, m.ty.len(),
-                m.start.as_ptr() as *mut usize, m.start.len(),
-                m.end.as_ptr() as *mut usize, m.end.len(),
-                m.writes.as_ptr() as *mut u32, m.writes.len(),
+                m.narrow.as_ptr() as *mut u32, m.narrow.len(),
+                m.wide.as_ptr() as *mut u64, m.wide.len(),
                 m.pool.as_ptr() as *mut u8, m.pool.len(),
-                m.free.as_ptr() as *mut u32, m.free.len(),
-                m.quarantine.as_ptr() as *mut u32, m.quarantine.len(),
-                m.sealed.as_ptr() as *mut u64, m.sealed.len(),
-                $($between,)*
+                $($given,)*
                 s.marks.as_mut_ptr(), s.marks.len(),
                 s.work.as_mut_ptr(), s.work.len(),
-                $($after),*
             )
         }
     }};
 }
 
-// A call that may change the columns.
+// A call that may change the memory.
 macro_rules! change {
-    ($memory:expr, $scratch:expr, $call:ident ($($before:expr),*) ($($after:expr),*)) => {
-        change!($memory, $scratch, $call ($($before),*) () ($($after),*))
+    ($memory:expr, $scratch:expr, $call:ident ($($before:expr),*) ($($given:expr),*)) => {
+        change!($memory, $scratch, $call ($($before),*) ($($given),*) ())
     };
-    ($memory:expr, $scratch:expr, $call:ident ($($before:expr),*) ($($between:expr),*) ($($after:expr),*)) => {{
+    ($memory:expr, $scratch:expr, $call:ident ($($before:expr),*) ($($given:expr),*) ($($after:expr),*)) => {{
         let m: &mut Memory = $memory;
         let s: &mut Scratch = $scratch;
-        // SAFETY: each pointer leads to as many elements as the length after it says. What the call may write, columns, scratch and the outputs given, is borrowed mutably, so none is lent twice.
+        // SAFETY: each pointer leads to as many elements as the length after it says. What the call may write, memory, scratch and the outputs given, is borrowed mutably, so none is lent twice.
         unsafe {
             ffi::$call(
                 $($before,)*
-                m.generation.as_mut_ptr(), m.generation.len(),
-                m.kind.as_mut_ptr(), m.kind.len(),
-                m.ty.as_mut_ptr(), m.ty.len(),
-                m.start.as_mut_ptr(), m.start.len(),
-                m.end.as_mut_ptr(), m.end.len(),
-                m.writes.as_mut_ptr(), m.writes.len(),
+                m.narrow.as_mut_ptr(), m.narrow.len(),
+                m.wide.as_mut_ptr(), m.wide.len(),
                 m.pool.as_mut_ptr(), m.pool.len(),
-                m.free.as_mut_ptr(), m.free.len(),
-                m.quarantine.as_mut_ptr(), m.quarantine.len(),
-                m.sealed.as_mut_ptr(), m.sealed.len(),
-                $($between,)*
+                $($given,)*
                 s.marks.as_mut_ptr(), s.marks.len(),
                 s.work.as_mut_ptr(), s.work.len(),
                 $($after),*
@@ -236,7 +241,7 @@ impl Heap {
         Heap::new_in(tag, memory, scratch).map_err(|e| e.0)
     }
 
-    /// An empty heap in memory that is given, which is cleared. It must be of such sizes, its columns of one length (1). After a refusal it comes back as it was, and scratch with it.
+    /// An empty heap in memory that is given, which is cleared. It must be of such sizes, `narrow` six times and `wide` four times as long as the number of slots (1). After a refusal it comes back as it was, and scratch with it.
     // the heap of a success is no smaller
     #[allow(clippy::result_large_err)]
     pub fn new_in(tag: u8, mut memory: Memory, mut scratch: Scratch) -> Result<Heap, (Refusal, Memory, Scratch)> {
@@ -308,9 +313,9 @@ impl Heap {
 
     // The number of bytes of slot `i`'s object, those before its start too. Memory that was not checked may say anything: more than the pool is no object's.
     fn size_of(&self, i: usize) -> usize {
-        let end = &self.memory.end;
+        let (end, pool) = (self.memory.end(), self.memory.pool.len() as u64);
         match end.get(i) {
-            Some(e) => e.saturating_sub(if i == 0 { 0 } else { end[i - 1] }).min(self.memory.pool.len()),
+            Some(e) => e.saturating_sub(if i == 0 { 0 } else { end[i - 1] }).min(pool) as usize,
             None => 0,
         }
     }
@@ -450,14 +455,14 @@ impl Heap {
         pins: &[u32],
         rows: &mut [u64],
     ) -> Result<(), Refusal> {
-        let (offsets, kinds, tys) = FrameSlot::columns(map);
+        let map = FrameSlot::words(map);
         let f = function;
         let done = change!(&mut self.memory, self.scratch.get_mut(), yexwalu_collect_joined(
             types.types.as_ptr(), types.types.len(), types.fields.as_ptr(), types.fields.len(),
             types.consts.as_ptr(), types.consts.len(), types.bytes.as_ptr(), types.bytes.len(), self.header)
             (f.kinds.as_ptr(), f.kinds.len(), f.ends.as_ptr(), f.ends.len(), f.refs.as_ptr(), f.refs.len(), f.blocks.as_ptr(), f.blocks.len(),
-            f.classes.as_ptr(), f.classes.len(), pc as usize, values.as_ptr(), values.len(), offsets.as_ptr(), offsets.len(), kinds.as_ptr(), kinds.len(),
-            tys.as_ptr(), tys.len(), frame.as_ptr(), frame.len(), pins.as_ptr(), pins.len())
+            f.classes.as_ptr(), f.classes.len(), pc as usize, values.as_ptr(), values.len(), map.as_ptr(), map.len(),
+            frame.as_ptr(), frame.len(), pins.as_ptr(), pins.len())
             (rows.as_mut_ptr(), rows.len()));
         self.done(done).map(|_| ())
     }
@@ -482,7 +487,7 @@ impl Heap {
 
     /// As `run`, with lent room for the bytes of one object, at least as long as the pool (18).
     pub fn run_with(&mut self, script: &[u8], room: &mut [u8]) -> Result<(), Refusal> {
-        let done = change!(&mut self.memory, self.scratch.get_mut(), yexwalu_run(self.header)(room.as_mut_ptr(), room.len(), script.as_ptr(), script.len()));
+        let done = change!(&mut self.memory, self.scratch.get_mut(), yexwalu_run(self.header)(script.as_ptr(), script.len(), room.as_mut_ptr(), room.len()));
         self.done(done).map(|_| ())
     }
 
@@ -491,7 +496,7 @@ impl Heap {
         Ok(answer.first == 1)
     }
 
-    // The values of an answer. Slot indices, generations and write counts have 32 bits at most, so that casts to them cut nothing.
+    // The values of an answer. Slot indices and generations have 32 bits at most, so that casts to them cut nothing.
     fn pair(answer: ffi::Answer) -> Result<(u64, u64), Refusal> {
         Refusal::check(answer.number)?;
         Ok((answer.first, answer.second))
@@ -499,42 +504,42 @@ impl Heap {
 
     /// Is a collection due: was more allocated since the last one than the threshold, and than it left?
     pub fn gc_due(&self, threshold: u64) -> Result<bool, Refusal> {
-        Heap::yes(ask!(self, yexwalu_gc_due()(threshold)))
+        Heap::yes(ask!(self, yexwalu_gc_due(threshold)))
     }
 
     /// Are so many slots in quarantine that they should be recycled?
     pub fn reclaim_due(&self) -> Result<bool, Refusal> {
-        Heap::yes(ask!(self, yexwalu_reclaim_due()()))
+        Heap::yes(ask!(self, yexwalu_reclaim_due()))
     }
 
     /// Is any slot in quarantine?
     pub fn has_quarantine(&self) -> Result<bool, Refusal> {
-        Heap::yes(ask!(self, yexwalu_has_quarantine()()))
+        Heap::yes(ask!(self, yexwalu_has_quarantine()))
     }
 
     /// Is it the heap of this tag, with nothing sealed?
     pub fn is_plain(&self, tag: u8) -> Result<bool, Refusal> {
-        Heap::yes(ask!(self, yexwalu_is_plain()(tag)))
+        Heap::yes(ask!(self, yexwalu_is_plain(tag)))
     }
 
     /// The number of slots, live and dead.
     pub fn slots(&self) -> Result<usize, Refusal> {
-        Ok(Heap::pair(ask!(self, yexwalu_slots()()))?.0 as usize)
+        Ok(Heap::pair(ask!(self, yexwalu_slots()))?.0 as usize)
     }
 
     /// The number of live slots.
     pub fn live(&self) -> Result<usize, Refusal> {
-        Ok(Heap::pair(ask!(self, yexwalu_live()()))?.0 as usize)
+        Ok(Heap::pair(ask!(self, yexwalu_live()))?.0 as usize)
     }
 
     /// The slot that a handle leads to. The null handle (2), one of another heap (3) and one whose object is gone (4) are refused.
     pub fn resolve(&self, handle: Handle) -> Result<u32, Refusal> {
-        Ok(Heap::pair(ask!(self, yexwalu_resolve()(handle.0)))?.0 as u32)
+        Ok(Heap::pair(ask!(self, yexwalu_resolve(handle.0)))?.0 as u32)
     }
 
     /// Where the visible data of a slot lies in the pool. It is refused (9) where the slot is not there or dead, or nothing is visible.
     pub fn place(&self, slot: u32) -> Result<Range<usize>, Refusal> {
-        let (from, size) = Heap::pair(ask!(self, yexwalu_data()(slot as usize)))?;
+        let (from, size) = Heap::pair(ask!(self, yexwalu_data(slot as usize)))?;
         Ok(from as usize..from as usize + size as usize)
     }
 
@@ -546,16 +551,16 @@ impl Heap {
 
     /// The kind of a slot's object; a slot that is not there or dead is refused (9).
     pub fn kind(&self, slot: u32) -> Result<Kind, Refusal> {
-        let (kind, ty) = Heap::pair(ask!(self, yexwalu_kind()(slot as usize)))?;
+        let (kind, ty) = Heap::pair(ask!(self, yexwalu_kind(slot as usize)))?;
         Ok(Kind::of(kind, ty))
     }
 
     /// The generation and the write count of a slot; one that is not there or dead is refused (9).
     pub fn stamp(&self, slot: u32) -> Result<Stamp, Refusal> {
-        let (generation, writes) = Heap::pair(ask!(self, yexwalu_stamp()(slot as usize)))?;
+        let (generation, writes) = Heap::pair(ask!(self, yexwalu_stamp(slot as usize)))?;
         Ok(Stamp {
             generation: generation as u32,
-            writes: writes as u32,
+            writes,
         })
     }
 
@@ -572,8 +577,9 @@ impl Heap {
     /// # Ok::<(), Refusal>(())
     /// ```
     pub fn write_page(&self) -> Result<Vec<u8>, Refusal> {
-        let slots = self.header.slots.min(self.memory.end.len());
-        let data = if slots == 0 { 0 } else { self.memory.end[slots - 1].min(self.memory.pool.len()) };
+        let (end, pool) = (self.memory.end(), self.memory.pool.len() as u64);
+        let slots = self.header.slots.min(end.len());
+        let data = if slots == 0 { 0 } else { end[slots - 1].min(pool) as usize };
         // document 01: a page takes at most 256 + 96 × slots + 2 × data bytes
         let mut out = vec![0; 256 + 96 * slots + 2 * data];
         let size = self.write_page_into(&mut out)?;
@@ -583,7 +589,7 @@ impl Heap {
 
     /// As `write_page`, with the text written to the front of a lent output. The answer is the number of bytes. Too short an output is refused (7); 256 + 96 × slots + 2 × data bytes always do.
     pub fn write_page_into(&self, out: &mut [u8]) -> Result<usize, Refusal> {
-        let answer = ask!(self, yexwalu_write_page(out.as_mut_ptr(), out.len())());
+        let answer = ask!(self, yexwalu_write_page(out.as_mut_ptr(), out.len()));
         Ok(Heap::pair(answer)?.0 as usize)
     }
 
@@ -598,7 +604,7 @@ impl Heap {
 
     /// As `read_page`, into this heap's memory. What it held is not looked at, and stays after a refusal.
     pub fn read_page_over(&mut self, text: &[u8]) -> Result<(), Refusal> {
-        let done = change!(&mut self.memory, self.scratch.get_mut(), yexwalu_read_page(self.header, text.as_ptr(), text.len())());
+        let done = change!(&mut self.memory, self.scratch.get_mut(), yexwalu_read_page(self.header)(text.as_ptr(), text.len()));
         self.done(done).map(|_| ())
     }
 }

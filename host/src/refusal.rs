@@ -1,6 +1,6 @@
 use std::fmt;
 
-/// Why a call was not done: a row of document 01's table, by its number and its word. Where several would refuse a call, 18 comes first, then 17, 1, 10, 15, 8, 14, 16, 2, 3, 4, 9, 6, 5, then 11 or 12 as met,
+/// Why a call was not done: a row of document 01's table, by its number and its word. The table may get more rows. Where several would refuse a call, 18 comes first, then 17, 1, 10, 15, 8, 14, 16, 2, 3, 4, 9, 6, 5, then 11 or 12 as met,
 /// 13 and 7.
 ///
 /// ```
@@ -10,6 +10,7 @@ use std::fmt;
 /// assert_eq!(Refusal::from_number(18), Some(Refusal::Scratch));
 /// ```
 #[derive(Clone, Copy, Debug, PartialEq, Eq, PartialOrd, Ord, Hash)]
+#[non_exhaustive]
 pub enum Refusal {
     /// 1, broken heap: the heap is not well formed.
     BrokenHeap = 1,

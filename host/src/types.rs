@@ -86,7 +86,7 @@ pub struct FrameSlot {
     /// Where it lies in the frame's memory.
     pub offset: u32,
     /// What it holds: 0 a handle, 1 an address, 2 a composite; others are refused (13).
-    pub kind: u8,
+    pub kind: u32,
     /// The type of a composite; not looked at for others.
     pub ty: TypeId,
 }
@@ -107,9 +107,9 @@ impl FrameSlot {
         FrameSlot { offset, kind: 2, ty }
     }
 
-    // A map as the calls take it: offsets, kinds and types.
-    pub(crate) fn columns(map: &[FrameSlot]) -> (Vec<u32>, Vec<u8>, Vec<u32>) {
-        (map.iter().map(|s| s.offset).collect(), map.iter().map(|s| s.kind).collect(), map.iter().map(|s| s.ty).collect())
+    // A map as the calls take it: offset, kind and type of each entry.
+    pub(crate) fn words(map: &[FrameSlot]) -> Vec<u32> {
+        map.iter().flat_map(|s| [s.offset, s.kind, s.ty]).collect()
     }
 }
 
@@ -321,10 +321,9 @@ impl TypeTable {
 
     /// As `slot_roots`, with the handles and the addresses written to the front of lent lists (7). The answer is how many of each.
     pub fn slot_roots_into(&self, map: &[FrameSlot], memory: &[u8], handles: &mut [u64], addresses: &mut [u64]) -> Result<(usize, usize), Refusal> {
-        let (offsets, kinds, tys) = FrameSlot::columns(map);
+        let map = FrameSlot::words(map);
         let answer = on_table!(self, yexwalu_slot_roots(
-            offsets.as_ptr(), offsets.len(), kinds.as_ptr(), kinds.len(), tys.as_ptr(), tys.len(), memory.as_ptr(), memory.len(),
-            handles.as_mut_ptr(), handles.len(), addresses.as_mut_ptr(), addresses.len()));
+            map.as_ptr(), map.len(), memory.as_ptr(), memory.len(), handles.as_mut_ptr(), handles.len(), addresses.as_mut_ptr(), addresses.len()));
         Refusal::check(answer.number)?;
         Ok((answer.first as usize, answer.second as usize))
     }

@@ -1,4 +1,4 @@
-//! Every public call of `yexwalu` is exported. The header and `ffi` have each of them with the same parameters and answer, and the same structs; the header and `Refusal` have the same numbers and words.
+//! Every exported call is a public call of `yexwalu`. The header and `ffi` have each of them with the same parameters and answer, and the same structs; the header and `Refusal` have the same numbers and words.
 use std::collections::BTreeMap;
 use std::fs;
 use std::path::{Path, PathBuf};
@@ -12,28 +12,37 @@ fn text(path: &str) -> String {
     fs::read_to_string(top().join(path)).unwrap_or_else(|e| panic!("{path}: {e}"))
 }
 
-// The functions and what is used again, of the front door's modules.
+// What the front door has for Rattle: `pub use crate::yexwalu_name as name;`.
 fn public_calls() -> Vec<String> {
-    let mut calls = Vec::new();
-    for module in ["types", "handles", "live", "page", "heaps"] {
-        for line in text(&format!("crates/yexwalu/src/{module}.rt")).lines() {
-            let name = match (line.strip_prefix("pub fn "), line.strip_prefix("pub use ")) {
-                (Some(rest), _) => rest.split('(').next().unwrap(),
-                (_, Some(rest)) => rest.trim_end_matches(';').rsplit("::").next().unwrap(),
-                _ => continue,
-            };
-            // types begin with a capital
-            if name.starts_with(char::is_lowercase) {
-                calls.push(format!("yexwalu_{name}"));
-            }
-        }
-    }
+    let source = text("crates/yexwalu/src/lib.rt");
+    let used = source.lines().filter_map(|l| l.strip_prefix("pub use ")?.strip_suffix(';')?.split_once(" as "));
+    let mut calls: Vec<String> = used
+        .map(|(path, name)| {
+            let call = path.rsplit("::").next().unwrap();
+            assert_eq!(call, format!("yexwalu_{name}"));
+            call.into()
+        })
+        .collect();
     calls.sort();
     calls
 }
 
+// The crates that the archive is made of: `host/archive` names them.
+fn crates() -> Vec<String> {
+    let archive = text("host/archive");
+    let names = archive.split_once("crates=\"").unwrap().1.split_once('"').unwrap().0;
+    names.split(' ').map(String::from).collect()
+}
+
 fn exports() -> String {
-    ["types", "heap", "objects", "pages", "collect", "run"].map(|part| text(&format!("crates/export_{part}/src/lib.rt"))).concat()
+    let mut all = String::new();
+    for name in crates() {
+        let folder = top().join(format!("crates/{name}/src"));
+        let mut files: Vec<PathBuf> = fs::read_dir(&folder).unwrap_or_else(|e| panic!("{name}: {e}")).map(|f| f.unwrap().path()).collect();
+        files.sort();
+        files.iter().for_each(|f| all.push_str(&fs::read_to_string(f).unwrap()));
+    }
+    all
 }
 
 fn ffi() -> String {
@@ -50,7 +59,7 @@ fn c_type(ty: &str) -> &str {
         "u32" => "uint32_t",
         "u64" => "uint64_t",
         "usize" => "size_t",
-        "Header" => "yexwalu_header",
+        "Heap" | "Header" => "yexwalu_header",
         "Answer" => "yexwalu_answer",
         "Done" => "yexwalu_done",
         "Layout" | "RawLayout" => "yexwalu_layout_answer",
@@ -98,14 +107,14 @@ fn in_header() -> Signatures {
     all
 }
 
-// Of `ffi`. Its macros write the parameters that many calls have: a call on a heap says what stands before, between and after columns and scratch, one on a table what stands after it.
+// Of `ffi`. Its macros write the parameters that many calls have: a call on a heap says what stands before, between and after its lists and scratch, one on a table what stands after it.
 fn in_ffi() -> Signatures {
     let source = ffi();
     let (heap, rest) = source.split_once("macro_rules! table_calls").unwrap();
     let (table, rest) = rest.split_once("\nextern \"C\" {").unwrap();
-    let (head, columns) = heap.split_once("$($before: $b,)*").unwrap();
+    let (head, lists) = heap.split_once("$($before: $b,)*").unwrap();
     assert!(!head.contains("yexwalu_"));
-    let (columns, scratch) = columns.split_once("$($between: $m,)*").unwrap();
+    let (lists, scratch) = lists.split_once("$($given: $g,)*").unwrap();
     let scratch = scratch.split_once("$($after: $a),*").unwrap().0;
     let rows = table.split_once("pub fn $name(").unwrap().1.split_once("$($p: $t),*").unwrap().0;
     let mut all = Signatures::new();
@@ -115,7 +124,7 @@ fn in_ffi() -> Signatures {
             let (given, rest) = rest.split_once(") -> ").unwrap();
             let parts: Vec<&str> = given.split(';').collect();
             let parameters = match (part, &parts[..]) {
-                (0, [before, between, after]) => [before, columns, between, scratch, after].join(","),
+                (0, [before, given, after]) => [before, lists, given, scratch, after].join(","),
                 (1, [after]) => [rows, after].join(","),
                 (2, [whole]) => whole.to_string(),
                 _ => panic!("{name}"),
@@ -155,7 +164,7 @@ fn ffi_has_the_exported_calls() {
     for (name, types) in exported {
         assert_eq!(ffi[&name].len(), types.len(), "{name}");
         for (i, (here, there)) in ffi[&name].iter().zip(&types).enumerate() {
-            // a column that a call only reads may be declared as one that it writes, not the other way
+            // a list that a call only reads may be declared as one that it writes, not the other way
             assert!(here == there || format!("const {here}") == *there, "{name}, {i}: {here} for {there}");
         }
     }
@@ -180,7 +189,7 @@ fn structs(source: &str) -> Structs {
 
 #[test]
 fn structs_are_the_same_everywhere() {
-    let exported = structs(&(text("crates/exported/src/lib.rt") + &exports()));
+    let exported = structs(&(text("crates/heap/src/lib.rt") + &text("crates/refusal/src/lib.rt") + &text("crates/door/src/lib.rt") + &exports()));
     assert_eq!(exported.len(), 4);
     assert_eq!(structs(&ffi()), exported);
     let mut header_has = Structs::new();
@@ -198,7 +207,8 @@ fn the_header_has_the_numbers_and_words_of_the_refusals() {
     let all: Vec<Refusal> = (1..=18).map(|n| Refusal::from_number(n).unwrap()).collect();
     assert!(all.iter().zip(1..).all(|(r, n)| r.number() == n));
     assert!(Refusal::from_number(0).is_none() && Refusal::from_number(19).is_none());
-    let words: Vec<String> = all.iter().map(|r| format!("{} {}", r.number(), r.word())).collect();
-    let header = header().replace("\n * ", " ");
-    assert!(header.contains(&format!("The numbers: {}.", words.join(", "))), "{words:?}");
+    let header = header();
+    let constants = header.split_once("enum {\n").unwrap().1.split_once("\n}").unwrap().0;
+    let words = all.iter().map(|r| format!("    YEXWALU_{} = {}", r.word().to_uppercase().replace(' ', "_"), r.number()));
+    assert_eq!(constants.split(",\n").map(String::from).collect::<Vec<_>>(), ["    YEXWALU_OK = 0".into()].into_iter().chain(words).collect::<Vec<_>>());
 }

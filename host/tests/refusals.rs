@@ -1,4 +1,4 @@
-//! Lent lengths one short of each size, for every column, scratch and output of every call, and other refusals: 18, 1, 7, 8, 5, 6, 9, 10, 13, 14, 15. After each, what was lent is as
+//! Lent lengths one short of each size, for every list, scratch and output of every call, and other refusals: 18, 1, 7, 8, 5, 6, 9, 10, 13, 14, 15. After each, what was lent is as
 //! it was.
 mod common;
 use common::sample;
@@ -124,29 +124,53 @@ fn the_other_scratch_one_short_is_18() {
     assert_eq!(after.scratch(), Scratch::zeros(9));
 
     let (mut pcs, mut bounds, mut regs) = ([77; 1], [77; 1], [77; 2]);
-    let mut scratch = vec![1; words - 1];
-    assert_eq!(f.live_at_into(1, Wanted::All, &mut scratch, &mut regs), Err(Refusal::Scratch));
-    assert_eq!(f.live_refs_into(Wanted::All, &mut scratch, &mut pcs, &mut bounds, &mut regs), Err(Refusal::Scratch));
-    assert!(scratch == vec![1; words - 1] && pcs == [77] && bounds == [77] && regs == [77; 2]);
+    let mut rows = vec![1; words - 1];
+    assert_eq!(f.live_at_into(1, Wanted::All, &mut regs, &mut rows), Err(Refusal::Scratch));
+    assert_eq!(f.live_refs_into(Wanted::All, &mut pcs, &mut bounds, &mut regs, &mut rows), Err(Refusal::Scratch));
+    assert!(rows == vec![1; words - 1] && pcs == [77] && bounds == [77] && regs == [77; 2]);
 }
 
-fn shortened(memory: &Memory) -> Vec<Memory> {
-    let mut all = Vec::new();
-    macro_rules! cut {
-        ($($column:ident),*) => { $({ let mut m = memory.clone(); m.$column.pop(); all.push(m); })* };
-    }
-    cut!(kind, ty, start, end, writes, free, quarantine, sealed, generation);
+// Each list one short, and one long.
+fn misfits(memory: &Memory) -> Vec<Memory> {
+    let mut all = vec![memory.clone(); 4];
+    all[0].narrow.pop();
+    all[1].wide.pop();
+    all[2].narrow.push(0);
+    all[3].wide.push(0);
     all
 }
 
 #[test]
-fn a_column_one_short_is_1() {
+fn a_list_one_short_or_long_is_1() {
     let (header, memory, _) = sample(8, 64).0.into_parts();
-    for memory in shortened(&memory) {
+    for memory in misfits(&memory) {
         for (name, call) in CALLS {
             refused(name, call, &Heap::from_parts(header, memory.clone(), dirty(8)), Refusal::BrokenHeap);
         }
         assert!(matches!(Heap::new_in(1, memory.clone(), dirty(8)), Err((Refusal::BrokenHeap, m, _)) if m == memory));
+    }
+}
+
+// Kinds are 0 to 3, write counts have 32 bits, and no slot is retired; what is not in use is zero.
+#[test]
+fn a_number_out_of_its_range_is_1() {
+    let (header, memory, _) = sample(8, 64).0.into_parts();
+    let mut bad = Vec::new();
+    for (place, number) in [(8, 4), (10, 258), (10, u32::MAX), (40, 1), (47, 1), (7, 1), (15, 2), (31, 1), (39, 1), (2, 0)] {
+        bad.push(memory.clone());
+        bad.last_mut().unwrap().narrow[place] = number;
+    }
+    for (place, number) in [(18, 1 << 32), (18, u64::MAX), (7, 1), (15, 11), (23, 1), (31, 1)] {
+        bad.push(memory.clone());
+        bad.last_mut().unwrap().wide[place] = number;
+    }
+    for memory in bad {
+        for (name, call) in CALLS {
+            // what is lent for a page is not looked at
+            if name != "read_page" {
+                refused(name, call, &Heap::from_parts(header, memory.clone(), dirty(8)), Refusal::BrokenHeap);
+            }
+        }
     }
 }
 
@@ -167,17 +191,23 @@ fn a_pool_one_short_of_the_data_is_1() {
 #[test]
 fn a_header_out_of_its_range_is_1() {
     let (header, memory, _) = sample(8, 64).0.into_parts();
-    let bad = [
-        Header { slots: 9, ..header },
-        Header { slots: usize::MAX, ..header },
-        Header { free: 9, ..header },
-        Header { quarantine: 0, ..header },
-        Header { sealed: usize::MAX, ..header },
-        Header { reclaim_at: 4097, ..header },
-        Header { reclaim_at: 4094, ..header },
-        Header { reclaim_at: 33_554_434, ..header },
-        Header { tag: 8, ..header },
+    let changes: [fn(&mut Header); 10] = [
+        |h| h.slots = 9,
+        |h| h.slots = usize::MAX,
+        |h| h.free = 9,
+        |h| h.quarantine = 0,
+        |h| h.retired = 1,
+        |h| h.sealed = usize::MAX,
+        |h| h.reclaim_at = 4097,
+        |h| h.reclaim_at = 4094,
+        |h| h.reclaim_at = 33_554_434,
+        |h| h.tag = 8,
     ];
+    let bad = changes.map(|change| {
+        let mut bad = header;
+        change(&mut bad);
+        bad
+    });
     for header in bad {
         for (name, call) in CALLS {
             if name != "read_page" {
@@ -212,9 +242,9 @@ fn sizes_that_no_heap_has_are_1() {
 fn an_object_beyond_all_memory_is_1() {
     let (header, memory, scratch) = sample(8, 64).0.into_parts();
     for i in 0..8 {
-        for end in [65, 1 << 40, usize::MAX] {
+        for end in [65, 1 << 40, u64::MAX] {
             let mut bad = memory.clone();
-            bad.end[i] = end;
+            bad.wide[8 + i] = end;
             let mut heap = Heap::from_parts(header, bad, scratch.clone());
             for slot in 0..10 {
                 assert_eq!(heap.take(Handle(7 << 56 | slot << 32 | 1)), Err(Refusal::BrokenHeap));
@@ -343,16 +373,16 @@ fn frames_and_their_outputs() {
     assert_eq!(table.slot_roots(&map, &memory[..31]), Err(Refusal::Untraceable));
     assert_eq!(table.slot_roots(&[FrameSlot { offset: 0, kind: 3, ty: 0 }], &memory), Err(Refusal::Untraceable));
 
-    // a map whose lists are not of one length
-    let (offsets, kinds, tys) = ([0u32, 8], [0u8, 1], [0u32, 0]);
-    for (o, k, t) in [(2, 2, 2), (1, 2, 2), (2, 1, 2), (2, 2, 1)] {
+    // a map whose last entry is cut short
+    let map = [0u32, 0, 0, 8, 1, 0];
+    for n in 0..=6 {
         let answer = unsafe {
             ffi::yexwalu_slot_roots(
                 table.types.as_ptr(), table.types.len(), table.fields.as_ptr(), table.fields.len(), table.consts.as_ptr(), table.consts.len(), table.bytes.as_ptr(), table.bytes.len(),
-                offsets.as_ptr(), o, kinds.as_ptr(), k, tys.as_ptr(), t, memory.as_ptr(), memory.len(), found.as_mut_ptr(), found.len(), addresses.as_mut_ptr(), addresses.len(),
+                map.as_ptr(), n, memory.as_ptr(), memory.len(), found.as_mut_ptr(), found.len(), addresses.as_mut_ptr(), addresses.len(),
             )
         };
-        assert_eq!(answer.number, if (o, k, t) == (2, 2, 2) { 0 } else { 13 });
+        assert_eq!(answer.number, if n % 3 == 0 { 0 } else { 13 });
     }
 }
 
@@ -428,14 +458,15 @@ fn a_function_past_the_counts_is_15() {
     f.blocks.resize(1 << 24, 0);
     assert_eq!(f.live_at(1, Wanted::All), Err(Refusal::Function));
     assert_eq!(f.live_refs(Wanted::All), Err(Refusal::Function));
-    assert_eq!(f.live_at_into(1, Wanted::All, &mut [0; 64], &mut []), Err(Refusal::Scratch));
+    assert_eq!(f.live_at_into(1, Wanted::All, &mut [], &mut [0; 64]), Err(Refusal::Scratch));
     let (heap, _) = sample(8, 64);
     let joined = |heap: &Heap, table: &TypeTable| heap.clone().collect_joined(table, &f, 1, &[], &[], &[], &[2, 1]);
     assert_eq!(joined(&heap, &plain()), Err(Refusal::Function));
     // what comes first is still told first
     assert_eq!(joined(&heap, &cut_tables()[0]), Err(Refusal::TypeTable));
-    let (header, memory, scratch) = heap.into_parts();
-    assert_eq!(joined(&Heap::from_parts(Header { tag: 8, ..header }, memory, scratch), &plain()), Err(Refusal::BrokenHeap));
+    let (mut header, memory, scratch) = heap.into_parts();
+    header.tag = 8;
+    assert_eq!(joined(&Heap::from_parts(header, memory, scratch), &plain()), Err(Refusal::BrokenHeap));
     // the counts themselves are taken
     let mut f = stopped();
     f.classes.resize(16384, 0);
@@ -453,21 +484,21 @@ fn live_registers_and_their_outputs() {
     let mut f = stopped();
     let words = f.scratch_words();
     let mut regs = [77; 3];
-    assert_eq!(f.live_at_into(1, Wanted::All, &mut vec![1; words], &mut regs[..1]), Err(Refusal::ShortList));
+    assert_eq!(f.live_at_into(1, Wanted::All, &mut regs[..1], &mut vec![1; words]), Err(Refusal::ShortList));
     assert_eq!(regs, [77; 3]);
-    let mut scratch = vec![1; words];
-    assert_eq!(f.live_at_into(1, Wanted::References, &mut scratch, &mut regs), Ok(2));
-    assert_eq!((scratch, regs), (vec![0; words], [0, 1, 77]));
+    let mut rows = vec![1; words];
+    assert_eq!(f.live_at_into(1, Wanted::References, &mut regs, &mut rows), Ok(2));
+    assert_eq!((rows, regs), (vec![0; words], [0, 1, 77]));
     assert_eq!(f.live_at(0, Wanted::All), Err(Refusal::NoMap));
     assert_eq!(f.live_refs(Wanted::All).unwrap(), [(1, vec![0, 1])]);
 
     let (mut pcs, mut bounds, mut regs) = ([77; 2], [77; 2], [77; 3]);
     for (p, b, r) in [(0, 1, 2), (1, 0, 2), (1, 1, 1)] {
-        let mut scratch = vec![1; words];
-        assert_eq!(f.live_refs_into(Wanted::All, &mut scratch, &mut pcs[..p], &mut bounds[..b], &mut regs[..r]), Err(Refusal::ShortList));
-        assert_eq!((scratch, pcs, bounds, regs), (vec![0; words], [77; 2], [77; 2], [77; 3]));
+        let mut rows = vec![1; words];
+        assert_eq!(f.live_refs_into(Wanted::All, &mut pcs[..p], &mut bounds[..b], &mut regs[..r], &mut rows), Err(Refusal::ShortList));
+        assert_eq!((rows, pcs, bounds, regs), (vec![0; words], [77; 2], [77; 2], [77; 3]));
     }
-    assert_eq!(f.live_refs_into(Wanted::All, &mut vec![1; words], &mut pcs, &mut bounds, &mut regs), Ok((1, 2)));
+    assert_eq!(f.live_refs_into(Wanted::All, &mut pcs, &mut bounds, &mut regs, &mut vec![1; words]), Ok((1, 2)));
     assert_eq!((pcs, bounds, regs), ([1, 77], [2, 77], [0, 1, 77]));
     f.block(0, 4);
     assert_eq!(f.live_refs(Wanted::All), Err(Refusal::Function));

@@ -1,40 +1,43 @@
 -- The two ways out of a collection. Assumes nothing.
 use mathlib.Core.Path.{_≡_, refl, sym, ap, _∙_, subst}
 use mathlib.Core.Bool.{true}
-use mathlib.Core.List.{List, [], _∷_}
+use mathlib.Core.List.{List, [], _∷_, _++_}
 use mathlib.Core.Option.{Option, none, some}
 use Prim.Native.Nat.{ℕ, _≤_}
 use native.Mathlib.Omega.{arith}
 use types.Run.{OneOf, miss}
 use denote.Enum.Declared.{tagOf}
-use lib.ListN.{length, getD, take, replicate}
+use lib.ListN.{length, getD, replicate}
 use lib.Dec.{eqb}
-use Rattle.word.specs.Result.{ok, refused}
+use Rattle.refusal.specs.Told.{nothing}
+use Rattle.refusal.specs.declared.Refusal.the-variants.{Untraceable as NotTraced}
+use Rattle.refusal.specs.declared.Reply.{Reply}
+use Rattle.refusal.specs.declared.Reply.the-variants.{Is, Not}
 use Rattle.heap.specs.Packing.{pad}
 use Rattle.heap.specs.State.{State}
 use Rattle.heap.specs.Lent.{Lent, headerOf, stored, view, slotCount}
 use Rattle.heap.specs.WellFormed.{wellFormed}
-use Rattle.heap.specs.Calls.{Changed, done}
-use Rattle.heap.specs.Done.{Leaves, Does}
+use Rattle.heap.specs.Calls.{Changed, refuse, done}
+use Rattle.heap.specs.Done.{Leaves, Tells}
 use Rattle.heap.proofs.Packing.{getD-pad}
 use Rattle.heap.proofs.Testing.{formed-tested}
 use Rattle.ty.specs.Types.{Table}
 use Rattle.reach.specs.Reach.{Starts}
 use Rattle.reach.specs.Marking.{State as Marks, marking}
 use Rattle.reach.proofs.Sound.{marks-length}
-use Rattle.sweep.specs.Swept.{swept}
 use Rattle.sweep.specs.Columns.{CanSweep}
-use Rattle.sweep.proofs.Laws.{swept-same}
-use Rattle.collect_laws.specs.Collected.{graph, starts, sweptBy, collected}
-use Rattle.collect_laws.proofs.Demand.{sized}
-use Rattle.mark.specs.Shown.{shown, graphIn, Fit}
-use Rattle.mark.specs.Told.{told, marksIn, startsOf, Ready}
+use Rattle.collection.specs.Swept.{swept}
+use Rattle.collection.specs.Shown.{shown}
+use Rattle.collection.specs.Collected.{graph, starts, sweptBy, collected}
+use Rattle.collection.specs.Joined.{joinedBy}
+use Rattle.collection.proofs.SweptLaws.{swept-same}
+use Rattle.collection.proofs.Demand.{sized}
+use Rattle.mark.specs.Told.{told, marksIn, heapMarks, Ready}
+use Rattle.mark.specs.Joining.{joinedMarks}
 use Rattle.mark.specs.declared.Outcome.{Outcome}
 use Rattle.mark.specs.declared.Outcome.the-variants.{Marked, Untraceable}
 use Rattle.mark.proofs.Outcome.{the-type as outcome-type}
-use Rattle.mark.proofs.Formed.{formed-count, formed-fit, formed-graph, formed-starts}
-use Rattle.collect.specs.Collect.{toldCollect, finished, CanCollect, CollectDoes}
-use Rattle.collect.specs.declared.CollectAnswer.{CollectAnswer}
+use Rattle.collect.specs.Collect.{collecting, finished, CanCollect}
 
 -- ---- what follows a marking
 
@@ -48,16 +51,17 @@ is-untraceable Marked o = absurd (miss (1 ∷ []) 0 tt o)
 is-untraceable Untraceable o = refl
 
 module _ (l : Lent) (marks pins : List ℕ) (r : Outcome) where
-  pub finish-stuck : wellFormed l ≡ true → OneOf (1 ∷ []) (tagOf outcome-type r) → Does l l (refused 13) (finished r marks pins (view l))
+  pub finish-stuck : wellFormed l ≡ true → OneOf (1 ∷ []) (tagOf outcome-type r) → Tells nothing nothing l l (Not NotTraced) (finished r marks pins (view l))
   finish-stuck f e =
-      subst (λ (x : Outcome). Does l l (refused 13) (finished x marks pins (view l))) (sym (is-untraceable r e))
+      subst (λ (x : Outcome). Tells nothing nothing l l (Not NotTraced) (finished x marks pins (view l))) (sym (is-untraceable r e))
       (record { leaves = record { lies = formed-tested l f .lies; formed = f }; says = refl })
 
-  pub finish-done : OneOf (0 ∷ []) (tagOf outcome-type r) → (l′ : Lent) → Leaves l l′ (swept (view l) marks pins) → Does l l′ (ok tt) (finished r marks pins (view l))
-  finish-done e l′ left = subst (λ (x : Outcome). Does l l′ (ok tt) (finished x marks pins (view l))) (sym (is-marked r e)) (record { leaves = left; says = refl })
+  pub finish-done : OneOf (0 ∷ []) (tagOf outcome-type r) → (l′ : Lent) → Leaves l l′ (swept (view l) marks pins) → Tells nothing nothing l l′ (Is 0 0) (finished r marks pins (view l))
+  finish-done e l′ left =
+      subst (λ (x : Outcome). Tells nothing nothing l l′ (Is 0 0) (finished x marks pins (view l))) (sym (is-marked r e)) (record { leaves = left; says = refl })
 
 -- after the marking of a heap it is the collection
-pub finished-collected : (h : State) (handles : ℕ → Option (List ℕ)) (S : Starts) (L : ℕ) (r : Outcome) (marks : List ℕ) → length (h .slots) ≤ L
+finished-collected : (h : State) (handles : ℕ → Option (List ℕ)) (S : Starts) (L : ℕ) (r : Outcome) (marks : List ℕ) → length (h .slots) ≤ L
     → told r marks ≡ marksIn L (marking (graph h handles) S (length (h .slots))) → finished r marks (S .pins) h ≡ collected (graph h handles) S h
 unfolding collected
 finished-collected h handles S L r marks room t = go r (marking (graph h handles) S (length (h .slots))) refl t
@@ -75,19 +79,21 @@ finished-collected h handles S L r marks room t = go r (marking (graph h handles
         ap (λ (x : State). done tt x)
         (swept-same h marks (m .marks) (S .pins) (λ i b. ap (λ (k : ℕ). eqb k 0) (ap (λ (x : List ℕ). getD x i 0) p ∙ getD-pad L (m .marks) i (omega arith))))
 
--- ---- the collection
+-- no marks: 13, and the heap unchanged
+none-marked : (r : Outcome) (marks pins : List ℕ) (h : State) → told r marks ≡ none → finished r marks pins h ≡ refuse 13 h
+none-marked Marked marks pins h e = let z : _≡_ {A = ℕ} 0 1 = cc in absurd (omega arith)
+none-marked Untraceable marks pins h e = refl
+
+-- ---- the collections
 
 module _ (l : Lent) (pins marks work : List ℕ) (can : CanCollect l pins marks work) where
+  -- the heap's slots are those in use, and have their place in the lent ones
+  in-use : l .header .slots ≡ length (view l .slots)
+  unfolding stored headerOf
+  in-use = ap (λ (x : Lent). x .header .slots) (formed-tested l (can .formed) .lies)
+
   slots-room : l .header .slots ≤ slotCount l
-  slots-room = omega (arith, formed-count l (can .formed), formed-tested l (can .formed) .sound .slots-fit)
-
-  -- the seals in use
-  pub collect-seals : l .header .sealed ≡ length (take (l .header .sealed) (l .sealed))
-  unfolding stored headerOf view
-  collect-seals = ap (λ (x : Lent). x .header .sealed) (formed-tested l (can .formed) .lies)
-
-  pub collect-fits : Fit (l .header .slots) (l .generation) (l .kind) (l .type) (l .start) (l .end) (l .pool)
-  collect-fits = formed-fit l (can .formed)
+  slots-room = omega (arith, in-use, formed-tested l (can .formed) .sound .slots-fit)
 
   pub collect-ready : Ready (l .header .slots) marks work
   collect-ready = record { clear = can .marks-clear; marked = omega (arith, slots-room, can .marks-room); queued = omega (arith, slots-room, can .work-room) }
@@ -101,20 +107,17 @@ module _ (l : Lent) (pins marks work : List ℕ) (can : CanCollect l pins marks 
   pub work-again : (work′ work″ : List ℕ) → length work′ ≡ length work → work″ ≡ replicate (length work′) 0 → work″ ≡ work
   work-again work′ work″ n e = e ∙ ap (λ (k : ℕ). replicate k 0) n ∙ sym (can .work-clear)
 
-  -- the marking of the columns is that of the heap which lies there
-  pub marking-is : (T : Table) (roots : List ℕ)
-      → marking (graphIn T (l .header .tag) (l .header .slots) (l .generation) (l .kind) (l .type) (l .start) (l .end) (l .pool)) (startsOf roots (take (l .header .sealed) (l .sealed)) pins) (l .header .slots)
-      ≡ marking (graph (view l) (shown T (view l))) (starts (view l) roots pins) (length (view l .slots))
-  marking-is T roots = λ j. marking (formed-graph l (can .formed) T j) (formed-starts l (can .formed) roots pins j) (formed-count l (can .formed) j)
-
   -- as many marks as slots
-  pub marks-enough : length (view l .slots) ≤ length marks
-  marks-enough = omega (arith, formed-count l (can .formed), slots-room, can .marks-room)
+  marks-enough : length (view l .slots) ≤ length marks
+  marks-enough = omega (arith, in-use, slots-room, can .marks-room)
 
-  pub collect-done : (T : Table) (roots : List ℕ) (r : Outcome) (marks′ : List ℕ)
-      → told r marks′ ≡ marksIn (length marks)
-      (marking (graphIn T (l .header .tag) (l .header .slots) (l .generation) (l .kind) (l .type) (l .start) (l .end) (l .pool)) (startsOf roots (take (l .header .sealed) (l .sealed)) pins) (l .header .slots))
-      → (l′ : Lent) (answer : CollectAnswer) → Does l l′ (toldCollect answer) (finished r marks′ pins (view l)) → CollectDoes T l l′ answer roots pins
-  collect-done T roots r marks′ t l′ answer d =
-      subst (λ (x : Changed Unit). Does l l′ (toldCollect answer) x)
-      (finished-collected (view l) (shown T (view l)) (starts (view l) roots pins) (length marks) r marks′ marks-enough (t ∙ ap (marksIn (length marks)) (marking-is T roots))) d
+  module _ (T : Table) (r : Outcome) (marks′ : List ℕ) (l′ : Lent) (reply : Reply) (d : Tells nothing nothing l l′ reply (finished r marks′ pins (view l))) where
+    pub collect-done : (roots : List ℕ) → told r marks′ ≡ marksIn (length marks) (heapMarks T (view l) roots pins) → Tells nothing nothing l l′ reply (collecting T roots pins (view l))
+    collect-done roots t =
+        subst (λ (x : Changed Unit). Tells nothing nothing l l′ reply x)
+        (finished-collected (view l) (shown T (view l)) (starts (view l) roots pins) (length marks) r marks′ marks-enough t) d
+
+    pub joined-done : (frame : Option (List ℕ)) (values : List ℕ) → told r marks′ ≡ marksIn (length marks) (joinedMarks T (view l) frame values pins)
+        → Tells nothing nothing l l′ reply (joinedBy T frame values pins (view l))
+    joined-done none values t = subst (λ (x : Changed Unit). Tells nothing nothing l l′ reply x) (none-marked r marks′ pins (view l) t) d
+    joined-done (some handles) values t = collect-done (handles ++ values) t

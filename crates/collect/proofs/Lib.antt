@@ -1,3 +1,3 @@
--- What the proofs of several functions and other crates use.
+-- What the proofs of several functions use.
 pub mod Collecting
-pub mod Demand
+pub mod Looking

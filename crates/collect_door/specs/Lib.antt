@@ -1,4 +1,3 @@
--- The definitions that the public contract and the theorem over it cite.
-pub mod CollectCall
-pub mod CollectDemand
-pub mod CollectTold
+-- The definitions that the public contracts cite, and what demand 3 says over them.
+pub mod Calls
+pub mod Demand

@@ -164,14 +164,6 @@ pub exact : (f : Function) (r : ℕ) (X : ℕ → Bool) → Disjoint f → Sound
 exact f r X fine snd closed b p s l =
     (into-sound f r X snd b p s l, λ v. complete f r X fine closed (v .rest) p b s l (v .walk) (v .read))
 
--- .. and into each block
-pub exact-in : (f : Function) (r : ℕ) (X : ℕ → Bool) → Disjoint f → Sound f r X → Closed f r X
-    → (b : ℕ) → start f b < end f b → (X b ≡ true) ↔ Live f (start f b) r
-exact-in f r X fine snd closed b l = (
-  λ x. snd b x .1,
-  λ v. closed b (filled-known (f .blocks) b l) (into-back f r X b ∙ exact f r X fine snd closed b (start f b) (omega arith) l .1 v),
-)
-
 -- The least fixpoint: a sound and closed set is within every closed one
 pub least : (f : Function) (r : ℕ) (X Y : ℕ → Bool) → Disjoint f → Sound f r X → Closed f r Y → (b : ℕ) → X b ≡ true → Y b ≡ true
 least f r X Y fine snd closed b x =

@@ -1,5 +1,5 @@
 -- The ways out of a frame's trace, one law for each. Assumes nothing.
-use Prim.Native.Nat.{ℕ, _+_, _-_, _≤_, _<_}
+use Prim.Native.Nat.{ℕ, suc, _+_, _-_, _%_, _≤_, _<_}
 use mathlib.Core.Path.{_≡_, refl, sym, ap, _∙_}
 use mathlib.Core.List.{List, [], _∷_}
 use lib.ListN.{length, take, drop, getD, drop-of-length-le}
@@ -59,47 +59,51 @@ module _ (T : Table) (want off kind t : ℕ) (m : List ℕ) (k : Into) (s : Raw)
         unfolding entryRoots emitting emitAll
         entry-none w = rw (le-leb off (length m) l, ne-eqb kind 2 n2, le-leb kind 1 h, ne-eqb kind want w) refl
 
--- ---- trace_entries: the entries from i on are still to come. G is what all of them leave.
+-- ---- trace_entries: the entries from word `at` on are still to come. G is what all of them leave.
 
-entries-last : (os ks ts : List ℕ) (i : ℕ) → length os ≤ i → entriesOf (drop i os) ks ts ≡ []
+entries-next : (map : List ℕ) (at : ℕ) → at + 2 < length map
+    → entriesOf (drop at map) ≡ entry (getD map at 0) (getD map (at + 1) 0) (getD map (at + 2) 0) ∷ entriesOf (drop (at + 3) map)
 unfolding entriesOf
-entries-last os ks ts i h = rw (drop-of-length-le os {i = i} h) refl
+entries-next map at h =
+    let one : at + 1 < length map = omega arith in
+    let a = drop-cons map at 0 (omega arith) ∙ ap (λ (j : ℕ). getD map at 0 ∷ drop j map) (sym (add-one at)) in
+    let b = drop-cons map (at + 1) 0 one ∙ ap (λ (j : ℕ). getD map (at + 1) 0 ∷ drop j map) (next-one at) in
+    let d = drop-cons map (at + 2) 0 h ∙ ap (λ (j : ℕ). getD map (at + 2) 0 ∷ drop j map) (next-two at) in
+    rw (a, b, d) refl
+  where
+    next-one : (k : ℕ) → suc (k + 1) ≡ k + 2
+    next-one k = omega arith
 
-entries-next : (os ks ts : List ℕ) (i : ℕ) → i < length os → length ks ≡ length os → length ts ≡ length os → entriesOf (drop i os) (drop i ks) (drop i ts) ≡ entry (getD os i 0) (getD ks i 0) (getD ts i 0) ∷ entriesOf (drop (i + 1) os) (drop (i + 1) ks) (drop (i + 1) ts)
+    next-two : (k : ℕ) → suc (k + 2) ≡ k + 3
+    next-two k = omega arith
+
+entries-last : (map : List ℕ) (at : ℕ) → length map ≤ at → entriesOf (drop at map) ≡ []
 unfolding entriesOf
-entries-next os ks ts i h ek et =
-    let hk : i < length ks = omega arith in
-    let ht : i < length ts = omega arith in
-    rw (add-one, drop-cons os i 0 h, drop-cons ks i 0 hk, drop-cons ts i 0 ht) refl
+entries-last map at h = rw (drop-of-length-le map {i = at} h) refl
 
-module _ (T : Table) (want : ℕ) (m os ks ts : List ℕ) (i : ℕ) (k : Into) (ms to : List ℕ) (n : ℕ) (G : Result Raw) (inv : emitting k (rawOf ms to n) (entriesRoots T want m (entriesOf (drop i os) (drop i ks) (drop i ts))) ≡ G) where
-  pub entries-end : length os ≤ i → ok (rawOf ms to n) ≡ G
+module _ (T : Table) (want : ℕ) (m map : List ℕ) (at : ℕ) (k : Into) (ms to : List ℕ) (n : ℕ) (G : Result Raw) (inv : emitting k (rawOf ms to n) (entriesRoots T want m (entriesOf (drop at map))) ≡ G) where
+  pub entries-end : length map ≤ at → ok (rawOf ms to n) ≡ G
   unfolding entriesRoots emitting emitAll
-  entries-end h = rw (entries-last os (drop i ks) (drop i ts) i h) at inv
+  entries-end h = rw (entries-last map at h) at inv
 
-  module _ (lt : i < length os) (ek : length ks ≡ length os) (et : length ts ≡ length os) (r : Answer) (ms′ to′ : List ℕ) (er : told r ms′ to′ ≡ emitting k (rawOf ms to n) (entryRoots T want m (entry (getD os i 0) (getD ks i 0) (getD ts i 0)))) where
-    turn : entriesRoots T want m (entriesOf (drop i os) (drop i ks) (drop i ts)) ≡ both (entryRoots T want m (entry (getD os i 0) (getD ks i 0) (getD ts i 0))) (entriesRoots T want m (entriesOf (drop (i + 1) os) (drop (i + 1) ks) (drop (i + 1) ts)))
+  module _ (inside : at < length map) (whole : length map % 3 ≡ 0) (start : at % 3 ≡ 0) (r : Answer) (ms′ to′ : List ℕ) (er : told r ms′ to′ ≡ emitting k (rawOf ms to n) (entryRoots T want m (entry (getD map at 0) (getD map (at + 1) 0) (getD map (at + 2) 0)))) where
+    turn : entriesRoots T want m (entriesOf (drop at map)) ≡ both (entryRoots T want m (entry (getD map at 0) (getD map (at + 1) 0) (getD map (at + 2) 0))) (entriesRoots T want m (entriesOf (drop (at + 3) map)))
     unfolding entriesRoots
-    turn = rw (entries-next os ks ts i lt ek et) refl
+    turn = rw (entries-next map at (omega arith)) refl
 
     pub entries-fail : r ≡ Untraceable → refused 13 ≡ G
     entries-fail e = fail-words k (rawOf ms to n) _ _ (told-untraceable r ms′ to′ _ er e) ∙ ap (emitting k (rawOf ms to n)) (sym turn) ∙ inv
 
-    pub entries-more : (q : ℕ) → r ≡ Traced q → emitting k (rawOf ms′ to′ q) (entriesRoots T want m (entriesOf (drop (i + 1) os) (drop (i + 1) ks) (drop (i + 1) ts))) ≡ G
+    pub entries-more : (q : ℕ) → r ≡ Traced q → emitting k (rawOf ms′ to′ q) (entriesRoots T want m (entriesOf (drop (at + 3) map))) ≡ G
     entries-more q e = then-words k (rawOf ms to n) (rawOf ms′ to′ q) _ _ (told-traced r ms′ to′ _ q er e) ∙ ap (emitting k (rawOf ms to n)) (sym turn) ∙ inv
 
 -- ---- trace_frame
 
-module _ (T : Table) (want : ℕ) (os ks ts m : List ℕ) (k : Into) (s : Raw) where
-  pub frame-kinds : (length ks ≡ length os → ⊥) → refused 13 ≡ emitting k s (frameRoots T want os ks ts m)
+module _ (T : Table) (want : ℕ) (map m : List ℕ) (k : Into) (s : Raw) where
+  pub frame-cut : (length map % 3 ≡ 0 → ⊥) → refused 13 ≡ emitting k s (frameRoots T want map m)
   unfolding frameRoots emitting
-  frame-kinds h = rw (ne-eqb (length ks) (length os) h) refl
+  frame-cut h = rw (ne-eqb (length map % 3) 0 h) refl
 
-  module _ (ek : length ks ≡ length os) where
-    pub frame-types : (length ts ≡ length os → ⊥) → refused 13 ≡ emitting k s (frameRoots T want os ks ts m)
-    unfolding frameRoots emitting
-    frame-types h = rw (eq-eqb (length ks) (length os) ek, ne-eqb (length ts) (length os) h) refl
-
-    pub frame-entries : length ts ≡ length os → (r : Answer) (ms to : List ℕ) → told r ms to ≡ emitting k s (entriesRoots T want m (entriesOf os ks ts)) → told r ms to ≡ emitting k s (frameRoots T want os ks ts m)
-    unfolding frameRoots
-    frame-entries h r ms to er = rw (eq-eqb (length ks) (length os) ek, eq-eqb (length ts) (length os) h) er
+  pub frame-entries : length map % 3 ≡ 0 → (r : Answer) (ms to : List ℕ) → told r ms to ≡ emitting k s (entriesRoots T want m (entriesOf map)) → told r ms to ≡ emitting k s (frameRoots T want map m)
+  unfolding frameRoots
+  frame-entries h r ms to er = rw (eq-eqb (length map % 3) 0 h) er

@@ -1,6 +1,5 @@
 -- The handles and the addresses of a frame's memory by its map (01, "Frame map and joined collection"; slot_roots of heap.rs).
-use Prim.Native.Nat.{ℕ}
-use mathlib.Core.Bool.{_&&_}
+use Prim.Native.Nat.{ℕ, _%_}
 use mathlib.Core.Option.{Option, none, some}
 use mathlib.Core.List.{List, [], _∷_}
 use lib.ListN.{length, drop}
@@ -13,12 +12,12 @@ use Rattle.trace.specs.Places.{both, handleAt, valueHandles}
 pub data Entry : Type 0 where
   entry : ℕ → ℕ → ℕ → Entry
 
--- the map as it is lent: three lists of one length
-unfoldable pub entriesOf : List ℕ → List ℕ → List ℕ → List Entry
-entriesOf [] ks ts = []
-entriesOf (o ∷ os) [] ts = []
-entriesOf (o ∷ os) (k ∷ ks) [] = []
-entriesOf (o ∷ os) (k ∷ ks) (t ∷ ts) = entry o k t ∷ entriesOf os ks ts
+-- the entries of a map as it is lent: three words each
+unfoldable pub entriesOf : List ℕ → List Entry
+entriesOf [] = []
+entriesOf (o ∷ []) = []
+entriesOf (o ∷ k ∷ []) = []
+entriesOf (o ∷ k ∷ t ∷ rest) = entry o k t ∷ entriesOf rest
 
 -- the word at the start of bytes; fewer than eight give none
 unfoldable pub firstWord : List ℕ → List ℕ
@@ -37,13 +36,13 @@ unfoldable pub entriesRoots : Table → ℕ → List ℕ → List Entry → Opti
 entriesRoots T want m [] = some []
 entriesRoots T want m (e ∷ es) = both (entryRoots T want m e) (entriesRoots T want m es)
 
--- a map whose lists are of unlike lengths fails
-unfoldable pub frameRoots : Table → ℕ → (offsets kinds types memory : List ℕ) → Option (List ℕ)
-frameRoots T want os ks ts m = if eqb (length ks) (length os) && eqb (length ts) (length os) then entriesRoots T want m (entriesOf os ks ts) else none
+-- a map whose last entry is cut short fails
+unfoldable pub frameRoots : Table → ℕ → (map memory : List ℕ) → Option (List ℕ)
+frameRoots T want map m = if eqb (length map % 3) 0 then entriesRoots T want m (entriesOf map) else none
 
 -- the handles and the addresses of a frame
-abbrev pub frameHandles : Table → (offsets kinds types memory : List ℕ) → Option (List ℕ)
-frameHandles T os ks ts m = frameRoots T 0 os ks ts m
+abbrev pub frameHandles : Table → (map memory : List ℕ) → Option (List ℕ)
+frameHandles T map m = frameRoots T 0 map m
 
-abbrev pub frameAddresses : Table → (offsets kinds types memory : List ℕ) → Option (List ℕ)
-frameAddresses T os ks ts m = frameRoots T 1 os ks ts m
+abbrev pub frameAddresses : Table → (map memory : List ℕ) → Option (List ℕ)
+frameAddresses T map m = frameRoots T 1 map m

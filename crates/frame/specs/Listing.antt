@@ -8,8 +8,8 @@ use lib.Dec.{leb}
 use Rattle.word.specs.Choice.{if_then_else_}
 use Rattle.word.specs.Put.{put}
 use Rattle.word.specs.Result.{Result, ok, refused}
-use Rattle.frame.specs.declared.Framed.{Framed}
-use Rattle.frame.specs.declared.Framed.the-variants.{Wrote, BadTable, Failed, Short}
+use Rattle.refusal.specs.declared.Reply.{Reply}
+use Rattle.refusal.specs.Told.{told, answered}
 
 -- handles and addresses
 pub record Roots : Type 0 where
@@ -25,18 +25,6 @@ rootsListing none a hroom aroom = refused 13
 rootsListing (some hs) none hroom aroom = refused 13
 rootsListing (some hs) (some ds) hroom aroom = if leb (length hs) hroom then (if leb (length ds) aroom then ok (roots hs ds) else refused 7) else refused 7
 
--- how many of each
-pub record Counts : Type 0 where
-  pub handles : ℕ
-  pub addresses : ℕ
-
-abbrev pub counts : ℕ → ℕ → Counts
-counts h a = record { handles = h; addresses = a }
-
-abbrev pub countedRoots : Result Roots → Result Counts
-countedRoots (ok r) = ok (counts (length (r .handles)) (length (r .addresses)))
-countedRoots (refused n) = refused n
-
 -- what the lent lists hold afterwards
 abbrev pub handlesTo : List ℕ → Result Roots → List ℕ
 handlesTo out (ok r) = put out 0 (r .handles) (length (r .handles))
@@ -46,15 +34,8 @@ abbrev pub addressesTo : List ℕ → Result Roots → List ℕ
 addressesTo out (ok r) = put out 0 (r .addresses) (length (r .addresses))
 addressesTo out (refused n) = out
 
--- each answer's number and values
-abbrev pub toldFramed : Framed → Result Counts
-toldFramed (Wrote h a) = ok (counts h a)
-toldFramed BadTable = refused 10
-toldFramed Failed = refused 13
-toldFramed Short = refused 7
-
--- the answer and the lists after a call that gives these roots or a refusal
-pub record Frames (call : Result Roots) (r : Framed) (hs ds hs′ ds′ : List ℕ) : Type 0 where
-  pub answer : toldFramed r ≡ countedRoots call
+-- the answer, how many of each were written, and the lists after a call that gives these roots or a refusal
+pub record Frames (call : Result Roots) (r : Reply) (hs ds hs′ ds′ : List ℕ) : Type 0 where
+  pub answer : told r ≡ answered (λ c. length (c .handles)) (λ c. length (c .addresses)) call
   pub handles : hs′ ≡ handlesTo hs call
   pub addresses : ds′ ≡ addressesTo ds call

@@ -1,42 +1,37 @@
-// The frame map: slot_roots of heap.rs. A map is lent as three lists, offsets, kinds and types, and goes with the frame's memory.
+// The frame map: slot_roots of heap.rs. A map is lent as one list, three words an entry (offset, kind, type), and goes with the frame's memory.
+use refusal::Refusal;
+use refusal::Reply;
 use trace::Answer;
 use trace::Sink;
 ghost use mathlib.Core.Path.{_≡_};
-ghost use Prim.Native.Nat.{ℕ, _+_, _-_, _≤_, _<_};
+ghost use Prim.Native.Nat.{_%_};
 ghost use lib.ListN.{length};
 ghost use Rattle.ty.specs.View.{tableOf};
-ghost use Rattle.trace.specs.Emit.{rawOf, into, resolveIn, Columns, emitAll, emitting, told};
+ghost use Rattle.trace.specs.Emit.{rawOf, into, resolveIn, Runs, emitAll, emitting, told};
 ghost use Rattle.frame.specs.Frame.{entry, entriesOf, firstWord, entryRoots, entriesRoots, frameRoots, frameHandles, frameAddresses};
 ghost use Rattle.frame.specs.Listing.{rootsListing, Frames};
 
-// How many handles and addresses were written to the lent lists, or why none were.
-pub enum Framed {
-    Wrote { handles: usize, addresses: usize },
-    BadTable,
-    Failed,
-    Short,
-}
-
 // The word at the start of bytes, if there are eight.
 fn first_word(
-    data: &[u8],
     tag: u8,
     slots: usize,
-    generation: &[u32],
-    kind: &[u8],
+    s: usize,
+    narrow: &[u32],
+    data: &[u8],
     sink: Sink,
     marks: &mut [u8],
     to: &mut [u64],
     n: usize,
 ) -> usize
-    requires { ⌜ Columns slots (now generation) (now kind) ⌝ }
-    ensures { λ r. ⌜ rawOf (now (marks .exit)) (now (to .exit)) r ≡ emitAll (into sink (resolveIn tag slots (now (generation .entry)) (now (kind .entry)))) (rawOf (now (marks .entry)) (now (to .entry)) n) (firstWord (now («data» .entry))) ⌝ }
+    requires { ⌜ Runs slots s (now narrow) ⌝ }
+    ensures { λ r. ⌜ rawOf (now (marks .exit)) (now (to .exit)) r ≡
+        emitAll (into sink (resolveIn tag slots s (now (narrow .entry)))) (rawOf (now (marks .entry)) (now (to .entry)) n) (firstWord (now («data» .entry))) ⌝ }
 {
     if data.len() < 8 {
         return n;
     }
     let h = word::get_le(data, 0, 8);
-    trace::emit(tag, slots, generation, kind, sink, marks, to, n, h)
+    trace::emit(tag, slots, s, narrow, sink, marks, to, n, h)
 }
 
 // What one entry of a frame map gives of a kind: 0 handles, 1 addresses.
@@ -45,22 +40,23 @@ fn trace_entry(
     fields: &[u32],
     consts: &[u64],
     bytes: &[u8],
-    want: u8,
-    offset: usize,
-    of: u8,
-    t: u64,
-    memory: &[u8],
     tag: u8,
     slots: usize,
-    generation: &[u32],
-    kind: &[u8],
+    s: usize,
+    narrow: &[u32],
+    want: u32,
+    offset: usize,
+    of: u32,
+    t: u64,
+    memory: &[u8],
     sink: Sink,
     marks: &mut [u8],
     to: &mut [u64],
     n: usize,
 ) -> Answer
-    requires { ⌜ Columns slots (now generation) (now kind) ⌝ }
-    ensures { λ r. ⌜ told r (now (marks .exit)) (now (to .exit)) ≡ emitting (into sink (resolveIn tag slots (now (generation .entry)) (now (kind .entry)))) (rawOf (now (marks .entry)) (now (to .entry)) n)
+    requires { ⌜ Runs slots s (now narrow) ⌝ }
+    ensures { λ r. ⌜ told r (now (marks .exit)) (now (to .exit)) ≡
+        emitting (into sink (resolveIn tag slots s (now (narrow .entry)))) (rawOf (now (marks .entry)) (now (to .entry)) n)
         (entryRoots (tableOf (now (types .entry)) (now (fields .entry)) (now (consts .entry)) (now (bytes .entry))) want (now (memory .entry)) (entry offset of t)) ⌝ }
 {
     if memory.len() < offset {
@@ -73,12 +69,12 @@ fn trace_entry(
                 fields,
                 consts,
                 bytes,
-                t,
-                &memory[offset..],
                 tag,
                 slots,
-                generation,
-                kind,
+                s,
+                narrow,
+                t,
+                &memory[offset..],
                 sink,
                 marks,
                 to,
@@ -91,17 +87,7 @@ fn trace_entry(
         return Answer::Untraceable;
     }
     if of == want {
-        let m = first_word(
-            &memory[offset..],
-            tag,
-            slots,
-            generation,
-            kind,
-            sink,
-            marks,
-            to,
-            n,
-        );
+        let m = first_word(tag, slots, s, narrow, &memory[offset..], sink, marks, to, n);
         return Answer::Traced(m);
     }
     Answer::Traced(n)
@@ -113,44 +99,43 @@ fn trace_entries(
     fields: &[u32],
     consts: &[u64],
     bytes: &[u8],
-    want: u8,
-    offsets: &[u32],
-    kinds: &[u8],
-    tys: &[u32],
-    memory: &[u8],
     tag: u8,
     slots: usize,
-    generation: &[u32],
-    kind: &[u8],
+    s: usize,
+    narrow: &[u32],
+    want: u32,
+    map: &[u32],
+    memory: &[u8],
     sink: Sink,
     marks: &mut [u8],
     to: &mut [u64],
     n: usize,
 ) -> Answer
-    requires { ⌜ (length (now kinds) ≡ length (now offsets)) × (length (now tys) ≡ length (now offsets)) × Columns slots (now generation) (now kind) ⌝ }
-    ensures { λ r. ⌜ told r (now (marks .exit)) (now (to .exit)) ≡ emitting (into sink (resolveIn tag slots (now (generation .entry)) (now (kind .entry)))) (rawOf (now (marks .entry)) (now (to .entry)) n)
-        (entriesRoots (tableOf (now (types .entry)) (now (fields .entry)) (now (consts .entry)) (now (bytes .entry))) want (now (memory .entry)) (entriesOf (now (offsets .entry)) (now (kinds .entry)) (now (tys .entry)))) ⌝ }
+    requires { ⌜ (length (now map) % 3 ≡ 0) × Runs slots s (now narrow) ⌝ }
+    ensures { λ r. ⌜ told r (now (marks .exit)) (now (to .exit)) ≡
+        emitting (into sink (resolveIn tag slots s (now (narrow .entry)))) (rawOf (now (marks .entry)) (now (to .entry)) n)
+        (entriesRoots (tableOf (now (types .entry)) (now (fields .entry)) (now (consts .entry)) (now (bytes .entry))) want (now (memory .entry)) (entriesOf (now (map .entry)))) ⌝ }
 {
-    let mut i: usize = 0;
+    let mut at: usize = 0;
     let mut m = n;
-    while i < offsets.len() {
-        let offset = offsets[i] as usize;
-        let of = kinds[i];
-        let t = tys[i] as u64;
+    while at < map.len() {
+        let offset = map[at] as usize;
+        let of = map[at + 1];
+        let t = map[at + 2] as u64;
         let r = trace_entry(
             types,
             fields,
             consts,
             bytes,
+            tag,
+            slots,
+            s,
+            narrow,
             want,
             offset,
             of,
             t,
             memory,
-            tag,
-            slots,
-            generation,
-            kind,
             sink,
             marks,
             to,
@@ -160,39 +145,35 @@ fn trace_entries(
             return Answer::Untraceable;
         };
         m = q;
-        i += 1;
+        at += 3;
     }
     Answer::Traced(m)
 }
 
-// What a frame gives of a kind: 0 handles, 1 addresses. A map whose lists are of unlike lengths fails.
+// What a frame gives of a kind: 0 handles, 1 addresses. A map whose last entry is cut short fails.
 pub fn trace_frame(
     types: &[u64],
     fields: &[u32],
     consts: &[u64],
     bytes: &[u8],
-    want: u8,
-    offsets: &[u32],
-    kinds: &[u8],
-    tys: &[u32],
-    memory: &[u8],
     tag: u8,
     slots: usize,
-    generation: &[u32],
-    kind: &[u8],
+    s: usize,
+    narrow: &[u32],
+    want: u32,
+    map: &[u32],
+    memory: &[u8],
     sink: Sink,
     marks: &mut [u8],
     to: &mut [u64],
     n: usize,
 ) -> Answer
-    requires { ⌜ Columns slots (now generation) (now kind) ⌝ }
-    ensures { λ r. ⌜ told r (now (marks .exit)) (now (to .exit)) ≡ emitting (into sink (resolveIn tag slots (now (generation .entry)) (now (kind .entry)))) (rawOf (now (marks .entry)) (now (to .entry)) n)
-        (frameRoots (tableOf (now (types .entry)) (now (fields .entry)) (now (consts .entry)) (now (bytes .entry))) want (now (offsets .entry)) (now (kinds .entry)) (now (tys .entry)) (now (memory .entry))) ⌝ }
+    requires { ⌜ Runs slots s (now narrow) ⌝ }
+    ensures { λ r. ⌜ told r (now (marks .exit)) (now (to .exit)) ≡
+        emitting (into sink (resolveIn tag slots s (now (narrow .entry)))) (rawOf (now (marks .entry)) (now (to .entry)) n)
+        (frameRoots (tableOf (now (types .entry)) (now (fields .entry)) (now (consts .entry)) (now (bytes .entry))) want (now (map .entry)) (now (memory .entry))) ⌝ }
 {
-    if kinds.len() != offsets.len() {
-        return Answer::Untraceable;
-    }
-    if tys.len() != offsets.len() {
+    if map.len() % 3 != 0 {
         return Answer::Untraceable;
     }
     trace_entries(
@@ -200,15 +181,13 @@ pub fn trace_frame(
         fields,
         consts,
         bytes,
-        want,
-        offsets,
-        kinds,
-        tys,
-        memory,
         tag,
         slots,
-        generation,
-        kind,
+        s,
+        narrow,
+        want,
+        map,
+        memory,
         sink,
         marks,
         to,
@@ -222,18 +201,18 @@ pub fn list_roots(
     fields: &[u32],
     consts: &[u64],
     bytes: &[u8],
-    offsets: &[u32],
-    kinds: &[u8],
-    tys: &[u32],
+    map: &[u32],
     memory: &[u8],
     handles: &mut [u64],
     addresses: &mut [u64],
-) -> Framed
-    ensures { λ r. ⌜ Frames (rootsListing (frameHandles (tableOf (now (types .entry)) (now (fields .entry)) (now (consts .entry)) (now (bytes .entry))) (now (offsets .entry)) (now (kinds .entry)) (now (tys .entry)) (now (memory .entry))) (frameAddresses (tableOf (now (types .entry)) (now (fields .entry)) (now (consts .entry)) (now (bytes .entry))) (now (offsets .entry)) (now (kinds .entry)) (now (tys .entry)) (now (memory .entry))) (length (now (handles .entry))) (length (now (addresses .entry)))) r
+) -> Reply
+    ensures { λ r. ⌜ Frames (rootsListing
+        (frameHandles (tableOf (now (types .entry)) (now (fields .entry)) (now (consts .entry)) (now (bytes .entry))) (now (map .entry)) (now (memory .entry)))
+        (frameAddresses (tableOf (now (types .entry)) (now (fields .entry)) (now (consts .entry)) (now (bytes .entry))) (now (map .entry)) (now (memory .entry)))
+        (length (now (handles .entry))) (length (now (addresses .entry)))) r
         (now (handles .entry)) (now (addresses .entry)) (now (handles .exit)) (now (addresses .exit)) ⌝ }
 {
-    let generation = [0u32; 1];
-    let dead = [0u8; 1];
+    let narrow = [0u32; 1];
     let mut marks = [0u8; 1];
     let mut unused = [0u64; 1];
     let lh = handles.len();
@@ -244,49 +223,45 @@ pub fn list_roots(
         consts,
         bytes,
         0,
-        offsets,
-        kinds,
-        tys,
+        0,
+        0,
+        &narrow,
+        0,
+        map,
         memory,
-        0,
-        0,
-        &generation,
-        &dead,
         Sink::Check(lh),
         &mut marks,
         &mut unused,
         0,
     );
     let Answer::Traced(nh) = a else {
-        return Framed::Failed;
+        return Reply::Not(Refusal::Untraceable);
     };
     let b = trace_frame(
         types,
         fields,
         consts,
         bytes,
+        0,
+        0,
+        0,
+        &narrow,
         1,
-        offsets,
-        kinds,
-        tys,
+        map,
         memory,
-        0,
-        0,
-        &generation,
-        &dead,
         Sink::Check(la),
         &mut marks,
         &mut unused,
         0,
     );
     let Answer::Traced(na) = b else {
-        return Framed::Failed;
+        return Reply::Not(Refusal::Untraceable);
     };
     if lh < nh {
-        return Framed::Short;
+        return Reply::Not(Refusal::ShortList);
     }
     if la < na {
-        return Framed::Short;
+        return Reply::Not(Refusal::ShortList);
     }
     trace_frame(
         types,
@@ -294,14 +269,12 @@ pub fn list_roots(
         consts,
         bytes,
         0,
-        offsets,
-        kinds,
-        tys,
+        0,
+        0,
+        &narrow,
+        0,
+        map,
         memory,
-        0,
-        0,
-        &generation,
-        &dead,
         Sink::List,
         &mut marks,
         handles,
@@ -312,22 +285,17 @@ pub fn list_roots(
         fields,
         consts,
         bytes,
+        0,
+        0,
+        0,
+        &narrow,
         1,
-        offsets,
-        kinds,
-        tys,
+        map,
         memory,
-        0,
-        0,
-        &generation,
-        &dead,
         Sink::List,
         &mut marks,
         addresses,
         0,
     );
-    Framed::Wrote {
-        handles: nh,
-        addresses: na,
-    }
+    Reply::Is(nh as u64, na as u64)
 }

@@ -10,3 +10,5 @@ pub mod Testing
 pub mod Keeping
 pub mod Runs
 pub mod Telling
+pub mod Sizes
+pub mod Recycled

@@ -8,6 +8,7 @@ ghost use Rattle.heap.specs.Packing.{startOf};
 ghost use Rattle.heap.specs.Calls.{new as newHeap};
 ghost use Rattle.heap.specs.Lent.{headerOf, lent};
 ghost use Rattle.heap.specs.Header.{setCharged, setChanged, setSince, setReclaim, setLive, setSlots, setFree, setQuarantine, setSealed};
+ghost use Rattle.heap.specs.Sizes.{sizesFit};
 ghost use Rattle.heap.specs.Columns.{CanSplice, Spliced, CanPlace, PlacedIn};
 
 // The numbers of a heap, and how many entries of the slots and of each list are in use.
@@ -119,6 +120,29 @@ impl Heap {
 pub struct Changed {
     pub heap: Heap,
     pub reply: Reply,
+}
+
+// Are the lent sizes in range: six narrow runs and four wide ones?
+pub fn sizes_fit(narrow: usize, wide: usize, pool: usize) -> bool
+    ensures { λ r. ⌜ r ≡ sizesFit narrow wide pool ⌝ }
+{
+    let all = narrow / 6;
+    if all < 1 {
+        return false;
+    }
+    if 16777216 < all {
+        return false;
+    }
+    if 1073741824 < pool {
+        return false;
+    }
+    if narrow != 6 * all {
+        return false;
+    }
+    if wide != 4 * all {
+        return false;
+    }
+    true
 }
 
 // Where the data of slot `i` starts in the pool, by the ends in the second run of `s`.

@@ -1,14 +1,13 @@
 -- The public call `data` answers two numbers: the pool's bytes there are the visible data (01, "Heap": visible data runs from start). Assumes nothing.
 use mathlib.Core.Path.{_≡_, refl, sym, ap, _∙_}
-use mathlib.Core.Bool.{Bool, true, false, not}
-use mathlib.Core.List.{List, [], _++_, append-assoc}
+use mathlib.Core.Bool.{Bool, true, false}
+use mathlib.Core.List.{List, [], _∷_, _++_, append-assoc}
 use Prim.Native.Nat.{ℕ, suc, _+_, _-_, _≤_, _<_}
 use native.Mathlib.Omega.{arith}
 use lib.ListN.{length, getD, take, drop, replicate, length-drop, length-map, List·getD-map}
 use lib.Seq.{take-at, drop-append-add, drop-append-le}
 use lib.Dec.{leb}
 use borrow.Author.Tests.{leb-true}
-use Rattle.word.specs.Choice.{if_then_else_}
 use Rattle.word.specs.Result.{Result, ok, refused}
 use Rattle.heap.specs.Packing.{pad, flat}
 use Rattle.heap.specs.State.{Slot, State, noSlot, slotAt, dataOf, dataSize, live}
@@ -17,9 +16,19 @@ use Rattle.heap.specs.WellFormed.{wellFormed}
 use Rattle.heap.specs.Calls.{Place, visibleAt, placeAt}
 use Rattle.heap.proofs.Packing.{flat-split, start-of}
 use Rattle.heap.proofs.Testing.{formed-tested}
-use Rattle.heap_edit.proofs.Asking.{from-at}
-use Rattle.heap_edit.proofs.Keeping.{live-inside}
-use Rattle.heap_door.specs.HeapCalls.{Told, toldWith, enough, zeros, heapAsk}
+use Rattle.refusal.specs.Told.{numberOf, refusedBy, answered}
+use Rattle.refusal.specs.declared.Reply.{Reply}
+use Rattle.refusal.specs.declared.Reply.the-variants.{Is, Not as Refused}
+use Rattle.refusal.proofs.Numbers.{told-once}
+use Rattle.refusal.specs.declared.Answer.{Answer}
+use Rattle.refusal.specs.declared.Refusal.{Refusal}
+use Rattle.refusal.specs.declared.Refusal.the-variants.{BrokenHeap, Scratch}
+use Rattle.heap_edit.proofs.Columns.{from-at}
+use Rattle.heap_edit.proofs.Soundness.{live-inside}
+use Rattle.door.specs.HeapCalls.{test, admitted, enough, heapTests, Asked, asked, heapAsk}
+use Rattle.door.specs.declared.Entry.{Entry}
+use Rattle.door.specs.declared.Entry.the-variants.{Ready, Not}
+use Rattle.door.proofs.Entering.{passed, asking-not, asking-ready}
 
 -- the bytes at a place, a refusal where there is none
 abbrev pub bytesIn : (pool : List ℕ) → Result Place → Result (List ℕ)
@@ -66,22 +75,42 @@ visible-lent l i w =
     visible-stored (slotCount l) (poolSize l) (view l) i
     ∙ ap (λ (x : Lent). bytesIn (x .pool) (placeAt (view l) i)) (sym (formed-tested l w .lies))
 
-never : {X : Type 0} → _≡_ {A = ℕ} 0 1 → X
-never q = absurd (omega arith)
+abbrev code : Result Place → ℕ
+code (ok p) = 1
+code (refused n) = n
+
+refused-some : (h : State) (i n : ℕ) → placeAt h i ≡ refused n → n ≡ 0 → ⊥
+unfolding placeAt
+refused-some h i n q z = go (live (slotAt h i)) (leb (slotAt h i .start) (length (slotAt h i .bytes))) refl refl
+  where
+    go : (b c : Bool) → live (slotAt h i) ≡ b → leb (slotAt h i .start) (length (slotAt h i .bytes)) ≡ c → ⊥
+    go false c e f = let a : code (placeAt h i) ≡ 9 = simp e in omega (arith, ap code q)
+    go true false e f = let a : code (placeAt h i) ≡ 9 = simp (e, f) in omega (arith, ap code q)
+    go true true e f = let a : code (placeAt h i) ≡ 1 = simp (e, f) in omega (arith, ap code q)
+
+abbrev isNot : Reply → ℕ
+isNot (Is a b) = 0
+isNot (Refused why) = 1
+
+some-number : (why : Refusal) → numberOf why ≡ 0 → ⊥
+some-number why e = let z : _≡_ {A = ℕ} 1 0 = ap isNot (told-once (Refused why) (Is 0 0) (ap refusedBy e)) in omega arith
 
 -- THE LAW of the public call: where it answers a place, the lent pool's bytes there are the visible data of the slot
-pub data-visible : (marks work marks′ work′ : List ℕ) (l : Lent) (i from size : ℕ)
-    → toldWith (ok (record { from = from; size = size })) marks′ work′ ≡ heapAsk marks work l (λ h. placeAt h i)
-    → visibleAt (view l) i ≡ ok (take size (drop from (l .pool)))
-unfolding heapAsk
-data-visible m w m′ w′ l i from size e = go (enough m w l) (wellFormed l) refl e
+pub data-visible : {answer : Answer} (marks work marks′ work′ : List ℕ) (l : Lent) (i : ℕ)
+    → asked answer marks′ work′ ≡ heapAsk (λ (p : Place). p .from) (λ (p : Place). p .size) marks work l (λ h. placeAt h i) → answer .number ≡ 0
+    → visibleAt (view l) i ≡ ok (take (answer .second) (drop (answer .first) (l .pool)))
+data-visible {answer} m w m′ w′ l i e z = by-tests (admitted (heapTests m w l)) refl
   where
-    told : Result Place
-    told = ok (record { from = from; size = size })
+    place : Result Place → Answer
+    place = answered (λ (p : Place). p .from) (λ (p : Place). p .size)
 
-    go : (b c : Bool) → wellFormed l ≡ c
-        → toldWith told m′ w′ ≡ (if not b then toldWith (refused 18) m w else if not c then toldWith (refused 1) (zeros m) (zeros w) else toldWith (placeAt (view l) i) (zeros m) (zeros w))
-        → visibleAt (view l) i ≡ ok (take size (drop from (l .pool)))
-    go false c f q = let p : told ≡ refused 18 = ap (λ (t : Told Place). t .answer) q in never (cc)
-    go true false f q = let p : told ≡ refused 1 = ap (λ (t : Told Place). t .answer) q in never (cc)
-    go true true f q = visible-lent l i f ∙ ap (bytesIn (l .pool)) (sym (ap (λ (t : Told Place). t .answer) q))
+    at : (r : Result Place) → placeAt (view l) i ≡ r → answer ≡ place r → wellFormed l ≡ true → visibleAt (view l) i ≡ ok (take (answer .second) (drop (answer .first) (l .pool)))
+    at (ok p) q t f = visible-lent l i f ∙ ap (bytesIn (l .pool)) q ∙ (λ j. ok (take (sym (ap (λ (a : Answer). a .second) t) j) (drop (sym (ap (λ (a : Answer). a .first) t) j) (l .pool))))
+    at (refused n) q t f = absurd (refused-some (view l) i n q (sym (ap (λ (a : Answer). a .number) t) ∙ z))
+
+    by-tests : (x : Entry) → admitted (heapTests m w l) ≡ x → visibleAt (view l) i ≡ ok (take (answer .second) (drop (answer .first) (l .pool)))
+    by-tests (Not why) q =
+        absurd (some-number why (sym (ap (λ (a : Asked). a .answer .number) (e ∙ asking-not _ _ _ _ l (λ h. placeAt h i) q)) ∙ z))
+    by-tests Ready q =
+        at (placeAt (view l) i) refl (ap (λ (a : Asked). a .answer) (e ∙ asking-ready _ _ _ _ l (λ h. placeAt h i) q))
+        (passed (wellFormed l) BrokenHeap [] (passed (enough m w l) Scratch (test (wellFormed l) BrokenHeap ∷ []) q .1) .0)

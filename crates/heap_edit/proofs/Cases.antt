@@ -1,16 +1,15 @@
 -- Each call by its cases, as the definitions branch. Assumes nothing.
-use mathlib.Core.Path.{_≡_, refl, sym, ap, _∙_}
-use mathlib.Core.Bool.{Bool, true, false}
+use mathlib.Core.Path.{_≡_, ap, _∙_}
+use mathlib.Core.Bool.{true, false}
 use mathlib.Core.List.{List}
 use Prim.Native.Nat.{ℕ, _+_, _-_, _≤_, _<_}
 use lib.ListN.{length}
-use lib.Dec.{ltb, leb}
 use borrow.Author.Tests.{lt-ltb, le-ltb, le-leb, lt-leb}
 use Rattle.word.specs.Put.{put}
 use Rattle.word.specs.Result.{Result, ok, refused}
 use Rattle.handle.specs.Handle.{packed}
-use Rattle.heap.specs.State.{Slot, State, slotAt, live, dataSize}
-use Rattle.heap.specs.Calls.{Changed, refuse, done, withSlot, changed, charged, rewritten, reissued, resolve, onSlot, editSlot, edit, write, reissue}
+use Rattle.heap.specs.State.{State, slotAt, live, dataSize}
+use Rattle.heap.specs.Calls.{refuse, done, withSlot, changed, charged, rewritten, reissued, resolve, onSlot, editSlot, edit, write, reissue}
 
 module _ (P : ℕ) (h : State) (x : ℕ) (bytes : List ℕ) (start : ℕ) where
   pub edit-unresolved : (n : ℕ) → resolve h x ≡ refused n → edit P h x bytes start ≡ refuse n h

@@ -1,6 +1,11 @@
-pub mod Asking
+pub mod Columns
+pub mod Questions
 pub mod Cases
-pub mod Keeping
-pub mod Lying
-pub mod Calling
+pub mod Soundness
+pub mod Replacing
+pub mod Editing
+pub mod Writing
+pub mod Reissuing
 pub mod Listing
+pub mod Sealing
+pub mod Making

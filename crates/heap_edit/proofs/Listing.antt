@@ -2,7 +2,7 @@
 use mathlib.Core.Path.{_≡_, refl, sym, ap, _∙_, subst}
 use mathlib.Core.Bool.{Bool, true, false}
 use mathlib.Core.List.{List, [], _∷_, _++_, append-nil}
-use Prim.Native.Nat.{ℕ, zero, suc, _+_, _-_, _≤_, _<_}
+use Prim.Native.Nat.{ℕ, suc, _+_, _-_, _/_, _≤_, _<_}
 use native.Mathlib.Decide.{ℕ-discrete}
 use native.Mathlib.Nat.{zero-add}
 use native.Mathlib.Numerals.{add-one}
@@ -11,14 +11,17 @@ use lib.ListN.{length, getD, take, drop, set, replicate, length-append, length-d
 use lib.Seq.{drop-cons, take-at, take-all}
 use Rattle.word.specs.Choice.{if_then_else_}
 use Rattle.word.specs.Put.{put}
-use Rattle.word.proofs.PutLaws.{Filling, fill-start, fill-next, fill-stop, put-all}
+use Rattle.word.proofs.PutLaws.{Filling, fill-start, fill-next}
 use Rattle.handle.specs.Handle.{packed}
 use Rattle.heap.specs.Packing.{pad}
 use Rattle.heap.specs.State.{Slot, State, noSlot, slotAt, live, bit}
-use Rattle.heap.specs.Lent.{Lent, stored}
 use Rattle.heap.specs.Calls.{liveCount, liveHandles}
-use Rattle.heap_edit.specs.Asked.{Listing, Listed}
-use Rattle.heap_edit.proofs.Asking.{generation-at, none-dead, one-live}
+use Rattle.heap_edit.specs.inner.Handles.{Listing, Listed, AllListed}
+use Rattle.heap.specs.Lent.{lent, view}
+use Rattle.heap.specs.WellFormed.{wellFormed}
+use Rattle.heap.specs.declared.Heap.{Heap}
+use Rattle.heap_edit.proofs.Columns.{sizes, reads}
+use Rattle.heap_edit.proofs.Questions.{alive, lifeless}
 
 -- ---- counting
 
@@ -33,11 +36,11 @@ next-count : (h : State) (i : ℕ) → i < length (h .slots) → liveCount (drop
 unfolding liveCount
 next-count h i b = ap liveCount (drop-cons (h .slots) i noSlot b) ∙ ap (λ (k : ℕ). bit (live (slotAt h i)) + liveCount (drop k (h .slots))) (sym (add-one i))
 
-pub count-live : (S P : ℕ) (h : State) (count i : ℕ) (ks : List ℕ) → Counting h count i → i < length (h .slots) → ks ≡ stored S P h .kind → (getD ks i 0 ≡ 0 → ⊥) → Counting h (count + 1) (i + 1)
-count-live S P h count i ks c b k n = record { left = omega (arith, c .left, next-count h i b, ap bit (one-live h i S P ks k n)) }
+pub count-live : {h : State} {count i k : ℕ} → Counting h count i → i < length (h .slots) → k ≡ slotAt h i .kind → (k ≡ 0 → ⊥) → Counting h (count + 1) (i + 1)
+count-live {h} {count} {i} c b e n = record { left = omega (arith, c .left, next-count h i b, ap bit (alive h i e n)) }
 
-pub count-dead : (S P : ℕ) (h : State) (count i : ℕ) (ks : List ℕ) → Counting h count i → i < length (h .slots) → ks ≡ stored S P h .kind → getD ks i 0 ≡ 0 → Counting h count (i + 1)
-count-dead S P h count i ks c b k z = record { left = omega (arith, c .left, next-count h i b, ap bit (none-dead h i S P ks k z)) }
+pub count-dead : {h : State} {count i k : ℕ} → Counting h count i → i < length (h .slots) → k ≡ slotAt h i .kind → k ≡ 0 → Counting h count (i + 1)
+count-dead {h} {count} {i} c b e z = record { left = omega (arith, c .left, next-count h i b, ap bit (lifeless h i e z)) }
 
 pub count-last : (h : State) (count i : ℕ) → Counting h count i → length (h .slots) ≤ i → count ≡ liveCount (h .slots)
 unfolding liveCount
@@ -74,13 +77,13 @@ rest-dead h tag i b d =
     ap (liveHandles tag i) (drop-cons (h .slots) i noSlot b) ∙ (simp d)
     ∙ ap (λ (k : ℕ). liveHandles tag k (drop k (h .slots))) (sym (add-one i))
 
-pub list-next : (S P : ℕ) (h : State) (tag count count′ i x : ℕ) (gs ks sealed₀ sealed sealed′ : List ℕ) → Handles h tag sealed₀ sealed count i → i < length (h .slots) → length (h .slots) ≤ length sealed₀
-    → gs ≡ stored S P h .generation → ks ≡ stored S P h .kind → x ≡ packed tag i (getD gs i 0) → Listing (getD ks i 0) x count sealed count′ sealed′
+pub list-next : {h : State} {tag count count′ i x g k : ℕ} {sealed₀ sealed sealed′ : List ℕ} → Handles h tag sealed₀ sealed count i → i < length (h .slots) → length (h .slots) ≤ length sealed₀
+    → g ≡ slotAt h i .generation → k ≡ slotAt h i .kind → x ≡ packed tag i g → Listing k x count sealed count′ sealed′
     → Handles h tag sealed₀ sealed′ count′ (i + 1)
-list-next S P h tag count count′ i x gs ks sealed₀ sealed sealed′ c b room g k ex one =
-    elim (ℕ-discrete (getD ks i 0) 0) [
-      | yes z ↦ dead (one .dead z) (rest-dead h tag i b (none-dead h i S P ks k z))
-      | no n ↦ alive (one .live n) (rest-live h tag i b (one-live h i S P ks k n))
+list-next {h} {tag} {count} {count′} {i} {x} {g} {k} {sealed₀} {sealed} {sealed′} c b room eg ek ex one =
+    elim (ℕ-discrete k 0) [
+      | yes z ↦ dead (one .dead z) (rest-dead h tag i b (lifeless h i ek z))
+      | no n ↦ living (one .live n) (rest-live h tag i b (alive h i ek n))
     ]
   where
     all : List ℕ
@@ -92,9 +95,9 @@ list-next S P h tag count count′ i x gs ks sealed₀ sealed sealed′ c b room
     dead : (count′ ≡ count) × (sealed′ ≡ sealed) → liveHandles tag i (drop i (h .slots)) ≡ later → Handles h tag sealed₀ sealed′ count′ (i + 1)
     dead q e = rw (q .0, q .1) (record { filling = rw (sym e) (c .filling) })
 
-    alive : (count′ ≡ count + 1) × (sealed′ ≡ set sealed count x) → liveHandles tag i (drop i (h .slots)) ≡ packed tag i (slotAt h i .generation) ∷ later → Handles h tag sealed₀ sealed′ count′ (i + 1)
-    alive q e =
-        let v : x ≡ packed tag i (slotAt h i .generation) = ex ∙ ap (packed tag i) (ap (λ (l : List ℕ). getD l i 0) g ∙ generation-at S P h i) in
+    living : (count′ ≡ count + 1) × (sealed′ ≡ set sealed count x) → liveHandles tag i (drop i (h .slots)) ≡ packed tag i (slotAt h i .generation) ∷ later → Handles h tag sealed₀ sealed′ count′ (i + 1)
+    living q e =
+        let v : x ≡ packed tag i (slotAt h i .generation) = ex ∙ ap (packed tag i) eg in
         let next = fill-next sealed₀ sealed 0 count all (liveHandles tag i (drop i (h .slots))) (packed tag i (slotAt h i .generation)) later (c .filling) e (omega (arith, few-handles tag 0 (h .slots))) in
         rw (q .0, q .1, v) (record { filling = subst (λ (n : ℕ). Filling sealed₀ (set sealed n (packed tag i (slotAt h i .generation))) 0 (count + 1) all later) (zero-add count) next })
 
@@ -126,3 +129,43 @@ listed-pad xs ys d sealed n count all ed ec ea room en ey =
 pub one-more : (kind x count count′ : ℕ) (sealed sealed′ : List ℕ) → Listing kind x count sealed count′ sealed′ → count′ ≤ count + 1
 one-more kind x count count′ sealed sealed′ l =
     elim (ℕ-discrete kind 0) [ yes z ↦ omega (arith, l .dead z) | no n ↦ omega (arith, l .live n) ]
+
+-- the whole of the output
+pub all-listed : {slots : List Slot} {tag count all : ℕ} {sealed d ys : List ℕ} → Listed slots tag sealed count d → all ≡ length d → length d ≡ length sealed → length slots ≤ length sealed
+    → ys ≡ put d count (replicate (all - count) 0) (all - count) → AllListed slots tag (length sealed) count ys
+all-listed {slots} {tag} {count} {all} {sealed} {d} {ys} one ea same room ey =
+    record {
+      counted = one .counted;
+      padded = listed-pad (liveHandles tag 0 slots) ys d sealed (length sealed) count all (one .written) (one .counted) (ea ∙ same) (omega (arith, few-handles tag 0 slots)) refl ey;
+    }
+
+-- ---- a turn, at the lists that are lent
+
+module _ (h : Heap) (narrow wide pool : List ℕ) (w : wellFormed (lent h narrow wide pool) ≡ true) where
+  abbrev S : ℕ
+  S = length narrow / 6
+
+  abbrev st : State
+  st = view (lent h narrow wide pool)
+
+  within : (i : ℕ) → i < h .slots → i < length (st .slots)
+  within i b = omega (arith, sizes h narrow wide pool w)
+
+  pub count-one : {count i : ℕ} → Counting st count i → i < h .slots → (getD narrow (S + i) 0 ≡ 0 → ⊥) → Counting st (count + 1) (i + 1)
+  count-one {count} {i} c b n = count-live c (within i b) (reads h narrow wide pool w i b .kind) n
+
+  pub count-none : {count i : ℕ} → Counting st count i → i < h .slots → getD narrow (S + i) 0 ≡ 0 → Counting st count (i + 1)
+  count-none {count} {i} c b z = count-dead c (within i b) (reads h narrow wide pool w i b .kind) z
+
+  pub count-end : {count i : ℕ} → Counting st count i → h .slots ≤ i → count ≡ liveCount (st .slots)
+  count-end {count} {i} c b = count-last st count i c (omega (arith, sizes h narrow wide pool w))
+
+  module _ {count i tag : ℕ} {sealed₀ sealed : List ℕ} (c : Handles st tag sealed₀ sealed count i) where
+    pub list-turn : {count′ x : ℕ} {sealed′ : List ℕ} → i < h .slots → h .slots ≤ length sealed₀ → x ≡ packed tag i (getD narrow i 0)
+        → Listing (getD narrow (S + i) 0) x count sealed count′ sealed′ → Handles st tag sealed₀ sealed′ count′ (i + 1)
+    list-turn b room ex one =
+        let r = reads h narrow wide pool w i b in
+        list-next c (within i b) (omega (arith, sizes h narrow wide pool w)) (r .generation) (r .kind) ex one
+
+    pub list-end : h .slots ≤ i → Listed (st .slots) tag sealed₀ count sealed
+    list-end b = list-last st tag count i sealed₀ sealed c (omega (arith, sizes h narrow wide pool w))

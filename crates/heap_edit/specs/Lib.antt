@@ -1,2 +1,3 @@
-pub mod Answers
-pub mod Asked
+-- What the header alone says (Header); what only inner contracts cite (inner).
+pub mod Header
+pub mod inner

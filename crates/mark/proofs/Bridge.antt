@@ -1,6 +1,6 @@
 -- What the tracer emits into the queue is what crate `reach` defines as following handles, where the scratch is good: the guards of `emit` never bite.
 -- Assumes nothing.
-use Prim.Native.Nat.{ℕ, _+_, _-_, _≤_, _<_}
+use Prim.Native.Nat.{ℕ, _+_, _-_, _*_, _≤_, _<_}
 use mathlib.Core.Path.{_≡_, refl, sym, ap, _∙_, subst}
 use mathlib.Core.Option.{Option, none, some}
 use mathlib.Core.Bool.{Bool}
@@ -10,6 +10,8 @@ use lib.Seq.{length-take-le}
 use native.Mathlib.Decide.{ℕ-discrete}
 use native.Mathlib.Omega.{arith}
 use Rattle.word.specs.Result.{Result, ok, refused}
+use Rattle.word.specs.Run.{run}
+use Rattle.word.proofs.RunLaws.{run-get, first-get}
 use Rattle.handle.specs.Columns.{liveIn}
 use Rattle.heap.specs.Packing.{startOf, dataAt}
 use Rattle.ty.specs.Types.{Table}
@@ -20,9 +22,9 @@ use Rattle.trace.specs.declared.Answer.the-variants.{Traced, Untraceable}
 use Rattle.trace.specs.declared.Sink.the-variants.{Work}
 use Rattle.trace.proofs.Emits.{queue-marked, queue-room, ok-inj}
 use Rattle.reach.specs.Marking.{State, visit, visitMaybe, follow, followAll, pinIf, pinAll}
-use Rattle.collect_laws.specs.Collected.{found}
+use Rattle.collection.specs.Collected.{found}
 use Rattle.mark.specs.Scratch.{stateOf, Scratch, Holds, following, Traces, seededFrom}
-use Rattle.mark.specs.Shown.{leadsTo, shownIn, Fit}
+use Rattle.mark.specs.Graph.{leadsTo, shownIn, Fit}
 use Rattle.mark.proofs.States.{unmarked-room, meet-marked, meet-new, Pushing, pushing-next, pushing-end, drop-cons-one}
 use Rattle.mark.proofs.Inside.{resolves-in}
 
@@ -88,28 +90,28 @@ module _ (n : ℕ) where
 
 -- ---- a list of handles, and of pins, taken in turn
 
-abbrev pub Pushes : (tag slots : ℕ) (generation kind list marks₀ work₀ : List ℕ) (total : State) (marks work : List ℕ) (count k : ℕ) → Type 0
-Pushes tag slots generation kind list marks₀ work₀ total marks work count k =
-    Pushing (followAll (leadsTo tag slots generation kind)) slots marks₀ work₀ total marks work count (drop k list)
+abbrev pub Pushes : (tag slots S : ℕ) (narrow list marks₀ work₀ : List ℕ) (total : State) (marks work : List ℕ) (count k : ℕ) → Type 0
+Pushes tag slots S narrow list marks₀ work₀ total marks work count k =
+    Pushing (followAll (leadsTo tag slots S narrow)) slots marks₀ work₀ total marks work count (drop k list)
 
-module _ (tag slots : ℕ) (generation kind list marks₀ work₀ : List ℕ) (total : State) (marks work : List ℕ) (count k : ℕ) (p : Pushes tag slots generation kind list marks₀ work₀ total marks work count k) where
-  pub pushes-next : k < length list → (marks′ work′ : List ℕ) (count′ : ℕ) → rawOf marks′ work′ count′ ≡ emitted (into Work (resolveIn tag slots generation kind)) (rawOf marks work count) (getD list k 0)
-      → length marks′ ≡ length marks → length work′ ≡ length work → Pushes tag slots generation kind list marks₀ work₀ total marks′ work′ count′ (k + 1)
+module _ (tag slots S : ℕ) (narrow list marks₀ work₀ : List ℕ) (total : State) (marks work : List ℕ) (count k : ℕ) (p : Pushes tag slots S narrow list marks₀ work₀ total marks work count k) where
+  pub pushes-next : k < length list → (marks′ work′ : List ℕ) (count′ : ℕ) → rawOf marks′ work′ count′ ≡ emitted (into Work (resolveIn tag slots S narrow)) (rawOf marks work count) (getD list k 0)
+      → length marks′ ≡ length marks → length work′ ≡ length work → Pushes tag slots S narrow list marks₀ work₀ total marks′ work′ count′ (k + 1)
   pushes-next h marks′ work′ count′ e a b =
-      pushing-next _ slots marks₀ work₀ total marks work count (drop k list) p (follow (leadsTo tag slots generation kind)) (λ s x r. refl) (getD list k 0) (drop (k + 1) list) marks′ work′ count′ (drop-cons-one list k h)
-      (emit-met slots (resolveIn tag slots generation kind) (resolves-in tag slots generation kind) marks work count (getD list k 0) marks′ work′ count′ (p .scratch) e) a b
+      pushing-next _ slots marks₀ work₀ total marks work count (drop k list) p (follow (leadsTo tag slots S narrow)) (λ s x r. refl) (getD list k 0) (drop (k + 1) list) marks′ work′ count′ (drop-cons-one list k h)
+      (emit-met slots (resolveIn tag slots S narrow) (resolves-in tag slots S narrow) marks work count (getD list k 0) marks′ work′ count′ (p .scratch) e) a b
 
   pub pushes-end : length list ≤ k → Holds slots marks work count total
   pushes-end h = pushing-end _ slots marks₀ work₀ total marks work count (drop k list) p (λ s. refl) (drop-of-length-le list h)
 
-abbrev pub Pins : (slots : ℕ) (kind list marks₀ work₀ : List ℕ) (total : State) (marks work : List ℕ) (count k : ℕ) → Type 0
-Pins slots kind list marks₀ work₀ total marks work count k = Pushing (pinAll (liveIn slots kind)) slots marks₀ work₀ total marks work count (drop k list)
+abbrev pub Pins : (slots S : ℕ) (narrow list marks₀ work₀ : List ℕ) (total : State) (marks work : List ℕ) (count k : ℕ) → Type 0
+Pins slots S narrow list marks₀ work₀ total marks work count k = Pushing (pinAll (liveIn slots (run S S narrow))) slots marks₀ work₀ total marks work count (drop k list)
 
-module _ (slots : ℕ) (kind list marks₀ work₀ : List ℕ) (total : State) (marks work : List ℕ) (count k : ℕ) (p : Pins slots kind list marks₀ work₀ total marks work count k) where
-  pub pins-next : k < length list → (marks′ work′ : List ℕ) (count′ : ℕ) → Holds slots marks′ work′ count′ (pinIf (liveIn slots kind (getD list k 0)) (stateOf marks work count) (getD list k 0))
-      → length marks′ ≡ length marks → length work′ ≡ length work → Pins slots kind list marks₀ work₀ total marks′ work′ count′ (k + 1)
+module _ (slots S : ℕ) (narrow list marks₀ work₀ : List ℕ) (total : State) (marks work : List ℕ) (count k : ℕ) (p : Pins slots S narrow list marks₀ work₀ total marks work count k) where
+  pub pins-next : k < length list → (marks′ work′ : List ℕ) (count′ : ℕ) → Holds slots marks′ work′ count′ (pinIf (liveIn slots (run S S narrow) (getD list k 0)) (stateOf marks work count) (getD list k 0))
+      → length marks′ ≡ length marks → length work′ ≡ length work → Pins slots S narrow list marks₀ work₀ total marks′ work′ count′ (k + 1)
   pins-next h marks′ work′ count′ e a b =
-      pushing-next _ slots marks₀ work₀ total marks work count (drop k list) p (λ s i. pinIf (liveIn slots kind i) s i) (λ s x r. refl) (getD list k 0) (drop (k + 1) list) marks′ work′ count′ (drop-cons-one list k h) e a b
+      pushing-next _ slots marks₀ work₀ total marks work count (drop k list) p (λ s i. pinIf (liveIn slots (run S S narrow) i) s i) (λ s x r. refl) (getD list k 0) (drop (k + 1) list) marks′ work′ count′ (drop-cons-one list k h) e a b
 
   pub pins-end : length list ≤ k → Holds slots marks work count total
   pins-end h = pushing-end _ slots marks₀ work₀ total marks work count (drop k list) p (λ s. refl) (drop-of-length-le list h)
@@ -131,18 +133,27 @@ seed-done R L slots s roots sealed pins m₁ w₁ n₁ m₂ w₂ n₂ m₃ w₃ 
 
 -- ---- the handles of a slot
 
-module _ (slots : ℕ) (gs ks ts ss es ps : List ℕ) (i a : ℕ) (ea : a ≡ startOf es i) where
-  pub slot-rises : Fit slots gs ks ts ss es ps → i < slots → a ≤ getD es i 0
-  slot-rises f l = omega (arith, f .rising i l)
+module _ (slots S : ℕ) (narrow wide pool : List ℕ) (fit : Fit slots S narrow wide pool) (i : ℕ) (h : i < slots) where
+  end-at : getD (run S S wide) i 0 ≡ getD wide (S + i) 0
+  end-at = run-get S S wide i (omega (arith, fit .runs .used))
 
-  pub slot-ends : Fit slots gs ks ts ss es ps → i < slots → getD es i 0 ≤ length ps
-  slot-ends f l = f .pooled i l
+  module _ (a : ℕ) (ea : a ≡ startOf (run S S wide) i) where
+    pub slot-rises : a ≤ getD wide (S + i) 0
+    slot-rises = omega (arith, fit .rising i h, end-at)
 
-module _ (T : Table) (tag slots : ℕ) (gs ks ts ss es ps : List ℕ) (i a : ℕ) (ea : a ≡ startOf es i) where
-  pub slot-traces : (marks words : List ℕ) (c : ℕ) → Scratch slots marks words c → (r : Answer) (marks′ words′ : List ℕ)
-      → told r marks′ words′ ≡ emitting (into Work (resolveIn tag slots gs ks)) (rawOf marks words c) (handlesOf T (getD ks i 0) (getD ts i 0) (getD ss i 0) (take (getD es i 0 - a) (drop a ps)))
-      → Traces r slots marks′ words′ (following (leadsTo tag slots gs ks) (stateOf marks words c) (shownIn T ks ts ss es ps i))
-  unfolding dataAt
-  slot-traces marks words c s r marks′ words′ e =
-      traces slots (resolveIn tag slots gs ks) (resolves-in tag slots gs ks) r _ marks words c marks′ words′ s
-      (e ∙ ap (λ (j : ℕ). emitting (into Work (resolveIn tag slots gs ks)) (rawOf marks words c) (handlesOf T (getD ks i 0) (getD ts i 0) (getD ss i 0) (take (getD es i 0 - j) (drop j ps)))) ea)
+    pub slot-ends : getD wide (S + i) 0 ≤ length pool
+    slot-ends = omega (arith, fit .pooled i h, end-at)
+
+    module _ (T : Table) (tag : ℕ) (marks words : List ℕ) (c : ℕ) (s : Scratch slots marks words c) where
+      shown-at : handlesOf T (getD narrow (S + i) 0) (getD narrow (2 * S + i) 0) (getD wide i 0) (take (getD wide (S + i) 0 - a) (drop a pool)) ≡ shownIn T S narrow wide pool i
+      unfolding shownIn dataAt
+      shown-at =
+          let inside : i < S = omega (arith, fit .runs .used) in
+          λ j. handlesOf T (sym (run-get S S narrow i inside) j) (sym (run-get S (2 * S) narrow i inside) j) (sym (first-get S wide i inside) j) (take (sym end-at j - ea j) (drop (ea j) pool))
+
+      pub slot-traces : (r : Answer) (marks′ words′ : List ℕ)
+          → told r marks′ words′ ≡ emitting (into Work (resolveIn tag slots S narrow)) (rawOf marks words c) (handlesOf T (getD narrow (S + i) 0) (getD narrow (2 * S + i) 0) (getD wide i 0) (take (getD wide (S + i) 0 - a) (drop a pool)))
+          → Traces r slots marks′ words′ (following (leadsTo tag slots S narrow) (stateOf marks words c) (shownIn T S narrow wide pool i))
+      slot-traces r marks′ words′ e =
+          traces slots (resolveIn tag slots S narrow) (resolves-in tag slots S narrow) r _ marks words c marks′ words′ s
+          (e ∙ ap (emitting (into Work (resolveIn tag slots S narrow)) (rawOf marks words c)) shown-at)

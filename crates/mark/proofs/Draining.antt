@@ -11,13 +11,14 @@ use native.Mathlib.Numerals.{add-one}
 use native.Mathlib.Omega.{arith}
 use Rattle.reach.specs.Reach.{Graph}
 use Rattle.reach.specs.Marking.{State, followAll, drained, marking}
+use Rattle.word.specs.Run.{run}
 use Rattle.handle.specs.Columns.{liveIn}
 use Rattle.heap.specs.Packing.{pad}
 use Rattle.heap.proofs.Packing.{drop-replicate}
 use Rattle.ty.specs.Types.{Table}
 use Rattle.trace.specs.declared.Answer.{Answer}
 use Rattle.trace.specs.declared.Answer.the-variants.{Traced, Untraceable}
-use Rattle.mark.specs.Shown.{leadsTo, shownIn, graphIn}
+use Rattle.mark.specs.Graph.{leadsTo, shownIn, graphIn}
 use Rattle.mark.specs.Scratch.{stateOf, Scratch, Holds, following, Traces, seededFrom}
 use Rattle.mark.specs.Told.{marksIn, startsOf, Ready}
 use Rattle.mark.proofs.States.{scratch-start}
@@ -111,24 +112,24 @@ draining-start G slots marks work n s =
 
 -- ---- the loop over the columns' graph, with what `trace_at` ensures
 
-abbrev pub Drains : Table → (tag slots : ℕ) (gs ks ts ss es ps marks₀ work₀ : List ℕ) (total : Option State) (marks work : List ℕ) (count next : ℕ) → Type 0
-Drains T tag slots gs ks ts ss es ps marks₀ work₀ total marks work count next = Draining (graphIn T tag slots gs ks ts ss es ps) slots marks₀ work₀ total marks work count next
+abbrev pub Drains : Table → (tag slots S : ℕ) (narrow wide pool marks₀ work₀ : List ℕ) (total : Option State) (marks work : List ℕ) (count next : ℕ) → Type 0
+Drains T tag slots S narrow wide pool marks₀ work₀ total marks work count next = Draining (graphIn T tag slots S narrow wide pool) slots marks₀ work₀ total marks work count next
 
-module _ (T : Table) (tag slots : ℕ) (gs ks ts ss es ps marks₀ work₀ : List ℕ) (total : Option State) (marks work : List ℕ) (count next : ℕ) (d : Drains T tag slots gs ks ts ss es ps marks₀ work₀ total marks work count next) where
+module _ (T : Table) (tag slots S : ℕ) (narrow wide pool marks₀ work₀ : List ℕ) (total : Option State) (marks work : List ℕ) (count next : ℕ) (d : Drains T tag slots S narrow wide pool marks₀ work₀ total marks work count next) where
   pub drains-end : count ≤ next → total ≡ some (stateOf marks work count)
-  drains-end h = draining-end (graphIn T tag slots gs ks ts ss es ps) slots marks₀ work₀ total marks work count next d h
+  drains-end h = draining-end (graphIn T tag slots S narrow wide pool) slots marks₀ work₀ total marks work count next d h
 
   module _ (h : next < count) where
-    module _ (r : Answer) (marks′ work′ : List ℕ) (t : Traces r slots marks′ work′ (following (leadsTo tag slots gs ks) (stateOf marks work count) (shownIn T ks ts ss es ps (getD work next 0)))) where
+    module _ (r : Answer) (marks′ work′ : List ℕ) (t : Traces r slots marks′ work′ (following (leadsTo tag slots S narrow) (stateOf marks work count) (shownIn T S narrow wide pool (getD work next 0)))) where
       pub drains-stuck : r ≡ Untraceable → total ≡ none
       drains-stuck e =
-          draining-stuck (graphIn T tag slots gs ks ts ss es ps) slots marks₀ work₀ total marks work count next d h
-          (subst (λ (x : Answer). Traces x slots marks′ work′ (following (leadsTo tag slots gs ks) (stateOf marks work count) (shownIn T ks ts ss es ps (getD work next 0)))) e t)
+          draining-stuck (graphIn T tag slots S narrow wide pool) slots marks₀ work₀ total marks work count next d h
+          (subst (λ (x : Answer). Traces x slots marks′ work′ (following (leadsTo tag slots S narrow) (stateOf marks work count) (shownIn T S narrow wide pool (getD work next 0)))) e t)
 
-      pub drains-next : (m : ℕ) → r ≡ Traced m → length marks′ ≡ length marks → length work′ ≡ length work → Drains T tag slots gs ks ts ss es ps marks₀ work₀ total marks′ work′ m (next + 1)
+      pub drains-next : (m : ℕ) → r ≡ Traced m → length marks′ ≡ length marks → length work′ ≡ length work → Drains T tag slots S narrow wide pool marks₀ work₀ total marks′ work′ m (next + 1)
       drains-next m e a b =
-          let q = subst (λ (x : Answer). Traces x slots marks′ work′ (following (leadsTo tag slots gs ks) (stateOf marks work count) (shownIn T ks ts ss es ps (getD work next 0)))) e t in
-          draining-next (graphIn T tag slots gs ks ts ss es ps) slots marks₀ work₀ total marks work count next d h marks′ work′ m (q .0) (q .1) a b
+          let q = subst (λ (x : Answer). Traces x slots marks′ work′ (following (leadsTo tag slots S narrow) (stateOf marks work count) (shownIn T S narrow wide pool (getD work next 0)))) e t in
+          draining-next (graphIn T tag slots S narrow wide pool) slots marks₀ work₀ total marks work count next d h marks′ work′ m (q .0) (q .1) a b
 
 -- ---- the whole
 
@@ -151,26 +152,26 @@ module _ (slots : ℕ) (marks work : List ℕ) (ready : Ready slots marks work) 
   pub first-long : slots ≡ length (take slots marks)
   first-long = sym (length-take-le slots marks (ready .marked))
 
-  module _ (T : Table) (tag : ℕ) (gs ks ts ss es ps roots sealed pins : List ℕ) (r : Answer) (marks′ work′ : List ℕ)
-      (t : Traces r slots marks′ work′ (drained (graphIn T tag slots gs ks ts ss es ps) slots (seededFrom (leadsTo tag slots gs ks) (liveIn slots ks) (stateOf (take slots marks) work 0) roots sealed pins) 0)) where
+  module _ (T : Table) (tag S : ℕ) (narrow wide pool roots sealed pins : List ℕ) (r : Answer) (marks′ work′ : List ℕ)
+      (t : Traces r slots marks′ work′ (drained (graphIn T tag slots S narrow wide pool) slots (seededFrom (leadsTo tag slots S narrow) (liveIn slots (run S S narrow)) (stateOf (take slots marks) work 0) roots sealed pins) 0)) where
     abbrev start : Option State
-    start = drained (graphIn T tag slots gs ks ts ss es ps) slots (seededFrom (leadsTo tag slots gs ks) (liveIn slots ks) (stateOf (take slots marks) work 0) roots sealed pins) 0
+    start = drained (graphIn T tag slots S narrow wide pool) slots (seededFrom (leadsTo tag slots S narrow) (liveIn slots (run S S narrow)) (stateOf (take slots marks) work 0) roots sealed pins) 0
 
     abbrev answer : Option State
-    answer = marking (graphIn T tag slots gs ks ts ss es ps) (startsOf roots sealed pins) slots
+    answer = marking (graphIn T tag slots S narrow wide pool) (startsOf roots sealed pins) slots
 
     as-marking : start ≡ answer
     unfolding marking
     as-marking =
-        ap (λ (m : List ℕ). drained (graphIn T tag slots gs ks ts ss es ps) slots (seededFrom (leadsTo tag slots gs ks) (liveIn slots ks) (record { marks = m; queue = [] }) roots sealed pins) 0) first-clear
+        ap (λ (m : List ℕ). drained (graphIn T tag slots S narrow wide pool) slots (seededFrom (leadsTo tag slots S narrow) (liveIn slots (run S S narrow)) (record { marks = m; queue = [] }) roots sealed pins) 0) first-clear
 
     at : (x : Answer) → r ≡ x → Traces x slots marks′ work′ answer
     at x e = subst (λ (o : Option State). Traces x slots marks′ work′ o) as-marking (subst (λ (y : Answer). Traces y slots marks′ work′ start) e t)
 
-    pub whole-stuck : r ≡ Untraceable → none ≡ marksIn (length marks) (marking (graphIn T tag slots gs ks ts ss es ps) (startsOf roots sealed pins) slots)
+    pub whole-stuck : r ≡ Untraceable → none ≡ marksIn (length marks) (marking (graphIn T tag slots S narrow wide pool) (startsOf roots sealed pins) slots)
     whole-stuck e = sym (ap (marksIn (length marks)) (at Untraceable e))
 
-    pub whole-marked : (n : ℕ) → r ≡ Traced n → some (marks′ ++ drop slots marks) ≡ marksIn (length marks) (marking (graphIn T tag slots gs ks ts ss es ps) (startsOf roots sealed pins) slots)
+    pub whole-marked : (n : ℕ) → r ≡ Traced n → some (marks′ ++ drop slots marks) ≡ marksIn (length marks) (marking (graphIn T tag slots S narrow wide pool) (startsOf roots sealed pins) slots)
     unfolding pad
     whole-marked n e =
         let a = at (Traced n) e in

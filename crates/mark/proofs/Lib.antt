@@ -4,3 +4,6 @@ pub mod Bridge
 pub mod Draining
 pub mod Inside
 pub mod Formed
+pub mod RowPushes
+pub mod FrameMarks
+pub mod Whole

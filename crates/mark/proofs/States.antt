@@ -9,6 +9,8 @@ use borrow.Author.Tests.{eq-eqb, ne-eqb}
 use native.Mathlib.Numerals.{add-one}
 use native.Mathlib.Decide.{ℕ-discrete}
 use native.Mathlib.Omega.{arith}
+use Rattle.word.specs.Run.{run}
+use Rattle.word.proofs.RunLaws.{run-get}
 use Rattle.handle.specs.Columns.{liveIn}
 use Rattle.handle.proofs.ResolveLaws.{live-beyond, live-not, live-there}
 use Rattle.reach.specs.Marking.{State, Good, visit, pinIf}
@@ -49,9 +51,6 @@ module _ (slots : ℕ) (marks work : List ℕ) (n i : ℕ) (c : Scratch slots ma
           scratch = record { size = g .size; words = omega (arith, c .words, length-set work n i); room = omega (arith, length-set work n i); good = g };
         }
 
-pub holds-same : (slots : ℕ) (marks work : List ℕ) (n : ℕ) (s t : State) → Holds slots marks work n s → s ≡ t → Holds slots marks work n t
-holds-same slots marks work n s t h e = record { state = h .state ∙ e; scratch = h .scratch }
-
 pub scratch-start : (slots : ℕ) (marks work : List ℕ) → marks ≡ replicate slots 0 → slots ≤ length work → Scratch slots marks work 0
 scratch-start slots marks work e h =
     record {
@@ -90,13 +89,17 @@ module _ (F : State → List ℕ → State) (slots : ℕ) (marks₀ work₀ : Li
 
 -- ---- a pin
 
-module _ (slots : ℕ) (kind marks work : List ℕ) (n i : ℕ) (c : Scratch slots marks work n) where
-  pub pin-beyond : slots ≤ i → Holds slots marks work n (pinIf (liveIn slots kind i) (stateOf marks work n) i)
-  pin-beyond h = record { state = rw (live-beyond slots kind i h) refl; scratch = c }
+module _ (slots S : ℕ) (narrow marks work : List ℕ) (n i : ℕ) (c : Scratch slots marks work n) where
+  pub pin-beyond : slots ≤ i → Holds slots marks work n (pinIf (liveIn slots (run S S narrow) i) (stateOf marks work n) i)
+  pin-beyond h = record { state = rw (live-beyond slots (run S S narrow) i h) refl; scratch = c }
 
-  pub pin-dead : getD kind i 0 ≡ 0 → Holds slots marks work n (pinIf (liveIn slots kind i) (stateOf marks work n) i)
-  pin-dead h = record { state = rw (live-not slots kind i h) refl; scratch = c }
+  module _ (used : slots ≤ S) (h : i < slots) where
+    kind-at : getD (run S S narrow) i 0 ≡ getD narrow (S + i) 0
+    kind-at = run-get S S narrow i (omega arith)
 
-  pub pin-live : i < slots → (getD kind i 0 ≡ 0 → ⊥) → (marks′ work′ : List ℕ) (n′ : ℕ) → Holds slots marks′ work′ n′ (visit (stateOf marks work n) i)
-      → Holds slots marks′ work′ n′ (pinIf (liveIn slots kind i) (stateOf marks work n) i)
-  pin-live h e marks′ work′ n′ k = rw (live-there slots kind i h e) k
+    pub pin-dead : getD narrow (S + i) 0 ≡ 0 → Holds slots marks work n (pinIf (liveIn slots (run S S narrow) i) (stateOf marks work n) i)
+    pin-dead e = record { state = rw (live-not slots (run S S narrow) i (kind-at ∙ e)) refl; scratch = c }
+
+    pub pin-live : (getD narrow (S + i) 0 ≡ 0 → ⊥) → (marks′ work′ : List ℕ) (n′ : ℕ) → Holds slots marks′ work′ n′ (visit (stateOf marks work n) i)
+        → Holds slots marks′ work′ n′ (pinIf (liveIn slots (run S S narrow) i) (stateOf marks work n) i)
+    pin-live e marks′ work′ n′ k = rw (live-there slots (run S S narrow) i h (λ z. e (sym kind-at ∙ z))) k

@@ -1,3 +1,4 @@
-pub mod Shown
+pub mod Graph
 pub mod Scratch
 pub mod Told
+pub mod Joining

@@ -5,8 +5,12 @@ use mathlib.Core.Option.{Option, none, some}
 use mathlib.Core.List.{List, _++_}
 use lib.ListN.{length, replicate}
 use Rattle.heap.specs.Packing.{pad}
+use Rattle.heap.specs.State.{State as Heap}
 use Rattle.reach.specs.Reach.{Starts}
-use Rattle.reach.specs.Marking.{State}
+use Rattle.reach.specs.Marking.{State, marking}
+use Rattle.ty.specs.Types.{Table}
+use Rattle.collection.specs.Collected.{graph, starts}
+use Rattle.collection.specs.Shown.{shown}
 use Rattle.mark.specs.declared.Outcome.{Outcome}
 use Rattle.mark.specs.declared.Outcome.the-variants.{Marked, Untraceable}
 
@@ -20,7 +24,11 @@ abbrev pub marksIn : (L : ℕ) → Option State → Option (List ℕ)
 marksIn L none = none
 marksIn L (some s) = some (pad L (s .marks))
 
--- chains start at the roots, the seals and the pins
+-- the marking of a heap: chains start at the roots, the seals and the pins
+abbrev pub heapMarks : Table → Heap → (roots pins : List ℕ) → Option State
+heapMarks T h roots pins = marking (graph h (shown T h)) (starts h roots pins) (length (h .slots))
+
+-- the same of starts that are lent
 abbrev pub startsOf : (roots sealed pins : List ℕ) → Starts
 startsOf roots sealed pins = record { roots = roots ++ sealed; pins = pins }
 

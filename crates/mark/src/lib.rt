@@ -1,17 +1,24 @@
-// The marking of a collection over lent columns: what is reached is marked, each object queued once and traced once. Linear in the slots, the visible bytes and
+// The marking of a collection over a lent heap: what is reached is marked, each object queued once and traced once. Linear in the slots, the visible bytes and
 // the handles, beside the layouts that tracing works out.
+use heap::Heap;
 use trace::Answer;
 use trace::Sink;
 ghost use mathlib.Core.Path.{_≡_};
-ghost use Prim.Native.Nat.{_≤_, _<_};
+ghost use mathlib.Core.Bool.{true};
+ghost use Prim.Native.Nat.{_<_};
 ghost use lib.ListN.{length};
+ghost use Rattle.word.specs.Run.{run};
 ghost use Rattle.handle.specs.Columns.{liveIn};
+ghost use Rattle.heap.specs.Lent.{lent, view};
+ghost use Rattle.heap.specs.WellFormed.{wellFormed};
 ghost use Rattle.ty.specs.View.{tableOf};
-ghost use Rattle.trace.specs.Emit.{Columns};
-ghost use Rattle.reach.specs.Marking.{followAll, pinIf, pinAll, drained, marking};
-ghost use Rattle.mark.specs.Shown.{leadsTo, shownIn, graphIn, Fit};
+ghost use Rattle.trace.specs.Emit.{Runs};
+ghost use Rattle.reach.specs.Marking.{followAll, pinIf, pinAll, drained};
+ghost use Rattle.mark.specs.Graph.{leadsTo, shownIn, graphIn, Fit};
 ghost use Rattle.mark.specs.Scratch.{stateOf, Scratch, Holds, following, Traces, seededFrom};
-ghost use Rattle.mark.specs.Told.{told, marksIn, startsOf, Ready};
+ghost use Rattle.mark.specs.Told.{told, marksIn, heapMarks, Ready};
+
+pub mod joined; // the marking of a joined collection
 
 // All that is reached is marked, or a reached object can't be traced.
 pub enum Outcome {
@@ -23,47 +30,48 @@ pub enum Outcome {
 pub fn push_all(
     tag: u8,
     slots: usize,
-    generation: &[u32],
-    kind: &[u8],
+    s: usize,
+    narrow: &[u32],
     list: &[u64],
     marks: &mut [u8],
     work: &mut [u64],
     n: usize,
 ) -> usize
-    requires { ⌜ Columns slots (now generation) (now kind) ⌝ }
+    requires { ⌜ Runs slots s (now narrow) ⌝ }
     requires { ⌜ Scratch slots (now marks) (now work) n ⌝ }
-    ensures { λ r. ⌜ Holds slots (now (marks .exit)) (now (work .exit)) r (followAll (leadsTo tag slots (now (generation .entry)) (now (kind .entry))) (stateOf (now (marks .entry)) (now (work .entry)) n) (now (list .entry))) ⌝ }
+    ensures { λ r. ⌜ Holds slots (now (marks .exit)) (now (work .exit)) r
+        (followAll (leadsTo tag slots s (now (narrow .entry))) (stateOf (now (marks .entry)) (now (work .entry)) n) (now (list .entry))) ⌝ }
 {
     let mut count = n;
     let mut k = 0;
     while k < list.len() {
-        count = trace::emit(
-            tag,
-            slots,
-            generation,
-            kind,
-            Sink::Work,
-            marks,
-            work,
-            count,
-            list[k],
-        );
+        let h = list[k];
+        count = trace::emit(tag, slots, s, narrow, Sink::Work, marks, work, count, h);
         k += 1;
     }
     count
 }
 
 // A pinned slot is marked and queued if it is live.
-fn pin(slots: usize, kind: &[u8], marks: &mut [u8], work: &mut [u64], n: usize, i: u32) -> usize
-    requires { ⌜ slots ≤ length (now kind) ⌝ }
+fn pin(
+    slots: usize,
+    s: usize,
+    narrow: &[u32],
+    i: u32,
+    marks: &mut [u8],
+    work: &mut [u64],
+    n: usize,
+) -> usize
+    requires { ⌜ Runs slots s (now narrow) ⌝ }
     requires { ⌜ Scratch slots (now marks) (now work) n ⌝ }
-    ensures { λ r. ⌜ Holds slots (now (marks .exit)) (now (work .exit)) r (pinIf (liveIn slots (now (kind .entry)) i) (stateOf (now (marks .entry)) (now (work .entry)) n) i) ⌝ }
+    ensures { λ r. ⌜ Holds slots (now (marks .exit)) (now (work .exit)) r
+        (pinIf (liveIn slots (run s s (now (narrow .entry))) i) (stateOf (now (marks .entry)) (now (work .entry)) n) i) ⌝ }
 {
     let j = i as usize;
     if slots <= j {
         return n;
     }
-    if kind[j] == 0 {
+    if narrow[s + j] == 0 {
         return n;
     }
     trace::queue(marks, work, n, i)
@@ -72,20 +80,22 @@ fn pin(slots: usize, kind: &[u8], marks: &mut [u8], work: &mut [u64], n: usize, 
 // Each pin of a list.
 pub fn pin_all(
     slots: usize,
-    kind: &[u8],
+    s: usize,
+    narrow: &[u32],
     pins: &[u32],
     marks: &mut [u8],
     work: &mut [u64],
     n: usize,
 ) -> usize
-    requires { ⌜ slots ≤ length (now kind) ⌝ }
+    requires { ⌜ Runs slots s (now narrow) ⌝ }
     requires { ⌜ Scratch slots (now marks) (now work) n ⌝ }
-    ensures { λ r. ⌜ Holds slots (now (marks .exit)) (now (work .exit)) r (pinAll (liveIn slots (now (kind .entry))) (stateOf (now (marks .entry)) (now (work .entry)) n) (now (pins .entry))) ⌝ }
+    ensures { λ r. ⌜ Holds slots (now (marks .exit)) (now (work .exit)) r
+        (pinAll (liveIn slots (run s s (now (narrow .entry)))) (stateOf (now (marks .entry)) (now (work .entry)) n) (now (pins .entry))) ⌝ }
 {
     let mut count = n;
     let mut k = 0;
     while k < pins.len() {
-        count = pin(slots, kind, marks, work, count, pins[k]);
+        count = pin(slots, s, narrow, pins[k], marks, work, count);
         k += 1;
     }
     count
@@ -95,8 +105,8 @@ pub fn pin_all(
 pub fn seed(
     tag: u8,
     slots: usize,
-    generation: &[u32],
-    kind: &[u8],
+    s: usize,
+    narrow: &[u32],
     roots: &[u64],
     sealed: &[u64],
     pins: &[u32],
@@ -104,13 +114,15 @@ pub fn seed(
     work: &mut [u64],
     n: usize,
 ) -> usize
-    requires { ⌜ Columns slots (now generation) (now kind) ⌝ }
+    requires { ⌜ Runs slots s (now narrow) ⌝ }
     requires { ⌜ Scratch slots (now marks) (now work) n ⌝ }
-    ensures { λ r. ⌜ Holds slots (now (marks .exit)) (now (work .exit)) r (seededFrom (leadsTo tag slots (now (generation .entry)) (now (kind .entry))) (liveIn slots (now (kind .entry))) (stateOf (now (marks .entry)) (now (work .entry)) n) (now (roots .entry)) (now (sealed .entry)) (now (pins .entry))) ⌝ }
+    ensures { λ r. ⌜ Holds slots (now (marks .exit)) (now (work .exit)) r
+        (seededFrom (leadsTo tag slots s (now (narrow .entry))) (liveIn slots (run s s (now (narrow .entry))))
+        (stateOf (now (marks .entry)) (now (work .entry)) n) (now (roots .entry)) (now (sealed .entry)) (now (pins .entry))) ⌝ }
 {
-    let a = push_all(tag, slots, generation, kind, roots, marks, work, n);
-    let b = push_all(tag, slots, generation, kind, sealed, marks, work, a);
-    pin_all(slots, kind, pins, marks, work, b)
+    let a = push_all(tag, slots, s, narrow, roots, marks, work, n);
+    let b = push_all(tag, slots, s, narrow, sealed, marks, work, a);
+    pin_all(slots, s, narrow, pins, marks, work, b)
 }
 
 // What each handle that slot `i` shows leads to is marked and queued.
@@ -121,38 +133,40 @@ fn trace_at(
     bytes: &[u8],
     tag: u8,
     slots: usize,
-    generation: &[u32],
-    kind: &[u8],
-    ty: &[u32],
-    start: &[usize],
-    end: &[usize],
+    s: usize,
+    narrow: &[u32],
+    wide: &[u64],
     pool: &[u8],
+    i: usize,
     marks: &mut [u8],
     work: &mut [u64],
     n: usize,
-    i: usize,
 ) -> Answer
-    requires { ⌜ Fit slots (now generation) (now kind) (now ty) (now start) (now end) (now pool) ⌝ }
+    requires { ⌜ Fit slots s (now narrow) (now wide) (now pool) ⌝ }
     requires { ⌜ Scratch slots (now marks) (now work) n ⌝ }
     requires { ⌜ i < slots ⌝ }
-    ensures { λ r. ⌜ Traces r slots (now (marks .exit)) (now (work .exit)) (following (leadsTo tag slots (now (generation .entry)) (now (kind .entry))) (stateOf (now (marks .entry)) (now (work .entry)) n)
-        (shownIn (tableOf (now (types .entry)) (now (fields .entry)) (now (consts .entry)) (now (bytes .entry))) (now (kind .entry)) (now (ty .entry)) (now (start .entry)) (now (end .entry)) (now (pool .entry)) i)) ⌝ }
+    ensures { λ r. ⌜ Traces r slots (now (marks .exit)) (now (work .exit))
+        (following (leadsTo tag slots s (now (narrow .entry))) (stateOf (now (marks .entry)) (now (work .entry)) n)
+        (shownIn (tableOf (now (types .entry)) (now (fields .entry)) (now (consts .entry)) (now (bytes .entry))) s (now (narrow .entry)) (now (wide .entry)) (now (pool .entry)) i)) ⌝ }
 {
-    let a = heap::start_of(end, i);
-    let e = end[i];
+    let a = heap::start_of(wide, s, i);
+    let e = wide[s + i] as usize;
+    let kind = narrow[s + i];
+    let t = narrow[2 * s + i] as u64;
+    let start = wide[i] as usize;
     trace::trace_slot(
         types,
         fields,
         consts,
         bytes,
-        kind[i],
-        ty[i] as u64,
-        start[i],
-        &pool[a..e],
         tag,
         slots,
-        generation,
+        s,
+        narrow,
         kind,
+        t,
+        start,
+        &pool[a..e],
         Sink::Work,
         marks,
         work,
@@ -168,19 +182,18 @@ pub fn drain(
     bytes: &[u8],
     tag: u8,
     slots: usize,
-    generation: &[u32],
-    kind: &[u8],
-    ty: &[u32],
-    start: &[usize],
-    end: &[usize],
+    s: usize,
+    narrow: &[u32],
+    wide: &[u64],
     pool: &[u8],
     marks: &mut [u8],
     work: &mut [u64],
     n: usize,
 ) -> Answer
-    requires { ⌜ Fit slots (now generation) (now kind) (now ty) (now start) (now end) (now pool) ⌝ }
+    requires { ⌜ Fit slots s (now narrow) (now wide) (now pool) ⌝ }
     requires { ⌜ Scratch slots (now marks) (now work) n ⌝ }
-    ensures { λ r. ⌜ Traces r slots (now (marks .exit)) (now (work .exit)) (drained (graphIn (tableOf (now (types .entry)) (now (fields .entry)) (now (consts .entry)) (now (bytes .entry))) tag slots (now (generation .entry)) (now (kind .entry)) (now (ty .entry)) (now (start .entry)) (now (end .entry)) (now (pool .entry)))
+    ensures { λ r. ⌜ Traces r slots (now (marks .exit)) (now (work .exit)) (drained
+        (graphIn (tableOf (now (types .entry)) (now (fields .entry)) (now (consts .entry)) (now (bytes .entry))) tag slots s (now (narrow .entry)) (now (wide .entry)) (now (pool .entry)))
         slots (stateOf (now (marks .entry)) (now (work .entry)) n) 0) ⌝ }
 {
     let mut count = n;
@@ -194,16 +207,14 @@ pub fn drain(
             bytes,
             tag,
             slots,
-            generation,
-            kind,
-            ty,
-            start,
-            end,
+            s,
+            narrow,
+            wide,
             pool,
+            i,
             marks,
             work,
             count,
-            i,
         );
         let Answer::Traced(m) = r else {
             return Answer::Untraceable;
@@ -222,11 +233,9 @@ pub fn mark_from(
     bytes: &[u8],
     tag: u8,
     slots: usize,
-    generation: &[u32],
-    kind: &[u8],
-    ty: &[u32],
-    start: &[usize],
-    end: &[usize],
+    s: usize,
+    narrow: &[u32],
+    wide: &[u64],
     pool: &[u8],
     roots: &[u64],
     sealed: &[u64],
@@ -235,23 +244,14 @@ pub fn mark_from(
     work: &mut [u64],
     n: usize,
 ) -> Answer
-    requires { ⌜ Fit slots (now generation) (now kind) (now ty) (now start) (now end) (now pool) ⌝ }
+    requires { ⌜ Fit slots s (now narrow) (now wide) (now pool) ⌝ }
     requires { ⌜ Scratch slots (now marks) (now work) n ⌝ }
-    ensures { λ r. ⌜ Traces r slots (now (marks .exit)) (now (work .exit)) (drained (graphIn (tableOf (now (types .entry)) (now (fields .entry)) (now (consts .entry)) (now (bytes .entry))) tag slots (now (generation .entry)) (now (kind .entry)) (now (ty .entry)) (now (start .entry)) (now (end .entry)) (now (pool .entry)))
-        slots (seededFrom (leadsTo tag slots (now (generation .entry)) (now (kind .entry))) (liveIn slots (now (kind .entry))) (stateOf (now (marks .entry)) (now (work .entry)) n) (now (roots .entry)) (now (sealed .entry)) (now (pins .entry))) 0) ⌝ }
+    ensures { λ r. ⌜ Traces r slots (now (marks .exit)) (now (work .exit)) (drained
+        (graphIn (tableOf (now (types .entry)) (now (fields .entry)) (now (consts .entry)) (now (bytes .entry))) tag slots s (now (narrow .entry)) (now (wide .entry)) (now (pool .entry)))
+        slots (seededFrom (leadsTo tag slots s (now (narrow .entry))) (liveIn slots (run s s (now (narrow .entry))))
+        (stateOf (now (marks .entry)) (now (work .entry)) n) (now (roots .entry)) (now (sealed .entry)) (now (pins .entry))) 0) ⌝ }
 {
-    let m = seed(
-        tag,
-        slots,
-        generation,
-        kind,
-        roots,
-        sealed,
-        pins,
-        marks,
-        work,
-        n,
-    );
+    let m = seed(tag, slots, s, narrow, roots, sealed, pins, marks, work, n);
     drain(
         types,
         fields,
@@ -259,11 +259,9 @@ pub fn mark_from(
         bytes,
         tag,
         slots,
-        generation,
-        kind,
-        ty,
-        start,
-        end,
+        s,
+        narrow,
+        wide,
         pool,
         marks,
         work,
@@ -271,49 +269,45 @@ pub fn mark_from(
     )
 }
 
-// The same with scratch that is zero, for more slots than there are: the first of the marks are lent.
+// The marking of a well formed heap. The scratch is zero, for more slots than there are: the first of the marks are lent.
 pub fn mark(
     types: &[u64],
     fields: &[u32],
     consts: &[u64],
     bytes: &[u8],
-    tag: u8,
-    slots: usize,
-    generation: &[u32],
-    kind: &[u8],
-    ty: &[u32],
-    start: &[usize],
-    end: &[usize],
+    heap: Heap,
+    narrow: &[u32],
+    wide: &[u64],
     pool: &[u8],
     roots: &[u64],
-    sealed: &[u64],
     pins: &[u32],
     marks: &mut [u8],
     work: &mut [u64],
 ) -> Outcome
-    requires { ⌜ Fit slots (now generation) (now kind) (now ty) (now start) (now end) (now pool) ⌝ }
-    requires { ⌜ Ready slots (now marks) (now work) ⌝ }
+    requires { ⌜ wellFormed (lent heap (now narrow) (now wide) (now pool)) ≡ true ⌝ }
+    requires { ⌜ Ready (heap .slots) (now marks) (now work) ⌝ }
     ensures { λ r. ⌜ told r (now (marks .exit)) ≡ marksIn (length (now (marks .entry)))
-        (marking (graphIn (tableOf (now (types .entry)) (now (fields .entry)) (now (consts .entry)) (now (bytes .entry))) tag slots (now (generation .entry)) (now (kind .entry)) (now (ty .entry)) (now (start .entry)) (now (end .entry)) (now (pool .entry)))
-        (startsOf (now (roots .entry)) (now (sealed .entry)) (now (pins .entry))) slots) ⌝ }
+        (heapMarks (tableOf (now (types .entry)) (now (fields .entry)) (now (consts .entry)) (now (bytes .entry)))
+        (view (lent heap (now (narrow .entry)) (now (wide .entry)) (now (pool .entry)))) (now (roots .entry)) (now (pins .entry))) ⌝ }
 {
+    let s = narrow.len() / 6;
+    let a = 3 * s;
+    let e = a + heap.sealed;
     let r = mark_from(
         types,
         fields,
         consts,
         bytes,
-        tag,
-        slots,
-        generation,
-        kind,
-        ty,
-        start,
-        end,
+        heap.tag,
+        heap.slots,
+        s,
+        narrow,
+        wide,
         pool,
         roots,
-        sealed,
+        &wide[a..e],
         pins,
-        &mut marks[..slots],
+        &mut marks[..heap.slots],
         work,
         0,
     );

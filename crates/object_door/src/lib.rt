@@ -1,22 +1,93 @@
-// Public calls that place and remove objects on a heap in lent memory, part of the front door: scratch (18) and the heap (1) are tested first, each time.
+// Public calls that make a heap in lent memory and place and remove objects there, part of the front door: scratch (18) and the heap (1) are tested first, each time.
 // `marks` and `work` are scratch.
+use door::Done;
+use door::Entry;
+use door::enter;
 use heap::Heap;
-use heap_calls::AllocAnswer;
-use heap_calls::FreeAnswer;
-use heap_calls::TakeAnswer;
-use heap_door::Entry;
-use heap_door::Refusal;
-use heap_door::enter;
+use refusal::Refusal;
+use refusal::Reply;
 ghost use mathlib.Core.Path.{_≡_};
+ghost use mathlib.Core.List.{[], _∷_};
+ghost use Prim.Native.Nat.{_/_};
 ghost use lib.ListN.{length};
+ghost use Rattle.refusal.specs.Told.{here, nothing};
 ghost use Rattle.heap.specs.Lent.{lent};
 ghost use Rattle.heap.specs.Calls.{free as freed};
-ghost use Rattle.heap_door.specs.HeapCalls.{outcome, heapCall};
+ghost use Rattle.door.specs.HeapCalls.{Entered, outcome, heapCall};
 ghost use Rattle.object_door.specs.ObjectCalls.{isKind, allocating, recycling, handed, takeCall};
-ghost use Rattle.object_door.specs.ObjectTold.{toldPlaced, toldRecycled, toldFreed, toldTaken};
+ghost use Rattle.object_door.specs.Making.{noHeader, newTests, newCall};
+
+// The header that a refusal returns: zeros, which no call takes for a heap.
+fn no_heap() -> Heap
+    ensures { λ r. ⌜ r ≡ noHeader ⌝ }
+{
+    Heap {
+        tag: 0,
+        since_gc: 0,
+        reclaim_at: 0,
+        live_bytes: 0,
+        epoch: 0,
+        log: [0; 16],
+        slots: 0,
+        free: 0,
+        quarantine: 0,
+        retired: 0,
+        sealed: 0,
+    }
+}
+
+// Is there scratch enough, and are the lent sizes in range?
+fn enter_new(narrow: &[u32], wide: &[u64], pool: &[u8], marks: &mut [u8], work: &mut [u64]) -> Entry
+    ensures { λ r. ⌜ Entered (now (marks .entry) ∷ now (work .entry) ∷ [])
+        (newTests (now (marks .entry)) (now (work .entry)) (now (narrow .entry)) (now (wide .entry)) (now (pool .entry)))
+        r (now (marks .exit) ∷ now (work .exit) ∷ []) ⌝ }
+{
+    let slots = narrow.len() / 6;
+    if marks.len() < slots {
+        return Entry::Not(Refusal::Scratch);
+    }
+    if work.len() < slots {
+        return Entry::Not(Refusal::Scratch);
+    }
+    memory::clear_u8(marks);
+    memory::clear_u64(work);
+    if heap::sizes_fit(narrow.len(), wide.len(), pool.len()) {
+        return Entry::Ready;
+    }
+    Entry::Not(Refusal::BrokenHeap)
+}
+
+// An empty heap in lent memory: all of it is cleared.
+#[no_mangle]
+pub extern "C" fn yexwalu_new(
+    tag: u8,
+    narrow: &mut [u32],
+    wide: &mut [u64],
+    pool: &mut [u8],
+    marks: &mut [u8],
+    work: &mut [u64],
+) -> Done
+    ensures { λ r. ⌜ outcome (r .answer)
+        (lent (r .heap) (now (narrow .exit)) (now (wide .exit)) (now (pool .exit))) (now (marks .exit)) (now (work .exit))
+        ≡ newCall (now (marks .entry)) (now (work .entry)) (now (narrow .entry)) (now (wide .entry)) (now (pool .entry)) tag ⌝ }
+{
+    match enter_new(narrow, wide, pool, marks, work) {
+        Entry::Not(why) => Done {
+            heap: no_heap(),
+            answer: Reply::Not(why).numbers(),
+        },
+        Entry::Ready => {
+            let after = heap_edit::new(tag, narrow, wide, pool);
+            Done {
+                heap: after,
+                answer: Reply::Is(0, 0).numbers(),
+            }
+        }
+    }
+}
 
 // Is `k` the kind of an object: Typed, Bytes or Handles?
-fn known(k: u8) -> bool
+pub fn is_kind(k: u8) -> bool
     ensures { λ r. ⌜ r ≡ isKind k ⌝ }
 {
     if k < 1 {
@@ -28,355 +99,169 @@ fn known(k: u8) -> bool
     true
 }
 
-pub enum AllocReply {
-    Told(AllocAnswer),
-    Kind,
-    Refused(Refusal),
-}
-
-pub struct Placed {
-    pub heap: Heap,
-    pub answer: AllocReply,
-}
-
-// Places the object `bytes[s..]` of kind `k` and type `t`; the answer is its handle.
-pub fn alloc_from(
+// Places the object `bytes[start..]` of this kind and type; the answer is its handle.
+#[no_mangle]
+pub extern "C" fn yexwalu_alloc_from(
     heap: Heap,
-    generation: &mut [u32],
-    kind: &mut [u8],
-    ty: &mut [u32],
-    start: &mut [usize],
-    end: &mut [usize],
-    writes: &mut [u32],
+    narrow: &mut [u32],
+    wide: &mut [u64],
     pool: &mut [u8],
-    free: &mut [u32],
-    quarantine: &[u32],
-    sealed: &[u64],
+    kind: u8,
+    ty: u32,
+    start: usize,
+    bytes: &[u8],
     marks: &mut [u8],
     work: &mut [u64],
-    k: u8,
-    t: u32,
-    s: usize,
-    bytes: &[u8],
-) -> Placed
-    ensures { λ r. ⌜ outcome (toldPlaced (r .answer)) (lent (r .heap) (now (generation .exit)) (now (kind .exit)) (now (ty .exit)) (now (start .exit)) (now (end .exit)) (now (writes .exit)) (now (pool .exit)) (now (free .exit)) (now (quarantine .entry)) (now (sealed .entry))) (now (marks .exit)) (now (work .exit)) ≡ heapCall (now (marks .entry)) (now (work .entry)) (lent heap (now (generation .entry)) (now (kind .entry)) (now (ty .entry)) (now (start .entry)) (now (end .entry)) (now (writes .entry)) (now (pool .entry)) (now (free .entry)) (now (quarantine .entry)) (now (sealed .entry))) (allocating (length (now (generation .entry))) (length (now (pool .entry))) k t s (now (bytes .entry))) ⌝ }
+) -> Done
+    ensures { λ r. ⌜ outcome (r .answer)
+        (lent (r .heap) (now (narrow .exit)) (now (wide .exit)) (now (pool .exit))) (now (marks .exit)) (now (work .exit))
+        ≡ heapCall here nothing (now (marks .entry)) (now (work .entry)) (lent heap (now (narrow .entry)) (now (wide .entry)) (now (pool .entry)))
+        (allocating (length (now (narrow .entry)) / 6) (length (now (pool .entry))) kind ty start (now (bytes .entry))) ⌝ }
 {
-    match enter(
-        heap,
-        generation,
-        kind,
-        ty,
-        start,
-        end,
-        writes,
-        pool,
-        free,
-        quarantine,
-        sealed,
-        marks,
-        work,
-    ) {
-        Entry::Not(why) => Placed {
+    match enter(heap, narrow, wide, pool, marks, work) {
+        Entry::Not(why) => Done {
             heap: heap,
-            answer: AllocReply::Refused(why),
+            answer: Reply::Not(why).numbers(),
         },
         Entry::Ready => {
-            if known(k) {
-                let done = heap_calls::alloc_from(
-                    heap,
-                    generation,
-                    kind,
-                    ty,
-                    start,
-                    end,
-                    writes,
-                    pool,
-                    free,
-                    quarantine,
-                    sealed,
-                    k,
-                    t,
-                    s,
-                    bytes,
-                );
+            if is_kind(kind) {
+                let done = heap_calls::alloc_from(heap, narrow, wide, pool, kind, ty, start, bytes);
                 let after = done.heap;
-                let answer = done.answer;
-                return Placed {
+                let reply = done.reply;
+                return Done {
                     heap: after,
-                    answer: AllocReply::Told(answer),
+                    answer: reply.numbers(),
                 };
             }
-            Placed {
+            Done {
                 heap: heap,
-                answer: AllocReply::Kind,
+                answer: Reply::Not(Refusal::Kind).numbers(),
             }
         }
     }
 }
 
 // Places the object `bytes`, visible from its first byte on.
-pub fn alloc(
+#[no_mangle]
+pub extern "C" fn yexwalu_alloc(
     heap: Heap,
-    generation: &mut [u32],
-    kind: &mut [u8],
-    ty: &mut [u32],
-    start: &mut [usize],
-    end: &mut [usize],
-    writes: &mut [u32],
+    narrow: &mut [u32],
+    wide: &mut [u64],
     pool: &mut [u8],
-    free: &mut [u32],
-    quarantine: &[u32],
-    sealed: &[u64],
-    marks: &mut [u8],
-    work: &mut [u64],
-    k: u8,
-    t: u32,
+    kind: u8,
+    ty: u32,
     bytes: &[u8],
-) -> Placed
-    ensures { λ r. ⌜ outcome (toldPlaced (r .answer)) (lent (r .heap) (now (generation .exit)) (now (kind .exit)) (now (ty .exit)) (now (start .exit)) (now (end .exit)) (now (writes .exit)) (now (pool .exit)) (now (free .exit)) (now (quarantine .entry)) (now (sealed .entry))) (now (marks .exit)) (now (work .exit)) ≡ heapCall (now (marks .entry)) (now (work .entry)) (lent heap (now (generation .entry)) (now (kind .entry)) (now (ty .entry)) (now (start .entry)) (now (end .entry)) (now (writes .entry)) (now (pool .entry)) (now (free .entry)) (now (quarantine .entry)) (now (sealed .entry))) (allocating (length (now (generation .entry))) (length (now (pool .entry))) k t 0 (now (bytes .entry))) ⌝ }
-{
-    alloc_from(
-        heap,
-        generation,
-        kind,
-        ty,
-        start,
-        end,
-        writes,
-        pool,
-        free,
-        quarantine,
-        sealed,
-        marks,
-        work,
-        k,
-        t,
-        0,
-        bytes,
-    )
-}
-
-pub enum RecycleReply {
-    Recycled,
-    Pins,
-    Refused(Refusal),
-}
-
-pub struct Recycled {
-    pub heap: Heap,
-    pub answer: RecycleReply,
-}
-
-// Pinned slots stay in quarantine, in order; the others join the free list.
-pub fn recycle(
-    heap: Heap,
-    generation: &[u32],
-    kind: &[u8],
-    ty: &[u32],
-    start: &[usize],
-    end: &[usize],
-    writes: &[u32],
-    pool: &[u8],
-    free: &mut [u32],
-    quarantine: &mut [u32],
-    sealed: &[u64],
     marks: &mut [u8],
     work: &mut [u64],
-    pins: &[u32],
-) -> Recycled
-    ensures { λ r. ⌜ outcome (toldRecycled (r .answer)) (lent (r .heap) (now (generation .entry)) (now (kind .entry)) (now (ty .entry)) (now (start .entry)) (now (end .entry)) (now (writes .entry)) (now (pool .entry)) (now (free .exit)) (now (quarantine .exit)) (now (sealed .entry))) (now (marks .exit)) (now (work .exit)) ≡ heapCall (now (marks .entry)) (now (work .entry)) (lent heap (now (generation .entry)) (now (kind .entry)) (now (ty .entry)) (now (start .entry)) (now (end .entry)) (now (writes .entry)) (now (pool .entry)) (now (free .entry)) (now (quarantine .entry)) (now (sealed .entry))) (recycling (now (pins .entry))) ⌝ }
+) -> Done
+    ensures { λ r. ⌜ outcome (r .answer)
+        (lent (r .heap) (now (narrow .exit)) (now (wide .exit)) (now (pool .exit))) (now (marks .exit)) (now (work .exit))
+        ≡ heapCall here nothing (now (marks .entry)) (now (work .entry)) (lent heap (now (narrow .entry)) (now (wide .entry)) (now (pool .entry)))
+        (allocating (length (now (narrow .entry)) / 6) (length (now (pool .entry))) kind ty 0 (now (bytes .entry))) ⌝ }
 {
-    match enter(
-        heap,
-        generation,
-        kind,
-        ty,
-        start,
-        end,
-        writes,
-        pool,
-        free,
-        quarantine,
-        sealed,
-        marks,
-        work,
-    ) {
-        Entry::Not(why) => Recycled {
+    yexwalu_alloc_from(heap, narrow, wide, pool, kind, ty, 0, bytes, marks, work)
+}
+
+// Hands out the whole data of the object that the handle names: its length and its start; the slot goes into quarantine.
+#[no_mangle]
+pub extern "C" fn yexwalu_take(
+    heap: Heap,
+    narrow: &mut [u32],
+    wide: &mut [u64],
+    pool: &mut [u8],
+    handle: u64,
+    out: &mut [u8],
+    marks: &mut [u8],
+    work: &mut [u64],
+) -> Done
+    ensures { λ r. ⌜ handed (outcome (r .answer)
+        (lent (r .heap) (now (narrow .exit)) (now (wide .exit)) (now (pool .exit))) (now (marks .exit)) (now (work .exit))) (now (out .exit))
+        ≡ takeCall (now (marks .entry)) (now (work .entry))
+        (lent heap (now (narrow .entry)) (now (wide .entry)) (now (pool .entry)))
+        handle (now (out .entry)) ⌝ }
+{
+    match enter(heap, narrow, wide, pool, marks, work) {
+        Entry::Not(why) => Done {
             heap: heap,
-            answer: RecycleReply::Refused(why),
+            answer: Reply::Not(why).numbers(),
         },
         Entry::Ready => {
-            if heap_recycle::rise(pins) {
-                let after = heap_recycle::recycle(
-                    heap,
-                    generation,
-                    kind,
-                    ty,
-                    start,
-                    end,
-                    writes,
-                    pool,
-                    free,
-                    quarantine,
-                    sealed,
-                    pins,
-                );
-                return Recycled {
-                    heap: after,
-                    answer: RecycleReply::Recycled,
-                };
-            }
-            Recycled {
-                heap: heap,
-                answer: RecycleReply::Pins,
+            let done = heap_calls::take(heap, narrow, wide, pool, handle, out);
+            let after = done.heap;
+            let reply = done.reply;
+            Done {
+                heap: after,
+                answer: reply.numbers(),
             }
         }
     }
-}
-
-pub enum FreeReply {
-    Told(FreeAnswer),
-    Refused(Refusal),
-}
-
-pub struct Freed {
-    pub heap: Heap,
-    pub answer: FreeReply,
 }
 
 // As `take`, without handing out the object.
-pub fn free(
+#[no_mangle]
+pub extern "C" fn yexwalu_free(
     heap: Heap,
-    generation: &mut [u32],
-    kind: &mut [u8],
-    ty: &mut [u32],
-    start: &mut [usize],
-    end: &mut [usize],
-    writes: &mut [u32],
+    narrow: &mut [u32],
+    wide: &mut [u64],
     pool: &mut [u8],
-    free: &[u32],
-    quarantine: &mut [u32],
-    sealed: &[u64],
+    handle: u64,
     marks: &mut [u8],
     work: &mut [u64],
-    x: u64,
-) -> Freed
-    ensures { λ r. ⌜ outcome (toldFreed (r .answer)) (lent (r .heap) (now (generation .exit)) (now (kind .exit)) (now (ty .exit)) (now (start .exit)) (now (end .exit)) (now (writes .exit)) (now (pool .exit)) (now (free .entry)) (now (quarantine .exit)) (now (sealed .entry))) (now (marks .exit)) (now (work .exit)) ≡ heapCall (now (marks .entry)) (now (work .entry)) (lent heap (now (generation .entry)) (now (kind .entry)) (now (ty .entry)) (now (start .entry)) (now (end .entry)) (now (writes .entry)) (now (pool .entry)) (now (free .entry)) (now (quarantine .entry)) (now (sealed .entry))) (λ h. freed h x) ⌝ }
+) -> Done
+    ensures { λ r. ⌜ outcome (r .answer)
+        (lent (r .heap) (now (narrow .exit)) (now (wide .exit)) (now (pool .exit))) (now (marks .exit)) (now (work .exit))
+        ≡ heapCall nothing nothing (now (marks .entry)) (now (work .entry)) (lent heap (now (narrow .entry)) (now (wide .entry)) (now (pool .entry)))
+        (λ h. freed h handle) ⌝ }
 {
-    match enter(
-        heap,
-        generation,
-        kind,
-        ty,
-        start,
-        end,
-        writes,
-        pool,
-        free,
-        quarantine,
-        sealed,
-        marks,
-        work,
-    ) {
-        Entry::Not(why) => Freed {
+    match enter(heap, narrow, wide, pool, marks, work) {
+        Entry::Not(why) => Done {
             heap: heap,
-            answer: FreeReply::Refused(why),
+            answer: Reply::Not(why).numbers(),
         },
         Entry::Ready => {
-            let done = heap_calls::free(
-                heap,
-                generation,
-                kind,
-                ty,
-                start,
-                end,
-                writes,
-                pool,
-                free,
-                quarantine,
-                sealed,
-                x,
-            );
+            let done = heap_calls::free(heap, narrow, wide, pool, handle);
             let after = done.heap;
-            let answer = done.answer;
-            Freed {
+            let reply = done.reply;
+            Done {
                 heap: after,
-                answer: FreeReply::Told(answer),
+                answer: reply.numbers(),
             }
         }
     }
 }
 
-pub enum TakeReply {
-    Told(TakeAnswer),
-    Refused(Refusal),
-}
-
-pub struct Taken {
-    pub heap: Heap,
-    pub answer: TakeReply,
-}
-
-// Hands out the whole data of the object that `x` names, and its start; the slot goes into quarantine.
-pub fn take(
+// Pinned slots stay in quarantine, in order; the others join the free list.
+#[no_mangle]
+pub extern "C" fn yexwalu_recycle(
     heap: Heap,
-    generation: &mut [u32],
-    kind: &mut [u8],
-    ty: &mut [u32],
-    start: &mut [usize],
-    end: &mut [usize],
-    writes: &mut [u32],
-    pool: &mut [u8],
-    free: &[u32],
-    quarantine: &mut [u32],
-    sealed: &[u64],
+    narrow: &mut [u32],
+    wide: &[u64],
+    pool: &[u8],
+    pins: &[u32],
     marks: &mut [u8],
     work: &mut [u64],
-    x: u64,
-    out: &mut [u8],
-) -> Taken
-    ensures { λ r. ⌜ handed (outcome (toldTaken (r .answer)) (lent (r .heap) (now (generation .exit)) (now (kind .exit)) (now (ty .exit)) (now (start .exit)) (now (end .exit)) (now (writes .exit)) (now (pool .exit)) (now (free .entry)) (now (quarantine .exit)) (now (sealed .entry))) (now (marks .exit)) (now (work .exit))) (now (out .exit)) ≡ takeCall (now (marks .entry)) (now (work .entry)) (lent heap (now (generation .entry)) (now (kind .entry)) (now (ty .entry)) (now (start .entry)) (now (end .entry)) (now (writes .entry)) (now (pool .entry)) (now (free .entry)) (now (quarantine .entry)) (now (sealed .entry))) x (now (out .entry)) ⌝ }
+) -> Done
+    ensures { λ r. ⌜ outcome (r .answer)
+        (lent (r .heap) (now (narrow .exit)) (now (wide .entry)) (now (pool .entry))) (now (marks .exit)) (now (work .exit))
+        ≡ heapCall nothing nothing (now (marks .entry)) (now (work .entry)) (lent heap (now (narrow .entry)) (now (wide .entry)) (now (pool .entry)))
+        (recycling (now (pins .entry))) ⌝ }
 {
-    match enter(
-        heap,
-        generation,
-        kind,
-        ty,
-        start,
-        end,
-        writes,
-        pool,
-        free,
-        quarantine,
-        sealed,
-        marks,
-        work,
-    ) {
-        Entry::Not(why) => Taken {
+    match enter(heap, narrow, wide, pool, marks, work) {
+        Entry::Not(why) => Done {
             heap: heap,
-            answer: TakeReply::Refused(why),
+            answer: Reply::Not(why).numbers(),
         },
         Entry::Ready => {
-            let done = heap_calls::take(
-                heap,
-                generation,
-                kind,
-                ty,
-                start,
-                end,
-                writes,
-                pool,
-                free,
-                quarantine,
-                sealed,
-                x,
-                out,
-            );
-            let after = done.heap;
-            let answer = done.answer;
-            Taken {
-                heap: after,
-                answer: TakeReply::Told(answer),
+            if heap_calls::recycle::rise(pins) {
+                let after = heap_calls::recycle::recycle(heap, narrow, wide, pool, pins);
+                return Done {
+                    heap: after,
+                    answer: Reply::Is(0, 0).numbers(),
+                };
+            }
+            Done {
+                heap: heap,
+                answer: Reply::Not(Refusal::Pins).numbers(),
             }
         }
     }

@@ -6,7 +6,9 @@ use mathlib.Core.Path.{_≡_, refl, sym, ap, _∙_, subst}
 use mathlib.Core.Bool.{Bool, true, false, _&&_}
 use native.Mathlib.Nat.{zero-add}
 use lib.ListN.{length, drop, length-drop, length-append}
+use lib.Dec.{leb}
 use native.Mathlib.Omega.{arith}
+use borrow.Author.Tests.{lt-ltb}
 use Rattle.word.specs.Lists.{all}
 use Rattle.word.proofs.Bools.{and-true, and-assoc}
 use Rattle.text.specs.Text.{give, Reader, decimal, _>>=_, digitOf, readField, readHex}
@@ -146,9 +148,10 @@ found-rest s k sl rest e =
     ap length (slot-prints sl) ∙ slot-length-decimal (sl .generation) (sl .kind) (sl .type) (sl .start) (sl .writes) (sl .bytes) in
     (suffix (slotFormat .print sl) rest s k (b .1), λ h. omega arith)
 
-sound-same : (sl : Slot) → soundNumbers (sl .generation) (sl .kind) (sl .type) (sl .start) (sl .writes) (length (sl .bytes)) ≡ soundSlot sl
+-- writes have 32 bits on the page
+sound-same : (sl : Slot) → sl .writes < 2 ^ 32 → soundNumbers (sl .generation) (sl .kind) (sl .type) (sl .start) (sl .writes) (length (sl .bytes)) ≡ soundSlot sl
 unfolding soundNumbers soundSlot
-sound-same sl = refl
+sound-same sl h = rw (lt-ltb (sl .writes) (2 ^ 32) h, and-true (leb (sl .kind) 3 && leb 1 (sl .generation)))
 
 pub line-found : (s : List ℕ) (k : ℕ) {r : SlotLine} (x : SlotRead) → r ≡ slotAnswer (length s) (slotFormat .read (drop k s)) → r ≡ Line x → Found s k x
 line-found s k {r} x e f = go (slotFormat .read (drop k s)) refl e
@@ -161,6 +164,7 @@ line-found s k {r} x e f = go (slotFormat .read (drop k s)) refl e
         let v : Line z ≡ Line x = sym g ∙ f in
         let w : z ≡ x = cc in
         let t = found-rest s k (y .0) (y .1) q in
+        let within = slot-right .back (drop k s) (y .0) (y .1) q .0 in
         subst (Found s k) w
         (record {
           sl = y .0;
@@ -173,8 +177,8 @@ line-found s k {r} x e f = go (slotFormat .read (drop k s)) refl e
           ty = refl;
           start = refl;
           writes = refl;
-          good = slot-right .back (drop k s) (y .0) (y .1) q .0;
-          sound = sound-same (y .0);
+          good = within;
+          sound = sound-same (y .0) (within .1 .1 .1 .1 .0);
         })
 
 pub line-lost : (s : List ℕ) (k : ℕ) {r : SlotLine} → r ≡ slotAnswer (length s) (slotFormat .read (drop k s)) → r ≡ NoLine → slotFormat .read (drop k s) ≡ none

@@ -11,6 +11,7 @@ use Rattle.heap.specs.State.{State, dataSize}
 use Rattle.heap.specs.Calls.{new}
 use Rattle.word.specs.Choice.{if_then_else_}
 use Rattle.word.specs.Result.{Result, ok, refused}
+use Rattle.refusal.specs.Told.{numberOf}
 use Rattle.heap.specs.WellFormed.{soundSlot, soundSeals, soundReclaim, sound}
 use Rattle.pages.specs.Page.{readPage}
 use Rattle.page_check.specs.Partition.{valuesAt, ValuesParsed}
@@ -77,7 +78,4 @@ pub record Accepted (s : List ℕ) (v : Result State) (x : Sections) : Type 0 wh
 
 abbrev pub Checking : List ℕ → (verdict : Result State) → Checked → Type 0
 Checking s v (checked.Page x) = Accepted s v x
-Checking s v checked.NotPage = v ≡ refused 17
-Checking s v checked.Broken = v ≡ refused 1
-Checking s v checked.NoRoom = v ≡ refused 6
-Checking s v checked.Full = v ≡ refused 5
+Checking s v (checked.Not why) = v ≡ refused (numberOf why)

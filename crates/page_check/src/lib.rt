@@ -1,4 +1,5 @@
 // The first pass over a page: what stands in the text, without touching the lent heap.
+use refusal::Refusal;
 use text::Decimal;
 use text::Hex;
 use text::Literal;
@@ -492,10 +493,7 @@ pub fn parse_page(s: &[u8]) -> Parsed
 // What the first pass tells of a text: a page that can be read, or why it is refused.
 pub enum Checked {
     Page(Sections),
-    NotPage,
-    Broken,
-    NoRoom,
-    Full,
+    Not(Refusal),
 }
 
 // The first pass: is a text the page of a sound heap that fits into `lent` slots and `room` bytes? `sizes` says whether the lent sizes are in range.
@@ -506,10 +504,10 @@ pub fn check_page(s: &[u8], sizes: bool, lent: usize, room: usize, marks: &mut [
 {
     memory::clear_u8(marks);
     let Parsed::Page(x) = parse_page(s) else {
-        return Checked::NotPage;
+        return Checked::Not(Refusal::Page);
     };
     if sizes {} else {
-        return Checked::Broken;
+        return Checked::Not(Refusal::BrokenHeap);
     }
     let once = partition(
         s,
@@ -522,13 +520,13 @@ pub fn check_page(s: &[u8], sizes: bool, lent: usize, room: usize, marks: &mut [
         marks,
     );
     if both(x.sound, once) {} else {
-        return Checked::Broken;
+        return Checked::Not(Refusal::BrokenHeap);
     }
     if room < x.size {
-        return Checked::NoRoom;
+        return Checked::Not(Refusal::NoRoom);
     }
     if lent < x.slots {
-        return Checked::Full;
+        return Checked::Not(Refusal::Full);
     }
     Checked::Page(x)
 }

@@ -70,12 +70,3 @@ end-next a b l i x e h k q =
     col-next a b (ends 0 (dataOf (take i l))) i x e (ends-length 0 (take i l) ∙ length-taken l i (omega arith)) k
     ∙ ap (putText a 0) (ap (λ (y : ℕ). ends 0 (dataOf (take i l)) ++ (y ∷ [])) (let v : x ≡ 0 + dataSize (take i l) + length (getD l i blank .bytes) = omega (arith, q, ap (λ (m : List Slot). dataSize m) (sym (take-more l i h)), data-snoc (take i l) (getD l i blank)) in v)
     ∙ sym (ends-snoc 0 (take i l) (getD l i blank)) ∙ ap (λ (m : List Slot). ends 0 (dataOf m)) (take-more l i h))
-
-taken-short : (l : List Slot) (i n : ℕ) → i ≤ n → length (take i l) ≤ n
-taken-short l i n h = omega (arith, length-take i l)
-
-pub column-length : (f : Slot → ℕ) (a b : List ℕ) (l : List Slot) (i : ℕ) → b ≡ putText a 0 (map f (take i l)) → i ≤ length a → length b ≡ length a
-column-length f a b l i e h = filled-length a b (map f (take i l)) e (omega (arith, length-map (take i l) f, taken-short l i (length a) h))
-
-pub end-length : (a b : List ℕ) (l : List Slot) (i : ℕ) → b ≡ putText a 0 (ends 0 (dataOf (take i l))) → i ≤ length a → length b ≡ length a
-end-length a b l i e h = filled-length a b (ends 0 (dataOf (take i l))) e (omega (arith, ends-length 0 (take i l), taken-short l i (length a) h))

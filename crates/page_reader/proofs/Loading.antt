@@ -16,15 +16,12 @@ use Rattle.pages.proofs.Laws.{written-read}
 use Rattle.page_check.specs.Sections.{heapIn, Sectioned}
 use Rattle.page_check.specs.declared.Sections.{Sections}
 
-pub padded : (a b c xs : List ℕ) → b ≡ replicate (length a) 0 → c ≡ putText b 0 xs → c ≡ pad (length a) xs
+-- zeros filled in from the front
+pub padded : (n : ℕ) (a xs : List ℕ) → a ≡ replicate n 0 → putText a 0 xs ≡ pad n xs
 unfolding pad
-padded a b c xs e f =
-    f ∙ ap (λ (z : List ℕ). putText z 0 xs) e ∙ put-all (replicate (length a) 0) 0 xs
-    ∙ ap (λ (n : ℕ). xs ++ drop n (replicate (length a) 0)) (zero-add (length xs)) ∙ ap (λ (z : List ℕ). xs ++ z) (drop-replicate (length xs) (length a) 0)
-
--- room is kept by a call that keeps the length
-pub still : (n : ℕ) (a b : List ℕ) → n ≤ length a → length b ≡ length a → n ≤ length b
-still n a b h e = omega arith
+padded n a xs e =
+    ap (λ (z : List ℕ). putText z 0 xs) e ∙ put-all (replicate n 0) 0 xs
+    ∙ ap (λ (m : ℕ). xs ++ drop m (replicate n 0)) (zero-add (length xs)) ∙ ap (λ (z : List ℕ). xs ++ z) (drop-replicate (length xs) n 0)
 
 -- THE HEADER
 
@@ -43,6 +40,7 @@ module _ (s : List ℕ) (x : Sections) (p : Sectioned s x) where
         slots = x .slots;
         free = x .free;
         quarantine = x .quarantine;
+        retired = 0;
         sealed = x .sealed;
       }) (headerOf (heapIn s))
   unfolding headerOf
@@ -58,5 +56,6 @@ module _ (s : List ℕ) (x : Sections) (p : Sectioned s x) where
         slots = p .slotCount i;
         free = p .freeCount i;
         quarantine = p .quarantineCount i;
+        retired = 0;
         sealed = p .sealedCount i;
       }

@@ -1,37 +1,37 @@
 -- What reading a page answers and leaves (01, "Page"): 17, then 1, 6 and 5; a refusal changes nothing, and what the lent heap held before isn't looked at.
 use Prim.Native.Nat.{ℕ}
+use mathlib.Core.Bool.{Bool, _&&_}
 use mathlib.Core.List.{List}
 use mathlib.Core.Path.{_≡_}
+use lib.Dec.{eqb, leb}
+use lib.ListN.{length}
 use Rattle.word.specs.Result.{Result, ok, refused}
+use Rattle.refusal.specs.Told.{told, answered, nothing}
+use Rattle.refusal.specs.declared.Reply.{Reply}
 use Rattle.heap.specs.State.{State}
 use Rattle.heap.specs.Lent.{Lent, stored, slotCount, poolSize}
-use Rattle.heap.specs.WellFormed.{inRange}
 use Rattle.pages.specs.Page.{readPage}
 use Rattle.page_check.specs.Sections.{verdict}
-use Rattle.page_reader.specs.declared.Reading.{Reading}
-use Rattle.page_reader.specs.declared.Reading.the-variants.{Done, NotPage, Broken, NoRoom, Full}
+
+-- the lengths of what is lent are right (`sizesFit`), said of the runs: S and pool in range, the last run of either list has S entries, and nothing lies past them
+unfoldable pub inRange : Lent → Bool
+inRange l =
+    leb 1 (slotCount l) && leb (slotCount l) 16777216 && leb (poolSize l) 1073741824
+    && eqb (length (l .retired)) (slotCount l) && eqb (length (l .sealed)) (slotCount l) && eqb (length (l .over)) 0
 
 -- what a call leaves and answers
-pub record Reply : Type 0 where
+pub record Left : Type 0 where
   pub lent : Lent
   pub answer : Result Unit
 
-abbrev pub reply : Lent → Result State → Reply
-reply l (ok h) = record { lent = stored (slotCount l) (poolSize l) h; answer = ok tt }
-reply l (refused n) = record { lent = l; answer = refused n }
+abbrev pub left : Lent → Result State → Left
+left l (ok h) = record { lent = stored (slotCount l) (poolSize l) h; answer = ok tt }
+left l (refused n) = record { lent = l; answer = refused n }
 
-unfoldable pub readInto : Lent → (text : List ℕ) → Reply
-readInto l text = reply l (verdict (inRange l) (slotCount l) (poolSize l) (readPage text))
-
--- 01's number for each answer
-abbrev pub told : Reading → Result Unit
-told Done = ok tt
-told NotPage = refused 17
-told Broken = refused 1
-told NoRoom = refused 6
-told Full = refused 5
+unfoldable pub readInto : Lent → (text : List ℕ) → Left
+readInto l text = left l (verdict (inRange l) (slotCount l) (poolSize l) (readPage text))
 
 -- `l` before the call, `l′` after it
-pub record PageRead (l l′ : Lent) (text : List ℕ) (r : Reading) : Type 0 where
+pub record PageRead (l l′ : Lent) (text : List ℕ) (r : Reply) : Type 0 where
   pub lent : l′ ≡ readInto l text .lent
-  pub answer : told r ≡ readInto l text .answer
+  pub answer : told r ≡ answered nothing nothing (readInto l text .answer)

@@ -8,15 +8,14 @@ use native.Mathlib.Omega.{arith}
 use Rattle.word.proofs.ListLaws.{length-tabulate}
 use Rattle.heap.specs.State.{Slot, dataOf}
 use Rattle.heap.specs.Packing.{pad, flat, ends, startOf}
-use Rattle.heap.specs.Lent.{Lent, lent, headerOf, stored, view, slotCount, poolSize}
+use Rattle.heap.specs.Lent.{Lent, headerOf, stored, view, slotCount, poolSize}
 use Rattle.heap.specs.WellFormed.{wellFormed}
-use Rattle.heap.specs.declared.Heap.{Heap}
 use Rattle.heap.proofs.Sound.{WellFormed}
 use Rattle.heap.proofs.Testing.{formed-tested}
 use Rattle.heap.proofs.Counting.{all-slots}
 use Rattle.heap.proofs.Seals.{seals-few}
 use Rattle.heap.proofs.Packing.{length-pad, length-ends, flat-split, start-of, end-of}
-use Rattle.pages.specs.Columns.{columns, Laid, Ready}
+use Rattle.pages.specs.Columns.{Ready}
 
 -- the data of the slots lies in order, inside the pool
 module _ (S : ℕ) (end : List ℕ) (ds : List (List ℕ)) (e : end ≡ pad S (ends 0 ds)) (i : ℕ) (h : i < length ds) where
@@ -34,10 +33,6 @@ module _ (S : ℕ) (end : List ℕ) (ds : List (List ℕ)) (e : end ≡ pad S (e
         length-append (getD ds i []) (flat (drop (suc i) ds)),
       ))
 
--- a column of S places holds the numbers of n slots
-wide : (n S : ℕ) (xs ys : List ℕ) → xs ≡ pad S ys → length ys ≤ S → n ≤ S → n ≤ length xs
-wide n S xs ys e l h = omega (arith, ap length e, length-pad S ys l)
-
 -- as many as the header says, from the front of a column
 count-inside : (n : ℕ) (xs : List ℕ) → n ≡ length (take n xs) → n ≤ length xs
 count-inside n xs e = omega (arith, length-take n xs)
@@ -51,8 +46,6 @@ ready {l} e =
     let n : length slots ≡ l .header .slots = length-tabulate (l .header .slots) _ in
     let m : length (dataOf slots) ≡ l .header .slots = length-map slots (λ (x : Slot). x .bytes) ∙ n in
     let c : l .header .slots ≤ S = omega (arith, w .sound .slots-fit) in
-    let column : (xs : List ℕ) (f : Slot → ℕ) → xs ≡ pad S (mathlib.Core.List.map f slots) → l .header .slots ≤ length xs =
-    λ xs f q. wide _ S xs (mathlib.Core.List.map f slots) q (omega (arith, length-map slots f)) c in
     let dead = all-slots S (poolSize l) (view l) (w .sound) in
     let seals = seals-few (view l .tag) (length slots) 0 (view l .sealed) (omega arith) (w .sound .seals) in
     let lies = w .lies in
@@ -62,16 +55,9 @@ ready {l} e =
     let q : l .header .quarantine ≡ length (take (l .header .quarantine) (l .quarantine)) = ap (λ (x : Lent). x .header .quarantine) lies in
     let z : l .header .sealed ≡ length (take (l .header .sealed) (l .sealed)) = ap (λ (x : Lent). x .header .sealed) lies in
     record {
-      laid = record {
-        generation = c;
-        kind = column (l .kind) (λ x. x .kind) (ap (λ (x : Lent). x .kind) lies);
-        type = column (l .type) (λ x. x .type) (ap (λ (x : Lent). x .type) lies);
-        start = column (l .start) (λ x. x .start) (ap (λ (x : Lent). x .start) lies);
-        end = wide _ S (l .end) (ends 0 (dataOf slots)) end (omega (arith, length-ends 0 (dataOf slots))) c;
-        writes = column (l .writes) (λ x. x .writes) (ap (λ (x : Lent). x .writes) lies);
-        rising = λ i h. rising S (l .end) (dataOf slots) end i (omega arith);
-        inside = λ i h. omega (arith, inside S (l .end) (dataOf slots) end i (omega arith), w .sound .data-fit);
-      };
+      slots = c;
+      rising = λ i h. rising S (l .end) (dataOf slots) end i (omega arith);
+      inside = λ i h. omega (arith, inside S (l .end) (dataOf slots) end i (omega arith), w .sound .data-fit);
       slotCount = omega arith;
       pool = w .sound .pool-range;
       freeCount = omega arith;
@@ -81,16 +67,3 @@ ready {l} e =
       quarantine = count-inside _ (l .quarantine) q;
       sealed = count-inside _ (l .sealed) z;
     }
-
--- the slots' part
-pub laid-in : {h : Heap} {g k t s e w p f q z : List ℕ} → Ready (lent h g k t s e w p f q z) → Laid (columns g k t s e w p) (h .slots)
-laid-in r = record {
-  generation = r .laid .generation;
-  kind = r .laid .kind;
-  type = r .laid .type;
-  start = r .laid .start;
-  end = r .laid .end;
-  writes = r .laid .writes;
-  rising = r .laid .rising;
-  inside = r .laid .inside;
-}

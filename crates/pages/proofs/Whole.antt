@@ -1,8 +1,8 @@
 -- The page of the heap that lies in lent memory, part by part as the writer puts it.
-use Prim.Native.Nat.{ℕ, _+_, _-_, _≤_, _<_}
+use Prim.Native.Nat.{ℕ, _+_, _-_, _*_, _/_, _≤_, _<_}
 use mathlib.Core.List.{List, _++_, append-assoc, flatMap}
 use mathlib.Core.Path.{_≡_, refl, sym, ap, _∙_}
-use lib.ListN.{length, take, length-append}
+use lib.ListN.{length, take, drop, length-append}
 use lib.Seq.{length-take-le}
 use native.Mathlib.Omega.{arith}
 use native.Mathlib.Nat.{zero-add}
@@ -11,38 +11,71 @@ use Rattle.text.specs.Text.{ascii}
 use Rattle.text.specs.Put.{Puts}
 use Rattle.text.proofs.Putting.{puts-puts, puts-at}
 use Rattle.pages.specs.Page.{valueLine, slotLine, numbersLine, heapLine, heapNames, slotNames, freeName, quarantineName, sealedName, pageText}
-use Rattle.heap.specs.Lent.{Lent, lent, slotIn, view}
-use Rattle.pages.specs.Columns.{columns, slotsIn, Ready}
+use Rattle.heap.specs.Lent.{Lent, lent, view}
+use Rattle.pages.specs.Columns.{slotsIn, Ready}
 use Rattle.pages.specs.Answer.{PageWritten}
 use Rattle.heap.specs.declared.Heap.{Heap}
-use Rattle.pages.specs.declared.Written.the-variants.{Page, Short}
+use Rattle.refusal.specs.Told.{told}
+use Rattle.refusal.specs.declared.Refusal.the-variants.{ShortList}
+use Rattle.refusal.specs.declared.Reply.the-variants.{Is, Not}
+use Rattle.word.proofs.RunLaws.{run-part}
 use Rattle.pages.proofs.Writing.{slots-length}
 
 abbrev pub numbers : Heap → List ℕ
 numbers h = numbersLine (h .tag) (h .«since_gc») (h .«reclaim_at») (h .«live_bytes») (h .slots) (h .free) (h .quarantine) (h .sealed)
 
-module _ (h : Heap) (g k t s e w p f q z : List ℕ) (r : Ready (lent h g k t s e w p f q z)) where
+module _ (h : Heap) (narrow wide pool : List ℕ) (r : Ready (lent h narrow wide pool)) where
   abbrev heap : Lent
-  heap = lent h g k t s e w p f q z
+  heap = lent h narrow wide pool
 
-  -- the lines of the slots, which seven columns give
+  abbrev S : ℕ
+  S = length narrow / 6
+
+  -- the lists, as the code lends their runs
+  abbrev f : List ℕ
+  f = take (4 * S - 3 * S) (drop (3 * S) narrow)
+
+  abbrev q : List ℕ
+  q = take (5 * S - 4 * S) (drop (4 * S) narrow)
+
+  abbrev z : List ℕ
+  z = take (4 * S - 3 * S) (drop (3 * S) wide)
+
+  f-is : f ≡ heap .free
+  f-is = run-part S (3 * S) narrow (3 * S) (4 * S) refl (omega arith)
+
+  q-is : q ≡ heap .quarantine
+  q-is = run-part S (4 * S) narrow (4 * S) (5 * S) refl (omega arith)
+
+  z-is : z ≡ heap .sealed
+  z-is = run-part S (3 * S) wide (3 * S) (4 * S) refl (omega arith)
+
+  pub free-in : h .free ≤ length (take (4 * (length narrow / 6) - 3 * (length narrow / 6)) (drop (3 * (length narrow / 6)) narrow))
+  free-in = omega (arith, r .free, ap length f-is)
+
+  pub quarantine-in : h .quarantine ≤ length (take (5 * (length narrow / 6) - 4 * (length narrow / 6)) (drop (4 * (length narrow / 6)) narrow))
+  quarantine-in = omega (arith, r .quarantine, ap length q-is)
+
+  pub sealed-in : h .sealed ≤ length (take (4 * (length narrow / 6) - 3 * (length narrow / 6)) (drop (3 * (length narrow / 6)) wide))
+  sealed-in = omega (arith, r .sealed, ap length z-is)
+
   abbrev slotLines : List ℕ
-  slotLines = flatMap slotLine (slotsIn (columns g k t s e w p) (h .slots))
+  slotLines = flatMap slotLine (slotsIn heap (h .slots))
 
-  slots-are : view heap .slots ≡ slotsIn (columns g k t s e w p) (h .slots)
-  unfolding view slotIn
+  slots-are : view heap .slots ≡ slotsIn heap (h .slots)
+  unfolding view
   slots-are = refl
 
   head-is : heapLine (view heap) ≡ numbers h
   unfolding heapLine view
   head-is =
-      rw (slots-length heap (h .slots), length-take-le (h .free) f (r .free), length-take-le (h .quarantine) q (r .quarantine), length-take-le (h .sealed) z (r .sealed))
+      rw (slots-length heap (h .slots), length-take-le (h .free) (heap .free) (r .free), length-take-le (h .quarantine) (heap .quarantine) (r .quarantine), length-take-le (h .sealed) (heap .sealed) (r .sealed))
 
   pub page-parts :
       heapNames ++ numbers h ++ slotNames ++ slotLines ++ (freeName ++ flatMap valueLine (take (h .free) f))
       ++ (quarantineName ++ flatMap valueLine (take (h .quarantine) q)) ++ (sealedName ++ flatMap valueLine (take (h .sealed) z)) ≡ pageText (view heap)
   unfolding pageText view
-  page-parts = rw (head-is, slots-are) (simp append-assoc)
+  page-parts = rw (head-is, slots-are, f-is, q-is, z-is) (simp append-assoc)
 
   pub page-size :
       length (pageText (view heap)) ≡
@@ -71,12 +104,12 @@ module _ (h : Heap) (g k t s e w p f q z : List ℕ) (r : Ready (lent h g k t s 
   puts-page p1 p2 p3 p4 p5 p6 p7 l =
       puts-at (puts-puts (puts-puts (puts-puts (puts-puts (puts-puts (puts-puts p1 p2 l) p3 l) p4 l) p5 l) p6 l) p7 l) refl page-parts
 
-pub wrote : {a b t : List ℕ} {k : ℕ} → Puts a b 0 k t → length t ≤ length a → PageWritten a b t (Page k)
+pub wrote : {a b t : List ℕ} {k : ℕ} → Puts a b 0 k t → length t ≤ length a → PageWritten a b t (Is k 0)
 wrote {a} {b} {t} {k} p h =
     record {
-      answer = rw (le-leb (length t) (length a) h) (ap Page (p .next ∙ zero-add (length t)));
+      answer = rw (le-leb (length t) (length a) h) (ap (λ (n : ℕ). told (Is n 0)) (p .next ∙ zero-add (length t)));
       out = rw (le-leb (length t) (length a) h) (p .out);
     }
 
-pub short : (a t : List ℕ) → length a < length t → PageWritten a a t Short
+pub short : (a t : List ℕ) → length a < length t → PageWritten a a t (Not ShortList)
 short a t h = record { answer = rw (lt-leb (length t) (length a) h); out = rw (lt-leb (length t) (length a) h) }

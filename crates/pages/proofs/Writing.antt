@@ -2,7 +2,7 @@
 use Prim.Native.Nat.{ℕ, zero, suc, _+_, _-_, _*_, _≤_, _<_}
 use mathlib.Core.List.{List, [], _∷_, _++_, append-assoc, append-nil, flatMap}
 use mathlib.Core.Path.{_≡_, refl, sym, ap, _∙_}
-use lib.ListN.{length, take, drop, getD, set, length-append, length-take, length-drop}
+use lib.ListN.{length, take, drop, getD, set, length-append}
 use lib.Seq.{take-suc, take-all}
 use native.Mathlib.Omega.{arith}
 use native.Mathlib.Numerals.{add-one}
@@ -14,8 +14,7 @@ use Rattle.text.proofs.Putting.{puts-puts, puts-byte, puts-length, puts-at}
 use Rattle.heap.specs.State.{Slot}
 use Rattle.pages.specs.Page.{valueLine, slotLine, numbersLine}
 use Rattle.heap.specs.Lent.{Lent, slotIn}
-use Rattle.heap.specs.Packing.{startOf, dataAt}
-use Rattle.pages.specs.Columns.{slot, slotsIn, Laid}
+use Rattle.pages.specs.Columns.{slot, slotsIn}
 
 module _ {A : Type 0} (f : A → List ℕ) where
   flat-append : (xs ys : List A) → flatMap f (xs ++ ys) ≡ flatMap f xs ++ flatMap f ys
@@ -131,22 +130,6 @@ pub puts-line : (k : Lent) (n i : ℕ) (a b c : List ℕ) (at m r : ℕ) → i <
 puts-line k n i a b c at m r h l p q =
     puts-more slotLine a b c at m r (slotsIn k n) i blank (omega (arith, slots-length k n)) p (puts-at q refl (ap slotLine (sym (slot-at k n i blank h)))) l
 
--- a slot whose data the code has found from `from` on
-abbrev pub slot-from : (c : Lent) (i from : ℕ) → Slot
-slot-from c i from =
-    slot (getD (c .generation) i 0) (getD (c .kind) i 0) (getD (c .type) i 0) (getD (c .start) i 0) (getD (c .writes) i 0)
-    (take (getD (c .end) i 0 - from) (drop from (c .pool)))
-
-pub slot-found : (c : Lent) (i from : ℕ) → from ≡ startOf (c .end) i → slot-from c i from ≡ slotIn c i
-unfolding slotIn dataAt
-slot-found c i from e = ap (slot-from c i) e
-
-pub part-length : (pool : List ℕ) (from to : ℕ) → from ≤ to → to ≤ length pool → length (take (to - from) (drop from pool)) ≡ to - from
-part-length pool from to h k = simp (length-take, length-drop) (omega arith)
-
-pub rises : (c : Lent) (n i from : ℕ) → Laid c n → i < n → from ≡ startOf (c .end) i → from ≤ getD (c .end) i 0
-rises c n i from l h e = rw e (l .rising i h)
-
 -- THE LINE OF NUMBERS
 
 module _ (t s r l n f q z : ℕ) where
@@ -180,9 +163,3 @@ module _ (t s r l n f q z : ℕ) where
       Puts a b8 at k8 (numbersLine t s r l n f q z)
   puts-head p1 p2 p3 p4 p5 p6 p7 p8 h =
       puts-at (puts-puts (puts-puts (puts-puts (puts-puts (puts-puts (puts-puts (puts-puts p1 p2 h) p3 h) p4 h) p5 h) p6 h) p7 h) p8 h) refl head-parts
-
-pub final-bound : (ends pool : List ℕ) (count i from n : ℕ) → n ≤ 59 * i + 2 * from → i ≤ count → from ≡ startOf ends i →
-    ((j : ℕ) → j < count → getD ends j 0 ≤ length pool) → n ≤ 59 * count + 2 * length pool
-unfolding startOf
-final-bound ends pool count zero from n h k e inside = omega arith
-final-bound ends pool count (suc i) from n h k e inside = omega (arith, inside i (omega arith))

@@ -5,16 +5,19 @@ use mathlib.Core.Path.{_≡_}
 use lib.Dec.{leb}
 use lib.ListN.{length}
 use Rattle.word.specs.Choice.{if_then_else_}
+use Rattle.word.specs.Result.{Result, ok, refused}
 use Rattle.text.specs.Put.{putText}
-use Rattle.pages.specs.declared.Written.{Written}
-use Rattle.pages.specs.declared.Written.the-variants.{Page, Short}
+use Rattle.refusal.specs.Told.{told, answered, here, nothing}
+use Rattle.refusal.specs.declared.Reply.{Reply}
 
--- 01's number for an answer
-abbrev pub numberOf : Written → ℕ
-numberOf (Page n) = 0
-numberOf Short = 7
+-- how many bytes the text takes, or an output too short: 7
+abbrev pub textAnswer : (text out : List ℕ) → Result ℕ
+textAnswer text out = if leb (length text) (length out) then ok (length text) else refused 7
 
 -- the text stands at the start of the output, which stays beyond it; an output too short stays whole
-pub record PageWritten (before after text : List ℕ) (r : Written) : Type 0 where
-  pub answer : r ≡ (if leb (length text) (length before) then Page (length text) else Short)
-  pub out : after ≡ (if leb (length text) (length before) then putText before 0 text else before)
+abbrev pub textOut : (text out : List ℕ) → List ℕ
+textOut text out = if leb (length text) (length out) then putText out 0 text else out
+
+pub record PageWritten (before after text : List ℕ) (r : Reply) : Type 0 where
+  pub answer : told r ≡ answered here nothing (textAnswer text before)
+  pub out : after ≡ textOut text before

@@ -1,19 +1,21 @@
 // The page: a heap as text.
 use heap::Heap;
+use refusal::Refusal;
+use refusal::Reply;
 ghost use mathlib.Core.Path.{_≡_};
 ghost use mathlib.Core.List.{List, [], _∷_, _++_, flatMap};
-ghost use Prim.Native.Nat.{ℕ, _+_, _-_, _*_, _≤_, _<_};
+ghost use Prim.Native.Nat.{ℕ, _+_, _-_, _*_, _/_, _≤_, _<_};
 ghost use lib.ListN.{length, take, drop};
 ghost use Rattle.text.specs.Text.{decimal, hex};
 ghost use Rattle.text.specs.Put.{Puts};
 ghost use Rattle.pages.specs.Page.{valueLine, slotLine, numbersLine, pageText};
-ghost use Rattle.pages.specs.Columns.{slot, columns, slotsIn, Laid, Ready};
+ghost use Rattle.pages.specs.Columns.{slot, slotsIn, Ready};
 ghost use Rattle.heap.specs.Lent.{lent, view};
 ghost use Rattle.heap.specs.WellFormed.{wellFormed};
 ghost use mathlib.Core.Bool.{true};
 ghost use Rattle.pages.specs.Answer.{PageWritten};
 
-fn wide(x: u32) -> u64
+fn widened(x: u32) -> u64
     ensures { λ r. ⌜ r ≡ x ⌝ }
 {
     x as u64
@@ -28,7 +30,7 @@ fn indices_len(list: &[u32], count: usize) -> usize
     let mut n = 0;
     let mut i = 0;
     while i < count {
-        let d = text::decimal_len(wide(list[i]));
+        let d = text::decimal_len(widened(list[i]));
         n = n + d + 1;
         i += 1;
     }
@@ -68,7 +70,7 @@ fn put_indices(out: &mut [u8], at: usize, list: &[u32], count: usize) -> usize
     let mut k = at;
     let mut i = 0;
     while i < count {
-        k = put_number(out, k, wide(list[i]), 10);
+        k = put_number(out, k, widened(list[i]), 10);
         i += 1;
     }
     k
@@ -89,16 +91,16 @@ fn put_handles(out: &mut [u8], at: usize, list: &[u64], count: usize) -> usize
 }
 
 // How long a slot's line is.
-fn slot_len(generation: u32, kind: u8, ty: u32, start: usize, writes: u32, bytes: &[u8]) -> usize
+fn slot_len(generation: u32, kind: u32, ty: u32, start: u64, writes: u64, bytes: &[u8]) -> usize
     requires { ⌜ length (now bytes) ≤ 1073741824 ⌝ }
     ensures { λ r. ⌜ r ≡ length (slotLine (slot generation kind ty start writes (now (bytes .entry)))) ⌝ }
-    ensures { λ r. ⌜ r ≤ 59 + 2 * length (now (bytes .entry)) ⌝ }
+    ensures { λ r. ⌜ r ≤ 76 + 2 * length (now (bytes .entry)) ⌝ }
 {
     let a = text::decimal_len(generation as u64);
     let b = text::decimal_len(kind as u64);
     let c = text::decimal_len(ty as u64);
-    let d = text::decimal_len(start as u64);
-    let e = text::decimal_len(writes as u64);
+    let d = text::decimal_len(start);
+    let e = text::decimal_len(writes);
     a + b + c + d + e + 2 * bytes.len() + 6
 }
 
@@ -107,10 +109,10 @@ fn put_slot(
     out: &mut [u8],
     at: usize,
     generation: u32,
-    kind: u8,
+    kind: u32,
     ty: u32,
-    start: usize,
-    writes: u32,
+    start: u64,
+    writes: u64,
     bytes: &[u8],
 ) -> usize
     requires { ⌜ at + length (slotLine (slot generation kind ty start writes (now bytes))) ≤ length (now out) ⌝ }
@@ -119,40 +121,33 @@ fn put_slot(
     let a = put_number(out, at, generation as u64, 44);
     let b = put_number(out, a, kind as u64, 44);
     let c = put_number(out, b, ty as u64, 44);
-    let d = put_number(out, c, start as u64, 44);
-    let e = put_number(out, d, writes as u64, 44);
+    let d = put_number(out, c, start, 44);
+    let e = put_number(out, d, writes, 44);
     let f = text::put_hex(out, e, bytes);
     out[f] = 10;
     f + 1
 }
 
-// How long the lines of the first `count` slots are.
-fn slots_len(
-    count: usize,
-    generation: &[u32],
-    kind: &[u8],
-    ty: &[u32],
-    start: &[usize],
-    end: &[usize],
-    writes: &[u32],
-    pool: &[u8],
-) -> usize
-    requires { ⌜ Laid (columns (now generation) (now kind) (now ty) (now start) (now end) (now writes) (now pool)) count ⌝ }
-    requires { ⌜ (count ≤ 16777216) × (length (now pool) ≤ 1073741824) ⌝ }
-    ensures { λ r. ⌜ r ≡ length (flatMap slotLine (slotsIn (columns (now (generation .entry)) (now (kind .entry)) (now (ty .entry)) (now (start .entry)) (now (end .entry)) (now (writes .entry)) (now (pool .entry))) count)) ⌝ }
-    ensures { λ r. ⌜ r ≤ 59 * count + 2 * length (now (pool .entry)) ⌝ }
+// How long the lines of the slots are.
+fn slots_len(heap: Heap, narrow: &[u32], wide: &[u64], pool: &[u8]) -> usize
+    requires { ⌜ Ready (lent heap (now narrow) (now wide) (now pool)) ⌝ }
+    requires { ⌜ 4 * (length (now narrow) / 6) ≤ length (now wide) ⌝ }
+    ensures { λ r. ⌜ r ≡ length (flatMap slotLine (slotsIn (lent heap (now (narrow .entry)) (now (wide .entry)) (now (pool .entry))) (heap .slots))) ⌝ }
+    ensures { λ r. ⌜ r ≤ 76 * heap .slots + 2 * length (now (pool .entry)) ⌝ }
 {
+    let s = narrow.len() / 6;
+    let two = 2 * s;
     let mut n = 0;
     let mut from = 0;
     let mut i = 0;
-    while i < count {
-        let to = end[i];
+    while i < heap.slots {
+        let to = wide[s + i] as usize;
         let d = slot_len(
-            generation[i],
-            kind[i],
-            ty[i],
-            start[i],
-            writes[i],
+            narrow[i],
+            narrow[s + i],
+            narrow[two + i],
+            wide[i],
+            wide[two + i],
             &pool[from..to],
         );
         n = n + d;
@@ -162,36 +157,35 @@ fn slots_len(
     n
 }
 
-// Puts the lines of the first `count` slots from `at` on.
+// Puts the lines of the slots from `at` on.
 fn put_slots(
+    heap: Heap,
+    narrow: &[u32],
+    wide: &[u64],
+    pool: &[u8],
     out: &mut [u8],
     at: usize,
-    count: usize,
-    generation: &[u32],
-    kind: &[u8],
-    ty: &[u32],
-    start: &[usize],
-    end: &[usize],
-    writes: &[u32],
-    pool: &[u8],
 ) -> usize
-    requires { ⌜ Laid (columns (now generation) (now kind) (now ty) (now start) (now end) (now writes) (now pool)) count ⌝ }
-    requires { ⌜ at + length (flatMap slotLine (slotsIn (columns (now generation) (now kind) (now ty) (now start) (now end) (now writes) (now pool)) count)) ≤ length (now out) ⌝ }
-    ensures { λ r. ⌜ Puts (now (out .entry)) (now (out .exit)) at r (flatMap slotLine (slotsIn (columns (now (generation .entry)) (now (kind .entry)) (now (ty .entry)) (now (start .entry)) (now (end .entry)) (now (writes .entry)) (now (pool .entry))) count)) ⌝ }
+    requires { ⌜ Ready (lent heap (now narrow) (now wide) (now pool)) ⌝ }
+    requires { ⌜ 4 * (length (now narrow) / 6) ≤ length (now wide) ⌝ }
+    requires { ⌜ at + length (flatMap slotLine (slotsIn (lent heap (now narrow) (now wide) (now pool)) (heap .slots))) ≤ length (now out) ⌝ }
+    ensures { λ r. ⌜ Puts (now (out .entry)) (now (out .exit)) at r (flatMap slotLine (slotsIn (lent heap (now (narrow .entry)) (now (wide .entry)) (now (pool .entry))) (heap .slots))) ⌝ }
 {
+    let s = narrow.len() / 6;
+    let two = 2 * s;
     let mut k = at;
     let mut from = 0;
     let mut i = 0;
-    while i < count {
-        let to = end[i];
+    while i < heap.slots {
+        let to = wide[s + i] as usize;
         k = put_slot(
             out,
             k,
-            generation[i],
-            kind[i],
-            ty[i],
-            start[i],
-            writes[i],
+            narrow[i],
+            narrow[s + i],
+            narrow[two + i],
+            wide[i],
+            wide[two + i],
             &pool[from..to],
         );
         from = to;
@@ -219,7 +213,8 @@ fn head_len(h: Heap) -> usize
 // Puts the line of a heap's numbers from `at` on.
 fn put_head(out: &mut [u8], at: usize, h: Heap) -> usize
     requires { ⌜ at + length (numbersLine (h .tag) (h .«since_gc») (h .«reclaim_at») (h .«live_bytes») (h .slots) (h .free) (h .quarantine) (h .sealed)) ≤ length (now out) ⌝ }
-    ensures { λ r. ⌜ Puts (now (out .entry)) (now (out .exit)) at r (numbersLine (h .tag) (h .«since_gc») (h .«reclaim_at») (h .«live_bytes») (h .slots) (h .free) (h .quarantine) (h .sealed)) ⌝ }
+    ensures { λ r. ⌜ Puts (now (out .entry)) (now (out .exit)) at r
+        (numbersLine (h .tag) (h .«since_gc») (h .«reclaim_at») (h .«live_bytes») (h .slots) (h .free) (h .quarantine) (h .sealed)) ⌝ }
 {
     let a = put_number(out, at, h.tag as u64, 44);
     let b = put_number(out, a, h.since_gc, 44);
@@ -251,91 +246,52 @@ fn put_handles_after(out: &mut [u8], at: usize, name: &[u8], list: &[u64], count
 }
 
 // How long a heap's page is.
-fn page_len(
-    h: Heap,
-    generation: &[u32],
-    kind: &[u8],
-    ty: &[u32],
-    start: &[usize],
-    end: &[usize],
-    writes: &[u32],
-    pool: &[u8],
-    free: &[u32],
-    quarantine: &[u32],
-    sealed: &[u64],
-) -> usize
-    requires { ⌜ Ready (lent h (now generation) (now kind) (now ty) (now start) (now end) (now writes) (now pool) (now free) (now quarantine) (now sealed)) ⌝ }
-    ensures { λ r. ⌜ r ≡ length (pageText (view (lent h (now (generation .entry)) (now (kind .entry)) (now (ty .entry)) (now (start .entry)) (now (end .entry)) (now (writes .entry)) (now (pool .entry)) (now (free .entry)) (now (quarantine .entry)) (now (sealed .entry))))) ⌝ }
+fn page_len(heap: Heap, narrow: &[u32], wide: &[u64], pool: &[u8]) -> usize
+    requires { ⌜ Ready (lent heap (now narrow) (now wide) (now pool)) ⌝ }
+    requires { ⌜ 4 * (length (now narrow) / 6) ≤ length (now wide) ⌝ }
+    ensures { λ r. ⌜ r ≡ length (pageText (view (lent heap (now (narrow .entry)) (now (wide .entry)) (now (pool .entry))))) ⌝ }
 {
-    let a = head_len(h);
-    let b = slots_len(h.slots, generation, kind, ty, start, end, writes, pool);
-    let c = indices_len(free, h.free);
-    let d = indices_len(quarantine, h.quarantine);
-    let e = handles_len(sealed, h.sealed);
+    let s = narrow.len() / 6;
+    let three = 3 * s;
+    let four = 4 * s;
+    let five = 5 * s;
+    let a = head_len(heap);
+    let b = slots_len(heap, narrow, wide, pool);
+    let c = indices_len(&narrow[three..four], heap.free);
+    let d = indices_len(&narrow[four..five], heap.quarantine);
+    let e = handles_len(&wide[three..four], heap.sealed);
     126 + a + b + c + d + e
 }
 
-// A page was written, of so many bytes; or the output was too short, and nothing was written.
-pub enum Written {
-    Page(usize),
-    Short,
-}
-
-// Writes a heap's page to `out`.
-pub fn write_page(
-    out: &mut [u8],
-    h: Heap,
-    generation: &[u32],
-    kind: &[u8],
-    ty: &[u32],
-    start: &[usize],
-    end: &[usize],
-    writes: &[u32],
-    pool: &[u8],
-    free: &[u32],
-    quarantine: &[u32],
-    sealed: &[u64],
-) -> Written
-    requires { ⌜ wellFormed (lent h (now generation) (now kind) (now ty) (now start) (now end) (now writes) (now pool) (now free) (now quarantine) (now sealed)) ≡ true ⌝ }
-    ensures { λ r. ⌜ PageWritten (now (out .entry)) (now (out .exit)) (pageText (view (lent h (now (generation .entry)) (now (kind .entry)) (now (ty .entry)) (now (start .entry)) (now (end .entry)) (now (writes .entry)) (now (pool .entry)) (now (free .entry)) (now (quarantine .entry)) (now (sealed .entry))))) r ⌝ }
+// Writes a heap's page to `out`, and answers its length; an output that is too short stays as it was.
+pub fn write(heap: Heap, narrow: &[u32], wide: &[u64], pool: &[u8], out: &mut [u8]) -> Reply
+    requires { ⌜ wellFormed (lent heap (now narrow) (now wide) (now pool)) ≡ true ⌝ }
+    ensures { λ r. ⌜ PageWritten (now (out .entry)) (now (out .exit)) (pageText (view (lent heap (now (narrow .entry)) (now (wide .entry)) (now (pool .entry))))) r ⌝ }
 {
-    let n = page_len(
-        h,
-        generation,
-        kind,
-        ty,
-        start,
-        end,
-        writes,
-        pool,
-        free,
-        quarantine,
-        sealed,
-    );
+    let n = page_len(heap, narrow, wide, pool);
     if out.len() < n {
-        return Written::Short;
+        return Reply::Not(Refusal::ShortList);
     }
     let a = text::put_literal(
         out,
         0,
         b"tag,since_gc,reclaim_at,live_bytes,slots,free,quarantine,sealed\n",
     );
-    let b = put_head(out, a, h);
+    let b = put_head(out, a, heap);
     let c = text::put_literal(out, b, b"generation,kind,type,start,writes,data\n");
-    let d = put_slots(
+    let d = put_slots(heap, narrow, wide, pool, out, c);
+    let s = narrow.len() / 6;
+    let three = 3 * s;
+    let four = 4 * s;
+    let five = 5 * s;
+    let e = put_indices_after(out, d, b"free\n", &narrow[three..four], heap.free);
+    let f = put_indices_after(
         out,
-        c,
-        h.slots,
-        generation,
-        kind,
-        ty,
-        start,
-        end,
-        writes,
-        pool,
+        e,
+        b"quarantine\n",
+        &narrow[four..five],
+        heap.quarantine,
     );
-    let e = put_indices_after(out, d, b"free\n", free, h.free);
-    let f = put_indices_after(out, e, b"quarantine\n", quarantine, h.quarantine);
-    let g = put_handles_after(out, f, b"sealed\n", sealed, h.sealed);
-    Written::Page(g)
+    let g = put_handles_after(out, f, b"sealed\n", &wide[three..four], heap.sealed);
+    Reply::Is(g as u64, 0)
 }

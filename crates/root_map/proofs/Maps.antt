@@ -126,7 +126,7 @@ module _ (t : ℕ → Bool) (kinds ends refs bs cs : List ℕ) where
 
   module _ (W nb : ℕ) where
     abbrev live : ℕ → List ℕ
-    live = liveOf t kinds ends refs bs cs W
+    live = liveOf t kinds ends refs bs cs
 
     -- block b holds instruction i, and the row is that of q in it
     pub record Placed (s : List ℕ) (i b q : ℕ) : Type 0 where
@@ -228,7 +228,7 @@ module _ (t : ℕ → Bool) (kinds ends refs bs cs : List ℕ) where
       pub limits-are : bounds ≡ put bounds₀ k (limits live to (pointsFrom i)) (length (pointsFrom i))
       pub registers : regs ≡ put regs₀ to (flatMap live (pointsFrom i)) (length (flatMap live (pointsFrom i)))
 
-    module _ {pcs₀ bounds₀ regs₀ : List ℕ} {np nr : ℕ} (fits : Fits t kinds ends refs bs cs pcs₀ bounds₀ regs₀ W np nr) where
+    module _ {pcs₀ bounds₀ regs₀ : List ℕ} {np nr : ℕ} (fits : Fits t kinds ends refs bs cs pcs₀ bounds₀ regs₀ np nr) where
       pub writing-none : formed kinds ends refs bs cs ≡ true → nb ≡ length bs / 2 → (s : List ℕ) → Writing s s pcs₀ pcs₀ bounds₀ bounds₀ regs₀ regs₀ (length kinds) np nr nb (length kinds)
       writing-none good size s = record {
         going = going-none good size s;

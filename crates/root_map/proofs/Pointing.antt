@@ -14,7 +14,7 @@ use Rattle.roots.specs.View.{view, formed}
 use Rattle.roots.specs.Columns.{seen, cell, liveAt, Outside, Fixed, Found, First, Keyed, Separate, Inside}
 use Rattle.roots.proofs.Scratch.{end-view, outside-refl, live-frame}
 use Rattle.roots.proofs.Passes.{linked-out}
-use Rattle.roots.proofs.Answers.{live-row-cells, row-listed, found-held, found-holder, seen-holder, is-safepoint, not-safepoint, not-held}
+use Rattle.roots.proofs.Answers.{live-row-cells, row-listed, row-registers, found-held, found-holder, seen-holder, is-safepoint, not-safepoint, not-held}
 use Rattle.root_map.specs.Columns.{Standing, Pointed}
 
 -- the fixpoint lies before the row that is gathered
@@ -115,15 +115,17 @@ module _ (t : ℕ → Bool) (kinds ends refs bs cs : List ℕ) (W nb : ℕ) wher
       pub pointed-outside : (s : List ℕ) → Found bs nb pc b → nb ≤ b → Pointed t kinds ends refs bs cs s s W nb b pc false
       pointed-outside s f h = none-pointed s (not-held kinds ends refs bs cs good pc (subst (λ (n : ℕ). Found bs n pc b) size f) (omega arith))
 
-      pub pointed-in : (s s₁ : List ℕ) → getD kinds pc 0 ≡ 1 → nb * (3 * W) + 2 * W ≤ length s → Found bs nb pc b → b < nb → Outside s s₁ (nb * (3 * W)) W
+      pub pointed-in : (s s₁ : List ℕ) → length cs ≤ 64 * W → getD kinds pc 0 ≡ 1 → nb * (3 * W) + 2 * W ≤ length s → Found bs nb pc b → b < nb → Outside s s₁ (nb * (3 * W)) W
           → ((r : ℕ) → r < 64 * W → cell s₁ (nb * (3 * W)) r ≡ liveBefore (seen t kinds ends refs bs cs) b pc r) → Pointed t kinds ends refs bs cs s s₁ W nb b pc true
-      pointed-in s s₁ kind fit f h o c =
+      pointed-in s s₁ many kind fit f h o c =
           let k : b < length bs / 2 = omega arith in
           let i = f .here h in
+          let point = is-safepoint kinds ends refs bs cs good pc (found-held kinds ends refs bs cs good pc b k (i .0) (i .1)) inside kind in
           record {
             frame = o;
-            is = sym (is-safepoint kinds ends refs bs cs good pc (found-held kinds ends refs bs cs good pc b k (i .0) (i .1)) inside kind);
-            row = λ l. row-listed (seen t kinds ends refs bs cs) s₁ (nb * (3 * W)) W b pc (omega (arith, o .kept)) c (seen-holder t kinds ends refs bs cs pc b (found-holder kinds ends refs bs cs good pc b k (i .0) (i .1)));
+            is = sym point;
+            row = λ l. row-listed (seen t kinds ends refs bs cs) s₁ (nb * (3 * W)) W b pc (omega (arith, o .kept)) c (seen-holder t kinds ends refs bs cs pc b (found-holder kinds ends refs bs cs good pc b k (i .0) (i .1)))
+                ∙ row-registers (record { kinds = kinds; ends = ends; refs = refs; blocks = bs; classes = cs }) t pc good point (W * 64) (omega arith);
             standing = λ l. record { row = λ _ _. c };
             kept = λ e. absurd (true≢false e);
           }

@@ -21,8 +21,8 @@ rowAt s a w = take ((a + w) - a) (drop a s)
 abbrev pub pointsTo : (kinds ends refs bs cs : List ℕ) → ℕ → List ℕ
 pointsTo kinds ends refs bs cs i = passing (safepoint (view kinds ends refs bs cs)) 0 i
 
-abbrev pub liveOf : (ℕ → Bool) → (kinds ends refs bs cs : List ℕ) → ℕ → ℕ → List ℕ
-liveOf t kinds ends refs bs cs W p = liveRow (W * 64) (seen t kinds ends refs bs cs) p
+abbrev pub liveOf : (ℕ → Bool) → (kinds ends refs bs cs : List ℕ) → ℕ → List ℕ
+liveOf t kinds ends refs bs cs p = liveRow (length cs) (seen t kinds ends refs bs cs) p
 
 -- where q is before the end of block b, the row after the blocks' is what is live before instruction q of it
 pub record Standing (t : ℕ → Bool) (kinds ends refs bs cs s : List ℕ) (W nb b q : ℕ) : Type 0 where
@@ -32,7 +32,7 @@ pub record Standing (t : ℕ → Bool) (kinds ends refs bs cs s : List ℕ) (W n
 pub record Pointed (t : ℕ → Bool) (kinds ends refs bs cs s s′ : List ℕ) (W nb b pc : ℕ) (r : Bool) : Type 0 where
   pub frame : Outside s s′ (nb * (3 * W)) W
   pub is : r ≡ safepoint (view kinds ends refs bs cs) pc
-  pub row : r ≡ true → listed 64 (rowAt s′ (nb * (3 * W)) W) ≡ liveOf t kinds ends refs bs cs W pc
+  pub row : r ≡ true → listed 64 (rowAt s′ (nb * (3 * W)) W) ≡ liveOf t kinds ends refs bs cs pc
   pub standing : r ≡ true → Standing t kinds ends refs bs cs s′ W nb b pc
   pub kept : r ≡ false → s′ ≡ s
 
@@ -40,13 +40,13 @@ pub record Pointed (t : ℕ → Bool) (kinds ends refs bs cs s s′ : List ℕ) 
 pub record Counted (t : ℕ → Bool) (kinds ends refs bs cs s s′ : List ℕ) (W nb i points registers : ℕ) : Type 0 where
   pub frame : Outside s s′ (nb * (3 * W)) W
   pub points-are : points ≡ length (pointsTo kinds ends refs bs cs i)
-  pub registers-are : registers ≡ length (flatMap (liveOf t kinds ends refs bs cs W) (pointsTo kinds ends refs bs cs i))
+  pub registers-are : registers ≡ length (flatMap (liveOf t kinds ends refs bs cs) (pointsTo kinds ends refs bs cs i))
   pub few : (points ≤ i) × (registers ≤ i * 16384)
 
 -- the map has so many safepoints and registers, and the lent lists have room for it
-pub record Fits (t : ℕ → Bool) (kinds ends refs bs cs pcs bounds regs : List ℕ) (W points registers : ℕ) : Type 0 where
+pub record Fits (t : ℕ → Bool) (kinds ends refs bs cs pcs bounds regs : List ℕ) (points registers : ℕ) : Type 0 where
   pub points-are : points ≡ length (pointsTo kinds ends refs bs cs (length kinds))
-  pub registers-are : registers ≡ length (flatMap (liveOf t kinds ends refs bs cs W) (pointsTo kinds ends refs bs cs (length kinds)))
+  pub registers-are : registers ≡ length (flatMap (liveOf t kinds ends refs bs cs) (pointsTo kinds ends refs bs cs (length kinds)))
   pub few : registers ≤ length kinds * 16384
   pub for-points : points ≤ length pcs
   pub for-bounds : points ≤ length bounds
@@ -56,5 +56,5 @@ pub record Fits (t : ℕ → Bool) (kinds ends refs bs cs pcs bounds regs : List
 pub record Written (t : ℕ → Bool) (kinds ends refs bs cs s s′ pcs pcs′ bounds bounds′ regs regs′ : List ℕ) (W nb i : ℕ) : Type 0 where
   pub frame : Outside s s′ (nb * (3 * W)) W
   pub points : pcs′ ≡ put pcs 0 (pointsTo kinds ends refs bs cs i) (length (pointsTo kinds ends refs bs cs i))
-  pub limits-are : bounds′ ≡ put bounds 0 (limits (liveOf t kinds ends refs bs cs W) 0 (pointsTo kinds ends refs bs cs i)) (length (pointsTo kinds ends refs bs cs i))
-  pub registers : regs′ ≡ put regs 0 (flatMap (liveOf t kinds ends refs bs cs W) (pointsTo kinds ends refs bs cs i)) (length (flatMap (liveOf t kinds ends refs bs cs W) (pointsTo kinds ends refs bs cs i)))
+  pub limits-are : bounds′ ≡ put bounds 0 (limits (liveOf t kinds ends refs bs cs) 0 (pointsTo kinds ends refs bs cs i)) (length (pointsTo kinds ends refs bs cs i))
+  pub registers : regs′ ≡ put regs 0 (flatMap (liveOf t kinds ends refs bs cs) (pointsTo kinds ends refs bs cs i)) (length (flatMap (liveOf t kinds ends refs bs cs) (pointsTo kinds ends refs bs cs i)))

@@ -1,4 +1,6 @@
 // The map of all safepoints of a function: which registers are live before each. Inner functions: the front door is crate `yexwalu`.
+use refusal::Refusal;
+use refusal::Reply;
 use roots::Tracked;
 use roots::chains::chain;
 use roots::chains::first_at;
@@ -16,22 +18,11 @@ ghost use lib.ListN.{length, set};
 ghost use Rattle.rows.specs.Row.{listed};
 ghost use Rattle.flow.specs.Dataflow.{liveBefore};
 ghost use Rattle.word.specs.Put.{put};
+ghost use Rattle.refusal.specs.Told.{told};
 ghost use Rattle.roots.specs.View.{formed};
 ghost use Rattle.root_map.specs.Calls.{LiveRefsCall};
 ghost use Rattle.roots.specs.Columns.{wanted, seen, cell, Outside, Fixed, Found, In, Separate, Chains};
 ghost use Rattle.root_map.specs.Columns.{rowAt, Standing, Pointed, Counted, Fits, Written};
-
-// What `live_refs` answers.
-pub enum LiveRefs {
-    // So many safepoints, and so many registers in all, are listed.
-    Map(usize, usize),
-    // 18
-    Scratch,
-    // 15
-    Function,
-    // 7
-    Short,
-}
 
 // How many safepoints, and registers live at them, there are.
 pub struct Counts {
@@ -104,10 +95,12 @@ fn point_row(
     pc: usize,
 ) -> bool
     requires { ⌜ formed (now kinds) (now ends) (now refs) (now blocks) (now classes) ≡ true ⌝ }
-    requires { ⌜ (nb ≡ length (now blocks) / 2) × (nb * (3 * words) + 2 * words ≤ length (now s)) × (length (now classes) ≤ 64 * words) × (pc < length (now kinds)) × (pc < q) × Found (now blocks) nb pc b ⌝ }
+    requires { ⌜ (nb ≡ length (now blocks) / 2) × (nb * (3 * words) + 2 * words ≤ length (now s)) × (length (now classes) ≤ 64 * words) × (pc < length (now kinds)) × (pc < q)
+        × Found (now blocks) nb pc b ⌝ }
     requires { ⌜ Fixed (seen (wanted which) (now kinds) (now ends) (now refs) (now blocks) (now classes)) (now blocks) (now s) words nb ⌝ }
     requires { ⌜ Standing (wanted which) (now kinds) (now ends) (now refs) (now blocks) (now classes) (now s) words nb b q ⌝ }
-    ensures { λ r. ⌜ Pointed (wanted which) (now (kinds .entry)) (now (ends .entry)) (now (refs .entry)) (now (blocks .entry)) (now (classes .entry)) (now (s .entry)) (now (s .exit)) words nb b pc r ⌝ }
+    ensures { λ r. ⌜ Pointed (wanted which) (now (kinds .entry)) (now (ends .entry)) (now (refs .entry)) (now (blocks .entry)) (now (classes .entry)) (now (s .entry))
+        (now (s .exit)) words nb b pc r ⌝ }
 {
     if kinds[pc] != 1 {
         return false;
@@ -156,9 +149,11 @@ fn count_map(
     links: &[u16],
 ) -> Counts
     requires { ⌜ formed (now kinds) (now ends) (now refs) (now blocks) (now classes) ≡ true ⌝ }
-    requires { ⌜ (nb ≡ length (now blocks) / 2) × (nb * (3 * words) + 2 * words ≤ length (now s)) × (length (now classes) ≤ 64 * words) × (words ≤ 256) × (length (now kinds) ≤ 65536) × Chains (now blocks) 1 nb 0 (now heads) (now links) ⌝ }
+    requires { ⌜ (nb ≡ length (now blocks) / 2) × (nb * (3 * words) + 2 * words ≤ length (now s)) × (length (now classes) ≤ 64 * words) × (words ≤ 256) × (length (now kinds) ≤ 65536)
+        × Chains (now blocks) 1 nb 0 (now heads) (now links) ⌝ }
     requires { ⌜ Fixed (seen (wanted which) (now kinds) (now ends) (now refs) (now blocks) (now classes)) (now blocks) (now s) words nb ⌝ }
-    ensures { λ r. ⌜ Counted (wanted which) (now (kinds .entry)) (now (ends .entry)) (now (refs .entry)) (now (blocks .entry)) (now (classes .entry)) (now (s .entry)) (now (s .exit)) words nb (length (now (kinds .entry))) (r .points) (r .registers) ⌝ }
+    ensures { λ r. ⌜ Counted (wanted which) (now (kinds .entry)) (now (ends .entry)) (now (refs .entry)) (now (blocks .entry)) (now (classes .entry)) (now (s .entry))
+        (now (s .exit)) words nb (length (now (kinds .entry))) (r .points) (r .registers) ⌝ }
 {
     let at = nb * (3 * words);
     let mut points: usize = 0;
@@ -251,9 +246,10 @@ fn write_map(
     registers: usize,
 )
     requires { ⌜ formed (now kinds) (now ends) (now refs) (now blocks) (now classes) ≡ true ⌝ }
-    requires { ⌜ (nb ≡ length (now blocks) / 2) × (nb * (3 * words) + 2 * words ≤ length (now s)) × (length (now classes) ≤ 64 * words) × (words ≤ 256) × (length (now kinds) ≤ 65536) × Chains (now blocks) 1 nb 0 (now heads) (now links) ⌝ }
+    requires { ⌜ (nb ≡ length (now blocks) / 2) × (nb * (3 * words) + 2 * words ≤ length (now s)) × (length (now classes) ≤ 64 * words) × (words ≤ 256) × (length (now kinds) ≤ 65536)
+        × Chains (now blocks) 1 nb 0 (now heads) (now links) ⌝ }
     requires { ⌜ Fixed (seen (wanted which) (now kinds) (now ends) (now refs) (now blocks) (now classes)) (now blocks) (now s) words nb ⌝ }
-    requires { ⌜ Fits (wanted which) (now kinds) (now ends) (now refs) (now blocks) (now classes) (now pcs) (now bounds) (now regs) words points registers ⌝ }
+    requires { ⌜ Fits (wanted which) (now kinds) (now ends) (now refs) (now blocks) (now classes) (now pcs) (now bounds) (now regs) points registers ⌝ }
     ensures { λ _. ⌜ Written (wanted which) (now (kinds .entry)) (now (ends .entry)) (now (refs .entry)) (now (blocks .entry)) (now (classes .entry)) (now (s .entry)) (now (s .exit))
         (now (pcs .entry)) (now (pcs .exit)) (now (bounds .entry)) (now (bounds .exit)) (now (regs .entry)) (now (regs .exit)) words nb (length (now (kinds .entry))) ⌝ }
 {
@@ -295,22 +291,22 @@ pub fn live_refs(
     blocks: &[u32],
     classes: &[u8],
     which: Tracked,
-    s: &mut [u64],
     pcs: &mut [u32],
     bounds: &mut [u32],
     regs: &mut [u32],
-) -> LiveRefs
+    s: &mut [u64],
+) -> Reply
     ensures { λ r. ⌜ LiveRefsCall (record { kinds = now (kinds .entry); ends = now (ends .entry); refs = now (refs .entry); blocks = now (blocks .entry); classes = now (classes .entry) })
-        (wanted which) (now (s .entry)) (now (pcs .entry)) (now (bounds .entry)) (now (regs .entry)) (now (s .exit)) (now (pcs .exit)) (now (bounds .exit)) (now (regs .exit)) r ⌝ }
+        (wanted which) (now (pcs .entry)) (now (bounds .entry)) (now (regs .entry)) (now (s .entry)) (now (pcs .exit)) (now (bounds .exit)) (now (regs .exit)) (now (s .exit)) (told r) ⌝ }
 {
     let words = (classes.len() + 63) / 64;
     let nb = blocks.len() / 2;
     if !enough(s.len(), 3 * nb + 2, words) {
-        return LiveRefs::Scratch;
+        return Reply::Not(Refusal::Scratch);
     }
     if !check_function(kinds, ends, refs, blocks, classes) {
         memory::clear_u64(s);
-        return LiveRefs::Function;
+        return Reply::Not(Refusal::Function);
     }
     // The chains of the blocks by their end; 65,535 is no block.
     let mut heads = [65535u16; 4096];
@@ -334,7 +330,7 @@ pub fn live_refs(
     let registers = c.registers;
     if short(points, registers, pcs.len(), bounds.len(), regs.len()) {
         memory::clear_u64(s);
-        return LiveRefs::Short;
+        return Reply::Not(Refusal::ShortList);
     }
     write_map(
         s,
@@ -355,5 +351,5 @@ pub fn live_refs(
         registers,
     );
     memory::clear_u64(s);
-    LiveRefs::Map(points, registers)
+    Reply::Is(points as u64, registers as u64)
 }

@@ -14,18 +14,18 @@ use Rattle.word.specs.Choice.{if_then_else_}
 use Rattle.word.specs.Result.{Result, ok, refused}
 use Rattle.word.specs.Put.{put}
 use Rattle.word.specs.Ones.{passing}
+use Rattle.refusal.specs.Told.{answered, refusedBy, here, nothing}
+use Rattle.refusal.specs.declared.Answer.{Answer}
 use Rattle.rows.specs.Row.{bitIn, part, listed}
 use Rattle.rows.specs.Listing.{listing, listedInto}
 use Rattle.flow.specs.Function.{Function, Block, Instruction, LiveList, holds, inst, block, start, end, safepoint, safepoints}
 use Rattle.flow.specs.Dataflow.{back, out, liveBefore, holder, liveRow, track}
 use Rattle.word.proofs.Bools.{either, both-and}
 use Rattle.flow.proofs.Lists.{passing-same, some-at, at-some}
-use Rattle.flow.proofs.Validity.{held, holder-is, holds-parts, parts-holds, safepoint-held, row-list}
+use Rattle.flow.proofs.Validity.{held, holder-is, holds-parts, parts-holds, safepoint-held, row-list, map-unique}
 use Rattle.roots.specs.View.{view, formed}
-use Rattle.roots.specs.Calls.{Lent, function, right, need, after, scratchAfter, liveAtAnswer, toldAt, LiveAtCall}
+use Rattle.roots.specs.Calls.{Lent, function, right, need, after, scratchAfter, registersAt, liveAtAnswer, LiveAtCall}
 use Rattle.roots.specs.Columns.{seen, cell, liveAt, Fixed, Found}
-use Rattle.roots.specs.declared.LiveAt.{LiveAt}
-use Rattle.roots.specs.declared.LiveAt.the-variants as At
 use Rattle.roots.proofs.Turns.{inst-view}
 use Rattle.roots.proofs.Steps.{part-cell}
 use Rattle.roots.proofs.Forms.{formed-columns, formed-disjoint, blocks-count, block-at}
@@ -105,58 +105,68 @@ module _ (kinds ends refs bs classes : List ℕ) (good : formed kinds ends refs 
 -- ---- live_at
 
 module _ (l : Lent) (t : ℕ → Bool) where
-  abbrev rowAt : ℕ → List ℕ
-  rowAt pc = liveRow ((length (l .classes) + 63) / 64 * 64) (track t (function l)) pc
-
   classes-are : function l .classes ≡ l .classes
   unfolding view
   classes-are = refl
 
-  pub row-is : (pc : ℕ) → right l ≡ true → safepoint (function l) pc ≡ true → LiveList (function l) t pc (rowAt pc)
-  row-is pc good s =
-      row-list (function l) t (formed-disjoint (l .kinds) (l .ends) (l .refs) (l .blocks) (l .classes) good) pc (safepoint-held (function l) pc s)
-      ((length (l .classes) + 63) / 64 * 64) (omega (arith, ap length classes-are))
+  module _ (pc : ℕ) (good : right l ≡ true) (at : safepoint (function l) pc ≡ true) where
+    row-live : (m : ℕ) → length (l .classes) ≤ m → LiveList (function l) t pc (liveRow m (track t (function l)) pc)
+    row-live m h =
+        row-list (function l) t (formed-disjoint (l .kinds) (l .ends) (l .refs) (l .blocks) (l .classes) good) pc (safepoint-held (function l) pc at) m (omega (arith, ap length classes-are))
 
-  module _ (pc : ℕ) (rows regs : List ℕ) where
-    pub at-scratch : length rows < need l → LiveAtCall l t pc rows regs rows regs At.Scratch
+    -- THE THEOREM: the registers listed at a safepoint are exactly those asked for that some walk reads before writing
+    pub registers-live : LiveList (function l) t pc (registersAt l t pc)
+    registers-live = row-live (length (l .classes)) (omega arith)
+
+    -- a row of whole words has no more of them
+    pub row-registers : (m : ℕ) → length (l .classes) ≤ m → liveRow m (track t (function l)) pc ≡ registersAt l t pc
+    row-registers m h = map-unique (row-live m h) registers-live
+
+  module _ (pc : ℕ) (regs rows : List ℕ) where
+    abbrev reply : Result ℕ
+    reply = liveAtAnswer l t pc (length regs) (length rows)
+
+    abbrev left : Result ℕ → List ℕ
+    left u = after u regs (put regs 0 (registersAt l t pc) (length (registersAt l t pc)))
+
+    refuse : (rows′ : List ℕ) (n : ℕ) → reply ≡ refused n → rows′ ≡ scratchAfter l rows → LiveAtCall l t pc regs rows regs rows′ (refusedBy n)
+    refuse rows′ n e z = record { answer = sym (ap (answered here nothing) e); registers = sym (ap left e); scratch = z }
+
+    pub at-scratch : length rows < need l → LiveAtCall l t pc regs rows regs rows (refusedBy 18)
     unfolding liveAtAnswer scratchAfter
-    at-scratch h =
-        let e = lt-ltb (length rows) (need l) h in
-        record { live = rowAt pc; is = row-is pc; answer = sym (yes-then _ _ _ e); out = sym (ap (λ (u : Result ℕ). after u regs (put regs 0 (rowAt pc) (length (rowAt pc)))) (yes-then _ _ _ e)); scratch = sym (yes-then _ _ _ e) }
+    at-scratch h = let e = lt-ltb (length rows) (need l) h in refuse rows 18 (yes-then _ _ _ e) (sym (yes-then _ _ _ e))
 
     module _ (room : need l ≤ length rows) (rows′ : List ℕ) (clean : rows′ ≡ replicate (length rows) 0) where
       scratch-is : rows′ ≡ scratchAfter l rows
       unfolding scratchAfter
       scratch-is = clean ∙ sym (no-then _ _ _ (le-ltb (length rows) (need l) room))
 
-      refuse : (n : ℕ) (r : LiveAt) → toldAt r ≡ refused n → liveAtAnswer l (length rows) pc (length regs) (rowAt pc) ≡ refused n → LiveAtCall l t pc rows regs rows′ regs r
-      refuse n r a e =
-          record { live = rowAt pc; is = row-is pc; answer = a ∙ sym e; out = sym (ap (λ (u : Result ℕ). after u regs (put regs 0 (rowAt pc) (length (rowAt pc)))) e); scratch = scratch-is }
-
-      pub at-function : right l ≡ false → LiveAtCall l t pc rows regs rows′ regs At.Function
+      pub at-function : right l ≡ false → LiveAtCall l t pc regs rows regs rows′ (refusedBy 15)
       unfolding liveAtAnswer
-      at-function h = refuse 15 At.Function refl (no-then _ _ _ (le-ltb (length rows) (need l) room) ∙ yes-then _ _ _ (ap not h))
+      at-function h = refuse rows′ 15 (no-then _ _ _ (le-ltb (length rows) (need l) room) ∙ yes-then _ _ _ (ap not h)) scratch-is
 
-      pub at-no-map : right l ≡ true → safepoint (function l) pc ≡ false → LiveAtCall l t pc rows regs rows′ regs At.NoMap
+      pub at-no-map : right l ≡ true → safepoint (function l) pc ≡ false → LiveAtCall l t pc regs rows regs rows′ (refusedBy 16)
       unfolding liveAtAnswer
-      at-no-map h s = refuse 16 At.NoMap refl (no-then _ _ _ (le-ltb (length rows) (need l) room) ∙ no-then _ _ _ (ap not h) ∙ yes-then _ _ _ (ap not s))
+      at-no-map h s = refuse rows′ 16 (no-then _ _ _ (le-ltb (length rows) (need l) room) ∙ no-then _ _ _ (ap not h) ∙ yes-then _ _ _ (ap not s)) scratch-is
 
-      pub at-listed : right l ≡ true → safepoint (function l) pc ≡ true → (row regs′ : List ℕ) (r : LiveAt) → listed 64 row ≡ rowAt pc
-          → toldAt r ≡ listing 64 row (length regs) → regs′ ≡ listedInto 64 row regs → LiveAtCall l t pc rows regs rows′ regs′ r
+      pub at-listed : right l ≡ true → safepoint (function l) pc ≡ true → (row regs′ : List ℕ) (r : Answer)
+          → listed 64 row ≡ liveRow ((length (l .classes) + 63) / 64 * 64) (track t (function l)) pc
+          → r ≡ answered here nothing (listing 64 row (length regs)) → regs′ ≡ listedInto 64 row regs → LiveAtCall l t pc regs rows regs′ rows′ r
       unfolding liveAtAnswer listing listedInto
       at-listed h s row regs′ r e a o = record {
-        live = rowAt pc;
-        is = row-is pc;
-        answer = a ∙ ap (λ (u : List ℕ). if ltb (length regs) (length u) then refused 7 else ok (length u)) e ∙ sym whole;
-        out = o ∙ ap (λ (u : List ℕ). if ltb (length regs) (length u) then regs else put regs 0 u (length u)) e
-            ∙ sym (ap (λ (u : Result ℕ). after u regs (put regs 0 (rowAt pc) (length (rowAt pc)))) whole ∙ both (ltb (length regs) (length (rowAt pc))));
+        answer = a ∙ ap (answered here nothing) (ap (λ (u : List ℕ). if ltb (length regs) (length u) then refused 7 else ok (length u)) e′ ∙ sym whole);
+        registers = o ∙ ap (λ (u : List ℕ). if ltb (length regs) (length u) then regs else put regs 0 u (length u)) e′
+            ∙ sym (ap left whole ∙ both (ltb (length regs) (length (registersAt l t pc))));
         scratch = scratch-is;
       }
         where
-          whole : liveAtAnswer l (length rows) pc (length regs) (rowAt pc) ≡ (if ltb (length regs) (length (rowAt pc)) then refused 7 else ok (length (rowAt pc)))
+          e′ : listed 64 row ≡ registersAt l t pc
+          e′ = e ∙ row-registers pc h s ((length (l .classes) + 63) / 64 * 64) (omega arith)
+
+          whole : liveAtAnswer l t pc (length regs) (length rows) ≡ (if ltb (length regs) (length (registersAt l t pc)) then refused 7 else ok (length (registersAt l t pc)))
           whole = no-then _ _ _ (le-ltb (length rows) (need l) room) ∙ no-then _ _ _ (ap not h) ∙ no-then _ _ _ (ap not s)
 
-          both : (b : Bool) → after (if b then refused 7 else ok (length (rowAt pc))) regs (put regs 0 (rowAt pc) (length (rowAt pc))) ≡ (if b then regs else put regs 0 (rowAt pc) (length (rowAt pc)))
+          both : (b : Bool) → left (if b then refused 7 else ok (length (registersAt l t pc))) ≡ (if b then regs else put regs 0 (registersAt l t pc) (length (registersAt l t pc)))
           both true = refl
           both false = refl
 

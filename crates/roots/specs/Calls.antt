@@ -1,6 +1,7 @@
--- What `live_at` answers, and what it leaves (01, "Live map" and "What the host is told"): the refusals in their order, 18, 15, 16, 7.
+-- What `live_at` answers, and what it leaves (01, "Live map" and "What the host is told"): the refusals in their order, 18, 15, 16, 7. That the registers
+-- listed are exactly those that some walk reads before writing is the law `registers-live` in proofs/Answers.antt.
 use mathlib.Core.Path.{_≡_}
-use mathlib.Core.Bool.{Bool, true, not}
+use mathlib.Core.Bool.{Bool, not}
 use mathlib.Core.List.{List}
 use Prim.Native.Nat.{ℕ, _+_, _*_, _/_}
 use lib.Dec.{ltb}
@@ -8,10 +9,11 @@ use lib.ListN.{length, replicate}
 use Rattle.word.specs.Choice.{if_then_else_}
 use Rattle.word.specs.Result.{Result, ok, refused}
 use Rattle.word.specs.Put.{put}
-use Rattle.flow.specs.Function.{Function, LiveList, safepoint}
+use Rattle.refusal.specs.Told.{answered, here, nothing}
+use Rattle.refusal.specs.declared.Answer.{Answer}
+use Rattle.flow.specs.Function.{Function, safepoint}
+use Rattle.flow.specs.Dataflow.{liveRow, track}
 use Rattle.roots.specs.View.{view, formed}
-use Rattle.roots.specs.declared.LiveAt.{LiveAt}
-use Rattle.roots.specs.declared.LiveAt.the-variants as At
 
 -- a function as it is lent
 pub record Lent : Type 0 where
@@ -41,27 +43,23 @@ after (refused n) old new = old
 unfoldable pub scratchAfter : Lent → List ℕ → List ℕ
 scratchAfter l rows = if ltb (length rows) (need l) then rows else replicate (length rows) 0
 
+-- the registers live before instruction pc whose class passes the test, rising
+abbrev pub registersAt : Lent → (asked : ℕ → Bool) → ℕ → List ℕ
+registersAt l asked pc = liveRow (length (l .classes)) (track asked (function l)) pc
+
 -- ---- live_at: the registers live before one safepoint
 
--- `live`: the registers
-unfoldable pub liveAtAnswer : Lent → (rows pc room : ℕ) (live : List ℕ) → Result ℕ
-liveAtAnswer l rows pc room live =
+-- lent: room for so many registers, and so many words of scratch
+unfoldable pub liveAtAnswer : Lent → (asked : ℕ → Bool) → (pc room rows : ℕ) → Result ℕ
+liveAtAnswer l asked pc room rows =
     if ltb rows (need l) then refused 18
     else if not (right l) then refused 15
     else if not (safepoint (function l) pc) then refused 16
-    else if ltb room (length live) then refused 7
-    else ok (length live)
+    else if ltb room (length (registersAt l asked pc)) then refused 7
+    else ok (length (registersAt l asked pc))
 
-abbrev pub toldAt : LiveAt → Result ℕ
-toldAt (At.Registers n) = ok n
-toldAt At.Scratch = refused 18
-toldAt At.Function = refused 15
-toldAt At.NoMap = refused 16
-toldAt At.Short = refused 7
-
-pub record LiveAtCall (l : Lent) (asked : ℕ → Bool) (pc : ℕ) (rows regs rows′ regs′ : List ℕ) (r : LiveAt) : Type 0 where
-  pub live : List ℕ
-  pub is : right l ≡ true → safepoint (function l) pc ≡ true → LiveList (function l) asked pc live
-  pub answer : toldAt r ≡ liveAtAnswer l (length rows) pc (length regs) live
-  pub out : regs′ ≡ after (liveAtAnswer l (length rows) pc (length regs) live) regs (put regs 0 live (length live))
+-- The registers stand at the start of the lent list, and what is after them, or all of it where the call refuses, stays.
+pub record LiveAtCall (l : Lent) (asked : ℕ → Bool) (pc : ℕ) (regs rows regs′ rows′ : List ℕ) (r : Answer) : Type 0 where
+  pub answer : r ≡ answered here nothing (liveAtAnswer l asked pc (length regs) (length rows))
+  pub registers : regs′ ≡ after (liveAtAnswer l asked pc (length regs) (length rows)) regs (put regs 0 (registersAt l asked pc) (length (registersAt l asked pc)))
   pub scratch : rows′ ≡ scratchAfter l rows

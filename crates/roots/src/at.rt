@@ -1,5 +1,4 @@
 // The registers that are live before one safepoint.
-use crate::LiveAt;
 use crate::Tracked;
 use crate::check::check_function;
 use crate::check::enough;
@@ -7,6 +6,8 @@ use crate::fixpoint::analyse;
 use crate::fixpoint::back_at;
 use crate::fixpoint::gather;
 use crate::row::wide;
+use refusal::Refusal;
+use refusal::Reply;
 use rows::Listed;
 ghost use mathlib.Core.Path.{_≡_};
 ghost use mathlib.Core.Bool.{Bool, true, false};
@@ -16,7 +17,8 @@ ghost use lib.ListN.{length, getD, take, drop, replicate};
 ghost use Rattle.rows.specs.Listing.{listing, listedInto};
 ghost use Rattle.flow.specs.Dataflow.{liveBefore};
 ghost use Rattle.roots.specs.View.{formed};
-ghost use Rattle.roots.specs.Calls.{toldAt, LiveAtCall};
+ghost use Rattle.refusal.specs.Told.{told, answered, here, nothing};
+ghost use Rattle.roots.specs.Calls.{LiveAtCall};
 ghost use Rattle.roots.specs.Columns.{wanted, seen, cell, Found};
 
 // The block that holds instruction pc, or nb.
@@ -75,17 +77,18 @@ pub fn live_row(
 }
 
 // The registers of the row at `at` are listed, if they fit, and the scratch becomes zero.
-fn list_at(s: &mut [u64], at: usize, words: usize, regs: &mut [u32]) -> LiveAt
+fn list_at(s: &mut [u64], at: usize, words: usize, regs: &mut [u32]) -> Reply
     requires { ⌜ (at + words ≤ length (now s)) × (words ≤ 256) ⌝ }
-    ensures { λ r. ⌜ (toldAt r ≡ listing 64 (take ((at + words) - at) (drop at (now (s .entry)))) (length (now (regs .entry)))) × (now (regs .exit) ≡ listedInto 64 (take ((at + words) - at) (drop at (now (s .entry)))) (now (regs .entry)))
+    ensures { λ r. ⌜ (told r ≡ answered here nothing (listing 64 (take ((at + words) - at) (drop at (now (s .entry)))) (length (now (regs .entry)))))
+        × (now (regs .exit) ≡ listedInto 64 (take ((at + words) - at) (drop at (now (s .entry)))) (now (regs .entry)))
         × (now (s .exit) ≡ replicate (length (now (s .entry))) 0) ⌝ }
 {
     let past = at + words;
     let answer = rows::list(&s[at..past], regs);
     memory::clear_u64(s);
     match answer {
-        Listed::Bits(n) => LiveAt::Registers(n),
-        Listed::Short => LiveAt::Short,
+        Listed::Bits(n) => Reply::Is(n as u64, 0),
+        Listed::Short => Reply::Not(Refusal::ShortList),
     }
 }
 
@@ -98,32 +101,32 @@ pub fn live_at(
     classes: &[u8],
     which: Tracked,
     pc: usize,
-    scratch: &mut [u64],
     regs: &mut [u32],
-) -> LiveAt
+    rows: &mut [u64],
+) -> Reply
     ensures { λ r. ⌜ LiveAtCall (record { kinds = now (kinds .entry); ends = now (ends .entry); refs = now (refs .entry); blocks = now (blocks .entry); classes = now (classes .entry) })
-        (wanted which) pc (now (scratch .entry)) (now (regs .entry)) (now (scratch .exit)) (now (regs .exit)) r ⌝ }
+        (wanted which) pc (now (regs .entry)) (now (rows .entry)) (now (regs .exit)) (now (rows .exit)) (told r) ⌝ }
 {
     let words = (classes.len() + 63) / 64;
     let nb = blocks.len() / 2;
-    if !enough(scratch.len(), 3 * nb + 2, words) {
-        return LiveAt::Scratch;
+    if !enough(rows.len(), 3 * nb + 2, words) {
+        return Reply::Not(Refusal::Scratch);
     }
     if !check_function(kinds, ends, refs, blocks, classes) {
-        memory::clear_u64(scratch);
-        return LiveAt::Function;
+        memory::clear_u64(rows);
+        return Reply::Not(Refusal::Function);
     }
     let b = find_block(blocks, nb, pc);
     if nb <= b {
-        memory::clear_u64(scratch);
-        return LiveAt::NoMap;
+        memory::clear_u64(rows);
+        return Reply::Not(Refusal::NoMap);
     }
     if kinds[pc] != 1 {
-        memory::clear_u64(scratch);
-        return LiveAt::NoMap;
+        memory::clear_u64(rows);
+        return Reply::Not(Refusal::NoMap);
     }
     live_row(
-        scratch,
+        rows,
         kinds,
         ends,
         refs,
@@ -135,5 +138,5 @@ pub fn live_at(
         b,
         pc,
     );
-    list_at(scratch, nb * (3 * words), words, regs)
+    list_at(rows, nb * (3 * words), words, regs)
 }

@@ -236,7 +236,8 @@ fn start_block(
     heads: &[u16],
     links: &[u16],
 )
-    requires { ⌜ (nb ≡ length (now blocks) / 2) × (b < nb) × (nb * (3 * words) + 2 * words ≤ length (now s)) × (length (now classes) ≤ 64 * words) × (0 < words) × Lists (now ends) (now refs) × Chains (now blocks) 0 nb 0 (now heads) (now links) ⌝ }
+    requires { ⌜ (nb ≡ length (now blocks) / 2) × (b < nb) × (nb * (3 * words) + 2 * words ≤ length (now s)) × (length (now classes) ≤ 64 * words) × (0 < words)
+        × Lists (now ends) (now refs) × Chains (now blocks) 0 nb 0 (now heads) (now links) ⌝ }
     requires { ⌜ (getD (now blocks) (2 * b) 0 < getD (now blocks) (2 * b + 1) 0 → 3 * getD (now blocks) (2 * b + 1) 0 ≤ length (now ends)) ⌝ }
     requires { ⌜ ((i : ℕ) → b * (3 * words) ≤ i → getD (now s) i 0 ≡ 0) ⌝ }
     ensures { λ _. ⌜ Begun (wanted which) (now (ends .entry)) (now (refs .entry)) (now (blocks .entry)) (now (classes .entry)) (now (s .entry)) (now (s .exit)) nb words b ⌝ }
@@ -266,7 +267,8 @@ fn start_blocks(
     heads: &[u16],
     links: &[u16],
 )
-    requires { ⌜ (nb ≡ length (now blocks) / 2) × (nb * (3 * words) + 2 * words ≤ length (now s)) × (length (now classes) ≤ 64 * words) × (0 < words) × Lists (now ends) (now refs) × Chains (now blocks) 0 nb 0 (now heads) (now links) ⌝ }
+    requires { ⌜ (nb ≡ length (now blocks) / 2) × (nb * (3 * words) + 2 * words ≤ length (now s)) × (length (now classes) ≤ 64 * words) × (0 < words) × Lists (now ends) (now refs)
+        × Chains (now blocks) 0 nb 0 (now heads) (now links) ⌝ }
     requires { ⌜ ((b : ℕ) → b < nb → getD (now blocks) (2 * b) 0 < getD (now blocks) (2 * b + 1) 0 → 3 * getD (now blocks) (2 * b + 1) 0 ≤ length (now ends)) ⌝ }
     requires { ⌜ ((i : ℕ) → getD (now s) i 0 ≡ 0) ⌝ }
     ensures { λ _. ⌜ Built (wanted which) (now (ends .entry)) (now (refs .entry)) (now (blocks .entry)) (now (classes .entry)) (now (s .entry)) (now (s .exit)) nb words ⌝ }
@@ -301,7 +303,8 @@ fn build(
     nb: usize,
     words: usize,
 )
-    requires { ⌜ (nb ≡ length (now blocks) / 2) × (nb * (3 * words) + 2 * words ≤ length (now s)) × (length (now classes) ≤ 64 * words) × (0 < words) × Lists (now ends) (now refs) × (nb ≤ 4096) ⌝ }
+    requires { ⌜ (nb ≡ length (now blocks) / 2) × (nb * (3 * words) + 2 * words ≤ length (now s)) × (length (now classes) ≤ 64 * words) × (0 < words) × Lists (now ends) (now refs)
+        × (nb ≤ 4096) ⌝ }
     requires { ⌜ ((b : ℕ) → b < nb → getD (now blocks) (2 * b) 0 < getD (now blocks) (2 * b + 1) 0 → 3 * getD (now blocks) (2 * b + 1) 0 ≤ length (now ends)) ⌝ }
     requires { ⌜ ((i : ℕ) → getD (now s) i 0 ≡ 0) ⌝ }
     ensures { λ _. ⌜ Built (wanted which) (now (ends .entry)) (now (refs .entry)) (now (blocks .entry)) (now (classes .entry)) (now (s .entry)) (now (s .exit)) nb words ⌝ }

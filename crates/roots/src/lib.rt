@@ -13,17 +13,3 @@ pub enum Tracked {
     Handles,
     All,
 }
-
-// What `live_at` answers.
-pub enum LiveAt {
-    // So many registers are listed.
-    Registers(usize),
-    // 18
-    Scratch,
-    // 15
-    Function,
-    // 16
-    NoMap,
-    // 7
-    Short,
-}

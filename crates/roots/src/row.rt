@@ -57,7 +57,8 @@ fn set_all(row: &mut [u64], refs: &[u32], classes: &[u8], which: Tracked, from: 
 // The registers refs[from..to] that take part are taken from the row.
 fn clear_all(row: &mut [u64], refs: &[u32], classes: &[u8], which: Tracked, from: usize, to: usize)
     requires { ⌜ (from ≤ to) × (to ≤ length (now refs)) × (length (now classes) ≤ 64 * length (now row)) ⌝ }
-    ensures { λ _. ⌜ ((q : ℕ) → bitIn 64 (now (row .exit)) q ≡ not (asked (wanted which) (now (classes .entry)) q && has (slice from to (now (refs .entry))) q) && bitIn 64 (now (row .entry)) q) ⌝ }
+    ensures { λ _. ⌜ ((q : ℕ) → bitIn 64 (now (row .exit)) q
+        ≡ not (asked (wanted which) (now (classes .entry)) q && has (slice from to (now (refs .entry))) q) && bitIn 64 (now (row .entry)) q) ⌝ }
 {
     let mut i = from;
     while i < to {
@@ -90,7 +91,9 @@ pub fn step_back(
     p: usize,
 )
     requires { ⌜ (3 * p + 2 < length (now ends)) × (length (now classes) ≤ 64 * length (now row)) × Lists (now ends) (now refs) ⌝ }
-    ensures { λ _. ⌜ ((ks bs : List ℕ) (q : ℕ) → bitIn 64 (now (row .exit)) q ≡ turn (reads (seen (wanted which) ks (now (ends .entry)) (now (refs .entry)) bs (now (classes .entry))) p q) (writes (seen (wanted which) ks (now (ends .entry)) (now (refs .entry)) bs (now (classes .entry))) p q) (bitIn 64 (now (row .entry)) q)) ⌝ }
+    ensures { λ _. ⌜ ((ks bs : List ℕ) (q : ℕ) → bitIn 64 (now (row .exit)) q
+        ≡ turn (reads (seen (wanted which) ks (now (ends .entry)) (now (refs .entry)) bs (now (classes .entry))) p q)
+        (writes (seen (wanted which) ks (now (ends .entry)) (now (refs .entry)) bs (now (classes .entry))) p q) (bitIn 64 (now (row .entry)) q)) ⌝ }
 {
     let k = 3 * p;
     let a = list_start(ends, k);
@@ -111,7 +114,8 @@ pub fn back_row(
     to: usize,
 )
     requires { ⌜ (from ≤ to) × (3 * to ≤ length (now ends)) × (length (now classes) ≤ 64 * length (now row)) × Lists (now ends) (now refs) ⌝ }
-    ensures { λ _. ⌜ ((ks bs : List ℕ) (q : ℕ) → bitIn 64 (now (row .exit)) q ≡ back (seen (wanted which) ks (now (ends .entry)) (now (refs .entry)) bs (now (classes .entry))) q from (to - from) (bitIn 64 (now (row .entry)) q)) ⌝ }
+    ensures { λ _. ⌜ ((ks bs : List ℕ) (q : ℕ) → bitIn 64 (now (row .exit)) q
+        ≡ back (seen (wanted which) ks (now (ends .entry)) (now (refs .entry)) bs (now (classes .entry))) q from (to - from) (bitIn 64 (now (row .entry)) q)) ⌝ }
 {
     let mut p = to;
     while from < p {
@@ -131,7 +135,8 @@ pub fn kill_row(
     to: usize,
 )
     requires { ⌜ (from ≤ to) × (3 * to ≤ length (now ends)) × (length (now classes) ≤ 64 * length (now row)) × Lists (now ends) (now refs) ⌝ }
-    ensures { λ _. ⌜ ((ks bs : List ℕ) (q : ℕ) → bitIn 64 (now (row .exit)) q ≡ killed (seen (wanted which) ks (now (ends .entry)) (now (refs .entry)) bs (now (classes .entry))) q from (to - from) || bitIn 64 (now (row .entry)) q) ⌝ }
+    ensures { λ _. ⌜ ((ks bs : List ℕ) (q : ℕ) → bitIn 64 (now (row .exit)) q
+        ≡ killed (seen (wanted which) ks (now (ends .entry)) (now (refs .entry)) bs (now (classes .entry))) q from (to - from) || bitIn 64 (now (row .entry)) q) ⌝ }
 {
     let mut p = to;
     while from < p {

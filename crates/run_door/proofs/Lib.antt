@@ -1,4 +1,5 @@
+pub mod Answering
 pub mod Placing
 pub mod Moving
 pub mod Looping
-pub mod Entering
+pub mod Admitting

@@ -1,8 +1,11 @@
 -- What the code's readers say of a line: one law for each way out. Assumes nothing.
 use Prim.Native.Nat.{ℕ, _≤_, _<_, _^_}
+use mathlib.Core.Bool.{true, false}
 use mathlib.Core.List.{List, [], _∷_}
 use mathlib.Core.Option.{Option, none}
 use mathlib.Core.Path.{_≡_, refl, sym, ap, _∙_, subst}
+use denote.Enum.Declared.{tagOf}
+use types.Run.{OneOf, miss}
 use lib.ListN.{length, drop}
 use Rattle.text.specs.Text.{give, ascii, comma, digitOf, readHex, readLiteral, readField}
 use Rattle.text.specs.Format.{number, bytesLine, pair}
@@ -14,9 +17,12 @@ use Rattle.text.specs.declared.Literal.the-variants.{Past, Missing}
 use Rattle.text.specs.declared.Hex.{Hex}
 use Rattle.text.specs.declared.Hex.the-variants.{Count, NoHex}
 use Rattle.text.proofs.Getting.{answer-none, field-found, hex-found, hex-missing, literal-found, literal-lost}
-use Rattle.script.specs.Script.{Call, alloc, take, seal, recycle, allocFormat, readAlloc, readTake, readCall}
+use Rattle.script.specs.Script.{Call, alloc, take, seal, recycle, allocFormat, readAlloc, readTake, readCall, beginsCall}
 use Rattle.script.specs.Found.{AllocRead, Reads, LineRead}
 use Rattle.script.specs.declared.Line.{Line}
+use Rattle.script.specs.declared.Line.the-variants.{Alloc, Take, Seal, Recycle, Bad}
+use Rattle.script.proofs.Line.{the-type as line-type}
+use Rattle.script.proofs.Scripts.{begins-call, begins-bad}
 
 no-comma : digitOf comma ≡ none
 unfolding digitOf
@@ -134,3 +140,16 @@ module _ (s : List ℕ) (at : ℕ) (r : Literal) (e : r ≡ literalAnswer (lengt
         pub no-name : r₄ ≡ Missing → readCall (drop at s) ≡ none
         unfolding readCall ascii
         no-name i = rw (literal-lost allocName s at e f, literal-lost takeName s at e₂ g, literal-lost sealLine s at e₃ h, literal-lost recycleLine s at e₄ i)
+
+-- ---- the first line
+
+module _ (s : List ℕ) where
+  pub first-read : (l : Line) → LineRead (readCall (drop 0 s)) s l → OneOf (0 ∷ 1 ∷ 2 ∷ 3 ∷ []) (tagOf line-type l) → true ≡ beginsCall s
+  first-read (Alloc a) h o = begins-call s _ _ (h .call)
+  first-read (Take x n) h o = begins-call s _ _ (h .call)
+  first-read (Seal n) h o = begins-call s _ _ (h .call)
+  first-read (Recycle n) h o = begins-call s _ _ (h .call)
+  first-read Bad h o = absurd (miss (0 ∷ 1 ∷ 2 ∷ 3 ∷ []) 4 tt o)
+
+  pub first-missing : (l : Line) → LineRead (readCall (drop 0 s)) s l → l ≡ Bad → (length s ≡ 0 → ⊥) → false ≡ beginsCall s
+  first-missing l h e k = begins-bad s k (subst (λ (x : Line). LineRead (readCall (drop 0 s)) s x) e h)

@@ -7,8 +7,7 @@ use mathlib.Core.Logic.{_↔_}
 use Rattle.text.specs.Text.{Reader, give, _>>=_, ascii, comma, decimal, digits, line, Bytes, digitOf, readLiteral}
 use Rattle.text.specs.Format.{Right, number, bytesLine, pair}
 use Rattle.text.proofs.Laws.{none-not-some, bind-some, some-inj, literal-forth, literal-back, number-right, bytes-line-right, pair-right}
-use Rattle.pages.specs.Page.{whole}
-use Rattle.script.specs.Script.{Call, alloc, take, seal, recycle, callLine, Within, allocFormat, readAlloc, readTake, named, readCall, callOf}
+use Rattle.script.specs.Script.{Call, alloc, take, seal, recycle, callLine, Within, allocFormat, readAlloc, readTake, named, readCall, alone, callOf}
 
 no-comma : digitOf comma ≡ none
 unfolding digitOf
@@ -127,15 +126,15 @@ pub call-of-line : (c : Call) → Within c → callOf (callLine c) ≡ some c
 unfolding callOf
 call-of-line c w = rw (sym (append-nil (callLine c)), call-forth c [] w)
 
-whole-back : (r : Call × List ℕ) (c : Call) → whole r ≡ some c → r ≡ (c, [])
-whole-back (d, []) c e = ap (λ (x : Call). (x, [])) (some-inj e)
-whole-back (d, b ∷ t) c e = absurd (none-not-some e)
+alone-back : (r : Call × List ℕ) (c : Call) → alone r ≡ some c → r ≡ (c, [])
+alone-back (d, []) c e = ap (λ (x : Call). (x, [])) (some-inj e)
+alone-back (d, b ∷ t) c e = absurd (none-not-some e)
 
 pub line-of-call : (l : List ℕ) (c : Call) → callOf l ≡ some c → Within c × (callLine c ≡ l)
 unfolding callOf
 line-of-call l c e =
-    let p : (r : Call × List ℕ) × (readCall l ≡ some r) × (whole r ≡ some c) = bind-some (readCall l) whole c e in
-    let b = call-back l c [] (p .1 ∙ ap some (whole-back (p .0) c (p .2))) in
+    let p : (r : Call × List ℕ) × (readCall l ≡ some r) × (alone r ≡ some c) = bind-some (readCall l) alone c e in
+    let b = call-back l c [] (p .1 ∙ ap some (alone-back (p .0) c (p .2))) in
     (b .0, sym (append-nil (callLine c)) ∙ b .1)
 
 pub read-exactly : (l : List ℕ) (c : Call) → (callOf l ≡ some c) ↔ (Within c × (callLine c ≡ l))

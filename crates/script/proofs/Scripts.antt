@@ -1,6 +1,6 @@
 -- Laws of running a script: its first line, and its parts. Assumes nothing.
 use Prim.Native.Nat.{ℕ, _<_}
-use mathlib.Core.Bool.{true}
+use mathlib.Core.Bool.{true, false}
 use mathlib.Core.List.{List, [], _∷_, _++_}
 use mathlib.Core.Option.{Option, none, some}
 use mathlib.Core.Path.{_≡_, refl, sym, ap, _∙_}
@@ -12,13 +12,47 @@ use Rattle.text.proofs.Laws.{none-not-some}
 use Rattle.heap.specs.State.{State}
 use Rattle.heap.specs.Packing.{flat}
 use Rattle.heap.specs.Calls.{Changed, refuse, done}
-use Rattle.script.specs.Script.{Call, callLine, readCall, callOf, lines, endsLine, doing, lineDoes, unless, andThen, runLines, runScript}
+use Rattle.script.specs.Script.{Call, callLine, readCall, callOf, lines, firstIsCall, isCall, beginsCall, endsLine, doing, lineDoes, unless, andThen, runLines, runScript}
 use Rattle.script.proofs.Reading.{call-forth, call-back, call-of-line, line-of-call}
 use Rattle.script.proofs.Lining.{call-long, lines-flat, lines-some, lines-append, lines-call}
 
 -- a call that was read leaves less to read
 pub call-shorter : (t rest : List ℕ) (c : Call) → readCall t ≡ give c rest → length rest < length t
 call-shorter t rest c e = omega (arith, ap length (call-back t c rest e .1), length-append (callLine c) rest, call-long c)
+
+-- ---- the first line
+
+-- the first line of a text that begins with no call's line is no call's
+first-bad : (b : ℕ) (t : List ℕ) → readCall (b ∷ t) ≡ none → (l : List ℕ) (ls : List (List ℕ)) → lines (b ∷ t) ≡ l ∷ ls → callOf l ≡ none
+unfolding flat
+first-bad b t e l ls q = go (callOf l) refl
+  where
+    go : (o : Option Call) → callOf l ≡ o → callOf l ≡ none
+    go none f = f
+    go (some c) f =
+        let d = line-of-call l c f in
+        let w : callLine c ++ flat ls ≡ b ∷ t = rw (d .1) (sym (ap flat q) ∙ lines-flat (b ∷ t)) in
+        absurd (none-not-some (sym e ∙ sym (ap readCall w) ∙ call-forth c (flat ls) (d .0)))
+
+pub begins-nothing : (t : List ℕ) → length t ≡ 0 → true ≡ beginsCall t
+unfolding beginsCall lines
+begins-nothing [] h = refl
+begins-nothing (b ∷ t) h = absurd (omega arith)
+
+pub begins-call : (t rest : List ℕ) (c : Call) → readCall t ≡ give c rest → true ≡ beginsCall t
+unfolding beginsCall
+begins-call t rest c e =
+    let b = call-back t c rest e in
+    sym (ap (λ (u : List ℕ). firstIsCall (lines u)) (sym (b .1)) ∙ rw (lines-call c rest, call-of-line c (b .0)))
+
+pub begins-bad : (t : List ℕ) → (length t ≡ 0 → ⊥) → readCall t ≡ none → false ≡ beginsCall t
+unfolding beginsCall
+begins-bad [] h e = absurd (h refl)
+begins-bad (b ∷ t) h e =
+    let p = lines-some b t in
+    sym (ap firstIsCall (p .2) ∙ ap isCall (first-bad b t e (p .0) (p .1) (p .2)))
+
+-- ---- running
 
 module _ (S P : ℕ) where
   -- an empty script changes nothing
@@ -35,15 +69,8 @@ module _ (S P : ℕ) where
 
   -- it is no call's
   pub run-bad : (b : ℕ) (t : List ℕ) (h : State) → readCall (b ∷ t) ≡ none → runScript S P (b ∷ t) h ≡ refuse 17 h
-  unfolding runScript runLines flat
-  run-bad b t h e = let p = lines-some b t in rw (p .2) (go (p .0) (p .1) (p .2) (callOf (p .0)) refl)
-    where
-      go : (l : List ℕ) (ls : List (List ℕ)) → lines (b ∷ t) ≡ l ∷ ls → (o : Option Call) → callOf l ≡ o → andThen (lineDoes S P (callOf l) h) (runLines S P ls) ≡ refuse 17 h
-      go l ls q none f = rw f
-      go l ls q (some c) f =
-          let d = line-of-call l c f in
-          let w : callLine c ++ flat ls ≡ b ∷ t = rw (d .1) (sym (ap flat q) ∙ lines-flat (b ∷ t)) in
-          absurd (none-not-some (sym e ∙ sym (ap readCall w) ∙ call-forth c (flat ls) (d .0)))
+  unfolding runScript runLines
+  run-bad b t h e = let p = lines-some b t in rw (p .2, first-bad b t e (p .0) (p .1) (p .2))
 
   unless-unless : (r : Result Unit) (h : State) (f g : State → Changed Unit) → unless r h (λ x. andThen (f x) g) ≡ andThen (unless r h f) g
   unless-unless (ok a) h f g = refl

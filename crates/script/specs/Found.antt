@@ -1,7 +1,7 @@
 -- What the code finds in a line of a script.
 use Prim.Native.Nat.{ℕ, _≤_, _<_, _^_}
 use mathlib.Core.List.{List}
-use mathlib.Core.Option.{Option, none}
+use mathlib.Core.Option.{Option, none, some}
 use mathlib.Core.Path.{_≡_}
 use lib.ListN.{length, drop}
 use Rattle.text.specs.Text.{give}
@@ -36,3 +36,29 @@ LineRead o s (Take x next) = Reads o s (take x) next
 LineRead o s (Seal next) = Reads o s seal next
 LineRead o s (Recycle next) = Reads o s recycle next
 LineRead o s Bad = o ≡ none
+
+-- ---- a line that was read
+
+-- the call of a line, if it is one's
+abbrev pub callIn : List ℕ → Line → Option Call
+callIn s (Alloc a) = some (callAt s a)
+callIn s (Take x next) = some (take x)
+callIn s (Seal next) = some seal
+callIn s (Recycle next) = some recycle
+callIn s Bad = none
+
+-- where the next line begins; a bad line is the last
+abbrev pub nextAfter : ℕ → Line → ℕ
+nextAfter end (Alloc a) = a .next
+nextAfter end (Take x next) = next
+nextAfter end (Seal next) = next
+nextAfter end (Recycle next) = next
+nextAfter end Bad = end
+
+-- its data stands in the text
+abbrev pub DataIn : List ℕ → Line → Type 0
+DataIn s (Alloc a) = DataThere s a
+DataIn s (Take x next) = Unit
+DataIn s (Seal next) = Unit
+DataIn s (Recycle next) = Unit
+DataIn s Bad = Unit

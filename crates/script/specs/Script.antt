@@ -1,20 +1,16 @@
 -- A script (01, "Page" and "What the host is told"): calls as lines of text, and what running them does to a heap.
-use Prim.Native.Nat.{ℕ, _^_, _-_, _<_}
-use mathlib.Core.Bool.{Bool, true, not}
+use Prim.Native.Nat.{ℕ, _^_, _<_}
+use mathlib.Core.Bool.{Bool, true, false}
 use mathlib.Core.List.{List, [], _∷_}
 use mathlib.Core.Option.{Option, none, some}
-use lib.Dec.{eqb, leb}
-use lib.ListN.{length}
+use lib.Dec.{eqb}
 use Rattle.word.specs.Choice.{if_then_else_}
 use Rattle.word.specs.Result.{Result, ok, refused}
 use Rattle.text.specs.Text.{Reader, give, _>>=_, ascii, newline, comma, decimal, hex, line, Bytes, readLiteral}
 use Rattle.text.specs.Format.{Format, number, bytesLine, pair}
 use Rattle.heap.specs.State.{State}
-use Rattle.heap.specs.Lent.{Lent, slotCount, poolSize}
-use Rattle.heap.specs.Calls.{Changed, refuse, done, free}
-use Rattle.heap_door.specs.HeapCalls.{Outcome, outcome, heapCall, sealing, zeros}
+use Rattle.heap.specs.Calls.{Changed, refuse, done, free, seal as sealed}
 use Rattle.object_door.specs.ObjectCalls.{allocating, recycling}
-use Rattle.pages.specs.Page.{whole}
 
 -- ---- calls as lines: call, number, kind, bytes
 
@@ -61,9 +57,14 @@ readCall t =
     (named (readLiteral (ascii "seal,0,0,\n") t) (give seal)
     (named (readLiteral (ascii "recycle,0,0,\n") t) (give recycle) none)))
 
+-- a call with nothing after it
+abbrev pub alone : Call × List ℕ → Option Call
+alone (c, []) = some c
+alone (c, b ∷ t) = none
+
 -- the call whose line this is, if it is one's
 unfoldable pub callOf : List ℕ → Option Call
-callOf l = readCall l >>= whole
+callOf l = readCall l >>= alone
 
 -- ---- lines
 
@@ -76,6 +77,18 @@ onto b (l ∷ ls) = (b ∷ l) ∷ ls
 unfoldable pub lines : List ℕ → List (List ℕ)
 lines [] = []
 lines (b ∷ t) = if eqb b newline then ((b ∷ []) ∷ lines t) else onto b (lines t)
+
+-- is the first line a call's, if there is a line?
+abbrev pub isCall : Option Call → Bool
+isCall none = false
+isCall (some c) = true
+
+abbrev pub firstIsCall : List (List ℕ) → Bool
+firstIsCall [] = true
+firstIsCall (l ∷ ls) = isCall (callOf l)
+
+unfoldable pub beginsCall : (text : List ℕ) → Bool
+beginsCall t = firstIsCall (lines t)
 
 -- a whole number of lines
 unfoldable pub endsLine : List ℕ → Bool
@@ -97,7 +110,7 @@ quiet c = record { answer = silent (c .answer); heap = c .heap }
 unfoldable pub doing : (S P : ℕ) → Call → State → Changed Unit
 doing S P (alloc t k bs) h = quiet (allocating S P k t 0 bs h)
 doing S P (take x) h = free h x
-doing S P seal h = sealing h
+doing S P seal h = done tt (sealed h)
 doing S P recycle h = recycling [] h
 
 -- a line that is no call's is 17
@@ -120,27 +133,3 @@ runLines S P (l ∷ ls) h = andThen (lineDoes S P (callOf l) h) (runLines S P ls
 
 unfoldable pub runScript : (S P : ℕ) → (text : List ℕ) → State → Changed Unit
 runScript S P t h = runLines S P (lines t) h
-
--- ---- the public call
-
--- what it tells, the lent memory afterwards, and the room lent for data
-pub record Ran : Type 0 where
-  pub call : Outcome Unit
-  pub room : List ℕ
-
-abbrev pub ran : Outcome Unit → List ℕ → Ran
-ran c room = record { call = c; room = room }
-
--- scratch is zero after every answer but 18
-abbrev pub cleared : Result Unit → List ℕ → List ℕ
-cleared (ok a) xs = zeros xs
-cleared (refused n) xs = if eqb n 18 then xs else zeros xs
-
-abbrev pub clearing : Outcome Unit → List ℕ → Ran
-clearing c room = ran c (cleared (c .told .answer) room)
-
--- the heap is checked once; scratch has besides a byte for each byte of the pool (18)
-unfoldable pub runCall : (marks work room : List ℕ) → Lent → (text : List ℕ) → Ran
-runCall marks work room l t =
-    if leb (poolSize l) (length room) then clearing (heapCall marks work l (runScript (slotCount l) (poolSize l) t)) room
-    else ran (outcome (refused 18) l marks work) room

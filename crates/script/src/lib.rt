@@ -2,10 +2,11 @@
 use text::Decimal;
 use text::Hex;
 use text::Literal;
+ghost use mathlib.Core.Path.{_≡_};
 ghost use Prim.Native.Nat.{_≤_};
 ghost use lib.ListN.{length, drop};
-ghost use Rattle.script.specs.Script.{readAlloc, readTake, readCall};
-ghost use Rattle.script.specs.Found.{LineRead};
+ghost use Rattle.script.specs.Script.{readAlloc, readTake, readCall, beginsCall};
+ghost use Rattle.script.specs.Found.{LineRead, nextAfter};
 
 // A line `alloc`: type, kind, and data that stands in hexadecimal from `from` on; the next line begins at `next`.
 pub struct AllocLine {
@@ -78,4 +79,30 @@ pub fn read_line(s: &[u8], at: usize) -> Line
             },
         },
     }
+}
+
+// Where the line after this one begins; a bad line is the last.
+pub fn next_after(line: Line, end: usize) -> usize
+    ensures { λ r. ⌜ r ≡ nextAfter end line ⌝ }
+{
+    match line {
+        Line::Alloc(a) => a.next,
+        Line::Take(_, next) => next,
+        Line::Seal(next) => next,
+        Line::Recycle(next) => next,
+        Line::Bad => end,
+    }
+}
+
+// Is the first line a call's, if there is a line?
+pub fn begins_call(s: &[u8]) -> bool
+    ensures { λ r. ⌜ r ≡ beginsCall (now (s .entry)) ⌝ }
+{
+    if s.len() == 0 {
+        return true;
+    }
+    let Line::Bad = read_line(s, 0) else {
+        return true;
+    };
+    false
 }

@@ -1,219 +1,230 @@
--- Slots released in the columns are slots dropped in the heap. Assumes nothing.
+-- Slots released in the runs are slots dropped in the heap. Assumes nothing.
 use mathlib.Core.Path.{_≡_, refl, sym, ap, _∙_, subst}
 use mathlib.Core.Bool.{Bool, true, false, _&&_}
 use mathlib.Core.List.{List, [], _∷_, _++_}
-use Prim.Native.Nat.{ℕ, suc, _+_, _≤_, _<_}
+use Prim.Native.Nat.{ℕ, suc, _+_, _*_, _/_, _≤_, _<_}
 use native.Mathlib.Omega.{arith}
 use native.Mathlib.Numerals.{add-one}
 use lib.ListN.{length, getD, set, length-set, length-append}
 use lib.Dec.{eqb, ltb}
 use borrow.Author.Tests.{lt-ltb, le-ltb, eq-eqb, ne-eqb}
 use Rattle.word.specs.Choice.{if_then_else_}
+use Rattle.word.proofs.RunLaws.{run-get, first-get}
 use Rattle.heap.specs.Packing.{pad}
 use Rattle.heap.specs.State.{Slot, State, slotAt, live, bit}
 use Rattle.heap.specs.Calls.{step, released}
-use Rattle.heap.specs.Lent.{Lent, headerOf, stored, view, slotCount, poolSize}
+use Rattle.heap.specs.Lent.{Lent, columns, column, cut, lent, headerOf, stored, view, slotCount, poolSize}
 use Rattle.heap.specs.Header.{setFree, setSlots, setChanged}
 use Rattle.heap.specs.declared.Heap.{Heap}
 use Rattle.heap.proofs.Sound.{Sound, WellFormed, liveBit}
-use Rattle.heap.proofs.Packing.{length-pad}
 use Rattle.heap.proofs.Storing.{column-set, column-at, pad-push}
-use Rattle.heap.proofs.Changing.{column-size, Known, known}
+use Rattle.heap.proofs.Changing.{Known, known}
 use Rattle.heap.proofs.Counting.{sum-one, all-slots}
+use Rattle.heap.proofs.Runs.{with-generation, with-kind, with-type, with-start, with-writes, with-free, set-generation, set-kind, set-type, set-start, set-writes, set-free, wide-room}
 use Rattle.heap.proofs.Testing.{formed-tested}
-use Rattle.sweep.specs.Swept.{goes, dropped, dropSlot, dropSlots, allDropped}
-use Rattle.sweep.specs.Columns.{Columns, columns, columnsOf, releasedIn, visitedIn, CanRelease, CanVisit, CanSweep}
-use Rattle.sweep.proofs.Dropping.{after, after-next, after-all, after-sound, Dropping, dropping, goes-live}
+use Rattle.collection.specs.Swept.{goes, dropped, dropSlot, dropSlots, allDropped}
+use Rattle.collection.proofs.Dropping.{after, after-next, after-all, after-sound, Dropping, dropping, goes-live}
+use Rattle.sweep.specs.Columns.{columnsOf, releasedIn, isGoing, visitedIn, CanRelease, CanVisit, CanSweep}
 
--- ---- the ways out of `release` and `visit`
+-- ---- the way out of `release`: six entries set
 
-pub released-in : (h h₁ h₂ : Heap) (i g : ℕ) (gs ks ts ss ws fs : List ℕ) → g ≡ step (getD gs i 0) → h₁ ≡ setChanged h i → h₂ ≡ setFree h₁ (h .free + 1)
-    → columns h₂ (set gs i g) (set ks i 0) (set ts i 0) (set ss i 0) (set ws i 0) (set fs (h .free) i) ≡ releasedIn (columns h gs ks ts ss ws fs) i
-unfolding releasedIn
-released-in h h₁ h₂ i g gs ks ts ss ws fs eg e₁ e₂ =
-    let e : h₂ ≡ setFree (setChanged h i) (h .free + 1) = e₂ ∙ ap (λ (x : Heap). setFree x (h .free + 1)) e₁ in
-    λ j. columns (e j) (set gs i (eg j)) (set ks i 0) (set ts i 0) (set ss i 0) (set ws i 0) (set fs (h .free) i)
+module _ (h h₁ h₂ : Heap) (S i g : ℕ) (narrow wide : List ℕ) (can : CanRelease h S i narrow wide) where
+  pub released-in : g ≡ step (getD narrow i 0) → h₁ ≡ setChanged h i → h₂ ≡ setFree h₁ (h .free + 1)
+      → cut h₂ S (set (set (set (set narrow i g) (S + i) 0) (2 * S + i) 0) (3 * S + h .free) i) (set (set wide i 0) (2 * S + i) 0) [] ≡ releasedIn (cut h S narrow wide []) i
+  unfolding releasedIn
+  released-in eg e₁ e₂ =
+      let l : Lent = cut h S narrow wide [] in
+      let inside : i < S = can .inside in
+      let n₁ : List ℕ = set narrow i g in
+      let n₂ : List ℕ = set n₁ (S + i) 0 in
+      let n₃ : List ℕ = set n₂ (2 * S + i) 0 in
+      let w₁ : List ℕ = set wide i 0 in
+      let w₂ : List ℕ = set w₁ (2 * S + i) 0 in
+      let F₁ : Lent → Lent = λ x. with-free x (set (x .free) (h .free) i) in
+      let F₂ : Lent → Lent = λ x. F₁ (with-type x (set (x .type) i 0)) in
+      let F₃ : Lent → Lent = λ x. F₂ (with-kind x (set (x .kind) i 0)) in
+      let F₄ : Lent → Lent = λ x. F₃ (with-generation x (set (x .generation) i g)) in
+      let F₅ : Lent → Lent = λ x. F₄ (with-writes x (set (x .writes) i 0)) in
+      let header : h₂ ≡ setFree (setChanged h i) (h .free + 1) = e₂ ∙ ap (λ (x : Heap). setFree x (h .free + 1)) e₁ in
+      let next : g ≡ step (getD (l .generation) i 0) = eg ∙ ap step (sym (first-get S narrow i inside)) in
+      set-free h₂ S n₃ w₂ [] (h .free) i (can .room)
+      ∙ ap F₁ (set-type h₂ S n₂ w₂ [] i 0 inside)
+      ∙ ap F₂ (set-kind h₂ S n₁ w₂ [] i 0 inside)
+      ∙ ap F₃ (set-generation h₂ S narrow w₂ [] i g inside)
+      ∙ ap F₄ (set-writes h₂ S narrow w₁ [] i 0 inside)
+      ∙ ap F₅ (set-start h₂ S narrow wide [] i 0 inside)
+      ∙ (λ j. columns (header j) S (set (l .generation) i (next j)) (set (l .kind) i 0) (set (l .type) i 0) (set (l .start) i 0) (l .end) (set (l .writes) i 0) [] (set (l .free) (h .free) i) (l .quarantine) (l .sealed) (l .retired) (l .over))
+
+-- ---- the ways out of `visit`
 
 no-choice : {A : Type 0} (b : Bool) (x y : A) → y ≡ (if (b && false) then x else y)
 no-choice true x y = refl
 no-choice false x y = refl
 
-module _ (m i : ℕ) (c : Columns) where
-  pub visit-dead : getD (c .kind) i 0 ≡ 0 → c ≡ visitedIn m c i
-  unfolding visitedIn
-  visit-dead e = ap (λ (b : Bool). if (b && eqb m 0) then releasedIn c i else c) (sym (le-ltb 0 (getD (c .kind) i 0) (omega arith)))
+module _ (h : Heap) (S i m : ℕ) (narrow wide : List ℕ) (can : CanVisit h S i narrow wide) where
+  abbrev c : Lent
+  c = cut h S narrow wide []
 
-  pub visit-kept : (m ≡ 0 → ⊥) → c ≡ visitedIn m c i
+  kind-here : getD (cut h S narrow wide [] .kind) i 0 ≡ getD narrow (S + i) 0
+  kind-here = run-get S S narrow i (can .inside)
+
+  pub visit-dead : getD narrow (S + i) 0 ≡ 0 → cut h S narrow wide [] ≡ visitedIn m (cut h S narrow wide []) i
+  unfolding visitedIn
+  visit-dead e = ap (λ (b : Bool). if (b && eqb m 0) then releasedIn c i else c) (sym (le-ltb 0 (getD (c .kind) i 0) (omega (arith, kind-here))))
+
+  pub visit-kept : (m ≡ 0 → ⊥) → cut h S narrow wide [] ≡ visitedIn m (cut h S narrow wide []) i
   unfolding visitedIn
   visit-kept ne = no-choice (ltb 0 (getD (c .kind) i 0)) (releasedIn c i) c ∙ ap (λ (b : Bool). if (ltb 0 (getD (c .kind) i 0) && b) then releasedIn c i else c) (sym (ne-eqb m 0 ne))
 
-  pub visit-gone : (c′ : Columns) → (getD (c .kind) i 0 ≡ 0 → ⊥) → m ≡ 0 → c′ ≡ releasedIn c i → c′ ≡ visitedIn m c i
+  pub visit-gone : (c′ : Lent) → (getD narrow (S + i) 0 ≡ 0 → ⊥) → m ≡ 0 → c′ ≡ releasedIn (cut h S narrow wide []) i → c′ ≡ visitedIn m (cut h S narrow wide []) i
   unfolding visitedIn
   visit-gone c′ ne e r =
-      let some : 0 < getD (c .kind) i 0 = omega (arith, ne) in
+      let some : 0 < getD (c .kind) i 0 = omega (arith, ne, kind-here) in
       let a : ltb 0 (getD (c .kind) i 0) ≡ true = lt-ltb 0 (getD (c .kind) i 0) some in
       let b : eqb m 0 ≡ true = eq-eqb m 0 e in
       r ∙ sym (λ j. if (a j && b j) then releasedIn c i else c)
 
-pub can-release : (i : ℕ) (c : Columns) → CanVisit c i → (getD (c .kind) i 0 ≡ 0 → ⊥) → CanRelease c i
-can-release i c v ne =
-    let some : 0 < getD (c .kind) i 0 = omega (arith, ne) in
-    record { few = v .few; generation = v .generation; kind = v .kind; type = v .type; start = v .start; writes = v .writes; room = v .room some }
+  pub can-release : (getD narrow (S + i) 0 ≡ 0 → ⊥) → CanRelease h S i narrow wide
+  can-release ne =
+      let some : 0 < getD narrow (S + i) 0 = omega (arith, ne) in
+      record { few = can .few; inside = can .inside; long = can .long; far = can .far; room = can .room some }
 
--- ---- the columns of a heap
+-- ---- the runs of a heap
 
-pub columns-stored : (S P : ℕ) (st : State) (l : Lent) → l ≡ stored S P st → columns (l .header) (l .generation) (l .kind) (l .type) (l .start) (l .writes) (l .free) ≡ columnsOf S st
+pub columns-stored : (l : Lent) (st : State) → l ≡ stored (slotCount l) (poolSize l) st → l ≡ columnsOf l st
 unfolding stored columnsOf
-columns-stored S P st l lies = ap (λ (x : Lent). columns (x .header) (x .generation) (x .kind) (x .type) (x .start) (x .writes) (x .free)) lies
+columns-stored l st lies =
+    λ j. columns (lies j .header) (l .count) (lies j .generation) (lies j .kind) (lies j .type) (lies j .start) (l .end) (lies j .writes) (l .pool) (lies j .free) (l .quarantine) (l .sealed) (l .retired) (l .over)
 
--- how long they are
-pub record Sizes (S : ℕ) (c : Columns) : Type 0 where
-  pub generation : length (c .generation) ≡ S
-  pub kind : length (c .kind) ≡ S
-  pub type : length (c .type) ≡ S
-  pub start : length (c .start) ≡ S
-  pub writes : length (c .writes) ≡ S
-  pub free : length (c .free) ≡ S
-
-module _ (S P : ℕ) (st : State) (ok : Sound S P st) where
-  pub sizes : Sizes S (columnsOf S st)
-  unfolding columnsOf
-  sizes =
-      let fit : length (st .slots) ≤ S = ok .slots-fit in
-      record {
-        generation = column-size S (λ s. s .generation) (st .slots) fit;
-        kind = column-size S (λ s. s .kind) (st .slots) fit;
-        type = column-size S (λ s. s .type) (st .slots) fit;
-        start = column-size S (λ s. s .start) (st .slots) fit;
-        writes = column-size S (λ s. s .writes) (st .slots) fit;
-        free = length-pad S (st .free) (omega (arith, all-slots S P st ok));
-      }
-
-  free-count : columnsOf S st .header .free ≡ length (st .free)
+module _ (l : Lent) (P : ℕ) (st : State) (ok : Sound (l .count) P st) where
+  pub free-count : columnsOf l st .header .free ≡ length (st .free)
   unfolding columnsOf headerOf
   free-count = refl
 
   module _ (i : ℕ) (inside : i < length (st .slots)) where
-    pub kind-at : getD (columnsOf S st .kind) i 0 ≡ slotAt st i .kind
+    pub kind-at : getD (columnsOf l st .kind) i 0 ≡ slotAt st i .kind
     unfolding columnsOf
-    kind-at = column-at S (λ s. s .kind) (st .slots) i inside
+    kind-at = column-at (l .count) (λ s. s .kind) (st .slots) i inside
 
     -- a live slot is not yet in the free list
-    free-room : live (slotAt st i) ≡ true → length (st .free) < S
-    free-room k = omega (arith, all-slots S P st ok, sum-one (length (st .slots)) (λ j. liveBit (slotAt st j)) i inside, ap bit k, ok .slots-fit)
+    pub free-room : live (slotAt st i) ≡ true → length (st .free) < l .count
+    free-room k = omega (arith, all-slots (l .count) P st ok, sum-one (length (st .slots)) (λ j. liveBit (slotAt st j)) i inside, ap bit k, ok .slots-fit)
 
-    pub columns-can : CanVisit (columnsOf S st) i
-    columns-can =
-        let z : Sizes S (columnsOf S st) = sizes in
-        let fit : length (st .slots) ≤ S = ok .slots-fit in
-        record {
-          few = omega (arith, ok .slot-range);
-          generation = omega (arith, z .generation);
-          kind = omega (arith, z .kind);
-          type = omega (arith, z .type);
-          start = omega (arith, z .start);
-          writes = omega (arith, z .writes);
-          room = λ k. let k′ : 0 < slotAt st i .kind = omega (arith, kind-at) in omega (arith, free-room (lt-ltb 0 (slotAt st i .kind) k′), free-count, z .free);
-        }
-
-    columns-dropped : live (slotAt st i) ≡ true → releasedIn (columnsOf S st) i ≡ columnsOf S (dropSlot st i)
+    columns-dropped : live (slotAt st i) ≡ true → releasedIn (columnsOf l st) i ≡ columnsOf l (dropSlot st i)
     unfolding releasedIn columnsOf headerOf
     columns-dropped k =
+        let S : ℕ = l .count in
         let slots : List Slot = st .slots in
         let new : Slot = released (slotAt st i) in
-        let old : getD (columnsOf S st .generation) i 0 ≡ slotAt st i .generation = column-at S (λ s. s .generation) slots i inside in
+        let old : getD (columnsOf l st .generation) i 0 ≡ slotAt st i .generation = column-at S (λ s. s .generation) slots i inside in
         let count : length slots ≡ length (set slots i new) = sym (length-set slots i new) in
         let more : length (st .free) + 1 ≡ length (st .free ++ i ∷ []) = omega (arith, length-append (st .free) (i ∷ [])) in
-        let g : set (columnsOf S st .generation) i (step (getD (columnsOf S st .generation) i 0)) ≡ columnsOf S (dropSlot st i) .generation = ap (λ (x : ℕ). set (columnsOf S st .generation) i (step x)) old ∙ column-set S (λ s. s .generation) slots i new inside in
-        let ks : set (columnsOf S st .kind) i 0 ≡ columnsOf S (dropSlot st i) .kind = column-set S (λ s. s .kind) slots i new inside in
-        let t : set (columnsOf S st .type) i 0 ≡ columnsOf S (dropSlot st i) .type = column-set S (λ s. s .type) slots i new inside in
-        let s : set (columnsOf S st .start) i 0 ≡ columnsOf S (dropSlot st i) .start = column-set S (λ s. s .start) slots i new inside in
-        let w : set (columnsOf S st .writes) i 0 ≡ columnsOf S (dropSlot st i) .writes = column-set S (λ s. s .writes) slots i new inside in
+        let g : set (columnsOf l st .generation) i (step (getD (columnsOf l st .generation) i 0)) ≡ columnsOf l (dropSlot st i) .generation = ap (λ (x : ℕ). set (columnsOf l st .generation) i (step x)) old ∙ column-set S (λ s. s .generation) slots i new inside in
+        let ks : set (columnsOf l st .kind) i 0 ≡ columnsOf l (dropSlot st i) .kind = column-set S (λ s. s .kind) slots i new inside in
+        let t : set (columnsOf l st .type) i 0 ≡ columnsOf l (dropSlot st i) .type = column-set S (λ s. s .type) slots i new inside in
+        let s : set (columnsOf l st .start) i 0 ≡ columnsOf l (dropSlot st i) .start = column-set S (λ s. s .start) slots i new inside in
+        let w : set (columnsOf l st .writes) i 0 ≡ columnsOf l (dropSlot st i) .writes = column-set S (λ s. s .writes) slots i new inside in
         let f : set (pad S (st .free)) (length (st .free)) i ≡ pad S (st .free ++ i ∷ []) = pad-push S (st .free) (length (st .free)) i refl (free-room k) in
-        λ j. columns (setFree (setSlots (setChanged (headerOf st) i) (count j)) (more j)) (g j) (ks j) (t j) (s j) (w j) (f j)
+        λ j. columns (setFree (setSlots (setChanged (headerOf st) i) (count j)) (more j)) S (g j) (ks j) (t j) (s j) (l .end) (w j) (l .pool) (f j) (l .quarantine) (l .sealed) (l .retired) (l .over)
 
--- one slot visited in the columns is one more looked at in the heap
-pub columns-visited : (S P : ℕ) (marks : List ℕ) (h : State) (n : ℕ) → Sound S P h → n < length (h .slots)
-    → visitedIn (getD marks n 0) (columnsOf S (after marks h n)) n ≡ columnsOf S (after marks h (suc n))
+-- one slot visited in the runs is one more looked at in the heap
+columns-visited : (l : Lent) (P : ℕ) (marks : List ℕ) (h : State) (n : ℕ) → Sound (l .count) P h → n < length (h .slots)
+    → visitedIn (getD marks n 0) (columnsOf l (after marks h n)) n ≡ columnsOf l (after marks h (suc n))
 unfolding visitedIn
-columns-visited S P marks h n ok less =
+columns-visited l P marks h n ok less =
     let A : State = after marks h n in
-    let sound : Sound S P A = after-sound S P marks h ok n (omega arith) in
+    let sound : Sound (l .count) P A = after-sound (l .count) P marks h ok n (omega arith) in
     let d : Dropping marks h n A = dropping marks h n (omega arith) in
     let same : slotAt A n ≡ slotAt h n = d .later n (omega arith) in
     let inside : n < length (A .slots) = omega (arith, d .count) in
-    let kind : getD (columnsOf S A .kind) n 0 ≡ slotAt h n .kind = kind-at S P A sound n inside ∙ ap (λ (s : Slot). s .kind) same in
-    let one : (b : Bool) → goes marks n (slotAt h n) ≡ b → (if b then releasedIn (columnsOf S A) n else columnsOf S A) ≡ columnsOf S (if b then dropSlot A n else A) =
-    λ b. elim b [ true ↦ λ e. columns-dropped S P A sound n inside (ap live same ∙ goes-live marks n (slotAt h n) e) | false ↦ λ e. refl ] in
-    ap (λ (k : ℕ). if (ltb 0 k && eqb (getD marks n 0) 0) then releasedIn (columnsOf S A) n else columnsOf S A) kind
+    let kind : getD (columnsOf l A .kind) n 0 ≡ slotAt h n .kind = kind-at l P A sound n inside ∙ ap (λ (s : Slot). s .kind) same in
+    let one : (b : Bool) → goes marks n (slotAt h n) ≡ b → (if b then releasedIn (columnsOf l A) n else columnsOf l A) ≡ columnsOf l (if b then dropSlot A n else A) =
+    λ b. elim b [ true ↦ λ e. columns-dropped l P A sound n inside (ap live same ∙ goes-live marks n (slotAt h n) e) | false ↦ λ e. refl ] in
+    ap (λ (k : ℕ). if isGoing k (getD marks n 0) then releasedIn (columnsOf l A) n else columnsOf l A) kind
     ∙ one (goes marks n (slotAt h n)) refl
-    ∙ ap (columnsOf S) (sym (after-next marks h n less))
+    ∙ ap (columnsOf l) (sym (after-next marks h n less))
 
 -- ---- the loop
 
-pub record Releasing (n : ℕ) (marks : List ℕ) (l : Lent) (i : ℕ) (c : Columns) : Type 0 where
-  pub few : i ≤ n
-  pub room : n ≤ slotCount l
-  pub small : n ≤ 16777216
-  pub now : c ≡ columnsOf (slotCount l) (after marks (view l) i)
-  pub generation : length (c .generation) ≡ length (l .generation)
-  pub kind : length (c .kind) ≡ length (l .kind)
-  pub type : length (c .type) ≡ length (l .type)
-  pub start : length (c .start) ≡ length (l .start)
-  pub writes : length (c .writes) ≡ length (l .writes)
-  pub free : length (c .free) ≡ length (l .free)
+abbrev pub with-pool : Lent → List ℕ → Lent
+with-pool x p = columns (x .header) (x .count) (x .generation) (x .kind) (x .type) (x .start) (x .end) (x .writes) p (x .free) (x .quarantine) (x .sealed) (x .retired) (x .over)
 
-module _ {l : Lent} {marks : List ℕ} (can : CanSweep l marks) {n : ℕ} (hn : n ≡ l .header .slots) where
-  formed : WellFormed l
+pub record Releasing (n : ℕ) (marks : List ℕ) (h₀ : Heap) (narrow₀ wide₀ pool : List ℕ) (h : Heap) (narrow wide : List ℕ) (i : ℕ) : Type 0 where
+  pub few : i ≤ n
+  pub marked : n ≤ length marks
+  pub small : n ≤ 16777216
+  pub long : length narrow ≡ length narrow₀
+  pub far : length wide ≡ length wide₀
+  pub now : cut h (length narrow₀ / 6) narrow wide [] ≡ columnsOf (with-pool (lent h₀ narrow₀ wide₀ pool) []) (after marks (view (lent h₀ narrow₀ wide₀ pool)) i)
+
+module _ (h₀ : Heap) (narrow₀ wide₀ pool marks : List ℕ) (can : CanSweep (lent h₀ narrow₀ wide₀ pool) marks) where
+  abbrev l : Lent
+  l = lent h₀ narrow₀ wide₀ pool
+
+  abbrev S : ℕ
+  S = length narrow₀ / 6
+
+  formed : WellFormed (lent h₀ narrow₀ wide₀ pool)
   formed = formed-tested l (can .formed)
 
-  facts : Known (slotCount l) (poolSize l) (view l) l
-  facts = known (slotCount l) (poolSize l) (view l) l (formed .sound) (formed .lies)
+  pub count-is : h₀ .slots ≡ length (view (lent h₀ narrow₀ wide₀ pool) .slots)
+  count-is = known (slotCount l) (poolSize l) (view l) l (formed .sound) (formed .lies) .slot-count
 
-  pub count-is : n ≡ length (view l .slots)
-  count-is = hn ∙ facts .slot-count
+  sound-at : (i : ℕ) → i ≤ h₀ .slots → Sound (length narrow₀ / 6) (length pool) (after marks (view (lent h₀ narrow₀ wide₀ pool)) i)
+  sound-at i le = after-sound S (poolSize l) marks (view l) (formed .sound) i (omega (arith, count-is))
 
-  sound-at : (i : ℕ) → i ≤ n → Sound (slotCount l) (poolSize l) (after marks (view l) i)
-  sound-at i le = after-sound (slotCount l) (poolSize l) marks (view l) (formed .sound) i (omega (arith, count-is))
-
-  releasing : {i : ℕ} {c : Columns} → i ≤ n → c ≡ columnsOf (slotCount l) (after marks (view l) i) → Releasing n marks l i c
-  releasing {i} {c} le e =
-      let S : ℕ = slotCount l in
-      let z : Sizes S c = subst (Sizes S) (sym e) (sizes S (poolSize l) (after marks (view l) i) (sound-at i le)) in
+  pub release-first : Releasing (h₀ .slots) marks h₀ narrow₀ wide₀ pool h₀ narrow₀ wide₀ 0
+  unfolding dropSlots dropped columnsOf
+  release-first =
       record {
-        few = le;
-        room = omega (arith, count-is, formed .sound .slots-fit);
+        few = omega arith;
+        marked = omega (arith, can .marked, count-is, formed .sound .slots-fit);
         small = omega (arith, count-is, formed .sound .slots-fit, formed .sound .slot-range);
-        now = e;
-        generation = z .generation;
-        kind = z .kind ∙ sym (facts .kind-size);
-        type = z .type ∙ sym (facts .type-size);
-        start = z .start ∙ sym (facts .start-size);
-        writes = z .writes ∙ sym (facts .writes-size);
-        free = z .free ∙ sym (facts .free-size);
+        long = refl;
+        far = refl;
+        now = ap (λ (x : Lent). with-pool x []) (columns-stored l (view l) (formed .lies));
       }
 
-  pub release-first : Releasing n marks l 0 (columns (l .header) (l .generation) (l .kind) (l .type) (l .start) (l .writes) (l .free))
-  unfolding dropSlots dropped
-  release-first = releasing (omega arith) (columns-stored (slotCount l) (poolSize l) (view l) l (formed .lies))
+  module _ {h : Heap} {narrow wide : List ℕ} {i : ℕ} (v : Releasing (h₀ .slots) marks h₀ narrow₀ wide₀ pool h narrow wide i) where
+    abbrev A : State
+    A = after marks (view (lent h₀ narrow₀ wide₀ pool)) i
 
-  module _ {i : ℕ} {c : Columns} (v : Releasing n marks l i c) where
-    inside-now : i < n → i < length (after marks (view l) i .slots)
-    inside-now less = omega (arith, count-is, dropping marks (view l) i (omega (arith, count-is)) .count)
-
-    pub release-can : i < n → CanVisit c i
+    pub release-can : i < h₀ .slots → CanVisit h (length narrow₀ / 6) i narrow wide
     release-can less =
-        subst (λ (x : Columns). CanVisit x i) (sym (v .now))
-        (columns-can (slotCount l) (poolSize l) (after marks (view l) i) (sound-at i (v .few)) i (inside-now less))
+        let inside : i < length (A .slots) = omega (arith, count-is, dropping marks (view l) i (omega (arith, count-is, v .few)) .count) in
+        let less′ : i < S = omega (arith, count-is, formed .sound .slots-fit) in
+        let sound : Sound S (length pool) A = sound-at i (v .few) in
+        let kind : getD narrow (S + i) 0 ≡ slotAt A i .kind =
+        sym (run-get S S narrow i less′) ∙ ap (λ (x : Lent). getD (x .kind) i 0) (v .now) ∙ kind-at (with-pool l []) (length pool) A sound i inside in
+        let count : h .free ≡ length (A .free) = ap (λ (x : Lent). x .header .free) (v .now) ∙ free-count (with-pool l []) (length pool) A sound in
+        record {
+          few = formed .sound .slot-range .1;
+          inside = less′;
+          long = omega (arith, v .long);
+          far = omega (arith, v .far, wide-room h₀ narrow₀ wide₀ pool formed);
+          room = λ k. let k′ : 0 < slotAt A i .kind = omega (arith, kind) in omega (arith, count, free-room (with-pool l []) (length pool) A sound i inside (lt-ltb 0 (slotAt A i .kind) k′));
+        }
 
-    pub release-turn : {c′ : Columns} → i < n → c′ ≡ visitedIn (getD marks i 0) c i → Releasing n marks l (i + 1) c′
-    release-turn {c′} less w =
-        releasing (omega arith)
-        (w ∙ ap (λ (x : Columns). visitedIn (getD marks i 0) x i) (v .now)
-        ∙ columns-visited (slotCount l) (poolSize l) marks (view l) i (formed .sound) (omega (arith, count-is))
-        ∙ ap (λ (k : ℕ). columnsOf (slotCount l) (after marks (view l) k)) (sym (add-one i)))
+    pub release-turn : {h′ : Heap} {narrow′ wide′ : List ℕ} → i < h₀ .slots → length narrow′ ≡ length narrow → length wide′ ≡ length wide
+        → cut h′ (length narrow₀ / 6) narrow′ wide′ [] ≡ visitedIn (getD marks i 0) (cut h (length narrow₀ / 6) narrow wide []) i
+        → Releasing (h₀ .slots) marks h₀ narrow₀ wide₀ pool h′ narrow′ wide′ (i + 1)
+    release-turn {h′} {narrow′} {wide′} less e f w =
+        record {
+          few = omega arith;
+          marked = v .marked;
+          small = v .small;
+          long = e ∙ v .long;
+          far = f ∙ v .far;
+          now =
+              w ∙ ap (λ (x : Lent). visitedIn (getD marks i 0) x i) (v .now)
+              ∙ columns-visited (with-pool l []) (length pool) marks (view l) i (formed .sound) (omega (arith, count-is))
+              ∙ ap (λ (k : ℕ). columnsOf (with-pool l []) (after marks (view l) k)) (sym (add-one i));
+        }
 
-    pub release-last : n ≤ i → c ≡ columnsOf (slotCount l) (allDropped (view l) marks)
+    pub release-last : h₀ .slots ≤ i → cut h (length narrow₀ / 6) narrow wide pool ≡ columnsOf (lent h₀ narrow₀ wide₀ pool) (allDropped (view (lent h₀ narrow₀ wide₀ pool)) marks)
+    unfolding columnsOf
     release-last more =
         let e : i ≡ length (view l .slots) = omega (arith, v .few, count-is) in
-        v .now ∙ ap (λ (k : ℕ). columnsOf (slotCount l) (after marks (view l) k)) e ∙ ap (columnsOf (slotCount l)) (after-all marks (view l))
+        ap (λ (x : Lent). with-pool x pool) (v .now)
+        ∙ ap (λ (k : ℕ). columnsOf l (after marks (view l) k)) e
+        ∙ ap (columnsOf l) (after-all marks (view l))

@@ -17,7 +17,7 @@ use Rattle.heap.proofs.Packing.{length-pad, length-ends, start-of, end-of, star
 use Rattle.heap.proofs.Splicing.{flat-mono}
 use Rattle.heap.proofs.Storing.{column-at}
 use Rattle.heap.proofs.Changing.{column-size}
-use Rattle.sweep.specs.Swept.{liveSize}
+use Rattle.collection.specs.Swept.{liveSize}
 use Rattle.sweep.specs.Columns.{oneSize, sizesIn, CanSize}
 
 -- ---- one slot

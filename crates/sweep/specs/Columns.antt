@@ -1,8 +1,8 @@
 -- What the inner functions ask and ensure of the columns.
 use mathlib.Core.Path.{_≡_}
-use mathlib.Core.Bool.{true, false, _&&_}
+use mathlib.Core.Bool.{Bool, true, not, _&&_}
 use mathlib.Core.List.{List, [], _∷_}
-use Prim.Native.Nat.{ℕ, zero, suc, _+_, _-_, _<_, _≤_}
+use Prim.Native.Nat.{ℕ, zero, suc, _+_, _*_, _-_, _<_, _≤_}
 use lib.ListN.{length, getD, set, drop}
 use lib.Dec.{eqb, ltb}
 use Rattle.word.specs.Put.{put}
@@ -11,7 +11,7 @@ use Rattle.heap.specs.Packing.{pad, flat, ends, startOf}
 use Rattle.heap.specs.Columns.{datas, Packed}
 use Rattle.heap.specs.State.{State}
 use Rattle.heap.specs.Calls.{step}
-use Rattle.heap.specs.Lent.{Lent, column, headerOf, slotCount}
+use Rattle.heap.specs.Lent.{Lent, columns, column, headerOf, slotCount}
 use Rattle.heap.specs.Header.{setFree, setChanged}
 use Rattle.heap.specs.WellFormed.{wellFormed}
 use Rattle.heap.specs.declared.Heap.{Heap}
@@ -47,53 +47,40 @@ pub record Settled (k from e to : ℕ) (pool : List ℕ) (r : ℕ) (pool′ : Li
 
 -- ---- slots released, their data still in the pool
 
--- the header and the columns that a release changes
-pub record Columns : Type 0 where
-  pub header : Heap
-  pub generation : List ℕ
-  pub kind : List ℕ
-  pub type : List ℕ
-  pub start : List ℕ
-  pub writes : List ℕ
-  pub free : List ℕ
-
-abbrev pub columns : Heap → (generation kind type start writes free : List ℕ) → Columns
-columns h g k t s w f = record { header = h; generation = g; kind = k; type = t; start = s; writes = w; free = f }
-
--- as a heap has them that lies in S slots
-unfoldable pub columnsOf : (S : ℕ) → State → Columns
-columnsOf S h =
-    columns (headerOf h) (column S (λ s. s .generation) (h .slots)) (column S (λ s. s .kind) (h .slots)) (column S (λ s. s .type) (h .slots))
-    (column S (λ s. s .start) (h .slots)) (column S (λ s. s .writes) (h .slots)) (pad S (h .free))
+-- l with the numbers and the free list of the heap st, the data still where it lies in l
+unfoldable pub columnsOf : Lent → State → Lent
+columnsOf l st =
+    columns (headerOf st) (l .count) (column (l .count) (λ s. s .generation) (st .slots)) (column (l .count) (λ s. s .kind) (st .slots)) (column (l .count) (λ s. s .type) (st .slots))
+    (column (l .count) (λ s. s .start) (st .slots)) (l .end) (column (l .count) (λ s. s .writes) (st .slots)) (l .pool) (pad (l .count) (st .free)) (l .quarantine) (l .sealed) (l .retired) (l .over)
 
 -- slot i dead, one generation on, logged and free
-unfoldable pub releasedIn : Columns → ℕ → Columns
-releasedIn c i =
-    columns (setFree (setChanged (c .header) i) (c .header .free + 1)) (set (c .generation) i (step (getD (c .generation) i 0))) (set (c .kind) i 0) (set (c .type) i 0)
-    (set (c .start) i 0) (set (c .writes) i 0) (set (c .free) (c .header .free) i)
+unfoldable pub releasedIn : Lent → ℕ → Lent
+releasedIn l i =
+    columns (setFree (setChanged (l .header) i) (l .header .free + 1)) (l .count) (set (l .generation) i (step (getD (l .generation) i 0))) (set (l .kind) i 0) (set (l .type) i 0)
+    (set (l .start) i 0) (l .end) (set (l .writes) i 0) (l .pool) (set (l .free) (l .header .free) i) (l .quarantine) (l .sealed) (l .retired) (l .over)
 
--- unless it is dead or marked
-unfoldable pub visitedIn : (mark : ℕ) → Columns → ℕ → Columns
-visitedIn m c i = if ltb 0 (getD (c .kind) i 0) && eqb m 0 then releasedIn c i else c
+-- a slot of this kind goes if it is live and its mark is 0
+abbrev pub isGoing : (kind mark : ℕ) → Bool
+isGoing k m = ltb 0 k && eqb m 0
 
-pub record CanRelease (c : Columns) (i : ℕ) : Type 0 where
-  pub few : i < 16777216
-  pub generation : i < length (c .generation)
-  pub kind : i < length (c .kind)
-  pub type : i < length (c .type)
-  pub start : i < length (c .start)
-  pub writes : i < length (c .writes)
-  pub room : c .header .free < length (c .free)
+-- slot i released, unless it is dead or marked
+unfoldable pub visitedIn : (mark : ℕ) → Lent → ℕ → Lent
+visitedIn m l i = if isGoing (getD (l .kind) i 0) m then releasedIn l i else l
+
+pub record CanRelease (h : Heap) (S i : ℕ) (narrow wide : List ℕ) : Type 0 where
+  pub few : S ≤ 16777216
+  pub inside : i < S
+  pub long : 6 * S ≤ length narrow
+  pub far : 4 * S ≤ length wide
+  pub room : h .free < S
 
 -- a live slot has room in the free list
-pub record CanVisit (c : Columns) (i : ℕ) : Type 0 where
-  pub few : i < 16777216
-  pub generation : i < length (c .generation)
-  pub kind : i < length (c .kind)
-  pub type : i < length (c .type)
-  pub start : i < length (c .start)
-  pub writes : i < length (c .writes)
-  pub room : 0 < getD (c .kind) i 0 → c .header .free < length (c .free)
+pub record CanVisit (h : Heap) (S i : ℕ) (narrow wide : List ℕ) : Type 0 where
+  pub few : S ≤ 16777216
+  pub inside : i < S
+  pub long : 6 * S ≤ length narrow
+  pub far : 4 * S ≤ length wide
+  pub room : 0 < getD narrow (S + i) 0 → h .free < S
 
 -- ---- the survivors counted
 
@@ -113,9 +100,10 @@ pub record CanSize (n : ℕ) (ks es : List ℕ) : Type 0 where
   pub rising : (i : ℕ) → i < n → startOf es i ≤ getD es i 0
   pub small : (i : ℕ) → i ≤ n → startOf es i ≤ 1073741824
 
--- ---- nothing goes: each of the first n slots is dead or marked
-abbrev pub Stays : ℕ → (kinds marks : List ℕ) → Type 0
-Stays n ks ms = (i : ℕ) → i < n → (ltb 0 (getD ks i 0) && eqb (getD ms i 0) 0) ≡ false
+-- ---- each of the first n slots is dead or marked
+unfoldable pub allStay : ℕ → (kinds marks : List ℕ) → Bool
+allStay zero ks ms = true
+allStay (suc i) ks ms = allStay i ks ms && not (isGoing (getD ks i 0) (getD ms i 0))
 
 -- ---- the whole: a well formed heap, and a mark for each lent slot
 pub record CanSweep (l : Lent) (marks : List ℕ) : Type 0 where

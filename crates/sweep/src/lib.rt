@@ -1,19 +1,20 @@
-// The sweep of a collection, over lent columns: what is not marked is released, the pool is packed again in one pass, the survivors are counted and the
+// The sweep of a collection, over lent memory: what is not marked is released, the pool is packed again in one pass, the survivors are counted and the
 // quarantine is recycled. Linear in the slots and the pool, `recycle` apart, which looks each quarantined slot up among the pins by halves.
 ghost use mathlib.Core.Path.{_≡_};
-ghost use mathlib.Core.Bool.{true, false, _&&_};
-ghost use Prim.Native.Nat.{_≤_};
-ghost use lib.Dec.{eqb, ltb};
+ghost use mathlib.Core.Bool.{true};
+ghost use mathlib.Core.List.{[]};
+ghost use Prim.Native.Nat.{_≤_, _/_};
 ghost use lib.ListN.{length};
-ghost use Rattle.heap.specs.Lent.{lent, view};
+ghost use Rattle.heap.specs.State.{bit};
+ghost use Rattle.heap.specs.Lent.{lent, cut, view};
 ghost use Rattle.heap.specs.Done.{Leaves};
-ghost use Rattle.heap_recycle.specs.Pins.{rising};
-ghost use Rattle.sweep.specs.Swept.{allDropped, dropUnmarked, swept};
-ghost use Rattle.sweep.specs.Columns.{CanCompact, Compacted, CanSettle, Settled, columns, columnsOf, releasedIn, visitedIn, CanRelease, CanVisit, CanSize, sizesIn, oneSize, Stays, CanSweep};
+ghost use Rattle.heap_calls.specs.Pins.{rising};
+ghost use Rattle.collection.specs.Swept.{allDropped, dropUnmarked, swept};
+ghost use Rattle.sweep.specs.Columns.{CanCompact, Compacted, CanSettle, Settled, columnsOf, releasedIn, visitedIn, CanRelease, CanVisit, CanSize, sizesIn, oneSize, isGoing, allStay, CanSweep};
 use heap::Heap;
 
 // The data from `from` to `e` comes to stand from `to` on, unless the kind `k` is 0; where the next goes.
-fn settle(k: u8, from: usize, e: usize, to: usize, pool: &mut [u8]) -> usize
+fn settle(k: u32, from: usize, e: usize, to: usize, pool: &mut [u8]) -> usize
     requires { ⌜ CanSettle from e to (now pool) ⌝ }
     ensures { λ r. ⌜ Settled k from e to (now (pool .entry)) r (now (pool .exit)) ⌝ }
 {
@@ -25,7 +26,7 @@ fn settle(k: u8, from: usize, e: usize, to: usize, pool: &mut [u8]) -> usize
 }
 
 // The data of the first `n` slots packed again without those whose kind is 0, and zeros after it: one pass.
-fn compact(n: usize, kind: &[u8], end: &mut [usize], pool: &mut [u8])
+fn compact(n: usize, kind: &[u32], end: &mut [u64], pool: &mut [u8])
     requires { ⌜ CanCompact n (now kind) (now end) (now pool) ⌝ }
     ensures { λ _. ⌜ Compacted n (now (kind .entry)) (now (end .entry)) (now (pool .entry)) (now (end .exit)) (now (pool .exit)) ⌝ }
 {
@@ -33,95 +34,72 @@ fn compact(n: usize, kind: &[u8], end: &mut [usize], pool: &mut [u8])
     let mut from = 0;
     let mut to = 0;
     while i < n {
-        let e = end[i];
+        let e = end[i] as usize;
         to = settle(kind[i], from, e, to, pool);
-        end[i] = to;
+        end[i] = to as u64;
         from = e;
         i += 1;
     }
     memory::fill_u8(pool, to, from, 0);
 }
 
-// Slot `i` is dead, one generation on, logged and free. Its data stays in the pool for now.
-fn release(
-    heap: Heap,
-    i: usize,
-    generation: &mut [u32],
-    kind: &mut [u8],
-    ty: &mut [u32],
-    start: &mut [usize],
-    writes: &mut [u32],
-    free: &mut [u32],
-) -> Heap
-    requires { ⌜ CanRelease (columns heap (now generation) (now kind) (now ty) (now start) (now writes) (now free)) i ⌝ }
-    ensures { λ r. ⌜ columns r (now (generation .exit)) (now (kind .exit)) (now (ty .exit)) (now (start .exit)) (now (writes .exit)) (now (free .exit)) ≡ releasedIn (columns heap (now (generation .entry)) (now (kind .entry)) (now (ty .entry)) (now (start .entry)) (now (writes .entry)) (now (free .entry))) i ⌝ }
+// Slot `i` of `s` is dead, one generation on, logged and free. Its data stays in the pool for now.
+fn release(heap: Heap, narrow: &mut [u32], wide: &mut [u64], s: usize, i: usize) -> Heap
+    requires { ⌜ CanRelease heap s i (now narrow) (now wide) ⌝ }
+    ensures { λ r. ⌜ cut r s (now (narrow .exit)) (now (wide .exit)) [] ≡ releasedIn (cut heap s (now (narrow .entry)) (now (wide .entry)) []) i ⌝ }
 {
     let f = heap.free;
     let index = i as u32;
-    generation[i] = word::next_generation(generation[i]);
-    kind[i] = 0;
-    ty[i] = 0;
-    start[i] = 0;
-    writes[i] = 0;
-    free[f] = index;
+    let g = word::next_generation(narrow[i]);
+    narrow[i] = g;
+    narrow[s + i] = 0;
+    narrow[2 * s + i] = 0;
+    narrow[3 * s + f] = index;
+    wide[i] = 0;
+    wide[2 * s + i] = 0;
     heap.changed(index).with_free(f + 1)
 }
 
-// Slot `i` goes if it is live and its mark `m` is 0.
-fn visit(
-    heap: Heap,
-    i: usize,
-    m: u8,
-    generation: &mut [u32],
-    kind: &mut [u8],
-    ty: &mut [u32],
-    start: &mut [usize],
-    writes: &mut [u32],
-    free: &mut [u32],
-) -> Heap
-    requires { ⌜ CanVisit (columns heap (now generation) (now kind) (now ty) (now start) (now writes) (now free)) i ⌝ }
-    ensures { λ r. ⌜ columns r (now (generation .exit)) (now (kind .exit)) (now (ty .exit)) (now (start .exit)) (now (writes .exit)) (now (free .exit)) ≡ visitedIn m (columns heap (now (generation .entry)) (now (kind .entry)) (now (ty .entry)) (now (start .entry)) (now (writes .entry)) (now (free .entry))) i ⌝ }
+// Slot `i` of `s` goes if it is live and its mark `m` is 0.
+fn visit(heap: Heap, narrow: &mut [u32], wide: &mut [u64], s: usize, i: usize, m: u8) -> Heap
+    requires { ⌜ CanVisit heap s i (now narrow) (now wide) ⌝ }
+    ensures { λ r. ⌜ cut r s (now (narrow .exit)) (now (wide .exit)) [] ≡ visitedIn m (cut heap s (now (narrow .entry)) (now (wide .entry)) []) i ⌝ }
 {
-    let k = kind[i];
-    if k == 0 {
+    if narrow[s + i] == 0 {
         return heap;
     }
     if m != 0 {
         return heap;
     }
-    release(heap, i, generation, kind, ty, start, writes, free)
+    release(heap, narrow, wide, s, i)
 }
 
 // Every live slot that is not marked is released, in slot order; its data stays in the pool for now.
 fn release_unmarked(
     heap: Heap,
-    generation: &mut [u32],
-    kind: &mut [u8],
-    ty: &mut [u32],
-    start: &mut [usize],
-    end: &[usize],
-    writes: &mut [u32],
+    narrow: &mut [u32],
+    wide: &mut [u64],
     pool: &[u8],
-    free: &mut [u32],
-    quarantine: &[u32],
-    sealed: &[u64],
     marks: &[u8],
 ) -> Heap
-    requires { ⌜ CanSweep (lent heap (now generation) (now kind) (now ty) (now start) (now end) (now writes) (now pool) (now free) (now quarantine) (now sealed)) (now marks) ⌝ }
-    ensures { λ r. ⌜ columns r (now (generation .exit)) (now (kind .exit)) (now (ty .exit)) (now (start .exit)) (now (writes .exit)) (now (free .exit)) ≡ columnsOf (length (now (generation .entry))) (allDropped (view (lent heap (now (generation .entry)) (now (kind .entry)) (now (ty .entry)) (now (start .entry)) (now (end .entry)) (now (writes .entry)) (now (pool .entry)) (now (free .entry)) (now (quarantine .entry)) (now (sealed .entry)))) (now (marks .entry))) ⌝ }
+    requires { ⌜ CanSweep (lent heap (now narrow) (now wide) (now pool)) (now marks) ⌝ }
+    ensures { λ r. ⌜ cut r (length (now (narrow .entry)) / 6) (now (narrow .exit)) (now (wide .exit)) (now (pool .entry))
+        ≡ columnsOf (lent heap (now (narrow .entry)) (now (wide .entry)) (now (pool .entry)))
+        (allDropped (view (lent heap (now (narrow .entry)) (now (wide .entry)) (now (pool .entry)))) (now (marks .entry))) ⌝ }
 {
     let n = heap.slots;
+    let s = narrow.len() / 6;
     let mut h = heap;
     let mut i = 0;
     while i < n {
-        h = visit(h, i, marks[i], generation, kind, ty, start, writes, free);
+        h = visit(h, narrow, wide, s, i, marks[i]);
         i += 1;
     }
     h
 }
 
 // What a slot counts whose data lies from `from` to `e`.
-fn size_one(k: u8, from: usize, e: usize) -> u64
+fn size_one(k: u32, from: usize, e: usize) -> u64
     requires { ⌜ from ≤ e ⌝ }
     requires { ⌜ e ≤ 1073741824 ⌝ }
     ensures { λ r. ⌜ r ≡ oneSize k from e ⌝ }
@@ -133,7 +111,7 @@ fn size_one(k: u8, from: usize, e: usize) -> u64
 }
 
 // Whole length and 32 for each live slot.
-fn live_size(n: usize, kind: &[u8], end: &[usize]) -> u64
+fn live_size(n: usize, kind: &[u32], end: &[u64]) -> u64
     requires { ⌜ CanSize n (now kind) (now end) ⌝ }
     ensures { λ r. ⌜ r ≡ sizesIn n (now (kind .entry)) (now (end .entry)) ⌝ }
 {
@@ -141,7 +119,7 @@ fn live_size(n: usize, kind: &[u8], end: &[usize]) -> u64
     let mut from = 0;
     let mut sum: u64 = 0;
     while i < n {
-        let e = end[i];
+        let e = end[i] as usize;
         sum += size_one(kind[i], from, e);
         from = e;
         i += 1;
@@ -150,8 +128,8 @@ fn live_size(n: usize, kind: &[u8], end: &[usize]) -> u64
 }
 
 // 1 for a live slot of kind `k` whose mark `m` is 0: it goes. 0 for any other.
-fn going(k: u8, m: u8) -> u8
-    ensures { λ r. ⌜ (r ≡ 0 → (ltb 0 k && eqb m 0) ≡ false) ⌝ }
+fn going(k: u32, m: u8) -> u8
+    ensures { λ r. ⌜ r ≡ bit (isGoing k m) ⌝ }
 {
     if k == 0 {
         return 0;
@@ -163,9 +141,9 @@ fn going(k: u8, m: u8) -> u8
 }
 
 // Is each of the first `n` slots dead or marked? All are looked at, so that the compiler takes many at a time.
-fn all_stay(n: usize, kind: &[u8], marks: &[u8]) -> bool
+fn all_stay(n: usize, kind: &[u32], marks: &[u8]) -> bool
     requires { ⌜ (n ≤ length (now kind)) × (n ≤ length (now marks)) ⌝ }
-    ensures { λ r. ⌜ (r ≡ true → Stays n (now (kind .entry)) (now (marks .entry))) ⌝ }
+    ensures { λ r. ⌜ r ≡ allStay n (now (kind .entry)) (now (marks .entry)) ⌝ }
 {
     let mut i = 0;
     let mut seen: u8 = 0;
@@ -179,126 +157,60 @@ fn all_stay(n: usize, kind: &[u8], marks: &[u8]) -> bool
 // What is not marked is dropped, and what is left is counted, where something goes.
 fn drop_some(
     heap: Heap,
-    generation: &mut [u32],
-    kind: &mut [u8],
-    ty: &mut [u32],
-    start: &mut [usize],
-    end: &mut [usize],
-    writes: &mut [u32],
+    narrow: &mut [u32],
+    wide: &mut [u64],
     pool: &mut [u8],
-    free: &mut [u32],
-    quarantine: &[u32],
-    sealed: &[u64],
     marks: &[u8],
 ) -> Heap
-    requires { ⌜ CanSweep (lent heap (now generation) (now kind) (now ty) (now start) (now end) (now writes) (now pool) (now free) (now quarantine) (now sealed)) (now marks) ⌝ }
-    ensures { λ r. ⌜ Leaves (lent heap (now (generation .entry)) (now (kind .entry)) (now (ty .entry)) (now (start .entry)) (now (end .entry)) (now (writes .entry)) (now (pool .entry)) (now (free .entry)) (now (quarantine .entry)) (now (sealed .entry))) (lent r (now (generation .exit)) (now (kind .exit)) (now (ty .exit)) (now (start .exit)) (now (end .exit)) (now (writes .exit)) (now (pool .exit)) (now (free .exit)) (now (quarantine .entry)) (now (sealed .entry))) (dropUnmarked (view (lent heap (now (generation .entry)) (now (kind .entry)) (now (ty .entry)) (now (start .entry)) (now (end .entry)) (now (writes .entry)) (now (pool .entry)) (now (free .entry)) (now (quarantine .entry)) (now (sealed .entry)))) (now (marks .entry))) ⌝ }
+    requires { ⌜ CanSweep (lent heap (now narrow) (now wide) (now pool)) (now marks) ⌝ }
+    ensures { λ r. ⌜ Leaves (lent heap (now (narrow .entry)) (now (wide .entry)) (now (pool .entry))) (lent r (now (narrow .exit)) (now (wide .exit)) (now (pool .exit)))
+        (dropUnmarked (view (lent heap (now (narrow .entry)) (now (wide .entry)) (now (pool .entry)))) (now (marks .entry))) ⌝ }
 {
     let n = heap.slots;
-    let h = release_unmarked(
-        heap,
-        generation,
-        kind,
-        ty,
-        start,
-        end,
-        writes,
-        pool,
-        free,
-        quarantine,
-        sealed,
-        marks,
-    );
-    compact(n, kind, end, pool);
-    let total = live_size(n, kind, end);
+    let s = narrow.len() / 6;
+    let two = 2 * s;
+    let h = release_unmarked(heap, narrow, wide, pool, marks);
+    compact(n, &narrow[s..two], &mut wide[s..two], pool);
+    let total = live_size(n, &narrow[s..two], &wide[s..two]);
     h.with_since(0).with_live(total)
 }
 
-// The sweep, up to the recycling of the quarantine: what is not marked is dropped, and what is left is counted. Where nothing goes, no column and no byte moves.
+// The sweep, up to the recycling of the quarantine: what is not marked is dropped, and what is left is counted. Where nothing goes, no entry and no byte moves.
 fn drop_unmarked(
     heap: Heap,
-    generation: &mut [u32],
-    kind: &mut [u8],
-    ty: &mut [u32],
-    start: &mut [usize],
-    end: &mut [usize],
-    writes: &mut [u32],
+    narrow: &mut [u32],
+    wide: &mut [u64],
     pool: &mut [u8],
-    free: &mut [u32],
-    quarantine: &[u32],
-    sealed: &[u64],
     marks: &[u8],
 ) -> Heap
-    requires { ⌜ CanSweep (lent heap (now generation) (now kind) (now ty) (now start) (now end) (now writes) (now pool) (now free) (now quarantine) (now sealed)) (now marks) ⌝ }
-    ensures { λ r. ⌜ Leaves (lent heap (now (generation .entry)) (now (kind .entry)) (now (ty .entry)) (now (start .entry)) (now (end .entry)) (now (writes .entry)) (now (pool .entry)) (now (free .entry)) (now (quarantine .entry)) (now (sealed .entry))) (lent r (now (generation .exit)) (now (kind .exit)) (now (ty .exit)) (now (start .exit)) (now (end .exit)) (now (writes .exit)) (now (pool .exit)) (now (free .exit)) (now (quarantine .entry)) (now (sealed .entry))) (dropUnmarked (view (lent heap (now (generation .entry)) (now (kind .entry)) (now (ty .entry)) (now (start .entry)) (now (end .entry)) (now (writes .entry)) (now (pool .entry)) (now (free .entry)) (now (quarantine .entry)) (now (sealed .entry)))) (now (marks .entry))) ⌝ }
+    requires { ⌜ CanSweep (lent heap (now narrow) (now wide) (now pool)) (now marks) ⌝ }
+    ensures { λ r. ⌜ Leaves (lent heap (now (narrow .entry)) (now (wide .entry)) (now (pool .entry))) (lent r (now (narrow .exit)) (now (wide .exit)) (now (pool .exit)))
+        (dropUnmarked (view (lent heap (now (narrow .entry)) (now (wide .entry)) (now (pool .entry)))) (now (marks .entry))) ⌝ }
 {
     let n = heap.slots;
-    if all_stay(n, kind, marks) {
-        let total = live_size(n, kind, end);
+    let s = narrow.len() / 6;
+    let two = 2 * s;
+    if all_stay(n, &narrow[s..two], marks) {
+        let total = live_size(n, &narrow[s..two], &wide[s..two]);
         return heap.with_since(0).with_live(total);
     }
-    drop_some(
-        heap,
-        generation,
-        kind,
-        ty,
-        start,
-        end,
-        writes,
-        pool,
-        free,
-        quarantine,
-        sealed,
-        marks,
-    )
+    drop_some(heap, narrow, wide, pool, marks)
 }
 
 // The sweep of a collection: what is not marked is dropped, what is left is counted, and the quarantine is recycled.
 pub fn sweep(
     heap: Heap,
-    generation: &mut [u32],
-    kind: &mut [u8],
-    ty: &mut [u32],
-    start: &mut [usize],
-    end: &mut [usize],
-    writes: &mut [u32],
+    narrow: &mut [u32],
+    wide: &mut [u64],
     pool: &mut [u8],
-    free: &mut [u32],
-    quarantine: &mut [u32],
-    sealed: &[u64],
     marks: &[u8],
     pins: &[u32],
 ) -> Heap
-    requires { ⌜ CanSweep (lent heap (now generation) (now kind) (now ty) (now start) (now end) (now writes) (now pool) (now free) (now quarantine) (now sealed)) (now marks) ⌝ }
+    requires { ⌜ CanSweep (lent heap (now narrow) (now wide) (now pool)) (now marks) ⌝ }
     requires { ⌜ rising (now pins) ≡ true ⌝ }
-    ensures { λ r. ⌜ Leaves (lent heap (now (generation .entry)) (now (kind .entry)) (now (ty .entry)) (now (start .entry)) (now (end .entry)) (now (writes .entry)) (now (pool .entry)) (now (free .entry)) (now (quarantine .entry)) (now (sealed .entry))) (lent r (now (generation .exit)) (now (kind .exit)) (now (ty .exit)) (now (start .exit)) (now (end .exit)) (now (writes .exit)) (now (pool .exit)) (now (free .exit)) (now (quarantine .exit)) (now (sealed .entry))) (swept (view (lent heap (now (generation .entry)) (now (kind .entry)) (now (ty .entry)) (now (start .entry)) (now (end .entry)) (now (writes .entry)) (now (pool .entry)) (now (free .entry)) (now (quarantine .entry)) (now (sealed .entry)))) (now (marks .entry)) (now (pins .entry))) ⌝ }
+    ensures { λ r. ⌜ Leaves (lent heap (now (narrow .entry)) (now (wide .entry)) (now (pool .entry))) (lent r (now (narrow .exit)) (now (wide .exit)) (now (pool .exit)))
+        (swept (view (lent heap (now (narrow .entry)) (now (wide .entry)) (now (pool .entry)))) (now (marks .entry)) (now (pins .entry))) ⌝ }
 {
-    let h = drop_unmarked(
-        heap,
-        generation,
-        kind,
-        ty,
-        start,
-        end,
-        writes,
-        pool,
-        free,
-        quarantine,
-        sealed,
-        marks,
-    );
-    heap_recycle::recycle(
-        h,
-        generation,
-        kind,
-        ty,
-        start,
-        end,
-        writes,
-        pool,
-        free,
-        quarantine,
-        sealed,
-        pins,
-    )
+    let h = drop_unmarked(heap, narrow, wide, pool, marks);
+    heap_calls::recycle::recycle(h, narrow, wide, pool, pins)
 }

@@ -129,10 +129,6 @@ scan-first : List ℕ → ℕ × List ℕ
 scan-first [] = (0, [])
 scan-first (b ∷ t) = scan (b - 48) t
 
-scan-first-append : (b : ℕ) (t u : List ℕ) → scan-first ((b ∷ t) ++ u) ≡ scan (b - 48) (t ++ u)
-unfolding scan-first
-scan-first-append b t u = refl
-
 -- scanning what was printed goes on after it
 scan-forth : (most n : ℕ) (t : List ℕ) → n < most → 1 ≤ n → scan-first (decimal n ++ t) ≡ scan n t
 unfolding scan-first

@@ -15,6 +15,7 @@ use types.Run.{OneOf, miss}
 use denote.Enum.Declared.{tagOf}
 use Rattle.word.specs.Choice.{if_then_else_}
 use Rattle.word.specs.Result.{Result, ok, refused}
+use Rattle.word.specs.Run.{run}
 use Rattle.handle.specs.Handle.{resolveBy, told as resolved}
 use Rattle.handle.specs.Columns.{liveIn}
 use Rattle.handle.specs.declared.Resolved.{Resolved}
@@ -68,8 +69,8 @@ module _ (ms to : List ℕ) (n h : ℕ) (R : ℕ → Result ℕ) (k : Sink) wher
   unfolding emitted emittedBy
   list-full e l = rw (e, le-ltb n (length to) l) refl
 
-module _ (ms to : List ℕ) (n h tag slots : ℕ) (gs ks : List ℕ) (k : Sink) (e : k ≡ Work) (x : Resolved) (ex : resolved x ≡ resolveBy tag (liveIn slots ks) (λ i. getD gs i 0) h) where
-  work-by : emitted (into k (resolveIn tag slots gs ks)) (rawOf ms to n) h ≡ queuedIf (rawOf ms to n) (resolved x)
+module _ (ms to : List ℕ) (n h tag slots c : ℕ) (narrow : List ℕ) (k : Sink) (e : k ≡ Work) (x : Resolved) (ex : resolved x ≡ resolveBy tag (liveIn slots (run c c narrow)) (λ i. getD (run c 0 narrow) i 0) h) where
+  work-by : emitted (into k (resolveIn tag slots c narrow)) (rawOf ms to n) h ≡ queuedIf (rawOf ms to n) (resolved x)
   unfolding emitted emittedBy resolveIn
   work-by = rw (e, ← ex) refl
 
@@ -79,10 +80,10 @@ module _ (ms to : List ℕ) (n h tag slots : ℕ) (gs ks : List ℕ) (k : Sink) 
   unresolved Stale o = refl
   unresolved (At i) o = absurd (miss (0 ∷ 1 ∷ 2 ∷ []) 3 tt o)
 
-  pub work-none : OneOf (0 ∷ 1 ∷ 2 ∷ []) (tagOf resolved-type x) → rawOf ms to n ≡ emitted (into k (resolveIn tag slots gs ks)) (rawOf ms to n) h
+  pub work-none : OneOf (0 ∷ 1 ∷ 2 ∷ []) (tagOf resolved-type x) → rawOf ms to n ≡ emitted (into k (resolveIn tag slots c narrow)) (rawOf ms to n) h
   work-none o = sym (work-by ∙ unresolved x o)
 
-  pub work-at : (i : ℕ) → x ≡ At i → (t : Raw) → t ≡ queued (rawOf ms to n) i → t ≡ emitted (into k (resolveIn tag slots gs ks)) (rawOf ms to n) h
+  pub work-at : (i : ℕ) → x ≡ At i → (t : Raw) → t ≡ queued (rawOf ms to n) i → t ≡ emitted (into k (resolveIn tag slots c narrow)) (rawOf ms to n) h
   work-at i o t q = q ∙ sym (work-by ∙ ap (λ (y : Resolved). queuedIf (rawOf ms to n) (resolved y)) o)
 
 -- ---- turns

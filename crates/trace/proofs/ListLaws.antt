@@ -13,12 +13,14 @@ use native.Mathlib.Omega.{arith}
 use Rattle.word.specs.Put.{put}
 use Rattle.word.specs.Result.{Result, ok, refused}
 use Rattle.word.proofs.PutLaws.{put-all}
+use Rattle.refusal.specs.declared.Answer.{Answer as Numbers}
+use Rattle.refusal.specs.declared.Reply.the-variants.{Is, Not}
+use Rattle.refusal.specs.declared.Refusal.the-variants.{Untraceable as Failed, ShortList}
 use Rattle.trace.specs.Emit.{Raw, rawOf, into, emitted, emitAll, emitting, told}
 use Rattle.trace.specs.Listing.{listing, Lists}
 use Rattle.trace.specs.declared.Sink.the-variants.{Check, List as ToList}
 use Rattle.trace.specs.declared.Answer.{Answer}
 use Rattle.trace.specs.declared.Answer.the-variants.{Traced, Untraceable}
-use Rattle.trace.specs.declared.Listed.the-variants.{Wrote, Failed, Short}
 use Rattle.trace.proofs.Emits.{check-room, check-full, list-room, ok-inj, told-traced, told-untraceable}
 
 more : (a b : ℕ) → a + 1 + b ≡ a + suc b
@@ -82,13 +84,16 @@ module _ (R : ℕ → Result ℕ) (ms : List ℕ) where
 
 -- ---- the answers
 
+abbrev counted : ℕ → Numbers
+counted n = record { number = 0; first = n; second = 0 }
+
 module _ (R : ℕ → Result ℕ) (ms u out : List ℕ) where
-  failed-by : (o : Option (List ℕ)) → refused 13 ≡ emitting (into (Check (length out)) R) (rawOf ms u 0) o → Lists (listing o (length out)) Failed out out
+  failed-by : (o : Option (List ℕ)) → refused 13 ≡ emitting (into (Check (length out)) R) (rawOf ms u 0) o → Lists (listing o (length out)) (Not Failed) out out
   unfolding emitting listing
   failed-by none e = record { answer = refl; written = refl }
   failed-by (some ws) e = let x : _≡_ {A = ℕ} 0 1 = cc in absurd (omega arith)
 
-  short-by : (ms′ u′ : List ℕ) (n : ℕ) (o : Option (List ℕ)) → ok (rawOf ms′ u′ n) ≡ emitting (into (Check (length out)) R) (rawOf ms u 0) o → length out < n → Lists (listing o (length out)) Short out out
+  short-by : (ms′ u′ : List ℕ) (n : ℕ) (o : Option (List ℕ)) → ok (rawOf ms′ u′ n) ≡ emitting (into (Check (length out)) R) (rawOf ms u 0) o → length out < n → Lists (listing o (length out)) (Not ShortList) out out
   unfolding emitting listing
   short-by ms′ u′ n none e l = let x : _≡_ {A = ℕ} 0 1 = cc in absurd (omega arith)
   short-by ms′ u′ n (some ws) e l =
@@ -96,7 +101,7 @@ module _ (R : ℕ → Result ℕ) (ms u out : List ℕ) where
       record { answer = rw (lt-leb (length ws) (length out) g) refl; written = rw (lt-leb (length ws) (length out) g) refl }
 
   module _ (Q : ℕ → Result ℕ) (ps : List ℕ) where
-    wrote-by : (ms′ u′ : List ℕ) (n : ℕ) (o : Option (List ℕ)) → length out < 2 ^ 64 - 1 → ok (rawOf ms′ u′ n) ≡ emitting (into (Check (length out)) R) (rawOf ms u 0) o → n ≤ length out → (r : Answer) (ps′ out′ : List ℕ) → told r ps′ out′ ≡ emitting (into ToList Q) (rawOf ps out 0) o → Lists (listing o (length out)) (Wrote n) out out′
+    wrote-by : (ms′ u′ : List ℕ) (n : ℕ) (o : Option (List ℕ)) → length out < 2 ^ 64 - 1 → ok (rawOf ms′ u′ n) ≡ emitting (into (Check (length out)) R) (rawOf ms u 0) o → n ≤ length out → (r : Answer) (ps′ out′ : List ℕ) → told r ps′ out′ ≡ emitting (into ToList Q) (rawOf ps out 0) o → Lists (listing o (length out)) (Is n 0) out out′
     unfolding emitting listing
     wrote-by ms′ u′ n none b e l r ps′ out′ s = let x : _≡_ {A = ℕ} 0 1 = cc in absurd (omega arith)
     wrote-by ms′ u′ n (some ws) b e l Untraceable ps′ out′ s = let x : _≡_ {A = ℕ} 0 1 = cc in absurd (omega arith)
@@ -104,17 +109,17 @@ module _ (R : ℕ → Result ℕ) (ms u out : List ℕ) where
         let g : n ≡ length ws = checked-fits R ms (length out) u ws ms′ u′ n b (ok-inj e) l in
         let q : length ws ≤ length out = omega arith in
         record {
-          answer = rw (le-leb (length ws) (length out) q) (ap {B = Result ℕ} ok g);
+          answer = rw (le-leb (length ws) (length out) q) (ap counted g);
           written = rw (le-leb (length ws) (length out) q) (listed Q ps out ws ps′ out′ m q (ok-inj s));
         }
 
 module _ (R : ℕ → Result ℕ) (ms u ms′ u′ out : List ℕ) (o : Option (List ℕ)) (r : Answer) (er : told r ms′ u′ ≡ emitting (into (Check (length out)) R) (rawOf ms u 0) o) where
-  pub list-failed : r ≡ Untraceable → Lists (listing o (length out)) Failed out out
+  pub list-failed : r ≡ Untraceable → Lists (listing o (length out)) (Not Failed) out out
   list-failed e = failed-by R ms u out o (told-untraceable r ms′ u′ _ er e)
 
   module _ (n : ℕ) (e : r ≡ Traced n) where
-    pub list-short : length out < n → Lists (listing o (length out)) Short out out
+    pub list-short : length out < n → Lists (listing o (length out)) (Not ShortList) out out
     list-short l = short-by R ms u out ms′ u′ n o (told-traced r ms′ u′ _ n er e) l
 
-    pub list-wrote : length out < 2 ^ 64 - 1 → n ≤ length out → (Q : ℕ → Result ℕ) (ps : List ℕ) (q : Answer) (ps′ out′ : List ℕ) → told q ps′ out′ ≡ emitting (into ToList Q) (rawOf ps out 0) o → Lists (listing o (length out)) (Wrote n) out out′
+    pub list-wrote : length out < 2 ^ 64 - 1 → n ≤ length out → (Q : ℕ → Result ℕ) (ps : List ℕ) (q : Answer) (ps′ out′ : List ℕ) → told q ps′ out′ ≡ emitting (into ToList Q) (rawOf ps out 0) o → Lists (listing o (length out)) (Is n 0) out out′
     list-wrote b l Q ps q ps′ out′ s = wrote-by R ms u out Q ps ms′ u′ n o b (told-traced r ms′ u′ _ n er e) l q ps′ out′ s

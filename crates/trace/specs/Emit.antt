@@ -1,11 +1,12 @@
 -- Where traced handles go: counted, written to a list, or marked and queued by a collection. Named by inner contracts: Places.antt says which handles there are.
-use Prim.Native.Nat.{ℕ, _+_, _-_, _^_, _≤_, min}
+use Prim.Native.Nat.{ℕ, _+_, _-_, _*_, _^_, _≤_, min}
 use mathlib.Core.Option.{Option, none, some}
 use mathlib.Core.List.{List, [], _∷_}
 use lib.ListN.{length, getD, set}
 use lib.Dec.{ltb, eqb}
 use Rattle.word.specs.Choice.{if_then_else_}
 use Rattle.word.specs.Result.{Result, ok, refused}
+use Rattle.word.specs.Run.{run}
 use Rattle.handle.specs.Handle.{resolveBy}
 use Rattle.handle.specs.Columns.{liveIn}
 use Rattle.trace.specs.Places.{Places, wordsAt}
@@ -31,14 +32,14 @@ pub record Into : Type 0 where
 abbrev pub into : Sink → (ℕ → Result ℕ) → Into
 into sink resolve = record { sink = sink; resolve = resolve }
 
--- what a handle resolves to in the heap with this tag, so many slots in use, and these columns
-unfoldable pub resolveIn : ℕ → ℕ → List ℕ → List ℕ → ℕ → Result ℕ
-resolveIn tag slots generation kind h = resolveBy tag (liveIn slots kind) (λ i. getD generation i 0) h
+-- what a handle resolves to in the heap with this tag and so many of s slots in use, by its generations and kinds
+unfoldable pub resolveIn : (tag slots s : ℕ) → List ℕ → ℕ → Result ℕ
+resolveIn tag slots s narrow h = resolveBy tag (liveIn slots (run s s narrow)) (λ i. getD (run s 0 narrow) i 0) h
 
--- the columns reach that far
-pub record Columns (slots : ℕ) (generation kind : List ℕ) : Type 0 where
-  pub generations : slots ≤ length generation
-  pub kinds : slots ≤ length kind
+-- both runs are there, and the slots in use lie in them
+pub record Runs (slots s : ℕ) (narrow : List ℕ) : Type 0 where
+  pub used : slots ≤ s
+  pub there : 2 * s ≤ length narrow
 
 -- an object is met: unless it is marked, it is marked and queued
 unfoldable pub queued : Raw → ℕ → Raw

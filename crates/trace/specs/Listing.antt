@@ -8,32 +8,20 @@ use lib.Dec.{leb}
 use Rattle.word.specs.Choice.{if_then_else_}
 use Rattle.word.specs.Put.{put}
 use Rattle.word.specs.Result.{Result, ok, refused}
-use Rattle.trace.specs.declared.Listed.{Listed}
-use Rattle.trace.specs.declared.Listed.the-variants.{Wrote, BadTable, Failed, Short}
+use Rattle.refusal.specs.declared.Reply.{Reply}
+use Rattle.refusal.specs.Told.{told, answered, nothing}
 
 -- the handles, where they can be traced (13) and there is room for them (7)
 unfoldable pub listing : Option (List ℕ) → ℕ → Result (List ℕ)
 listing none room = refused 13
 listing (some hs) room = if leb (length hs) room then ok hs else refused 7
 
--- what the answer says: how many were written
-abbrev pub counted : Result (List ℕ) → Result ℕ
-counted (ok hs) = ok (length hs)
-counted (refused n) = refused n
-
 -- what the lent list holds afterwards: the handles from place 0 on, or what it held
 abbrev pub writtenTo : List ℕ → Result (List ℕ) → List ℕ
 writtenTo out (ok hs) = put out 0 hs (length hs)
 writtenTo out (refused n) = out
 
--- each answer's number and value
-abbrev pub toldListed : Listed → Result ℕ
-toldListed (Wrote n) = ok n
-toldListed BadTable = refused 10
-toldListed Failed = refused 13
-toldListed Short = refused 7
-
--- the answer and the list after a call that gives these handles or a refusal
-pub record Lists (call : Result (List ℕ)) (r : Listed) (out out′ : List ℕ) : Type 0 where
-  pub answer : toldListed r ≡ counted call
+-- the answer, how many were written, and the list after a call that gives these handles or a refusal
+pub record Lists (call : Result (List ℕ)) (r : Reply) (out out′ : List ℕ) : Type 0 where
+  pub answer : told r ≡ answered length nothing call
   pub written : out′ ≡ writtenTo out call

@@ -2,6 +2,8 @@
 // sink that it is given: counting handles, writing them to a lent list, and marking and queueing objects for a collection.
 use handle::Resolved;
 use layout::Lay;
+use refusal::Refusal;
+use refusal::Reply;
 use ty::Entry;
 use ty::Part;
 use ty::Word;
@@ -16,7 +18,7 @@ ghost use Rattle.ty.specs.Walks.{hasHandles};
 ghost use Rattle.layout.specs.Lent.{partLaid};
 ghost use Rattle.trace.specs.Places.{onlyIf, turns, handleAt, handlesPlaces, valueHandles, objectHandles, handlesOf};
 ghost use Rattle.trace.specs.Walk.{Stepped, Looked, partLeaf, placedAfter, fieldAt, typePlaces, belowPlaces, elemPlaces, partsPlaces, arrayPlaces, recordPlaces, recordsPlaces};
-ghost use Rattle.trace.specs.Emit.{rawOf, into, resolveIn, Columns, queued, emitted, emitAll, emitting, emittingAt, told};
+ghost use Rattle.trace.specs.Emit.{rawOf, into, resolveIn, Runs, queued, emitted, emitAll, emitting, emittingAt, told};
 ghost use Rattle.trace.specs.Listing.{listing, Lists};
 
 // Where handles go: they are counted, up to one more than a limit; written to the list `to`; or resolved, and what they lead to is marked in `marks` and queued
@@ -57,14 +59,6 @@ pub enum Fields {
     Not,
 }
 
-// How many handles were written to the lent list, or why none were.
-pub enum Listed {
-    Wrote(usize),
-    BadTable,
-    Failed,
-    Short,
-}
-
 // An object is met: unless it is marked, it is marked and queued.
 pub fn queue(marks: &mut [u8], to: &mut [u64], n: usize, i: u32) -> usize
     ensures { λ r. ⌜ rawOf (now (marks .exit)) (now (to .exit)) r ≡ queued (rawOf (now (marks .entry)) (now (to .entry)) n) i ⌝ }
@@ -88,16 +82,17 @@ pub fn queue(marks: &mut [u8], to: &mut [u64], n: usize, i: u32) -> usize
 pub fn emit(
     tag: u8,
     slots: usize,
-    generation: &[u32],
-    kind: &[u8],
+    s: usize,
+    narrow: &[u32],
     sink: Sink,
     marks: &mut [u8],
     to: &mut [u64],
     n: usize,
     h: u64,
 ) -> usize
-    requires { ⌜ Columns slots (now generation) (now kind) ⌝ }
-    ensures { λ r. ⌜ rawOf (now (marks .exit)) (now (to .exit)) r ≡ emitted (into sink (resolveIn tag slots (now (generation .entry)) (now (kind .entry)))) (rawOf (now (marks .entry)) (now (to .entry)) n) h ⌝ }
+    requires { ⌜ Runs slots s (now narrow) ⌝ }
+    ensures { λ r. ⌜ rawOf (now (marks .exit)) (now (to .exit)) r ≡
+        emitted (into sink (resolveIn tag slots s (now (narrow .entry)))) (rawOf (now (marks .entry)) (now (to .entry)) n) h ⌝ }
 {
     match sink {
         Sink::Check(limit) => {
@@ -117,7 +112,7 @@ pub fn emit(
             to.len() + 1
         }
         Sink::Work => {
-            let r = handle::resolve(tag, slots, generation, kind, h);
+            let r = handle::resolve(tag, slots, s, narrow, h);
             let Resolved::At(i) = r else {
                 return n;
             };
@@ -128,26 +123,27 @@ pub fn emit(
 
 // An access value: eight bytes.
 fn trace_word(
-    data: &[u8],
-    at: usize,
     tag: u8,
     slots: usize,
-    generation: &[u32],
-    kind: &[u8],
+    s: usize,
+    narrow: &[u32],
+    data: &[u8],
+    at: usize,
     sink: Sink,
     marks: &mut [u8],
     to: &mut [u64],
     n: usize,
 ) -> Answer
-    requires { ⌜ (at ≤ length (now «data»)) × Columns slots (now generation) (now kind) ⌝ }
-    ensures { λ r. ⌜ told r (now (marks .exit)) (now (to .exit)) ≡ emittingAt (into sink (resolveIn tag slots (now (generation .entry)) (now (kind .entry)))) (now («data» .entry)) (rawOf (now (marks .entry)) (now (to .entry)) n)
+    requires { ⌜ (at ≤ length (now «data»)) × Runs slots s (now narrow) ⌝ }
+    ensures { λ r. ⌜ told r (now (marks .exit)) (now (to .exit)) ≡
+        emittingAt (into sink (resolveIn tag slots s (now (narrow .entry)))) (now («data» .entry)) (rawOf (now (marks .entry)) (now (to .entry)) n)
         (onlyIf (leb (at + 8) (length (now («data» .entry)))) (some (at ∷ []))) ⌝ }
 {
     if data.len() - at < 8 {
         return Answer::Untraceable;
     }
     let h = word::get_le(data, at, 8);
-    Answer::Traced(emit(tag, slots, generation, kind, sink, marks, to, n, h))
+    Answer::Traced(emit(tag, slots, s, narrow, sink, marks, to, n, h))
 }
 
 // The handles of a value of type t under a descriptor, from byte `at` of the data on. The caller has asked whether the type holds handles.
@@ -156,23 +152,24 @@ fn trace_in(
     fields: &[u32],
     consts: &[u64],
     bytes: &[u8],
+    tag: u8,
+    slots: usize,
+    s: usize,
+    narrow: &[u32],
     t: u64,
     desc: &[u8],
     left: u64,
     holds: bool,
     data: &[u8],
     at: usize,
-    tag: u8,
-    slots: usize,
-    generation: &[u32],
-    kind: &[u8],
     sink: Sink,
     marks: &mut [u8],
     to: &mut [u64],
     n: usize,
 ) -> Answer
-    requires { ⌜ (holds ≡ hasHandles (typesOf (now types) (now fields)) t) × (at ≤ length (now «data»)) × Columns slots (now generation) (now kind) ⌝ }
-    ensures { λ r. ⌜ told r (now (marks .exit)) (now (to .exit)) ≡ emittingAt (into sink (resolveIn tag slots (now (generation .entry)) (now (kind .entry)))) (now («data» .entry)) (rawOf (now (marks .entry)) (now (to .entry)) n)
+    requires { ⌜ (holds ≡ hasHandles (typesOf (now types) (now fields)) t) × (at ≤ length (now «data»)) × Runs slots s (now narrow) ⌝ }
+    ensures { λ r. ⌜ told r (now (marks .exit)) (now (to .exit)) ≡
+        emittingAt (into sink (resolveIn tag slots s (now (narrow .entry)))) (now («data» .entry)) (rawOf (now (marks .entry)) (now (to .entry)) n)
         (typePlaces (now (types .entry)) (now (fields .entry)) (now (consts .entry)) (now (bytes .entry)) (length (now («data» .entry))) t (now (desc .entry)) left at) ⌝ }
 {
     if left == 0 {
@@ -193,6 +190,10 @@ fn trace_in(
             fields,
             consts,
             bytes,
+            tag,
+            slots,
+            s,
+            narrow,
             t,
             elem,
             c,
@@ -201,10 +202,6 @@ fn trace_in(
             left - 1,
             data,
             at,
-            tag,
-            slots,
-            generation,
-            kind,
             sink,
             marks,
             to,
@@ -215,6 +212,10 @@ fn trace_in(
             fields,
             consts,
             bytes,
+            tag,
+            slots,
+            s,
+            narrow,
             first,
             count,
             desc,
@@ -223,17 +224,13 @@ fn trace_in(
             at,
             0,
             1,
-            tag,
-            slots,
-            generation,
-            kind,
             sink,
             marks,
             to,
             n,
         ),
-        Entry::Access => trace_word(data, at, tag, slots, generation, kind, sink, marks, to, n),
-        Entry::Protected => trace_word(data, at, tag, slots, generation, kind, sink, marks, to, n),
+        Entry::Access => trace_word(tag, slots, s, narrow, data, at, sink, marks, to, n),
+        Entry::Protected => trace_word(tag, slots, s, narrow, data, at, sink, marks, to, n),
         _ => Answer::Traced(n),
     }
 }
@@ -257,6 +254,10 @@ fn trace_array(
     fields: &[u32],
     consts: &[u64],
     bytes: &[u8],
+    tag: u8,
+    slots: usize,
+    s: usize,
+    narrow: &[u32],
     t: u64,
     elem: u64,
     c: u64,
@@ -265,17 +266,14 @@ fn trace_array(
     left: u64,
     data: &[u8],
     at: usize,
-    tag: u8,
-    slots: usize,
-    generation: &[u32],
-    kind: &[u8],
     sink: Sink,
     marks: &mut [u8],
     to: &mut [u64],
     n: usize,
 ) -> Answer
-    requires { ⌜ Columns slots (now generation) (now kind) ⌝ }
-    ensures { λ r. ⌜ told r (now (marks .exit)) (now (to .exit)) ≡ emittingAt (into sink (resolveIn tag slots (now (generation .entry)) (now (kind .entry)))) (now («data» .entry)) (rawOf (now (marks .entry)) (now (to .entry)) n)
+    requires { ⌜ Runs slots s (now narrow) ⌝ }
+    ensures { λ r. ⌜ told r (now (marks .exit)) (now (to .exit)) ≡
+        emittingAt (into sink (resolveIn tag slots s (now (narrow .entry)))) (now («data» .entry)) (rawOf (now (marks .entry)) (now (to .entry)) n)
         (arrayPlaces (now (types .entry)) (now (fields .entry)) (now (consts .entry)) (now (bytes .entry)) (length (now («data» .entry))) t elem c dims (now (desc .entry)) left at) ⌝ }
 {
     let l = layout::layout_array(types, fields, consts, bytes, t, elem, c, dims, desc, 64);
@@ -297,6 +295,10 @@ fn trace_array(
         fields,
         consts,
         bytes,
+        tag,
+        slots,
+        s,
+        narrow,
         elem,
         c,
         &desc[skip..],
@@ -306,10 +308,6 @@ fn trace_array(
         at,
         stride,
         k,
-        tag,
-        slots,
-        generation,
-        kind,
         sink,
         marks,
         to,
@@ -353,6 +351,10 @@ fn trace_each(
     fields: &[u32],
     consts: &[u64],
     bytes: &[u8],
+    tag: u8,
+    slots: usize,
+    s: usize,
+    narrow: &[u32],
     t: u64,
     desc: &[u8],
     left: u64,
@@ -361,17 +363,14 @@ fn trace_each(
     at: usize,
     stride: u64,
     count: u64,
-    tag: u8,
-    slots: usize,
-    generation: &[u32],
-    kind: &[u8],
     sink: Sink,
     marks: &mut [u8],
     to: &mut [u64],
     n: usize,
 ) -> Answer
-    requires { ⌜ (holds ≡ hasHandles (typesOf (now types) (now fields)) t) × Columns slots (now generation) (now kind) ⌝ }
-    ensures { λ r. ⌜ told r (now (marks .exit)) (now (to .exit)) ≡ emittingAt (into sink (resolveIn tag slots (now (generation .entry)) (now (kind .entry)))) (now («data» .entry)) (rawOf (now (marks .entry)) (now (to .entry)) n)
+    requires { ⌜ (holds ≡ hasHandles (typesOf (now types) (now fields)) t) × Runs slots s (now narrow) ⌝ }
+    ensures { λ r. ⌜ told r (now (marks .exit)) (now (to .exit)) ≡
+        emittingAt (into sink (resolveIn tag slots s (now (narrow .entry)))) (now («data» .entry)) (rawOf (now (marks .entry)) (now (to .entry)) n)
         (elemPlaces (now (types .entry)) (now (fields .entry)) (now (consts .entry)) (now (bytes .entry)) (length (now («data» .entry))) t (now (desc .entry)) left stride count at) ⌝ }
 {
     let mut k = count;
@@ -386,16 +385,16 @@ fn trace_each(
             fields,
             consts,
             bytes,
+            tag,
+            slots,
+            s,
+            narrow,
             t,
             desc,
             left,
             holds,
             data,
             p,
-            tag,
-            slots,
-            generation,
-            kind,
             sink,
             marks,
             to,
@@ -417,6 +416,10 @@ fn trace_elems(
     fields: &[u32],
     consts: &[u64],
     bytes: &[u8],
+    tag: u8,
+    slots: usize,
+    s: usize,
+    narrow: &[u32],
     t: u64,
     desc: &[u8],
     left: u64,
@@ -425,17 +428,14 @@ fn trace_elems(
     at: usize,
     stride: u64,
     count: u64,
-    tag: u8,
-    slots: usize,
-    generation: &[u32],
-    kind: &[u8],
     sink: Sink,
     marks: &mut [u8],
     to: &mut [u64],
     n: usize,
 ) -> Answer
-    requires { ⌜ (holds ≡ hasHandles (typesOf (now types) (now fields)) t) × Columns slots (now generation) (now kind) ⌝ }
-    ensures { λ r. ⌜ told r (now (marks .exit)) (now (to .exit)) ≡ emittingAt (into sink (resolveIn tag slots (now (generation .entry)) (now (kind .entry)))) (now («data» .entry)) (rawOf (now (marks .entry)) (now (to .entry)) n)
+    requires { ⌜ (holds ≡ hasHandles (typesOf (now types) (now fields)) t) × Runs slots s (now narrow) ⌝ }
+    ensures { λ r. ⌜ told r (now (marks .exit)) (now (to .exit)) ≡
+        emittingAt (into sink (resolveIn tag slots s (now (narrow .entry)))) (now («data» .entry)) (rawOf (now (marks .entry)) (now (to .entry)) n)
         (elemPlaces (now (types .entry)) (now (fields .entry)) (now (consts .entry)) (now (bytes .entry)) (length (now («data» .entry))) t (now (desc .entry)) left stride count at) ⌝ }
 {
     let f = fields_at(types, fields, t, left, holds);
@@ -445,6 +445,10 @@ fn trace_elems(
             fields,
             consts,
             bytes,
+            tag,
+            slots,
+            s,
+            narrow,
             t,
             desc,
             left,
@@ -453,10 +457,6 @@ fn trace_elems(
             at,
             stride,
             count,
-            tag,
-            slots,
-            generation,
-            kind,
             sink,
             marks,
             to,
@@ -468,6 +468,10 @@ fn trace_elems(
         fields,
         consts,
         bytes,
+        tag,
+        slots,
+        s,
+        narrow,
         first,
         len,
         desc,
@@ -476,10 +480,6 @@ fn trace_elems(
         at,
         stride,
         count,
-        tag,
-        slots,
-        generation,
-        kind,
         sink,
         marks,
         to,
@@ -493,6 +493,10 @@ fn trace_parts(
     fields: &[u32],
     consts: &[u64],
     bytes: &[u8],
+    tag: u8,
+    slots: usize,
+    s: usize,
+    narrow: &[u32],
     t: u64,
     c: u64,
     desc: &[u8],
@@ -502,17 +506,14 @@ fn trace_parts(
     at: usize,
     stride: u64,
     count: u64,
-    tag: u8,
-    slots: usize,
-    generation: &[u32],
-    kind: &[u8],
     sink: Sink,
     marks: &mut [u8],
     to: &mut [u64],
     n: usize,
 ) -> Answer
-    requires { ⌜ (holds ≡ hasHandles (typesOf (now types) (now fields)) t) × Columns slots (now generation) (now kind) ⌝ }
-    ensures { λ r. ⌜ told r (now (marks .exit)) (now (to .exit)) ≡ emittingAt (into sink (resolveIn tag slots (now (generation .entry)) (now (kind .entry)))) (now («data» .entry)) (rawOf (now (marks .entry)) (now (to .entry)) n)
+    requires { ⌜ (holds ≡ hasHandles (typesOf (now types) (now fields)) t) × Runs slots s (now narrow) ⌝ }
+    ensures { λ r. ⌜ told r (now (marks .exit)) (now (to .exit)) ≡
+        emittingAt (into sink (resolveIn tag slots s (now (narrow .entry)))) (now («data» .entry)) (rawOf (now (marks .entry)) (now (to .entry)) n)
         (partsPlaces (now (types .entry)) (now (fields .entry)) (now (consts .entry)) (now (bytes .entry)) (length (now («data» .entry))) t c (now (desc .entry)) left stride count at) ⌝ }
 {
     if c == 4294967295 {
@@ -521,6 +522,10 @@ fn trace_parts(
             fields,
             consts,
             bytes,
+            tag,
+            slots,
+            s,
+            narrow,
             t,
             desc,
             left,
@@ -529,10 +534,6 @@ fn trace_parts(
             at,
             stride,
             count,
-            tag,
-            slots,
-            generation,
-            kind,
             sink,
             marks,
             to,
@@ -551,6 +552,10 @@ fn trace_parts(
         fields,
         consts,
         bytes,
+        tag,
+        slots,
+        s,
+        narrow,
         t,
         &bytes[a..e],
         left,
@@ -559,10 +564,6 @@ fn trace_parts(
         at,
         stride,
         count,
-        tag,
-        slots,
-        generation,
-        kind,
         sink,
         marks,
         to,
@@ -651,6 +652,10 @@ fn trace_field(
     fields: &[u32],
     consts: &[u64],
     bytes: &[u8],
+    tag: u8,
+    slots: usize,
+    s: usize,
+    narrow: &[u32],
     t: u64,
     c: u64,
     desc: &[u8],
@@ -658,17 +663,14 @@ fn trace_field(
     left: u64,
     data: &[u8],
     at: usize,
-    tag: u8,
-    slots: usize,
-    generation: &[u32],
-    kind: &[u8],
     sink: Sink,
     marks: &mut [u8],
     to: &mut [u64],
     n: usize,
 ) -> Answer
-    requires { ⌜ (used ≤ length (now desc)) × (at ≤ length (now «data»)) × Columns slots (now generation) (now kind) ⌝ }
-    ensures { λ r. ⌜ told r (now (marks .exit)) (now (to .exit)) ≡ emittingAt (into sink (resolveIn tag slots (now (generation .entry)) (now (kind .entry)))) (now («data» .entry)) (rawOf (now (marks .entry)) (now (to .entry)) n)
+    requires { ⌜ (used ≤ length (now desc)) × (at ≤ length (now «data»)) × Runs slots s (now narrow) ⌝ }
+    ensures { λ r. ⌜ told r (now (marks .exit)) (now (to .exit)) ≡
+        emittingAt (into sink (resolveIn tag slots s (now (narrow .entry)))) (now («data» .entry)) (rawOf (now (marks .entry)) (now (to .entry)) n)
         (belowPlaces (now (types .entry)) (now (fields .entry)) (now (consts .entry)) (now (bytes .entry)) (length (now («data» .entry))) t c (drop used (now (desc .entry))) left at) ⌝ }
 {
     if left == 0 {
@@ -677,7 +679,7 @@ fn trace_field(
     let l = leaf_at(types, fields, t, c);
     match l {
         Leaf::Free => Answer::Traced(n),
-        Leaf::Own => trace_word(data, at, tag, slots, generation, kind, sink, marks, to, n),
+        Leaf::Own => trace_word(tag, slots, s, narrow, data, at, sink, marks, to, n),
         Leaf::Deep => {
             let holds = ty::has_handles(types, fields, t);
             trace_parts(
@@ -685,6 +687,10 @@ fn trace_field(
                 fields,
                 consts,
                 bytes,
+                tag,
+                slots,
+                s,
+                narrow,
                 t,
                 c,
                 &desc[used..],
@@ -694,10 +700,6 @@ fn trace_field(
                 at,
                 0,
                 1,
-                tag,
-                slots,
-                generation,
-                kind,
                 sink,
                 marks,
                 to,
@@ -713,23 +715,24 @@ fn trace_record(
     fields: &[u32],
     consts: &[u64],
     bytes: &[u8],
+    tag: u8,
+    slots: usize,
+    s: usize,
+    narrow: &[u32],
     first: usize,
     count: usize,
     desc: &[u8],
     left: u64,
     data: &[u8],
     at: usize,
-    tag: u8,
-    slots: usize,
-    generation: &[u32],
-    kind: &[u8],
     sink: Sink,
     marks: &mut [u8],
     to: &mut [u64],
     n: usize,
 ) -> Answer
-    requires { ⌜ (first + count ≤ length (now fields) / 2) × (at ≤ length (now «data»)) × Columns slots (now generation) (now kind) ⌝ }
-    ensures { λ r. ⌜ told r (now (marks .exit)) (now (to .exit)) ≡ emittingAt (into sink (resolveIn tag slots (now (generation .entry)) (now (kind .entry)))) (now («data» .entry)) (rawOf (now (marks .entry)) (now (to .entry)) n)
+    requires { ⌜ (first + count ≤ length (now fields) / 2) × (at ≤ length (now «data»)) × Runs slots s (now narrow) ⌝ }
+    ensures { λ r. ⌜ told r (now (marks .exit)) (now (to .exit)) ≡
+        emittingAt (into sink (resolveIn tag slots s (now (narrow .entry)))) (now («data» .entry)) (rawOf (now (marks .entry)) (now (to .entry)) n)
         (recordPlaces (now (types .entry)) (now (fields .entry)) (now (consts .entry)) (now (bytes .entry)) (length (now («data» .entry))) first count (now (desc .entry)) left at) ⌝ }
 {
     let mut off: u64 = 0;
@@ -760,6 +763,10 @@ fn trace_record(
             fields,
             consts,
             bytes,
+            tag,
+            slots,
+            s,
+            narrow,
             t,
             c,
             desc,
@@ -767,10 +774,6 @@ fn trace_record(
             left,
             data,
             at + o,
-            tag,
-            slots,
-            generation,
-            kind,
             sink,
             marks,
             to,
@@ -805,6 +808,10 @@ fn trace_records(
     fields: &[u32],
     consts: &[u64],
     bytes: &[u8],
+    tag: u8,
+    slots: usize,
+    s: usize,
+    narrow: &[u32],
     first: usize,
     len: usize,
     desc: &[u8],
@@ -813,17 +820,14 @@ fn trace_records(
     at: usize,
     stride: u64,
     count: u64,
-    tag: u8,
-    slots: usize,
-    generation: &[u32],
-    kind: &[u8],
     sink: Sink,
     marks: &mut [u8],
     to: &mut [u64],
     n: usize,
 ) -> Answer
-    requires { ⌜ (first + len ≤ length (now fields) / 2) × Columns slots (now generation) (now kind) ⌝ }
-    ensures { λ r. ⌜ told r (now (marks .exit)) (now (to .exit)) ≡ emittingAt (into sink (resolveIn tag slots (now (generation .entry)) (now (kind .entry)))) (now («data» .entry)) (rawOf (now (marks .entry)) (now (to .entry)) n)
+    requires { ⌜ (first + len ≤ length (now fields) / 2) × Runs slots s (now narrow) ⌝ }
+    ensures { λ r. ⌜ told r (now (marks .exit)) (now (to .exit)) ≡
+        emittingAt (into sink (resolveIn tag slots s (now (narrow .entry)))) (now («data» .entry)) (rawOf (now (marks .entry)) (now (to .entry)) n)
         (recordsPlaces (now (types .entry)) (now (fields .entry)) (now (consts .entry)) (now (bytes .entry)) (length (now («data» .entry))) first len (now (desc .entry)) left stride count at) ⌝ }
 {
     let mut k = count;
@@ -838,16 +842,16 @@ fn trace_records(
             fields,
             consts,
             bytes,
+            tag,
+            slots,
+            s,
+            narrow,
             first,
             len,
             desc,
             left,
             data,
             o,
-            tag,
-            slots,
-            generation,
-            kind,
             sink,
             marks,
             to,
@@ -869,19 +873,20 @@ pub fn trace_value(
     fields: &[u32],
     consts: &[u64],
     bytes: &[u8],
-    t: u64,
-    data: &[u8],
     tag: u8,
     slots: usize,
-    generation: &[u32],
-    kind: &[u8],
+    s: usize,
+    narrow: &[u32],
+    t: u64,
+    data: &[u8],
     sink: Sink,
     marks: &mut [u8],
     to: &mut [u64],
     n: usize,
 ) -> Answer
-    requires { ⌜ Columns slots (now generation) (now kind) ⌝ }
-    ensures { λ r. ⌜ told r (now (marks .exit)) (now (to .exit)) ≡ emitting (into sink (resolveIn tag slots (now (generation .entry)) (now (kind .entry)))) (rawOf (now (marks .entry)) (now (to .entry)) n)
+    requires { ⌜ Runs slots s (now narrow) ⌝ }
+    ensures { λ r. ⌜ told r (now (marks .exit)) (now (to .exit)) ≡
+        emitting (into sink (resolveIn tag slots s (now (narrow .entry)))) (rawOf (now (marks .entry)) (now (to .entry)) n)
         (valueHandles (tableOf (now (types .entry)) (now (fields .entry)) (now (consts .entry)) (now (bytes .entry))) t (now («data» .entry))) ⌝ }
 {
     let holds = ty::has_handles(types, fields, t);
@@ -890,16 +895,16 @@ pub fn trace_value(
         fields,
         consts,
         bytes,
+        tag,
+        slots,
+        s,
+        narrow,
         t,
         &data[..0],
         65,
         holds,
         data,
         0,
-        tag,
-        slots,
-        generation,
-        kind,
         sink,
         marks,
         to,
@@ -913,19 +918,20 @@ pub fn trace_object(
     fields: &[u32],
     consts: &[u64],
     bytes: &[u8],
-    t: u64,
-    data: &[u8],
     tag: u8,
     slots: usize,
-    generation: &[u32],
-    kind: &[u8],
+    s: usize,
+    narrow: &[u32],
+    t: u64,
+    data: &[u8],
     sink: Sink,
     marks: &mut [u8],
     to: &mut [u64],
     n: usize,
 ) -> Answer
-    requires { ⌜ Columns slots (now generation) (now kind) ⌝ }
-    ensures { λ r. ⌜ told r (now (marks .exit)) (now (to .exit)) ≡ emitting (into sink (resolveIn tag slots (now (generation .entry)) (now (kind .entry)))) (rawOf (now (marks .entry)) (now (to .entry)) n)
+    requires { ⌜ Runs slots s (now narrow) ⌝ }
+    ensures { λ r. ⌜ told r (now (marks .exit)) (now (to .exit)) ≡
+        emitting (into sink (resolveIn tag slots s (now (narrow .entry)))) (rawOf (now (marks .entry)) (now (to .entry)) n)
         (objectHandles (tableOf (now (types .entry)) (now (fields .entry)) (now (consts .entry)) (now (bytes .entry))) t (now («data» .entry))) ⌝ }
 {
     let holds = ty::has_handles(types, fields, t);
@@ -945,16 +951,16 @@ pub fn trace_object(
         fields,
         consts,
         bytes,
+        tag,
+        slots,
+        s,
+        narrow,
         t,
         &data[..k],
         65,
         holds,
         data,
         k,
-        tag,
-        slots,
-        generation,
-        kind,
         sink,
         marks,
         to,
@@ -964,18 +970,20 @@ pub fn trace_object(
 
 // The handles of a Handles object's visible data: at 24, 32, .. while eight bytes fit.
 pub fn trace_handles(
-    data: &[u8],
     tag: u8,
     slots: usize,
-    generation: &[u32],
-    kind: &[u8],
+    s: usize,
+    narrow: &[u32],
+    data: &[u8],
     sink: Sink,
     marks: &mut [u8],
     to: &mut [u64],
     n: usize,
 ) -> usize
-    requires { ⌜ Columns slots (now generation) (now kind) ⌝ }
-    ensures { λ r. ⌜ rawOf (now (marks .exit)) (now (to .exit)) r ≡ emitAll (into sink (resolveIn tag slots (now (generation .entry)) (now (kind .entry)))) (rawOf (now (marks .entry)) (now (to .entry)) n) (map (handleAt (now («data» .entry))) (handlesPlaces (length (now («data» .entry))))) ⌝ }
+    requires { ⌜ Runs slots s (now narrow) ⌝ }
+    ensures { λ r. ⌜ rawOf (now (marks .exit)) (now (to .exit)) r ≡
+        emitAll (into sink (resolveIn tag slots s (now (narrow .entry)))) (rawOf (now (marks .entry)) (now (to .entry)) n)
+        (map (handleAt (now («data» .entry))) (handlesPlaces (length (now («data» .entry))))) ⌝ }
 {
     if data.len() < 32 {
         return n;
@@ -985,7 +993,7 @@ pub fn trace_handles(
     let mut m = n;
     while at <= last {
         let h = word::get_le(data, at, 8);
-        m = emit(tag, slots, generation, kind, sink, marks, to, m, h);
+        m = emit(tag, slots, s, narrow, sink, marks, to, m, h);
         at += 8;
     }
     m
@@ -997,20 +1005,21 @@ fn trace_typed(
     fields: &[u32],
     consts: &[u64],
     bytes: &[u8],
+    tag: u8,
+    slots: usize,
+    s: usize,
+    narrow: &[u32],
     t: u64,
     start: usize,
     data: &[u8],
-    tag: u8,
-    slots: usize,
-    generation: &[u32],
-    kind: &[u8],
     sink: Sink,
     marks: &mut [u8],
     to: &mut [u64],
     n: usize,
 ) -> Answer
-    requires { ⌜ (start ≤ length (now «data»)) × Columns slots (now generation) (now kind) ⌝ }
-    ensures { λ r. ⌜ told r (now (marks .exit)) (now (to .exit)) ≡ emitting (into sink (resolveIn tag slots (now (generation .entry)) (now (kind .entry)))) (rawOf (now (marks .entry)) (now (to .entry)) n)
+    requires { ⌜ (start ≤ length (now «data»)) × Runs slots s (now narrow) ⌝ }
+    ensures { λ r. ⌜ told r (now (marks .exit)) (now (to .exit)) ≡
+        emitting (into sink (resolveIn tag slots s (now (narrow .entry)))) (rawOf (now (marks .entry)) (now (to .entry)) n)
         (handlesOf (tableOf (now (types .entry)) (now (fields .entry)) (now (consts .entry)) (now (bytes .entry))) 1 t start (now («data» .entry))) ⌝ }
 {
     trace_object(
@@ -1018,12 +1027,12 @@ fn trace_typed(
         fields,
         consts,
         bytes,
-        t,
-        &data[start..],
         tag,
         slots,
-        generation,
-        kind,
+        s,
+        narrow,
+        t,
+        &data[start..],
         sink,
         marks,
         to,
@@ -1037,21 +1046,22 @@ pub fn trace_slot(
     fields: &[u32],
     consts: &[u64],
     bytes: &[u8],
-    of: u8,
+    tag: u8,
+    slots: usize,
+    s: usize,
+    narrow: &[u32],
+    of: u32,
     t: u64,
     start: usize,
     data: &[u8],
-    tag: u8,
-    slots: usize,
-    generation: &[u32],
-    kind: &[u8],
     sink: Sink,
     marks: &mut [u8],
     to: &mut [u64],
     n: usize,
 ) -> Answer
-    requires { ⌜ Columns slots (now generation) (now kind) ⌝ }
-    ensures { λ r. ⌜ told r (now (marks .exit)) (now (to .exit)) ≡ emitting (into sink (resolveIn tag slots (now (generation .entry)) (now (kind .entry)))) (rawOf (now (marks .entry)) (now (to .entry)) n)
+    requires { ⌜ Runs slots s (now narrow) ⌝ }
+    ensures { λ r. ⌜ told r (now (marks .exit)) (now (to .exit)) ≡
+        emitting (into sink (resolveIn tag slots s (now (narrow .entry)))) (rawOf (now (marks .entry)) (now (to .entry)) n)
         (handlesOf (tableOf (now (types .entry)) (now (fields .entry)) (now (consts .entry)) (now (bytes .entry))) of t start (now («data» .entry))) ⌝ }
 {
     if data.len() < start {
@@ -1063,13 +1073,13 @@ pub fn trace_slot(
             fields,
             consts,
             bytes,
+            tag,
+            slots,
+            s,
+            narrow,
             t,
             start,
             data,
-            tag,
-            slots,
-            generation,
-            kind,
             sink,
             marks,
             to,
@@ -1077,17 +1087,7 @@ pub fn trace_slot(
         );
     }
     if of == 3 {
-        let m = trace_handles(
-            &data[start..],
-            tag,
-            slots,
-            generation,
-            kind,
-            sink,
-            marks,
-            to,
-            n,
-        );
+        let m = trace_handles(tag, slots, s, narrow, &data[start..], sink, marks, to, n);
         return Answer::Traced(m);
     }
     Answer::Traced(n)
@@ -1102,11 +1102,12 @@ pub fn list_value(
     t: u64,
     data: &[u8],
     out: &mut [u64],
-) -> Listed
-    ensures { λ r. ⌜ Lists (listing (valueHandles (tableOf (now (types .entry)) (now (fields .entry)) (now (consts .entry)) (now (bytes .entry))) t (now («data» .entry))) (length (now (out .entry)))) r (now (out .entry)) (now (out .exit)) ⌝ }
+) -> Reply
+    ensures { λ r. ⌜ Lists
+        (listing (valueHandles (tableOf (now (types .entry)) (now (fields .entry)) (now (consts .entry)) (now (bytes .entry))) t (now («data» .entry))) (length (now (out .entry))))
+        r (now (out .entry)) (now (out .exit)) ⌝ }
 {
-    let generation = [0u32; 1];
-    let kind = [0u8; 1];
+    let narrow = [0u32; 1];
     let mut marks = [0u8; 1];
     let mut unused = [0u64; 1];
     let limit = out.len();
@@ -1115,40 +1116,40 @@ pub fn list_value(
         fields,
         consts,
         bytes,
+        0,
+        0,
+        0,
+        &narrow,
         t,
         data,
-        0,
-        0,
-        &generation,
-        &kind,
         Sink::Check(limit),
         &mut marks,
         &mut unused,
         0,
     );
     let Answer::Traced(n) = c else {
-        return Listed::Failed;
+        return Reply::Not(Refusal::Untraceable);
     };
     if limit < n {
-        return Listed::Short;
+        return Reply::Not(Refusal::ShortList);
     }
     trace_value(
         types,
         fields,
         consts,
         bytes,
+        0,
+        0,
+        0,
+        &narrow,
         t,
         data,
-        0,
-        0,
-        &generation,
-        &kind,
         Sink::List,
         &mut marks,
         out,
         0,
     );
-    Listed::Wrote(n)
+    Reply::Is(n as u64, 0)
 }
 
 // The handles of an object's visible data, into the lent list. First they are only counted, so that a refusal leaves the list as it was.
@@ -1160,11 +1161,12 @@ pub fn list_object(
     t: u64,
     data: &[u8],
     out: &mut [u64],
-) -> Listed
-    ensures { λ r. ⌜ Lists (listing (objectHandles (tableOf (now (types .entry)) (now (fields .entry)) (now (consts .entry)) (now (bytes .entry))) t (now («data» .entry))) (length (now (out .entry)))) r (now (out .entry)) (now (out .exit)) ⌝ }
+) -> Reply
+    ensures { λ r. ⌜ Lists
+        (listing (objectHandles (tableOf (now (types .entry)) (now (fields .entry)) (now (consts .entry)) (now (bytes .entry))) t (now («data» .entry))) (length (now (out .entry))))
+        r (now (out .entry)) (now (out .exit)) ⌝ }
 {
-    let generation = [0u32; 1];
-    let kind = [0u8; 1];
+    let narrow = [0u32; 1];
     let mut marks = [0u8; 1];
     let mut unused = [0u64; 1];
     let limit = out.len();
@@ -1173,38 +1175,38 @@ pub fn list_object(
         fields,
         consts,
         bytes,
+        0,
+        0,
+        0,
+        &narrow,
         t,
         data,
-        0,
-        0,
-        &generation,
-        &kind,
         Sink::Check(limit),
         &mut marks,
         &mut unused,
         0,
     );
     let Answer::Traced(n) = c else {
-        return Listed::Failed;
+        return Reply::Not(Refusal::Untraceable);
     };
     if limit < n {
-        return Listed::Short;
+        return Reply::Not(Refusal::ShortList);
     }
     trace_object(
         types,
         fields,
         consts,
         bytes,
+        0,
+        0,
+        0,
+        &narrow,
         t,
         data,
-        0,
-        0,
-        &generation,
-        &kind,
         Sink::List,
         &mut marks,
         out,
         0,
     );
-    Listed::Wrote(n)
+    Reply::Is(n as u64, 0)
 }

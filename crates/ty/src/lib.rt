@@ -449,7 +449,7 @@ fn consts_good(consts: &[u64], nb: usize) -> bool
 }
 
 // The count of type t among the counts of all types: 1 where it is missing.
-fn count_at(counts: &[u64], t: u64) -> u64
+fn count_at(counts: &[u32], t: u64) -> u32
     ensures { λ r. ⌜ r ≡ countIn (now (counts .entry)) t ⌝ }
 {
     let i = t as usize;
@@ -457,7 +457,7 @@ fn count_at(counts: &[u64], t: u64) -> u64
 }
 
 // a + b, at most 65,537: above the bound it no longer matters by how much.
-fn capped(a: u64, b: u64) -> u64
+fn capped(a: u32, b: u32) -> u32
     ensures { λ r. ⌜ r ≡ min (a + b) 65537 ⌝ }
 {
     if 65537 <= a {
@@ -470,12 +470,12 @@ fn capped(a: u64, b: u64) -> u64
 }
 
 // The sums of the first one, two, .. fields' counts, so that a record is one difference however its fields overlap with others'.
-fn sum_fields(fields: &[u32], counts: &[u64], sums: &mut [u64])
+fn sum_fields(fields: &[u32], counts: &[u32], sums: &mut [u32])
     requires { ⌜ (length (now sums) ≡ length (now fields) / 2) × (length (now fields) / 2 ≤ 16384) × Capped (now counts) ⌝ }
     ensures { λ _. ⌜ now (sums .exit) ≡ fieldSums (now (fields .entry)) (now (counts .entry)) ⌝ }
 {
     let n = sums.len();
-    let mut s: u64 = 0;
+    let mut s: u32 = 0;
     let mut i: usize = 0;
     while i < n {
         s += count_at(counts, fields[2 * i] as u64);
@@ -485,7 +485,7 @@ fn sum_fields(fields: &[u32], counts: &[u64], sums: &mut [u64])
 }
 
 // The sum of the first n fields' counts.
-fn sum_before(sums: &[u64], n: usize) -> u64
+fn sum_before(sums: &[u32], n: usize) -> u32
     requires { ⌜ n ≤ length (now sums) ⌝ }
     ensures { λ r. ⌜ r ≡ getD (0 ∷ now (sums .entry)) n 0 ⌝ }
 {
@@ -493,7 +493,7 @@ fn sum_before(sums: &[u64], n: usize) -> u64
 }
 
 // The count of type t, one level more than the counts.
-fn count_type(types: &[u64], fields: &[u32], counts: &[u64], sums: &[u64], t: u64) -> u64
+fn count_type(types: &[u64], fields: &[u32], counts: &[u32], sums: &[u32], t: u64) -> u32
     requires { ⌜ now sums ≡ fieldSums (now fields) (now counts) ⌝ }
     ensures { λ r. ⌜ r ≡ nextCount (typesOf (now (types .entry)) (now (fields .entry))) (now (counts .entry)) t ⌝ }
 {
@@ -514,7 +514,7 @@ fn count_type(types: &[u64], fields: &[u32], counts: &[u64], sums: &[u64], t: u6
 }
 
 // The counts of all types, one level more.
-fn count_types(types: &[u64], fields: &[u32], counts: &[u64], sums: &[u64], next: &mut [u64])
+fn count_types(types: &[u64], fields: &[u32], counts: &[u32], sums: &[u32], next: &mut [u32])
     requires { ⌜ now sums ≡ fieldSums (now fields) (now counts) ⌝ }
     ensures { λ _. ⌜ now (next .exit) ≡ nextCounts (typesOf (now (types .entry)) (now (fields .entry))) (now (counts .entry)) (length (now (next .entry))) ⌝ }
 {
@@ -527,7 +527,7 @@ fn count_types(types: &[u64], fields: &[u32], counts: &[u64], sums: &[u64], next
 }
 
 // The counts of all types, one level more, by way of the fields' sums.
-fn unfold_level(types: &[u64], fields: &[u32], counts: &[u64], sums: &mut [u64], next: &mut [u64])
+fn unfold_level(types: &[u64], fields: &[u32], counts: &[u32], sums: &mut [u32], next: &mut [u32])
     requires { ⌜ (length (now sums) ≡ length (now fields) / 2) × (length (now fields) / 2 ≤ 16384) × Capped (now counts) ⌝ }
     ensures { λ _. ⌜ now (next .exit) ≡ nextCounts (typesOf (now (types .entry)) (now (fields .entry))) (now (counts .entry)) (length (now (next .entry))) ⌝ }
 {
@@ -539,9 +539,9 @@ fn unfold_level(types: &[u64], fields: &[u32], counts: &[u64], sums: &mut [u64],
 fn unfold_levels(
     types: &[u64],
     fields: &[u32],
-    counts: &mut [u64],
-    other: &mut [u64],
-    sums: &mut [u64],
+    counts: &mut [u32],
+    other: &mut [u32],
+    sums: &mut [u32],
 )
     requires { ⌜ Scratch (now types) (now fields) (now counts) (now other) (now sums) ⌝ }
     ensures { λ _. ⌜ now (counts .exit) ≡ countsAt (typesOf (now (types .entry)) (now (fields .entry))) (length (now (types .entry)) / 4) 65 ⌝ }
@@ -555,7 +555,7 @@ fn unfold_levels(
 }
 
 // Whether every count is within the bound.
-fn all_small(counts: &[u64]) -> bool
+fn all_small(counts: &[u32]) -> bool
     ensures { λ r. ⌜ r ≡ allBelow (smallIn (now (counts .entry))) (length (now (counts .entry))) ⌝ }
 {
     let mut i: usize = 0;
@@ -572,15 +572,15 @@ fn all_small(counts: &[u64]) -> bool
 fn unfolds_small(
     types: &[u64],
     fields: &[u32],
-    counts: &mut [u64],
-    other: &mut [u64],
-    sums: &mut [u64],
+    counts: &mut [u32],
+    other: &mut [u32],
+    sums: &mut [u32],
 ) -> bool
     requires { ⌜ Fitting (now types) (now fields) (now counts) (now other) (now sums) ⌝ }
     ensures { λ r. ⌜ r ≡ allBelow (smallAt (typesOf (now (types .entry)) (now (fields .entry)))) (length (now (types .entry)) / 4) ⌝ }
 {
     let n = counts.len();
-    memory::fill_u64(counts, 0, n, 1);
+    memory::fill_u32(counts, 0, n, 1);
     unfold_levels(types, fields, counts, other, sums);
     all_small(counts)
 }
@@ -589,9 +589,9 @@ fn unfolds_small(
 fn unfolds_within(
     types: &[u64],
     fields: &[u32],
-    counts: &mut [u64],
-    other: &mut [u64],
-    sums: &mut [u64],
+    counts: &mut [u32],
+    other: &mut [u32],
+    sums: &mut [u32],
 ) -> bool
     requires { ⌜ (length (now types) / 4 ≤ 4096) × (length (now fields) / 2 ≤ 16384) × (length (now counts) ≡ 4096) × (length (now other) ≡ 4096) × (length (now sums) ≡ 16384) ⌝ }
     ensures { λ r. ⌜ r ≡ allBelow (smallAt (typesOf (now (types .entry)) (now (fields .entry)))) (length (now (types .entry)) / 4) ⌝ }
@@ -612,14 +612,14 @@ fn unfolds_exactly(types: &[u64], fields: &[u32]) -> bool
     requires { ⌜ (length (now types) / 4 ≤ 4096) × (length (now fields) / 2 ≤ 16384) ⌝ }
     ensures { λ r. ⌜ r ≡ allBelow (smallAt (typesOf (now (types .entry)) (now (fields .entry)))) (length (now (types .entry)) / 4) ⌝ }
 {
-    let mut counts = [0u64; 4096];
-    let mut other = [0u64; 4096];
-    let mut sums = [0u64; 16384];
+    let mut counts = [0u32; 4096];
+    let mut other = [0u32; 4096];
+    let mut sums = [0u32; 16384];
     unfolds_within(types, fields, &mut counts, &mut other, &mut sums)
 }
 
 // The bound of type t among those of the first i of n types: 1 where it is missing, 65,537 where it comes later.
-fn bound_at(counts: &[u64], i: usize, n: usize, t: u64) -> u64
+fn bound_at(counts: &[u32], i: usize, n: usize, t: u64) -> u32
     requires { ⌜ i ≤ length (now counts) ⌝ }
     ensures { λ r. ⌜ r ≡ boundIn (now (counts .entry)) i n t ⌝ }
 {
@@ -633,16 +633,16 @@ fn bound_at(counts: &[u64], i: usize, n: usize, t: u64) -> u64
 // One more than the bounds of count fields from the first on.
 fn bound_fields(
     fields: &[u32],
-    counts: &[u64],
+    counts: &[u32],
     i: usize,
     n: usize,
     first: usize,
     count: usize,
-) -> u64
+) -> u32
     requires { ⌜ (first + count ≤ length (now fields) / 2) × (i ≤ length (now counts)) ⌝ }
     ensures { λ r. ⌜ r ≡ boundFields (boundIn (now (counts .entry)) i n) (fieldsFrom (now (fields .entry)) first count) 1 ⌝ }
 {
-    let mut s: u64 = 1;
+    let mut s: u32 = 1;
     let mut j: usize = 0;
     while j < count {
         let k = 2 * (first + j);
@@ -654,7 +654,7 @@ fn bound_fields(
 }
 
 // The bound of the unfolding of type i.
-fn bound_type(types: &[u64], fields: &[u32], counts: &[u64], i: usize, n: usize) -> u64
+fn bound_type(types: &[u64], fields: &[u32], counts: &[u32], i: usize, n: usize) -> u32
     requires { ⌜ i ≤ length (now counts) ⌝ }
     ensures { λ r. ⌜ r ≡ boundBy (boundIn (now (counts .entry)) i n) (typeAt (typesOf (now (types .entry)) (now (fields .entry))) i) ⌝ }
 {
@@ -681,7 +681,7 @@ fn fields_in(types: &[u64], fields: &[u32], i: usize) -> usize {
 
 // Whether one pass over the types shows that every unfolding is within the bound. It does where each type comes after those that it is made of and no field
 // belongs to two records; other tables need all levels.
-fn unfolds_in_order(types: &[u64], fields: &[u32], counts: &mut [u64]) -> bool
+fn unfolds_in_order(types: &[u64], fields: &[u32], counts: &mut [u32]) -> bool
     requires { ⌜ length (now types) / 4 ≤ length (now counts) ⌝ }
     ensures { λ r. ⌜ (r ≡ true → allBelow (smallAt (typesOf (now (types .entry)) (now (fields .entry)))) (length (now (types .entry)) / 4) ≡ true) ⌝ }
 {
@@ -709,7 +709,7 @@ fn unfolds_32(types: &[u64], fields: &[u32]) -> bool
     requires { ⌜ (length (now types) / 4 ≤ 32) × (length (now fields) / 2 ≤ 16384) ⌝ }
     ensures { λ r. ⌜ r ≡ allBelow (smallAt (typesOf (now (types .entry)) (now (fields .entry)))) (length (now (types .entry)) / 4) ⌝ }
 {
-    let mut counts = [0u64; 32];
+    let mut counts = [0u32; 32];
     if unfolds_in_order(types, fields, &mut counts) {
         return true;
     }
@@ -721,7 +721,7 @@ fn unfolds_256(types: &[u64], fields: &[u32]) -> bool
     requires { ⌜ (length (now types) / 4 ≤ 256) × (length (now fields) / 2 ≤ 16384) ⌝ }
     ensures { λ r. ⌜ r ≡ allBelow (smallAt (typesOf (now (types .entry)) (now (fields .entry)))) (length (now (types .entry)) / 4) ⌝ }
 {
-    let mut counts = [0u64; 256];
+    let mut counts = [0u32; 256];
     if unfolds_in_order(types, fields, &mut counts) {
         return true;
     }
@@ -733,7 +733,7 @@ fn unfolds_4096(types: &[u64], fields: &[u32]) -> bool
     requires { ⌜ (length (now types) / 4 ≤ 4096) × (length (now fields) / 2 ≤ 16384) ⌝ }
     ensures { λ r. ⌜ r ≡ allBelow (smallAt (typesOf (now (types .entry)) (now (fields .entry)))) (length (now (types .entry)) / 4) ⌝ }
 {
-    let mut counts = [0u64; 4096];
+    let mut counts = [0u32; 4096];
     if unfolds_in_order(types, fields, &mut counts) {
         return true;
     }

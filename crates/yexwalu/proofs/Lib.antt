@@ -1,4 +1,5 @@
 -- What the proofs of several calls use.
+mod TableCalls
 mod TypeCalls
 mod HandleCalls
-pub mod Paging
+mod LiveCalls

@@ -1,10 +1,19 @@
--- What the calls that list handles answer (01, "Traced handles" and "Frame map"; 10, then 13, then 7).
-use mathlib.Core.List.{List}
+-- What the calls that list handles answer and write (01, "Traced handles" and "Frame map"; 10, then 13, then 7). `call`: the handles, or the refusal.
 use Prim.Native.Nat.{ℕ}
-use Rattle.word.specs.Choice.{if_then_else_}
-use Rattle.word.specs.Result.{Result, refused}
-use Rattle.ty.specs.Check.{tableGood}
+use mathlib.Core.List.{List}
+use mathlib.Core.Path.{_≡_}
+use lib.ListN.{length}
+use Rattle.word.specs.Result.{Result}
+use Rattle.refusal.specs.Told.{answered, nothing}
+use Rattle.refusal.specs.declared.Answer.{Answer}
+use Rattle.trace.specs.Listing.{writtenTo}
+use Rattle.frame.specs.Listing.{Roots, handlesTo, addressesTo}
 
--- a table that is not taken is 10 before anything else
-unfoldable pub onTable : {A : Type 0} → List ℕ → List ℕ → List ℕ → List ℕ → Result A → Result A
-onTable w fs cs b r = if tableGood w fs cs b then r else refused 10
+pub record HandlesCall (call : Result (List ℕ)) (out out′ : List ℕ) (r : Answer) : Type 0 where
+  pub answer : r ≡ answered length nothing call
+  pub written : out′ ≡ writtenTo out call
+
+pub record RootsCall (call : Result Roots) (handles addresses handles′ addresses′ : List ℕ) (r : Answer) : Type 0 where
+  pub answer : r ≡ answered (λ c. length (c .handles)) (λ c. length (c .addresses)) call
+  pub handles-are : handles′ ≡ handlesTo handles call
+  pub addresses-are : addresses′ ≡ addressesTo addresses call

@@ -1,8 +1,9 @@
--- Which registers the live map has (01, "Live map"): classes 2 and 4, or all.
-use mathlib.Core.Bool.{Bool, true, false}
-use Rattle.roots.specs.declared.Tracked.{Tracked}
-use Rattle.roots.specs.declared.Tracked.the-variants.{References, All}
+-- Which registers the live map has (01, "Live map").
+use mathlib.Core.Bool.{Bool, true, false, _||_}
+use Prim.Native.Nat.{ℕ}
+use lib.Dec.{eqb}
 
-abbrev pub tracking : Bool → Tracked
-tracking true = All
-tracking false = References
+-- by their class: all, or 2 (Ptr) and 4 (Handle)
+abbrev pub asked : (all : Bool) → ℕ → Bool
+asked true k = true
+asked false k = eqb k 2 || eqb k 4

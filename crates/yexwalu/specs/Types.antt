@@ -1,49 +1,31 @@
 -- What the calls about types answer (01, "Type table"; 10, then 11 or 12, then 7).
 use Prim.Native.Nat.{ℕ}
-use mathlib.Core.Bool.{Bool}
 use mathlib.Core.List.{List}
 use mathlib.Core.Option.{Option, none, some}
 use Rattle.word.specs.Choice.{if_then_else_}
 use Rattle.word.specs.Result.{Result, ok, refused}
-use Rattle.ty.specs.Check.{tableGood}
 use Rattle.ty.specs.Walks.{descBytes, hasHandles}
 use Rattle.ty.specs.View.{typesOf, tableOf}
 use Rattle.layout.specs.Offsets.{Values, layoutCall}
-use Rattle.yexwalu.specs.declared.types.LayoutAnswer.{LayoutAnswer}
-use Rattle.yexwalu.specs.declared.types.LayoutAnswer.the-variants.{Layout, BadTable, Malformed, TooLarge, ShortList}
-use Rattle.yexwalu.specs.declared.types.SizeAnswer.{SizeAnswer}
-use Rattle.yexwalu.specs.declared.types.SizeAnswer.the-variants.{Size, BadTable as NoTable, Malformed as NoSize}
-use Rattle.yexwalu.specs.declared.types.HandlesAnswer.{HandlesAnswer}
-use Rattle.yexwalu.specs.declared.types.HandlesAnswer.the-variants.{Handles, BadTable as Untyped}
+use Rattle.yexwalu.specs.Table.{onTable}
+use Rattle.yexwalu.specs.declared.types.Layout.{Layout}
 
--- each answer's number and values
-abbrev pub toldLayout : LayoutAnswer → Result Values
-toldLayout (Layout s a st n u k) = ok (record { size = s; align = a; stride = st; count = n; used = u; offsets = k })
-toldLayout BadTable = refused 10
-toldLayout Malformed = refused 11
-toldLayout TooLarge = refused 12
-toldLayout ShortList = refused 7
+-- a layout in numbers, zeros after a refusal
+abbrev pub laid : Result Values → Layout
+laid (ok v) = record { number = 0; size = v .size; align = v .align; stride = v .stride; count = v .count; used = v .used; offsets = v .offsets }
+laid (refused n) = record { number = n; size = 0; align = 0; stride = 0; count = 0; used = 0; offsets = 0 }
 
-abbrev pub toldSize : SizeAnswer → Result ℕ
-toldSize (Size n) = ok n
-toldSize NoTable = refused 10
-toldSize NoSize = refused 11
-
-abbrev pub toldHandles : HandlesAnswer → Result Bool
-toldHandles (Handles b) = ok b
-toldHandles Untyped = refused 10
-
--- a table that is not taken is 10 before anything else
-unfoldable pub layoutCalled : List ℕ → List ℕ → List ℕ → List ℕ → ℕ → List ℕ → ℕ → Result Values
-layoutCalled w fs cs b t d places = if tableGood w fs cs b then layoutCall (tableOf w fs cs b) t d places else refused 10
+-- w, fs, cs, b: the table's types, fields, constants and their bytes; d: the descriptor
+abbrev pub layoutCalled : (w fs cs b : List ℕ) (t : ℕ) (d : List ℕ) (places : ℕ) → Result Values
+layoutCalled w fs cs b t d places = onTable w fs cs b (layoutCall (tableOf w fs cs b) t d places)
 
 -- "no size" is told as 11
 abbrev pub sized : Option ℕ → Result ℕ
 sized (some n) = ok n
 sized none = refused 11
 
-unfoldable pub sizeCalled : List ℕ → List ℕ → List ℕ → List ℕ → ℕ → Result ℕ
-sizeCalled w fs cs b t = if tableGood w fs cs b then sized (descBytes (typesOf w fs) t) else refused 10
+abbrev pub sizeCalled : (w fs cs b : List ℕ) (t : ℕ) → Result ℕ
+sizeCalled w fs cs b t = onTable w fs cs b (sized (descBytes (typesOf w fs) t))
 
-unfoldable pub handlesCalled : List ℕ → List ℕ → List ℕ → List ℕ → ℕ → Result Bool
-handlesCalled w fs cs b t = if tableGood w fs cs b then ok (hasHandles (typesOf w fs) t) else refused 10
+abbrev pub handlesCalled : (w fs cs b : List ℕ) (t : ℕ) → Result ℕ
+handlesCalled w fs cs b t = onTable w fs cs b (ok (if hasHandles (typesOf w fs) t then 1 else 0))

@@ -1,16 +1,22 @@
 // Calls that list handles: 10, then 13, then 7. After a refusal the lent lists are as they were.
+use refusal::Answer;
+use refusal::Refusal;
+use refusal::Reply;
+pub use yexwalu_object_handles as object_handles;
+pub use yexwalu_slot_roots as slot_roots;
+pub use yexwalu_value_handles as value_handles;
 ghost use lib.ListN.{length};
 ghost use Rattle.ty.specs.View.{tableOf};
 ghost use Rattle.trace.specs.Places.{valueHandles, objectHandles};
-ghost use Rattle.trace.specs.Listing.{listing, Lists};
+ghost use Rattle.trace.specs.Listing.{listing};
 ghost use Rattle.frame.specs.Frame.{frameHandles, frameAddresses};
-ghost use Rattle.frame.specs.Listing.{rootsListing, Frames};
-ghost use Rattle.yexwalu.specs.Handles.{onTable};
-pub use frame::Framed;
-pub use trace::Listed;
+ghost use Rattle.frame.specs.Listing.{rootsListing};
+ghost use Rattle.yexwalu.specs.Table.{onTable};
+ghost use Rattle.yexwalu.specs.Handles.{HandlesCall, RootsCall};
 
-// The handles of an object's visible data, which is of type t: its descriptor, then its value. They go to the lent list from its front on.
-pub fn object_handles(
+// The handles of an object's visible data, which is of type t: its descriptor, then its value. They go to the lent list from its front on. first: how many.
+#[no_mangle]
+pub extern "C" fn yexwalu_object_handles(
     types: &[u64],
     fields: &[u32],
     consts: &[u64],
@@ -18,17 +24,22 @@ pub fn object_handles(
     t: u64,
     data: &[u8],
     out: &mut [u64],
-) -> Listed
-    ensures { λ r. ⌜ Lists (onTable (now (types .entry)) (now (fields .entry)) (now (consts .entry)) (now (bytes .entry)) (listing (objectHandles (tableOf (now (types .entry)) (now (fields .entry)) (now (consts .entry)) (now (bytes .entry))) t (now («data» .entry))) (length (now (out .entry))))) r (now (out .entry)) (now (out .exit)) ⌝ }
+) -> Answer
+    ensures { λ r. ⌜ HandlesCall (onTable (now (types .entry)) (now (fields .entry)) (now (consts .entry)) (now (bytes .entry)) (listing
+        (objectHandles (tableOf (now (types .entry)) (now (fields .entry)) (now (consts .entry)) (now (bytes .entry))) t (now («data» .entry)))
+        (length (now (out .entry)))))
+        (now (out .entry)) (now (out .exit)) r ⌝ }
 {
     if !ty::check_table(types, fields, consts, bytes) {
-        return Listed::BadTable;
+        return Reply::Not(Refusal::TypeTable).numbers();
     }
-    trace::list_object(types, fields, consts, bytes, t, data, out)
+    let reply = trace::list_object(types, fields, consts, bytes, t, data, out);
+    reply.numbers()
 }
 
-// The handles of a value of type t that needs no descriptor.
-pub fn value_handles(
+// The handles of a value of type t that needs no descriptor. first: how many.
+#[no_mangle]
+pub extern "C" fn yexwalu_value_handles(
     types: &[u64],
     fields: &[u32],
     consts: &[u64],
@@ -36,44 +47,50 @@ pub fn value_handles(
     t: u64,
     data: &[u8],
     out: &mut [u64],
-) -> Listed
-    ensures { λ r. ⌜ Lists (onTable (now (types .entry)) (now (fields .entry)) (now (consts .entry)) (now (bytes .entry)) (listing (valueHandles (tableOf (now (types .entry)) (now (fields .entry)) (now (consts .entry)) (now (bytes .entry))) t (now («data» .entry))) (length (now (out .entry))))) r (now (out .entry)) (now (out .exit)) ⌝ }
+) -> Answer
+    ensures { λ r. ⌜ HandlesCall (onTable (now (types .entry)) (now (fields .entry)) (now (consts .entry)) (now (bytes .entry)) (listing
+        (valueHandles (tableOf (now (types .entry)) (now (fields .entry)) (now (consts .entry)) (now (bytes .entry))) t (now («data» .entry)))
+        (length (now (out .entry)))))
+        (now (out .entry)) (now (out .exit)) r ⌝ }
 {
     if !ty::check_table(types, fields, consts, bytes) {
-        return Listed::BadTable;
+        return Reply::Not(Refusal::TypeTable).numbers();
     }
-    trace::list_value(types, fields, consts, bytes, t, data, out)
+    let reply = trace::list_value(types, fields, consts, bytes, t, data, out);
+    reply.numbers()
 }
 
-// The handles and the addresses of a frame's memory by its map, three lists of one length, each into a lent list of its own.
-pub fn slot_roots(
+// The handles and the addresses of a frame's memory by its map, three words an entry (offset, kind, type), each into a lent list of its own. first: how many
+// handles; second: how many addresses.
+#[no_mangle]
+pub extern "C" fn yexwalu_slot_roots(
     types: &[u64],
     fields: &[u32],
     consts: &[u64],
     bytes: &[u8],
-    offsets: &[u32],
-    kinds: &[u8],
-    tys: &[u32],
+    map: &[u32],
     memory: &[u8],
     handles: &mut [u64],
     addresses: &mut [u64],
-) -> Framed
-    ensures { λ r. ⌜ Frames (onTable (now (types .entry)) (now (fields .entry)) (now (consts .entry)) (now (bytes .entry)) (rootsListing (frameHandles (tableOf (now (types .entry)) (now (fields .entry)) (now (consts .entry)) (now (bytes .entry))) (now (offsets .entry)) (now (kinds .entry)) (now (tys .entry)) (now (memory .entry))) (frameAddresses (tableOf (now (types .entry)) (now (fields .entry)) (now (consts .entry)) (now (bytes .entry))) (now (offsets .entry)) (now (kinds .entry)) (now (tys .entry)) (now (memory .entry))) (length (now (handles .entry))) (length (now (addresses .entry))))) r
-        (now (handles .entry)) (now (addresses .entry)) (now (handles .exit)) (now (addresses .exit)) ⌝ }
+) -> Answer
+    ensures { λ r. ⌜ RootsCall (onTable (now (types .entry)) (now (fields .entry)) (now (consts .entry)) (now (bytes .entry)) (rootsListing
+        (frameHandles (tableOf (now (types .entry)) (now (fields .entry)) (now (consts .entry)) (now (bytes .entry))) (now (map .entry)) (now (memory .entry)))
+        (frameAddresses (tableOf (now (types .entry)) (now (fields .entry)) (now (consts .entry)) (now (bytes .entry))) (now (map .entry)) (now (memory .entry)))
+        (length (now (handles .entry))) (length (now (addresses .entry)))))
+        (now (handles .entry)) (now (addresses .entry)) (now (handles .exit)) (now (addresses .exit)) r ⌝ }
 {
     if !ty::check_table(types, fields, consts, bytes) {
-        return Framed::BadTable;
+        return Reply::Not(Refusal::TypeTable).numbers();
     }
-    frame::list_roots(
+    let reply = frame::list_roots(
         types,
         fields,
         consts,
         bytes,
-        offsets,
-        kinds,
-        tys,
+        map,
         memory,
         handles,
         addresses,
-    )
+    );
+    reply.numbers()
 }

@@ -107,7 +107,7 @@ fn random_joined_collections_answer_as_the_rust() {
         let (mut heap, handles) = filled(&mut random, &mut oracle, &table, &format!("seed {seed}"));
         for step in 0..3 {
             let place = format!("seed {seed}, collection {step}");
-            let slots = heap.memory().generation.len();
+            let slots = heap.memory().slots();
             let values: Vec<u64> = f.classes.iter().map(|_| any(&mut random, &handles, slots)).collect();
             let (map, memory) = frame(&mut random, &table, &mut |r| any(r, &handles, slots));
             let (pc, pins) = (place_in(&mut random, &f), pins(&mut random, slots));

@@ -185,8 +185,8 @@ fn random_calls_answer_as_the_rust() {
 // The handles of all live slots.
 fn live(heap: &Heap) -> Vec<Handle> {
     let (header, memory) = (heap.header(), heap.memory());
-    let handle = |i: usize| Handle(u64::from(header.tag) << 56 | (i as u64) << 32 | u64::from(memory.generation[i]));
-    (0..header.slots).filter(|i| memory.kind[*i] != 0).map(handle).collect()
+    let handle = |i: usize| Handle(u64::from(header.tag) << 56 | (i as u64) << 32 | u64::from(memory.generation()[i]));
+    (0..header.slots).filter(|i| memory.kind()[*i] != 0).map(handle).collect()
 }
 
 // Places so many objects and releases the first so many live ones, here by scripts: each single call would check the whole heap. Then both say whether to recycle.

@@ -229,7 +229,7 @@ pub fn frame(random: &mut Random, table: &TypeTable, word: &mut impl FnMut(&mut 
                 0 => random.below(memory.len() as u64 + 3) as u32,
                 _ => 8 * random.below(memory.len() as u64 / 8 + 1) as u32,
             },
-            kind: random.below(3) as u8,
+            kind: random.below(3) as u32,
             ty: type_of(random, table),
         })
         .collect();
@@ -369,7 +369,7 @@ fn random_collections_answer_as_the_rust() {
         let (mut heap, handles) = filled(&mut random, &mut oracle, &table, &format!("seed {seed}"));
         for step in 0..3 {
             let place = format!("seed {seed}, collection {step}");
-            let slots = heap.memory().generation.len();
+            let slots = heap.memory().slots();
             let roots: Vec<Handle> = (0..random.below(4)).map(|_| Handle(any(&mut random, &handles, slots))).collect();
             let pins = pins(&mut random, slots);
             let here = told(heap.collect(&table, &roots, &pins), |()| String::new());

@@ -23,7 +23,7 @@ same-length-2 : tie.Need-same-length-2
 same-length-2 c = search needs
 
 returns : tie.Need-returns
-returns c = (finish-stuck _ (c .before .before .before .before .before .before .before .before .before .before .before .before .before .before .before .before .before .before .before .before .before .before .before .args .marks .now) (c .before .before .before .before .before .before .before .before .before .before .before .before .before .before .before .before .before .before .before .before .before .before .before .args .pins .now) (c .before .before .before .before .before .before .before .before .before .before .before .before .before .before .before .before .before .before .before .before .before .before .before .args .outcome) (c .before .before .before .before .before .before .before .before .before .before .before .before .before .before .before .before .before .before .before .before .before .before .before .pre .0 .formed) (c .before .before .before .before .before .match .keys2), (c .before .before .clear-u8 .ensures, c .before .before .before .before .before .before .before .before .clear-u64 .ensures))
+returns c = (finish-stuck _ (c .before .before .before .before .before .before .before .before .before .before .before .before .before .before .before .before .args .marks .now) (c .before .before .before .before .before .before .before .before .before .before .before .before .before .before .before .before .args .pins .now) (c .before .before .before .before .before .before .before .before .before .before .before .before .before .before .before .before .args .outcome) (c .before .before .before .before .before .before .before .before .before .before .before .before .before .before .before .before .pre .0 .formed) (c .before .before .before .before .before .match .keys2), (c .before .before .clear-u8 .ensures, c .before .before .before .before .before .before .before .before .clear-u64 .ensures))
 
 sweep-requires : tie.Need-sweep-requires
 sweep-requires c κs = search needs
@@ -46,26 +46,8 @@ same-length-6 c = search needs
 same-length-7 : tie.Need-same-length-7
 same-length-7 c = search needs
 
-same-length-8 : tie.Need-same-length-8
-same-length-8 c = search needs
-
-same-length-9 : tie.Need-same-length-9
-same-length-9 c = search needs
-
-same-length-10 : tie.Need-same-length-10
-same-length-10 c = search needs
-
-same-length-11 : tie.Need-same-length-11
-same-length-11 c = search needs
-
-same-length-12 : tie.Need-same-length-12
-same-length-12 c = search needs
-
-same-length-13 : tie.Need-same-length-13
-same-length-13 c = c .before .before .before .before .before .before .before .before .before .before .before .before .before .before .before .before .before .before .before .before .before .before .before .before .before .before .before .before .before .before .before .before .before .before .before .before .before .clear-u64 .kept .0
-
 returns-2 : tie.Need-returns-2
-returns-2 c = (finish-done _ (c .before .before .before .before .before .before .before .before .before .before .before .before .before .before .before .before .before .before .before .before .before .before .before .before .before .before .before .before .before .before .before .before .before .before .before .before .before .before .before .before .before .before .before .before .before .before .before .before .before .before .before .before .args .marks .now) (c .before .before .before .before .before .before .before .before .before .before .before .before .before .before .before .before .before .before .before .before .before .before .before .before .before .before .before .before .before .before .before .before .before .before .before .before .before .before .before .before .before .before .before .before .before .before .before .before .before .before .before .before .args .pins .now) (c .before .before .before .before .before .before .before .before .before .before .before .before .before .before .before .before .before .before .before .before .before .before .before .before .before .before .before .before .before .before .before .before .before .before .before .before .before .before .before .before .before .before .before .before .before .before .before .before .before .before .before .before .args .outcome) (c .before .before .before .before .before .before .before .before .before .before .before .before .before .before .before .before .before .before .before .before .before .before .before .before .before .before .before .before .before .before .before .before .before .before .match .keys1) _ (c .before .before .before .before .before .before .before .before .before .before .before .before .before .before .before .before .before .before .before .before .before .before .sweep .ensures), (c .before .before .clear-u82 .ensures, c .before .before .before .before .before .before .before .before .before .before .before .before .before .before .before .before .before .before .before .before .before .before .before .before .before .before .before .before .before .before .before .before .before .before .before .before .before .clear-u64 .ensures))
+returns-2 c = (finish-done _ (c .before .before .before .before .before .before .before .before .before .before .before .before .before .before .before .before .before .before .before .before .before .before .before .before .before .before .before .args .marks .now) (c .before .before .before .before .before .before .before .before .before .before .before .before .before .before .before .before .before .before .before .before .before .before .before .before .before .before .before .args .pins .now) (c .before .before .before .before .before .before .before .before .before .before .before .before .before .before .before .before .before .before .before .before .before .before .before .before .before .before .before .args .outcome) (c .before .before .before .before .before .before .before .before .before .before .before .before .before .before .before .before .match .keys1) _ (c .before .before .before .before .before .before .before .before .before .before .sweep .ensures), (c .before .before .clear-u82 .ensures, c .before .before .before .before .before .before .before .before .before .before .before .before .before .before .before .before .before .before .before .clear-u64 .ensures))
 
 pub finish-spec : {M : Type 1} → statement M
 finish-spec =
@@ -85,10 +67,4 @@ finish-spec =
     same-length-5
     same-length-6
     same-length-7
-    same-length-8
-    same-length-9
-    same-length-10
-    same-length-11
-    same-length-12
-    same-length-13
     returns-2)

@@ -1,14 +1,11 @@
 -- `frame::trace_frame` meets its contract. Assumes nothing.
+use Rattle.frame.proofs.FrameLaws.{frame-cut, frame-entries}
 use borrow.Author.Needs.{needs}
-use Rattle.frame.proofs.FrameLaws.{frame-kinds, frame-types, frame-entries}
 use Rattle.frame.proofs.trace_frame.Statement.{statement}
 use Rattle.frame.proofs.trace_frame.Tie as tie
 
 returns : tie.Need-returns
-returns c = search frame-kinds
-
-returns-2 : tie.Need-returns-2
-returns-2 c = search frame-types
+returns c = search frame-cut
 
 trace-entries-requires : tie.Need-trace-entries-requires
 trace-entries-requires c κs = search needs
@@ -19,16 +16,9 @@ same-length c = search needs
 same-length-2 : tie.Need-same-length-2
 same-length-2 c = search needs
 
-returns-3 : tie.Need-returns-3
-returns-3 c = search frame-entries
+returns-2 : tie.Need-returns-2
+returns-2 c = search frame-entries
 
 pub trace-frame-spec : {M : Type 1} → statement M
 trace-frame-spec =
-    tie.close
-    (tie.spec
-    returns
-    returns-2
-    trace-entries-requires
-    same-length
-    same-length-2
-    returns-3)
+    tie.close (tie.spec returns trace-entries-requires same-length same-length-2 returns-2)

@@ -1,9 +1,15 @@
 -- `heap_edit::data` meets its contract. Assumes nothing.
-use mathlib.Core.Path.{sym, ap, _∙_}
-use Rattle.heap_edit.proofs.Asking.{header-is, placeOf, place-seen}
+use denote.Ref.{now}
+use Rattle.heap.specs.Lent.{Lent, lent, view}
+use Rattle.heap_edit.proofs.Questions.{place-told}
 use borrow.Author.Needs.{needs}
 use Rattle.heap_edit.proofs.data.Statement.{statement}
 use Rattle.heap_edit.proofs.data.Tie as tie
+use Rattle.heap_edit.proofs.seen.Reads as seen-reads
+
+-- the lent memory where the call starts
+abbrev L : tie.Start → Lent
+L c = lent (c .args .heap) (now (c .args .narrow)) (now (c .args .wide)) (now (c .args .pool))
 
 seen-requires : tie.Need-seen-requires
 seen-requires c κs = search needs
@@ -18,13 +24,13 @@ enum-known-from : tie.Need-enum-known-from
 enum-known-from c = search needs
 
 returns : tie.Need-returns
-returns c = λ S P h e k s t. sym (ap placeOf (c .enum-told .given .1)) ∙ ap placeOf (c .before .before .seen .ensures S P h (sym (header-is h _ e .slots)) k s t) ∙ place-seen h _
+returns c = place-told (view (L (c .before .before .before .before .before .before))) _ (c .enum-told .given .1) (c .before .before .seen .ensures)
 
 returns-2 : tie.Need-returns-2
-returns-2 c = λ S P h e k s t. sym (ap placeOf (c .enum-told2 .given .1)) ∙ ap placeOf (c .before .before .seen .ensures S P h (sym (header-is h _ e .slots)) k s t) ∙ place-seen h _
+returns-2 c = place-told (view (L (c .before .before .before .before .before .before))) _ (c .enum-told2 .given .1) (c .before .before .seen .ensures)
 
 returns-3 : tie.Need-returns-3
-returns-3 c = λ S P h e k s t. sym (ap placeOf (c .before .from .given .1)) ∙ ap placeOf (c .before .before .before .seen .ensures S P h (sym (header-is h _ e .slots)) k s t) ∙ place-seen h _
+returns-3 c = place-told (view (L (c .before .before .before .before .before .before .before))) _ (c .before .from .given .1) (c .before .before .before .seen .ensures)
 
 pub data-spec : {M : Type 1} → statement M
 data-spec =

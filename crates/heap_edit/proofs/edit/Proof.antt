@@ -1,52 +1,45 @@
 -- `heap_edit::edit` meets its contract. Assumes nothing.
 use denote.Ref.{now}
-use mathlib.Core.Path.{refl, sym, ap, _∙_}
 use native.Mathlib.Omega.{arith}
-use Rattle.handle.specs.Handle.{told}
-use Rattle.heap_edit.proofs.Lying.{held, can-fit}
-use Rattle.heap_edit.proofs.Calling.{found, edit-unfound, edit-inside, edit-not, edit-splices, edit-yes}
+use Rattle.heap.specs.Lent.{Lent, lent}
+use Rattle.heap_edit.proofs.Columns.{Sizes, sizes, reads}
+use Rattle.heap_edit.proofs.Editing.{found, edit-unfound, edit-inside, edit-not, edit-can, edit-yes}
 use borrow.Author.Needs.{needs}
 use Rattle.heap_edit.proofs.edit.Statement.{statement}
 use Rattle.heap_edit.proofs.edit.Tie as tie
+use Rattle.handle.proofs.Resolved.reply.Reads as reply-reads
+use Rattle.handle.proofs.resolve.Reads as resolve-reads
+use Rattle.heap.proofs.Heap.changed.Reads as changed-reads
+use Rattle.heap_edit.proofs.fits.Reads as fits-reads
+use Rattle.heap_edit.proofs.replace.Reads as replace-reads
+
+-- the lent memory where the call starts
+abbrev L : tie.Start → Lent
+L c = lent (c .args .heap) (now (c .args .narrow)) (now (c .args .wide)) (now (c .args .pool))
+
+K : (c : tie.Start) → Sizes (c .args .heap) (now (c .args .narrow)) (now (c .args .wide)) (now (c .args .pool))
+K c = sizes (c .args .heap) (now (c .args .narrow)) (now (c .args .wide)) (now (c .args .pool)) (c .pre)
 
 resolve-requires : tie.Need-resolve-requires
-resolve-requires c κs = (held _ (c .before .before .before .before .before .before .before .before .before .before .before .pre) .generation-size, held _ (c .before .before .before .before .before .before .before .before .before .before .before .pre) .kind-size)
+resolve-requires c κs = omega (arith, K (c .before .before .before .before .before))
 
 enum-known-found : tie.Need-enum-known-found
 enum-known-found c = search needs
 
-not-edited-requires : tie.Need-not-edited-requires
-not-edited-requires c κs = search needs
+reply-requires : tie.Need-reply-requires
+reply-requires c κs = search needs
+
+same-length : tie.Need-same-length
+same-length c = search needs
 
 returns : tie.Need-returns
-returns c = rw (c .not-edited .ensures) (edit-unfound _ (c .before .before .before .before .before .before .before .before .before .before .before .before .before .before .pre) _ _ _ (c .before .before .resolve .result) (c .before .match .keys2) (found _ (c .before .before .before .before .before .before .before .before .before .before .before .before .before .before .pre) _ (c .before .before .resolve .result) (c .before .before .resolve .ensures)))
+returns c = edit-unfound (L (c .before .before .before .before .before .before .before .before)) (c .before .before .before .before .before .before .before .before .pre) (c .before .before .before .before .before .before .before .before .args .x) (now (c .before .before .before .before .before .before .before .before .args .bytes)) (c .before .before .before .before .before .before .before .before .args .start) (c .before .before .resolve .result) (c .before .match .keys2) (found (L (c .before .before .before .before .before .before .before .before)) (c .before .before .before .before .before .before .before .before .pre) _ (c .before .before .resolve .result) (c .before .before .resolve .ensures)) (c .reply .ensures)
 
 cast-i : tie.Need-cast-i
 cast-i c = search needs
 
 fits-requires : tie.Need-fits-requires
-fits-requires c κs = can-fit _ (c .before .before .before .before .before .before .before .before .before .before .before .before .before .before .before .before .pre) _ (edit-inside _ (c .before .before .before .before .before .before .before .before .before .before .before .before .before .before .before .before .pre) _ (now (c .before .before .before .before .before .before .before .before .before .before .before .before .before .before .before .before .args .bytes)) (c .before .before .before .before .before .before .before .before .before .before .before .before .before .before .before .before .args .first) _ (sym (found _ (c .before .before .before .before .before .before .before .before .before .before .before .before .before .before .before .before .pre) _ (c .before .before .before .before .resolve .result) (c .before .before .before .before .resolve .ensures)) ∙ ap told (c .before .before .found .given .1)))
-
-same-length : tie.Need-same-length
-same-length c = search needs
-
-returns-2 : tie.Need-returns-2
-returns-2 c = edit-not _ (c .before .before .before .before .before .before .before .before .before .before .before .before .before .before .before .before .before .before .pre) _ (now (c .before .before .before .before .before .before .before .before .before .before .before .before .before .before .before .before .before .before .args .bytes)) (c .before .before .before .before .before .before .before .before .before .before .before .before .before .before .before .before .before .before .args .first) _ (sym (found _ (c .before .before .before .before .before .before .before .before .before .before .before .before .before .before .before .before .before .before .pre) _ (c .before .before .before .before .before .before .resolve .result) (c .before .before .before .before .before .before .resolve .ensures)) ∙ ap told (c .before .before .before .before .found .given .1)) _ (c .before .fits2 .ensures) (c .if1 .left)
-
-raise-requires : tie.Need-raise-requires
-raise-requires c κs = omega (arith, held _ (c .before .before .before .before .before .before .before .before .before .before .before .before .before .before .before .before .before .before .before .pre), edit-inside _ (c .before .before .before .before .before .before .before .before .before .before .before .before .before .before .before .before .before .before .before .pre) _ (now (c .before .before .before .before .before .before .before .before .before .before .before .before .before .before .before .before .before .before .before .args .bytes)) (c .before .before .before .before .before .before .before .before .before .before .before .before .before .before .before .before .before .before .before .args .first) _ (sym (found _ (c .before .before .before .before .before .before .before .before .before .before .before .before .before .before .before .before .before .before .before .pre) _ (c .before .before .before .before .before .before .before .resolve .result) (c .before .before .before .before .before .before .before .resolve .ensures)) ∙ ap told (c .before .before .before .before .before .found .given .1)))
-
-mul-start : tie.Need-mul-start
-mul-start c = search needs
-
-slice-write-start : tie.Need-slice-write-start
-slice-write-start c = omega (arith, held _ (c .before .before .before .before .before .before .before .before .before .before .before .before .before .before .before .before .before .before .before .before .before .before .pre), edit-inside _ (c .before .before .before .before .before .before .before .before .before .before .before .before .before .before .before .before .before .before .before .before .before .before .pre) _ (now (c .before .before .before .before .before .before .before .before .before .before .before .before .before .before .before .before .before .before .before .before .before .before .args .bytes)) (c .before .before .before .before .before .before .before .before .before .before .before .before .before .before .before .before .before .before .before .before .before .before .args .first) _ (sym (found _ (c .before .before .before .before .before .before .before .before .before .before .before .before .before .before .before .before .before .before .before .before .before .before .pre) _ (c .before .before .before .before .before .before .before .before .before .before .resolve .result) (c .before .before .before .before .before .before .before .before .before .before .resolve .ensures)) ∙ ap told (c .before .before .before .before .before .before .before .before .found .given .1)))
-
-splice-requires : tie.Need-splice-requires
-splice-requires c κs = edit-splices _ (c .before .before .before .before .before .before .before .before .before .before .before .before .before .before .before .before .before .before .before .before .before .before .before .before .pre) _ (now (c .before .before .before .before .before .before .before .before .before .before .before .before .before .before .before .before .before .before .before .before .before .before .before .before .args .bytes)) (c .before .before .before .before .before .before .before .before .before .before .before .before .before .before .before .before .before .before .before .before .before .before .before .before .args .first) _ (sym (found _ (c .before .before .before .before .before .before .before .before .before .before .before .before .before .before .before .before .before .before .before .before .before .before .before .before .pre) _ (c .before .before .before .before .before .before .before .before .before .before .before .before .resolve .result) (c .before .before .before .before .before .before .before .before .before .before .before .before .resolve .ensures)) ∙ ap told (c .before .before .before .before .before .before .before .before .before .before .found .given .1)) _ (c .before .before .before .before .before .before .before .fits2 .ensures) (c .before .before .before .before .before .before .if1 .taken)
-
-changed-requires : tie.Need-changed-requires
-changed-requires c κs = search needs
+fits-requires c κs = (c .before .before .before .before .before .before .before .before .before .before .before .before .pre, edit-inside (L (c .before .before .before .before .before .before .before .before .before .before .before .before)) (c .before .before .before .before .before .before .before .before .before .before .before .before .pre) (c .before .before .before .before .before .before .before .before .before .before .before .before .args .x) (now (c .before .before .before .before .before .before .before .before .before .before .before .before .args .bytes)) (c .before .before .before .before .before .before .before .before .before .before .before .before .args .start) (found (L (c .before .before .before .before .before .before .before .before .before .before .before .before)) (c .before .before .before .before .before .before .before .before .before .before .before .before .pre) _ (c .before .before .before .before .before .before .resolve .result) (c .before .before .before .before .before .before .resolve .ensures)) (c .before .before .before .before .found .given .1))
 
 same-length-2 : tie.Need-same-length-2
 same-length-2 c = search needs
@@ -57,11 +50,29 @@ same-length-3 c = search needs
 same-length-4 : tie.Need-same-length-4
 same-length-4 c = search needs
 
+returns-2 : tie.Need-returns-2
+returns-2 c = edit-not (L (c .before .before .before .before .before .before .before .before .before .before .before .before .before .before)) (c .before .before .before .before .before .before .before .before .before .before .before .before .before .before .pre) (c .before .before .before .before .before .before .before .before .before .before .before .before .before .before .args .x) (now (c .before .before .before .before .before .before .before .before .before .before .before .before .before .before .args .bytes)) (c .before .before .before .before .before .before .before .before .before .before .before .before .before .before .args .start) (found (L (c .before .before .before .before .before .before .before .before .before .before .before .before .before .before)) (c .before .before .before .before .before .before .before .before .before .before .before .before .before .before .pre) _ (c .before .before .before .before .before .before .before .before .resolve .result) (c .before .before .before .before .before .before .before .before .resolve .ensures)) (c .before .before .before .before .before .before .found .given .1) (c .before .fits2 .ensures) (c .if1 .left)
+
+changed-requires : tie.Need-changed-requires
+changed-requires c κs = search needs
+
+replace-requires : tie.Need-replace-requires
+replace-requires c κs = (edit-can (L (c .before .before .before .before .before .before .before .before .before .before .before .before .before .before .before .before .before .before)) (c .before .before .before .before .before .before .before .before .before .before .before .before .before .before .before .before .before .before .pre) (c .before .before .before .before .before .before .before .before .before .before .before .before .before .before .before .before .before .before .args .x) (now (c .before .before .before .before .before .before .before .before .before .before .before .before .before .before .before .before .before .before .args .bytes)) (c .before .before .before .before .before .before .before .before .before .before .before .before .before .before .before .before .before .before .args .start) (found (L (c .before .before .before .before .before .before .before .before .before .before .before .before .before .before .before .before .before .before)) (c .before .before .before .before .before .before .before .before .before .before .before .before .before .before .before .before .before .before .pre) _ (c .before .before .before .before .before .before .before .before .before .before .before .before .resolve .result) (c .before .before .before .before .before .before .before .before .before .before .before .before .resolve .ensures)) (c .before .before .before .before .before .before .before .before .before .before .found .given .1) (c .before .before .before .before .before .fits2 .ensures) (c .before .before .before .before .if1 .taken) (c .before .before .before .changed .ensures), omega (arith, reads (c .before .before .before .before .before .before .before .before .before .before .before .before .before .before .before .before .before .before .args .heap) (now (c .before .before .before .before .before .before .before .before .before .before .before .before .before .before .before .before .before .before .args .narrow)) (now (c .before .before .before .before .before .before .before .before .before .before .before .before .before .before .before .before .before .before .args .wide)) (now (c .before .before .before .before .before .before .before .before .before .before .before .before .before .before .before .before .before .before .args .pool)) (c .before .before .before .before .before .before .before .before .before .before .before .before .before .before .before .before .before .before .pre) _ (edit-inside (L (c .before .before .before .before .before .before .before .before .before .before .before .before .before .before .before .before .before .before)) (c .before .before .before .before .before .before .before .before .before .before .before .before .before .before .before .before .before .before .pre) (c .before .before .before .before .before .before .before .before .before .before .before .before .before .before .before .before .before .before .args .x) (now (c .before .before .before .before .before .before .before .before .before .before .before .before .before .before .before .before .before .before .args .bytes)) (c .before .before .before .before .before .before .before .before .before .before .before .before .before .before .before .before .before .before .args .start) (found (L (c .before .before .before .before .before .before .before .before .before .before .before .before .before .before .before .before .before .before)) (c .before .before .before .before .before .before .before .before .before .before .before .before .before .before .before .before .before .before .pre) _ (c .before .before .before .before .before .before .before .before .before .before .before .before .resolve .result) (c .before .before .before .before .before .before .before .before .before .before .before .before .resolve .ensures)) (c .before .before .before .before .before .before .before .before .before .before .found .given .1))))
+
+cast-t33 : tie.Need-cast-t33
+cast-t33 c = search needs
+
 same-length-5 : tie.Need-same-length-5
 same-length-5 c = search needs
 
+same-length-6 : tie.Need-same-length-6
+same-length-6 c = search needs
+
+same-length-7 : tie.Need-same-length-7
+same-length-7 c = search needs
+
 returns-3 : tie.Need-returns-3
-returns-3 c = edit-yes _ (c .before .before .before .before .before .before .before .before .before .before .before .before .before .before .before .before .before .before .before .before .before .before .before .before .before .before .before .before .before .before .pre) _ (now (c .before .before .before .before .before .before .before .before .before .before .before .before .before .before .before .before .before .before .before .before .before .before .before .before .before .before .before .before .before .before .args .bytes)) (c .before .before .before .before .before .before .before .before .before .before .before .before .before .before .before .before .before .before .before .before .before .before .before .before .before .before .before .before .before .before .args .first) _ (sym (found _ (c .before .before .before .before .before .before .before .before .before .before .before .before .before .before .before .before .before .before .before .before .before .before .before .before .before .before .before .before .before .before .pre) _ (c .before .before .before .before .before .before .before .before .before .before .before .before .before .before .before .before .before .before .resolve .result) (c .before .before .before .before .before .before .before .before .before .before .before .before .before .before .before .before .before .before .resolve .ensures)) ∙ ap told (c .before .before .before .before .before .before .before .before .before .before .before .before .before .before .before .before .found .given .1)) _ (c .before .before .before .before .before .before .before .before .before .before .before .before .before .fits2 .ensures) _ _ _ _ _ (c .before .before .before .before .before .before .before .before .before .before .before .before .if1 .taken) (c .before .before .before .before .before .before .before .before .before .before .raise .ensures) refl (c .before .before .before .before .before .splice .ensures) (c .changed .ensures)
+returns-3 c = edit-yes (c .before .before .before .before .before .before .before .before .before .before .before .before .before .before .before .before .before .before .before .before .before .before .before .before .before .args .heap) (now (c .before .before .before .before .before .before .before .before .before .before .before .before .before .before .before .before .before .before .before .before .before .before .before .before .before .args .narrow)) (now (c .before .before .before .before .before .before .before .before .before .before .before .before .before .before .before .before .before .before .before .before .before .before .before .before .before .args .wide)) (now (c .before .before .before .before .before .before .before .before .before .before .before .before .before .before .before .before .before .before .before .before .before .before .before .before .before .args .pool)) (c .before .before .before .before .before .before .before .before .before .before .before .before .before .before .before .before .before .before .before .before .before .before .before .before .before .pre) (c .before .before .before .before .before .before .before .before .before .before .before .before .before .before .before .before .before .before .before .before .before .before .before .before .before .args .x) (now (c .before .before .before .before .before .before .before .before .before .before .before .before .before .before .before .before .before .before .before .before .before .before .before .before .before .args .bytes)) (c .before .before .before .before .before .before .before .before .before .before .before .before .before .before .before .before .before .before .before .before .before .before .before .before .before .args .start) (found (L (c .before .before .before .before .before .before .before .before .before .before .before .before .before .before .before .before .before .before .before .before .before .before .before .before .before)) (c .before .before .before .before .before .before .before .before .before .before .before .before .before .before .before .before .before .before .before .before .before .before .before .before .before .pre) _ (c .before .before .before .before .before .before .before .before .before .before .before .before .before .before .before .before .before .before .before .resolve .result) (c .before .before .before .before .before .before .before .before .before .before .before .before .before .before .before .before .before .before .before .resolve .ensures)) (c .before .before .before .before .before .before .before .before .before .before .before .before .before .before .before .before .before .found .given .1) (c .before .before .before .before .before .before .before .before .before .before .before .before .fits2 .ensures) (c .before .before .before .before .before .before .before .before .before .before .before .if1 .taken) (c .before .before .before .before .before .before .before .before .before .before .changed .ensures) _ (c .before .before .before .before .before .before .replace .ensures)
 
 pub edit-spec : {M : Type 1} → statement M
 edit-spec =
@@ -69,19 +80,19 @@ edit-spec =
     (tie.spec
     resolve-requires
     enum-known-found
-    not-edited-requires
+    reply-requires
+    same-length
     returns
     cast-i
     fits-requires
-    same-length
-    returns-2
-    raise-requires
-    mul-start
-    slice-write-start
-    splice-requires
-    changed-requires
     same-length-2
     same-length-3
     same-length-4
+    returns-2
+    changed-requires
+    replace-requires
+    cast-t33
     same-length-5
+    same-length-6
+    same-length-7
     returns-3)

@@ -1,38 +1,74 @@
 -- `heap_edit::kind` meets its contract. Assumes nothing.
-use Rattle.heap_edit.proofs.Asking.{none-beyond, none-dead, no-kind, its-kind}
+use denote.Ref.{now}
+use native.Mathlib.Omega.{arith}
+use Rattle.heap.specs.Lent.{Lent, lent, view}
+use Prim.Native.Nat.{_+_, _*_, _/_, _<_}
+use lib.ListN.{length}
+use Rattle.heap_edit.proofs.Columns.{Sizes, Reads, sizes, reads}
+use Rattle.heap_edit.proofs.Questions.{none-beyond, lifeless, no-kind, its-kind}
 use borrow.Author.Needs.{needs}
 use Rattle.heap_edit.proofs.kind.Statement.{statement}
 use Rattle.heap_edit.proofs.kind.Tie as tie
 
-returns : tie.Need-returns
-returns c = λ S P h e k t. no-kind h _ (none-beyond h _ _ e (c .if1 .taken))
+-- the lent memory where the call starts
+abbrev L : tie.Start → Lent
+L c = lent (c .args .heap) (now (c .args .narrow)) (now (c .args .wide)) (now (c .args .pool))
 
-shared-slice-read-if2 : tie.Need-shared-slice-read-if2
-shared-slice-read-if2 c = search needs
+K : (c : tie.Start) → Sizes (c .args .heap) (now (c .args .narrow)) (now (c .args .wide)) (now (c .args .pool))
+K c = sizes (c .args .heap) (now (c .args .narrow)) (now (c .args .wide)) (now (c .args .pool)) (c .pre)
+
+R : (c : tie.Start) → c .args .i < c .args .heap .slots → Reads (c .args .heap) (now (c .args .narrow)) (now (c .args .wide)) (now (c .args .pool)) (c .args .i)
+R c b = reads (c .args .heap) (now (c .args .narrow)) (now (c .args .wide)) (now (c .args .pool)) (c .pre) (c .args .i) b
+
+returns : tie.Need-returns
+returns c = no-kind (view (L (c .before .before))) _ (none-beyond (L (c .before .before)) (c .before .before .pre) _ (c .if1 .taken))
+
+add-k : tie.Need-add-k
+add-k c = omega (arith, K (c .before .before))
+
+mul-k : tie.Need-mul-k
+mul-k c = omega (arith, K (c .before .before))
+
+shared-slice-read-k : tie.Need-shared-slice-read-k
+shared-slice-read-k c = omega (arith, K (c .before .before .before))
 
 returns-2 : tie.Need-returns-2
-returns-2 c = λ S P h e k t. no-kind h _ (none-dead h _ S P _ k (c .if2 .taken))
+returns-2 c = no-kind (view (L (c .before .before .before .before))) _ (lifeless (view (L (c .before .before .before .before))) _ (R (c .before .before .before .before) (omega arith) .kind) (c .if2 .taken))
 
-shared-slice-read-t7 : tie.Need-shared-slice-read-t7
-shared-slice-read-t7 c = search needs
+cast-t15 : tie.Need-cast-t15
+cast-t15 c = omega (arith, c .before .shared-slice-known .given (length (now (c .before .before .before .before .args .narrow)) / 6 + c .before .before .before .before .args .i))
 
-mul-t9 : tie.Need-mul-t9
-mul-t9 c = search needs
+mul-t10 : tie.Need-mul-t10
+mul-t10 c = search needs
 
-shared-slice-read-t11 : tie.Need-shared-slice-read-t11
-shared-slice-read-t11 c = search needs
+add-t11 : tie.Need-add-t11
+add-t11 c = omega (arith, K (c .before .before .before .before))
+
+mul-t16 : tie.Need-mul-t16
+mul-t16 c = omega (arith, K (c .before .before .before .before))
+
+shared-slice-read-t13 : tie.Need-shared-slice-read-t13
+shared-slice-read-t13 c = omega (arith, K (c .before .before .before .before .before))
+
+cast-t18 : tie.Need-cast-t18
+cast-t18 c = omega (arith, c .shared-slice-known2 .given (2 * (length (now (c .before .before .before .before .before .args .narrow)) / 6) + c .before .before .before .before .before .args .i))
 
 returns-3 : tie.Need-returns-3
-returns-3 c = λ S P h e k t. its-kind S P h _ _ _ k t (c .before .before .if2 .left)
+returns-3 c = let b = R (c .before .before .before .before .before) (omega arith) in its-kind (view (L (c .before .before .before .before .before))) _ (b .kind) (b .type) (c .before .if2 .left)
 
 pub kind-spec : {M : Type 1} → statement M
 kind-spec =
     tie.close
     (tie.spec
     returns
-    shared-slice-read-if2
+    add-k
+    mul-k
+    shared-slice-read-k
     returns-2
-    shared-slice-read-t7
-    mul-t9
-    shared-slice-read-t11
+    cast-t15
+    mul-t10
+    add-t11
+    mul-t16
+    shared-slice-read-t13
+    cast-t18
     returns-3)

@@ -1,27 +1,37 @@
--- `heap_edit::live` meets its contract: the live slots from i on are still to be counted. Assumes nothing.
-use mathlib.Core.Path.{_≡_, sym}
+-- `heap_edit::live` meets its contract. Assumes nothing.
+use denote.Ref.{now}
+use mathlib.Core.Path.{_≡_, refl, ap}
+use mathlib.Core.Bool.{true}
 use Prim.Native.Nat.{ℕ, _-_, _≤_}
 use native.Mathlib.Omega.{arith}
 use mathlib.Core.Logic.{⊎-elim}
-use lib.ListN.{length}
-use Rattle.heap.specs.State.{State}
-use Rattle.heap.specs.Lent.{stored}
-use Rattle.heap_edit.proofs.Asking.{header-is}
-use Rattle.heap_edit.proofs.Listing.{Counting, count-first, count-live, count-dead, count-last}
+use Rattle.word.specs.Result.{ok}
+use Rattle.refusal.specs.Told.{answered, here, nothing}
+use Rattle.heap.specs.Lent.{lent, view}
+use Rattle.heap.specs.WellFormed.{wellFormed}
+use Rattle.heap.specs.declared.Heap.{Heap}
+use Rattle.heap_edit.proofs.Columns.{sizes}
+use Rattle.heap_edit.proofs.Listing.{Counting, count-first, count-one, count-none, count-end}
 use Rattle.heap_edit.proofs.live.Statement.{statement}
 use Rattle.heap_edit.proofs.live.Tie as tie
 
 abbrev Inv-loop : tie.InvT-loop
-Inv-loop kind n count₀ i₀ count i = (i ≤ n) × (count ≤ i) × ((S P : ℕ) (h : State) → n ≡ length (h .slots) → kind ≡ stored S P h .kind → Counting h count i)
+Inv-loop narrow wide pool s n count₀ i₀ count i = (i ≤ n) × (count ≤ i) × ((h : Heap) → h .slots ≡ n → wellFormed (lent h narrow wide pool) ≡ true → Counting (view (lent h narrow wide pool)) count i)
 
 abbrev μ-loop : tie.MeasureT-loop
-μ-loop kind n count₀ i₀ count i = n - i
+μ-loop narrow wide pool s n count₀ i₀ count i = n - i
 
 loop-holds : tie.Need-loop-holds Inv-loop μ-loop
-loop-holds c = (omega arith, omega arith, λ S P h n k. count-first h)
+loop-holds c = (omega arith, omega arith, λ h e w. count-first _)
+
+add-if1 : tie.Need-add-if1 Inv-loop μ-loop
+add-if1 c = omega (arith, sizes (c .before .before .args .heap) (now (c .before .before .args .narrow)) (now (c .before .before .args .wide)) (now (c .before .before .args .pool)) (c .before .before .pre))
+
+mul-if1 : tie.Need-mul-if1 Inv-loop μ-loop
+mul-if1 c = omega (arith, sizes (c .before .before .args .heap) (now (c .before .before .args .narrow)) (now (c .before .before .args .wide)) (now (c .before .before .args .pool)) (c .before .before .pre))
 
 shared-slice-read-if1 : tie.Need-shared-slice-read-if1 Inv-loop μ-loop
-shared-slice-read-if1 c = omega arith
+shared-slice-read-if1 c = omega (arith, sizes (c .before .before .before .args .heap) (now (c .before .before .before .args .narrow)) (now (c .before .before .before .args .wide)) (now (c .before .before .before .args .pool)) (c .before .before .before .pre))
 
 add-count : tie.Need-add-count Inv-loop μ-loop
 add-count c = omega arith
@@ -37,14 +47,14 @@ loop-again c =
     let so = c .before .before .before .loop .inv in (
       omega arith,
       ⊎-elim (λ y. omega (arith, y, so)) (λ y. omega (arith, y, so)) (c .if1 .came),
-      λ S P h n k.
-          ⊎-elim (λ y. rw (y .1) (count-live S P h _ _ _ (so .2 S P h n k) (omega arith) k (y .0 .taken)))
-          (λ y. rw (y .1) (count-dead S P h _ _ _ (so .2 S P h n k) (omega arith) k (y .0 .left)))
+      λ h e w.
+          ⊎-elim (λ y. rw (y .1) (count-one h (now (c .before .before .before .before .args .narrow)) (now (c .before .before .before .before .args .wide)) (now (c .before .before .before .before .args .pool)) w (so .2 h e w) (omega arith) (y .0 .taken)))
+          (λ y. rw (y .1) (count-none h (now (c .before .before .before .before .args .narrow)) (now (c .before .before .before .before .args .wide)) (now (c .before .before .before .before .args .pool)) w (so .2 h e w) (omega arith) (y .0 .left)))
           (c .if1 .came),
     )
 
 returns : tie.Need-returns Inv-loop μ-loop
-returns c = λ S P h e k. count-last h _ _ (c .before .loop .inv .2 S P h (sym (header-is h _ e .slots)) k) (omega (arith, header-is h _ e))
+returns c = ap (λ (n : ℕ). answered here nothing (ok n)) (count-end (c .before .before .args .heap) (now (c .before .before .args .narrow)) (now (c .before .before .args .wide)) (now (c .before .before .args .pool)) (c .before .before .pre) (c .before .loop .inv .2 (c .before .before .args .heap) refl (c .before .before .pre)) (omega arith))
 
 pub live-spec : {M : Type 1} → statement M
 live-spec =
@@ -53,6 +63,8 @@ live-spec =
     Inv-loop
     μ-loop
     loop-holds
+    add-if1
+    mul-if1
     shared-slice-read-if1
     add-count
     add-i

@@ -1,43 +1,61 @@
 -- `heap_edit::reissue` meets its contract. Assumes nothing.
+use denote.Ref.{now}
 use native.Mathlib.Omega.{arith}
-use Rattle.heap_edit.proofs.Lying.{held}
-use Rattle.heap_edit.proofs.Calling.{reissue-no, reissue-yes}
+use Rattle.heap.specs.Lent.{Lent, lent}
+use Rattle.heap_edit.proofs.Columns.{Sizes, sizes}
+use Rattle.heap_edit.proofs.Reissuing.{reissue-no, reissue-yes}
 use borrow.Author.Needs.{needs}
 use Rattle.heap_edit.proofs.reissue.Statement.{statement}
 use Rattle.heap_edit.proofs.reissue.Tie as tie
+use Rattle.handle.proofs.pack.Reads as pack-reads
+use Rattle.heap.proofs.Heap.charged.Reads as charged-reads
+use Rattle.word.proofs.next_generation.Reads as next-generation-reads
+
+-- the lent memory where the call starts
+abbrev L : tie.Start → Lent
+L c = lent (c .args .heap) (now (c .args .narrow)) (now (c .args .wide)) (now (c .args .pool))
+
+K : (c : tie.Start) → Sizes (c .args .heap) (now (c .args .narrow)) (now (c .args .wide)) (now (c .args .pool))
+K c = sizes (c .args .heap) (now (c .args .narrow)) (now (c .args .wide)) (now (c .args .pool)) (c .pre)
 
 returns : tie.Need-returns
-returns c = reissue-no _ (c .before .before .before .before .before .before .before .before .before .before .before .before .pre) _ _ (c .if1 .taken)
+returns c = reissue-no (L (c .before .before .before .before .before)) (c .before .before .before .before .before .pre) _ _ (c .if1 .taken)
 
 mul-next-generation : tie.Need-mul-next-generation
-mul-next-generation c = omega (arith, held _ (c .before .before .before .before .before .before .before .before .before .before .before .before .pre))
+mul-next-generation c = omega (arith, K (c .before .before .before .before .before))
 
 slice-read-next-generation : tie.Need-slice-read-next-generation
-slice-read-next-generation c = omega (arith, held _ (c .before .before .before .before .before .before .before .before .before .before .before .before .before .pre))
+slice-read-next-generation c = omega (arith, K (c .before .before .before .before .before .before))
 
 next-generation-requires : tie.Need-next-generation-requires
 next-generation-requires c κs = search needs
 
-mul-generation : tie.Need-mul-generation
-mul-generation c = omega (arith, held _ (c .before .before .before .before .before .before .before .before .before .before .before .before .before .before .pre))
+mul-narrow : tie.Need-mul-narrow
+mul-narrow c = omega (arith, K (c .before .before .before .before .before .before .before))
 
-slice-write-generation : tie.Need-slice-write-generation
-slice-write-generation c = omega (arith, held _ (c .before .before .before .before .before .before .before .before .before .before .before .before .before .before .pre))
+slice-write-narrow : tie.Need-slice-write-narrow
+slice-write-narrow c = omega (arith, K (c .before .before .before .before .before .before .before))
 
-mul-writes : tie.Need-mul-writes
-mul-writes c = omega (arith, held _ (c .before .before .before .before .before .before .before .before .before .before .before .before .before .before .pre))
+mul-wide : tie.Need-mul-wide
+mul-wide c = search needs
 
-slice-write-writes : tie.Need-slice-write-writes
-slice-write-writes c = omega (arith, held _ (c .before .before .before .before .before .before .before .before .before .before .before .before .before .before .pre))
+add-wide : tie.Need-add-wide
+add-wide c = omega (arith, K (c .before .before .before .before .before .before .before))
+
+mul-wide-2 : tie.Need-mul-wide-2
+mul-wide-2 c = omega (arith, K (c .before .before .before .before .before .before .before))
+
+slice-write-wide : tie.Need-slice-write-wide
+slice-write-wide c = omega (arith, K (c .before .before .before .before .before .before .before))
 
 charged-requires : tie.Need-charged-requires
 charged-requires c κs = search needs
 
 cast-pack : tie.Need-cast-pack
-cast-pack c = omega (arith, held _ (c .before .before .before .before .before .before .before .before .before .before .before .before .before .before .before .pre))
+cast-pack c = omega (arith, K (c .before .before .before .before .before .before .before .before))
 
 pack-requires : tie.Need-pack-requires
-pack-requires c κs = omega (arith, held _ (c .before .before .before .before .before .before .before .before .before .before .before .before .before .before .before .pre))
+pack-requires c κs = omega (arith, K (c .before .before .before .before .before .before .before .before))
 
 same-length : tie.Need-same-length
 same-length c = search needs
@@ -46,7 +64,7 @@ same-length-2 : tie.Need-same-length-2
 same-length-2 c = search needs
 
 returns-2 : tie.Need-returns-2
-returns-2 c = reissue-yes _ (c .before .before .before .before .before .before .before .before .before .before .before .before .before .before .before .before .pre) _ _ _ _ _ (c .before .before .before .before .if1 .left) (c .before .before .next-generation .ensures) (c .before .charged .ensures) (c .pack .ensures)
+returns-2 c = reissue-yes (c .before .before .before .before .before .before .before .before .before .args .heap) (now (c .before .before .before .before .before .before .before .before .before .args .narrow)) (now (c .before .before .before .before .before .before .before .before .before .args .wide)) (now (c .before .before .before .before .before .before .before .before .before .args .pool)) (c .before .before .before .before .before .before .before .before .before .pre) _ _ (c .before .before .before .before .if1 .left) _ _ _ (c .before .before .next-generation .ensures) (c .before .charged .ensures) (c .pack .ensures)
 
 pub reissue-spec : {M : Type 1} → statement M
 reissue-spec =
@@ -56,10 +74,12 @@ reissue-spec =
     mul-next-generation
     slice-read-next-generation
     next-generation-requires
-    mul-generation
-    slice-write-generation
-    mul-writes
-    slice-write-writes
+    mul-narrow
+    slice-write-narrow
+    mul-wide
+    add-wide
+    mul-wide-2
+    slice-write-wide
     charged-requires
     cast-pack
     pack-requires

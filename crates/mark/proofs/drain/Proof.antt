@@ -2,7 +2,7 @@
 use Prim.Native.Nat.{_-_}
 use Rattle.ty.specs.View.{tableOf}
 use Rattle.reach.specs.Marking.{drained}
-use Rattle.mark.specs.Shown.{graphIn}
+use Rattle.mark.specs.Graph.{graphIn}
 use Rattle.mark.specs.Scratch.{stateOf}
 use Rattle.mark.proofs.Draining.{Drains, draining-start, queue-slots, queue-below, drains-end, drains-stuck, drains-next}
 use native.Mathlib.Omega.{arith}
@@ -11,15 +11,15 @@ use Rattle.mark.proofs.drain.Statement.{statement}
 use Rattle.mark.proofs.drain.Tie as tie
 
 abbrev Inv-loop : tie.InvT-loop
-Inv-loop types fields consts bytes tag slots generation kind ty start end pool marks₀ work₀ n count₀ next₀ marks work count next =
-    Drains (tableOf types fields consts bytes) tag slots generation kind ty start end pool marks₀ work₀ (drained (graphIn (tableOf types fields consts bytes) tag slots generation kind ty start end pool) slots (stateOf marks₀ work₀ n) 0) marks work count next
+Inv-loop types fields consts bytes tag slots s narrow wide pool marks₀ work₀ n count₀ next₀ marks work count next =
+    Drains (tableOf types fields consts bytes) tag slots s narrow wide pool marks₀ work₀ (drained (graphIn (tableOf types fields consts bytes) tag slots s narrow wide pool) slots (stateOf marks₀ work₀ n) 0) marks work count next
 
 abbrev μ-loop : tie.MeasureT-loop
-μ-loop types fields consts bytes tag slots generation kind ty start end pool marks₀ work₀ n count₀ next₀ marks work count next =
+μ-loop types fields consts bytes tag slots s narrow wide pool marks₀ work₀ n count₀ next₀ marks work count next =
     slots - next
 
 loop-holds : tie.Need-loop-holds Inv-loop μ-loop
-loop-holds c = draining-start _ _ _ _ _ (c .before .before .before .before .before .before .before .before .before .before .before .before .pre .1)
+loop-holds c = draining-start _ _ _ _ _ (c .before .before .before .before .before .before .before .before .before .pre .1)
 
 mul-i : tie.Need-mul-i Inv-loop μ-loop
 mul-i c = search needs
@@ -28,7 +28,7 @@ slice-read-i : tie.Need-slice-read-i Inv-loop μ-loop
 slice-read-i c = search needs
 
 trace-at-requires : tie.Need-trace-at-requires Inv-loop μ-loop
-trace-at-requires c κs = (c .before .before .before .before .before .before .before .before .before .before .before .before .before .before .before .before .before .pre .0, (c .before .before .before .before .loop .inv .scratch, queue-below _ _ _ _ (c .before .before .before .before .loop .inv .scratch) _ (c .before .before .before .loop-test .taken)))
+trace-at-requires c κs = (c .before .before .before .before .before .before .before .before .before .before .before .before .before .before .pre .0, (c .before .before .before .before .loop .inv .scratch, queue-below _ _ _ _ (c .before .before .before .before .loop .inv .scratch) _ (c .before .before .before .loop-test .taken)))
 
 enum-known-r : tie.Need-enum-known-r Inv-loop μ-loop
 enum-known-r c = search needs
@@ -46,7 +46,7 @@ returns : tie.Need-returns Inv-loop μ-loop
 returns c = search drains-stuck
 
 add-next : tie.Need-add-next Inv-loop μ-loop
-add-next c = omega (arith, queue-slots _ _ _ _ (c .before .before .before .before .before .before .before .before .before .before .before .before .loop .inv .scratch), c .before .before .before .before .before .before .before .before .before .before .before .loop-test .taken, c .before .before .before .before .before .before .before .before .before .before .before .before .before .before .before .before .before .before .before .before .before .before .before .before .before .fits .slots)
+add-next c = omega (arith, queue-slots _ _ _ _ (c .before .before .before .before .before .before .before .before .before .before .before .before .loop .inv .scratch), c .before .before .before .before .before .before .before .before .before .before .before .loop-test .taken, c .before .before .before .before .before .before .before .before .before .before .before .before .before .before .before .before .before .before .before .before .before .before .fits .slots)
 
 loop-less : tie.Need-loop-less Inv-loop μ-loop
 loop-less c = omega (arith, queue-slots _ _ _ _ (c .before .before .before .before .before .before .before .before .before .before .before .before .loop .inv .scratch), c .before .before .before .before .before .before .before .before .before .before .before .loop-test .taken)

@@ -4,12 +4,15 @@ use Rattle.mark.proofs.Bridge.{queue-met}
 use borrow.Author.Needs.{needs}
 use Rattle.mark.proofs.pin.Statement.{statement}
 use Rattle.mark.proofs.pin.Tie as tie
-use Rattle.mark.proofs.pin.Reads as reads
-use Rattle.mark.proofs.pin.Lts as lts
-use Rattle.trace.proofs.queue.Reads as queue-reads
 
 returns : tie.Need-returns
 returns c = search pin-beyond
+
+add-if2 : tie.Need-add-if2
+add-if2 c = search needs
+
+mul-if2 : tie.Need-mul-if2
+mul-if2 c = search needs
 
 shared-slice-read-if2 : tie.Need-shared-slice-read-if2
 shared-slice-read-if2 c = search needs
@@ -34,6 +37,8 @@ pin-spec =
     tie.close
     (tie.spec
     returns
+    add-if2
+    mul-if2
     shared-slice-read-if2
     returns-2
     queue-requires

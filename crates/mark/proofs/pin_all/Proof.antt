@@ -2,6 +2,7 @@
 use Prim.Native.Nat.{_-_}
 use mathlib.Core.Path.{refl}
 use lib.ListN.{length}
+use Rattle.word.specs.Run.{run}
 use Rattle.handle.specs.Columns.{liveIn}
 use Rattle.reach.specs.Marking.{pinAll}
 use Rattle.mark.specs.Scratch.{stateOf}
@@ -11,11 +12,11 @@ use Rattle.mark.proofs.pin_all.Statement.{statement}
 use Rattle.mark.proofs.pin_all.Tie as tie
 
 abbrev Inv-loop : tie.InvT-loop
-Inv-loop slots kind pins marks₀ work₀ n count₀ k₀ marks work count k =
-    Pins slots kind pins marks₀ work₀ (pinAll (liveIn slots kind) (stateOf marks₀ work₀ n) pins) marks work count k
+Inv-loop slots s narrow pins marks₀ work₀ n count₀ k₀ marks work count k =
+    Pins slots s narrow pins marks₀ work₀ (pinAll (liveIn slots (run s s narrow)) (stateOf marks₀ work₀ n) pins) marks work count k
 
 abbrev μ-loop : tie.MeasureT-loop
-μ-loop slots kind pins marks₀ work₀ n count₀ k₀ marks work count k =
+μ-loop slots s narrow pins marks₀ work₀ n count₀ k₀ marks work count k =
     length pins - k
 
 loop-holds : tie.Need-loop-holds Inv-loop μ-loop

@@ -3,7 +3,7 @@ use Prim.Native.Nat.{_-_}
 use mathlib.Core.Path.{refl}
 use lib.ListN.{length}
 use Rattle.reach.specs.Marking.{followAll}
-use Rattle.mark.specs.Shown.{leadsTo}
+use Rattle.mark.specs.Graph.{leadsTo}
 use Rattle.mark.specs.Scratch.{stateOf}
 use Rattle.mark.proofs.Bridge.{Pushes, pushes-next, pushes-end}
 use borrow.Author.Needs.{needs}
@@ -11,21 +11,21 @@ use Rattle.mark.proofs.push_all.Statement.{statement}
 use Rattle.mark.proofs.push_all.Tie as tie
 
 abbrev Inv-loop : tie.InvT-loop
-Inv-loop tag slots generation kind list marks₀ work₀ n count₀ k₀ marks work count k =
-    Pushes tag slots generation kind list marks₀ work₀ (followAll (leadsTo tag slots generation kind) (stateOf marks₀ work₀ n) list) marks work count k
+Inv-loop tag slots s narrow list marks₀ work₀ n count₀ k₀ marks work count k =
+    Pushes tag slots s narrow list marks₀ work₀ (followAll (leadsTo tag slots s narrow) (stateOf marks₀ work₀ n) list) marks work count k
 
 abbrev μ-loop : tie.MeasureT-loop
-μ-loop tag slots generation kind list marks₀ work₀ n count₀ k₀ marks work count k =
+μ-loop tag slots s narrow list marks₀ work₀ n count₀ k₀ marks work count k =
     length list - k
 
 loop-holds : tie.Need-loop-holds Inv-loop μ-loop
-loop-holds c = record { scratch = c .before .before .before .before .before .pre .1; same = refl; long = refl; words = refl }
+loop-holds c = record { scratch = c .before .before .before .before .pre .1; same = refl; long = refl; words = refl }
 
-mul-emit : tie.Need-mul-emit Inv-loop μ-loop
-mul-emit c = search needs
+mul-h : tie.Need-mul-h Inv-loop μ-loop
+mul-h c = search needs
 
-shared-slice-read-emit : tie.Need-shared-slice-read-emit Inv-loop μ-loop
-shared-slice-read-emit c = search needs
+shared-slice-read-h : tie.Need-shared-slice-read-h Inv-loop μ-loop
+shared-slice-read-h c = search needs
 
 emit-requires : tie.Need-emit-requires Inv-loop μ-loop
 emit-requires c κs = search needs
@@ -55,8 +55,8 @@ push-all-spec =
     Inv-loop
     μ-loop
     loop-holds
-    mul-emit
-    shared-slice-read-emit
+    mul-h
+    shared-slice-read-h
     emit-requires
     add-k
     loop-less

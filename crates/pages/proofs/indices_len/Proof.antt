@@ -20,23 +20,23 @@ loop-holds : tie.Need-loop-holds Inv-loop μ-loop
 unfolding flatMap
 loop-holds c = (omega arith, refl, omega arith)
 
-mul-wide : tie.Need-mul-wide Inv-loop μ-loop
-mul-wide c = omega arith
+mul-widened : tie.Need-mul-widened Inv-loop μ-loop
+mul-widened c = omega arith
 
-shared-slice-read-wide : tie.Need-shared-slice-read-wide Inv-loop μ-loop
-shared-slice-read-wide c = omega arith
+shared-slice-read-widened : tie.Need-shared-slice-read-widened Inv-loop μ-loop
+shared-slice-read-widened c = omega arith
 
-wide-requires : tie.Need-wide-requires Inv-loop μ-loop
-wide-requires c κs = tt
+widened-requires : tie.Need-widened-requires Inv-loop μ-loop
+widened-requires c κs = tt
 
 decimal-len-requires : tie.Need-decimal-len-requires Inv-loop μ-loop
 decimal-len-requires c κs = tt
 
 add-n : tie.Need-add-n Inv-loop μ-loop
-add-n c = omega (arith, c .decimal-len .ensures ∙ ap (λ (m : ℕ). length (decimal m)) (c .before .wide .ensures), decimal-length 9 (getD (c .before .before .before .before .before .before .args .list .now) (c .before .before .before .before .loop .i) 0) (omega (arith, c .before .before .shared-slice-known2 .given (c .before .before .before .before .loop .i))))
+add-n c = omega (arith, c .decimal-len .ensures ∙ ap (λ (m : ℕ). length (decimal m)) (c .before .widened .ensures), decimal-length 9 (getD (c .before .before .before .before .before .before .args .list .now) (c .before .before .before .before .loop .i) 0) (omega (arith, c .before .before .shared-slice-known2 .given (c .before .before .before .before .loop .i))))
 
 add-n-2 : tie.Need-add-n-2 Inv-loop μ-loop
-add-n-2 c = omega (arith, c .decimal-len .ensures ∙ ap (λ (m : ℕ). length (decimal m)) (c .before .wide .ensures), decimal-length 9 (getD (c .before .before .before .before .before .before .args .list .now) (c .before .before .before .before .loop .i) 0) (omega (arith, c .before .before .shared-slice-known2 .given (c .before .before .before .before .loop .i))))
+add-n-2 c = omega (arith, c .decimal-len .ensures ∙ ap (λ (m : ℕ). length (decimal m)) (c .before .widened .ensures), decimal-length 9 (getD (c .before .before .before .before .before .before .args .list .now) (c .before .before .before .before .loop .i) 0) (omega (arith, c .before .before .shared-slice-known2 .given (c .before .before .before .before .loop .i))))
 
 add-i : tie.Need-add-i Inv-loop μ-loop
 add-i c = omega arith
@@ -45,7 +45,7 @@ loop-less : tie.Need-loop-less Inv-loop μ-loop
 loop-less c = omega arith
 
 loop-again : tie.Need-loop-again Inv-loop μ-loop
-loop-again c = (omega arith, omega (arith, c .decimal-len .ensures ∙ ap (λ (m : ℕ). length (decimal m)) (c .before .wide .ensures), decimal-length 9 (getD (c .before .before .before .before .before .before .args .list .now) (c .before .before .before .before .loop .i) 0) (omega (arith, c .before .before .shared-slice-known2 .given (c .before .before .before .before .loop .i))), flat-more-length valueLine (c .before .before .before .before .before .before .args .list .now) (c .before .before .before .before .loop .i) 0 (omega arith), value-length (getD (c .before .before .before .before .before .before .args .list .now) (c .before .before .before .before .loop .i) 0)), omega (arith, c .decimal-len .ensures ∙ ap (λ (m : ℕ). length (decimal m)) (c .before .wide .ensures), decimal-length 9 (getD (c .before .before .before .before .before .before .args .list .now) (c .before .before .before .before .loop .i) 0) (omega (arith, c .before .before .shared-slice-known2 .given (c .before .before .before .before .loop .i)))))
+loop-again c = (omega arith, omega (arith, c .decimal-len .ensures ∙ ap (λ (m : ℕ). length (decimal m)) (c .before .widened .ensures), decimal-length 9 (getD (c .before .before .before .before .before .before .args .list .now) (c .before .before .before .before .loop .i) 0) (omega (arith, c .before .before .shared-slice-known2 .given (c .before .before .before .before .loop .i))), flat-more-length valueLine (c .before .before .before .before .before .before .args .list .now) (c .before .before .before .before .loop .i) 0 (omega arith), value-length (getD (c .before .before .before .before .before .before .args .list .now) (c .before .before .before .before .loop .i) 0)), omega (arith, c .decimal-len .ensures ∙ ap (λ (m : ℕ). length (decimal m)) (c .before .widened .ensures), decimal-length 9 (getD (c .before .before .before .before .before .before .args .list .now) (c .before .before .before .before .loop .i) 0) (omega (arith, c .before .before .shared-slice-known2 .given (c .before .before .before .before .loop .i)))))
 
 returns : tie.Need-returns Inv-loop μ-loop
 returns c = (c .before .loop .inv .1 ∙ ap (λ (m : ℕ). length (flatMap valueLine (take m (c .before .before .before .args .list .now)))) (let e : c .before .loop .i ≡ c .before .before .before .args .count = omega arith in e), omega arith)
@@ -57,9 +57,9 @@ indices-len-spec =
     Inv-loop
     μ-loop
     loop-holds
-    mul-wide
-    shared-slice-read-wide
-    wide-requires
+    mul-widened
+    shared-slice-read-widened
+    widened-requires
     decimal-len-requires
     add-n
     add-n-2

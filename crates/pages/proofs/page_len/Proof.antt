@@ -1,9 +1,19 @@
-use Rattle.pages.proofs.Whole.{page-sum}
 use native.Mathlib.Omega.{arith}
 use Prim.Native.Nat.{_-_}
+use denote.Ref.{now}
+use Rattle.pages.proofs.Whole.{page-sum, free-in, quarantine-in, sealed-in}
 use borrow.Author.Needs.{needs}
 use Rattle.pages.proofs.page_len.Statement.{statement}
 use Rattle.pages.proofs.page_len.Tie as tie
+
+mul-three : tie.Need-mul-three
+mul-three c = search needs
+
+mul-four : tie.Need-mul-four
+mul-four c = search needs
+
+mul-five : tie.Need-mul-five
+mul-five c = search needs
 
 head-len-requires : tie.Need-head-len-requires
 head-len-requires c κs = search needs
@@ -11,14 +21,50 @@ head-len-requires c κs = search needs
 slots-len-requires : tie.Need-slots-len-requires
 slots-len-requires c κs = search needs
 
+mul-indices-len : tie.Need-mul-indices-len
+mul-indices-len c = search needs
+
+sub-indices-len : tie.Need-sub-indices-len
+sub-indices-len c = search needs
+
+part-indices-len-start : tie.Need-part-indices-len-start
+part-indices-len-start c = search needs
+
+part-indices-len-end : tie.Need-part-indices-len-end
+part-indices-len-end c = search needs
+
 indices-len-requires : tie.Need-indices-len-requires
-indices-len-requires c κs = search needs
+indices-len-requires c κs = (free-in (c .before .before .before .before .before .before .args .heap) (now (c .before .before .before .before .before .before .args .narrow)) (now (c .before .before .before .before .before .before .args .wide)) (now (c .before .before .before .before .before .before .args .pool)) (c .before .before .before .before .before .before .pre .0), c .before .before .before .before .before .before .pre .0 .freeCount)
+
+mul-indices-len-2 : tie.Need-mul-indices-len-2
+mul-indices-len-2 c = search needs
+
+sub-indices-len-2 : tie.Need-sub-indices-len-2
+sub-indices-len-2 c = search needs
+
+part-indices-len-start-2 : tie.Need-part-indices-len-start-2
+part-indices-len-start-2 c = search needs
+
+part-indices-len-end-2 : tie.Need-part-indices-len-end-2
+part-indices-len-end-2 c = search needs
 
 indices-len-requires-2 : tie.Need-indices-len-requires-2
-indices-len-requires-2 c κs = search needs
+indices-len-requires-2 c κs = (quarantine-in (c .before .before .before .before .before .before .before .before .args .heap) (now (c .before .before .before .before .before .before .before .before .args .narrow)) (now (c .before .before .before .before .before .before .before .before .args .wide)) (now (c .before .before .before .before .before .before .before .before .args .pool)) (c .before .before .before .before .before .before .before .before .pre .0), c .before .before .before .before .before .before .before .before .pre .0 .quarantineCount)
+
+mul-handles-len : tie.Need-mul-handles-len
+mul-handles-len c = search needs
+
+sub-handles-len : tie.Need-sub-handles-len
+sub-handles-len c = search needs
+
+part-handles-len-start : tie.Need-part-handles-len-start
+part-handles-len-start c = search needs
+
+part-handles-len-end : tie.Need-part-handles-len-end
+part-handles-len-end c = search needs
 
 handles-len-requires : tie.Need-handles-len-requires
-handles-len-requires c κs = search needs
+handles-len-requires c κs = (sealed-in (c .before .before .before .before .before .before .before .before .before .before .args .heap) (now (c .before .before .before .before .before .before .before .before .before .before .args .narrow)) (now (c .before .before .before .before .before .before .before .before .before .before .args .wide)) (now (c .before .before .before .before .before .before .before .before .before .before .args .pool)) (c .before .before .before .before .before .before .before .before .before .before .pre .0), c .before .before .before .before .before .before .before .before .before .before .pre .0 .sealedCount)
 
 add-result : tie.Need-add-result
 add-result c = search needs
@@ -36,16 +82,31 @@ add-result-5 : tie.Need-add-result-5
 add-result-5 c = search needs
 
 returns : tie.Need-returns
-returns c = omega (arith, page-sum (c .before .before .before .before .before .before .before .before .before .before .before .before .before .before .before .args .h) (c .before .before .before .before .before .before .before .before .before .before .before .before .before .before .before .args .generation .now) (c .before .before .before .before .before .before .before .before .before .before .before .before .before .before .before .args .kind .now) (c .before .before .before .before .before .before .before .before .before .before .before .before .before .before .before .args .ty .now) (c .before .before .before .before .before .before .before .before .before .before .before .before .before .before .before .args .start .now) (c .before .before .before .before .before .before .before .before .before .before .before .before .before .before .before .args .end .now) (c .before .before .before .before .before .before .before .before .before .before .before .before .before .before .before .args .writes .now) (c .before .before .before .before .before .before .before .before .before .before .before .before .before .before .before .args .pool .now) (c .before .before .before .before .before .before .before .before .before .before .before .before .before .before .before .args .free .now) (c .before .before .before .before .before .before .before .before .before .before .before .before .before .before .before .args .quarantine .now) (c .before .before .before .before .before .before .before .before .before .before .before .before .before .before .before .args .sealed .now) (c .before .before .before .before .before .before .before .before .before .before .before .before .before .before .before .pre), c .before .before .before .before .head-len .ensures .0, c .before .before .before .slots-len .ensures .0, c .before .before .indices-len .ensures .0, c .before .indices-len2 .ensures .0, c .handles-len .ensures .0)
+returns c = omega (arith, page-sum (c .before .before .before .before .before .before .before .before .before .before .before .args .heap) (now (c .before .before .before .before .before .before .before .before .before .before .before .args .narrow)) (now (c .before .before .before .before .before .before .before .before .before .before .before .args .wide)) (now (c .before .before .before .before .before .before .before .before .before .before .before .args .pool)) (c .before .before .before .before .before .before .before .before .before .before .before .pre .0), c .before .before .before .before .before .before .before .head-len .ensures .0, c .before .before .before .before .before .before .slots-len .ensures .0, c .before .before .before .before .indices-len .ensures .0, c .before .before .indices-len2 .ensures .0, c .handles-len .ensures .0)
 
 pub page-len-spec : {M : Type 1} → statement M
 page-len-spec =
     tie.close
     (tie.spec
+    mul-three
+    mul-four
+    mul-five
     head-len-requires
     slots-len-requires
+    mul-indices-len
+    sub-indices-len
+    part-indices-len-start
+    part-indices-len-end
     indices-len-requires
+    mul-indices-len-2
+    sub-indices-len-2
+    part-indices-len-start-2
+    part-indices-len-end-2
     indices-len-requires-2
+    mul-handles-len
+    sub-handles-len
+    part-handles-len-start
+    part-handles-len-end
     handles-len-requires
     add-result
     add-result-2

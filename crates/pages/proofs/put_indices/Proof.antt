@@ -21,17 +21,17 @@ loop-holds : tie.Need-loop-holds Inv-loop μ-loop
 unfolding flatMap
 loop-holds c = (omega arith, refl, puts-none (c .before .before .args .out .now) (c .before .before .args .at) (omega arith))
 
-mul-wide : tie.Need-mul-wide Inv-loop μ-loop
-mul-wide c = omega arith
+mul-widened : tie.Need-mul-widened Inv-loop μ-loop
+mul-widened c = omega arith
 
-shared-slice-read-wide : tie.Need-shared-slice-read-wide Inv-loop μ-loop
-shared-slice-read-wide c = omega arith
+shared-slice-read-widened : tie.Need-shared-slice-read-widened Inv-loop μ-loop
+shared-slice-read-widened c = omega arith
 
-wide-requires : tie.Need-wide-requires Inv-loop μ-loop
-wide-requires c κs = tt
+widened-requires : tie.Need-widened-requires Inv-loop μ-loop
+widened-requires c κs = tt
 
 put-number-requires : tie.Need-put-number-requires Inv-loop μ-loop
-put-number-requires c κs = omega (arith, c .before .before .before .before .loop .inv .2 .next, flat-room valueLine (c .before .before .before .before .before .before .before .args .list .now) (c .before .before .before .before .loop .i) (c .before .before .before .before .before .before .before .args .count) 0 (c .before .before .before .loop-test .taken) (c .before .before .before .before .before .before .before .pre .0), ap length (value-is (getD (c .before .before .before .before .before .before .before .args .list .now) (c .before .before .before .before .loop .i) 0)), ap (λ (m : ℕ). length (decimal m ++ (10 ∷ []))) (c .wide .ensures))
+put-number-requires c κs = omega (arith, c .before .before .before .before .loop .inv .2 .next, flat-room valueLine (c .before .before .before .before .before .before .before .args .list .now) (c .before .before .before .before .loop .i) (c .before .before .before .before .before .before .before .args .count) 0 (c .before .before .before .loop-test .taken) (c .before .before .before .before .before .before .before .pre .0), ap length (value-is (getD (c .before .before .before .before .before .before .before .args .list .now) (c .before .before .before .before .loop .i) 0)), ap (λ (m : ℕ). length (decimal m ++ (10 ∷ []))) (c .widened .ensures))
 
 add-i : tie.Need-add-i Inv-loop μ-loop
 add-i c = omega arith
@@ -40,7 +40,7 @@ loop-less : tie.Need-loop-less Inv-loop μ-loop
 loop-less c = omega arith
 
 loop-again : tie.Need-loop-again Inv-loop μ-loop
-loop-again c = (omega arith, c .before .before .put-number .kept .0 ∙ c .before .before .before .before .before .before .before .loop .inv .1, puts-more valueLine (c .before .before .before .before .before .before .before .before .before .before .args .out .now) (c .before .before .before .before .before .before .before .loop .out) (c .before .before .put-number .last .0) (c .before .before .before .before .before .before .before .before .before .before .args .at) (c .before .before .before .before .before .before .before .loop .k) (c .before .before .put-number .result) (c .before .before .before .before .before .before .before .before .before .before .args .list .now) (c .before .before .before .before .before .before .before .loop .i) 0 (omega arith) (c .before .before .before .before .before .before .before .loop .inv .2) (puts-at (c .before .before .put-number .ensures) refl (ap (λ (m : ℕ). decimal m ++ (10 ∷ [])) (c .before .before .before .wide .ensures) ∙ value-is (getD (c .before .before .before .before .before .before .before .before .before .before .args .list .now) (c .before .before .before .before .before .before .before .loop .i) 0))) (omega arith))
+loop-again c = (omega arith, c .before .before .put-number .kept .0 ∙ c .before .before .before .before .before .before .before .loop .inv .1, puts-more valueLine (c .before .before .before .before .before .before .before .before .before .before .args .out .now) (c .before .before .before .before .before .before .before .loop .out) (c .before .before .put-number .last .0) (c .before .before .before .before .before .before .before .before .before .before .args .at) (c .before .before .before .before .before .before .before .loop .k) (c .before .before .put-number .result) (c .before .before .before .before .before .before .before .before .before .before .args .list .now) (c .before .before .before .before .before .before .before .loop .i) 0 (omega arith) (c .before .before .before .before .before .before .before .loop .inv .2) (puts-at (c .before .before .put-number .ensures) refl (ap (λ (m : ℕ). decimal m ++ (10 ∷ [])) (c .before .before .before .widened .ensures) ∙ value-is (getD (c .before .before .before .before .before .before .before .before .before .before .args .list .now) (c .before .before .before .before .before .before .before .loop .i) 0))) (omega arith))
 
 same-length : tie.Need-same-length Inv-loop μ-loop
 same-length c = c .before .loop .inv .1
@@ -55,9 +55,9 @@ put-indices-spec =
     Inv-loop
     μ-loop
     loop-holds
-    mul-wide
-    shared-slice-read-wide
-    wide-requires
+    mul-widened
+    shared-slice-read-widened
+    widened-requires
     put-number-requires
     add-i
     loop-less

@@ -123,7 +123,7 @@ write-map-requires c κs =
       good,
       (
         (refl, omega (arith, room, need-is (length (o .blocks .now) / 2) ((length (o .classes .now) + 63) / 64), c .before .before .before .before .before .before .before .before .before .before .before .before .before .before .before .before .analyse .ensures .0, c .before .before .before .before .before .before .before .before .before .before .count-map .ensures .frame .kept), omega arith, omega (arith, fit .class-count), fit .code-count, c .before .before .before .before .before .before .before .before .before .before .before .before .before .before .before .before .before .before .before .before .chain .ensures),
-        (fixed-out (c .before .before .before .before .before .before .before .before .before .before .before .before .before .before .before .before .analyse .ensures .1) (c .before .before .before .before .before .before .before .before .before .before .count-map .ensures .frame), room-for l (wanted (o .which)) (o .s .now) _ _ _ good (c .before .before .before .before .before .before .before .before .before .before .count-map .ensures) (c .before .before .before .before .before .before .before .short .ensures) (c .before .before .before .before .before .before .if3 .left)),
+        (fixed-out (c .before .before .before .before .before .before .before .before .before .before .before .before .before .before .before .before .analyse .ensures .1) (c .before .before .before .before .before .before .before .before .before .before .count-map .ensures .frame), room-for l (wanted (o .which)) _ _ _ (o .s .now) good (c .before .before .before .before .before .before .before .before .before .before .count-map .ensures) (c .before .before .before .before .before .before .before .short .ensures) (c .before .before .before .before .before .before .if3 .left)),
       ),
     )
 
@@ -131,7 +131,7 @@ clear-u64-requires-3 : tie.Need-clear-u64-requires-3
 clear-u64-requires-3 c κs = search needs
 
 same-length-3 : tie.Need-same-length-3
-same-length-3 c = c .before .before .clear-u643 .kept .0 ∙ c .before .before .before .before .before .before .before .before .before .before .before .before .write-map .ensures .frame .kept ∙ c .before .before .before .before .before .before .before .before .before .before .before .before .before .before .before .before .before .before .before .before .before .before .before .count-map .ensures .frame .kept ∙ c .before .before .before .before .before .before .before .before .before .before .before .before .before .before .before .before .before .before .before .before .before .before .before .before .before .before .before .before .before .analyse .ensures .0
+same-length-3 c = search needs
 
 same-length-4 : tie.Need-same-length-4
 same-length-4 c = search needs
@@ -140,7 +140,7 @@ same-length-5 : tie.Need-same-length-5
 same-length-5 c = search needs
 
 same-length-6 : tie.Need-same-length-6
-same-length-6 c = search needs
+same-length-6 c = c .before .before .clear-u643 .kept .0 ∙ c .before .before .before .before .before .before .before .before .before .before .before .before .write-map .ensures .frame .kept ∙ c .before .before .before .before .before .before .before .before .before .before .before .before .before .before .before .before .before .before .before .before .before .before .before .count-map .ensures .frame .kept ∙ c .before .before .before .before .before .before .before .before .before .before .before .before .before .before .before .before .before .before .before .before .before .before .before .before .before .before .before .before .before .analyse .ensures .0
 
 returns-4 : tie.Need-returns-4
 returns-4 c =

@@ -21,7 +21,7 @@ same-length : tie.Need-same-length
 same-length c = search needs
 
 returns-3 : tie.Need-returns-3
-returns-3 c = pointed-in (wanted (c .before .before .before .before .before .before .before .before .before .before .before .before .before .args .which)) _ _ _ _ _ _ _ (c .before .before .before .before .before .before .before .before .before .before .before .before .before .pre .0) (c .before .before .before .before .before .before .before .before .before .before .before .before .before .pre .1 .0 .0) _ (c .before .before .before .before .before .before .before .before .before .before .before .before .before .pre .1 .0 .3) _ _ _ (c .before .before .before .before .before .if1 .left) (c .before .before .before .before .before .before .before .before .before .before .before .before .before .pre .1 .0 .1) (c .before .before .before .before .before .before .before .before .before .before .before .before .before .pre .1 .0 .5) (c .before .before .before .before .if2 .left) (c .before .before .block-row .ensures .0) (c .before .before .block-row .ensures .1)
+returns-3 c = pointed-in (wanted (c .before .before .before .before .before .before .before .before .before .before .before .before .before .args .which)) _ _ _ _ _ _ _ (c .before .before .before .before .before .before .before .before .before .before .before .before .before .pre .0) (c .before .before .before .before .before .before .before .before .before .before .before .before .before .pre .1 .0 .0) _ (c .before .before .before .before .before .before .before .before .before .before .before .before .before .pre .1 .0 .3) _ _ _ (c .before .before .before .before .before .before .before .before .before .before .before .before .before .pre .1 .0 .2) (c .before .before .before .before .before .if1 .left) (c .before .before .before .before .before .before .before .before .before .before .before .before .before .pre .1 .0 .1) (c .before .before .before .before .before .before .before .before .before .before .before .before .before .pre .1 .0 .5) (c .before .before .before .before .if2 .left) (c .before .before .block-row .ensures .0) (c .before .before .block-row .ensures .1)
 
 pub point-row-spec : {M : Type 1} → statement M
 point-row-spec =

@@ -1,4 +1,4 @@
--- `sweep::all_stay` meets its contract. The invariant: where nothing was seen, the slots passed stay. Assumes nothing.
+-- `sweep::all_stay` meets its contract. The invariant: nothing was seen exactly if the slots passed stay. Assumes nothing.
 use Prim.Native.Nat.{_-_}
 use Rattle.sweep.proofs.Staying.{Staying, staying-first, staying-next, staying-last}
 use borrow.Author.Needs.{needs}
@@ -13,6 +13,9 @@ abbrev μ-loop : tie.MeasureT-loop
 
 loop-holds : tie.Need-loop-holds Inv-loop μ-loop
 loop-holds c = staying-first _ _ _
+
+mul-going : tie.Need-mul-going Inv-loop μ-loop
+mul-going c = search needs
 
 shared-slice-read-going : tie.Need-shared-slice-read-going Inv-loop μ-loop
 shared-slice-read-going c = search needs
@@ -33,7 +36,7 @@ loop-again : tie.Need-loop-again Inv-loop μ-loop
 loop-again c = search staying-next
 
 returns : tie.Need-returns Inv-loop μ-loop
-returns c = λ e. staying-last (c .before .loop .inv) (c .loop-test .left) e
+returns c = search staying-last
 
 pub all-stay-spec : {M : Type 1} → statement M
 all-stay-spec =
@@ -42,6 +45,7 @@ all-stay-spec =
     Inv-loop
     μ-loop
     loop-holds
+    mul-going
     shared-slice-read-going
     shared-slice-read-going-2
     going-requires

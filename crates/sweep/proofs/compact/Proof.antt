@@ -20,6 +20,9 @@ mul-e c = search needs
 slice-read-e : tie.Need-slice-read-e Inv-loop μ-loop
 slice-read-e c = search needs
 
+mul-settle : tie.Need-mul-settle Inv-loop μ-loop
+mul-settle c = search needs
+
 shared-slice-read-settle : tie.Need-shared-slice-read-settle Inv-loop μ-loop
 shared-slice-read-settle c = search needs
 
@@ -62,6 +65,7 @@ compact-spec =
     loop-holds
     mul-e
     slice-read-e
+    mul-settle
     shared-slice-read-settle
     settle-requires
     mul-end

@@ -21,6 +21,9 @@ mul-e c = search needs
 shared-slice-read-e : tie.Need-shared-slice-read-e Inv-loop μ-loop
 shared-slice-read-e c = search needs
 
+mul-size-one : tie.Need-mul-size-one Inv-loop μ-loop
+mul-size-one c = search needs
+
 shared-slice-read-size-one : tie.Need-shared-slice-read-size-one Inv-loop μ-loop
 shared-slice-read-size-one c = search needs
 
@@ -51,6 +54,7 @@ live-size-spec =
     loop-holds
     mul-e
     shared-slice-read-e
+    mul-size-one
     shared-slice-read-size-one
     size-one-requires
     add-sum

@@ -1,4 +1,6 @@
 -- `sweep::release` meets its contract. Assumes nothing.
+use native.Mathlib.Omega.{arith}
+use lib.ListN.{length-set}
 use Rattle.sweep.proofs.Releasing.{released-in}
 use borrow.Author.Needs.{needs}
 use Rattle.sweep.proofs.release.Statement.{statement}
@@ -16,38 +18,62 @@ slice-read-next-generation c = search needs
 next-generation-requires : tie.Need-next-generation-requires
 next-generation-requires c κs = search needs
 
-mul-generation : tie.Need-mul-generation
-mul-generation c = search needs
+mul-narrow : tie.Need-mul-narrow
+mul-narrow c = search needs
 
-slice-write-generation : tie.Need-slice-write-generation
-slice-write-generation c = search needs
+slice-write-narrow : tie.Need-slice-write-narrow
+slice-write-narrow c = search needs
 
-slice-write-kind : tie.Need-slice-write-kind
-slice-write-kind c = search needs
+add-narrow : tie.Need-add-narrow
+add-narrow c = search needs
 
-mul-ty : tie.Need-mul-ty
-mul-ty c = search needs
+mul-narrow-2 : tie.Need-mul-narrow-2
+mul-narrow-2 c = search needs
 
-slice-write-ty : tie.Need-slice-write-ty
-slice-write-ty c = search needs
+slice-write-narrow-2 : tie.Need-slice-write-narrow-2
+slice-write-narrow-2 c = simp length-set (omega (arith, c .before .before .before .before .pre))
 
-mul-start : tie.Need-mul-start
-mul-start c = search needs
+mul-narrow-3 : tie.Need-mul-narrow-3
+mul-narrow-3 c = search needs
 
-slice-write-start : tie.Need-slice-write-start
-slice-write-start c = search needs
+add-narrow-2 : tie.Need-add-narrow-2
+add-narrow-2 c = search needs
 
-mul-writes : tie.Need-mul-writes
-mul-writes c = search needs
+mul-narrow-4 : tie.Need-mul-narrow-4
+mul-narrow-4 c = search needs
 
-slice-write-writes : tie.Need-slice-write-writes
-slice-write-writes c = search needs
+slice-write-narrow-3 : tie.Need-slice-write-narrow-3
+slice-write-narrow-3 c = simp length-set (omega (arith, c .before .before .before .before .pre))
 
-mul-free : tie.Need-mul-free
-mul-free c = search needs
+mul-narrow-5 : tie.Need-mul-narrow-5
+mul-narrow-5 c = search needs
 
-slice-write-free : tie.Need-slice-write-free
-slice-write-free c = search needs
+add-narrow-3 : tie.Need-add-narrow-3
+add-narrow-3 c = search needs
+
+mul-narrow-6 : tie.Need-mul-narrow-6
+mul-narrow-6 c = search needs
+
+slice-write-narrow-4 : tie.Need-slice-write-narrow-4
+slice-write-narrow-4 c = simp length-set (omega (arith, c .before .before .before .before .pre))
+
+mul-wide : tie.Need-mul-wide
+mul-wide c = search needs
+
+slice-write-wide : tie.Need-slice-write-wide
+slice-write-wide c = search needs
+
+mul-wide-2 : tie.Need-mul-wide-2
+mul-wide-2 c = search needs
+
+add-wide : tie.Need-add-wide
+add-wide c = search needs
+
+mul-wide-3 : tie.Need-mul-wide-3
+mul-wide-3 c = search needs
+
+slice-write-wide-2 : tie.Need-slice-write-wide-2
+slice-write-wide-2 c = simp length-set (omega (arith, c .before .before .before .before .pre))
 
 changed-requires : tie.Need-changed-requires
 changed-requires c κs = search needs
@@ -64,18 +90,6 @@ same-length c = search needs
 same-length-2 : tie.Need-same-length-2
 same-length-2 c = search needs
 
-same-length-3 : tie.Need-same-length-3
-same-length-3 c = search needs
-
-same-length-4 : tie.Need-same-length-4
-same-length-4 c = search needs
-
-same-length-5 : tie.Need-same-length-5
-same-length-5 c = search needs
-
-same-length-6 : tie.Need-same-length-6
-same-length-6 c = search needs
-
 returns : tie.Need-returns
 returns c = search released-in
 
@@ -87,24 +101,28 @@ release-spec =
     mul-next-generation
     slice-read-next-generation
     next-generation-requires
-    mul-generation
-    slice-write-generation
-    slice-write-kind
-    mul-ty
-    slice-write-ty
-    mul-start
-    slice-write-start
-    mul-writes
-    slice-write-writes
-    mul-free
-    slice-write-free
+    mul-narrow
+    slice-write-narrow
+    add-narrow
+    mul-narrow-2
+    slice-write-narrow-2
+    mul-narrow-3
+    add-narrow-2
+    mul-narrow-4
+    slice-write-narrow-3
+    mul-narrow-5
+    add-narrow-3
+    mul-narrow-6
+    slice-write-narrow-4
+    mul-wide
+    slice-write-wide
+    mul-wide-2
+    add-wide
+    mul-wide-3
+    slice-write-wide-2
     changed-requires
     add-with-free
     with-free-requires
     same-length
     same-length-2
-    same-length-3
-    same-length-4
-    same-length-5
-    same-length-6
     returns)

@@ -4,8 +4,14 @@ use borrow.Author.Needs.{needs}
 use Rattle.sweep.proofs.visit.Statement.{statement}
 use Rattle.sweep.proofs.visit.Tie as tie
 
-slice-read-k : tie.Need-slice-read-k
-slice-read-k c = search needs
+add-if1 : tie.Need-add-if1
+add-if1 c = search needs
+
+mul-if1 : tie.Need-mul-if1
+mul-if1 c = search needs
+
+slice-read-if1 : tie.Need-slice-read-if1
+slice-read-if1 c = search needs
 
 returns : tie.Need-returns
 returns c = search visit-dead
@@ -22,18 +28,6 @@ same-length c = search needs
 same-length-2 : tie.Need-same-length-2
 same-length-2 c = search needs
 
-same-length-3 : tie.Need-same-length-3
-same-length-3 c = search needs
-
-same-length-4 : tie.Need-same-length-4
-same-length-4 c = search needs
-
-same-length-5 : tie.Need-same-length-5
-same-length-5 c = search needs
-
-same-length-6 : tie.Need-same-length-6
-same-length-6 c = search needs
-
 returns-3 : tie.Need-returns-3
 returns-3 c = search visit-gone
 
@@ -41,14 +35,12 @@ pub visit-spec : {M : Type 1} → statement M
 visit-spec =
     tie.close
     (tie.spec
-    slice-read-k
+    add-if1
+    mul-if1
+    slice-read-if1
     returns
     returns-2
     release-requires
     same-length
     same-length-2
-    same-length-3
-    same-length-4
-    same-length-5
-    same-length-6
     returns-3)

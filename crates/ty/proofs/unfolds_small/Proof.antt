@@ -8,11 +8,11 @@ use Rattle.ty.proofs.CountLaws.{all-counted}
 use Rattle.ty.proofs.unfolds_small.Statement.{statement}
 use Rattle.ty.proofs.unfolds_small.Tie as tie
 
-fill-u64-requires : tie.Need-fill-u64-requires
-fill-u64-requires c κs = search needs
+fill-u32-requires : tie.Need-fill-u32-requires
+fill-u32-requires c κs = search needs
 
 unfold-levels-requires : tie.Need-unfold-levels-requires
-unfold-levels-requires c κs = record { fits = record { types = c .before .before .before .before .before .before .before .before .before .before .before .before .pre .types; fields = c .before .before .before .before .before .before .before .before .before .before .before .before .pre .fields; first = c .before .before .before .before .before .fill-u64 .kept .0 ∙ c .before .before .before .before .before .before .before .before .before .before .before .before .pre .first; second = c .before .before .before .before .before .before .before .before .before .before .before .before .pre .second; third = c .before .before .before .before .before .before .before .before .before .before .before .before .pre .third }; start = c .before .before .before .before .before .fill-u64 .ensures ∙ filled-whole (c .before .before .before .before .before .before .before .before .before .before .before .before .args .counts .now) _ 1 refl ∙ ap (λ (n : ℕ). replicate n 1) (c .before .before .before .before .before .before .before .before .before .before .before .before .pre .first) }
+unfold-levels-requires c κs = record { fits = record { types = c .before .before .before .before .before .before .before .before .before .before .before .before .pre .types; fields = c .before .before .before .before .before .before .before .before .before .before .before .before .pre .fields; first = c .before .before .before .before .before .fill-u32 .kept .0 ∙ c .before .before .before .before .before .before .before .before .before .before .before .before .pre .first; second = c .before .before .before .before .before .before .before .before .before .before .before .before .pre .second; third = c .before .before .before .before .before .before .before .before .before .before .before .before .pre .third }; start = c .before .before .before .before .before .fill-u32 .ensures ∙ filled-whole (c .before .before .before .before .before .before .before .before .before .before .before .before .args .counts .now) _ 1 refl ∙ ap (λ (n : ℕ). replicate n 1) (c .before .before .before .before .before .before .before .before .before .before .before .before .pre .first) }
 
 all-small-requires : tie.Need-all-small-requires
 all-small-requires c κs = search needs
@@ -33,7 +33,7 @@ pub unfolds-small-spec : {M : Type 1} → statement M
 unfolds-small-spec =
     tie.close
     (tie.spec
-    fill-u64-requires
+    fill-u32-requires
     unfold-levels-requires
     all-small-requires
     same-length

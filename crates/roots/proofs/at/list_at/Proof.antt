@@ -2,7 +2,10 @@
 use native.Mathlib.Omega.{arith}
 use borrow.Author.Needs.{needs}
 use mathlib.Core.Path.{sym, _∙_, ap}
+use Rattle.refusal.specs.Told.{answered, here, nothing}
 use Rattle.rows.specs.Listing.{told}
+use Rattle.rows.specs.declared.Listed.{Listed}
+use Rattle.refusal.specs.declared.Answer.{Answer}
 use Rattle.roots.proofs.at.list_at.Statement.{statement}
 use Rattle.roots.proofs.at.list_at.Tie as tie
 
@@ -40,7 +43,7 @@ same-length-2 : tie.Need-same-length-2
 same-length-2 c = search needs
 
 returns : tie.Need-returns
-returns c = (sym (ap told (c .before .answer .given .1)) ∙ c .before .before .before .before .before .before .before .before .before .list .ensures .0, c .before .before .before .before .before .before .before .before .before .list .ensures .1, c .before .before .before .before .before .clear-u64 .ensures)
+returns c = (sym (ap (λ (a : Listed). answered here nothing (told a)) (c .before .answer .given .1)) ∙ ap (answered here nothing) (c .before .before .before .before .before .before .before .before .before .list .ensures .0), c .before .before .before .before .before .before .before .before .before .list .ensures .1, c .before .before .before .before .before .clear-u64 .ensures)
 
 same-length-3 : tie.Need-same-length-3
 same-length-3 c = search needs
@@ -49,7 +52,7 @@ same-length-4 : tie.Need-same-length-4
 same-length-4 c = search needs
 
 returns-2 : tie.Need-returns-2
-returns-2 c = (sym (ap told (c .enum-told .given .1)) ∙ c .before .before .before .before .before .before .before .before .list .ensures .0, c .before .before .before .before .before .before .before .before .list .ensures .1, c .before .before .before .before .clear-u64 .ensures)
+returns-2 c = (sym (ap (λ (a : Listed). answered here nothing (told a)) (c .enum-told .given .1)) ∙ ap (answered here nothing) (c .before .before .before .before .before .before .before .before .list .ensures .0), c .before .before .before .before .before .before .before .before .list .ensures .1, c .before .before .before .before .clear-u64 .ensures)
 
 pub list-at-spec : {M : Type 1} → statement M
 list-at-spec =

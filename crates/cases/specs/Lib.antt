@@ -1,2 +1,0 @@
-pub mod Layouts
-pub mod Table

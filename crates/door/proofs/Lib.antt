@@ -1,0 +1,2 @@
+-- What the proofs and other crates' proofs cite.
+pub mod Entering

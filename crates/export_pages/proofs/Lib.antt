@@ -1,2 +1,0 @@
--- Laws about what is sent of the page calls.
-pub mod Sheets

@@ -1,2 +1,0 @@
--- The definitions that the exported contract cites.
-pub mod SentRoom

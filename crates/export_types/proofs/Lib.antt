@@ -1,2 +1,0 @@
--- Laws about what is sent of these calls.
-pub mod Telling

@@ -1,2 +1,0 @@
--- Laws about what is sent to a host.
-pub mod Sending

@@ -1,2 +1,0 @@
--- The definitions that the exported contracts cite.
-pub mod Sent

@@ -1,2 +1,0 @@
--- The definitions that the public contract cites.
-pub mod Making

@@ -1,0 +1,195 @@
+// The marking of a joined collection: chains start at the frame's handles and at the values of the registers of a bit row, beside the seals and the pins.
+use crate::Outcome;
+use heap::Heap;
+use trace::Answer;
+use trace::Sink;
+ghost use mathlib.Core.Path.{_≡_};
+ghost use mathlib.Core.Bool.{true};
+ghost use lib.ListN.{length};
+ghost use Rattle.heap.specs.Lent.{lent, view};
+ghost use Rattle.heap.specs.WellFormed.{wellFormed};
+ghost use Rattle.ty.specs.View.{tableOf};
+ghost use Rattle.rows.specs.Row.{bitIn};
+ghost use Rattle.trace.specs.Emit.{Runs};
+ghost use Rattle.frame.specs.Frame.{frameHandles};
+ghost use Rattle.reach.specs.Marking.{followAll};
+ghost use Rattle.mark.specs.Graph.{leadsTo, graphIn, Fit};
+ghost use Rattle.mark.specs.Scratch.{stateOf, Scratch, Holds, Traces};
+ghost use Rattle.mark.specs.Told.{told, marksIn, Ready};
+ghost use Rattle.mark.specs.Joining.{rowValues, followIf, joinedFrom, joinedMarks};
+
+// What the value of register q leads to is marked and queued, if the row has q.
+fn push_if(
+    tag: u8,
+    slots: usize,
+    s: usize,
+    narrow: &[u32],
+    row: &[u64],
+    q: usize,
+    value: u64,
+    marks: &mut [u8],
+    work: &mut [u64],
+    n: usize,
+) -> usize
+    requires { ⌜ Runs slots s (now narrow) ⌝ }
+    requires { ⌜ Scratch slots (now marks) (now work) n ⌝ }
+    ensures { λ r. ⌜ Holds slots (now (marks .exit)) (now (work .exit)) r
+        (followIf (bitIn 64 (now (row .entry)) q) (leadsTo tag slots s (now (narrow .entry))) (stateOf (now (marks .entry)) (now (work .entry)) n) value) ⌝ }
+{
+    if rows::test_bit(row, q) {
+        return trace::emit(tag, slots, s, narrow, Sink::Work, marks, work, n, value);
+    }
+    n
+}
+
+// What the value of each register of the row leads to is marked and queued: one value a register.
+pub fn push_row(
+    tag: u8,
+    slots: usize,
+    s: usize,
+    narrow: &[u32],
+    row: &[u64],
+    values: &[u64],
+    marks: &mut [u8],
+    work: &mut [u64],
+    n: usize,
+) -> usize
+    requires { ⌜ Runs slots s (now narrow) ⌝ }
+    requires { ⌜ Scratch slots (now marks) (now work) n ⌝ }
+    ensures { λ r. ⌜ Holds slots (now (marks .exit)) (now (work .exit)) r
+        (followAll (leadsTo tag slots s (now (narrow .entry))) (stateOf (now (marks .entry)) (now (work .entry)) n) (rowValues (now (row .entry)) (now (values .entry)))) ⌝ }
+{
+    let mut count = n;
+    let mut q = 0;
+    while q < values.len() {
+        let v = values[q];
+        count = push_if(tag, slots, s, narrow, row, q, v, marks, work, count);
+        q += 1;
+    }
+    count
+}
+
+// All that is reached from the frame, the registers, the seals and the pins is marked, unless the frame map fails.
+fn mark_frame(
+    types: &[u64],
+    fields: &[u32],
+    consts: &[u64],
+    bytes: &[u8],
+    tag: u8,
+    slots: usize,
+    s: usize,
+    narrow: &[u32],
+    wide: &[u64],
+    pool: &[u8],
+    row: &[u64],
+    values: &[u64],
+    map: &[u32],
+    memory: &[u8],
+    sealed: &[u64],
+    pins: &[u32],
+    marks: &mut [u8],
+    work: &mut [u64],
+) -> Answer
+    requires { ⌜ Fit slots s (now narrow) (now wide) (now pool) ⌝ }
+    requires { ⌜ Scratch slots (now marks) (now work) 0 ⌝ }
+    ensures { λ r. ⌜ Traces r slots (now (marks .exit)) (now (work .exit)) (joinedFrom
+        (graphIn (tableOf (now (types .entry)) (now (fields .entry)) (now (consts .entry)) (now (bytes .entry))) tag slots s (now (narrow .entry)) (now (wide .entry)) (now (pool .entry)))
+        slots (stateOf (now (marks .entry)) (now (work .entry)) 0)
+        (frameHandles (tableOf (now (types .entry)) (now (fields .entry)) (now (consts .entry)) (now (bytes .entry))) (now (map .entry)) (now (memory .entry)))
+        (rowValues (now (row .entry)) (now (values .entry))) (now (sealed .entry)) (now (pins .entry))) ⌝ }
+{
+    let r = frame::trace_frame(
+        types,
+        fields,
+        consts,
+        bytes,
+        tag,
+        slots,
+        s,
+        narrow,
+        0,
+        map,
+        memory,
+        Sink::Work,
+        marks,
+        work,
+        0,
+    );
+    let Answer::Traced(n) = r else {
+        return Answer::Untraceable;
+    };
+    let m = push_row(tag, slots, s, narrow, row, values, marks, work, n);
+    crate::mark_from(
+        types,
+        fields,
+        consts,
+        bytes,
+        tag,
+        slots,
+        s,
+        narrow,
+        wide,
+        pool,
+        &values[..0],
+        sealed,
+        pins,
+        marks,
+        work,
+        m,
+    )
+}
+
+// The marking of a well formed heap. The scratch is zero, for more slots than there are: the first of the marks are lent.
+pub fn mark_joined(
+    types: &[u64],
+    fields: &[u32],
+    consts: &[u64],
+    bytes: &[u8],
+    heap: Heap,
+    narrow: &[u32],
+    wide: &[u64],
+    pool: &[u8],
+    row: &[u64],
+    values: &[u64],
+    map: &[u32],
+    memory: &[u8],
+    pins: &[u32],
+    marks: &mut [u8],
+    work: &mut [u64],
+) -> Outcome
+    requires { ⌜ wellFormed (lent heap (now narrow) (now wide) (now pool)) ≡ true ⌝ }
+    requires { ⌜ Ready (heap .slots) (now marks) (now work) ⌝ }
+    ensures { λ r. ⌜ told r (now (marks .exit)) ≡ marksIn (length (now (marks .entry)))
+        (joinedMarks (tableOf (now (types .entry)) (now (fields .entry)) (now (consts .entry)) (now (bytes .entry)))
+        (view (lent heap (now (narrow .entry)) (now (wide .entry)) (now (pool .entry))))
+        (frameHandles (tableOf (now (types .entry)) (now (fields .entry)) (now (consts .entry)) (now (bytes .entry))) (now (map .entry)) (now (memory .entry)))
+        (rowValues (now (row .entry)) (now (values .entry))) (now (pins .entry))) ⌝ }
+{
+    let s = narrow.len() / 6;
+    let a = 3 * s;
+    let e = a + heap.sealed;
+    let r = mark_frame(
+        types,
+        fields,
+        consts,
+        bytes,
+        heap.tag,
+        heap.slots,
+        s,
+        narrow,
+        wide,
+        pool,
+        row,
+        values,
+        map,
+        memory,
+        &wide[a..e],
+        pins,
+        &mut marks[..heap.slots],
+        work,
+    );
+    let Answer::Traced(_) = r else {
+        return Outcome::Untraceable;
+    };
+    Outcome::Marked
+}

@@ -1,0 +1,24 @@
+-- The page's two calls (01, "Page"), each refusal in 01's order.
+use Prim.Native.Nat.{ℕ}
+use mathlib.Core.List.{List}
+use Rattle.word.specs.Choice.{if_then_else_}
+use Rattle.refusal.specs.Told.{refusedBy, answered, here, nothing}
+use Rattle.heap.specs.Lent.{Lent, view}
+use Rattle.door.specs.HeapCalls.{Asked, heapAsk, Outcome, outcome, enough, zeros, entry, whether}
+use Rattle.pages.specs.Page.{pageText}
+use Rattle.pages.specs.Answer.{textAnswer, textOut}
+use Rattle.page_reader.specs.Reading.{readInto}
+
+-- `write_page`: scratch 18, broken heap 1, output too short 7, or how many bytes were written
+abbrev pub writing : (marks work : List ℕ) → Lent → (out : List ℕ) → Asked
+writing marks work l out = heapAsk here nothing marks work l (λ h. textAnswer (pageText h) out)
+
+-- the page stands at the start of the output, which stays as it was past it, and whole after a refusal
+abbrev pub pageOut : (marks work : List ℕ) → Lent → (out : List ℕ) → List ℕ
+pageOut marks work l out = whether (entry marks work l) (λ why. out) (textOut (pageText (view l)) out)
+
+-- `read_page`: scratch 18, then what reading the text into lent memory answers and leaves
+unfoldable pub reading : (marks work : List ℕ) → Lent → (text : List ℕ) → Outcome
+reading marks work l text =
+    if enough marks work l then outcome (answered nothing nothing (readInto l text .answer)) (readInto l text .lent) (zeros marks) (zeros work)
+    else outcome (refusedBy 18) l marks work

@@ -1,0 +1,61 @@
+-- THE SECOND ROUND TRIP: page, heap, page. Assumes nothing.
+use Prim.Native.Nat.{ℕ, _≤_}
+use mathlib.Core.Bool.{Bool, true, false}
+use mathlib.Core.List.{List}
+use mathlib.Core.Path.{_≡_, refl, sym, ap, _∙_}
+use lib.ListN.{length}
+use native.Mathlib.Omega.{arith}
+use Rattle.word.specs.Result.{Result, ok, refused}
+use Rattle.text.specs.Put.{putText}
+use Rattle.refusal.specs.Told.{answered, nothing}
+use Rattle.refusal.specs.declared.Answer.{Answer}
+use Rattle.heap.specs.State.{State}
+use Rattle.heap.specs.Lent.{Lent, stored, view, slotCount, poolSize}
+use Rattle.heap.specs.WellFormed.{wellFormed}
+use Rattle.heap.proofs.Storing.{view-stored}
+use Rattle.pages.specs.Page.{pageText}
+use Rattle.pages.proofs.Laws as pages
+use Rattle.page_reader.specs.Reading.{readInto}
+use Rattle.page_reader.proofs.Loaded.{not-ok}
+use Rattle.door.specs.HeapCalls.{enough}
+use Rattle.theorems.specs.PageCalls.{done}
+use Rattle.theorems.specs.PageHeapPage.{TextRead, ReadFormed, ReadWritten}
+use Rattle.theorems.proofs.PageReading.{taken, room-formed, reads-enough, reads-few, answer-done}
+use Rattle.theorems.proofs.PageWriting.{writes-page, writes-none, put-start}
+
+module _ (text : List ℕ) (l′ : Lent) (t : TextRead text l′) where
+  -- a text that was read is the page of the heap that was left
+  record Kept : Type 0 where
+    formed : wellFormed l′ ≡ true
+    page : pageText (view l′) ≡ text
+
+  kept : Kept
+  kept = go (enough (t .marks) (t .work) (t .l)) refl
+    where
+      go : (b : Bool) → enough (t .marks) (t .work) (t .l) ≡ b → Kept
+      go false e = absurd (let q : _≡_ {A = ℕ} 18 0 = sym (ap (λ (a : Answer). a .number) (reads-few (t .reads) e)) ∙ t .taken in omega arith)
+      go true e =
+          let c = reads-enough (t .reads) e in
+          let k = taken (t .l) text (answer-done (t .l) text (sym (ap (λ (a : Answer). a .number) (c .0)) ∙ t .taken)) in
+          let h : State = k .0 in
+          let lies : l′ ≡ stored (slotCount (t .l)) (poolSize (t .l)) h = c .1 ∙ k .1 .lies in
+          let v : view l′ ≡ h = ap view lies ∙ view-stored (slotCount (t .l)) (poolSize (t .l)) h in
+          record {
+            formed = ap wellFormed lies ∙ room-formed h (t .l) (k .1 .sound) (k .1 .room);
+            page = ap pageText v ∙ pages.written-read text h (k .1 .page) .0;
+          }
+
+pub read-formed : ReadFormed
+read-formed text l′ t = kept text l′ t .formed
+
+pub read-written : ReadWritten
+read-written text l′ out marks work r out′ marks′ work′ t s d =
+    let f : wellFormed l′ ≡ true = kept text l′ t .formed in
+    let p : pageText (view l′) ≡ text = kept text l′ t .page in
+    let n : length (pageText (view l′)) ≡ length text = ap length p in
+    record {
+      answer = λ h. writes-page l′ d f s (omega arith) .0 ∙ ap done n;
+      page = λ h. writes-page l′ d f s (omega arith) .1 ∙ ap (putText out 0) p ∙ put-start out text;
+      short = λ h. writes-none l′ d f s (omega arith) .0;
+      kept = λ h. writes-none l′ d f s (omega arith) .1;
+    }

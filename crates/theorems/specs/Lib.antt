@@ -1,0 +1,9 @@
+-- The great theorems, one file each: what is claimed.
+pub mod Words
+pub mod PageCalls
+pub mod HeapPageHeap
+pub mod PageHeapPage
+pub mod PageBound
+pub mod StrideZero
+pub mod TableLayouts
+pub mod ProvedTable
