@@ -2,17 +2,17 @@
 -- lowest set bit of one. For any word width W. Assumes nothing.
 use mathlib.Core.Path.{_≡_, refl, sym, ap, ap₂, _∙_}
 use mathlib.Core.Bool.{Bool, true, false}
-use mathlib.Core.List.{List, [], _∷_, _++_, append-assoc}
+use mathlib.Core.List.{List, [], _∷_, _++_, append-assoc, append-nil}
 use Prim.Native.Nat.{ℕ, zero, suc, _+_, _-_, _*_, _^_, _≤_, _<_}
 use native.Mathlib.Nat.{zero-add, add-mul, one-mul, zero-mul}
 use native.Mathlib.Decide.{decLt}
 use native.Mathlib.Omega.{arith}
 use lib.Bits.{bitAnd}
 use lib.Count.{trailingZeros}
-use lib.ListN.{length, getD, set, length-append, length-set}
+use lib.ListN.{length, getD, set, length-append, length-set, List·getD-eq-default}
 use Rattle.word.specs.Ones.{keep, passing, onesFrom}
 use Rattle.word.specs.Put.{put}
-use Rattle.word.proofs.OnesLaws.{passing-append, passing-ones, ones-none, ones-next}
+use Rattle.word.proofs.OnesLaws.{passing-append, passing-ones, ones-none, ones-next, less-one-digit}
 use Rattle.word.proofs.PutLaws.{put-none, put-put, copy-turn}
 use Rattle.rows.specs.Row.{bitIn, listed}
 use Rattle.rows.proofs.RowLaws.{bitIn-word}
@@ -25,25 +25,15 @@ after W row i = passing (bitIn W row) (i * W) ((length row - i) * W)
 unfoldable pub leftover : (W : ℕ) (row : List ℕ) (i rest : ℕ) → List ℕ
 leftover W row i rest = onesFrom W rest (i * W) ++ after W row (i + 1)
 
--- one position
-module _ (p : ℕ → Bool) (i : ℕ) where
-  pub passing-one : p i ≡ true → passing p i 1 ≡ i ∷ []
-  unfolding passing
-  passing-one e = ap (λ (b : Bool). keep b i []) e
+pub positive : (n : ℕ) → (n ≡ 0 → ⊥) → 0 < n
+positive n h = elim (decLt 0 n) [
+  | yes y ↦ y
+  | no y ↦ absurd (h (omega arith))
+]
 
-  pub passing-not : p i ≡ false → passing p i 1 ≡ []
-  unfolding passing
-  passing-not e = ap (λ (b : Bool). keep b i []) e
-
--- one more position
-pub passing-snoc : (p : ℕ → Bool) (i : ℕ) → passing p 0 (i + 1) ≡ passing p 0 i ++ passing p i 1
-passing-snoc p i = passing-append p 0 i 1 ∙ ap (λ (b : ℕ). passing p 0 i ++ passing p b 1) (zero-add i)
-
--- past a list there are zeros
-pub getD-past : (l : List ℕ) (k : ℕ) → length l ≤ k → getD l k 0 ≡ 0
-getD-past [] k h = refl
-getD-past (x ∷ xs) zero h = absurd (omega arith)
-getD-past (x ∷ xs) (suc k) h = getD-past xs k (omega arith)
+-- a word without its lowest set bit is a word
+pub less-word : (W x : ℕ) → 0 < x → x < 2 ^ W → bitAnd x (x - 1) < 2 ^ W
+less-word W x p h = let l = less-one-digit x p in omega arith
 
 -- at most as many numbers pass a test as there are
 pub passing-most : (p : ℕ → Bool) (b n : ℕ) → length (passing p b n) ≤ n
@@ -56,6 +46,10 @@ passing-most p b (suc n) = go (p b) (passing-most p (suc b) n)
     go false h = omega arith
 
 module _ (W : ℕ) (row : List ℕ) where
+  pub listed-le : length (listed W row) ≤ length row * W
+  unfolding listed
+  listed-le = passing-most (bitIn W row) 0 (length row * W)
+
   -- past the last word nothing is left
   after-end : (i : ℕ) → length row ≤ i → after W row i ≡ []
   unfolding after passing
@@ -76,7 +70,7 @@ module _ (W : ℕ) (row : List ℕ) where
   unfolding leftover
   whole k next e = elim (decLt k (length row)) [
     | yes y ↦ after-word k y ∙ ap (λ (x : ℕ). onesFrom W x (k * W) ++ after W row (k + 1)) (sym e)
-    | no y ↦ after-end k (omega arith) ∙ sym (ap₂ _++_ (ap (λ (x : ℕ). onesFrom W x (k * W)) (e ∙ getD-past row k (omega arith)) ∙ ones-none W (k * W)) (after-end (k + 1) (omega arith)))
+    | no y ↦ after-end k (omega arith) ∙ sym (ap₂ _++_ (ap (λ (x : ℕ). onesFrom W x (k * W)) (e ∙ List·getD-eq-default row 0 (omega arith)) ∙ ones-none W (k * W)) (after-end (k + 1) (omega arith)))
   ]
 
   -- where nothing is left of word i, the next word is whole
@@ -102,10 +96,6 @@ module _ (W : ℕ) (row : List ℕ) where
   pub none-left : (i rest : ℕ) → length row ≤ i → rest ≡ 0 → leftover W row i rest ≡ []
   unfolding leftover
   none-left i rest h z = ap₂ _++_ (ap (λ (x : ℕ). onesFrom W x (i * W)) z ∙ ones-none W (i * W)) (after-end (i + 1) (omega arith))
-
-append-nil : (l : List ℕ) → l ++ [] ≡ l
-append-nil [] = refl
-append-nil (x ∷ l) = ap (λ (m : List ℕ). x ∷ m) (append-nil l)
 
 -- a list of one element
 pub put-one : (d : List ℕ) (n v : ℕ) → n < length d → set d n v ≡ put d n (v ∷ []) 1
@@ -135,7 +125,7 @@ module _ (W : ℕ) (row : List ℕ) where
     same = refl;
     turned = refl;
     inside = omega arith;
-    past = λ h. e ∙ getD-past row 0 h;
+    past = λ h. e ∙ List·getD-eq-default row 0 h;
   }
 
   module _ (out₀ out : List ℕ) (n turns i rest : ℕ) (g : Going W row out₀ out n turns i rest) where
@@ -152,7 +142,7 @@ module _ (W : ℕ) (row : List ℕ) where
       same = g .same;
       turned = omega (arith, g .turned);
       inside = omega arith;
-      past = λ k. e ∙ getD-past row (i + 1) k;
+      past = λ k. e ∙ List·getD-eq-default row 0 k;
     }
 
     module _ (p : 0 < rest) (small : rest < 2 ^ W) where
