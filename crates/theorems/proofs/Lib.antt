@@ -8,3 +8,4 @@ pub mod PageBound
 pub mod NoRoom
 pub mod StrideZero
 pub mod ProvedTable
+pub mod TestsPass

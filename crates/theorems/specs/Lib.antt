@@ -7,3 +7,4 @@ pub mod PageBound
 pub mod StrideZero
 pub mod TableLayouts
 pub mod ProvedTable
+pub mod TestsPass
