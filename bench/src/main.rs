@@ -215,7 +215,8 @@ fn code(blocks: usize, registers: usize) -> (Function, Func) {
     (port, rust)
 }
 
-fn live(table: &mut Table, blocks: usize, registers: usize) {
+// Few registers are live at once: where there are many, the rows are nearly empty.
+fn live(table: &mut Table, what: &str, size: usize, blocks: usize, registers: usize) {
     let (port, rust) = code(blocks, registers);
     let prog = Program::default();
     let map = port.live_refs(Wanted::References).unwrap();
@@ -229,7 +230,7 @@ fn live(table: &mut Table, blocks: usize, registers: usize) {
     let b = time(|| {
         black_box(roots::live_refs(&prog, &rust, false));
     });
-    table.row("live_refs (ns), by blocks", blocks, a, b);
+    table.row(what, size, a, b);
 }
 
 // A page of so many objects of 64 bytes, written and read by the port and by plain Rust.
@@ -319,7 +320,7 @@ fn joined(table: &mut Table, n: usize) {
     table.row("collect_joined, ring (ns), by slots", n, a, b);
 }
 
-const ROWS: [&str; 10] = ["churn", "script", "layout", "object_handles", "live_refs", "collect", "joined", "write_page", "read_page", "memcpy"];
+const ROWS: [&str; 11] = ["churn", "script", "layout", "object_handles", "live_refs", "sparse_rows", "collect", "joined", "write_page", "read_page", "memcpy"];
 
 fn main() {
     let words: Vec<String> = std::env::args().skip(1).collect();
@@ -335,7 +336,8 @@ fn main() {
             "churn" | "script" => [16, 256, 4096, 65536].iter().for_each(|n| churn(&mut table, *n, row == "script")),
             "layout" => [3, 30, 300].iter().for_each(|n| layouts(&mut table, *n)),
             "object_handles" => [10, 1000, 100_000].iter().for_each(|n| objects(&mut table, *n)),
-            "live_refs" => [(4, 8), (64, 64), (1024, 256), (4096, 1024)].iter().for_each(|(b, r)| live(&mut table, *b, *r)),
+            "live_refs" => [(4, 8), (64, 64), (1024, 256), (4096, 1024)].iter().for_each(|(b, r)| live(&mut table, "live_refs (ns), by blocks", *b, *b, *r)),
+            "sparse_rows" => [64, 1024, 16384].iter().for_each(|r| live(&mut table, "live_refs of 64 blocks (ns), by registers", *r, 64, *r)),
             "collect" => {
                 SIZES.iter().for_each(|n| collections(&mut table, "chain", *n, |i| if i + 1 < *n { i + 1..i + 2 } else { 0..0 }));
                 SIZES.iter().for_each(|n| collections(&mut table, "ring", *n, |i| i + 1..i + 2));

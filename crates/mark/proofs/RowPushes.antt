@@ -1,14 +1,20 @@
--- The values of a row's registers taken in turn: a handle whose bit is set is followed, the others are passed over. Assumes nothing.
-use Prim.Native.Nat.{ℕ, suc, _+_, _-_, _≤_, _<_}
-use mathlib.Core.Path.{_≡_, refl, sym, ap, _∙_}
+-- The registers of a row taken word by word: the value of each set bit below the number of values is followed. Assumes nothing.
+use Prim.Native.Nat.{ℕ, _+_, _-_, _*_, _/_, _^_, _≤_, _<_}
+use mathlib.Core.Path.{_≡_, refl, sym, ap, _∙_, subst}
 use mathlib.Core.Bool.{Bool, true, false}
-use mathlib.Core.List.{List, []}
+use mathlib.Core.List.{List, [], _∷_}
+use lib.Bits.{bitAnd}
+use lib.Count.{trailingZeros}
+use lib.Dec.{ltb}
 use lib.ListN.{length, getD}
-use native.Mathlib.Nat.{sub-zero}
-use native.Mathlib.Numerals.{add-one}
+use native.Mathlib.Decide.{decLt}
 use native.Mathlib.Omega.{arith}
-use Rattle.word.specs.Ones.{keep, passing}
-use Rattle.rows.specs.Row.{bitIn}
+use borrow.Author.Tests.{lt-ltb, le-ltb}
+use Rattle.word.specs.Ones.{passing}
+use Rattle.word.proofs.OnesLaws.{trailing-lt}
+use Rattle.rows.specs.Row.{bitIn, listed}
+use Rattle.rows.proofs.Listing.{leftover, pass-word, take-bit, all-left, positive, less-word, passing-most}
+use Rattle.rows.proofs.Below.{below, below-in, below-out, below-none, below-listed}
 use Rattle.trace.specs.Emit.{rawOf, into, resolveIn, emitted}
 use Rattle.trace.specs.declared.Sink.the-variants.{Work}
 use Rattle.reach.specs.Marking.{State, follow, followAll}
@@ -22,69 +28,151 @@ use Rattle.mark.specs.Joining.{rowValues, followIf}
 
 -- ---- one register
 
-module _ (tag slots S : ℕ) (narrow row : List ℕ) (q x : ℕ) (marks work : List ℕ) (n : ℕ) (s : Scratch slots marks work n) (b : Bool) (e : b ≡ bitIn 64 row q) where
-  pub if-set : b ≡ true → (marks′ work′ : List ℕ) (n′ : ℕ) → rawOf marks′ work′ n′ ≡ emitted (into Work (resolveIn tag slots S narrow)) (rawOf marks work n) x
-      → Holds slots marks′ work′ n′ (followIf (bitIn 64 row q) (leadsTo tag slots S narrow) (stateOf marks work n) x)
-  if-set t marks′ work′ n′ w =
-      let u : bitIn 64 row q ≡ true = sym e ∙ t in
-      rw u (emit-met slots (resolveIn tag slots S narrow) (resolves-in tag slots S narrow) marks work n x marks′ work′ n′ s w)
+module _ (tag slots S : ℕ) (narrow values : List ℕ) (q : ℕ) (marks work : List ℕ) (n : ℕ) (s : Scratch slots marks work n) where
+  pub at-value : q < length values → (marks′ work′ : List ℕ) (n′ : ℕ) → rawOf marks′ work′ n′ ≡ emitted (into Work (resolveIn tag slots S narrow)) (rawOf marks work n) (getD values q 0)
+      → Holds slots marks′ work′ n′ (followIf (ltb q (length values)) (leadsTo tag slots S narrow) (stateOf marks work n) (getD values q 0))
+  at-value h marks′ work′ n′ w =
+      rw (lt-ltb q (length values) h) (emit-met slots (resolveIn tag slots S narrow) (resolves-in tag slots S narrow) marks work n (getD values q 0) marks′ work′ n′ s w)
 
-  pub if-clear : b ≡ false → Holds slots marks work n (followIf (bitIn 64 row q) (leadsTo tag slots S narrow) (stateOf marks work n) x)
-  if-clear t = let u : bitIn 64 row q ≡ false = sym e ∙ t in rw u (record { state = refl; scratch = s })
+  pub no-value : length values ≤ q → Holds slots marks work n (followIf (ltb q (length values)) (leadsTo tag slots S narrow) (stateOf marks work n) (getD values q 0))
+  no-value h = rw (le-ltb q (length values) h) (record { state = refl; scratch = s })
 
--- ---- one after the other
+-- ---- word by word
 
--- the values from register k on
-abbrev pub valuesFrom : (row values : List ℕ) (k : ℕ) → List ℕ
-valuesFrom row values k = valuesOf values (passing (bitIn 64 row) k (length values - k))
+-- how many words the registers take, and how many bits these have
+abbrev pub wordsOf : List ℕ → ℕ
+wordsOf values = (length values + 63) / 64
 
-keep-values : (values : List ℕ) (b : Bool) (k : ℕ) (rs : List ℕ) → valuesOf values (keep b k rs) ≡ keep b (getD values k 0) (valuesOf values rs)
-unfolding valuesOf
-keep-values values true k rs = refl
-keep-values values false k rs = refl
+abbrev pub bitsOf : List ℕ → ℕ
+bitsOf values = wordsOf values * 64
 
-values-next : (row values : List ℕ) (k : ℕ) → k < length values → valuesFrom row values k ≡ keep (bitIn 64 row k) (getD values k 0) (valuesFrom row values (k + 1))
-unfolding passing
-values-next row values k h =
-    let e : length values - k ≡ suc (length values - suc k) = omega arith in
-    ap (λ (n : ℕ). valuesOf values (passing (bitIn 64 row) k n)) e
-    ∙ keep-values values (bitIn 64 row k) k (passing (bitIn 64 row) (suc k) (length values - suc k))
-    ∙ ap (λ (j : ℕ). keep (bitIn 64 row k) (getD values k 0) (valuesFrom row values j)) (sym (add-one k))
+-- the values of the registers that are left at word i, when `rest` of it was not taken yet
+abbrev pub valuesLeft : (row values : List ℕ) (i rest : ℕ) → List ℕ
+valuesLeft row values i rest = valuesOf values (below (length values) (leftover 64 row i rest))
 
-values-end : (row values : List ℕ) (k : ℕ) → length values ≤ k → valuesFrom row values k ≡ []
-unfolding passing valuesOf
-values-end row values k h = let e : length values - k ≡ 0 = omega arith in ap (λ (n : ℕ). valuesOf values (passing (bitIn 64 row) k n)) e
+-- how many set bits are left in the words of the registers
+abbrev pub bitsLeft : (row values : List ℕ) (i rest : ℕ) → ℕ
+bitsLeft row values i rest = length (below (bitsOf values) (leftover 64 row i rest))
 
-abbrev pub RowPushes : (tag slots S : ℕ) (narrow row values marks₀ work₀ : List ℕ) (total : State) (marks work : List ℕ) (count k : ℕ) → Type 0
-RowPushes tag slots S narrow row values marks₀ work₀ total marks work count k =
-    Pushing (followAll (leadsTo tag slots S narrow)) slots marks₀ work₀ total marks work count (valuesFrom row values k)
+pub record RowPushes (tag slots S : ℕ) (narrow row values marks₀ work₀ : List ℕ) (total : State) (marks work : List ℕ) (count turns i rest : ℕ) : Type 0 where
+  pub pushing : Pushing (followAll (leadsTo tag slots S narrow)) slots marks₀ work₀ total marks work count (valuesLeft row values i rest)
+  pub turned : turns + bitsLeft row values i rest ≡ i + length (passing (bitIn 64 row) 0 (bitsOf values))
+  pub inside : i ≤ wordsOf values
+  pub word : rest < 2 ^ 64
 
-pub row-first : (tag slots S : ℕ) (narrow row values marks work : List ℕ) (n : ℕ) → Scratch slots marks work n
-    → RowPushes tag slots S narrow row values marks work (followAll (leadsTo tag slots S narrow) (stateOf marks work n) (rowValues row values)) marks work n 0
-row-first tag slots S narrow row values marks work n s =
+pub row-first : (tag slots S : ℕ) (narrow row values marks work : List ℕ) (n rest : ℕ) → Scratch slots marks work n → rest ≡ getD row 0 0 → rest < 2 ^ 64
+    → RowPushes tag slots S narrow row values marks work (followAll (leadsTo tag slots S narrow) (stateOf marks work n) (rowValues row values)) marks work n 0 0 rest
+row-first tag slots S narrow row values marks work n rest s e w =
     record {
-      scratch = s;
-      same = ap (λ (m : ℕ). followAll (leadsTo tag slots S narrow) (stateOf marks work n) (valuesOf values (passing (bitIn 64 row) 0 m))) (sub-zero (length values));
-      long = refl;
-      words = refl;
+      pushing = record {
+        scratch = s;
+        same = ap (λ (l : List ℕ). followAll (leadsTo tag slots S narrow) (stateOf marks work n) (valuesOf values l)) (all (length values));
+        long = refl;
+        words = refl;
+      };
+      turned = omega (arith, ap length (all (bitsOf values)));
+      inside = omega arith;
+      word = w;
+    }
+  where
+    all : (m : ℕ) → below m (leftover 64 row 0 rest) ≡ passing (bitIn 64 row) 0 m
+    all m = ap (below m) (all-left 64 row rest e) ∙ below-listed row m
+
+module _ (tag slots S : ℕ) (narrow row values marks₀ work₀ : List ℕ) (total : State) (marks work : List ℕ) (count turns i rest : ℕ)
+    (p : RowPushes tag slots S narrow row values marks₀ work₀ total marks work count turns i rest) where
+  -- turns and bits are few
+  pub few-turns : turns ≤ wordsOf values + bitsOf values
+  few-turns = omega (arith, p .turned, p .inside, passing-most (bitIn 64 row) 0 (bitsOf values))
+
+  -- a word is passed
+  module _ (next : ℕ) (z : rest ≡ 0) (e : next ≡ getD row (i + 1) 0) where
+    same-left : (m : ℕ) → below m (leftover 64 row (i + 1) next) ≡ below m (leftover 64 row i rest)
+    same-left m = ap (below m) (sym (pass-word 64 row i rest next z e))
+
+    pub pass-left : bitsLeft row values (i + 1) next ≡ bitsLeft row values i rest
+    pass-left = ap length (same-left (bitsOf values))
+
+    pub row-pass : i < wordsOf values → next < 2 ^ 64 → RowPushes tag slots S narrow row values marks₀ work₀ total marks work count (turns + 1) (i + 1) next
+    row-pass h w = record {
+      pushing = record {
+        scratch = p .pushing .scratch;
+        same = ap (λ (l : List ℕ). followAll (leadsTo tag slots S narrow) (stateOf marks work count) (valuesOf values l)) (same-left (length values)) ∙ p .pushing .same;
+        long = p .pushing .long;
+        words = p .pushing .words;
+      };
+      turned = omega (arith, p .turned, pass-left);
+      inside = omega arith;
+      word = w;
     }
 
-module _ (tag slots S : ℕ) (narrow row values marks₀ work₀ : List ℕ) (total : State) (marks work : List ℕ) (count k : ℕ) (p : RowPushes tag slots S narrow row values marks₀ work₀ total marks work count k) where
-  pub row-next : k < length values → (marks′ work′ : List ℕ) (count′ : ℕ) → Holds slots marks′ work′ count′ (followIf (bitIn 64 row k) (leadsTo tag slots S narrow) (stateOf marks work count) (getD values k 0))
-      → length marks′ ≡ length marks → length work′ ≡ length work → RowPushes tag slots S narrow row values marks₀ work₀ total marks′ work′ count′ (k + 1)
-  row-next h marks′ work′ count′ met a b = go (bitIn 64 row k) (values-next row values k h) met
-    where
-      go : (x : Bool) → valuesFrom row values k ≡ keep x (getD values k 0) (valuesFrom row values (k + 1)) → Holds slots marks′ work′ count′ (followIf x (leadsTo tag slots S narrow) (stateOf marks work count) (getD values k 0))
-          → RowPushes tag slots S narrow row values marks₀ work₀ total marks′ work′ count′ (k + 1)
-      go true e m =
-          pushing-next _ slots marks₀ work₀ total marks work count (valuesFrom row values k) p (follow (leadsTo tag slots S narrow)) (λ s x r. refl) (getD values k 0) (valuesFrom row values (k + 1)) marks′ work′ count′ e m a b
-      go false e m =
-          record {
-            scratch = m .scratch;
-            same = ap (λ (u : State). followAll (leadsTo tag slots S narrow) u (valuesFrom row values (k + 1))) (m .state) ∙ sym (ap (followAll (leadsTo tag slots S narrow) (stateOf marks work count)) e) ∙ p .same;
-            long = a ∙ p .long;
-            words = b ∙ p .words;
-          }
+  -- a bit is taken
+  module _ (h : i < wordsOf values) (some : rest ≡ 0 → ⊥) where
+    pos : 0 < rest
+    pos = positive rest some
 
-  pub row-end : length values ≤ k → Holds slots marks work count total
-  row-end h = pushing-end _ slots marks₀ work₀ total marks work count (valuesFrom row values k) p (λ s. refl) (values-end row values k h)
+    abbrev q : ℕ
+    q = i * 64 + trailingZeros 64 rest
+
+    lowest : leftover 64 row i rest ≡ q ∷ leftover 64 row i (bitAnd rest (rest - 1))
+    lowest = take-bit 64 row i rest pos (p .word)
+
+    inside-words : q < bitsOf values
+    inside-words = omega (arith, trailing-lt 64 rest pos (p .word))
+
+    pub take-left : bitsLeft row values i rest ≡ 1 + bitsLeft row values i (bitAnd rest (rest - 1))
+    take-left = omega (arith, ap length (ap (below (bitsOf values)) lowest ∙ below-in (bitsOf values) q (leftover 64 row i (bitAnd rest (rest - 1))) inside-words))
+
+    pub row-take : (v : ℕ) → v ≡ 64 * i + trailingZeros 64 rest → (marks′ work′ : List ℕ) (count′ : ℕ)
+        → Holds slots marks′ work′ count′ (followIf (ltb v (length values)) (leadsTo tag slots S narrow) (stateOf marks work count) (getD values v 0))
+        → length marks′ ≡ length marks → length work′ ≡ length work
+        → RowPushes tag slots S narrow row values marks₀ work₀ total marks′ work′ count′ (turns + 1) i (bitAnd rest (rest - 1))
+    unfolding valuesOf
+    row-take v e marks′ work′ count′ met a b = record {
+      pushing = elim (decLt v (length values)) [
+        | yes y ↦ followed y
+        | no y ↦ left (omega arith)
+      ];
+      turned = omega (arith, p .turned, take-left);
+      inside = p .inside;
+      word = less-word 64 rest pos (p .word);
+    }
+      where
+        rests : List ℕ
+        rests = leftover 64 row i (bitAnd rest (rest - 1))
+
+        first : below (length values) (leftover 64 row i rest) ≡ below (length values) (v ∷ rests)
+        first = ap (below (length values)) (lowest ∙ ap (λ (x : ℕ). x ∷ rests) (let s : q ≡ v = omega (arith, e) in s))
+
+        followed : v < length values → Pushing (followAll (leadsTo tag slots S narrow)) slots marks₀ work₀ total marks′ work′ count′ (valuesOf values (below (length values) rests))
+        followed y =
+            let m : Holds slots marks′ work′ count′ (follow (leadsTo tag slots S narrow) (stateOf marks work count) (getD values v 0)) =
+            subst (λ (t : Bool). Holds slots marks′ work′ count′ (followIf t (leadsTo tag slots S narrow) (stateOf marks work count) (getD values v 0))) (lt-ltb v (length values) y) met in
+            pushing-next _ slots marks₀ work₀ total marks work count (valuesLeft row values i rest) (p .pushing) (follow (leadsTo tag slots S narrow)) (λ s x r. refl)
+            (getD values v 0) (valuesOf values (below (length values) rests)) marks′ work′ count′
+            (ap (valuesOf values) (first ∙ below-in (length values) v rests y)) m a b
+
+        left : length values ≤ v → Pushing (followAll (leadsTo tag slots S narrow)) slots marks₀ work₀ total marks′ work′ count′ (valuesOf values (below (length values) rests))
+        left y =
+            let m : Holds slots marks′ work′ count′ (stateOf marks work count) =
+            subst (λ (t : Bool). Holds slots marks′ work′ count′ (followIf t (leadsTo tag slots S narrow) (stateOf marks work count) (getD values v 0))) (le-ltb v (length values) y) met in
+            record {
+              scratch = m .scratch;
+              same = ap (λ (u : State). followAll (leadsTo tag slots S narrow) u (valuesOf values (below (length values) rests))) (m .state)
+                  ∙ sym (ap (λ (l : List ℕ). followAll (leadsTo tag slots S narrow) (stateOf marks work count) (valuesOf values l)) (first ∙ below-out (length values) v rests y)) ∙ p .pushing .same;
+              long = a ∙ p .pushing .long;
+              words = b ∙ p .pushing .words;
+            }
+
+  -- at the end
+  module _ (h : wordsOf values ≤ i) where
+    pub row-end : Holds slots marks work count total
+    unfolding valuesOf
+    row-end =
+        pushing-end _ slots marks₀ work₀ total marks work count (valuesLeft row values i rest) (p .pushing) (λ s. refl) (ap (valuesOf values) (below-none (length values) 64 row i rest (omega arith)))
+
+    pub row-turns : length row ≡ wordsOf values → turns ≡ length row + length (listed 64 row)
+    unfolding listed
+    row-turns e =
+        let none = ap length (below-none (bitsOf values) 64 row i rest (omega arith)) in
+        let all : length (passing (bitIn 64 row) 0 (bitsOf values)) ≡ length (passing (bitIn 64 row) 0 (length row * 64)) = ap (λ (k : ℕ). length (passing (bitIn 64 row) 0 (k * 64))) (sym e) in
+        omega (arith, p .turned, p .inside)

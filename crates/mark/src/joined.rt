@@ -5,11 +5,13 @@ use trace::Answer;
 use trace::Sink;
 ghost use mathlib.Core.Path.{_≡_};
 ghost use mathlib.Core.Bool.{true};
-ghost use lib.ListN.{length};
+ghost use Prim.Native.Nat.{_+_, _/_};
+ghost use lib.Dec.{ltb};
+ghost use lib.ListN.{length, getD};
 ghost use Rattle.heap.specs.Lent.{lent, view};
 ghost use Rattle.heap.specs.WellFormed.{wellFormed};
 ghost use Rattle.ty.specs.View.{tableOf};
-ghost use Rattle.rows.specs.Row.{bitIn};
+ghost use Rattle.rows.specs.Row.{listed};
 ghost use Rattle.trace.specs.Emit.{Runs};
 ghost use Rattle.frame.specs.Frame.{frameHandles};
 ghost use Rattle.reach.specs.Marking.{followAll};
@@ -18,31 +20,38 @@ ghost use Rattle.mark.specs.Scratch.{stateOf, Scratch, Holds, Traces};
 ghost use Rattle.mark.specs.Told.{told, marksIn, Ready};
 ghost use Rattle.mark.specs.Joining.{rowValues, followIf, joinedFrom, joinedMarks};
 
-// What the value of register q leads to is marked and queued, if the row has q.
-fn push_if(
+// What the value of register q leads to is marked and queued, if there is that register.
+fn push_at(
     tag: u8,
     slots: usize,
     s: usize,
     narrow: &[u32],
-    row: &[u64],
+    values: &[u64],
     q: usize,
-    value: u64,
     marks: &mut [u8],
     work: &mut [u64],
     n: usize,
 ) -> usize
     requires { ⌜ Runs slots s (now narrow) ⌝ }
     requires { ⌜ Scratch slots (now marks) (now work) n ⌝ }
-    ensures { λ r. ⌜ Holds slots (now (marks .exit)) (now (work .exit)) r
-        (followIf (bitIn 64 (now (row .entry)) q) (leadsTo tag slots s (now (narrow .entry))) (stateOf (now (marks .entry)) (now (work .entry)) n) value) ⌝ }
+    ensures { λ r. ⌜ Holds slots (now (marks .exit)) (now (work .exit)) r (followIf (ltb q (length (now (values .entry))))
+        (leadsTo tag slots s (now (narrow .entry))) (stateOf (now (marks .entry)) (now (work .entry)) n) (getD (now (values .entry)) q 0)) ⌝ }
 {
-    if rows::test_bit(row, q) {
-        return trace::emit(tag, slots, s, narrow, Sink::Work, marks, work, n, value);
+    if q < values.len() {
+        let v = values[q];
+        return trace::emit(tag, slots, s, narrow, Sink::Work, marks, work, n, v);
     }
     n
 }
 
-// What the value of each register of the row leads to is marked and queued: one value a register.
+// The length of the queue after a row, and in how many turns the row was gone through.
+pub struct Pushed {
+    pub count: usize,
+    pub turns: usize,
+}
+
+// What the value of each register of the row leads to is marked and queued: one value a register. A turn passes one word of the row or takes the lowest set bit
+// of one, by its trailing zeros.
 pub fn push_row(
     tag: u8,
     slots: usize,
@@ -53,20 +62,30 @@ pub fn push_row(
     marks: &mut [u8],
     work: &mut [u64],
     n: usize,
-) -> usize
+) -> Pushed
     requires { ⌜ Runs slots s (now narrow) ⌝ }
     requires { ⌜ Scratch slots (now marks) (now work) n ⌝ }
-    ensures { λ r. ⌜ Holds slots (now (marks .exit)) (now (work .exit)) r
+    ensures followed { λ r. ⌜ Holds slots (now (marks .exit)) (now (work .exit)) (r .count)
         (followAll (leadsTo tag slots s (now (narrow .entry))) (stateOf (now (marks .entry)) (now (work .entry)) n) (rowValues (now (row .entry)) (now (values .entry)))) ⌝ }
+    ensures turns { λ r. ⌜ (length (now (row .entry)) ≡ (length (now (values .entry)) + 63) / 64 → r .turns ≡ length (now (row .entry)) + length (listed 64 (now (row .entry)))) ⌝ }
 {
+    let words = (values.len() + 63) / 64;
     let mut count = n;
-    let mut q = 0;
-    while q < values.len() {
-        let v = values[q];
-        count = push_if(tag, slots, s, narrow, row, q, v, marks, work, count);
-        q += 1;
+    let mut turns: usize = 0;
+    let mut i: usize = 0;
+    let mut rest = rows::word_at(row, 0);
+    while i < words {
+        turns += 1;
+        if rest == 0 {
+            i += 1;
+            rest = rows::word_at(row, i);
+            continue;
+        }
+        let q = 64 * i + u64::trailing_zeros(rest) as usize;
+        count = push_at(tag, slots, s, narrow, values, q, marks, work, count);
+        rest = rest & (rest - 1);
     }
-    count
+    Pushed { count, turns }
 }
 
 // All that is reached from the frame, the registers, the seals and the pins is marked, unless the frame map fails.
@@ -118,7 +137,7 @@ fn mark_frame(
     let Answer::Traced(n) = r else {
         return Answer::Untraceable;
     };
-    let m = push_row(tag, slots, s, narrow, row, values, marks, work, n);
+    let m = push_row(tag, slots, s, narrow, row, values, marks, work, n).count;
     crate::mark_from(
         types,
         fields,

@@ -3,6 +3,7 @@ use mathlib.Core.Path.{_≡_, refl, sym, ap, ap₂, _∙_, subst}
 use mathlib.Core.Bool.{Bool, true, false}
 use mathlib.Core.List.{List, [], _∷_, _++_, append-assoc, append-nil, flatMap}
 use Prim.Native.Nat.{ℕ, suc, _+_, _-_, _*_, _/_, _≤_, _<_}
+use native.Mathlib.Nat.{zero-add}
 use native.Mathlib.Omega.{arith}
 use native.Mathlib.Numerals.{add-one}
 use lib.ListN.{length, take, drop, set, length-append}
@@ -13,7 +14,6 @@ use Rattle.word.specs.Put.{put}
 use Rattle.word.proofs.OnesLaws.{passing-append}
 use Rattle.word.proofs.PutLaws.{put-none, put-all, put-front, put-whole, length-put}
 use Rattle.rows.specs.Row.{listed}
-use Rattle.rows.proofs.Listing.{passing-one, passing-not, passing-snoc}
 use Rattle.flow.specs.Function.{safepoint}
 use Rattle.roots.specs.View.{view, formed}
 use Rattle.root_map.specs.Calls.{limits}
@@ -25,6 +25,20 @@ use Rattle.root_map.proofs.Pointing.{found-end, standing-none, standing
 
 pub back-one : (i : ℕ) → 0 < i → i ≡ (i - 1) + 1
 back-one i h = omega arith
+
+-- one position
+module _ (p : ℕ → Bool) (i : ℕ) where
+  passing-one : p i ≡ true → passing p i 1 ≡ i ∷ []
+  unfolding passing
+  passing-one e = ap (λ (b : Bool). keep b i []) e
+
+  passing-not : p i ≡ false → passing p i 1 ≡ []
+  unfolding passing
+  passing-not e = ap (λ (b : Bool). keep b i []) e
+
+-- one more position
+passing-snoc : (p : ℕ → Bool) (i : ℕ) → passing p 0 (i + 1) ≡ passing p 0 i ++ passing p i 1
+passing-snoc p i = passing-append p 0 i 1 ∙ ap (λ (b : ℕ). passing p 0 i ++ passing p b 1) (zero-add i)
 
 flat-two : (live : ℕ → List ℕ) (xs ys : List ℕ) → flatMap live (xs ++ ys) ≡ flatMap live xs ++ flatMap live ys
 unfolding flatMap

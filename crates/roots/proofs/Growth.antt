@@ -27,15 +27,6 @@ keep-le true false x l r h e = absurd (no-false (h refl))
 keep-le false true x l r h e = omega arith
 keep-le false false x l r h e = e
 
-pub passing-le : (p : ℕ → Bool) (b n : ℕ) → length (passing p b n) ≤ n
-unfolding passing
-passing-le p b zero = omega arith
-passing-le p b (suc n) = go (p b) (passing-le p (suc b) n)
-  where
-    go : (t : Bool) → length (passing p (suc b) n) ≤ n → length (keep t b (passing p (suc b) n)) ≤ suc n
-    go true h = omega arith
-    go false h = omega arith
-
 -- where every number that passes p passes q, as many pass q
 pub passing-grows : (p q : ℕ → Bool) (b n : ℕ) → ((k : ℕ) → p k ≡ true → q k ≡ true) → length (passing p b n) ≤ length (passing q b n)
 unfolding passing
@@ -105,8 +96,3 @@ module _ (s s′ : List ℕ) (a e : ℕ) (made out kill : List ℕ) (low : a ≤
       passing-more (bitIn 64 s) (bitIn 64 s′) 0 (length s * 64) stepped-keeps j (omega arith)
       (ap (bitIn 64 s) (zero-add j) ∙ both .1 ∙ t .1) (ap (bitIn 64 s′) (zero-add j) ∙ both .0 ∙ t .2) in
       subst (λ (m : ℕ). length (passing (bitIn 64 s) 0 (length s * 64)) < length (passing (bitIn 64 s′) 0 (m * 64))) (sym n) more
-
--- a row has no more set bits than bits
-pub listed-le : (s : List ℕ) → length (listed 64 s) ≤ length s * 64
-unfolding listed
-listed-le s = passing-le (bitIn 64 s) 0 (length s * 64)

@@ -1,30 +1,101 @@
--- The loop that lists the set bits of a row, position by position: those below i are listed. Assumes nothing.
+-- Going through a row word by word: what is left of it at word i when `rest` of that word was not taken yet. A turn passes a word that has nothing left, or takes the
+-- lowest set bit of one. For any word width W. Assumes nothing.
 use mathlib.Core.Path.{_≡_, refl, sym, ap, ap₂, _∙_}
 use mathlib.Core.Bool.{Bool, true, false}
-use mathlib.Core.List.{List, [], _∷_, _++_}
-use Prim.Native.Nat.{ℕ, suc, _+_, _*_, _≤_, _<_}
-use native.Mathlib.Nat.{zero-add}
+use mathlib.Core.List.{List, [], _∷_, _++_, append-assoc, append-nil}
+use Prim.Native.Nat.{ℕ, zero, suc, _+_, _-_, _*_, _^_, _≤_, _<_}
+use native.Mathlib.Nat.{zero-add, add-mul, one-mul, zero-mul}
+use native.Mathlib.Decide.{decLt}
 use native.Mathlib.Omega.{arith}
-use lib.ListN.{length, set, length-append}
-use Rattle.word.specs.Ones.{keep, passing}
+use lib.Bits.{bitAnd}
+use lib.Count.{trailingZeros}
+use lib.ListN.{length, getD, set, length-append, length-set, List·getD-eq-default}
+use Rattle.word.specs.Ones.{keep, passing, onesFrom}
 use Rattle.word.specs.Put.{put}
-use Rattle.word.proofs.OnesLaws.{passing-append, passing-fewer}
+use Rattle.word.proofs.OnesLaws.{passing-append, passing-ones, ones-none, ones-next, less-one-digit}
 use Rattle.word.proofs.PutLaws.{put-none, put-put, copy-turn}
 use Rattle.rows.specs.Row.{bitIn, listed}
+use Rattle.rows.proofs.RowLaws.{bitIn-word}
 
--- one position
-module _ (p : ℕ → Bool) (i : ℕ) where
-  pub passing-one : p i ≡ true → passing p i 1 ≡ i ∷ []
-  unfolding passing
-  passing-one e = ap (λ (b : Bool). keep b i []) e
+-- the set bits of the words from i on
+unfoldable pub after : (W : ℕ) (row : List ℕ) (i : ℕ) → List ℕ
+after W row i = passing (bitIn W row) (i * W) ((length row - i) * W)
 
-  pub passing-not : p i ≡ false → passing p i 1 ≡ []
-  unfolding passing
-  passing-not e = ap (λ (b : Bool). keep b i []) e
+-- those of `rest` in word i, then those of the words after it
+unfoldable pub leftover : (W : ℕ) (row : List ℕ) (i rest : ℕ) → List ℕ
+leftover W row i rest = onesFrom W rest (i * W) ++ after W row (i + 1)
 
--- one more position
-pub passing-snoc : (p : ℕ → Bool) (i : ℕ) → passing p 0 (i + 1) ≡ passing p 0 i ++ passing p i 1
-passing-snoc p i = passing-append p 0 i 1 ∙ ap (λ (b : ℕ). passing p 0 i ++ passing p b 1) (zero-add i)
+pub positive : (n : ℕ) → (n ≡ 0 → ⊥) → 0 < n
+positive n h = elim (decLt 0 n) [
+  | yes y ↦ y
+  | no y ↦ absurd (h (omega arith))
+]
+
+-- a word without its lowest set bit is a word
+pub less-word : (W x : ℕ) → 0 < x → x < 2 ^ W → bitAnd x (x - 1) < 2 ^ W
+less-word W x p h = let l = less-one-digit x p in omega arith
+
+-- at most as many numbers pass a test as there are
+pub passing-most : (p : ℕ → Bool) (b n : ℕ) → length (passing p b n) ≤ n
+unfolding passing
+passing-most p b zero = omega arith
+passing-most p b (suc n) = go (p b) (passing-most p (suc b) n)
+  where
+    go : (t : Bool) → length (passing p (suc b) n) ≤ n → length (keep t b (passing p (suc b) n)) ≤ suc n
+    go true h = omega arith
+    go false h = omega arith
+
+module _ (W : ℕ) (row : List ℕ) where
+  pub listed-le : length (listed W row) ≤ length row * W
+  unfolding listed
+  listed-le = passing-most (bitIn W row) 0 (length row * W)
+
+  -- past the last word nothing is left
+  after-end : (i : ℕ) → length row ≤ i → after W row i ≡ []
+  unfolding after passing
+  after-end i h = let e : length row - i ≡ 0 = omega arith in ap (λ (n : ℕ). passing (bitIn W row) (i * W) n) (ap (λ (n : ℕ). n * W) e ∙ zero-mul W)
+
+  -- the words from i on: those of word i, then those after it
+  after-word : (i : ℕ) → i < length row → after W row i ≡ leftover W row i (getD row i 0)
+  unfolding after leftover
+  after-word i h =
+      let n : length row - i ≡ 1 + (length row - (i + 1)) = omega arith in
+      ap (λ (k : ℕ). passing (bitIn W row) (i * W) (k * W)) n
+      ∙ ap (passing (bitIn W row) (i * W)) (add-mul 1 (length row - (i + 1)) W ∙ ap (λ (k : ℕ). k + (length row - (i + 1)) * W) (one-mul W))
+      ∙ passing-append (bitIn W row) (i * W) W ((length row - (i + 1)) * W)
+      ∙ ap₂ _++_ (passing-ones W (getD row i 0) (i * W) (bitIn W row) (λ k l. bitIn-word W row i k l))
+      (ap (λ (b : ℕ). passing (bitIn W row) b ((length row - (i + 1)) * W)) (sym (add-mul i 1 W ∙ ap (λ (k : ℕ). i * W + k) (one-mul W))))
+
+  whole : (k next : ℕ) → next ≡ getD row k 0 → after W row k ≡ leftover W row k next
+  unfolding leftover
+  whole k next e = elim (decLt k (length row)) [
+    | yes y ↦ after-word k y ∙ ap (λ (x : ℕ). onesFrom W x (k * W) ++ after W row (k + 1)) (sym e)
+    | no y ↦ after-end k (omega arith) ∙ sym (ap₂ _++_ (ap (λ (x : ℕ). onesFrom W x (k * W)) (e ∙ List·getD-eq-default row 0 (omega arith)) ∙ ones-none W (k * W)) (after-end (k + 1) (omega arith)))
+  ]
+
+  -- where nothing is left of word i, the next word is whole
+  pub pass-word : (i rest next : ℕ) → rest ≡ 0 → next ≡ getD row (i + 1) 0 → leftover W row i rest ≡ leftover W row (i + 1) next
+  unfolding leftover
+  pass-word i rest next z e =
+      ap (λ (x : ℕ). onesFrom W x (i * W) ++ after W row (i + 1)) z ∙ ap (λ (l : List ℕ). l ++ after W row (i + 1)) (ones-none W (i * W)) ∙ whole (i + 1) next e
+
+  -- the lowest set bit of what is left of word i is taken
+  pub take-bit : (i rest : ℕ) → 0 < rest → rest < 2 ^ W → leftover W row i rest ≡ (i * W + trailingZeros W rest) ∷ leftover W row i (bitAnd rest (rest - 1))
+  unfolding leftover
+  take-bit i rest p h = ap (λ (l : List ℕ). l ++ after W row (i + 1)) (ones-next W rest (i * W) p h)
+
+  -- at the start all is left, at the end nothing
+  start : after W row 0 ≡ passing (bitIn W row) 0 (length row * W)
+  unfolding after
+  start = let e : length row - 0 ≡ length row = omega arith in ap₂ (λ (b n : ℕ). passing (bitIn W row) b (n * W)) (zero-mul W) e
+
+  pub all-left : (rest : ℕ) → rest ≡ getD row 0 0 → leftover W row 0 rest ≡ listed W row
+  unfolding listed
+  all-left rest e = sym (whole 0 rest e) ∙ start
+
+  pub none-left : (i rest : ℕ) → length row ≤ i → rest ≡ 0 → leftover W row i rest ≡ []
+  unfolding leftover
+  none-left i rest h z = ap₂ _++_ (ap (λ (x : ℕ). onesFrom W x (i * W)) z ∙ ones-none W (i * W)) (after-end (i + 1) (omega arith))
 
 -- a list of one element
 pub put-one : (d : List ℕ) (n v : ℕ) → n < length d → set d n v ≡ put d n (v ∷ []) 1
@@ -33,42 +104,77 @@ put-one d n v h = ap (λ (k : ℕ). set d k v) (sym (at-zero n)) ∙ copy-turn d
     at-zero : (n : ℕ) → n + 0 ≡ n
     at-zero n = omega arith
 
--- for any word width W
-module _ (W : ℕ) where
-  pub record Inv (row out₀ out : List ℕ) (n i : ℕ) : Type 0 where
-    pub count : n ≡ length (passing (bitIn W row) 0 i)
-    pub wrote : out ≡ put out₀ 0 (passing (bitIn W row) 0 i) (length (passing (bitIn W row) 0 i))
-    pub same : length out ≡ length out₀
+-- the row listed so far: n bits in so many turns, at word i with `rest` of it not taken yet
+pub record Going (W : ℕ) (row out₀ out : List ℕ) (n turns i rest : ℕ) : Type 0 where
+  pub found : List ℕ
+  pub all : found ++ leftover W row i rest ≡ listed W row
+  pub count : n ≡ length found
+  pub wrote : out ≡ put out₀ 0 found (length found)
+  pub same : length out ≡ length out₀
+  pub turned : turns ≡ i + n
+  pub inside : i ≤ length row
+  pub past : length row ≤ i → rest ≡ 0
 
-  pub begin : (row out : List ℕ) → Inv row out out 0 0
-  unfolding passing
-  begin row out = record { count = refl; wrote = put-none out 0 []; same = refl }
+module _ (W : ℕ) (row : List ℕ) where
+  pub begin : (out : List ℕ) (rest : ℕ) → rest ≡ getD row 0 0 → Going W row out out 0 0 0 rest
+  begin out rest e = record {
+    found = [];
+    all = all-left W row rest e;
+    count = refl;
+    wrote = put-none out 0 [];
+    same = refl;
+    turned = refl;
+    inside = omega arith;
+    past = λ h. e ∙ List·getD-eq-default row 0 h;
+  }
 
-  -- the next position has room
-  pub has-room : (row out₀ out : List ℕ) (n i : ℕ) → Inv row out₀ out n i → i < length row * W → length (listed W row) ≤ length out₀
-      → n + length (passing (bitIn W row) i 1) ≤ length out
-  unfolding listed
-  has-room row out₀ out n i inv h room =
-      let p : ℕ → Bool = bitIn W row in
-      let most : length (passing p 0 (i + 1)) ≤ length (passing p 0 (length row * W)) = passing-fewer p 0 (i + 1) (length row * W) (omega arith) in
-      let e : length (passing p 0 (i + 1)) ≡ length (passing p 0 i) + length (passing p i 1) = ap length (passing-snoc p i) ∙ length-append (passing p 0 i) (passing p i 1) in
-      let k = inv .count in
-      let s = inv .same in
-      omega arith
+  module _ (out₀ out : List ℕ) (n turns i rest : ℕ) (g : Going W row out₀ out n turns i rest) where
+    -- how much is left of the list
+    pub to-go : n + length (leftover W row i rest) ≡ length (listed W row)
+    to-go = ap (λ (k : ℕ). k + length (leftover W row i rest)) (g .count) ∙ sym (length-append (g .found) (leftover W row i rest)) ∙ ap length (g .all)
 
-  pub next : (row out₀ out : List ℕ) (n i : ℕ) → Inv row out₀ out n i → (out′ : List ℕ) (n′ : ℕ)
-      → n′ ≡ n + length (passing (bitIn W row) i 1) → out′ ≡ put out n (passing (bitIn W row) i 1) (length (passing (bitIn W row) i 1)) → length out′ ≡ length out
-      → Inv row out₀ out′ n′ (i + 1)
-  next row out₀ out n i inv out′ n′ e w s =
-      let p : ℕ → Bool = bitIn W row in
-      let done : List ℕ = passing p 0 i in
-      let found : List ℕ = passing p i 1 in
-      record {
-        count = e ∙ ap (λ (m : ℕ). m + length found) (inv .count) ∙ sym (length-append done found) ∙ ap length (sym (passing-snoc p i));
-        wrote =
-            w
-            ∙ ap₂ (λ (l : List ℕ) (m : ℕ). put l m found (length found)) (inv .wrote) (inv .count ∙ sym (zero-add (length done)))
-            ∙ put-put out₀ 0 done found (omega arith)
-            ∙ ap (λ (l : List ℕ). put out₀ 0 l (length l)) (sym (passing-snoc p i));
-        same = s ∙ inv .same;
-      }
+    pub passed : (next : ℕ) → i < length row → rest ≡ 0 → next ≡ getD row (i + 1) 0 → Going W row out₀ out n (turns + 1) (i + 1) next
+    passed next h z e = record {
+      found = g .found;
+      all = ap (λ (l : List ℕ). g .found ++ l) (sym (pass-word W row i rest next z e)) ∙ g .all;
+      count = g .count;
+      wrote = g .wrote;
+      same = g .same;
+      turned = omega (arith, g .turned);
+      inside = omega arith;
+      past = λ k. e ∙ List·getD-eq-default row 0 k;
+    }
+
+    module _ (p : 0 < rest) (small : rest < 2 ^ W) where
+      lowest : leftover W row i rest ≡ (i * W + trailingZeros W rest) ∷ leftover W row i (bitAnd rest (rest - 1))
+      lowest = take-bit W row i rest p small
+
+      pub room : length (listed W row) ≤ length out₀ → n < length out
+      room h = omega (arith, to-go, ap length lowest, g .same)
+
+      pub took : (v : ℕ) → i < length row → length (listed W row) ≤ length out₀ → v ≡ i * W + trailingZeros W rest
+          → Going W row out₀ (set out n v) (n + 1) (turns + 1) i (bitAnd rest (rest - 1))
+      took v h enough e =
+          let found : List ℕ = g .found in
+          let one : List ℕ = v ∷ [] in record {
+            found = found ++ one;
+            all = append-assoc found one (leftover W row i (bitAnd rest (rest - 1))) ∙ ap (λ (x : ℕ). found ++ x ∷ leftover W row i (bitAnd rest (rest - 1))) e
+                ∙ ap (λ (l : List ℕ). found ++ l) (sym lowest) ∙ g .all;
+            count = omega (arith, g .count, length-append found one);
+            wrote = put-one out n v (room enough) ∙ ap₂ (λ (l : List ℕ) (m : ℕ). put l m one 1) (g .wrote) (g .count ∙ sym (zero-add (length found))) ∙ put-put out₀ 0 found one (omega (arith, room enough, g .count, g .same));
+            same = length-set out n v ∙ g .same;
+            turned = omega (arith, g .turned);
+            inside = g .inside;
+            past = λ k. absurd (omega arith);
+          }
+
+    -- at the end all is listed
+    pub finished : length row ≤ i → (n ≡ length (listed W row)) × (turns ≡ length row + length (listed W row)) × (out ≡ put out₀ 0 (listed W row) (length (listed W row)))
+    finished h =
+        let none : leftover W row i rest ≡ [] = none-left W row i rest h (g .past h) in
+        let whole : g .found ≡ listed W row = sym (append-nil (g .found)) ∙ ap (λ (l : List ℕ). g .found ++ l) (sym none) ∙ g .all in
+        let k : n ≡ length (listed W row) = g .count ∙ ap length whole in (
+          k,
+          omega (arith, g .turned, g .inside),
+          g .wrote ∙ ap (λ (l : List ℕ). put out₀ 0 l (length l)) whole,
+        )

@@ -1,6 +1,6 @@
 -- `root_map::count_at` meets its contract. Assumes nothing.
 use native.Mathlib.Omega.{arith}
-use Rattle.roots.proofs.Growth.{listed-le}
+use Rattle.rows.proofs.Listing.{listed-le}
 use Rattle.roots.proofs.Scratch.{mid-length}
 use Rattle.root_map.specs.Columns.{rowAt}
 use Rattle.root_map.proofs.count_at.Statement.{statement}
@@ -28,7 +28,7 @@ returns : tie.Need-returns
 returns c =
     let o = c .before .before .before in
     let n = c .count .ensures in
-    (n, omega (arith, n, listed-le (rowAt (o .args .s .now) (o .args .at) (o .args .words)), mid-length (o .args .at) (o .args .words) (o .args .s .now) (o .pre .0), o .pre .1))
+    (n, omega (arith, n, listed-le 64 (rowAt (o .args .s .now) (o .args .at) (o .args .words)), mid-length (o .args .at) (o .args .words) (o .args .s .now) (o .pre .0), o .pre .1))
 
 pub count-at-spec : {M : Type 1} → statement M
 count-at-spec =

@@ -74,7 +74,7 @@ returns : tie.Need-returns
 returns c =
     let n = c .before .before .before .before .before .count-at in
     let s : n .result ≤ c .before .before .before .before .before .before .before .before .before .before .args .to = omega (arith, n .ensures .0, c .before .before .before .before .before .before .before .before .before .before .pre .1 .0) in
-    (omega (arith, n .ensures .0, s), refl, refl, put-part (c .before .before .before .before .before .before .before .before .before .before .args .to - n .result) (c .before .before .before .before .before .before .before .before .before .before .args .to) (c .before .before .before .before .before .before .before .before .before .before .args .regs .now) (c .before .before .list-row .last .1 .0) _ (omega (arith, n .ensures .0, s)) (c .before .before .before .before .before .before .before .before .before .before .pre .1 .1) (c .before .before .list-row .ensures .1))
+    (omega (arith, n .ensures .0, s), refl, refl, put-part (c .before .before .before .before .before .before .before .before .before .before .args .to - n .result) (c .before .before .before .before .before .before .before .before .before .before .args .to) (c .before .before .before .before .before .before .before .before .before .before .args .regs .now) (c .before .before .list-row .last .1 .0) _ (omega (arith, n .ensures .0, s)) (c .before .before .before .before .before .before .before .before .before .before .pre .1 .1) (c .before .before .list-row .ensures .1 .1))
 
 pub write-point-spec : {M : Type 1} → statement M
 write-point-spec =

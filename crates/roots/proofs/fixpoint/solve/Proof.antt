@@ -4,7 +4,7 @@ use borrow.Author.Tests.{not-true, not-false}
 use mathlib.Core.Path.{refl, _∙_}
 use Prim.Native.Nat.{_-_, _*_}
 use lib.ListN.{take, length-take}
-use Rattle.roots.proofs.Growth.{listed-le}
+use Rattle.rows.proofs.Listing.{listed-le}
 use Rattle.roots.specs.Columns.{setBits}
 use Rattle.roots.proofs.Passes.{Solving, solving-on, solving-end}
 use Rattle.roots.proofs.fixpoint.solve.Statement.{statement}
@@ -29,7 +29,7 @@ returns : tie.Need-returns Inv-loop μ-loop
 returns c = solving-end (c .before .before .before .before .before .loop .inv) (c .before .before .before .pass .ensures) (not-true _ (c .if1 .taken))
 
 loop-less : tie.Need-loop-less Inv-loop μ-loop
-loop-less c = omega (arith, c .before .before .before .pass .ensures .more (not-false _ (c .if1 .left)), listed-le (take (c .before .before .before .before .before .before .before .before .before .before .before .args .nb * (3 * c .before .before .before .before .before .before .before .before .before .before .before .args .words)) (c .before .before .before .pass .last .0)), length-take (c .before .before .before .before .before .before .before .before .before .before .before .args .nb * (3 * c .before .before .before .before .before .before .before .before .before .before .before .args .words)) (c .before .before .before .pass .last .0))
+loop-less c = omega (arith, c .before .before .before .pass .ensures .more (not-false _ (c .if1 .left)), listed-le 64 (take (c .before .before .before .before .before .before .before .before .before .before .before .args .nb * (3 * c .before .before .before .before .before .before .before .before .before .before .before .args .words)) (c .before .before .before .pass .last .0)), length-take (c .before .before .before .before .before .before .before .before .before .before .before .args .nb * (3 * c .before .before .before .before .before .before .before .before .before .before .before .args .words)) (c .before .before .before .pass .last .0))
 
 loop-again : tie.Need-loop-again Inv-loop μ-loop
 loop-again c = solving-on (c .before .before .before .before .before .loop .inv) (c .before .before .before .pass .ensures)
