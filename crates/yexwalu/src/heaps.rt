@@ -1,6 +1,6 @@
 // Every call on a heap. Scratch (18) and the heap (1) are tested first, each time; the header goes in by value and comes back in `Done`.
-pub use collect_door::yexwalu_collect as collect;
 pub use collect_door::joined::yexwalu_collect_joined as collect_joined;
+pub use collect_door::yexwalu_collect as collect;
 pub use heap_door::yexwalu_data as data;
 pub use heap_door::yexwalu_edit as edit;
 pub use heap_door::yexwalu_gc_due as gc_due;
