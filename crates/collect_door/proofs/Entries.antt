@@ -1,6 +1,6 @@
 -- What the tests of the public collections find, and what follows for the calls. Assumes nothing.
 use mathlib.Core.Path.{_≡_, refl, sym, ap, _∙_, subst}
-use mathlib.Core.Bool.{Bool, true, false, not, _&&_}
+use mathlib.Core.Bool.{Bool, true, false, not}
 use mathlib.Core.List.{List, [], _∷_, _++_}
 use mathlib.Core.Logic.{_↔_}
 use Prim.Native.Nat.{ℕ, _≤_, _<_}
@@ -27,11 +27,11 @@ use Rattle.flow.specs.Function.{safepoint}
 use Rattle.roots.specs.Calls.{Lent as Code, function, right, need}
 use Rattle.collect.specs.Collect.{collecting, CanCollect}
 use Rattle.collect.specs.Safepoint.{atSafepoint, CanLook}
-use Rattle.door.specs.HeapCalls.{Test, test, admitted, enough, heapTests, zeros, Entered, outcome, outcomeOf}
+use Rattle.door.specs.HeapCalls.{test, admitted, enough, heapTests, zeros, Entered, outcome, outcomeOf}
 use Rattle.door.specs.declared.Entry.{Entry}
 use Rattle.door.specs.declared.Entry.the-variants.{Ready, Not}
 use Rattle.door.proofs.Entering.{fails, passes, few-marks, few-words, is-enough, and-holds, and-fails, and-more, cleared-in, holding, call-refused, call-cleared, marks-zero, work-zero, rows-zero}
-use Rattle.collect_door.specs.Calls.{Given, tableIn, collectTests, tests, collectCall, Asked, table, frame, coded, roomy, rowTests, inputTests, joinedTests, joining, joinedCall}
+use Rattle.collect_door.specs.Calls.{Given, tableIn, collectTests, tests, collectCall, Asked, table, frame, coded, roomy, rowTests, inputTests, joining, joinedCall}
 use Rattle.collect_door.specs.Demand.{RightlyCollected, Demand}
 use Rattle.collect_door.proofs.Theorem.{collect-rightly, demand}
 

@@ -5,10 +5,9 @@ use mathlib.Core.List.{List, map}
 use mathlib.Core.Logic.{_⊎_, inl, inr, ⊎-elim, _↔_}
 use Prim.Native.Nat.{ℕ}
 use native.Mathlib.Omega.{arith}
-use lib.Dec.{eqb}
 use borrow.Author.Tests.{ne-eqb}
 use Rattle.word.specs.Result.{ok, refused}
-use Rattle.refusal.specs.Told.{numberOf, told, answered, nothing}
+use Rattle.refusal.specs.Told.{numberOf, answered, nothing}
 use Rattle.refusal.specs.declared.Refusal.{Refusal}
 use Rattle.refusal.specs.declared.Refusal.the-variants.{Untraceable, Scratch}
 use Rattle.refusal.specs.declared.Reply.{Reply}

@@ -3,12 +3,11 @@
 use mathlib.Core.Path.{_≡_, refl, sym, ap, _∙_, subst}
 use mathlib.Core.Bool.{true}
 use mathlib.Core.List.{List, [], _∷_}
-use mathlib.Core.Logic.{inl, inr}
+use mathlib.Core.Logic.{inl}
 use mathlib.Core.Option.{Option, none, some}
 use Prim.Native.Nat.{ℕ}
 use Rattle.word.specs.Result.{ok}
 use Rattle.word.proofs.Bools.{and-both}
-use Rattle.heap.specs.State.{State}
 use Rattle.heap.specs.Lent.{Lent, stored, view, slotCount, poolSize}
 use Rattle.heap.specs.WellFormed.{wellFormed}
 use Rattle.heap.specs.Calls.{Changed, done as finished}

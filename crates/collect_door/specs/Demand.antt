@@ -7,7 +7,7 @@ use mathlib.Core.Logic.{_⊎_, _↔_}
 use mathlib.Core.Option.{some}
 use Prim.Native.Nat.{ℕ, _<_}
 use lib.ListN.{length, getD}
-use Rattle.refusal.specs.Told.{numberOf, refusedBy, told}
+use Rattle.refusal.specs.Told.{told}
 use Rattle.refusal.specs.declared.Refusal.{Refusal}
 use Rattle.refusal.specs.declared.Refusal.the-variants.{Untraceable, Scratch}
 use Rattle.refusal.specs.declared.Reply.the-variants.{Is, Not as Refused}

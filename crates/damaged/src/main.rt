@@ -1,50 +1,11 @@
 // Pages that were damaged, each read into lent memory of 8 slots and 8 pool bytes: a line says what was done, the number that the host is told, and
-// whether lent memory is still the same. It held 7 first in each column, then zeros, and 7 in the header.
+// whether lent memory is still the same. It held 7 first in each run, then zeros, and 7 in the header.
 use heap::Heap;
 use libc::STDOUT_FILENO;
 use text::Literal;
-use yexwalu::page::Read;
+ghost use mathlib.Core.Path.{_≡_};
 ghost use Prim.Native.Nat.{_≤_};
 ghost use lib.ListN.{length};
-
-fn number_of(r: Read) -> u64 {
-    match r {
-        Read::Done => 0,
-        Read::Scratch => 18,
-        Read::NotPage => 17,
-        Read::Broken => 1,
-        Read::NoRoom => 6,
-        Read::Full => 5,
-    }
-}
-
-fn same_u8(a: &[u8; 8]) -> bool {
-    if a[0] != 7 {
-        return false;
-    }
-    memory::zeros_u8(a, 1)
-}
-
-fn same_u32(a: &[u32; 8]) -> bool {
-    if a[0] != 7 {
-        return false;
-    }
-    memory::zeros_u32(a, 1)
-}
-
-fn same_usize(a: &[usize; 8]) -> bool {
-    if a[0] != 7 {
-        return false;
-    }
-    memory::zeros_usize(a, 1)
-}
-
-fn same_u64(a: &[u64; 8]) -> bool {
-    if a[0] != 7 {
-        return false;
-    }
-    memory::zeros_u64(a, 1)
-}
 
 fn same_header(h: Heap) -> bool {
     if h.tag != 7 {
@@ -71,6 +32,9 @@ fn same_header(h: Heap) -> bool {
     if h.quarantine != 7 {
         return false;
     }
+    if h.retired != 7 {
+        return false;
+    }
     if h.sealed != 7 {
         return false;
     }
@@ -78,49 +42,69 @@ fn same_header(h: Heap) -> bool {
     log[0] == 7
 }
 
-fn same_columns(
-    generation: &[u32; 8],
-    kind: &[u8; 8],
-    ty: &[u32; 8],
-    start: &[usize; 8],
-    end: &[usize; 8],
-    writes: &[u32; 8],
-    pool: &[u8; 8],
-    free: &[u32; 8],
-    quarantine: &[u32; 8],
-    sealed: &[u64; 8],
-) -> bool {
-    if same_u32(generation) {} else {
-        return false;
-    }
-    if same_u8(kind) {} else {
-        return false;
-    }
-    if same_u32(ty) {} else {
-        return false;
-    }
-    if same_usize(start) {} else {
-        return false;
-    }
-    if same_usize(end) {} else {
-        return false;
-    }
-    if same_u32(writes) {} else {
-        return false;
-    }
-    if same_u8(pool) {} else {
-        return false;
-    }
-    if same_u32(free) {} else {
-        return false;
-    }
-    if same_u32(quarantine) {} else {
-        return false;
-    }
-    if same_u64(sealed) {} else {
-        return false;
+// Six runs of 8 numbers of 32 bits, 7 first in each.
+fn narrow_sevens() -> [u32; 48]
+    ensures { λ r. ⌜ 48 ≡ length r ⌝ }
+{
+    let mut narrow = [0u32; 48];
+    narrow[0] = 7;
+    narrow[8] = 7;
+    narrow[16] = 7;
+    narrow[24] = 7;
+    narrow[32] = 7;
+    narrow[40] = 7;
+    narrow
+}
+
+// Four runs of 8 numbers of 64 bits.
+fn wide_sevens() -> [u64; 32]
+    ensures { λ r. ⌜ 32 ≡ length r ⌝ }
+{
+    let mut wide = [0u64; 32];
+    wide[0] = 7;
+    wide[8] = 7;
+    wide[16] = 7;
+    wide[24] = 7;
+    wide
+}
+
+// Does each run of 8 numbers of 32 bits hold 7 first, then zeros?
+fn same_narrow(narrow: &[u32; 48]) -> bool {
+    let mut i = 0;
+    while i < 48 {
+        let want = if i % 8 == 0 { 7 } else { 0 };
+        if narrow[i] != want {
+            return false;
+        }
+        i += 1;
     }
     true
+}
+
+// The same of numbers of 64 bits.
+fn same_wide(wide: &[u64; 32]) -> bool {
+    let mut i = 0;
+    while i < 32 {
+        let want = if i % 8 == 0 { 7 } else { 0 };
+        if wide[i] != want {
+            return false;
+        }
+        i += 1;
+    }
+    true
+}
+
+fn same_memory(narrow: &[u32; 48], wide: &[u64; 32], pool: &[u8; 8]) -> bool {
+    if same_narrow(narrow) {} else {
+        return false;
+    }
+    if same_wide(wide) {} else {
+        return false;
+    }
+    if pool[0] != 7 {
+        return false;
+    }
+    memory::zeros_u8(pool, 1)
 }
 
 // What a text is answered, and whether lent memory is the same afterwards.
@@ -140,60 +124,33 @@ fn read_one(text: &[u8]) -> Seen {
         slots: 7,
         free: 7,
         quarantine: 7,
+        retired: 7,
         sealed: 7,
     };
-    let mut generation = [7u32, 0, 0, 0, 0, 0, 0, 0];
-    let mut kind = [7u8, 0, 0, 0, 0, 0, 0, 0];
-    let mut ty = [7u32, 0, 0, 0, 0, 0, 0, 0];
-    let mut start = [7usize, 0, 0, 0, 0, 0, 0, 0];
-    let mut end = [7usize, 0, 0, 0, 0, 0, 0, 0];
-    let mut writes = [7u32, 0, 0, 0, 0, 0, 0, 0];
+    let mut narrow = narrow_sevens();
+    let mut wide = wide_sevens();
     let mut pool = [7u8, 0, 0, 0, 0, 0, 0, 0];
-    let mut free = [7u32, 0, 0, 0, 0, 0, 0, 0];
-    let mut quarantine = [7u32, 0, 0, 0, 0, 0, 0, 0];
-    let mut sealed = [7u64, 0, 0, 0, 0, 0, 0, 0];
     let mut marks = [7u8; 8];
     let mut work = [7u64; 8];
     let r = yexwalu::page::read_page(
         heap,
-        text,
-        &mut generation,
-        &mut kind,
-        &mut ty,
-        &mut start,
-        &mut end,
-        &mut writes,
+        &mut narrow,
+        &mut wide,
         &mut pool,
-        &mut free,
-        &mut quarantine,
-        &mut sealed,
+        text,
         &mut marks,
         &mut work,
     );
     let h = r.heap;
     let a = r.answer;
-    let columns = same_columns(
-        &generation,
-        &kind,
-        &ty,
-        &start,
-        &end,
-        &writes,
-        &pool,
-        &free,
-        &quarantine,
-        &sealed,
-    );
-    let number = number_of(a);
-    if columns {
-        let same = same_header(h);
+    if same_memory(&narrow, &wide, &pool) {
         return Seen {
-            number: number,
-            same: same,
+            number: a.number,
+            same: same_header(h),
         };
     }
     Seen {
-        number: number,
+        number: a.number,
         same: false,
     }
 }

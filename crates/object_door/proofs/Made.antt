@@ -16,7 +16,8 @@ use Rattle.door.specs.HeapCalls.{Outcome, admitted, outcome, enough, zeros, cal
 use Rattle.door.proofs.Entering.{calling-ready, asking-ready}
 use Rattle.object_door.specs.Making.{noHeader, newTests, making, newCall}
 use Rattle.heap.specs.Sizes.{sizesFit}
-use Rattle.object_door.proofs.Making.{sizes-tested, made-formed}
+use Rattle.heap.proofs.Sizes.{sizes-tested}
+use Rattle.object_door.proofs.Making.{made-formed}
 
 module _ (m w narrow wide pool : List ℕ) (tag : ℕ) where
   abbrev made : Lent

@@ -1,47 +1,30 @@
-// Runs the calls of standard input on a heap of tag 1, 64 slots and 4,096 bytes, and prints its page; a refusal, or 17 for a bad line, is printed alone.
+// Runs the calls of standard input on a heap of tag 1, 64 slots and 4,096 bytes, and prints its page; a refusal, or 17 for a bad line, is printed alone. Input that can't be
+// read is 17 too: it is not the input's end.
 use heap::Heap;
-use heap_door::Refusal;
 use libc::STDIN_FILENO;
 use libc::STDOUT_FILENO;
-use run_door::RunAnswer;
-use run_door::RunReply;
+use refusal::Answer;
 use text::Decimal;
 use text::Literal;
-use yexwalu::page::Written;
-ghost use mathlib.Core.Path.{_≡_};
+use yexwalu::heaps;
+use yexwalu::page;
 ghost use Prim.Native.Nat.{_+_, _≤_};
 ghost use lib.ListN.{length};
-ghost use Rattle.word.specs.Result.{number};
-ghost use Rattle.run_door.specs.Steps.{toldReply};
 
-// The number of a refusal, or 0.
-fn number_of(r: RunReply) -> u64
-    ensures { λ n. ⌜ n ≡ number (toldReply r) ⌝ }
-{
-    match r {
-        RunReply::Told(a) => match a {
-            RunAnswer::Done => 0,
-            RunAnswer::NotCall => 17,
-            RunAnswer::Kind => 8,
-            RunAnswer::NoRoom => 6,
-            RunAnswer::Full => 5,
-            RunAnswer::Null => 2,
-            RunAnswer::WrongHeap => 3,
-            RunAnswer::Stale => 4,
-        },
-        RunReply::Refused(why) => match why {
-            Refusal::Scratch => 18,
-            Refusal::Broken => 1,
-        },
-    }
+// What the next bytes of the input put at the start of `buf`: how many, 0 at its end; and whether they could not be read.
+struct Got {
+    n: usize,
+    failed: bool,
 }
 
-// What the next bytes of the input put at the start of `buf`: how many, 0 at its end.
-fn read_some(buf: &mut [u8]) -> usize
-    ensures { λ r. ⌜ r ≤ length (now (buf .entry)) ⌝ }
+fn read_some(buf: &mut [u8]) -> Got
+    ensures { λ r. ⌜ r .n ≤ length (now (buf .entry)) ⌝ }
 {
     let got = libc::read(STDIN_FILENO, buf);
-    io::count(got, buf)
+    Got {
+        n: io::count(got, buf),
+        failed: got < 0,
+    }
 }
 
 // Where the last whole line of the first `n` bytes ends.
@@ -123,11 +106,24 @@ fn shorten(buf: &[u8], n: usize) -> usize
     from + 8194 + digits % 2
 }
 
-// The first `n` bytes of the buffer are there, of which the first `ready` can be run; does more input follow?
+// The first `n` bytes of the buffer are there, of which the first `ready` can be run; does more input follow, or could it not be read?
 struct Pending {
     ready: usize,
     n: usize,
     more: bool,
+    failed: bool,
+}
+
+fn waiting(ready: usize, n: usize) -> Pending
+    requires { ⌜ ready ≤ n ⌝ }
+    ensures { λ r. ⌜ (r .ready ≤ r .n) × (r .n ≤ n) ⌝ }
+{
+    Pending {
+        ready: ready,
+        n: n,
+        more: true,
+        failed: false,
+    }
 }
 
 // Of the first `n` bytes the first `ready` are whole lines. A line longer than the buffer is shortened; one that is no call's is run as it is, and refused.
@@ -136,32 +132,16 @@ fn parted(buf: &[u8], ready: usize, n: usize) -> Pending
     ensures { λ r. ⌜ (r .ready ≤ r .n) × (r .n ≤ length (now (buf .entry))) ⌝ }
 {
     if ready != 0 {
-        return Pending {
-            ready: ready,
-            n: n,
-            more: true,
-        };
+        return waiting(ready, n);
     }
     if n < buf.len() {
-        return Pending {
-            ready: 0,
-            n: n,
-            more: true,
-        };
+        return waiting(0, n);
     }
     let kept = shorten(buf, n);
     if kept == 0 {
-        return Pending {
-            ready: n,
-            n: n,
-            more: true,
-        };
+        return waiting(n, n);
     }
-    Pending {
-        ready: 0,
-        n: kept,
-        more: true,
-    }
+    waiting(0, kept)
 }
 
 // Reads on after the first `n` bytes.
@@ -170,14 +150,15 @@ fn refill(buf: &mut [u8], n: usize) -> Pending
     ensures { λ r. ⌜ (r .ready ≤ r .n) × (r .n ≤ length (now (buf .entry))) ⌝ }
 {
     let got = read_some(&mut buf[n..]);
-    if got == 0 {
+    if got.n == 0 {
         return Pending {
             ready: n,
             n: n,
             more: false,
+            failed: got.failed,
         };
     }
-    let m = n + got;
+    let m = n + got.n;
     let ready = whole(buf, m);
     parted(buf, ready, m)
 }
@@ -200,22 +181,20 @@ struct Fed {
     number: u64,
 }
 
+// The number of an answer, unless the input could not be read.
+fn number_of(answer: Answer, failed: bool) -> u64 {
+    if failed { 17 } else { answer.number }
+}
+
 // Runs the lines of the input as they come.
 fn feed(
     heap: Heap,
-    generation: &mut [u32],
-    kind: &mut [u8],
-    ty: &mut [u32],
-    start: &mut [usize],
-    end: &mut [usize],
-    writes: &mut [u32],
-    pool: &mut [u8],
-    free: &mut [u32],
-    quarantine: &mut [u32],
-    sealed: &mut [u64],
-    marks: &mut [u8],
-    work: &mut [u64],
-    room: &mut [u8],
+    narrow: &mut [u32; 384],
+    wide: &mut [u64; 256],
+    pool: &mut [u8; 4096],
+    room: &mut [u8; 4096],
+    marks: &mut [u8; 64],
+    work: &mut [u64; 64],
     buf: &mut [u8],
 ) -> Fed {
     let mut h = heap;
@@ -225,26 +204,10 @@ fn feed(
     while 0 < turns {
         let p = refill(buf, n);
         let ready = p.ready;
-        let done = yexwalu::heaps::run(
-            h,
-            generation,
-            kind,
-            ty,
-            start,
-            end,
-            writes,
-            pool,
-            free,
-            quarantine,
-            sealed,
-            marks,
-            work,
-            room,
-            &buf[..ready],
-        );
+        let done = heaps::run(h, narrow, wide, pool, &buf[..ready], room, marks, work);
         h = done.heap;
         let answer = done.answer;
-        number = number_of(answer);
+        number = number_of(answer, p.failed);
         let m = p.n;
         memory::move_u8(buf, ready, 0, m - ready);
         n = m - ready;
@@ -253,15 +216,6 @@ fn feed(
     Fed {
         heap: h,
         number: number,
-    }
-}
-
-fn page_size(w: Written) -> usize {
-    match w {
-        Written::Page(n) => n,
-        Written::Scratch => 0,
-        Written::Broken => 0,
-        Written::Short => 0,
     }
 }
 
@@ -280,73 +234,21 @@ fn show(number: u64, page: &[u8], n: usize) {
 
 // A new heap in lent memory, the calls of the input, and its page.
 fn serve(
-    generation: &mut [u32],
-    kind: &mut [u8],
-    ty: &mut [u32],
-    start: &mut [usize],
-    end: &mut [usize],
-    writes: &mut [u32],
-    pool: &mut [u8],
-    free: &mut [u32],
-    quarantine: &mut [u32],
-    sealed: &mut [u64],
-    marks: &mut [u8],
-    work: &mut [u64],
-    room: &mut [u8],
-    buf: &mut [u8],
-    page: &mut [u8],
+    narrow: &mut [u32; 384],
+    wide: &mut [u64; 256],
+    pool: &mut [u8; 4096],
+    room: &mut [u8; 4096],
+    marks: &mut [u8; 64],
+    work: &mut [u64; 64],
+    buf: &mut [u8; 65536],
+    text: &mut [u8; 14592],
 ) {
-    let made = yexwalu::heaps::new(
-        1,
-        generation,
-        kind,
-        ty,
-        start,
-        end,
-        writes,
-        pool,
-        free,
-        quarantine,
-        sealed,
-        marks,
-        work,
-    );
-    let start_heap = made.heap;
-    let fed = feed(
-        start_heap,
-        generation,
-        kind,
-        ty,
-        start,
-        end,
-        writes,
-        pool,
-        free,
-        quarantine,
-        sealed,
-        marks,
-        work,
-        room,
-        buf,
-    );
+    let made = heaps::new(1, narrow, wide, pool, marks, work);
+    let start = made.heap;
+    let fed = feed(start, narrow, wide, pool, room, marks, work, buf);
     let after = fed.heap;
-    let w = yexwalu::page::write_page(
-        after,
-        generation,
-        kind,
-        ty,
-        start,
-        end,
-        writes,
-        pool,
-        free,
-        quarantine,
-        sealed,
-        page,
-        marks,
-        work,
-    );
-    show(fed.number, page, page_size(w));
+    let written = page::write_page(after, narrow, wide, pool, text, marks, work);
+    show(fed.number, text, written.first as usize);
 }
 
 // The names line comes first.
@@ -364,36 +266,22 @@ fn main() {
         show(17, b"", 0);
         return;
     }
-    let mut generation = [0u32; 64];
-    let mut kind = [0u8; 64];
-    let mut ty = [0u32; 64];
-    let mut start = [0usize; 64];
-    let mut end = [0usize; 64];
-    let mut writes = [0u32; 64];
+    let mut narrow = [0u32; 384];
+    let mut wide = [0u64; 256];
     let mut pool = [0u8; 4096];
-    let mut free = [0u32; 64];
-    let mut quarantine = [0u32; 64];
-    let mut sealed = [0u64; 64];
+    let mut room = [0u8; 4096];
     let mut marks = [0u8; 64];
     let mut work = [0u64; 64];
-    let mut room = [0u8; 4096];
     let mut buf = io::large_buffer();
-    let mut page = [0u8; 14592];
+    let mut text = [0u8; 14592];
     serve(
-        &mut generation,
-        &mut kind,
-        &mut ty,
-        &mut start,
-        &mut end,
-        &mut writes,
+        &mut narrow,
+        &mut wide,
         &mut pool,
-        &mut free,
-        &mut quarantine,
-        &mut sealed,
+        &mut room,
         &mut marks,
         &mut work,
-        &mut room,
         &mut buf,
-        &mut page,
+        &mut text,
     );
 }

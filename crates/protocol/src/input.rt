@@ -1,4 +1,6 @@
 // The lines of standard input, in a buffer. A line may have up to 262,144 bytes.
+use crate::Buffer;
+use crate::least;
 use libc::STDIN_FILENO;
 
 // What of the buffer has been read and not yet been handed out; whether the input has ended; and whether the line at `from` began in bytes that the buffer
@@ -31,17 +33,9 @@ pub fn start() -> Input {
 
 // Where the first byte 10 stands from `from` on, below `end`; otherwise `end`.
 fn line_end(buffer: &[u8], from: usize, end: usize) -> usize {
-    let mut i = from;
-    while i < end {
-        if buffer.len() <= i {
-            return end;
-        }
-        if buffer[i] == 10 {
-            return i;
-        }
-        i += 1;
-    }
-    end
+    let e = least(end, buffer.len());
+    let a = least(from, e);
+    bytes::scan::find(buffer, a, e, 10)
 }
 
 // The line from `from` up to `stop`, after which `rest` is left.
@@ -92,21 +86,11 @@ pub fn next_line(buffer: &[u8], input: Input) -> Line {
 }
 
 // Moves what lies from `from` up to `end` to the front, and answers where it ends there.
-fn move_front(buffer: &mut [u8; 262144], from: usize, end: usize) -> usize {
-    let mut i = from;
-    let mut k: usize = 0;
-    while i < end {
-        if 262144 <= i {
-            return k;
-        }
-        if 262144 <= k {
-            return k;
-        }
-        buffer[k] = buffer[i];
-        k += 1;
-        i += 1;
-    }
-    k
+fn move_front(buffer: &mut [u8], from: usize, end: usize) -> usize {
+    let e = least(end, buffer.len());
+    let a = least(from, e);
+    memory::move_u8(buffer, a, 0, e - a);
+    e - a
 }
 
 // One read into the buffer from `to` on: where what has been read ends. `to` itself means that nothing came.
@@ -120,7 +104,7 @@ fn read_to(buffer: &mut [u8], to: usize) -> usize {
 }
 
 // Reads more. A line that fills the whole buffer is dropped, and known to be too long.
-pub fn more(buffer: &mut [u8; 262144], input: Input) -> Input {
+pub fn more(buffer: &mut Buffer, input: Input) -> Input {
     let kept = move_front(buffer, input.from, input.end);
     if kept == 262144 {
         return Input {

@@ -1,4 +1,6 @@
 // A frame map as a field: what lies where in a frame's memory.
+use crate::Halves;
+use crate::least;
 use crate::read::Run;
 use crate::read::is_empty;
 use crate::read::listed;
@@ -15,20 +17,18 @@ fn entry_type(line: &[u8], at: usize) -> Decimal {
     text::get_decimal(line, from, 4294967295)
 }
 
-// A list of OFFSET:KIND or OFFSET:KIND:TYPE. A kind of 8 bits is taken as it is: the call refuses one that isn't known.
-pub fn frame_map(
-    line: &[u8],
-    at: usize,
-    offsets: &mut [u32; 4096],
-    kinds: &mut [u8; 4096],
-    tys: &mut [u32; 4096],
-) -> Run {
+// A list of OFFSET:KIND or OFFSET:KIND:TYPE, put into a lent list from `from` on and below `to`, three words an entry: the count is where they end there.
+pub fn frame_map(line: &[u8], at: usize, into: &mut Halves, from: usize, to: usize) -> Run {
     if is_empty(line, at) {
-        return listed(line, 0, past(line, at, 45));
+        return listed(line, from, past(line, at, 45));
     }
+    let top = least(to, 368640);
     let mut i = at;
-    let mut k: usize = 0;
-    while k < 4096 {
+    let mut k = from;
+    while k < top {
+        if top - k < 3 {
+            return Run::Bad;
+        }
         let Decimal::Number(x, next) = text::get_field(line, i, 4294967295, 58) else {
             return Run::Bad;
         };
@@ -38,10 +38,10 @@ pub fn frame_map(
         let Decimal::Number(z, stop) = entry_type(line, end) else {
             return Run::Bad;
         };
-        offsets[k] = low(x);
-        kinds[k] = (y % 256) as u8;
-        tys[k] = low(z);
-        k += 1;
+        into[k] = low(x);
+        into[k + 1] = low(y);
+        into[k + 2] = low(z);
+        k += 3;
         i = past(line, stop, 44);
         if i == stop {
             return listed(line, k, stop);

@@ -1,4 +1,9 @@
 // The fields of a line, one space between two of them. What stands after the last field that a command wants isn't looked at.
+use crate::Buffer;
+use crate::Data;
+use crate::Halves;
+use crate::List;
+use crate::least;
 use text::Decimal;
 
 // A number, and where the field after it begins.
@@ -117,7 +122,7 @@ fn joined(a: u8, b: u8) -> u8 {
 }
 
 // The bytes that a field spells in hexadecimal.
-pub fn hex(line: &[u8], at: usize, into: &mut [u8; 65536]) -> Run {
+pub fn hex(line: &[u8], at: usize, into: &mut Data) -> Run {
     if is_empty(line, at) {
         return listed(line, 0, past(line, at, 45));
     }
@@ -144,7 +149,7 @@ pub fn hex(line: &[u8], at: usize, into: &mut [u8; 65536]) -> Run {
 }
 
 // A list of numbers of at most `most`.
-pub fn words(line: &[u8], at: usize, most: u64, into: &mut [u64; 16384]) -> Run {
+pub fn words(line: &[u8], at: usize, most: u64, into: &mut List) -> Run {
     if is_empty(line, at) {
         return listed(line, 0, past(line, at, 45));
     }
@@ -169,14 +174,15 @@ pub fn low(x: u64) -> u32 {
     (x % 4294967296) as u32
 }
 
-// A list of numbers of 32 bits, put into a lent list from `from` on: the count is where they end there.
-pub fn halves(line: &[u8], at: usize, into: &mut [u32; 16384], from: usize) -> Run {
+// A list of numbers of 32 bits, put into a lent list from `from` on and below `to`: the count is where they end there.
+pub fn halves(line: &[u8], at: usize, into: &mut Halves, from: usize, to: usize) -> Run {
     if is_empty(line, at) {
         return listed(line, from, past(line, at, 45));
     }
+    let top = least(to, 368640);
     let mut i = at;
     let mut k = from;
-    while k < 16384 {
+    while k < top {
         let Decimal::Number(x, next) = text::get_decimal(line, i, 4294967295) else {
             return Run::Bad;
         };
@@ -191,13 +197,17 @@ pub fn halves(line: &[u8], at: usize, into: &mut [u32; 16384], from: usize) -> R
 }
 
 // As `halves`, of pairs with a colon between the two numbers.
-pub fn pairs(line: &[u8], at: usize, into: &mut [u32; 16384], from: usize) -> Run {
+pub fn pairs(line: &[u8], at: usize, into: &mut Halves, from: usize, to: usize) -> Run {
     if is_empty(line, at) {
         return listed(line, from, past(line, at, 45));
     }
+    let top = least(to, 368640);
     let mut i = at;
     let mut k = from;
-    while k < 16383 {
+    while k < top {
+        if top - k < 2 {
+            return Run::Bad;
+        }
         let Decimal::Number(x, next) = text::get_field(line, i, 4294967295, 58) else {
             return Run::Bad;
         };
@@ -216,7 +226,7 @@ pub fn pairs(line: &[u8], at: usize, into: &mut [u32; 16384], from: usize) -> Ru
 }
 
 // Copies a field, with byte 10 where it has `;`.
-pub fn page(line: &[u8], at: usize, into: &mut [u8; 262144]) -> Run {
+pub fn page(line: &[u8], at: usize, into: &mut Buffer) -> Run {
     let mut k: usize = 0;
     let mut i = at;
     while k < 262144 {

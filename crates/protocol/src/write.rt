@@ -1,5 +1,7 @@
 // Answers, put into an output buffer of which `n` bytes are in use. A full buffer is written out.
+use crate::Out;
 use libc::STDOUT_FILENO;
+use refusal::Answer;
 
 fn write_front(s: &[u8], n: usize) {
     if n <= s.len() {
@@ -8,13 +10,13 @@ fn write_front(s: &[u8], n: usize) {
 }
 
 // Writes out what the buffer holds.
-pub fn flush(out: &mut [u8; 65536], n: &mut usize) {
+pub fn flush(out: &mut Out, n: &mut usize) {
     let used = *n;
     write_front(out, used);
     *n = 0;
 }
 
-pub fn put_byte(out: &mut [u8; 65536], n: &mut usize, b: u8) {
+pub fn put_byte(out: &mut Out, n: &mut usize, b: u8) {
     let used = *n;
     if used < 65536 {
         out[used] = b;
@@ -26,7 +28,7 @@ pub fn put_byte(out: &mut [u8; 65536], n: &mut usize, b: u8) {
     }
 }
 
-pub fn put_bytes(out: &mut [u8; 65536], n: &mut usize, s: &[u8]) {
+pub fn put_bytes(out: &mut Out, n: &mut usize, s: &[u8]) {
     let mut i = 0;
     while i < s.len() {
         put_byte(out, n, s[i]);
@@ -34,21 +36,40 @@ pub fn put_bytes(out: &mut [u8; 65536], n: &mut usize, s: &[u8]) {
     }
 }
 
-pub fn put_number(out: &mut [u8; 65536], n: &mut usize, x: u64) {
+pub fn put_number(out: &mut Out, n: &mut usize, x: u64) {
     let mut digits = [0u8; 20];
     let k = io::decimal(x, &mut digits);
     put_bytes(out, n, &digits[..k]);
 }
 
 // A space, then a number.
-pub fn put_next(out: &mut [u8; 65536], n: &mut usize, x: u64) {
+pub fn put_next(out: &mut Out, n: &mut usize, x: u64) {
     put_byte(out, n, 32);
     put_number(out, n, x);
 }
 
 // A number that ends its line.
-pub fn put_last(out: &mut [u8; 65536], n: &mut usize, x: u64) {
+pub fn put_last(out: &mut Out, n: &mut usize, x: u64) {
     put_number(out, n, x);
+    put_byte(out, n, 10);
+}
+
+// A line that can't be read, or that finds no room.
+pub fn put_bad(out: &mut Out, n: &mut usize) {
+    put_bytes(out, n, b"bad\n");
+}
+
+// An answer: the number of a refusal alone, else 0 and so many of its values.
+pub fn put_answer(out: &mut Out, n: &mut usize, a: Answer, values: u64) {
+    put_number(out, n, a.number);
+    if a.number == 0 {
+        if 0 < values {
+            put_next(out, n, a.first);
+        }
+        if 1 < values {
+            put_next(out, n, a.second);
+        }
+    }
     put_byte(out, n, 10);
 }
 
@@ -58,7 +79,7 @@ fn hex_digit(d: u8) -> u8 {
 }
 
 // The bytes of `s` from `from` on, `count` at most, in hexadecimal; `-` for none.
-pub fn put_hex(out: &mut [u8; 65536], n: &mut usize, s: &[u8], from: usize, count: usize) {
+pub fn put_hex(out: &mut Out, n: &mut usize, s: &[u8], from: usize, count: usize) {
     if count == 0 {
         put_byte(out, n, 45);
     }
@@ -77,7 +98,7 @@ pub fn put_hex(out: &mut [u8; 65536], n: &mut usize, s: &[u8], from: usize, coun
 }
 
 // The first `count` of the words, with commas; `-` for none.
-pub fn put_words(out: &mut [u8; 65536], n: &mut usize, s: &[u64], count: usize) {
+pub fn put_words(out: &mut Out, n: &mut usize, s: &[u64], count: usize) {
     if count == 0 {
         put_byte(out, n, 45);
     }
@@ -99,7 +120,7 @@ fn wide(x: u32) -> u64 {
 }
 
 // The numbers from `from` up to `to`, with commas; `-` for none.
-pub fn put_halves(out: &mut [u8; 65536], n: &mut usize, s: &[u32], from: usize, to: usize) {
+pub fn put_halves(out: &mut Out, n: &mut usize, s: &[u32], from: usize, to: usize) {
     if from == to {
         put_byte(out, n, 45);
     }
@@ -117,7 +138,7 @@ pub fn put_halves(out: &mut [u8; 65536], n: &mut usize, s: &[u32], from: usize, 
 }
 
 // The first `count` bytes of a page on one line, with `;` for byte 10.
-pub fn put_page(out: &mut [u8; 65536], n: &mut usize, s: &[u8], count: usize) {
+pub fn put_page(out: &mut Out, n: &mut usize, s: &[u8], count: usize) {
     let mut i = 0;
     while i < s.len() {
         if i == count {

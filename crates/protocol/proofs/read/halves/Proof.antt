@@ -1,14 +1,14 @@
-use Prim.Native.Nat.{_-_}
 use borrow.Author.Needs.{needs}
 use native.Mathlib.Omega.{arith}
+use Prim.Native.Nat.{_-_}
 use Rattle.protocol.proofs.read.halves.Statement.{statement}
 use Rattle.protocol.proofs.read.halves.Tie as tie
 
 abbrev Inv-loop : tie.InvT-loop
-Inv-loop line at into₀ from i₀ k₀ into i k = Unit {0}
+Inv-loop line at into₀ from to top i₀ k₀ into i k = Unit {0}
 
 abbrev μ-loop : tie.MeasureT-loop
-μ-loop line at into₀ from i₀ k₀ into i k = 16384 - k
+μ-loop line at into₀ from to top i₀ k₀ into i k = top - k
 
 is-empty-requires : tie.Need-is-empty-requires Inv-loop μ-loop
 is-empty-requires c κs = tt
@@ -21,6 +21,9 @@ listed-requires c κs = tt
 
 returns : tie.Need-returns Inv-loop μ-loop
 returns c = tt
+
+least-requires : tie.Need-least-requires Inv-loop μ-loop
+least-requires c κs = tt
 
 loop-holds : tie.Need-loop-holds Inv-loop μ-loop
 loop-holds c = tt
@@ -77,6 +80,7 @@ halves-spec =
     past-requires
     listed-requires
     returns
+    least-requires
     loop-holds
     get-decimal-requires
     enum-known-x

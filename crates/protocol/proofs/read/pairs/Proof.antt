@@ -1,14 +1,14 @@
-use Prim.Native.Nat.{_-_}
 use borrow.Author.Needs.{needs}
 use native.Mathlib.Omega.{arith}
+use Prim.Native.Nat.{_-_}
 use Rattle.protocol.proofs.read.pairs.Statement.{statement}
 use Rattle.protocol.proofs.read.pairs.Tie as tie
 
 abbrev Inv-loop : tie.InvT-loop
-Inv-loop line at into₀ from i₀ k₀ into i k = Unit {0}
+Inv-loop line at into₀ from to top i₀ k₀ into i k = Unit {0}
 
 abbrev μ-loop : tie.MeasureT-loop
-μ-loop line at into₀ from i₀ k₀ into i k = 16384 - k
+μ-loop line at into₀ from to top i₀ k₀ into i k = top - k
 
 is-empty-requires : tie.Need-is-empty-requires Inv-loop μ-loop
 is-empty-requires c κs = tt
@@ -22,8 +22,17 @@ listed-requires c κs = tt
 returns : tie.Need-returns Inv-loop μ-loop
 returns c = tt
 
+least-requires : tie.Need-least-requires Inv-loop μ-loop
+least-requires c κs = tt
+
 loop-holds : tie.Need-loop-holds Inv-loop μ-loop
 loop-holds c = tt
+
+sub-if2 : tie.Need-sub-if2 Inv-loop μ-loop
+sub-if2 c = omega arith
+
+returns-2 : tie.Need-returns-2 Inv-loop μ-loop
+returns-2 c = tt
 
 get-field-requires : tie.Need-get-field-requires Inv-loop μ-loop
 get-field-requires c κs = tt
@@ -34,8 +43,8 @@ enum-known-x c = search needs
 enum-told : tie.Need-enum-told Inv-loop μ-loop
 enum-told c = search needs
 
-returns-2 : tie.Need-returns-2 Inv-loop μ-loop
-returns-2 c = tt
+returns-3 : tie.Need-returns-3 Inv-loop μ-loop
+returns-3 c = tt
 
 get-decimal-requires : tie.Need-get-decimal-requires Inv-loop μ-loop
 get-decimal-requires c κs = tt
@@ -46,8 +55,8 @@ enum-known-y c = search needs
 enum-told-2 : tie.Need-enum-told-2 Inv-loop μ-loop
 enum-told-2 c = search needs
 
-returns-3 : tie.Need-returns-3 Inv-loop μ-loop
-returns-3 c = tt
+returns-4 : tie.Need-returns-4 Inv-loop μ-loop
+returns-4 c = tt
 
 low-requires : tie.Need-low-requires Inv-loop μ-loop
 low-requires c κs = tt
@@ -79,8 +88,8 @@ past-requires-2 c κs = tt
 listed-requires-2 : tie.Need-listed-requires-2 Inv-loop μ-loop
 listed-requires-2 c κs = tt
 
-returns-4 : tie.Need-returns-4 Inv-loop μ-loop
-returns-4 c = tt
+returns-5 : tie.Need-returns-5 Inv-loop μ-loop
+returns-5 c = tt
 
 loop-less : tie.Need-loop-less Inv-loop μ-loop
 loop-less c = omega arith
@@ -88,8 +97,8 @@ loop-less c = omega arith
 loop-again : tie.Need-loop-again Inv-loop μ-loop
 loop-again c = tt
 
-returns-5 : tie.Need-returns-5 Inv-loop μ-loop
-returns-5 c = tt
+returns-6 : tie.Need-returns-6 Inv-loop μ-loop
+returns-6 c = tt
 
 pub pairs-spec : {M : Type 1} → statement M
 pairs-spec =
@@ -101,15 +110,18 @@ pairs-spec =
     past-requires
     listed-requires
     returns
+    least-requires
     loop-holds
+    sub-if2
+    returns-2
     get-field-requires
     enum-known-x
     enum-told
-    returns-2
+    returns-3
     get-decimal-requires
     enum-known-y
     enum-told-2
-    returns-3
+    returns-4
     low-requires
     mul-into
     element-write-into
@@ -120,7 +132,7 @@ pairs-spec =
     add-k
     past-requires-2
     listed-requires-2
-    returns-4
+    returns-5
     loop-less
     loop-again
-    returns-5)
+    returns-6)
