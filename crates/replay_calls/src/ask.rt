@@ -58,6 +58,7 @@ fn asked(
         Ask::Kind => heaps::kind(heap, narrow, wide, pool, i, marks, work),
         Ask::Stamp => heaps::stamp(heap, narrow, wide, pool, i, marks, work),
         Ask::Page => page::write_page(heap, narrow, wide, pool, text, marks, work),
+        Ask::PageLength => page::page_length(heap, narrow, wide, pool, marks, work),
         _ => {
             let all = heaps::slots(heap, narrow, wide, pool, marks, work);
             let live = heaps::live(heap, narrow, wide, pool, marks, work);
