@@ -9,3 +9,4 @@ pub mod PageLength
 pub mod NoRoom
 pub mod StrideZero
 pub mod ProvedTable
+pub mod TestsPass

@@ -8,3 +8,4 @@ pub mod PageLength
 pub mod StrideZero
 pub mod TableLayouts
 pub mod ProvedTable
+pub mod TestsPass
