@@ -63,7 +63,7 @@ fn c_type(ty: &str) -> &str {
         "Heap" | "Header" => "yexwalu_header",
         "Answer" => "yexwalu_answer",
         "Done" => "yexwalu_done",
-        "Layout" | "RawLayout" => "yexwalu_layout_answer",
+        "LayoutAnswer" | "RawLayout" => "yexwalu_layout_answer",
         other => other,
     }
 }

@@ -20,7 +20,7 @@ use Rattle.layout.specs.Offsets.{Values, told, layoutCall, writtenBy}
 use Rattle.layout.specs.declared.Answer as laying
 use Rattle.yexwalu.specs.Table.{onTable}
 use Rattle.yexwalu.specs.Types.{laid, layoutCalled, sized, sizeCalled, handlesCalled}
-use Rattle.yexwalu.specs.declared.types.Layout.{Layout}
+use Rattle.yexwalu.specs.declared.types.LayoutAnswer.{LayoutAnswer}
 use Rattle.yexwalu.proofs.TableCalls.{table-bad, table-good}
 
 sized-some : (x : Option ℕ) (n : ℕ) → exactly x ≡ Is n → sized x ≡ ok n
@@ -58,10 +58,10 @@ module _ (w fs cs b : List ℕ) (t : ℕ) {g : Bool} (eg : g ≡ tableGood w fs 
   -- ---- a layout, and the lent list after the call
 
   module _ (d : List ℕ) (offs out : List ℕ) (places : ℕ) where
-    pub layout-refused : {r : Layout} → not g ≡ true → r ≡ laid (refused 10) → (r ≡ laid (layoutCalled w fs cs b t d places)) × (out ≡ writtenBy (layoutCalled w fs cs b t d places) offs out)
+    pub layout-refused : {r : LayoutAnswer} → not g ≡ true → r ≡ laid (refused 10) → (r ≡ laid (layoutCalled w fs cs b t d places)) × (out ≡ writtenBy (layoutCalled w fs cs b t d places) offs out)
     layout-refused h e = let q = table-bad w fs cs b eg (layoutCall (tableOf w fs cs b) t d places) h in (e ∙ sym (ap laid q), sym (ap (λ (u : Result Values). writtenBy u offs out) q))
 
-    pub layout-passed : {r : Layout} {x : Result Values} {out′ : List ℕ} → not g ≡ false → x ≡ layoutCall (tableOf w fs cs b) t d places → out′ ≡ writtenBy x offs out → r ≡ laid x
+    pub layout-passed : {r : LayoutAnswer} {x : Result Values} {out′ : List ℕ} → not g ≡ false → x ≡ layoutCall (tableOf w fs cs b) t d places → out′ ≡ writtenBy x offs out → r ≡ laid x
         → (r ≡ laid (layoutCalled w fs cs b t d places)) × (out′ ≡ writtenBy (layoutCalled w fs cs b t d places) offs out)
     layout-passed h p o e =
         let q = p ∙ sym (table-good w fs cs b eg (layoutCall (tableOf w fs cs b) t d places) h) in

@@ -8,10 +8,10 @@ use Rattle.ty.specs.Walks.{descBytes, hasHandles}
 use Rattle.ty.specs.View.{typesOf, tableOf}
 use Rattle.layout.specs.Offsets.{Values, layoutCall}
 use Rattle.yexwalu.specs.Table.{onTable}
-use Rattle.yexwalu.specs.declared.types.Layout.{Layout}
+use Rattle.yexwalu.specs.declared.types.LayoutAnswer.{LayoutAnswer}
 
 -- a layout in numbers, zeros after a refusal
-abbrev pub laid : Result Values → Layout
+abbrev pub laid : Result Values → LayoutAnswer
 laid (ok v) = record { number = 0; size = v .size; align = v .align; stride = v .stride; count = v .count; used = v .used; offsets = v .offsets }
 laid (refused n) = record { number = n; size = 0; align = 0; stride = 0; count = 0; used = 0; offsets = 0 }
 

@@ -10,4 +10,4 @@ pub use door::Done;
 pub use heap::Heap;
 pub use refusal::Answer;
 pub use refusal::Refusal;
-pub use types::Layout;
+pub use types::LayoutAnswer;

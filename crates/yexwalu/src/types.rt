@@ -17,7 +17,7 @@ ghost use Rattle.yexwalu.specs.Types.{laid, layoutCalled, sizeCalled, ha
 // Document 01's number, 0 for success, and a layout, zeros after a refusal. used: the descriptor bytes that it read; offsets: how many of the record's fields'
 // offsets were written.
 #[repr(C)]
-pub struct Layout {
+pub struct LayoutAnswer {
     pub number: u64,
     pub size: u64,
     pub align: u64,
@@ -27,10 +27,10 @@ pub struct Layout {
     pub offsets: u64,
 }
 
-fn not_laid(why: Refusal) -> Layout
+fn not_laid(why: Refusal) -> LayoutAnswer
     ensures { λ r. ⌜ r ≡ laid (refused (numberOf why)) ⌝ }
 {
-    Layout {
+    LayoutAnswer {
         number: why.number(),
         size: 0,
         align: 0,
@@ -41,7 +41,7 @@ fn not_laid(why: Refusal) -> Layout
     }
 }
 
-fn laid_out(a: layout::Answer) -> Layout
+fn laid_out(a: layout::Answer) -> LayoutAnswer
     ensures { λ r. ⌜ r ≡ laid (told a) ⌝ }
 {
     match a {
@@ -52,7 +52,7 @@ fn laid_out(a: layout::Answer) -> Layout
             count,
             used,
             offsets,
-        } => Layout {
+        } => LayoutAnswer {
             number: 0,
             size: size,
             align: align,
@@ -77,7 +77,7 @@ pub extern "C" fn yexwalu_layout(
     t: u64,
     desc: &[u8],
     out: &mut [u64],
-) -> Layout
+) -> LayoutAnswer
     ensures answer { λ r. ⌜ r ≡ laid (layoutCalled (now (types .entry)) (now (fields .entry)) (now (consts .entry)) (now (bytes .entry))
         t (now (desc .entry)) (length (now (out .entry)))) ⌝ }
     ensures written { λ r. ⌜ now (out .exit) ≡ writtenBy

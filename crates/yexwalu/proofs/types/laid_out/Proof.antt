@@ -4,11 +4,11 @@ use Rattle.refusal.proofs.Cases.{case}
 use Rattle.layout.specs.Offsets.{told}
 use Rattle.layout.specs.declared.Answer.{Answer}
 use Rattle.yexwalu.specs.Types.{laid}
-use Rattle.yexwalu.specs.declared.types.Layout.{Layout}
+use Rattle.yexwalu.specs.declared.types.LayoutAnswer.{LayoutAnswer}
 use Rattle.yexwalu.proofs.types.laid_out.Statement.{statement}
 use Rattle.yexwalu.proofs.types.laid_out.Tie as tie
 
-abbrev F : Answer → Layout
+abbrev F : Answer → LayoutAnswer
 F a = laid (told a)
 
 enum-known-a : tie.Need-enum-known-a
