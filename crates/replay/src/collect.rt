@@ -1,4 +1,5 @@
 // The two collections.
+use crate::calls;
 use door::Done;
 use heap::Heap;
 use protocol::Data;
@@ -32,7 +33,6 @@ use replay_tables::Words;
 use replay_tables::code::Rows;
 use replay_tables::cut_code;
 use replay_tables::cut_types;
-use yexwalu::heaps;
 ghost use mathlib.Core.Path.{_≡_};
 ghost use lib.ListN.{length};
 
@@ -132,7 +132,7 @@ fn at_safepoint(
     let r = in_use.refs;
     let g = in_use.blocks;
     let c = in_use.classes;
-    heaps::collect_joined(
+    calls::collect_joined(
         types,
         fields,
         consts,
@@ -227,7 +227,7 @@ fn plain(
 {
     let p = 303104 + least(since(wanted.pins, 303104), 65536);
     let v = least(wanted.words, list.len());
-    heaps::collect(
+    calls::collect(
         types,
         fields,
         consts,

@@ -7,6 +7,7 @@ use protocol::input::Line;
 use protocol::write::flush;
 use protocol::write::put_bad;
 
+mod calls;
 mod collect;
 mod lines;
 

@@ -2,6 +2,7 @@
 use crate::Kept;
 use crate::Marks;
 use crate::Work;
+use crate::calls;
 use crate::request::Asked;
 use crate::request::asking;
 use heap::Heap;
@@ -20,8 +21,6 @@ use protocol::write::put_next;
 use protocol::write::put_number;
 use protocol::write::put_page;
 use refusal::Answer;
-use yexwalu::heaps;
-use yexwalu::page;
 
 // The slots and the live ones as one answer.
 fn counts(slots: Answer, live: Answer) -> Answer {
@@ -49,19 +48,19 @@ fn asked(
 ) -> Answer {
     let i = x as usize;
     match ask {
-        Ask::GcDue => heaps::gc_due(heap, narrow, wide, pool, x, marks, work),
-        Ask::ReclaimDue => heaps::reclaim_due(heap, narrow, wide, pool, marks, work),
-        Ask::HasQuarantine => heaps::has_quarantine(heap, narrow, wide, pool, marks, work),
-        Ask::IsPlain => heaps::is_plain(heap, narrow, wide, pool, (x % 256) as u8, marks, work),
-        Ask::Resolve => heaps::resolve(heap, narrow, wide, pool, x, marks, work),
-        Ask::Data => heaps::data(heap, narrow, wide, pool, i, marks, work),
-        Ask::Kind => heaps::kind(heap, narrow, wide, pool, i, marks, work),
-        Ask::Stamp => heaps::stamp(heap, narrow, wide, pool, i, marks, work),
-        Ask::Page => page::write_page(heap, narrow, wide, pool, text, marks, work),
-        Ask::PageLength => page::page_length(heap, narrow, wide, pool, marks, work),
+        Ask::GcDue => calls::gc_due(heap, narrow, wide, pool, x, marks, work),
+        Ask::ReclaimDue => calls::reclaim_due(heap, narrow, wide, pool, marks, work),
+        Ask::HasQuarantine => calls::has_quarantine(heap, narrow, wide, pool, marks, work),
+        Ask::IsPlain => calls::is_plain(heap, narrow, wide, pool, (x % 256) as u8, marks, work),
+        Ask::Resolve => calls::resolve(heap, narrow, wide, pool, x, marks, work),
+        Ask::Data => calls::data(heap, narrow, wide, pool, i, marks, work),
+        Ask::Kind => calls::kind(heap, narrow, wide, pool, i, marks, work),
+        Ask::Stamp => calls::stamp(heap, narrow, wide, pool, i, marks, work),
+        Ask::Page => calls::write_page(heap, narrow, wide, pool, text, marks, work),
+        Ask::PageLength => calls::page_length(heap, narrow, wide, pool, marks, work),
         _ => {
-            let all = heaps::slots(heap, narrow, wide, pool, marks, work);
-            let live = heaps::live(heap, narrow, wide, pool, marks, work);
+            let all = calls::slots(heap, narrow, wide, pool, marks, work);
+            let live = calls::live(heap, narrow, wide, pool, marks, work);
             counts(all, live)
         }
     }

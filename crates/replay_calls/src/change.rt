@@ -2,6 +2,7 @@
 use crate::Kept;
 use crate::Marks;
 use crate::Work;
+use crate::calls;
 use crate::request::Asked;
 use crate::request::Request;
 use crate::request::changing;
@@ -25,8 +26,6 @@ use protocol::write::put_hex;
 use protocol::write::put_next;
 use protocol::write::put_number;
 use refusal::Answer;
-use yexwalu::heaps;
-use yexwalu::page;
 
 // Done, with no value.
 fn nothing() -> Answer {
@@ -75,12 +74,12 @@ fn with_bytes(
         Change::Alloc => {
             let kind = (x % 256) as u8;
             let ty = low(request.y);
-            heaps::alloc_from(heap, narrow, wide, pool, kind, ty, z, bytes, marks, work)
+            calls::alloc_from(heap, narrow, wide, pool, kind, ty, z, bytes, marks, work)
         }
-        Change::Edit => heaps::edit(heap, narrow, wide, pool, x, bytes, y, marks, work),
+        Change::Edit => calls::edit(heap, narrow, wide, pool, x, bytes, y, marks, work),
         _ => {
             let i = x as usize;
-            let answer = heaps::write(heap, narrow, wide, pool, i, y, bytes, marks, work);
+            let answer = calls::write(heap, narrow, wide, pool, i, y, bytes, marks, work);
             same(heap, answer)
         }
     }
@@ -100,7 +99,7 @@ fn fill(
     let mut answer = nothing();
     let mut left = count;
     while 0 < left {
-        let done = heaps::alloc_from(h, narrow, wide, pool, 2, 0, 0, b"", marks, work);
+        let done = calls::alloc_from(h, narrow, wide, pool, 2, 0, 0, b"", marks, work);
         h = done.heap;
         answer = done.answer;
         left -= 1;
@@ -123,9 +122,9 @@ fn by_number(
     let x = request.x;
     match change {
         Change::Fill => fill(x, heap, narrow, wide, pool, marks, work),
-        Change::Take => heaps::take(heap, narrow, wide, pool, x, data, marks, work),
-        Change::Free => heaps::free(heap, narrow, wide, pool, x, marks, work),
-        _ => heaps::reissue(heap, narrow, wide, pool, x as usize, request.y, marks, work),
+        Change::Take => calls::take(heap, narrow, wide, pool, x, data, marks, work),
+        Change::Free => calls::free(heap, narrow, wide, pool, x, marks, work),
+        _ => calls::reissue(heap, narrow, wide, pool, x as usize, request.y, marks, work),
     }
 }
 
@@ -160,8 +159,8 @@ fn with_slots(
     let to = from + least(since(request.listed, from), lists.len() - from);
     let slots = &lists[from..to];
     match change {
-        Change::Recycle => heaps::recycle(heap, narrow, wide, pool, slots, marks, work),
-        Change::Seal => heaps::seal(heap, narrow, wide, pool, marks, work),
+        Change::Recycle => calls::recycle(heap, narrow, wide, pool, slots, marks, work),
+        Change::Seal => calls::seal(heap, narrow, wide, pool, marks, work),
         _ => same(with_epoch(heap, request.x, slots), nothing()),
     }
 }
@@ -182,11 +181,11 @@ fn whole(
     let k = least(request.bytes, text.len());
     match change {
         Change::New => {
-            let done = heaps::new((request.x % 256) as u8, narrow, wide, pool, marks, work);
+            let done = calls::new((request.x % 256) as u8, narrow, wide, pool, marks, work);
             made(heap, done)
         }
-        Change::Load => page::read_page(heap, narrow, wide, pool, &text[0..k], marks, work),
-        _ => heaps::run(heap, narrow, wide, pool, &text[0..k], room, marks, work),
+        Change::Load => calls::read_page(heap, narrow, wide, pool, &text[0..k], marks, work),
+        _ => calls::run(heap, narrow, wide, pool, &text[0..k], room, marks, work),
     }
 }
 

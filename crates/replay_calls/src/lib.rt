@@ -7,6 +7,7 @@ use replay_tables::no_code;
 use replay_tables::no_types;
 
 pub mod ask;
+mod calls;
 pub mod change;
 pub mod request;
 

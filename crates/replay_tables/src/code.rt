@@ -7,6 +7,7 @@ use crate::FIELDS;
 use crate::Function;
 use crate::KINDS;
 use crate::LISTED;
+use crate::calls;
 use crate::cut_code;
 use crate::show;
 use protocol::Halves;
@@ -24,7 +25,6 @@ use protocol::read::second;
 use protocol::read::words;
 use protocol::write::put_bad;
 use protocol::write::put_last;
-use yexwalu::live;
 ghost use mathlib.Core.Path.{_≡_};
 ghost use lib.ListN.{length};
 
@@ -175,7 +175,7 @@ fn map(
     let mut pcs = [0u32; 65536];
     let mut bounds = [0u32; 65536];
     let mut regs = [0u32; 65536];
-    let a = live::live_refs(
+    let a = calls::live_refs(
         kinds,
         ends,
         refs,
@@ -204,7 +204,7 @@ fn registers(
     n: &mut usize,
 ) {
     let mut regs = [0u32; 65536];
-    let a = live::live_at(kinds, ends, refs, blocks, classes, all, pc, &mut regs, rows);
+    let a = calls::live_at(kinds, ends, refs, blocks, classes, all, pc, &mut regs, rows);
     show::registers(out, n, a, &regs);
 }
 

@@ -5,6 +5,7 @@ use protocol::least;
 use protocol::since;
 ghost use Prim.Native.Nat.{_≤_};
 
+mod calls;
 pub mod code;
 pub mod row;
 pub mod show;

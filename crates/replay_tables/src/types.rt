@@ -5,6 +5,7 @@ use crate::HALVES_END;
 use crate::LISTED;
 use crate::Table;
 use crate::Words;
+use crate::calls;
 use crate::cut_types;
 use crate::no_types;
 use crate::row::Read;
@@ -32,8 +33,6 @@ use protocol::write::put_byte;
 use protocol::write::put_last;
 use protocol::write::put_next;
 use protocol::write::put_number;
-use yexwalu::handles;
-use yexwalu::types;
 ghost use mathlib.Core.Path.{_≡_};
 ghost use lib.ListN.{length};
 
@@ -170,7 +169,7 @@ fn layout(
     out: &mut Out,
     n: &mut usize,
 ) {
-    let a = types::layout(types, fields, consts, bytes, t, desc, list);
+    let a = calls::layout(types, fields, consts, bytes, t, desc, list);
     put_number(out, n, a.number);
     if a.number == 0 {
         put_next(out, n, a.size);
@@ -198,19 +197,19 @@ fn of_type(
 ) {
     match call {
         TypeCall::DescSize => {
-            let a = types::desc_size(types, fields, consts, bytes, t);
+            let a = calls::desc_size(types, fields, consts, bytes, t);
             show::size(out, n, a);
         }
         TypeCall::HasHandles => {
-            let a = types::has_handles(types, fields, consts, bytes, t);
+            let a = calls::has_handles(types, fields, consts, bytes, t);
             put_answer(out, n, a, 1);
         }
         TypeCall::ObjectHandles => {
-            let a = handles::object_handles(types, fields, consts, bytes, t, data, list);
+            let a = calls::object_handles(types, fields, consts, bytes, t, data, list);
             show::handles(out, n, a, list);
         }
         TypeCall::ValueHandles => {
-            let a = handles::value_handles(types, fields, consts, bytes, t, data, list);
+            let a = calls::value_handles(types, fields, consts, bytes, t, data, list);
             show::handles(out, n, a, list);
         }
         TypeCall::Layout => layout(t, types, fields, consts, bytes, data, list, out, n),
@@ -314,7 +313,7 @@ fn in_frame(
     n: &mut usize,
 ) {
     let mut addresses = [0u64; 16384];
-    let a = handles::slot_roots(
+    let a = calls::slot_roots(
         types,
         fields,
         consts,

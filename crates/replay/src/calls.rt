@@ -1,0 +1,81 @@
+// The public calls, with nothing said of their answers: what is printed is asked of the runs, and what follows from the contracts is not needed to print it.
+use door::Done;
+use heap::Heap;
+
+pub fn collect(
+    types: &[u64],
+    fields: &[u32],
+    consts: &[u64],
+    bytes: &[u8],
+    heap: Heap,
+    narrow: &mut [u32],
+    wide: &mut [u64],
+    pool: &mut [u8],
+    roots: &[u64],
+    pins: &[u32],
+    marks: &mut [u8],
+    work: &mut [u64],
+) -> Done {
+    yexwalu::heaps::collect(
+        types,
+        fields,
+        consts,
+        bytes,
+        heap,
+        narrow,
+        wide,
+        pool,
+        roots,
+        pins,
+        marks,
+        work,
+    )
+}
+
+pub fn collect_joined(
+    types: &[u64],
+    fields: &[u32],
+    consts: &[u64],
+    bytes: &[u8],
+    heap: Heap,
+    narrow: &mut [u32],
+    wide: &mut [u64],
+    pool: &mut [u8],
+    kinds: &[u8],
+    ends: &[u32],
+    refs: &[u32],
+    blocks: &[u32],
+    classes: &[u8],
+    pc: usize,
+    values: &[u64],
+    map: &[u32],
+    memory: &[u8],
+    pins: &[u32],
+    marks: &mut [u8],
+    work: &mut [u64],
+    rows: &mut [u64],
+) -> Done {
+    yexwalu::heaps::collect_joined(
+        types,
+        fields,
+        consts,
+        bytes,
+        heap,
+        narrow,
+        wide,
+        pool,
+        kinds,
+        ends,
+        refs,
+        blocks,
+        classes,
+        pc,
+        values,
+        map,
+        memory,
+        pins,
+        marks,
+        work,
+        rows,
+    )
+}
