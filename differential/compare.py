@@ -16,7 +16,7 @@ import time
 import generate
 import known
 import shapes
-from machine import answers
+from machine import answers, oracle_answers
 
 YES_NO = ("gcdue", "reclaimdue", "hasquarantine", "isplain", "hashandles")
 
@@ -46,7 +46,7 @@ class Pair:
         self.oracle, self.replay = oracle, replay
 
     def unlike(self, lines):
-        return unlike(lines, answers(self.oracle, lines, 60)[0], answers(self.replay, lines, 60)[0])
+        return unlike(lines, oracle_answers(self.oracle, lines, 60)[0], answers(self.replay, lines, 60)[0])
 
     def fails(self, lines, command):
         """Is the last line, a call of this command, the first one not answered alike? A panic or hang of the oracle is another matter."""
@@ -151,7 +151,7 @@ def report(name, pair, lines, found):
     print("  smallest script:")
     for line in small:
         print("    " + line)
-    print("  oracle " + answers(pair.oracle, small)[0][-1][:300])
+    print("  oracle " + oracle_answers(pair.oracle, small)[0][-1][:300])
     got = answers(pair.replay, small)
     print(f"  replay {got[0][-1][:300] if len(got[0]) == len(small) else 'nothing'} (ends with {got[1]})")
     sys.stdout.flush()
@@ -165,14 +165,14 @@ def seeds(text):
 
 HEAP = set(
     "new load setepoch alloc fill edit write reissue take free recycle seal gcdue reclaimdue hasquarantine isplain "
-    "run resolve data kind stamp slots page epoch".split()
+    "run resolve data kind stamp slots page pagelen epoch".split()
 )
 
 
 def heap_only(oracle, lines):
     """The commands on the heap alone, collections apart, with the oracle's answers to them."""
     kept = [x for x in lines if x.split(" ", 1)[0] in HEAP]
-    left = answers(oracle, kept)[0]
+    left = oracle_answers(oracle, kept)[0]
     return kept[: len(left)], left
 
 
@@ -187,7 +187,7 @@ def scripts(a):
     if a.large:
         fixed += [(s.__name__, list(s())) for s in shapes.LARGE]
     for name, lines in fixed:
-        left = answers(a.oracle, lines)[0]
+        left = oracle_answers(a.oracle, lines)[0]
         yield name, lines[: len(left)], left
     for seed in seeds(a.seeds) if a.seeds else []:
         lines, left = generate.script(a.oracle, seed, a.lines, without=without)

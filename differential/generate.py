@@ -330,6 +330,7 @@ class Writer:
 
     def page(self):
         self.read_page(self.do("page"))
+        self.do("pagelen")
 
     def alloc(self, kind=None, t=None, data=None, start=0):
         if len(self.rows) == self.S and not self.free and self.chance(0.85):

@@ -8,6 +8,15 @@ class Hang(Exception):
     pass
 
 
+# The oracle has no `pagelen`: it is asked for the page, whose bytes are counted.
+def to_oracle(line):
+    return "page" if line == "pagelen" else line
+
+
+def from_oracle(line, answer):
+    return f"0 {len(answer) - 2}" if line == "pagelen" and answer.startswith("0 ") else answer
+
+
 class Oracle:
     """The oracle in the loop of the generator, which needs its handles."""
 
@@ -16,12 +25,12 @@ class Oracle:
         self.p = subprocess.Popen([path], stdin=subprocess.PIPE, stdout=subprocess.PIPE, env=env, bufsize=1 << 16)
 
     def ask(self, line):
-        self.p.stdin.write(line.encode() + b"\n")
+        self.p.stdin.write(to_oracle(line).encode() + b"\n")
         self.p.stdin.flush()
         answer = self.p.stdout.readline().decode().rstrip("\n")
         if answer in ("hang", ""):
             raise Hang(line)
-        return answer
+        return from_oracle(line, answer)
 
     def close(self):
         self.p.stdin.close()
@@ -39,3 +48,9 @@ def answers(path, lines, seconds=600):
     except subprocess.TimeoutExpired as e:
         return (e.stdout or b"").decode(errors="replace").splitlines(), "time"
     return r.stdout.decode(errors="replace").splitlines(), r.returncode
+
+
+def oracle_answers(path, lines, seconds=600):
+    """The same of the oracle."""
+    told, end = answers(path, [to_oracle(x) for x in lines], seconds)
+    return [from_oracle(x, y) for x, y in zip(lines, told)] + told[len(lines) :], end

@@ -10,7 +10,7 @@ import argparse
 import sys
 
 from known import as_port
-from machine import answers
+from machine import answers, oracle_answers
 from shapes import COLUMNS, HEAD, I64, NO, U32, U64, h, le, page, script as run, to
 
 HEAP = ["new 1 4 16", "alloc 2 0 0 4142434445", "alloc 3 0 0 46"]
@@ -143,7 +143,7 @@ ALL = [heaps, scripts, pages, tables, functions, collections, differences]
 def script(oracle):
     """The lines and the answers that they must have."""
     lines = [x for part in ALL for x in part()]
-    told = iter(answers(oracle, [given for _, _, given in lines if given is not None])[0])
+    told = iter(oracle_answers(oracle, [given for _, _, given in lines if given is not None])[0])
     wanted = []
     for line, number, given in lines:
         answer = number if given is None else as_port(line, next(told))

@@ -1,5 +1,5 @@
 /*
- * A first heap from C: it places an object, writes the heap as a page, reads the page back, takes the object out again and runs a script of calls.
+ * A first heap from C: it places an object, asks how long the heap's page is, writes it, reads the page back, takes the object out again and runs a script of calls.
  *
  *     cc -std=c11 -Wall -Wextra -I host/include host/c/page.c target/staticlib/libyexwalu.a -o target/c-page
  *
@@ -33,8 +33,10 @@ int main(void) {
     if (placed.answer.number != YEXWALU_OK || placed.answer.first != 72057594037927937u) return failed("alloc_from", placed.answer);
     uint64_t handle = placed.answer.first;
 
-    yexwalu_answer page = yexwalu_write_page(placed.heap, YEXWALU_LISTS(memory), text, sizeof text, YEXWALU_MARKS(memory));
-    if (page.number != YEXWALU_OK) return failed("write_page", page);
+    yexwalu_answer length = yexwalu_page_length(placed.heap, YEXWALU_LISTS(memory), YEXWALU_MARKS(memory));
+    if (length.number != YEXWALU_OK || length.first > sizeof text) return failed("page_length", length);
+    yexwalu_answer page = yexwalu_write_page(placed.heap, YEXWALU_LISTS(memory), text, length.first, YEXWALU_MARKS(memory));
+    if (page.number != YEXWALU_OK || page.first != length.first) return failed("write_page", page);
     fwrite(text, 1, page.first, stdout);
 
     yexwalu_done read = yexwalu_read_page(placed.heap, YEXWALU_LISTS(memory), text, page.first, YEXWALU_MARKS(memory));

@@ -497,7 +497,16 @@ yexwalu_done yexwalu_run(
 
 /* ---- A heap as a page of text ---- */
 
-/* Writes the heap as a page to the front of `out`. first: how many bytes. 18, 1, 7. */
+/* How many bytes the heap's page has. first: that number. 18, 1. */
+yexwalu_answer yexwalu_page_length(
+    yexwalu_header heap,
+    const uint32_t *narrow, size_t narrow_len,
+    const uint64_t *wide, size_t wide_len,
+    const uint8_t *pool, size_t pool_len,
+    uint8_t *marks, size_t marks_len,
+    uint64_t *work, size_t work_len);
+
+/* Writes the heap as a page to the front of `out`. first: how many bytes, which is what yexwalu_page_length says; so many are enough. 18, 1, 7. */
 yexwalu_answer yexwalu_write_page(
     yexwalu_header heap,
     const uint32_t *narrow, size_t narrow_len,

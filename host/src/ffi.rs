@@ -134,6 +134,8 @@ heap_calls! {
     yexwalu_kind(heap: Header; i: usize;) -> Answer;
     /// See [`Heap::stamp`](crate::Heap::stamp).
     yexwalu_stamp(heap: Header; i: usize;) -> Answer;
+    /// See [`Heap::page_length`](crate::Heap::page_length).
+    yexwalu_page_length(heap: Header;;) -> Answer;
     /// See [`Heap::write_page_into`](crate::Heap::write_page_into).
     yexwalu_write_page(heap: Header; out: *mut u8, out_len: usize;) -> Answer;
     /// See [`Heap::read_page_over`](crate::Heap::read_page_over).

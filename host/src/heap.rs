@@ -577,17 +577,26 @@ impl Heap {
     /// # Ok::<(), Refusal>(())
     /// ```
     pub fn write_page(&self) -> Result<Vec<u8>, Refusal> {
-        let (end, pool) = (self.memory.end(), self.memory.pool.len() as u64);
-        let slots = self.header.slots.min(end.len());
-        let data = if slots == 0 { 0 } else { end[slots - 1].min(pool) as usize };
-        // document 01: a page takes at most 256 + 96 × slots + 2 × data bytes
-        let mut out = vec![0; 256 + 96 * slots + 2 * data];
-        let size = self.write_page_into(&mut out)?;
-        out.truncate(size);
+        let mut out = vec![0; self.page_length()?];
+        self.write_page_into(&mut out)?;
         Ok(out)
     }
 
-    /// As `write_page`, with the text written to the front of a lent output. The answer is the number of bytes. Too short an output is refused (7); 256 + 96 × slots + 2 × data bytes always do.
+    /// The number of bytes that the heap's page has: `write_page` writes so many, no more and no fewer.
+    ///
+    /// ```
+    /// use yexwalu::{Heap, Kind, Refusal};
+    /// let mut heap = Heap::new(1, 64, 4096)?;
+    /// heap.alloc(Kind::Bytes, b"AB")?;
+    /// assert_eq!(heap.page_length()?, 161);
+    /// assert_eq!(heap.write_page()?.len(), 161);
+    /// # Ok::<(), Refusal>(())
+    /// ```
+    pub fn page_length(&self) -> Result<usize, Refusal> {
+        Ok(Heap::pair(ask!(self, yexwalu_page_length()))?.0 as usize)
+    }
+
+    /// As `write_page`, with the text written to the front of a lent output. The answer is the number of bytes, which is `page_length`. An output of so many bytes is enough; a shorter one is refused (7).
     pub fn write_page_into(&self, out: &mut [u8]) -> Result<usize, Refusal> {
         let answer = ask!(self, yexwalu_write_page(out.as_mut_ptr(), out.len()));
         Ok(Heap::pair(answer)?.0 as usize)

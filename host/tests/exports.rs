@@ -12,9 +12,17 @@ fn text(path: &str) -> String {
     fs::read_to_string(top().join(path)).unwrap_or_else(|e| panic!("{path}: {e}"))
 }
 
-// What the front door has for Rattle: `pub use crate::yexwalu_name as name;`.
+// The source of a crate, all its files.
+fn source_of(name: &str) -> String {
+    let folder = top().join(format!("crates/{name}/src"));
+    let mut files: Vec<PathBuf> = fs::read_dir(&folder).unwrap_or_else(|e| panic!("{name}: {e}")).map(|f| f.unwrap().path()).collect();
+    files.sort();
+    files.iter().map(|f| fs::read_to_string(f).unwrap()).collect()
+}
+
+// What the front door has for Rattle, in one of its modules: `pub use crate::yexwalu_name as name;`.
 fn public_calls() -> Vec<String> {
-    let source = text("crates/yexwalu/src/lib.rt");
+    let source = source_of("yexwalu");
     let used = source.lines().filter_map(|l| l.strip_prefix("pub use ")?.strip_suffix(';')?.split_once(" as "));
     let mut calls: Vec<String> = used
         .map(|(path, name)| {
@@ -35,14 +43,7 @@ fn crates() -> Vec<String> {
 }
 
 fn exports() -> String {
-    let mut all = String::new();
-    for name in crates() {
-        let folder = top().join(format!("crates/{name}/src"));
-        let mut files: Vec<PathBuf> = fs::read_dir(&folder).unwrap_or_else(|e| panic!("{name}: {e}")).map(|f| f.unwrap().path()).collect();
-        files.sort();
-        files.iter().for_each(|f| all.push_str(&fs::read_to_string(f).unwrap()));
-    }
-    all
+    crates().iter().map(|name| source_of(name)).collect()
 }
 
 fn ffi() -> String {

@@ -1,7 +1,7 @@
-//! Damaged pages: a page that is read gives back its very text; one that is refused leaves what was lent.
+//! A page has the length that is told before. Damaged pages: a page that is read gives back its very text; one that is refused leaves what was lent.
 mod common;
 use common::{sample, Random};
-use yexwalu::{Heap, Refusal, Scratch};
+use yexwalu::{Heap, Kind, Refusal, Scratch};
 
 // Reads a text into memory that held something else.
 fn read(slots: usize, pool: usize, text: &[u8]) -> Result<Heap, Refusal> {
@@ -33,6 +33,35 @@ fn a_page_comes_back() {
     assert_eq!(Heap::read_page(4, 11, &page).err(), Some(Refusal::Full));
     assert_eq!(Heap::read_page(5, 10, &page).err(), Some(Refusal::NoRoom));
     assert_eq!(Heap::read_page(4, 10, &page).err(), Some(Refusal::NoRoom));
+}
+
+#[test]
+fn a_page_has_the_length_that_is_told() {
+    let (mut heap, all) = sample(8, 64);
+    for step in 0..7 {
+        match step {
+            1 => drop(heap.alloc(Kind::Bytes, &[0x5a; 11]).unwrap()),
+            2 => heap.seal().unwrap(),
+            3 => drop(heap.take(all[0]).unwrap()),
+            4 => drop(heap.reissue(3, u64::MAX).unwrap()),
+            5 => heap.recycle(&[]).unwrap(),
+            6 => heap = Heap::new(255, 1, 0).unwrap(),
+            _ => {}
+        }
+        let n = heap.page_length().unwrap();
+        let page = heap.write_page().unwrap();
+        assert_eq!(page.len(), n, "{step}");
+        // that very length is accepted, one more stays beyond it, one less is 7
+        let mut out = vec![0xee; n + 1];
+        assert_eq!(heap.write_page_into(&mut out[..n]), Ok(n));
+        assert!(out[..n] == page[..] && out[n] == 0xee);
+        let mut out = vec![0xee; n + 1];
+        assert_eq!(heap.write_page_into(&mut out), Ok(n));
+        assert!(out[..n] == page[..] && out[n] == 0xee);
+        let mut out = vec![0xee; n - 1];
+        assert_eq!(heap.write_page_into(&mut out), Err(Refusal::ShortList));
+        assert!(out.iter().all(|b| *b == 0xee));
+    }
 }
 
 #[test]

@@ -7,7 +7,7 @@ use yexwalu::{descriptor, ffi, Class, Direction, FrameSlot, Function, Handle, He
 type Call = (&'static str, fn(&mut Heap) -> Result<(), Refusal>);
 
 // Every call on a heap, each one that succeeds on the sample.
-const CALLS: [Call; 24] = [
+const CALLS: [Call; 25] = [
     ("alloc", |h| h.alloc(Kind::Bytes, b"x").map(drop)),
     ("alloc_from", |h| h.alloc_from(Kind::Bytes, 0, b"x").map(drop)),
     ("take", |h| h.take_into(Handle(7 << 56 | 2 << 32 | 1), &mut [0; 64]).map(drop)),
@@ -27,6 +27,7 @@ const CALLS: [Call; 24] = [
     ("data", |h| h.place(2).map(drop)),
     ("kind", |h| h.kind(2).map(drop)),
     ("stamp", |h| h.stamp(2).map(drop)),
+    ("page_length", |h| h.page_length().map(drop)),
     ("write_page", |h| h.write_page_into(&mut [0; 4096]).map(drop)),
     ("collect", |h| h.collect(&plain(), &[Handle(7 << 56 | 2 << 32 | 1)], &[1])),
     ("collect_joined", |h| h.collect_joined(&plain(), &stopped(), 1, &[7 << 56 | 2 << 32 | 1, 0], &[], &[], &[1])),

@@ -1,4 +1,4 @@
--- From what the inner calls ensure to the page's two calls. Assumes nothing.
+-- From what the inner calls ensure to the page's calls. Assumes nothing.
 use Prim.Native.Nat.{ℕ, _≤_, _<_}
 use mathlib.Core.Bool.{Bool, true, false, _&&_}
 use mathlib.Core.List.{List, [], _∷_}

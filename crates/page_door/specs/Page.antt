@@ -1,13 +1,19 @@
--- The page's two calls (01, "Page"), each refusal in 01's order.
+-- The page's calls (01, "Page"; 02, [9]), each refusal in 01's order.
 use Prim.Native.Nat.{ℕ}
 use mathlib.Core.List.{List}
+use lib.ListN.{length}
 use Rattle.word.specs.Choice.{if_then_else_}
+use Rattle.word.specs.Result.{ok}
 use Rattle.refusal.specs.Told.{refusedBy, answered, here, nothing}
 use Rattle.heap.specs.Lent.{Lent, view}
 use Rattle.door.specs.HeapCalls.{Asked, heapAsk, Outcome, outcome, enough, zeros, entry, whether}
 use Rattle.pages.specs.Page.{pageText}
 use Rattle.pages.specs.Answer.{textAnswer, textOut}
 use Rattle.page_reader.specs.Reading.{readInto}
+
+-- `page_length`: scratch 18, broken heap 1, or the number of bytes the page will have
+abbrev pub measuring : (marks work : List ℕ) → Lent → Asked
+measuring marks work l = heapAsk here nothing marks work l (λ h. ok (length (pageText h)))
 
 -- `write_page`: scratch 18, broken heap 1, output too short 7, or how many bytes were written
 abbrev pub writing : (marks work : List ℕ) → Lent → (out : List ℕ) → Asked

@@ -1,4 +1,4 @@
-// The public calls of the page (01, "Page"): a heap as text, both ways.
+// The public calls of the page (01, "Page"): a heap as text, both ways, and how long that text is.
 use door::Done;
 use door::Entry;
 use heap::Heap;
@@ -12,7 +12,26 @@ ghost use Prim.Native.Nat.{_/_};
 ghost use lib.Dec.{leb};
 ghost use lib.ListN.{length};
 ghost use Rattle.door.specs.HeapCalls.{asked, outcome};
-ghost use Rattle.page_door.specs.Page.{writing, pageOut, reading};
+ghost use Rattle.page_door.specs.Page.{measuring, writing, pageOut, reading};
+
+// How many bytes a heap's page has: 18, 1. `write_page` takes so many, no more and no fewer.
+#[no_mangle]
+pub extern "C" fn yexwalu_page_length(
+    heap: Heap,
+    narrow: &[u32],
+    wide: &[u64],
+    pool: &[u8],
+    marks: &mut [u8],
+    work: &mut [u64],
+) -> Answer
+    ensures { λ r. ⌜ asked r (now (marks .exit)) (now (work .exit))
+        ≡ measuring (now (marks .entry)) (now (work .entry)) (lent heap (now (narrow .entry)) (now (wide .entry)) (now (pool .entry))) ⌝ }
+{
+    match door::enter(heap, narrow, wide, pool, marks, work) {
+        Entry::Not(why) => Reply::Not(why).numbers(),
+        Entry::Ready => pages::measure(heap, narrow, wide, pool).numbers(),
+    }
+}
 
 // Writes a heap's page to `out`: 18, 1, 7. The answer is its length.
 #[no_mangle]

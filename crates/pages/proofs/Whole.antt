@@ -15,7 +15,8 @@ use Rattle.heap.specs.Lent.{Lent, lent, view}
 use Rattle.pages.specs.Columns.{slotsIn, Ready}
 use Rattle.pages.specs.Answer.{PageWritten}
 use Rattle.heap.specs.declared.Heap.{Heap}
-use Rattle.refusal.specs.Told.{told}
+use Rattle.word.specs.Result.{ok}
+use Rattle.refusal.specs.Told.{told, answered, here, nothing}
 use Rattle.refusal.specs.declared.Refusal.the-variants.{ShortList}
 use Rattle.refusal.specs.declared.Reply.the-variants.{Is, Not}
 use Rattle.word.proofs.RunLaws.{run-part}
@@ -113,3 +114,7 @@ wrote {a} {b} {t} {k} p h =
 
 pub short : (a t : List ℕ) → length a < length t → PageWritten a a t (Not ShortList)
 short a t h = record { answer = rw (lt-leb (length t) (length a) h); out = rw (lt-leb (length t) (length a) h) }
+
+-- the number alone
+pub measured : {k n : ℕ} → k ≡ n → told (Is k 0) ≡ answered here nothing (ok n)
+measured e = ap (λ (k : ℕ). told (Is k 0)) e

@@ -13,6 +13,8 @@ ghost use Rattle.pages.specs.Columns.{slot, slotsIn, Ready};
 ghost use Rattle.heap.specs.Lent.{lent, view};
 ghost use Rattle.heap.specs.WellFormed.{wellFormed};
 ghost use mathlib.Core.Bool.{true};
+ghost use Rattle.word.specs.Result.{ok};
+ghost use Rattle.refusal.specs.Told.{told, answered, here, nothing};
 ghost use Rattle.pages.specs.Answer.{PageWritten};
 
 fn widened(x: u32) -> u64
@@ -261,6 +263,15 @@ fn page_len(heap: Heap, narrow: &[u32], wide: &[u64], pool: &[u8]) -> usize
     let d = indices_len(&narrow[four..five], heap.quarantine);
     let e = handles_len(&wide[three..four], heap.sealed);
     126 + a + b + c + d + e
+}
+
+// Answers how many bytes a heap's page has, and writes none.
+pub fn measure(heap: Heap, narrow: &[u32], wide: &[u64], pool: &[u8]) -> Reply
+    requires { ⌜ wellFormed (lent heap (now narrow) (now wide) (now pool)) ≡ true ⌝ }
+    ensures { λ r. ⌜ told r ≡ answered here nothing (ok (length (pageText (view (lent heap (now (narrow .entry)) (now (wide .entry)) (now (pool .entry))))))) ⌝ }
+{
+    let n = page_len(heap, narrow, wide, pool);
+    Reply::Is(n as u64, 0)
 }
 
 // Writes a heap's page to `out`, and answers its length; an output that is too short stays as it was.

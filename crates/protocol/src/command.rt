@@ -33,6 +33,7 @@ pub enum Ask {
     Stamp,
     Slots,
     Page,
+    PageLength,
     Epoch,
     Unknown,
 }
@@ -139,6 +140,9 @@ pub fn ask_of(line: &[u8]) -> Ask {
     }
     if is_word(line, b"page") {
         return Ask::Page;
+    }
+    if is_word(line, b"pagelen") {
+        return Ask::PageLength;
     }
     if is_word(line, b"epoch") {
         return Ask::Epoch;

@@ -57,6 +57,7 @@ fn asked(
         Ask::Kind => calls::kind(heap, narrow, wide, pool, i, marks, work),
         Ask::Stamp => calls::stamp(heap, narrow, wide, pool, i, marks, work),
         Ask::Page => calls::write_page(heap, narrow, wide, pool, text, marks, work),
+        Ask::PageLength => calls::page_length(heap, narrow, wide, pool, marks, work),
         _ => {
             let all = calls::slots(heap, narrow, wide, pool, marks, work);
             let live = calls::live(heap, narrow, wide, pool, marks, work);

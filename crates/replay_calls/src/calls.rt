@@ -258,6 +258,17 @@ pub fn run(
     yexwalu::heaps::run(heap, narrow, wide, pool, script, room, marks, work)
 }
 
+pub fn page_length(
+    heap: Heap,
+    narrow: &[u32],
+    wide: &[u64],
+    pool: &[u8],
+    marks: &mut [u8],
+    work: &mut [u64],
+) -> Answer {
+    yexwalu::page::page_length(heap, narrow, wide, pool, marks, work)
+}
+
 pub fn write_page(
     heap: Heap,
     narrow: &[u32],

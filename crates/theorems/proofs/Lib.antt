@@ -1,10 +1,11 @@
--- The theorems: HeapPageHeap, PageHeapPage, PageBound; the others are their lemmas.
+-- The theorems: HeapPageHeap, PageHeapPage, PageBound, PageLength; the others are their lemmas.
 pub mod Widths
 pub mod PageReading
 pub mod PageWriting
 pub mod HeapPageHeap
 pub mod PageHeapPage
 pub mod PageBound
+pub mod PageLength
 pub mod NoRoom
 pub mod StrideZero
 pub mod ProvedTable

@@ -36,26 +36,26 @@ sound-part l f =
 
 -- 18, 1, or neither
 module _ (marks work : List ℕ) (l : Lent) where
-  no-scratch : enough marks work l ≡ false → admitted (heapTests marks work l) ≡ Not ScratchShort
+  pub no-scratch : enough marks work l ≡ false → admitted (heapTests marks work l) ≡ Not ScratchShort
   unfolding admitted
   no-scratch e = rw e
 
-  not-formed : enough marks work l ≡ true → wellFormed l ≡ false → admitted (heapTests marks work l) ≡ Not BrokenHeap
+  pub not-formed : enough marks work l ≡ true → wellFormed l ≡ false → admitted (heapTests marks work l) ≡ Not BrokenHeap
   unfolding admitted
   not-formed e f = rw (e, f)
 
-  is-ready : enough marks work l ≡ true → wellFormed l ≡ true → admitted (heapTests marks work l) ≡ Ready
+  pub is-ready : enough marks work l ≡ true → wellFormed l ≡ true → admitted (heapTests marks work l) ≡ Ready
   unfolding admitted
   is-ready e f = rw (e, f)
 
-not-zero : {r : Answer} (n : ℕ) → r ≡ refusedBy n → 1 ≤ n → r .number ≡ 0 → ⊥
+pub not-zero : {r : Answer} (n : ℕ) → r ≡ refusedBy n → 1 ≤ n → r .number ≡ 0 → ⊥
 not-zero n e h z = omega (arith, ap (λ (a : Answer). a .number) e)
 
 module _ (l : Lent) {out marks work : List ℕ} {r : Answer} {out′ marks′ work′ : List ℕ} (c : Writes l out marks work r out′ marks′ work′) where
-  abbrev text : List ℕ
+  abbrev pub text : List ℕ
   text = pageText (view l)
 
-  refused-by : {why : Refusal} → admitted (heapTests marks work l) ≡ Not why → r ≡ refusedBy (numberOf why)
+  pub refused-by : {why : Refusal} → admitted (heapTests marks work l) ≡ Not why → r ≡ refusedBy (numberOf why)
   refused-by e = ap (λ (a : Asked). a .answer) (c .told ∙ asking-not here nothing (marks ∷ work ∷ []) (heapTests marks work l) l (λ h. textAnswer (pageText h) out) e)
 
   module _ (e : admitted (heapTests marks work l) ≡ Ready) where
@@ -65,16 +65,16 @@ module _ (l : Lent) {out marks work : List ℕ} {r : Answer} {out′ marks′ wo
     out-is : out′ ≡ textOut text out
     out-is = c .page ∙ ap (λ (x : Entry). whether x (λ why. out) (textOut text out)) e
 
-    fits-answer : length text ≤ length out → r ≡ done (length text)
+    pub fits-answer : length text ≤ length out → r ≡ done (length text)
     fits-answer h = rw (le-leb (length text) (length out) h) at answer-is
 
-    fits-out : length text ≤ length out → out′ ≡ putText out 0 text
+    pub fits-out : length text ≤ length out → out′ ≡ putText out 0 text
     fits-out h = rw (le-leb (length text) (length out) h) at out-is
 
-    short-answer : length out < length text → r ≡ refusedBy 7
+    pub short-answer : length out < length text → r ≡ refusedBy 7
     short-answer h = rw (lt-leb (length text) (length out) h) at answer-is
 
-    short-out : length out < length text → out′ ≡ out
+    pub short-out : length out < length text → out′ ≡ out
     short-out h = rw (lt-leb (length text) (length out) h) at out-is
 
   -- a page was written: the heap is well formed, and its page stands at the start of the output

@@ -4,6 +4,7 @@ pub mod PageCalls
 pub mod HeapPageHeap
 pub mod PageHeapPage
 pub mod PageBound
+pub mod PageLength
 pub mod StrideZero
 pub mod TableLayouts
 pub mod ProvedTable
