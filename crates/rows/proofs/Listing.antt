@@ -66,7 +66,8 @@ module _ (W : ℕ) (row : List ℕ) where
       ∙ ap₂ _++_ (passing-ones W (getD row i 0) (i * W) (bitIn W row) (λ k l. bitIn-word W row i k l))
       (ap (λ (b : ℕ). passing (bitIn W row) b ((length row - (i + 1)) * W)) (sym (add-mul i 1 W ∙ ap (λ (k : ℕ). i * W + k) (one-mul W))))
 
-  whole : (k next : ℕ) → next ≡ getD row k 0 → after W row k ≡ leftover W row k next
+  -- a whole word
+  pub whole : (k next : ℕ) → next ≡ getD row k 0 → after W row k ≡ leftover W row k next
   unfolding leftover
   whole k next e = elim (decLt k (length row)) [
     | yes y ↦ after-word k y ∙ ap (λ (x : ℕ). onesFrom W x (k * W) ++ after W row (k + 1)) (sym e)
@@ -103,78 +104,3 @@ put-one d n v h = ap (λ (k : ℕ). set d k v) (sym (at-zero n)) ∙ copy-turn d
   where
     at-zero : (n : ℕ) → n + 0 ≡ n
     at-zero n = omega arith
-
--- the row listed so far: n bits in so many turns, at word i with `rest` of it not taken yet
-pub record Going (W : ℕ) (row out₀ out : List ℕ) (n turns i rest : ℕ) : Type 0 where
-  pub found : List ℕ
-  pub all : found ++ leftover W row i rest ≡ listed W row
-  pub count : n ≡ length found
-  pub wrote : out ≡ put out₀ 0 found (length found)
-  pub same : length out ≡ length out₀
-  pub turned : turns ≡ i + n
-  pub inside : i ≤ length row
-  pub past : length row ≤ i → rest ≡ 0
-
-module _ (W : ℕ) (row : List ℕ) where
-  pub begin : (out : List ℕ) (rest : ℕ) → rest ≡ getD row 0 0 → Going W row out out 0 0 0 rest
-  begin out rest e = record {
-    found = [];
-    all = all-left W row rest e;
-    count = refl;
-    wrote = put-none out 0 [];
-    same = refl;
-    turned = refl;
-    inside = omega arith;
-    past = λ h. e ∙ List·getD-eq-default row 0 h;
-  }
-
-  module _ (out₀ out : List ℕ) (n turns i rest : ℕ) (g : Going W row out₀ out n turns i rest) where
-    -- how much is left of the list
-    pub to-go : n + length (leftover W row i rest) ≡ length (listed W row)
-    to-go = ap (λ (k : ℕ). k + length (leftover W row i rest)) (g .count) ∙ sym (length-append (g .found) (leftover W row i rest)) ∙ ap length (g .all)
-
-    pub passed : (next : ℕ) → i < length row → rest ≡ 0 → next ≡ getD row (i + 1) 0 → Going W row out₀ out n (turns + 1) (i + 1) next
-    passed next h z e = record {
-      found = g .found;
-      all = ap (λ (l : List ℕ). g .found ++ l) (sym (pass-word W row i rest next z e)) ∙ g .all;
-      count = g .count;
-      wrote = g .wrote;
-      same = g .same;
-      turned = omega (arith, g .turned);
-      inside = omega arith;
-      past = λ k. e ∙ List·getD-eq-default row 0 k;
-    }
-
-    module _ (p : 0 < rest) (small : rest < 2 ^ W) where
-      lowest : leftover W row i rest ≡ (i * W + trailingZeros W rest) ∷ leftover W row i (bitAnd rest (rest - 1))
-      lowest = take-bit W row i rest p small
-
-      pub room : length (listed W row) ≤ length out₀ → n < length out
-      room h = omega (arith, to-go, ap length lowest, g .same)
-
-      pub took : (v : ℕ) → i < length row → length (listed W row) ≤ length out₀ → v ≡ i * W + trailingZeros W rest
-          → Going W row out₀ (set out n v) (n + 1) (turns + 1) i (bitAnd rest (rest - 1))
-      took v h enough e =
-          let found : List ℕ = g .found in
-          let one : List ℕ = v ∷ [] in record {
-            found = found ++ one;
-            all = append-assoc found one (leftover W row i (bitAnd rest (rest - 1))) ∙ ap (λ (x : ℕ). found ++ x ∷ leftover W row i (bitAnd rest (rest - 1))) e
-                ∙ ap (λ (l : List ℕ). found ++ l) (sym lowest) ∙ g .all;
-            count = omega (arith, g .count, length-append found one);
-            wrote = put-one out n v (room enough) ∙ ap₂ (λ (l : List ℕ) (m : ℕ). put l m one 1) (g .wrote) (g .count ∙ sym (zero-add (length found))) ∙ put-put out₀ 0 found one (omega (arith, room enough, g .count, g .same));
-            same = length-set out n v ∙ g .same;
-            turned = omega (arith, g .turned);
-            inside = g .inside;
-            past = λ k. absurd (omega arith);
-          }
-
-    -- at the end all is listed
-    pub finished : length row ≤ i → (n ≡ length (listed W row)) × (turns ≡ length row + length (listed W row)) × (out ≡ put out₀ 0 (listed W row) (length (listed W row)))
-    finished h =
-        let none : leftover W row i rest ≡ [] = none-left W row i rest h (g .past h) in
-        let whole : g .found ≡ listed W row = sym (append-nil (g .found)) ∙ ap (λ (l : List ℕ). g .found ++ l) (sym none) ∙ g .all in
-        let k : n ≡ length (listed W row) = g .count ∙ ap length whole in (
-          k,
-          omega (arith, g .turned, g .inside),
-          g .wrote ∙ ap (λ (l : List ℕ). put out₀ 0 l (length l)) whole,
-        )
