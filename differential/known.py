@@ -1,7 +1,7 @@
 """The named differences between the port and the Rust (docs/DIFFERENCES.md), as the comparison meets them.
 
 Most are kept out of the scripts by the generator: `OUTSIDE` names these with their reason, and a script from elsewhere that meets one is told so. `SAME` are answers
-that are written in two ways and mean the same."""
+that are written in two ways and mean the same, or that the port tells apart."""
 
 OUTSIDE = {
     "stride 0": "the Rust walks an array of stride 0 `count` times and may not end (`hang`); the port does not walk it. "
@@ -28,7 +28,12 @@ def pushed(command, oracle, replay):
     return command in ("objh", "valh", "slotroots") and number(oracle) == number(replay) == "13"
 
 
-SAME = {"partial output on 13": pushed}
+def stale(command, oracle, replay):
+    """Of a handle whose slot the heap has never had the port says never issued (19); the Rust has one answer, stale (4), for that and for an object that is gone."""
+    return command in ("resolve", "edit", "take", "free", "run") and (oracle, replay) == ("4", "19")
+
+
+SAME = {"partial output on 13": pushed, "never issued, in the Rust stale": stale}
 
 
 def outside(command, oracle, replay):

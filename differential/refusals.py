@@ -1,5 +1,5 @@
 #!/usr/bin/env python3
-"""Refusals that the Rust does not have: 1, 6, 8, 10, 14, 15, 17, 5 and 6 of a page, those of a script of calls, and the named differences. Their numbers come from document 01, by hand.
+"""Refusals that the Rust does not have: 1, 6, 8, 10, 14, 15, 17, 19, 5 and 6 of a page, those of a script of calls, and the named differences. Their numbers come from document 01, by hand.
 
     refusals.py --oracle PATH --replay PATH
 
@@ -39,9 +39,20 @@ def heaps():
     yield from asked(*HEAP) + refused("8", "alloc 0 0 0 -", "alloc 4 0 0 -", "alloc 255 0 0 -", f"alloc 0 0 0 {'00' * 11}") + asked("page")
     yield from refused("6", f"alloc 2 0 0 {'00' * 11}", f"edit {h(0, 1)} {'00' * 16} 0", f"edit {h(1, 1)} {'00' * 12} 0") + asked("page", "epoch")
     yield from refused("2", f"edit 0 {'00' * 17} 0") + refused("3", f"edit {h(0, 1, 2)} {'00' * 17} 0") + refused("4", f"edit {h(0, 2)} {'00' * 17} 0")
+    yield from refused("19", f"edit {h(2, 1)} {'00' * 17} 0")
     yield from asked(f"edit {h(0, 1)} {'00' * 15} 0", "alloc 2 0 0 -", "alloc 2 0 0 -", "page") + refused("6", "alloc 2 0 0 00") + asked("page", "alloc 2 0 0 -", "page")
     yield from refused("9", "reissue 4 7", f"reissue {U32} {U64}") + refused("14", "recycle 1,0", "recycle 2,2", "recycle 0,1,2,1") + asked("page", "epoch")
     yield from refused("1", "new 1 0 64") + asked("page", "new 3 1 0", "alloc 2 0 0 -", "page") + refused("6", "alloc 2 0 0 00") + asked("page")
+
+
+def never_issued():
+    """19 from the slot count on, whatever the generation and the number of slots lent, after 2 and 3; below it 4. A slot that comes to be is 4 from then on. Roots and seals are skipped."""
+    yield from asked("new 1 4 64")
+    for call in ("resolve {}", "take {}", "free {}", "edit {} 41 0"):
+        yield from refused("19", *[call.format(x) for x in (h(0, 1), h(0, 0), h(3, 1), h(4, 1), h(0xFFFFFF, U32))]) + refused("2", call.format(0)) + refused("3", *[call.format(x) for x in (h(0, 1, 2), h(4, 1, 0), h(4, 1, 255))])
+    yield from asked("page", "epoch", "alloc 2 0 0 41", "alloc 2 0 0 42", f"free {h(0, 1)}") + refused("4", f"resolve {h(0, 1)}", f"take {h(0, 2)}", f"free {h(1, 0)}", f"edit {h(1, 2)} 41 0")
+    yield from refused("19", f"resolve {h(2, 1)}", f"take {h(2, 0)}", f"free {h(3, 1)}", f"edit {h(5, 1)} 41 0") + asked("seal", "page", f"collect {h(2, 1)},{h(0xFFFFFF, 1)},{h(0, 1)},0,{h(1, 1, 2)} 2,3", "page", "epoch")
+    yield from asked("recycle -") + stopped("19", ["alloc,0,2,43", "alloc,0,2,44"], f"take,{h(3, 1)},0,;seal,0,0,;") + stopped("19", [], f"take,{h(9, 1)},0,;x;") + asked("page", "epoch")
 
 
 def scripts():
@@ -137,7 +148,7 @@ def differences():
     yield from refused("0 -", f"objh 7 {wide + to((1, 0))}")
 
 
-ALL = [heaps, scripts, pages, tables, functions, collections, differences]
+ALL = [heaps, never_issued, scripts, pages, tables, functions, collections, differences]
 
 
 def script(oracle):

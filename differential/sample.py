@@ -16,8 +16,8 @@ from compare import commands, kind
 from known import as_port
 from machine import Oracle
 
-# The answers that the Rust can give to each call, yes (`0 1`) and no (`0 0`) apart.
-RESOLVES = ["0", "2", "3", "4"]
+# The answers that the Rust can give to each call, yes (`0 1`) and no (`0 0`) apart; its stale is 19 or 4.
+RESOLVES = ["0", "2", "3", "19", "4"]
 YES_NO = ["0 0", "0 1"]
 ANSWERS = {
     "new": ["0"], "load": ["0"], "setepoch": ["0"], "alloc": ["0", "5"], "edit": RESOLVES, "write": ["0", "9"], "reissue": ["0"],

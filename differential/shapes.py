@@ -102,6 +102,8 @@ def scripts():
     yield from [script("seal,0,0,", take(1, 1), "take,0,0,", take(2, 1)), "page", "epoch", script(take(0, 1), take(0, 1), take(2, 1)), "page", script(take(2, 1), take(2, 2, 2)), "page"]
     yield from [script("alloc,0,2,"), "page", script("recycle,0,0,", "alloc,0,2,44", "alloc,4294967295,1,", "seal,0,0,", take(2, 3), "recycle,0,0,", "alloc,0,3,45"), "page", "epoch"]
     yield from [script(take(2, 5), take(1, 3), take(7, 1)), "page", "isplain 1", script(f"take,{U64},0,"), script(f"take,{h(0, 0)},0,"), "page", "epoch"]
+    # A slot that was never there.
+    yield from [script("seal,0,0,", take(3, 1), "recycle,0,0,"), "page", "epoch"]
     # Generations and the epoch at their ends.
     rows = [f"{U32},2,0,0,{U32},41", f"{U32},0,0,0,0,"]
     yield from [f"load 2 {page([0, U64, 4096, 0], rows, [1])} 64", f"setepoch {U64} {LOG}", script(take(0, U32, 0), "take,1,0,"), "page", "epoch"]

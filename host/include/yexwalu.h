@@ -48,7 +48,8 @@ enum {
     YEXWALU_FUNCTION = 15,
     YEXWALU_NO_MAP = 16,
     YEXWALU_PAGE = 17,
-    YEXWALU_SCRATCH = 18
+    YEXWALU_SCRATCH = 18,
+    YEXWALU_NEVER_ISSUED = 19
 };
 
 /* The kinds of objects. */
@@ -157,7 +158,7 @@ yexwalu_done yexwalu_alloc(
     uint8_t *marks, size_t marks_len,
     uint64_t *work, size_t work_len);
 
-/* Takes an object out of the heap; its bytes stand at the front of `out`. first: how many, second: its start. 18, 1, 2, 3, 4, 7. */
+/* Takes an object out of the heap; its bytes stand at the front of `out`. first: how many, second: its start. 18, 1, 2, 3, 19, 4, 7. */
 yexwalu_done yexwalu_take(
     yexwalu_header heap,
     uint32_t *narrow, size_t narrow_len,
@@ -168,7 +169,7 @@ yexwalu_done yexwalu_take(
     uint8_t *marks, size_t marks_len,
     uint64_t *work, size_t work_len);
 
-/* As take, and nobody gets the bytes. 18, 1, 2, 3, 4. */
+/* As take, and nobody gets the bytes. 18, 1, 2, 3, 19, 4. */
 yexwalu_done yexwalu_free(
     yexwalu_header heap,
     uint32_t *narrow, size_t narrow_len,
@@ -246,7 +247,7 @@ yexwalu_answer yexwalu_live(
     uint8_t *marks, size_t marks_len,
     uint64_t *work, size_t work_len);
 
-/* first: the slot that a handle leads to. 18, 1, 2, 3, 4. */
+/* first: the slot that a handle leads to. 18, 1, 2, 3, 19, 4. */
 yexwalu_answer yexwalu_resolve(
     yexwalu_header heap,
     const uint32_t *narrow, size_t narrow_len,
@@ -299,7 +300,7 @@ yexwalu_done yexwalu_reissue(
     uint8_t *marks, size_t marks_len,
     uint64_t *work, size_t work_len);
 
-/* New bytes and a new start for an object. first: its slot. 18, 1, 2, 3, 4, 6. */
+/* New bytes and a new start for an object. first: its slot. 18, 1, 2, 3, 19, 4, 6. */
 yexwalu_done yexwalu_edit(
     yexwalu_header heap,
     uint32_t *narrow, size_t narrow_len,
@@ -483,7 +484,7 @@ yexwalu_done yexwalu_collect_joined(
 /*
  * Runs a script of calls, one a line, on a heap that is checked once: `alloc,TYPE,KIND,HEX`, `take,HANDLE,0,`, `seal,0,0,` and `recycle,0,0,`, each with byte 10
  * at its end. The first line that is refused, or is no such line (17), ends it; what the lines before it did stays. `room` is scratch besides, at least as long as the
- * pool. 18, 1, then 17, or 8, 6, 5 of an alloc and 2, 3, 4 of a take.
+ * pool. 18, 1, then 17, or 8, 6, 5 of an alloc and 2, 3, 19, 4 of a take.
  */
 yexwalu_done yexwalu_run(
     yexwalu_header heap,

@@ -320,7 +320,7 @@ impl Heap {
         }
     }
 
-    /// Takes an object out of the heap. Its slot goes into quarantine, until `recycle`. It is refused where the handle does not lead to one (2, 3, 4).
+    /// Takes an object out of the heap. Its slot goes into quarantine, until `recycle`. It is refused where the handle does not lead to one (2, 3, 19, 4).
     pub fn take(&mut self, handle: Handle) -> Result<Object, Refusal> {
         let mut bytes = vec![0; self.size_of(handle.index() as usize)];
         let (size, start) = self.take_into(handle, &mut bytes)?;
@@ -347,7 +347,7 @@ impl Heap {
         self.done(done).map(|_| ())
     }
 
-    /// New bytes and a new start for an object; the answer is its slot. Its handle stays. It is refused where the handle does not lead to an object (2, 3, 4) or the pool has too few bytes left (6).
+    /// New bytes and a new start for an object; the answer is its slot. Its handle stays. It is refused where the handle does not lead to an object (2, 3, 19, 4) or the pool has too few bytes left (6).
     ///
     /// ```
     /// use yexwalu::{Heap, Kind, Refusal};
@@ -532,7 +532,17 @@ impl Heap {
         Ok(Heap::pair(ask!(self, yexwalu_live()))?.0 as usize)
     }
 
-    /// The slot that a handle leads to. The null handle (2), one of another heap (3) and one whose object is gone (4) are refused.
+    /// The slot that a handle leads to. The null handle (2), one of another heap (3), one whose slot this heap has never had (19) and one whose object is gone (4) are refused.
+    ///
+    /// ```
+    /// use yexwalu::{Handle, Heap, Kind, Refusal};
+    /// let mut heap = Heap::new(1, 64, 4096)?;
+    /// let gone = heap.alloc(Kind::Bytes, b"AB")?;
+    /// heap.free(gone)?;
+    /// assert_eq!(heap.resolve(gone), Err(Refusal::Stale));
+    /// assert_eq!(heap.resolve(Handle(gone.0 + (1 << 32))), Err(Refusal::NeverIssued));
+    /// # Ok::<(), Refusal>(())
+    /// ```
     pub fn resolve(&self, handle: Handle) -> Result<u32, Refusal> {
         Ok(Heap::pair(ask!(self, yexwalu_resolve(handle.0)))?.0 as u32)
     }

@@ -1,4 +1,4 @@
-//! Lent lengths one short of each size, for every list, scratch and output of every call, and other refusals: 18, 1, 7, 8, 5, 6, 9, 10, 13, 14, 15. After each, what was lent is as
+//! Lent lengths one short of each size, for every list, scratch and output of every call, and other refusals: 18, 1, 2, 3, 19, 4, 7, 8, 5, 6, 9, 10, 13, 14, 15. After each, what was lent is as
 //! it was.
 mod common;
 use common::sample;
@@ -253,6 +253,56 @@ fn an_object_beyond_all_memory_is_1() {
             assert_eq!(heap.write_page(), Err(Refusal::BrokenHeap));
         }
     }
+}
+
+// The calls on a handle, each one with the output that it needs, and a slot's bytes that the pool has no room for.
+const ON_A_HANDLE: [(&str, fn(&mut Heap, Handle) -> Result<(), Refusal>); 4] = [
+    ("resolve", |h, x| h.resolve(x).map(drop)),
+    ("edit", |h, x| h.edit(x, &[0; 999], 0).map(drop)),
+    ("take", |h, x| h.take_into(x, &mut []).map(drop)),
+    ("free", |h, x| h.free(x)),
+];
+
+#[test]
+fn a_handle_that_leads_nowhere_is_2_3_19_or_4() {
+    let (heap, _) = sample(8, 64);
+    let slots = heap.slots().unwrap() as u64;
+    assert_eq!(slots, 5);
+    let handle = |tag: u64, index: u64, generation: u64| Handle(tag << 56 | index << 32 | generation);
+    let mut why = vec![(Handle::NULL, Refusal::Null), (handle(0, 9, 1), Refusal::WrongHeap)];
+    // another tag comes first, whatever the index
+    why.extend([0, 4, 5, 0xff_ffff].map(|i| (handle(8, i, 1), Refusal::WrongHeap)));
+    // from the slot count on, though there are S = 8 slots of memory; whatever the generation
+    for index in [5, 6, 7, 8, 9, 0xff_ffff] {
+        why.extend([0, 1, 2, 0xffff_ffff].map(|g| (handle(7, index, g), Refusal::NeverIssued)));
+    }
+    // below it: a free slot, a quarantined one, and other generations of live ones
+    why.extend([(0, 1), (0, 2), (1, 1), (1, 2), (2, 0), (2, 2), (4, 2)].map(|(i, g)| (handle(7, i, g), Refusal::Stale)));
+    for (handle, why) in why {
+        for (name, call) in ON_A_HANDLE {
+            let mut after = heap.clone();
+            assert_eq!(call(&mut after, handle), Err(why), "{name} {handle}");
+            assert!(after == heap && after.scratch() == Scratch::zeros(8), "{name} {handle}");
+        }
+    }
+}
+
+#[test]
+fn a_slot_that_comes_to_be_is_stale_and_not_never_issued() {
+    let mut heap = Heap::new(7, 2, 0).unwrap();
+    let first = Handle(7 << 56 | 1);
+    assert_eq!(heap.resolve(first), Err(Refusal::NeverIssued));
+    assert_eq!(heap.alloc(Kind::Bytes, b""), Ok(first));
+    heap.free(first).unwrap();
+    assert_eq!(heap.resolve(first), Err(Refusal::Stale));
+}
+
+#[test]
+fn roots_and_seals_that_lead_nowhere_are_skipped() {
+    let (mut heap, all) = sample(8, 64);
+    let roots = [Handle::NULL, Handle(8 << 56 | 2 << 32 | 1), Handle(7 << 56 | 7 << 32 | 1), Handle(7 << 56 | 1 << 32 | 1), all[0]];
+    heap.collect(&plain(), &roots, &[]).unwrap();
+    assert!(heap.resolve(all[0]).is_ok());
 }
 
 #[test]

@@ -79,18 +79,18 @@ swept-tag h marks pins = all-dropped marks h .tag
 pub resolved-live : (h : State) (x i : ℕ) → resolve h x ≡ ok i → (live (slotAt h i) ≡ true) × (indexOf x ≡ i)
 unfolding resolve
 resolved-live h x i e =
-    let r : Resolves (h .tag) (λ j. live (slotAt h j)) (λ j. slotAt h j .generation) x i = resolve-ok (h .tag) (λ j. live (slotAt h j)) (λ j. slotAt h j .generation) x i e in
+    let r : Resolves (h .tag) (length (h .slots)) (λ j. live (slotAt h j)) (λ j. slotAt h j .generation) x i = resolve-ok (h .tag) (length (h .slots)) (λ j. live (slotAt h j)) (λ j. slotAt h j .generation) x i e in
     (r .alive, r .index)
 
-same-resolve : (h h′ : State) (x : ℕ) → h′ .tag ≡ h .tag → slotAt h′ (indexOf x) ≡ slotAt h (indexOf x) → resolve h′ x ≡ resolve h x
+same-resolve : (h h′ : State) (x : ℕ) → h′ .tag ≡ h .tag → length (h′ .slots) ≡ length (h .slots) → slotAt h′ (indexOf x) ≡ slotAt h (indexOf x) → resolve h′ x ≡ resolve h x
 unfolding resolve
-same-resolve h h′ x et es =
-    ap (λ (t : ℕ). resolveBy t (λ i. live (slotAt h′ i)) (λ i. slotAt h′ i .generation) x) et
-    ∙ resolve-same (h .tag) (λ i. live (slotAt h′ i)) (λ i. live (slotAt h i)) (λ i. slotAt h′ i .generation) (λ i. slotAt h i .generation) x (ap live es) (ap (λ (s : Slot). s .generation) es)
+same-resolve h h′ x et en es =
+    ap (λ (t : ℕ). resolveBy t (length (h′ .slots)) (λ i. live (slotAt h′ i)) (λ i. slotAt h′ i .generation) x) et
+    ∙ resolve-same (h .tag) (length (h′ .slots)) (length (h .slots)) (λ i. live (slotAt h′ i)) (λ i. live (slotAt h i)) (λ i. slotAt h′ i .generation) (λ i. slotAt h i .generation) x en (ap live es) (ap (λ (s : Slot). s .generation) es)
 
 module _ (h : State) (marks pins : List ℕ) (x i : ℕ) where
   same-marked : 0 < getD marks (indexOf x) 0 → resolve (swept h marks pins) x ≡ resolve h x
-  same-marked m = same-resolve h (swept h marks pins) x (swept-tag h marks pins) (survivor h marks pins (indexOf x) m)
+  same-marked m = same-resolve h (swept h marks pins) x (swept-tag h marks pins) (swept-count h marks pins) (survivor h marks pins (indexOf x) m)
 
   -- a handle that resolves afterwards did so before, and its slot is marked
   pub resolved-before : resolve (swept h marks pins) x ≡ ok i → (resolve h x ≡ ok i) × (0 < getD marks i 0)

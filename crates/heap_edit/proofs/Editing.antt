@@ -16,7 +16,7 @@ use Rattle.refusal.specs.declared.Reply.{Reply}
 use Rattle.refusal.specs.declared.Reply.the-variants.{Is, Not}
 use Rattle.handle.specs.Handle.{told, replied}
 use Rattle.handle.specs.declared.Resolved.{Resolved}
-use Rattle.handle.specs.declared.Resolved.the-variants.{Null, WrongHeap, Stale, At}
+use Rattle.handle.specs.declared.Resolved.the-variants.{Null, WrongHeap, NeverIssued, Stale, At}
 use Rattle.handle.proofs.Resolved.{the-type as resolved-type}
 use Rattle.heap.specs.State.{Slot, slotAt, dataSize}
 use Rattle.heap.specs.Lent.{Lent, lent, stored, view, slotCount, poolSize}
@@ -44,7 +44,7 @@ pub placed-raised : {l l′ : Lent} {i g k t s w w′ : ℕ} {bytes : List ℕ} 
 placed-raised {l} {l′} {i} {g} {k} {t} {s} {w} {w′} {bytes} done e = subst (λ (v : ℕ). PlacedIn l l′ i g k t s v bytes) e done
 
 -- what `resolve` found in the heap that lies there
-pub found : (l : Lent) → wellFormed l ≡ true → (x : ℕ) (r : Resolved) → told r ≡ resolveBy (l .header .tag) (liveIn (l .header .slots) (l .kind)) (λ i. getD (l .generation) i 0) x → told r ≡ resolve (view l) x
+pub found : (l : Lent) → wellFormed l ≡ true → (x : ℕ) (r : Resolved) → told r ≡ resolveBy (l .header .tag) (l .header .slots) (liveIn (l .header .slots) (l .kind)) (λ i. getD (l .generation) i 0) x → told r ≡ resolve (view l) x
 found l w x r e = e ∙ resolves l w x
 
 module _ (l : Lent) (w : wellFormed l ≡ true) (x : ℕ) (bytes : List ℕ) (first : ℕ) where
@@ -55,15 +55,16 @@ module _ (l : Lent) (w : wellFormed l ≡ true) (x : ℕ) (bytes : List ℕ) (fi
   edit-no n e = edit-none n (edit-unresolved (poolSize l) (view l) x bytes first n e)
 
   -- an answer of `resolve` that is no slot is that refusal of `edit`
-  pub edit-unfound : {reply : Reply} (r : Resolved) → OneOf (0 ∷ 1 ∷ 2 ∷ []) (tagOf resolved-type r) → told r ≡ resolve (view l) x → reply ≡ replied r
+  pub edit-unfound : {reply : Reply} (r : Resolved) → OneOf (0 ∷ 1 ∷ 2 ∷ 3 ∷ []) (tagOf resolved-type r) → told r ≡ resolve (view l) x → reply ≡ replied r
       → Tells here nothing l l reply (edit (poolSize l) (view l) x bytes first)
   edit-unfound {reply} r k e q = subst (λ (y : Reply). Tells here nothing l l y (edit (poolSize l) (view l) x bytes first)) (sym q) (go r k e)
     where
-      go : (r : Resolved) → OneOf (0 ∷ 1 ∷ 2 ∷ []) (tagOf resolved-type r) → told r ≡ resolve (view l) x → Tells here nothing l l (replied r) (edit (poolSize l) (view l) x bytes first)
+      go : (r : Resolved) → OneOf (0 ∷ 1 ∷ 2 ∷ 3 ∷ []) (tagOf resolved-type r) → told r ≡ resolve (view l) x → Tells here nothing l l (replied r) (edit (poolSize l) (view l) x bytes first)
       go Null k e = tells-not here nothing (edit-no 2 (sym e))
       go WrongHeap k e = tells-not here nothing (edit-no 3 (sym e))
+      go NeverIssued k e = tells-not here nothing (edit-no 19 (sym e))
       go Stale k e = tells-not here nothing (edit-no 4 (sym e))
-      go (At i) k e = absurd (miss (0 ∷ 1 ∷ 2 ∷ []) 3 tt k)
+      go (At i) k e = absurd (miss (0 ∷ 1 ∷ 2 ∷ 3 ∷ []) 4 tt k)
 
   module _ {r : Resolved} {i : ℕ} (s : told r ≡ resolve (view l) x) (f : r ≡ At i) where
     at : resolve (view l) x ≡ ok i

@@ -68,7 +68,7 @@ module _ (S P : ℕ) (h : State) (k : Sound S P h) (i : ℕ) (alive : live (slot
 -- a handle leads to a live slot
 pub resolved-live : (h : State) (x i : ℕ) → resolve h x ≡ ok i → live (slotAt h i) ≡ true
 unfolding resolve
-resolved-live h x i e = resolve-ok (h .tag) (λ i. live (slotAt h i)) (λ i. slotAt h i .generation) x i e .alive
+resolved-live h x i e = resolve-ok (h .tag) (length (h .slots)) (λ i. live (slotAt h i)) (λ i. slotAt h i .generation) x i e .alive
 
 -- a change that is one of these is sound
 keeps : {A : Type 0} (S P : ℕ) (a b : Changed A) → a ≡ b → Sound S P (b .heap) → Sound S P (a .heap)

@@ -127,8 +127,8 @@ module _ (h : Heap) (narrow wide pool : List ℕ) (wf : wellFormed (lent h narro
   unfolding resolveIn resolve view
   leads-same x =
       ap found
-      (resolve-same (l .header .tag) (liveIn (l .header .slots) (l .kind)) (λ i. live (slotAt (view l) i)) (λ i. getD (l .generation) i 0) (λ i. slotAt (view l) i .generation) x
-      (live-same (indexOf x)) (generation-same (indexOf x)))
+      (resolve-same (l .header .tag) (l .header .slots) (length (view l .slots)) (liveIn (l .header .slots) (l .kind)) (λ i. live (slotAt (view l) i)) (λ i. getD (l .generation) i 0) (λ i. slotAt (view l) i .generation) x
+      (facts .slot-count) (live-same (indexOf x)) (generation-same (indexOf x)))
 
   module _ (T : Table) where
     shown-same : (i : ℕ) → shownIn T S narrow wide pool i ≡ shown T (view l) i

@@ -157,7 +157,7 @@ fn random_calls_answer_as_the_rust() {
         }
         same(&mut oracle, &run.heap, &format!("seed {seed}"));
     }
-    let found = &["0", "2", "3", "4"];
+    let found = &["0", "19", "2", "3", "4"];
     oracle.saw(&[
         ("alloc", &["0", "5"]),
         ("take", found),
