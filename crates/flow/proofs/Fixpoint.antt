@@ -1,12 +1,13 @@
 -- The dataflow as a computation gives exactly the live registers, and the passes end: as many as there are blocks are enough. Assumes nothing.
 use mathlib.Core.Path.{_≡_, sym, ap, ap₂, _∙_, subst}
 use mathlib.Core.Logic.{_⊎_, inl, inr, ⊎-elim, _↔_}
-use mathlib.Core.Bool.{Bool, true, false, cond, not, _&&_, _||_, true≢false, false≢true}
+use mathlib.Core.Bool.{Bool, true, false, not, _&&_, _||_, true≢false, false≢true}
 use mathlib.Core.List.{List, [], _∷_}
 use Prim.Native.Nat.{ℕ, zero, suc, _+_, _-_, _≤_, _<_}
 use native.Mathlib.Omega.{arith}
 use native.Mathlib.Decide.{ℕ-discrete}
 use lib.ListN.{length}
+use Rattle.word.specs.Choice.{if_then_else_}
 use Rattle.flow.specs.Function.{Function, start, end, Live}
 use Rattle.flow.specs.Dataflow.{into, Closed, Sound, passOf, still, passes, liveIn, liveBefore}
 use Rattle.word.proofs.Bools.{or-cases, or-left, or-right, and-both, either, bool-ext}
@@ -15,13 +16,13 @@ use Rattle.flow.proofs.Laws.{Disjoint, step-sound, exact, least}
 -- how many of the first n blocks are not in X
 abbrev missing : (ℕ → Bool) → ℕ → ℕ
 missing X zero = 0
-missing X (suc n) = missing X n + cond (X n) 0 1
+missing X (suc n) = missing X n + if_then_else_ (X n) 0 1
 
 missing-le : (X : ℕ → Bool) (n : ℕ) → missing X n ≤ n
 missing-le X zero = omega arith
 missing-le X (suc n) = go (missing-le X n) (either (X n))
   where
-    go : missing X n ≤ n → (X n ≡ true) ⊎ (X n ≡ false) → missing X n + cond (X n) 0 1 ≤ suc n
+    go : missing X n ≤ n → (X n ≡ true) ⊎ (X n ≡ false) → missing X n + if_then_else_ (X n) 0 1 ≤ suc n
     go h (inl e) = rw e (omega arith)
     go h (inr e) = rw e (omega arith)
 
@@ -30,7 +31,7 @@ missing-more : (X Y : ℕ → Bool) → ((b : ℕ) → X b ≡ true → Y b ≡ 
 missing-more X Y sub zero = omega arith
 missing-more X Y sub (suc n) = go (missing-more X Y sub n) (either (X n)) (either (Y n))
   where
-    go : missing Y n ≤ missing X n → (X n ≡ true) ⊎ (X n ≡ false) → (Y n ≡ true) ⊎ (Y n ≡ false) → missing Y n + cond (Y n) 0 1 ≤ missing X n + cond (X n) 0 1
+    go : missing Y n ≤ missing X n → (X n ≡ true) ⊎ (X n ≡ false) → (Y n ≡ true) ⊎ (Y n ≡ false) → missing Y n + if_then_else_ (Y n) 0 1 ≤ missing X n + if_then_else_ (X n) 0 1
     go h (inl x) y = rw (x, sub n x) (omega arith)
     go h (inr x) (inl y) = rw (x, y) (omega arith)
     go h (inr x) (inr y) = rw (x, y) (omega arith)
@@ -40,7 +41,7 @@ missing-less X Y sub zero b l x y = absurd (omega arith)
 missing-less X Y sub (suc n) b l x y = go (λ k. missing-less X Y sub n b k x y) (ℕ-discrete b n) (either (X n)) (either (Y n))
   where
     go : (b < n → missing Y n < missing X n) → Dec (b ≡ n) → (X n ≡ true) ⊎ (X n ≡ false) → (Y n ≡ true) ⊎ (Y n ≡ false)
-        → missing Y n + cond (Y n) 0 1 < missing X n + cond (X n) 0 1
+        → missing Y n + if_then_else_ (Y n) 0 1 < missing X n + if_then_else_ (X n) 0 1
     go rec (yes e) u v =
         let x′ : X n ≡ false = ap X (sym e) ∙ x in
         let y′ : Y n ≡ true = ap Y (sym e) ∙ y in
@@ -55,7 +56,7 @@ none-missing X (suc n) h b l = go (λ k. none-missing X n (omega arith) b k) (�
   where
     go : (b < n → X b ≡ true) → Dec (b ≡ n) → (X n ≡ true) ⊎ (X n ≡ false) → X b ≡ true
     go rec (yes e) (inl x) = ap X e ∙ x
-    go rec (yes e) (inr x) = let z : missing X n + 1 ≤ 0 = subst (λ (u : Bool). missing X n + cond u 0 1 ≤ 0) x h in absurd (omega arith)
+    go rec (yes e) (inr x) = let z : missing X n + 1 ≤ 0 = subst (λ (u : Bool). missing X n + if_then_else_ u 0 1 ≤ 0) x h in absurd (omega arith)
     go rec (no e) x = rec (omega arith)
 
 module _ (f : Function) (r : ℕ) where

@@ -1,7 +1,7 @@
 -- Lists of numbers: what passes a test, rising; a rising list is known by its members; and a test of some entry. Assumes nothing.
 use mathlib.Core.Path.{_≡_, refl, sym, ap, ap₂, _∙_}
 use mathlib.Core.Logic.{_⊎_, ⊎-elim, _↔_}
-use mathlib.Core.Bool.{Bool, true, false, cond, _&&_, _||_, true≢false, false≢true}
+use mathlib.Core.Bool.{Bool, true, false, _&&_, _||_, true≢false, false≢true}
 use mathlib.Core.List.{List, [], _∷_}
 use Prim.Native.Nat.{ℕ, zero, suc, _+_, _-_, _≤_, _<_}
 use native.Mathlib.Omega.{arith}
@@ -9,10 +9,10 @@ use native.Mathlib.Decide.{ℕ-discrete, decLt}
 use lib.ListN.{length, getD}
 use lib.Dec.{ltb, eqb}
 use borrow.Author.Tests.{eqb-true, ltb-true, eq-eqb, ne-eqb, lt-ltb}
+use Rattle.word.specs.Choice.{if_then_else_}
 use Rattle.word.specs.Lists.{all}
 use Rattle.word.specs.Ones.{keep, passing}
-use Rattle.flow.specs.Function.{has, some, rising}
-use Rattle.flow.specs.Dataflow.{sift}
+use Rattle.flow.specs.Function.{has, some, sift, rising}
 use Rattle.word.proofs.Bools.{or-cases, or-left, or-right, and-both, and-false, both-and}
 
 -- ---- what passes
@@ -153,7 +153,7 @@ has-sift t (x ∷ l) r = go (has-sift t l r) (t x) refl (ℕ-discrete x r)
     none : (a b c : Bool) → a ≡ false → a && c ≡ a && (b || c)
     none a b c p = rw p
 
-    go : has (sift t l) r ≡ t r && has l r → (y : Bool) → t x ≡ y → Dec (x ≡ r) → has (cond y (x ∷ sift t l) (sift t l)) r ≡ t r && (eqb x r || has l r)
+    go : has (sift t l) r ≡ t r && has l r → (y : Bool) → t x ≡ y → Dec (x ≡ r) → has (if_then_else_ y (x ∷ sift t l) (sift t l)) r ≡ t r && (eqb x r || has l r)
     go rec true e (yes d) = ap (λ (u : Bool). eqb x r || u) rec ∙ mid (t r) (eqb x r) (has l r) (ap t (sym d) ∙ e) (eq-eqb x r d)
     go rec true e (no d) = ap (λ (u : Bool). eqb x r || u) rec ∙ skip (t r) (eqb x r) (has l r) (ne-eqb x r d)
     go rec false e (yes d) = rec ∙ none (t r) (eqb x r) (has l r) (ap t (sym d) ∙ e)

@@ -1,11 +1,12 @@
 -- A function whose instructions name only registers of some classes has the same walks, and those of its live registers. Assumes nothing.
 use mathlib.Core.Path.{_≡_, refl, sym, ap, _∙_}
 use mathlib.Core.Logic.{inl, inr, _↔_}
-use mathlib.Core.Bool.{Bool, true, false, cond, _&&_}
+use mathlib.Core.Bool.{Bool, true, false, _&&_}
 use mathlib.Core.List.{List, [], _∷_}
 use Prim.Native.Nat.{ℕ, zero, suc, _-_}
 use lib.ListN.{length, getD}
 use lib.Dec.{ltb}
+use Rattle.word.specs.Choice.{if_then_else_}
 use Rattle.flow.specs.Function.{Function, Instruction, has, reads, writes, inst, start, end, exits, successors, Next, Walk, ReadFirst, Live}
 use Rattle.flow.specs.Dataflow.{asked, only, onlyAll, track}
 use Rattle.word.proofs.Bools.{and-both, both-and}
@@ -42,7 +43,7 @@ module _ (t : ℕ → Bool) (f : Function) where
 
   pub successors-track : (b : ℕ) → successors (track t f) b ≡ successors f b
   unfolding successors track
-  successors-track b = ap (λ (i : Instruction). cond (ltb (start f b) (end f b)) (exits f i (end f b)) []) (inst-track (end f b - 1))
+  successors-track b = ap (λ (i : Instruction). if_then_else_ (ltb (start f b) (end f b)) (exits f i (end f b)) []) (inst-track (end f b - 1))
 
   pub disjoint-track : Disjoint f → Disjoint (track t f)
   unfolding track

@@ -1,7 +1,7 @@
 -- What the tests of a function say of it, and the map by the dataflow: its rows are the lists of live registers. Assumes nothing.
 use mathlib.Core.Path.{_≡_, refl, sym, ap, _∙_, subst}
 use mathlib.Core.Logic.{_⊎_, ⊎-elim, _↔_}
-use mathlib.Core.Bool.{Bool, true, false, cond, not, true≢false, false≢true}
+use mathlib.Core.Bool.{Bool, true, false, not, true≢false, false≢true}
 use mathlib.Core.List.{List, [], _∷_}
 use Prim.Native.Nat.{ℕ, zero, suc, _+_, _-_, _≤_, _<_, min, max}
 use native.Mathlib.Omega.{arith}
@@ -9,6 +9,7 @@ use native.Mathlib.Decide.{decLt}
 use lib.ListN.{length, getD}
 use lib.Dec.{leb, ltb, eqb}
 use borrow.Author.Tests.{not-true, ltb-true, leb-true, lt-ltb, le-ltb, le-leb}
+use Rattle.word.specs.Choice.{if_then_else_}
 use Rattle.word.specs.Lists.{all}
 use Rattle.word.specs.Ones.{passing}
 use Rattle.flow.specs.Function.{Function, Block, has, some, inst, block, start, end, holds, safepoint, share, apart, inside, valid, Live, LiveList}
@@ -113,7 +114,7 @@ holder-at [] p i h = absurd (false≢true h)
 holder-at (b ∷ bs) p i h = go (holder-at bs p (suc i)) (holds p b) refl
   where
     go : (some (holds p) bs ≡ true → (k : ℕ) × (holder bs p (suc i) ≡ k + suc i) × (holds p (getD bs k none) ≡ true))
-        → (x : Bool) → holds p b ≡ x → (k : ℕ) × (cond x i (holder bs p (suc i)) ≡ k + i) × (holds p (getD (b ∷ bs) k none) ≡ true)
+        → (x : Bool) → holds p b ≡ x → (k : ℕ) × (if_then_else_ x i (holder bs p (suc i)) ≡ k + i) × (holds p (getD (b ∷ bs) k none) ≡ true)
     go rec true e = (0, omega arith, e)
     go rec false e =
         let (k, q, r) = rec (⊎-elim (λ u. absurd (false≢true (sym e ∙ u))) (λ u. u) (or-cases (holds p b) (some (holds p) bs) h)) in

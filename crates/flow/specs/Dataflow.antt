@@ -1,14 +1,15 @@
 -- The dataflow for one register r: gen and kill of a block, its live-out and live-in from a set X of blocks, and the backward walk inside it. What the
 -- code's inner functions compute, and by which the registers of a joined collection are computed. What is right is `Live` in Function.antt; that the dataflow
 -- gives exactly the live registers is proved in proofs/Fixpoint.antt.
-use mathlib.Core.Bool.{Bool, true, false, cond, not, _&&_, _||_}
+use mathlib.Core.Bool.{Bool, true, false, not, _&&_, _||_}
 use mathlib.Core.List.{List, [], _∷_}
 use mathlib.Core.Path.{_≡_}
 use Prim.Native.Nat.{ℕ, suc, _+_, _-_, _≤_, _<_}
 use lib.ListN.{length, getD}
 use lib.Dec.{ltb}
+use Rattle.word.specs.Choice.{if_then_else_}
 use Rattle.word.specs.Ones.{passing}
-use Rattle.flow.specs.Function.{Function, Instruction, Block, reads, writes, start, end, holds, successors, Live}
+use Rattle.flow.specs.Function.{Function, sift, Instruction, Block, reads, writes, start, end, holds, successors, Live}
 
 -- r before an instruction that reads it (or not) and writes it (or not), from r after it
 abbrev pub turn : Bool → Bool → Bool → Bool
@@ -66,7 +67,7 @@ still f r X (suc n) = still f r X n && (X n || not (into f r X n))
 -- passes until nothing changes, at most so many
 abbrev pub passes : Function → ℕ → ℕ → (ℕ → Bool) → ℕ → Bool
 passes f r ℕ.zero X = X
-passes f r (suc k) X = cond (still f r X (length (f .blocks))) X (passes f r k (passOf f r X))
+passes f r (suc k) X = if still f r X (length (f .blocks)) then X else passes f r k (passOf f r X)
 
 -- r is live into each of these blocks
 unfoldable pub liveIn : Function → ℕ → ℕ → Bool
@@ -79,7 +80,7 @@ liveBefore f b p r = back f r p (end f b - p) (out f (liveIn f r) b)
 -- the first block that holds instruction p; the blocks are counted from i
 abbrev pub holder : List Block → ℕ → ℕ → ℕ
 holder [] p i = i
-holder (b ∷ bs) p i = cond (holds p b) i (holder bs p (suc i))
+holder (b ∷ bs) p i = if holds p b then i else holder bs p (suc i)
 
 -- of m registers, those that are live before instruction p, rising
 unfoldable pub liveRow : ℕ → Function → ℕ → List ℕ
@@ -89,11 +90,6 @@ liveRow m f p = passing (liveBefore f (holder (f .blocks) p 0) p) 0 m
 
 abbrev pub asked : (ℕ → Bool) → List ℕ → ℕ → Bool
 asked t classes r = ltb r (length classes) && t (getD classes r 0)
-
--- those of a list that pass
-abbrev pub sift : (ℕ → Bool) → List ℕ → List ℕ
-sift t [] = []
-sift t (x ∷ xs) = cond (t x) (x ∷ sift t xs) (sift t xs)
 
 abbrev pub only : (ℕ → Bool) → Instruction → Instruction
 only t i = record { kind = i .kind; writes = sift t (i .writes); reads = sift t (i .reads); targets = i .targets }

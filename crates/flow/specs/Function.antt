@@ -2,11 +2,12 @@
 -- host is told"). No bit row and no dataflow is named here.
 use mathlib.Core.Path.{_≡_}
 use mathlib.Core.Logic.{_⊎_, _↔_}
-use mathlib.Core.Bool.{Bool, true, false, cond, not, _&&_, _||_}
+use mathlib.Core.Bool.{Bool, true, false, not, _&&_, _||_}
 use mathlib.Core.List.{List, [], _∷_}
 use Prim.Native.Nat.{ℕ, suc, _+_, _-_, _≤_, _<_, min, max}
 use lib.ListN.{length, getD}
 use lib.Dec.{leb, ltb, eqb}
+use Rattle.word.specs.Choice.{if_then_else_}
 use Rattle.word.specs.Lists.{all}
 use Rattle.word.specs.Ones.{passing}
 
@@ -60,26 +61,30 @@ writes f p r = ltb r (length (f .classes)) && has (inst f p .writes) r
 
 -- ---- where control goes
 
+-- those of the list that pass a test
+abbrev pub sift : (ℕ → Bool) → List ℕ → List ℕ
+sift t [] = []
+sift t (x ∷ xs) = if t x then (x ∷ sift t xs) else sift t xs
+
 -- "the targets that exist": the numbers of a list that are below n
 abbrev pub existing : ℕ → List ℕ → List ℕ
-existing n [] = []
-existing n (t ∷ ts) = cond (ltb t n) (t ∷ existing n ts) (existing n ts)
+existing n ts = sift (λ t. ltb t n) ts
 
 -- "the first nonempty block that starts at this one's end", pc: a list of one or none; the blocks are counted from i
 abbrev pub firstAt : List Block → ℕ → ℕ → List ℕ
 firstAt [] pc i = []
-firstAt (b ∷ bs) pc i = cond (eqb (b .start) pc && ltb (b .start) (b .end)) (i ∷ []) (firstAt bs pc (suc i))
+firstAt (b ∷ bs) pc i = if (eqb (b .start) pc && ltb (b .start) (b .end)) then (i ∷ []) else firstAt bs pc (suc i)
 
 -- where a block whose last instruction is i and whose end is e goes on: "2 to 4 to the targets that exist, 5 and 6 nowhere, others to the first
 -- nonempty block that starts at this one's end"
 abbrev pub exits : Function → Instruction → ℕ → List ℕ
 exits f i e =
-    cond (leb 2 (i .kind) && leb (i .kind) 4) (existing (length (f .blocks)) (i .targets))
-    (cond (leb 5 (i .kind) && leb (i .kind) 6) [] (firstAt (f .blocks) e 0))
+    if (leb 2 (i .kind) && leb (i .kind) 4) then existing (length (f .blocks)) (i .targets)
+    else (if (leb 5 (i .kind) && leb (i .kind) 6) then [] else firstAt (f .blocks) e 0)
 
 -- "Only a block's last instruction leaves it"; "Empty blocks (end not above start) have no successors."
 unfoldable pub successors : Function → ℕ → List ℕ
-successors f b = cond (ltb (start f b) (end f b)) (exits f (inst f (end f b - 1)) (end f b)) []
+successors f b = if ltb (start f b) (end f b) then exits f (inst f (end f b - 1)) (end f b) else []
 
 -- ---- walks
 

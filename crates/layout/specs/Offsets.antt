@@ -12,7 +12,7 @@ use Rattle.layout.specs.Layout.{under, usedBy, layoutAt, layoutOf}
 use Rattle.layout.specs.declared.Lay.{Lay}
 use Rattle.layout.specs.declared.Lay.the-variants.{Laid, Malformed, TooLarge}
 use Rattle.layout.specs.declared.Answer.{Answer}
-use Rattle.layout.specs.declared.Answer.the-variants.{Layout, BadDesc, OverSize, Short}
+use Rattle.layout.specs.declared.Answer.the-variants.{Layout, Malformed as NotFormed, TooLarge as NotFitting, ShortList}
 
 abbrev pub ifLaid : Lay → (ℕ → ℕ → ℕ → List ℕ) → List ℕ
 ifLaid (Laid s a st n u) f = f s a u
@@ -55,9 +55,9 @@ pub record Values : Type 0 where
 -- each answer's number and values
 abbrev pub told : Answer → Result Values
 told (Layout s a st n u k) = ok (record { size = s; align = a; stride = st; count = n; used = u; offsets = k })
-told BadDesc = refused 11
-told OverSize = refused 12
-told Short = refused 7
+told NotFormed = refused 11
+told NotFitting = refused 12
+told ShortList = refused 7
 
 -- a layout with k offsets asked of a list of so many places
 abbrev pub listedIn : Lay → ℕ → ℕ → Result Values

@@ -46,9 +46,9 @@ pub enum Answer {
         used: usize,
         offsets: usize,
     },
-    BadDesc,
-    OverSize,
-    Short,
+    Malformed,
+    TooLarge,
+    ShortList,
 }
 
 // The fields of a record, the first and how many, if all are scalars without constants.
@@ -555,8 +555,8 @@ fn layout_any(
 {
     let l = layout_in(types, fields, consts, bytes, t, desc, 64);
     match l {
-        Lay::Malformed => Answer::BadDesc,
-        Lay::TooLarge => Answer::OverSize,
+        Lay::Malformed => Answer::Malformed,
+        Lay::TooLarge => Answer::TooLarge,
         Lay::Laid {
             size,
             align,
@@ -576,7 +576,7 @@ fn layout_any(
                 };
             };
             if out.len() < n {
-                return Answer::Short;
+                return Answer::ShortList;
             }
             write_offsets(types, fields, consts, bytes, first, n, desc, out);
             Answer::Layout {

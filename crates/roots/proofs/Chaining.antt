@@ -1,6 +1,6 @@
 -- Chains of the blocks by their start or by their end: how they are made, the last block first, and how a block is looked for. Assumes nothing.
 use mathlib.Core.Path.{_≡_, refl, sym, ap, _∙_, subst}
-use mathlib.Core.Bool.{Bool, cond}
+use mathlib.Core.Bool.{Bool}
 use mathlib.Core.List.{List, [], _∷_}
 use Prim.Native.Nat.{ℕ, zero, suc, _+_, _*_, _%_, _≤_, _<_}
 use native.Mathlib.Omega.{arith}
@@ -10,6 +10,7 @@ use native.Mathlib.Decide.{ℕ-discrete, decLt}
 use lib.ListN.{length, getD, set, replicate, length-set, getD-replicate, length-replicate}
 use borrow.Author.Tests.{le-ltb}
 use lib.Seq.{getD-set-same, getD-set-other}
+use Rattle.word.specs.Choice.{if_then_else_}
 use Rattle.word.specs.Lists.{tabulate}
 use Rattle.flow.specs.Function.{firstAt}
 use Rattle.roots.specs.View.{blockAt}
@@ -152,4 +153,4 @@ first-start bs nb pc c f = go (decLt c nb)
     go (yes h) = firsts-found (before c (omega arith) (omega arith)) h _ _ refl refl (sym (start c) ∙ f .here h .1) (f .here h .0)
     go (no h) =
         firsts-end (before nb (omega arith) (omega arith)) (omega arith)
-        ∙ ap (λ (u : Bool). cond u (nb ∷ []) []) (le-ltb nb nb (omega arith)) ∙ sym (ap (λ (u : Bool). cond u (c ∷ []) []) (le-ltb c nb (omega arith)))
+        ∙ ap (λ (u : Bool). if_then_else_ u (nb ∷ []) []) (le-ltb nb nb (omega arith)) ∙ sym (ap (λ (u : Bool). if_then_else_ u (c ∷ []) []) (le-ltb c nb (omega arith)))

@@ -1,7 +1,7 @@
 -- Rows in the scratch: a turn of each loop over the words, and the frames. Assumes nothing.
 use mathlib.Core.Path.{_≡_, refl, sym, ap, ap₂, _∙_, subst, fun-ext}
 use mathlib.Core.Logic.{_⊎_, inl, inr, ⊎-elim}
-use mathlib.Core.Bool.{Bool, true, false, cond, _&&_, _||_}
+use mathlib.Core.Bool.{Bool, true, false, _&&_, _||_}
 use mathlib.Core.List.{List, [], _∷_, _++_}
 use Prim.Native.Nat.{ℕ, suc, _+_, _-_, _*_, _/_, _%_, _≤_, _<_}
 use native.Mathlib.Omega.{arith}
@@ -14,6 +14,7 @@ use lib.Seq.{slice, slice-cons, slice-empty, getD-set-same, getD-set-other, getD
 use lib.Dec.{eqb, ltb, leb}
 use lib.Bits.{bitOr}
 use borrow.Author.Tests.{eq-eqb, ne-eqb, lt-ltb, le-ltb, le-leb, lt-leb}
+use Rattle.word.specs.Choice.{if_then_else_}
 use Rattle.word.specs.Bit.{bit}
 use Rattle.word.proofs.BitLaws.{bit-or, bit-of-zero}
 use Rattle.word.specs.Lists.{tabulate}
@@ -103,7 +104,7 @@ unfolding liveAt
 live-not s W nb q t h = rw (le-ltb t nb h)
 
 existing-next : (refs : List ℕ) (nb i to : ℕ) → i < to → to ≤ length refs
-    → existing nb (slice i to refs) ≡ cond (ltb (getD refs i 0) nb) (getD refs i 0 ∷ existing nb (slice (i + 1) to refs)) (existing nb (slice (i + 1) to refs))
+    → existing nb (slice i to refs) ≡ if_then_else_ (ltb (getD refs i 0) nb) (getD refs i 0 ∷ existing nb (slice (i + 1) to refs)) (existing nb (slice (i + 1) to refs))
 existing-next refs nb i to h l =
     ap (existing nb) (slice-cons i to refs 0 h l)
     ∙ ap (λ (k : ℕ). existing nb (getD refs i 0 ∷ slice k to refs)) (sym (add-one i))
@@ -139,7 +140,7 @@ module _ {refs : List ℕ} {to nb W : ℕ} {s₀ s : List ℕ} {i₀ i : ℕ} wh
             let x : cell s (t * (3 * W)) q ≡ X t =
             cell-before (inv .frame) (t * (3 * W)) q W m (omega (arith, block-fits t nb (3 * W) k)) ∙ sym (live-of s₀ W nb q t k) in
             let y : existing nb (slice i to refs) ≡ t ∷ rest =
-            existing-next refs nb i to h l ∙ ap (λ (u : ℕ). cond (ltb u nb) (u ∷ rest) rest) (sym e) ∙ ap (λ (u : Bool). cond u (t ∷ rest) rest) (lt-ltb t nb k) in
+            existing-next refs nb i to h l ∙ ap (λ (u : ℕ). if_then_else_ (ltb u nb) (u ∷ rest) rest) (sym e) ∙ ap (λ (u : Bool). if_then_else_ u (t ∷ rest) rest) (lt-ltb t nb k) in
             ap (λ (u : Bool). anyOf X rest || u) (b q m ∙ ap (λ (u : Bool). u || cell s (nb * (3 * W)) q) x)
             ∙ or-swap (anyOf X rest) (X t) (cell s (nb * (3 * W)) q)
             ∙ ap (λ (u : List ℕ). anyOf X u || cell s (nb * (3 * W)) q) (sym y)
@@ -157,7 +158,7 @@ module _ {refs : List ℕ} {to nb W : ℕ} {s₀ s : List ℕ} {i₀ i : ℕ} wh
         cells = λ q m.
             (let rest : List ℕ = existing nb (slice (i + 1) to refs) in
             let y : existing nb (slice i to refs) ≡ rest =
-            existing-next refs nb i to h l ∙ ap (λ (u : ℕ). cond (ltb u nb) (u ∷ rest) rest) (sym e) ∙ ap (λ (u : Bool). cond u (t ∷ rest) rest) (le-ltb t nb k) in
+            existing-next refs nb i to h l ∙ ap (λ (u : ℕ). if_then_else_ (ltb u nb) (u ∷ rest) rest) (sym e) ∙ ap (λ (u : Bool). if_then_else_ u (t ∷ rest) rest) (le-ltb t nb k) in
             ap (λ (u : List ℕ). anyOf (liveAt s₀ W nb q) u || cell s (nb * (3 * W)) q) (sym y) ∙ inv .cells q m);
       })
 
@@ -179,12 +180,12 @@ and-right-false false b h = refl
 
 module _ (blocks : List ℕ) (nb pc i : ℕ) where
   pub first-next : i < nb → firstAt (drop i (tabulate nb (blockAt blocks))) pc i
-      ≡ cond (eqb (getD blocks (2 * i) 0) pc && ltb (getD blocks (2 * i) 0) (getD blocks (2 * i + 1) 0)) (i ∷ []) (firstAt (drop (i + 1) (tabulate nb (blockAt blocks))) pc (i + 1))
+      ≡ if_then_else_ (eqb (getD blocks (2 * i) 0) pc && ltb (getD blocks (2 * i) 0) (getD blocks (2 * i + 1) 0)) (i ∷ []) (firstAt (drop (i + 1) (tabulate nb (blockAt blocks))) pc (i + 1))
   first-next h =
       let j : suc i ≡ i + 1 = omega arith in
       ap (λ (l : List Block). firstAt l pc i) (drop-cons (tabulate nb (blockAt blocks)) i (blockAt blocks i) (omega (arith, length-tabulate nb (blockAt blocks))))
       ∙ ap (λ (x : Block). firstAt (x ∷ drop (suc i) (tabulate nb (blockAt blocks))) pc i) (getD-tabulate nb (blockAt blocks) i (blockAt blocks i) h)
-      ∙ ap (λ (u : ℕ). cond (eqb (getD blocks (2 * i) 0) pc && ltb (getD blocks (2 * i) 0) (getD blocks (2 * i + 1) 0)) (i ∷ []) (firstAt (drop u (tabulate nb (blockAt blocks))) pc u)) j
+      ∙ ap (λ (u : ℕ). if_then_else_ (eqb (getD blocks (2 * i) 0) pc && ltb (getD blocks (2 * i) 0) (getD blocks (2 * i + 1) 0)) (i ∷ []) (firstAt (drop u (tabulate nb (blockAt blocks))) pc u)) j
 
 pub record Firsts (blocks : List ℕ) (nb pc i : ℕ) : Type 0 where
   pub high : i ≤ nb
@@ -198,12 +199,12 @@ module _ {blocks : List ℕ} {nb pc i : ℕ} where
       → firstAt (tabulate nb (blockAt blocks)) pc 0 ≡ oneBelow i nb
   firsts-found inv h a e ea ee x y =
       inv .is ∙ first-next blocks nb pc i h
-      ∙ ap (λ (u : Bool). cond u (i ∷ []) (firstAt (drop (i + 1) (tabulate nb (blockAt blocks))) pc (i + 1))) (ap₂ (λ (u v : Bool). u && v) (eq-eqb (getD blocks (2 * i) 0) pc (sym ea ∙ x)) (lt-ltb (getD blocks (2 * i) 0) (getD blocks (2 * i + 1) 0) (omega arith)))
-      ∙ sym (ap (λ (u : Bool). cond u (i ∷ []) []) (lt-ltb i nb h))
+      ∙ ap (λ (u : Bool). if_then_else_ u (i ∷ []) (firstAt (drop (i + 1) (tabulate nb (blockAt blocks))) pc (i + 1))) (ap₂ (λ (u v : Bool). u && v) (eq-eqb (getD blocks (2 * i) 0) pc (sym ea ∙ x)) (lt-ltb (getD blocks (2 * i) 0) (getD blocks (2 * i + 1) 0) (omega arith)))
+      ∙ sym (ap (λ (u : Bool). if_then_else_ u (i ∷ []) []) (lt-ltb i nb h))
 
   pub firsts-on : Firsts blocks nb pc i → i < nb → (eqb (getD blocks (2 * i) 0) pc && ltb (getD blocks (2 * i) 0) (getD blocks (2 * i + 1) 0) ≡ false)
       → Firsts blocks nb pc (i + 1)
-  firsts-on inv h z = record { high = omega arith; is = inv .is ∙ first-next blocks nb pc i h ∙ ap (λ (u : Bool). cond u (i ∷ []) (firstAt (drop (i + 1) (tabulate nb (blockAt blocks))) pc (i + 1))) z }
+  firsts-on inv h z = record { high = omega arith; is = inv .is ∙ first-next blocks nb pc i h ∙ ap (λ (u : Bool). if_then_else_ u (i ∷ []) (firstAt (drop (i + 1) (tabulate nb (blockAt blocks))) pc (i + 1))) z }
 
   pub firsts-empty : Firsts blocks nb pc i → i < nb → (a e : ℕ) → a ≡ getD blocks (2 * i) 0 → e ≡ getD blocks (2 * i + 1) 0 → e ≤ a → Firsts blocks nb pc (i + 1)
   firsts-empty inv h a e ea ee y =
@@ -217,7 +218,7 @@ module _ {blocks : List ℕ} {nb pc i : ℕ} where
   firsts-end inv h =
       inv .is
       ∙ ap (λ (l : List Block). firstAt l pc i) (drop-of-length-le (tabulate nb (blockAt blocks)) {i = i} (omega (arith, length-tabulate nb (blockAt blocks))))
-      ∙ sym (ap (λ (u : Bool). cond u (nb ∷ []) []) (le-ltb nb nb (omega arith)))
+      ∙ sym (ap (λ (u : Bool). if_then_else_ u (nb ∷ []) []) (le-ltb nb nb (omega arith)))
 
 -- ---- a middle part lent on
 
@@ -288,10 +289,10 @@ pub blocks-view : (t : ℕ → Bool) (ks ends refs bs cs : List ℕ) → seen t 
 unfolding view track
 blocks-view t ks ends refs bs cs = refl
 
-cut : (b : Bool) (x y : List ℕ) → b ≡ false → cond b x y ≡ y
+cut : (b : Bool) (x y : List ℕ) → b ≡ false → if_then_else_ b x y ≡ y
 cut b x y h = rw h
 
-keep : (b : Bool) (x y : List ℕ) → b ≡ true → cond b x y ≡ x
+keep : (b : Bool) (x y : List ℕ) → b ≡ true → if_then_else_ b x y ≡ x
 keep b x y h = rw h
 
 module _ {ks ends refs bs : List ℕ} (cols : Columns ks ends refs bs) (t : ℕ → Bool) (cs : List ℕ) (nb b st e : ℕ) (size : nb ≡ length bs / 2) (known : b < nb)
@@ -316,7 +317,7 @@ module _ {ks ends refs bs : List ℕ} (cols : Columns ks ends refs bs) (t : ℕ 
       let g : Function = seen t ks ends refs bs cs in
       ap (anyOf X) (cut (ltb (start g b) (end g b)) (exits g (inst g (end g b - 1)) (end g b)) [] (le-ltb (start g b) (end g b) (omega (arith, at-start, at-end))))
 
-  opened : st < e → successors f b ≡ cond (leb 2 k && leb k 4) (existing nb (listAt ends refs (3 * (e - 1) + 2))) (cond (leb 5 k && leb k 6) [] (firstAt (tabulate nb (blockAt bs)) e 0))
+  opened : st < e → successors f b ≡ if_then_else_ (leb 2 k && leb k 4) (existing nb (listAt ends refs (3 * (e - 1) + 2))) (if_then_else_ (leb 5 k && leb k 6) [] (firstAt (tabulate nb (blockAt bs)) e 0))
   unfolding successors f k
   opened h =
       let g : Function = seen t ks ends refs bs cs in
@@ -324,11 +325,11 @@ module _ {ks ends refs bs : List ℕ} (cols : Columns ks ends refs bs) (t : ℕ 
       keep (ltb (start g b) (end g b)) (exits g (inst g (end g b - 1)) (end g b)) [] (lt-ltb (start g b) (end g b) (omega (arith, at-start, at-end)))
       ∙ ap (λ (u : ℕ). exits g (inst g (u - 1)) u) at-end
       ∙ ap (λ (u : Instruction). exits g u e) (inst-seen t ks ends refs bs cs (e - 1) (omega (arith, cols .three)))
-      ∙ ap (λ (l : List Block). cond (leb 2 (getD ks (e - 1) 0) && leb (getD ks (e - 1) 0) 4) (existing (length l) (listAt ends refs (3 * (e - 1) + 2)))
-      (cond (leb 5 (getD ks (e - 1) 0) && leb (getD ks (e - 1) 0) 6) [] (firstAt l e 0)))
+      ∙ ap (λ (l : List Block). if_then_else_ (leb 2 (getD ks (e - 1) 0) && leb (getD ks (e - 1) 0) 4) (existing (length l) (listAt ends refs (3 * (e - 1) + 2)))
+      (if_then_else_ (leb 5 (getD ks (e - 1) 0) && leb (getD ks (e - 1) 0) 6) [] (firstAt l e 0)))
       (blocks-view t ks ends refs bs cs ∙ ap (λ (u : ℕ). tabulate u (blockAt bs)) (sym size))
-      ∙ ap (λ (u : ℕ). cond (leb 2 (getD ks (e - 1) 0) && leb (getD ks (e - 1) 0) 4) (existing u (listAt ends refs (3 * (e - 1) + 2)))
-      (cond (leb 5 (getD ks (e - 1) 0) && leb (getD ks (e - 1) 0) 6) [] (firstAt (tabulate nb (blockAt bs)) e 0)))
+      ∙ ap (λ (u : ℕ). if_then_else_ (leb 2 (getD ks (e - 1) 0) && leb (getD ks (e - 1) 0) 4) (existing u (listAt ends refs (3 * (e - 1) + 2)))
+      (if_then_else_ (leb 5 (getD ks (e - 1) 0) && leb (getD ks (e - 1) 0) 6) [] (firstAt (tabulate nb (blockAt bs)) e 0)))
       (length-tabulate nb (blockAt bs))
 
   pub leave-targets : (X : ℕ → Bool) → st < e → 2 ≤ getD ks (e - 1) 0 → getD ks (e - 1) 0 ≤ 4 → (from to : ℕ)

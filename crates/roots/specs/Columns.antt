@@ -2,11 +2,12 @@
 -- that follows in the code. After the rows of the last block come the row in which the live-out of one block is gathered, and a row of zeros.
 use mathlib.Core.Path.{_≡_}
 use mathlib.Core.Logic.{_⊎_}
-use mathlib.Core.Bool.{Bool, true, false, cond, not, _&&_, _||_}
+use mathlib.Core.Bool.{Bool, true, false, not, _&&_, _||_}
 use mathlib.Core.List.{List, [], _∷_}
 use Prim.Native.Nat.{ℕ, zero, _+_, _-_, _*_, _/_, _%_, _≤_, _<_}
 use lib.ListN.{length, getD, take}
 use lib.Dec.{ltb, eqb}
+use Rattle.word.specs.Choice.{if_then_else_}
 use Rattle.word.specs.Bit.{bit}
 use Rattle.word.specs.Lists.{tabulate}
 use Rattle.rows.specs.Row.{bitIn, listed}
@@ -52,7 +53,7 @@ liveAt s W nb q b = ltb b nb && cell s (b * (3 * W)) q
 
 -- as a list: the index where it is below n
 abbrev pub oneBelow : ℕ → ℕ → List ℕ
-oneBelow t n = cond (ltb t n) (t ∷ []) []
+oneBelow t n = if_then_else_ (ltb t n) (t ∷ []) []
 
 -- how many bits of the first k words are set
 abbrev pub setBits : ℕ → List ℕ → ℕ

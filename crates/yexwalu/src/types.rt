@@ -61,9 +61,9 @@ fn laid_out(a: layout::Answer) -> LayoutAnswer
             used: used as u64,
             offsets: offsets as u64,
         },
-        layout::Answer::BadDesc => not_laid(Refusal::Malformed),
-        layout::Answer::OverSize => not_laid(Refusal::TooLarge),
-        layout::Answer::Short => not_laid(Refusal::ShortList),
+        layout::Answer::Malformed => not_laid(Refusal::Malformed),
+        layout::Answer::TooLarge => not_laid(Refusal::TooLarge),
+        layout::Answer::ShortList => not_laid(Refusal::ShortList),
     }
 }
 
