@@ -16,6 +16,13 @@ fn least(a: usize, b: usize) -> usize
     if a < b { a } else { b }
 }
 
+// What a text has from `from` up to `to`.
+fn part<'a>(s: &'a [u8], from: usize, to: usize) -> &'a [u8] {
+    let e = least(to, s.len());
+    let a = least(from, e);
+    &s[a..e]
+}
+
 fn put(s: &[u8]) {
     io::write_all(STDOUT_FILENO, s);
 }
@@ -201,9 +208,8 @@ fn replaced(page: &[u8], at: usize, old: usize, new: &[u8], text: &mut [u8; 1024
 }
 
 // What the first `n` bytes of a text are answered.
-fn read_front(text: &[u8], n: usize) -> Seen {
-    let k = least(n, text.len());
-    read_one(&text[0..k])
+fn read_front(text: &[u8; 1024], n: usize) -> Seen {
+    read_one(part(text, 0, n))
 }
 
 // What is answered to a page with up to `old` bytes from `at` on replaced by `new`.
@@ -331,9 +337,7 @@ fn line(s: &[u8], at: usize, end: usize, page: Page) -> Page
         return Page { from: a, to: end };
     }
     let b = g + 1;
-    let q = least(page.to, s.len());
-    let p = least(page.from, q);
-    damage(&s[at..f], &s[p..q], &s[a..g], &s[b..end]);
+    damage(&s[at..f], part(s, page.from, page.to), &s[a..g], &s[b..end]);
     page
 }
 
@@ -350,9 +354,13 @@ fn lines(s: &[u8], n: usize)
     }
 }
 
+fn run(s: &[u8; 32768], n: usize) {
+    lines(s, least(n, 32768));
+}
+
 fn main() {
     let mut input = [0u8; 32768];
     let n = io::read_full(STDIN_FILENO, &mut input);
     unfold(&mut input);
-    lines(&input, n);
+    run(&input, n);
 }

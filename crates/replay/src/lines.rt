@@ -2,13 +2,14 @@
 use crate::live;
 use crate::traced;
 use crate::types;
+use protocol::Buffer;
 use protocol::Bytes;
 use protocol::Halves;
 use protocol::Words;
 use protocol::code;
 use protocol::code::Function;
 use protocol::code::no_code;
-use protocol::least;
+use protocol::part_u8;
 use protocol::read::byte_at;
 use protocol::table;
 use protocol::table::Table;
@@ -187,7 +188,7 @@ fn serve(
 
 // The same of the line that lies in the buffer from `from` up to `to`.
 pub fn run_line(
-    buffer: &[u8],
+    buffer: &Buffer,
     from: usize,
     to: usize,
     state: State,
@@ -198,10 +199,8 @@ pub fn run_line(
     halves: &mut Halves,
     words: &mut Words,
 ) -> State {
-    let e = least(to, buffer.len());
-    let a = least(from, e);
     serve(
-        &buffer[a..e],
+        part_u8(buffer, from, to),
         state,
         narrow,
         wide,

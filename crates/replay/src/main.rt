@@ -1,6 +1,8 @@
 // Runs a script of calls from standard input through the front door, one answer a line.
 use crate::lines::run_line;
+use protocol::Buffer;
 use protocol::input;
+use protocol::input::Input;
 use protocol::input::Line;
 use protocol::write::put_bad;
 
@@ -8,6 +10,10 @@ mod lines;
 mod live;
 mod traced;
 mod types;
+
+fn next_line(buffer: &Buffer, input: Input) -> Line {
+    input::next_line(buffer, input)
+}
 
 fn main() {
     let mut narrow = [0u32; 49152];
@@ -22,7 +28,7 @@ fn main() {
     let mut turns = u64::MAX;
     while turns > 0 {
         turns -= 1;
-        match input::next_line(&buffer, input) {
+        match next_line(&buffer, input) {
             Line::At(from, to, rest) => {
                 state = run_line(
                     &buffer,
