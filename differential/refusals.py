@@ -52,7 +52,7 @@ def never_issued():
         yield from refused("19", *[call.format(x) for x in (h(0, 1), h(0, 0), h(3, 1), h(4, 1), h(0xFFFFFF, U32))]) + refused("2", call.format(0)) + refused("3", *[call.format(x) for x in (h(0, 1, 2), h(4, 1, 0), h(4, 1, 255))])
     yield from asked("page", "epoch", "alloc 2 0 0 41", "alloc 2 0 0 42", f"free {h(0, 1)}") + refused("4", f"resolve {h(0, 1)}", f"take {h(0, 2)}", f"free {h(1, 0)}", f"edit {h(1, 2)} 41 0")
     yield from refused("19", f"resolve {h(2, 1)}", f"take {h(2, 0)}", f"free {h(3, 1)}", f"edit {h(5, 1)} 41 0") + asked("seal", "page", f"collect {h(2, 1)},{h(0xFFFFFF, 1)},{h(0, 1)},0,{h(1, 1, 2)} 2,3", "page", "epoch")
-    yield from asked("recycle -") + stopped("19", ["alloc,0,2,43", "alloc,0,2,44"], f"take,{h(3, 1)},0,;seal,0,0,;", f"take,{h(9, 1)},0,;x;") + asked("page", "epoch")
+    yield from asked("recycle -") + stopped("19", ["alloc,0,2,43", "alloc,0,2,44"], f"take,{h(3, 1)},0,;seal,0,0,;") + stopped("19", [], f"take,{h(9, 1)},0,;x;") + asked("page", "epoch")
 
 
 def scripts():
