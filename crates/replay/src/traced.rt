@@ -235,7 +235,7 @@ fn listed(
     wide: &[u64],
     pool: &[u8],
     slot: usize,
-    out: &mut [u64; 8192],
+    out: &mut [u64],
 ) -> Answer {
     let mut marks = [7u8; 8192];
     let mut work = [7u64; 8192];
