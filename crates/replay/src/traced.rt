@@ -1,4 +1,5 @@
 // The commands that trace a heap by the type table: the two collections, and the handles of a slot.
+use crate::live::Rows;
 use door::Done;
 use heap::Heap;
 use protocol::BLOCKS;
@@ -164,10 +165,10 @@ fn at_safepoint(
     map: &[u32],
     memory: &[u8],
     pins: &[u32],
+    rows: &mut Rows,
 ) -> Done {
     let mut marks = [7u8; 8192];
     let mut work = [7u64; 8192];
-    let mut rows = [7u64; 262144];
     heaps::collect_joined(
         types,
         fields,
@@ -189,7 +190,7 @@ fn at_safepoint(
         pins,
         &mut marks,
         &mut work,
-        &mut rows,
+        rows,
     )
 }
 
@@ -334,24 +335,28 @@ fn called(
             pool,
             wanted.pc,
         ),
-        _ => at_safepoint(
-            types,
-            fields,
-            consts,
-            bytes,
-            heap,
-            narrow,
-            wide,
-            pool,
-            code,
-            octets,
-            lists,
-            wanted.pc,
-            numbers,
-            part_u32(lists, LISTED, wanted.map),
-            part_u8(octets, SPELLED, wanted.memory),
-            pins,
-        ),
+        _ => {
+            let mut rows = [7u64; 262144];
+            at_safepoint(
+                types,
+                fields,
+                consts,
+                bytes,
+                heap,
+                narrow,
+                wide,
+                pool,
+                code,
+                octets,
+                lists,
+                wanted.pc,
+                numbers,
+                part_u32(lists, LISTED, wanted.map),
+                part_u8(octets, SPELLED, wanted.memory),
+                pins,
+                &mut rows,
+            )
+        }
     }
 }
 

@@ -5,10 +5,10 @@ use Rattle.replay.proofs.live.points.Statement.{statement}
 use Rattle.replay.proofs.live.points.Tie as tie
 
 abbrev Inv-loop : tie.InvT-loop
-Inv-loop pcs bounds regs count n from₀ i₀ from i = Unit {0}
+Inv-loop pcs bounds regs count n from₀ i₀ t from i = Unit {0}
 
 abbrev μ-loop : tie.MeasureT-loop
-μ-loop pcs bounds regs count n from₀ i₀ from i = 65536 - i
+μ-loop pcs bounds regs count n from₀ i₀ t from i = 65536 - i
 
 least-requires : tie.Need-least-requires Inv-loop μ-loop
 least-requires c κs = tt
