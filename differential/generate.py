@@ -451,7 +451,10 @@ class Writer:
         elif how == "resolve":
             self.do(f"resolve {self.handle()}")
         elif how in ("data", "kind", "stamp"):
-            self.do(f"{how} {self.index()}")
+            i = self.index()
+            self.do(f"{how} {i}")
+            if how == "kind" and (i >= len(self.rows) or self.sure(self.rows[i])):
+                self.do(f"handles {i}")
         elif how == "isplain":
             self.do(f"isplain {self.r.choice([self.tag, self.tag, 1, 2, 255])}")
         else:

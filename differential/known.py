@@ -25,7 +25,7 @@ def number(answer):
 
 def pushed(command, oracle, replay):
     """On 13 the port writes nothing; the Rust leaves what it had pushed."""
-    return command in ("objh", "valh", "slotroots") and number(oracle) == number(replay) == "13"
+    return command in ("objh", "valh", "handles", "slotroots") and number(oracle) == number(replay) == "13"
 
 
 def stale(command, oracle, replay):
@@ -61,6 +61,6 @@ def same(command, oracle, replay):
 
 def as_port(line, answer):
     """The oracle's answer as the port writes it."""
-    if line.split(" ", 1)[0] in ("objh", "valh", "slotroots") and number(answer) == "13":
+    if line.split(" ", 1)[0] in ("objh", "valh", "handles", "slotroots") and number(answer) == "13":
         return "13"
     return answer

@@ -118,7 +118,7 @@ def tables():
     wide = ["table", "ty 6", f"ty 5 {many}", "ty 5 " + ",".join([f"1:{NO}"] * 255)]
     yield from asked(*wide, f"ty 5 2:{NO}," + ",".join([f"0:{NO}"] * 254), "descsize 3", "hashandles 3", "layout 9 -")
     for top in ([f"ty 5 2:{NO}," + ",".join([f"0:{NO}"] * 255)], ["table", f"ty 5 0:{NO},0:{NO}"]):
-        yield from asked(*HEAP, *top) + refused("10", "descsize 0", "hashandles 0", "layout 0 -", "layout 99 -", "objh 0 -", "valh 0 -", "slotroots - -", "slotroots 9:0 -", "collect - -", "collect - 1,0")
+        yield from asked(*HEAP, *top) + refused("10", "descsize 0", "hashandles 0", "layout 0 -", "layout 99 -", "objh 0 -", "valh 0 -", "slotroots - -", "slotroots 9:0 -", "handles 0", "handles 9", "collect - -", "collect - 1,0")
         yield from asked("func 4 0:1", "inst 1 - 0 -") + refused("10", "joined 0 7 - - -", "joined 0 - - - 1,0", "joined 1 7 9:0 - -") + asked("live 0", "page", "epoch")
     # A cycle with one field has 65 levels and is no such table.
     yield from asked("table", f"ty 5 0:{NO}", "descsize 0", "hashandles 0", "layout 0 -", "objh 0 -")

@@ -174,6 +174,15 @@ def tracing():
             yield f"objh 4 {dims + le(1, 2, 3)[: 2 * n]}"
 
 
+def slot_handles():
+    """What slots show, in order: fields first to last, elements rising, Handles by offset; bytes before start, nothing visible, dead and missing slots, cut short."""
+    yield from ["table", "ty 6", f"ty 5 0:{NO},0:{NO},0:{NO}", f"ty 4 1 {NO} 1", f"ty 5 2:{NO},0:{NO}", "ty 3", "new 1 16 4096"]
+    nine, zeros = le(*range(9, 0, -1)), "00" * 24
+    yield from [f"alloc 1 1 0 {nine}", f"alloc 1 2 0 {to((1, 3)) + nine}", f"alloc 1 3 0 {to((1, 2)) + nine}", f"alloc 3 0 0 {zeros + nine}", f"alloc 2 0 0 {nine}", f"alloc 1 1 8 {nine}", f"alloc 3 0 8 {nine + zeros}"]
+    yield from [f"alloc 1 99 73 {nine}", f"alloc 1 1 72 {nine}", f"alloc 1 1 0 {nine[:46]}", f"alloc 1 4 0 {nine}", f"alloc 3 0 0 {zeros + nine[:30]}", f"alloc 2 0 0 {nine}", f"free {h(12, 1)}"]
+    yield from [f"handles {i}" for i in range(14)] + [f"handles {U32}", "page"]
+
+
 def stride_zero():
     """An array of stride 0 whose walk is short."""
     yield from ["table", "ty 6", f"ty 4 0 {NO} 1", f"ty 4 1 {NO} 1", f"ty 5 2:{NO},0:{NO}"]
@@ -228,7 +237,7 @@ def reclaims():
 LARGE = [reclaims]
 
 ALL = [
-    handles, generations, full, visible, handles_objects, quarantine, seals, scripts, epochs, rings, untraceable, layouts, levels, constants, tracing, stride_zero,
+    handles, generations, full, visible, handles_objects, quarantine, seals, scripts, epochs, rings, untraceable, layouts, levels, constants, tracing, slot_handles, stride_zero,
     frames, live, joined,
 ]
 

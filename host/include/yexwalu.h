@@ -382,6 +382,22 @@ yexwalu_answer yexwalu_has_handles(
     const uint8_t *bytes, size_t bytes_len,
     uint64_t t);
 
+/* The handles that a live slot shows, in the order in which they are traced, stand at the front of `out`: Typed by its type, Handles by offset, Bytes none. One with nothing visible shows none.
+ * first: how many. 18, 1, 10, 9, 13, 7. */
+yexwalu_answer yexwalu_slot_handles(
+    const uint64_t *types, size_t types_len,
+    const uint32_t *fields, size_t fields_len,
+    const uint64_t *consts, size_t consts_len,
+    const uint8_t *bytes, size_t bytes_len,
+    yexwalu_header heap,
+    const uint32_t *narrow, size_t narrow_len,
+    const uint64_t *wide, size_t wide_len,
+    const uint8_t *pool, size_t pool_len,
+    size_t slot,
+    uint64_t *out, size_t out_len,
+    uint8_t *marks, size_t marks_len,
+    uint64_t *work, size_t work_len);
+
 /* The handles of an object's visible data (descriptor, then value) stand at the front of `out`. first: how many. 10, 13, 7. */
 yexwalu_answer yexwalu_object_handles(
     const uint64_t *types, size_t types_len,

@@ -171,13 +171,17 @@ impl Eq for Heap {}
 
 // A call that only reads: memory is shared, scratch is not.
 macro_rules! ask {
-    ($heap:ident, $call:ident ($($given:expr),*)) => {{
+    ($heap:ident, $call:ident ($($given:expr),*)) => {
+        ask!($heap, $call () ($($given),*))
+    };
+    ($heap:ident, $call:ident ($($before:expr),*) ($($given:expr),*)) => {{
         let m = &$heap.memory;
         let mut s = $heap.scratch.borrow_mut();
         // SAFETY: each pointer leads to as many elements as the length after it says. The call only reads the memory, though `ffi` has it as mutable for the sake of one declaration of
         // all calls; it writes scratch and the outputs given, which are borrowed mutably here.
         unsafe {
             ffi::$call(
+                $($before,)*
                 $heap.header,
                 m.narrow.as_ptr() as *mut u32, m.narrow.len(),
                 m.wide.as_ptr() as *mut u64, m.wide.len(),
@@ -572,6 +576,36 @@ impl Heap {
             generation: generation as u32,
             writes,
         })
+    }
+
+    /// The handles that a live slot shows, in the order in which they are traced: an object of a type by that type, record fields first to last and array elements rising, one of handles by offset, one of
+    /// bytes none. One with nothing visible shows none. It is refused where the table is not in order (10), for a slot that is not there or dead (9), and where the object can't be traced (13).
+    ///
+    /// ```
+    /// use yexwalu::{Handle, Heap, Kind, Refusal, TypeTable};
+    /// let mut table = TypeTable::new();
+    /// let access = table.access();
+    /// let pair = table.record(&[(access, None), (access, None)]);
+    /// let mut heap = Heap::new(1, 64, 4096)?;
+    /// let two: Vec<u8> = [7u64, 8].iter().flat_map(|x| x.to_le_bytes()).collect();
+    /// let both = heap.alloc(Kind::Typed(pair), &two)?;
+    /// assert_eq!(heap.slot_handles(&table, heap.resolve(both)?)?, [Handle(7), Handle(8)]);
+    /// # Ok::<(), Refusal>(())
+    /// ```
+    pub fn slot_handles(&self, types: &TypeTable, slot: u32) -> Result<Vec<Handle>, Refusal> {
+        let mut out = vec![0; self.size_of(slot as usize) / 8];
+        let n = self.slot_handles_into(types, slot as usize, &mut out)?;
+        out.truncate(n);
+        Ok(out.into_iter().map(Handle).collect())
+    }
+
+    /// As `slot_handles`, with the handles written to the front of a lent list (7). The answer is how many.
+    pub fn slot_handles_into(&self, types: &TypeTable, slot: usize, out: &mut [u64]) -> Result<usize, Refusal> {
+        let answer = ask!(self, yexwalu_slot_handles(
+            types.types.as_ptr(), types.types.len(), types.fields.as_ptr(), types.fields.len(),
+            types.consts.as_ptr(), types.consts.len(), types.bytes.as_ptr(), types.bytes.len())
+            (slot, out.as_mut_ptr(), out.len()));
+        Ok(Heap::pair(answer)?.0 as usize)
     }
 
     /// The heap as a page of text, without epoch and log (docs/FORMAT.md).

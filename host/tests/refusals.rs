@@ -7,7 +7,7 @@ use yexwalu::{descriptor, ffi, Class, Direction, FrameSlot, Function, Handle, He
 type Call = (&'static str, fn(&mut Heap) -> Result<(), Refusal>);
 
 // Every call on a heap, each one that succeeds on the sample.
-const CALLS: [Call; 25] = [
+const CALLS: [Call; 26] = [
     ("alloc", |h| h.alloc(Kind::Bytes, b"x").map(drop)),
     ("alloc_from", |h| h.alloc_from(Kind::Bytes, 0, b"x").map(drop)),
     ("take", |h| h.take_into(Handle(7 << 56 | 2 << 32 | 1), &mut [0; 64]).map(drop)),
@@ -27,6 +27,7 @@ const CALLS: [Call; 25] = [
     ("data", |h| h.place(2).map(drop)),
     ("kind", |h| h.kind(2).map(drop)),
     ("stamp", |h| h.stamp(2).map(drop)),
+    ("slot_handles", |h| h.slot_handles(&plain(), 2).map(drop)),
     ("page_length", |h| h.page_length().map(drop)),
     ("write_page", |h| h.write_page_into(&mut [0; 4096]).map(drop)),
     ("collect", |h| h.collect(&plain(), &[Handle(7 << 56 | 2 << 32 | 1)], &[1])),
@@ -306,6 +307,46 @@ fn roots_and_seals_that_lead_nowhere_are_skipped() {
 }
 
 #[test]
+fn the_handles_of_a_slot() {
+    let (table, pair, list) = handles();
+    let mut heap = Heap::new(7, 8, 1024).unwrap();
+    let (two, three) = (words(3..5), [descriptor(&[(1, 3, Direction::To)]), words(6..12)].concat());
+    let slots = [
+        heap.alloc(Kind::Typed(pair), &two),
+        heap.alloc(Kind::Typed(list), &three),
+        heap.alloc(Kind::Handles, &[vec![0; 24], words(20..23), vec![9; 7]].concat()),
+        heap.alloc(Kind::Bytes, &words(1..9)),
+        // bytes before start are not traced, and nothing is visible beyond the length, whatever the type
+        heap.alloc_from(Kind::Typed(pair), 8, &[words(1..2), two.clone()].concat()),
+        heap.alloc_from(Kind::Typed(99), 17, &two),
+        heap.alloc(Kind::Typed(pair), &two[..15]),
+    ];
+    let shown: [&[u64]; 6] = [&[3, 4], &[6, 7, 8, 9, 10, 11], &[20, 21, 22], &[], &[3, 4], &[]];
+    let before = heap.clone();
+    for (slot, wanted) in shown.iter().enumerate() {
+        let told: Vec<u64> = heap.slot_handles(&table, slot as u32).unwrap().into_iter().map(|h| h.0).collect();
+        assert_eq!(told, *wanted, "slot {slot}");
+        let mut out = vec![77; wanted.len() + 2];
+        assert_eq!(heap.slot_handles_into(&table, slot, &mut out), Ok(wanted.len()));
+        assert!(out[..wanted.len()] == **wanted && out[wanted.len()..] == [77; 2]);
+        if !wanted.is_empty() {
+            let mut out = vec![77; wanted.len() - 1];
+            assert_eq!(heap.slot_handles_into(&table, slot, &mut out), Err(Refusal::ShortList));
+            assert!(out.iter().all(|x| *x == 77));
+        }
+    }
+    // 9 before 13 before 7
+    let mut out = [77; 1];
+    for slot in [7, 8, 9, usize::MAX] {
+        assert_eq!(heap.slot_handles_into(&table, slot, &mut out), Err(Refusal::NothingThere));
+    }
+    assert_eq!(heap.slot_handles_into(&table, 6, &mut out[..0]), Err(Refusal::Untraceable));
+    assert!(heap == before && out == [77] && heap.scratch() == Scratch::zeros(8));
+    heap.free(slots[3].unwrap()).unwrap();
+    assert_eq!(heap.slot_handles(&table, 3), Err(Refusal::NothingThere));
+}
+
+#[test]
 fn outputs_one_short_are_7() {
     let (mut heap, all) = sample(8, 64);
     let page = heap.write_page().unwrap();
@@ -461,6 +502,7 @@ fn a_table_one_short_is_10() {
         assert_eq!(out, [9; 4]);
         let (mut heap, _) = sample(8, 64);
         let before = heap.clone();
+        assert_eq!(heap.slot_handles_into(&table, 99, &mut out), Err(Refusal::TypeTable));
         assert_eq!(heap.collect(&table, &[], &[]), Err(Refusal::TypeTable));
         assert_eq!(heap.collect_joined(&table, &stopped(), 1, &[0, 0], &[], &[], &[]), Err(Refusal::TypeTable));
         assert!(heap == before && heap.scratch() == Scratch::zeros(8));

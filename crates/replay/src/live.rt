@@ -20,6 +20,9 @@ use protocol::write::put_halves;
 use protocol::write::put_number;
 use yexwalu::live;
 
+// The scratch of a live map.
+pub type Rows = [u64; 262144];
+
 const LIVE: usize = 0;
 
 pub const UNKNOWN: usize = 2;
@@ -94,11 +97,18 @@ fn points(pcs: &[u32; 65536], bounds: &[u32; 65536], regs: &[u32; 65536], count:
 }
 
 // The map of all safepoints. Room for as many safepoints as there may be instructions.
-fn map(q: Question, kinds: &[u8], ends: &[u32], refs: &[u32], blocks: &[u32], classes: &[u8]) {
+fn map(
+    q: Question,
+    kinds: &[u8],
+    ends: &[u32],
+    refs: &[u32],
+    blocks: &[u32],
+    classes: &[u8],
+    rows: &mut Rows,
+) {
     let mut pcs = [0u32; 65536];
     let mut bounds = [0u32; 65536];
     let mut regs = [0u32; 65536];
-    let mut rows = [7u64; 262144];
     let a = live::live_refs(
         kinds,
         ends,
@@ -109,7 +119,7 @@ fn map(q: Question, kinds: &[u8], ends: &[u32], refs: &[u32], blocks: &[u32], cl
         &mut pcs,
         &mut bounds,
         &mut regs,
-        &mut rows,
+        rows,
     );
     put_number(a.number);
     if a.number == 0 {
@@ -123,9 +133,16 @@ fn map(q: Question, kinds: &[u8], ends: &[u32], refs: &[u32], blocks: &[u32], cl
 }
 
 // The registers at one safepoint.
-fn at(q: Question, kinds: &[u8], ends: &[u32], refs: &[u32], blocks: &[u32], classes: &[u8]) {
+fn at(
+    q: Question,
+    kinds: &[u8],
+    ends: &[u32],
+    refs: &[u32],
+    blocks: &[u32],
+    classes: &[u8],
+    rows: &mut Rows,
+) {
     let mut regs = [0u32; 65536];
-    let mut rows = [7u64; 262144];
     let a = live::live_at(
         kinds,
         ends,
@@ -135,7 +152,7 @@ fn at(q: Question, kinds: &[u8], ends: &[u32], refs: &[u32], blocks: &[u32], cla
         q.all,
         q.pc,
         &mut regs,
-        &mut rows,
+        rows,
     );
     put_number(a.number);
     if a.number == 0 {
@@ -147,10 +164,11 @@ fn at(q: Question, kinds: &[u8], ends: &[u32], refs: &[u32], blocks: &[u32], cla
 
 // The call, on the parts of the function.
 fn told(q: Question, kinds: &[u8], ends: &[u32], refs: &[u32], blocks: &[u32], classes: &[u8]) {
+    let mut rows = [7u64; 262144];
     if q.one {
-        at(q, kinds, ends, refs, blocks, classes);
+        at(q, kinds, ends, refs, blocks, classes, &mut rows);
     } else {
-        map(q, kinds, ends, refs, blocks, classes);
+        map(q, kinds, ends, refs, blocks, classes, &mut rows);
     }
 }
 

@@ -48,12 +48,8 @@ fn main() {
                 put_bad();
                 input = rest;
             }
-            Line::Short => {
-                input = input::more(&mut buffer, input);
-            }
-            Line::Over => {
-                return;
-            }
+            Line::Short => input = input::more(&mut buffer, input),
+            Line::Over => return,
         }
     }
 }

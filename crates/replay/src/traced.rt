@@ -1,4 +1,5 @@
-// The commands that trace a heap by the type table: the two collections.
+// The commands that trace a heap by the type table: the two collections, and the handles of a slot.
+use crate::live::Rows;
 use door::Done;
 use heap::Heap;
 use protocol::BLOCKS;
@@ -32,25 +33,34 @@ use protocol::read::number;
 use protocol::read::second;
 use protocol::read::which;
 use protocol::table::Table;
+use protocol::write::put;
 use protocol::write::put_answer;
 use protocol::write::put_bad;
+use protocol::write::put_number;
+use protocol::write::put_words;
+use refusal::Answer;
 use replay_calls::Kept;
 use replay_calls::Narrow;
 use replay_calls::Pool;
 use replay_calls::Wide;
 use replay_calls::after;
+use yexwalu::handles;
 use yexwalu::heaps;
 
 const COLLECT: usize = 0;
 
-pub const UNKNOWN: usize = 2;
+const JOINED: usize = 1;
+
+const HANDLES: usize = 2;
+
+pub const UNKNOWN: usize = 3;
 
 // Which of these commands a line has.
 pub fn command(line: &[u8]) -> usize {
-    which(line, 0, b"collect joined ")
+    which(line, 0, b"collect joined handles ")
 }
 
-// The place in the code, and where the roots or the registers' values, the frame's memory, its map and the pins end in the lent lists. A plain collection has no
+// The place in the code, or a slot, and where the roots or the registers' values, the frame's memory, its map and the pins end in the lent lists. A plain collection has no
 // frame.
 struct Lists {
     pc: usize,
@@ -108,6 +118,20 @@ fn frame_of(line: &[u8], bytes: &mut Bytes, lists: &mut Halves, list: &mut Words
     })
 }
 
+// A slot.
+fn slot_of(line: &[u8]) -> Wanted {
+    let Field::Is(slot, _) = number(line, second(line), WORD) else {
+        return Wanted::Bad;
+    };
+    Wanted::Is(Lists {
+        pc: slot as usize,
+        words: NUMBERS,
+        memory: SPELLED,
+        map: LISTED,
+        pins: LISTED,
+    })
+}
+
 // The fields of a line.
 fn wanted_by(
     c: usize,
@@ -118,7 +142,8 @@ fn wanted_by(
 ) -> Wanted {
     match c {
         COLLECT => roots_of(line, lists, list),
-        _ => frame_of(line, bytes, lists, list),
+        JOINED => frame_of(line, bytes, lists, list),
+        _ => slot_of(line),
     }
 }
 
@@ -140,10 +165,10 @@ fn at_safepoint(
     map: &[u32],
     memory: &[u8],
     pins: &[u32],
+    rows: &mut Rows,
 ) -> Done {
     let mut marks = [7u8; 8192];
     let mut work = [7u64; 8192];
-    let mut rows = [7u64; 262144];
     heaps::collect_joined(
         types,
         fields,
@@ -165,7 +190,7 @@ fn at_safepoint(
         pins,
         &mut marks,
         &mut work,
-        &mut rows,
+        rows,
     )
 }
 
@@ -200,6 +225,73 @@ fn plain(
     )
 }
 
+// The handles of a slot.
+fn listed(
+    types: &[u64],
+    fields: &[u32],
+    consts: &[u64],
+    bytes: &[u8],
+    heap: Heap,
+    narrow: &[u32],
+    wide: &[u64],
+    pool: &[u8],
+    slot: usize,
+    out: &mut [u64],
+) -> Answer {
+    let mut marks = [7u8; 8192];
+    let mut work = [7u64; 8192];
+    handles::slot_handles(
+        types,
+        fields,
+        consts,
+        bytes,
+        heap,
+        narrow,
+        wide,
+        pool,
+        slot,
+        out,
+        &mut marks,
+        &mut work,
+    )
+}
+
+// The same, printed. An object of the longest pool shows 8,192 handles at most.
+fn shown(
+    types: &[u64],
+    fields: &[u32],
+    consts: &[u64],
+    bytes: &[u8],
+    heap: Heap,
+    narrow: &[u32],
+    wide: &[u64],
+    pool: &[u8],
+    slot: usize,
+) -> Done {
+    let mut out = [7u64; 8192];
+    let a = listed(
+        types,
+        fields,
+        consts,
+        bytes,
+        heap,
+        narrow,
+        wide,
+        pool,
+        slot,
+        &mut out,
+    );
+    put_number(a.number);
+    if a.number == 0 {
+        put_words(&out, a.first as usize);
+    }
+    put(b"\n");
+    Done {
+        heap: heap,
+        answer: a,
+    }
+}
+
 // The call, on the parts of the table and of the heap's memory.
 fn called(
     c: usize,
@@ -232,7 +324,7 @@ fn called(
             numbers,
             pins,
         ),
-        _ => at_safepoint(
+        HANDLES => shown(
             types,
             fields,
             consts,
@@ -241,15 +333,30 @@ fn called(
             narrow,
             wide,
             pool,
-            code,
-            octets,
-            lists,
             wanted.pc,
-            numbers,
-            part_u32(lists, LISTED, wanted.map),
-            part_u8(octets, SPELLED, wanted.memory),
-            pins,
         ),
+        _ => {
+            let mut rows = [7u64; 262144];
+            at_safepoint(
+                types,
+                fields,
+                consts,
+                bytes,
+                heap,
+                narrow,
+                wide,
+                pool,
+                code,
+                octets,
+                lists,
+                wanted.pc,
+                numbers,
+                part_u32(lists, LISTED, wanted.map),
+                part_u8(octets, SPELLED, wanted.memory),
+                pins,
+                &mut rows,
+            )
+        }
     }
 }
 
@@ -321,6 +428,9 @@ pub fn answer(
         lists,
         list,
     );
+    if c == HANDLES {
+        return kept;
+    }
     let a = done.answer;
     put_answer(a, 0);
     after(kept, done)

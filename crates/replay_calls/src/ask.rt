@@ -103,14 +103,13 @@ fn called(c: usize, x: u64, heap: Heap, narrow: &[u32], wide: &[u64], pool: &[u8
 }
 
 // The page, on one line.
-fn page(heap: Heap, narrow: &[u32], wide: &[u64], pool: &[u8]) {
-    let mut text = [0u8; 262144];
+fn page(heap: Heap, narrow: &[u32], wide: &[u64], pool: &[u8], text: &mut [u8; 262144]) {
     let mut marks = [7u8; 8192];
     let mut work = [7u64; 8192];
-    let a = yexwalu::page::write_page(heap, narrow, wide, pool, &mut text, &mut marks, &mut work);
+    let a = yexwalu::page::write_page(heap, narrow, wide, pool, text, &mut marks, &mut work);
     put_number(a.number);
     if a.number == 0 {
-        put_page(&mut text, a.first as usize);
+        put_page(text, a.first as usize);
     }
     put(b"\n");
 }
@@ -151,7 +150,10 @@ fn show(c: usize, x: u64, heap: Heap, narrow: &[u32], wide: &[u64], pool: &[u8])
 fn told(c: usize, x: u64, heap: Heap, narrow: &[u32], wide: &[u64], pool: &[u8]) {
     match c {
         EPOCH => epoch(heap),
-        PAGE => page(heap, narrow, wide, pool),
+        PAGE => {
+            let mut text = [0u8; 262144];
+            page(heap, narrow, wide, pool, &mut text)
+        }
         _ => show(c, x, heap, narrow, wide, pool),
     }
 }

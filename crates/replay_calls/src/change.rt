@@ -159,23 +159,7 @@ fn fill(count: u64, heap: Heap, narrow: &mut [u32], wide: &mut [u64], pool: &mut
     same(h, answer)
 }
 
-// An object that is taken out: its bytes and its start are told here.
-fn take(handle: u64, heap: Heap, narrow: &mut [u32], wide: &mut [u64], pool: &mut [u8]) -> Done {
-    let mut data = [0u8; 65536];
-    let mut m = [7u8; 8192];
-    let mut w = [7u64; 8192];
-    let done = heaps::take(heap, narrow, wide, pool, handle, &mut data, &mut m, &mut w);
-    let a = done.answer;
-    put_number(a.number);
-    if a.number == 0 {
-        put_hex(&data, 0, a.first as usize);
-        put_next(a.second);
-    }
-    put(b"\n");
-    done
-}
-
-// Objects by themselves.
+// Objects by themselves. The bytes of one that is taken out go to `room`.
 fn by_number(
     c: usize,
     r: Request,
@@ -183,13 +167,14 @@ fn by_number(
     narrow: &mut [u32],
     wide: &mut [u64],
     pool: &mut [u8],
+    room: &mut [u8],
 ) -> Done {
     let mut m = [7u8; 8192];
     let mut w = [7u64; 8192];
     let x = r.x;
     match c {
         FILL => fill(x, heap, narrow, wide, pool),
-        TAKE => take(x, heap, narrow, wide, pool),
+        TAKE => heaps::take(heap, narrow, wide, pool, x, room, &mut m, &mut w),
         FREE => heaps::free(heap, narrow, wide, pool, x, &mut m, &mut w),
         _ => heaps::reissue(heap, narrow, wide, pool, x as usize, r.y, &mut m, &mut w),
     }
@@ -229,7 +214,7 @@ fn with_slots(
     }
 }
 
-// The heap as a whole: made anew, read from a page, changed by a script, for which `room` is as long as the longest pool.
+// The heap as a whole: made anew, read from a page, changed by a script with `room` as long as the longest pool.
 fn whole(
     c: usize,
     r: Request,
@@ -238,8 +223,8 @@ fn whole(
     wide: &mut [u64],
     pool: &mut [u8],
     text: &[u8],
+    room: &mut [u8],
 ) -> Done {
-    let mut room = [0u8; 65536];
     let mut m = [7u8; 8192];
     let mut w = [7u64; 8192];
     match c {
@@ -248,7 +233,7 @@ fn whole(
             made(heap, done)
         }
         LOAD => yexwalu::page::read_page(heap, narrow, wide, pool, text, &mut m, &mut w),
-        _ => heaps::run(heap, narrow, wide, pool, text, &mut room, &mut m, &mut w),
+        _ => heaps::run(heap, narrow, wide, pool, text, room, &mut m, &mut w),
     }
 }
 
@@ -262,12 +247,13 @@ fn called(
     pool: &mut [u8],
     data: &[u8],
     slots: &[u32],
+    room: &mut [u8],
 ) -> Done {
     match c {
         ALLOC | EDIT | WRITE => with_bytes(c, r, heap, narrow, wide, pool, data),
-        FILL | TAKE | FREE | REISSUE => by_number(c, r, heap, narrow, wide, pool),
+        FILL | TAKE | FREE | REISSUE => by_number(c, r, heap, narrow, wide, pool, room),
         RECYCLE | SEAL | SET_EPOCH => with_slots(c, r, heap, narrow, wide, pool, slots),
-        _ => whole(c, r, heap, narrow, wide, pool, data),
+        _ => whole(c, r, heap, narrow, wide, pool, data, room),
     }
 }
 
@@ -281,6 +267,7 @@ fn on_heap(
     pool: &mut [u8],
     bytes: &Bytes,
     lists: &Halves,
+    room: &mut Pool,
 ) -> Done {
     let s = least(kept.slots, least(narrow.len() / 6, wide.len() / 4));
     let a = 6 * s;
@@ -296,6 +283,7 @@ fn on_heap(
         &mut pool[0..p],
         part_u8(bytes, SPELLED, r.bytes),
         part_u32(lists, LISTED, r.slots),
+        room,
     )
 }
 
@@ -330,10 +318,20 @@ fn filled(a: Answer, count: u64) {
     }
 }
 
+// An object that was taken out: its bytes, which lie in `room`, and its start.
+fn taken(a: Answer, room: &Pool) {
+    put_number(a.number);
+    if a.number == 0 {
+        put_hex(room, 0, a.first as usize);
+        put_next(a.second);
+    }
+    put(b"\n");
+}
+
 // The answer to a change, with the values that it has.
-fn show(c: usize, r: Request, a: Answer) {
+fn show(c: usize, r: Request, a: Answer, room: &Pool) {
     match c {
-        TAKE => {}
+        TAKE => taken(a, room),
         FILL => filled(a, r.x),
         ALLOC | EDIT | REISSUE => put_answer(a, 1),
         _ => put_answer(a, 0),
@@ -356,8 +354,9 @@ pub fn answer(
         return kept;
     };
     let next = sized(c, r, kept);
-    let done = on_heap(c, r, next, narrow, wide, pool, bytes, lists);
+    let mut room = [0u8; 65536];
+    let done = on_heap(c, r, next, narrow, wide, pool, bytes, lists, &mut room);
     let a = done.answer;
-    show(c, r, a);
+    show(c, r, a, &room);
     after(kept, next, done)
 }

@@ -8,5 +8,6 @@ pub mod PageBound
 pub mod PageLength
 pub mod NoRoom
 pub mod StrideZero
+pub mod PlacesRise
 pub mod ProvedTable
 pub mod TestsPass

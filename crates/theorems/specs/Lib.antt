@@ -6,6 +6,7 @@ pub mod PageHeapPage
 pub mod PageBound
 pub mod PageLength
 pub mod StrideZero
+pub mod PlacesRise
 pub mod TableLayouts
 pub mod ProvedTable
 pub mod TestsPass

@@ -395,6 +395,10 @@ impl Machine {
                 None => "9".into(),
             },
             "slots" => format!("0 {} {}", h.slots(), h.live()),
+            "handles" => match h.shown(p, num(a.next())?) {
+                Some((ok, out)) => format!("{} {}", if ok { 0 } else { 13 }, show(&out)),
+                None => "9".into(),
+            },
             "collect" => {
                 let roots: Vec<u64> = list(a.next())?;
                 let pins: Vec<u32> = list(a.next())?;
