@@ -39,7 +39,7 @@ add-raise : tie.Need-add-raise
 add-raise c = omega (arith, K (c .before .before .before .before .before .before .before .before .before .before), hidden-inside (L (c .before .before .before .before .before .before .before .before .before .before)) (c .before .before .before .before .before .before .before .before .before .before .pre) _ (c .before .before .before .before .before .before .before .before .before .before .args .at) (now (c .before .before .before .before .before .before .before .before .before .before .args .bytes)) (sym (c .before .before .before .seen .ensures) ∙ c .before .enum-told2 .given .1))
 
 raise-requires : tie.Need-raise-requires
-raise-requires c κs = omega (arith, K (c .before .before .before .before .before .before .before .before .before .before), hidden-inside (L (c .before .before .before .before .before .before .before .before .before .before)) (c .before .before .before .before .before .before .before .before .before .before .pre) _ (c .before .before .before .before .before .before .before .before .before .before .args .at) (now (c .before .before .before .before .before .before .before .before .before .before .args .bytes)) (sym (c .before .before .before .seen .ensures) ∙ c .before .enum-told2 .given .1), R (c .before .before .before .before .before .before .before .before .before .before) (hidden-inside (L (c .before .before .before .before .before .before .before .before .before .before)) (c .before .before .before .before .before .before .before .before .before .before .pre) _ (c .before .before .before .before .before .before .before .before .before .before .args .at) (now (c .before .before .before .before .before .before .before .before .before .before .args .bytes)) (sym (c .before .before .before .seen .ensures) ∙ c .before .enum-told2 .given .1)))
+raise-requires c κs = omega (arith, K (c .before .before .before .before .before .before .before .before .before .before), hidden-inside (L (c .before .before .before .before .before .before .before .before .before .before)) (c .before .before .before .before .before .before .before .before .before .before .pre) _ (c .before .before .before .before .before .before .before .before .before .before .args .at) (now (c .before .before .before .before .before .before .before .before .before .before .args .bytes)) (sym (c .before .before .before .seen .ensures) ∙ c .before .enum-told2 .given .1))
 
 enum-known-from : tie.Need-enum-known-from
 enum-known-from c = search needs
@@ -69,7 +69,7 @@ add-raise-2 : tie.Need-add-raise-2
 add-raise-2 c = omega (arith, K (c .before .before .before .before .before .before .before .before .before .before .before .before .before), shown-inside (L (c .before .before .before .before .before .before .before .before .before .before .before .before .before)) (c .before .before .before .before .before .before .before .before .before .before .before .before .before .pre) _ (c .before .before .before .before .before .before .before .before .before .before .before .before .before .args .at) (now (c .before .before .before .before .before .before .before .before .before .before .before .before .before .args .bytes)) (sym (c .before .before .before .before .before .before .seen .ensures) ∙ c .before .before .before .before .from .given .1))
 
 raise-requires-2 : tie.Need-raise-requires-2
-raise-requires-2 c κs = omega (arith, K (c .before .before .before .before .before .before .before .before .before .before .before .before .before), shown-inside (L (c .before .before .before .before .before .before .before .before .before .before .before .before .before)) (c .before .before .before .before .before .before .before .before .before .before .before .before .before .pre) _ (c .before .before .before .before .before .before .before .before .before .before .before .before .before .args .at) (now (c .before .before .before .before .before .before .before .before .before .before .before .before .before .args .bytes)) (sym (c .before .before .before .before .before .before .seen .ensures) ∙ c .before .before .before .before .from .given .1), R (c .before .before .before .before .before .before .before .before .before .before .before .before .before) (shown-inside (L (c .before .before .before .before .before .before .before .before .before .before .before .before .before)) (c .before .before .before .before .before .before .before .before .before .before .before .before .before .pre) _ (c .before .before .before .before .before .before .before .before .before .before .before .before .before .args .at) (now (c .before .before .before .before .before .before .before .before .before .before .before .before .before .args .bytes)) (sym (c .before .before .before .before .before .before .seen .ensures) ∙ c .before .before .before .before .from .given .1) .0))
+raise-requires-2 c κs = omega (arith, K (c .before .before .before .before .before .before .before .before .before .before .before .before .before), shown-inside (L (c .before .before .before .before .before .before .before .before .before .before .before .before .before)) (c .before .before .before .before .before .before .before .before .before .before .before .before .before .pre) _ (c .before .before .before .before .before .before .before .before .before .before .before .before .before .args .at) (now (c .before .before .before .before .before .before .before .before .before .before .before .before .before .args .bytes)) (sym (c .before .before .before .before .before .before .seen .ensures) ∙ c .before .before .before .before .from .given .1))
 
 add-copy-u8 : tie.Need-add-copy-u8
 add-copy-u8 c = omega (arith, K (c .before .before .before .before .before .before .before .before .before .before .before .before .before .before .before .before .before), c .before .before .before .before .before .before .if1 .left, shown-inside (L (c .before .before .before .before .before .before .before .before .before .before .before .before .before .before .before .before .before)) (c .before .before .before .before .before .before .before .before .before .before .before .before .before .before .before .before .before .pre) _ (c .before .before .before .before .before .before .before .before .before .before .before .before .before .before .before .before .before .args .at) (now (c .before .before .before .before .before .before .before .before .before .before .before .before .before .before .before .before .before .args .bytes)) (sym (c .before .before .before .before .before .before .before .before .before .before .seen .ensures) ∙ c .before .before .before .before .before .before .before .before .from .given .1))
