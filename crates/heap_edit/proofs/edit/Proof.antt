@@ -2,7 +2,7 @@
 use denote.Ref.{now}
 use native.Mathlib.Omega.{arith}
 use Rattle.heap.specs.Lent.{Lent, lent}
-use Rattle.heap_edit.proofs.Columns.{Sizes, sizes, reads}
+use Rattle.heap_edit.proofs.Columns.{Sizes, sizes}
 use Rattle.heap_edit.proofs.Editing.{found, edit-unfound, edit-inside, edit-not, edit-can, edit-yes}
 use borrow.Author.Needs.{needs}
 use Rattle.heap_edit.proofs.edit.Statement.{statement}

@@ -2,9 +2,8 @@
 use denote.Ref.{now}
 use native.Mathlib.Omega.{arith}
 use Rattle.heap.specs.Lent.{Lent, lent}
-use Prim.Native.Nat.{_<_}
 use mathlib.Core.Path.{sym, _∙_}
-use Rattle.heap_edit.proofs.Columns.{Sizes, Reads, sizes, reads}
+use Rattle.heap_edit.proofs.Columns.{Sizes, sizes}
 use Rattle.heap_edit.proofs.Writing.{hidden-inside, shown-inside, write-none, write-hides, write-off, write-yes}
 use borrow.Author.Needs.{needs}
 use Rattle.heap_edit.proofs.write.Statement.{statement}
@@ -19,9 +18,6 @@ L c = lent (c .args .heap) (now (c .args .narrow)) (now (c .args .wide)) (now (c
 
 K : (c : tie.Start) → Sizes (c .args .heap) (now (c .args .narrow)) (now (c .args .wide)) (now (c .args .pool))
 K c = sizes (c .args .heap) (now (c .args .narrow)) (now (c .args .wide)) (now (c .args .pool)) (c .pre)
-
-R : (c : tie.Start) → c .args .i < c .args .heap .slots → Reads (c .args .heap) (now (c .args .narrow)) (now (c .args .wide)) (now (c .args .pool)) (c .args .i)
-R c b = reads (c .args .heap) (now (c .args .narrow)) (now (c .args .wide)) (now (c .args .pool)) (c .pre) (c .args .i) b
 
 seen-requires : tie.Need-seen-requires
 seen-requires c κs = search needs
