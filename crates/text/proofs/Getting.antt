@@ -14,9 +14,8 @@ use native.Mathlib.Numerals.{add-one}
 use native.Mathlib.Nat.{zero-add}
 use borrow.Author.Tests.{le-leb, lt-leb, not-true, not-false, eq-eqb, ne-eqb, leb-true, leb-false, eqb-true}
 use Rattle.word.proofs.BitLaws.{or-none}
-use Rattle.word.specs.Choice.{if_then_else_}
 use Rattle.text.specs.Text.{_>>=_, give, decimal, hex, newline, Bytes, digitOf, stops, ends, scan, capped, after, readDecimal, readLiteral, hexDigitOf, byteOf, readHex, readField}
-use Rattle.text.specs.Format.{either, number}
+use Rattle.text.specs.Format.{Format, Right, either, number}
 use Rattle.text.specs.declared.Decimal.{Decimal}
 use Rattle.text.specs.declared.Hex.{Hex}
 use Rattle.text.specs.declared.Literal.{Literal}
@@ -26,7 +25,7 @@ use Rattle.text.specs.Answer.{decimalAnswer, literalAnswer, eitherAnswer
 use Rattle.text.specs.declared.Literal.the-variants.{Past, Missing}
 use Rattle.text.specs.declared.Hex.the-variants.{Count, NoHex}
 use Rattle.text.specs.declared.Decimal.the-variants.{Number, NoNumber}
-use Rattle.text.proofs.Laws.{digit-of-digit, scan-some, scan-stops, scan-grows, read-digit, hex-digit-back, decimal-back, number-right, hex-back, literal-back, either-back}
+use Rattle.text.proofs.Laws.{digit-of-digit, scan-some, scan-stops, scan-grows, read-digit, hex-digit-back, decimal-back, number-right, hex-back, literal-back}
 
 -- what stands at an index, and what comes after it
 pub drop-at : (s : List ℕ) (i : ℕ) → i < length s → drop i s ≡ getD s i 0 ∷ drop (i + 1) s
@@ -416,24 +415,23 @@ module _ (c d s : List ℕ) (at : ℕ) {r : Literal} (first : r ≡ literalAnswe
     unfolding either
     either-none f = rw (literal-lost c s at first lost, literal-lost d s at second f)
 
--- what the code has found of them
-pub either-found : (c d s : List ℕ) (at : ℕ) {r : Either} (b : Bool) (k : ℕ) → r ≡ eitherAnswer (length s) (either c d .read (drop at s)) → r ≡ One b k →
-    (either c d .read (drop at s) ≡ give b (drop k s)) × (k ≤ length s)
-either-found c d s at {r} b k e f = go (either c d .read (drop at s)) refl e
+-- one of two ways that a right format has, as the code has found it
+pub one-found : {f : Format Bool} {good : Bool → Type 0} → Right f good → (s : List ℕ) (at : ℕ) {r : Either} (b : Bool) (k : ℕ) →
+    r ≡ eitherAnswer (length s) (f .read (drop at s)) → r ≡ One b k → (f .read (drop at s) ≡ give b (drop k s)) × (k ≤ length s)
+one-found {f} right s at {r} b k e g = go (f .read (drop at s)) refl e
   where
-    go : (o : Option (Bool × List ℕ)) → either c d .read (drop at s) ≡ o → r ≡ eitherAnswer (length s) o → (either c d .read (drop at s) ≡ give b (drop k s)) × (k ≤ length s)
-    go none q g = let z : _≡_ {A = ℕ} 0 1 = cc in absurd (omega arith)
-    go (some x) q g =
+    go : (o : Option (Bool × List ℕ)) → f .read (drop at s) ≡ o → r ≡ eitherAnswer (length s) o → (f .read (drop at s) ≡ give b (drop k s)) × (k ≤ length s)
+    go none q h = absurd (let z : _≡_ {A = ℕ} 0 1 = cc in omega arith)
+    go (some x) q h =
+        let v : One (x .0) (length s - length (x .1)) ≡ One b k = sym h ∙ g in
         let v0 : x .0 ≡ b = cc in
         let v1 : length s - length (x .1) ≡ k = cc in
-        (q ∙ ap some (λ j. (v0 j, (suffix-of x q ∙ ap (λ (m : ℕ). drop m s) v1) j)), omega arith)
-      where
-        suffix-of : (x : Bool × List ℕ) → either c d .read (drop at s) ≡ some x → x .1 ≡ drop (length s - length (x .1)) s
-        suffix-of x q = suffix (if x .0 then c else d) (x .1) s at (either-back c d (drop at s) (x .0) (x .1) q)
+        let u : x .1 ≡ drop k s = suffix (f .print (x .0)) (x .1) s at (right .back (drop at s) (x .0) (x .1) q .1) ∙ ap (λ (m : ℕ). drop m s) v1 in
+        (q ∙ (λ j. give (v0 j) (u j)), omega arith)
 
-pub either-lost : (c d s : List ℕ) (at : ℕ) {r : Either} → r ≡ eitherAnswer (length s) (either c d .read (drop at s)) → r ≡ Neither → either c d .read (drop at s) ≡ none
-either-lost c d s at {r} e f = go (either c d .read (drop at s)) refl e
+pub one-lost : (f : Format Bool) (s : List ℕ) (at : ℕ) {r : Either} → r ≡ eitherAnswer (length s) (f .read (drop at s)) → r ≡ Neither → f .read (drop at s) ≡ none
+one-lost f s at {r} e g = go (f .read (drop at s)) refl e
   where
-    go : (o : Option (Bool × List ℕ)) → either c d .read (drop at s) ≡ o → r ≡ eitherAnswer (length s) o → either c d .read (drop at s) ≡ none
-    go none q g = q
-    go (some x) q g = let z : _≡_ {A = ℕ} 0 1 = cc in absurd (omega arith)
+    go : (o : Option (Bool × List ℕ)) → f .read (drop at s) ≡ o → r ≡ eitherAnswer (length s) o → f .read (drop at s) ≡ none
+    go none q h = q
+    go (some x) q h = absurd (let z : _≡_ {A = ℕ} 0 1 = cc in omega arith)

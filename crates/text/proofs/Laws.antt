@@ -418,14 +418,9 @@ either-join c d t b rest none f e =
     let v : _≡_ {A = Bool × List ℕ} (false, p .0) (b, rest) = some-inj (p .2) in
     rw (← ap (λ (x : Bool × List ℕ). x .0) v, ← ap (λ (x : Bool × List ℕ). x .1) v) (literal-back d t (p .0) (p .1))
 
--- what was read stands there
-pub either-back : (c d t : List ℕ) (b : Bool) (rest : List ℕ) → either c d .read t ≡ give b rest → (if b then c else d) ++ rest ≡ t
-unfolding either
-either-back c d t b rest e = either-join c d t b rest (readLiteral c t) refl e
-
 pub either-right : (first second : List ℕ) → Apart first second → Right (either first second) Any
 unfolding either
-either-right c d h = record { forth = λ b rest g. there b rest; back = λ t b rest e. (tt, either-back c d t b rest e) }
+either-right c d h = record { forth = λ b rest g. there b rest; back = λ t b rest e. (tt, either-join c d t b rest (readLiteral c t) refl e) }
   where
     there : (b : Bool) (rest : List ℕ) → either c d .read ((if b then c else d) ++ rest) ≡ give b rest
     there true rest = rw (literal-forth c rest)
