@@ -25,7 +25,7 @@ no-newline = refl
 num : (width : ℕ) → Right (number width comma) (λ n. n < 2 ^ width)
 num width = number-right width comma no-comma
 
-last : (width : ℕ) → Right (number width newline) (λ n. n < 2 ^ width)
+pub last : (width : ℕ) → Right (number width newline) (λ n. n < 2 ^ width)
 last width = number-right width newline no-newline
 
 abbrev pub Fields-good : (wide : Bool) → Fields → Type 0
@@ -46,10 +46,10 @@ head-right =
     pair-right (num 8) λ _. pair-right (num 64) λ _. pair-right (num 64) λ _. pair-right (num 64)
     λ _. pair-right (num 32) λ _. pair-right (num 32) λ _. pair-right (num 32) λ _. last 32
 
-abbrev Listed : {A : Type 0} → (A → Type 0) → ℕ → List A → Type 0
+abbrev pub Listed : {A : Type 0} → (A → Type 0) → ℕ → List A → Type 0
 Listed good n l = All good l × (length l ≡ n)
 
-abbrev Body-good : (wide : Bool) → Head → Body → Type 0
+abbrev pub Body-good : (wide : Bool) → Head → Body → Type 0
 Body-good w d b =
     Listed (λ s. Fields-good w (fieldsOf s)) (d .1 .1 .1 .1 .0) (b .0)
     × (Listed (λ i. i < 2 ^ 32) (d .1 .1 .1 .1 .1 .0) (b .1 .0)
@@ -72,7 +72,7 @@ writes-apart t = refl
 pub names-right : Right (names slotFront wideWrites narrowWrites) Any
 names-right = after-literal-right slotFront (either-right wideWrites narrowWrites writes-apart)
 
-abbrev Parts-good : Parts → Type 0
+abbrev pub Parts-good : Parts → Type 0
 Parts-good p = Head-good (p .0) × (Any (p .1 .0) × Body-good (p .1 .0) (p .0) (p .1 .1))
 
 pub page-right : Right pageFormat Parts-good
@@ -85,16 +85,16 @@ pub slot-prints : (w : Bool) (s : Slot) → slotFormat w .print s ≡ slotLine s
 unfolding slotFormat slotLine number pair mapped bytesLine line
 slot-prints w s = simp append-assoc
 
-value-prints : (width n : ℕ) → number width newline .print n ≡ valueLine n
+pub value-prints : (width n : ℕ) → number width newline .print n ≡ valueLine n
 unfolding number valueLine line
 value-prints width n = refl
 
-flatMap-same : {A : Type 0} (f g : A → List ℕ) → ((a : A) → f a ≡ g a) → (l : List A) → flatMap f l ≡ flatMap g l
+pub flatMap-same : {A : Type 0} (f g : A → List ℕ) → ((a : A) → f a ≡ g a) → (l : List A) → flatMap f l ≡ flatMap g l
 unfolding flatMap
 flatMap-same f g e [] = refl
 flatMap-same f g e (a ∷ l) = rw (e a, flatMap-same f g e l)
 
-head-prints : (h : State) → headFormat .print (headOf h) ≡ heapLine h
+pub head-prints : (h : State) → headFormat .print (headOf h) ≡ heapLine h
 unfolding headFormat heapLine numbersLine number pair line
 head-prints h = simp append-assoc
 
@@ -126,18 +126,18 @@ fields-within w s g = (g .generation, (g .kind, (g .type, (g .start, (g .writes,
 within-fields : (w : Bool) (s : Slot) → Fields-good w (fieldsOf s) → SlotWithin w s
 within-fields w s g = record { generation = g .0; kind = g .1 .0; type = g .1 .1 .0; start = g .1 .1 .1 .0; writes = g .1 .1 .1 .1 .0; bytes = g .1 .1 .1 .1 .1 }
 
-all-map : {A : Type 0} {P Q : A → Type 0} → ((a : A) → P a → Q a) → (l : List A) → All P l → All Q l
+pub all-map : {A : Type 0} {P Q : A → Type 0} → ((a : A) → P a → Q a) → (l : List A) → All P l → All Q l
 all-map f [] h = tt
 all-map f (a ∷ l) h = (f a (h .0), all-map f l (h .1))
 
-good-saved : (f : Form) (h : State) → Within f h → Parts-good (saved f h)
+pub good-saved : (f : Form) (h : State) → Within f h → Parts-good (saved f h)
 good-saved f h w = (
   (w .tag, (w .sinceGc, (w .reclaimAt, (w .liveBytes, (w .slot-count, (w .free-count, (w .quarantine-count, w .sealed-count))))))),
   (tt, ((all-map (fields-within (f .wide)) (h .slots) (w .slots), refl), ((w .free, refl), ((w .quarantine, refl), (w .sealed, refl))))),
 )
 
 -- a text that was read is the page of what was read
-within-read : (p : Parts) → Parts-good p → Within (readOf p .0) (readOf p .1) × (saved (readOf p .0) (readOf p .1) ≡ p)
+pub within-read : (p : Parts) → Parts-good p → Within (readOf p .0) (readOf p .1) × (saved (readOf p .0) (readOf p .1) ≡ p)
 within-read p good =
     let g = good .0 in
     let b = good .1 .1 in (
@@ -158,7 +158,7 @@ within-read p good =
       rw (b .0 .1, b .1 .0 .1, b .1 .1 .0 .1, b .1 .1 .1 .1),
     )
 
-whole-some : {A : Type 0} (r : A × List ℕ) (a : A) → whole r ≡ some a → r ≡ (a, [])
+pub whole-some : {A : Type 0} (r : A × List ℕ) (a : A) → whole r ≡ some a → r ≡ (a, [])
 whole-some {A} r a e = go (r .0) (r .1) e
   where
     go : (x : A) (t : List ℕ) → whole {A = A} (x, t) ≡ some a → _≡_ {A = A × List ℕ} (x, t) (a, [])
@@ -195,7 +195,7 @@ written-read t f h e =
     (finish t (q .0) (p .1 ∙ ap some (whole-some (p .0) (q .0) (q .1))))
 
 -- the heap that a page brings back
-same-unsaved : (h : State) → Unsaved h → stateOf (headOf h) (bodyOf h) ≡ h
+pub same-unsaved : (h : State) → Unsaved h → stateOf (headOf h) (bodyOf h) ≡ h
 same-unsaved h u i =
     record { tag = h .tag; sinceGc = h .sinceGc; reclaimAt = h .reclaimAt; liveBytes = h .liveBytes; epoch = sym (u .epoch) i; log = sym (u .log) i; slots = h .slots; free = h .free; quarantine = h .quarantine; sealed = h .sealed }
 
