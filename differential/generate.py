@@ -30,6 +30,8 @@ class Limits:
     pool = 1 << 16
     line = 1 << 15
     data = 400
+    # the largest write count that a page is given: the next write passes 32 bits
+    writes = U32
 
 
 class Row:
@@ -299,7 +301,7 @@ class Writer:
             if s.data is None:
                 out.append(f"{s.generation},0,0,0,0,")
             else:
-                writes = self.pick((3, self.r.randint(0, 9)), (2, U32), (1, U32 - 1))
+                writes = self.pick((3, self.r.randint(0, 9)), (2, self.limits.writes), (1, self.limits.writes - 1))
                 out.append(f"{s.generation},{s.kind},{s.type},{s.start},{writes},{s.data.hex()}")
         for name, values in (("free", self.free), ("quarantine", self.quarantine), ("sealed", sealed)):
             out += [name] + list(map(str, values))

@@ -55,6 +55,8 @@ class Short(generate.Limits):
     pool = 4096
     line = 2000
     data = 96
+    # no count reaches 2^32, past which the Rust's differs
+    writes = (1 << 32) - (1 << 20)
 
 
 def sample(oracle, seed, lines):

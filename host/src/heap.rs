@@ -616,7 +616,7 @@ impl Heap {
     /// heap.alloc(Kind::Bytes, b"AB")?;
     /// let page = heap.write_page()?;
     /// assert_eq!(page, b"tag,since_gc,reclaim_at,live_bytes,slots,free,quarantine,sealed\n1,34,4096,0,1,0,0,0\n\
-    /// generation,kind,type,start,writes,data\n1,2,0,0,0,4142\nfree\nquarantine\nsealed\n");
+    /// generation,kind,type,start,writes64,data\n1,2,0,0,0,4142\nfree\nquarantine\nsealed\n");
     /// assert_eq!(Heap::read_page(64, 4096, &page)?.write_page()?, page);
     /// # Ok::<(), Refusal>(())
     /// ```
@@ -632,8 +632,8 @@ impl Heap {
     /// use yexwalu::{Heap, Kind, Refusal};
     /// let mut heap = Heap::new(1, 64, 4096)?;
     /// heap.alloc(Kind::Bytes, b"AB")?;
-    /// assert_eq!(heap.page_length()?, 161);
-    /// assert_eq!(heap.write_page()?.len(), 161);
+    /// assert_eq!(heap.page_length()?, 163);
+    /// assert_eq!(heap.write_page()?.len(), 163);
     /// # Ok::<(), Refusal>(())
     /// ```
     pub fn page_length(&self) -> Result<usize, Refusal> {

@@ -97,7 +97,7 @@ module _ (l : Lent) (w : wellFormed l ≡ true) (x : ℕ) (bytes : List ℕ) (fi
               writes = k .writes-size;
             }
 
-        edit-at : (l′ : Lent) (g k t′ w′ : ℕ) → g ≡ slotAt (view l) i .generation → k ≡ slotAt (view l) i .kind → t′ ≡ slotAt (view l) i .type → w′ ≡ (slotAt (view l) i .writes + 1) % 2 ^ 32
+        edit-at : (l′ : Lent) (g k t′ w′ : ℕ) → g ≡ slotAt (view l) i .generation → k ≡ slotAt (view l) i .kind → t′ ≡ slotAt (view l) i .type → w′ ≡ (slotAt (view l) i .writes + 1) % 2 ^ 64
             → PlacedIn (with-header l hd) l′ i g k t′ first w′ bytes → Does l l′ (ok i) (edit (poolSize l) (view l) x bytes first)
         edit-at l′ g k t′ w′ eg ek et ew done =
             let kn = knows l w in
@@ -117,9 +117,9 @@ module _ (h : Heap) (narrow wide pool : List ℕ) (w : wellFormed (lent h narrow
     (q : b ≡ leb (dataSize (view (lent h narrow wide pool) .slots) - length (slotAt (view (lent h narrow wide pool)) i .bytes) + length bytes) (length pool)) (t : b ≡ true)
     {hd : Heap} (eh : hd ≡ setChanged h i) where
   pub edit-yes : (l′ : Lent)
-      → PlacedIn (lent hd narrow wide pool) l′ i (getD narrow i 0) (getD narrow (length narrow / 6 + i) 0) (getD narrow (2 * (length narrow / 6) + i) 0) first ((getD wide (2 * (length narrow / 6) + i) 0 + 1) % 2 ^ 32) bytes
+      → PlacedIn (lent hd narrow wide pool) l′ i (getD narrow i 0) (getD narrow (length narrow / 6 + i) 0) (getD narrow (2 * (length narrow / 6) + i) 0) first ((getD wide (2 * (length narrow / 6) + i) 0 + 1) % 2 ^ 64) bytes
       → Tells here nothing (lent h narrow wide pool) l′ (Is i 0) (edit (length pool) (view (lent h narrow wide pool)) x bytes first)
   edit-yes l′ done =
       let l : Lent = lent h narrow wide pool in
       let v : Reads h narrow wide pool i = reads h narrow wide pool w i (edit-inside l w x bytes first s f) in
-      tells-is here nothing (edit-at l w x bytes first s f q t eh l′ _ _ _ _ (v .generation) (v .kind) (v .type) (ap (λ (n : ℕ). (n + 1) % 2 ^ 32) (v .writes)) done)
+      tells-is here nothing (edit-at l w x bytes first s f q t eh l′ _ _ _ _ (v .generation) (v .kind) (v .type) (ap (λ (n : ℕ). (n + 1) % 2 ^ 64) (v .writes)) done)

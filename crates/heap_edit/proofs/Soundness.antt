@@ -42,14 +42,13 @@ live-inside h i e =
 
 rewritten-sound : (s : Slot) (start : ℕ) (bytes : List ℕ) → SlotSound s → live s ≡ true → SlotSound (rewritten s start bytes)
 rewritten-sound s start bytes k e =
-    record { kinds = k .kinds; aged = k .aged; narrow = omega arith; untyped = k .untyped; dead = λ z. absurd (omega (arith, ltb-true 0 (s .kind) e)) }
+    record { kinds = k .kinds; aged = k .aged; untyped = k .untyped; dead = λ z. absurd (omega (arith, ltb-true 0 (s .kind) e)) }
 
 reissued-sound : (s : Slot) → SlotSound s → SlotSound (reissued s)
 reissued-sound s k =
     record {
       kinds = k .kinds;
       aged = step-aged (s .generation);
-      narrow = omega arith;
       untyped = k .untyped;
       dead = λ z. let d = k .dead z in λ j. record { generation = nextFrom 32 (s .generation); kind = z j; type = ap (λ (x : Slot). x .type) d j; start = ap (λ (x : Slot). x .start) d j; writes = 0; bytes = ap (λ (x : Slot). x .bytes) d j };
     }

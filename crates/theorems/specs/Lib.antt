@@ -5,6 +5,8 @@ pub mod HeapPageHeap
 pub mod PageHeapPage
 pub mod PageBound
 pub mod PageLength
+pub mod EarlierPage
+pub mod PageForms
 pub mod StrideZero
 pub mod PlacesRise
 pub mod TableLayouts
