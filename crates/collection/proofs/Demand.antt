@@ -40,7 +40,7 @@ module _ (h : State) (handles : ℕ → Option (List ℕ)) where
 
   module _ (S : Starts) where
     -- what is reached is an object
-    reached-live : (o : ℕ) → Reached (graph h handles) S o → live (slotAt h o) ≡ true
+    pub reached-live : (o : ℕ) → Reached (graph h handles) S o → live (slotAt h o) ≡ true
     reached-live =
         reached-ind (graph h handles) S (λ o. live (slotAt h o) ≡ true)
         (λ o f. ⊎-elim (λ p. p .1) (λ r. resolved-live h (r .0) o (found-ok (resolve h (r .0)) o (r .2)) .0) f)
