@@ -85,6 +85,9 @@ module _ (h : Heap) (narrow wide pool : List ℕ) (wf : wellFormed (lent h narro
       all-data : length (flat (take (length (dataOf (view l .slots))) (dataOf (view l .slots)))) ≡ length (flat (dataOf (view l .slots)))
       all-data = ap (λ (d : List (List ℕ)). length (flat d)) (take-all (length (dataOf (view l .slots))) (dataOf (view l .slots)) (omega arith))
 
+  pub formed-few : h .slots ≤ 16777216
+  formed-few = omega (arith, facts .slot-count, formed .sound .slots-fit, formed .sound .slot-range)
+
   -- ---- what the columns have of a slot, also where there is none
 
   past : (i : ℕ) → length (view l .slots) ≤ i → slotAt (view l) i ≡ noSlot

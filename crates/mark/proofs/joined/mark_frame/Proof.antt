@@ -1,9 +1,13 @@
 -- `mark::joined::mark_frame` meets its contract. Assumes nothing.
 use Rattle.mark.proofs.FrameMarks.{frame-scratch, frame-stuck, frame-marked}
 use Rattle.ty.specs.View.{tableOf}
-use Rattle.frame.specs.Frame.{frameHandles}
+use Rattle.frame.specs.Frame.{entriesOf, frameHandles, addressesIn, entriesWords}
+use Rattle.frame.proofs.Words.{frame-words}
+use Rattle.addresses.specs.Listed.{slotsOf}
 use Rattle.mark.specs.Joining.{rowValues}
-use mathlib.Core.Path.{_∙_}
+use Prim.Native.Nat.{ℕ}
+use mathlib.Core.Path.{sym, ap, _∙_}
+use mathlib.Core.List.{List, _++_}
 use borrow.Author.Needs.{needs}
 use Rattle.mark.proofs.joined.mark_frame.Statement.{statement}
 use Rattle.mark.proofs.joined.mark_frame.Tie as tie
@@ -26,23 +30,21 @@ same-length-2 c = search needs
 returns : tie.Need-returns
 returns c = search frame-stuck
 
-push-row-requires : tie.Need-push-row-requires
-push-row-requires c κs = (c .before .before .before .before .before .before .before .before .before .before .before .before .before .before .before .before .before .before .before .before .before .before .before .before .before .before .before .pre .0 .runs, frame-scratch _ _ _ _ _ _ (c .before .before .before .before .before .before .before .before .before .before .before .before .before .before .before .before .before .before .before .before .before .before .before .before .before .before .before .pre .1) _ _ _ _ (c .before .before .before .before .before .before .before .before .before .trace-frame .ensures) _ (c .before .before .before .r .given .1))
+seed-joined-requires : tie.Need-seed-joined-requires
+seed-joined-requires c κs = (@start .pre .0 .runs, @start .pre .1, frame-scratch _ _ _ _ _ _ (@start .pre .2) _ _ _ _ (@trace-frame .ensures) _ (@r .given .1))
 
-slice-aggregate-mark-from : tie.Need-slice-aggregate-mark-from
-slice-aggregate-mark-from c = search needs
-
-mark-from-requires : tie.Need-mark-from-requires
-mark-from-requires c κs = (c .before .before .before .before .before .before .before .before .before .before .before .before .before .before .before .before .before .before .before .before .before .before .before .before .before .before .before .before .before .before .before .before .before .before .before .pre .0, c .before .before .before .before .before .before .before .push-row .ensures .0 .scratch)
+drain-requires : tie.Need-drain-requires
+drain-requires c κs = (@start .pre .0, @seed-joined .ensures .scratch)
 
 same-length-3 : tie.Need-same-length-3
-same-length-3 c = c .before .before .before .before .mark-from .kept .1 .1 .1 .1 .1 .1 .1 .1 .1 .1 .1 .1 .1 .0 ∙ c .before .before .before .before .before .before .before .before .before .before .before .before .push-row .kept .1 .1 .1 .1 .1 .1 .0 ∙ c .before .before .before .before .before .before .before .before .before .before .before .before .before .before .before .before .before .before .before .before .before .before .trace-frame .kept .1 .1 .1 .1 .1 .1 .1 .1 .1 .1 .1 .1 .0
+same-length-3 c = @drain .kept .1 .1 .1 .1 .1 .1 .1 .1 .1 .1 .0 ∙ @seed-joined .kept .1 .1 .1 .1 .1 .1 .1 .1 .1 .1 .1 .1 .0 ∙ @trace-frame .kept .1 .1 .1 .1 .1 .1 .1 .1 .1 .1 .1 .1 .0
 
 same-length-4 : tie.Need-same-length-4
 same-length-4 c = search needs
 
 returns-2 : tie.Need-returns-2
-returns-2 c = frame-marked (tableOf (c .before .before .before .before .before .before .before .before .before .before .before .before .before .before .before .before .before .before .before .before .before .before .before .before .before .before .before .before .before .before .before .before .before .before .before .before .before .before .before .before .args .types .now) (c .before .before .before .before .before .before .before .before .before .before .before .before .before .before .before .before .before .before .before .before .before .before .before .before .before .before .before .before .before .before .before .before .before .before .before .before .before .before .before .before .args .fields .now) (c .before .before .before .before .before .before .before .before .before .before .before .before .before .before .before .before .before .before .before .before .before .before .before .before .before .before .before .before .before .before .before .before .before .before .before .before .before .before .before .before .args .consts .now) (c .before .before .before .before .before .before .before .before .before .before .before .before .before .before .before .before .before .before .before .before .before .before .before .before .before .before .before .before .before .before .before .before .before .before .before .before .before .before .before .before .args .bytes .now)) (c .before .before .before .before .before .before .before .before .before .before .before .before .before .before .before .before .before .before .before .before .before .before .before .before .before .before .before .before .before .before .before .before .before .before .before .before .before .before .before .before .args .tag) (c .before .before .before .before .before .before .before .before .before .before .before .before .before .before .before .before .before .before .before .before .before .before .before .before .before .before .before .before .before .before .before .before .before .before .before .before .before .before .before .before .args .slots) (c .before .before .before .before .before .before .before .before .before .before .before .before .before .before .before .before .before .before .before .before .before .before .before .before .before .before .before .before .before .before .before .before .before .before .before .before .before .before .before .before .args .s) (c .before .before .before .before .before .before .before .before .before .before .before .before .before .before .before .before .before .before .before .before .before .before .before .before .before .before .before .before .before .before .before .before .before .before .before .before .before .before .before .before .args .narrow .now) (c .before .before .before .before .before .before .before .before .before .before .before .before .before .before .before .before .before .before .before .before .before .before .before .before .before .before .before .before .before .before .before .before .before .before .before .before .before .before .before .before .args .wide .now) (c .before .before .before .before .before .before .before .before .before .before .before .before .before .before .before .before .before .before .before .before .before .before .before .before .before .before .before .before .before .before .before .before .before .before .before .before .before .before .before .before .args .pool .now) (c .before .before .before .before .before .before .before .before .before .before .before .before .before .before .before .before .before .before .before .before .before .before .before .before .before .before .before .before .before .before .before .before .before .before .before .before .before .before .before .before .args .marks .now) (c .before .before .before .before .before .before .before .before .before .before .before .before .before .before .before .before .before .before .before .before .before .before .before .before .before .before .before .before .before .before .before .before .before .before .before .before .before .before .before .before .args .work .now) (c .before .before .before .before .before .before .before .before .before .before .before .before .before .before .before .before .before .before .before .before .before .before .before .before .before .before .before .before .before .before .before .before .before .before .before .before .before .before .before .before .pre .1) (frameHandles (tableOf (c .before .before .before .before .before .before .before .before .before .before .before .before .before .before .before .before .before .before .before .before .before .before .before .before .before .before .before .before .before .before .before .before .before .before .before .before .before .before .before .before .args .types .now) (c .before .before .before .before .before .before .before .before .before .before .before .before .before .before .before .before .before .before .before .before .before .before .before .before .before .before .before .before .before .before .before .before .before .before .before .before .before .before .before .before .args .fields .now) (c .before .before .before .before .before .before .before .before .before .before .before .before .before .before .before .before .before .before .before .before .before .before .before .before .before .before .before .before .before .before .before .before .before .before .before .before .before .before .before .before .args .consts .now) (c .before .before .before .before .before .before .before .before .before .before .before .before .before .before .before .before .before .before .before .before .before .before .before .before .before .before .before .before .before .before .before .before .before .before .before .before .before .before .before .before .args .bytes .now)) (c .before .before .before .before .before .before .before .before .before .before .before .before .before .before .before .before .before .before .before .before .before .before .before .before .before .before .before .before .before .before .before .before .before .before .before .before .before .before .before .before .args .map .now) (c .before .before .before .before .before .before .before .before .before .before .before .before .before .before .before .before .before .before .before .before .before .before .before .before .before .before .before .before .before .before .before .before .before .before .before .before .before .before .before .before .args .memory .now)) (rowValues (c .before .before .before .before .before .before .before .before .before .before .before .before .before .before .before .before .before .before .before .before .before .before .before .before .before .before .before .before .before .before .before .before .before .before .before .before .before .before .before .before .args .row .now) (c .before .before .before .before .before .before .before .before .before .before .before .before .before .before .before .before .before .before .before .before .before .before .before .before .before .before .before .before .before .before .before .before .before .before .before .before .before .before .before .before .args .values .now)) (c .before .before .before .before .before .before .before .before .before .before .before .before .before .before .before .before .before .before .before .before .before .before .before .before .before .before .before .before .before .before .before .before .before .before .before .before .before .before .before .before .args .sealed .now) (c .before .before .before .before .before .before .before .before .before .before .before .before .before .before .before .before .before .before .before .before .before .before .before .before .before .before .before .before .before .before .before .before .before .before .before .before .before .before .before .before .args .pins .now) _ _ _ (c .before .before .before .before .before .before .before .before .before .before .before .before .before .before .before .before .before .before .before .before .before .before .trace-frame .ensures) _ (c .before .before .before .before .before .before .before .before .before .before .before .before .before .before .before .before .r .given .1) _ _ _ (c .before .before .before .before .before .before .before .before .before .before .before .before .push-row .ensures .0) (c .before .before .before .before .mark-from .result) (c .before .before .before .before .mark-from .last .1 .1 .1 .1 .1 .1 .1 .1 .1 .1 .1 .1 .1 .0) (c .before .before .before .before .mark-from .last .1 .1 .1 .1 .1 .1 .1 .1 .1 .1 .1 .1 .1 .1 .0) (c .before .before .before .before .mark-from .ensures)
+returns-2 c =
+    frame-marked (tableOf (@start .args .types .now) (@start .args .fields .now) (@start .args .consts .now) (@start .args .bytes .now)) (@start .args .tag) (@start .args .slots) (@start .args .s) (@start .args .narrow .now) (@start .args .wide .now) (@start .args .pool .now) (@start .args .marks .now) (@start .args .work .now) (@start .pre .2) (frameHandles (tableOf (@start .args .types .now) (@start .args .fields .now) (@start .args .consts .now) (@start .args .bytes .now)) (@start .args .map .now) (@start .args .memory .now)) (rowValues 4 (@start .args .classes .now) (@start .args .row .now) (@start .args .values .now)) (@start .args .sealed .now) (@start .args .pins .now ++ slotsOf (@start .args .addresses .now) (addressesIn (tableOf (@start .args .types .now) (@start .args .fields .now) (@start .args .consts .now) (@start .args .bytes .now)) (@start .args .map .now) (@start .args .memory .now) ++ rowValues 2 (@start .args .classes .now) (@start .args .row .now) (@start .args .values .now))) _ _ _ (@trace-frame .ensures) _ (@r .given .1) (@start .args .pins .now ++ slotsOf (@start .args .addresses .now) (entriesWords (@start .args .memory .now) (entriesOf (@start .args .map .now)) ++ rowValues 2 (@start .args .classes .now) (@start .args .row .now) (@start .args .values .now))) (λ hs e. ap (λ (w : List ℕ). @start .args .pins .now ++ slotsOf (@start .args .addresses .now) (w ++ rowValues 2 (@start .args .classes .now) (@start .args .row .now) (@start .args .values .now))) (sym (frame-words (tableOf (@start .args .types .now) (@start .args .fields .now) (@start .args .consts .now) (@start .args .bytes .now)) (@start .args .map .now) (@start .args .memory .now) hs e))) _ _ _ (@seed-joined .ensures) (@drain .result) (@drain .last .1 .1 .1 .1 .1 .1 .1 .1 .1 .1 .0) (@drain .last .1 .1 .1 .1 .1 .1 .1 .1 .1 .1 .1 .0) (@drain .ensures)
 
 pub mark-frame-spec : {M : Type 1} → statement M
 mark-frame-spec =
@@ -54,9 +56,8 @@ mark-frame-spec =
     same-length
     same-length-2
     returns
-    push-row-requires
-    slice-aggregate-mark-from
-    mark-from-requires
+    seed-joined-requires
+    drain-requires
     same-length-3
     same-length-4
     returns-2)
