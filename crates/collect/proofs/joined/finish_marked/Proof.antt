@@ -24,7 +24,7 @@ same-length-2 : tie.Need-same-length-2
 same-length-2 c = search needs
 
 returns : tie.Need-returns
-returns c = (finish-stuck _ (@start .args .marks .now) (markedSlots (@start .args .marks .now)) (@start .args .outcome) (@start .pre .formed) (@match .keys2), (@clear-u8 .ensures, @clear-u64 .ensures))
+returns c = (finish-stuck _ (c .before .before .before .before .before .before .before .before .before .before .before .before .before .before .before .args .marks .now) (markedSlots (c .before .before .before .before .before .before .before .before .before .before .before .before .before .before .before .args .marks .now)) (c .before .before .before .before .before .before .before .before .before .before .before .before .before .before .before .args .outcome) (c .before .before .before .before .before .before .before .before .before .before .before .before .before .before .before .pre .formed) (c .before .before .before .before .before .match .keys2), (c .before .before .clear-u8 .ensures, c .before .before .before .before .before .before .before .before .clear-u64 .ensures))
 
 sweep-marked-requires : tie.Need-sweep-marked-requires
 sweep-marked-requires c κs = search needs
@@ -48,7 +48,7 @@ same-length-7 : tie.Need-same-length-7
 same-length-7 c = search needs
 
 returns-2 : tie.Need-returns-2
-returns-2 c = (finish-done _ (@start .args .marks .now) (markedSlots (@start .args .marks .now)) (@start .args .outcome) (@match .keys1) _ (@sweep-marked .ensures), (@clear-u82 .ensures, @clear-u64 .ensures))
+returns-2 c = (finish-done _ (c .before .before .before .before .before .before .before .before .before .before .before .before .before .before .before .before .before .before .before .before .before .before .before .before .before .before .args .marks .now) (markedSlots (c .before .before .before .before .before .before .before .before .before .before .before .before .before .before .before .before .before .before .before .before .before .before .before .before .before .before .args .marks .now)) (c .before .before .before .before .before .before .before .before .before .before .before .before .before .before .before .before .before .before .before .before .before .before .before .before .before .before .args .outcome) (c .before .before .before .before .before .before .before .before .before .before .before .before .before .before .before .before .match .keys1) _ (c .before .before .before .before .before .before .before .before .before .before .sweep-marked .ensures), (c .before .before .clear-u82 .ensures, c .before .before .before .before .before .before .before .before .before .before .before .before .before .before .before .before .before .before .before .clear-u64 .ensures))
 
 pub finish-marked-spec : {M : Type 1} → statement M
 finish-marked-spec =

@@ -15,36 +15,36 @@ find-block-requires c κs = search needs
 
 returns : tie.Need-returns
 returns c =
-    let s = @start .args in
+    let s = c .before .before .before .before .before .before .before .before .args in
     let f : Lent = record { kinds = s .kinds .now; ends = s .ends .now; refs = s .refs .now; blocks = s .blocks .now; classes = s .classes .now } in
-    look-outside f (s .pc) (s .rows .now) (@start .pre .0) (@start .pre .1) _ (@find-block .ensures) (@if1 .taken)
+    look-outside f (s .pc) (s .rows .now) (c .before .before .before .before .before .before .before .before .pre .0) (c .before .before .before .before .before .before .before .before .pre .1) _ (c .before .find-block .ensures) (c .if1 .taken)
 
 shared-slice-read-if2 : tie.Need-shared-slice-read-if2
 shared-slice-read-if2 c =
-    let s = @start .args in
+    let s = c .before .before .before .before .before .before .before .before .before .args in
     let f : Lent = record { kinds = s .kinds .now; ends = s .ends .now; refs = s .refs .now; blocks = s .blocks .now; classes = s .classes .now } in
-    look-inside f (s .pc) (s .rows .now) (@start .pre .0) (@start .pre .1) _ (@find-block .ensures) (@if1 .left)
+    look-inside f (s .pc) (s .rows .now) (c .before .before .before .before .before .before .before .before .before .pre .0) (c .before .before .before .before .before .before .before .before .before .pre .1) _ (c .before .before .find-block .ensures) (c .before .if1 .left)
 
 returns-2 : tie.Need-returns-2
 returns-2 c =
-    let s = @start .args in
+    let s = c .before .before .before .before .before .before .before .before .before .before .args in
     let f : Lent = record { kinds = s .kinds .now; ends = s .ends .now; refs = s .refs .now; blocks = s .blocks .now; classes = s .classes .now } in
-    look-other f (s .pc) (s .rows .now) (@start .pre .0) (@start .pre .1) _ (@find-block .ensures) (@if1 .left) (@if2 .taken)
+    look-other f (s .pc) (s .rows .now) (c .before .before .before .before .before .before .before .before .before .before .pre .0) (c .before .before .before .before .before .before .before .before .before .before .pre .1) _ (c .before .before .before .find-block .ensures) (c .before .before .if1 .left) (c .if2 .taken)
 
 live-row-requires : tie.Need-live-row-requires
 live-row-requires c κs =
-    let s = @start .args in
+    let s = c .before .before .before .before .before .before .before .before .before .before .before .args in
     let f : Lent = record { kinds = s .kinds .now; ends = s .ends .now; refs = s .refs .now; blocks = s .blocks .now; classes = s .classes .now } in
-    (@start .pre .0, ((refl, @if1 .left, look-room f (s .pc) (s .rows .now) (@start .pre .0) (@start .pre .1), omega arith), @find-block .ensures .here (@if1 .left)))
+    (c .before .before .before .before .before .before .before .before .before .before .before .pre .0, ((refl, c .before .before .before .if1 .left, look-room f (s .pc) (s .rows .now) (c .before .before .before .before .before .before .before .before .before .before .before .pre .0) (c .before .before .before .before .before .before .before .before .before .before .before .pre .1), omega arith), c .before .before .before .before .find-block .ensures .here (c .before .before .before .if1 .left)))
 
 same-length : tie.Need-same-length
 same-length c = search needs
 
 returns-3 : tie.Need-returns-3
 returns-3 c =
-    let s = @start .args in
+    let s = c .before .before .before .before .before .before .before .before .before .before .before .before .before .before .args in
     let f : Lent = record { kinds = s .kinds .now; ends = s .ends .now; refs = s .refs .now; blocks = s .blocks .now; classes = s .classes .now } in
-    look-found f (s .pc) (s .rows .now) (@start .pre .0) (@start .pre .1) _ (@find-block .ensures) (@if1 .left) (@if2 .left) _ (@live-row .ensures .0) (@live-row .ensures .1)
+    look-found f (s .pc) (s .rows .now) (c .before .before .before .before .before .before .before .before .before .before .before .before .before .before .pre .0) (c .before .before .before .before .before .before .before .before .before .before .before .before .before .before .pre .1) _ (c .before .before .before .before .before .before .before .find-block .ensures) (c .before .before .before .before .before .before .if1 .left) (c .before .before .before .before .if2 .left) _ (c .before .before .live-row .ensures .0) (c .before .before .live-row .ensures .1)
 
 pub root-row-spec : {M : Type 1} → statement M
 root-row-spec =

@@ -18,7 +18,7 @@ abbrev μ-loop : tie.MeasureT-loop
 μ-loop slots pins marks₀ work₀ n count₀ k₀ marks work count k = length pins - k
 
 loop-holds : tie.Need-loop-holds Inv-loop μ-loop
-loop-holds c = record { scratch = @start .pre .1; same = refl; long = refl; words = refl }
+loop-holds c = record { scratch = c .before .before .before .pre .1; same = refl; long = refl; words = refl }
 
 mul-i : tie.Need-mul-i Inv-loop μ-loop
 mul-i c = search needs
@@ -27,7 +27,7 @@ shared-slice-read-i : tie.Need-shared-slice-read-i Inv-loop μ-loop
 shared-slice-read-i c = search needs
 
 cast-i : tie.Need-cast-i Inv-loop μ-loop
-cast-i c = omega (arith, @shared-slice-known .given (@loop .k) .fits)
+cast-i c = omega (arith, c .before .before .before .before .before .shared-slice-known .given (c .before .before .loop .k) .fits)
 
 hold-requires : tie.Need-hold-requires Inv-loop μ-loop
 hold-requires c κs = search needs

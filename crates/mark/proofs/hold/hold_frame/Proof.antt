@@ -31,7 +31,7 @@ shared-slice-read-offset : tie.Need-shared-slice-read-offset Inv-loop μ-loop
 shared-slice-read-offset c = search needs
 
 cast-offset : tie.Need-cast-offset Inv-loop μ-loop
-cast-offset c = omega (arith, @shared-slice-known .given (3 * @loop .k) .fits)
+cast-offset c = omega (arith, c .shared-slice-known4 .given (3 * c .before .before .loop .k) .fits)
 
 mul-of : tie.Need-mul-of Inv-loop μ-loop
 mul-of c = search needs

@@ -29,7 +29,7 @@ loop-holds : tie.Need-loop-holds Inv-loop μ-loop
 loop-holds c = search row-first
 
 add-turns : tie.Need-add-turns Inv-loop μ-loop
-add-turns c = omega (arith, few-turns _ _ _ _ _ _ _ _ _ _ _ _ _ _ _ _ _ _ (@loop .inv))
+add-turns c = omega (arith, few-turns _ _ _ _ _ _ _ _ _ _ _ _ _ _ _ _ _ _ (c .before .loop .inv))
 
 add-i : tie.Need-add-i Inv-loop μ-loop
 add-i c = search needs
@@ -38,7 +38,7 @@ word-at-requires-2 : tie.Need-word-at-requires-2 Inv-loop μ-loop
 word-at-requires-2 c κs = search needs
 
 loop-less : tie.Need-loop-less Inv-loop μ-loop
-loop-less c = omega (arith, pass-left _ _ _ _ _ _ _ _ _ _ _ _ _ _ _ _ _ _ (@loop .inv) _ (@if1 .taken) (@word-at2 .ensures), @loop-test .taken)
+loop-less c = omega (arith, pass-left _ _ _ _ _ _ _ _ _ _ _ _ _ _ _ _ _ _ (c .before .before .before .loop .inv) _ (c .before .if1 .taken) (c .word-at2 .ensures), c .before .before .loop-test .taken)
 
 loop-again : tie.Need-loop-again Inv-loop μ-loop
 loop-again c = search row-pass
@@ -47,10 +47,10 @@ mul-q : tie.Need-mul-q Inv-loop μ-loop
 mul-q c = search needs
 
 cast-q : tie.Need-cast-q Inv-loop μ-loop
-cast-q c = omega (arith, trailing-lt 64 (@loop .rest) (positive (@loop .rest) (@if1 .left)) (@loop .inv .word))
+cast-q c = omega (arith, trailing-lt 64 (c .before .before .loop .rest) (positive (c .before .before .loop .rest) (c .if1 .left)) (c .before .before .loop .inv .word))
 
 add-q : tie.Need-add-q Inv-loop μ-loop
-add-q c = omega (arith, trailing-lt 64 (@loop .rest) (positive (@loop .rest) (@if1 .left)) (@loop .inv .word), @loop-test .taken)
+add-q c = omega (arith, trailing-lt 64 (c .before .before .loop .rest) (positive (c .before .before .loop .rest) (c .if1 .left)) (c .before .before .loop .inv .word), c .before .loop-test .taken)
 
 push-at-requires : tie.Need-push-at-requires Inv-loop μ-loop
 push-at-requires c κs = search needs
@@ -59,7 +59,7 @@ sub-rest : tie.Need-sub-rest Inv-loop μ-loop
 sub-rest c = search needs
 
 loop-less-2 : tie.Need-loop-less-2 Inv-loop μ-loop
-loop-less-2 c = omega (arith, take-left _ _ _ _ _ _ _ _ _ _ _ _ _ _ _ _ _ _ (@loop .inv) (@loop-test .taken) (@if1 .left))
+loop-less-2 c = omega (arith, take-left _ _ _ _ _ _ _ _ _ _ _ _ _ _ _ _ _ _ (c .before .before .before .before .before .before .before .before .before .loop .inv) (c .before .before .before .before .before .before .before .before .loop-test .taken) (c .before .before .before .before .before .before .before .if1 .left))
 
 loop-again-2 : tie.Need-loop-again-2 Inv-loop μ-loop
 loop-again-2 c = search row-take
