@@ -115,7 +115,7 @@ module _ (a : Asked) (marks work rows : List ℕ) (l : Lent) (o : Outcome) (e : 
         same = λ i. joins i .unchanged;
       }
 
-  has-done : o .answer ≡ done → (admitted (joinedTests a marks work rows l) ≡ Ready) × (joining a (view l) .answer ≡ ok tt) × (o .heap ≡ stored (slotCount l) (poolSize l) (joining a (view l) .heap))
+  pub has-done : o .answer ≡ done → (admitted (joinedTests a marks work rows l) ≡ Ready) × (joining a (view l) .answer ≡ ok tt) × (o .heap ≡ stored (slotCount l) (poolSize l) (joining a (view l) .heap))
   has-done = succeeded (marks ∷ work ∷ rows ∷ []) (joinedTests a marks work rows l) l (joining a) stuck two-joined o e
 
   has-begun : o .answer ≡ done → (handles : List ℕ) × (frame a ≡ some handles) × ((S : Starts) × StartsAt a l handles S)
