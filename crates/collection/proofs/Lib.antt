@@ -7,3 +7,4 @@ pub mod Registers
 pub mod JoinedDemand
 pub mod Examples
 pub mod JoinedExamples
+pub mod Twice

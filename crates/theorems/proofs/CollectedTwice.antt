@@ -24,6 +24,7 @@ use Rattle.heap.proofs.Testing.{formed-tested}
 use Rattle.heap.proofs.Storing.{view-stored}
 use Rattle.flow.specs.Function.{safepoint}
 use Rattle.roots.specs.Calls.{function, need}
+use Rattle.collection.proofs.Twice.{joined-twice}
 use Rattle.door.specs.HeapCalls.{Test, test, admitted, enough, zeros, Outcome, outcomeOf, calling}
 use Rattle.door.specs.declared.Entry.{Entry}
 use Rattle.door.specs.declared.Entry.the-variants.{Ready, Not}
@@ -32,7 +33,6 @@ use Rattle.collect_door.specs.Calls.{Asked, table, frame, roomy, rowTests, inpu
 use Rattle.collect_door.specs.Demand.{done, Demand}
 use Rattle.collect_door.proofs.Theorem.{has-done, demand}
 use Rattle.theorems.specs.CollectedTwice.{Memory, heapIn, Scratch, NoShorter, lists, Joined, CollectedTwice}
-use Rattle.theorems.proofs.Twice.{joined-twice}
 
 -- ---- lent memory and what lies there determine each other
 

@@ -10,5 +10,4 @@ pub mod NoRoom
 pub mod StrideZero
 pub mod ProvedTable
 pub mod TestsPass
-pub mod Twice
 pub mod CollectedTwice

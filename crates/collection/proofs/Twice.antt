@@ -19,21 +19,15 @@ use Rattle.trace.specs.Places.{handlesOf}
 use Rattle.reach.specs.Reach.{Graph, Starts, First, Next, Reached, Stuck}
 use Rattle.reach.specs.Marking.{State as Marks, marking}
 use Rattle.reach.proofs.Sound.{reached-first, reached-next, reached-ind}
 use Rattle.collection.specs.Swept.{goes, dropped, dropSlots, liveSize, dropUnmarked, swept}
 use Rattle.collection.specs.Shown.{shown}
 use Rattle.collection.specs.Collected.{found, graph, starts, sweptBy, collected}
 use Rattle.collection.specs.Joined.{valuesOf, rootRegisters, joinedBy, joined}
 use Rattle.collection.specs.Demand.{Survived, Collects}
+use Rattle.collection.proofs.Answers.{not-both}
 use Rattle.collection.proofs.Dropping.{dropped-none}
 use Rattle.collection.proofs.SweptLaws.{resolved-live, swept-sealed}
-use Rattle.collection.proofs.Demand.{demand, collected-by}
-
-found-ok : (r : Result ℕ) (i : ℕ) → found r ≡ some i → r ≡ ok i
-found-ok (ok j) i e = let w : j ≡ i = cc in ap ok w
-found-ok (refused n) i e = let z : _≡_ {A = ℕ} 0 1 = cc in absurd (omega arith)
-
-not-both : {X : Type 0} (r : Result Unit) (n : ℕ) → r ≡ ok tt → r ≡ refused n → X
-not-both r n p q = let z : _≡_ {A = ℕ} 0 1 = cc in absurd (omega arith)
+use Rattle.collection.proofs.Demand.{found-ok, demand, collected-by}
 
 -- ---- the sweep
 
