@@ -25,7 +25,7 @@ use Rattle.collection.specs.Shown.{shown}
 use Rattle.collection.specs.Collected.{graph}
 use Rattle.collection.specs.Demand.{Survived, Collects}
 use Rattle.collection.specs.JoinedDemand.{Untraceable as CannotTrace, Joins}
-use Rattle.collection.proofs.Answers.{two-answers}
+use Rattle.collection.proofs.Answers.{not-both, two-answers}
 use Rattle.collection.proofs.Demand.{collect-demand, collected-by, collected-sound, marks-there}
 use Rattle.collection.proofs.JoinedDemand.{joined-demand, joined-by, joined-answers, joined-sound}
 use Rattle.collect.specs.Collect.{collecting}
@@ -34,7 +34,7 @@ use Rattle.door.specs.declared.Entry.the-variants.{Ready}
 use Rattle.door.proofs.Entering.{all-hold}
 use Rattle.collect_door.specs.Calls.{Given, tableIn, tests, collectCall, Asked, table, frame, pinning, coded, joinedTests, joining, joinedCall}
 use Rattle.collect_door.specs.Demand.{done, Marks, Collected, objectsIn, startsIn, RightlyCollected, objects, StartsAt, Demand}
-use Rattle.collect_door.proofs.Refusing.{Two, not-both, succeeded, refuses-rightly}
+use Rattle.collect_door.proofs.Refusing.{Two, succeeded, refuses-rightly}
 
 -- a collection that is done, of any roots: by what it does to the heap
 collects-rightly : (l l′ : Lent) (handles : ℕ → Option (List ℕ)) (S : Starts) (r : Changed Unit)
@@ -115,7 +115,7 @@ module _ (a : Asked) (marks work rows : List ℕ) (l : Lent) (o : Outcome) (e : 
         same = λ i. joins i .unchanged;
       }
 
-  has-done : o .answer ≡ done → (admitted (joinedTests a marks work rows l) ≡ Ready) × (joining a (view l) .answer ≡ ok tt) × (o .heap ≡ stored (slotCount l) (poolSize l) (joining a (view l) .heap))
+  pub has-done : o .answer ≡ done → (admitted (joinedTests a marks work rows l) ≡ Ready) × (joining a (view l) .answer ≡ ok tt) × (o .heap ≡ stored (slotCount l) (poolSize l) (joining a (view l) .heap))
   has-done = succeeded (marks ∷ work ∷ rows ∷ []) (joinedTests a marks work rows l) l (joining a) stuck two-joined o e
 
   has-begun : o .answer ≡ done → (handles : List ℕ) × (frame a ≡ some handles) × ((S : Starts) × StartsAt a l handles S)

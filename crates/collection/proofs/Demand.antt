@@ -25,7 +25,7 @@ use Rattle.collection.proofs.SweptLaws.{swept-sound, swept-same, surviv
 use Rattle.collection.specs.Collected.{found, graph, starts, sweptBy, collected}
 use Rattle.collection.specs.Demand.{Survived, Collects}
 
-found-ok : (r : Result ℕ) (i : ℕ) → found r ≡ some i → r ≡ ok i
+pub found-ok : (r : Result ℕ) (i : ℕ) → found r ≡ some i → r ≡ ok i
 found-ok (ok j) i e = let w : j ≡ i = cc in ap ok w
 found-ok (refused n) i e = let z : _≡_ {A = ℕ} 0 1 = cc in absurd (omega arith)
 

@@ -9,3 +9,4 @@ pub mod Registers
 pub mod JoinedDemand
 pub mod Examples
 pub mod JoinedExamples
+pub mod Twice

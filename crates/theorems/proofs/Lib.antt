@@ -12,3 +12,4 @@ pub mod StrideZero
 pub mod PlacesRise
 pub mod ProvedTable
 pub mod TestsPass
+pub mod CollectedTwice

@@ -12,3 +12,4 @@ pub mod PlacesRise
 pub mod TableLayouts
 pub mod ProvedTable
 pub mod TestsPass
+pub mod CollectedTwice
