@@ -44,7 +44,9 @@ pub const CONSTS: usize = 16384;
 
 pub const NUMBERS: usize = 28672;
 
-// The longest list of numbers of 64 bits.
+pub const WORDS_END: usize = 61440;
+
+// The longest list of numbers of 64 bits that a line begins with.
 pub const MOST: usize = 16384;
 
 // The largest numbers of 32 and of 64 bits.

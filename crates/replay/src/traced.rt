@@ -17,6 +17,7 @@ use protocol::MOST;
 use protocol::NUMBERS;
 use protocol::SPELLED;
 use protocol::WORD;
+use protocol::WORDS_END;
 use protocol::Words;
 use protocol::code::Function;
 use protocol::least;
@@ -29,6 +30,7 @@ use protocol::part_u8;
 use protocol::part_u32;
 use protocol::part_u64;
 use protocol::read::Field;
+use protocol::read::byte_at;
 use protocol::read::number;
 use protocol::read::second;
 use protocol::read::which;
@@ -51,14 +53,15 @@ pub fn command(line: &[u8]) -> usize {
     which(line, 0, b"collect joined ")
 }
 
-// The place in the code, and where the roots or the registers' values, the frame's memory, its map and the pins end in the lent lists. A plain collection has no
-// frame.
+// The place in the code, and where the roots or the registers' values, the frame's memory, its map, the pins and the addresses with their slots end in the lent lists. A
+// plain collection has no frame and no addresses.
 struct Lists {
     pc: usize,
     words: usize,
     memory: usize,
     map: usize,
     pins: usize,
+    addresses: usize,
 }
 
 enum Wanted {
@@ -80,10 +83,19 @@ fn roots_of(line: &[u8], lists: &mut Halves, list: &mut Words) -> Wanted {
         memory: SPELLED,
         map: LISTED,
         pins: pins,
+        addresses: roots,
     })
 }
 
-// The place, the registers' values, the frame's map and memory, and pins.
+// Addresses with their slots, after the registers' values. A line may end before them.
+fn addresses_of(line: &[u8], at: usize, list: &mut Words, from: usize) -> Run {
+    if byte_at(line, at) == 10 {
+        return Run::Is(from, at);
+    }
+    words(line, at, WORD, list, from, WORDS_END)
+}
+
+// The place, the registers' values, the frame's map and memory, pins, and addresses.
 fn frame_of(line: &[u8], bytes: &mut Bytes, lists: &mut Halves, list: &mut Words) -> Wanted {
     let Field::Is(pc, a) = number(line, second(line), HALF) else {
         return Wanted::Bad;
@@ -97,7 +109,10 @@ fn frame_of(line: &[u8], bytes: &mut Bytes, lists: &mut Halves, list: &mut Words
     let Run::Is(memory, d) = hex(line, c, bytes) else {
         return Wanted::Bad;
     };
-    let Run::Is(pins, _) = halves(line, d, lists, map, HALVES_END) else {
+    let Run::Is(pins, e) = halves(line, d, lists, map, HALVES_END) else {
+        return Wanted::Bad;
+    };
+    let Run::Is(addresses, _) = addresses_of(line, e, list, values) else {
         return Wanted::Bad;
     };
     Wanted::Is(Lists {
@@ -106,6 +121,7 @@ fn frame_of(line: &[u8], bytes: &mut Bytes, lists: &mut Halves, list: &mut Words
         memory: memory,
         map: map,
         pins: pins,
+        addresses: addresses,
     })
 }
 
@@ -141,6 +157,7 @@ fn at_safepoint(
     map: &[u32],
     memory: &[u8],
     pins: &[u32],
+    addresses: &[u64],
     rows: &mut Rows,
 ) -> Done {
     let mut marks = [7u8; 8192];
@@ -164,6 +181,7 @@ fn at_safepoint(
         map,
         memory,
         pins,
+        addresses,
         &mut marks,
         &mut work,
         rows,
@@ -252,6 +270,7 @@ fn called(
                 part_u32(lists, LISTED, wanted.map),
                 part_u8(octets, SPELLED, wanted.memory),
                 pins,
+                part_u64(list, wanted.words, wanted.addresses),
                 &mut rows,
             )
         }
