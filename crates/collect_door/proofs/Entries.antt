@@ -205,12 +205,15 @@ module _ (a : Asked) (l : Lent) (m w r m′ w′ r′ : List ℕ) (e : Entry) (s
           work-clear = zeros-again w w′ (work-zero s i);
           work-room = room w w′ (slotCount l) (work-zero s i) (u .1);
         },
-        (record {
-          formed = c .0;
-          valued = eqb-true _ _ (c .1);
-          room = room r r′ (need (a .code)) (rows-zero s i) (t .1);
-          clear = zeros-again r r′ (rows-zero s i);
-        }, holding s 5 i),
+        (
+          record {
+            formed = c .0;
+            valued = eqb-true _ _ (c .1);
+            room = room r r′ (need (a .code)) (rows-zero s i) (t .1);
+            clear = zeros-again r r′ (rows-zero s i);
+          },
+          holding s 5 i,
+        ),
       )
 
   pub join-refused : (why : Refusal) (x : Answer) → e ≡ Not why → x ≡ told (Refused why)
