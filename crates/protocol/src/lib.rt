@@ -44,9 +44,7 @@ pub const CONSTS: usize = 16384;
 
 pub const NUMBERS: usize = 28672;
 
-pub const WORDS_END: usize = 61440;
-
-// The longest list of numbers of 64 bits that a line begins with.
+// The longest list of numbers of 64 bits.
 pub const MOST: usize = 16384;
 
 // The largest numbers of 32 and of 64 bits.

@@ -17,7 +17,6 @@ use protocol::MOST;
 use protocol::NUMBERS;
 use protocol::SPELLED;
 use protocol::WORD;
-use protocol::WORDS_END;
 use protocol::Words;
 use protocol::code::Function;
 use protocol::least;
@@ -45,6 +44,9 @@ use replay_calls::after;
 use yexwalu::heaps;
 
 const COLLECT: usize = 0;
+
+// Where the numbers of 64 bits that a line lists end.
+const WORDS_END: usize = 61440;
 
 pub const UNKNOWN: usize = 2;
 
