@@ -29,6 +29,7 @@ use protocol::part_u8;
 use protocol::part_u32;
 use protocol::part_u64;
 use protocol::read::Field;
+use protocol::read::byte_at;
 use protocol::read::number;
 use protocol::read::second;
 use protocol::read::which;
@@ -53,6 +54,9 @@ const JOINED: usize = 1;
 
 const HANDLES: usize = 2;
 
+// Where the numbers of 64 bits that a line lists end.
+const WORDS_END: usize = 61440;
+
 pub const UNKNOWN: usize = 3;
 
 // Which of these commands a line has.
@@ -60,14 +64,15 @@ pub fn command(line: &[u8]) -> usize {
     which(line, 0, b"collect joined handles ")
 }
 
-// The place in the code, or a slot, and where the roots or the registers' values, the frame's memory, its map and the pins end in the lent lists. A plain collection has no
-// frame.
+// The place in the code, or a slot, and where the roots or the registers' values, the frame's memory, its map, the pins and the addresses with their slots end in the lent lists. A
+// plain collection has no frame and no addresses.
 struct Lists {
     pc: usize,
     words: usize,
     memory: usize,
     map: usize,
     pins: usize,
+    addresses: usize,
 }
 
 enum Wanted {
@@ -89,10 +94,19 @@ fn roots_of(line: &[u8], lists: &mut Halves, list: &mut Words) -> Wanted {
         memory: SPELLED,
         map: LISTED,
         pins: pins,
+        addresses: roots,
     })
 }
 
-// The place, the registers' values, the frame's map and memory, and pins.
+// Addresses with their slots, after the registers' values. A line may end before them.
+fn addresses_of(line: &[u8], at: usize, list: &mut Words, from: usize) -> Run {
+    if byte_at(line, at) == 10 {
+        return Run::Is(from, at);
+    }
+    words(line, at, WORD, list, from, WORDS_END)
+}
+
+// The place, the registers' values, the frame's map and memory, pins, and addresses.
 fn frame_of(line: &[u8], bytes: &mut Bytes, lists: &mut Halves, list: &mut Words) -> Wanted {
     let Field::Is(pc, a) = number(line, second(line), HALF) else {
         return Wanted::Bad;
@@ -106,7 +120,10 @@ fn frame_of(line: &[u8], bytes: &mut Bytes, lists: &mut Halves, list: &mut Words
     let Run::Is(memory, d) = hex(line, c, bytes) else {
         return Wanted::Bad;
     };
-    let Run::Is(pins, _) = halves(line, d, lists, map, HALVES_END) else {
+    let Run::Is(pins, e) = halves(line, d, lists, map, HALVES_END) else {
+        return Wanted::Bad;
+    };
+    let Run::Is(addresses, _) = addresses_of(line, e, list, values) else {
         return Wanted::Bad;
     };
     Wanted::Is(Lists {
@@ -115,6 +132,7 @@ fn frame_of(line: &[u8], bytes: &mut Bytes, lists: &mut Halves, list: &mut Words
         memory: memory,
         map: map,
         pins: pins,
+        addresses: addresses,
     })
 }
 
@@ -129,6 +147,7 @@ fn slot_of(line: &[u8]) -> Wanted {
         memory: SPELLED,
         map: LISTED,
         pins: LISTED,
+        addresses: NUMBERS,
     })
 }
 
@@ -165,6 +184,7 @@ fn at_safepoint(
     map: &[u32],
     memory: &[u8],
     pins: &[u32],
+    addresses: &[u64],
     rows: &mut Rows,
 ) -> Done {
     let mut marks = [7u8; 8192];
@@ -188,6 +208,7 @@ fn at_safepoint(
         map,
         memory,
         pins,
+        addresses,
         &mut marks,
         &mut work,
         rows,
@@ -354,6 +375,7 @@ fn called(
                 part_u32(lists, LISTED, wanted.map),
                 part_u8(octets, SPELLED, wanted.memory),
                 pins,
+                part_u64(list, wanted.words, wanted.addresses),
                 &mut rows,
             )
         }
