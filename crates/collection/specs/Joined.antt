@@ -9,8 +9,8 @@ use lib.ListN.{length, getD}
 use Rattle.ty.specs.Types.{Table}
 use Rattle.heap.specs.State.{State}
 use Rattle.heap.specs.Calls.{Changed, refuse}
-use Rattle.flow.specs.Function.{Function}
-use Rattle.flow.specs.Dataflow.{liveRow, sift, track}
+use Rattle.flow.specs.Function.{Function, sift}
+use Rattle.flow.specs.Dataflow.{liveRow, track}
 use Rattle.addresses.specs.Listed.{slotsOf}
 use Rattle.collection.specs.Collected.{graph, starts, collected}
 use Rattle.collection.specs.Shown.{shown}
