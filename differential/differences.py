@@ -20,6 +20,7 @@ LOST = f"0 {HEAD};1,64,4096,0,2,1,1,0;{COLUMNS};2,0,0,0,0,;2,0,0,0,0,;free;1;qua
 ROWS = [
     ("aligning that overflows", ["table", "ty 2 1 0", f"ty 4 0 {NO} 1", "ty 0 0 1", f"ty 5 1:{NO},2:{NO}", f"layout 3 {WIDE}"], "12", "0 8 8 0 1 24 0,0", "panic"),
     ("the record's own aligning", ["table", "ty 2 1 0", f"ty 4 0 {NO} 1", "ty 0 0 1", f"ty 5 2:{NO},1:{NO}", f"layout 3 {to((1 - I64, I64 - 9))}"], "12", "0 0 8 0 1 24 0,8", "panic"),
+    ("a slot that was never there", ["new 1 1 64", f"resolve {h(0, 1)}"], "19", "4", "4"),
     ("reissue beyond the slots", ["new 1 1 64", "reissue 0 0"], "9", "panic", "panic"),
     ("an array of stride 0", ["table", "ty 6", f"ty 4 0 {NO} 1", f"ty 4 1 {NO} 1", f"objh 2 {WIDE + to((1, 0))}"], "0 -", "hang", "hang"),
     ("output on 13, an object", ["table", "ty 6", f"ty 5 0:{NO},0:{NO}", f"objh 1 {le(7)}"], "13", "13 7", "13 7"),

@@ -30,6 +30,8 @@ class Limits:
     pool = 1 << 16
     line = 1 << 15
     data = 400
+    # the largest write count that a page is given: the next write passes 32 bits
+    writes = U32
 
 
 class Row:
@@ -299,7 +301,7 @@ class Writer:
             if s.data is None:
                 out.append(f"{s.generation},0,0,0,0,")
             else:
-                writes = self.pick((3, self.r.randint(0, 9)), (2, U32), (1, U32 - 1))
+                writes = self.pick((3, self.r.randint(0, 9)), (2, self.limits.writes), (1, self.limits.writes - 1))
                 out.append(f"{s.generation},{s.kind},{s.type},{s.start},{writes},{s.data.hex()}")
         for name, values in (("free", self.free), ("quarantine", self.quarantine), ("sealed", sealed)):
             out += [name] + list(map(str, values))
@@ -451,7 +453,10 @@ class Writer:
         elif how == "resolve":
             self.do(f"resolve {self.handle()}")
         elif how in ("data", "kind", "stamp"):
-            self.do(f"{how} {self.index()}")
+            i = self.index()
+            self.do(f"{how} {i}")
+            if how == "kind" and (i >= len(self.rows) or self.sure(self.rows[i])):
+                self.do(f"handles {i}")
         elif how == "isplain":
             self.do(f"isplain {self.r.choice([self.tag, self.tag, 1, 2, 255])}")
         else:
@@ -709,12 +714,21 @@ class Writer:
         else:
             self.do(f"liveat {self.r.randint(0, 1)} {self.pc()}")
 
+    def addresses(self, values, mem):
+        """Addresses with slots, in order: some that the registers or the frame hold, and some beside them. Slots that are live, quarantined, missing or past 32 bits."""
+        if self.chance(0.3):
+            return ""
+        held = values + [int.from_bytes(mem[i : i + 8], "little") for i in range(0, len(mem) - 7, 8)]
+        some = {a for a in held if self.chance(0.5)} | {a + 1 for a in held if a < (1 << 64) - 1 and self.chance(0.1)} | ({0} if self.chance(0.1) else set())
+        slots = list(range(len(self.rows) + 2)) + self.quarantine * 2 + [U32, 1 << 32, (1 << 32) + 1, (1 << 64) - 1]
+        return " " + show_list([x for a in sorted(some) for x in (a, self.r.choice(slots))])
+
     def joined(self):
         self.leave_out()
         entries, mem = self.frame()
         values = [self.handle() for _ in self.func.classes]
         pins = self.pins()
-        n = self.number(f"joined {self.pc()} {show_list(values)} {entries} {show_hex(mem)} {show_list(pins)}")
+        n = self.number(f"joined {self.pc()} {show_list(values)} {entries} {show_hex(mem)} {show_list(pins)}{self.addresses(values, mem)}")
         self.after_collection(n)
 
     # ---- episodes

@@ -1,7 +1,7 @@
 """The named differences between the port and the Rust (docs/DIFFERENCES.md), as the comparison meets them.
 
 Most are kept out of the scripts by the generator: `OUTSIDE` names these with their reason, and a script from elsewhere that meets one is told so. `SAME` are answers
-that are written in two ways and mean the same."""
+that are written in two ways and mean the same, or that the port tells apart."""
 
 OUTSIDE = {
     "stride 0": "the Rust walks an array of stride 0 `count` times and may not end (`hang`); the port does not walk it. "
@@ -25,10 +25,44 @@ def number(answer):
 
 def pushed(command, oracle, replay):
     """On 13 the port writes nothing; the Rust leaves what it had pushed."""
-    return command in ("objh", "valh", "slotroots") and number(oracle) == number(replay) == "13"
+    return command in ("objh", "valh", "handles", "slotroots") and number(oracle) == number(replay) == "13"
 
 
-SAME = {"partial output on 13": pushed}
+def stale(command, oracle, replay):
+    """Of a handle whose slot the heap has never had the port says never issued (19); the Rust has one answer, stale (4), for that and for an object that is gone."""
+    return command in ("resolve", "edit", "take", "free", "run") and (oracle, replay) == ("4", "19")
+
+
+WORD = 1 << 32
+
+
+def narrowed(page):
+    """The port's page as the Rust would write it: write counts modulo 2^32, under their earlier name."""
+    lines = page.split(";")
+    if len(lines) < 3 or lines[2] != "generation,kind,type,start,writes64,data":
+        return None
+    lines[2] = "generation,kind,type,start,writes,data"
+    for i in range(3, 3 + int(lines[1].split(",")[4])):
+        g, k, t, start, writes, data = lines[i].split(",")
+        lines[i] = f"{g},{k},{t},{start},{int(writes) % WORD},{data}"
+    return ";".join(lines)
+
+
+def counts(command, oracle, replay):
+    """A write count has 64 bits in the port; the Rust's is that modulo 2^32. The names line of a page is two bytes longer."""
+    a, b = oracle.split(" "), replay.split(" ")
+    if a[0] != "0" or b[0] != "0" or len(a) != len(b):
+        return False
+    if command == "stamp":
+        return len(b) == 3 and a[1] == b[1] and int(a[2]) == int(b[2]) % WORD
+    if command == "page":
+        return len(b) == 2 and a[1] == narrowed(b[1])
+    if command == "pagelen":
+        return len(b) == 2 and int(b[1]) >= int(a[1]) + 2
+    return False
+
+
+SAME = {"partial output on 13": pushed, "never issued, in the Rust stale": stale, "write counts modulo 2^32": counts}
 
 
 def outside(command, oracle, replay):
@@ -55,7 +89,11 @@ def same(command, oracle, replay):
 
 
 def as_port(line, answer):
-    """The oracle's answer as the port writes it."""
-    if line.split(" ", 1)[0] in ("objh", "valh", "slotroots") and number(answer) == "13":
+    """The oracle's answer as the port writes it. A sample has no write count that reaches 2^32."""
+    if line.split(" ", 1)[0] in ("objh", "valh", "handles", "slotroots") and number(answer) == "13":
         return "13"
+    if line == "page" and number(answer) == "0":
+        return answer.replace(";generation,kind,type,start,writes,data;", ";generation,kind,type,start,writes64,data;", 1)
+    if line == "pagelen" and number(answer) == "0":
+        return f"0 {int(answer.split()[1]) + 2}"
     return answer

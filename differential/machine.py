@@ -18,13 +18,29 @@ def from_oracle(line, answer):
 
 
 class Oracle:
-    """The oracle in the loop of the generator, which needs its handles."""
+    """The oracle in the loop of the generator, which needs its handles. The Rust's stale (4) is two answers in the port: it is told as 19 where the slot index is not below the slot count."""
 
     def __init__(self, path, seconds=5):
         env = dict(os.environ, ORACLE_FLUSH="1", ORACLE_SECONDS=str(seconds))
         self.p = subprocess.Popen([path], stdin=subprocess.PIPE, stdout=subprocess.PIPE, env=env, bufsize=1 << 16)
 
     def ask(self, line):
+        before = self.epoch() if line.startswith("run ") else 0
+        answer = self.told(line)
+        return "19" if answer == "4" and self.never_issued(line, before) else answer
+
+    def epoch(self):
+        return int(self.told("epoch").split(" ")[1])
+
+    def never_issued(self, line, before):
+        """Was the stale handle's slot never there? A refused call keeps the slot count. A script is refused at the take after those that have each raised the epoch."""
+        command, first = line.split(" ")[:2]
+        if command == "run":
+            takes = [x.split(",")[1] for x in first.split(";") if x.startswith("take,")]
+            first = takes[(self.epoch() - before) % (1 << 64)]
+        return (int(first) >> 32 & 0xFFFFFF) >= int(self.told("slots").split(" ")[1])
+
+    def told(self, line):
         self.p.stdin.write(to_oracle(line).encode() + b"\n")
         self.p.stdin.flush()
         answer = self.p.stdout.readline().decode().rstrip("\n")

@@ -1,5 +1,5 @@
 #!/usr/bin/env python3
-"""Refusals that the Rust does not have: 1, 6, 8, 10, 14, 15, 17, 5 and 6 of a page, those of a script of calls, and the named differences. Their numbers come from document 01, by hand.
+"""Refusals that the Rust does not have: 1, 6, 8, 10, 14, 15, 17, 19, 5 and 6 of a page, those of a script of calls, and the named differences. Their numbers come from document 01, by hand.
 
     refusals.py --oracle PATH --replay PATH
 
@@ -39,9 +39,20 @@ def heaps():
     yield from asked(*HEAP) + refused("8", "alloc 0 0 0 -", "alloc 4 0 0 -", "alloc 255 0 0 -", f"alloc 0 0 0 {'00' * 11}") + asked("page")
     yield from refused("6", f"alloc 2 0 0 {'00' * 11}", f"edit {h(0, 1)} {'00' * 16} 0", f"edit {h(1, 1)} {'00' * 12} 0") + asked("page", "epoch")
     yield from refused("2", f"edit 0 {'00' * 17} 0") + refused("3", f"edit {h(0, 1, 2)} {'00' * 17} 0") + refused("4", f"edit {h(0, 2)} {'00' * 17} 0")
+    yield from refused("19", f"edit {h(2, 1)} {'00' * 17} 0")
     yield from asked(f"edit {h(0, 1)} {'00' * 15} 0", "alloc 2 0 0 -", "alloc 2 0 0 -", "page") + refused("6", "alloc 2 0 0 00") + asked("page", "alloc 2 0 0 -", "page")
     yield from refused("9", "reissue 4 7", f"reissue {U32} {U64}") + refused("14", "recycle 1,0", "recycle 2,2", "recycle 0,1,2,1") + asked("page", "epoch")
     yield from refused("1", "new 1 0 64") + asked("page", "new 3 1 0", "alloc 2 0 0 -", "page") + refused("6", "alloc 2 0 0 00") + asked("page")
+
+
+def never_issued():
+    """19 from the slot count on, whatever the generation and the number of slots lent, after 2 and 3; below it 4. A slot that comes to be is 4 from then on. Roots and seals are skipped."""
+    yield from asked("new 1 4 64")
+    for call in ("resolve {}", "take {}", "free {}", "edit {} 41 0"):
+        yield from refused("19", *[call.format(x) for x in (h(0, 1), h(0, 0), h(3, 1), h(4, 1), h(0xFFFFFF, U32))]) + refused("2", call.format(0)) + refused("3", *[call.format(x) for x in (h(0, 1, 2), h(4, 1, 0), h(4, 1, 255))])
+    yield from asked("page", "epoch", "alloc 2 0 0 41", "alloc 2 0 0 42", f"free {h(0, 1)}") + refused("4", f"resolve {h(0, 1)}", f"take {h(0, 2)}", f"free {h(1, 0)}", f"edit {h(1, 2)} 41 0")
+    yield from refused("19", f"resolve {h(2, 1)}", f"take {h(2, 0)}", f"free {h(3, 1)}", f"edit {h(5, 1)} 41 0") + asked("seal", "page", f"collect {h(2, 1)},{h(0xFFFFFF, 1)},{h(0, 1)},0,{h(1, 1, 2)} 2,3", "page", "epoch")
+    yield from asked("recycle -") + stopped("19", ["alloc,0,2,43", "alloc,0,2,44"], f"take,{h(3, 1)},0,;seal,0,0,;") + stopped("19", [], f"take,{h(9, 1)},0,;x;") + asked("page", "epoch")
 
 
 def scripts():
@@ -107,7 +118,7 @@ def tables():
     wide = ["table", "ty 6", f"ty 5 {many}", "ty 5 " + ",".join([f"1:{NO}"] * 255)]
     yield from asked(*wide, f"ty 5 2:{NO}," + ",".join([f"0:{NO}"] * 254), "descsize 3", "hashandles 3", "layout 9 -")
     for top in ([f"ty 5 2:{NO}," + ",".join([f"0:{NO}"] * 255)], ["table", f"ty 5 0:{NO},0:{NO}"]):
-        yield from asked(*HEAP, *top) + refused("10", "descsize 0", "hashandles 0", "layout 0 -", "layout 99 -", "objh 0 -", "valh 0 -", "slotroots - -", "slotroots 9:0 -", "collect - -", "collect - 1,0")
+        yield from asked(*HEAP, *top) + refused("10", "descsize 0", "hashandles 0", "layout 0 -", "layout 99 -", "objh 0 -", "valh 0 -", "slotroots - -", "slotroots 9:0 -", "handles 0", "handles 9", "collect - -", "collect - 1,0")
         yield from asked("func 4 0:1", "inst 1 - 0 -") + refused("10", "joined 0 7 - - -", "joined 0 - - - 1,0", "joined 1 7 9:0 - -") + asked("live 0", "page", "epoch")
     # A cycle with one field has 65 levels and is no such table.
     yield from asked("table", f"ty 5 0:{NO}", "descsize 0", "hashandles 0", "layout 0 -", "objh 0 -")
@@ -120,7 +131,9 @@ def functions():
         yield from refused("15", "live 0", "live 1", "liveat 0 0", "liveat 1 9", f"joined 0 {h(0, 1)},0 - - -", "joined 9 0,0 - - 1,0", "joined 9 0 9:0 - 1,0") + asked("page", "epoch")
     yield from asked(*HEAP, "table", "func 4,4 0:1,9:9,7:3", "inst 1 - 0 -", "live 0")
     yield from refused("15", "joined 0 - - - -", f"joined 0 {h(0, 1)} - - -", "joined 0 0,0,0 - - -", "joined 9 0 - - 1,0") + refused("14", "joined 0 0,0 - - 1,0", "joined 9 0,0 9:0 - 2,2") + refused("16", "joined 9 0,0 9:0 - -")
-    yield from refused("13", "joined 0 0,0 9:0 - -") + asked("page", "epoch", f"joined 0 {h(1, 1)},0 - - -", "page", "epoch")
+    # Addresses that do not rise, or stand without a slot.
+    yield from refused("14", "joined 0 0,0 - - - 5", "joined 0 0,0 - - - 5,0,5,1", "joined 0 0,0 - - - 6,0,5,1", "joined 9 0,0 9:0 - - 5,0,6", "joined 0 0,0 - - 1,0 5,0") + refused("16", "joined 9 0,0 9:0 - - 5,0") + refused("15", "joined 0 0 - - - 5")
+    yield from refused("13", "joined 0 0,0 9:0 - -", "joined 0 0,0 9:1 - - 5,0") + asked("page", "epoch", f"joined 0 {h(1, 1)},0 - - -", "page", "epoch")
 
 
 def collections():
@@ -137,7 +150,7 @@ def differences():
     yield from refused("0 -", f"objh 7 {wide + to((1, 0))}")
 
 
-ALL = [heaps, scripts, pages, tables, functions, collections, differences]
+ALL = [heaps, never_issued, scripts, pages, tables, functions, collections, differences]
 
 
 def script(oracle):

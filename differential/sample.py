@@ -16,13 +16,13 @@ from compare import commands, kind
 from known import as_port
 from machine import Oracle
 
-# The answers that the Rust can give to each call, yes (`0 1`) and no (`0 0`) apart.
-RESOLVES = ["0", "2", "3", "4"]
+# The answers that the Rust can give to each call, yes (`0 1`) and no (`0 0`) apart; its stale is 19 or 4.
+RESOLVES = ["0", "2", "3", "19", "4"]
 YES_NO = ["0 0", "0 1"]
 ANSWERS = {
     "new": ["0"], "load": ["0"], "setepoch": ["0"], "alloc": ["0", "5"], "edit": RESOLVES, "write": ["0", "9"], "reissue": ["0"],
     "take": RESOLVES, "free": RESOLVES, "recycle": ["0"], "seal": ["0"], "run": RESOLVES + ["5"], "gcdue": YES_NO, "hasquarantine": YES_NO, "isplain": YES_NO,
-    "reclaimdue": ["0 0"], "resolve": RESOLVES, "data": ["0", "9"], "kind": ["0", "9"], "stamp": ["0", "9"], "slots": ["0"],
+    "reclaimdue": ["0 0"], "resolve": RESOLVES, "data": ["0", "9"], "kind": ["0", "9"], "stamp": ["0", "9"], "handles": ["0", "9", "13"], "slots": ["0"],
     "collect": ["0", "13"], "joined": ["0", "13", "16"], "page": ["0"], "pagelen": ["0"], "epoch": ["0"], "table": ["0"], "ty": ["0"], "const": ["0"],
     "layout": ["0", "11", "12"], "descsize": ["0", "none"], "hashandles": YES_NO, "objh": ["0", "13"], "valh": ["0", "13"],
     "slotroots": ["0", "13"], "func": ["0"], "inst": ["0"], "live": ["0"], "liveat": ["0", "16"],
@@ -55,6 +55,8 @@ class Short(generate.Limits):
     pool = 4096
     line = 2000
     data = 96
+    # no count reaches 2^32, past which the Rust's differs
+    writes = (1 << 32) - (1 << 20)
 
 
 def sample(oracle, seed, lines):

@@ -102,6 +102,8 @@ def scripts():
     yield from [script("seal,0,0,", take(1, 1), "take,0,0,", take(2, 1)), "page", "epoch", script(take(0, 1), take(0, 1), take(2, 1)), "page", script(take(2, 1), take(2, 2, 2)), "page"]
     yield from [script("alloc,0,2,"), "page", script("recycle,0,0,", "alloc,0,2,44", "alloc,4294967295,1,", "seal,0,0,", take(2, 3), "recycle,0,0,", "alloc,0,3,45"), "page", "epoch"]
     yield from [script(take(2, 5), take(1, 3), take(7, 1)), "page", "isplain 1", script(f"take,{U64},0,"), script(f"take,{h(0, 0)},0,"), "page", "epoch"]
+    # A slot that was never there.
+    yield from [script("seal,0,0,", take(3, 1), "recycle,0,0,"), "page", "epoch"]
     # Generations and the epoch at their ends.
     rows = [f"{U32},2,0,0,{U32},41", f"{U32},0,0,0,0,"]
     yield from [f"load 2 {page([0, U64, 4096, 0], rows, [1])} 64", f"setepoch {U64} {LOG}", script(take(0, U32, 0), "take,1,0,"), "page", "epoch"]
@@ -172,6 +174,15 @@ def tracing():
             yield f"objh 4 {dims + le(1, 2, 3)[: 2 * n]}"
 
 
+def slot_handles():
+    """What slots show, in order: fields first to last, elements rising, Handles by offset; bytes before start, nothing visible, dead and missing slots, cut short."""
+    yield from ["table", "ty 6", f"ty 5 0:{NO},0:{NO},0:{NO}", f"ty 4 1 {NO} 1", f"ty 5 2:{NO},0:{NO}", "ty 3", "new 1 16 4096"]
+    nine, zeros = le(*range(9, 0, -1)), "00" * 24
+    yield from [f"alloc 1 1 0 {nine}", f"alloc 1 2 0 {to((1, 3)) + nine}", f"alloc 1 3 0 {to((1, 2)) + nine}", f"alloc 3 0 0 {zeros + nine}", f"alloc 2 0 0 {nine}", f"alloc 1 1 8 {nine}", f"alloc 3 0 8 {nine + zeros}"]
+    yield from [f"alloc 1 99 73 {nine}", f"alloc 1 1 72 {nine}", f"alloc 1 1 0 {nine[:46]}", f"alloc 1 4 0 {nine}", f"alloc 3 0 0 {zeros + nine[:30]}", f"alloc 2 0 0 {nine}", f"free {h(12, 1)}"]
+    yield from [f"handles {i}" for i in range(14)] + [f"handles {U32}", "page"]
+
+
 def stride_zero():
     """An array of stride 0 whose walk is short."""
     yield from ["table", "ty 6", f"ty 4 0 {NO} 1", f"ty 4 1 {NO} 1", f"ty 5 2:{NO},0:{NO}"]
@@ -202,7 +213,7 @@ def live():
 
 
 def joined():
-    """The joined collection at a safepoint and elsewhere: class 4 registers and frame handles are roots, addresses are not."""
+    """The joined collection at a safepoint and elsewhere: class 4 registers and frame handles are roots, addresses are not, but pin the slot that they are listed with."""
     setup = ["table", "ty 6", f"ty 5 0:{NO},0:{NO}", "func 4,2,4,0 0:3", "inst 1 2 0,1,3 -", "inst 0 - 2 -", "inst 5 - - -", "new 1 8 512"]
     setup += [f"alloc 2 0 0 0{i}" for i in range(6)] + [f"free {h(5, 1)}"]
     values = ",".join(str(h(i, 1)) for i in range(4))
@@ -211,6 +222,12 @@ def joined():
         (1, "-", "-", "-"), (3, "9:0", "-", "-"), (U32, "-", "-", "-"), (0, "-", "-", "2,3,5,6"), (0, "4:0", le(1), "1"),
     ):
         yield from setup + [f"joined {at} {values} {entries} {mem} {pins}", "page", "epoch"]
+    # Register 1 is of class 2 and live, register 2 is dead; slot 5 is in quarantine, and is held by an address of the frame.
+    for entries, mem, pins, listed in (
+        ("-", "-", "-", f"{h(1, 1)},4"), ("-", "-", "-", f"{h(1, 1) + 1},4"), ("-", "-", "-", f"{h(2, 1)},4"), ("-", "-", "-", f"{h(0, 1)},4"), ("0:1", le(77), "-", "76,1,77,5,78,2"), ("0:1", le(77), "-", "76,1,78,5"),
+        ("0:0", le(77), "-", "77,4"), ("1:1", le(77), "-", "77,4"), ("0:1,8:1", le(7, 9), "5", f"7,{1 << 32 | 4},8,2,9,{U32}"), ("0:1", le(0), "3", "0,4"), ("0:1", le((1 << 64) - 1), "-", f"0,1,{(1 << 64) - 1},4"), ("0:1", le(77), "-", "-"),
+    ):
+        yield from setup + [f"joined 0 {values} {entries} {mem} {pins} {listed}", "page", "epoch"]
 
 
 def reclaims():
@@ -226,7 +243,7 @@ def reclaims():
 LARGE = [reclaims]
 
 ALL = [
-    handles, generations, full, visible, handles_objects, quarantine, seals, scripts, epochs, rings, untraceable, layouts, levels, constants, tracing, stride_zero,
+    handles, generations, full, visible, handles_objects, quarantine, seals, scripts, epochs, rings, untraceable, layouts, levels, constants, tracing, slot_handles, stride_zero,
     frames, live, joined,
 ]
 

@@ -95,7 +95,7 @@ impl Table {
 fn heap_with(slots: usize, objects: usize, bytes: &[u8]) -> Heap {
     let mut hex = String::new();
     page::hex(bytes, &mut hex);
-    let mut page = format!("tag,since_gc,reclaim_at,live_bytes,slots,free,quarantine,sealed\n1,0,4096,0,{objects},0,0,0\ngeneration,kind,type,start,writes,data\n");
+    let mut page = format!("tag,since_gc,reclaim_at,live_bytes,slots,free,quarantine,sealed\n1,0,4096,0,{objects},0,0,0\ngeneration,kind,type,start,writes64,data\n");
     for _ in 0..objects {
         page.push_str(&format!("1,2,0,0,0,{hex}\n"));
     }
@@ -265,7 +265,7 @@ fn copies(table: &mut Table, objects: usize) {
 // Objects of handles, all reached from the first, so that each collection does the same work again: the two heaps, and the handle of the first.
 fn graph(n: usize, edges: impl Fn(usize) -> Range<usize>) -> (Heap, heap::Heap, u64) {
     let handle = |i: usize| heap::pack(1, (i % n) as u32, 1);
-    let mut text = format!("tag,since_gc,reclaim_at,live_bytes,slots,free,quarantine,sealed\n1,0,4096,0,{n},0,0,0\ngeneration,kind,type,start,writes,data\n");
+    let mut text = format!("tag,since_gc,reclaim_at,live_bytes,slots,free,quarantine,sealed\n1,0,4096,0,{n},0,0,0\ngeneration,kind,type,start,writes64,data\n");
     let mut rust = heap::Heap::new(1);
     let mut pool = 0;
     for i in 0..n {
@@ -309,7 +309,7 @@ fn joined(table: &mut Table, n: usize) {
     let (types, prog) = (TypeTable::new(), Program::default());
     let (pc, _) = function.live_refs(Wanted::References).unwrap().into_iter().find(|m| !m.1.is_empty()).unwrap();
     let values = vec![first; 64];
-    let a = time(|| port.collect_joined(&types, &function, pc, &values, &[], &[], &[]).unwrap());
+    let a = time(|| port.collect_joined(&types, &function, pc, &values, &[], &[], &[], &[]).unwrap());
     let b = time(|| {
         let map = roots::live_refs(&prog, &func, false);
         let mut refs = heap::Refs::default();

@@ -22,7 +22,7 @@ pub fn write(heap: &Heap, out: &mut String) {
     out.clear();
     out.push_str("tag,since_gc,reclaim_at,live_bytes,slots,free,quarantine,sealed\n");
     let _ = writeln!(out, "{},{},{},{},{},{},{},{}", h.tag, h.since_gc, h.reclaim_at, h.live_bytes, h.slots, h.free, h.quarantine, h.sealed);
-    out.push_str("generation,kind,type,start,writes,data\n");
+    out.push_str("generation,kind,type,start,writes64,data\n");
     let mut from = 0;
     for i in 0..h.slots {
         let _ = write!(out, "{},{},{},{},{},", generation[i], kind[i], ty[i], start[i], writes[i]);
@@ -84,7 +84,7 @@ pub fn read(text: &[u8], m: &mut Memory) -> Option<Header> {
     h.free = number()? as usize;
     h.quarantine = number()? as usize;
     h.sealed = number()? as usize;
-    if lines.next()? != "generation,kind,type,start,writes,data" {
+    if lines.next()? != "generation,kind,type,start,writes64,data" {
         return None;
     }
     let (mut at, slots) = (0, m.slots());

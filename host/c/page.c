@@ -48,6 +48,9 @@ int main(void) {
     yexwalu_answer gone = yexwalu_resolve(taken.heap, YEXWALU_LISTS(memory), handle, YEXWALU_MARKS(memory));
     if (gone.number != YEXWALU_STALE) return failed("resolve", gone);
 
+    yexwalu_answer never = yexwalu_resolve(taken.heap, YEXWALU_LISTS(memory), handle + (UINT64_C(1) << 32), YEXWALU_MARKS(memory));
+    if (never.number != YEXWALU_NEVER_ISSUED) return failed("resolve", never);
+
     static const char script[] = "recycle,0,0,\nalloc,0,2,4344\nseal,0,0,\n";
     yexwalu_done ran = yexwalu_run(taken.heap, YEXWALU_LISTS(memory), (const uint8_t *)script, sizeof script - 1, room, sizeof room, YEXWALU_MARKS(memory));
     if (ran.answer.number != YEXWALU_OK || ran.heap.sealed != 1 || memcmp(pool, "CD", 2) != 0) return failed("run", ran.answer);

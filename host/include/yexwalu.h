@@ -48,7 +48,8 @@ enum {
     YEXWALU_FUNCTION = 15,
     YEXWALU_NO_MAP = 16,
     YEXWALU_PAGE = 17,
-    YEXWALU_SCRATCH = 18
+    YEXWALU_SCRATCH = 18,
+    YEXWALU_NEVER_ISSUED = 19
 };
 
 /* The kinds of objects. */
@@ -157,7 +158,7 @@ yexwalu_done yexwalu_alloc(
     uint8_t *marks, size_t marks_len,
     uint64_t *work, size_t work_len);
 
-/* Takes an object out of the heap; its bytes stand at the front of `out`. first: how many, second: its start. 18, 1, 2, 3, 4, 7. */
+/* Takes an object out of the heap; its bytes stand at the front of `out`. first: how many, second: its start. 18, 1, 2, 3, 19, 4, 7. */
 yexwalu_done yexwalu_take(
     yexwalu_header heap,
     uint32_t *narrow, size_t narrow_len,
@@ -168,7 +169,7 @@ yexwalu_done yexwalu_take(
     uint8_t *marks, size_t marks_len,
     uint64_t *work, size_t work_len);
 
-/* As take, and nobody gets the bytes. 18, 1, 2, 3, 4. */
+/* As take, and nobody gets the bytes. 18, 1, 2, 3, 19, 4. */
 yexwalu_done yexwalu_free(
     yexwalu_header heap,
     uint32_t *narrow, size_t narrow_len,
@@ -246,7 +247,7 @@ yexwalu_answer yexwalu_live(
     uint8_t *marks, size_t marks_len,
     uint64_t *work, size_t work_len);
 
-/* first: the slot that a handle leads to. 18, 1, 2, 3, 4. */
+/* first: the slot that a handle leads to. 18, 1, 2, 3, 19, 4. */
 yexwalu_answer yexwalu_resolve(
     yexwalu_header heap,
     const uint32_t *narrow, size_t narrow_len,
@@ -276,7 +277,7 @@ yexwalu_answer yexwalu_kind(
     uint8_t *marks, size_t marks_len,
     uint64_t *work, size_t work_len);
 
-/* first: the generation of slot `i`, second: its write count. 18, 1, 9. */
+/* first: the generation of slot `i`, second: its write count, which wraps at 64 bits. 18, 1, 9. */
 yexwalu_answer yexwalu_stamp(
     yexwalu_header heap,
     const uint32_t *narrow, size_t narrow_len,
@@ -299,7 +300,7 @@ yexwalu_done yexwalu_reissue(
     uint8_t *marks, size_t marks_len,
     uint64_t *work, size_t work_len);
 
-/* New bytes and a new start for an object. first: its slot. 18, 1, 2, 3, 4, 6. */
+/* New bytes and a new start for an object. first: its slot. 18, 1, 2, 3, 19, 4, 6. */
 yexwalu_done yexwalu_edit(
     yexwalu_header heap,
     uint32_t *narrow, size_t narrow_len,
@@ -381,6 +382,22 @@ yexwalu_answer yexwalu_has_handles(
     const uint8_t *bytes, size_t bytes_len,
     uint64_t t);
 
+/* The handles that a live slot shows, in the order in which they are traced, stand at the front of `out`: Typed by its type, Handles by offset, Bytes none. One with nothing visible shows none.
+ * first: how many. 18, 1, 10, 9, 13, 7. */
+yexwalu_answer yexwalu_slot_handles(
+    const uint64_t *types, size_t types_len,
+    const uint32_t *fields, size_t fields_len,
+    const uint64_t *consts, size_t consts_len,
+    const uint8_t *bytes, size_t bytes_len,
+    yexwalu_header heap,
+    const uint32_t *narrow, size_t narrow_len,
+    const uint64_t *wide, size_t wide_len,
+    const uint8_t *pool, size_t pool_len,
+    size_t slot,
+    uint64_t *out, size_t out_len,
+    uint8_t *marks, size_t marks_len,
+    uint64_t *work, size_t work_len);
+
 /* The handles of an object's visible data (descriptor, then value) stand at the front of `out`. first: how many. 10, 13, 7. */
 yexwalu_answer yexwalu_object_handles(
     const uint64_t *types, size_t types_len,
@@ -454,7 +471,12 @@ yexwalu_done yexwalu_collect(
     uint8_t *marks, size_t marks_len,
     uint64_t *work, size_t work_len);
 
-/* As collect, from a stopped function: roots are the live registers of class 4 at the safepoint `pc`, with one value a register (15), and the handles of the frame. `rows` is scratch for the live registers. 18, 1, 10, 15, 14, 16, 13. */
+/*
+ * As collect, from a stopped function: roots are the live registers of class 4 at the safepoint `pc`, with one value a register (15), and the handles of the frame.
+ * `addresses` are pairs of an address and a slot index, addresses strictly rising (14): an address that the frame has (kind 1), or a live register of class 2, pins the
+ * slot that it is listed with, as if that slot were among `pins`. Any slot index is taken; one of no slot has no effect. `rows` is scratch for the live registers.
+ * 18, 1, 10, 15, 14, 16, 13.
+ */
 yexwalu_done yexwalu_collect_joined(
     const uint64_t *types, size_t types_len,
     const uint32_t *fields, size_t fields_len,
@@ -474,6 +496,7 @@ yexwalu_done yexwalu_collect_joined(
     const uint32_t *map, size_t map_len,
     const uint8_t *memory, size_t memory_len,
     const uint32_t *pins, size_t pins_len,
+    const uint64_t *addresses, size_t addresses_len,
     uint8_t *marks, size_t marks_len,
     uint64_t *work, size_t work_len,
     uint64_t *rows, size_t rows_len);
@@ -483,7 +506,7 @@ yexwalu_done yexwalu_collect_joined(
 /*
  * Runs a script of calls, one a line, on a heap that is checked once: `alloc,TYPE,KIND,HEX`, `take,HANDLE,0,`, `seal,0,0,` and `recycle,0,0,`, each with byte 10
  * at its end. The first line that is refused, or is no such line (17), ends it; what the lines before it did stays. `room` is scratch besides, at least as long as the
- * pool. 18, 1, then 17, or 8, 6, 5 of an alloc and 2, 3, 4 of a take.
+ * pool. 18, 1, then 17, or 8, 6, 5 of an alloc and 2, 3, 19, 4 of a take.
  */
 yexwalu_done yexwalu_run(
     yexwalu_header heap,

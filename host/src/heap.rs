@@ -171,13 +171,17 @@ impl Eq for Heap {}
 
 // A call that only reads: memory is shared, scratch is not.
 macro_rules! ask {
-    ($heap:ident, $call:ident ($($given:expr),*)) => {{
+    ($heap:ident, $call:ident ($($given:expr),*)) => {
+        ask!($heap, $call () ($($given),*))
+    };
+    ($heap:ident, $call:ident ($($before:expr),*) ($($given:expr),*)) => {{
         let m = &$heap.memory;
         let mut s = $heap.scratch.borrow_mut();
         // SAFETY: each pointer leads to as many elements as the length after it says. The call only reads the memory, though `ffi` has it as mutable for the sake of one declaration of
         // all calls; it writes scratch and the outputs given, which are borrowed mutably here.
         unsafe {
             ffi::$call(
+                $($before,)*
                 $heap.header,
                 m.narrow.as_ptr() as *mut u32, m.narrow.len(),
                 m.wide.as_ptr() as *mut u64, m.wide.len(),
@@ -212,6 +216,11 @@ macro_rules! change {
             )
         }
     }};
+}
+
+// Addresses with their slots as one list.
+fn listed(addresses: &[(u64, u64)]) -> Vec<u64> {
+    addresses.iter().flat_map(|(address, slot)| [*address, *slot]).collect()
 }
 
 impl Heap {
@@ -320,7 +329,7 @@ impl Heap {
         }
     }
 
-    /// Takes an object out of the heap. Its slot goes into quarantine, until `recycle`. It is refused where the handle does not lead to one (2, 3, 4).
+    /// Takes an object out of the heap. Its slot goes into quarantine, until `recycle`. It is refused where the handle does not lead to one (2, 3, 19, 4).
     pub fn take(&mut self, handle: Handle) -> Result<Object, Refusal> {
         let mut bytes = vec![0; self.size_of(handle.index() as usize)];
         let (size, start) = self.take_into(handle, &mut bytes)?;
@@ -347,7 +356,7 @@ impl Heap {
         self.done(done).map(|_| ())
     }
 
-    /// New bytes and a new start for an object; the answer is its slot. Its handle stays. It is refused where the handle does not lead to an object (2, 3, 4) or the pool has too few bytes left (6).
+    /// New bytes and a new start for an object; the answer is its slot. Its handle stays. It is refused where the handle does not lead to an object (2, 3, 19, 4) or the pool has too few bytes left (6).
     ///
     /// ```
     /// use yexwalu::{Heap, Kind, Refusal};
@@ -419,11 +428,12 @@ impl Heap {
         self.done(done).map(|_| ())
     }
 
-    /// As `collect`, from a stopped function: the roots are the registers of class `Handle` that are live at the safepoint `pc`, by the values given, and the handles of its frame. Besides what refuses
-    /// `collect` it is refused where the function is not in order or there is not one value a register (15), where `pc` is no safepoint of a block (16), and where the frame can't be traced (13).
+    /// As `collect`, from a stopped function: the roots are the registers of class `Handle` that are live at the safepoint `pc`, by the values given, and the handles of its frame.
+    /// `addresses` are addresses with the slots that they lie in, addresses strictly rising (14): one that the frame has, or a register of class `Ptr` that is live at `pc`, pins its slot as a pin does. Any
+    /// slot index is taken; one of no slot has no effect. Besides what refuses `collect` it is refused where the function is not in order or there is not one value a register (15), where `pc` is no safepoint of a block (16), and where the frame can't be traced (13).
     ///
     /// ```
-    /// use yexwalu::{Class, Function, Heap, InstKind, Kind, Refusal, TypeTable};
+    /// use yexwalu::{Class, FrameSlot, Function, Heap, InstKind, Kind, Refusal, TypeTable};
     /// let mut f = Function::new();
     /// let (used, done) = (f.register(Class::Handle), f.register(Class::Handle));
     /// let call = f.instruction(InstKind::Safepoint, &[], &[], &[]);
@@ -431,18 +441,34 @@ impl Heap {
     /// f.block(0, 2);
     /// let mut heap = Heap::new(1, 64, 4096)?;
     /// let values = [heap.alloc(Kind::Bytes, b"used")?, heap.alloc(Kind::Bytes, b"done")?];
-    /// heap.collect_joined(&TypeTable::new(), &f, call, &[values[0].0, values[1].0], &[], &[], &[])?;
+    /// heap.collect_joined(&TypeTable::new(), &f, call, &[values[0].0, values[1].0], &[], &[], &[], &[])?;
     /// assert!(heap.resolve(values[used as usize]).is_ok());
     /// assert_eq!(heap.resolve(values[done as usize]), Err(Refusal::Stale));
+    /// // an address that the frame has keeps the object that it is listed with
+    /// let held = heap.alloc(Kind::Bytes, b"held")?;
+    /// let frame = 0x7f40_u64.to_le_bytes();
+    /// heap.collect_joined(&TypeTable::new(), &f, call, &[values[0].0, 0], &[FrameSlot::address(0)], &frame, &[], &[(0x7f40, u64::from(held.index()))])?;
+    /// assert!(heap.resolve(held).is_ok());
     /// # Ok::<(), Refusal>(())
     /// ```
     #[allow(clippy::too_many_arguments)]
-    pub fn collect_joined(&mut self, types: &TypeTable, function: &Function, pc: u32, values: &[u64], map: &[FrameSlot], frame: &[u8], pins: &[u32]) -> Result<(), Refusal> {
+    pub fn collect_joined(
+        &mut self,
+        types: &TypeTable,
+        function: &Function,
+        pc: u32,
+        values: &[u64],
+        map: &[FrameSlot],
+        frame: &[u8],
+        pins: &[u32],
+        addresses: &[(u64, u64)],
+    ) -> Result<(), Refusal> {
         let function = function.within_counts();
-        self.collect_joined_with(types, &function, pc, values, map, frame, pins, &mut vec![0; function.scratch_words()])
+        self.collect_joined_with(types, &function, pc, values, map, frame, pins, &listed(addresses), &mut vec![0; function.scratch_words()])
     }
 
-    /// As `collect_joined`, with lent scratch for the live map: `Function::scratch_words` at least (18).
+    /// As `collect_joined`, with lent scratch for the live map: `Function::scratch_words` at least (18). The addresses are lent as one list: address, slot index, address, slot index, and so on (14
+    /// where it is not in pairs).
     #[allow(clippy::too_many_arguments)]
     pub fn collect_joined_with(
         &mut self,
@@ -453,6 +479,7 @@ impl Heap {
         map: &[FrameSlot],
         frame: &[u8],
         pins: &[u32],
+        addresses: &[u64],
         rows: &mut [u64],
     ) -> Result<(), Refusal> {
         let map = FrameSlot::words(map);
@@ -462,7 +489,7 @@ impl Heap {
             types.consts.as_ptr(), types.consts.len(), types.bytes.as_ptr(), types.bytes.len(), self.header)
             (f.kinds.as_ptr(), f.kinds.len(), f.ends.as_ptr(), f.ends.len(), f.refs.as_ptr(), f.refs.len(), f.blocks.as_ptr(), f.blocks.len(),
             f.classes.as_ptr(), f.classes.len(), pc as usize, values.as_ptr(), values.len(), map.as_ptr(), map.len(),
-            frame.as_ptr(), frame.len(), pins.as_ptr(), pins.len())
+            frame.as_ptr(), frame.len(), pins.as_ptr(), pins.len(), addresses.as_ptr(), addresses.len())
             (rows.as_mut_ptr(), rows.len()));
         self.done(done).map(|_| ())
     }
@@ -532,7 +559,17 @@ impl Heap {
         Ok(Heap::pair(ask!(self, yexwalu_live()))?.0 as usize)
     }
 
-    /// The slot that a handle leads to. The null handle (2), one of another heap (3) and one whose object is gone (4) are refused.
+    /// The slot that a handle leads to. The null handle (2), one of another heap (3), one whose slot this heap has never had (19) and one whose object is gone (4) are refused.
+    ///
+    /// ```
+    /// use yexwalu::{Handle, Heap, Kind, Refusal};
+    /// let mut heap = Heap::new(1, 64, 4096)?;
+    /// let gone = heap.alloc(Kind::Bytes, b"AB")?;
+    /// heap.free(gone)?;
+    /// assert_eq!(heap.resolve(gone), Err(Refusal::Stale));
+    /// assert_eq!(heap.resolve(Handle(gone.0 + (1 << 32))), Err(Refusal::NeverIssued));
+    /// # Ok::<(), Refusal>(())
+    /// ```
     pub fn resolve(&self, handle: Handle) -> Result<u32, Refusal> {
         Ok(Heap::pair(ask!(self, yexwalu_resolve(handle.0)))?.0 as u32)
     }
@@ -564,6 +601,36 @@ impl Heap {
         })
     }
 
+    /// The handles that a live slot shows, in the order in which they are traced: an object of a type by that type, record fields first to last and array elements rising, one of handles by offset, one of
+    /// bytes none. One with nothing visible shows none. It is refused where the table is not in order (10), for a slot that is not there or dead (9), and where the object can't be traced (13).
+    ///
+    /// ```
+    /// use yexwalu::{Handle, Heap, Kind, Refusal, TypeTable};
+    /// let mut table = TypeTable::new();
+    /// let access = table.access();
+    /// let pair = table.record(&[(access, None), (access, None)]);
+    /// let mut heap = Heap::new(1, 64, 4096)?;
+    /// let two: Vec<u8> = [7u64, 8].iter().flat_map(|x| x.to_le_bytes()).collect();
+    /// let both = heap.alloc(Kind::Typed(pair), &two)?;
+    /// assert_eq!(heap.slot_handles(&table, heap.resolve(both)?)?, [Handle(7), Handle(8)]);
+    /// # Ok::<(), Refusal>(())
+    /// ```
+    pub fn slot_handles(&self, types: &TypeTable, slot: u32) -> Result<Vec<Handle>, Refusal> {
+        let mut out = vec![0; self.size_of(slot as usize) / 8];
+        let n = self.slot_handles_into(types, slot as usize, &mut out)?;
+        out.truncate(n);
+        Ok(out.into_iter().map(Handle).collect())
+    }
+
+    /// As `slot_handles`, with the handles written to the front of a lent list (7). The answer is how many.
+    pub fn slot_handles_into(&self, types: &TypeTable, slot: usize, out: &mut [u64]) -> Result<usize, Refusal> {
+        let answer = ask!(self, yexwalu_slot_handles(
+            types.types.as_ptr(), types.types.len(), types.fields.as_ptr(), types.fields.len(),
+            types.consts.as_ptr(), types.consts.len(), types.bytes.as_ptr(), types.bytes.len())
+            (slot, out.as_mut_ptr(), out.len()));
+        Ok(Heap::pair(answer)?.0 as usize)
+    }
+
     /// The heap as a page of text, without epoch and log (docs/FORMAT.md).
     ///
     /// ```
@@ -572,7 +639,7 @@ impl Heap {
     /// heap.alloc(Kind::Bytes, b"AB")?;
     /// let page = heap.write_page()?;
     /// assert_eq!(page, b"tag,since_gc,reclaim_at,live_bytes,slots,free,quarantine,sealed\n1,34,4096,0,1,0,0,0\n\
-    /// generation,kind,type,start,writes,data\n1,2,0,0,0,4142\nfree\nquarantine\nsealed\n");
+    /// generation,kind,type,start,writes64,data\n1,2,0,0,0,4142\nfree\nquarantine\nsealed\n");
     /// assert_eq!(Heap::read_page(64, 4096, &page)?.write_page()?, page);
     /// # Ok::<(), Refusal>(())
     /// ```
@@ -588,8 +655,8 @@ impl Heap {
     /// use yexwalu::{Heap, Kind, Refusal};
     /// let mut heap = Heap::new(1, 64, 4096)?;
     /// heap.alloc(Kind::Bytes, b"AB")?;
-    /// assert_eq!(heap.page_length()?, 161);
-    /// assert_eq!(heap.write_page()?.len(), 161);
+    /// assert_eq!(heap.page_length()?, 163);
+    /// assert_eq!(heap.write_page()?.len(), 163);
     /// # Ok::<(), Refusal>(())
     /// ```
     pub fn page_length(&self) -> Result<usize, Refusal> {

@@ -1,13 +1,13 @@
 use std::fmt;
 
-/// Why a call was not done: a row of document 01's table, by its number and its word. The table may get more rows. Where several would refuse a call, 18 comes first, then 17, 1, 10, 15, 8, 14, 16, 2, 3, 4, 9, 6, 5, then 11 or 12 as met,
+/// Why a call was not done: a row of document 01's table, by its number and its word. The table may get more rows. Where several would refuse a call, 18 comes first, then 17, 1, 10, 15, 8, 14, 16, 2, 3, 19, 4, 9, 6, 5, then 11 or 12 as met,
 /// 13 and 7.
 ///
 /// ```
 /// use yexwalu::Refusal;
 /// assert_eq!(Refusal::Stale.number(), 4);
 /// assert_eq!(Refusal::Stale.to_string(), "4: stale");
-/// assert_eq!(Refusal::from_number(18), Some(Refusal::Scratch));
+/// assert_eq!(Refusal::from_number(19), Some(Refusal::NeverIssued));
 /// ```
 #[derive(Clone, Copy, Debug, PartialEq, Eq, PartialOrd, Ord, Hash)]
 #[non_exhaustive]
@@ -18,7 +18,7 @@ pub enum Refusal {
     Null = 2,
     /// 3, wrong heap: a handle of another heap.
     WrongHeap = 3,
-    /// 4, stale: no such slot, a dead slot, or another generation.
+    /// 4, stale: the object is gone: a dead slot, or another generation.
     Stale = 4,
     /// 5, full: the free list is empty and every slot is in use, or a page has more slots.
     Full = 5,
@@ -48,11 +48,13 @@ pub enum Refusal {
     Page = 17,
     /// 18, scratch: too little scratch.
     Scratch = 18,
+    /// 19, never issued: a handle of this heap's tag whose slot the heap has never had.
+    NeverIssued = 19,
 }
 
 use Refusal::*;
 
-const ALL: [(Refusal, &str); 18] = [
+const ALL: [(Refusal, &str); 19] = [
     (BrokenHeap, "broken heap"),
     (Null, "null"),
     (WrongHeap, "wrong heap"),
@@ -71,6 +73,7 @@ const ALL: [(Refusal, &str); 18] = [
     (NoMap, "no map"),
     (Page, "page"),
     (Scratch, "scratch"),
+    (NeverIssued, "never issued"),
 ];
 
 impl Refusal {

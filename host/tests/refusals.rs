@@ -1,4 +1,4 @@
-//! Lent lengths one short of each size, for every list, scratch and output of every call, and other refusals: 18, 1, 7, 8, 5, 6, 9, 10, 13, 14, 15. After each, what was lent is as
+//! Lent lengths one short of each size, for every list, scratch and output of every call, and other refusals: 18, 1, 2, 3, 19, 4, 7, 8, 5, 6, 9, 10, 13, 14, 15. After each, what was lent is as
 //! it was.
 mod common;
 use common::sample;
@@ -7,7 +7,7 @@ use yexwalu::{descriptor, ffi, Class, Direction, FrameSlot, Function, Handle, He
 type Call = (&'static str, fn(&mut Heap) -> Result<(), Refusal>);
 
 // Every call on a heap, each one that succeeds on the sample.
-const CALLS: [Call; 25] = [
+const CALLS: [Call; 26] = [
     ("alloc", |h| h.alloc(Kind::Bytes, b"x").map(drop)),
     ("alloc_from", |h| h.alloc_from(Kind::Bytes, 0, b"x").map(drop)),
     ("take", |h| h.take_into(Handle(7 << 56 | 2 << 32 | 1), &mut [0; 64]).map(drop)),
@@ -27,10 +27,11 @@ const CALLS: [Call; 25] = [
     ("data", |h| h.place(2).map(drop)),
     ("kind", |h| h.kind(2).map(drop)),
     ("stamp", |h| h.stamp(2).map(drop)),
+    ("slot_handles", |h| h.slot_handles(&plain(), 2).map(drop)),
     ("page_length", |h| h.page_length().map(drop)),
     ("write_page", |h| h.write_page_into(&mut [0; 4096]).map(drop)),
     ("collect", |h| h.collect(&plain(), &[Handle(7 << 56 | 2 << 32 | 1)], &[1])),
-    ("collect_joined", |h| h.collect_joined(&plain(), &stopped(), 1, &[7 << 56 | 2 << 32 | 1, 0], &[], &[], &[1])),
+    ("collect_joined", |h| h.collect_joined(&plain(), &stopped(), 1, &[7 << 56 | 2 << 32 | 1, 0], &[], &[], &[1], &[])),
     ("run", |h| h.run(b"alloc,0,2,41\nseal,0,0,\n")),
     ("read_page", |h| h.read_page_over(b"tag,since_gc,reclaim_at,live_bytes,slots,free,quarantine,sealed\n1,0,4096,0,0,0,0,0\ngeneration,kind,type,start,writes,data\nfree\nquarantine\nsealed\n")),
 ];
@@ -114,7 +115,7 @@ fn the_other_scratch_one_short_is_18() {
 
     let f = stopped();
     let words = f.scratch_words();
-    let joined = |h: &mut Heap, rows: &mut [u64]| h.collect_joined_with(&plain(), &f, 1, &[0, 0], &[], &[], &[], rows);
+    let joined = |h: &mut Heap, rows: &mut [u64]| h.collect_joined_with(&plain(), &f, 1, &[0, 0], &[], &[], &[], &[], rows);
     let mut after = heap.clone();
     let mut rows = vec![3; words - 1];
     assert_eq!(joined(&mut after, &mut rows), Err(Refusal::Scratch));
@@ -253,6 +254,96 @@ fn an_object_beyond_all_memory_is_1() {
             assert_eq!(heap.write_page(), Err(Refusal::BrokenHeap));
         }
     }
+}
+
+// The calls on a handle, each one with the output that it needs, and a slot's bytes that the pool has no room for.
+const ON_A_HANDLE: [(&str, fn(&mut Heap, Handle) -> Result<(), Refusal>); 4] = [
+    ("resolve", |h, x| h.resolve(x).map(drop)),
+    ("edit", |h, x| h.edit(x, &[0; 999], 0).map(drop)),
+    ("take", |h, x| h.take_into(x, &mut []).map(drop)),
+    ("free", |h, x| h.free(x)),
+];
+
+#[test]
+fn a_handle_that_leads_nowhere_is_2_3_19_or_4() {
+    let (heap, _) = sample(8, 64);
+    let slots = heap.slots().unwrap() as u64;
+    assert_eq!(slots, 5);
+    let handle = |tag: u64, index: u64, generation: u64| Handle(tag << 56 | index << 32 | generation);
+    let mut why = vec![(Handle::NULL, Refusal::Null), (handle(0, 9, 1), Refusal::WrongHeap)];
+    // another tag comes first, whatever the index
+    why.extend([0, 4, 5, 0xff_ffff].map(|i| (handle(8, i, 1), Refusal::WrongHeap)));
+    // from the slot count on, though there are S = 8 slots of memory; whatever the generation
+    for index in [5, 6, 7, 8, 9, 0xff_ffff] {
+        why.extend([0, 1, 2, 0xffff_ffff].map(|g| (handle(7, index, g), Refusal::NeverIssued)));
+    }
+    // below it: a free slot, a quarantined one, and other generations of live ones
+    why.extend([(0, 1), (0, 2), (1, 1), (1, 2), (2, 0), (2, 2), (4, 2)].map(|(i, g)| (handle(7, i, g), Refusal::Stale)));
+    for (handle, why) in why {
+        for (name, call) in ON_A_HANDLE {
+            let mut after = heap.clone();
+            assert_eq!(call(&mut after, handle), Err(why), "{name} {handle}");
+            assert!(after == heap && after.scratch() == Scratch::zeros(8), "{name} {handle}");
+        }
+    }
+}
+
+#[test]
+fn a_slot_that_comes_to_be_is_stale_and_not_never_issued() {
+    let mut heap = Heap::new(7, 2, 0).unwrap();
+    let first = Handle(7 << 56 | 1);
+    assert_eq!(heap.resolve(first), Err(Refusal::NeverIssued));
+    assert_eq!(heap.alloc(Kind::Bytes, b""), Ok(first));
+    heap.free(first).unwrap();
+    assert_eq!(heap.resolve(first), Err(Refusal::Stale));
+}
+
+#[test]
+fn roots_and_seals_that_lead_nowhere_are_skipped() {
+    let (mut heap, all) = sample(8, 64);
+    let roots = [Handle::NULL, Handle(8 << 56 | 2 << 32 | 1), Handle(7 << 56 | 7 << 32 | 1), Handle(7 << 56 | 1 << 32 | 1), all[0]];
+    heap.collect(&plain(), &roots, &[]).unwrap();
+    assert!(heap.resolve(all[0]).is_ok());
+}
+
+#[test]
+fn the_handles_of_a_slot() {
+    let (table, pair, list) = handles();
+    let mut heap = Heap::new(7, 8, 1024).unwrap();
+    let (two, three) = (words(3..5), [descriptor(&[(1, 3, Direction::To)]), words(6..12)].concat());
+    let slots = [
+        heap.alloc(Kind::Typed(pair), &two),
+        heap.alloc(Kind::Typed(list), &three),
+        heap.alloc(Kind::Handles, &[vec![0; 24], words(20..23), vec![9; 7]].concat()),
+        heap.alloc(Kind::Bytes, &words(1..9)),
+        // bytes before start are not traced, and nothing is visible beyond the length, whatever the type
+        heap.alloc_from(Kind::Typed(pair), 8, &[words(1..2), two.clone()].concat()),
+        heap.alloc_from(Kind::Typed(99), 17, &two),
+        heap.alloc(Kind::Typed(pair), &two[..15]),
+    ];
+    let shown: [&[u64]; 6] = [&[3, 4], &[6, 7, 8, 9, 10, 11], &[20, 21, 22], &[], &[3, 4], &[]];
+    let before = heap.clone();
+    for (slot, wanted) in shown.iter().enumerate() {
+        let told: Vec<u64> = heap.slot_handles(&table, slot as u32).unwrap().into_iter().map(|h| h.0).collect();
+        assert_eq!(told, *wanted, "slot {slot}");
+        let mut out = vec![77; wanted.len() + 2];
+        assert_eq!(heap.slot_handles_into(&table, slot, &mut out), Ok(wanted.len()));
+        assert!(out[..wanted.len()] == **wanted && out[wanted.len()..] == [77; 2]);
+        if !wanted.is_empty() {
+            let mut out = vec![77; wanted.len() - 1];
+            assert_eq!(heap.slot_handles_into(&table, slot, &mut out), Err(Refusal::ShortList));
+            assert!(out.iter().all(|x| *x == 77));
+        }
+    }
+    // 9 before 13 before 7
+    let mut out = [77; 1];
+    for slot in [7, 8, 9, usize::MAX] {
+        assert_eq!(heap.slot_handles_into(&table, slot, &mut out), Err(Refusal::NothingThere));
+    }
+    assert_eq!(heap.slot_handles_into(&table, 6, &mut out[..0]), Err(Refusal::Untraceable));
+    assert!(heap == before && out == [77] && heap.scratch() == Scratch::zeros(8));
+    heap.free(slots[3].unwrap()).unwrap();
+    assert_eq!(heap.slot_handles(&table, 3), Err(Refusal::NothingThere));
 }
 
 #[test]
@@ -411,8 +502,9 @@ fn a_table_one_short_is_10() {
         assert_eq!(out, [9; 4]);
         let (mut heap, _) = sample(8, 64);
         let before = heap.clone();
+        assert_eq!(heap.slot_handles_into(&table, 99, &mut out), Err(Refusal::TypeTable));
         assert_eq!(heap.collect(&table, &[], &[]), Err(Refusal::TypeTable));
-        assert_eq!(heap.collect_joined(&table, &stopped(), 1, &[0, 0], &[], &[], &[]), Err(Refusal::TypeTable));
+        assert_eq!(heap.collect_joined(&table, &stopped(), 1, &[0, 0], &[], &[], &[], &[]), Err(Refusal::TypeTable));
         assert!(heap == before && heap.scratch() == Scratch::zeros(8));
     }
 }
@@ -428,12 +520,61 @@ fn cut_functions() -> Vec<Function> {
     all
 }
 
+// A list of addresses out of order, or not in pairs, is 14, after 15 and before 16 and 13.
+#[test]
+fn addresses_out_of_order_or_not_in_pairs_are_14() {
+    let (heap, _) = sample(8, 64);
+    let f = stopped();
+    let joined = |pc: u32, values: &[u64], map: &[FrameSlot], addresses: &[u64]| {
+        let mut after = heap.clone();
+        let answer = after.collect_joined_with(&plain(), &f, pc, values, map, &[], &[], addresses, &mut vec![0; f.scratch_words()]);
+        assert!(answer.is_ok() || after == heap && after.scratch() == Scratch::zeros(8));
+        answer
+    };
+    for bad in [&[5][..], &[5, 0, 5, 1], &[6, 0, 5, 1], &[5, 0, 6], &[5, 0, 6, 1, 6, 2], &[u64::MAX, 0, 0, 1]] {
+        assert_eq!(joined(1, &[0, 0], &[], bad), Err(Refusal::Pins), "{bad:?}");
+        assert_eq!(joined(0, &[0, 0], &[FrameSlot::address(1)], bad), Err(Refusal::Pins), "{bad:?}");
+        assert_eq!(joined(1, &[0], &[], bad), Err(Refusal::Function), "{bad:?}");
+    }
+    assert_eq!(joined(1, &[0, 0], &[], &[0, 7, 1, 7, u64::MAX, u64::MAX]), Ok(()));
+    assert_eq!(joined(0, &[0, 0], &[FrameSlot::address(1)], &[0, 7]), Err(Refusal::NoMap));
+    assert_eq!(joined(1, &[0, 0], &[FrameSlot::address(1)], &[0, 7]), Err(Refusal::Untraceable));
+}
+
+// What an address does is what a pin on its slot does: objects live on, and quarantined slots stay, in order. Addresses that are not listed, and slots past 32 bits, do nothing.
+#[test]
+fn addresses_pin_as_pins_do() {
+    let f = stopped();
+    let (live, lost) = (0x7000, 0x8000);
+    let made = || {
+        let mut heap = Heap::new(1, 16, 256).unwrap();
+        let handles: Vec<Handle> = (0..8).map(|i| heap.alloc(Kind::Bytes, &[i]).unwrap()).collect();
+        for i in [6, 4, 2] {
+            heap.free(handles[i]).unwrap();
+        }
+        heap
+    };
+    let frame: Vec<u8> = [1_u64, 3, 5, 9].iter().flat_map(|w| w.to_le_bytes()).collect();
+    let map: Vec<FrameSlot> = (0..4).map(|i| FrameSlot::address(8 * i)).collect();
+    // 1 lies in slot 1, 2 is in neither, 3 in the quarantined slot 2, 5 in slot 1 + 2^32, 6 in neither, live register's value in slot 6, an unlisted one
+    let list = [(1, 1), (2, 3), (3, 2), (5, 1 << 32 | 3), (6, 4), (live, 6), (lost, 5)];
+    let mut by_address = made();
+    by_address.collect_joined(&plain(), &f, 1, &[0, live], &map, &frame, &[7], &list).unwrap();
+    let mut by_pin = made();
+    by_pin.collect_joined(&plain(), &f, 1, &[0, live], &map, &frame, &[1, 2, 6, 7], &[]).unwrap();
+    assert!(by_address == by_pin);
+    assert_eq!((by_pin.live().unwrap(), by_pin.has_quarantine().unwrap()), (2, true));
+    let mut none = made();
+    none.collect_joined(&plain(), &f, 1, &[0, live], &map, &frame, &[], &[]).unwrap();
+    assert_eq!((none.live().unwrap(), none.has_quarantine().unwrap()), (0, false));
+}
+
 #[test]
 fn a_function_one_short_is_15() {
     let (heap, _) = sample(8, 64);
     let joined = |f: &Function, values: &[u64]| {
         let mut after = heap.clone();
-        let answer = after.collect_joined(&plain(), f, 1, values, &[], &[], &[]);
+        let answer = after.collect_joined(&plain(), f, 1, values, &[], &[], &[], &[]);
         assert!(answer.is_ok() || after == heap && after.scratch() == Scratch::zeros(8));
         answer
     };
@@ -461,7 +602,7 @@ fn a_function_past_the_counts_is_15() {
     assert_eq!(f.live_refs(Wanted::All), Err(Refusal::Function));
     assert_eq!(f.live_at_into(1, Wanted::All, &mut [], &mut [0; 64]), Err(Refusal::Scratch));
     let (heap, _) = sample(8, 64);
-    let joined = |heap: &Heap, table: &TypeTable| heap.clone().collect_joined(table, &f, 1, &[], &[], &[], &[2, 1]);
+    let joined = |heap: &Heap, table: &TypeTable| heap.clone().collect_joined(table, &f, 1, &[], &[], &[], &[2, 1], &[]);
     assert_eq!(joined(&heap, &plain()), Err(Refusal::Function));
     // what comes first is still told first
     assert_eq!(joined(&heap, &cut_tables()[0]), Err(Refusal::TypeTable));

@@ -29,7 +29,7 @@ fn line(random: &mut Random, heap: &mut Heap, handles: &mut Vec<Handle>) -> (Str
 
 #[test]
 fn a_script_does_what_its_calls_do() {
-    let mut ended = [0u32; 19];
+    let mut ended = [0u32; 20];
     for seed in 1..=300 {
         let mut random = Random::new(seed);
         let (slots, pool) = (1 + random.below(40) as usize, random.below(900) as usize);
@@ -58,12 +58,14 @@ fn a_script_does_what_its_calls_do() {
 #[test]
 fn the_first_refusal_ends_a_script() {
     let gone = Handle(7 << 56 | 1 << 32 | 1);
+    let never = Handle(7 << 56 | 5 << 32 | 1);
     let other = Handle(8 << 56 | 2 << 32 | 1);
     let mut most = String::from("alloc,0,2,");
     (0..65).for_each(|_| most.push_str("41"));
     let refusals = [
         (format!("take,{},0,\n", Handle::NULL), Refusal::Null),
         (format!("take,{other},0,\n"), Refusal::WrongHeap),
+        (format!("take,{never},0,\n"), Refusal::NeverIssued),
         (format!("take,{gone},0,\n"), Refusal::Stale),
         ("alloc,0,0,\n".into(), Refusal::Kind),
         ("alloc,0,4,\n".into(), Refusal::Kind),

@@ -19,15 +19,12 @@ use Rattle.heap.specs.Lent.{Lent, stored, view, slotCount, poolSize}
 use Rattle.heap.specs.WellFormed.{wellFormed}
 use Rattle.heap.specs.Calls.{Changed}
 use Rattle.heap.proofs.Testing.{formed-tested}
+use Rattle.collection.proofs.Answers.{not-both}
 use Rattle.door.specs.HeapCalls.{Test, admitted, zeros, scratchAfter, Outcome, outcomeOf, calling}
 use Rattle.door.specs.declared.Entry.{Entry}
 use Rattle.door.specs.declared.Entry.the-variants.{Ready, Not}
 use Rattle.door.proofs.Entering.{apart, calling-not, calling-ready}
 use Rattle.collect_door.specs.Demand.{done, refusal, Refusals}
-
--- an answer is a success or one refusal
-pub not-both : {X : Type 0} (r : Result Unit) (n : ℕ) → r ≡ ok tt → r ≡ refused n → X
-not-both r n p q = let z : _≡_ {A = ℕ} 0 1 = cc in absurd (omega arith)
 
 abbrev code : Reply → ℕ
 code (Is a b) = 0

@@ -11,6 +11,10 @@ use Rattle.reach.specs.Reach.{Graph, Starts}
 use Rattle.reach.specs.Marking.{State as Marks, marking}
 use Rattle.collection.specs.Collected.{sweptBy, collected}
 
+-- an answer is a success or one refusal
+pub not-both : {X : Type 0} (r : Result Unit) (n : ℕ) → r ≡ ok tt → r ≡ refused n → X
+not-both r n p q = let z : _≡_ {A = ℕ} 0 1 = cc in absurd (omega arith)
+
 pub same-number : (r : Result Unit) (n k : ℕ) → r ≡ refused n → r ≡ refused k → n ≡ k
 same-number r n k p q = cc
 

@@ -15,13 +15,14 @@ use Rattle.word.specs.Result.{ok}
 use Rattle.word.specs.Num.{nextFrom}
 use Rattle.handle.specs.Handle.{indexOf, resolveBy}
 use Rattle.handle.proofs.ResolveLaws.{Resolves, resolve-ok, resolve-same}
-use Rattle.heap.specs.State.{Slot, State, slotAt, live, times, withSince, withLive}
+use Rattle.heap.specs.State.{Slot, State, noSlot, slotAt, live, times, withSince, withLive}
 use Rattle.heap.specs.Calls.{resolve, released, filter, member, recycle}
 use Rattle.heap.specs.WellFormed.{sound, fits}
 use Rattle.heap.proofs.Sound.{Sound}
 use Rattle.heap.proofs.Testing.{sound-tested, sound-test}
 use Rattle.heap.proofs.Recycled.{recycle-sound}
 use Rattle.collection.specs.Swept.{goes, dropped, dropSlot, dropSlots, liveSize, dropUnmarked, swept}
+use Rattle.collection.proofs.Pinned.{recycle-same}
 use Rattle.collection.proofs.Dropping.{sweptSlot, all-dropped, dropped-slot, drop-append, unmarked-sound}
 
 -- ---- slots
@@ -79,18 +80,18 @@ swept-tag h marks pins = all-dropped marks h .tag
 pub resolved-live : (h : State) (x i : ℕ) → resolve h x ≡ ok i → (live (slotAt h i) ≡ true) × (indexOf x ≡ i)
 unfolding resolve
 resolved-live h x i e =
-    let r : Resolves (h .tag) (λ j. live (slotAt h j)) (λ j. slotAt h j .generation) x i = resolve-ok (h .tag) (λ j. live (slotAt h j)) (λ j. slotAt h j .generation) x i e in
+    let r : Resolves (h .tag) (length (h .slots)) (λ j. live (slotAt h j)) (λ j. slotAt h j .generation) x i = resolve-ok (h .tag) (length (h .slots)) (λ j. live (slotAt h j)) (λ j. slotAt h j .generation) x i e in
     (r .alive, r .index)
 
-same-resolve : (h h′ : State) (x : ℕ) → h′ .tag ≡ h .tag → slotAt h′ (indexOf x) ≡ slotAt h (indexOf x) → resolve h′ x ≡ resolve h x
+same-resolve : (h h′ : State) (x : ℕ) → h′ .tag ≡ h .tag → length (h′ .slots) ≡ length (h .slots) → slotAt h′ (indexOf x) ≡ slotAt h (indexOf x) → resolve h′ x ≡ resolve h x
 unfolding resolve
-same-resolve h h′ x et es =
-    ap (λ (t : ℕ). resolveBy t (λ i. live (slotAt h′ i)) (λ i. slotAt h′ i .generation) x) et
-    ∙ resolve-same (h .tag) (λ i. live (slotAt h′ i)) (λ i. live (slotAt h i)) (λ i. slotAt h′ i .generation) (λ i. slotAt h i .generation) x (ap live es) (ap (λ (s : Slot). s .generation) es)
+same-resolve h h′ x et en es =
+    ap (λ (t : ℕ). resolveBy t (length (h′ .slots)) (λ i. live (slotAt h′ i)) (λ i. slotAt h′ i .generation) x) et
+    ∙ resolve-same (h .tag) (length (h′ .slots)) (length (h .slots)) (λ i. live (slotAt h′ i)) (λ i. live (slotAt h i)) (λ i. slotAt h′ i .generation) (λ i. slotAt h i .generation) x en (ap live es) (ap (λ (s : Slot). s .generation) es)
 
 module _ (h : State) (marks pins : List ℕ) (x i : ℕ) where
   same-marked : 0 < getD marks (indexOf x) 0 → resolve (swept h marks pins) x ≡ resolve h x
-  same-marked m = same-resolve h (swept h marks pins) x (swept-tag h marks pins) (survivor h marks pins (indexOf x) m)
+  same-marked m = same-resolve h (swept h marks pins) x (swept-tag h marks pins) (swept-count h marks pins) (survivor h marks pins (indexOf x) m)
 
   -- a handle that resolves afterwards did so before, and its slot is marked
   pub resolved-before : resolve (swept h marks pins) x ≡ ok i → (resolve h x ≡ ok i) × (0 < getD marks i 0)
@@ -171,6 +172,37 @@ unfolding swept dropUnmarked
 swept-same h m m′ pins e =
     let same : dropped m 0 (h .slots) ≡ dropped m′ 0 (h .slots) =
     dropped-same m m′ 0 (h .slots) (λ k less. subst (λ (x : ℕ). eqb (getD m x 0) 0 ≡ eqb (getD m′ x 0) 0) (omega arith) (e k less)) in
+    ap (λ (xs : List ℕ). recycle (withLive (withSince (dropSlots h xs) 0) (liveSize (dropSlots h xs .slots))) pins) same
+
+-- which pins there are decides what stays, their order does not; of marks, those of live slots do
+
+pub swept-pins : (h : State) (marks a b : List ℕ) → ((i : ℕ) → 0 < times i (h .quarantine) → member i a ≡ member i b) → swept h marks a ≡ swept h marks b
+unfolding swept dropUnmarked
+swept-pins h marks a b e =
+    recycle-same (dropUnmarked h marks) a b (λ i m. e i (subst (λ (q : List ℕ). 0 < times i q) (all-dropped marks h .quarantine) m))
+
+dropped-live : (m m′ : List ℕ) (i : ℕ) (ss : List Slot) → ((k : ℕ) → k < length ss → live (getD ss k noSlot) ≡ true → eqb (getD m (i + k) 0) 0 ≡ eqb (getD m′ (i + k) 0) 0) → dropped m i ss ≡ dropped m′ i ss
+unfolding dropped
+dropped-live m m′ i [] e = refl
+dropped-live m m′ i (s ∷ ss) e =
+    let first : i + 0 ≡ i = omega arith in
+    let at : (x : ℕ) → Type 0 = λ x. eqb (getD m x 0) 0 ≡ eqb (getD m′ x 0) 0 in
+    let here : goes m i s ≡ goes m′ i s = one s (λ a. subst at first (e 0 (omega arith) a)) in
+    let rest : dropped m (suc i) ss ≡ dropped m′ (suc i) ss = dropped-live m m′ (suc i) ss (λ k less a. subst at (omega arith) (e (suc k) (omega arith) a)) in
+    λ j. if (here j) then (i ∷ rest j) else rest j
+  where
+    one : (s : Slot) → (live s ≡ true → eqb (getD m i 0) 0 ≡ eqb (getD m′ i 0) 0) → goes m i s ≡ goes m′ i s
+    one s q = by (live s) refl
+      where
+        by : (b : Bool) → live s ≡ b → (b && eqb (getD m i 0) 0) ≡ (b && eqb (getD m′ i 0) 0)
+        by true a = q a
+        by false a = refl
+
+pub swept-alive : (h : State) (m m′ pins : List ℕ) → ((i : ℕ) → live (slotAt h i) ≡ true → eqb (getD m i 0) 0 ≡ eqb (getD m′ i 0) 0) → swept h m pins ≡ swept h m′ pins
+unfolding swept dropUnmarked
+swept-alive h m m′ pins e =
+    let same : dropped m 0 (h .slots) ≡ dropped m′ 0 (h .slots) =
+    dropped-live m m′ 0 (h .slots) (λ k less a. subst (λ (x : ℕ). eqb (getD m x 0) 0 ≡ eqb (getD m′ x 0) 0) (omega arith) (e k a)) in
     ap (λ (xs : List ℕ). recycle (withLive (withSince (dropSlots h xs) 0) (liveSize (dropSlots h xs .slots))) pins) same
 
 -- ---- an example: slot 0 is kept, 1 and 3 go (the generation of 3 wraps, and so does the epoch), 2 is in quarantine and not pinned, 4 is and is pinned

@@ -3,7 +3,7 @@ use mathlib.Core.Path.{_≡_, refl, sym, ap, _∙_}
 use mathlib.Core.Bool.{Bool, true, false, _&&_, _||_}
 use mathlib.Core.List.{List, [], _∷_, _++_}
 use mathlib.Core.Logic.{_⊎_, ⊎-elim}
-use Prim.Native.Nat.{ℕ, zero, suc, _+_, _%_, _^_, _≤_, _<_}
+use Prim.Native.Nat.{ℕ, zero, suc, _+_, _%_, _≤_, _<_}
 use native.Mathlib.Omega.{arith}
 use native.Mathlib.Decide.{decLt, ℕ-discrete}
 use lib.ListN.{length, getD, List·getD-eq-default}
@@ -30,12 +30,10 @@ no-bytes (x ∷ xs) h = absurd (omega arith)
 pub slot-tested : (s : Slot) → soundSlot s ≡ true → SlotSound s
 unfolding soundSlot
 slot-tested s h =
-    let a = and-both (leb (s .kind) 3 && leb 1 (s .generation) && ltb (s .writes) (2 ^ 32) && (eqb (s .kind) 1 || eqb (s .type) 0)) _ h in
-    let b = and-both (leb (s .kind) 3 && leb 1 (s .generation) && ltb (s .writes) (2 ^ 32)) _ (a .0) in
-    let f = and-both (leb (s .kind) 3 && leb 1 (s .generation)) _ (b .0) in
-    let d = and-both (leb (s .kind) 3) _ (f .0) in
+    let a = and-both (leb (s .kind) 3 && leb 1 (s .generation) && (eqb (s .kind) 1 || eqb (s .type) 0)) _ h in
+    let b = and-both (leb (s .kind) 3 && leb 1 (s .generation)) _ (a .0) in
+    let d = and-both (leb (s .kind) 3) _ (b .0) in
     record {
-      narrow = ltb-true _ _ (f .1);
       kinds = leb-true _ _ (d .0);
       aged = leb-true _ _ (d .1);
       untyped = λ two. ⊎-elim (λ e. absurd (omega (arith, eqb-true (s .kind) 1 e))) (λ e. eqb-true _ _ e) (or-cases (eqb (s .kind) 1) _ (b .1));
@@ -54,9 +52,9 @@ slot-tested s h =
 pub slot-tests : (s : Slot) → SlotSound s → soundSlot s ≡ true
 unfolding soundSlot
 slot-tests s k =
-    both-and (leb (s .kind) 3 && leb 1 (s .generation) && ltb (s .writes) (2 ^ 32) && (eqb (s .kind) 1 || eqb (s .type) 0)) (live s || eqb (s .start) 0 && eqb (s .writes) 0 && eqb (length (s .bytes)) 0)
-    (both-and (leb (s .kind) 3 && leb 1 (s .generation) && ltb (s .writes) (2 ^ 32)) (eqb (s .kind) 1 || eqb (s .type) 0)
-    (both-and (leb (s .kind) 3 && leb 1 (s .generation)) (ltb (s .writes) (2 ^ 32)) (both-and (leb (s .kind) 3) (leb 1 (s .generation)) (le-leb (s .kind) 3 (k .kinds)) (le-leb 1 (s .generation) (k .aged))) (lt-ltb (s .writes) (2 ^ 32) (k .narrow)))
+    both-and (leb (s .kind) 3 && leb 1 (s .generation) && (eqb (s .kind) 1 || eqb (s .type) 0)) (live s || eqb (s .start) 0 && eqb (s .writes) 0 && eqb (length (s .bytes)) 0)
+    (both-and (leb (s .kind) 3 && leb 1 (s .generation)) (eqb (s .kind) 1 || eqb (s .type) 0)
+    (both-and (leb (s .kind) 3) (leb 1 (s .generation)) (le-leb (s .kind) 3 (k .kinds)) (le-leb 1 (s .generation) (k .aged)))
     typed)
     quiet
   where

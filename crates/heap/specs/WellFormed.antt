@@ -1,7 +1,7 @@
 -- When a heap is well formed (01, "Well formed" and "Added"): tests that other definitions branch on.
 use mathlib.Core.Bool.{Bool, true, _&&_, _||_}
 use mathlib.Core.List.{List, [], _∷_, _++_}
-use Prim.Native.Nat.{ℕ, suc, _+_, _%_, _^_}
+use Prim.Native.Nat.{ℕ, suc, _+_, _%_}
 use lib.ListN.{length}
 use lib.Dec.{eqb, ltb, leb}
 use Rattle.word.specs.Lists.{all, allBelow, sameList}
@@ -10,10 +10,10 @@ use Rattle.heap.specs.State.{Slot, State, slotAt, live, dataSize, bit, t
 use Rattle.heap.specs.Lent.{Lent, stored, view, slotCount, poolSize}
 use Rattle.heap.specs.declared.Heap.{Heap}
 
--- kinds 0 to 3; generations at least 1; writes of 32 bits; kinds 2 and 3 keep type 0; a dead slot has no data, and type, start and writes 0
+-- kinds 0 to 3; generations at least 1; kinds 2 and 3 keep type 0; a dead slot has no data, and type, start and writes 0
 unfoldable pub soundSlot : Slot → Bool
 soundSlot s =
-    leb (s .kind) 3 && leb 1 (s .generation) && ltb (s .writes) (2 ^ 32)
+    leb (s .kind) 3 && leb 1 (s .generation)
     && (eqb (s .kind) 1 || eqb (s .type) 0)
     && (live s || eqb (s .start) 0 && eqb (s .writes) 0 && eqb (length (s .bytes)) 0)
 

@@ -134,7 +134,6 @@ module _ (h : Heap) (narrow wide pool : List ℕ) where
     pub type : getD narrow (2 * S + i) 0 ≡ slotAt st i .type
     pub start : getD wide i 0 ≡ slotAt st i .start
     pub writes : getD wide (2 * S + i) 0 ≡ slotAt st i .writes
-    pub counted : slotAt st i .writes < 2 ^ 32
     -- where its data lies, and where all data ends
     pub from : startOf (run S S wide) i ≡ dataSize (take i (st .slots))
     pub end : getD wide (S + i) 0 ≡ dataSize (take i (st .slots)) + length (slotAt st i .bytes)
@@ -167,7 +166,6 @@ module _ (h : Heap) (narrow wide pool : List ℕ) where
           type = sym (run-get S (2 * S) narrow i inside) ∙ type-is l w i;
           start = sym (first-get S wide i inside) ∙ start-is l w i;
           writes = sym (run-get S (2 * S) wide i inside) ∙ writes-is l w i;
-          counted = formed l w .sound .each-slot i here .narrow;
           from = from-is l w i (omega arith);
           end = sym (run-get S S wide i inside) ∙ end-is l w i b;
           used = used-is l w;

@@ -16,7 +16,7 @@ use Rattle.refusal.specs.declared.Reply.{Reply}
 use Rattle.refusal.specs.declared.Reply.the-variants.{Is, Not}
 use Rattle.handle.specs.Handle.{told, replied}
 use Rattle.handle.specs.declared.Resolved.{Resolved}
-use Rattle.handle.specs.declared.Resolved.the-variants.{Null, WrongHeap, Stale, At}
+use Rattle.handle.specs.declared.Resolved.the-variants.{Null, WrongHeap, NeverIssued, Stale, At}
 use Rattle.handle.proofs.Resolved.{the-type as resolved-type}
 use Rattle.heap.specs.State.{Slot, slotAt, dataSize}
 use Rattle.heap.specs.Lent.{Lent, lent, stored, view, slotCount, poolSize}
@@ -44,7 +44,7 @@ pub placed-raised : {l l′ : Lent} {i g k t s w w′ : ℕ} {bytes : List ℕ} 
 placed-raised {l} {l′} {i} {g} {k} {t} {s} {w} {w′} {bytes} done e = subst (λ (v : ℕ). PlacedIn l l′ i g k t s v bytes) e done
 
 -- what `resolve` found in the heap that lies there
-pub found : (l : Lent) → wellFormed l ≡ true → (x : ℕ) (r : Resolved) → told r ≡ resolveBy (l .header .tag) (liveIn (l .header .slots) (l .kind)) (λ i. getD (l .generation) i 0) x → told r ≡ resolve (view l) x
+pub found : (l : Lent) → wellFormed l ≡ true → (x : ℕ) (r : Resolved) → told r ≡ resolveBy (l .header .tag) (l .header .slots) (liveIn (l .header .slots) (l .kind)) (λ i. getD (l .generation) i 0) x → told r ≡ resolve (view l) x
 found l w x r e = e ∙ resolves l w x
 
 module _ (l : Lent) (w : wellFormed l ≡ true) (x : ℕ) (bytes : List ℕ) (first : ℕ) where
@@ -55,15 +55,16 @@ module _ (l : Lent) (w : wellFormed l ≡ true) (x : ℕ) (bytes : List ℕ) (fi
   edit-no n e = edit-none n (edit-unresolved (poolSize l) (view l) x bytes first n e)
 
   -- an answer of `resolve` that is no slot is that refusal of `edit`
-  pub edit-unfound : {reply : Reply} (r : Resolved) → OneOf (0 ∷ 1 ∷ 2 ∷ []) (tagOf resolved-type r) → told r ≡ resolve (view l) x → reply ≡ replied r
+  pub edit-unfound : {reply : Reply} (r : Resolved) → OneOf (0 ∷ 1 ∷ 2 ∷ 3 ∷ []) (tagOf resolved-type r) → told r ≡ resolve (view l) x → reply ≡ replied r
       → Tells here nothing l l reply (edit (poolSize l) (view l) x bytes first)
   edit-unfound {reply} r k e q = subst (λ (y : Reply). Tells here nothing l l y (edit (poolSize l) (view l) x bytes first)) (sym q) (go r k e)
     where
-      go : (r : Resolved) → OneOf (0 ∷ 1 ∷ 2 ∷ []) (tagOf resolved-type r) → told r ≡ resolve (view l) x → Tells here nothing l l (replied r) (edit (poolSize l) (view l) x bytes first)
+      go : (r : Resolved) → OneOf (0 ∷ 1 ∷ 2 ∷ 3 ∷ []) (tagOf resolved-type r) → told r ≡ resolve (view l) x → Tells here nothing l l (replied r) (edit (poolSize l) (view l) x bytes first)
       go Null k e = tells-not here nothing (edit-no 2 (sym e))
       go WrongHeap k e = tells-not here nothing (edit-no 3 (sym e))
+      go NeverIssued k e = tells-not here nothing (edit-no 19 (sym e))
       go Stale k e = tells-not here nothing (edit-no 4 (sym e))
-      go (At i) k e = absurd (miss (0 ∷ 1 ∷ 2 ∷ []) 3 tt k)
+      go (At i) k e = absurd (miss (0 ∷ 1 ∷ 2 ∷ 3 ∷ []) 4 tt k)
 
   module _ {r : Resolved} {i : ℕ} (s : told r ≡ resolve (view l) x) (f : r ≡ At i) where
     at : resolve (view l) x ≡ ok i
@@ -96,7 +97,7 @@ module _ (l : Lent) (w : wellFormed l ≡ true) (x : ℕ) (bytes : List ℕ) (fi
               writes = k .writes-size;
             }
 
-        edit-at : (l′ : Lent) (g k t′ w′ : ℕ) → g ≡ slotAt (view l) i .generation → k ≡ slotAt (view l) i .kind → t′ ≡ slotAt (view l) i .type → w′ ≡ (slotAt (view l) i .writes + 1) % 2 ^ 32
+        edit-at : (l′ : Lent) (g k t′ w′ : ℕ) → g ≡ slotAt (view l) i .generation → k ≡ slotAt (view l) i .kind → t′ ≡ slotAt (view l) i .type → w′ ≡ (slotAt (view l) i .writes + 1) % 2 ^ 64
             → PlacedIn (with-header l hd) l′ i g k t′ first w′ bytes → Does l l′ (ok i) (edit (poolSize l) (view l) x bytes first)
         edit-at l′ g k t′ w′ eg ek et ew done =
             let kn = knows l w in
@@ -116,9 +117,9 @@ module _ (h : Heap) (narrow wide pool : List ℕ) (w : wellFormed (lent h narrow
     (q : b ≡ leb (dataSize (view (lent h narrow wide pool) .slots) - length (slotAt (view (lent h narrow wide pool)) i .bytes) + length bytes) (length pool)) (t : b ≡ true)
     {hd : Heap} (eh : hd ≡ setChanged h i) where
   pub edit-yes : (l′ : Lent)
-      → PlacedIn (lent hd narrow wide pool) l′ i (getD narrow i 0) (getD narrow (length narrow / 6 + i) 0) (getD narrow (2 * (length narrow / 6) + i) 0) first ((getD wide (2 * (length narrow / 6) + i) 0 + 1) % 2 ^ 32) bytes
+      → PlacedIn (lent hd narrow wide pool) l′ i (getD narrow i 0) (getD narrow (length narrow / 6 + i) 0) (getD narrow (2 * (length narrow / 6) + i) 0) first ((getD wide (2 * (length narrow / 6) + i) 0 + 1) % 2 ^ 64) bytes
       → Tells here nothing (lent h narrow wide pool) l′ (Is i 0) (edit (length pool) (view (lent h narrow wide pool)) x bytes first)
   edit-yes l′ done =
       let l : Lent = lent h narrow wide pool in
       let v : Reads h narrow wide pool i = reads h narrow wide pool w i (edit-inside l w x bytes first s f) in
-      tells-is here nothing (edit-at l w x bytes first s f q t eh l′ _ _ _ _ (v .generation) (v .kind) (v .type) (ap (λ (n : ℕ). (n + 1) % 2 ^ 32) (v .writes)) done)
+      tells-is here nothing (edit-at l w x bytes first s f q t eh l′ _ _ _ _ (v .generation) (v .kind) (v .type) (ap (λ (n : ℕ). (n + 1) % 2 ^ 64) (v .writes)) done)

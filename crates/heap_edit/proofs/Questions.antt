@@ -164,12 +164,12 @@ module _ (l : Lent) (w : wellFormed l ≡ true) where
   pub none-beyond : (i : ℕ) → l .header .slots ≤ i → live (slotAt (view l) i) ≡ false
   none-beyond i b = none-past (view l) i (omega (arith, knows l w .slot-count))
 
-  pub resolves : (x : ℕ) → resolveBy (l .header .tag) (liveIn (l .header .slots) (l .kind)) (λ i. getD (l .generation) i 0) x ≡ resolve (view l) x
+  pub resolves : (x : ℕ) → resolveBy (l .header .tag) (l .header .slots) (liveIn (l .header .slots) (l .kind)) (λ i. getD (l .generation) i 0) x ≡ resolve (view l) x
   unfolding resolve
   resolves x =
-      resolve-same (l .header .tag) (liveIn (l .header .slots) (l .kind)) (λ i. live (slotAt (view l) i)) (λ i. getD (l .generation) i 0) (λ i. slotAt (view l) i .generation) x there
-      (generation-is l w (indexOf x))
-      ∙ ap (λ (t : ℕ). resolveBy t (λ i. live (slotAt (view l) i)) (λ i. slotAt (view l) i .generation) x) (sym (header-is (view l) (l .header) (sym (knows l w .header)) .tag))
+      resolve-same (l .header .tag) (l .header .slots) (length (view l .slots)) (liveIn (l .header .slots) (l .kind)) (λ i. live (slotAt (view l) i)) (λ i. getD (l .generation) i 0) (λ i. slotAt (view l) i .generation) x
+      (knows l w .slot-count) there (generation-is l w (indexOf x))
+      ∙ ap (λ (t : ℕ). resolveBy t (length (view l .slots)) (λ i. live (slotAt (view l) i)) (λ i. slotAt (view l) i .generation) x) (sym (header-is (view l) (l .header) (sym (knows l w .header)) .tag))
     where
       there : liveIn (l .header .slots) (l .kind) (indexOf x) ≡ live (slotAt (view l) (indexOf x))
       there =

@@ -42,14 +42,13 @@ live-inside h i e =
 
 rewritten-sound : (s : Slot) (start : ℕ) (bytes : List ℕ) → SlotSound s → live s ≡ true → SlotSound (rewritten s start bytes)
 rewritten-sound s start bytes k e =
-    record { kinds = k .kinds; aged = k .aged; narrow = omega arith; untyped = k .untyped; dead = λ z. absurd (omega (arith, ltb-true 0 (s .kind) e)) }
+    record { kinds = k .kinds; aged = k .aged; untyped = k .untyped; dead = λ z. absurd (omega (arith, ltb-true 0 (s .kind) e)) }
 
 reissued-sound : (s : Slot) → SlotSound s → SlotSound (reissued s)
 reissued-sound s k =
     record {
       kinds = k .kinds;
       aged = step-aged (s .generation);
-      narrow = omega arith;
       untyped = k .untyped;
       dead = λ z. let d = k .dead z in λ j. record { generation = nextFrom 32 (s .generation); kind = z j; type = ap (λ (x : Slot). x .type) d j; start = ap (λ (x : Slot). x .start) d j; writes = 0; bytes = ap (λ (x : Slot). x .bytes) d j };
     }
@@ -68,7 +67,7 @@ module _ (S P : ℕ) (h : State) (k : Sound S P h) (i : ℕ) (alive : live (slot
 -- a handle leads to a live slot
 pub resolved-live : (h : State) (x i : ℕ) → resolve h x ≡ ok i → live (slotAt h i) ≡ true
 unfolding resolve
-resolved-live h x i e = resolve-ok (h .tag) (λ i. live (slotAt h i)) (λ i. slotAt h i .generation) x i e .alive
+resolved-live h x i e = resolve-ok (h .tag) (length (h .slots)) (λ i. live (slotAt h i)) (λ i. slotAt h i .generation) x i e .alive
 
 -- a change that is one of these is sound
 keeps : {A : Type 0} (S P : ℕ) (a b : Changed A) → a ≡ b → Sound S P (b .heap) → Sound S P (a .heap)

@@ -100,7 +100,7 @@ module _ (l : Lent) (w : wellFormed l ≡ true) (i at : ℕ) (bytes : List ℕ) 
   write-none e = untold (write-dead (view l) i at bytes (is-dead (view l) i e))
 
   -- slot i with this data in the pool and one write more
-  stands : (bytes′ ps : List ℕ) → live (slotAt (view l) i) ≡ true → SlotData l i bytes′ (l .end) ps → (ws : List ℕ) → ws ≡ set (l .writes) i ((getD (l .writes) i 0 + 1) % 2 ^ 32)
+  stands : (bytes′ ps : List ℕ) → live (slotAt (view l) i) ≡ true → SlotData l i bytes′ (l .end) ps → (ws : List ℕ) → ws ≡ set (l .writes) i ((getD (l .writes) i 0 + 1) % 2 ^ 64)
       → columns (l .header) (l .count) (l .generation) (l .kind) (l .type) (l .start) (l .end) ws ps (l .free) (l .quarantine) (l .sealed) (l .retired) (l .over)
       ≡ stored (slotCount l) (poolSize l) (withSlot (view l) i (rewritten (slotAt (view l) i) (slotAt (view l) i .start) bytes′))
   stands bytes′ ps a d ws e =
@@ -110,7 +110,7 @@ module _ (l : Lent) (w : wellFormed l ≡ true) (i at : ℕ) (bytes : List ℕ) 
         kind = stays (l .kind) i _ (kind-is l w i);
         type = stays (l .type) i _ (type-is l w i);
         start = stays (l .start) i _ (start-is l w i);
-        writes = e ∙ ap (λ (n : ℕ). set (l .writes) i ((n + 1) % 2 ^ 32)) (writes-is l w i);
+        writes = e ∙ ap (λ (n : ℕ). set (l .writes) i ((n + 1) % 2 ^ 64)) (writes-is l w i);
       })
       d
 
@@ -129,7 +129,7 @@ module _ (l : Lent) (w : wellFormed l ≡ true) (i at : ℕ) (bytes : List ℕ) 
   pub hidden-inside : seenAt (view l) i ≡ Hidden → i < l .header .slots
   hidden-inside e = in-use (is-hidden (view l) i e .alive)
 
-  write-quiet : (ws : List ℕ) (l′ : Lent) → seenAt (view l) i ≡ Hidden → ws ≡ set (l .writes) i ((getD (l .writes) i 0 + 1) % 2 ^ 32) → l′ ≡ after ws (l .pool)
+  write-quiet : (ws : List ℕ) (l′ : Lent) → seenAt (view l) i ≡ Hidden → ws ≡ set (l .writes) i ((getD (l .writes) i 0 + 1) % 2 ^ 64) → l′ ≡ after ws (l .pool)
       → Tells nothing nothing l l′ (Not NothingThere) (write (view l) i at bytes)
   write-quiet ws l′ e q el =
       let h = is-hidden (view l) i e in
@@ -149,7 +149,7 @@ module _ (l : Lent) (w : wellFormed l ≡ true) (i at : ℕ) (bytes : List ℕ) 
         let b = in-use (shown .alive) in
         (b, omega (arith, shown, data-inside l w i b))
 
-    write-over : (ws ps : List ℕ) (l′ : Lent) → at + length bytes ≤ size → ws ≡ set (l .writes) i ((getD (l .writes) i 0 + 1) % 2 ^ 32) → ps ≡ put (l .pool) (from + at) bytes (length bytes)
+    write-over : (ws ps : List ℕ) (l′ : Lent) → at + length bytes ≤ size → ws ≡ set (l .writes) i ((getD (l .writes) i 0 + 1) % 2 ^ 64) → ps ≡ put (l .pool) (from + at) bytes (length bytes)
         → l′ ≡ after ws ps → Tells nothing nothing l l′ (Is 0 0) (write (view l) i at bytes)
     write-over ws ps l′ b q p el =
         let inside = in-use (shown .alive) in
@@ -161,7 +161,7 @@ module _ (l : Lent) (w : wellFormed l ≡ true) (i at : ℕ) (bytes : List ℕ) 
 -- ---- at the lists that are lent
 
 module _ (h : Heap) (narrow wide pool : List ℕ) (w : wellFormed (lent h narrow wide pool) ≡ true) (i at : ℕ) (bytes wide′ : List ℕ) (b : i < h .slots)
-    (e : wide′ ≡ set wide (2 * (length narrow / 6) + i) ((getD wide (2 * (length narrow / 6) + i) 0 + 1) % 2 ^ 32)) where
+    (e : wide′ ≡ set wide (2 * (length narrow / 6) + i) ((getD wide (2 * (length narrow / 6) + i) 0 + 1) % 2 ^ 64)) where
   abbrev S : ℕ
   S = length narrow / 6
 
@@ -169,13 +169,13 @@ module _ (h : Heap) (narrow wide pool : List ℕ) (w : wellFormed (lent h narrow
   l = lent h narrow wide pool
 
   abbrev ws : List ℕ
-  ws = set (l .writes) i ((getD wide (2 * S + i) 0 + 1) % 2 ^ 32)
+  ws = set (l .writes) i ((getD wide (2 * S + i) 0 + 1) % 2 ^ 64)
 
   inside : i < S
   inside = omega (arith, sizes h narrow wide pool w)
 
-  raised : ws ≡ set (l .writes) i ((getD (l .writes) i 0 + 1) % 2 ^ 32)
-  raised = ap (λ (n : ℕ). set (l .writes) i ((n + 1) % 2 ^ 32)) (sym (run-get S (2 * S) wide i inside))
+  raised : ws ≡ set (l .writes) i ((getD (l .writes) i 0 + 1) % 2 ^ 64)
+  raised = ap (λ (n : ℕ). set (l .writes) i ((n + 1) % 2 ^ 64)) (sym (run-get S (2 * S) wide i inside))
 
   lies : (ps : List ℕ) → lent h narrow wide′ ps ≡ after l w i at bytes ws ps
   lies ps = ap (λ (x : List ℕ). lent h narrow x ps) e ∙ set-writes h S narrow wide ps i _ inside

@@ -197,12 +197,11 @@ pub fn new(tag: u8, narrow: &mut [u32], wide: &mut [u64], pool: &mut [u8]) -> He
 
 // ---- edit
 
-// A write count risen by one, wrapping at 32 bits.
+// A write count risen by one, wrapping at 64 bits.
 fn raised(w: u64) -> u64
-    requires { ⌜ w < 2 ^ 32 ⌝ }
-    ensures { λ r. ⌜ r ≡ (w + 1) % 2 ^ 32 ⌝ }
+    ensures { λ r. ⌜ r ≡ (w + 1) % 2 ^ 64 ⌝ }
 {
-    (w + 1) % 0x1_0000_0000
+    std::num::wrapping_add_u64(w, 1)
 }
 
 // Do `m` bytes fit in place of the data of slot `i`?
@@ -230,11 +229,10 @@ fn replace(
     bytes: &[u8],
 )
     requires { ⌜ CanPlace (lent heap (now narrow) (now wide) (now pool)) i (now bytes) ⌝ }
-    requires { ⌜ getD (now wide) (2 * (length (now narrow) / 6) + i) 0 < 2 ^ 32 ⌝ }
     ensures { λ _. ⌜ PlacedIn (lent heap (now (narrow .entry)) (now (wide .entry)) (now (pool .entry)))
         (lent heap (now (narrow .exit)) (now (wide .exit)) (now (pool .exit))) i (getD (now (narrow .entry)) i 0)
         (getD (now (narrow .entry)) (length (now (narrow .entry)) / 6 + i) 0) (getD (now (narrow .entry)) (2 * (length (now (narrow .entry)) / 6) + i) 0)
-        start ((getD (now (wide .entry)) (2 * (length (now (narrow .entry)) / 6) + i) 0 + 1) % 2 ^ 32) (now (bytes .entry)) ⌝ }
+        start ((getD (now (wide .entry)) (2 * (length (now (narrow .entry)) / 6) + i) 0 + 1) % 2 ^ 64) (now (bytes .entry)) ⌝ }
 {
     let s = narrow.len() / 6;
     let g = narrow[i];
@@ -286,8 +284,7 @@ pub fn edit(
 // The write count at this place rises.
 fn raise(wide: &mut [u64], at: usize)
     requires { ⌜ at < length (now wide) ⌝ }
-    requires { ⌜ getD (now wide) at 0 < 2 ^ 32 ⌝ }
-    ensures { λ _. ⌜ now (wide .exit) ≡ set (now (wide .entry)) at ((getD (now (wide .entry)) at 0 + 1) % 2 ^ 32) ⌝ }
+    ensures { λ _. ⌜ now (wide .exit) ≡ set (now (wide .entry)) at ((getD (now (wide .entry)) at 0 + 1) % 2 ^ 64) ⌝ }
 {
     wide[at] = raised(wide[at]);
 }

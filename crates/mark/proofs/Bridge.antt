@@ -144,16 +144,18 @@ module _ (slots S : ℕ) (narrow wide pool : List ℕ) (fit : Fit slots S narrow
     pub slot-ends : getD wide (S + i) 0 ≤ length pool
     slot-ends = omega (arith, fit .pooled i h, end-at)
 
-    module _ (T : Table) (tag : ℕ) (marks words : List ℕ) (c : ℕ) (s : Scratch slots marks words c) where
-      shown-at : handlesOf T (getD narrow (S + i) 0) (getD narrow (2 * S + i) 0) (getD wide i 0) (take (getD wide (S + i) 0 - a) (drop a pool)) ≡ shownIn T S narrow wide pool i
+    module _ (T : Table) where
+      -- what the slot's numbers and data show is what the runs show
+      pub slot-shown : handlesOf T (getD narrow (S + i) 0) (getD narrow (2 * S + i) 0) (getD wide i 0) (take (getD wide (S + i) 0 - a) (drop a pool)) ≡ shownIn T S narrow wide pool i
       unfolding shownIn dataAt
-      shown-at =
+      slot-shown =
           let inside : i < S = omega (arith, fit .runs .used) in
           λ j. handlesOf T (sym (run-get S S narrow i inside) j) (sym (run-get S (2 * S) narrow i inside) j) (sym (first-get S wide i inside) j) (take (sym end-at j - ea j) (drop (ea j) pool))
 
-      pub slot-traces : (r : Answer) (marks′ words′ : List ℕ)
-          → told r marks′ words′ ≡ emitting (into Work (resolveIn tag slots S narrow)) (rawOf marks words c) (handlesOf T (getD narrow (S + i) 0) (getD narrow (2 * S + i) 0) (getD wide i 0) (take (getD wide (S + i) 0 - a) (drop a pool)))
-          → Traces r slots marks′ words′ (following (leadsTo tag slots S narrow) (stateOf marks words c) (shownIn T S narrow wide pool i))
-      slot-traces r marks′ words′ e =
-          traces slots (resolveIn tag slots S narrow) (resolves-in tag slots S narrow) r _ marks words c marks′ words′ s
-          (e ∙ ap (emitting (into Work (resolveIn tag slots S narrow)) (rawOf marks words c)) shown-at)
+      module _ (tag : ℕ) (marks words : List ℕ) (c : ℕ) (s : Scratch slots marks words c) where
+        pub slot-traces : (r : Answer) (marks′ words′ : List ℕ)
+            → told r marks′ words′ ≡ emitting (into Work (resolveIn tag slots S narrow)) (rawOf marks words c) (handlesOf T (getD narrow (S + i) 0) (getD narrow (2 * S + i) 0) (getD wide i 0) (take (getD wide (S + i) 0 - a) (drop a pool)))
+            → Traces r slots marks′ words′ (following (leadsTo tag slots S narrow) (stateOf marks words c) (shownIn T S narrow wide pool i))
+        slot-traces r marks′ words′ e =
+            traces slots (resolveIn tag slots S narrow) (resolves-in tag slots S narrow) r _ marks words c marks′ words′ s
+            (e ∙ ap (emitting (into Work (resolveIn tag slots S narrow)) (rawOf marks words c)) slot-shown)

@@ -16,12 +16,13 @@ use Rattle.text.proofs.Laws.{times-right, number-right}
 use Rattle.text.proofs.Getting.{suffix}
 use Rattle.heap.specs.State.{Slot, State, dataSize}
 use Rattle.heap.specs.WellFormed.{soundSlot, soundSeals, soundReclaim, sound}
-use Rattle.pages.specs.Page.{Head, headFormat, bodyFormat, slotFormat, pageFormat, readPage, whole, stateOf, heapNames, slotNames, freeName, quarantineName, sealedName}
-use Rattle.pages.proofs.Laws.{slot-right, head-right}
+use Rattle.pages.specs.Form.{Form, heapNames, freeName, quarantineName, sealedName}
+use Rattle.pages.specs.Page.{Head, headFormat, bodyFormat, slotFormat, pageFormat, readPage, whole, stateOf}
+use Rattle.pages.proofs.Laws.{slot-right, slots-wider, head-right}
 use Rattle.page_check.specs.Answer.{headAnswer, slotsAnswer, indicesMore, sealsMore}
 use Rattle.page_check.specs.Partition.{valuesAt, ValuesParsed}
-use Rattle.page_check.specs.Parts.{numbersOf}
-use Rattle.page_check.specs.Sections.{heapIn, soundBut, Sectioned}
+use Rattle.page_check.specs.Parts.{numbersOf, slotNamed}
+use Rattle.page_check.specs.Sections.{heapIn, formIn, soundBut, Sectioned}
 use Rattle.page_check.specs.Filling.{SlotsParsed}
 use Rattle.page_check.proofs.Once.{slots-are, read-count}
 use Rattle.page_check.specs.declared.HeadRead.{HeadRead}
@@ -61,23 +62,23 @@ head-lost s k {r} e f = go (headFormat .read (drop k s)) refl e
     go none q g = q
     go (some y) q g = absurd (contradiction cc)
 
-pub slots-found : (s : List ℕ) (k cnt : ℕ) {r : Slots} (ok : Bool) (size : ℕ) (c : ℕ) → r ≡ slotsAnswer (length s) (readAll (slotFormat .read) cnt (drop k s)) → r ≡ Lines ok size c →
-    (l : List Slot) × (readAll (slotFormat .read) cnt (drop k s) ≡ give l (drop c s)) × (c ≤ length s) × (ok ≡ all soundSlot l) × (size ≡ dataSize l)
+pub slots-found : (w : Bool) (s : List ℕ) (k cnt : ℕ) {r : Slots} (ok : Bool) (size : ℕ) (c : ℕ) → r ≡ slotsAnswer (length s) (readAll (slotFormat w .read) cnt (drop k s)) → r ≡ Lines ok size c →
+    (l : List Slot) × (readAll (slotFormat w .read) cnt (drop k s) ≡ give l (drop c s)) × (c ≤ length s) × (ok ≡ all soundSlot l) × (size ≡ dataSize l)
 unfolding times
-slots-found s k cnt {r} ok size c e f = go (readAll (slotFormat .read) cnt (drop k s)) refl e
+slots-found w s k cnt {r} ok size c e f = go (readAll (slotFormat w .read) cnt (drop k s)) refl e
   where
-    go : (o : Option (List Slot × List ℕ)) → readAll (slotFormat .read) cnt (drop k s) ≡ o → r ≡ slotsAnswer (length s) o →
-        (l : List Slot) × (readAll (slotFormat .read) cnt (drop k s) ≡ give l (drop c s)) × (c ≤ length s) × (ok ≡ all soundSlot l) × (size ≡ dataSize l)
+    go : (o : Option (List Slot × List ℕ)) → readAll (slotFormat w .read) cnt (drop k s) ≡ o → r ≡ slotsAnswer (length s) o →
+        (l : List Slot) × (readAll (slotFormat w .read) cnt (drop k s) ≡ give l (drop c s)) × (c ≤ length s) × (ok ≡ all soundSlot l) × (size ≡ dataSize l)
     go none q g = absurd (contradiction cc)
     go (some y) q g =
         let v : slotsAnswer (length s) (some y) ≡ Lines ok size c = sym g ∙ f in
         let v1 : length s - length (y .1) ≡ c = cc in
-        (y .0, q ∙ ap (give (y .0)) (rest-of (times-right cnt slot-right) s k (y .0) (y .1) q ∙ ap (λ (m : ℕ). drop m s) v1), omega arith, cc, cc)
+        (y .0, q ∙ ap (give (y .0)) (rest-of (times-right cnt (slot-right w)) s k (y .0) (y .1) q ∙ ap (λ (m : ℕ). drop m s) v1), omega arith, cc, cc)
 
-pub slots-none : (s : List ℕ) (k cnt : ℕ) {r : Slots} → r ≡ slotsAnswer (length s) (readAll (slotFormat .read) cnt (drop k s)) → r ≡ NoSlots → readAll (slotFormat .read) cnt (drop k s) ≡ none
-slots-none s k cnt {r} e f = go (readAll (slotFormat .read) cnt (drop k s)) refl e
+pub slots-none : (w : Bool) (s : List ℕ) (k cnt : ℕ) {r : Slots} → r ≡ slotsAnswer (length s) (readAll (slotFormat w .read) cnt (drop k s)) → r ≡ NoSlots → readAll (slotFormat w .read) cnt (drop k s) ≡ none
+slots-none w s k cnt {r} e f = go (readAll (slotFormat w .read) cnt (drop k s)) refl e
   where
-    go : (o : Option (List Slot × List ℕ)) → readAll (slotFormat .read) cnt (drop k s) ≡ o → r ≡ slotsAnswer (length s) o → readAll (slotFormat .read) cnt (drop k s) ≡ none
+    go : (o : Option (List Slot × List ℕ)) → readAll (slotFormat w .read) cnt (drop k s) ≡ o → r ≡ slotsAnswer (length s) o → readAll (slotFormat w .read) cnt (drop k s) ≡ none
     go none q g = q
     go (some y) q g = absurd (contradiction cc)
 
@@ -136,16 +137,16 @@ module _ (s : List ℕ) where
     page-none-2 q = rw (e1, q)
 
     module _ (x : HeadRead) (e2 : headFormat .read (drop a s) ≡ give (numbersOf x) (drop (x .next) s)) where
-      pub page-none-3 : readLiteral slotNames (drop (x .next) s) ≡ none → readPage s ≡ none
+      pub page-none-3 : slotNamed .read (drop (x .next) s) ≡ none → readPage s ≡ none
       unfolding readPage pageFormat afterLiteral pair bodyFormat times
       page-none-3 q = rw (e1, e2, q)
 
-      module _ (b : ℕ) (e3 : readLiteral slotNames (drop (x .next) s) ≡ some (drop b s)) where
-        pub page-none-4 : readAll (slotFormat .read) (x .slots) (drop b s) ≡ none → readPage s ≡ none
+      module _ (w : Bool) (b : ℕ) (e3 : slotNamed .read (drop (x .next) s) ≡ give w (drop b s)) where
+        pub page-none-4 : readAll (slotFormat w .read) (x .slots) (drop b s) ≡ none → readPage s ≡ none
         unfolding readPage pageFormat afterLiteral pair bodyFormat times
         page-none-4 q = rw (e1, e2, e3, q)
 
-        module _ (sl : List Slot) (c : ℕ) (e4 : readAll (slotFormat .read) (x .slots) (drop b s) ≡ give sl (drop c s)) where
+        module _ (sl : List Slot) (c : ℕ) (e4 : readAll (slotFormat w .read) (x .slots) (drop b s) ≡ give sl (drop c s)) where
           pub page-none-5 : readLiteral freeName (drop c s) ≡ none → readPage s ≡ none
           unfolding readPage pageFormat afterLiteral pair bodyFormat times
           page-none-5 q = rw (e1, e2, e3, e4, q)
@@ -183,7 +184,7 @@ module _ (s : List ℕ) where
                       pub page-long : k < length s → readPage s ≡ none
                       page-long h = page-more (lib.ListN.getD s k 0) (drop (suc k) s) (drop-cons s k 0 h)
 
-                      pub page-whole : length s ≤ k → readPage s ≡ some (stateOf (numbersOf x, (sl, (fl, (ql, zl)))))
+                      pub page-whole : length s ≤ k → readPage s ≡ some (record { wide = w }, stateOf (numbersOf x) (sl, (fl, (ql, zl))))
                       unfolding readPage pageFormat afterLiteral pair bodyFormat times
                       page-whole h = rw (e1, e2, e3, e4, e5, e6, e7, e8, e9, e10, drop-of-length-le s {i = k} h)
 
@@ -201,26 +202,34 @@ module _ (width : ℕ) (s : List ℕ) (k m : ℕ) (l u : List ℕ) (e : readAll 
   unfolding times
   values-count = times-right m (line-right width) .back (drop k s) l u e .0 .1
 
-pub slots-parsed : (s : List ℕ) (k m : ℕ) (l : List Slot) (u : List ℕ) → readAll (slotFormat .read) m (drop k s) ≡ give l u → SlotsParsed s k m
+pub slots-parsed : (s : List ℕ) (k m : ℕ) (l : List Slot) (u : List ℕ) → readAll (slotFormat true .read) m (drop k s) ≡ give l u → SlotsParsed s k m
 slots-parsed s k m l u e = record { rest = u; reads = e ∙ ap (λ (x : List Slot). give x u) (sym (slots-are s k m l u e)) }
 
-pub heap-is : (s : List ℕ) (h : State) → readPage s ≡ some h → heapIn s ≡ h
+pub heap-is : (s : List ℕ) (f : Form) (h : State) → readPage s ≡ some (f, h) → heapIn s ≡ h
 unfolding heapIn
-heap-is s h e = rw (e, heapIn)
+heap-is s f h e = rw (e, heapIn)
+
+pub form-is : (s : List ℕ) (f : Form) (h : State) → readPage s ≡ some (f, h) → formIn s ≡ f
+unfolding formIn
+form-is s f h e = rw (e, formIn)
 
 -- the sections that were read are those of the heap that they make up
-module _ (s : List ℕ) (x : HeadRead) (sl : List Slot) (fl ql zl : List ℕ) where
+module _ (s : List ℕ) (wide : Bool) (x : HeadRead) (sl : List Slot) (fl ql zl : List ℕ) where
   abbrev pub made : State
-  made = stateOf (numbersOf x, (sl, (fl, (ql, zl))))
+  made = stateOf (numbersOf x) (sl, (fl, (ql, zl)))
 
-  pub sectioned : (b c d g i j k size : ℕ) (rest : List ℕ) (a1 a2 a3 a4 r : Bool) → readPage s ≡ some made →
-      readAll (slotFormat .read) (x .slots) (drop b s) ≡ give sl (drop c s) → a1 ≡ all soundSlot sl → size ≡ dataSize sl →
+  abbrev form : Form
+  form = record { wide = wide }
+
+  pub sectioned : (b c d g i j k size : ℕ) (rest : List ℕ) (a1 a2 a3 a4 r : Bool) → readPage s ≡ some (form, made) →
+      readAll (slotFormat wide .read) (x .slots) (drop b s) ≡ give sl (drop c s) → a1 ≡ all soundSlot sl → size ≡ dataSize sl →
       readAll (number 32 10 .read) (x .free) (drop d s) ≡ give fl (drop g s) → a2 ≡ all (λ i. ltb i (x .slots)) fl →
       readAll (number 32 10 .read) (x .quarantine) (drop i s) ≡ give ql (drop j s) → a3 ≡ all (λ i. ltb i (x .slots)) ql →
       readAll (number 64 10 .read) (x .sealed) (drop k s) ≡ give zl rest → a4 ≡ soundSeals (x .tag) (x .slots) 0 zl →
       r ≡ (a1 && (a2 && a3) && a4 && soundReclaim (x .«reclaim_at»)) →
       b ≤ length s → d ≤ length s → i ≤ length s → k ≤ length s →
       Sectioned s (record {
+        wide = wide;
         tag = x .tag;
         «since_gc» = x .«since_gc»;
         «reclaim_at» = x .«reclaim_at»;
@@ -236,11 +245,14 @@ module _ (s : List ℕ) (x : HeadRead) (sl : List Slot) (fl ql zl : List ℕ) wh
         size = size;
         sound = r;
       })
-  sectioned b c d g i j k size rest a1 a2 a3 a4 r page es h1 hs ef h2 eq h3 ez h4 hr lb ld li lk =
-      let w : heapIn s ≡ made = heap-is s made page in
+  sectioned b c d g i j k size rest a1 a2 a3 a4 r page met h1 hs ef h2 eq h3 ez h4 hr lb ld li lk =
+      let w : heapIn s ≡ made = heap-is s form made page in
+      let f : formIn s ≡ form = form-is s form made page in
+      let es : readAll (slotFormat true .read) (x .slots) (drop b s) ≡ give sl (drop c s) = slots-wider wide (x .slots) (drop b s) sl (drop c s) met in
       let n : length sl ≡ x .slots = read-count (x .slots) (drop b s) sl (drop c s) es in
       record {
-        page = page ∙ ap some (sym w);
+        page = page ∙ (λ j. some (sym f j, sym w j));
+        wide = ap (λ (g : Form). g .wide) (sym f);
         tag = ap (λ (h : State). h .tag) (sym w);
         since = ap (λ (h : State). h .sinceGc) (sym w);
         reclaim = ap (λ (h : State). h .reclaimAt) (sym w);

@@ -4,6 +4,7 @@ pub mod Counting
 pub mod Filling
 pub mod Once
 pub mod Lists
+pub mod Names
 pub mod Heads
 pub mod Assembly
 pub mod Verdict

@@ -96,11 +96,11 @@ module _ {A : Type 0} (r : Reader A) where
           let w1 : z ≡ rest = ap (λ (y : List A × List ℕ). y .1) w in
           rw (← w0, ← w1) (i .0, rw (f, i .1), i .2)
 
-pub read-count : (n : ℕ) (t : List ℕ) (l : List Slot) (rest : List ℕ) → readAll (slotFormat .read) n t ≡ give l rest → length l ≡ n
+pub read-count : (n : ℕ) (t : List ℕ) (l : List Slot) (rest : List ℕ) → readAll (slotFormat true .read) n t ≡ give l rest → length l ≡ n
 unfolding times
-read-count n t l rest e = times-right n slot-right .back t l rest e .0 .1
+read-count n t l rest e = times-right n (slot-right true) .back t l rest e .0 .1
 
-pub slots-are : (s : List ℕ) (k m : ℕ) (l : List Slot) (u : List ℕ) → readAll (slotFormat .read) m (drop k s) ≡ give l u → slotsAt s k m ≡ l
+pub slots-are : (s : List ℕ) (k m : ℕ) (l : List Slot) (u : List ℕ) → readAll (slotFormat true .read) m (drop k s) ≡ give l u → slotsAt s k m ≡ l
 unfolding slotsAt
 slots-are s k m l u e = rw (e, slotsAt)
 
@@ -109,17 +109,17 @@ pub record Part (s : List ℕ) (k m base n : ℕ) (l : List Slot) (rest : List �
   pub parsed : SlotsParsed s k m
   pub slots : slotsAt s k m ≡ take m (drop base l)
   pub count : length (take m (drop base l)) ≡ m
-  pub after : (next : ℕ) → readAll (slotFormat .read) m (drop k s) ≡ give (slotsAt s k m) (drop next s) →
-      readAll (slotFormat .read) (n - (base + m)) (drop next s) ≡ give (drop (base + m) l) rest
+  pub after : (next : ℕ) → readAll (slotFormat true .read) m (drop k s) ≡ give (slotsAt s k m) (drop next s) →
+      readAll (slotFormat true .read) (n - (base + m)) (drop next s) ≡ give (drop (base + m) l) rest
 
-pub part : (s : List ℕ) (k m base n : ℕ) (l : List Slot) (rest : List ℕ) → base + m ≤ n → readAll (slotFormat .read) (n - base) (drop k s) ≡ give (drop base l) rest → Part s k m base n l rest
+pub part : (s : List ℕ) (k m base n : ℕ) (l : List Slot) (rest : List ℕ) → base + m ≤ n → readAll (slotFormat true .read) (n - base) (drop k s) ≡ give (drop base l) rest → Part s k m base n l rest
 part s k m base n l rest h e =
-    let r : Reader Slot = slotFormat .read in
+    let r : Reader Slot = slotFormat true .read in
     let p : (u : List ℕ) × (readAll r m (drop k s) ≡ give (take m (drop base l)) u) × (readAll r (n - (base + m)) u ≡ give (drop m (drop base l)) rest) =
     split-read r m (n - (base + m)) (drop k s) (drop base l) rest (ap (λ (x : ℕ). readAll r x (drop k s)) (let v : m + (n - (base + m)) ≡ n - base = omega arith in v) ∙ e) in
     go (p .0) (p .1) (p .2)
   where
-    go : (u : List ℕ) → readAll (slotFormat .read) m (drop k s) ≡ give (take m (drop base l)) u → readAll (slotFormat .read) (n - (base + m)) u ≡ give (drop m (drop base l)) rest →
+    go : (u : List ℕ) → readAll (slotFormat true .read) m (drop k s) ≡ give (take m (drop base l)) u → readAll (slotFormat true .read) (n - (base + m)) u ≡ give (drop m (drop base l)) rest →
         Part s k m base n l rest
     go u f g =
         let a : slotsAt s k m ≡ take m (drop base l) = slots-are s k m (take m (drop base l)) u f in
@@ -129,7 +129,7 @@ part s k m base n l rest h e =
           count = read-count m (drop k s) (take m (drop base l)) u f;
           after = λ next q.
               let w : u ≡ drop next s = ap (λ (z : List Slot × List ℕ). z .1) (some-inj (sym f ∙ q)) in
-              ap (readAll (slotFormat .read) (n - (base + m))) (sym w) ∙ g ∙ ap (λ (x : List Slot). give x rest) (drop-drop m base l);
+              ap (readAll (slotFormat true .read) (n - (base + m))) (sym w) ∙ g ∙ ap (λ (x : List Slot). give x rest) (drop-drop m base l);
         }
 
 -- ONE RUN
@@ -168,7 +168,7 @@ module _ (s : List ℕ) (k m base : ℕ) (p : SlotsParsed s k m) where
           run-wrong (heapIn s .free ++ heapIn s .quarantine) (d .0) next (d .1) (omega (arith, d .2, zero-at (d .0)))
 
       pub run-told : (ok : Bool) (next : ℕ) → o ≡ true → ok ≡ agree (slotsAt s k m) b 0 →
-          readAll (slotFormat .read) m (drop k s) ≡ give (slotsAt s k m) (drop next s) → next ≤ length s → RunChecked s (heapIn s .free ++ heapIn s .quarantine) k m base ok next
+          readAll (slotFormat true .read) m (drop k s) ≡ give (slotsAt s k m) (drop next s) → next ≤ length s → RunChecked s (heapIn s .free ++ heapIn s .quarantine) k m base ok next
       run-told ok next v y r l =
           record {
             once =
@@ -187,7 +187,7 @@ pub record Left (s : List ℕ) (x : Sections) (k base : ℕ) : Type 0 where
   pub inside : k ≤ length s
   pub same : eachOnce (heapIn s .free ++ heapIn s .quarantine) (heapIn s .slots) 0 ≡ eachOnce (heapIn s .free ++ heapIn s .quarantine) (drop base (heapIn s .slots)) base
   pub rest : List ℕ
-  pub reads : readAll (slotFormat .read) (x .slots - base) (drop k s) ≡ give (drop base (heapIn s .slots)) rest
+  pub reads : readAll (slotFormat true .read) (x .slots - base) (drop k s) ≡ give (drop base (heapIn s .slots)) rest
 
 pub left-whole : (s : List ℕ) (x : Sections) → Sectioned s x → Left s x (x .«slots_at») 0
 left-whole s x q =
@@ -196,7 +196,7 @@ left-whole s x q =
       inside = q .slotsInside;
       same = refl;
       rest = q .slots .rest;
-      reads = ap (λ (n : ℕ). readAll (slotFormat .read) n (drop (x .«slots_at») s)) (sub-zero (x .slots)) ∙ q .slots .reads ∙ ap (λ (l : List Slot). give l (q .slots .rest)) (q .slotsAre);
+      reads = ap (λ (n : ℕ). readAll (slotFormat true .read) n (drop (x .«slots_at») s)) (sub-zero (x .slots)) ∙ q .slots .reads ∙ ap (λ (l : List Slot). give l (q .slots .rest)) (q .slotsAre);
     }
 
 module _ (s : List ℕ) (x : Sections) (k m base : ℕ) (p : Left s x k base) (h : base + m ≤ x .slots) where

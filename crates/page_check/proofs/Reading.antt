@@ -6,9 +6,7 @@ use mathlib.Core.Path.{_≡_, refl, sym, ap, _∙_, subst}
 use mathlib.Core.Bool.{Bool, true, false, _&&_}
 use native.Mathlib.Nat.{zero-add}
 use lib.ListN.{length, drop, length-drop, length-append}
-use lib.Dec.{leb}
 use native.Mathlib.Omega.{arith}
-use borrow.Author.Tests.{lt-ltb}
 use Rattle.word.specs.Lists.{all}
 use Rattle.word.proofs.Bools.{and-true, and-assoc}
 use Rattle.text.specs.Text.{give, Reader, decimal, _>>=_, digitOf, readField, readHex}
@@ -26,6 +24,7 @@ use Rattle.page_check.specs.declared.Slots.{Slots}
 use Rattle.page_check.specs.declared.Slots.the-variants.{Lines, NoSlots}
 use Rattle.heap.specs.State.{Slot, dataOf, dataSize}
 use Rattle.heap.specs.Packing.{flat}
+use Rattle.pages.specs.Form.{writesWidth}
 use Rattle.pages.specs.Page.{slotFormat, fieldsOf}
 use Rattle.pages.specs.Columns.{slot}
 use Rattle.page_check.specs.Answer.{slotAnswer, slotsAnswer, slotsMore, soundNumbers}
@@ -42,9 +41,18 @@ pub comma-none : (s : List ℕ) (width at : ℕ) {r : Decimal} → r ≡ decimal
 unfolding number
 comma-none s width at e f = answer-none s (readField (2 ^ width - 1) 44 (drop at s)) e f
 
-module _ (s : List ℕ) (at : ℕ) where
+-- the same of a bound that the code has found
+pub count-found : (s : List ℕ) (width at : ℕ) {r : Decimal} {most : ℕ} (n k : ℕ) → most ≡ 2 ^ width - 1 → r ≡ decimalAnswer (length s) (readField most 44 (drop at s)) → r ≡ Number n k →
+    (number width 44 .read (drop at s) ≡ give n (drop k s)) × (k ≤ length s) × (n < 2 ^ width)
+count-found s width at n k m e f = comma-found s width at n k (e ∙ ap (λ (most : ℕ). decimalAnswer (length s) (readField most 44 (drop at s))) m) f
+
+pub count-none : (s : List ℕ) (width at : ℕ) {r : Decimal} {most : ℕ} → most ≡ 2 ^ width - 1 → r ≡ decimalAnswer (length s) (readField most 44 (drop at s)) → r ≡ NoNumber →
+    number width 44 .read (drop at s) ≡ none
+count-none s width at m e f = comma-none s width at (e ∙ ap (λ (most : ℕ). decimalAnswer (length s) (readField most 44 (drop at s))) m) f
+
+module _ (wide : Bool) (s : List ℕ) (at : ℕ) where
   abbrev read-slot : Option (Slot × List ℕ)
-  read-slot = slotFormat .read (drop at s)
+  read-slot = slotFormat wide .read (drop at s)
 
   pub missing : read-slot ≡ none → NoLine ≡ slotAnswer (length s) read-slot
   missing e = rw e
@@ -69,11 +77,11 @@ module _ (s : List ℕ) (at : ℕ) where
         none-4 e = rw (e1, e2, e3, e)
 
         module _ (p d : ℕ) (e4 : number 64 44 .read (drop c s) ≡ give p (drop d s)) where
-          pub none-5 : number 32 44 .read (drop d s) ≡ none → read-slot ≡ none
+          pub none-5 : number (writesWidth wide) 44 .read (drop d s) ≡ none → read-slot ≡ none
           unfolding slotFormat mapped pair
           none-5 e = rw (e1, e2, e3, e4, e)
 
-          module _ (w m : ℕ) (e5 : number 32 44 .read (drop d s) ≡ give w (drop m s)) where
+          module _ (w m : ℕ) (e5 : number (writesWidth wide) 44 .read (drop d s) ≡ give w (drop m s)) where
             pub none-6 : readHex (drop m s) ≡ none → read-slot ≡ none
             unfolding slotFormat mapped pair bytesLine
             none-6 e = rw (e1, e2, e3, e4, e5, e)
@@ -125,9 +133,9 @@ slots-end s ok size k o h e =
     rw e (λ i. Lines (sym (and-true ok) i) ((let v : size ≡ size + 0 = omega arith in v) i) ((let v : k ≡ length s - length (drop k s) = omega (arith, length-drop k s) in v) i))
 
 -- a line that the code has read
-pub record Found (s : List ℕ) (k : ℕ) (x : SlotRead) : Type 0 where
+pub record Found (w : Bool) (s : List ℕ) (k : ℕ) (x : SlotRead) : Type 0 where
   pub sl : Slot
-  pub reads : slotFormat .read (drop k s) ≡ give sl (drop (x .next) s)
+  pub reads : slotFormat w .read (drop k s) ≡ give sl (drop (x .next) s)
   pub next : x .next ≤ length s
   pub bytes : x .bytes ≡ length (sl .bytes)
   pub grows : k ≤ length s → k + x .bytes ≤ x .next
@@ -136,36 +144,35 @@ pub record Found (s : List ℕ) (k : ℕ) (x : SlotRead) : Type 0 where
   pub ty : x .ty ≡ sl .type
   pub start : x .start ≡ sl .start
   pub writes : x .writes ≡ sl .writes
-  pub good : Fields-good (fieldsOf sl)
+  pub good : Fields-good w (fieldsOf sl)
   pub sound : soundNumbers (x .generation) (x .kind) (x .ty) (x .start) (x .writes) (x .bytes) ≡ soundSlot sl
 
-found-rest : (s : List ℕ) (k : ℕ) (sl : Slot) (rest : List ℕ) → slotFormat .read (drop k s) ≡ give sl rest →
+found-rest : (w : Bool) (s : List ℕ) (k : ℕ) (sl : Slot) (rest : List ℕ) → slotFormat w .read (drop k s) ≡ give sl rest →
     (rest ≡ drop (length s - length rest) s) × (k ≤ length s → k + length (sl .bytes) ≤ length s - length rest)
-found-rest s k sl rest e =
-    let b = slot-right .back (drop k s) sl rest e in
-    let l : length (slotFormat .print sl) + length rest ≡ length s - k = sym (length-append (slotFormat .print sl) rest) ∙ ap length (b .1) ∙ length-drop k s in
-    let m : length (slotFormat .print sl) ≡ length (decimal (sl .generation)) + length (decimal (sl .kind)) + length (decimal (sl .type)) + length (decimal (sl .start)) + length (decimal (sl .writes)) + 2 * length (sl .bytes) + 6 =
-    ap length (slot-prints sl) ∙ slot-length-decimal (sl .generation) (sl .kind) (sl .type) (sl .start) (sl .writes) (sl .bytes) in
-    (suffix (slotFormat .print sl) rest s k (b .1), λ h. omega arith)
+found-rest w s k sl rest e =
+    let b = slot-right w .back (drop k s) sl rest e in
+    let l : length (slotFormat w .print sl) + length rest ≡ length s - k = sym (length-append (slotFormat w .print sl) rest) ∙ ap length (b .1) ∙ length-drop k s in
+    let m : length (slotFormat w .print sl) ≡ length (decimal (sl .generation)) + length (decimal (sl .kind)) + length (decimal (sl .type)) + length (decimal (sl .start)) + length (decimal (sl .writes)) + 2 * length (sl .bytes) + 6 =
+    ap length (slot-prints w sl) ∙ slot-length-decimal (sl .generation) (sl .kind) (sl .type) (sl .start) (sl .writes) (sl .bytes) in
+    (suffix (slotFormat w .print sl) rest s k (b .1), λ h. omega arith)
 
--- writes have 32 bits on the page
-sound-same : (sl : Slot) → sl .writes < 2 ^ 32 → soundNumbers (sl .generation) (sl .kind) (sl .type) (sl .start) (sl .writes) (length (sl .bytes)) ≡ soundSlot sl
+sound-same : (sl : Slot) → soundNumbers (sl .generation) (sl .kind) (sl .type) (sl .start) (sl .writes) (length (sl .bytes)) ≡ soundSlot sl
 unfolding soundNumbers soundSlot
-sound-same sl h = rw (lt-ltb (sl .writes) (2 ^ 32) h, and-true (leb (sl .kind) 3 && leb 1 (sl .generation)))
+sound-same sl = refl
 
-pub line-found : (s : List ℕ) (k : ℕ) {r : SlotLine} (x : SlotRead) → r ≡ slotAnswer (length s) (slotFormat .read (drop k s)) → r ≡ Line x → Found s k x
-line-found s k {r} x e f = go (slotFormat .read (drop k s)) refl e
+pub line-found : (w : Bool) (s : List ℕ) (k : ℕ) {r : SlotLine} (x : SlotRead) → r ≡ slotAnswer (length s) (slotFormat w .read (drop k s)) → r ≡ Line x → Found w s k x
+line-found w s k {r} x e f = go (slotFormat w .read (drop k s)) refl e
   where
-    go : (o : Option (Slot × List ℕ)) → slotFormat .read (drop k s) ≡ o → r ≡ slotAnswer (length s) o → Found s k x
+    go : (o : Option (Slot × List ℕ)) → slotFormat w .read (drop k s) ≡ o → r ≡ slotAnswer (length s) o → Found w s k x
     go none q g = absurd (let z : _≡_ {A = ℕ} 0 1 = cc in omega arith)
     go (some y) q g =
         let z : SlotRead =
         record { generation = y .0 .generation; kind = y .0 .kind; ty = y .0 .type; start = y .0 .start; writes = y .0 .writes; bytes = length (y .0 .bytes); next = length s - length (y .1) } in
         let v : Line z ≡ Line x = sym g ∙ f in
-        let w : z ≡ x = cc in
-        let t = found-rest s k (y .0) (y .1) q in
-        let within = slot-right .back (drop k s) (y .0) (y .1) q .0 in
-        subst (Found s k) w
+        let q′ : z ≡ x = cc in
+        let t = found-rest w s k (y .0) (y .1) q in
+        let within = slot-right w .back (drop k s) (y .0) (y .1) q .0 in
+        subst (Found w s k) q′
         (record {
           sl = y .0;
           reads = q ∙ ap (give (y .0)) (t .0);
@@ -178,32 +185,32 @@ line-found s k {r} x e f = go (slotFormat .read (drop k s)) refl e
           start = refl;
           writes = refl;
           good = within;
-          sound = sound-same (y .0) (within .1 .1 .1 .1 .0);
+          sound = sound-same (y .0);
         })
 
-pub line-lost : (s : List ℕ) (k : ℕ) {r : SlotLine} → r ≡ slotAnswer (length s) (slotFormat .read (drop k s)) → r ≡ NoLine → slotFormat .read (drop k s) ≡ none
-line-lost s k {r} e f = go (slotFormat .read (drop k s)) refl e
+pub line-lost : (w : Bool) (s : List ℕ) (k : ℕ) {r : SlotLine} → r ≡ slotAnswer (length s) (slotFormat w .read (drop k s)) → r ≡ NoLine → slotFormat w .read (drop k s) ≡ none
+line-lost w s k {r} e f = go (slotFormat w .read (drop k s)) refl e
   where
-    go : (o : Option (Slot × List ℕ)) → slotFormat .read (drop k s) ≡ o → r ≡ slotAnswer (length s) o → slotFormat .read (drop k s) ≡ none
+    go : (o : Option (Slot × List ℕ)) → slotFormat w .read (drop k s) ≡ o → r ≡ slotAnswer (length s) o → slotFormat w .read (drop k s) ≡ none
     go none q g = q
     go (some y) q g = absurd (let z : _≡_ {A = ℕ} 0 1 = cc in omega arith)
 
 -- one line more
-pub slots-next : (s : List ℕ) (ok : Bool) (size k i count : ℕ) (x : SlotRead) {now : Slots} {b d : Bool} → i < count → Found s k x →
-    now ≡ slotsMore (length s) ok size (readAll (slotFormat .read) (count - i) (drop k s)) →
+pub slots-next : (w : Bool) (s : List ℕ) (ok : Bool) (size k i count : ℕ) (x : SlotRead) {now : Slots} {b d : Bool} → i < count → Found w s k x →
+    now ≡ slotsMore (length s) ok size (readAll (slotFormat w .read) (count - i) (drop k s)) →
     d ≡ soundNumbers (x .generation) (x .kind) (x .ty) (x .start) (x .writes) (x .bytes) → b ≡ (ok && d) →
-    now ≡ slotsMore (length s) b (size + x .bytes) (readAll (slotFormat .read) (count - (i + 1)) (drop (x .next) s))
-slots-next s ok size k i count x {now} {b} {d} h f e g q =
-    let o : Option (List Slot × List ℕ) = readAll (slotFormat .read) (count - (i + 1)) (drop (x .next) s) in
+    now ≡ slotsMore (length s) b (size + x .bytes) (readAll (slotFormat w .read) (count - (i + 1)) (drop (x .next) s))
+slots-next w s ok size k i count x {now} {b} {d} h f e g q =
+    let o : Option (List Slot × List ℕ) = readAll (slotFormat w .read) (count - (i + 1)) (drop (x .next) s) in
     let v : b ≡ (ok && soundSlot (f .sl)) = q ∙ ap (λ (t : Bool). ok && t) (g ∙ f .sound) in
-    let w : size + x .bytes ≡ size + length (f .sl .bytes) = ap (λ (m : ℕ). size + m) (f .bytes) in
-    e ∙ ap (slotsMore (length s) ok size) (all-some (slotFormat .read) i count (drop k s) (f .sl) (drop (x .next) s) h (f .reads))
-    ∙ slots-step (length s) ok size (f .sl) o ∙ (λ j. slotsMore (length s) (sym v j) (sym w j) o)
+    let z : size + x .bytes ≡ size + length (f .sl .bytes) = ap (λ (m : ℕ). size + m) (f .bytes) in
+    e ∙ ap (slotsMore (length s) ok size) (all-some (slotFormat w .read) i count (drop k s) (f .sl) (drop (x .next) s) h (f .reads))
+    ∙ slots-step (length s) ok size (f .sl) o ∙ (λ j. slotsMore (length s) (sym v j) (sym z j) o)
 
-pub slots-lost : (s : List ℕ) (ok : Bool) (size k i count : ℕ) {now : Slots} → i < count → slotFormat .read (drop k s) ≡ none →
-    now ≡ slotsMore (length s) ok size (readAll (slotFormat .read) (count - i) (drop k s)) → NoSlots ≡ now
-slots-lost s ok size k i count h l e = sym (e ∙ ap (slotsMore (length s) ok size) (all-none (slotFormat .read) i count (drop k s) h l))
+pub slots-lost : (w : Bool) (s : List ℕ) (ok : Bool) (size k i count : ℕ) {now : Slots} → i < count → slotFormat w .read (drop k s) ≡ none →
+    now ≡ slotsMore (length s) ok size (readAll (slotFormat w .read) (count - i) (drop k s)) → NoSlots ≡ now
+slots-lost w s ok size k i count h l e = sym (e ∙ ap (slotsMore (length s) ok size) (all-none (slotFormat w .read) i count (drop k s) h l))
 
-pub slots-done : (s : List ℕ) (ok : Bool) (size k i count : ℕ) {now : Slots} → count ≤ i → k ≤ length s →
-    now ≡ slotsMore (length s) ok size (readAll (slotFormat .read) (count - i) (drop k s)) → Lines ok size k ≡ now
-slots-done s ok size k i count h l e = slots-end s ok size k (readAll (slotFormat .read) (count - i) (drop k s)) l (all-done (slotFormat .read) i count (drop k s) h) ∙ sym e
+pub slots-done : (w : Bool) (s : List ℕ) (ok : Bool) (size k i count : ℕ) {now : Slots} → count ≤ i → k ≤ length s →
+    now ≡ slotsMore (length s) ok size (readAll (slotFormat w .read) (count - i) (drop k s)) → Lines ok size k ≡ now
+slots-done w s ok size k i count h l e = slots-end s ok size k (readAll (slotFormat w .read) (count - i) (drop k s)) l (all-done (slotFormat w .read) i count (drop k s) h) ∙ sym e

@@ -1,4 +1,4 @@
--- The slots whose lines stand in a text.
+-- The slots whose lines stand in a text. A line with a write count of 32 bits is read alike as one of 64.
 use Prim.Native.Nat.{ℕ, _≤_}
 use mathlib.Core.List.{List, []}
 use mathlib.Core.Option.{none, some}
@@ -13,15 +13,15 @@ use Rattle.page_check.specs.Partition.{eachOnce}
 
 -- the slots whose lines stand in a text from `at` on
 unfoldable pub slotsAt : List ℕ → (at count : ℕ) → List Slot
-slotsAt s at count = elim (readAll (slotFormat .read) count (drop at s)) [ none ↦ [] | some r ↦ r .0 ]
+slotsAt s at count = elim (readAll (slotFormat true .read) count (drop at s)) [ none ↦ [] | some r ↦ r .0 ]
 
 -- they do stand there
 pub record SlotsParsed (s : List ℕ) (at count : ℕ) : Type 0 where
   pub rest : List ℕ
-  pub reads : readAll (slotFormat .read) count (drop at s) ≡ give (slotsAt s at count) rest
+  pub reads : readAll (slotFormat true .read) count (drop at s) ≡ give (slotsAt s at count) rest
 
 -- `count` slots from `base` on, whose lines stand from `at` on: is each in exactly one place? If so, the next line stands at `next`.
 pub record RunChecked (s dead : List ℕ) (at count base : ℕ) (ok : Bool) (next : ℕ) : Type 0 where
   pub once : ok ≡ eachOnce dead (slotsAt s at count) base
-  pub after : ok ≡ true → readAll (slotFormat .read) count (drop at s) ≡ give (slotsAt s at count) (drop next s)
+  pub after : ok ≡ true → readAll (slotFormat true .read) count (drop at s) ≡ give (slotsAt s at count) (drop next s)
   pub inside : ok ≡ true → next ≤ length s

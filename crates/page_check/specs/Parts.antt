@@ -8,10 +8,11 @@ use mathlib.Core.Path.{_≡_}
 use lib.ListN.{length, drop}
 use Rattle.word.specs.Lists.{all}
 use Rattle.text.specs.Text.{give, Reader, readLiteral}
-use Rattle.text.specs.Format.{number, readAll}
+use Rattle.text.specs.Format.{Format, number, readAll}
 use Rattle.heap.specs.State.{Slot, dataSize}
 use Rattle.heap.specs.WellFormed.{soundSlot}
-use Rattle.pages.specs.Page.{Head, headFormat, slotFormat, heapNames, slotNames}
+use Rattle.pages.specs.Form.{heapNames, slotFront, wideWrites, narrowWrites, names}
+use Rattle.pages.specs.Page.{Head, headFormat, slotFormat}
 use Rattle.page_check.specs.declared.HeadRead.{HeadRead}
 use Rattle.page_check.specs.declared.HeadLine.{HeadLine}
 use Rattle.page_check.specs.declared.HeadLine.the-variants.{Head as Head-of, NoHead}
@@ -39,18 +40,24 @@ abbrev pub HeadSectioned : List ℕ → HeadLine → Type 0
 HeadSectioned s (Head-of x) = HeadFound s x
 HeadSectioned s NoHead = Missing heapNames (headFormat .read) s 0
 
-pub record SlotsFound (s : List ℕ) (at count begin : ℕ) (ok : Bool) (size next : ℕ) : Type 0 where
-  pub named : readLiteral slotNames (drop at s) ≡ some (drop begin s)
+-- the names line of the slots, which says how many bits write counts have
+abbrev pub slotNamed : Format Bool
+slotNamed = names slotFront wideWrites narrowWrites
+
+pub record SlotsFound (s : List ℕ) (at count begin : ℕ) (ok : Bool) (size next : ℕ) (wide : Bool) : Type 0 where
+  pub named : slotNamed .read (drop at s) ≡ give wide (drop begin s)
   pub beginInside : begin ≤ length s
   pub slots : List Slot
-  pub reads : readAll (slotFormat .read) count (drop begin s) ≡ give slots (drop next s)
+  pub reads : readAll (slotFormat wide .read) count (drop begin s) ≡ give slots (drop next s)
   pub inside : next ≤ length s
   pub sound : ok ≡ all soundSlot slots
   pub bytes : size ≡ dataSize slots
 
 abbrev pub SlotSectioned : (s : List ℕ) (at count : ℕ) → SlotSection → Type 0
-SlotSectioned s at count (Found begin ok size next) = SlotsFound s at count begin ok size next
-SlotSectioned s at count Lost = Missing slotNames (readAll (slotFormat .read) count) s at
+SlotSectioned s at count (Found begin ok size next wide) = SlotsFound s at count begin ok size next wide
+SlotSectioned s at count Lost =
+    (slotNamed .read (drop at s) ≡ none)
+    ⊎ ((w : Bool) × (b : ℕ) × (slotNamed .read (drop at s) ≡ give w (drop b s)) × (readAll (slotFormat w .read) count (drop b s) ≡ none))
 
 pub record ListFound (width : ℕ) (name s : List ℕ) (at count : ℕ) (right : List ℕ → Bool) (begin : ℕ) (ok : Bool) (next : ℕ) : Type 0 where
   pub named : readLiteral name (drop at s) ≡ some (drop begin s)
@@ -64,9 +71,10 @@ abbrev pub ListSectioned : (width : ℕ) (name s : List ℕ) (at count : ℕ) (r
 ListSectioned width name s at count right (Listed begin ok next) = ListFound width name s at count right begin ok next
 ListSectioned width name s at count right Unlisted = Missing name (readAll (number width 10 .read) count) s at
 
-abbrev pub sectionsOf : HeadRead → (slotsAt freeAt quarantineAt sealedAt size : ℕ) (sound : Bool) → Sections
-sectionsOf x b d g j size sound =
+abbrev pub sectionsOf : (wide : Bool) → HeadRead → (slotsAt freeAt quarantineAt sealedAt size : ℕ) (sound : Bool) → Sections
+sectionsOf wide x b d g j size sound =
     record {
+      wide = wide;
       tag = x .tag;
       «since_gc» = x .«since_gc»;
       «reclaim_at» = x .«reclaim_at»;

@@ -13,6 +13,7 @@ use Rattle.word.specs.Choice.{if_then_else_}
 use Rattle.word.specs.Result.{Result, ok, refused}
 use Rattle.refusal.specs.Told.{numberOf}
 use Rattle.heap.specs.WellFormed.{soundSlot, soundSeals, soundReclaim, sound}
+use Rattle.pages.specs.Form.{Form, written}
 use Rattle.pages.specs.Page.{readPage}
 use Rattle.page_check.specs.Partition.{valuesAt, ValuesParsed}
 use Rattle.page_check.specs.Filling.{slotsAt, SlotsParsed}
@@ -24,7 +25,11 @@ use Rattle.page_check.specs.declared.Checked.the-variants as checked
 
 -- the heap whose page a text is; a text that is none's has no use for it
 unfoldable pub heapIn : List ℕ → State
-heapIn t = elim (readPage t) [ none ↦ new 0 | some h ↦ h ]
+heapIn t = elim (readPage t) [ none ↦ new 0 | some p ↦ p .1 ]
+
+-- and the form it has
+unfoldable pub formIn : List ℕ → Form
+formIn t = elim (readPage t) [ none ↦ written | some p ↦ p .0 ]
 
 -- sound, the partition apart
 abbrev pub soundBut : State → Bool
@@ -34,7 +39,8 @@ soundBut h =
 
 -- a page's sections are those of its heap
 pub record Sectioned (s : List ℕ) (x : Sections) : Type 0 where
-  pub page : readPage s ≡ some (heapIn s)
+  pub page : readPage s ≡ some (formIn s, heapIn s)
+  pub wide : x .wide ≡ formIn s .wide
   pub tag : x .tag ≡ heapIn s .tag
   pub since : x .«since_gc» ≡ heapIn s .sinceGc
   pub reclaim : x .«reclaim_at» ≡ heapIn s .reclaimAt
@@ -65,9 +71,10 @@ Parsing s NotPage = readPage s ≡ none
 
 -- what a text is refused for, in 01's order, or its heap: not a page 17, lent sizes out of range or a heap that is not sound 1, beyond the pool 6,
 -- beyond the lent slots 5
-unfoldable pub verdict : (sizes : Bool) (S P : ℕ) → Option State → Result State
+unfoldable pub verdict : (sizes : Bool) (S P : ℕ) → Option (Form × State) → Result State
 verdict sizes S P none = refused 17
-verdict sizes S P (some h) =
+verdict sizes S P (some p) =
+    let h : State = p .1 in
     if sizes && sound h then (if ltb P (dataSize (h .slots)) then refused 6 else if ltb S (length (h .slots)) then refused 5 else ok h)
     else refused 1
 

@@ -1,14 +1,17 @@
 // The first pass over a page: what stands in the text, without touching the lent heap.
 use refusal::Refusal;
 use text::Decimal;
+use text::Either;
 use text::Hex;
 use text::Literal;
 ghost use mathlib.Core.Path.{_≡_};
 ghost use mathlib.Core.List.{List, [], _∷_, _++_};
-ghost use Prim.Native.Nat.{ℕ, _+_, _-_, _*_, _≤_, _<_};
+ghost use Prim.Native.Nat.{ℕ, _+_, _-_, _*_, _^_, _≤_, _<_};
 ghost use lib.ListN.{length, take, drop, replicate};
 ghost use Rattle.text.specs.Text.{give};
-ghost use Rattle.pages.specs.Page.{slotFormat, headFormat, readPage, sealedName};
+ghost use Rattle.text.specs.Answer.{eitherAnswer};
+ghost use Rattle.pages.specs.Form.{writesWidth, names, sealedName};
+ghost use Rattle.pages.specs.Page.{slotFormat, headFormat, readPage};
 ghost use Rattle.text.specs.Format.{readAll, number};
 ghost use mathlib.Core.Bool.{_&&_};
 ghost use Rattle.page_check.specs.Partition.{valuesAt, ValuesParsed, marked, Marked, expected, agree, eachOnce};
@@ -39,10 +42,22 @@ pub enum SlotLine {
     NoLine,
 }
 
-// Reads a slot's line from `at` on.
-pub fn get_slot(s: &[u8], at: usize) -> SlotLine
-    ensures { λ r. ⌜ r ≡ slotAnswer (length (now (s .entry))) (slotFormat .read (drop at (now (s .entry)))) ⌝ }
+// The largest write count: under the name `writes64` of 64 bits, under `writes` of 32.
+fn most_writes(wide: bool) -> u64
+    ensures { λ r. ⌜ r ≡ 2 ^ writesWidth wide - 1 ⌝ }
 {
+    if wide {
+        18446744073709551615
+    } else {
+        4294967295
+    }
+}
+
+// Reads a slot's line from `at` on.
+pub fn get_slot(s: &[u8], at: usize, wide: bool) -> SlotLine
+    ensures { λ r. ⌜ r ≡ slotAnswer (length (now (s .entry))) (slotFormat wide .read (drop at (now (s .entry)))) ⌝ }
+{
+    let most = most_writes(wide);
     let Decimal::Number(g, a) = text::get_field(s, at, 4294967295, 44) else {
         return SlotLine::NoLine;
     };
@@ -55,7 +70,7 @@ pub fn get_slot(s: &[u8], at: usize) -> SlotLine
     let Decimal::Number(p, d) = text::get_field(s, c, 18446744073709551615, 44) else {
         return SlotLine::NoLine;
     };
-    let Decimal::Number(w, e) = text::get_field(s, d, 4294967295, 44) else {
+    let Decimal::Number(w, e) = text::get_field(s, d, most, 44) else {
         return SlotLine::NoLine;
     };
     let Hex::Count(n, f) = text::count_hex(s, e) else {
@@ -113,16 +128,16 @@ pub enum Slots {
 }
 
 // Reads the lines of `count` slots from `at` on.
-pub fn check_slots(s: &[u8], at: usize, count: usize) -> Slots
+pub fn check_slots(s: &[u8], at: usize, count: usize, wide: bool) -> Slots
     requires { ⌜ at ≤ length (now s) ⌝ }
-    ensures { λ r. ⌜ r ≡ slotsAnswer (length (now (s .entry))) (readAll (slotFormat .read) count (drop at (now (s .entry)))) ⌝ }
+    ensures { λ r. ⌜ r ≡ slotsAnswer (length (now (s .entry))) (readAll (slotFormat wide .read) count (drop at (now (s .entry)))) ⌝ }
 {
     let mut ok = true;
     let mut size = 0;
     let mut k = at;
     let mut i = 0;
     while i < count {
-        let SlotLine::Line(x) = get_slot(s, k) else {
+        let SlotLine::Line(x) = get_slot(s, k, wide) else {
             return Slots::NoSlots;
         };
         ok = both(ok, sound(x));
@@ -195,14 +210,14 @@ fn check_chunk(s: &[u8], at: usize, count: usize, row: &[u64]) -> Chunk
     requires { ⌜ SlotsParsed (now s) at count ⌝ }
     requires { ⌜ at ≤ length (now s) ⌝ }
     ensures { λ r. ⌜ r .ok ≡ agree (slotsAt (now (s .entry)) at count) (now (row .entry)) 0 ⌝ }
-    ensures { λ r. ⌜ readAll (slotFormat .read) count (drop at (now (s .entry))) ≡ give (slotsAt (now (s .entry)) at count) (drop (r .next) (now (s .entry))) ⌝ }
+    ensures { λ r. ⌜ readAll (slotFormat true .read) count (drop at (now (s .entry))) ≡ give (slotsAt (now (s .entry)) at count) (drop (r .next) (now (s .entry))) ⌝ }
     ensures { λ r. ⌜ r .next ≤ length (now (s .entry)) ⌝ }
 {
     let mut ok = true;
     let mut k = at;
     let mut i = 0;
     while i < count {
-        let SlotLine::Line(x) = get_slot(s, k) else {
+        let SlotLine::Line(x) = get_slot(s, k, true) else {
             return Chunk { ok: false, next: k };
         };
         let c = bit_of(row, i);
@@ -419,9 +434,10 @@ fn sound_parts(slots: bool, free: bool, quarantine: bool, seals: bool, reclaim: 
     both(b, d)
 }
 
-// What the first pass finds in a page: the heap's numbers, where the lines of its slots and lists begin, how many bytes of data the slots have,
+// What the first pass finds in a page: which name its write counts have, the heap's numbers, where the lines of its slots and lists begin, how many bytes of data the slots have,
 // and whether the heap is sound, its partition apart.
 pub struct Sections {
+    pub wide: bool,
     pub tag: u64,
     pub since_gc: u64,
     pub reclaim_at: u64,
@@ -444,6 +460,7 @@ pub enum Parsed {
 }
 
 fn assembled(
+    wide: bool,
     x: HeadRead,
     slots_at: usize,
     free_at: usize,
@@ -452,9 +469,10 @@ fn assembled(
     size: usize,
     sound: bool,
 ) -> Sections
-    ensures { λ r. ⌜ r ≡ sectionsOf x «slots_at» «free_at» «quarantine_at» «sealed_at» size sound ⌝ }
+    ensures { λ r. ⌜ r ≡ sectionsOf wide x «slots_at» «free_at» «quarantine_at» «sealed_at» size sound ⌝ }
 {
     Sections {
+        wide: wide,
         tag: x.tag,
         since_gc: x.since_gc,
         reclaim_at: x.reclaim_at,
@@ -486,9 +504,20 @@ fn head_section(s: &[u8]) -> HeadLine
     get_head(s, a)
 }
 
-// The lines of slots after their names line: where they begin, then as `Slots`.
+// Reads a names line that ends in one of two ways, from `at` on: which way, and where the next line begins.
+fn names_line(s: &[u8], at: usize, front: &[u8], first: &[u8], second: &[u8]) -> Either
+    requires { ⌜ at ≤ length (now s) ⌝ }
+    ensures { λ r. ⌜ r ≡ eitherAnswer (length (now (s .entry))) (names (now (front .entry)) (now (first .entry)) (now (second .entry)) .read (drop at (now (s .entry)))) ⌝ }
+{
+    let Literal::Past(a) = text::expect(s, at, front) else {
+        return Either::Neither;
+    };
+    text::expect_either(s, a, first, second)
+}
+
+// The lines of slots after their names line: where they begin, then as `Slots`, and which name the write counts have.
 pub enum SlotSection {
-    Found(usize, bool, usize, usize),
+    Found(usize, bool, usize, usize, bool),
     Lost,
 }
 
@@ -497,13 +526,19 @@ fn slot_section(s: &[u8], at: usize, count: usize) -> SlotSection
     requires { ⌜ at ≤ length (now s) ⌝ }
     ensures { λ r. ⌜ SlotSectioned (now (s .entry)) at count r ⌝ }
 {
-    let Literal::Past(b) = text::expect(s, at, b"generation,kind,type,start,writes,data\n") else {
+    let Either::One(wide, b) = names_line(
+        s,
+        at,
+        b"generation,kind,type,start,",
+        b"writes64,data\n",
+        b"writes,data\n",
+    ) else {
         return SlotSection::Lost;
     };
-    let Slots::Lines(ok, size, next) = check_slots(s, b, count) else {
+    let Slots::Lines(ok, size, next) = check_slots(s, b, count, wide) else {
         return SlotSection::Lost;
     };
-    SlotSection::Found(b, ok, size, next)
+    SlotSection::Found(b, ok, size, next, wide)
 }
 
 // The values of a list after its name: where they begin, then as `Values`.
@@ -547,7 +582,7 @@ pub fn parse_page(s: &[u8]) -> Parsed
     let HeadLine::Head(x) = head_section(s) else {
         return Parsed::NotPage;
     };
-    let SlotSection::Found(b, ok1, size, c) = slot_section(s, x.next, x.slots) else {
+    let SlotSection::Found(b, ok1, size, c, wide) = slot_section(s, x.next, x.slots) else {
         return Parsed::NotPage;
     };
     let ListSection::Listed(d, ok2, e) = index_section(s, b"free\n", c, x.free, x.slots) else {
@@ -564,7 +599,7 @@ pub fn parse_page(s: &[u8]) -> Parsed
         return Parsed::NotPage;
     }
     let sound = sound_parts(ok1, ok2, ok3, ok4, x.reclaim_at);
-    Parsed::Page(assembled(x, b, d, g, j, size, sound))
+    Parsed::Page(assembled(wide, x, b, d, g, j, size, sound))
 }
 
 // What the first pass tells of a text: a page that can be read, or why it is refused.

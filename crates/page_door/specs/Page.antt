@@ -7,21 +7,22 @@ use Rattle.word.specs.Result.{ok}
 use Rattle.refusal.specs.Told.{refusedBy, answered, here, nothing}
 use Rattle.heap.specs.Lent.{Lent, view}
 use Rattle.door.specs.HeapCalls.{Asked, heapAsk, Outcome, outcome, enough, zeros, entry, whether}
+use Rattle.pages.specs.Form.{written}
 use Rattle.pages.specs.Page.{pageText}
 use Rattle.pages.specs.Answer.{textAnswer, textOut}
 use Rattle.page_reader.specs.Reading.{readInto}
 
 -- `page_length`: scratch 18, broken heap 1, or the number of bytes the page will have
 abbrev pub measuring : (marks work : List ℕ) → Lent → Asked
-measuring marks work l = heapAsk here nothing marks work l (λ h. ok (length (pageText h)))
+measuring marks work l = heapAsk here nothing marks work l (λ h. ok (length (pageText written h)))
 
 -- `write_page`: scratch 18, broken heap 1, output too short 7, or how many bytes were written
 abbrev pub writing : (marks work : List ℕ) → Lent → (out : List ℕ) → Asked
-writing marks work l out = heapAsk here nothing marks work l (λ h. textAnswer (pageText h) out)
+writing marks work l out = heapAsk here nothing marks work l (λ h. textAnswer (pageText written h) out)
 
 -- the page stands at the start of the output, which stays as it was past it, and whole after a refusal
 abbrev pub pageOut : (marks work : List ℕ) → Lent → (out : List ℕ) → List ℕ
-pageOut marks work l out = whether (entry marks work l) (λ why. out) (textOut (pageText (view l)) out)
+pageOut marks work l out = whether (entry marks work l) (λ why. out) (textOut (pageText written (view l)) out)
 
 -- `read_page`: scratch 18, then what reading the text into lent memory answers and leaves
 unfoldable pub reading : (marks work : List ℕ) → Lent → (text : List ℕ) → Outcome

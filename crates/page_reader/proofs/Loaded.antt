@@ -24,6 +24,7 @@ use Rattle.heap.specs.WellFormed.{sound}
 use Rattle.heap.specs.declared.Heap.{Heap}
 use Rattle.heap.proofs.Packing.{drop-replicate}
 use Rattle.heap.proofs.Runs.{recount}
+use Rattle.pages.specs.Form.{Form}
 use Rattle.pages.specs.Page.{readPage}
 use Rattle.pages.proofs.Bound.{parts, dead-length, sealed-length}
 use Rattle.page_check.specs.Filling.{slotsAt}
@@ -144,8 +145,9 @@ sizes-some n w p m v h d = omega (arith, sizes-tested n w p (sym v ∙ d) .low)
 -- THE ANSWER
 
 -- what a text has passed that is accepted
-pub record Passed (r : Bool) (S P : ℕ) (o : Option State) (h : State) : Type 0 where
-  pub page : o ≡ some h
+pub record Passed (r : Bool) (S P : ℕ) (o : Option (Form × State)) (h : State) : Type 0 where
+  pub form : Form
+  pub page : o ≡ some (form, h)
   pub sizes : r ≡ true
   pub sound : sound h ≡ true
   pub room : dataSize (h .slots) ≤ P
@@ -154,20 +156,20 @@ pub record Passed (r : Bool) (S P : ℕ) (o : Option State) (h : State) : Type 0
 pub not-ok : {A : Type 0} {a : A} (n : ℕ) → refused n ≡ ok a → ⊥
 not-ok n e = let z : _≡_ {A = ℕ} 0 1 = cc in omega arith
 
-pub passed : (r : Bool) (S P : ℕ) (o : Option State) (h : State) → verdict r S P o ≡ ok h → Passed r S P o h
+pub passed : (r : Bool) (S P : ℕ) (o : Option (Form × State)) (h : State) → verdict r S P o ≡ ok h → Passed r S P o h
 unfolding verdict
 passed r S P none h v = absurd (not-ok 17 v)
-passed r S P (some g) h v = go (r && sound g) refl (ltb P (dataSize (g .slots))) refl (ltb S (length (g .slots))) refl v
+passed r S P (some p) h v = go (r && sound (p .1)) refl (ltb P (dataSize (p .1 .slots))) refl (ltb S (length (p .1 .slots))) refl v
   where
-    go : (a : Bool) → (r && sound g) ≡ a → (b : Bool) → ltb P (dataSize (g .slots)) ≡ b → (d : Bool) → ltb S (length (g .slots)) ≡ d → verdict r S P (some g) ≡ ok h → Passed r S P (some g) h
+    go : (a : Bool) → (r && sound (p .1)) ≡ a → (b : Bool) → ltb P (dataSize (p .1 .slots)) ≡ b → (d : Bool) → ltb S (length (p .1 .slots)) ≡ d → verdict r S P (some p) ≡ ok h → Passed r S P (some p) h
     go false ea b eb d ed u = absurd (not-ok 1 (rw ea at u))
     go true ea true eb d ed u = absurd (not-ok 6 (rw (ea, eb) at u))
     go true ea false eb true ed u = absurd (not-ok 5 (rw (ea, eb, ed) at u))
     go true ea false eb false ed u =
-        let q : ok g ≡ ok h = rw (ea, eb, ed) at u in
-        let e : g ≡ h = cc in
-        let p = and-both r (sound g) ea in
-        rw (← e) (record { page = refl; sizes = p .0; sound = p .1; room = ltb-false P (dataSize (g .slots)) eb; slots = ltb-false S (length (g .slots)) ed })
+        let q : ok (p .1) ≡ ok h = rw (ea, eb, ed) at u in
+        let e : p .1 ≡ h = cc in
+        let t = and-both r (sound (p .1)) ea in
+        rw (← e) (record { form = p .0; page = refl; sizes = t .0; sound = t .1; room = ltb-false P (dataSize (p .1 .slots)) eb; slots = ltb-false S (length (p .1 .slots)) ed })
 
 pub is-page : (s : List ℕ) (v : Result State) (x : Sections) {r : Checked} → Checking s v r → r ≡ checked.Page x → Accepted s v x
 is-page s v x c e = subst (Checking s v) e c

@@ -13,7 +13,7 @@ use Rattle.heap.specs.declared.Heap.{Heap}
 use Rattle.heap.proofs.Packing.{drop-replicate}
 use Rattle.pages.specs.Page.{Unsaved}
 use Rattle.pages.proofs.Laws.{written-read}
-use Rattle.page_check.specs.Sections.{heapIn, Sectioned}
+use Rattle.page_check.specs.Sections.{heapIn, formIn, Sectioned}
 use Rattle.page_check.specs.declared.Sections.{Sections}
 
 -- zeros filled in from the front
@@ -27,7 +27,7 @@ padded n a xs e =
 
 module _ (s : List ℕ) (x : Sections) (p : Sectioned s x) where
   pub tag-fits : x .tag < 256
-  tag-fits = omega (arith, p .tag, written-read s (heapIn s) (p .page) .1 .tag)
+  tag-fits = omega (arith, p .tag, written-read s (formIn s) (heapIn s) (p .page) .1 .tag)
 
   pub header-is :
       _≡_ {A = Heap} (record {
@@ -45,7 +45,7 @@ module _ (s : List ℕ) (x : Sections) (p : Sectioned s x) where
       }) (headerOf (heapIn s))
   unfolding headerOf
   header-is i =
-      let u : Unsaved (heapIn s) = written-read s (heapIn s) (p .page) .2 in
+      let u : Unsaved (heapIn s) = written-read s (formIn s) (heapIn s) (p .page) .2 in
       record {
         tag = p .tag i;
         «since_gc» = p .since i;

@@ -1,6 +1,7 @@
 -- The numbers of a page's slots, put into their runs slot by slot. Assumes nothing.
 use Prim.Native.Nat.{ℕ, _+_, _-_, _*_, _/_, _^_, _≤_, _<_}
 use mathlib.Core.List.{List, map}
+use mathlib.Core.Bool.{true}
 use mathlib.Core.Path.{_≡_, refl, sym, ap, _∙_}
 use lib.ListN.{length, take, drop, getD, set, length-set}
 use lib.Seq.{take-all}
@@ -67,7 +68,7 @@ pub record Filling (s : List ℕ) (at count : ℕ) (narrow₀ wide₀ narrow wid
   pub sameWide : length wide ≡ length wide₀
   pub numbers : (h : Heap) (pool : List ℕ) → cut h (length narrow₀ / 6) narrow wide pool ≡ withNumbers (cut h (length narrow₀ / 6) narrow₀ wide₀ pool) (take i (slotsAt s at count))
   pub rest : List ℕ
-  pub left : readAll (slotFormat .read) (count - i) (drop k s) ≡ give (drop i (slotsAt s at count)) rest
+  pub left : readAll (slotFormat true .read) (count - i) (drop k s) ≡ give (drop i (slotsAt s at count)) rest
 
 pub filling-begin : (s : List ℕ) (at count : ℕ) (narrow wide : List ℕ) → SlotsParsed s at count → at ≤ length s → count ≤ length narrow / 6 → 4 * (length narrow / 6) ≤ length wide →
     Filling s at count narrow wide narrow wide at 0 0
@@ -85,7 +86,7 @@ filling-begin s at count narrow wide p h r q = record {
       λ j. columns x (length narrow / 6) (sym (put-nothing (l .generation) 0) j) (sym (put-nothing (l .kind) 0) j) (sym (put-nothing (l .type) 0) j) (sym (put-nothing (l .start) 0) j)
       (sym (put-nothing (l .end) 0) j) (sym (put-nothing (l .writes) 0) j) pool (l .free) (l .quarantine) (l .sealed) (l .retired) (l .over));
   rest = p .rest;
-  left = ap (λ (n : ℕ). readAll (slotFormat .read) n (drop at s)) (sub-zero count) ∙ p .reads;
+  left = ap (λ (n : ℕ). readAll (slotFormat true .read) n (drop at s)) (sub-zero count) ∙ p .reads;
 }
 
 module _ (s : List ℕ) (at count : ℕ) (narrow₀ wide₀ narrow wide : List ℕ) (k from i : ℕ) (p : Filling s at count narrow₀ wide₀ narrow wide k from i) where
@@ -97,17 +98,17 @@ module _ (s : List ℕ) (at count : ℕ) (narrow₀ wide₀ narrow wide : List �
 
   pub filling-end : count ≤ i → NumbersFilled narrow₀ wide₀ narrow wide (slotsAt s at count)
   filling-end h =
-      let e : take i slots ≡ slots = take-all i slots (read-end (slotFormat .read) blank (drop k s) slots i count (p .rest) h (p .left)) in
+      let e : take i slots ≡ slots = take-all i slots (read-end (slotFormat true .read) blank (drop k s) slots i count (p .rest) h (p .left)) in
       record { numbers = λ x pool. recount x narrow₀ narrow wide pool (p .same) ∙ p .numbers x pool ∙ ap (withNumbers (cut x S narrow₀ wide₀ pool)) e }
 
-  module _ (h : i < count) {r : SlotLine} (e : r ≡ slotAnswer (length s) (slotFormat .read (drop k s))) where
+  module _ (h : i < count) {r : SlotLine} (e : r ≡ slotAnswer (length s) (slotFormat true .read (drop k s))) where
     -- while slots are left, the next line is there
     pub filling-some : r ≡ NoLine → ⊥
-    filling-some f = read-some (slotFormat .read) blank (drop k s) slots i count (p .rest) h (p .left) (line-lost s k e f)
+    filling-some f = read-some (slotFormat true .read) blank (drop k s) slots i count (p .rest) h (p .left) (line-lost true s k e f)
 
     module _ (x : SlotRead) (f : r ≡ Line x) where
-      abbrev found : Found s k x
-      found = line-found s k x e f
+      abbrev found : Found true s k x
+      found = line-found true s k x e f
 
       pub generation-fits : x .generation < 2 ^ 32
       generation-fits = omega (arith, found .generation, found .good .0)
@@ -121,8 +122,8 @@ module _ (s : List ℕ) (at count : ℕ) (narrow₀ wide₀ narrow wide : List �
       pub size-fits : from + x .bytes ≤ length s
       size-fits = omega (arith, found .grows (p .inside), found .next, p .small)
 
-      next-slot : (i < length slots) × (found .sl ≡ getD slots i blank) × (readAll (slotFormat .read) (count - (i + 1)) (drop (x .next) s) ≡ give (drop (i + 1) slots) (p .rest))
-      next-slot = read-next (slotFormat .read) blank (drop k s) (drop (x .next) s) (found .sl) slots i count (p .rest) h (p .left) (found .reads)
+      next-slot : (i < length slots) × (found .sl ≡ getD slots i blank) × (readAll (slotFormat true .read) (count - (i + 1)) (drop (x .next) s) ≡ give (drop (i + 1) slots) (p .rest))
+      next-slot = read-next (slotFormat true .read) blank (drop k s) (drop (x .next) s) (found .sl) slots i count (p .rest) h (p .left) (found .reads)
 
       next-size : from + x .bytes ≡ dataSize (take (i + 1) slots)
       next-size = data-next slots i from (x .bytes) (next-slot .0) (p .size) (found .bytes ∙ ap (λ (y : Slot). length (y .bytes)) (next-slot .1))

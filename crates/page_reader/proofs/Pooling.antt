@@ -1,6 +1,7 @@
 -- The data of a page's slots, put into the pool slot by slot. Assumes nothing.
 use Prim.Native.Nat.{ℕ, _+_, _-_, _*_, _≤_, _<_}
 use mathlib.Core.List.{List, [], _∷_, _++_, append-assoc}
+use mathlib.Core.Bool.{true}
 use mathlib.Core.Path.{_≡_, refl, sym, ap, _∙_}
 use lib.ListN.{length, take, drop, getD, length-drop, length-append}
 use lib.Seq.{take-all, drop-append-seam, drop-drop}
@@ -32,15 +33,15 @@ unfolding hexAt
 hex-is s at bs rest e = rw (e, hexAt)
 
 -- where a line's data stands: before the line's end, two digits a byte
-module _ (s : List ℕ) (k : ℕ) (x : SlotRead) (f : Found s k x) (h : k ≤ length s) where
+module _ (s : List ℕ) (k : ℕ) (x : SlotRead) (f : Found true s k x) (h : k ≤ length s) where
   abbrev front : List ℕ
   front = field (f .sl .generation) 44 ++ field (f .sl .kind) 44 ++ field (f .sl .type) 44 ++ field (f .sl .start) 44 ++ field (f .sl .writes) 44
 
   spelled : front ++ (hex (f .sl .bytes) ++ (newline ∷ drop (x .next) s)) ≡ drop k s
   spelled =
-      let b = slot-right .back (drop k s) (f .sl) (drop (x .next) s) (f .reads) in
+      let b = slot-right true .back (drop k s) (f .sl) (drop (x .next) s) (f .reads) in
       let y : Slot = f .sl in
-      let e : slotFormat .print y ≡ front ++ hex (y .bytes) ++ (10 ∷ []) = slot-prints y ∙ sym (slot-parts (y .generation) (y .kind) (y .type) (y .start) (y .writes) (y .bytes)) in
+      let e : slotFormat true .print y ≡ front ++ hex (y .bytes) ++ (10 ∷ []) = slot-prints true y ∙ sym (slot-parts (y .generation) (y .kind) (y .type) (y .start) (y .writes) (y .bytes)) in
       sym (append-assoc front (hex (y .bytes)) (newline ∷ drop (x .next) s))
       ∙ sym (append-assoc (front ++ hex (y .bytes)) (newline ∷ []) (drop (x .next) s))
       ∙ ap (λ (t : List ℕ). t ++ drop (x .next) s) (sym e) ∙ b .1
@@ -91,7 +92,7 @@ pub record Pooling (s : List ℕ) (at count : ℕ) (pool₀ pool : List ℕ) (k 
   pub same : length pool ≡ length pool₀
   pub put : Puts pool₀ pool 0 to (flat (dataOf (take i (slotsAt s at count))))
   pub rest : List ℕ
-  pub left : readAll (slotFormat .read) (count - i) (drop k s) ≡ give (drop i (slotsAt s at count)) rest
+  pub left : readAll (slotFormat true .read) (count - i) (drop k s) ≡ give (drop i (slotsAt s at count)) rest
 
 pub pooling-begin : (s : List ℕ) (at count : ℕ) (pool : List ℕ) → SlotsParsed s at count → at ≤ length s → dataSize (slotsAt s at count) ≤ length pool →
     Pooling s at count pool pool at 0 0
@@ -103,21 +104,21 @@ pooling-begin s at count pool p h r = record {
   same = refl;
   put = puts-none pool 0 (omega arith);
   rest = p .rest;
-  left = ap (λ (n : ℕ). readAll (slotFormat .read) n (drop at s)) (sub-zero count) ∙ p .reads;
+  left = ap (λ (n : ℕ). readAll (slotFormat true .read) n (drop at s)) (sub-zero count) ∙ p .reads;
 }
 
 module _ (s : List ℕ) (at count : ℕ) (pool₀ pool : List ℕ) (k to i : ℕ) (p : Pooling s at count pool₀ pool k to i) where
-  module _ (h : i < count) {r : SlotLine} (e : r ≡ slotAnswer (length s) (slotFormat .read (drop k s))) where
+  module _ (h : i < count) {r : SlotLine} (e : r ≡ slotAnswer (length s) (slotFormat true .read (drop k s))) where
     pub pooling-some : r ≡ NoLine → ⊥
-    pooling-some f = read-some (slotFormat .read) blank (drop k s) (slotsAt s at count) i count (p .rest) h (p .left) (line-lost s k e f)
+    pooling-some f = read-some (slotFormat true .read) blank (drop k s) (slotsAt s at count) i count (p .rest) h (p .left) (line-lost true s k e f)
 
     module _ (x : SlotRead) (f : r ≡ Line x) where
-      found : Found s k x
-      found = line-found s k x e f
+      found : Found true s k x
+      found = line-found true s k x e f
 
       next : (i < length (slotsAt s at count)) × (found .sl ≡ getD (slotsAt s at count) i blank)
-          × (readAll (slotFormat .read) (count - (i + 1)) (drop (x .next) s) ≡ give (drop (i + 1) (slotsAt s at count)) (p .rest))
-      next = read-next (slotFormat .read) blank (drop k s) (drop (x .next) s) (found .sl) (slotsAt s at count) i count (p .rest) h (p .left) (found .reads)
+          × (readAll (slotFormat true .read) (count - (i + 1)) (drop (x .next) s) ≡ give (drop (i + 1) (slotsAt s at count)) (p .rest))
+      next = read-next (slotFormat true .read) blank (drop k s) (drop (x .next) s) (found .sl) (slotsAt s at count) i count (p .rest) h (p .left) (found .reads)
 
       pub line-end : 1 ≤ x .next
       line-end = omega (arith, place s k x found (p .inside))
@@ -162,4 +163,4 @@ module _ (s : List ℕ) (at count : ℕ) (pool₀ pool : List ℕ) (k to i : ℕ
   pooling-end h =
       p .put .out
       ∙ ap (λ (l : List Slot). putText pool₀ 0 (flat (dataOf l)))
-      (take-all i (slotsAt s at count) (read-end (slotFormat .read) blank (drop k s) (slotsAt s at count) i count (p .rest) h (p .left)))
+      (take-all i (slotsAt s at count) (read-end (slotFormat true .read) blank (drop k s) (slotsAt s at count) i count (p .rest) h (p .left)))

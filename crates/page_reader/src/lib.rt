@@ -32,7 +32,7 @@ fn fill_slots(s: &[u8], at: usize, count: usize, narrow: &mut [u32], wide: &mut 
     let mut from = 0;
     let mut i = 0;
     while i < count {
-        let SlotLine::Line(x) = page_check::get_slot(s, k) else {
+        let SlotLine::Line(x) = page_check::get_slot(s, k, true) else {
             return;
         };
         narrow[i] = x.generation as u32;
@@ -57,7 +57,7 @@ fn fill_data(s: &[u8], at: usize, count: usize, pool: &mut [u8])
     let mut to = 0;
     let mut i = 0;
     while i < count {
-        let SlotLine::Line(x) = page_check::get_slot(s, k) else {
+        let SlotLine::Line(x) = page_check::get_slot(s, k, true) else {
             return;
         };
         let from = x.next - 1 - x.bytes - x.bytes;

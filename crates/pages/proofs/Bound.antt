@@ -1,23 +1,26 @@
--- A page takes at most 256 + 96 × slots + 2 × data bytes.
-use Prim.Native.Nat.{ℕ, _+_, _-_, _*_, _^_, _≤_, _<_}
+-- A page takes at most 256 + 96 × slots + 2 × data bytes, in every form: a live slot's line has at most 67 bytes beside its data, a dead one's 20 and its entry in a list 11, a seal 21.
+use Prim.Native.Nat.{ℕ, zero, suc, _+_, _-_, _*_, _^_, _≤_, _<_}
 use mathlib.Core.List.{List, [], _∷_, _++_, flatMap}
-use mathlib.Core.Bool.{Bool, true, _&&_}
+use mathlib.Core.Bool.{Bool, true, false, _&&_}
 use mathlib.Core.Path.{_≡_, refl, ap, _∙_}
-use lib.ListN.{length, length-append}
+use lib.ListN.{length, getD, length-append}
 use native.Mathlib.Omega.{arith}
 use borrow.Author.Tests.{lt-ltb, le-ltb}
 use Rattle.text.specs.Text.{ascii, decimal, line}
 use Rattle.text.specs.Format.{All}
-use Rattle.text.proofs.Laws.{decimal-length, hex-length}
+use Rattle.text.proofs.Laws.{decimal-length, decimal-length-one, hex-length}
 use Rattle.word.specs.Lists.{all}
 use Rattle.word.proofs.Bools.{and-both}
-use Rattle.heap.proofs.Counting.{sum, sum-add, sum-same, sum-ones, times-append, times-length}
+use Rattle.heap.proofs.Counting.{sum, sum-add, sum-same, sum-ones, sum-first, times-append, times-length}
 use Rattle.heap.proofs.Seals.{seals-few}
-use Rattle.heap.proofs.Testing.{parts-tested}
-use Rattle.heap.specs.State.{Slot, State, dataOf, dataSize, times, slotAt, live, bit}
+use Rattle.heap.proofs.Sound.{SlotSound}
+use Rattle.heap.proofs.Testing.{parts-tested, slot-tested}
+use Rattle.heap.specs.State.{Slot, State, noSlot, dataOf, dataSize, times, slotAt, live, bit}
+use Rattle.heap.specs.Calls.{liveCount}
 use Rattle.heap.specs.Packing.{flat}
 use Rattle.heap.specs.WellFormed.{partitioned, soundSlot, soundSeals, soundReclaim, sound}
-use Rattle.pages.specs.Page.{slotLine, valueLine, heapNames, slotNames, freeName, quarantineName, sealedName, numbersLine, heapLine, pageText, SlotWithin, Within}
+use Rattle.pages.specs.Form.{Form, writesWidth, heapNames, slotFront, wideWrites, narrowWrites, slotNames, freeName, quarantineName, sealedName}
+use Rattle.pages.specs.Page.{slotLine, valueLine, numbersLine, heapLine, pageText, SlotWithin, Within}
 
 -- numbers of each width
 short : (n : ℕ) → n < 2 ^ 8 → length (decimal n) ≤ 3
@@ -29,18 +32,41 @@ middle n h = decimal-length 9 n (omega arith)
 long : (n : ℕ) → n < 2 ^ 64 → length (decimal n) ≤ 20
 long n h = decimal-length 19 n (omega arith)
 
-slot-length : (s : Slot) → SlotWithin s → length (slotLine s) ≤ 59 + 2 * length (s .bytes)
-unfolding slotLine line
-slot-length s w =
-    simp length-append
-    (omega (arith, middle (s .generation) (w .generation), short (s .kind) (w .kind), middle (s .type) (w .type), long (s .start) (w .start), middle (s .writes) (w .writes), hex-length (s .bytes)))
+writes-long : (w : Bool) (n : ℕ) → n < 2 ^ writesWidth w → length (decimal n) ≤ 20
+writes-long true n h = long n h
+writes-long false n h = omega (arith, middle n h)
 
-slots-length : (l : List Slot) → All SlotWithin l → length (flatMap slotLine l) ≤ 59 * length l + 2 * dataSize l
-unfolding flatMap flat
-slots-length [] h = omega arith
-slots-length (s ∷ l) h =
+digit : (n : ℕ) → n ≤ 3 → length (decimal n) ≡ 1
+digit n h = decimal-length-one n (omega arith)
+
+live-line : (w : Bool) (s : Slot) → SlotWithin w s → s .kind ≤ 3 → length (slotLine s) ≤ 67 + 2 * length (s .bytes)
+unfolding slotLine line
+live-line w s g k =
+    simp length-append
+    (omega (arith, middle (s .generation) (g .generation), digit (s .kind) k, middle (s .type) (g .type), long (s .start) (g .start), writes-long w (s .writes) (g .writes), hex-length (s .bytes)))
+
+dead-line : (w : Bool) (s : Slot) → SlotWithin w s → s .kind ≡ 0 → s .type ≡ 0 → s .start ≡ 0 → s .writes ≡ 0 → length (slotLine s) ≤ 20 + 2 * length (s .bytes)
+unfolding slotLine line
+dead-line w s g k a b c =
+    simp length-append
+    (omega (arith, middle (s .generation) (g .generation), digit (s .kind) (omega arith), digit (s .type) (omega arith), digit (s .start) (omega arith), digit (s .writes) (omega arith), hex-length (s .bytes)))
+
+slot-line : (w : Bool) (s : Slot) → SlotWithin w s → SlotSound s → length (slotLine s) ≤ 20 + 47 * bit (live s) + 2 * length (s .bytes)
+slot-line w s g f = one (s .kind) refl
+  where
+    one : (k : ℕ) → s .kind ≡ k → length (slotLine s) ≤ 20 + 47 * bit (live s) + 2 * length (s .bytes)
+    one zero e =
+        let d = f .dead e in
+        omega (arith, dead-line w s g e (ap (λ (x : Slot). x .type) d) (ap (λ (x : Slot). x .start) d) (ap (λ (x : Slot). x .writes) d))
+    one (suc k) e = omega (arith, ap bit (lt-ltb 0 (s .kind) (omega arith)), live-line w s g (f .kinds))
+
+slot-lines : (w : Bool) (l : List Slot) → All (SlotWithin w) l → all soundSlot l ≡ true → length (flatMap slotLine l) ≤ 20 * length l + 47 * liveCount l + 2 * dataSize l
+unfolding flatMap flat all liveCount
+slot-lines w [] h e = omega arith
+slot-lines w (s ∷ l) h e =
+    let p = and-both (soundSlot s) (all soundSlot l) e in
     rw (length-append (slotLine s) (flatMap slotLine l), length-append (s .bytes) (flat (dataOf l)))
-    (omega (arith, slot-length s (h .0), slots-length l (h .1)))
+    (omega (arith, slot-line w s (h .0) (slot-tested s (p .0)), slot-lines w l (h .1) (p .1)))
 
 value-length : (n k : ℕ) → length (decimal n) ≤ k → length (valueLine n) ≤ k + 1
 unfolding valueLine line
@@ -56,9 +82,9 @@ unfolding flatMap
 long-lines [] h = omega arith
 long-lines (n ∷ l) h = rw (length-append (valueLine n) (flatMap valueLine l)) (omega (arith, value-length n 20 (long n (h .0)), long-lines l (h .1)))
 
-head-length : (h : State) → Within h → length (heapLine h) ≤ 111
+head-length : (f : Form) (h : State) → Within f h → length (heapLine h) ≤ 111
 unfolding heapLine numbersLine line
-head-length h w =
+head-length f h w =
     simp length-append
     (omega (
       arith,
@@ -72,21 +98,23 @@ head-length h w =
       middle (length (h .sealed)) (w .sealed-count),
     ))
 
-names-length : length heapNames + length slotNames + length freeName + length quarantineName + length sealedName ≡ 126
-unfolding heapNames slotNames freeName quarantineName sealedName ascii
-names-length = refl
+names-length : (f : Form) → length heapNames + length (slotNames f) + length freeName + length quarantineName + length sealedName ≤ 128
+unfolding heapNames slotNames slotFront wideWrites narrowWrites freeName quarantineName sealedName ascii
+names-length f = one (f .wide)
+  where
+    one : (w : Bool) → length heapNames + length (slotNames (record { wide = w })) + length freeName + length quarantineName + length sealedName ≤ 128
+    one true = omega arith
+    one false = omega arith
 
--- for lists that are no longer than they can be
-pub page-length-lists : (h : State) → Within h → length (h .free) + length (h .quarantine) ≤ length (h .slots) → length (h .sealed) ≤ length (h .slots) →
-    length (pageText h) ≤ 256 + 96 * length (h .slots) + 2 * dataSize (h .slots)
-unfolding pageText
-page-length-lists h w f s =
-    simp length-append
-    (omega (arith, names-length, head-length h w, slots-length (h .slots) (w .slots), middle-lines (h .free) (w .free), middle-lines (h .quarantine) (w .quarantine), long-lines (h .sealed) (w .sealed)))
+-- the live ones, counted by their indices
+live-sum : (l : List Slot) → sum (length l) (λ i. bit (live (getD l i noSlot))) ≡ liveCount l
+unfolding liveCount
+live-sum [] = sum-same 0 _ (λ i. 1) (λ i h. absurd (omega arith)) ∙ sum-ones 0
+live-sum (s ∷ l) = sum-first (length l) (λ i. bit (live (getD (s ∷ l) i noSlot))) ∙ ap (λ (n : ℕ). bit (live s) + n) (live-sum l)
 
--- each slot is in one list at most
-pub dead-length : (h : State) → partitioned h ≡ true → length (h .free) + length (h .quarantine) ≤ length (h .slots)
-dead-length h e =
+-- each slot is live or in one list: the partition
+pub placed-once : (h : State) → partitioned h ≡ true → liveCount (h .slots) + (length (h .free) + length (h .quarantine)) ≡ length (h .slots)
+placed-once h e =
     let n : ℕ = length (h .slots) in
     let T : ℕ → ℕ = λ i. times i (h .free ++ h .quarantine) in
     let L : ℕ → ℕ = λ i. bit (live (slotAt h i)) in
@@ -94,7 +122,10 @@ dead-length h e =
     times-length n (h .free ++ h .quarantine) (λ i k. omega (arith, parts-tested h e i, ap bit (le-ltb i n k), times-append i (h .free) (h .quarantine))) in
     let once : sum n (λ i. L i + T i) ≡ n =
     sum-same n (λ i. L i + T i) (λ i. 1) (λ i k. omega (arith, parts-tested h e i, ap bit (lt-ltb i n k), times-append i (h .free) (h .quarantine))) ∙ sum-ones n in
-    omega (arith, sum-add n L T, length-append (h .free) (h .quarantine))
+    omega (arith, sum-add n L T, length-append (h .free) (h .quarantine), live-sum (h .slots))
+
+pub dead-length : (h : State) → partitioned h ≡ true → length (h .free) + length (h .quarantine) ≤ length (h .slots)
+dead-length h e = omega (arith, placed-once h e)
 
 -- seals rise, so there is at most one a slot
 pub sealed-length : (h : State) → soundSeals (h .tag) (length (h .slots)) 0 (h .sealed) ≡ true → length (h .sealed) ≤ length (h .slots)
@@ -118,5 +149,19 @@ parts h e =
     record { slots = r .0; partition = r .1; seals = q .1; reclaim = p .1 }
 
 -- THE BOUND
-pub page-length : (h : State) → Within h → sound h ≡ true → length (pageText h) ≤ 256 + 96 * length (h .slots) + 2 * dataSize (h .slots)
-page-length h w e = let p = parts h e in page-length-lists h w (dead-length h (p .partition)) (sealed-length h (p .seals))
+pub page-length : (f : Form) (h : State) → Within f h → sound h ≡ true → length (pageText f h) ≤ 256 + 96 * length (h .slots) + 2 * dataSize (h .slots)
+unfolding pageText
+page-length f h w e =
+    let p = parts h e in
+    simp length-append
+    (omega (
+      arith,
+      names-length f,
+      head-length f h w,
+      slot-lines (f .wide) (h .slots) (w .slots) (p .slots),
+      middle-lines (h .free) (w .free),
+      middle-lines (h .quarantine) (w .quarantine),
+      long-lines (h .sealed) (w .sealed),
+      placed-once h (p .partition),
+      sealed-length h (p .seals),
+    ))

@@ -1,15 +1,18 @@
 -- The laws of the page.
 use Prim.Native.Nat.{ℕ, _+_, _-_, _^_, _<_}
+use mathlib.Core.Bool.{Bool, true, false}
 use mathlib.Core.List.{List, [], _∷_, _++_, append-assoc, append-nil, flatMap}
 use mathlib.Core.Option.{none, some}
-use mathlib.Core.Path.{_≡_, refl, sym, ap, _∙_}
+use mathlib.Core.Path.{_≡_, refl, sym, ap, subst, _∙_}
 use mathlib.Core.Logic.{_↔_}
+use native.Mathlib.Omega.{arith}
 use lib.ListN.{length}
-use Rattle.text.specs.Text.{give, _>>=_, line, newline, comma, Bytes, digitOf}
-use Rattle.text.specs.Format.{Right, number, bytesLine, afterLiteral, pair, times, mapped, All}
-use Rattle.text.proofs.Laws.{none-not-some, bind-some, some-inj, number-right, bytes-line-right, after-literal-right, pair-right, times-right, mapped-right, injective}
+use Rattle.text.specs.Text.{give, _>>=_, ascii, line, newline, comma, Bytes, digitOf, readLiteral}
+use Rattle.text.specs.Format.{Right, number, bytesLine, afterLiteral, either, pair, times, mapped, readAll, All}
+use Rattle.text.proofs.Laws.{none-not-some, bind-some, some-inj, number-right, bytes-line-right, after-literal-right, Any, Apart, either-right, pair-right, times-right, mapped-right, injective}
 use Rattle.heap.specs.State.{Slot, State}
-use Rattle.pages.specs.Page.{slotLine, valueLine, heapNames, slotNames, freeName, quarantineName, sealedName, numbersLine, heapLine, pageText, SlotWithin, Within, Unsaved, Fields, slotOf, fieldsOf, slotFormat, Head, headFormat, Body, bodyFormat, pageFormat, stateOf, saved, whole, readPage}
+use Rattle.pages.specs.Form.{Form, written, writesWidth, heapNames, slotFront, wideWrites, narrowWrites, slotNames, names, freeName, quarantineName, sealedName}
+use Rattle.pages.specs.Page.{slotLine, valueLine, numbersLine, heapLine, pageText, SlotWithin, Within, Unsaved, Fields, slotOf, fieldsOf, slotFormat, Head, headFormat, Body, bodyFormat, Parts, pageFormat, stateOf, readOf, headOf, bodyOf, saved, whole, readPage}
 
 no-comma : digitOf comma ≡ none
 unfolding digitOf
@@ -22,17 +25,17 @@ no-newline = refl
 num : (width : ℕ) → Right (number width comma) (λ n. n < 2 ^ width)
 num width = number-right width comma no-comma
 
-last : (width : ℕ) → Right (number width newline) (λ n. n < 2 ^ width)
+pub last : (width : ℕ) → Right (number width newline) (λ n. n < 2 ^ width)
 last width = number-right width newline no-newline
 
-abbrev pub Fields-good : Fields → Type 0
-Fields-good f = (f .0 < 2 ^ 32) × ((f .1 .0 < 2 ^ 8) × ((f .1 .1 .0 < 2 ^ 32) × ((f .1 .1 .1 .0 < 2 ^ 64) × ((f .1 .1 .1 .1 .0 < 2 ^ 32) × Bytes (f .1 .1 .1 .1 .1)))))
+abbrev pub Fields-good : (wide : Bool) → Fields → Type 0
+Fields-good w f = (f .0 < 2 ^ 32) × ((f .1 .0 < 2 ^ 8) × ((f .1 .1 .0 < 2 ^ 32) × ((f .1 .1 .1 .0 < 2 ^ 64) × ((f .1 .1 .1 .1 .0 < 2 ^ writesWidth w) × Bytes (f .1 .1 .1 .1 .1)))))
 
-pub slot-right : Right slotFormat (λ s. Fields-good (fieldsOf s))
+pub slot-right : (w : Bool) → Right (slotFormat w) (λ s. Fields-good w (fieldsOf s))
 unfolding slotFormat
-slot-right =
+slot-right w =
     mapped-right slotOf fieldsOf (λ s. refl) (λ f. refl)
-    (pair-right (num 32) λ _. pair-right (num 8) λ _. pair-right (num 32) λ _. pair-right (num 64) λ _. pair-right (num 32) λ _. bytes-line-right)
+    (pair-right (num 32) λ _. pair-right (num 8) λ _. pair-right (num 32) λ _. pair-right (num 64) λ _. pair-right (num (writesWidth w)) λ _. bytes-line-right)
 
 abbrev pub Head-good : Head → Type 0
 Head-good d = (d .0 < 2 ^ 8) × ((d .1 .0 < 2 ^ 64) × ((d .1 .1 .0 < 2 ^ 64) × ((d .1 .1 .1 .0 < 2 ^ 64) × ((d .1 .1 .1 .1 .0 < 2 ^ 32) × ((d .1 .1 .1 .1 .1 .0 < 2 ^ 32) × ((d .1 .1 .1 .1 .1 .1 .0 < 2 ^ 32) × (d .1 .1 .1 .1 .1 .1 .1 < 2 ^ 32)))))))
@@ -43,147 +46,203 @@ head-right =
     pair-right (num 8) λ _. pair-right (num 64) λ _. pair-right (num 64) λ _. pair-right (num 64)
     λ _. pair-right (num 32) λ _. pair-right (num 32) λ _. pair-right (num 32) λ _. last 32
 
-abbrev Listed : {A : Type 0} → (A → Type 0) → ℕ → List A → Type 0
+abbrev pub Listed : {A : Type 0} → (A → Type 0) → ℕ → List A → Type 0
 Listed good n l = All good l × (length l ≡ n)
 
-abbrev Body-good : Head → Body → Type 0
-Body-good d b =
-    Listed (λ s. Fields-good (fieldsOf s)) (d .1 .1 .1 .1 .0) (b .0)
+abbrev pub Body-good : (wide : Bool) → Head → Body → Type 0
+Body-good w d b =
+    Listed (λ s. Fields-good w (fieldsOf s)) (d .1 .1 .1 .1 .0) (b .0)
     × (Listed (λ i. i < 2 ^ 32) (d .1 .1 .1 .1 .1 .0) (b .1 .0)
     × (Listed (λ i. i < 2 ^ 32) (d .1 .1 .1 .1 .1 .1 .0) (b .1 .1 .0)
     × Listed (λ x. x < 2 ^ 64) (d .1 .1 .1 .1 .1 .1 .1) (b .1 .1 .1)))
 
-body-right : (d : Head) → Right (bodyFormat d) (Body-good d)
+body-right : (w : Bool) (d : Head) → Right (bodyFormat w d) (Body-good w d)
 unfolding bodyFormat
-body-right d =
-    after-literal-right slotNames (pair-right (times-right (d .1 .1 .1 .1 .0) slot-right)
+body-right w d =
+    pair-right (times-right (d .1 .1 .1 .1 .0) (slot-right w))
     λ _. after-literal-right freeName (pair-right (times-right (d .1 .1 .1 .1 .1 .0) (last 32))
     λ _. after-literal-right quarantineName (pair-right (times-right (d .1 .1 .1 .1 .1 .1 .0) (last 32))
-    λ _. after-literal-right sealedName (times-right (d .1 .1 .1 .1 .1 .1 .1) (last 64)))))
+    λ _. after-literal-right sealedName (times-right (d .1 .1 .1 .1 .1 .1 .1) (last 64))))
 
-pub page-right : Right pageFormat (λ p. Head-good (p .0) × Body-good (p .0) (p .1))
+-- the names line tells the forms apart
+pub writes-apart : Apart wideWrites narrowWrites
+unfolding wideWrites narrowWrites ascii readLiteral
+writes-apart t = refl
+
+pub names-right : Right (names slotFront wideWrites narrowWrites) Any
+names-right = after-literal-right slotFront (either-right wideWrites narrowWrites writes-apart)
+
+abbrev pub Parts-good : Parts → Type 0
+Parts-good p = Head-good (p .0) × (Any (p .1 .0) × Body-good (p .1 .0) (p .0) (p .1 .1))
+
+pub page-right : Right pageFormat Parts-good
 unfolding pageFormat
-page-right = after-literal-right heapNames (pair-right head-right body-right)
+page-right = after-literal-right heapNames (pair-right head-right λ d. pair-right names-right λ w. body-right w d)
 
 -- The format prints the page
 
-pub slot-prints : (s : Slot) → slotFormat .print s ≡ slotLine s
+pub slot-prints : (w : Bool) (s : Slot) → slotFormat w .print s ≡ slotLine s
 unfolding slotFormat slotLine number pair mapped bytesLine line
-slot-prints s = simp append-assoc
+slot-prints w s = simp append-assoc
 
-value-prints : (width n : ℕ) → number width newline .print n ≡ valueLine n
+pub value-prints : (width n : ℕ) → number width newline .print n ≡ valueLine n
 unfolding number valueLine line
 value-prints width n = refl
 
-flatMap-same : {A : Type 0} (f g : A → List ℕ) → ((a : A) → f a ≡ g a) → (l : List A) → flatMap f l ≡ flatMap g l
+pub flatMap-same : {A : Type 0} (f g : A → List ℕ) → ((a : A) → f a ≡ g a) → (l : List A) → flatMap f l ≡ flatMap g l
 unfolding flatMap
 flatMap-same f g e [] = refl
 flatMap-same f g e (a ∷ l) = rw (e a, flatMap-same f g e l)
 
-head-prints : (h : State) → headFormat .print (saved h .0) ≡ heapLine h
+pub head-prints : (h : State) → headFormat .print (headOf h) ≡ heapLine h
 unfolding headFormat heapLine numbersLine number pair line
 head-prints h = simp append-assoc
 
-body-prints : (h : State) → bodyFormat (saved h .0) .print (saved h .1) ≡
-    slotNames ++ (flatMap slotLine (h .slots) ++ (freeName ++ (flatMap valueLine (h .free)
-    ++ (quarantineName ++ (flatMap valueLine (h .quarantine) ++ (sealedName ++ flatMap valueLine (h .sealed)))))))
+names-prints : (f : Form) → names slotFront wideWrites narrowWrites .print (f .wide) ≡ slotNames f
+unfolding afterLiteral either slotNames
+names-prints f = refl
+
+body-prints : (w : Bool) (h : State) → bodyFormat w (headOf h) .print (bodyOf h) ≡
+    flatMap slotLine (h .slots) ++ (freeName ++ (flatMap valueLine (h .free)
+    ++ (quarantineName ++ (flatMap valueLine (h .quarantine) ++ (sealedName ++ flatMap valueLine (h .sealed))))))
 unfolding bodyFormat afterLiteral pair times
-body-prints h =
+body-prints w h =
     rw (
-      flatMap-same (slotFormat .print) slotLine slot-prints (h .slots),
+      flatMap-same (slotFormat w .print) slotLine (slot-prints w) (h .slots),
       flatMap-same (number 32 newline .print) valueLine (value-prints 32) (h .free),
       flatMap-same (number 32 newline .print) valueLine (value-prints 32) (h .quarantine),
       flatMap-same (number 64 newline .print) valueLine (value-prints 64) (h .sealed),
     )
 
-pub page-prints : (h : State) → pageFormat .print (saved h) ≡ pageText h
+pub page-prints : (f : Form) (h : State) → pageFormat .print (saved f h) ≡ pageText f h
 unfolding pageFormat afterLiteral pair pageText
-page-prints h = rw (head-prints h, body-prints h) (simp append-assoc)
+page-prints f h = rw (head-prints h, names-prints f, body-prints (f .wide) h) (simp append-assoc)
 
 -- Numbers within their widths
 
-fields-within : (s : Slot) → SlotWithin s → Fields-good (fieldsOf s)
-fields-within s w = (w .generation, (w .kind, (w .type, (w .start, (w .writes, w .bytes)))))
+fields-within : (w : Bool) (s : Slot) → SlotWithin w s → Fields-good w (fieldsOf s)
+fields-within w s g = (g .generation, (g .kind, (g .type, (g .start, (g .writes, g .bytes)))))
 
-within-fields : (s : Slot) → Fields-good (fieldsOf s) → SlotWithin s
-within-fields s g = record { generation = g .0; kind = g .1 .0; type = g .1 .1 .0; start = g .1 .1 .1 .0; writes = g .1 .1 .1 .1 .0; bytes = g .1 .1 .1 .1 .1 }
+within-fields : (w : Bool) (s : Slot) → Fields-good w (fieldsOf s) → SlotWithin w s
+within-fields w s g = record { generation = g .0; kind = g .1 .0; type = g .1 .1 .0; start = g .1 .1 .1 .0; writes = g .1 .1 .1 .1 .0; bytes = g .1 .1 .1 .1 .1 }
 
-all-map : {A : Type 0} {P Q : A → Type 0} → ((a : A) → P a → Q a) → (l : List A) → All P l → All Q l
+pub all-map : {A : Type 0} {P Q : A → Type 0} → ((a : A) → P a → Q a) → (l : List A) → All P l → All Q l
 all-map f [] h = tt
 all-map f (a ∷ l) h = (f a (h .0), all-map f l (h .1))
 
-good-saved : (h : State) → Within h → Head-good (saved h .0) × Body-good (saved h .0) (saved h .1)
-good-saved h w = (
+pub good-saved : (f : Form) (h : State) → Within f h → Parts-good (saved f h)
+good-saved f h w = (
   (w .tag, (w .sinceGc, (w .reclaimAt, (w .liveBytes, (w .slot-count, (w .free-count, (w .quarantine-count, w .sealed-count))))))),
-  ((all-map fields-within (h .slots) (w .slots), refl), ((w .free, refl), ((w .quarantine, refl), (w .sealed, refl)))),
+  (tt, ((all-map (fields-within (f .wide)) (h .slots) (w .slots), refl), ((w .free, refl), ((w .quarantine, refl), (w .sealed, refl))))),
 )
 
 -- a text that was read is the page of what was read
-within-state : (p : Head × Body) → Head-good (p .0) → Body-good (p .0) (p .1) → Within (stateOf p) × (saved (stateOf p) ≡ p)
-within-state p g b = (
-  record {
-    tag = g .0;
-    sinceGc = g .1 .0;
-    reclaimAt = g .1 .1 .0;
-    liveBytes = g .1 .1 .1 .0;
-    slot-count = rw (b .0 .1) (g .1 .1 .1 .1 .0);
-    free-count = rw (b .1 .0 .1) (g .1 .1 .1 .1 .1 .0);
-    quarantine-count = rw (b .1 .1 .0 .1) (g .1 .1 .1 .1 .1 .1 .0);
-    sealed-count = rw (b .1 .1 .1 .1) (g .1 .1 .1 .1 .1 .1 .1);
-    slots = all-map within-fields (p .1 .0) (b .0 .0);
-    free = b .1 .0 .0;
-    quarantine = b .1 .1 .0 .0;
-    sealed = b .1 .1 .1 .0;
-  },
-  rw (b .0 .1, b .1 .0 .1, b .1 .1 .0 .1, b .1 .1 .1 .1),
-)
+pub within-read : (p : Parts) → Parts-good p → Within (readOf p .0) (readOf p .1) × (saved (readOf p .0) (readOf p .1) ≡ p)
+within-read p good =
+    let g = good .0 in
+    let b = good .1 .1 in (
+      record {
+        tag = g .0;
+        sinceGc = g .1 .0;
+        reclaimAt = g .1 .1 .0;
+        liveBytes = g .1 .1 .1 .0;
+        slot-count = rw (b .0 .1) (g .1 .1 .1 .1 .0);
+        free-count = rw (b .1 .0 .1) (g .1 .1 .1 .1 .1 .0);
+        quarantine-count = rw (b .1 .1 .0 .1) (g .1 .1 .1 .1 .1 .1 .0);
+        sealed-count = rw (b .1 .1 .1 .1) (g .1 .1 .1 .1 .1 .1 .1);
+        slots = all-map (within-fields (p .1 .0)) (p .1 .1 .0) (b .0 .0);
+        free = b .1 .0 .0;
+        quarantine = b .1 .1 .0 .0;
+        sealed = b .1 .1 .1 .0;
+      },
+      rw (b .0 .1, b .1 .0 .1, b .1 .1 .0 .1, b .1 .1 .1 .1),
+    )
 
-whole-some : {A : Type 0} (r : A × List ℕ) (a : A) → whole r ≡ some a → r ≡ (a, [])
+pub whole-some : {A : Type 0} (r : A × List ℕ) (a : A) → whole r ≡ some a → r ≡ (a, [])
 whole-some {A} r a e = go (r .0) (r .1) e
   where
     go : (x : A) (t : List ℕ) → whole {A = A} (x, t) ≡ some a → _≡_ {A = A × List ℕ} (x, t) (a, [])
     go x [] e = cc
     go x (b ∷ t) e = absurd (none-not-some e)
 
--- THE TWO ROUND TRIPS
+-- THE TWO ROUND TRIPS, in every form
 
--- reading what was written gives the heap back, epoch and log apart
-pub read-written : (h : State) → Within h → readPage (pageText h) ≡ some (stateOf (saved h))
+-- reading what was written gives the heap back, epoch and log apart, and the form
+pub read-written : (f : Form) (h : State) → Within f h → readPage (pageText f h) ≡ some (f, stateOf (headOf h) (bodyOf h))
 unfolding readPage
-read-written h w =
-    let e : pageFormat .read (pageText h) ≡ give (saved h) [] =
-    ap (pageFormat .read) (sym (append-nil (pageText h)) ∙ ap (λ (t : List ℕ). t ++ []) (sym (page-prints h))) ∙ page-right .forth (saved h) [] (good-saved h w) in
+read-written f h w =
+    let e : pageFormat .read (pageText f h) ≡ give (saved f h) [] =
+    ap (pageFormat .read) (sym (append-nil (pageText f h)) ∙ ap (λ (t : List ℕ). t ++ []) (sym (page-prints f h))) ∙ page-right .forth (saved f h) [] (good-saved f h w) in
     rw e
 
--- writing what was read gives the same text
-pub written-read : (t : List ℕ) (h : State) → readPage t ≡ some h → (pageText h ≡ t) × Within h × Unsaved h
+finish : (t : List ℕ) (p : Parts) → pageFormat .read t ≡ give p [] → (pageText (readOf p .0) (readOf p .1) ≡ t) × Within (readOf p .0) (readOf p .1) × Unsaved (readOf p .1)
+finish t p e =
+    let b : Parts-good p × (pageFormat .print p ++ [] ≡ t) = page-right .back t p [] e in
+    let w = within-read p (b .0) in (
+      sym (page-prints (readOf p .0) (readOf p .1)) ∙ ap (pageFormat .print) (w .1) ∙ sym (append-nil (pageFormat .print p)) ∙ b .1,
+      w .0,
+      record { epoch = refl; log = refl },
+    )
+
+-- writing what was read, in the form in which it was read, gives the same text
+pub written-read : (t : List ℕ) (f : Form) (h : State) → readPage t ≡ some (f, h) → (pageText f h ≡ t) × Within f h × Unsaved h
 unfolding readPage
-written-read t h e =
-    let p : (r : (Head × Body) × List ℕ) × (pageFormat .read t ≡ some r) × ((whole r >>= λ p. some (stateOf p)) ≡ some h) =
-    bind-some (pageFormat .read t) (λ r. whole r >>= λ p. some (stateOf p)) h e in
-    let q : (x : Head × Body) × (whole (p .0) ≡ some x) × (some (stateOf x) ≡ some h) = bind-some (whole (p .0)) (λ p. some (stateOf p)) h (p .2) in
-    finish t h (q .0) (p .1 ∙ ap some (whole-some (p .0) (q .0) (q .1))) (some-inj (q .2))
-  where
-    finish : (t : List ℕ) (h : State) (x : Head × Body) → pageFormat .read t ≡ give x [] → stateOf x ≡ h → (pageText h ≡ t) × Within h × Unsaved h
-    finish t h x f v =
-        let b : (Head-good (x .0) × Body-good (x .0) (x .1)) × (pageFormat .print x ++ [] ≡ t) = page-right .back t x [] f in
-        let w : Within (stateOf x) × (saved (stateOf x) ≡ x) = within-state x (b .0 .0) (b .0 .1) in
-        rw (← v) (
-          sym (page-prints (stateOf x)) ∙ ap (pageFormat .print) (w .1) ∙ sym (append-nil (pageFormat .print x)) ∙ b .1,
-          w .0,
-          record { epoch = refl; log = refl },
-        )
+written-read t f h e =
+    let p : (r : Parts × List ℕ) × (pageFormat .read t ≡ some r) × ((whole r >>= λ p. some (readOf p)) ≡ some (f, h)) =
+    bind-some (pageFormat .read t) (λ r. whole r >>= λ p. some (readOf p)) (f, h) e in
+    let q : (x : Parts) × (whole (p .0) ≡ some x) × (some (readOf x) ≡ some (f, h)) = bind-some (whole (p .0)) (λ p. some (readOf p)) (f, h) (p .2) in
+    subst (λ (y : Form × State). (pageText (y .0) (y .1) ≡ t) × Within (y .0) (y .1) × Unsaved (y .1)) (some-inj (q .2))
+    (finish t (q .0) (p .1 ∙ ap some (whole-some (p .0) (q .0) (q .1))))
 
 -- the heap that a page brings back
-same-unsaved : (h : State) → Unsaved h → stateOf (saved h) ≡ h
+pub same-unsaved : (h : State) → Unsaved h → stateOf (headOf h) (bodyOf h) ≡ h
 same-unsaved h u i =
     record { tag = h .tag; sinceGc = h .sinceGc; reclaimAt = h .reclaimAt; liveBytes = h .liveBytes; epoch = sym (u .epoch) i; log = sym (u .log) i; slots = h .slots; free = h .free; quarantine = h .quarantine; sealed = h .sealed }
 
--- a text is read as a heap exactly if it is that heap's page
-pub read-exactly : (t : List ℕ) (h : State) → (readPage t ≡ some h) ↔ ((pageText h ≡ t) × Within h × Unsaved h)
-read-exactly t h = (written-read t h, λ p. rw (← p .0) (read-written h (p .1) ∙ ap some (same-unsaved h (p .2))))
+-- a text is read as a form and a heap exactly if it is that heap's page in that form
+pub read-exactly : (t : List ℕ) (f : Form) (h : State) → (readPage t ≡ some (f, h)) ↔ ((pageText f h ≡ t) × Within f h × Unsaved h)
+read-exactly t f h = (written-read t f h, λ p. rw (← p .0) (read-written f h (p .1) ∙ ap (λ (g : State). some (f, g)) (same-unsaved h (p .2))))
 
--- a text is the page of at most one heap, epoch and log apart
-pub page-injective : (g h : State) → Within g → Within h → pageText g ≡ pageText h → saved g ≡ saved h
-page-injective g h v w e =
-    injective page-right (saved g) (saved h) (good-saved g v) (good-saved h w) (page-prints g ∙ e ∙ sym (page-prints h))
+-- a text is the page of at most one heap in at most one form, epoch and log apart
+pub page-injective : (f k : Form) (g h : State) → Within f g → Within k h → pageText f g ≡ pageText k h → saved f g ≡ saved k h
+page-injective f k g h v w e =
+    injective page-right (saved f g) (saved k h) (good-saved f g v) (good-saved k h w) (page-prints f g ∙ e ∙ sym (page-prints k h))
+
+-- ---- what was read in any form can be written
+
+wider : (w : Bool) (n : ℕ) → n < 2 ^ writesWidth w → n < 2 ^ 64
+wider true n h = h
+wider false n h = omega arith
+
+fields-wider : (w : Bool) (s : Slot) → Fields-good w (fieldsOf s) → Fields-good true (fieldsOf s)
+fields-wider w s g = (g .0, (g .1 .0, (g .1 .1 .0, (g .1 .1 .1 .0, (wider w (s .writes) (g .1 .1 .1 .1 .0), g .1 .1 .1 .1 .1)))))
+
+slot-wider : (w : Bool) (s : Slot) → SlotWithin w s → SlotWithin true s
+slot-wider w s g = record { generation = g .generation; kind = g .kind; type = g .type; start = g .start; writes = wider w (s .writes) (g .writes); bytes = g .bytes }
+
+pub within-written : (f : Form) (h : State) → Within f h → Within written h
+within-written f h w =
+    record {
+      tag = w .tag;
+      sinceGc = w .sinceGc;
+      reclaimAt = w .reclaimAt;
+      liveBytes = w .liveBytes;
+      slot-count = w .slot-count;
+      free-count = w .free-count;
+      quarantine-count = w .quarantine-count;
+      sealed-count = w .sealed-count;
+      slots = all-map (slot-wider (f .wide)) (h .slots) (w .slots);
+      free = w .free;
+      quarantine = w .quarantine;
+      sealed = w .sealed;
+    }
+
+-- lines that are read with counts of 32 bits are read alike with counts of 64
+pub slots-wider : (w : Bool) (n : ℕ) (t : List ℕ) (l : List Slot) (rest : List ℕ) → readAll (slotFormat w .read) n t ≡ give l rest → readAll (slotFormat true .read) n t ≡ give l rest
+unfolding times
+slots-wider w n t l rest e =
+    let b = times-right n (slot-right w) .back t l rest e in
+    let same : flatMap (slotFormat true .print) l ≡ flatMap (slotFormat w .print) l =
+    flatMap-same (slotFormat true .print) (slotFormat w .print) (λ s. slot-prints true s ∙ sym (slot-prints w s)) l in
+    ap (readAll (slotFormat true .read) n) (sym (b .1) ∙ ap (λ (x : List ℕ). x ++ rest) (sym same))
+    ∙ times-right n (slot-right true) .forth l rest (all-map (fields-wider w) l (b .0 .0), b .0 .1)

@@ -10,7 +10,8 @@ use borrow.Author.Tests.{le-leb, lt-leb}
 use Rattle.text.specs.Text.{ascii}
 use Rattle.text.specs.Put.{Puts}
 use Rattle.text.proofs.Putting.{puts-puts, puts-at}
-use Rattle.pages.specs.Page.{valueLine, slotLine, numbersLine, heapLine, heapNames, slotNames, freeName, quarantineName, sealedName, pageText}
+use Rattle.pages.specs.Form.{written, heapNames, slotFront, wideWrites, slotNames, freeName, quarantineName, sealedName}
+use Rattle.pages.specs.Page.{valueLine, slotLine, numbersLine, heapLine, pageText}
 use Rattle.heap.specs.Lent.{Lent, lent, view}
 use Rattle.pages.specs.Columns.{slotsIn, Ready}
 use Rattle.pages.specs.Answer.{PageWritten}
@@ -73,35 +74,35 @@ module _ (h : Heap) (narrow wide pool : List ℕ) (r : Ready (lent h narrow wide
       rw (slots-length heap (h .slots), length-take-le (h .free) (heap .free) (r .free), length-take-le (h .quarantine) (heap .quarantine) (r .quarantine), length-take-le (h .sealed) (heap .sealed) (r .sealed))
 
   pub page-parts :
-      heapNames ++ numbers h ++ slotNames ++ slotLines ++ (freeName ++ flatMap valueLine (take (h .free) f))
-      ++ (quarantineName ++ flatMap valueLine (take (h .quarantine) q)) ++ (sealedName ++ flatMap valueLine (take (h .sealed) z)) ≡ pageText (view heap)
+      heapNames ++ numbers h ++ slotNames written ++ slotLines ++ (freeName ++ flatMap valueLine (take (h .free) f))
+      ++ (quarantineName ++ flatMap valueLine (take (h .quarantine) q)) ++ (sealedName ++ flatMap valueLine (take (h .sealed) z)) ≡ pageText written (view heap)
   unfolding pageText view
   page-parts = rw (head-is, slots-are, f-is, q-is, z-is) (simp append-assoc)
 
   pub page-size :
-      length (pageText (view heap)) ≡
-      length heapNames + length (numbers h) + length slotNames + length slotLines + length (freeName ++ flatMap valueLine (take (h .free) f))
+      length (pageText written (view heap)) ≡
+      length heapNames + length (numbers h) + length (slotNames written) + length slotLines + length (freeName ++ flatMap valueLine (take (h .free) f))
       + length (quarantineName ++ flatMap valueLine (take (h .quarantine) q)) + length (sealedName ++ flatMap valueLine (take (h .sealed) z))
   page-size = ap length (sym page-parts) ∙ go
     where
-      go : length (heapNames ++ numbers h ++ slotNames ++ slotLines ++ (freeName ++ flatMap valueLine (take (h .free) f))
+      go : length (heapNames ++ numbers h ++ slotNames written ++ slotLines ++ (freeName ++ flatMap valueLine (take (h .free) f))
           ++ (quarantineName ++ flatMap valueLine (take (h .quarantine) q)) ++ (sealedName ++ flatMap valueLine (take (h .sealed) z))) ≡
-          length heapNames + length (numbers h) + length slotNames + length slotLines + length (freeName ++ flatMap valueLine (take (h .free) f))
+          length heapNames + length (numbers h) + length (slotNames written) + length slotLines + length (freeName ++ flatMap valueLine (take (h .free) f))
           + length (quarantineName ++ flatMap valueLine (take (h .quarantine) q)) + length (sealedName ++ flatMap valueLine (take (h .sealed) z))
       go = simp length-append
 
   pub page-sum :
-      length (pageText (view heap)) ≡
-      126 + length (numbers h) + length slotLines + length (flatMap valueLine (take (h .free) f))
+      length (pageText written (view heap)) ≡
+      128 + length (numbers h) + length slotLines + length (flatMap valueLine (take (h .free) f))
       + length (flatMap valueLine (take (h .quarantine) q)) + length (flatMap valueLine (take (h .sealed) z))
-  unfolding heapNames slotNames freeName quarantineName sealedName ascii
+  unfolding heapNames slotNames slotFront wideWrites freeName quarantineName sealedName ascii
   page-sum =
       omega (arith, page-size, length-append freeName (flatMap valueLine (take (h .free) f)), length-append quarantineName (flatMap valueLine (take (h .quarantine) q)), length-append sealedName (flatMap valueLine (take (h .sealed) z)))
 
   pub puts-page : {a b1 b2 b3 b4 b5 b6 b7 : List ℕ} {at k1 k2 k3 k4 k5 k6 k7 : ℕ} →
-      Puts a b1 at k1 heapNames → Puts b1 b2 k1 k2 (numbers h) → Puts b2 b3 k2 k3 slotNames → Puts b3 b4 k3 k4 slotLines →
+      Puts a b1 at k1 heapNames → Puts b1 b2 k1 k2 (numbers h) → Puts b2 b3 k2 k3 (slotNames written) → Puts b3 b4 k3 k4 slotLines →
       Puts b4 b5 k4 k5 (freeName ++ flatMap valueLine (take (h .free) f)) → Puts b5 b6 k5 k6 (quarantineName ++ flatMap valueLine (take (h .quarantine) q)) →
-      Puts b6 b7 k6 k7 (sealedName ++ flatMap valueLine (take (h .sealed) z)) → at ≤ length a → Puts a b7 at k7 (pageText (view heap))
+      Puts b6 b7 k6 k7 (sealedName ++ flatMap valueLine (take (h .sealed) z)) → at ≤ length a → Puts a b7 at k7 (pageText written (view heap))
   puts-page p1 p2 p3 p4 p5 p6 p7 l =
       puts-at (puts-puts (puts-puts (puts-puts (puts-puts (puts-puts (puts-puts p1 p2 l) p3 l) p4 l) p5 l) p6 l) p7 l) refl page-parts
 

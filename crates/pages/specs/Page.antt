@@ -1,12 +1,14 @@
--- The page (01, "Page"): a heap as text. Epoch and log are not saved, and read as 0.
+-- The page (01, "Page"; request [6]): a heap as text, in every form. Epoch and log are not saved, and read as 0.
 use Prim.Native.Nat.{ℕ, _<_, _^_}
 use mathlib.Core.List.{List, [], _∷_, _++_, flatMap}
 use mathlib.Core.Option.{Option, none, some}
+use mathlib.Core.Bool.{Bool}
 use mathlib.Core.Path.{_≡_}
 use lib.ListN.{length, replicate}
-use Rattle.text.specs.Text.{_>>=_, ascii, decimal, hex, line, newline, comma, Bytes}
+use Rattle.text.specs.Text.{_>>=_, decimal, hex, line, newline, comma, Bytes}
 use Rattle.text.specs.Format.{Format, number, bytesLine, afterLiteral, pair, times, mapped, All}
 use Rattle.heap.specs.State.{Slot, State}
+use Rattle.pages.specs.Form.{Form, writesWidth, heapNames, slotFront, wideWrites, narrowWrites, slotNames, names, freeName, quarantineName, sealedName}
 
 -- WRITING
 
@@ -18,21 +20,6 @@ slotLine s =
 unfoldable pub valueLine : ℕ → List ℕ
 valueLine n = line (decimal n ∷ [])
 
-unfoldable pub heapNames : List ℕ
-heapNames = ascii "tag,since_gc,reclaim_at,live_bytes,slots,free,quarantine,sealed\n"
-
-unfoldable pub slotNames : List ℕ
-slotNames = ascii "generation,kind,type,start,writes,data\n"
-
-unfoldable pub freeName : List ℕ
-freeName = ascii "free\n"
-
-unfoldable pub quarantineName : List ℕ
-quarantineName = ascii "quarantine\n"
-
-unfoldable pub sealedName : List ℕ
-sealedName = ascii "sealed\n"
-
 unfoldable pub numbersLine : (tag sinceGc reclaimAt liveBytes slots free quarantine sealed : ℕ) → List ℕ
 numbersLine t s r l n f q z =
     line (decimal t ∷ decimal s ∷ decimal r ∷ decimal l ∷ decimal n ∷ decimal f ∷ decimal q ∷ decimal z ∷ [])
@@ -41,25 +28,25 @@ unfoldable pub heapLine : State → List ℕ
 heapLine h =
     numbersLine (h .tag) (h .sinceGc) (h .reclaimAt) (h .liveBytes) (length (h .slots)) (length (h .free)) (length (h .quarantine)) (length (h .sealed))
 
-unfoldable pub pageText : State → List ℕ
-pageText h =
+unfoldable pub pageText : Form → State → List ℕ
+pageText f h =
     heapNames ++ heapLine h
-    ++ slotNames ++ flatMap slotLine (h .slots)
+    ++ slotNames f ++ flatMap slotLine (h .slots)
     ++ freeName ++ flatMap valueLine (h .free)
     ++ quarantineName ++ flatMap valueLine (h .quarantine)
     ++ sealedName ++ flatMap valueLine (h .sealed)
 
--- Numbers within their widths: tag and kind 8 bits; generation, type, writes, counts and slot indices 32; the rest 64; data are bytes
+-- Numbers within their widths: tag and kind 8 bits; generation, type, counts and slot indices 32; writes by the form; the rest 64; data are bytes
 
-pub record SlotWithin (s : Slot) : Type 0 where
+pub record SlotWithin (wide : Bool) (s : Slot) : Type 0 where
   pub generation : s .generation < 2 ^ 32
   pub kind : s .kind < 2 ^ 8
   pub type : s .type < 2 ^ 32
   pub start : s .start < 2 ^ 64
-  pub writes : s .writes < 2 ^ 32
+  pub writes : s .writes < 2 ^ writesWidth wide
   pub bytes : Bytes (s .bytes)
 
-pub record Within (h : State) : Type 0 where
+pub record Within (f : Form) (h : State) : Type 0 where
   pub tag : h .tag < 2 ^ 8
   pub sinceGc : h .sinceGc < 2 ^ 64
   pub reclaimAt : h .reclaimAt < 2 ^ 64
@@ -68,7 +55,7 @@ pub record Within (h : State) : Type 0 where
   pub free-count : length (h .free) < 2 ^ 32
   pub quarantine-count : length (h .quarantine) < 2 ^ 32
   pub sealed-count : length (h .sealed) < 2 ^ 32
-  pub slots : All SlotWithin (h .slots)
+  pub slots : All (SlotWithin (f .wide)) (h .slots)
   pub free : All (λ i. i < 2 ^ 32) (h .free)
   pub quarantine : All (λ i. i < 2 ^ 32) (h .quarantine)
   pub sealed : All (λ x. x < 2 ^ 64) (h .sealed)
@@ -78,7 +65,7 @@ pub record Unsaved (h : State) : Type 0 where
   pub epoch : h .epoch ≡ 0
   pub log : h .log ≡ replicate 16 0
 
--- READING: the page's format, field after field
+-- READING: one format for all forms, field after field
 
 abbrev pub Fields : Type 0
 Fields = ℕ × (ℕ × (ℕ × (ℕ × (ℕ × List ℕ))))
@@ -89,10 +76,10 @@ slotOf f = record { generation = f .0; kind = f .1 .0; type = f .1 .1 .0; start 
 abbrev pub fieldsOf : Slot → Fields
 fieldsOf s = (s .generation, (s .kind, (s .type, (s .start, (s .writes, s .bytes)))))
 
-unfoldable pub slotFormat : Format Slot
-slotFormat =
+unfoldable pub slotFormat : (wide : Bool) → Format Slot
+slotFormat w =
     mapped slotOf fieldsOf
-    (pair (number 32 comma) λ _. pair (number 8 comma) λ _. pair (number 32 comma) λ _. pair (number 64 comma) λ _. pair (number 32 comma) λ _. bytesLine)
+    (pair (number 32 comma) λ _. pair (number 8 comma) λ _. pair (number 32 comma) λ _. pair (number 64 comma) λ _. pair (number (writesWidth w) comma) λ _. bytesLine)
 
 -- the numbers of line 2: tag, since_gc, reclaim_at, live_bytes, then the counts
 abbrev pub Head : Type 0
@@ -107,36 +94,47 @@ headFormat =
 abbrev pub Body : Type 0
 Body = List Slot × (List ℕ × (List ℕ × List ℕ))
 
-unfoldable pub bodyFormat : Head → Format Body
-bodyFormat d =
-    afterLiteral slotNames (pair (times (d .1 .1 .1 .1 .0) slotFormat)
+unfoldable pub bodyFormat : (wide : Bool) → Head → Format Body
+bodyFormat w d =
+    pair (times (d .1 .1 .1 .1 .0) (slotFormat w))
     λ _. afterLiteral freeName (pair (times (d .1 .1 .1 .1 .1 .0) (number 32 newline))
     λ _. afterLiteral quarantineName (pair (times (d .1 .1 .1 .1 .1 .1 .0) (number 32 newline))
-    λ _. afterLiteral sealedName (times (d .1 .1 .1 .1 .1 .1 .1) (number 64 newline)))))
+    λ _. afterLiteral sealedName (times (d .1 .1 .1 .1 .1 .1 .1) (number 64 newline))))
 
-unfoldable pub pageFormat : Format (Head × Body)
-pageFormat = afterLiteral heapNames (pair headFormat bodyFormat)
+-- line 2, the width of writes, and what follows: forms are told apart as the text goes on
+abbrev pub Parts : Type 0
+Parts = Head × (Bool × Body)
 
-abbrev pub stateOf : Head × Body → State
-stateOf p =
+unfoldable pub pageFormat : Format Parts
+pageFormat = afterLiteral heapNames (pair headFormat λ d. pair (names slotFront wideWrites narrowWrites) λ w. bodyFormat w d)
+
+abbrev pub stateOf : Head → Body → State
+stateOf d b =
     record {
-      tag = p .0 .0;
-      sinceGc = p .0 .1 .0;
-      reclaimAt = p .0 .1 .1 .0;
-      liveBytes = p .0 .1 .1 .1 .0;
+      tag = d .0;
+      sinceGc = d .1 .0;
+      reclaimAt = d .1 .1 .0;
+      liveBytes = d .1 .1 .1 .0;
       epoch = 0;
       log = replicate 16 0;
-      slots = p .1 .0;
-      free = p .1 .1 .0;
-      quarantine = p .1 .1 .1 .0;
-      sealed = p .1 .1 .1 .1;
+      slots = b .0;
+      free = b .1 .0;
+      quarantine = b .1 .1 .0;
+      sealed = b .1 .1 .1;
     }
 
-abbrev pub saved : State → Head × Body
-saved h = (
-  (h .tag, (h .sinceGc, (h .reclaimAt, (h .liveBytes, (length (h .slots), (length (h .free), (length (h .quarantine), length (h .sealed)))))))),
-  (h .slots, (h .free, (h .quarantine, h .sealed))),
-)
+abbrev pub readOf : Parts → Form × State
+readOf p = (record { wide = p .1 .0 }, stateOf (p .0) (p .1 .1))
+
+abbrev pub headOf : State → Head
+headOf h =
+    (h .tag, (h .sinceGc, (h .reclaimAt, (h .liveBytes, (length (h .slots), (length (h .free), (length (h .quarantine), length (h .sealed))))))))
+
+abbrev pub bodyOf : State → Body
+bodyOf h = (h .slots, (h .free, (h .quarantine, h .sealed)))
+
+abbrev pub saved : Form → State → Parts
+saved f h = (headOf h, (f .wide, bodyOf h))
 
 abbrev pub whole : {A : Type 0} → A × List ℕ → Option A
 whole {A} r = go (r .1)
@@ -145,6 +143,6 @@ whole {A} r = go (r .1)
     go [] = some (r .0)
     go (b ∷ t) = none
 
--- the heap whose page a text is, if it is one's
-unfoldable pub readPage : List ℕ → Option State
-readPage t = pageFormat .read t >>= λ r. whole r >>= λ p. some (stateOf p)
+-- the form and the heap whose page a text is, if it is one's
+unfoldable pub readPage : List ℕ → Option (Form × State)
+readPage t = pageFormat .read t >>= λ r. whole r >>= λ p. some (readOf p)

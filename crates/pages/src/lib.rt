@@ -1,4 +1,4 @@
-// The page: a heap as text.
+// The page: a heap as text, in the form that is written.
 use heap::Heap;
 use refusal::Refusal;
 use refusal::Reply;
@@ -8,6 +8,7 @@ ghost use Prim.Native.Nat.{ℕ, _+_, _-_, _*_, _/_, _≤_, _<_};
 ghost use lib.ListN.{length, take, drop};
 ghost use Rattle.text.specs.Text.{decimal, hex};
 ghost use Rattle.text.specs.Put.{Puts};
+ghost use Rattle.pages.specs.Form.{written};
 ghost use Rattle.pages.specs.Page.{valueLine, slotLine, numbersLine, pageText};
 ghost use Rattle.pages.specs.Columns.{slot, slotsIn, Ready};
 ghost use Rattle.heap.specs.Lent.{lent, view};
@@ -251,7 +252,7 @@ fn put_handles_after(out: &mut [u8], at: usize, name: &[u8], list: &[u64], count
 fn page_len(heap: Heap, narrow: &[u32], wide: &[u64], pool: &[u8]) -> usize
     requires { ⌜ Ready (lent heap (now narrow) (now wide) (now pool)) ⌝ }
     requires { ⌜ 4 * (length (now narrow) / 6) ≤ length (now wide) ⌝ }
-    ensures { λ r. ⌜ r ≡ length (pageText (view (lent heap (now (narrow .entry)) (now (wide .entry)) (now (pool .entry))))) ⌝ }
+    ensures { λ r. ⌜ r ≡ length (pageText written (view (lent heap (now (narrow .entry)) (now (wide .entry)) (now (pool .entry))))) ⌝ }
 {
     let s = narrow.len() / 6;
     let three = 3 * s;
@@ -262,13 +263,13 @@ fn page_len(heap: Heap, narrow: &[u32], wide: &[u64], pool: &[u8]) -> usize
     let c = indices_len(&narrow[three..four], heap.free);
     let d = indices_len(&narrow[four..five], heap.quarantine);
     let e = handles_len(&wide[three..four], heap.sealed);
-    126 + a + b + c + d + e
+    128 + a + b + c + d + e
 }
 
 // Answers how many bytes a heap's page has, and writes none.
 pub fn measure(heap: Heap, narrow: &[u32], wide: &[u64], pool: &[u8]) -> Reply
     requires { ⌜ wellFormed (lent heap (now narrow) (now wide) (now pool)) ≡ true ⌝ }
-    ensures { λ r. ⌜ told r ≡ answered here nothing (ok (length (pageText (view (lent heap (now (narrow .entry)) (now (wide .entry)) (now (pool .entry))))))) ⌝ }
+    ensures { λ r. ⌜ told r ≡ answered here nothing (ok (length (pageText written (view (lent heap (now (narrow .entry)) (now (wide .entry)) (now (pool .entry))))))) ⌝ }
 {
     let n = page_len(heap, narrow, wide, pool);
     Reply::Is(n as u64, 0)
@@ -277,7 +278,7 @@ pub fn measure(heap: Heap, narrow: &[u32], wide: &[u64], pool: &[u8]) -> Reply
 // Writes a heap's page to `out`, and answers its length; an output that is too short stays as it was.
 pub fn write(heap: Heap, narrow: &[u32], wide: &[u64], pool: &[u8], out: &mut [u8]) -> Reply
     requires { ⌜ wellFormed (lent heap (now narrow) (now wide) (now pool)) ≡ true ⌝ }
-    ensures { λ r. ⌜ PageWritten (now (out .entry)) (now (out .exit)) (pageText (view (lent heap (now (narrow .entry)) (now (wide .entry)) (now (pool .entry))))) r ⌝ }
+    ensures { λ r. ⌜ PageWritten (now (out .entry)) (now (out .exit)) (pageText written (view (lent heap (now (narrow .entry)) (now (wide .entry)) (now (pool .entry))))) r ⌝ }
 {
     let n = page_len(heap, narrow, wide, pool);
     if out.len() < n {
@@ -289,7 +290,7 @@ pub fn write(heap: Heap, narrow: &[u32], wide: &[u64], pool: &[u8], out: &mut [u
         b"tag,since_gc,reclaim_at,live_bytes,slots,free,quarantine,sealed\n",
     );
     let b = put_head(out, a, heap);
-    let c = text::put_literal(out, b, b"generation,kind,type,start,writes,data\n");
+    let c = text::put_literal(out, b, b"generation,kind,type,start,writes64,data\n");
     let d = put_slots(heap, narrow, wide, pool, out, c);
     let s = narrow.len() / 6;
     let three = 3 * s;

@@ -45,7 +45,10 @@ module _ (h : State) (x : ℕ) where
       let there : Bool = live (slotAt h (indexOf x)) && eqb (slotAt h (indexOf x) .generation) (generationOf x) in
       let found : Result ℕ = if there then ok (indexOf x) else refused 4 in
       let other : Bool = not (eqb (tagOf x) (h .tag)) in
-      or-else (eqb x 0) (refused 2) (if other then refused 3 else found) (omega arith) (or-else other (refused 3) found (omega arith) (or-else there (ok (indexOf x)) (refused 4) tt (omega arith)))
+      let beyond : Bool = leb (length (h .slots)) (indexOf x) in
+      let inside : Result ℕ = if beyond then refused 19 else found in
+      or-else (eqb x 0) (refused 2) (if other then refused 3 else inside) (omega arith)
+      (or-else other (refused 3) inside (omega arith) (or-else beyond (refused 19) found (omega arith) (or-else there (ok (indexOf x)) (refused 4) tt (omega arith))))
 
 on-slot : (h : State) (r : Result ℕ) (f : ℕ → State) → Numbered r → Numbered (onSlot {A = Unit} h r (λ i. done tt (f i)) .answer)
 on-slot h (ok i) f n = tt

@@ -15,11 +15,13 @@ use native.Mathlib.Nat.{zero-add}
 use borrow.Author.Tests.{le-leb, lt-leb, not-true, not-false, eq-eqb, ne-eqb, leb-true, leb-false, eqb-true}
 use Rattle.word.proofs.BitLaws.{or-none}
 use Rattle.text.specs.Text.{_>>=_, give, decimal, hex, newline, Bytes, digitOf, stops, ends, scan, capped, after, readDecimal, readLiteral, hexDigitOf, byteOf, readHex, readField}
-use Rattle.text.specs.Format.{number}
+use Rattle.text.specs.Format.{Format, Right, either, number}
 use Rattle.text.specs.declared.Decimal.{Decimal}
 use Rattle.text.specs.declared.Hex.{Hex}
 use Rattle.text.specs.declared.Literal.{Literal}
-use Rattle.text.specs.Answer.{decimalAnswer, literalAnswer, hexAnswer, hexMore, valueOr16, HexDigit, HexDigits, HexRun}
+use Rattle.text.specs.declared.Either.{Either}
+use Rattle.text.specs.declared.Either.the-variants.{One, Neither}
+use Rattle.text.specs.Answer.{decimalAnswer, literalAnswer, eitherAnswer, hexAnswer, hexMore, valueOr16, HexDigit, HexDigits, HexRun}
 use Rattle.text.specs.declared.Literal.the-variants.{Past, Missing}
 use Rattle.text.specs.declared.Hex.the-variants.{Count, NoHex}
 use Rattle.text.specs.declared.Decimal.the-variants.{Number, NoNumber}
@@ -395,3 +397,41 @@ literal-lost cs s at {r} e f = go (readLiteral cs (drop at s)) refl e
     go : (o : Option (List ℕ)) → readLiteral cs (drop at s) ≡ o → r ≡ literalAnswer (length s) o → readLiteral cs (drop at s) ≡ none
     go none q g = q
     go (some x) q g = absurd (let z : _≡_ {A = ℕ} 0 1 = cc in omega arith)
+
+-- one of two literals, as each was found or not
+module _ (c d s : List ℕ) (at : ℕ) {r : Literal} (first : r ≡ literalAnswer (length s) (readLiteral c (drop at s))) where
+  pub either-yes : (k : ℕ) → r ≡ Past k → One true k ≡ eitherAnswer (length s) (either c d .read (drop at s))
+  unfolding either
+  either-yes k f = let p = literal-found c s at k first f in rw (p .0) (ap (One true) (let v : k ≡ length s - length (drop k s) = omega (arith, length-drop k s, p .1) in v))
+
+  module _ (lost : r ≡ Missing) {q : Literal} (second : q ≡ literalAnswer (length s) (readLiteral d (drop at s))) where
+    pub either-no : (k : ℕ) → q ≡ Past k → One false k ≡ eitherAnswer (length s) (either c d .read (drop at s))
+    unfolding either
+    either-no k f =
+        let p = literal-found d s at k second f in
+        rw (literal-lost c s at first lost, p .0) (ap (One false) (let v : k ≡ length s - length (drop k s) = omega (arith, length-drop k s, p .1) in v))
+
+    pub either-none : q ≡ Missing → Neither ≡ eitherAnswer (length s) (either c d .read (drop at s))
+    unfolding either
+    either-none f = rw (literal-lost c s at first lost, literal-lost d s at second f)
+
+-- one of two ways that a right format has, as the code has found it
+pub one-found : {f : Format Bool} {good : Bool → Type 0} → Right f good → (s : List ℕ) (at : ℕ) {r : Either} (b : Bool) (k : ℕ) →
+    r ≡ eitherAnswer (length s) (f .read (drop at s)) → r ≡ One b k → (f .read (drop at s) ≡ give b (drop k s)) × (k ≤ length s)
+one-found {f} right s at {r} b k e g = go (f .read (drop at s)) refl e
+  where
+    go : (o : Option (Bool × List ℕ)) → f .read (drop at s) ≡ o → r ≡ eitherAnswer (length s) o → (f .read (drop at s) ≡ give b (drop k s)) × (k ≤ length s)
+    go none q h = absurd (let z : _≡_ {A = ℕ} 0 1 = cc in omega arith)
+    go (some x) q h =
+        let v : One (x .0) (length s - length (x .1)) ≡ One b k = sym h ∙ g in
+        let v0 : x .0 ≡ b = cc in
+        let v1 : length s - length (x .1) ≡ k = cc in
+        let u : x .1 ≡ drop k s = suffix (f .print (x .0)) (x .1) s at (right .back (drop at s) (x .0) (x .1) q .1) ∙ ap (λ (m : ℕ). drop m s) v1 in
+        (q ∙ (λ j. give (v0 j) (u j)), omega arith)
+
+pub one-lost : (f : Format Bool) (s : List ℕ) (at : ℕ) {r : Either} → r ≡ eitherAnswer (length s) (f .read (drop at s)) → r ≡ Neither → f .read (drop at s) ≡ none
+one-lost f s at {r} e g = go (f .read (drop at s)) refl e
+  where
+    go : (o : Option (Bool × List ℕ)) → f .read (drop at s) ≡ o → r ≡ eitherAnswer (length s) o → f .read (drop at s) ≡ none
+    go none q h = q
+    go (some x) q h = absurd (let z : _≡_ {A = ℕ} 0 1 = cc in omega arith)

@@ -14,7 +14,7 @@ use native.Mathlib.Omega.{arith}
 use Rattle.text.specs.Text.{_>>=_, give, Bytes, newline, digits, decimal, hexDigit, hex, digitOf, stops, ends, scan, capped, after, readDecimal, hexDigitOf, byteOf, readHex, readLiteral, readField}
 use Rattle.word.specs.Choice.{if_then_else_}
 use Rattle.word.proofs.Bools.{and-both}
-use Rattle.text.specs.Format.{Format, Right, number, bytesLine, afterLiteral, pair, times, mapped, readAll, All}
+use Rattle.text.specs.Format.{Format, Right, number, bytesLine, afterLiteral, orElse, either, pair, times, mapped, readAll, All}
 
 -- Options
 
@@ -399,6 +399,32 @@ after-literal-right cs {f} r =
           let b = r .back (p .0) a rest (p .2) in
           (b .0, append-assoc cs (f .print a) rest ∙ rw (b .1) (literal-back cs t (p .0) (p .1)));
     }
+
+-- one literal never begins where the other stands
+abbrev pub Apart : (first second : List ℕ) → Type 0
+Apart first second = (t : List ℕ) → readLiteral first (second ++ t) ≡ none
+
+-- either is good
+abbrev pub Any : {A : Type 0} → A → Type 0
+Any a = Unit
+
+either-join : (c d t : List ℕ) (b : Bool) (rest : List ℕ) (o : Option (List ℕ)) → readLiteral c t ≡ o →
+    orElse (o >>= λ u. give true u) (readLiteral d t >>= λ u. give false u) ≡ give b rest → (if b then c else d) ++ rest ≡ t
+either-join c d t b rest (some u) f e =
+    let v : _≡_ {A = Bool × List ℕ} (true, u) (b, rest) = some-inj e in
+    rw (← ap (λ (x : Bool × List ℕ). x .0) v, ← ap (λ (x : Bool × List ℕ). x .1) v) (literal-back c t u f)
+either-join c d t b rest none f e =
+    let p : (u : List ℕ) × (readLiteral d t ≡ some u) × (give false u ≡ give b rest) = bind-some (readLiteral d t) (λ u. give false u) (b, rest) e in
+    let v : _≡_ {A = Bool × List ℕ} (false, p .0) (b, rest) = some-inj (p .2) in
+    rw (← ap (λ (x : Bool × List ℕ). x .0) v, ← ap (λ (x : Bool × List ℕ). x .1) v) (literal-back d t (p .0) (p .1))
+
+pub either-right : (first second : List ℕ) → Apart first second → Right (either first second) Any
+unfolding either
+either-right c d h = record { forth = λ b rest g. there b rest; back = λ t b rest e. (tt, either-join c d t b rest (readLiteral c t) refl e) }
+  where
+    there : (b : Bool) (rest : List ℕ) → either c d .read ((if b then c else d) ++ rest) ≡ give b rest
+    there true rest = rw (literal-forth c rest)
+    there false rest = rw (h rest, literal-forth d rest)
 
 pair-join : {A B : Type 0} (f : Format A) (g : A → Format B) (good : A → Type 0) (fine : A → B → Type 0) (t : List ℕ) (p : A × B) (rest : List ℕ)
     (a : A) (b : B) (m r : List ℕ) →

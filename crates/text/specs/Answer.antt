@@ -1,6 +1,7 @@
 -- What the code answers for what a reader gives: where the rest of the text begins, in a text of length `len`.
 use Prim.Native.Nat.{ℕ, _+_, _-_, _*_, _≤_, _<_}
 use mathlib.Core.List.{List, []}
+use mathlib.Core.Bool.{Bool}
 use mathlib.Core.Option.{Option, none, some}
 use mathlib.Core.Path.{_≡_}
 use lib.ListN.{length, getD, drop}
@@ -9,6 +10,8 @@ use Rattle.text.specs.declared.Decimal.{Decimal}
 use Rattle.text.specs.declared.Decimal.the-variants.{Number, NoNumber}
 use Rattle.text.specs.declared.Literal.{Literal}
 use Rattle.text.specs.declared.Literal.the-variants.{Past, Missing}
+use Rattle.text.specs.declared.Either.{Either}
+use Rattle.text.specs.declared.Either.the-variants.{One, Neither}
 use Rattle.text.specs.declared.Hex.{Hex}
 use Rattle.text.specs.declared.Hex.the-variants.{Count, NoHex}
 
@@ -19,6 +22,10 @@ decimalAnswer len (some r) = Number (r .0) (len - length (r .1))
 abbrev pub literalAnswer : (len : ℕ) → Option (List ℕ) → Literal
 literalAnswer len none = Missing
 literalAnswer len (some rest) = Past (len - length rest)
+
+abbrev pub eitherAnswer : (len : ℕ) → Option (Bool × List ℕ) → Either
+eitherAnswer len none = Neither
+eitherAnswer len (some r) = One (r .0) (len - length (r .1))
 
 -- with n bytes read before
 abbrev pub hexMore : (len n : ℕ) → Option (List ℕ × List ℕ) → Hex

@@ -2,6 +2,9 @@
 use Prim.Native.Nat.{ℕ, zero, suc, _-_, _^_}
 use mathlib.Core.List.{List, [], _∷_, _++_, flatMap}
 use mathlib.Core.Path.{_≡_}
+use mathlib.Core.Bool.{Bool, true, false}
+use mathlib.Core.Option.{Option, none, some}
+use Rattle.word.specs.Choice.{if_then_else_}
 use Rattle.text.specs.Text.{Reader, give, _>>=_, newline, decimal, hex, readField, readHex, readLiteral}
 
 pub record Format (A : Type 0) : Type 0 where
@@ -30,6 +33,19 @@ bytesLine = record { print = λ bs. hex bs ++ (newline ∷ []); read = readHex }
 unfoldable pub afterLiteral : {A : Type 0} → List ℕ → Format A → Format A
 afterLiteral cs f =
     record { print = λ a. cs ++ f .print a; read = λ t. readLiteral cs t >>= λ u. f .read u }
+
+-- what was read, or else what another reader gives
+abbrev pub orElse : {A : Type 0} → Option A → Option A → Option A
+orElse none o = o
+orElse (some a) o = some a
+
+-- one of two literals: which one it is
+unfoldable pub either : (first second : List ℕ) → Format Bool
+either first second =
+    record {
+      print = λ b. if b then first else second;
+      read = λ t. orElse (readLiteral first t >>= λ u. give true u) (readLiteral second t >>= λ u. give false u);
+    }
 
 -- one value, then another whose format may go by the first
 unfoldable pub pair : {A B : Type 0} → Format A → (A → Format B) → Format (A × B)

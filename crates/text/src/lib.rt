@@ -4,7 +4,8 @@ ghost use Prim.Native.Nat.{ℕ, _+_, _-_, _/_, _≤_, _<_};
 ghost use lib.ListN.{length, take, drop};
 ghost use mathlib.Core.Bool.{not, true};
 ghost use Rattle.text.specs.Text.{decimal, hex, hexDigit, ends, scan, capped, readDecimal, readLiteral, hexDigitOf, readHex, readField};
-ghost use Rattle.text.specs.Answer.{decimalAnswer, literalAnswer, hexAnswer, hexMore, valueOr16};
+ghost use Rattle.text.specs.Answer.{decimalAnswer, literalAnswer, eitherAnswer, hexAnswer, hexMore, valueOr16};
+ghost use Rattle.text.specs.Format.{either};
 ghost use Rattle.text.specs.Put.{Puts};
 ghost use Rattle.text.specs.Answer.{hexAt, HexParsed, HexDigit, HexDigits, HexRun};
 
@@ -178,6 +179,26 @@ pub fn expect(s: &[u8], at: usize, literal: &[u8]) -> Literal
         }
     }
     Literal::Past(at + i)
+}
+
+// Which of two literals stands in a text, true for the first, and where it ends; or that neither does.
+pub enum Either {
+    One(bool, usize),
+    Neither,
+}
+
+// Is one of two literals what stands in a text from `at` on? The first is tried first.
+pub fn expect_either(s: &[u8], at: usize, first: &[u8], second: &[u8]) -> Either
+    requires { ⌜ at ≤ length (now s) ⌝ }
+    ensures { λ r. ⌜ r ≡ eitherAnswer (length (now (s .entry))) (either (now (first .entry)) (now (second .entry)) .read (drop at (now (s .entry)))) ⌝ }
+{
+    if let Literal::Past(a) = expect(s, at, first) {
+        return Either::One(true, a);
+    }
+    let Literal::Past(b) = expect(s, at, second) else {
+        return Either::Neither;
+    };
+    Either::One(false, b)
 }
 
 // How many bytes a text spells in hexadecimal up to the line's end, and what comes after that; or that it does not.

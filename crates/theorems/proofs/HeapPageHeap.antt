@@ -7,6 +7,7 @@ use Rattle.text.specs.Put.{putText}
 use Rattle.refusal.specs.declared.Answer.{Answer}
 use Rattle.heap.specs.Lent.{Lent, headerOf, stored, view, slotCount, poolSize}
 use Rattle.heap.proofs.Testing.{formed-tested}
+use Rattle.pages.specs.Form.{written}
 use Rattle.pages.specs.Page.{pageText}
 use Rattle.theorems.specs.PageCalls.{unlogged, unloggedLent, Reads}
 use Rattle.theorems.specs.HeapPageHeap.{Trip, WrittenRead, WrittenReadSame}
@@ -19,12 +20,12 @@ module _ (l m : Lent) (q : Answer) (m′ : Lent) (t : Trip l m q m′) where
   trip-wrote = wrote l (t .writes) (t .written)
 
   -- the text that was written is the heap's page
-  text-written : take (t .wrote .first) (t .out′) ≡ pageText (view l)
+  text-written : take (t .wrote .first) (t .out′) ≡ pageText written (view l)
   text-written =
       let w = trip-wrote in
-      ap (take (t .wrote .first)) (w .page) ∙ ap (λ (k : ℕ). take k (putText (t .out) 0 (pageText (view l)))) (w .size) ∙ taken-back (t .out) (pageText (view l))
+      ap (take (t .wrote .first)) (w .page) ∙ ap (λ (k : ℕ). take k (putText (t .out) 0 (pageText written (view l)))) (w .size) ∙ taken-back (t .out) (pageText written (view l))
 
-  reads-page : Reads m (pageText (view l)) (t .marks₂) (t .work₂) q m′ (t .marks₂′) (t .work₂′)
+  reads-page : Reads m (pageText written (view l)) (t .marks₂) (t .work₂) q m′ (t .marks₂′) (t .work₂′)
   reads-page = rw text-written at (t .reads)
 
 pub written-read : WrittenRead

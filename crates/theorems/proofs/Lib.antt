@@ -1,4 +1,4 @@
--- The theorems: HeapPageHeap, PageHeapPage, PageBound, PageLength; the others are their lemmas.
+-- The theorems: HeapPageHeap, PageHeapPage, PageBound, PageLength, PageForms; the others are their lemmas.
 pub mod Widths
 pub mod PageReading
 pub mod PageWriting
@@ -6,7 +6,10 @@ pub mod HeapPageHeap
 pub mod PageHeapPage
 pub mod PageBound
 pub mod PageLength
+pub mod PageForms
 pub mod NoRoom
 pub mod StrideZero
+pub mod PlacesRise
 pub mod ProvedTable
 pub mod TestsPass
+pub mod CollectedTwice

@@ -35,12 +35,12 @@ use Rattle.trace.proofs.Emits.{many-end, many-one, turns-none, turns-one}
 
 -- ---- what a layout was made from
 
-from-laid : {R : Type 0} (l : Lay) (f : ℕ → ℕ → ℕ → ℕ → ℕ → Lay) (s a st q u : ℕ) → onLaid l f ≡ Laid s a st q u → ((s′ a′ st′ q′ u′ : ℕ) → l ≡ Laid s′ a′ st′ q′ u′ → f s′ a′ st′ q′ u′ ≡ Laid s a st q u → R) → R
+pub from-laid : {R : Type 0} (l : Lay) (f : ℕ → ℕ → ℕ → ℕ → ℕ → Lay) (s a st q u : ℕ) → onLaid l f ≡ Laid s a st q u → ((s′ a′ st′ q′ u′ : ℕ) → l ≡ Laid s′ a′ st′ q′ u′ → f s′ a′ st′ q′ u′ ≡ Laid s a st q u → R) → R
 from-laid (Laid s′ a′ st′ q′ u′) f s a st q u e k = k s′ a′ st′ q′ u′ refl e
 from-laid Malformed f s a st q u e k = let z : _≡_ {A = ℕ} 0 1 = cc in absurd (omega arith)
 from-laid TooLarge f s a st q u e k = let z : _≡_ {A = ℕ} 0 1 = cc in absurd (omega arith)
 
-from-dims : {R : Type 0} (x : Dims) (f : ℕ → Lay) (s a st q u : ℕ) → onDims x f ≡ Laid s a st q u → ((n : ℕ) → f n ≡ Laid s a st q u → R) → R
+pub from-dims : {R : Type 0} (x : Dims) (f : ℕ → Lay) (s a st q u : ℕ) → onDims x f ≡ Laid s a st q u → ((n : ℕ) → f n ≡ Laid s a st q u → R) → R
 from-dims (Count n) f s a st q u e k = k n e
 from-dims Bad f s a st q u e k = let z : _≡_ {A = ℕ} 0 1 = cc in absurd (omega arith)
 from-dims Large f s a st q u e k = let z : _≡_ {A = ℕ} 0 1 = cc in absurd (omega arith)
@@ -63,7 +63,7 @@ word-inv n k e = by (ltb n (2 ^ 64)) e
     by true q = cc
     by false q = let z : _≡_ {A = ℕ} 0 1 = cc in absurd (omega arith)
 
-up : (x a : ℕ) → x ≤ roundUp x a
+pub up : (x a : ℕ) → x ≤ roundUp x a
 up x a = by (ℕ-discrete (x % max a 1) 0)
   where
     by : Dec (x % max a 1 ≡ 0) → x ≤ roundUp x a
@@ -85,7 +85,7 @@ record-grows T next (field t c ∷ fs) d off al used s a st q u e =
     from-placed off a′ s′ o eo (λ p ep ez g h. omega (arith, record-grows T next fs d o (max al a′) (used + usedBy c u′) s a st q u e″))))
 
 -- what the layout of an array that is no logic array says
-laid-parts : (n s a m used z al st q u : ℕ) → arrayLaid 0 n s a m used ≡ Laid z al st q u → (n ≡ q) × (roundUp s a ≡ st) × (st * q ≡ z)
+pub laid-parts : (n s a m used z al st q u : ℕ) → arrayLaid 0 n s a m used ≡ Laid z al st q u → (n ≡ q) × (roundUp s a ≡ st) × (st * q ≡ z)
 unfolding arrayLaid
 laid-parts n s a m used z al st q u e =
     from-word (wordOf (roundUp s a)) _ z al st q u e (λ str es e′.
@@ -133,7 +133,7 @@ plain-one false = refl
 
 -- ---- a logic array holds no handles
 
-leaf-free : (ts : List Ty) (k n t : ℕ) → k ≤ n → (logicLeaf ts k t ≡ 0 → ⊥) → handlesAt ts n t ≡ false
+pub leaf-free : (ts : List Ty) (k n t : ℕ) → k ≤ n → (logicLeaf ts k t ≡ 0 → ⊥) → handlesAt ts n t ≡ false
 unfolding logicLeaf handlesAt leafBy handlesBy
 leaf-free ts zero n t h z = absurd (z refl)
 leaf-free ts (suc k) zero t h z = absurd (omega arith)
@@ -158,7 +158,7 @@ kept (Laid s′ a′ st′ q′ u′) l′ s a st q u k e = sym k ∙ e
 kept Malformed l′ s a st q u k e = let z : _≡_ {A = ℕ} 0 1 = cc in absurd (omega arith)
 kept TooLarge l′ s a st q u k e = let z : _≡_ {A = ℕ} 0 1 = cc in absurd (omega arith)
 
-more : (T : Table) (m n t : ℕ) (d : List ℕ) → m ≤ n → (s a st q u : ℕ) → layoutAt T m t d ≡ Laid s a st q u → layoutAt T n t d ≡ Laid s a st q u
+pub more : (T : Table) (m n t : ℕ) (d : List ℕ) → m ≤ n → (s a st q u : ℕ) → layoutAt T m t d ≡ Laid s a st q u → layoutAt T n t d ≡ Laid s a st q u
 more T m n t d h s a st q u e = kept (layoutAt T m t d) (layoutAt T n t d) s a st q u (levels T m n t d h) e
 
 more-under : (T : Table) (m n t c : ℕ) (d : List ℕ) → m ≤ n → (s a st q u : ℕ) → under T (layoutAt T m) t c d ≡ Laid s a st q u → under T (layoutAt T n) t c d ≡ Laid s a st q u

@@ -2,6 +2,7 @@
 use mathlib.Core.Path.{_≡_}
 use native.Mathlib.Omega.{arith}
 use Rattle.heap.specs.Lent.{view}
+use Rattle.pages.specs.Form.{written}
 use Rattle.pages.proofs.Bound.{page-length}
 use Rattle.theorems.specs.PageBound.{WrittenBound, BoundSuffices}
 use Rattle.theorems.proofs.Widths.{words-within}
@@ -10,8 +11,8 @@ use Rattle.theorems.proofs.PageWriting.{wrote, writes-page, sound-part}
 pub written-bound : WrittenBound
 written-bound l out marks work r out′ marks′ work′ b c z =
     let w = wrote l c z in
-    omega (arith, w .size, page-length (view l) (words-within l (w .formed) b) (sound-part l (w .formed)))
+    omega (arith, w .size, page-length written (view l) (words-within l (w .formed) b) (sound-part l (w .formed)))
 
 pub bound-suffices : BoundSuffices
 bound-suffices l out marks work r out′ marks′ work′ b f s h c =
-    writes-page l c f s (omega (arith, page-length (view l) (words-within l f b) (sound-part l f))) .0
+    writes-page l c f s (omega (arith, page-length written (view l) (words-within l f b) (sound-part l f))) .0

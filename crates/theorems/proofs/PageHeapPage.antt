@@ -13,23 +13,26 @@ use Rattle.heap.specs.State.{State}
 use Rattle.heap.specs.Lent.{Lent, stored, view, slotCount, poolSize}
 use Rattle.heap.specs.WellFormed.{wellFormed}
 use Rattle.heap.proofs.Storing.{view-stored}
+use Rattle.pages.specs.Form.{Form, written}
 use Rattle.pages.specs.Page.{pageText}
 use Rattle.pages.proofs.Laws as pages
+use Rattle.page_check.specs.Sections.{formIn}
+use Rattle.page_check.proofs.Assembly.{form-is}
 use Rattle.page_reader.specs.Reading.{readInto}
 use Rattle.page_reader.proofs.Loaded.{not-ok}
 use Rattle.door.specs.HeapCalls.{enough}
-use Rattle.theorems.specs.PageCalls.{done}
+use Rattle.theorems.specs.PageCalls.{Writes, Scratch, WroteText, done}
 use Rattle.theorems.specs.PageHeapPage.{TextRead, ReadFormed, ReadWritten}
 use Rattle.theorems.proofs.PageReading.{taken, room-formed, reads-enough, reads-few, answer-done}
 use Rattle.theorems.proofs.PageWriting.{writes-page, writes-none, put-start}
 
 module _ (text : List ℕ) (l′ : Lent) (t : TextRead text l′) where
-  -- a text that was read is the page of the heap that was left
-  record Kept : Type 0 where
-    formed : wellFormed l′ ≡ true
-    page : pageText (view l′) ≡ text
+  -- a text that was read is the page of the heap that was left, in the form that it has
+  pub record Kept : Type 0 where
+    pub formed : wellFormed l′ ≡ true
+    pub page : pageText (formIn text) (view l′) ≡ text
 
-  kept : Kept
+  pub kept : Kept
   kept = go (enough (t .marks) (t .work) (t .l)) refl
     where
       go : (b : Bool) → enough (t .marks) (t .work) (t .l) ≡ b → Kept
@@ -42,20 +45,25 @@ module _ (text : List ℕ) (l′ : Lent) (t : TextRead text l′) where
           let v : view l′ ≡ h = ap view lies ∙ view-stored (slotCount (t .l)) (poolSize (t .l)) h in
           record {
             formed = ap wellFormed lies ∙ room-formed h (t .l) (k .1 .sound) (k .1 .room);
-            page = ap pageText v ∙ pages.written-read text h (k .1 .page) .0;
+            page = (λ j. pageText (form-is text (k .1 .form) h (k .1 .page) j) (v j)) ∙ pages.written-read text (k .1 .form) h (k .1 .page) .0;
           }
 
 pub read-formed : ReadFormed
 read-formed text l′ t = kept text l′ t .formed
 
-pub read-written : ReadWritten
-read-written text l′ out marks work r out′ marks′ work′ t s d =
-    let f : wellFormed l′ ≡ true = kept text l′ t .formed in
-    let p : pageText (view l′) ≡ text = kept text l′ t .page in
-    let n : length (pageText (view l′)) ≡ length text = ap length p in
+-- what is written of a heap whose page is this text
+pub writes-text : (text : List ℕ) (l′ : Lent) (out marks work : List ℕ) (r : Answer) (out′ marks′ work′ : List ℕ) →
+    wellFormed l′ ≡ true → pageText written (view l′) ≡ text → Scratch l′ marks work → Writes l′ out marks work r out′ marks′ work′ → WroteText text out r out′
+writes-text text l′ out marks work r out′ marks′ work′ f p s d =
+    let n : length (pageText written (view l′)) ≡ length text = ap length p in
     record {
       answer = λ h. writes-page l′ d f s (omega arith) .0 ∙ ap done n;
       page = λ h. writes-page l′ d f s (omega arith) .1 ∙ ap (putText out 0) p ∙ put-start out text;
       short = λ h. writes-none l′ d f s (omega arith) .0;
       kept = λ h. writes-none l′ d f s (omega arith) .1;
     }
+
+pub read-written : ReadWritten
+read-written text l′ out marks work r out′ marks′ work′ t e s d =
+    let k = kept text l′ t in
+    writes-text text l′ out marks work r out′ marks′ work′ (k .formed) (ap (λ (f : Form). pageText f (view l′)) (sym e) ∙ k .page) s d

@@ -14,6 +14,7 @@ use Rattle.refusal.specs.declared.Refusal.{Refusal}
 use Rattle.refusal.specs.declared.Answer.{Answer}
 use Rattle.heap.specs.Lent.{Lent, view, slotCount}
 use Rattle.heap.specs.WellFormed.{wellFormed}
+use Rattle.pages.specs.Form.{written}
 use Rattle.pages.specs.Page.{pageText}
 use Rattle.door.specs.HeapCalls.{Asked, enough, admitted, heapTests}
 use Rattle.door.specs.declared.Entry.the-variants.{Ready, Not}
@@ -24,17 +25,17 @@ use Rattle.theorems.proofs.PageWriting.{no-scratch, not-formed, is-read
 
 module _ (l : Lent) {marks work : List ℕ} {r : Answer} {marks′ work′ : List ℕ} (c : Measures l marks work r marks′ work′) where
   length-not : {why : Refusal} → admitted (heapTests marks work l) ≡ Not why → r ≡ refusedBy (numberOf why)
-  length-not e = ap (λ (a : Asked). a .answer) (c .told ∙ asking-not here nothing (marks ∷ work ∷ []) (heapTests marks work l) l (λ h. ok (length (pageText h))) e)
+  length-not e = ap (λ (a : Asked). a .answer) (c .told ∙ asking-not here nothing (marks ∷ work ∷ []) (heapTests marks work l) l (λ h. ok (length (pageText written h))) e)
 
-  length-ready : admitted (heapTests marks work l) ≡ Ready → r ≡ done (length (pageText (view l)))
-  length-ready e = ap (λ (a : Asked). a .answer) (c .told ∙ asking-ready here nothing (marks ∷ work ∷ []) (heapTests marks work l) l (λ h. ok (length (pageText h))) e)
+  length-ready : admitted (heapTests marks work l) ≡ Ready → r ≡ done (length (pageText written (view l)))
+  length-ready e = ap (λ (a : Asked). a .answer) (c .told ∙ asking-ready here nothing (marks ∷ work ∷ []) (heapTests marks work l) l (λ h. ok (length (pageText written h))) e)
 
 pub length-told : LengthTold
 length-told l marks work r marks′ work′ f s c = length-ready l c (is-ready marks work l (is-enough marks work l (s .marks) (s .work)) f)
 
 module _ (l : Lent) (out : List ℕ) (n w : Answer) (out′ : List ℕ) (t : Both l out n w out′) where
   abbrev page : List ℕ
-  page = pageText (view l)
+  page = pageText written (view l)
 
   same-scratch : (a : Bool) → enough (t .marks) (t .work) l ≡ a → enough (t .marks₂) (t .work₂) l ≡ a
   unfolding enough
@@ -74,16 +75,16 @@ module _ (l : Lent) (out : List ℕ) (n w : Answer) (out′ : List ℕ) (t : Bot
 pub length-exact : LengthExact
 length-exact l out n w out′ t z = go (enough (t .marks) (t .work) l) refl (wellFormed l) refl
   where
-    go : (a : Bool) → enough (t .marks) (t .work) l ≡ a → (b : Bool) → wellFormed l ≡ b → TakesExactly (n .first) (pageText (view l)) out w out′
+    go : (a : Bool) → enough (t .marks) (t .work) l ≡ a → (b : Bool) → wellFormed l ≡ b → TakesExactly (n .first) (pageText written (view l)) out w out′
     go false ea b eb = absurd (not-zero 18 (length-not l (t .measures) (no-scratch (t .marks) (t .work) l ea)) (omega arith) z)
     go true ea false eb = absurd (not-zero 1 (length-not l (t .measures) (not-formed (t .marks) (t .work) l ea eb)) (omega arith) z)
     go true ea true eb =
         exact l out n w out′ t (is-ready (t .marks) (t .work) l ea eb) (is-ready (t .marks₂) (t .work₂) l (same-scratch l out n w out′ t true ea) eb)
 
 pub refused-alike : RefusedAlike
-refused-alike l out n w out′ t = go (enough (t .marks) (t .work) l) refl (wellFormed l) refl (leb (length (pageText (view l))) (length out)) refl
+refused-alike l out n w out′ t = go (enough (t .marks) (t .work) l) refl (wellFormed l) refl (leb (length (pageText written (view l))) (length out)) refl
   where
-    go : (a : Bool) → enough (t .marks) (t .work) l ≡ a → (b : Bool) → wellFormed l ≡ b → (d : Bool) → leb (length (pageText (view l))) (length out) ≡ d → Alike n w
+    go : (a : Bool) → enough (t .marks) (t .work) l ≡ a → (b : Bool) → wellFormed l ≡ b → (d : Bool) → leb (length (pageText written (view l))) (length out) ≡ d → Alike n w
     go false ea b eb d ed =
         told-18 l out n w out′ t (length-not l (t .measures) (no-scratch (t .marks) (t .work) l ea))
         (refused-by l (t .writes) (no-scratch (t .marks₂) (t .work₂) l (same-scratch l out n w out′ t false ea)))
@@ -94,11 +95,11 @@ refused-alike l out n w out′ t = go (enough (t .marks) (t .work) l) refl (well
         let a : n .number ≡ 0 = ap (λ (r : Answer). r .number) (length-ready l (t .measures) (is-ready (t .marks) (t .work) l ea eb)) in
         let b : w .number ≡ 7 =
         ap (λ (r : Answer). r .number)
-        (short-answer l (t .writes) (is-ready (t .marks₂) (t .work₂) l (same-scratch l out n w out′ t true ea) eb) (leb-false (length (pageText (view l))) (length out) ed)) in
+        (short-answer l (t .writes) (is-ready (t .marks₂) (t .work₂) l (same-scratch l out n w out′ t true ea) eb) (leb-false (length (pageText written (view l))) (length out) ed)) in
         told-else l out n w out′ t a (omega arith) (λ h. omega arith)
     go true ea true eb true ed =
         let a : n .number ≡ 0 = ap (λ (r : Answer). r .number) (length-ready l (t .measures) (is-ready (t .marks) (t .work) l ea eb)) in
         let b : w .number ≡ 0 =
         ap (λ (r : Answer). r .number)
-        (fits-answer l (t .writes) (is-ready (t .marks₂) (t .work₂) l (same-scratch l out n w out′ t true ea) eb) (leb-true (length (pageText (view l))) (length out) ed)) in
+        (fits-answer l (t .writes) (is-ready (t .marks₂) (t .work₂) l (same-scratch l out n w out′ t true ea) eb) (leb-true (length (pageText written (view l))) (length out) ed)) in
         told-else l out n w out′ t a (omega arith) (λ h. omega arith)

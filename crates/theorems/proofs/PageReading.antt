@@ -21,6 +21,7 @@ use Rattle.heap.proofs.Packing.{length-pad}
 use Rattle.heap.proofs.Seals.{seals-few}
 use Rattle.heap.proofs.Storing.{view-stored}
 use Rattle.heap.proofs.Testing.{stored-formed, formed-tested}
+use Rattle.pages.specs.Form.{Form}
 use Rattle.pages.specs.Page.{pageText, Within, readPage}
 use Rattle.pages.proofs.Laws.{read-written}
 use Rattle.page_check.specs.Sections.{verdict}
@@ -54,24 +55,25 @@ room-formed h l s r = stored-formed (slotCount l) (poolSize l) h (room-fits h l 
 
 -- ACCEPTING
 
-accepted : (S P : ℕ) (h : State) → sound h ≡ true → dataSize (h .slots) ≤ P → length (h .slots) ≤ S → verdict true S P (some h) ≡ ok h
+accepted : (S P : ℕ) (f : Form) (h : State) → sound h ≡ true → dataSize (h .slots) ≤ P → length (h .slots) ≤ S → verdict true S P (some (f, h)) ≡ ok h
 unfolding verdict
-accepted S P h s d n = rw (s, le-ltb P (dataSize (h .slots)) d, le-ltb S (length (h .slots)) n)
+accepted S P f h s d n = rw (s, le-ltb P (dataSize (h .slots)) d, le-ltb S (length (h .slots)) n)
 
--- a sound heap's page is read into lent memory with room
-pub read-in : (h : State) (l : Lent) → Within h → sound h ≡ true → Room h l → readInto l (pageText h) ≡ left l (ok (unlogged h))
+-- a sound heap's page, in any form, is read into lent memory with room
+pub read-in : (f : Form) (h : State) (l : Lent) → Within f h → sound h ≡ true → Room h l → readInto l (pageText f h) ≡ left l (ok (unlogged h))
 unfolding readInto
-read-in h l w s r =
+read-in f h l w s r =
     ap (left l)
-    (ap (λ (b : Bool). verdict b (slotCount l) (poolSize l) (readPage (pageText h))) (r .sizes)
-    ∙ ap (verdict true (slotCount l) (poolSize l)) (read-written h w)
-    ∙ accepted (slotCount l) (poolSize l) (unlogged h) (sound-unlogged h ∙ s) (r .bytes) (r .slots))
+    (ap (λ (b : Bool). verdict b (slotCount l) (poolSize l) (readPage (pageText f h))) (r .sizes)
+    ∙ ap (verdict true (slotCount l) (poolSize l)) (read-written f h w)
+    ∙ accepted (slotCount l) (poolSize l) f (unlogged h) (sound-unlogged h ∙ s) (r .bytes) (r .slots))
 
 -- ACCEPTED
 
 -- a text that was taken is the page of a sound heap that has room, and this heap lies in lent memory afterwards
 pub record Taken (l : Lent) (text : List ℕ) (h : State) : Type 0 where
-  pub page : readPage text ≡ some h
+  pub form : Form
+  pub page : readPage text ≡ some (form, h)
   pub sound : sound h ≡ true
   pub room : Room h l
   pub lies : readInto l text .lent ≡ stored (slotCount l) (poolSize l) h
@@ -86,19 +88,19 @@ unfolding readInto
 taken l text e =
     let a = answers l (verdict (inRange l) (slotCount l) (poolSize l) (readPage text)) e in
     let p = passed (inRange l) (slotCount l) (poolSize l) (readPage text) (a .0) (a .1) in
-    (a .0, record { page = p .page; sound = p .sound; room = record { sizes = p .sizes; slots = p .slots; bytes = p .room }; lies = ap (λ (v : Result State). left l v .lent) (a .1) })
+    (a .0, record { form = p .form; page = p .page; sound = p .sound; room = record { sizes = p .sizes; slots = p .slots; bytes = p .room }; lies = ap (λ (v : Result State). left l v .lent) (a .1) })
 
 -- the number 0 is success: every other answer of the reader is 17, 1, 6 or 5
-few-numbers : (t : Bool) (S P : ℕ) (o : Option State) (n : ℕ) → verdict t S P o ≡ refused n → 1 ≤ n
+few-numbers : (t : Bool) (S P : ℕ) (o : Option (Form × State)) (n : ℕ) → verdict t S P o ≡ refused n → 1 ≤ n
 unfolding verdict
 few-numbers t S P none n e = let q : 17 ≡ n = cc in omega arith
-few-numbers t S P (some h) n e = go (t && sound h) refl (ltb P (dataSize (h .slots))) refl (ltb S (length (h .slots))) refl e
+few-numbers t S P (some p) n e = go (t && sound (p .1)) refl (ltb P (dataSize (p .1 .slots))) refl (ltb S (length (p .1 .slots))) refl e
   where
-    go : (a : Bool) → (t && sound h) ≡ a → (b : Bool) → ltb P (dataSize (h .slots)) ≡ b → (d : Bool) → ltb S (length (h .slots)) ≡ d → verdict t S P (some h) ≡ refused n → 1 ≤ n
+    go : (a : Bool) → (t && sound (p .1)) ≡ a → (b : Bool) → ltb P (dataSize (p .1 .slots)) ≡ b → (d : Bool) → ltb S (length (p .1 .slots)) ≡ d → verdict t S P (some p) ≡ refused n → 1 ≤ n
     go false ea b eb d ed u = let q : _≡_ {A = Result State} (refused 1) (refused n) = rw ea at u in let z : 1 ≡ n = cc in omega arith
     go true ea true eb d ed u = let q : _≡_ {A = Result State} (refused 6) (refused n) = rw (ea, eb) at u in let z : 6 ≡ n = cc in omega arith
     go true ea false eb true ed u = let q : _≡_ {A = Result State} (refused 5) (refused n) = rw (ea, eb, ed) at u in let z : 5 ≡ n = cc in omega arith
-    go true ea false eb false ed u = let q : _≡_ {A = Result State} (ok h) (refused n) = rw (ea, eb, ed) at u in absurd (not-ok n (sym q))
+    go true ea false eb false ed u = let q : _≡_ {A = Result State} (ok (p .1)) (refused n) = rw (ea, eb, ed) at u in absurd (not-ok n (sym q))
 
 pub answer-done : (l : Lent) (text : List ℕ) → answered nothing nothing (readInto l text .answer) .number ≡ 0 → readInto l text .answer ≡ ok tt
 unfolding readInto
@@ -120,12 +122,12 @@ module _ {l : Lent} {text marks work : List ℕ} {r : Answer} {l′ : Lent} {mar
   unfolding reading
   reads-few e = rw e at (ap (λ (o : Outcome). o .answer) (c .told))
 
--- a sound heap's page is taken in by any lent memory with room and scratch
-pub page-taken : {h : State} {m m′ : Lent} {marks work marks′ work′ : List ℕ} {r : Answer} → Within h → sound h ≡ true → Room h m → Scratch m marks work →
-    Reads m (pageText h) marks work r m′ marks′ work′ → TookIn h m r m′
-page-taken {h} {m} {m′} {marks} {work} {r = r} w s v q c =
+-- a sound heap's page, in any form, is taken in by any lent memory with room and scratch
+pub page-taken : {f : Form} {h : State} {m m′ : Lent} {marks work marks′ work′ : List ℕ} {r : Answer} → Within f h → sound h ≡ true → Room h m → Scratch m marks work →
+    Reads m (pageText f h) marks work r m′ marks′ work′ → TookIn h m r m′
+page-taken {f} {h} {m} {m′} {marks} {work} {r = r} w s v q c =
     let e = reads-enough c (is-enough marks work m (q .marks) (q .work)) in
-    let i = read-in h m w s v in
+    let i = read-in f h m w s v in
     let lies : m′ ≡ stored (slotCount m) (poolSize m) (unlogged h) = e .1 ∙ ap (λ (x : Left). x .lent) i in
     record {
       answer = e .0 ∙ ap (λ (x : Left). answered nothing nothing (x .answer)) i;

@@ -16,6 +16,7 @@ use Rattle.heap.proofs.Sound.{SlotSound}
 use Rattle.heap.proofs.Testing.{formed-tested}
 use Rattle.heap.specs.Lent.{Lent, slotIn, view}
 use Rattle.heap.specs.WellFormed.{wellFormed}
+use Rattle.pages.specs.Form.{written}
 use Rattle.pages.specs.Page.{SlotWithin, Within}
 use Rattle.pages.specs.Columns.{Ready}
 use Rattle.pages.proofs.Ready.{ready}
@@ -57,8 +58,8 @@ unfolding tabulate
 tabulated P zero f h = tt
 tabulated P (suc n) f h = (h 0 (omega arith), tabulated P n (λ i. f (suc i)) (λ i l. h (suc i) (omega arith)))
 
--- a sound slot's kind has 8 bits and its writes 32
-slot-within : (l : Lent) → Words l → (i : ℕ) → SlotSound (slotIn l i) → SlotWithin (slotIn l i)
+-- a sound slot's kind has 8 bits; its other numbers have those of the memory that they lie in
+slot-within : (l : Lent) → Words l → (i : ℕ) → SlotSound (slotIn l i) → SlotWithin true (slotIn l i)
 unfolding slotIn dataAt
 slot-within l w i s =
     record {
@@ -66,14 +67,14 @@ slot-within l w i s =
       kind = omega (arith, s .kinds);
       type = w .type i;
       start = w .start i;
-      writes = s .narrow;
+      writes = w .writes i;
       bytes = taken-bytes (getD (l .end) i 0 - startOf (l .end) i) (drop (startOf (l .end) i) (l .pool)) (dropped 8 (startOf (l .end) i) (l .pool) (w .pool));
     }
 
 few : (n most : ℕ) (xs : List ℕ) → n ≤ most → length (take n xs) ≤ most
 few n most xs h = omega (arith, length-take n xs)
 
-pub words-within : (l : Lent) → wellFormed l ≡ true → Words l → Within (view l)
+pub words-within : (l : Lent) → wellFormed l ≡ true → Words l → Within written (view l)
 unfolding view
 words-within l f w =
     let r : Ready l = ready f in
@@ -86,7 +87,7 @@ words-within l f w =
       free-count = omega (arith, few (l .header .free) 16777216 (l .free) (r .freeCount));
       quarantine-count = omega (arith, few (l .header .quarantine) 16777216 (l .quarantine) (r .quarantineCount));
       sealed-count = omega (arith, few (l .header .sealed) 16777216 (l .sealed) (r .sealedCount));
-      slots = tabulated SlotWithin (l .header .slots) (slotIn l)
+      slots = tabulated (SlotWithin true) (l .header .slots) (slotIn l)
           (λ i k. slot-within l w i (subst SlotSound (getD-tabulate (l .header .slots) (slotIn l) i noSlot k) (formed-tested l f .sound .each-slot i (omega (arith, length-tabulate (l .header .slots) (slotIn l))))));
       free = taken-below 32 (l .header .free) (l .free) (w .free);
       quarantine = taken-below 32 (l .header .quarantine) (l .quarantine) (w .quarantine);

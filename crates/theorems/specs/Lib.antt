@@ -5,7 +5,11 @@ pub mod HeapPageHeap
 pub mod PageHeapPage
 pub mod PageBound
 pub mod PageLength
+pub mod EarlierPage
+pub mod PageForms
 pub mod StrideZero
+pub mod PlacesRise
 pub mod TableLayouts
 pub mod ProvedTable
 pub mod TestsPass
+pub mod CollectedTwice

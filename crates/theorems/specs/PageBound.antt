@@ -8,6 +8,7 @@ use Rattle.refusal.specs.declared.Answer.{Answer}
 use Rattle.heap.specs.State.{State, dataSize}
 use Rattle.heap.specs.Lent.{Lent, view}
 use Rattle.heap.specs.WellFormed.{wellFormed}
+use Rattle.pages.specs.Form.{written}
 use Rattle.pages.specs.Page.{pageText}
 use Rattle.theorems.specs.Words.{Words}
 use Rattle.theorems.specs.PageCalls.{Writes, Scratch, done}
@@ -25,4 +26,4 @@ WrittenBound =
 abbrev pub BoundSuffices : Type 0
 BoundSuffices =
     (l : Lent) (out marks work : List ℕ) (r : Answer) (out′ marks′ work′ : List ℕ) →
-    Words l → wellFormed l ≡ true → Scratch l marks work → pageBound (view l) ≤ length out → Writes l out marks work r out′ marks′ work′ → r ≡ done (length (pageText (view l)))
+    Words l → wellFormed l ≡ true → Scratch l marks work → pageBound (view l) ≤ length out → Writes l out marks work r out′ marks′ work′ → r ≡ done (length (pageText written (view l)))

@@ -1,4 +1,4 @@
--- Page, heap, page: what `read_page` read, `write_page` writes again, byte for byte (01, "Page").
+-- Page, heap, page: what `read_page` read in the form that is written, `write_page` writes again, byte for byte (01, "Page"; request [6]).
 use Prim.Native.Nat.{ℕ}
 use mathlib.Core.Bool.{true}
 use mathlib.Core.List.{List}
@@ -6,6 +6,8 @@ use mathlib.Core.Path.{_≡_}
 use Rattle.refusal.specs.declared.Answer.{Answer}
 use Rattle.heap.specs.Lent.{Lent}
 use Rattle.heap.specs.WellFormed.{wellFormed}
+use Rattle.pages.specs.Form.{written}
+use Rattle.page_check.specs.Sections.{formIn}
 use Rattle.theorems.specs.PageCalls.{Writes, Reads, Scratch, WroteText}
 
 -- a text was read into lent memory, which l′ is afterwards
@@ -23,8 +25,8 @@ pub record TextRead (text : List ℕ) (l′ : Lent) : Type 0 where
 abbrev pub ReadFormed : Type 0
 ReadFormed = (text : List ℕ) (l′ : Lent) → TextRead text l′ → wellFormed l′ ≡ true
 
--- writing it gives the text back, and 7 for an output that is shorter
+-- writing it gives a text in the form that is written back, and 7 for an output that is shorter
 abbrev pub ReadWritten : Type 0
 ReadWritten =
     (text : List ℕ) (l′ : Lent) (out marks work : List ℕ) (r : Answer) (out′ marks′ work′ : List ℕ) →
-    TextRead text l′ → Scratch l′ marks work → Writes l′ out marks work r out′ marks′ work′ → WroteText text out r out′
+    TextRead text l′ → formIn text ≡ written → Scratch l′ marks work → Writes l′ out marks work r out′ marks′ work′ → WroteText text out r out′

@@ -8,6 +8,7 @@ use Rattle.refusal.specs.Told.{refusedBy}
 use Rattle.refusal.specs.declared.Answer.{Answer}
 use Rattle.heap.specs.Lent.{Lent, view}
 use Rattle.heap.specs.WellFormed.{wellFormed}
+use Rattle.pages.specs.Form.{written}
 use Rattle.pages.specs.Page.{pageText}
 use Rattle.door.specs.HeapCalls.{asked}
 use Rattle.page_door.specs.Page.{measuring}
@@ -45,13 +46,13 @@ pub record TakesExactly (n : ℕ) (page out : List ℕ) (w : Answer) (out′ : L
 abbrev pub LengthTold : Type 0
 LengthTold =
     (l : Lent) (marks work : List ℕ) (r : Answer) (marks′ work′ : List ℕ) →
-    wellFormed l ≡ true → Scratch l marks work → Measures l marks work r marks′ work′ → r ≡ done (length (pageText (view l)))
+    wellFormed l ≡ true → Scratch l marks work → Measures l marks work r marks′ work′ → r ≡ done (length (pageText written (view l)))
 
 -- the writer takes that many, no more and no fewer
 abbrev pub LengthExact : Type 0
 LengthExact =
     (l : Lent) (out : List ℕ) (n w : Answer) (out′ : List ℕ) →
-    Both l out n w out′ → n .number ≡ 0 → TakesExactly (n .first) (pageText (view l)) out w out′
+    Both l out n w out′ → n .number ≡ 0 → TakesExactly (n .first) (pageText written (view l)) out w out′
 
 -- 18 for one is 18 for the other, and so is 1
 pub record Alike (n w : Answer) : Type 0 where

@@ -38,6 +38,7 @@ oneSafepoint =
       map = [];
       memory = [];
       pins = [];
+      addresses = [];
     }
 
 abbrev pub TestsPass : Type 0

@@ -19,7 +19,7 @@ use Rattle.word.specs.Run.{run}
 use Rattle.handle.specs.Handle.{resolveBy, told as resolved}
 use Rattle.handle.specs.Columns.{liveIn}
 use Rattle.handle.specs.declared.Resolved.{Resolved}
-use Rattle.handle.specs.declared.Resolved.the-variants.{Null, WrongHeap, Stale, At}
+use Rattle.handle.specs.declared.Resolved.the-variants.{Null, WrongHeap, NeverIssued, Stale, At}
 use Rattle.handle.proofs.Resolved.{the-type as resolved-type}
 use Rattle.trace.specs.Places.{Places, onlyIf, both, many, turns, handleAt, wordsAt}
 use Rattle.trace.specs.Walk.{Stepped}
@@ -69,18 +69,19 @@ module _ (ms to : List ℕ) (n h : ℕ) (R : ℕ → Result ℕ) (k : Sink) wher
   unfolding emitted emittedBy
   list-full e l = rw (e, le-ltb n (length to) l) refl
 
-module _ (ms to : List ℕ) (n h tag slots c : ℕ) (narrow : List ℕ) (k : Sink) (e : k ≡ Work) (x : Resolved) (ex : resolved x ≡ resolveBy tag (liveIn slots (run c c narrow)) (λ i. getD (run c 0 narrow) i 0) h) where
+module _ (ms to : List ℕ) (n h tag slots c : ℕ) (narrow : List ℕ) (k : Sink) (e : k ≡ Work) (x : Resolved) (ex : resolved x ≡ resolveBy tag slots (liveIn slots (run c c narrow)) (λ i. getD (run c 0 narrow) i 0) h) where
   work-by : emitted (into k (resolveIn tag slots c narrow)) (rawOf ms to n) h ≡ queuedIf (rawOf ms to n) (resolved x)
   unfolding emitted emittedBy resolveIn
   work-by = rw (e, ← ex) refl
 
-  unresolved : (y : Resolved) → OneOf (0 ∷ 1 ∷ 2 ∷ []) (tagOf resolved-type y) → queuedIf (rawOf ms to n) (resolved y) ≡ rawOf ms to n
+  unresolved : (y : Resolved) → OneOf (0 ∷ 1 ∷ 2 ∷ 3 ∷ []) (tagOf resolved-type y) → queuedIf (rawOf ms to n) (resolved y) ≡ rawOf ms to n
   unresolved Null o = refl
   unresolved WrongHeap o = refl
+  unresolved NeverIssued o = refl
   unresolved Stale o = refl
-  unresolved (At i) o = absurd (miss (0 ∷ 1 ∷ 2 ∷ []) 3 tt o)
+  unresolved (At i) o = absurd (miss (0 ∷ 1 ∷ 2 ∷ 3 ∷ []) 4 tt o)
 
-  pub work-none : OneOf (0 ∷ 1 ∷ 2 ∷ []) (tagOf resolved-type x) → rawOf ms to n ≡ emitted (into k (resolveIn tag slots c narrow)) (rawOf ms to n) h
+  pub work-none : OneOf (0 ∷ 1 ∷ 2 ∷ 3 ∷ []) (tagOf resolved-type x) → rawOf ms to n ≡ emitted (into k (resolveIn tag slots c narrow)) (rawOf ms to n) h
   work-none o = sym (work-by ∙ unresolved x o)
 
   pub work-at : (i : ℕ) → x ≡ At i → (t : Raw) → t ≡ queued (rawOf ms to n) i → t ≡ emitted (into k (resolveIn tag slots c narrow)) (rawOf ms to n) h

@@ -34,7 +34,7 @@ into sink resolve = record { sink = sink; resolve = resolve }
 
 -- what a handle resolves to in the heap with this tag and so many of s slots in use, by its generations and kinds
 unfoldable pub resolveIn : (tag slots s : ℕ) → List ℕ → ℕ → Result ℕ
-resolveIn tag slots s narrow h = resolveBy tag (liveIn slots (run s s narrow)) (λ i. getD (run s 0 narrow) i 0) h
+resolveIn tag slots s narrow h = resolveBy tag slots (liveIn slots (run s s narrow)) (λ i. getD (run s 0 narrow) i 0) h
 
 -- both runs are there, and the slots in use lie in them
 pub record Runs (slots s : ℕ) (narrow : List ℕ) : Type 0 where

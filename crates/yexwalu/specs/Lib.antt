@@ -2,4 +2,5 @@
 pub mod Table
 pub mod Types
 pub mod Handles
+pub mod SlotHandles
 pub mod Live

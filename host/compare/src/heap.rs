@@ -104,7 +104,7 @@ impl Run {
             }
             _ => {
                 let yes = |b: bool| u8::from(b).to_string();
-                match self.random.below(5) {
+                match self.random.below(7) {
                     0 => {
                         // at the bound and next to it, or anywhere
                         let since = self.heap.header().since_gc;
@@ -116,6 +116,10 @@ impl Run {
                     3 => {
                         let tag = self.random.below(4) as u8;
                         (format!("isplain {tag}"), told(self.heap.is_plain(tag), yes))
+                    }
+                    4 | 5 => {
+                        let i = self.slot();
+                        (format!("handles {i}"), told(self.heap.slot_handles(&self.table, i), |h| list(&h)))
                     }
                     _ => {
                         let live = self.heap.live().unwrap();
@@ -157,7 +161,7 @@ fn random_calls_answer_as_the_rust() {
         }
         same(&mut oracle, &run.heap, &format!("seed {seed}"));
     }
-    let found = &["0", "2", "3", "4"];
+    let found = &["0", "19", "2", "3", "4"];
     oracle.saw(&[
         ("alloc", &["0", "5"]),
         ("take", found),
@@ -171,6 +175,7 @@ fn random_calls_answer_as_the_rust() {
         ("data", &["0", "9"]),
         ("kind", &["0", "9"]),
         ("stamp", &["0", "9"]),
+        ("handles", &["0", "13", "9"]),
         ("collect", &["0", "13"]),
         ("gcdue", &["0"]),
         ("reclaimdue", &["0"]),

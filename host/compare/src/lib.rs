@@ -59,11 +59,11 @@ impl Oracle {
         assert!(answer == "0" || answer.starts_with("0 "), "{line}: {answer}");
     }
 
-    /// The oracle's answer to a call is the one given. On 13 the Rust leaves what it had pushed, which is not compared.
+    /// The oracle's answer to a call is the one given. On 13 the Rust leaves what it had pushed, which is not compared. Never issued (19) is its stale (4).
     fn agrees(&mut self, line: &str, here: &str, place: &str) {
         let answer = self.answer(line);
         let there = if answer.starts_with("13 ") { "13" } else { &answer };
-        assert_eq!(there, here, "{place}: {line}");
+        assert_eq!(there, if here == "19" { "4" } else { here }, "{place}: {line}");
         let first = |s: &str| s.split(' ').next().unwrap().to_string();
         *self.told.entry((first(line), first(here))).or_default() += 1;
     }

@@ -2,7 +2,7 @@
 use denote.Ref.{now}
 use native.Mathlib.Omega.{arith}
 use Rattle.heap.specs.Lent.{Lent, lent}
-use Rattle.heap_edit.proofs.Columns.{Sizes, sizes, reads}
+use Rattle.heap_edit.proofs.Columns.{Sizes, sizes}
 use Rattle.heap_edit.proofs.Editing.{found, edit-unfound, edit-inside, edit-not, edit-can, edit-yes}
 use borrow.Author.Needs.{needs}
 use Rattle.heap_edit.proofs.edit.Statement.{statement}
@@ -57,7 +57,7 @@ changed-requires : tie.Need-changed-requires
 changed-requires c κs = search needs
 
 replace-requires : tie.Need-replace-requires
-replace-requires c κs = (edit-can (L (c .before .before .before .before .before .before .before .before .before .before .before .before .before .before .before .before .before .before)) (c .before .before .before .before .before .before .before .before .before .before .before .before .before .before .before .before .before .before .pre) (c .before .before .before .before .before .before .before .before .before .before .before .before .before .before .before .before .before .before .args .x) (now (c .before .before .before .before .before .before .before .before .before .before .before .before .before .before .before .before .before .before .args .bytes)) (c .before .before .before .before .before .before .before .before .before .before .before .before .before .before .before .before .before .before .args .start) (found (L (c .before .before .before .before .before .before .before .before .before .before .before .before .before .before .before .before .before .before)) (c .before .before .before .before .before .before .before .before .before .before .before .before .before .before .before .before .before .before .pre) _ (c .before .before .before .before .before .before .before .before .before .before .before .before .resolve .result) (c .before .before .before .before .before .before .before .before .before .before .before .before .resolve .ensures)) (c .before .before .before .before .before .before .before .before .before .before .found .given .1) (c .before .before .before .before .before .fits2 .ensures) (c .before .before .before .before .if1 .taken) (c .before .before .before .changed .ensures), omega (arith, reads (c .before .before .before .before .before .before .before .before .before .before .before .before .before .before .before .before .before .before .args .heap) (now (c .before .before .before .before .before .before .before .before .before .before .before .before .before .before .before .before .before .before .args .narrow)) (now (c .before .before .before .before .before .before .before .before .before .before .before .before .before .before .before .before .before .before .args .wide)) (now (c .before .before .before .before .before .before .before .before .before .before .before .before .before .before .before .before .before .before .args .pool)) (c .before .before .before .before .before .before .before .before .before .before .before .before .before .before .before .before .before .before .pre) _ (edit-inside (L (c .before .before .before .before .before .before .before .before .before .before .before .before .before .before .before .before .before .before)) (c .before .before .before .before .before .before .before .before .before .before .before .before .before .before .before .before .before .before .pre) (c .before .before .before .before .before .before .before .before .before .before .before .before .before .before .before .before .before .before .args .x) (now (c .before .before .before .before .before .before .before .before .before .before .before .before .before .before .before .before .before .before .args .bytes)) (c .before .before .before .before .before .before .before .before .before .before .before .before .before .before .before .before .before .before .args .start) (found (L (c .before .before .before .before .before .before .before .before .before .before .before .before .before .before .before .before .before .before)) (c .before .before .before .before .before .before .before .before .before .before .before .before .before .before .before .before .before .before .pre) _ (c .before .before .before .before .before .before .before .before .before .before .before .before .resolve .result) (c .before .before .before .before .before .before .before .before .before .before .before .before .resolve .ensures)) (c .before .before .before .before .before .before .before .before .before .before .found .given .1))))
+replace-requires c κs = edit-can (L (c .before .before .before .before .before .before .before .before .before .before .before .before .before .before .before .before .before .before)) (c .before .before .before .before .before .before .before .before .before .before .before .before .before .before .before .before .before .before .pre) (c .before .before .before .before .before .before .before .before .before .before .before .before .before .before .before .before .before .before .args .x) (now (c .before .before .before .before .before .before .before .before .before .before .before .before .before .before .before .before .before .before .args .bytes)) (c .before .before .before .before .before .before .before .before .before .before .before .before .before .before .before .before .before .before .args .start) (found (L (c .before .before .before .before .before .before .before .before .before .before .before .before .before .before .before .before .before .before)) (c .before .before .before .before .before .before .before .before .before .before .before .before .before .before .before .before .before .before .pre) _ (c .before .before .before .before .before .before .before .before .before .before .before .before .resolve .result) (c .before .before .before .before .before .before .before .before .before .before .before .before .resolve .ensures)) (c .before .before .before .before .before .before .before .before .before .before .found .given .1) (c .before .before .before .before .before .fits2 .ensures) (c .before .before .before .before .if1 .taken) (c .before .before .before .changed .ensures)
 
 cast-t33 : tie.Need-cast-t33
 cast-t33 c = search needs

@@ -46,7 +46,7 @@ mul-raised-2 : tie.Need-mul-raised-2
 mul-raised-2 c = search needs
 
 slice-read-raised : tie.Need-slice-read-raised
-slice-read-raised c = omega (arith, place-room (c .before .before .before .before .before .before .before .before .args .heap) (now (c .before .before .before .before .before .before .before .before .args .narrow)) (now (c .before .before .before .before .before .before .before .before .args .wide)) (now (c .before .before .before .before .before .before .before .before .args .pool)) (c .before .before .before .before .before .before .before .before .args .i) (now (c .before .before .before .before .before .before .before .before .args .bytes)) (c .before .before .before .before .before .before .before .before .pre .0), c .before .before .before .before .before .before .before .before .pre .0 .inside)
+slice-read-raised c = omega (arith, place-room (c .before .before .before .before .before .before .before .before .args .heap) (now (c .before .before .before .before .before .before .before .before .args .narrow)) (now (c .before .before .before .before .before .before .before .before .args .wide)) (now (c .before .before .before .before .before .before .before .before .args .pool)) (c .before .before .before .before .before .before .before .before .args .i) (now (c .before .before .before .before .before .before .before .before .args .bytes)) (c .before .before .before .before .before .before .before .before .pre), c .before .before .before .before .before .before .before .before .pre .inside)
 
 raised-requires : tie.Need-raised-requires
 raised-requires c κs = search needs

@@ -2,9 +2,8 @@
 use denote.Ref.{now}
 use native.Mathlib.Omega.{arith}
 use Rattle.heap.specs.Lent.{Lent, lent}
-use Prim.Native.Nat.{_<_}
 use mathlib.Core.Path.{sym, _∙_}
-use Rattle.heap_edit.proofs.Columns.{Sizes, Reads, sizes, reads}
+use Rattle.heap_edit.proofs.Columns.{Sizes, sizes}
 use Rattle.heap_edit.proofs.Writing.{hidden-inside, shown-inside, write-none, write-hides, write-off, write-yes}
 use borrow.Author.Needs.{needs}
 use Rattle.heap_edit.proofs.write.Statement.{statement}
@@ -19,9 +18,6 @@ L c = lent (c .args .heap) (now (c .args .narrow)) (now (c .args .wide)) (now (c
 
 K : (c : tie.Start) → Sizes (c .args .heap) (now (c .args .narrow)) (now (c .args .wide)) (now (c .args .pool))
 K c = sizes (c .args .heap) (now (c .args .narrow)) (now (c .args .wide)) (now (c .args .pool)) (c .pre)
-
-R : (c : tie.Start) → c .args .i < c .args .heap .slots → Reads (c .args .heap) (now (c .args .narrow)) (now (c .args .wide)) (now (c .args .pool)) (c .args .i)
-R c b = reads (c .args .heap) (now (c .args .narrow)) (now (c .args .wide)) (now (c .args .pool)) (c .pre) (c .args .i) b
 
 seen-requires : tie.Need-seen-requires
 seen-requires c κs = search needs
@@ -39,7 +35,7 @@ add-raise : tie.Need-add-raise
 add-raise c = omega (arith, K (c .before .before .before .before .before .before .before .before .before .before), hidden-inside (L (c .before .before .before .before .before .before .before .before .before .before)) (c .before .before .before .before .before .before .before .before .before .before .pre) _ (c .before .before .before .before .before .before .before .before .before .before .args .at) (now (c .before .before .before .before .before .before .before .before .before .before .args .bytes)) (sym (c .before .before .before .seen .ensures) ∙ c .before .enum-told2 .given .1))
 
 raise-requires : tie.Need-raise-requires
-raise-requires c κs = omega (arith, K (c .before .before .before .before .before .before .before .before .before .before), hidden-inside (L (c .before .before .before .before .before .before .before .before .before .before)) (c .before .before .before .before .before .before .before .before .before .before .pre) _ (c .before .before .before .before .before .before .before .before .before .before .args .at) (now (c .before .before .before .before .before .before .before .before .before .before .args .bytes)) (sym (c .before .before .before .seen .ensures) ∙ c .before .enum-told2 .given .1), R (c .before .before .before .before .before .before .before .before .before .before) (hidden-inside (L (c .before .before .before .before .before .before .before .before .before .before)) (c .before .before .before .before .before .before .before .before .before .before .pre) _ (c .before .before .before .before .before .before .before .before .before .before .args .at) (now (c .before .before .before .before .before .before .before .before .before .before .args .bytes)) (sym (c .before .before .before .seen .ensures) ∙ c .before .enum-told2 .given .1)))
+raise-requires c κs = omega (arith, K (c .before .before .before .before .before .before .before .before .before .before), hidden-inside (L (c .before .before .before .before .before .before .before .before .before .before)) (c .before .before .before .before .before .before .before .before .before .before .pre) _ (c .before .before .before .before .before .before .before .before .before .before .args .at) (now (c .before .before .before .before .before .before .before .before .before .before .args .bytes)) (sym (c .before .before .before .seen .ensures) ∙ c .before .enum-told2 .given .1))
 
 enum-known-from : tie.Need-enum-known-from
 enum-known-from c = search needs
@@ -69,7 +65,7 @@ add-raise-2 : tie.Need-add-raise-2
 add-raise-2 c = omega (arith, K (c .before .before .before .before .before .before .before .before .before .before .before .before .before), shown-inside (L (c .before .before .before .before .before .before .before .before .before .before .before .before .before)) (c .before .before .before .before .before .before .before .before .before .before .before .before .before .pre) _ (c .before .before .before .before .before .before .before .before .before .before .before .before .before .args .at) (now (c .before .before .before .before .before .before .before .before .before .before .before .before .before .args .bytes)) (sym (c .before .before .before .before .before .before .seen .ensures) ∙ c .before .before .before .before .from .given .1))
 
 raise-requires-2 : tie.Need-raise-requires-2
-raise-requires-2 c κs = omega (arith, K (c .before .before .before .before .before .before .before .before .before .before .before .before .before), shown-inside (L (c .before .before .before .before .before .before .before .before .before .before .before .before .before)) (c .before .before .before .before .before .before .before .before .before .before .before .before .before .pre) _ (c .before .before .before .before .before .before .before .before .before .before .before .before .before .args .at) (now (c .before .before .before .before .before .before .before .before .before .before .before .before .before .args .bytes)) (sym (c .before .before .before .before .before .before .seen .ensures) ∙ c .before .before .before .before .from .given .1), R (c .before .before .before .before .before .before .before .before .before .before .before .before .before) (shown-inside (L (c .before .before .before .before .before .before .before .before .before .before .before .before .before)) (c .before .before .before .before .before .before .before .before .before .before .before .before .before .pre) _ (c .before .before .before .before .before .before .before .before .before .before .before .before .before .args .at) (now (c .before .before .before .before .before .before .before .before .before .before .before .before .before .args .bytes)) (sym (c .before .before .before .before .before .before .seen .ensures) ∙ c .before .before .before .before .from .given .1) .0))
+raise-requires-2 c κs = omega (arith, K (c .before .before .before .before .before .before .before .before .before .before .before .before .before), shown-inside (L (c .before .before .before .before .before .before .before .before .before .before .before .before .before)) (c .before .before .before .before .before .before .before .before .before .before .before .before .before .pre) _ (c .before .before .before .before .before .before .before .before .before .before .before .before .before .args .at) (now (c .before .before .before .before .before .before .before .before .before .before .before .before .before .args .bytes)) (sym (c .before .before .before .before .before .before .seen .ensures) ∙ c .before .before .before .before .from .given .1))
 
 add-copy-u8 : tie.Need-add-copy-u8
 add-copy-u8 c = omega (arith, K (c .before .before .before .before .before .before .before .before .before .before .before .before .before .before .before .before .before), c .before .before .before .before .before .before .if1 .left, shown-inside (L (c .before .before .before .before .before .before .before .before .before .before .before .before .before .before .before .before .before)) (c .before .before .before .before .before .before .before .before .before .before .before .before .before .before .before .before .before .pre) _ (c .before .before .before .before .before .before .before .before .before .before .before .before .before .before .before .before .before .args .at) (now (c .before .before .before .before .before .before .before .before .before .before .before .before .before .before .before .before .before .args .bytes)) (sym (c .before .before .before .before .before .before .before .before .before .before .seen .ensures) ∙ c .before .before .before .before .before .before .before .before .from .given .1))

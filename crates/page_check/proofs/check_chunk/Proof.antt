@@ -13,7 +13,7 @@ use borrow.Author.Needs.{needs}
 use native.Mathlib.Nat.{sub-zero}
 use native.Mathlib.Omega.{arith}
 use mathlib.Core.Path.{_≡_, refl, sym, ap, _∙_}
-use mathlib.Core.Bool.{_&&_}
+use mathlib.Core.Bool.{true, _&&_}
 use mathlib.Core.List.{List}
 use Prim.Native.Nat.{ℕ, _-_, _≤_}
 use Rattle.page_check.proofs.check_chunk.Statement.{statement}
@@ -21,13 +21,13 @@ use Rattle.page_check.proofs.check_chunk.Tie as tie
 use Rattle.page_check.proofs.check_chunk.Reads as reads
 
 abbrev Inv-loop : tie.InvT-loop
-Inv-loop s at count row ok₀ k₀ i₀ ok k i = (i ≤ count) × (k ≤ length s) × (agree (slotsAt s at count) row 0 ≡ (ok && agree (drop i (slotsAt s at count)) row i)) × ((rest : List ℕ) × (readAll (slotFormat .read) count (drop at s) ≡ give (slotsAt s at count) rest) × (readAll (slotFormat .read) (count - i) (drop k s) ≡ give (drop i (slotsAt s at count)) rest))
+Inv-loop s at count row ok₀ k₀ i₀ ok k i = (i ≤ count) × (k ≤ length s) × (agree (slotsAt s at count) row 0 ≡ (ok && agree (drop i (slotsAt s at count)) row i)) × ((rest : List ℕ) × (readAll (slotFormat true .read) count (drop at s) ≡ give (slotsAt s at count) rest) × (readAll (slotFormat true .read) (count - i) (drop k s) ≡ give (drop i (slotsAt s at count)) rest))
 
 abbrev μ-loop : tie.MeasureT-loop
 μ-loop s at count row ok₀ k₀ i₀ ok k i = count - i
 
 loop-holds : tie.Need-loop-holds Inv-loop μ-loop
-loop-holds c = (omega arith, omega arith, refl, (c .before .before .pre .0 .rest, c .before .before .pre .0 .reads, ap (λ (m : ℕ). readAll (slotFormat .read) m (drop (c .before .before .args .at) (c .before .before .args .s .now))) (sub-zero (c .before .before .args .count)) ∙ c .before .before .pre .0 .reads))
+loop-holds c = (omega arith, omega arith, refl, (c .before .before .pre .0 .rest, c .before .before .pre .0 .reads, ap (λ (m : ℕ). readAll (slotFormat true .read) m (drop (c .before .before .args .at) (c .before .before .args .s .now))) (sub-zero (c .before .before .args .count)) ∙ c .before .before .pre .0 .reads))
 
 get-slot-requires : tie.Need-get-slot-requires Inv-loop μ-loop
 get-slot-requires c κs = tt
@@ -39,7 +39,7 @@ enum-told : tie.Need-enum-told Inv-loop μ-loop
 enum-told c = search needs
 
 returns : tie.Need-returns Inv-loop μ-loop
-returns c = absurd (read-some (slotFormat .read) blank (drop (c .before .before .before .before .loop .k) (c .before .before .before .before .before .before .before .args .s .now)) (slotsAt (c .before .before .before .before .before .before .before .args .s .now) (c .before .before .before .before .before .before .before .args .at) (c .before .before .before .before .before .before .before .args .count)) (c .before .before .before .before .loop .i) (c .before .before .before .before .before .before .before .args .count) (c .before .before .before .before .loop .inv .3 .0) (c .before .before .before .loop-test .taken) (c .before .before .before .before .loop .inv .3 .2) (line-lost (c .before .before .before .before .before .before .before .args .s .now) (c .before .before .before .before .loop .k) (c .before .before .get-slot .ensures) (c .enum-told .given .1)))
+returns c = absurd (read-some (slotFormat true .read) blank (drop (c .before .before .before .before .loop .k) (c .before .before .before .before .before .before .before .args .s .now)) (slotsAt (c .before .before .before .before .before .before .before .args .s .now) (c .before .before .before .before .before .before .before .args .at) (c .before .before .before .before .before .before .before .args .count)) (c .before .before .before .before .loop .i) (c .before .before .before .before .before .before .before .args .count) (c .before .before .before .before .loop .inv .3 .0) (c .before .before .before .loop-test .taken) (c .before .before .before .before .loop .inv .3 .2) (line-lost true (c .before .before .before .before .before .before .before .args .s .now) (c .before .before .before .before .loop .k) (c .before .before .get-slot .ensures) (c .enum-told .given .1)))
 
 bit-of-requires : tie.Need-bit-of-requires Inv-loop μ-loop
 bit-of-requires c κs = tt
@@ -57,10 +57,10 @@ loop-less : tie.Need-loop-less Inv-loop μ-loop
 loop-less c = omega (arith, c .before .before .before .before .before .before .before .loop-test .taken)
 
 loop-again : tie.Need-loop-again Inv-loop μ-loop
-loop-again c = (omega (arith, c .before .before .before .before .before .before .before .loop-test .taken), (line-found (c .before .before .before .before .before .before .before .before .before .before .before .args .s .now) (c .before .before .before .before .before .before .before .before .loop .k) (c .before .before .before .before .x .given .0 .0) (c .before .before .before .before .before .before .get-slot .ensures) (c .before .before .before .before .x .given .1)) .next, agree-next (slotsAt (c .before .before .before .before .before .before .before .before .before .before .before .args .s .now) (c .before .before .before .before .before .before .before .before .before .before .before .args .at) (c .before .before .before .before .before .before .before .before .before .before .before .args .count)) (c .before .before .before .before .before .before .before .before .before .before .before .args .row .now) (c .before .before .before .before .before .before .before .before .loop .i) (c .before .before .before .before .before .before .before .before .loop .ok) (c .both .result) _ _ ((c .before .before .before .before .x .given .0 .0) .kind) (c .before .expected-of .result) ((read-next (slotFormat .read) blank (drop (c .before .before .before .before .before .before .before .before .loop .k) (c .before .before .before .before .before .before .before .before .before .before .before .args .s .now)) (drop ((c .before .before .before .before .x .given .0 .0) .next) (c .before .before .before .before .before .before .before .before .before .before .before .args .s .now)) ((line-found (c .before .before .before .before .before .before .before .before .before .before .before .args .s .now) (c .before .before .before .before .before .before .before .before .loop .k) (c .before .before .before .before .x .given .0 .0) (c .before .before .before .before .before .before .get-slot .ensures) (c .before .before .before .before .x .given .1)) .sl) (slotsAt (c .before .before .before .before .before .before .before .before .before .before .before .args .s .now) (c .before .before .before .before .before .before .before .before .before .before .before .args .at) (c .before .before .before .before .before .before .before .before .before .before .before .args .count)) (c .before .before .before .before .before .before .before .before .loop .i) (c .before .before .before .before .before .before .before .before .before .before .before .args .count) (c .before .before .before .before .before .before .before .before .loop .inv .3 .0) (c .before .before .before .before .before .before .before .loop-test .taken) (c .before .before .before .before .before .before .before .before .loop .inv .3 .2) ((line-found (c .before .before .before .before .before .before .before .before .before .before .before .args .s .now) (c .before .before .before .before .before .before .before .before .loop .k) (c .before .before .before .before .x .given .0 .0) (c .before .before .before .before .before .before .get-slot .ensures) (c .before .before .before .before .x .given .1)) .reads)) .0) (c .before .before .before .before .before .before .before .before .loop .inv .2) (c .before .expected-of .ensures) ((line-found (c .before .before .before .before .before .before .before .before .before .before .before .args .s .now) (c .before .before .before .before .before .before .before .before .loop .k) (c .before .before .before .before .x .given .0 .0) (c .before .before .before .before .before .before .get-slot .ensures) (c .before .before .before .before .x .given .1)) .kind ∙ ap (λ (y : Slot). y .kind) ((read-next (slotFormat .read) blank (drop (c .before .before .before .before .before .before .before .before .loop .k) (c .before .before .before .before .before .before .before .before .before .before .before .args .s .now)) (drop ((c .before .before .before .before .x .given .0 .0) .next) (c .before .before .before .before .before .before .before .before .before .before .before .args .s .now)) ((line-found (c .before .before .before .before .before .before .before .before .before .before .before .args .s .now) (c .before .before .before .before .before .before .before .before .loop .k) (c .before .before .before .before .x .given .0 .0) (c .before .before .before .before .before .before .get-slot .ensures) (c .before .before .before .before .x .given .1)) .sl) (slotsAt (c .before .before .before .before .before .before .before .before .before .before .before .args .s .now) (c .before .before .before .before .before .before .before .before .before .before .before .args .at) (c .before .before .before .before .before .before .before .before .before .before .before .args .count)) (c .before .before .before .before .before .before .before .before .loop .i) (c .before .before .before .before .before .before .before .before .before .before .before .args .count) (c .before .before .before .before .before .before .before .before .loop .inv .3 .0) (c .before .before .before .before .before .before .before .loop-test .taken) (c .before .before .before .before .before .before .before .before .loop .inv .3 .2) ((line-found (c .before .before .before .before .before .before .before .before .before .before .before .args .s .now) (c .before .before .before .before .before .before .before .before .loop .k) (c .before .before .before .before .x .given .0 .0) (c .before .before .before .before .before .before .get-slot .ensures) (c .before .before .before .before .x .given .1)) .reads)) .1)) (ap (λ (n : ℕ). eqb n (c .before .expected-of .result)) (c .before .before .bit-of .ensures)) (c .both .ensures), (c .before .before .before .before .before .before .before .before .loop .inv .3 .0, c .before .before .before .before .before .before .before .before .loop .inv .3 .1, (read-next (slotFormat .read) blank (drop (c .before .before .before .before .before .before .before .before .loop .k) (c .before .before .before .before .before .before .before .before .before .before .before .args .s .now)) (drop ((c .before .before .before .before .x .given .0 .0) .next) (c .before .before .before .before .before .before .before .before .before .before .before .args .s .now)) ((line-found (c .before .before .before .before .before .before .before .before .before .before .before .args .s .now) (c .before .before .before .before .before .before .before .before .loop .k) (c .before .before .before .before .x .given .0 .0) (c .before .before .before .before .before .before .get-slot .ensures) (c .before .before .before .before .x .given .1)) .sl) (slotsAt (c .before .before .before .before .before .before .before .before .before .before .before .args .s .now) (c .before .before .before .before .before .before .before .before .before .before .before .args .at) (c .before .before .before .before .before .before .before .before .before .before .before .args .count)) (c .before .before .before .before .before .before .before .before .loop .i) (c .before .before .before .before .before .before .before .before .before .before .before .args .count) (c .before .before .before .before .before .before .before .before .loop .inv .3 .0) (c .before .before .before .before .before .before .before .loop-test .taken) (c .before .before .before .before .before .before .before .before .loop .inv .3 .2) ((line-found (c .before .before .before .before .before .before .before .before .before .before .before .args .s .now) (c .before .before .before .before .before .before .before .before .loop .k) (c .before .before .before .before .x .given .0 .0) (c .before .before .before .before .before .before .get-slot .ensures) (c .before .before .before .before .x .given .1)) .reads)) .2))
+loop-again c = (omega (arith, c .before .before .before .before .before .before .before .loop-test .taken), (line-found true (c .before .before .before .before .before .before .before .before .before .before .before .args .s .now) (c .before .before .before .before .before .before .before .before .loop .k) (c .before .before .before .before .x .given .0 .0) (c .before .before .before .before .before .before .get-slot .ensures) (c .before .before .before .before .x .given .1)) .next, agree-next (slotsAt (c .before .before .before .before .before .before .before .before .before .before .before .args .s .now) (c .before .before .before .before .before .before .before .before .before .before .before .args .at) (c .before .before .before .before .before .before .before .before .before .before .before .args .count)) (c .before .before .before .before .before .before .before .before .before .before .before .args .row .now) (c .before .before .before .before .before .before .before .before .loop .i) (c .before .before .before .before .before .before .before .before .loop .ok) (c .both .result) _ _ ((c .before .before .before .before .x .given .0 .0) .kind) (c .before .expected-of .result) ((read-next (slotFormat true .read) blank (drop (c .before .before .before .before .before .before .before .before .loop .k) (c .before .before .before .before .before .before .before .before .before .before .before .args .s .now)) (drop ((c .before .before .before .before .x .given .0 .0) .next) (c .before .before .before .before .before .before .before .before .before .before .before .args .s .now)) ((line-found true (c .before .before .before .before .before .before .before .before .before .before .before .args .s .now) (c .before .before .before .before .before .before .before .before .loop .k) (c .before .before .before .before .x .given .0 .0) (c .before .before .before .before .before .before .get-slot .ensures) (c .before .before .before .before .x .given .1)) .sl) (slotsAt (c .before .before .before .before .before .before .before .before .before .before .before .args .s .now) (c .before .before .before .before .before .before .before .before .before .before .before .args .at) (c .before .before .before .before .before .before .before .before .before .before .before .args .count)) (c .before .before .before .before .before .before .before .before .loop .i) (c .before .before .before .before .before .before .before .before .before .before .before .args .count) (c .before .before .before .before .before .before .before .before .loop .inv .3 .0) (c .before .before .before .before .before .before .before .loop-test .taken) (c .before .before .before .before .before .before .before .before .loop .inv .3 .2) ((line-found true (c .before .before .before .before .before .before .before .before .before .before .before .args .s .now) (c .before .before .before .before .before .before .before .before .loop .k) (c .before .before .before .before .x .given .0 .0) (c .before .before .before .before .before .before .get-slot .ensures) (c .before .before .before .before .x .given .1)) .reads)) .0) (c .before .before .before .before .before .before .before .before .loop .inv .2) (c .before .expected-of .ensures) ((line-found true (c .before .before .before .before .before .before .before .before .before .before .before .args .s .now) (c .before .before .before .before .before .before .before .before .loop .k) (c .before .before .before .before .x .given .0 .0) (c .before .before .before .before .before .before .get-slot .ensures) (c .before .before .before .before .x .given .1)) .kind ∙ ap (λ (y : Slot). y .kind) ((read-next (slotFormat true .read) blank (drop (c .before .before .before .before .before .before .before .before .loop .k) (c .before .before .before .before .before .before .before .before .before .before .before .args .s .now)) (drop ((c .before .before .before .before .x .given .0 .0) .next) (c .before .before .before .before .before .before .before .before .before .before .before .args .s .now)) ((line-found true (c .before .before .before .before .before .before .before .before .before .before .before .args .s .now) (c .before .before .before .before .before .before .before .before .loop .k) (c .before .before .before .before .x .given .0 .0) (c .before .before .before .before .before .before .get-slot .ensures) (c .before .before .before .before .x .given .1)) .sl) (slotsAt (c .before .before .before .before .before .before .before .before .before .before .before .args .s .now) (c .before .before .before .before .before .before .before .before .before .before .before .args .at) (c .before .before .before .before .before .before .before .before .before .before .before .args .count)) (c .before .before .before .before .before .before .before .before .loop .i) (c .before .before .before .before .before .before .before .before .before .before .before .args .count) (c .before .before .before .before .before .before .before .before .loop .inv .3 .0) (c .before .before .before .before .before .before .before .loop-test .taken) (c .before .before .before .before .before .before .before .before .loop .inv .3 .2) ((line-found true (c .before .before .before .before .before .before .before .before .before .before .before .args .s .now) (c .before .before .before .before .before .before .before .before .loop .k) (c .before .before .before .before .x .given .0 .0) (c .before .before .before .before .before .before .get-slot .ensures) (c .before .before .before .before .x .given .1)) .reads)) .1)) (ap (λ (n : ℕ). eqb n (c .before .expected-of .result)) (c .before .before .bit-of .ensures)) (c .both .ensures), (c .before .before .before .before .before .before .before .before .loop .inv .3 .0, c .before .before .before .before .before .before .before .before .loop .inv .3 .1, (read-next (slotFormat true .read) blank (drop (c .before .before .before .before .before .before .before .before .loop .k) (c .before .before .before .before .before .before .before .before .before .before .before .args .s .now)) (drop ((c .before .before .before .before .x .given .0 .0) .next) (c .before .before .before .before .before .before .before .before .before .before .before .args .s .now)) ((line-found true (c .before .before .before .before .before .before .before .before .before .before .before .args .s .now) (c .before .before .before .before .before .before .before .before .loop .k) (c .before .before .before .before .x .given .0 .0) (c .before .before .before .before .before .before .get-slot .ensures) (c .before .before .before .before .x .given .1)) .sl) (slotsAt (c .before .before .before .before .before .before .before .before .before .before .before .args .s .now) (c .before .before .before .before .before .before .before .before .before .before .before .args .at) (c .before .before .before .before .before .before .before .before .before .before .before .args .count)) (c .before .before .before .before .before .before .before .before .loop .i) (c .before .before .before .before .before .before .before .before .before .before .before .args .count) (c .before .before .before .before .before .before .before .before .loop .inv .3 .0) (c .before .before .before .before .before .before .before .loop-test .taken) (c .before .before .before .before .before .before .before .before .loop .inv .3 .2) ((line-found true (c .before .before .before .before .before .before .before .before .before .before .before .args .s .now) (c .before .before .before .before .before .before .before .before .loop .k) (c .before .before .before .before .x .given .0 .0) (c .before .before .before .before .before .before .get-slot .ensures) (c .before .before .before .before .x .given .1)) .reads)) .2))
 
 returns-2 : tie.Need-returns-2 Inv-loop μ-loop
-returns-2 c = (agree-done (slotsAt (c .before .before .before .before .args .s .now) (c .before .before .before .before .args .at) (c .before .before .before .before .args .count)) (c .before .before .before .before .args .row .now) (c .before .loop .i) (c .before .loop .ok) _ (read-end (slotFormat .read) blank (drop (c .before .loop .k) (c .before .before .before .before .args .s .now)) (slotsAt (c .before .before .before .before .args .s .now) (c .before .before .before .before .args .at) (c .before .before .before .before .args .count)) (c .before .loop .i) (c .before .before .before .before .args .count) (c .before .loop .inv .3 .0) (c .loop-test .left) (c .before .loop .inv .3 .2)) (c .before .loop .inv .2), (c .before .loop .inv .3 .1 ∙ ap (give (slotsAt (c .before .before .before .before .args .s .now) (c .before .before .before .before .args .at) (c .before .before .before .before .args .count))) (sym (read-rest (slotFormat .read) (drop (c .before .loop .k) (c .before .before .before .before .args .s .now)) (slotsAt (c .before .before .before .before .args .s .now) (c .before .before .before .before .args .at) (c .before .before .before .before .args .count)) (c .before .loop .i) (c .before .before .before .before .args .count) (c .before .loop .inv .3 .0) (c .loop-test .left) (c .before .loop .inv .3 .2))), c .before .loop .inv .1))
+returns-2 c = (agree-done (slotsAt (c .before .before .before .before .args .s .now) (c .before .before .before .before .args .at) (c .before .before .before .before .args .count)) (c .before .before .before .before .args .row .now) (c .before .loop .i) (c .before .loop .ok) _ (read-end (slotFormat true .read) blank (drop (c .before .loop .k) (c .before .before .before .before .args .s .now)) (slotsAt (c .before .before .before .before .args .s .now) (c .before .before .before .before .args .at) (c .before .before .before .before .args .count)) (c .before .loop .i) (c .before .before .before .before .args .count) (c .before .loop .inv .3 .0) (c .loop-test .left) (c .before .loop .inv .3 .2)) (c .before .loop .inv .2), (c .before .loop .inv .3 .1 ∙ ap (give (slotsAt (c .before .before .before .before .args .s .now) (c .before .before .before .before .args .at) (c .before .before .before .before .args .count))) (sym (read-rest (slotFormat true .read) (drop (c .before .loop .k) (c .before .before .before .before .args .s .now)) (slotsAt (c .before .before .before .before .args .s .now) (c .before .before .before .before .args .at) (c .before .before .before .before .args .count)) (c .before .loop .i) (c .before .before .before .before .args .count) (c .before .loop .inv .3 .0) (c .loop-test .left) (c .before .loop .inv .3 .2))), c .before .loop .inv .1))
 
 pub check-chunk-spec : {M : Type 1} → statement M
 check-chunk-spec =

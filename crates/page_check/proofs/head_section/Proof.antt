@@ -1,5 +1,5 @@
 use mathlib.Core.Logic.{inl}
-use Rattle.pages.specs.Page.{heapNames}
+use Rattle.pages.specs.Form.{heapNames}
 use Rattle.text.specs.Text.{ascii}
 use Rattle.text.proofs.Getting.{literal-found, literal-lost}
 use Rattle.page_check.proofs.Parts.{head-told}

@@ -1,5 +1,5 @@
 use mathlib.Core.Logic.{inl, inr}
-use Rattle.pages.specs.Page.{sealedName}
+use Rattle.pages.specs.Form.{sealedName}
 use Rattle.text.specs.Text.{ascii}
 use Rattle.text.proofs.Getting.{literal-found, literal-lost}
 use Rattle.page_check.proofs.Assembly.{seals-found, seals-none}

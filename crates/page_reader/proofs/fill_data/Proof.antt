@@ -1,3 +1,4 @@
+use native.Mathlib.Omega.{arith}
 use Prim.Native.Nat.{_-_}
 use borrow.Author.Needs.{needs}
 use Rattle.page_reader.proofs.Pooling.{Pooling, pooling-begin, pooling-some, line-end, line-data, line-digits, data-there, data-size, data-fits, pooling-next, pooling-end}
@@ -41,7 +42,7 @@ copy-hex-requires : tie.Need-copy-hex-requires Inv-loop μ-loop
 copy-hex-requires c κs = (search data-there, (search data-size, search data-fits))
 
 add-i : tie.Need-add-i Inv-loop μ-loop
-add-i c = search needs
+add-i c = omega (arith, c .before .before .before .before .before .before .before .before .before .before .before .loop-test .taken, c .before .before .before .before .before .before .before .before .before .before .before .before .before .before .before .fits)
 
 loop-less : tie.Need-loop-less Inv-loop μ-loop
 loop-less c = search needs

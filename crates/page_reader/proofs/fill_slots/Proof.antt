@@ -97,7 +97,7 @@ slice-write-wide-3 : tie.Need-slice-write-wide-3 Inv-loop μ-loop
 slice-write-wide-3 c = simp length-set (omega (arith, c .before .before .before .before .before .before .before .before .loop-test .taken, c .before .before .before .before .before .before .before .before .before .loop .inv .same, c .before .before .before .before .before .before .before .before .before .loop .inv .sameWide, c .before .before .before .before .before .before .before .before .before .loop .inv .room, c .before .before .before .before .before .before .before .before .before .loop .inv .runs))
 
 add-i : tie.Need-add-i Inv-loop μ-loop
-add-i c = omega (arith, c .before .before .before .before .before .before .before .before .loop-test .taken)
+add-i c = omega (arith, c .before .before .before .before .before .before .before .before .loop-test .taken, c .before .before .before .before .before .before .before .before .before .before .before .before .before .fits)
 
 loop-less : tie.Need-loop-less Inv-loop μ-loop
 loop-less c = omega (arith, c .before .before .before .before .before .before .before .before .loop-test .taken)

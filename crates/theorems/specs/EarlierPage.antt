@@ -1,0 +1,38 @@
+-- THE EARLIER READER, as it was before request [6]: it knows one names line of slots, in which write counts are called `writes` and have 32 bits.
+-- Nothing here is used by the code. It stands so that what is said of earlier pages and of earlier programs can be said of it.
+use Prim.Native.Nat.{ℕ}
+use mathlib.Core.Bool.{false}
+use mathlib.Core.List.{List}
+use mathlib.Core.Option.{Option, some}
+use Rattle.text.specs.Text.{_>>=_, ascii, newline}
+use Rattle.text.specs.Format.{Format, number, afterLiteral, pair, times}
+use Rattle.heap.specs.State.{State}
+use Rattle.heap.specs.Lent.{Lent, slotCount, poolSize}
+use Rattle.pages.specs.Form.{earlier}
+use Rattle.pages.specs.Page.{slotFormat, Head, headFormat, Body, stateOf, whole}
+use Rattle.page_check.specs.Sections.{verdict}
+use Rattle.page_reader.specs.Reading.{Left, left, inRange}
+
+unfoldable pub earlierHeapNames : List ℕ
+earlierHeapNames = ascii "tag,since_gc,reclaim_at,live_bytes,slots,free,quarantine,sealed\n"
+
+unfoldable pub earlierSlotNames : List ℕ
+earlierSlotNames = ascii "generation,kind,type,start,writes,data\n"
+
+unfoldable pub earlierBody : Head → Format Body
+earlierBody d =
+    afterLiteral earlierSlotNames (pair (times (d .1 .1 .1 .1 .0) (slotFormat false))
+    λ _. afterLiteral (ascii "free\n") (pair (times (d .1 .1 .1 .1 .1 .0) (number 32 newline))
+    λ _. afterLiteral (ascii "quarantine\n") (pair (times (d .1 .1 .1 .1 .1 .1 .0) (number 32 newline))
+    λ _. afterLiteral (ascii "sealed\n") (times (d .1 .1 .1 .1 .1 .1 .1) (number 64 newline)))))
+
+unfoldable pub earlierFormat : Format (Head × Body)
+earlierFormat = afterLiteral earlierHeapNames (pair headFormat earlierBody)
+
+-- the heap whose page in the earlier form a text is, if it is one's
+unfoldable pub earlierRead : List ℕ → Option State
+earlierRead t = earlierFormat .read t >>= λ r. whole r >>= λ p. some (stateOf (p .0) (p .1))
+
+-- what it answered and left
+unfoldable pub earlierInto : Lent → (text : List ℕ) → Left
+earlierInto l text = left l (verdict (inRange l) (slotCount l) (poolSize l) (earlierRead text >>= λ h. some (earlier, h)))
