@@ -3,7 +3,7 @@ use mathlib.Core.Path.{_≡_, refl, sym, ap, ap₂, _∙_, subst}
 use mathlib.Core.Bool.{Bool, true, false, not}
 use mathlib.Core.List.{List, [], _∷_, _++_, append-assoc, append-nil}
 use Prim.Native.Nat.{ℕ, zero, suc, _+_, _-_, _*_, _/_, _%_, _^_, _≤_, _<_}
-use native.Mathlib.Nat.{zero-add, add-zero, add-suc, suc-add, add-mul, one-mul, zero-mul, pow-suc, div-one, div-eq-of-lt, div-lt-iff-lt-mul, div-add-mod', mul-div-cancel, mul-le-mul-right, le-of-mul-le-mul-right, mul-mod-left, zero-div, zero-mod}
+use native.Mathlib.Nat.{zero-add, add-zero, add-suc, suc-add, add-mul, one-mul, zero-mul, pow-suc, div-one, div-eq-of-lt, div-mul-le-self, div-add-mod', mul-div-cancel, mul-le-mul-right, le-of-mul-le-mul-right, mul-mod-left, zero-div, zero-mod}
 use native.Mathlib.Decide.{decLt}
 use native.Mathlib.Omega.{arith}
 use lib.Arith.{digits-div, digits-mod, lt-one}
@@ -148,12 +148,18 @@ module _ (W : ℕ) (wide : 0 < W) (row : List ℕ) where
   left-none at rest z = ap (λ (x : ℕ). onesFrom W x at ++ passing (bitIn W row) ((at / W + 1) * W) ((length row - (at / W + 1)) * W)) z
       ∙ ap (λ (l : List ℕ). l ++ passing (bitIn W row) ((at / W + 1) * W) ((length row - (at / W + 1)) * W)) (ones-none W at)
 
-  module _ (at rest : ℕ) (inside : at < length row * W) where
+  module _ (word at rest : ℕ) (low : word < length row) (of : word ≡ at / W) where
     word-in : at / W < length row
-    word-in = div-lt-iff-lt-mul wide .1 inside
+    word-in = omega arith
 
     -- a word of which nothing is left is passed
-    module _ (stands : Stands W row at rest) (at′ next : ℕ) (z : rest ≡ 0) (m : at′ ≡ (at / W + 1) * W) (e : next ≡ getD row (at / W + 1) 0) (fits : next < 2 ^ W) where
+    module _ (stands : Stands W row at rest) (at′ next : ℕ) (z : rest ≡ 0) (m′ : at′ ≡ (word + 1) * W) (e′ : next ≡ getD row (word + 1) 0) (fits : next < 2 ^ W) where
+      m : at′ ≡ (at / W + 1) * W
+      m = m′ ∙ ap (λ (x : ℕ). (x + 1) * W) of
+
+      e : next ≡ getD row (at / W + 1) 0
+      e = e′ ∙ ap (λ (x : ℕ). getD row (x + 1) 0) of
+
       there : at′ / W ≡ at / W + 1
       there = ap (λ (x : ℕ). x / W) m ∙ mul-div-cancel (at / W + 1) wide
 
@@ -166,15 +172,15 @@ module _ (W : ℕ) (wide : 0 < W) (row : List ℕ) where
 
       pub pass-stands : Stands W row at′ next
       pass-stands = record {
-        inside = let l : (at / W + 1) * W ≤ length row * W = mul-le-mul-right W (let w = word-in in omega arith) in omega arith;
+        inside = let l : (at / W + 1) * W ≤ length row * W = mul-le-mul-right W (let w = word-in in omega arith) in omega (arith, m);
         small =
             let z : at′ % W ≡ 0 = ap (λ (x : ℕ). x % W) m ∙ mul-mod-left (at / W + 1) W in
             let k : W ≡ W - at′ % W = omega arith in subst (λ (i : ℕ). next < 2 ^ i) k fits;
         past = λ h. e ∙ List·getD-eq-default row 0 (le-of-mul-le-mul-right (subst (λ (x : ℕ). length row * W ≤ x) m h) wide);
       }
 
-      pub pass-on : Turned W row at rest false at′ next
-      pass-on = record { counted = pass-turn; taken = pass-left; stands = pass-stands; inside = λ h. absurd (let z : _≡_ {A = ℕ} 0 1 = (cc) in omega arith) }
+      pub pass-on : Turned W row at rest false (word + 1) at′ next
+      pass-on = record { counted = pass-turn; taken = pass-left; stands = pass-stands; inside = λ h. absurd (let z : _≡_ {A = ℕ} 0 1 = (cc) in omega arith); word-of = let t = there in omega arith }
 
     -- the lowest set bit is taken
     module _ (stands : Stands W row at rest) (pos : 0 < rest) where
@@ -229,8 +235,8 @@ module _ (W : ℕ) (wide : 0 < W) (row : List ℕ) where
       }
 
       -- with the digits above the lowest one in hand
-      pub took-one : (x : ℕ) → x ≡ rest / 2 ^ zeros → Turned W row at rest true (at + zeros) (bitXor x 1)
-      took-one x e = rw e (record { counted = take-turn; taken = take-left; stands = take-stands; inside = λ _. take-inside })
+      pub took-one : (x : ℕ) → x ≡ rest / 2 ^ zeros → Turned W row at rest true word (at + zeros) (bitXor x 1)
+      took-one x e = rw e (record { counted = take-turn; taken = take-left; stands = take-stands; inside = λ _. take-inside; word-of = of ∙ sym same-word })
 
 -- what a turn hands on, by whether it took a bit
 pub flipped : (f : Bool) → not f ≡ false → f ≡ true
@@ -312,6 +318,10 @@ module _ (W : ℕ) (wide : 0 < W) (row : List ℕ) where
     -- few turns
     pub few : turns ≤ length row + length (listed W row)
     few = omega (arith, g .turned)
+
+    -- past the last word
+    pub past-end : (word : ℕ) → word ≡ at / W → length row ≤ word → length row * W ≤ at
+    past-end word e h = let m : length row * W ≤ at / W * W = mul-le-mul-right W (omega arith) in omega (arith, div-mul-le-self at W)
 
     -- at the end all is listed
     pub finished : length row * W ≤ at → (n ≡ length (listed W row)) × (turns ≡ length row + length (listed W row)) × (out ≡ put out₀ 0 (listed W row) (length (listed W row)))

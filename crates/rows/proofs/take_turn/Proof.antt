@@ -21,7 +21,7 @@ word-at-requires c κs = search needs
 returns : tie.Need-returns
 returns c =
     let a = c .before .before .before .args in
-    pass-on 64 (lit< tt) (a .row .now) (a .at) (a .rest) (c .before .before .before .pre .1) (c .before .before .before .pre .2) _ (c .word-at .result) (c .before .if1 .taken) refl (c .word-at .ensures) (search needs)
+    pass-on 64 (lit< tt) (a .row .now) (a .word) (a .at) (a .rest) (c .before .before .before .pre .1) (c .before .before .before .pre .2) (c .before .before .before .pre .3) _ (c .word-at .result) (c .before .if1 .taken) refl (c .word-at .ensures) (search needs)
 
 cast-zeros : tie.Need-cast-zeros
 cast-zeros c = record { fits = zeros-fit _ }
@@ -36,7 +36,7 @@ drop-bits-requires c κs = search needs
 returns-2 : tie.Need-returns-2
 returns-2 c =
     let a = c .before .before .before .args in
-    took-one 64 (lit< tt) (a .row .now) (a .at) (a .rest) (c .before .before .before .pre .1) (c .before .before .before .pre .2) (positive (a .rest) (c .before .if1 .left)) (c .drop-bits .result) (c .drop-bits .ensures)
+    took-one 64 (lit< tt) (a .row .now) (a .word) (a .at) (a .rest) (c .before .before .before .pre .1) (c .before .before .before .pre .2) (c .before .before .before .pre .3) (positive (a .rest) (c .before .if1 .left)) (c .drop-bits .result) (c .drop-bits .ensures)
 
 pub take-turn-spec : {M : Type 1} → statement M
 take-turn-spec =

@@ -22,11 +22,12 @@ pub record Stands (W : ℕ) (row : List ℕ) (at rest : ℕ) : Type 0 where
   -- past the last word nothing is left
   pub past : length row * W ≤ at → rest ≡ 0
 
--- one turn, which takes the bit at at′ or passes a word
-pub record Turned (W : ℕ) (row : List ℕ) (at rest : ℕ) (found : Bool) (at′ rest′ : ℕ) : Type 0 where
+-- one turn, which takes the bit at at′ or passes a word; `word` is the word of at′
+pub record Turned (W : ℕ) (row : List ℕ) (at rest : ℕ) (found : Bool) (word at′ rest′ : ℕ) : Type 0 where
   -- one turn less is left
   pub counted : turnsLeft W row at′ rest′ + 1 ≡ turnsLeft W row at rest
   -- what was left is what is left, with the bit that was taken in front
   pub taken : left W row at rest ≡ keep found at′ (left W row at′ rest′)
   pub stands : Stands W row at′ rest′
   pub inside : found ≡ true → at′ < length row * W
+  pub word-of : word ≡ at′ / W
