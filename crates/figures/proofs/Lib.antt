@@ -1,8 +1,4 @@
+pub mod Totals
 pub mod Counting
 pub mod Showing
 pub mod Printing
-pub mod Lengths
-pub mod Stepping
-pub mod Going
-pub mod Totals
-pub mod Orders

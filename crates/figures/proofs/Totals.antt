@@ -3,11 +3,8 @@ use Prim.Native.Nat.{ℕ, _+_, max}
 use mathlib.Core.List.{List, [], _∷_, _++_}
 use mathlib.Core.Path.{_≡_, refl, sym, ap, _∙_}
 use native.Mathlib.Omega.{arith}
-use Rattle.word.specs.Result.{Result, ok, refused}
 use Rattle.figures.specs.declared.Figures.{Figures}
-use Rattle.figures.specs.Figures.{noFigures}
-use Rattle.figures.specs.Shelf.{merge, total, accepted}
-use Rattle.figures.specs.inner.Counting.{shownAs}
+use Rattle.figures.specs.Figures.{noFigures, merge, total}
 
 -- figures are equal by their three numbers
 pub figures-same : (f g : Figures) → f .objects ≡ g .objects → f .bytes ≡ g .bytes → f .largest ≡ g .largest → f ≡ g
@@ -28,14 +25,3 @@ merge-comm f g = figures-same (merge f g) (merge g f) (omega arith) (omega arith
 pub total-append : (fs gs : List Figures) → total (fs ++ gs) ≡ merge (total fs) (total gs)
 total-append [] gs = sym (none-merge (total gs))
 total-append (f ∷ fs) gs = ap (merge f) (total-append fs gs) ∙ sym (merge-assoc f (total fs) (total gs))
-
-pub accepted-append : (rs qs : List (Result Figures)) → accepted (rs ++ qs) ≡ accepted rs ++ accepted qs
-accepted-append [] qs = refl
-accepted-append (ok f ∷ rs) qs = ap (λ (l : List Figures). f ∷ l) (accepted-append rs qs)
-accepted-append (refused n ∷ rs) qs = accepted-append rs qs
-
--- one page more: a refused one adds zeros
-pub total-shown : (t : Figures) (r : Result Figures) (rs : List (Result Figures)) →
-    merge t (total (accepted (r ∷ rs))) ≡ merge (merge t (shownAs r .figures)) (total (accepted rs))
-total-shown t (ok f) rs = sym (merge-assoc t f (total (accepted rs)))
-total-shown t (refused n) rs = ap (λ (x : Figures). merge x (total (accepted rs))) (sym (merge-none t))

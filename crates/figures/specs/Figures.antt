@@ -30,6 +30,18 @@ figuresOf slots =
       largest = foldr max 0 (liveSizes slots);
     }
 
+-- two lots of figures together
+abbrev pub merge : Figures → Figures → Figures
+merge f g =
+    record {
+      objects = f .objects + g .objects;
+      bytes = f .bytes + g .bytes;
+      largest = max (f .largest) (g .largest);
+    }
+
+abbrev pub total : List Figures → Figures
+total = foldr merge noFigures
+
 -- mean and rest: the whole quotient and remainder of bytes by objects, both 0 without objects
 abbrev pub meanOf : Figures → ℕ
 meanOf f = if eqb (f .objects) 0 then 0 else f .bytes / f .objects

@@ -1,4 +1,3 @@
--- Figures of pages and of a shelf of pages.
+-- Figures of pages.
 pub mod Figures
-pub mod Shelf
 pub mod inner

@@ -1,21 +1,17 @@
-// Figures for a whole shelf: what each page of an input shows, and the totals over all that are accepted. A run goes through the input as it comes: `begin`, `go_on` with each
-// part of it, `finish`. Their contracts say that what they print is, put together, the text that `shelfText` gives for the whole input.
+// Figures of a page: how many objects it has, the bytes of their data and the largest of them; and the line that is printed of it.
 use heap::Heap;
 ghost use mathlib.Core.Path.{_≡_};
-ghost use mathlib.Core.Bool.{_||_};
-ghost use mathlib.Core.List.{List, [], _∷_, _++_};
-ghost use Prim.Native.Nat.{ℕ, _+_, _*_, _^_, _≤_, _<_, min, max};
-ghost use lib.Dec.{eqb, ltb};
-ghost use lib.ListN.{length, take, drop};
+ghost use mathlib.Core.List.{[], _∷_, _++_};
+ghost use Prim.Native.Nat.{_+_, _^_, _≤_, _<_, max};
+ghost use lib.Dec.{ltb};
+ghost use lib.ListN.{length, take};
 ghost use Rattle.word.specs.Choice.{if_then_else_};
 ghost use Rattle.word.specs.Result.{refused};
 ghost use Rattle.text.specs.Text.{decimal};
 ghost use Rattle.text.specs.Put.{Puts};
 ghost use Rattle.heap.specs.Lent.{lent, view};
-ghost use Rattle.figures.specs.Figures.{noFigures, figuresOf, meanOf, restOf, pageFigures, figuresLine};
-ghost use Rattle.figures.specs.Shelf.{merge};
-ghost use Rattle.figures.specs.inner.Counting.{one, Lies, Small, shownAs};
-ghost use Rattle.figures.specs.inner.Steps.{GoodAt, Good, Begins, Reads, Takes, Due, After, Answers, Goes, Begun, Ends, cutOff};
+ghost use Rattle.figures.specs.Figures.{noFigures, merge, figuresOf, meanOf, restOf, pageFigures, figuresLine};
+ghost use Rattle.figures.specs.inner.Counting.{one, shownAs, Lies, Small};
 
 // How many objects, the bytes of their data, and the most that one of them has.
 pub struct Figures {
@@ -116,7 +112,7 @@ pub struct Shown {
 }
 
 // A page that is not looked at, or that is no page: 17.
-fn no_page() -> Shown
+pub fn no_page() -> Shown
     ensures { λ r. ⌜ r ≡ shownAs (refused 17) ⌝ }
     ensures { λ r. ⌜ Small (r .figures) ⌝ }
 {
@@ -127,7 +123,7 @@ fn no_page() -> Shown
 }
 
 // Reads a page, the first `n` bytes of `held`, into the lent heap, whatever that held before, and counts its objects.
-fn show(
+pub fn show(
     held: &[u8],
     n: usize,
     narrow: &mut [u32; 24576],
@@ -161,16 +157,16 @@ fn show(
 fn put_field(out: &mut [u8; 65536], at: usize, n: u64, end: u8) -> usize
     requires { ⌜ at + 21 ≤ 65536 ⌝ }
     ensures { λ r. ⌜ Puts (now (out .entry)) (now (out .exit)) at r (decimal n ++ (end ∷ [])) ⌝ }
-    ensures { λ r. ⌜ r ≤ at + 21 ⌝ }
+    ensures { λ r. ⌜ (r ≤ at + 21) × (length (now (out .entry)) ≡ 65536) ⌝ }
 {
     pages::put_number(out, at, n, end)
 }
 
 // Puts the line of a page, or the last line, from `at` on.
-fn put_line(out: &mut [u8; 65536], at: usize, page: u64, answer: u64, f: Figures) -> usize
+pub fn put_line(out: &mut [u8; 65536], at: usize, page: u64, answer: u64, f: Figures) -> usize
     requires { ⌜ at + 160 ≤ 65536 ⌝ }
     ensures { λ r. ⌜ Puts (now (out .entry)) (now (out .exit)) at r (figuresLine page answer f) ⌝ }
-    ensures { λ r. ⌜ r ≤ at + 160 ⌝ }
+    ensures { λ r. ⌜ (r ≤ at + 160) × (length (now (out .entry)) ≡ 65536) ⌝ }
 {
     let a = put_field(out, at, page, 44);
     let b = put_field(out, a, answer, 44);
@@ -179,360 +175,4 @@ fn put_line(out: &mut [u8; 65536], at: usize, page: u64, answer: u64, f: Figures
     let e = put_field(out, d, f.largest, 44);
     let g = put_field(out, e, f.mean(), 44);
     put_field(out, g, f.rest(), 10)
-}
-
-// Where a run stands in its input.
-pub enum At {
-    // A length line is due. So many digits of it were read, and they spell this number.
-    Line(u64, u64),
-    // In a page of so many bytes, of which so many are held.
-    Page(usize, usize),
-    // In a longer page, of which so many bytes are still to be passed over.
-    Passing(usize),
-    // At the end of the run.
-    Over,
-}
-
-// What some more input comes to.
-pub enum Next {
-    // No page has ended.
-    Still(At),
-    // The page of so many bytes that are held is whole.
-    Whole(usize),
-    // A longer page was passed over.
-    Passed,
-}
-
-// Where a page of `n` bytes begins.
-fn begun(n: usize) -> Next
-    ensures { λ r. ⌜ Begins n r ⌝ }
-{
-    if 32768 < n {
-        return Next::Still(At::Passing(n));
-    }
-    if n == 0 {
-        return Next::Whole(0);
-    }
-    Next::Still(At::Page(n, 0))
-}
-
-fn wide_byte(b: u8) -> u64
-    ensures { λ r. ⌜ r ≡ b ⌝ }
-{
-    b as u64
-}
-
-// May a digit follow `k` digits that spell `n`? None follows a zero.
-fn may_follow(k: u64, n: u64) -> bool
-    ensures { λ r. ⌜ r ≡ (eqb k 0 || ltb 0 n) ⌝ }
-{
-    if k == 0 {
-        return true;
-    }
-    0 < n
-}
-
-// One byte of a length line, after `k` digits that spell `n`.
-fn take_byte(k: u64, n: u64, b: u8) -> Next
-    requires { ⌜ GoodAt (At.Line k n) ⌝ }
-    ensures { λ r. ⌜ Reads k n b r ⌝ }
-{
-    if b == 10 {
-        if k == 0 {
-            return Next::Still(At::Over);
-        }
-        return begun(n as usize);
-    }
-    if b < 48 {
-        return Next::Still(At::Over);
-    }
-    if 57 < b {
-        return Next::Still(At::Over);
-    }
-    if k == 18 {
-        return Next::Still(At::Over);
-    }
-    if may_follow(k, n) {} else {
-        return Next::Still(At::Over);
-    }
-    Next::Still(At::Line(k + 1, n * 10 + wide_byte(b - 48)))
-}
-
-// What was taken in, and how many bytes of the input that took.
-pub struct Taken {
-    pub next: Next,
-    pub used: usize,
-}
-
-fn least(a: usize, b: usize) -> usize
-    ensures { λ r. ⌜ r ≡ min a b ⌝ }
-{
-    if a < b { a } else { b }
-}
-
-// More bytes of a page of `n`, of which `have` are held.
-fn take_page(n: usize, have: usize, input: &[u8], held: &mut [u8; 32768]) -> Taken
-    requires { ⌜ GoodAt (At.Page n have) ⌝ }
-    ensures { λ r. ⌜ Takes (At.Page n have) (now (held .entry)) (now (input .entry)) (r .next) (r .used) (now (held .exit)) ⌝ }
-{
-    let used = least(n - have, input.len());
-    memory::copy_u8(held, have, &input[..used]);
-    let now = have + used;
-    if now < n {
-        return Taken {
-            next: Next::Still(At::Page(n, now)),
-            used: used,
-        };
-    }
-    Taken {
-        next: Next::Whole(n),
-        used: used,
-    }
-}
-
-// `left` bytes of a longer page are to be passed over.
-fn take_over(left: usize, input: &[u8]) -> Taken
-    requires { ⌜ GoodAt (At.Passing left) ⌝ }
-    ensures { λ r. ⌜ ((held : List ℕ) → Takes (At.Passing left) held (now (input .entry)) (r .next) (r .used) held) ⌝ }
-{
-    let n = input.len();
-    if n < left {
-        return Taken {
-            next: Next::Still(At::Passing(left - n)),
-            used: n,
-        };
-    }
-    Taken {
-        next: Next::Passed,
-        used: left,
-    }
-}
-
-// The next byte of a length line.
-fn take_line(k: u64, n: u64, input: &[u8]) -> Taken
-    requires { ⌜ GoodAt (At.Line k n) ⌝ }
-    ensures { λ r. ⌜ ((held : List ℕ) → Takes (At.Line k n) held (now (input .entry)) (r .next) (r .used) held) ⌝ }
-{
-    if input.len() == 0 {
-        return Taken {
-            next: Next::Still(At::Line(k, n)),
-            used: 0,
-        };
-    }
-    Taken {
-        next: take_byte(k, n, input[0]),
-        used: 1,
-    }
-}
-
-// Takes in one byte of a length line, or as much of a page as there is.
-fn take_in(at: At, input: &[u8], held: &mut [u8; 32768]) -> Taken
-    requires { ⌜ GoodAt at ⌝ }
-    ensures { λ r. ⌜ Takes at (now (held .entry)) (now (input .entry)) (r .next) (r .used) (now (held .exit)) ⌝ }
-{
-    match at {
-        At::Line(k, n) => take_line(k, n, input),
-        At::Page(n, have) => take_page(n, have, input, held),
-        At::Passing(left) => take_over(left, input),
-        At::Over => Taken {
-            next: Next::Still(At::Over),
-            used: input.len(),
-        },
-    }
-}
-
-// A run through a shelf: how many pages were met, their totals, and where it stands.
-pub struct Shelf {
-    pub pages: u64,
-    pub total: Figures,
-    pub at: At,
-}
-
-// Where a run stands after so many pages: it ends at 1,000,000.
-fn due(pages: u64) -> At
-    requires { ⌜ pages ≤ 1000000 ⌝ }
-    ensures { λ r. ⌜ Due pages r ⌝ }
-{
-    if pages < 1000000 {
-        return At::Line(0, 0);
-    }
-    At::Over
-}
-
-impl Shelf {
-    // After one page more.
-    fn after(self, figures: Figures) -> Shelf
-        requires { ⌜ (self .pages ≤ 999999) × (self .total .objects ≤ 4096 * self .pages) × (self .total .bytes ≤ 16384 * self .pages) × Small figures ⌝ }
-        ensures { λ r. ⌜ After self figures r ⌝ }
-    {
-        let before = self.total;
-        let pages = self.pages + 1;
-        Shelf {
-            pages: pages,
-            total: before.merged(figures),
-            at: due(pages),
-        }
-    }
-
-    pub fn is_over(self) -> bool {
-        let at = self.at;
-        match at {
-            At::Over => true,
-            _ => false,
-        }
-    }
-}
-
-// Where a run stands after a step, how many bytes of the input it took, and where in the output it ended.
-pub struct Progress {
-    pub shelf: Shelf,
-    pub used: usize,
-    pub to: usize,
-}
-
-// A page has ended: its line, and the totals with it.
-fn answer(shelf: Shelf, shown: Shown, used: usize, out: &mut [u8; 65536], to: usize) -> Progress
-    requires { ⌜ (shelf .pages ≤ 999999) × (shelf .total .objects ≤ 4096 * shelf .pages) × (shelf .total .bytes ≤ 16384 * shelf .pages) × Small (shown .figures) ⌝ }
-    requires { ⌜ to + 160 ≤ 65536 ⌝ }
-    ensures { λ r. ⌜ Answers shelf shown (now (out .entry)) to (r .shelf) (now (out .exit)) (r .to) ⌝ }
-    ensures { λ r. ⌜ r .used ≡ used ⌝ }
-{
-    let figures = shown.figures;
-    let end = put_line(out, to, shelf.pages + 1, shown.answer, figures);
-    Progress {
-        shelf: shelf.after(figures),
-        used: used,
-        to: end,
-    }
-}
-
-// Takes in some input, and puts the line of a page that has ended.
-fn step(
-    shelf: Shelf,
-    input: &[u8],
-    held: &mut [u8; 32768],
-    narrow: &mut [u32; 24576],
-    wide: &mut [u64; 16384],
-    pool: &mut [u8; 16384],
-    out: &mut [u8; 65536],
-    to: usize,
-    marks: &mut [u8; 4096],
-    work: &mut [u64; 4096],
-) -> Progress
-    requires { ⌜ Good shelf × (to + 160 ≤ 65536) ⌝ }
-    ensures { λ r. ⌜ Goes shelf (now (held .entry)) (now (input .entry)) (now (out .entry)) to (r .shelf) (now (held .exit)) (now (out .exit)) (r .used) (r .to) ⌝ }
-{
-    let at = shelf.at;
-    let taken = take_in(at, input, held);
-    let next = taken.next;
-    match next {
-        Next::Still(now) => {
-            let total = shelf.total;
-            Progress {
-                shelf: Shelf {
-                    pages: shelf.pages,
-                    total: total,
-                    at: now,
-                },
-                used: taken.used,
-                to: to,
-            }
-        }
-        Next::Whole(n) => {
-            let shown = show(held, n, narrow, wide, pool, marks, work);
-            answer(shelf, shown, taken.used, out, to)
-        }
-        Next::Passed => answer(shelf, no_page(), taken.used, out, to),
-    }
-}
-
-// The names line, and a run at its start.
-pub fn begin(out: &mut [u8; 65536]) -> Progress
-    ensures { λ r. ⌜ Begun (r .shelf) (now (out .exit)) (r .to) ⌝ }
-{
-    let to = text::put_literal(out, 0, b"page,answer,objects,bytes,largest,mean,rest\n");
-    Progress {
-        shelf: Shelf {
-            pages: 0,
-            total: Figures::none(),
-            at: due(0),
-        },
-        used: 0,
-        to: to,
-    }
-}
-
-// Goes through the next bytes of the input, until all are taken in or the output has no room for one more line.
-pub fn go_on(
-    shelf: Shelf,
-    input: &[u8],
-    held: &mut [u8; 32768],
-    narrow: &mut [u32; 24576],
-    wide: &mut [u64; 16384],
-    pool: &mut [u8; 16384],
-    out: &mut [u8; 65536],
-    marks: &mut [u8; 4096],
-    work: &mut [u64; 4096],
-) -> Progress
-    requires { ⌜ Good shelf ⌝ }
-    ensures { λ r. ⌜ Goes shelf (now (held .entry)) (now (input .entry)) (now (out .entry)) 0 (r .shelf) (now (held .exit)) (now (out .exit)) (r .used) (r .to) ⌝ }
-{
-    let mut s = shelf;
-    let mut used = 0;
-    let mut to = 0;
-    while used < input.len() {
-        if 65376 < to {
-            return Progress {
-                shelf: s,
-                used: used,
-                to: to,
-            };
-        }
-        let now = step(
-            s,
-            &input[used..],
-            held,
-            narrow,
-            wide,
-            pool,
-            out,
-            to,
-            marks,
-            work,
-        );
-        s = now.shelf;
-        used += now.used;
-        to = now.to;
-    }
-    Progress {
-        shelf: s,
-        used: used,
-        to: to,
-    }
-}
-
-// Is a page begun or, where the input could not be read on, due?
-fn is_cut_off(at: At, failed: bool) -> bool
-    ensures { λ r. ⌜ r ≡ cutOff at failed ⌝ }
-{
-    match at {
-        At::Line(_, _) => failed,
-        At::Page(_, _) => true,
-        At::Passing(_) => true,
-        At::Over => false,
-    }
-}
-
-// The line of a page that was cut off, if there is one, and the last line.
-pub fn finish(shelf: Shelf, failed: bool, out: &mut [u8; 65536]) -> usize
-    requires { ⌜ Good shelf ⌝ }
-    ensures { λ r. ⌜ Ends shelf failed (now (out .exit)) r ⌝ }
-{
-    let total = shelf.total;
-    let at = shelf.at;
-    if is_cut_off(at, failed) {
-        let to = put_line(out, 0, shelf.pages + 1, 17, Figures::none());
-        return put_line(out, to, 0, 0, total);
-    }
-    put_line(out, 0, 0, 0, total)
 }

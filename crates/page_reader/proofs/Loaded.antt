@@ -169,6 +169,18 @@ passed r S P (some g) h v = go (r && sound g) refl (ltb P (dataSize (g .slots)))
         let p = and-both r (sound g) ea in
         rw (← e) (record { page = refl; sizes = p .0; sound = p .1; room = ltb-false P (dataSize (g .slots)) eb; slots = ltb-false S (length (g .slots)) ed })
 
+-- a refusal has a number
+pub few-numbers : (t : Bool) (S P : ℕ) (o : Option State) (n : ℕ) → verdict t S P o ≡ refused n → 1 ≤ n
+unfolding verdict
+few-numbers t S P none n e = let q : 17 ≡ n = cc in omega arith
+few-numbers t S P (some h) n e = go (t && sound h) refl (ltb P (dataSize (h .slots))) refl (ltb S (length (h .slots))) refl e
+  where
+    go : (a : Bool) → (t && sound h) ≡ a → (b : Bool) → ltb P (dataSize (h .slots)) ≡ b → (d : Bool) → ltb S (length (h .slots)) ≡ d → verdict t S P (some h) ≡ refused n → 1 ≤ n
+    go false ea b eb d ed u = let q : _≡_ {A = Result State} (refused 1) (refused n) = rw ea at u in let z : 1 ≡ n = cc in omega arith
+    go true ea true eb d ed u = let q : _≡_ {A = Result State} (refused 6) (refused n) = rw (ea, eb) at u in let z : 6 ≡ n = cc in omega arith
+    go true ea false eb true ed u = let q : _≡_ {A = Result State} (refused 5) (refused n) = rw (ea, eb, ed) at u in let z : 5 ≡ n = cc in omega arith
+    go true ea false eb false ed u = let q : _≡_ {A = Result State} (ok h) (refused n) = rw (ea, eb, ed) at u in absurd (not-ok n (sym q))
+
 pub is-page : (s : List ℕ) (v : Result State) (x : Sections) {r : Checked} → Checking s v r → r ≡ checked.Page x → Accepted s v x
 is-page s v x c e = subst (Checking s v) e c
 

@@ -1,5 +1,4 @@
 // Reads pages from standard input, each after a line with its length in bytes, and prints what each shows and the totals.
-use figures::Shelf;
 use libc::STDIN_FILENO;
 use libc::STDOUT_FILENO;
 
@@ -12,7 +11,7 @@ fn main() {
     let mut held = [0u8; 32768];
     let mut input = io::large_buffer();
     let mut out = io::large_buffer();
-    let start = figures::begin(&mut out);
+    let start = shelves::begin(&mut out);
     let n = start.to;
     io::write_all(STDOUT_FILENO, &out[..n]);
     let mut s = start.shelf;
@@ -24,7 +23,7 @@ fn main() {
         let n = io::count(got, &input);
         let mut used = 0;
         while used < n {
-            let now = figures::go_on(
+            let now = shelves::go_on(
                 s,
                 &input[used..n],
                 &mut held,
@@ -48,6 +47,6 @@ fn main() {
             turns = 0;
         }
     }
-    let to = figures::finish(s, failed, &mut out);
+    let to = shelves::finish(s, failed, &mut out);
     io::write_all(STDOUT_FILENO, &out[..to]);
 }

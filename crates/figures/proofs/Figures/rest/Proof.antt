@@ -1,20 +1,17 @@
+-- `figures::Figures::rest` meets its contract, by its test. Assumes nothing.
 use borrow.Author.Needs.{needs}
+use borrow.Author.Tests.{eq-eqb, ne-eqb}
 use Rattle.figures.proofs.Figures.rest.Statement.{statement}
 use Rattle.figures.proofs.Figures.rest.Tie as tie
-use Rattle.figures.proofs.Figures.rest.Reads as reads
-use Rattle.figures.proofs.Figures.rest.Lts as lts
 
--- src/lib.rt:87:13
 rem-result : tie.Need-rem-result
 rem-result c = search needs
 
--- src/lib.rt:81:5
 returns : tie.Need-returns
-returns c = ?
+returns c = simp (eq-eqb _ _ (c .if1 .taken))
 
--- src/lib.rt:81:5
 returns-2 : tie.Need-returns-2
-returns-2 c = ?
+returns-2 c = simp (ne-eqb _ _ (c .before .if1 .left))
 
 pub rest-spec : {M : Type 1} → statement M
 rest-spec = tie.close (tie.spec rem-result returns returns-2)

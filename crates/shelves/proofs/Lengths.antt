@@ -9,10 +9,10 @@ use lib.Dec.{eqb, ltb, leb}
 use lib.ListN.{length, length-append}
 use borrow.Author.Tests.{lt-ltb, le-ltb, le-leb, lt-leb, eq-eqb, ne-eqb, ltb-true, ltb-false, leb-true, eqb-true}
 use Rattle.word.specs.Choice.{if_then_else_}
-use Rattle.word.proofs.Bools.{and-both, or-true}
+use Rattle.word.proofs.Bools.{and-both, or-right}
 use Rattle.text.specs.Text.{newline, decimal}
 use Rattle.text.proofs.Laws.{decimal-one, decimal-more, decimal-snoc, decimal-length-one, decimal-length-more}
-use Rattle.figures.specs.Shelf.{LengthLine, length-of, unfinished, no-length, isDigit, lengthLine}
+use Rattle.shelves.specs.Shelf.{LengthLine, length-of, unfinished, no-length, isDigit, lengthLine}
 
 -- ---- one byte, by the tests of the code
 
@@ -70,7 +70,7 @@ digits-read (suc most) n t h s = go (λ l u z. digits-read most (n / 10) u (omeg
         ap (λ (x : List ℕ). lengthLine 0 0 (x ++ t)) (decimal-more n l)
         ∙ ap (lengthLine 0 0) (append-assoc (decimal (n / 10)) ((48 + n % 10) ∷ []) t)
         ∙ ih l ((48 + n % 10) ∷ t) (omega arith)
-        ∙ digit k (n / 10) (n % 10) t m (omega arith) (or-true (eqb k 0) (ltb 0 (n / 10)) (lt-ltb 0 (n / 10) p))
+        ∙ digit k (n / 10) (n % 10) t m (omega arith) (or-right (eqb k 0) (ltb 0 (n / 10)) (lt-ltb 0 (n / 10) p))
         ∙ ap (λ (x : ℕ). lengthLine (suc k) x t) (let v : n / 10 * 10 + n % 10 ≡ n = omega arith in v)
         ∙ ap (λ (x : ℕ). lengthLine x n t) (let v : suc k ≡ length (decimal n) = omega arith in v)
 
@@ -98,10 +98,10 @@ data Byte (k n b : ℕ) (t : List ℕ) : Type 0 where
   fails : lengthLine k n (b ∷ t) ≡ no-length → Byte k n b t
 
 by-byte : (k n b : ℕ) (t : List ℕ) → Byte k n b t
+unfolding lengthLine
 by-byte k n b t = go (eqb b newline && ltb 0 k) refl (isDigit b && ltb k 18 && (eqb k 0 || ltb 0 n)) refl
   where
     go : (x : Bool) → (eqb b newline && ltb 0 k) ≡ x → (y : Bool) → (isDigit b && ltb k 18 && (eqb k 0 || ltb 0 n)) ≡ y → Byte k n b t
-    unfolding lengthLine
     go true e y f = ends (eqb-true b 10 (and-both (eqb b newline) (ltb 0 k) e .0)) (rw e)
     go false e true f =
         let p = and-both (isDigit b && ltb k 18) (eqb k 0 || ltb 0 n) f in

@@ -7,16 +7,16 @@ use lib.Dec.{ltb}
 use lib.ListN.{length, take, drop}
 use Rattle.word.specs.Choice.{if_then_else_}
 use Rattle.word.specs.Result.{Result, refused}
 use Rattle.figures.specs.declared.Figures.{Figures}
-use Rattle.figures.specs.declared.At.{At}
-use Rattle.figures.specs.declared.At.the-variants.{Line, Page as InPage, Passing, Over}
-use Rattle.figures.specs.declared.Next.{Next}
-use Rattle.figures.specs.declared.Next.the-variants.{Still, Whole, Passed}
-use Rattle.figures.specs.declared.Shelf.{Shelf}
-use Rattle.figures.specs.Figures.{figuresLine}
+use Rattle.shelves.specs.declared.At.{At}
+use Rattle.shelves.specs.declared.At.the-variants.{Line, Page as InPage, Passing, Over}
+use Rattle.shelves.specs.declared.Next.{Next}
+use Rattle.shelves.specs.declared.Next.the-variants.{Still, Whole, Passed}
+use Rattle.shelves.specs.declared.Shelf.{Shelf}
+use Rattle.figures.specs.Figures.{merge, total, figuresLine}
 use Rattle.figures.specs.declared.Shown.{Shown}
-use Rattle.figures.specs.Shelf.{lengthLine, whole, byBytes, byLine, pagesIn, shown, answersIn, answerLines, merge, total, accepted, shelfText}
+use Rattle.shelves.specs.Shelf.{lengthLine, whole, byBytes, byLine, pagesIn, shown, answersIn, answerLines, accepted, shelfText}
 use Rattle.figures.specs.inner.Counting.{shownAs}
 
 -- what follows p bytes of a page that are passed over
 unfoldable pub passedOver : (most : ℕ) (failed : Bool) (p : ℕ) → List ℕ → List (Result Figures)

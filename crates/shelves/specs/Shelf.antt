@@ -1,14 +1,14 @@
 -- A shelf of pages (request [14]): the pages of an input, what is printed of them, and the totals.
-use Prim.Native.Nat.{ℕ, zero, suc, _+_, _-_, _*_, max}
+use Prim.Native.Nat.{ℕ, zero, suc, _+_, _-_, _*_}
 use mathlib.Core.Bool.{Bool, true, false, _&&_, _||_}
-use mathlib.Core.List.{List, [], _∷_, _++_, map, foldr}
+use mathlib.Core.List.{List, [], _∷_, _++_, map}
 use lib.Dec.{eqb, ltb, leb}
 use lib.ListN.{length, take, drop}
 use Rattle.word.specs.Choice.{if_then_else_}
 use Rattle.word.specs.Result.{Result, ok, refused}
 use Rattle.text.specs.Text.{ascii, newline}
 use Rattle.figures.specs.declared.Figures.{Figures}
-use Rattle.figures.specs.Figures.{noFigures, pageFigures, figuresLine}
+use Rattle.figures.specs.Figures.{noFigures, total, pageFigures, figuresLine}
 
 -- THE INPUT
 
@@ -70,18 +70,6 @@ answerLine k (refused n) = figuresLine k n noFigures
 unfoldable pub answerLines : (k : ℕ) → List (Result Figures) → List ℕ
 answerLines k [] = []
 answerLines k (r ∷ rs) = answerLine k r ++ answerLines (suc k) rs
-
--- two lots of figures together
-abbrev pub merge : Figures → Figures → Figures
-merge f g =
-    record {
-      objects = f .objects + g .objects;
-      bytes = f .bytes + g .bytes;
-      largest = max (f .largest) (g .largest);
-    }
-
-abbrev pub total : List Figures → Figures
-total = foldr merge noFigures
 
 abbrev pub accepted : List (Result Figures) → List Figures
 accepted [] = []

@@ -1,0 +1,5 @@
+pub mod Lengths
+pub mod Taking
+pub mod Telling
+pub mod Going
+pub mod Making
