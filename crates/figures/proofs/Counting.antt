@@ -154,8 +154,7 @@ module _ (h : Heap) (narrow wide pool : List ℕ) (l : Lies (lent h narrow wide 
   pub counted-all : (from i : ℕ) (f : Figures) → Counted slots from i f → h .slots ≤ i → (f ≡ figuresOf slots) × Small f
   counted-all from i f c k =
       let e : length slots ≤ i = omega (arith, slots-are) in
-      let z : flat (take i (dataOf slots)) ≡ flat (dataOf slots) = ap flat (take-all i (dataOf slots) (omega (arith, e, length-map slots (λ (x : Slot). x .bytes)))) in
-      (
+      let z : flat (take i (dataOf slots)) ≡ flat (dataOf slots) = ap flat (take-all i (dataOf slots) (omega (arith, e, length-map slots (λ (x : Slot). x .bytes)))) in (
         sym (merge-none f) ∙ ap (merge f) (sym (none-left (drop i slots) (drop-of-length-le slots {i = i} e))) ∙ c .left,
         record { objects = omega (arith, c .objects, c .inside, l .slots); bytes = omega (arith, c .bytes, c .ends, ap length z, l .bytes) },
       )

@@ -91,8 +91,7 @@ module _ (h : Heap) (narrow wide pool marks work text : List ℕ) (n : length na
     lies-as : (s : State) → v ≡ ok s → l′ ≡ stored 4096 16384 s → (view l′ ≡ s) × Lies l′
     lies-as s e r =
         let q = passed true 4096 16384 (readPage text) s e in
-        let u : view l′ ≡ s = ap view r ∙ view-stored 4096 16384 s in
-        (
+        let u : view l′ ≡ s = ap view r ∙ view-stored 4096 16384 s in (
           u,
           record {
             lies = r ∙ ap (stored 4096 16384) (sym u);

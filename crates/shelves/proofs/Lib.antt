@@ -2,4 +2,3 @@ pub mod Lengths
 pub mod Taking
 pub mod Telling
 pub mod Going
-pub mod Making

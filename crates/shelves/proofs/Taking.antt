@@ -74,9 +74,9 @@ begins-passing n h =
       same = λ most failed held rest. by-size (length rest) n
           (λ s. ap answers (bytes-short (pagesIn most failed) n rest s) ∙ one-cut ∙ ap (λ (l : List (Result Figures)). refused 17 ∷ l) (sym (over-short most failed n rest s)))
           (λ s.
-            ap answers (bytes-there (pagesIn most failed) n rest s)
-            ∙ ap (λ (r : Result Figures). r ∷ answersIn most failed (drop n rest)) (shown-long (take n rest) (omega (arith, length-take-le n rest s)))
-            ∙ ap (λ (l : List (Result Figures)). refused 17 ∷ l) (sym (over-there most failed n rest s)));
+          ap answers (bytes-there (pagesIn most failed) n rest s)
+          ∙ ap (λ (r : Result Figures). r ∷ answersIn most failed (drop n rest)) (shown-long (take n rest) (omega (arith, length-take-le n rest s)))
+          ∙ ap (λ (l : List (Result Figures)). refused 17 ∷ l) (sym (over-there most failed n rest s)));
     }
 
 pub begins-empty : (n : ℕ) → n ≡ 0 → Begins n (Whole 0)
@@ -133,7 +133,7 @@ module _ (k n b : ℕ) where
       -- there is room for a digit more
       pub room-for : n * 10 + 9 < 18446744073709551616
       room-for =
-          let p : 10 ^ k ≤ 10 ^ 17 = pow-le-pow-right (omega arith) (omega arith) in
+          let p : 10 ^ k ≤ 10 ^ 17 = pow-le-pow-right {n = 10} (omega arith) {i = k} {j = 17} (omega arith) in
           let q : 10 ^ k ≤ 100000000000000000 = p in
           omega arith
 
@@ -151,6 +151,10 @@ module _ (k n b : ℕ) where
           }
 
 -- ---- taking in
+
+-- where the run stands, by its name
+pub takes-at : {at x : At} {held input : List ℕ} {next : Next} {used : ℕ} {held′ : List ℕ} → at ≡ x → Takes x held input next used held′ → Takes at held input next used held′
+takes-at {at} {x} {held} {input} {next} {used} {held′} e t = subst (λ (y : At). Takes y held input next used held′) (sym e) t
 
 -- nothing is there
 pub takes-none : (at : At) (held input : List ℕ) → GoodAt at → length input ≡ 0 → Takes at held input (Still at) 0 held
@@ -188,12 +192,12 @@ module _ (p : ℕ) (held input : List ℕ) where
         same = λ most failed rest. ap (λ (l : List (Result Figures)). refused 17 ∷ l)
             (by-size (length rest) (p - n)
             (λ s.
-              over-short most failed p (input ++ rest) (omega (arith, length-append input rest))
-              ∙ sym (over-short most failed (p - n) (drop n input ++ rest) (omega (arith, ap (λ (x : List ℕ). length (x ++ rest)) (drop-length input)))))
+            over-short most failed p (input ++ rest) (omega (arith, length-append input rest))
+            ∙ sym (over-short most failed (p - n) (drop n input ++ rest) (omega (arith, ap (λ (x : List ℕ). length (x ++ rest)) (drop-length input)))))
             (λ s.
-              over-there most failed p (input ++ rest) (omega (arith, length-append input rest))
-              ∙ ap (answersIn most failed) (ap (λ (m : ℕ). drop m (input ++ rest)) (let e : p ≡ n + (p - n) = omega arith in e) ∙ drop-append-add input rest (p - n) ∙ sym (ap (λ (x : List ℕ). drop (p - n) (x ++ rest)) (drop-length input)))
-              ∙ sym (over-there most failed (p - n) (drop n input ++ rest) (omega (arith, ap (λ (x : List ℕ). length (x ++ rest)) (drop-length input))))));
+            over-there most failed p (input ++ rest) (omega (arith, length-append input rest))
+            ∙ ap (answersIn most failed) (ap (λ (m : ℕ). drop m (input ++ rest)) (let e : p ≡ n + (p - n) = omega arith in e) ∙ drop-append-add input rest (p - n) ∙ sym (ap (λ (x : List ℕ). drop (p - n) (x ++ rest)) (drop-length input)))
+            ∙ sym (over-there most failed (p - n) (drop n input ++ rest) (omega (arith, ap (λ (x : List ℕ). length (x ++ rest)) (drop-length input))))));
       }
 
   pub takes-passed : 0 < p → p ≤ length input → Takes (Passing p) held input Passed p held
@@ -227,7 +231,7 @@ module _ (n have : ℕ) (held input held′ : List ℕ) (used : ℕ) (u : used �
   all-there : (rest : List ℕ) → take have held ++ (input ++ rest) ≡ take (have + used) held′ ++ (drop used input ++ rest)
   all-there rest =
       ap (λ (x : List ℕ). take have held ++ (x ++ rest)) (sym (take-append-drop used input))
-      ∙ simp append-assoc
+      ∙ ap (λ (x : List ℕ). take have held ++ x) (append-assoc (take used input) (drop used input) rest)
       ∙ sym (ap (λ (x : List ℕ). x ++ (drop used input ++ rest)) held-now ∙ append-assoc (take have held) (take used input) (drop used input ++ rest))
 
   some-used : 0 < length input → 0 < used

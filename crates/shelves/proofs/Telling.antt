@@ -23,7 +23,7 @@ use Rattle.shelves.specs.declared.At.{At}
 use Rattle.shelves.specs.declared.At.the-variants.{Line, Page as InPage, Passing, Over}
 use Rattle.shelves.specs.declared.Shelf.{Shelf}
 use Rattle.shelves.specs.Shelf.{LengthLine, lengthLine, Page, cut-off, byBytes, byLine, pagesIn, shown, answersIn, answersOf, answerLine, answerLines, accepted, namesLine, lastLine, shelfText}
-use Rattle.shelves.specs.inner.Steps.{passedOver, leftAt, printed, textLeft, GoodAt, Good, Due, After, Answers, Begun, Ends, cutOff}
+use Rattle.shelves.specs.inner.Steps.{passedOver, leftAt, printed, textLeft, GoodAt, Good, mostAt, Due, After, Answers, Begun, Ends, cutOff}
 use Rattle.shelves.proofs.Taking.{bytes-short, over-short}
 
 -- one page more: a refused one adds zeros
@@ -123,6 +123,12 @@ begun-is t at out out′ to e d l p =
     }
 
 -- ---- the end
+
+pub most-at : (at : At) → mostAt at ≤ 1000000
+most-at (Line k n) = omega arith
+most-at (InPage n have) = omega arith
+most-at (Passing p) = omega arith
+most-at Over = omega arith
 
 cut : Bool → List (Result Figures)
 cut b = if b then refused 17 ∷ [] else []

@@ -9,7 +9,7 @@ ghost use mathlib.Core.List.{List};
 ghost use Prim.Native.Nat.{ℕ, _+_, _*_, _≤_, min};
 ghost use lib.Dec.{eqb, ltb};
 ghost use Rattle.figures.specs.inner.Counting.{Small};
-ghost use Rattle.shelves.specs.inner.Steps.{GoodAt, Good, Begins, Reads, Takes, Due, After, Answers, Goes, Begun, Ends, cutOff};
+ghost use Rattle.shelves.specs.inner.Steps.{GoodAt, Good, Begins, Reads, Takes, Due, After, Answers, Goes, Begun, Ends, isOver, cutOff};
 
 // Where a run stands in its input.
 pub enum At {
@@ -204,11 +204,16 @@ impl Shelf {
         }
     }
 
-    pub fn is_over(self) -> bool {
+    // Is the run over, whatever input follows?
+    pub fn is_over(self) -> bool
+        ensures { λ r. ⌜ r ≡ isOver (self .at) ⌝ }
+    {
         let at = self.at;
         match at {
+            At::Line(_, _) => false,
+            At::Page(_, _) => false,
+            At::Passing(_) => false,
             At::Over => true,
-            _ => false,
         }
     }
 }

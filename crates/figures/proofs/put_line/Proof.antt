@@ -33,11 +33,10 @@ put-field-requires-7 : tie.Need-put-field-requires-7
 put-field-requires-7 c κs = search needs
 
 returns : tie.Need-returns
-returns c =
-    (
-      puts-line (c .before .before .before .before .before .before .before .before .before .before .before .before .before .before .before .before .args .page) (c .before .before .before .before .before .before .before .before .before .before .before .before .before .before .before .before .args .answer) (c .before .before .before .before .before .before .before .before .before .before .before .before .before .before .before .before .args .f) (c .before .before .before .before .before .before .before .before .before .before .before .before .before .before .put-field .ensures .0) (c .before .before .before .before .before .before .before .before .before .before .before .before .put-field2 .ensures .0) (c .before .before .before .before .before .before .before .before .before .before .put-field3 .ensures .0) (c .before .before .before .before .before .before .before .before .put-field4 .ensures .0) (c .before .before .before .before .before .before .put-field5 .ensures .0) (c .before .before .before .put-field6 .ensures .0) (c .put-field7 .ensures .0) (c .before .before .before .before .mean .ensures) (c .before .rest .ensures) (omega (arith, c .before .before .before .before .before .before .before .before .before .before .before .before .before .before .put-field .ensures .1 .1, c .before .before .before .before .before .before .before .before .before .before .before .before .before .before .before .before .pre)),
-      (omega (arith, c .before .before .before .before .before .before .before .before .before .before .before .before .before .before .put-field .ensures .1 .0, c .before .before .before .before .before .before .before .before .before .before .before .before .put-field2 .ensures .1 .0, c .before .before .before .before .before .before .before .before .before .before .put-field3 .ensures .1 .0, c .before .before .before .before .before .before .before .before .put-field4 .ensures .1 .0, c .before .before .before .before .before .before .put-field5 .ensures .1 .0, c .before .before .before .put-field6 .ensures .1 .0, c .put-field7 .ensures .1 .0), c .before .before .before .before .before .before .before .before .before .before .before .before .before .before .put-field .ensures .1 .1),
-    )
+returns c = (
+  puts-line (c .before .before .before .before .before .before .before .before .before .before .before .before .before .before .before .before .args .page) (c .before .before .before .before .before .before .before .before .before .before .before .before .before .before .before .before .args .answer) (c .before .before .before .before .before .before .before .before .before .before .before .before .before .before .before .before .args .f) (c .before .before .before .before .before .before .before .before .before .before .before .before .before .before .put-field .ensures .0) (c .before .before .before .before .before .before .before .before .before .before .before .before .put-field2 .ensures .0) (c .before .before .before .before .before .before .before .before .before .before .put-field3 .ensures .0) (c .before .before .before .before .before .before .before .before .put-field4 .ensures .0) (c .before .before .before .before .before .before .put-field5 .ensures .0) (c .before .before .before .put-field6 .ensures .0) (c .put-field7 .ensures .0) (c .before .before .before .before .mean .ensures) (c .before .rest .ensures) (omega (arith, c .before .before .before .before .before .before .before .before .before .before .before .before .before .before .put-field .ensures .1 .1, c .before .before .before .before .before .before .before .before .before .before .before .before .before .before .before .before .pre)),
+  (omega (arith, c .before .before .before .before .before .before .before .before .before .before .before .before .before .before .put-field .ensures .1 .0, c .before .before .before .before .before .before .before .before .before .before .before .before .put-field2 .ensures .1 .0, c .before .before .before .before .before .before .before .before .before .before .put-field3 .ensures .1 .0, c .before .before .before .before .before .before .before .before .put-field4 .ensures .1 .0, c .before .before .before .before .before .before .put-field5 .ensures .1 .0, c .before .before .before .put-field6 .ensures .1 .0, c .put-field7 .ensures .1 .0), c .before .before .before .before .before .before .before .before .before .before .before .before .before .before .put-field .ensures .1 .1),
+)
 
 pub put-line-spec : {M : Type 1} → statement M
 put-line-spec =

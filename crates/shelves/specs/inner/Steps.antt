@@ -129,6 +129,12 @@ pub record Begun (s : Shelf) (out′ : List ℕ) (to : ℕ) : Type 0 where
   pub room : to ≤ 65536
   pub same : (failed : Bool) (held input : List ℕ) → shelfText failed input ≡ take to out′ ++ textLeft s failed held input
 
+abbrev pub isOver : At → Bool
+isOver (Line k n) = false
+isOver (InPage n have) = false
+isOver (Passing p) = false
+isOver Over = true
+
 -- is a page begun or, where the input could not be read on, due?
 abbrev pub cutOff : At → (failed : Bool) → Bool
 cutOff (Line k n) failed = failed
