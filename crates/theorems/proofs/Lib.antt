@@ -10,3 +10,4 @@ pub mod NoRoom
 pub mod StrideZero
 pub mod ProvedTable
 pub mod TestsPass
+pub mod Shelf

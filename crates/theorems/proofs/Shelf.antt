@@ -2,7 +2,7 @@
 use Prim.Native.Nat.{ℕ, zero, suc, _+_, _-_, _^_, _≤_, _<_, max}
 use mathlib.Core.Bool.{Bool, true, false}
 use mathlib.Core.List.{List, [], _∷_, _++_, append-assoc, append-nil, map, map-append}
-use mathlib.Core.Path.{_≡_, refl, sym, ap, _∙_}
+use mathlib.Core.Path.{_≡_, refl, sym, ap, _∙_, subst}
 use native.Mathlib.Omega.{arith}
 use lib.Dec.{ltb}
 use lib.ListN.{length, take, drop, length-append, take-append-drop, length-take}
@@ -24,7 +24,7 @@ use Rattle.shelves.specs.Shelf.{LengthLine, length-of, unfinished, no-length, l
 use Rattle.shelves.specs.inner.Steps.{leftAt, printed, textLeft, Goes, Begun, Ends}
 use Rattle.shelves.proofs.Lengths.{line-forth, line-back}
 use Rattle.shelves.proofs.Taking.{bytes-there, bytes-short}
-use Rattle.theorems.specs.Shelf.{lastFigures, Sums, Summed, LastLineSums, shelfOf, Measurable, IsShelf, NoneCutOff, Reordered, none, keep, swap, both, AnyOrder, Together, Run, ended, over, goes, RunPrints}
+use Rattle.theorems.specs.Shelf.{lastFigures, Sums, Summed, LastLineSums, shelfOf, Measurable, IsShelf, NoneCutOff, Reordered, AnyOrder, Together, Run, ended, over, goes, RunPrints}
 
 -- ---- the last line
 
@@ -96,39 +96,45 @@ figuresAt p = shownAs (shown (whole p)) .figures
 total-first : (p : List ℕ) (ps : List (List ℕ)) → totalOf (map whole (p ∷ ps)) ≡ merge (figuresAt p) (totalOf (map whole ps))
 total-first p ps = first-total (shown (whole p)) (map shown (map whole ps))
 
-total-swap : (p q : List ℕ) (ps : List (List ℕ)) → totalOf (map whole (p ∷ q ∷ ps)) ≡ totalOf (map whole (q ∷ p ∷ ps))
-total-swap p q ps =
-    let x : Figures = totalOf (map whole ps) in
-    total-first p (q ∷ ps) ∙ ap (merge (figuresAt p)) (total-first q ps) ∙ sym (merge-assoc (figuresAt p) (figuresAt q) x)
-    ∙ ap (λ (y : Figures). merge y x) (merge-comm (figuresAt p) (figuresAt q)) ∙ merge-assoc (figuresAt q) (figuresAt p) x
-    ∙ ap (merge (figuresAt q)) (sym (total-first p ps)) ∙ sym (total-first q (p ∷ ps))
+-- a page in the midst of others
+total-midst : (a b : List (List ℕ)) (p : List ℕ) → totalOf (map whole (a ++ (p ∷ b))) ≡ merge (figuresAt p) (totalOf (map whole (a ++ b)))
+total-midst a b p =
+    let x : Figures = totalOf (map whole a) in
+    let y : Figures = totalOf (map whole b) in
+    ap totalOf (map-append whole a (p ∷ b)) ∙ total-pages (map whole a) (map whole (p ∷ b)) ∙ ap (merge x) (total-first p b)
+    ∙ sym (merge-assoc x (figuresAt p) y) ∙ ap (λ (z : Figures). merge z y) (merge-comm x (figuresAt p)) ∙ merge-assoc (figuresAt p) x y
+    ∙ ap (merge (figuresAt p)) (sym (total-pages (map whole a) (map whole b)) ∙ ap totalOf (sym (map-append whole a b)))
 
-total-order : {ps qs : List (List ℕ)} → Reordered ps qs → totalOf (map whole ps) ≡ totalOf (map whole qs)
-total-order none = refl
-total-order (keep {p} {ps} {qs} r) = total-first p ps ∙ ap (merge (figuresAt p)) (total-order r) ∙ sym (total-first p qs)
-total-order (swap {p} {q} {ps}) = total-swap p q ps
-total-order (both r s) = total-order r ∙ total-order s
+total-order : (ps qs : List (List ℕ)) → Reordered ps qs → totalOf (map whole ps) ≡ totalOf (map whole qs)
+unfolding Reordered
+total-order [] qs r = ap (λ (l : List (List ℕ)). totalOf (map whole l)) (sym r)
+total-order (p ∷ ps) qs r =
+    total-first p ps ∙ ap (merge (figuresAt p)) (total-order ps (r .0 ++ r .1) (r .3)) ∙ sym (total-midst (r .0) (r .1) p)
+    ∙ ap (λ (l : List (List ℕ)). totalOf (map whole l)) (sym (r .2))
 
-length-order : {ps qs : List (List ℕ)} → Reordered ps qs → length ps ≡ length qs
-length-order none = refl
-length-order (keep r) = ap suc (length-order r)
-length-order swap = refl
-length-order (both r s) = length-order r ∙ length-order s
+length-order : (ps qs : List (List ℕ)) → Reordered ps qs → length ps ≡ length qs
+unfolding Reordered
+length-order [] qs r = sym (ap length r)
+length-order (p ∷ ps) qs r =
+    omega (arith, length-order ps (r .0 ++ r .1) (r .3), ap length (r .2), length-append (r .0) (r .1), length-append (r .0) (p ∷ r .1))
 
-measured-order : {ps qs : List (List ℕ)} → Reordered ps qs → Measurable ps → Measurable qs
-measured-order none m = tt
-measured-order (keep r) m = (m .0, measured-order r (m .1))
-measured-order swap m = (m .1 .0, (m .0, m .1 .1))
-measured-order (both r s) m = measured-order s (measured-order r m)
+insert-measured : (a b : List (List ℕ)) (p : List ℕ) → length p < 10 ^ 18 → Measurable (a ++ b) → Measurable (a ++ (p ∷ b))
+insert-measured [] b p h m = (h, m)
+insert-measured (x ∷ a) b p h m = (m .0, insert-measured a b p h (m .1))
+
+measured-order : (ps qs : List (List ℕ)) → Reordered ps qs → Measurable ps → Measurable qs
+unfolding Reordered
+measured-order [] qs r m = subst Measurable (sym r) tt
+measured-order (p ∷ ps) qs r m = subst Measurable (sym (r .2)) (insert-measured (r .0) (r .1) p (m .0) (measured-order ps (r .0 ++ r .1) (r .3) (m .1)))
 
 pub any-order : AnyOrder
 unfolding lastLine
 any-order failed ps qs rest r h m =
-    let n : length ps ≡ length qs = length-order r in
+    let n : length ps ≡ length qs = length-order ps qs r in
     ap (figuresLine 0 0)
     (total-shelf failed ps rest h m
-    ∙ (λ j. merge (total-order r j) (totalOf (pagesIn (1000000 - n j) failed rest)))
-    ∙ sym (total-shelf failed qs rest (omega arith) (measured-order r m)))
+    ∙ (λ j. merge (total-order ps qs r j) (totalOf (pagesIn (1000000 - n j) failed rest)))
+    ∙ sym (total-shelf failed qs rest (omega arith) (measured-order ps qs r m)))
 
 -- ---- shelves together
 
@@ -164,6 +170,13 @@ one-or-none : (failed : Bool) (p : List ℕ) (ps : List (List ℕ)) → (if fail
 one-or-none true p ps e = no-cut (cons-first e .0)
 one-or-none false p ps e = no-pages e
 
+by-size : {R : Type 0} (a b : ℕ) → (a < b → R) → (b ≤ a → R) → R
+by-size {R} a b f g = go (ltb a b) refl
+  where
+    go : (x : Bool) → ltb a b ≡ x → R
+    go true e = f (ltb-true a b e)
+    go false e = g (ltb-false a b e)
+
 is-shelf : (failed : Bool) (most : ℕ) (t : List ℕ) (ps : List (List ℕ)) → pagesIn most failed t ≡ map whole ps → IsShelf t ps
 unfolding pagesIn byLine shelfOf
 is-shelf failed most t [] e = record { rest = t; is = refl }
@@ -190,11 +203,10 @@ is-shelf failed (suc most) t (p ∷ ps) e = go (lengthLine 0 0 t) refl e (λ u f
         ((v : List ℕ) → pagesIn most failed v ≡ map whole ps → IsShelf v ps) → IsShelf t (p ∷ ps)
     go unfinished l f ih = absurd (one-or-none failed p ps f)
     go no-length l f ih = absurd (no-pages f)
-    go (length-of n u) l f ih = by (ltb (length u) n) refl
-      where
-        by : (b : Bool) → ltb (length u) n ≡ b → IsShelf t (p ∷ ps)
-        by true c = absurd (no-cut (cons-first (sym (bytes-short (pagesIn most failed) n u (ltb-true (length u) n c)) ∙ f) .0))
-        by false c = there n u l (ltb-false (length u) n c) (sym (bytes-there (pagesIn most failed) n u (ltb-false (length u) n c)) ∙ f) ih
+    go (length-of n u) l f ih =
+        by-size (length u) n
+        (λ c. absurd (no-cut (cons-first (sym (bytes-short (pagesIn most failed) n u c) ∙ f) .0)))
+        (λ c. there n u l c (sym (bytes-there (pagesIn most failed) n u c) ∙ f) ih)
 
 pub none-cut-off : NoneCutOff
 none-cut-off failed input ps e = is-shelf failed 1000000 input ps e
@@ -208,9 +220,10 @@ over-left s failed held input e =
     ap (printed (s .pages + 1) (s .total)) (ap (λ (x : At). leftAt m failed held x input) e ∙ sym (ap (λ (x : At). leftAt m failed held x []) e))
 
 run-text : {failed : Bool} {s : Shelf} {held input text : List ℕ} → Run failed s held input text → text ≡ textLeft s failed held input
-run-text (ended {s} {held} e) = sym (e .same held)
-run-text {failed} (over {s} {held} {input} z e) = sym (over-left s failed held input z ∙ e .same held)
-run-text {failed} (goes {s} {s′} {held} {held′} {part} {rest} {out} {out′} {text} {used} {to} g r) = ap (λ (x : List ℕ). take to out′ ++ x) (run-text r) ∙ sym (g .same failed rest)
+run-text {failed} (ended {s} {held} i e x) = x ∙ sym (e .same held) ∙ ap (textLeft s failed held) (sym i)
+run-text {failed} (over {s} {held} {input} z e x) = x ∙ sym (over-left s failed held input z ∙ e .same held)
+run-text {failed} (goes {s} {s′} {held} {held′} {input} {part} {rest} {out} {out′} {more} {text} {used} {to} i g r x) =
+    x ∙ ap (λ (l : List ℕ). take to out′ ++ l) (run-text r) ∙ sym (g .same failed rest) ∙ ap (textLeft s failed held) (sym i)
 
 pub run-prints : RunPrints
 run-prints failed s out to held input text b r = ap (λ (x : List ℕ). take to out ++ x) (run-text r) ∙ sym (b .same failed held input)

@@ -9,3 +9,4 @@ pub mod StrideZero
 pub mod TableLayouts
 pub mod ProvedTable
 pub mod TestsPass
+pub mod Shelf

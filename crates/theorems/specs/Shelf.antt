@@ -52,12 +52,10 @@ pub record IsShelf (input : List ℕ) (ps : List (List ℕ)) : Type 0 where
 abbrev pub NoneCutOff : Type 0
 NoneCutOff = (failed : Bool) (input : List ℕ) (ps : List (List ℕ)) → pagesIn 1000000 failed input ≡ map whole ps → IsShelf input ps
 
--- the same pages in another order
-pub data Reordered : List (List ℕ) → List (List ℕ) → Type 0 where
-  none : Reordered [] []
-  keep : {p : List ℕ} {ps qs : List (List ℕ)} → Reordered ps qs → Reordered (p ∷ ps) (p ∷ qs)
-  swap : {p q : List ℕ} {ps : List (List ℕ)} → Reordered (p ∷ q ∷ ps) (q ∷ p ∷ ps)
-  both : {ps qs rs : List (List ℕ)} → Reordered ps qs → Reordered qs rs → Reordered ps rs
+-- the same pages in another order: the first stands somewhere in it, and the others are in another order before and after it
+unfoldable pub Reordered : List (List ℕ) → List (List ℕ) → Type 0
+Reordered [] qs = qs ≡ []
+Reordered (p ∷ ps) qs = (a : List (List ℕ)) × (b : List (List ℕ)) × (qs ≡ a ++ (p ∷ b)) × Reordered ps (a ++ b)
 
 -- ANOTHER ORDER OF THE PAGES doesn't alter the last line, whatever follows them
 abbrev pub AnyOrder : Type 0
@@ -74,11 +72,11 @@ Together =
 -- ---- a run
 
 -- what a run from s prints, `held` the bytes that are held: it goes on with parts of the input, each as far as the output has room, until the input ends or the run is over
-pub data Run (failed : Bool) : Shelf → (held input text : List ℕ) → Type 0 where
-  ended : {s : Shelf} {held out : List ℕ} {to : ℕ} → Ends s failed out to → Run failed s held [] (take to out)
-  over : {s : Shelf} {held input out : List ℕ} {to : ℕ} → s .at ≡ Over → Ends s failed out to → Run failed s held input (take to out)
-  goes : {s s′ : Shelf} {held held′ part rest out out′ text : List ℕ} {used to : ℕ} → Goes s held part out 0 s′ held′ out′ used to →
-      Run failed s′ held′ (drop used part ++ rest) text → Run failed s held (part ++ rest) (take to out′ ++ text)
+pub data Run (failed : Bool) : Shelf → List ℕ → List ℕ → List ℕ → Type 0 where
+  ended : {s : Shelf} {held input text out : List ℕ} {to : ℕ} → input ≡ [] → Ends s failed out to → text ≡ take to out → Run failed s held input text
+  over : {s : Shelf} {held input text out : List ℕ} {to : ℕ} → s .at ≡ Over → Ends s failed out to → text ≡ take to out → Run failed s held input text
+  goes : {s s′ : Shelf} {held held′ input part rest out out′ more text : List ℕ} {used to : ℕ} → input ≡ part ++ rest → Goes s held part out 0 s′ held′ out′ used to →
+      Run failed s′ held′ (drop used part ++ rest) more → text ≡ take to out′ ++ more → Run failed s held input text
 
 -- A RUN PRINTS, from its start, the text that is defined for the whole input, however that came in parts
 abbrev pub RunPrints : Type 0
