@@ -222,7 +222,7 @@ over-left s failed held input e =
 run-text : {failed : Bool} {s : Shelf} {held input text : List ℕ} → Run failed s held input text → text ≡ textLeft s failed held input
 run-text {failed} (ended {s} {held} i e x) = x ∙ sym (e .same held) ∙ ap (textLeft s failed held) (sym i)
 run-text {failed} (over {s} {held} {input} z e x) = x ∙ sym (over-left s failed held input z ∙ e .same held)
-run-text {failed} (goes {s} {s′} {held} {held′} {input} {part} {rest} {out} {out′} {more} {text} {used} {to} i g r x) =
+run-text {failed} (goes {s} {s′} {held} {held′} {input} {part} rest {out} {out′} {more} {text} {used} {to} i g r x) =
     x ∙ ap (λ (l : List ℕ). take to out′ ++ l) (run-text r) ∙ sym (g .same failed rest) ∙ ap (textLeft s failed held) (sym i)
 
 pub run-prints : RunPrints

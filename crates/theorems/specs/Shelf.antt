@@ -75,7 +75,7 @@ Together =
 pub data Run (failed : Bool) : Shelf → List ℕ → List ℕ → List ℕ → Type 0 where
   ended : {s : Shelf} {held input text out : List ℕ} {to : ℕ} → input ≡ [] → Ends s failed out to → text ≡ take to out → Run failed s held input text
   over : {s : Shelf} {held input text out : List ℕ} {to : ℕ} → s .at ≡ Over → Ends s failed out to → text ≡ take to out → Run failed s held input text
-  goes : {s s′ : Shelf} {held held′ input part rest out out′ more text : List ℕ} {used to : ℕ} → input ≡ part ++ rest → Goes s held part out 0 s′ held′ out′ used to →
+  goes : {s s′ : Shelf} {held held′ input part : List ℕ} (rest : List ℕ) {out out′ more text : List ℕ} {used to : ℕ} → input ≡ part ++ rest → Goes s held part out 0 s′ held′ out′ used to →
       Run failed s′ held′ (drop used part ++ rest) more → text ≡ take to out′ ++ more → Run failed s held input text
 
 -- A RUN PRINTS, from its start, the text that is defined for the whole input, however that came in parts
