@@ -8,8 +8,8 @@ use Rattle.shelves.specs.declared.Shelf.{Shelf}
 use Rattle.shelves.specs.inner.Steps.{Goes}
 
 -- some of it, and no more than there is
-pub part-used : {s s′ : Shelf} {held held′ input out out′ : List ℕ} {used n from u to : ℕ} → Goes s held (take (n - used) (drop used input)) out from s′ held′ out′ u to →
+pub part-used : (input : List ℕ) (used n : ℕ) {s s′ : Shelf} {held held′ out out′ : List ℕ} {from u to : ℕ} → Goes s held (take (n - used) (drop used input)) out from s′ held′ out′ u to →
     used < n → n ≤ length input → (0 < u) × (used + u ≤ n)
-part-used {s} {s′} {held} {held′} {input} {out} {out′} {used} {n} {from} {u} {to} g h l =
+part-used input used n g h l =
     let k : length (take (n - used) (drop used input)) ≡ n - used = length-take (n - used) (drop used input) ∙ omega (arith, length-drop used input) in
     (g .some (omega arith), omega (arith, g .inside))

@@ -30,6 +30,13 @@ fn print(out: &[u8], n: usize)
     io::write_all(STDOUT_FILENO, &out[..n]);
 }
 
+// Writes the first `n` bytes of the output.
+fn print_front(out: &[u8; 65536], n: usize)
+    requires { ⌜ n ≤ 65536 ⌝ }
+{
+    print(out, n);
+}
+
 // Goes through the first `n` bytes of the input, and prints the lines of the pages that end there.
 fn feed(
     shelf: Shelf,
@@ -60,7 +67,7 @@ fn feed(
             marks,
             work,
         );
-        print(out, done.to);
+        print_front(out, done.to);
         s = done.shelf;
         used += done.used;
     }
@@ -125,7 +132,7 @@ fn main() {
     let mut input = io::large_buffer();
     let mut out = io::large_buffer();
     let start = shelves::begin(&mut out);
-    print(&out, start.to);
+    print_front(&out, start.to);
     let shelf = start.shelf;
     let end = serve(
         shelf,
@@ -140,5 +147,5 @@ fn main() {
     );
     let last = end.shelf;
     let to = shelves::finish(last, end.failed, &mut out);
-    print(&out, to);
+    print_front(&out, to);
 }

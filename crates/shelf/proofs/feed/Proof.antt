@@ -27,17 +27,17 @@ part-go-on-end c = c .before .before .before .pre .1
 go-on-requires : tie.Need-go-on-requires Inv-loop μ-loop
 go-on-requires c κs = c .before .before .before .before .before .before .before .before .before .loop .inv .0
 
-print-requires : tie.Need-print-requires Inv-loop μ-loop
-print-requires c κs = omega (arith, c .before .before .go-on .ensures .room, c .print-arg2 .given .0)
+print-front-requires : tie.Need-print-front-requires Inv-loop μ-loop
+print-front-requires c κs = c .before .go-on .ensures .room
 
 add-used : tie.Need-add-used Inv-loop μ-loop
-add-used c = let w = part-used {input = c .before .before .before .before .before .before .before .before .before .before .before .before .before .before .before .before .before .args .input .now} {used = c .before .before .before .before .before .before .before .before .before .before .before .before .before .before .before .loop .used} {n = c .before .before .before .before .before .before .before .before .before .before .before .before .before .before .before .before .before .args .n} (c .before .before .before .before .before .go-on .ensures) (c .before .before .before .before .before .before .before .before .before .before .before .before .before .before .loop-test .taken) (c .before .before .before .before .before .before .before .before .before .before .before .before .before .before .before .before .before .pre .1) in omega (arith, w .1, c .before .before .before .before .before .before .before .before .before .before .before .before .before .before .before .before .before .fits .n)
+add-used c = let w = part-used (c .before .before .before .before .before .before .before .before .before .before .before .before .before .before .before .before .args .input .now) (c .before .before .before .before .before .before .before .before .before .before .before .before .before .before .loop .used) (c .before .before .before .before .before .before .before .before .before .before .before .before .before .before .before .before .args .n) (c .before .before .before .before .go-on .ensures) (c .before .before .before .before .before .before .before .before .before .before .before .before .before .loop-test .taken) (c .before .before .before .before .before .before .before .before .before .before .before .before .before .before .before .before .pre .1) in omega (arith, w .1, c .before .before .before .before .before .before .before .before .before .before .before .before .before .before .before .before .fits .n)
 
 loop-less : tie.Need-loop-less Inv-loop μ-loop
-loop-less c = let w = part-used {input = c .before .before .before .before .before .before .before .before .before .before .before .before .before .before .before .before .before .args .input .now} {used = c .before .before .before .before .before .before .before .before .before .before .before .before .before .before .before .loop .used} {n = c .before .before .before .before .before .before .before .before .before .before .before .before .before .before .before .before .before .args .n} (c .before .before .before .before .before .go-on .ensures) (c .before .before .before .before .before .before .before .before .before .before .before .before .before .before .loop-test .taken) (c .before .before .before .before .before .before .before .before .before .before .before .before .before .before .before .before .before .pre .1) in omega (arith, w .0, w .1, c .before .before .before .before .before .before .before .before .before .before .before .before .before .before .loop-test .taken)
+loop-less c = let w = part-used (c .before .before .before .before .before .before .before .before .before .before .before .before .before .before .before .before .args .input .now) (c .before .before .before .before .before .before .before .before .before .before .before .before .before .before .loop .used) (c .before .before .before .before .before .before .before .before .before .before .before .before .before .before .before .before .args .n) (c .before .before .before .before .go-on .ensures) (c .before .before .before .before .before .before .before .before .before .before .before .before .before .loop-test .taken) (c .before .before .before .before .before .before .before .before .before .before .before .before .before .before .before .before .pre .1) in omega (arith, w .0, w .1, c .before .before .before .before .before .before .before .before .before .before .before .before .before .loop-test .taken)
 
 loop-again : tie.Need-loop-again Inv-loop μ-loop
-loop-again c = let w = part-used {input = c .before .before .before .before .before .before .before .before .before .before .before .before .before .before .before .before .before .args .input .now} {used = c .before .before .before .before .before .before .before .before .before .before .before .before .before .before .before .loop .used} {n = c .before .before .before .before .before .before .before .before .before .before .before .before .before .before .before .before .before .args .n} (c .before .before .before .before .before .go-on .ensures) (c .before .before .before .before .before .before .before .before .before .before .before .before .before .before .loop-test .taken) (c .before .before .before .before .before .before .before .before .before .before .before .before .before .before .before .before .before .pre .1) in (c .before .before .before .before .before .go-on .ensures .good, w .1)
+loop-again c = let w = part-used (c .before .before .before .before .before .before .before .before .before .before .before .before .before .before .before .before .args .input .now) (c .before .before .before .before .before .before .before .before .before .before .before .before .before .before .loop .used) (c .before .before .before .before .before .before .before .before .before .before .before .before .before .before .before .before .args .n) (c .before .before .before .before .go-on .ensures) (c .before .before .before .before .before .before .before .before .before .before .before .before .before .loop-test .taken) (c .before .before .before .before .before .before .before .before .before .before .before .before .before .before .before .before .pre .1) in (c .before .before .before .before .go-on .ensures .good, w .1)
 
 returns : tie.Need-returns Inv-loop μ-loop
 returns c = c .before .loop .inv .0
@@ -53,7 +53,7 @@ feed-spec =
     part-go-on-start
     part-go-on-end
     go-on-requires
-    print-requires
+    print-front-requires
     add-used
     loop-less
     loop-again
