@@ -171,6 +171,18 @@ passed r S P (some p) h v = go (r && sound (p .1)) refl (ltb P (dataSize (p .1 .
         let t = and-both r (sound (p .1)) ea in
         rw (← e) (record { form = p .0; page = refl; sizes = t .0; sound = t .1; room = ltb-false P (dataSize (p .1 .slots)) eb; slots = ltb-false S (length (p .1 .slots)) ed })
 
+-- a refusal has a number
+pub few-numbers : (t : Bool) (S P : ℕ) (o : Option (Form × State)) (n : ℕ) → verdict t S P o ≡ refused n → 1 ≤ n
+unfolding verdict
+few-numbers t S P none n e = let q : 17 ≡ n = cc in omega arith
+few-numbers t S P (some p) n e = go (t && sound (p .1)) refl (ltb P (dataSize (p .1 .slots))) refl (ltb S (length (p .1 .slots))) refl e
+  where
+    go : (a : Bool) → (t && sound (p .1)) ≡ a → (b : Bool) → ltb P (dataSize (p .1 .slots)) ≡ b → (d : Bool) → ltb S (length (p .1 .slots)) ≡ d → verdict t S P (some p) ≡ refused n → 1 ≤ n
+    go false ea b eb d ed u = let q : _≡_ {A = Result State} (refused 1) (refused n) = rw ea at u in let z : 1 ≡ n = cc in omega arith
+    go true ea true eb d ed u = let q : _≡_ {A = Result State} (refused 6) (refused n) = rw (ea, eb) at u in let z : 6 ≡ n = cc in omega arith
+    go true ea false eb true ed u = let q : _≡_ {A = Result State} (refused 5) (refused n) = rw (ea, eb, ed) at u in let z : 5 ≡ n = cc in omega arith
+    go true ea false eb false ed u = let q : _≡_ {A = Result State} (ok (p .1)) (refused n) = rw (ea, eb, ed) at u in absurd (not-ok n (sym q))
+
 pub is-page : (s : List ℕ) (v : Result State) (x : Sections) {r : Checked} → Checking s v r → r ≡ checked.Page x → Accepted s v x
 is-page s v x c e = subst (Checking s v) e c
 

@@ -56,7 +56,7 @@ fn handles_len(list: &[u64], count: usize) -> usize
 }
 
 // Puts a number and the byte after it from `at` on.
-fn put_number(out: &mut [u8], at: usize, n: u64, end: u8) -> usize
+pub fn put_number(out: &mut [u8], at: usize, n: u64, end: u8) -> usize
     requires { ⌜ at + length (decimal n ++ (end ∷ [])) ≤ length (now out) ⌝ }
     ensures { λ r. ⌜ Puts (now (out .entry)) (now (out .exit)) at r (decimal n ++ (end ∷ [])) ⌝ }
 {

@@ -26,7 +26,7 @@ use Rattle.pages.specs.Page.{pageText, Within, readPage}
 use Rattle.pages.proofs.Laws.{read-written}
 use Rattle.page_check.specs.Sections.{verdict}
 use Rattle.page_reader.specs.Reading.{inRange, Left, left, readInto}
-use Rattle.page_reader.proofs.Loaded.{not-ok, passed}
+use Rattle.page_reader.proofs.Loaded.{not-ok, passed, few-numbers}
 use Rattle.door.specs.HeapCalls.{Outcome, enough}
 use Rattle.door.proofs.Entering.{is-enough}
 use Rattle.page_door.specs.Page.{reading}
@@ -91,17 +91,6 @@ taken l text e =
     (a .0, record { form = p .form; page = p .page; sound = p .sound; room = record { sizes = p .sizes; slots = p .slots; bytes = p .room }; lies = ap (λ (v : Result State). left l v .lent) (a .1) })
 
 -- the number 0 is success: every other answer of the reader is 17, 1, 6 or 5
-few-numbers : (t : Bool) (S P : ℕ) (o : Option (Form × State)) (n : ℕ) → verdict t S P o ≡ refused n → 1 ≤ n
-unfolding verdict
-few-numbers t S P none n e = let q : 17 ≡ n = cc in omega arith
-few-numbers t S P (some p) n e = go (t && sound (p .1)) refl (ltb P (dataSize (p .1 .slots))) refl (ltb S (length (p .1 .slots))) refl e
-  where
-    go : (a : Bool) → (t && sound (p .1)) ≡ a → (b : Bool) → ltb P (dataSize (p .1 .slots)) ≡ b → (d : Bool) → ltb S (length (p .1 .slots)) ≡ d → verdict t S P (some p) ≡ refused n → 1 ≤ n
-    go false ea b eb d ed u = let q : _≡_ {A = Result State} (refused 1) (refused n) = rw ea at u in let z : 1 ≡ n = cc in omega arith
-    go true ea true eb d ed u = let q : _≡_ {A = Result State} (refused 6) (refused n) = rw (ea, eb) at u in let z : 6 ≡ n = cc in omega arith
-    go true ea false eb true ed u = let q : _≡_ {A = Result State} (refused 5) (refused n) = rw (ea, eb, ed) at u in let z : 5 ≡ n = cc in omega arith
-    go true ea false eb false ed u = let q : _≡_ {A = Result State} (ok (p .1)) (refused n) = rw (ea, eb, ed) at u in absurd (not-ok n (sym q))
-
 pub answer-done : (l : Lent) (text : List ℕ) → answered nothing nothing (readInto l text .answer) .number ≡ 0 → readInto l text .answer ≡ ok tt
 unfolding readInto
 answer-done l text e = go (verdict (inRange l) (slotCount l) (poolSize l) (readPage text)) refl e

@@ -1,0 +1,4 @@
+pub mod Totals
+pub mod Counting
+pub mod Showing
+pub mod Printing

@@ -1,0 +1,3 @@
+-- Figures of pages.
+pub mod Figures
+pub mod inner

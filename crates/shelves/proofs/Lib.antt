@@ -1,0 +1,4 @@
+pub mod Lengths
+pub mod Taking
+pub mod Telling
+pub mod Going

@@ -1,0 +1,3 @@
+-- A shelf of pages.
+pub mod Shelf
+pub mod inner
