@@ -2,7 +2,7 @@
 -- nothing.
 use Prim.Native.Nat.{ℕ, _+_, _-_, _*_, _/_, _^_, _≤_, _<_}
 use mathlib.Core.Path.{_≡_, refl, sym, ap, _∙_, subst}
-use mathlib.Core.Bool.{Bool, true, false, cond}
+use mathlib.Core.Bool.{Bool, true, false}
 use mathlib.Core.List.{List, [], _∷_, _++_, append-nil}
 use lib.Bits.{bitAnd}
 use lib.Count.{trailingZeros}
@@ -86,7 +86,7 @@ value-first class classes values v rests =
       | no y ↦ ap (λ (l : List ℕ). valuesOf values (ofClass class classes l)) (below-out (length values) v rests (omega arith)) ∙ rw (le-ltb v (length values) (omega arith)) refl
     ]
   where
-    by : (t : Bool) → valuesOf values (cond t (v ∷ ofClass class classes (below (length values) rests)) (ofClass class classes (below (length values) rests)))
+    by : (t : Bool) → valuesOf values (if t then (v ∷ ofClass class classes (below (length values) rests)) else ofClass class classes (below (length values) rests))
         ≡ (if t then (getD values v 0 ∷ []) else []) ++ valuesOf values (ofClass class classes (below (length values) rests))
     by true = refl
     by false = refl
