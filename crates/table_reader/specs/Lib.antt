@@ -1,0 +1,2 @@
+-- Reading a type table into lent lists.
+pub mod Found

@@ -1,0 +1,160 @@
+// A type table's text read into lent lists, in two passes.
+use text::Decimal;
+use text::Literal;
+ghost use mathlib.Core.Path.{_≡_};
+ghost use mathlib.Core.List.{List, [], _∷_, _++_};
+ghost use Prim.Native.Nat.{ℕ, _+_, _-_, _*_, _/_, _≤_, _<_};
+ghost use lib.ListN.{length, take, drop};
+ghost use Rattle.text.specs.Text.{readField};
+ghost use Rattle.text.specs.Put.{putText};
+ghost use Rattle.tables.specs.Answer.{Got};
+ghost use Rattle.tables.specs.Lists.{namesIn};
+ghost use Rattle.table_reader.specs.Found.{RowsGot, SectionGot, rowsAt, NamesReady};
+
+// Reads k numbers, each with a comma after it, from `at` on into a list from `to` on.
+fn get_numbers(s: &[u8], at: usize, k: usize, most: u64, out: &mut [u64], to: usize) -> Literal
+    requires { ⌜ (at ≤ length (now s)) × (to + k ≤ length (now out)) ⌝ }
+    ensures { λ r. ⌜ Got (readField most 44) (now (s .entry)) at k (λ ns. now (out .exit) ≡ putText (now (out .entry)) to ns) r ⌝ }
+{
+    let mut p = at;
+    let mut i = 0;
+    while i < k {
+        let Decimal::Number(v, next) = text::get_field(s, p, most, 44) else {
+            return Literal::Missing;
+        };
+        out[to + i] = v;
+        p = next;
+        i += 1;
+    }
+    Literal::Past(p)
+}
+
+// How many bytes the names of lines take, and what comes after the lines.
+pub enum Rows {
+    Lines(usize, usize),
+    NoRows,
+}
+
+// Reads `count` lines of k numbers and a name from `at` on, the numbers into a list from `to` on.
+fn get_rows(
+    s: &[u8],
+    at: usize,
+    count: usize,
+    k: usize,
+    most: u64,
+    out: &mut [u64],
+    to: usize,
+) -> Rows
+    requires { ⌜ (at ≤ length (now s)) × (to + k * count ≤ length (now out)) ⌝ }
+    ensures { λ r. ⌜ RowsGot k most (now (s .entry)) at count (now (out .entry)) (now (out .exit)) to r ⌝ }
+{
+    let mut p = at;
+    let mut size = 0;
+    let mut j = to;
+    let mut i = 0;
+    while i < count {
+        let Literal::Past(a) = get_numbers(s, p, k, most, out, j) else {
+            return Rows::NoRows;
+        };
+        let Literal::Past(next) = tables::get_name(s, a) else {
+            return Rows::NoRows;
+        };
+        size = size + (next - a);
+        p = next;
+        j = j + k;
+        i += 1;
+    }
+    Rows::Lines(size, p)
+}
+
+// The same for fields, of two numbers of 32 bits each.
+fn get_fields(s: &[u8], at: usize, count: usize, out: &mut [u32]) -> Rows
+    requires { ⌜ (at ≤ length (now s)) × (2 * count ≤ length (now out)) ⌝ }
+    ensures { λ r. ⌜ RowsGot 2 4294967295 (now (s .entry)) at count (now (out .entry)) (now (out .exit)) 0 r ⌝ }
+{
+    let mut row = [0u64; 2];
+    let mut p = at;
+    let mut size = 0;
+    let mut j = 0;
+    let mut i = 0;
+    while i < count {
+        let Literal::Past(a) = get_numbers(s, p, 2, 4294967295, &mut row, 0) else {
+            return Rows::NoRows;
+        };
+        let Literal::Past(next) = tables::get_name(s, a) else {
+            return Rows::NoRows;
+        };
+        out[j] = row[0] as u32;
+        out[j + 1] = row[1] as u32;
+        size = size + (next - a);
+        p = next;
+        j = j + 2;
+        i += 1;
+    }
+    Rows::Lines(size, p)
+}
+
+// Puts the names of `count` lines that stand from `at` on into a list from `to` on.
+fn fill_names(s: &[u8], at: usize, count: usize, k: usize, most: u64, names: &mut [u8], to: usize)
+    requires { ⌜ NamesReady k most (now s) at count to (length (now names)) ⌝ }
+    ensures { λ _. ⌜ now (names .exit) ≡ putText (now (names .entry)) to (namesIn (rowsAt k most (now (s .entry)) at count)) ⌝ }
+{
+    let mut row = [0u64; 4];
+    let mut p = at;
+    let mut o = to;
+    let mut i = 0;
+    while i < count {
+        let Literal::Past(a) = get_numbers(s, p, k, most, &mut row, 0) else {
+            return;
+        };
+        let Literal::Past(next) = tables::get_name(s, a) else {
+            return;
+        };
+        o = text::put_literal(names, o, &s[a..next]);
+        p = next;
+        i += 1;
+    }
+}
+
+// The lines of a section after its names line: where they begin, then as `Rows`.
+pub enum Section {
+    Found(usize, usize, usize),
+    Lost,
+}
+
+// Reads a names line, then `count` lines of k numbers and a name, the numbers into a list from `to` on.
+fn rows_section(
+    s: &[u8],
+    at: usize,
+    names: &[u8],
+    count: usize,
+    k: usize,
+    most: u64,
+    out: &mut [u64],
+    to: usize,
+) -> Section
+    requires { ⌜ (at ≤ length (now s)) × (to + k * count ≤ length (now out)) ⌝ }
+    ensures { λ r. ⌜ SectionGot (now (names .entry)) k most (now (s .entry)) at count (now (out .entry)) (now (out .exit)) to r ⌝ }
+{
+    let Literal::Past(b) = text::expect(s, at, names) else {
+        return Section::Lost;
+    };
+    let Rows::Lines(size, next) = get_rows(s, b, count, k, most, out, to) else {
+        return Section::Lost;
+    };
+    Section::Found(b, size, next)
+}
+
+// The same for fields.
+fn fields_section(s: &[u8], at: usize, names: &[u8], count: usize, out: &mut [u32]) -> Section
+    requires { ⌜ (at ≤ length (now s)) × (2 * count ≤ length (now out)) ⌝ }
+    ensures { λ r. ⌜ SectionGot (now (names .entry)) 2 4294967295 (now (s .entry)) at count (now (out .entry)) (now (out .exit)) 0 r ⌝ }
+{
+    let Literal::Past(b) = text::expect(s, at, names) else {
+        return Section::Lost;
+    };
+    let Rows::Lines(size, next) = get_fields(s, b, count, out) else {
+        return Section::Lost;
+    };
+    Section::Found(b, size, next)
+}

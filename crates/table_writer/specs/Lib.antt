@@ -1,0 +1,1 @@
+-- The definitions that the writer's contracts cite.
