@@ -3,16 +3,17 @@ use Prim.Native.Nat.{ℕ, zero, suc, _+_, _-_, _*_, _≤_, _<_}
 use mathlib.Core.List.{List, [], _∷_, _++_, append-assoc, append-nil, flatMap}
 use mathlib.Core.Option.{Option, none, some}
 use mathlib.Core.Path.{_≡_, refl, sym, ap, _∙_, subst}
-use lib.ListN.{length, take, drop, getD, set, length-append, length-set}
+use lib.ListN.{length, take, drop, getD, set, length-append, length-drop, length-set}
 use lib.Seq.{drop-cons}
 use native.Mathlib.Omega.{arith}
 use native.Mathlib.Numerals.{add-one}
 use native.Mathlib.Nat.{mul-le-mul-left, mul-suc}
 use Rattle.word.proofs.PutLaws.{put-whole}
-use Rattle.text.specs.Text.{give, _>>=_, readField, comma, digitOf}
-use Rattle.text.specs.Format.{Format, Right, readAll, pair, times, All}
+use Rattle.text.specs.Text.{give, _>>=_, readField, readLiteral, comma, digitOf}
+use Rattle.text.specs.Format.{Format, Right, readAll, pair, times, afterLiteral, All}
 use Rattle.text.specs.Answer.{decimalAnswer}
 use Rattle.text.specs.Put.{putText, Puts}
+use Rattle.text.specs.declared.Literal.the-variants.{Past, Missing}
 use Rattle.text.specs.declared.Decimal.{Decimal}
 use Rattle.text.specs.declared.Decimal.the-variants.{Number, NoNumber}
 use Rattle.text.proofs.Laws.{none-not-some, some-inj, times-right}
@@ -22,10 +23,15 @@ use Rattle.tables.specs.Table.{Row, RowWithin, nameText, upTo, readName, nameFo
 use Rattle.tables.specs.Lists.{numbersIn, namesIn}
 use Rattle.tables.specs.Answer.{GotAll, Got}
 use Rattle.tables.proofs.Laws.{num, row-right}
-use Rattle.tables.proofs.Endings.{Gathering, gather-begin, gather-next, gather-lost, gather-done, gather-split}
+use Rattle.tables.proofs.Endings.{Gathering, gather-begin, gather-next, gather-lost, gather-done, gather-prefix, got-there, got-missing}
 use Rattle.tables.proofs.Naming.{NameFound, name-found, name-long, name-part}
 use Rattle.tables.proofs.Rowing.{flat-append, flat-snoc}
-use Rattle.table_reader.specs.Found.{Listed, rowsAt, NamesReady}
+use Rattle.table_reader.specs.declared.Rows.the-variants.{Lines, NoRows}
+use Rattle.table_reader.specs.declared.Section.the-variants.{Found, Lost}
+use Rattle.table_reader.specs.Found.{Listed, RowsGot, SectionFound, SectionGot, rowsAt, NamesReady}
+
+abbrev pub lineOf : (numbers name : List ℕ) → Row
+lineOf ns name = (ns, name)
 
 -- A NUMBER
 
@@ -52,8 +58,8 @@ numbering-begin s at k most out to h r = record {
 }
 
 module _ (s : List ℕ) (at k most : ℕ) (out₀ : List ℕ) (to : ℕ) (out : List ℕ) (p i : ℕ) (g : Numbering s at k most out₀ to out p i) where
-  pub numbering-lost : {r : Decimal} → i < k → r ≡ decimalAnswer (length s) (readField most 44 (drop p s)) → r ≡ NoNumber → readAll (readField most 44) k (drop at s) ≡ none
-  numbering-lost h e f = gather-lost (readField most 44) s at k p i (g .gathered) h (answer-none s (readField most 44 (drop p s)) e f)
+  pub numbering-lost : {r : Decimal} (P : List ℕ → Type 0) → i < k → r ≡ decimalAnswer (length s) (readField most 44 (drop p s)) → r ≡ NoNumber → Got (readField most 44) s at k P Missing
+  numbering-lost P h e f = got-missing P (gather-lost (readField most 44) s at k p i (g .gathered) h (answer-none s (readField most 44 (drop p s)) e f))
 
   pub numbering-next : {r : Decimal} (v next : ℕ) → i < k → r ≡ decimalAnswer (length s) (readField most 44 (drop p s)) → r ≡ Number v next →
       Numbering s at k most out₀ to (set out (to + i) v) next (i + 1)
@@ -67,10 +73,10 @@ module _ (s : List ℕ) (at k most : ℕ) (out₀ : List ℕ) (to : ℕ) (out : 
             (puts-at (puts-puts (g .gathered .holds) (puts-byte out (to + i) v (omega (arith, g .room, g .same))) (omega (arith, g .room))) (omega arith) refl);
       }
 
-  pub numbering-end : k ≤ i → GotAll (readField most 44) s at k (λ ns. out ≡ putText out₀ to ns) p
+  pub numbering-end : k ≤ i → Got (readField most 44) s at k (λ ns. out ≡ putText out₀ to ns) (Past p)
   numbering-end h =
       let d = gather-done (readField most 44) s at k p i (g .gathered) h in
-      record { values = d .values; reads = d .reads; inside = d .inside; long = d .long; holds = d .holds .out }
+      got-there (record { values = d .values; reads = d .reads; inside = d .inside; long = d .long; holds = d .holds .out })
 
 pub numbers-within : (k most : ℕ) (t ns rest : List ℕ) → readAll (readField most 44) k t ≡ give ns rest → All (λ n. n ≤ most) ns × (length ns ≡ k)
 unfolding times upTo
@@ -79,7 +85,7 @@ numbers-within k most t ns rest e = times-right k (num most) .back t ns rest e .
 -- A LINE
 
 pub row-read : (k most : ℕ) (s : List ℕ) (p a next : ℕ) (ns name : List ℕ) → readAll (readField most 44) k (drop p s) ≡ give ns (drop a s) →
-    readName (drop a s) ≡ give name (drop next s) → rowFormat k most .read (drop p s) ≡ give {A = Row} (ns, name) (drop next s)
+    readName (drop a s) ≡ give name (drop next s) → rowFormat k most .read (drop p s) ≡ give (lineOf ns name) (drop next s)
 unfolding rowFormat pair times upTo nameFormat
 row-read k most s p a next ns name e f = rw (e, f)
 
@@ -91,13 +97,55 @@ pub row-name-lost : (k most : ℕ) (t u ns : List ℕ) → readAll (readField mo
 unfolding rowFormat pair times upTo nameFormat
 row-name-lost k most t u ns e f = rw (e, f)
 
-pub numbers-snoc : (rows : List Row) (ns name : List ℕ) → numbersIn (rows ++ ((ns, name) ∷ [])) ≡ numbersIn rows ++ ns
+pub numbers-snoc : (rows : List Row) (ns name : List ℕ) → numbersIn (rows ++ (lineOf ns name ∷ [])) ≡ numbersIn rows ++ ns
 unfolding numbersIn
-numbers-snoc rows ns name = flat-snoc (λ r. r .0) rows (ns, name)
+numbers-snoc rows ns name = flat-snoc (λ (r : Row). r .0) rows (lineOf ns name)
 
-pub names-snoc : (rows : List Row) (ns name : List ℕ) → namesIn (rows ++ ((ns, name) ∷ [])) ≡ namesIn rows ++ nameText name
+pub names-snoc : (rows : List Row) (ns name : List ℕ) → namesIn (rows ++ (lineOf ns name ∷ [])) ≡ namesIn rows ++ nameText name
 unfolding namesIn
-names-snoc rows ns name = flat-snoc (λ r. nameText (r .1)) rows (ns, name)
+names-snoc rows ns name = flat-snoc (λ (r : Row). nameText (r .1)) rows (lineOf ns name)
+
+-- ANSWERS BY THEIR CASES
+
+module _ {k most : ℕ} {s : List ℕ} {at count : ℕ} where
+  pub rows-missing : (before after : List ℕ) (to : ℕ) → readAll (rowFormat k most .read) count (drop at s) ≡ none → RowsGot k most s at count before after to NoRows
+  rows-missing before after to f = record { lines = λ size next e. absurd (let z : _≡_ {A = ℕ} 0 1 = cc in omega arith); lost = λ e. f }
+
+  pub rows-there : {before after : List ℕ} {to size next : ℕ} → GotAll (rowFormat k most .read) s at count (Listed before after to size) next →
+      RowsGot k most s at count before after to (Lines size next)
+  rows-there {before} {after} {to} {size} {next} g = record {
+    lines = λ m n e.
+        subst (GotAll (rowFormat k most .read) s at count (Listed before after to m)) (let v : next ≡ n = cc in v)
+        (subst (λ (x : ℕ). GotAll (rowFormat k most .read) s at count (Listed before after to x) next) (let v : size ≡ m = cc in v) g);
+    lost = λ e. absurd (let z : _≡_ {A = ℕ} 0 1 = cc in omega arith);
+  }
+
+-- a names line, then lines
+module _ {names : List ℕ} {k most : ℕ} {s : List ℕ} {at count : ℕ} where
+  pub section-nameless : (before after : List ℕ) (to : ℕ) → readLiteral names (drop at s) ≡ none → SectionGot names k most s at count before after to Lost
+  unfolding rowsFormat afterLiteral
+  section-nameless before after to f = record {
+    found = λ b m n e. absurd (let z : _≡_ {A = ℕ} 0 1 = cc in omega arith);
+    lost = λ e. rw f;
+  }
+
+  pub section-rowless : (before after : List ℕ) (to b : ℕ) → readLiteral names (drop at s) ≡ some (drop b s) → readAll (rowFormat k most .read) count (drop b s) ≡ none →
+      SectionGot names k most s at count before after to Lost
+  unfolding rowsFormat afterLiteral times
+  section-rowless before after to b q f = record {
+    found = λ b m n e. absurd (let z : _≡_ {A = ℕ} 0 1 = cc in omega arith);
+    lost = λ e. rw (q, f);
+  }
+
+  pub section-there : {before after : List ℕ} {to b size next : ℕ} → SectionFound names k most s at count before after to b size next →
+      SectionGot names k most s at count before after to (Found b size next)
+  section-there {before} {after} {to} {b} {size} {next} g = record {
+    found = λ b′ m n e.
+        subst (SectionFound names k most s at count before after to b′ m) (let v : next ≡ n = cc in v)
+        (subst (λ (x : ℕ). SectionFound names k most s at count before after to b′ x next) (let v : size ≡ m = cc in v)
+        (subst (λ (x : ℕ). SectionFound names k most s at count before after to x size next) (let v : b ≡ b′ = cc in v) g));
+    lost = λ e. absurd (let z : _≡_ {A = ℕ} 0 1 = cc in omega arith);
+  }
 
 -- LINES
 
@@ -127,12 +175,12 @@ module _ (k most : ℕ) (s : List ℕ) (at count : ℕ) (out₀ : List ℕ) (to 
   pub lining-room : i < count → j + k ≤ length out
   lining-room h = omega (arith, g .room, g .same, g .start, row-in k i count h)
 
-  pub lining-numbers-lost : i < count → readAll (readField most 44) k (drop p s) ≡ none → readAll (rowFormat k most .read) count (drop at s) ≡ none
-  lining-numbers-lost h e = gather-lost (rowFormat k most .read) s at count p i (g .gathered) h (row-numbers-lost k most (drop p s) e)
+  pub lining-numbers-lost : (out′ : List ℕ) → i < count → readAll (readField most 44) k (drop p s) ≡ none → RowsGot k most s at count out₀ out′ to NoRows
+  lining-numbers-lost out′ h e = rows-missing out₀ out′ to (gather-lost (rowFormat k most .read) s at count p i (g .gathered) h (row-numbers-lost k most (drop p s) e))
 
-  pub lining-name-lost : (a : ℕ) (ns : List ℕ) → i < count → readAll (readField most 44) k (drop p s) ≡ give ns (drop a s) → readName (drop a s) ≡ none →
-      readAll (rowFormat k most .read) count (drop at s) ≡ none
-  lining-name-lost a ns h e f = gather-lost (rowFormat k most .read) s at count p i (g .gathered) h (row-name-lost k most (drop p s) (drop a s) ns e f)
+  pub lining-name-lost : (out′ : List ℕ) (a : ℕ) (ns : List ℕ) → i < count → readAll (readField most 44) k (drop p s) ≡ give ns (drop a s) → readName (drop a s) ≡ none →
+      RowsGot k most s at count out₀ out′ to NoRows
+  lining-name-lost out′ a ns h e f = rows-missing out₀ out′ to (gather-lost (rowFormat k most .read) s at count p i (g .gathered) h (row-name-lost k most (drop p s) (drop a s) ns e f))
 
   module _ (h : i < count) (a next : ℕ) (ns : List ℕ) (e : readAll (readField most 44) k (drop p s) ≡ give ns (drop a s)) (l : a ≤ length s) (n : NameFound s a next) where
     -- the numbers do not end before they begin
@@ -140,7 +188,7 @@ module _ (k most : ℕ) (s : List ℕ) (at count : ℕ) (out₀ : List ℕ) (to 
     unfolding times upTo
     lining-on =
         let b = times-right k (num most) .back (drop p s) ns (drop a s) e .1 in
-        omega (arith, g .gathered .inside, ap length b, length-append (flatMap (upTo most 44 .print) ns) (drop a s), lib.ListN.length-drop a s, lib.ListN.length-drop p s)
+        omega (arith, g .gathered .inside, ap length b, length-append (flatMap (upTo most 44 .print) ns) (drop a s), length-drop a s, length-drop p s)
 
     pub lining-next : (out′ : List ℕ) → out′ ≡ putText out j ns → length out′ ≡ length out → Lining k most s at count out₀ to out′ next (size + (next - a)) (j + k) (i + 1)
     lining-next out′ q same = record {
@@ -150,23 +198,23 @@ module _ (k most : ℕ) (s : List ℕ) (at count : ℕ) (out₀ : List ℕ) (to 
       small = omega (arith, g .small, lining-on, name-long s a next l n);
       gathered =
           gather-next (rowFormat k most .read) s at count p i (g .gathered) (λ rows. Puts out₀ out′ to (j + k) (numbersIn rows) × (size + (next - a) ≡ length (namesIn rows)))
-          (ns, n .name) next h (row-read k most s p a next ns (n .name) e (n .reads)) (n .inside) (
+          lineOf ns (n .name) next h (row-read k most s p a next ns (n .name) e (n .reads)) (n .inside) (
             puts-at (puts-puts (g .gathered .holds .0) (record { next = ap (λ (m : ℕ). j + m) (sym (numbers-within k most (drop p s) ns (drop a s) e .1)); out = q }) (omega (arith, g .room))) refl
                 (sym (numbers-snoc (g .gathered .done) ns (n .name))),
             omega (arith, g .gathered .holds .1, name-long s a next l n, ap length (names-snoc (g .gathered .done) ns (n .name)), length-append (namesIn (g .gathered .done)) (nameText (n .name))),
           );
     }
 
-  pub lining-end : count ≤ i → GotAll (rowFormat k most .read) s at count (Listed out₀ out to size) p
+  pub lining-end : count ≤ i → RowsGot k most s at count out₀ out to (Lines size p)
   lining-end h =
       let d = gather-done (rowFormat k most .read) s at count p i (g .gathered) h in
-      record { values = d .values; reads = d .reads; inside = d .inside; long = d .long; holds = (d .holds .0 .out, d .holds .1) }
+      rows-there (record { values = d .values; reads = d .reads; inside = d .inside; long = d .long; holds = (d .holds .0 .out, d .holds .1) })
 
 -- THE NAMES OF LINES
 
 pub rows-are : (k most : ℕ) (s : List ℕ) (at count : ℕ) (rows : List Row) (rest : List ℕ) → readAll (rowFormat k most .read) count (drop at s) ≡ give rows rest → rowsAt k most s at count ≡ rows
 unfolding rowsAt
-rows-are k most s at count rows rest e = rw e
+rows-are k most s at count rows rest e = rw (e, rowsAt)
 
 pub record Naming (k most : ℕ) (s : List ℕ) (at count : ℕ) (names₀ : List ℕ) (to : ℕ) (names : List ℕ) (p o i : ℕ) : Type 0 where
   pub ready : NamesReady k most s at count to (length names₀)
@@ -191,10 +239,9 @@ module _ (k most : ℕ) (s : List ℕ) (at count : ℕ) (names₀ : List ℕ) (t
       none-not-some (sym (gather-lost (rowFormat k most .read) s at count p i (g .gathered) h (row-name-lost k most (drop p s) (drop a s) ns e f)) ∙ g .ready .reads)
 
   module _ (h : i < count) (a next : ℕ) (ns : List ℕ) (e : readAll (readField most 44) k (drop p s) ≡ give ns (drop a s)) (l : a ≤ length s) (n : NameFound s a next) where
-    split : (ys : List Row) × (rowsAt k most s at count ≡ (g .gathered .done ++ ((ns, n .name) ∷ [])) ++ ys)
+    split : (ys : List Row) × (rowsAt k most s at count ≡ (g .gathered .done ++ (lineOf ns (n .name) ∷ [])) ++ ys)
     split =
-        gather-split (rowFormat k most .read) s at count next (i + 1)
-        (gather-next (rowFormat k most .read) s at count p i (g .gathered) (λ _. Unit) (ns, n .name) next h (row-read k most s p a next ns (n .name) e (n .reads)) (n .inside) tt)
+        gather-prefix (rowFormat k most .read) s at count p i (g .gathered) (lineOf ns (n .name)) next h (row-read k most s p a next ns (n .name) e (n .reads)) (n .inside)
         (rowsAt k most s at count) (g .ready .rest) (g .ready .reads)
 
     pub naming-room : o + length (take (next - a) (drop a s)) ≤ length names
@@ -207,8 +254,8 @@ module _ (k most : ℕ) (s : List ℕ) (at count : ℕ) (names₀ : List ℕ) (t
           g .gathered .holds .next,
           ap length (name-part s a next l n),
           ap (λ (rows : List Row). length (namesIn rows)) (split .1),
-          ap length (flat-append (λ r. nameText (r .1)) (g .gathered .done ++ ((ns, n .name) ∷ [])) (split .0)),
-          length-append (namesIn (g .gathered .done ++ ((ns, n .name) ∷ []))) (namesIn (split .0)),
+          ap length (flat-append (λ (r : Row). nameText (r .1)) (g .gathered .done ++ (lineOf ns (n .name) ∷ [])) (split .0)),
+          length-append (namesIn (g .gathered .done ++ (lineOf ns (n .name) ∷ []))) (namesIn (split .0)),
           ap length (names-snoc (g .gathered .done) ns (n .name)),
           length-append (namesIn (g .gathered .done)) (nameText (n .name)),
         )
@@ -218,7 +265,7 @@ module _ (k most : ℕ) (s : List ℕ) (at count : ℕ) (names₀ : List ℕ) (t
       ready = g .ready;
       same = same ∙ g .same;
       gathered =
-          gather-next (rowFormat k most .read) s at count p i (g .gathered) (λ rows. Puts names₀ names′ to o′ (namesIn rows)) (ns, n .name) next h
+          gather-next (rowFormat k most .read) s at count p i (g .gathered) (λ rows. Puts names₀ names′ to o′ (namesIn rows)) lineOf ns (n .name) next h
           (row-read k most s p a next ns (n .name) e (n .reads)) (n .inside)
           (puts-at (puts-puts (g .gathered .holds) q (omega (arith, g .ready .fits))) refl
           (ap (λ (t : List ℕ). namesIn (g .gathered .done) ++ t) (name-part s a next l n) ∙ sym (names-snoc (g .gathered .done) ns (n .name))));

@@ -20,9 +20,9 @@ abbrev pub Listed : (before after : List ℕ) (to size : ℕ) → List Row → T
 Listed before after to size rows = (after ≡ putText before to (numbersIn rows)) × (size ≡ length (namesIn rows))
 
 -- `count` lines of k numbers each stand from `at` on, or not all of them do
-abbrev pub RowsGot : (k most : ℕ) (s : List ℕ) (at count : ℕ) (before after : List ℕ) (to : ℕ) → Rows → Type 0
-RowsGot k most s at count before after to (Lines size next) = GotAll (rowFormat k most .read) s at count (Listed before after to size) next
-RowsGot k most s at count before after to NoRows = readAll (rowFormat k most .read) count (drop at s) ≡ none
+pub record RowsGot (k most : ℕ) (s : List ℕ) (at count : ℕ) (before after : List ℕ) (to : ℕ) (x : Rows) : Type 0 where
+  pub lines : (size next : ℕ) → x ≡ Lines size next → GotAll (rowFormat k most .read) s at count (Listed before after to size) next
+  pub lost : x ≡ NoRows → readAll (rowFormat k most .read) count (drop at s) ≡ none
 
 -- a names line stands before them
 pub record SectionFound (names : List ℕ) (k most : ℕ) (s : List ℕ) (at count : ℕ) (before after : List ℕ) (to begin size next : ℕ) : Type 0 where
@@ -30,9 +30,9 @@ pub record SectionFound (names : List ℕ) (k most : ℕ) (s : List ℕ) (at cou
   pub inside : begin ≤ length s
   pub rows : GotAll (rowFormat k most .read) s begin count (Listed before after to size) next
 
-abbrev pub SectionGot : (names : List ℕ) (k most : ℕ) (s : List ℕ) (at count : ℕ) (before after : List ℕ) (to : ℕ) → Section → Type 0
-SectionGot names k most s at count before after to (Found begin size next) = SectionFound names k most s at count before after to begin size next
-SectionGot names k most s at count before after to Lost = rowsFormat names count k most .read (drop at s) ≡ none
+pub record SectionGot (names : List ℕ) (k most : ℕ) (s : List ℕ) (at count : ℕ) (before after : List ℕ) (to : ℕ) (x : Section) : Type 0 where
+  pub found : (begin size next : ℕ) → x ≡ Found begin size next → SectionFound names k most s at count before after to begin size next
+  pub lost : x ≡ Lost → rowsFormat names count k most .read (drop at s) ≡ none
 
 -- the lines that stand in a text from `at` on
 unfoldable pub rowsAt : (k most : ℕ) → List ℕ → (at count : ℕ) → List Row

@@ -1,2 +1,3 @@
 -- Reading a type table into lent lists.
 pub mod Found
+pub mod Sections

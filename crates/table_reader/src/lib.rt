@@ -1,5 +1,6 @@
 // A type table's text read into lent lists, in two passes.
 use text::Decimal;
+use text::Hex;
 use text::Literal;
 ghost use mathlib.Core.Path.{_≡_};
 ghost use mathlib.Core.List.{List, [], _∷_, _++_};
@@ -10,6 +11,7 @@ ghost use Rattle.text.specs.Put.{putText};
 ghost use Rattle.tables.specs.Answer.{Got};
 ghost use Rattle.tables.specs.Lists.{namesIn};
 ghost use Rattle.table_reader.specs.Found.{RowsGot, SectionGot, rowsAt, NamesReady};
+ghost use Rattle.table_reader.specs.Sections.{CountsGot, BytesGot};
 
 // Reads k numbers, each with a comma after it, from `at` on into a list from `to` on.
 fn get_numbers(s: &[u8], at: usize, k: usize, most: u64, out: &mut [u64], to: usize) -> Literal
@@ -157,4 +159,64 @@ fn fields_section(s: &[u8], at: usize, names: &[u8], count: usize, out: &mut [u3
         return Section::Lost;
     };
     Section::Found(b, size, next)
+}
+
+// The counts of a table, and what comes after their line.
+pub struct CountsRead {
+    pub types: usize,
+    pub fields: usize,
+    pub consts: usize,
+    pub next: usize,
+}
+
+pub enum CountsLine {
+    Counts(CountsRead),
+    NoCounts,
+}
+
+// Reads the first two lines.
+fn get_counts(s: &[u8]) -> CountsLine
+    ensures { λ r. ⌜ CountsGot (now (s .entry)) r ⌝ }
+{
+    let Literal::Past(a) = text::expect(s, 0, b"types,fields,constants\n") else {
+        return CountsLine::NoCounts;
+    };
+    let Decimal::Number(t, b) = text::get_field(s, a, 4096, 44) else {
+        return CountsLine::NoCounts;
+    };
+    let Decimal::Number(f, d) = text::get_field(s, b, 16384, 44) else {
+        return CountsLine::NoCounts;
+    };
+    let Decimal::Number(c, e) = text::get_field(s, d, 4096, 10) else {
+        return CountsLine::NoCounts;
+    };
+    CountsLine::Counts(CountsRead {
+        types: t as usize,
+        fields: f as usize,
+        consts: c as usize,
+        next: e,
+    })
+}
+
+// Where the constants' bytes begin, and how many they are.
+pub enum BytesLine {
+    Bytes(usize, usize),
+    NoBytes,
+}
+
+// Reads the name of the bytes, the bytes, and nothing more.
+fn bytes_section(s: &[u8], at: usize) -> BytesLine
+    requires { ⌜ at ≤ length (now s) ⌝ }
+    ensures { λ r. ⌜ BytesGot (now (s .entry)) at r ⌝ }
+{
+    let Literal::Past(b) = text::expect(s, at, b"bytes\n") else {
+        return BytesLine::NoBytes;
+    };
+    let Hex::Count(n, e) = text::count_hex(s, b) else {
+        return BytesLine::NoBytes;
+    };
+    if e < s.len() {
+        return BytesLine::NoBytes;
+    }
+    BytesLine::Bytes(b, n)
 }

@@ -1,1 +1,2 @@
 pub mod RowsPut
+pub mod Wholes

@@ -16,13 +16,13 @@ use Rattle.text.proofs.Putting.{puts-puts, puts-at, puts-none}
 use Rattle.tables.specs.Table.{readName, field, nameText, rowLine}
 use Rattle.tables.specs.Lists.{rowsOf}
 use Rattle.tables.specs.Answer.{GotAll, namesAt, RowsReady}
-use Rattle.tables.proofs.Endings.{Gathering, gather-begin, gather-next, gather-lost, gather-done, gather-split}
+use Rattle.tables.proofs.Endings.{Gathering, gather-begin, gather-next, gather-lost, gather-done, gather-prefix}
 use Rattle.tables.proofs.Naming.{NameFound, name-part}
 use Rattle.tables.proofs.Rowing.{rows-snoc, rows-room}
 
 pub names-are : (s : List ℕ) (at count : ℕ) (ns : List (List ℕ)) (rest : List ℕ) → readAll readName count (drop at s) ≡ give ns rest → namesAt s at count ≡ ns
 unfolding namesAt
-names-are s at count ns rest e = rw e
+names-are s at count ns rest e = rw (e, namesAt)
 
 row-in : (k i count n : ℕ) → i < count → k * count ≤ n → k * i + k ≤ n
 row-in k i count n h l =
@@ -74,9 +74,7 @@ module _ (k : ℕ) (list names : List ℕ) (from count : ℕ) (out₀ : List ℕ
 
     split : (ys : List (List ℕ)) × (namesAt names from count ≡ (p .gathered .done ++ (n .name ∷ [])) ++ ys)
     split =
-        gather-split readName names from count next (i + 1)
-        (gather-next readName names from count f i (p .gathered) (λ _. Unit) (n .name) next h (n .reads) (n .inside) tt)
-        (namesAt names from count) (p .ready .rest) (p .ready .reads)
+        gather-prefix readName names from count f i (p .gathered) (n .name) next h (n .reads) (n .inside) (namesAt names from count) (p .ready .rest) (p .ready .reads)
 
     pub rows-put-fits : o + (length (flatMap field (take (j + k - j) (drop j list))) + length (take (next - f) (drop f names))) ≤ length out
     rows-put-fits =
@@ -108,3 +106,6 @@ pub two-of : (list : List ℕ) (j : ℕ) → j + 2 ≤ length list → take (j +
 two-of list j h =
     ap (λ (m : ℕ). take m (drop j list)) (let v : j + 2 - j ≡ 2 = omega arith in v)
     ∙ ap (take 2) (drop-cons list j 0 (omega arith) ∙ ap (λ (t : List ℕ). getD list j 0 ∷ t) (ap (λ (m : ℕ). drop m list) (sym (add-one j)) ∙ drop-cons list (j + 1) 0 (omega arith)))
+
+pub two-as : (list : List ℕ) (j x y : ℕ) → j + 2 ≤ length list → x ≡ getD list j 0 → y ≡ getD list (j + 1) 0 → x ∷ y ∷ [] ≡ take (j + 2 - j) (drop j list)
+two-as list j x y h e f = (λ i. e i ∷ f i ∷ []) ∙ sym (two-of list j h)

@@ -115,11 +115,17 @@ module _ {A : Type 0} (r : Reader A) (s : List ℕ) (at count : ℕ) where
 
 -- an answer by its cases
 module _ {A : Type 0} {r : Reader A} {s : List ℕ} {at count : ℕ} {P : List A → Type 0} where
-  pub got-past : {x : Literal} (k : ℕ) → Got r s at count P x → x ≡ Past k → GotAll r s at count P k
-  got-past k g e = subst (Got r s at count P) e g
+  pub got-there : {k : ℕ} → GotAll r s at count P k → Got r s at count P (Past k)
+  got-there {k} g = record {
+    past = λ n e. subst (GotAll r s at count P) (let v : k ≡ n = cc in v) g;
+    lost = λ e. absurd (let z : _≡_ {A = ℕ} 0 1 = cc in omega arith);
+  }
 
-pub got-none : {A : Type 0} (r : Reader A) (s : List ℕ) (at count : ℕ) (P : List A → Type 0) {x : Literal} → Got r s at count P x → x ≡ Missing → readAll r count (drop at s) ≡ none
-got-none r s at count P g e = subst (Got r s at count P) e g
+pub got-missing : {A : Type 0} {r : Reader A} {s : List ℕ} {at count : ℕ} (P : List A → Type 0) → readAll r count (drop at s) ≡ none → Got r s at count P Missing
+got-missing P f = record {
+  past = λ n e. absurd (let z : _≡_ {A = ℕ} 0 1 = cc in omega arith);
+  lost = λ e. f;
+}
 
 -- what was read so far is the beginning of all that stands there
 pub gather-split : {A : Type 0} (r : Reader A) (s : List ℕ) (at count k i : ℕ) {P : List A → Type 0} (g : Gathering r s at count k i P) (all : List A) (rest : List ℕ) →
@@ -129,3 +135,11 @@ gather-split {A} r s at count k i g all rest e = go (readAll r (count - i) (drop
     go : (o : Option (List A × List ℕ)) → readAll r (count - i) (drop k s) ≡ o → (ys : List A) × (all ≡ g .done ++ ys)
     go none f = absurd (none-not-some (sym (g .none-left f) ∙ e))
     go (some x) f = (x .0, ap (λ (z : List A × List ℕ). z .0) (some-inj (sym e ∙ g .some-left (x .0) (x .1) f)))
+
+-- and so it is with one value more
+pub gather-prefix : {A : Type 0} (r : Reader A) (s : List ℕ) (at count k i : ℕ) {P : List A → Type 0} (g : Gathering r s at count k i P) (x : A) (next : ℕ) → i < count →
+    r (drop k s) ≡ give x (drop next s) → next ≤ length s → (all : List A) (rest : List ℕ) → readAll r count (drop at s) ≡ give all rest →
+    (ys : List A) × (all ≡ (g .done ++ (x ∷ [])) ++ ys)
+unfolding gather-next
+gather-prefix r s at count k i g x next h e l all rest f =
+    gather-split r s at count next (i + 1) (gather-next r s at count k i g (λ _. Unit) x next h e l tt) all rest f

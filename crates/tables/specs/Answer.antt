@@ -25,9 +25,9 @@ pub record GotAll {A : Type 0} (r : Reader A) (s : List ℕ) (at count : ℕ) (P
   pub holds : P values
 
 -- they stand there, or not all of them do
-abbrev pub Got : {A : Type 0} (r : Reader A) (s : List ℕ) (at count : ℕ) (P : List A → Type 0) → Literal → Type 0
-Got r s at count P (Past k) = GotAll r s at count P k
-Got r s at count P Missing = readAll r count (drop at s) ≡ none
+pub record Got {A : Type 0} (r : Reader A) (s : List ℕ) (at count : ℕ) (P : List A → Type 0) (x : Literal) : Type 0 where
+  pub past : (k : ℕ) → x ≡ Past k → GotAll r s at count P k
+  pub lost : x ≡ Missing → readAll r count (drop at s) ≡ none
 
 -- LINES THAT ARE PUT
 

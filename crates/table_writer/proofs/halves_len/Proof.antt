@@ -8,8 +8,6 @@ use Rattle.text.specs.Text.{decimal}
 use Rattle.tables.proofs.Rowing.{Measured, measured-begin, measured-next, measured-end, digits-most}
 use Rattle.table_writer.proofs.halves_len.Statement.{statement}
 use Rattle.table_writer.proofs.halves_len.Tie as tie
-use Rattle.tables.proofs.widened.Reads as widened-reads
-use Rattle.text.proofs.decimal_len.Reads as decimal-len-reads
 
 abbrev Inv-loop : tie.InvT-loop
 Inv-loop list n₀ i₀ n i = Measured list n i

@@ -4,7 +4,6 @@ use borrow.Author.Needs.{needs}
 use Rattle.tables.proofs.Rowing.{Numbered, numbered-begin, numbered-room, numbered-next, numbered-end}
 use Rattle.table_writer.proofs.put_numbers.Statement.{statement}
 use Rattle.table_writer.proofs.put_numbers.Tie as tie
-use Rattle.tables.proofs.put_number.Reads as put-number-reads
 
 abbrev Inv-loop : tie.InvT-loop
 Inv-loop out₀ at list k₀ i₀ out k i = Numbered list out₀ at out k i
