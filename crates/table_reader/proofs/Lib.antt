@@ -1,2 +1,3 @@
 pub mod Lining
 pub mod Edges
+pub mod Assembly

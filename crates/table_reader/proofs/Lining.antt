@@ -198,7 +198,7 @@ module _ (k most : ℕ) (s : List ℕ) (at count : ℕ) (out₀ : List ℕ) (to 
       small = omega (arith, g .small, lining-on, name-long s a next l n);
       gathered =
           gather-next (rowFormat k most .read) s at count p i (g .gathered) (λ rows. Puts out₀ out′ to (j + k) (numbersIn rows) × (size + (next - a) ≡ length (namesIn rows)))
-          lineOf ns (n .name) next h (row-read k most s p a next ns (n .name) e (n .reads)) (n .inside) (
+          (lineOf ns (n .name)) next h (row-read k most s p a next ns (n .name) e (n .reads)) (n .inside) (
             puts-at (puts-puts (g .gathered .holds .0) (record { next = ap (λ (m : ℕ). j + m) (sym (numbers-within k most (drop p s) ns (drop a s) e .1)); out = q }) (omega (arith, g .room))) refl
                 (sym (numbers-snoc (g .gathered .done) ns (n .name))),
             omega (arith, g .gathered .holds .1, name-long s a next l n, ap length (names-snoc (g .gathered .done) ns (n .name)), length-append (namesIn (g .gathered .done)) (nameText (n .name))),
@@ -265,7 +265,7 @@ module _ (k most : ℕ) (s : List ℕ) (at count : ℕ) (names₀ : List ℕ) (t
       ready = g .ready;
       same = same ∙ g .same;
       gathered =
-          gather-next (rowFormat k most .read) s at count p i (g .gathered) (λ rows. Puts names₀ names′ to o′ (namesIn rows)) lineOf ns (n .name) next h
+          gather-next (rowFormat k most .read) s at count p i (g .gathered) (λ rows. Puts names₀ names′ to o′ (namesIn rows)) (lineOf ns (n .name)) next h
           (row-read k most s p a next ns (n .name) e (n .reads)) (n .inside)
           (puts-at (puts-puts (g .gathered .holds) q (omega (arith, g .ready .fits))) refl
           (ap (λ (t : List ℕ). namesIn (g .gathered .done) ++ t) (name-part s a next l n) ∙ sym (names-snoc (g .gathered .done) ns (n .name))));

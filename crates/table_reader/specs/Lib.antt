@@ -1,3 +1,4 @@
 -- Reading a type table into lent lists.
 pub mod Found
 pub mod Sections
+pub mod Parsing

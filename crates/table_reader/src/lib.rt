@@ -9,9 +9,10 @@ ghost use lib.ListN.{length, take, drop};
 ghost use Rattle.text.specs.Text.{readField};
 ghost use Rattle.text.specs.Put.{putText};
 ghost use Rattle.tables.specs.Answer.{Got};
-ghost use Rattle.tables.specs.Lists.{namesIn};
+ghost use Rattle.tables.specs.Lists.{namesIn, good};
 ghost use Rattle.table_reader.specs.Found.{RowsGot, SectionGot, rowsAt, NamesReady};
 ghost use Rattle.table_reader.specs.Sections.{CountsGot, BytesGot};
+ghost use Rattle.table_reader.specs.Parsing.{tableOf, Sectioned, Holding, ParsedAs};
 
 // Reads k numbers, each with a comma after it, from `at` on into a list from `to` on.
 fn get_numbers(s: &[u8], at: usize, k: usize, most: u64, out: &mut [u64], to: usize) -> Literal
@@ -219,4 +220,91 @@ fn bytes_section(s: &[u8], at: usize) -> BytesLine
         return BytesLine::NoBytes;
     }
     BytesLine::Bytes(b, n)
+}
+
+// What the first pass finds in a table's text: the counts, where the lines and the bytes begin, how many bytes there are and how many the names take.
+pub struct Sections {
+    pub types: usize,
+    pub fields: usize,
+    pub consts: usize,
+    pub types_at: usize,
+    pub fields_at: usize,
+    pub consts_at: usize,
+    pub bytes_at: usize,
+    pub bytes: usize,
+    pub type_names: usize,
+    pub field_names: usize,
+    pub const_names: usize,
+}
+
+pub enum Parsed {
+    Table(Sections),
+    NotTable,
+}
+
+// Is a text a table's? Its numbers go into scratch: those of types and, from 16,384 on, of constants into `words`, those of fields into `halves`.
+fn parse(s: &[u8], words: &mut [u64], halves: &mut [u32]) -> Parsed
+    requires { ⌜ (28672 ≤ length (now words)) × (32768 ≤ length (now halves)) ⌝ }
+    ensures { λ r. ⌜ ParsedAs (now (s .entry)) (now (words .entry)) (now (words .exit)) (now (halves .entry)) (now (halves .exit)) r ⌝ }
+{
+    let CountsLine::Counts(n) = get_counts(s) else {
+        return Parsed::NotTable;
+    };
+    let Section::Found(b, size1, d) = rows_section(
+        s,
+        n.next,
+        b"class,a,b,c,name\n",
+        n.types,
+        4,
+        18446744073709551615,
+        words,
+        0,
+    ) else {
+        return Parsed::NotTable;
+    };
+    let Section::Found(e, size2, f) = fields_section(s, d, b"type,constant,name\n", n.fields, halves)
+    else {
+        return Parsed::NotTable;
+    };
+    let Section::Found(g, size3, h) = rows_section(
+        s,
+        f,
+        b"plain,start,length,name\n",
+        n.consts,
+        3,
+        18446744073709551615,
+        words,
+        16384,
+    ) else {
+        return Parsed::NotTable;
+    };
+    let BytesLine::Bytes(k, size) = bytes_section(s, h) else {
+        return Parsed::NotTable;
+    };
+    Parsed::Table(Sections {
+        types: n.types,
+        fields: n.fields,
+        consts: n.consts,
+        types_at: b,
+        fields_at: e,
+        consts_at: g,
+        bytes_at: k,
+        bytes: size,
+        type_names: size1,
+        field_names: size2,
+        const_names: size3,
+    })
+}
+
+// Is a table that was found one that document 01 takes? Its numbers stand in scratch; of its bytes only how many they are matters, so as many of the text stand in for them.
+fn table_good(s: &[u8], x: Sections, words: &[u64], halves: &[u32]) -> bool
+    requires { ⌜ Sectioned (now s) x ⌝ }
+    requires { ⌜ Holding (now s) (now words) (now halves) ⌝ }
+    ensures { λ r. ⌜ r ≡ good (tableOf (now (s .entry))) ⌝ }
+{
+    let t = 4 * x.types;
+    let f = 2 * x.fields;
+    let c = 16384 + 3 * x.consts;
+    let n = x.bytes;
+    ty::check_table(&words[0..t], &halves[0..f], &words[16384..c], &s[0..n])
 }
