@@ -188,8 +188,10 @@ module _ (w f c b names : List ℕ) (x y : ℕ) (n : NamesFound names (length w 
     where
       t : length w / 4 ≡ length (rowsOf 4 w (namesAt names 0 (length w / 4)))
       t = sym (rows-count 4 w (namesAt names 0 (length w / 4)) ∙ n .typeCount)
+
       u : length f / 2 ≡ length (rowsOf 2 f (namesAt names x (length f / 2)))
       u = sym (rows-count 2 f (namesAt names x (length f / 2)) ∙ n .fieldCount)
+
       v : length c / 3 ≡ length (rowsOf 3 c (namesAt names y (length c / 3)))
       v = sym (rows-count 3 c (namesAt names y (length c / 3)) ∙ n .constantCount)
 
