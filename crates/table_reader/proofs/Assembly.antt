@@ -8,7 +8,7 @@ use mathlib.Core.Path.{_≡_, refl, sym, ap, _∙_, subst}
 use lib.ListN.{length, take, drop, length-append, length-take, length-drop, drop-of-length-le}
 use lib.Seq.{drop-cons, take-append-le, take-take, length-take-le, take-all}
 use native.Mathlib.Omega.{arith}
-use native.Mathlib.Nat.{mul-suc}
+use native.Mathlib.Nat.{mul-suc, zero-add}
 use Rattle.word.proofs.PutLaws.{put-all, take-put, mid-put, length-put}
 use Rattle.text.specs.Text.{give, _>>=_}
 use Rattle.text.specs.Format.{Format, Right, readAll, pair, times, afterLiteral, All}
@@ -140,19 +140,28 @@ module _ (s : List ℕ) where
                     ∙ take-all (length (numbersIn (v .rows .values))) (numbersIn (v .rows .values)) (omega arith);
                 fields = ap (take (length (numbersIn (u .rows .values)))) (u .rows .holds .0) ∙ whole-front h (numbersIn (u .rows .values));
                 wordsLong =
-                    omega (arith, first-length, ap length (v .rows .holds .0),
-                    length-put w1 16384 (numbersIn (v .rows .values)) (length (numbersIn (v .rows .values))) (omega (arith, first-length, consts-length, c .consts)) (omega arith));
+                    omega (
+                      arith,
+                      first-length,
+                      ap length (v .rows .holds .0),
+                      length-put w1 16384 (numbersIn (v .rows .values)) (length (numbersIn (v .rows .values))) (omega (arith, first-length, consts-length, c .consts)) (omega arith),
+                    );
                 halvesLong =
-                    omega (arith, ap length (u .rows .holds .0),
-                    length-put h 0 (numbersIn (u .rows .values)) (length (numbersIn (u .rows .values))) (omega (arith, fields-length, c .fields)) (omega arith));
+                    omega (
+                      arith,
+                      ap length (u .rows .holds .0),
+                      length-put h 0 (numbersIn (u .rows .values)) (length (numbersIn (u .rows .values))) (omega (arith, fields-length, c .fields)) (omega arith),
+                    );
               }
                 where
                   front : (l : List ℕ) (m : ℕ) (xs : List ℕ) → 16384 ≤ length l → m ≤ 16384 → take m (take 16384 l ++ xs ++ drop (16384 + length xs) l) ≡ take m l
                   front l m xs a q =
                       ap (take m) (append-assoc (take 16384 l) xs (drop (16384 + length xs) l))
                       ∙ take-append-le m (take 16384 l) (xs ++ drop (16384 + length xs) l) (omega (arith, length-take-le 16384 l a)) ∙ take-take m 16384 l q
+
                   whole-front : (l xs : List ℕ) → take (length xs) (putText l 0 xs) ≡ xs
-                  whole-front l xs = take-put l 0 xs (length xs) (omega arith) (omega arith) ∙ take-all (length xs) xs (omega arith)
+                  whole-front l xs =
+                      ap (λ (m : ℕ). take m (putText l 0 xs)) (sym (zero-add (length xs))) ∙ take-put l 0 xs (length xs) (omega arith) (omega arith) ∙ take-all (length xs) xs (omega arith)
 
               pub parsed-there : ParsedAs s w w2 h h1 (Table sections)
               parsed-there = record {
@@ -170,3 +179,28 @@ parsed-lost e = record { found = λ x q. absurd (let z : _≡_ {A = ℕ} 0 1 = c
 pub good-by-length : (w f c b b′ : List ℕ) → length b ≡ length b′ → tableGood w f c b ≡ tableGood w f c b′
 unfolding tableGood
 good-by-length w f c b b′ e = rw e
+
+-- the parts of scratch and of the text that are checked are the table's
+pub good-held : (s : List ℕ) (x : Sections) (words halves : List ℕ) → Sectioned s x → Holding s words halves → {r : Bool} →
+    r ≡ tableGood (take (4 * x .types - 0) (drop 0 words)) (take (2 * x .fields - 0) (drop 0 halves)) (take (16384 + 3 * x .consts - 16384) (drop 16384 words)) (take (x .bytes - 0) (drop 0 s)) →
+    r ≡ good (tableOf s)
+unfolding good
+good-held s x words halves p h {r} q =
+    q ∙ (λ i. tableGood (a i) (b i) (c i) (take (x .bytes - 0) s))
+    ∙ good-by-length (numbersIn (tableOf s .types)) (numbersIn (tableOf s .fields)) (numbersIn (tableOf s .constants)) (take (x .bytes - 0) s) (tableOf s .bytes)
+    (length-take-le (x .bytes - 0) s (omega (arith, p .short)) ∙ (let v : x .bytes - 0 ≡ length (tableOf s .bytes) = omega (arith, p .byteCount) in v))
+  where
+    a : take (4 * x .types - 0) words ≡ numbersIn (tableOf s .types)
+    a =
+        ap (λ (m : ℕ). take m words) (let v : 4 * x .types - 0 ≡ length (numbersIn (tableOf s .types)) = omega (arith, numbers-length 4 most64 s (x .«types_at») (x .types) (tableOf s .types) (p .types .rest) (p .types .reads)) in v)
+        ∙ h .types
+
+    b : take (2 * x .fields - 0) halves ≡ numbersIn (tableOf s .fields)
+    b =
+        ap (λ (m : ℕ). take m halves) (let v : 2 * x .fields - 0 ≡ length (numbersIn (tableOf s .fields)) = omega (arith, numbers-length 2 most32 s (x .«fields_at») (x .fields) (tableOf s .fields) (p .fields .rest) (p .fields .reads)) in v)
+        ∙ h .fields
+
+    c : take (16384 + 3 * x .consts - 16384) (drop 16384 words) ≡ numbersIn (tableOf s .constants)
+    c =
+        ap (λ (m : ℕ). take m (drop 16384 words)) (let v : 16384 + 3 * x .consts - 16384 ≡ length (numbersIn (tableOf s .constants)) = omega (arith, numbers-length 3 most64 s (x .«consts_at») (x .consts) (tableOf s .constants) (p .consts .rest) (p .consts .reads)) in v)
+        ∙ h .consts

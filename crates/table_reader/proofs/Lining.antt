@@ -26,6 +26,7 @@ use Rattle.tables.proofs.Laws.{num, row-right}
 use Rattle.tables.proofs.Endings.{Gathering, gather-begin, gather-next, gather-lost, gather-done, gather-prefix, got-there, got-missing}
 use Rattle.tables.proofs.Naming.{NameFound, name-found, name-long, name-part}
 use Rattle.tables.proofs.Rowing.{flat-append, flat-snoc}
+use Rattle.table_reader.specs.declared.Rows.{Rows}
 use Rattle.table_reader.specs.declared.Rows.the-variants.{Lines, NoRows}
 use Rattle.table_reader.specs.declared.Section.the-variants.{Found, Lost}
 use Rattle.table_reader.specs.Found.{Listed, RowsGot, SectionFound, SectionGot, rowsAt, NamesReady}
@@ -275,3 +276,47 @@ module _ (k most : ℕ) (s : List ℕ) (at count : ℕ) (names₀ : List ℕ) (t
   naming-end h =
       let d = gather-done (rowFormat k most .read) s at count p i (g .gathered) h in
       d .holds .out ∙ ap (λ (rows : List Row). putText names₀ to (namesIn rows)) (sym (rows-are k most s at count (d .values) (drop p s) (d .reads)))
+
+-- TWO NUMBERS IN A ROW OF TWO
+
+two-elements : (ns : List ℕ) → length ns ≡ 2 → ns ≡ getD ns 0 0 ∷ getD ns 1 0 ∷ []
+two-elements [] e = absurd (omega arith)
+two-elements (x ∷ []) e = absurd (omega arith)
+two-elements (x ∷ y ∷ []) e = refl
+two-elements (x ∷ y ∷ z ∷ l) e = absurd (omega arith)
+
+two-within : (most : ℕ) (ns : List ℕ) → length ns ≡ 2 → All (λ n. n ≤ most) ns → (getD ns 0 0 ≤ most) × (getD ns 1 0 ≤ most)
+two-within most [] e a = absurd (omega arith)
+two-within most (x ∷ []) e a = absurd (omega arith)
+two-within most (x ∷ y ∷ l) e a = (a .0, a .1 .0)
+
+module _ (row row′ ns : List ℕ) (most : ℕ) (h : length row ≡ 2) (e : row′ ≡ putText row 0 ns) (w : All (λ n. n ≤ most) ns × (length ns ≡ 2)) where
+  row-is : row′ ≡ ns
+  row-is = e ∙ put-whole row ns (length ns) (h ∙ sym (w .1)) refl
+
+  pub row-first : getD row′ 0 0 ≤ most
+  row-first = omega (arith, ap (λ (l : List ℕ). getD l 0 0) row-is, two-within most ns (w .1) (w .0) .0)
+
+  pub row-second : getD row′ 1 0 ≤ most
+  row-second = omega (arith, ap (λ (l : List ℕ). getD l 1 0) row-is, two-within most ns (w .1) (w .0) .1)
+
+  pub row-both : getD row′ 0 0 ∷ getD row′ 1 0 ∷ [] ≡ ns
+  row-both = ap (λ (l : List ℕ). getD l 0 0 ∷ getD l 1 0 ∷ []) row-is ∙ sym (two-elements ns (w .1))
+
+pub two-sets : (out : List ℕ) (j x y : ℕ) → j + 2 ≤ length out → set (set out j x) (j + 1) y ≡ putText out j (x ∷ y ∷ [])
+two-sets out j x y h =
+    puts-puts (puts-byte out j x (omega arith)) (puts-byte (set out j x) (j + 1) y (rw (length-set out j x) (omega arith))) (omega arith) .out
+
+pub two-length : (out : List ℕ) (j x y : ℕ) → length (set (set out j x) (j + 1) y) ≡ length out
+two-length out j x y = length-set (set out j x) (j + 1) y ∙ length-set out j x
+
+pub two-in : (out : List ℕ) (j x : ℕ) → j + 2 ≤ length out → j + 1 < length (set out j x)
+two-in out j x h = rw (length-set out j x) (omega arith)
+
+-- lines that are known to stand there were put
+pub rows-filled : (k most : ℕ) (s : List ℕ) (at count : ℕ) (before after : List ℕ) (to : ℕ) (x : Rows) (rows : List Row) (rest : List ℕ) → RowsGot k most s at count before after to x →
+    readAll (rowFormat k most .read) count (drop at s) ≡ give rows rest → after ≡ putText before to (numbersIn rows)
+rows-filled k most s at count before after to (Lines size next) rows rest g e =
+    let l = g .lines size next refl in
+    l .holds .0 ∙ ap (λ (r : List Row). putText before to (numbersIn r)) (ap (λ (z : List Row × List ℕ). z .0) (some-inj (sym (l .reads) ∙ e)))
+rows-filled k most s at count before after to NoRows rows rest g e = absurd (none-not-some (sym (g .lost refl) ∙ e))

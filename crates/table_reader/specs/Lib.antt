@@ -2,3 +2,4 @@
 pub mod Found
 pub mod Sections
 pub mod Parsing
+pub mod Reading

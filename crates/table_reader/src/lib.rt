@@ -1,11 +1,12 @@
 // A type table's text read into lent lists, in two passes.
+use refusal::Refusal;
 use text::Decimal;
 use text::Hex;
 use text::Literal;
 ghost use mathlib.Core.Path.{_≡_};
 ghost use mathlib.Core.List.{List, [], _∷_, _++_};
 ghost use Prim.Native.Nat.{ℕ, _+_, _-_, _*_, _/_, _≤_, _<_};
-ghost use lib.ListN.{length, take, drop};
+ghost use lib.ListN.{length, take, drop, replicate};
 ghost use Rattle.text.specs.Text.{readField};
 ghost use Rattle.text.specs.Put.{putText};
 ghost use Rattle.tables.specs.Answer.{Got};
@@ -13,6 +14,7 @@ ghost use Rattle.tables.specs.Lists.{namesIn, good};
 ghost use Rattle.table_reader.specs.Found.{RowsGot, SectionGot, rowsAt, NamesReady};
 ghost use Rattle.table_reader.specs.Sections.{CountsGot, BytesGot};
 ghost use Rattle.table_reader.specs.Parsing.{tableOf, Sectioned, Holding, ParsedAs};
+ghost use Rattle.table_reader.specs.Reading.{Admitted, roomFor};
 
 // Reads k numbers, each with a comma after it, from `at` on into a list from `to` on.
 fn get_numbers(s: &[u8], at: usize, k: usize, most: u64, out: &mut [u64], to: usize) -> Literal
@@ -262,8 +264,13 @@ fn parse(s: &[u8], words: &mut [u64], halves: &mut [u32]) -> Parsed
     ) else {
         return Parsed::NotTable;
     };
-    let Section::Found(e, size2, f) = fields_section(s, d, b"type,constant,name\n", n.fields, halves)
-    else {
+    let Section::Found(e, size2, f) = fields_section(
+        s,
+        d,
+        b"type,constant,name\n",
+        n.fields,
+        halves,
+    ) else {
         return Parsed::NotTable;
     };
     let Section::Found(g, size3, h) = rows_section(
@@ -307,4 +314,64 @@ fn table_good(s: &[u8], x: Sections, words: &[u64], halves: &[u32]) -> bool
     let c = 16384 + 3 * x.consts;
     let n = x.bytes;
     ty::check_table(&words[0..t], &halves[0..f], &words[16384..c], &s[0..n])
+}
+
+// What the first pass tells of a text: a table that can be read, or why it is refused.
+pub enum Checked {
+    Good(Sections),
+    Not(Refusal),
+}
+
+// Is a text that of a table which document 01 takes? Scratch holds its numbers afterwards.
+fn admit(s: &[u8], words: &mut [u64], halves: &mut [u32]) -> Checked
+    requires { ⌜ (28672 ≤ length (now words)) × (32768 ≤ length (now halves)) ⌝ }
+    ensures { λ r. ⌜ Admitted (now (s .entry)) r ⌝ }
+{
+    let Parsed::Table(x) = parse(s, words, halves) else {
+        return Checked::Not(Refusal::Page);
+    };
+    if table_good(s, x, words, halves) {
+        return Checked::Good(x);
+    }
+    Checked::Not(Refusal::TypeTable)
+}
+
+// The first pass: the same, and scratch is zero afterwards.
+pub fn check(s: &[u8], words: &mut [u64], halves: &mut [u32]) -> Checked
+    requires { ⌜ (28672 ≤ length (now words)) × (32768 ≤ length (now halves)) ⌝ }
+    ensures { λ r. ⌜ Admitted (now (s .entry)) r ⌝ }
+    ensures { λ _. ⌜ now (words .exit) ≡ replicate (length (now (words .entry))) 0 ⌝ }
+    ensures { λ _. ⌜ now (halves .exit) ≡ replicate (length (now (halves .entry))) 0 ⌝ }
+{
+    let found = admit(s, words, halves);
+    memory::clear_u64(words);
+    memory::clear_u32(halves);
+    found
+}
+
+// Is there room for a table that was found in lists of these lengths?
+fn room(x: Sections, types: usize, fields: usize, consts: usize, bytes: usize, names: usize) -> bool
+    requires { ⌜ (x .types ≤ 4096) × (x .fields ≤ 16384) × (x .consts ≤ 4096) ⌝ }
+    ensures { λ r. ⌜ r ≡ roomFor x types fields consts bytes names ⌝ }
+{
+    if types < 4 * x.types {
+        return false;
+    }
+    if fields < 2 * x.fields {
+        return false;
+    }
+    if consts < 3 * x.consts {
+        return false;
+    }
+    if bytes < x.bytes {
+        return false;
+    }
+    if names < x.type_names {
+        return false;
+    }
+    let left = names - x.type_names;
+    if left < x.field_names {
+        return false;
+    }
+    x.const_names <= left - x.field_names
 }
