@@ -4,9 +4,11 @@
 1. Each sample is answered as its name says: 17-.., 1-.. and 10-.. are refused so, the others are taken.
 2. Pages, the samples and each of them with one byte changed, removed, doubled or put in, are answered alike by both (`load`), and an accepted one is printed again to the same bytes (`page`).
 3. Layouts and traced handles of the types of the tables, and of random ones, under random descriptors and values are alike (`layout`, `objh`).
-4. The bytes that the form says nothing of are few: how many changed pages are taken all the same is printed, since a page has no checksum.
+4. The examples and digests of docs/FORMAT.md are these files'.
+5. The bytes that the form says nothing of are few: how many changed pages are taken all the same is printed, since a page has no checksum.
 Byte 10 is `;` on a line for replay; a page in which `;`, blank or byte 0 would stand, or one past 60,000 bytes, is left out. It ends with 1 if anything differs."""
 import glob
+import hashlib
 import os
 import random
 import struct
@@ -126,9 +128,21 @@ def layouts(replay, turns):
     return wrong
 
 
+def documents():
+    """The examples of FORMAT.md, with four blanks before each line, and their digests."""
+    wrong, text = 0, open(os.path.join(here, "..", "FORMAT.md")).read()
+    for name in ("bytes.page", "handles.page", "record.table", "record.page", "logic.table", "logic.page"):
+        data = open(os.path.join(here, name), "rb").read()
+        block = "".join("    " + line + "\n" for line in data.decode().split("\n")[:-1])
+        if block not in text or f"{hashlib.sha256(data).hexdigest()}  {name}" not in text:
+            wrong += 1
+            print("not in FORMAT.md:", name)
+    return wrong
+
+
 def main(replay, seed):
     random.seed(seed)
-    wrong = 0
+    wrong = documents()
     for f in sorted(glob.glob(here + "/*.page") + glob.glob(here + "/*.table")):
         name, told = os.path.basename(f), reader.answer(open(f, "rb").read())
         if told != (int(name.split("-")[0]) if name[0] in "1" else 0):
