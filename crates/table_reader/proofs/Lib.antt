@@ -1,4 +1,0 @@
-pub mod Lining
-pub mod Edges
-pub mod Assembly
-pub mod Verdicts
