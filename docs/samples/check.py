@@ -4,14 +4,17 @@
 1. Each sample is answered as its name says: 17-.., 1-.. and 10-.. are refused so, the others are taken.
 2. Pages, the samples and each of them with one byte changed, removed, doubled or put in, are answered alike by both (`load`), and an accepted one is printed again to the same bytes (`page`).
 3. Layouts and traced handles of the types of the tables, and of random ones, under random descriptors and values are alike (`layout`, `objh`).
-4. The examples and digests of docs/FORMAT.md are these files'.
-5. The bytes that the form says nothing of are few: how many changed pages are taken all the same is printed, since a page has no checksum.
+4. The grammar of docs/FORMAT.md, as a regular expression, with the counts and widths beside it, says of every one of these pages, and of tables changed in the same ways, whether it is one, as reader.py does;
+   a table that is taken is printed again to the same bytes.
+5. The examples and digests of docs/FORMAT.md are these files'.
+6. How many changed pages are taken all the same is printed, since a page has no checksum.
 Byte 10 is `;` on a line for replay; a page in which `;`, blank or byte 0 would stand, or one past 60,000 bytes, is left out. It ends with 1 if anything differs."""
 import glob
 import hashlib
 import os
 import random
 import struct
+import re
 import subprocess
 import sys
 
@@ -58,6 +61,50 @@ def pages(replay, turns):
             wrong += 1
             print("differ:", t[:300], loaded, mine)
     print(f"pages: {len(texts)} alike but for {wrong}; {taken} of them are taken")
+    return wrong
+
+
+NUMBER, DATA, NAME = rb"(?:0|[1-9][0-9]*)", rb"(?:[0-9a-f]{2})*", rb"[\x20-\x2b\x2d-\xff]*"
+LINES = lambda k, last: rb"((?:(?:" + NUMBER + rb",){%d}" % k + last + rb"\n)*)"
+PAGE = re.compile(rb"tag,since_gc,reclaim_at,live_bytes,slots,free,quarantine,sealed\n((?:" + NUMBER + rb",){7}" + NUMBER + rb")\ngeneration,kind,type,start,writes,data\n" + LINES(5, DATA)
+                  + rb"free\n" + LINES(0, NUMBER) + rb"quarantine\n" + LINES(0, NUMBER) + rb"sealed\n" + LINES(0, NUMBER))
+TABLE = re.compile(rb"types,fields,constants\n((?:" + NUMBER + rb",){2}" + NUMBER + rb")\nclass,a,b,c,name\n" + LINES(4, NAME) + rb"type,constant,name\n" + LINES(2, NAME)
+                   + rb"plain,start,length,name\n" + LINES(3, NAME) + rb"bytes\n" + DATA + rb"\n")
+WIDTHS = {PAGE: [[8, 64, 64, 64, 32, 32, 32, 32], [32, 8, 32, 64, 32], [32], [32], [64]], TABLE: [[64] * 3, [64] * 4, [32] * 2, [64] * 3]}
+
+
+def grammatical(text):
+    """Whether a text is one by the grammar, its counts and its widths (FORMAT.md, sections 2, 6 and 15)."""
+    form = TABLE if text.startswith(b"types,") else PAGE
+    found = form.fullmatch(text)
+    if not found:
+        return False
+    head, parts = found.group(1).split(b","), [g.split(b"\n")[:-1] for g in found.groups()[1:]]
+    if [int(n) for n in head[-len(parts):]] != [len(p) for p in parts] or (form is TABLE and any(int(n) > most for n, most in zip(head, (4096, 16384, 4096)))):
+        return False
+    lines = zip([head] + [line.split(b",") for p in parts for line in p], [WIDTHS[form][0]] + [w for p, w in zip(parts, WIDTHS[form][1:]) for _ in p])
+    return all(int(n) < 2 ** width for line, widths in lines for n, width in zip(line, widths))
+
+
+def printed(table):
+    text = ",".join(str(len(table[p])) for p, _, _ in reader.TABLE) + "\n"
+    for part, names, _ in reader.TABLE:
+        text += ",".join(names) + "\n" + "".join(",".join(map(str, row)) + "\n" for row in table[part])
+    return ("types,fields,constants\n" + text + "bytes\n" + table["bytes"].hex() + "\n").encode()
+
+
+def grammar(turns):
+    wrong, asked, taken = 0, 0, 0
+    for f in sorted(glob.glob(here + "/*.page") + glob.glob(here + "/*.table")):
+        text = open(f, "rb").read()
+        for t in [text] + list(damaged(text, turns)):
+            told = reader.answer(t)
+            again = told == 0 and t.startswith(b"types,") and b"\xff" not in t and printed(reader.read_table(t)) != t
+            asked, taken = asked + 1, taken + (told == 0)
+            if grammatical(t) != (told != 17) or again:
+                wrong += 1
+                print("grammar:", t[:300], told)
+    print(f"grammar: {asked} texts alike but for {wrong}; {taken} of them are taken")
     return wrong
 
 
@@ -149,6 +196,7 @@ def main(replay, seed):
             wrong += 1
             print("sample:", name, told)
     wrong += pages(replay, 400)
+    wrong += grammar(400)
     wrong += layouts(replay, 400)
     sys.exit(1 if wrong else 0)
 
