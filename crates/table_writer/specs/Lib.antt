@@ -1,0 +1,4 @@
+-- The definitions that the writer's contracts cite.
+pub mod Writing
+pub mod Parts
+pub mod Trips

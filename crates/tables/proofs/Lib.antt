@@ -1,0 +1,4 @@
+pub mod Laws
+pub mod Endings
+pub mod Naming
+pub mod Rowing
