@@ -162,7 +162,7 @@ fn a_number_out_of_its_range_is_1() {
         bad.push(memory.clone());
         bad.last_mut().unwrap().narrow[place] = number;
     }
-    for (place, number) in [(18, 1 << 32), (18, u64::MAX), (7, 1), (15, 11), (23, 1), (31, 1)] {
+    for (place, number) in [(7, 1), (15, 11), (23, 1), (31, 1)] {
         bad.push(memory.clone());
         bad.last_mut().unwrap().wide[place] = number;
     }
