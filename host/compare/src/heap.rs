@@ -13,9 +13,11 @@ struct Run {
 
 impl Run {
     fn handle(&mut self) -> Handle {
-        match self.random.below(12) {
+        match self.random.below(13) {
             0 => Handle::NULL,
             1 => Handle(self.random.word()),
+            // a slot that the heap has never had
+            2 => Handle(u64::from(self.heap.header().tag) << 56 | (self.heap.header().slots as u64 + self.random.below(3)) << 32 | 1),
             _ if self.handles.is_empty() => Handle(1),
             _ => self.handles[self.random.below(self.handles.len() as u64) as usize],
         }

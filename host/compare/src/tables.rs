@@ -379,5 +379,5 @@ fn random_collections_answer_as_the_rust() {
             same(&mut oracle, &heap, &place);
         }
     }
-    oracle.saw(&[("alloc", &["0", "5"]), ("collect", &["0", "13"]), ("epoch", &["0"]), ("free", &["0", "2", "3", "4"]), ("page", &["0"])]);
+    oracle.saw(&[("alloc", &["0", "5"]), ("collect", &["0", "13"]), ("epoch", &["0"]), ("free", &["0", "19", "2", "3", "4"]), ("page", &["0"])]);
 }
