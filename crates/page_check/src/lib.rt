@@ -46,7 +46,11 @@ pub enum SlotLine {
 fn most_writes(wide: bool) -> u64
     ensures { λ r. ⌜ r ≡ 2 ^ writesWidth wide - 1 ⌝ }
 {
-    if wide { 18446744073709551615 } else { 4294967295 }
+    if wide {
+        18446744073709551615
+    } else {
+        4294967295
+    }
 }
 
 // Reads a slot's line from `at` on.
