@@ -276,7 +276,7 @@ yexwalu_answer yexwalu_kind(
     uint8_t *marks, size_t marks_len,
     uint64_t *work, size_t work_len);
 
-/* first: the generation of slot `i`, second: its write count. 18, 1, 9. */
+/* first: the generation of slot `i`, second: its write count, which wraps at 64 bits. 18, 1, 9. */
 yexwalu_answer yexwalu_stamp(
     yexwalu_header heap,
     const uint32_t *narrow, size_t narrow_len,

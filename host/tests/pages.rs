@@ -119,7 +119,7 @@ fn a_page_with_lines_lost_doubled_or_turned_round() {
 // What stands once in the sample's page, what is put there, and the answer.
 const LINE: &str = "1,1,3,2,1,7468547264\n";
 const SEAL: &str = "sealed\n504403162560462849\n";
-const DAMAGE: [(&str, &str, u64); 38] = [
+const DAMAGE: [(&str, &str, u64); 40] = [
     ("\n7,216,", "\n07,216,", 17),
     ("\n7,216,", "\n+7,216,", 17),
     ("\n7,216,", "\n-7,216,", 17),
@@ -144,7 +144,9 @@ const DAMAGE: [(&str, &str, u64); 38] = [
     (LINE, "1,1,4294967296,2,1,7468547264\n", 17),
     (LINE, "1,1,3,18446744073709551615,1,7468547264\n", 0),
     (LINE, "1,1,3,18446744073709551616,1,7468547264\n", 17),
-    (LINE, "1,1,3,2,4294967296,7468547264\n", 17),
+    (LINE, "1,1,3,2,4294967296,7468547264\n", 0),
+    (LINE, "1,1,3,2,18446744073709551615,7468547264\n", 0),
+    (LINE, "1,1,3,2,18446744073709551616,7468547264\n", 17),
     (LINE, "1,1,3,2,1,746854726\n", 17),
     (LINE, "1,1,3,2,1,746854726A\n", 17),
     (LINE, "1,1,3,2,1,7468547264\r\n", 17),
@@ -167,6 +169,41 @@ fn a_page_with_a_number_changed() {
         assert_eq!(page.matches(old).count(), 1, "{old:?} in {page}");
         let answer = read(8, 64, page.replace(old, new).as_bytes());
         assert_eq!(answer.err().map_or(0, Refusal::number), number, "{old:?} to {new:?}");
+    }
+}
+
+// A page as the first programs wrote it, with write counts of 32 bits.
+fn earlier(page: &[u8]) -> Vec<u8> {
+    let text = String::from_utf8(page.to_vec()).unwrap();
+    assert_eq!(text.matches(",writes64,").count(), 1);
+    text.replace(",writes64,", ",writes,").into_bytes()
+}
+
+#[test]
+fn a_page_of_the_earlier_form_is_read_and_written_under_the_new_name() {
+    let (heap, _) = sample(8, 64);
+    let page = heap.write_page().unwrap();
+    let again = Heap::read_page(8, 64, &earlier(&page)).unwrap();
+    assert_eq!(again.memory(), heap.memory());
+    assert_eq!(again.write_page().unwrap(), page);
+    // a count of 33 bits is no number there
+    let text = String::from_utf8(page).unwrap();
+    let most = text.replace(LINE, "1,1,3,2,4294967295,7468547264\n");
+    let past = text.replace(LINE, "1,1,3,2,4294967296,7468547264\n");
+    assert_eq!(Heap::read_page(8, 64, &earlier(most.as_bytes())).unwrap().write_page().unwrap(), most.as_bytes());
+    assert_eq!(Heap::read_page(8, 64, &earlier(past.as_bytes())).err(), Some(Refusal::Page));
+    assert_eq!(Heap::read_page(8, 64, past.as_bytes()).unwrap().write_page().unwrap(), past.as_bytes());
+}
+
+#[test]
+fn a_write_count_goes_past_32_bits_and_wraps_at_64() {
+    let text = String::from_utf8(sample(8, 64).0.write_page().unwrap()).unwrap();
+    let slot = text.lines().skip(3).position(|line| format!("{line}\n") == LINE).unwrap() as u32;
+    for (count, next) in [("4294967295", 4294967296), ("18446744073709551615", 0)] {
+        let page = text.replace(LINE, &format!("1,1,3,2,{count},7468547264\n"));
+        let mut heap = Heap::read_page(8, 64, page.as_bytes()).unwrap();
+        heap.write(slot, 0, b"x").unwrap();
+        assert_eq!(heap.stamp(slot).unwrap().writes, next);
     }
 }
 

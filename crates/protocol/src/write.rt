@@ -1,116 +1,101 @@
-// Answers, put into an output buffer of which `n` bytes are in use. A full buffer is written out.
-use crate::Out;
+// Answers, written to standard output as they come.
+use crate::least;
+use crate::part_u8;
 use libc::STDOUT_FILENO;
 use refusal::Answer;
+ghost use Prim.Native.Nat.{_≤_};
+ghost use lib.ListN.{length};
 
-fn write_front(s: &[u8], n: usize) {
-    if n <= s.len() {
-        io::write_all(STDOUT_FILENO, &s[0..n]);
-    }
+pub fn put(s: &[u8]) {
+    io::write_all(STDOUT_FILENO, s);
 }
 
-// Writes out what the buffer holds.
-pub fn flush(out: &mut Out, n: &mut usize) {
-    let used = *n;
-    write_front(out, used);
-    *n = 0;
-}
-
-pub fn put_byte(out: &mut Out, n: &mut usize, b: u8) {
-    let used = *n;
-    if used < 65536 {
-        out[used] = b;
-        *n = used + 1;
-    } else {
-        write_front(out, used);
-        out[0] = b;
-        *n = 1;
-    }
-}
-
-pub fn put_bytes(out: &mut Out, n: &mut usize, s: &[u8]) {
-    let mut i = 0;
-    while i < s.len() {
-        put_byte(out, n, s[i]);
-        i += 1;
-    }
-}
-
-pub fn put_number(out: &mut Out, n: &mut usize, x: u64) {
-    let mut digits = [0u8; 20];
-    let k = io::decimal(x, &mut digits);
-    put_bytes(out, n, &digits[..k]);
+pub fn put_number(x: u64) {
+    io::print_decimal(STDOUT_FILENO, x);
 }
 
 // A space, then a number.
-pub fn put_next(out: &mut Out, n: &mut usize, x: u64) {
-    put_byte(out, n, 32);
-    put_number(out, n, x);
+pub fn put_next(x: u64) {
+    put(b" ");
+    put_number(x);
 }
 
 // A number that ends its line.
-pub fn put_last(out: &mut Out, n: &mut usize, x: u64) {
-    put_number(out, n, x);
-    put_byte(out, n, 10);
+pub fn put_last(x: u64) {
+    put_number(x);
+    put(b"\n");
 }
 
 // A line that can't be read, or that finds no room.
-pub fn put_bad(out: &mut Out, n: &mut usize) {
-    put_bytes(out, n, b"bad\n");
+pub fn put_bad() {
+    put(b"bad\n");
+}
+
+// 0, then a value.
+pub fn put_value(x: u64) {
+    put(b"0 ");
+    put_last(x);
+}
+
+// 0, then a value, and a space before what follows.
+pub fn put_value_next(x: u64) {
+    put(b"0 ");
+    put_number(x);
+    put(b" ");
 }
 
 // An answer: the number of a refusal alone, else 0 and so many of its values.
-pub fn put_answer(out: &mut Out, n: &mut usize, a: Answer, values: u64) {
-    put_number(out, n, a.number);
+pub fn put_answer(a: Answer, values: u64) {
+    put_number(a.number);
     if a.number == 0 {
         if 0 < values {
-            put_next(out, n, a.first);
+            put_next(a.first);
         }
         if 1 < values {
-            put_next(out, n, a.second);
+            put_next(a.second);
         }
     }
-    put_byte(out, n, 10);
+    put(b"\n");
 }
 
-fn hex_digit(d: u8) -> u8 {
-    let x = d % 16;
-    if x < 10 { 48 + x } else { 87 + x }
+// A space, then bytes in hexadecimal.
+fn put_digits(s: &[u8])
+    requires { ⌜ length (now s) ≤ 65536 ⌝ }
+{
+    let mut room = [32u8; 131073];
+    let k = text::put_hex(&mut room, 1, s);
+    put(part_u8(&room, 0, k));
 }
 
-// The bytes of `s` from `from` on, `count` at most, in hexadecimal; `-` for none.
-pub fn put_hex(out: &mut Out, n: &mut usize, s: &[u8], from: usize, count: usize) {
+// A space, then so many bytes from `from` on in hexadecimal; `-` for none.
+pub fn put_hex(s: &[u8], from: usize, count: usize) {
     if count == 0 {
-        put_byte(out, n, 45);
+        put(b" -");
+        return;
     }
-    let mut i = from;
-    let mut left = count;
-    while i < s.len() {
-        if left == 0 {
-            return;
-        }
-        let b = s[i];
-        put_byte(out, n, hex_digit(b / 16));
-        put_byte(out, n, hex_digit(b));
-        i += 1;
-        left -= 1;
+    let a = least(from, s.len());
+    let e = a + least(count, least(s.len() - a, 65536));
+    put_digits(&s[a..e]);
+}
+
+// A comma before every entry but the first.
+fn put_comma(first: bool) {
+    if !first {
+        put(b",");
     }
 }
 
-// The first `count` of the words, with commas; `-` for none.
-pub fn put_words(out: &mut Out, n: &mut usize, s: &[u64], count: usize) {
+// A space, then the first `count` words with commas; `-` for none.
+pub fn put_words(s: &[u64], count: usize) {
+    put(b" ");
     if count == 0 {
-        put_byte(out, n, 45);
+        put(b"-");
     }
+    let n = least(count, s.len());
     let mut i = 0;
-    while i < s.len() {
-        if i == count {
-            return;
-        }
-        if 0 < i {
-            put_byte(out, n, 44);
-        }
-        put_number(out, n, s[i]);
+    while i < n {
+        put_comma(i == 0);
+        put_number(s[i]);
         i += 1;
     }
 }
@@ -120,32 +105,37 @@ fn wide(x: u32) -> u64 {
 }
 
 // The numbers from `from` up to `to`, with commas; `-` for none.
-pub fn put_halves(out: &mut Out, n: &mut usize, s: &[u32], from: usize, to: usize) {
+pub fn put_halves(s: &[u32], from: usize, to: usize) {
     if from == to {
-        put_byte(out, n, 45);
+        put(b"-");
     }
+    let n = least(to, s.len());
     let mut i = from;
-    while i < s.len() {
-        if i == to {
-            return;
-        }
-        if from < i {
-            put_byte(out, n, 44);
-        }
-        put_number(out, n, wide(s[i]));
+    while i < n {
+        put_comma(i == from);
+        put_number(wide(s[i]));
         i += 1;
     }
 }
 
-// The first `count` bytes of a page on one line, with `;` for byte 10.
-pub fn put_page(out: &mut Out, n: &mut usize, s: &[u8], count: usize) {
+// A page's byte, with `;` for byte 10.
+fn folded(b: u8) -> u8 {
+    if b == 10 { 59 } else { b }
+}
+
+// Puts a page on one line.
+fn fold(s: &mut [u8]) {
     let mut i = 0;
     while i < s.len() {
-        if i == count {
-            return;
-        }
-        let b = s[i];
-        put_byte(out, n, if b == 10 { 59 } else { b });
+        s[i] = folded(s[i]);
         i += 1;
     }
+}
+
+// A space, then the first `count` bytes of a page on one line. The page's bytes are changed.
+pub fn put_page(s: &mut [u8], count: usize) {
+    let n = least(count, s.len());
+    fold(&mut s[0..n]);
+    put(b" ");
+    put(part_u8(s, 0, n));
 }

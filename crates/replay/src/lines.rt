@@ -1,47 +1,53 @@
 // A line of the script, run on what it is about.
-use crate::collect;
+use crate::live;
+use crate::traced;
+use crate::types;
 use protocol::Buffer;
-use protocol::Data;
+use protocol::Bytes;
 use protocol::Halves;
-use protocol::List;
-use protocol::Out;
-use protocol::command::Change;
-use protocol::command::CodeCall;
-use protocol::command::TypeCall;
-use protocol::command::change_of;
-use protocol::command::code_call_of;
-use protocol::command::type_call_of;
-use protocol::least;
+use protocol::Words;
+use protocol::code;
+use protocol::code::Function;
+use protocol::code::no_code;
+use protocol::part_u8;
 use protocol::read::byte_at;
+use protocol::table;
+use protocol::table::Table;
+use protocol::table::no_types;
+use protocol::write::put_bad;
 use replay_calls::Kept;
-use replay_calls::Marks;
-use replay_calls::Work;
+use replay_calls::Narrow;
+use replay_calls::Pool;
+use replay_calls::Wide;
 use replay_calls::ask;
 use replay_calls::change;
-use replay_tables::Bytes;
-use replay_tables::Function;
-use replay_tables::Table;
-use replay_tables::Words;
-use replay_tables::code;
-use replay_tables::code::Rows;
-use replay_tables::types;
 
-// The slots of the heap, six numbers of 32 bits and four of 64 bits each, and its data.
-pub type Narrow = [u32; 49152];
+// What is kept from line to line, beside the lent memory and lists: the heap, the type table and the function.
+pub struct State {
+    kept: Kept,
+    table: Table,
+    code: Function,
+}
 
-pub type Wide = [u64; 32768];
-
-pub type Pool = [u8; 65536];
+pub fn start() -> State {
+    State {
+        kept: replay_calls::start(),
+        table: no_types(),
+        code: no_code(),
+    }
+}
 
 enum Route {
     // An empty line or a comment has no answer.
     Silent,
+    Table,
     Types,
     Code,
-    Collect,
+    Live,
+    Traced,
     Change,
-    // A question to the heap, or no command.
     Ask,
+    Unknown,
 }
 
 // Is the line empty, or a comment?
@@ -52,15 +58,18 @@ fn is_silent(line: &[u8]) -> bool {
     byte_at(line, 0) == 35
 }
 
-// A line that changes no heap.
-fn beside(line: &[u8]) -> Route {
-    if let TypeCall::Unknown = type_call_of(line) {
-        if let CodeCall::Unknown = code_call_of(line) {
-            return Route::Ask;
-        }
-        return Route::Code;
+// A line on the heap.
+fn on_heap(line: &[u8]) -> Route {
+    if change::command(line) < change::UNKNOWN {
+        return Route::Change;
     }
-    Route::Types
+    if ask::command(line) < ask::UNKNOWN {
+        return Route::Ask;
+    }
+    if traced::command(line) < traced::UNKNOWN {
+        return Route::Traced;
+    }
+    Route::Unknown
 }
 
 // Where a line goes, by its command.
@@ -68,93 +77,111 @@ fn way(line: &[u8]) -> Route {
     if is_silent(line) {
         return Route::Silent;
     }
-    match change_of(line) {
-        Change::Collect => Route::Collect,
-        Change::Joined => Route::Collect,
-        Change::Unknown => beside(line),
-        _ => Route::Change,
+    if table::command(line) < table::UNKNOWN {
+        return Route::Table;
     }
+    if types::command(line) < types::UNKNOWN {
+        return Route::Types;
+    }
+    if code::command(line) < code::UNKNOWN {
+        return Route::Code;
+    }
+    if live::command(line) < live::UNKNOWN {
+        return Route::Live;
+    }
+    on_heap(line)
 }
 
-// The same with another type table.
-fn with_table(kept: Kept, table: Table) -> Kept {
-    let mut next = kept;
+// The same with another heap, another type table, another function.
+fn with_kept(state: State, kept: Kept) -> State {
+    let mut next = state;
+    next.kept = kept;
+    next
+}
+
+fn with_table(state: State, table: Table) -> State {
+    let mut next = state;
     next.table = table;
     next
 }
 
-// The same with another function.
-fn with_code(kept: Kept, code: Function) -> Kept {
-    let mut next = kept;
+fn with_code(state: State, code: Function) -> State {
+    let mut next = state;
     next.code = code;
     next
+}
+
+// Runs a line on the heap.
+fn on_memory(
+    route: Route,
+    line: &[u8],
+    state: State,
+    narrow: &mut Narrow,
+    wide: &mut Wide,
+    pool: &mut Pool,
+    bytes: &mut Bytes,
+    halves: &mut Halves,
+    words: &mut Words,
+) -> Kept {
+    let kept = state.kept;
+    match route {
+        Route::Change => change::answer(line, kept, narrow, wide, pool, bytes, halves),
+        Route::Ask => {
+            ask::answer(line, kept, narrow, wide, pool);
+            kept
+        }
+        Route::Traced => {
+            let table = state.table;
+            let code = state.code;
+            traced::answer(
+                line,
+                kept,
+                narrow,
+                wide,
+                pool,
+                table,
+                code,
+                bytes,
+                halves,
+                words,
+            )
+        }
+        _ => {
+            put_bad();
+            kept
+        }
+    }
 }
 
 // Runs a line, and tells what is kept after it.
 fn serve(
     line: &[u8],
-    kept: Kept,
-    narrow: &mut [u32],
-    wide: &mut [u64],
-    pool: &mut [u8],
+    state: State,
+    narrow: &mut Narrow,
+    wide: &mut Wide,
+    pool: &mut Pool,
     bytes: &mut Bytes,
     halves: &mut Halves,
     words: &mut Words,
-    data: &mut Data,
-    list: &mut List,
-    text: &mut Buffer,
-    marks: &mut Marks,
-    work: &mut Work,
-    rows: &mut Rows,
-    out: &mut Out,
-    n: &mut usize,
-) -> Kept {
-    match way(line) {
-        Route::Silent => kept,
+) -> State {
+    let t = state.table;
+    let f = state.code;
+    let route = way(line);
+    match route {
+        Route::Silent => state,
+        Route::Table => with_table(state, table::make(line, t, bytes, halves, words)),
+        Route::Code => with_code(state, code::make(line, f, bytes, halves, words)),
         Route::Types => {
-            let table = kept.table;
-            let next = types::answer(line, table, bytes, halves, words, data, list, out, n);
-            with_table(kept, next)
+            types::answer(line, t, bytes, halves, words);
+            state
         }
-        Route::Code => {
-            let old = kept.code;
-            let next = code::answer(line, old, bytes, halves, list, rows, out, n);
-            with_code(kept, next)
+        Route::Live => {
+            live::answer(line, f, bytes, halves);
+            state
         }
-        Route::Collect => collect::answer(
-            line,
-            kept,
-            narrow,
-            wide,
-            pool,
-            bytes,
-            halves,
-            words,
-            data,
-            list,
-            marks,
-            work,
-            rows,
-            out,
-            n,
-        ),
-        Route::Change => change::answer(
-            line,
-            kept,
-            narrow,
-            wide,
-            pool,
-            halves,
-            data,
-            text,
-            marks,
-            work,
-            out,
-            n,
-        ),
-        Route::Ask => {
-            ask::answer(line, kept, narrow, wide, pool, text, marks, work, out, n);
-            kept
+        _ => {
+            let kept = on_memory(route, line, state, narrow, wide, pool, bytes, halves, words);
+            with_kept(state, kept)
         }
     }
 }
@@ -164,41 +191,22 @@ pub fn run_line(
     buffer: &Buffer,
     from: usize,
     to: usize,
-    kept: Kept,
+    state: State,
     narrow: &mut Narrow,
     wide: &mut Wide,
     pool: &mut Pool,
     bytes: &mut Bytes,
     halves: &mut Halves,
     words: &mut Words,
-    data: &mut Data,
-    list: &mut List,
-    text: &mut Buffer,
-    marks: &mut Marks,
-    work: &mut Work,
-    rows: &mut Rows,
-    out: &mut Out,
-    n: &mut usize,
-) -> Kept {
-    let e = least(to, 262144);
-    let a = least(from, e);
-    let b = &buffer[..];
+) -> State {
     serve(
-        &b[a..e],
-        kept,
+        part_u8(buffer, from, to),
+        state,
         narrow,
         wide,
         pool,
         bytes,
         halves,
         words,
-        data,
-        list,
-        text,
-        marks,
-        work,
-        rows,
-        out,
-        n,
     )
 }

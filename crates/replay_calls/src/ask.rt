@@ -1,26 +1,73 @@
-// The questions to a heap: each is answered at once.
+// The questions to a heap.
 use crate::Kept;
-use crate::Marks;
-use crate::Work;
-use crate::calls;
 use crate::request::Asked;
-use crate::request::asking;
+use crate::request::none;
+use crate::request::one;
 use heap::Heap;
-use protocol::Buffer;
-use protocol::Out;
-use protocol::command::Ask;
-use protocol::command::ask_of;
+use protocol::HALF;
+use protocol::WORD;
 use protocol::least;
 use protocol::read::second;
+use protocol::read::which;
+use protocol::write::put;
 use protocol::write::put_answer;
 use protocol::write::put_bad;
-use protocol::write::put_byte;
 use protocol::write::put_halves;
 use protocol::write::put_hex;
-use protocol::write::put_next;
 use protocol::write::put_number;
 use protocol::write::put_page;
+use protocol::write::put_value_next;
 use refusal::Answer;
+use yexwalu::heaps;
+
+const GC_DUE: usize = 0;
+
+const RECLAIM_DUE: usize = 1;
+
+const HAS_QUARANTINE: usize = 2;
+
+const IS_PLAIN: usize = 3;
+
+const RESOLVE: usize = 4;
+
+const DATA: usize = 5;
+
+const KIND: usize = 6;
+
+const STAMP: usize = 7;
+
+const SLOTS: usize = 8;
+
+const PAGE: usize = 9;
+
+const PAGE_LENGTH: usize = 10;
+
+const EPOCH: usize = 11;
+
+pub const UNKNOWN: usize = 12;
+
+// Which question a line has.
+pub fn command(line: &[u8]) -> usize {
+    which(
+        line,
+        0,
+        b"gcdue reclaimdue hasquarantine isplain resolve data kind stamp slots page pagelen epoch ",
+    )
+}
+
+// What a question is about.
+fn asking(c: usize, line: &[u8], at: usize) -> Asked {
+    match c {
+        GC_DUE => one(line, at, WORD),
+        IS_PLAIN => one(line, at, 255),
+        RESOLVE => one(line, at, WORD),
+        DATA => one(line, at, HALF),
+        KIND => one(line, at, HALF),
+        STAMP => one(line, at, HALF),
+        UNKNOWN => Asked::Bad,
+        _ => none(),
+    }
+}
 
 // The slots and the live ones as one answer.
 fn counts(slots: Answer, live: Answer) -> Answer {
@@ -34,133 +81,92 @@ fn counts(slots: Answer, live: Answer) -> Answer {
     slots
 }
 
-// The call. Where the answer is a page, it goes to `text`.
-fn asked(
-    ask: Ask,
-    x: u64,
-    heap: Heap,
-    narrow: &[u32],
-    wide: &[u64],
-    pool: &[u8],
-    text: &mut Buffer,
-    marks: &mut Marks,
-    work: &mut Work,
-) -> Answer {
+// The call.
+fn called(c: usize, x: u64, heap: Heap, narrow: &[u32], wide: &[u64], pool: &[u8]) -> Answer {
+    let mut marks = [7u8; 8192];
+    let mut work = [7u64; 8192];
     let i = x as usize;
-    match ask {
-        Ask::GcDue => calls::gc_due(heap, narrow, wide, pool, x, marks, work),
-        Ask::ReclaimDue => calls::reclaim_due(heap, narrow, wide, pool, marks, work),
-        Ask::HasQuarantine => calls::has_quarantine(heap, narrow, wide, pool, marks, work),
-        Ask::IsPlain => calls::is_plain(heap, narrow, wide, pool, (x % 256) as u8, marks, work),
-        Ask::Resolve => calls::resolve(heap, narrow, wide, pool, x, marks, work),
-        Ask::Data => calls::data(heap, narrow, wide, pool, i, marks, work),
-        Ask::Kind => calls::kind(heap, narrow, wide, pool, i, marks, work),
-        Ask::Stamp => calls::stamp(heap, narrow, wide, pool, i, marks, work),
-        Ask::Page => calls::write_page(heap, narrow, wide, pool, text, marks, work),
-        Ask::PageLength => calls::page_length(heap, narrow, wide, pool, marks, work),
-        _ => {
-            let all = calls::slots(heap, narrow, wide, pool, marks, work);
-            let live = calls::live(heap, narrow, wide, pool, marks, work);
-            counts(all, live)
-        }
+    let tag = (x % 256) as u8;
+    match c {
+        GC_DUE => heaps::gc_due(heap, narrow, wide, pool, x, &mut marks, &mut work),
+        RECLAIM_DUE => heaps::reclaim_due(heap, narrow, wide, pool, &mut marks, &mut work),
+        HAS_QUARANTINE => heaps::has_quarantine(heap, narrow, wide, pool, &mut marks, &mut work),
+        IS_PLAIN => heaps::is_plain(heap, narrow, wide, pool, tag, &mut marks, &mut work),
+        RESOLVE => heaps::resolve(heap, narrow, wide, pool, x, &mut marks, &mut work),
+        DATA => heaps::data(heap, narrow, wide, pool, i, &mut marks, &mut work),
+        KIND => heaps::kind(heap, narrow, wide, pool, i, &mut marks, &mut work),
+        STAMP => heaps::stamp(heap, narrow, wide, pool, i, &mut marks, &mut work),
+        SLOTS => heaps::slots(heap, narrow, wide, pool, &mut marks, &mut work),
+        PAGE_LENGTH => yexwalu::page::page_length(heap, narrow, wide, pool, &mut marks, &mut work),
+        _ => heaps::live(heap, narrow, wide, pool, &mut marks, &mut work),
     }
 }
 
-// The epoch and the log, which stand in the header.
-fn epoch(out: &mut Out, n: &mut usize, heap: Heap) {
-    put_number(out, n, 0);
-    put_next(out, n, heap.epoch);
-    put_byte(out, n, 32);
-    let log = heap.log;
-    put_halves(out, n, &log, 0, 16);
-    put_byte(out, n, 10);
+// The page, on one line.
+fn page(heap: Heap, narrow: &[u32], wide: &[u64], pool: &[u8]) {
+    let mut text = [0u8; 262144];
+    let mut marks = [7u8; 8192];
+    let mut work = [7u64; 8192];
+    let a = yexwalu::page::write_page(heap, narrow, wide, pool, &mut text, &mut marks, &mut work);
+    put_number(a.number);
+    if a.number == 0 {
+        put_page(&mut text, a.first as usize);
+    }
+    put(b"\n");
 }
 
 // Visible data, which lies in the pool.
-fn data(out: &mut Out, n: &mut usize, a: Answer, pool: &[u8]) {
-    put_number(out, n, a.number);
+fn data(a: Answer, pool: &[u8]) {
+    put_number(a.number);
     if a.number == 0 {
-        put_byte(out, n, 32);
-        put_hex(out, n, pool, a.first as usize, a.second as usize);
+        put_hex(pool, a.first as usize, a.second as usize);
     }
-    put_byte(out, n, 10);
+    put(b"\n");
 }
 
-// A page on one line.
-fn written(out: &mut Out, n: &mut usize, a: Answer, text: &Buffer) {
-    put_number(out, n, a.number);
-    if a.number == 0 {
-        put_byte(out, n, 32);
-        put_page(out, n, text, a.first as usize);
-    }
-    put_byte(out, n, 10);
+// The epoch and the log, which stand in the header.
+fn epoch(heap: Heap) {
+    let log = heap.log;
+    put_value_next(heap.epoch);
+    put_halves(&log, 0, 16);
+    put(b"\n");
 }
 
 // The answer to a question, with the values that it has.
-fn show(out: &mut Out, n: &mut usize, ask: Ask, a: Answer, pool: &[u8], text: &Buffer) {
-    match ask {
-        Ask::Data => data(out, n, a, pool),
-        Ask::Page => written(out, n, a, text),
-        Ask::Kind => put_answer(out, n, a, 2),
-        Ask::Stamp => put_answer(out, n, a, 2),
-        Ask::Slots => put_answer(out, n, a, 2),
-        _ => put_answer(out, n, a, 1),
+fn show(c: usize, x: u64, heap: Heap, narrow: &[u32], wide: &[u64], pool: &[u8]) {
+    let a = called(c, x, heap, narrow, wide, pool);
+    match c {
+        DATA => data(a, pool),
+        KIND => put_answer(a, 2),
+        STAMP => put_answer(a, 2),
+        SLOTS => {
+            let live = called(UNKNOWN, x, heap, narrow, wide, pool);
+            put_answer(counts(a, live), 2)
+        }
+        _ => put_answer(a, 1),
     }
 }
 
-// The question on the part of the memory that the heap has.
-fn on_heap(
-    ask: Ask,
-    x: u64,
-    kept: Kept,
-    narrow: &[u32],
-    wide: &[u64],
-    pool: &[u8],
-    text: &mut Buffer,
-    marks: &mut Marks,
-    work: &mut Work,
-) -> Answer {
+// The question to the heap in these parts of the memory.
+fn told(c: usize, x: u64, heap: Heap, narrow: &[u32], wide: &[u64], pool: &[u8]) {
+    match c {
+        EPOCH => epoch(heap),
+        PAGE => page(heap, narrow, wide, pool),
+        _ => show(c, x, heap, narrow, wide, pool),
+    }
+}
+
+// Answers a question.
+pub fn answer(line: &[u8], kept: Kept, narrow: &[u32], wide: &[u64], pool: &[u8]) {
+    let c = command(line);
+    let Asked::For(r) = asking(c, line, second(line)) else {
+        put_bad();
+        return;
+    };
     let s = least(kept.slots, least(narrow.len() / 6, wide.len() / 4));
     let a = 6 * s;
     let b = 4 * s;
     let p = least(kept.pool, pool.len());
     let heap = kept.heap;
-    asked(
-        ask,
-        x,
-        heap,
-        &narrow[0..a],
-        &wide[0..b],
-        &pool[0..p],
-        text,
-        marks,
-        work,
-    )
-}
-
-// Answers a question.
-pub fn answer(
-    line: &[u8],
-    kept: Kept,
-    narrow: &[u32],
-    wide: &[u64],
-    pool: &[u8],
-    text: &mut Buffer,
-    marks: &mut Marks,
-    work: &mut Work,
-    out: &mut Out,
-    n: &mut usize,
-) {
-    let ask = ask_of(line);
-    let Asked::For(request) = asking(ask, line, second(line)) else {
-        put_bad(out, n);
-        return;
-    };
-    if let Ask::Epoch = ask {
-        let heap = kept.heap;
-        epoch(out, n, heap);
-        return;
-    }
-    let a = on_heap(ask, request.x, kept, narrow, wide, pool, text, marks, work);
-    show(out, n, ask, a, pool, text);
+    told(c, r.x, heap, &narrow[0..a], &wide[0..b], &pool[0..p]);
 }

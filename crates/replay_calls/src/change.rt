@@ -1,38 +1,84 @@
 // The changes to a heap.
 use crate::Kept;
-use crate::Marks;
-use crate::Work;
-use crate::calls;
+use crate::Narrow;
+use crate::Pool;
+use crate::Wide;
+use crate::request;
 use crate::request::Asked;
 use crate::request::Request;
-use crate::request::changing;
 use door::Done;
 use heap::Heap;
-use protocol::Buffer;
-use protocol::Data;
+use protocol::Bytes;
 use protocol::Halves;
-use protocol::Out;
-use protocol::command::Change;
-use protocol::command::change_of;
+use protocol::LISTED;
+use protocol::SPELLED;
+use protocol::WORD;
 use protocol::least;
-use protocol::read::low;
+use protocol::lists::low;
+use protocol::part_u8;
+use protocol::part_u32;
 use protocol::read::second;
-use protocol::since;
+use protocol::read::which;
+use protocol::write::put;
 use protocol::write::put_answer;
 use protocol::write::put_bad;
-use protocol::write::put_byte;
-use protocol::write::put_bytes;
 use protocol::write::put_hex;
 use protocol::write::put_next;
 use protocol::write::put_number;
 use refusal::Answer;
+use yexwalu::heaps;
 
-// Done, with no value.
-fn nothing() -> Answer {
-    Answer {
-        number: 0,
-        first: 0,
-        second: 0,
+const NEW: usize = 0;
+
+const LOAD: usize = 1;
+
+const SET_EPOCH: usize = 2;
+
+const ALLOC: usize = 3;
+
+const FILL: usize = 4;
+
+const EDIT: usize = 5;
+
+const WRITE: usize = 6;
+
+const REISSUE: usize = 7;
+
+const TAKE: usize = 8;
+
+const FREE: usize = 9;
+
+const RECYCLE: usize = 10;
+
+const SEAL: usize = 11;
+
+const RUN: usize = 12;
+
+pub const UNKNOWN: usize = 13;
+
+// Which change a line has.
+pub fn command(line: &[u8]) -> usize {
+    which(
+        line,
+        0,
+        b"new load setepoch alloc fill edit write reissue take free recycle seal run ",
+    )
+}
+
+// What a change is to be made with.
+fn asking(c: usize, line: &[u8], at: usize, bytes: &mut Bytes, lists: &mut Halves) -> Asked {
+    match c {
+        NEW => request::new(line, at),
+        LOAD => request::load(line, at, bytes),
+        SET_EPOCH => request::epoch(line, at, lists),
+        ALLOC => request::alloc(line, at, bytes),
+        EDIT => request::edit(line, at, bytes),
+        WRITE => request::write(line, at, bytes),
+        REISSUE => request::two(line, at),
+        RECYCLE => request::slots(line, at, 0, lists),
+        SEAL => request::none(),
+        RUN => request::script(line, at, bytes),
+        _ => request::one(line, at, WORD),
     }
 }
 
@@ -41,6 +87,15 @@ fn same(heap: Heap, answer: Answer) -> Done {
     Done {
         heap: heap,
         answer: answer,
+    }
+}
+
+// Done, with no value.
+fn nothing() -> Answer {
+    Answer {
+        number: 0,
+        first: 0,
+        second: 0,
     }
 }
 
@@ -53,53 +108,50 @@ fn made(old: Heap, done: Done) -> Done {
     same(old, answer)
 }
 
-// Objects that are given bytes: the first of the data.
+// Objects that are given bytes.
 fn with_bytes(
-    change: Change,
-    request: Request,
+    c: usize,
+    r: Request,
     heap: Heap,
     narrow: &mut [u32],
     wide: &mut [u64],
     pool: &mut [u8],
     data: &[u8],
-    marks: &mut Marks,
-    work: &mut Work,
 ) -> Done {
-    let x = request.x;
-    let y = request.y as usize;
-    let z = request.z as usize;
-    let k = least(request.bytes, data.len());
-    let bytes = &data[0..k];
-    match change {
-        Change::Alloc => {
+    let mut m = [7u8; 8192];
+    let mut w = [7u64; 8192];
+    let x = r.x;
+    let y = r.y as usize;
+    match c {
+        ALLOC => {
             let kind = (x % 256) as u8;
-            let ty = low(request.y);
-            calls::alloc_from(heap, narrow, wide, pool, kind, ty, z, bytes, marks, work)
+            let ty = low(r.y);
+            let z = r.z as usize;
+            heaps::alloc_from(heap, narrow, wide, pool, kind, ty, z, data, &mut m, &mut w)
         }
-        Change::Edit => calls::edit(heap, narrow, wide, pool, x, bytes, y, marks, work),
+        EDIT => heaps::edit(heap, narrow, wide, pool, x, data, y, &mut m, &mut w),
         _ => {
             let i = x as usize;
-            let answer = calls::write(heap, narrow, wide, pool, i, y, bytes, marks, work);
+            let answer = heaps::write(heap, narrow, wide, pool, i, y, data, &mut m, &mut w);
             same(heap, answer)
         }
     }
 }
 
-// So many empty objects of kind 2, one after the other. The last answer is told.
-fn fill(
-    count: u64,
-    heap: Heap,
-    narrow: &mut [u32],
-    wide: &mut [u64],
-    pool: &mut [u8],
-    marks: &mut Marks,
-    work: &mut Work,
-) -> Done {
+// One empty object of kind 2.
+fn empty(heap: Heap, narrow: &mut [u32], wide: &mut [u64], pool: &mut [u8]) -> Done {
+    let mut m = [7u8; 8192];
+    let mut w = [7u64; 8192];
+    heaps::alloc_from(heap, narrow, wide, pool, 2, 0, 0, b"", &mut m, &mut w)
+}
+
+// So many of them, one after the other. The last answer is told.
+fn fill(count: u64, heap: Heap, narrow: &mut [u32], wide: &mut [u64], pool: &mut [u8]) -> Done {
     let mut h = heap;
     let mut answer = nothing();
     let mut left = count;
     while 0 < left {
-        let done = calls::alloc_from(h, narrow, wide, pool, 2, 0, 0, b"", marks, work);
+        let done = empty(h, narrow, wide, pool);
         h = done.heap;
         answer = done.answer;
         left -= 1;
@@ -107,24 +159,39 @@ fn fill(
     same(h, answer)
 }
 
+// An object that is taken out: its bytes and its start are told here.
+fn take(handle: u64, heap: Heap, narrow: &mut [u32], wide: &mut [u64], pool: &mut [u8]) -> Done {
+    let mut data = [0u8; 65536];
+    let mut m = [7u8; 8192];
+    let mut w = [7u64; 8192];
+    let done = heaps::take(heap, narrow, wide, pool, handle, &mut data, &mut m, &mut w);
+    let a = done.answer;
+    put_number(a.number);
+    if a.number == 0 {
+        put_hex(&data, 0, a.first as usize);
+        put_next(a.second);
+    }
+    put(b"\n");
+    done
+}
+
 // Objects by themselves.
 fn by_number(
-    change: Change,
-    request: Request,
+    c: usize,
+    r: Request,
     heap: Heap,
     narrow: &mut [u32],
     wide: &mut [u64],
     pool: &mut [u8],
-    data: &mut Data,
-    marks: &mut Marks,
-    work: &mut Work,
 ) -> Done {
-    let x = request.x;
-    match change {
-        Change::Fill => fill(x, heap, narrow, wide, pool, marks, work),
-        Change::Take => calls::take(heap, narrow, wide, pool, x, data, marks, work),
-        Change::Free => calls::free(heap, narrow, wide, pool, x, marks, work),
-        _ => calls::reissue(heap, narrow, wide, pool, x as usize, request.y, marks, work),
+    let mut m = [7u8; 8192];
+    let mut w = [7u64; 8192];
+    let x = r.x;
+    match c {
+        FILL => fill(x, heap, narrow, wide, pool),
+        TAKE => take(x, heap, narrow, wide, pool),
+        FREE => heaps::free(heap, narrow, wide, pool, x, &mut m, &mut w),
+        _ => heaps::reissue(heap, narrow, wide, pool, x as usize, r.y, &mut m, &mut w),
     }
 }
 
@@ -143,165 +210,102 @@ fn with_epoch(heap: Heap, epoch: u64, log: &[u32]) -> Heap {
     after
 }
 
-// The quarantine, the seals, the log. The slots of the line lie in the lists from 303,104 on.
+// The quarantine, the seals, the log.
 fn with_slots(
-    change: Change,
-    request: Request,
+    c: usize,
+    r: Request,
     heap: Heap,
     narrow: &mut [u32],
     wide: &mut [u64],
     pool: &mut [u8],
-    lists: &[u32],
-    marks: &mut Marks,
-    work: &mut Work,
+    slots: &[u32],
 ) -> Done {
-    let from = least(303104, lists.len());
-    let to = from + least(since(request.listed, from), lists.len() - from);
-    let slots = &lists[from..to];
-    match change {
-        Change::Recycle => calls::recycle(heap, narrow, wide, pool, slots, marks, work),
-        Change::Seal => calls::seal(heap, narrow, wide, pool, marks, work),
-        _ => same(with_epoch(heap, request.x, slots), nothing()),
+    let mut m = [7u8; 8192];
+    let mut w = [7u64; 8192];
+    match c {
+        RECYCLE => heaps::recycle(heap, narrow, wide, pool, slots, &mut m, &mut w),
+        SEAL => heaps::seal(heap, narrow, wide, pool, &mut m, &mut w),
+        _ => same(with_epoch(heap, r.x, slots), nothing()),
     }
 }
 
 // The heap as a whole: made anew, read from a page, changed by a script, for which `room` is as long as the longest pool.
 fn whole(
-    change: Change,
-    request: Request,
+    c: usize,
+    r: Request,
     heap: Heap,
     narrow: &mut [u32],
     wide: &mut [u64],
     pool: &mut [u8],
-    room: &mut Data,
     text: &[u8],
-    marks: &mut Marks,
-    work: &mut Work,
 ) -> Done {
-    let k = least(request.bytes, text.len());
-    match change {
-        Change::New => {
-            let done = calls::new((request.x % 256) as u8, narrow, wide, pool, marks, work);
+    let mut room = [0u8; 65536];
+    let mut m = [7u8; 8192];
+    let mut w = [7u64; 8192];
+    match c {
+        NEW => {
+            let done = heaps::new((r.x % 256) as u8, narrow, wide, pool, &mut m, &mut w);
             made(heap, done)
         }
-        Change::Load => calls::read_page(heap, narrow, wide, pool, &text[0..k], marks, work),
-        _ => calls::run(heap, narrow, wide, pool, &text[0..k], room, marks, work),
+        LOAD => yexwalu::page::read_page(heap, narrow, wide, pool, text, &mut m, &mut w),
+        _ => heaps::run(heap, narrow, wide, pool, text, &mut room, &mut m, &mut w),
     }
 }
 
-// The changes by what they are given.
-enum Given {
-    Bytes,
-    Number,
-    Slots,
-    Whole,
-}
-
-fn given_to(change: Change) -> Given {
-    match change {
-        Change::Alloc => Given::Bytes,
-        Change::Edit => Given::Bytes,
-        Change::Write => Given::Bytes,
-        Change::Fill => Given::Number,
-        Change::Take => Given::Number,
-        Change::Free => Given::Number,
-        Change::Reissue => Given::Number,
-        Change::Recycle => Given::Slots,
-        Change::Seal => Given::Slots,
-        Change::SetEpoch => Given::Slots,
-        _ => Given::Whole,
-    }
-}
-
-// The call.
-fn changed(
-    change: Change,
-    request: Request,
+// The call, on the parts of the memory that the heap has.
+fn called(
+    c: usize,
+    r: Request,
     heap: Heap,
     narrow: &mut [u32],
     wide: &mut [u64],
     pool: &mut [u8],
-    lists: &Halves,
-    data: &mut Data,
-    text: &Buffer,
-    marks: &mut Marks,
-    work: &mut Work,
+    data: &[u8],
+    slots: &[u32],
 ) -> Done {
-    match given_to(change) {
-        Given::Bytes => with_bytes(change, request, heap, narrow, wide, pool, data, marks, work),
-        Given::Number => by_number(change, request, heap, narrow, wide, pool, data, marks, work),
-        Given::Slots => with_slots(
-            change,
-            request,
-            heap,
-            narrow,
-            wide,
-            pool,
-            lists,
-            marks,
-            work,
-        ),
-        Given::Whole => whole(
-            change,
-            request,
-            heap,
-            narrow,
-            wide,
-            pool,
-            data,
-            text,
-            marks,
-            work,
-        ),
+    match c {
+        ALLOC | EDIT | WRITE => with_bytes(c, r, heap, narrow, wide, pool, data),
+        FILL | TAKE | FREE | REISSUE => by_number(c, r, heap, narrow, wide, pool),
+        RECYCLE | SEAL | SET_EPOCH => with_slots(c, r, heap, narrow, wide, pool, slots),
+        _ => whole(c, r, heap, narrow, wide, pool, data),
     }
 }
 
-// The change on the part of the memory that the heap has.
+// The same, on the memory.
 fn on_heap(
-    change: Change,
-    request: Request,
+    c: usize,
+    r: Request,
     kept: Kept,
     narrow: &mut [u32],
     wide: &mut [u64],
     pool: &mut [u8],
+    bytes: &Bytes,
     lists: &Halves,
-    data: &mut Data,
-    text: &Buffer,
-    marks: &mut Marks,
-    work: &mut Work,
 ) -> Done {
     let s = least(kept.slots, least(narrow.len() / 6, wide.len() / 4));
     let a = 6 * s;
     let b = 4 * s;
     let p = least(kept.pool, pool.len());
     let heap = kept.heap;
-    changed(
-        change,
-        request,
+    called(
+        c,
+        r,
         heap,
         &mut narrow[0..a],
         &mut wide[0..b],
         &mut pool[0..p],
-        lists,
-        data,
-        text,
-        marks,
-        work,
+        part_u8(bytes, SPELLED, r.bytes),
+        part_u32(lists, LISTED, r.slots),
     )
 }
 
 // A heap that is made or read has the sizes that its line gives.
-fn sized(change: Change, request: Request, kept: Kept) -> Kept {
+fn sized(c: usize, r: Request, kept: Kept) -> Kept {
     let mut next = kept;
-    match change {
-        Change::New => {
-            next.slots = request.y as usize;
-            next.pool = request.z as usize;
-            next
-        }
-        Change::Load => {
-            next.slots = request.y as usize;
-            next.pool = request.z as usize;
+    match c {
+        NEW | LOAD => {
+            next.slots = r.y as usize;
+            next.pool = r.z as usize;
             next
         }
         _ => next,
@@ -317,35 +321,22 @@ fn after(old: Kept, new: Kept, done: Done) -> Kept {
     crate::after(old, done)
 }
 
-// An object that was taken out: its bytes and its start.
-fn taken(out: &mut Out, n: &mut usize, a: Answer, data: &Data) {
-    put_number(out, n, a.number);
-    if a.number == 0 {
-        put_byte(out, n, 32);
-        put_hex(out, n, data, 0, a.first as usize);
-        put_next(out, n, a.second);
-    }
-    put_byte(out, n, 10);
-}
-
 // The last of so many answers.
-fn filled(out: &mut Out, n: &mut usize, a: Answer, count: u64) {
+fn filled(a: Answer, count: u64) {
     if count == 0 {
-        put_bytes(out, n, b"none\n");
+        put(b"none\n");
     } else {
-        put_answer(out, n, a, 1);
+        put_answer(a, 1);
     }
 }
 
 // The answer to a change, with the values that it has.
-fn show(out: &mut Out, n: &mut usize, change: Change, request: Request, a: Answer, data: &Data) {
-    match change {
-        Change::Take => taken(out, n, a, data),
-        Change::Fill => filled(out, n, a, request.x),
-        Change::Alloc => put_answer(out, n, a, 1),
-        Change::Edit => put_answer(out, n, a, 1),
-        Change::Reissue => put_answer(out, n, a, 1),
-        _ => put_answer(out, n, a, 0),
+fn show(c: usize, r: Request, a: Answer) {
+    match c {
+        TAKE => {}
+        FILL => filled(a, r.x),
+        ALLOC | EDIT | REISSUE => put_answer(a, 1),
+        _ => put_answer(a, 0),
     }
 }
 
@@ -353,37 +344,20 @@ fn show(out: &mut Out, n: &mut usize, change: Change, request: Request, a: Answe
 pub fn answer(
     line: &[u8],
     kept: Kept,
-    narrow: &mut [u32],
-    wide: &mut [u64],
-    pool: &mut [u8],
+    narrow: &mut Narrow,
+    wide: &mut Wide,
+    pool: &mut Pool,
+    bytes: &mut Bytes,
     lists: &mut Halves,
-    data: &mut Data,
-    text: &mut Buffer,
-    marks: &mut Marks,
-    work: &mut Work,
-    out: &mut Out,
-    n: &mut usize,
 ) -> Kept {
-    let change = change_of(line);
-    let Asked::For(request) = changing(change, line, second(line), data, lists, text) else {
-        put_bad(out, n);
+    let c = command(line);
+    let Asked::For(r) = asking(c, line, second(line), bytes, lists) else {
+        put_bad();
         return kept;
     };
-    let next = sized(change, request, kept);
-    let done = on_heap(
-        change,
-        request,
-        next,
-        narrow,
-        wide,
-        pool,
-        lists,
-        data,
-        text,
-        marks,
-        work,
-    );
+    let next = sized(c, r, kept);
+    let done = on_heap(c, r, next, narrow, wide, pool, bytes, lists);
     let a = done.answer;
-    show(out, n, change, request, a, data);
+    show(c, r, a);
     after(kept, next, done)
 }

@@ -1,29 +1,23 @@
-// The heap commands of the program `replay`: the public calls on one heap in lent memory.
+// The commands of the program `replay` on a heap by itself: the public calls on a heap in lent memory.
 use door::Done;
 use heap::Heap;
-use replay_tables::Function;
-use replay_tables::Table;
-use replay_tables::no_code;
-use replay_tables::no_types;
 
 pub mod ask;
-mod calls;
 pub mod change;
-pub mod request;
+mod request;
 
-// The scratch of a call.
-pub type Marks = [u8; 8192];
+// The slots of a heap, six numbers of 32 bits and four of 64 bits each, and its data.
+pub type Narrow = [u32; 49152];
 
-pub type Work = [u64; 8192];
+pub type Wide = [u64; 32768];
 
-// What is kept from line to line: the heap's header, how many slots and bytes of the lent memory it has, and how much of the lent lists the type table and the function
-// have.
+pub type Pool = [u8; 65536];
+
+// A heap: its header, and how many slots and bytes of the lent memory it has.
 pub struct Kept {
     pub heap: Heap,
     pub slots: usize,
     pub pool: usize,
-    pub table: Table,
-    pub code: Function,
 }
 
 // A heap of tag 1 in all of the memory, which is zero.
@@ -32,8 +26,6 @@ pub fn start() -> Kept {
         heap: Heap::new(1),
         slots: 8192,
         pool: 65536,
-        table: no_types(),
-        code: no_code(),
     }
 }
 

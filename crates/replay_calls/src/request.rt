@@ -1,27 +1,28 @@
 // The fields of a heap command's line.
-use protocol::Buffer;
-use protocol::Data;
+use protocol::Bytes;
+use protocol::HALF;
+use protocol::HALVES_END;
 use protocol::Halves;
-use protocol::command::Ask;
-use protocol::command::Change;
+use protocol::LISTED;
+use protocol::SPELLED;
+use protocol::WORD;
+use protocol::lists::Run;
+use protocol::lists::halves;
+use protocol::lists::hex;
+use protocol::lists::is_empty;
+use protocol::lists::page;
 use protocol::read::Field;
-use protocol::read::Run;
 use protocol::read::ends;
-use protocol::read::halves;
-use protocol::read::hex;
-use protocol::read::is_empty;
+use protocol::read::last_or;
 use protocol::read::number;
-use protocol::read::page;
-use replay_tables::HALVES_END;
-use replay_tables::LISTED;
 
-// Up to three numbers, how many bytes of a field or of a text there are, and where its list ends in the lent lists.
+// Up to three numbers, and where the bytes and the slots of a line end in the lent lists.
 pub struct Request {
     pub x: u64,
     pub y: u64,
     pub z: u64,
     pub bytes: usize,
-    pub listed: usize,
+    pub slots: usize,
 }
 
 pub enum Asked {
@@ -29,49 +30,43 @@ pub enum Asked {
     Bad,
 }
 
-const HALF: u64 = 4294967295;
-
-const WORD: u64 = 18446744073709551615;
-
+// Numbers, and bytes that end at `bytes`.
 fn numbers(x: u64, y: u64, z: u64, bytes: usize) -> Asked {
     Asked::For(Request {
         x: x,
         y: y,
         z: z,
         bytes: bytes,
-        listed: LISTED,
+        slots: LISTED,
     })
 }
 
+// A command by itself.
+pub fn none() -> Asked {
+    numbers(0, 0, 0, SPELLED)
+}
+
 // One number.
-fn one(line: &[u8], at: usize, most: u64) -> Asked {
+pub fn one(line: &[u8], at: usize, most: u64) -> Asked {
     let Field::Is(x, _) = number(line, at, most) else {
         return Asked::Bad;
     };
-    numbers(x, 0, 0, 0)
+    numbers(x, 0, 0, SPELLED)
 }
 
 // A slot and a number.
-fn two(line: &[u8], at: usize) -> Asked {
+pub fn two(line: &[u8], at: usize) -> Asked {
     let Field::Is(x, b) = number(line, at, HALF) else {
         return Asked::Bad;
     };
     let Field::Is(y, _) = number(line, b, WORD) else {
         return Asked::Bad;
     };
-    numbers(x, y, 0, 0)
-}
-
-// A number that may be left out, of at most `most`: then it is `most`.
-fn last_or(line: &[u8], at: usize, most: u64) -> Field {
-    if at < line.len() {
-        return number(line, at, most);
-    }
-    Field::Is(most, at)
+    numbers(x, y, 0, SPELLED)
 }
 
 // Tag, slots and pool.
-fn new(line: &[u8], at: usize) -> Asked {
+pub fn new(line: &[u8], at: usize) -> Asked {
     let Field::Is(x, b) = number(line, at, 255) else {
         return Asked::Bad;
     };
@@ -81,15 +76,15 @@ fn new(line: &[u8], at: usize) -> Asked {
     let Field::Is(z, _) = last_or(line, c, 65536) else {
         return Asked::Bad;
     };
-    numbers(x, y, z, 0)
+    numbers(x, y, z, SPELLED)
 }
 
 // Slots, a page, and the pool.
-fn load(line: &[u8], at: usize, text: &mut Buffer) -> Asked {
+pub fn load(line: &[u8], at: usize, bytes: &mut Bytes) -> Asked {
     let Field::Is(y, b) = number(line, at, 8192) else {
         return Asked::Bad;
     };
-    let Run::Is(k, c) = page(line, b, text) else {
+    let Run::Is(k, c) = page(line, b, bytes) else {
         return Asked::Bad;
     };
     let Field::Is(z, _) = last_or(line, c, 65536) else {
@@ -99,21 +94,21 @@ fn load(line: &[u8], at: usize, text: &mut Buffer) -> Asked {
 }
 
 // A script, whose lines have `;` for byte 10; `-` for one without lines.
-fn script(line: &[u8], at: usize, text: &mut Buffer) -> Asked {
+pub fn script(line: &[u8], at: usize, bytes: &mut Bytes) -> Asked {
     if is_empty(line, at) {
-        return numbers(0, 0, 0, 0);
+        return none();
     }
     if ends(line, at) {
         return Asked::Bad;
     }
-    let Run::Is(k, _) = page(line, at, text) else {
+    let Run::Is(k, _) = page(line, at, bytes) else {
         return Asked::Bad;
     };
     numbers(0, 0, 0, k)
 }
 
 // Kind, type, start and bytes.
-fn alloc(line: &[u8], at: usize, data: &mut Data) -> Asked {
+pub fn alloc(line: &[u8], at: usize, bytes: &mut Bytes) -> Asked {
     let Field::Is(x, b) = number(line, at, 255) else {
         return Asked::Bad;
     };
@@ -123,18 +118,18 @@ fn alloc(line: &[u8], at: usize, data: &mut Data) -> Asked {
     let Field::Is(z, d) = number(line, c, WORD) else {
         return Asked::Bad;
     };
-    let Run::Is(k, _) = hex(line, d, data) else {
+    let Run::Is(k, _) = hex(line, d, bytes) else {
         return Asked::Bad;
     };
     numbers(x, y, z, k)
 }
 
 // Handle, bytes and start.
-fn edit(line: &[u8], at: usize, data: &mut Data) -> Asked {
+pub fn edit(line: &[u8], at: usize, bytes: &mut Bytes) -> Asked {
     let Field::Is(x, b) = number(line, at, WORD) else {
         return Asked::Bad;
     };
-    let Run::Is(k, c) = hex(line, b, data) else {
+    let Run::Is(k, c) = hex(line, b, bytes) else {
         return Asked::Bad;
     };
     let Field::Is(y, _) = number(line, c, WORD) else {
@@ -144,21 +139,21 @@ fn edit(line: &[u8], at: usize, data: &mut Data) -> Asked {
 }
 
 // Slot, offset and bytes.
-fn write(line: &[u8], at: usize, data: &mut Data) -> Asked {
+pub fn write(line: &[u8], at: usize, bytes: &mut Bytes) -> Asked {
     let Field::Is(x, b) = number(line, at, HALF) else {
         return Asked::Bad;
     };
     let Field::Is(y, c) = number(line, b, WORD) else {
         return Asked::Bad;
     };
-    let Run::Is(k, _) = hex(line, c, data) else {
+    let Run::Is(k, _) = hex(line, c, bytes) else {
         return Asked::Bad;
     };
     numbers(x, y, 0, k)
 }
 
 // Slots, and a number beside them.
-fn slots(line: &[u8], at: usize, x: u64, lists: &mut Halves) -> Asked {
+pub fn slots(line: &[u8], at: usize, x: u64, lists: &mut Halves) -> Asked {
     let Run::Is(end, _) = halves(line, at, lists, LISTED, HALVES_END) else {
         return Asked::Bad;
     };
@@ -166,64 +161,21 @@ fn slots(line: &[u8], at: usize, x: u64, lists: &mut Halves) -> Asked {
         x: x,
         y: 0,
         z: 0,
-        bytes: 0,
-        listed: end,
+        bytes: SPELLED,
+        slots: end,
     })
 }
 
 // The epoch and a log of 16 slots.
-fn epoch(line: &[u8], at: usize, lists: &mut Halves) -> Asked {
+pub fn epoch(line: &[u8], at: usize, lists: &mut Halves) -> Asked {
     let Field::Is(x, b) = number(line, at, WORD) else {
         return Asked::Bad;
     };
-    let a = slots(line, b, x, lists);
-    match a {
-        Asked::For(r) => if r.listed == LISTED + 16 {
-            a
-        } else {
-            Asked::Bad
-        },
-        Asked::Bad => Asked::Bad,
+    let Asked::For(r) = slots(line, b, x, lists) else {
+        return Asked::Bad;
+    };
+    if r.slots == LISTED + 16 {
+        return Asked::For(r);
     }
-}
-
-// What a change is to be made with.
-pub fn changing(
-    change: Change,
-    line: &[u8],
-    at: usize,
-    data: &mut Data,
-    lists: &mut Halves,
-    text: &mut Buffer,
-) -> Asked {
-    match change {
-        Change::New => new(line, at),
-        Change::Load => load(line, at, text),
-        Change::SetEpoch => epoch(line, at, lists),
-        Change::Alloc => alloc(line, at, data),
-        Change::Fill => one(line, at, WORD),
-        Change::Edit => edit(line, at, data),
-        Change::Write => write(line, at, data),
-        Change::Reissue => two(line, at),
-        Change::Take => one(line, at, WORD),
-        Change::Free => one(line, at, WORD),
-        Change::Recycle => slots(line, at, 0, lists),
-        Change::Seal => numbers(0, 0, 0, 0),
-        Change::Run => script(line, at, text),
-        _ => Asked::Bad,
-    }
-}
-
-// What a question is about.
-pub fn asking(ask: Ask, line: &[u8], at: usize) -> Asked {
-    match ask {
-        Ask::GcDue => one(line, at, WORD),
-        Ask::IsPlain => one(line, at, 255),
-        Ask::Resolve => one(line, at, WORD),
-        Ask::Data => one(line, at, HALF),
-        Ask::Kind => one(line, at, HALF),
-        Ask::Stamp => one(line, at, HALF),
-        Ask::Unknown => Asked::Bad,
-        _ => numbers(0, 0, 0, 0),
-    }
+    Asked::Bad
 }

@@ -4,9 +4,9 @@ use mathlib.Core.Bool.{Bool, true, false}
 use mathlib.Core.List.{List, [], _++_, append-assoc, append-nil, flatMap}
 use mathlib.Core.Option.{Option, none, some}
 use mathlib.Core.Path.{_≡_, refl, sym, ap, subst, _∙_}
-use native.Mathlib.Omega.{arith}
 use lib.ListN.{length}
 use Rattle.word.specs.Result.{refused}
+use Rattle.word.proofs.Bools.{true-false}
 use Rattle.text.specs.Text.{give, _>>=_, ascii, newline}
 use Rattle.text.specs.Format.{Right, number, afterLiteral, pair, times}
 use Rattle.text.proofs.Laws.{none-not-some, bind-some, some-inj, after-literal-right, pair-right, times-right}
@@ -105,7 +105,7 @@ not-read h w = go (earlierRead (pageText written h)) refl
     go none e = refl
     go (some g) e =
         let v : _≡_ {A = Form × State} (written, stateOf (headOf h) (bodyOf h)) (earlier, g) = some-inj (sym (read-written written h w) ∙ still (pageText written h) g e) in
-        absurd (let z : _≡_ {A = ℕ} 0 1 = cc in omega arith)
+        absurd (true-false (ap (λ (x : Form × State). x .0 .wide) v))
 
 pub earlier-refuses : EarlierRefuses
 unfolding earlierInto verdict

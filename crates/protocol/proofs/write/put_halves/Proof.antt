@@ -1,26 +1,29 @@
-use Prim.Native.Nat.{_-_}
-use lib.ListN.{length}
+use borrow.Author.Needs.{needs}
 use native.Mathlib.Omega.{arith}
+use Prim.Native.Nat.{_-_}
 use Rattle.protocol.proofs.write.put_halves.Statement.{statement}
 use Rattle.protocol.proofs.write.put_halves.Tie as tie
 
 abbrev Inv-loop : tie.InvT-loop
-Inv-loop out₀ n₀ s from to i₀ out n i = Unit {0}
+Inv-loop s from to n i₀ i = Unit {0}
 
 abbrev μ-loop : tie.MeasureT-loop
-μ-loop out₀ n₀ s from to i₀ out n i = length s - i
+μ-loop s from to n i₀ i = n - i
 
-put-byte-requires : tie.Need-put-byte-requires Inv-loop μ-loop
-put-byte-requires c κs = tt
+slice-aggregate-put : tie.Need-slice-aggregate-put Inv-loop μ-loop
+slice-aggregate-put c = search needs
+
+put-requires : tie.Need-put-requires Inv-loop μ-loop
+put-requires c κs = tt
+
+least-requires : tie.Need-least-requires Inv-loop μ-loop
+least-requires c κs = tt
 
 loop-holds : tie.Need-loop-holds Inv-loop μ-loop
 loop-holds c = tt
 
-returns : tie.Need-returns Inv-loop μ-loop
-returns c = tt
-
-put-byte-requires-2 : tie.Need-put-byte-requires-2 Inv-loop μ-loop
-put-byte-requires-2 c κs = tt
+put-comma-requires : tie.Need-put-comma-requires Inv-loop μ-loop
+put-comma-requires c κs = tt
 
 mul-wide : tie.Need-mul-wide Inv-loop μ-loop
 mul-wide c = omega arith
@@ -43,8 +46,8 @@ loop-less c = omega arith
 loop-again : tie.Need-loop-again Inv-loop μ-loop
 loop-again c = tt
 
-returns-2 : tie.Need-returns-2 Inv-loop μ-loop
-returns-2 c = tt
+returns : tie.Need-returns Inv-loop μ-loop
+returns c = tt
 
 pub put-halves-spec : {M : Type 1} → statement M
 put-halves-spec =
@@ -52,10 +55,11 @@ put-halves-spec =
     (tie.spec
     Inv-loop
     μ-loop
-    put-byte-requires
+    slice-aggregate-put
+    put-requires
+    least-requires
     loop-holds
-    returns
-    put-byte-requires-2
+    put-comma-requires
     mul-wide
     shared-slice-read-wide
     wide-requires
@@ -63,4 +67,4 @@ put-halves-spec =
     add-i
     loop-less
     loop-again
-    returns-2)
+    returns)

@@ -1,15 +1,14 @@
-use mathlib.Core.Path.{_≡_, refl, _∙_}
-use lib.ListN.{length}
-use borrow.Author.Needs.{needs}
+use mathlib.Core.Path.{_≡_, refl}
 use native.Mathlib.Omega.{arith}
+use lib.ListN.{length}
 use Rattle.replay_calls.proofs.change.fill.Statement.{statement}
 use Rattle.replay_calls.proofs.change.fill.Tie as tie
 
 abbrev Inv-loop : tie.InvT-loop
-Inv-loop count narrow₀ wide₀ pool₀ marks₀ work₀ h₀ answer₀ left₀ t12 narrow wide pool marks work h answer left = (length narrow ≡ length narrow₀) × ((length wide ≡ length wide₀) × (length pool ≡ length pool₀))
+Inv-loop count narrow₀ wide₀ pool₀ h₀ answer₀ left₀ narrow wide pool h answer left = (length narrow ≡ length narrow₀) × ((length wide ≡ length wide₀) × (length pool ≡ length pool₀))
 
 abbrev μ-loop : tie.MeasureT-loop
-μ-loop count narrow₀ wide₀ pool₀ marks₀ work₀ h₀ answer₀ left₀ t12 narrow wide pool marks work h answer left = left
+μ-loop count narrow₀ wide₀ pool₀ h₀ answer₀ left₀ narrow wide pool h answer left = left
 
 nothing-requires : tie.Need-nothing-requires Inv-loop μ-loop
 nothing-requires c κs = tt
@@ -17,11 +16,8 @@ nothing-requires c κs = tt
 loop-holds : tie.Need-loop-holds Inv-loop μ-loop
 loop-holds c = (refl, (refl, refl))
 
-slice-aggregate-alloc-from : tie.Need-slice-aggregate-alloc-from Inv-loop μ-loop
-slice-aggregate-alloc-from c = search needs
-
-alloc-from-requires : tie.Need-alloc-from-requires Inv-loop μ-loop
-alloc-from-requires c κs = tt
+empty-requires : tie.Need-empty-requires Inv-loop μ-loop
+empty-requires c κs = tt
 
 sub-left : tie.Need-sub-left Inv-loop μ-loop
 sub-left c = omega arith
@@ -30,19 +26,19 @@ loop-less : tie.Need-loop-less Inv-loop μ-loop
 loop-less c = omega arith
 
 loop-again : tie.Need-loop-again Inv-loop μ-loop
-loop-again c = (c .before .before .before .before .before .before .before .before .alloc-from .kept .1 .0 ∙ c .before .before .before .before .before .before .before .before .before .before .before .before .before .before .before .before .loop .inv .0, (c .before .before .before .before .before .before .before .before .alloc-from .kept .1 .1 .0 ∙ c .before .before .before .before .before .before .before .before .before .before .before .before .before .before .before .before .loop .inv .1 .0, c .before .before .before .before .before .before .before .before .alloc-from .kept .1 .1 .1 .0 ∙ c .before .before .before .before .before .before .before .before .before .before .before .before .before .before .before .before .loop .inv .1 .1))
+loop-again c = ((cc), ((cc), (cc)))
 
 same-requires : tie.Need-same-requires Inv-loop μ-loop
 same-requires c κs = tt
 
 same-length : tie.Need-same-length Inv-loop μ-loop
-same-length c = c .before .before .loop .inv .0
+same-length c = cc
 
 same-length-2 : tie.Need-same-length-2 Inv-loop μ-loop
-same-length-2 c = c .before .before .loop .inv .1 .0
+same-length-2 c = cc
 
 same-length-3 : tie.Need-same-length-3 Inv-loop μ-loop
-same-length-3 c = c .before .before .loop .inv .1 .1
+same-length-3 c = cc
 
 returns : tie.Need-returns Inv-loop μ-loop
 returns c = tt
@@ -55,8 +51,7 @@ fill-spec =
     μ-loop
     nothing-requires
     loop-holds
-    slice-aggregate-alloc-from
-    alloc-from-requires
+    empty-requires
     sub-left
     loop-less
     loop-again
