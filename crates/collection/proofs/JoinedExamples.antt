@@ -4,7 +4,6 @@ use mathlib.Core.List.{List, [], _∷_, map}
 use mathlib.Core.Option.{Option, none, some}
 use Prim.Native.Nat.{ℕ}
 use lib.ListN.{replicate}
-use Rattle.word.specs.Num.{nextFrom}
 use Rattle.word.specs.Ones.{passing}
 use Rattle.handle.specs.Handle.{packed, tagOf, indexOf, generationOf, resolveBy}
 use Rattle.ty.specs.Types.{Table}
@@ -33,6 +32,7 @@ heap =
       slots = object 5 ∷ object 7 ∷ object 9 ∷ object 11 ∷ [];
       free = [];
       quarantine = [];
+      retired = [];
       sealed = [];
     }
 
@@ -55,7 +55,7 @@ kinds r = map (λ (s : Slot). s .kind) (r .heap .slots)
 
 -- What the live register of class 4 and the frame hold stays, the rest is dropped. A pin keeps its slot, and one on a missing slot nothing.
 pub kept : (T : Table) → map kinds (collection T (some (packed 1 2 9 ∷ [])) [] ∷ collection T (some []) (1 ∷ 4 ∷ []) ∷ []) ≡ (2 ∷ 0 ∷ 2 ∷ 0 ∷ []) ∷ (2 ∷ 2 ∷ 0 ∷ 0 ∷ []) ∷ []
-unfolding joined rootRegisters valuesOf liveRow passing liveBefore liveIn gen kill successors reads writes track wordsAt kindPlaces handlesOf collected marking drained visit follow resolve resolveBy packed tagOf indexOf generationOf swept dropUnmarked recycle dropped dropSlots liveSize times nextFrom
+unfolding joined rootRegisters valuesOf liveRow passing liveBefore liveIn gen kill successors reads writes track wordsAt kindPlaces handlesOf collected marking drained visit follow resolve resolveBy packed tagOf indexOf generationOf swept dropUnmarked recycle dropped dropSlots liveSize times
 kept T = refl
 
 -- a frame map that fails: refused, the heap as it was

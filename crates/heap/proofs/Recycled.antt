@@ -23,6 +23,14 @@ filter-total p (x ∷ xs) = one (p x) (filter-total p xs)
     one true r = omega arith
     one false r = omega arith
 
+choice-append : (b : Bool) (x : ℕ) (r s : List ℕ) → if_then_else_ b (x ∷ (r ++ s)) (r ++ s) ≡ if_then_else_ b (x ∷ r) r ++ s
+choice-append true x r s = refl
+choice-append false x r s = refl
+
+pub filter-append : (p : ℕ → Bool) (xs ys : List ℕ) → filter p (xs ++ ys) ≡ filter p xs ++ filter p ys
+filter-append p [] ys = refl
+filter-append p (x ∷ xs) ys = ap (λ (l : List ℕ). if_then_else_ (p x) (x ∷ l) l) (filter-append p xs ys) ∙ choice-append (p x) x (filter p xs) (filter p ys)
+
 times-filter : (p : ℕ → Bool) (i : ℕ) (xs : List ℕ) → times i (filter p xs) + times i (filter (λ j. not (p j)) xs) ≡ times i xs
 unfolding times
 times-filter p i [] = omega arith

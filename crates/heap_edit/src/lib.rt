@@ -349,7 +349,8 @@ pub fn reissue(
             reply: Reply::Not(Refusal::NothingThere),
         };
     }
-    if narrow[s + i] == 0 {
+    let held = narrow[s + i];
+    if held == 0 {
         return Changed {
             heap: heap,
             reply: Reply::Not(Refusal::NothingThere),

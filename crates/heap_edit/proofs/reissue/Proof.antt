@@ -18,14 +18,14 @@ K c = sizes (c .args .heap) (now (c .args .narrow)) (now (c .args .wide)) (now (
 returns : tie.Need-returns
 returns c = reissue-outside (L (c .before .before .before .before .before)) (c .before .before .before .before .before .pre) _ _ (c .if1 .taken)
 
-add-if2 : tie.Need-add-if2
-add-if2 c = omega (arith, K (c .before .before .before .before .before))
+add-held : tie.Need-add-held
+add-held c = omega (arith, K (c .before .before .before .before .before))
 
-mul-if2 : tie.Need-mul-if2
-mul-if2 c = omega (arith, K (c .before .before .before .before .before))
+mul-held : tie.Need-mul-held
+mul-held c = omega (arith, K (c .before .before .before .before .before))
 
-slice-read-if2 : tie.Need-slice-read-if2
-slice-read-if2 c = omega (arith, K (c .before .before .before .before .before .before))
+slice-read-held : tie.Need-slice-read-held
+slice-read-held c = omega (arith, K (c .before .before .before .before .before .before))
 
 returns-2 : tie.Need-returns-2
 returns-2 c = reissue-of-dead (c .before .before .before .before .before .before .before .args .heap) (now (c .before .before .before .before .before .before .before .args .narrow)) (now (c .before .before .before .before .before .before .before .args .wide)) (now (c .before .before .before .before .before .before .before .args .pool)) (c .before .before .before .before .before .before .before .pre) _ _ (c .before .before .if1 .left) (c .if2 .taken)
@@ -83,9 +83,9 @@ reissue-spec =
     tie.close
     (tie.spec
     returns
-    add-if2
-    mul-if2
-    slice-read-if2
+    add-held
+    mul-held
+    slice-read-held
     returns-2
     mul-old
     slice-read-old
