@@ -525,7 +525,7 @@ fn head_section(s: &[u8]) -> HeadLine
     ) else {
         return HeadLine::NoHead;
     };
-    get_head(s, a)
+    get_head(s, a, true)
 }
 
 // Reads a names line that ends in one of two ways, from `at` on: which way, and where the next line begins.
