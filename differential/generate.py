@@ -712,12 +712,21 @@ class Writer:
         else:
             self.do(f"liveat {self.r.randint(0, 1)} {self.pc()}")
 
+    def addresses(self, values, mem):
+        """Addresses with slots, in order: some that the registers or the frame hold, and some beside them. Slots that are live, quarantined, missing or past 32 bits."""
+        if self.chance(0.3):
+            return ""
+        held = values + [int.from_bytes(mem[i : i + 8], "little") for i in range(0, len(mem) - 7, 8)]
+        some = {a for a in held if self.chance(0.5)} | {a + 1 for a in held if a < (1 << 64) - 1 and self.chance(0.1)} | ({0} if self.chance(0.1) else set())
+        slots = list(range(len(self.rows) + 2)) + self.quarantine * 2 + [U32, 1 << 32, (1 << 32) + 1, (1 << 64) - 1]
+        return " " + show_list([x for a in sorted(some) for x in (a, self.r.choice(slots))])
+
     def joined(self):
         self.leave_out()
         entries, mem = self.frame()
         values = [self.handle() for _ in self.func.classes]
         pins = self.pins()
-        n = self.number(f"joined {self.pc()} {show_list(values)} {entries} {show_hex(mem)} {show_list(pins)}")
+        n = self.number(f"joined {self.pc()} {show_list(values)} {entries} {show_hex(mem)} {show_list(pins)}{self.addresses(values, mem)}")
         self.after_collection(n)
 
     # ---- episodes

@@ -121,7 +121,9 @@ def functions():
         yield from refused("15", "live 0", "live 1", "liveat 0 0", "liveat 1 9", f"joined 0 {h(0, 1)},0 - - -", "joined 9 0,0 - - 1,0", "joined 9 0 9:0 - 1,0") + asked("page", "epoch")
     yield from asked(*HEAP, "table", "func 4,4 0:1,9:9,7:3", "inst 1 - 0 -", "live 0")
     yield from refused("15", "joined 0 - - - -", f"joined 0 {h(0, 1)} - - -", "joined 0 0,0,0 - - -", "joined 9 0 - - 1,0") + refused("14", "joined 0 0,0 - - 1,0", "joined 9 0,0 9:0 - 2,2") + refused("16", "joined 9 0,0 9:0 - -")
-    yield from refused("13", "joined 0 0,0 9:0 - -") + asked("page", "epoch", f"joined 0 {h(1, 1)},0 - - -", "page", "epoch")
+    # Addresses that do not rise, or stand without a slot.
+    yield from refused("14", "joined 0 0,0 - - - 5", "joined 0 0,0 - - - 5,0,5,1", "joined 0 0,0 - - - 6,0,5,1", "joined 9 0,0 9:0 - - 5,0,6", "joined 0 0,0 - - 1,0 5,0") + refused("16", "joined 9 0,0 9:0 - - 5,0") + refused("15", "joined 0 0 - - - 5")
+    yield from refused("13", "joined 0 0,0 9:0 - -", "joined 0 0,0 9:1 - - 5,0") + asked("page", "epoch", f"joined 0 {h(1, 1)},0 - - -", "page", "epoch")
 
 
 def collections():

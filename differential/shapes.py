@@ -203,7 +203,7 @@ def live():
 
 
 def joined():
-    """The joined collection at a safepoint and elsewhere: class 4 registers and frame handles are roots, addresses are not."""
+    """The joined collection at a safepoint and elsewhere: class 4 registers and frame handles are roots, addresses are not, but pin the slot that they are listed with."""
     setup = ["table", "ty 6", f"ty 5 0:{NO},0:{NO}", "func 4,2,4,0 0:3", "inst 1 2 0,1,3 -", "inst 0 - 2 -", "inst 5 - - -", "new 1 8 512"]
     setup += [f"alloc 2 0 0 0{i}" for i in range(6)] + [f"free {h(5, 1)}"]
     values = ",".join(str(h(i, 1)) for i in range(4))
@@ -212,6 +212,12 @@ def joined():
         (1, "-", "-", "-"), (3, "9:0", "-", "-"), (U32, "-", "-", "-"), (0, "-", "-", "2,3,5,6"), (0, "4:0", le(1), "1"),
     ):
         yield from setup + [f"joined {at} {values} {entries} {mem} {pins}", "page", "epoch"]
+    # Register 1 is of class 2 and live, register 2 is dead; slot 5 is in quarantine, and is held by an address of the frame.
+    for entries, mem, pins, listed in (
+        ("-", "-", "-", f"{h(1, 1)},4"), ("-", "-", "-", f"{h(1, 1) + 1},4"), ("-", "-", "-", f"{h(2, 1)},4"), ("-", "-", "-", f"{h(0, 1)},4"), ("0:1", le(77), "-", "76,1,77,5,78,2"), ("0:1", le(77), "-", "76,1,78,5"),
+        ("0:0", le(77), "-", "77,4"), ("1:1", le(77), "-", "77,4"), ("0:1,8:1", le(7, 9), "5", f"7,{1 << 32 | 4},8,2,9,{U32}"), ("0:1", le(0), "3", "0,4"), ("0:1", le((1 << 64) - 1), "-", f"0,1,{(1 << 64) - 1},4"), ("0:1", le(77), "-", "-"),
+    ):
+        yield from setup + [f"joined 0 {values} {entries} {mem} {pins} {listed}", "page", "epoch"]
 
 
 def reclaims():

@@ -309,7 +309,7 @@ fn joined(table: &mut Table, n: usize) {
     let (types, prog) = (TypeTable::new(), Program::default());
     let (pc, _) = function.live_refs(Wanted::References).unwrap().into_iter().find(|m| !m.1.is_empty()).unwrap();
     let values = vec![first; 64];
-    let a = time(|| port.collect_joined(&types, &function, pc, &values, &[], &[], &[]).unwrap());
+    let a = time(|| port.collect_joined(&types, &function, pc, &values, &[], &[], &[], &[]).unwrap());
     let b = time(|| {
         let map = roots::live_refs(&prog, &func, false);
         let mut refs = heap::Refs::default();

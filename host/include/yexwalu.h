@@ -456,7 +456,12 @@ yexwalu_done yexwalu_collect(
     uint8_t *marks, size_t marks_len,
     uint64_t *work, size_t work_len);
 
-/* As collect, from a stopped function: roots are the live registers of class 4 at the safepoint `pc`, with one value a register (15), and the handles of the frame. `rows` is scratch for the live registers. 18, 1, 10, 15, 14, 16, 13. */
+/*
+ * As collect, from a stopped function: roots are the live registers of class 4 at the safepoint `pc`, with one value a register (15), and the handles of the frame.
+ * `addresses` are pairs of an address and a slot index, addresses strictly rising (14): an address that the frame has (kind 1), or a live register of class 2, pins the
+ * slot that it is listed with, as if that slot were among `pins`. Any slot index is taken; one of no slot has no effect. `rows` is scratch for the live registers.
+ * 18, 1, 10, 15, 14, 16, 13.
+ */
 yexwalu_done yexwalu_collect_joined(
     const uint64_t *types, size_t types_len,
     const uint32_t *fields, size_t fields_len,
@@ -476,6 +481,7 @@ yexwalu_done yexwalu_collect_joined(
     const uint32_t *map, size_t map_len,
     const uint8_t *memory, size_t memory_len,
     const uint32_t *pins, size_t pins_len,
+    const uint64_t *addresses, size_t addresses_len,
     uint8_t *marks, size_t marks_len,
     uint64_t *work, size_t work_len,
     uint64_t *rows, size_t rows_len);

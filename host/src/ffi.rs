@@ -146,7 +146,8 @@ heap_calls! {
     /// See [`Heap::collect_joined_with`](crate::Heap::collect_joined_with).
     yexwalu_collect_joined(types: *const u64, types_len: usize, fields: *const u32, fields_len: usize, consts: *const u64, consts_len: usize, bytes: *const u8, bytes_len: usize, heap: Header;
         kinds: *const u8, kinds_len: usize, ends: *const u32, ends_len: usize, refs: *const u32, refs_len: usize, blocks: *const u32, blocks_len: usize, classes: *const u8, classes_len: usize,
-        pc: usize, values: *const u64, values_len: usize, map: *const u32, map_len: usize, memory: *const u8, memory_len: usize, pins: *const u32, pins_len: usize;
+        pc: usize, values: *const u64, values_len: usize, map: *const u32, map_len: usize, memory: *const u8, memory_len: usize, pins: *const u32, pins_len: usize,
+        addresses: *const u64, addresses_len: usize;
         rows: *mut u64, rows_len: usize) -> Done;
 }
 

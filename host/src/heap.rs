@@ -214,6 +214,11 @@ macro_rules! change {
     }};
 }
 
+// Addresses with their slots as one list.
+fn listed(addresses: &[(u64, u64)]) -> Vec<u64> {
+    addresses.iter().flat_map(|(address, slot)| [*address, *slot]).collect()
+}
+
 impl Heap {
     /// The most slots that a heap can have.
     pub const MAX_SLOTS: usize = 16_777_216;
@@ -419,11 +424,12 @@ impl Heap {
         self.done(done).map(|_| ())
     }
 
-    /// As `collect`, from a stopped function: the roots are the registers of class `Handle` that are live at the safepoint `pc`, by the values given, and the handles of its frame. Besides what refuses
-    /// `collect` it is refused where the function is not in order or there is not one value a register (15), where `pc` is no safepoint of a block (16), and where the frame can't be traced (13).
+    /// As `collect`, from a stopped function: the roots are the registers of class `Handle` that are live at the safepoint `pc`, by the values given, and the handles of its frame.
+    /// `addresses` are addresses with the slots that they lie in, addresses strictly rising (14): one that the frame has, or a register of class `Ptr` that is live at `pc`, pins its slot as a pin does. Any
+    /// slot index is taken; one of no slot has no effect. Besides what refuses `collect` it is refused where the function is not in order or there is not one value a register (15), where `pc` is no safepoint of a block (16), and where the frame can't be traced (13).
     ///
     /// ```
-    /// use yexwalu::{Class, Function, Heap, InstKind, Kind, Refusal, TypeTable};
+    /// use yexwalu::{Class, FrameSlot, Function, Heap, InstKind, Kind, Refusal, TypeTable};
     /// let mut f = Function::new();
     /// let (used, done) = (f.register(Class::Handle), f.register(Class::Handle));
     /// let call = f.instruction(InstKind::Safepoint, &[], &[], &[]);
@@ -431,18 +437,34 @@ impl Heap {
     /// f.block(0, 2);
     /// let mut heap = Heap::new(1, 64, 4096)?;
     /// let values = [heap.alloc(Kind::Bytes, b"used")?, heap.alloc(Kind::Bytes, b"done")?];
-    /// heap.collect_joined(&TypeTable::new(), &f, call, &[values[0].0, values[1].0], &[], &[], &[])?;
+    /// heap.collect_joined(&TypeTable::new(), &f, call, &[values[0].0, values[1].0], &[], &[], &[], &[])?;
     /// assert!(heap.resolve(values[used as usize]).is_ok());
     /// assert_eq!(heap.resolve(values[done as usize]), Err(Refusal::Stale));
+    /// // an address that the frame has keeps the object that it is listed with
+    /// let held = heap.alloc(Kind::Bytes, b"held")?;
+    /// let frame = 0x7f40_u64.to_le_bytes();
+    /// heap.collect_joined(&TypeTable::new(), &f, call, &[values[0].0, 0], &[FrameSlot::address(0)], &frame, &[], &[(0x7f40, u64::from(held.index()))])?;
+    /// assert!(heap.resolve(held).is_ok());
     /// # Ok::<(), Refusal>(())
     /// ```
     #[allow(clippy::too_many_arguments)]
-    pub fn collect_joined(&mut self, types: &TypeTable, function: &Function, pc: u32, values: &[u64], map: &[FrameSlot], frame: &[u8], pins: &[u32]) -> Result<(), Refusal> {
+    pub fn collect_joined(
+        &mut self,
+        types: &TypeTable,
+        function: &Function,
+        pc: u32,
+        values: &[u64],
+        map: &[FrameSlot],
+        frame: &[u8],
+        pins: &[u32],
+        addresses: &[(u64, u64)],
+    ) -> Result<(), Refusal> {
         let function = function.within_counts();
-        self.collect_joined_with(types, &function, pc, values, map, frame, pins, &mut vec![0; function.scratch_words()])
+        self.collect_joined_with(types, &function, pc, values, map, frame, pins, &listed(addresses), &mut vec![0; function.scratch_words()])
     }
 
-    /// As `collect_joined`, with lent scratch for the live map: `Function::scratch_words` at least (18).
+    /// As `collect_joined`, with lent scratch for the live map: `Function::scratch_words` at least (18). The addresses are lent as one list: address, slot index, address, slot index, and so on (14
+    /// where it is not in pairs).
     #[allow(clippy::too_many_arguments)]
     pub fn collect_joined_with(
         &mut self,
@@ -453,6 +475,7 @@ impl Heap {
         map: &[FrameSlot],
         frame: &[u8],
         pins: &[u32],
+        addresses: &[u64],
         rows: &mut [u64],
     ) -> Result<(), Refusal> {
         let map = FrameSlot::words(map);
@@ -462,7 +485,7 @@ impl Heap {
             types.consts.as_ptr(), types.consts.len(), types.bytes.as_ptr(), types.bytes.len(), self.header)
             (f.kinds.as_ptr(), f.kinds.len(), f.ends.as_ptr(), f.ends.len(), f.refs.as_ptr(), f.refs.len(), f.blocks.as_ptr(), f.blocks.len(),
             f.classes.as_ptr(), f.classes.len(), pc as usize, values.as_ptr(), values.len(), map.as_ptr(), map.len(),
-            frame.as_ptr(), frame.len(), pins.as_ptr(), pins.len())
+            frame.as_ptr(), frame.len(), pins.as_ptr(), pins.len(), addresses.as_ptr(), addresses.len())
             (rows.as_mut_ptr(), rows.len()));
         self.done(done).map(|_| ())
     }

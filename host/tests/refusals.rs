@@ -30,7 +30,7 @@ const CALLS: [Call; 25] = [
     ("page_length", |h| h.page_length().map(drop)),
     ("write_page", |h| h.write_page_into(&mut [0; 4096]).map(drop)),
     ("collect", |h| h.collect(&plain(), &[Handle(7 << 56 | 2 << 32 | 1)], &[1])),
-    ("collect_joined", |h| h.collect_joined(&plain(), &stopped(), 1, &[7 << 56 | 2 << 32 | 1, 0], &[], &[], &[1])),
+    ("collect_joined", |h| h.collect_joined(&plain(), &stopped(), 1, &[7 << 56 | 2 << 32 | 1, 0], &[], &[], &[1], &[])),
     ("run", |h| h.run(b"alloc,0,2,41\nseal,0,0,\n")),
     ("read_page", |h| h.read_page_over(b"tag,since_gc,reclaim_at,live_bytes,slots,free,quarantine,sealed\n1,0,4096,0,0,0,0,0\ngeneration,kind,type,start,writes,data\nfree\nquarantine\nsealed\n")),
 ];
@@ -114,7 +114,7 @@ fn the_other_scratch_one_short_is_18() {
 
     let f = stopped();
     let words = f.scratch_words();
-    let joined = |h: &mut Heap, rows: &mut [u64]| h.collect_joined_with(&plain(), &f, 1, &[0, 0], &[], &[], &[], rows);
+    let joined = |h: &mut Heap, rows: &mut [u64]| h.collect_joined_with(&plain(), &f, 1, &[0, 0], &[], &[], &[], &[], rows);
     let mut after = heap.clone();
     let mut rows = vec![3; words - 1];
     assert_eq!(joined(&mut after, &mut rows), Err(Refusal::Scratch));
@@ -494,7 +494,7 @@ fn a_table_one_short_is_10() {
         let (mut heap, _) = sample(8, 64);
         let before = heap.clone();
         assert_eq!(heap.collect(&table, &[], &[]), Err(Refusal::TypeTable));
-        assert_eq!(heap.collect_joined(&table, &stopped(), 1, &[0, 0], &[], &[], &[]), Err(Refusal::TypeTable));
+        assert_eq!(heap.collect_joined(&table, &stopped(), 1, &[0, 0], &[], &[], &[], &[]), Err(Refusal::TypeTable));
         assert!(heap == before && heap.scratch() == Scratch::zeros(8));
     }
 }
@@ -510,12 +510,61 @@ fn cut_functions() -> Vec<Function> {
     all
 }
 
+// A list of addresses out of order, or not in pairs, is 14, after 15 and before 16 and 13.
+#[test]
+fn addresses_out_of_order_or_not_in_pairs_are_14() {
+    let (heap, _) = sample(8, 64);
+    let f = stopped();
+    let joined = |pc: u32, values: &[u64], map: &[FrameSlot], addresses: &[u64]| {
+        let mut after = heap.clone();
+        let answer = after.collect_joined_with(&plain(), &f, pc, values, map, &[], &[], addresses, &mut vec![0; f.scratch_words()]);
+        assert!(answer.is_ok() || after == heap && after.scratch() == Scratch::zeros(8));
+        answer
+    };
+    for bad in [&[5][..], &[5, 0, 5, 1], &[6, 0, 5, 1], &[5, 0, 6], &[5, 0, 6, 1, 6, 2], &[u64::MAX, 0, 0, 1]] {
+        assert_eq!(joined(1, &[0, 0], &[], bad), Err(Refusal::Pins), "{bad:?}");
+        assert_eq!(joined(0, &[0, 0], &[FrameSlot::address(1)], bad), Err(Refusal::Pins), "{bad:?}");
+        assert_eq!(joined(1, &[0], &[], bad), Err(Refusal::Function), "{bad:?}");
+    }
+    assert_eq!(joined(1, &[0, 0], &[], &[0, 7, 1, 7, u64::MAX, u64::MAX]), Ok(()));
+    assert_eq!(joined(0, &[0, 0], &[FrameSlot::address(1)], &[0, 7]), Err(Refusal::NoMap));
+    assert_eq!(joined(1, &[0, 0], &[FrameSlot::address(1)], &[0, 7]), Err(Refusal::Untraceable));
+}
+
+// What an address does is what a pin on its slot does: objects live on, and quarantined slots stay, in order. Addresses that are not listed, and slots past 32 bits, do nothing.
+#[test]
+fn addresses_pin_as_pins_do() {
+    let f = stopped();
+    let (live, lost) = (0x7000, 0x8000);
+    let made = || {
+        let mut heap = Heap::new(1, 16, 256).unwrap();
+        let handles: Vec<Handle> = (0..8).map(|i| heap.alloc(Kind::Bytes, &[i]).unwrap()).collect();
+        for i in [6, 4, 2] {
+            heap.free(handles[i]).unwrap();
+        }
+        heap
+    };
+    let frame: Vec<u8> = [1_u64, 3, 5, 9].iter().flat_map(|w| w.to_le_bytes()).collect();
+    let map: Vec<FrameSlot> = (0..4).map(|i| FrameSlot::address(8 * i)).collect();
+    // 1 lies in slot 1, 2 is in neither, 3 in the quarantined slot 2, 5 in slot 1 + 2^32, 6 in neither, live register's value in slot 6, an unlisted one
+    let list = [(1, 1), (2, 3), (3, 2), (5, 1 << 32 | 3), (6, 4), (live, 6), (lost, 5)];
+    let mut by_address = made();
+    by_address.collect_joined(&plain(), &f, 1, &[0, live], &map, &frame, &[7], &list).unwrap();
+    let mut by_pin = made();
+    by_pin.collect_joined(&plain(), &f, 1, &[0, live], &map, &frame, &[1, 2, 6, 7], &[]).unwrap();
+    assert!(by_address == by_pin);
+    assert_eq!((by_pin.live().unwrap(), by_pin.has_quarantine().unwrap()), (2, true));
+    let mut none = made();
+    none.collect_joined(&plain(), &f, 1, &[0, live], &map, &frame, &[], &[]).unwrap();
+    assert_eq!((none.live().unwrap(), none.has_quarantine().unwrap()), (0, false));
+}
+
 #[test]
 fn a_function_one_short_is_15() {
     let (heap, _) = sample(8, 64);
     let joined = |f: &Function, values: &[u64]| {
         let mut after = heap.clone();
-        let answer = after.collect_joined(&plain(), f, 1, values, &[], &[], &[]);
+        let answer = after.collect_joined(&plain(), f, 1, values, &[], &[], &[], &[]);
         assert!(answer.is_ok() || after == heap && after.scratch() == Scratch::zeros(8));
         answer
     };
@@ -543,7 +592,7 @@ fn a_function_past_the_counts_is_15() {
     assert_eq!(f.live_refs(Wanted::All), Err(Refusal::Function));
     assert_eq!(f.live_at_into(1, Wanted::All, &mut [], &mut [0; 64]), Err(Refusal::Scratch));
     let (heap, _) = sample(8, 64);
-    let joined = |heap: &Heap, table: &TypeTable| heap.clone().collect_joined(table, &f, 1, &[], &[], &[], &[2, 1]);
+    let joined = |heap: &Heap, table: &TypeTable| heap.clone().collect_joined(table, &f, 1, &[], &[], &[], &[2, 1], &[]);
     assert_eq!(joined(&heap, &plain()), Err(Refusal::Function));
     // what comes first is still told first
     assert_eq!(joined(&heap, &cut_tables()[0]), Err(Refusal::TypeTable));

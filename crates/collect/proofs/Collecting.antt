@@ -15,11 +15,13 @@ use Rattle.refusal.specs.declared.Reply.{Reply}
 use Rattle.refusal.specs.declared.Reply.the-variants.{Is, Not}
 use Rattle.heap.specs.Packing.{pad}
 use Rattle.heap.specs.State.{State}
-use Rattle.heap.specs.Lent.{Lent, headerOf, stored, view, slotCount}
+use Rattle.heap.specs.Lent.{Lent, headerOf, stored, view, slotCount, poolSize}
 use Rattle.heap.specs.WellFormed.{wellFormed}
 use Rattle.heap.specs.Calls.{Changed, refuse, done}
 use Rattle.heap.specs.Done.{Leaves, Tells}
 use Rattle.heap.proofs.Packing.{getD-pad}
+use Rattle.heap.proofs.Sound.{Sound}
+use Rattle.heap_calls.specs.Pins.{markedSlots}
 use Rattle.heap.proofs.Testing.{formed-tested}
 use Rattle.ty.specs.Types.{Table}
 use Rattle.reach.specs.Reach.{Starts}
@@ -29,9 +31,11 @@ use Rattle.sweep.specs.Columns.{CanSweep}
 use Rattle.collection.specs.Swept.{swept}
 use Rattle.collection.specs.Shown.{shown}
 use Rattle.collection.specs.Collected.{graph, starts, sweptBy, collected}
+use Rattle.collection.specs.Held.{heldGraph}
 use Rattle.collection.specs.Joined.{joinedBy}
 use Rattle.collection.proofs.SweptLaws.{swept-same}
-use Rattle.collection.proofs.Demand.{sized}
+use Rattle.collection.proofs.Demand.{sized, stuck-collected}
+use Rattle.collection.proofs.Held.{dead-shows, held-sized, held-refused, held-collected}
 use Rattle.mark.specs.Told.{told, marksIn, heapMarks, Ready}
 use Rattle.mark.specs.Joining.{joinedMarks}
 use Rattle.mark.specs.declared.Outcome.{Outcome}
@@ -79,6 +83,24 @@ finished-collected h handles S L r marks room t = go r (marking (graph h handles
         ap (λ (x : State). done tt x)
         (swept-same h marks (m .marks) (S .pins) (λ i b. ap (λ (k : ℕ). eqb k 0) (ap (λ (x : List ℕ). getD x i 0) p ∙ getD-pad L (m .marks) i (omega arith))))
 
+-- the same where pinned slots are marked too, with the marked slots as pins
+finished-held : (h : State) (S′ P : ℕ) → Sound S′ P h → (T : Table) (S : Starts) (L : ℕ) (r : Outcome) (marks : List ℕ) → length marks ≡ L → length (h .slots) ≤ L
+    → told r marks ≡ marksIn L (marking (heldGraph h (shown T h)) S (length (h .slots))) → finished r marks (markedSlots marks) h ≡ collected (graph h (shown T h)) S h
+finished-held h S′ P fine T S L r marks long room t = go r (marking (heldGraph h (shown T h)) S (length (h .slots))) refl t
+  where
+    inj : {x y : List ℕ} → some x ≡ some y → x ≡ y
+    inj w = cc
+
+    go : (x : Outcome) (o : Option Marks) → marking (heldGraph h (shown T h)) S (length (h .slots)) ≡ o → told x marks ≡ marksIn L o
+        → finished x marks (markedSlots marks) h ≡ collected (graph h (shown T h)) S h
+    go Marked none w q = let z : _≡_ {A = ℕ} 0 1 = cc in absurd (omega arith)
+    go Untraceable none w q = sym (stuck-collected h (shown T h) S (held-refused h (shown T h) (dead-shows T h) S .0 w))
+    go Untraceable (some m) w q = let z : _≡_ {A = ℕ} 0 1 = cc in absurd (omega arith)
+    go Marked (some m) w q =
+        let p : marks ≡ pad L (m .marks) = inj q in
+        let n : length (m .marks) ≡ length (h .slots) = marks-length (heldGraph h (shown T h)) S (length (h .slots)) (held-sized h (shown T h) (dead-shows T h) S) m w in
+        sym (held-collected h (shown T h) (dead-shows T h) S m w S′ P fine marks (omega arith) (λ i b. ap (λ (x : List ℕ). getD x i 0) p ∙ getD-pad L (m .marks) i (omega arith)))
+
 -- no marks: 13, and the heap unchanged
 none-marked : (r : Outcome) (marks pins : List ℕ) (h : State) → told r marks ≡ none → finished r marks pins h ≡ refuse 13 h
 none-marked Marked marks pins h e = let z : _≡_ {A = ℕ} 0 1 = cc in absurd (omega arith)
@@ -117,7 +139,12 @@ module _ (l : Lent) (pins marks work : List ℕ) (can : CanCollect l pins marks 
         subst (λ (x : Changed Unit). Tells nothing nothing l l′ reply x)
         (finished-collected (view l) (shown T (view l)) (starts (view l) roots pins) (length marks) r marks′ marks-enough t) d
 
-    pub joined-done : (frame : Option (List ℕ)) (values : List ℕ) → told r marks′ ≡ marksIn (length marks) (joinedMarks T (view l) frame values pins)
-        → Tells nothing nothing l l′ reply (joinedBy T frame values pins (view l))
-    joined-done none values t = subst (λ (x : Changed Unit). Tells nothing nothing l l′ reply x) (none-marked r marks′ pins (view l) t) d
-    joined-done (some handles) values t = collect-done (handles ++ values) t
+  -- after a marking that marks pinned slots too it is the joined collection
+  module _ (T : Table) (r : Outcome) (marks′ : List ℕ) (long : length marks′ ≡ length marks) (l′ : Lent) (reply : Reply)
+      (d : Tells nothing nothing l l′ reply (finished r marks′ (markedSlots marks′) (view l))) where
+    pub joined-done : (frame : Option (List ℕ)) (values held : List ℕ) → told r marks′ ≡ marksIn (length marks) (joinedMarks T (view l) frame values held)
+        → Tells nothing nothing l l′ reply (joinedBy T frame values held (view l))
+    joined-done none values held t = subst (λ (x : Changed Unit). Tells nothing nothing l l′ reply x) (none-marked r marks′ (markedSlots marks′) (view l) t) d
+    joined-done (some handles) values held t =
+        subst (λ (x : Changed Unit). Tells nothing nothing l l′ reply x)
+        (finished-held (view l) (slotCount l) (poolSize l) (formed-tested l (can .formed) .sound) T (starts (view l) (handles ++ values) held) (length marks) r marks′ long marks-enough t) d

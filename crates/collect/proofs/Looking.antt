@@ -1,7 +1,7 @@
--- The root registers in their row, and what follows for the collection at a safepoint. Assumes nothing.
+-- The live registers of classes 2 and 4 in their row, and what follows for the collection at a safepoint. Assumes nothing.
 use mathlib.Core.Path.{_≡_, refl, sym, ap, _∙_, subst}
 use mathlib.Core.Bool.{Bool, true, false, not}
-use mathlib.Core.List.{List}
+use mathlib.Core.List.{List, _++_}
 use mathlib.Core.Option.{Option}
 use Prim.Native.Nat.{ℕ, _+_, _*_, _/_, _^_, _≤_, _<_}
 use native.Mathlib.Nat.{mul-le-mul-right}
@@ -28,7 +28,8 @@ use Rattle.roots.specs.Columns.{seen, cell, Found}
 use Rattle.roots.proofs.Checks.{formed-fit}
 use Rattle.roots.proofs.Steps.{part-cell}
 use Rattle.roots.proofs.Answers.{need-is, found-held, found-holder, seen-holder, in-code, is-safepoint, not-safepoint, not-held}
-use Rattle.collection.specs.Joined.{isHandle, rootRegisters, valuesOf, joinedBy, joined}
+use Rattle.collection.specs.Joined.{isReference, liveReferences, ofClass, registersOf, valuesOf, joinedBy, pinsAt, joined}
+use Rattle.addresses.specs.Listed.{slotsOf}
 use Rattle.mark.specs.Joining.{rowValues}
 use Rattle.collect.specs.Safepoint.{atSafepoint, rowWords, rowStart, rowIn, CanLook, RootRow}
 
@@ -86,9 +87,9 @@ module _ (f : Lent) (pc : ℕ) (rows : List ℕ) (good : right f ≡ true) (room
       classes-are = refl
 
       pub look-found : getD (f .kinds) pc 0 ≡ 1 → (rows′ : List ℕ) → length rows′ ≡ length rows
-          → ((q : ℕ) → q < 64 * rowWords f → cell rows′ (length (f .blocks) / 2 * (3 * rowWords f)) q ≡ liveBefore (seen isHandle (f .kinds) (f .ends) (f .refs) (f .blocks) (f .classes)) b pc q)
+          → ((q : ℕ) → q < 64 * rowWords f → cell rows′ (length (f .blocks) / 2 * (3 * rowWords f)) q ≡ liveBefore (seen isReference (f .kinds) (f .ends) (f .refs) (f .blocks) (f .classes)) b pc q)
           → RootRow f pc rows rows′ true
-      unfolding rootRegisters liveRow part
+      unfolding liveReferences liveRow part
       look-found e rows′ n c =
           record {
             says =
@@ -96,9 +97,9 @@ module _ (f : Lent) (pc : ℕ) (rows : List ℕ) (good : right f ≡ true) (room
             kept = n;
             stays = λ z. let y : _≡_ {A = ℕ} 0 1 = cc in absurd (omega arith);
             registers = λ z.
-                passing-same (bitIn 64 (rowIn f rows′)) (liveBefore (track isHandle (function f)) (holder (track isHandle (function f) .blocks) pc 0) pc) 0 (length (f .classes))
-                (λ k l m. part-cell (rowStart f) (rowWords f) rows′ k (omega arith) ∙ c k (omega arith) ∙ ap (λ (u : ℕ). liveBefore (track isHandle (function f)) u pc k) (sym (seen-holder isHandle (f .kinds) (f .ends) (f .refs) (f .blocks) (f .classes) pc b holds-here)))
-                ∙ ap (λ (u : ℕ). passing (liveBefore (track isHandle (function f)) (holder (track isHandle (function f) .blocks) pc 0) pc) 0 u) (sym (ap length classes-are));
+                passing-same (bitIn 64 (rowIn f rows′)) (liveBefore (track isReference (function f)) (holder (track isReference (function f) .blocks) pc 0) pc) 0 (length (f .classes))
+                (λ k l m. part-cell (rowStart f) (rowWords f) rows′ k (omega arith) ∙ c k (omega arith) ∙ ap (λ (u : ℕ). liveBefore (track isReference (function f)) u pc k) (sym (seen-holder isReference (f .kinds) (f .ends) (f .refs) (f .blocks) (f .classes) pc b holds-here)))
+                ∙ ap (λ (u : ℕ). passing (liveBefore (track isReference (function f)) (holder (track isReference (function f) .blocks) pc 0) pc) 0 u) (sym (ap length classes-are));
           }
 
 -- ---- the collection
@@ -108,24 +109,29 @@ module _ (f : Lent) (pc : ℕ) (values rows rows′ : List ℕ) (can : CanLook f
   pub row-past : rowStart f + rowWords f ≤ length rows′
   row-past = omega (arith, look-room f pc rows (can .formed) (can .room), row .kept)
 
-  -- the values of the row are those of the root registers
-  row-values : r ≡ true → rowValues (rowIn f rows′) values ≡ valuesOf values (rootRegisters (function f) pc)
-  row-values e = ap (λ (n : ℕ). valuesOf values (passing (bitIn 64 (rowIn f rows′)) 0 n)) (can .valued) ∙ ap (valuesOf values) (row .registers e)
+  -- the values of the row are those of the live registers, of each class
+  row-values : (class : ℕ) → r ≡ true → rowValues class (f .classes) (rowIn f rows′) values ≡ valuesOf values (registersOf class (function f) pc)
+  unfolding registersOf functionIn
+  row-values class e =
+      ap (λ (n : ℕ). valuesOf values (ofClass class (f .classes) (passing (bitIn 64 (rowIn f rows′)) 0 n))) (can .valued)
+      ∙ ap (λ (l : List ℕ). valuesOf values (ofClass class (f .classes) l)) (row .registers e)
 
   pub rows-again : (rows″ : List ℕ) → rows″ ≡ replicate (length rows′) 0 → rows″ ≡ rows
   rows-again rows″ e = e ∙ ap (λ (n : ℕ). replicate n 0) (row .kept) ∙ sym (can .clear)
 
-  module _ (T : Table) (frame : Option (List ℕ)) (pins : List ℕ) (l : Heap) where
-    pub at-none : not r ≡ true → wellFormed l ≡ true → Tells nothing nothing l l (Not NoMap) (atSafepoint T (function f) pc values frame pins (view l))
+  module _ (T : Table) (frame : Option (List ℕ)) (given listed framed : List ℕ) (l : Heap) where
+    pub at-none : not r ≡ true → wellFormed l ≡ true → Tells nothing nothing l l (Not NoMap) (atSafepoint T (function f) pc values frame (record { given = given; listed = listed; framed = framed }) (view l))
     unfolding atSafepoint
     at-none e formed =
         let s : safepoint (function f) pc ≡ false = sym (row .says) ∙ not-true _ e in
         rw s (record { leaves = record { lies = formed-tested l formed .lies; formed = formed }; says = refl })
 
-    pub at-row : not r ≡ false → (l′ : Heap) (a : Reply) → Tells nothing nothing l l′ a (joinedBy T frame (rowValues (rowIn f rows′) values) pins (view l))
-        → Tells nothing nothing l l′ a (atSafepoint T (function f) pc values frame pins (view l))
-    unfolding atSafepoint joined
+    pub at-row : not r ≡ false → (l′ : Heap) (a : Reply) → Tells nothing nothing l l′ a (joinedBy T frame (rowValues 4 (f .classes) (rowIn f rows′) values) (given ++ slotsOf listed (framed ++ rowValues 2 (f .classes) (rowIn f rows′) values)) (view l))
+        → Tells nothing nothing l l′ a (atSafepoint T (function f) pc values frame (record { given = given; listed = listed; framed = framed }) (view l))
+    unfolding atSafepoint joined pinsAt
     at-row e l′ a d =
         let t : r ≡ true = not-false _ e in
         let s : safepoint (function f) pc ≡ true = sym (row .says) ∙ t in
-        rw s (subst (λ (x : List ℕ). Tells nothing nothing l l′ a (joinedBy T frame x pins (view l))) (row-values t) d)
+        rw s
+        (subst (λ (x : List ℕ). Tells nothing nothing l l′ a (joinedBy T frame (valuesOf values (registersOf 4 (function f) pc)) (given ++ slotsOf listed (framed ++ x)) (view l))) (row-values 2 t)
+        (subst (λ (x : List ℕ). Tells nothing nothing l l′ a (joinedBy T frame x (given ++ slotsOf listed (framed ++ rowValues 2 (f .classes) (rowIn f rows′) values)) (view l))) (row-values 4 t) d))

@@ -13,10 +13,10 @@ use Rattle.heap.specs.State.{State}
 use Rattle.heap.specs.Calls.{Changed, refuse}
 use Rattle.flow.specs.Function.{Function, safepoint}
 use Rattle.roots.specs.Calls.{Lent, function, right, need}
-use Rattle.collection.specs.Joined.{rootRegisters, joined}
+use Rattle.collection.specs.Joined.{liveReferences, Pinning, joined}
 
 -- no map (16) where pc is no safepoint inside a block, the heap unchanged
-unfoldable pub atSafepoint : Table → Function → (pc : ℕ) (values : List ℕ) (frame : Option (List ℕ)) (pins : List ℕ) → State → Changed Unit
+unfoldable pub atSafepoint : Table → Function → (pc : ℕ) (values : List ℕ) (frame : Option (List ℕ)) (pins : Pinning) → State → Changed Unit
 atSafepoint T f pc values frame pins h = if safepoint f pc then joined T f pc values frame pins h else refuse 16 h
 
 -- words of a row, and where the row of live registers starts: after the three rows of each block
@@ -36,9 +36,9 @@ pub record CanLook (f : Lent) (values rows : List ℕ) : Type 0 where
   pub room : need f ≤ length rows
   pub clear : rows ≡ replicate (length rows) 0
 
--- what is left in the rows: the root registers of a safepoint; nothing where pc is none
+-- what is left in the rows: the registers of classes 2 and 4 that are live at a safepoint; nothing where pc is none
 pub record RootRow (f : Lent) (pc : ℕ) (rows rows′ : List ℕ) (r : Bool) : Type 0 where
   pub says : r ≡ safepoint (function f) pc
   pub kept : length rows′ ≡ length rows
   pub stays : r ≡ false → rows′ ≡ rows
-  pub registers : r ≡ true → passing (bitIn 64 (rowIn f rows′)) 0 (length (f .classes)) ≡ rootRegisters (function f) pc
+  pub registers : r ≡ true → passing (bitIn 64 (rowIn f rows′)) 0 (length (f .classes)) ≡ liveReferences (function f) pc

@@ -23,6 +23,7 @@ use Rattle.heap.specs.Calls.{refuse}
 use Rattle.heap.specs.Done.{Tells}
 use Rattle.heap.proofs.Testing.{formed-tested}
 use Rattle.heap_calls.specs.Pins.{rising}
+use Rattle.addresses.specs.Listed.{paired}
 use Rattle.flow.specs.Function.{safepoint}
 use Rattle.roots.specs.Calls.{Lent as Code, function, right, need}
 use Rattle.collect.specs.Collect.{collecting, CanCollect}
@@ -31,7 +32,7 @@ use Rattle.door.specs.HeapCalls.{test, admitted, enough, heapTests, zeros, Ente
 use Rattle.door.specs.declared.Entry.{Entry}
 use Rattle.door.specs.declared.Entry.the-variants.{Ready, Not}
 use Rattle.door.proofs.Entering.{fails, passes, few-marks, few-words, is-enough, and-holds, and-fails, and-more, cleared-in, holding, call-refused, call-cleared, marks-zero, work-zero, rows-zero}
-use Rattle.collect_door.specs.Calls.{Given, tableIn, collectTests, tests, collectCall, Asked, table, frame, coded, roomy, rowTests, inputTests, joining, joinedCall}
+use Rattle.collect_door.specs.Calls.{Given, tableIn, collectTests, tests, collectCall, Asked, table, frame, pinning, coded, roomy, rowTests, inputTests, joining, joinedCall}
 use Rattle.collect_door.specs.Demand.{RightlyCollected, Demand}
 use Rattle.collect_door.proofs.Theorem.{collect-rightly, demand}
 
@@ -130,20 +131,20 @@ none-left : Ready ≡ admitted []
 unfolding admitted
 none-left = refl
 
-module _ (types fields consts bytes : List ℕ) (c : Code) (values pins : List ℕ) (g : Bool) (eg : g ≡ tableGood types fields consts bytes) where
-  pub bad-table : not g ≡ true → Not TypeTable ≡ admitted (inputTests types fields consts bytes c values pins)
+module _ (types fields consts bytes : List ℕ) (c : Code) (values pins addresses : List ℕ) (g : Bool) (eg : g ≡ tableGood types fields consts bytes) where
+  pub bad-table : not g ≡ true → Not TypeTable ≡ admitted (inputTests types fields consts bytes c values pins addresses)
   bad-table h = fails _ _ _ (sym eg ∙ not-true g h)
 
   module _ (h : not g ≡ false) (f : Bool) (ef : f ≡ right c) where
-    not-coded : coded c values ≡ false → Not Function ≡ admitted (inputTests types fields consts bytes c values pins)
+    not-coded : coded c values ≡ false → Not Function ≡ admitted (inputTests types fields consts bytes c values pins addresses)
     not-coded n = passes _ _ _ (sym eg ∙ not-false g h) (fails _ _ _ n)
 
-    pub bad-code : not f ≡ true → Not Function ≡ admitted (inputTests types fields consts bytes c values pins)
+    pub bad-code : not f ≡ true → Not Function ≡ admitted (inputTests types fields consts bytes c values pins addresses)
     unfolding coded
     bad-code k = not-coded (simp (sym ef ∙ not-true f k))
 
     module _ (k : not f ≡ false) where
-      pub bad-values : (length values ≡ length (c .classes) → ⊥) → Not Function ≡ admitted (inputTests types fields consts bytes c values pins)
+      pub bad-values : (length values ≡ length (c .classes) → ⊥) → Not Function ≡ admitted (inputTests types fields consts bytes c values pins addresses)
       unfolding coded
       bad-values n = not-coded (simp (sym ef ∙ not-false f k, ne-eqb (length values) (length (c .classes)) n))
 
@@ -152,40 +153,45 @@ module _ (types fields consts bytes : List ℕ) (c : Code) (values pins : List �
         unfolding coded
         is-coded = simp (sym ef ∙ not-false f k, eq-eqb (length values) (length (c .classes)) v)
 
-        pub bad-pins : not p ≡ true → Not Pins ≡ admitted (inputTests types fields consts bytes c values pins)
+        pub bad-pins : not p ≡ true → Not Pins ≡ admitted (inputTests types fields consts bytes c values pins addresses)
         bad-pins n = passes _ _ _ (sym eg ∙ not-false g h) (passes _ _ _ is-coded (fails _ _ _ (sym ep ∙ not-true p n)))
 
-        pub good-inputs : not p ≡ false → Ready ≡ admitted (inputTests types fields consts bytes c values pins)
-        good-inputs n = passes _ _ _ (sym eg ∙ not-false g h) (passes _ _ _ is-coded (passes _ _ _ (sym ep ∙ not-false p n) none-left))
+        module _ (n : not p ≡ false) (q : Bool) (eq : q ≡ paired addresses) where
+          pub bad-addresses : not q ≡ true → Not Pins ≡ admitted (inputTests types fields consts bytes c values pins addresses)
+          bad-addresses m = passes _ _ _ (sym eg ∙ not-false g h) (passes _ _ _ is-coded (passes _ _ _ (sym ep ∙ not-false p n) (fails _ _ _ (sym eq ∙ not-true q m))))
+
+          pub good-inputs : not q ≡ false → Ready ≡ admitted (inputTests types fields consts bytes c values pins addresses)
+          good-inputs m = passes _ _ _ (sym eg ∙ not-false g h) (passes _ _ _ is-coded (passes _ _ _ (sym ep ∙ not-false p n) (passes _ _ _ (sym eq ∙ not-false q m) none-left)))
 
 -- ---- all tests but the last
 
-module _ (n : ℕ) (l : Lent) {m w r m′ w′ r′ : List ℕ} {e : Entry} (s : Entered (m ∷ w ∷ r ∷ []) (rowTests n m w r l) e (m′ ∷ w′ ∷ r′ ∷ [])) (types fields consts bytes : List ℕ) (c : Code) (values pins : List ℕ) where
-  pub rows-refused : {why : Refusal} → e ≡ Not why → Entered (m ∷ w ∷ r ∷ []) (rowTests n m w r l ++ inputTests types fields consts bytes c values pins) (Not why) (m′ ∷ w′ ∷ r′ ∷ [])
-  rows-refused i = and-more s (inputTests types fields consts bytes c values pins) i
+module _ (n : ℕ) (l : Lent) {m w r m′ w′ r′ : List ℕ} {e : Entry} (s : Entered (m ∷ w ∷ r ∷ []) (rowTests n m w r l) e (m′ ∷ w′ ∷ r′ ∷ [])) (types fields consts bytes : List ℕ) (c : Code) (values pins addresses : List ℕ) where
+  pub rows-refused : {why : Refusal} → e ≡ Not why → Entered (m ∷ w ∷ r ∷ []) (rowTests n m w r l ++ inputTests types fields consts bytes c values pins addresses) (Not why) (m′ ∷ w′ ∷ r′ ∷ [])
+  rows-refused i = and-more s (inputTests types fields consts bytes c values pins addresses) i
 
-  pub rows-entered : e ≡ Ready → (f : Entry) → f ≡ admitted (inputTests types fields consts bytes c values pins)
-      → Entered (m ∷ w ∷ r ∷ []) (rowTests n m w r l ++ inputTests types fields consts bytes c values pins) f (m′ ∷ w′ ∷ r′ ∷ [])
+  pub rows-entered : e ≡ Ready → (f : Entry) → f ≡ admitted (inputTests types fields consts bytes c values pins addresses)
+      → Entered (m ∷ w ∷ r ∷ []) (rowTests n m w r l ++ inputTests types fields consts bytes c values pins addresses) f (m′ ∷ w′ ∷ r′ ∷ [])
   unfolding admitted
   rows-entered i f q =
-      subst (λ (x : Entry). Entered (m ∷ w ∷ r ∷ []) (rowTests n m w r l ++ inputTests types fields consts bytes c values pins) x (m′ ∷ w′ ∷ r′ ∷ [])) (sym q)
-      (go (tableGood types fields consts bytes) (coded c values) (rising pins))
+      subst (λ (x : Entry). Entered (m ∷ w ∷ r ∷ []) (rowTests n m w r l ++ inputTests types fields consts bytes c values pins addresses) x (m′ ∷ w′ ∷ r′ ∷ [])) (sym q)
+      (go (tableGood types fields consts bytes) (coded c values) (rising pins) (paired addresses))
     where
-      go : (a b p : Bool) → Entered (m ∷ w ∷ r ∷ []) (rowTests n m w r l ++ test a TypeTable ∷ test b Function ∷ test p Pins ∷ [])
-          (if a then (if b then (if p then Ready else Not Pins) else Not Function) else Not TypeTable) (m′ ∷ w′ ∷ r′ ∷ [])
-      go false b p = and-more (and-fails s {b = false} {why = TypeTable} i refl refl) (test b Function ∷ test p Pins ∷ []) refl
-      go true false p = and-more (and-fails (and-holds s {b = true} TypeTable i refl) {b = false} {why = Function} refl refl refl) (test p Pins ∷ []) refl
-      go true true false = and-fails (and-holds (and-holds s {b = true} TypeTable i refl) {b = true} Function refl refl) {b = false} {why = Pins} refl refl refl
-      go true true true = and-holds (and-holds (and-holds s {b = true} TypeTable i refl) {b = true} Function refl refl) {b = true} Pins refl refl
+      go : (a b p q : Bool) → Entered (m ∷ w ∷ r ∷ []) (rowTests n m w r l ++ test a TypeTable ∷ test b Function ∷ test p Pins ∷ test q Pins ∷ [])
+          (if a then (if b then (if p then (if q then Ready else Not Pins) else Not Pins) else Not Function) else Not TypeTable) (m′ ∷ w′ ∷ r′ ∷ [])
+      go false b p q = and-more (and-fails s {b = false} {why = TypeTable} i refl refl) (test b Function ∷ test p Pins ∷ test q Pins ∷ []) refl
+      go true false p q = and-more (and-fails (and-holds s {b = true} TypeTable i refl) {b = false} {why = Function} refl refl refl) (test p Pins ∷ test q Pins ∷ []) refl
+      go true true false q = and-more (and-fails (and-holds (and-holds s {b = true} TypeTable i refl) {b = true} Function refl refl) {b = false} {why = Pins} refl refl refl) (test q Pins ∷ []) refl
+      go true true true false = and-fails (and-holds (and-holds (and-holds s {b = true} TypeTable i refl) {b = true} Function refl refl) {b = true} Pins refl refl) {b = false} {why = Pins} refl refl refl
+      go true true true true = and-holds (and-holds (and-holds (and-holds s {b = true} TypeTable i refl) {b = true} Function refl refl) {b = true} Pins refl refl) {b = true} Pins refl refl
 
 -- ---- the joined call
 
 abbrev pub Admitted : Asked → Lent → (m w r m′ w′ r′ : List ℕ) → Entry → Type 0
 Admitted a l m w r m′ w′ r′ e =
-    Entered (m ∷ w ∷ r ∷ []) (rowTests (need (a .code)) m w r l ++ inputTests (a .types) (a .fields) (a .consts) (a .bytes) (a .code) (a .values) (a .pins)) e (m′ ∷ w′ ∷ r′ ∷ [])
+    Entered (m ∷ w ∷ r ∷ []) (rowTests (need (a .code)) m w r l ++ inputTests (a .types) (a .fields) (a .consts) (a .bytes) (a .code) (a .values) (a .pins) (a .addresses)) e (m′ ∷ w′ ∷ r′ ∷ [])
 
 module _ (a : Asked) (l : Lent) (m w r m′ w′ r′ : List ℕ) (e : Entry) (s : Admitted a l m w r m′ w′ r′ e) where
-  pub can-join : e ≡ Ready → CanCollect l (a .pins) m′ w′ × CanLook (a .code) (a .values) r′
+  pub can-join : e ≡ Ready → CanCollect l (a .pins) m′ w′ × CanLook (a .code) (a .values) r′ × (paired (a .addresses) ≡ true)
   unfolding roomy coded enough
   can-join i =
       let t = and-both (enough m w l) (leb (need (a .code)) (length r)) (holding s 0 i) in
@@ -205,6 +211,7 @@ module _ (a : Asked) (l : Lent) (m w r m′ w′ r′ : List ℕ) (e : Entry) (s
           room = room r r′ (need (a .code)) (rows-zero s i) (t .1);
           clear = zeros-again r r′ (rows-zero s i);
         },
+        holding s 5 i,
       )
 
   pub join-refused : (why : Refusal) (x : Answer) → e ≡ Not why → x ≡ told (Refused why)
@@ -225,7 +232,7 @@ module _ (a : Asked) (l : Lent) (m w r m′ w′ r′ : List ℕ) (e : Entry) (s
       ∙ call-refused (and-fails s {why = NoMap} i p refl) nothing nothing (joining a) refl (t ∙ d .says)
 
   pub join-done : (m″ w″ r″ : List ℕ) (l′ : Lent) (reply : Reply) (x : Answer) → e ≡ Ready
-      → Tells nothing nothing l l′ reply (atSafepoint (table a) (function (a .code)) (a .pc) (a .values) (frame a) (a .pins) (view l)) → x ≡ told reply
+      → Tells nothing nothing l l′ reply (atSafepoint (table a) (function (a .code)) (a .pc) (a .values) (frame a) (pinning a) (view l)) → x ≡ told reply
       → (m″ ≡ m′) × (w″ ≡ w′) × (r″ ≡ r′)
       → (outcomeOf x l′ (m″ ∷ w″ ∷ r″ ∷ []) ≡ joinedCall a m w r l) × Demand a m w r l (outcomeOf x l′ (m″ ∷ w″ ∷ r″ ∷ []))
   unfolding atSafepoint

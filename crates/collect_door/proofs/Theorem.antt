@@ -32,17 +32,17 @@ use Rattle.collect.specs.Collect.{collecting}
 use Rattle.door.specs.HeapCalls.{admitted, Outcome}
 use Rattle.door.specs.declared.Entry.the-variants.{Ready}
 use Rattle.door.proofs.Entering.{all-hold}
-use Rattle.collect_door.specs.Calls.{Given, tableIn, tests, collectCall, Asked, table, frame, coded, joinedTests, joining, joinedCall}
+use Rattle.collect_door.specs.Calls.{Given, tableIn, tests, collectCall, Asked, table, frame, pinning, coded, joinedTests, joining, joinedCall}
 use Rattle.collect_door.specs.Demand.{done, Marks, Collected, objectsIn, startsIn, RightlyCollected, objects, StartsAt, Demand}
 use Rattle.collect_door.proofs.Refusing.{Two, not-both, succeeded, refuses-rightly}
 
 -- a collection that is done, of any roots: by what it does to the heap
-collects-rightly : (l l′ : Lent) (handles : ℕ → Option (List ℕ)) (S : Starts) (pins : List ℕ) (r : Changed Unit)
+collects-rightly : (l l′ : Lent) (handles : ℕ → Option (List ℕ)) (S : Starts) (r : Changed Unit)
     → wellFormed l ≡ true → Collects (graph (view l) handles) S (view l) r → r .answer ≡ ok tt → l′ ≡ stored (slotCount l) (poolSize l) (r .heap)
     → Sound (slotCount l) (poolSize l) (r .heap)
-    → ((Stuck (graph (view l) handles) S → ⊥) → (marks : List ℕ) → Marks (graph (view l) handles) S l marks → r ≡ finished tt (swept (view l) marks pins))
-    → Collected (graph (view l) handles) S pins l l′
-collects-rightly l l′ handles S pins r w all p e sound by =
+    → ((Stuck (graph (view l) handles) S → ⊥) → (marks : List ℕ) → Marks (graph (view l) handles) S l marks → r ≡ finished tt (swept (view l) marks (S .pins)))
+    → Collected (graph (view l) handles) S l l′
+collects-rightly l l′ handles S r w all p e sound by =
     let free : Stuck (graph (view l) handles) S → ⊥ = λ s. not-both (r .answer) 13 p (all .untraceable .1 s) in
     let h : view l′ ≡ r .heap = ap view e ∙ view-stored (slotCount l) (poolSize l) (r .heap) in
     record {
@@ -82,7 +82,7 @@ module _ (g : Given) (marks work : List ℕ) (l : Lent) (o : Outcome) (e : o ≡
         collected = λ q.
             let k = succeeded (marks ∷ work ∷ []) (tests g marks work l) l (collecting (tableIn g) (g .roots) (g .pins)) (Stuck G S) two o e q in
             let w = two .formed (k .0) in
-            collects-rightly l (o .heap) (shown (tableIn g) (view l)) S (g .pins) (collecting (tableIn g) (g .roots) (g .pins) (view l)) w all (k .1) (k .2)
+            collects-rightly l (o .heap) (shown (tableIn g) (view l)) S (collecting (tableIn g) (g .roots) (g .pins) (view l)) w all (k .1) (k .2)
             (collected-sound (slotCount l) (poolSize l) G S (view l) (formed-tested l w .sound))
             (λ free kept just. collected-by (view l) (shown (tableIn g) (view l)) S kept free just);
       }
@@ -97,20 +97,20 @@ module _ (a : Asked) (marks work rows : List ℕ) (l : Lent) (o : Outcome) (e : 
   code = function (a .code)
 
   abbrev stuck : Type 0
-  stuck = CannotTrace (table a) code (a .pc) (a .values) (frame a) (a .pins) (view l)
+  stuck = CannotTrace (table a) code (a .pc) (a .values) (frame a) (pinning a) (view l)
 
   good : admitted (joinedTests a marks work rows l) ≡ Ready → valid code ≡ true
   unfolding coded
   good i = valid-code (a .code) (and-both _ _ (all-hold (joinedTests a marks work rows l) 3 i) .0)
 
-  joins : admitted (joinedTests a marks work rows l) ≡ Ready → Joins (table a) code (a .pc) (a .values) (frame a) (a .pins) (view l) (joining a (view l))
-  joins i = joined-demand (table a) code (a .pc) (good i) (all-hold (joinedTests a marks work rows l) 5 i) (a .values) (frame a) (a .pins) (view l)
+  joins : admitted (joinedTests a marks work rows l) ≡ Ready → Joins (table a) code (a .pc) (a .values) (frame a) (pinning a) (view l) (joining a (view l))
+  joins i = joined-demand (table a) code (a .pc) (good i) (all-hold (joinedTests a marks work rows l) 6 i) (a .values) (frame a) (pinning a) (all-hold (joinedTests a marks work rows l) 5 i) (view l)
 
   two-joined : Two (joinedTests a marks work rows l) l (joining a) stuck
   two-joined =
       record {
         formed = λ i. all-hold (joinedTests a marks work rows l) 1 i;
-        two = joined-answers (table a) code (a .pc) (a .values) (frame a) (a .pins) (view l);
+        two = joined-answers (table a) code (a .pc) (a .values) (frame a) (pinning a) (view l);
         traced = λ i. joins i .untraceable;
         same = λ i. joins i .unchanged;
       }
@@ -138,7 +138,7 @@ module _ (a : Asked) (marks work rows : List ℕ) (l : Lent) (o : Outcome) (e : 
         collected = λ q handles i S at.
             let k = has-done q in
             let w = two-joined .formed (k .0) in
-            collects-rightly l (o .heap) (shown (table a) (view l)) S (a .pins) (joining a (view l)) w (joins (k .0) .collects handles i S at) (k .1) (k .2)
-            (joined-sound (table a) code (a .pc) (a .values) (frame a) (a .pins) (view l) (slotCount l) (poolSize l) (formed-tested l w .sound))
-            (λ free kept just. joined-by (table a) code (a .pc) (good (k .0)) (all-hold (joinedTests a marks work rows l) 5 (k .0)) (a .values) (frame a) (a .pins) (view l) handles i S at free kept just);
+            collects-rightly l (o .heap) (shown (table a) (view l)) S (joining a (view l)) w (joins (k .0) .collects handles i S at) (k .1) (k .2)
+            (joined-sound (table a) code (a .pc) (a .values) (frame a) (pinning a) (view l) (slotCount l) (poolSize l) (formed-tested l w .sound))
+            (λ free kept just. joined-by (table a) code (a .pc) (good (k .0)) (all-hold (joinedTests a marks work rows l) 6 (k .0)) (a .values) (frame a) (pinning a) (all-hold (joinedTests a marks work rows l) 5 (k .0)) (view l) handles i S at free kept just);
       }

@@ -23,7 +23,7 @@ use Rattle.collection.specs.Demand.{Survived}
 use Rattle.collection.specs.JoinedDemand.{JoinedStarts, Untraceable as CannotTrace}
 use Rattle.door.specs.HeapCalls.{Test, admitted, zeros, Outcome}
 use Rattle.door.specs.declared.Entry.the-variants.{Ready, Not}
-use Rattle.collect_door.specs.Calls.{Given, tableIn, tests, Asked, table, frame, joinedTests}
+use Rattle.collect_door.specs.Calls.{Given, tableIn, tests, Asked, table, frame, pinning, joinedTests}
 
 -- a success has no values
 abbrev pub done : Answer
@@ -49,12 +49,13 @@ abbrev pub Marks : Graph → Starts → Lent → (marks : List ℕ) → Type 0
 Marks G S l marks = (i : ℕ) → i < length (view l .slots) → (0 < getD marks i 0) ↔ Reached G S i
 
 -- What is right of a collection that is done, where chains start at S. l is the lent memory before, l′ after.
-pub record Collected (G : Graph) (S : Starts) (pins : List ℕ) (l l′ : Lent) : Type 0 where
+pub record Collected (G : Graph) (S : Starts) (l l′ : Lent) : Type 0 where
   -- an object outlives it exactly if a chain leads to it, nothing else is live, and survivors are as they were
   pub survived : Survived G S (view l) (view l′)
-  -- every lent byte is decided by what chains lead to: it is that of the sweep by any marks that mark just this, and there are such marks
+  -- every lent byte is decided by what chains lead to: it is that of the sweep by any marks that mark just this, and there are such marks. A quarantined slot that is
+  -- pinned stays in quarantine, in order
   pub marked : (marks : List ℕ) × Marks G S l marks
-  pub decided : (marks : List ℕ) → Marks G S l marks → l′ ≡ stored (slotCount l) (poolSize l) (swept (view l) marks pins)
+  pub decided : (marks : List ℕ) → Marks G S l marks → l′ ≡ stored (slotCount l) (poolSize l) (swept (view l) marks (S .pins))
   -- and it is a well formed heap
   pub formed : wellFormed l′ ≡ true
 
@@ -70,21 +71,21 @@ startsIn g l = starts (view l) (g .roots) (g .pins)
 pub record RightlyCollected (g : Given) (marks work : List ℕ) (l : Lent) (o : Outcome) : Type 0 where
   -- untraceable (13) exactly when an object that a chain leads to can't be traced
   pub refusals : Refusals (marks ∷ work ∷ []) (tests g marks work l) (Stuck (objectsIn g l) (startsIn g l)) l o
-  pub collected : o .answer ≡ done → Collected (objectsIn g l) (startsIn g l) (g .pins) l (o .heap)
+  pub collected : o .answer ≡ done → Collected (objectsIn g l) (startsIn g l) l (o .heap)
 
 -- ---- collect_joined
 
 abbrev pub objects : Asked → Lent → Graph
 objects a l = graph (view l) (shown (table a) (view l))
 
--- S is where chains start: at the pins, the seals, these handles of the frame, and the values of the registers of class 4 that some walk from the safepoint reads
--- before writing
+-- S is where chains start: at the pins, the slots of the listed addresses that the frame has or a register of class 2 which some walk from the safepoint reads before
+-- writing, the seals, these handles of the frame, and the values of the registers of class 4 that some walk reads so
 abbrev pub StartsAt : Asked → Lent → (handles : List ℕ) → Starts → Type 0
-StartsAt a l handles S = JoinedStarts (function (a .code)) (a .pc) (a .values) handles (view l .sealed) (a .pins) S
+StartsAt a l handles S = JoinedStarts (function (a .code)) (a .pc) (a .values) handles (view l .sealed) (pinning a) S
 
 pub record Demand (a : Asked) (marks work rows : List ℕ) (l : Lent) (o : Outcome) : Type 0 where
   -- untraceable (13) exactly when the frame map, or an object that a chain leads to, can't be traced
-  pub refusals : Refusals (marks ∷ work ∷ rows ∷ []) (joinedTests a marks work rows l) (CannotTrace (table a) (function (a .code)) (a .pc) (a .values) (frame a) (a .pins) (view l)) l o
+  pub refusals : Refusals (marks ∷ work ∷ rows ∷ []) (joinedTests a marks work rows l) (CannotTrace (table a) (function (a .code)) (a .pc) (a .values) (frame a) (pinning a) (view l)) l o
   -- after a success the frame has handles, and chains a start
   pub begins : o .answer ≡ done → (handles : List ℕ) × (frame a ≡ some handles) × ((S : Starts) × StartsAt a l handles S)
-  pub collected : o .answer ≡ done → (handles : List ℕ) → frame a ≡ some handles → (S : Starts) → StartsAt a l handles S → Collected (objects a l) S (a .pins) l (o .heap)
+  pub collected : o .answer ≡ done → (handles : List ℕ) → frame a ≡ some handles → (S : Starts) → StartsAt a l handles S → Collected (objects a l) S l (o .heap)

@@ -57,7 +57,7 @@ fn enter_rows(
     Entry::Not(Refusal::BrokenHeap)
 }
 
-// Are the type table, the function with its values, and the pins as they should be?
+// Are the type table, the function with its values, the pins and the list of addresses as they should be?
 fn admit_inputs(
     types: &[u64],
     fields: &[u32],
@@ -70,10 +70,11 @@ fn admit_inputs(
     classes: &[u8],
     values: &[u64],
     pins: &[u32],
+    addresses: &[u64],
 ) -> Entry
     ensures { λ r. ⌜ r ≡ admitted (inputTests (now (types .entry)) (now (fields .entry)) (now (consts .entry)) (now (bytes .entry))
         (record { kinds = now (kinds .entry); ends = now (ends .entry); refs = now (refs .entry); blocks = now (blocks .entry); classes = now (classes .entry) })
-        (now (values .entry)) (now (pins .entry))) ⌝ }
+        (now (values .entry)) (now (pins .entry)) (now (addresses .entry))) ⌝ }
 {
     if !ty::check_table(types, fields, consts, bytes) {
         return Entry::Not(Refusal::TypeTable);
@@ -85,6 +86,9 @@ fn admit_inputs(
         return Entry::Not(Refusal::Function);
     }
     if !heap_calls::recycle::rise(pins) {
+        return Entry::Not(Refusal::Pins);
+    }
+    if !addresses::rise(addresses) {
         return Entry::Not(Refusal::Pins);
     }
     Entry::Ready
@@ -107,6 +111,7 @@ fn admit_joined(
     classes: &[u8],
     values: &[u64],
     pins: &[u32],
+    addresses: &[u64],
     marks: &mut [u8],
     work: &mut [u64],
     rows: &mut [u64],
@@ -116,7 +121,7 @@ fn admit_joined(
         (now (marks .entry)) (now (work .entry)) (now (rows .entry)) (lent heap (now (narrow .entry)) (now (wide .entry)) (now (pool .entry)))
         ++ inputTests (now (types .entry)) (now (fields .entry)) (now (consts .entry)) (now (bytes .entry))
         (record { kinds = now (kinds .entry); ends = now (ends .entry); refs = now (refs .entry); blocks = now (blocks .entry); classes = now (classes .entry) })
-        (now (values .entry)) (now (pins .entry)))
+        (now (values .entry)) (now (pins .entry)) (now (addresses .entry)))
         r (now (marks .exit) ∷ now (work .exit) ∷ now (rows .exit) ∷ []) ⌝ }
 {
     match enter_rows(heap, narrow, wide, pool, blocks, classes, marks, work, rows) {
@@ -133,12 +138,14 @@ fn admit_joined(
             classes,
             values,
             pins,
+            addresses,
         ),
     }
 }
 
 // An object outlives the collection exactly if a chain leads to it from the pins, the seals, the handles of the frame or the values of the registers of class 4
-// that are live at the safepoint pc.
+// that are live at the safepoint pc. `addresses` are pairs of an address and a slot index, addresses strictly rising: an address that the frame has, or a register of
+// class 2 that is live there, pins the slot that it is listed with.
 #[no_mangle]
 pub extern "C" fn yexwalu_collect_joined(
     types: &[u64],
@@ -159,6 +166,7 @@ pub extern "C" fn yexwalu_collect_joined(
     map: &[u32],
     memory: &[u8],
     pins: &[u32],
+    addresses: &[u64],
     marks: &mut [u8],
     work: &mut [u64],
     rows: &mut [u64],
@@ -176,6 +184,7 @@ pub extern "C" fn yexwalu_collect_joined(
           map = now (map .entry);
           memory = now (memory .entry);
           pins = now (pins .entry);
+          addresses = now (addresses .entry);
         })
         (now (marks .entry)) (now (work .entry)) (now (rows .entry)) (lent heap (now (narrow .entry)) (now (wide .entry)) (now (pool .entry))) ⌝ }
     ensures { λ r. ⌜ Demand (record {
@@ -189,6 +198,7 @@ pub extern "C" fn yexwalu_collect_joined(
       map = now (map .entry);
       memory = now (memory .entry);
       pins = now (pins .entry);
+      addresses = now (addresses .entry);
     })
         (now (marks .entry)) (now (work .entry)) (now (rows .entry)) (lent heap (now (narrow .entry)) (now (wide .entry)) (now (pool .entry)))
         (outcomeOf (r .answer) (lent (r .heap) (now (narrow .exit)) (now (wide .exit)) (now (pool .exit)))
@@ -210,6 +220,7 @@ pub extern "C" fn yexwalu_collect_joined(
         classes,
         values,
         pins,
+        addresses,
         marks,
         work,
         rows,
@@ -238,6 +249,7 @@ pub extern "C" fn yexwalu_collect_joined(
                 map,
                 memory,
                 pins,
+                addresses,
                 marks,
                 work,
                 rows,

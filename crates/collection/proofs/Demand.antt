@@ -14,7 +14,7 @@ use borrow.Author.Tests.{eqb-true, eq-eqb}
 use Rattle.word.specs.Result.{Result, ok, refused}
 use Rattle.word.proofs.Bools.{bool-ext}
 use Rattle.heap.specs.State.{State, slotAt, live}
-use Rattle.heap.specs.Calls.{done, resolve}
+use Rattle.heap.specs.Calls.{refuse, done, resolve}
 use Rattle.heap.proofs.Sound.{Sound}
 use Rattle.reach.specs.Reach.{Graph, Starts, Reached, Stuck}
 use Rattle.reach.specs.Marking.{State as Marks, marking}
@@ -40,7 +40,7 @@ module _ (h : State) (handles : ℕ → Option (List ℕ)) where
 
   module _ (S : Starts) where
     -- what is reached is an object
-    reached-live : (o : ℕ) → Reached (graph h handles) S o → live (slotAt h o) ≡ true
+    pub reached-live : (o : ℕ) → Reached (graph h handles) S o → live (slotAt h o) ≡ true
     reached-live =
         reached-ind (graph h handles) S (λ o. live (slotAt h o) ≡ true)
         (λ o f. ⊎-elim (λ p. p .1) (λ r. resolved-live h (r .0) o (found-ok (resolve h (r .0)) o (r .2)) .0) f)
@@ -98,6 +98,11 @@ module _ (h : State) (handles : ℕ → Option (List ℕ)) where
           where
             free : Stuck (graph h handles) S → ⊥
             free x = let w : marking (graph h handles) S (length (h .slots)) ≡ none = exactly .1 x in let z : _≡_ {A = ℕ} 0 1 = cc in omega arith
+
+    -- untraceable: 13, and the heap unchanged
+    pub stuck-collected : Stuck (graph h handles) S → collected (graph h handles) S h ≡ refuse 13 h
+    unfolding collected
+    stuck-collected x = ap (sweptBy h (S .pins)) (stuck-exactly (graph h handles) S (length (h .slots)) sized .1 x)
 
     -- the heap after it is decided by what is reached: any marks that mark just that give the same
     pub collected-by : (marks : List ℕ) → (Stuck (graph h handles) S → ⊥) → ((o : ℕ) → o < length (h .slots) → (0 < getD marks o 0) ↔ Reached (graph h handles) S o)

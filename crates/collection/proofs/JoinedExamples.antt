@@ -15,7 +15,8 @@ use Rattle.flow.specs.Dataflow.{gen, kill, liveIn, liveBefore, liveRow, track}
 use Rattle.reach.specs.Marking.{visit, follow, drained, marking}
 use Rattle.collection.specs.Swept.{dropped, dropSlots, liveSize, dropUnmarked, swept}
 use Rattle.collection.specs.Collected.{collected}
-use Rattle.collection.specs.Joined.{rootRegisters, valuesOf, joined}
+use Rattle.addresses.specs.Listed.{slotOf, slotsOf}
+use Rattle.collection.specs.Joined.{liveReferences, registersOf, valuesOf, pinsAt, joined}
 
 abbrev object : (generation : ℕ) → Slot
 object g = record { generation = g; kind = 2; type = 0; start = 0; writes = 0; bytes = [] }
@@ -46,19 +47,28 @@ code =
     }
 
 -- the registers hold the handles of slots 0, 1 and 3
-abbrev collection : Table → (frame : Option (List ℕ)) (pins : List ℕ) → Changed Unit
-collection T frame pins = joined T code 0 (packed 1 0 5 ∷ packed 1 1 7 ∷ packed 1 3 11 ∷ []) frame pins heap
+abbrev collection : Table → (frame : Option (List ℕ)) (given listed framed : List ℕ) → Changed Unit
+collection T frame given listed framed =
+    joined T code 0 (packed 1 0 5 ∷ packed 1 1 7 ∷ packed 1 3 11 ∷ []) frame (record { given = given; listed = listed; framed = framed }) heap
 
 -- the kinds afterwards: 0 for a slot that is dead
 abbrev kinds : Changed Unit → List ℕ
 kinds r = map (λ (s : Slot). s .kind) (r .heap .slots)
 
 -- What the live register of class 4 and the frame hold stays, the rest is dropped. A pin keeps its slot, and one on a missing slot nothing.
-pub kept : (T : Table) → map kinds (collection T (some (packed 1 2 9 ∷ [])) [] ∷ collection T (some []) (1 ∷ 4 ∷ []) ∷ []) ≡ (2 ∷ 0 ∷ 2 ∷ 0 ∷ []) ∷ (2 ∷ 2 ∷ 0 ∷ 0 ∷ []) ∷ []
-unfolding joined rootRegisters valuesOf liveRow passing liveBefore liveIn gen kill successors reads writes track wordsAt kindPlaces handlesOf collected marking drained visit follow resolve resolveBy packed tagOf indexOf generationOf swept dropUnmarked recycle dropped dropSlots liveSize times
+pub kept : (T : Table) → map kinds (collection T (some (packed 1 2 9 ∷ [])) [] [] [] ∷ collection T (some []) (1 ∷ 4 ∷ []) [] [] ∷ []) ≡ (2 ∷ 0 ∷ 2 ∷ 0 ∷ []) ∷ (2 ∷ 2 ∷ 0 ∷ 0 ∷ []) ∷ []
+unfolding joined registersOf liveReferences pinsAt slotsOf slotOf valuesOf liveRow passing liveBefore liveIn gen kill successors reads writes track wordsAt kindPlaces handlesOf collected marking drained visit follow resolve resolveBy packed tagOf indexOf generationOf swept dropUnmarked recycle dropped dropSlots liveSize times
 kept T = refl
 
+-- An address of the frame that is listed pins its slot, and so does the value of the live register of class 2. An address between two listed ones pins nothing, and
+-- neither does one that is listed and that neither has.
+pub addressed : (T : Table)
+    → map kinds (collection T (some []) [] (100 ∷ 1 ∷ 200 ∷ 2 ∷ []) (100 ∷ 150 ∷ []) ∷ collection T (some []) [] (200 ∷ 1 ∷ packed 1 3 11 ∷ 3 ∷ []) [] ∷ [])
+    ≡ (2 ∷ 2 ∷ 0 ∷ 0 ∷ []) ∷ (2 ∷ 0 ∷ 0 ∷ 2 ∷ []) ∷ []
+unfolding joined registersOf liveReferences pinsAt slotsOf slotOf valuesOf liveRow passing liveBefore liveIn gen kill successors reads writes track wordsAt kindPlaces handlesOf collected marking drained visit follow resolve resolveBy packed tagOf indexOf generationOf swept dropUnmarked recycle dropped dropSlots liveSize times
+addressed T = refl
+
 -- a frame map that fails: refused, the heap as it was
-pub refused : (T : Table) → collection T none [] ≡ refuse 13 heap
+pub refused : (T : Table) → collection T none [] [] [] ≡ refuse 13 heap
 unfolding joined
 refused T = refl

@@ -14,7 +14,7 @@ use Rattle.word.specs.Choice.{if_then_else_}
 use Rattle.word.specs.Result.{ok}
 use Rattle.handle.specs.Handle.{indexOf, resolveBy}
 use Rattle.handle.proofs.ResolveLaws.{Resolves, resolve-ok, resolve-same}
-use Rattle.heap.specs.State.{Slot, State, slotAt, live, worn, times, withSince, withLive}
+use Rattle.heap.specs.State.{Slot, State, noSlot, slotAt, live, worn, times, withSince, withLive}
 use Rattle.heap.specs.Calls.{resolve, changed, release, released, filter, member, recycle}
 use Rattle.heap.specs.WellFormed.{sound, fits}
 use Rattle.heap.proofs.Sound.{Sound}
@@ -22,6 +22,7 @@ use Rattle.heap.proofs.Testing.{sound-tested, sound-test}
 use Rattle.heap.proofs.Recycled.{filter-append, recycle-sound}
 use Rattle.heap.proofs.Keeping.{at-same}
 use Rattle.collection.specs.Swept.{goes, dropped, dropSlot, dropSlots, liveSize, allDropped, dropUnmarked, swept}
+use Rattle.collection.proofs.Pinned.{recycle-same}
 use Rattle.collection.proofs.Dropping.{sweptSlot, after, after-ind, after-all, dropped-next, Dropping, dropping, all-dropped, dropped-slot, drop-append, unmarked-sound}
 
 -- ---- slots
@@ -218,6 +219,37 @@ unfolding swept dropUnmarked
 swept-same h m m′ pins e =
     let same : dropped m 0 (h .slots) ≡ dropped m′ 0 (h .slots) =
     dropped-same m m′ 0 (h .slots) (λ k less. subst (λ (x : ℕ). eqb (getD m x 0) 0 ≡ eqb (getD m′ x 0) 0) (omega arith) (e k less)) in
+    ap (λ (xs : List ℕ). recycle (withLive (withSince (dropSlots h xs) 0) (liveSize (dropSlots h xs .slots))) pins) same
+
+-- which pins there are decides what stays, their order does not; of marks, those of live slots do
+
+pub swept-pins : (h : State) (marks a b : List ℕ) → ((i : ℕ) → 0 < times i (h .quarantine) → member i a ≡ member i b) → swept h marks a ≡ swept h marks b
+unfolding swept dropUnmarked
+swept-pins h marks a b e =
+    recycle-same (dropUnmarked h marks) a b (λ i m. e i (subst (λ (q : List ℕ). 0 < times i q) (all-dropped marks h .quarantine) m))
+
+dropped-live : (m m′ : List ℕ) (i : ℕ) (ss : List Slot) → ((k : ℕ) → k < length ss → live (getD ss k noSlot) ≡ true → eqb (getD m (i + k) 0) 0 ≡ eqb (getD m′ (i + k) 0) 0) → dropped m i ss ≡ dropped m′ i ss
+unfolding dropped
+dropped-live m m′ i [] e = refl
+dropped-live m m′ i (s ∷ ss) e =
+    let first : i + 0 ≡ i = omega arith in
+    let at : (x : ℕ) → Type 0 = λ x. eqb (getD m x 0) 0 ≡ eqb (getD m′ x 0) 0 in
+    let here : goes m i s ≡ goes m′ i s = one s (λ a. subst at first (e 0 (omega arith) a)) in
+    let rest : dropped m (suc i) ss ≡ dropped m′ (suc i) ss = dropped-live m m′ (suc i) ss (λ k less a. subst at (omega arith) (e (suc k) (omega arith) a)) in
+    λ j. if (here j) then (i ∷ rest j) else rest j
+  where
+    one : (s : Slot) → (live s ≡ true → eqb (getD m i 0) 0 ≡ eqb (getD m′ i 0) 0) → goes m i s ≡ goes m′ i s
+    one s q = by (live s) refl
+      where
+        by : (b : Bool) → live s ≡ b → (b && eqb (getD m i 0) 0) ≡ (b && eqb (getD m′ i 0) 0)
+        by true a = q a
+        by false a = refl
+
+pub swept-alive : (h : State) (m m′ pins : List ℕ) → ((i : ℕ) → live (slotAt h i) ≡ true → eqb (getD m i 0) 0 ≡ eqb (getD m′ i 0) 0) → swept h m pins ≡ swept h m′ pins
+unfolding swept dropUnmarked
+swept-alive h m m′ pins e =
+    let same : dropped m 0 (h .slots) ≡ dropped m′ 0 (h .slots) =
+    dropped-live m m′ 0 (h .slots) (λ k less a. subst (λ (x : ℕ). eqb (getD m x 0) 0 ≡ eqb (getD m′ x 0) 0) (omega arith) (e k a)) in
     ap (λ (xs : List ℕ). recycle (withLive (withSince (dropSlots h xs) 0) (liveSize (dropSlots h xs .slots))) pins) same
 
 -- ---- an example: slot 0 is kept. 1, 3 and 5 go: 3 keeps the last generation, 5 comes to it, and both retire (and the epoch wraps). 2 and 4 are in quarantine: 2 is

@@ -61,7 +61,7 @@ module _ (T : Table) (want off kind t : ℕ) (m : List ℕ) (k : Into) (s : Raw)
 
 -- ---- trace_entries: the entries from word `at` on are still to come. G is what all of them leave.
 
-entries-next : (map : List ℕ) (at : ℕ) → at + 2 < length map
+pub entries-next : (map : List ℕ) (at : ℕ) → at + 2 < length map
     → entriesOf (drop at map) ≡ entry (getD map at 0) (getD map (at + 1) 0) (getD map (at + 2) 0) ∷ entriesOf (drop (at + 3) map)
 unfolding entriesOf
 entries-next map at h =
@@ -77,7 +77,7 @@ entries-next map at h =
     next-two : (k : ℕ) → suc (k + 2) ≡ k + 3
     next-two k = omega arith
 
-entries-last : (map : List ℕ) (at : ℕ) → length map ≤ at → entriesOf (drop at map) ≡ []
+pub entries-last : (map : List ℕ) (at : ℕ) → length map ≤ at → entriesOf (drop at map) ≡ []
 unfolding entriesOf
 entries-last map at h = rw (drop-of-length-le map {i = at} h) refl
 

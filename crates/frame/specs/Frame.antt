@@ -1,7 +1,7 @@
 -- The handles and the addresses of a frame's memory by its map (01, "Frame map and joined collection"; slot_roots of heap.rs).
 use Prim.Native.Nat.{ℕ, _%_}
 use mathlib.Core.Option.{Option, none, some}
-use mathlib.Core.List.{List, [], _∷_}
+use mathlib.Core.List.{List, [], _∷_, _++_}
 use lib.ListN.{length, drop}
 use lib.Dec.{leb, eqb}
 use Rattle.word.specs.Choice.{if_then_else_}
@@ -46,3 +46,20 @@ frameHandles T map m = frameRoots T 0 map m
 
 abbrev pub frameAddresses : Table → (map memory : List ℕ) → Option (List ℕ)
 frameAddresses T map m = frameRoots T 1 map m
+
+-- the same as a list: of a map that fails, none
+abbrev pub listed : Option (List ℕ) → List ℕ
+listed none = []
+listed (some words) = words
+
+abbrev pub addressesIn : Table → (map memory : List ℕ) → List ℕ
+addressesIn T map m = listed (frameAddresses T map m)
+
+-- ---- the addresses without a test of the entries, as an inner function goes through them: where the handles can be traced, the frame's (proofs/Words)
+
+unfoldable pub entryWords : List ℕ → Entry → List ℕ
+entryWords m (entry off kind t) = if eqb kind 1 then firstWord (drop off m) else []
+
+unfoldable pub entriesWords : List ℕ → List Entry → List ℕ
+entriesWords m [] = []
+entriesWords m (e ∷ es) = entryWords m e ++ entriesWords m es

@@ -1,18 +1,18 @@
 -- The loop that goes through the queue: what is left, from the state that is there, gives what all gives. Assumes nothing.
 use Prim.Native.Nat.{ℕ, zero, suc, _+_, _-_, _≤_, _<_}
-use mathlib.Core.Path.{_≡_, refl, sym, ap, _∙_, subst}
+use mathlib.Core.Path.{_≡_, refl, sym, ap, _∙_, subst, fun-ext}
+use mathlib.Core.Bool.{Bool}
 use mathlib.Core.Option.{Option, none, some}
 use mathlib.Core.List.{List, [], _∷_, _++_}
 use lib.ListN.{length, getD, take, drop, replicate}
 use lib.Seq.{length-take-le, getD-take}
+use lib.Dec.{ltb}
 use borrow.Author.Tests.{lt-ltb, le-ltb}
 use native.Mathlib.Nat.{sub-zero}
 use native.Mathlib.Numerals.{add-one}
 use native.Mathlib.Omega.{arith}
 use Rattle.reach.specs.Reach.{Graph}
-use Rattle.reach.specs.Marking.{State, followAll, drained, marking}
-use Rattle.word.specs.Run.{run}
-use Rattle.handle.specs.Columns.{liveIn}
+use Rattle.reach.specs.Marking.{State, followAll, drained, marking, orDone, orStuck}
 use Rattle.heap.specs.Packing.{pad}
 use Rattle.heap.proofs.Packing.{drop-replicate}
 use Rattle.ty.specs.Types.{Table}
@@ -131,6 +131,14 @@ module _ (T : Table) (tag slots S : ℕ) (narrow wide pool marks₀ work₀ : Li
           let q = subst (λ (x : Answer). Traces x slots marks′ work′ (following (leadsTo tag slots S narrow) (stateOf marks work count) (shownIn T S narrow wide pool (getD work next 0)))) e t in
           draining-next (graphIn T tag slots S narrow wide pool) slots marks₀ work₀ total marks work count next d h marks′ work′ m (q .0) (q .1) a b
 
+-- the walk through the queue does not ask which slots are live
+pub drained-live : (G : Graph) (L : ℕ → Bool) (f : ℕ) (s : State) (k : ℕ) → drained G f s k ≡ drained (record { live = L; resolve = G .resolve; handles = G .handles }) f s k
+unfolding drained
+drained-live G L zero s k = refl
+drained-live G L (suc f) s k =
+    ap (λ (d : List ℕ → Option State). orDone (ltb k (length (s .queue))) (orStuck (G .handles (getD (s .queue) k 0)) d) (some s))
+    (fun-ext (λ (hs : List ℕ). drained-live G L f (followAll (G .resolve) s hs) (suc k)))
+
 -- ---- the whole
 
 pub from-done : (G : Graph) (slots : ℕ) (marks work : List ℕ) (n : ℕ) (s : State) → Holds slots marks work n s → (r : Answer) (marks′ work′ : List ℕ) → Traces r slots marks′ work′ (drained G slots (stateOf marks work n) 0)
@@ -152,26 +160,26 @@ module _ (slots : ℕ) (marks work : List ℕ) (ready : Ready slots marks work) 
   pub first-long : slots ≡ length (take slots marks)
   first-long = sym (length-take-le slots marks (ready .marked))
 
-  module _ (T : Table) (tag S : ℕ) (narrow wide pool roots sealed pins : List ℕ) (r : Answer) (marks′ work′ : List ℕ)
-      (t : Traces r slots marks′ work′ (drained (graphIn T tag slots S narrow wide pool) slots (seededFrom (leadsTo tag slots S narrow) (liveIn slots (run S S narrow)) (stateOf (take slots marks) work 0) roots sealed pins) 0)) where
+  module _ (G : Graph) (roots sealed pins : List ℕ) (r : Answer) (marks′ work′ : List ℕ)
+      (t : Traces r slots marks′ work′ (drained G slots (seededFrom (G .resolve) (G .live) (stateOf (take slots marks) work 0) roots sealed pins) 0)) where
     abbrev start : Option State
-    start = drained (graphIn T tag slots S narrow wide pool) slots (seededFrom (leadsTo tag slots S narrow) (liveIn slots (run S S narrow)) (stateOf (take slots marks) work 0) roots sealed pins) 0
+    start = drained G slots (seededFrom (G .resolve) (G .live) (stateOf (take slots marks) work 0) roots sealed pins) 0
 
     abbrev answer : Option State
-    answer = marking (graphIn T tag slots S narrow wide pool) (startsOf roots sealed pins) slots
+    answer = marking G (startsOf roots sealed pins) slots
 
     as-marking : start ≡ answer
     unfolding marking
     as-marking =
-        ap (λ (m : List ℕ). drained (graphIn T tag slots S narrow wide pool) slots (seededFrom (leadsTo tag slots S narrow) (liveIn slots (run S S narrow)) (record { marks = m; queue = [] }) roots sealed pins) 0) first-clear
+        ap (λ (m : List ℕ). drained G slots (seededFrom (G .resolve) (G .live) (record { marks = m; queue = [] }) roots sealed pins) 0) first-clear
 
     at : (x : Answer) → r ≡ x → Traces x slots marks′ work′ answer
     at x e = subst (λ (o : Option State). Traces x slots marks′ work′ o) as-marking (subst (λ (y : Answer). Traces y slots marks′ work′ start) e t)
 
-    pub whole-stuck : r ≡ Untraceable → none ≡ marksIn (length marks) (marking (graphIn T tag slots S narrow wide pool) (startsOf roots sealed pins) slots)
+    pub whole-stuck : r ≡ Untraceable → none ≡ marksIn (length marks) (marking G (startsOf roots sealed pins) slots)
     whole-stuck e = sym (ap (marksIn (length marks)) (at Untraceable e))
 
-    pub whole-marked : (n : ℕ) → r ≡ Traced n → some (marks′ ++ drop slots marks) ≡ marksIn (length marks) (marking (graphIn T tag slots S narrow wide pool) (startsOf roots sealed pins) slots)
+    pub whole-marked : (n : ℕ) → r ≡ Traced n → some (marks′ ++ drop slots marks) ≡ marksIn (length marks) (marking G (startsOf roots sealed pins) slots)
     unfolding pad
     whole-marked n e =
         let a = at (Traced n) e in

@@ -33,8 +33,9 @@ use Rattle.trace.specs.Emit.{resolveIn}
 use Rattle.reach.specs.Marking.{marking}
 use Rattle.collection.specs.Collected.{found, graph, starts}
 use Rattle.collection.specs.Shown.{shown}
-use Rattle.mark.specs.Graph.{shownIn, graphIn, leadsTo, Fit}
+use Rattle.mark.specs.Graph.{shownIn, graphIn, heldIn, leadsTo, Fit}
 use Rattle.mark.specs.Told.{startsOf, heapMarks}
+use Rattle.mark.specs.Joining.{heldMarks}
 
 positive : (m : ℕ) → not (eqb m 0) ≡ ltb 0 m
 positive zero = refl
@@ -83,6 +84,9 @@ module _ (h : Heap) (narrow wide pool : List ℕ) (wf : wellFormed (lent h narro
     where
       all-data : length (flat (take (length (dataOf (view l .slots))) (dataOf (view l .slots)))) ≡ length (flat (dataOf (view l .slots)))
       all-data = ap (λ (d : List (List ℕ)). length (flat d)) (take-all (length (dataOf (view l .slots))) (dataOf (view l .slots)) (omega arith))
+
+  pub formed-few : h .slots ≤ 16777216
+  formed-few = omega (arith, facts .slot-count, formed .sound .slots-fit, formed .sound .slot-range)
 
   -- ---- what the columns have of a slot, also where there is none
 
@@ -162,3 +166,9 @@ module _ (h : Heap) (narrow wide pool : List ℕ) (wf : wellFormed (lent h narro
   pub formed-marks : (T : Table) (roots sealed pins : List ℕ) → sealed ≡ view (lent h narrow wide pool) .sealed
       → marking (graphIn T (h .tag) (h .slots) (length narrow / 6) narrow wide pool) (startsOf roots sealed pins) (h .slots) ≡ heapMarks T (view (lent h narrow wide pool)) roots pins
   formed-marks T roots sealed pins e = λ j. marking (formed-graph T j) (startsOf roots (e j) pins) (formed-count j)
+
+  -- and so it is where pinned slots without an object are marked too
+  pub formed-held : (T : Table) (roots sealed pins : List ℕ) → sealed ≡ view (lent h narrow wide pool) .sealed
+      → marking (heldIn T (h .tag) (h .slots) (length narrow / 6) narrow wide pool) (startsOf roots sealed pins) (h .slots) ≡ heldMarks T (view (lent h narrow wide pool)) roots pins
+  formed-held T roots sealed pins e =
+      λ j. marking (record { live = λ i. ltb i (formed-count j); resolve = λ x. leads-same x j; handles = λ i. shown-same T i j }) (startsOf roots (e j) pins) (formed-count j)

@@ -7,3 +7,4 @@ pub mod Formed
 pub mod RowPushes
 pub mod FrameMarks
 pub mod Whole
+pub mod Holding

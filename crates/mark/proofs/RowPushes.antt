@@ -1,15 +1,17 @@
--- The registers of a row taken word by word: the value of each set bit below the number of values is followed. Assumes nothing.
+-- The registers of a row taken word by word: the value of each set bit below the number of values is taken, if its register is of the class that is wanted. Assumes
+-- nothing.
 use Prim.Native.Nat.{ℕ, _+_, _-_, _*_, _/_, _^_, _≤_, _<_}
 use mathlib.Core.Path.{_≡_, refl, sym, ap, _∙_, subst}
-use mathlib.Core.Bool.{Bool, true, false}
-use mathlib.Core.List.{List, [], _∷_}
+use mathlib.Core.Bool.{Bool, true, false, cond}
+use mathlib.Core.List.{List, [], _∷_, _++_, append-nil}
 use lib.Bits.{bitAnd}
 use lib.Count.{trailingZeros}
-use lib.Dec.{ltb}
+use lib.Dec.{ltb, eqb}
 use lib.ListN.{length, getD}
 use native.Mathlib.Decide.{decLt}
 use native.Mathlib.Omega.{arith}
-use borrow.Author.Tests.{lt-ltb, le-ltb}
+use borrow.Author.Tests.{lt-ltb, le-ltb, eq-eqb, ne-eqb}
+use Rattle.word.specs.Choice.{if_then_else_}
 use Rattle.word.specs.Ones.{passing}
 use Rattle.word.proofs.OnesLaws.{trailing-lt}
 use Rattle.rows.specs.Row.{bitIn, listed}
@@ -17,25 +19,45 @@ use Rattle.rows.proofs.Listing.{leftover, pass-word, take-bit, all-left, positi
 use Rattle.rows.proofs.Below.{below, below-in, below-out, below-none, below-listed}
 use Rattle.trace.specs.Emit.{rawOf, into, resolveIn, emitted}
 use Rattle.trace.specs.declared.Sink.the-variants.{Work}
-use Rattle.reach.specs.Marking.{State, follow, followAll}
+use Rattle.addresses.specs.Listed.{slotOf, slotsOf}
+use Rattle.reach.specs.Marking.{State, followAll, pinAll}
 use Rattle.mark.specs.Graph.{leadsTo}
 use Rattle.mark.specs.Scratch.{stateOf, Scratch, Holds}
-use Rattle.mark.proofs.States.{Pushing, pushing-next, pushing-end}
+use Rattle.mark.proofs.States.{Pushing, pushing-part, pushing-end}
+use Rattle.mark.proofs.Holding.{taking-none, taking-append}
 use Rattle.mark.proofs.Bridge.{emit-met}
 use Rattle.mark.proofs.Inside.{resolves-in}
-use Rattle.collection.specs.Joined.{valuesOf}
-use Rattle.mark.specs.Joining.{rowValues, followIf}
+use Rattle.collection.specs.Joined.{ofClass, valuesOf}
+use Rattle.mark.specs.Joining.{inUse, taking, valueOf, rowValues}
 
 -- ---- one register
 
-module _ (tag slots S : ℕ) (narrow values : List ℕ) (q : ℕ) (marks work : List ℕ) (n : ℕ) (s : Scratch slots marks work n) where
-  pub at-value : q < length values → (marks′ work′ : List ℕ) (n′ : ℕ) → rawOf marks′ work′ n′ ≡ emitted (into Work (resolveIn tag slots S narrow)) (rawOf marks work n) (getD values q 0)
-      → Holds slots marks′ work′ n′ (followIf (ltb q (length values)) (leadsTo tag slots S narrow) (stateOf marks work n) (getD values q 0))
-  at-value h marks′ work′ n′ w =
-      rw (lt-ltb q (length values) h) (emit-met slots (resolveIn tag slots S narrow) (resolves-in tag slots S narrow) marks work n (getD values q 0) marks′ work′ n′ s w)
+module _ (tag slots S : ℕ) (narrow list : List ℕ) (class : ℕ) (classes values : List ℕ) (q : ℕ) (marks work : List ℕ) (n : ℕ) (s : Scratch slots marks work n) where
+  pub no-register : length values ≤ q → Holds slots marks work n (taking class (leadsTo tag slots S narrow) slots list (stateOf marks work n) (valueOf class classes values q))
+  unfolding valueOf
+  no-register h = record { state = rw (le-ltb q (length values) h) (sym (taking-none class (leadsTo tag slots S narrow) slots list (stateOf marks work n))); scratch = s }
 
-  pub no-value : length values ≤ q → Holds slots marks work n (followIf (ltb q (length values)) (leadsTo tag slots S narrow) (stateOf marks work n) (getD values q 0))
-  no-value h = rw (le-ltb q (length values) h) (record { state = refl; scratch = s })
+  module _ (h : q < length values) where
+    pub other-class : (getD classes q 0 ≡ class → ⊥) → Holds slots marks work n (taking class (leadsTo tag slots S narrow) slots list (stateOf marks work n) (valueOf class classes values q))
+    unfolding valueOf
+    other-class ne = record { state = rw (lt-ltb q (length values) h, ne-eqb (getD classes q 0) class ne) (sym (taking-none class (leadsTo tag slots S narrow) slots list (stateOf marks work n))); scratch = s }
+
+    module _ (e : getD classes q 0 ≡ class) where
+      one-value : valueOf class classes values q ≡ getD values q 0 ∷ []
+      unfolding valueOf
+      one-value = rw (lt-ltb q (length values) h, eq-eqb (getD classes q 0) class e) refl
+
+      pub handle-value : class ≡ 4 → (marks′ work′ : List ℕ) (n′ : ℕ) → rawOf marks′ work′ n′ ≡ emitted (into Work (resolveIn tag slots S narrow)) (rawOf marks work n) (getD values q 0)
+          → Holds slots marks′ work′ n′ (taking class (leadsTo tag slots S narrow) slots list (stateOf marks work n) (valueOf class classes values q))
+      unfolding taking
+      handle-value w marks′ work′ n′ k =
+          rw (one-value, eq-eqb class 4 w) (emit-met slots (resolveIn tag slots S narrow) (resolves-in tag slots S narrow) marks work n (getD values q 0) marks′ work′ n′ s k)
+
+      pub address-value : (class ≡ 4 → ⊥) → (marks′ work′ : List ℕ) (n′ : ℕ) → Holds slots marks′ work′ n′ (pinAll (inUse slots) (stateOf marks work n) (slotOf list (getD values q 0)))
+          → Holds slots marks′ work′ n′ (taking class (leadsTo tag slots S narrow) slots list (stateOf marks work n) (valueOf class classes values q))
+      unfolding taking slotsOf
+      address-value ne marks′ work′ n′ k =
+          rw (one-value, ne-eqb class 4 ne) (subst (λ (l : List ℕ). Holds slots marks′ work′ n′ (pinAll (inUse slots) (stateOf marks work n) l)) (sym (append-nil (slotOf list (getD values q 0)))) k)
 
 -- ---- word by word
 
@@ -47,26 +69,41 @@ abbrev pub bitsOf : List ℕ → ℕ
 bitsOf values = wordsOf values * 64
 
 -- the values of the registers that are left at word i, when `rest` of it was not taken yet
-abbrev pub valuesLeft : (row values : List ℕ) (i rest : ℕ) → List ℕ
-valuesLeft row values i rest = valuesOf values (below (length values) (leftover 64 row i rest))
+abbrev pub valuesLeft : (class : ℕ) (classes row values : List ℕ) (i rest : ℕ) → List ℕ
+valuesLeft class classes row values i rest = valuesOf values (ofClass class classes (below (length values) (leftover 64 row i rest)))
 
 -- how many set bits are left in the words of the registers
 abbrev pub bitsLeft : (row values : List ℕ) (i rest : ℕ) → ℕ
 bitsLeft row values i rest = length (below (bitsOf values) (leftover 64 row i rest))
 
-pub record RowPushes (tag slots S : ℕ) (narrow row values marks₀ work₀ : List ℕ) (total : State) (marks work : List ℕ) (count turns i rest : ℕ) : Type 0 where
-  pub pushing : Pushing (followAll (leadsTo tag slots S narrow)) slots marks₀ work₀ total marks work count (valuesLeft row values i rest)
+-- the value of a register is taken, then those of the registers that are left
+value-first : (class : ℕ) (classes values : List ℕ) (v : ℕ) (rests : List ℕ)
+    → valuesOf values (ofClass class classes (below (length values) (v ∷ rests))) ≡ valueOf class classes values v ++ valuesOf values (ofClass class classes (below (length values) rests))
+unfolding valueOf valuesOf
+value-first class classes values v rests =
+    elim (decLt v (length values)) [
+      | yes y ↦ ap (λ (l : List ℕ). valuesOf values (ofClass class classes l)) (below-in (length values) v rests y) ∙ rw (lt-ltb v (length values) y) (by (eqb (getD classes v 0) class))
+      | no y ↦ ap (λ (l : List ℕ). valuesOf values (ofClass class classes l)) (below-out (length values) v rests (omega arith)) ∙ rw (le-ltb v (length values) (omega arith)) refl
+    ]
+  where
+    by : (t : Bool) → valuesOf values (cond t (v ∷ ofClass class classes (below (length values) rests)) (ofClass class classes (below (length values) rests)))
+        ≡ (if t then (getD values v 0 ∷ []) else []) ++ valuesOf values (ofClass class classes (below (length values) rests))
+    by true = refl
+    by false = refl
+
+pub record RowPushes (tag slots S : ℕ) (narrow list : List ℕ) (class : ℕ) (classes row values marks₀ work₀ : List ℕ) (total : State) (marks work : List ℕ) (count turns i rest : ℕ) : Type 0 where
+  pub pushing : Pushing (taking class (leadsTo tag slots S narrow) slots list) slots marks₀ work₀ total marks work count (valuesLeft class classes row values i rest)
   pub turned : turns + bitsLeft row values i rest ≡ i + length (passing (bitIn 64 row) 0 (bitsOf values))
   pub inside : i ≤ wordsOf values
   pub word : rest < 2 ^ 64
 
-pub row-first : (tag slots S : ℕ) (narrow row values marks work : List ℕ) (n rest : ℕ) → Scratch slots marks work n → rest ≡ getD row 0 0 → rest < 2 ^ 64
-    → RowPushes tag slots S narrow row values marks work (followAll (leadsTo tag slots S narrow) (stateOf marks work n) (rowValues row values)) marks work n 0 0 rest
-row-first tag slots S narrow row values marks work n rest s e w =
+pub row-first : (tag slots S : ℕ) (narrow list : List ℕ) (class : ℕ) (classes row values marks work : List ℕ) (n rest : ℕ) → Scratch slots marks work n → rest ≡ getD row 0 0 → rest < 2 ^ 64
+    → RowPushes tag slots S narrow list class classes row values marks work (taking class (leadsTo tag slots S narrow) slots list (stateOf marks work n) (rowValues class classes row values)) marks work n 0 0 rest
+row-first tag slots S narrow list class classes row values marks work n rest s e w =
     record {
       pushing = record {
         scratch = s;
-        same = ap (λ (l : List ℕ). followAll (leadsTo tag slots S narrow) (stateOf marks work n) (valuesOf values l)) (all (length values));
+        same = ap (λ (l : List ℕ). taking class (leadsTo tag slots S narrow) slots list (stateOf marks work n) (valuesOf values (ofClass class classes l))) (all (length values));
         long = refl;
         words = refl;
       };
@@ -78,8 +115,8 @@ row-first tag slots S narrow row values marks work n rest s e w =
     all : (m : ℕ) → below m (leftover 64 row 0 rest) ≡ passing (bitIn 64 row) 0 m
     all m = ap (below m) (all-left 64 row rest e) ∙ below-listed row m
 
-module _ (tag slots S : ℕ) (narrow row values marks₀ work₀ : List ℕ) (total : State) (marks work : List ℕ) (count turns i rest : ℕ)
-    (p : RowPushes tag slots S narrow row values marks₀ work₀ total marks work count turns i rest) where
+module _ (tag slots S : ℕ) (narrow list : List ℕ) (class : ℕ) (classes row values marks₀ work₀ : List ℕ) (total : State) (marks work : List ℕ) (count turns i rest : ℕ)
+    (p : RowPushes tag slots S narrow list class classes row values marks₀ work₀ total marks work count turns i rest) where
   -- turns and bits are few
   pub few-turns : turns ≤ wordsOf values + bitsOf values
   few-turns = omega (arith, p .turned, p .inside, passing-most (bitIn 64 row) 0 (bitsOf values))
@@ -92,11 +129,11 @@ module _ (tag slots S : ℕ) (narrow row values marks₀ work₀ : List ℕ) (to
     pub pass-left : bitsLeft row values (i + 1) next ≡ bitsLeft row values i rest
     pass-left = ap length (same-left (bitsOf values))
 
-    pub row-pass : i < wordsOf values → next < 2 ^ 64 → RowPushes tag slots S narrow row values marks₀ work₀ total marks work count (turns + 1) (i + 1) next
+    pub row-pass : i < wordsOf values → next < 2 ^ 64 → RowPushes tag slots S narrow list class classes row values marks₀ work₀ total marks work count (turns + 1) (i + 1) next
     row-pass h w = record {
       pushing = record {
         scratch = p .pushing .scratch;
-        same = ap (λ (l : List ℕ). followAll (leadsTo tag slots S narrow) (stateOf marks work count) (valuesOf values l)) (same-left (length values)) ∙ p .pushing .same;
+        same = ap (λ (l : List ℕ). taking class (leadsTo tag slots S narrow) slots list (stateOf marks work count) (valuesOf values (ofClass class classes l))) (same-left (length values)) ∙ p .pushing .same;
         long = p .pushing .long;
         words = p .pushing .words;
       };
@@ -123,52 +160,30 @@ module _ (tag slots S : ℕ) (narrow row values marks₀ work₀ : List ℕ) (to
     take-left = omega (arith, ap length (ap (below (bitsOf values)) lowest ∙ below-in (bitsOf values) q (leftover 64 row i (bitAnd rest (rest - 1))) inside-words))
 
     pub row-take : (v : ℕ) → v ≡ 64 * i + trailingZeros 64 rest → (marks′ work′ : List ℕ) (count′ : ℕ)
-        → Holds slots marks′ work′ count′ (followIf (ltb v (length values)) (leadsTo tag slots S narrow) (stateOf marks work count) (getD values v 0))
+        → Holds slots marks′ work′ count′ (taking class (leadsTo tag slots S narrow) slots list (stateOf marks work count) (valueOf class classes values v))
         → length marks′ ≡ length marks → length work′ ≡ length work
-        → RowPushes tag slots S narrow row values marks₀ work₀ total marks′ work′ count′ (turns + 1) i (bitAnd rest (rest - 1))
-    unfolding valuesOf
+        → RowPushes tag slots S narrow list class classes row values marks₀ work₀ total marks′ work′ count′ (turns + 1) i (bitAnd rest (rest - 1))
     row-take v e marks′ work′ count′ met a b = record {
-      pushing = elim (decLt v (length values)) [
-        | yes y ↦ followed y
-        | no y ↦ left (omega arith)
-      ];
+      pushing =
+          pushing-part _ slots marks₀ work₀ total marks work count (valuesLeft class classes row values i rest) (p .pushing) (taking-append class (leadsTo tag slots S narrow) slots list)
+          (valueOf class classes values v) (valuesLeft class classes row values i (bitAnd rest (rest - 1))) marks′ work′ count′ first met a b;
       turned = omega (arith, p .turned, take-left);
       inside = p .inside;
       word = less-word 64 rest pos (p .word);
     }
       where
-        rests : List ℕ
-        rests = leftover 64 row i (bitAnd rest (rest - 1))
-
-        first : below (length values) (leftover 64 row i rest) ≡ below (length values) (v ∷ rests)
-        first = ap (below (length values)) (lowest ∙ ap (λ (x : ℕ). x ∷ rests) (let s : q ≡ v = omega (arith, e) in s))
-
-        followed : v < length values → Pushing (followAll (leadsTo tag slots S narrow)) slots marks₀ work₀ total marks′ work′ count′ (valuesOf values (below (length values) rests))
-        followed y =
-            let m : Holds slots marks′ work′ count′ (follow (leadsTo tag slots S narrow) (stateOf marks work count) (getD values v 0)) =
-            subst (λ (t : Bool). Holds slots marks′ work′ count′ (followIf t (leadsTo tag slots S narrow) (stateOf marks work count) (getD values v 0))) (lt-ltb v (length values) y) met in
-            pushing-next _ slots marks₀ work₀ total marks work count (valuesLeft row values i rest) (p .pushing) (follow (leadsTo tag slots S narrow)) (λ s x r. refl)
-            (getD values v 0) (valuesOf values (below (length values) rests)) marks′ work′ count′
-            (ap (valuesOf values) (first ∙ below-in (length values) v rests y)) m a b
-
-        left : length values ≤ v → Pushing (followAll (leadsTo tag slots S narrow)) slots marks₀ work₀ total marks′ work′ count′ (valuesOf values (below (length values) rests))
-        left y =
-            let m : Holds slots marks′ work′ count′ (stateOf marks work count) =
-            subst (λ (t : Bool). Holds slots marks′ work′ count′ (followIf t (leadsTo tag slots S narrow) (stateOf marks work count) (getD values v 0))) (le-ltb v (length values) y) met in
-            record {
-              scratch = m .scratch;
-              same = ap (λ (u : State). followAll (leadsTo tag slots S narrow) u (valuesOf values (below (length values) rests))) (m .state)
-                  ∙ sym (ap (λ (l : List ℕ). followAll (leadsTo tag slots S narrow) (stateOf marks work count) (valuesOf values l)) (first ∙ below-out (length values) v rests y)) ∙ p .pushing .same;
-              long = a ∙ p .pushing .long;
-              words = b ∙ p .pushing .words;
-            }
+        first : valuesLeft class classes row values i rest ≡ valueOf class classes values v ++ valuesLeft class classes row values i (bitAnd rest (rest - 1))
+        first =
+            ap (λ (l : List ℕ). valuesOf values (ofClass class classes (below (length values) l))) (lowest ∙ ap (λ (x : ℕ). x ∷ leftover 64 row i (bitAnd rest (rest - 1))) (let s : q ≡ v = omega (arith, e) in s))
+            ∙ value-first class classes values v (leftover 64 row i (bitAnd rest (rest - 1)))
 
   -- at the end
   module _ (h : wordsOf values ≤ i) where
     pub row-end : Holds slots marks work count total
     unfolding valuesOf
     row-end =
-        pushing-end _ slots marks₀ work₀ total marks work count (valuesLeft row values i rest) (p .pushing) (λ s. refl) (ap (valuesOf values) (below-none (length values) 64 row i rest (omega arith)))
+        pushing-end _ slots marks₀ work₀ total marks work count (valuesLeft class classes row values i rest) (p .pushing) (taking-none class (leadsTo tag slots S narrow) slots list)
+        (ap (λ (l : List ℕ). valuesOf values (ofClass class classes l)) (below-none (length values) 64 row i rest (omega arith)))
 
     pub row-turns : length row ≡ wordsOf values → turns ≡ length row + length (listed 64 row)
     unfolding listed

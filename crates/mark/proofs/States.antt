@@ -2,7 +2,7 @@
 use Prim.Native.Nat.{ℕ, _+_, _≤_, _<_}
 use mathlib.Core.Path.{_≡_, refl, sym, ap, _∙_, subst}
 use mathlib.Core.Logic.{⊎-elim}
-use mathlib.Core.List.{List, [], _∷_}
+use mathlib.Core.List.{List, [], _∷_, _++_}
 use lib.ListN.{length, getD, drop, set, length-set, replicate, length-replicate}
 use lib.Seq.{drop-cons, take-suc-set, getD-set-same, getD-set-other}
 use borrow.Author.Tests.{eq-eqb, ne-eqb}
@@ -82,6 +82,17 @@ module _ (F : State → List ℕ → State) (slots : ℕ) (marks₀ work₀ : Li
         same = ap (λ (u : State). F u rest) (k .state) ∙ sym (c (stateOf marks work count) h rest) ∙ sym (ap (F (stateOf marks work count)) e) ∙ p .same;
         long = a ∙ p .long;
         words = b ∙ p .words;
+      }
+
+  -- several at once
+  pub pushing-part : ((s : State) (a b : List ℕ) → F s (a ++ b) ≡ F (F s a) b) → (a rest marks′ work′ : List ℕ) (count′ : ℕ) → l ≡ a ++ rest
+      → Holds slots marks′ work′ count′ (F (stateOf marks work count) a) → length marks′ ≡ length marks → length work′ ≡ length work → Pushing F slots marks₀ work₀ total marks′ work′ count′ rest
+  pushing-part c a rest marks′ work′ count′ e k x y =
+      record {
+        scratch = k .scratch;
+        same = ap (λ (u : State). F u rest) (k .state) ∙ sym (c (stateOf marks work count) a rest) ∙ sym (ap (F (stateOf marks work count)) e) ∙ p .same;
+        long = x ∙ p .long;
+        words = y ∙ p .words;
       }
 
   pub pushing-end : ((s : State) → F s [] ≡ s) → l ≡ [] → Holds slots marks work count total

@@ -3,6 +3,7 @@ use Prim.Native.Nat.{ℕ, _*_, _≤_, _<_}
 use mathlib.Core.Option.{Option}
 use mathlib.Core.List.{List}
 use lib.ListN.{length, getD}
+use lib.Dec.{ltb}
 use Rattle.word.specs.Run.{run}
 use Rattle.handle.specs.Columns.{liveIn}
 use Rattle.heap.specs.Packing.{startOf, dataAt}
@@ -23,6 +24,10 @@ shownIn T S narrow wide pool i = handlesOf T (getD (run S S narrow) i 0) (getD (
 abbrev pub graphIn : Table → (tag slots S : ℕ) (narrow wide pool : List ℕ) → Graph
 graphIn T tag slots S narrow wide pool =
     record { live = liveIn slots (run S S narrow); resolve = leadsTo tag slots S narrow; handles = shownIn T S narrow wide pool }
+
+-- the same with each slot in use taken for an object: pinned slots are marked whether they hold one or not
+abbrev pub heldIn : Table → (tag slots S : ℕ) (narrow wide pool : List ℕ) → Graph
+heldIn T tag slots S narrow wide pool = record { live = λ i. ltb i slots; resolve = leadsTo tag slots S narrow; handles = shownIn T S narrow wide pool }
 
 -- the runs are there, the slots in use lie in them, and the data lies in the pool, in slot order
 pub record Fit (slots S : ℕ) (narrow wide pool : List ℕ) : Type 0 where

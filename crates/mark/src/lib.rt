@@ -18,6 +18,7 @@ ghost use Rattle.mark.specs.Graph.{leadsTo, shownIn, graphIn, Fit};
 ghost use Rattle.mark.specs.Scratch.{stateOf, Scratch, Holds, following, Traces, seededFrom};
 ghost use Rattle.mark.specs.Told.{told, marksIn, heapMarks, Ready};
 
+pub mod hold; // what is pinned, by pins and by addresses
 pub mod joined; // the marking of a joined collection
 
 // All that is reached is marked, or a reached object can't be traced.

@@ -8,7 +8,7 @@ ghost use lib.ListN.{length};
 ghost use Rattle.heap.specs.State.{bit};
 ghost use Rattle.heap.specs.Lent.{lent, cut, view};
 ghost use Rattle.heap.specs.Done.{Leaves};
-ghost use Rattle.heap_calls.specs.Pins.{rising};
+ghost use Rattle.heap_calls.specs.Pins.{rising, markedSlots};
 ghost use Rattle.collection.specs.Swept.{allDropped, dropUnmarked, swept};
 ghost use Rattle.sweep.specs.Columns.{CanCompact, Compacted, CanSettle, Settled, columnsOf, releasedIn, visitedIn, CanRelease, CanVisit, CanSize, sizesIn, oneSize, isGoing, allStay, CanSweep};
 use heap::Heap;
@@ -219,4 +219,20 @@ pub fn sweep(
 {
     let h = drop_unmarked(heap, narrow, wide, pool, marks);
     heap_calls::recycle::recycle(h, narrow, wide, pool, pins)
+}
+
+// The same with the marked slots as pins: a quarantined slot stays if it is marked.
+pub fn sweep_marked(
+    heap: Heap,
+    narrow: &mut [u32],
+    wide: &mut [u64],
+    pool: &mut [u8],
+    marks: &[u8],
+) -> Heap
+    requires { ⌜ CanSweep (lent heap (now narrow) (now wide) (now pool)) (now marks) ⌝ }
+    ensures { λ r. ⌜ Leaves (lent heap (now (narrow .entry)) (now (wide .entry)) (now (pool .entry))) (lent r (now (narrow .exit)) (now (wide .exit)) (now (pool .exit)))
+        (swept (view (lent heap (now (narrow .entry)) (now (wide .entry)) (now (pool .entry)))) (now (marks .entry)) (markedSlots (now (marks .entry)))) ⌝ }
+{
+    let h = drop_unmarked(heap, narrow, wide, pool, marks);
+    heap_calls::recycle::recycle_marked(h, narrow, wide, pool, marks)
 }

@@ -39,6 +39,7 @@ oneSafepoint =
       map = [];
       memory = [];
       pins = [];
+      addresses = [];
     }
 
 abbrev pub TestsPass : Type 0

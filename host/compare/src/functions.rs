@@ -97,6 +97,20 @@ fn random_functions_answer_as_the_rust() {
     oracle.saw(&[("live", &["0"]), ("liveat", &["0", "16"])]);
 }
 
+// Addresses in order, some of which the registers or the frame hold, with any slots.
+fn addresses(random: &mut Random, values: &[u64], memory: &[u8], slots: usize) -> Vec<(u64, u64)> {
+    let words = memory.windows(8).map(|w| u64::from_le_bytes(w.try_into().unwrap()));
+    let mut all: Vec<u64> = values.iter().copied().chain(words).flat_map(|a| [a, a.saturating_add(random.below(2))]).filter(|_| random.below(3) == 0).collect();
+    all.sort();
+    all.dedup();
+    all.into_iter()
+        .map(|a| match random.below(9) {
+            0 => (a, 1 << 32 | random.below(slots as u64)),
+            _ => (a, random.below(slots as u64 + 2)),
+        })
+        .collect()
+}
+
 #[test]
 fn random_joined_collections_answer_as_the_rust() {
     let mut oracle = Oracle::new();
@@ -111,8 +125,10 @@ fn random_joined_collections_answer_as_the_rust() {
             let values: Vec<u64> = f.classes.iter().map(|_| any(&mut random, &handles, slots)).collect();
             let (map, memory) = frame(&mut random, &table, &mut |r| any(r, &handles, slots));
             let (pc, pins) = (place_in(&mut random, &f), pins(&mut random, slots));
-            let here = told(heap.collect_joined(&table, &f, pc, &values, &map, &memory, &pins), |()| String::new());
-            oracle.agrees(&format!("joined {pc} {} {} {} {}", list(&values), entries(&map), hex(&memory), list(&pins)), &here, &place);
+            let addresses = addresses(&mut random, &values, &memory, slots);
+            let here = told(heap.collect_joined(&table, &f, pc, &values, &map, &memory, &pins, &addresses), |()| String::new());
+            let listed: Vec<u64> = addresses.iter().flat_map(|(a, i)| [*a, *i]).collect();
+            oracle.agrees(&format!("joined {pc} {} {} {} {} {}", list(&values), entries(&map), hex(&memory), list(&pins), list(&listed)), &here, &place);
             same(&mut oracle, &heap, &place);
         }
     }

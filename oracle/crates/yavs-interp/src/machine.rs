@@ -400,26 +400,36 @@ impl Machine {
                 let pins: Vec<u32> = list(a.next())?;
                 if h.collect(p, &roots, &pins) { "0" } else { "13" }.into()
             }
-            // Joined collection, put together from the Rust's own calls: func, pc, values, map, memory, pins.
+            // Joined collection, put together from the Rust's own calls: func, pc, values, map, memory, pins and addresses with their slots. The Rust is given the pins
+            // that the list yields, in order; a slot index past 32 bits is none that it has.
             "joined" => {
                 let pc: u32 = num(a.next())?;
                 let vals: Vec<u64> = list(a.next())?;
                 let map = root_map(a.next())?;
                 let mem = hex(a.next())?;
-                let pins: Vec<u32> = list(a.next())?;
+                let mut pins: Vec<u32> = list(a.next())?;
+                let listed: Vec<u64> = match a.next() {
+                    Some(word) => list(Some(word))?,
+                    None => Vec::new(),
+                };
                 let live = roots::live_refs(p, &self.func, false);
                 let Some(rs) = live.get(pc) else {
                     return Ok("16".into());
                 };
                 let mut refs = Refs::default();
                 for r in rs {
-                    if self.func.reg_ty[r.0 as usize] == RegTy::Handle {
-                        refs.handles.push(vals[r.0 as usize]);
+                    match self.func.reg_ty[r.0 as usize] {
+                        RegTy::Handle => refs.handles.push(vals[r.0 as usize]),
+                        RegTy::Ptr => refs.addrs.push(vals[r.0 as usize]),
+                        _ => (),
                     }
                 }
                 if !heap::slot_roots(p, &map, &mem, &mut refs) {
                     return Ok("13".into());
                 }
+                pins.extend(listed.chunks_exact(2).filter(|pair| refs.addrs.contains(&pair[0])).filter_map(|pair| u32::try_from(pair[1]).ok()));
+                pins.sort();
+                pins.dedup();
                 if h.collect(p, &refs.handles, &pins) { "0" } else { "13" }.into()
             }
             "page" => format!("0 {}", h.page()),

@@ -3,21 +3,20 @@ use Prim.Native.Nat.{_+_, _-_}
 use native.Mathlib.Omega.{arith}
 use Rattle.word.proofs.OnesLaws.{trailing-lt}
 use Rattle.rows.proofs.Listing.{positive}
-use Rattle.reach.specs.Marking.{followAll}
 use Rattle.mark.specs.Graph.{leadsTo}
 use Rattle.mark.specs.Scratch.{stateOf}
-use Rattle.mark.specs.Joining.{rowValues}
+use Rattle.mark.specs.Joining.{taking, rowValues}
 use Rattle.mark.proofs.RowPushes.{RowPushes, wordsOf, bitsLeft, row-first, few-turns, pass-left, row-pass, take-left, row-take, row-end, row-turns}
 use borrow.Author.Needs.{needs}
 use Rattle.mark.proofs.joined.push_row.Statement.{statement}
 use Rattle.mark.proofs.joined.push_row.Tie as tie
 
 abbrev Inv-loop : tie.InvT-loop
-Inv-loop tag slots s narrow row values marks₀ work₀ n words count₀ turns₀ i₀ rest₀ marks work count turns i rest =
-    RowPushes tag slots s narrow row values marks₀ work₀ (followAll (leadsTo tag slots s narrow) (stateOf marks₀ work₀ n) (rowValues row values)) marks work count turns i rest
+Inv-loop tag slots s narrow addresses want classes row values marks₀ work₀ n words count₀ turns₀ i₀ rest₀ marks work count turns i rest =
+    RowPushes tag slots s narrow addresses want classes row values marks₀ work₀ (taking want (leadsTo tag slots s narrow) slots addresses (stateOf marks₀ work₀ n) (rowValues want classes row values)) marks work count turns i rest
 
 abbrev μ-loop : tie.MeasureT-loop
-μ-loop tag slots s narrow row values marks₀ work₀ n words count₀ turns₀ i₀ rest₀ marks work count turns i rest =
+μ-loop tag slots s narrow addresses want classes row values marks₀ work₀ n words count₀ turns₀ i₀ rest₀ marks work count turns i rest =
     (wordsOf values - i) + bitsLeft row values i rest
 
 add-words : tie.Need-add-words Inv-loop μ-loop
@@ -30,7 +29,7 @@ loop-holds : tie.Need-loop-holds Inv-loop μ-loop
 loop-holds c = search row-first
 
 add-turns : tie.Need-add-turns Inv-loop μ-loop
-add-turns c = omega (arith, few-turns _ _ _ _ _ _ _ _ _ _ _ _ _ _ _ (c .before .loop .inv))
+add-turns c = omega (arith, few-turns _ _ _ _ _ _ _ _ _ _ _ _ _ _ _ _ _ _ (c .before .loop .inv))
 
 add-i : tie.Need-add-i Inv-loop μ-loop
 add-i c = search needs
@@ -39,7 +38,7 @@ word-at-requires-2 : tie.Need-word-at-requires-2 Inv-loop μ-loop
 word-at-requires-2 c κs = search needs
 
 loop-less : tie.Need-loop-less Inv-loop μ-loop
-loop-less c = omega (arith, pass-left _ _ _ _ _ _ _ _ _ _ _ _ _ _ _ (c .before .before .before .loop .inv) _ (c .before .if1 .taken) (c .word-at2 .ensures), c .before .before .loop-test .taken)
+loop-less c = omega (arith, pass-left _ _ _ _ _ _ _ _ _ _ _ _ _ _ _ _ _ _ (c .before .before .before .loop .inv) _ (c .before .if1 .taken) (c .word-at2 .ensures), c .before .before .loop-test .taken)
 
 loop-again : tie.Need-loop-again Inv-loop μ-loop
 loop-again c = search row-pass
@@ -60,7 +59,7 @@ sub-rest : tie.Need-sub-rest Inv-loop μ-loop
 sub-rest c = search needs
 
 loop-less-2 : tie.Need-loop-less-2 Inv-loop μ-loop
-loop-less-2 c = omega (arith, take-left _ _ _ _ _ _ _ _ _ _ _ _ _ _ _ (c .before .before .before .before .before .before .before .before .before .loop .inv) (c .before .before .before .before .before .before .before .before .loop-test .taken) (c .before .before .before .before .before .before .before .if1 .left))
+loop-less-2 c = omega (arith, take-left _ _ _ _ _ _ _ _ _ _ _ _ _ _ _ _ _ _ (c .before .before .before .before .before .before .before .before .before .loop .inv) (c .before .before .before .before .before .before .before .before .loop-test .taken) (c .before .before .before .before .before .before .before .if1 .left))
 
 loop-again-2 : tie.Need-loop-again-2 Inv-loop μ-loop
 loop-again-2 c = search row-take

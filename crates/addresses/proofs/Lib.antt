@@ -1,0 +1,3 @@
+-- What the proofs of the functions and other crates use.
+pub mod Pairs
+pub mod Listing
