@@ -191,8 +191,11 @@ pub fn collect_at(
         (function (record { kinds = now (kinds .entry); ends = now (ends .entry); refs = now (refs .entry); blocks = now (blocks .entry); classes = now (classes .entry) }))
         pc (now (values .entry))
         (frameHandles (tableOf (now (types .entry)) (now (fields .entry)) (now (consts .entry)) (now (bytes .entry))) (now (map .entry)) (now (memory .entry)))
-        (record { given = now (pins .entry); listed = now (addresses .entry);
-        framed = addressesIn (tableOf (now (types .entry)) (now (fields .entry)) (now (consts .entry)) (now (bytes .entry))) (now (map .entry)) (now (memory .entry)) })
+        (record {
+          given = now (pins .entry);
+          listed = now (addresses .entry);
+          framed = addressesIn (tableOf (now (types .entry)) (now (fields .entry)) (now (consts .entry)) (now (bytes .entry))) (now (map .entry)) (now (memory .entry));
+        })
         (view (lent heap (now (narrow .entry)) (now (wide .entry)) (now (pool .entry))))) ⌝ }
     ensures { λ _. ⌜ (now (marks .exit) ≡ now (marks .entry)) × (now (work .exit) ≡ now (work .entry)) × (now (rows .exit) ≡ now (rows .entry)) ⌝ }
 {

@@ -22,8 +22,8 @@ slice-aggregate-recycle-lists c = search needs
 
 recycle-lists-requires : tie.Need-recycle-lists-requires
 recycle-lists-requires c κs =
-    let can = lists-can (L (@start)) (@pre) in
-    ((can .free, can .retired, omega arith), (entries-are (@args .heap) (now (@args .narrow)) (now (@args .wide)) (now (@args .pool)) (can .entries) (omega (arith, can .free)), no-pins (0 ∷ [])))
+    let can = lists-can (L (c .before .before .before .before .before .before)) (c .before .before .before .before .before .before .pre) in
+    ((can .free, can .retired, omega arith), (entries-are (c .before .before .before .before .before .before .args .heap) (now (c .before .before .before .before .before .before .args .narrow)) (now (c .before .before .before .before .before .before .args .wide)) (now (c .before .before .before .before .before .before .args .pool)) (can .entries) (omega (arith, can .free)), no-pins (0 ∷ [])))
 
 with-free-requires : tie.Need-with-free-requires
 with-free-requires c κs = search needs
@@ -35,7 +35,7 @@ with-quarantine-requires : tie.Need-with-quarantine-requires
 with-quarantine-requires c κs = search needs
 
 reclaim-after-requires : tie.Need-reclaim-after-requires
-reclaim-after-requires c κs = omega (arith, lists-can (L (@start)) (@pre) .few, kept-few _ _ _ _ _ _ _ _ _ _ (@recycle-lists .ensures))
+reclaim-after-requires c κs = omega (arith, lists-can (L (c .before .before .before .before .before .before .before .before .before .before .before .before)) (c .before .before .before .before .before .before .before .before .before .before .before .before .pre) .few, kept-few _ _ _ _ _ _ _ _ _ _ (c .before .before .before .before .before .recycle-lists .ensures))
 
 with-reclaim-requires : tie.Need-with-reclaim-requires
 with-reclaim-requires c κs = search needs
@@ -44,7 +44,7 @@ same-length : tie.Need-same-length
 same-length c = search needs
 
 returns : tie.Need-returns
-returns c = recycled-leaves (@args .heap) (now (@args .narrow)) (now (@args .wide)) (now (@args .pool)) (@pre) _ _ _ _ _ _ _ _ _ _ (@recycle-lists .ensures) (@with-free .ensures) (@with-retired .ensures) (@with-quarantine .ensures) (@with-reclaim .ensures) (@reclaim-after .ensures)
+returns c = recycled-leaves (c .before .before .before .before .before .before .before .before .before .before .before .before .before .before .args .heap) (now (c .before .before .before .before .before .before .before .before .before .before .before .before .before .before .args .narrow)) (now (c .before .before .before .before .before .before .before .before .before .before .before .before .before .before .args .wide)) (now (c .before .before .before .before .before .before .before .before .before .before .before .before .before .before .args .pool)) (c .before .before .before .before .before .before .before .before .before .before .before .before .before .before .pre) _ _ _ _ _ _ _ _ _ _ (c .before .before .before .before .before .before .before .recycle-lists .ensures) (c .before .before .before .before .with-free .ensures) (c .before .before .before .with-retired .ensures) (c .before .before .with-quarantine .ensures) (c .with-reclaim .ensures) (c .before .reclaim-after .ensures)
 
 pub recycle-marked-spec : {M : Type 1} → statement M
 recycle-marked-spec =
