@@ -191,7 +191,7 @@ Admitted a l m w r m′ w′ r′ e =
     Entered (m ∷ w ∷ r ∷ []) (rowTests (need (a .code)) m w r l ++ inputTests (a .types) (a .fields) (a .consts) (a .bytes) (a .code) (a .values) (a .pins) (a .addresses)) e (m′ ∷ w′ ∷ r′ ∷ [])
 
 module _ (a : Asked) (l : Lent) (m w r m′ w′ r′ : List ℕ) (e : Entry) (s : Admitted a l m w r m′ w′ r′ e) where
-  pub can-join : e ≡ Ready → CanCollect l (a .pins) m′ w′ × CanLook (a .code) (a .values) r′ × (paired (a .addresses) ≡ true)
+  pub can-join : e ≡ Ready → CanCollect l (a .pins) m′ w′ × (CanLook (a .code) (a .values) r′ × (paired (a .addresses) ≡ true))
   unfolding roomy coded enough
   can-join i =
       let t = and-both (enough m w l) (leb (need (a .code)) (length r)) (holding s 0 i) in
@@ -205,13 +205,12 @@ module _ (a : Asked) (l : Lent) (m w r m′ w′ r′ : List ℕ) (e : Entry) (s
           work-clear = zeros-again w w′ (work-zero s i);
           work-room = room w w′ (slotCount l) (work-zero s i) (u .1);
         },
-        record {
+        (record {
           formed = c .0;
           valued = eqb-true _ _ (c .1);
           room = room r r′ (need (a .code)) (rows-zero s i) (t .1);
           clear = zeros-again r r′ (rows-zero s i);
-        },
-        holding s 5 i,
+        }, holding s 5 i),
       )
 
   pub join-refused : (why : Refusal) (x : Answer) → e ≡ Not why → x ≡ told (Refused why)
