@@ -17,7 +17,7 @@ enum-told : tie.Need-enum-told
 enum-told c = search needs
 
 returns : tie.Need-returns
-returns c = no-head (c .before .before .before .before .before .args .retiring) (c .before .before .before .before .before .args .s .now) (c .before .before .before .before .before .args .at) (none-1 (c .before .before .before .before .before .args .retiring) (c .before .before .before .before .before .args .s .now) (c .before .before .before .before .before .args .at)  (comma-none (c .before .before .before .before .before .args .s .now) 8 (c .before .before .before .before .before .args .at) (c .before .before .get-field .ensures) (c .enum-told .given .1)))
+returns c = no-head (c .before .before .before .before .before .args .retiring) (c .before .before .before .before .before .args .s .now) (c .before .before .before .before .before .args .at) (none-1 (c .before .before .before .before .before .args .retiring) (c .before .before .before .before .before .args .s .now) (c .before .before .before .before .before .args .at) (comma-none (c .before .before .before .before .before .args .s .now) 8 (c .before .before .before .before .before .args .at) (c .before .before .get-field .ensures) (c .enum-told .given .1)))
 
 get-field-requires-2 : tie.Need-get-field-requires-2
 get-field-requires-2 c κs = search needs
