@@ -1,5 +1,5 @@
 -- In well formed lent memory the runs fit, and what they show a collection is what the heap that lies there shows. Assumes nothing.
-use Prim.Native.Nat.{ℕ, zero, suc, _+_, _-_, _*_, _/_, _≤_, _<_}
+use Prim.Native.Nat.{ℕ, _^_, zero, suc, _+_, _-_, _*_, _/_, _≤_, _<_}
 use mathlib.Core.Path.{_≡_, refl, sym, ap, _∙_, fun-ext}
 use mathlib.Core.Bool.{Bool, true, not, _&&_}
 use mathlib.Core.Option.{Option}
@@ -52,6 +52,9 @@ module _ (h : Heap) (narrow wide pool : List ℕ) (wf : wellFormed (lent h narro
 
   facts : Known (slotCount l) (poolSize l) (view l) l
   facts = known (slotCount l) (poolSize l) (view l) l (formed .sound) (formed .lies)
+
+  pub formed-few : h .slots ≤ 2 ^ 32
+  formed-few = omega (arith, facts .slots-fit, facts .slot-count, formed .sound .slot-range .1)
 
   pub formed-count : l .header .slots ≡ length (view l .slots)
   formed-count = facts .slot-count

@@ -3,7 +3,7 @@ use mathlib.Core.Path.{refl}
 use native.Mathlib.Omega.{arith}
 use Rattle.ty.specs.View.{tableOf}
 use Rattle.mark.proofs.Draining.{ready-scratch, first-long}
-use Rattle.mark.proofs.Formed.{formed-fit, formed-seals, seals-end}
+use Rattle.mark.proofs.Formed.{formed-fit, formed-few, formed-seals, seals-end}
 use Rattle.mark.proofs.Whole.{heap-stuck, heap-marked}
 use borrow.Author.Needs.{needs}
 use Rattle.mark.proofs.mark.Statement.{statement}
@@ -34,7 +34,7 @@ slice-aggregate-mark-from : tie.Need-slice-aggregate-mark-from
 slice-aggregate-mark-from c = first-long _ _ _ (c .before .before .before .before .before .before .before .before .before .before .before .before .before .before .pre .1)
 
 mark-from-requires : tie.Need-mark-from-requires
-mark-from-requires c κs = (formed-fit (c .before .before .before .before .before .before .before .before .before .before .before .before .before .before .before .args .heap) (c .before .before .before .before .before .before .before .before .before .before .before .before .before .before .before .args .narrow .now) (c .before .before .before .before .before .before .before .before .before .before .before .before .before .before .before .args .wide .now) (c .before .before .before .before .before .before .before .before .before .before .before .before .before .before .before .args .pool .now) (c .before .before .before .before .before .before .before .before .before .before .before .before .before .before .before .pre .0), ready-scratch _ _ _ (c .before .before .before .before .before .before .before .before .before .before .before .before .before .before .before .pre .1))
+mark-from-requires c κs = (formed-fit (c .before .before .before .before .before .before .before .before .before .before .before .before .before .before .before .args .heap) (c .before .before .before .before .before .before .before .before .before .before .before .before .before .before .before .args .narrow .now) (c .before .before .before .before .before .before .before .before .before .before .before .before .before .before .before .args .wide .now) (c .before .before .before .before .before .before .before .before .before .before .before .before .before .before .before .args .pool .now) (c .before .before .before .before .before .before .before .before .before .before .before .before .before .before .before .pre .0), ready-scratch _ _ _ (c .before .before .before .before .before .before .before .before .before .before .before .before .before .before .before .pre .1) (formed-few (c .before .before .before .before .before .before .before .before .before .before .before .before .before .before .before .args .heap) (c .before .before .before .before .before .before .before .before .before .before .before .before .before .before .before .args .narrow .now) (c .before .before .before .before .before .before .before .before .before .before .before .before .before .before .before .args .wide .now) (c .before .before .before .before .before .before .before .before .before .before .before .before .before .before .before .args .pool .now) (c .before .before .before .before .before .before .before .before .before .before .before .before .before .before .before .pre .0)))
 
 enum-told : tie.Need-enum-told
 enum-told c = search needs

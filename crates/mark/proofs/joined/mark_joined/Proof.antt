@@ -5,7 +5,7 @@ use Rattle.ty.specs.View.{tableOf}
 use Rattle.frame.specs.Frame.{frameHandles}
 use Rattle.mark.specs.Joining.{rowValues}
 use Rattle.mark.proofs.Draining.{ready-scratch, first-long}
-use Rattle.mark.proofs.Formed.{formed-fit, formed-seals, seals-end}
+use Rattle.mark.proofs.Formed.{formed-fit, formed-few, formed-seals, seals-end}
 use Rattle.mark.proofs.Whole.{joined-stuck, joined-marked}
 use borrow.Author.Needs.{needs}
 use Rattle.mark.proofs.joined.mark_joined.Statement.{statement}
@@ -36,7 +36,7 @@ slice-aggregate-mark-frame : tie.Need-slice-aggregate-mark-frame
 slice-aggregate-mark-frame c = first-long _ _ _ (c .before .before .before .before .before .before .before .before .before .before .before .before .before .before .before .before .before .pre .1)
 
 mark-frame-requires : tie.Need-mark-frame-requires
-mark-frame-requires c κs = (formed-fit (c .before .before .before .before .before .before .before .before .before .before .before .before .before .before .before .before .before .before .args .heap) (c .before .before .before .before .before .before .before .before .before .before .before .before .before .before .before .before .before .before .args .narrow .now) (c .before .before .before .before .before .before .before .before .before .before .before .before .before .before .before .before .before .before .args .wide .now) (c .before .before .before .before .before .before .before .before .before .before .before .before .before .before .before .before .before .before .args .pool .now) (c .before .before .before .before .before .before .before .before .before .before .before .before .before .before .before .before .before .before .pre .0), ready-scratch _ _ _ (c .before .before .before .before .before .before .before .before .before .before .before .before .before .before .before .before .before .before .pre .1))
+mark-frame-requires c κs = (formed-fit (c .before .before .before .before .before .before .before .before .before .before .before .before .before .before .before .before .before .before .args .heap) (c .before .before .before .before .before .before .before .before .before .before .before .before .before .before .before .before .before .before .args .narrow .now) (c .before .before .before .before .before .before .before .before .before .before .before .before .before .before .before .before .before .before .args .wide .now) (c .before .before .before .before .before .before .before .before .before .before .before .before .before .before .before .before .before .before .args .pool .now) (c .before .before .before .before .before .before .before .before .before .before .before .before .before .before .before .before .before .before .pre .0), ready-scratch _ _ _ (c .before .before .before .before .before .before .before .before .before .before .before .before .before .before .before .before .before .before .pre .1) (formed-few (c .before .before .before .before .before .before .before .before .before .before .before .before .before .before .before .before .before .before .args .heap) (c .before .before .before .before .before .before .before .before .before .before .before .before .before .before .before .before .before .before .args .narrow .now) (c .before .before .before .before .before .before .before .before .before .before .before .before .before .before .before .before .before .before .args .wide .now) (c .before .before .before .before .before .before .before .before .before .before .before .before .before .before .before .before .before .before .args .pool .now) (c .before .before .before .before .before .before .before .before .before .before .before .before .before .before .before .before .before .before .pre .0)))
 
 enum-told : tie.Need-enum-told
 enum-told c = search needs
