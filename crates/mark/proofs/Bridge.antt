@@ -94,7 +94,7 @@ module _ (n : ℕ) where
 -- ---- what is noted in the upper halves stays
 
 module _ (n : ℕ) (few : n ≤ 2 ^ 32) where
-  queue-noted : (marks words : List ℕ) (c i : ℕ) → i < n → Noted words (queued (rawOf marks words c) i .words)
+  pub queue-noted : (marks words : List ℕ) (c i : ℕ) → i < n → Noted words (queued (rawOf marks words c) i .words)
   unfolding queued
   queue-noted marks words c i l = go (ltb i (length marks)) (eqb (getD marks i 0) 0) (decLt c (length words))
     where
@@ -114,6 +114,10 @@ module _ (n : ℕ) (few : n ≤ 2 ^ 32) where
         go : (o : Result ℕ) → R h ≡ o → Noted (r .words) (queuedIf r o .words)
         go (ok i) e = queue-noted (r .marks) (r .words) (r .count) i (z h i e)
         go (refused m) e = refl
+
+    pub emit-noted : (h : ℕ) (marks words : List ℕ) (c : ℕ) (marks′ words′ : List ℕ) (c′ : ℕ) → rawOf marks′ words′ c′ ≡ emitted (into Work R) (rawOf marks words c) h → Noted words words′
+    unfolding emitAll
+    emit-noted h marks words c marks′ words′ c′ e = ap (λ (r : Raw). map high (r .words)) e ∙ all-noted (h ∷ []) (rawOf marks words c)
 
     pub trace-noted : (r : Answer) (o : Option (List ℕ)) (marks words : List ℕ) (c : ℕ) (marks′ words′ : List ℕ) → told r marks′ words′ ≡ emitting (into Work R) (rawOf marks words c) o → NotedBy r words words′
     unfolding emitting
@@ -148,6 +152,20 @@ module _ (slots S : ℕ) (narrow list marks₀ work₀ : List ℕ) (total : Stat
 
   pub pins-end : length list ≤ k → Holds slots marks work count total
   pins-end h = pushing-end _ slots marks₀ work₀ total marks work count (drop k list) p (λ s. refl) (drop-of-length-le list h)
+
+-- what is noted stays in both loops
+
+pub pushes-noted : (tag slots S : ℕ) (narrow list marks₀ work₀ : List ℕ) (total : State) (marks work : List ℕ) (count k : ℕ) → Pushes tag slots S narrow list marks₀ work₀ total marks work count k → Noted work₀ work
+    → (marks′ work′ : List ℕ) (count′ : ℕ) → rawOf marks′ work′ count′ ≡ emitted (into Work (resolveIn tag slots S narrow)) (rawOf marks work count) (getD list k 0) → Noted work₀ work′
+pushes-noted tag slots S narrow list marks₀ work₀ total marks work count k p f marks′ work′ count′ e =
+    emit-noted slots (p .scratch .few) (resolveIn tag slots S narrow) (resolves-in tag slots S narrow) (getD list k 0) marks work count marks′ work′ count′ e ∙ f
+
+-- as the contract of `queue` says it
+pub pin-noted : (slots : ℕ) (marks words : List ℕ) (c i : ℕ) (marks′ words′ : List ℕ) (c′ : ℕ) → Scratch slots marks words c → i < slots → rawOf marks′ words′ c′ ≡ queued (rawOf marks words c) i → Noted words words′
+pin-noted slots marks words c i marks′ words′ c′ s l e = ap (λ (r : Raw). map high (r .words)) e ∙ queue-noted slots (s .few) marks words c i l
+
+pub noted-on : (a b c : List ℕ) → Noted b c → Noted a b → Noted a c
+noted-on a b c f g = f ∙ g
 
 -- ---- the starts
 

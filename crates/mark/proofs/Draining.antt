@@ -140,6 +140,10 @@ pub from-done : (G : Graph) (slots : ℕ) (marks work : List ℕ) (n : ℕ) (s :
 from-done G slots marks work n s h r marks′ work′ t =
     subst (λ (f : ℕ). Traces r slots marks′ work′ (drained G f s 0)) (sub-zero slots) (subst (λ (x : State). Traces r slots marks′ work′ (drained G (slots - 0) x 0)) (h .state) t)
 
+pub from-noted : (a b c : List ℕ) (r : Answer) → Noted a b → NotedBy r b c → NotedBy r a c
+from-noted a b c (Traced n) f g = g ∙ f
+from-noted a b c Untraceable f g = tt
+
 take-zeros : (n m : ℕ) → n ≤ m → take {A = ℕ} n (replicate m 0) ≡ replicate n 0
 take-zeros zero m h = refl
 take-zeros (suc n) zero h = absurd (omega arith)

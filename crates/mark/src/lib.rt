@@ -15,7 +15,7 @@ ghost use Rattle.ty.specs.View.{tableOf};
 ghost use Rattle.trace.specs.Emit.{Runs};
 ghost use Rattle.reach.specs.Marking.{followAll, pinIf, pinAll, drained};
 ghost use Rattle.mark.specs.Graph.{leadsTo, shownIn, graphIn, Fit};
-ghost use Rattle.mark.specs.Scratch.{stateOf, Scratch, Holds, following, Traces, NotedBy, seededFrom};
+ghost use Rattle.mark.specs.Scratch.{stateOf, Scratch, Holds, following, Traces, Noted, NotedBy, seededFrom};
 ghost use Rattle.mark.specs.Told.{told, marksIn, heapMarks, Ready};
 
 pub mod joined; // the marking of a joined collection
@@ -41,6 +41,7 @@ pub fn push_all(
     requires { ⌜ Scratch slots (now marks) (now work) n ⌝ }
     ensures { λ r. ⌜ Holds slots (now (marks .exit)) (now (work .exit)) r
         (followAll (leadsTo tag slots s (now (narrow .entry))) (stateOf (now (marks .entry)) (now (work .entry)) n) (now (list .entry))) ⌝ }
+    ensures { λ _. ⌜ Noted (now (work .entry)) (now (work .exit)) ⌝ }
 {
     let mut count = n;
     let mut k = 0;
@@ -66,6 +67,7 @@ fn pin(
     requires { ⌜ Scratch slots (now marks) (now work) n ⌝ }
     ensures { λ r. ⌜ Holds slots (now (marks .exit)) (now (work .exit)) r
         (pinIf (liveIn slots (run s s (now (narrow .entry))) i) (stateOf (now (marks .entry)) (now (work .entry)) n) i) ⌝ }
+    ensures { λ _. ⌜ Noted (now (work .entry)) (now (work .exit)) ⌝ }
 {
     let j = i as usize;
     if slots <= j {
@@ -91,6 +93,7 @@ pub fn pin_all(
     requires { ⌜ Scratch slots (now marks) (now work) n ⌝ }
     ensures { λ r. ⌜ Holds slots (now (marks .exit)) (now (work .exit)) r
         (pinAll (liveIn slots (run s s (now (narrow .entry)))) (stateOf (now (marks .entry)) (now (work .entry)) n) (now (pins .entry))) ⌝ }
+    ensures { λ _. ⌜ Noted (now (work .entry)) (now (work .exit)) ⌝ }
 {
     let mut count = n;
     let mut k = 0;
@@ -119,6 +122,7 @@ pub fn seed(
     ensures { λ r. ⌜ Holds slots (now (marks .exit)) (now (work .exit)) r
         (seededFrom (leadsTo tag slots s (now (narrow .entry))) (liveIn slots (run s s (now (narrow .entry))))
         (stateOf (now (marks .entry)) (now (work .entry)) n) (now (roots .entry)) (now (sealed .entry)) (now (pins .entry))) ⌝ }
+    ensures { λ _. ⌜ Noted (now (work .entry)) (now (work .exit)) ⌝ }
 {
     let a = push_all(tag, slots, s, narrow, roots, marks, work, n);
     let b = push_all(tag, slots, s, narrow, sealed, marks, work, a);
@@ -253,6 +257,7 @@ pub fn mark_from(
         (graphIn (tableOf (now (types .entry)) (now (fields .entry)) (now (consts .entry)) (now (bytes .entry))) tag slots s (now (narrow .entry)) (now (wide .entry)) (now (pool .entry)))
         slots (seededFrom (leadsTo tag slots s (now (narrow .entry))) (liveIn slots (run s s (now (narrow .entry))))
         (stateOf (now (marks .entry)) (now (work .entry)) n) (now (roots .entry)) (now (sealed .entry)) (now (pins .entry))) 0) ⌝ }
+    ensures { λ r. ⌜ NotedBy r (now (work .entry)) (now (work .exit)) ⌝ }
 {
     let m = seed(tag, slots, s, narrow, roots, sealed, pins, marks, work, n);
     drain(
