@@ -2,3 +2,4 @@ pub mod Lining
 pub mod Edges
 pub mod Assembly
 pub mod Verdicts
+pub mod Loading
