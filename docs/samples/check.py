@@ -57,7 +57,8 @@ def pages(replay, turns):
         mine = reader.answer(t)
         again = printed[2:].replace(b";", b"\n")
         taken += mine == 0
-        if str(mine).encode() != loaded or (mine == 0 and again != t):
+        newest = b"writes64," in t and b"retired\n" in t
+        if str(mine).encode() != loaded or (mine == 0 and newest and again != t):
             wrong += 1
             print("differ:", t[:300], loaded, mine)
     print(f"pages: {len(texts)} alike but for {wrong}; {taken} of them are taken")
@@ -66,19 +67,21 @@ def pages(replay, turns):
 
 NUMBER, DATA, NAME = rb"(?:0|[1-9][0-9]*)", rb"(?:[0-9a-f]{2})*", rb"[\x20-\x2b\x2d-\xff]*"
 LINES = lambda k, last: rb"((?:(?:" + NUMBER + rb",){%d}" % k + last + rb"\n)*)"
-PAGE = re.compile(rb"tag,since_gc,reclaim_at,live_bytes,slots,free,quarantine,sealed\n((?:" + NUMBER + rb",){7}" + NUMBER + rb")\ngeneration,kind,type,start,writes,data\n" + LINES(5, DATA)
-                  + rb"free\n" + LINES(0, NUMBER) + rb"quarantine\n" + LINES(0, NUMBER) + rb"sealed\n" + LINES(0, NUMBER))
+PAGES = [re.compile(rb"tag,since_gc,reclaim_at,live_bytes,slots,free,quarantine,sealed" + more + rb"\n((?:" + NUMBER + rb",){%d}" % (7 + bool(more)) + NUMBER + rb")\ngeneration,kind,type,start," + writes
+                    + rb",data\n" + LINES(5, DATA) + rb"free\n" + LINES(0, NUMBER) + rb"quarantine\n" + LINES(0, NUMBER) + rb"sealed\n" + LINES(0, NUMBER) + (rb"retired\n" + LINES(0, NUMBER) if more else b""))
+         for more in (b"", b",retired") for writes in (b"writes", b"writes64")]
 TABLE = re.compile(rb"types,fields,constants\n((?:" + NUMBER + rb",){2}" + NUMBER + rb")\nclass,a,b,c,name\n" + LINES(4, NAME) + rb"type,constant,name\n" + LINES(2, NAME)
                    + rb"plain,start,length,name\n" + LINES(3, NAME) + rb"bytes\n" + DATA + rb"\n")
-WIDTHS = {PAGE: [[8, 64, 64, 64, 32, 32, 32, 32], [32, 8, 32, 64, 32], [32], [32], [64]], TABLE: [[64] * 3, [64] * 4, [32] * 2, [64] * 3]}
+WIDTHS = {p: [[8, 64, 64, 64] + [32] * 5, [32, 8, 32, 64, 64 if b"writes64" in p.pattern else 32], [32], [32], [64], [32]] for p in PAGES}
+WIDTHS[TABLE] = [[64] * 3, [64] * 4, [32] * 2, [64] * 3]
 
 
 def grammatical(text):
     """Whether a text is one by the grammar, its counts and its widths (FORMAT.md, sections 2, 6 and 15)."""
-    form = TABLE if text.startswith(b"types,") else PAGE
-    found = form.fullmatch(text)
-    if not found:
+    forms = [f for f in PAGES + [TABLE] if f.fullmatch(text)]
+    if not forms:
         return False
+    form, found = forms[0], forms[0].fullmatch(text)
     head, parts = found.group(1).split(b","), [g.split(b"\n")[:-1] for g in found.groups()[1:]]
     if [int(n) for n in head[-len(parts):]] != [len(p) for p in parts] or (form is TABLE and any(int(n) > most for n, most in zip(head, (4096, 16384, 4096)))):
         return False

@@ -47,12 +47,28 @@ def logic(codes):
     return struct.pack(f"<{len(words)}Q", *words)
 
 
+def document(files):
+    """The examples and digests in FORMAT.md, where the files that stand here now are shown."""
+    path = os.path.join(here, "..", "FORMAT.md")
+    text = open(path).read()
+    block = lambda data: "".join("    " + line + "\n" for line in data.decode().split("\n")[:-1])
+    for name in ("bytes.page", "handles.page", "record.table", "record.page", "logic.table", "logic.page"):
+        old = open(os.path.join(here, name), "rb").read()
+        text = text.replace(block(old), block(files[name])).replace(hashlib.sha256(old).hexdigest() + "  " + name, hashlib.sha256(files[name]).hexdigest() + "  " + name)
+    open(path, "w").write(text)
+
+
 def main(replay):
     files = {}
     first = 72057594037927937      # the handle of slot 0 of tag 1 at generation 1
     files["empty.page"] = page(replay, ["new 1 64 4096"])
     files["bytes.page"] = page(replay, ["new 1 64 4096", "alloc 2 0 0 4142"])
     files["handles.page"] = page(replay, ["new 1 64 4096", "alloc 2 0 0 4142", "alloc 3 0 0 " + (bytes(24) + struct.pack("<Q", first)).hex(), "seal", "alloc 2 0 0 00", f"take {first + (2 << 32)}"])
+
+    # earlier forms, and a slot that is worn out: read from the first form, whose free list had it
+    first_form = b"tag,since_gc,reclaim_at,live_bytes,slots,free,quarantine,sealed\n1,34,4096,0,2,1,0,0\ngeneration,kind,type,start,writes,data\n1,2,0,0,7,4142\n4294967295,0,0,0,0,\nfree\n1\nquarantine\nsealed\n"
+    files["first-form.page"] = first_form
+    files["retired.page"] = page(replay, ["load 64 " + first_form.decode().replace("\n", ";")])
 
     # a record {next: access; level: Int; steps: array of Int}: the descriptor of steps (1 to 5), then the value; and a chain of two such records
     record = table([(0, 0, 100, 0, "percent"), (4, 0, NO, 1, "steps"), (6, 0, 0, 0, "link"), (5, 0, 3, 0, "node")], [(2, NO, "next"), (0, NO, "level"), (1, NO, "steps")])
@@ -86,6 +102,9 @@ def main(replay):
     files["1-dead-with-data.page"] = full.replace(b"\n2,0,0,0,0,\n", b"\n2,0,0,0,0,00\n")
     files["1-two-places.page"] = full.replace(b"quarantine\n2\n", b"quarantine\n1\n")
     files["1-seal-order.page"] = full.replace(b"72057594037927937\n72057598332895233\n", b"72057598332895233\n72057594037927937\n")
+    files["1-retired.page"] = files["retired.page"].replace(b"4294967295,0,0,0,0,", b"5,0,0,0,0,")
+    files["1-worn-out-free.page"] = files["retired.page"].replace(b"2,0,0,0,1\n", b"2,1,0,0,0\n").replace(b"free\nquarantine\nsealed\nretired\n1\n", b"free\n1\nquarantine\nsealed\nretired\n")
+    files["17-no-retired.page"] = good[:good.rindex(b"retired\n")]
     files["1-reclaim.page"] = good.replace(b",4096,", b",4095,")
 
     # refused tables
@@ -106,6 +125,7 @@ def main(replay):
     inside = sorted(n for n in files if n.startswith("deposit/data/"))
     files["deposit/manifest-sha256.txt"] = "".join(f"{hashlib.sha256(files[n]).hexdigest()}  {n[8:]}\n" for n in inside).encode()
 
+    document(files)
     for name, text in files.items():
         os.makedirs(os.path.dirname(os.path.join(here, name)) or here, exist_ok=True)
         with open(os.path.join(here, name), "wb") as out:

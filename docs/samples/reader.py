@@ -11,14 +11,14 @@ import sys
 
 NO_CONSTANT = 4294967295
 KINDS = ["dead", "Typed", "Bytes", "Handles"]
-# Section 2: the names lines that are known. A later form of the page adds a line here.
-HEADS = [["tag", "since_gc", "reclaim_at", "live_bytes", "slots", "free", "quarantine", "sealed"]]
-SLOTS = [["generation", "kind", "type", "start", "writes", "data"]]
-WIDTHS = {"tag": 8, "kind": 8, "since_gc": 64, "reclaim_at": 64, "live_bytes": 64, "start": 64}      # the others: 32
+LAST = 4294967295     # the generation of a slot that is worn out
+# Section 2: the names lines that are known, of this form and of the earlier ones. A later form adds a line here.
+HEADS = [["tag", "since_gc", "reclaim_at", "live_bytes", "slots", "free", "quarantine", "sealed"] + last for last in ([], ["retired"])]
+SLOTS = [["generation", "kind", "type", "start", writes, "data"] for writes in ("writes", "writes64")]
+WIDTHS = {"tag": 8, "kind": 8, "since_gc": 64, "reclaim_at": 64, "live_bytes": 64, "start": 64, "writes64": 64}      # the others: 32
 TABLE = [("types", ["class", "a", "b", "c", "name"], 64), ("fields", ["type", "constant", "name"], 32), ("constants", ["plain", "start", "length", "name"], 64)]
 
-class Refused(Exception):
-    """The number of section 11 for a file that is not taken."""
+class Refused(Exception): """The number of section 11 for a file that is not taken."""
 
 class Lines:
     """A text as lines, each ended by byte 10."""
@@ -74,29 +74,33 @@ def read_page(text):
         parts = lines.fields(len(columns))
         slots.append({n: number(f, 2 ** WIDTHS.get(n, 32) - 1) for n, f in zip(columns[:-1], parts)})
         slots[-1]["data"] = unhex(parts[-1])
+        slots[-1].setdefault("writes64", slots[-1].pop("writes", 0))
     for name in head[5:]:
         lines.names([[name]])
         heap[name] = [number(lines.next(), 2 ** (64 if name == "sealed" else 32) - 1) for _ in range(heap[name])]
     lines.end()
     heap["slots"] = slots
+    if "retired" not in head:     # an earlier form: worn-out slots of the free list are retired, in its order
+        worn = lambda i: i < len(slots) and slots[i]["generation"] == LAST
+        heap["free"], heap["retired"] = [i for i in heap["free"] if not worn(i)], [i for i in heap["free"] if worn(i)]
     if not well_formed(heap):
         raise Refused(1)
     return heap
 
-def parts_of(handle):
-    return handle >> 56, handle >> 32 & 0xFFFFFF, handle & 0xFFFFFFFF
+parts_of = lambda handle: (handle >> 56, handle >> 32 & 0xFFFFFF, handle & 0xFFFFFFFF)
 
 def well_formed(heap):
     """Section 8."""
     slots, last = heap["slots"], -1
     places = [int(s["kind"] != 0) for s in slots]
     for s in slots:
-        if s["kind"] > 3 or s["generation"] < 1 or (s["kind"] != 1 and s["type"]) or (s["kind"] == 0 and (s["start"] or s["writes"] or s["data"])):
+        if s["kind"] > 3 or s["generation"] < 1 or (s["kind"] != 1 and s["type"]) or (s["kind"] == 0 and (s["start"] or s["writes64"] or s["data"])):
             return False
-    for i in heap["free"] + heap["quarantine"]:
-        if i >= len(slots):
-            return False
-        places[i] += 1
+    for name in ("free", "quarantine", "retired"):
+        for i in heap[name]:
+            if i >= len(slots) or (name != "quarantine" and (slots[i]["generation"] == LAST) != (name == "retired")):
+                return False
+            places[i] += 1
     for handle in heap["sealed"]:
         tag, index, generation = parts_of(handle)
         if tag != heap["tag"] or not last < index < len(slots) or generation < 1:
@@ -111,7 +115,9 @@ def resolve(heap, handle):
         return "null"
     if tag != heap["tag"]:
         return "another heap"
-    if index >= len(heap["slots"]) or not heap["slots"][index]["kind"] or heap["slots"][index]["generation"] != generation:
+    if index >= len(heap["slots"]):
+        return "never issued"
+    if not heap["slots"][index]["kind"] or heap["slots"][index]["generation"] != generation:
         return "stale"
     return index
 
@@ -149,16 +155,14 @@ def good_table(table):
         counts = [min(1 + sum(counts[p] if p < len(types) else 1 for p in ps), 65537) for ps in parts]
     return all(n <= 65536 for n in counts)
 
-class NoLayout(Exception):
-    """Section 7: malformed, too large, or cut short."""
+class NoLayout(Exception): """Section 7: malformed, too large, or cut short."""
 
 def word(n):
     if n >= 2 ** 64:
         raise NoLayout
     return n
 
-def up(n, align):
-    return word((n + align - 1) // align * align)
+up = lambda n, align: word((n + align - 1) // align * align)
 
 def type_at(table, t, depth):
     if t >= len(table["types"]) or depth > 64:
@@ -288,10 +292,8 @@ if __name__ == "__main__":
         sys.exit(__doc__)
     files = [open(f, "rb").read() for f in sys.argv[2:]]
     if sys.argv[1] == "answer":
-        for name, text in zip(sys.argv[2:], files):
-            print(name, answer(text))
+        print("\n".join(f"{name} {answer(text)}" for name, text in zip(sys.argv[2:], files)))
     elif sys.argv[1] == "page":
         show(read_page(files[0]), read_table(files[1]) if len(files) > 1 else None)
     else:
-        slot = fits(read_page(files[0]), read_table(files[1]))
-        print("fits" if slot is None else f"slot {slot} does not fit")
+        print({None: "fits"}.get(slot := fits(read_page(files[0]), read_table(files[1])), f"slot {slot} does not fit"))
