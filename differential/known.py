@@ -89,7 +89,7 @@ def same(command, oracle, replay):
 
 
 def as_port(line, answer):
-    """The oracle's answer as the port writes it. A sample has no write count that reaches 2^32."""
+    """The oracle's answer as the port writes it. Two write counts of the fixed scripts pass 2^32: the sample has them as the port tells them."""
     if line.split(" ", 1)[0] in ("objh", "valh", "handles", "slotroots") and number(answer) == "13":
         return "13"
     if line == "page" and number(answer) == "0":
