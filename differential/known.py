@@ -8,6 +8,8 @@ OUTSIDE = {
     "No object, value or frame is made whose walk takes more than some thousand turns",
     "aligning": "where a record's aligning overflows 64 bits the port answers 12 and the Rust wraps or panics. No such descriptor is made",
     "reissue beyond": "`reissue` of an index beyond the slots is 9 in the port and a panic in the Rust. Only indices of slots are given",
+    "dead reissue": "`reissue` of a dead slot is 9 in the port and gives a handle in the Rust. Only live slots are given",
+    "worn out": "a generation that is at 4,294,967,295 stays in the port, and its slot retires; in the Rust it starts again at 1. No generation comes to it",
     "unsorted pins": "pins that do not rise are 14 in the port; the Rust's binary search loses them. All pins rise",
     "no pool": "the Rust has no pool, so 6 never comes. Pools are lent large enough for what is allocated",
     "pool field": "`new` and `load` have a pool's size in the port; the oracle reads past it",
@@ -69,6 +71,10 @@ def outside(command, oracle, replay):
     """The named difference that a line of a script from elsewhere meets, or None."""
     if command == "reissue" and oracle.startswith("panic") and number(replay) == "9":
         return "reissue beyond"
+    if command == "reissue" and number(oracle) == "0" and number(replay) == "9":
+        return "dead reissue"
+    if command == "reissue" and number(replay) == "20":
+        return "worn out"
     if oracle == "hang":
         return "stride 0"
     if number(replay) == "14":

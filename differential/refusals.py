@@ -41,6 +41,7 @@ def heaps():
     yield from refused("2", f"edit 0 {'00' * 17} 0") + refused("3", f"edit {h(0, 1, 2)} {'00' * 17} 0") + refused("4", f"edit {h(0, 2)} {'00' * 17} 0")
     yield from refused("19", f"edit {h(2, 1)} {'00' * 17} 0")
     yield from asked(f"edit {h(0, 1)} {'00' * 15} 0", "alloc 2 0 0 -", "alloc 2 0 0 -", "page") + refused("6", "alloc 2 0 0 00") + asked("page", "alloc 2 0 0 -", "page")
+    yield from asked(f"free {h(1, 1)}") + refused("9", "reissue 1 7") + asked("page", "recycle -") + refused("9", "reissue 1 7") + asked("page")
     yield from refused("9", "reissue 4 7", f"reissue {U32} {U64}") + refused("14", "recycle 1,0", "recycle 2,2", "recycle 0,1,2,1") + asked("page", "epoch")
     yield from refused("1", "new 1 0 64") + asked("page", "new 3 1 0", "alloc 2 0 0 -", "page") + refused("6", "alloc 2 0 0 00") + asked("page")
 

@@ -46,11 +46,12 @@ def handles():
 
 
 def generations():
-    """(c): a generation goes from its end to 1, in alloc, reissue, take and collect; a dead slot may be reissued."""
-    rows = [f"{U32},2,0,0,{U32},41", f"{U32},0,0,0,0,", f"{U32 - 1},2,0,0,7,42", f"{U32},3,0,0,0,"]
-    yield from [f"load 5 {page([1, U64, 4096, 0], rows, [1])} 64", "page", "stamp 0", "write 0 0 43", "stamp 0", f"edit {h(0, U32)} 44 0"]
-    yield from ["stamp 0", "reissue 0 5", "stamp 0", f"resolve {h(0, U32)}", "reissue 1 0", "reissue 1 0", "alloc 2 0 0 45", f"take {h(3, U32)}"]
-    yield from ["reissue 3 1", "reissue 3 1", "collect - -", "page", "epoch", "alloc 2 0 0 -", "alloc 2 0 0 -", "alloc 2 0 0 -", "alloc 2 0 0 -", "page"]
+    """Generations near their end, stepped by alloc, reissue, take and collect: none comes to it, where the Rust starts again at 1 and the port's slots retire."""
+    near = U32 - 9
+    rows = [f"{near},2,0,0,{U32},41", f"{near},0,0,0,0,", f"{near - 1},2,0,0,7,42", f"{near},3,0,0,0,"]
+    yield from [f"load 5 {page([1, U64, 4096, 0], rows, [1])} 64", "page", "stamp 0", "write 0 0 43", "stamp 0", f"edit {h(0, near)} 44 0"]
+    yield from ["stamp 0", "reissue 0 5", "stamp 0", f"resolve {h(0, near)}", "reissue 2 0", "reissue 2 0", "alloc 2 0 0 45", "reissue 3 1", f"take {h(3, near + 1)}"]
+    yield from ["collect - -", "page", "epoch", "alloc 2 0 0 -", "alloc 2 0 0 -", "alloc 2 0 0 -", "alloc 2 0 0 -", "page"]
 
 
 def full():

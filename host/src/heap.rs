@@ -102,7 +102,7 @@ impl Memory {
         free, narrow, u32, 3;
         /// The dead slots that wait for `Heap::recycle`.
         quarantine, narrow, u32, 4;
-        /// The slots that are given out no more: none.
+        /// The dead slots that have their last generation, 4,294,967,295, and are given out no more.
         retired, narrow, u32, 5;
         /// From which byte of its data on a slot's object is visible.
         start, wide, u64, 0;
@@ -389,8 +389,8 @@ impl Heap {
         Refusal::check(answer.number)
     }
 
-    /// A new handle for a slot: older ones become stale, and its writes are counted from 0 again. A dead slot takes one too, which leads nowhere. `grown` is added to the bytes since the last
-    /// collection. A slot that is not there is refused (9).
+    /// A new handle for a live slot: older ones become stale, and its writes are counted from 0 again. `grown` is added to the bytes since the last collection. A slot that is not there or dead is
+    /// refused (9), and then one that has its last generation, 4,294,967,295 (20).
     pub fn reissue(&mut self, slot: u32, grown: u64) -> Result<Handle, Refusal> {
         let done = change!(&mut self.memory, self.scratch.get_mut(), yexwalu_reissue(self.header)(slot as usize, grown));
         Ok(Handle(self.done(done)?.0))
