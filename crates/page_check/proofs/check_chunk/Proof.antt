@@ -62,11 +62,13 @@ loop-again c =
     let l = slotsAt s (c .before .before .before .before .before .before .before .before .before .before .before .args .at) (c .before .before .before .before .before .before .before .before .before .before .before .args .count) in
     let y = c .before .before .before .before .x .given .0 .0 in
     let f = line-found true s (c .before .before .before .before .before .before .before .before .loop .k) y (c .before .before .before .before .before .before .get-slot .ensures) (c .before .before .before .before .x .given .1) in
-    let n = read-next (slotFormat true .read) blank (drop (c .before .before .before .before .before .before .before .before .loop .k) s) (drop (y .next) s) (f .sl) l (c .before .before .before .before .before .before .before .before .loop .i) (c .before .before .before .before .before .before .before .before .before .before .before .args .count) (c .before .before .before .before .before .before .before .before .loop .inv .3 .0) (c .before .before .before .before .before .before .before .loop-test .taken) (c .before .before .before .before .before .before .before .before .loop .inv .3 .2) (f .reads) in
-    (omega (arith, c .before .before .before .before .before .before .before .loop-test .taken), f .next,
-    agree-next (c .before .before .before .before .before .before .before .before .before .before .before .args .rule) l (c .before .before .before .before .before .before .before .before .before .before .before .args .row .now) (c .before .before .before .before .before .before .before .before .loop .i) (c .before .before .before .before .before .before .before .before .loop .ok) (y .generation) (y .kind) (c .before .before .bit-of .result) (n .0) (c .before .before .before .before .before .before .before .before .loop .inv .2)
-    (f .generation ∙ ap (λ (z : Slot). z .generation) (n .1)) (f .kind ∙ ap (λ (z : Slot). z .kind) (n .1)) (c .before .before .bit-of .ensures) (c .before .right-by .ensures) (c .both .ensures),
-    (c .before .before .before .before .before .before .before .before .loop .inv .3 .0, c .before .before .before .before .before .before .before .before .loop .inv .3 .1, n .2))
+    let n = read-next (slotFormat true .read) blank (drop (c .before .before .before .before .before .before .before .before .loop .k) s) (drop (y .next) s) (f .sl) l (c .before .before .before .before .before .before .before .before .loop .i) (c .before .before .before .before .before .before .before .before .before .before .before .args .count) (c .before .before .before .before .before .before .before .before .loop .inv .3 .0) (c .before .before .before .before .before .before .before .loop-test .taken) (c .before .before .before .before .before .before .before .before .loop .inv .3 .2) (f .reads) in (
+      omega (arith, c .before .before .before .before .before .before .before .loop-test .taken),
+      f .next,
+      agree-next (c .before .before .before .before .before .before .before .before .before .before .before .args .rule) l (c .before .before .before .before .before .before .before .before .before .before .before .args .row .now) (c .before .before .before .before .before .before .before .before .loop .i) (c .before .before .before .before .before .before .before .before .loop .ok) (y .generation) (y .kind) (c .before .before .bit-of .result) (n .0) (c .before .before .before .before .before .before .before .before .loop .inv .2)
+          (f .generation ∙ ap (λ (z : Slot). z .generation) (n .1)) (f .kind ∙ ap (λ (z : Slot). z .kind) (n .1)) (c .before .before .bit-of .ensures) (c .before .right-by .ensures) (c .both .ensures),
+      (c .before .before .before .before .before .before .before .before .loop .inv .3 .0, c .before .before .before .before .before .before .before .before .loop .inv .3 .1, n .2),
+    )
 
 returns-2 : tie.Need-returns-2 Inv-loop μ-loop
 returns-2 c = (agree-done (c .before .before .before .before .args .rule) (slotsAt (c .before .before .before .before .args .s .now) (c .before .before .before .before .args .at) (c .before .before .before .before .args .count)) (c .before .before .before .before .args .row .now) (c .before .loop .i) (c .before .loop .ok) _ (read-end (slotFormat true .read) blank (drop (c .before .loop .k) (c .before .before .before .before .args .s .now)) (slotsAt (c .before .before .before .before .args .s .now) (c .before .before .before .before .args .at) (c .before .before .before .before .args .count)) (c .before .loop .i) (c .before .before .before .before .args .count) (c .before .loop .inv .3 .0) (c .loop-test .left) (c .before .loop .inv .3 .2)) (c .before .loop .inv .2), (c .before .loop .inv .3 .1 ∙ ap (give (slotsAt (c .before .before .before .before .args .s .now) (c .before .before .before .before .args .at) (c .before .before .before .before .args .count))) (sym (read-rest (slotFormat true .read) (drop (c .before .loop .k) (c .before .before .before .before .args .s .now)) (slotsAt (c .before .before .before .before .args .s .now) (c .before .before .before .before .args .at) (c .before .before .before .before .args .count)) (c .before .loop .i) (c .before .before .before .before .args .count) (c .before .loop .inv .3 .0) (c .loop-test .left) (c .before .loop .inv .3 .2))), c .before .loop .inv .1))

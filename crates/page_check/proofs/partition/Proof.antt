@@ -11,13 +11,13 @@ same-length : tie.Need-same-length
 same-length c = search needs
 
 returns : tie.Need-returns
-returns c = parted-not (formIn (@args .s .now) .retiring) (heapIn (@args .s .now)) (@check-rule .ensures) (@if1 .left)
+returns c = parted-not (formIn (c .before .before .before .before .before .before .before .args .s .now) .retiring) (heapIn (c .before .before .before .before .before .before .before .args .s .now)) (c .before .before .before .check-rule .ensures) (c .if1 .left)
 
 same-length-2 : tie.Need-same-length-2
 same-length-2 c = search needs
 
 returns-2 : tie.Need-returns-2
-returns-2 c = parted-before (formIn (@args .s .now) .retiring) (heapIn (@args .s .now)) (@check-rule .ensures) (@if1 .taken) (@pre .0 .retiring) (@if2 .left)
+returns-2 c = parted-before (formIn (c .before .before .before .before .before .before .before .before .args .s .now) .retiring) (heapIn (c .before .before .before .before .before .before .before .before .args .s .now)) (c .before .before .before .before .check-rule .ensures) (c .before .if1 .taken) (c .before .before .before .before .before .before .before .before .pre .0 .retiring) (c .if2 .left)
 
 check-rule-requires-2 : tie.Need-check-rule-requires-2
 check-rule-requires-2 c κs = search needs
@@ -26,7 +26,7 @@ same-length-3 : tie.Need-same-length-3
 same-length-3 c = search needs
 
 returns-3 : tie.Need-returns-3
-returns-3 c = parted-old (formIn (@args .s .now) .retiring) (heapIn (@args .s .now)) (@check-rule .ensures) (@if1 .taken) (@pre .0 .retiring) (@if2 .taken) (@check-rule2 .ensures) (@if3 .left)
+returns-3 c = parted-old (formIn (c .before .before .before .before .before .before .before .before .before .before .before .before .before .args .s .now) .retiring) (heapIn (c .before .before .before .before .before .before .before .before .before .before .before .before .before .args .s .now)) (c .before .before .before .before .before .before .before .before .before .check-rule .ensures) (c .before .before .before .before .before .before .if1 .taken) (c .before .before .before .before .before .before .before .before .before .before .before .before .before .pre .0 .retiring) (c .before .before .before .before .before .if2 .taken) (c .before .before .before .check-rule2 .ensures) (c .if3 .left)
 
 check-rule-requires-3 : tie.Need-check-rule-requires-3
 check-rule-requires-3 c κs = search needs
@@ -35,7 +35,7 @@ same-length-4 : tie.Need-same-length-4
 same-length-4 c = search needs
 
 returns-4 : tie.Need-returns-4
-returns-4 c = parted-all (formIn (@args .s .now) .retiring) (heapIn (@args .s .now)) (@check-rule .ensures) (@if1 .taken) (@pre .0 .retiring) (@if2 .taken) (@check-rule2 .ensures) (@if3 .taken) (@check-rule3 .ensures)
+returns-4 c = parted-all (formIn (c .before .before .before .before .before .before .before .before .before .before .before .before .before .before .before .before .before .args .s .now) .retiring) (heapIn (c .before .before .before .before .before .before .before .before .before .before .before .before .before .before .before .before .before .args .s .now)) (c .before .before .before .before .before .before .before .before .before .before .before .before .before .check-rule .ensures) (c .before .before .before .before .before .before .before .before .before .before .if1 .taken) (c .before .before .before .before .before .before .before .before .before .before .before .before .before .before .before .before .before .pre .0 .retiring) (c .before .before .before .before .before .before .before .before .before .if2 .taken) (c .before .before .before .before .before .before .before .check-rule2 .ensures) (c .before .before .before .before .if3 .taken) (c .before .before .check-rule3 .ensures)
 
 pub partition-spec : {M : Type 1} → statement M
 partition-spec =

@@ -13,10 +13,10 @@ index-section-requires c κs = search needs
 
 returns : tie.Need-returns
 unfolding retiredName ascii
-returns c = retired-there (@args .s .now) (@args .at) (@args .count) (@args .n) (@args .retiring) _ (@if1 .taken) (@index-section .ensures)
+returns c = retired-there (c .before .before .before .before .args .s .now) (c .before .before .before .before .args .at) (c .before .before .before .before .args .count) (c .before .before .before .before .args .n) (c .before .before .before .before .args .retiring) (c .index-section .result) (c .before .before .if1 .taken) (c .index-section .ensures)
 
 returns-2 : tie.Need-returns-2
-returns-2 c = retired-absent (@args .s .now) (@args .at) (@args .count) (@args .n) (@args .retiring) (@if1 .left) (@pre .1 (@if1 .left)) (@pre .0)
+returns-2 c = retired-absent (c .before .before .args .s .now) (c .before .before .args .at) (c .before .before .args .count) (c .before .before .args .n) (c .before .before .args .retiring) (c .if1 .left) (c .before .before .pre .1 (c .if1 .left)) (c .before .before .pre .0)
 
 pub retired-section-spec : {M : Type 1} → statement M
 retired-section-spec =
