@@ -13,7 +13,7 @@ abbrev μ-loop : tie.MeasureT-loop
 μ-loop s at count narrow₀ all f₀ r₀ k₀ i₀ narrow f r k i = count - i
 
 loop-holds : tie.Need-loop-holds Inv-loop μ-loop
-loop-holds c = parting-begin _ _ _ _ (@pre .0) (@pre .1 .0 .0) (@pre .1 .0 .1) (@pre .1 .1)
+loop-holds c = parting-begin _ _ _ _ (c .before .before .pre .0) (c .before .before .pre .1 .0 .0) (c .before .before .pre .1 .0 .1) (c .before .before .pre .1 .1)
 
 get-field-requires : tie.Need-get-field-requires Inv-loop μ-loop
 get-field-requires c κs = search needs
@@ -25,37 +25,37 @@ enum-told : tie.Need-enum-told Inv-loop μ-loop
 enum-told c = search needs
 
 same-length : tie.Need-same-length Inv-loop μ-loop
-same-length c = absurd (parting-some _ _ _ _ _ _ _ _ _ (@loop .inv) (@loop-test .taken) (@get-field .ensures) (@enum-told .given .1))
+same-length c = absurd (parting-some _ _ _ _ _ _ _ _ _ (c .before .before .before .before .loop .inv) (c .before .before .before .loop-test .taken) (c .before .before .get-field .ensures) (c .enum-told .given .1))
 
 returns : tie.Need-returns Inv-loop μ-loop
-returns c = absurd (parting-some _ _ _ _ _ _ _ _ _ (@loop .inv) (@loop-test .taken) (@get-field .ensures) (@enum-told .given .1))
+returns c = absurd (parting-some _ _ _ _ _ _ _ _ _ (c .before .before .before .before .loop .inv) (c .before .before .before .loop-test .taken) (c .before .before .get-field .ensures) (c .enum-told .given .1))
 
 mul-worn : tie.Need-mul-worn Inv-loop μ-loop
-mul-worn c = omega (arith, parting-fits _ _ _ _ _ _ _ _ _ (@loop .inv) (@loop-test .taken) (@get-field .ensures) _ _ (@v .given .1))
+mul-worn c = omega (arith, parting-fits _ _ _ _ _ _ _ _ _ (c .before .before .before .before .before .loop .inv) (c .before .before .before .before .loop-test .taken) (c .before .before .before .get-field .ensures) _ _ (c .before .v .given .1))
 
 slice-read-worn : tie.Need-slice-read-worn Inv-loop μ-loop
-slice-read-worn c = parting-inside _ _ _ _ _ _ _ _ _ (@loop .inv) (@loop-test .taken) (@get-field .ensures) _ _ (@v .given .1)
+slice-read-worn c = parting-inside _ _ _ _ _ _ _ _ _ (c .before .before .before .before .before .before .loop .inv) (c .before .before .before .before .before .loop-test .taken) (c .before .before .before .before .get-field .ensures) _ _ (c .before .before .v .given .1)
 
 cast-put-free : tie.Need-cast-put-free Inv-loop μ-loop
-cast-put-free c = omega (arith, parting-fits _ _ _ _ _ _ _ _ _ (@loop .inv) (@loop-test .taken) (@get-field .ensures) _ _ (@v .given .1))
+cast-put-free c = omega (arith, parting-fits _ _ _ _ _ _ _ _ _ (c .before .before .before .before .before .before .loop .inv) (c .before .before .before .before .before .loop-test .taken) (c .before .before .before .before .get-field .ensures) _ _ (c .before .before .v .given .1))
 
 put-free-requires : tie.Need-put-free-requires Inv-loop μ-loop
-put-free-requires c κs = (parting-free _ _ _ _ _ _ _ _ _ (@loop .inv) (@loop-test .taken) (@get-field .ensures) _ _ (@v .given .1), parting-retired _ _ _ _ _ _ _ _ _ (@loop .inv) (@loop-test .taken) (@get-field .ensures) _ _ (@v .given .1), omega (arith, @loop .inv .same))
+put-free-requires c κs = (parting-free _ _ _ _ _ _ _ _ _ (c .before .before .before .before .before .before .before .loop .inv) (c .before .before .before .before .before .before .loop-test .taken) (c .before .before .before .before .before .get-field .ensures) _ _ (c .before .before .before .v .given .1), parting-retired _ _ _ _ _ _ _ _ _ (c .before .before .before .before .before .before .before .loop .inv) (c .before .before .before .before .before .before .loop-test .taken) (c .before .before .before .before .before .get-field .ensures) _ _ (c .before .before .before .v .given .1), omega (arith, c .before .before .before .before .before .before .before .loop .inv .same))
 
 add-i : tie.Need-add-i Inv-loop μ-loop
-add-i c = omega (arith, @loop-test .taken)
+add-i c = omega (arith, c .before .before .before .before .before .before .before .before .before .loop-test .taken)
 
 loop-less : tie.Need-loop-less Inv-loop μ-loop
-loop-less c = omega (arith, @loop-test .taken)
+loop-less c = omega (arith, c .before .before .before .before .before .before .before .before .before .loop-test .taken)
 
 loop-again : tie.Need-loop-again Inv-loop μ-loop
-loop-again c = parting-next _ _ _ _ _ _ _ _ _ (@loop .inv) (@loop-test .taken) (@get-field .ensures) _ _ (@v .given .1) refl (@put-free .ensures)
+loop-again c = parting-next _ _ _ _ _ _ _ _ _ (c .before .before .before .before .before .before .before .before .before .before .loop .inv) (c .before .before .before .before .before .before .before .before .before .loop-test .taken) (c .before .before .before .before .before .before .before .before .get-field .ensures) _ _ (c .before .before .before .before .before .before .v .given .1) refl (c .before .before .put-free .ensures)
 
 same-length-2 : tie.Need-same-length-2 Inv-loop μ-loop
-same-length-2 c = @loop .inv .same
+same-length-2 c = c .before .loop .inv .same
 
 returns-2 : tie.Need-returns-2 Inv-loop μ-loop
-returns-2 c = parting-end _ _ _ _ _ _ _ _ _ (@loop .inv) (@loop-test .left)
+returns-2 c = parting-end _ _ _ _ _ _ _ _ _ (c .before .loop .inv) (c .loop-test .left)
 
 pub part-free-spec : {M : Type 1} → statement M
 part-free-spec =

@@ -21,7 +21,7 @@ same-length : tie.Need-same-length
 same-length c = search needs
 
 returns : tie.Need-returns
-returns c = record { free-count = simp (@if1 .taken); retired-count = simp (@if1 .taken); list = simp (@if1 .taken) }
+returns c = record { free-count = simp (c .if1 .taken); retired-count = simp (c .if1 .taken); list = simp (c .if1 .taken) }
 
 mul-narrow-3 : tie.Need-mul-narrow-3
 mul-narrow-3 c = search needs
@@ -42,7 +42,7 @@ same-length-2 : tie.Need-same-length-2
 same-length-2 c = search needs
 
 returns-2 : tie.Need-returns-2
-returns-2 c = record { free-count = simp (@if1 .left); retired-count = simp (@if1 .left); list = simp (@if1 .left) }
+returns-2 c = record { free-count = simp (c .if1 .left); retired-count = simp (c .if1 .left); list = simp (c .if1 .left) }
 
 pub put-free-spec : {M : Type 1} → statement M
 put-free-spec =
