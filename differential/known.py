@@ -94,7 +94,7 @@ def outside(command, oracle, replay):
         return "reissue beyond"
     if command == "reissue" and number(oracle) == "0" and number(replay) == "9":
         return "dead reissue"
-    if command == "reissue" and number(replay) == "20":
+    if command == "reissue" and number(replay) == "20" or command == "page" and number(replay) == "0" and earlier(replay.split(" ")[1]) is None:
         return "worn out"
     if oracle == "hang":
         return "stride 0"
