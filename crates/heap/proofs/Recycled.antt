@@ -9,6 +9,7 @@ use lib.Dec.{eqb}
 use native.Mathlib.Decide.{decLt, ℕ-discrete}
 use borrow.Author.Tests.{eq-eqb, ne-eqb, eqb-true}
 use Rattle.word.specs.Choice.{if_then_else_}
+use Rattle.word.proofs.Bools.{not-true}
 use Rattle.heap.specs.State.{State, slotAt, worn, lastGeneration, bit, times, withQuarantine}
 use Rattle.heap.specs.Calls.{filter, member, freed, recycle}
 use Rattle.heap.proofs.Sound.{Sound}
@@ -52,10 +53,6 @@ filter-passed p i (x ∷ xs) m = one (p x) refl (filter-passed p i xs) m
       | yes q ↦ ap p (sym q) ∙ e
       | no q ↦ rest (omega (arith, ap bit (ne-eqb x i q)))
     ]
-
-not-true : (b : Bool) → not b ≡ true → b ≡ false
-not-true false e = refl
-not-true true e = let z : _≡_ {A = ℕ} 0 1 = cc in absurd (omega arith)
 
 -- some of the quarantined slots leave it
 module _ (S P : ℕ) (st : State) (kept gone : List ℕ) (ok : Sound S P st) (all : (i : ℕ) → times i kept + times i gone ≡ times i (st .quarantine)) where
