@@ -10,8 +10,9 @@ use native.Mathlib.Decide.{decLt, ℕ-discrete}
 use borrow.Author.Tests.{eq-eqb, ne-eqb, eqb-true}
 use Rattle.word.specs.Choice.{if_then_else_}
 use Rattle.word.proofs.Bools.{not-true}
+use Rattle.word.specs.Lists.{filter}
 use Rattle.heap.specs.State.{State, slotAt, worn, lastGeneration, bit, times, withQuarantine}
-use Rattle.heap.specs.Calls.{filter, member, freed, recycle}
+use Rattle.heap.specs.Calls.{member, freed, recycle}
 use Rattle.heap.proofs.Sound.{Sound}
 use Rattle.heap.proofs.Counting.{all-slots, listed-inside, times-append}
 use Rattle.heap.proofs.Keeping.{sound-change}

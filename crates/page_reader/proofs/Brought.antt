@@ -9,14 +9,13 @@ use native.Mathlib.Omega.{arith}
 use native.Mathlib.Decide.{decLt}
 use borrow.Author.Tests.{ltb-true}
 use Rattle.word.specs.Choice.{if_then_else_}
-use Rattle.word.specs.Lists.{all, allBelow}
+use Rattle.word.specs.Lists.{all, allBelow, filter}
 use Rattle.word.proofs.Bools.{and-both, not-true}
 use Rattle.word.proofs.ListLaws.{all-at, all-append}
 use Rattle.text.specs.Put.{putText}
 use Rattle.text.proofs.Putting.{put-nothing}
 use Rattle.heap.specs.State.{Slot, State, noSlot, slotAt, lastGeneration, worn}
 use Rattle.heap.specs.Packing.{pad}
-use Rattle.heap.specs.Calls.{filter}
 use Rattle.heap.specs.WellFormed.{places, partitioned, retiredRightly, sound}
 use Rattle.heap.proofs.Packing.{getD-pad}
 use Rattle.heap.proofs.Storing.{getD-pad-past}

@@ -8,11 +8,10 @@ use native.Mathlib.Omega.{arith}
 use lib.ListN.{length}
 use lib.Dec.{eqb, ltb}
 use Rattle.word.specs.Choice.{if_then_else_}
-use Rattle.word.specs.Lists.{all, allBelow}
+use Rattle.word.specs.Lists.{all, allBelow, filter}
 use Rattle.word.proofs.Bools.{and-true, and-false}
 use Rattle.word.proofs.ListLaws.{all-append, below-same}
 use Rattle.heap.specs.State.{State, slotAt, worn, times}
-use Rattle.heap.specs.Calls.{filter}
 use Rattle.heap.specs.WellFormed.{soundSlot, places, partitioned, retiredRightly, soundSeals, soundReclaim, sound}
 use Rattle.heap.proofs.Counting.{times-append}
 use Rattle.pages.specs.Page.{moved, soundBefore}
