@@ -49,7 +49,7 @@ slot-named = refl
 
 body-prints : (h : State) → earlierBody (headOf h) .print (bodyOf h) ≡
     slotNames earlier ++ (flatMap slotLine (h .slots) ++ (freeName ++ (flatMap valueLine (h .free)
-    ++ (quarantineName ++ (flatMap valueLine (h .quarantine) ++ (sealedName ++ (flatMap valueLine (h .sealed) ++ []))))))))
+    ++ (quarantineName ++ (flatMap valueLine (h .quarantine) ++ (sealedName ++ (flatMap valueLine (h .sealed) ++ [])))))))
 unfolding earlierBody afterLiteral pair times always freeName quarantineName sealedName
 body-prints h =
     rw (
