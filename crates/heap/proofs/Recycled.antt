@@ -33,7 +33,7 @@ pub filter-append : (p : ℕ → Bool) (xs ys : List ℕ) → filter p (xs ++ ys
 filter-append p [] ys = refl
 filter-append p (x ∷ xs) ys = ap (λ (l : List ℕ). if_then_else_ (p x) (x ∷ l) l) (filter-append p xs ys) ∙ choice-append (p x) x (filter p xs) (filter p ys)
 
-times-filter : (p : ℕ → Bool) (i : ℕ) (xs : List ℕ) → times i (filter p xs) + times i (filter (λ j. not (p j)) xs) ≡ times i xs
+pub times-filter : (p : ℕ → Bool) (i : ℕ) (xs : List ℕ) → times i (filter p xs) + times i (filter (λ j. not (p j)) xs) ≡ times i xs
 unfolding times
 times-filter p i [] = omega arith
 times-filter p i (x ∷ xs) = one (p x) (times-filter p i xs)
