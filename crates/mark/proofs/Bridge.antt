@@ -12,6 +12,7 @@ use native.Mathlib.Omega.{arith}
 use Rattle.word.specs.Result.{Result, ok, refused}
 use Rattle.word.specs.Run.{run}
 use Rattle.word.proofs.RunLaws.{run-get, first-get}
+use Rattle.word.proofs.ListLaws.{drop-cons-one}
 use Rattle.handle.specs.Columns.{liveIn}
 use Rattle.heap.specs.Packing.{startOf, dataAt}
 use Rattle.ty.specs.Types.{Table}
@@ -25,7 +26,7 @@ use Rattle.reach.specs.Marking.{State, visit, visitMaybe, follow, followAll, pi
 use Rattle.collection.specs.Collected.{found}
 use Rattle.mark.specs.Scratch.{stateOf, Scratch, Holds, following, Traces, seededFrom}
 use Rattle.mark.specs.Graph.{leadsTo, shownIn, Fit}
-use Rattle.mark.proofs.States.{unmarked-room, meet-marked, meet-new, Pushing, pushing-next, pushing-end, drop-cons-one}
+use Rattle.mark.proofs.States.{unmarked-room, meet-marked, meet-new, Pushing, pushing-next, pushing-end}
 use Rattle.mark.proofs.Inside.{resolves-in}
 
 abbrev pub HoldsRaw : ℕ → Raw → State → Type 0

@@ -11,6 +11,7 @@ use borrow.Author.Tests.{lt-ltb, le-ltb}
 use native.Mathlib.Nat.{sub-zero}
 use native.Mathlib.Numerals.{add-one}
 use native.Mathlib.Omega.{arith}
+use Rattle.word.proofs.ListLaws.{take-zeros}
 use Rattle.reach.specs.Reach.{Graph}
 use Rattle.reach.specs.Marking.{State, followAll, drained, marking, orDone, orStuck}
 use Rattle.heap.specs.Packing.{pad}
@@ -144,11 +145,6 @@ drained-live G L (suc f) s k =
 pub from-done : (G : Graph) (slots : ℕ) (marks work : List ℕ) (n : ℕ) (s : State) → Holds slots marks work n s → (r : Answer) (marks′ work′ : List ℕ) → Traces r slots marks′ work′ (drained G slots (stateOf marks work n) 0)
     → Traces r slots marks′ work′ (drained G slots s 0)
 from-done G slots marks work n s h r marks′ work′ t = subst (λ (x : State). Traces r slots marks′ work′ (drained G slots x 0)) (h .state) t
-
-take-zeros : (n m : ℕ) → n ≤ m → take {A = ℕ} n (replicate m 0) ≡ replicate n 0
-take-zeros zero m h = refl
-take-zeros (suc n) zero h = absurd (omega arith)
-take-zeros (suc n) (suc m) h = ap (λ (l : List ℕ). 0 ∷ l) (take-zeros n m (omega arith))
 
 module _ (slots : ℕ) (marks work : List ℕ) (ready : Ready slots marks work) where
   first-clear : take slots marks ≡ replicate slots 0

@@ -62,9 +62,6 @@ scratch-start slots marks work e h =
 
 -- ---- a list taken in turn
 
-pub drop-cons-one : (l : List ℕ) (k : ℕ) → k < length l → drop k l ≡ getD l k 0 ∷ drop (k + 1) l
-drop-cons-one l k h = drop-cons l k 0 h ∙ ap (λ (j : ℕ). getD l k 0 ∷ drop j l) (sym (add-one k))
-
 -- handles or pins are taken in turn: the rest, from the state that is there, gives what all gives from the state at the start
 pub record Pushing (F : State → List ℕ → State) (slots : ℕ) (marks₀ work₀ : List ℕ) (total : State) (marks work : List ℕ) (count : ℕ) (rest : List ℕ) : Type 0 where
   pub scratch : Scratch slots marks work count

@@ -13,6 +13,7 @@ use borrow.Author.Tests.{ne-eqb}
 use Rattle.word.specs.Bit as word
 use Rattle.word.proofs.Bools.{true-false, and-false, and-assoc}
 use Rattle.word.proofs.BitLaws.{bit-of-zero}
+use Rattle.word.proofs.ListLaws.{getD-zeros}
 use Rattle.rows.specs.Row.{bitIn}
 use Rattle.text.specs.Text.{give, Reader, _>>=_}
 use Rattle.text.specs.Format.{readAll, times}
@@ -30,15 +31,9 @@ use Rattle.page_check.specs.declared.Rule.{Rule}
 use Rattle.page_check.specs.declared.Rule.the-variants.{Once, Young, Worn}
 use Rattle.page_check.proofs.Counting.{mark-told, mark-both, mark-spoilt}
 
--- a row of zeros has no bit
-no-word : (n j : ℕ) → _≡_ {A = ℕ} (getD (replicate n 0) j 0) 0
-no-word zero j = refl
-no-word (suc n) zero = refl
-no-word (suc n) (suc j) = no-word n j
-
 zero-row : (n j : ℕ) → marked (replicate n 0) j ≡ 0
 unfolding bitIn
-zero-row n j = ap (λ (x : ℕ). bit (word.bit x (j % 64))) (no-word n (j / 64)) ∙ ap bit (bit-of-zero (j % 64))
+zero-row n j = ap (λ (x : ℕ). bit (word.bit x (j % 64))) (getD-zeros n (j / 64)) ∙ ap bit (bit-of-zero (j % 64))
 
 pub bit-low : (row : List ℕ) (i : ℕ) {n : ℕ} → n ≡ marked row i → n ≤ 1
 bit-low row i {n} e = go (bitIn 64 row i) e

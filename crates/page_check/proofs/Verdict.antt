@@ -21,7 +21,7 @@ use Rattle.pages.specs.Form.{Form}
 use Rattle.pages.specs.Page.{readPage, moved, soundBefore}
 use Rattle.pages.proofs.Moving.{moved-sound}
 use Rattle.heap.proofs.Counting.{times-append, times-member}
-use Rattle.heap.proofs.Testing.{parts-tested}
+use Rattle.heap.proofs.Testing.{parts-tested, all-times}
 use Rattle.page_check.specs.Partition.{expected, right, each}
 use Rattle.page_check.specs.Sections.{heapIn, formIn, broughtIn, soundBut, listed, obeyed, parted, Sectioned, Parsing, verdict, Accepted}
 use Rattle.page_check.specs.declared.Parsed.{Parsed}
@@ -44,17 +44,6 @@ each-below r dead (x ∷ l) i =
     && below-same (rightly r dead l (i + 1)) (λ j. rightly r dead (x ∷ l) i (suc j)) (length l)
     (λ j u. ap (λ (m : ℕ). right r (getD l j noSlot .generation) (getD l j noSlot .kind) (times m dead)) (let e : i + 1 + j ≡ i + suc j = omega arith in e)) k)
     ∙ sym (below-front (rightly r dead (x ∷ l) i) (length l))
-
--- a slot that stands in a list passes what all there pass
-all-times : (p : ℕ → Bool) (xs : List ℕ) (i : ℕ) → all p xs ≡ true → 1 ≤ times i xs → p i ≡ true
-unfolding all times
-all-times p [] i t m = absurd (omega arith)
-all-times p (x ∷ xs) i t m =
-    let a = and-both (p x) (all p xs) t in
-    elim (ℕ-discrete x i) [
-      | yes e ↦ ap p (sym e) ∙ a .0
-      | no ne ↦ all-times p xs i (a .1) (omega (arith, ap bit (ne-eqb x i ne)))
-    ]
 
 module _ (h : State) where
   abbrev rule-at : Rule → ℕ → Bool

@@ -9,14 +9,13 @@ use native.Mathlib.Omega.{arith}
 use native.Mathlib.Decide.{decLt}
 use borrow.Author.Tests.{ltb-true}
 use Rattle.word.specs.Choice.{if_then_else_}
-use Rattle.word.specs.Lists.{all, allBelow}
-use Rattle.word.proofs.Bools.{and-both}
+use Rattle.word.specs.Lists.{all, allBelow, filter}
+use Rattle.word.proofs.Bools.{and-both, not-true}
 use Rattle.word.proofs.ListLaws.{all-at, all-append}
 use Rattle.text.specs.Put.{putText}
 use Rattle.text.proofs.Putting.{put-nothing}
 use Rattle.heap.specs.State.{Slot, State, noSlot, slotAt, lastGeneration, worn}
 use Rattle.heap.specs.Packing.{pad}
-use Rattle.heap.specs.Calls.{filter}
 use Rattle.heap.specs.WellFormed.{places, partitioned, retiredRightly, sound}
 use Rattle.heap.proofs.Packing.{getD-pad}
 use Rattle.heap.proofs.Storing.{getD-pad-past}
@@ -37,17 +36,13 @@ unfolding all
 filter-all p [] h = refl
 filter-all p (x ∷ xs) h = let a = and-both (p x) (all p xs) h in (λ j. if a .0 j then (x ∷ filter-all p xs (a .1) j) else filter-all p xs (a .1) j)
 
-not-false : (b : Bool) → not b ≡ true → b ≡ false
-not-false false e = refl
-not-false true e = sym e
-
 -- none passes
 filter-none : (p : ℕ → Bool) (xs : List ℕ) → all (λ i. not (p i)) xs ≡ true → filter p xs ≡ []
 unfolding all
 filter-none p [] h = refl
 filter-none p (x ∷ xs) h =
     let a = and-both (not (p x)) (all (λ i. not (p i)) xs) h in
-    (λ j. if not-false (p x) (a .0) j then (x ∷ filter p xs) else filter p xs) ∙ filter-none p xs (a .1)
+    (λ j. if not-true (p x) (a .0) j then (x ∷ filter p xs) else filter p xs) ∙ filter-none p xs (a .1)
 
 -- ---- a column of generations has those of the slots
 

@@ -17,6 +17,7 @@ use Rattle.refusal.specs.Told.{numberOf}
 use Rattle.refusal.specs.declared.Refusal.{Refusal}
 use Rattle.refusal.specs.declared.Reply.the-variants.{Is, Not}
 use Rattle.word.specs.Lists.{all}
+use Rattle.word.proofs.ListLaws.{take-zeros}
 use Rattle.heap.specs.State.{Slot, State, slotAt, worn, dataOf, dataSize}
 use Rattle.heap.specs.Packing.{pad, flat, ends}
 use Rattle.heap.specs.Lent.{Lent, columns, cut, lent, headerOf, stored, column, slotCount, poolSize}
@@ -43,14 +44,9 @@ use Rattle.page_reader.proofs.Brought.{brought-free, brought-retired, r
 
 -- ZEROS
 
-take-replicate : (k n : ℕ) → k ≤ n → take {A = ℕ} k (replicate n 0) ≡ replicate k 0
-take-replicate zero n h = refl
-take-replicate (suc k) zero h = absurd (omega arith)
-take-replicate (suc k) (suc n) h = ap (λ (t : List ℕ). 0 ∷ t) (take-replicate k n (omega arith))
-
 run-zeros : (S at n : ℕ) → at + S ≤ n → run S at (replicate n 0) ≡ replicate S 0
 unfolding run
-run-zeros S at n h = ap (take S) (drop-replicate at n 0) ∙ take-replicate S (n - at) (omega arith)
+run-zeros S at n h = ap (take S) (drop-replicate at n 0) ∙ take-zeros S (n - at) (omega arith)
 
 no-zeros : (n m : ℕ) → m ≤ n → drop {A = ℕ} n (replicate m 0) ≡ []
 no-zeros n m h = drop-replicate n m 0 ∙ ap (λ (k : ℕ). replicate {A = ℕ} k 0) (let z : m - n ≡ 0 = omega arith in z)

@@ -12,6 +12,7 @@ use native.Mathlib.Numerals.{add-one}
 use Rattle.word.specs.Choice.{if_then_else_}
 use Rattle.word.specs.Run.{run}
 use Rattle.word.proofs.RunLaws.{length-run, first-get}
+use Rattle.word.specs.Lists.{filter}
 use Rattle.text.specs.Text.{give, readField}
 use Rattle.text.specs.Format.{number, readAll}
 use Rattle.text.specs.Answer.{decimalAnswer}
@@ -20,7 +21,6 @@ use Rattle.text.specs.declared.Decimal.{Decimal}
 use Rattle.text.specs.declared.Decimal.the-variants.{Number, NoNumber}
 use Rattle.text.proofs.Putting.{put-nothing}
 use Rattle.heap.specs.State.{lastGeneration}
-use Rattle.heap.specs.Calls.{filter}
 use Rattle.heap.specs.Lent.{Lent, columns, cut, lent}
 use Rattle.heap.specs.declared.Heap.{Heap}
 use Rattle.heap.proofs.Recycled.{filter-total, filter-append}

@@ -6,10 +6,9 @@ use mathlib.Core.Path.{_≡_}
 use lib.Dec.{eqb}
 use lib.ListN.{length, getD, set}
 use Rattle.word.specs.Choice.{if_then_else_}
-use Rattle.word.specs.Lists.{all}
+use Rattle.word.specs.Lists.{all, filter}
 use Rattle.word.specs.Run.{run}
 use Rattle.heap.specs.State.{State, dataSize, Slot, slotAt, dataOf, lastGeneration, worn}
-use Rattle.heap.specs.Calls.{filter}
 use Rattle.heap.specs.Packing.{ends}
 use Rattle.heap.specs.Lent.{Lent, columns, lent}
 use Rattle.heap.specs.declared.Heap.{Heap}

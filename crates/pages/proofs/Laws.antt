@@ -11,8 +11,8 @@ use Rattle.text.specs.Text.{give, _>>=_, ascii, line, newline, comma, Bytes, di
 use Rattle.text.specs.Format.{Right, number, bytesLine, afterLiteral, either, always, pair, times, mapped, readAll, All}
 use Rattle.text.proofs.Laws.{none-not-some, bind-some, some-inj, number-right, bytes-line-right, after-literal-right, Any, Apart, either-right, always-right, pair-right, times-right, mapped-right, injective}
 use Rattle.heap.specs.State.{Slot, State, slotAt, worn}
-use Rattle.heap.specs.Calls.{filter}
 use Rattle.word.specs.Choice.{if_then_else_}
+use Rattle.word.specs.Lists.{filter}
 use Rattle.pages.specs.Form.{Form, formOf, written, writesWidth, heapFront, retiredToo, noRetired, heapNames, slotFront, wideWrites, narrowWrites, slotNames, names, freeName, quarantineName, sealedName, retiredName}
 use Rattle.pages.specs.Page.{slotLine, valueLine, numbersLine, heapLine, retiredPart, pageText, SlotWithin, RetiredWithin, Within, Unsaved, Fields, slotOf, fieldsOf, slotFormat, Counts, Head, sealedEnd, retiredCount, headFormat, retiredFormat, Body, bodyFormat, Parts, pageFormat, stateOf, readOf, countsOf, headOf, bodyOf, saved, whole, readPage, moved}
 

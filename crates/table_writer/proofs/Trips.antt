@@ -11,7 +11,8 @@ use native.Mathlib.Nat.{mul-suc}
 use Rattle.text.specs.Text.{give, _>>=_}
 use Rattle.text.specs.Format.{Format, Right, pair, times, All}
 use Rattle.text.proofs.Laws.{pair-right, times-right}
-use Rattle.tables.specs.Table.{Row, Named, Plain, RowWithin, Within, nameText, nameFormat, tableText, readTable, toEnd}
+use Rattle.pages.specs.Page.{whole}
+use Rattle.tables.specs.Table.{Row, Named, Plain, RowWithin, Within, nameText, nameFormat, tableText, readTable}
 use Rattle.tables.specs.Lists.{numbersIn, namesIn, allNames, Names, namesFormat, rowsOf, withNames, namedIn}
 use Rattle.tables.proofs.Laws.{name-right, written-read}
 use Rattle.table_writer.specs.Trips.{ReadWritten}
@@ -97,8 +98,8 @@ module _ (d : Named) (w : Within d) where
   pub lists-hold : namedIn (numbersIn (d .types)) (numbersIn (d .fields)) (numbersIn (d .constants)) (d .bytes) (allNames d) ≡ some d
   unfolding namedIn
   lists-hold =
-      (λ i. namesFormat (type-count i) (field-count i) (constant-count i) .read (allNames d) >>= λ r. toEnd r >>= λ n. some (withNames (numbersIn (d .types)) (numbersIn (d .fields)) (numbersIn (d .constants)) (d .bytes) n))
-      ∙ ap (λ (o : Option (Names × List ℕ)). o >>= λ r. toEnd r >>= λ n. some (withNames (numbersIn (d .types)) (numbersIn (d .fields)) (numbersIn (d .constants)) (d .bytes) n)) names-read
+      (λ i. namesFormat (type-count i) (field-count i) (constant-count i) .read (allNames d) >>= λ r. whole r >>= λ n. some (withNames (numbersIn (d .types)) (numbersIn (d .fields)) (numbersIn (d .constants)) (d .bytes) n))
+      ∙ ap (λ (o : Option (Names × List ℕ)). o >>= λ r. whole r >>= λ n. some (withNames (numbersIn (d .types)) (numbersIn (d .fields)) (numbersIn (d .constants)) (d .bytes) n)) names-read
       ∙ ap some same-rows
 
 -- AN ACCEPTED TEXT IS WRITTEN AGAIN

@@ -15,7 +15,8 @@ use Rattle.text.specs.Format.{readAll, pair, times}
 use Rattle.text.specs.Put.{Puts}
 use Rattle.text.proofs.Laws.{times-right, hex-length}
 use Rattle.text.proofs.Putting.{puts-puts, puts-byte, puts-at, puts-length}
-use Rattle.tables.specs.Table.{Row, readName, field, nameText, nameFormat, rowLine, countNames, typeNames, fieldNames, constantNames, bytesName, countsLine, tableText, toEnd}
+use Rattle.pages.specs.Page.{whole}
+use Rattle.tables.specs.Table.{Row, readName, field, nameText, nameFormat, rowLine, countNames, typeNames, fieldNames, constantNames, bytesName, countsLine, tableText}
 use Rattle.word.specs.Result.{ok}
 use Rattle.word.proofs.Bools.{and-both}
 use Rattle.ty.specs.Check.{allOf, tableGood}
@@ -35,7 +36,7 @@ use Rattle.table_writer.proofs.RowsPut.{names-are}
 -- THE NAMES
 
 module _ (names : List ℕ) (t f c : ℕ) where
-  no-names : (namesFormat t f c .read names >>= λ r. toEnd r) ≡ none → NamesGot names t f c NotNames
+  no-names : (namesFormat t f c .read names >>= λ r. whole r) ≡ none → NamesGot names t f c NotNames
   no-names e = record { found = λ a b q. absurd (let z : _≡_ {A = ℕ} 0 1 = cc in omega arith); lost = λ q. e }
 
   pub names-lost-1 : readAll readName t (drop 0 names) ≡ none → NamesGot names t f c NotNames
@@ -323,11 +324,11 @@ module _ (w f c b names : List ℕ) where
   abbrev v : ℕ
   v = length c / 3
 
-  named-none : (namesFormat (length w / 4) (length f / 2) (length c / 3) .read names >>= λ r. toEnd r) ≡ none → namedIn w f c b names ≡ none
+  named-none : (namesFormat (length w / 4) (length f / 2) (length c / 3) .read names >>= λ r. whole r) ≡ none → namedIn w f c b names ≡ none
   unfolding namedIn
   named-none e = go (namesFormat (length w / 4) (length f / 2) (length c / 3) .read names) e
     where
-      go : (o : Option (Names × List ℕ)) → (o >>= λ r. toEnd r) ≡ none → (o >>= λ r. toEnd r >>= λ n. some (withNames w f c b n)) ≡ none
+      go : (o : Option (Names × List ℕ)) → (o >>= λ r. whole r) ≡ none → (o >>= λ r. whole r >>= λ n. some (withNames w f c b n)) ≡ none
       go none q = refl
       go (some r) q = rw q
 

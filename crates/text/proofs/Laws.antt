@@ -352,7 +352,7 @@ literal-back (c ∷ cs) (b ∷ t) rest e =
 
 -- FORMATS
 
-number-join : (most m n end : ℕ) (t w u rest : List ℕ) → m ≤ most → decimal m ++ w ≡ t → end ∷ u ≡ w → m ≡ n → u ≡ rest →
+pub number-join : (most m n end : ℕ) (t w u rest : List ℕ) → m ≤ most → decimal m ++ w ≡ t → end ∷ u ≡ w → m ≡ n → u ≡ rest →
     (n ≤ most) × ((decimal n ++ (end ∷ [])) ++ rest ≡ t)
 number-join most m n end t w u rest h d l v0 v1 =
     (omega arith, append-assoc (decimal n) (end ∷ []) rest ∙ rw (← v1, l, ← v0) d)

@@ -8,8 +8,9 @@ use lib.ListN.{length}
 use lib.Dec.{ltb, leb}
 use Rattle.word.specs.Choice.{if_then_else_}
 use Rattle.word.specs.Result.{Result, ok, refused}
+use Rattle.word.specs.Lists.{filter}
 use Rattle.heap.specs.State.{State, slotAt, live, worn, dataSize}
-use Rattle.heap.specs.Calls.{Changed, Object, refuse, done, release, filter, onSlot, resolve, allocFrom, edit, editSlot, write, reissue, takeInto, takeSlot, free, recycle, seal}
+use Rattle.heap.specs.Calls.{Changed, Object, refuse, done, release, onSlot, resolve, allocFrom, edit, editSlot, write, reissue, takeInto, takeSlot, free, recycle, seal}
 use Rattle.reach.specs.Reach.{Graph, Starts}
 use Rattle.reach.specs.Marking.{State as Marks, marking}
 use Rattle.collection.specs.Swept.{dropSlot, dropSlots, dropUnmarked, swept}
