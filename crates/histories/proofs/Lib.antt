@@ -1,0 +1,4 @@
+pub mod Lists
+pub mod Stepping
+pub mod Chains
+pub mod Histories
