@@ -130,5 +130,5 @@ module _ (T : Table) (F : Starts) (h h′ : State) (s : Survived (graph h (shown
 
       from : (i : ℕ) → (live (slotAt h i) ≡ true) × (Met i → ⊥) → i ∈ gone
       from i (a, never) =
-          passing-in gone? 0 (length (h .slots)) i (omega arith) (live-inside h i a)
+          passing-in gone? 0 (length (h .slots)) i (omega arith) (omega (arith, live-inside h i a))
           (both-and (live (slotAt h i)) (not (live (slotAt h′ i))) a (not-live i (live (slotAt h′ i)) refl never))

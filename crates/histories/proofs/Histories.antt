@@ -47,14 +47,14 @@ abbrev DropsNone : Step → State → Result Answer → Type 1
 DropsNone c h r = _≡_ {A = ℕ → Type 0} (Drops c h r) (λ n. n ≡ 0)
 
 right : (S P : ℕ) (c : Step) (h : State) (r : Changed Answer) → DropsNone c h (r .answer) → Stepped S P c h r → Right S P c h r
-right S P c h r none k =
+right S P c h r nil k =
     record {
       sound = k .sound;
       tag = k .tag;
       ages = k .ages;
       issues = k .issues;
-      objects = λ n d. let z : n ≡ 0 = subst (λ (D : ℕ → Type 0). D n) none d in omega (arith, k .objects);
-      counted = (0, subst (λ (D : ℕ → Type 0). D 0) (sym none) refl);
+      objects = λ n d. let z : n ≡ 0 = subst (λ (D : ℕ → Type 0). D n) nil d in omega (arith, k .objects);
+      counted = (0, subst (λ (D : ℕ → Type 0). D 0) (sym nil) refl);
       slots = k .slots;
     }
 

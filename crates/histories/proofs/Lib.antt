@@ -2,3 +2,5 @@ pub mod Lists
 pub mod Stepping
 pub mod Chains
 pub mod Histories
+pub mod Doing
+pub mod Promised

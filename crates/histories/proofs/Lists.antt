@@ -16,7 +16,7 @@ use Rattle.word.proofs.Bools.{and-both, both-and}
 use Rattle.heap.specs.State.{Slot, noSlot, bit, times}
 use Rattle.heap.specs.Calls.{liveCount}
 use Rattle.heap.proofs.Sound.{liveBit}
-use Rattle.heap.proofs.Counting.{sum, sum-first}
+use Rattle.heap.proofs.Counting.{sum, sum-same, sum-const, sum-first}
 use Rattle.heap_calls.specs.Pins.{risingFrom}
 use Rattle.reach.specs.Reach.{_∈_}
 
@@ -39,8 +39,8 @@ live-push [] s = omega arith
 live-push (x ∷ xs) s = omega (arith, live-push xs s)
 
 pub live-sum : (slots : List Slot) → liveCount slots ≡ sum (length slots) (λ i. liveBit (getD slots i noSlot))
-unfolding liveCount sum
-live-sum [] = refl
+unfolding liveCount
+live-sum [] = sym (sum-same 0 (λ i. liveBit (getD [] i noSlot)) (λ i. 0) (λ i h. absurd (omega arith)) ∙ sum-const 0 0)
 live-sum (s ∷ ss) = omega (arith, live-sum ss, sum-first (length ss) (λ i. liveBit (getD (s ∷ ss) i noSlot)))
 
 -- a slot more, without an object

@@ -27,7 +27,7 @@ use Rattle.heap_edit.proofs.Cases.{edit-unresolved, edit-full, edit-done, write
 use Rattle.heap_edit.proofs.Soundness.{edit-sound, write-sound, reissue-sound, seal-sound, resolved-live}
 use Rattle.reach.specs.Reach.{_∈_}
 use Rattle.reach.proofs.Grown.{∈-one}
-use Rattle.histories.specs.Temporary.{isKind, allocating, recycling}
+use Rattle.object_door.specs.ObjectCalls.{isKind, allocating, recycling}
 use Rattle.histories.specs.Steps.{Step, alloc, reissue, edit, write, take, free, recycle, seal, ask, Told, Answer, nothing, handle, slot, object, answering, silently, asking}
 use Rattle.histories.specs.History.{handed, books, ifOk}
 use Rattle.histories.proofs.Lists.{pick, live-set, live-push, at-push}
@@ -199,7 +199,7 @@ module _ (S P kind type start : ℕ) (bytes : List ℕ) (h : State) (k : Sound S
         ]
       ]
 
-alloc-step : (S P kind type start : ℕ) (bytes : List ℕ) (h : State) → Sound S P h → Stepped S P (alloc kind type start bytes) h (answering handle (allocating S P kind type start bytes h))
+pub alloc-step : (S P kind type start : ℕ) (bytes : List ℕ) (h : State) → Sound S P h → Stepped S P (alloc kind type start bytes) h (answering handle (allocating S P kind type start bytes h))
 unfolding allocating
 alloc-step S P kind type start bytes h k =
     pick (λ (r : Changed ℕ). Stepped S P (alloc kind type start bytes) h (answering handle r)) (isKind kind)
@@ -217,7 +217,7 @@ module _ (S P : ℕ) (h : State) (k : Sound S P h) where
   rewrite-kept i start bytes h′ alive et es k′ =
       set-kept S P h h′ k′ i (rewritten (slotAt h i) start bytes) et es (live-inside h i alive) [] 0 0 0 (omega arith) no-issue refl refl
 
-  reissue-step : (i grown : ℕ) → Stepped S P (reissue i grown) h (answering handle (reissuing h i grown))
+  pub reissue-step : (i grown : ℕ) → Stepped S P (reissue i grown) h (answering handle (reissuing h i grown))
   reissue-step i grown = go (either (live (slotAt h i))) (ℕ-discrete (slotAt h i .generation) lastGeneration)
     where
       Q : Changed ℕ → Type 0
@@ -243,7 +243,7 @@ module _ (S P : ℕ) (h : State) (k : Sound S P h) where
       go (inl e) (yes g) = by-way S P Q (reissue-worn h i grown e g) k′ (λ q. same S P h k)
       go (inl e) (no g) = by-way S P Q (reissue-done h i grown e g) k′ (fresh e g)
 
-  edit-step : (x : ℕ) (bytes : List ℕ) (start : ℕ) → Stepped S P (edit x bytes start) h (answering slot (edited P h x bytes start))
+  pub edit-step : (x : ℕ) (bytes : List ℕ) (start : ℕ) → Stepped S P (edit x bytes start) h (answering slot (edited P h x bytes start))
   edit-step x bytes start = go (resolve h x) refl
     where
       Q : Changed ℕ → Type 0
@@ -260,7 +260,7 @@ module _ (S P : ℕ) (h : State) (k : Sound S P h) where
             | no b ↦ by-way S P Q (edit-done P h x bytes start i e (omega arith)) k′ (rewrite-kept i start bytes (withSlot (changed h i) i (rewritten (slotAt h i) start bytes)) (resolved-live h x i e) refl refl)
           ]
 
-  write-step : (i offset : ℕ) (bytes : List ℕ) → Stepped S P (write i offset bytes) h (silently (written h i offset bytes))
+  pub write-step : (i offset : ℕ) (bytes : List ℕ) → Stepped S P (write i offset bytes) h (silently (written h i offset bytes))
   write-step i offset bytes = go (either (live (slotAt h i)))
     where
       s : Slot
@@ -292,7 +292,7 @@ module _ (S P : ℕ) (h : State) (k : Sound S P h) where
       let most : slotAt h i .generation ≤ lastGeneration = k .each-slot i here .most in
       set-kept S P h (takeSlot h i .heap) (take-sound S P h i k alive) i (released (slotAt h i)) refl refl here [] 0 0 1 (omega arith) no-issue (omega arith) refl
 
-  take-step : (room x : ℕ) → Stepped S P (take room x) h (answering object (takeInto room h x))
+  pub take-step : (room x : ℕ) → Stepped S P (take room x) h (answering object (takeInto room h x))
   unfolding takeInto
   take-step room x = go (resolve h x) refl
     where
@@ -302,7 +302,7 @@ module _ (S P : ℕ) (h : State) (k : Sound S P h) where
           pick (λ (r : Changed Object). Stepped S P (take room x) h (answering object r)) (ltb room (length (slotAt h i .bytes))) (λ q. same S P h k)
           (λ q. take-kept i (resolved-live h x i e))
 
-  free-step : (x : ℕ) → Stepped S P (free x) h (silently (freed h x))
+  pub free-step : (x : ℕ) → Stepped S P (free x) h (silently (freed h x))
   unfolding freed
   free-step x = go (resolve h x) refl
     where
@@ -312,17 +312,17 @@ module _ (S P : ℕ) (h : State) (k : Sound S P h) where
 
   -- ---- recycle, seal, questions
 
-  recycle-step : (pins : List ℕ) → Stepped S P (recycle pins) h (silently (recycling pins h))
+  pub recycle-step : (pins : List ℕ) → Stepped S P (recycle pins) h (silently (recycling pins h))
   unfolding recycling
   recycle-step pins =
       pick (λ (r : Changed Unit). Stepped S P (recycle pins) h (silently r)) (rising pins)
       (λ e. stay S P h (recycled h pins) (recycle-sound S P h pins k) (unfold recycled in refl) (unfold recycled in refl))
       (λ e. same S P h k)
 
-  seal-step : Stepped S P seal h (silently (done tt (sealed h)))
+  pub seal-step : Stepped S P seal h (silently (done tt (sealed h)))
   seal-step = stay S P h (sealed h) (seal-sound S P h k) (unfold sealed in refl) (unfold sealed in refl)
 
-  ask-step : (question : State → Result Told) → Stepped S P (ask question) h (asking h (question h))
+  pub ask-step : (question : State → Result Told) → Stepped S P (ask question) h (asking h (question h))
   ask-step question = go (question h)
     where
       go : (r : Result Told) → Stepped S P (ask question) h (asking h r)

@@ -6,9 +6,9 @@ use Rattle.word.specs.Result.{Result, ok, refused}
 use Rattle.ty.specs.Types.{Table}
 use Rattle.heap.specs.State.{State}
 use Rattle.heap.specs.Calls.{Changed, Object, done, edit as edited, write as written, reissue as reissued, takeInto, free as freed, seal as sealed}
+use Rattle.object_door.specs.ObjectCalls.{allocating, recycling}
 use Rattle.collection.specs.Collected.{graph, starts, collected}
 use Rattle.collection.specs.Shown.{shown}
-use Rattle.histories.specs.Temporary.{allocating, recycling}
 
 -- the two numbers that a question answers
 pub record Told : Type 0 where
