@@ -31,7 +31,7 @@ use Rattle.run_door.specs.Run.{runTests}
 use Rattle.histories.specs.Steps.{Told, Step, alloc, reissue, edit, write, take, free, recycle, seal, collect, ask, Answer, nothing as silence, handle, slot, object, told, saying, answering, silently, doing}
 use Rattle.histories.specs.History.{after}
 use Rattle.histories.specs.Calls.{Scratch, Call, allocFrom, reissue as reissueCall, edit as editCall, write as writeCall, take as takeOut, free as freeCall, recycle as recycleCall, seal as sealCall, collect as collectCall, collectJoined, run, question, leaving, contract, turned, joinedStep, lineStep, unlessRefused, lineSteps, stepsOf, steps}
-use Rattle.histories.specs.Promises.{numbers, endedBy, ending, firstTold, saidOf, Does, CallsDoSteps}
+use Rattle.histories.specs.Promises.{numbers, endedBy, ending, firstTold, saidOf, Does, CallsDoSteps, toldBy, QuestionsAreCalls}
 use Rattle.histories.proofs.Histories.{after-grew}
 
 -- ---- what is done where the tests are passed, and where not
@@ -157,6 +157,18 @@ does-asking scratch tests l wf answer = go (admitted tests)
         (firstTold (slotCount l) (poolSize l) cs (view l))
     go Ready = unfold doing in record { leaves = formed-tested l wf .lies; tells = numbers-told (answer (view l)) }
     go (Not why) = turned-away {A = Told} (λ (t : Told). t .first) (λ (t : Told). t .second) scratch tests l wf why (scratchAfter (Not why) scratch)
+
+pub questions-are-calls : QuestionsAreCalls
+unfolding replying
+questions-are-calls first second s more l question′ = go (admitted (heapTests (s .marks) (s .work) l ++ more)) (question′ (view l))
+  where
+    go : (e : Entry) (r : Result _)
+        → leaving l (whether e (λ why. askedOf (refusedBy (numberOf why)) (scratchAfter (Not why) (s .marks ∷ s .work ∷ []))) (askedOf (answered first second r) (map zeros (s .marks ∷ s .work ∷ []))))
+        ≡ leaving l (whether e (λ why. askedOf (refusedBy (numberOf why)) (scratchAfter (Not why) (s .marks ∷ s .work ∷ [])))
+        (askedOf (answered (λ (t : Told). t .first) (λ (t : Told). t .second) (toldBy first second r)) (map zeros (s .marks ∷ s .work ∷ []))))
+    go Ready (ok a) = refl
+    go Ready (refused n) = refl
+    go (Not why) r = refl
 
 -- ---- every call
 

@@ -4,3 +4,4 @@ pub mod Chains
 pub mod Histories
 pub mod Doing
 pub mod Promised
+pub mod Examples

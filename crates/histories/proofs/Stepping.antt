@@ -28,7 +28,7 @@ use Rattle.heap_edit.proofs.Soundness.{edit-sound, write-sound, reissue-sound, 
 use Rattle.reach.specs.Reach.{_∈_}
 use Rattle.reach.proofs.Grown.{∈-one}
 use Rattle.object_door.specs.ObjectCalls.{isKind, allocating, recycling}
-use Rattle.histories.specs.Steps.{Step, alloc, reissue, edit, write, take, free, recycle, seal, ask, Told, Answer, nothing, handle, slot, object, answering, silently, asking}
+use Rattle.histories.specs.Steps.{Step, alloc, reissue, edit, write, take, free, recycle, seal, ask, Told, Answer, slot, object, answering, issuing, silently, asking}
 use Rattle.histories.specs.History.{handed, books, ifOk}
 use Rattle.histories.proofs.Lists.{pick, live-set, live-push, at-push}
 
@@ -140,7 +140,7 @@ module _ (S P kind type start : ℕ) (bytes : List ℕ) (h : State) (k : Sound S
   paid = charged h (length bytes + 32)
 
   abbrev Allocs : Changed ℕ → Type 0
-  Allocs r = Stepped S P (alloc kind type start bytes) h (answering handle r)
+  Allocs r = Stepped S P (alloc kind type start bytes) h (issuing r)
 
   -- into the last free slot
   into-free : 0 < length (h .free) → Sound S P (placed (withFree paid (butLast (h .free))) (last (h .free)) kind type start bytes .heap)
@@ -199,10 +199,10 @@ module _ (S P kind type start : ℕ) (bytes : List ℕ) (h : State) (k : Sound S
         ]
       ]
 
-pub alloc-step : (S P kind type start : ℕ) (bytes : List ℕ) (h : State) → Sound S P h → Stepped S P (alloc kind type start bytes) h (answering handle (allocating S P kind type start bytes h))
+pub alloc-step : (S P kind type start : ℕ) (bytes : List ℕ) (h : State) → Sound S P h → Stepped S P (alloc kind type start bytes) h (issuing (allocating S P kind type start bytes h))
 unfolding allocating
 alloc-step S P kind type start bytes h k =
-    pick (λ (r : Changed ℕ). Stepped S P (alloc kind type start bytes) h (answering handle r)) (isKind kind)
+    pick (λ (r : Changed ℕ). Stepped S P (alloc kind type start bytes) h (issuing r)) (isKind kind)
     (λ e.
     let ks = and-both (leb 1 kind) (leb kind 3) e in
     alloc-right-kind S P kind type start bytes h k (leb-true 1 kind (ks .0)) (leb-true kind 3 (ks .1)))
@@ -217,11 +217,11 @@ module _ (S P : ℕ) (h : State) (k : Sound S P h) where
   rewrite-kept i start bytes h′ alive et es k′ =
       set-kept S P h h′ k′ i (rewritten (slotAt h i) start bytes) et es (live-inside h i alive) [] 0 0 0 (omega arith) no-issue refl refl
 
-  pub reissue-step : (i grown : ℕ) → Stepped S P (reissue i grown) h (answering handle (reissuing h i grown))
+  pub reissue-step : (i grown : ℕ) → Stepped S P (reissue i grown) h (issuing (reissuing h i grown))
   reissue-step i grown = go (either (live (slotAt h i))) (ℕ-discrete (slotAt h i .generation) lastGeneration)
     where
       Q : Changed ℕ → Type 0
-      Q r = Stepped S P (reissue i grown) h (answering handle r)
+      Q r = Stepped S P (reissue i grown) h (issuing r)
 
       k′ : Sound S P (reissuing h i grown .heap)
       k′ = reissue-sound S P h i grown k

@@ -13,10 +13,11 @@ use Rattle.heap.specs.Lent.{Lent, stored, view, slotCount, poolSize}
 use Rattle.heap.specs.WellFormed.{wellFormed}
 use Rattle.heap.specs.Calls.{liveCount}
 use Rattle.heap_calls.specs.Objects.{sizeOf, startOf}
+use Rattle.door.specs.HeapCalls.{Test, heapTests, asking}
 use Rattle.object_door.specs.Making.{newCall}
-use Rattle.histories.specs.Steps.{Step, Answer, nothing, handle, slot, object, told, doing}
+use Rattle.histories.specs.Steps.{Told, Step, Answer, nothing, handle, slot, object, told, doing}
 use Rattle.histories.specs.History.{Books, after, issued, Distinct, Resolves, total, Lost}
-use Rattle.histories.specs.Calls.{Scratch, Call, allocFrom, reissue, edit, write, take, free, recycle, seal, collect, collectJoined, run, question, contract, steps, Made, left, allSteps}
+use Rattle.histories.specs.Calls.{Scratch, Call, allocFrom, reissue, edit, write, take, free, recycle, seal, collect, collectJoined, run, question, leaving, contract, steps, Made, left, allSteps}
 
 -- ---- a call does its steps
 
@@ -65,6 +66,16 @@ pub record Does (s : Scratch) (c : Call) (l : Lent) : Type 0 where
 
 abbrev pub CallsDoSteps : Type 0
 CallsDoSteps = (s : Scratch) (c : Call) (l : Lent) → wellFormed l ≡ true → Does s c l
+
+-- every question is one of these: its answer's numbers, read off its value by `first` and `second`, are what is told of it
+abbrev pub toldBy : {A : Type 0} → (first second : A → ℕ) → Result A → Result Told
+toldBy first second (ok a) = ok (record { first = first a; second = second a })
+toldBy first second (refused n) = refused n
+
+abbrev pub QuestionsAreCalls : Type 1
+QuestionsAreCalls =
+    {A : Type 0} (first second : A → ℕ) (s : Scratch) (more : List Test) (l : Lent) (ask : State → Result A)
+    → leaving l (asking first second (s .marks ∷ s .work ∷ []) (heapTests (s .marks) (s .work) l ++ more) l ask) ≡ contract s (question more (λ h. toldBy first second (ask h))) l
 
 -- ---- histories from lent memory l that is well formed
 

@@ -44,6 +44,10 @@ saying f (refused n) = refused n
 abbrev pub answering : {A : Type 0} → (A → Answer) → Changed A → Changed Answer
 answering f c = record { answer = saying f (c .answer); heap = c .heap }
 
+-- `alloc` and `reissue` answer the handle that they issue
+abbrev pub issuing : Changed ℕ → Changed Answer
+issuing c = answering handle c
+
 abbrev pub silently : Changed Unit → Changed Answer
 silently c = answering (λ _. nothing) c
 
@@ -51,8 +55,8 @@ abbrev pub asking : State → Result Told → Changed Answer
 asking h r = record { answer = saying told r; heap = h }
 
 unfoldable pub doing : (S P : ℕ) → Step → State → Changed Answer
-doing S P (alloc kind type start bytes) h = answering handle (allocating S P kind type start bytes h)
-doing S P (reissue i grown) h = answering handle (reissued h i grown)
+doing S P (alloc kind type start bytes) h = issuing (allocating S P kind type start bytes h)
+doing S P (reissue i grown) h = issuing (reissued h i grown)
 doing S P (edit x bytes start) h = answering slot (edited P h x bytes start)
 doing S P (write i offset bytes) h = silently (written h i offset bytes)
 doing S P (take room x) h = answering object (takeInto room h x)
