@@ -160,9 +160,9 @@ does-asking scratch tests l wf answer = go (admitted tests)
 
 pub questions-are-calls : QuestionsAreCalls
 unfolding replying
-questions-are-calls first second s more l question′ = go (admitted (heapTests (s .marks) (s .work) l ++ more)) (question′ (view l))
+questions-are-calls A first second s more l question′ = go (admitted (heapTests (s .marks) (s .work) l ++ more)) (question′ (view l))
   where
-    go : (e : Entry) (r : Result _)
+    go : (e : Entry) (r : Result A)
         → leaving l (whether e (λ why. askedOf (refusedBy (numberOf why)) (scratchAfter (Not why) (s .marks ∷ s .work ∷ []))) (askedOf (answered first second r) (map zeros (s .marks ∷ s .work ∷ []))))
         ≡ leaving l (whether e (λ why. askedOf (refusedBy (numberOf why)) (scratchAfter (Not why) (s .marks ∷ s .work ∷ [])))
         (askedOf (answered (λ (t : Told). t .first) (λ (t : Told). t .second) (toldBy first second r)) (map zeros (s .marks ∷ s .work ∷ []))))

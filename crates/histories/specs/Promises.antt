@@ -74,7 +74,7 @@ toldBy first second (refused n) = refused n
 
 abbrev pub QuestionsAreCalls : Type 1
 QuestionsAreCalls =
-    {A : Type 0} (first second : A → ℕ) (s : Scratch) (more : List Test) (l : Lent) (ask : State → Result A)
+    (A : Type 0) (first second : A → ℕ) (s : Scratch) (more : List Test) (l : Lent) (ask : State → Result A)
     → leaving l (asking first second (s .marks ∷ s .work ∷ []) (heapTests (s .marks) (s .work) l ++ more) l ask) ≡ contract s (question more (λ h. toldBy first second (ask h))) l
 
 -- ---- histories from lent memory l that is well formed
