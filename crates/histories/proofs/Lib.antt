@@ -4,4 +4,5 @@ pub mod Chains
 pub mod Histories
 pub mod Doing
 pub mod Promised
+pub mod Taking
 pub mod Examples

@@ -31,6 +31,9 @@ pub record Scratch : Type 0 where
   pub rows : List ℕ
   pub room : List ℕ
 
+abbrev pub lending : (marks work : List ℕ) → Scratch
+lending marks work = record { marks = marks; work = work; rows = []; room = [] }
+
 -- Each call with its arguments. `alloc` is `allocFrom` with start 0. `question` is each call that is lent a heap to read: what it asks beside scratch and heap, and what
 -- it asks of the heap.
 pub data Call : Type 0 where
