@@ -18,7 +18,7 @@ use Rattle.object_door.proofs.Made.{new-formed}
 use Rattle.histories.specs.Steps.{Step}
 use Rattle.histories.specs.History.{after, Resolves, total}
 use Rattle.histories.specs.Calls.{Scratch, Call, contract, steps, Made, left, allSteps}
-use Rattle.histories.specs.Promises.{Does, heapAfter, counting, LostBy, Promises, NoHandleTwice}
+use Rattle.histories.specs.Promises.{Does, heapAfter, counting, LostBy, Promises, NoHandleTwice, NoHandleTwiceFrom}
 use Rattle.histories.proofs.Histories.{after-grew, after-append, once, never, objects, counted, slots}
 use Rattle.histories.proofs.Doing.{calls-do-steps}
 
@@ -107,8 +107,8 @@ module _ (l : Lent) (wf : wellFormed l ≡ true) (ms : List Made) where
       (λ q. gone (subst (λ (h : State). Resolves h x) (sym (ap view e₂ ∙ a .heap)) q))
       (subst (λ (h : State). Resolves h x) (ap view e₃ ∙ after₂) back)
 
-  promised : liveCount (view l .slots) ≡ 0 → length (view l .slots) ≡ 0 → Promises l ms
-  promised dead empty =
+  promised : Promises l (liveCount (view l .slots)) (length (view l .slots)) ms
+  promised =
       record {
         once = once S P (allSteps ms l) (view l) sound-in;
         never = never-again;
@@ -116,6 +116,9 @@ module _ (l : Lent) (wf : wellFormed l ≡ true) (ms : List Made) where
         counted = counted S P (allSteps ms l) (view l) sound-in;
         slots = omega (arith, slots S P (allSteps ms l) (view l) sound-in, ap (λ (h : State). length (h .slots)) (met .heap));
       }
+
+pub no-handle-twice-from : NoHandleTwiceFrom
+no-handle-twice-from l wf ms = promised l wf ms
 
 new-dead : (tag : ℕ) → liveCount (new tag .slots) ≡ 0
 unfolding new liveCount
@@ -129,4 +132,6 @@ pub no-handle-twice : NoHandleTwice
 no-handle-twice marks work narrow wide pool tag made ms =
     let l : Lent = newCall marks work narrow wide pool tag .heap in
     let f = new-formed marks work narrow wide pool tag made in
-    promised l (f .0) ms (ap (λ (h : State). liveCount (h .slots)) (f .1) ∙ new-dead tag) (ap (λ (h : State). length (h .slots)) (f .1) ∙ new-empty tag)
+    let none-held : liveCount (view l .slots) ≡ 0 = ap (λ (h : State). liveCount (h .slots)) (f .1) ∙ new-dead tag in
+    let none-there : length (view l .slots) ≡ 0 = ap (λ (h : State). length (h .slots)) (f .1) ∙ new-empty tag in
+    subst (λ (n : ℕ). Promises l n 0 ms) none-held (subst (λ (n : ℕ). Promises l (liveCount (view l .slots)) n ms) none-there (promised l (f .0) ms))

@@ -91,19 +91,24 @@ counting f l ms = total f (slotCount l) (poolSize l) (allSteps ms l) (view l)
 abbrev pub LostBy : Lent → List Made → ℕ → Type 0
 LostBy l ms n = Lost (slotCount l) (poolSize l) (allSteps ms l) (view l) n
 
-pub record Promises (l : Lent) (ms : List Made) : Type 0 where
+-- what holds of every history from l, where so many objects and slots were there at the start
+pub record Promises (l : Lent) (held there : ℕ) (ms : List Made) : Type 0 where
   -- no two handles issued by `alloc` or `reissue` are equal
   pub once : Distinct (issuedBy l ms)
   -- a handle that has stopped resolving never resolves again
   pub never : (next later : List Made) (x : ℕ) → Resolves (heapAfter l ms) x → (Resolves (heapAfter l (ms ++ next)) x → ⊥) → Resolves (heapAfter l (ms ++ next ++ later)) x → ⊥
   -- the number of live objects equals allocations that succeeded, less takes and frees that did, less the unreached that collections dropped
-  pub objects : (lost : ℕ) → LostBy l ms lost → liveCount (heapAfter l ms .slots) + (counting (λ b. b .removed) l ms + lost) ≡ counting (λ b. b .placed) l ms
+  pub objects : (lost : ℕ) → LostBy l ms lost → liveCount (heapAfter l ms .slots) + (counting (λ b. b .removed) l ms + lost) ≡ held + counting (λ b. b .placed) l ms
   pub counted : (lost : ℕ) × LostBy l ms lost
   -- the slot count equals the allocations that found the free list empty and succeeded
-  pub slots : length (heapAfter l ms .slots) ≡ counting (λ b. b .grown) l ms
+  pub slots : length (heapAfter l ms .slots) ≡ there + counting (λ b. b .grown) l ms
 
 -- from a new heap, through calls of every sort
 abbrev pub NoHandleTwice : Type 0
 NoHandleTwice =
     (marks work narrow wide pool : List ℕ) (tag : ℕ) → newCall marks work narrow wide pool tag .answer .number ≡ 0
-    → (ms : List Made) → Promises (newCall marks work narrow wide pool tag .heap) ms
+    → (ms : List Made) → Promises (newCall marks work narrow wide pool tag .heap) 0 0 ms
+
+-- and from any heap, one that was read from a page too, with what was there at the start
+abbrev pub NoHandleTwiceFrom : Type 0
+NoHandleTwiceFrom = (l : Lent) → wellFormed l ≡ true → (ms : List Made) → Promises l (liveCount (view l .slots)) (length (view l .slots)) ms
