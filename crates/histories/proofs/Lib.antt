@@ -4,5 +4,6 @@ pub mod Chains
 pub mod Histories
 pub mod Doing
 pub mod Promised
+pub mod Joining
 pub mod Taking
 pub mod Examples

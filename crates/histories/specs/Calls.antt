@@ -91,11 +91,16 @@ testsOf s (question more answer) l = heapTests (s .marks) (s .work) l ++ more
 abbrev pub turned : ℕ → Step
 turned n = ask (λ h. refused n)
 
--- the joined collection: from the frame's handles and the values of the root registers; 13 where the frame map can't be traced
+-- the joined collection is a collection from the frame's handles and the values of the root registers, with the pins in effect; 13 where the frame map can't be traced
+abbrev pub joinedRoots : Asked → (handles : List ℕ) → List ℕ
+joinedRoots a handles = handles ++ valuesOf (a .values) (rootRegisters (function (a .code)) (a .pc))
+
+abbrev pub joinedPins : Asked → List ℕ
+joinedPins a = pinsAt (function (a .code)) (a .pc) (a .values) (pinning a)
+
 abbrev pub joinedStep : Asked → (handles : Option (List ℕ)) → Step
 joinedStep a none = turned 13
-joinedStep a (some handles) =
-    collectStep (table a) (handles ++ valuesOf (a .values) (rootRegisters (function (a .code)) (a .pc))) (pinsAt (function (a .code)) (a .pc) (a .values) (pinning a))
+joinedStep a (some handles) = collectStep (table a) (joinedRoots a handles) (joinedPins a)
 
 -- a line of a script: its `take` hands out no object; a line that is no call's is 17
 abbrev pub lineStep : Option LineCall → Step

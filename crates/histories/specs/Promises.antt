@@ -13,11 +13,15 @@ use Rattle.heap.specs.Lent.{Lent, stored, view, slotCount, poolSize}
 use Rattle.heap.specs.WellFormed.{wellFormed}
 use Rattle.heap.specs.Calls.{liveCount}
 use Rattle.heap_calls.specs.Objects.{sizeOf, startOf}
-use Rattle.door.specs.HeapCalls.{Test, heapTests, asking}
+use Rattle.collection.specs.Collected.{starts}
+use Rattle.door.specs.HeapCalls.{Test, admitted, heapTests, asking}
+use Rattle.door.specs.declared.Entry.the-variants.{Ready}
+use Rattle.collect_door.specs.Calls.{Asked}
+use Rattle.collect_door.specs.Demand.{StartsAt}
 use Rattle.object_door.specs.Making.{newCall}
 use Rattle.histories.specs.Steps.{Told, Step, Answer, nothing, handle, slot, object, told, doing}
 use Rattle.histories.specs.History.{Books, after, issued, Distinct, Resolves, total, Lost}
-use Rattle.histories.specs.Calls.{Scratch, Call, allocFrom, reissue, edit, write, take, free, recycle, seal, collect, collectJoined, run, question, leaving, contract, steps, Made, left, allSteps}
+use Rattle.histories.specs.Calls.{Scratch, Call, allocFrom, reissue, edit, write, take, free, recycle, seal, collect, collectJoined, run, question, leaving, contract, testsOf, joinedRoots, joinedPins, steps, Made, left, allSteps}
 
 -- ---- a call does its steps
 
@@ -66,6 +70,11 @@ pub record Does (s : Scratch) (c : Call) (l : Lent) : Type 0 where
 
 abbrev pub CallsDoSteps : Type 0
 CallsDoSteps = (s : Scratch) (c : Call) (l : Lent) → wellFormed l ≡ true → Does s c l
+
+-- the chains that a joined collection's unreached are counted by start where demand 3 says: at what walks over the code find
+abbrev pub JoinedChains : Type 0
+JoinedChains =
+    (s : Scratch) (a : Asked) (l : Lent) (handles : List ℕ) → admitted (testsOf s (collectJoined a) l) ≡ Ready → StartsAt a l handles (starts (view l) (joinedRoots a handles) (joinedPins a))
 
 -- every question is one of these: its answer's numbers, read off its value by `first` and `second`, are what is told of it
 abbrev pub toldBy : {A : Type 0} → (first second : A → ℕ) → Result A → Result Told
