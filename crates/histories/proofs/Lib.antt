@@ -1,0 +1,9 @@
+pub mod Lists
+pub mod Stepping
+pub mod Chains
+pub mod Histories
+pub mod Doing
+pub mod Promised
+pub mod Joining
+pub mod Taking
+pub mod Examples
