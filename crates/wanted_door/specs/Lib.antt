@@ -1,0 +1,2 @@
+pub mod RootsFor
+pub mod inner
