@@ -76,7 +76,7 @@ sorted-same T asym (x ∷ xs) (y ∷ ys) s u f g =
     irr a v t q = let w : T a a = subst (T a) q t in asym a a w w
 
 -- where W rises, later is greater
-rising-at : (W : List ℕ) → Rising W → (j k : ℕ) → j < k → k < length W → getD W j 0 < getD W k 0
+pub rising-at : (W : List ℕ) → Rising W → (j k : ℕ) → j < k → k < length W → getD W j 0 < getD W k 0
 rising-at [] up j k a b = absurd (omega arith)
 rising-at (w ∷ ws) up zero zero a b = absurd (omega arith)
 rising-at (w ∷ ws) up zero (suc k) a b = up .0 (getD ws k 0) (∈-getD ws k (omega arith))
