@@ -39,7 +39,7 @@ module _ (h : State) (handles : ℕ → Option (List ℕ)) where
         alive = λ x i e. resolved-live h x i (found-ok (resolve h x) i e) .0;
         named = λ i l.
             let b = live-inside h i l in
-            ap found (resolve-packed (h .tag) (λ j. live (slotAt h j)) (λ j. slotAt h j .generation) i (omega (arith, sound .slots-fit, sound .slot-range .1)) (sound .each-slot i b .aged) (aged i b) l);
+            ap found (resolve-packed (h .tag) (length (h .slots)) (λ j. live (slotAt h j)) (λ j. slotAt h j .generation) i (omega (arith, sound .slots-fit, sound .slot-range .1)) b (sound .each-slot i b .aged) (aged i b) l);
       }
 
   module _ (pins W : List ℕ) where

@@ -45,20 +45,20 @@ note-else u v d notes w h f i = go (ℕ-discrete i w)
 -- ---- one slot met
 
 module _ (G : Graph) (n v w : ℕ) (g : Going) where
-  meeting-old : (getD (g .state .marks) w 0 ≡ 0 → ⊥) → meeting G n v w g ≡ some g
+  pub meeting-old : (getD (g .state .marks) w 0 ≡ 0 → ⊥) → meeting G n v w g ≡ some g
   unfolding meeting
   meeting-old h = rw (ne-eqb (getD (g .state .marks) w 0) 0 h)
 
-  meeting-new : getD (g .state .marks) w 0 ≡ 0 → (o : Option State) → drained G (n - length (g .state .queue)) (visit (g .state) w) (length (g .state .queue)) ≡ o → meeting G n v w g ≡ noting o (set (g .notes) w v)
+  pub meeting-new : getD (g .state .marks) w 0 ≡ 0 → (o : Option State) → drained G (n - length (g .state .queue)) (visit (g .state) w) (length (g .state .queue)) ≡ o → meeting G n v w g ≡ noting o (set (g .notes) w v)
   unfolding meeting
   meeting-new h o e = rw (eq-eqb (getD (g .state .marks) w 0) 0 h) (ap (λ (x : Option State). noting x (set (g .notes) w v)) e)
 
 module _ (G : Graph) (n w : ℕ) (g : Going) where
-  again-yes : noted 1 (g .notes) w ≡ true → again G n w g ≡ meeting G n 2 w g
+  pub again-yes : noted 1 (g .notes) w ≡ true → again G n w g ≡ meeting G n 2 w g
   unfolding again
   again-yes e = rw e
 
-  again-no : noted 1 (g .notes) w ≡ false → again G n w g ≡ some g
+  pub again-no : noted 1 (g .notes) w ≡ false → again G n w g ≡ some g
   unfolding again
   again-no e = rw e
 

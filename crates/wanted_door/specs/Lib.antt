@@ -1,2 +1,1 @@
-pub mod RootsFor
 pub mod inner

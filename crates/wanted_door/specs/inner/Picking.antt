@@ -1,36 +1,40 @@
--- What the inner functions of the search for roots say of marks and work.
+-- What the inner functions of the search for roots say of marks and work: the marking as crate `mark` has it, the notes in the upper halves of the words.
 use mathlib.Core.Path.{_≡_}
-use mathlib.Core.Bool.{Bool}
-use mathlib.Core.Logic.{_⊎_}
+use mathlib.Core.Bool.{Bool, true, false}
 use mathlib.Core.List.{List, map}
 use mathlib.Core.Option.{Option, none, some}
-use Prim.Native.Nat.{ℕ, _-_}
-use lib.ListN.{length, getD, set}
-use lib.Dec.{eqb}
-use Rattle.reach.specs.Reach.{Graph, Starts}
-use Rattle.reach.specs.Marking.{State, visit, drained}
+use Prim.Native.Nat.{ℕ, _≤_, _<_}
+use lib.ListN.{length, getD, replicate}
 use Rattle.trace.specs.declared.Answer.{Answer}
 use Rattle.trace.specs.declared.Answer.the-variants.{Traced, Untraceable}
 use Rattle.mark.specs.Scratch.{high, stateOf, Scratch}
+use Rattle.wanted.specs.Search.{Going, going}
 
--- the flag v is noted of slot i
-abbrev pub flagged : (v : ℕ) (work : List ℕ) → ℕ → Bool
-flagged v work i = eqb (high (getD work i 0)) v
+-- the marking and the notes that marks and work hold
+abbrev pub goingOf : (marks work : List ℕ) (n : ℕ) → Going
+goingOf marks work n = going (stateOf marks work n) (map high work)
 
--- slot w was marked already, and nothing changed; or it and what it leads to were marked, and the flag was noted of it
-pub record Picked (G : Graph) (slots w flag : ℕ) (marks work : List ℕ) (n c : ℕ) (marks′ work′ : List ℕ) : Type 0 where
-  pub fresh : getD marks w 0 ≡ 0
-  pub drains : drained G (slots - n) (visit (stateOf marks work n) w) n ≡ some (stateOf marks′ work′ c)
-  pub scratch : Scratch slots marks′ work′ c
-  pub noted : map high work′ ≡ set (map high work) w flag
+-- what the answer of a step says, with marks and work as they are then
+abbrev pub Goes : Answer → (slots : ℕ) (marks work : List ℕ) → Option Going → Type 0
+Goes (Traced n) slots marks work o = (o ≡ some (goingOf marks work n)) × Scratch slots marks work n
+Goes Untraceable slots marks work o = o ≡ none
 
-pub record Passed (w : ℕ) (marks work : List ℕ) (n c : ℕ) (marks′ work′ : List ℕ) : Type 0 where
-  pub old : getD marks w 0 ≡ 0 → ⊥
-  pub same-marks : marks′ ≡ marks
-  pub same-work : work′ ≡ work
-  pub same-count : c ≡ n
+-- the notes, if they were made
+abbrev pub notesIf : Bool → (work : List ℕ) → Option (List ℕ)
+notesIf true work = some (map high work)
+notesIf false work = none
 
--- what the answer says, with the marks and the work after it
-abbrev pub Considered : Graph → (slots w flag : ℕ) (marks work : List ℕ) (n : ℕ) → Answer → (marks′ work′ : List ℕ) → Type 0
-Considered G slots w flag marks work n (Traced c) marks′ work′ = Passed w marks work n c marks′ work′ ⊎ Picked G slots w flag marks work n c marks′ work′
-Considered G slots w flag marks work n Untraceable marks′ work′ = (getD marks w 0 ≡ 0) × (drained G (slots - n) (visit (stateOf marks work n) w) n ≡ none)
+-- each slot of W is one of so many
+abbrev pub Inside : (W : List ℕ) (slots : ℕ) → Type 0
+Inside W slots = (k : ℕ) → k < length W → getD W k 0 < slots
+
+-- room for a marking of so many slots
+pub record Room (slots : ℕ) (marks work : List ℕ) : Type 0 where
+  pub few : slots ≤ 16777216
+  pub size : length marks ≡ slots
+  pub words : slots ≤ length work
+
+-- and nothing marked yet
+pub record Clear (slots : ℕ) (marks work : List ℕ) : Type 0 where
+  pub room : Room slots marks work
+  pub clear : marks ≡ replicate slots 0
