@@ -10,16 +10,17 @@ import argparse
 import random
 import sys
 
+from known import COLUMNS, COLUMNS_64, NAMES
 from machine import Hang, Oracle
 from table import (
     ACCESS, ARRAY, ENUM, FILE, INT, NO_CONST, PHYSICAL, PROTECTED, REAL, RECORD, UNFOLDING, Table, Refused, Apart, dimension, show_hex,
 )
 
 U32 = (1 << 32) - 1
+# More steps than an episode takes one slot.
+FAR = 10000
 U64 = (1 << 64) - 1
 I64 = 1 << 63
-NAMES = "tag,since_gc,reclaim_at,live_bytes,slots,free,quarantine,sealed"
-COLUMNS = "generation,kind,type,start,writes,data"
 
 
 class Limits:
@@ -261,7 +262,8 @@ class Writer:
         self.old, self.rows, self.free, self.quarantine = [], [], [], []
         # Handles inside the data may lead to any slot, so the generations come first.
         for _ in range(n):
-            g = self.pick((3, self.r.randint(1, 5)), (3, U32), (2, U32 - 1), (1, self.r.randint(1, U32)))
+            # No generation may come to its end, where the Rust starts again at 1.
+            g = self.pick((3, self.r.randint(1, 5)), (3, U32 - FAR), (2, U32 - FAR - 1), (1, self.r.randint(1, U32 - FAR)))
             self.rows.append(Row(g, 2, 0, 0, b""))
         self.states(n)
         self.do(f"load {self.S} {self.page_text()} {self.pool}")
@@ -296,14 +298,18 @@ class Writer:
         reclaim = self.pick((3, 4096), (1, 4098), (1, 33554432), (1, 2 * self.r.randint(2048, 16777216)))
         head = [self.tag, self.r.choice(counts), reclaim, self.r.choice(counts)]
         head += [len(self.rows), len(self.free), len(self.quarantine), len(sealed)]
-        out = [NAMES, ",".join(map(str, head)), COLUMNS]
+        # Names of the earlier form and of the later, in any mixture.
+        names, lists = NAMES, [("free", self.free), ("quarantine", self.quarantine), ("sealed", sealed)]
+        if self.chance(0.5):
+            names, head, lists = names + ",retired", head + [0], lists + [("retired", [])]
+        out = [names, ",".join(map(str, head)), self.r.choice([COLUMNS, COLUMNS_64])]
         for s in self.rows:
             if s.data is None:
                 out.append(f"{s.generation},0,0,0,0,")
             else:
                 writes = self.pick((3, self.r.randint(0, 9)), (2, self.limits.writes), (1, self.limits.writes - 1))
                 out.append(f"{s.generation},{s.kind},{s.type},{s.start},{writes},{s.data.hex()}")
-        for name, values in (("free", self.free), ("quarantine", self.quarantine), ("sealed", sealed)):
+        for name, values in lists:
             out += [name] + list(map(str, values))
         return ";".join(out) + ";"
 
@@ -406,14 +412,14 @@ class Writer:
             s.data, s.sure = s.data[:at] + data + s.data[at + len(data) :], None
 
     def reissue(self, i=None):
-        if not self.rows:
+        # The Rust reissues dead slots too.
+        live = self.live()
+        if not live:
             return
         if i is None:
-            live = self.live()
-            i = self.r.choice(live) if live and self.chance(0.7) else self.r.randrange(len(self.rows))
+            i = self.r.choice(live)
         grown = self.pick((6, self.r.randint(0, 100)), (1, U64), (1, self.r.getrandbits(64)))
-        if self.rows[i].data is not None:
-            self.forget(self.handle_of(i))
+        self.forget(self.handle_of(i))
         h = int(self.do(f"reissue {i} {grown}").split(" ")[1])
         self.rows[i].generation = h & U32
 
@@ -424,7 +430,7 @@ class Writer:
             self.forget(h)
             s = self.rows[i]
             s.data, s.kind, s.type, s.start = None, 0, 0, 0
-            s.generation = 1 if s.generation == U32 else s.generation + 1
+            s.generation += 1
             self.quarantine.append(i)
 
     def recycle(self):
@@ -804,7 +810,7 @@ class Script:
         self.live, self.free, self.quarantine = writer.live(), list(writer.free), list(writer.quarantine)
 
     def step(self, i):
-        self.generations[i] = self.generations[i] % U32 + 1
+        self.generations[i] += 1
 
     def alloc(self, kind, t, data):
         w = self.w

@@ -14,6 +14,7 @@
  *   narrow   six runs of S numbers, run after run: generation, kind (0 dead, 1 Typed, 2 Bytes, 3 Handles), type, free list, quarantine, retired slots
  *   wide     four runs of S numbers: start, end, writes, sealed handles
  *   pool     the data of all objects, in slot order from byte 0 on
+ * A slot that dies at the generation 4,294,967,295, or comes to it so, retires where it would become free: its handles stay dead.
  * The header goes in by value and comes back in the answer of a call that may change it: take it from there, after a refusal too. `marks` and `work` are scratch,
  * each at least as long as there are slots.
  */
@@ -49,7 +50,8 @@ enum {
     YEXWALU_NO_MAP = 16,
     YEXWALU_PAGE = 17,
     YEXWALU_SCRATCH = 18,
-    YEXWALU_NEVER_ISSUED = 19
+    YEXWALU_NEVER_ISSUED = 19,
+    YEXWALU_WORN_OUT = 20
 };
 
 /* The kinds of objects. */
@@ -179,7 +181,7 @@ yexwalu_done yexwalu_free(
     uint8_t *marks, size_t marks_len,
     uint64_t *work, size_t work_len);
 
-/* Moves the slots in quarantine but those pinned to the free list. Pins are slot indices, strictly rising (14). 18, 1, 14. */
+/* Moves the slots in quarantine but those pinned to the free list, or to the retired list where they have the last generation. Pins are slot indices, strictly rising (14). 18, 1, 14. */
 yexwalu_done yexwalu_recycle(
     yexwalu_header heap,
     uint32_t *narrow, size_t narrow_len,
@@ -289,7 +291,7 @@ yexwalu_answer yexwalu_stamp(
 
 /* ---- Changes in place ---- */
 
-/* A new handle for slot `i`, also for a dead one. first: the handle. 18, 1, 9. */
+/* A new handle for the live slot `i`; 20 where it has the last generation, 4,294,967,295. first: the handle. 18, 1, 9, 20. */
 yexwalu_done yexwalu_reissue(
     yexwalu_header heap,
     uint32_t *narrow, size_t narrow_len,

@@ -26,7 +26,7 @@ pub struct Header {
     pub free: usize,
     /// How many slots are in quarantine.
     pub quarantine: usize,
-    /// How many slots are retired: none.
+    /// How many slots are retired: dead, at the last generation, and never given out again.
     pub retired: usize,
     /// How many handles are sealed.
     pub sealed: usize,

@@ -1,6 +1,6 @@
 use std::fmt;
 
-/// Why a call was not done: a row of document 01's table, by its number and its word. The table may get more rows. Where several would refuse a call, 18 comes first, then 17, 1, 10, 15, 8, 14, 16, 2, 3, 19, 4, 9, 6, 5, then 11 or 12 as met,
+/// Why a call was not done: a row of document 01's table, by its number and its word. The table may get more rows. Where several would refuse a call, 18 comes first, then 17, 1, 10, 15, 8, 14, 16, 2, 3, 19, 4, 9, 20, 6, 5, then 11 or 12 as met,
 /// 13 and 7.
 ///
 /// ```
@@ -28,7 +28,7 @@ pub enum Refusal {
     ShortList = 7,
     /// 8, kind: not a kind of object.
     Kind = 8,
-    /// 9, nothing there: no such slot, or no such visible bytes.
+    /// 9, nothing there: no such slot, no live one, or no such visible bytes.
     NothingThere = 9,
     /// 10, type table: the type table is not in order.
     TypeTable = 10,
@@ -50,11 +50,13 @@ pub enum Refusal {
     Scratch = 18,
     /// 19, never issued: a handle of this heap's tag whose slot the heap has never had.
     NeverIssued = 19,
+    /// 20, worn out: a slot that has its last generation gets no other handle.
+    WornOut = 20,
 }
 
 use Refusal::*;
 
-const ALL: [(Refusal, &str); 19] = [
+const ALL: &[(Refusal, &str)] = &[
     (BrokenHeap, "broken heap"),
     (Null, "null"),
     (WrongHeap, "wrong heap"),
@@ -74,6 +76,7 @@ const ALL: [(Refusal, &str); 19] = [
     (Page, "page"),
     (Scratch, "scratch"),
     (NeverIssued, "never issued"),
+    (WornOut, "worn out"),
 ];
 
 impl Refusal {
@@ -84,7 +87,7 @@ impl Refusal {
 
     /// The word in document 01's table.
     pub fn word(self) -> &'static str {
-        ALL[self as usize - 1].1
+        ALL.iter().find(|row| row.0 == self).expect("every refusal has its row").1
     }
 
     /// The refusal of a number; none for 0, which is success, and for numbers that no call answers.

@@ -1,4 +1,4 @@
-//! Lent lengths one short of each size, for every list, scratch and output of every call, and other refusals: 18, 1, 2, 3, 19, 4, 7, 8, 5, 6, 9, 10, 13, 14, 15. After each, what was lent is as
+//! Lent lengths one short of each size, for every list, scratch and output of every call, and other refusals: 18, 1, 2, 3, 19, 4, 7, 8, 5, 6, 9, 20, 10, 13, 14, 15. After each, what was lent is as
 //! it was.
 mod common;
 use common::sample;
@@ -153,7 +153,7 @@ fn a_list_one_short_or_long_is_1() {
     }
 }
 
-// Kinds are 0 to 3, write counts have 32 bits, and no slot is retired; what is not in use is zero.
+// Kinds are 0 to 3, write counts have 32 bits; what is not in use is zero.
 #[test]
 fn a_number_out_of_its_range_is_1() {
     let (header, memory, _) = sample(8, 64).0.into_parts();
@@ -392,6 +392,9 @@ fn pins_rise_and_slots_are_there() {
     assert_eq!(heap.recycle(&[1, 1]), Err(Refusal::Pins));
     assert_eq!(heap.recycle(&[2, 1]), Err(Refusal::Pins));
     assert_eq!(heap.reissue(5, 0), Err(Refusal::NothingThere));
+    // no slot there; one that is free, one in quarantine
+    assert_eq!(heap.reissue(0, 0), Err(Refusal::NothingThere));
+    assert_eq!(heap.reissue(1, 0), Err(Refusal::NothingThere));
     assert_eq!(heap.kind(0), Err(Refusal::NothingThere));
     assert_eq!(heap.write(2, 4, b""), Err(Refusal::NothingThere));
     assert!(heap == before);
@@ -400,6 +403,85 @@ fn pins_rise_and_slots_are_there() {
     assert_eq!(heap.stamp(3).unwrap().writes, 1);
     assert_eq!(heap.recycle(&[0, 1, 4_000_000_000]), Ok(()));
     assert_eq!(heap.header().quarantine, 1);
+}
+
+// Three objects, at the last generation, the one before it and 1.
+fn old() -> (Heap, [Handle; 3]) {
+    let mut heap = Heap::new(1, 4, 64).unwrap();
+    for data in [b"a", b"b", b"c"] {
+        heap.alloc(Kind::Bytes, data).unwrap();
+    }
+    let (header, mut memory, scratch) = heap.into_parts();
+    memory.narrow[0] = u32::MAX;
+    memory.narrow[1] = u32::MAX - 1;
+    let handle = |i: u64| Handle(1 << 56 | i << 32 | u64::from(memory.narrow[i as usize]));
+    let handles = [handle(0), handle(1), handle(2)];
+    (Heap::from_parts(header, memory, scratch), handles)
+}
+
+#[test]
+fn a_worn_out_slot_takes_no_handle() {
+    let (mut heap, _) = old();
+    let before = heap.clone();
+    assert_eq!(heap.reissue(0, 7), Err(Refusal::WornOut));
+    assert!(heap == before);
+    // one more generation is left, and then none
+    let last = heap.reissue(1, 0).unwrap();
+    assert_eq!(last, Handle(1 << 56 | 1 << 32 | u64::from(u32::MAX)));
+    assert_eq!(heap.reissue(1, 0), Err(Refusal::WornOut));
+    assert_eq!(heap.resolve(last), Ok(1));
+    assert_eq!(Refusal::WornOut.to_string(), "20: worn out");
+}
+
+#[test]
+fn worn_out_slots_retire() {
+    let (mut heap, all) = old();
+    for h in all {
+        heap.free(h).unwrap();
+    }
+    assert_eq!(heap.memory().generation()[..3], [u32::MAX, u32::MAX, 2]);
+    heap.recycle(&[1]).unwrap();
+    let counts = |h: &Heap| (h.header().free, h.header().quarantine, h.header().retired);
+    assert_eq!(counts(&heap), (1, 1, 1));
+    heap.recycle(&[]).unwrap();
+    assert_eq!(counts(&heap), (1, 0, 2));
+    assert_eq!((heap.memory().free()[..1].to_vec(), heap.memory().retired()[..2].to_vec()), (vec![2], vec![0, 1]));
+    // only the slot at 2 and the one that was never used are given out
+    assert_eq!(heap.alloc(Kind::Bytes, b"d"), Ok(Handle(1 << 56 | 2 << 32 | 3)));
+    assert_eq!(heap.alloc(Kind::Bytes, b"e"), Ok(Handle(1 << 56 | 3 << 32 | 1)));
+    assert_eq!(heap.alloc(Kind::Bytes, b"f"), Err(Refusal::Full));
+    for h in all {
+        assert_eq!(heap.resolve(h), Err(Refusal::Stale));
+    }
+    assert_eq!(heap.reissue(0, 0), Err(Refusal::NothingThere));
+    // in a collection dropped slots retire in slot order
+    let (mut heap, _) = old();
+    heap.collect(&plain(), &[], &[]).unwrap();
+    assert_eq!(counts(&heap), (1, 0, 2));
+    assert_eq!((heap.memory().free()[..1].to_vec(), heap.memory().retired()[..2].to_vec()), (vec![2], vec![0, 1]));
+    assert_eq!(heap.memory().generation()[..3], [u32::MAX, u32::MAX, 2]);
+}
+
+#[test]
+fn a_slot_in_the_wrong_list_is_1() {
+    let (mut heap, _) = old();
+    heap.collect(&plain(), &[], &[]).unwrap();
+    assert_eq!(heap.live(), Ok(0));
+    // a free slot at the last generation, a retired one at another, one that is in both lists
+    for (place, number) in [(2, u32::MAX), (0, 5), (1, u32::MAX - 1), (20, 2)] {
+        let (header, mut memory, scratch) = heap.clone().into_parts();
+        memory.narrow[place] = number;
+        for (name, call) in CALLS {
+            if name != "read_page" {
+                refused(name, call, &Heap::from_parts(header, memory.clone(), scratch.clone()), Refusal::BrokenHeap);
+            }
+        }
+    }
+    // one that is in neither
+    let (mut header, mut memory, scratch) = heap.into_parts();
+    header.retired = 1;
+    memory.narrow[21] = 0;
+    assert_eq!(Heap::from_parts(header, memory, scratch).live(), Err(Refusal::BrokenHeap));
 }
 
 // Two handles in a record, an array of it, and a constant of one dimension for a field.

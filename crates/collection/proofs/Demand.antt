@@ -20,7 +20,7 @@ use Rattle.reach.specs.Reach.{Graph, Starts, Reached, Stuck}
 use Rattle.reach.specs.Marking.{State as Marks, marking}
 use Rattle.reach.proofs.Sound.{Sized, Marked, Answer, marking-answer, reached-ind, reached-below, refused as stuck-exactly, kept as marked-exactly, lost as lost-exactly}
 use Rattle.collection.specs.Swept.{swept}
-use Rattle.collection.proofs.Dropping.{live-inside}
+use Rattle.heap.proofs.Keeping.{live-inside}
 use Rattle.collection.proofs.SweptLaws.{swept-sound, swept-same, survivor, only-marked, resolved-live, resolved-before, outlives}
 use Rattle.collection.specs.Collected.{found, graph, starts, sweptBy, collected}
 use Rattle.collection.specs.Demand.{Survived, Collects}

@@ -11,11 +11,12 @@ use lib.Dec.{eqb, ltb}
 use borrow.Author.Tests.{eq-eqb, ne-eqb, lt-ltb, ltb-true}
 use Rattle.word.specs.Choice.{if_then_else_}
 use Rattle.word.proofs.Bools.{and-both}
-use Rattle.heap.specs.State.{Slot, State, noSlot, slotAt, live, bit, times}
-use Rattle.heap.specs.Calls.{changed, released}
-use Rattle.heap.proofs.Sound.{Sound, liveBit}
-use Rattle.heap.proofs.Keeping.{sound-change, at-same, at-other, each-set, data-set, released-sound}
-use Rattle.heap.proofs.Counting.{inside, times-append}
+use Rattle.heap.specs.State.{Slot, State, noSlot, slotAt, live}
+use Rattle.heap.specs.Calls.{changed, released, takeSlot}
+use Rattle.heap.proofs.Sound.{Sound}
+use Rattle.heap.proofs.Keeping.{sound-change, at-same, at-other, take-sound}
+use Rattle.heap.proofs.Recycled.{freed-sound}
+use Rattle.heap.proofs.Counting.{times-append}
 use Rattle.collection.specs.Swept.{goes, dropped, dropSlot, dropSlots, allDropped, dropUnmarked}
 
 -- ---- the heap once the first n slots are looked at
@@ -55,17 +56,22 @@ unfolding dropSlots
 drop-one true h n = refl
 drop-one false h n = refl
 
+-- one slot more looked at
+pub dropped-next : (marks : List ℕ) (h : State) (n : ℕ) → n < length (h .slots)
+    → dropped marks 0 (take (suc n) (h .slots)) ≡ dropped marks 0 (take n (h .slots)) ++ (if goes marks n (slotAt h n) then (n ∷ []) else [])
+unfolding dropped
+dropped-next marks h n less =
+    let at : 0 + length (take n (h .slots)) ≡ n = omega (arith, length-take-le n (h .slots) (omega arith)) in
+    ap (dropped marks 0) (take-suc (h .slots) n noSlot less)
+    ∙ dropped-append marks 0 (take n (h .slots)) (slotAt h n ∷ [])
+    ∙ ap (λ (k : ℕ). dropped marks 0 (take n (h .slots)) ++ dropped marks k (slotAt h n ∷ [])) at
+
 pub after-next : (marks : List ℕ) (h : State) (n : ℕ) → n < length (h .slots)
     → after marks h (suc n) ≡ (if goes marks n (slotAt h n) then dropSlot (after marks h n) n else after marks h n)
 unfolding dropped
 after-next marks h n less =
     let s : Slot = slotAt h n in
-    let at : 0 + length (take n (h .slots)) ≡ n = omega (arith, length-take-le n (h .slots) (omega arith)) in
-    let list : dropped marks 0 (take (suc n) (h .slots)) ≡ dropped marks 0 (take n (h .slots)) ++ dropped marks n (s ∷ []) =
-    ap (dropped marks 0) (take-suc (h .slots) n noSlot less)
-    ∙ dropped-append marks 0 (take n (h .slots)) (s ∷ [])
-    ∙ ap (λ (k : ℕ). dropped marks 0 (take n (h .slots)) ++ dropped marks k (s ∷ [])) at in
-    ap (dropSlots h) list
+    ap (dropSlots h) (dropped-next marks h n less)
     ∙ drop-append h (dropped marks 0 (take n (h .slots))) (dropped marks n (s ∷ []))
     ∙ drop-one (goes marks n s) (after marks h n) n
 
@@ -135,14 +141,6 @@ dropping marks h =
       later = λ j le. at-other (changed st n) n j new (λ q. omega arith) ∙ d .later j (omega arith);
     })
 
--- a live slot has a place among the slots
-pub live-inside : (h : State) (i : ℕ) → live (slotAt h i) ≡ true → i < length (h .slots)
-live-inside h i k =
-    elim (decLt i (length (h .slots))) [
-      | yes less ↦ less
-      | no more ↦ let p : slotAt h i ≡ noSlot = List·getD-eq-default (h .slots) noSlot (omega arith) in absurd (omega (arith, ltb-true 0 (slotAt h i .kind) k, ap (λ (s : Slot). s .kind) p))
-    ]
-
 pub goes-live : (marks : List ℕ) (i : ℕ) (s : Slot) → goes marks i s ≡ true → live s ≡ true
 goes-live marks i s e = and-both (live s) (eqb (getD marks i 0) 0) e .0
 
@@ -162,23 +160,9 @@ dropped-slot marks h j =
 
 -- ---- sound
 
-times-push : (j i : ℕ) (xs : List ℕ) → times j (xs ++ i ∷ []) ≡ times j xs + bit (eqb i j)
-unfolding times
-times-push j i xs = times-append j xs (i ∷ []) ∙ omega arith
-
+-- as if it went into quarantine and left it again
 drop-sound : (S P : ℕ) (st : State) (i : ℕ) → Sound S P st → live (slotAt st i) ≡ true → Sound S P (dropSlot st i)
-drop-sound S P st i ok alive =
-    let h : i < length (st .slots) = live-inside st i alive in
-    let new : Slot = released (slotAt st i) in
-    let st₂ : State = changed st i in
-    let st₃ : State = dropSlot st i in
-    let long : length (set (st .slots) i new) ≡ length (st .slots) = length-set (st .slots) i new in
-    sound-change S P st st₃ ok refl refl refl (omega arith) (omega (arith, ok .slots-fit)) (omega (arith, data-set (st .slots) i new h, ok .data-fit))
-    (λ j. elim (ℕ-discrete j i) [
-      | yes e ↦ omega (arith, ap (λ (x : ℕ). liveBit (slotAt st₃ x)) e ∙ ap liveBit (at-same st₂ i new h), inside S P st ok i h, ap bit alive, ap (λ (x : ℕ). times x (st .free)) e, ap (λ (x : ℕ). times x (st .quarantine)) e, times-push j i (st .free), ap bit (eq-eqb i j (sym e)), ap bit (lt-ltb j (length (set (st .slots) i new)) (omega arith)))
-      | no ne ↦ omega (arith, ap liveBit (at-other st₂ i j new ne), ok .partition j, times-push j i (st .free), ap bit (ne-eqb i j (λ q. ne (sym q))), ap (λ (m : ℕ). bit (ltb j m)) long)
-    ])
-    (each-set st₂ i new h (released-sound (slotAt st i)) (λ j y ne. ok .each-slot j y))
+drop-sound S P st i ok alive = freed-sound S P (takeSlot st i .heap) (st .quarantine) (i ∷ []) (take-sound S P st i ok alive) (λ j. sym (times-append j (st .quarantine) (i ∷ [])))
 
 pub after-sound : (S P : ℕ) (marks : List ℕ) (h : State) → Sound S P h → (n : ℕ) → n ≤ length (h .slots) → Sound S P (after marks h n)
 after-sound S P marks h ok =
@@ -192,4 +176,4 @@ pub unmarked-sound : (S P : ℕ) (marks : List ℕ) (h : State) → Sound S P h 
 unfolding dropUnmarked
 unmarked-sound S P marks h ok =
     let s : Sound S P (allDropped h marks) = all-sound S P marks h ok in
-    sound-change S P (allDropped h marks) (dropUnmarked h marks) s refl refl refl (omega arith) (s .slots-fit) (s .data-fit) (s .partition) (s .each-slot)
+    sound-change S P (allDropped h marks) (dropUnmarked h marks) s refl refl refl (omega arith) (s .slots-fit) (s .data-fit) (s .partition) (s .young) (s .spent) (s .each-slot)

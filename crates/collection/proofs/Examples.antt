@@ -6,7 +6,6 @@ use Prim.Native.Nat.{ℕ}
 use lib.ListN.{replicate}
 use lib.Dec.{eqb}
 use Rattle.word.specs.Choice.{if_then_else_}
-use Rattle.word.specs.Num.{nextFrom}
 use Rattle.handle.specs.Handle.{packed, tagOf, indexOf, generationOf, resolveBy}
 use Rattle.heap.specs.State.{Slot, State, times}
 use Rattle.heap.specs.Calls.{Changed, refuse, recycle, resolve}
@@ -30,6 +29,7 @@ heap =
       slots = object 5 ∷ object 7 ∷ object 9 ∷ [];
       free = [];
       quarantine = [];
+      retired = [];
       sealed = [];
     }
 
@@ -46,7 +46,7 @@ kinds r = map (λ (s : Slot). s .kind) (r .heap .slots)
 -- Nothing leads to the ring: it is dropped, and so is what can't be traced. One handle keeps the whole ring. An old handle keeps nothing, and a pin on a missing
 -- slot is no refusal.
 pub ring : map kinds (collection [] [] ∷ collection (packed 1 1 7 ∷ []) [] ∷ collection (packed 1 1 6 ∷ []) (3 ∷ []) ∷ []) ≡ (0 ∷ 0 ∷ 0 ∷ []) ∷ (3 ∷ 3 ∷ 0 ∷ []) ∷ (0 ∷ 0 ∷ 0 ∷ []) ∷ []
-unfolding collected marking drained visit follow resolve resolveBy packed tagOf indexOf generationOf swept dropUnmarked recycle dropped dropSlots liveSize times nextFrom
+unfolding collected marking drained visit follow resolve resolveBy packed tagOf indexOf generationOf swept dropUnmarked recycle dropped dropSlots liveSize times
 ring = refl
 
 -- a pin reaches what can't be traced: refused, the heap as it was

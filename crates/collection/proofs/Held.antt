@@ -26,7 +26,7 @@ use Rattle.collection.specs.Swept.{swept}
 use Rattle.collection.specs.Shown.{shown}
 use Rattle.collection.specs.Collected.{found, graph, collected}
 use Rattle.collection.specs.Held.{heldGraph}
-use Rattle.collection.proofs.Dropping.{live-inside}
+use Rattle.heap.proofs.Keeping.{live-inside}
 use Rattle.collection.proofs.Pinned.{in-member, member-in}
 use Rattle.collection.proofs.SweptLaws.{swept-pins, swept-alive}
 use Rattle.collection.proofs.Demand.{sized, reached-live, collected-by, marks-there}

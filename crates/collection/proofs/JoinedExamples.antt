@@ -4,7 +4,6 @@ use mathlib.Core.List.{List, [], _∷_, map}
 use mathlib.Core.Option.{Option, none, some}
 use Prim.Native.Nat.{ℕ}
 use lib.ListN.{replicate}
-use Rattle.word.specs.Num.{nextFrom}
 use Rattle.word.specs.Ones.{passing}
 use Rattle.handle.specs.Handle.{packed, tagOf, indexOf, generationOf, resolveBy}
 use Rattle.ty.specs.Types.{Table}
@@ -34,6 +33,7 @@ heap =
       slots = object 5 ∷ object 7 ∷ object 9 ∷ object 11 ∷ [];
       free = [];
       quarantine = [];
+      retired = [];
       sealed = [];
     }
 
@@ -57,7 +57,7 @@ kinds r = map (λ (s : Slot). s .kind) (r .heap .slots)
 
 -- What the live register of class 4 and the frame hold stays, the rest is dropped. A pin keeps its slot, and one on a missing slot nothing.
 pub kept : (T : Table) → map kinds (collection T (some (packed 1 2 9 ∷ [])) [] [] [] ∷ collection T (some []) (1 ∷ 4 ∷ []) [] [] ∷ []) ≡ (2 ∷ 0 ∷ 2 ∷ 0 ∷ []) ∷ (2 ∷ 2 ∷ 0 ∷ 0 ∷ []) ∷ []
-unfolding joined registersOf liveReferences pinsAt slotsOf slotOf valuesOf liveRow passing liveBefore liveIn gen kill successors reads writes track wordsAt kindPlaces handlesOf collected marking drained visit follow resolve resolveBy packed tagOf indexOf generationOf swept dropUnmarked recycle dropped dropSlots liveSize times nextFrom
+unfolding joined registersOf liveReferences pinsAt slotsOf slotOf valuesOf liveRow passing liveBefore liveIn gen kill successors reads writes track wordsAt kindPlaces handlesOf collected marking drained visit follow resolve resolveBy packed tagOf indexOf generationOf swept dropUnmarked recycle dropped dropSlots liveSize times
 kept T = refl
 
 -- An address of the frame that is listed pins its slot, and so does the value of the live register of class 2. An address between two listed ones pins nothing, and
@@ -65,7 +65,7 @@ kept T = refl
 pub addressed : (T : Table)
     → map kinds (collection T (some []) [] (100 ∷ 1 ∷ 200 ∷ 2 ∷ []) (100 ∷ 150 ∷ []) ∷ collection T (some []) [] (200 ∷ 1 ∷ packed 1 3 11 ∷ 3 ∷ []) [] ∷ [])
     ≡ (2 ∷ 2 ∷ 0 ∷ 0 ∷ []) ∷ (2 ∷ 0 ∷ 0 ∷ 2 ∷ []) ∷ []
-unfolding joined registersOf liveReferences pinsAt slotsOf slotOf valuesOf liveRow passing liveBefore liveIn gen kill successors reads writes track wordsAt kindPlaces handlesOf collected marking drained visit follow resolve resolveBy packed tagOf indexOf generationOf swept dropUnmarked recycle dropped dropSlots liveSize times nextFrom
+unfolding joined registersOf liveReferences pinsAt slotsOf slotOf valuesOf liveRow passing liveBefore liveIn gen kill successors reads writes track wordsAt kindPlaces handlesOf collected marking drained visit follow resolve resolveBy packed tagOf indexOf generationOf swept dropUnmarked recycle dropped dropSlots liveSize times
 addressed T = refl
 
 -- a frame map that fails: refused, the heap as it was

@@ -11,8 +11,8 @@ use lib.Dec.{eqb, ltb}
 use borrow.Author.Tests.{eq-eqb, ne-eqb, lt-ltb, ltb-true}
 use Rattle.word.specs.Choice.{if_then_else_}
 use Rattle.word.proofs.Bools.{bool-ext}
-use Rattle.heap.specs.State.{State, bit, times, withFree, withQuarantine, withReclaim}
-use Rattle.heap.specs.Calls.{filter, member, recycle}
+use Rattle.heap.specs.State.{State, bit, times, withQuarantine, withReclaim}
+use Rattle.heap.specs.Calls.{freed, filter, member, recycle}
 use Rattle.reach.specs.Reach.{_∈_}
 
 -- ---- a member stands in the list
@@ -53,7 +53,7 @@ recycle-same h a b e =
     let kept : filter (λ i. member i a) (h .quarantine) ≡ filter (λ i. member i b) (h .quarantine) = filter-same (λ i. member i a) (λ i. member i b) (h .quarantine) e in
     let gone : filter (λ i. not (member i a)) (h .quarantine) ≡ filter (λ i. not (member i b)) (h .quarantine) =
     filter-same (λ i. not (member i a)) (λ i. not (member i b)) (h .quarantine) (λ i m. ap not (e i m)) in
-    λ j. withReclaim (withFree (withQuarantine h (kept j)) (h .free ++ gone j)) (max (2 * length (kept j)) 4096)
+    λ j. withReclaim (freed (withQuarantine h (kept j)) (gone j)) (max (2 * length (kept j)) 4096)
 
 pub same-members : (i : ℕ) (a b : List ℕ) → (i ∈ a) ↔ (i ∈ b) → member i a ≡ member i b
 same-members i a b e = bool-ext (member i a) (member i b) (λ m. in-member i b (e .0 (member-in i a m))) (λ m. in-member i a (e .1 (member-in i b m)))

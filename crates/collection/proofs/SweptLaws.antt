@@ -3,27 +3,27 @@ use mathlib.Core.Path.{_≡_, refl, sym, ap, _∙_, subst}
 use mathlib.Core.Bool.{Bool, true, false, not, _&&_}
 use mathlib.Core.List.{List, [], _∷_, _++_, append-assoc, append-nil}
 use mathlib.Core.Logic.{_↔_}
-use Prim.Native.Nat.{ℕ, suc, _+_, _<_, _%_, _^_}
+use Prim.Native.Nat.{ℕ, suc, _+_, _≤_, _<_, _%_, _^_}
 use native.Mathlib.Omega.{arith}
 use native.Mathlib.Decide.{decLt}
-use lib.ListN.{length, getD, replicate, length-set}
-use lib.Seq.{getD-set-same}
+use lib.ListN.{length, getD, take, replicate, length-set}
+use lib.Seq.{getD-set-same, take-all}
 use lib.Dec.{eqb}
 use borrow.Author.Tests.{eq-eqb, ne-eqb}
 use Rattle.word.specs.Choice.{if_then_else_}
 use Rattle.word.specs.Result.{ok}
-use Rattle.word.specs.Num.{nextFrom}
 use Rattle.handle.specs.Handle.{indexOf, resolveBy}
 use Rattle.handle.proofs.ResolveLaws.{Resolves, resolve-ok, resolve-same}
-use Rattle.heap.specs.State.{Slot, State, noSlot, slotAt, live, times, withSince, withLive}
-use Rattle.heap.specs.Calls.{resolve, released, filter, member, recycle}
+use Rattle.heap.specs.State.{Slot, State, noSlot, slotAt, live, worn, times, withSince, withLive}
+use Rattle.heap.specs.Calls.{resolve, changed, release, released, filter, member, recycle}
 use Rattle.heap.specs.WellFormed.{sound, fits}
 use Rattle.heap.proofs.Sound.{Sound}
 use Rattle.heap.proofs.Testing.{sound-tested, sound-test}
-use Rattle.heap.proofs.Recycled.{recycle-sound}
-use Rattle.collection.specs.Swept.{goes, dropped, dropSlot, dropSlots, liveSize, dropUnmarked, swept}
+use Rattle.heap.proofs.Recycled.{filter-append, recycle-sound}
+use Rattle.heap.proofs.Keeping.{at-same}
+use Rattle.collection.specs.Swept.{goes, dropped, dropSlot, dropSlots, liveSize, allDropped, dropUnmarked, swept}
 use Rattle.collection.proofs.Pinned.{recycle-same}
-use Rattle.collection.proofs.Dropping.{sweptSlot, all-dropped, dropped-slot, drop-append, unmarked-sound}
+use Rattle.collection.proofs.Dropping.{sweptSlot, after, after-ind, after-all, dropped-next, Dropping, dropping, all-dropped, dropped-slot, drop-append, unmarked-sound}
 
 -- ---- slots
 
@@ -106,15 +106,62 @@ module _ (h : State) (marks pins : List ℕ) (x i : ℕ) where
 
 -- ---- lists and numbers
 
-drop-free : (h : State) (xs : List ℕ) → dropSlots h xs .free ≡ h .free ++ xs
-unfolding dropSlots
-drop-free h [] = sym (append-nil (h .free))
-drop-free h (x ∷ xs) = drop-free (dropSlot h x) xs ∙ append-assoc (h .free) (x ∷ []) xs
+-- the lists that dropped slots join, once n slots are looked at
+record Joined (marks : List ℕ) (h : State) (n : ℕ) (st : State) : Type 0 where
+  free : st .free ≡ h .free ++ filter (λ i. not (worn (sweptSlot marks i (slotAt h i)))) (dropped marks 0 (take n (h .slots)))
+  retired : st .retired ≡ h .retired ++ filter (λ i. worn (sweptSlot marks i (slotAt h i))) (dropped marks 0 (take n (h .slots)))
 
--- the dropped slots join the free list in slot order, and after them what leaves the quarantine
-pub swept-free : (h : State) (marks pins : List ℕ) → swept h marks pins .free ≡ (h .free ++ dropped marks 0 (h .slots)) ++ filter (λ i. not (member i pins)) (h .quarantine)
-unfolding swept dropUnmarked recycle
-swept-free h marks pins = λ j. drop-free h (dropped marks 0 (h .slots)) j ++ filter (λ i. not (member i pins)) (all-dropped marks h .quarantine j)
+-- one more joins a list
+one-joins : (p : ℕ → Bool) (xs ys zs zs′ : List ℕ) (n : ℕ) → xs ≡ ys ++ filter p zs → zs′ ≡ zs ++ n ∷ [] → xs ++ filter p (n ∷ []) ≡ ys ++ filter p zs′
+one-joins p xs ys zs zs′ n e f =
+    ap (λ (l : List ℕ). l ++ filter p (n ∷ [])) e
+    ∙ append-assoc ys (filter p zs) (filter p (n ∷ []))
+    ∙ ap (λ (l : List ℕ). ys ++ l) (sym (filter-append p zs (n ∷ [])) ∙ ap (filter p) (sym f))
+
+joined : (marks : List ℕ) (h : State) (n : ℕ) → n ≤ length (h .slots) → Joined marks h n (after marks h n)
+unfolding dropped
+joined marks h =
+    after-ind marks h (Joined marks h)
+    (record { free = sym (append-nil (h .free)); retired = sym (append-nil (h .retired)) })
+    (λ n less v e.
+    let same : dropped marks 0 (take n (h .slots)) ≡ dropped marks 0 (take (suc n) (h .slots)) = sym (dropped-next marks h n less ∙ ap (λ (b : Bool). dropped marks 0 (take n (h .slots)) ++ (if b then (n ∷ []) else [])) e ∙ append-nil _) in
+    record {
+      free = v .free ∙ ap (λ (l : List ℕ). h .free ++ filter (λ i. not (worn (sweptSlot marks i (slotAt h i)))) l) same;
+      retired = v .retired ∙ ap (λ (l : List ℕ). h .retired ++ filter (λ i. worn (sweptSlot marks i (slotAt h i))) l) same;
+    })
+    (λ n less v e.
+    let st : State = after marks h n in
+    let d : Dropping marks h n st = dropping marks h n (omega arith) in
+    let more : dropped marks 0 (take (suc n) (h .slots)) ≡ dropped marks 0 (take n (h .slots)) ++ n ∷ [] = dropped-next marks h n less ∙ ap (λ (b : Bool). dropped marks 0 (take n (h .slots)) ++ (if b then (n ∷ []) else [])) e in
+    let becomes : slotAt (release st n) n ≡ sweptSlot marks n (slotAt h n) =
+    at-same (changed st n) n (released (slotAt st n)) (omega (arith, d .count)) ∙ ap released (d .later n (omega arith)) ∙ ap (λ (b : Bool). if b then released (slotAt h n) else slotAt h n) (sym e) in
+    record {
+      free = ap (λ (s : Slot). st .free ++ (if not (worn s) then (n ∷ []) else [])) becomes ∙ one-joins (λ i. not (worn (sweptSlot marks i (slotAt h i)))) (st .free) (h .free) (dropped marks 0 (take n (h .slots))) (dropped marks 0 (take (suc n) (h .slots))) n (v .free) more;
+      retired = ap (λ (s : Slot). st .retired ++ (if worn s then (n ∷ []) else [])) becomes ∙ one-joins (λ i. worn (sweptSlot marks i (slotAt h i))) (st .retired) (h .retired) (dropped marks 0 (take n (h .slots))) (dropped marks 0 (take (suc n) (h .slots))) n (v .retired) more;
+    })
+
+all-joined : (marks : List ℕ) (h : State) → Joined marks h (length (h .slots)) (allDropped h marks)
+all-joined marks h = subst (Joined marks h (length (h .slots))) (after-all marks h) (joined marks h (length (h .slots)) (omega arith))
+
+-- The dropped slots join the free list in slot order, and after them what leaves the quarantine. Those that the heap then has with the last generation join the
+-- retired list in the same order instead.
+module _ (h : State) (marks pins : List ℕ) where
+  whole : dropped marks 0 (take (length (h .slots)) (h .slots)) ≡ dropped marks 0 (h .slots)
+  whole = ap (dropped marks 0) (take-all (length (h .slots)) (h .slots) (omega arith))
+
+  pub swept-free : swept h marks pins .free
+      ≡ (h .free ++ filter (λ i. not (worn (slotAt (swept h marks pins) i))) (dropped marks 0 (h .slots))) ++ filter (λ i. not (worn (slotAt (swept h marks pins) i))) (filter (λ i. not (member i pins)) (h .quarantine))
+  unfolding swept dropUnmarked recycle
+  swept-free = λ j.
+      (all-joined marks h .free ∙ (λ k. h .free ++ filter (λ i. not (worn (sym (dropped-slot marks h i) k))) (whole k))) j
+      ++ filter (λ i. not (worn (slotAt (allDropped h marks) i))) (filter (λ i. not (member i pins)) (all-dropped marks h .quarantine j))
+
+  pub swept-retired : swept h marks pins .retired
+      ≡ (h .retired ++ filter (λ i. worn (slotAt (swept h marks pins) i)) (dropped marks 0 (h .slots))) ++ filter (λ i. worn (slotAt (swept h marks pins) i)) (filter (λ i. not (member i pins)) (h .quarantine))
+  unfolding swept dropUnmarked recycle
+  swept-retired = λ j.
+      (all-joined marks h .retired ∙ (λ k. h .retired ++ filter (λ i. worn (sym (dropped-slot marks h i) k)) (whole k))) j
+      ++ filter (λ i. worn (slotAt (allDropped h marks) i)) (filter (λ i. not (member i pins)) (all-dropped marks h .quarantine j))
 
 pub swept-quarantine : (h : State) (marks pins : List ℕ) → swept h marks pins .quarantine ≡ filter (λ i. member i pins) (h .quarantine)
 unfolding swept dropUnmarked recycle
@@ -205,7 +252,14 @@ swept-alive h m m′ pins e =
     dropped-live m m′ 0 (h .slots) (λ k less a. subst (λ (x : ℕ). eqb (getD m x 0) 0 ≡ eqb (getD m′ x 0) 0) (omega arith) (e k a)) in
     ap (λ (xs : List ℕ). recycle (withLive (withSince (dropSlots h xs) 0) (liveSize (dropSlots h xs .slots))) pins) same
 
--- ---- an example: slot 0 is kept, 1 and 3 go (the generation of 3 wraps, and so does the epoch), 2 is in quarantine and not pinned, 4 is and is pinned
+-- ---- an example: slot 0 is kept. 1, 3 and 5 go: 3 keeps the last generation, 5 comes to it, and both retire (and the epoch wraps). 2 and 4 are in quarantine: 2 is
+-- not pinned and worn out, so that it retires, and 4 is pinned.
+
+abbrev dead : ℕ → Slot
+dead g = record { generation = g; kind = 0; type = 0; start = 0; writes = 0; bytes = [] }
+
+abbrev kept : Slot
+kept = record { generation = 5; kind = 1; type = 2; start = 1; writes = 3; bytes = 10 ∷ 11 ∷ [] }
 
 abbrev before : State
 before =
@@ -217,14 +271,16 @@ before =
       epoch = 18446744073709551615;
       log = replicate 16 9;
       slots =
-          record { generation = 5; kind = 1; type = 2; start = 1; writes = 3; bytes = 10 ∷ 11 ∷ [] }
+          kept
           ∷ record { generation = 6; kind = 2; type = 0; start = 0; writes = 8; bytes = 20 ∷ 21 ∷ 22 ∷ [] }
-          ∷ record { generation = 2; kind = 0; type = 0; start = 0; writes = 0; bytes = [] }
+          ∷ dead 4294967295
           ∷ record { generation = 4294967295; kind = 3; type = 0; start = 0; writes = 0; bytes = 30 ∷ [] }
-          ∷ record { generation = 1; kind = 0; type = 0; start = 0; writes = 0; bytes = [] }
+          ∷ dead 1
+          ∷ record { generation = 4294967294; kind = 2; type = 0; start = 0; writes = 0; bytes = [] }
           ∷ [];
       free = [];
       quarantine = 4 ∷ 2 ∷ [];
+      retired = [];
       sealed = [];
     }
 
@@ -235,20 +291,15 @@ afterwards =
       sinceGc = 0;
       reclaimAt = 4096;
       liveBytes = 34;
-      epoch = 1;
-      log = 1 ∷ 3 ∷ replicate 14 9;
-      slots =
-          record { generation = 5; kind = 1; type = 2; start = 1; writes = 3; bytes = 10 ∷ 11 ∷ [] }
-          ∷ record { generation = 7; kind = 0; type = 0; start = 0; writes = 0; bytes = [] }
-          ∷ record { generation = 2; kind = 0; type = 0; start = 0; writes = 0; bytes = [] }
-          ∷ record { generation = 1; kind = 0; type = 0; start = 0; writes = 0; bytes = [] }
-          ∷ record { generation = 1; kind = 0; type = 0; start = 0; writes = 0; bytes = [] }
-          ∷ [];
-      free = 1 ∷ 3 ∷ 2 ∷ [];
+      epoch = 2;
+      log = 1 ∷ 3 ∷ 5 ∷ replicate 13 9;
+      slots = kept ∷ dead 7 ∷ dead 4294967295 ∷ dead 4294967295 ∷ dead 1 ∷ dead 4294967295 ∷ [];
+      free = 1 ∷ [];
       quarantine = 4 ∷ [];
+      retired = 3 ∷ 5 ∷ 2 ∷ [];
       sealed = [];
     }
 
-pub example : swept before (1 ∷ 0 ∷ 0 ∷ 0 ∷ 0 ∷ []) (4 ∷ []) ≡ afterwards
-unfolding swept dropUnmarked recycle dropped dropSlots liveSize times nextFrom
+pub example : swept before (1 ∷ 0 ∷ 0 ∷ 0 ∷ 0 ∷ 0 ∷ []) (4 ∷ []) ≡ afterwards
+unfolding swept dropUnmarked recycle dropped dropSlots liveSize times
 example = refl

@@ -12,7 +12,7 @@ use borrow.Author.Tests.{ne-eqb, ltb-true, lt-ltb}
 use Rattle.word.specs.Choice.{if_then_else_}
 use Rattle.word.specs.Result.{Result, ok, refused}
 use Rattle.ty.specs.Types.{Table}
-use Rattle.heap.specs.State.{Slot, State, noSlot, slotAt, live, withSince, withLive}
+use Rattle.heap.specs.State.{Slot, State, noSlot, slotAt, live, worn, withSince, withLive}
 use Rattle.heap.specs.Calls.{Changed, done, resolve, filter, member, recycle}
 use Rattle.flow.specs.Function.{Function}
 use Rattle.trace.specs.Places.{handlesOf}
@@ -63,7 +63,8 @@ recycled-again d pins = λ j. record {
   epoch = d .epoch;
   log = d .log;
   slots = d .slots;
-  free = (ap (λ (x : List ℕ). (d .free ++ filter (λ i. not (member i pins)) (d .quarantine)) ++ x) (filter-none (λ i. member i pins) (d .quarantine)) ∙ append-nil (d .free ++ filter (λ i. not (member i pins)) (d .quarantine))) j;
+  free = (ap (λ (x : List ℕ). (d .free ++ filter (λ i. not (worn (slotAt d i))) (filter (λ i. not (member i pins)) (d .quarantine))) ++ filter (λ i. not (worn (slotAt d i))) x) (filter-none (λ i. member i pins) (d .quarantine)) ∙ append-nil (d .free ++ filter (λ i. not (worn (slotAt d i))) (filter (λ i. not (member i pins)) (d .quarantine)))) j;
+  retired = (ap (λ (x : List ℕ). (d .retired ++ filter (λ i. worn (slotAt d i)) (filter (λ i. not (member i pins)) (d .quarantine))) ++ filter (λ i. worn (slotAt d i)) x) (filter-none (λ i. member i pins) (d .quarantine)) ∙ append-nil (d .retired ++ filter (λ i. worn (slotAt d i)) (filter (λ i. not (member i pins)) (d .quarantine)))) j;
   quarantine = filter-again (λ i. member i pins) (d .quarantine) j;
   sealed = d .sealed;
 }

@@ -1,13 +1,13 @@
--- What a collection does to the heap once it is known which objects it keeps (01, "Heap", `collect`): dropped slots join the free list in slot order, before
--- `recycle`; since_gc is 0; live_bytes is length and 32 over the survivors. `marks` has a number a slot, 0 for what is not kept.
+-- What a collection does to the heap once it is known which objects it keeps (01, "Heap", `collect`; request [7]): dropped slots join the free list in slot order, or
+-- the retired list where they are worn out, before `recycle`; since_gc is 0; live_bytes is length and 32 over the survivors. `marks` has a number a slot, 0 for what is not kept.
 use mathlib.Core.Bool.{Bool, _&&_}
-use mathlib.Core.List.{List, [], _∷_, _++_}
+use mathlib.Core.List.{List, [], _∷_}
 use Prim.Native.Nat.{ℕ, suc, _+_}
 use lib.ListN.{length, getD}
 use lib.Dec.{eqb}
 use Rattle.word.specs.Choice.{if_then_else_}
-use Rattle.heap.specs.State.{Slot, State, live, withSince, withLive, withFree}
-use Rattle.heap.specs.Calls.{release, recycle}
+use Rattle.heap.specs.State.{Slot, State, live, withSince, withLive}
+use Rattle.heap.specs.Calls.{release, freed, recycle}
 
 -- slot i is dropped: live, and not marked
 abbrev pub goes : (marks : List ℕ) (i : ℕ) → Slot → Bool
@@ -20,9 +20,9 @@ dropped marks i (s ∷ ss) =
     let rest = dropped marks (suc i) ss in
     if goes marks i s then (i ∷ rest) else rest
 
--- slot i is released (its generation steps, epoch and log as in `take`), and joins the free list
+-- slot i is released (its generation steps, epoch and log as in `take`), and joins the free list, or the retired list where it is then worn out
 abbrev pub dropSlot : State → ℕ → State
-dropSlot h i = withFree (release h i) (h .free ++ i ∷ [])
+dropSlot h i = freed (release h i) (i ∷ [])
 
 -- one after the other
 unfoldable pub dropSlots : State → List ℕ → State

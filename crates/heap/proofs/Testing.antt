@@ -1,6 +1,6 @@
 -- The tests of `WellFormed` pass exactly if what they test holds. Assumes nothing.
 use mathlib.Core.Path.{_≡_, refl, sym, ap, _∙_}
-use mathlib.Core.Bool.{Bool, true, false, _&&_, _||_}
+use mathlib.Core.Bool.{Bool, true, false, not, _&&_, _||_}
 use mathlib.Core.List.{List, [], _∷_, _++_}
 use mathlib.Core.Logic.{_⊎_, ⊎-elim}
 use Prim.Native.Nat.{ℕ, zero, suc, _+_, _%_, _≤_, _<_}
@@ -13,9 +13,9 @@ use Rattle.word.specs.Lists.{all, allBelow, sameList}
 use Rattle.word.proofs.Bools.{and-both, both-and, or-cases, or-left, or-right}
 use Rattle.word.proofs.ListLaws.{all-at, at-all, below-at, at-below, same-tested, same-test}
 use Rattle.heap.specs.Packing.{flat}
-use Rattle.heap.specs.State.{Slot, State, noSlot, slotAt, dataOf, live, bit, times}
+use Rattle.heap.specs.State.{Slot, State, noSlot, slotAt, dataOf, live, lastGeneration, worn, bit, times}
 use Rattle.heap.specs.Lent.{Lent, columns, stored, view, slotCount, poolSize}
-use Rattle.heap.specs.WellFormed.{soundSlot, places, partitioned, soundSeals, soundReclaim, sound, fits, sameHeader, sameLent, wellFormed}
+use Rattle.heap.specs.WellFormed.{soundSlot, places, partitioned, retiredRightly, soundSeals, soundReclaim, sound, fits, sameHeader, sameLent, wellFormed}
 use Rattle.heap.specs.declared.Heap.{Heap}
 use Rattle.heap.proofs.Sound.{SlotSound, Sound, WellFormed, liveBit}
 use Rattle.heap.proofs.Counting.{times-append, times-member}
@@ -30,12 +30,14 @@ no-bytes (x ∷ xs) h = absurd (omega arith)
 pub slot-tested : (s : Slot) → soundSlot s ≡ true → SlotSound s
 unfolding soundSlot
 slot-tested s h =
-    let a = and-both (leb (s .kind) 3 && leb 1 (s .generation) && (eqb (s .kind) 1 || eqb (s .type) 0)) _ h in
-    let b = and-both (leb (s .kind) 3 && leb 1 (s .generation)) _ (a .0) in
-    let d = and-both (leb (s .kind) 3) _ (b .0) in
+    let a = and-both (leb (s .kind) 3 && leb 1 (s .generation) && leb (s .generation) lastGeneration && (eqb (s .kind) 1 || eqb (s .type) 0)) _ h in
+    let b = and-both (leb (s .kind) 3 && leb 1 (s .generation) && leb (s .generation) lastGeneration) _ (a .0) in
+    let m = and-both (leb (s .kind) 3 && leb 1 (s .generation)) _ (b .0) in
+    let d = and-both (leb (s .kind) 3) _ (m .0) in
     record {
       kinds = leb-true _ _ (d .0);
       aged = leb-true _ _ (d .1);
+      most = leb-true _ _ (m .1);
       untyped = λ two. ⊎-elim (λ e. absurd (omega (arith, eqb-true (s .kind) 1 e))) (λ e. eqb-true _ _ e) (or-cases (eqb (s .kind) 1) _ (b .1));
       dead = λ z. ⊎-elim (λ e. absurd (omega (arith, ltb-true 0 (s .kind) e))) (λ e. nothing z e (⊎-elim (λ q. absurd (omega (arith, eqb-true (s .kind) 1 q))) (λ q. eqb-true _ _ q) (or-cases (eqb (s .kind) 1) _ (b .1)))) (or-cases (live s) _ (a .1));
     }
@@ -52,11 +54,13 @@ slot-tested s h =
 pub slot-tests : (s : Slot) → SlotSound s → soundSlot s ≡ true
 unfolding soundSlot
 slot-tests s k =
-    both-and (leb (s .kind) 3 && leb 1 (s .generation) && (eqb (s .kind) 1 || eqb (s .type) 0)) (live s || eqb (s .start) 0 && eqb (s .writes) 0 && eqb (length (s .bytes)) 0)
-    (both-and (leb (s .kind) 3 && leb 1 (s .generation)) (eqb (s .kind) 1 || eqb (s .type) 0)
-    (both-and (leb (s .kind) 3) (leb 1 (s .generation)) (le-leb (s .kind) 3 (k .kinds)) (le-leb 1 (s .generation) (k .aged)))
-    typed)
-    quiet
+    simp (
+      le-leb (s .kind) 3 (k .kinds),
+      le-leb 1 (s .generation) (k .aged),
+      le-leb (s .generation) lastGeneration (k .most),
+      typed,
+      quiet,
+    )
   where
     typed : (eqb (s .kind) 1 || eqb (s .type) 0) ≡ true
     typed = elim (ℕ-discrete (s .kind) 1) [
@@ -84,6 +88,9 @@ times-none (x ∷ xs) n i h k =
     let a = and-both (ltb x n) (all (λ j. ltb j n) xs) h in
     omega (arith, times-none xs n i (a .1) k, ap bit (ne-eqb x i (λ e. omega (arith, ltb-true x n (a .0)))))
 
+times-three : (h : State) (i : ℕ) → times i (h .free ++ h .quarantine ++ h .retired) ≡ times i (h .free) + (times i (h .quarantine) + times i (h .retired))
+times-three h i = omega (arith, times-append i (h .free ++ h .quarantine) (h .retired), times-append i (h .free) (h .quarantine))
+
 pub parts-tested : (h : State) → partitioned h ≡ true → (i : ℕ) → places h i ≡ bit (ltb i (length (h .slots)))
 unfolding partitioned
 parts-tested h t i =
@@ -91,23 +98,48 @@ parts-tested h t i =
     elim (decLt i (length (h .slots))) [
       | yes y ↦ eqb-true _ _ (below-at (λ i. eqb (places h i) 1) (length (h .slots)) (a .0) i y) ∙ sym (ap bit (lt-ltb i (length (h .slots)) y))
       | no y ↦
-          let z : times i (h .free ++ h .quarantine) ≡ 0 = times-none (h .free ++ h .quarantine) (length (h .slots)) i (a .1) (omega arith) in
+          let z : times i (h .free ++ h .quarantine ++ h .retired) ≡ 0 = times-none (h .free ++ h .quarantine ++ h .retired) (length (h .slots)) i (a .1) (omega arith) in
           let blank : slotAt h i ≡ noSlot = List·getD-eq-default (h .slots) noSlot (omega arith) in
-          omega (arith, times-append i (h .free) (h .quarantine), ap liveBit blank, ap bit (le-ltb i (length (h .slots)) (omega arith)))
+          omega (arith, times-three h i, ap liveBit blank, ap bit (le-ltb i (length (h .slots)) (omega arith)))
     ]
+
+-- a slot index that is in a place is one of the slots
+placed-inside : (h : State) → ((i : ℕ) → places h i ≡ bit (ltb i (length (h .slots)))) → (i : ℕ) → 1 ≤ places h i → i < length (h .slots)
+placed-inside h p i m = elim (decLt i (length (h .slots))) [ yes y ↦ y | no y ↦ absurd (omega (arith, p i, ap bit (le-ltb i (length (h .slots)) (omega arith)))) ]
 
 pub parts-test : (h : State) → ((i : ℕ) → places h i ≡ bit (ltb i (length (h .slots)))) → partitioned h ≡ true
 unfolding partitioned
 parts-test h p =
     both-and (allBelow (λ i. eqb (places h i) 1) (length (h .slots))) _
     (at-below (λ i. eqb (places h i) 1) (length (h .slots)) (λ i y. eq-eqb _ _ (p i ∙ ap bit (lt-ltb i (length (h .slots)) y))))
-    (at-all (λ i. ltb i (length (h .slots))) (h .free ++ h .quarantine) 0 (λ k y. inside (getD (h .free ++ h .quarantine) k 0) (times-member (h .free ++ h .quarantine) k y)))
+    (at-all (λ i. ltb i (length (h .slots))) (h .free ++ h .quarantine ++ h .retired) 0 (λ k y. inside (getD (h .free ++ h .quarantine ++ h .retired) k 0) (times-member (h .free ++ h .quarantine ++ h .retired) k y)))
   where
-    inside : (i : ℕ) → 1 ≤ times i (h .free ++ h .quarantine) → ltb i (length (h .slots)) ≡ true
+    inside : (i : ℕ) → 1 ≤ times i (h .free ++ h .quarantine ++ h .retired) → ltb i (length (h .slots)) ≡ true
     inside i m = elim (decLt i (length (h .slots))) [
       | yes y ↦ lt-ltb _ _ y
-      | no y ↦ absurd (omega (arith, p i, times-append i (h .free) (h .quarantine), ap bit (le-ltb i (length (h .slots)) (omega arith))))
+      | no y ↦ absurd (omega (arith, p i, times-three h i, ap bit (le-ltb i (length (h .slots)) (omega arith))))
     ]
+
+-- ---- free and retired slots
+
+all-times : (p : ℕ → Bool) (xs : List ℕ) (i : ℕ) → all p xs ≡ true → 1 ≤ times i xs → p i ≡ true
+unfolding all times
+all-times p [] i t m = absurd (omega arith)
+all-times p (x ∷ xs) i t m =
+    let a = and-both (p x) (all p xs) t in
+    elim (ℕ-discrete x i) [
+      | yes e ↦ ap p (sym e) ∙ a .0
+      | no ne ↦ all-times p xs i (a .1) (omega (arith, ap bit (ne-eqb x i ne)))
+    ]
+
+times-all : (p : ℕ → Bool) (xs : List ℕ) → ((i : ℕ) → 1 ≤ times i xs → p i ≡ true) → all p xs ≡ true
+times-all p xs h = at-all p xs 0 (λ k y. h (getD xs k 0) (times-member xs k y))
+
+not-worn : (s : Slot) → SlotSound s → not (worn s) ≡ true → s .generation < lastGeneration
+not-worn s k e = elim (ℕ-discrete (s .generation) lastGeneration) [
+  | yes q ↦ let w : worn s ≡ true = eq-eqb (s .generation) lastGeneration q in let z : _≡_ {A = ℕ} 0 1 = cc in absurd (omega arith)
+  | no q ↦ omega (arith, k .most)
+]
 
 -- ---- equal lent memory
 
@@ -177,15 +209,19 @@ lent-test a = simp (same-number, same-test)
 -- ---- all of it
 
 pub sound-tested : (S P : ℕ) (h : State) → fits S P h ≡ true → sound h ≡ true → Sound S P h
-unfolding fits sound soundReclaim
+unfolding fits sound soundReclaim retiredRightly
 sound-tested S P h f t =
     let f₁ = and-both (leb 1 S && leb S 16777216 && leb P 1073741824 && leb (length (h .slots)) S) (leb (length (flat (dataOf (h .slots)))) P) f in
     let f₂ = and-both (leb 1 S && leb S 16777216 && leb P 1073741824) (leb (length (h .slots)) S) (f₁ .0) in
     let f₃ = and-both (leb 1 S && leb S 16777216) (leb P 1073741824) (f₂ .0) in
     let f₄ = and-both (leb 1 S) (leb S 16777216) (f₃ .0) in
-    let t₁ = and-both (all soundSlot (h .slots) && partitioned h && soundSeals (h .tag) (length (h .slots)) 0 (h .sealed)) (soundReclaim (h .reclaimAt)) t in
-    let t₂ = and-both (all soundSlot (h .slots) && partitioned h) (soundSeals (h .tag) (length (h .slots)) 0 (h .sealed)) (t₁ .0) in
-    let t₃ = and-both (all soundSlot (h .slots)) (partitioned h) (t₂ .0) in
+    let t₁ = and-both (all soundSlot (h .slots) && partitioned h && retiredRightly h && soundSeals (h .tag) (length (h .slots)) 0 (h .sealed)) (soundReclaim (h .reclaimAt)) t in
+    let t₂ = and-both (all soundSlot (h .slots) && partitioned h && retiredRightly h) (soundSeals (h .tag) (length (h .slots)) 0 (h .sealed)) (t₁ .0) in
+    let t₄ = and-both (all soundSlot (h .slots) && partitioned h) (retiredRightly h) (t₂ .0) in
+    let t₃ = and-both (all soundSlot (h .slots)) (partitioned h) (t₄ .0) in
+    let ages = and-both (all (λ i. not (worn (slotAt h i))) (h .free)) (all (λ i. worn (slotAt h i)) (h .retired)) (t₄ .1) in
+    let part : (i : ℕ) → places h i ≡ bit (ltb i (length (h .slots))) = parts-tested h (t₃ .1) in
+    let each : (i : ℕ) → i < length (h .slots) → SlotSound (slotAt h i) = λ i k. slot-tested (slotAt h i) (all-at soundSlot (h .slots) noSlot (t₃ .0) i k) in
     let r₁ = and-both (eqb (h .reclaimAt % 2) 0 && leb 4096 (h .reclaimAt)) (leb (h .reclaimAt) 33554432) (t₁ .1) in
     let r₂ = and-both (eqb (h .reclaimAt % 2) 0) (leb 4096 (h .reclaimAt)) (r₁ .0) in
     record {
@@ -193,15 +229,17 @@ sound-tested S P h f t =
       pool-range = leb-true P 1073741824 (f₃ .1);
       slots-fit = leb-true (length (h .slots)) S (f₂ .1);
       data-fit = leb-true (length (flat (dataOf (h .slots)))) P (f₁ .1);
-      partition = parts-tested h (t₃ .1);
-      each-slot = λ i k. slot-tested (slotAt h i) (all-at soundSlot (h .slots) noSlot (t₃ .0) i k);
+      partition = part;
+      young = λ i m. not-worn (slotAt h i) (each i (placed-inside h part i (omega arith))) (all-times (λ i. not (worn (slotAt h i))) (h .free) i (ages .0) m);
+      spent = λ i m. eqb-true (slotAt h i .generation) lastGeneration (all-times (λ i. worn (slotAt h i)) (h .retired) i (ages .1) m);
+      each-slot = each;
       seals = t₂ .1;
       reclaim-range = (leb-true 4096 (h .reclaimAt) (r₂ .1), leb-true (h .reclaimAt) 33554432 (r₁ .1));
       reclaim-even = eqb-true (h .reclaimAt % 2) 0 (r₂ .0);
     }
 
 pub sound-test : (S P : ℕ) (h : State) → Sound S P h → (fits S P h && sound h) ≡ true
-unfolding fits sound soundReclaim
+unfolding fits sound soundReclaim retiredRightly
 sound-test S P h s =
     simp (
       le-leb 1 S (s .slot-range .0),
@@ -211,6 +249,8 @@ sound-test S P h s =
       le-leb (length (flat (dataOf (h .slots)))) P (s .data-fit),
       at-all soundSlot (h .slots) noSlot (λ i k. slot-tests (slotAt h i) (s .each-slot i k)),
       parts-test h (s .partition),
+      times-all (λ i. not (worn (slotAt h i))) (h .free) (λ i m. ap not (ne-eqb (slotAt h i .generation) lastGeneration (λ e. omega (arith, s .young i m)))),
+      times-all (λ i. worn (slotAt h i)) (h .retired) (λ i m. eq-eqb (slotAt h i .generation) lastGeneration (s .spent i m)),
       s .seals,
       le-leb 4096 (h .reclaimAt) (s .reclaim-range .0),
       le-leb (h .reclaimAt) 33554432 (s .reclaim-range .1),

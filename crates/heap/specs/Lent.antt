@@ -68,7 +68,7 @@ headerOf h =
       slots = length (h .slots);
       free = length (h .free);
       quarantine = length (h .quarantine);
-      retired = 0;
+      retired = length (h .retired);
       sealed = length (h .sealed);
     }
 
@@ -92,7 +92,7 @@ stored S P h =
       free = pad S (h .free);
       quarantine = pad S (h .quarantine);
       sealed = pad S (h .sealed);
-      retired = pad S [];
+      retired = pad S (h .retired);
       over = [];
     }
 
@@ -121,6 +121,7 @@ view l =
       slots = tabulate (l .header .slots) (slotIn l);
       free = take (l .header .free) (l .free);
       quarantine = take (l .header .quarantine) (l .quarantine);
+      retired = take (l .header .retired) (l .retired);
       sealed = take (l .header .sealed) (l .sealed);
     }
 

@@ -7,7 +7,7 @@ ghost use Rattle.word.specs.Run.{run};
 ghost use Rattle.heap.specs.Packing.{startOf};
 ghost use Rattle.heap.specs.Calls.{new as newHeap};
 ghost use Rattle.heap.specs.Lent.{headerOf, lent};
-ghost use Rattle.heap.specs.Header.{setCharged, setChanged, setSince, setReclaim, setLive, setSlots, setFree, setQuarantine, setSealed};
+ghost use Rattle.heap.specs.Header.{setCharged, setChanged, setSince, setReclaim, setLive, setSlots, setFree, setQuarantine, setRetired, setSealed};
 ghost use Rattle.heap.specs.Sizes.{sizesFit};
 ghost use Rattle.heap.specs.Columns.{CanSplice, Spliced, CanPlace, PlacedIn};
 
@@ -105,6 +105,13 @@ impl Heap {
         ensures { λ r. ⌜ r ≡ setQuarantine self n ⌝ }
     {
         self.quarantine = n;
+        self
+    }
+
+    pub fn with_retired(mut self, n: usize) -> Heap
+        ensures { λ r. ⌜ r ≡ setRetired self n ⌝ }
+    {
+        self.retired = n;
         self
     }
 

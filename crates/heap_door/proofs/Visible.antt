@@ -24,7 +24,7 @@ use Rattle.refusal.specs.declared.Answer.{Answer}
 use Rattle.refusal.specs.declared.Refusal.{Refusal}
 use Rattle.refusal.specs.declared.Refusal.the-variants.{BrokenHeap, Scratch}
 use Rattle.heap_edit.proofs.Columns.{from-at}
-use Rattle.heap_edit.proofs.Soundness.{live-inside}
+use Rattle.heap.proofs.Keeping.{live-inside}
 use Rattle.door.specs.HeapCalls.{test, admitted, enough, heapTests, Asked, asked, heapAsk}
 use Rattle.door.specs.declared.Entry.{Entry}
 use Rattle.door.specs.declared.Entry.the-variants.{Ready, Not}

@@ -4,11 +4,11 @@ use mathlib.Core.Bool.{true, false}
 use mathlib.Core.List.{List}
 use Prim.Native.Nat.{ℕ, _+_, _-_, _≤_, _<_}
 use lib.ListN.{length}
-use borrow.Author.Tests.{lt-ltb, le-ltb, le-leb, lt-leb}
+use borrow.Author.Tests.{lt-ltb, le-ltb, eq-eqb, ne-eqb}
 use Rattle.word.specs.Put.{put}
 use Rattle.word.specs.Result.{Result, ok, refused}
 use Rattle.handle.specs.Handle.{packed}
-use Rattle.heap.specs.State.{State, slotAt, live, dataSize}
+use Rattle.heap.specs.State.{State, slotAt, live, lastGeneration, dataSize}
 use Rattle.heap.specs.Calls.{refuse, done, withSlot, changed, charged, rewritten, reissued, resolve, onSlot, editSlot, edit, write, reissue}
 
 module _ (P : ℕ) (h : State) (x : ℕ) (bytes : List ℕ) (start : ℕ) where
@@ -48,10 +48,15 @@ module _ (h : State) (i at : ℕ) (bytes : List ℕ) where
           simp (alive, le-ltb (length (slotAt h i .bytes)) (slotAt h i .start) shown, le-ltb (length (slotAt h i .bytes)) (slotAt h i .start + at + length bytes) b)
 
 module _ (h : State) (i grown : ℕ) where
-  pub reissue-none : length (h .slots) ≤ i → reissue h i grown ≡ refuse 9 h
+  pub reissue-dead : live (slotAt h i) ≡ false → reissue h i grown ≡ refuse 9 h
   unfolding reissue
-  reissue-none b = simp (le-leb (length (h .slots)) i b)
+  reissue-dead d = simp d
 
-  pub reissue-done : i < length (h .slots) → reissue h i grown ≡ done (packed (h .tag) i (reissued (slotAt h i) .generation)) (withSlot (charged h grown) i (reissued (slotAt h i)))
-  unfolding reissue
-  reissue-done b = simp (lt-leb (length (h .slots)) i b)
+  module _ (alive : live (slotAt h i) ≡ true) where
+    pub reissue-worn : slotAt h i .generation ≡ lastGeneration → reissue h i grown ≡ refuse 20 h
+    unfolding reissue
+    reissue-worn e = simp (alive, eq-eqb (slotAt h i .generation) lastGeneration e)
+
+    pub reissue-done : (slotAt h i .generation ≡ lastGeneration → ⊥) → reissue h i grown ≡ done (packed (h .tag) i (reissued (slotAt h i) .generation)) (withSlot (charged h grown) i (reissued (slotAt h i)))
+    unfolding reissue
+    reissue-done ne = simp (alive, ne-eqb (slotAt h i .generation) lastGeneration ne)

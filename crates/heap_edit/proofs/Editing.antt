@@ -26,14 +26,14 @@ use Rattle.heap.specs.Columns.{CanSplice, CanPlace, PlacedIn, putSlot}
 use Rattle.heap.specs.Done.{Does, Tells}
 use Rattle.heap.specs.Calls.{Changed, refuse, changed, rewritten, resolve, edit}
 use Rattle.heap.specs.declared.Heap.{Heap}
-use Rattle.heap.proofs.Keeping.{leaves}
+use Rattle.heap.proofs.Keeping.{live-inside, leaves}
 use Rattle.heap.proofs.Changing.{log-lies}
 use Rattle.heap.proofs.Placing.{placed-lies}
 use Rattle.heap.proofs.Telling.{tells-is, tells-not}
 use Rattle.heap.proofs.Runs.{with-header}
 use Rattle.heap_edit.proofs.Columns.{formed, knows, Reads, reads}
 use Rattle.heap_edit.proofs.Cases.{edit-unresolved, edit-full, edit-done}
-use Rattle.heap_edit.proofs.Soundness.{live-inside, resolved-live, edit-sound}
+use Rattle.heap_edit.proofs.Soundness.{resolved-live, edit-sound}
 use Rattle.heap_edit.proofs.Replacing.{can-splice}
 use Rattle.heap_edit.proofs.Questions.{resolves}
 use Rattle.handle.specs.Handle.{resolveBy}

@@ -3,13 +3,12 @@ use mathlib.Core.Path.{_≡_, refl, sym, ap, _∙_, subst}
 use mathlib.Core.Bool.{Bool, true, false}
 use mathlib.Core.List.{List, [], _∷_}
 use Prim.Native.Nat.{ℕ, zero, suc, _+_, _-_, _^_, _≤_, _<_}
-use native.Mathlib.Decide.{decLt}
+use native.Mathlib.Decide.{decLt, ℕ-discrete}
 use native.Mathlib.Omega.{arith}
 use lib.ListN.{length, getD, List·getD-eq-default}
 use borrow.Author.Tests.{ltb-true}
 use mathlib.Core.Logic.{⊎-elim}
 use Rattle.word.specs.Choice.{if_then_else_}
-use Rattle.word.specs.Num.{nextFrom}
 use Rattle.word.proofs.Bools.{either}
 use Rattle.word.specs.Put.{put}
 use Rattle.word.specs.Result.{Result, ok, refused}
@@ -17,41 +16,29 @@ use Rattle.word.proofs.PutLaws.{length-put}
 use Rattle.handle.specs.Handle.{packed, indexOf}
 use Rattle.handle.proofs.HandleLaws.{tag-packed, index-packed, generation-packed}
 use Rattle.handle.proofs.ResolveLaws.{resolve-ok}
-use Rattle.heap.specs.State.{Slot, State, noSlot, slotAt, live, dataSize, withSealed}
+use Rattle.heap.specs.State.{Slot, State, noSlot, slotAt, live, lastGeneration, dataSize, withSealed}
 use Rattle.heap.specs.WellFormed.{soundSeals}
 use Rattle.heap.specs.Calls.{Changed, withSlot, rewritten, reissued, resolve, edit, write, reissue, seal, liveHandles}
 use Rattle.heap.proofs.Sound.{SlotSound, Sound}
 use Rattle.heap.proofs.Seals.{seals-join}
-use Rattle.heap.proofs.Keeping.{slot-sound, since-sound, epoch-sound, step-aged}
+use Rattle.heap.proofs.Keeping.{live-inside, slot-sound, since-sound, epoch-sound, step-aged, step-most}
 use Rattle.heap_edit.proofs.Columns.{data-upto}
-use Rattle.heap_edit.proofs.Cases.{edit-unresolved, edit-full, edit-done, write-dead, write-hidden, write-beyond, write-done, reissue-none, reissue-done}
+use Rattle.heap_edit.proofs.Cases.{edit-unresolved, edit-full, edit-done, write-dead, write-hidden, write-beyond, write-done, reissue-dead, reissue-worn, reissue-done}
 
 -- new seals
 seals-sound : (S P : ℕ) (h : State) (xs : List ℕ) → Sound S P h → soundSeals (h .tag) (length (h .slots)) 0 xs ≡ true → Sound S P (withSealed h xs)
 seals-sound S P h xs k s =
-    record { slot-range = k .slot-range; pool-range = k .pool-range; slots-fit = k .slots-fit; data-fit = k .data-fit; partition = k .partition; each-slot = k .each-slot; seals = s; reclaim-range = k .reclaim-range; reclaim-even = k .reclaim-even }
+    record { slot-range = k .slot-range; pool-range = k .pool-range; slots-fit = k .slots-fit; data-fit = k .data-fit; partition = k .partition; young = k .young; spent = k .spent; each-slot = k .each-slot; seals = s; reclaim-range = k .reclaim-range; reclaim-even = k .reclaim-even }
 
 -- ---- the slots that the calls leave
 
-pub live-inside : (h : State) (i : ℕ) → live (slotAt h i) ≡ true → i < length (h .slots)
-live-inside h i e =
-    elim (decLt i (length (h .slots))) [
-      | yes b ↦ b
-      | no b ↦ absurd (omega (arith, ltb-true 0 (slotAt h i .kind) e, ap (λ (s : Slot). s .kind) (List·getD-eq-default (h .slots) noSlot {n = i} (omega arith))))
-    ]
-
 rewritten-sound : (s : Slot) (start : ℕ) (bytes : List ℕ) → SlotSound s → live s ≡ true → SlotSound (rewritten s start bytes)
 rewritten-sound s start bytes k e =
-    record { kinds = k .kinds; aged = k .aged; untyped = k .untyped; dead = λ z. absurd (omega (arith, ltb-true 0 (s .kind) e)) }
+    record { kinds = k .kinds; aged = k .aged; most = k .most; untyped = k .untyped; dead = λ z. absurd (omega (arith, ltb-true 0 (s .kind) e)) }
 
-reissued-sound : (s : Slot) → SlotSound s → SlotSound (reissued s)
-reissued-sound s k =
-    record {
-      kinds = k .kinds;
-      aged = step-aged (s .generation);
-      untyped = k .untyped;
-      dead = λ z. let d = k .dead z in λ j. record { generation = nextFrom 32 (s .generation); kind = z j; type = ap (λ (x : Slot). x .type) d j; start = ap (λ (x : Slot). x .start) d j; writes = 0; bytes = ap (λ (x : Slot). x .bytes) d j };
-    }
+reissued-sound : (s : Slot) → SlotSound s → live s ≡ true → SlotSound (reissued s)
+reissued-sound s k e =
+    record { kinds = k .kinds; aged = step-aged (s .generation); most = step-most (s .generation); untyped = k .untyped; dead = λ z. absurd (omega (arith, ltb-true 0 (s .kind) e)) }
 
 -- new data of a live slot, where it fits
 module _ (S P : ℕ) (h : State) (k : Sound S P h) (i : ℕ) (alive : live (slotAt h i) ≡ true) where
@@ -59,7 +46,7 @@ module _ (S P : ℕ) (h : State) (k : Sound S P h) (i : ℕ) (alive : live (slot
   rewrite-sound start bytes room =
       let b : i < length (h .slots) = live-inside h i alive in
       let s : Slot = rewritten (slotAt h i) start bytes in
-      slot-sound S P h i s k b (rewritten-sound (slotAt h i) start bytes (k .each-slot i b) alive) refl
+      slot-sound S P h i s k (rewritten-sound (slotAt h i) start bytes (k .each-slot i b) alive) alive alive
       (omega (arith, data-upto (h .slots) i b))
 
 -- ---- the calls
@@ -105,16 +92,18 @@ write-sound S P h i at bytes k = ⊎-elim alive (λ d. keeps S P _ _ (write-dead
         ]
 
 pub reissue-sound : (S P : ℕ) (h : State) (i grown : ℕ) → Sound S P h → Sound S P (reissue h i grown .heap)
-reissue-sound S P h i grown k =
-    elim (decLt i (length (h .slots))) [
-      | no b ↦ keeps S P _ _ (reissue-none h i grown (omega arith)) k
-      | yes b ↦ keeps S P _ _ (reissue-done h i grown b)
+reissue-sound S P h i grown k = ⊎-elim alive (λ d. keeps S P _ _ (reissue-dead h i grown d) k) (either (live (slotAt h i)))
+  where
+    alive : live (slotAt h i) ≡ true → Sound S P (reissue h i grown .heap)
+    alive a = elim (ℕ-discrete (slotAt h i .generation) lastGeneration) [
+      | yes e ↦ keeps S P _ _ (reissue-worn h i grown a e) k
+      | no ne ↦ keeps S P _ _ (reissue-done h i grown a ne)
           (since-sound S P (withSlot h i (reissued (slotAt h i))) _
-          (slot-sound S P h i (reissued (slotAt h i)) k b (reissued-sound (slotAt h i) (k .each-slot i b)) refl
+          (slot-sound S P h i (reissued (slotAt h i)) k (reissued-sound (slotAt h i) (k .each-slot i (live-inside h i a)) a) a a
           (omega (arith, k .data-fit))))
     ]
 
--- the handles of the live slots from i on are sound seals, where generations have 32 bits
+-- the handles of the live slots from i on are sound seals
 handles-sound : (tag n i from : ℕ) (slots : List Slot) → n ≡ i + length slots → n ≤ 2 ^ 24 → from ≤ i → ((j : ℕ) → j < length slots → (1 ≤ getD slots j noSlot .generation) × (getD slots j noSlot .generation < 2 ^ 32))
     → soundSeals tag n from (liveHandles tag i slots) ≡ true
 unfolding soundSeals liveHandles
@@ -132,8 +121,8 @@ handles-sound tag n i from (s ∷ ss) e few low each =
         (record { ours = tag-packed tag i (s .generation) (omega arith) (g .1); above = omega arith; inside = omega arith; aged = omega (arith, generation-packed tag i (s .generation) (g .1), g .0) })
         ∙ rest (suc (indexOf (packed tag i (s .generation)))) (omega arith)
 
-pub seal-sound : (S P : ℕ) (h : State) → ((i : ℕ) → i < length (h .slots) → slotAt h i .generation < 2 ^ 32) → Sound S P h → Sound S P (seal h)
+pub seal-sound : (S P : ℕ) (h : State) → Sound S P h → Sound S P (seal h)
 unfolding seal
-seal-sound S P h low k =
+seal-sound S P h k =
     seals-sound S P h (liveHandles (h .tag) 0 (h .slots)) k
-    (handles-sound (h .tag) (length (h .slots)) 0 0 (h .slots) (omega arith) (omega (arith, k .slots-fit, k .slot-range)) (omega arith) (λ j b. (k .each-slot j b .aged, low j b)))
+    (handles-sound (h .tag) (length (h .slots)) 0 0 (h .slots) (omega arith) (omega (arith, k .slots-fit, k .slot-range)) (omega arith) (λ j b. (k .each-slot j b .aged, omega (arith, k .each-slot j b .most))))

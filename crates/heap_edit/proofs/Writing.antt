@@ -22,14 +22,14 @@ use Rattle.heap.specs.WellFormed.{wellFormed}
 use Rattle.heap.specs.Done.{Does, Tells}
 use Rattle.heap.specs.Calls.{Changed, refuse, withSlot, rewritten, write}
 use Rattle.heap.specs.declared.Heap.{Heap}
-use Rattle.heap.proofs.Keeping.{leaves}
+use Rattle.heap.proofs.Keeping.{live-inside, leaves}
 use Rattle.heap.proofs.Telling.{tells-is, tells-not}
 use Rattle.heap.proofs.Runs.{set-writes}
 use Rattle.heap_edit.specs.inner.Seen.{seenAt}
 use Rattle.heap_edit.specs.declared.Visible.the-variants.{Dead, Hidden, Shown}
 use Rattle.heap_edit.proofs.Columns.{formed, knows, generation-is, kind-is, type-is, start-is, writes-is, from-is, data-upto, sizes}
 use Rattle.heap_edit.proofs.Cases.{write-dead, write-hidden, write-beyond, write-done}
-use Rattle.heap_edit.proofs.Soundness.{live-inside, write-sound}
+use Rattle.heap_edit.proofs.Soundness.{write-sound}
 use Rattle.heap_edit.proofs.Replacing.{stays, SlotData, slot-lies, same-data, written-data}
 
 -- ---- what is seen, and what it means

@@ -327,7 +327,7 @@ pub fn write(
 
 // ---- reissue
 
-// A new handle for slot `i`, also for a dead one, which its handle then does not lead to.
+// A new handle for the live slot `i`: 9 where no live one is there, then 20 where it is worn out.
 pub fn reissue(
     heap: Heap,
     narrow: &mut [u32],
@@ -342,14 +342,28 @@ pub fn reissue(
         (reissued (view (lent heap (now (narrow .entry)) (now (wide .entry)) (now (pool .entry)))) i grown) ⌝ }
 {
     let tag = heap.tag;
+    let s = narrow.len() / 6;
     if heap.slots <= i {
         return Changed {
             heap: heap,
             reply: Reply::Not(Refusal::NothingThere),
         };
     }
-    let s = narrow.len() / 6;
-    let g = word::next_generation(narrow[i]);
+    let held = narrow[s + i];
+    if held == 0 {
+        return Changed {
+            heap: heap,
+            reply: Reply::Not(Refusal::NothingThere),
+        };
+    }
+    let old = narrow[i];
+    if old == u32::MAX {
+        return Changed {
+            heap: heap,
+            reply: Reply::Not(Refusal::WornOut),
+        };
+    }
+    let g = word::next_generation(old);
     narrow[i] = g;
     wide[2 * s + i] = 0;
     Changed {

@@ -17,7 +17,7 @@ use Rattle.refusal.specs.declared.Refusal.the-variants.{BrokenHeap, Scratch}
 use Rattle.refusal.specs.declared.Reply.the-variants.{Is, Not as Refused}
 use Rattle.heap.specs.Packing.{flat}
 use Rattle.heap.specs.Lent.{Lent, lent, stored, view}
-use Rattle.heap.specs.WellFormed.{partitioned, soundSeals, soundReclaim, sound, fits, wellFormed}
+use Rattle.heap.specs.WellFormed.{partitioned, retiredRightly, soundSeals, soundReclaim, sound, fits, wellFormed}
 use Rattle.heap.specs.Calls.{new}
 use Rattle.heap.specs.Done.{Tells}
 use Rattle.heap.specs.declared.Heap.{Heap}
@@ -33,7 +33,7 @@ use Rattle.object_door.specs.Making.{noHeader, newTests, making, newCall
 -- ---- a new heap is well formed
 
 new-sound : (tag : ℕ) → sound (new tag) ≡ true
-unfolding sound new all partitioned allBelow soundSeals soundReclaim
+unfolding sound new all partitioned retiredRightly allBelow soundSeals soundReclaim
 new-sound tag = refl
 
 new-fits : (n w p tag : ℕ) → Sizes n w p → fits (n / 6) p (new tag) ≡ true

@@ -9,9 +9,9 @@ ghost use mathlib.Core.List.{List, [], _∷_, _++_};
 ghost use Prim.Native.Nat.{ℕ, _+_, _-_, _*_, _^_, _≤_, _<_};
 ghost use lib.ListN.{length, take, drop, replicate};
 ghost use Rattle.text.specs.Text.{give};
-ghost use Rattle.text.specs.Answer.{eitherAnswer};
+ghost use Rattle.text.specs.Answer.{decimalAnswer, eitherAnswer};
 ghost use Rattle.pages.specs.Form.{writesWidth, names, sealedName};
-ghost use Rattle.pages.specs.Page.{slotFormat, headFormat, readPage};
+ghost use Rattle.pages.specs.Page.{slotFormat, sealedEnd, retiredCount, headFormat, readPage};
 ghost use Rattle.text.specs.Format.{readAll, number};
 ghost use mathlib.Core.Bool.{_&&_};
 ghost use Rattle.page_check.specs.Partition.{valuesAt, ValuesParsed, marked, Marked, expected, agree, eachOnce};
@@ -374,6 +374,7 @@ pub struct HeadRead {
     pub free: usize,
     pub quarantine: usize,
     pub sealed: usize,
+    pub retired: usize,
     pub next: usize,
 }
 
@@ -382,10 +383,29 @@ pub enum HeadLine {
     NoHead,
 }
 
-// Reads the line of a heap's numbers from `at` on.
-pub fn get_head(s: &[u8], at: usize) -> HeadLine
-    ensures { λ r. ⌜ r ≡ headAnswer (length (now (s .entry))) (headFormat .read (drop at (now (s .entry)))) ⌝ }
+// The byte after the count of seals: the line ends there, or goes on with the count of the retired.
+fn sealed_end(retiring: bool) -> u8
+    ensures { λ r. ⌜ r ≡ sealedEnd retiring ⌝ }
 {
+    if retiring { 44 } else { 10 }
+}
+
+// Reads the count of the retired, where the line has it.
+fn retired_count(s: &[u8], at: usize, retiring: bool) -> Decimal
+    requires { ⌜ at ≤ length (now s) ⌝ }
+    ensures { λ r. ⌜ r ≡ decimalAnswer (length (now (s .entry))) (retiredCount retiring .read (drop at (now (s .entry)))) ⌝ }
+{
+    if retiring {
+        return text::get_field(s, at, 4294967295, 10);
+    }
+    Decimal::Number(0, at)
+}
+
+// Reads the line of a heap's numbers from `at` on.
+pub fn get_head(s: &[u8], at: usize, retiring: bool) -> HeadLine
+    ensures { λ r. ⌜ r ≡ headAnswer (length (now (s .entry))) (headFormat retiring .read (drop at (now (s .entry)))) ⌝ }
+{
+    let end = sealed_end(retiring);
     let Decimal::Number(t, a) = text::get_field(s, at, 255, 44) else {
         return HeadLine::NoHead;
     };
@@ -407,7 +427,10 @@ pub fn get_head(s: &[u8], at: usize) -> HeadLine
     let Decimal::Number(q, h) = text::get_field(s, g, 4294967295, 44) else {
         return HeadLine::NoHead;
     };
-    let Decimal::Number(z, i) = text::get_field(s, h, 4294967295, 10) else {
+    let Decimal::Number(z, i) = text::get_field(s, h, 4294967295, end) else {
+        return HeadLine::NoHead;
+    };
+    let Decimal::Number(w, j) = retired_count(s, i, retiring) else {
         return HeadLine::NoHead;
     };
     HeadLine::Head(HeadRead {
@@ -419,7 +442,8 @@ pub fn get_head(s: &[u8], at: usize) -> HeadLine
         free: f as usize,
         quarantine: q as usize,
         sealed: z as usize,
-        next: i,
+        retired: w as usize,
+        next: j,
     })
 }
 
@@ -501,7 +525,7 @@ fn head_section(s: &[u8]) -> HeadLine
     ) else {
         return HeadLine::NoHead;
     };
-    get_head(s, a)
+    get_head(s, a, true)
 }
 
 // Reads a names line that ends in one of two ways, from `at` on: which way, and where the next line begins.

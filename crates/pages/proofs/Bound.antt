@@ -1,11 +1,12 @@
 -- A page takes at most 256 + 96 × slots + 2 × data bytes, in every form: a live slot's line has at most 67 bytes beside its data, a dead one's 20 and its entry in a list 11, a seal 21.
-use Prim.Native.Nat.{ℕ, zero, suc, _+_, _-_, _*_, _^_, _≤_, _<_}
+use Prim.Native.Nat.{ℕ, zero, suc, _+_, _-_, _*_, _%_, _^_, _≤_, _<_}
 use mathlib.Core.List.{List, [], _∷_, _++_, flatMap}
 use mathlib.Core.Bool.{Bool, true, false, _&&_}
 use mathlib.Core.Path.{_≡_, refl, ap, _∙_}
 use lib.ListN.{length, getD, length-append}
 use native.Mathlib.Omega.{arith}
-use borrow.Author.Tests.{lt-ltb, le-ltb}
+use lib.Dec.{eqb, leb}
+use borrow.Author.Tests.{lt-ltb, le-ltb, leb-true}
 use Rattle.text.specs.Text.{ascii, decimal, line}
 use Rattle.text.specs.Format.{All}
 use Rattle.text.proofs.Laws.{decimal-length, decimal-length-one, hex-length}
@@ -18,9 +19,9 @@ use Rattle.heap.proofs.Testing.{parts-tested, slot-tested}
 use Rattle.heap.specs.State.{Slot, State, noSlot, dataOf, dataSize, times, slotAt, live, bit}
 use Rattle.heap.specs.Calls.{liveCount}
 use Rattle.heap.specs.Packing.{flat}
-use Rattle.heap.specs.WellFormed.{partitioned, soundSlot, soundSeals, soundReclaim, sound}
-use Rattle.pages.specs.Form.{Form, writesWidth, heapNames, slotFront, wideWrites, narrowWrites, slotNames, freeName, quarantineName, sealedName}
-use Rattle.pages.specs.Page.{slotLine, valueLine, numbersLine, heapLine, pageText, SlotWithin, Within}
+use Rattle.heap.specs.WellFormed.{partitioned, soundSlot, retiredRightly, soundSeals, soundReclaim, sound}
+use Rattle.pages.specs.Form.{Form, formOf, writesWidth, heapFront, retiredToo, noRetired, heapNames, slotFront, wideWrites, narrowWrites, slotNames, freeName, quarantineName, sealedName, retiredName}
+use Rattle.pages.specs.Page.{slotLine, valueLine, numbersLine, heapLine, retiredPart, pageText, SlotWithin, RetiredWithin, Within}
 
 -- numbers of each width
 short : (n : ℕ) → n < 2 ^ 8 → length (decimal n) ≤ 3
@@ -82,29 +83,53 @@ unfolding flatMap
 long-lines [] h = omega arith
 long-lines (n ∷ l) h = rw (length-append (valueLine n) (flatMap valueLine l)) (omega (arith, value-length n 20 (long n (h .0)), long-lines l (h .1)))
 
-head-length : (f : Form) (h : State) → Within f h → length (heapLine h) ≤ 111
+retired-lines : (r : Bool) (l : List ℕ) → RetiredWithin r l → length (retiredPart r l) ≤ 8 + 11 * length l
+unfolding retiredPart retiredName ascii
+retired-lines true l h = omega (arith, length-append retiredName (flatMap valueLine l), middle-lines l (h .1))
+retired-lines false l h = omega arith
+
+-- reclaim_at has 8 digits in a sound heap
+head-length : (r : Bool) (h : State) → h .tag < 2 ^ 8 → h .sinceGc < 2 ^ 64 → h .reclaimAt ≤ 33554432 → h .liveBytes < 2 ^ 64 →
+    length (h .slots) < 2 ^ 32 → length (h .free) < 2 ^ 32 → length (h .quarantine) < 2 ^ 32 → length (h .sealed) < 2 ^ 32 → RetiredWithin r (h .retired) →
+    length (heapLine r h) ≤ 110
 unfolding heapLine numbersLine line
-head-length f h w =
+head-length true h a b c d e f g i j =
     simp length-append
     (omega (
       arith,
-      short (h .tag) (w .tag),
-      long (h .sinceGc) (w .sinceGc),
-      long (h .reclaimAt) (w .reclaimAt),
-      long (h .liveBytes) (w .liveBytes),
-      middle (length (h .slots)) (w .slot-count),
-      middle (length (h .free)) (w .free-count),
-      middle (length (h .quarantine)) (w .quarantine-count),
-      middle (length (h .sealed)) (w .sealed-count),
+      short (h .tag) a,
+      long (h .sinceGc) b,
+      decimal-length 7 (h .reclaimAt) (omega arith),
+      long (h .liveBytes) d,
+      middle (length (h .slots)) e,
+      middle (length (h .free)) f,
+      middle (length (h .quarantine)) g,
+      middle (length (h .sealed)) i,
+      middle (length (h .retired)) (j .0),
+    ))
+head-length false h a b c d e f g i j =
+    simp length-append
+    (omega (
+      arith,
+      short (h .tag) a,
+      long (h .sinceGc) b,
+      decimal-length 7 (h .reclaimAt) (omega arith),
+      long (h .liveBytes) d,
+      middle (length (h .slots)) e,
+      middle (length (h .free)) f,
+      middle (length (h .quarantine)) g,
+      middle (length (h .sealed)) i,
     ))
 
-names-length : (f : Form) → length heapNames + length (slotNames f) + length freeName + length quarantineName + length sealedName ≤ 128
-unfolding heapNames slotNames slotFront wideWrites narrowWrites freeName quarantineName sealedName ascii
-names-length f = one (f .wide)
+names-length : (f : Form) → length (heapNames f) + length (slotNames f) + length freeName + length quarantineName + length sealedName ≤ 136
+unfolding heapNames heapFront retiredToo noRetired slotNames slotFront wideWrites narrowWrites freeName quarantineName sealedName ascii
+names-length f = one (f .retiring) (f .wide)
   where
-    one : (w : Bool) → length heapNames + length (slotNames (record { wide = w })) + length freeName + length quarantineName + length sealedName ≤ 128
-    one true = omega arith
-    one false = omega arith
+    one : (r w : Bool) → length (heapNames (formOf r w)) + length (slotNames (formOf r w)) + length freeName + length quarantineName + length sealedName ≤ 136
+    one true true = omega arith
+    one true false = omega arith
+    one false true = omega arith
+    one false false = omega arith
 
 -- the live ones, counted by their indices
 live-sum : (l : List Slot) → sum (length l) (λ i. bit (live (getD l i noSlot))) ≡ liveCount l
@@ -113,18 +138,19 @@ live-sum [] = sum-same 0 _ (λ i. 1) (λ i h. absurd (omega arith)) ∙ sum-ones
 live-sum (s ∷ l) = sum-first (length l) (λ i. bit (live (getD (s ∷ l) i noSlot))) ∙ ap (λ (n : ℕ). bit (live s) + n) (live-sum l)
 
 -- each slot is live or in one list: the partition
-pub placed-once : (h : State) → partitioned h ≡ true → liveCount (h .slots) + (length (h .free) + length (h .quarantine)) ≡ length (h .slots)
+pub placed-once : (h : State) → partitioned h ≡ true → liveCount (h .slots) + (length (h .free) + (length (h .quarantine) + length (h .retired))) ≡ length (h .slots)
 placed-once h e =
     let n : ℕ = length (h .slots) in
-    let T : ℕ → ℕ = λ i. times i (h .free ++ h .quarantine) in
+    let lists : List ℕ = h .free ++ (h .quarantine ++ h .retired) in
+    let counted : (i : ℕ) → times i lists ≡ times i (h .free) + (times i (h .quarantine) + times i (h .retired)) =
+    λ i. omega (arith, times-append i (h .free) (h .quarantine ++ h .retired), times-append i (h .quarantine) (h .retired)) in
+    let T : ℕ → ℕ = λ i. times i lists in
     let L : ℕ → ℕ = λ i. bit (live (slotAt h i)) in
-    let listed : sum n T ≡ length (h .free ++ h .quarantine) =
-    times-length n (h .free ++ h .quarantine) (λ i k. omega (arith, parts-tested h e i, ap bit (le-ltb i n k), times-append i (h .free) (h .quarantine))) in
-    let once : sum n (λ i. L i + T i) ≡ n =
-    sum-same n (λ i. L i + T i) (λ i. 1) (λ i k. omega (arith, parts-tested h e i, ap bit (lt-ltb i n k), times-append i (h .free) (h .quarantine))) ∙ sum-ones n in
-    omega (arith, sum-add n L T, length-append (h .free) (h .quarantine), live-sum (h .slots))
+    let listed : sum n T ≡ length lists = times-length n lists (λ i k. omega (arith, parts-tested h e i, ap bit (le-ltb i n k), counted i)) in
+    let once : sum n (λ i. L i + T i) ≡ n = sum-same n (λ i. L i + T i) (λ i. 1) (λ i k. omega (arith, parts-tested h e i, ap bit (lt-ltb i n k), counted i)) ∙ sum-ones n in
+    omega (arith, sum-add n L T, length-append (h .free) (h .quarantine ++ h .retired), length-append (h .quarantine) (h .retired), live-sum (h .slots))
 
-pub dead-length : (h : State) → partitioned h ≡ true → length (h .free) + length (h .quarantine) ≤ length (h .slots)
+pub dead-length : (h : State) → partitioned h ≡ true → length (h .free) + (length (h .quarantine) + length (h .retired)) ≤ length (h .slots)
 dead-length h e = omega (arith, placed-once h e)
 
 -- seals rise, so there is at most one a slot
@@ -135,6 +161,7 @@ sealed-length h e = omega (arith, seals-few (h .tag) (length (h .slots)) 0 (h .s
 pub record Parts (h : State) : Type 0 where
   pub slots : all soundSlot (h .slots) ≡ true
   pub partition : partitioned h ≡ true
+  pub rightly : retiredRightly h ≡ true
   pub seals : soundSeals (h .tag) (length (h .slots)) 0 (h .sealed) ≡ true
   pub reclaim : soundReclaim (h .reclaimAt) ≡ true
 
@@ -143,10 +170,15 @@ unfolding sound
 parts h e =
     let a : Bool = all soundSlot (h .slots) in
     let d : Bool = soundSeals (h .tag) (length (h .slots)) 0 (h .sealed) in
-    let p = and-both (a && partitioned h && d) (soundReclaim (h .reclaimAt)) e in
-    let q = and-both (a && partitioned h) d (p .0) in
-    let r = and-both a (partitioned h) (q .0) in
-    record { slots = r .0; partition = r .1; seals = q .1; reclaim = p .1 }
+    let p = and-both (a && partitioned h && retiredRightly h && d) (soundReclaim (h .reclaimAt)) e in
+    let q = and-both (a && partitioned h && retiredRightly h) d (p .0) in
+    let r = and-both (a && partitioned h) (retiredRightly h) (q .0) in
+    let t = and-both a (partitioned h) (r .0) in
+    record { slots = t .0; partition = t .1; rightly = r .1; seals = q .1; reclaim = p .1 }
+
+reclaim-most : (n : ℕ) → soundReclaim n ≡ true → n ≤ 33554432
+unfolding soundReclaim
+reclaim-most n e = leb-true n 33554432 (and-both (eqb (n % 2) 0 && leb 4096 n) (leb n 33554432) e .1)
 
 -- THE BOUND
 pub page-length : (f : Form) (h : State) → Within f h → sound h ≡ true → length (pageText f h) ≤ 256 + 96 * length (h .slots) + 2 * dataSize (h .slots)
@@ -157,11 +189,12 @@ page-length f h w e =
     (omega (
       arith,
       names-length f,
-      head-length f h w,
+      head-length (f .retiring) h (w .tag) (w .sinceGc) (reclaim-most (h .reclaimAt) (p .reclaim)) (w .liveBytes) (w .slot-count) (w .free-count) (w .quarantine-count) (w .sealed-count) (w .retired),
       slot-lines (f .wide) (h .slots) (w .slots) (p .slots),
       middle-lines (h .free) (w .free),
       middle-lines (h .quarantine) (w .quarantine),
       long-lines (h .sealed) (w .sealed),
+      retired-lines (f .retiring) (h .retired) (w .retired),
       placed-once h (p .partition),
       sealed-length h (p .seals),
     ))

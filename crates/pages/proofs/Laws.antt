@@ -1,6 +1,6 @@
 -- The laws of the page.
-use Prim.Native.Nat.{ℕ, _+_, _-_, _^_, _<_}
-use mathlib.Core.Bool.{Bool, true, false}
+use Prim.Native.Nat.{ℕ, _+_, _-_, _^_, _≤_, _<_}
+use mathlib.Core.Bool.{Bool, true, false, not}
 use mathlib.Core.List.{List, [], _∷_, _++_, append-assoc, append-nil, flatMap}
 use mathlib.Core.Option.{none, some}
 use mathlib.Core.Path.{_≡_, refl, sym, ap, subst, _∙_}
@@ -8,11 +8,13 @@ use mathlib.Core.Logic.{_↔_}
 use native.Mathlib.Omega.{arith}
 use lib.ListN.{length}
 use Rattle.text.specs.Text.{give, _>>=_, ascii, line, newline, comma, Bytes, digitOf, readLiteral}
-use Rattle.text.specs.Format.{Right, number, bytesLine, afterLiteral, either, pair, times, mapped, readAll, All}
-use Rattle.text.proofs.Laws.{none-not-some, bind-some, some-inj, number-right, bytes-line-right, after-literal-right, Any, Apart, either-right, pair-right, times-right, mapped-right, injective}
-use Rattle.heap.specs.State.{Slot, State}
-use Rattle.pages.specs.Form.{Form, written, writesWidth, heapNames, slotFront, wideWrites, narrowWrites, slotNames, names, freeName, quarantineName, sealedName}
-use Rattle.pages.specs.Page.{slotLine, valueLine, numbersLine, heapLine, pageText, SlotWithin, Within, Unsaved, Fields, slotOf, fieldsOf, slotFormat, Head, headFormat, Body, bodyFormat, Parts, pageFormat, stateOf, readOf, headOf, bodyOf, saved, whole, readPage}
+use Rattle.text.specs.Format.{Right, number, bytesLine, afterLiteral, either, always, pair, times, mapped, readAll, All}
+use Rattle.text.proofs.Laws.{none-not-some, bind-some, some-inj, number-right, bytes-line-right, after-literal-right, Any, Apart, either-right, always-right, pair-right, times-right, mapped-right, injective}
+use Rattle.heap.specs.State.{Slot, State, slotAt, worn}
+use Rattle.heap.specs.Calls.{filter}
+use Rattle.word.specs.Choice.{if_then_else_}
+use Rattle.pages.specs.Form.{Form, formOf, written, writesWidth, heapFront, retiredToo, noRetired, heapNames, slotFront, wideWrites, narrowWrites, slotNames, names, freeName, quarantineName, sealedName, retiredName}
+use Rattle.pages.specs.Page.{slotLine, valueLine, numbersLine, heapLine, retiredPart, pageText, SlotWithin, RetiredWithin, Within, Unsaved, Fields, slotOf, fieldsOf, slotFormat, Counts, Head, sealedEnd, retiredCount, headFormat, retiredFormat, Body, bodyFormat, Parts, pageFormat, stateOf, readOf, countsOf, headOf, bodyOf, saved, whole, readPage, moved}
 
 no-comma : digitOf comma ≡ none
 unfolding digitOf
@@ -37,47 +39,81 @@ slot-right w =
     mapped-right slotOf fieldsOf (λ s. refl) (λ f. refl)
     (pair-right (num 32) λ _. pair-right (num 8) λ _. pair-right (num 32) λ _. pair-right (num 64) λ _. pair-right (num (writesWidth w)) λ _. bytes-line-right)
 
-abbrev pub Head-good : Head → Type 0
-Head-good d = (d .0 < 2 ^ 8) × ((d .1 .0 < 2 ^ 64) × ((d .1 .1 .0 < 2 ^ 64) × ((d .1 .1 .1 .0 < 2 ^ 64) × ((d .1 .1 .1 .1 .0 < 2 ^ 32) × ((d .1 .1 .1 .1 .1 .0 < 2 ^ 32) × ((d .1 .1 .1 .1 .1 .1 .0 < 2 ^ 32) × (d .1 .1 .1 .1 .1 .1 .1 < 2 ^ 32)))))))
+abbrev pub Count-good : (retiring : Bool) → ℕ → Type 0
+Count-good true n = n < 2 ^ 32
+Count-good false n = n ≡ 0
 
-pub head-right : Right headFormat Head-good
+count-right : (r : Bool) → Right (retiredCount r) (Count-good r)
+unfolding retiredCount
+count-right true = last 32
+count-right false = always-right 0
+
+sealed-right : (r : Bool) → Right (number 32 (sealedEnd r)) (λ n. n < 2 ^ 32)
+sealed-right true = num 32
+sealed-right false = last 32
+
+abbrev pub Head-good : (retiring : Bool) → Head → Type 0
+Head-good r d = (d .0 < 2 ^ 8) × ((d .1 .0 < 2 ^ 64) × ((d .1 .1 .0 < 2 ^ 64) × ((d .1 .1 .1 .0 < 2 ^ 64) × ((d .1 .1 .1 .1 .0 < 2 ^ 32) × ((d .1 .1 .1 .1 .1 .0 < 2 ^ 32)
+    × ((d .1 .1 .1 .1 .1 .1 .0 < 2 ^ 32) × ((d .1 .1 .1 .1 .1 .1 .1 .0 < 2 ^ 32) × Count-good r (d .1 .1 .1 .1 .1 .1 .1 .1))))))))
+
+pub head-right : (r : Bool) → Right (headFormat r) (Head-good r)
 unfolding headFormat
-head-right =
+head-right r =
     pair-right (num 8) λ _. pair-right (num 64) λ _. pair-right (num 64) λ _. pair-right (num 64)
-    λ _. pair-right (num 32) λ _. pair-right (num 32) λ _. pair-right (num 32) λ _. last 32
+    λ _. pair-right (num 32) λ _. pair-right (num 32) λ _. pair-right (num 32) λ _. pair-right (sealed-right r) λ _. count-right r
 
 abbrev pub Listed : {A : Type 0} → (A → Type 0) → ℕ → List A → Type 0
 Listed good n l = All good l × (length l ≡ n)
 
-abbrev pub Body-good : (wide : Bool) → Head → Body → Type 0
-Body-good w d b =
-    Listed (λ s. Fields-good w (fieldsOf s)) (d .1 .1 .1 .1 .0) (b .0)
-    × (Listed (λ i. i < 2 ^ 32) (d .1 .1 .1 .1 .1 .0) (b .1 .0)
-    × (Listed (λ i. i < 2 ^ 32) (d .1 .1 .1 .1 .1 .1 .0) (b .1 .1 .0)
-    × Listed (λ x. x < 2 ^ 64) (d .1 .1 .1 .1 .1 .1 .1) (b .1 .1 .1)))
+abbrev pub Retired-good : (retiring : Bool) → ℕ → List ℕ → Type 0
+Retired-good true n l = Listed (λ i. i < 2 ^ 32) n l
+Retired-good false n l = l ≡ []
 
-body-right : (w : Bool) (d : Head) → Right (bodyFormat w d) (Body-good w d)
+retired-right : (r : Bool) (n : ℕ) → Right (retiredFormat r n) (Retired-good r n)
+unfolding retiredFormat
+retired-right true n = after-literal-right retiredName (times-right n (last 32))
+retired-right false n = always-right []
+
+abbrev pub Body-good : Form → Counts → Body → Type 0
+Body-good f d b =
+    Listed (λ s. Fields-good (f .wide) (fieldsOf s)) (d .0) (b .0)
+    × (Listed (λ i. i < 2 ^ 32) (d .1 .0) (b .1 .0)
+    × (Listed (λ i. i < 2 ^ 32) (d .1 .1 .0) (b .1 .1 .0)
+    × (Listed (λ x. x < 2 ^ 64) (d .1 .1 .1 .0) (b .1 .1 .1 .0)
+    × Retired-good (f .retiring) (d .1 .1 .1 .1) (b .1 .1 .1 .1))))
+
+body-right : (f : Form) (d : Counts) → Right (bodyFormat f d) (Body-good f d)
 unfolding bodyFormat
-body-right w d =
-    pair-right (times-right (d .1 .1 .1 .1 .0) (slot-right w))
-    λ _. after-literal-right freeName (pair-right (times-right (d .1 .1 .1 .1 .1 .0) (last 32))
-    λ _. after-literal-right quarantineName (pair-right (times-right (d .1 .1 .1 .1 .1 .1 .0) (last 32))
-    λ _. after-literal-right sealedName (times-right (d .1 .1 .1 .1 .1 .1 .1) (last 64))))
+body-right f d =
+    pair-right (times-right (d .0) (slot-right (f .wide)))
+    λ _. after-literal-right freeName (pair-right (times-right (d .1 .0) (last 32))
+    λ _. after-literal-right quarantineName (pair-right (times-right (d .1 .1 .0) (last 32))
+    λ _. after-literal-right sealedName (pair-right (times-right (d .1 .1 .1 .0) (last 64))
+    λ _. retired-right (f .retiring) (d .1 .1 .1 .1))))
 
--- the names line tells the forms apart
+-- the names lines tell the forms apart
+pub retired-apart : Apart retiredToo noRetired
+unfolding retiredToo noRetired ascii readLiteral
+retired-apart t = refl
+
 pub writes-apart : Apart wideWrites narrowWrites
 unfolding wideWrites narrowWrites ascii readLiteral
 writes-apart t = refl
+
+pub heap-names-right : Right (names heapFront retiredToo noRetired) Any
+heap-names-right = after-literal-right heapFront (either-right retiredToo noRetired retired-apart)
 
 pub names-right : Right (names slotFront wideWrites narrowWrites) Any
 names-right = after-literal-right slotFront (either-right wideWrites narrowWrites writes-apart)
 
 abbrev pub Parts-good : Parts → Type 0
-Parts-good p = Head-good (p .0) × (Any (p .1 .0) × Body-good (p .1 .0) (p .0) (p .1 .1))
+Parts-good p = Any (p .0) × (Head-good (p .0) (p .1 .0) × (Any (p .1 .1 .0) × Body-good (formOf (p .0) (p .1 .1 .0)) (p .1 .0 .1 .1 .1 .1) (p .1 .1 .1)))
 
 pub page-right : Right pageFormat Parts-good
 unfolding pageFormat
-page-right = after-literal-right heapNames (pair-right head-right λ d. pair-right names-right λ w. body-right w d)
+page-right =
+    pair-right heap-names-right λ r. pair-right (head-right r)
+    λ d. pair-right names-right λ w. body-right (formOf r w) (d .1 .1 .1 .1)
 
 -- The format prints the page
 
@@ -94,29 +130,40 @@ unfolding flatMap
 flatMap-same f g e [] = refl
 flatMap-same f g e (a ∷ l) = rw (e a, flatMap-same f g e l)
 
-pub head-prints : (h : State) → headFormat .print (headOf h) ≡ heapLine h
-unfolding headFormat heapLine numbersLine number pair line
-head-prints h = simp append-assoc
+pub head-prints : (r : Bool) (h : State) → RetiredWithin r (h .retired) → headFormat r .print (headOf h) ≡ heapLine r h
+unfolding headFormat heapLine numbersLine number pair line retiredCount always
+head-prints true h w = simp append-assoc
+head-prints false h w = simp append-assoc
 
-names-prints : (f : Form) → names slotFront wideWrites narrowWrites .print (f .wide) ≡ slotNames f
+heap-names-print : (f : Form) → names heapFront retiredToo noRetired .print (f .retiring) ≡ heapNames f
+unfolding afterLiteral either heapNames
+heap-names-print f = refl
+
+names-print : (f : Form) → names slotFront wideWrites narrowWrites .print (f .wide) ≡ slotNames f
 unfolding afterLiteral either slotNames
-names-prints f = refl
+names-print f = refl
 
-body-prints : (w : Bool) (h : State) → bodyFormat w (headOf h) .print (bodyOf h) ≡
+retired-prints : (r : Bool) (n : ℕ) (l : List ℕ) → retiredFormat r n .print l ≡ retiredPart r l
+unfolding retiredFormat retiredPart afterLiteral times always
+retired-prints true n l = rw (flatMap-same (number 32 newline .print) valueLine (value-prints 32) l)
+retired-prints false n l = refl
+
+body-prints : (f : Form) (h : State) → bodyFormat f (countsOf h) .print (bodyOf h) ≡
     flatMap slotLine (h .slots) ++ (freeName ++ (flatMap valueLine (h .free)
-    ++ (quarantineName ++ (flatMap valueLine (h .quarantine) ++ (sealedName ++ flatMap valueLine (h .sealed))))))
+    ++ (quarantineName ++ (flatMap valueLine (h .quarantine) ++ (sealedName ++ (flatMap valueLine (h .sealed) ++ retiredPart (f .retiring) (h .retired)))))))
 unfolding bodyFormat afterLiteral pair times
-body-prints w h =
+body-prints f h =
     rw (
-      flatMap-same (slotFormat w .print) slotLine (slot-prints w) (h .slots),
+      flatMap-same (slotFormat (f .wide) .print) slotLine (slot-prints (f .wide)) (h .slots),
       flatMap-same (number 32 newline .print) valueLine (value-prints 32) (h .free),
       flatMap-same (number 32 newline .print) valueLine (value-prints 32) (h .quarantine),
       flatMap-same (number 64 newline .print) valueLine (value-prints 64) (h .sealed),
+      retired-prints (f .retiring) (length (h .retired)) (h .retired),
     )
 
-pub page-prints : (f : Form) (h : State) → pageFormat .print (saved f h) ≡ pageText f h
-unfolding pageFormat afterLiteral pair pageText
-page-prints f h = rw (head-prints h, names-prints f, body-prints (f .wide) h) (simp append-assoc)
+pub page-prints : (f : Form) (h : State) → RetiredWithin (f .retiring) (h .retired) → pageFormat .print (saved f h) ≡ pageText f h
+unfolding pageFormat pair pageText
+page-prints f h w = rw (heap-names-print f, head-prints (f .retiring) h w, names-print f, body-prints f h) (simp append-assoc)
 
 -- Numbers within their widths
 
@@ -130,17 +177,36 @@ pub all-map : {A : Type 0} {P Q : A → Type 0} → ((a : A) → P a → Q a) �
 all-map f [] h = tt
 all-map f (a ∷ l) h = (f a (h .0), all-map f l (h .1))
 
+retired-counted : (r : Bool) (l : List ℕ) → RetiredWithin r l → Count-good r (length l)
+retired-counted true l h = h .0
+retired-counted false l h = ap length h
+
+retired-listed : (r : Bool) (l : List ℕ) → RetiredWithin r l → Retired-good r (length l) l
+retired-listed true l h = (h .1, refl)
+retired-listed false l h = h
+
+retired-back : (r : Bool) (n : ℕ) (l : List ℕ) → Count-good r n → Retired-good r n l → RetiredWithin r l × (length l ≡ n)
+retired-back true n l c g = ((rw (g .1) c, g .0), g .1)
+retired-back false n l c g = (g, ap length g ∙ sym c)
+
 pub good-saved : (f : Form) (h : State) → Within f h → Parts-good (saved f h)
 good-saved f h w = (
-  (w .tag, (w .sinceGc, (w .reclaimAt, (w .liveBytes, (w .slot-count, (w .free-count, (w .quarantine-count, w .sealed-count))))))),
-  (tt, ((all-map (fields-within (f .wide)) (h .slots) (w .slots), refl), ((w .free, refl), ((w .quarantine, refl), (w .sealed, refl))))),
+  tt,
+  (
+    (w .tag, (w .sinceGc, (w .reclaimAt, (w .liveBytes, (w .slot-count, (w .free-count, (w .quarantine-count, (w .sealed-count, retired-counted (f .retiring) (h .retired) (w .retired))))))))),
+    (
+      tt,
+      ((all-map (fields-within (f .wide)) (h .slots) (w .slots), refl), ((w .free, refl), ((w .quarantine, refl), ((w .sealed, refl), retired-listed (f .retiring) (h .retired) (w .retired))))),
+    ),
+  ),
 )
 
 -- a text that was read is the page of what was read
 pub within-read : (p : Parts) → Parts-good p → Within (readOf p .0) (readOf p .1) × (saved (readOf p .0) (readOf p .1) ≡ p)
 within-read p good =
-    let g = good .0 in
-    let b = good .1 .1 in (
+    let g = good .1 .0 in
+    let b = good .1 .1 .1 in
+    let z = retired-back (p .0) (p .1 .0 .1 .1 .1 .1 .1 .1 .1 .1) (p .1 .1 .1 .1 .1 .1 .1) (g .1 .1 .1 .1 .1 .1 .1 .1) (b .1 .1 .1 .1) in (
       record {
         tag = g .0;
         sinceGc = g .1 .0;
@@ -149,13 +215,14 @@ within-read p good =
         slot-count = rw (b .0 .1) (g .1 .1 .1 .1 .0);
         free-count = rw (b .1 .0 .1) (g .1 .1 .1 .1 .1 .0);
         quarantine-count = rw (b .1 .1 .0 .1) (g .1 .1 .1 .1 .1 .1 .0);
-        sealed-count = rw (b .1 .1 .1 .1) (g .1 .1 .1 .1 .1 .1 .1);
-        slots = all-map (within-fields (p .1 .0)) (p .1 .1 .0) (b .0 .0);
+        sealed-count = rw (b .1 .1 .1 .0 .1) (g .1 .1 .1 .1 .1 .1 .1 .0);
+        slots = all-map (within-fields (p .1 .1 .0)) (p .1 .1 .1 .0) (b .0 .0);
         free = b .1 .0 .0;
         quarantine = b .1 .1 .0 .0;
-        sealed = b .1 .1 .1 .0;
+        sealed = b .1 .1 .1 .0 .0;
+        retired = z .0;
       },
-      rw (b .0 .1, b .1 .0 .1, b .1 .1 .0 .1, b .1 .1 .1 .1),
+      rw (b .0 .1, b .1 .0 .1, b .1 .1 .0 .1, b .1 .1 .1 .0 .1, z .1),
     )
 
 pub whole-some : {A : Type 0} (r : A × List ℕ) (a : A) → whole r ≡ some a → r ≡ (a, [])
@@ -172,14 +239,14 @@ pub read-written : (f : Form) (h : State) → Within f h → readPage (pageText 
 unfolding readPage
 read-written f h w =
     let e : pageFormat .read (pageText f h) ≡ give (saved f h) [] =
-    ap (pageFormat .read) (sym (append-nil (pageText f h)) ∙ ap (λ (t : List ℕ). t ++ []) (sym (page-prints f h))) ∙ page-right .forth (saved f h) [] (good-saved f h w) in
+    ap (pageFormat .read) (sym (append-nil (pageText f h)) ∙ ap (λ (t : List ℕ). t ++ []) (sym (page-prints f h (w .retired)))) ∙ page-right .forth (saved f h) [] (good-saved f h w) in
     rw e
 
 finish : (t : List ℕ) (p : Parts) → pageFormat .read t ≡ give p [] → (pageText (readOf p .0) (readOf p .1) ≡ t) × Within (readOf p .0) (readOf p .1) × Unsaved (readOf p .1)
 finish t p e =
     let b : Parts-good p × (pageFormat .print p ++ [] ≡ t) = page-right .back t p [] e in
     let w = within-read p (b .0) in (
-      sym (page-prints (readOf p .0) (readOf p .1)) ∙ ap (pageFormat .print) (w .1) ∙ sym (append-nil (pageFormat .print p)) ∙ b .1,
+      sym (page-prints (readOf p .0) (readOf p .1) (w .0 .retired)) ∙ ap (pageFormat .print) (w .1) ∙ sym (append-nil (pageFormat .print p)) ∙ b .1,
       w .0,
       record { epoch = refl; log = refl },
     )
@@ -197,7 +264,7 @@ written-read t f h e =
 -- the heap that a page brings back
 pub same-unsaved : (h : State) → Unsaved h → stateOf (headOf h) (bodyOf h) ≡ h
 same-unsaved h u i =
-    record { tag = h .tag; sinceGc = h .sinceGc; reclaimAt = h .reclaimAt; liveBytes = h .liveBytes; epoch = sym (u .epoch) i; log = sym (u .log) i; slots = h .slots; free = h .free; quarantine = h .quarantine; sealed = h .sealed }
+    record { tag = h .tag; sinceGc = h .sinceGc; reclaimAt = h .reclaimAt; liveBytes = h .liveBytes; epoch = sym (u .epoch) i; log = sym (u .log) i; slots = h .slots; free = h .free; quarantine = h .quarantine; retired = h .retired; sealed = h .sealed }
 
 -- a text is read as a form and a heap exactly if it is that heap's page in that form
 pub read-exactly : (t : List ℕ) (f : Form) (h : State) → (readPage t ≡ some (f, h)) ↔ ((pageText f h ≡ t) × Within f h × Unsaved h)
@@ -206,7 +273,7 @@ read-exactly t f h = (written-read t f h, λ p. rw (← p .0) (read-written f h 
 -- a text is the page of at most one heap in at most one form, epoch and log apart
 pub page-injective : (f k : Form) (g h : State) → Within f g → Within k h → pageText f g ≡ pageText k h → saved f g ≡ saved k h
 page-injective f k g h v w e =
-    injective page-right (saved f g) (saved k h) (good-saved f g v) (good-saved k h w) (page-prints f g ∙ e ∙ sym (page-prints k h))
+    injective page-right (saved f g) (saved k h) (good-saved f g v) (good-saved k h w) (page-prints f g (v .retired) ∙ e ∙ sym (page-prints k h (w .retired)))
 
 -- ---- what was read in any form can be written
 
@@ -220,22 +287,58 @@ fields-wider w s g = (g .0, (g .1 .0, (g .1 .1 .0, (g .1 .1 .1 .0, (wider w (s .
 slot-wider : (w : Bool) (s : Slot) → SlotWithin w s → SlotWithin true s
 slot-wider w s g = record { generation = g .generation; kind = g .kind; type = g .type; start = g .start; writes = wider w (s .writes) (g .writes); bytes = g .bytes }
 
-pub within-written : (f : Form) (h : State) → Within f h → Within written h
-within-written f h w =
-    record {
-      tag = w .tag;
-      sinceGc = w .sinceGc;
-      reclaimAt = w .reclaimAt;
-      liveBytes = w .liveBytes;
-      slot-count = w .slot-count;
-      free-count = w .free-count;
-      quarantine-count = w .quarantine-count;
-      sealed-count = w .sealed-count;
-      slots = all-map (slot-wider (f .wide)) (h .slots) (w .slots);
-      free = w .free;
-      quarantine = w .quarantine;
-      sealed = w .sealed;
-    }
+-- what is filtered
+record Kept (l k : List ℕ) : Type 0 where
+  fewer : length k ≤ length l
+  all : All (λ i. i < 2 ^ 32) l → All (λ i. i < 2 ^ 32) k
+
+kept : (t : ℕ → Bool) (l : List ℕ) → Kept l (filter t l)
+kept t [] = record { fewer = omega arith; all = λ h. h }
+kept t (x ∷ l) = one (t x) (kept t l)
+  where
+    one : (b : Bool) → Kept l (filter t l) → Kept (x ∷ l) (if b then (x ∷ filter t l) else filter t l)
+    one true k = record { fewer = omega (arith, k .fewer); all = λ h. (h .0, k .all (h .1)) }
+    one false k = record { fewer = omega (arith, k .fewer); all = λ h. k .all (h .1) }
+
+pub moved-within : (f : Form) (h : State) → Within f h → Within written (moved (f .retiring) h)
+moved-within f h w = go (f .retiring) (w .retired)
+  where
+    go : (r : Bool) → RetiredWithin r (h .retired) → Within written (moved r h)
+    go true z =
+        record {
+          tag = w .tag;
+          sinceGc = w .sinceGc;
+          reclaimAt = w .reclaimAt;
+          liveBytes = w .liveBytes;
+          slot-count = w .slot-count;
+          free-count = w .free-count;
+          quarantine-count = w .quarantine-count;
+          sealed-count = w .sealed-count;
+          slots = all-map (slot-wider (f .wide)) (h .slots) (w .slots);
+          free = w .free;
+          quarantine = w .quarantine;
+          sealed = w .sealed;
+          retired = z;
+        }
+    go false z =
+        let a = kept (λ i. not (worn (slotAt h i))) (h .free) in
+        let b = kept (λ i. worn (slotAt h i)) (h .free) in
+        let n : length (h .free) < 2 ^ 32 = w .free-count in
+        record {
+          tag = w .tag;
+          sinceGc = w .sinceGc;
+          reclaimAt = w .reclaimAt;
+          liveBytes = w .liveBytes;
+          slot-count = w .slot-count;
+          free-count = omega (arith, a .fewer);
+          quarantine-count = w .quarantine-count;
+          sealed-count = w .sealed-count;
+          slots = all-map (slot-wider (f .wide)) (h .slots) (w .slots);
+          free = a .all (w .free);
+          quarantine = w .quarantine;
+          sealed = w .sealed;
+          retired = rw z (omega (arith, b .fewer), b .all (w .free));
+        }
 
 -- lines that are read with counts of 32 bits are read alike with counts of 64
 pub slots-wider : (w : Bool) (n : ℕ) (t : List ℕ) (l : List Slot) (rest : List ℕ) → readAll (slotFormat w .read) n t ≡ give l rest → readAll (slotFormat true .read) n t ≡ give l rest

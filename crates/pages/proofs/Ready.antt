@@ -53,6 +53,7 @@ ready {l} e =
     let end : l .end ≡ pad S (ends 0 (dataOf slots)) = ap (λ (x : Lent). x .end) lies in
     let f : l .header .free ≡ length (take (l .header .free) (l .free)) = ap (λ (x : Lent). x .header .free) lies in
     let q : l .header .quarantine ≡ length (take (l .header .quarantine) (l .quarantine)) = ap (λ (x : Lent). x .header .quarantine) lies in
+    let w′ : l .header .retired ≡ length (take (l .header .retired) (l .retired)) = ap (λ (x : Lent). x .header .retired) lies in
     let z : l .header .sealed ≡ length (take (l .header .sealed) (l .sealed)) = ap (λ (x : Lent). x .header .sealed) lies in
     record {
       slots = c;
@@ -63,7 +64,9 @@ ready {l} e =
       freeCount = omega arith;
       quarantineCount = omega arith;
       sealedCount = omega arith;
+      retiredCount = omega arith;
       free = count-inside _ (l .free) f;
       quarantine = count-inside _ (l .quarantine) q;
       sealed = count-inside _ (l .sealed) z;
+      retired = count-inside _ (l .retired) w′;
     }

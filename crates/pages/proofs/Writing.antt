@@ -1,6 +1,7 @@
 -- What the writer's loops add line by line.
 use Prim.Native.Nat.{ℕ, zero, suc, _+_, _-_, _*_, _≤_, _<_}
 use mathlib.Core.List.{List, [], _∷_, _++_, append-assoc, append-nil, flatMap}
+use mathlib.Core.Bool.{true}
 use mathlib.Core.Path.{_≡_, refl, sym, ap, _∙_}
 use lib.ListN.{length, take, drop, getD, set, length-append}
 use lib.Seq.{take-suc, take-all}
@@ -14,7 +15,7 @@ use Rattle.text.proofs.Putting.{puts-puts, puts-byte, puts-length, puts-at}
 use Rattle.heap.specs.State.{Slot}
 use Rattle.pages.specs.Page.{valueLine, slotLine, numbersLine}
 use Rattle.heap.specs.Lent.{Lent, slotIn}
-use Rattle.pages.specs.Columns.{slot, slotsIn}
+use Rattle.pages.specs.Columns.{slot, slotsIn, field, headFields}
 
 module _ {A : Type 0} (f : A → List ℕ) where
   flat-append : (xs ys : List A) → flatMap f (xs ++ ys) ≡ flatMap f xs ++ flatMap f ys
@@ -71,10 +72,6 @@ puts-number {a} {b} {at} {k} n e p h =
     let l = length-append (decimal n) (e ∷ []) in
     let m : length b ≡ length a = puts-length p (omega arith) in
     puts-puts p (puts-byte b k e (omega (arith, p .next))) (omega arith)
-
--- a number, and the byte after it
-abbrev pub field : (n end : ℕ) → List ℕ
-field n end = decimal n ++ (end ∷ [])
 
 pub slot-parts : (g k t s w : ℕ) (bs : List ℕ) →
     field g 44 ++ field k 44 ++ field t 44 ++ field s 44 ++ field w 44 ++ hex bs ++ (10 ∷ []) ≡ slotLine (slot g k t s w bs)
@@ -133,15 +130,15 @@ puts-line k n i a b c at m r h l p q =
 -- THE LINE OF NUMBERS
 
 module _ (t s r l n f q z : ℕ) where
-  pub head-parts : field t 44 ++ field s 44 ++ field r 44 ++ field l 44 ++ field n 44 ++ field f 44 ++ field q 44 ++ field z 10 ≡ numbersLine t s r l n f q z
-  unfolding numbersLine line
-  head-parts = simp append-assoc
+  pub head-parts : field t 44 ++ field s 44 ++ field r 44 ++ field l 44 ++ field n 44 ++ field f 44 ++ field q 44 ++ field z 44 ≡ headFields t s r l n f q z
+  unfolding headFields
+  head-parts = refl
 
-  pub head-length : length (numbersLine t s r l n f q z) ≡
-      length (field t 44) + length (field s 44) + length (field r 44) + length (field l 44) + length (field n 44) + length (field f 44) + length (field q 44) + length (field z 10)
+  pub head-length : length (headFields t s r l n f q z) ≡
+      length (field t 44) + length (field s 44) + length (field r 44) + length (field l 44) + length (field n 44) + length (field f 44) + length (field q 44) + length (field z 44)
   head-length = ap length (sym head-parts) ∙ simp length-append
 
-  pub head-length-decimal : length (numbersLine t s r l n f q z) ≡
+  pub head-length-decimal : length (headFields t s r l n f q z) ≡
       length (decimal t) + length (decimal s) + length (decimal r) + length (decimal l) + length (decimal n) + length (decimal f) + length (decimal q) + length (decimal z) + 8
   head-length-decimal =
       head-length
@@ -154,12 +151,27 @@ module _ (t s r l n f q z : ℕ) where
         length-append (decimal n) (44 ∷ []),
         length-append (decimal f) (44 ∷ []),
         length-append (decimal q) (44 ∷ []),
-        length-append (decimal z) (10 ∷ []),
+        length-append (decimal z) (44 ∷ []),
       )
 
   pub puts-head : {a b1 b2 b3 b4 b5 b6 b7 b8 : List ℕ} {at k1 k2 k3 k4 k5 k6 k7 k8 : ℕ} →
       Puts a b1 at k1 (field t 44) → Puts b1 b2 k1 k2 (field s 44) → Puts b2 b3 k2 k3 (field r 44) → Puts b3 b4 k3 k4 (field l 44) →
-      Puts b4 b5 k4 k5 (field n 44) → Puts b5 b6 k5 k6 (field f 44) → Puts b6 b7 k6 k7 (field q 44) → Puts b7 b8 k7 k8 (field z 10) → at ≤ length a →
-      Puts a b8 at k8 (numbersLine t s r l n f q z)
+      Puts b4 b5 k4 k5 (field n 44) → Puts b5 b6 k5 k6 (field f 44) → Puts b6 b7 k6 k7 (field q 44) → Puts b7 b8 k7 k8 (field z 44) → at ≤ length a →
+      Puts a b8 at k8 (headFields t s r l n f q z)
   puts-head p1 p2 p3 p4 p5 p6 p7 p8 h =
       puts-at (puts-puts (puts-puts (puts-puts (puts-puts (puts-puts (puts-puts (puts-puts p1 p2 h) p3 h) p4 h) p5 h) p6 h) p7 h) p8 h) refl head-parts
+
+  -- the whole line: the count of the retired slots is the last
+  module _ (w : ℕ) where
+    pub line-parts : headFields t s r l n f q z ++ field w 10 ≡ numbersLine true t s r l n f q z w
+    unfolding headFields numbersLine line
+    line-parts = simp append-assoc
+
+    pub line-length : length (numbersLine true t s r l n f q z w) ≡ length (headFields t s r l n f q z) + length (field w 10)
+    line-length = ap length (sym line-parts) ∙ length-append (headFields t s r l n f q z) (field w 10)
+
+    pub line-length-decimal : length (numbersLine true t s r l n f q z w) ≡ length (headFields t s r l n f q z) + length (decimal w) + 1
+    line-length-decimal = line-length ∙ omega (arith, length-append (decimal w) (10 ∷ []))
+
+    pub puts-line-of-numbers : {a b c : List ℕ} {at j k : ℕ} → Puts a b at j (headFields t s r l n f q z) → Puts b c j k (field w 10) → at ≤ length a → Puts a c at k (numbersLine true t s r l n f q z w)
+    puts-line-of-numbers p p′ h = puts-at (puts-puts p p′ h) refl line-parts

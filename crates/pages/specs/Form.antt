@@ -6,17 +6,21 @@ use Rattle.text.specs.Text.{ascii}
 use Rattle.text.specs.Format.{Format, afterLiteral, either}
 use Rattle.word.specs.Choice.{if_then_else_}
 
--- write counts of 64 bits under the name `writes64`, or of 32 bits under `writes`
+-- write counts of 64 bits under the name `writes64`, or of 32 bits under `writes` (request [6]); with the list `retired` as the last, or without it (request [7])
 pub record Form : Type 0 where
   pub wide : Bool
+  pub retiring : Bool
 
--- the form that is written (request [6])
+abbrev pub formOf : (retiring wide : Bool) → Form
+formOf r w = record { wide = w; retiring = r }
+
+-- the form that is written
 abbrev pub written : Form
-written = record { wide = true }
+written = formOf true true
 
 -- the form that document 01 began with
 abbrev pub earlier : Form
-earlier = record { wide = false }
+earlier = formOf false false
 
 -- how many bits a write count has
 abbrev pub writesWidth : (wide : Bool) → ℕ
@@ -28,8 +32,18 @@ writesWidth wide = if wide then 64 else 32
 abbrev pub names : (front first second : List ℕ) → Format Bool
 names front first second = afterLiteral front (either first second)
 
-unfoldable pub heapNames : List ℕ
-heapNames = ascii "tag,since_gc,reclaim_at,live_bytes,slots,free,quarantine,sealed\n"
+unfoldable pub heapFront : List ℕ
+heapFront = ascii "tag,since_gc,reclaim_at,live_bytes,slots,free,quarantine,sealed"
+
+unfoldable pub retiredToo : List ℕ
+retiredToo = ascii ",retired\n"
+
+unfoldable pub noRetired : List ℕ
+noRetired = ascii "\n"
+
+-- the names line of the heap's numbers
+unfoldable pub heapNames : Form → List ℕ
+heapNames f = heapFront ++ (if f .retiring then retiredToo else noRetired)
 
 unfoldable pub slotFront : List ℕ
 slotFront = ascii "generation,kind,type,start,"
@@ -52,3 +66,6 @@ quarantineName = ascii "quarantine\n"
 
 unfoldable pub sealedName : List ℕ
 sealedName = ascii "sealed\n"
+
+unfoldable pub retiredName : List ℕ
+retiredName = ascii "retired\n"

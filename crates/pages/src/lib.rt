@@ -10,7 +10,7 @@ ghost use Rattle.text.specs.Text.{decimal, hex};
 ghost use Rattle.text.specs.Put.{Puts};
 ghost use Rattle.pages.specs.Form.{written};
 ghost use Rattle.pages.specs.Page.{valueLine, slotLine, numbersLine, pageText};
-ghost use Rattle.pages.specs.Columns.{slot, slotsIn, Ready};
+ghost use Rattle.pages.specs.Columns.{slot, slotsIn, headFields, Ready};
 ghost use Rattle.heap.specs.Lent.{lent, view};
 ghost use Rattle.heap.specs.WellFormed.{wellFormed};
 ghost use mathlib.Core.Bool.{true};
@@ -197,9 +197,9 @@ fn put_slots(
     k
 }
 
-// How long the line of a heap's numbers is.
-fn head_len(h: Heap) -> usize
-    ensures { λ r. ⌜ r ≡ length (numbersLine (h .tag) (h .«since_gc») (h .«reclaim_at») (h .«live_bytes») (h .slots) (h .free) (h .quarantine) (h .sealed)) ⌝ }
+// How long the heap's numbers are but for the last, with the comma after each.
+fn fields_len(h: Heap) -> usize
+    ensures { λ r. ⌜ r ≡ length (headFields (h .tag) (h .«since_gc») (h .«reclaim_at») (h .«live_bytes») (h .slots) (h .free) (h .quarantine) (h .sealed)) ⌝ }
     ensures { λ r. ⌜ r ≤ 200 ⌝ }
 {
     let a = text::decimal_len(h.tag as u64);
@@ -213,11 +213,11 @@ fn head_len(h: Heap) -> usize
     a + b + c + d + e + f + g + z + 8
 }
 
-// Puts the line of a heap's numbers from `at` on.
-fn put_head(out: &mut [u8], at: usize, h: Heap) -> usize
-    requires { ⌜ at + length (numbersLine (h .tag) (h .«since_gc») (h .«reclaim_at») (h .«live_bytes») (h .slots) (h .free) (h .quarantine) (h .sealed)) ≤ length (now out) ⌝ }
+// Puts the heap's numbers but for the last from `at` on, a comma after each.
+fn put_fields(out: &mut [u8], at: usize, h: Heap) -> usize
+    requires { ⌜ at + length (headFields (h .tag) (h .«since_gc») (h .«reclaim_at») (h .«live_bytes») (h .slots) (h .free) (h .quarantine) (h .sealed)) ≤ length (now out) ⌝ }
     ensures { λ r. ⌜ Puts (now (out .entry)) (now (out .exit)) at r
-        (numbersLine (h .tag) (h .«since_gc») (h .«reclaim_at») (h .«live_bytes») (h .slots) (h .free) (h .quarantine) (h .sealed)) ⌝ }
+        (headFields (h .tag) (h .«since_gc») (h .«reclaim_at») (h .«live_bytes») (h .slots) (h .free) (h .quarantine) (h .sealed)) ⌝ }
 {
     let a = put_number(out, at, h.tag as u64, 44);
     let b = put_number(out, a, h.since_gc, 44);
@@ -226,7 +226,27 @@ fn put_head(out: &mut [u8], at: usize, h: Heap) -> usize
     let e = put_number(out, d, h.slots as u64, 44);
     let f = put_number(out, e, h.free as u64, 44);
     let g = put_number(out, f, h.quarantine as u64, 44);
-    put_number(out, g, h.sealed as u64, 10)
+    put_number(out, g, h.sealed as u64, 44)
+}
+
+// How long the line of a heap's numbers is.
+fn head_len(h: Heap) -> usize
+    ensures { λ r. ⌜ r ≡ length (numbersLine true (h .tag) (h .«since_gc») (h .«reclaim_at») (h .«live_bytes») (h .slots) (h .free) (h .quarantine) (h .sealed) (h .retired)) ⌝ }
+    ensures { λ r. ⌜ r ≤ 221 ⌝ }
+{
+    let a = fields_len(h);
+    let b = text::decimal_len(h.retired as u64);
+    a + b + 1
+}
+
+// Puts the line of a heap's numbers from `at` on.
+fn put_head(out: &mut [u8], at: usize, h: Heap) -> usize
+    requires { ⌜ at + length (numbersLine true (h .tag) (h .«since_gc») (h .«reclaim_at») (h .«live_bytes») (h .slots) (h .free) (h .quarantine) (h .sealed) (h .retired)) ≤ length (now out) ⌝ }
+    ensures { λ r. ⌜ Puts (now (out .entry)) (now (out .exit)) at r
+        (numbersLine true (h .tag) (h .«since_gc») (h .«reclaim_at») (h .«live_bytes») (h .slots) (h .free) (h .quarantine) (h .sealed) (h .retired)) ⌝ }
+{
+    let a = put_fields(out, at, h);
+    put_number(out, a, h.retired as u64, 10)
 }
 
 // Puts a name and then the first `count` values of a list.
@@ -258,12 +278,14 @@ fn page_len(heap: Heap, narrow: &[u32], wide: &[u64], pool: &[u8]) -> usize
     let three = 3 * s;
     let four = 4 * s;
     let five = 5 * s;
+    let six = 6 * s;
     let a = head_len(heap);
     let b = slots_len(heap, narrow, wide, pool);
     let c = indices_len(&narrow[three..four], heap.free);
     let d = indices_len(&narrow[four..five], heap.quarantine);
     let e = handles_len(&wide[three..four], heap.sealed);
-    128 + a + b + c + d + e
+    let f = indices_len(&narrow[five..six], heap.retired);
+    144 + a + b + c + d + e + f
 }
 
 // Answers how many bytes a heap's page has, and writes none.
@@ -287,7 +309,7 @@ pub fn write(heap: Heap, narrow: &[u32], wide: &[u64], pool: &[u8], out: &mut [u
     let a = text::put_literal(
         out,
         0,
-        b"tag,since_gc,reclaim_at,live_bytes,slots,free,quarantine,sealed\n",
+        b"tag,since_gc,reclaim_at,live_bytes,slots,free,quarantine,sealed,retired\n",
     );
     let b = put_head(out, a, heap);
     let c = text::put_literal(out, b, b"generation,kind,type,start,writes64,data\n");
@@ -296,6 +318,7 @@ pub fn write(heap: Heap, narrow: &[u32], wide: &[u64], pool: &[u8], out: &mut [u
     let three = 3 * s;
     let four = 4 * s;
     let five = 5 * s;
+    let six = 6 * s;
     let e = put_indices_after(out, d, b"free\n", &narrow[three..four], heap.free);
     let f = put_indices_after(
         out,
@@ -305,5 +328,6 @@ pub fn write(heap: Heap, narrow: &[u32], wide: &[u64], pool: &[u8], out: &mut [u
         heap.quarantine,
     );
     let g = put_handles_after(out, f, b"sealed\n", &wide[three..four], heap.sealed);
-    Reply::Is(g as u64, 0)
+    let k = put_indices_after(out, g, b"retired\n", &narrow[five..six], heap.retired);
+    Reply::Is(k as u64, 0)
 }

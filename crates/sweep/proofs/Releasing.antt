@@ -1,7 +1,7 @@
 -- Slots released in the runs are slots dropped in the heap. Assumes nothing.
 use mathlib.Core.Path.{_≡_, refl, sym, ap, _∙_, subst}
-use mathlib.Core.Bool.{Bool, true, false, _&&_}
-use mathlib.Core.List.{List, [], _∷_, _++_}
+use mathlib.Core.Bool.{Bool, true, false, not, _&&_}
+use mathlib.Core.List.{List, [], _∷_, _++_, map, append-nil}
 use Prim.Native.Nat.{ℕ, suc, _+_, _*_, _/_, _≤_, _<_}
 use native.Mathlib.Omega.{arith}
 use native.Mathlib.Numerals.{add-one}
@@ -11,49 +11,71 @@ use borrow.Author.Tests.{lt-ltb, le-ltb, eq-eqb, ne-eqb}
 use Rattle.word.specs.Choice.{if_then_else_}
 use Rattle.word.proofs.RunLaws.{run-get, first-get}
 use Rattle.heap.specs.Packing.{pad}
-use Rattle.heap.specs.State.{Slot, State, slotAt, live, bit}
-use Rattle.heap.specs.Calls.{step, released}
+use Rattle.heap.specs.State.{Slot, State, slotAt, live, lastGeneration, worn, bit, withFree, withRetired}
+use Rattle.heap.specs.Calls.{step, changed, release, released}
 use Rattle.heap.specs.Lent.{Lent, columns, column, cut, lent, headerOf, stored, view, slotCount, poolSize}
-use Rattle.heap.specs.Header.{setFree, setSlots, setChanged}
+use Rattle.heap.specs.Header.{setFree, setRetired, setSlots, setChanged}
 use Rattle.heap.specs.declared.Heap.{Heap}
 use Rattle.heap.proofs.Sound.{Sound, WellFormed, liveBit}
 use Rattle.heap.proofs.Storing.{column-set, column-at, pad-push}
 use Rattle.heap.proofs.Changing.{Known, known}
 use Rattle.heap.proofs.Counting.{sum-one, all-slots}
-use Rattle.heap.proofs.Runs.{with-generation, with-kind, with-type, with-start, with-writes, with-free, set-generation, set-kind, set-type, set-start, set-writes, set-free, wide-room}
+use Rattle.heap.proofs.Runs.{with-header, with-generation, with-kind, with-type, with-writes, with-free, with-retired, set-generation, set-kind, set-type, set-start, set-writes, set-free, set-retired, wide-room}
+use Rattle.heap.proofs.Keeping.{at-same}
 use Rattle.heap.proofs.Testing.{formed-tested}
 use Rattle.collection.specs.Swept.{goes, dropped, dropSlot, dropSlots, allDropped}
 use Rattle.collection.proofs.Dropping.{after, after-next, after-all, after-sound, Dropping, dropping, goes-live}
-use Rattle.sweep.specs.Columns.{columnsOf, releasedIn, isGoing, visitedIn, CanRelease, CanVisit, CanSweep}
+use Rattle.sweep.specs.Columns.{columnsOf, deadIn, freeIn, retiredIn, releasedIn, isGoing, visitedIn, CanRelease, CanVisit, CanSweep}
 
--- ---- the way out of `release`: six entries set
+-- ---- the ways out of `release`: five entries set, and one of a list
 
-module _ (h h₁ h₂ : Heap) (S i g : ℕ) (narrow wide : List ℕ) (can : CanRelease h S i narrow wide) where
-  pub released-in : g ≡ step (getD narrow i 0) → h₁ ≡ setChanged h i → h₂ ≡ setFree h₁ (h .free + 1)
-      → cut h₂ S (set (set (set (set narrow i g) (S + i) 0) (2 * S + i) 0) (3 * S + h .free) i) (set (set wide i 0) (2 * S + i) 0) [] ≡ releasedIn (cut h S narrow wide []) i
-  unfolding releasedIn
-  released-in eg e₁ e₂ =
+module _ (h h₁ h₂ : Heap) (S i g : ℕ) (narrow wide : List ℕ) (can : CanRelease h S i narrow wide) (eg : g ≡ step (getD narrow i 0)) (e₁ : h₁ ≡ setChanged h i) where
+  abbrev narrow₃ : List ℕ
+  narrow₃ = set (set (set narrow i g) (S + i) 0) (2 * S + i) 0
+
+  abbrev wide₂ : List ℕ
+  wide₂ = set (set wide i 0) (2 * S + i) 0
+
+  next : g ≡ step (getD (cut h S narrow wide [] .generation) i 0)
+  next = eg ∙ ap step (sym (first-get S narrow i (can .inside)))
+
+  dead-in : cut h₁ S narrow₃ wide₂ [] ≡ deadIn (cut h S narrow wide []) i
+  dead-in =
       let l : Lent = cut h S narrow wide [] in
       let inside : i < S = can .inside in
       let n₁ : List ℕ = set narrow i g in
       let n₂ : List ℕ = set n₁ (S + i) 0 in
-      let n₃ : List ℕ = set n₂ (2 * S + i) 0 in
       let w₁ : List ℕ = set wide i 0 in
-      let w₂ : List ℕ = set w₁ (2 * S + i) 0 in
-      let F₁ : Lent → Lent = λ x. with-free x (set (x .free) (h .free) i) in
-      let F₂ : Lent → Lent = λ x. F₁ (with-type x (set (x .type) i 0)) in
+      let F₂ : Lent → Lent = λ x. with-type x (set (x .type) i 0) in
       let F₃ : Lent → Lent = λ x. F₂ (with-kind x (set (x .kind) i 0)) in
       let F₄ : Lent → Lent = λ x. F₃ (with-generation x (set (x .generation) i g)) in
       let F₅ : Lent → Lent = λ x. F₄ (with-writes x (set (x .writes) i 0)) in
-      let header : h₂ ≡ setFree (setChanged h i) (h .free + 1) = e₂ ∙ ap (λ (x : Heap). setFree x (h .free + 1)) e₁ in
-      let next : g ≡ step (getD (l .generation) i 0) = eg ∙ ap step (sym (first-get S narrow i inside)) in
-      set-free h₂ S n₃ w₂ [] (h .free) i (can .room)
-      ∙ ap F₁ (set-type h₂ S n₂ w₂ [] i 0 inside)
-      ∙ ap F₂ (set-kind h₂ S n₁ w₂ [] i 0 inside)
-      ∙ ap F₃ (set-generation h₂ S narrow w₂ [] i g inside)
-      ∙ ap F₄ (set-writes h₂ S narrow w₁ [] i 0 inside)
-      ∙ ap F₅ (set-start h₂ S narrow wide [] i 0 inside)
-      ∙ (λ j. columns (header j) S (set (l .generation) i (next j)) (set (l .kind) i 0) (set (l .type) i 0) (set (l .start) i 0) (l .end) (set (l .writes) i 0) [] (set (l .free) (h .free) i) (l .quarantine) (l .sealed) (l .retired) (l .over))
+      set-type h₁ S n₂ wide₂ [] i 0 inside
+      ∙ ap F₂ (set-kind h₁ S n₁ wide₂ [] i 0 inside)
+      ∙ ap F₃ (set-generation h₁ S narrow wide₂ [] i g inside)
+      ∙ ap F₄ (set-writes h₁ S narrow w₁ [] i 0 inside)
+      ∙ ap F₅ (set-start h₁ S narrow wide [] i 0 inside)
+      ∙ (λ j. columns (e₁ j) S (set (l .generation) i (next j)) (set (l .kind) i 0) (set (l .type) i 0) (set (l .start) i 0) (l .end) (set (l .writes) i 0) [] (l .free) (l .quarantine) (l .sealed) (l .retired) (l .over))
+
+  pub free-in : (g ≡ 4294967295 → ⊥) → h₂ ≡ setFree h₁ (h .free + 1)
+      → cut h₂ S (set (set (set (set narrow i g) (S + i) 0) (2 * S + i) 0) (3 * S + h .free) i) (set (set wide i 0) (2 * S + i) 0) [] ≡ releasedIn (cut h S narrow wide []) i
+  unfolding releasedIn
+  free-in ne e₂ =
+      let l : Lent = cut h S narrow wide [] in
+      set-free h₂ S narrow₃ wide₂ [] (h .free) i (can .free-room)
+      ∙ ap (λ (x : Heap). with-free (with-header (cut h₁ S narrow₃ wide₂ []) x) (set (cut h₁ S narrow₃ wide₂ [] .free) (h .free) i)) e₂
+      ∙ ap (λ (x : Lent). with-free (with-header x (setFree (x .header) (h .free + 1))) (set (x .free) (h .free) i)) dead-in
+      ∙ ap (λ (b : Bool). if b then retiredIn (deadIn l i) i else freeIn (deadIn l i) i) (sym (ap (λ (x : ℕ). eqb x lastGeneration) (sym next) ∙ ne-eqb g lastGeneration ne))
+
+  pub retired-in : g ≡ 4294967295 → h₂ ≡ setRetired h₁ (h .retired + 1)
+      → cut h₂ S (set (set (set (set narrow i g) (S + i) 0) (2 * S + i) 0) (5 * S + h .retired) i) (set (set wide i 0) (2 * S + i) 0) [] ≡ releasedIn (cut h S narrow wide []) i
+  unfolding releasedIn
+  retired-in e e₂ =
+      let l : Lent = cut h S narrow wide [] in
+      set-retired h₂ S narrow₃ wide₂ [] (h .retired) i (can .retired-room)
+      ∙ ap (λ (x : Heap). with-retired (with-header (cut h₁ S narrow₃ wide₂ []) x) (set (cut h₁ S narrow₃ wide₂ [] .retired) (h .retired) i)) e₂
+      ∙ ap (λ (x : Lent). with-retired (with-header x (setRetired (x .header) (h .retired + 1))) (set (x .retired) (h .retired) i)) dead-in
+      ∙ ap (λ (b : Bool). if b then retiredIn (deadIn l i) i else freeIn (deadIn l i) i) (sym (ap (λ (x : ℕ). eqb x lastGeneration) (sym next) ∙ eq-eqb g lastGeneration e))
 
 -- ---- the ways out of `visit`
 
@@ -87,45 +109,71 @@ module _ (h : Heap) (S i m : ℕ) (narrow wide : List ℕ) (can : CanVisit h S i
   pub can-release : (getD narrow (S + i) 0 ≡ 0 → ⊥) → CanRelease h S i narrow wide
   can-release ne =
       let some : 0 < getD narrow (S + i) 0 = omega (arith, ne) in
-      record { few = can .few; inside = can .inside; long = can .long; far = can .far; room = can .room some }
+      record { few = can .few; inside = can .inside; long = can .long; far = can .far; free-room = can .room some .0; retired-room = can .room some .1 }
 
 -- ---- the runs of a heap
 
 pub columns-stored : (l : Lent) (st : State) → l ≡ stored (slotCount l) (poolSize l) st → l ≡ columnsOf l st
 unfolding stored columnsOf
 columns-stored l st lies =
-    λ j. columns (lies j .header) (l .count) (lies j .generation) (lies j .kind) (lies j .type) (lies j .start) (l .end) (lies j .writes) (l .pool) (lies j .free) (l .quarantine) (l .sealed) (l .retired) (l .over)
+    λ j. columns (lies j .header) (l .count) (lies j .generation) (lies j .kind) (lies j .type) (lies j .start) (l .end) (lies j .writes) (l .pool) (lies j .free) (l .quarantine) (l .sealed) (lies j .retired) (l .over)
 
 module _ (l : Lent) (P : ℕ) (st : State) (ok : Sound (l .count) P st) where
-  pub free-count : columnsOf l st .header .free ≡ length (st .free)
+  pub list-counts : (columnsOf l st .header .free ≡ length (st .free)) × (columnsOf l st .header .retired ≡ length (st .retired))
   unfolding columnsOf headerOf
-  free-count = refl
+  list-counts = (refl, refl)
 
   module _ (i : ℕ) (inside : i < length (st .slots)) where
     pub kind-at : getD (columnsOf l st .kind) i 0 ≡ slotAt st i .kind
     unfolding columnsOf
     kind-at = column-at (l .count) (λ s. s .kind) (st .slots) i inside
 
-    -- a live slot is not yet in the free list
-    pub free-room : live (slotAt st i) ≡ true → length (st .free) < l .count
-    free-room k = omega (arith, all-slots (l .count) P st ok, sum-one (length (st .slots)) (λ j. liveBit (slotAt st j)) i inside, ap bit k, ok .slots-fit)
+    -- a live slot is in no list yet
+    pub list-room : live (slotAt st i) ≡ true → (length (st .free) < l .count) × (length (st .retired) < l .count)
+    list-room k =
+        let most = all-slots (l .count) P st ok in
+        let one = sum-one (length (st .slots)) (λ j. liveBit (slotAt st j)) i inside in
+        (omega (arith, ap bit k, ok .slots-fit), omega (arith, ap bit k, ok .slots-fit))
 
-    columns-dropped : live (slotAt st i) ≡ true → releasedIn (columnsOf l st) i ≡ columnsOf l (dropSlot st i)
-    unfolding releasedIn columnsOf headerOf
-    columns-dropped k =
+    -- slot i dropped, into the retired list or into the free list
+    abbrev joining : Bool → State
+    joining b = withRetired (withFree (release st i) (st .free ++ (if not b then (i ∷ []) else []))) (st .retired ++ (if b then (i ∷ []) else []))
+
+    age-at : getD (columnsOf l st .generation) i 0 ≡ slotAt st i .generation
+    unfolding columnsOf
+    age-at = column-at (l .count) (λ s. s .generation) (st .slots) i inside
+
+    columns-joined : live (slotAt st i) ≡ true → (b : Bool) → (if b then retiredIn (deadIn (columnsOf l st) i) i else freeIn (deadIn (columnsOf l st) i) i) ≡ columnsOf l (joining b)
+    unfolding columnsOf headerOf
+    columns-joined k b =
         let S : ℕ = l .count in
         let slots : List Slot = st .slots in
         let new : Slot = released (slotAt st i) in
-        let old : getD (columnsOf l st .generation) i 0 ≡ slotAt st i .generation = column-at S (λ s. s .generation) slots i inside in
+        let f : List ℕ = st .free in
+        let r : List ℕ = st .retired in
         let count : length slots ≡ length (set slots i new) = sym (length-set slots i new) in
-        let more : length (st .free) + 1 ≡ length (st .free ++ i ∷ []) = omega (arith, length-append (st .free) (i ∷ [])) in
-        let g : set (columnsOf l st .generation) i (step (getD (columnsOf l st .generation) i 0)) ≡ columnsOf l (dropSlot st i) .generation = ap (λ (x : ℕ). set (columnsOf l st .generation) i (step x)) old ∙ column-set S (λ s. s .generation) slots i new inside in
-        let ks : set (columnsOf l st .kind) i 0 ≡ columnsOf l (dropSlot st i) .kind = column-set S (λ s. s .kind) slots i new inside in
-        let t : set (columnsOf l st .type) i 0 ≡ columnsOf l (dropSlot st i) .type = column-set S (λ s. s .type) slots i new inside in
-        let s : set (columnsOf l st .start) i 0 ≡ columnsOf l (dropSlot st i) .start = column-set S (λ s. s .start) slots i new inside in
-        let w : set (columnsOf l st .writes) i 0 ≡ columnsOf l (dropSlot st i) .writes = column-set S (λ s. s .writes) slots i new inside in
-        let f : set (pad S (st .free)) (length (st .free)) i ≡ pad S (st .free ++ i ∷ []) = pad-push S (st .free) (length (st .free)) i refl (free-room k) in
-        λ j. columns (setFree (setSlots (setChanged (headerOf st) i) (count j)) (more j)) S (g j) (ks j) (t j) (s j) (l .end) (w j) (l .pool) (f j) (l .quarantine) (l .sealed) (l .retired) (l .over)
+        let g : set (columnsOf l st .generation) i (step (getD (columnsOf l st .generation) i 0)) ≡ pad S (map (λ s. s .generation) (set slots i new)) = ap (λ (x : ℕ). set (columnsOf l st .generation) i (step x)) age-at ∙ column-set S (λ s. s .generation) slots i new inside in
+        let ks : set (pad S (map (λ s. s .kind) slots)) i 0 ≡ pad S (map (λ s. s .kind) (set slots i new)) = column-set S (λ s. s .kind) slots i new inside in
+        let t : set (pad S (map (λ s. s .type) slots)) i 0 ≡ pad S (map (λ s. s .type) (set slots i new)) = column-set S (λ s. s .type) slots i new inside in
+        let s : set (pad S (map (λ s. s .start) slots)) i 0 ≡ pad S (map (λ s. s .start) (set slots i new)) = column-set S (λ s. s .start) slots i new inside in
+        let w : set (pad S (map (λ s. s .writes) slots)) i 0 ≡ pad S (map (λ s. s .writes) (set slots i new)) = column-set S (λ s. s .writes) slots i new inside in
+        let same : (xs : List ℕ) → xs ≡ xs ++ [] = λ xs. sym (append-nil xs) in
+        let more : (xs : List ℕ) → length xs + 1 ≡ length (xs ++ i ∷ []) = λ xs. omega (arith, length-append xs (i ∷ [])) in
+        let f′ : set (pad S f) (length f) i ≡ pad S (f ++ i ∷ []) = pad-push S f (length f) i refl (list-room k .0) in
+        let r′ : set (pad S r) (length r) i ≡ pad S (r ++ i ∷ []) = pad-push S r (length r) i refl (list-room k .1) in
+        elim b [
+          | true ↦ λ j. columns (setRetired (setFree (setSlots (setChanged (headerOf st) i) (count j)) (length (same f j))) (more r j)) S (g j) (ks j) (t j) (s j) (l .end) (w j) (l .pool) (pad S (same f j)) (l .quarantine) (l .sealed) (r′ j) (l .over)
+          | false ↦ λ j. columns (setRetired (setFree (setSlots (setChanged (headerOf st) i) (count j)) (more f j)) (length (same r j))) S (g j) (ks j) (t j) (s j) (l .end) (w j) (l .pool) (f′ j) (l .quarantine) (l .sealed) (pad S (same r j)) (l .over)
+        ]
+
+    columns-dropped : live (slotAt st i) ≡ true → releasedIn (columnsOf l st) i ≡ columnsOf l (dropSlot st i)
+    unfolding releasedIn
+    columns-dropped k =
+        let old : getD (columnsOf l st .generation) i 0 ≡ slotAt st i .generation = age-at in
+        let new : Slot = released (slotAt st i) in
+        ap (λ (x : ℕ). if eqb (step x) lastGeneration then retiredIn (deadIn (columnsOf l st) i) i else freeIn (deadIn (columnsOf l st) i) i) old
+        ∙ columns-joined k (worn new)
+        ∙ ap (λ (s : Slot). columnsOf l (joining (worn s))) (sym (at-same (changed st i) i new inside))
 
 -- one slot visited in the runs is one more looked at in the heap
 columns-visited : (l : Lent) (P : ℕ) (marks : List ℕ) (h : State) (n : ℕ) → Sound (l .count) P h → n < length (h .slots)
@@ -196,13 +244,18 @@ module _ (h₀ : Heap) (narrow₀ wide₀ pool marks : List ℕ) (can : CanSweep
         let sound : Sound S (length pool) A = sound-at i (v .few) in
         let kind : getD narrow (S + i) 0 ≡ slotAt A i .kind =
         sym (run-get S S narrow i less′) ∙ ap (λ (x : Lent). getD (x .kind) i 0) (v .now) ∙ kind-at (with-pool l []) (length pool) A sound i inside in
-        let count : h .free ≡ length (A .free) = ap (λ (x : Lent). x .header .free) (v .now) ∙ free-count (with-pool l []) (length pool) A sound in
+        let counts = list-counts (with-pool l []) (length pool) A sound in
+        let free : h .free ≡ length (A .free) = ap (λ (x : Lent). x .header .free) (v .now) ∙ counts .0 in
+        let retired : h .retired ≡ length (A .retired) = ap (λ (x : Lent). x .header .retired) (v .now) ∙ counts .1 in
         record {
           few = formed .sound .slot-range .1;
           inside = less′;
           long = omega (arith, v .long);
           far = omega (arith, v .far, wide-room h₀ narrow₀ wide₀ pool formed);
-          room = λ k. let k′ : 0 < slotAt A i .kind = omega (arith, kind) in omega (arith, count, free-room (with-pool l []) (length pool) A sound i inside (lt-ltb 0 (slotAt A i .kind) k′));
+          room = λ k.
+              let k′ : 0 < slotAt A i .kind = omega (arith, kind) in
+              let room = list-room (with-pool l []) (length pool) A sound i inside (lt-ltb 0 (slotAt A i .kind) k′) in
+              (omega (arith, room .0), omega (arith, room .1));
         }
 
     pub release-turn : {h′ : Heap} {narrow′ wide′ : List ℕ} → i < h₀ .slots → length narrow′ ≡ length narrow → length wide′ ≡ length wide

@@ -136,9 +136,8 @@ module _ (l : Lent) (marks : List ℕ) (can : CanSweep l marks) where
         let d : Dropping marks (view l) (length (view l .slots)) A = all-dropped marks (view l) in
         let q : l .quarantine ≡ pad S (A .quarantine) = ap (λ (x : Lent). x .quarantine) (formed .lies) ∙ ap (pad S) (sym (d .quarantine)) in
         let x : l .sealed ≡ pad S (A .sealed) = ap (λ (x : Lent). x .sealed) (formed .lies) ∙ ap (pad S) (sym (d .sealed)) in
-        let r : l .retired ≡ pad S [] = ap (λ (x : Lent). x .retired) (formed .lies) in
         let o : l .over ≡ [] = ap (λ (x : Lent). x .over) (formed .lies) in
-        λ j. columns (headerOf A) S (M .generation) (M .kind) (M .type) (M .start) (ends-now j) (M .writes) (pool-now j) (M .free) (q j) (x j) (r j) (o j)
+        λ j. columns (headerOf A) S (M .generation) (M .kind) (M .type) (M .start) (ends-now j) (M .writes) (pool-now j) (M .free) (q j) (x j) (M .retired) (o j)
 
     total-is : sizesIn (l .header .slots) (columnsOf l (allDropped (view l) marks) .kind) es ≡ liveSize (allDropped (view l) marks .slots)
     unfolding columnsOf

@@ -9,10 +9,10 @@ use Rattle.word.specs.Put.{put}
 use Rattle.word.specs.Choice.{if_then_else_}
 use Rattle.heap.specs.Packing.{pad, flat, ends, startOf}
 use Rattle.heap.specs.Columns.{datas, Packed}
-use Rattle.heap.specs.State.{State}
+use Rattle.heap.specs.State.{State, lastGeneration}
 use Rattle.heap.specs.Calls.{step}
 use Rattle.heap.specs.Lent.{Lent, columns, column, headerOf, slotCount}
-use Rattle.heap.specs.Header.{setFree, setChanged}
+use Rattle.heap.specs.Header.{setFree, setRetired, setChanged}
 use Rattle.heap.specs.WellFormed.{wellFormed}
 use Rattle.heap.specs.declared.Heap.{Heap}
 
@@ -47,17 +47,33 @@ pub record Settled (k from e to : ℕ) (pool : List ℕ) (r : ℕ) (pool′ : Li
 
 -- ---- slots released, their data still in the pool
 
--- l with the numbers and the free list of the heap st, the data still where it lies in l
+-- l with the numbers, the free list and the retired list of the heap st, the data still where it lies in l
 unfoldable pub columnsOf : Lent → State → Lent
 columnsOf l st =
     columns (headerOf st) (l .count) (column (l .count) (λ s. s .generation) (st .slots)) (column (l .count) (λ s. s .kind) (st .slots)) (column (l .count) (λ s. s .type) (st .slots))
-    (column (l .count) (λ s. s .start) (st .slots)) (l .end) (column (l .count) (λ s. s .writes) (st .slots)) (l .pool) (pad (l .count) (st .free)) (l .quarantine) (l .sealed) (l .retired) (l .over)
+    (column (l .count) (λ s. s .start) (st .slots)) (l .end) (column (l .count) (λ s. s .writes) (st .slots)) (l .pool)
+    (pad (l .count) (st .free)) (l .quarantine) (l .sealed) (pad (l .count) (st .retired)) (l .over)
 
--- slot i dead, one generation on, logged and free
+-- slot i dead, one generation on, and logged
+abbrev pub deadIn : Lent → ℕ → Lent
+deadIn l i =
+    columns (setChanged (l .header) i) (l .count) (set (l .generation) i (step (getD (l .generation) i 0))) (set (l .kind) i 0) (set (l .type) i 0)
+    (set (l .start) i 0) (l .end) (set (l .writes) i 0) (l .pool) (l .free) (l .quarantine) (l .sealed) (l .retired) (l .over)
+
+-- slot i at the end of the free list, of the retired list
+abbrev pub freeIn : Lent → ℕ → Lent
+freeIn l i =
+    columns (setFree (l .header) (l .header .free + 1)) (l .count) (l .generation) (l .kind) (l .type) (l .start) (l .end) (l .writes) (l .pool)
+    (set (l .free) (l .header .free) i) (l .quarantine) (l .sealed) (l .retired) (l .over)
+
+abbrev pub retiredIn : Lent → ℕ → Lent
+retiredIn l i =
+    columns (setRetired (l .header) (l .header .retired + 1)) (l .count) (l .generation) (l .kind) (l .type) (l .start) (l .end) (l .writes) (l .pool)
+    (l .free) (l .quarantine) (l .sealed) (set (l .retired) (l .header .retired) i) (l .over)
+
+-- slot i dead, and free, or retired where it is worn out
 unfoldable pub releasedIn : Lent → ℕ → Lent
-releasedIn l i =
-    columns (setFree (setChanged (l .header) i) (l .header .free + 1)) (l .count) (set (l .generation) i (step (getD (l .generation) i 0))) (set (l .kind) i 0) (set (l .type) i 0)
-    (set (l .start) i 0) (l .end) (set (l .writes) i 0) (l .pool) (set (l .free) (l .header .free) i) (l .quarantine) (l .sealed) (l .retired) (l .over)
+releasedIn l i = if eqb (step (getD (l .generation) i 0)) lastGeneration then retiredIn (deadIn l i) i else freeIn (deadIn l i) i
 
 -- a slot of this kind goes if it is live and its mark is 0
 abbrev pub isGoing : (kind mark : ℕ) → Bool
@@ -72,15 +88,16 @@ pub record CanRelease (h : Heap) (S i : ℕ) (narrow wide : List ℕ) : Type 0 w
   pub inside : i < S
   pub long : 6 * S ≤ length narrow
   pub far : 4 * S ≤ length wide
-  pub room : h .free < S
+  pub free-room : h .free < S
+  pub retired-room : h .retired < S
 
--- a live slot has room in the free list
+-- a live slot has room in the free list and in the retired list
 pub record CanVisit (h : Heap) (S i : ℕ) (narrow wide : List ℕ) : Type 0 where
   pub few : S ≤ 16777216
   pub inside : i < S
   pub long : 6 * S ≤ length narrow
   pub far : 4 * S ≤ length wide
-  pub room : 0 < getD narrow (S + i) 0 → h .free < S
+  pub room : 0 < getD narrow (S + i) 0 → (h .free < S) × (h .retired < S)
 
 -- ---- the survivors counted
 

@@ -43,21 +43,27 @@ fn compact(n: usize, kind: &[u32], end: &mut [u64], pool: &mut [u8])
     memory::fill_u8(pool, to, from, 0);
 }
 
-// Slot `i` of `s` is dead, one generation on, logged and free. Its data stays in the pool for now.
+// Slot `i` of `s` is dead, one generation on, and logged; it is free, or retired where it is worn out. Its data stays in the pool for now.
 fn release(heap: Heap, narrow: &mut [u32], wide: &mut [u64], s: usize, i: usize) -> Heap
     requires { ⌜ CanRelease heap s i (now narrow) (now wide) ⌝ }
-    ensures { λ r. ⌜ cut r s (now (narrow .exit)) (now (wide .exit)) [] ≡ releasedIn (cut heap s (now (narrow .entry)) (now (wide .entry)) []) i ⌝ }
+    ensures { λ h. ⌜ cut h s (now (narrow .exit)) (now (wide .exit)) [] ≡ releasedIn (cut heap s (now (narrow .entry)) (now (wide .entry)) []) i ⌝ }
 {
     let f = heap.free;
+    let r = heap.retired;
     let index = i as u32;
     let g = word::next_generation(narrow[i]);
     narrow[i] = g;
     narrow[s + i] = 0;
     narrow[2 * s + i] = 0;
-    narrow[3 * s + f] = index;
     wide[i] = 0;
     wide[2 * s + i] = 0;
-    heap.changed(index).with_free(f + 1)
+    let after = heap.changed(index);
+    if g == u32::MAX {
+        narrow[5 * s + r] = index;
+        return after.with_retired(r + 1);
+    }
+    narrow[3 * s + f] = index;
+    after.with_free(f + 1)
 }
 
 // Slot `i` of `s` goes if it is live and its mark `m` is 0.

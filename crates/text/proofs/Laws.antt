@@ -14,7 +14,7 @@ use native.Mathlib.Omega.{arith}
 use Rattle.text.specs.Text.{_>>=_, give, Bytes, newline, digits, decimal, hexDigit, hex, digitOf, stops, ends, scan, capped, after, readDecimal, hexDigitOf, byteOf, readHex, readLiteral, readField}
 use Rattle.word.specs.Choice.{if_then_else_}
 use Rattle.word.proofs.Bools.{and-both}
-use Rattle.text.specs.Format.{Format, Right, number, bytesLine, afterLiteral, orElse, either, pair, times, mapped, readAll, All}
+use Rattle.text.specs.Format.{Format, Right, number, bytesLine, afterLiteral, orElse, either, always, pair, times, mapped, readAll, All}
 
 -- Options
 
@@ -425,6 +425,16 @@ either-right c d h = record { forth = λ b rest g. there b rest; back = λ t b r
     there : (b : Bool) (rest : List ℕ) → either c d .read ((if b then c else d) ++ rest) ≡ give b rest
     there true rest = rw (literal-forth c rest)
     there false rest = rw (h rest, literal-forth d rest)
+
+pub always-right : {A : Type 0} (a : A) → Right (always a) (λ b. b ≡ a)
+unfolding always
+always-right {A} a =
+    record {
+      forth = λ b rest e. rw e;
+      back = λ t b rest e.
+          let v : _≡_ {A = A × List ℕ} (a, t) (b, rest) = some-inj e in
+          (sym (ap (λ (x : A × List ℕ). x .0) v), sym (ap (λ (x : A × List ℕ). x .1) v));
+    }
 
 pair-join : {A B : Type 0} (f : Format A) (g : A → Format B) (good : A → Type 0) (fine : A → B → Type 0) (t : List ℕ) (p : A × B) (rest : List ℕ)
     (a : A) (b : B) (m r : List ℕ) →

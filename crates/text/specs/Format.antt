@@ -47,6 +47,10 @@ either first second =
       read = λ t. orElse (readLiteral first t >>= λ u. give true u) (readLiteral second t >>= λ u. give false u);
     }
 
+-- nothing is written: always this value
+unfoldable pub always : {A : Type 0} → A → Format A
+always a = record { print = λ _. []; read = λ t. give a t }
+
 -- one value, then another whose format may go by the first
 unfoldable pub pair : {A B : Type 0} → Format A → (A → Format B) → Format (A × B)
 pair {A} {B} f g =

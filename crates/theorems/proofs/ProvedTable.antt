@@ -2,7 +2,7 @@
 use mathlib.Core.Path.{_≡_, refl}
 use mathlib.Core.Bool.{Bool, true}
 use Rattle.word.specs.Lists.{all, sameList}
-use Rattle.word.specs.Num.{nextFrom, alignUp}
+use Rattle.word.specs.Num.{alignUp}
 use Rattle.word.specs.Le.{le, bytes}
 use Rattle.handle.specs.Handle.{packed, tagOf, indexOf, generationOf, resolveBy}
 use Rattle.heap.specs.Calls.{new, resolve}
@@ -15,5 +15,5 @@ use Rattle.theorems.specs.TableLayouts.{dim, sample, nested, answered, c
 use Rattle.theorems.specs.ProvedTable.{laid, handlesIn, table, allRight}
 
 pub table-holds : allRight table ≡ true
-unfolding allRight all sameList table laid handlesIn packed nextFrom resolve new resolveBy tagOf indexOf generationOf handlesOf kindPlaces handlesPlaces rising wordsAt le bytes cases dim sample nested answered layoutOf layoutAt layoutBy arrayOf arrayLaid dimsOf wordOf dimLen rank alignUp under elemSize scalarSize narrow logicLeaf leafBy recordOf endOf placed offsetsOf offsetsFrom
+unfolding allRight all sameList table laid handlesIn packed resolve new resolveBy tagOf indexOf generationOf handlesOf kindPlaces handlesPlaces rising wordsAt le bytes cases dim sample nested answered layoutOf layoutAt layoutBy arrayOf arrayLaid dimsOf wordOf dimLen rank alignUp under elemSize scalarSize narrow logicLeaf leafBy recordOf endOf placed offsetsOf offsetsFrom
 table-holds = refl

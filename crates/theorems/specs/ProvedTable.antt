@@ -1,11 +1,10 @@
--- The proved table of 01, cases (a) to (k), and the depths at which nesting ends: what each definition gives, and what it should give, as numbers.
+-- The proved table of 01, cases (a), (b) and (d) to (k) (request [7] took (c) out), and the depths at which nesting ends: what each definition gives, and what it should give, as numbers.
 use Prim.Native.Nat.{ℕ}
 use mathlib.Core.Bool.{Bool}
 use mathlib.Core.List.{List, [], _∷_, _++_}
 use mathlib.Core.Option.{Option, none, some}
 use lib.ListN.{length, replicate}
 use Rattle.word.specs.Lists.{all, sameList}
-use Rattle.word.specs.Num.{nextFrom}
 use Rattle.word.specs.Result.{Result, ok, refused}
 use Rattle.handle.specs.Handle.{packed}
 use Rattle.heap.specs.Calls.{new, resolve}
@@ -47,8 +46,6 @@ table =
     record { gives = packed 1 0 1 ∷ []; says = 72057594037927937 ∷ [] }
     -- (b) 0 on tag 1
     ∷ record { gives = resolved (resolve (new 1) 0); says = 2 ∷ [] }
-    -- (c) step of 4,294,967,295
-    ∷ record { gives = nextFrom 32 4294967295 ∷ []; says = 1 ∷ [] }
     -- (k) Handles data of 31, 39, 40 bytes
     ∷ record { gives = handlesIn 31; says = 0 ∷ 0 ∷ [] }
     ∷ record { gives = handlesIn 39; says = 0 ∷ 1 ∷ [] }

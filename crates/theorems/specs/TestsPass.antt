@@ -22,6 +22,7 @@ oneObject =
       slots = record { generation = 1; kind = 2; type = 0; start = 0; writes = 0; bytes = 65 ∷ 66 ∷ [] } ∷ [];
       free = [];
       quarantine = [];
+      retired = [];
       sealed = [];
     }
 

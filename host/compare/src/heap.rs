@@ -61,8 +61,10 @@ impl Run {
                 let (i, at, bytes) = (self.slot(), self.random.below(12) as usize, self.random.bytes(9));
                 (format!("write {i} {at} {}", hex(&bytes)), told(self.heap.write(i, at, &bytes), |()| String::new()))
             }
-            10 if self.heap.header().slots > 0 => {
-                let i = self.random.below(self.heap.header().slots as u64) as u32;
+            // a dead slot may be reissued in the Rust
+            10 if self.heap.live().unwrap() > 0 => {
+                let live: Vec<usize> = (0..self.heap.header().slots).filter(|i| self.heap.memory().kind()[*i] != 0).collect();
+                let i = live[self.random.below(live.len() as u64) as usize] as u32;
                 let grown = self.random.below(99);
                 let answer = self.heap.reissue(i, grown);
                 self.handles.extend(answer.ok());

@@ -40,7 +40,7 @@ same-length : tie.Need-same-length
 same-length c = search needs
 
 returns : tie.Need-returns
-returns c = sealed-out (c .before .before .before .before .before .before .before .before .args .heap) (now (c .before .before .before .before .before .before .before .before .args .narrow)) (now (c .before .before .before .before .before .before .before .before .args .wide)) (now (c .before .before .before .before .before .before .before .before .args .pool)) (c .before .before .before .before .before .before .before .before .pre) _ _ _ (λ i. omega (arith, c .before .before .before .before .before .before .before .shared-slice-known .given i)) (c .before .before .before .list-all .ensures (now (c .before .before .before .before .before .before .before .before .args .wide)) (now (c .before .before .before .before .before .before .before .before .args .pool)) (c .before .before .before .before .before .before .before .before .pre)) (c .with-sealed .ensures)
+returns c = sealed-out (c .before .before .before .before .before .before .before .before .args .heap) (now (c .before .before .before .before .before .before .before .before .args .narrow)) (now (c .before .before .before .before .before .before .before .before .args .wide)) (now (c .before .before .before .before .before .before .before .before .args .pool)) (c .before .before .before .before .before .before .before .before .pre) _ _ _ (c .before .before .before .list-all .ensures (now (c .before .before .before .before .before .before .before .before .args .wide)) (now (c .before .before .before .before .before .before .before .before .args .pool)) (c .before .before .before .before .before .before .before .before .pre)) (c .with-sealed .ensures)
 
 pub seal-spec : {M : Type 1} → statement M
 seal-spec =

@@ -1,7 +1,7 @@
 use native.Mathlib.Omega.{arith}
 use Prim.Native.Nat.{_-_}
 use denote.Ref.{now}
-use Rattle.pages.proofs.Whole.{page-sum, free-in, quarantine-in, sealed-in}
+use Rattle.pages.proofs.Whole.{page-sum, free-in, quarantine-in, sealed-in, retired-in}
 use borrow.Author.Needs.{needs}
 use Rattle.pages.proofs.page_len.Statement.{statement}
 use Rattle.pages.proofs.page_len.Tie as tie
@@ -14,6 +14,9 @@ mul-four c = search needs
 
 mul-five : tie.Need-mul-five
 mul-five c = search needs
+
+mul-six : tie.Need-mul-six
+mul-six c = search needs
 
 head-len-requires : tie.Need-head-len-requires
 head-len-requires c κs = search needs
@@ -66,6 +69,21 @@ part-handles-len-end c = search needs
 handles-len-requires : tie.Need-handles-len-requires
 handles-len-requires c κs = (sealed-in (c .before .before .before .before .before .before .before .before .before .before .args .heap) (now (c .before .before .before .before .before .before .before .before .before .before .args .narrow)) (now (c .before .before .before .before .before .before .before .before .before .before .args .wide)) (now (c .before .before .before .before .before .before .before .before .before .before .args .pool)) (c .before .before .before .before .before .before .before .before .before .before .pre .0), c .before .before .before .before .before .before .before .before .before .before .pre .0 .sealedCount)
 
+mul-indices-len-3 : tie.Need-mul-indices-len-3
+mul-indices-len-3 c = search needs
+
+sub-indices-len-3 : tie.Need-sub-indices-len-3
+sub-indices-len-3 c = search needs
+
+part-indices-len-start-3 : tie.Need-part-indices-len-start-3
+part-indices-len-start-3 c = search needs
+
+part-indices-len-end-3 : tie.Need-part-indices-len-end-3
+part-indices-len-end-3 c = search needs
+
+indices-len-requires-3 : tie.Need-indices-len-requires-3
+indices-len-requires-3 c κs = (retired-in (c .before .before .before .before .before .before .before .before .before .before .before .before .args .heap) (now (c .before .before .before .before .before .before .before .before .before .before .before .before .args .narrow)) (now (c .before .before .before .before .before .before .before .before .before .before .before .before .args .wide)) (now (c .before .before .before .before .before .before .before .before .before .before .before .before .args .pool)) (c .before .before .before .before .before .before .before .before .before .before .before .before .pre .0), c .before .before .before .before .before .before .before .before .before .before .before .before .pre .0 .retiredCount)
+
 add-result : tie.Need-add-result
 add-result c = search needs
 
@@ -81,8 +99,11 @@ add-result-4 c = search needs
 add-result-5 : tie.Need-add-result-5
 add-result-5 c = search needs
 
+add-result-6 : tie.Need-add-result-6
+add-result-6 c = search needs
+
 returns : tie.Need-returns
-returns c = omega (arith, page-sum (c .before .before .before .before .before .before .before .before .before .before .before .args .heap) (now (c .before .before .before .before .before .before .before .before .before .before .before .args .narrow)) (now (c .before .before .before .before .before .before .before .before .before .before .before .args .wide)) (now (c .before .before .before .before .before .before .before .before .before .before .before .args .pool)) (c .before .before .before .before .before .before .before .before .before .before .before .pre .0), c .before .before .before .before .before .before .before .head-len .ensures .0, c .before .before .before .before .before .before .slots-len .ensures .0, c .before .before .before .before .indices-len .ensures .0, c .before .before .indices-len2 .ensures .0, c .handles-len .ensures .0)
+returns c = omega (arith, page-sum (c .before .before .before .before .before .before .before .before .before .before .before .before .before .args .heap) (now (c .before .before .before .before .before .before .before .before .before .before .before .before .before .args .narrow)) (now (c .before .before .before .before .before .before .before .before .before .before .before .before .before .args .wide)) (now (c .before .before .before .before .before .before .before .before .before .before .before .before .before .args .pool)) (c .before .before .before .before .before .before .before .before .before .before .before .before .before .pre .0), c .before .before .before .before .before .before .before .before .before .head-len .ensures .0, c .before .before .before .before .before .before .before .before .slots-len .ensures .0, c .before .before .before .before .before .before .indices-len .ensures .0, c .before .before .before .before .indices-len2 .ensures .0, c .before .before .handles-len .ensures .0, c .indices-len3 .ensures .0)
 
 pub page-len-spec : {M : Type 1} → statement M
 page-len-spec =
@@ -91,6 +112,7 @@ page-len-spec =
     mul-three
     mul-four
     mul-five
+    mul-six
     head-len-requires
     slots-len-requires
     mul-indices-len
@@ -108,9 +130,15 @@ page-len-spec =
     part-handles-len-start
     part-handles-len-end
     handles-len-requires
+    mul-indices-len-3
+    sub-indices-len-3
+    part-indices-len-start-3
+    part-indices-len-end-3
+    indices-len-requires-3
     add-result
     add-result-2
     add-result-3
     add-result-4
     add-result-5
+    add-result-6
     returns)
