@@ -158,7 +158,7 @@ take-zeros (suc n) zero h = absurd (omega arith)
 take-zeros (suc n) (suc m) h = ap (λ (l : List ℕ). 0 ∷ l) (take-zeros n m (omega arith))
 
 module _ (slots : ℕ) (marks work : List ℕ) (ready : Ready slots marks work) where
-  first-clear : take slots marks ≡ replicate slots 0
+  pub first-clear : take slots marks ≡ replicate slots 0
   first-clear = ap (take slots) (ready .clear) ∙ take-zeros slots (length marks) (ready .marked)
 
   pub ready-scratch : slots ≤ 16777216 → Scratch slots (take slots marks) work 0

@@ -4,7 +4,7 @@ use mathlib.Core.Path.{_≡_, ap, subst}
 use mathlib.Core.List.{List, [], map}
 use mathlib.Core.Logic.{_↔_}
 use mathlib.Core.Option.{Option, some}
-use Prim.Native.Nat.{ℕ, _<_, _^_}
+use Prim.Native.Nat.{ℕ}
 use native.Mathlib.Omega.{arith}
 use lib.ListN.{length}
 use Rattle.word.specs.Result.{Result, ok, refused}
@@ -12,10 +12,11 @@ use Rattle.handle.proofs.ResolveLaws.{resolve-packed}
 use Rattle.heap.specs.State.{State, slotAt, live}
 use Rattle.heap.specs.Calls.{resolve}
 use Rattle.heap.proofs.Sound.{Sound}
-use Rattle.collection.proofs.Dropping.{live-inside}
+use Rattle.heap.proofs.Keeping.{live-inside}
 use Rattle.collection.proofs.SweptLaws.{resolved-live}
 use Rattle.collection.specs.Collected.{found, graph, starts, collected}
 use Rattle.collection.specs.Demand.{Collects}
+use Rattle.collection.proofs.Answers.{not-both}
 use Rattle.collection.proofs.Demand.{demand}
 use Rattle.wanted.specs.Wanted.{Leaves, Rising, Objects, Keeps, Answer}
 use Rattle.wanted.specs.Way.{rootsFor}
@@ -26,20 +27,17 @@ found-ok : (r : Result ℕ) (i : ℕ) → found r ≡ some i → r ≡ ok i
 found-ok (ok j) i e = let w : j ≡ i = cc in ap ok w
 found-ok (refused n) i e = let z : _≡_ {A = ℕ} 0 1 = cc in absurd (omega arith)
 
-not-both : {X : Type 0} (r : Result Unit) (n : ℕ) → r ≡ ok tt → r ≡ refused n → X
-not-both r n p q = let z : _≡_ {A = ℕ} 0 1 = cc in absurd (omega arith)
-
 module _ (h : State) (handles : ℕ → Option (List ℕ)) where
-  -- a sound heap, its generations words of 32 bits
-  pub objects : (L P : ℕ) → Sound L P h → ((i : ℕ) → i < length (h .slots) → slotAt h i .generation < 2 ^ 32) → Objects (graph h handles) (handleAt h) (length (h .slots))
+  -- of a sound heap
+  pub objects : (L P : ℕ) → Sound L P h → Objects (graph h handles) (handleAt h) (length (h .slots))
   unfolding resolve
-  objects L P sound aged =
+  objects L P sound =
       record {
         below = live-inside h;
         alive = λ x i e. resolved-live h x i (found-ok (resolve h x) i e) .0;
         named = λ i l.
             let b = live-inside h i l in
-            ap found (resolve-packed (h .tag) (length (h .slots)) (λ j. live (slotAt h j)) (λ j. slotAt h j .generation) i (omega (arith, sound .slots-fit, sound .slot-range .1)) b (sound .each-slot i b .aged) (aged i b) l);
+            ap found (resolve-packed (h .tag) (length (h .slots)) (λ j. live (slotAt h j)) (λ j. slotAt h j .generation) i (omega (arith, sound .slots-fit, sound .slot-range .1)) b (sound .each-slot i b .aged) (omega (arith, sound .each-slot i b .most)) l);
       }
 
   module _ (pins W : List ℕ) where
@@ -85,13 +83,13 @@ module _ (h : State) (handles : ℕ → Option (List ℕ)) where
     pub best-unique : (is js : List ℕ) → Best h handles pins W is → Best h handles pins W js → is ≡ js
     best-unique is js a b = unique (graph h handles) (handleAt h) (starts h [] pins) W is js (answer-best is .1 a) (answer-best js .1 b)
 
-    module _ (L P : ℕ) (sound : Sound L P h) (aged : (i : ℕ) → i < length (h .slots) → slotAt h i .generation < 2 ^ 32) (up : Rising W) where
+    module _ (L P : ℕ) (sound : Sound L P h) (up : Rising W) where
       -- ---- THE THEOREMS
 
       pub best : (is : List ℕ) → rootsFor (graph h handles) (starts h [] pins) (length (h .slots)) W ≡ ok is → Best h handles pins W is
-      best is e = answer-best is .0 (subst (Right (graph h handles) (handleAt h) (starts h [] pins) W) e (roots-for (graph h handles) (handleAt h) (length (h .slots)) (objects L P sound aged) (starts h [] pins) W up))
+      best is e = answer-best is .0 (subst (Right (graph h handles) (handleAt h) (starts h [] pins) W) e (roots-for (graph h handles) (handleAt h) (length (h .slots)) (objects L P sound) (starts h [] pins) W up))
 
       pub none-serves : (rootsFor (graph h handles) (starts h [] pins) (length (h .slots)) W ≡ refused 21) ↔ ((R : List ℕ) → Outcome h handles pins W R → ⊥)
       none-serves =
-          let e = refused-exactly (graph h handles) (handleAt h) (length (h .slots)) (objects L P sound aged) (starts h [] pins) W up in
+          let e = refused-exactly (graph h handles) (handleAt h) (length (h .slots)) (objects L P sound) (starts h [] pins) W up in
           (λ q R y. e .0 q R (leaves-outcome R .1 y), λ no-list. e .1 (λ R l. no-list R (leaves-outcome R .0 l)))

@@ -121,7 +121,7 @@ module _ (flag : ℕ → Bool) (W : List ℕ) where
       (λ x m. has-in cs x (sym (f x) ∙ down-in (length W) x m .3))
       (λ x m. let i = ∈-index x W (w x m) in subst (λ (y : ℕ). y ∈ downFrom flag W (length W)) (i .2) (in-down (length W) (i .0) (i .1) (ap flag (i .2) ∙ f x ∙ in-has cs x m)))
 
-those-in : (flag : ℕ → Bool) (W : List ℕ) (x : ℕ) → x ∈ those flag W → (x ∈ W) × (flag x ≡ true)
+pub those-in : (flag : ℕ → Bool) (W : List ℕ) (x : ℕ) → x ∈ those flag W → (x ∈ W) × (flag x ≡ true)
 unfolding those
 those-in flag [] x m = absurd m
 those-in flag (w ∷ ws) x m = go (flag w) refl m (those-in flag ws x)

@@ -3,3 +3,6 @@ pub mod Meeting
 pub mod Goings
 pub mod Searches
 pub mod Roots
+pub mod Naming
+pub mod Theorem
+pub mod Entries

@@ -106,10 +106,9 @@ module _ (G : Graph) (slots v w : ℕ) (marks work : List ℕ) (n : ℕ) (s : Sc
       met-new c q =
           let a = at (Traced c) q in
           let notes : map high (set w₂ w (over-note (getD w₂ w 0) v)) ≡ set (map high work) w v =
-          note-notes m₂ w₂ c w v ∙ ap (λ (x : List ℕ). set x w v) (subst (λ (y : Answer). NotedBy y w₁ w₂) q f ∙ pin-noted slots marks work n w m₁ w₁ c₁ s l e) in
-          (
+          note-notes m₂ w₂ c w v ∙ ap (λ (x : List ℕ). set x w v) (subst (λ (y : Answer). NotedBy y w₁ w₂) q f ∙ pin-noted slots marks work n w m₁ w₁ c₁ s l e) in (
             meeting-new G slots v w (goingOf marks work n) h (some (stateOf m₂ w₂ c)) (from (some (stateOf m₂ w₂ c)) (a .0))
-            ∙ (λ j. some (record { state = sym (note-state m₂ w₂ c w v) j; notes = sym notes j })),
+                ∙ (λ j. some (record { state = sym (note-state m₂ w₂ c w v) j; notes = sym notes j })),
             note-scratch m₂ w₂ c w v slots (a .1),
           )
 
