@@ -84,10 +84,10 @@ module _ (g : Given) (l : Lent) {m w m′ w′ : List ℕ} {e : Entry} (s : Ente
         let o : out ≡ rootsOut g m w l out = sym (whether-not s (λ why. out) (writtenTo out (rootHandles (tableIn g) (g .pins) (g .wanted) (length out) (view l))) i) in
         (k, (o, rightly-found g m w l out r (m′ ∷ w′ ∷ []) out k o))
 
-    pub roots-done : {m″ w″ m‴ w‴ out′ : List ℕ} {reply : Reply} {r : Answer} → e ≡ Ready
+    pub roots-done : (m″ w″ m‴ w‴ out′ : List ℕ) (reply : Reply) (r : Answer) → e ≡ Ready
         → Lists (rootHandles (tableIn g) (g .pins) (g .wanted) (length out) (view l)) reply out out′ → length m″ ≡ length m′ → length w″ ≡ length w′ → m‴ ≡ zeros m″ → w‴ ≡ zeros w″ → r ≡ told reply
         → (asked r m‴ w‴ ≡ rootsCall g m w l out) × ((out′ ≡ rootsOut g m w l out) × RightRoots g m w l out r out′)
-    roots-done {m″} {w″} {m‴} {w‴} {out′} {reply} {r} i p a b x y t =
+    roots-done m″ w″ m‴ w‴ out′ reply r i p a b x y t =
         let z : m‴ ∷ w‴ ∷ [] ≡ m′ ∷ w′ ∷ [] =
         λ j. (zeros-on m m′ m″ m‴ (marks-zero s i) a x ∙ sym (marks-zero s i)) j ∷ (zeros-on w w′ w″ w‴ (work-zero s i) b y ∙ sym (work-zero s i)) j ∷ [] in
         let k : asked r m‴ w‴ ≡ rootsCall g m w l out = ap (askedOf r) z ∙ ask-ready s length nothing l (rootHandles (tableIn g) (g .pins) (g .wanted) (length out)) i (p .answer) t in

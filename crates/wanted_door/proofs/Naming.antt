@@ -98,6 +98,9 @@ module _ (h : Heap) (narrow wide pool W marks work : List ℕ) (c : CanSearch (l
   pub search-part : h .slots ≤ length marks
   search-part = ready .marked
 
+  pub search-long : h .slots ≡ length (take (h .slots) marks)
+  search-long = sym (length-take-le (h .slots) marks (ready .marked))
+
   pub search-clear : Clear (h .slots) (take (h .slots) marks) work
   search-clear =
       record {
@@ -142,6 +145,7 @@ module _ (h : Heap) (narrow wide pool W marks work : List ℕ) (c : CanSearch (l
 
       -- the slots' handles, by the lent generations and by the heap
       handles-same : Inside W (h .slots) → (is : List ℕ) → ((i : ℕ) → i ∈ is → i ∈ W) → handlesIn (h .tag) narrow is ≡ map (handleAt (view l)) is
+      unfolding view
       handles-same inside is within =
           same-map (λ i. packed (h .tag) i (getD narrow i 0)) (handleAt (view l)) is
           (λ i m.

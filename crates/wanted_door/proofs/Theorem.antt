@@ -87,7 +87,7 @@ module _ (g : Given) (marks work : List ℕ) (l : Lent) (out : List ℕ) (a : An
   question = rootHandles T (g .pins) W (length out)
 
   early : (why : Refusal) → admitted (tests g marks work l) ≡ Not why → Early why
-  early why i = among Early (tests g marks work l) (is-early 18 (omega arith) (omega arith) (λ x. omega arith), is-early 1 (omega arith) (omega arith) (λ x. omega arith), is-early 10 (omega arith) (omega arith) (λ x. omega arith), is-early 14 (omega arith) (omega arith) (λ x. omega arith), is-early 14 (omega arith) (omega arith) (λ x. omega arith), tt) why i
+  early why i = among Early (tests g marks work l) (is-early 18 (omega arith) (omega arith) (λ x. omega arith), (is-early 1 (omega arith) (omega arith) (λ x. omega arith), (is-early 10 (omega arith) (omega arith) (λ x. omega arith), (is-early 14 (omega arith) (omega arith) (λ x. omega arith), (is-early 14 (omega arith) (omega arith) (λ x. omega arith), tt))))) why i
 
   sound : admitted (tests g marks work l) ≡ Ready → Sound (slotCount l) (poolSize l) h
   sound i = formed-tested l (all-hold (tests g marks work l) 1 i) .sound
@@ -147,7 +147,7 @@ module _ (g : Given) (marks work : List ℕ) (l : Lent) (out : List ℕ) (a : An
           λ q. by-call
               (λ why i r. absurd (early why i .2 (sym (number r) ∙ number q)))
               (λ i n r. differ 21 7 (λ x. omega arith) (sym (number r) ∙ number q))
-              (λ i is b k r. (i, is, b, k))
+              (λ i is b k r. (i, (is, b, k)))
               (λ i is b k r o. differ 0 7 (λ x. omega arith) (sym (number r) ∙ number q)),
           λ q. by-call
               (λ why i r. apart (sym i ∙ q .0))
