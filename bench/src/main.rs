@@ -315,7 +315,19 @@ fn joined(table: &mut Table, n: usize) {
     table.row("collect_joined, ring (ns), by slots", n, a, b);
 }
 
-const ROWS: [&str; 11] = ["churn", "script", "layout", "object_handles", "live_refs", "sparse_rows", "collect", "joined", "write_page", "read_page", "memcpy"];
+// All slots are wanted. The Rust has no such call: beside it stands the Rust's collection with the roots that were found, which marks the same objects once.
+fn roots_found(table: &mut Table, shape: &str, n: usize, count: usize, edges: impl Fn(usize) -> Range<usize>) {
+    let (port, mut rust, _) = graph(n, edges);
+    let (types, prog) = (TypeTable::new(), Program::default());
+    let wanted: Vec<u32> = (0..n as u32).collect();
+    let mut out = vec![0; n];
+    let a = time(|| assert_eq!(port.roots_for_into(&types, &[], &wanted, &mut out), Ok(count)));
+    let b = time(|| assert!(rust.collect(&prog, &out[..count], &[])));
+    assert!(rust.live() == n);
+    table.row(&format!("roots_for, {shape} (ns), by slots"), n, a, b);
+}
+
+const ROWS: [&str; 12] = ["churn", "script", "layout", "object_handles", "live_refs", "sparse_rows", "collect", "joined", "roots_for", "write_page", "read_page", "memcpy"];
 
 fn main() {
     let words: Vec<String> = std::env::args().skip(1).collect();
@@ -341,6 +353,12 @@ fn main() {
                 SIZES.iter().for_each(|n| collections(&mut table, "tree", *n, |i| (2 * i + 1).min(*n)..(2 * i + 3).min(*n)));
             }
             "joined" => SIZES.iter().for_each(|n| joined(&mut table, *n)),
+            "roots_for" => {
+                SIZES.iter().for_each(|n| roots_found(&mut table, "ring", *n, 1, |i| i + 1..i + 2));
+                // from the last slot down: in the first going through each slot is a candidate
+                SIZES.iter().for_each(|n| roots_found(&mut table, "chain", *n, 1, |i| if i > 0 { i - 1..i } else { 0..0 }));
+                SIZES.iter().for_each(|n| roots_found(&mut table, "all apart", *n, *n, |_| 0..0));
+            }
             "memcpy" => OBJECTS.iter().for_each(|n| copies(&mut table, *n)),
             _ => OBJECTS.iter().for_each(|n| pages(&mut table, *n, row == "read_page")),
         }

@@ -1,10 +1,10 @@
 /*
  * The heap of a saved VHDL run, with its type layouts and root maps: the calls that libyexwalu.a exports.
  *
- * Each call is proved to do what its contract says, in the crate that has it (crates/heap_door, object_door, collect_door, page_door, run_door and yexwalu), for all
+ * Each call is proved to do what its contract says, in the crate that has it (crates/heap_door, object_door, collect_door, wanted_door, page_door, run_door and yexwalu), for all
  * values of its parameters. What a caller owes is what C always asks: a pointer leads to as many elements as the length after it says, is aligned and not null (also
  * where the length is 0), memory that a call may write is lent to no other parameter of it, and a bool is 0 or 1. Calls allocate nothing, keep no pointer, have no
- * state of their own. The most stack that was seen is 135 KB, and the frames add up to 234 KB (measured before slot_handles and the list of addresses).
+ * state of their own. The most stack that was seen is 135 KB, and the frames add up to 234 KB (measured before slot_handles, the list of addresses and roots_for).
  *
  * An answer has document 01's number, 0 for success, and up to two values, zeros after a refusal. A refusal changes nothing, but 5 in alloc and
  * alloc_from (since_gc), 9 in a write to a live slot with nothing visible (its write count), run, whose lines before the refused one keep their effect, and
@@ -51,7 +51,8 @@ enum {
     YEXWALU_PAGE = 17,
     YEXWALU_SCRATCH = 18,
     YEXWALU_NEVER_ISSUED = 19,
-    YEXWALU_WORN_OUT = 20
+    YEXWALU_WORN_OUT = 20,
+    YEXWALU_NO_ROOTS = 21
 };
 
 /* The kinds of objects. */
@@ -470,6 +471,26 @@ yexwalu_done yexwalu_collect(
     uint8_t *pool, size_t pool_len,
     const uint64_t *roots, size_t roots_len,
     const uint32_t *pins, size_t pins_len,
+    uint8_t *marks, size_t marks_len,
+    uint64_t *work, size_t work_len);
+
+/*
+ * Which roots let collect, with these pins, keep just the slots of `wanted` and drop the others: the fewest, and of several lists as short the one with the smaller slot at the first place where
+ * they differ. Their handles stand at the front of `out`, rising by slot. `pins` and `wanted` are slot indices, strictly rising (14). Where no roots do it, 21. first: how many.
+ * 18, 1, 10, 14, 21, 7.
+ */
+yexwalu_answer yexwalu_roots_for(
+    const uint64_t *types, size_t types_len,
+    const uint32_t *fields, size_t fields_len,
+    const uint64_t *consts, size_t consts_len,
+    const uint8_t *bytes, size_t bytes_len,
+    yexwalu_header heap,
+    const uint32_t *narrow, size_t narrow_len,
+    const uint64_t *wide, size_t wide_len,
+    const uint8_t *pool, size_t pool_len,
+    const uint32_t *pins, size_t pins_len,
+    const uint32_t *wanted, size_t wanted_len,
+    uint64_t *out, size_t out_len,
     uint8_t *marks, size_t marks_len,
     uint64_t *work, size_t work_len);
 

@@ -146,6 +146,9 @@ heap_calls! {
     /// See [`Heap::collect`](crate::Heap::collect).
     yexwalu_collect(types: *const u64, types_len: usize, fields: *const u32, fields_len: usize, consts: *const u64, consts_len: usize, bytes: *const u8, bytes_len: usize, heap: Header;
         roots: *const u64, roots_len: usize, pins: *const u32, pins_len: usize;) -> Done;
+    /// See [`Heap::roots_for_into`](crate::Heap::roots_for_into).
+    yexwalu_roots_for(types: *const u64, types_len: usize, fields: *const u32, fields_len: usize, consts: *const u64, consts_len: usize, bytes: *const u8, bytes_len: usize, heap: Header;
+        pins: *const u32, pins_len: usize, wanted: *const u32, wanted_len: usize, out: *mut u64, out_len: usize;) -> Answer;
     /// See [`Heap::collect_joined_with`](crate::Heap::collect_joined_with).
     yexwalu_collect_joined(types: *const u64, types_len: usize, fields: *const u32, fields_len: usize, consts: *const u64, consts_len: usize, bytes: *const u8, bytes_len: usize, heap: Header;
         kinds: *const u8, kinds_len: usize, ends: *const u32, ends_len: usize, refs: *const u32, refs_len: usize, blocks: *const u32, blocks_len: usize, classes: *const u8, classes_len: usize,

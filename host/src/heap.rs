@@ -428,6 +428,37 @@ impl Heap {
         self.done(done).map(|_| ())
     }
 
+    /// The roots with which `collect`, with these pins, keeps just the objects of the wanted slots and drops the others: the fewest, rising by slot, and of several lists as short the one with the
+    /// smaller slot at the first place where they differ. Two objects that hold each other, and that nothing else keeps, need one root. Pins and wanted slots are strictly rising (14). Where no roots do it, 21.
+    ///
+    /// ```
+    /// use yexwalu::{Heap, Kind, Refusal, TypeTable};
+    /// let mut table = TypeTable::new();
+    /// let access = table.access();
+    /// let mut heap = Heap::new(1, 64, 4096)?;
+    /// let held = heap.alloc(Kind::Bytes, b"held")?;
+    /// let root = heap.alloc(Kind::Typed(access), &held.0.to_le_bytes())?;
+    /// heap.alloc(Kind::Bytes, b"other")?;
+    /// assert_eq!(heap.roots_for(&table, &[], &[0, 1])?, [root]);
+    /// assert_eq!(heap.roots_for(&table, &[], &[1]), Err(Refusal::NoRoots));
+    /// # Ok::<(), Refusal>(())
+    /// ```
+    pub fn roots_for(&self, types: &TypeTable, pins: &[u32], wanted: &[u32]) -> Result<Vec<Handle>, Refusal> {
+        let mut out = vec![0; wanted.len()];
+        let n = self.roots_for_into(types, pins, wanted, &mut out)?;
+        out.truncate(n);
+        Ok(out.into_iter().map(Handle).collect())
+    }
+
+    /// As `roots_for`, with the handles written to the front of a lent list (7). The answer is how many.
+    pub fn roots_for_into(&self, types: &TypeTable, pins: &[u32], wanted: &[u32], out: &mut [u64]) -> Result<usize, Refusal> {
+        let answer = ask!(self, yexwalu_roots_for(
+            types.types.as_ptr(), types.types.len(), types.fields.as_ptr(), types.fields.len(),
+            types.consts.as_ptr(), types.consts.len(), types.bytes.as_ptr(), types.bytes.len())
+            (pins.as_ptr(), pins.len(), wanted.as_ptr(), wanted.len(), out.as_mut_ptr(), out.len()));
+        Ok(Heap::pair(answer)?.0 as usize)
+    }
+
     /// As `collect`, from a stopped function: the roots are the registers of class `Handle` that are live at the safepoint `pc`, by the values given, and the handles of its frame.
     /// `addresses` are addresses with the slots that they lie in, addresses strictly rising (14): one that the frame has, or a register of class `Ptr` that is live at `pc`, pins its slot as a pin does. Any
     /// slot index is taken; one of no slot has no effect. Besides what refuses `collect` it is refused where the function is not in order or there is not one value a register (15), where `pc` is no safepoint of a block (16), and where the frame can't be traced (13).

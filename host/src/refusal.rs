@@ -52,6 +52,8 @@ pub enum Refusal {
     NeverIssued = 19,
     /// 20, worn out: a slot that has its last generation gets no other handle.
     WornOut = 20,
+    /// 21, no roots: no root list lets a collection keep just the wanted slots.
+    NoRoots = 21,
 }
 
 use Refusal::*;
@@ -77,6 +79,7 @@ const ALL: &[(Refusal, &str)] = &[
     (Scratch, "scratch"),
     (NeverIssued, "never issued"),
     (WornOut, "worn out"),
+    (NoRoots, "no roots"),
 ];
 
 impl Refusal {

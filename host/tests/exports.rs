@@ -205,9 +205,9 @@ fn structs_are_the_same_everywhere() {
 
 #[test]
 fn the_header_has_the_numbers_and_words_of_the_refusals() {
-    let all: Vec<Refusal> = (1..=19).map(|n| Refusal::from_number(n).unwrap()).collect();
+    let all: Vec<Refusal> = (1..=21).map(|n| Refusal::from_number(n).unwrap()).collect();
     assert!(all.iter().zip(1..).all(|(r, n)| r.number() == n));
-    assert!(Refusal::from_number(0).is_none() && Refusal::from_number(20).is_none());
+    assert!(Refusal::from_number(0).is_none() && Refusal::from_number(22).is_none());
     let header = header();
     let constants = header.split_once("enum {\n").unwrap().1.split_once("\n}").unwrap().0;
     let words = all.iter().map(|r| format!("    YEXWALU_{} = {}", r.word().to_uppercase().replace(' ', "_"), r.number()));
