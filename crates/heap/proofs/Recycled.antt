@@ -7,9 +7,8 @@ use native.Mathlib.Omega.{arith}
 use lib.ListN.{length}
 use lib.Dec.{eqb}
 use native.Mathlib.Decide.{decLt, ℕ-discrete}
-use borrow.Author.Tests.{eq-eqb, ne-eqb, eqb-true}
+use borrow.Author.Tests.{eq-eqb, ne-eqb, eqb-true, not-true}
 use Rattle.word.specs.Choice.{if_then_else_}
-use Rattle.word.proofs.Bools.{not-true}
 use Rattle.word.specs.Lists.{filter}
 use Rattle.heap.specs.State.{State, slotAt, worn, lastGeneration, bit, times, withQuarantine}
 use Rattle.heap.specs.Calls.{member, freed, recycle}

@@ -43,13 +43,6 @@ unfolding liveCount
 live-sum [] = sym (sum-same 0 (λ i. liveBit (getD [] i noSlot)) (λ i. 0) (λ i h. absurd (omega arith)) ∙ sum-const 0 0)
 live-sum (s ∷ ss) = omega (arith, live-sum ss, sum-first (length ss) (λ i. liveBit (getD (s ∷ ss) i noSlot)))
 
--- a slot more, without an object
-pub at-push : (slots : List Slot) (j : ℕ) → getD (slots ++ noSlot ∷ []) j noSlot ≡ getD slots j noSlot
-at-push [] zero = refl
-at-push [] (suc j) = refl
-at-push (x ∷ xs) zero = refl
-at-push (x ∷ xs) (suc j) = at-push xs j
-
 -- ---- in a list, and how often
 
 pub times-in : (x : ℕ) (xs : List ℕ) → x ∈ xs → 1 ≤ times x xs

@@ -22,7 +22,7 @@ use Rattle.heap.proofs.Counting.{inside, outside, free-inside, times-member}
 use Rattle.heap.proofs.Keeping.{live-inside, take-sound, since-sound}
 use Rattle.heap.proofs.Recycled.{recycle-sound}
 use Rattle.heap_calls.specs.Pins.{rising}
-use Rattle.heap_calls.proofs.Allocating.{alloc-none, alloc-free, alloc-grow, alloc-full, alloc-sound}
+use Rattle.heap_calls.proofs.Allocating.{alloc-none, alloc-free, alloc-grow, alloc-full, alloc-sound, grown-at}
 use Rattle.heap_edit.proofs.Cases.{edit-unresolved, edit-full, edit-done, write-dead, write-hidden, write-beyond, write-done, reissue-dead, reissue-worn, reissue-done}
 use Rattle.heap_edit.proofs.Soundness.{edit-sound, write-sound, reissue-sound, seal-sound, resolved-live}
 use Rattle.reach.specs.Reach.{_∈_}
@@ -30,7 +30,7 @@ use Rattle.reach.proofs.Grown.{∈-one}
 use Rattle.object_door.specs.ObjectCalls.{isKind, allocating, recycling}
 use Rattle.histories.specs.Steps.{Step, alloc, reissue, edit, write, take, free, recycle, seal, ask, Told, Answer, slot, object, answering, issuing, silently, asking}
 use Rattle.histories.specs.History.{handed, books, ifOk}
-use Rattle.histories.proofs.Lists.{pick, live-set, live-push, at-push}
+use Rattle.histories.proofs.Lists.{pick, live-set, live-push}
 
 -- ---- the age of a slot: a generation counts two, and a dead slot is one older than the last object in it
 
@@ -171,14 +171,14 @@ module _ (S P kind type start : ℕ) (bytes : List ℕ) (h : State) (k : Sound S
       let alive : liveBit s ≡ 1 = ap bit (lt-ltb 0 kind low) in
       let new : slotAt h′ n ≡ s = getD-set-same more n s noSlot here in
       let old : slotAt h n ≡ noSlot = List·getD-eq-default (h .slots) noSlot (omega arith) in
-      let blank : getD more n noSlot ≡ noSlot = at-push (h .slots) n ∙ old in
+      let blank : getD more n noSlot ≡ noSlot = grown-at (h .slots) n ∙ old in
       let first : s .generation ≡ 1 = ap (λ (x : Slot). step (x .generation)) blank in
       record {
         sound = k′;
         tag = refl;
         ages = λ j. elim (ℕ-discrete j n) [
           | yes e ↦ omega (arith, ap (λ (x : ℕ). age (slotAt h x)) e, ap age old, ap (λ (x : ℕ). age (slotAt h′ x)) e, ap age new)
-          | no ne ↦ omega (arith, ap age (getD-set-other more n j s noSlot ne ∙ at-push (h .slots) j))
+          | no ne ↦ omega (arith, ap age (getD-set-other more n j s noSlot ne ∙ grown-at (h .slots) j))
         ];
         issues = issue-one h h′ n (s .generation) (omega (arith, k .slots-fit, k .slot-range)) (omega arith) (ap (λ (x : Slot). x .generation) new) (ap liveBit new ∙ alive) (omega (arith, ap age new, ap age old));
         objects = omega (arith, live-set more n s here, live-push (h .slots) noSlot, ap liveBit blank);

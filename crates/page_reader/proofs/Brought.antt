@@ -7,10 +7,10 @@ use lib.Dec.{eqb, ltb}
 use lib.ListN.{length, getD, replicate, length-map, length-append, List·getD-map, List·getD-eq-default}
 use native.Mathlib.Omega.{arith}
 use native.Mathlib.Decide.{decLt}
-use borrow.Author.Tests.{ltb-true}
+use borrow.Author.Tests.{ltb-true, not-true}
 use Rattle.word.specs.Choice.{if_then_else_}
 use Rattle.word.specs.Lists.{all, allBelow, filter}
-use Rattle.word.proofs.Bools.{and-both, not-true}
+use Rattle.word.proofs.Bools.{and-both}
 use Rattle.word.proofs.ListLaws.{all-at, all-append}
 use Rattle.text.specs.Put.{putText}
 use Rattle.text.proofs.Putting.{put-nothing}

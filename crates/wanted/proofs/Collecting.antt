@@ -17,15 +17,11 @@ use Rattle.collection.proofs.SweptLaws.{resolved-live}
 use Rattle.collection.specs.Collected.{found, graph, starts, collected}
 use Rattle.collection.specs.Demand.{Collects}
 use Rattle.collection.proofs.Answers.{not-both}
-use Rattle.collection.proofs.Demand.{demand}
+use Rattle.collection.proofs.Demand.{demand, found-ok}
 use Rattle.wanted.specs.Wanted.{Leaves, Rising, Objects, Keeps, Answer}
 use Rattle.wanted.specs.Way.{rootsFor}
 use Rattle.wanted.specs.Outcome.{handleAt, Outcome, Serves, Best}
 use Rattle.wanted.proofs.Roots.{Right, answer, roots-for, refused-exactly, unique}
-
-found-ok : (r : Result ℕ) (i : ℕ) → found r ≡ some i → r ≡ ok i
-found-ok (ok j) i e = let w : j ≡ i = cc in ap ok w
-found-ok (refused n) i e = let z : _≡_ {A = ℕ} 0 1 = cc in absurd (omega arith)
 
 module _ (h : State) (handles : ℕ → Option (List ℕ)) where
   -- of a sound heap

@@ -21,7 +21,7 @@ use Rattle.trace.specs.Listing.{Lists, writtenTo}
 use Rattle.door.specs.HeapCalls.{test, enough, heapTests, zeros, Entered, asked, askedOf}
 use Rattle.door.specs.declared.Entry.{Entry}
 use Rattle.door.specs.declared.Entry.the-variants.{Ready, Not}
-use Rattle.door.proofs.Entering.{and-holds, and-fails, and-more, holding, cleared-in, marks-zero, work-zero, ask-refused, ask-ready, whether-not, whether-ready}
+use Rattle.door.proofs.Entering.{and-holds, and-fails, and-more, holding, cleared-in, marks-zero, work-zero, ask-refused, ask-ready, whether-not, whether-ready, zeros-again, zeros-room}
 use Rattle.wanted_door.specs.inner.Listing.{CanSearch}
 use Rattle.wanted_door.specs.RootsFor.{rootHandles, Given, tableIn, wantedTests, tests, rootsCall, rootsOut, RightRoots}
 use Rattle.wanted_door.proofs.Theorem.{rightly-found}
@@ -49,16 +49,6 @@ module _ (l : Lent) {m w m′ w′ : List ℕ} {e : Entry} (s : Entered (m ∷ w
 
 -- ---- the public call
 
--- scratch that was made zero is zero, and as long as it was
-zeros-again : (m m′ : List ℕ) → m′ ≡ zeros m → m′ ≡ zeros m′
-zeros-again m m′ e = e ∙ ap (λ (k : ℕ). replicate k 0) (sym (ap length e ∙ length-replicate (length m) 0))
-
-room : (m m′ : List ℕ) (n : ℕ) → m′ ≡ zeros m → leb n (length m) ≡ true → n ≤ length m′
-room m m′ n e t =
-    let k : length m′ ≡ length m = ap length e ∙ length-replicate (length m) 0 in
-    let h : n ≤ length m = leb-true n (length m) t in
-    omega arith
-
 zeros-on : (m m′ m″ m‴ : List ℕ) → m′ ≡ zeros m → length m″ ≡ length m′ → m‴ ≡ zeros m″ → m‴ ≡ zeros m
 zeros-on m m′ m″ m‴ a b c = c ∙ ap (λ (k : ℕ). replicate k 0) (b ∙ ap length a ∙ length-replicate (length m) 0)
 
@@ -71,9 +61,9 @@ module _ (g : Given) (l : Lent) {m w m′ w′ : List ℕ} {e : Entry} (s : Ente
         formed = holding s 1 i;
         rises = holding s 4 i;
         marks-clear = zeros-again m m′ (marks-zero s i);
-        marks-room = room m m′ (slotCount l) (marks-zero s i) (t .0);
+        marks-room = zeros-room m m′ (slotCount l) (marks-zero s i) (t .0);
         work-clear = zeros-again w w′ (work-zero s i);
-        work-room = room w w′ (slotCount l) (work-zero s i) (t .1);
+        work-room = zeros-room w w′ (slotCount l) (work-zero s i) (t .1);
       }
 
   module _ (out : List ℕ) where
