@@ -1,0 +1,5 @@
+pub mod Lining
+pub mod Edges
+pub mod Assembly
+pub mod Verdicts
+pub mod Loading
