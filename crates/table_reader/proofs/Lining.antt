@@ -300,18 +300,26 @@ module _ (row row′ ns : List ℕ) (most : ℕ) (h : length row ≡ 2) (e : row
   pub row-second : getD row′ 1 0 ≤ most
   row-second = omega (arith, ap (λ (l : List ℕ). getD l 1 0) row-is, two-within most ns (w .1) (w .0) .1)
 
-  pub row-both : getD row′ 0 0 ∷ getD row′ 1 0 ∷ [] ≡ ns
+  row-both : getD row′ 0 0 ∷ getD row′ 1 0 ∷ [] ≡ ns
   row-both = ap (λ (l : List ℕ). getD l 0 0 ∷ getD l 1 0 ∷ []) row-is ∙ sym (two-elements ns (w .1))
 
-pub two-sets : (out : List ℕ) (j x y : ℕ) → j + 2 ≤ length out → set (set out j x) (j + 1) y ≡ putText out j (x ∷ y ∷ [])
+two-sets : (out : List ℕ) (j x y : ℕ) → j + 2 ≤ length out → set (set out j x) (j + 1) y ≡ putText out j (x ∷ y ∷ [])
 two-sets out j x y h =
     puts-puts (puts-byte out j x (omega arith)) (puts-byte (set out j x) (j + 1) y (rw (length-set out j x) (omega arith))) (omega arith) .out
 
-pub two-length : (out : List ℕ) (j x y : ℕ) → length (set (set out j x) (j + 1) y) ≡ length out
+two-length : (out : List ℕ) (j x y : ℕ) → length (set (set out j x) (j + 1) y) ≡ length out
 two-length out j x y = length-set (set out j x) (j + 1) y ∙ length-set out j x
 
-pub two-in : (out : List ℕ) (j x : ℕ) → j + 2 ≤ length out → j + 1 < length (set out j x)
-two-in out j x h = rw (length-set out j x) (omega arith)
+-- a line of two numbers, put one by one
+module _ (most : ℕ) (s : List ℕ) (at count : ℕ) (out₀ : List ℕ) (to : ℕ) (out : List ℕ) (p size j i : ℕ) (g : Lining 2 most s at count out₀ to out p size j i) where
+  pub lining-two : i < count → (a next : ℕ) (ns : List ℕ) → readAll (readField most 44) 2 (drop p s) ≡ give ns (drop a s) → a ≤ length s → NameFound s a next →
+      (row row′ : List ℕ) → length row ≡ 2 → row′ ≡ putText row 0 ns →
+      Lining 2 most s at count out₀ to (set (set out j (getD row′ 0 0)) (j + 1) (getD row′ 1 0)) next (size + (next - a)) (j + 2) (i + 1)
+  lining-two h a next ns e l n row row′ hr er =
+      let w = numbers-within 2 most (drop p s) ns (drop a s) e in
+      lining-next 2 most s at count out₀ to out p size j i g h a next ns e l n (set (set out j (getD row′ 0 0)) (j + 1) (getD row′ 1 0))
+      (two-sets out j (getD row′ 0 0) (getD row′ 1 0) (lining-room 2 most s at count out₀ to out p size j i g h) ∙ ap (putText out j) (row-both row row′ ns most hr er w))
+      (two-length out j (getD row′ 0 0) (getD row′ 1 0))
 
 -- lines that are known to stand there were put
 pub rows-filled : (k most : ℕ) (s : List ℕ) (at count : ℕ) (before after : List ℕ) (to : ℕ) (x : Rows) (rows : List Row) (rest : List ℕ) → RowsGot k most s at count before after to x →

@@ -15,7 +15,7 @@ use Rattle.text.specs.Put.{putText}
 use Rattle.text.specs.Answer.{hexAt}
 use Rattle.refusal.specs.Told.{numberOf, refusedBy, told}
 use Rattle.refusal.specs.declared.Answer.{Answer}
-use Rattle.refusal.specs.declared.Reply.the-variants.{Not as Refused}
+use Rattle.refusal.specs.declared.Reply.the-variants.{Is, Not as Refused}
 use Rattle.refusal.specs.declared.Refusal.{Refusal}
 use Rattle.refusal.specs.declared.Refusal.the-variants.{ShortList, TypeTable, Page, Scratch}
 use Rattle.tables.specs.Table.{readTable}
@@ -116,6 +116,16 @@ module _ (x : Sections) (t f c b n : ℕ) where
         leb-true (x .«type_names» + (x .«field_names» + x .«const_names»)) n (p3 .1),
       )
 
+pub fitted-some : (x : Sections) (t f c b n : ℕ) {r : Bool} → r ≡ roomFor x t f c b n → r ≡ true → Good x ≡ (if roomFor x t f c b n then Good x else Not ShortList)
+fitted-some x t f c b n e h = rw (← e, h)
+
+pub fitted-none : (x : Sections) (t f c b n : ℕ) {r : Bool} → r ≡ roomFor x t f c b n → r ≡ false → Not ShortList ≡ (if roomFor x t f c b n then Good x else Not ShortList)
+fitted-none x t f c b n e h = rw (← e, h)
+
+pub told-same : (x : Sections) (n : ℕ) {a : Answer} → a ≡ told (Is 0 0) → n ≡ x .«type_names» + (x .«field_names» + x .«const_names») →
+    record { answer = a; types = 4 * x .types; fields = 2 * x .fields; consts = 3 * x .consts; bytes = x .bytes; names = n } ≡ toldOf x
+told-same x n e h = λ i. record { answer = e i; types = 4 * x .types; fields = 2 * x .fields; consts = 3 * x .consts; bytes = x .bytes; names = h i }
+
 -- THE SECTIONS SAY HOW LONG THE TABLE IS
 
 module _ (s : List ℕ) (x : Sections) (p : Sectioned s x) where
@@ -139,6 +149,9 @@ module _ (s : List ℕ) (x : Sections) (p : Sectioned s x) where
         length-append (namesIn (tableOf s .types)) (namesIn (tableOf s .fields) ++ namesIn (tableOf s .constants)),
         length-append (namesIn (tableOf s .fields)) (namesIn (tableOf s .constants)),
       )
+
+  pub bytes-count : x .bytes ≡ length (hexAt s (x .«bytes_at»))
+  bytes-count = p .byteCount ∙ ap length (sym (p .bytesAre))
 
   pub room-is : (t f c b n : ℕ) → roomFor x t f c b n ≡ fits (tableOf s) t f c b n
   unfolding roomFor fits

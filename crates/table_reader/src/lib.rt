@@ -431,17 +431,20 @@ fn load_numbers(s: &[u8], x: Sections, types: &mut [u64], fields: &mut [u32], co
     get_rows(s, x.consts_at, x.consts, 3, 18446744073709551615, consts, 0);
 }
 
-// Puts its names into a list.
-fn load_names(s: &[u8], x: Sections, names: &mut [u8])
+// Puts its names into a list, and answers how many bytes they take.
+fn load_names(s: &[u8], x: Sections, names: &mut [u8]) -> usize
     requires { ⌜ Sectioned (now s) x ⌝ }
     requires { ⌜ x .«type_names» + (x .«field_names» + x .«const_names») ≤ length (now names) ⌝ }
     ensures { λ _. ⌜ now (names .exit) ≡ putText (now (names .entry)) 0 (allNames (tableOf (now (s .entry)))) ⌝ }
+    ensures { λ r. ⌜ r ≡ x .«type_names» + (x .«field_names» + x .«const_names») ⌝ }
 {
     let a = x.type_names;
     let b = a + x.field_names;
+    let all = b + x.const_names;
     fill_names(s, x.types_at, x.types, 4, 18446744073709551615, names, 0);
     fill_names(s, x.fields_at, x.fields, 2, 4294967295, names, a);
     fill_names(s, x.consts_at, x.consts, 3, 18446744073709551615, names, b);
+    all
 }
 
 // What reading answers: how much of each list the table takes; zeros after a refusal.
@@ -455,9 +458,9 @@ pub struct TableRead {
     pub names: usize,
 }
 
-fn told_of(x: Sections) -> TableRead
+fn told_of(x: Sections, names: usize) -> TableRead
     requires { ⌜ (x .types ≤ 4096) × (x .fields ≤ 16384) × (x .consts ≤ 4096) ⌝ }
-    requires { ⌜ x .«type_names» + (x .«field_names» + x .«const_names») < 18446744073709551616 ⌝ }
+    requires { ⌜ names ≡ x .«type_names» + (x .«field_names» + x .«const_names») ⌝ }
     ensures { λ r. ⌜ r ≡ toldOf x ⌝ }
 {
     TableRead {
@@ -466,7 +469,7 @@ fn told_of(x: Sections) -> TableRead
         fields: 2 * x.fields,
         consts: 3 * x.consts,
         bytes: x.bytes,
-        names: x.type_names + (x.field_names + x.const_names),
+        names: names,
     }
 }
 
@@ -489,8 +492,8 @@ pub fn read(
         Checked::Good(x) => {
             load_numbers(s, x, types, fields, consts);
             text::copy_hex(s, x.bytes_at, x.bytes, bytes, 0);
-            load_names(s, x, names);
-            told_of(x)
+            let n = load_names(s, x, names);
+            told_of(x, n)
         }
         Checked::Not(why) => TableRead {
             answer: Reply::Not(why).numbers(),

@@ -1,5 +1,5 @@
 use Prim.Native.Nat.{_-_}
-use mathlib.Core.Path.{_≡_, refl, _∙_}
+use mathlib.Core.Path.{_≡_, refl, sym, _∙_}
 use native.Mathlib.Omega.{arith}
 use borrow.Author.Needs.{needs}
 use lib.ListN.{length, drop}
@@ -17,13 +17,13 @@ abbrev μ-loop : tie.MeasureT-loop
 μ-loop s at count k most names₀ to row₀ p₀ o₀ i₀ names row p o i = count - i
 
 loop-holds : tie.Need-loop-holds Inv-loop μ-loop
-loop-holds c = (refl, naming-begin _ _ _ _ _ _ _ (@start .pre))
+loop-holds c = (refl, naming-begin _ _ _ _ _ _ _ (c .before .before .pre))
 
 slice-aggregate-get-numbers : tie.Need-slice-aggregate-get-numbers Inv-loop μ-loop
-slice-aggregate-get-numbers c = @loop .inv .0
+slice-aggregate-get-numbers c = sym (@loop .inv .0)
 
 get-numbers-requires : tie.Need-get-numbers-requires Inv-loop μ-loop
-get-numbers-requires c κs = (@loop .inv .1 .gathered .inside, omega (arith, @loop .inv .0, @loop .inv .1 .ready .few))
+get-numbers-requires c κs = (c .before .before .loop .inv .1 .gathered .inside, omega (arith, c .before .before .loop .inv .0, c .before .before .loop .inv .1 .ready .few))
 
 enum-known-a : tie.Need-enum-known-a Inv-loop μ-loop
 enum-known-a c = search needs
@@ -71,7 +71,7 @@ loop-less : tie.Need-loop-less Inv-loop μ-loop
 loop-less c = search needs
 
 loop-again : tie.Need-loop-again Inv-loop μ-loop
-loop-again c = let g = c .before .before .before .before .before .before .before .before .before .before .before .before .before .get-numbers .ensures .past _ (c .before .before .before .before .before .before .before .before .before .before .a .given .1) in let n = name-found (c .before .before .before .before .before .before .before .before .before .before .before .before .before .before .before .before .before .before .before .args .s .now) (c .before .before .before .before .before .before .before .before .before .before .a .given .0 .0) (c .before .before .before .before .before .before .next .given .0 .0) (c .before .before .before .before .before .before .before .before .get-name .ensures) (c .before .before .before .before .before .before .next .given .1) in (@get-numbers .kept .1 .1 .1 .1 .0 ∙ @loop .inv .0, naming-next _ _ _ _ _ _ _ _ _ _ _ (c .before .before .before .before .before .before .before .before .before .before .before .before .before .before .before .before .loop .inv .1) (c .before .before .before .before .before .before .before .before .before .before .before .before .before .before .before .loop-test .taken) (c .before .before .before .before .before .before .before .before .before .before .a .given .0 .0) (c .before .before .before .before .before .before .next .given .0 .0) (g .values) (g .reads) (g .inside) n _ _ (c .before .before .put-literal .kept .0) (c .before .before .put-literal .ensures))
+loop-again c = let g = c .before .before .before .before .before .before .before .before .before .before .before .before .before .get-numbers .ensures .past _ (c .before .before .before .before .before .before .before .before .before .before .a .given .1) in let n = name-found (c .before .before .before .before .before .before .before .before .before .before .before .before .before .before .before .before .before .before .before .args .s .now) (c .before .before .before .before .before .before .before .before .before .before .a .given .0 .0) (c .before .before .before .before .before .before .next .given .0 .0) (c .before .before .before .before .before .before .before .before .get-name .ensures) (c .before .before .before .before .before .before .next .given .1) in (c .before .before .before .before .before .before .before .before .before .before .before .before .before .get-numbers .kept .1 .1 .1 .1 .0 ∙ c .before .before .before .before .before .before .before .before .before .before .before .before .before .before .before .before .loop .inv .0, naming-next _ _ _ _ _ _ _ _ _ _ _ (c .before .before .before .before .before .before .before .before .before .before .before .before .before .before .before .before .loop .inv .1) (c .before .before .before .before .before .before .before .before .before .before .before .before .before .before .before .loop-test .taken) (c .before .before .before .before .before .before .before .before .before .before .a .given .0 .0) (c .before .before .before .before .before .before .next .given .0 .0) (g .values) (g .reads) (g .inside) n _ _ (c .before .before .put-literal .kept .0) (c .before .before .put-literal .ensures))
 
 same-length-3 : tie.Need-same-length-3 Inv-loop μ-loop
 same-length-3 c = c .before .loop .inv .1 .same

@@ -1,13 +1,12 @@
 use Prim.Native.Nat.{_-_}
-use mathlib.Core.Path.{_≡_, refl, ap, _∙_}
+use mathlib.Core.Path.{_≡_, refl, sym, _∙_}
 use native.Mathlib.Omega.{arith}
 use borrow.Author.Needs.{needs}
-use lib.ListN.{length, drop}
-use Rattle.text.specs.Put.{putText}
+use lib.ListN.{length, drop, length-set}
 use Rattle.tables.specs.Table.{readName}
 use Rattle.tables.proofs.Endings.{lost}
 use Rattle.tables.proofs.Naming.{name-found, name-long}
-use Rattle.table_reader.proofs.Lining.{Lining, lining-begin, lining-room, lining-numbers-lost, lining-name-lost, lining-on, lining-next, lining-end, numbers-within, row-first, row-second, row-both, two-sets, two-length, two-in}
+use Rattle.table_reader.proofs.Lining.{Lining, lining-begin, lining-room, lining-numbers-lost, lining-name-lost, lining-on, lining-two, lining-end, numbers-within, row-first, row-second}
 use Rattle.table_reader.proofs.get_fields.Statement.{statement}
 use Rattle.table_reader.proofs.get_fields.Tie as tie
 
@@ -18,13 +17,13 @@ abbrev μ-loop : tie.MeasureT-loop
 μ-loop s at count out₀ row₀ p₀ size₀ j₀ i₀ out row p size j i = count - i
 
 loop-holds : tie.Need-loop-holds Inv-loop μ-loop
-loop-holds c = (refl, lining-begin _ _ _ _ _ _ _ (@start .pre .0) (omega (arith, @start .pre .1)))
+loop-holds c = (refl, lining-begin _ _ _ _ _ _ _ (c .before .before .pre .0) (omega (arith, c .before .before .pre .1)))
 
 slice-aggregate-get-numbers : tie.Need-slice-aggregate-get-numbers Inv-loop μ-loop
-slice-aggregate-get-numbers c = @loop .inv .0
+slice-aggregate-get-numbers c = sym (@loop .inv .0)
 
 get-numbers-requires : tie.Need-get-numbers-requires Inv-loop μ-loop
-get-numbers-requires c κs = (@loop .inv .1 .gathered .inside, omega (arith, @loop .inv .0))
+get-numbers-requires c κs = (c .before .before .loop .inv .1 .gathered .inside, omega (arith, c .before .before .loop .inv .0))
 
 enum-known-a : tie.Need-enum-known-a Inv-loop μ-loop
 enum-known-a c = search needs
@@ -57,7 +56,7 @@ array-read-out : tie.Need-array-read-out Inv-loop μ-loop
 array-read-out c = search needs
 
 cast-out : tie.Need-cast-out Inv-loop μ-loop
-cast-out c = let g = @get-numbers .ensures .past _ (@a .given .1) in record { fits = omega (arith, row-first (@loop .row) _ (g .values) 4294967295 (@loop .inv .0) (g .holds) (numbers-within 2 4294967295 _ (g .values) _ (g .reads))) }
+cast-out c = let g = c .before .before .before .before .before .before .before .before .get-numbers .ensures .past _ (c .before .before .before .before .before .a .given .1) in record { fits = omega (arith, row-first (c .before .before .before .before .before .before .before .before .before .before .before .loop .row) _ (g .values) 4294967295 (c .before .before .before .before .before .before .before .before .before .before .before .loop .inv .0) (g .holds) (numbers-within 2 4294967295 _ (g .values) _ (g .reads))) }
 
 mul-out : tie.Need-mul-out Inv-loop μ-loop
 mul-out c = omega (arith, lining-room _ _ _ _ _ _ _ _ _ _ _ _ (c .before .before .before .before .before .before .before .before .before .before .before .loop .inv .1) (c .before .before .before .before .before .before .before .before .before .before .loop-test .taken))
@@ -69,7 +68,7 @@ array-read-out-2 : tie.Need-array-read-out-2 Inv-loop μ-loop
 array-read-out-2 c = search needs
 
 cast-out-2 : tie.Need-cast-out-2 Inv-loop μ-loop
-cast-out-2 c = let g = @get-numbers .ensures .past _ (@a .given .1) in record { fits = omega (arith, row-second (@loop .row) _ (g .values) 4294967295 (@loop .inv .0) (g .holds) (numbers-within 2 4294967295 _ (g .values) _ (g .reads))) }
+cast-out-2 c = let g = c .before .before .before .before .before .before .before .before .get-numbers .ensures .past _ (c .before .before .before .before .before .a .given .1) in record { fits = omega (arith, row-second (c .before .before .before .before .before .before .before .before .before .before .before .loop .row) _ (g .values) 4294967295 (c .before .before .before .before .before .before .before .before .before .before .before .loop .inv .0) (g .holds) (numbers-within 2 4294967295 _ (g .values) _ (g .reads))) }
 
 add-out : tie.Need-add-out Inv-loop μ-loop
 add-out c = omega (arith, lining-room _ _ _ _ _ _ _ _ _ _ _ _ (c .before .before .before .before .before .before .before .before .before .before .before .loop .inv .1) (c .before .before .before .before .before .before .before .before .before .before .loop-test .taken))
@@ -78,7 +77,7 @@ mul-out-2 : tie.Need-mul-out-2 Inv-loop μ-loop
 mul-out-2 c = omega (arith, lining-room _ _ _ _ _ _ _ _ _ _ _ _ (c .before .before .before .before .before .before .before .before .before .before .before .loop .inv .1) (c .before .before .before .before .before .before .before .before .before .before .loop-test .taken))
 
 slice-write-out-2 : tie.Need-slice-write-out-2 Inv-loop μ-loop
-slice-write-out-2 c = two-in _ _ _ (lining-room _ _ _ _ _ _ _ _ _ _ _ _ (@loop .inv .1) (@loop-test .taken))
+slice-write-out-2 c = simp length-set (omega (arith, lining-room _ _ _ _ _ _ _ _ _ _ _ _ (@loop .inv .1) (@loop-test .taken)))
 
 sub-size : tie.Need-sub-size Inv-loop μ-loop
 sub-size c = let g = c .before .before .before .before .before .before .before .before .get-numbers .ensures .past _ (c .before .before .before .before .before .a .given .1) in let n = name-found (c .before .before .before .before .before .before .before .before .before .before .before .before .before .before .args .s .now) (c .before .before .before .before .before .a .given .0 .0) (c .before .next .given .0 .0) (c .before .before .before .get-name .ensures) (c .before .next .given .1) in omega (arith, name-long (c .before .before .before .before .before .before .before .before .before .before .before .before .before .before .args .s .now) (c .before .before .before .before .before .a .given .0 .0) (c .before .next .given .0 .0) (g .inside) n)
@@ -96,7 +95,7 @@ loop-less : tie.Need-loop-less Inv-loop μ-loop
 loop-less c = search needs
 
 loop-again : tie.Need-loop-again Inv-loop μ-loop
-loop-again c = let g = @get-numbers .ensures .past _ (@a .given .1) in let n = name-found (@args .s .now) (@a .given .0 .0) (@next .given .0 .0) (@get-name .ensures) (@next .given .1) in (@get-numbers .kept .1 .1 .1 .1 .0 ∙ @loop .inv .0, lining-next _ _ _ _ _ _ _ _ _ _ _ _ (@loop .inv .1) (@loop-test .taken) (@a .given .0 .0) (@next .given .0 .0) (g .values) (g .reads) (g .inside) n _ (two-sets _ _ _ _ (lining-room _ _ _ _ _ _ _ _ _ _ _ _ (@loop .inv .1) (@loop-test .taken)) ∙ ap (putText _ _) (row-both (@loop .row) _ (g .values) 4294967295 (@loop .inv .0) (g .holds) (numbers-within 2 4294967295 _ (g .values) _ (g .reads)))) (two-length _ _ _ _))
+loop-again c = let g = @get-numbers .ensures .past _ (@a .given .1) in let n = name-found (@args .s .now) (@a .given .0 .0) (@next .given .0 .0) (@get-name .ensures) (@next .given .1) in (@get-numbers .kept .1 .1 .1 .1 .0 ∙ @loop .inv .0, lining-two _ _ _ _ _ _ _ _ _ _ _ (@loop .inv .1) (@loop-test .taken) (@a .given .0 .0) (@next .given .0 .0) (g .values) (g .reads) (g .inside) n (@loop .row) _ (@loop .inv .0) (g .holds))
 
 same-length-3 : tie.Need-same-length-3 Inv-loop μ-loop
 same-length-3 c = c .before .loop .inv .1 .same

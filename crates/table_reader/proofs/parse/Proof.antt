@@ -18,13 +18,13 @@ enum-told : tie.Need-enum-told
 enum-told c = search needs
 
 returns : tie.Need-returns
-returns c = parsed-lost (table-lost-1 (@args .s .now) (@get-counts .ensures .lost (@enum-told .given .1)))
+returns c = parsed-lost (table-lost-1 (c .before .before .before .before .before .before .args .s .now) (c .before .before .get-counts .ensures .lost (c .enum-told .given .1)))
 
 slice-aggregate-rows-section : tie.Need-slice-aggregate-rows-section
 slice-aggregate-rows-section c = search needs
 
 rows-section-requires : tie.Need-rows-section-requires
-rows-section-requires c κs = ((@get-counts .ensures .found (@n .given .0 .0) (@n .given .1)) .inside, omega (arith, (@get-counts .ensures .found (@n .given .0 .0) (@n .given .1)) .types, @start .pre .0))
+rows-section-requires c κs = ((c .before .before .before .before .before .get-counts .ensures .found (c .before .before .before .n .given .0 .0) (c .before .before .before .n .given .1)) .inside, omega (arith, (c .before .before .before .before .before .get-counts .ensures .found (c .before .before .before .n .given .0 .0) (c .before .before .before .n .given .1)) .types, c .before .before .before .before .before .before .before .before .before .pre .0))
 
 enum-known-b : tie.Need-enum-known-b
 enum-known-b c = search needs
@@ -37,13 +37,13 @@ same-length c = search needs
 
 returns-2 : tie.Need-returns-2
 unfolding typeNames fieldNames constantNames ascii
-returns-2 c = parsed-lost (table-lost-2 (@args .s .now) (@n .given .0 .0) (@get-counts .ensures .found (@n .given .0 .0) (@n .given .1)) (@rows-section .ensures .lost (@enum-told2 .given .1)))
+returns-2 c = parsed-lost (table-lost-2 (c .before .before .before .before .before .before .before .before .before .before .before .before .before .before .args .s .now) (c .before .before .before .before .before .before .before .before .n .given .0 .0) (c .before .before .before .before .before .before .before .before .before .before .get-counts .ensures .found (c .before .before .before .before .before .before .before .before .n .given .0 .0) (c .before .before .before .before .before .before .before .before .n .given .1)) (c .before .before .before .before .rows-section .ensures .lost (c .enum-told2 .given .1)))
 
 slice-aggregate-fields-section : tie.Need-slice-aggregate-fields-section
 slice-aggregate-fields-section c = search needs
 
 fields-section-requires : tie.Need-fields-section-requires
-fields-section-requires c κs = ((@rows-section .ensures .found _ _ _ (@b .given .1)) .rows .inside, omega (arith, (@get-counts .ensures .found (@n .given .0 .0) (@n .given .1)) .fields, @start .pre .1))
+fields-section-requires c κs = ((c .before .before .before .before .before .before .before .rows-section .ensures .found _ _ _ (c .before .before .before .b .given .1)) .rows .inside, omega (arith, (c .before .before .before .before .before .before .before .before .before .before .before .before .before .get-counts .ensures .found (c .before .before .before .before .before .before .before .before .before .before .before .n .given .0 .0) (c .before .before .before .before .before .before .before .before .before .before .before .n .given .1)) .fields, c .before .before .before .before .before .before .before .before .before .before .before .before .before .before .before .before .before .pre .1))
 
 enum-known-e : tie.Need-enum-known-e
 enum-known-e c = search needs
@@ -59,13 +59,13 @@ same-length-3 c = search needs
 
 returns-3 : tie.Need-returns-3
 unfolding typeNames fieldNames constantNames ascii
-returns-3 c = parsed-lost (table-lost-3 (@args .s .now) (@n .given .0 .0) (@get-counts .ensures .found (@n .given .0 .0) (@n .given .1)) (@rows-section .ensures .found _ _ _ (@b .given .1)) (@fields-section .ensures .lost (@enum-told3 .given .1)))
+returns-3 c = parsed-lost (table-lost-3 (c .before .before .before .before .before .before .before .before .before .before .before .before .before .before .before .before .before .before .before .before .before .before .args .s .now) (c .before .before .before .before .before .before .before .before .before .before .before .before .before .before .before .before .n .given .0 .0) (c .before .before .before .before .before .before .before .before .before .before .before .before .before .before .before .before .before .before .get-counts .ensures .found (c .before .before .before .before .before .before .before .before .before .before .before .before .before .before .before .before .n .given .0 .0) (c .before .before .before .before .before .before .before .before .before .before .before .before .before .before .before .before .n .given .1)) (c .before .before .before .before .before .before .before .before .before .before .before .before .rows-section .ensures .found _ _ _ (c .before .before .before .before .before .before .before .before .b .given .1)) (c .before .before .before .before .fields-section .ensures .lost (c .enum-told3 .given .1)))
 
 slice-aggregate-rows-section-2 : tie.Need-slice-aggregate-rows-section-2
 slice-aggregate-rows-section-2 c = search needs
 
 rows-section-requires-2 : tie.Need-rows-section-requires-2
-rows-section-requires-2 c κs = ((@fields-section .ensures .found _ _ _ (@e .given .1)) .rows .inside, omega (arith, (@get-counts .ensures .found (@n .given .0 .0) (@n .given .1)) .consts, @start .pre .0, @rows-section .kept .1 .1 .1 .1 .1 .1 .0))
+rows-section-requires-2 c κs = ((c .before .before .before .before .before .before .before .fields-section .ensures .found _ _ _ (c .before .before .before .e .given .1)) .rows .inside, omega (arith, (c .before .before .before .before .before .before .before .before .before .before .before .before .before .before .before .before .before .before .before .before .before .get-counts .ensures .found (c .before .before .before .before .before .before .before .before .before .before .before .before .before .before .before .before .before .before .before .n .given .0 .0) (c .before .before .before .before .before .before .before .before .before .before .before .before .before .before .before .before .before .before .before .n .given .1)) .consts, c .before .before .before .before .before .before .before .before .before .before .before .before .before .before .before .before .before .before .before .before .before .before .before .before .before .pre .0, c .before .before .before .before .before .before .before .before .before .before .before .before .before .before .before .rows-section .kept .1 .1 .1 .1 .1 .1 .0))
 
 enum-known-g : tie.Need-enum-known-g
 enum-known-g c = search needs
@@ -81,10 +81,10 @@ same-length-5 c = search needs
 
 returns-4 : tie.Need-returns-4
 unfolding typeNames fieldNames constantNames ascii
-returns-4 c = parsed-lost (table-lost-4 (@args .s .now) (@n .given .0 .0) (@get-counts .ensures .found (@n .given .0 .0) (@n .given .1)) (@rows-section .ensures .found _ _ _ (@b .given .1)) (@fields-section .ensures .found _ _ _ (@e .given .1)) (@rows-section2 .ensures .lost (@enum-told4 .given .1)))
+returns-4 c = parsed-lost (table-lost-4 (c .before .before .before .before .before .before .before .before .before .before .before .before .before .before .before .before .before .before .before .before .before .before .before .before .before .before .before .before .before .before .args .s .now) (c .before .before .before .before .before .before .before .before .before .before .before .before .before .before .before .before .before .before .before .before .before .before .before .before .n .given .0 .0) (c .before .before .before .before .before .before .before .before .before .before .before .before .before .before .before .before .before .before .before .before .before .before .before .before .before .before .get-counts .ensures .found (c .before .before .before .before .before .before .before .before .before .before .before .before .before .before .before .before .before .before .before .before .before .before .before .before .n .given .0 .0) (c .before .before .before .before .before .before .before .before .before .before .before .before .before .before .before .before .before .before .before .before .before .before .before .before .n .given .1)) (c .before .before .before .before .before .before .before .before .before .before .before .before .before .before .before .before .before .before .before .before .rows-section .ensures .found _ _ _ (c .before .before .before .before .before .before .before .before .before .before .before .before .before .before .before .before .b .given .1)) (c .before .before .before .before .before .before .before .before .before .before .before .before .fields-section .ensures .found _ _ _ (c .before .before .before .before .before .before .before .before .e .given .1)) (c .before .before .before .before .rows-section2 .ensures .lost (c .enum-told4 .given .1)))
 
 bytes-section-requires : tie.Need-bytes-section-requires
-bytes-section-requires c κs = (@rows-section2 .ensures .found _ _ _ (@g .given .1)) .rows .inside
+bytes-section-requires c κs = (c .before .before .before .before .before .rows-section2 .ensures .found _ _ _ (c .before .g .given .1)) .rows .inside
 
 enum-known-k : tie.Need-enum-known-k
 enum-known-k c = search needs
@@ -100,17 +100,17 @@ same-length-7 c = search needs
 
 returns-5 : tie.Need-returns-5
 unfolding typeNames fieldNames constantNames ascii
-returns-5 c = parsed-lost (table-lost-5 (@args .s .now) (@n .given .0 .0) (@get-counts .ensures .found (@n .given .0 .0) (@n .given .1)) (@rows-section .ensures .found _ _ _ (@b .given .1)) (@fields-section .ensures .found _ _ _ (@e .given .1)) (@rows-section2 .ensures .found _ _ _ (@g .given .1)) (@bytes-section .ensures .lost (@enum-told5 .given .1)))
+returns-5 c = parsed-lost (table-lost-5 (c .before .before .before .before .before .before .before .before .before .before .before .before .before .before .before .before .before .before .before .before .before .before .before .before .before .before .before .before .before .before .before .before .before .before .args .s .now) (c .before .before .before .before .before .before .before .before .before .before .before .before .before .before .before .before .before .before .before .before .before .before .before .before .before .before .before .before .n .given .0 .0) (c .before .before .before .before .before .before .before .before .before .before .before .before .before .before .before .before .before .before .before .before .before .before .before .before .before .before .before .before .before .before .get-counts .ensures .found (c .before .before .before .before .before .before .before .before .before .before .before .before .before .before .before .before .before .before .before .before .before .before .before .before .before .before .before .before .n .given .0 .0) (c .before .before .before .before .before .before .before .before .before .before .before .before .before .before .before .before .before .before .before .before .before .before .before .before .before .before .before .before .n .given .1)) (c .before .before .before .before .before .before .before .before .before .before .before .before .before .before .before .before .before .before .before .before .before .before .before .before .rows-section .ensures .found _ _ _ (c .before .before .before .before .before .before .before .before .before .before .before .before .before .before .before .before .before .before .before .before .b .given .1)) (c .before .before .before .before .before .before .before .before .before .before .before .before .before .before .before .before .fields-section .ensures .found _ _ _ (c .before .before .before .before .before .before .before .before .before .before .before .before .e .given .1)) (c .before .before .before .before .before .before .before .before .rows-section2 .ensures .found _ _ _ (c .before .before .before .before .g .given .1)) (c .before .before .bytes-section .ensures .lost (c .enum-told5 .given .1)))
 
 same-length-8 : tie.Need-same-length-8
-same-length-8 c = @rows-section2 .kept .1 .1 .1 .1 .1 .1 .0 ∙ @rows-section .kept .1 .1 .1 .1 .1 .1 .0
+same-length-8 c = c .before .before .before .before .before .before .before .before .before .rows-section2 .kept .1 .1 .1 .1 .1 .1 .0 ∙ c .before .before .before .before .before .before .before .before .before .before .before .before .before .before .before .before .before .before .before .before .before .before .before .before .before .rows-section .kept .1 .1 .1 .1 .1 .1 .0
 
 same-length-9 : tie.Need-same-length-9
 same-length-9 c = search needs
 
 returns-6 : tie.Need-returns-6
 unfolding typeNames fieldNames constantNames ascii
-returns-6 c = parsed-there (@args .s .now) (@n .given .0 .0) (@get-counts .ensures .found (@n .given .0 .0) (@n .given .1)) (@rows-section .ensures .found _ _ _ (@b .given .1)) (@fields-section .ensures .found _ _ _ (@e .given .1)) (@rows-section2 .ensures .found _ _ _ (@g .given .1)) (@bytes-section .ensures .found _ _ (@k .given .1)) (@start .pre .0) (@start .pre .1)
+returns-6 c = parsed-there (c .before .before .before .before .before .before .before .before .before .before .before .before .before .before .before .before .before .before .before .before .before .before .before .before .before .before .before .before .before .before .before .before .before .before .before .args .s .now) (c .before .before .before .before .before .before .before .before .before .before .before .before .before .before .before .before .before .before .before .before .before .before .before .before .before .before .before .before .before .n .given .0 .0) (c .before .before .before .before .before .before .before .before .before .before .before .before .before .before .before .before .before .before .before .before .before .before .before .before .before .before .before .before .before .before .before .get-counts .ensures .found (c .before .before .before .before .before .before .before .before .before .before .before .before .before .before .before .before .before .before .before .before .before .before .before .before .before .before .before .before .before .n .given .0 .0) (c .before .before .before .before .before .before .before .before .before .before .before .before .before .before .before .before .before .before .before .before .before .before .before .before .before .before .before .before .before .n .given .1)) (c .before .before .before .before .before .before .before .before .before .before .before .before .before .before .before .before .before .before .before .before .before .before .before .before .before .rows-section .ensures .found _ _ _ (c .before .before .before .before .before .before .before .before .before .before .before .before .before .before .before .before .before .before .before .before .before .b .given .1)) (c .before .before .before .before .before .before .before .before .before .before .before .before .before .before .before .before .before .fields-section .ensures .found _ _ _ (c .before .before .before .before .before .before .before .before .before .before .before .before .before .e .given .1)) (c .before .before .before .before .before .before .before .before .before .rows-section2 .ensures .found _ _ _ (c .before .before .before .before .before .g .given .1)) (c .before .before .before .bytes-section .ensures .found _ _ (c .before .k .given .1)) (c .before .before .before .before .before .before .before .before .before .before .before .before .before .before .before .before .before .before .before .before .before .before .before .before .before .before .before .before .before .before .before .before .before .before .before .pre .0) (c .before .before .before .before .before .before .before .before .before .before .before .before .before .before .before .before .before .before .before .before .before .before .before .before .before .before .before .before .before .before .before .before .before .before .before .pre .1)
 
 pub parse-spec : {M : Type 1} → statement M
 parse-spec =

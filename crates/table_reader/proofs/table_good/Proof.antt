@@ -56,7 +56,7 @@ check-table-requires : tie.Need-check-table-requires
 check-table-requires c κs = search needs
 
 returns : tie.Need-returns
-returns c = good-held (@args .s .now) (@args .x) (@args .words .now) (@args .halves .now) (@start .pre .0) (@start .pre .1) (@check-table .ensures)
+returns c = good-held (c .before .before .before .before .before .before .before .before .before .before .before .args .s .now) (c .before .before .before .before .before .before .before .before .before .before .before .args .x) (c .before .before .before .before .before .before .before .before .before .before .before .args .words .now) (c .before .before .before .before .before .before .before .before .before .before .before .args .halves .now) (c .before .before .before .before .before .before .before .before .before .before .before .pre .0) (c .before .before .before .before .before .before .before .before .before .before .before .pre .1) (c .check-table .ensures)
 
 pub table-good-spec : {M : Type 1} → statement M
 table-good-spec =
