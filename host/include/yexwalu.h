@@ -6,7 +6,7 @@
  * where the length is 0), memory that a call may write is lent to no other parameter of it, and a bool is 0 or 1. Calls allocate nothing, keep no pointer, have no
  * state of their own. The most stack that was seen is 135 KB, and the frames add up to 234 KB (measured before slot_handles and the list of addresses).
  *
- * An answer has document 01's number, 0 for success, and up to two values, zeros after a refusal. A refusal changes nothing, but 5 in alloc and
+ * An answer has document 01's number, 0 for success, and up to two values, zeros after a refusal but 13 of traceable. A refusal changes nothing, but 5 in alloc and
  * alloc_from (since_gc), 9 in a write to a live slot with nothing visible (its write count), run, whose lines before the refused one keep their effect, and
  * scratch, which is zero after all answers but 18. Numbers after a call's comment are its refusals.
  *
@@ -411,6 +411,22 @@ yexwalu_answer yexwalu_slot_handles(
     const uint8_t *pool, size_t pool_len,
     size_t slot,
     uint64_t *out, size_t out_len,
+    uint8_t *marks, size_t marks_len,
+    uint64_t *work, size_t work_len);
+
+/*
+ * Do a heap and a type table fit together: has every object of kind Typed a type of the table, and can its handles be traced? 18, 1, 10, 13. After 13, first: the first slot that does not
+ * fit; no other refusal has a value.
+ */
+yexwalu_answer yexwalu_traceable(
+    const uint64_t *types, size_t types_len,
+    const uint32_t *fields, size_t fields_len,
+    const uint64_t *consts, size_t consts_len,
+    const uint8_t *bytes, size_t bytes_len,
+    yexwalu_header heap,
+    const uint32_t *narrow, size_t narrow_len,
+    const uint64_t *wide, size_t wide_len,
+    const uint8_t *pool, size_t pool_len,
     uint8_t *marks, size_t marks_len,
     uint64_t *work, size_t work_len);
 

@@ -155,6 +155,8 @@ heap_calls! {
     /// See [`Heap::slot_handles_into`](crate::Heap::slot_handles_into).
     yexwalu_slot_handles(types: *const u64, types_len: usize, fields: *const u32, fields_len: usize, consts: *const u64, consts_len: usize, bytes: *const u8, bytes_len: usize, heap: Header;
         slot: usize, out: *mut u64, out_len: usize;) -> Answer;
+    /// See [`Heap::misfit`](crate::Heap::misfit).
+    yexwalu_traceable(types: *const u64, types_len: usize, fields: *const u32, fields_len: usize, consts: *const u64, consts_len: usize, bytes: *const u8, bytes_len: usize, heap: Header;;) -> Answer;
     /// See [`Heap::page_length`](crate::Heap::page_length).
     yexwalu_page_length(heap: Header;;) -> Answer;
     /// See [`Heap::write_page_into`](crate::Heap::write_page_into).

@@ -383,7 +383,14 @@ fn room(x: Sections, types: usize, fields: usize, consts: usize, bytes: usize, n
 }
 
 // A table that was found, if there is room for it: 7.
-fn fitted(x: Sections, types: usize, fields: usize, consts: usize, bytes: usize, names: usize) -> Checked
+fn fitted(
+    x: Sections,
+    types: usize,
+    fields: usize,
+    consts: usize,
+    bytes: usize,
+    names: usize,
+) -> Checked
     requires { ⌜ (x .types ≤ 4096) × (x .fields ≤ 16384) × (x .consts ≤ 4096) ⌝ }
     ensures { λ r. ⌜ r ≡ (if roomFor x types fields consts bytes names then Good x else Not ShortList) ⌝ }
 {
@@ -487,7 +494,16 @@ pub fn read(
     ensures { λ r. ⌜ outcome r (lists (now (types .exit)) (now (fields .exit)) (now (consts .exit)) (now (bytes .exit)) (now (names .exit))) (now (words .exit)) (now (halves .exit))
         ≡ reading (lists (now (types .entry)) (now (fields .entry)) (now (consts .entry)) (now (bytes .entry)) (now (names .entry))) (now (s .entry)) (now (words .entry)) (now (halves .entry)) ⌝ }
 {
-    let found = tested(s, types.len(), fields.len(), consts.len(), bytes.len(), names.len(), words, halves);
+    let found = tested(
+        s,
+        types.len(),
+        fields.len(),
+        consts.len(),
+        bytes.len(),
+        names.len(),
+        words,
+        halves,
+    );
     match found {
         Checked::Good(x) => {
             load_numbers(s, x, types, fields, consts);

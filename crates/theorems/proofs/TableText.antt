@@ -219,8 +219,8 @@ module _ {t : Lists} {d : Named} (k : Lying (t .types) (t .fields) (t .consts) (
   unfolding fits
   lies-fits l m =
       (λ i.
-          leb (length (k .types i)) (length (l .types)) && (leb (length (k .fields i)) (length (l .fields)) && (leb (length (k .constants i)) (length (l .consts))
-          && (leb (length (k .bytes i)) (length (l .bytes)) && leb (length (k .named i)) (length (l .names))))))
+      leb (length (k .types i)) (length (l .types)) && (leb (length (k .fields i)) (length (l .fields)) && (leb (length (k .constants i)) (length (l .consts))
+      && (leb (length (k .bytes i)) (length (l .bytes)) && leb (length (k .named i)) (length (l .names))))))
       ∙ rw (
         le-leb (length (t .types)) (length (l .types)) (m .types),
         le-leb (length (t .fields)) (length (l .fields)) (m .fields),
@@ -243,8 +243,8 @@ module _ {t : Lists} {d : Named} (k : Lying (t .types) (t .fields) (t .consts) (
         });
     holds =
         h ∙ (λ i.
-            lists (putText (l .types) 0 (k .types i)) (putText (l .fields) 0 (k .fields i)) (putText (l .consts) 0 (k .constants i)) (putText (l .bytes) 0 (k .bytes i))
-            (putText (l .names) 0 (k .named i)));
+        lists (putText (l .types) 0 (k .types i)) (putText (l .fields) 0 (k .fields i)) (putText (l .consts) 0 (k .constants i)) (putText (l .bytes) 0 (k .bytes i))
+        (putText (l .names) 0 (k .named i)));
   }
 
 pub written-read : WrittenRead

@@ -21,7 +21,7 @@ same-length-2 : tie.Need-same-length-2
 same-length-2 c = search needs
 
 returns : tie.Need-returns
-returns c = (@admit .ensures, (@clear-u64 .ensures ∙ ap (λ (n : ℕ). replicate n 0) (@admit .kept .1 .0), @clear-u32 .ensures ∙ ap (λ (n : ℕ). replicate n 0) (@admit .kept .1 .1 .0)))
+returns c = (c .before .before .before .before .before .before .before .before .before .before .before .before .admit .ensures, (c .before .before .before .before .before .before .clear-u64 .ensures ∙ ap (λ (n : ℕ). replicate n 0) (c .before .before .before .before .before .before .before .before .before .before .before .before .admit .kept .1 .0), c .before .before .clear-u32 .ensures ∙ ap (λ (n : ℕ). replicate n 0) (c .before .before .before .before .before .before .before .before .before .before .before .before .admit .kept .1 .1 .0)))
 
 pub check-spec : {M : Type 1} → statement M
 check-spec =

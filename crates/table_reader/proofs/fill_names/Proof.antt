@@ -20,7 +20,7 @@ loop-holds : tie.Need-loop-holds Inv-loop μ-loop
 loop-holds c = (refl, naming-begin _ _ _ _ _ _ _ (c .before .before .pre))
 
 slice-aggregate-get-numbers : tie.Need-slice-aggregate-get-numbers Inv-loop μ-loop
-slice-aggregate-get-numbers c = sym (@loop .inv .0)
+slice-aggregate-get-numbers c = sym (c .before .before .loop .inv .0)
 
 get-numbers-requires : tie.Need-get-numbers-requires Inv-loop μ-loop
 get-numbers-requires c κs = (c .before .before .loop .inv .1 .gathered .inside, omega (arith, c .before .before .loop .inv .0, c .before .before .loop .inv .1 .ready .few))

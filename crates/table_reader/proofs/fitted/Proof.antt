@@ -7,10 +7,10 @@ room-requires : tie.Need-room-requires
 room-requires c κs = search needs
 
 returns : tie.Need-returns
-returns c = fitted-some (@args .x) (@args .types) (@args .fields) (@args .consts) (@args .bytes) (@args .names) (@room .ensures) (@if1 .taken)
+returns c = fitted-some (c .before .before .args .x) (c .before .before .args .types) (c .before .before .args .fields) (c .before .before .args .consts) (c .before .before .args .bytes) (c .before .before .args .names) (c .before .room .ensures) (c .if1 .taken)
 
 returns-2 : tie.Need-returns-2
-returns-2 c = fitted-none (@args .x) (@args .types) (@args .fields) (@args .consts) (@args .bytes) (@args .names) (@room .ensures) (@if1 .left)
+returns-2 c = fitted-none (c .before .before .args .x) (c .before .before .args .types) (c .before .before .args .fields) (c .before .before .args .consts) (c .before .before .args .bytes) (c .before .before .args .names) (c .before .room .ensures) (c .if1 .left)
 
 pub fitted-spec : {M : Type 1} → statement M
 fitted-spec = tie.close (tie.spec room-requires returns returns-2)

@@ -20,7 +20,7 @@ loop-holds : tie.Need-loop-holds Inv-loop μ-loop
 loop-holds c = (refl, lining-begin _ _ _ _ _ _ _ (c .before .before .pre .0) (omega (arith, c .before .before .pre .1)))
 
 slice-aggregate-get-numbers : tie.Need-slice-aggregate-get-numbers Inv-loop μ-loop
-slice-aggregate-get-numbers c = sym (@loop .inv .0)
+slice-aggregate-get-numbers c = sym (c .before .before .loop .inv .0)
 
 get-numbers-requires : tie.Need-get-numbers-requires Inv-loop μ-loop
 get-numbers-requires c κs = (c .before .before .loop .inv .1 .gathered .inside, omega (arith, c .before .before .loop .inv .0))
@@ -77,7 +77,7 @@ mul-out-2 : tie.Need-mul-out-2 Inv-loop μ-loop
 mul-out-2 c = omega (arith, lining-room _ _ _ _ _ _ _ _ _ _ _ _ (c .before .before .before .before .before .before .before .before .before .before .before .loop .inv .1) (c .before .before .before .before .before .before .before .before .before .before .loop-test .taken))
 
 slice-write-out-2 : tie.Need-slice-write-out-2 Inv-loop μ-loop
-slice-write-out-2 c = simp length-set (omega (arith, lining-room _ _ _ _ _ _ _ _ _ _ _ _ (@loop .inv .1) (@loop-test .taken)))
+slice-write-out-2 c = simp length-set (omega (arith, lining-room _ _ _ _ _ _ _ _ _ _ _ _ (c .before .before .before .before .before .before .before .before .before .before .before .loop .inv .1) (c .before .before .before .before .before .before .before .before .before .before .loop-test .taken)))
 
 sub-size : tie.Need-sub-size Inv-loop μ-loop
 sub-size c = let g = c .before .before .before .before .before .before .before .before .get-numbers .ensures .past _ (c .before .before .before .before .before .a .given .1) in let n = name-found (c .before .before .before .before .before .before .before .before .before .before .before .before .before .before .args .s .now) (c .before .before .before .before .before .a .given .0 .0) (c .before .next .given .0 .0) (c .before .before .before .get-name .ensures) (c .before .next .given .1) in omega (arith, name-long (c .before .before .before .before .before .before .before .before .before .before .before .before .before .before .args .s .now) (c .before .before .before .before .before .a .given .0 .0) (c .before .next .given .0 .0) (g .inside) n)
@@ -95,7 +95,7 @@ loop-less : tie.Need-loop-less Inv-loop μ-loop
 loop-less c = search needs
 
 loop-again : tie.Need-loop-again Inv-loop μ-loop
-loop-again c = let g = @get-numbers .ensures .past _ (@a .given .1) in let n = name-found (@args .s .now) (@a .given .0 .0) (@next .given .0 .0) (@get-name .ensures) (@next .given .1) in (@get-numbers .kept .1 .1 .1 .1 .0 ∙ @loop .inv .0, lining-two _ _ _ _ _ _ _ _ _ _ _ (@loop .inv .1) (@loop-test .taken) (@a .given .0 .0) (@next .given .0 .0) (g .values) (g .reads) (g .inside) n (@loop .row) _ (@loop .inv .0) (g .holds))
+loop-again c = let g = c .before .before .before .before .before .before .before .before .get-numbers .ensures .past _ (c .before .before .before .before .before .a .given .1) in let n = name-found (c .before .before .before .before .before .before .before .before .before .before .before .before .before .before .args .s .now) (c .before .before .before .before .before .a .given .0 .0) (c .before .next .given .0 .0) (c .before .before .before .get-name .ensures) (c .before .next .given .1) in (c .before .before .before .before .before .before .before .before .get-numbers .kept .1 .1 .1 .1 .0 ∙ c .before .before .before .before .before .before .before .before .before .before .before .loop .inv .0, lining-two _ _ _ _ _ _ _ _ _ _ _ (c .before .before .before .before .before .before .before .before .before .before .before .loop .inv .1) (c .before .before .before .before .before .before .before .before .before .before .loop-test .taken) (c .before .before .before .before .before .a .given .0 .0) (c .before .next .given .0 .0) (g .values) (g .reads) (g .inside) n (c .before .before .before .before .before .before .before .before .before .before .before .loop .row) _ (c .before .before .before .before .before .before .before .before .before .before .before .loop .inv .0) (g .holds))
 
 same-length-3 : tie.Need-same-length-3 Inv-loop μ-loop
 same-length-3 c = c .before .loop .inv .1 .same

@@ -23,7 +23,7 @@ same-length-3 : tie.Need-same-length-3
 same-length-3 c = search needs
 
 returns : tie.Need-returns
-returns c = (rows-filled _ _ _ _ _ _ _ _ _ _ _ (@get-rows .ensures) (@start .pre .0 .types .reads), (rows-filled _ _ _ _ _ _ _ _ _ _ _ (@get-fields .ensures) (@start .pre .0 .fields .reads), rows-filled _ _ _ _ _ _ _ _ _ _ _ (@get-rows2 .ensures) (@start .pre .0 .consts .reads)))
+returns c = (rows-filled _ _ _ _ _ _ _ _ _ _ _ (c .before .before .before .before .before .before .before .before .before .before .get-rows .ensures) (c .before .before .before .before .before .before .before .before .before .before .before .before .before .before .before .before .pre .0 .types .reads), (rows-filled _ _ _ _ _ _ _ _ _ _ _ (c .before .before .before .before .before .before .get-fields .ensures) (c .before .before .before .before .before .before .before .before .before .before .before .before .before .before .before .before .pre .0 .fields .reads), rows-filled _ _ _ _ _ _ _ _ _ _ _ (c .before .before .get-rows2 .ensures) (c .before .before .before .before .before .before .before .before .before .before .before .before .before .before .before .before .pre .0 .consts .reads)))
 
 pub load-numbers-spec : {M : Type 1} → statement M
 load-numbers-spec =

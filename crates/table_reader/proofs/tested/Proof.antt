@@ -16,7 +16,7 @@ enum-known-x : tie.Need-enum-known-x
 enum-known-x c = search needs
 
 fitted-requires : tie.Need-fitted-requires
-fitted-requires c κs = tested-small (@args .s .now) (@args .types) (@args .fields) (@args .consts) (@args .bytes) (@args .names) (@args .words .now) (@args .halves .now) (@if1 .left) (@if2 .left) (@check .ensures .1 .0) (@check .ensures .1 .1) (@check .ensures .0) (@x .given .1)
+fitted-requires c κs = tested-small (c .before .before .before .before .before .before .before .before .before .before .before .before .before .before .before .args .s .now) (c .before .before .before .before .before .before .before .before .before .before .before .before .before .before .before .args .types) (c .before .before .before .before .before .before .before .before .before .before .before .before .before .before .before .args .fields) (c .before .before .before .before .before .before .before .before .before .before .before .before .before .before .before .args .consts) (c .before .before .before .before .before .before .before .before .before .before .before .before .before .before .before .args .bytes) (c .before .before .before .before .before .before .before .before .before .before .before .before .before .before .before .args .names) (c .before .before .before .before .before .before .before .before .before .before .before .before .before .before .before .args .words .now) (c .before .before .before .before .before .before .before .before .before .before .before .before .before .before .before .args .halves .now) (c .before .before .before .before .before .before .before .before .before .before .before .if1 .left) (c .before .before .before .before .before .before .before .before .before .before .if2 .left) (c .before .before .before .before .before .before .before .check .ensures .1 .0) (c .before .before .before .before .before .before .before .check .ensures .1 .1) (c .before .before .before .before .before .before .before .check .ensures .0) (c .before .x .given .1)
 
 enum-known-why : tie.Need-enum-known-why
 enum-known-why c = search needs
@@ -28,7 +28,7 @@ same-length-2 : tie.Need-same-length-2
 same-length-2 c = search needs
 
 returns-3 : tie.Need-returns-3
-returns-3 c = tested-fits (@args .s .now) (@args .types) (@args .fields) (@args .consts) (@args .bytes) (@args .names) (@args .words .now) (@args .halves .now) (@if1 .left) (@if2 .left) (@check .ensures .1 .0) (@check .ensures .1 .1) (@check .ensures .0) (@x .given .1) (@fitted .ensures)
+returns-3 c = tested-fits (c .before .before .before .before .before .before .before .before .before .before .before .before .before .before .before .before .args .s .now) (c .before .before .before .before .before .before .before .before .before .before .before .before .before .before .before .before .args .types) (c .before .before .before .before .before .before .before .before .before .before .before .before .before .before .before .before .args .fields) (c .before .before .before .before .before .before .before .before .before .before .before .before .before .before .before .before .args .consts) (c .before .before .before .before .before .before .before .before .before .before .before .before .before .before .before .before .args .bytes) (c .before .before .before .before .before .before .before .before .before .before .before .before .before .before .before .before .args .names) (c .before .before .before .before .before .before .before .before .before .before .before .before .before .before .before .before .args .words .now) (c .before .before .before .before .before .before .before .before .before .before .before .before .before .before .before .before .args .halves .now) (c .before .before .before .before .before .before .before .before .before .before .before .before .if1 .left) (c .before .before .before .before .before .before .before .before .before .before .before .if2 .left) (c .before .before .before .before .before .before .before .before .check .ensures .1 .0) (c .before .before .before .before .before .before .before .before .check .ensures .1 .1) (c .before .before .before .before .before .before .before .before .check .ensures .0) (c .before .before .x .given .1) (c .fitted .ensures)
 
 same-length-3 : tie.Need-same-length-3
 same-length-3 c = search needs
@@ -37,7 +37,7 @@ same-length-4 : tie.Need-same-length-4
 same-length-4 c = search needs
 
 returns-4 : tie.Need-returns-4
-returns-4 c = tested-not (@args .s .now) (@args .types) (@args .fields) (@args .consts) (@args .bytes) (@args .names) (@args .words .now) (@args .halves .now) (@if1 .left) (@if2 .left) (@check .ensures .1 .0) (@check .ensures .1 .1) (@check .ensures .0) (@why .given .1)
+returns-4 c = tested-not (c .before .before .before .before .before .before .before .before .before .before .before .before .before .before .before .args .s .now) (c .before .before .before .before .before .before .before .before .before .before .before .before .before .before .before .args .types) (c .before .before .before .before .before .before .before .before .before .before .before .before .before .before .before .args .fields) (c .before .before .before .before .before .before .before .before .before .before .before .before .before .before .before .args .consts) (c .before .before .before .before .before .before .before .before .before .before .before .before .before .before .before .args .bytes) (c .before .before .before .before .before .before .before .before .before .before .before .before .before .before .before .args .names) (c .before .before .before .before .before .before .before .before .before .before .before .before .before .before .before .args .words .now) (c .before .before .before .before .before .before .before .before .before .before .before .before .before .before .before .args .halves .now) (c .before .before .before .before .before .before .before .before .before .before .before .if1 .left) (c .before .before .before .before .before .before .before .before .before .before .if2 .left) (c .before .before .before .before .before .before .before .check .ensures .1 .0) (c .before .before .before .before .before .before .before .check .ensures .1 .1) (c .before .before .before .before .before .before .before .check .ensures .0) (c .before .why .given .1)
 
 pub tested-spec : {M : Type 1} → statement M
 tested-spec =
