@@ -1,4 +1,4 @@
--- The round trips over the lent lists. Assumes nothing.
+-- Tables and the lent lists: the lists of a table hold it, and what lies in lists is within its bounds. Assumes nothing.
 use Prim.Native.Nat.{ℕ, zero, suc, _+_, _-_, _*_, _/_, _≤_, _<_}
 use mathlib.Core.List.{List, [], _∷_, _++_, append-assoc, append-nil, flatMap, map}
 use mathlib.Core.Bool.{true}
@@ -12,10 +12,9 @@ use Rattle.text.specs.Text.{give, _>>=_, Bytes}
 use Rattle.text.specs.Format.{Format, Right, pair, times, All}
 use Rattle.text.proofs.Laws.{bind-some, some-inj, pair-right, times-right}
 use Rattle.ty.specs.Check.{tableGood}
-use Rattle.tables.specs.Table.{Row, Named, most64, most32, Plain, RowWithin, Within, nameText, nameFormat, tableText, readTable, toEnd}
+use Rattle.tables.specs.Table.{Row, Named, most64, most32, Plain, RowWithin, Within, nameText, nameFormat, toEnd}
 use Rattle.tables.specs.Lists.{numbersIn, namesIn, allNames, Names, namesFormat, rowsOf, withNames, namedIn}
-use Rattle.tables.proofs.Laws.{name-right, to-end-some, written-read}
-use Rattle.table_writer.specs.Trips.{ReadWritten}
+use Rattle.tables.proofs.Laws.{name-right, to-end-some}
 use Rattle.table_writer.proofs.Wholes.{types-whole, fields-whole, constants-whole, counts-small}
 
 namesOf : List Row → List (List ℕ)
@@ -102,12 +101,6 @@ module _ (d : Named) (w : Within d) where
       (λ i. namesFormat (type-count i) (field-count i) (constant-count i) .read (allNames d) >>= λ r. toEnd r >>= λ n. some (withNames (numbersIn (d .types)) (numbersIn (d .fields)) (numbersIn (d .constants)) (d .bytes) n))
       ∙ ap (λ (o : Option (Names × List ℕ)). o >>= λ r. toEnd r >>= λ n. some (withNames (numbersIn (d .types)) (numbersIn (d .fields)) (numbersIn (d .constants)) (d .bytes) n)) names-read
       ∙ ap some same-rows
-
--- AN ACCEPTED TEXT IS WRITTEN AGAIN
-pub read-written : ReadWritten
-read-written t d e =
-    let p = written-read t d e in
-    (lists-hold d (p .1), p .0)
 
 -- THE TABLE THAT LIES IN LISTS: its numbers, bytes and names are the lists, and it is within its bounds where the lists hold machine words
 
