@@ -6,8 +6,6 @@ use protocol::Halves;
 use protocol::SPELLED;
 use protocol::Words;
 use protocol::least;
-use protocol::lists::Run;
-use protocol::lists::page;
 use protocol::part_u8;
 use protocol::part_u32;
 use protocol::part_u64;
@@ -15,7 +13,6 @@ use protocol::read::second;
 use protocol::read::which;
 use protocol::table::Table;
 use protocol::write::put;
-use protocol::write::put_bad;
 use protocol::write::put_next;
 use protocol::write::put_number;
 use protocol::write::put_page;
@@ -29,6 +26,26 @@ pub const UNKNOWN: usize = 2;
 // Which of these commands a line has.
 pub fn command(line: &[u8]) -> usize {
     which(line, 0, b"readtable writetable ")
+}
+
+// A text's byte, where `;` stands for byte 10.
+fn unfolded(b: u8) -> u8 {
+    if b == 59 { 10 } else { b }
+}
+
+// Copies what follows the command up to the line's end, blanks too, to the place for bytes. The answer is where it ends there.
+fn spelled(line: &[u8], into: &mut Bytes) -> usize {
+    let mut i = second(line);
+    let mut k: usize = 147456;
+    while k < 409600 {
+        if line.len() <= i {
+            return k;
+        }
+        into[k] = unfolded(line[i]);
+        k += 1;
+        i += 1;
+    }
+    k
 }
 
 // As much as a table has at most.
@@ -160,10 +177,7 @@ pub fn answer(
     lists: &mut Halves,
     list: &mut Words,
 ) -> Table {
-    let Run::Is(end, _) = page(line, second(line), bytes) else {
-        put_bad();
-        return table;
-    };
+    let end = spelled(line, bytes);
     if command(line) == READ {
         return read(end, table, bytes, lists, list);
     }
