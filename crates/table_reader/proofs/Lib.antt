@@ -1,5 +1,3 @@
-pub mod Lining
-pub mod Edges
-pub mod Assembly
-pub mod Verdicts
+pub mod Naming
 pub mod Loading
+pub mod Verdicts

@@ -10,10 +10,10 @@ use Rattle.text.specs.Text.{give}
 use Rattle.text.specs.Put.{putText}
 use Rattle.tables.specs.Table.{Row, Named, most64, most32}
 use Rattle.tables.specs.Lists.{numbersIn, namesIn, allNames}
-use Rattle.table_reader.specs.inner.Found.{rowsAt, NamesReady}
-use Rattle.table_reader.specs.inner.Parsing.{tableOf, RowsStand, Sectioned}
-use Rattle.table_reader.specs.declared.Sections.{Sections}
-use Rattle.table_reader.proofs.Lining.{rows-are}
+use Rattle.table_reader.specs.inner.Ready.{rowsAt, NamesReady}
+use Rattle.table_check.specs.inner.Parsing.{tableOf, RowsStand, Sectioned}
+use Rattle.table_check.specs.declared.Sections.{Sections}
+use Rattle.table_reader.proofs.Naming.{rows-are}
 
 -- lines that stand there have names that can be put
 pub names-ready : (k most : ℕ) (s : List ℕ) (at count : ℕ) (rows : List Row) (to room : ℕ) → RowsStand k most s at count rows → k ≤ 4 → to + length (namesIn rows) ≤ room → NamesReady k most s at count to room

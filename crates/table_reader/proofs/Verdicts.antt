@@ -1,4 +1,4 @@
--- What the first pass tells, and whether there is room. Assumes nothing.
+-- Whether there is room, all tests, and the whole call. Assumes nothing.
 use Prim.Native.Nat.{ℕ, _+_, _-_, _*_, _≤_, _<_}
 use mathlib.Core.List.{List, [], _∷_, _++_}
 use mathlib.Core.Bool.{Bool, true, false, _&&_}
@@ -20,36 +20,16 @@ use Rattle.refusal.specs.declared.Refusal.{Refusal}
 use Rattle.refusal.specs.declared.Refusal.the-variants.{ShortList, TypeTable, Page, Scratch}
 use Rattle.tables.specs.Table.{readTable}
 use Rattle.tables.specs.Lists.{numbersIn, namesIn, allNames, good}
-use Rattle.table_reader.specs.inner.Parsing.{tableOf, Sectioned}
-use Rattle.table_reader.specs.Reading.{verdict, fits, enough, roomy, tableRead, scratchLeft, tableTold, lists, listsLeft, outcome, reading}
-use Rattle.table_reader.specs.inner.Testing.{Admitted, roomFor, toldOf, Tested}
-use Rattle.table_reader.specs.declared.Sections.{Sections}
-use Rattle.table_reader.specs.declared.Checked.{Checked}
-use Rattle.table_reader.specs.declared.Checked.the-variants.{Good, Not}
+use Rattle.table_check.specs.inner.Parsing.{tableOf, Sectioned}
+use Rattle.table_check.specs.Verdict.{verdict}
+use Rattle.table_reader.specs.Reading.{fits, enough, roomy, tableRead, scratchLeft, tableTold, lists, listsLeft, outcome, reading}
+use Rattle.table_check.specs.inner.Admitting.{Admitted}
+use Rattle.table_reader.specs.inner.Testing.{roomFor, toldOf, Tested}
+use Rattle.table_check.specs.declared.Sections.{Sections}
+use Rattle.table_check.specs.declared.Checked.{Checked}
+use Rattle.table_check.specs.declared.Checked.the-variants.{Good, Not}
 use Rattle.table_reader.specs.declared.TableRead.{TableRead}
-use Rattle.table_reader.proofs.Assembly.{numbers-length}
-
-pub admitted-17 : {s : List ℕ} → readTable s ≡ none → Admitted s (Not Page)
-unfolding verdict
-admitted-17 {s} e = record {
-  table = λ x q. absurd (let z : _≡_ {A = ℕ} 0 1 = cc in omega arith);
-  not = λ why q. subst (λ (w : Refusal). verdict (readTable s) ≡ refused (numberOf w)) (let v : Page ≡ why = cc in v) (rw e);
-}
-
-module _ {s : List ℕ} {x : Sections} (p : Sectioned s x) where
-  pub admitted-10 : good (tableOf s) ≡ false → Admitted s (Not TypeTable)
-  unfolding verdict
-  admitted-10 e = record {
-    table = λ y q. absurd (let z : _≡_ {A = ℕ} 0 1 = cc in omega arith);
-    not = λ why q. subst (λ (w : Refusal). verdict (readTable s) ≡ refused (numberOf w)) (let v : TypeTable ≡ why = cc in v) (rw (p .table, e));
-  }
-
-  pub admitted : good (tableOf s) ≡ true → Admitted s (Good x)
-  unfolding verdict
-  admitted e = record {
-    table = λ y q. subst (λ (z : Sections). Sectioned s z × (verdict (readTable s) ≡ ok (tableOf s))) (let v : x ≡ y = cc in v) (p, rw (p .table, e));
-    not = λ why q. absurd (let z : _≡_ {A = ℕ} 0 1 = cc in omega arith);
-  }
+use Rattle.table_check.proofs.Assembly.{numbers-length}
 
 -- ROOM
 

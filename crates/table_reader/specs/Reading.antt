@@ -5,17 +5,13 @@ use mathlib.Core.Bool.{Bool, _&&_}
 use lib.Dec.{leb}
 use lib.ListN.{length, replicate}
 use Rattle.text.specs.Put.{putText}
-use mathlib.Core.Option.{Option, none, some}
 use Rattle.word.specs.Choice.{if_then_else_}
 use Rattle.word.specs.Result.{Result, ok, refused}
 use Rattle.refusal.specs.Told.{refusedBy}
 use Rattle.tables.specs.Table.{Named, readTable}
-use Rattle.tables.specs.Lists.{numbersIn, allNames, good}
+use Rattle.tables.specs.Lists.{numbersIn, allNames}
+use Rattle.table_check.specs.Verdict.{verdict}
 use Rattle.table_reader.specs.declared.TableRead.{TableRead}
-
-unfoldable pub verdict : Option Named → Result Named
-verdict none = refused 17
-verdict (some d) = if good d then ok d else refused 10
 
 -- five lent lists
 pub record Lists : Type 0 where

@@ -1,5 +1,3 @@
 -- What only the contracts of inner functions cite.
-pub mod Found
-pub mod Edges
-pub mod Parsing
+pub mod Ready
 pub mod Testing

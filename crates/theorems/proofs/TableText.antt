@@ -1,5 +1,5 @@
 -- THE ROUND TRIPS OF A TYPE TABLE'S TEXT. Assumes nothing.
-use Prim.Native.Nat.{ℕ, _^_, _≤_, _<_}
+use Prim.Native.Nat.{ℕ, _+_, _^_, _≤_, _<_}
 use mathlib.Core.Bool.{Bool, true, false, _&&_}
 use mathlib.Core.List.{List, [], _∷_, _++_}
 use mathlib.Core.Option.{Option, none, some}
@@ -21,11 +21,12 @@ use Rattle.tables.specs.Lists.{numbersIn, allNames, good, namedIn}
 use Rattle.tables.proofs.Laws as tables
 use Rattle.table_writer.specs.Writing.{tableIn, writing, leaving}
 use Rattle.table_writer.proofs.Trips.{lists-hold, Lying, lying}
-use Rattle.table_reader.specs.Reading.{verdict, Lists, lists, filled, fits, enough, roomy, tableRead, tableTold, listsLeft, Outcome, outcome, readInto, reading}
+use Rattle.table_check.specs.Verdict.{verdict}
+use Rattle.table_reader.specs.Reading.{Lists, lists, filled, fits, enough, roomy, tableRead, tableTold, listsLeft, Outcome, outcome, readInto, reading}
 use Rattle.table_reader.specs.declared.TableRead.{TableRead}
 use Rattle.theorems.specs.Words.{Entries}
 use Rattle.theorems.specs.PageCalls.{WroteText}
-use Rattle.theorems.specs.TableText.{Writes, Reads, fronts, ReadWritten, TableWords, Room, TookIn, WrittenRead}
+use Rattle.theorems.specs.TableText.{held, Writes, Reads, fronts, ReadWritten, TableWords, Room, TookIn, WrittenRead}
 use Rattle.theorems.proofs.PageWriting.{put-start, taken-back}
 
 -- WHAT WAS READ
@@ -118,7 +119,7 @@ module _ (w f c b names : List ℕ) where
   unfolding tableIn
   table-is d e g = rw (e, tableIn, g)
 
-module _ {out : List ℕ} {a : Answer} {out′ : List ℕ} {x : Result Named} (e : a ≡ answered here nothing (writing x out)) (h : out′ ≡ leaving x out) where
+module _ (out : List ℕ) (x : Result Named) {a : Answer} {out′ : List ℕ} (e : a ≡ answered here nothing (writing x out)) (h : out′ ≡ leaving x out) where
   refused-by : {n : ℕ} → x ≡ refused n → a ≡ refusedBy n
   unfolding writing
   refused-by q = e ∙ ap (λ (y : Result Named). answered here nothing (writing y out)) q
@@ -154,12 +155,12 @@ read-written l text words halves r l′ words′ halves′ c z out a out′ v =
     let d : Named = k .table in
     let w = tables.written-read text d (k .reads) in
     let here-is : fronts r l′ ≡ listsOf d = (λ i. fronts (told-of c d (k .is) i) (lists-of c d (k .is) i)) ∙ fronts-are d l in
-    let is : tableIn (fronts r l′ .types) (fronts r l′ .fields) (fronts r l′ .consts) (fronts r l′ .bytes) (fronts r l′ .names) ≡ ok d =
-    (λ i. tableIn (here-is i .types) (here-is i .fields) (here-is i .consts) (here-is i .bytes) (here-is i .names))
+    let is : held (fronts r l′) ≡ ok d =
+    ap held here-is
     ∙ table-is (numbersIn (d .types)) (numbersIn (d .fields)) (numbersIn (d .constants)) (d .bytes) (allNames d) d (lists-hold d (w .1)) (good-lists d (k .good-is)) in
     wrote-text text out
-    (answer-is (v .answer) (v .left) is ∙ ap (λ (s : List ℕ). answered here nothing (textAnswer s out)) (w .0))
-    (out-is (v .answer) (v .left) is ∙ ap (λ (s : List ℕ). textOut s out) (w .0))
+    (answer-is out (held (fronts r l′)) (v .answer) (v .left) is ∙ ap (λ (s : List ℕ). answered here nothing (textAnswer s out)) (w .0))
+    (out-is out (held (fronts r l′)) (v .answer) (v .left) is ∙ ap (λ (s : List ℕ). textOut s out) (w .0))
 
 -- LISTS, TEXT, LISTS
 
@@ -185,11 +186,11 @@ module _ (t : Lists) (w : TableWords t) (out : List ℕ) (a : Answer) (out′ : 
       leb (length (tableText d)) (length out) ≡ m → Written
   wrote d e g false m =
       let is = table-is (t .types) (t .fields) (t .consts) (t .bytes) (t .names) d e g in
-      let s : a ≡ refusedBy 7 = rw m at (answer-is (v .answer) (v .left) is) in absurd (not-zero s (omega arith))
+      let s : a ≡ refusedBy 7 = rw m at (answer-is out (held t) (v .answer) (v .left) is) in absurd (not-zero s (omega arith))
   wrote d e g true m =
       let is = table-is (t .types) (t .fields) (t .consts) (t .bytes) (t .names) d e g in
-      let size : a ≡ record { number = 0; first = length (tableText d); second = 0 } = rw m at (answer-is (v .answer) (v .left) is) in
-      let put : out′ ≡ putText out 0 (tableText d) = rw m at (out-is (v .answer) (v .left) is) in
+      let size : a ≡ record { number = 0; first = length (tableText d); second = 0 } = rw m at (answer-is out (held t) (v .answer) (v .left) is) in
+      let put : out′ ≡ putText out 0 (tableText d) = rw m at (out-is out (held t) (v .answer) (v .left) is) in
       record {
         table = d;
         good-is = g;
@@ -204,10 +205,10 @@ module _ (t : Lists) (w : TableWords t) (out : List ℕ) (a : Answer) (out′ : 
     where
       right : (d : Named) → namedIn (t .types) (t .fields) (t .consts) (t .bytes) (t .names) ≡ some d → (g : Bool) → tableGood (t .types) (t .fields) (t .consts) (t .bytes) ≡ g → Written
       right d e true g = wrote d e g (leb (length (tableText d)) (length out)) refl
-      right d e false g = absurd (not-zero (refused-by (v .answer) (v .left) (untaken (t .types) (t .fields) (t .consts) (t .bytes) (t .names) d e g)) (omega arith))
+      right d e false g = absurd (not-zero (refused-by out (held t) (v .answer) (v .left) (untaken (t .types) (t .fields) (t .consts) (t .bytes) (t .names) d e g)) (omega arith))
 
       go : (o : Option Named) → namedIn (t .types) (t .fields) (t .consts) (t .bytes) (t .names) ≡ o → Written
-      go none e = absurd (not-zero (refused-by (v .answer) (v .left) (nameless (t .types) (t .fields) (t .consts) (t .bytes) (t .names) e)) (omega arith))
+      go none e = absurd (not-zero (refused-by out (held t) (v .answer) (v .left) (nameless (t .types) (t .fields) (t .consts) (t .bytes) (t .names) e)) (omega arith))
       go (some d) e = right d e (tableGood (t .types) (t .fields) (t .consts) (t .bytes)) refl
 
 module _ {t : Lists} {d : Named} (k : Lying (t .types) (t .fields) (t .consts) (t .bytes) (t .names) d) where

@@ -5,19 +5,25 @@ use mathlib.Core.Bool.{true}
 use mathlib.Core.List.{List}
 use mathlib.Core.Path.{_≡_}
 use lib.ListN.{length, take}
+use Rattle.word.specs.Result.{Result}
 use Rattle.text.specs.Put.{putText}
 use Rattle.refusal.specs.Told.{answered, here, nothing, refusedBy}
 use Rattle.refusal.specs.declared.Answer.{Answer}
+use Rattle.tables.specs.Table.{Named}
 use Rattle.table_writer.specs.Writing.{tableIn, writing, leaving}
 use Rattle.table_reader.specs.Reading.{Lists, lists, enough, outcome, reading}
 use Rattle.table_reader.specs.declared.TableRead.{TableRead}
 use Rattle.theorems.specs.Words.{Entries}
 use Rattle.theorems.specs.PageCalls.{WroteText}
 
+-- the table that lies in lists with its names, or what it is refused for
+abbrev pub held : Lists → Result Named
+held t = tableIn (t .types) (t .fields) (t .consts) (t .bytes) (t .names)
+
 -- a call of `write_table` on a table and its names answered a: its contract
 pub record Writes (t : Lists) (out : List ℕ) (a : Answer) (out′ : List ℕ) : Type 0 where
-  pub answer : a ≡ answered here nothing (writing (tableIn (t .types) (t .fields) (t .consts) (t .bytes) (t .names)) out)
-  pub left : out′ ≡ leaving (tableIn (t .types) (t .fields) (t .consts) (t .bytes) (t .names)) out
+  pub answer : a ≡ answered here nothing (writing (held t) out)
+  pub left : out′ ≡ leaving (held t) out
 
 -- a call of `read_table` into the lists l answered r and left l′: its contract
 pub record Reads (l : Lists) (text words halves : List ℕ) (r : TableRead) (l′ : Lists) (words′ halves′ : List ℕ) : Type 0 where

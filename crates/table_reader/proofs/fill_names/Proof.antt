@@ -6,7 +6,7 @@ use lib.ListN.{length, drop}
 use Rattle.tables.specs.Table.{readName}
 use Rattle.tables.proofs.Endings.{lost}
 use Rattle.tables.proofs.Naming.{name-found, name-long}
-use Rattle.table_reader.proofs.Lining.{Naming, naming-begin, naming-numbers-some, naming-name-some, naming-room, naming-next, naming-end}
+use Rattle.table_reader.proofs.Naming.{Naming, naming-begin, naming-numbers-some, naming-name-some, naming-room, naming-next, naming-end}
 use Rattle.table_reader.proofs.fill_names.Statement.{statement}
 use Rattle.table_reader.proofs.fill_names.Tie as tie
 

@@ -1,5 +1,5 @@
 use native.Mathlib.Omega.{arith}
-use Rattle.table_reader.proofs.Lining.{rows-filled}
+use Rattle.table_check.proofs.Lining.{rows-filled}
 use borrow.Author.Needs.{needs}
 use Rattle.table_reader.proofs.load_numbers.Statement.{statement}
 use Rattle.table_reader.proofs.load_numbers.Tie as tie

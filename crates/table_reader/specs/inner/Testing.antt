@@ -1,4 +1,4 @@
--- What the first pass tells of a text, by its sections.
+-- What all tests tell of a text, by its sections.
 use Prim.Native.Nat.{ℕ, _+_, _*_}
 use mathlib.Core.List.{List, [], _∷_}
 use mathlib.Core.Bool.{Bool, true, _&&_}
@@ -7,17 +7,12 @@ use lib.Dec.{leb}
 use Rattle.word.specs.Result.{ok, refused}
 use Rattle.refusal.specs.Told.{numberOf, refusedBy}
 use Rattle.refusal.specs.declared.Refusal.{Refusal}
-use Rattle.tables.specs.Table.{readTable}
-use Rattle.table_reader.specs.Reading.{verdict, tableRead, scratchLeft}
-use Rattle.table_reader.specs.inner.Parsing.{tableOf, Sectioned}
-use Rattle.table_reader.specs.declared.Sections.{Sections}
+use Rattle.table_reader.specs.Reading.{tableRead, scratchLeft}
+use Rattle.table_check.specs.inner.Parsing.{tableOf, Sectioned}
+use Rattle.table_check.specs.declared.Sections.{Sections}
 use Rattle.table_reader.specs.declared.TableRead.{TableRead}
-use Rattle.table_reader.specs.declared.Checked.{Checked}
-use Rattle.table_reader.specs.declared.Checked.the-variants.{Good, Not}
-
-pub record Admitted (s : List ℕ) (r : Checked) : Type 0 where
-  pub table : (x : Sections) → r ≡ Good x → Sectioned s x × (verdict (readTable s) ≡ ok (tableOf s))
-  pub not : (why : Refusal) → r ≡ Not why → verdict (readTable s) ≡ refused (numberOf why)
+use Rattle.table_check.specs.declared.Checked.{Checked}
+use Rattle.table_check.specs.declared.Checked.the-variants.{Good, Not}
 
 -- there is room for what was found
 unfoldable pub roomFor : Sections → (types fields consts bytes names : ℕ) → Bool
