@@ -17,7 +17,7 @@ use protocol::write::put_next;
 use protocol::write::put_number;
 use protocol::write::put_page;
 use yexwalu::TableRead;
-use yexwalu::tables;
+use yexwalu::table_text;
 
 const READ: usize = 0;
 
@@ -68,7 +68,7 @@ fn called(
     let mut names = [7u8; 65536];
     let mut words = [7u64; 28672];
     let mut halves = [7u32; 32768];
-    tables::read_table(
+    table_text::read_table(
         types,
         fields,
         consts,
@@ -154,7 +154,7 @@ fn read(
 // Writes the type table with the names that end at `end`, on one line.
 fn write(end: usize, table: Table, bytes: &Bytes, lists: &Halves, list: &Words) {
     let mut out = [7u8; 262144];
-    let a = tables::write_table(
+    let a = table_text::write_table(
         part_u64(list, 0, table.types),
         part_u32(lists, FIELDS, table.fields),
         part_u64(list, CONSTS, table.consts),
