@@ -1,5 +1,5 @@
 -- THE ROUND TRIPS OF A TYPE TABLE'S TEXT. Assumes nothing.
-use Prim.Native.Nat.{ℕ, _+_, _^_, _≤_, _<_}
+use Prim.Native.Nat.{ℕ, suc, _+_, _^_, _≤_, _<_}
 use mathlib.Core.Bool.{Bool, true, false, _&&_}
 use mathlib.Core.List.{List, [], _∷_, _++_}
 use mathlib.Core.Option.{Option, none, some}
@@ -166,11 +166,11 @@ read-written l text words halves r l′ words′ halves′ c z out a out′ v =
 
 below-most : (width most : ℕ) (xs : List ℕ) → 2 ^ width ≡ 1 + most → Entries width xs → All (λ n. n ≤ most) xs
 below-most width most [] e h = tt
-below-most width most (x ∷ xs) e h = (omega (arith, h 0), below-most width most xs e (λ i. h (1 + i)))
+below-most width most (x ∷ xs) e h = (omega (arith, h 0), below-most width most xs e (λ i. h (suc i)))
 
 entry-bytes : (xs : List ℕ) → Entries 8 xs → Bytes xs
 entry-bytes [] h = tt
-entry-bytes (x ∷ xs) h = (h 0, entry-bytes xs (λ i. h (1 + i)))
+entry-bytes (x ∷ xs) h = (h 0, entry-bytes xs (λ i. h (suc i)))
 
 module _ (t : Lists) (w : TableWords t) (out : List ℕ) (a : Answer) (out′ : List ℕ) (v : Writes t out a out′) (z : a .number ≡ 0) where
   pub record Written : Type 0 where

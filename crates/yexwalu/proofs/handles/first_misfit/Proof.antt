@@ -20,10 +20,10 @@ loop-holds : tie.Need-loop-holds Inv-loop μ-loop
 loop-holds c = passed-begin _ _
 
 fits-table-requires : tie.Need-fits-table-requires Inv-loop μ-loop
-fits-table-requires c κs = (@start .pre, @loop-test .taken)
+fits-table-requires c κs = (c .before .before .before .before .before .before .before .before .before .before .pre, c .if1 .taken)
 
 returns : tie.Need-returns Inv-loop μ-loop
-returns c = told-misfit (@args .heap) (now (@args .narrow)) (now (@args .wide)) (now (@args .pool)) (tableOf (now (@args .types)) (now (@args .fields)) (now (@args .consts)) (now (@args .bytes))) (@loop .i) (@loop .inv) (@loop-test .taken) (@fits-table .ensures) (@if1 .left)
+returns c = told-misfit (c .before .before .before .before .before .before .before .before .before .before .before .before .args .heap) (now (c .before .before .before .before .before .before .before .before .before .before .before .before .args .narrow)) (now (c .before .before .before .before .before .before .before .before .before .before .before .before .args .wide)) (now (c .before .before .before .before .before .before .before .before .before .before .before .before .args .pool)) (tableOf (now (c .before .before .before .before .before .before .before .before .before .before .before .before .args .types)) (now (c .before .before .before .before .before .before .before .before .before .before .before .before .args .fields)) (now (c .before .before .before .before .before .before .before .before .before .before .before .before .args .consts)) (now (c .before .before .before .before .before .before .before .before .before .before .before .before .args .bytes))) (c .before .before .before .before .loop .i) (c .before .before .before .before .loop .inv) (c .before .before .if1 .taken) (c .before .fits-table .ensures) (c .if2 .left)
 
 add-i : tie.Need-add-i Inv-loop μ-loop
 add-i c = search needs
@@ -32,10 +32,10 @@ loop-less : tie.Need-loop-less Inv-loop μ-loop
 loop-less c = search needs
 
 loop-again : tie.Need-loop-again Inv-loop μ-loop
-loop-again c = passed-next _ _ _ (@loop .inv) (@loop-test .taken) (sym (@if1 .taken) ∙ @fits-table .ensures)
+loop-again c = passed-next _ _ _ (c .before .before .before .before .loop .inv) (c .before .before .if1 .taken) (sym (c .if2 .taken) ∙ c .before .fits-table .ensures)
 
 returns-2 : tie.Need-returns-2 Inv-loop μ-loop
-returns-2 c = told-none (@args .heap) (now (@args .narrow)) (now (@args .wide)) (now (@args .pool)) (tableOf (now (@args .types)) (now (@args .fields)) (now (@args .consts)) (now (@args .bytes))) (@loop .i) (@loop .inv) (@loop-test .left)
+returns-2 c = told-none (c .before .before .before .before .before .before .before .before .before .before .args .heap) (now (c .before .before .before .before .before .before .before .before .before .before .args .narrow)) (now (c .before .before .before .before .before .before .before .before .before .before .args .wide)) (now (c .before .before .before .before .before .before .before .before .before .before .args .pool)) (tableOf (now (c .before .before .before .before .before .before .before .before .before .before .args .types)) (now (c .before .before .before .before .before .before .before .before .before .before .args .fields)) (now (c .before .before .before .before .before .before .before .before .before .before .args .consts)) (now (c .before .before .before .before .before .before .before .before .before .before .args .bytes))) (c .before .before .loop .i) (c .before .before .loop .inv) (c .if1 .left)
 
 pub first-misfit-spec : {M : Type 1} → statement M
 first-misfit-spec =

@@ -19,7 +19,7 @@ enum-told : tie.Need-enum-told
 enum-told c = search needs
 
 first-misfit-requires : tie.Need-first-misfit-requires
-first-misfit-requires c κs = trace-formed (lent (@args .heap) (now (@args .narrow)) (now (@args .wide)) (now (@args .pool))) (now (@args .types)) (now (@args .fields)) (now (@args .consts)) (now (@args .bytes)) (@admit .ensures) (@enum-told .given .1)
+first-misfit-requires c κs = trace-formed (lent (c .before .before .before .before .before .before .before .before .before .before .before .before .before .before .before .before .before .before .args .heap) (now (c .before .before .before .before .before .before .before .before .before .before .before .before .before .before .before .before .before .before .args .narrow)) (now (c .before .before .before .before .before .before .before .before .before .before .before .before .before .before .before .before .before .before .args .wide)) (now (c .before .before .before .before .before .before .before .before .before .before .before .before .before .before .before .before .before .before .args .pool))) (now (c .before .before .before .before .before .before .before .before .before .before .before .before .before .before .before .before .before .before .args .types)) (now (c .before .before .before .before .before .before .before .before .before .before .before .before .before .before .before .before .before .before .args .fields)) (now (c .before .before .before .before .before .before .before .before .before .before .before .before .before .before .before .before .before .before .args .consts)) (now (c .before .before .before .before .before .before .before .before .before .before .before .before .before .before .before .before .before .before .args .bytes)) (c .before .before .before .before .before .before .admit .ensures) (c .enum-told .given .1)
 
 same-length : tie.Need-same-length
 same-length c = search needs
@@ -28,7 +28,7 @@ same-length-2 : tie.Need-same-length-2
 same-length-2 c = search needs
 
 returns : tie.Need-returns
-returns c = trace-refused (lent (@args .heap) (now (@args .narrow)) (now (@args .wide)) (now (@args .pool))) (now (@args .types)) (now (@args .fields)) (now (@args .consts)) (now (@args .bytes)) (@admit .ensures) (@why .given .1) (@numbers .ensures)
+returns c = trace-refused (lent (c .before .before .before .before .before .before .before .before .before .before .before .before .before .before .before .before .before .before .before .before .args .heap) (now (c .before .before .before .before .before .before .before .before .before .before .before .before .before .before .before .before .before .before .before .before .args .narrow)) (now (c .before .before .before .before .before .before .before .before .before .before .before .before .before .before .before .before .before .before .before .before .args .wide)) (now (c .before .before .before .before .before .before .before .before .before .before .before .before .before .before .before .before .before .before .before .before .args .pool))) (now (c .before .before .before .before .before .before .before .before .before .before .before .before .before .before .before .before .before .before .before .before .args .types)) (now (c .before .before .before .before .before .before .before .before .before .before .before .before .before .before .before .before .before .before .before .before .args .fields)) (now (c .before .before .before .before .before .before .before .before .before .before .before .before .before .before .before .before .before .before .before .before .args .consts)) (now (c .before .before .before .before .before .before .before .before .before .before .before .before .before .before .before .before .before .before .before .before .args .bytes)) (c .before .before .before .before .before .before .before .before .admit .ensures) (c .before .before .why .given .1) (c .numbers .ensures)
 
 same-length-3 : tie.Need-same-length-3
 same-length-3 c = search needs
@@ -37,7 +37,7 @@ same-length-4 : tie.Need-same-length-4
 same-length-4 c = search needs
 
 returns-2 : tie.Need-returns-2
-returns-2 c = trace-done (lent (@args .heap) (now (@args .narrow)) (now (@args .wide)) (now (@args .pool))) (now (@args .types)) (now (@args .fields)) (now (@args .consts)) (now (@args .bytes)) (@admit .ensures) (@enum-told .given .1) (@first-misfit .ensures)
+returns-2 c = trace-done (lent (c .before .before .before .before .before .before .before .before .before .before .before .before .before .before .before .before .before .before .before .args .heap) (now (c .before .before .before .before .before .before .before .before .before .before .before .before .before .before .before .before .before .before .before .args .narrow)) (now (c .before .before .before .before .before .before .before .before .before .before .before .before .before .before .before .before .before .before .before .args .wide)) (now (c .before .before .before .before .before .before .before .before .before .before .before .before .before .before .before .before .before .before .before .args .pool))) (now (c .before .before .before .before .before .before .before .before .before .before .before .before .before .before .before .before .before .before .before .args .types)) (now (c .before .before .before .before .before .before .before .before .before .before .before .before .before .before .before .before .before .before .before .args .fields)) (now (c .before .before .before .before .before .before .before .before .before .before .before .before .before .before .before .before .before .before .before .args .consts)) (now (c .before .before .before .before .before .before .before .before .before .before .before .before .before .before .before .before .before .before .before .args .bytes)) (c .before .before .before .before .before .before .before .admit .ensures) (c .before .enum-told .given .1) (c .first-misfit .ensures)
 
 pub yexwalu-traceable-spec : {M : Type 1} → statement M
 yexwalu-traceable-spec =
