@@ -20,6 +20,7 @@ use Rattle.tables.specs.Table.{Row, Named, RowWithin, most64, most32, typeNames
 use Rattle.tables.specs.Lists.{numbersIn, namesIn, good}
 use Rattle.tables.specs.Answer.{GotAll}
 use Rattle.tables.proofs.Laws.{row-right}
+use Rattle.tables.proofs.Rowing.{numbers-size}
 use Rattle.table_check.specs.inner.Found.{Listed, SectionFound}
 use Rattle.table_check.specs.inner.Edges.{countsOf, CountsFound, BytesFound}
 use Rattle.table_check.specs.inner.Parsing.{tableOf, RowsStand, SectionedAs, Sectioned, HoldingAs, Holding, ParsedAs}
@@ -32,18 +33,11 @@ section-reads : {names : List ℕ} {k most : ℕ} {s : List ℕ} {at count : ℕ
 unfolding rowsFormat afterLiteral times
 section-reads f = rw (f .named, f .rows .reads)
 
--- how many numbers lines have
-each-length : (k most : ℕ) (rows : List Row) → All (RowWithin k most) rows → length (numbersIn rows) ≡ k * length rows
-unfolding numbersIn flatMap
-each-length k most [] a = omega arith
-each-length k most (r ∷ rows) a =
-    omega (arith, a .0 .0 .1, each-length k most rows (a .1), length-append (r .0) (numbersIn rows), mul-suc k (length rows))
-
 pub numbers-length : (k most : ℕ) (s : List ℕ) (at count : ℕ) (rows : List Row) (rest : List ℕ) → readAll (rowFormat k most .read) count (drop at s) ≡ give rows rest → length (numbersIn rows) ≡ k * count
 unfolding times
 numbers-length k most s at count rows rest e =
     let b = times-right count (row-right k most) .back (drop at s) rows rest e .0 in
-    each-length k most rows (b .0) ∙ ap (λ (m : ℕ). k * m) (b .1)
+    numbers-size k most rows (b .0) ∙ ap (λ (m : ℕ). k * m) (b .1)
 
 -- LOST
 

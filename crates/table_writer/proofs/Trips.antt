@@ -15,7 +15,8 @@ use Rattle.ty.specs.Check.{tableGood}
 use Rattle.tables.specs.Table.{Row, Named, most64, most32, Plain, RowWithin, Within, nameText, nameFormat, toEnd}
 use Rattle.tables.specs.Lists.{numbersIn, namesIn, allNames, Names, namesFormat, rowsOf, withNames, namedIn}
 use Rattle.tables.proofs.Laws.{name-right, to-end-some}
-use Rattle.table_writer.proofs.Wholes.{types-whole, fields-whole, constants-whole, counts-small}
+use Rattle.tables.proofs.Rowing.{numbers-size}
+use Rattle.table_writer.proofs.Wholes.{rows-count, types-whole, fields-whole, constants-whole, counts-small}
 
 namesOf : List Row → List (List ℕ)
 namesOf rows = map (λ r. r .1) rows
@@ -31,12 +32,6 @@ rows-back k most [] a = refl
 rows-back k most (r ∷ rows) a =
     let e : length (r .0) ≡ k = a .0 .0 .1 in
     λ i. (take-at (r .0) (numbersIn rows) k e i, r .1) ∷ (ap (λ (l : List ℕ). rowsOf k l (namesOf rows)) (drop-at (r .0) (numbersIn rows) k e) ∙ rows-back k most rows (a .1)) i
-
-rows-size : (k most : ℕ) (rows : List Row) → All (RowWithin k most) rows → length (numbersIn rows) ≡ k * length rows
-unfolding numbersIn flatMap
-rows-size k most [] a = omega arith
-rows-size k most (r ∷ rows) a =
-    omega (arith, a .0 .0 .1, rows-size k most rows (a .1), length-append (r .0) (numbersIn rows), mul-suc k (length rows))
 
 names-flat : (rows : List Row) → flatMap nameText (namesOf rows) ≡ namesIn rows
 unfolding namesOf namesIn flatMap
@@ -78,13 +73,13 @@ module _ (d : Named) (w : Within d) where
       )
 
   type-count : length (numbersIn (d .types)) / 4 ≡ length (d .types)
-  type-count = omega (arith, rows-size 4 18446744073709551615 (d .types) (w .types))
+  type-count = omega (arith, numbers-size 4 18446744073709551615 (d .types) (w .types))
 
   field-count : length (numbersIn (d .fields)) / 2 ≡ length (d .fields)
-  field-count = omega (arith, rows-size 2 4294967295 (d .fields) (w .fields))
+  field-count = omega (arith, numbers-size 2 4294967295 (d .fields) (w .fields))
 
   constant-count : length (numbersIn (d .constants)) / 3 ≡ length (d .constants)
-  constant-count = omega (arith, rows-size 3 18446744073709551615 (d .constants) (w .constants))
+  constant-count = omega (arith, numbers-size 3 18446744073709551615 (d .constants) (w .constants))
 
   same-rows : withNames (numbersIn (d .types)) (numbersIn (d .fields)) (numbersIn (d .constants)) (d .bytes) theirs ≡ d
   same-rows = λ i. record {
@@ -130,11 +125,6 @@ names-of : (k : ℕ) (l : List ℕ) (ns : List (List ℕ)) → namesIn (rowsOf k
 unfolding rowsOf namesIn flatMap
 names-of k l [] = refl
 names-of k l (n ∷ ns) = ap (λ (t : List ℕ). nameText n ++ t) (names-of k (drop k l) ns)
-
-rows-count : (k : ℕ) (l : List ℕ) (ns : List (List ℕ)) → length (rowsOf k l ns) ≡ length ns
-unfolding rowsOf
-rows-count k l [] = refl
-rows-count k l (n ∷ ns) = ap suc (rows-count k (drop k l) ns)
 
 rows-within : (k most : ℕ) (l : List ℕ) (ns : List (List ℕ)) → length l ≡ k * length ns → All (λ n. n ≤ most) l → All Plain ns → All (RowWithin k most) (rowsOf k l ns)
 unfolding rowsOf
