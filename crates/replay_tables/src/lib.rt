@@ -9,6 +9,8 @@ use protocol::least;
 use protocol::part_u8;
 use protocol::part_u32;
 use protocol::part_u64;
+use protocol::read::byte_at;
+use protocol::read::past;
 use protocol::read::second;
 use protocol::read::which;
 use protocol::table::Table;
@@ -41,9 +43,10 @@ fn spelled(line: &[u8], into: &mut Bytes) -> usize {
         if line.len() <= i {
             return k;
         }
-        into[k] = unfolded(line[i]);
+        let b = byte_at(line, i);
+        into[k] = unfolded(b);
         k += 1;
-        i += 1;
+        i = past(line, i, b);
     }
     k
 }
@@ -94,23 +97,38 @@ fn told(r: TableRead) {
     put(b"\n");
 }
 
-// Copies the first `count` numbers to the place for types, or to that for constants.
-fn keep_words(from: &[u64], count: usize, to: &mut Words, place: usize) {
-    let n = least(count, least(from.len(), 16384));
-    let a = least(place, CONSTS);
-    let mut i = 0;
-    while i < n {
-        to[a + i] = from[i];
+// Copies the first `count` numbers to the place for types.
+fn keep_types(from: &Types, count: usize, to: &mut Words) {
+    let mut i: usize = 0;
+    while i < 16384 {
+        if i == count {
+            return;
+        }
+        to[i] = from[i];
         i += 1;
     }
 }
 
-// Copies the first `count` numbers to the place for fields.
-fn keep_halves(from: &Fields, count: usize, to: &mut Halves) {
-    let n = least(count, 32768);
+// The same for fields.
+fn keep_fields(from: &Fields, count: usize, to: &mut Halves) {
     let mut i: usize = 0;
-    while i < n {
+    while i < 32768 {
+        if i == count {
+            return;
+        }
         to[65536 + i] = from[i];
+        i += 1;
+    }
+}
+
+// The same for constants.
+fn keep_consts(from: &Consts, count: usize, to: &mut Words) {
+    let mut i: usize = 0;
+    while i < 12288 {
+        if i == count {
+            return;
+        }
+        to[16384 + i] = from[i];
         i += 1;
     }
 }
@@ -142,9 +160,9 @@ fn read(
     told(r);
     let a = r.answer;
     if a.number == 0 {
-        keep_words(&types, r.types, list, 0);
-        keep_words(&consts, r.consts, list, CONSTS);
-        keep_halves(&fields, r.fields, lists);
+        keep_types(&types, r.types, list);
+        keep_fields(&fields, r.fields, lists);
+        keep_consts(&consts, r.consts, list);
         memory::copy_u8(bytes, 0, &octets);
         return kept(r);
     }
