@@ -1,8 +1,8 @@
 /*
  * The heap of a saved VHDL run, with its type layouts and root maps: the calls that libyexwalu.a exports.
  *
- * Each call is proved to do what its contract says, in the crate that has it (crates/heap_door, object_door, collect_door, page_door, table_door, run_door and
- * yexwalu), for all values of its parameters. What a caller owes is what C always asks: a pointer leads to as many elements as the length after it says, is aligned and not null (also
+ * Each call is proved to do what its contract says, in the crate that has it (crates/heap_door, object_door, collect_door, page_door, table_door, slot_door, run_door
+ * and yexwalu), for all values of its parameters. What a caller owes is what C always asks: a pointer leads to as many elements as the length after it says, is aligned and not null (also
  * where the length is 0), memory that a call may write is lent to no other parameter of it, and a bool is 0 or 1. Calls allocate nothing, keep no pointer, have no
  * state of their own. The most stack that was seen is 135 KB, and the frames add up to 234 KB (measured before slot_handles and the list of addresses).
  *
