@@ -1,14 +1,14 @@
--- `yexwalu::handles::first_misfit` meets its contract. Assumes nothing.
+-- `slot_door::first_misfit` meets its contract. Assumes nothing.
 use Prim.Native.Nat.{_-_}
 use mathlib.Core.Path.{sym, _∙_}
 use denote.Ref.{now}
 use Rattle.ty.specs.View.{tableOf}
 use Rattle.heap.specs.Lent.{lent, view}
-use Rattle.yexwalu.specs.Traceable.{fitsTable}
-use Rattle.yexwalu.proofs.TraceCalls.{Passed, passed-begin, passed-next, told-misfit, told-none}
+use Rattle.slot_door.specs.Traceable.{fitsTable}
+use Rattle.slot_door.proofs.TraceCalls.{Passed, passed-begin, passed-next, told-misfit, told-none}
 use borrow.Author.Needs.{needs}
-use Rattle.yexwalu.proofs.handles.first_misfit.Statement.{statement}
-use Rattle.yexwalu.proofs.handles.first_misfit.Tie as tie
+use Rattle.slot_door.proofs.first_misfit.Statement.{statement}
+use Rattle.slot_door.proofs.first_misfit.Tie as tie
 
 abbrev Inv-loop : tie.InvT-loop
 Inv-loop types fields consts bytes heap narrow wide pool i₀ i = Passed (fitsTable (tableOf types fields consts bytes) (view (lent heap narrow wide pool))) (heap .slots) i

@@ -1,10 +1,10 @@
--- `yexwalu::handles::yexwalu_slot_handles` meets its contract. Assumes nothing.
+-- `slot_door::yexwalu_slot_handles` meets its contract. Assumes nothing.
 use denote.Ref.{now}
 use Rattle.heap.specs.Lent.{lent}
-use Rattle.yexwalu.proofs.SlotCalls.{slot-refused, slot-done, slot-formed}
+use Rattle.slot_door.proofs.SlotCalls.{slot-refused, slot-done, slot-formed}
 use borrow.Author.Needs.{needs}
-use Rattle.yexwalu.proofs.handles.yexwalu_slot_handles.Statement.{statement}
-use Rattle.yexwalu.proofs.handles.yexwalu_slot_handles.Tie as tie
+use Rattle.slot_door.proofs.yexwalu_slot_handles.Statement.{statement}
+use Rattle.slot_door.proofs.yexwalu_slot_handles.Tie as tie
 
 admit-requires : tie.Need-admit-requires
 admit-requires c κs = search needs

@@ -1,10 +1,10 @@
--- `yexwalu::handles::admit` meets its contract. Assumes nothing.
+-- `slot_door::admit` meets its contract. Assumes nothing.
 use denote.Ref.{now}
 use Rattle.heap.specs.Lent.{lent}
-use Rattle.yexwalu.proofs.SlotCalls.{not-entered, no-table, all-entered}
+use Rattle.slot_door.proofs.SlotCalls.{not-entered, no-table, all-entered}
 use borrow.Author.Needs.{needs}
-use Rattle.yexwalu.proofs.handles.admit.Statement.{statement}
-use Rattle.yexwalu.proofs.handles.admit.Tie as tie
+use Rattle.slot_door.proofs.admit.Statement.{statement}
+use Rattle.slot_door.proofs.admit.Tie as tie
 
 enter-requires : tie.Need-enter-requires
 enter-requires c κs = search needs

@@ -31,9 +31,9 @@ use Rattle.door.specs.HeapCalls.{Entered, asked, askedOf, scratchAfter, zeros}
 use Rattle.door.specs.declared.Entry.{Entry}
 use Rattle.door.specs.declared.Entry.the-variants.{Ready, Not}
 use Rattle.door.proofs.Entering.{whether-not, whether-ready, cleared-in, entered}
-use Rattle.yexwalu.specs.SlotHandles.{slotTests}
-use Rattle.yexwalu.specs.Traceable.{traced, fitsTable, firstFailing, misfit, misfitTold, traceCall}
-use Rattle.yexwalu.proofs.SlotCalls.{shown-is}
+use Rattle.slot_door.specs.SlotHandles.{slotTests}
+use Rattle.slot_door.specs.Traceable.{traced, fitsTable, firstFailing, misfit, misfitTold, traceCall}
+use Rattle.slot_door.proofs.SlotCalls.{shown-is}
 
 -- ---- a slot
 

@@ -1,10 +1,10 @@
--- `yexwalu::handles::yexwalu_traceable` meets its contract. Assumes nothing.
+-- `slot_door::yexwalu_traceable` meets its contract. Assumes nothing.
 use denote.Ref.{now}
 use Rattle.heap.specs.Lent.{lent}
-use Rattle.yexwalu.proofs.TraceCalls.{trace-refused, trace-done, trace-formed}
+use Rattle.slot_door.proofs.TraceCalls.{trace-refused, trace-done, trace-formed}
 use borrow.Author.Needs.{needs}
-use Rattle.yexwalu.proofs.handles.yexwalu_traceable.Statement.{statement}
-use Rattle.yexwalu.proofs.handles.yexwalu_traceable.Tie as tie
+use Rattle.slot_door.proofs.yexwalu_traceable.Statement.{statement}
+use Rattle.slot_door.proofs.yexwalu_traceable.Tie as tie
 
 admit-requires : tie.Need-admit-requires
 admit-requires c κs = search needs

@@ -1,11 +1,11 @@
--- `yexwalu::handles::list_slot` meets its contract. Assumes nothing.
+-- `slot_door::list_slot` meets its contract. Assumes nothing.
 use native.Mathlib.Omega.{arith}
 use denote.Ref.{now}
 use Rattle.mark.proofs.Formed.{formed-fit}
-use Rattle.yexwalu.proofs.SlotCalls.{slot-missing, slot-dead, slot-listed}
+use Rattle.slot_door.proofs.SlotCalls.{slot-missing, slot-dead, slot-listed}
 use borrow.Author.Needs.{needs}
-use Rattle.yexwalu.proofs.handles.list_slot.Statement.{statement}
-use Rattle.yexwalu.proofs.handles.list_slot.Tie as tie
+use Rattle.slot_door.proofs.list_slot.Statement.{statement}
+use Rattle.slot_door.proofs.list_slot.Tie as tie
 
 returns : tie.Need-returns
 returns c = slot-missing (c .before .before .before .before .before .before .before .before .before .args .heap) (now (c .before .before .before .before .before .before .before .before .before .args .narrow)) (now (c .before .before .before .before .before .before .before .before .before .args .wide)) (now (c .before .before .before .before .before .before .before .before .before .args .pool)) (c .before .before .before .before .before .before .before .before .before .pre) _ _ _ (c .if1 .taken)

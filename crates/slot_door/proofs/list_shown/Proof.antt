@@ -1,9 +1,9 @@
--- `yexwalu::handles::list_shown` meets its contract. Assumes nothing.
+-- `slot_door::list_shown` meets its contract. Assumes nothing.
 use native.Mathlib.Omega.{arith}
 use Rattle.trace.proofs.ListLaws.{list-failed, list-short, list-wrote}
 use borrow.Author.Needs.{needs}
-use Rattle.yexwalu.proofs.handles.list_shown.Statement.{statement}
-use Rattle.yexwalu.proofs.handles.list_shown.Tie as tie
+use Rattle.slot_door.proofs.list_shown.Statement.{statement}
+use Rattle.slot_door.proofs.list_shown.Tie as tie
 
 slice-aggregate-trace-slot : tie.Need-slice-aggregate-trace-slot
 slice-aggregate-trace-slot c = search needs

@@ -1,13 +1,13 @@
--- `yexwalu::handles::fits_table` meets its contract. Assumes nothing.
+-- `slot_door::fits_table` meets its contract. Assumes nothing.
 use Prim.Native.Nat.{_+_, _*_, _/_}
 use lib.ListN.{length}
 use native.Mathlib.Omega.{arith}
 use denote.Ref.{now}
 use Rattle.mark.proofs.Formed.{formed-fit}
-use Rattle.yexwalu.proofs.TraceCalls.{other-fits, no-type, is-traced}
+use Rattle.slot_door.proofs.TraceCalls.{other-fits, no-type, is-traced}
 use borrow.Author.Needs.{needs}
-use Rattle.yexwalu.proofs.handles.fits_table.Statement.{statement}
-use Rattle.yexwalu.proofs.handles.fits_table.Tie as tie
+use Rattle.slot_door.proofs.fits_table.Statement.{statement}
+use Rattle.slot_door.proofs.fits_table.Tie as tie
 
 add-if1 : tie.Need-add-if1
 add-if1 c = omega (arith, formed-fit (c .before .before .before .before .before .before .before .args .heap) (now (c .before .before .before .before .before .before .before .args .narrow)) (now (c .before .before .before .before .before .before .before .args .wide)) (now (c .before .before .before .before .before .before .before .args .pool)) (c .before .before .before .before .before .before .before .pre .0) .runs .used, formed-fit (c .before .before .before .before .before .before .before .args .heap) (now (c .before .before .before .before .before .before .before .args .narrow)) (now (c .before .before .before .before .before .before .before .args .wide)) (now (c .before .before .before .before .before .before .before .args .pool)) (c .before .before .before .before .before .before .before .pre .0) .types, c .before .before .before .before .before .before .before .pre .1)

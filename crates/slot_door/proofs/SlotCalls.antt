@@ -36,7 +36,7 @@ use Rattle.door.specs.HeapCalls.{test, admitted, heapTests, Entered, asked}
 use Rattle.door.specs.declared.Entry.{Entry}
 use Rattle.door.specs.declared.Entry.the-variants.{Ready, Not}
 use Rattle.door.proofs.Entering.{and-holds, and-fails, and-more, ask-refused, ask-ready, whether-not, whether-ready, entered}
-use Rattle.yexwalu.specs.SlotHandles.{slotHandles, slotTests, slotCall, slotOut}
+use Rattle.slot_door.specs.SlotHandles.{slotHandles, slotTests, slotCall, slotOut}
 
 -- ---- a slot in use
 

@@ -1,11 +1,11 @@
--- `yexwalu::handles::list_at` meets its contract. Assumes nothing.
+-- `slot_door::list_at` meets its contract. Assumes nothing.
 use Prim.Native.Nat.{_+_, _*_}
 use native.Mathlib.Omega.{arith}
 use Rattle.mark.proofs.Bridge.{slot-rises, slot-ends}
-use Rattle.yexwalu.proofs.SlotCalls.{at-listed}
+use Rattle.slot_door.proofs.SlotCalls.{at-listed}
 use borrow.Author.Needs.{needs}
-use Rattle.yexwalu.proofs.handles.list_at.Statement.{statement}
-use Rattle.yexwalu.proofs.handles.list_at.Tie as tie
+use Rattle.slot_door.proofs.list_at.Statement.{statement}
+use Rattle.slot_door.proofs.list_at.Tie as tie
 
 start-of-requires : tie.Need-start-of-requires
 start-of-requires c κs = search needs

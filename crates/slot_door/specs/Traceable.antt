@@ -16,7 +16,7 @@ use Rattle.heap.specs.Lent.{Lent, view}
 use Rattle.collection.specs.Shown.{shown}
 use Rattle.door.specs.HeapCalls.{admitted, whether, scratchAfter, zeros, Asked, askedOf}
 use Rattle.door.specs.declared.Entry.the-variants.{Not}
-use Rattle.yexwalu.specs.SlotHandles.{slotTests}
+use Rattle.slot_door.specs.SlotHandles.{slotTests}
 
 -- the handles can be traced
 abbrev pub traced : Option (List ℕ) → Bool
