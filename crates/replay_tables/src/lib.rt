@@ -133,6 +133,18 @@ fn keep_consts(from: &Consts, count: usize, to: &mut Words) {
     }
 }
 
+// The same for the constants' bytes.
+fn keep_bytes(from: &Octets, count: usize, to: &mut Bytes) {
+    let mut i: usize = 0;
+    while i < 65536 {
+        if i == count {
+            return;
+        }
+        to[i] = from[i];
+        i += 1;
+    }
+}
+
 // The table that was read, as the one that lines make.
 fn kept(r: TableRead) -> Table {
     Table {
@@ -163,7 +175,7 @@ fn read(
         keep_types(&types, r.types, list);
         keep_fields(&fields, r.fields, lists);
         keep_consts(&consts, r.consts, list);
-        memory::copy_u8(bytes, 0, &octets);
+        keep_bytes(&octets, r.bytes, bytes);
         return kept(r);
     }
     table
