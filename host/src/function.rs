@@ -7,6 +7,7 @@ const MAX_REGISTERS: usize = 16384;
 
 /// What an instruction does. Only that of a block's last instruction says where the code goes on.
 #[derive(Clone, Copy, Debug, PartialEq, Eq, Hash)]
+#[non_exhaustive]
 pub enum InstKind {
     /// Goes on.
     Plain = 0,
@@ -26,6 +27,7 @@ pub enum InstKind {
 
 /// What a register holds.
 #[derive(Clone, Copy, Debug, PartialEq, Eq, Hash)]
+#[non_exhaustive]
 pub enum Class {
     /// A whole number.
     I64 = 0,
@@ -41,6 +43,7 @@ pub enum Class {
 
 /// Which registers a live map has.
 #[derive(Clone, Copy, Debug, PartialEq, Eq, Hash)]
+#[non_exhaustive]
 pub enum Wanted {
     /// Those of classes `Ptr` and `Handle`.
     References,

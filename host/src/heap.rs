@@ -1,10 +1,11 @@
 use crate::ffi::{self, Done, Header};
-use crate::{FrameSlot, Function, Handle, Refusal, TypeId, TypeTable};
+use crate::{FrameSlot, Function, Handle, Refusal, Slot, TypeId, TypeTable};
 use std::cell::RefCell;
 use std::ops::Range;
 
 /// What an object is: its kind, and the type of a typed one. It says where a collection looks for handles in the object's visible data.
 #[derive(Clone, Copy, Debug, PartialEq, Eq, Hash)]
+#[non_exhaustive]
 pub enum Kind {
     /// A value of a type of the table, after its descriptor (`TypeTable::object_handles`). The type is not looked at before a collection.
     Typed(TypeId),
@@ -24,7 +25,7 @@ impl Kind {
     }
 
     // The kind of a live slot of a heap that was checked: 1 to 3, and a type of 32 bits.
-    fn of(kind: u64, ty: u64) -> Kind {
+    pub(crate) fn of(kind: u64, ty: u64) -> Kind {
         match kind {
             1 => Kind::Typed(ty as TypeId),
             2 => Kind::Bytes,
@@ -35,6 +36,7 @@ impl Kind {
 
 /// An object that was taken from its heap: all its bytes, and where its visible data starts in them.
 #[derive(Clone, Debug, PartialEq, Eq)]
+#[non_exhaustive]
 pub struct Object {
     /// All bytes, those before the start too.
     pub bytes: Vec<u8>,
@@ -366,9 +368,9 @@ impl Heap {
     /// assert_eq!(heap.data(slot)?, b"eration");
     /// # Ok::<(), Refusal>(())
     /// ```
-    pub fn edit(&mut self, handle: Handle, bytes: &[u8], start: usize) -> Result<u32, Refusal> {
+    pub fn edit(&mut self, handle: Handle, bytes: &[u8], start: usize) -> Result<Slot, Refusal> {
         let done = change!(&mut self.memory, self.scratch.get_mut(), yexwalu_edit(self.header)(handle.0, bytes.as_ptr(), bytes.len(), start));
-        Ok(self.done(done)?.0 as u32)
+        Ok(Slot(self.done(done)?.0 as u32))
     }
 
     /// Bytes over the visible data of a slot, from the offset `at` in it. Bytes that are not there are refused (9); where nothing of a live slot is visible the write still counts.
@@ -384,15 +386,15 @@ impl Heap {
     /// assert_eq!(heap.stamp(slot)?.writes, 1);
     /// # Ok::<(), Refusal>(())
     /// ```
-    pub fn write(&mut self, slot: u32, at: usize, bytes: &[u8]) -> Result<(), Refusal> {
-        let answer = change!(&mut self.memory, self.scratch.get_mut(), yexwalu_write(self.header)(slot as usize, at, bytes.as_ptr(), bytes.len()));
+    pub fn write(&mut self, slot: impl Into<Slot>, at: usize, bytes: &[u8]) -> Result<(), Refusal> {
+        let answer = change!(&mut self.memory, self.scratch.get_mut(), yexwalu_write(self.header)(slot.into().at(), at, bytes.as_ptr(), bytes.len()));
         Refusal::check(answer.number)
     }
 
     /// A new handle for a slot: older ones become stale, and its writes are counted from 0 again. A dead slot takes one too, which leads nowhere. `grown` is added to the bytes since the last
     /// collection. A slot that is not there is refused (9).
-    pub fn reissue(&mut self, slot: u32, grown: u64) -> Result<Handle, Refusal> {
-        let done = change!(&mut self.memory, self.scratch.get_mut(), yexwalu_reissue(self.header)(slot as usize, grown));
+    pub fn reissue(&mut self, slot: impl Into<Slot>, grown: u64) -> Result<Handle, Refusal> {
+        let done = change!(&mut self.memory, self.scratch.get_mut(), yexwalu_reissue(self.header)(slot.into().at(), grown));
         Ok(Handle(self.done(done)?.0))
     }
 
@@ -570,31 +572,31 @@ impl Heap {
     /// assert_eq!(heap.resolve(Handle(gone.0 + (1 << 32))), Err(Refusal::NeverIssued));
     /// # Ok::<(), Refusal>(())
     /// ```
-    pub fn resolve(&self, handle: Handle) -> Result<u32, Refusal> {
-        Ok(Heap::pair(ask!(self, yexwalu_resolve(handle.0)))?.0 as u32)
+    pub fn resolve(&self, handle: Handle) -> Result<Slot, Refusal> {
+        Ok(Slot(Heap::pair(ask!(self, yexwalu_resolve(handle.0)))?.0 as u32))
     }
 
     /// Where the visible data of a slot lies in the pool. It is refused (9) where the slot is not there or dead, or nothing is visible.
-    pub fn place(&self, slot: u32) -> Result<Range<usize>, Refusal> {
-        let (from, size) = Heap::pair(ask!(self, yexwalu_data(slot as usize)))?;
+    pub fn place(&self, slot: impl Into<Slot>) -> Result<Range<usize>, Refusal> {
+        let (from, size) = Heap::pair(ask!(self, yexwalu_data(slot.into().at())))?;
         Ok(from as usize..from as usize + size as usize)
     }
 
     /// The visible data of a slot, refused as by `place`.
-    pub fn data(&self, slot: u32) -> Result<&[u8], Refusal> {
+    pub fn data(&self, slot: impl Into<Slot>) -> Result<&[u8], Refusal> {
         let place = self.place(slot)?;
         Ok(&self.memory.pool[place])
     }
 
     /// The kind of a slot's object; a slot that is not there or dead is refused (9).
-    pub fn kind(&self, slot: u32) -> Result<Kind, Refusal> {
-        let (kind, ty) = Heap::pair(ask!(self, yexwalu_kind(slot as usize)))?;
+    pub fn kind(&self, slot: impl Into<Slot>) -> Result<Kind, Refusal> {
+        let (kind, ty) = Heap::pair(ask!(self, yexwalu_kind(slot.into().at())))?;
         Ok(Kind::of(kind, ty))
     }
 
     /// The generation and the write count of a slot; one that is not there or dead is refused (9).
-    pub fn stamp(&self, slot: u32) -> Result<Stamp, Refusal> {
-        let (generation, writes) = Heap::pair(ask!(self, yexwalu_stamp(slot as usize)))?;
+    pub fn stamp(&self, slot: impl Into<Slot>) -> Result<Stamp, Refusal> {
+        let (generation, writes) = Heap::pair(ask!(self, yexwalu_stamp(slot.into().at())))?;
         Ok(Stamp {
             generation: generation as u32,
             writes,
@@ -615,9 +617,10 @@ impl Heap {
     /// assert_eq!(heap.slot_handles(&table, heap.resolve(both)?)?, [Handle(7), Handle(8)]);
     /// # Ok::<(), Refusal>(())
     /// ```
-    pub fn slot_handles(&self, types: &TypeTable, slot: u32) -> Result<Vec<Handle>, Refusal> {
-        let mut out = vec![0; self.size_of(slot as usize) / 8];
-        let n = self.slot_handles_into(types, slot as usize, &mut out)?;
+    pub fn slot_handles(&self, types: &TypeTable, slot: impl Into<Slot>) -> Result<Vec<Handle>, Refusal> {
+        let slot = slot.into().at();
+        let mut out = vec![0; self.size_of(slot) / 8];
+        let n = self.slot_handles_into(types, slot, &mut out)?;
         out.truncate(n);
         Ok(out.into_iter().map(Handle).collect())
     }

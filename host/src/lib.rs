@@ -23,15 +23,22 @@ pub mod ffi;
 mod function;
 mod handle;
 mod heap;
+mod open;
+mod place;
 mod refusal;
+mod slot;
 mod types;
+mod view;
 
 pub use ffi::Header;
 pub use function::{Class, Function, InstKind, Wanted};
 pub use handle::Handle;
 pub use heap::{Heap, Kind, Memory, Object, Scratch, Stamp};
+pub use place::{page_stops, Place};
 pub use refusal::Refusal;
+pub use slot::Slot;
 pub use types::{descriptor, ConstId, Direction, FrameSlot, Layout, TypeId, TypeTable, NO_CONSTANT};
+pub use view::{ObjectRef, Objects, View};
 
 // Answers have 64 bits, and so have sizes where the archive is compiled for: none is cut.
 const _: () = assert!(usize::BITS == 64);

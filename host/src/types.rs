@@ -65,6 +65,7 @@ pub fn descriptor(dimensions: &[(i64, i64, Direction)]) -> Vec<u8> {
 
 /// Where the parts of a value lie.
 #[derive(Clone, Debug, PartialEq, Eq)]
+#[non_exhaustive]
 pub struct Layout {
     /// Bytes of a value.
     pub size: u64,

@@ -1,0 +1,74 @@
+//! Files, and a line that says how far a large one is.
+use std::fs::File;
+use std::io::{self, IsTerminal, Read, Write};
+
+// From so many bytes on a person is told that it goes on.
+const LARGE: u64 = 4 << 20;
+const PIECE: usize = 1 << 20;
+
+/// The bytes of a file, and its name.
+pub struct Text {
+    name: String,
+    bytes: Vec<u8>,
+}
+
+/// A file's name for people.
+pub fn shown(name: &str) -> &str {
+    if name == "-" {
+        return "standard input";
+    }
+    name
+}
+
+// A line that is written over and over, on a terminal alone.
+fn tell(line: &str) {
+    let mut err = io::stderr();
+    if err.is_terminal() {
+        // where this can't be written there is nothing else to say
+        let _ = write!(err, "\r\x1b[K{line}");
+        let _ = err.flush();
+    }
+}
+
+impl Text {
+    /// All of a file, or of standard input.
+    pub fn read(name: &str) -> io::Result<Text> {
+        if name == "-" {
+            return Text::read_from(name, io::stdin().lock(), None);
+        }
+        let file = File::open(name)?;
+        let size = file.metadata()?.len();
+        Text::read_from(name, file, Some(size))
+    }
+
+    fn read_from(name: &str, mut from: impl Read, size: Option<u64>) -> io::Result<Text> {
+        let mut bytes = Vec::new();
+        loop {
+            let n = (&mut from).take(PIECE as u64).read_to_end(&mut bytes)?;
+            if n == 0 {
+                break;
+            }
+            if bytes.len() as u64 >= LARGE {
+                let of = size.map(|s| format!(" of {}", s >> 20)).unwrap_or_default();
+                tell(&format!("{}: {}{of} MB read", shown(name), bytes.len() >> 20));
+            }
+        }
+        tell("");
+        Ok(Text { name: name.into(), bytes })
+    }
+
+    pub fn bytes(&self) -> &[u8] {
+        &self.bytes
+    }
+
+    /// Does some work on the bytes; if they are many, says so as long as it lasts.
+    pub fn working<T>(&self, what: &str, work: impl Fn(&[u8]) -> T) -> T {
+        if (self.bytes.len() as u64) < LARGE {
+            return work(&self.bytes);
+        }
+        tell(&format!("{}: {what} {} MB", shown(&self.name), self.bytes.len() >> 20));
+        let done = work(&self.bytes);
+        tell("");
+        done
+    }
+}

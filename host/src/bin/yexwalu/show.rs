@@ -1,0 +1,82 @@
+//! A heap as text for people.
+use std::io::{self, Write};
+use yexwalu::{Handle, Kind, ObjectRef, Refusal, Slot, TypeTable, View};
+
+// So many bytes of an object are shown.
+const BYTES: usize = 32;
+
+/// The handles of an object that can be found without a type table.
+pub fn handles(object: &ObjectRef) -> Vec<Handle> {
+    match object.kind() {
+        Kind::Typed(_) => Vec::new(),
+        // an object of another kind is not looked up in the table
+        _ => object.handles(&TypeTable::new()).unwrap_or_default(),
+    }
+}
+
+pub fn kind(kind: Kind) -> String {
+    match kind {
+        Kind::Typed(ty) => format!("type {ty}"),
+        Kind::Bytes => "bytes".into(),
+        Kind::Handles => "handles".into(),
+        _ => "another kind".into(),
+    }
+}
+
+/// Where a handle leads.
+pub fn leads(view: View, handle: Handle) -> String {
+    match view.resolve(handle) {
+        Ok(object) => format!("slot {}", object.slot()),
+        Err(Refusal::WrongHeap) => format!("nowhere here: the heap of tag {}", handle.tag()),
+        Err(why) => format!("nowhere: {}", why.word()),
+    }
+}
+
+fn list(slots: impl ExactSizeIterator<Item = Slot>) -> String {
+    let words: Vec<String> = slots.map(|s| s.to_string()).collect();
+    if words.is_empty() {
+        return "none".into();
+    }
+    words.join(" ")
+}
+
+fn data(object: &ObjectRef) -> String {
+    let Some(data) = object.data() else {
+        return "nothing visible".into();
+    };
+    let front = &data[..data.len().min(BYTES)];
+    let hex: Vec<String> = front.iter().map(|b| format!("{b:02x}")).collect();
+    let text: String = front.iter().map(|b| if (b' '..=b'~').contains(b) { char::from(*b) } else { '.' }).collect();
+    let more = if data.len() > BYTES { format!(" and {} more", data.len() - BYTES) } else { String::new() };
+    format!("{}  |{text}|{more}", hex.join(" "))
+}
+
+fn object(view: View, o: ObjectRef, out: &mut impl Write) -> io::Result<()> {
+    let (stamp, size) = (o.stamp(), o.bytes().len());
+    write!(out, "slot {}, handle {}: {}, generation {}, {} writes, {size} bytes", o.slot(), o.handle(), kind(o.kind()), stamp.generation, stamp.writes)?;
+    if o.start() != 0 {
+        write!(out, ", visible from byte {} on", o.start())?;
+    }
+    writeln!(out)?;
+    if o.data() != Some(&[]) {
+        writeln!(out, "    {}", data(&o))?;
+    }
+    for handle in handles(&o) {
+        writeln!(out, "    {handle} leads to {}", leads(view, handle))?;
+    }
+    Ok(())
+}
+
+pub fn print(view: View, out: &mut impl Write) -> io::Result<()> {
+    let h = view.header();
+    let (count, bytes) = view.objects().fold((0, 0), |(n, size), o| (n + 1, size + o.bytes().len()));
+    writeln!(out, "heap of tag {}: {} slots, {count} objects, {bytes} bytes of data", h.tag, h.slots)?;
+    writeln!(out, "since_gc {}, reclaim_at {}, live_bytes {}", h.since_gc, h.reclaim_at, h.live_bytes)?;
+    writeln!(out, "free slots: {}", list(view.free()))?;
+    writeln!(out, "slots in quarantine: {}", list(view.quarantine()))?;
+    writeln!(out, "sealed handles: {}", h.sealed)?;
+    for handle in view.sealed() {
+        writeln!(out, "    {handle} leads to {}", leads(view, handle))?;
+    }
+    view.objects().try_for_each(|o| object(view, o, out))
+}

@@ -1,0 +1,128 @@
+//! The place at which a text stops being a page, held to the proved reader: there is one exactly where that says 17, nothing that comes after the place can mend it, and no page goes along with the text beyond it.
+mod common;
+use common::{sample, Random};
+use std::fs;
+use std::path::Path;
+use yexwalu::{page_stops, Heap, Refusal};
+
+fn samples() -> Vec<(String, Vec<u8>)> {
+    let folder = Path::new(env!("CARGO_MANIFEST_DIR")).join("../docs/samples");
+    let mut all: Vec<(String, Vec<u8>)> = fs::read_dir(folder)
+        .unwrap()
+        .map(|f| f.unwrap().path())
+        .filter(|p| p.extension().is_some_and(|e| e == "page"))
+        .map(|p| (p.file_name().unwrap().to_string_lossy().into_owned(), fs::read(p).unwrap()))
+        .collect();
+    all.push(("the tests' heap".into(), sample(8, 64).0.write_page().unwrap()));
+    all.sort();
+    all
+}
+
+fn alike(a: &[u8], b: &[u8]) -> usize {
+    a.iter().zip(b).take_while(|(x, y)| x == y).count()
+}
+
+struct Judge {
+    good: Vec<Vec<u8>>,
+    random: Random,
+    refused: usize,
+}
+
+impl Judge {
+    fn new() -> Judge {
+        let pages = samples().into_iter().map(|s| s.1).filter(|text| Heap::open(text).is_ok()).collect();
+        Judge { good: pages, random: Random::new(5), refused: 0 }
+    }
+
+    fn judge(&mut self, text: &[u8], what: &str) {
+        let no_page = Heap::open(text).err() == Some(Refusal::Page);
+        let place = page_stops(text);
+        assert_eq!(place.is_some(), no_page, "{what}");
+        let Some(place) = place else { return };
+        self.refused += 1;
+        let before = &text[..place.offset];
+        assert_eq!(place.line, before.split(|b| *b == b'\n').count(), "{what}");
+        assert_eq!(place.column, before.rsplit(|b| *b == b'\n').next().unwrap().len() + 1, "{what}");
+        for page in &self.good {
+            assert!(place.offset >= alike(text, page), "{what}: {place:?} is too early");
+        }
+        if place.offset == text.len() {
+            return;
+        }
+        for page in &self.good {
+            let from = self.random.below(page.len() as u64 + 1) as usize;
+            for rest in [&page[from..], &page[place.offset.min(page.len())..], &page[(place.offset + 1).min(page.len())..]] {
+                let other = [&text[..place.offset + 1], rest].concat();
+                assert_eq!(Heap::open(&other).err(), Some(Refusal::Page), "{what}: {place:?} is too late");
+            }
+        }
+    }
+}
+
+#[test]
+fn every_sample() {
+    let mut judge = Judge::new();
+    assert!(judge.good.len() > 5);
+    for (name, text) in samples() {
+        judge.judge(&text, &name);
+        assert_eq!(name.starts_with("17-"), page_stops(&text).is_some(), "{name}");
+    }
+}
+
+#[test]
+fn every_sample_cut_short() {
+    let mut judge = Judge::new();
+    for (name, text) in samples() {
+        for n in 0..text.len() {
+            judge.judge(&text[..n], &format!("{name} up to {n}"));
+            if !name.starts_with("17-") {
+                assert_eq!(page_stops(&text[..n]).unwrap().offset, n, "{name}");
+            }
+        }
+    }
+}
+
+#[test]
+fn every_sample_with_a_byte_changed_removed_or_put_in() {
+    let mut judge = Judge::new();
+    for (name, text) in samples() {
+        for i in 0..text.len() {
+            let mut less = text.clone();
+            less.remove(i);
+            judge.judge(&less, &format!("{name} without {i}"));
+            for b in [b'0', b'9', b'a', b'F', b',', b'\n', b'\r', b' ', 255] {
+                let mut other = text.clone();
+                other[i] = b;
+                judge.judge(&other, &format!("{name} with {b} at {i}"));
+                other = text.clone();
+                other.insert(i, b);
+                judge.judge(&other, &format!("{name} with {b} before {i}"));
+            }
+        }
+    }
+    assert!(judge.refused > 10_000);
+}
+
+#[test]
+fn numbers_past_their_width_and_counts() {
+    let page = String::from_utf8(sample(8, 64).0.write_page().unwrap()).unwrap();
+    let mut judge = Judge::new();
+    let most: Vec<String> = [8, 32, 64].iter().map(|bits| ((1u128 << bits) - 1).to_string()).collect();
+    let past: Vec<String> = [8, 32, 64].iter().map(|bits| (1u128 << bits).to_string()).collect();
+    let numbers = most.iter().chain(&past).map(String::as_str).chain(["00", "01", "340282366920938463463374607431768211456"]);
+    for number in numbers {
+        for (i, _) in page.match_indices([',', '\n']).filter(|(i, _)| page[..*i].ends_with(|c: char| c.is_ascii_digit())) {
+            let start = page[..i].rfind([',', '\n']).unwrap() + 1;
+            judge.judge(format!("{}{number}{}", &page[..start], &page[i..]).as_bytes(), &format!("{number} at {start}"));
+        }
+    }
+}
+
+#[test]
+fn noise() {
+    let mut judge = Judge::new();
+    for _ in 0..2000 {
+        let text = judge.random.bytes(200);
+        judge.judge(&text, "noise");
+    }
+}
