@@ -54,8 +54,6 @@ pub enum Wanted {
 /// The code of a function, as the live map reads it: what its instructions write and read, and where they go. Registers and targets that are not there are ignored. At most 65,536 instructions, 4,096 blocks and
 /// 16,384 registers; blocks may not share an instruction. What is not so is refused (15) when the function is used, not before.
 ///
-/// The methods that add something panic past 4,294,967,295 of its sort: there would be no number for it.
-///
 /// ```
 /// use yexwalu::{Class, Function, InstKind, Refusal, Wanted};
 /// let mut f = Function::new();
@@ -102,12 +100,15 @@ impl Function {
         number(self.kinds.len())
     }
 
-    /// A new instruction; the answer is its number. Targets are block numbers; those of a case are its arms, then the default.
+    /// A new instruction; the answer is its number. Targets are block numbers; those of a case are its arms, then the default. Past
+    /// 4,294,967,295 registers and targets in all the function is refused (15).
     pub fn instruction(&mut self, kind: InstKind, writes: &[u32], reads: &[u32], targets: &[u32]) -> u32 {
         let instruction = self.position();
-        self.kinds.push(kind as u8);
+        let fits = self.refs.len() + writes.len() + reads.len() + targets.len() <= u32::MAX as usize;
+        // what has no place any more is left out, and the function is refused: there is no such kind
+        self.kinds.push(if fits { kind as u8 } else { u8::MAX });
         for part in [writes, reads, targets] {
-            self.refs.extend_from_slice(part);
+            self.refs.extend_from_slice(if fits { part } else { &[] });
             self.ends.push(number(self.refs.len()));
         }
         instruction

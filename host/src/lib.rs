@@ -43,7 +43,7 @@ pub use view::{ObjectRef, Objects, View};
 // Answers have 64 bits, and so have sizes where the archive is compiled for: none is cut.
 const _: () = assert!(usize::BITS == 64);
 
-// The number of the next thing of a list that has so many.
+// The number of the next thing of a list that has so many. Where the list has no numbers left it is far past the count at which every call refuses it, so the last one does.
 fn number(length: usize) -> u32 {
-    u32::try_from(length).expect("numbers have 32 bits")
+    u32::try_from(length).unwrap_or(u32::MAX)
 }

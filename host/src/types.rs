@@ -14,8 +14,6 @@ pub const NO_CONSTANT: ConstId = u32::MAX;
 /// its values can't be traced (13). At most 4,096 types, 16,384 fields and 4,096 constants; a type may not unfold into more than 65,536 parts. What is not so is refused (10) when the table is used,
 /// not before.
 ///
-/// The methods that add something panic past 4,294,967,295 of its sort: there would be no number for it.
-///
 /// ```
 /// use yexwalu::{TypeTable, Refusal, descriptor, Direction};
 /// let mut table = TypeTable::new();

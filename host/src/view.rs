@@ -79,6 +79,11 @@ impl<'a> View<'a> {
         self.memory.quarantine()[..self.header.quarantine].iter().map(|i| Slot(*i))
     }
 
+    /// The dead slots that are given out no more.
+    pub fn retired(&self) -> impl ExactSizeIterator<Item = Slot> + 'a {
+        self.memory.retired()[..self.header.retired].iter().map(|i| Slot(*i))
+    }
+
     /// The handles that were sealed, in slot order.
     pub fn sealed(&self) -> impl ExactSizeIterator<Item = Handle> + 'a {
         self.memory.sealed()[..self.header.sealed].iter().map(|h| Handle(*h))

@@ -257,6 +257,7 @@ fn an_object_beyond_all_memory_is_1() {
 }
 
 // The calls on a handle, each one with the output that it needs, and a slot's bytes that the pool has no room for.
+#[allow(clippy::type_complexity)]
 const ON_A_HANDLE: [(&str, fn(&mut Heap, Handle) -> Result<(), Refusal>); 4] = [
     ("resolve", |h, x| h.resolve(x).map(drop)),
     ("edit", |h, x| h.edit(x, &[0; 999], 0).map(drop)),

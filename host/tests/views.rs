@@ -75,8 +75,8 @@ fn compare(heap: &Heap, handles: &[Handle], table: &TypeTable) -> usize {
         assert_eq!(view.resolve(handle).map(|o| o.slot()), heap.resolve(handle), "{handle}");
     }
     assert_eq!((view.free().len(), view.quarantine().len(), view.sealed().len()), (heap.header().free, heap.header().quarantine, heap.header().sealed));
-    assert!(view.free().chain(view.quarantine()).all(|slot| view.object(slot).is_none()));
-    assert_eq!(view.free().len() + view.quarantine().len() + live, slots as usize);
+    assert!(view.free().chain(view.quarantine()).chain(view.retired()).all(|slot| view.object(slot).is_none()));
+    assert_eq!(view.free().len() + view.quarantine().len() + view.retired().len() + live, slots as usize);
     live
 }
 

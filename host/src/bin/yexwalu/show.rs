@@ -74,6 +74,9 @@ pub fn print(view: View, out: &mut impl Write) -> io::Result<()> {
     writeln!(out, "since_gc {}, reclaim_at {}, live_bytes {}", h.since_gc, h.reclaim_at, h.live_bytes)?;
     writeln!(out, "free slots: {}", list(view.free()))?;
     writeln!(out, "slots in quarantine: {}", list(view.quarantine()))?;
+    if h.retired > 0 {
+        writeln!(out, "retired slots: {}", list(view.retired()))?;
+    }
     writeln!(out, "sealed handles: {}", h.sealed)?;
     for handle in view.sealed() {
         writeln!(out, "    {handle} leads to {}", leads(view, handle))?;
