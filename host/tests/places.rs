@@ -49,7 +49,8 @@ impl Judge {
         if place.offset == text.len() {
             return;
         }
-        for page in &self.good {
+        for _ in 0..2 {
+            let page = &self.good[self.random.below(self.good.len() as u64) as usize];
             let from = self.random.below(page.len() as u64 + 1) as usize;
             for rest in [&page[from..], &page[place.offset.min(page.len())..], &page[(place.offset + 1).min(page.len())..]] {
                 let other = [&text[..place.offset + 1], rest].concat();
