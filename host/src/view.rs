@@ -1,10 +1,10 @@
-use crate::{Handle, Header, Heap, Kind, Memory, Refusal, Slot, Stamp, TypeTable};
+use crate::{Handle, Header, Heap, Kind, Refusal, Slot, Stamp, TypeTable};
 use std::iter::FusedIterator;
 
 /// A heap that was checked once, for reading many of its objects. A call on a [`Heap`] checks all of it each time; here one call does ([`Heap::view`]), and as long as the view is there the heap
 /// can't be changed. So all objects of a large heap are read in the time of one check and one pass.
 ///
-/// What a view says is read off the memory as [`Memory`] describes it, by code that is not proved. Tests hold it to the calls: for every slot and handle it says what `Heap::kind`, `stamp`, `data`,
+/// What a view says is read off the memory as [`Memory`](crate::Memory) describes it, by code that is not proved. Tests hold it to the calls: for every slot and handle it says what `Heap::kind`, `stamp`, `data`,
 /// `resolve` and `slot_handles` do.
 ///
 /// ```
@@ -21,7 +21,19 @@ use std::iter::FusedIterator;
 #[derive(Clone, Copy, Debug)]
 pub struct View<'a> {
     header: &'a Header,
-    memory: &'a Memory,
+    // of each slot
+    generation: &'a [u32],
+    kind: &'a [u32],
+    ty: &'a [u32],
+    start: &'a [u64],
+    end: &'a [u64],
+    writes: &'a [u64],
+    pool: &'a [u8],
+    // what is in use of each list
+    free: &'a [u32],
+    quarantine: &'a [u32],
+    retired: &'a [u32],
+    sealed: &'a [u64],
 }
 
 impl Heap {
@@ -29,9 +41,20 @@ impl Heap {
     pub fn view(&self) -> Result<View<'_>, Refusal> {
         // the cheapest question: what is wanted is that it is answered
         self.slots()?;
+        let (h, m) = (self.header(), self.memory());
         Ok(View {
-            header: self.header(),
-            memory: self.memory(),
+            header: h,
+            generation: &m.generation()[..h.slots],
+            kind: &m.kind()[..h.slots],
+            ty: &m.ty()[..h.slots],
+            start: &m.start()[..h.slots],
+            end: &m.end()[..h.slots],
+            writes: &m.writes()[..h.slots],
+            pool: &m.pool,
+            free: &m.free()[..h.free],
+            quarantine: &m.quarantine()[..h.quarantine],
+            retired: &m.retired()[..h.retired],
+            sealed: &m.sealed()[..h.sealed],
         })
     }
 }
@@ -50,8 +73,23 @@ impl<'a> View<'a> {
     /// The object of a slot; none where the slot is not there or dead.
     pub fn object(&self, slot: impl Into<Slot>) -> Option<ObjectRef<'a>> {
         let slot = slot.into();
-        let live = slot.at() < self.header.slots && self.memory.kind()[slot.at()] != 0;
-        live.then_some(ObjectRef { view: *self, slot })
+        let i = slot.at();
+        let kind = *self.kind.get(i)?;
+        if kind == 0 {
+            return None;
+        }
+        let from = if i == 0 { 0 } else { self.end[i - 1] };
+        Some(ObjectRef {
+            tag: self.header.tag,
+            slot,
+            kind: Kind::of(kind.into(), self.ty[i].into()),
+            stamp: Stamp {
+                generation: self.generation[i],
+                writes: self.writes[i],
+            },
+            start: self.start[i],
+            bytes: &self.pool[from as usize..self.end[i] as usize],
+        })
     }
 
     /// The object that a handle leads to. It is refused as by [`Heap::resolve`]: null (2), wrong heap (3), never issued (19), stale (4).
@@ -65,28 +103,28 @@ impl<'a> View<'a> {
         if handle.index() as usize >= self.header.slots {
             return Err(Refusal::NeverIssued);
         }
-        let found = self.object(handle.index()).filter(|o| o.stamp().generation == handle.generation());
+        let found = self.object(handle.index()).filter(|o| o.handle() == handle);
         found.ok_or(Refusal::Stale)
     }
 
     /// The dead slots that may be given out; the last one is next.
     pub fn free(&self) -> impl ExactSizeIterator<Item = Slot> + 'a {
-        self.memory.free()[..self.header.free].iter().map(|i| Slot(*i))
+        self.free.iter().map(|i| Slot(*i))
     }
 
     /// The dead slots that wait for `Heap::recycle`.
     pub fn quarantine(&self) -> impl ExactSizeIterator<Item = Slot> + 'a {
-        self.memory.quarantine()[..self.header.quarantine].iter().map(|i| Slot(*i))
+        self.quarantine.iter().map(|i| Slot(*i))
     }
 
     /// The dead slots that are given out no more.
     pub fn retired(&self) -> impl ExactSizeIterator<Item = Slot> + 'a {
-        self.memory.retired()[..self.header.retired].iter().map(|i| Slot(*i))
+        self.retired.iter().map(|i| Slot(*i))
     }
 
     /// The handles that were sealed, in slot order.
     pub fn sealed(&self) -> impl ExactSizeIterator<Item = Handle> + 'a {
-        self.memory.sealed()[..self.header.sealed].iter().map(|h| Handle(*h))
+        self.sealed.iter().map(|h| Handle(*h))
     }
 }
 
@@ -128,10 +166,14 @@ impl<'a> Iterator for Objects<'a> {
 impl FusedIterator for Objects<'_> {}
 
 /// A live object of a heap that is read.
-#[derive(Clone, Copy, Debug)]
+#[derive(Clone, Copy, Debug, PartialEq, Eq)]
 pub struct ObjectRef<'a> {
-    view: View<'a>,
+    tag: u8,
     slot: Slot,
+    kind: Kind,
+    stamp: Stamp,
+    start: u64,
+    bytes: &'a [u8],
 }
 
 impl<'a> ObjectRef<'a> {
@@ -142,39 +184,32 @@ impl<'a> ObjectRef<'a> {
 
     /// The handle that leads to it.
     pub fn handle(&self) -> Handle {
-        Handle(u64::from(self.view.header.tag) << 56 | u64::from(self.slot) << 32 | u64::from(self.stamp().generation))
+        Handle(u64::from(self.tag) << 56 | u64::from(self.slot) << 32 | u64::from(self.stamp.generation))
     }
 
     /// Its kind.
     pub fn kind(&self) -> Kind {
-        let m = self.view.memory;
-        Kind::of(m.kind()[self.slot.at()].into(), m.ty()[self.slot.at()].into())
+        self.kind
     }
 
     /// Its slot's generation and its write count.
     pub fn stamp(&self) -> Stamp {
-        let m = self.view.memory;
-        Stamp {
-            generation: m.generation()[self.slot.at()],
-            writes: m.writes()[self.slot.at()],
-        }
+        self.stamp
     }
 
     /// All its bytes, those before the start too.
     pub fn bytes(&self) -> &'a [u8] {
-        let (end, i) = (self.view.memory.end(), self.slot.at());
-        let from = if i == 0 { 0 } else { end[i - 1] };
-        &self.view.memory.pool[from as usize..end[i] as usize]
+        self.bytes
     }
 
     /// From which of its bytes on it is visible. Any number: beyond the bytes nothing is.
     pub fn start(&self) -> u64 {
-        self.view.memory.start()[self.slot.at()]
+        self.start
     }
 
     /// What is visible of it; none where the start lies beyond its bytes.
     pub fn data(&self) -> Option<&'a [u8]> {
-        self.bytes().get(usize::try_from(self.start()).ok()?..)
+        self.bytes.get(usize::try_from(self.start).ok()?..)
     }
 
     /// The handles that it shows, in the order in which they are traced, as by [`Heap::slot_handles`]: an object of a type by that type, one of handles by offset, one of bytes none. The table is
