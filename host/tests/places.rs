@@ -1,4 +1,4 @@
-//! The place at which a text stops being a page, held to the proved reader: there is one exactly where that says 17, nothing that comes after the place can mend it, and no page goes along with the text beyond it.
+//! The place at which a text stops being a page, held to the proved reader: there is one exactly where that says 17; what stands before the place goes on to a page; with the byte at the place nothing that follows mends it.
 mod common;
 use common::{sample, Random};
 use std::fs;
@@ -22,16 +22,87 @@ fn alike(a: &[u8], b: &[u8]) -> usize {
     a.iter().zip(b).take_while(|(x, y)| x == y).count()
 }
 
+// Goes on from the beginning of a page to its end, line by line. None where so many lines are announced that they are not written.
+struct Ending<'a> {
+    begun: std::str::Split<'a, char>,
+    page: String,
+}
+
+impl Ending<'_> {
+    // The next line: what is there of it, and the rest that `end` finds where it is the last one.
+    fn line(&mut self, end: impl Fn(&str) -> String) -> String {
+        let begun = self.begun.next().unwrap_or_default();
+        let last = self.begun.clone().next().is_none();
+        let line = if last { end(begun) } else { begun.into() };
+        self.page.push_str(&line);
+        self.page.push('\n');
+        line
+    }
+
+    fn names(&mut self, forms: &[String]) -> String {
+        self.line(|begun| forms.iter().find(|f| f.starts_with(begun)).unwrap().clone())
+    }
+}
+
+// So many numbers with commas between them.
+fn numbers(begun: &str, count: usize) -> String {
+    let mut line = begun.to_string();
+    if line.is_empty() || (line.ends_with(',') && line.matches(',').count() < count) {
+        line.push('0');
+    }
+    while line.matches(',').count() + 1 < count {
+        line.push_str(",0");
+    }
+    line
+}
+
+fn slot(begun: &str) -> String {
+    let mut line = begun.to_string();
+    if line.matches(',').count() < 5 {
+        line = numbers(begun, 5) + ",";
+    }
+    if line.rsplit(',').next().unwrap().len() % 2 == 1 {
+        line.push('0');
+    }
+    line
+}
+
+fn ended(begun: &str, forms: &[Vec<String>; 2]) -> Option<String> {
+    let mut ending = Ending { begun: begun.split('\n'), page: String::new() };
+    let head = ending.names(&forms[0]);
+    let names: Vec<&str> = head.split(',').collect();
+    let line = ending.line(|begun| numbers(begun, names.len()));
+    let counts: Vec<u64> = line.split(',').map(|n| n.parse().unwrap()).collect();
+    ending.names(&forms[1]);
+    let lists = names.iter().zip(counts).skip_while(|(name, _)| **name != "slots");
+    for (name, count) in lists {
+        if count > 1000 {
+            return None;
+        }
+        if *name != "slots" {
+            ending.names(&[name.to_string()]);
+        }
+        for _ in 0..count {
+            ending.line(|begun| if *name == "slots" { slot(begun) } else { numbers(begun, 1) });
+        }
+    }
+    Some(ending.page)
+}
+
 struct Judge {
     good: Vec<Vec<u8>>,
+    // the lines of names that they have, of the head and of a slot
+    forms: [Vec<String>; 2],
     random: Random,
     refused: usize,
+    ended: usize,
 }
 
 impl Judge {
     fn new() -> Judge {
-        let pages = samples().into_iter().map(|s| s.1).filter(|text| Heap::open(text).is_ok()).collect();
-        Judge { good: pages, random: Random::new(5), refused: 0 }
+        let good: Vec<Vec<u8>> = samples().into_iter().map(|s| s.1).filter(|text| Heap::open(text).is_ok()).collect();
+        let forms = [0, 2].map(|i| good.iter().map(|page| String::from_utf8(page.clone()).unwrap().lines().nth(i).unwrap().to_string()).collect());
+        Judge { good, forms, random: Random::new(5), refused: 0, ended: 0 }
     }
 
     fn judge(&mut self, text: &[u8], what: &str) {
@@ -43,6 +114,11 @@ impl Judge {
         let before = &text[..place.offset];
         assert_eq!(place.line, before.split(|b| *b == b'\n').count(), "{what}");
         assert_eq!(place.column, before.rsplit(|b| *b == b'\n').next().unwrap().len() + 1, "{what}");
+        if let Some(page) = ended(std::str::from_utf8(before).unwrap(), &self.forms) {
+            assert!(page.as_bytes().starts_with(before), "{what}");
+            assert_ne!(Heap::open(page.as_bytes()).err(), Some(Refusal::Page), "{what}: {place:?} is too late, no page begins so");
+            self.ended += 1;
+        }
         for page in &self.good {
             assert!(place.offset >= alike(text, page), "{what}: {place:?} is too early");
         }
@@ -54,7 +130,7 @@ impl Judge {
             let from = self.random.below(page.len() as u64 + 1) as usize;
             for rest in [&page[from..], &page[place.offset.min(page.len())..], &page[(place.offset + 1).min(page.len())..]] {
                 let other = [&text[..place.offset + 1], rest].concat();
-                assert_eq!(Heap::open(&other).err(), Some(Refusal::Page), "{what}: {place:?} is too late");
+                assert_eq!(Heap::open(&other).err(), Some(Refusal::Page), "{what}: {place:?} is too early, this goes on to a page");
             }
         }
     }
@@ -101,7 +177,7 @@ fn every_sample_with_a_byte_changed_removed_or_put_in() {
             }
         }
     }
-    assert!(judge.refused > 10_000);
+    assert!(judge.refused > 10_000 && judge.ended > 10_000);
 }
 
 #[test]
