@@ -251,18 +251,48 @@ fn shelf_prints_what_the_proved_program_prints() {
     fs::remove_file(input).unwrap();
 }
 
-#[test]
-fn a_large_page() {
+// A page of more than 4 MB, in a file of this test's own.
+fn large(name: &str) -> (String, usize) {
     let count = 100_000;
     let mut heap = Heap::new(1, count, 32 * count).unwrap();
     heap.run(format!("alloc,0,2,{}\n", "5a".repeat(32)).repeat(count).as_bytes()).unwrap();
     let page = heap.write_page().unwrap();
     assert!(page.len() > 4 << 20);
-    let path = file("large.page", &page);
+    (file(name, &page), page.len())
+}
+
+#[test]
+fn a_large_page() {
+    let (path, length) = large("large.page");
     let ran = run(&["check", &path]);
     // nothing of the progress: standard error is no terminal here
     assert_eq!((ran.status, ran.out, ran.err), (0, format!("{path}: accepted\n"), String::new()));
-    assert_eq!(run(&["length", &path]).out, format!("{}\n", page.len()));
+    assert_eq!(run(&["length", &path]).out, format!("{length}\n"));
+    fs::remove_file(path).unwrap();
+}
+
+// `script` gives a command a terminal.
+#[test]
+fn progress_on_a_terminal() {
+    let on_terminal = |path: &str| {
+        let command = format!("'{}' check '{path}'", env!("CARGO_BIN_EXE_yexwalu"));
+        let done = Command::new("script").args(["-qec", &command, "/dev/null"]).stdin(Stdio::null()).output();
+        done.map(|d| (d.status.code(), String::from_utf8(d.stdout).unwrap()))
+    };
+    let small = samples("bytes.page");
+    let Ok((_, out)) = on_terminal(&small) else {
+        println!("no program `script`: not tried");
+        return;
+    };
+    assert_eq!(out, format!("{small}: accepted\r\n"));
+    let (path, length) = large("progress.page");
+    let (status, out) = on_terminal(&path).unwrap();
+    let mb = length >> 20;
+    assert_eq!(status, Some(0));
+    for part in [format!("{path}: 4 of {mb} MB read"), format!("{path}: checking {mb} MB")] {
+        assert!(out.contains(&part), "{part} in {out:?}");
+    }
+    assert!(out.ends_with(&format!("\r\x1b[K{path}: accepted\r\n")), "{out:?}");
     fs::remove_file(path).unwrap();
 }
 

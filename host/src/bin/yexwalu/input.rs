@@ -3,8 +3,8 @@ use std::fs::File;
 use std::io::{self, IsTerminal, Read, Write};
 
 // From so many bytes on a person is told that it goes on.
-const LARGE: u64 = 4 << 20;
-const PIECE: usize = 1 << 20;
+const LARGE: usize = 4 << 20;
+const PIECE: u64 = 1 << 20;
 
 /// The bytes of a file, and its name.
 pub struct Text {
@@ -42,18 +42,13 @@ impl Text {
     }
 
     fn read_from(name: &str, mut from: impl Read, size: Option<u64>) -> io::Result<Text> {
+        let of = size.map(|s| format!(" of {}", s >> 20)).unwrap_or_default();
         let mut bytes = Vec::new();
-        loop {
-            let n = (&mut from).take(PIECE as u64).read_to_end(&mut bytes)?;
-            if n == 0 {
-                break;
-            }
-            if bytes.len() as u64 >= LARGE {
-                let of = size.map(|s| format!(" of {}", s >> 20)).unwrap_or_default();
+        while from.by_ref().take(PIECE).read_to_end(&mut bytes)? > 0 {
+            if bytes.len() >= LARGE {
                 tell(&format!("{}: {}{of} MB read", shown(name), bytes.len() >> 20));
             }
         }
-        tell("");
         Ok(Text { name: name.into(), bytes })
     }
 
@@ -61,9 +56,9 @@ impl Text {
         &self.bytes
     }
 
-    /// Does some work on the bytes; if they are many, says so as long as it lasts.
+    /// Does some work on the bytes; if they are many, says so as long as it lasts, and then clears the line.
     pub fn working<T>(&self, what: &str, work: impl Fn(&[u8]) -> T) -> T {
-        if (self.bytes.len() as u64) < LARGE {
+        if self.bytes.len() < LARGE {
             return work(&self.bytes);
         }
         tell(&format!("{}: {what} {} MB", shown(&self.name), self.bytes.len() >> 20));
