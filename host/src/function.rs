@@ -136,6 +136,19 @@ impl Function {
     }
 
     /// The registers that are live before a safepoint, rising. It is refused where the function is not in order (15), or `pc` is no safepoint of a block (16).
+    ///
+    /// ```
+    /// use yexwalu::{Class, Function, InstKind, Refusal, Wanted};
+    /// let mut f = Function::new();
+    /// let (hall, count) = (f.register(Class::Handle), f.register(Class::I64));
+    /// let call = f.instruction(InstKind::Safepoint, &[], &[], &[]);
+    /// f.instruction(InstKind::Return, &[], &[hall, count], &[]);
+    /// f.block(0, 2);
+    /// assert_eq!(f.live_at(call, Wanted::References)?, [hall]);
+    /// assert_eq!(f.live_at(call, Wanted::All)?, [hall, count]);
+    /// assert_eq!(f.live_at(1, Wanted::All), Err(Refusal::NoMap));
+    /// # Ok::<(), Refusal>(())
+    /// ```
     pub fn live_at(&self, pc: u32, wanted: Wanted) -> Result<Vec<u32>, Refusal> {
         let f = self.within_counts();
         let mut regs = vec![0; f.classes.len()];

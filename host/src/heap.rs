@@ -304,6 +304,15 @@ impl Heap {
 
     /// Places an object; the answer is its handle. It is refused where the pool has too few bytes left (6), or no slot is left (5); the latter still counts its bytes as used since the last
     /// collection.
+    ///
+    /// ```
+    /// use yexwalu::{Heap, Kind, Refusal};
+    /// let mut heap = Heap::new(1, 64, 4096)?;
+    /// let hall = heap.alloc(Kind::Bytes, b"AB")?;
+    /// assert_eq!((hall.tag(), hall.index(), hall.generation()), (1, 0, 1));
+    /// assert_eq!(heap.alloc(Kind::Bytes, &[0; 4095]), Err(Refusal::NoRoom));
+    /// # Ok::<(), Refusal>(())
+    /// ```
     pub fn alloc(&mut self, kind: Kind, bytes: &[u8]) -> Result<Handle, Refusal> {
         let (k, t) = kind.numbers();
         let done = change!(&mut self.memory, self.scratch.get_mut(), yexwalu_alloc(self.header)(k, t, bytes.as_ptr(), bytes.len()));
@@ -311,6 +320,15 @@ impl Heap {
     }
 
     /// As `alloc`, but only the bytes from `start` on are visible. A start beyond the bytes is taken: then nothing is visible.
+    ///
+    /// ```
+    /// use yexwalu::{Heap, Kind, Refusal};
+    /// let mut heap = Heap::new(1, 64, 4096)?;
+    /// let line = heap.alloc_from(Kind::Bytes, 2, b"..hall")?;
+    /// assert_eq!(heap.data(heap.resolve(line)?)?, b"hall");
+    /// assert_eq!(heap.take(line)?.bytes, b"..hall");
+    /// # Ok::<(), Refusal>(())
+    /// ```
     pub fn alloc_from(&mut self, kind: Kind, start: usize, bytes: &[u8]) -> Result<Handle, Refusal> {
         let (k, t) = kind.numbers();
         self.alloc_raw(k, t, start, bytes)
@@ -332,6 +350,16 @@ impl Heap {
     }
 
     /// Takes an object out of the heap. Its slot goes into quarantine, until `recycle`. It is refused where the handle does not lead to one (2, 3, 19, 4).
+    ///
+    /// ```
+    /// use yexwalu::{Heap, Kind, Refusal};
+    /// let mut heap = Heap::new(1, 64, 4096)?;
+    /// let hall = heap.alloc(Kind::Bytes, b"AB")?;
+    /// let object = heap.take(hall)?;
+    /// assert_eq!((object.bytes, object.start), (b"AB".to_vec(), 0));
+    /// assert_eq!(heap.take(hall), Err(Refusal::Stale));
+    /// # Ok::<(), Refusal>(())
+    /// ```
     pub fn take(&mut self, handle: Handle) -> Result<Object, Refusal> {
         let mut bytes = vec![0; self.size_of(handle.index() as usize)];
         let (size, start) = self.take_into(handle, &mut bytes)?;
@@ -353,6 +381,20 @@ impl Heap {
     }
 
     /// Slots in quarantine join the free list, but those pinned: slot indices, strictly rising (14), of which some may be of no slot.
+    ///
+    /// ```
+    /// use yexwalu::{Heap, Kind, Refusal};
+    /// let mut heap = Heap::new(1, 64, 4096)?;
+    /// let hall = heap.alloc(Kind::Bytes, b"AB")?;
+    /// heap.free(hall)?;
+    /// heap.recycle(&[0])?;
+    /// assert!(heap.has_quarantine()?);
+    /// heap.recycle(&[])?;
+    /// // the slot is given out again, under another handle
+    /// assert_eq!(heap.alloc(Kind::Bytes, b"CD")?.index(), hall.index());
+    /// assert_eq!(heap.recycle(&[2, 1]), Err(Refusal::Pins));
+    /// # Ok::<(), Refusal>(())
+    /// ```
     pub fn recycle(&mut self, pins: &[u32]) -> Result<(), Refusal> {
         let done = change!(&mut self.memory, self.scratch.get_mut(), yexwalu_recycle(self.header)(pins.as_ptr(), pins.len()));
         self.done(done).map(|_| ())
@@ -399,6 +441,16 @@ impl Heap {
     }
 
     /// The seals become the handles of all live slots: collections keep what these lead to.
+    ///
+    /// ```
+    /// use yexwalu::{Heap, Kind, Refusal, TypeTable};
+    /// let mut heap = Heap::new(1, 64, 4096)?;
+    /// let hall = heap.alloc(Kind::Bytes, b"AB")?;
+    /// heap.seal()?;
+    /// heap.collect(&TypeTable::new(), &[], &[])?;
+    /// assert!(heap.resolve(hall).is_ok());
+    /// # Ok::<(), Refusal>(())
+    /// ```
     pub fn seal(&mut self) -> Result<(), Refusal> {
         let done = change!(&mut self.memory, self.scratch.get_mut(), yexwalu_seal(self.header)());
         self.done(done).map(|_| ())
@@ -532,6 +584,15 @@ impl Heap {
     }
 
     /// Is a collection due: was more allocated since the last one than the threshold, and than it left?
+    ///
+    /// ```
+    /// use yexwalu::{Heap, Kind, Refusal};
+    /// let mut heap = Heap::new(1, 64, 4096)?;
+    /// heap.alloc(Kind::Bytes, b"AB")?;
+    /// // 2 bytes, and 32 for the object
+    /// assert_eq!((heap.gc_due(33)?, heap.gc_due(34)?), (true, false));
+    /// # Ok::<(), Refusal>(())
+    /// ```
     pub fn gc_due(&self, threshold: u64) -> Result<bool, Refusal> {
         Heap::yes(ask!(self, yexwalu_gc_due(threshold)))
     }
@@ -577,6 +638,16 @@ impl Heap {
     }
 
     /// Where the visible data of a slot lies in the pool. It is refused (9) where the slot is not there or dead, or nothing is visible.
+    ///
+    /// ```
+    /// use yexwalu::{Heap, Kind, Refusal};
+    /// let mut heap = Heap::new(1, 64, 4096)?;
+    /// heap.alloc(Kind::Bytes, b"first")?;
+    /// heap.alloc_from(Kind::Bytes, 2, b"second")?;
+    /// assert_eq!(heap.place(1)?, 7..11);
+    /// assert_eq!(&heap.memory().pool[7..11], b"cond");
+    /// # Ok::<(), Refusal>(())
+    /// ```
     pub fn place(&self, slot: impl Into<Slot>) -> Result<Range<usize>, Refusal> {
         let (from, size) = Heap::pair(ask!(self, yexwalu_data(slot.into().at())))?;
         Ok(from as usize..from as usize + size as usize)
@@ -589,12 +660,32 @@ impl Heap {
     }
 
     /// The kind of a slot's object; a slot that is not there or dead is refused (9).
+    ///
+    /// ```
+    /// use yexwalu::{Heap, Kind, Refusal};
+    /// let mut heap = Heap::new(1, 64, 4096)?;
+    /// heap.alloc(Kind::Typed(3), b"AB")?;
+    /// assert_eq!(heap.kind(0)?, Kind::Typed(3));
+    /// assert_eq!(heap.kind(1), Err(Refusal::NothingThere));
+    /// # Ok::<(), Refusal>(())
+    /// ```
     pub fn kind(&self, slot: impl Into<Slot>) -> Result<Kind, Refusal> {
         let (kind, ty) = Heap::pair(ask!(self, yexwalu_kind(slot.into().at())))?;
         Ok(Kind::of(kind, ty))
     }
 
     /// The generation and the write count of a slot; one that is not there or dead is refused (9).
+    ///
+    /// ```
+    /// use yexwalu::{Heap, Kind, Refusal};
+    /// let mut heap = Heap::new(1, 64, 4096)?;
+    /// let hall = heap.alloc(Kind::Bytes, b"AB")?;
+    /// let before = heap.stamp(0)?;
+    /// heap.write(0, 0, b"a")?;
+    /// assert_eq!(heap.stamp(0)?.writes, before.writes + 1);
+    /// assert_eq!(heap.stamp(0)?.generation, hall.generation());
+    /// # Ok::<(), Refusal>(())
+    /// ```
     pub fn stamp(&self, slot: impl Into<Slot>) -> Result<Stamp, Refusal> {
         let (generation, writes) = Heap::pair(ask!(self, yexwalu_stamp(slot.into().at())))?;
         Ok(Stamp {
@@ -674,6 +765,17 @@ impl Heap {
 
     /// The heap of a page, in new memory for so many objects and bytes of data, as `new` takes them. It is refused where the text is no page (17), what it shows is no heap or the sizes are out
     /// of range (1), and where the heap has more data (6) or more slots (5).
+    ///
+    /// ```
+    /// use yexwalu::{Heap, Kind, Refusal};
+    /// let mut heap = Heap::new(1, 64, 4096)?;
+    /// heap.alloc(Kind::Bytes, b"AB")?;
+    /// let page = heap.write_page()?;
+    /// assert_eq!(Heap::read_page(64, 4096, &page)?.memory(), heap.memory());
+    /// assert_eq!(Heap::read_page(64, 1, &page), Err(Refusal::NoRoom));
+    /// assert_eq!(Heap::read_page(64, 4096, &page[1..]), Err(Refusal::Page));
+    /// # Ok::<(), Refusal>(())
+    /// ```
     pub fn read_page(slots: usize, pool: usize, text: &[u8]) -> Result<Heap, Refusal> {
         let (memory, scratch) = Heap::memory_for(slots, pool);
         let mut heap = Heap::from_parts(Header::default(), memory, scratch);
