@@ -40,7 +40,8 @@ impl fmt::Display for Place {
 /// heap.alloc(Kind::Bytes, b"AB")?;
 /// let mut page = heap.write_page()?;
 /// assert_eq!(page_stops(&page), None);
-/// page[66] = b'x';
+/// let second = page.iter().position(|b| *b == b'\n').unwrap() + 1;
+/// page[second + 2] = b'x';
 /// assert_eq!(page_stops(&page).unwrap().to_string(), "line 2, column 3");
 /// # Ok::<(), Refusal>(())
 /// ```

@@ -70,7 +70,8 @@ fn check_says_number_word_and_place() {
         let ran = run_with(&["check", "-"], page.replace(old, new).as_bytes());
         assert_eq!((ran.status, ran.out, ran.err), (1, format!("standard input: {word}\n"), String::new()));
     }
-    let ran = run_with(&["check", "-"], &page.as_bytes()[..70]);
+    let second = page.find('\n').unwrap() + 1;
+    let ran = run_with(&["check", "-"], &page.as_bytes()[..second + 6]);
     assert_eq!(ran.out, "standard input: 17 page: no page from line 2, column 7 on\n");
 }
 
