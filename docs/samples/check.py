@@ -4,11 +4,13 @@
 1. Each sample is answered as its name says: 17-.., 1-.. and 10-.. are refused so, the others are taken.
 2. Pages, the samples and each of them with one byte changed, removed, doubled or put in, are answered alike by both (`load`), and an accepted one is printed again (`page`) to the same bytes, one of the earlier form with the names line of
    the slots replaced.
-3. Layouts and traced handles of the types of the tables, and of random ones, under random descriptors and values are alike (`layout`, `objh`).
-4. The grammar of docs/FORMAT.md, as a regular expression, with the counts and widths beside it, says of every one of these pages, and of tables changed in the same ways, whether it is one, as reader.py does;
+3. Tables, changed in the same ways, are answered alike by both (`readtable`), and an accepted one is written again (`writetable`) to the same bytes.
+4. Pages and tables, those of the samples and random ones, are held against each other alike (`traceable`).
+5. Layouts and traced handles of the types of the tables, and of random ones, under random descriptors and values are alike (`layout`, `objh`).
+6. The grammar of docs/FORMAT.md, as a regular expression, with the counts and widths beside it, says of every one of these pages, and of tables changed in the same ways, whether it is one, as reader.py does;
    a table that is taken is printed again to the same bytes.
-5. The examples and digests of docs/FORMAT.md are these files'.
-6. How many changed pages are taken all the same is printed, since a page has no checksum.
+7. The examples and digests of docs/FORMAT.md are these files'.
+8. How many changed pages are taken all the same is printed, since a page has no checksum.
 Byte 10 is `;` on a line for replay; a page in which `;`, blank or byte 0 would stand, or one past 60,000 bytes, is left out. It ends with 1 if anything differs."""
 import glob
 import hashlib
@@ -62,6 +64,47 @@ def pages(replay, turns):
             wrong += 1
             print("differ:", t[:300], loaded, mine)
     print(f"pages: {len(texts)} alike but for {wrong}; {taken} of them are taken")
+    return wrong
+
+
+def tables(replay, turns):
+    texts = []
+    for f in sorted(glob.glob(here + "/*.table")):
+        text = open(f, "rb").read()
+        texts += [text] + list(damaged(text, turns))
+    texts = [t for t in texts if not set(t) & {0, 13, 59} and max(t) < 128 and len(t) < 60000]
+    lines, mine = [], []
+    for t in texts:
+        lines.append(b"readtable " + t.replace(b"\n", b";"))
+        mine.append(reader.answer(t))
+        names = "" if mine[-1] else "".join(row[-1] + ";" for rows in list(reader.read_table(t).values())[:3] for row in rows)
+        lines.append(b"writetable " + names.encode())
+    got, wrong = ask(replay, lines), 0
+    for t, told, loaded, again in zip(texts, mine, got[::2], got[1::2]):
+        if str(told).encode() != loaded.split(b" ")[0] or (told == 0 and again != b"0 " + t.replace(b"\n", b";")):
+            wrong += 1
+            print("differ:", t[:300], loaded, told)
+    print(f"tables: {len(texts)} alike but for {wrong}; {mine.count(0)} of them are taken")
+    return wrong
+
+
+def together(replay, turns):
+    wrong, asked, fit = 0, 0, 0
+    good = [reader.read_table(open(f, "rb").read()) for f in sorted(glob.glob(here + "/[a-z]*.table"))]
+    good += [t for t in (random_table() for _ in range(turns)) if reader.good_table(t)]
+    lines, mine = [], []
+    for f in sorted(glob.glob(here + "/[a-z]*.page")):
+        text = open(f, "rb").read()
+        for table in good:
+            slot = reader.fits(reader.read_page(text), table)
+            lines += [b"load 64 " + text.replace(b"\n", b";"), b"readtable " + printed(table).replace(b"\n", b";"), b"traceable"]
+            mine.append("0" if slot is None else f"13 {slot}")
+    for g, m in zip(ask(replay, lines)[2::3], mine):
+        asked, fit = asked + 1, fit + (m == "0")
+        if g.decode() != m:
+            wrong += 1
+            print("together:", g, m)
+    print(f"pages and tables together: {asked} alike but for {wrong}; {fit} of them fit")
     return wrong
 
 
@@ -198,6 +241,8 @@ def main(replay, seed):
             wrong += 1
             print("sample:", name, told)
     wrong += pages(replay, 400)
+    wrong += tables(replay, 400)
+    wrong += together(replay, 100)
     wrong += grammar(400)
     wrong += layouts(replay, 400)
     sys.exit(1 if wrong else 0)

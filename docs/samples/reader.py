@@ -6,8 +6,7 @@
     reader.py answer FILE..         the number that a reader tells of each file: 0, 17, 1 or 10
 
 Section numbers are FORMAT.md's. Every number of a file is checked before it is used: a damaged file may have any count."""
-import struct
-import sys
+import struct, sys
 
 NO_CONSTANT = 4294967295
 KINDS = ["dead", "Typed", "Bytes", "Handles"]
@@ -42,11 +41,10 @@ class Lines:
 
     def names(self, known):
         """The names of a names line, if it is one that is known."""
-        line = self.next()
-        for names in known:
-            if line == ",".join(names).encode():
-                return names
-        raise Refused(17)
+        names = self.next().decode("latin-1").split(",")
+        if names not in known:
+            raise Refused(17)
+        return names
 
     def end(self):
         if self.at != len(self.lines):
@@ -270,7 +268,6 @@ def fits(heap, table):
                 slot_handles(table, slot)
         except NoLayout:
             return i
-    return None
 
 def show(heap, table):
     for i, s in enumerate(heap["slots"]):
@@ -291,8 +288,7 @@ if __name__ == "__main__":
         sys.exit(__doc__)
     files = [open(f, "rb").read() for f in sys.argv[2:]]
     if sys.argv[1] == "answer":
-        for name, text in zip(sys.argv[2:], files):
-            print(name, answer(text))
+        print("\n".join(f"{name} {answer(text)}" for name, text in zip(sys.argv[2:], files)))
     elif sys.argv[1] == "page":
         show(read_page(files[0]), read_table(files[1]) if len(files) > 1 else None)
     else:

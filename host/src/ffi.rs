@@ -74,6 +74,24 @@ pub struct RawLayout {
     pub offsets: u64,
 }
 
+/// The answer of a table that is read, and how many elements of each list it takes; zeros after a refusal. See [`TypeTable::read_text`](crate::TypeTable::read_text).
+#[repr(C)]
+#[derive(Clone, Copy, Debug, PartialEq, Eq)]
+pub struct TableRead {
+    /// The answer, without values.
+    pub answer: Answer,
+    /// Numbers of types.
+    pub types: usize,
+    /// Numbers of fields.
+    pub fields: usize,
+    /// Numbers of constants.
+    pub consts: usize,
+    /// Bytes of constants.
+    pub bytes: usize,
+    /// Bytes of names.
+    pub names: usize,
+}
+
 macro_rules! heap_calls {
     ($($(#[$doc:meta])* $name:ident ( $($before:ident : $b:ty),* ; $($given:ident : $g:ty),* ; $($after:ident : $a:ty),* ) -> $r:ty;)*) => {
         extern "C" {
@@ -137,6 +155,8 @@ heap_calls! {
     /// See [`Heap::slot_handles_into`](crate::Heap::slot_handles_into).
     yexwalu_slot_handles(types: *const u64, types_len: usize, fields: *const u32, fields_len: usize, consts: *const u64, consts_len: usize, bytes: *const u8, bytes_len: usize, heap: Header;
         slot: usize, out: *mut u64, out_len: usize;) -> Answer;
+    /// See [`Heap::misfit`](crate::Heap::misfit).
+    yexwalu_traceable(types: *const u64, types_len: usize, fields: *const u32, fields_len: usize, consts: *const u64, consts_len: usize, bytes: *const u8, bytes_len: usize, heap: Header;;) -> Answer;
     /// See [`Heap::page_length`](crate::Heap::page_length).
     yexwalu_page_length(heap: Header;;) -> Answer;
     /// See [`Heap::write_page_into`](crate::Heap::write_page_into).
@@ -181,6 +201,8 @@ table_calls! {
     yexwalu_value_handles(t: u64, data: *const u8, data_len: usize, out: *mut u64, out_len: usize) -> Answer;
     /// See [`TypeTable::slot_roots_into`](crate::TypeTable::slot_roots_into).
     yexwalu_slot_roots(map: *const u32, map_len: usize, memory: *const u8, memory_len: usize, handles: *mut u64, handles_len: usize, addresses: *mut u64, addresses_len: usize) -> Answer;
+    /// See [`TypeTable::write_text_into`](crate::TypeTable::write_text_into).
+    yexwalu_write_table(names: *const u8, names_len: usize, out: *mut u8, out_len: usize) -> Answer;
 }
 
 extern "C" {
@@ -208,4 +230,15 @@ extern "C" {
         regs: *mut u32, regs_len: usize,
         rows: *mut u64, rows_len: usize,
     ) -> Answer;
+    /// See [`TypeTable::read_text`](crate::TypeTable::read_text).
+    pub fn yexwalu_read_table(
+        types: *mut u64, types_len: usize,
+        fields: *mut u32, fields_len: usize,
+        consts: *mut u64, consts_len: usize,
+        bytes: *mut u8, bytes_len: usize,
+        names: *mut u8, names_len: usize,
+        text: *const u8, text_len: usize,
+        words: *mut u64, words_len: usize,
+        halves: *mut u32, halves_len: usize,
+    ) -> TableRead;
 }

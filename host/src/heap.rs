@@ -725,6 +725,33 @@ impl Heap {
         Ok(Heap::pair(answer)?.0 as usize)
     }
 
+    /// The first slot that does not fit the type table: an object of kind Typed whose type the table has not, or whose handles can't be traced. `None` where all fit, so that page and table can be kept
+    /// together. It is refused where the table is not in order (10).
+    ///
+    /// ```
+    /// use yexwalu::{Heap, Kind, Refusal, TypeTable};
+    /// let mut table = TypeTable::new();
+    /// let access = table.access();
+    /// let mut heap = Heap::new(1, 64, 4096)?;
+    /// heap.alloc(Kind::Typed(access), &[0; 8])?;
+    /// assert_eq!(heap.misfit(&table)?, None);
+    /// heap.alloc(Kind::Typed(access), &[0; 7])?;
+    /// assert_eq!(heap.misfit(&table)?, Some(1));
+    /// assert_eq!(heap.misfit(&TypeTable::new())?, Some(0));
+    /// # Ok::<(), Refusal>(())
+    /// ```
+    pub fn misfit(&self, types: &TypeTable) -> Result<Option<u32>, Refusal> {
+        let answer = ask!(self, yexwalu_traceable(
+            types.types.as_ptr(), types.types.len(), types.fields.as_ptr(), types.fields.len(),
+            types.consts.as_ptr(), types.consts.len(), types.bytes.as_ptr(), types.bytes.len())
+            ());
+        if answer.number == Refusal::Untraceable.number() {
+            return Ok(Some(answer.first as u32));
+        }
+        Heap::pair(answer)?;
+        Ok(None)
+    }
+
     /// The heap as a page of text, without epoch and log (docs/FORMAT.md).
     ///
     /// ```

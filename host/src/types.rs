@@ -360,4 +360,72 @@ impl TypeTable {
         Refusal::check(answer.number)?;
         Ok((answer.first as usize, answer.second as usize))
     }
+
+    /// No names: an empty line for each type, field and constant, as `write_text` takes them.
+    pub fn no_names(&self) -> Vec<u8> {
+        vec![b'\n'; self.types.len() / 4 + self.fields.len() / 2 + self.consts.len() / 3]
+    }
+
+    /// The table as text (docs/FORMAT.md). `names` has a line of plain text for each type, then for each field, then for each constant: bytes from 32 on but the comma, then byte 10; other names are
+    /// refused (17), and so is a table that is not in order (10).
+    ///
+    /// ```
+    /// use yexwalu::{Refusal, TypeTable};
+    /// let mut table = TypeTable::new();
+    /// let int = table.integer(0, 100);
+    /// table.record(&[(int, None)]);
+    /// let text = table.write_text(b"percent\npoint\nx\n")?;
+    /// assert_eq!(text, b"types,fields,constants\n2,1,0\nclass,a,b,c,name\n0,0,100,0,percent\n5,0,1,0,point\ntype,constant,name\n0,4294967295,x\nplain,start,length,name\nbytes\n\n");
+    /// assert_eq!(TypeTable::read_text(&text)?, (table, b"percent\npoint\nx\n".to_vec()));
+    /// assert_eq!(TypeTable::read_text(&text[1..]), Err(Refusal::Page));
+    /// # Ok::<(), Refusal>(())
+    /// ```
+    pub fn write_text(&self, names: &[u8]) -> Result<Vec<u8>, Refusal> {
+        // names lines and counts take 90 and 63 bytes at most, a number 20 and the comma after it
+        let numbers = self.types.len() + self.fields.len() + self.consts.len();
+        let mut out = vec![0; 153 + 21 * numbers + names.len() + 2 * self.bytes.len()];
+        let n = self.write_text_into(names, &mut out)?;
+        out.truncate(n);
+        Ok(out)
+    }
+
+    /// As `write_text`, to the front of a lent output (7). The answer is how many bytes.
+    pub fn write_text_into(&self, names: &[u8], out: &mut [u8]) -> Result<usize, Refusal> {
+        let answer = on_table!(self, yexwalu_write_table(names.as_ptr(), names.len(), out.as_mut_ptr(), out.len()));
+        Refusal::check(answer.number)?;
+        Ok(answer.first as usize)
+    }
+
+    /// The table whose text this is, and its names. It is refused where it is no such text (17), or the table is not in order (10).
+    pub fn read_text(text: &[u8]) -> Result<(TypeTable, Vec<u8>), Refusal> {
+        // as much as a table takes at most; a byte of a constant takes two of the text
+        let mut table = TypeTable {
+            types: vec![0; 16384],
+            fields: vec![0; 32768],
+            consts: vec![0; 12288],
+            bytes: vec![0; text.len() / 2],
+        };
+        let mut names = vec![0; text.len()];
+        let (mut words, mut halves) = (vec![0u64; 28672], vec![0u32; 32768]);
+        // SAFETY: each pointer leads to as many elements as the length after it says, and what the call writes is lent once.
+        let read = unsafe {
+            ffi::yexwalu_read_table(
+                table.types.as_mut_ptr(), table.types.len(),
+                table.fields.as_mut_ptr(), table.fields.len(),
+                table.consts.as_mut_ptr(), table.consts.len(),
+                table.bytes.as_mut_ptr(), table.bytes.len(),
+                names.as_mut_ptr(), names.len(),
+                text.as_ptr(), text.len(),
+                words.as_mut_ptr(), words.len(),
+                halves.as_mut_ptr(), halves.len(),
+            )
+        };
+        Refusal::check(read.answer.number)?;
+        table.types.truncate(read.types);
+        table.fields.truncate(read.fields);
+        table.consts.truncate(read.consts);
+        table.bytes.truncate(read.bytes);
+        names.truncate(read.names);
+        Ok((table, names))
+    }
 }

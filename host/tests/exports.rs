@@ -64,6 +64,7 @@ fn c_type(ty: &str) -> &str {
         "Answer" => "yexwalu_answer",
         "Done" => "yexwalu_done",
         "LayoutAnswer" | "RawLayout" => "yexwalu_layout_answer",
+        "TableRead" => "yexwalu_table_read",
         other => other,
     }
 }
@@ -190,8 +191,8 @@ fn structs(source: &str) -> Structs {
 
 #[test]
 fn structs_are_the_same_everywhere() {
-    let exported = structs(&(text("crates/heap/src/lib.rt") + &text("crates/refusal/src/lib.rt") + &text("crates/door/src/lib.rt") + &exports()));
-    assert_eq!(exported.len(), 4);
+    let exported = structs(&(text("crates/heap/src/lib.rt") + &text("crates/refusal/src/lib.rt") + &text("crates/door/src/lib.rt") + &text("crates/table_reader/src/lib.rt") + &exports()));
+    assert_eq!(exported.len(), 5);
     assert_eq!(structs(&ffi()), exported);
     let mut header_has = Structs::new();
     for item in header().split("typedef struct {").skip(1) {

@@ -7,7 +7,7 @@ use yexwalu::{descriptor, ffi, Class, Direction, FrameSlot, Function, Handle, He
 type Call = (&'static str, fn(&mut Heap) -> Result<(), Refusal>);
 
 // Every call on a heap, each one that succeeds on the sample.
-const CALLS: [Call; 26] = [
+const CALLS: [Call; 27] = [
     ("alloc", |h| h.alloc(Kind::Bytes, b"x").map(drop)),
     ("alloc_from", |h| h.alloc_from(Kind::Bytes, 0, b"x").map(drop)),
     ("take", |h| h.take_into(Handle(7 << 56 | 2 << 32 | 1), &mut [0; 64]).map(drop)),
@@ -28,6 +28,7 @@ const CALLS: [Call; 26] = [
     ("kind", |h| h.kind(2).map(drop)),
     ("stamp", |h| h.stamp(2).map(drop)),
     ("slot_handles", |h| h.slot_handles(&plain(), 2).map(drop)),
+    ("traceable", |h| h.misfit(&plain()).map(drop)),
     ("page_length", |h| h.page_length().map(drop)),
     ("write_page", |h| h.write_page_into(&mut [0; 4096]).map(drop)),
     ("collect", |h| h.collect(&plain(), &[Handle(7 << 56 | 2 << 32 | 1)], &[1])),

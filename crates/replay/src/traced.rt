@@ -1,4 +1,4 @@
-// The commands that trace a heap by the type table: the two collections, and the handles of a slot.
+// The commands that trace a heap by the type table: the two collections, the handles of a slot, and whether all slots can be traced.
 use crate::live::Rows;
 use door::Done;
 use heap::Heap;
@@ -37,6 +37,7 @@ use protocol::table::Table;
 use protocol::write::put;
 use protocol::write::put_answer;
 use protocol::write::put_bad;
+use protocol::write::put_next;
 use protocol::write::put_number;
 use protocol::write::put_words;
 use refusal::Answer;
@@ -54,14 +55,16 @@ const JOINED: usize = 1;
 
 const HANDLES: usize = 2;
 
+const TRACEABLE: usize = 3;
+
 // Where the numbers of 64 bits that a line lists end.
 const WORDS_END: usize = 61440;
 
-pub const UNKNOWN: usize = 3;
+pub const UNKNOWN: usize = 4;
 
 // Which of these commands a line has.
 pub fn command(line: &[u8]) -> usize {
-    which(line, 0, b"collect joined handles ")
+    which(line, 0, b"collect joined handles traceable ")
 }
 
 // The place in the code, or a slot, and where the roots or the registers' values, the frame's memory, its map, the pins and the addresses with their slots end in the lent lists. A
@@ -141,8 +144,12 @@ fn slot_of(line: &[u8]) -> Wanted {
     let Field::Is(slot, _) = number(line, second(line), WORD) else {
         return Wanted::Bad;
     };
+    by_slot(slot as usize)
+}
+
+fn by_slot(slot: usize) -> Wanted {
     Wanted::Is(Lists {
-        pc: slot as usize,
+        pc: slot,
         words: NUMBERS,
         memory: SPELLED,
         map: LISTED,
@@ -162,7 +169,8 @@ fn wanted_by(
     match c {
         COLLECT => roots_of(line, lists, list),
         JOINED => frame_of(line, bytes, lists, list),
-        _ => slot_of(line),
+        HANDLES => slot_of(line),
+        _ => by_slot(0),
     }
 }
 
@@ -313,6 +321,42 @@ fn shown(
     }
 }
 
+// Whether the heap and the table fit together: the first slot that does not, where there is one.
+fn fitting(
+    types: &[u64],
+    fields: &[u32],
+    consts: &[u64],
+    bytes: &[u8],
+    heap: Heap,
+    narrow: &[u32],
+    wide: &[u64],
+    pool: &[u8],
+) -> Done {
+    let mut marks = [7u8; 8192];
+    let mut work = [7u64; 8192];
+    let a = handles::traceable(
+        types,
+        fields,
+        consts,
+        bytes,
+        heap,
+        narrow,
+        wide,
+        pool,
+        &mut marks,
+        &mut work,
+    );
+    put_number(a.number);
+    if a.number == 13 {
+        put_next(a.first);
+    }
+    put(b"\n");
+    Done {
+        heap: heap,
+        answer: a,
+    }
+}
+
 // The call, on the parts of the table and of the heap's memory.
 fn called(
     c: usize,
@@ -356,6 +400,7 @@ fn called(
             pool,
             wanted.pc,
         ),
+        TRACEABLE => fitting(types, fields, consts, bytes, heap, narrow, wide, pool),
         _ => {
             let mut rows = [7u64; 262144];
             at_safepoint(
@@ -450,7 +495,7 @@ pub fn answer(
         lists,
         list,
     );
-    if c == HANDLES {
+    if HANDLES <= c {
         return kept;
     }
     let a = done.answer;

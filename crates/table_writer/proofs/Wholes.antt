@@ -304,11 +304,14 @@ module _ (w f c b : List ℕ) (good : tableGood w f c b ≡ true) where
   pub constants-whole : 3 * (length c / 3) ≡ length c
   constants-whole = omega (arith, eqb-true (length c % 3) 0 (whole .4))
 
+  pub counts-small : (length w / 4 ≤ 4096) × (length f / 2 ≤ 16384) × (length c / 3 ≤ 4096)
+  counts-small = (leb-true (length w / 4) 4096 (whole .1), leb-true (length f / 2) 16384 (whole .3), leb-true (length c / 3) 4096 (whole .5))
+
   pub lengths-small : (length w ≤ 32768) × (length f ≤ 32768) × (length c ≤ 32768)
   lengths-small = (
-    omega (arith, types-whole, leb-true (length w / 4) 4096 (whole .1)),
-    omega (arith, fields-whole, leb-true (length f / 2) 16384 (whole .3)),
-    omega (arith, constants-whole, leb-true (length c / 3) 4096 (whole .5)),
+    omega (arith, types-whole, counts-small .0),
+    omega (arith, fields-whole, counts-small .1),
+    omega (arith, constants-whole, counts-small .2),
   )
 
 -- WHAT IS TOLD

@@ -14,3 +14,4 @@ pub mod ProvedTable
 pub mod TestsPass
 pub mod CollectedTwice
 pub mod Shelf
+pub mod TableText

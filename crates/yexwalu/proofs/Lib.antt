@@ -4,3 +4,4 @@ mod TypeCalls
 mod HandleCalls
 mod LiveCalls
 mod SlotCalls
+mod TraceCalls

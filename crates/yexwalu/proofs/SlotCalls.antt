@@ -58,7 +58,7 @@ module _ (h : Heap) (narrow wide pool : List ℕ) (wf : wellFormed (lent h narro
   live-is : liveIn (h .slots) (run S S narrow) i ≡ live (slotAt (view l) i)
   live-is = ap (λ (G : Graph). G .live i) (formed-graph h narrow wide pool wf T)
 
-  shown-is : shownIn T S narrow wide pool i ≡ shown T (view l) i
+  pub shown-is : shownIn T (length narrow / 6) narrow wide pool i ≡ shown T (view (lent h narrow wide pool)) i
   shown-is = ap (λ (G : Graph). G .handles i) (formed-graph h narrow wide pool wf T)
 
   module _ (out : List ℕ) where

@@ -3,4 +3,5 @@ pub mod Table
 pub mod Types
 pub mod Handles
 pub mod SlotHandles
+pub mod Traceable
 pub mod Live

@@ -1,4 +1,5 @@
-// Calls that list handles, in the order in which they are traced: 10, then 13, then 7; of a slot of a heap 18, 1, 10, 9, 13, 7. After a refusal the lent lists are as they were.
+// Calls that list handles, in the order in which they are traced: 10, then 13, then 7; of a slot of a heap 18, 1, 10, 9, 13, 7. After a refusal the lent lists are as they were. And whether a
+// heap and a type table fit together: 18, 1, 10, 13.
 use door::Entry;
 use heap::Heap;
 use refusal::Answer;
@@ -8,6 +9,7 @@ use trace::Sink;
 pub use yexwalu_object_handles as object_handles;
 pub use yexwalu_slot_handles as slot_handles;
 pub use yexwalu_slot_roots as slot_roots;
+pub use yexwalu_traceable as traceable;
 pub use yexwalu_value_handles as value_handles;
 ghost use mathlib.Core.Path.{_≡_};
 ghost use mathlib.Core.Bool.{true};
@@ -26,6 +28,7 @@ ghost use Rattle.door.specs.HeapCalls.{Entered, asked};
 ghost use Rattle.yexwalu.specs.Table.{onTable};
 ghost use Rattle.yexwalu.specs.Handles.{HandlesCall, RootsCall};
 ghost use Rattle.yexwalu.specs.SlotHandles.{slotHandles, slotTests, slotCall, slotOut};
+ghost use Rattle.yexwalu.specs.Traceable.{fitsTable, misfit, misfitTold, traceCall};
 
 // The handles of an object's visible data, which is of type t: its descriptor, then its value. They go to the lent list from its front on. first: how many.
 #[no_mangle]
@@ -333,5 +336,116 @@ pub extern "C" fn yexwalu_slot_handles(
             slot,
             out,
         ).numbers(),
+    }
+}
+
+// Is slot i of a checked heap, which is in use, dead or not of kind Typed, or else of a type of the table and such that its handles can be traced?
+fn fits_table(
+    types: &[u64],
+    fields: &[u32],
+    consts: &[u64],
+    bytes: &[u8],
+    heap: Heap,
+    narrow: &[u32],
+    wide: &[u64],
+    pool: &[u8],
+    i: usize,
+) -> bool
+    requires { ⌜ wellFormed (lent heap (now narrow) (now wide) (now pool)) ≡ true ⌝ }
+    requires { ⌜ i < heap .slots ⌝ }
+    ensures { λ r. ⌜ r ≡ fitsTable (tableOf (now (types .entry)) (now (fields .entry)) (now (consts .entry)) (now (bytes .entry)))
+        (view (lent heap (now (narrow .entry)) (now (wide .entry)) (now (pool .entry)))) i ⌝ }
+{
+    let s = narrow.len() / 6;
+    if narrow[s + i] == 1 {} else {
+        return true;
+    }
+    let t = narrow[2 * s + i] as usize;
+    if types.len() / 4 <= t {
+        return false;
+    }
+    let mut none = [0u64; 1];
+    let listed = list_at(
+        types,
+        fields,
+        consts,
+        bytes,
+        heap.slots,
+        s,
+        narrow,
+        wide,
+        pool,
+        i,
+        &mut none,
+    );
+    let a = listed.numbers();
+    a.number != 13
+}
+
+// The first slot of a checked heap that does not fit a type table: 13, or 0 where all fit.
+fn first_misfit(
+    types: &[u64],
+    fields: &[u32],
+    consts: &[u64],
+    bytes: &[u8],
+    heap: Heap,
+    narrow: &[u32],
+    wide: &[u64],
+    pool: &[u8],
+) -> Answer
+    requires { ⌜ wellFormed (lent heap (now narrow) (now wide) (now pool)) ≡ true ⌝ }
+    ensures { λ r. ⌜ r ≡ misfitTold (misfit (tableOf (now (types .entry)) (now (fields .entry)) (now (consts .entry)) (now (bytes .entry)))
+        (view (lent heap (now (narrow .entry)) (now (wide .entry)) (now (pool .entry))))) ⌝ }
+{
+    let mut i = 0;
+    while i < heap.slots {
+        if fits_table(types, fields, consts, bytes, heap, narrow, wide, pool, i) {} else {
+            return Answer {
+                number: 13,
+                first: i as u64,
+                second: 0,
+            };
+        }
+        i += 1;
+    }
+    Answer {
+        number: 0,
+        first: 0,
+        second: 0,
+    }
+}
+
+// Do a heap and a type table fit together: has every object of kind Typed a type of the table, and can its handles be traced? 18, 1, 10, 13. After 13, first: the first slot that does not fit.
+#[no_mangle]
+pub extern "C" fn yexwalu_traceable(
+    types: &[u64],
+    fields: &[u32],
+    consts: &[u64],
+    bytes: &[u8],
+    heap: Heap,
+    narrow: &[u32],
+    wide: &[u64],
+    pool: &[u8],
+    marks: &mut [u8],
+    work: &mut [u64],
+) -> Answer
+    ensures { λ r. ⌜ asked r (now (marks .exit)) (now (work .exit))
+        ≡ traceCall (now (types .entry)) (now (fields .entry)) (now (consts .entry)) (now (bytes .entry)) (now (marks .entry)) (now (work .entry))
+        (lent heap (now (narrow .entry)) (now (wide .entry)) (now (pool .entry))) ⌝ }
+{
+    match admit(
+        types,
+        fields,
+        consts,
+        bytes,
+        heap,
+        narrow,
+        wide,
+        pool,
+        marks,
+        work,
+    ) {
+        Entry::Not(why) => Reply::Not(why).numbers(),
+        Entry::Ready => first_misfit(types, fields, consts, bytes, heap, narrow, wide, pool),
     }
 }

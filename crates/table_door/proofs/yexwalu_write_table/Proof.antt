@@ -1,7 +1,7 @@
 use mathlib.Core.Path.{_∙_}
 use borrow.Author.Needs.{needs}
-use Rattle.table_writer.proofs.yexwalu_write_table.Statement.{statement}
-use Rattle.table_writer.proofs.yexwalu_write_table.Tie as tie
+use Rattle.table_door.proofs.yexwalu_write_table.Statement.{statement}
+use Rattle.table_door.proofs.yexwalu_write_table.Tie as tie
 
 write-requires : tie.Need-write-requires
 write-requires c κs = search needs
