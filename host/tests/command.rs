@@ -189,6 +189,36 @@ digraph heap {
 }
 
 #[test]
+fn show_goes_by_a_type_table() {
+    let (page, table) = (samples("record.page"), samples("record.table"));
+    let ran = run(&["show", "--types", &table, &page]);
+    assert_eq!((ran.status, ran.err.as_str()), (0, ""));
+    for line in ["slot 0, handle 72057594037927937: type 3 node, generation 1, ", "    0 leads to nowhere: null\n", "    72057594037927937 leads to slot 0\n"] {
+        assert!(ran.out.contains(line), "{line:?} in {}", ran.out);
+    }
+    // without the table they are not found
+    assert!(!run(&["show", &page]).out.contains("leads to"));
+    let drawn = run(&["show", "--types", &table, "--dot", &page]);
+    assert!(drawn.status == 0 && drawn.out.contains("    s1 -> s0;\n"), "{}", drawn.out);
+    // another run's table: its types are not those of the objects
+    let other = samples("logic.table");
+    let ran = run(&["show", &page, "--types", &other]);
+    assert_eq!((ran.status, ran.out.matches("    its handles can't be found: untraceable\n").count()), (0, 2), "{}", ran.out);
+    assert!(run(&["show", "--dot", &page, "--types", &other]).out.contains("    s0 [xlabel=\"untraceable\"];\n"));
+}
+
+#[test]
+fn show_refuses_what_is_no_type_table() {
+    let page = samples("record.page");
+    for (name, status, why) in [("17-comma.table", 1, "17 page: no type table to go by\n"), ("10-class.table", 1, "10 type table: no type table to go by\n"), ("bytes.page", 1, "17 page: "), ("none.table", 2, "")] {
+        let table = samples(name);
+        let ran = run(&["show", "--types", &table, &page]);
+        assert_eq!((ran.status, ran.out.as_str()), (status, ""), "{name}");
+        assert!(ran.err.starts_with(&format!("yexwalu: {table}: {why}")), "{}", ran.err);
+    }
+}
+
+#[test]
 fn show_and_length_refuse_on_standard_error() {
     for words in [&["show"][..], &["show", "--dot"], &["length"]] {
         for (name, why) in [("none.page", None), ("17-names.page", Some("17 page: no page from line 3, column ")), ("1-reclaim.page", Some("1 broken heap"))] {
@@ -314,7 +344,7 @@ fn help_and_version() {
 #[test]
 fn bad_usage_is_2() {
     let page = samples("bytes.page");
-    for words in [&[][..], &["look", &page], &["check"], &["shelf"], &["show"], &["length"], &["show", &page, &page], &["length", &page, &page], &["check", "--dot", &page], &["show", "--svg", &page], &["show", "--dot", "--dot", &page], &[""]] {
+    for words in [&[][..], &["look", &page], &["check"], &["shelf"], &["show"], &["length"], &["show", &page, &page], &["length", &page, &page], &["check", "--dot", &page], &["show", "--svg", &page], &["show", "--types"], &["show", &page, "--types"], &["show", "--types", &page], &["length", "--types", &page, &page], &[""]] {
         let ran = run(words);
         assert_eq!((ran.status, ran.out.as_str()), (2, ""), "{words:?}");
         assert!(ran.err.starts_with("yexwalu: ") && ran.err.ends_with("yexwalu --help says more.\n"), "{words:?}");

@@ -1,5 +1,6 @@
 //! A heap as a graph in the language of Graphviz. Nothing of the page's text goes into it but numbers.
-use crate::show::{handles, kind};
+use crate::show::kind;
+use crate::types::Types;
 use std::io::{self, Write};
 use yexwalu::{Handle, View};
 
@@ -15,14 +16,15 @@ fn edge(view: View, from: &str, handle: Handle, out: &mut impl Write) -> io::Res
     }
 }
 
-pub fn print(view: View, out: &mut impl Write) -> io::Result<()> {
+pub fn print(view: View, types: &Types, out: &mut impl Write) -> io::Result<()> {
     writeln!(out, "digraph heap {{\n    node [shape=box];")?;
     for o in view.objects() {
         writeln!(out, "    s{} [label=\"slot {}\\n{}, {} bytes\"];", o.slot(), o.slot(), kind(o.kind()), o.bytes().len())?;
     }
     for o in view.objects() {
-        for handle in handles(&o) {
-            edge(view, &format!("s{}", o.slot()), handle, out)?;
+        match types.handles(&o) {
+            Ok(handles) => handles.iter().try_for_each(|h| edge(view, &format!("s{}", o.slot()), *h, out))?,
+            Err(why) => writeln!(out, "    s{} [xlabel=\"{}\"];", o.slot(), why.word())?,
         }
     }
     if view.sealed().len() > 0 {

@@ -2,10 +2,12 @@
 mod dot;
 mod input;
 mod show;
+mod types;
 
 use input::Text;
 use std::io::{self, BufWriter, ErrorKind, Write};
 use std::process::ExitCode;
+use types::Types;
 use yexwalu::{page_stops, Heap, ObjectRef, Refusal};
 
 const HELP: &str = "\
@@ -14,6 +16,7 @@ Questions about pages: the heaps of saved VHDL runs as text (docs/FORMAT.md).
     yexwalu check FILE..        is each file a page of a heap?
     yexwalu show FILE           a summary, the objects, the handles in them and where they lead
     yexwalu show --dot FILE     the same as a graph for Graphviz: yexwalu show --dot FILE | dot -Tsvg > FILE.svg
+    yexwalu show --types TABLE FILE     by the run's type table, so that the handles of typed objects are found too
     yexwalu length FILE         how many bytes the heap's page has when it is written today
     yexwalu shelf FILE..        figures of each page, and of all of them together
     yexwalu --help, --version
@@ -27,8 +30,8 @@ check says `accepted`, or the number and the word of the refusal:
     1 broken heap   the text is a page, but what it shows is no heap (docs/FORMAT.md, section 8)
     5 full, 6 no room   more slots or more data than a heap can have
 
-show finds the handles in objects of kind Handles. An object of a type is shown by its bytes: where its handles stand
-is said by the type table, which is not read here.
+show finds the handles in objects of kind Handles. Where those of an object of a type stand is said by the run's type
+table (docs/FORMAT.md, section 6): without --types such an object is shown by its bytes alone.
 
 shelf prints page,answer,objects,bytes,largest,mean,rest: a line a file, numbered from 1, and a last line with page 0
 over all accepted ones, as the program `shelf` does for pages of at most 32,768 bytes (docs/FORMAT.md, section 16).
@@ -169,6 +172,30 @@ fn with_heap(name: &str, out: &mut Out, print: impl Fn(&Heap, &mut Out) -> Resul
     }
 }
 
+// The type table of a file, or none. What can't be read or is refused is said here: the exit status is the error.
+fn types_of(name: Option<&str>) -> Result<Types, u8> {
+    let Some(name) = name else {
+        return Ok(Types::default());
+    };
+    let say = |why: String| eprintln!("yexwalu: {}: {why}", input::shown(name));
+    let text = Text::read(name).map_err(|why| {
+        say(why.to_string());
+        USAGE
+    })?;
+    Types::read(text.bytes()).map_err(|why| {
+        say(format!("{}: no type table to go by", refusal(why)));
+        NO
+    })
+}
+
+fn show(files: &[String], dot: bool, table: Option<&str>, out: &mut Out) -> io::Result<u8> {
+    let types = match types_of(table) {
+        Ok(types) => types,
+        Err(status) => return Ok(status),
+    };
+    with_heap(&files[0], out, |heap, out| Ok(if dot { dot::print(heap.view()?, &types, out) } else { show::print(heap.view()?, &types, out) }))
+}
+
 fn usage(why: &str) -> io::Result<u8> {
     eprintln!("yexwalu: {why}\nyexwalu --help says more.");
     Ok(USAGE)
@@ -182,10 +209,18 @@ fn command(words: &[String], out: &mut Out) -> io::Result<u8> {
         write!(out, "{HELP}")?;
         return Ok(0);
     }
-    let (options, files): (Vec<String>, Vec<String>) = rest.iter().cloned().partition(|w| w.starts_with('-') && w != "-");
-    let dot = name == "show" && options == ["--dot"];
-    if let (Some(option), false) = (options.first(), dot) {
-        return usage(&format!("{name} has no option {option}"));
+    let (mut files, mut dot, mut table) = (Vec::new(), false, None);
+    let mut rest = rest.iter();
+    while let Some(word) = rest.next() {
+        match word.as_str() {
+            "--dot" if name == "show" => dot = true,
+            "--types" if name == "show" => match rest.next() {
+                Some(file) => table = Some(file.as_str()),
+                None => return usage("--types takes a file"),
+            },
+            option if option.starts_with('-') && option != "-" => return usage(&format!("{name} has no option {option}")),
+            _ => files.push(word.clone()),
+        }
     }
     let one = matches!(name.as_str(), "show" | "length");
     match name.as_str() {
@@ -195,8 +230,7 @@ fn command(words: &[String], out: &mut Out) -> io::Result<u8> {
         "check" => check(&files, out),
         "shelf" => shelf(&files, out),
         "length" => with_heap(&files[0], out, |heap, out| heap.page_length().map(|n| writeln!(out, "{n}"))),
-        "show" if dot => with_heap(&files[0], out, |heap, out| Ok(dot::print(heap.view()?, out))),
-        "show" => with_heap(&files[0], out, |heap, out| Ok(show::print(heap.view()?, out))),
+        "show" => show(&files, dot, table, out),
         _ => usage(&format!("no command {name}")),
     }
 }

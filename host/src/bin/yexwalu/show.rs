@@ -1,18 +1,10 @@
 //! A heap as text for people.
 use std::io::{self, Write};
-use yexwalu::{Handle, Kind, ObjectRef, Refusal, Slot, TypeTable, View};
+use crate::types::Types;
+use yexwalu::{Handle, Kind, ObjectRef, Refusal, Slot, View};
 
 // So many bytes of an object are shown.
 const BYTES: usize = 32;
-
-/// The handles of an object that can be found without a type table.
-pub fn handles(object: &ObjectRef) -> Vec<Handle> {
-    match object.kind() {
-        Kind::Typed(_) => Vec::new(),
-        // an object of another kind is not looked up in the table
-        _ => object.handles(&TypeTable::new()).unwrap_or_default(),
-    }
-}
 
 pub fn kind(kind: Kind) -> String {
     match kind {
@@ -51,9 +43,15 @@ fn data(object: &ObjectRef) -> String {
     format!("{}  |{text}|{more}", hex.join(" "))
 }
 
-fn object(view: View, o: ObjectRef, out: &mut impl Write) -> io::Result<()> {
+fn object(view: View, types: &Types, o: ObjectRef, out: &mut impl Write) -> io::Result<()> {
     let (stamp, size) = (o.stamp(), o.bytes().len());
-    write!(out, "slot {}, handle {}: {}, generation {}, {} writes, {size} bytes", o.slot(), o.handle(), kind(o.kind()), stamp.generation, stamp.writes)?;
+    write!(out, "slot {}, handle {}: {}", o.slot(), o.handle(), kind(o.kind()))?;
+    if let Kind::Typed(ty) = o.kind() {
+        // a name may have its literals after a colon
+        let name = types.name(ty).split(':').next().unwrap_or_default();
+        write!(out, "{}{name}", if name.is_empty() { "" } else { " " })?;
+    }
+    write!(out, ", generation {}, {} writes, {size} bytes", stamp.generation, stamp.writes)?;
     if o.start() != 0 {
         write!(out, ", visible from byte {} on", o.start())?;
     }
@@ -61,13 +59,13 @@ fn object(view: View, o: ObjectRef, out: &mut impl Write) -> io::Result<()> {
     if o.data() != Some(&[]) {
         writeln!(out, "    {}", data(&o))?;
     }
-    for handle in handles(&o) {
-        writeln!(out, "    {handle} leads to {}", leads(view, handle))?;
+    match types.handles(&o) {
+        Ok(handles) => handles.iter().try_for_each(|h| writeln!(out, "    {h} leads to {}", leads(view, *h))),
+        Err(why) => writeln!(out, "    its handles can't be found: {}", why.word()),
     }
-    Ok(())
 }
 
-pub fn print(view: View, out: &mut impl Write) -> io::Result<()> {
+pub fn print(view: View, types: &Types, out: &mut impl Write) -> io::Result<()> {
     let h = view.header();
     let (count, bytes) = view.objects().fold((0, 0), |(n, size), o| (n + 1, size + o.bytes().len()));
     writeln!(out, "heap of tag {}: {} slots, {count} objects, {bytes} bytes of data", h.tag, h.slots)?;
@@ -81,5 +79,5 @@ pub fn print(view: View, out: &mut impl Write) -> io::Result<()> {
     for handle in view.sealed() {
         writeln!(out, "    {handle} leads to {}", leads(view, handle))?;
     }
-    view.objects().try_for_each(|o| object(view, o, out))
+    view.objects().try_for_each(|o| object(view, types, o, out))
 }
