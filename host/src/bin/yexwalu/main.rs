@@ -222,11 +222,10 @@ fn command(words: &[String], out: &mut Out) -> io::Result<u8> {
             _ => files.push(word.clone()),
         }
     }
-    let one = matches!(name.as_str(), "show" | "length");
     match name.as_str() {
         "--version" | "-V" => writeln!(out, "yexwalu {}", env!("CARGO_PKG_VERSION")).map(|()| 0),
         "check" | "shelf" if files.is_empty() => usage(&format!("{name} takes files")),
-        "show" | "length" if one && files.len() != 1 => usage(&format!("{name} takes one file")),
+        "show" | "length" if files.len() != 1 => usage(&format!("{name} takes one file")),
         "check" => check(&files, out),
         "shelf" => shelf(&files, out),
         "length" => with_heap(&files[0], out, |heap, out| heap.page_length().map(|n| writeln!(out, "{n}"))),
