@@ -341,6 +341,25 @@ fn help_and_version() {
     assert_eq!((ran.status, ran.out), (0, format!("yexwalu {}\n", env!("CARGO_PKG_VERSION"))));
 }
 
+// Names in archives are older than UTF-8.
+#[cfg(target_os = "linux")]
+#[test]
+fn a_name_that_is_no_text() {
+    use std::os::unix::ffi::OsStringExt;
+    let mut name = file("saal-", b"no page").into_bytes();
+    fs::remove_file(std::ffi::OsString::from_vec(name.clone())).unwrap();
+    name.extend_from_slice(b"gro\xdf.page");
+    let path = std::ffi::OsString::from_vec(name);
+    if fs::copy(samples("bytes.page"), &path).is_err() {
+        println!("no such names here: not tried");
+        return;
+    }
+    let done = Command::new(env!("CARGO_BIN_EXE_yexwalu")).arg("check").arg(&path).output().unwrap();
+    assert_eq!(done.status.code(), Some(0));
+    assert!(String::from_utf8(done.stdout).unwrap().ends_with("gro\u{fffd}.page: accepted\n"));
+    fs::remove_file(path).unwrap();
+}
+
 #[test]
 fn bad_usage_is_2() {
     let page = samples("bytes.page");

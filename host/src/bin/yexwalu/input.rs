@@ -1,23 +1,25 @@
 //! Files, and a line that says how far a large one is.
+use std::ffi::OsStr;
 use std::fs::File;
 use std::io::{self, IsTerminal, Read, Write};
+use std::path::Path;
 
 // From so many bytes on a person is told that it goes on.
 const LARGE: usize = 4 << 20;
 const PIECE: u64 = 1 << 20;
 
-/// The bytes of a file, and its name.
+/// The bytes of a file, and its name for people.
 pub struct Text {
     name: String,
     bytes: Vec<u8>,
 }
 
 /// A file's name for people.
-pub fn shown(name: &str) -> &str {
+pub fn shown(name: &OsStr) -> String {
     if name == "-" {
-        return "standard input";
+        return "standard input".into();
     }
-    name
+    Path::new(name).display().to_string()
 }
 
 // A line that is written over and over, on a terminal alone.
@@ -32,24 +34,24 @@ fn tell(line: &str) {
 
 impl Text {
     /// All of a file, or of standard input.
-    pub fn read(name: &str) -> io::Result<Text> {
+    pub fn read(name: &OsStr) -> io::Result<Text> {
         if name == "-" {
-            return Text::read_from(name, io::stdin().lock(), None);
+            return Text::read_from(shown(name), io::stdin().lock(), None);
         }
         let file = File::open(name)?;
         let size = file.metadata()?.len();
-        Text::read_from(name, file, Some(size))
+        Text::read_from(shown(name), file, Some(size))
     }
 
-    fn read_from(name: &str, mut from: impl Read, size: Option<u64>) -> io::Result<Text> {
+    fn read_from(name: String, mut from: impl Read, size: Option<u64>) -> io::Result<Text> {
         let of = size.map(|s| format!(" of {}", s >> 20)).unwrap_or_default();
         let mut bytes = Vec::new();
         while from.by_ref().take(PIECE).read_to_end(&mut bytes)? > 0 {
             if bytes.len() >= LARGE {
-                tell(&format!("{}: {}{of} MB read", shown(name), bytes.len() >> 20));
+                tell(&format!("{name}: {}{of} MB read", bytes.len() >> 20));
             }
         }
-        Ok(Text { name: name.into(), bytes })
+        Ok(Text { name, bytes })
     }
 
     pub fn bytes(&self) -> &[u8] {
@@ -61,7 +63,7 @@ impl Text {
         if self.bytes.len() < LARGE {
             return work(&self.bytes);
         }
-        tell(&format!("{}: {what} {} MB", shown(&self.name), self.bytes.len() >> 20));
+        tell(&format!("{}: {what} {} MB", self.name, self.bytes.len() >> 20));
         let done = work(&self.bytes);
         tell("");
         done

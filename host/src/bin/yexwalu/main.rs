@@ -5,6 +5,7 @@ mod show;
 mod types;
 
 use input::Text;
+use std::ffi::{OsStr, OsString};
 use std::io::{self, BufWriter, ErrorKind, Write};
 use std::process::ExitCode;
 use types::Types;
@@ -48,7 +49,7 @@ fn refusal(why: Refusal) -> String {
 }
 
 // Reads a file and opens the heap that it shows. What can't be read is said here, and is none.
-fn opened(name: &str) -> Option<(Text, Result<Heap, Refusal>)> {
+fn opened(name: &OsStr) -> Option<(Text, Result<Heap, Refusal>)> {
     match Text::read(name) {
         Ok(text) => {
             let heap = text.working("checking", Heap::open);
@@ -62,7 +63,7 @@ fn opened(name: &str) -> Option<(Text, Result<Heap, Refusal>)> {
 }
 
 // As `opened`, for a command on one heap: a refusal is said here too. The exit status is the error.
-fn heap_of(name: &str) -> Result<Heap, u8> {
+fn heap_of(name: &OsStr) -> Result<Heap, u8> {
     let (text, heap) = opened(name).ok_or(USAGE)?;
     heap.map_err(|why| {
         eprintln!("yexwalu: {}", verdict(name, &text, Err(why)));
@@ -70,7 +71,7 @@ fn heap_of(name: &str) -> Result<Heap, u8> {
     })
 }
 
-fn verdict(name: &str, text: &Text, answer: Result<(), Refusal>) -> String {
+fn verdict(name: &OsStr, text: &Text, answer: Result<(), Refusal>) -> String {
     let name = input::shown(name);
     match answer {
         Ok(()) => format!("{name}: accepted"),
@@ -82,7 +83,7 @@ fn verdict(name: &str, text: &Text, answer: Result<(), Refusal>) -> String {
     }
 }
 
-fn check(files: &[String], out: &mut Out) -> io::Result<u8> {
+fn check(files: &[OsString], out: &mut Out) -> io::Result<u8> {
     let mut status = 0;
     for name in files {
         let Some((text, heap)) = opened(name) else {
@@ -131,7 +132,7 @@ fn figures(heap: &Heap) -> Result<Figures, Refusal> {
     Ok(Figures::of(heap.view()?.objects().map(size)))
 }
 
-fn shelf(files: &[String], out: &mut Out) -> io::Result<u8> {
+fn shelf(files: &[OsString], out: &mut Out) -> io::Result<u8> {
     let (mut status, mut all) = (0, Figures::default());
     writeln!(out, "page,answer,objects,bytes,largest,mean,rest")?;
     for (name, page) in files.iter().zip(1..) {
@@ -158,7 +159,7 @@ fn shelf(files: &[String], out: &mut Out) -> io::Result<u8> {
 }
 
 // A command on one heap that was opened: what it prints, or the refusal of a call, which a heap that was just opened does not meet.
-fn with_heap(name: &str, out: &mut Out, print: impl Fn(&Heap, &mut Out) -> Result<io::Result<()>, Refusal>) -> io::Result<u8> {
+fn with_heap(name: &OsStr, out: &mut Out, print: impl Fn(&Heap, &mut Out) -> Result<io::Result<()>, Refusal>) -> io::Result<u8> {
     let heap = match heap_of(name) {
         Ok(heap) => heap,
         Err(status) => return Ok(status),
@@ -173,7 +174,7 @@ fn with_heap(name: &str, out: &mut Out, print: impl Fn(&Heap, &mut Out) -> Resul
 }
 
 // The type table of a file, or none. What can't be read or is refused is said here: the exit status is the error.
-fn types_of(name: Option<&str>) -> Result<Types, u8> {
+fn types_of(name: Option<&OsStr>) -> Result<Types, u8> {
     let Some(name) = name else {
         return Ok(Types::default());
     };
@@ -188,7 +189,7 @@ fn types_of(name: Option<&str>) -> Result<Types, u8> {
     })
 }
 
-fn show(files: &[String], dot: bool, table: Option<&str>, out: &mut Out) -> io::Result<u8> {
+fn show(files: &[OsString], dot: bool, table: Option<&OsStr>, out: &mut Out) -> io::Result<u8> {
     let types = match types_of(table) {
         Ok(types) => types,
         Err(status) => return Ok(status),
@@ -201,7 +202,7 @@ fn usage(why: &str) -> io::Result<u8> {
     Ok(USAGE)
 }
 
-fn command(words: &[String], out: &mut Out) -> io::Result<u8> {
+fn command(words: &[OsString], out: &mut Out) -> io::Result<u8> {
     let Some((name, rest)) = words.split_first() else {
         return usage("no command");
     };
@@ -209,20 +210,22 @@ fn command(words: &[String], out: &mut Out) -> io::Result<u8> {
         write!(out, "{HELP}")?;
         return Ok(0);
     }
+    // a file's name may be any bytes; a command and its options are text
+    let name = name.to_string_lossy();
     let (mut files, mut dot, mut table) = (Vec::new(), false, None);
     let mut rest = rest.iter();
     while let Some(word) = rest.next() {
-        match word.as_str() {
+        match word.to_string_lossy().as_ref() {
             "--dot" if name == "show" => dot = true,
             "--types" if name == "show" => match rest.next() {
-                Some(file) => table = Some(file.as_str()),
+                Some(file) => table = Some(file.as_os_str()),
                 None => return usage("--types takes a file"),
             },
             option if option.starts_with('-') && option != "-" => return usage(&format!("{name} has no option {option}")),
             _ => files.push(word.clone()),
         }
     }
-    match name.as_str() {
+    match name.as_ref() {
         "--version" | "-V" => writeln!(out, "yexwalu {}", env!("CARGO_PKG_VERSION")).map(|()| 0),
         "check" | "shelf" if files.is_empty() => usage(&format!("{name} takes files")),
         "show" | "length" if files.len() != 1 => usage(&format!("{name} takes one file")),
@@ -235,8 +238,7 @@ fn command(words: &[String], out: &mut Out) -> io::Result<u8> {
 }
 
 fn main() -> ExitCode {
-    // a name that is no text is shown with the marks for it, and is not found
-    let words: Vec<String> = std::env::args_os().skip(1).map(|w| w.to_string_lossy().into_owned()).collect();
+    let words: Vec<OsString> = std::env::args_os().skip(1).collect();
     let mut out = BufWriter::new(io::stdout().lock());
     let status = command(&words, &mut out).and_then(|status| out.flush().map(|()| status));
     match status {
