@@ -729,24 +729,24 @@ impl Heap {
     /// together. It is refused where the table is not in order (10).
     ///
     /// ```
-    /// use yexwalu::{Heap, Kind, Refusal, TypeTable};
+    /// use yexwalu::{Heap, Kind, Refusal, Slot, TypeTable};
     /// let mut table = TypeTable::new();
     /// let access = table.access();
     /// let mut heap = Heap::new(1, 64, 4096)?;
     /// heap.alloc(Kind::Typed(access), &[0; 8])?;
     /// assert_eq!(heap.misfit(&table)?, None);
     /// heap.alloc(Kind::Typed(access), &[0; 7])?;
-    /// assert_eq!(heap.misfit(&table)?, Some(1));
-    /// assert_eq!(heap.misfit(&TypeTable::new())?, Some(0));
+    /// assert_eq!(heap.misfit(&table)?, Some(Slot(1)));
+    /// assert_eq!(heap.misfit(&TypeTable::new())?, Some(Slot(0)));
     /// # Ok::<(), Refusal>(())
     /// ```
-    pub fn misfit(&self, types: &TypeTable) -> Result<Option<u32>, Refusal> {
+    pub fn misfit(&self, types: &TypeTable) -> Result<Option<Slot>, Refusal> {
         let answer = ask!(self, yexwalu_traceable(
             types.types.as_ptr(), types.types.len(), types.fields.as_ptr(), types.fields.len(),
             types.consts.as_ptr(), types.consts.len(), types.bytes.as_ptr(), types.bytes.len())
             ());
         if answer.number == Refusal::Untraceable.number() {
-            return Ok(Some(answer.first as u32));
+            return Ok(Some(Slot(answer.first as u32)));
         }
         Heap::pair(answer)?;
         Ok(None)
