@@ -130,6 +130,26 @@ fn churn(table: &mut Table, slots: usize, script: bool) {
     table.row("alloc, take, recycle in a script (ns a turn), by slots", slots, (a - copy) / 1000.0, b);
 }
 
+// The kind and the data of every object, half of the slots holding 32 bytes: one check and one pass.
+fn reading(table: &mut Table, slots: usize) {
+    let bytes = [7u8; 32];
+    let port = heap_with(slots, slots / 2, &bytes);
+    let mut rust = heap::Heap::new(1);
+    for _ in 0..slots / 2 {
+        rust.alloc(heap::Obj::Bytes, bytes.to_vec()).unwrap();
+    }
+    let here = || port.view().unwrap().objects().map(|o| (o.kind() == Kind::Bytes, o.data().unwrap())).fold(0, |n, (b, d)| n + usize::from(b) + usize::from(d[31]));
+    let there = || (0..rust.slots() as u32).map(|i| (rust.kind(i) == Some(heap::Obj::Bytes), rust.data(i).unwrap())).fold(0, |n, (b, d)| n + usize::from(b) + usize::from(d[31]));
+    assert!(here() == there() && here() == 4 * slots);
+    let a = time(|| {
+        black_box(here());
+    });
+    let b = time(|| {
+        black_box(there());
+    });
+    table.row("all objects by a view (ns), by slots", slots, a, b);
+}
+
 fn field(ty: u32) -> Field {
     Field { name: String::new(), ty: TyId(ty), desc: None }
 }
@@ -327,7 +347,7 @@ fn roots_found(table: &mut Table, shape: &str, n: usize, count: usize, edges: im
     table.row(&format!("roots_for, {shape} (ns), by slots"), n, a, b);
 }
 
-const ROWS: [&str; 12] = ["churn", "script", "layout", "object_handles", "live_refs", "sparse_rows", "collect", "joined", "roots_for", "write_page", "read_page", "memcpy"];
+const ROWS: [&str; 13] = ["churn", "script", "view", "layout", "object_handles", "live_refs", "sparse_rows", "collect", "joined", "roots_for", "write_page", "read_page", "memcpy"];
 
 fn main() {
     let words: Vec<String> = std::env::args().skip(1).collect();
@@ -341,6 +361,7 @@ fn main() {
     for row in ROWS.into_iter().filter(|r| picked(r)) {
         match row {
             "churn" | "script" => [16, 256, 4096, 65536].iter().for_each(|n| churn(&mut table, *n, row == "script")),
+            "view" => [256, 4096, 65536].iter().for_each(|n| reading(&mut table, *n)),
             "layout" => [3, 30, 300].iter().for_each(|n| layouts(&mut table, *n)),
             "object_handles" => [10, 1000, 100_000].iter().for_each(|n| objects(&mut table, *n)),
             "live_refs" => [(4, 8), (64, 64), (1024, 256), (4096, 1024)].iter().for_each(|(b, r)| live(&mut table, "live_refs (ns), by blocks", *b, *b, *r)),

@@ -1,10 +1,11 @@
 use crate::ffi::{self, Done, Header};
-use crate::{FrameSlot, Function, Handle, Refusal, TypeId, TypeTable};
+use crate::{FrameSlot, Function, Handle, Refusal, Slot, TypeId, TypeTable};
 use std::cell::RefCell;
 use std::ops::Range;
 
 /// What an object is: its kind, and the type of a typed one. It says where a collection looks for handles in the object's visible data.
 #[derive(Clone, Copy, Debug, PartialEq, Eq, Hash)]
+#[non_exhaustive]
 pub enum Kind {
     /// A value of a type of the table, after its descriptor (`TypeTable::object_handles`). The type is not looked at before a collection.
     Typed(TypeId),
@@ -24,7 +25,7 @@ impl Kind {
     }
 
     // The kind of a live slot of a heap that was checked: 1 to 3, and a type of 32 bits.
-    fn of(kind: u64, ty: u64) -> Kind {
+    pub(crate) fn of(kind: u64, ty: u64) -> Kind {
         match kind {
             1 => Kind::Typed(ty as TypeId),
             2 => Kind::Bytes,
@@ -35,6 +36,7 @@ impl Kind {
 
 /// An object that was taken from its heap: all its bytes, and where its visible data starts in them.
 #[derive(Clone, Debug, PartialEq, Eq)]
+#[non_exhaustive]
 pub struct Object {
     /// All bytes, those before the start too.
     pub bytes: Vec<u8>,
@@ -302,6 +304,15 @@ impl Heap {
 
     /// Places an object; the answer is its handle. It is refused where the pool has too few bytes left (6), or no slot is left (5); the latter still counts its bytes as used since the last
     /// collection.
+    ///
+    /// ```
+    /// use yexwalu::{Heap, Kind, Refusal};
+    /// let mut heap = Heap::new(1, 64, 4096)?;
+    /// let hall = heap.alloc(Kind::Bytes, b"AB")?;
+    /// assert_eq!((hall.tag(), hall.index(), hall.generation()), (1, 0, 1));
+    /// assert_eq!(heap.alloc(Kind::Bytes, &[0; 4095]), Err(Refusal::NoRoom));
+    /// # Ok::<(), Refusal>(())
+    /// ```
     pub fn alloc(&mut self, kind: Kind, bytes: &[u8]) -> Result<Handle, Refusal> {
         let (k, t) = kind.numbers();
         let done = change!(&mut self.memory, self.scratch.get_mut(), yexwalu_alloc(self.header)(k, t, bytes.as_ptr(), bytes.len()));
@@ -309,6 +320,15 @@ impl Heap {
     }
 
     /// As `alloc`, but only the bytes from `start` on are visible. A start beyond the bytes is taken: then nothing is visible.
+    ///
+    /// ```
+    /// use yexwalu::{Heap, Kind, Refusal};
+    /// let mut heap = Heap::new(1, 64, 4096)?;
+    /// let line = heap.alloc_from(Kind::Bytes, 2, b"..hall")?;
+    /// assert_eq!(heap.data(heap.resolve(line)?)?, b"hall");
+    /// assert_eq!(heap.take(line)?.bytes, b"..hall");
+    /// # Ok::<(), Refusal>(())
+    /// ```
     pub fn alloc_from(&mut self, kind: Kind, start: usize, bytes: &[u8]) -> Result<Handle, Refusal> {
         let (k, t) = kind.numbers();
         self.alloc_raw(k, t, start, bytes)
@@ -330,6 +350,16 @@ impl Heap {
     }
 
     /// Takes an object out of the heap. Its slot goes into quarantine, until `recycle`. It is refused where the handle does not lead to one (2, 3, 19, 4).
+    ///
+    /// ```
+    /// use yexwalu::{Heap, Kind, Refusal};
+    /// let mut heap = Heap::new(1, 64, 4096)?;
+    /// let hall = heap.alloc(Kind::Bytes, b"AB")?;
+    /// let object = heap.take(hall)?;
+    /// assert_eq!((object.bytes, object.start), (b"AB".to_vec(), 0));
+    /// assert_eq!(heap.take(hall), Err(Refusal::Stale));
+    /// # Ok::<(), Refusal>(())
+    /// ```
     pub fn take(&mut self, handle: Handle) -> Result<Object, Refusal> {
         let mut bytes = vec![0; self.size_of(handle.index() as usize)];
         let (size, start) = self.take_into(handle, &mut bytes)?;
@@ -351,6 +381,20 @@ impl Heap {
     }
 
     /// Slots in quarantine join the free list, but those pinned: slot indices, strictly rising (14), of which some may be of no slot.
+    ///
+    /// ```
+    /// use yexwalu::{Heap, Kind, Refusal};
+    /// let mut heap = Heap::new(1, 64, 4096)?;
+    /// let hall = heap.alloc(Kind::Bytes, b"AB")?;
+    /// heap.free(hall)?;
+    /// heap.recycle(&[0])?;
+    /// assert!(heap.has_quarantine()?);
+    /// heap.recycle(&[])?;
+    /// // the slot is given out again, under another handle
+    /// assert_eq!(heap.alloc(Kind::Bytes, b"CD")?.index(), hall.index());
+    /// assert_eq!(heap.recycle(&[2, 1]), Err(Refusal::Pins));
+    /// # Ok::<(), Refusal>(())
+    /// ```
     pub fn recycle(&mut self, pins: &[u32]) -> Result<(), Refusal> {
         let done = change!(&mut self.memory, self.scratch.get_mut(), yexwalu_recycle(self.header)(pins.as_ptr(), pins.len()));
         self.done(done).map(|_| ())
@@ -366,9 +410,9 @@ impl Heap {
     /// assert_eq!(heap.data(slot)?, b"eration");
     /// # Ok::<(), Refusal>(())
     /// ```
-    pub fn edit(&mut self, handle: Handle, bytes: &[u8], start: usize) -> Result<u32, Refusal> {
+    pub fn edit(&mut self, handle: Handle, bytes: &[u8], start: usize) -> Result<Slot, Refusal> {
         let done = change!(&mut self.memory, self.scratch.get_mut(), yexwalu_edit(self.header)(handle.0, bytes.as_ptr(), bytes.len(), start));
-        Ok(self.done(done)?.0 as u32)
+        Ok(Slot(self.done(done)?.0 as u32))
     }
 
     /// Bytes over the visible data of a slot, from the offset `at` in it. Bytes that are not there are refused (9); where nothing of a live slot is visible the write still counts.
@@ -384,19 +428,29 @@ impl Heap {
     /// assert_eq!(heap.stamp(slot)?.writes, 1);
     /// # Ok::<(), Refusal>(())
     /// ```
-    pub fn write(&mut self, slot: u32, at: usize, bytes: &[u8]) -> Result<(), Refusal> {
-        let answer = change!(&mut self.memory, self.scratch.get_mut(), yexwalu_write(self.header)(slot as usize, at, bytes.as_ptr(), bytes.len()));
+    pub fn write(&mut self, slot: impl Into<Slot>, at: usize, bytes: &[u8]) -> Result<(), Refusal> {
+        let answer = change!(&mut self.memory, self.scratch.get_mut(), yexwalu_write(self.header)(slot.into().at(), at, bytes.as_ptr(), bytes.len()));
         Refusal::check(answer.number)
     }
 
     /// A new handle for a live slot: older ones become stale, and its writes are counted from 0 again. `grown` is added to the bytes since the last collection. A slot that is not there or dead is
     /// refused (9), and then one that has its last generation, 4,294,967,295 (20).
-    pub fn reissue(&mut self, slot: u32, grown: u64) -> Result<Handle, Refusal> {
-        let done = change!(&mut self.memory, self.scratch.get_mut(), yexwalu_reissue(self.header)(slot as usize, grown));
+    pub fn reissue(&mut self, slot: impl Into<Slot>, grown: u64) -> Result<Handle, Refusal> {
+        let done = change!(&mut self.memory, self.scratch.get_mut(), yexwalu_reissue(self.header)(slot.into().at(), grown));
         Ok(Handle(self.done(done)?.0))
     }
 
     /// The seals become the handles of all live slots: collections keep what these lead to.
+    ///
+    /// ```
+    /// use yexwalu::{Heap, Kind, Refusal, TypeTable};
+    /// let mut heap = Heap::new(1, 64, 4096)?;
+    /// let hall = heap.alloc(Kind::Bytes, b"AB")?;
+    /// heap.seal()?;
+    /// heap.collect(&TypeTable::new(), &[], &[])?;
+    /// assert!(heap.resolve(hall).is_ok());
+    /// # Ok::<(), Refusal>(())
+    /// ```
     pub fn seal(&mut self) -> Result<(), Refusal> {
         let done = change!(&mut self.memory, self.scratch.get_mut(), yexwalu_seal(self.header)());
         self.done(done).map(|_| ())
@@ -561,6 +615,15 @@ impl Heap {
     }
 
     /// Is a collection due: was more allocated since the last one than the threshold, and than it left?
+    ///
+    /// ```
+    /// use yexwalu::{Heap, Kind, Refusal};
+    /// let mut heap = Heap::new(1, 64, 4096)?;
+    /// heap.alloc(Kind::Bytes, b"AB")?;
+    /// // 2 bytes, and 32 for the object
+    /// assert_eq!((heap.gc_due(33)?, heap.gc_due(34)?), (true, false));
+    /// # Ok::<(), Refusal>(())
+    /// ```
     pub fn gc_due(&self, threshold: u64) -> Result<bool, Refusal> {
         Heap::yes(ask!(self, yexwalu_gc_due(threshold)))
     }
@@ -601,31 +664,61 @@ impl Heap {
     /// assert_eq!(heap.resolve(Handle(gone.0 + (1 << 32))), Err(Refusal::NeverIssued));
     /// # Ok::<(), Refusal>(())
     /// ```
-    pub fn resolve(&self, handle: Handle) -> Result<u32, Refusal> {
-        Ok(Heap::pair(ask!(self, yexwalu_resolve(handle.0)))?.0 as u32)
+    pub fn resolve(&self, handle: Handle) -> Result<Slot, Refusal> {
+        Ok(Slot(Heap::pair(ask!(self, yexwalu_resolve(handle.0)))?.0 as u32))
     }
 
     /// Where the visible data of a slot lies in the pool. It is refused (9) where the slot is not there or dead, or nothing is visible.
-    pub fn place(&self, slot: u32) -> Result<Range<usize>, Refusal> {
-        let (from, size) = Heap::pair(ask!(self, yexwalu_data(slot as usize)))?;
+    ///
+    /// ```
+    /// use yexwalu::{Heap, Kind, Refusal};
+    /// let mut heap = Heap::new(1, 64, 4096)?;
+    /// heap.alloc(Kind::Bytes, b"first")?;
+    /// heap.alloc_from(Kind::Bytes, 2, b"second")?;
+    /// assert_eq!(heap.place(1)?, 7..11);
+    /// assert_eq!(&heap.memory().pool[7..11], b"cond");
+    /// # Ok::<(), Refusal>(())
+    /// ```
+    pub fn place(&self, slot: impl Into<Slot>) -> Result<Range<usize>, Refusal> {
+        let (from, size) = Heap::pair(ask!(self, yexwalu_data(slot.into().at())))?;
         Ok(from as usize..from as usize + size as usize)
     }
 
     /// The visible data of a slot, refused as by `place`.
-    pub fn data(&self, slot: u32) -> Result<&[u8], Refusal> {
+    pub fn data(&self, slot: impl Into<Slot>) -> Result<&[u8], Refusal> {
         let place = self.place(slot)?;
         Ok(&self.memory.pool[place])
     }
 
     /// The kind of a slot's object; a slot that is not there or dead is refused (9).
-    pub fn kind(&self, slot: u32) -> Result<Kind, Refusal> {
-        let (kind, ty) = Heap::pair(ask!(self, yexwalu_kind(slot as usize)))?;
+    ///
+    /// ```
+    /// use yexwalu::{Heap, Kind, Refusal};
+    /// let mut heap = Heap::new(1, 64, 4096)?;
+    /// heap.alloc(Kind::Typed(3), b"AB")?;
+    /// assert_eq!(heap.kind(0)?, Kind::Typed(3));
+    /// assert_eq!(heap.kind(1), Err(Refusal::NothingThere));
+    /// # Ok::<(), Refusal>(())
+    /// ```
+    pub fn kind(&self, slot: impl Into<Slot>) -> Result<Kind, Refusal> {
+        let (kind, ty) = Heap::pair(ask!(self, yexwalu_kind(slot.into().at())))?;
         Ok(Kind::of(kind, ty))
     }
 
     /// The generation and the write count of a slot; one that is not there or dead is refused (9).
-    pub fn stamp(&self, slot: u32) -> Result<Stamp, Refusal> {
-        let (generation, writes) = Heap::pair(ask!(self, yexwalu_stamp(slot as usize)))?;
+    ///
+    /// ```
+    /// use yexwalu::{Heap, Kind, Refusal};
+    /// let mut heap = Heap::new(1, 64, 4096)?;
+    /// let hall = heap.alloc(Kind::Bytes, b"AB")?;
+    /// let before = heap.stamp(0)?;
+    /// heap.write(0, 0, b"a")?;
+    /// assert_eq!(heap.stamp(0)?.writes, before.writes + 1);
+    /// assert_eq!(heap.stamp(0)?.generation, hall.generation());
+    /// # Ok::<(), Refusal>(())
+    /// ```
+    pub fn stamp(&self, slot: impl Into<Slot>) -> Result<Stamp, Refusal> {
+        let (generation, writes) = Heap::pair(ask!(self, yexwalu_stamp(slot.into().at())))?;
         Ok(Stamp {
             generation: generation as u32,
             writes,
@@ -646,9 +739,10 @@ impl Heap {
     /// assert_eq!(heap.slot_handles(&table, heap.resolve(both)?)?, [Handle(7), Handle(8)]);
     /// # Ok::<(), Refusal>(())
     /// ```
-    pub fn slot_handles(&self, types: &TypeTable, slot: u32) -> Result<Vec<Handle>, Refusal> {
-        let mut out = vec![0; self.size_of(slot as usize) / 8];
-        let n = self.slot_handles_into(types, slot as usize, &mut out)?;
+    pub fn slot_handles(&self, types: &TypeTable, slot: impl Into<Slot>) -> Result<Vec<Handle>, Refusal> {
+        let slot = slot.into().at();
+        let mut out = vec![0; self.size_of(slot) / 8];
+        let n = self.slot_handles_into(types, slot, &mut out)?;
         out.truncate(n);
         Ok(out.into_iter().map(Handle).collect())
     }
@@ -666,24 +760,24 @@ impl Heap {
     /// together. It is refused where the table is not in order (10).
     ///
     /// ```
-    /// use yexwalu::{Heap, Kind, Refusal, TypeTable};
+    /// use yexwalu::{Heap, Kind, Refusal, Slot, TypeTable};
     /// let mut table = TypeTable::new();
     /// let access = table.access();
     /// let mut heap = Heap::new(1, 64, 4096)?;
     /// heap.alloc(Kind::Typed(access), &[0; 8])?;
     /// assert_eq!(heap.misfit(&table)?, None);
     /// heap.alloc(Kind::Typed(access), &[0; 7])?;
-    /// assert_eq!(heap.misfit(&table)?, Some(1));
-    /// assert_eq!(heap.misfit(&TypeTable::new())?, Some(0));
+    /// assert_eq!(heap.misfit(&table)?, Some(Slot(1)));
+    /// assert_eq!(heap.misfit(&TypeTable::new())?, Some(Slot(0)));
     /// # Ok::<(), Refusal>(())
     /// ```
-    pub fn misfit(&self, types: &TypeTable) -> Result<Option<u32>, Refusal> {
+    pub fn misfit(&self, types: &TypeTable) -> Result<Option<Slot>, Refusal> {
         let answer = ask!(self, yexwalu_traceable(
             types.types.as_ptr(), types.types.len(), types.fields.as_ptr(), types.fields.len(),
             types.consts.as_ptr(), types.consts.len(), types.bytes.as_ptr(), types.bytes.len())
             ());
         if answer.number == Refusal::Untraceable.number() {
-            return Ok(Some(answer.first as u32));
+            return Ok(Some(Slot(answer.first as u32)));
         }
         Heap::pair(answer)?;
         Ok(None)
@@ -729,6 +823,17 @@ impl Heap {
 
     /// The heap of a page, in new memory for so many objects and bytes of data, as `new` takes them. It is refused where the text is no page (17), what it shows is no heap or the sizes are out
     /// of range (1), and where the heap has more data (6) or more slots (5).
+    ///
+    /// ```
+    /// use yexwalu::{Heap, Kind, Refusal};
+    /// let mut heap = Heap::new(1, 64, 4096)?;
+    /// heap.alloc(Kind::Bytes, b"AB")?;
+    /// let page = heap.write_page()?;
+    /// assert_eq!(Heap::read_page(64, 4096, &page)?.memory(), heap.memory());
+    /// assert_eq!(Heap::read_page(64, 1, &page), Err(Refusal::NoRoom));
+    /// assert_eq!(Heap::read_page(64, 4096, &page[1..]), Err(Refusal::Page));
+    /// # Ok::<(), Refusal>(())
+    /// ```
     pub fn read_page(slots: usize, pool: usize, text: &[u8]) -> Result<Heap, Refusal> {
         let (memory, scratch) = Heap::memory_for(slots, pool);
         let mut heap = Heap::from_parts(Header::default(), memory, scratch);

@@ -14,8 +14,6 @@ pub const NO_CONSTANT: ConstId = u32::MAX;
 /// its values can't be traced (13). At most 4,096 types, 16,384 fields and 4,096 constants; a type may not unfold into more than 65,536 parts. What is not so is refused (10) when the table is used,
 /// not before.
 ///
-/// The methods that add something panic past 4,294,967,295 of its sort: there would be no number for it.
-///
 /// ```
 /// use yexwalu::{TypeTable, Refusal, descriptor, Direction};
 /// let mut table = TypeTable::new();
@@ -53,6 +51,12 @@ pub enum Direction {
 }
 
 /// The descriptor bytes of dimensions: left, right and direction of each, three signed little-endian words.
+///
+/// ```
+/// use yexwalu::{descriptor, Direction};
+/// let bytes = descriptor(&[(7, 0, Direction::Downto)]);
+/// assert_eq!((bytes.len(), bytes[0], bytes[16]), (24, 7, 1));
+/// ```
 pub fn descriptor(dimensions: &[(i64, i64, Direction)]) -> Vec<u8> {
     let mut bytes = Vec::new();
     for (left, right, direction) in dimensions {
@@ -65,6 +69,7 @@ pub fn descriptor(dimensions: &[(i64, i64, Direction)]) -> Vec<u8> {
 
 /// Where the parts of a value lie.
 #[derive(Clone, Debug, PartialEq, Eq)]
+#[non_exhaustive]
 pub struct Layout {
     /// Bytes of a value.
     pub size: u64,
@@ -233,6 +238,16 @@ impl TypeTable {
     }
 
     /// The bytes of a descriptor of a type; a type that has none of a fixed size is refused (11).
+    ///
+    /// ```
+    /// use yexwalu::{Refusal, TypeTable};
+    /// let mut table = TypeTable::new();
+    /// let real = table.real();
+    /// let matrix = table.array(real, None, 2);
+    /// assert_eq!(table.desc_size(matrix)?, 48);
+    /// assert_eq!(table.desc_size(9), Err(Refusal::Malformed));
+    /// # Ok::<(), Refusal>(())
+    /// ```
     pub fn desc_size(&self, ty: TypeId) -> Result<u64, Refusal> {
         let answer = on_table!(self, yexwalu_desc_size(ty.into()));
         Refusal::check(answer.number)?;
@@ -240,6 +255,15 @@ impl TypeTable {
     }
 
     /// Can values of the type hold handles? A type that is missing, or deeper than 64 levels, counts as one that can.
+    ///
+    /// ```
+    /// use yexwalu::{Refusal, TypeTable};
+    /// let mut table = TypeTable::new();
+    /// let (real, access) = (table.real(), table.access());
+    /// let pair = table.record(&[(real, None), (access, None)]);
+    /// assert_eq!((table.has_handles(real)?, table.has_handles(pair)?, table.has_handles(9)?), (false, true, true));
+    /// # Ok::<(), Refusal>(())
+    /// ```
     pub fn has_handles(&self, ty: TypeId) -> Result<bool, Refusal> {
         let answer = on_table!(self, yexwalu_has_handles(ty.into()));
         Refusal::check(answer.number)?;
@@ -283,6 +307,15 @@ impl TypeTable {
     }
 
     /// The handles of a value of a type that needs no descriptor, refused as by `object_handles`.
+    ///
+    /// ```
+    /// use yexwalu::{Handle, Refusal, TypeTable};
+    /// let mut table = TypeTable::new();
+    /// let access = table.access();
+    /// assert_eq!(table.value_handles(access, &7u64.to_le_bytes())?, [Handle(7)]);
+    /// assert_eq!(table.value_handles(access, &[0; 7]), Err(Refusal::Untraceable));
+    /// # Ok::<(), Refusal>(())
+    /// ```
     pub fn value_handles(&self, ty: TypeId, data: &[u8]) -> Result<Vec<Handle>, Refusal> {
         TypeTable::listed(data.len() / 8, |out| self.value_handles_into(ty, data, out))
     }

@@ -258,6 +258,7 @@ fn an_object_beyond_all_memory_is_1() {
 }
 
 // The calls on a handle, each one with the output that it needs, and a slot's bytes that the pool has no room for.
+#[allow(clippy::type_complexity)]
 const ON_A_HANDLE: [(&str, fn(&mut Heap, Handle) -> Result<(), Refusal>); 4] = [
     ("resolve", |h, x| h.resolve(x).map(drop)),
     ("edit", |h, x| h.edit(x, &[0; 999], 0).map(drop)),
@@ -430,7 +431,7 @@ fn a_worn_out_slot_takes_no_handle() {
     let last = heap.reissue(1, 0).unwrap();
     assert_eq!(last, Handle(1 << 56 | 1 << 32 | u64::from(u32::MAX)));
     assert_eq!(heap.reissue(1, 0), Err(Refusal::WornOut));
-    assert_eq!(heap.resolve(last), Ok(1));
+    assert_eq!(heap.resolve(last), Ok(yexwalu::Slot(1)));
     assert_eq!(Refusal::WornOut.to_string(), "20: worn out");
 }
 
