@@ -169,9 +169,15 @@ columns-apart t = refl
 abbrev pub Both : Bool × Bool → Type 0
 Both n = Any (n .0) × Any (n .1)
 
+pub writes-right : Right (names slotFront wideWrites narrowWrites) Any
+writes-right = after-literal-right slotFront (either-right wideWrites narrowWrites writes-apart)
+
+pub columns-right : Right (either planesName dataName) Any
+columns-right = either-right planesName dataName columns-apart
+
 pub names-right : Right slotNamed Both
 unfolding slotNamed
-names-right = pair-right (after-literal-right slotFront (either-right wideWrites narrowWrites writes-apart)) λ _. either-right planesName dataName columns-apart
+names-right = pair-right writes-right λ _. columns-right
 
 abbrev pub Parts-good : Parts → Type 0
 Parts-good p = Any (p .0) × (Head-good (p .0) (p .1 .0) × (Both (p .1 .1 .0) × Body-good (formOf (p .0) (p .1 .1 .0 .0) (p .1 .1 .0 .1)) (p .1 .0 .1 .1 .1 .1) (p .1 .1 .1)))

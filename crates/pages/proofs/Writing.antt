@@ -14,8 +14,8 @@ use Rattle.text.proofs.Laws.{hex-length}
 use Rattle.text.proofs.Putting.{puts-puts, puts-byte, puts-length, puts-at}
 use Rattle.heap.specs.State.{Slot}
 use Rattle.planes.specs.Planes.{planes}
-use Rattle.planes.proofs.Laws.{length-planes}
-use Rattle.pages.specs.Form.{column}
+use Rattle.planes.proofs.Laws.{length-planes, length-restored}
+use Rattle.pages.specs.Form.{column, fromColumn}
 use Rattle.pages.specs.Page.{valueLine, slotLine, numbersLine}
 use Rattle.heap.specs.Lent.{Lent, slotIn}
 use Rattle.pages.specs.Columns.{slot, slotsIn, field, headFields}
@@ -80,6 +80,10 @@ puts-number {a} {b} {at} {k} n e p h =
 pub column-length : (p : Bool) (bs : List ℕ) → length (column p bs) ≡ length bs
 column-length true bs = length-planes 8 bs
 column-length false bs = refl
+
+pub back-length : (p : Bool) (bs : List ℕ) → length (fromColumn p bs) ≡ length bs
+back-length true bs = length-restored 8 bs
+back-length false bs = refl
 
 pub column-hex : (p : Bool) (bs : List ℕ) → length (hex (column p bs)) ≡ 2 * length bs
 column-hex p bs = hex-length (column p bs) ∙ ap (λ (n : ℕ). 2 * n) (column-length p bs)
