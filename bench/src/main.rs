@@ -95,12 +95,8 @@ impl Table {
 fn heap_with(slots: usize, objects: usize, bytes: &[u8]) -> Heap {
     let mut hex = String::new();
     page::hex(bytes, &mut hex);
-    let mut page = format!("tag,since_gc,reclaim_at,live_bytes,slots,free,quarantine,sealed\n1,0,4096,0,{objects},0,0,0\ngeneration,kind,type,start,writes64,data\n");
-    for _ in 0..objects {
-        page.push_str(&format!("1,2,0,0,0,{hex}\n"));
-    }
-    page.push_str("free\nquarantine\nsealed\n");
-    Heap::read_page(slots, slots * bytes.len(), page.as_bytes()).unwrap()
+    let rows = format!("1,2,0,0,0,{hex}\n").repeat(objects);
+    Heap::read_page(slots, slots * bytes.len(), page::of(objects, &rows).as_bytes()).unwrap()
 }
 
 // Half the slots hold objects of 32 bytes; each turn places one, takes it out again and recycles. By single calls, or by a script of a thousand turns.
@@ -265,20 +261,19 @@ fn copies(table: &mut Table, objects: usize) {
 // Objects of handles, all reached from the first, so that each collection does the same work again: the two heaps, and the handle of the first.
 fn graph(n: usize, edges: impl Fn(usize) -> Range<usize>) -> (Heap, heap::Heap, u64) {
     let handle = |i: usize| heap::pack(1, (i % n) as u32, 1);
-    let mut text = format!("tag,since_gc,reclaim_at,live_bytes,slots,free,quarantine,sealed\n1,0,4096,0,{n},0,0,0\ngeneration,kind,type,start,writes64,data\n");
+    let mut rows = String::new();
     let mut rust = heap::Heap::new(1);
     let mut pool = 0;
     for i in 0..n {
         let mut data = vec![0; 24];
         data.extend(edges(i).flat_map(|j| handle(j).to_le_bytes()));
         pool += data.len();
-        text.push_str("1,3,0,0,0,");
-        page::hex(&data, &mut text);
-        text.push('\n');
+        rows.push_str("1,3,0,0,0,");
+        page::hex(&data, &mut rows);
+        rows.push('\n');
         rust.alloc(heap::Obj::Handles, data).unwrap();
     }
-    text.push_str("free\nquarantine\nsealed\n");
-    (Heap::read_page(n, pool, text.as_bytes()).unwrap(), rust, handle(0))
+    (Heap::read_page(n, pool, page::of(n, &rows).as_bytes()).unwrap(), rust, handle(0))
 }
 
 fn collections(table: &mut Table, shape: &str, n: usize, edges: impl Fn(usize) -> Range<usize>) {

@@ -3,6 +3,14 @@
 use std::fmt::Write;
 use yexwalu::{Heap, Header, Memory};
 
+const NAMES: &str = "tag,since_gc,reclaim_at,live_bytes,slots,free,quarantine,sealed,retired";
+const COLUMNS: &str = "generation,kind,type,start,writes64,data";
+
+/// A page of a heap of tag 1 with these lines of slots, all live.
+pub fn of(slots: usize, rows: &str) -> String {
+    format!("{NAMES}\n1,0,4096,0,{slots},0,0,0,0\n{COLUMNS}\n{rows}free\nquarantine\nsealed\nretired\n")
+}
+
 pub fn hex(bytes: &[u8], out: &mut String) {
     for b in bytes {
         out.push(char::from(b"0123456789abcdef"[usize::from(b >> 4)]));
@@ -20,9 +28,10 @@ pub fn write(heap: &Heap, out: &mut String) {
     let (h, m) = (heap.header(), heap.memory());
     let (generation, kind, ty, start, end, writes) = (m.generation(), m.kind(), m.ty(), m.start(), m.end(), m.writes());
     out.clear();
-    out.push_str("tag,since_gc,reclaim_at,live_bytes,slots,free,quarantine,sealed\n");
-    let _ = writeln!(out, "{},{},{},{},{},{},{},{}", h.tag, h.since_gc, h.reclaim_at, h.live_bytes, h.slots, h.free, h.quarantine, h.sealed);
-    out.push_str("generation,kind,type,start,writes64,data\n");
+    out.push_str(NAMES);
+    let _ = writeln!(out, "\n{},{},{},{},{},{},{},{},{}", h.tag, h.since_gc, h.reclaim_at, h.live_bytes, h.slots, h.free, h.quarantine, h.sealed, h.retired);
+    out.push_str(COLUMNS);
+    out.push('\n');
     let mut from = 0;
     for i in 0..h.slots {
         let _ = write!(out, "{},{},{},{},{},", generation[i], kind[i], ty[i], start[i], writes[i]);
@@ -36,6 +45,8 @@ pub fn write(heap: &Heap, out: &mut String) {
     lines(&m.quarantine()[..h.quarantine], out);
     out.push_str("sealed\n");
     lines(&m.sealed()[..h.sealed], out);
+    out.push_str("retired\n");
+    lines(&m.retired()[..h.retired], out);
 }
 
 fn digit(b: u8) -> Option<u8> {
@@ -70,7 +81,7 @@ fn list<'a, T: std::str::FromStr>(lines: &mut impl Iterator<Item = &'a str>, nam
 
 pub fn read(text: &[u8], m: &mut Memory) -> Option<Header> {
     let mut lines = std::str::from_utf8(text).ok()?.lines();
-    if lines.next()? != "tag,since_gc,reclaim_at,live_bytes,slots,free,quarantine,sealed" {
+    if lines.next()? != NAMES {
         return None;
     }
     let mut numbers = lines.next()?.split(',').map(|n| n.parse::<u64>().ok());
@@ -84,7 +95,8 @@ pub fn read(text: &[u8], m: &mut Memory) -> Option<Header> {
     h.free = number()? as usize;
     h.quarantine = number()? as usize;
     h.sealed = number()? as usize;
-    if lines.next()? != "generation,kind,type,start,writes64,data" {
+    h.retired = number()? as usize;
+    if lines.next()? != COLUMNS {
         return None;
     }
     let (mut at, slots) = (0, m.slots());
@@ -94,7 +106,8 @@ pub fn read(text: &[u8], m: &mut Memory) -> Option<Header> {
     let (generation, rest) = m.narrow.split_at_mut(slots);
     let (kind, rest) = rest.split_at_mut(slots);
     let (ty, rest) = rest.split_at_mut(slots);
-    let (free, quarantine) = rest.split_at_mut(slots);
+    let (free, rest) = rest.split_at_mut(slots);
+    let (quarantine, retired) = rest.split_at_mut(slots);
     for i in 0..h.slots {
         let mut fields = lines.next()?.split(',');
         let mut number = || fields.next()?.parse::<u64>().ok();
@@ -109,5 +122,6 @@ pub fn read(text: &[u8], m: &mut Memory) -> Option<Header> {
     list(&mut lines, "free", free.get_mut(..h.free)?)?;
     list(&mut lines, "quarantine", quarantine.get_mut(..h.quarantine)?)?;
     list(&mut lines, "sealed", sealed.get_mut(..h.sealed)?)?;
+    list(&mut lines, "retired", retired.get_mut(..h.retired)?)?;
     Some(h)
 }

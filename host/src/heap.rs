@@ -46,9 +46,9 @@ pub struct Object {
 #[derive(Clone, Copy, Debug, PartialEq, Eq, Hash)]
 #[non_exhaustive]
 pub struct Stamp {
-    /// How often the slot was given out, given a new handle or released; after 4,294,967,295 comes 1.
+    /// How often the slot was given out, given a new handle or released. 4,294,967,295 is the last: a slot that has it keeps it.
     pub generation: u32,
-    /// How often its object was written or edited since then; after 4,294,967,295 comes 0.
+    /// How often its object was written or edited since then, modulo 2^64.
     pub writes: u64,
 }
 
@@ -638,8 +638,8 @@ impl Heap {
     /// let mut heap = Heap::new(1, 64, 4096)?;
     /// heap.alloc(Kind::Bytes, b"AB")?;
     /// let page = heap.write_page()?;
-    /// assert_eq!(page, b"tag,since_gc,reclaim_at,live_bytes,slots,free,quarantine,sealed\n1,34,4096,0,1,0,0,0\n\
-    /// generation,kind,type,start,writes64,data\n1,2,0,0,0,4142\nfree\nquarantine\nsealed\n");
+    /// assert_eq!(page, b"tag,since_gc,reclaim_at,live_bytes,slots,free,quarantine,sealed,retired\n1,34,4096,0,1,0,0,0,0\n\
+    /// generation,kind,type,start,writes64,data\n1,2,0,0,0,4142\nfree\nquarantine\nsealed\nretired\n");
     /// assert_eq!(Heap::read_page(64, 4096, &page)?.write_page()?, page);
     /// # Ok::<(), Refusal>(())
     /// ```
@@ -655,8 +655,8 @@ impl Heap {
     /// use yexwalu::{Heap, Kind, Refusal};
     /// let mut heap = Heap::new(1, 64, 4096)?;
     /// heap.alloc(Kind::Bytes, b"AB")?;
-    /// assert_eq!(heap.page_length()?, 163);
-    /// assert_eq!(heap.write_page()?.len(), 163);
+    /// assert_eq!(heap.page_length()?, 181);
+    /// assert_eq!(heap.write_page()?.len(), 181);
     /// # Ok::<(), Refusal>(())
     /// ```
     pub fn page_length(&self) -> Result<usize, Refusal> {
