@@ -7,10 +7,13 @@ use page_check::SlotLine;
 use refusal::Reply;
 use text::Decimal;
 ghost use mathlib.Core.Path.{_≡_};
-ghost use mathlib.Core.List.{List, [], _∷_, _++_};
+ghost use mathlib.Core.List.{List, [], _∷_, _++_, map};
 ghost use Prim.Native.Nat.{ℕ, _+_, _-_, _*_, _/_, _^_, _≤_, _<_};
 ghost use lib.ListN.{length, take, drop, replicate};
-ghost use Rattle.text.specs.Put.{putText};
+ghost use Rattle.text.specs.Put.{putText, Puts};
+ghost use Rattle.text.specs.Answer.{hexAt, HexParsed};
+ghost use Rattle.pages.specs.Form.{fromColumn};
+ghost use Rattle.pages.specs.Page.{outOfColumn};
 ghost use Rattle.heap.specs.State.{dataOf, dataSize};
 ghost use Rattle.heap.specs.Packing.{flat};
 ghost use Rattle.page_check.specs.Partition.{valuesAt, ValuesParsed};
@@ -47,11 +50,25 @@ fn fill_slots(s: &[u8], at: usize, count: usize, narrow: &mut [u32], wide: &mut 
     }
 }
 
+// Puts an object's bytes, whose column a text spells from `at` on, into the pool from `to` on, and answers where they end. Planes are restored in place.
+fn fill_column(s: &[u8], at: usize, count: usize, planar: bool, pool: &mut [u8], to: usize) -> usize
+    requires { ⌜ HexParsed (now s) at ⌝ }
+    requires { ⌜ (count ≡ length (hexAt (now s) at)) × (to + count ≤ length (now pool)) ⌝ }
+    ensures { λ r. ⌜ Puts (now (pool .entry)) (now (pool .exit)) to r (fromColumn planar (hexAt (now (s .entry)) at)) ⌝ }
+{
+    let end = text::copy_hex(s, at, count, pool, to);
+    if planar {} else {
+        return end;
+    }
+    planes::restore(s, at, &mut pool[to..end]);
+    end
+}
+
 // Puts the data of `count` slots, whose lines stand from `at` on, into the pool, one after the other.
-fn fill_data(s: &[u8], at: usize, count: usize, pool: &mut [u8])
+fn fill_data(s: &[u8], at: usize, count: usize, planar: bool, pool: &mut [u8])
     requires { ⌜ SlotsParsed (now s) at count ⌝ }
     requires { ⌜ (at ≤ length (now s)) × (dataSize (slotsAt (now s) at count) ≤ length (now pool)) ⌝ }
-    ensures { λ _. ⌜ now (pool .exit) ≡ putText (now (pool .entry)) 0 (flat (dataOf (slotsAt (now (s .entry)) at count))) ⌝ }
+    ensures { λ _. ⌜ now (pool .exit) ≡ putText (now (pool .entry)) 0 (flat (dataOf (map (outOfColumn planar) (slotsAt (now (s .entry)) at count)))) ⌝ }
 {
     let mut k = at;
     let mut to = 0;
@@ -61,7 +78,7 @@ fn fill_data(s: &[u8], at: usize, count: usize, pool: &mut [u8])
             return;
         };
         let from = x.next - 1 - x.bytes - x.bytes;
-        to = text::copy_hex(s, from, x.bytes, pool, to);
+        to = fill_column(s, from, x.bytes, planar, pool, to);
         k = x.next;
         i += 1;
     }
@@ -212,7 +229,7 @@ fn load(s: &[u8], x: Sections, narrow: &mut [u32], wide: &mut [u64], pool: &mut 
     memory::clear_u64(wide);
     memory::clear_u8(pool);
     fill_slots(s, x.slots_at, x.slots, narrow, wide);
-    fill_data(s, x.slots_at, x.slots, pool);
+    fill_data(s, x.slots_at, x.slots, x.planar, pool);
     let c = part_free(s, x.free_at, x.free, narrow);
     let free = c.free;
     let moved = c.retired;
