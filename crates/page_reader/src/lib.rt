@@ -12,7 +12,8 @@ ghost use Prim.Native.Nat.{ℕ, _+_, _-_, _*_, _/_, _^_, _≤_, _<_};
 ghost use lib.ListN.{length, take, drop, replicate};
 ghost use Rattle.text.specs.Put.{putText, Puts};
 ghost use Rattle.text.specs.Answer.{hexAt, HexParsed};
-ghost use Rattle.pages.specs.Form.{fromColumn};
+ghost use Rattle.word.specs.Choice.{if_then_else_};
+ghost use Rattle.pages.specs.Form.{writesWidth, fromColumn};
 ghost use Rattle.pages.specs.Page.{outOfColumn};
 ghost use Rattle.heap.specs.State.{dataOf, dataSize};
 ghost use Rattle.heap.specs.Packing.{flat};
@@ -237,7 +238,30 @@ fn load(s: &[u8], x: Sections, narrow: &mut [u32], wide: &mut [u64], pool: &mut 
     header(s, x, free, moved)
 }
 
-// Reads a page into lent memory. `work` has a word for each slot.
+// How many bits a write count has, under the name that was met.
+fn bits_met(wide: bool) -> u64
+    ensures { λ r. ⌜ r ≡ writesWidth wide ⌝ }
+{
+    if wide { 64 } else { 32 }
+}
+
+// 1 for a page with `retired`, 2 for one with `planes`, 3 for both, 0 for neither.
+fn names_met(retiring: bool, planar: bool) -> u64
+    ensures { λ r. ⌜ r ≡ (if retiring then 1 else 0) + (if planar then 2 else 0) ⌝ }
+{
+    if retiring {
+        if planar {
+            return 3;
+        }
+        return 1;
+    }
+    if planar {
+        return 2;
+    }
+    0
+}
+
+// Reads a page into lent memory, and answers which names it met. `work` has a word for each slot.
 pub fn read(
     heap: Heap,
     narrow: &mut [u32],
@@ -256,9 +280,11 @@ pub fn read(
     match found {
         Checked::Page(x) => {
             let loaded = load(s, x, narrow, wide, pool);
+            let bits = bits_met(x.wide);
+            let names = names_met(x.retiring, x.planar);
             Changed {
                 heap: loaded,
-                reply: Reply::Is(0, 0),
+                reply: Reply::Is(bits, names),
             }
         }
         Checked::Not(why) => Changed {
