@@ -29,7 +29,7 @@ mod types;
 pub use ffi::Header;
 pub use function::{Class, Function, InstKind, Wanted};
 pub use handle::Handle;
-pub use heap::{Heap, Kind, Memory, Object, Scratch, Stamp};
+pub use heap::{Column, Form, Heap, Kind, Memory, Object, Scratch, Stamp};
 pub use refusal::Refusal;
 pub use types::{descriptor, ConstId, Direction, FrameSlot, Layout, TypeId, TypeTable, NO_CONSTANT};
 
