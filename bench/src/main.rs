@@ -12,7 +12,7 @@ mod page;
 use std::hint::black_box;
 use std::ops::Range;
 use yavs_ir::{Block, BlockId, Field, Func, Inst, Ops, Program, Reg, RegTy, Ty, TyId};
-use yexwalu::{Column, Class, Direction, Function, Handle, Heap, InstKind, Kind, Memory, TypeTable, Wanted, descriptor};
+use yexwalu::{Class, Column, Direction, Function, Handle, Heap, InstKind, Kind, Memory, TypeTable, Wanted, descriptor};
 
 const SIZES: [usize; 4] = [1_000, 10_000, 100_000, 1_000_000];
 const OBJECTS: [usize; 3] = [16, 1024, 16384];
