@@ -242,7 +242,9 @@ fn pages(table: &mut Table, objects: usize, read: bool, column: Column) {
     assert!(page::read(&text, planar, &mut plain.1) == Some(*heap.header()) && plain.1 == *heap.memory());
     if read {
         let b = time(|| assert!(page::read(black_box(&text), planar, &mut plain.1).is_some()));
-        let a = time(|| drop(heap.read_page_over(black_box(&text)).unwrap()));
+        let a = time(|| {
+            heap.read_page_over(black_box(&text)).unwrap();
+        });
         table.row(&format!("read_{name} (ns), by bytes"), text.len(), a, b);
     } else {
         let b = time(|| page::write(black_box(&heap), planar, &mut plain.0));
