@@ -12,7 +12,7 @@ mod page;
 use std::hint::black_box;
 use std::ops::Range;
 use yavs_ir::{Block, BlockId, Field, Func, Inst, Ops, Program, Reg, RegTy, Ty, TyId};
-use yexwalu::{Class, Direction, Function, Handle, Heap, InstKind, Kind, Memory, TypeTable, Wanted, descriptor};
+use yexwalu::{Class, Column, Direction, Function, Handle, Heap, InstKind, Kind, Memory, TypeTable, Wanted, descriptor};
 
 const SIZES: [usize; 4] = [1_000, 10_000, 100_000, 1_000_000];
 const OBJECTS: [usize; 3] = [16, 1024, 16384];
@@ -250,23 +250,26 @@ fn live(table: &mut Table, what: &str, size: usize, blocks: usize, registers: us
 }
 
 // A page of so many objects of 64 bytes, written and read by the port and by plain Rust.
-fn pages(table: &mut Table, objects: usize, read: bool) {
+fn pages(table: &mut Table, objects: usize, read: bool, column: Column) {
+    let (planar, name) = (column == Column::Planes, if column == Column::Planes { "planes" } else { "page" });
     let bytes: Vec<u8> = (0..64).map(|i| i * 37).collect();
     let mut heap = heap_with(objects, objects, &bytes);
-    let text = heap.write_page().unwrap();
+    let text = heap.page_with(column).unwrap();
     let mut out = vec![0; text.len()];
     let mut plain = (String::new(), Memory::zeros(objects, heap.memory().pool.len()));
-    page::write(&heap, &mut plain.0);
+    page::write(&heap, planar, &mut plain.0);
     assert_eq!(plain.0.as_bytes(), text);
-    assert!(page::read(&text, &mut plain.1) == Some(*heap.header()) && plain.1 == *heap.memory());
+    assert!(page::read(&text, planar, &mut plain.1) == Some(*heap.header()) && plain.1 == *heap.memory());
     if read {
-        let b = time(|| assert!(page::read(black_box(&text), &mut plain.1).is_some()));
-        let a = time(|| heap.read_page_over(black_box(&text)).unwrap());
-        table.row("read_page (ns), by bytes", text.len(), a, b);
+        let b = time(|| assert!(page::read(black_box(&text), planar, &mut plain.1).is_some()));
+        let a = time(|| {
+            heap.read_page_over(black_box(&text)).unwrap();
+        });
+        table.row(&format!("read_{name} (ns), by bytes"), text.len(), a, b);
     } else {
-        let b = time(|| page::write(black_box(&heap), &mut plain.0));
-        let a = time(|| assert!(black_box(&heap).write_page_into(&mut out).is_ok()));
-        table.row("write_page (ns), by bytes", text.len(), a, b);
+        let b = time(|| page::write(black_box(&heap), planar, &mut plain.0));
+        let a = time(|| assert!(black_box(&heap).write_page_with(column, &mut out).is_ok()));
+        table.row(&format!("write_{name} (ns), by bytes"), text.len(), a, b);
     }
 }
 
@@ -347,7 +350,7 @@ fn roots_found(table: &mut Table, shape: &str, n: usize, count: usize, edges: im
     table.row(&format!("roots_for, {shape} (ns), by slots"), n, a, b);
 }
 
-const ROWS: [&str; 13] = ["churn", "script", "view", "layout", "object_handles", "live_refs", "sparse_rows", "collect", "joined", "roots_for", "write_page", "read_page", "memcpy"];
+const ROWS: [&str; 15] = ["churn", "script", "view", "layout", "object_handles", "live_refs", "sparse_rows", "collect", "joined", "roots_for", "write_page", "read_page", "write_planes", "read_planes", "memcpy"];
 
 fn main() {
     let words: Vec<String> = std::env::args().skip(1).collect();
@@ -381,7 +384,8 @@ fn main() {
                 SIZES.iter().for_each(|n| roots_found(&mut table, "all apart", *n, *n, |_| 0..0));
             }
             "memcpy" => OBJECTS.iter().for_each(|n| copies(&mut table, *n)),
-            _ => OBJECTS.iter().for_each(|n| pages(&mut table, *n, row == "read_page")),
+            "write_planes" | "read_planes" => OBJECTS.iter().for_each(|n| pages(&mut table, *n, row == "read_planes", Column::Planes)),
+            _ => OBJECTS.iter().for_each(|n| pages(&mut table, *n, row == "read_page", Column::Data)),
         }
     }
 }

@@ -5,6 +5,7 @@ use yexwalu::{Heap, Header, Memory};
 
 const NAMES: &str = "tag,since_gc,reclaim_at,live_bytes,slots,free,quarantine,sealed,retired";
 const COLUMNS: &str = "generation,kind,type,start,writes64,data";
+const IN_PLANES: &str = "generation,kind,type,start,writes64,planes";
 
 /// A page of a heap of tag 1 with these lines of slots, all live.
 pub fn of(slots: usize, rows: &str) -> String {
@@ -24,18 +25,42 @@ fn lines<T: std::fmt::Display>(values: &[T], out: &mut String) {
     }
 }
 
-pub fn write(heap: &Heap, out: &mut String) {
+fn word(bytes: &[u8], i: usize) -> u64 {
+    u64::from_le_bytes(bytes[8 * i..8 * i + 8].try_into().unwrap())
+}
+
+// An object's byte planes, and the way back.
+fn planes(bytes: &[u8]) -> Vec<u8> {
+    let n = bytes.len() / 8;
+    let less: Vec<u64> = (0..n).map(|i| word(bytes, i).wrapping_sub(if i == 0 { 0 } else { word(bytes, i - 1) })).collect();
+    (0..8).flat_map(|j| less.iter().map(move |d| (d >> (8 * j)) as u8)).chain(bytes[8 * n..].iter().copied()).collect()
+}
+
+fn restore(bytes: &mut [u8]) {
+    let (n, column, mut sum) = (bytes.len() / 8, bytes.to_vec(), 0u64);
+    for i in 0..n {
+        sum = (0..8).fold(sum, |s, j| s.wrapping_add(u64::from(column[j * n + i]) << (8 * j)));
+        bytes[8 * i..8 * i + 8].copy_from_slice(&sum.to_le_bytes());
+    }
+}
+
+pub fn write(heap: &Heap, planar: bool, out: &mut String) {
     let (h, m) = (heap.header(), heap.memory());
     let (generation, kind, ty, start, end, writes) = (m.generation(), m.kind(), m.ty(), m.start(), m.end(), m.writes());
     out.clear();
     out.push_str(NAMES);
     let _ = writeln!(out, "\n{},{},{},{},{},{},{},{},{}", h.tag, h.since_gc, h.reclaim_at, h.live_bytes, h.slots, h.free, h.quarantine, h.sealed, h.retired);
-    out.push_str(COLUMNS);
+    out.push_str(if planar { IN_PLANES } else { COLUMNS });
     out.push('\n');
     let mut from = 0;
     for i in 0..h.slots {
         let _ = write!(out, "{},{},{},{},{},", generation[i], kind[i], ty[i], start[i], writes[i]);
-        hex(&m.pool[from..end[i] as usize], out);
+        let object = &m.pool[from..end[i] as usize];
+        if planar {
+            hex(&planes(object), out);
+        } else {
+            hex(object, out);
+        }
         out.push('\n');
         from = end[i] as usize;
     }
@@ -79,7 +104,7 @@ fn list<'a, T: std::str::FromStr>(lines: &mut impl Iterator<Item = &'a str>, nam
     Some(())
 }
 
-pub fn read(text: &[u8], m: &mut Memory) -> Option<Header> {
+pub fn read(text: &[u8], planar: bool, m: &mut Memory) -> Option<Header> {
     let mut lines = std::str::from_utf8(text).ok()?.lines();
     if lines.next()? != NAMES {
         return None;
@@ -96,7 +121,7 @@ pub fn read(text: &[u8], m: &mut Memory) -> Option<Header> {
     h.quarantine = number()? as usize;
     h.sealed = number()? as usize;
     h.retired = number()? as usize;
-    if lines.next()? != COLUMNS {
+    if lines.next()? != (if planar { IN_PLANES } else { COLUMNS }) {
         return None;
     }
     let (mut at, slots) = (0, m.slots());
@@ -116,7 +141,11 @@ pub fn read(text: &[u8], m: &mut Memory) -> Option<Header> {
         ty[i] = number()? as u32;
         start[i] = number()?;
         writes[i] = number()?;
+        let from = at;
         at = decode(fields.next()?, &mut m.pool, at)?;
+        if planar {
+            restore(&mut m.pool[from..at]);
+        }
         end[i] = at as u64;
     }
     list(&mut lines, "free", free.get_mut(..h.free)?)?;

@@ -13,7 +13,7 @@ KINDS = ["dead", "Typed", "Bytes", "Handles"]
 LAST = 4294967295     # the generation of a slot that is worn out
 # Sections 2 and 14: the names lines that are known, of the earlier forms and of the one that is written now. A later form adds a line here.
 HEADS = [["tag", "since_gc", "reclaim_at", "live_bytes", "slots", "free", "quarantine", "sealed"] + last for last in ([], ["retired"])]
-SLOTS = [["generation", "kind", "type", "start", writes, "data"] for writes in ("writes", "writes64")]
+SLOTS = [["generation", "kind", "type", "start", writes, column] for column in ("planes", "data") for writes in ("writes", "writes64")]
 WIDTHS = {"tag": 8, "kind": 8, "since_gc": 64, "reclaim_at": 64, "live_bytes": 64, "start": 64, "writes64": 64}      # the others: 32
 TABLE = [("types", ["class", "a", "b", "c", "name"], 64), ("fields", ["type", "constant", "name"], 32), ("constants", ["plain", "start", "length", "name"], 64)]
 
@@ -62,6 +62,21 @@ def unhex(field):
         raise Refused(17)
     return bytes.fromhex(field.decode())
 
+def planes(data):
+    """Section 2: an object's bytes as byte planes."""
+    n = len(data) // 8
+    words = struct.unpack_from(f"<{n}Q", data)
+    less = [(w - b) % 2 ** 64 for w, b in zip(words, (0,) + words)]
+    return bytes(d >> 8 * j & 255 for j in range(8) for d in less) + data[8 * n:]
+
+def restored(column):
+    """The way back: the planes of each word together, then sums."""
+    n, word, data = len(column) // 8, 0, b""
+    for i in range(n):
+        word = (word + sum(column[j * n + i] << 8 * j for j in range(8))) % 2 ** 64
+        data += struct.pack("<Q", word)
+    return data + column[8 * n:]
+
 def read_page(text):
     """The heap of a page (sections 2 and 3). 17: no page. 1: the page of a broken heap."""
     lines = Lines(text)
@@ -71,7 +86,7 @@ def read_page(text):
     for _ in range(heap["slots"]):
         parts = lines.fields(len(columns))
         slots.append({n: number(f, 2 ** WIDTHS.get(n, 32) - 1) for n, f in zip(columns[:-1], parts)})
-        slots[-1]["data"] = unhex(parts[-1])
+        slots[-1]["data"] = (restored if columns[-1] == "planes" else bytes)(unhex(parts[-1]))
         slots[-1].setdefault("writes64", slots[-1].pop("writes", 0))     # an earlier count is carried over
     for name in head[5:]:
         lines.names([[name]])

@@ -575,26 +575,29 @@ yexwalu_done yexwalu_run(
 
 /* ---- A heap as a page of text ---- */
 
-/* How many bytes the heap's page has. first: that number. 18, 1. */
+/* How many bytes the heap's page has, with byte planes (planar) or with data. first: that number. 18, 1. */
 yexwalu_answer yexwalu_page_length(
     yexwalu_header heap,
     const uint32_t *narrow, size_t narrow_len,
     const uint64_t *wide, size_t wide_len,
     const uint8_t *pool, size_t pool_len,
+    bool planar,
     uint8_t *marks, size_t marks_len,
     uint64_t *work, size_t work_len);
 
-/* Writes the heap as a page to the front of `out`. first: how many bytes, which is what yexwalu_page_length says; so many are enough. 18, 1, 7. */
+/* Writes the heap as a page to the front of `out`, with byte planes (planar) or with data. first: how many bytes, which is what yexwalu_page_length says; so many are enough. 18, 1, 7. */
 yexwalu_answer yexwalu_write_page(
     yexwalu_header heap,
     const uint32_t *narrow, size_t narrow_len,
     const uint64_t *wide, size_t wide_len,
     const uint8_t *pool, size_t pool_len,
+    bool planar,
     uint8_t *out, size_t out_len,
     uint8_t *marks, size_t marks_len,
     uint64_t *work, size_t work_len);
 
-/* Reads a page into the lent memory; what it held is not looked at. 18, 17, 1, 6, 5. */
+/* Reads a page into the lent memory; what it held is not looked at. first: how many bits the page's write counts have, 64 or 32. second: 1 where it has the list `retired`, and 2 more where
+ * it has planes. Written again with what was met, a page with 64 and `retired` gives the same bytes. 18, 17, 1, 6, 5. */
 yexwalu_done yexwalu_read_page(
     yexwalu_header heap,
     uint32_t *narrow, size_t narrow_len,

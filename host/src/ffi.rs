@@ -157,10 +157,10 @@ heap_calls! {
         slot: usize, out: *mut u64, out_len: usize;) -> Answer;
     /// See [`Heap::misfit`](crate::Heap::misfit).
     yexwalu_traceable(types: *const u64, types_len: usize, fields: *const u32, fields_len: usize, consts: *const u64, consts_len: usize, bytes: *const u8, bytes_len: usize, heap: Header;;) -> Answer;
-    /// See [`Heap::page_length`](crate::Heap::page_length).
-    yexwalu_page_length(heap: Header;;) -> Answer;
-    /// See [`Heap::write_page_into`](crate::Heap::write_page_into).
-    yexwalu_write_page(heap: Header; out: *mut u8, out_len: usize;) -> Answer;
+    /// See [`Heap::page_length_with`](crate::Heap::page_length_with).
+    yexwalu_page_length(heap: Header; planar: bool;) -> Answer;
+    /// See [`Heap::write_page_with`](crate::Heap::write_page_with).
+    yexwalu_write_page(heap: Header; planar: bool, out: *mut u8, out_len: usize;) -> Answer;
     /// See [`Heap::read_page_over`](crate::Heap::read_page_over).
     yexwalu_read_page(heap: Header; text: *const u8, text_len: usize;) -> Done;
     /// See [`Heap::collect`](crate::Heap::collect).

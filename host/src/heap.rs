@@ -54,6 +54,27 @@ pub struct Stamp {
     pub writes: u64,
 }
 
+/// How the objects of a page are written.
+#[derive(Clone, Copy, Debug, PartialEq, Eq, Hash)]
+pub enum Column {
+    /// As they are, under the name `data`.
+    Data,
+    /// In byte planes, under the name `planes`: each whole word of eight bytes less the one before it, then the lowest bytes of all words, the next lowest, and so on (docs/FORMAT.md).
+    Planes,
+}
+
+/// The form of a page that was read. It may get more fields.
+#[derive(Clone, Copy, Debug, PartialEq, Eq, Hash)]
+#[non_exhaustive]
+pub struct Form {
+    /// How many bits its write counts have: 64 under the name `writes64`, 32 under `writes`.
+    pub bits: u32,
+    /// It has the list `retired`.
+    pub retired: bool,
+    /// How its objects are written.
+    pub column: Column,
+}
+
 /// The memory that a heap lies in: numbers of 32 bits, numbers of 64 bits, and the data. A heap's is made with it; the fields are public so that a host can save, damage or lend them as it likes: every
 /// call looks whether they hold a heap. They may become more.
 ///
@@ -796,8 +817,25 @@ impl Heap {
     /// # Ok::<(), Refusal>(())
     /// ```
     pub fn write_page(&self) -> Result<Vec<u8>, Refusal> {
-        let mut out = vec![0; self.page_length()?];
-        self.write_page_into(&mut out)?;
+        self.page_with(Column::Data)
+    }
+
+    /// As `write_page`, with objects as they are or in byte planes, which pack better.
+    ///
+    /// ```
+    /// use yexwalu::{Column, Heap, Kind, Refusal};
+    /// let mut heap = Heap::new(1, 64, 4096)?;
+    /// heap.alloc(Kind::Bytes, &[1000u64, 1001, 1003].map(u64::to_le_bytes).concat())?;
+    /// let page = heap.page_with(Column::Planes)?;
+    /// assert!(page.ends_with(b"writes64,planes\n1,2,0,0,0,e80102030000000000000000000000000000000000000000\nfree\nquarantine\nsealed\nretired\n"));
+    /// let mut again = Heap::new(1, 64, 4096)?;
+    /// let form = again.read_page_over(&page)?;
+    /// assert_eq!(again.page_with(form.column)?, page);
+    /// # Ok::<(), Refusal>(())
+    /// ```
+    pub fn page_with(&self, column: Column) -> Result<Vec<u8>, Refusal> {
+        let mut out = vec![0; self.page_length_with(column)?];
+        self.write_page_with(column, &mut out)?;
         Ok(out)
     }
 
@@ -812,12 +850,22 @@ impl Heap {
     /// # Ok::<(), Refusal>(())
     /// ```
     pub fn page_length(&self) -> Result<usize, Refusal> {
-        Ok(Heap::pair(ask!(self, yexwalu_page_length()))?.0 as usize)
+        self.page_length_with(Column::Data)
+    }
+
+    /// The same of a page with this column. With planes it has two bytes more, those of the longer name.
+    pub fn page_length_with(&self, column: Column) -> Result<usize, Refusal> {
+        Ok(Heap::pair(ask!(self, yexwalu_page_length(column == Column::Planes)))?.0 as usize)
     }
 
     /// As `write_page`, with the text written to the front of a lent output. The answer is the number of bytes, which is `page_length`. An output of so many bytes is enough; a shorter one is refused (7).
     pub fn write_page_into(&self, out: &mut [u8]) -> Result<usize, Refusal> {
-        let answer = ask!(self, yexwalu_write_page(out.as_mut_ptr(), out.len()));
+        self.write_page_with(Column::Data, out)
+    }
+
+    /// The same with this column; the answer is `page_length_with`.
+    pub fn write_page_with(&self, column: Column, out: &mut [u8]) -> Result<usize, Refusal> {
+        let answer = ask!(self, yexwalu_write_page(column == Column::Planes, out.as_mut_ptr(), out.len()));
         Ok(Heap::pair(answer)?.0 as usize)
     }
 
@@ -841,9 +889,11 @@ impl Heap {
         Ok(heap)
     }
 
-    /// As `read_page`, into this heap's memory. What it held is not looked at, and stays after a refusal.
-    pub fn read_page_over(&mut self, text: &[u8]) -> Result<(), Refusal> {
+    /// As `read_page`, into this heap's memory. What it held is not looked at, and stays after a refusal. The answer is the form that was met: a page of 64 bits with `retired` is written
+    /// again to the same bytes with the column that was met.
+    pub fn read_page_over(&mut self, text: &[u8]) -> Result<Form, Refusal> {
         let done = change!(&mut self.memory, self.scratch.get_mut(), yexwalu_read_page(self.header)(text.as_ptr(), text.len()));
-        self.done(done).map(|_| ())
+        let (bits, names) = self.done(done)?;
+        Ok(Form { bits: bits as u32, retired: names & 1 == 1, column: if names < 2 { Column::Data } else { Column::Planes } })
     }
 }

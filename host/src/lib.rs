@@ -36,7 +36,7 @@ mod view;
 pub use ffi::Header;
 pub use function::{Class, Function, InstKind, Wanted};
 pub use handle::Handle;
-pub use heap::{Heap, Kind, Memory, Object, Scratch, Stamp};
+pub use heap::{Column, Form, Heap, Kind, Memory, Object, Scratch, Stamp};
 pub use place::{page_stops, Place};
 pub use refusal::Refusal;
 pub use slot::Slot;

@@ -1,7 +1,7 @@
 //! A page has the length that is told before. Damaged pages: a page that is read gives back its very text; one that is refused leaves what was lent.
 mod common;
 use common::{narrow, sample, without_retired, Random};
-use yexwalu::{Heap, Kind, Refusal, Scratch};
+use yexwalu::{Column, Heap, Kind, Refusal, Scratch};
 
 // Reads a text into memory that held something else.
 fn read(slots: usize, pool: usize, text: &[u8]) -> Result<Heap, Refusal> {
@@ -10,9 +10,10 @@ fn read(slots: usize, pool: usize, text: &[u8]) -> Result<Heap, Refusal> {
     let answer = heap.read_page_over(text);
     assert_eq!(heap.scratch(), Scratch::zeros(slots));
     match answer {
-        Ok(()) => {
+        Ok(form) => {
             assert!(heap.header().epoch == 0 && heap.header().log == [0; 16]);
-            assert_eq!(heap.write_page().unwrap(), text, "a page that is read is written again");
+            assert!(form.bits == 64 && form.retired);
+            assert_eq!(heap.page_with(form.column).unwrap(), text, "a page that is read is written again");
             Ok(heap)
         }
         Err(why) => {
@@ -61,6 +62,50 @@ fn a_page_has_the_length_that_is_told() {
         let mut out = vec![0xee; n - 1];
         assert_eq!(heap.write_page_into(&mut out), Err(Refusal::ShortList));
         assert!(out.iter().all(|b| *b == 0xee));
+    }
+}
+
+// The column of an object, by the sentence of the request.
+fn planes(bytes: &[u8]) -> Vec<u8> {
+    let (words, rest) = bytes.split_at(bytes.len() / 8 * 8);
+    let words: Vec<u64> = words.chunks(8).map(|w| u64::from_le_bytes(w.try_into().unwrap())).collect();
+    let less: Vec<[u8; 8]> = (0..words.len()).map(|i| words[i].wrapping_sub(if i == 0 { 0 } else { words[i - 1] }).to_le_bytes()).collect();
+    (0..8).flat_map(|j| less.iter().map(move |w| w[j])).chain(rest.iter().copied()).collect()
+}
+
+#[test]
+fn planes_are_written_and_read_back() {
+    let mut random = Random::new(41);
+    for length in (0..40).chain([63, 64, 65, 800]) {
+        let bytes: Vec<u8> = (0..length).map(|_| random.below(256) as u8).collect();
+        let mut heap = Heap::new(7, 4, 4096).unwrap();
+        let handle = heap.alloc(Kind::Bytes, &bytes).unwrap();
+        heap.alloc(Kind::Bytes, &[0xff; 17]).unwrap();
+        let data = heap.write_page().unwrap();
+        let page = heap.page_with(Column::Planes).unwrap();
+        assert_eq!(page.len(), data.len() + 2);
+        assert_eq!(heap.page_length_with(Column::Planes).unwrap(), page.len());
+        let column: String = planes(&bytes).iter().map(|b| format!("{b:02x}")).collect();
+        assert!(String::from_utf8(page.clone()).unwrap().contains(&format!("writes64,planes\n1,2,0,0,0,{column}\n")), "{length}");
+        let mut again = read(4, 4096, &page).unwrap();
+        assert_eq!(again.memory(), heap.memory());
+        assert_eq!(again.write_page().unwrap(), data);
+        assert_eq!(again.take(handle).unwrap().bytes, bytes);
+    }
+}
+
+#[test]
+fn every_form_is_told() {
+    let (heap, _) = sample(8, 64);
+    for column in [Column::Data, Column::Planes] {
+        let page = String::from_utf8(heap.page_with(column).unwrap()).unwrap();
+        for (text, bits, retired) in [(page.clone(), 64, true), (narrow(&page), 32, true), (without_retired(&page), 64, false), (without_retired(&narrow(&page)), 32, false)] {
+            let mut again = Heap::new(1, 8, 64).unwrap();
+            let form = again.read_page_over(text.as_bytes()).unwrap();
+            assert_eq!((form.bits, form.retired, form.column), (bits, retired, column));
+            assert_eq!(again.memory(), heap.memory());
+            assert_eq!(again.page_with(column).unwrap(), page.as_bytes());
+        }
     }
 }
 

@@ -2,12 +2,12 @@
 //! it was.
 mod common;
 use common::sample;
-use yexwalu::{descriptor, ffi, Class, Direction, FrameSlot, Function, Handle, Header, Heap, InstKind, Kind, Memory, Refusal, Scratch, TypeTable, Wanted};
+use yexwalu::{Column, descriptor, ffi, Class, Direction, FrameSlot, Function, Handle, Header, Heap, InstKind, Kind, Memory, Refusal, Scratch, TypeTable, Wanted};
 
 type Call = (&'static str, fn(&mut Heap) -> Result<(), Refusal>);
 
 // Every call on a heap, each one that succeeds on the sample.
-const CALLS: [Call; 27] = [
+const CALLS: [Call; 29] = [
     ("alloc", |h| h.alloc(Kind::Bytes, b"x").map(drop)),
     ("alloc_from", |h| h.alloc_from(Kind::Bytes, 0, b"x").map(drop)),
     ("take", |h| h.take_into(Handle(7 << 56 | 2 << 32 | 1), &mut [0; 64]).map(drop)),
@@ -30,11 +30,13 @@ const CALLS: [Call; 27] = [
     ("slot_handles", |h| h.slot_handles(&plain(), 2).map(drop)),
     ("traceable", |h| h.misfit(&plain()).map(drop)),
     ("page_length", |h| h.page_length().map(drop)),
+    ("page_length", |h| h.page_length_with(Column::Planes).map(drop)),
     ("write_page", |h| h.write_page_into(&mut [0; 4096]).map(drop)),
+    ("write_page", |h| h.write_page_with(Column::Planes, &mut [0; 4096]).map(drop)),
     ("collect", |h| h.collect(&plain(), &[Handle(7 << 56 | 2 << 32 | 1)], &[1])),
     ("collect_joined", |h| h.collect_joined(&plain(), &stopped(), 1, &[7 << 56 | 2 << 32 | 1, 0], &[], &[], &[1], &[])),
     ("run", |h| h.run(b"alloc,0,2,41\nseal,0,0,\n")),
-    ("read_page", |h| h.read_page_over(b"tag,since_gc,reclaim_at,live_bytes,slots,free,quarantine,sealed\n1,0,4096,0,0,0,0,0\ngeneration,kind,type,start,writes,data\nfree\nquarantine\nsealed\n")),
+    ("read_page", |h| h.read_page_over(b"tag,since_gc,reclaim_at,live_bytes,slots,free,quarantine,sealed\n1,0,4096,0,0,0,0,0\ngeneration,kind,type,start,writes,data\nfree\nquarantine\nsealed\n").map(drop)),
 ];
 
 // Types without handles, so that the sample can be traced.

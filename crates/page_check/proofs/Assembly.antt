@@ -1,29 +1,30 @@
 -- The whole of a page, part by part as the first pass reads it.
 use Prim.Native.Nat.{ℕ, suc, _+_, _-_, _^_, _≤_, _<_}
-use mathlib.Core.List.{List, [], _∷_, _++_}
+use mathlib.Core.List.{List, [], _∷_, _++_, map}
 use mathlib.Core.Option.{Option, none, some}
 use mathlib.Core.Bool.{Bool, true, false, _&&_}
 use mathlib.Core.Path.{_≡_, refl, sym, ap, _∙_, subst}
 use lib.Dec.{ltb}
-use lib.ListN.{length, drop, drop-of-length-le}
+use lib.ListN.{length, drop, drop-of-length-le, length-map}
 use lib.Seq.{drop-cons}
 use native.Mathlib.Omega.{arith}
 use Rattle.word.specs.Lists.{all}
 use Rattle.word.proofs.ListLaws.{all-append}
 use Rattle.text.specs.Text.{give, readLiteral}
-use Rattle.text.specs.Format.{Format, Right, number, pair, times, afterLiteral, readAll}
+use Rattle.text.specs.Format.{Format, Right, number, pair, times, afterLiteral, mapped, readAll}
 use Rattle.text.proofs.Laws.{times-right, number-right}
 use Rattle.text.proofs.Getting.{suffix}
 use Rattle.heap.specs.State.{Slot, State, dataSize}
 use Rattle.heap.specs.WellFormed.{soundSlot, soundSeals, soundReclaim, sound}
-use Rattle.pages.specs.Form.{Form, formOf, freeName, quarantineName, sealedName}
-use Rattle.pages.specs.Page.{Head, headFormat, bodyFormat, slotFormat, retiredFormat, pageFormat, readPage, whole, stateOf}
+use Rattle.pages.specs.Form.{Form, formOf, slotNamed, freeName, quarantineName, sealedName}
+use Rattle.pages.specs.Page.{Head, headFormat, bodyFormat, slotFormat, outOfColumn, slotsFormat, retiredFormat, pageFormat, readPage, whole, stateOf}
 use Rattle.pages.proofs.Laws.{slot-right, slots-wider, head-right}
 use Rattle.page_check.specs.Answer.{headAnswer, slotsAnswer, indicesMore, sealsMore}
 use Rattle.page_check.specs.Partition.{valuesAt, ValuesParsed}
-use Rattle.page_check.specs.Parts.{numbersOf, heapNamed, slotNamed, sectionsOf}
+use Rattle.page_check.specs.Parts.{numbersOf, heapNamed, sectionsOf}
 use Rattle.page_check.specs.Sections.{heapIn, formIn, soundBut, Sectioned}
 use Rattle.page_check.specs.Filling.{SlotsParsed}
+use Rattle.page_check.proofs.Columned.{same-sound, same-size}
 use Rattle.page_check.proofs.Once.{slots-are, read-count}
 use Rattle.page_check.specs.declared.HeadRead.{HeadRead}
 use Rattle.page_check.specs.declared.HeadLine.{HeadLine}
@@ -129,69 +130,69 @@ seals-none s k cnt tag n {r} e f = go (readAll (number 64 10 .read) cnt (drop k 
 
 module _ (s : List ℕ) where
   pub page-none-1 : heapNamed .read (drop 0 s) ≡ none → readPage s ≡ none
-  unfolding readPage pageFormat afterLiteral pair bodyFormat times
+  unfolding readPage pageFormat afterLiteral pair bodyFormat slotsFormat mapped times
   page-none-1 q = rw (q)
 
   module _ (ret : Bool) (a : ℕ) (e1 : heapNamed .read (drop 0 s) ≡ give ret (drop a s)) where
     pub page-none-2 : headFormat ret .read (drop a s) ≡ none → readPage s ≡ none
-    unfolding readPage pageFormat afterLiteral pair bodyFormat times
+    unfolding readPage pageFormat afterLiteral pair bodyFormat slotsFormat mapped times
     page-none-2 q = rw (e1, q)
 
     module _ (x : HeadRead) (e2 : headFormat ret .read (drop a s) ≡ give (numbersOf x) (drop (x .next) s)) where
       pub page-none-3 : slotNamed .read (drop (x .next) s) ≡ none → readPage s ≡ none
-      unfolding readPage pageFormat afterLiteral pair bodyFormat times
+      unfolding readPage pageFormat afterLiteral pair bodyFormat slotsFormat mapped times
       page-none-3 q = rw (e1, e2, q)
 
-      module _ (w : Bool) (b : ℕ) (e3 : slotNamed .read (drop (x .next) s) ≡ give w (drop b s)) where
+      module _ (w p : Bool) (b : ℕ) (e3 : slotNamed .read (drop (x .next) s) ≡ give (w, p) (drop b s)) where
         pub page-none-4 : readAll (slotFormat w .read) (x .slots) (drop b s) ≡ none → readPage s ≡ none
-        unfolding readPage pageFormat afterLiteral pair bodyFormat times
+        unfolding readPage pageFormat afterLiteral pair bodyFormat slotsFormat mapped times
         page-none-4 q = rw (e1, e2, e3, q)
 
         module _ (sl : List Slot) (c : ℕ) (e4 : readAll (slotFormat w .read) (x .slots) (drop b s) ≡ give sl (drop c s)) where
           pub page-none-5 : readLiteral freeName (drop c s) ≡ none → readPage s ≡ none
-          unfolding readPage pageFormat afterLiteral pair bodyFormat times
+          unfolding readPage pageFormat afterLiteral pair bodyFormat slotsFormat mapped times
           page-none-5 q = rw (e1, e2, e3, e4, q)
 
           module _ (d : ℕ) (e5 : readLiteral freeName (drop c s) ≡ some (drop d s)) where
             pub page-none-6 : readAll (number 32 10 .read) (x .free) (drop d s) ≡ none → readPage s ≡ none
-            unfolding readPage pageFormat afterLiteral pair bodyFormat times
+            unfolding readPage pageFormat afterLiteral pair bodyFormat slotsFormat mapped times
             page-none-6 q = rw (e1, e2, e3, e4, e5, q)
 
             module _ (fl : List ℕ) (e : ℕ) (e6 : readAll (number 32 10 .read) (x .free) (drop d s) ≡ give fl (drop e s)) where
               pub page-none-7 : readLiteral quarantineName (drop e s) ≡ none → readPage s ≡ none
-              unfolding readPage pageFormat afterLiteral pair bodyFormat times
+              unfolding readPage pageFormat afterLiteral pair bodyFormat slotsFormat mapped times
               page-none-7 q = rw (e1, e2, e3, e4, e5, e6, q)
 
               module _ (g : ℕ) (e7 : readLiteral quarantineName (drop e s) ≡ some (drop g s)) where
                 pub page-none-8 : readAll (number 32 10 .read) (x .quarantine) (drop g s) ≡ none → readPage s ≡ none
-                unfolding readPage pageFormat afterLiteral pair bodyFormat times
+                unfolding readPage pageFormat afterLiteral pair bodyFormat slotsFormat mapped times
                 page-none-8 q = rw (e1, e2, e3, e4, e5, e6, e7, q)
 
                 module _ (ql : List ℕ) (i : ℕ) (e8 : readAll (number 32 10 .read) (x .quarantine) (drop g s) ≡ give ql (drop i s)) where
                   pub page-none-9 : readLiteral sealedName (drop i s) ≡ none → readPage s ≡ none
-                  unfolding readPage pageFormat afterLiteral pair bodyFormat times
+                  unfolding readPage pageFormat afterLiteral pair bodyFormat slotsFormat mapped times
                   page-none-9 q = rw (e1, e2, e3, e4, e5, e6, e7, e8, q)
 
                   module _ (j : ℕ) (e9 : readLiteral sealedName (drop i s) ≡ some (drop j s)) where
                     pub page-none-10 : readAll (number 64 10 .read) (x .sealed) (drop j s) ≡ none → readPage s ≡ none
-                    unfolding readPage pageFormat afterLiteral pair bodyFormat times
+                    unfolding readPage pageFormat afterLiteral pair bodyFormat slotsFormat mapped times
                     page-none-10 q = rw (e1, e2, e3, e4, e5, e6, e7, e8, e9, q)
 
                     module _ (zl : List ℕ) (k : ℕ) (e10 : readAll (number 64 10 .read) (x .sealed) (drop j s) ≡ give zl (drop k s)) where
                       pub page-none-11 : retiredFormat ret (x .retired) .read (drop k s) ≡ none → readPage s ≡ none
-                      unfolding readPage pageFormat afterLiteral pair bodyFormat times
+                      unfolding readPage pageFormat afterLiteral pair bodyFormat slotsFormat mapped times
                       page-none-11 q = rw (e1, e2, e3, e4, e5, e6, e7, e8, e9, e10, q)
 
                       module _ (rl : List ℕ) (o : ℕ) (e11 : retiredFormat ret (x .retired) .read (drop k s) ≡ give rl (drop o s)) where
                         page-more : (m : ℕ) (t : List ℕ) → drop o s ≡ m ∷ t → readPage s ≡ none
-                        unfolding readPage pageFormat afterLiteral pair bodyFormat times
+                        unfolding readPage pageFormat afterLiteral pair bodyFormat slotsFormat mapped times
                         page-more m t q = rw (e1, e2, e3, e4, e5, e6, e7, e8, e9, e10, e11, q)
 
                         pub page-long : o < length s → readPage s ≡ none
                         page-long h = page-more (lib.ListN.getD s o 0) (drop (suc o) s) (drop-cons s o 0 h)
 
-                        pub page-whole : length s ≤ o → readPage s ≡ some (formOf ret w, stateOf (numbersOf x) (sl, (fl, (ql, (zl, rl)))))
-                        unfolding readPage pageFormat afterLiteral pair bodyFormat times
+                        pub page-whole : length s ≤ o → readPage s ≡ some (formOf ret w p, stateOf (numbersOf x) (map (outOfColumn p) sl, (fl, (ql, (zl, rl)))))
+                        unfolding readPage pageFormat afterLiteral pair bodyFormat slotsFormat mapped times
                         page-whole h = rw (e1, e2, e3, e4, e5, e6, e7, e8, e9, e10, e11, drop-of-length-le s {i = o} h)
 
 -- THE VERDICT
@@ -220,12 +221,12 @@ unfolding formIn
 form-is s f h e = rw (e, formIn)
 
 -- the sections that were read are those of the heap that they make up
-module _ (s : List ℕ) (wide : Bool) (x : HeadRead) (sl : List Slot) (fl ql zl rl : List ℕ) where
+module _ (s : List ℕ) (wide planar : Bool) (x : HeadRead) (sl : List Slot) (fl ql zl rl : List ℕ) where
   abbrev pub made : State
-  made = stateOf (numbersOf x) (sl, (fl, (ql, (zl, rl))))
+  made = stateOf (numbersOf x) (map (outOfColumn planar) sl, (fl, (ql, (zl, rl))))
 
   abbrev form : Form
-  form = formOf (x .retiring) wide
+  form = formOf (x .retiring) wide planar
 
   pub sectioned : (b c d g i j k l size : ℕ) (rest rest′ : List ℕ) (a1 a2 a3 a4 a5 r : Bool) → readPage s ≡ some (form, made) →
       readAll (slotFormat wide .read) (x .slots) (drop b s) ≡ give sl (drop c s) → a1 ≡ all soundSlot sl → size ≡ dataSize sl →
@@ -235,22 +236,24 @@ module _ (s : List ℕ) (wide : Bool) (x : HeadRead) (sl : List Slot) (fl ql zl 
       readAll (number 32 10 .read) (x .retired) (drop l s) ≡ give rl rest′ → a5 ≡ all (λ i. ltb i (x .slots)) rl → (x .retiring ≡ false → rl ≡ []) →
       r ≡ (a1 && (a2 && a3 && a5) && a4 && soundReclaim (x .«reclaim_at»)) →
       b ≤ length s → d ≤ length s → i ≤ length s → k ≤ length s → l ≤ length s →
-      Sectioned s (sectionsOf wide x b d i k l size r)
+      Sectioned s (sectionsOf wide planar x b d i k l size r)
   sectioned b c d g i j k l size rest rest′ a1 a2 a3 a4 a5 r page met h1 hs ef h2 eq h3 ez h4 er h5 hn hr lb ld li lk ll =
       let w : heapIn s ≡ made = heap-is s form made page in
       let f : formIn s ≡ form = form-is s form made page in
       let es : readAll (slotFormat true .read) (x .slots) (drop b s) ≡ give sl (drop c s) = slots-wider wide (x .slots) (drop b s) sl (drop c s) met in
-      let n : length sl ≡ x .slots = read-count (x .slots) (drop b s) sl (drop c s) es in
+      let n : length (map (outOfColumn planar) sl) ≡ x .slots = length-map sl (outOfColumn planar) ∙ read-count (x .slots) (drop b s) sl (drop c s) es in
+      let h1′ : a1 ≡ all soundSlot (map (outOfColumn planar) sl) = h1 ∙ sym (same-sound planar sl) in
       record {
         page = page ∙ (λ j. some (sym f j, sym w j));
         retiring = ap (λ (g : Form). g .retiring) (sym f);
         wide = ap (λ (g : Form). g .wide) (sym f);
+        planar = ap (λ (g : Form). g .planar) (sym f);
         tag = ap (λ (h : State). h .tag) (sym w);
         since = ap (λ (h : State). h .sinceGc) (sym w);
         reclaim = ap (λ (h : State). h .reclaimAt) (sym w);
         live = ap (λ (h : State). h .liveBytes) (sym w);
         slots = slots-parsed s b (x .slots) sl (drop c s) es;
-        slotsAre = slots-are s b (x .slots) sl (drop c s) es ∙ ap (λ (h : State). h .slots) (sym w);
+        slotsAre = ap (map (outOfColumn planar)) (slots-are s b (x .slots) sl (drop c s) es) ∙ ap (λ (h : State). h .slots) (sym w);
         slotCount = sym n ∙ ap (λ (h : State). length (h .slots)) (sym w);
         free = values-parsed 32 s d (x .free) fl (drop g s) ef;
         freeAre = values-are 32 s d (x .free) fl (drop g s) ef ∙ ap (λ (h : State). h .free) (sym w);
@@ -265,9 +268,9 @@ module _ (s : List ℕ) (wide : Bool) (x : HeadRead) (sl : List Slot) (fl ql zl 
         retiredAre = values-are 32 s l (x .retired) rl rest′ er ∙ ap (λ (h : State). h .retired) (sym w);
         retiredCount = sym (values-count 32 s l (x .retired) rl rest′ er) ∙ ap (λ (h : State). length (h .retired)) (sym w);
         retiredNone = λ e. ap (λ (h : State). h .retired) w ∙ hn e;
-        size = hs ∙ ap (λ (h : State). dataSize (h .slots)) (sym w);
+        size = hs ∙ sym (same-size planar sl) ∙ ap (λ (h : State). dataSize (h .slots)) (sym w);
         sound =
-            hr ∙ rw (h1, h2, h3, h4, h5, ← all-append (λ i. ltb i (x .slots)) fl ql, ← all-append (λ i. ltb i (x .slots)) (fl ++ ql) rl, ← n) refl ∙ ap soundBut (sym w);
+            hr ∙ rw (h1′, h2, h3, h4, h5, ← all-append (λ i. ltb i (x .slots)) fl ql, ← all-append (λ i. ltb i (x .slots)) (fl ++ ql) rl, ← n) refl ∙ ap soundBut (sym w);
         slotsInside = lb;
         freeInside = ld;
         quarantineInside = li;

@@ -25,6 +25,7 @@ use Rattle.pages.proofs.Laws.{slot-right}
 use Rattle.heap.proofs.Counting.{times-append}
 use Rattle.page_check.specs.Partition.{valuesAt, marked, Marked, expected, right, agree, each}
 use Rattle.page_check.specs.Filling.{slotsAt, SlotsParsed, RunChecked}
+use Rattle.page_check.proofs.Columned.{same-each}
 use Rattle.page_check.specs.Sections.{heapIn, listed, obeyed, Sectioned}
 use Rattle.page_check.specs.declared.Sections.{Sections}
 use Rattle.page_check.specs.declared.Rule.{Rule}
@@ -221,35 +222,41 @@ module _ (s : List ℕ) (rule : Rule) (dead : List ℕ) (k m base : ℕ) (p : Sl
 
 -- RUN AFTER RUN
 
+-- the lines of all slots
+abbrev lines : List ℕ → Sections → List Slot
+lines s x = slotsAt s (x .«slots_at») (x .slots)
+
 -- what is left after `base` slots decides
 pub record Left (s : List ℕ) (x : Sections) (rule : Rule) (k base : ℕ) : Type 0 where
   pub below : base ≤ x .slots
   pub inside : k ≤ length s
-  pub same : obeyed rule (heapIn s) ≡ each rule (listed rule (heapIn s)) (drop base (heapIn s .slots)) base
+  pub same : obeyed rule (heapIn s) ≡ each rule (listed rule (heapIn s)) (drop base (lines s x)) base
   pub rest : List ℕ
-  pub reads : readAll (slotFormat true .read) (x .slots - base) (drop k s) ≡ give (drop base (heapIn s .slots)) rest
+  pub reads : readAll (slotFormat true .read) (x .slots - base) (drop k s) ≡ give (drop base (lines s x)) rest
 
 pub left-whole : (s : List ℕ) (x : Sections) (rule : Rule) → Sectioned s x → Left s x rule (x .«slots_at») 0
 left-whole s x rule q =
     record {
       below = omega arith;
       inside = q .slotsInside;
-      same = refl;
+      same =
+          ap (λ (l : List Slot). each rule (listed rule (heapIn s)) l 0) (sym (q .slotsAre))
+          ∙ same-each (x .planar) rule (listed rule (heapIn s)) (lines s x) 0;
       rest = q .slots .rest;
-      reads = ap (λ (n : ℕ). readAll (slotFormat true .read) n (drop (x .«slots_at») s)) (sub-zero (x .slots)) ∙ q .slots .reads ∙ ap (λ (l : List Slot). give l (q .slots .rest)) (q .slotsAre);
+      reads = ap (λ (n : ℕ). readAll (slotFormat true .read) n (drop (x .«slots_at») s)) (sub-zero (x .slots)) ∙ q .slots .reads;
     }
 
 module _ (s : List ℕ) (x : Sections) (rule : Rule) (k m base : ℕ) (p : Left s x rule k base) (h : base + m ≤ x .slots) where
-  run-part : Part s k m base (x .slots) (heapIn s .slots) (p .rest)
-  run-part = part s k m base (x .slots) (heapIn s .slots) (p .rest) h (p .reads)
+  run-part : Part s k m base (x .slots) (lines s x) (p .rest)
+  run-part = part s k m base (x .slots) (lines s x) (p .rest) h (p .reads)
 
   pub run-parsed : SlotsParsed s k m
   run-parsed = run-part .parsed
 
   module _ {ok : Bool} {next : ℕ} (c : RunChecked s rule (listed rule (heapIn s)) k m base ok next) where
-    run-splits : obeyed rule (heapIn s) ≡ (ok && each rule (listed rule (heapIn s)) (drop (base + m) (heapIn s .slots)) (base + m))
+    run-splits : obeyed rule (heapIn s) ≡ (ok && each rule (listed rule (heapIn s)) (drop (base + m) (lines s x)) (base + m))
     run-splits =
-        let l : List Slot = heapIn s .slots in
+        let l : List Slot = lines s x in
         let d : List ℕ = listed rule (heapIn s) in
         let chunk : List Slot = take m (drop base l) in
         p .same ∙ ap (λ (y : List Slot). each rule d y base) (sym (take-append-drop m (drop base l))) ∙ each-append rule d chunk (drop m (drop base l)) base
@@ -258,14 +265,14 @@ module _ (s : List ℕ) (x : Sections) (rule : Rule) (k m base : ℕ) (p : Left 
         ∙ ap (λ (b : Bool). b && each rule d (drop (base + m) l) (base + m)) (ap (λ (z : List Slot). each rule d z base) (sym (run-part .slots)) ∙ sym (c .told))
 
     pub left-wrong : ok ≡ false → false ≡ obeyed rule (heapIn s)
-    left-wrong e = sym (run-splits ∙ ap (λ (b : Bool). b && each rule (listed rule (heapIn s)) (drop (base + m) (heapIn s .slots)) (base + m)) e)
+    left-wrong e = sym (run-splits ∙ ap (λ (b : Bool). b && each rule (listed rule (heapIn s)) (drop (base + m) (lines s x)) (base + m)) e)
 
     pub left-next : ok ≡ true → Left s x rule next (base + m)
     left-next e =
         record {
           below = h;
           inside = c .inside e;
-          same = run-splits ∙ ap (λ (b : Bool). b && each rule (listed rule (heapIn s)) (drop (base + m) (heapIn s .slots)) (base + m)) e;
+          same = run-splits ∙ ap (λ (b : Bool). b && each rule (listed rule (heapIn s)) (drop (base + m) (lines s x)) (base + m)) e;
           rest = p .rest;
           reads = run-part .after next (c .after e);
         }
@@ -273,4 +280,4 @@ module _ (s : List ℕ) (x : Sections) (rule : Rule) (k m base : ℕ) (p : Left 
 pub left-none : (s : List ℕ) (x : Sections) (rule : Rule) (k base : ℕ) → Sectioned s x → Left s x rule k base → x .slots ≤ base → true ≡ obeyed rule (heapIn s)
 unfolding each
 left-none s x rule k base q p h =
-    sym (p .same ∙ ap (λ (l : List Slot). each rule (listed rule (heapIn s)) l base) (drop-of-length-le (heapIn s .slots) {i = base} (omega (arith, q .slotCount))))
+    sym (p .same ∙ ap (λ (l : List Slot). each rule (listed rule (heapIn s)) l base) (drop-of-length-le (lines s x) {i = base} (omega (arith, read-count (x .slots) (drop (x .«slots_at») s) (lines s x) (q .slots .rest) (q .slots .reads)))))

@@ -82,53 +82,53 @@ module _ (s : List ℕ) where
   head-no p e = ⊎-elim (λ q. page-none-1 s q) (λ w. page-none-2 s (w .0) (w .1) (w .2) (w .3)) (subst (HeadSectioned s) e p)
 
   module _ (x : HeadRead) (h : HeadFound s x) where
-    pub slots-is : (b : ℕ) (ok : Bool) (size next : ℕ) (wide : Bool) {r : SlotSection} → SlotSectioned s (x .next) (x .slots) r → r ≡ Found b ok size next wide →
-        SlotsFound s (x .next) (x .slots) b ok size next wide
-    slots-is b ok size next wide p e = subst (SlotSectioned s (x .next) (x .slots)) e p
+    pub slots-is : (b : ℕ) (ok : Bool) (size next : ℕ) (wide planar : Bool) {r : SlotSection} → SlotSectioned s (x .next) (x .slots) r → r ≡ Found b ok size next wide planar →
+        SlotsFound s (x .next) (x .slots) b ok size next wide planar
+    slots-is b ok size next wide planar p e = subst (SlotSectioned s (x .next) (x .slots)) e p
 
     pub slots-no : {r : SlotSection} → SlotSectioned s (x .next) (x .slots) r → r ≡ Lost → readPage s ≡ none
     slots-no p e =
-        ⊎-elim (λ q. page-none-3 s (x .retiring) (h .begin) (h .named) x (h .reads) q) (λ w. page-none-4 s (x .retiring) (h .begin) (h .named) x (h .reads) (w .0) (w .1) (w .2) (w .3))
+        ⊎-elim (λ q. page-none-3 s (x .retiring) (h .begin) (h .named) x (h .reads) q) (λ w. page-none-4 s (x .retiring) (h .begin) (h .named) x (h .reads) (w .0) (w .1) (w .2) (w .3) (w .4))
         (subst (SlotSectioned s (x .next) (x .slots)) e p)
 
-    module _ (b : ℕ) (ok1 : Bool) (size c : ℕ) (wide : Bool) (k : SlotsFound s (x .next) (x .slots) b ok1 size c wide) where
+    module _ (b : ℕ) (ok1 : Bool) (size c : ℕ) (wide planar : Bool) (k : SlotsFound s (x .next) (x .slots) b ok1 size c wide planar) where
       pub free-no : {r : ListSection} → ListSectioned 32 freeName s c (x .free) (all (λ i. ltb i (x .slots))) r → r ≡ Unlisted → readPage s ≡ none
       free-no p e =
-          ⊎-elim (λ q. page-none-5 s (x .retiring) (h .begin) (h .named) x (h .reads) wide b (k .named) (k .slots) c (k .reads) q)
-          (λ w. page-none-6 s (x .retiring) (h .begin) (h .named) x (h .reads) wide b (k .named) (k .slots) c (k .reads) (w .0) (w .1) (w .2))
+          ⊎-elim (λ q. page-none-5 s (x .retiring) (h .begin) (h .named) x (h .reads) wide planar b (k .named) (k .slots) c (k .reads) q)
+          (λ w. page-none-6 s (x .retiring) (h .begin) (h .named) x (h .reads) wide planar b (k .named) (k .slots) c (k .reads) (w .0) (w .1) (w .2))
           (subst (ListSectioned 32 freeName s c (x .free) (all (λ i. ltb i (x .slots)))) e p)
 
       module _ (d : ℕ) (ok2 : Bool) (e : ℕ) (f : ListFound 32 freeName s c (x .free) (all (λ i. ltb i (x .slots))) d ok2 e) where
         pub quarantine-no : {r : ListSection} → ListSectioned 32 quarantineName s e (x .quarantine) (all (λ i. ltb i (x .slots))) r → r ≡ Unlisted → readPage s ≡ none
         quarantine-no p y =
-            ⊎-elim (λ q. page-none-7 s (x .retiring) (h .begin) (h .named) x (h .reads) wide b (k .named) (k .slots) c (k .reads) d (f .named) (f .values) e (f .reads) q)
-            (λ w. page-none-8 s (x .retiring) (h .begin) (h .named) x (h .reads) wide b (k .named) (k .slots) c (k .reads) d (f .named) (f .values) e (f .reads) (w .0) (w .1) (w .2))
+            ⊎-elim (λ q. page-none-7 s (x .retiring) (h .begin) (h .named) x (h .reads) wide planar b (k .named) (k .slots) c (k .reads) d (f .named) (f .values) e (f .reads) q)
+            (λ w. page-none-8 s (x .retiring) (h .begin) (h .named) x (h .reads) wide planar b (k .named) (k .slots) c (k .reads) d (f .named) (f .values) e (f .reads) (w .0) (w .1) (w .2))
             (subst (ListSectioned 32 quarantineName s e (x .quarantine) (all (λ i. ltb i (x .slots)))) y p)
 
         module _ (g : ℕ) (ok3 : Bool) (i : ℕ) (l : ListFound 32 quarantineName s e (x .quarantine) (all (λ i. ltb i (x .slots))) g ok3 i) where
           pub sealed-no : {r : ListSection} → ListSectioned 64 sealedName s i (x .sealed) (soundSeals (x .tag) (x .slots) 0) r → r ≡ Unlisted → readPage s ≡ none
           sealed-no p y =
               ⊎-elim
-              (λ q. page-none-9 s (x .retiring) (h .begin) (h .named) x (h .reads) wide b (k .named) (k .slots) c (k .reads) d (f .named) (f .values) e (f .reads) g (l .named) (l .values) i (l .reads) q)
-              (λ w. page-none-10 s (x .retiring) (h .begin) (h .named) x (h .reads) wide b (k .named) (k .slots) c (k .reads) d (f .named) (f .values) e (f .reads) g (l .named) (l .values) i (l .reads) (w .0) (w .1) (w .2))
+              (λ q. page-none-9 s (x .retiring) (h .begin) (h .named) x (h .reads) wide planar b (k .named) (k .slots) c (k .reads) d (f .named) (f .values) e (f .reads) g (l .named) (l .values) i (l .reads) q)
+              (λ w. page-none-10 s (x .retiring) (h .begin) (h .named) x (h .reads) wide planar b (k .named) (k .slots) c (k .reads) d (f .named) (f .values) e (f .reads) g (l .named) (l .values) i (l .reads) (w .0) (w .1) (w .2))
               (subst (ListSectioned 64 sealedName s i (x .sealed) (soundSeals (x .tag) (x .slots) 0)) y p)
 
           module _ (j : ℕ) (ok4 : Bool) (m : ℕ) (z : ListFound 64 sealedName s i (x .sealed) (soundSeals (x .tag) (x .slots) 0) j ok4 m) where
             pub retired-no : {r : ListSection} → RetiredSectioned (x .retiring) s m (x .retired) (all (λ i. ltb i (x .slots))) r → r ≡ Unlisted → readPage s ≡ none
             retired-no p y =
-                page-none-11 s (x .retiring) (h .begin) (h .named) x (h .reads) wide b (k .named) (k .slots) c (k .reads) d (f .named) (f .values) e (f .reads) g (l .named) (l .values) i (l .reads) j (z .named) (z .values) m (z .reads)
+                page-none-11 s (x .retiring) (h .begin) (h .named) x (h .reads) wide planar b (k .named) (k .slots) c (k .reads) d (f .named) (f .values) e (f .reads) g (l .named) (l .values) i (l .reads) j (z .named) (z .values) m (z .reads)
                 (subst (RetiredSectioned (x .retiring) s m (x .retired) (all (λ i. ltb i (x .slots)))) y p)
 
             module _ (n : ℕ) (ok5 : Bool) (o : ℕ) (a : RetiredFound (x .retiring) s m (x .retired) (all (λ i. ltb i (x .slots))) n ok5 o) where
               pub too-long : o < length s → readPage s ≡ none
               too-long q =
-                  page-long s (x .retiring) (h .begin) (h .named) x (h .reads) wide b (k .named) (k .slots) c (k .reads) d (f .named) (f .values) e (f .reads) g (l .named) (l .values) i (l .reads) j (z .named) (z .values) m (z .reads) (a .values) o (a .part) q
+                  page-long s (x .retiring) (h .begin) (h .named) x (h .reads) wide planar b (k .named) (k .slots) c (k .reads) d (f .named) (f .values) e (f .reads) g (l .named) (l .values) i (l .reads) j (z .named) (z .values) m (z .reads) (a .values) o (a .part) q
 
-              pub found-all : length s ≤ o → (r : Bool) {y : Sections} → r ≡ (ok1 && (ok2 && ok3 && ok5) && ok4 && soundReclaim (x .«reclaim_at»)) → y ≡ sectionsOf wide x b d g j n size r → Sectioned s y
+              pub found-all : length s ≤ o → (r : Bool) {y : Sections} → r ≡ (ok1 && (ok2 && ok3 && ok5) && ok4 && soundReclaim (x .«reclaim_at»)) → y ≡ sectionsOf wide planar x b d g j n size r → Sectioned s y
               found-all q r t w =
                   subst (Sectioned s) (sym w)
-                  (sectioned s wide x (k .slots) (f .values) (l .values) (z .values) (a .values) b c d e g i j n size (drop m s) (drop o s) ok1 ok2 ok3 ok4 ok5 r
-                  (page-whole s (x .retiring) (h .begin) (h .named) x (h .reads) wide b (k .named) (k .slots) c (k .reads) d (f .named) (f .values) e (f .reads) g (l .named) (l .values) i (l .reads) j (z .named) (z .values) m (z .reads) (a .values) o (a .part) q)
+                  (sectioned s wide planar x (k .slots) (f .values) (l .values) (z .values) (a .values) b c d e g i j n size (drop m s) (drop o s) ok1 ok2 ok3 ok4 ok5 r
+                  (page-whole s (x .retiring) (h .begin) (h .named) x (h .reads) wide planar b (k .named) (k .slots) c (k .reads) d (f .named) (f .values) e (f .reads) g (l .named) (l .values) i (l .reads) j (z .named) (z .values) m (z .reads) (a .values) o (a .part) q)
                   (k .reads) (k .sound) (k .bytes) (f .reads) (f .sound) (l .reads) (l .sound) (z .reads) (z .sound) (a .reads) (a .sound) (absent-none (x .retiring) s m (x .retired) _ n ok5 o a) t
                   (k .beginInside) (f .beginInside) (l .beginInside) (z .beginInside) (a .beginInside))
 

@@ -155,7 +155,7 @@ found-rest w s k sl rest e =
     let b = slot-right w .back (drop k s) sl rest e in
     let l : length (slotFormat w .print sl) + length rest ≡ length s - k = sym (length-append (slotFormat w .print sl) rest) ∙ ap length (b .1) ∙ length-drop k s in
     let m : length (slotFormat w .print sl) ≡ length (decimal (sl .generation)) + length (decimal (sl .kind)) + length (decimal (sl .type)) + length (decimal (sl .start)) + length (decimal (sl .writes)) + 2 * length (sl .bytes) + 6 =
-    ap length (slot-prints w sl) ∙ slot-length-decimal (sl .generation) (sl .kind) (sl .type) (sl .start) (sl .writes) (sl .bytes) in
+    ap length (slot-prints w sl) ∙ slot-length-decimal false (sl .generation) (sl .kind) (sl .type) (sl .start) (sl .writes) (sl .bytes) in
     (suffix (slotFormat w .print sl) rest s k (b .1), λ h. omega arith)
 
 -- a generation of 32 bits is at most the last

@@ -1,4 +1,4 @@
--- The slots whose lines stand in a text. A line with a write count of 32 bits is read alike as one of 64.
+-- The slots whose lines stand in a text, as they stand: their bytes are those of the column, planes or data. A line with a write count of 32 bits is read alike as one of 64.
 use Prim.Native.Nat.{ℕ, _≤_}
 use mathlib.Core.List.{List, []}
 use mathlib.Core.Option.{none, some}

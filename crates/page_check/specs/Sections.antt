@@ -1,6 +1,6 @@
 -- What the first pass over a text finds (01, "Page").
 use Prim.Native.Nat.{ℕ, _≤_}
-use mathlib.Core.List.{List, [], _++_}
+use mathlib.Core.List.{List, [], _++_, map}
 use mathlib.Core.Option.{Option, none, some}
 use mathlib.Core.Bool.{Bool, true, false, _&&_}
 use mathlib.Core.Path.{_≡_}
@@ -14,7 +14,7 @@ use Rattle.word.specs.Result.{Result, ok, refused}
 use Rattle.refusal.specs.Told.{numberOf}
 use Rattle.heap.specs.WellFormed.{soundSlot, soundSeals, soundReclaim, sound}
 use Rattle.pages.specs.Form.{Form, written}
-use Rattle.pages.specs.Page.{readPage, brought}
+use Rattle.pages.specs.Page.{outOfColumn, readPage, brought}
 use Rattle.page_check.specs.Partition.{valuesAt, ValuesParsed, each}
 use Rattle.page_check.specs.Filling.{slotsAt, SlotsParsed}
 use Rattle.page_check.specs.declared.Sections.{Sections}
@@ -31,7 +31,7 @@ heapIn t = elim (readPage t) [ none ↦ new 0 | some p ↦ p .1 ]
 
 -- and the form it has
 unfoldable pub formIn : List ℕ → Form
-formIn t = elim (readPage t) [ none ↦ written | some p ↦ p .0 ]
+formIn t = elim (readPage t) [ none ↦ written false | some p ↦ p .0 ]
 
 -- the heap that the page brings
 abbrev pub broughtIn : List ℕ → State
@@ -63,12 +63,13 @@ pub record Sectioned (s : List ℕ) (x : Sections) : Type 0 where
   pub page : readPage s ≡ some (formIn s, heapIn s)
   pub retiring : x .retiring ≡ formIn s .retiring
   pub wide : x .wide ≡ formIn s .wide
+  pub planar : x .planar ≡ formIn s .planar
   pub tag : x .tag ≡ heapIn s .tag
   pub since : x .«since_gc» ≡ heapIn s .sinceGc
   pub reclaim : x .«reclaim_at» ≡ heapIn s .reclaimAt
   pub live : x .«live_bytes» ≡ heapIn s .liveBytes
   pub slots : SlotsParsed s (x .«slots_at») (x .slots)
-  pub slotsAre : slotsAt s (x .«slots_at») (x .slots) ≡ heapIn s .slots
+  pub slotsAre : map (outOfColumn (x .planar)) (slotsAt s (x .«slots_at») (x .slots)) ≡ heapIn s .slots
   pub slotCount : x .slots ≡ length (heapIn s .slots)
   pub free : ValuesParsed 32 s (x .«free_at») (x .free)
   pub freeAre : valuesAt 32 s (x .«free_at») (x .free) ≡ heapIn s .free

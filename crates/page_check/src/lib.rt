@@ -22,7 +22,7 @@ ghost use Prim.Native.Nat.{_%_};
 ghost use Rattle.handle.specs.Handle.{tagOf, indexOf, generationOf};
 ghost use Rattle.heap.specs.WellFormed.{soundSeals, soundReclaim};
 ghost use Rattle.page_check.specs.Sections.{heapIn, formIn, listed, obeyed, parted, Sectioned, Parsing, verdict, Checking};
-ghost use Rattle.page_check.specs.Parts.{sectionsOf, HeadSectioned, SlotSectioned, ListSectioned, RetiredSectioned};
+ghost use Rattle.page_check.specs.Parts.{sectionsOf, HeadSectioned, NamesRead, SlotSectioned, ListSectioned, RetiredSectioned};
 ghost use Rattle.word.specs.Lists.{all};
 ghost use mathlib.Core.Bool.{true, false};
 
@@ -553,11 +553,12 @@ fn sound_parts(
     both(b, d)
 }
 
-// What the first pass finds in a page: whether it has the retired list, which name its write counts have, the heap's numbers, where the lines of its slots and lists begin,
+// What the first pass finds in a page: whether it has the retired list, which name its write counts have, planes or data, the heap's numbers, where the lines of its slots and lists begin,
 // how many bytes of data the slots have, and whether the heap is sound, its partition apart.
 pub struct Sections {
     pub retiring: bool,
     pub wide: bool,
+    pub planar: bool,
     pub tag: u64,
     pub since_gc: u64,
     pub reclaim_at: u64,
@@ -583,6 +584,7 @@ pub enum Parsed {
 
 fn assembled(
     wide: bool,
+    planar: bool,
     x: HeadRead,
     slots_at: usize,
     free_at: usize,
@@ -592,11 +594,12 @@ fn assembled(
     size: usize,
     sound: bool,
 ) -> Sections
-    ensures { λ r. ⌜ r ≡ sectionsOf wide x «slots_at» «free_at» «quarantine_at» «sealed_at» «retired_at» size sound ⌝ }
+    ensures { λ r. ⌜ r ≡ sectionsOf wide planar x «slots_at» «free_at» «quarantine_at» «sealed_at» «retired_at» size sound ⌝ }
 {
     Sections {
         retiring: x.retiring,
         wide: wide,
+        planar: planar,
         tag: x.tag,
         since_gc: x.since_gc,
         reclaim_at: x.reclaim_at,
@@ -643,9 +646,35 @@ fn head_section(s: &[u8]) -> HeadLine
     get_head(s, a, retiring)
 }
 
-// The lines of slots after their names line: where they begin, then as `Slots`, and which name the write counts have.
+// What the names line of the slots says: which name the write counts have, planes or data, and where the next line begins; or that it is none.
+pub enum SlotNames {
+    Named(bool, bool, usize),
+    Unnamed,
+}
+
+// Reads the names line of the slots from `at` on.
+fn slot_names(s: &[u8], at: usize) -> SlotNames
+    requires { ⌜ at ≤ length (now s) ⌝ }
+    ensures { λ r. ⌜ NamesRead (now (s .entry)) at r ⌝ }
+{
+    let Either::One(wide, a) = names_line(
+        s,
+        at,
+        b"generation,kind,type,start,",
+        b"writes64,",
+        b"writes,",
+    ) else {
+        return SlotNames::Unnamed;
+    };
+    let Either::One(planar, b) = text::expect_either(s, a, b"planes\n", b"data\n") else {
+        return SlotNames::Unnamed;
+    };
+    SlotNames::Named(wide, planar, b)
+}
+
+// The lines of slots after their names line: where they begin, then as `Slots`, then what the names line says.
 pub enum SlotSection {
-    Found(usize, bool, usize, usize, bool),
+    Found(usize, bool, usize, usize, bool, bool),
     Lost,
 }
 
@@ -654,19 +683,13 @@ fn slot_section(s: &[u8], at: usize, count: usize) -> SlotSection
     requires { ⌜ at ≤ length (now s) ⌝ }
     ensures { λ r. ⌜ SlotSectioned (now (s .entry)) at count r ⌝ }
 {
-    let Either::One(wide, b) = names_line(
-        s,
-        at,
-        b"generation,kind,type,start,",
-        b"writes64,data\n",
-        b"writes,data\n",
-    ) else {
+    let SlotNames::Named(wide, planar, b) = slot_names(s, at) else {
         return SlotSection::Lost;
     };
     let Slots::Lines(ok, size, next) = check_slots(s, b, count, wide) else {
         return SlotSection::Lost;
     };
-    SlotSection::Found(b, ok, size, next, wide)
+    SlotSection::Found(b, ok, size, next, wide, planar)
 }
 
 // The values of a list after its name: where they begin, then as `Values`.
@@ -722,7 +745,7 @@ pub fn parse_page(s: &[u8]) -> Parsed
     let HeadLine::Head(x) = head_section(s) else {
         return Parsed::NotPage;
     };
-    let SlotSection::Found(b, ok1, size, c, wide) = slot_section(s, x.next, x.slots) else {
+    let SlotSection::Found(b, ok1, size, c, wide, planar) = slot_section(s, x.next, x.slots) else {
         return Parsed::NotPage;
     };
     let ListSection::Listed(d, ok2, e) = index_section(s, b"free\n", c, x.free, x.slots) else {
@@ -743,7 +766,7 @@ pub fn parse_page(s: &[u8]) -> Parsed
         return Parsed::NotPage;
     }
     let sound = sound_parts(ok1, ok2, ok3, ok5, ok4, x.reclaim_at);
-    Parsed::Page(assembled(wide, x, b, d, g, j, l, size, sound))
+    Parsed::Page(assembled(wide, planar, x, b, d, g, j, l, size, sound))
 }
 
 // What the first pass tells of a text: a page that can be read, or why it is refused.

@@ -1,6 +1,6 @@
 -- The whole heap as the second pass leaves it, and what a call of the reader answers. Assumes nothing.
 use Prim.Native.Nat.{ℕ, zero, suc, _+_, _-_, _*_, _/_, _^_, _≤_, _<_}
-use mathlib.Core.List.{List, [], _∷_, _++_}
+use mathlib.Core.List.{List, [], _∷_, _++_, map}
 use mathlib.Core.Bool.{Bool, true, false, not, _&&_}
 use mathlib.Core.Option.{Option, none, some}
 use mathlib.Core.Path.{_≡_, refl, sym, ap, _∙_, subst}
@@ -13,7 +13,8 @@ use Rattle.word.specs.Result.{Result, ok, refused}
 use Rattle.word.proofs.Bools.{and-both, bool-ext}
 use Rattle.word.proofs.RunLaws.{length-run, run-room}
 use Rattle.text.specs.Put.{putText}
-use Rattle.refusal.specs.Told.{numberOf}
+use Rattle.word.specs.Choice.{if_then_else_}
+use Rattle.refusal.specs.Told.{numberOf, told}
 use Rattle.refusal.specs.declared.Refusal.{Refusal}
 use Rattle.refusal.specs.declared.Reply.the-variants.{Is, Not}
 use Rattle.word.specs.Lists.{all}
@@ -26,9 +27,11 @@ use Rattle.heap.specs.declared.Heap.{Heap}
 use Rattle.heap.proofs.Packing.{drop-replicate}
 use Rattle.heap.proofs.Recycled.{filter-total}
 use Rattle.heap.proofs.Runs.{recount}
-use Rattle.pages.specs.Form.{Form}
-use Rattle.pages.specs.Page.{readPage, moved, brought}
+use Rattle.pages.specs.Form.{Form, writesWidth}
+use Rattle.pages.specs.Page.{outOfColumn, readPage, moved, brought}
+use Rattle.pages.proofs.Writing.{back-length}
 use Rattle.pages.proofs.Bound.{parts, dead-length, sealed-length}
+use Rattle.page_check.proofs.Columned.{same-size}
 use Rattle.page_check.specs.Filling.{slotsAt}
 use Rattle.page_check.specs.Partition.{valuesAt}
 use Rattle.page_check.specs.Sections.{heapIn, formIn, broughtIn, Sectioned, Accepted, Checking, verdict}
@@ -60,6 +63,27 @@ cleared h S pool =
     (run-zeros S (3 * S) (6 * S) (omega arith) j) (run-zeros S (4 * S) (6 * S) (omega arith) j) (run-zeros S (3 * S) (4 * S) (omega arith) j) (run-zeros S (5 * S) (6 * S) (omega arith) j)
     (no-zeros (6 * S) (6 * S) (omega arith) j ++ no-zeros (4 * S) (4 * S) (omega arith) j)
 
+-- SLOTS WITH THEIR COLUMNS FOR THEIR BYTES have the same numbers
+
+same-part : (p : Bool) (part : Slot → ℕ) → ((y : Slot) → part (outOfColumn p y) ≡ part y) → (l : List Slot) → map part (map (outOfColumn p) l) ≡ map part l
+unfolding map
+same-part p part e [] = refl
+same-part p part e (y ∷ l) = λ j. e y j ∷ same-part p part e l j
+
+same-ends : (p : Bool) (from : ℕ) (l : List Slot) → ends from (dataOf (map (outOfColumn p) l)) ≡ ends from (dataOf l)
+unfolding ends map
+same-ends p from [] = refl
+same-ends p from (y ∷ l) = rw (back-length p (y .bytes)) (ap (λ (t : List ℕ). (from + length (y .bytes)) ∷ t) (same-ends p (from + length (y .bytes)) l))
+
+same-numbers : (p : Bool) (l : Lent) (slots : List Slot) → withNumbers l (map (outOfColumn p) slots) ≡ withNumbers l slots
+same-numbers p l slots =
+    λ j. columns (l .header) (l .count) (putText (l .generation) 0 (same-part p (λ y. y .generation) (λ y. refl) slots j)) (putText (l .kind) 0 (same-part p (λ y. y .kind) (λ y. refl) slots j))
+    (putText (l .type) 0 (same-part p (λ y. y .type) (λ y. refl) slots j)) (putText (l .start) 0 (same-part p (λ y. y .start) (λ y. refl) slots j)) (putText (l .end) 0 (same-ends p 0 slots j))
+    (putText (l .writes) 0 (same-part p (λ y. y .writes) (λ y. refl) slots j)) (l .pool) (l .free) (l .quarantine) (l .sealed) (l .retired) (l .over)
+
+columned : (p : Bool) {narrow wide narrow′ wide′ : List ℕ} (slots : List Slot) → NumbersFilled narrow wide narrow′ wide′ slots → NumbersFilled narrow wide narrow′ wide′ (map (outOfColumn p) slots)
+columned p {narrow} {wide} slots n = record { numbers = λ h pool. n .numbers h pool ∙ sym (same-numbers p (lent h narrow wide pool) slots) }
+
 -- THE HEAP
 
 zero-pad : (n : ℕ) (xs : List ℕ) → putText (replicate n 0) 0 xs ≡ pad n xs
@@ -80,19 +104,19 @@ module _ (s : List ℕ) (x : Sections) (narrow wide pool : List ℕ) (c : Sectio
 
   -- the heap as the columns have it
   as-stored : (b : Bool) (h : State) (f q z t : List ℕ) (p : List ℕ) → f ≡ moved b h .free → q ≡ h .quarantine → z ≡ h .sealed → t ≡ pad S (moved b h .retired) → p ≡ pad (length pool) (flat (dataOf (h .slots))) →
-      columns (headerOf (moved b h)) S (pad S (mathlib.Core.List.map (λ (y : Slot). y .generation) (h .slots))) (pad S (mathlib.Core.List.map (λ (y : Slot). y .kind) (h .slots))) (pad S (mathlib.Core.List.map (λ (y : Slot). y .type) (h .slots)))
-      (pad S (mathlib.Core.List.map (λ (y : Slot). y .start) (h .slots))) (pad S (ends 0 (dataOf (h .slots)))) (pad S (mathlib.Core.List.map (λ (y : Slot). y .writes) (h .slots))) p (pad S f) (pad S q) (pad S z) t []
+      columns (headerOf (moved b h)) S (pad S (map (λ (y : Slot). y .generation) (h .slots))) (pad S (map (λ (y : Slot). y .kind) (h .slots))) (pad S (map (λ (y : Slot). y .type) (h .slots)))
+      (pad S (map (λ (y : Slot). y .start) (h .slots))) (pad S (ends 0 (dataOf (h .slots)))) (pad S (map (λ (y : Slot). y .writes) (h .slots))) p (pad S f) (pad S q) (pad S z) t []
       ≡ stored S (length pool) (moved b h)
   unfolding stored
-  as-stored true h f q z t p ef eq ez et ep = λ j. columns (headerOf h) S (pad S (mathlib.Core.List.map (λ (y : Slot). y .generation) (h .slots))) (pad S (mathlib.Core.List.map (λ (y : Slot). y .kind) (h .slots))) (pad S (mathlib.Core.List.map (λ (y : Slot). y .type) (h .slots)))
-      (pad S (mathlib.Core.List.map (λ (y : Slot). y .start) (h .slots))) (pad S (ends 0 (dataOf (h .slots)))) (pad S (mathlib.Core.List.map (λ (y : Slot). y .writes) (h .slots))) (ep j) (pad S (ef j)) (pad S (eq j)) (pad S (ez j)) (et j) []
-  as-stored false h f q z t p ef eq ez et ep = λ j. columns (headerOf (moved false h)) S (pad S (mathlib.Core.List.map (λ (y : Slot). y .generation) (h .slots))) (pad S (mathlib.Core.List.map (λ (y : Slot). y .kind) (h .slots))) (pad S (mathlib.Core.List.map (λ (y : Slot). y .type) (h .slots)))
-      (pad S (mathlib.Core.List.map (λ (y : Slot). y .start) (h .slots))) (pad S (ends 0 (dataOf (h .slots)))) (pad S (mathlib.Core.List.map (λ (y : Slot). y .writes) (h .slots))) (ep j) (pad S (ef j)) (pad S (eq j)) (pad S (ez j)) (et j) []
+  as-stored true h f q z t p ef eq ez et ep = λ j. columns (headerOf h) S (pad S (map (λ (y : Slot). y .generation) (h .slots))) (pad S (map (λ (y : Slot). y .kind) (h .slots))) (pad S (map (λ (y : Slot). y .type) (h .slots)))
+      (pad S (map (λ (y : Slot). y .start) (h .slots))) (pad S (ends 0 (dataOf (h .slots)))) (pad S (map (λ (y : Slot). y .writes) (h .slots))) (ep j) (pad S (ef j)) (pad S (eq j)) (pad S (ez j)) (et j) []
+  as-stored false h f q z t p ef eq ez et ep = λ j. columns (headerOf (moved false h)) S (pad S (map (λ (y : Slot). y .generation) (h .slots))) (pad S (map (λ (y : Slot). y .kind) (h .slots))) (pad S (map (λ (y : Slot). y .type) (h .slots)))
+      (pad S (map (λ (y : Slot). y .start) (h .slots))) (pad S (ends 0 (dataOf (h .slots)))) (pad S (map (λ (y : Slot). y .writes) (h .slots))) (ep j) (pad S (ef j)) (pad S (eq j)) (pad S (ez j)) (et j) []
 
   pub loaded : {h : Heap} {narrow₁ wide₁ pool₁ narrow₂ wide₂ pool₂ narrow₃ narrow₄ wide₄ : List ℕ} {free retired : ℕ} → h ≡ headerOf (broughtIn s) →
       narrow₁ ≡ replicate (length narrow) 0 → wide₁ ≡ replicate (length wide) 0 → pool₁ ≡ replicate (length pool) 0 →
       NumbersFilled narrow₁ wide₁ narrow₂ wide₂ (slotsAt s (x .«slots_at») (x .slots)) →
-      pool₂ ≡ putText pool₁ 0 (flat (dataOf (slotsAt s (x .«slots_at») (x .slots)))) →
+      pool₂ ≡ putText pool₁ 0 (flat (dataOf (map (outOfColumn (x .planar)) (slotsAt s (x .«slots_at») (x .slots))))) →
       FreeParted narrow₂ narrow₃ (valuesAt 32 s (x .«free_at») (x .free)) free retired →
       ListsFilled narrow₃ wide₂ narrow₄ wide₄ (heapIn s .quarantine) (heapIn s .retired) (heapIn s .sealed) →
       lent h narrow₄ wide₄ pool₂ ≡ stored (length narrow / 6) (length pool) (broughtIn s)
@@ -107,28 +131,28 @@ module _ (s : List ℕ) (x : Sections) (narrow wide pool : List ℕ) (c : Sectio
       let count : length narrow₁ / 6 ≡ S = ap (λ (t : List ℕ). length t / 6) en ∙ ap (λ (n : ℕ). n / 6) (length-replicate {A = ℕ} (length narrow) 0) in
       let base : lent h narrow₁ wide₁ pool₂ ≡ columns h S (replicate S 0) (replicate S 0) (replicate S 0) (replicate S 0) (replicate S 0) (replicate S 0) pool₂ (replicate S 0) (replicate S 0) (replicate S 0) (replicate S 0) [] =
       (λ j. cut h (count j) (n₁ j) (w₁ j) pool₂) ∙ cleared h S pool₂ in
-      let p₂ : pool₂ ≡ pad (length pool) (flat (dataOf ss)) = ed ∙ padded (length pool) pool₁ (flat (dataOf (slotsAt s (x .«slots_at») (x .slots)))) ep ∙ ap (λ (l : List Slot). pad (length pool) (flat (dataOf l))) (c .slotsAre) in
-      let gs : List ℕ = putText (replicate S 0) 0 (mathlib.Core.List.map (λ (y : Slot). y .generation) ss) in
-      let aged : gs ≡ pad S (mathlib.Core.List.map (λ (y : Slot). y .generation) ss) = zero-pad S (mathlib.Core.List.map (λ (y : Slot). y .generation) ss) in
+      let p₂ : pool₂ ≡ pad (length pool) (flat (dataOf ss)) = ed ∙ padded (length pool) pool₁ (flat (dataOf (map (outOfColumn (x .planar)) (slotsAt s (x .«slots_at») (x .slots))))) ep ∙ ap (λ (l : List Slot). pad (length pool) (flat (dataOf l))) (c .slotsAre) in
+      let gs : List ℕ = putText (replicate S 0) 0 (map (λ (y : Slot). y .generation) ss) in
+      let aged : gs ≡ pad S (map (λ (y : Slot). y .generation) ss) = zero-pad S (map (λ (y : Slot). y .generation) ss) in
       lf .lists h pool₂
       ∙ ap (λ (l : Lent). withLists l q t z) (pf .parted h wide₂ pool₂ ∙ ap (withParted (lent h narrow₂ wide₂ pool₂)) (c .freeAre))
-      ∙ ap (λ (l : Lent). withLists (withParted l f) q t z) (nf .numbers h pool₂)
+      ∙ ap (λ (l : Lent). withLists (withParted l f) q t z) (columned (x .planar) (slotsAt s (x .«slots_at») (x .slots)) nf .numbers h pool₂)
       ∙ (λ j. withLists (withParted (withNumbers (base j) (c .slotsAre j)) f) q t z)
-      ∙ (λ j. columns (eh j) S (aged j) (zero-pad S (mathlib.Core.List.map (λ (y : Slot). y .kind) ss) j) (zero-pad S (mathlib.Core.List.map (λ (y : Slot). y .type) ss) j)
-      (zero-pad S (mathlib.Core.List.map (λ (y : Slot). y .start) ss) j) (zero-pad S (ends 0 (dataOf ss)) j) (zero-pad S (mathlib.Core.List.map (λ (y : Slot). y .writes) ss) j) pool₂
+      ∙ (λ j. columns (eh j) S (aged j) (zero-pad S (map (λ (y : Slot). y .kind) ss) j) (zero-pad S (map (λ (y : Slot). y .type) ss) j)
+      (zero-pad S (map (λ (y : Slot). y .start) ss) j) (zero-pad S (ends 0 (dataOf ss)) j) (zero-pad S (map (λ (y : Slot). y .writes) ss) j) pool₂
       (zero-pad S (stayFree gs f) j) (zero-pad S q j) (zero-pad S z j) (putText (putText (replicate S 0) 0 (retire gs f)) 0 t) [])
       ∙ as-stored old (heapIn s) (stayFree gs f) q z (putText (putText (replicate S 0) 0 (retire gs f)) 0 t) pool₂ (brought-free (heapIn s) S gs aged old young) refl refl
       (brought-retired (heapIn s) S gs aged old young nil (replicate S 0) ∙ zero-pad S (broughtIn s .retired)) p₂
 
   -- the generations that stand there once the slots are filled in
   module _ {narrow₁ wide₁ narrow₂ wide₂ : List ℕ} (en : narrow₁ ≡ replicate (length narrow) 0) (nf : NumbersFilled narrow₁ wide₁ narrow₂ wide₂ (slotsAt s (x .«slots_at») (x .slots))) where
-    ages-are : ages narrow₂ ≡ pad S (mathlib.Core.List.map (λ (y : Slot). y .generation) (heapIn s .slots))
+    ages-are : ages narrow₂ ≡ pad S (map (λ (y : Slot). y .generation) (heapIn s .slots))
     ages-are =
         let count : length narrow₁ / 6 ≡ S = ap (λ (t : List ℕ). length t / 6) en ∙ ap (λ (n : ℕ). n / 6) (length-replicate {A = ℕ} (length narrow) 0) in
-        ap (λ (l : Lent). l .generation) (nf .numbers (headerOf (heapIn s)) [])
-        ∙ (λ j. putText (run (count j) 0 (en j)) 0 (mathlib.Core.List.map (λ (y : Slot). y .generation) (c .slotsAre j)))
-        ∙ ap (λ (l : List ℕ). putText l 0 (mathlib.Core.List.map (λ (y : Slot). y .generation) (heapIn s .slots))) (run-zeros S 0 (length narrow) (omega (arith, r .narrowSize)))
-        ∙ zero-pad S (mathlib.Core.List.map (λ (y : Slot). y .generation) (heapIn s .slots))
+        ap (λ (l : Lent). l .generation) (columned (x .planar) (slotsAt s (x .«slots_at») (x .slots)) nf .numbers (headerOf (heapIn s)) [])
+        ∙ (λ j. putText (run (count j) 0 (en j)) 0 (map (λ (y : Slot). y .generation) (c .slotsAre j)))
+        ∙ ap (λ (l : List ℕ). putText l 0 (map (λ (y : Slot). y .generation) (heapIn s .slots))) (run-zeros S 0 (length narrow) (omega (arith, r .narrowSize)))
+        ∙ zero-pad S (map (λ (y : Slot). y .generation) (heapIn s .slots))
 
     module _ {narrow₃ : List ℕ} {free retired : ℕ} (pf : FreeParted narrow₂ narrow₃ (valuesAt 32 s (x .«free_at») (x .free)) free retired) where
       pub header-free : free ≡ length (broughtIn s .free)
@@ -151,7 +175,7 @@ module _ (s : List ℕ) (x : Sections) (narrow wide pool : List ℕ) (c : Sectio
   free-inside {n} e = subst (λ (l : List ℕ). Below (n / 6) l) (sym (c .freeAre)) (subst (λ (m : ℕ). Below (m / 6) (heapIn s .free)) (sym e) (r .below))
 
   pub room-data : dataSize (slotsAt s (x .«slots_at») (x .slots)) ≤ length pool
-  room-data = rw (c .slotsAre) (r .bytes)
+  room-data = omega (arith, same-size (x .planar) (slotsAt s (x .«slots_at») (x .slots)), ap (λ (l : List Slot). dataSize l) (c .slotsAre), r .bytes)
 
 -- SIZES
 
@@ -272,12 +296,16 @@ roomy s n w p x {r} v a =
 
 module _ (l : Lent) (s : List ℕ) {r : Bool} (v : r ≡ inRange l) where
   pub read-done : (l′ : Lent) (x : Sections) → Accepted s (verdict r (slotCount l) (poolSize l) (readPage s)) x →
-      l′ ≡ stored (slotCount l) (poolSize l) (broughtIn s) → PageRead l l′ s (Is 0 0)
+      l′ ≡ stored (slotCount l) (poolSize l) (broughtIn s) → (bits names : ℕ) → bits ≡ writesWidth (x .wide) → names ≡ (if x .retiring then 1 else 0) + (if x .planar then 2 else 0) →
+      PageRead l l′ s (Is bits names)
   unfolding readInto
-  read-done l′ x a e =
+  read-done l′ x a e bits names eb en =
       let w : verdict (inRange l) (slotCount l) (poolSize l) (readPage s) ≡ ok (broughtIn s) =
       ap (λ (t : Bool). verdict t (slotCount l) (poolSize l) (readPage s)) (sym v) ∙ a .verdict in
-      record { lent = rw w e; answer = rw w }
+      let c = a .sections in
+      let b : bits ≡ writesWidth (formIn s .wide) = eb ∙ ap writesWidth (c .wide) in
+      let n : names ≡ (if formIn s .retiring then 1 else 0) + (if formIn s .planar then 2 else 0) = en ∙ (λ i. (if c .retiring i then 1 else 0) + (if c .planar i then 2 else 0)) in
+      record { lent = rw w e; answer = rw w (λ i. told (Is (b i) (n i))) }
 
   pub read-refused : {c : Checked} (why : Refusal) → Checking s (verdict r (slotCount l) (poolSize l) (readPage s)) c → c ≡ checked.Not why → PageRead l l s (Not why)
   unfolding readInto

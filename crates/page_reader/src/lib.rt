@@ -7,10 +7,14 @@ use page_check::SlotLine;
 use refusal::Reply;
 use text::Decimal;
 ghost use mathlib.Core.Path.{_≡_};
-ghost use mathlib.Core.List.{List, [], _∷_, _++_};
+ghost use mathlib.Core.List.{List, [], _∷_, _++_, map};
 ghost use Prim.Native.Nat.{ℕ, _+_, _-_, _*_, _/_, _^_, _≤_, _<_};
 ghost use lib.ListN.{length, take, drop, replicate};
-ghost use Rattle.text.specs.Put.{putText};
+ghost use Rattle.text.specs.Put.{putText, Puts};
+ghost use Rattle.text.specs.Answer.{hexAt, HexParsed};
+ghost use Rattle.word.specs.Choice.{if_then_else_};
+ghost use Rattle.pages.specs.Form.{writesWidth, fromColumn};
+ghost use Rattle.pages.specs.Page.{outOfColumn};
 ghost use Rattle.heap.specs.State.{dataOf, dataSize};
 ghost use Rattle.heap.specs.Packing.{flat};
 ghost use Rattle.page_check.specs.Partition.{valuesAt, ValuesParsed};
@@ -47,11 +51,25 @@ fn fill_slots(s: &[u8], at: usize, count: usize, narrow: &mut [u32], wide: &mut 
     }
 }
 
+// Puts an object's bytes, whose column a text spells from `at` on, into the pool from `to` on, and answers where they end. Planes are restored in place.
+fn fill_column(s: &[u8], at: usize, count: usize, planar: bool, pool: &mut [u8], to: usize) -> usize
+    requires { ⌜ HexParsed (now s) at ⌝ }
+    requires { ⌜ (count ≡ length (hexAt (now s) at)) × (to + count ≤ length (now pool)) ⌝ }
+    ensures { λ r. ⌜ Puts (now (pool .entry)) (now (pool .exit)) to r (fromColumn planar (hexAt (now (s .entry)) at)) ⌝ }
+{
+    let end = text::copy_hex(s, at, count, pool, to);
+    if planar {} else {
+        return end;
+    }
+    planes::restore(s, at, &mut pool[to..end]);
+    end
+}
+
 // Puts the data of `count` slots, whose lines stand from `at` on, into the pool, one after the other.
-fn fill_data(s: &[u8], at: usize, count: usize, pool: &mut [u8])
+fn fill_data(s: &[u8], at: usize, count: usize, planar: bool, pool: &mut [u8])
     requires { ⌜ SlotsParsed (now s) at count ⌝ }
     requires { ⌜ (at ≤ length (now s)) × (dataSize (slotsAt (now s) at count) ≤ length (now pool)) ⌝ }
-    ensures { λ _. ⌜ now (pool .exit) ≡ putText (now (pool .entry)) 0 (flat (dataOf (slotsAt (now (s .entry)) at count))) ⌝ }
+    ensures { λ _. ⌜ now (pool .exit) ≡ putText (now (pool .entry)) 0 (flat (dataOf (map (outOfColumn planar) (slotsAt (now (s .entry)) at count)))) ⌝ }
 {
     let mut k = at;
     let mut to = 0;
@@ -61,7 +79,7 @@ fn fill_data(s: &[u8], at: usize, count: usize, pool: &mut [u8])
             return;
         };
         let from = x.next - 1 - x.bytes - x.bytes;
-        to = text::copy_hex(s, from, x.bytes, pool, to);
+        to = fill_column(s, from, x.bytes, planar, pool, to);
         k = x.next;
         i += 1;
     }
@@ -212,7 +230,7 @@ fn load(s: &[u8], x: Sections, narrow: &mut [u32], wide: &mut [u64], pool: &mut 
     memory::clear_u64(wide);
     memory::clear_u8(pool);
     fill_slots(s, x.slots_at, x.slots, narrow, wide);
-    fill_data(s, x.slots_at, x.slots, pool);
+    fill_data(s, x.slots_at, x.slots, x.planar, pool);
     let c = part_free(s, x.free_at, x.free, narrow);
     let free = c.free;
     let moved = c.retired;
@@ -220,7 +238,30 @@ fn load(s: &[u8], x: Sections, narrow: &mut [u32], wide: &mut [u64], pool: &mut 
     header(s, x, free, moved)
 }
 
-// Reads a page into lent memory. `work` has a word for each slot.
+// How many bits a write count has, under the name that was met.
+fn bits_met(wide: bool) -> u64
+    ensures { λ r. ⌜ r ≡ writesWidth wide ⌝ }
+{
+    if wide { 64 } else { 32 }
+}
+
+// 1 for a page with `retired`, 2 for one with `planes`, 3 for both, 0 for neither.
+fn names_met(retiring: bool, planar: bool) -> u64
+    ensures { λ r. ⌜ r ≡ (if retiring then 1 else 0) + (if planar then 2 else 0) ⌝ }
+{
+    if retiring {
+        if planar {
+            return 3;
+        }
+        return 1;
+    }
+    if planar {
+        return 2;
+    }
+    0
+}
+
+// Reads a page into lent memory, and answers which names it met. `work` has a word for each slot.
 pub fn read(
     heap: Heap,
     narrow: &mut [u32],
@@ -239,9 +280,11 @@ pub fn read(
     match found {
         Checked::Page(x) => {
             let loaded = load(s, x, narrow, wide, pool);
+            let bits = bits_met(x.wide);
+            let names = names_met(x.retiring, x.planar);
             Changed {
                 heap: loaded,
-                reply: Reply::Is(0, 0),
+                reply: Reply::Is(bits, names),
             }
         }
         Checked::Not(why) => Changed {

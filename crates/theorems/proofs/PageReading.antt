@@ -10,7 +10,7 @@ use native.Mathlib.Omega.{arith}
 use borrow.Author.Tests.{le-leb, le-ltb, eq-eqb}
 use Rattle.word.specs.Result.{Result, ok, refused}
 use Rattle.word.proofs.Bools.{and-both}
-use Rattle.refusal.specs.Told.{refusedBy, answered, nothing}
+use Rattle.refusal.specs.Told.{refusedBy, answered}
 use Rattle.refusal.specs.declared.Answer.{Answer}
 use Rattle.heap.specs.State.{State, dataSize}
 use Rattle.heap.specs.Packing.{pad}
@@ -25,8 +25,9 @@ use Rattle.heap.proofs.Testing.{stored-formed, formed-tested}
 use Rattle.pages.specs.Form.{Form}
 use Rattle.pages.specs.Page.{pageText, Within, readPage, moved, brought}
 use Rattle.pages.proofs.Laws.{read-written}
-use Rattle.page_check.specs.Sections.{verdict}
-use Rattle.page_reader.specs.Reading.{inRange, Left, left, readInto}
+use Rattle.page_check.specs.Sections.{formIn, verdict}
+use Rattle.page_check.proofs.Assembly.{form-is}
+use Rattle.page_reader.specs.Reading.{bitsMet, namesMet, inRange, Left, left, readInto}
 use Rattle.page_reader.proofs.Loaded.{not-ok, passed, few-numbers}
 use Rattle.door.specs.HeapCalls.{Outcome, enough}
 use Rattle.door.proofs.Entering.{is-enough}
@@ -66,10 +67,11 @@ moved-unlogged true h = refl
 moved-unlogged false h = refl
 
 -- a page, in any form, of which the heap that it brings is sound, is read into lent memory with room
-pub read-in : (f : Form) (h : State) (l : Lent) → Within f h → sound (brought (f, h)) ≡ true → Room (brought (f, h)) l → readInto l (pageText f h) ≡ left l (ok (unlogged (brought (f, h))))
+pub read-in : (f : Form) (h : State) (l : Lent) → Within f h → sound (brought (f, h)) ≡ true → Room (brought (f, h)) l → readInto l (pageText f h) ≡ left l f (ok (unlogged (brought (f, h))))
 unfolding readInto
 read-in f h l w s r =
-    ap (left l)
+    (λ j. left l (form-is (pageText f h) f (unlogged h) (read-written f h w) j) (verdict (inRange l) (slotCount l) (poolSize l) (readPage (pageText f h))))
+    ∙ ap (left l f)
     (ap (λ (b : Bool). verdict b (slotCount l) (poolSize l) (readPage (pageText f h))) (r .sizes)
     ∙ ap (verdict true (slotCount l) (poolSize l)) (read-written f h w)
     ∙ accepted (slotCount l) (poolSize l) (f, unlogged h) (ap sound same ∙ sound-unlogged (brought (f, h)) ∙ s)
@@ -92,23 +94,23 @@ pub record Taken (l : Lent) (text : List ℕ) (h : State) : Type 0 where
   pub lies : readInto l text .lent ≡ stored (slotCount l) (poolSize l) h
 
 -- an answer of success stands for a heap
-answers : (l : Lent) (v : Result State) → left l v .answer ≡ ok tt → (h : State) × (v ≡ ok h)
-answers l (ok h) e = (h, refl)
-answers l (refused n) e = absurd (not-ok n e)
+answers : (l : Lent) (f : Form) (v : Result State) → left l f v .answer ≡ ok f → (h : State) × (v ≡ ok h)
+answers l f (ok h) e = (h, refl)
+answers l f (refused n) e = absurd (not-ok n e)
 
-pub taken : (l : Lent) (text : List ℕ) → readInto l text .answer ≡ ok tt → (h : State) × Taken l text h
+pub taken : (l : Lent) (text : List ℕ) → readInto l text .answer ≡ ok (formIn text) → (h : State) × Taken l text h
 unfolding readInto
 taken l text e =
-    let a = answers l (verdict (inRange l) (slotCount l) (poolSize l) (readPage text)) e in
+    let a = answers l (formIn text) (verdict (inRange l) (slotCount l) (poolSize l) (readPage text)) e in
     let p = passed (inRange l) (slotCount l) (poolSize l) (readPage text) (a .0) (a .1) in
-    (a .0, record { form = p .form; said = p .said; page = p .page; heap = p .heap; sound = p .sound; room = record { sizes = p .sizes; slots = p .slots; bytes = p .room }; lies = ap (λ (v : Result State). left l v .lent) (a .1) })
+    (a .0, record { form = p .form; said = p .said; page = p .page; heap = p .heap; sound = p .sound; room = record { sizes = p .sizes; slots = p .slots; bytes = p .room }; lies = ap (λ (v : Result State). left l (formIn text) v .lent) (a .1) })
 
 -- the number 0 is success: every other answer of the reader is 17, 1, 6 or 5
-pub answer-done : (l : Lent) (text : List ℕ) → answered nothing nothing (readInto l text .answer) .number ≡ 0 → readInto l text .answer ≡ ok tt
+pub answer-done : (l : Lent) (text : List ℕ) → answered bitsMet namesMet (readInto l text .answer) .number ≡ 0 → readInto l text .answer ≡ ok (formIn text)
 unfolding readInto
 answer-done l text e = go (verdict (inRange l) (slotCount l) (poolSize l) (readPage text)) refl e
   where
-    go : (v : Result State) → verdict (inRange l) (slotCount l) (poolSize l) (readPage text) ≡ v → answered nothing nothing (left l v .answer) .number ≡ 0 → left l v .answer ≡ ok tt
+    go : (v : Result State) → verdict (inRange l) (slotCount l) (poolSize l) (readPage text) ≡ v → answered bitsMet namesMet (left l (formIn text) v .answer) .number ≡ 0 → left l (formIn text) v .answer ≡ ok (formIn text)
     go (ok h) q z = refl
     go (refused n) q z = absurd (omega (arith, few-numbers (inRange l) (slotCount l) (poolSize l) (readPage text) n q))
 
@@ -116,7 +118,7 @@ answer-done l text e = go (verdict (inRange l) (slotCount l) (poolSize l) (readP
 
 module _ {l : Lent} {text marks work : List ℕ} {r : Answer} {l′ : Lent} {marks′ work′ : List ℕ} (c : Reads l text marks work r l′ marks′ work′) where
   -- with scratch enough
-  pub reads-enough : enough marks work l ≡ true → (r ≡ answered nothing nothing (readInto l text .answer)) × (l′ ≡ readInto l text .lent)
+  pub reads-enough : enough marks work l ≡ true → (r ≡ answered bitsMet namesMet (readInto l text .answer)) × (l′ ≡ readInto l text .lent)
   unfolding reading
   reads-enough e = (rw e at (ap (λ (o : Outcome). o .answer) (c .told)), rw e at (ap (λ (o : Outcome). o .heap) (c .told)))
 
@@ -126,14 +128,14 @@ module _ {l : Lent} {text marks work : List ℕ} {r : Answer} {l′ : Lent} {mar
 
 -- a page, in any form, of which the heap that it brings is sound, is taken in by any lent memory with room and scratch
 pub page-taken : {f : Form} {h : State} {m m′ : Lent} {marks work marks′ work′ : List ℕ} {r : Answer} → Within f h → sound (brought (f, h)) ≡ true → Room (brought (f, h)) m → Scratch m marks work →
-    Reads m (pageText f h) marks work r m′ marks′ work′ → TookIn (brought (f, h)) m r m′
+    Reads m (pageText f h) marks work r m′ marks′ work′ → TookIn f (brought (f, h)) m r m′
 page-taken {f} {h} {m} {m′} {marks} {work} {r = r} w s v q c =
     let e = reads-enough c (is-enough marks work m (q .marks) (q .work)) in
     let i = read-in f h m w s v in
     let g : State = brought (f, h) in
     let lies : m′ ≡ stored (slotCount m) (poolSize m) (unlogged g) = e .1 ∙ ap (λ (x : Left). x .lent) i in
     record {
-      answer = e .0 ∙ ap (λ (x : Left). answered nothing nothing (x .answer)) i;
+      answer = e .0 ∙ ap (λ (x : Left). answered bitsMet namesMet (x .answer)) i;
       lies = lies;
       heap = ap view lies ∙ view-stored (slotCount m) (poolSize m) (unlogged g);
       formed = ap wellFormed lies ∙ room-formed (unlogged g) m (sound-unlogged g ∙ s) (record { sizes = v .sizes; slots = v .slots; bytes = v .bytes });

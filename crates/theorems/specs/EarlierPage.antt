@@ -1,4 +1,4 @@
--- THE EARLIER READER, as it was before requests [6] and [7]: it knows one names line of slots, in which write counts are called `writes` and have 32 bits, and no retired list.
+-- THE EARLIER READER, as it was before requests [6], [7] and [11]: it knows one names line of slots, in which write counts are called `writes` and have 32 bits, no retired list, and no planes.
 -- Nothing here is used by the code. It stands so that what is said of earlier pages and of earlier programs can be said of it.
 use Prim.Native.Nat.{ℕ}
 use mathlib.Core.Bool.{Bool, false, _&&_}
@@ -12,6 +12,7 @@ use Rattle.text.specs.Text.{_>>=_, ascii, newline}
 use Rattle.text.specs.Format.{Format, number, always, afterLiteral, pair, times}
 use Rattle.heap.specs.State.{State, dataSize}
 use Rattle.heap.specs.Lent.{Lent, slotCount, poolSize}
+use Rattle.pages.specs.Form.{earlier}
 use Rattle.pages.specs.Page.{slotFormat, Head, headFormat, Body, stateOf, whole, soundBefore}
 use Rattle.page_reader.specs.Reading.{Left, left, inRange}
 
@@ -45,4 +46,4 @@ earlierVerdict sizes S P (some h) =
 
 -- what it answered and left
 unfoldable pub earlierInto : Lent → (text : List ℕ) → Left
-earlierInto l text = left l (earlierVerdict (inRange l) (slotCount l) (poolSize l) (earlierRead text))
+earlierInto l text = left l earlier (earlierVerdict (inRange l) (slotCount l) (poolSize l) (earlierRead text))
