@@ -1,9 +1,7 @@
 -- Collecting with the roots that were found. Assumes nothing.
-use mathlib.Core.Path.{_≡_, refl, sym, ap, _∙_, subst}
-use mathlib.Core.Bool.{Bool, true}
-use mathlib.Core.List.{List, [], _∷_, _++_, map}
-use mathlib.Core.Logic.{_↔_}
-use Prim.Native.Nat.{ℕ, _+_, _≤_}
+use mathlib.Core.Path.{_≡_, sym, ap, _∙_, subst}
+use mathlib.Core.List.{List, [], _∷_, map}
+use Prim.Native.Nat.{ℕ, _≤_}
 use native.Mathlib.Omega.{arith}
 use native.Mathlib.Nat.{zero-add}
 use lib.ListN.{length, take, length-map}
@@ -11,8 +9,7 @@ use lib.Seq.{take-all}
 use lib.Dec.{leb}
 use borrow.Author.Tests.{leb-true, le-leb}
 use Rattle.word.specs.Put.{put}
-use Rattle.word.specs.Result.{ok}
-use Rattle.word.proofs.Bools.{and-both, both-and}
+use Rattle.word.proofs.Bools.{and-both}
 use Rattle.word.proofs.PutLaws.{take-put}
 use Rattle.refusal.specs.Told.{answered, nothing}
 use Rattle.refusal.specs.declared.Answer.{Answer}
@@ -20,18 +17,16 @@ use Rattle.heap.specs.State.{State, slotAt, live}
 use Rattle.heap.specs.Lent.{Lent, stored, view, slotCount, poolSize}
 use Rattle.heap.specs.Calls.{Changed}
 use Rattle.heap.proofs.Storing.{view-stored}
-use Rattle.reach.specs.Reach.{_∈_}
 use Rattle.collection.specs.Shown.{shown}
 use Rattle.collect.specs.Collect.{collecting}
-use Rattle.door.specs.HeapCalls.{admitted, enough, zeros, Outcome, outcomeOf, calling}
+use Rattle.door.specs.HeapCalls.{admitted, enough, zeros, Outcome, outcomeOf}
 use Rattle.door.specs.declared.Entry.the-variants.{Ready}
 use Rattle.door.proofs.Entering.{all-hold, calling-ready}
-use Rattle.collect_door.specs.Calls.{Given, tableIn, tests, collectCall}
-use Rattle.collect_door.specs.Demand.{done}
+use Rattle.collect_door.specs.Calls.{tableIn, tests}
 use Rattle.wanted.specs.Outcome.{handleAt, Outcome as Serves}
-use Rattle.wanted_door.specs.RootsFor.{Given as Wanted, tests as wantedTests, RightRoots}
+use Rattle.wanted_door.specs.RootsFor.{Given as Wanted, tests as wantedTests}
 use Rattle.wanted_door.proofs.Theorem.{rightly-found}
-use Rattle.theorems.specs.RootsCollected.{Found, withRoots, RootsCollected}
+use Rattle.theorems.specs.RootsCollected.{withRoots, RootsCollected}
 
 -- as many entries of the list as were written are what was written
 front : (out xs : List ℕ) (n : ℕ) → n ≡ length xs → take n (put out 0 xs n) ≡ xs

@@ -12,14 +12,13 @@ use lib.Seq.{getD-set-same, getD-set-other}
 use lib.Dec.{eqb}
 use borrow.Author.Tests.{eq-eqb, ne-eqb}
 use Rattle.word.specs.Choice.{if_then_else_}
-use Rattle.word.specs.Result.{Result, ok, refused}
-use Rattle.word.proofs.Bools.{either}
+use Rattle.word.specs.Result.{ok, refused}
 use Rattle.reach.specs.Reach.{Graph, Starts, _∈_}
 use Rattle.reach.specs.Marking.{State, visit, drained, marking}
 use Rattle.reach.proofs.Grown.{∈-getD}
 use Rattle.wanted.specs.Wanted.{Rising, Objects}
 use Rattle.wanted.specs.Way.{candidates, rootSlots, has, possible, rootsFor, downFrom, those}
-use Rattle.wanted.specs.Search.{Going, going, noted, noting, andThen, meeting, upward, again, downward, asMany, firstly, secondly, notesOf, searchedBy, searched}
+use Rattle.wanted.specs.Search.{Going, going, noted, noting, andThen, meeting, upward, again, downward, asMany, secondly, notesOf, searchedBy, searched}
 use Rattle.wanted.proofs.Picking.{Within}
 use Rattle.wanted.proofs.Flags.{rising-at}
 use Rattle.wanted.proofs.Steps.{Through, Past, pass, past-pass, pick, past-pick, stop, finish, dead-none, stuck-none}

@@ -21,7 +21,7 @@ use Rattle.trace.specs.Listing.{Lists, writtenTo}
 use Rattle.door.specs.HeapCalls.{test, enough, heapTests, zeros, Entered, asked, askedOf}
 use Rattle.door.specs.declared.Entry.{Entry}
 use Rattle.door.specs.declared.Entry.the-variants.{Ready, Not}
-use Rattle.door.proofs.Entering.{and-holds, and-fails, and-more, holding, cleared-in, marks-zero, work-zero, ask-refused, ask-ready, whether-not, whether-ready, zeros-again, zeros-room}
+use Rattle.door.proofs.Entering.{and-holds, and-fails, and-more, holding, marks-zero, work-zero, ask-refused, ask-ready, whether-not, whether-ready, zeros-again, zeros-room}
 use Rattle.wanted_door.specs.inner.Listing.{CanSearch}
 use Rattle.wanted_door.specs.RootsFor.{rootHandles, Given, tableIn, wantedTests, tests, rootsCall, rootsOut, RightRoots}
 use Rattle.wanted_door.proofs.Theorem.{rightly-found}

@@ -1,5 +1,5 @@
 -- One slot met: the code's marks and work are what crate `wanted` says. Assumes nothing.
-use Prim.Native.Nat.{ℕ, zero, suc, _+_, _-_, _*_, _%_, _/_, _^_, _≤_, _<_}
+use Prim.Native.Nat.{ℕ, zero, suc, _+_, _-_, _*_, _%_, _/_, _≤_, _<_}
 use mathlib.Core.Path.{_≡_, refl, sym, ap, _∙_, subst}
 use mathlib.Core.Bool.{Bool, true, not, _&&_}
 use mathlib.Core.Option.{Option, none, some}
@@ -19,10 +19,10 @@ use Rattle.trace.specs.declared.Answer.{Answer}
 use Rattle.trace.specs.declared.Answer.the-variants.{Traced, Untraceable}
 use Rattle.reach.specs.Reach.{Graph}
 use Rattle.reach.specs.Marking.{State, Good, visit, drained}
-use Rattle.mark.specs.Scratch.{low, high, stateOf, Scratch, Holds, Traces, Noted, NotedBy}
+use Rattle.mark.specs.Scratch.{low, high, stateOf, Scratch, Holds, Traces, NotedBy}
 use Rattle.mark.proofs.Bridge.{queue-met, pin-noted}
 use Rattle.mark.proofs.Draining.{queue-length}
-use Rattle.wanted.specs.Search.{Going, noted, noting, meeting, again}
+use Rattle.wanted.specs.Search.{Going, noted, meeting, again}
 use Rattle.wanted.proofs.Searching.{meeting-old, meeting-new, again-yes, again-no}
 use Rattle.wanted_door.specs.inner.Picking.{goingOf, Goes}
 

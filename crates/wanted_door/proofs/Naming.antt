@@ -1,11 +1,10 @@
 -- The ways out of the listing, and of the search on a checked heap. Assumes nothing.
-use Prim.Native.Nat.{ℕ, _+_, _-_, _*_, _/_, _≤_, _<_}
+use Prim.Native.Nat.{ℕ, _-_, _/_, _≤_, _<_}
 use mathlib.Core.Path.{_≡_, refl, sym, ap, _∙_, subst}
-use mathlib.Core.Bool.{Bool, true, false, not}
+use mathlib.Core.Bool.{Bool, true, false}
 use mathlib.Core.Logic.{inl, inr}
-use mathlib.Core.Option.{Option, none, some}
 use mathlib.Core.List.{List, [], _∷_, map}
-use lib.ListN.{length, getD, take, drop, replicate, length-map, length-take, List·getD-map, List·getD-eq-default, length-replicate, getD-replicate}
+use lib.ListN.{length, getD, take, replicate, length-map, List·getD-map, List·getD-eq-default, length-replicate, getD-replicate}
 use lib.Seq.{length-take-le}
 use lib.Dec.{leb}
 use borrow.Author.Tests.{le-leb, lt-leb}
@@ -14,20 +13,15 @@ use native.Mathlib.Omega.{arith}
 use Rattle.word.specs.Choice.{if_then_else_}
 use Rattle.word.specs.Put.{put}
 use Rattle.word.specs.Result.{Result, ok, refused}
-use Rattle.word.specs.Run.{run}
 use Rattle.word.proofs.RunLaws.{first-get}
 use Rattle.refusal.specs.declared.Refusal.the-variants.{ShortList, NoRoots}
 use Rattle.refusal.specs.declared.Reply.{Reply}
 use Rattle.refusal.specs.declared.Reply.the-variants.{Is, Not as Refused}
 use Rattle.handle.specs.Handle.{packed}
 use Rattle.ty.specs.Types.{Table}
-use Rattle.heap.specs.State.{State, slotAt}
 use Rattle.heap.specs.declared.Heap.{Heap}
 use Rattle.heap.specs.Lent.{Lent, lent, view, slotCount, poolSize}
-use Rattle.heap.specs.WellFormed.{wellFormed}
-use Rattle.heap.proofs.Sound.{Sound, WellFormed}
 use Rattle.heap.proofs.Testing.{formed-tested}
-use Rattle.heap_calls.specs.Pins.{rising}
 use Rattle.trace.specs.Listing.{Lists}
 use Rattle.reach.specs.Reach.{Graph, Starts, _∈_}
 use Rattle.reach.proofs.Grown.{∈-index}
@@ -38,14 +32,14 @@ use Rattle.mark.specs.Scratch.{high}
 use Rattle.mark.specs.Told.{startsOf, Ready}
 use Rattle.mark.proofs.Draining.{first-clear}
 use Rattle.mark.proofs.Formed.{formed-fit, formed-few, formed-count, formed-graph, generation-same}
-use Rattle.wanted.specs.Way.{rootsFor, those}
+use Rattle.wanted.specs.Way.{those}
 use Rattle.wanted.specs.Search.{noted, searched}
 use Rattle.wanted.specs.Outcome.{handleAt}
 use Rattle.wanted.proofs.Flags.{rises, those-in}
 use Rattle.wanted.proofs.Collecting.{objects}
 use Rattle.wanted.proofs.Searching.{Found, search-found}
 use Rattle.wanted_door.specs.RootsFor.{listed, rootHandles}
-use Rattle.wanted_door.specs.inner.Picking.{notesIf, Inside, Room, Clear}
+use Rattle.wanted_door.specs.inner.Picking.{notesIf, Inside, Clear}
 use Rattle.wanted_door.specs.inner.Listing.{handlesIn, namedIn, CanName, CanSearch}
 
 -- ---- the ways out of `name_roots`

@@ -1,19 +1,18 @@
 -- The search put together: the marking of seals and pins, a going through, the test; and so again. Assumes nothing.
-use Prim.Native.Nat.{ℕ, _≤_, _<_}
+use Prim.Native.Nat.{ℕ, _<_}
 use mathlib.Core.Path.{_≡_, refl, sym, ap, _∙_, subst}
-use mathlib.Core.Bool.{Bool, true, false, not}
+use mathlib.Core.Bool.{Bool, true, false}
 use mathlib.Core.Option.{Option, none, some}
-use mathlib.Core.List.{List, [], _++_, map}
-use lib.ListN.{length, getD, take, replicate, length-replicate}
+use mathlib.Core.List.{List, [], map}
+use lib.ListN.{length, getD, replicate, length-replicate}
 use lib.Dec.{eqb}
-use borrow.Author.Tests.{eqb-true}
 use native.Mathlib.Omega.{arith}
 use Rattle.word.specs.Choice.{if_then_else_}
 use Rattle.trace.specs.declared.Answer.{Answer}
 use Rattle.trace.specs.declared.Answer.the-variants.{Traced, Untraceable}
 use Rattle.reach.specs.Reach.{Graph}
-use Rattle.reach.specs.Marking.{State, followAll, pinAll, drained, marking}
-use Rattle.mark.specs.Scratch.{low, high, stateOf, Scratch, Traces, NotedBy, seededFrom}
+use Rattle.reach.specs.Marking.{State, drained, marking}
+use Rattle.mark.specs.Scratch.{high, stateOf, Scratch, Traces, NotedBy, seededFrom}
 use Rattle.mark.specs.Told.{startsOf}
 use Rattle.mark.proofs.States.{scratch-start}
 use Rattle.mark.proofs.Draining.{queue-length}

@@ -139,10 +139,12 @@ pub extern "C" fn yexwalu_roots_for(
     work: &mut [u64],
 ) -> Answer
     ensures { λ r. ⌜ asked r (now (marks .exit)) (now (work .exit))
-        ≡ rootsCall (record { types = now (types .entry); fields = now (fields .entry); consts = now (consts .entry); bytes = now (bytes .entry); pins = now (pins .entry); wanted = now (wanted .entry) })
+        ≡ rootsCall
+        (record { types = now (types .entry); fields = now (fields .entry); consts = now (consts .entry); bytes = now (bytes .entry); pins = now (pins .entry); wanted = now (wanted .entry) })
         (now (marks .entry)) (now (work .entry)) (lent heap (now (narrow .entry)) (now (wide .entry)) (now (pool .entry))) (now (out .entry)) ⌝ }
     ensures { λ _. ⌜ now (out .exit)
-        ≡ rootsOut (record { types = now (types .entry); fields = now (fields .entry); consts = now (consts .entry); bytes = now (bytes .entry); pins = now (pins .entry); wanted = now (wanted .entry) })
+        ≡ rootsOut
+        (record { types = now (types .entry); fields = now (fields .entry); consts = now (consts .entry); bytes = now (bytes .entry); pins = now (pins .entry); wanted = now (wanted .entry) })
         (now (marks .entry)) (now (work .entry)) (lent heap (now (narrow .entry)) (now (wide .entry)) (now (pool .entry))) (now (out .entry)) ⌝ }
     ensures { λ r. ⌜ RightRoots
         (record { types = now (types .entry); fields = now (fields .entry); consts = now (consts .entry); bytes = now (bytes .entry); pins = now (pins .entry); wanted = now (wanted .entry) })
