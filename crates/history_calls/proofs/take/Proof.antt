@@ -1,10 +1,10 @@
 -- `take`: what it answers and leaves, its output apart.
 use borrow.Author.Needs.{needs}
-use Rattle.histories.proofs.Taking.{call-of}
-use Rattle.histories.proofs.take.Statement.{statement}
-use Rattle.histories.proofs.take.Tie as tie
-use Rattle.histories.proofs.take.Reads as reads
-use Rattle.histories.proofs.take.Lts as lts
+use Rattle.history_calls.proofs.Taking.{call-of}
+use Rattle.history_calls.proofs.take.Statement.{statement}
+use Rattle.history_calls.proofs.take.Tie as tie
+use Rattle.history_calls.proofs.take.Reads as reads
+use Rattle.history_calls.proofs.take.Lts as lts
 use Rattle.object_door.proofs.yexwalu_take.Reads as yexwalu-take-reads
 
 -- src/lib.rt:123:5
