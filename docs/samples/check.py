@@ -2,8 +2,8 @@
 """check.py REPLAY [SEED]: holds reader.py to the built program `replay` (rt check replay; target/bin/replay).
 
 1. Each sample is answered as its name says: 17-.., 1-.. and 10-.. are refused so, the others are taken.
-2. Pages, the samples and each of them with one byte changed, removed, doubled or put in, are answered alike by both (`load`), and an accepted one is printed again (`page`) to the same bytes, one of the earlier form with the names line of
-   the slots replaced.
+2. Pages, the samples and each of them with one byte changed, removed, doubled or put in, are answered alike by both (`load`), and an accepted one is printed again (`page`) to the same bytes, one of an earlier form as reader.py
+   would write it in the form of today.
 3. Layouts and traced handles of the types of the tables, and of random ones, under random descriptors and values are alike (`layout`, `objh`).
 4. The grammar of docs/FORMAT.md, as a regular expression, with the counts and widths beside it, says of every one of these pages, and of tables changed in the same ways, whether it is one, as reader.py does;
    a table that is taken is printed again to the same bytes.
@@ -44,6 +44,15 @@ def damaged(text, turns):
         yield text[:i] + bytes([random.choice(b"0123456789,\nabcdef")]) + text[i:]
 
 
+def rewritten(heap):
+    """The page of a heap in the form that is written: what docs/FORMAT.md, section 2, says."""
+    head, columns = reader.HEADS[-1], reader.SLOTS[-1]
+    rows = [head, [len(heap[n]) if n in head[4:] else heap[n] for n in head], columns] + [[s[n] for n in columns[:-1]] + [s["data"].hex()] for s in heap["slots"]]
+    for name in head[5:]:
+        rows += [[name]] + [[i] for i in heap[name]]
+    return "".join(",".join(map(str, row)) + "\n" for row in rows).encode()
+
+
 def pages(replay, turns):
     texts = []
     for f in sorted(glob.glob(here + "/*.page")):
@@ -58,7 +67,7 @@ def pages(replay, turns):
         mine = reader.answer(t)
         again = printed[2:].replace(b";", b"\n")
         taken += mine == 0
-        if str(mine).encode() != loaded or (mine == 0 and again != t.replace(b",start,writes,data\n", b",start,writes64,data\n")):
+        if str(mine).encode() != loaded or (mine == 0 and again != rewritten(reader.read_page(t))):
             wrong += 1
             print("differ:", t[:300], loaded, mine)
     print(f"pages: {len(texts)} alike but for {wrong}; {taken} of them are taken")
@@ -67,11 +76,12 @@ def pages(replay, turns):
 
 NUMBER, DATA, NAME = rb"(?:0|[1-9][0-9]*)", rb"(?:[0-9a-f]{2})*", rb"[\x20-\x2b\x2d-\xff]*"
 LINES = lambda k, last: rb"((?:(?:" + NUMBER + rb",){%d}" % k + last + rb"\n)*)"
-PAGES = [re.compile(rb"tag,since_gc,reclaim_at,live_bytes,slots,free,quarantine,sealed\n((?:" + NUMBER + rb",){7}" + NUMBER + rb")\ngeneration,kind,type,start," + writes + rb",data\n" + LINES(5, DATA)
-                    + rb"free\n" + LINES(0, NUMBER) + rb"quarantine\n" + LINES(0, NUMBER) + rb"sealed\n" + LINES(0, NUMBER)) for writes in (b"writes", b"writes64")]
+PAGES = [re.compile(rb"tag,since_gc,reclaim_at,live_bytes,slots,free,quarantine,sealed" + more + rb"\n((?:" + NUMBER + rb",){%d}" % (7 + bool(more)) + NUMBER + rb")\ngeneration,kind,type,start," + writes
+                    + rb",data\n" + LINES(5, DATA) + rb"free\n" + LINES(0, NUMBER) + rb"quarantine\n" + LINES(0, NUMBER) + rb"sealed\n" + LINES(0, NUMBER) + (rb"retired\n" + LINES(0, NUMBER) if more else b""))
+         for more in (b"", b",retired") for writes in (b"writes", b"writes64")]
 TABLE = re.compile(rb"types,fields,constants\n((?:" + NUMBER + rb",){2}" + NUMBER + rb")\nclass,a,b,c,name\n" + LINES(4, NAME) + rb"type,constant,name\n" + LINES(2, NAME)
                    + rb"plain,start,length,name\n" + LINES(3, NAME) + rb"bytes\n" + DATA + rb"\n")
-WIDTHS = {p: [[8, 64, 64, 64, 32, 32, 32, 32], [32, 8, 32, 64, 64 if b"writes64" in p.pattern else 32], [32], [32], [64]] for p in PAGES}
+WIDTHS = {p: [[8, 64, 64, 64] + [32] * 5, [32, 8, 32, 64, 64 if b"writes64" in p.pattern else 32], [32], [32], [64], [32]] for p in PAGES}
 WIDTHS[TABLE] = [[64] * 3, [64] * 4, [32] * 2, [64] * 3]
 
 

@@ -11,14 +11,14 @@ import sys
 
 NO_CONSTANT = 4294967295
 KINDS = ["dead", "Typed", "Bytes", "Handles"]
-# Sections 2 and 14: the names lines that are known, of the earlier form and of the one that is written now. A later form adds a line here.
-HEADS = [["tag", "since_gc", "reclaim_at", "live_bytes", "slots", "free", "quarantine", "sealed"]]
+LAST = 4294967295     # the generation of a slot that is worn out
+# Sections 2 and 14: the names lines that are known, of the earlier forms and of the one that is written now. A later form adds a line here.
+HEADS = [["tag", "since_gc", "reclaim_at", "live_bytes", "slots", "free", "quarantine", "sealed"] + last for last in ([], ["retired"])]
 SLOTS = [["generation", "kind", "type", "start", writes, "data"] for writes in ("writes", "writes64")]
 WIDTHS = {"tag": 8, "kind": 8, "since_gc": 64, "reclaim_at": 64, "live_bytes": 64, "start": 64, "writes64": 64}      # the others: 32
 TABLE = [("types", ["class", "a", "b", "c", "name"], 64), ("fields", ["type", "constant", "name"], 32), ("constants", ["plain", "start", "length", "name"], 64)]
 
-class Refused(Exception):
-    """The number of section 11 for a file that is not taken."""
+class Refused(Exception): """The number of section 11 for a file that is not taken."""
 
 class Lines:
     """A text as lines, each ended by byte 10."""
@@ -80,12 +80,14 @@ def read_page(text):
         heap[name] = [number(lines.next(), 2 ** (64 if name == "sealed" else 32) - 1) for _ in range(heap[name])]
     lines.end()
     heap["slots"] = slots
+    if "retired" not in head:     # section 14: worn-out slots of the free list are retired, in its order
+        worn = lambda i: i < len(slots) and slots[i]["generation"] == LAST
+        heap["free"], heap["retired"] = [i for i in heap["free"] if not worn(i)], [i for i in heap["free"] if worn(i)]
     if not well_formed(heap):
         raise Refused(1)
     return heap
 
-def parts_of(handle):
-    return handle >> 56, handle >> 32 & 0xFFFFFF, handle & 0xFFFFFFFF
+parts_of = lambda handle: (handle >> 56, handle >> 32 & 0xFFFFFF, handle & 0xFFFFFFFF)
 
 def well_formed(heap):
     """Section 8."""
@@ -94,10 +96,11 @@ def well_formed(heap):
     for s in slots:
         if s["kind"] > 3 or s["generation"] < 1 or (s["kind"] != 1 and s["type"]) or (s["kind"] == 0 and (s["start"] or s["writes64"] or s["data"])):
             return False
-    for i in heap["free"] + heap["quarantine"]:
-        if i >= len(slots):
-            return False
-        places[i] += 1
+    for name in ("free", "quarantine", "retired"):
+        for i in heap[name]:
+            if i >= len(slots) or (name != "quarantine" and (slots[i]["generation"] == LAST) != (name == "retired")):
+                return False
+            places[i] += 1
     for handle in heap["sealed"]:
         tag, index, generation = parts_of(handle)
         if tag != heap["tag"] or not last < index < len(slots) or generation < 1:
@@ -152,16 +155,14 @@ def good_table(table):
         counts = [min(1 + sum(counts[p] if p < len(types) else 1 for p in ps), 65537) for ps in parts]
     return all(n <= 65536 for n in counts)
 
-class NoLayout(Exception):
-    """Section 7: malformed, too large, or cut short."""
+class NoLayout(Exception): """Section 7: malformed, too large, or cut short."""
 
 def word(n):
     if n >= 2 ** 64:
         raise NoLayout
     return n
 
-def up(n, align):
-    return word((n + align - 1) // align * align)
+up = lambda n, align: word((n + align - 1) // align * align)
 
 def type_at(table, t, depth):
     if t >= len(table["types"]) or depth > 64:
@@ -291,10 +292,8 @@ if __name__ == "__main__":
         sys.exit(__doc__)
     files = [open(f, "rb").read() for f in sys.argv[2:]]
     if sys.argv[1] == "answer":
-        for name, text in zip(sys.argv[2:], files):
-            print(name, answer(text))
+        print("\n".join(f"{name} {answer(text)}" for name, text in zip(sys.argv[2:], files)))
     elif sys.argv[1] == "page":
         show(read_page(files[0]), read_table(files[1]) if len(files) > 1 else None)
     else:
-        slot = fits(read_page(files[0]), read_table(files[1]))
-        print("fits" if slot is None else f"slot {slot} does not fit")
+        print({None: "fits"}.get(slot := fits(read_page(files[0]), read_table(files[1])), f"slot {slot} does not fit"))

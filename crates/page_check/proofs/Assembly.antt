@@ -16,12 +16,12 @@ use Rattle.text.proofs.Laws.{times-right, number-right}
 use Rattle.text.proofs.Getting.{suffix}
 use Rattle.heap.specs.State.{Slot, State, dataSize}
 use Rattle.heap.specs.WellFormed.{soundSlot, soundSeals, soundReclaim, sound}
-use Rattle.pages.specs.Form.{Form, heapNames, freeName, quarantineName, sealedName}
-use Rattle.pages.specs.Page.{Head, headFormat, bodyFormat, slotFormat, pageFormat, readPage, whole, stateOf}
+use Rattle.pages.specs.Form.{Form, formOf, freeName, quarantineName, sealedName}
+use Rattle.pages.specs.Page.{Head, headFormat, bodyFormat, slotFormat, retiredFormat, pageFormat, readPage, whole, stateOf}
 use Rattle.pages.proofs.Laws.{slot-right, slots-wider, head-right}
 use Rattle.page_check.specs.Answer.{headAnswer, slotsAnswer, indicesMore, sealsMore}
 use Rattle.page_check.specs.Partition.{valuesAt, ValuesParsed}
-use Rattle.page_check.specs.Parts.{numbersOf, slotNamed}
+use Rattle.page_check.specs.Parts.{numbersOf, heapNamed, slotNamed, sectionsOf}
 use Rattle.page_check.specs.Sections.{heapIn, formIn, soundBut, Sectioned}
 use Rattle.page_check.specs.Filling.{SlotsParsed}
 use Rattle.page_check.proofs.Once.{slots-are, read-count}
@@ -41,26 +41,27 @@ rest-of : {A : Type 0} {f : Format A} {good : A → Type 0} → Right f good →
     rest ≡ drop (length s - length rest) s
 rest-of {A} {f} r s k a rest e = suffix (f .print a) rest s k (r .back (drop k s) a rest e .1)
 
-pub head-found : (s : List ℕ) (k : ℕ) {r : HeadLine} (x : HeadRead) → r ≡ headAnswer (length s) (headFormat .read (drop k s)) → r ≡ Head-of x →
-    (headFormat .read (drop k s) ≡ give (numbersOf x) (drop (x .next) s)) × (x .next ≤ length s)
-head-found s k {r} x e f = go (headFormat .read (drop k s)) refl e
-  where
-    go : (o : Option (Head × List ℕ)) → headFormat .read (drop k s) ≡ o → r ≡ headAnswer (length s) o →
-        (headFormat .read (drop k s) ≡ give (numbersOf x) (drop (x .next) s)) × (x .next ≤ length s)
-    go none q g = absurd (contradiction cc)
-    go (some y) q g =
-        let v : headAnswer (length s) (some y) ≡ Head-of x = sym g ∙ f in
-        let z : HeadRead = record { tag = y .0 .0; «since_gc» = y .0 .1 .0; «reclaim_at» = y .0 .1 .1 .0; «live_bytes» = y .0 .1 .1 .1 .0; slots = y .0 .1 .1 .1 .1 .0; free = y .0 .1 .1 .1 .1 .1 .0; quarantine = y .0 .1 .1 .1 .1 .1 .1 .0; sealed = y .0 .1 .1 .1 .1 .1 .1 .1; next = length s - length (y .1) } in
-        let w : z ≡ x = cc in
-        subst (λ (x : HeadRead). (headFormat .read (drop k s) ≡ give (numbersOf x) (drop (x .next) s)) × (x .next ≤ length s)) w
-        (q ∙ ap (give (y .0)) (rest-of head-right s k (y .0) (y .1) q), omega arith)
+module _ (ret : Bool) (s : List ℕ) (k : ℕ) {r : HeadLine} (e : r ≡ headAnswer ret (length s) (headFormat ret .read (drop k s))) where
+  pub head-found : (x : HeadRead) → r ≡ Head-of x →
+      (x .retiring ≡ ret) × (headFormat ret .read (drop k s) ≡ give (numbersOf x) (drop (x .next) s)) × (x .next ≤ length s)
+  head-found x f = go (headFormat ret .read (drop k s)) refl e
+    where
+      go : (o : Option (Head × List ℕ)) → headFormat ret .read (drop k s) ≡ o → r ≡ headAnswer ret (length s) o →
+          (x .retiring ≡ ret) × (headFormat ret .read (drop k s) ≡ give (numbersOf x) (drop (x .next) s)) × (x .next ≤ length s)
+      go none q g = absurd (contradiction cc)
+      go (some y) q g =
+          let v : headAnswer ret (length s) (some y) ≡ Head-of x = sym g ∙ f in
+          let z : HeadRead = record { retiring = ret; tag = y .0 .0; «since_gc» = y .0 .1 .0; «reclaim_at» = y .0 .1 .1 .0; «live_bytes» = y .0 .1 .1 .1 .0; slots = y .0 .1 .1 .1 .1 .0; free = y .0 .1 .1 .1 .1 .1 .0; quarantine = y .0 .1 .1 .1 .1 .1 .1 .0; sealed = y .0 .1 .1 .1 .1 .1 .1 .1 .0; retired = y .0 .1 .1 .1 .1 .1 .1 .1 .1; next = length s - length (y .1) } in
+          let w : z ≡ x = cc in
+          subst (λ (x : HeadRead). (x .retiring ≡ ret) × (headFormat ret .read (drop k s) ≡ give (numbersOf x) (drop (x .next) s)) × (x .next ≤ length s)) w
+          (refl, q ∙ ap (give (y .0)) (rest-of (head-right ret) s k (y .0) (y .1) q), omega arith)
 
-pub head-lost : (s : List ℕ) (k : ℕ) {r : HeadLine} → r ≡ headAnswer (length s) (headFormat .read (drop k s)) → r ≡ NoHead → headFormat .read (drop k s) ≡ none
-head-lost s k {r} e f = go (headFormat .read (drop k s)) refl e
-  where
-    go : (o : Option (Head × List ℕ)) → headFormat .read (drop k s) ≡ o → r ≡ headAnswer (length s) o → headFormat .read (drop k s) ≡ none
-    go none q g = q
-    go (some y) q g = absurd (contradiction cc)
+  pub head-lost : r ≡ NoHead → headFormat ret .read (drop k s) ≡ none
+  head-lost f = go (headFormat ret .read (drop k s)) refl e
+    where
+      go : (o : Option (Head × List ℕ)) → headFormat ret .read (drop k s) ≡ o → r ≡ headAnswer ret (length s) o → headFormat ret .read (drop k s) ≡ none
+      go none q g = q
+      go (some y) q g = absurd (contradiction cc)
 
 pub slots-found : (w : Bool) (s : List ℕ) (k cnt : ℕ) {r : Slots} (ok : Bool) (size : ℕ) (c : ℕ) → r ≡ slotsAnswer (length s) (readAll (slotFormat w .read) cnt (drop k s)) → r ≡ Lines ok size c →
     (l : List Slot) × (readAll (slotFormat w .read) cnt (drop k s) ≡ give l (drop c s)) × (c ≤ length s) × (ok ≡ all soundSlot l) × (size ≡ dataSize l)
@@ -127,16 +128,16 @@ seals-none s k cnt tag n {r} e f = go (readAll (number 64 10 .read) cnt (drop k 
     go (some y) q g = absurd (contradiction cc)
 
 module _ (s : List ℕ) where
-  pub page-none-1 : readLiteral heapNames (drop 0 s) ≡ none → readPage s ≡ none
+  pub page-none-1 : heapNamed .read (drop 0 s) ≡ none → readPage s ≡ none
   unfolding readPage pageFormat afterLiteral pair bodyFormat times
   page-none-1 q = rw (q)
 
-  module _ (a : ℕ) (e1 : readLiteral heapNames (drop 0 s) ≡ some (drop a s)) where
-    pub page-none-2 : headFormat .read (drop a s) ≡ none → readPage s ≡ none
+  module _ (ret : Bool) (a : ℕ) (e1 : heapNamed .read (drop 0 s) ≡ give ret (drop a s)) where
+    pub page-none-2 : headFormat ret .read (drop a s) ≡ none → readPage s ≡ none
     unfolding readPage pageFormat afterLiteral pair bodyFormat times
     page-none-2 q = rw (e1, q)
 
-    module _ (x : HeadRead) (e2 : headFormat .read (drop a s) ≡ give (numbersOf x) (drop (x .next) s)) where
+    module _ (x : HeadRead) (e2 : headFormat ret .read (drop a s) ≡ give (numbersOf x) (drop (x .next) s)) where
       pub page-none-3 : slotNamed .read (drop (x .next) s) ≡ none → readPage s ≡ none
       unfolding readPage pageFormat afterLiteral pair bodyFormat times
       page-none-3 q = rw (e1, e2, q)
@@ -177,16 +178,21 @@ module _ (s : List ℕ) where
                     page-none-10 q = rw (e1, e2, e3, e4, e5, e6, e7, e8, e9, q)
 
                     module _ (zl : List ℕ) (k : ℕ) (e10 : readAll (number 64 10 .read) (x .sealed) (drop j s) ≡ give zl (drop k s)) where
-                      page-more : (m : ℕ) (t : List ℕ) → drop k s ≡ m ∷ t → readPage s ≡ none
+                      pub page-none-11 : retiredFormat ret (x .retired) .read (drop k s) ≡ none → readPage s ≡ none
                       unfolding readPage pageFormat afterLiteral pair bodyFormat times
-                      page-more m t q = rw (e1, e2, e3, e4, e5, e6, e7, e8, e9, e10, q)
+                      page-none-11 q = rw (e1, e2, e3, e4, e5, e6, e7, e8, e9, e10, q)
 
-                      pub page-long : k < length s → readPage s ≡ none
-                      page-long h = page-more (lib.ListN.getD s k 0) (drop (suc k) s) (drop-cons s k 0 h)
+                      module _ (rl : List ℕ) (o : ℕ) (e11 : retiredFormat ret (x .retired) .read (drop k s) ≡ give rl (drop o s)) where
+                        page-more : (m : ℕ) (t : List ℕ) → drop o s ≡ m ∷ t → readPage s ≡ none
+                        unfolding readPage pageFormat afterLiteral pair bodyFormat times
+                        page-more m t q = rw (e1, e2, e3, e4, e5, e6, e7, e8, e9, e10, e11, q)
 
-                      pub page-whole : length s ≤ k → readPage s ≡ some (record { wide = w }, stateOf (numbersOf x) (sl, (fl, (ql, zl))))
-                      unfolding readPage pageFormat afterLiteral pair bodyFormat times
-                      page-whole h = rw (e1, e2, e3, e4, e5, e6, e7, e8, e9, e10, drop-of-length-le s {i = k} h)
+                        pub page-long : o < length s → readPage s ≡ none
+                        page-long h = page-more (lib.ListN.getD s o 0) (drop (suc o) s) (drop-cons s o 0 h)
+
+                        pub page-whole : length s ≤ o → readPage s ≡ some (formOf ret w, stateOf (numbersOf x) (sl, (fl, (ql, (zl, rl)))))
+                        unfolding readPage pageFormat afterLiteral pair bodyFormat times
+                        page-whole h = rw (e1, e2, e3, e4, e5, e6, e7, e8, e9, e10, e11, drop-of-length-le s {i = o} h)
 
 -- THE VERDICT
 
@@ -214,44 +220,30 @@ unfolding formIn
 form-is s f h e = rw (e, formIn)
 
 -- the sections that were read are those of the heap that they make up
-module _ (s : List ℕ) (wide : Bool) (x : HeadRead) (sl : List Slot) (fl ql zl : List ℕ) where
+module _ (s : List ℕ) (wide : Bool) (x : HeadRead) (sl : List Slot) (fl ql zl rl : List ℕ) where
   abbrev pub made : State
-  made = stateOf (numbersOf x) (sl, (fl, (ql, zl)))
+  made = stateOf (numbersOf x) (sl, (fl, (ql, (zl, rl))))
 
   abbrev form : Form
-  form = record { wide = wide }
+  form = formOf (x .retiring) wide
 
-  pub sectioned : (b c d g i j k size : ℕ) (rest : List ℕ) (a1 a2 a3 a4 r : Bool) → readPage s ≡ some (form, made) →
+  pub sectioned : (b c d g i j k l size : ℕ) (rest rest′ : List ℕ) (a1 a2 a3 a4 a5 r : Bool) → readPage s ≡ some (form, made) →
       readAll (slotFormat wide .read) (x .slots) (drop b s) ≡ give sl (drop c s) → a1 ≡ all soundSlot sl → size ≡ dataSize sl →
       readAll (number 32 10 .read) (x .free) (drop d s) ≡ give fl (drop g s) → a2 ≡ all (λ i. ltb i (x .slots)) fl →
       readAll (number 32 10 .read) (x .quarantine) (drop i s) ≡ give ql (drop j s) → a3 ≡ all (λ i. ltb i (x .slots)) ql →
       readAll (number 64 10 .read) (x .sealed) (drop k s) ≡ give zl rest → a4 ≡ soundSeals (x .tag) (x .slots) 0 zl →
-      r ≡ (a1 && (a2 && a3) && a4 && soundReclaim (x .«reclaim_at»)) →
-      b ≤ length s → d ≤ length s → i ≤ length s → k ≤ length s →
-      Sectioned s (record {
-        wide = wide;
-        tag = x .tag;
-        «since_gc» = x .«since_gc»;
-        «reclaim_at» = x .«reclaim_at»;
-        «live_bytes» = x .«live_bytes»;
-        slots = x .slots;
-        free = x .free;
-        quarantine = x .quarantine;
-        sealed = x .sealed;
-        «slots_at» = b;
-        «free_at» = d;
-        «quarantine_at» = i;
-        «sealed_at» = k;
-        size = size;
-        sound = r;
-      })
-  sectioned b c d g i j k size rest a1 a2 a3 a4 r page met h1 hs ef h2 eq h3 ez h4 hr lb ld li lk =
+      readAll (number 32 10 .read) (x .retired) (drop l s) ≡ give rl rest′ → a5 ≡ all (λ i. ltb i (x .slots)) rl → (x .retiring ≡ false → rl ≡ []) →
+      r ≡ (a1 && (a2 && a3 && a5) && a4 && soundReclaim (x .«reclaim_at»)) →
+      b ≤ length s → d ≤ length s → i ≤ length s → k ≤ length s → l ≤ length s →
+      Sectioned s (sectionsOf wide x b d i k l size r)
+  sectioned b c d g i j k l size rest rest′ a1 a2 a3 a4 a5 r page met h1 hs ef h2 eq h3 ez h4 er h5 hn hr lb ld li lk ll =
       let w : heapIn s ≡ made = heap-is s form made page in
       let f : formIn s ≡ form = form-is s form made page in
       let es : readAll (slotFormat true .read) (x .slots) (drop b s) ≡ give sl (drop c s) = slots-wider wide (x .slots) (drop b s) sl (drop c s) met in
       let n : length sl ≡ x .slots = read-count (x .slots) (drop b s) sl (drop c s) es in
       record {
         page = page ∙ (λ j. some (sym f j, sym w j));
+        retiring = ap (λ (g : Form). g .retiring) (sym f);
         wide = ap (λ (g : Form). g .wide) (sym f);
         tag = ap (λ (h : State). h .tag) (sym w);
         since = ap (λ (h : State). h .sinceGc) (sym w);
@@ -269,11 +261,16 @@ module _ (s : List ℕ) (wide : Bool) (x : HeadRead) (sl : List Slot) (fl ql zl 
         sealed = values-parsed 64 s k (x .sealed) zl rest ez;
         sealedAre = values-are 64 s k (x .sealed) zl rest ez ∙ ap (λ (h : State). h .sealed) (sym w);
         sealedCount = sym (values-count 64 s k (x .sealed) zl rest ez) ∙ ap (λ (h : State). length (h .sealed)) (sym w);
+        retired = values-parsed 32 s l (x .retired) rl rest′ er;
+        retiredAre = values-are 32 s l (x .retired) rl rest′ er ∙ ap (λ (h : State). h .retired) (sym w);
+        retiredCount = sym (values-count 32 s l (x .retired) rl rest′ er) ∙ ap (λ (h : State). length (h .retired)) (sym w);
+        retiredNone = λ e. ap (λ (h : State). h .retired) w ∙ hn e;
         size = hs ∙ ap (λ (h : State). dataSize (h .slots)) (sym w);
         sound =
-            hr ∙ rw (h1, h2, h3, h4, ← all-append (λ i. ltb i (x .slots)) fl ql, ← n) refl ∙ ap soundBut (sym w);
+            hr ∙ rw (h1, h2, h3, h4, h5, ← all-append (λ i. ltb i (x .slots)) fl ql, ← all-append (λ i. ltb i (x .slots)) (fl ++ ql) rl, ← n) refl ∙ ap soundBut (sym w);
         slotsInside = lb;
         freeInside = ld;
         quarantineInside = li;
         sealedInside = lk;
+        retiredInside = ll;
       }

@@ -16,9 +16,9 @@ use Rattle.text.proofs.Putting.{puts-puts, puts-at, puts-none}
 use Rattle.heap.specs.State.{Slot, dataOf, dataSize}
 use Rattle.heap.specs.Packing.{flat}
 use Rattle.pages.specs.Page.{slotFormat}
-use Rattle.pages.specs.Columns.{slot}
+use Rattle.pages.specs.Columns.{slot, field}
 use Rattle.pages.proofs.Laws.{slot-right, slot-prints}
-use Rattle.pages.proofs.Writing.{blank, field, slot-parts}
+use Rattle.pages.proofs.Writing.{blank, slot-parts}
 use Rattle.page_check.specs.Filling.{slotsAt, SlotsParsed}
 use Rattle.page_check.specs.Answer.{slotAnswer}
 use Rattle.page_check.specs.declared.SlotRead.{SlotRead}

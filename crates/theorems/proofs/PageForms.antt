@@ -8,16 +8,15 @@ use lib.ListN.{length}
 use Rattle.word.specs.Result.{refused}
 use Rattle.word.proofs.Bools.{true-false}
 use Rattle.text.specs.Text.{give, _>>=_, ascii, newline}
-use Rattle.text.specs.Format.{Right, number, afterLiteral, pair, times}
-use Rattle.text.proofs.Laws.{none-not-some, bind-some, some-inj, after-literal-right, pair-right, times-right}
+use Rattle.text.specs.Format.{Right, number, always, afterLiteral, pair, times}
+use Rattle.text.proofs.Laws.{none-not-some, bind-some, some-inj, always-right, after-literal-right, pair-right, times-right}
 use Rattle.heap.specs.State.{Slot, State}
 use Rattle.heap.specs.Lent.{Lent, view, slotCount, poolSize}
-use Rattle.pages.specs.Form.{Form, written, earlier, heapNames, slotFront, narrowWrites, slotNames, freeName, quarantineName, sealedName}
-use Rattle.pages.specs.Page.{slotLine, valueLine, heapLine, pageText, Within, Unsaved, slotFormat, Head, headFormat, Body, stateOf, headOf, bodyOf, whole, readPage}
+use Rattle.pages.specs.Form.{Form, written, earlier, heapFront, noRetired, heapNames, slotFront, narrowWrites, slotNames, freeName, quarantineName, sealedName}
+use Rattle.pages.specs.Page.{slotLine, valueLine, heapLine, retiredPart, pageText, Within, Unsaved, slotFormat, Head, headFormat, Body, stateOf, headOf, bodyOf, whole, readPage}
 use Rattle.pages.proofs.Laws.{Head-good, Body-good, head-right, slot-right, last, head-prints, slot-prints, value-prints, flatMap-same, good-saved, within-read, whole-some, same-unsaved, read-written, written-read, read-exactly}
-use Rattle.page_check.specs.Sections.{verdict}
 use Rattle.page_reader.specs.Reading.{Left, left, inRange}
-use Rattle.theorems.specs.EarlierPage.{earlierHeapNames, earlierSlotNames, earlierBody, earlierFormat, earlierRead, earlierInto}
+use Rattle.theorems.specs.EarlierPage.{earlierHeapNames, earlierSlotNames, earlierBody, earlierFormat, earlierRead, earlierVerdict, earlierInto}
 use Rattle.theorems.specs.PageForms.{EveryFormRead, EarlierStillRead, EarlierRefuses, EarlierRewritten}
 use Rattle.theorems.proofs.PageReading.{page-taken}
 use Rattle.theorems.proofs.PageHeapPage.{kept, writes-text}
@@ -27,20 +26,21 @@ every-form-read f h m marks work r m′ marks′ work′ w s v q c = page-taken 
 
 -- ---- the earlier reader
 
-earlier-body-right : (d : Head) → Right (earlierBody d) (Body-good false d)
+earlier-body-right : (d : Head) → Right (earlierBody d) (Body-good earlier (d .1 .1 .1 .1))
 unfolding earlierBody
 earlier-body-right d =
     after-literal-right earlierSlotNames (pair-right (times-right (d .1 .1 .1 .1 .0) (slot-right false))
     λ _. after-literal-right (ascii "free\n") (pair-right (times-right (d .1 .1 .1 .1 .1 .0) (last 32))
     λ _. after-literal-right (ascii "quarantine\n") (pair-right (times-right (d .1 .1 .1 .1 .1 .1 .0) (last 32))
-    λ _. after-literal-right (ascii "sealed\n") (times-right (d .1 .1 .1 .1 .1 .1 .1) (last 64)))))
+    λ _. after-literal-right (ascii "sealed\n") (pair-right (times-right (d .1 .1 .1 .1 .1 .1 .1 .0) (last 64))
+    λ _. always-right []))))
 
-earlier-right : Right earlierFormat (λ p. Head-good (p .0) × Body-good false (p .0) (p .1))
+earlier-right : Right earlierFormat (λ p. Head-good false (p .0) × Body-good earlier (p .0 .1 .1 .1 .1) (p .1))
 unfolding earlierFormat
-earlier-right = after-literal-right earlierHeapNames (pair-right head-right earlier-body-right)
+earlier-right = after-literal-right earlierHeapNames (pair-right (head-right false) earlier-body-right)
 
-head-named : earlierHeapNames ≡ heapNames
-unfolding earlierHeapNames heapNames
+head-named : earlierHeapNames ≡ heapNames earlier
+unfolding earlierHeapNames heapNames heapFront noRetired ascii
 head-named = refl
 
 slot-named : earlierSlotNames ≡ slotNames earlier
@@ -49,8 +49,8 @@ slot-named = refl
 
 body-prints : (h : State) → earlierBody (headOf h) .print (bodyOf h) ≡
     slotNames earlier ++ (flatMap slotLine (h .slots) ++ (freeName ++ (flatMap valueLine (h .free)
-    ++ (quarantineName ++ (flatMap valueLine (h .quarantine) ++ (sealedName ++ flatMap valueLine (h .sealed)))))))
-unfolding earlierBody afterLiteral pair times freeName quarantineName sealedName
+    ++ (quarantineName ++ (flatMap valueLine (h .quarantine) ++ (sealedName ++ (flatMap valueLine (h .sealed) ++ [])))))))
+unfolding earlierBody afterLiteral pair times always freeName quarantineName sealedName
 body-prints h =
     rw (
       slot-named,
@@ -60,17 +60,17 @@ body-prints h =
       flatMap-same (number 64 newline .print) valueLine (value-prints 64) (h .sealed),
     )
 
-earlier-prints : (h : State) → earlierFormat .print (headOf h, bodyOf h) ≡ pageText earlier h
-unfolding earlierFormat afterLiteral pair pageText
-earlier-prints h = rw (head-named, head-prints h, body-prints h) (simp append-assoc)
+earlier-prints : (h : State) → h .retired ≡ [] → earlierFormat .print (headOf h, bodyOf h) ≡ pageText earlier h
+unfolding earlierFormat afterLiteral pair pageText retiredPart
+earlier-prints h z = rw (head-named, head-prints false h z, body-prints h) (simp append-assoc)
 
 -- what it took is a page of the earlier form
 was-page : (t : List ℕ) (p : Head × Body) → earlierFormat .read t ≡ give p [] → (pageText earlier (stateOf (p .0) (p .1)) ≡ t) × Within earlier (stateOf (p .0) (p .1)) × Unsaved (stateOf (p .0) (p .1))
 was-page t p e =
     let b = earlier-right .back t p [] e in
-    let w = within-read (p .0, (false, p .1)) (b .0 .0, (tt, b .0 .1)) in
-    let same : _≡_ {A = Head × Body} (headOf (stateOf (p .0) (p .1)), bodyOf (stateOf (p .0) (p .1))) p = λ j. (w .1 j .0, w .1 j .1 .1) in (
-      sym (earlier-prints (stateOf (p .0) (p .1))) ∙ ap (earlierFormat .print) same ∙ sym (append-nil (earlierFormat .print p)) ∙ b .1,
+    let w = within-read (false, (p .0, (false, p .1))) (tt, (b .0 .0, (tt, b .0 .1))) in
+    let same : _≡_ {A = Head × Body} (headOf (stateOf (p .0) (p .1)), bodyOf (stateOf (p .0) (p .1))) p = λ j. (w .1 j .1 .0, w .1 j .1 .1 .1) in (
+      sym (earlier-prints (stateOf (p .0) (p .1)) (w .0 .retired)) ∙ ap (earlierFormat .print) same ∙ sym (append-nil (earlierFormat .print p)) ∙ b .1,
       w .0,
       record { epoch = refl; log = refl },
     )
@@ -91,8 +91,8 @@ again t h e =
     let w = written-read t earlier h e in
     let g = good-saved earlier h (w .1) in
     let r : earlierFormat .read t ≡ give (headOf h, bodyOf h) [] =
-    ap (earlierFormat .read) (sym (w .0) ∙ sym (append-nil (pageText earlier h)) ∙ ap (λ (x : List ℕ). x ++ []) (sym (earlier-prints h)))
-    ∙ earlier-right .forth (headOf h, bodyOf h) [] (g .0, g .1 .1) in
+    ap (earlierFormat .read) (sym (w .0) ∙ sym (append-nil (pageText earlier h)) ∙ ap (λ (x : List ℕ). x ++ []) (sym (earlier-prints h (w .1 .retired))))
+    ∙ earlier-right .forth (headOf h, bodyOf h) [] (g .1 .0, g .1 .1 .1) in
     rw r (ap some (same-unsaved h (w .2)))
 
 pub earlier-still-read : EarlierStillRead
@@ -108,27 +108,16 @@ not-read h w = go (earlierRead (pageText written h)) refl
         absurd (true-false (ap (λ (x : Form × State). x .0 .wide) v))
 
 pub earlier-refuses : EarlierRefuses
-unfolding earlierInto verdict
+unfolding earlierInto earlierVerdict
 earlier-refuses l h w = rw (not-read h w)
 
--- ---- written again under the new name
-
--- a page is cut at the names line of its slots
-cut-at : (f : Form) (h : State) → pageText f h ≡
-    (heapNames ++ heapLine h) ++ (slotNames f ++ (flatMap slotLine (h .slots) ++ freeName ++ flatMap valueLine (h .free)
-    ++ quarantineName ++ flatMap valueLine (h .quarantine) ++ sealedName ++ flatMap valueLine (h .sealed)))
-unfolding pageText
-cut-at f h = simp append-assoc
+-- ---- written again in the form that is written
 
 pub earlier-rewritten : EarlierRewritten
-earlier-rewritten text l′ out marks work r out′ marks′ work′ t e s d =
+earlier-rewritten text l′ out marks work r out′ marks′ work′ t s d =
     let k = kept text l′ t in
-    let p : pageText earlier (view l′) ≡ text = ap (λ (f : Form). pageText f (view l′)) (sym e) ∙ k .page in
     record {
-      was = p;
-      before = heapNames ++ heapLine (view l′);
-      after = flatMap slotLine (view l′ .slots) ++ freeName ++ flatMap valueLine (view l′ .free)
-          ++ quarantineName ++ flatMap valueLine (view l′ .quarantine) ++ sealedName ++ flatMap valueLine (view l′ .sealed);
-      cut = sym p ∙ cut-at earlier (view l′);
-      wrote = writes-text _ l′ out marks work r out′ marks′ work′ (k .formed) (cut-at written (view l′)) s d;
+      was = k .page;
+      heap = k .heap;
+      wrote = writes-text _ l′ out marks work r out′ marks′ work′ (k .formed) (ap (pageText written) (k .heap)) s d;
     }

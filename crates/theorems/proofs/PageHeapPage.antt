@@ -14,10 +14,10 @@ use Rattle.heap.specs.Lent.{Lent, stored, view, slotCount, poolSize}
 use Rattle.heap.specs.WellFormed.{wellFormed}
 use Rattle.heap.proofs.Storing.{view-stored}
 use Rattle.pages.specs.Form.{Form, written}
-use Rattle.pages.specs.Page.{pageText}
+use Rattle.pages.specs.Page.{pageText, brought}
 use Rattle.pages.proofs.Laws as pages
-use Rattle.page_check.specs.Sections.{formIn}
-use Rattle.page_check.proofs.Assembly.{form-is}
+use Rattle.page_check.specs.Sections.{formIn, heapIn}
+use Rattle.page_check.proofs.Assembly.{form-is, heap-is}
 use Rattle.page_reader.specs.Reading.{readInto}
 use Rattle.page_reader.proofs.Loaded.{not-ok}
 use Rattle.door.specs.HeapCalls.{enough}
@@ -27,10 +27,11 @@ use Rattle.theorems.proofs.PageReading.{taken, room-formed, reads-enoug
 use Rattle.theorems.proofs.PageWriting.{writes-page, writes-none, put-start}
 
 module _ (text : List ℕ) (l′ : Lent) (t : TextRead text l′) where
-  -- a text that was read is the page of the heap that was left, in the form that it has
+  -- a text that was read is the page of what it says, in the form that it has, and the heap that was left is the one that this brings
   pub record Kept : Type 0 where
     pub formed : wellFormed l′ ≡ true
-    pub page : pageText (formIn text) (view l′) ≡ text
+    pub page : pageText (formIn text) (heapIn text) ≡ text
+    pub heap : view l′ ≡ brought (formIn text, heapIn text)
 
   pub kept : Kept
   kept = go (enough (t .marks) (t .work) (t .l)) refl
@@ -42,10 +43,13 @@ module _ (text : List ℕ) (l′ : Lent) (t : TextRead text l′) where
           let k = taken (t .l) text (answer-done (t .l) text (sym (ap (λ (a : Answer). a .number) (c .0)) ∙ t .taken)) in
           let h : State = k .0 in
           let lies : l′ ≡ stored (slotCount (t .l)) (poolSize (t .l)) h = c .1 ∙ k .1 .lies in
+          let form : formIn text ≡ k .1 .form = form-is text (k .1 .form) (k .1 .said) (k .1 .page) in
+          let said : heapIn text ≡ k .1 .said = heap-is text (k .1 .form) (k .1 .said) (k .1 .page) in
           let v : view l′ ≡ h = ap view lies ∙ view-stored (slotCount (t .l)) (poolSize (t .l)) h in
           record {
             formed = ap wellFormed lies ∙ room-formed h (t .l) (k .1 .sound) (k .1 .room);
-            page = (λ j. pageText (form-is text (k .1 .form) h (k .1 .page) j) (v j)) ∙ pages.written-read text (k .1 .form) h (k .1 .page) .0;
+            page = (λ j. pageText (form j) (said j)) ∙ pages.written-read text (k .1 .form) (k .1 .said) (k .1 .page) .0;
+            heap = v ∙ sym (k .1 .heap) ∙ (λ j. brought (sym form j, sym said j));
           }
 
 pub read-formed : ReadFormed
@@ -66,4 +70,5 @@ writes-text text l′ out marks work r out′ marks′ work′ f p s d =
 pub read-written : ReadWritten
 read-written text l′ out marks work r out′ marks′ work′ t e s d =
     let k = kept text l′ t in
-    writes-text text l′ out marks work r out′ marks′ work′ (k .formed) (ap (λ (f : Form). pageText f (view l′)) (sym e) ∙ k .page) s d
+    writes-text text l′ out marks work r out′ marks′ work′ (k .formed)
+    (ap (pageText written) (k .heap ∙ ap (λ (f : Form). brought (f, heapIn text)) e) ∙ ap (λ (f : Form). pageText f (heapIn text)) (sym e) ∙ k .page) s d

@@ -92,4 +92,5 @@ words-within l f w =
       free = taken-below 32 (l .header .free) (l .free) (w .free);
       quarantine = taken-below 32 (l .header .quarantine) (l .quarantine) (w .quarantine);
       sealed = taken-below 64 (l .header .sealed) (l .sealed) (w .sealed);
+      retired = (omega (arith, few (l .header .retired) 16777216 (l .retired) (r .retiredCount)), taken-below 32 (l .header .retired) (l .retired) (w .retired));
     }

@@ -1,4 +1,4 @@
--- Page, heap, page: what `read_page` read in the form that is written, `write_page` writes again, byte for byte (01, "Page"; request [6]).
+-- Page, heap, page: what `read_page` read in the form that is written, `write_page` writes again, byte for byte (01, "Page"; requests [6] and [7]).
 use Prim.Native.Nat.{ℕ}
 use mathlib.Core.Bool.{true}
 use mathlib.Core.List.{List}
