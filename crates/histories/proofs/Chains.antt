@@ -1,34 +1,29 @@
 -- What a collection drops is what no chain leads to, and no slot grows younger by it. Assumes nothing.
-use mathlib.Core.Path.{_≡_, refl, sym, ap, _∙_, subst}
+use mathlib.Core.Path.{_≡_, refl, sym, ap, _∙_}
 use mathlib.Core.Bool.{Bool, true, false, not, _&&_}
 use mathlib.Core.Logic.{_⊎_, inl, inr}
-use mathlib.Core.List.{List, []}
+use mathlib.Core.List.{List}
 use mathlib.Core.Option.{Option, none, some}
-use Prim.Native.Nat.{ℕ, _+_, _≤_, _<_}
+use Prim.Native.Nat.{ℕ, _+_, _≤_}
 use native.Mathlib.Omega.{arith}
 use native.Mathlib.Decide.{decLt}
-use lib.ListN.{length, getD}
-use lib.Dec.{eqb}
-use Rattle.word.specs.Choice.{if_then_else_}
+use lib.ListN.{length}
 use Rattle.word.specs.Ones.{passing}
-use Rattle.word.specs.Result.{Result, ok, refused}
 use Rattle.word.proofs.Bools.{either, and-both, both-and, true-false}
 use Rattle.ty.specs.Types.{Table}
-use Rattle.heap.specs.State.{Slot, State, noSlot, slotAt, live, lastGeneration, bit, times}
-use Rattle.heap.specs.Calls.{Changed, released, liveCount}
+use Rattle.heap.specs.State.{Slot, State, slotAt, live, lastGeneration, bit, times}
+use Rattle.heap.specs.Calls.{liveCount}
 use Rattle.heap.proofs.Sound.{Sound, liveBit}
 use Rattle.heap.proofs.Counting.{sum, sum-add, sum-same, times-length}
 use Rattle.heap.proofs.Keeping.{live-inside}
 use Rattle.reach.specs.Reach.{Graph, Starts, Reached, _∈_}
 use Rattle.reach.specs.Marking.{State as Marks, marking}
-use Rattle.collection.specs.Swept.{goes, swept}
+use Rattle.collection.specs.Swept.{goes}
 use Rattle.collection.specs.Shown.{shown}
-use Rattle.collection.specs.Collected.{graph, starts, sweptBy, collected}
+use Rattle.collection.specs.Collected.{graph, sweptBy, collected}
 use Rattle.collection.specs.Demand.{Survived}
 use Rattle.collection.proofs.Dropping.{sweptSlot, goes-live}
 use Rattle.collection.proofs.SweptLaws.{swept-slot, swept-count, swept-tag}
-use Rattle.collection.proofs.Demand.{collect-demand, collected-sound}
-use Rattle.histories.specs.Steps.{Answer, silently}
 use Rattle.histories.specs.History.{Unreached}
 use Rattle.histories.proofs.Lists.{pick, live-sum, times-in, in-times, rising-once, passing-rises, passing-in, in-passing}
 use Rattle.histories.proofs.Stepping.{age}

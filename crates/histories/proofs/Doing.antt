@@ -12,8 +12,8 @@ use Rattle.refusal.specs.declared.Answer.{Answer as Numbers}
 use Rattle.heap.specs.State.{State}
 use Rattle.heap.specs.Lent.{Lent, stored, view, slotCount, poolSize}
 use Rattle.heap.specs.WellFormed.{wellFormed}
-use Rattle.heap.specs.Calls.{Changed, refuse, done, Object, edit as edited, write as written, reissue as reissued, takeInto, free as freed, seal as sealed}
-use Rattle.heap.proofs.Sound.{Sound, WellFormed}
+use Rattle.heap.specs.Calls.{Changed, edit as edited, write as written, reissue as reissued, takeInto, free as freed}
+use Rattle.heap.proofs.Sound.{Sound}
 use Rattle.heap.proofs.Storing.{well-stored}
 use Rattle.heap.proofs.Testing.{formed-tested, formed-test}
 use Rattle.heap_calls.specs.Objects.{sizeOf, startOf}
@@ -25,12 +25,12 @@ use Rattle.door.specs.declared.Entry.{Entry}
 use Rattle.door.specs.declared.Entry.the-variants.{Ready, Not}
 use Rattle.object_door.specs.ObjectCalls.{allocating, recycling, takeCall}
 use Rattle.heap_door.specs.Sealing.{sealing}
-use Rattle.collect_door.specs.Calls.{Given, tableIn, tests, Asked, table, frame, pinning, joinedTests, joining}
+use Rattle.collect_door.specs.Calls.{tableIn, tests, Asked, table, frame, pinning, joinedTests, joining}
 use Rattle.script.specs.Script.{Call as LineCall, alloc as allocLine, take as takeLine, seal as sealLine, recycle as recycleLine, callOf, lines, silent, quiet, doing as lineDoing, lineDoes, unless, andThen, runLines, runScript}
 use Rattle.run_door.specs.Run.{runTests}
 use Rattle.histories.specs.Steps.{Told, Step, alloc, reissue, edit, write, take, free, recycle, seal, collect, ask, Answer, nothing as silence, handle, slot, object, told, saying, answering, silently, doing}
 use Rattle.histories.specs.History.{after}
-use Rattle.histories.specs.Calls.{Scratch, Call, allocFrom, reissue as reissueCall, edit as editCall, write as writeCall, take as takeOut, free as freeCall, recycle as recycleCall, seal as sealCall, collect as collectCall, collectJoined, run, question, leaving, contract, turned, joinedStep, lineStep, unlessRefused, lineSteps, stepsOf, steps}
+use Rattle.histories.specs.Calls.{Scratch, Call, allocFrom, reissue as reissueCall, edit as editCall, write as writeCall, take as takeOut, free as freeCall, recycle as recycleCall, seal as sealCall, collect as collectCall, collectJoined, run, question, leaving, contract, turned, joinedStep, lineStep, unlessRefused, lineSteps, steps}
 use Rattle.histories.specs.Promises.{numbers, endedBy, ending, firstTold, saidOf, Does, CallsDoSteps, toldBy, QuestionsAreCalls}
 use Rattle.histories.proofs.Histories.{after-grew}
 

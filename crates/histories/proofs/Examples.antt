@@ -1,12 +1,10 @@
 -- A short history, by computation. Assumes nothing.
 use mathlib.Core.Path.{_≡_, refl}
 use mathlib.Core.List.{List, [], _∷_}
-use Prim.Native.Nat.{ℕ}
 use lib.ListN.{length}
 use Rattle.handle.specs.Handle.{packed, tagOf, indexOf, generationOf, resolveBy}
-use Rattle.word.specs.Num.{saturating}
 use Rattle.heap.specs.Packing.{flat}
-use Rattle.heap.specs.State.{State, times}
+use Rattle.heap.specs.State.{times}
 use Rattle.heap.specs.Calls.{new, allocFrom, resolve, reissue as reissued, free as freed, recycle as recycled, liveCount}
 use Rattle.heap_calls.specs.Pins.{risingFrom}
 use Rattle.object_door.specs.ObjectCalls.{allocating, recycling}

@@ -1,6 +1,6 @@
 -- Whole histories: 02, [8]. Assumes nothing.
 use mathlib.Core.Path.{_≡_, refl, sym, ap, _∙_, subst}
-use mathlib.Core.Bool.{Bool, true, false}
+use mathlib.Core.Bool.{true, false}
 use mathlib.Core.Logic.{_⊎_, inl, inr, ⊎-elim}
 use mathlib.Core.List.{List, [], _∷_, _++_}
 use mathlib.Core.Option.{Option, none, some}
@@ -27,7 +27,7 @@ use Rattle.collection.specs.Collected.{graph, starts, sweptBy, collected}
 use Rattle.collection.proofs.Demand.{collect-demand, collected-sound}
 use Rattle.histories.specs.Steps.{Step, alloc, reissue, edit, write, take, free, recycle, seal, collect, ask, Answer, nothing, handle, slot, object, told, silently, doing}
 use Rattle.histories.specs.History.{after, handed, issued, Distinct, Resolves, books, ifOk, total, Drops, Lost}
-use Rattle.histories.proofs.Stepping.{age, Fresh, Issued, Kept, Stepped, no-issue, same, alloc-step, reissue-step, edit-step, write-step, take-step, free-step, recycle-step, seal-step, ask-step}
+use Rattle.histories.proofs.Stepping.{age, Fresh, Issued, Stepped, no-issue, alloc-step, reissue-step, edit-step, write-step, take-step, free-step, recycle-step, seal-step, ask-step}
 use Rattle.histories.proofs.Chains.{Older, collected-older, drops-counted, drops-there}
 
 -- ---- every step

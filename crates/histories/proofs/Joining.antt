@@ -6,7 +6,7 @@ use Rattle.roots.specs.Calls.{function}
 use Rattle.roots.proofs.Forms.{formed-parts}
 use Rattle.collection.proofs.Registers.{joined-starts}
 use Rattle.door.proofs.Entering.{all-hold}
-use Rattle.collect_door.specs.Calls.{Asked, pinning, coded, joinedTests}
+use Rattle.collect_door.specs.Calls.{pinning, coded, joinedTests}
 use Rattle.histories.specs.Promises.{JoinedChains}
 
 pub joined-chains : JoinedChains

@@ -5,5 +5,4 @@ pub mod Histories
 pub mod Doing
 pub mod Promised
 pub mod Joining
-pub mod Taking
 pub mod Examples

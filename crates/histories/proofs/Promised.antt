@@ -2,7 +2,7 @@
 use mathlib.Core.Path.{_≡_, refl, sym, ap, _∙_, subst}
 use mathlib.Core.Bool.{true}
 use mathlib.Core.List.{List, [], _∷_, _++_}
-use Prim.Native.Nat.{ℕ, _+_, _≤_}
+use Prim.Native.Nat.{ℕ}
 use native.Mathlib.Omega.{arith}
 use lib.ListN.{length}
 use Rattle.heap.specs.State.{State}
@@ -16,9 +16,9 @@ use Rattle.heap.proofs.Testing.{formed-tested}
 use Rattle.object_door.specs.Making.{newCall}
 use Rattle.object_door.proofs.Made.{new-formed}
 use Rattle.histories.specs.Steps.{Step}
-use Rattle.histories.specs.History.{after, Resolves, total}
+use Rattle.histories.specs.History.{after, Resolves}
 use Rattle.histories.specs.Calls.{Scratch, Call, contract, steps, Made, left, allSteps}
-use Rattle.histories.specs.Promises.{Does, heapAfter, counting, LostBy, Promises, NoHandleTwice, NoHandleTwiceFrom}
+use Rattle.histories.specs.Promises.{heapAfter, Promises, NoHandleTwice, NoHandleTwiceFrom}
 use Rattle.histories.proofs.Histories.{after-grew, after-append, once, never, objects, counted, slots}
 use Rattle.histories.proofs.Doing.{calls-do-steps}
 

@@ -1,6 +1,6 @@
 -- What one step does to a sound heap: it stays sound, no slot grows younger, and the books are right. Assumes nothing.
 use mathlib.Core.Path.{_≡_, refl, sym, ap, _∙_, subst}
-use mathlib.Core.Bool.{Bool, true, false, not, _&&_}
+use mathlib.Core.Bool.{true, false}
 use mathlib.Core.List.{List, [], _∷_, _++_}
 use mathlib.Core.Logic.{_⊎_, inl, inr}
 use Prim.Native.Nat.{ℕ, _+_, _*_, _-_, _^_, _≤_, _<_}
@@ -8,18 +8,18 @@ use native.Mathlib.Omega.{arith}
 use native.Mathlib.Decide.{decLt, ℕ-discrete}
 use lib.ListN.{length, getD, set, length-set, length-append, List·getD-eq-default}
 use lib.Seq.{getD-set-same, getD-set-other}
-use lib.Dec.{eqb, ltb, leb}
-use borrow.Author.Tests.{eq-eqb, ne-eqb, lt-ltb, ltb-true, ltb-false, leb-true, leb-false, eqb-false, not-false}
+use lib.Dec.{ltb, leb}
+use borrow.Author.Tests.{eq-eqb, ne-eqb, lt-ltb, leb-true}
 use Rattle.word.specs.Choice.{if_then_else_}
 use Rattle.word.specs.Put.{put}
 use Rattle.word.specs.Result.{Result, ok, refused}
 use Rattle.word.proofs.Bools.{and-both, either}
 use Rattle.handle.specs.Handle.{packed}
-use Rattle.heap.specs.State.{Slot, State, noSlot, slotAt, live, lastGeneration, worn, dataSize, bit, times, withFree, withSlots}
-use Rattle.heap.specs.Calls.{Changed, Object, done, refuse, step, allocated, released, reissued, rewritten, charged, changed, withSlot, placed, grown, last, butLast, allocFrom, resolve, onSlot, editSlot, takeSlot, liveCount, edit as edited, write as written, reissue as reissuing, takeInto, free as freed, recycle as recycled, seal as sealed}
-use Rattle.heap.proofs.Sound.{Sound, SlotSound, liveBit}
-use Rattle.heap.proofs.Counting.{inside, outside, free-inside, times-member}
-use Rattle.heap.proofs.Keeping.{live-inside, take-sound, since-sound}
+use Rattle.heap.specs.State.{Slot, State, noSlot, slotAt, live, lastGeneration, dataSize, bit, times, withFree}
+use Rattle.heap.specs.Calls.{Changed, Object, done, refuse, step, allocated, released, reissued, rewritten, charged, changed, withSlot, placed, grown, last, butLast, allocFrom, resolve, onSlot, takeSlot, liveCount, edit as edited, write as written, reissue as reissuing, takeInto, free as freed, recycle as recycled, seal as sealed}
+use Rattle.heap.proofs.Sound.{Sound, liveBit}
+use Rattle.heap.proofs.Counting.{inside, free-inside, times-member}
+use Rattle.heap.proofs.Keeping.{live-inside, take-sound}
 use Rattle.heap.proofs.Recycled.{recycle-sound}
 use Rattle.heap_calls.specs.Pins.{rising}
 use Rattle.heap_calls.proofs.Allocating.{alloc-none, alloc-free, alloc-grow, alloc-full, alloc-sound, grown-at}

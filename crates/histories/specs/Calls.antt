@@ -5,13 +5,10 @@ use mathlib.Core.Option.{Option, none, some}
 use Prim.Native.Nat.{ℕ}
 use lib.ListN.{length}
 use Rattle.word.specs.Result.{Result, ok, refused}
-use Rattle.refusal.specs.Told.{numberOf, refusedBy, answered, here, nothing}
-use Rattle.refusal.specs.declared.Answer.{Answer as Numbers}
-use Rattle.ty.specs.Types.{Table}
+use Rattle.refusal.specs.Told.{numberOf, here, nothing}
 use Rattle.heap.specs.State.{State}
 use Rattle.heap.specs.Lent.{Lent, view, slotCount, poolSize}
 use Rattle.heap.specs.Calls.{edit as edited, write as written, reissue as reissued, free as freed}
-use Rattle.heap_calls.specs.Objects.{sizeOf, startOf}
 use Rattle.roots.specs.Calls.{function}
 use Rattle.collection.specs.Joined.{valuesOf, rootRegisters, pinsAt}
 use Rattle.door.specs.HeapCalls.{Test, admitted, whether, heapTests, Outcome, outcomeOf, heapCall, Asked as Reply, asking as replying}

@@ -284,10 +284,10 @@ puts-tail {o0} {o1} {o2} {at} {p} {q} b x y l1 l2 h =
 -- A TABLE THAT 01 TAKES HAS WHOLE ROWS
 
 module _ (w f c b : List ℕ) (good : tableGood w f c b ≡ true) where
-  whole : (eqb (length w % 4) 0 ≡ true) × (leb (length w / 4) 4096 ≡ true) × (eqb (length f % 2) 0 ≡ true) × (leb (length f / 2) 16384 ≡ true) × (eqb (length c % 3) 0 ≡ true)
+  lengths-good : (eqb (length w % 4) 0 ≡ true) × (leb (length w / 4) 4096 ≡ true) × (eqb (length f % 2) 0 ≡ true) × (leb (length f / 2) 16384 ≡ true) × (eqb (length c % 3) 0 ≡ true)
       × (leb (length c / 3) 4096 ≡ true)
   unfolding tableGood allOf
-  whole =
+  lengths-good =
       let p0 = and-both _ _ good in
       let p1 = and-both _ _ (p0 .1) in
       let p2 = and-both _ _ (p1 .1) in
@@ -297,16 +297,16 @@ module _ (w f c b : List ℕ) (good : tableGood w f c b ≡ true) where
       (p0 .0, p1 .0, p2 .0, p3 .0, p4 .0, p5 .0)
 
   pub types-whole : 4 * (length w / 4) ≡ length w
-  types-whole = omega (arith, eqb-true (length w % 4) 0 (whole .0))
+  types-whole = omega (arith, eqb-true (length w % 4) 0 (lengths-good .0))
 
   pub fields-whole : 2 * (length f / 2) ≡ length f
-  fields-whole = omega (arith, eqb-true (length f % 2) 0 (whole .2))
+  fields-whole = omega (arith, eqb-true (length f % 2) 0 (lengths-good .2))
 
   pub constants-whole : 3 * (length c / 3) ≡ length c
-  constants-whole = omega (arith, eqb-true (length c % 3) 0 (whole .4))
+  constants-whole = omega (arith, eqb-true (length c % 3) 0 (lengths-good .4))
 
   pub counts-small : (length w / 4 ≤ 4096) × (length f / 2 ≤ 16384) × (length c / 3 ≤ 4096)
-  counts-small = (leb-true (length w / 4) 4096 (whole .1), leb-true (length f / 2) 16384 (whole .3), leb-true (length c / 3) 4096 (whole .5))
+  counts-small = (leb-true (length w / 4) 4096 (lengths-good .1), leb-true (length f / 2) 16384 (lengths-good .3), leb-true (length c / 3) 4096 (lengths-good .5))
 
   pub lengths-small : (length w ≤ 32768) × (length f ≤ 32768) × (length c ≤ 32768)
   lengths-small = (
