@@ -53,7 +53,12 @@ pub fn page_stops(text: &[u8]) -> Option<Place> {
 
 // The names of the head (docs/FORMAT.md, section 14); what stands after `slots` are the lists, in their order.
 const HEADS: [&str; 2] = ["tag,since_gc,reclaim_at,live_bytes,slots,free,quarantine,sealed,retired", "tag,since_gc,reclaim_at,live_bytes,slots,free,quarantine,sealed"];
-const SLOTS: [&str; 2] = ["generation,kind,type,start,writes64,data", "generation,kind,type,start,writes,data"];
+const SLOTS: [&str; 4] = [
+    "generation,kind,type,start,writes64,data",
+    "generation,kind,type,start,writes,data",
+    "generation,kind,type,start,writes64,planes",
+    "generation,kind,type,start,writes,planes",
+];
 
 // The width of a number by its name: of the head, a slot's line, or a list's entry.
 fn bits(name: &str) -> u32 {
@@ -146,7 +151,7 @@ impl Scan<'_> {
 
     fn slot(&mut self, names: &'static str) -> Option<()> {
         for (name, end) in fields(names) {
-            if name == "data" {
+            if matches!(name, "data" | "planes") {
                 self.data()?;
             } else {
                 self.number(bits(name), end)?;
