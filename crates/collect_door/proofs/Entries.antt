@@ -199,7 +199,7 @@ module _ (a : Asked) (l : Lent) (m w r m′ w′ r′ : List ℕ) (e : Entry) (s
           record {
             formed = c .0;
             valued = eqb-true _ _ (c .1);
-            zeros-room = zeros-room r r′ (need (a .code)) (rows-zero s i) (t .1);
+            room = zeros-room r r′ (need (a .code)) (rows-zero s i) (t .1);
             clear = zeros-again r r′ (rows-zero s i);
           },
           holding s 5 i,

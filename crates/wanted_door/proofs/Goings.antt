@@ -6,11 +6,11 @@ use mathlib.Core.Option.{Option, none, some}
 use mathlib.Core.List.{List, [], _∷_}
 use lib.ListN.{length, getD, drop, drop-of-length-le}
 use native.Mathlib.Omega.{arith}
+use Rattle.word.proofs.ListLaws.{drop-cons-one}
 use Rattle.trace.specs.declared.Answer.{Answer}
 use Rattle.trace.specs.declared.Answer.the-variants.{Traced, Untraceable}
 use Rattle.reach.specs.Reach.{Graph}
 use Rattle.mark.specs.Scratch.{Scratch}
-use Rattle.mark.proofs.States.{drop-cons-one}
 use Rattle.wanted.specs.Search.{Going, andThen, meeting, upward, again, downward}
 use Rattle.wanted_door.specs.inner.Picking.{goingOf, Goes}
 

@@ -8,8 +8,8 @@ use native.Mathlib.Nat.{zero-add}
 use native.Mathlib.Omega.{arith}
 use Rattle.word.specs.Put.{put}
 use Rattle.word.proofs.PutLaws.{Filling, fill-start, fill-next, fill-stop, fill-length}
+use Rattle.word.proofs.ListLaws.{drop-cons-one}
 use Rattle.handle.specs.Handle.{packed}
-use Rattle.mark.proofs.States.{drop-cons-one}
 use Rattle.wanted.specs.Way.{those}
 use Rattle.wanted_door.specs.inner.Listing.{handlesIn}
 
