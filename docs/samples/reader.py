@@ -18,48 +18,46 @@ WIDTHS = {"tag": 8, "kind": 8, "since_gc": 64, "reclaim_at": 64, "live_bytes": 6
 TABLE = [("types", ["class", "a", "b", "c", "name"], 64), ("fields", ["type", "constant", "name"], 32), ("constants", ["plain", "start", "length", "name"], 64)]
 
 class Refused(Exception): """The number of section 11 for a file that is not taken."""
+class NoLayout(Exception): """Section 7: malformed, too large, or cut short."""
+
+def need(fine, why=Refused(17)):
+    if not fine:
+        raise why
 
 class Lines:
     """A text as lines, each ended by byte 10."""
 
     def __init__(self, text):
-        if not text.endswith(b"\n"):
-            raise Refused(17)
+        need(text.endswith(b"\n"))
         self.lines, self.at = text[:-1].split(b"\n"), 0
 
     def next(self):
-        if self.at == len(self.lines):
-            raise Refused(17)
+        need(self.at < len(self.lines))
         self.at += 1
         return self.lines[self.at - 1]
 
     def fields(self, count):
         parts = self.next().split(b",")
-        if len(parts) != count:
-            raise Refused(17)
+        need(len(parts) == count)
         return parts
 
     def names(self, known):
         """The names of a names line, if it is one that is known."""
         names = self.next().decode("latin-1").split(",")
-        if names not in known:
-            raise Refused(17)
+        need(names in known)
         return names
 
     def end(self):
-        if self.at != len(self.lines):
-            raise Refused(17)
+        need(self.at == len(self.lines))
 
 def number(field, most):
     """A decimal number without spare zeros, at most `most`."""
-    if not field or len(field) > 20 or any(b not in b"0123456789" for b in field) or (len(field) > 1 and field[0] == 48) or int(field) > most:
-        raise Refused(17)
+    need(0 < len(field) <= 20 and all(b in b"0123456789" for b in field) and (len(field) == 1 or field[0] != 48) and int(field) <= most)
     return int(field)
 
 def unhex(field):
     """Bytes in lowercase hexadecimal."""
-    if len(field) % 2 or any(b not in b"0123456789abcdef" for b in field):
-        raise Refused(17)
+    need(len(field) % 2 == 0 and all(b in b"0123456789abcdef" for b in field))
     return bytes.fromhex(field.decode())
 
 def planes(data):
@@ -96,8 +94,7 @@ def read_page(text):
     if "retired" not in head:     # section 14: worn-out slots of the free list are retired, in its order
         worn = lambda i: i < len(slots) and slots[i]["generation"] == LAST
         heap["free"], heap["retired"] = [i for i in heap["free"] if not worn(i)], [i for i in heap["free"] if worn(i)]
-    if not well_formed(heap):
-        raise Refused(1)
+    need(well_formed(heap), Refused(1))
     return heap
 
 parts_of = lambda handle: (handle >> 56, handle >> 32 & 0xFFFFFF, handle & 0xFFFFFFFF)
@@ -144,14 +141,12 @@ def read_table(text):
         table[part] = []
         for _ in range(count):
             parts = lines.fields(len(names))
-            if any(b < 32 for b in parts[-1]):
-                raise Refused(17)
+            need(all(b >= 32 for b in parts[-1]))
             table[part].append([number(f, 2 ** width - 1) for f in parts[:-1]] + [parts[-1].decode("utf-8", "replace")])
     lines.names([["bytes"]])
     table["bytes"] = unhex(lines.next())
     lines.end()
-    if not good_table(table):
-        raise Refused(10)
+    need(good_table(table), Refused(10))
     return table
 
 def good_table(table):
@@ -168,18 +163,14 @@ def good_table(table):
         counts = [min(1 + sum(counts[p] if p < len(types) else 1 for p in ps), 65537) for ps in parts]
     return all(n <= 65536 for n in counts)
 
-class NoLayout(Exception): """Section 7: malformed, too large, or cut short."""
-
 def word(n):
-    if n >= 2 ** 64:
-        raise NoLayout
+    need(n < 2 ** 64, NoLayout)
     return n
 
 up = lambda n, align: word((n + align - 1) // align * align)
 
 def type_at(table, t, depth):
-    if t >= len(table["types"]) or depth > 64:
-        raise NoLayout
+    need(t < len(table["types"]) and depth <= 64, NoLayout)
     return table["types"][t]
 
 def parts(table, t):
@@ -203,8 +194,7 @@ def under(table, constant, desc):
     """The descriptor of an element or a field: the bytes of its constant, or what is left."""
     if constant == NO_CONSTANT:
         return desc
-    if constant >= len(table["constants"]) or not table["constants"][constant][0]:
-        raise NoLayout
+    need(constant < len(table["constants"]) and table["constants"][constant][0], NoLayout)
     _, start, length, _ = table["constants"][constant]
     return table["bytes"][start:start + length]
 
@@ -219,8 +209,7 @@ def layout(table, t, desc, depth=0, element=False):
     if c == 4:
         count = 1
         for k in range(d):
-            if len(desc) < 24 * k + 24 or struct.unpack_from("<Q", desc, 24 * k + 16)[0] > 1:
-                raise NoLayout
+            need(len(desc) >= 24 * k + 24 and struct.unpack_from("<Q", desc, 24 * k + 16)[0] <= 1, NoLayout)
             left, right, down = struct.unpack_from("<qqq", desc, 24 * k)
             count = word(count * word(max(left - right + 1 if down else right - left + 1, 0)))
         size, align, _, leaves, used = layout(table, a, under(table, b, desc[24 * d:]), depth + 1, True)
@@ -245,8 +234,7 @@ def handles(table, t, data, desc, depth=0):
         return []
     c, a, b, d, _ = type_at(table, t, depth)
     if c in (6, 8):
-        if len(data) < 8:
-            raise NoLayout
+        need(len(data) >= 8, NoLayout)
         return [struct.unpack_from("<Q", data)[0]]
     _, _, stride, count, _ = layout(table, t, desc, depth)
     if c == 4:
@@ -258,8 +246,7 @@ def handles(table, t, data, desc, depth=0):
             used += layout(table, f, under(table, k, desc[used:]), depth + 1)[4] if k == NO_CONSTANT else 0
     found = []
     for f, k, rest, offset in places:
-        if offset > len(data):
-            raise NoLayout
+        need(offset <= len(data), NoLayout)
         found += handles(table, f, data[offset:], under(table, k, rest), depth + 1)
     return found
 
@@ -271,8 +258,7 @@ def slot_handles(table, slot):
     if slot["kind"] == 3:
         return [struct.unpack_from("<Q", seen, k)[0] for k in range(24, len(seen) - 7, 8)]
     size = desc_size(table, slot["type"])
-    if size > len(seen):
-        raise NoLayout
+    need(size <= len(seen), NoLayout)
     return handles(table, slot["type"], seen[size:], seen[:size])
 
 def fits(heap, table):
