@@ -178,7 +178,7 @@ impl Scratch {
 /// A heap of objects, in memory of its own. Every call checks the heap first, so none can be misled by memory that was changed behind it. That takes time in proportion to slots and pool:
 /// `run` does many calls with one check.
 ///
-/// Every call can be refused because scratch is short (18) or the memory holds no heap (1); both cannot happen to a heap that was made by `new` or `read_page` and is changed by calls alone. What else
+/// Every call can be refused because scratch is short (18) or the memory holds no heap (1); both cannot happen to a heap that was made by `new`, `read_page` or `open` and is changed by calls alone. What else
 /// refuses a call is said there. A refusal changes nothing, but for two counts (`alloc`, `write`) and what the lines of a script did before it (`run`).
 ///
 /// Two heaps are equal if headers and memory are; scratch is left out. A heap can be sent to another thread, but not be shared between threads, because questions use its scratch.
@@ -419,7 +419,8 @@ impl Heap {
         self.done(done).map(|_| ())
     }
 
-    /// Slots in quarantine join the free list, but those pinned: slot indices, strictly rising (14), of which some may be of no slot.
+    /// Slots in quarantine join the free list, but those pinned: slot indices, strictly rising (14), of which some may be of no slot. One that has its last generation, 4,294,967,295, joins the retired slots
+    /// instead, and never leaves them.
     ///
     /// ```
     /// use yexwalu::{Heap, Kind, Refusal};
@@ -838,7 +839,7 @@ impl Heap {
         self.page_with(Column::Data)
     }
 
-    /// As `write_page`, with objects as they are or in byte planes, which pack better.
+    /// As `write_page`, with objects as they are or in byte planes, which pack better where neighbouring words differ little.
     ///
     /// ```
     /// use yexwalu::{Column, Heap, Kind, Refusal};

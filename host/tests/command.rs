@@ -57,7 +57,8 @@ fn check_accepts() {
 // The pages of the samples, each with its name.
 fn pages() -> Vec<(String, String)> {
     let files = fs::read_dir(samples("")).unwrap().map(|f| f.unwrap().file_name().into_string().unwrap());
-    files.filter(|name| name.ends_with(".page")).map(|name| (fs::read_to_string(samples(&name)).unwrap(), name)).map(|(text, name)| (name, text)).collect()
+    let with_text = |name: String| (name.clone(), fs::read_to_string(samples(&name)).unwrap());
+    files.filter(|name| name.ends_with(".page")).map(with_text).collect()
 }
 
 fn good_pages() -> impl Iterator<Item = (String, String)> {
@@ -195,6 +196,15 @@ fn show_says_why_a_handle_leads_nowhere() {
         "|................................| and 8 more\n",
     ] {
         assert!(ran.out.contains(line), "{line:?} in {}", ran.out);
+    }
+}
+
+// Slot 2 is worn out; the first form has it in the free list.
+#[test]
+fn show_has_the_retired_slots() {
+    for name in ["first-form.page", "third-form.page"] {
+        let ran = run(&["show", &samples(name)]);
+        assert!(ran.status == 0 && ran.out.contains("\nfree slots: 1\nslots in quarantine: none\nretired slots: 2\nsealed handles: 0\n"), "{}", ran.out);
     }
 }
 

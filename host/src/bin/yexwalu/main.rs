@@ -53,12 +53,15 @@ const USAGE: u8 = 2;
 
 type Out<'a> = BufWriter<io::StdoutLock<'a>>;
 
+// The heap of a page and the page's form, as the proved reader has them.
+type Opened = Result<(Heap, Form), Refusal>;
+
 fn refusal(why: Refusal) -> String {
     format!("{} {}", why.number(), why.word())
 }
 
 // Reads a file and opens the heap that it shows. What can't be read is said here, and is none.
-fn opened(name: &OsStr) -> Option<(Text, Result<(Heap, Form), Refusal>)> {
+fn opened(name: &OsStr) -> Option<(Text, Opened)> {
     match Text::read(name) {
         Ok(text) => {
             let heap = text.working("checking", Heap::open_with_form);
