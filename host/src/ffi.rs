@@ -32,7 +32,7 @@ pub struct Header {
     pub sealed: usize,
 }
 
-/// Document 01's number, 0 for success, and the values, zeros after a refusal.
+/// Document 01's number, 0 for success, and the values, zeros after a refusal but 13 of `traceable`, which has the slot.
 #[repr(C)]
 #[derive(Clone, Copy, Debug, PartialEq, Eq)]
 pub struct Answer {

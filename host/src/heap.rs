@@ -1,6 +1,7 @@
 use crate::ffi::{self, Done, Header};
 use crate::{FrameSlot, Function, Handle, Refusal, Slot, TypeId, TypeTable};
 use std::cell::RefCell;
+use std::fmt;
 use std::ops::Range;
 
 /// What an object is: its kind, and the type of a typed one. It says where a collection looks for handles in the object's visible data.
@@ -54,8 +55,9 @@ pub struct Stamp {
     pub writes: u64,
 }
 
-/// How the objects of a page are written.
+/// How the objects of a page are written. Displayed, it is the column's name on a page.
 #[derive(Clone, Copy, Debug, PartialEq, Eq, Hash)]
+#[non_exhaustive]
 pub enum Column {
     /// As they are, under the name `data`.
     Data,
@@ -63,7 +65,16 @@ pub enum Column {
     Planes,
 }
 
-/// The form of a page that was read. It may get more fields.
+impl fmt::Display for Column {
+    fn fmt(&self, f: &mut fmt::Formatter<'_>) -> fmt::Result {
+        f.write_str(match self {
+            Column::Data => "data",
+            Column::Planes => "planes",
+        })
+    }
+}
+
+/// The form of a page that was read. Displayed, it is the names by which a page's form is known (docs/FORMAT.md, section 14), as in `writes64, data, retired`. It may get more fields.
 #[derive(Clone, Copy, Debug, PartialEq, Eq, Hash)]
 #[non_exhaustive]
 pub struct Form {
@@ -73,6 +84,13 @@ pub struct Form {
     pub retired: bool,
     /// How its objects are written.
     pub column: Column,
+}
+
+impl fmt::Display for Form {
+    fn fmt(&self, f: &mut fmt::Formatter<'_>) -> fmt::Result {
+        let writes = if self.bits == 64 { "writes64" } else { "writes" };
+        write!(f, "{writes}, {}{}", self.column, if self.retired { ", retired" } else { "" })
+    }
 }
 
 /// The memory that a heap lies in: numbers of 32 bits, numbers of 64 bits, and the data. A heap's is made with it; the fields are public so that a host can save, damage or lend them as it likes: every
@@ -160,7 +178,7 @@ impl Scratch {
 /// A heap of objects, in memory of its own. Every call checks the heap first, so none can be misled by memory that was changed behind it. That takes time in proportion to slots and pool:
 /// `run` does many calls with one check.
 ///
-/// Every call can be refused because scratch is short (18) or the memory holds no heap (1); both cannot happen to a heap that was made by `new` or `read_page` and is changed by calls alone. What else
+/// Every call can be refused because scratch is short (18) or the memory holds no heap (1); both cannot happen to a heap that was made by `new`, `read_page` or `open` and is changed by calls alone. What else
 /// refuses a call is said there. A refusal changes nothing, but for two counts (`alloc`, `write`) and what the lines of a script did before it (`run`).
 ///
 /// Two heaps are equal if headers and memory are; scratch is left out. A heap can be sent to another thread, but not be shared between threads, because questions use its scratch.
@@ -254,7 +272,7 @@ impl Heap {
     pub const MAX_POOL: usize = 1_073_741_824;
 
     // New memory for a heap. Sizes out of range are refused (1), and so is no memory at all: what can't be a heap is not asked for, since it may not be there.
-    fn memory_for(slots: usize, pool: usize) -> (Memory, Scratch) {
+    pub(crate) fn memory_for(slots: usize, pool: usize) -> (Memory, Scratch) {
         let good = slots <= Heap::MAX_SLOTS && pool <= Heap::MAX_POOL;
         let (slots, pool) = if good { (slots, pool) } else { (0, 0) };
         (Memory::zeros(slots, pool), Scratch::zeros(slots))
@@ -401,7 +419,8 @@ impl Heap {
         self.done(done).map(|_| ())
     }
 
-    /// Slots in quarantine join the free list, but those pinned: slot indices, strictly rising (14), of which some may be of no slot.
+    /// Slots in quarantine join the free list, but those pinned: slot indices, strictly rising (14), of which some may be of no slot. One that has its last generation, 4,294,967,295, joins the retired slots
+    /// instead, and never leaves them.
     ///
     /// ```
     /// use yexwalu::{Heap, Kind, Refusal};
@@ -820,7 +839,7 @@ impl Heap {
         self.page_with(Column::Data)
     }
 
-    /// As `write_page`, with objects as they are or in byte planes, which pack better.
+    /// As `write_page`, with objects as they are or in byte planes, which pack better where neighbouring words differ little.
     ///
     /// ```
     /// use yexwalu::{Column, Heap, Kind, Refusal};

@@ -5,8 +5,9 @@
 //! A [`Heap`] has objects, which are found by a [`Handle`]. A [`TypeTable`] says where in an object other handles stand, and a [`Function`] which registers are still needed where a run was stopped: a
 //! collection goes by both. A call that is not done says why by a [`Refusal`]: the number that document 01, "The access heap of a saved run", gives it. Numbers in parentheses are these.
 //!
-//! [`Heap::write_page`] saves a heap as a page of text, [`Heap::open`] opens one. Every call on a heap checks all of it: [`Heap::view`] reads many objects with one check, [`Heap::run`] makes many calls with one.
-//! The folder `examples` makes, saves, opens and collects a heap; the command `yexwalu` answers questions about pages.
+//! [`Heap::write_page`] saves a heap as a page of text, [`Heap::open`] opens one; [`Heap::page_with`] writes the objects in byte planes, which often pack better. [`TypeTable::write_text`] saves the table beside it, and [`Heap::misfit`]
+//! tells whether the two fit together. Every call on a heap checks all of it: [`Heap::view`] reads many objects with one check, [`Heap::run`] makes many calls with one. [`Heap::collect`] drops what no root leads to, and
+//! [`Heap::roots_for`] tells which roots keep just the objects that are wanted. The folder `examples` makes, saves, opens and collects a heap; the command `yexwalu` answers questions about pages, and writes them in the form of today.
 //!
 //! ```
 //! use yexwalu::{Heap, Kind, Refusal};

@@ -50,7 +50,26 @@ fn file(name: &str, text: &[u8]) -> String {
 fn check_accepts() {
     let (bytes, first) = (samples("bytes.page"), samples("first-form.page"));
     let ran = run(&["check", &bytes, &first]);
-    assert_eq!((ran.status, ran.out, ran.err), (0, format!("{bytes}: accepted\n{first}: accepted\n"), String::new()));
+    let expected = format!("{bytes}: accepted: writes64, data, retired\n{first}: accepted: writes, data\n");
+    assert_eq!((ran.status, ran.out, ran.err), (0, expected, String::new()));
+}
+
+// The pages of the samples, each with its name.
+fn pages() -> Vec<(String, String)> {
+    let files = fs::read_dir(samples("")).unwrap().map(|f| f.unwrap().file_name().into_string().unwrap());
+    let with_text = |name: String| (name.clone(), fs::read_to_string(samples(&name)).unwrap());
+    files.filter(|name| name.ends_with(".page")).map(with_text).collect()
+}
+
+fn good_pages() -> impl Iterator<Item = (String, String)> {
+    pages().into_iter().filter(|(name, _)| !matches!(name.split('-').next(), Some("1" | "17")))
+}
+
+// The form of a page by its lines of names.
+fn form(page: &str) -> String {
+    let (head, slot) = (page.lines().next().unwrap(), page.lines().nth(2).unwrap());
+    let names = slot.strip_prefix("generation,kind,type,start,").unwrap().replace(',', ", ");
+    names + if head.ends_with(",retired") { ", retired" } else { "" }
 }
 
 #[test]
@@ -81,34 +100,46 @@ fn check_goes_on_after_a_refusal_and_a_missing_file() {
     let ran = run(&["check", &bad, &missing, &good]);
     assert_eq!(ran.status, 2);
     assert_eq!(ran.out.lines().count(), 2);
-    assert!(ran.out.starts_with(&format!("{bad}: 17 page: ")) && ran.out.ends_with(&format!("{good}: accepted\n")));
+    assert!(ran.out.starts_with(&format!("{bad}: 17 page: ")) && ran.out.ends_with(&format!("{good}: accepted: writes64, data, retired\n")));
     assert!(ran.err.starts_with(&format!("yexwalu: {missing}: ")) && ran.err.lines().count() == 1);
     assert_eq!(run(&["check", &good, &bad]).status, 1);
 }
 
 #[test]
 fn check_answers_for_every_sample_as_its_name_says() {
-    let mut seen = 0;
-    for entry in fs::read_dir(samples("")).unwrap() {
-        let path = entry.unwrap().path();
-        let name = path.file_name().unwrap().to_string_lossy().into_owned();
-        if !name.ends_with(".page") {
-            continue;
-        }
-        let ran = run(&["check", path.to_str().unwrap()]);
+    let pages = pages();
+    assert!(pages.len() > 20);
+    for (name, page) in pages {
+        let ran = run(&["check", &samples(&name)]);
         let number = name.split('-').next().unwrap();
-        let (status, word) = if matches!(number, "1" | "17") { (1, format!(": {number} ")) } else { (0, ": accepted\n".into()) };
+        let (status, word) = if matches!(number, "1" | "17") { (1, format!(": {number} ")) } else { (0, format!(": accepted: {}\n", form(&page))) };
         assert!(ran.status == status && ran.out.contains(&word), "{name}: {}", ran.out);
-        seen += 1;
     }
-    assert!(seen > 20);
+}
+
+// Of the samples' heaps, in each of the eight forms.
+#[test]
+fn check_tells_the_forms_apart() {
+    let mut seen = Vec::new();
+    for name in ["third-form.page", "second-form.page", "planes.page", "planes-first-form.page"] {
+        let page = fs::read_to_string(samples(name)).unwrap();
+        for (old, new) in [("writes64,", "writes,"), ("writes,", "writes64,")] {
+            let other = page.replace(old, new);
+            let ran = run_with(&["check", "-"], other.as_bytes());
+            assert_eq!((ran.status, ran.out), (0, format!("standard input: accepted: {}\n", form(&other))), "{name}");
+            seen.push(form(&other));
+        }
+    }
+    seen.sort();
+    seen.dedup();
+    assert_eq!(seen.len(), 8, "{seen:?}");
 }
 
 #[test]
 fn check_reads_standard_input() {
     let page = fs::read(samples("bytes.page")).unwrap();
     let ran = run_with(&["check", "-"], &page);
-    assert_eq!((ran.status, ran.out.as_str()), (0, "standard input: accepted\n"));
+    assert_eq!((ran.status, ran.out.as_str()), (0, "standard input: accepted: writes64, data, retired\n"));
     let ran = run_with(&["check", "-"], &page[1..]);
     assert_eq!((ran.status, ran.out.as_str()), (1, "standard input: 17 page: no page from line 1, column 1 on\n"));
 }
@@ -168,6 +199,15 @@ fn show_says_why_a_handle_leads_nowhere() {
     }
 }
 
+// Slot 2 is worn out; the first form has it in the free list.
+#[test]
+fn show_has_the_retired_slots() {
+    for name in ["first-form.page", "third-form.page"] {
+        let ran = run(&["show", &samples(name)]);
+        assert!(ran.status == 0 && ran.out.contains("\nfree slots: 1\nslots in quarantine: none\nretired slots: 2\nsealed handles: 0\n"), "{}", ran.out);
+    }
+}
+
 #[test]
 fn show_draws() {
     let ran = run(&["show", "--dot", &samples("handles.page")]);
@@ -219,8 +259,8 @@ fn show_refuses_what_is_no_type_table() {
 }
 
 #[test]
-fn show_and_length_refuse_on_standard_error() {
-    for words in [&["show"][..], &["show", "--dot"], &["length"]] {
+fn commands_on_one_heap_refuse_on_standard_error() {
+    for words in [&["show"][..], &["show", "--dot"], &["length"], &["length", "--planes"], &["convert", "--data"], &["convert", "--planes"]] {
         for (name, why) in [("none.page", None), ("17-names.page", Some("17 page: no page from line 3, column ")), ("1-reclaim.page", Some("1 broken heap"))] {
             let path = samples(name);
             let ran = run(&[words, &[&path]].concat());
@@ -240,9 +280,82 @@ fn length_is_that_of_the_page_written_today() {
     }
     let page = sample(8, 64).0.write_page().unwrap();
     assert_eq!(run_with(&["length", "-"], &page).out, format!("{}\n", page.len()));
+    for (name, _) in good_pages() {
+        let (data, planes) = (run(&["length", "--data", &samples(&name)]).out, run(&["length", "--planes", &samples(&name)]).out);
+        assert_eq!(data, run(&["length", &samples(&name)]).out);
+        for (length, column) in [(data, "--data"), (planes, "--planes")] {
+            assert_eq!(length, format!("{}\n", run(&["convert", column, &samples(&name)]).out.len()), "{name}");
+        }
+    }
     // the form of today has longer names than the first
     let first = fs::metadata(samples("first-form.page")).unwrap().len();
     assert!(run(&["length", &samples("first-form.page")]).out.trim().parse::<u64>().unwrap() > first);
+}
+
+// One heap in several forms: written again they are alike.
+#[test]
+fn convert_writes_the_form_of_today() {
+    for (column, today, others) in [("--data", "third-form.page", &["first-form.page", "second-form.page", "mixed-form.page", "third-form.page"][..]), ("--planes", "planes.page", &["planes-first-form.page", "planes.page"])] {
+        let expected = fs::read_to_string(samples(today)).unwrap();
+        for name in others {
+            let ran = run(&["convert", column, &samples(name)]);
+            assert_eq!((ran.status, ran.out.as_str(), ran.err.as_str()), (0, expected.as_str(), ""), "{name}");
+        }
+    }
+    // 1000, 1001, 1003 and a byte more: docs/FORMAT.md, section 13
+    let (planes, objects) = ("planes\n1,2,0,0,0,e8010203000000000000000000000000000000000000000007\n", "data\n1,2,0,0,0,e803000000000000e903000000000000eb0300000000000007\n");
+    let page = fs::read_to_string(samples("planes.page")).unwrap();
+    assert_eq!(page.matches(planes).count(), 1);
+    assert_eq!(run(&["convert", "--data", &samples("planes.page")]).out, page.replace(planes, objects));
+}
+
+#[test]
+fn convert_keeps_every_heap() {
+    let mut seen = 0;
+    for (name, page) in good_pages() {
+        let path = samples(&name);
+        let [data, planes] = ["--data", "--planes"].map(|column| {
+            let ran = run(&["convert", column, &path]);
+            assert_eq!((ran.status, ran.err.as_str()), (0, ""), "{name}");
+            assert_eq!(form(&ran.out), format!("writes64, {}, retired", &column[2..]), "{name}");
+            // the proved reader takes it, and it shows what the sample shows
+            assert_eq!(run_with(&["show", "-"], ran.out.as_bytes()).out, run(&["show", &path]).out, "{name}");
+            ran.out
+        });
+        // there and back
+        assert_eq!(run_with(&["convert", "--data", "-"], planes.as_bytes()).out, data, "{name}");
+        assert_eq!(run_with(&["convert", "--planes", "-"], data.as_bytes()).out, planes, "{name}");
+        if form(&page).starts_with("writes64, ") && form(&page).ends_with(", retired") {
+            assert!(page == data || page == planes, "{name}");
+            seen += 1;
+        }
+    }
+    assert!(seen > 5);
+}
+
+#[test]
+fn convert_makes_a_new_file_or_none() {
+    let (page, new) = (samples("handles.page"), file("new.page", b""));
+    let convert = |to: &str, page: &str| run(&["convert", "--planes", "-o", to, page]);
+    let said = |ran: Ran| (ran.status, ran.out, ran.err);
+    // a file that is there stays
+    fs::write(&new, b"other").unwrap();
+    assert_eq!(said(convert(&new, &page)), (2, String::new(), format!("yexwalu: {new}: is there already, and stays as it is\n")));
+    assert_eq!(fs::read(&new).unwrap(), b"other");
+    fs::remove_file(&new).unwrap();
+    // a page that is refused makes none
+    let bad = samples("17-uppercase.page");
+    assert_eq!(said(convert(&new, &bad)), (1, String::new(), format!("yexwalu: {bad}: 17 page: no page from line 4, column 12 on\n")));
+    assert!(!PathBuf::from(&new).exists());
+    assert_eq!(said(convert(&new, &page)), (0, String::new(), String::new()));
+    assert_eq!(fs::read_to_string(&new).unwrap(), run(&["convert", "--planes", &page]).out);
+    // nor is a page written over itself
+    assert_eq!(convert(&new, &new).status, 2);
+    assert_eq!(convert("-", &page).out, fs::read_to_string(&new).unwrap());
+    fs::remove_file(&new).unwrap();
+    let nowhere = format!("{new}/none.page");
+    let ran = convert(&nowhere, &page);
+    assert!(ran.status == 2 && ran.out.is_empty() && ran.err.starts_with(&format!("yexwalu: {nowhere}: ")), "{}", ran.err);
 }
 
 #[test]
@@ -297,7 +410,7 @@ fn a_large_page() {
     let (path, length) = large("large.page");
     let ran = run(&["check", &path]);
     // nothing of the progress: standard error is no terminal here
-    assert_eq!((ran.status, ran.out, ran.err), (0, format!("{path}: accepted\n"), String::new()));
+    assert_eq!((ran.status, ran.out, ran.err), (0, format!("{path}: accepted: writes64, data, retired\n"), String::new()));
     assert_eq!(run(&["length", &path]).out, format!("{length}\n"));
     fs::remove_file(path).unwrap();
 }
@@ -315,7 +428,7 @@ fn progress_on_a_terminal() {
         println!("no program `script`: not tried");
         return;
     };
-    assert_eq!(out, format!("{small}: accepted\r\n"));
+    assert_eq!(out, format!("{small}: accepted: writes64, data, retired\r\n"));
     let (path, length) = large("progress.page");
     let (status, out) = on_terminal(&path).unwrap();
     let mb = length >> 20;
@@ -323,7 +436,7 @@ fn progress_on_a_terminal() {
     for part in [format!("{path}: 4 of {mb} MB read"), format!("{path}: checking {mb} MB")] {
         assert!(out.contains(&part), "{part} in {out:?}");
     }
-    assert!(out.ends_with(&format!("\r\x1b[K{path}: accepted\r\n")), "{out:?}");
+    assert!(out.ends_with(&format!("\r\x1b[K{path}: accepted: writes64, data, retired\r\n")), "{out:?}");
     fs::remove_file(path).unwrap();
 }
 
@@ -332,7 +445,7 @@ fn help_and_version() {
     for words in [&["--help"][..], &["-h"], &["help"], &["check", "--help"], &["show", "--dot", "-h"]] {
         let ran = run(words);
         assert_eq!((ran.status, ran.err.as_str()), (0, ""), "{words:?}");
-        for command in ["check FILE..", "show FILE", "show --dot FILE", "length FILE", "shelf FILE.."] {
+        for command in ["check FILE..", "show FILE", "show --dot FILE", "length FILE", "convert --data FILE", "convert --planes FILE", "convert --planes -o NEW FILE", "shelf FILE.."] {
             assert!(ran.out.contains(&format!("    yexwalu {command} ")), "{command}");
         }
         assert!(ran.out.contains("a hint"));
@@ -356,14 +469,29 @@ fn a_name_that_is_no_text() {
     }
     let done = Command::new(env!("CARGO_BIN_EXE_yexwalu")).arg("check").arg(&path).output().unwrap();
     assert_eq!(done.status.code(), Some(0));
-    assert!(String::from_utf8(done.stdout).unwrap().ends_with("gro\u{fffd}.page: accepted\n"));
+    assert!(String::from_utf8(done.stdout).unwrap().ends_with("gro\u{fffd}.page: accepted: writes64, data, retired\n"));
     fs::remove_file(path).unwrap();
 }
 
 #[test]
 fn bad_usage_is_2() {
     let page = samples("bytes.page");
-    for words in [&[][..], &["look", &page], &["check"], &["shelf"], &["show"], &["length"], &["show", &page, &page], &["length", &page, &page], &["check", "--dot", &page], &["show", "--svg", &page], &["show", "--types"], &["show", &page, "--types"], &["show", "--types", &page], &["length", "--types", &page, &page], &[""]] {
+    let commands = [&[][..], &["look", &page], &["check"], &["shelf"], &["show"], &["length"], &["show", &page, &page], &["length", &page, &page], &[""]];
+    let options = [&["check", "--dot", &page][..], &["show", "--svg", &page], &["show", "--types"], &["show", &page, "--types"], &["show", "--types", &page], &["length", "--types", &page, &page]];
+    let columns = [
+        &["convert", &page][..],
+        &["convert", "--data"],
+        &["convert", "--planes", &page, &page],
+        &["convert", "--planes", "--data", &page],
+        &["convert", "--planes", &page, "-o"],
+        &["convert", "-o", &page, &page],
+        &["length", "--data", "--planes", &page],
+        &["length", "-o", "none", &page],
+        &["check", "--planes", &page],
+        &["show", "--data", &page],
+        &["shelf", "--planes", &page],
+    ];
+    for words in commands.iter().chain(&options).chain(&columns) {
         let ran = run(words);
         assert_eq!((ran.status, ran.out.as_str()), (2, ""), "{words:?}");
         assert!(ran.err.starts_with("yexwalu: ") && ran.err.ends_with("yexwalu --help says more.\n"), "{words:?}");

@@ -1,7 +1,7 @@
 //! No method panics, whatever it is given: parts that are no heap, tables and functions out of order, numbers of every size.
 mod common;
 use common::{sample, Random};
-use yexwalu::{descriptor, page_stops, Class, Direction, FrameSlot, Function, Handle, Header, Heap, InstKind, Kind, Memory, Refusal, Scratch, TypeTable, Wanted};
+use yexwalu::{descriptor, page_stops, Class, Column, Direction, FrameSlot, Function, Handle, Header, Heap, InstKind, Kind, Memory, Refusal, Scratch, TypeTable, Wanted};
 
 // A number that is small, near the end of a width, or any.
 fn number(random: &mut Random) -> u64 {
@@ -112,7 +112,7 @@ fn calls(random: &mut Random, heap: &mut Heap, told: &mut Answers) {
     let (handle, slot, ty) = (Handle(number(random)), number(random) as u32, number(random) as u32);
     let (bytes, pins, roots) = (random.bytes(40), words::<u32>(random, 3), words::<u64>(random, 3).into_iter().map(Handle).collect::<Vec<_>>());
     let (table, function, map) = (any_table(random), any_function(random), any_map(random));
-    match random.below(26) {
+    match random.below(29) {
         0 => drop(told.take(heap.alloc(Kind::Typed(ty), &bytes))),
         1 => drop(told.take(heap.alloc_raw(slot as u8, ty, number(random) as usize, &bytes))),
         2 => drop(told.take(heap.take(handle))),
@@ -141,16 +141,25 @@ fn calls(random: &mut Random, heap: &mut Heap, told: &mut Answers) {
         }
         18 => drop(told.take(heap.view()).map(|v| (v.object(slot), v.resolve(handle).is_ok(), v.free().count() + v.quarantine().count() + v.retired().count(), v.sealed().count()))),
         19 => {
-            let page = told.take(heap.write_page()).unwrap_or_default();
+            let column = if random.below(2) == 0 { Column::Data } else { Column::Planes };
+            let page = told.take(heap.page_with(column)).unwrap_or_default();
             let cut = random.below(page.len() as u64 + 1) as usize;
             assert_eq!(page_stops(&page[..cut]).is_none(), cut == page.len() && !page.is_empty());
-            told.take(Heap::open(&page[..cut]));
+            told.take(Heap::open_with_form(&page[..cut]));
         }
         20 => drop(told.take(heap.read_page_over(&bytes))),
         21 => drop(told.take(table.layout(ty, &bytes)).zip(told.take(table.desc_size(ty))).zip(told.take(table.has_handles(ty)))),
         22 => drop(told.take(table.object_handles(ty, &bytes)).zip(told.take(table.value_handles(ty, &bytes)))),
         23 => drop(told.take(table.slot_roots(&map, &bytes))),
         24 => drop(told.take(function.live_at(slot, Wanted::All)).zip(told.take(function.live_refs(Wanted::References)))),
+        25 => drop(told.take(heap.roots_for(&table, &pins, &words::<u32>(random, 3)))),
+        26 => drop(told.take(heap.misfit(&table))),
+        27 => {
+            let names = if random.below(2) == 0 { table.no_names() } else { bytes.clone() };
+            let text = told.take(table.write_text(&names)).unwrap_or(bytes);
+            let cut = random.below(text.len() as u64 + 1) as usize;
+            told.take(TypeTable::read_text(&text[..cut]));
+        }
         _ => drop(told.take(Heap::read_page(number(random) as usize % 1000, number(random) as usize % 1000, &bytes)).or(told.take(Heap::new(1, number(random) as usize | 1 << 40, 4)))),
     }
 }

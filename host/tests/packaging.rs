@@ -1,4 +1,4 @@
-//! What goes along with the crate: one version everywhere, and a README that shows what the command says.
+//! What goes along with the crate: one version everywhere, a README that shows what the command says, and a list of what is measured that is true.
 use std::fs;
 
 fn text(path: &str) -> String {
@@ -21,4 +21,14 @@ fn the_readme_shows_what_the_command_says() {
         let shown: String = String::from_utf8(ran.stdout).unwrap().lines().map(|l| format!("    {l}\n")).collect();
         assert_eq!(shown.trim_end(), format!("{answer}\n").trim_end(), "{command}");
     }
+}
+
+// The words that `bench` takes, as they stand in its source and in the document.
+#[test]
+fn the_document_on_performance_lists_the_rows_that_there_are() {
+    let (source, document) = (text("../bench/src/main.rs"), text("../docs/PERFORMANCE.md"));
+    let rows = source.split_once("const ROWS: ").unwrap().1.split_once("= [").unwrap().1.split("];").next().unwrap();
+    let rows: Vec<&str> = rows.split(", ").map(|row| row.trim_matches('"')).collect();
+    let listed = document.split_once("   some rows: ").unwrap().1.lines().next().unwrap();
+    assert_eq!(listed, rows.join(" "));
 }

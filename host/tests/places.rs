@@ -3,7 +3,7 @@ mod common;
 use common::{sample, Random};
 use std::fs;
 use std::path::Path;
-use yexwalu::{page_stops, Heap, Refusal};
+use yexwalu::{page_stops, Column, Heap, Refusal};
 
 fn samples() -> Vec<(String, Vec<u8>)> {
     let folder = Path::new(env!("CARGO_MANIFEST_DIR")).join("../docs/samples");
@@ -13,7 +13,9 @@ fn samples() -> Vec<(String, Vec<u8>)> {
         .filter(|p| p.extension().is_some_and(|e| e == "page"))
         .map(|p| (p.file_name().unwrap().to_string_lossy().into_owned(), fs::read(p).unwrap()))
         .collect();
-    all.push(("the tests' heap".into(), sample(8, 64).0.write_page().unwrap()));
+    for column in [Column::Data, Column::Planes] {
+        all.push((format!("the tests' heap with {column}"), sample(8, 64).0.page_with(column).unwrap()));
+    }
     all.sort();
     all
 }
@@ -139,7 +141,13 @@ impl Judge {
 #[test]
 fn every_sample() {
     let mut judge = Judge::new();
-    assert!(judge.good.len() > 5);
+    // every form, and a retired slot
+    for i in [0, 1] {
+        judge.forms[i].sort();
+        judge.forms[i].dedup();
+    }
+    assert_eq!((judge.forms[0].len(), judge.forms[1].len()), (2, 4));
+    assert!(judge.good.iter().any(|page| page.ends_with(b"\nretired\n2\n")));
     for (name, text) in samples() {
         judge.judge(&text, &name);
         assert_eq!(name.starts_with("17-"), page_stops(&text).is_some(), "{name}");
@@ -182,15 +190,23 @@ fn every_sample_with_a_byte_changed_removed_or_put_in() {
 
 #[test]
 fn numbers_past_their_width_and_counts() {
-    let page = String::from_utf8(sample(8, 64).0.write_page().unwrap()).unwrap();
     let mut judge = Judge::new();
+    for (name, text) in samples() {
+        if name.starts_with("the tests' heap") || matches!(name.as_str(), "third-form.page" | "first-form.page") {
+            every_number(&mut judge, &name, std::str::from_utf8(&text).unwrap());
+        }
+    }
+}
+
+// Puts numbers at and past the widths, and such with zeros in front, in place of every number of a page.
+fn every_number(judge: &mut Judge, name: &str, page: &str) {
     let most: Vec<String> = [8, 32, 64].iter().map(|bits| ((1u128 << bits) - 1).to_string()).collect();
     let past: Vec<String> = [8, 32, 64].iter().map(|bits| (1u128 << bits).to_string()).collect();
     let numbers = most.iter().chain(&past).map(String::as_str).chain(["00", "01", "340282366920938463463374607431768211456"]);
     for number in numbers {
         for (i, _) in page.match_indices([',', '\n']).filter(|(i, _)| page[..*i].ends_with(|c: char| c.is_ascii_digit())) {
             let start = page[..i].rfind([',', '\n']).unwrap() + 1;
-            judge.judge(format!("{}{number}{}", &page[..start], &page[i..]).as_bytes(), &format!("{number} at {start}"));
+            judge.judge(format!("{}{number}{}", &page[..start], &page[i..]).as_bytes(), &format!("{name} with {number} at {start}"));
         }
     }
 }

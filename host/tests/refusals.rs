@@ -156,7 +156,7 @@ fn a_list_one_short_or_long_is_1() {
     }
 }
 
-// Kinds are 0 to 3, write counts have 32 bits; what is not in use is zero.
+// Kinds are 0 to 3, generations 1 or more; what is not in use is zero.
 #[test]
 fn a_number_out_of_its_range_is_1() {
     let (header, memory, _) = sample(8, 64).0.into_parts();

@@ -74,7 +74,8 @@ fn compare(heap: &Heap, handles: &[Handle], table: &TypeTable) -> usize {
     for handle in handles.iter().copied().chain([never, other]) {
         assert_eq!(view.resolve(handle).map(|o| o.slot()), heap.resolve(handle), "{handle}");
     }
-    assert_eq!((view.free().len(), view.quarantine().len(), view.sealed().len()), (heap.header().free, heap.header().quarantine, heap.header().sealed));
+    let (lists, h) = ([view.free().len(), view.quarantine().len(), view.retired().len(), view.sealed().len()], heap.header());
+    assert_eq!(lists, [h.free, h.quarantine, h.retired, h.sealed]);
     assert!(view.free().chain(view.quarantine()).chain(view.retired()).all(|slot| view.object(slot).is_none()));
     assert_eq!(view.free().len() + view.quarantine().len() + view.retired().len() + live, slots as usize);
     live
