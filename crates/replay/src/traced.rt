@@ -507,7 +507,7 @@ fn called(
         ),
         TRACEABLE => fitting(types, fields, consts, bytes, heap, narrow, wide, pool),
         _ => {
-            let mut rows = [7u64; 262144];
+            let mut rows = [7u64; 131072];
             at_safepoint(
                 types,
                 fields,
