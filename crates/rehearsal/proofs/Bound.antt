@@ -103,7 +103,7 @@ module _ {W : Type 0} (I : W → Type 0) (most : ℕ) (G : World W) (keeps : Kee
 
 -- ---- the heap's
 
-live-most : (ss : List Slot) → liveSize ss ≤ length (flat (dataOf ss)) + 32 * length ss
+pub live-most : (ss : List Slot) → liveSize ss ≤ length (flat (dataOf ss)) + 32 * length ss
 unfolding liveSize flat
 live-most [] = omega arith
 live-most (s ∷ ss) = go (live s) (live-most ss) (length-append (s .bytes) (flat (dataOf ss)))
@@ -139,7 +139,7 @@ alloc-answers S P k t bs h =
     (omega arith)
 
 module _ (T : Table) (S P : ℕ) where
-  heap-keeps : Keeps (Good S P) 2147483648 (heaped T S P)
+  pub heap-keeps : Keeps (Good S P) 2147483648 (heaped T S P)
   unfolding heaped
   heap-keeps =
       record {
@@ -151,7 +151,7 @@ module _ (T : Table) (S P : ℕ) where
       }
 
   module _ (some-slots : 1 ≤ S) (few : S ≤ 16777216) (small : P ≤ 1073741824) (n : ℕ) (ls : List Line) (word : n < 2 ^ 64) (many : length ls < 2 ^ 64) where
-    last-run : Fits (Good S P) 2147483648 (0 + length ls) (after (heaped T S P) n ls (starting (heaped T S P) n fresh))
+    pub last-run : Fits (Good S P) 2147483648 (0 + length ls) (after (heaped T S P) n ls (starting (heaped T S P) n fresh))
     last-run =
         let g : Good S P fresh = stands-new S P some-slots few small .good in
         fits-after (Good S P) 2147483648 (heaped T S P) heap-keeps n 0 ls (starting (heaped T S P) n fresh)

@@ -172,13 +172,13 @@ pub next-on : (s : List ℕ) (at : ℕ) {c : Step} {next : ℕ} → at ≤ lengt
 next-on s at {c} {next} h r = omega (arith, line-shorter (drop at s) (drop next s) c (r .line), length-drop at s, length-drop next s, r .inside)
 
 module _ {s : List ℕ} {at : ℕ} (now : Looked s at) where
-  pub looked-next : {l : Line} {next : ℕ} → LineRead (readLine (drop at s)) s l → OneOf (0 ∷ 1 ∷ 2 ∷ []) (tagOf line-type l) → next ≡ nextAfter (length s) l → Looked s next × (at < next)
-  looked-next {l} {next} h o e =
+  pub looked-next : (l : Line) {next : ℕ} → LineRead (readLine (drop at s)) s l → OneOf (0 ∷ 1 ∷ 2 ∷ []) (tagOf line-type l) → next ≡ nextAfter (length s) l → Looked s next × (at < next)
+  looked-next l {next} h o e =
       let p = line-reads s at l h o in
       rw e (record { inside = p .1 .inside; left = sym (text-more (drop at s) (drop (nextAfter (length s) l) s) (p .0) (p .1 .line)) ∙ now .left }, next-on s at (now .inside) (p .1))
 
-  pub looked-bad : {l : Line} → at < length s → LineRead (readLine (drop at s)) s l → l ≡ Bad → false ≡ isText s
-  looked-bad {l} less h e =
+  pub looked-bad : (l : Line) → at < length s → LineRead (readLine (drop at s)) s l → l ≡ Bad → false ≡ isText s
+  looked-bad l less h e =
       sym (sym (now .left) ∙ text-bad (drop at s) (λ z. omega (arith, length-drop at s)) (subst (λ (x : Line). LineRead (readLine (drop at s)) s x) e h))
 
   pub looked-all : length s ≤ at → true ≡ isText s

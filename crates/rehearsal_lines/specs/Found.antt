@@ -41,3 +41,19 @@ nextAfter end (Alloc a) = a .next
 nextAfter end (Store a) = a .next
 nextAfter end (Drop x next) = next
 nextAfter end Bad = end
+
+-- ---- a line that was read
+
+-- the line, if it is one
+abbrev pub stepIn : List ℕ → Line → Option Step
+stepIn s (Alloc a) = some (allocAt s a)
+stepIn s (Store a) = some (storeOf a)
+stepIn s (Drop x next) = some (drop x)
+stepIn s Bad = none
+
+-- its data stands in the text
+abbrev pub DataIn : List ℕ → Line → Type 0
+DataIn s (Alloc a) = DataThere s a
+DataIn s (Store a) = Unit
+DataIn s (Drop x next) = Unit
+DataIn s Bad = Unit

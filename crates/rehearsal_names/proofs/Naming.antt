@@ -7,7 +7,7 @@ use mathlib.Core.List.{List, [], _∷_, _++_, map}
 use mathlib.Core.Option.{Option, none, some}
 use mathlib.Core.Path.{_≡_, refl, sym, ap, _∙_, subst}
 use lib.Dec.{eqb, leb}
-use lib.ListN.{length, getD, set, length-set, List·getD-eq-default}
+use lib.ListN.{length, getD, take, set, List·getD-eq-default}
 use borrow.Author.Tests.{leb-true, ne-eqb, eq-eqb, eqb-true}
 use Rattle.word.specs.Choice.{if_then_else_}
 use Rattle.word.specs.Run.{run}
@@ -135,6 +135,10 @@ index-few n (t ∷ ts) = go (eqb t n) (index-few n ts)
 
 -- ---- in words
 
+front : (n : ℕ) (words : List ℕ) → run n 0 words ≡ take n words
+unfolding run
+front n words = refl
+
 module _ {S n : ℕ} {words : List ℕ} (g : Names S n words) where
   pub turns-long : length (run n 0 words) ≡ n
   turns-long = length-run n 0 words (omega (arith, g .room, g .count))
@@ -145,11 +149,19 @@ module _ {S n : ℕ} {words : List ℕ} (g : Names S n words) where
   same-long : length (run n 0 words) ≡ length (run n S words)
   same-long = turns-long ∙ sym handles-long
 
-  pub held-found : {turn k : ℕ} → k ≡ indexIn turn (run n 0 words) → k < n → getD words (S + k) 0 ≡ orZero (heldAt turn (named S n words))
-  held-found {turn} {k} e less = sym (found-at turn 1 (run n 0 words) (run n S words) same-long (g .rises) ∙ ap (λ (i : ℕ). getD (run n S words) i 0) (sym e) ∙ run-get n S words k less)
+  -- the turns, as they are lent to be searched
+  pub front-count : n ≡ length (take n words)
+  front-count = sym turns-long ∙ ap length (front n words)
 
-  pub held-none : {turn k : ℕ} → k ≡ indexIn turn (run n 0 words) → n ≤ k → 0 ≡ orZero (heldAt turn (named S n words))
-  held-none {turn} {k} e more =
+  pub front-rises : risingFrom 1 (take n words) ≡ true
+  front-rises = sym (ap (risingFrom 1) (front n words)) ∙ g .rises
+
+  pub held-found : (turn : ℕ) {k : ℕ} → k ≡ indexIn turn (take n words) → k < n → getD words (S + k) 0 ≡ orZero (heldAt turn (named S n words))
+  held-found turn {k} e₀ less = let e : k ≡ indexIn turn (run n 0 words) = e₀ ∙ ap (indexIn turn) (sym (front n words)) in sym (found-at turn 1 (run n 0 words) (run n S words) same-long (g .rises) ∙ ap (λ (i : ℕ). getD (run n S words) i 0) (sym e) ∙ run-get n S words k less)
+
+  pub held-none : (turn : ℕ) {k : ℕ} → k ≡ indexIn turn (take n words) → n ≤ k → 0 ≡ orZero (heldAt turn (named S n words))
+  held-none turn {k} e₀ more =
+      let e : k ≡ indexIn turn (run n 0 words) = e₀ ∙ ap (indexIn turn) (sym (front n words)) in
       sym (found-at turn 1 (run n 0 words) (run n S words) same-long (g .rises) ∙ List·getD-eq-default (run n S words) 0 (omega (arith, handles-long)))
 
   -- ---- let go
@@ -181,12 +193,13 @@ module _ {S n : ℕ} {words : List ℕ} (g : Names S n words) where
               above f = elim (decLt 0 x) [ yes y ↦ y | no y ↦ absurd (f (omega arith)) ]
           at-turn false w k = ih k
 
-  pub absent : {turn : ℕ} → 0 ≡ orZero (heldAt turn (named S n words)) → Absent S n turn words words
-  absent {turn} e = record { never = zero-or (heldAt turn (named S n words)) (kept-real turn (entriesIn S n words)) e; same = refl }
+  pub absent : (turn : ℕ) → 0 ≡ orZero (heldAt turn (named S n words)) → Absent S n turn words words
+  absent turn e = record { never = zero-or (heldAt turn (named S n words)) (kept-real turn (entriesIn S n words)) e; same = refl }
 
-  pub gone : {turn k : ℕ} → k ≡ indexIn turn (run n 0 words) → k < n → (getD words (S + k) 0 ≡ 0 → ⊥) → Gone S n turn words (set words (S + k) 0)
-  gone {turn} {k} e less ne =
-      let value : getD words (S + k) 0 ≡ orZero (heldAt turn (named S n words)) = held-found e less in
+  pub gone : (turn : ℕ) {k : ℕ} → k ≡ indexIn turn (take n words) → k < n → (getD words (S + k) 0 ≡ 0 → ⊥) → Gone S n turn words (set words (S + k) 0)
+  gone turn {k} e₀ less ne =
+      let e : k ≡ indexIn turn (run n 0 words) = e₀ ∙ ap (indexIn turn) (sym (front n words)) in
+      let value : getD words (S + k) 0 ≡ orZero (heldAt turn (named S n words)) = held-found turn e₀ less in
       let same : run n 0 (set words (S + k) 0) ≡ run n 0 words = run-below n 0 words (S + k) 0 (omega (arith, g .count)) in
       record {
         handle = orZero (heldAt turn (named S n words));

@@ -79,8 +79,8 @@ index-none x (y ∷ ys) h = rw (ne-eqb y x (h 0 (omega arith))) (ap suc (index-n
 
 -- ---- the ways out of the search
 
-pub find-found : {x : ℕ} {xs : List ℕ} → risingFrom 1 xs ≡ true → (mid : ℕ) → mid < length xs → getD xs mid 0 ≡ x → mid ≡ indexIn x xs
-find-found {x} {xs} h mid l e = sym (sym (ap (λ (y : ℕ). indexIn y xs) e) ∙ index-at 1 xs h mid l)
+pub find-found : (x : ℕ) (xs : List ℕ) → risingFrom 1 xs ≡ true → (mid : ℕ) → mid < length xs → getD xs mid 0 ≡ x → mid ≡ indexIn x xs
+find-found x xs h mid l e = sym (sym (ap (λ (y : ℕ). indexIn y xs) e) ∙ index-at 1 xs h mid l)
 
 pub find-none : {x : ℕ} {xs : List ℕ} {low high : ℕ} → Between x xs low high → high ≤ low → length xs ≡ indexIn x xs
 find-none {x} {xs} {low} b h =

@@ -76,6 +76,25 @@ module _ (S j t x : ℕ) (words : List ℕ) (less : j < S) (room : S + S ≤ len
   pub put-handles : run (j + 1) S new ≡ run j S words ++ x ∷ []
   put-handles = run-more j S new words x (omega (arith, long)) (omega arith) (λ k h. elsewhere (S + k) (λ e. omega arith) (λ e. omega arith)) handle-there
 
+-- ---- one entry
+
+one-gone : (t x : ℕ) → eqb x 0 ≡ true → kept (name t x ∷ []) ≡ []
+unfolding kept
+one-gone t x e = rw e
+
+one-stays : (t x : ℕ) → eqb x 0 ≡ false → kept (name t x ∷ []) ≡ name t x ∷ []
+unfolding kept
+one-stays t x e = rw e
+
+module _ (S i j : ℕ) (words : List ℕ) where
+  pub moved-none : getD words (S + i) 0 ≡ 0 → (j ≡ movedTo S i j words) × (words ≡ movedWords S i j words)
+  unfolding movedTo movedWords
+  moved-none e = rw (eq-eqb (getD words (S + i) 0) 0 e) (refl, refl)
+
+  pub moved-one : (getD words (S + i) 0 ≡ 0 → ⊥) → (j + 1 ≡ movedTo S i j words) × (set (set words j (getD words i 0)) (S + j) (getD words (S + i) 0) ≡ movedWords S i j words)
+  unfolding movedTo movedWords
+  moved-one ne = rw (ne-eqb (getD words (S + i) 0) 0 ne) (refl, refl)
+
 -- ---- squeezing
 
 pub record Squeezing (S n : ℕ) (words₀ words : List ℕ) (i j : ℕ) : Type 0 where
@@ -129,7 +148,7 @@ module _ {S n : ℕ} {words₀ words : List ℕ} {i j : ℕ} (v : Squeezing S n 
       go : (b : Bool) → eqb (getD words (S + i) 0) 0 ≡ b → j′ ≡ (if b then j else (j + 1))
           → words′ ≡ (if b then words else set (set words j (getD words i 0)) (S + j) (getD words (S + i) 0)) → Squeezing S n words₀ words′ (i + 1) j′
       go true q f w =
-          let none : named S (i + 1) words₀ ≡ named S i words₀ = all ∙ ap (λ (l : List Name). named S i words₀ ++ l) (gone q) ∙ append-nil (named S i words₀) in
+          let none : named S (i + 1) words₀ ≡ named S i words₀ = all ∙ ap (λ (l : List Name). named S i words₀ ++ l) (one-gone (getD words i 0) (getD words (S + i) 0) q) ∙ append-nil (named S i words₀) in
           rw (f, w)
           (record {
             room = v .room;
@@ -145,16 +164,12 @@ module _ {S n : ℕ} {words₀ words : List ℕ} {i j : ℕ} (v : Squeezing S n 
         where
           less-next : i + 1 ≤ n
           less-next = omega arith
-
-          gone : eqb (getD words (S + i) 0) 0 ≡ true → kept (name (getD words i 0) (getD words (S + i) 0) ∷ []) ≡ []
-          unfolding kept
-          gone e = rw e
       go false q f w =
           let t : ℕ = getD words i 0 in
           let x : ℕ = getD words (S + i) 0 in
           let room′ : S + S ≤ length words = omega (arith, v .room, v .long) in
           let below : j < S = omega (arith, v .behind) in
-          let more : named S (i + 1) words₀ ≡ named S i words₀ ++ name t x ∷ [] = all ∙ ap (λ (l : List Name). named S i words₀ ++ l) (stays q) in
+          let more : named S (i + 1) words₀ ≡ named S i words₀ ++ name t x ∷ [] = all ∙ ap (λ (l : List Name). named S i words₀ ++ l) (one-stays (getD words i 0) (getD words (S + i) 0) q) in
           rw (f, w)
           (record {
             room = v .room;
@@ -167,10 +182,6 @@ module _ {S n : ℕ} {words₀ words : List ℕ} {i j : ℕ} (v : Squeezing S n 
             later-turns = λ k a b. getD-set-other (set words j t) (S + j) k x 0 (λ e. omega arith) ∙ getD-set-other words j k t 0 (λ e. omega (arith, v .behind)) ∙ v .later-turns k (omega arith) b;
             later-handles = λ k a b. getD-set-other (set words j t) (S + j) (S + k) x 0 (λ e. omega (arith, v .behind)) ∙ getD-set-other words j (S + k) t 0 (λ e. omega arith) ∙ v .later-handles k (omega arith) b;
           })
-        where
-          stays : eqb (getD words (S + i) 0) 0 ≡ false → kept (name (getD words i 0) (getD words (S + i) 0) ∷ []) ≡ name (getD words i 0) (getD words (S + i) 0) ∷ []
-          unfolding kept
-          stays e = rw e
 
   pub squeeze-end : n ≤ i → Squeezed S n words₀ j words
   squeeze-end more =
