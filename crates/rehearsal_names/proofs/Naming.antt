@@ -20,14 +20,6 @@ use Rattle.rehearsal_names.specs.Moves.{indexIn, turnsOf}
 
 -- ---- entries
 
-pub kept-one : (e : Name) (es : List Name) → 1 ≤ e .handle → kept (e ∷ es) ≡ e ∷ kept es
-unfolding kept
-kept-one e es h = rw (ne-eqb (e .handle) 0 (λ z. omega arith))
-
-kept-none : (e : Name) (es : List Name) → e .handle ≡ 0 → kept (e ∷ es) ≡ kept es
-unfolding kept
-kept-none e es h = rw (eq-eqb (e .handle) 0 h)
-
 pub kept-append : (xs ys : List Name) → kept (xs ++ ys) ≡ kept xs ++ kept ys
 unfolding kept
 kept-append [] ys = refl
@@ -133,6 +125,25 @@ index-few n (t ∷ ts) = go (eqb t n) (index-few n ts)
     go true h = omega arith
     go false h = omega arith
 
+-- what is held is no 0
+pub kept-real : (m : ℕ) (es : List Name) (x : ℕ) → heldAt m (kept es) ≡ some x → 1 ≤ x
+unfolding kept
+kept-real m [] x e = let z : _≡_ {A = ℕ} 0 1 = cc in absurd (omega arith)
+kept-real m (y ∷ ys) x e = go (eqb (y .handle) 0) refl (eqb (y .turn) m) e (λ q. kept-real m ys x q)
+  where
+    go : (b : Bool) → eqb (y .handle) 0 ≡ b → (c : Bool) → heldAt m (if b then kept ys else (y ∷ kept ys)) ≡ some x → (heldAt m (kept ys) ≡ some x → 1 ≤ x) → 1 ≤ x
+    go true q c f ih = ih f
+    go false q c f ih = at-turn (eqb (y .turn) m) refl f
+      where
+        at-turn : (d : Bool) → eqb (y .turn) m ≡ d → (if d then some (y .handle) else heldAt m (kept ys)) ≡ some x → 1 ≤ x
+        at-turn true w k = let z : y .handle ≡ x = cc in above (ne z)
+          where
+            ne : y .handle ≡ x → (x ≡ 0 → ⊥)
+            ne z w0 = let t : eqb (y .handle) 0 ≡ true = eq-eqb (y .handle) 0 (z ∙ w0) in let z1 : _≡_ {A = ℕ} 0 1 = cc in omega arith
+            above : (x ≡ 0 → ⊥) → 1 ≤ x
+            above f = elim (decLt 0 x) [ yes y ↦ y | no y ↦ absurd (f (omega arith)) ]
+        at-turn false w k = ih k
+
 -- ---- in words
 
 front : (n : ℕ) (words : List ℕ) → run n 0 words ≡ take n words
@@ -173,25 +184,6 @@ module _ {S n : ℕ} {words : List ℕ} (g : Names S n words) where
   some-or : (o : Option ℕ) → (orZero o ≡ 0 → ⊥) → o ≡ some (orZero o)
   some-or none f = absurd (f refl)
   some-or (some x) f = refl
-
-  -- what is held is no 0
-  kept-real : (m : ℕ) (es : List Name) (x : ℕ) → heldAt m (kept es) ≡ some x → 1 ≤ x
-  unfolding kept
-  kept-real m [] x e = let z : _≡_ {A = ℕ} 0 1 = cc in absurd (omega arith)
-  kept-real m (y ∷ ys) x e = go (eqb (y .handle) 0) refl (eqb (y .turn) m) e (λ q. kept-real m ys x q)
-    where
-      go : (b : Bool) → eqb (y .handle) 0 ≡ b → (c : Bool) → heldAt m (if b then kept ys else (y ∷ kept ys)) ≡ some x → (heldAt m (kept ys) ≡ some x → 1 ≤ x) → 1 ≤ x
-      go true q c f ih = ih f
-      go false q c f ih = at-turn (eqb (y .turn) m) refl f
-        where
-          at-turn : (d : Bool) → eqb (y .turn) m ≡ d → (if d then some (y .handle) else heldAt m (kept ys)) ≡ some x → 1 ≤ x
-          at-turn true w k = let z : y .handle ≡ x = cc in above (ne z)
-            where
-              ne : y .handle ≡ x → (x ≡ 0 → ⊥)
-              ne z w0 = let t : eqb (y .handle) 0 ≡ true = eq-eqb (y .handle) 0 (z ∙ w0) in let z1 : _≡_ {A = ℕ} 0 1 = cc in omega arith
-              above : (x ≡ 0 → ⊥) → 1 ≤ x
-              above f = elim (decLt 0 x) [ yes y ↦ y | no y ↦ absurd (f (omega arith)) ]
-          at-turn false w k = ih k
 
   pub absent : (turn : ℕ) → 0 ≡ orZero (heldAt turn (named S n words)) → Absent S n turn words words
   absent turn e = record { never = zero-or (heldAt turn (named S n words)) (kept-real turn (entriesIn S n words)) e; same = refl }

@@ -17,7 +17,7 @@ use Rattle.rehearsal.specs.Runs.{Held as Name, handles}
 use Rattle.rehearsal_names.specs.Names.{name, entries, kept, entriesIn, named, CanHold, Held}
 use Rattle.rehearsal_names.specs.Moves.{turnsOf, CanMove, movedTo, movedWords, InRoom, Squeezed, Roomy}
 use Rattle.rehearsal_names.proofs.Rising.{rising-more, rising-kept}
-use Rattle.rehearsal_names.proofs.Naming.{kept-one, kept-append, kept-kept, entries-again, entries-append, entries-turns}
+use Rattle.rehearsal_names.proofs.Naming.{kept-append, kept-kept, entries-again, entries-append, entries-turns}
 
 -- ---- a run with one more
 
@@ -45,10 +45,13 @@ run-more n at xs ys v long room same here =
       | no ne ↦ run-get (n + 1) at xs i (omega arith) ∙ same i (omega arith) ∙ sym (run-get n at ys i (omega arith)) ∙ sym (snoc-get (run n at ys) v i (omega arith))
     ])
 
+from-zero : (xs : List ℕ) (k : ℕ) → getD xs (0 + k) 0 ≡ getD xs k 0
+from-zero xs k = let z : 0 + k ≡ k = omega arith in ap (λ (i : ℕ). getD xs i 0) z
+
 -- the entry n after those before it
 pub entries-more : (S n : ℕ) (words : List ℕ) → n < S → S + S ≤ length words → entriesIn S (n + 1) words ≡ entriesIn S n words ++ name (getD words n 0) (getD words (S + n) 0) ∷ []
 entries-more S n words less room =
-    let ts : run (n + 1) 0 words ≡ run n 0 words ++ getD words n 0 ∷ [] = run-more n 0 words words (getD words n 0) (omega arith) (omega arith) (λ k h. refl) refl in
+    let ts : run (n + 1) 0 words ≡ run n 0 words ++ getD words n 0 ∷ [] = run-more n 0 words words (getD words n 0) (omega arith) (omega arith) (λ k h. refl) (from-zero words n) in
     let xs : run (n + 1) S words ≡ run n S words ++ getD words (S + n) 0 ∷ [] = run-more n S words words (getD words (S + n) 0) (omega arith) (omega arith) (λ k h. refl) refl in
     (λ q. entries (ts q) (xs q)) ∙ entries-append (run n 0 words) (run n S words) (getD words n 0) (getD words (S + n) 0) (length-run n 0 words (omega arith) ∙ sym (length-run n S words (omega arith)))
 
@@ -71,7 +74,7 @@ module _ (S j t x : ℕ) (words : List ℕ) (less : j < S) (room : S + S ≤ len
   handle-there = getD-set-same (set words j t) (S + j) x 0 (omega (arith, length-set words j t))
 
   pub put-turns : run (j + 1) 0 new ≡ run j 0 words ++ t ∷ []
-  put-turns = run-more j 0 new words t (omega (arith, long)) (omega arith) (λ k h. elsewhere k (λ e. omega arith) (λ e. omega arith)) turn-there
+  put-turns = run-more j 0 new words t (omega (arith, long)) (omega arith) (λ k h. from-zero new k ∙ elsewhere k (λ e. omega arith) (λ e. omega arith) ∙ sym (from-zero words k)) (from-zero new j ∙ turn-there)
 
   pub put-handles : run (j + 1) S new ≡ run j S words ++ x ∷ []
   put-handles = run-more j S new words x (omega (arith, long)) (omega arith) (λ k h. elsewhere (S + k) (λ e. omega arith) (λ e. omega arith)) handle-there
@@ -87,6 +90,9 @@ unfolding kept
 one-stays t x e = rw e
 
 module _ (S i j : ℕ) (words : List ℕ) where
+  pub move-room : CanMove S i j words → (v : ℕ) → S + j < length (set words j v)
+  move-room c v = omega (arith, c .down, c .inside, c .room, length-set words j v)
+
   pub moved-none : getD words (S + i) 0 ≡ 0 → (j ≡ movedTo S i j words) × (words ≡ movedWords S i j words)
   unfolding movedTo movedWords
   moved-none e = rw (eq-eqb (getD words (S + i) 0) 0 e) (refl, refl)
@@ -217,6 +223,9 @@ module _ {S n turn x : ℕ} {words : List ℕ} (can : CanHold S n turn x words) 
     pub hold-below : m < S
     hold-below = r .below (can .few)
 
+    pub hold-put : (v : ℕ) → S + m < length (set mid m v)
+    hold-put v = omega (arith, hold-below, can .room, long, length-set mid m v)
+
     pub hold-done : Held S n turn x words (m + 1) (set (set mid m turn) (S + m) x)
     hold-done =
         let room : S + S ≤ length mid = omega (arith, can .room, long) in
@@ -227,5 +236,5 @@ module _ {S n turn x : ℕ} {words : List ℕ} (can : CanHold S n turn x words) 
         record {
           count = omega (arith, hold-below);
           rises = ap (λ (l : List ℕ). risingFrom 1 (l ++ (turn + 1) ∷ [])) ts ∙ rising-more 1 (run m 0 mid) turn (r .rises turn (can .rises));
-          names = ap kept es ∙ kept-append (entriesIn S m mid) (name turn x ∷ []) ∙ (λ q. r .names q ++ kept-one (name turn x) [] (can .real) q);
+          names = ap kept es ∙ kept-append (entriesIn S m mid) (name turn x ∷ []) ∙ (λ q. r .names q ++ one-stays turn x (ne-eqb x 0 (λ z. omega (arith, can .real))) q);
         }

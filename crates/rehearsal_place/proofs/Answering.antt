@@ -111,7 +111,7 @@ module _ (l : Lent) (w : wellFormed l ≡ true) (k t : ℕ) (low : 1 ≤ k) (hig
     spelled-done {i} {l₂} e S P left =
         record {
           leaves = record {
-            lies = left .lies ∙ (λ q. stored (S q) (P q) ((λ (j : _). withData (seen j) (e j) (hexAt s from)) q)) ∙ ap (stored (slotCount l) (poolSize l)) (sym (instead .heap));
+            lies = left .lies ∙ (λ q. stored (S q) (P q) (withData (seen q) (e q) (hexAt s from))) ∙ ap (stored (slotCount l) (poolSize l)) (sym (instead .heap));
             formed = left .formed;
           };
           says = ap told is ∙ says-ok ∙ ap (answered here nothing) (sym (instead .answer));

@@ -10,6 +10,7 @@ use Rattle.ty.specs.Types.{Table}
 use Rattle.heap.specs.State.{State}
 use Rattle.heap.specs.Lent.{Lent, view, slotCount, poolSize}
 use Rattle.heap.specs.Done.{Leaves}
+use Rattle.collection.specs.Swept.{liveSize}
 use Rattle.object_door.specs.ObjectCalls.{allocating as allocCall}
 use Rattle.rehearsal.specs.Lines.{Line}
 use Rattle.rehearsal.specs.Runs.{Run, heldAt, collecting, storing, does, allocating}
@@ -44,9 +45,16 @@ pub record CanHoldMore (l : Lent) (words : List ℕ) (g : Going) (type kind : �
   pub few : (x : ℕ) → allocCall (slotCount l) (poolSize l) kind type 0 bytes (view l) .answer ≡ ok x → length (named (slotCount l) (g .held) words) < slotCount l
   pub real : (x : ℕ) → allocCall (slotCount l) (poolSize l) kind type 0 bytes (view l) .answer ≡ ok x → 1 ≤ x
 
+-- the heap after a store: the sum of live lengths stays
+pub record StoredIn (l l′ : Lent) (value handle offset : ℕ) : Type 0 where
+  pub heap : State
+  pub stores : storesHeap value handle offset (view l) ≡ some heap
+  pub leaves : Leaves l l′ heap
+  pub sum : liveSize (heap .slots) ≡ liveSize (view l .slots)
+
 -- stored, or refused and nothing changed
 abbrev pub StoresInto : (l l′ : Lent) → Bool → (value handle offset : ℕ) → Type 0
-StoresInto l l′ true x y o = (h : State) × ((storesHeap x y o (view l) ≡ some h) × Leaves l l′ h)
+StoresInto l l′ true x y o = StoredIn l l′ x y o
 StoresInto l l′ false x y o = (storesHeap x y o (view l) ≡ none) × (l′ ≡ l)
 
 -- let go, or ended by 9 and nothing changed

@@ -9,16 +9,16 @@ slice-reshare-prefix-find : tie.Need-slice-reshare-prefix-find
 slice-reshare-prefix-find c = search needs
 
 slice-aggregate-find : tie.Need-slice-aggregate-find
-slice-aggregate-find c = front-count (@pre)
+slice-aggregate-find c = front-count (c .before .before .pre)
 
 find-requires : tie.Need-find-requires
-find-requires c κs = front-rises (@pre)
+find-requires c κs = front-rises (c .before .before .pre)
 
 same-length : tie.Need-same-length
 same-length c = search needs
 
 returns : tie.Need-returns
-returns c = absent (@pre) _ (held-none (@pre) _ (@find .ensures) (@if1 .taken))
+returns c = absent (c .before .before .before .before .pre) _ (held-none (c .before .before .before .before .pre) _ (c .before .find .ensures) (c .if1 .taken))
 
 add-if2 : tie.Need-add-if2
 add-if2 c = search needs
@@ -33,7 +33,7 @@ same-length-2 : tie.Need-same-length-2
 same-length-2 c = search needs
 
 returns-2 : tie.Need-returns-2
-returns-2 c = absent (@pre) _ (sym (@if2 .taken) ∙ held-found (@pre) _ (@find .ensures) (@if1 .left))
+returns-2 c = absent (c .before .before .before .before .before .before .pre) _ (sym (c .if2 .taken) ∙ held-found (c .before .before .before .before .before .before .pre) _ (c .before .before .before .find .ensures) (c .before .before .if1 .left))
 
 add-words : tie.Need-add-words
 add-words c = search needs
@@ -48,7 +48,7 @@ same-length-3 : tie.Need-same-length-3
 same-length-3 c = search needs
 
 returns-3 : tie.Need-returns-3
-returns-3 c = gone (@pre) _ (@find .ensures) (@if1 .left) (@if2 .left)
+returns-3 c = gone (c .before .before .before .before .before .before .pre) _ (c .before .before .before .find .ensures) (c .before .before .if1 .left) (c .if2 .left)
 
 pub let-go-spec : {M : Type 1} → statement M
 let-go-spec =

@@ -1,7 +1,5 @@
 -- `rehearsal_names::squeeze_one` meets its contract. Assumes nothing.
-use native.Mathlib.Omega.{arith}
-use lib.ListN.{length-set}
-use Rattle.rehearsal_names.proofs.Squeezing.{moved-none, moved-one}
+use Rattle.rehearsal_names.proofs.Squeezing.{move-room, moved-none, moved-one}
 use borrow.Author.Needs.{needs}
 use Rattle.rehearsal_names.proofs.squeeze_one.Statement.{statement}
 use Rattle.rehearsal_names.proofs.squeeze_one.Tie as tie
@@ -37,7 +35,7 @@ mul-words-3 : tie.Need-mul-words-3
 mul-words-3 c = search needs
 
 slice-write-words-2 : tie.Need-slice-write-words-2
-slice-write-words-2 c = omega (arith, c .before .before .before .pre, length-set _ _ _)
+slice-write-words-2 c = move-room _ _ _ _ (c .before .before .before .pre) _
 
 add-result : tie.Need-add-result
 add-result c = search needs

@@ -11,10 +11,10 @@ abbrev L : tie.Start → Lent
 L c = lent (c .args .heap) (now (c .args .narrow)) (now (c .args .wide)) (now (c .args .pool))
 
 returns : tie.Need-returns
-returns c = place-low (L (@start)) (@pre .0) _ (@start .args .a) (@if1 .taken)
+returns c = place-low (L (c .before .before .before .before .before)) (c .before .before .before .before .before .pre .0) _ (c .before .before .before .before .before .args .a) (c .if1 .taken)
 
 returns-2 : tie.Need-returns-2
-returns-2 c = place-high (L (@start)) (@pre .0) _ (@start .args .a) (@if1 .left) (@if2 .taken)
+returns-2 c = place-high (L (c .before .before .before .before .before .before)) (c .before .before .before .before .before .before .pre .0) _ (c .before .before .before .before .before .before .args .a) (c .before .if1 .left) (c .if2 .taken)
 
 cast-ty : tie.Need-cast-ty
 cast-ty c = search needs
@@ -23,7 +23,7 @@ cast-place-spelled : tie.Need-cast-place-spelled
 cast-place-spelled c = search needs
 
 place-spelled-requires : tie.Need-place-spelled-requires
-place-spelled-requires c κs = (@pre .0, ((@if1 .left, @if2 .left), data-spelled _ (@start .args .a) (@pre .1)))
+place-spelled-requires c κs = (c .before .before .before .before .before .before .before .before .before .before .pre .0, ((c .before .before .before .before .before .if1 .left, c .before .before .before .before .if2 .left), data-spelled _ (c .before .before .before .before .before .before .before .before .before .before .args .a) (c .before .before .before .before .before .before .before .before .before .before .pre .1)))
 
 same-length : tie.Need-same-length
 same-length c = search needs
@@ -35,7 +35,7 @@ same-length-3 : tie.Need-same-length-3
 same-length-3 c = search needs
 
 returns-3 : tie.Need-returns-3
-returns-3 c = place-good (L (@start)) (@pre .0) _ (@start .args .a) (@if1 .left) _ _ (@if2 .left) (@place-spelled .ensures)
+returns-3 c = place-good (L (c .before .before .before .before .before .before .before .before .before .before .before .before .before .before .before .before .before)) (c .before .before .before .before .before .before .before .before .before .before .before .before .before .before .before .before .before .pre .0) _ (c .before .before .before .before .before .before .before .before .before .before .before .before .before .before .before .before .before .args .a) (c .before .before .before .before .before .before .before .before .before .before .before .before .if1 .left) _ _ (c .before .before .before .before .before .before .before .before .before .before .before .if2 .left) (c .before .before .before .before .before .before .place-spelled .ensures)
 
 pub place-spec : {M : Type 1} → statement M
 place-spec =

@@ -15,7 +15,7 @@ abbrev L : tie.Start → Lent
 L c = lent (c .args .heap) (now (c .args .narrow)) (now (c .args .wide)) (now (c .args .pool))
 
 add-alloc-from : tie.Need-add-alloc-from
-add-alloc-from c = omega (arith, spelled-room (@pre .1 .1))
+add-alloc-from c = omega (arith, spelled-room (c .before .before .before .before .before .before .before .pre .1 .1))
 
 sub-alloc-from : tie.Need-sub-alloc-from
 sub-alloc-from c = search needs
@@ -24,7 +24,7 @@ part-alloc-from-start : tie.Need-part-alloc-from-start
 part-alloc-from-start c = search needs
 
 part-alloc-from-end : tie.Need-part-alloc-from-end
-part-alloc-from-end c = omega (arith, spelled-room (@pre .1 .1))
+part-alloc-from-end c = omega (arith, spelled-room (c .before .before .before .before .before .before .before .pre .1 .1))
 
 alloc-from-requires : tie.Need-alloc-from-requires
 alloc-from-requires c κs = search needs
@@ -45,7 +45,7 @@ same-length-3 : tie.Need-same-length-3
 same-length-3 c = search needs
 
 returns : tie.Need-returns
-returns c = spelled-refused (L (@start)) (@pre .0) _ _ (@pre .1 .0 .0) (@pre .1 .0 .1) _ _ _ (@pre .1 .1) _ _ (@alloc-from .ensures) (@match .keys2)
+returns c = spelled-refused (L (c .before .before .before .before .before .before .before .before .before .before .before .before .before .before .before .before .before .before)) (c .before .before .before .before .before .before .before .before .before .before .before .before .before .before .before .before .before .before .pre .0) _ _ (c .before .before .before .before .before .before .before .before .before .before .before .before .before .before .before .before .before .before .pre .1 .0 .0) (c .before .before .before .before .before .before .before .before .before .before .before .before .before .before .before .before .before .before .pre .1 .0 .1) _ _ _ (c .before .before .before .before .before .before .before .before .before .before .before .before .before .before .before .before .before .before .pre .1 .1) _ _ (c .before .before .before .before .before .before .before .before .before .alloc-from .ensures) (c .before .match .keys2)
 
 index-of-requires : tie.Need-index-of-requires
 index-of-requires c κs = search needs
@@ -54,7 +54,7 @@ cast-decode : tie.Need-cast-decode
 cast-decode c = search needs
 
 decode-requires : tie.Need-decode-requires
-decode-requires c κs = spelled-can (L (@start)) (@pre .0) _ _ (@pre .1 .0 .0) (@pre .1 .0 .1) _ _ _ (@pre .1 .1) _ _ (@alloc-from .ensures) _ _ (@reply .given .1) (@index-of .ensures)
+decode-requires c κs = spelled-can (L (c .before .before .before .before .before .before .before .before .before .before .before .before .before .before .before .before .before .before .before .before .before .before .before)) (c .before .before .before .before .before .before .before .before .before .before .before .before .before .before .before .before .before .before .before .before .before .before .before .pre .0) _ _ (c .before .before .before .before .before .before .before .before .before .before .before .before .before .before .before .before .before .before .before .before .before .before .before .pre .1 .0 .0) (c .before .before .before .before .before .before .before .before .before .before .before .before .before .before .before .before .before .before .before .before .before .before .before .pre .1 .0 .1) _ _ _ (c .before .before .before .before .before .before .before .before .before .before .before .before .before .before .before .before .before .before .before .before .before .before .before .pre .1 .1) _ _ (c .before .before .before .before .before .before .before .before .before .before .before .before .before .before .alloc-from .ensures) _ _ (c .before .before .before .before .before .reply .given .1) (c .index-of .ensures)
 
 same-length-4 : tie.Need-same-length-4
 same-length-4 c = search needs
@@ -66,7 +66,7 @@ same-length-6 : tie.Need-same-length-6
 same-length-6 c = search needs
 
 returns-2 : tie.Need-returns-2
-returns-2 c = spelled-done (L (@start)) (@pre .0) _ _ (@pre .1 .0 .0) (@pre .1 .0 .1) _ _ _ (@pre .1 .1) _ _ (@alloc-from .ensures) _ _ (@reply .given .1) (@index-of .ensures) (ap (λ (n : ℕ). n / 6) (@alloc-from .kept .1 .0)) (@alloc-from .kept .1 .1 .1 .0) (@decode .ensures)
+returns-2 c = spelled-done (L (c .before .before .before .before .before .before .before .before .before .before .before .before .before .before .before .before .before .before .before .before .before .before .before .before .before .before)) (c .before .before .before .before .before .before .before .before .before .before .before .before .before .before .before .before .before .before .before .before .before .before .before .before .before .before .pre .0) _ _ (c .before .before .before .before .before .before .before .before .before .before .before .before .before .before .before .before .before .before .before .before .before .before .before .before .before .before .pre .1 .0 .0) (c .before .before .before .before .before .before .before .before .before .before .before .before .before .before .before .before .before .before .before .before .before .before .before .before .before .before .pre .1 .0 .1) _ _ _ (c .before .before .before .before .before .before .before .before .before .before .before .before .before .before .before .before .before .before .before .before .before .before .before .before .before .before .pre .1 .1) _ _ (c .before .before .before .before .before .before .before .before .before .before .before .before .before .before .before .before .before .alloc-from .ensures) _ _ (c .before .before .before .before .before .before .before .before .reply .given .1) (c .before .before .before .index-of .ensures) (ap (λ (n : ℕ). n / 6) (c .before .before .before .before .before .before .before .before .before .before .before .before .before .before .before .before .before .alloc-from .kept .1 .0)) (c .before .before .before .before .before .before .before .before .before .before .before .before .before .before .before .before .before .alloc-from .kept .1 .1 .1 .0) (c .before .before .decode .ensures)
 
 pub place-spelled-spec : {M : Type 1} → statement M
 place-spelled-spec =
