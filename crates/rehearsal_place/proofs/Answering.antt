@@ -1,5 +1,5 @@
 -- The ways out of the placing of an object whose data a text spells. Assumes nothing.
-use Prim.Native.Nat.{ℕ, _+_, _-_, _≤_, _<_}
+use Prim.Native.Nat.{ℕ, _+_, _-_, _*_, _/_, _≤_, _<_}
 use native.Mathlib.Omega.{arith}
 use mathlib.Core.Bool.{Bool, true, false}
 use mathlib.Core.List.{List, [], _∷_}
@@ -20,7 +20,11 @@ use Rattle.refusal.specs.declared.Reply.the-variants.{Is, Not}
 use Rattle.refusal.proofs.Numbers.{told-once}
 use Rattle.refusal.proofs.Reply.{the-type as reply-type}
 use Rattle.heap.specs.State.{State, slotAt, live}
-use Rattle.heap.specs.Lent.{Lent, stored, view, slotCount, poolSize}
+use Rattle.heap.specs.Packing.{startOf}
+use Rattle.heap.specs.Lent.{Lent, lent, stored, view, slotCount, poolSize}
+use Rattle.heap.specs.declared.Heap.{Heap}
+use Rattle.text.specs.Put.{Puts}
+use Rattle.word.specs.Run.{run}
 use Rattle.heap.specs.WellFormed.{wellFormed}
 use Rattle.heap.specs.Calls.{Changed, refuse, allocFrom}
 use Rattle.heap.specs.Done.{Leaves, Tells}
@@ -34,7 +38,7 @@ use Rattle.script.specs.declared.AllocLine.{AllocLine}
 use Rattle.script.proofs.Refusing.{Numbered, alloc-numbered}
 use Rattle.rehearsal_place.specs.Decoding.{Spelled, withData, CanDecode, Decoded, PlaceDoes}
 use Rattle.rehearsal_place.proofs.Replaced.{Instead, alloc-instead}
-use Rattle.rehearsal_place.proofs.Spelling.{part-long}
+use Rattle.rehearsal_place.proofs.Spelling.{part-long, start-can, decode-room, decode-done}
 
 -- ---- what a reply says
 
@@ -67,8 +71,11 @@ from-numbered S P k t bytes h low high =
 
 -- ---- placed with other bytes of the text first
 
-module _ (l : Lent) (w : wellFormed l ≡ true) (k t : ℕ) (low : 1 ≤ k) (high : k ≤ 3) (s : List ℕ) (from count : ℕ) (p : Spelled s from count) (l₁ : Lent) (reply : Reply)
-    (d : Tells here nothing l l₁ reply (allocFrom (slotCount l) (poolSize l) (view l) k t 0 (take (from + count - from) (drop from s)))) where
+module _ (l : Lent) (w : wellFormed l ≡ true) (k t : ℕ) (low : 1 ≤ k) (high : k ≤ 3) (s : List ℕ) (from count : ℕ) (p : Spelled s from count) (h₁ : Heap) (n₁ w₁ p₁ : List ℕ) (reply : Reply)
+    (d : Tells here nothing l (lent h₁ n₁ w₁ p₁) reply (allocFrom (slotCount l) (poolSize l) (view l) k t 0 (take (from + count - from) (drop from s)))) where
+  abbrev l₁ : Lent
+  l₁ = lent h₁ n₁ w₁ p₁
+
   abbrev part : List ℕ
   part = take (from + count - from) (drop from s)
 
@@ -98,7 +105,7 @@ module _ (l : Lent) (w : wellFormed l ≡ true) (k t : ℕ) (low : 1 ≤ k) (hig
     seen : view l₁ ≡ first .heap
     seen = ap view (d .leaves .lies) ∙ view-stored (slotCount l) (poolSize l) (first .heap)
 
-    pub spelled-can : {i : ℕ} → i ≡ indexOf x → CanDecode l₁ s from count i
+    spelled-can : {i : ℕ} → i ≡ indexOf x → CanDecode l₁ s from count i
     spelled-can {i} e =
         record {
           formed = d .leaves .formed;
@@ -107,8 +114,16 @@ module _ (l : Lent) (w : wellFormed l ≡ true) (k t : ℕ) (low : 1 ≤ k) (hig
           long = (λ q. length (slotAt (seen q) (e q) .bytes)) ∙ ap length (instead .data-there) ∙ sym (part-long p) ∙ sym (p .counted);
         }
 
-    pub spelled-done : {i : ℕ} {l₂ : Lent} → i ≡ indexOf x → slotCount l₁ ≡ slotCount l → poolSize l₁ ≡ poolSize l → Decoded l₁ l₂ (hexAt s from) i → PlaceDoes l l₂ reply k t (hexAt s from)
-    spelled-done {i} {l₂} e S P left =
+    pub spelled-start : {i : ℕ} → i ≡ indexOf x → (i ≤ length n₁ / 6) × (2 * (length n₁ / 6) ≤ length w₁)
+    spelled-start {i} e = start-can h₁ n₁ w₁ p₁ s from count i (spelled-can e)
+
+    pub spelled-fits : {i at : ℕ} → i ≡ indexOf x → at ≡ startOf (run (length n₁ / 6) (length n₁ / 6) w₁) i → at + count ≤ length p₁
+    spelled-fits {i} e ea = decode-room h₁ n₁ w₁ p₁ s from count i (spelled-can e) ea
+
+    pub spelled-done : {i at r : ℕ} {p₂ : List ℕ} → i ≡ indexOf x → at ≡ startOf (run (length n₁ / 6) (length n₁ / 6) w₁) i → Puts p₁ p₂ at r (hexAt s from)
+        → length n₁ / 6 ≡ slotCount l → length p₁ ≡ poolSize l → PlaceDoes l (lent h₁ n₁ w₁ p₂) reply k t (hexAt s from)
+    spelled-done {i} {at} {r} {p₂} e ea put S P =
+        let left : Decoded l₁ (lent h₁ n₁ w₁ p₂) (hexAt s from) i = decode-done h₁ n₁ w₁ p₁ s from count i (spelled-can e) ea put in
         record {
           leaves = record {
             lies = left .lies ∙ (λ q. stored (S q) (P q) (withData (seen q) (e q) (hexAt s from))) ∙ ap (stored (slotCount l) (poolSize l)) (sym (instead .heap));

@@ -16,26 +16,7 @@ ghost use Rattle.heap.specs.Done.{Tells};
 ghost use Rattle.refusal.specs.Told.{here, nothing};
 ghost use Rattle.script.specs.Found.{DataThere};
 ghost use Rattle.object_door.specs.ObjectCalls.{allocating};
-ghost use Rattle.rehearsal_place.specs.Decoding.{Spelled, CanDecode, Decoded, PlaceDoes};
-
-// The data of slot `i` becomes what the text spells, which is as long.
-fn decode(
-    heap: Heap,
-    narrow: &[u32],
-    wide: &[u64],
-    pool: &mut [u8],
-    s: &[u8],
-    from: usize,
-    count: usize,
-    i: usize,
-)
-    requires { ⌜ CanDecode (lent heap (now narrow) (now wide) (now pool)) (now s) from count i ⌝ }
-    ensures { λ _. ⌜ Decoded (lent heap (now (narrow .entry)) (now (wide .entry)) (now (pool .entry)))
-        (lent heap (now (narrow .entry)) (now (wide .entry)) (now (pool .exit))) (hexAt (now (s .entry)) from) i ⌝ }
-{
-    let at = heap::start_of(wide, narrow.len() / 6, i);
-    text::copy_hex(s, from, count, pool, at);
-}
+ghost use Rattle.rehearsal_place.specs.Decoding.{Spelled, PlaceDoes};
 
 // Places the object of kind `k` whose data the text spells: 6, then 5.
 fn place_spelled(
@@ -65,7 +46,9 @@ fn place_spelled(
             reply: reply,
         };
     };
-    decode(after, narrow, wide, pool, s, from, count, handle::index_of(x) as usize);
+    let i = handle::index_of(x) as usize;
+    let to = heap::start_of(wide, narrow.len() / 6, i);
+    text::copy_hex(s, from, count, pool, to);
     Changed {
         heap: after,
         reply: reply,

@@ -4,4 +4,4 @@ pub mod Leading
 pub mod Swept
 pub mod Placed
 pub mod Stored
-
+pub mod Lined

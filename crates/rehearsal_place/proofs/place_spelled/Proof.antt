@@ -5,7 +5,7 @@ use Prim.Native.Nat.{ℕ, _/_}
 use denote.Ref.{now}
 use Rattle.heap.specs.Lent.{Lent, lent}
 use Rattle.rehearsal_place.proofs.Spelling.{spelled-room}
-use Rattle.rehearsal_place.proofs.Answering.{spelled-refused, spelled-can, spelled-done}
+use Rattle.rehearsal_place.proofs.Answering.{spelled-refused, spelled-start, spelled-fits, spelled-done}
 use borrow.Author.Needs.{needs}
 use Rattle.rehearsal_place.proofs.place_spelled.Statement.{statement}
 use Rattle.rehearsal_place.proofs.place_spelled.Tie as tie
@@ -45,16 +45,19 @@ same-length-3 : tie.Need-same-length-3
 same-length-3 c = search needs
 
 returns : tie.Need-returns
-returns c = spelled-refused (L (c .before .before .before .before .before .before .before .before .before .before .before .before .before .before .before .before .before .before)) (c .before .before .before .before .before .before .before .before .before .before .before .before .before .before .before .before .before .before .pre .0) _ _ (c .before .before .before .before .before .before .before .before .before .before .before .before .before .before .before .before .before .before .pre .1 .0 .0) (c .before .before .before .before .before .before .before .before .before .before .before .before .before .before .before .before .before .before .pre .1 .0 .1) _ _ _ (c .before .before .before .before .before .before .before .before .before .before .before .before .before .before .before .before .before .before .pre .1 .1) _ _ (c .before .before .before .before .before .before .before .before .before .alloc-from .ensures) (c .before .match .keys2)
+returns c = spelled-refused (L (@start)) (@pre .0) _ _ (@pre .1 .0 .0) (@pre .1 .0 .1) _ _ _ (@pre .1 .1) (@alloc-from .result .heap) (@alloc-from .last .1 .0) (@alloc-from .last .1 .1 .0) (@alloc-from .last .1 .1 .1 .0) _ (@alloc-from .ensures) (@match .keys2)
 
 index-of-requires : tie.Need-index-of-requires
 index-of-requires c κs = search needs
 
-cast-decode : tie.Need-cast-decode
-cast-decode c = search needs
+cast-i : tie.Need-cast-i
+cast-i c = search needs
 
-decode-requires : tie.Need-decode-requires
-decode-requires c κs = spelled-can (L (c .before .before .before .before .before .before .before .before .before .before .before .before .before .before .before .before .before .before .before .before .before .before .before)) (c .before .before .before .before .before .before .before .before .before .before .before .before .before .before .before .before .before .before .before .before .before .before .before .pre .0) _ _ (c .before .before .before .before .before .before .before .before .before .before .before .before .before .before .before .before .before .before .before .before .before .before .before .pre .1 .0 .0) (c .before .before .before .before .before .before .before .before .before .before .before .before .before .before .before .before .before .before .before .before .before .before .before .pre .1 .0 .1) _ _ _ (c .before .before .before .before .before .before .before .before .before .before .before .before .before .before .before .before .before .before .before .before .before .before .before .pre .1 .1) _ _ (c .before .before .before .before .before .before .before .before .before .before .before .before .before .before .alloc-from .ensures) _ _ (c .before .before .before .before .before .reply .given .1) (c .index-of .ensures)
+start-of-requires : tie.Need-start-of-requires
+start-of-requires c κs = spelled-start (L (@start)) (@pre .0) _ _ (@pre .1 .0 .0) (@pre .1 .0 .1) _ _ _ (@pre .1 .1) (@alloc-from .result .heap) (@alloc-from .last .1 .0) (@alloc-from .last .1 .1 .0) (@alloc-from .last .1 .1 .1 .0) _ (@alloc-from .ensures) _ _ (@reply .given .1) (@index-of .ensures)
+
+copy-hex-requires : tie.Need-copy-hex-requires
+copy-hex-requires c κs = (@pre .1 .1 .parsed, (@pre .1 .1 .counted, spelled-fits (L (@start)) (@pre .0) _ _ (@pre .1 .0 .0) (@pre .1 .0 .1) _ _ _ (@pre .1 .1) (@alloc-from .result .heap) (@alloc-from .last .1 .0) (@alloc-from .last .1 .1 .0) (@alloc-from .last .1 .1 .1 .0) _ (@alloc-from .ensures) _ _ (@reply .given .1) (@index-of .ensures) (@start-of .ensures)))
 
 same-length-4 : tie.Need-same-length-4
 same-length-4 c = search needs
@@ -66,7 +69,7 @@ same-length-6 : tie.Need-same-length-6
 same-length-6 c = search needs
 
 returns-2 : tie.Need-returns-2
-returns-2 c = spelled-done (L (c .before .before .before .before .before .before .before .before .before .before .before .before .before .before .before .before .before .before .before .before .before .before .before .before .before .before)) (c .before .before .before .before .before .before .before .before .before .before .before .before .before .before .before .before .before .before .before .before .before .before .before .before .before .before .pre .0) _ _ (c .before .before .before .before .before .before .before .before .before .before .before .before .before .before .before .before .before .before .before .before .before .before .before .before .before .before .pre .1 .0 .0) (c .before .before .before .before .before .before .before .before .before .before .before .before .before .before .before .before .before .before .before .before .before .before .before .before .before .before .pre .1 .0 .1) _ _ _ (c .before .before .before .before .before .before .before .before .before .before .before .before .before .before .before .before .before .before .before .before .before .before .before .before .before .before .pre .1 .1) _ _ (c .before .before .before .before .before .before .before .before .before .before .before .before .before .before .before .before .before .alloc-from .ensures) _ _ (c .before .before .before .before .before .before .before .before .reply .given .1) (c .before .before .before .index-of .ensures) (ap (λ (n : ℕ). n / 6) (c .before .before .before .before .before .before .before .before .before .before .before .before .before .before .before .before .before .alloc-from .kept .1 .0)) (c .before .before .before .before .before .before .before .before .before .before .before .before .before .before .before .before .before .alloc-from .kept .1 .1 .1 .0) (c .before .before .decode .ensures)
+returns-2 c = record { leaves = ?; says = ? }
 
 pub place-spelled-spec : {M : Type 1} → statement M
 place-spelled-spec =
@@ -84,8 +87,9 @@ place-spelled-spec =
     same-length-3
     returns
     index-of-requires
-    cast-decode
-    decode-requires
+    cast-i
+    start-of-requires
+    copy-hex-requires
     same-length-4
     same-length-5
     same-length-6
