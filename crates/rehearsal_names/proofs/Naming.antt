@@ -140,6 +140,7 @@ kept-real m (y ∷ ys) x e = go (eqb (y .handle) 0) refl (eqb (y .turn) m) e (λ
           where
             ne : y .handle ≡ x → (x ≡ 0 → ⊥)
             ne z w0 = let t : eqb (y .handle) 0 ≡ true = eq-eqb (y .handle) 0 (z ∙ w0) in let z1 : _≡_ {A = ℕ} 0 1 = cc in omega arith
+
             above : (x ≡ 0 → ⊥) → 1 ≤ x
             above f = elim (decLt 0 x) [ yes y ↦ y | no y ↦ absurd (f (omega arith)) ]
         at-turn false w k = ih k

@@ -49,7 +49,7 @@ abbrev code : Reply → ℕ
 code (Is a b) = 0
 code (Not why) = 1
 
-apart : {X : Type 0} (why : Refusal) → numberOf why ≡ 0 → X
+pub apart : {X : Type 0} (why : Refusal) → numberOf why ≡ 0 → X
 apart why e =
     let t : told (Not why) ≡ told (Is 0 0) = ap (λ (k : ℕ). record { number = k; first = 0; second = 0 }) e in
     let z : _≡_ {A = ℕ} 1 0 = ap code (told-once (Not why) (Is 0 0) t) in

@@ -39,8 +39,17 @@ module _ (st : State) (j k t : ℕ) (bytes bytes′ : List ℕ) (inside : j < le
       record {
         answer = e;
         heap = sym ((λ q. withSlot (withSlot st j old) (i q) (withBytes (there q) bytes′)) ∙ ap (λ (l : List Slot). record {
-          tag = st .tag; sinceGc = st .sinceGc; reclaimAt = st .reclaimAt; liveBytes = st .liveBytes; epoch = st .epoch; log = st .log; slots = l;
-          free = st .free; quarantine = st .quarantine; retired = st .retired; sealed = st .sealed
+          tag = st .tag;
+          sinceGc = st .sinceGc;
+          reclaimAt = st .reclaimAt;
+          liveBytes = st .liveBytes;
+          epoch = st .epoch;
+          log = st .log;
+          slots = l;
+          free = st .free;
+          quarantine = st .quarantine;
+          retired = st .retired;
+          sealed = st .sealed;
         }) (set-set (st .slots) j old (allocated (slotAt st j) k t 0 bytes′)));
         alive = ap live there ∙ lt-ltb 0 k low;
         data-there = ap (λ (s : Slot). s .bytes) there;

@@ -64,7 +64,7 @@ module _ {l : Lent} {S P : ℕ} (lies : l ≡ stored S P (new 1)) where
   start-begun T words n =
       record {
         there = λ i. record { world = seen-new i; held = no-names (slotCount l) words i; turns = 0; collections = 0; highest = sym no-sum i; answer = 0 };
-        open = refl;
+        alive = refl;
       }
 
 pub start-formed : {narrow wide pool words : List ℕ} {l : Lent} → LentRoom narrow wide pool words → l ≡ stored (length narrow / 6) (length pool) (new 1) → wellFormed l ≡ true

@@ -84,7 +84,7 @@ pub record Running (T : Table) (S P n : ℕ) (s : List ℕ) (l : Lent) (words : 
   pub left : readLines (drop at s) ≡ some rest
   pub whole : lines ++ rest ≡ linesOf s
   pub there : goingOn l words g ≡ runOf T S P n lines
-  pub open : g .answer ≡ 0
+  pub alive : g .answer ≡ 0
   pub few : length lines ≤ at
 
 pub running-first : {T : Table} {n : ℕ} {s : List ℕ} {l : Lent} {words : List ℕ} {g : Going} → InOrder l words g → Begun T l words g n → isText s ≡ true → Running T (slotCount l) (poolSize l) n s l words g 0
@@ -100,13 +100,13 @@ running-first {T} {n} {s} {l} {words} {g} order b t =
       left = text-lines s t;
       whole = refl;
       there = b .there;
-      open = b .open;
+      alive = b .alive;
       few = omega arith;
     }
 
 module _ {T : Table} {S P n : ℕ} {s : List ℕ} {l : Lent} {words : List ℕ} {g : Going} {at : ℕ} (v : Running T S P n s l words g at) where
   pub running-led : Led T l words g n
-  running-led = record { lines = v .lines; there = v .there ∙ (λ i. runOf T (sym (v .slots) i) (sym (v .pool) i) n (v .lines)); open = v .open }
+  running-led = record { lines = v .lines; there = v .there ∙ (λ i. runOf T (sym (v .slots) i) (sym (v .pool) i) n (v .lines)); alive = v .alive }
 
   pub running-short : at < length s → length s < 2 ^ 64 → Short g
   running-short less long =
@@ -156,7 +156,7 @@ module _ {T : Table} {S P n : ℕ} {s : List ℕ} {l : Lent} {words : List ℕ} 
       all-there = append-assoc (v .lines) (c ∷ []) (rest-after .0) ∙ ap (λ (r : List Step). v .lines ++ r) (some-inj (rest-after .2)) ∙ v .whole
 
       pub running-next : {at′ : ℕ} → at′ ≡ nextAfter (length s) line → g′ .answer ≡ 0 → Running T S P n s l′ words′ g′ at′
-      running-next {at′} e open =
+      running-next {at′} e alive =
           record {
             order = went .order;
             slots = eS ∙ v .slots;
@@ -167,7 +167,7 @@ module _ {T : Table} {S P n : ℕ} {s : List ℕ} {l : Lent} {words : List ℕ} 
             left = ap (λ (k : ℕ). readLines (drop k s)) e ∙ rest-after .1;
             whole = all-there;
             there = done-there;
-            open = open;
+            alive = alive;
             few = omega (arith, e, next-later, v .few, length-append (v .lines) (c ∷ []));
           }
 

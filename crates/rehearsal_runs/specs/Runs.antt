@@ -31,7 +31,7 @@ runOf T S P n ls = after (heaped T S P) n ls (starting (heaped T S P) n fresh)
 -- at the start of it
 pub record Begun (T : Table) (l : Lent) (words : List ℕ) (g : Going) (threshold : ℕ) : Type 0 where
   pub there : goingOn l words g ≡ starting (heaped T (slotCount l) (poolSize l)) threshold fresh
-  pub open : g .answer ≡ 0
+  pub alive : g .answer ≡ 0
 
 -- lent memory for a heap of S slots, and two words for each
 pub record LentRoom (narrow wide pool words : List ℕ) : Type 0 where

@@ -47,7 +47,20 @@ fn run_lines(
     while at < s.len() {
         let line = read_line(s, at);
         r = do_line(
-            types, fields, consts, bytes, r, narrow, wide, pool, s, line, threshold, words, marks, work,
+            types,
+            fields,
+            consts,
+            bytes,
+            r,
+            narrow,
+            wide,
+            pool,
+            s,
+            line,
+            threshold,
+            words,
+            marks,
+            work,
         );
         at = next_after(line, s.len());
         if r.answer != 0 {
@@ -91,7 +104,19 @@ fn rehearse_one(
         answer: 0,
     };
     run_lines(
-        types, fields, consts, bytes, g, narrow, wide, pool, s, threshold, words, marks, work,
+        types,
+        fields,
+        consts,
+        bytes,
+        g,
+        narrow,
+        wide,
+        pool,
+        s,
+        threshold,
+        words,
+        marks,
+        work,
     )
 }
 
@@ -142,7 +167,18 @@ pub fn rehearse_all(
     while i < thresholds.len() {
         let n = thresholds[i];
         let g = rehearse_one(
-            types, fields, consts, bytes, narrow, wide, pool, s, n, words, marks, work,
+            types,
+            fields,
+            consts,
+            bytes,
+            narrow,
+            wide,
+            pool,
+            s,
+            n,
+            words,
+            marks,
+            work,
         );
         h = g.heap;
         at = put_figures(out, at, n, g);

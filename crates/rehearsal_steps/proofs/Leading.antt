@@ -57,14 +57,14 @@ module _ {T : Table} {l : Lent} {words : List ℕ} {g : Going} {n : ℕ} (order 
   led-line line =
       after-one (heaped T (slotCount l) (poolSize l)) n (led .lines) line first
       ∙ ap (λ (r : Run State). unless (heaped T (slotCount l) (poolSize l)) n r (does (heaped T (slotCount l) (poolSize l)) n line)) (sym (led .there))
-      ∙ unless-open (heaped T (slotCount l) (poolSize l)) n (goingOn l words g) (does (heaped T (slotCount l) (poolSize l)) n line) (led .open)
+      ∙ unless-open (heaped T (slotCount l) (poolSize l)) n (goingOn l words g) (does (heaped T (slotCount l) (poolSize l)) n line) (led .alive)
 
-  module _ {l₁ : Lent} {g₁ : Going} (went : Goes l₁ words g₁ (collectingIn T l words g n)) (open : g₁ .answer ≡ 0) (eS : slotCount l₁ ≡ slotCount l) (eP : poolSize l₁ ≡ poolSize l) (t k : ℕ) (bs : List ℕ) where
+  module _ {l₁ : Lent} {g₁ : Going} (went : Goes l₁ words g₁ (collectingIn T l words g n)) (alive : g₁ .answer ≡ 0) (eS : slotCount l₁ ≡ slotCount l) (eP : poolSize l₁ ≡ poolSize l) (t k : ℕ) (bs : List ℕ) where
     pub led-alloc : doingIn T l words g n (alloc t k bs) ≡ allocating (heaped T (slotCount l) (poolSize l)) n t k bs (goingOn l₁ words g₁)
     unfolding does
     led-alloc =
         ap (λ (r : Run State). unless (heaped T (slotCount l) (poolSize l)) n r (allocating (heaped T (slotCount l) (poolSize l)) n t k bs)) (sym (went .is))
-        ∙ unless-open (heaped T (slotCount l) (poolSize l)) n (goingOn l₁ words g₁) (allocating (heaped T (slotCount l) (poolSize l)) n t k bs) open
+        ∙ unless-open (heaped T (slotCount l) (poolSize l)) n (goingOn l₁ words g₁) (allocating (heaped T (slotCount l) (poolSize l)) n t k bs) alive
 
     held-then : (x : ℕ) → allocCall (slotCount l) (poolSize l) k t 0 bs (view l₁) .answer ≡ ok x
         → after (heaped T (slotCount l) (poolSize l)) n (led .lines ++ alloc t k bs ∷ []) (starting (heaped T (slotCount l) (poolSize l)) n fresh) .held

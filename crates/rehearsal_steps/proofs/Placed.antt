@@ -59,7 +59,6 @@ module _ {l : Lent} {words : List ℕ} {g : Going} (order : InOrder l words g) (
 
   sound : Sound (slotCount l) (poolSize l) (view l)
   sound = formed-tested l (order .formed) .sound
-
   sums = alloc-sums (slotCount l) (poolSize l) (view l) sound k t bs
 
   allocated-run : allocatingIn l words g t k bs ≡ placed (heaped noTypes (slotCount l) (poolSize l)) 0 (goingOn l words g) (c .answer) (c .heap)
@@ -119,7 +118,7 @@ module _ {l : Lent} {words : List ℕ} {g : Going} (order : InOrder l words g) (
             turns = g .turns + 1;
             collections = g .collections;
             highest = (et ∙ ap (max (g .highest)) (sum ∙ ap (λ (x : State). liveSize (x .slots)) seen)) i;
-            answer = g .answer
+            answer = g .answer;
           }) ∙ held-run;
         }
       where

@@ -14,10 +14,8 @@ use Rattle.word.specs.Run.{run}
 use Rattle.word.proofs.RunLaws.{run-part, length-run}
 use Rattle.refusal.specs.Told.{numberOf, told, answered, here, nothing}
 use Rattle.refusal.specs.declared.Answer.{Answer}
-use Rattle.refusal.specs.declared.Refusal.{Refusal}
 use Rattle.refusal.specs.declared.Reply.{Reply}
 use Rattle.refusal.specs.declared.Reply.the-variants.{Is, Not}
-use Rattle.refusal.proofs.Numbers.{told-once}
 use Rattle.refusal.proofs.Reply.{the-type as reply-type}
 use Rattle.ty.specs.Types.{Table}
 use Rattle.heap.specs.State.{State, bit}
@@ -42,6 +40,7 @@ use Rattle.rehearsal_names.proofs.Naming.{entries-handles}
 use Rattle.rehearsal_steps.specs.declared.Going.{Going}
 use Rattle.rehearsal_steps.specs.Going.{goingOn, endedBy, InOrder, Short, Cleared, Goes}
 use Rattle.rehearsal_steps.specs.Steps.{collectingIn}
+use Rattle.rehearsal_place.proofs.Answering.{apart}
 use Rattle.rehearsal_steps.proofs.Rooting.{collected-kept}
 
 -- ---- whether it is due
@@ -76,16 +75,6 @@ leaving h none = ((λ n q. (refl, (refl, same-number 13 n q))), λ q. not-done 1
 leaving h (some m) = ((λ n q. was-done n q), λ q. (refl, swept-live h (m .marks) []))
 
 -- ---- what a reply says
-
-abbrev code : Reply → ℕ
-code (Is a b) = 0
-code (Not why) = 1
-
-apart : {X : Type 0} (why : Refusal) → numberOf why ≡ 0 → X
-apart why e =
-    let t : told (Not why) ≡ told (Is 0 0) = ap (λ (k : ℕ). record { number = k; first = 0; second = 0 }) e in
-    let z : _≡_ {A = ℕ} 1 0 = ap code (told-once (Not why) (Is 0 0) t) in
-    absurd (omega arith)
 
 pub says-refused : (reply : Reply) → OneOf (1 ∷ []) (tagOf reply-type reply) → (a : Result Unit) → told reply ≡ answered nothing nothing a → (k : ℕ) × (a ≡ refused k)
 says-refused (Is x y) o a e = absurd (miss (1 ∷ []) 0 tt o)

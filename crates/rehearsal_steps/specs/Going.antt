@@ -61,7 +61,7 @@ Whole h = (i : ℕ) → slotAt h i .start ≡ 0
 pub record Led (T : Table) (l : Lent) (words : List ℕ) (g : Going) (threshold : ℕ) : Type 0 where
   pub lines : List Line
   pub there : goingOn l words g ≡ after (heaped T (slotCount l) (poolSize l)) threshold lines (starting (heaped T (slotCount l) (poolSize l)) threshold fresh)
-  pub open : g .answer ≡ 0
+  pub alive : g .answer ≡ 0
 
 -- it stands for the run r
 pub record Goes (l : Lent) (words : List ℕ) (g : Going) (r : Run State) : Type 0 where

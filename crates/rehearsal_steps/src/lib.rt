@@ -186,7 +186,18 @@ fn do_alloc(
     ensures { λ _. ⌜ (now (marks .exit) ≡ now (marks .entry)) × (now (work .exit) ≡ now (work .entry)) ⌝ }
 {
     let r = collect_due(
-        types, fields, consts, bytes, g, narrow, wide, pool, threshold, words, marks, work,
+        types,
+        fields,
+        consts,
+        bytes,
+        g,
+        narrow,
+        wide,
+        pool,
+        threshold,
+        words,
+        marks,
+        work,
     );
     if r.answer == 0 {
         return allocate(r, narrow, wide, pool, s, a, words);
@@ -206,7 +217,14 @@ fn le_bytes(x: u64) -> [u8; 8]
     let g = f / 256;
     let h = g / 256;
     [
-        x as u8, b as u8, c as u8, d as u8, e as u8, f as u8, g as u8, h as u8,
+        x as u8,
+        b as u8,
+        c as u8,
+        d as u8,
+        e as u8,
+        f as u8,
+        g as u8,
+        h as u8,
     ]
 }
 
@@ -229,7 +247,15 @@ fn store_into(
         return false;
     };
     let bytes = le_bytes(x);
-    let Reply::Is(_, _) = heap_edit::write(heap, narrow, wide, pool, i as usize, offset as usize, &bytes) else {
+    let Reply::Is(_, _) = heap_edit::write(
+        heap,
+        narrow,
+        wide,
+        pool,
+        i as usize,
+        offset as usize,
+        &bytes,
+    ) else {
         return false;
     };
     true
@@ -304,7 +330,20 @@ pub fn do_line(
 {
     match line {
         Line::Alloc(a) => do_alloc(
-            types, fields, consts, bytes, g, narrow, wide, pool, s, a, threshold, words, marks, work,
+            types,
+            fields,
+            consts,
+            bytes,
+            g,
+            narrow,
+            wide,
+            pool,
+            s,
+            a,
+            threshold,
+            words,
+            marks,
+            work,
         ),
         Line::Store(a) => do_store(g, narrow, wide, pool, a, words),
         Line::Drop(turn, _) => do_drop(g, narrow.len() / 6, turn, words),

@@ -95,7 +95,19 @@ pub extern "C" fn yexwalu_rehearse(
         (length (now (narrow .entry))) (length (now (pool .entry))) (r .answer) (now (out .entry)) (now (out .exit)) ⌝ }
 {
     match admit(
-        types, fields, consts, bytes, narrow, wide, pool, text, thresholds, out, words, marks, work,
+        types,
+        fields,
+        consts,
+        bytes,
+        narrow,
+        wide,
+        pool,
+        text,
+        thresholds,
+        out,
+        words,
+        marks,
+        work,
     ) {
         Entry::Not(why) => Done {
             heap: heap,
@@ -103,7 +115,20 @@ pub extern "C" fn yexwalu_rehearse(
         },
         Entry::Ready => {
             let done = rehearsal_runs::rehearse_all(
-                types, fields, consts, bytes, heap, narrow, wide, pool, text, thresholds, out, words, marks, work,
+                types,
+                fields,
+                consts,
+                bytes,
+                heap,
+                narrow,
+                wide,
+                pool,
+                text,
+                thresholds,
+                out,
+                words,
+                marks,
+                work,
             );
             memory::clear_u64(words);
             let after = done.heap;

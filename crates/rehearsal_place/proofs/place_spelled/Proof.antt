@@ -45,7 +45,7 @@ same-length-3 : tie.Need-same-length-3
 same-length-3 c = search needs
 
 returns : tie.Need-returns
-returns c = spelled-refused (L (@start)) (@pre .0) _ _ (@pre .1 .0 .0) (@pre .1 .0 .1) _ _ _ (@pre .1 .1) (@alloc-from .result .heap) (@alloc-from .last .1 .0) (@alloc-from .last .1 .1 .0) (@alloc-from .last .1 .1 .1 .0) _ (@alloc-from .ensures) (@match .keys2)
+returns c = spelled-refused (L (c .before .before .before .before .before .before .before .before .before .before .before .before .before .before .before .before .before .before)) (c .before .before .before .before .before .before .before .before .before .before .before .before .before .before .before .before .before .before .pre .0) _ _ (c .before .before .before .before .before .before .before .before .before .before .before .before .before .before .before .before .before .before .pre .1 .0 .0) (c .before .before .before .before .before .before .before .before .before .before .before .before .before .before .before .before .before .before .pre .1 .0 .1) _ _ _ (c .before .before .before .before .before .before .before .before .before .before .before .before .before .before .before .before .before .before .pre .1 .1) (c .before .before .before .before .before .before .before .before .before .alloc-from .result .heap) (c .before .before .before .before .before .before .before .before .before .alloc-from .last .1 .0) (c .before .before .before .before .before .before .before .before .before .alloc-from .last .1 .1 .0) (c .before .before .before .before .before .before .before .before .before .alloc-from .last .1 .1 .1 .0) _ (c .before .before .before .before .before .before .before .before .before .alloc-from .ensures) (c .before .match .keys2)
 
 index-of-requires : tie.Need-index-of-requires
 index-of-requires c κs = search needs
@@ -54,10 +54,10 @@ cast-i : tie.Need-cast-i
 cast-i c = search needs
 
 start-of-requires : tie.Need-start-of-requires
-start-of-requires c κs = spelled-start (L (@start)) (@pre .0) _ _ (@pre .1 .0 .0) (@pre .1 .0 .1) _ _ _ (@pre .1 .1) (@alloc-from .result .heap) (@alloc-from .last .1 .0) (@alloc-from .last .1 .1 .0) (@alloc-from .last .1 .1 .1 .0) _ (@alloc-from .ensures) _ _ (@reply .given .1) (@index-of .ensures)
+start-of-requires c κs = spelled-start (L (c .before .before .before .before .before .before .before .before .before .before .before .before .before .before .before .before .before .before .before .before .before)) (c .before .before .before .before .before .before .before .before .before .before .before .before .before .before .before .before .before .before .before .before .before .pre .0) _ _ (c .before .before .before .before .before .before .before .before .before .before .before .before .before .before .before .before .before .before .before .before .before .pre .1 .0 .0) (c .before .before .before .before .before .before .before .before .before .before .before .before .before .before .before .before .before .before .before .before .before .pre .1 .0 .1) _ _ _ (c .before .before .before .before .before .before .before .before .before .before .before .before .before .before .before .before .before .before .before .before .before .pre .1 .1) (c .before .before .before .before .before .before .before .before .before .before .before .before .alloc-from .result .heap) (c .before .before .before .before .before .before .before .before .before .before .before .before .alloc-from .last .1 .0) (c .before .before .before .before .before .before .before .before .before .before .before .before .alloc-from .last .1 .1 .0) (c .before .before .before .before .before .before .before .before .before .before .before .before .alloc-from .last .1 .1 .1 .0) _ (c .before .before .before .before .before .before .before .before .before .before .before .before .alloc-from .ensures) _ _ (c .before .before .before .reply .given .1) (c .before .index-of .ensures)
 
 copy-hex-requires : tie.Need-copy-hex-requires
-copy-hex-requires c κs = (@pre .1 .1 .parsed, (@pre .1 .1 .counted, spelled-fits (L (@start)) (@pre .0) _ _ (@pre .1 .0 .0) (@pre .1 .0 .1) _ _ _ (@pre .1 .1) (@alloc-from .result .heap) (@alloc-from .last .1 .0) (@alloc-from .last .1 .1 .0) (@alloc-from .last .1 .1 .1 .0) _ (@alloc-from .ensures) _ _ (@reply .given .1) (@index-of .ensures) (@start-of .ensures)))
+copy-hex-requires c κs = (c .before .before .before .before .before .before .before .before .before .before .before .before .before .before .before .before .before .before .before .before .before .before .before .pre .1 .1 .parsed, (c .before .before .before .before .before .before .before .before .before .before .before .before .before .before .before .before .before .before .before .before .before .before .before .pre .1 .1 .counted, spelled-fits (L (c .before .before .before .before .before .before .before .before .before .before .before .before .before .before .before .before .before .before .before .before .before .before .before)) (c .before .before .before .before .before .before .before .before .before .before .before .before .before .before .before .before .before .before .before .before .before .before .before .pre .0) _ _ (c .before .before .before .before .before .before .before .before .before .before .before .before .before .before .before .before .before .before .before .before .before .before .before .pre .1 .0 .0) (c .before .before .before .before .before .before .before .before .before .before .before .before .before .before .before .before .before .before .before .before .before .before .before .pre .1 .0 .1) _ _ _ (c .before .before .before .before .before .before .before .before .before .before .before .before .before .before .before .before .before .before .before .before .before .before .before .pre .1 .1) (c .before .before .before .before .before .before .before .before .before .before .before .before .before .before .alloc-from .result .heap) (c .before .before .before .before .before .before .before .before .before .before .before .before .before .before .alloc-from .last .1 .0) (c .before .before .before .before .before .before .before .before .before .before .before .before .before .before .alloc-from .last .1 .1 .0) (c .before .before .before .before .before .before .before .before .before .before .before .before .before .before .alloc-from .last .1 .1 .1 .0) _ (c .before .before .before .before .before .before .before .before .before .before .before .before .before .before .alloc-from .ensures) _ _ (c .before .before .before .before .before .reply .given .1) (c .before .before .before .index-of .ensures) (c .before .start-of .ensures)))
 
 same-length-4 : tie.Need-same-length-4
 same-length-4 c = search needs
