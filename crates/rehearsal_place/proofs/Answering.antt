@@ -121,7 +121,7 @@ module _ (l : Lent) (w : wellFormed l ≡ true) (k t : ℕ) (low : 1 ≤ k) (hig
     spelled-fits {i} e ea = decode-room h₁ n₁ w₁ p₁ s from count i (spelled-can e) ea
 
     pub spelled-done : {i at r : ℕ} {p₂ : List ℕ} → i ≡ indexOf x → at ≡ startOf (run (length n₁ / 6) (length n₁ / 6) w₁) i → Puts p₁ p₂ at r (hexAt s from)
-        → length n₁ / 6 ≡ slotCount l → length p₁ ≡ poolSize l → PlaceDoes l (lent h₁ n₁ w₁ p₂) reply k t (hexAt s from)
+        → length n₁ / 6 ≡ slotCount l → length p₁ ≡ poolSize l → PlaceDoes l (lent h₁ n₁ w₁ p₂) (Is x y) k t (hexAt s from)
     spelled-done {i} {at} {r} {p₂} e ea put S P =
         let left : Decoded l₁ (lent h₁ n₁ w₁ p₂) (hexAt s from) i = decode-done h₁ n₁ w₁ p₁ s from count i (spelled-can e) ea put in
         record {
@@ -129,7 +129,7 @@ module _ (l : Lent) (w : wellFormed l ≡ true) (k t : ℕ) (low : 1 ≤ k) (hig
             lies = left .lies ∙ (λ q. stored (S q) (P q) (withData (seen q) (e q) (hexAt s from))) ∙ ap (stored (slotCount l) (poolSize l)) (sym (instead .heap));
             formed = left .formed;
           };
-          says = ap told is ∙ says-ok ∙ ap (answered here nothing) (sym (instead .answer));
+          says = says-ok ∙ ap (answered here nothing) (sym (instead .answer));
         }
       where
         says-ok : told (Is x y) ≡ answered here nothing (ok x)

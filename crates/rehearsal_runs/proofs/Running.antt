@@ -110,7 +110,7 @@ module _ {T : Table} {S P n : ℕ} {s : List ℕ} {l : Lent} {words : List ℕ} 
 
   pub running-short : at < length s → length s < 2 ^ 64 → Short g
   running-short less long =
-      let c = counted-after (heaped T S P) n (v .lines) in
+      let c = counted-after (heaped T S P) n (v .lines) fresh in
       record {
         few-turns = omega (arith, v .few, c .0, ap (λ (r : Run State). r .turns) (v .there));
         few-collections = omega (arith, v .few, c .1, ap (λ (r : Run State). r .collections) (v .there));

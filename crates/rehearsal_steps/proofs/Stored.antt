@@ -22,7 +22,7 @@ use Rattle.refusal.proofs.Reply.{the-type as reply-type}
 use Rattle.heap.specs.State.{Slot, State, noSlot, slotAt, live}
 use Rattle.heap.specs.Lent.{Lent, stored, view, slotCount, poolSize}
 use Rattle.heap.specs.WellFormed.{wellFormed}
-use Rattle.heap.specs.Calls.{Changed, refuse, done, onSlot, resolve, rewritten, withSlot, write}
+use Rattle.heap.specs.Calls.{Changed, refuse, done, onSlot, resolve, rewritten, withSlot, write, takeSlot, free}
 use Rattle.heap.specs.Done.{Leaves, Tells}
 use Rattle.heap.proofs.Storing.{view-stored}
 use Rattle.heap.proofs.Testing.{formed-tested}
@@ -37,7 +37,7 @@ use Rattle.rehearsal_names.specs.Names.{entriesIn, named, orZero, Names}
 use Rattle.rehearsal_names.proofs.Naming.{kept-real}
 use Rattle.rehearsal_names.proofs.Rising.{rising-front}
 use Rattle.rehearsal_place.proofs.Answering.{is-ok, is-refused}
-use Rattle.script.proofs.Refusing.{Numbered}
+use Rattle.script.proofs.Refusing.{Numbered, free-numbered}
 use Rattle.rehearsal_steps.specs.declared.Going.{Going}
 use Rattle.rehearsal_steps.specs.Going.{goingOn, endedBy, InOrder, Whole, Goes}
 use Rattle.rehearsal_steps.specs.Steps.{noTypes, StoresInto, storingIn}
@@ -45,6 +45,15 @@ use Rattle.rehearsal_steps.proofs.Sums.{size-same}
 use Rattle.rehearsal_steps.proofs.Swept.{same-number, not-done, was-done, says-refused, says-ok}
 
 -- ---- the call
+
+-- a handle is never refused with the number 0
+by-slot : (h : State) (r : Result ℕ) (f : ℕ → State) → Numbered (onSlot {A = Unit} h r (λ i. done tt (f i)) .answer) → Numbered r
+by-slot h (ok i) f n = tt
+by-slot h (refused k) f n = n
+
+pub resolve-numbered : (h : State) (x : ℕ) → Numbered (resolve h x)
+unfolding free
+resolve-numbered h x = by-slot h (resolve h x) (λ i. takeSlot h i .heap) (free-numbered h x)
 
 -- refused (9) with nothing changed, or the sum stays
 abbrev Wrote : State → Changed Unit → Type 0
@@ -59,9 +68,9 @@ module _ (l : Lent) (w : wellFormed l ≡ true) (whole : Whole (view l)) (x y at
   store-unresolved (Not why) o e =
       (ap (λ (r : Result ℕ). left (onSlot (view l) r (λ i. write (view l) i at (bytesOf 8 x)))) (is-refused why (resolve (view l) y) e), refl)
 
-  module _ {i j : ℕ} {reply : Reply} (f : reply ≡ Is i j) (e : told reply ≡ answered here nothing (resolve (view l) y)) (n : Numbered (resolve (view l) y)) where
+  module _ {i j : ℕ} {reply : Reply} (f : reply ≡ Is i j) (e : told reply ≡ answered here nothing (resolve (view l) y)) where
     resolved : resolve (view l) y ≡ ok i
-    resolved = is-ok (resolve (view l) y) n (sym (ap told f) ∙ e)
+    resolved = is-ok (resolve (view l) y) (resolve-numbered (view l) y) (sym (ap told f) ∙ e)
 
     alive : live (slotAt (view l) i) ≡ true
     alive = resolved-live (view l) y i resolved
