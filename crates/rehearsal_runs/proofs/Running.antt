@@ -23,7 +23,7 @@ use Rattle.rehearsal_lines.specs.declared.Line.the-variants.{Alloc, Store, Drop
 use Rattle.rehearsal_steps.specs.declared.Going.{Going}
 use Rattle.rehearsal_steps.specs.Going.{goingOn, InOrder, Short, Led, Goes}
 use Rattle.rehearsal_steps.specs.Steps.{doingIn, lineDoes}
-use Rattle.rehearsal_steps.proofs.Leading.{led-line}
+use Rattle.rehearsal_line.proofs.Leading.{led-line}
 use Rattle.rehearsal_runs.specs.Runs.{orNone, linesOf, runOf, Begun}
 
 -- lists of the same lengths

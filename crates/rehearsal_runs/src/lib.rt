@@ -1,9 +1,9 @@
 // The rehearsal of one threshold after another (request [12]), each from a new heap, and the line that is printed of each.
 use heap::Heap;
+use rehearsal_line::do_line;
 use rehearsal_lines::next_after;
 use rehearsal_lines::read_line;
 use rehearsal_steps::Going;
-use rehearsal_steps::do_line;
 ghost use mathlib.Core.Path.{_≡_};
 ghost use mathlib.Core.Bool.{true};
 ghost use mathlib.Core.List.{[], _∷_, _++_};

@@ -69,7 +69,7 @@ same-length-6 : tie.Need-same-length-6
 same-length-6 c = search needs
 
 returns-2 : tie.Need-returns-2
-returns-2 c = spelled-done (L (@start)) (@pre .0) _ _ (@pre .1 .0 .0) (@pre .1 .0 .1) _ _ _ (@pre .1 .1) (@alloc-from .result .heap) (@alloc-from .last .1 .0) (@alloc-from .last .1 .1 .0) (@alloc-from .last .1 .1 .1 .0) _ (@alloc-from .ensures) _ _ (@reply .given .1) (@index-of .ensures) (@start-of .ensures) (@copy-hex .ensures) (ap (λ (n : ℕ). n / 6) (@alloc-from .kept .1 .0)) (@alloc-from .kept .1 .1 .1 .0)
+returns-2 c = spelled-done (L (c .before .before .before .before .before .before .before .before .before .before .before .before .before .before .before .before .before .before .before .before .before .before .before .before .before .before)) (c .before .before .before .before .before .before .before .before .before .before .before .before .before .before .before .before .before .before .before .before .before .before .before .before .before .before .pre .0) _ _ (c .before .before .before .before .before .before .before .before .before .before .before .before .before .before .before .before .before .before .before .before .before .before .before .before .before .before .pre .1 .0 .0) (c .before .before .before .before .before .before .before .before .before .before .before .before .before .before .before .before .before .before .before .before .before .before .before .before .before .before .pre .1 .0 .1) _ _ _ (c .before .before .before .before .before .before .before .before .before .before .before .before .before .before .before .before .before .before .before .before .before .before .before .before .before .before .pre .1 .1) (c .before .before .before .before .before .before .before .before .before .before .before .before .before .before .before .before .before .alloc-from .result .heap) (c .before .before .before .before .before .before .before .before .before .before .before .before .before .before .before .before .before .alloc-from .last .1 .0) (c .before .before .before .before .before .before .before .before .before .before .before .before .before .before .before .before .before .alloc-from .last .1 .1 .0) (c .before .before .before .before .before .before .before .before .before .before .before .before .before .before .before .before .before .alloc-from .last .1 .1 .1 .0) _ (c .before .before .before .before .before .before .before .before .before .before .before .before .before .before .before .before .before .alloc-from .ensures) _ _ (c .before .before .before .before .before .before .before .before .reply .given .1) (c .before .before .before .before .before .before .index-of .ensures) (c .before .before .before .before .start-of .ensures) (c .before .before .copy-hex .ensures) (ap (λ (n : ℕ). n / 6) (c .before .before .before .before .before .before .before .before .before .before .before .before .before .before .before .before .before .alloc-from .kept .1 .0)) (c .before .before .before .before .before .before .before .before .before .before .before .before .before .before .before .before .before .alloc-from .kept .1 .1 .1 .0)
 
 pub place-spelled-spec : {M : Type 1} → statement M
 place-spelled-spec =
