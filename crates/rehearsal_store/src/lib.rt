@@ -27,14 +27,14 @@ fn le_bytes(x: u64) -> [u8; 8]
     let g = f / 256;
     let h = g / 256;
     [
-        x as u8,
-        b as u8,
-        c as u8,
-        d as u8,
-        e as u8,
-        f as u8,
-        g as u8,
-        h as u8,
+        (x % 256) as u8,
+        (b % 256) as u8,
+        (c % 256) as u8,
+        (d % 256) as u8,
+        (e % 256) as u8,
+        (f % 256) as u8,
+        (g % 256) as u8,
+        (h % 256) as u8,
     ]
 }
 
