@@ -13,8 +13,10 @@ use Rattle.heap.specs.Lent.{Lent, view, slotCount, poolSize}
 use Rattle.heap_calls.specs.Pins.{risingFrom}
 use Rattle.script.specs.Found.{DataThere}
 use Rattle.rehearsal.specs.Lines.{Line as Step, alloc, store, drop}
-use Rattle.rehearsal.specs.Runs.{Run, heldAt, collecting, allocating, storing, dropping, does, unless}
-use Rattle.rehearsal.specs.OnHeap.{heaped}
+use Rattle.word.specs.Choice.{if_then_else_}
+use Rattle.heap.specs.Calls.{gcDue}
+use Rattle.rehearsal.specs.Runs.{Run, heldAt, handles, swept, collecting, allocating, storing, dropping, does, unless}
+use Rattle.rehearsal.specs.OnHeap.{heaped, collectsHeap}
 use Rattle.rehearsal.proofs.Holding.{unless-ended}
 use Rattle.rehearsal_lines.specs.Found.{allocAt, storeOf, stepIn, DataIn}
 use Rattle.rehearsal_lines.specs.declared.Line.{Line}
@@ -31,9 +33,22 @@ alloc-any : (T : Table) (S P n t k : ℕ) (bs : List ℕ) (r : Run State) → al
 unfolding allocating heaped
 alloc-any T S P n t k bs r = refl
 
+-- a collection counts no turn
+collecting-turns : (T : Table) (S P n : ℕ) (r : Run State) → collecting (heaped T S P) n r .turns ≡ r .turns
+unfolding collecting heaped
+collecting-turns T S P n r = go (gcDue (r .world) n) (collectsHeap T (handles (r .held)) (r .world))
+  where
+    go : (b : Bool) (o : Option State) → (if b then swept (heaped T S P) n r o else r) .turns ≡ r .turns
+    go true none = refl
+    go true (some w) = refl
+    go false o = refl
+
 -- ---- `alloc`
 
 module _ {T : Table} {l : Lent} {words : List ℕ} {g : Going} {n : ℕ} {l₁ : Lent} {g₁ : Going} (went : Goes l₁ words g₁ (collectingIn T l words g n)) (t k : ℕ) (bs : List ℕ) where
+  pub same-turns : g₁ .turns ≡ g .turns
+  same-turns = ap (λ (r : Run State). r .turns) (went .is) ∙ collecting-turns T (slotCount l) (poolSize l) n (goingOn l words g)
+
   pub alloc-ends : (g₁ .answer ≡ 0 → ⊥) → Goes l₁ words g₁ (doingIn T l words g n (alloc t k bs))
   unfolding does
   alloc-ends ne =
@@ -105,7 +120,7 @@ drop-header {S} {turn} {words} {words′} {g} {g′} d = ap (λ (x : Going). x .
 
 -- ---- a line
 
-module _ {T : Table} {l : Lent} {words : List ℕ} {g : Going} {n : ℕ} {l₁ : Lent} {words′ : List ℕ} {g₁ : Going} {s : List ℕ} where
+module _ {T : Table} {l : Lent} {words : List ℕ} {g : Going} {n : ℕ} {l₁ : Lent} {words′ : List ℕ} {g₁ : Going} (s : List ℕ) where
   -- the line that it is
   pub as-line : (line : Line) (c : Step) → stepIn s line ≡ some c → Goes l₁ words′ g₁ (doingIn T l words g n c) → Goes l₁ words′ g₁ (lineDoes T l words g n (stepIn s line))
   as-line line c e d = subst (λ (o : Option Step). Goes l₁ words′ g₁ (lineDoes T l words g n o)) (sym e) d
@@ -113,5 +128,5 @@ module _ {T : Table} {l : Lent} {words : List ℕ} {g : Going} {n : ℕ} {l₁ :
 pub alloc-data : (s : List ℕ) (line : Line) (a : AllocLine) → line ≡ Alloc a → DataIn s line → DataThere s a
 alloc-data s line a e d = subst (DataIn s) e d
 
-pub bad-line : {T : Table} {l : Lent} {words : List ℕ} {g : Going} {n : ℕ} {s : List ℕ} (line : Line) → InOrder l words g → line ≡ Bad → Goes l words g (lineDoes T l words g n (stepIn s line))
-bad-line {T} {l} {words} {g} {n} {s} line order e = subst (λ (x : Line). Goes l words g (lineDoes T l words g n (stepIn s x))) (sym e) (record { order = order; is = refl })
+pub bad-line : {T : Table} {l : Lent} {words : List ℕ} {g : Going} {n : ℕ} (s : List ℕ) (line : Line) → InOrder l words g → line ≡ Bad → Goes l words g (lineDoes T l words g n (stepIn s line))
+bad-line {T} {l} {words} {g} {n} s line order e = subst (λ (x : Line). Goes l words g (lineDoes T l words g n (stepIn s x))) (sym e) (record { order = order; is = refl })

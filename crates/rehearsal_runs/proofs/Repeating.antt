@@ -31,7 +31,7 @@ use Rattle.rehearsal_names.specs.Names.{entries, kept, named}
 use Rattle.rehearsal_steps.specs.declared.Going.{Going}
 use Rattle.rehearsal_steps.specs.Going.{goingOn, InOrder, Goes}
 use Rattle.rehearsal_runs.specs.Runs.{linesOf, runOf, Begun, LentRoom, figuresIn, CanPut, memoryAfter, Rehearses}
-use Rattle.rehearsal_runs.proofs.Running.{text-lines}
+use Rattle.rehearsal_runs.proofs.Running.{Sizes as Same, text-lines}
 
 -- ---- at the start
 
@@ -70,6 +70,17 @@ module _ {l : Lent} {S P : ℕ} (lies : l ≡ stored S P (new 1)) where
 pub start-formed : {narrow wide pool words : List ℕ} {l : Lent} → LentRoom narrow wide pool words → l ≡ stored (length narrow / 6) (length pool) (new 1) → wellFormed l ≡ true
 start-formed {narrow} {wide} {pool} r lies =
     ap wellFormed lies ∙ made-formed (length narrow) (length wide) (length pool) 1 (record { low = r .low; high = r .high; pool = r .small; narrow = r .six; wide = r .four })
+
+pub room-same : {n₀ n₁ w₀ w₁ p₀ p₁ a₀ a₁ m₀ m₁ k₀ k₁ : List ℕ} → LentRoom n₀ w₀ p₀ a₀ → Same n₀ n₁ w₀ w₁ p₀ p₁ a₀ a₁ m₀ m₁ k₀ k₁ → LentRoom n₁ w₁ p₁ a₁
+room-same r z =
+    record {
+      six = z .narrow ∙ r .six ∙ ap (λ (n : ℕ). 6 * (n / 6)) (sym (z .narrow));
+      four = z .wide ∙ r .four ∙ ap (λ (n : ℕ). 4 * (n / 6)) (sym (z .narrow));
+      low = omega (arith, r .low, ap (λ (n : ℕ). n / 6) (z .narrow));
+      high = omega (arith, r .high, ap (λ (n : ℕ). n / 6) (z .narrow));
+      small = omega (arith, r .small, z .pool);
+      names = omega (arith, r .names, ap (λ (n : ℕ). n / 6) (z .narrow), z .words);
+    }
 
 -- ---- after a run
 

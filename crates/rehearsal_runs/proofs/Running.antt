@@ -21,7 +21,7 @@ use Rattle.rehearsal_lines.specs.Found.{Reads, LineRead, nextAfter, stepIn, Dat
 use Rattle.rehearsal_lines.specs.declared.Line.{Line}
 use Rattle.rehearsal_lines.specs.declared.Line.the-variants.{Alloc, Store, Drop, Bad}
 use Rattle.rehearsal_steps.specs.declared.Going.{Going}
-use Rattle.rehearsal_steps.specs.Going.{goingOn, InOrder, Short, Led, Goes}
+use Rattle.rehearsal_steps.specs.Going.{goingOn, InOrder, Short, Cleared, Led, Goes}
 use Rattle.rehearsal_steps.specs.Steps.{doingIn, lineDoes}
 use Rattle.rehearsal_line.proofs.Leading.{led-line}
 use Rattle.rehearsal_runs.specs.Runs.{orNone, linesOf, runOf, Begun}
@@ -40,6 +40,16 @@ same n w p a m k = record { narrow = refl; wide = refl; pool = refl; words = ref
 
 pub on : {n₀ n n′ w₀ w w′ p₀ p p′ a₀ a a′ m₀ m m′ k₀ k k′ : List ℕ} → Sizes n n′ w w′ p p′ a a′ m m′ k k′ → Sizes n₀ n w₀ w p₀ p a₀ a m₀ m k₀ k → Sizes n₀ n′ w₀ w′ p₀ p′ a₀ a′ m₀ m′ k₀ k′
 on x y = record { narrow = x .narrow ∙ y .narrow; wide = x .wide ∙ y .wide; pool = x .pool ∙ y .pool; words = x .words ∙ y .words; marks = x .marks ∙ y .marks; work = x .work ∙ y .work }
+
+-- scratch that stays zero
+pub still-clear : {n₀ n₁ w₀ w₁ p₀ p₁ a₀ a₁ m₀ m₁ k₀ k₁ : List ℕ} → Cleared (length n₀ / 6) m₀ k₀ → Sizes n₀ n₁ w₀ w₁ p₀ p₁ a₀ a₁ m₀ m₁ k₀ k₁ → Cleared (length n₁ / 6) m₁ k₁
+still-clear {n₀ = n₀} {n₁ = n₁} {m₀ = m₀} {k₀ = k₀} c z =
+    subst (λ (m : List ℕ). Cleared (length n₁ / 6) m _) (sym (z .marks))
+    (subst (λ (k : List ℕ). Cleared (length n₁ / 6) m₀ k) (sym (z .work))
+    (subst (λ (s : ℕ). Cleared (s / 6) m₀ k₀) (sym (z .narrow)) c))
+
+pub goes-sizes : {T : Table} {S S₁ P P₁ n : ℕ} {ls : List Step} {l : Lent} {words : List ℕ} {g : Going} → S₁ ≡ S → P₁ ≡ P → Goes l words g (runOf T S₁ P₁ n ls) → Goes l words g (runOf T S P n ls)
+goes-sizes {T} {n = n} {ls = ls} a b d = record { order = d .order; is = d .is ∙ (λ i. runOf T (a i) (b i) n ls) }
 
 -- ---- lines
 

@@ -63,7 +63,7 @@ fn run_lines(
             work,
         );
         at = next_after(line, s.len());
-        if r.answer != 0 {
+        if r.answer == 0 {} else {
             return r;
         }
     }

@@ -90,6 +90,14 @@ live-shown : (l : Lent) → l .header .«live_bytes» ≡ view l .liveBytes
 unfolding view
 live-shown l = refl
 
+module _ {l : Lent} {words : List ℕ} {g : Going} (order : InOrder l words g) where
+  pub can-collect : {marks work : List ℕ} → Cleared (slotCount l) marks work → CanCollect l [] marks work
+  unfolding risingFrom
+  can-collect c = record { formed = order .formed; rises = refl; marks-clear = c .marks-clear; marks-room = c .marks-room; work-clear = c .work-clear; work-room = c .work-room }
+
+  pub roots-end : slotCount l + g .held ≤ length words
+  roots-end = omega (arith, order .room, order .count)
+
 module _ (T : Table) (l : Lent) (words : List ℕ) (g : Going) (n : ℕ) (order : InOrder l words g) where
   abbrev G : World State
   G = heaped T (slotCount l) (poolSize l)
@@ -104,14 +112,7 @@ module _ (T : Table) (l : Lent) (words : List ℕ) (g : Going) (n : ℕ) (order 
   unfolding collecting heaped
   not-due q e z = record { order = order; is = sym (ap (λ (b : Bool). if b then sweptRun G n r (collectsHeap T (handles (r .held)) (view l)) else r) (due-bit (gcDue (view l) n) (sym (due-says q e) ∙ z))) }
 
-  pub can-collect : {marks work : List ℕ} → Cleared (slotCount l) marks work → CanCollect l [] marks work
-  unfolding risingFrom
-  can-collect c = record { formed = order .formed; rises = refl; marks-clear = c .marks-clear; marks-room = c .marks-room; work-clear = c .work-clear; work-room = c .work-room }
-
   -- ---- from the handles of all entries
-
-  pub roots-end : slotCount l + g .held ≤ length words
-  roots-end = omega (arith, order .room, order .count)
 
   abbrev roots : ℕ → List ℕ
   roots e = take (e - slotCount l) (drop (slotCount l) words)

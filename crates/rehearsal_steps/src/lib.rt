@@ -5,13 +5,13 @@ use rehearsal_names::hold;
 use rehearsal_place::place;
 use script::AllocLine;
 ghost use mathlib.Core.Path.{_≡_};
-ghost use Prim.Native.Nat.{_/_, max};
+ghost use Prim.Native.Nat.{_+_, _/_, _^_, _<_, max};
 ghost use lib.ListN.{length};
 ghost use Rattle.text.specs.Answer.{hexAt};
 ghost use Rattle.ty.specs.View.{tableOf};
 ghost use Rattle.heap.specs.Lent.{lent};
 ghost use Rattle.script.specs.Found.{DataThere};
-ghost use Rattle.rehearsal_steps.specs.Going.{endedBy, InOrder, Short, Cleared, Goes};
+ghost use Rattle.rehearsal_steps.specs.Going.{InOrder, Short, Cleared, Goes};
 ghost use Rattle.rehearsal_steps.specs.Steps.{CanHoldMore, collectingIn, allocatingIn};
 
 // A rehearsal under way: its heap, the sum of length plus 32 over live objects, how many entries of names are in use, and what is counted. An answer other than 0 has
@@ -31,21 +31,6 @@ fn higher(a: u64, b: u64) -> u64
     ensures { λ r. ⌜ r ≡ max a b ⌝ }
 {
     if a < b { b } else { a }
-}
-
-// Ended by this answer, with this heap.
-pub fn ended(g: Going, heap: Heap, answer: u64) -> Going
-    ensures { λ r. ⌜ r ≡ endedBy g heap answer ⌝ }
-{
-    Going {
-        heap: heap,
-        size: g.size,
-        held: g.held,
-        turns: g.turns,
-        collections: g.collections,
-        highest: g.highest,
-        answer: answer,
-    }
 }
 
 // A due collection from the held handles: counted, or 13 ends it.
@@ -95,7 +80,15 @@ pub fn collect_due(
     let after = done.heap;
     let reply = done.reply;
     let Reply::Is(_, _) = reply else {
-        return ended(g, after, 13);
+        return Going {
+            heap: after,
+            size: g.size,
+            held: g.held,
+            turns: g.turns,
+            collections: g.collections,
+            highest: g.highest,
+            answer: 13,
+        };
     };
     Going {
         heap: after,
@@ -119,7 +112,7 @@ pub fn allocate(
     words: &mut [u64],
 ) -> Going
     requires { ⌜ InOrder (lent (g .heap) (now narrow) (now wide) (now pool)) (now words) g ⌝ }
-    requires { ⌜ Short g ⌝ }
+    requires { ⌜ g .turns + 1 < 2 ^ 64 ⌝ }
     requires { ⌜ DataThere (now s) a ⌝ }
     requires { ⌜ CanHoldMore (lent (g .heap) (now narrow) (now wide) (now pool)) (now words) g (a .ty) (a .kind) (hexAt (now s) (a .from)) ⌝ }
     ensures { λ r. ⌜ Goes (lent (r .heap) (now (narrow .exit)) (now (wide .exit)) (now (pool .exit))) (now (words .exit)) r
@@ -146,5 +139,13 @@ pub fn allocate(
             answer: g.answer,
         };
     }
-    ended(g, after, told.number)
+    Going {
+        heap: after,
+        size: g.size,
+        held: g.held,
+        turns: g.turns,
+        collections: g.collections,
+        highest: g.highest,
+        answer: told.number,
+    }
 }

@@ -20,7 +20,7 @@ use Rattle.refusal.specs.declared.Reply.{Reply}
 use Rattle.refusal.specs.declared.Reply.the-variants.{Is, Not}
 use Rattle.refusal.proofs.Reply.{the-type as reply-type}
 use Rattle.heap.specs.State.{Slot, State, noSlot, slotAt, live}
-use Rattle.heap.specs.Lent.{Lent, stored, view, slotCount, poolSize}
+use Rattle.heap.specs.Lent.{Lent, lent, stored, view, slotCount, poolSize}
 use Rattle.heap.specs.WellFormed.{wellFormed}
 use Rattle.heap.specs.Calls.{Changed, refuse, done, onSlot, resolve, rewritten, withSlot, write, takeSlot, free}
 use Rattle.heap.specs.Done.{Leaves, Tells}
@@ -33,14 +33,14 @@ use Rattle.heap_edit.proofs.Cases.{write-beyond, write-done}
 use Rattle.collection.specs.Swept.{liveSize}
 use Rattle.rehearsal.specs.Runs.{Run, heldAt, storing, wrote, ends}
 use Rattle.rehearsal.specs.OnHeap.{heaped, storesHeap, left}
-use Rattle.rehearsal_names.specs.Names.{entriesIn, named, orZero, Names}
+use Rattle.rehearsal_names.specs.Names.{entriesIn, named, orZero, Names, LetGo}
 use Rattle.rehearsal_names.proofs.Naming.{kept-real}
 use Rattle.rehearsal_names.proofs.Rising.{rising-front}
 use Rattle.rehearsal_place.proofs.Answering.{is-ok, is-refused}
 use Rattle.script.proofs.Refusing.{Numbered, free-numbered}
 use Rattle.rehearsal_steps.specs.declared.Going.{Going}
 use Rattle.rehearsal_steps.specs.Going.{goingOn, endedBy, InOrder, Whole, Goes}
-use Rattle.rehearsal_steps.specs.Steps.{noTypes, StoresInto, storingIn}
+use Rattle.rehearsal_steps.specs.Steps.{noTypes, StoresInto, afterDrop, Dropped, storingIn}
 use Rattle.rehearsal_steps.proofs.Sums.{size-same}
 use Rattle.rehearsal_steps.proofs.Swept.{same-number, not-done, was-done, says-refused, says-ok}
 
@@ -118,11 +118,11 @@ module _ {l : Lent} {words : List ℕ} {g : Going} (order : InOrder l words g) (
   names-there = record { room = order .room; count = order .count; rises = rising-front 1 (run (g .held) 0 words) (g .turns + 1 ∷ []) (order .rises) }
 
   -- what ends it leaves what was there
-  ended-there : {l₁ : Lent} → l₁ ≡ l → InOrder l₁ words (endedBy g (l₁ .header) 9)
-  ended-there e = subst (λ (m : Lent). InOrder m words (endedBy g (m .header) 9)) (sym e) (record { formed = order .formed; room = order .room; count = order .count; rises = order .rises; sum = order .sum })
+  ended-there : {l₁ : Lent} → l₁ ≡ l → InOrder l₁ words (endedBy g (g .heap) 9)
+  ended-there e = subst (λ (m : Lent). InOrder m words (endedBy g (g .heap) 9)) (sym e) (record { formed = order .formed; room = order .room; count = order .count; rises = order .rises; sum = order .sum })
 
-  ended-is : {l₁ : Lent} → l₁ ≡ l → storingIn l words g a b o ≡ ends (heaped noTypes (slotCount l) (poolSize l)) 0 9 (goingOn l words g) → Goes l₁ words (endedBy g (l₁ .header) 9) (storingIn l words g a b o)
-  ended-is {l₁} e q = record { order = ended-there e; is = ap (λ (m : Lent). goingOn m words (endedBy g (m .header) 9)) e ∙ sym q }
+  ended-is : {l₁ : Lent} → l₁ ≡ l → storingIn l words g a b o ≡ ends (heaped noTypes (slotCount l) (poolSize l)) 0 9 (goingOn l words g) → Goes l₁ words (endedBy g (g .heap) 9) (storingIn l words g a b o)
+  ended-is {l₁} e q = record { order = ended-there e; is = ap (λ (m : Lent). goingOn m words (endedBy g (g .heap) 9)) e ∙ sym q }
 
   none-of : (x : Option ℕ) {v : ℕ} → v ≡ orZero x → v ≡ 0 → ((y : ℕ) → x ≡ some y → 1 ≤ y) → x ≡ none
   none-of none e z f = refl
@@ -136,11 +136,11 @@ module _ {l : Lent} {words : List ℕ} {g : Going} (order : InOrder l words g) (
   real turn y e = kept-real turn (entriesIn (slotCount l) (g .held) words) y e
 
   module _ {x : ℕ} (ex : x ≡ orZero (heldAt a (named (slotCount l) (g .held) words))) where
-    pub first-missing : x ≡ 0 → Goes l words (endedBy g (l .header) 9) (storingIn l words g a b o)
+    pub first-missing : x ≡ 0 → Goes l words (endedBy g (g .heap) 9) (storingIn l words g a b o)
     first-missing z = ended-is refl (ap (λ (p : Option ℕ). storing (heaped noTypes (slotCount l) (poolSize l)) 0 (goingOn l words g) p (names b) o) (none-of (names a) ex z (real a)))
 
     module _ (nx : x ≡ 0 → ⊥) {y : ℕ} (ey : y ≡ orZero (heldAt b (named (slotCount l) (g .held) words))) where
-      pub second-missing : y ≡ 0 → Goes l words (endedBy g (l .header) 9) (storingIn l words g a b o)
+      pub second-missing : y ≡ 0 → Goes l words (endedBy g (g .heap) 9) (storingIn l words g a b o)
       second-missing z =
           ended-is refl (λ i. storing (heaped noTypes (slotCount l) (poolSize l)) 0 (goingOn l words g) (some-of (names a) ex nx i) (none-of (names b) ey z (real b) i) o)
 
@@ -149,10 +149,10 @@ module _ {l : Lent} {words : List ℕ} {g : Going} (order : InOrder l words g) (
         unfolding heaped
         stored-run = λ i. storing (heaped noTypes (slotCount l) (poolSize l)) 0 (goingOn l words g) (some-of (names a) ex nx i) (some-of (names b) ey ny i) o
 
-        pub store-ends : {l₁ : Lent} → StoresInto l l₁ false x y o → Goes l₁ words (endedBy g (l₁ .header) 9) (storingIn l words g a b o)
+        store-ends : {l₁ : Lent} → StoresInto l l₁ false x y o → Goes l₁ words (endedBy g (g .heap) 9) (storingIn l words g a b o)
         store-ends {l₁} d = ended-is (d .1) (stored-run ∙ ap (wrote (heaped noTypes (slotCount l) (poolSize l)) 0 (goingOn l words g)) (d .0))
 
-        pub store-goes : {l₁ : Lent} → StoresInto l l₁ true x y o → slotCount l₁ ≡ slotCount l → Goes l₁ words g (storingIn l words g a b o)
+        store-goes : {l₁ : Lent} → StoresInto l l₁ true x y o → slotCount l₁ ≡ slotCount l → Goes l₁ words g (storingIn l words g a b o)
         store-goes {l₁} d eS =
             let seen : view l₁ ≡ d .heap = ap view (d .leaves .lies) ∙ view-stored (slotCount l) (poolSize l) (d .heap) in
             record {
@@ -166,3 +166,20 @@ module _ {l : Lent} {words : List ℕ} {g : Going} (order : InOrder l words g) (
               is = (λ i. record { world = seen i; held = named (eS i) (g .held) words; turns = g .turns; collections = g .collections; highest = g .highest; answer = g .answer })
                   ∙ ap (wrote (heaped noTypes (slotCount l) (poolSize l)) 0 (goingOn l words g)) (sym (d .stores)) ∙ sym stored-run;
             }
+
+        pub store-either : {l₁ : Lent} (went : Bool) → StoresInto l l₁ went x y o → slotCount l₁ ≡ slotCount l → Goes l₁ words (afterDrop went g) (storingIn l words g a b o)
+        store-either true d eS = store-goes d eS
+        store-either false d eS = store-ends d
+
+-- ---- where it ends
+
+pub goes-same : (narrow wide pool : List ℕ) {words : List ℕ} {g : Going} {went : Bool} {x : Going} {r : Run State} → x ≡ afterDrop went g → Goes (lent (g .heap) narrow wide pool) words (afterDrop went g) r → Goes (lent (x .heap) narrow wide pool) words x r
+goes-same narrow wide pool {words} {g} {went} {x} {r} e d =
+    subst (λ (y : Going). Goes (lent (y .heap) narrow wide pool) words y r) (sym e) (go went d)
+  where
+    go : (b : Bool) → Goes (lent (g .heap) narrow wide pool) words (afterDrop b g) r → Goes (lent (afterDrop b g .heap) narrow wide pool) words (afterDrop b g) r
+    go true k = k
+    go false k = k
+
+pub dropped-so : {S turn : ℕ} {words words′ : List ℕ} {g g′ : Going} (went : Bool) → LetGo S (g .held) turn words words′ went → g′ ≡ afterDrop went g → Dropped S turn words g words′ g′
+dropped-so went d e = record { went = went; names = d; leaves = e }
