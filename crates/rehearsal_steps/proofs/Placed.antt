@@ -32,7 +32,7 @@ use Rattle.rehearsal_names.specs.Names.{name, named, CanHold, Held}
 use Rattle.rehearsal_steps.specs.declared.Going.{Going}
 use Rattle.rehearsal_steps.specs.Going.{goingOn, endedBy, InOrder, Short, Goes}
 use Rattle.rehearsal_steps.specs.Steps.{noTypes, CanHoldMore, allocatingIn}
-use Rattle.rehearsal_steps.proofs.Sums.{alloc-sums}
+use Rattle.rehearsal_steps.proofs.Sums.{Sums, alloc-sums}
 
 -- an answer in numbers, and the answer
 says-handle : {a : Answer} (r : Result ℕ) → Numbered r → a ≡ answered here nothing r → a .number ≡ 0 → r ≡ ok (a .first)
@@ -59,6 +59,8 @@ module _ {l : Lent} {words : List ℕ} {g : Going} (order : InOrder l words g) (
 
   sound : Sound (slotCount l) (poolSize l) (view l)
   sound = formed-tested l (order .formed) .sound
+
+  sums : Sums (view l) bs c
   sums = alloc-sums (slotCount l) (poolSize l) (view l) sound k t bs
 
   allocated-run : allocatingIn l words g t k bs ≡ placed (heaped noTypes (slotCount l) (poolSize l)) 0 (goingOn l words g) (c .answer) (c .heap)

@@ -60,7 +60,7 @@ placed-size st j k t bytes h dead low =
     omega (arith, size-set (st .slots) j new h, counts-dead (slotAt st j) dead, counts-live new (lt-ltb 0 k low))
 
 -- what an allocation does to the sum
-abbrev Sums : State → List ℕ → Changed ℕ → Type 0
+abbrev pub Sums : State → List ℕ → Changed ℕ → Type 0
 Sums h bytes c = ((x : ℕ) → c .answer ≡ ok x → liveSize (c .heap .slots) ≡ liveSize (h .slots) + (length bytes + 32)) × ((n : ℕ) → c .answer ≡ refused n → liveSize (c .heap .slots) ≡ liveSize (h .slots))
 
 not-refused : {X : Type 0} {n x : ℕ} → _≡_ {A = Result ℕ} (refused n) (ok x) → X

@@ -105,12 +105,12 @@ module _ (T : Table) (l : Lent) (words : List ℕ) (g : Going) (n : ℕ) (order 
   abbrev r : Run State
   r = goingOn l words g
 
-  due-says : {reply : Reply} {due : Answer} → OfHeader (l .header) reply (λ h. bit (gcDue h n)) → due ≡ told reply → due .first ≡ bit (gcDue (view l) n)
-  due-says q e = ap (λ (a : Answer). a .first) (e ∙ q l refl (order .formed))
+  due-says : (reply : Reply) {due : Answer} → OfHeader (l .header) reply (λ h. bit (gcDue h n)) → due ≡ told reply → due .first ≡ bit (gcDue (view l) n)
+  due-says reply q e = ap (λ (a : Answer). a .first) (e ∙ q l refl (order .formed))
 
-  pub not-due : {reply : Reply} {due : Answer} → OfHeader (l .header) reply (λ h. bit (gcDue h n)) → due ≡ told reply → due .first ≡ 0 → Goes l words g (collectingIn T l words g n)
+  pub not-due : (reply : Reply) {due : Answer} → OfHeader (l .header) reply (λ h. bit (gcDue h n)) → due ≡ told reply → due .first ≡ 0 → Goes l words g (collectingIn T l words g n)
   unfolding collecting heaped
-  not-due q e z = record { order = order; is = sym (ap (λ (b : Bool). if b then sweptRun G n r (collectsHeap T (handles (r .held)) (view l)) else r) (due-bit (gcDue (view l) n) (sym (due-says q e) ∙ z))) }
+  not-due reply q e z = record { order = order; is = sym (ap (λ (b : Bool). if b then sweptRun G n r (collectsHeap T (handles (r .held)) (view l)) else r) (due-bit (gcDue (view l) n) (sym (due-says reply q e) ∙ z))) }
 
   -- ---- from the handles of all entries
 
@@ -134,7 +134,7 @@ module _ (T : Table) (l : Lent) (words : List ℕ) (g : Going) (n : ℕ) (order 
 
   -- ---- the ways out
 
-  module _ {reply₀ : Reply} {due : Answer} (asked : OfHeader (l .header) reply₀ (λ h. bit (gcDue h n))) (eq : due ≡ told reply₀) (is-due : due .first ≡ 0 → ⊥)
+  module _ (reply₀ : Reply) {due : Answer} (asked : OfHeader (l .header) reply₀ (λ h. bit (gcDue h n))) (eq : due ≡ told reply₀) (is-due : due .first ≡ 0 → ⊥)
       (e : ℕ) (q : e ≡ slotCount l + g .held) {l₁ : Lent} (reply : Reply) (d : Tells nothing nothing l l₁ reply (collectCall T (take (e - slotCount l) (drop (slotCount l) words)) [] (view l)))
       (eS : slotCount l₁ ≡ slotCount l) where
     abbrev c : Changed Unit
@@ -146,7 +146,7 @@ module _ (T : Table) (l : Lent) (words : List ℕ) (g : Going) (n : ℕ) (order 
     swept-run : collectingIn T l words g n ≡ sweptRun (heaped T (slotCount l) (poolSize l)) n (goingOn l words g) (left c)
     unfolding collecting heaped collectsHeap
     swept-run =
-        ap (λ (b : Bool). if b then sweptRun G n r (collectsHeap T (handles (r .held)) (view l)) else r) (not-due-bit (gcDue (view l) n) (λ z. is-due (due-says asked eq ∙ z)))
+        ap (λ (b : Bool). if b then sweptRun G n r (collectsHeap T (handles (r .held)) (view l)) else r) (not-due-bit (gcDue (view l) n) (λ z. is-due (due-says reply₀ asked eq ∙ z)))
         ∙ ap (λ (x : Changed Unit). sweptRun G n r (left x)) (sym (call-is e q))
 
     pub sweep-refused : OneOf (1 ∷ []) (tagOf reply-type reply) → Goes l₁ words (endedBy g (l₁ .header) 13) (collectingIn T l words g n)

@@ -1,99 +1,81 @@
+-- `rehearsal_line::do_line` meets its contract. Assumes nothing.
+use mathlib.Core.Path.{refl, ap}
+use denote.Ref.{now}
+use Rattle.heap.specs.Lent.{lent}
+use Rattle.heap.specs.declared.Heap.{Heap}
+use Rattle.rehearsal_lines.specs.Found.{stepIn}
+use Rattle.rehearsal_store.proofs.Stored.{names-there}
+use Rattle.rehearsal_line.proofs.Leading.{led-whole}
+use Rattle.rehearsal_line.proofs.Lined.{store-line, drop-line, drop-header, as-line, alloc-data, bad-line}
 use borrow.Author.Needs.{needs}
-use Rattle.rehearsal_steps.proofs.do_line.Statement.{statement}
-use Rattle.rehearsal_steps.proofs.do_line.Tie as tie
-use Rattle.rehearsal_steps.proofs.do_line.Reads as reads
-use Rattle.rehearsal_steps.proofs.do_line.Lts as lts
-use Rattle.rehearsal_steps.proofs.do_alloc.Reads as do-alloc-reads
-use Rattle.rehearsal_steps.proofs.do_drop.Reads as do-drop-reads
-use Rattle.rehearsal_steps.proofs.do_store.Reads as do-store-reads
+use Rattle.rehearsal_line.proofs.do_line.Statement.{statement}
+use Rattle.rehearsal_line.proofs.do_line.Tie as tie
 
--- src/lib.rt:332:21
 enum-known-line : tie.Need-enum-known-line
 enum-known-line c = search needs
 
--- src/lib.rt:332:27
 do-alloc-requires : tie.Need-do-alloc-requires
-do-alloc-requires c κs = ?
+do-alloc-requires c κs = (@pre .0, (@pre .1 .0, (@pre .1 .1 .0, (alloc-data _ (@start .args .line) _ (@line .given .1) (@pre .1 .1 .1 .0), @pre .1 .1 .1 .1))))
 
--- src/lib.rt:348:21
 enum-known-line-2 : tie.Need-enum-known-line-2
 enum-known-line-2 c = search needs
 
--- src/lib.rt:348:27
 do-store-requires : tie.Need-do-store-requires
-do-store-requires c κs = ?
+do-store-requires c κs = (@pre .0, led-whole (@pre .0) (@pre .1 .1 .1 .1))
 
--- src/lib.rt:349:20
 enum-known-line-3 : tie.Need-enum-known-line-3
 enum-known-line-3 c = search needs
 
--- src/lib.rt:349:32
 do-drop-requires : tie.Need-do-drop-requires
-do-drop-requires c κs = ?
+do-drop-requires c κs = names-there (@pre .0) 0 0 0
 
--- src/lib.rt:350:22
 enum-told : tie.Need-enum-told
 enum-told c = search needs
 
--- src/lib.rt:305:1
 same-length : tie.Need-same-length
 same-length c = search needs
 
--- src/lib.rt:305:1
 same-length-2 : tie.Need-same-length-2
 same-length-2 c = search needs
 
--- src/lib.rt:305:1
 same-length-3 : tie.Need-same-length-3
 same-length-3 c = search needs
 
--- src/lib.rt:305:1
 same-length-4 : tie.Need-same-length-4
 same-length-4 c = search needs
 
--- src/lib.rt:305:1
 same-length-5 : tie.Need-same-length-5
 same-length-5 c = search needs
 
--- src/lib.rt:305:1
 same-length-6 : tie.Need-same-length-6
 same-length-6 c = search needs
 
--- src/lib.rt:305:1
 returns : tie.Need-returns
-returns c = ?
+returns c = (as-line (now (@start .args .s)) (@start .args .line) _ (ap (stepIn (now (@start .args .s))) (@line .given .1)) (@do-alloc .ensures .0), @do-alloc .ensures .1)
 
--- src/lib.rt:305:1
 same-length-7 : tie.Need-same-length-7
 same-length-7 c = search needs
 
--- src/lib.rt:305:1
 same-length-8 : tie.Need-same-length-8
 same-length-8 c = search needs
 
--- src/lib.rt:305:1
 same-length-9 : tie.Need-same-length-9
 same-length-9 c = search needs
 
--- src/lib.rt:305:1
 same-length-10 : tie.Need-same-length-10
 same-length-10 c = search needs
 
--- src/lib.rt:305:1
 returns-2 : tie.Need-returns-2
-returns-2 c = ?
+returns-2 c = (as-line (now (@start .args .s)) (@start .args .line) _ (ap (stepIn (now (@start .args .s))) (@line2 .given .1)) (store-line _ _ _ (@do-store .ensures)), (refl, refl))
 
--- src/lib.rt:305:1
 same-length-11 : tie.Need-same-length-11
 same-length-11 c = search needs
 
--- src/lib.rt:305:1
 returns-3 : tie.Need-returns-3
-returns-3 c = ?
+returns-3 c = (as-line (now (@start .args .s)) (@start .args .line) _ (ap (stepIn (now (@start .args .s))) (@line3 .given .1)) (drop-line (@pre .0) _ refl (@do-drop .kept .1 .1 .1 .0) (@do-drop .ensures) refl (ap (λ (h : Heap). lent h (now (@start .args .narrow)) (now (@start .args .wide)) (now (@start .args .pool))) (drop-header (@do-drop .ensures)))), (refl, refl))
 
--- src/lib.rt:305:1
 returns-4 : tie.Need-returns-4
-returns-4 c = ?
+returns-4 c = (bad-line (now (@start .args .s)) (@start .args .line) (@pre .0) (@enum-told .given .1), (refl, refl))
 
 pub do-line-spec : {M : Type 1} → statement M
 do-line-spec =
