@@ -49,13 +49,13 @@ fn admit(
     memory::clear_u64(words);
     memory::clear_u8(marks);
     memory::clear_u64(work);
-    if !rehearsal_lines::all_lines(text) {
+    if rehearsal_lines::all_lines(text) {} else {
         return Entry::Not(Refusal::Page);
     }
-    if !heap::sizes_fit(narrow.len(), wide.len(), pool.len()) {
+    if heap::sizes_fit(narrow.len(), wide.len(), pool.len()) {} else {
         return Entry::Not(Refusal::BrokenHeap);
     }
-    if !ty::check_table(types, fields, consts, bytes) {
+    if ty::check_table(types, fields, consts, bytes) {} else {
         return Entry::Not(Refusal::TypeTable);
     }
     if out.len() / 80 < thresholds.len() {
