@@ -9,6 +9,7 @@ mod stand_ins;
 use stand_ins::{exec, reflect, state};
 
 mod page;
+mod rehearse;
 use std::hint::black_box;
 use std::ops::Range;
 use yavs_ir::{Block, BlockId, Field, Func, Inst, Ops, Program, Reg, RegTy, Ty, TyId};
@@ -320,7 +321,20 @@ fn joined(table: &mut Table, n: usize) {
     table.row("collect_joined, ring (ns), by slots", n, a, b);
 }
 
-const ROWS: [&str; 11] = ["churn", "script", "layout", "object_handles", "live_refs", "sparse_rows", "collect", "joined", "write_page", "read_page", "memcpy"];
+// Lines of a rehearsal, of which 1,000 objects are held, for four thresholds: the time of one line for one threshold.
+fn rehearsals(table: &mut Table, lines: usize) {
+    let thresholds = [10_000, 100_000, 1_000_000, 10_000_000];
+    let steps = rehearse::steps(lines, 1000);
+    let text = rehearse::text(&steps);
+    let types = TypeTable::new();
+    let here = || Heap::rehearse(&types, lines, 32 * lines, text.as_bytes(), &thresholds).unwrap();
+    let there = || thresholds.iter().map(|t| rehearse::run(&steps, *t)).collect::<String>();
+    assert_eq!(String::from_utf8(here()).unwrap(), there());
+    let turns = (lines * thresholds.len()) as f64;
+    table.row("rehearse, four thresholds (ns a line), by lines", lines, time(|| drop(black_box(here()))) / turns, time(|| drop(black_box(there()))) / turns);
+}
+
+const ROWS: [&str; 12] = ["churn", "script", "layout", "object_handles", "live_refs", "sparse_rows", "collect", "joined", "rehearse", "write_page", "read_page", "memcpy"];
 
 fn main() {
     let words: Vec<String> = std::env::args().skip(1).collect();
@@ -346,6 +360,7 @@ fn main() {
                 SIZES.iter().for_each(|n| collections(&mut table, "tree", *n, |i| (2 * i + 1).min(*n)..(2 * i + 3).min(*n)));
             }
             "joined" => SIZES.iter().for_each(|n| joined(&mut table, *n)),
+            "rehearse" => [1_000, 10_000, 100_000].iter().for_each(|n| rehearsals(&mut table, *n)),
             "memcpy" => OBJECTS.iter().for_each(|n| copies(&mut table, *n)),
             _ => OBJECTS.iter().for_each(|n| pages(&mut table, *n, row == "read_page")),
         }
