@@ -45,7 +45,7 @@ collecting-turns T S P n r = go (gcDue (r .world) n) (collectsHeap T (handles (r
 
 -- ---- `alloc`
 
-module _ {T : Table} {l : Lent} {words : List ℕ} {g : Going} {n : ℕ} {l₁ : Lent} {g₁ : Going} (went : Goes l₁ words g₁ (collectingIn T l words g n)) (t k : ℕ) (bs : List ℕ) where
+module _ {T : Table} {l : Lent} {words : List ℕ} (g : Going) {n : ℕ} {l₁ : Lent} {g₁ : Going} (went : Goes l₁ words g₁ (collectingIn T l words g n)) (t k : ℕ) (bs : List ℕ) where
   pub same-turns : g₁ .turns ≡ g .turns
   same-turns = ap (λ (r : Run State). r .turns) (went .is) ∙ collecting-turns T (slotCount l) (poolSize l) n (goingOn l words g)
 
@@ -76,12 +76,12 @@ store-any T S P n a b o r = go (heldAt a (r .held)) (heldAt b (r .held))
     go (some x) none = refl
     go (some x) (some y) = refl
 
-pub store-line : {T : Table} {l : Lent} {words : List ℕ} {g : Going} {n : ℕ} (a b o : ℕ) {l₁ : Lent} {g₁ : Going} → Goes l₁ words g₁ (storingIn l words g a b o) → Goes l₁ words g₁ (doingIn T l words g n (store a b o))
-store-line {T} {l} {words} {g} {n} a b o d = record { order = d .order; is = d .is ∙ store-any T (slotCount l) (poolSize l) n a b o (goingOn l words g) }
+pub store-line : (T : Table) (l : Lent) (words : List ℕ) (g : Going) (n a b o : ℕ) {l₁ : Lent} {g₁ : Going} → Goes l₁ words g₁ (storingIn l words g a b o) → Goes l₁ words g₁ (doingIn T l words g n (store a b o))
+store-line T l words g n a b o d = record { order = d .order; is = d .is ∙ store-any T (slotCount l) (poolSize l) n a b o (goingOn l words g) }
 
 -- ---- `drop`
 
-module _ {T : Table} {l : Lent} {words : List ℕ} {g : Going} {n : ℕ} (order : InOrder l words g) where
+module _ (T : Table) {l : Lent} {words : List ℕ} {g : Going} (n : ℕ) (order : InOrder l words g) where
   dropped-by : (turn : ℕ) {words′ : List ℕ} (went : Bool) → length words′ ≡ length words → LetGo (slotCount l) (g .held) turn words words′ went → l .header ≡ g .heap
       → Goes l words′ (afterDrop went g) (doingIn T l words g n (drop turn))
   unfolding does
@@ -120,7 +120,7 @@ drop-header {S} {turn} {words} {words′} {g} {g′} d = ap (λ (x : Going). x .
 
 -- ---- a line
 
-module _ {T : Table} {l : Lent} {words : List ℕ} {g : Going} {n : ℕ} {l₁ : Lent} {words′ : List ℕ} {g₁ : Going} (s : List ℕ) where
+module _ (T : Table) (l : Lent) (words : List ℕ) (g : Going) (n : ℕ) {l₁ : Lent} {words′ : List ℕ} {g₁ : Going} (s : List ℕ) where
   -- the line that it is
   pub as-line : (line : Line) (c : Step) → stepIn s line ≡ some c → Goes l₁ words′ g₁ (doingIn T l words g n c) → Goes l₁ words′ g₁ (lineDoes T l words g n (stepIn s line))
   as-line line c e d = subst (λ (o : Option Step). Goes l₁ words′ g₁ (lineDoes T l words g n o)) (sym e) d
@@ -128,5 +128,5 @@ module _ {T : Table} {l : Lent} {words : List ℕ} {g : Going} {n : ℕ} {l₁ :
 pub alloc-data : (s : List ℕ) (line : Line) (a : AllocLine) → line ≡ Alloc a → DataIn s line → DataThere s a
 alloc-data s line a e d = subst (DataIn s) e d
 
-pub bad-line : {T : Table} {l : Lent} {words : List ℕ} {g : Going} {n : ℕ} (s : List ℕ) (line : Line) → InOrder l words g → line ≡ Bad → Goes l words g (lineDoes T l words g n (stepIn s line))
-bad-line {T} {l} {words} {g} {n} s line order e = subst (λ (x : Line). Goes l words g (lineDoes T l words g n (stepIn s x))) (sym e) (record { order = order; is = refl })
+pub bad-line : (T : Table) {l : Lent} {words : List ℕ} {g : Going} (n : ℕ) (s : List ℕ) (line : Line) → InOrder l words g → line ≡ Bad → Goes l words g (lineDoes T l words g n (stepIn s line))
+bad-line T {l} {words} {g} n s line order e = subst (λ (x : Line). Goes l words g (lineDoes T l words g n (stepIn s x))) (sym e) (record { order = order; is = refl })

@@ -1,7 +1,9 @@
 -- `rehearsal_line::do_line` meets its contract. Assumes nothing.
+use Rattle.heap.specs.Lent.{Lent, lent}
+use Rattle.ty.specs.Types.{Table}
+use Rattle.ty.specs.View.{tableOf}
 use mathlib.Core.Path.{refl, ap}
 use denote.Ref.{now}
-use Rattle.heap.specs.Lent.{lent}
 use Rattle.heap.specs.declared.Heap.{Heap}
 use Rattle.rehearsal_lines.specs.Found.{stepIn}
 use Rattle.rehearsal_store.proofs.Stored.{names-there}
@@ -10,6 +12,13 @@ use Rattle.rehearsal_line.proofs.Lined.{store-line, drop-line, drop-hea
 use borrow.Author.Needs.{needs}
 use Rattle.rehearsal_line.proofs.do_line.Statement.{statement}
 use Rattle.rehearsal_line.proofs.do_line.Tie as tie
+
+-- the type table, and the lent memory where it starts
+abbrev T : tie.Start → Table
+T c = tableOf (now (c .args .types)) (now (c .args .fields)) (now (c .args .consts)) (now (c .args .bytes))
+
+abbrev L : tie.Start → Lent
+L c = lent (c .args .g .heap) (now (c .args .narrow)) (now (c .args .wide)) (now (c .args .pool))
 
 enum-known-line : tie.Need-enum-known-line
 enum-known-line c = search needs
@@ -51,7 +60,7 @@ same-length-6 : tie.Need-same-length-6
 same-length-6 c = search needs
 
 returns : tie.Need-returns
-returns c = (as-line (now (@start .args .s)) (@start .args .line) _ (ap (stepIn (now (@start .args .s))) (@line .given .1)) (@do-alloc .ensures .0), @do-alloc .ensures .1)
+returns c = (as-line (T (@start)) (L (@start)) (now (@start .args .words)) (@start .args .g) (@start .args .threshold) (now (@start .args .s)) (@start .args .line) _ (ap (stepIn (now (@start .args .s))) (@line .given .1)) (@do-alloc .ensures .0), @do-alloc .ensures .1)
 
 same-length-7 : tie.Need-same-length-7
 same-length-7 c = search needs
@@ -66,16 +75,16 @@ same-length-10 : tie.Need-same-length-10
 same-length-10 c = search needs
 
 returns-2 : tie.Need-returns-2
-returns-2 c = (as-line (now (@start .args .s)) (@start .args .line) _ (ap (stepIn (now (@start .args .s))) (@line2 .given .1)) (store-line _ _ _ (@do-store .ensures)), (refl, refl))
+returns-2 c = (as-line (T (@start)) (L (@start)) (now (@start .args .words)) (@start .args .g) (@start .args .threshold) (now (@start .args .s)) (@start .args .line) _ (ap (stepIn (now (@start .args .s))) (@line2 .given .1)) (store-line (T (@start)) (L (@start)) (now (@start .args .words)) (@start .args .g) (@start .args .threshold) _ _ _ (@do-store .ensures)), (refl, refl))
 
 same-length-11 : tie.Need-same-length-11
 same-length-11 c = search needs
 
 returns-3 : tie.Need-returns-3
-returns-3 c = (as-line (now (@start .args .s)) (@start .args .line) _ (ap (stepIn (now (@start .args .s))) (@line3 .given .1)) (drop-line (@pre .0) _ refl (@do-drop .kept .1 .1 .1 .0) (@do-drop .ensures) refl (ap (λ (h : Heap). lent h (now (@start .args .narrow)) (now (@start .args .wide)) (now (@start .args .pool))) (drop-header (@do-drop .ensures)))), (refl, refl))
+returns-3 c = (as-line (T (@start)) (L (@start)) (now (@start .args .words)) (@start .args .g) (@start .args .threshold) (now (@start .args .s)) (@start .args .line) _ (ap (stepIn (now (@start .args .s))) (@line3 .given .1)) (drop-line (T (@start)) (@start .args .threshold) (@pre .0) _ refl (@do-drop .kept .1 .1 .1 .0) (@do-drop .ensures) refl (ap (λ (h : Heap). lent h (now (@start .args .narrow)) (now (@start .args .wide)) (now (@start .args .pool))) (drop-header (@do-drop .ensures)))), (refl, refl))
 
 returns-4 : tie.Need-returns-4
-returns-4 c = (bad-line (now (@start .args .s)) (@start .args .line) (@pre .0) (@enum-told .given .1), (refl, refl))
+returns-4 c = (bad-line (T (@start)) (@start .args .threshold) (now (@start .args .s)) (@start .args .line) (@pre .0) (@enum-told .given .1), (refl, refl))
 
 pub do-line-spec : {M : Type 1} → statement M
 do-line-spec =
