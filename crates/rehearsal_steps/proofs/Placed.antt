@@ -102,6 +102,7 @@ module _ {l : Lent} {words : List ℕ} {g : Going} (order : InOrder l words g) (
 
     pub place-held : {S count n′ top : ℕ} {words′ : List ℕ} → S ≡ slotCount l → count ≡ length bs → length words′ ≡ length words → Held S (g .held) (g .turns + 1) (a .first) words n′ words′ → top ≡ max (g .highest) (g .size + (count + 32))
         → Goes l₁ words′ (record { heap = l₁ .header; size = g .size + (count + 32); held = n′; turns = g .turns + 1; collections = g .collections; highest = top; answer = g .answer }) (allocatingIn l words g t k bs)
+    unfolding heaped
     place-held {S} {count} {n′} {top} {words′} e f long h₀ et =
         let h : Held (slotCount l) (g .held) (g .turns + 1) (a .first) words n′ words′ = subst (λ (s : ℕ). Held s (g .held) (g .turns + 1) (a .first) words n′ words′) e h₀ in
         let sum : g .size + (count + 32) ≡ liveSize (view l₁ .slots) =

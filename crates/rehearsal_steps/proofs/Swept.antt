@@ -25,6 +25,7 @@ use Rattle.heap.specs.Calls.{Changed, gcDue}
 use Rattle.heap.specs.Done.{Leaves, Tells}
 use Rattle.heap.specs.declared.Heap.{Heap}
 use Rattle.heap.proofs.Storing.{view-stored}
+use Rattle.heap.proofs.Testing.{formed-tested}
 use Rattle.heap_calls.specs.Pins.{risingFrom, rising}
 use Rattle.heap_edit.specs.Header.{OfHeader}
 use Rattle.reach.specs.Marking.{State as Marks, marking}
@@ -97,6 +98,9 @@ module _ {l : Lent} {words : List ℕ} {g : Going} (order : InOrder l words g) w
 
   pub roots-end : slotCount l + g .held ≤ length words
   roots-end = omega (arith, order .room, order .count)
+
+  pub roots-small : slotCount l + g .held ≤ 33554432
+  roots-small = omega (arith, order .count, formed-tested l (order .formed) .sound .slot-range .1)
 
 module _ (T : Table) (l : Lent) (words : List ℕ) (g : Going) (n : ℕ) (order : InOrder l words g) where
   abbrev G : World State

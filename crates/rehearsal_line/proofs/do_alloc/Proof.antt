@@ -2,7 +2,6 @@
 use native.Mathlib.Omega.{arith}
 use mathlib.Core.Path.{ap, _∙_}
 use mathlib.Core.List.{[]}
-use mathlib.Core.List.{[]}
 use Prim.Native.Nat.{ℕ, _/_}
 use Rattle.rehearsal_line.proofs.Leading.{led-alloc, led-more}
 use Rattle.rehearsal_line.proofs.Lined.{same-turns, alloc-ends, alloc-goes}
