@@ -115,7 +115,7 @@ module _ {l : Lent} {words : List ℕ} {g : Going} (order : InOrder l words g) (
   names turn = heldAt turn (named (slotCount l) (g .held) words)
 
   pub names-there : Names (slotCount l) (g .held) words
-  names-there = record { room = order .room; count = order .count; rises = rising-front 1 (run (g .held) 0 words) (g .turns + 1 ∷ []) (order .rises) }
+  names-there = record { room = order .room; count = order .count; rises = rising-front 1 (run (g .held) 0 words) ((g .turns + 1) ∷ []) (order .rises) }
 
   -- what ends it leaves what was there
   ended-there : {l₁ : Lent} → l₁ ≡ l → InOrder l₁ words (endedBy g (g .heap) 9)
@@ -173,8 +173,8 @@ module _ {l : Lent} {words : List ℕ} {g : Going} (order : InOrder l words g) (
 
 -- ---- where it ends
 
-pub goes-same : (narrow wide pool : List ℕ) {words : List ℕ} {g : Going} {went : Bool} {x : Going} {r : Run State} → x ≡ afterDrop went g → Goes (lent (g .heap) narrow wide pool) words (afterDrop went g) r → Goes (lent (x .heap) narrow wide pool) words x r
-goes-same narrow wide pool {words} {g} {went} {x} {r} e d =
+pub goes-same : (narrow wide pool : List ℕ) {words : List ℕ} (g : Going) (went : Bool) {x : Going} {r : Run State} → x ≡ afterDrop went g → Goes (lent (g .heap) narrow wide pool) words (afterDrop went g) r → Goes (lent (x .heap) narrow wide pool) words x r
+goes-same narrow wide pool {words} g went {x} {r} e d =
     subst (λ (y : Going). Goes (lent (y .heap) narrow wide pool) words y r) (sym e) (go went d)
   where
     go : (b : Bool) → Goes (lent (g .heap) narrow wide pool) words (afterDrop b g) r → Goes (lent (afterDrop b g .heap) narrow wide pool) words (afterDrop b g) r

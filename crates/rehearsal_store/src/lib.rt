@@ -103,8 +103,9 @@ fn or_ended(went: bool, g: Going) -> Going
     if went {
         return g;
     }
+    let heap = g.heap;
     Going {
-        heap: g.heap,
+        heap: heap,
         size: g.size,
         held: g.held,
         turns: g.turns,

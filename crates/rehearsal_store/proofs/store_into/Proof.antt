@@ -27,7 +27,7 @@ same-length-2 : tie.Need-same-length-2
 same-length-2 c = search needs
 
 returns : tie.Need-returns
-returns c = store-unresolved (L (@start)) (@pre .0) (@pre .1) _ _ _ _ (@match .keys2) (@resolve .ensures)
+returns c = store-unresolved (L (c .before .before .before .before .before .before .before .before)) (c .before .before .before .before .before .before .before .before .pre .0) (c .before .before .before .before .before .before .before .before .pre .1) _ _ _ (c .before .before .resolve .result) (c .before .match .keys2) (c .before .before .resolve .ensures)
 
 le-bytes-requires : tie.Need-le-bytes-requires
 le-bytes-requires c κs = search needs
@@ -51,7 +51,7 @@ same-length-4 : tie.Need-same-length-4
 same-length-4 c = search needs
 
 returns-2 : tie.Need-returns-2
-returns-2 c = store-refused (L (@start)) (@pre .0) (@pre .1) _ _ _ (@i .given .1) (@resolve .ensures) (@le-bytes .ensures) _ (@write .ensures) (@match .keys4)
+returns-2 c = store-refused (L (@start)) (@pre .0) (@pre .1) _ _ _ (@i .given .1) (@resolve .ensures) (@le-bytes .ensures) (@write .result) (@write .ensures) (@match2 .keys2)
 
 same-length-5 : tie.Need-same-length-5
 same-length-5 c = search needs
@@ -60,7 +60,7 @@ same-length-6 : tie.Need-same-length-6
 same-length-6 c = search needs
 
 returns-3 : tie.Need-returns-3
-returns-3 c = store-done (L (@start)) (@pre .0) (@pre .1) _ _ _ (@i .given .1) (@resolve .ensures) (@le-bytes .ensures) _ (@write .ensures) (@match .keys3)
+returns-3 c = store-done (L (@start)) (@pre .0) (@pre .1) _ _ _ (@i .given .1) (@resolve .ensures) (@le-bytes .ensures) (@write .result) (@write .ensures) (@match2 .keys1)
 
 pub store-into-spec : {M : Type 1} → statement M
 store-into-spec =
