@@ -183,3 +183,6 @@ goes-same narrow wide pool {words} g went {x} {r} e d =
 
 pub dropped-so : {S turn : ℕ} {words words′ : List ℕ} {g g′ : Going} (went : Bool) → LetGo S (g .held) turn words words′ went → g′ ≡ afterDrop went g → Dropped S turn words g words′ g′
 dropped-so went d e = record { went = went; names = d; leaves = e }
+
+pub ended-so : (g : Going) (went : Bool) → went ≡ false → endedBy g (g .heap) 9 ≡ afterDrop went g
+ended-so g went e = ap (λ (b : Bool). afterDrop b g) (sym e)

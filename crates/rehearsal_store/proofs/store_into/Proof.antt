@@ -51,7 +51,7 @@ same-length-4 : tie.Need-same-length-4
 same-length-4 c = search needs
 
 returns-2 : tie.Need-returns-2
-returns-2 c = store-refused (L (@start)) (@pre .0) (@pre .1) _ _ _ (@i .given .1) (@resolve .ensures) (@le-bytes .ensures) (@write .result) (@write .ensures) (@match2 .keys2)
+returns-2 c = store-refused (L (c .before .before .before .before .before .before .before .before .before .before .before .before .before .before .before .before .before .before .before .before)) (c .before .before .before .before .before .before .before .before .before .before .before .before .before .before .before .before .before .before .before .before .pre .0) (c .before .before .before .before .before .before .before .before .before .before .before .before .before .before .before .before .before .before .before .before .pre .1) _ _ _ (c .before .before .before .before .before .before .before .before .before .before .before .before .i .given .1) (c .before .before .before .before .before .before .before .before .before .before .before .before .before .before .resolve .ensures) (c .before .before .before .before .before .before .before .before .before .before .le-bytes .ensures) (c .before .before .before .before .before .before .write .result) (c .before .before .before .before .before .before .write .ensures) (c .before .match2 .keys2)
 
 same-length-5 : tie.Need-same-length-5
 same-length-5 c = search needs
@@ -60,7 +60,7 @@ same-length-6 : tie.Need-same-length-6
 same-length-6 c = search needs
 
 returns-3 : tie.Need-returns-3
-returns-3 c = store-done (L (@start)) (@pre .0) (@pre .1) _ _ _ (@i .given .1) (@resolve .ensures) (@le-bytes .ensures) (@write .result) (@write .ensures) (@match2 .keys1)
+returns-3 c = store-done (L (c .before .before .before .before .before .before .before .before .before .before .before .before .before .before .before .before .before .before .before .before)) (c .before .before .before .before .before .before .before .before .before .before .before .before .before .before .before .before .before .before .before .before .pre .0) (c .before .before .before .before .before .before .before .before .before .before .before .before .before .before .before .before .before .before .before .before .pre .1) _ _ _ (c .before .before .before .before .before .before .before .before .before .before .before .before .i .given .1) (c .before .before .before .before .before .before .before .before .before .before .before .before .before .before .resolve .ensures) (c .before .before .before .before .before .before .before .before .before .before .le-bytes .ensures) (c .before .before .before .before .before .before .write .result) (c .before .before .before .before .before .before .write .ensures) (c .before .match2 .keys1)
 
 pub store-into-spec : {M : Type 1} → statement M
 store-into-spec =

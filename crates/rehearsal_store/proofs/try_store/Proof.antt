@@ -21,10 +21,10 @@ store-into-requires : tie.Need-store-into-requires
 store-into-requires c κs = (c .before .before .before .before .before .before .before .before .before .before .pre .0 .formed, c .before .before .before .before .before .before .before .before .before .before .pre .1)
 
 same-length : tie.Need-same-length
-same-length c = @store-into .kept .1 .1 .0
+same-length c = c .before .before .before .before .store-into .kept .1 .1 .0
 
 same-length-2 : tie.Need-same-length-2
-same-length-2 c = @store-into .kept .1 .1 .1 .0
+same-length-2 c = c .before .before .before .before .store-into .kept .1 .1 .1 .0
 
 returns-3 : tie.Need-returns-3
 returns-3 c = store-either (c .before .before .before .before .before .before .before .before .before .before .before .before .before .before .before .pre .0) _ _ _ (c .before .before .before .before .before .before .before .before .before .before .held-at .ensures) (c .before .before .before .before .before .before .before .before .before .if1 .left) (c .before .before .before .before .before .before .before .before .held-at2 .ensures) (c .before .before .before .before .before .before .before .if2 .left) (c .before .before .before .before .store-into .result) (c .before .before .before .before .store-into .ensures) refl
