@@ -45,7 +45,7 @@ collecting-turns T S P n r = go (gcDue (r .world) n) (collectsHeap T (handles (r
 
 -- ---- `alloc`
 
-module _ {T : Table} {l : Lent} {words : List ℕ} (g : Going) {n : ℕ} {l₁ : Lent} {g₁ : Going} (went : Goes l₁ words g₁ (collectingIn T l words g n)) (t k : ℕ) (bs : List ℕ) where
+module _ (T : Table) (l : Lent) {words : List ℕ} (g : Going) (n : ℕ) {l₁ : Lent} {g₁ : Going} (went : Goes l₁ words g₁ (collectingIn T l words g n)) (t k : ℕ) (bs : List ℕ) where
   pub same-turns : g₁ .turns ≡ g .turns
   same-turns = ap (λ (r : Run State). r .turns) (went .is) ∙ collecting-turns T (slotCount l) (poolSize l) n (goingOn l words g)
 
@@ -91,7 +91,7 @@ module _ (T : Table) {l : Lent} {words : List ℕ} {g : Going} (n : ℕ) (order 
           formed = order .formed;
           room = omega (arith, order .room, long);
           count = order .count;
-          rises = ap (λ (ts : List ℕ). risingFrom 1 (ts ++ g .turns + 1 ∷ [])) (d .turns) ∙ order .rises;
+          rises = ap (λ (ts : List ℕ). risingFrom 1 (ts ++ (g .turns + 1) ∷ [])) (d .turns) ∙ order .rises;
           sum = order .sum;
         };
         is = (λ i. record { world = view l; held = d .left i; turns = g .turns; collections = g .collections; highest = g .highest; answer = g .answer })

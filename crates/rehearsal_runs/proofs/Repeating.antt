@@ -84,7 +84,7 @@ room-same r z =
 
 -- ---- after a run
 
-module _ {T : Table} {S P n : ℕ} {l : Lent} {words : List ℕ} {g : Going} {ls : List Line} (went : Goes l words g (runOf T S P n ls)) (eS : slotCount l ≡ S) (eP : poolSize l ≡ P) where
+module _ (T : Table) {S P : ℕ} (n : ℕ) {l : Lent} {words : List ℕ} {g : Going} (ls : List Line) (went : Goes l words g (runOf T S P n ls)) (eS : slotCount l ≡ S) (eP : poolSize l ≡ P) where
   pub run-stored : l ≡ stored S P (runOf T S P n ls .world)
   run-stored = formed-tested l (went .order .formed) .lies ∙ (λ i. stored (eS i) (eP i) (went .is i .world))
 
@@ -150,7 +150,7 @@ module _ {T : Table} {l₀ : Lent} {s ns out₀ : List ℕ} {l : Lent} {out : Li
     n = getD ns i 0
 
     figures : figuresIn (getD ns i 0) g ≡ rehearsed (heaped T (slotCount l₀) (poolSize l₀)) fresh (getD ns i 0) (linesOf s)
-    figures = run-figures went eS eP
+    figures = run-figures T (getD ns i 0) (linesOf s) went eS eP
 
     line-short : n < 2 ^ 64 → isText s ≡ true → length s < 2 ^ 64 → length (figuresLine (figuresIn (getD ns i 0) g)) ≤ 67
     line-short word t long =
@@ -174,7 +174,7 @@ module _ {T : Table} {l₀ : Lent} {s ns out₀ : List ℕ} {l : Lent} {out : Li
         let one : List ℕ = figuresLine (figuresIn (getD ns i 0) g) in
         record {
           within = omega arith;
-          memory = ap (λ (x : Lent). memoryAfter T (slotCount l₀) (poolSize l₀) x (drop (i + 1) ns) (linesOf s)) (run-stored went eS eP)
+          memory = ap (λ (x : Lent). memoryAfter T (slotCount l₀) (poolSize l₀) x (drop (i + 1) ns) (linesOf s)) (run-stored T (getD ns i 0) (linesOf s) went eS eP)
               ∙ ap (λ (r : List ℕ). memoryAfter T (slotCount l₀) (poolSize l₀) l r (linesOf s)) (sym next-left) ∙ v .memory;
           text = v .text ++ one;
           left = append-assoc (v .text) one (figuresText (heaped T (slotCount l₀) (poolSize l₀)) fresh (drop (i + 1) ns) (linesOf s))

@@ -48,8 +48,8 @@ still-clear {n₀ = n₀} {n₁ = n₁} {m₀ = m₀} {k₀ = k₀} c z =
     (subst (λ (k : List ℕ). Cleared (length n₁ / 6) m₀ k) (sym (z .work))
     (subst (λ (s : ℕ). Cleared (s / 6) m₀ k₀) (sym (z .narrow)) c))
 
-pub goes-sizes : {T : Table} {S S₁ P P₁ n : ℕ} {ls : List Step} {l : Lent} {words : List ℕ} {g : Going} → S₁ ≡ S → P₁ ≡ P → Goes l words g (runOf T S₁ P₁ n ls) → Goes l words g (runOf T S P n ls)
-goes-sizes {T} {n = n} {ls = ls} a b d = record { order = d .order; is = d .is ∙ (λ i. runOf T (a i) (b i) n ls) }
+pub goes-sizes : (T : Table) {S S₁ P P₁ : ℕ} (n : ℕ) (ls : List Step) {l : Lent} {words : List ℕ} {g : Going} → S₁ ≡ S → P₁ ≡ P → Goes l words g (runOf T S₁ P₁ n ls) → Goes l words g (runOf T S P n ls)
+goes-sizes T n ls a b d = record { order = d .order; is = d .is ∙ (λ i. runOf T (a i) (b i) n ls) }
 
 -- ---- lines
 

@@ -3,23 +3,34 @@ use native.Mathlib.Omega.{arith}
 use mathlib.Core.Path.{ap, _∙_}
 use mathlib.Core.List.{[]}
 use Prim.Native.Nat.{ℕ, _/_}
+use denote.Ref.{now}
+use Rattle.ty.specs.Types.{Table}
+use Rattle.ty.specs.View.{tableOf}
+use Rattle.heap.specs.Lent.{Lent, lent}
 use Rattle.rehearsal_line.proofs.Leading.{led-alloc, led-more}
 use Rattle.rehearsal_line.proofs.Lined.{same-turns, alloc-ends, alloc-goes}
 use borrow.Author.Needs.{needs}
 use Rattle.rehearsal_line.proofs.do_alloc.Statement.{statement}
 use Rattle.rehearsal_line.proofs.do_alloc.Tie as tie
 
+-- the type table, and the lent memory where it starts
+abbrev T : tie.Start → Table
+T c = tableOf (now (c .args .types)) (now (c .args .fields)) (now (c .args .consts)) (now (c .args .bytes))
+
+abbrev L : tie.Start → Lent
+L c = lent (c .args .g .heap) (now (c .args .narrow)) (now (c .args .wide)) (now (c .args .pool))
+
 collect-due-requires : tie.Need-collect-due-requires
-collect-due-requires c κs = (@pre .0, (@pre .1 .0, @pre .1 .1 .0))
+collect-due-requires c κs = (c .before .before .before .before .before .before .before .before .before .before .before .before .before .before .before .before .before .pre .0, (c .before .before .before .before .before .before .before .before .before .before .before .before .before .before .before .before .before .pre .1 .0, c .before .before .before .before .before .before .before .before .before .before .before .before .before .before .before .before .before .pre .1 .1 .0))
 
 allocate-requires : tie.Need-allocate-requires
-allocate-requires c κs = (@collect-due .ensures .0 .order, (omega (arith, same-turns (@start .args .g) (@collect-due .ensures .0) 0 0 [], @pre .1 .1 .0), (@pre .1 .1 .1 .0, led-more (@pre .0) (@pre .1 .1 .1 .1) (@collect-due .ensures .0) (@if1 .taken) (ap (λ (k : ℕ). k / 6) (@collect-due .kept .1 .1 .1 .1 .1 .0)) (@collect-due .kept .1 .1 .1 .1 .1 .1 .1 .0) _ _ _)))
+allocate-requires c κs = (c .before .before .before .before .before .before .before .before .before .before .before .before .before .before .before .before .collect-due .ensures .0 .order, (omega (arith, same-turns (T (c .before .before .before .before .before .before .before .before .before .before .before .before .before .before .before .before .before .before .before .before .before .before .before .before .before .before .before .before .before .before .before .before .before .before)) (L (c .before .before .before .before .before .before .before .before .before .before .before .before .before .before .before .before .before .before .before .before .before .before .before .before .before .before .before .before .before .before .before .before .before .before)) (c .before .before .before .before .before .before .before .before .before .before .before .before .before .before .before .before .before .before .before .before .before .before .before .before .before .before .before .before .before .before .before .before .before .before .args .g) (c .before .before .before .before .before .before .before .before .before .before .before .before .before .before .before .before .before .before .before .before .before .before .before .before .before .before .before .before .before .before .before .before .before .before .args .threshold) (c .before .before .before .before .before .before .before .before .before .before .before .before .before .before .before .before .collect-due .ensures .0) 0 0 [], c .before .before .before .before .before .before .before .before .before .before .before .before .before .before .before .before .before .before .before .before .before .before .before .before .before .before .before .before .before .before .before .before .before .before .pre .1 .1 .0), (c .before .before .before .before .before .before .before .before .before .before .before .before .before .before .before .before .before .before .before .before .before .before .before .before .before .before .before .before .before .before .before .before .before .before .pre .1 .1 .1 .0, led-more (c .before .before .before .before .before .before .before .before .before .before .before .before .before .before .before .before .before .before .before .before .before .before .before .before .before .before .before .before .before .before .before .before .before .before .pre .0) (c .before .before .before .before .before .before .before .before .before .before .before .before .before .before .before .before .before .before .before .before .before .before .before .before .before .before .before .before .before .before .before .before .before .before .pre .1 .1 .1 .1) (c .before .before .before .before .before .before .before .before .before .before .before .before .before .before .before .before .collect-due .ensures .0) (c .before .before .before .before .if1 .taken) (ap (λ (k : ℕ). k / 6) (c .before .before .before .before .before .before .before .before .before .before .before .before .before .before .before .before .collect-due .kept .1 .1 .1 .1 .1 .0)) (c .before .before .before .before .before .before .before .before .before .before .before .before .before .before .before .before .collect-due .kept .1 .1 .1 .1 .1 .1 .1 .0) _ _ _)))
 
 same-length : tie.Need-same-length
-same-length c = @allocate .kept .1 .0 ∙ @collect-due .kept .1 .1 .1 .1 .1 .0
+same-length c = c .before .before .before .before .before .before .before .before .allocate .kept .1 .0 ∙ c .before .before .before .before .before .before .before .before .before .before .before .before .before .before .before .before .before .before .before .before .before .before .before .before .before .collect-due .kept .1 .1 .1 .1 .1 .0
 
 same-length-2 : tie.Need-same-length-2
-same-length-2 c = @allocate .kept .1 .1 .0 ∙ @collect-due .kept .1 .1 .1 .1 .1 .1 .0
+same-length-2 c = c .before .before .before .before .before .before .before .before .allocate .kept .1 .1 .0 ∙ c .before .before .before .before .before .before .before .before .before .before .before .before .before .before .before .before .before .before .before .before .before .before .before .before .before .collect-due .kept .1 .1 .1 .1 .1 .1 .0
 
 same-length-3 : tie.Need-same-length-3
 same-length-3 c = search needs
@@ -34,7 +45,7 @@ same-length-6 : tie.Need-same-length-6
 same-length-6 c = search needs
 
 returns : tie.Need-returns
-returns c = (alloc-goes (@start .args .g) (@collect-due .ensures .0) _ _ _ (led-alloc (@pre .0) (@pre .1 .1 .1 .1) (@collect-due .ensures .0) (@if1 .taken) (ap (λ (k : ℕ). k / 6) (@collect-due .kept .1 .1 .1 .1 .1 .0)) (@collect-due .kept .1 .1 .1 .1 .1 .1 .1 .0) _ _ _) (ap (λ (k : ℕ). k / 6) (@collect-due .kept .1 .1 .1 .1 .1 .0)) (@collect-due .kept .1 .1 .1 .1 .1 .1 .1 .0) (@allocate .ensures), @collect-due .ensures .1)
+returns c = (alloc-goes (T (c .before .before .before .before .before .before .before .before .before .before .before .before .before .before .before .before .before .before .before .before .before .before .before .before .before .before .before .before .before .before .before .before .before .before .before .before .before .before .before .before .before .before .before)) (L (c .before .before .before .before .before .before .before .before .before .before .before .before .before .before .before .before .before .before .before .before .before .before .before .before .before .before .before .before .before .before .before .before .before .before .before .before .before .before .before .before .before .before .before)) (c .before .before .before .before .before .before .before .before .before .before .before .before .before .before .before .before .before .before .before .before .before .before .before .before .before .before .before .before .before .before .before .before .before .before .before .before .before .before .before .before .before .before .before .args .g) (c .before .before .before .before .before .before .before .before .before .before .before .before .before .before .before .before .before .before .before .before .before .before .before .before .before .before .before .before .before .before .before .before .before .before .before .before .before .before .before .before .before .before .before .args .threshold) (c .before .before .before .before .before .before .before .before .before .before .before .before .before .before .before .before .before .before .before .before .before .before .before .before .before .collect-due .ensures .0) _ _ _ (led-alloc (c .before .before .before .before .before .before .before .before .before .before .before .before .before .before .before .before .before .before .before .before .before .before .before .before .before .before .before .before .before .before .before .before .before .before .before .before .before .before .before .before .before .before .before .pre .0) (c .before .before .before .before .before .before .before .before .before .before .before .before .before .before .before .before .before .before .before .before .before .before .before .before .before .before .before .before .before .before .before .before .before .before .before .before .before .before .before .before .before .before .before .pre .1 .1 .1 .1) (c .before .before .before .before .before .before .before .before .before .before .before .before .before .before .before .before .before .before .before .before .before .before .before .before .before .collect-due .ensures .0) (c .before .before .before .before .before .before .before .before .before .before .before .before .before .if1 .taken) (ap (λ (k : ℕ). k / 6) (c .before .before .before .before .before .before .before .before .before .before .before .before .before .before .before .before .before .before .before .before .before .before .before .before .before .collect-due .kept .1 .1 .1 .1 .1 .0)) (c .before .before .before .before .before .before .before .before .before .before .before .before .before .before .before .before .before .before .before .before .before .before .before .before .before .collect-due .kept .1 .1 .1 .1 .1 .1 .1 .0) _ _ _) (ap (λ (k : ℕ). k / 6) (c .before .before .before .before .before .before .before .before .before .before .before .before .before .before .before .before .before .before .before .before .before .before .before .before .before .collect-due .kept .1 .1 .1 .1 .1 .0)) (c .before .before .before .before .before .before .before .before .before .before .before .before .before .before .before .before .before .before .before .before .before .before .before .before .before .collect-due .kept .1 .1 .1 .1 .1 .1 .1 .0) (c .before .before .before .before .before .before .before .before .allocate .ensures), c .before .before .before .before .before .before .before .before .before .before .before .before .before .before .before .before .before .before .before .before .before .before .before .before .before .collect-due .ensures .1)
 
 same-length-7 : tie.Need-same-length-7
 same-length-7 c = search needs
@@ -55,7 +66,7 @@ same-length-12 : tie.Need-same-length-12
 same-length-12 c = search needs
 
 returns-2 : tie.Need-returns-2
-returns-2 c = (alloc-ends (@start .args .g) (@collect-due .ensures .0) _ _ _ (@if1 .left), @collect-due .ensures .1)
+returns-2 c = (alloc-ends (T (c .before .before .before .before .before .before .before .before .before .before .before .before .before .before .before .before .before .before .before .before .before .before .before .before .before .before .before .before .before .before)) (L (c .before .before .before .before .before .before .before .before .before .before .before .before .before .before .before .before .before .before .before .before .before .before .before .before .before .before .before .before .before .before)) (c .before .before .before .before .before .before .before .before .before .before .before .before .before .before .before .before .before .before .before .before .before .before .before .before .before .before .before .before .before .before .args .g) (c .before .before .before .before .before .before .before .before .before .before .before .before .before .before .before .before .before .before .before .before .before .before .before .before .before .before .before .before .before .before .args .threshold) (c .before .before .before .before .before .before .before .before .before .before .before .before .collect-due .ensures .0) _ _ _ (c .if1 .left), c .before .before .before .before .before .before .before .before .before .before .before .before .collect-due .ensures .1)
 
 pub do-alloc-spec : {M : Type 1} → statement M
 do-alloc-spec =

@@ -24,19 +24,19 @@ enum-known-line : tie.Need-enum-known-line
 enum-known-line c = search needs
 
 do-alloc-requires : tie.Need-do-alloc-requires
-do-alloc-requires c κs = (@pre .0, (@pre .1 .0, (@pre .1 .1 .0, (alloc-data _ (@start .args .line) _ (@line .given .1) (@pre .1 .1 .1 .0), @pre .1 .1 .1 .1))))
+do-alloc-requires c κs = (c .before .before .before .before .before .before .before .before .before .before .before .before .before .before .before .before .before .before .before .before .pre .0, (c .before .before .before .before .before .before .before .before .before .before .before .before .before .before .before .before .before .before .before .before .pre .1 .0, (c .before .before .before .before .before .before .before .before .before .before .before .before .before .before .before .before .before .before .before .before .pre .1 .1 .0, (alloc-data _ (c .before .before .before .before .before .before .before .before .before .before .before .before .before .before .before .before .before .before .before .before .args .line) _ (c .before .before .before .before .before .before .before .line .given .1) (c .before .before .before .before .before .before .before .before .before .before .before .before .before .before .before .before .before .before .before .before .pre .1 .1 .1 .0), c .before .before .before .before .before .before .before .before .before .before .before .before .before .before .before .before .before .before .before .before .pre .1 .1 .1 .1))))
 
 enum-known-line-2 : tie.Need-enum-known-line-2
 enum-known-line-2 c = search needs
 
 do-store-requires : tie.Need-do-store-requires
-do-store-requires c κs = (@pre .0, led-whole (@pre .0) (@pre .1 .1 .1 .1))
+do-store-requires c κs = (c .before .before .before .before .before .before .before .before .before .before .before .before .before .before .before .before .before .before .pre .0, led-whole (c .before .before .before .before .before .before .before .before .before .before .before .before .before .before .before .before .before .before .pre .0) (c .before .before .before .before .before .before .before .before .before .before .before .before .before .before .before .before .before .before .pre .1 .1 .1 .1))
 
 enum-known-line-3 : tie.Need-enum-known-line-3
 enum-known-line-3 c = search needs
 
 do-drop-requires : tie.Need-do-drop-requires
-do-drop-requires c κs = names-there (@pre .0) 0 0 0
+do-drop-requires c κs = names-there (c .before .before .before .before .before .before .before .before .before .before .before .before .before .before .before .pre .0) 0 0 0
 
 enum-told : tie.Need-enum-told
 enum-told c = search needs
@@ -60,7 +60,7 @@ same-length-6 : tie.Need-same-length-6
 same-length-6 c = search needs
 
 returns : tie.Need-returns
-returns c = (as-line (T (@start)) (L (@start)) (now (@start .args .words)) (@start .args .g) (@start .args .threshold) (now (@start .args .s)) (@start .args .line) _ (ap (stepIn (now (@start .args .s))) (@line .given .1)) (@do-alloc .ensures .0), @do-alloc .ensures .1)
+returns c = (as-line (T (c .before .before .before .before .before .before .before .before .before .before .before .before .before .before .before .before .before .before .before .before .before .before .before .before .before .before .before .before .before .before .before .before .before)) (L (c .before .before .before .before .before .before .before .before .before .before .before .before .before .before .before .before .before .before .before .before .before .before .before .before .before .before .before .before .before .before .before .before .before)) (now (c .before .before .before .before .before .before .before .before .before .before .before .before .before .before .before .before .before .before .before .before .before .before .before .before .before .before .before .before .before .before .before .before .before .args .words)) (c .before .before .before .before .before .before .before .before .before .before .before .before .before .before .before .before .before .before .before .before .before .before .before .before .before .before .before .before .before .before .before .before .before .args .g) (c .before .before .before .before .before .before .before .before .before .before .before .before .before .before .before .before .before .before .before .before .before .before .before .before .before .before .before .before .before .before .before .before .before .args .threshold) (now (c .before .before .before .before .before .before .before .before .before .before .before .before .before .before .before .before .before .before .before .before .before .before .before .before .before .before .before .before .before .before .before .before .before .args .s)) (c .before .before .before .before .before .before .before .before .before .before .before .before .before .before .before .before .before .before .before .before .before .before .before .before .before .before .before .before .before .before .before .before .before .args .line) _ (ap (stepIn (now (c .before .before .before .before .before .before .before .before .before .before .before .before .before .before .before .before .before .before .before .before .before .before .before .before .before .before .before .before .before .before .before .before .before .args .s))) (c .before .before .before .before .before .before .before .before .before .before .before .before .before .before .before .before .before .before .before .before .line .given .1)) (c .before .before .before .before .before .before .before .before .before .before .before .before .do-alloc .ensures .0), c .before .before .before .before .before .before .before .before .before .before .before .before .do-alloc .ensures .1)
 
 same-length-7 : tie.Need-same-length-7
 same-length-7 c = search needs
@@ -75,16 +75,16 @@ same-length-10 : tie.Need-same-length-10
 same-length-10 c = search needs
 
 returns-2 : tie.Need-returns-2
-returns-2 c = (as-line (T (@start)) (L (@start)) (now (@start .args .words)) (@start .args .g) (@start .args .threshold) (now (@start .args .s)) (@start .args .line) _ (ap (stepIn (now (@start .args .s))) (@line2 .given .1)) (store-line (T (@start)) (L (@start)) (now (@start .args .words)) (@start .args .g) (@start .args .threshold) _ _ _ (@do-store .ensures)), (refl, refl))
+returns-2 c = (as-line (T (c .before .before .before .before .before .before .before .before .before .before .before .before .before .before .before .before .before .before .before .before .before .before .before)) (L (c .before .before .before .before .before .before .before .before .before .before .before .before .before .before .before .before .before .before .before .before .before .before .before)) (now (c .before .before .before .before .before .before .before .before .before .before .before .before .before .before .before .before .before .before .before .before .before .before .before .args .words)) (c .before .before .before .before .before .before .before .before .before .before .before .before .before .before .before .before .before .before .before .before .before .before .before .args .g) (c .before .before .before .before .before .before .before .before .before .before .before .before .before .before .before .before .before .before .before .before .before .before .before .args .threshold) (now (c .before .before .before .before .before .before .before .before .before .before .before .before .before .before .before .before .before .before .before .before .before .before .before .args .s)) (c .before .before .before .before .before .before .before .before .before .before .before .before .before .before .before .before .before .before .before .before .before .before .before .args .line) _ (ap (stepIn (now (c .before .before .before .before .before .before .before .before .before .before .before .before .before .before .before .before .before .before .before .before .before .before .before .args .s))) (c .before .before .before .before .before .before .before .before .before .before .line2 .given .1)) (store-line (T (c .before .before .before .before .before .before .before .before .before .before .before .before .before .before .before .before .before .before .before .before .before .before .before)) (L (c .before .before .before .before .before .before .before .before .before .before .before .before .before .before .before .before .before .before .before .before .before .before .before)) (now (c .before .before .before .before .before .before .before .before .before .before .before .before .before .before .before .before .before .before .before .before .before .before .before .args .words)) (c .before .before .before .before .before .before .before .before .before .before .before .before .before .before .before .before .before .before .before .before .before .before .before .args .g) (c .before .before .before .before .before .before .before .before .before .before .before .before .before .before .before .before .before .before .before .before .before .before .before .args .threshold) _ _ _ (c .before .before .before .before .do-store .ensures)), (refl, refl))
 
 same-length-11 : tie.Need-same-length-11
 same-length-11 c = search needs
 
 returns-3 : tie.Need-returns-3
-returns-3 c = (as-line (T (@start)) (L (@start)) (now (@start .args .words)) (@start .args .g) (@start .args .threshold) (now (@start .args .s)) (@start .args .line) _ (ap (stepIn (now (@start .args .s))) (@line3 .given .1)) (drop-line (T (@start)) (@start .args .threshold) (@pre .0) _ refl (@do-drop .kept .1 .1 .1 .0) (@do-drop .ensures) refl (ap (λ (h : Heap). lent h (now (@start .args .narrow)) (now (@start .args .wide)) (now (@start .args .pool))) (drop-header (@do-drop .ensures)))), (refl, refl))
+returns-3 c = (as-line (T (c .before .before .before .before .before .before .before .before .before .before .before .before .before .before .before .before .before .before)) (L (c .before .before .before .before .before .before .before .before .before .before .before .before .before .before .before .before .before .before)) (now (c .before .before .before .before .before .before .before .before .before .before .before .before .before .before .before .before .before .before .args .words)) (c .before .before .before .before .before .before .before .before .before .before .before .before .before .before .before .before .before .before .args .g) (c .before .before .before .before .before .before .before .before .before .before .before .before .before .before .before .before .before .before .args .threshold) (now (c .before .before .before .before .before .before .before .before .before .before .before .before .before .before .before .before .before .before .args .s)) (c .before .before .before .before .before .before .before .before .before .before .before .before .before .before .before .before .before .before .args .line) _ (ap (stepIn (now (c .before .before .before .before .before .before .before .before .before .before .before .before .before .before .before .before .before .before .args .s))) (c .before .before .before .before .before .line3 .given .1)) (drop-line (T (c .before .before .before .before .before .before .before .before .before .before .before .before .before .before .before .before .before .before)) (c .before .before .before .before .before .before .before .before .before .before .before .before .before .before .before .before .before .before .args .threshold) (c .before .before .before .before .before .before .before .before .before .before .before .before .before .before .before .before .before .before .pre .0) _ refl (c .before .before .do-drop .kept .1 .1 .1 .0) (c .before .before .do-drop .ensures) refl (ap (λ (h : Heap). lent h (now (c .before .before .before .before .before .before .before .before .before .before .before .before .before .before .before .before .before .before .args .narrow)) (now (c .before .before .before .before .before .before .before .before .before .before .before .before .before .before .before .before .before .before .args .wide)) (now (c .before .before .before .before .before .before .before .before .before .before .before .before .before .before .before .before .before .before .args .pool))) (drop-header (c .before .before .do-drop .ensures)))), (refl, refl))
 
 returns-4 : tie.Need-returns-4
-returns-4 c = (bad-line (T (@start)) (@start .args .threshold) (now (@start .args .s)) (@start .args .line) (@pre .0) (@enum-told .given .1), (refl, refl))
+returns-4 c = (bad-line (T (c .before .before .before .before .before .before .before .before .before .before .before .before .before)) (c .before .before .before .before .before .before .before .before .before .before .before .before .before .args .threshold) (now (c .before .before .before .before .before .before .before .before .before .before .before .before .before .args .s)) (c .before .before .before .before .before .before .before .before .before .before .before .before .before .args .line) (c .before .before .before .before .before .before .before .before .before .before .before .before .before .pre .0) (c .enum-told .given .1), (refl, refl))
 
 pub do-line-spec : {M : Type 1} → statement M
 do-line-spec =
