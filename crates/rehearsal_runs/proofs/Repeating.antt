@@ -51,7 +51,7 @@ first-rises : (words : List ℕ) → risingFrom 1 (run 0 0 words ++ (0 + 1) ∷ 
 unfolding run risingFrom
 first-rises words = refl
 
-module _ {l : Lent} {S P : ℕ} (lies : l ≡ stored S P (new 1)) where
+module _ {l : Lent} (S P : ℕ) (lies : l ≡ stored S P (new 1)) where
   seen-new : view l ≡ new 1
   seen-new = ap view lies ∙ view-stored S P (new 1)
 

@@ -115,7 +115,7 @@ running-first {T} {n} {s} {l} {words} {g} order b t =
     }
 
 module _ {T : Table} {S P n : ℕ} {s : List ℕ} {l : Lent} {words : List ℕ} {g : Going} {at : ℕ} (v : Running T S P n s l words g at) where
-  pub running-led : Led T l words g n
+  abbrev pub running-led : Led T l words g n
   running-led = record { lines = v .lines; there = v .there ∙ (λ i. runOf T (sym (v .slots) i) (sym (v .pool) i) n (v .lines)); alive = v .alive }
 
   pub running-short : at < length s → length s < 2 ^ 64 → Short g
