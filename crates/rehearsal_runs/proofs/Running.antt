@@ -43,8 +43,8 @@ on x y = record { narrow = x .narrow ∙ y .narrow; wide = x .wide ∙ y .wide; 
 
 -- scratch that stays zero
 pub still-clear : {n₀ n₁ w₀ w₁ p₀ p₁ a₀ a₁ m₀ m₁ k₀ k₁ : List ℕ} → Cleared (length n₀ / 6) m₀ k₀ → Sizes n₀ n₁ w₀ w₁ p₀ p₁ a₀ a₁ m₀ m₁ k₀ k₁ → Cleared (length n₁ / 6) m₁ k₁
-still-clear {n₀ = n₀} {n₁ = n₁} {m₀ = m₀} {k₀ = k₀} c z =
-    subst (λ (m : List ℕ). Cleared (length n₁ / 6) m _) (sym (z .marks))
+still-clear {n₀ = n₀} {n₁ = n₁} {m₀ = m₀} {k₀ = k₀} {k₁ = k₁} c z =
+    subst (λ (m : List ℕ). Cleared (length n₁ / 6) m k₁) (sym (z .marks))
     (subst (λ (k : List ℕ). Cleared (length n₁ / 6) m₀ k) (sym (z .work))
     (subst (λ (s : ℕ). Cleared (s / 6) m₀ k₀) (sym (z .narrow)) c))
 
