@@ -22,16 +22,18 @@ use Rattle.heap.proofs.Testing.{formed-tested}
 use Rattle.object_door.proofs.Making.{made-formed}
 use Rattle.heap_calls.specs.Pins.{risingFrom}
 use Rattle.collection.specs.Swept.{liveSize}
-use Rattle.rehearsal.specs.Lines.{Line, linesText, isText}
+use Rattle.rehearsal.specs.Lines.{Line}
 use Rattle.rehearsal.specs.Runs.{Run, Figures, after, starting, rehearsed, figuresLine, figuresText}
 use Rattle.rehearsal.specs.OnHeap.{heaped, fresh}
-use Rattle.rehearsal.proofs.Reading.{read-exactly, lines-fewer}
-use Rattle.rehearsal.proofs.Bound.{figures-short}
+use Rattle.text.proofs.Laws.{decimal-length}
+use Rattle.rehearsal.proofs.Bound.{Fits, fits-after, live-most, heap-keeps}
+use Rattle.rehearsal.proofs.Relation.{Good, stands-new}
+use Rattle.rehearsal_runs.proofs.Printing.{line-long}
 use Rattle.rehearsal_names.specs.Names.{entries, kept, named}
 use Rattle.rehearsal_steps.specs.declared.Going.{Going}
 use Rattle.rehearsal_steps.specs.Going.{goingOn, InOrder, Goes}
 use Rattle.rehearsal_runs.specs.Runs.{linesOf, runOf, Begun, LentRoom, figuresIn, CanPut, memoryAfter, Rehearses}
-use Rattle.rehearsal_runs.proofs.Running.{Sizes as Same, text-lines}
+use Rattle.rehearsal_runs.proofs.Running.{Sizes as Same}
 
 -- ---- at the start
 
@@ -98,11 +100,21 @@ module _ (T : Table) {S P : ℕ} (n : ℕ) {l : Lent} {words : List ℕ} {g : Go
     answer = went .is i .answer;
   }
 
--- a text has fewer lines than bytes
-pub lines-short : (s : List ℕ) → isText s ≡ true → length s < 2 ^ 64 → length (linesOf s) < 2 ^ 64
-lines-short s t long =
-    let e = read-exactly s (linesOf s) .0 (text-lines s t) in
-    omega (arith, lines-fewer (linesOf s), ap length (e .1))
+  -- a line of figures has at most 67 bytes
+  pub short-line : n < 2 ^ 64 → g .collections < 2 ^ 64 → length (figuresLine (figuresIn n g)) ≤ 67
+  unfolding heaped
+  short-line word count =
+      let f = formed-tested l (went .order .formed) .sound in
+      let h : Good S P fresh = stands-new S P (omega (arith, f .slot-range .0, eS)) (omega (arith, f .slot-range .1, eS)) (omega (arith, f .pool-range, eP)) .good in
+      let r : Fits (Good S P) 2147483648 (0 + length ls) (runOf T S P n ls) =
+      fits-after (Good S P) 2147483648 (heaped T S P) (heap-keeps T S P) n 0 ls (starting (heaped T S P) n fresh)
+      (record { world = h; highest = heap-keeps T S P .size fresh h; answer = omega arith; collections = omega arith }) in
+      let a = decimal-length 19 n (omega arith) in
+      let b = decimal-length 19 (g .collections) (omega arith) in
+      let c = decimal-length 9 (g .highest) (omega (arith, r .highest, ap (λ (x : Run State). x .highest) (went .is))) in
+      let d = decimal-length 9 (g .size) (omega (arith, went .order .sum, live-most (view l .slots), f .slots-fit, f .slot-range .1, f .data-fit, f .pool-range)) in
+      let e = decimal-length 1 (g .answer) (omega (arith, r .answer, ap (λ (x : Run State). x .answer) (went .is))) in
+      omega (arith, line-long (figuresIn n g), a, b, c, d, e)
 
 -- ---- one threshold after another
 
@@ -113,11 +125,12 @@ pub record Repeating (T : Table) (l₀ : Lent) (s ns out₀ : List ℕ) (l : Len
   pub left : text ++ figuresText (heaped T (slotCount l₀) (poolSize l₀)) fresh (drop i ns) (linesOf s) ≡ figuresText (heaped T (slotCount l₀) (poolSize l₀)) fresh ns (linesOf s)
   pub printed : Puts out₀ out 0 at text
   pub short : length text ≤ 80 * i
+  pub least : 2 * i ≤ length text
   pub room : 80 * length ns ≤ length out₀
 
 pub repeat-first : {T : Table} {l : Lent} {s ns out : List ℕ} → 80 * length ns ≤ length out → Repeating T l s ns out l out 0 0
 repeat-first {out = out} room =
-    record { within = omega arith; memory = refl; text = []; left = refl; printed = puts-none out 0 (omega arith); short = omega arith; room = room }
+    record { within = omega arith; memory = refl; text = []; left = refl; printed = puts-none out 0 (omega arith); short = omega arith; least = omega arith; room = room }
 
 module _ {T : Table} {l₀ : Lent} {s ns out₀ : List ℕ} {l : Lent} {out : List ℕ} {at i : ℕ} (v : Repeating T l₀ s ns out₀ l out at i) where
   abbrev S : ℕ
@@ -152,24 +165,22 @@ module _ {T : Table} {l₀ : Lent} {s ns out₀ : List ℕ} {l : Lent} {out : Li
     figures : figuresIn (getD ns i 0) g ≡ rehearsed (heaped T (slotCount l₀) (poolSize l₀)) fresh (getD ns i 0) (linesOf s)
     figures = run-figures T (getD ns i 0) (linesOf s) went eS eP
 
-    line-short : n < 2 ^ 64 → isText s ≡ true → length s < 2 ^ 64 → length (figuresLine (figuresIn (getD ns i 0) g)) ≤ 67
-    line-short word t long =
-        let f = formed-tested l₁ (went .order .formed) .sound in
-        omega (
-          arith,
-          ap (λ (x : Figures). length (figuresLine x)) figures,
-          figures-short T (slotCount l₀) (poolSize l₀) (omega (arith, f .slot-range .0, eS)) (omega (arith, f .slot-range .1, eS)) (omega (arith, f .pool-range, eP)) (getD ns i 0) (linesOf s) word (lines-short s t long),
-        )
+    line-short : n < 2 ^ 64 → g .collections < 2 ^ 64 → length (figuresLine (figuresIn (getD ns i 0) g)) ≤ 67
+    line-short word count = short-line T (getD ns i 0) (linesOf s) went eS eP word count
 
-    pub repeat-put : getD ns i 0 < 2 ^ 64 → isText s ≡ true → length s < 2 ^ 64 → CanPut out at (getD ns i 0) g
-    repeat-put word t long = record { room = omega (arith, line-short word t long, repeat-long, v .printed .next, v .short, v .room) }
+    pub repeat-put : getD ns i 0 < 2 ^ 64 → g .collections < 2 ^ 64 → CanPut out at (getD ns i 0) g
+    repeat-put word count = record { room = omega (arith, line-short word count, repeat-long, v .printed .next, v .short, v .room) }
+
+    -- so many lines are in so many bytes
+    pub repeat-least : {out′ : List ℕ} {at′ : ℕ} → Puts out out′ at at′ (figuresLine (figuresIn (getD ns i 0) g)) → 2 * (i + 1) ≤ at′
+    repeat-least p = omega (arith, p .next, v .printed .next, v .least, line-long (figuresIn (getD ns i 0) g))
 
     next-left : drop i ns ≡ getD ns i 0 ∷ drop (i + 1) ns
     next-left = drop-at ns i less
 
-    pub repeat-next : {out′ : List ℕ} {at′ : ℕ} → getD ns i 0 < 2 ^ 64 → isText s ≡ true → length s < 2 ^ 64 → Puts out out′ at at′ (figuresLine (figuresIn (getD ns i 0) g)) → Repeating T l₀ s ns out₀ l₁ out′ at′ (i + 1)
+    pub repeat-next : {out′ : List ℕ} {at′ : ℕ} → getD ns i 0 < 2 ^ 64 → g .collections < 2 ^ 64 → Puts out out′ at at′ (figuresLine (figuresIn (getD ns i 0) g)) → Repeating T l₀ s ns out₀ l₁ out′ at′ (i + 1)
     unfolding memoryAfter figuresText
-    repeat-next {out′} {at′} word t long p =
+    repeat-next {out′} {at′} word count p =
         let G = heaped T (slotCount l₀) (poolSize l₀) in
         let one : List ℕ = figuresLine (figuresIn (getD ns i 0) g) in
         record {
@@ -181,6 +192,7 @@ module _ {T : Table} {l₀ : Lent} {s ns out₀ : List ℕ} {l : Lent} {out : Li
               ∙ ap (λ (x : Figures). v .text ++ (figuresLine x ++ figuresText (heaped T (slotCount l₀) (poolSize l₀)) fresh (drop (i + 1) ns) (linesOf s))) figures
               ∙ ap (λ (r : List ℕ). v .text ++ figuresText (heaped T (slotCount l₀) (poolSize l₀)) fresh r (linesOf s)) (sym next-left) ∙ v .left;
           printed = puts-puts (v .printed) p (omega arith);
-          short = omega (arith, line-short word t long, v .short, length-append (v .text) one);
+          short = omega (arith, line-short word count, v .short, length-append (v .text) one);
+          least = omega (arith, v .least, length-append (v .text) one, line-long (figuresIn (getD ns i 0) g));
           room = v .room;
         }

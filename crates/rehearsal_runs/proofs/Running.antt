@@ -1,5 +1,5 @@
 -- The loop over a text's lines: those done have led to where the rehearsal is, and the rest is left. Assumes nothing.
-use Prim.Native.Nat.{ℕ, zero, suc, _+_, _/_, _^_, _≤_, _<_}
+use Prim.Native.Nat.{ℕ, zero, suc, _+_, _*_, _/_, _^_, _≤_, _<_}
 use native.Mathlib.Omega.{arith}
 use mathlib.Core.Bool.{Bool, true, false}
 use mathlib.Core.List.{List, [], _∷_, _++_, append-assoc, append-nil}
@@ -7,15 +7,15 @@ use mathlib.Core.Option.{Option, none, some}
 use mathlib.Core.Path.{_≡_, refl, sym, ap, _∙_, subst}
 use lib.ListN.{length, drop, length-append, length-drop}
 use Rattle.word.proofs.Bools.{true-false}
-use Rattle.text.specs.Text.{give, _>>=_}
+use Rattle.text.specs.Text.{give, _>>=_, ascii, line}
 use Rattle.text.proofs.Laws.{none-not-some, some-inj, bind-some}
 use Rattle.ty.specs.Types.{Table}
 use Rattle.heap.specs.State.{State}
 use Rattle.heap.specs.Lent.{Lent, slotCount, poolSize}
-use Rattle.rehearsal.specs.Lines.{Line as Step, readLine, readLines, isRead, isText}
+use Rattle.rehearsal.specs.Lines.{Line as Step, alloc, store, drop as drops, lineText, readLine, readLines, isRead, isText}
 use Rattle.rehearsal.specs.Runs.{Run, World, unless, does, after, starting}
 use Rattle.rehearsal.specs.OnHeap.{heaped, fresh}
-use Rattle.rehearsal.proofs.Reading.{line-shorter, read-nothing, read-bad, read-more}
+use Rattle.rehearsal.proofs.Reading.{line-back, read-nothing, read-bad, read-more}
 use Rattle.rehearsal.proofs.Holding.{after-one, after-ended, counted-after}
 use Rattle.rehearsal_lines.specs.Found.{Reads, LineRead, nextAfter, stepIn, DataIn}
 use Rattle.rehearsal_lines.specs.declared.Line.{Line}
@@ -48,6 +48,9 @@ still-clear {n₀ = n₀} {n₁ = n₁} {m₀ = m₀} {k₀ = k₀} {k₁ = k₁
     (subst (λ (k : List ℕ). Cleared (length n₁ / 6) m₀ k) (sym (z .work))
     (subst (λ (s : ℕ). Cleared (s / 6) m₀ k₀) (sym (z .narrow)) c))
 
+pub clear-same : {a b : ℕ} {m k : List ℕ} → b ≡ a → Cleared (a / 6) m k → Cleared (b / 6) m k
+clear-same {m = m} {k = k} e c = subst (λ (s : ℕ). Cleared (s / 6) m k) (sym e) c
+
 pub goes-sizes : (T : Table) {S S₁ P P₁ : ℕ} (n : ℕ) (ls : List Step) {l : Lent} {words : List ℕ} {g : Going} → S₁ ≡ S → P₁ ≡ P → Goes l words g (runOf T S₁ P₁ n ls) → Goes l words g (runOf T S P n ls)
 goes-sizes T n ls a b d = record { order = d .order; is = d .is ∙ (λ i. runOf T (a i) (b i) n ls) }
 
@@ -65,6 +68,13 @@ pub after-append : {W : Type 0} (G : World W) (n : ℕ) (xs ys : List Step) (r :
 unfolding after
 after-append G n [] ys r = refl
 after-append G n (x ∷ xs) ys r = after-append G n xs ys (unless G n r (does G n x))
+
+-- no line is short
+long-line : (l : Step) → 2 ≤ length (lineText l)
+unfolding lineText line ascii
+long-line (alloc t k bs) = omega arith
+long-line (store a b o) = omega arith
+long-line (drops a) = omega arith
 
 -- a line that was read, and what it is
 pub record Next (s : List ℕ) (at : ℕ) (line : Line) : Type 0 where
@@ -95,7 +105,7 @@ pub record Running (T : Table) (S P n : ℕ) (s : List ℕ) (l : Lent) (words : 
   pub whole : lines ++ rest ≡ linesOf s
   pub there : goingOn l words g ≡ runOf T S P n lines
   pub alive : g .answer ≡ 0
-  pub few : length lines ≤ at
+  pub few : 2 * length lines ≤ at
 
 pub running-first : {T : Table} {n : ℕ} {s : List ℕ} {l : Lent} {words : List ℕ} {g : Going} → InOrder l words g → Begun T l words g n → isText s ≡ true → Running T (slotCount l) (poolSize l) n s l words g 0
 unfolding after
@@ -118,8 +128,8 @@ module _ {T : Table} {S P n : ℕ} {s : List ℕ} {l : Lent} {words : List ℕ} 
   abbrev pub running-led : Led T l words g n
   running-led = record { lines = v .lines; there = v .there ∙ (λ i. runOf T (sym (v .slots) i) (sym (v .pool) i) n (v .lines)); alive = v .alive }
 
-  pub running-short : at < length s → length s < 2 ^ 64 → Short g
-  running-short less long =
+  pub running-short : at < 2 ^ 64 → Short g
+  running-short long =
       let c = counted-after (heaped T S P) n (v .lines) fresh in
       record {
         few-turns = omega (arith, v .few, c .0, ap (λ (r : Run State). r .turns) (v .there));
@@ -145,8 +155,10 @@ module _ {T : Table} {S P n : ℕ} {s : List ℕ} {l : Lent} {words : List ℕ} 
     abbrev next : ℕ
     next = nextAfter (length s) line
 
-    pub next-later : at < nextAfter (length s) line
-    next-later = omega (arith, line-shorter (drop at s) (drop next s) c (next-line .reads .line), length-drop at s, length-drop next s, next-line .reads .inside)
+    pub next-later : at + 2 ≤ nextAfter (length s) line
+    next-later =
+        let b = line-back (drop at s) c (drop next s) (next-line .reads .line) in
+        omega (arith, ap length (b .1), length-append (lineText c) (drop next s), long-line c, length-drop at s, length-drop next s, next-line .reads .inside)
 
     pub next-within : nextAfter (length s) line ≤ length s
     next-within = next-line .reads .inside

@@ -23,7 +23,7 @@ abbrev μ-loop : tie.MeasureT-loop
     length thresholds - i
 
 loop-holds : tie.Need-loop-holds Inv-loop μ-loop
-loop-holds c = (repeat-first (@pre .room), same _ _ _ _ _ _)
+loop-holds c = (repeat-first (c .before .before .before .before .before .before .before .before .before .before .before .before .before .pre .room), same _ _ _ _ _ _)
 
 mul-n : tie.Need-mul-n Inv-loop μ-loop
 mul-n c = search needs
@@ -32,43 +32,43 @@ shared-slice-read-n : tie.Need-shared-slice-read-n Inv-loop μ-loop
 shared-slice-read-n c = search needs
 
 rehearse-one-requires : tie.Need-rehearse-one-requires Inv-loop μ-loop
-rehearse-one-requires c κs = (room-same (@pre .memory) (@loop .inv .1), (still-clear (@pre .clear) (@loop .inv .1), @pre .text))
+rehearse-one-requires c κs = (room-same (c .before .before .before .before .before .before .before .before .before .before .before .before .before .before .before .before .before .before .before .before .before .before .pre .memory) (c .before .before .before .before .before .before .before .before .loop .inv .1), (still-clear (c .before .before .before .before .before .before .before .before .before .before .before .before .before .before .before .before .before .before .before .before .before .before .pre .clear) (c .before .before .before .before .before .before .before .before .loop .inv .1), c .before .before .before .before .before .before .before .before .before .before .before .before .before .before .before .before .before .before .before .before .before .before .pre .text))
 
 put-figures-requires : tie.Need-put-figures-requires Inv-loop μ-loop
-put-figures-requires c κs = repeat-put (@loop .inv .0) (@loop-test .taken) (goes-sizes (tableOf (now (@start .args .types)) (now (@start .args .fields)) (now (@start .args .consts)) (now (@start .args .bytes))) (getD (now (@start .args .thresholds)) _ 0) (linesOf (now (@start .args .s))) (ap (λ (j : ℕ). j / 6) (@loop .inv .1 .narrow)) (@loop .inv .1 .pool) (@rehearse-one .ensures .0)) (ap (λ (j : ℕ). j / 6) (@rehearse-one .kept .1 .1 .1 .1 .0 ∙ @loop .inv .1 .narrow)) (@rehearse-one .kept .1 .1 .1 .1 .1 .1 .0 ∙ @loop .inv .1 .pool) (omega arith) (@pre .text) (omega arith)
+put-figures-requires c κs = repeat-put (c .before .before .before .before .before .before .before .before .before .before .before .before .before .before .before .before .before .before .before .before .before .before .before .loop .inv .0) (c .before .before .before .before .before .before .before .before .before .before .before .before .before .before .before .before .before .before .before .before .before .before .loop-test .taken) (goes-sizes (tableOf (now (c .before .before .before .before .before .before .before .before .before .before .before .before .before .before .before .before .before .before .before .before .before .before .before .before .before .before .before .before .before .before .before .before .before .before .before .before .before .args .types)) (now (c .before .before .before .before .before .before .before .before .before .before .before .before .before .before .before .before .before .before .before .before .before .before .before .before .before .before .before .before .before .before .before .before .before .before .before .before .before .args .fields)) (now (c .before .before .before .before .before .before .before .before .before .before .before .before .before .before .before .before .before .before .before .before .before .before .before .before .before .before .before .before .before .before .before .before .before .before .before .before .before .args .consts)) (now (c .before .before .before .before .before .before .before .before .before .before .before .before .before .before .before .before .before .before .before .before .before .before .before .before .before .before .before .before .before .before .before .before .before .before .before .before .before .args .bytes))) (getD (now (c .before .before .before .before .before .before .before .before .before .before .before .before .before .before .before .before .before .before .before .before .before .before .before .before .before .before .before .before .before .before .before .before .before .before .before .before .before .args .thresholds)) _ 0) (linesOf (now (c .before .before .before .before .before .before .before .before .before .before .before .before .before .before .before .before .before .before .before .before .before .before .before .before .before .before .before .before .before .before .before .before .before .before .before .before .before .args .s))) (ap (λ (j : ℕ). j / 6) (c .before .before .before .before .before .before .before .before .before .before .before .before .before .before .before .before .before .before .before .before .before .before .before .loop .inv .1 .narrow)) (c .before .before .before .before .before .before .before .before .before .before .before .before .before .before .before .before .before .before .before .before .before .before .before .loop .inv .1 .pool) (c .before .before .before .before .before .before .before .before .before .before .before .before .before .before .rehearse-one .ensures .0)) (ap (λ (j : ℕ). j / 6) (c .before .before .before .before .before .before .before .before .before .before .before .before .before .before .rehearse-one .kept .1 .1 .1 .1 .0 ∙ c .before .before .before .before .before .before .before .before .before .before .before .before .before .before .before .before .before .before .before .before .before .before .before .loop .inv .1 .narrow)) (c .before .before .before .before .before .before .before .before .before .before .before .before .before .before .rehearse-one .kept .1 .1 .1 .1 .1 .1 .0 ∙ c .before .before .before .before .before .before .before .before .before .before .before .before .before .before .before .before .before .before .before .before .before .before .before .loop .inv .1 .pool) (@shared-slice-known6 .given _ .fits) (omega arith)
 
 add-i : tie.Need-add-i Inv-loop μ-loop
-add-i c = omega (arith, @loop-test .taken)
+add-i c = omega (arith, @put-figures .ensures .next)
 
 loop-less : tie.Need-loop-less Inv-loop μ-loop
-loop-less c = omega (arith, @loop-test .taken)
+loop-less c = omega (arith, c .before .before .before .before .before .before .before .before .before .before .before .before .before .before .before .before .before .before .before .before .before .before .before .before .before .loop-test .taken)
 
 loop-again : tie.Need-loop-again Inv-loop μ-loop
-loop-again c = (repeat-next (@loop .inv .0) (@loop-test .taken) (goes-sizes (tableOf (now (@start .args .types)) (now (@start .args .fields)) (now (@start .args .consts)) (now (@start .args .bytes))) (getD (now (@start .args .thresholds)) _ 0) (linesOf (now (@start .args .s))) (ap (λ (j : ℕ). j / 6) (@loop .inv .1 .narrow)) (@loop .inv .1 .pool) (@rehearse-one .ensures .0)) (ap (λ (j : ℕ). j / 6) (@rehearse-one .kept .1 .1 .1 .1 .0 ∙ @loop .inv .1 .narrow)) (@rehearse-one .kept .1 .1 .1 .1 .1 .1 .0 ∙ @loop .inv .1 .pool) (omega arith) (@pre .text) (omega arith) (@put-figures .ensures), on (record { narrow = @rehearse-one .kept .1 .1 .1 .1 .0; wide = @rehearse-one .kept .1 .1 .1 .1 .1 .0; pool = @rehearse-one .kept .1 .1 .1 .1 .1 .1 .0; words = @rehearse-one .kept .1 .1 .1 .1 .1 .1 .1 .1 .1 .0; marks = @rehearse-one .ensures .1 .0; work = @rehearse-one .ensures .1 .1 }) (@loop .inv .1))
+loop-again c = (repeat-next (c .before .before .before .before .before .before .before .before .before .before .before .before .before .before .before .before .before .before .before .before .before .before .before .before .before .before .loop .inv .0) (c .before .before .before .before .before .before .before .before .before .before .before .before .before .before .before .before .before .before .before .before .before .before .before .before .before .loop-test .taken) (goes-sizes (tableOf (now (c .before .before .before .before .before .before .before .before .before .before .before .before .before .before .before .before .before .before .before .before .before .before .before .before .before .before .before .before .before .before .before .before .before .before .before .before .before .before .before .before .args .types)) (now (c .before .before .before .before .before .before .before .before .before .before .before .before .before .before .before .before .before .before .before .before .before .before .before .before .before .before .before .before .before .before .before .before .before .before .before .before .before .before .before .before .args .fields)) (now (c .before .before .before .before .before .before .before .before .before .before .before .before .before .before .before .before .before .before .before .before .before .before .before .before .before .before .before .before .before .before .before .before .before .before .before .before .before .before .before .before .args .consts)) (now (c .before .before .before .before .before .before .before .before .before .before .before .before .before .before .before .before .before .before .before .before .before .before .before .before .before .before .before .before .before .before .before .before .before .before .before .before .before .before .before .before .args .bytes))) (getD (now (c .before .before .before .before .before .before .before .before .before .before .before .before .before .before .before .before .before .before .before .before .before .before .before .before .before .before .before .before .before .before .before .before .before .before .before .before .before .before .before .before .args .thresholds)) _ 0) (linesOf (now (c .before .before .before .before .before .before .before .before .before .before .before .before .before .before .before .before .before .before .before .before .before .before .before .before .before .before .before .before .before .before .before .before .before .before .before .before .before .before .before .before .args .s))) (ap (λ (j : ℕ). j / 6) (c .before .before .before .before .before .before .before .before .before .before .before .before .before .before .before .before .before .before .before .before .before .before .before .before .before .before .loop .inv .1 .narrow)) (c .before .before .before .before .before .before .before .before .before .before .before .before .before .before .before .before .before .before .before .before .before .before .before .before .before .before .loop .inv .1 .pool) (c .before .before .before .before .before .before .before .before .before .before .before .before .before .before .before .before .before .rehearse-one .ensures .0)) (ap (λ (j : ℕ). j / 6) (c .before .before .before .before .before .before .before .before .before .before .before .before .before .before .before .before .before .rehearse-one .kept .1 .1 .1 .1 .0 ∙ c .before .before .before .before .before .before .before .before .before .before .before .before .before .before .before .before .before .before .before .before .before .before .before .before .before .before .loop .inv .1 .narrow)) (c .before .before .before .before .before .before .before .before .before .before .before .before .before .before .before .before .before .rehearse-one .kept .1 .1 .1 .1 .1 .1 .0 ∙ c .before .before .before .before .before .before .before .before .before .before .before .before .before .before .before .before .before .before .before .before .before .before .before .before .before .before .loop .inv .1 .pool) (@shared-slice-known6 .given _ .fits) (omega arith) (c .before .before .put-figures .ensures), on (record { narrow = c .before .before .before .before .before .before .before .before .before .before .before .before .before .before .before .before .before .rehearse-one .kept .1 .1 .1 .1 .0; wide = c .before .before .before .before .before .before .before .before .before .before .before .before .before .before .before .before .before .rehearse-one .kept .1 .1 .1 .1 .1 .0; pool = c .before .before .before .before .before .before .before .before .before .before .before .before .before .before .before .before .before .rehearse-one .kept .1 .1 .1 .1 .1 .1 .0; words = c .before .before .before .before .before .before .before .before .before .before .before .before .before .before .before .before .before .rehearse-one .kept .1 .1 .1 .1 .1 .1 .1 .1 .1 .0; marks = c .before .before .before .before .before .before .before .before .before .before .before .before .before .before .before .before .before .rehearse-one .ensures .1 .0; work = c .before .before .before .before .before .before .before .before .before .before .before .before .before .before .before .before .before .rehearse-one .ensures .1 .1 }) (c .before .before .before .before .before .before .before .before .before .before .before .before .before .before .before .before .before .before .before .before .before .before .before .before .before .before .loop .inv .1))
 
 same-length : tie.Need-same-length Inv-loop μ-loop
-same-length c = @loop .inv .1 .narrow
+same-length c = c .before .loop .inv .1 .narrow
 
 same-length-2 : tie.Need-same-length-2 Inv-loop μ-loop
-same-length-2 c = @loop .inv .1 .wide
+same-length-2 c = c .before .loop .inv .1 .wide
 
 same-length-3 : tie.Need-same-length-3 Inv-loop μ-loop
-same-length-3 c = @loop .inv .1 .pool
+same-length-3 c = c .before .loop .inv .1 .pool
 
 same-length-4 : tie.Need-same-length-4 Inv-loop μ-loop
-same-length-4 c = repeat-long (@loop .inv .0)
+same-length-4 c = repeat-long (c .before .loop .inv .0)
 
 same-length-5 : tie.Need-same-length-5 Inv-loop μ-loop
-same-length-5 c = @loop .inv .1 .words
+same-length-5 c = c .before .loop .inv .1 .words
 
 same-length-6 : tie.Need-same-length-6 Inv-loop μ-loop
-same-length-6 c = ap length (@loop .inv .1 .marks)
+same-length-6 c = ap length (c .before .loop .inv .1 .marks)
 
 same-length-7 : tie.Need-same-length-7 Inv-loop μ-loop
-same-length-7 c = ap length (@loop .inv .1 .work)
+same-length-7 c = ap length (c .before .loop .inv .1 .work)
 
 returns : tie.Need-returns Inv-loop μ-loop
-returns c = (repeat-end (@loop .inv .0) (@loop-test .left), (@loop .inv .1 .marks, @loop .inv .1 .work))
+returns c = (repeat-end (c .before .loop .inv .0) (c .loop-test .left), (c .before .loop .inv .1 .marks, c .before .loop .inv .1 .work))
 
 pub rehearse-all-spec : {M : Type 1} → statement M
 rehearse-all-spec =
