@@ -2,6 +2,7 @@
 use native.Mathlib.Omega.{arith}
 use mathlib.Core.Path.{ap, _∙_}
 use Prim.Native.Nat.{ℕ, _-_, _/_}
+use denote.Ref.{now}
 use lib.ListN.{length}
 use Rattle.ty.specs.View.{tableOf}
 use Rattle.heap.specs.Lent.{lent}
@@ -25,7 +26,7 @@ read-line-requires : tie.Need-read-line-requires Inv-loop μ-loop
 read-line-requires c κs = c .before .loop .inv .0 .inside
 
 do-line-requires : tie.Need-do-line-requires Inv-loop μ-loop
-do-line-requires c κs = (c .before .before .before .before .before .before .before .before .loop .inv .0 .order, (still-clear (c .before .before .before .before .before .before .before .before .before .before .before .before .before .before .before .before .before .before .before .before .pre .1 .0) (c .before .before .before .before .before .before .before .before .loop .inv .1), (running-short (c .before .before .before .before .before .before .before .before .loop .inv .0) (omega arith), (line-data _ _ (c .before .before .before .before .before .before .read-line .result) (c .before .before .before .before .before .before .read-line .ensures), running-led (c .before .before .before .before .before .before .before .before .loop .inv .0)))))
+do-line-requires c κs = (c .before .before .before .before .before .before .before .before .loop .inv .0 .order, (still-clear (c .before .before .before .before .before .before .before .before .before .before .before .before .before .before .before .before .before .before .before .before .pre .1 .0) (c .before .before .before .before .before .before .before .before .loop .inv .1), (running-short (c .before .before .before .before .before .before .before .before .loop .inv .0) (omega (arith, c .before .before .before .before .before .before .before .before .loop .inv .0 .inside, c .before .before .before .before .before .before .before .before .before .before .before .before .before .before .before .before .before .before .before .before .good .1 .1 .1 .1 .1 .1 .1 .1 .0 .0)), (line-data (now (c .before .before .before .before .before .before .before .before .before .before .before .before .before .before .before .before .before .before .before .before .args .s)) (c .before .before .before .before .before .before .before .before .loop .at) (c .before .before .before .before .before .before .read-line .result) (c .before .before .before .before .before .before .read-line .ensures), running-led (c .before .before .before .before .before .before .before .before .loop .inv .0)))))
 
 next-after-requires : tie.Need-next-after-requires Inv-loop μ-loop
 next-after-requires c κs = search needs
