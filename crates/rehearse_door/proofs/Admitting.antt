@@ -73,6 +73,10 @@ roomy-tested n o e = leb-true n (o / 80) e
 
 -- ---- the tests
 
+none-left : Ready ≡ admitted []
+unfolding admitted
+none-left = refl
+
 module _ (g : Given) (narrow wide pool out : ℕ) (w m k : List ℕ) where
   abbrev S : ℕ
   S = narrow / 6
@@ -115,10 +119,9 @@ module _ (g : Given) (narrow wide pool out : ℕ) (w m k : List ℕ) where
                 no-output h = record { found = passes _ _ _ enough (passes _ _ _ (sym et ∙ yt) (passes _ _ _ (sym ez ∙ yz) (passes _ _ _ (sym ey ∙ yy) (fails _ _ _ (not-roomy (length (g .thresholds)) out h))))); left = cleared }
 
                 pub all-there : length (g .thresholds) ≤ out / 80 → Entered (w ∷ m ∷ k ∷ []) tests Ready (w′ ∷ m′ ∷ k′ ∷ [])
-                unfolding admitted
                 all-there h =
                     record {
-                      found = passes _ _ _ enough (passes _ _ _ (sym et ∙ yt) (passes _ _ _ (sym ez ∙ yz) (passes _ _ _ (sym ey ∙ yy) (passes (roomy (length (g .thresholds)) out) ShortList [] (is-roomy (length (g .thresholds)) out h) refl))));
+                      found = passes _ _ _ enough (passes _ _ _ (sym et ∙ yt) (passes _ _ _ (sym ez ∙ yz) (passes _ _ _ (sym ey ∙ yy) (passes (roomy (length (g .thresholds)) out) ShortList [] (is-roomy (length (g .thresholds)) out h) none-left))));
                       left = cleared;
                     }
 

@@ -13,7 +13,6 @@ use borrow.Author.Needs.{needs}
 use Rattle.rehearsal_runs.proofs.rehearse_all.Statement.{statement}
 use Rattle.rehearsal_runs.proofs.rehearse_all.Tie as tie
 
-
 abbrev Inv-loop : tie.InvT-loop
 Inv-loop types fields consts bytes narrow₀ wide₀ pool₀ s thresholds out₀ words₀ marks₀ work₀ h₀ at₀ i₀ narrow wide pool out words marks work h at i =
     Repeating (tableOf types fields consts bytes) (lent h₀ narrow₀ wide₀ pool₀) s thresholds out₀ (lent h narrow wide pool) out at i × Sizes narrow₀ narrow wide₀ wide pool₀ pool words₀ words marks₀ marks work₀ work
