@@ -10,6 +10,7 @@ import argparse
 import random
 import sys
 
+from known import COLUMNS, COLUMNS_64, NAMES
 from machine import Hang, Oracle
 from table import (
     ACCESS, ARRAY, ENUM, FILE, INT, NO_CONST, PHYSICAL, PROTECTED, REAL, RECORD, UNFOLDING, Table, Refused, Apart, dimension, show_hex,
@@ -20,8 +21,6 @@ U32 = (1 << 32) - 1
 FAR = 10000
 U64 = (1 << 64) - 1
 I64 = 1 << 63
-NAMES = "tag,since_gc,reclaim_at,live_bytes,slots,free,quarantine,sealed"
-COLUMNS = "generation,kind,type,start,writes,data"
 
 
 class Limits:
@@ -299,14 +298,18 @@ class Writer:
         reclaim = self.pick((3, 4096), (1, 4098), (1, 33554432), (1, 2 * self.r.randint(2048, 16777216)))
         head = [self.tag, self.r.choice(counts), reclaim, self.r.choice(counts)]
         head += [len(self.rows), len(self.free), len(self.quarantine), len(sealed)]
-        out = [NAMES, ",".join(map(str, head)), COLUMNS]
+        # Names of the earlier form and of the later, in any mixture.
+        names, lists = NAMES, [("free", self.free), ("quarantine", self.quarantine), ("sealed", sealed)]
+        if self.chance(0.5):
+            names, head, lists = names + ",retired", head + [0], lists + [("retired", [])]
+        out = [names, ",".join(map(str, head)), self.r.choice([COLUMNS, COLUMNS_64])]
         for s in self.rows:
             if s.data is None:
                 out.append(f"{s.generation},0,0,0,0,")
             else:
                 writes = self.pick((3, self.r.randint(0, 9)), (2, self.limits.writes), (1, self.limits.writes - 1))
                 out.append(f"{s.generation},{s.kind},{s.type},{s.start},{writes},{s.data.hex()}")
-        for name, values in (("free", self.free), ("quarantine", self.quarantine), ("sealed", sealed)):
+        for name, values in lists:
             out += [name] + list(map(str, values))
         return ";".join(out) + ";"
 

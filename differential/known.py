@@ -36,35 +36,56 @@ def stale(command, oracle, replay):
 
 
 WORD = 1 << 32
+NAMES = "tag,since_gc,reclaim_at,live_bytes,slots,free,quarantine,sealed"
+COLUMNS = "generation,kind,type,start,writes,data"
+COLUMNS_64 = "generation,kind,type,start,writes64,data"
+# What the port's page has more than the Rust's: the two digits of `writes64`, the name, the count and the line of the retired list.
+LONGER = len("64") + len(",retired") + len(",0") + len("retired;")
 
 
-def narrowed(page):
-    """The port's page as the Rust would write it: write counts modulo 2^32, under their earlier name."""
+def earlier(page):
+    """A page as the Rust has it: write counts modulo 2^32, under their earlier name, and no retired list. None where a slot is retired."""
     lines = page.split(";")
-    if len(lines) < 3 or lines[2] != "generation,kind,type,start,writes64,data":
-        return None
-    lines[2] = "generation,kind,type,start,writes,data"
-    for i in range(3, 3 + int(lines[1].split(",")[4])):
-        g, k, t, start, writes, data = lines[i].split(",")
-        lines[i] = f"{g},{k},{t},{start},{int(writes) % WORD},{data}"
+    if lines[0] == NAMES + ",retired":
+        if not lines[1].endswith(",0") or lines[-2:] != ["retired", ""]:
+            return None
+        lines[0], lines[1] = NAMES, lines[1].removesuffix(",0")
+        del lines[-2]
+    if lines[2] == COLUMNS_64:
+        lines[2] = COLUMNS
+        for i in range(3, 3 + int(lines[1].split(",")[4])):
+            g, k, t, start, writes, data = lines[i].split(",")
+            lines[i] = f"{g},{k},{t},{start},{int(writes) % WORD},{data}"
     return ";".join(lines)
 
 
-def counts(command, oracle, replay):
-    """A write count has 64 bits in the port; the Rust's is that modulo 2^32. The names line of a page is two bytes longer."""
+def later(page):
+    """The Rust's page in the form that the port writes, its write counts as they are."""
+    lines = page.split(";")
+    return ";".join([lines[0] + ",retired", lines[1] + ",0", COLUMNS_64, *lines[3:-1], "retired", ""])
+
+
+def written(page):
+    """Has the page the form that the port writes?"""
+    lines = page.split(";")
+    return len(lines) > 2 and lines[0] == NAMES + ",retired" and lines[2] == COLUMNS_64
+
+
+def forms(command, oracle, replay):
+    """A write count has 64 bits in the port; the Rust's is that modulo 2^32. The port's page has that under another name, and a retired list, empty while no generation comes to its end."""
     a, b = oracle.split(" "), replay.split(" ")
     if a[0] != "0" or b[0] != "0" or len(a) != len(b):
         return False
     if command == "stamp":
         return len(b) == 3 and a[1] == b[1] and int(a[2]) == int(b[2]) % WORD
     if command == "page":
-        return len(b) == 2 and a[1] == narrowed(b[1])
+        return len(b) == 2 and written(b[1]) and a[1] == earlier(b[1])
     if command == "pagelen":
-        return len(b) == 2 and int(b[1]) >= int(a[1]) + 2
+        return len(b) == 2 and int(b[1]) >= int(a[1]) + LONGER
     return False
 
 
-SAME = {"partial output on 13": pushed, "never issued, in the Rust stale": stale, "write counts modulo 2^32": counts}
+SAME = {"partial output on 13": pushed, "never issued, in the Rust stale": stale, "write counts modulo 2^32, the retired list": forms}
 
 
 def outside(command, oracle, replay):
@@ -73,7 +94,7 @@ def outside(command, oracle, replay):
         return "reissue beyond"
     if command == "reissue" and number(oracle) == "0" and number(replay) == "9":
         return "dead reissue"
-    if command == "reissue" and number(replay) == "20":
+    if command == "reissue" and number(replay) == "20" or command == "page" and number(replay) == "0" and earlier(replay.split(" ")[1]) is None:
         return "worn out"
     if oracle == "hang":
         return "stride 0"
@@ -95,11 +116,11 @@ def same(command, oracle, replay):
 
 
 def as_port(line, answer):
-    """The oracle's answer as the port writes it. Two write counts of the fixed scripts pass 2^32: the sample has them as the port tells them."""
+    """The oracle's answer as the port writes it, where no write count has passed 2^32."""
     if line.split(" ", 1)[0] in ("objh", "valh", "handles", "slotroots") and number(answer) == "13":
         return "13"
     if line == "page" and number(answer) == "0":
-        return answer.replace(";generation,kind,type,start,writes,data;", ";generation,kind,type,start,writes64,data;", 1)
+        return f"0 {later(answer.split(' ')[1])}"
     if line == "pagelen" and number(answer) == "0":
-        return f"0 {int(answer.split()[1]) + 2}"
+        return f"0 {int(answer.split()[1]) + LONGER}"
     return answer

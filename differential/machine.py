@@ -3,13 +3,18 @@
 import os
 import subprocess
 
+from known import earlier
+
 
 class Hang(Exception):
     pass
 
 
-# The oracle has no `pagelen`: it is asked for the page, whose bytes are counted.
+# The oracle has no `pagelen`: it is asked for the page, whose bytes are counted. A page is loaded in its earliest form.
 def to_oracle(line):
+    if line.startswith("load "):
+        words = line.split(" ")
+        return " ".join([*words[:2], earlier(words[2]), *words[3:]])
     return "page" if line == "pagelen" else line
 
 

@@ -1,5 +1,5 @@
 #!/usr/bin/env python3
-"""Refusals that the Rust does not have: 1, 6, 8, 10, 14, 15, 17, 19, 5 and 6 of a page, those of a script of calls, and the named differences. Their numbers come from document 01, by hand.
+"""Refusals that the Rust does not have: 1, 6, 8, 10, 14, 15, 17, 19, 20, 5 and 6 of a page, those of a script of calls, and the named differences. Their numbers come from documents 01 and 02, by hand.
 
     refusals.py --oracle PATH --replay PATH
 
@@ -9,9 +9,9 @@ refused on the way, the oracle is given the calls before."""
 import argparse
 import sys
 
-from known import as_port
+from known import COLUMNS, COLUMNS_64, as_port
 from machine import answers, oracle_answers
-from shapes import COLUMNS, HEAD, I64, NO, U32, U64, h, le, page, script as run, to
+from shapes import I64, NO, U32, U64, h, le, page, script as run, to
 
 HEAP = ["new 1 4 16", "alloc 2 0 0 4142434445", "alloc 3 0 0 46"]
 
@@ -113,6 +113,33 @@ def pages():
     yield from asked("page", f"load 4 {text} 16", "page", f"load 1 {page(good, ['1,2,0,0,0,' + '00' * 16])} 16", "page")
 
 
+def new_page(head, rows, free=(), quarantine=(), sealed=(), gone=()):
+    """A page with a retired list."""
+    lines = page(head, rows, free, quarantine, sealed).split(";")
+    return ";".join([f"{lines[0]},retired", f"{lines[1]},{len(gone)}", *lines[2:-1], "retired", *map(str, gone), ""])
+
+
+def retired():
+    """Slots at the last generation: a live one is never reissued (20); a free one is broken (1) on a page with a retired list, and so is a retired one at another generation, live, or in another list.
+    17 where the list and its name do not stand together. Names of both forms are read in any mixture."""
+    good, live, worn, last, dead = [1, 0, 4096, 0], "1,2,0,0,0,41", f"{U32},2,0,0,0,41", f"{U32},0,0,0,0,", "2,0,0,0,0,"
+    yield from asked(f"load 4 {page(good, [worn, live, dead, last], [2], [3])} 16", "page") + refused("20", "reissue 0 7", f"reissue 0 {U64}") + refused("9", "reissue 2 7", "reissue 3 7", "reissue 4 7") + asked("page", "epoch")
+    for rows, free, quarantine, gone in (
+        ([last], [0], [], []), ([dead], [], [], [0]), ([live], [], [], [0]), ([worn], [], [], [0]), ([last], [], [], []), ([last], [], [], [0, 0]), ([last], [], [0], [0]), ([last], [], [], [1]), ([], [], [], [0]),
+        ([last, dead], [1, 0], [], []), ([last, dead], [0], [], [1]), ([f"{U32 - 1},0,0,0,0,"], [], [], [0]),
+    ):
+        yield from refused("1", f"load 4 {new_page(good, rows, free, quarantine, (), gone)} 16")
+    # Without the list, what is moved to it must be a slot, and free once.
+    yield from load("1", good, [last], [0, 0]) + load("1", good, [last], [1]) + load("1", good, [worn], [0]) + load("1", good, [last], [0], [0])
+    text = new_page(good, [live, dead], [1])
+    for old, new in ((",sealed,retired;", ",retired,sealed;"), (",sealed,retired;", ",sealed;"), (",retired;", ",retired,;"), (",1,0,0,0;", ",1,0,0;"), (",1,0,0,0;", ",1,0,0,1;"), (",1,0,0,0;", ",1,0,0,0,0;"), (",1,0,0,0;", ",1,0,0,00;")):
+        yield from refused("17", f"load 4 {text.replace(old, new, 1)} 16")
+    yield from refused("17", f"load 4 {text}0; 16", f"load 4 {text.removesuffix('retired;')} 16", f"load 4 {page(good, [live, dead], [1])}retired; 16") + asked("page")
+    for form in (page, new_page):
+        for columns in (COLUMNS, COLUMNS_64):
+            yield from asked(f"load 4 {form(good, [live, dead], [1]).replace(COLUMNS, columns)} 16", "page", "alloc 2 0 0 42", "page")
+
+
 def tables():
     """An unfolding of 65,536 is taken, one more is 10; cyclic records with two fields; 10 comes before 14, 15, 11 and 13."""
     many = ",".join([f"0:{NO}"] * 255)
@@ -151,7 +178,7 @@ def differences():
     yield from refused("0 -", f"objh 7 {wide + to((1, 0))}")
 
 
-ALL = [heaps, never_issued, scripts, pages, tables, functions, collections, differences]
+ALL = [heaps, never_issued, scripts, pages, retired, tables, functions, collections, differences]
 
 
 def script(oracle):

@@ -1,13 +1,12 @@
 """Fixed scripts: the cases of document 01's table and what a port of this heap easily gets wrong, a paragraph each."""
 
+from known import COLUMNS, NAMES
 from table import NO_CONST, dimension
 
 U32 = (1 << 32) - 1
 U64 = (1 << 64) - 1
 I64 = 1 << 63
 NO = NO_CONST
-HEAD = "tag,since_gc,reclaim_at,live_bytes,slots,free,quarantine,sealed"
-COLUMNS = "generation,kind,type,start,writes,data"
 LOG = ",".join(["0"] * 16)
 
 
@@ -28,7 +27,7 @@ def down(left, right):
 
 
 def page(head, rows, free=(), quarantine=(), sealed=()):
-    lines = [HEAD, ",".join(map(str, [*head, len(rows), len(free), len(quarantine), len(sealed)])), COLUMNS, *rows]
+    lines = [NAMES, ",".join(map(str, [*head, len(rows), len(free), len(quarantine), len(sealed)])), COLUMNS, *rows]
     for name, values in (("free", free), ("quarantine", quarantine), ("sealed", sealed)):
         lines += [name, *map(str, values)]
     return ";".join(lines) + ";"
@@ -48,7 +47,7 @@ def handles():
 def generations():
     """Generations near their end, stepped by alloc, reissue, take and collect: none comes to it, where the Rust starts again at 1 and the port's slots retire."""
     near = U32 - 9
-    rows = [f"{near},2,0,0,{U32},41", f"{near},0,0,0,0,", f"{near - 1},2,0,0,7,42", f"{near},3,0,0,0,"]
+    rows = [f"{near},2,0,0,{U32 - 2},41", f"{near},0,0,0,0,", f"{near - 1},2,0,0,7,42", f"{near},3,0,0,0,"]
     yield from [f"load 5 {page([1, U64, 4096, 0], rows, [1])} 64", "page", "stamp 0", "write 0 0 43", "stamp 0", f"edit {h(0, near)} 44 0"]
     yield from ["stamp 0", "reissue 0 5", "stamp 0", f"resolve {h(0, near)}", "reissue 2 0", "reissue 2 0", "alloc 2 0 0 45", "reissue 3 1", f"take {h(3, near + 1)}"]
     yield from ["collect - -", "page", "epoch", "alloc 2 0 0 -", "alloc 2 0 0 -", "alloc 2 0 0 -", "alloc 2 0 0 -", "page"]
@@ -105,10 +104,11 @@ def scripts():
     yield from [script(take(2, 5), take(1, 3), take(7, 1)), "page", "isplain 1", script(f"take,{U64},0,"), script(f"take,{h(0, 0)},0,"), "page", "epoch"]
     # A slot that was never there.
     yield from [script("seal,0,0,", take(3, 1), "recycle,0,0,"), "page", "epoch"]
-    # Generations and the epoch at their ends.
-    rows = [f"{U32},2,0,0,{U32},41", f"{U32},0,0,0,0,"]
-    yield from [f"load 2 {page([0, U64, 4096, 0], rows, [1])} 64", f"setepoch {U64} {LOG}", script(take(0, U32, 0), "take,1,0,"), "page", "epoch"]
-    yield from [script("alloc,0,2,46", "recycle,0,0,", "alloc,0,2,47", take(1, 1, 0), take(0, 2, 0), "recycle,0,0,", "seal,0,0,"), "page", "epoch", script("take,0,0,", "seal,0,0,"), "page"]
+    # Generations near their end, the epoch at its.
+    near = U32 - 9
+    rows = [f"{near},2,0,0,{U32},41", f"{near},0,0,0,0,"]
+    yield from [f"load 2 {page([0, U64, 4096, 0], rows, [1])} 64", f"setepoch {U64} {LOG}", script(take(0, near, 0), take(0, near, 0)), "page", "epoch"]
+    yield from [script("alloc,0,2,46", "recycle,0,0,", "alloc,0,2,47", take(1, near + 1, 0), take(0, near + 2, 0), "recycle,0,0,", "seal,0,0,"), "page", "epoch", script("take,0,0,", "seal,0,0,"), "page"]
 
 
 def epochs():

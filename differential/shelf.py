@@ -6,15 +6,20 @@ The model is written from request [14] and docs/FORMAT.md alone: which texts are
 a small shelf cut off at every byte, random shelves in parts of any length, reads that fail, and with --million one of 1,000,000 empty pages and more."""
 import argparse, os, random, resource, subprocess, sys, threading, time
 
-NAMES = (b"tag,since_gc,reclaim_at,live_bytes,slots,free,quarantine,sealed\n", b"generation,kind,type,start,writes,data\n", b"free\n", b"quarantine\n", b"sealed\n")
+NAMES = b"tag,since_gc,reclaim_at,live_bytes,slots,free,quarantine,sealed"
+COLUMNS = b"generation,kind,type,start,%s,data"
 HEAD = b"page,answer,objects,bytes,largest,mean,rest\n"
+LAST = 2**32 - 1
 
 
-def page(slots, free=(), quarantine=(), sealed=(), tag=1, since=0, reclaim=4096, live=0):
-    lines = lambda xs: b"".join(b"%d\n" % x for x in xs)
-    head = b",".join(b"%d" % x for x in (tag, since, reclaim, live, len(slots), len(free), len(quarantine), len(sealed))) + b"\n"
-    body = b"".join(b"%d,%d,%d,%d,%d,%s\n" % s for s in slots)
-    return NAMES[0] + head + NAMES[1] + body + NAMES[2] + lines(free) + NAMES[3] + lines(quarantine) + NAMES[4] + lines(sealed)
+def page(slots, free=(), quarantine=(), sealed=(), retired=None, tag=1, since=0, reclaim=4096, live=0, writes=b"writes"):
+    """a page; its names line has `retired` where that list is given"""
+    lists = [(b"free", free), (b"quarantine", quarantine), (b"sealed", sealed)] + ([] if retired is None else [(b"retired", retired)])
+    head = b",".join(b"%d" % x for x in [tag, since, reclaim, live, len(slots)] + [len(xs) for _, xs in lists])
+    lines = [NAMES if retired is None else NAMES + b",retired", head, COLUMNS % writes] + [b"%d,%d,%d,%d,%d,%s" % s for s in slots]
+    for name, xs in lists:
+        lines += [name] + [b"%d" % x for x in xs]
+    return b"".join(x + b"\n" for x in lines)
 
 
 def put(p):
@@ -45,39 +50,49 @@ def heap_of(text):
         return rows[at - 1]
 
     def named(name):
-        if row() + b"\n" != name:
+        if row() != name:
             raise NoPage
 
-    named(NAMES[0])
-    fields = row().split(b",")
-    if len(fields) != 8:
+    def numbers(name, count, bits):
+        named(name)
+        return [number(row(), 2**bits - 1) for _ in range(count)]
+
+    names = row()
+    if names not in (NAMES, NAMES + b",retired"):
+        raise NoPage
+    retires, fields = names != NAMES, row().split(b",")
+    if len(fields) != 8 + retires:
         raise NoPage
     tag, since, reclaim, live = (number(f, 2**w - 1) for f, w in zip(fields[:4], (8, 64, 64, 64)))
-    n, f, q, z = (number(x, 2**32 - 1) for x in fields[4:])
-    named(NAMES[1])
-    slots = []
+    n, f, q, z, *w = (number(x, 2**32 - 1) for x in fields[4:])
+    names = row()
+    if names not in (COLUMNS % b"writes", COLUMNS % b"writes64"):
+        raise NoPage
+    slots, bits = [], 64 if b"64" in names else 32
     for _ in range(n):
         c = row().split(b",")
         if len(c) != 6 or len(c[5]) % 2 or any(x not in b"0123456789abcdef" for x in c[5]):
             raise NoPage
-        slots.append([number(x, 2**w - 1) for x, w in zip(c[:5], (32, 8, 32, 64, 32))] + [len(c[5]) // 2])
-    named(NAMES[2])
-    free = [number(row(), 2**32 - 1) for _ in range(f)]
-    named(NAMES[3])
-    quarantine = [number(row(), 2**32 - 1) for _ in range(q)]
-    named(NAMES[4])
-    sealed = [number(row(), 2**64 - 1) for _ in range(z)]
+        slots.append([number(x, 2**w - 1) for x, w in zip(c[:5], (32, 8, 32, 64, bits))] + [len(c[5]) // 2])
+    free, quarantine, sealed = numbers(b"free", f, 32), numbers(b"quarantine", q, 32), numbers(b"sealed", z, 64)
+    if retires:
+        retired = numbers(b"retired", w[0], 32)
+    else:
+        worn = lambda i: i < n and slots[i][0] == LAST
+        free, retired = [i for i in free if not worn(i)], [i for i in free if worn(i)]
     if at != len(rows):
         raise NoPage
-    return tag, reclaim, slots, free, quarantine, sealed
+    return tag, reclaim, slots, free, quarantine, sealed, retired
 
 
-def sound(tag, reclaim, slots, free, quarantine, sealed):
+def sound(tag, reclaim, slots, free, quarantine, sealed, retired):
     for g, k, t, start, writes, size in slots:
         if k > 3 or g < 1 or (k != 1 and t) or (k == 0 and (start or writes or size)):
             return False
-    dead = free + quarantine
+    dead = free + quarantine + retired
     if any(i >= len(slots) for i in dead) or any((s[1] > 0) + dead.count(i) != 1 for i, s in enumerate(slots)):
+        return False
+    if any(slots[i][0] == LAST for i in free) or any(slots[i][0] != LAST for i in retired):
         return False
     last = -1
     for x in sealed:
@@ -136,6 +151,13 @@ def model(data, failed=False, most=1000000):
 SMALL = page([(1, 2, 0, 0, 0, b"4142")], since=34)
 MIXED = page([(1, 2, 0, 0, 0, b"414243"), (2, 0, 0, 0, 0, b""), (1, 1, 7, 0, 2, b"0001020304050607"), (1, 3, 0, 9, 1, b"fffefd"), (3, 0, 0, 0, 0, b"")], [1], [4])
 BROKEN = page([(0, 2, 0, 0, 0, b"41")])
+OLD = [(LAST, 0, 0, 0, 0, b""), (2, 0, 0, 0, 0, b""), (LAST, 2, 0, 0, 2**64 - 1, b"4142434445")]
+# a retired slot; it is found among the free ones of a page without that list, and is broken there, or retired at another generation, in a page with it
+RETIRED = page(OLD, [1], retired=[0], writes=b"writes64")
+MOVED = page(OLD, [1, 0], writes=b"writes64")
+WORN = [page(OLD, [1, 0], retired=[], writes=b"writes64"), page(OLD, [0], retired=[1], writes=b"writes64"), page(OLD, [1], retired=[0, 0], writes=b"writes64")]
+# the name without its list, and the list without its name
+HALF = [RETIRED.replace(b"retired\n0\n", b""), MOVED + b"retired\n"]
 
 
 def longest():
@@ -149,7 +171,7 @@ def longest():
 def sample():
     long = longest()
     assert len(long) == 32768
-    data = b"".join(map(put, (SMALL, MIXED, page([]), b"", b"no page\n", BROKEN, long, long + b"\n", SMALL))) + b"100\n" + SMALL[:50]
+    data = b"".join(map(put, (SMALL, MIXED, page([]), b"", b"no page\n", BROKEN, long, long + b"\n", SMALL, RETIRED, MOVED, page([], retired=[]), *WORN, *HALF))) + b"100\n" + SMALL[:50]
     open("crates/shelf/stdin", "wb").write(data)
     open("crates/shelf/stdout", "wb").write(model(data))
 
@@ -186,7 +208,7 @@ def fails(shelf, data):
 
 
 def wild(r):
-    kinds = [SMALL, MIXED, page([]), b"", BROKEN, longest(), longest() + b"\n", os.urandom(r.randrange(40))]
+    kinds = [SMALL, MIXED, page([]), b"", BROKEN, RETIRED, MOVED, *WORN, *HALF, longest(), longest() + b"\n", os.urandom(r.randrange(40))]
     out = b""
     for _ in range(r.randrange(12)):
         p = r.choice(kinds)

@@ -13,7 +13,7 @@ mod rehearse;
 use std::hint::black_box;
 use std::ops::Range;
 use yavs_ir::{Block, BlockId, Field, Func, Inst, Ops, Program, Reg, RegTy, Ty, TyId};
-use yexwalu::{Class, Direction, Function, Handle, Heap, InstKind, Kind, Memory, TypeTable, Wanted, descriptor};
+use yexwalu::{Class, Column, Direction, Function, Handle, Heap, InstKind, Kind, Memory, TypeTable, Wanted, descriptor};
 
 const SIZES: [usize; 4] = [1_000, 10_000, 100_000, 1_000_000];
 const OBJECTS: [usize; 3] = [16, 1024, 16384];
@@ -96,12 +96,8 @@ impl Table {
 fn heap_with(slots: usize, objects: usize, bytes: &[u8]) -> Heap {
     let mut hex = String::new();
     page::hex(bytes, &mut hex);
-    let mut page = format!("tag,since_gc,reclaim_at,live_bytes,slots,free,quarantine,sealed\n1,0,4096,0,{objects},0,0,0\ngeneration,kind,type,start,writes64,data\n");
-    for _ in 0..objects {
-        page.push_str(&format!("1,2,0,0,0,{hex}\n"));
-    }
-    page.push_str("free\nquarantine\nsealed\n");
-    Heap::read_page(slots, slots * bytes.len(), page.as_bytes()).unwrap()
+    let rows = format!("1,2,0,0,0,{hex}\n").repeat(objects);
+    Heap::read_page(slots, slots * bytes.len(), page::of(objects, &rows).as_bytes()).unwrap()
 }
 
 // Half the slots hold objects of 32 bytes; each turn places one, takes it out again and recycles. By single calls, or by a script of a thousand turns.
@@ -133,6 +129,26 @@ fn churn(table: &mut Table, slots: usize, script: bool) {
     let copy = time(|| drop(black_box(port.clone())));
     let a = time(|| port.clone().run_with(text.as_bytes(), &mut room).unwrap());
     table.row("alloc, take, recycle in a script (ns a turn), by slots", slots, (a - copy) / 1000.0, b);
+}
+
+// The kind and the data of every object, half of the slots holding 32 bytes: one check and one pass.
+fn reading(table: &mut Table, slots: usize) {
+    let bytes = [7u8; 32];
+    let port = heap_with(slots, slots / 2, &bytes);
+    let mut rust = heap::Heap::new(1);
+    for _ in 0..slots / 2 {
+        rust.alloc(heap::Obj::Bytes, bytes.to_vec()).unwrap();
+    }
+    let here = || port.view().unwrap().objects().map(|o| (o.kind() == Kind::Bytes, o.data().unwrap())).fold(0, |n, (b, d)| n + usize::from(b) + usize::from(d[31]));
+    let there = || (0..rust.slots() as u32).map(|i| (rust.kind(i) == Some(heap::Obj::Bytes), rust.data(i).unwrap())).fold(0, |n, (b, d)| n + usize::from(b) + usize::from(d[31]));
+    assert!(here() == there() && here() == 4 * slots);
+    let a = time(|| {
+        black_box(here());
+    });
+    let b = time(|| {
+        black_box(there());
+    });
+    table.row("all objects by a view (ns), by slots", slots, a, b);
 }
 
 fn field(ty: u32) -> Field {
@@ -235,23 +251,26 @@ fn live(table: &mut Table, what: &str, size: usize, blocks: usize, registers: us
 }
 
 // A page of so many objects of 64 bytes, written and read by the port and by plain Rust.
-fn pages(table: &mut Table, objects: usize, read: bool) {
+fn pages(table: &mut Table, objects: usize, read: bool, column: Column) {
+    let (planar, name) = (column == Column::Planes, if column == Column::Planes { "planes" } else { "page" });
     let bytes: Vec<u8> = (0..64).map(|i| i * 37).collect();
     let mut heap = heap_with(objects, objects, &bytes);
-    let text = heap.write_page().unwrap();
+    let text = heap.page_with(column).unwrap();
     let mut out = vec![0; text.len()];
     let mut plain = (String::new(), Memory::zeros(objects, heap.memory().pool.len()));
-    page::write(&heap, &mut plain.0);
+    page::write(&heap, planar, &mut plain.0);
     assert_eq!(plain.0.as_bytes(), text);
-    assert!(page::read(&text, &mut plain.1) == Some(*heap.header()) && plain.1 == *heap.memory());
+    assert!(page::read(&text, planar, &mut plain.1) == Some(*heap.header()) && plain.1 == *heap.memory());
     if read {
-        let b = time(|| assert!(page::read(black_box(&text), &mut plain.1).is_some()));
-        let a = time(|| heap.read_page_over(black_box(&text)).unwrap());
-        table.row("read_page (ns), by bytes", text.len(), a, b);
+        let b = time(|| assert!(page::read(black_box(&text), planar, &mut plain.1).is_some()));
+        let a = time(|| {
+            heap.read_page_over(black_box(&text)).unwrap();
+        });
+        table.row(&format!("read_{name} (ns), by bytes"), text.len(), a, b);
     } else {
-        let b = time(|| page::write(black_box(&heap), &mut plain.0));
-        let a = time(|| assert!(black_box(&heap).write_page_into(&mut out).is_ok()));
-        table.row("write_page (ns), by bytes", text.len(), a, b);
+        let b = time(|| page::write(black_box(&heap), planar, &mut plain.0));
+        let a = time(|| assert!(black_box(&heap).write_page_with(column, &mut out).is_ok()));
+        table.row(&format!("write_{name} (ns), by bytes"), text.len(), a, b);
     }
 }
 
@@ -266,20 +285,19 @@ fn copies(table: &mut Table, objects: usize) {
 // Objects of handles, all reached from the first, so that each collection does the same work again: the two heaps, and the handle of the first.
 fn graph(n: usize, edges: impl Fn(usize) -> Range<usize>) -> (Heap, heap::Heap, u64) {
     let handle = |i: usize| heap::pack(1, (i % n) as u32, 1);
-    let mut text = format!("tag,since_gc,reclaim_at,live_bytes,slots,free,quarantine,sealed\n1,0,4096,0,{n},0,0,0\ngeneration,kind,type,start,writes64,data\n");
+    let mut rows = String::new();
     let mut rust = heap::Heap::new(1);
     let mut pool = 0;
     for i in 0..n {
         let mut data = vec![0; 24];
         data.extend(edges(i).flat_map(|j| handle(j).to_le_bytes()));
         pool += data.len();
-        text.push_str("1,3,0,0,0,");
-        page::hex(&data, &mut text);
-        text.push('\n');
+        rows.push_str("1,3,0,0,0,");
+        page::hex(&data, &mut rows);
+        rows.push('\n');
         rust.alloc(heap::Obj::Handles, data).unwrap();
     }
-    text.push_str("free\nquarantine\nsealed\n");
-    (Heap::read_page(n, pool, text.as_bytes()).unwrap(), rust, handle(0))
+    (Heap::read_page(n, pool, page::of(n, &rows).as_bytes()).unwrap(), rust, handle(0))
 }
 
 fn collections(table: &mut Table, shape: &str, n: usize, edges: impl Fn(usize) -> Range<usize>) {
@@ -321,6 +339,18 @@ fn joined(table: &mut Table, n: usize) {
     table.row("collect_joined, ring (ns), by slots", n, a, b);
 }
 
+// All slots are wanted. The Rust has no such call: beside it stands the Rust's collection with the roots that were found, which marks the same objects once.
+fn roots_found(table: &mut Table, shape: &str, n: usize, count: usize, edges: impl Fn(usize) -> Range<usize>) {
+    let (port, mut rust, _) = graph(n, edges);
+    let (types, prog) = (TypeTable::new(), Program::default());
+    let wanted: Vec<u32> = (0..n as u32).collect();
+    let mut out = vec![0; n];
+    let a = time(|| assert_eq!(port.roots_for_into(&types, &[], &wanted, &mut out), Ok(count)));
+    let b = time(|| assert!(rust.collect(&prog, &out[..count], &[])));
+    assert!(rust.live() == n);
+    table.row(&format!("roots_for, {shape} (ns), by slots"), n, a, b);
+}
+
 // Lines of a rehearsal, of which 1,000 objects are held, for four thresholds: the time of one line for one threshold.
 fn rehearsals(table: &mut Table, lines: usize) {
     let thresholds = [10_000, 100_000, 1_000_000, 10_000_000];
@@ -334,7 +364,7 @@ fn rehearsals(table: &mut Table, lines: usize) {
     table.row("rehearse, four thresholds (ns a line), by lines", lines, time(|| drop(black_box(here()))) / turns, time(|| drop(black_box(there()))) / turns);
 }
 
-const ROWS: [&str; 12] = ["churn", "script", "layout", "object_handles", "live_refs", "sparse_rows", "collect", "joined", "rehearse", "write_page", "read_page", "memcpy"];
+const ROWS: [&str; 16] = ["churn", "script", "view", "layout", "object_handles", "live_refs", "sparse_rows", "collect", "joined", "roots_for", "rehearse", "write_page", "read_page", "write_planes", "read_planes", "memcpy"];
 
 fn main() {
     let words: Vec<String> = std::env::args().skip(1).collect();
@@ -348,6 +378,7 @@ fn main() {
     for row in ROWS.into_iter().filter(|r| picked(r)) {
         match row {
             "churn" | "script" => [16, 256, 4096, 65536].iter().for_each(|n| churn(&mut table, *n, row == "script")),
+            "view" => [256, 4096, 65536].iter().for_each(|n| reading(&mut table, *n)),
             "layout" => [3, 30, 300].iter().for_each(|n| layouts(&mut table, *n)),
             "object_handles" => [10, 1000, 100_000].iter().for_each(|n| objects(&mut table, *n)),
             "live_refs" => [(4, 8), (64, 64), (1024, 256), (4096, 1024)].iter().for_each(|(b, r)| live(&mut table, "live_refs (ns), by blocks", *b, *b, *r)),
@@ -360,9 +391,16 @@ fn main() {
                 SIZES.iter().for_each(|n| collections(&mut table, "tree", *n, |i| (2 * i + 1).min(*n)..(2 * i + 3).min(*n)));
             }
             "joined" => SIZES.iter().for_each(|n| joined(&mut table, *n)),
+            "roots_for" => {
+                SIZES.iter().for_each(|n| roots_found(&mut table, "ring", *n, 1, |i| i + 1..i + 2));
+                // from the last slot down: in the first going through each slot is a candidate
+                SIZES.iter().for_each(|n| roots_found(&mut table, "chain", *n, 1, |i| if i > 0 { i - 1..i } else { 0..0 }));
+                SIZES.iter().for_each(|n| roots_found(&mut table, "all apart", *n, *n, |_| 0..0));
+            }
             "rehearse" => [1_000, 10_000, 100_000].iter().for_each(|n| rehearsals(&mut table, *n)),
             "memcpy" => OBJECTS.iter().for_each(|n| copies(&mut table, *n)),
-            _ => OBJECTS.iter().for_each(|n| pages(&mut table, *n, row == "read_page")),
+            "write_planes" | "read_planes" => OBJECTS.iter().for_each(|n| pages(&mut table, *n, row == "read_planes", Column::Planes)),
+            _ => OBJECTS.iter().for_each(|n| pages(&mut table, *n, row == "read_page", Column::Data)),
         }
     }
 }

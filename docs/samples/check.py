@@ -2,13 +2,15 @@
 """check.py REPLAY [SEED]: holds reader.py to the built program `replay` (rt check replay; target/bin/replay).
 
 1. Each sample is answered as its name says: 17-.., 1-.. and 10-.. are refused so, the others are taken.
-2. Pages, the samples and each of them with one byte changed, removed, doubled or put in, are answered alike by both (`load`), and an accepted one is printed again (`page`) to the same bytes, one of the earlier form with the names line of
-   the slots replaced.
-3. Layouts and traced handles of the types of the tables, and of random ones, under random descriptors and values are alike (`layout`, `objh`).
-4. The grammar of docs/FORMAT.md, as a regular expression, with the counts and widths beside it, says of every one of these pages, and of tables changed in the same ways, whether it is one, as reader.py does;
+2. Pages, the samples and each of them with one byte changed, removed, doubled or put in, are answered alike by both (`read`, which tells the form too), and an accepted one is printed again (`page`, `page planes`) as reader.py would write it in the form of
+   today: to the same bytes where it was of that form.
+3. Tables, changed in the same ways, are answered alike by both (`readtable`), and an accepted one is written again (`writetable`) to the same bytes.
+4. Pages and tables, those of the samples and random ones, are held against each other alike (`traceable`).
+5. Layouts and traced handles of the types of the tables, and of random ones, under random descriptors and values are alike (`layout`, `objh`).
+6. The grammar of docs/FORMAT.md, as a regular expression, with the counts and widths beside it, says of every one of these pages, and of tables changed in the same ways, whether it is one, as reader.py does;
    a table that is taken is printed again to the same bytes.
-5. The examples and digests of docs/FORMAT.md are these files'.
-6. How many changed pages are taken all the same is printed, since a page has no checksum.
+7. The examples and digests of docs/FORMAT.md are these files'.
+8. How many changed pages are taken all the same is printed, since a page has no checksum.
 Byte 10 is `;` on a line for replay; a page in which `;`, blank or byte 0 would stand, or one past 60,000 bytes, is left out. It ends with 1 if anything differs."""
 import glob
 import hashlib
@@ -44,6 +46,16 @@ def damaged(text, turns):
         yield text[:i] + bytes([random.choice(b"0123456789,\nabcdef")]) + text[i:]
 
 
+def rewritten(heap, column):
+    """The page of a heap in the form that is written, with this column: what docs/FORMAT.md, section 2, says."""
+    head, columns = reader.HEADS[-1], reader.SLOTS[-1][:-1] + [column]
+    spelled = lambda data: (reader.planes(data) if column == "planes" else data).hex()
+    rows = [head, [len(heap[n]) if n in head[4:] else heap[n] for n in head], columns] + [[s[n] for n in columns[:-1]] + [spelled(s["data"])] for s in heap["slots"]]
+    for name in head[5:]:
+        rows += [[name]] + [[i] for i in heap[name]]
+    return "".join(",".join(map(str, row)) + "\n" for row in rows).encode()
+
+
 def pages(replay, turns):
     texts = []
     for f in sorted(glob.glob(here + "/*.page")):
@@ -52,26 +64,72 @@ def pages(replay, turns):
     texts = [t for t in texts if not set(t) & {0, 13, 32, 59} and len(t) < 60000]
     lines = []
     for t in texts:
-        lines += [b"new 1 64 4096", b"load 64 " + (t.replace(b"\n", b";") or b"-"), b"page"]
+        lines += [b"new 1 64 4096", b"read 64 " + (t.replace(b"\n", b";") or b"-"), b"page", b"page planes"]
     got, wrong, taken = ask(replay, lines), 0, 0
-    for t, loaded, printed in zip(texts, got[1::3], got[2::3]):
+    for t, loaded, data, planes in zip(texts, got[1::4], got[2::4], got[3::4]):
         mine = reader.answer(t)
-        again = printed[2:].replace(b";", b"\n")
         taken += mine == 0
-        if str(mine).encode() != loaded or (mine == 0 and again != t.replace(b",start,writes,data\n", b",start,writes64,data\n")):
+        told, again = str(mine), True
+        if mine == 0:
+            heap, names = reader.read_page(t), t.split(b"\n")[:3:2]
+            told += f" {64 if b',writes64,' in names[1] else 32} {int(names[0].endswith(b',retired'))} {names[1].split(b',')[-1].decode()}"
+            again = all(x[2:].replace(b";", b"\n") == rewritten(heap, column) for x, column in ((data, "data"), (planes, "planes")))
+        if told.encode() != loaded or not again:
             wrong += 1
-            print("differ:", t[:300], loaded, mine)
+            print("differ:", t[:300], loaded, told)
     print(f"pages: {len(texts)} alike but for {wrong}; {taken} of them are taken")
+    return wrong
+
+
+def tables(replay, turns):
+    texts = []
+    for f in sorted(glob.glob(here + "/*.table")):
+        text = open(f, "rb").read()
+        texts += [text] + list(damaged(text, turns))
+    texts = [t for t in texts if not set(t) & {0, 13, 59} and max(t) < 128 and len(t) < 60000]
+    lines, mine = [], []
+    for t in texts:
+        lines.append(b"readtable " + t.replace(b"\n", b";"))
+        mine.append(reader.answer(t))
+        names = "" if mine[-1] else "".join(row[-1] + ";" for rows in list(reader.read_table(t).values())[:3] for row in rows)
+        lines.append(b"writetable " + names.encode())
+    got, wrong = ask(replay, lines), 0
+    for t, told, loaded, again in zip(texts, mine, got[::2], got[1::2]):
+        if str(told).encode() != loaded.split(b" ")[0] or (told == 0 and again != b"0 " + t.replace(b"\n", b";")):
+            wrong += 1
+            print("differ:", t[:300], loaded, told)
+    print(f"tables: {len(texts)} alike but for {wrong}; {mine.count(0)} of them are taken")
+    return wrong
+
+
+def together(replay, turns):
+    wrong, asked, fit = 0, 0, 0
+    good = [reader.read_table(open(f, "rb").read()) for f in sorted(glob.glob(here + "/[a-z]*.table"))]
+    good += [t for t in (random_table() for _ in range(turns)) if reader.good_table(t)]
+    lines, mine = [], []
+    for f in sorted(glob.glob(here + "/[a-z]*.page")):
+        text = open(f, "rb").read()
+        for table in good:
+            slot = reader.fits(reader.read_page(text), table)
+            lines += [b"load 64 " + text.replace(b"\n", b";"), b"readtable " + printed(table).replace(b"\n", b";"), b"traceable"]
+            mine.append("0" if slot is None else f"13 {slot}")
+    for g, m in zip(ask(replay, lines)[2::3], mine):
+        asked, fit = asked + 1, fit + (m == "0")
+        if g.decode() != m:
+            wrong += 1
+            print("together:", g, m)
+    print(f"pages and tables together: {asked} alike but for {wrong}; {fit} of them fit")
     return wrong
 
 
 NUMBER, DATA, NAME = rb"(?:0|[1-9][0-9]*)", rb"(?:[0-9a-f]{2})*", rb"[\x20-\x2b\x2d-\xff]*"
 LINES = lambda k, last: rb"((?:(?:" + NUMBER + rb",){%d}" % k + last + rb"\n)*)"
-PAGES = [re.compile(rb"tag,since_gc,reclaim_at,live_bytes,slots,free,quarantine,sealed\n((?:" + NUMBER + rb",){7}" + NUMBER + rb")\ngeneration,kind,type,start," + writes + rb",data\n" + LINES(5, DATA)
-                    + rb"free\n" + LINES(0, NUMBER) + rb"quarantine\n" + LINES(0, NUMBER) + rb"sealed\n" + LINES(0, NUMBER)) for writes in (b"writes", b"writes64")]
+PAGES = [re.compile(rb"tag,since_gc,reclaim_at,live_bytes,slots,free,quarantine,sealed" + more + rb"\n((?:" + NUMBER + rb",){%d}" % (7 + bool(more)) + NUMBER + rb")\ngeneration,kind,type,start," + writes
+                    + rb"," + column + rb"\n" + LINES(5, DATA) + rb"free\n" + LINES(0, NUMBER) + rb"quarantine\n" + LINES(0, NUMBER) + rb"sealed\n" + LINES(0, NUMBER) + (rb"retired\n" + LINES(0, NUMBER) if more else b""))
+         for more in (b"", b",retired") for writes in (b"writes", b"writes64") for column in (b"data", b"planes")]
 TABLE = re.compile(rb"types,fields,constants\n((?:" + NUMBER + rb",){2}" + NUMBER + rb")\nclass,a,b,c,name\n" + LINES(4, NAME) + rb"type,constant,name\n" + LINES(2, NAME)
                    + rb"plain,start,length,name\n" + LINES(3, NAME) + rb"bytes\n" + DATA + rb"\n")
-WIDTHS = {p: [[8, 64, 64, 64, 32, 32, 32, 32], [32, 8, 32, 64, 64 if b"writes64" in p.pattern else 32], [32], [32], [64]] for p in PAGES}
+WIDTHS = {p: [[8, 64, 64, 64] + [32] * 5, [32, 8, 32, 64, 64 if b"writes64" in p.pattern else 32], [32], [32], [64], [32]] for p in PAGES}
 WIDTHS[TABLE] = [[64] * 3, [64] * 4, [32] * 2, [64] * 3]
 
 
@@ -180,7 +238,7 @@ def layouts(replay, turns):
 def documents():
     """The examples of FORMAT.md, with four blanks before each line, and their digests."""
     wrong, text = 0, open(os.path.join(here, "..", "FORMAT.md")).read()
-    for name in ("bytes.page", "handles.page", "record.table", "record.page", "logic.table", "logic.page"):
+    for name in ("bytes.page", "handles.page", "planes.page", "record.table", "record.page", "logic.table", "logic.page"):
         data = open(os.path.join(here, name), "rb").read()
         block = "".join("    " + line + "\n" for line in data.decode().split("\n")[:-1])
         if block not in text or f"{hashlib.sha256(data).hexdigest()}  {name}" not in text:
@@ -198,6 +256,8 @@ def main(replay, seed):
             wrong += 1
             print("sample:", name, told)
     wrong += pages(replay, 400)
+    wrong += tables(replay, 400)
+    wrong += together(replay, 100)
     wrong += grammar(400)
     wrong += layouts(replay, 400)
     sys.exit(1 if wrong else 0)

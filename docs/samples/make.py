@@ -12,9 +12,9 @@ here = os.path.dirname(os.path.abspath(__file__))
 NO = 4294967295
 
 
-def page(replay, script):
-    """The page of the heap that a script of calls makes."""
-    out = subprocess.run([replay], input="\n".join(script + ["page", ""]), capture_output=True, text=True, check=True).stdout.split("\n")
+def page(replay, script, column="data"):
+    """The page of the heap that a script of calls makes, with this column."""
+    out = subprocess.run([replay], input="\n".join(script + ["page " + column, ""]), capture_output=True, text=True, check=True).stdout.split("\n")
     bad = [(a, b) for a, b in zip([x for x in script if not x.startswith("#")], out) if not b.startswith("0")]
     if bad:
         sys.exit(f"the script went wrong: {bad}")
@@ -52,7 +52,7 @@ def document(files):
     path = os.path.join(here, "..", "FORMAT.md")
     text = open(path).read()
     block = lambda data: "".join("    " + line + "\n" for line in data.decode().split("\n")[:-1])
-    for name in ("bytes.page", "handles.page", "record.table", "record.page", "logic.table", "logic.page"):
+    for name in ("bytes.page", "handles.page", "planes.page", "record.table", "record.page", "logic.table", "logic.page"):
         old = open(os.path.join(here, name), "rb").read()
         text = text.replace(block(old), block(files[name])).replace(hashlib.sha256(old).hexdigest() + "  " + name, hashlib.sha256(files[name]).hexdigest() + "  " + name)
     open(path, "w").write(text)
@@ -65,10 +65,17 @@ def main(replay):
     files["bytes.page"] = page(replay, ["new 1 64 4096", "alloc 2 0 0 4142"])
     files["handles.page"] = page(replay, ["new 1 64 4096", "alloc 2 0 0 4142", "alloc 3 0 0 " + (bytes(24) + struct.pack("<Q", first)).hex(), "seal", "alloc 2 0 0 00", f"take {first + (2 << 32)}"])
 
-    # a page of the earlier form, which is read with the counts that it has, and the same heap as it is written now; a count that only the form of today has
-    first_form = b"tag,since_gc,reclaim_at,live_bytes,slots,free,quarantine,sealed\n1,34,4096,0,2,1,0,0\ngeneration,kind,type,start,writes,data\n1,2,0,0,4294967295,4142\n2,0,0,0,0,\nfree\n1\nquarantine\nsealed\n"
+    # an object in byte planes: the counters 1000, 1001 and 1003, and a byte; and the same heap with the names of the first form but for that
+    counters = ["new 1 64 4096", "alloc 2 0 0 " + (struct.pack("<3Q", 1000, 1001, 1003) + b"\7").hex()]
+    files["planes.page"] = page(replay, counters, "planes")
+    files["planes-first-form.page"] = files["planes.page"].replace(b",writes64,", b",writes,").replace(b",retired\n", b"\n").replace(b",0,0,0,0\n", b",0,0,0\n", 1)[:-len(b"retired\n")]
+
+    # one heap in every form: its write count is the largest of 32 bits, and slot 2 is worn out, which forms without `retired` have in `free`; a count that only `writes64` has
+    first_form = b"tag,since_gc,reclaim_at,live_bytes,slots,free,quarantine,sealed\n1,34,4096,0,3,2,0,0\ngeneration,kind,type,start,writes,data\n1,2,0,0,4294967295,4142\n2,0,0,0,0,\n4294967295,0,0,0,0,\nfree\n2\n1\nquarantine\nsealed\n"
     files["first-form.page"] = first_form
-    files["second-form.page"] = page(replay, ["load 64 " + first_form.decode().replace("\n", ";")])
+    files["second-form.page"] = first_form.replace(b",writes,", b",writes64,")
+    files["third-form.page"] = page(replay, ["load 64 " + first_form.decode().replace("\n", ";")])
+    files["mixed-form.page"] = files["third-form.page"].replace(b",writes64,", b",writes,")
     files["counts.page"] = page(replay, ["load 64 " + first_form.decode().replace("\n", ";"), "write 0 0 43"])
 
     # a record {next: access; level: Int; steps: array of Int}: the descriptor of steps (1 to 5), then the value; and a chain of two such records
@@ -96,6 +103,8 @@ def main(replay):
     files["17-width.page"] = good.replace(b"\n1,34,", b"\n256,34,")
     files["17-uppercase.page"] = good.replace(b",4142\n", b",4A42\n")
     files["17-half-byte.page"] = good.replace(b",4142\n", b",414\n")
+    files["17-planes-half-byte.page"] = files["planes.page"].replace(b",e80102", b",e8010")
+    files["17-planes-and-data.page"] = files["planes.page"].replace(b",planes\n", b",data,planes\n")
     files["17-count.page"] = good.replace(b"\n1,34,4096,0,1,", b"\n1,34,4096,0,2,")
     files["17-first-form-count.page"] = first_form.replace(b",4294967295,", b",4294967296,")
     files["1-kind.page"] = good.replace(b"\n1,2,0,", b"\n1,4,0,")
@@ -105,6 +114,11 @@ def main(replay):
     files["1-two-places.page"] = full.replace(b"quarantine\n2\n", b"quarantine\n1\n")
     files["1-seal-order.page"] = full.replace(b"72057594037927937\n72057598332895233\n", b"72057598332895233\n72057594037927937\n")
     files["1-reclaim.page"] = good.replace(b",4096,", b",4095,")
+    now = files["third-form.page"]
+    files["1-retired-young.page"] = now.replace(b"\n4294967295,0,0,0,0,\n", b"\n5,0,0,0,0,\n")
+    files["1-free-worn-out.page"] = now.replace(b",3,1,0,0,1\n", b",3,2,0,0,0\n").replace(b"free\n1\n", b"free\n2\n1\n").replace(b"retired\n2\n", b"retired\n")
+    files["17-retired-missing.page"] = now[:now.rindex(b"retired\n")]
+    files["17-retired-unnamed.page"] = now.replace(b",retired\n", b"\n").replace(b",3,1,0,0,1\n", b",3,1,0,0\n")
 
     # refused tables
     files["17-comma.table"] = record.replace(b",percent\n", b",per,cent\n")
@@ -118,7 +132,7 @@ def main(replay):
     files["10-unfolding.table"] = table([(5, 0, 2, 0, "ring")], [(0, NO, "left"), (0, NO, "right")])
 
     # a whole deposit, as a bag of RFC 8493
-    about = "Form: yexwalu page with `writes64` and yexwalu type table, the forms of docs/FORMAT.md of this repository.\nheap-1.page: the heap of the process `mixer`, tag 1. types.table: the types of all pages.\n"
+    about = "Form: yexwalu page with `writes64` and `retired`, and yexwalu type table, the forms of docs/FORMAT.md of this repository.\nheap-1.page: the heap of the process `mixer`, tag 1. types.table: the types of all pages.\n"
     files["deposit/data/heap-1.page"], files["deposit/data/types.table"], files["deposit/data/about.txt"] = files["record.page"], record, about.encode()
     files["deposit/bagit.txt"] = b"BagIt-Version: 1.0\nTag-File-Character-Encoding: UTF-8\n"
     inside = sorted(n for n in files if n.startswith("deposit/data/"))

@@ -6,63 +6,74 @@
     reader.py answer FILE..         the number that a reader tells of each file: 0, 17, 1 or 10
 
 Section numbers are FORMAT.md's. Every number of a file is checked before it is used: a damaged file may have any count."""
-import struct
-import sys
+import struct, sys
 
 NO_CONSTANT = 4294967295
 KINDS = ["dead", "Typed", "Bytes", "Handles"]
-# Sections 2 and 14: the names lines that are known, of the earlier form and of the one that is written now. A later form adds a line here.
-HEADS = [["tag", "since_gc", "reclaim_at", "live_bytes", "slots", "free", "quarantine", "sealed"]]
-SLOTS = [["generation", "kind", "type", "start", writes, "data"] for writes in ("writes", "writes64")]
+LAST = 4294967295     # the generation of a slot that is worn out
+# Sections 2 and 14: the names lines that are known, of the earlier forms and of the one that is written now. A later form adds a line here.
+HEADS = [["tag", "since_gc", "reclaim_at", "live_bytes", "slots", "free", "quarantine", "sealed"] + last for last in ([], ["retired"])]
+SLOTS = [["generation", "kind", "type", "start", writes, column] for column in ("planes", "data") for writes in ("writes", "writes64")]
 WIDTHS = {"tag": 8, "kind": 8, "since_gc": 64, "reclaim_at": 64, "live_bytes": 64, "start": 64, "writes64": 64}      # the others: 32
 TABLE = [("types", ["class", "a", "b", "c", "name"], 64), ("fields", ["type", "constant", "name"], 32), ("constants", ["plain", "start", "length", "name"], 64)]
 
-class Refused(Exception):
-    """The number of section 11 for a file that is not taken."""
+class Refused(Exception): """The number of section 11 for a file that is not taken."""
+class NoLayout(Exception): """Section 7: malformed, too large, or cut short."""
+
+def need(fine, why=Refused(17)):
+    if not fine:
+        raise why
 
 class Lines:
     """A text as lines, each ended by byte 10."""
 
     def __init__(self, text):
-        if not text.endswith(b"\n"):
-            raise Refused(17)
+        need(text.endswith(b"\n"))
         self.lines, self.at = text[:-1].split(b"\n"), 0
 
     def next(self):
-        if self.at == len(self.lines):
-            raise Refused(17)
+        need(self.at < len(self.lines))
         self.at += 1
         return self.lines[self.at - 1]
 
     def fields(self, count):
         parts = self.next().split(b",")
-        if len(parts) != count:
-            raise Refused(17)
+        need(len(parts) == count)
         return parts
 
     def names(self, known):
         """The names of a names line, if it is one that is known."""
-        line = self.next()
-        for names in known:
-            if line == ",".join(names).encode():
-                return names
-        raise Refused(17)
+        names = self.next().decode("latin-1").split(",")
+        need(names in known)
+        return names
 
     def end(self):
-        if self.at != len(self.lines):
-            raise Refused(17)
+        need(self.at == len(self.lines))
 
 def number(field, most):
     """A decimal number without spare zeros, at most `most`."""
-    if not field or len(field) > 20 or any(b not in b"0123456789" for b in field) or (len(field) > 1 and field[0] == 48) or int(field) > most:
-        raise Refused(17)
+    need(0 < len(field) <= 20 and all(b in b"0123456789" for b in field) and (len(field) == 1 or field[0] != 48) and int(field) <= most)
     return int(field)
 
 def unhex(field):
     """Bytes in lowercase hexadecimal."""
-    if len(field) % 2 or any(b not in b"0123456789abcdef" for b in field):
-        raise Refused(17)
+    need(len(field) % 2 == 0 and all(b in b"0123456789abcdef" for b in field))
     return bytes.fromhex(field.decode())
+
+def planes(data):
+    """Section 2: an object's bytes as byte planes."""
+    n = len(data) // 8
+    words = struct.unpack_from(f"<{n}Q", data)
+    less = [(w - b) % 2 ** 64 for w, b in zip(words, (0,) + words)]
+    return bytes(d >> 8 * j & 255 for j in range(8) for d in less) + data[8 * n:]
+
+def restored(column):
+    """The way back: the planes of each word together, then sums."""
+    n, word, data = len(column) // 8, 0, b""
+    for i in range(n):
+        word = (word + sum(column[j * n + i] << 8 * j for j in range(8))) % 2 ** 64
+        data += struct.pack("<Q", word)
+    return data + column[8 * n:]
 
 def read_page(text):
     """The heap of a page (sections 2 and 3). 17: no page. 1: the page of a broken heap."""
@@ -73,19 +84,20 @@ def read_page(text):
     for _ in range(heap["slots"]):
         parts = lines.fields(len(columns))
         slots.append({n: number(f, 2 ** WIDTHS.get(n, 32) - 1) for n, f in zip(columns[:-1], parts)})
-        slots[-1]["data"] = unhex(parts[-1])
+        slots[-1]["data"] = (restored if columns[-1] == "planes" else bytes)(unhex(parts[-1]))
         slots[-1].setdefault("writes64", slots[-1].pop("writes", 0))     # an earlier count is carried over
     for name in head[5:]:
         lines.names([[name]])
         heap[name] = [number(lines.next(), 2 ** (64 if name == "sealed" else 32) - 1) for _ in range(heap[name])]
     lines.end()
     heap["slots"] = slots
-    if not well_formed(heap):
-        raise Refused(1)
+    if "retired" not in head:     # section 14: worn-out slots of the free list are retired, in its order
+        worn = lambda i: i < len(slots) and slots[i]["generation"] == LAST
+        heap["free"], heap["retired"] = [i for i in heap["free"] if not worn(i)], [i for i in heap["free"] if worn(i)]
+    need(well_formed(heap), Refused(1))
     return heap
 
-def parts_of(handle):
-    return handle >> 56, handle >> 32 & 0xFFFFFF, handle & 0xFFFFFFFF
+parts_of = lambda handle: (handle >> 56, handle >> 32 & 0xFFFFFF, handle & 0xFFFFFFFF)
 
 def well_formed(heap):
     """Section 8."""
@@ -94,10 +106,11 @@ def well_formed(heap):
     for s in slots:
         if s["kind"] > 3 or s["generation"] < 1 or (s["kind"] != 1 and s["type"]) or (s["kind"] == 0 and (s["start"] or s["writes64"] or s["data"])):
             return False
-    for i in heap["free"] + heap["quarantine"]:
-        if i >= len(slots):
-            return False
-        places[i] += 1
+    for name in ("free", "quarantine", "retired"):
+        for i in heap[name]:
+            if i >= len(slots) or (name != "quarantine" and (slots[i]["generation"] == LAST) != (name == "retired")):
+                return False
+            places[i] += 1
     for handle in heap["sealed"]:
         tag, index, generation = parts_of(handle)
         if tag != heap["tag"] or not last < index < len(slots) or generation < 1:
@@ -128,14 +141,12 @@ def read_table(text):
         table[part] = []
         for _ in range(count):
             parts = lines.fields(len(names))
-            if any(b < 32 for b in parts[-1]):
-                raise Refused(17)
+            need(all(b >= 32 for b in parts[-1]))
             table[part].append([number(f, 2 ** width - 1) for f in parts[:-1]] + [parts[-1].decode("utf-8", "replace")])
     lines.names([["bytes"]])
     table["bytes"] = unhex(lines.next())
     lines.end()
-    if not good_table(table):
-        raise Refused(10)
+    need(good_table(table), Refused(10))
     return table
 
 def good_table(table):
@@ -152,20 +163,14 @@ def good_table(table):
         counts = [min(1 + sum(counts[p] if p < len(types) else 1 for p in ps), 65537) for ps in parts]
     return all(n <= 65536 for n in counts)
 
-class NoLayout(Exception):
-    """Section 7: malformed, too large, or cut short."""
-
 def word(n):
-    if n >= 2 ** 64:
-        raise NoLayout
+    need(n < 2 ** 64, NoLayout)
     return n
 
-def up(n, align):
-    return word((n + align - 1) // align * align)
+up = lambda n, align: word((n + align - 1) // align * align)
 
 def type_at(table, t, depth):
-    if t >= len(table["types"]) or depth > 64:
-        raise NoLayout
+    need(t < len(table["types"]) and depth <= 64, NoLayout)
     return table["types"][t]
 
 def parts(table, t):
@@ -189,8 +194,7 @@ def under(table, constant, desc):
     """The descriptor of an element or a field: the bytes of its constant, or what is left."""
     if constant == NO_CONSTANT:
         return desc
-    if constant >= len(table["constants"]) or not table["constants"][constant][0]:
-        raise NoLayout
+    need(constant < len(table["constants"]) and table["constants"][constant][0], NoLayout)
     _, start, length, _ = table["constants"][constant]
     return table["bytes"][start:start + length]
 
@@ -205,8 +209,7 @@ def layout(table, t, desc, depth=0, element=False):
     if c == 4:
         count = 1
         for k in range(d):
-            if len(desc) < 24 * k + 24 or struct.unpack_from("<Q", desc, 24 * k + 16)[0] > 1:
-                raise NoLayout
+            need(len(desc) >= 24 * k + 24 and struct.unpack_from("<Q", desc, 24 * k + 16)[0] <= 1, NoLayout)
             left, right, down = struct.unpack_from("<qqq", desc, 24 * k)
             count = word(count * word(max(left - right + 1 if down else right - left + 1, 0)))
         size, align, _, leaves, used = layout(table, a, under(table, b, desc[24 * d:]), depth + 1, True)
@@ -231,8 +234,7 @@ def handles(table, t, data, desc, depth=0):
         return []
     c, a, b, d, _ = type_at(table, t, depth)
     if c in (6, 8):
-        if len(data) < 8:
-            raise NoLayout
+        need(len(data) >= 8, NoLayout)
         return [struct.unpack_from("<Q", data)[0]]
     _, _, stride, count, _ = layout(table, t, desc, depth)
     if c == 4:
@@ -244,8 +246,7 @@ def handles(table, t, data, desc, depth=0):
             used += layout(table, f, under(table, k, desc[used:]), depth + 1)[4] if k == NO_CONSTANT else 0
     found = []
     for f, k, rest, offset in places:
-        if offset > len(data):
-            raise NoLayout
+        need(offset <= len(data), NoLayout)
         found += handles(table, f, data[offset:], under(table, k, rest), depth + 1)
     return found
 
@@ -257,8 +258,7 @@ def slot_handles(table, slot):
     if slot["kind"] == 3:
         return [struct.unpack_from("<Q", seen, k)[0] for k in range(24, len(seen) - 7, 8)]
     size = desc_size(table, slot["type"])
-    if size > len(seen):
-        raise NoLayout
+    need(size <= len(seen), NoLayout)
     return handles(table, slot["type"], seen[size:], seen[:size])
 
 def fits(heap, table):
@@ -270,7 +270,6 @@ def fits(heap, table):
                 slot_handles(table, slot)
         except NoLayout:
             return i
-    return None
 
 def show(heap, table):
     for i, s in enumerate(heap["slots"]):
@@ -291,10 +290,8 @@ if __name__ == "__main__":
         sys.exit(__doc__)
     files = [open(f, "rb").read() for f in sys.argv[2:]]
     if sys.argv[1] == "answer":
-        for name, text in zip(sys.argv[2:], files):
-            print(name, answer(text))
+        print("\n".join(f"{name} {answer(text)}" for name, text in zip(sys.argv[2:], files)))
     elif sys.argv[1] == "page":
         show(read_page(files[0]), read_table(files[1]) if len(files) > 1 else None)
     else:
-        slot = fits(read_page(files[0]), read_table(files[1]))
-        print("fits" if slot is None else f"slot {slot} does not fit")
+        print({None: "fits"}.get(slot := fits(read_page(files[0]), read_table(files[1])), f"slot {slot} does not fit"))

@@ -33,14 +33,14 @@ int main(void) {
     if (placed.answer.number != YEXWALU_OK || placed.answer.first != 72057594037927937u) return failed("alloc_from", placed.answer);
     uint64_t handle = placed.answer.first;
 
-    yexwalu_answer length = yexwalu_page_length(placed.heap, YEXWALU_LISTS(memory), YEXWALU_MARKS(memory));
+    yexwalu_answer length = yexwalu_page_length(placed.heap, YEXWALU_LISTS(memory), false, YEXWALU_MARKS(memory));
     if (length.number != YEXWALU_OK || length.first > sizeof text) return failed("page_length", length);
-    yexwalu_answer page = yexwalu_write_page(placed.heap, YEXWALU_LISTS(memory), text, length.first, YEXWALU_MARKS(memory));
+    yexwalu_answer page = yexwalu_write_page(placed.heap, YEXWALU_LISTS(memory), false, text, length.first, YEXWALU_MARKS(memory));
     if (page.number != YEXWALU_OK || page.first != length.first) return failed("write_page", page);
     fwrite(text, 1, page.first, stdout);
 
     yexwalu_done read = yexwalu_read_page(placed.heap, YEXWALU_LISTS(memory), text, page.first, YEXWALU_MARKS(memory));
-    if (read.answer.number != YEXWALU_OK) return failed("read_page", read.answer);
+    if (read.answer.number != YEXWALU_OK || read.answer.first != 64 || read.answer.second != 1) return failed("read_page", read.answer);
 
     yexwalu_done taken = yexwalu_take(read.heap, YEXWALU_LISTS(memory), handle, object, sizeof object, YEXWALU_MARKS(memory));
     if (taken.answer.number != YEXWALU_OK || taken.answer.first != 2 || memcmp(object, bytes, 2) != 0) return failed("take", taken.answer);

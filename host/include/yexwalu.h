@@ -1,12 +1,12 @@
 /*
  * The heap of a saved VHDL run, with its type layouts and root maps: the calls that libyexwalu.a exports.
  *
- * Each call is proved to do what its contract says, in the crate that has it (crates/heap_door, object_door, collect_door, page_door, run_door and yexwalu), for all
- * values of its parameters. What a caller owes is what C always asks: a pointer leads to as many elements as the length after it says, is aligned and not null (also
+ * Each call is proved to do what its contract says, in the crate that has it (crates/heap_door, object_door, collect_door, wanted_door, page_door, table_door, slot_door, run_door
+ * and yexwalu), for all values of its parameters. What a caller owes is what C always asks: a pointer leads to as many elements as the length after it says, is aligned and not null (also
  * where the length is 0), memory that a call may write is lent to no other parameter of it, and a bool is 0 or 1. Calls allocate nothing, keep no pointer, have no
- * state of their own. The most stack that was seen is 135 KB, and the frames add up to 234 KB (measured before slot_handles and the list of addresses).
+ * state of their own. The most stack that was seen is 135 KB, and the frames add up to 234 KB (measured before slot_handles, the list of addresses and roots_for).
  *
- * An answer has document 01's number, 0 for success, and up to two values, zeros after a refusal. A refusal changes nothing, but 5 in alloc and
+ * An answer has document 01's number, 0 for success, and up to two values, zeros after a refusal but 13 of traceable. A refusal changes nothing, but 5 in alloc and
  * alloc_from (since_gc), 9 in a write to a live slot with nothing visible (its write count), run, whose lines before the refused one keep their effect, and
  * scratch, which is zero after all answers but 18. Numbers after a call's comment are its refusals.
  *
@@ -51,7 +51,8 @@ enum {
     YEXWALU_PAGE = 17,
     YEXWALU_SCRATCH = 18,
     YEXWALU_NEVER_ISSUED = 19,
-    YEXWALU_WORN_OUT = 20
+    YEXWALU_WORN_OUT = 20,
+    YEXWALU_NO_ROOTS = 21
 };
 
 /* The kinds of objects. */
@@ -108,6 +109,22 @@ typedef struct {
     uint64_t used;
     uint64_t offsets;
 } yexwalu_layout_answer;
+
+/* The answer of read_table, and how many elements of each list the table takes; zeros after a refusal. */
+typedef struct {
+    yexwalu_answer answer;
+    size_t types;
+    size_t fields;
+    size_t consts;
+    size_t bytes;
+    size_t names;
+} yexwalu_table_read;
+
+/* How long the scratch of read_table is at least. */
+enum {
+    YEXWALU_TABLE_WORDS = 28672,
+    YEXWALU_TABLE_HALVES = 32768
+};
 
 /* The memory that a heap lies in, with its scratch: for callers who keep it in one place. */
 typedef struct {
@@ -400,6 +417,22 @@ yexwalu_answer yexwalu_slot_handles(
     uint8_t *marks, size_t marks_len,
     uint64_t *work, size_t work_len);
 
+/*
+ * Do a heap and a type table fit together: has every object of kind Typed a type of the table, and can its handles be traced? 18, 1, 10, 13. After 13, first: the first slot that does not
+ * fit; no other refusal has a value.
+ */
+yexwalu_answer yexwalu_traceable(
+    const uint64_t *types, size_t types_len,
+    const uint32_t *fields, size_t fields_len,
+    const uint64_t *consts, size_t consts_len,
+    const uint8_t *bytes, size_t bytes_len,
+    yexwalu_header heap,
+    const uint32_t *narrow, size_t narrow_len,
+    const uint64_t *wide, size_t wide_len,
+    const uint8_t *pool, size_t pool_len,
+    uint8_t *marks, size_t marks_len,
+    uint64_t *work, size_t work_len);
+
 /* The handles of an object's visible data (descriptor, then value) stand at the front of `out`. first: how many. 10, 13, 7. */
 yexwalu_answer yexwalu_object_handles(
     const uint64_t *types, size_t types_len,
@@ -474,6 +507,26 @@ yexwalu_done yexwalu_collect(
     uint64_t *work, size_t work_len);
 
 /*
+ * Which roots let collect, with these pins, keep just the slots of `wanted` and drop the others: the fewest, and of several lists as short the one with the smaller slot at the first place where
+ * they differ. Their handles stand at the front of `out`, rising by slot. `pins` and `wanted` are slot indices, strictly rising (14). Where no roots do it, 21. first: how many.
+ * 18, 1, 10, 14, 21, 7.
+ */
+yexwalu_answer yexwalu_roots_for(
+    const uint64_t *types, size_t types_len,
+    const uint32_t *fields, size_t fields_len,
+    const uint64_t *consts, size_t consts_len,
+    const uint8_t *bytes, size_t bytes_len,
+    yexwalu_header heap,
+    const uint32_t *narrow, size_t narrow_len,
+    const uint64_t *wide, size_t wide_len,
+    const uint8_t *pool, size_t pool_len,
+    const uint32_t *pins, size_t pins_len,
+    const uint32_t *wanted, size_t wanted_len,
+    uint64_t *out, size_t out_len,
+    uint8_t *marks, size_t marks_len,
+    uint64_t *work, size_t work_len);
+
+/*
  * As collect, from a stopped function: roots are the live registers of class 4 at the safepoint `pc`, with one value a register (15), and the handles of the frame.
  * `addresses` are pairs of an address and a slot index, addresses strictly rising (14): an address that the frame has (kind 1), or a live register of class 2, pins the
  * slot that it is listed with, as if that slot were among `pins`. Any slot index is taken; one of no slot has no effect. `rows` is scratch for the live registers.
@@ -544,26 +597,29 @@ yexwalu_done yexwalu_rehearse(
 
 /* ---- A heap as a page of text ---- */
 
-/* How many bytes the heap's page has. first: that number. 18, 1. */
+/* How many bytes the heap's page has, with byte planes (planar) or with data. first: that number. 18, 1. */
 yexwalu_answer yexwalu_page_length(
     yexwalu_header heap,
     const uint32_t *narrow, size_t narrow_len,
     const uint64_t *wide, size_t wide_len,
     const uint8_t *pool, size_t pool_len,
+    bool planar,
     uint8_t *marks, size_t marks_len,
     uint64_t *work, size_t work_len);
 
-/* Writes the heap as a page to the front of `out`. first: how many bytes, which is what yexwalu_page_length says; so many are enough. 18, 1, 7. */
+/* Writes the heap as a page to the front of `out`, with byte planes (planar) or with data. first: how many bytes, which is what yexwalu_page_length says; so many are enough. 18, 1, 7. */
 yexwalu_answer yexwalu_write_page(
     yexwalu_header heap,
     const uint32_t *narrow, size_t narrow_len,
     const uint64_t *wide, size_t wide_len,
     const uint8_t *pool, size_t pool_len,
+    bool planar,
     uint8_t *out, size_t out_len,
     uint8_t *marks, size_t marks_len,
     uint64_t *work, size_t work_len);
 
-/* Reads a page into the lent memory; what it held is not looked at. 18, 17, 1, 6, 5. */
+/* Reads a page into the lent memory; what it held is not looked at. first: how many bits the page's write counts have, 64 or 32. second: 1 where it has the list `retired`, and 2 more where
+ * it has planes. Written again with what was met, a page with 64 and `retired` gives the same bytes. 18, 17, 1, 6, 5. */
 yexwalu_done yexwalu_read_page(
     yexwalu_header heap,
     uint32_t *narrow, size_t narrow_len,
@@ -572,6 +628,35 @@ yexwalu_done yexwalu_read_page(
     const uint8_t *text, size_t text_len,
     uint8_t *marks, size_t marks_len,
     uint64_t *work, size_t work_len);
+
+/*
+ * ---- A type table as text ----
+ *
+ * `names` has a line of plain text for each type, then for each field, then for each constant: bytes from 32 on but the comma, then byte 10. A name may be empty.
+ */
+
+/* Writes a type table and its names as text to the front of `out`. first: how many bytes. 17 where the names are not one for each, 10, 7. */
+yexwalu_answer yexwalu_write_table(
+    const uint64_t *types, size_t types_len,
+    const uint32_t *fields, size_t fields_len,
+    const uint64_t *consts, size_t consts_len,
+    const uint8_t *bytes, size_t bytes_len,
+    const uint8_t *names, size_t names_len,
+    uint8_t *out, size_t out_len);
+
+/*
+ * Reads the text of a type table into the fronts of the lent lists; past what the table takes they stay as they were. 16,384, 32,768 and 12,288 numbers are enough for types, fields and
+ * constants, and as many bytes as the text has for bytes and for names. `words` and `halves` are scratch, at least YEXWALU_TABLE_WORDS and YEXWALU_TABLE_HALVES long. 18, 17, 10, 7.
+ */
+yexwalu_table_read yexwalu_read_table(
+    uint64_t *types, size_t types_len,
+    uint32_t *fields, size_t fields_len,
+    uint64_t *consts, size_t consts_len,
+    uint8_t *bytes, size_t bytes_len,
+    uint8_t *names, size_t names_len,
+    const uint8_t *text, size_t text_len,
+    uint64_t *words, size_t words_len,
+    uint32_t *halves, size_t halves_len);
 
 #ifdef __cplusplus
 }

@@ -32,7 +32,7 @@ pub struct Header {
     pub sealed: usize,
 }
 
-/// Document 01's number, 0 for success, and the values, zeros after a refusal.
+/// Document 01's number, 0 for success, and the values, zeros after a refusal but 13 of `traceable`, which has the slot.
 #[repr(C)]
 #[derive(Clone, Copy, Debug, PartialEq, Eq)]
 pub struct Answer {
@@ -72,6 +72,24 @@ pub struct RawLayout {
     pub used: u64,
     /// How many offsets of fields were written.
     pub offsets: u64,
+}
+
+/// The answer of a table that is read, and how many elements of each list it takes; zeros after a refusal. See [`TypeTable::read_text`](crate::TypeTable::read_text).
+#[repr(C)]
+#[derive(Clone, Copy, Debug, PartialEq, Eq)]
+pub struct TableRead {
+    /// The answer, without values.
+    pub answer: Answer,
+    /// Numbers of types.
+    pub types: usize,
+    /// Numbers of fields.
+    pub fields: usize,
+    /// Numbers of constants.
+    pub consts: usize,
+    /// Bytes of constants.
+    pub bytes: usize,
+    /// Bytes of names.
+    pub names: usize,
 }
 
 macro_rules! heap_calls {
@@ -140,15 +158,20 @@ heap_calls! {
     /// See [`Heap::slot_handles_into`](crate::Heap::slot_handles_into).
     yexwalu_slot_handles(types: *const u64, types_len: usize, fields: *const u32, fields_len: usize, consts: *const u64, consts_len: usize, bytes: *const u8, bytes_len: usize, heap: Header;
         slot: usize, out: *mut u64, out_len: usize;) -> Answer;
-    /// See [`Heap::page_length`](crate::Heap::page_length).
-    yexwalu_page_length(heap: Header;;) -> Answer;
-    /// See [`Heap::write_page_into`](crate::Heap::write_page_into).
-    yexwalu_write_page(heap: Header; out: *mut u8, out_len: usize;) -> Answer;
+    /// See [`Heap::misfit`](crate::Heap::misfit).
+    yexwalu_traceable(types: *const u64, types_len: usize, fields: *const u32, fields_len: usize, consts: *const u64, consts_len: usize, bytes: *const u8, bytes_len: usize, heap: Header;;) -> Answer;
+    /// See [`Heap::page_length_with`](crate::Heap::page_length_with).
+    yexwalu_page_length(heap: Header; planar: bool;) -> Answer;
+    /// See [`Heap::write_page_with`](crate::Heap::write_page_with).
+    yexwalu_write_page(heap: Header; planar: bool, out: *mut u8, out_len: usize;) -> Answer;
     /// See [`Heap::read_page_over`](crate::Heap::read_page_over).
     yexwalu_read_page(heap: Header; text: *const u8, text_len: usize;) -> Done;
     /// See [`Heap::collect`](crate::Heap::collect).
     yexwalu_collect(types: *const u64, types_len: usize, fields: *const u32, fields_len: usize, consts: *const u64, consts_len: usize, bytes: *const u8, bytes_len: usize, heap: Header;
         roots: *const u64, roots_len: usize, pins: *const u32, pins_len: usize;) -> Done;
+    /// See [`Heap::roots_for_into`](crate::Heap::roots_for_into).
+    yexwalu_roots_for(types: *const u64, types_len: usize, fields: *const u32, fields_len: usize, consts: *const u64, consts_len: usize, bytes: *const u8, bytes_len: usize, heap: Header;
+        pins: *const u32, pins_len: usize, wanted: *const u32, wanted_len: usize, out: *mut u64, out_len: usize;) -> Answer;
     /// See [`Heap::collect_joined_with`](crate::Heap::collect_joined_with).
     yexwalu_collect_joined(types: *const u64, types_len: usize, fields: *const u32, fields_len: usize, consts: *const u64, consts_len: usize, bytes: *const u8, bytes_len: usize, heap: Header;
         kinds: *const u8, kinds_len: usize, ends: *const u32, ends_len: usize, refs: *const u32, refs_len: usize, blocks: *const u32, blocks_len: usize, classes: *const u8, classes_len: usize,
@@ -184,6 +207,8 @@ table_calls! {
     yexwalu_value_handles(t: u64, data: *const u8, data_len: usize, out: *mut u64, out_len: usize) -> Answer;
     /// See [`TypeTable::slot_roots_into`](crate::TypeTable::slot_roots_into).
     yexwalu_slot_roots(map: *const u32, map_len: usize, memory: *const u8, memory_len: usize, handles: *mut u64, handles_len: usize, addresses: *mut u64, addresses_len: usize) -> Answer;
+    /// See [`TypeTable::write_text_into`](crate::TypeTable::write_text_into).
+    yexwalu_write_table(names: *const u8, names_len: usize, out: *mut u8, out_len: usize) -> Answer;
 }
 
 extern "C" {
@@ -211,4 +236,15 @@ extern "C" {
         regs: *mut u32, regs_len: usize,
         rows: *mut u64, rows_len: usize,
     ) -> Answer;
+    /// See [`TypeTable::read_text`](crate::TypeTable::read_text).
+    pub fn yexwalu_read_table(
+        types: *mut u64, types_len: usize,
+        fields: *mut u32, fields_len: usize,
+        consts: *mut u64, consts_len: usize,
+        bytes: *mut u8, bytes_len: usize,
+        names: *mut u8, names_len: usize,
+        text: *const u8, text_len: usize,
+        words: *mut u64, words_len: usize,
+        halves: *mut u32, halves_len: usize,
+    ) -> TableRead;
 }

@@ -7,6 +7,7 @@ const MAX_REGISTERS: usize = 16384;
 
 /// What an instruction does. Only that of a block's last instruction says where the code goes on.
 #[derive(Clone, Copy, Debug, PartialEq, Eq, Hash)]
+#[non_exhaustive]
 pub enum InstKind {
     /// Goes on.
     Plain = 0,
@@ -26,6 +27,7 @@ pub enum InstKind {
 
 /// What a register holds.
 #[derive(Clone, Copy, Debug, PartialEq, Eq, Hash)]
+#[non_exhaustive]
 pub enum Class {
     /// A whole number.
     I64 = 0,
@@ -41,6 +43,7 @@ pub enum Class {
 
 /// Which registers a live map has.
 #[derive(Clone, Copy, Debug, PartialEq, Eq, Hash)]
+#[non_exhaustive]
 pub enum Wanted {
     /// Those of classes `Ptr` and `Handle`.
     References,
@@ -50,8 +53,6 @@ pub enum Wanted {
 
 /// The code of a function, as the live map reads it: what its instructions write and read, and where they go. Registers and targets that are not there are ignored. At most 65,536 instructions, 4,096 blocks and
 /// 16,384 registers; blocks may not share an instruction. What is not so is refused (15) when the function is used, not before.
-///
-/// The methods that add something panic past 4,294,967,295 of its sort: there would be no number for it.
 ///
 /// ```
 /// use yexwalu::{Class, Function, InstKind, Refusal, Wanted};
@@ -99,12 +100,15 @@ impl Function {
         number(self.kinds.len())
     }
 
-    /// A new instruction; the answer is its number. Targets are block numbers; those of a case are its arms, then the default.
+    /// A new instruction; the answer is its number. Targets are block numbers; those of a case are its arms, then the default. Past
+    /// 4,294,967,295 registers and targets in all the function is refused (15).
     pub fn instruction(&mut self, kind: InstKind, writes: &[u32], reads: &[u32], targets: &[u32]) -> u32 {
         let instruction = self.position();
-        self.kinds.push(kind as u8);
+        let fits = self.refs.len() + writes.len() + reads.len() + targets.len() <= u32::MAX as usize;
+        // what has no place any more is left out, and the function is refused: there is no such kind
+        self.kinds.push(if fits { kind as u8 } else { u8::MAX });
         for part in [writes, reads, targets] {
-            self.refs.extend_from_slice(part);
+            self.refs.extend_from_slice(if fits { part } else { &[] });
             self.ends.push(number(self.refs.len()));
         }
         instruction
@@ -132,6 +136,19 @@ impl Function {
     }
 
     /// The registers that are live before a safepoint, rising. It is refused where the function is not in order (15), or `pc` is no safepoint of a block (16).
+    ///
+    /// ```
+    /// use yexwalu::{Class, Function, InstKind, Refusal, Wanted};
+    /// let mut f = Function::new();
+    /// let (hall, count) = (f.register(Class::Handle), f.register(Class::I64));
+    /// let call = f.instruction(InstKind::Safepoint, &[], &[], &[]);
+    /// f.instruction(InstKind::Return, &[], &[hall, count], &[]);
+    /// f.block(0, 2);
+    /// assert_eq!(f.live_at(call, Wanted::References)?, [hall]);
+    /// assert_eq!(f.live_at(call, Wanted::All)?, [hall, count]);
+    /// assert_eq!(f.live_at(1, Wanted::All), Err(Refusal::NoMap));
+    /// # Ok::<(), Refusal>(())
+    /// ```
     pub fn live_at(&self, pc: u32, wanted: Wanted) -> Result<Vec<u32>, Refusal> {
         let f = self.within_counts();
         let mut regs = vec![0; f.classes.len()];

@@ -1,10 +1,12 @@
 use crate::ffi::{self, Done, Header};
-use crate::{FrameSlot, Function, Handle, Refusal, TypeId, TypeTable};
+use crate::{FrameSlot, Function, Handle, Refusal, Slot, TypeId, TypeTable};
 use std::cell::RefCell;
+use std::fmt;
 use std::ops::Range;
 
 /// What an object is: its kind, and the type of a typed one. It says where a collection looks for handles in the object's visible data.
 #[derive(Clone, Copy, Debug, PartialEq, Eq, Hash)]
+#[non_exhaustive]
 pub enum Kind {
     /// A value of a type of the table, after its descriptor (`TypeTable::object_handles`). The type is not looked at before a collection.
     Typed(TypeId),
@@ -24,7 +26,7 @@ impl Kind {
     }
 
     // The kind of a live slot of a heap that was checked: 1 to 3, and a type of 32 bits.
-    fn of(kind: u64, ty: u64) -> Kind {
+    pub(crate) fn of(kind: u64, ty: u64) -> Kind {
         match kind {
             1 => Kind::Typed(ty as TypeId),
             2 => Kind::Bytes,
@@ -35,6 +37,7 @@ impl Kind {
 
 /// An object that was taken from its heap: all its bytes, and where its visible data starts in them.
 #[derive(Clone, Debug, PartialEq, Eq)]
+#[non_exhaustive]
 pub struct Object {
     /// All bytes, those before the start too.
     pub bytes: Vec<u8>,
@@ -46,10 +49,48 @@ pub struct Object {
 #[derive(Clone, Copy, Debug, PartialEq, Eq, Hash)]
 #[non_exhaustive]
 pub struct Stamp {
-    /// How often the slot was given out, given a new handle or released; after 4,294,967,295 comes 1.
+    /// How often the slot was given out, given a new handle or released. 4,294,967,295 is the last: a slot that has it keeps it.
     pub generation: u32,
-    /// How often its object was written or edited since then; after 4,294,967,295 comes 0.
+    /// How often its object was written or edited since then, modulo 2^64.
     pub writes: u64,
+}
+
+/// How the objects of a page are written. Displayed, it is the column's name on a page.
+#[derive(Clone, Copy, Debug, PartialEq, Eq, Hash)]
+#[non_exhaustive]
+pub enum Column {
+    /// As they are, under the name `data`.
+    Data,
+    /// In byte planes, under the name `planes`: each whole word of eight bytes less the one before it, then the lowest bytes of all words, the next lowest, and so on (docs/FORMAT.md).
+    Planes,
+}
+
+impl fmt::Display for Column {
+    fn fmt(&self, f: &mut fmt::Formatter<'_>) -> fmt::Result {
+        f.write_str(match self {
+            Column::Data => "data",
+            Column::Planes => "planes",
+        })
+    }
+}
+
+/// The form of a page that was read. Displayed, it is the names by which a page's form is known (docs/FORMAT.md, section 14), as in `writes64, data, retired`. It may get more fields.
+#[derive(Clone, Copy, Debug, PartialEq, Eq, Hash)]
+#[non_exhaustive]
+pub struct Form {
+    /// How many bits its write counts have: 64 under the name `writes64`, 32 under `writes`.
+    pub bits: u32,
+    /// It has the list `retired`.
+    pub retired: bool,
+    /// How its objects are written.
+    pub column: Column,
+}
+
+impl fmt::Display for Form {
+    fn fmt(&self, f: &mut fmt::Formatter<'_>) -> fmt::Result {
+        let writes = if self.bits == 64 { "writes64" } else { "writes" };
+        write!(f, "{writes}, {}{}", self.column, if self.retired { ", retired" } else { "" })
+    }
 }
 
 /// The memory that a heap lies in: numbers of 32 bits, numbers of 64 bits, and the data. A heap's is made with it; the fields are public so that a host can save, damage or lend them as it likes: every
@@ -137,7 +178,7 @@ impl Scratch {
 /// A heap of objects, in memory of its own. Every call checks the heap first, so none can be misled by memory that was changed behind it. That takes time in proportion to slots and pool:
 /// `run` does many calls with one check.
 ///
-/// Every call can be refused because scratch is short (18) or the memory holds no heap (1); both cannot happen to a heap that was made by `new` or `read_page` and is changed by calls alone. What else
+/// Every call can be refused because scratch is short (18) or the memory holds no heap (1); both cannot happen to a heap that was made by `new`, `read_page` or `open` and is changed by calls alone. What else
 /// refuses a call is said there. A refusal changes nothing, but for two counts (`alloc`, `write`) and what the lines of a script did before it (`run`).
 ///
 /// Two heaps are equal if headers and memory are; scratch is left out. A heap can be sent to another thread, but not be shared between threads, because questions use its scratch.
@@ -231,7 +272,7 @@ impl Heap {
     pub const MAX_POOL: usize = 1_073_741_824;
 
     // New memory for a heap. Sizes out of range are refused (1), and so is no memory at all: what can't be a heap is not asked for, since it may not be there.
-    fn memory_for(slots: usize, pool: usize) -> (Memory, Scratch) {
+    pub(crate) fn memory_for(slots: usize, pool: usize) -> (Memory, Scratch) {
         let good = slots <= Heap::MAX_SLOTS && pool <= Heap::MAX_POOL;
         let (slots, pool) = if good { (slots, pool) } else { (0, 0) };
         (Memory::zeros(slots, pool), Scratch::zeros(slots))
@@ -302,6 +343,15 @@ impl Heap {
 
     /// Places an object; the answer is its handle. It is refused where the pool has too few bytes left (6), or no slot is left (5); the latter still counts its bytes as used since the last
     /// collection.
+    ///
+    /// ```
+    /// use yexwalu::{Heap, Kind, Refusal};
+    /// let mut heap = Heap::new(1, 64, 4096)?;
+    /// let hall = heap.alloc(Kind::Bytes, b"AB")?;
+    /// assert_eq!((hall.tag(), hall.index(), hall.generation()), (1, 0, 1));
+    /// assert_eq!(heap.alloc(Kind::Bytes, &[0; 4095]), Err(Refusal::NoRoom));
+    /// # Ok::<(), Refusal>(())
+    /// ```
     pub fn alloc(&mut self, kind: Kind, bytes: &[u8]) -> Result<Handle, Refusal> {
         let (k, t) = kind.numbers();
         let done = change!(&mut self.memory, self.scratch.get_mut(), yexwalu_alloc(self.header)(k, t, bytes.as_ptr(), bytes.len()));
@@ -309,6 +359,15 @@ impl Heap {
     }
 
     /// As `alloc`, but only the bytes from `start` on are visible. A start beyond the bytes is taken: then nothing is visible.
+    ///
+    /// ```
+    /// use yexwalu::{Heap, Kind, Refusal};
+    /// let mut heap = Heap::new(1, 64, 4096)?;
+    /// let line = heap.alloc_from(Kind::Bytes, 2, b"..hall")?;
+    /// assert_eq!(heap.data(heap.resolve(line)?)?, b"hall");
+    /// assert_eq!(heap.take(line)?.bytes, b"..hall");
+    /// # Ok::<(), Refusal>(())
+    /// ```
     pub fn alloc_from(&mut self, kind: Kind, start: usize, bytes: &[u8]) -> Result<Handle, Refusal> {
         let (k, t) = kind.numbers();
         self.alloc_raw(k, t, start, bytes)
@@ -330,6 +389,16 @@ impl Heap {
     }
 
     /// Takes an object out of the heap. Its slot goes into quarantine, until `recycle`. It is refused where the handle does not lead to one (2, 3, 19, 4).
+    ///
+    /// ```
+    /// use yexwalu::{Heap, Kind, Refusal};
+    /// let mut heap = Heap::new(1, 64, 4096)?;
+    /// let hall = heap.alloc(Kind::Bytes, b"AB")?;
+    /// let object = heap.take(hall)?;
+    /// assert_eq!((object.bytes, object.start), (b"AB".to_vec(), 0));
+    /// assert_eq!(heap.take(hall), Err(Refusal::Stale));
+    /// # Ok::<(), Refusal>(())
+    /// ```
     pub fn take(&mut self, handle: Handle) -> Result<Object, Refusal> {
         let mut bytes = vec![0; self.size_of(handle.index() as usize)];
         let (size, start) = self.take_into(handle, &mut bytes)?;
@@ -350,7 +419,22 @@ impl Heap {
         self.done(done).map(|_| ())
     }
 
-    /// Slots in quarantine join the free list, but those pinned: slot indices, strictly rising (14), of which some may be of no slot.
+    /// Slots in quarantine join the free list, but those pinned: slot indices, strictly rising (14), of which some may be of no slot. One that has its last generation, 4,294,967,295, joins the retired slots
+    /// instead, and never leaves them.
+    ///
+    /// ```
+    /// use yexwalu::{Heap, Kind, Refusal};
+    /// let mut heap = Heap::new(1, 64, 4096)?;
+    /// let hall = heap.alloc(Kind::Bytes, b"AB")?;
+    /// heap.free(hall)?;
+    /// heap.recycle(&[0])?;
+    /// assert!(heap.has_quarantine()?);
+    /// heap.recycle(&[])?;
+    /// // the slot is given out again, under another handle
+    /// assert_eq!(heap.alloc(Kind::Bytes, b"CD")?.index(), hall.index());
+    /// assert_eq!(heap.recycle(&[2, 1]), Err(Refusal::Pins));
+    /// # Ok::<(), Refusal>(())
+    /// ```
     pub fn recycle(&mut self, pins: &[u32]) -> Result<(), Refusal> {
         let done = change!(&mut self.memory, self.scratch.get_mut(), yexwalu_recycle(self.header)(pins.as_ptr(), pins.len()));
         self.done(done).map(|_| ())
@@ -366,9 +450,9 @@ impl Heap {
     /// assert_eq!(heap.data(slot)?, b"eration");
     /// # Ok::<(), Refusal>(())
     /// ```
-    pub fn edit(&mut self, handle: Handle, bytes: &[u8], start: usize) -> Result<u32, Refusal> {
+    pub fn edit(&mut self, handle: Handle, bytes: &[u8], start: usize) -> Result<Slot, Refusal> {
         let done = change!(&mut self.memory, self.scratch.get_mut(), yexwalu_edit(self.header)(handle.0, bytes.as_ptr(), bytes.len(), start));
-        Ok(self.done(done)?.0 as u32)
+        Ok(Slot(self.done(done)?.0 as u32))
     }
 
     /// Bytes over the visible data of a slot, from the offset `at` in it. Bytes that are not there are refused (9); where nothing of a live slot is visible the write still counts.
@@ -384,19 +468,29 @@ impl Heap {
     /// assert_eq!(heap.stamp(slot)?.writes, 1);
     /// # Ok::<(), Refusal>(())
     /// ```
-    pub fn write(&mut self, slot: u32, at: usize, bytes: &[u8]) -> Result<(), Refusal> {
-        let answer = change!(&mut self.memory, self.scratch.get_mut(), yexwalu_write(self.header)(slot as usize, at, bytes.as_ptr(), bytes.len()));
+    pub fn write(&mut self, slot: impl Into<Slot>, at: usize, bytes: &[u8]) -> Result<(), Refusal> {
+        let answer = change!(&mut self.memory, self.scratch.get_mut(), yexwalu_write(self.header)(slot.into().at(), at, bytes.as_ptr(), bytes.len()));
         Refusal::check(answer.number)
     }
 
     /// A new handle for a live slot: older ones become stale, and its writes are counted from 0 again. `grown` is added to the bytes since the last collection. A slot that is not there or dead is
     /// refused (9), and then one that has its last generation, 4,294,967,295 (20).
-    pub fn reissue(&mut self, slot: u32, grown: u64) -> Result<Handle, Refusal> {
-        let done = change!(&mut self.memory, self.scratch.get_mut(), yexwalu_reissue(self.header)(slot as usize, grown));
+    pub fn reissue(&mut self, slot: impl Into<Slot>, grown: u64) -> Result<Handle, Refusal> {
+        let done = change!(&mut self.memory, self.scratch.get_mut(), yexwalu_reissue(self.header)(slot.into().at(), grown));
         Ok(Handle(self.done(done)?.0))
     }
 
     /// The seals become the handles of all live slots: collections keep what these lead to.
+    ///
+    /// ```
+    /// use yexwalu::{Heap, Kind, Refusal, TypeTable};
+    /// let mut heap = Heap::new(1, 64, 4096)?;
+    /// let hall = heap.alloc(Kind::Bytes, b"AB")?;
+    /// heap.seal()?;
+    /// heap.collect(&TypeTable::new(), &[], &[])?;
+    /// assert!(heap.resolve(hall).is_ok());
+    /// # Ok::<(), Refusal>(())
+    /// ```
     pub fn seal(&mut self) -> Result<(), Refusal> {
         let done = change!(&mut self.memory, self.scratch.get_mut(), yexwalu_seal(self.header)());
         self.done(done).map(|_| ())
@@ -426,6 +520,37 @@ impl Heap {
             types.consts.as_ptr(), types.consts.len(), types.bytes.as_ptr(), types.bytes.len(), self.header)
             (numbers, roots.len(), pins.as_ptr(), pins.len()));
         self.done(done).map(|_| ())
+    }
+
+    /// The roots with which `collect`, with these pins, keeps just the objects of the wanted slots and drops the others: the fewest, rising by slot, and of several lists as short the one with the
+    /// smaller slot at the first place where they differ. Two objects that hold each other, and that nothing else keeps, need one root. Pins and wanted slots are strictly rising (14). Where no roots do it, 21.
+    ///
+    /// ```
+    /// use yexwalu::{Heap, Kind, Refusal, TypeTable};
+    /// let mut table = TypeTable::new();
+    /// let access = table.access();
+    /// let mut heap = Heap::new(1, 64, 4096)?;
+    /// let held = heap.alloc(Kind::Bytes, b"held")?;
+    /// let root = heap.alloc(Kind::Typed(access), &held.0.to_le_bytes())?;
+    /// heap.alloc(Kind::Bytes, b"other")?;
+    /// assert_eq!(heap.roots_for(&table, &[], &[0, 1])?, [root]);
+    /// assert_eq!(heap.roots_for(&table, &[], &[1]), Err(Refusal::NoRoots));
+    /// # Ok::<(), Refusal>(())
+    /// ```
+    pub fn roots_for(&self, types: &TypeTable, pins: &[u32], wanted: &[u32]) -> Result<Vec<Handle>, Refusal> {
+        let mut out = vec![0; wanted.len()];
+        let n = self.roots_for_into(types, pins, wanted, &mut out)?;
+        out.truncate(n);
+        Ok(out.into_iter().map(Handle).collect())
+    }
+
+    /// As `roots_for`, with the handles written to the front of a lent list (7). The answer is how many.
+    pub fn roots_for_into(&self, types: &TypeTable, pins: &[u32], wanted: &[u32], out: &mut [u64]) -> Result<usize, Refusal> {
+        let answer = ask!(self, yexwalu_roots_for(
+            types.types.as_ptr(), types.types.len(), types.fields.as_ptr(), types.fields.len(),
+            types.consts.as_ptr(), types.consts.len(), types.bytes.as_ptr(), types.bytes.len())
+            (pins.as_ptr(), pins.len(), wanted.as_ptr(), wanted.len(), out.as_mut_ptr(), out.len()));
+        Ok(Heap::pair(answer)?.0 as usize)
     }
 
     /// As `collect`, from a stopped function: the roots are the registers of class `Handle` that are live at the safepoint `pc`, by the values given, and the handles of its frame.
@@ -555,6 +680,15 @@ impl Heap {
     }
 
     /// Is a collection due: was more allocated since the last one than the threshold, and than it left?
+    ///
+    /// ```
+    /// use yexwalu::{Heap, Kind, Refusal};
+    /// let mut heap = Heap::new(1, 64, 4096)?;
+    /// heap.alloc(Kind::Bytes, b"AB")?;
+    /// // 2 bytes, and 32 for the object
+    /// assert_eq!((heap.gc_due(33)?, heap.gc_due(34)?), (true, false));
+    /// # Ok::<(), Refusal>(())
+    /// ```
     pub fn gc_due(&self, threshold: u64) -> Result<bool, Refusal> {
         Heap::yes(ask!(self, yexwalu_gc_due(threshold)))
     }
@@ -595,31 +729,61 @@ impl Heap {
     /// assert_eq!(heap.resolve(Handle(gone.0 + (1 << 32))), Err(Refusal::NeverIssued));
     /// # Ok::<(), Refusal>(())
     /// ```
-    pub fn resolve(&self, handle: Handle) -> Result<u32, Refusal> {
-        Ok(Heap::pair(ask!(self, yexwalu_resolve(handle.0)))?.0 as u32)
+    pub fn resolve(&self, handle: Handle) -> Result<Slot, Refusal> {
+        Ok(Slot(Heap::pair(ask!(self, yexwalu_resolve(handle.0)))?.0 as u32))
     }
 
     /// Where the visible data of a slot lies in the pool. It is refused (9) where the slot is not there or dead, or nothing is visible.
-    pub fn place(&self, slot: u32) -> Result<Range<usize>, Refusal> {
-        let (from, size) = Heap::pair(ask!(self, yexwalu_data(slot as usize)))?;
+    ///
+    /// ```
+    /// use yexwalu::{Heap, Kind, Refusal};
+    /// let mut heap = Heap::new(1, 64, 4096)?;
+    /// heap.alloc(Kind::Bytes, b"first")?;
+    /// heap.alloc_from(Kind::Bytes, 2, b"second")?;
+    /// assert_eq!(heap.place(1)?, 7..11);
+    /// assert_eq!(&heap.memory().pool[7..11], b"cond");
+    /// # Ok::<(), Refusal>(())
+    /// ```
+    pub fn place(&self, slot: impl Into<Slot>) -> Result<Range<usize>, Refusal> {
+        let (from, size) = Heap::pair(ask!(self, yexwalu_data(slot.into().at())))?;
         Ok(from as usize..from as usize + size as usize)
     }
 
     /// The visible data of a slot, refused as by `place`.
-    pub fn data(&self, slot: u32) -> Result<&[u8], Refusal> {
+    pub fn data(&self, slot: impl Into<Slot>) -> Result<&[u8], Refusal> {
         let place = self.place(slot)?;
         Ok(&self.memory.pool[place])
     }
 
     /// The kind of a slot's object; a slot that is not there or dead is refused (9).
-    pub fn kind(&self, slot: u32) -> Result<Kind, Refusal> {
-        let (kind, ty) = Heap::pair(ask!(self, yexwalu_kind(slot as usize)))?;
+    ///
+    /// ```
+    /// use yexwalu::{Heap, Kind, Refusal};
+    /// let mut heap = Heap::new(1, 64, 4096)?;
+    /// heap.alloc(Kind::Typed(3), b"AB")?;
+    /// assert_eq!(heap.kind(0)?, Kind::Typed(3));
+    /// assert_eq!(heap.kind(1), Err(Refusal::NothingThere));
+    /// # Ok::<(), Refusal>(())
+    /// ```
+    pub fn kind(&self, slot: impl Into<Slot>) -> Result<Kind, Refusal> {
+        let (kind, ty) = Heap::pair(ask!(self, yexwalu_kind(slot.into().at())))?;
         Ok(Kind::of(kind, ty))
     }
 
     /// The generation and the write count of a slot; one that is not there or dead is refused (9).
-    pub fn stamp(&self, slot: u32) -> Result<Stamp, Refusal> {
-        let (generation, writes) = Heap::pair(ask!(self, yexwalu_stamp(slot as usize)))?;
+    ///
+    /// ```
+    /// use yexwalu::{Heap, Kind, Refusal};
+    /// let mut heap = Heap::new(1, 64, 4096)?;
+    /// let hall = heap.alloc(Kind::Bytes, b"AB")?;
+    /// let before = heap.stamp(0)?;
+    /// heap.write(0, 0, b"a")?;
+    /// assert_eq!(heap.stamp(0)?.writes, before.writes + 1);
+    /// assert_eq!(heap.stamp(0)?.generation, hall.generation());
+    /// # Ok::<(), Refusal>(())
+    /// ```
+    pub fn stamp(&self, slot: impl Into<Slot>) -> Result<Stamp, Refusal> {
+        let (generation, writes) = Heap::pair(ask!(self, yexwalu_stamp(slot.into().at())))?;
         Ok(Stamp {
             generation: generation as u32,
             writes,
@@ -640,9 +804,10 @@ impl Heap {
     /// assert_eq!(heap.slot_handles(&table, heap.resolve(both)?)?, [Handle(7), Handle(8)]);
     /// # Ok::<(), Refusal>(())
     /// ```
-    pub fn slot_handles(&self, types: &TypeTable, slot: u32) -> Result<Vec<Handle>, Refusal> {
-        let mut out = vec![0; self.size_of(slot as usize) / 8];
-        let n = self.slot_handles_into(types, slot as usize, &mut out)?;
+    pub fn slot_handles(&self, types: &TypeTable, slot: impl Into<Slot>) -> Result<Vec<Handle>, Refusal> {
+        let slot = slot.into().at();
+        let mut out = vec![0; self.size_of(slot) / 8];
+        let n = self.slot_handles_into(types, slot, &mut out)?;
         out.truncate(n);
         Ok(out.into_iter().map(Handle).collect())
     }
@@ -656,6 +821,33 @@ impl Heap {
         Ok(Heap::pair(answer)?.0 as usize)
     }
 
+    /// The first slot that does not fit the type table: an object of kind Typed whose type the table has not, or whose handles can't be traced. `None` where all fit, so that page and table can be kept
+    /// together. It is refused where the table is not in order (10).
+    ///
+    /// ```
+    /// use yexwalu::{Heap, Kind, Refusal, Slot, TypeTable};
+    /// let mut table = TypeTable::new();
+    /// let access = table.access();
+    /// let mut heap = Heap::new(1, 64, 4096)?;
+    /// heap.alloc(Kind::Typed(access), &[0; 8])?;
+    /// assert_eq!(heap.misfit(&table)?, None);
+    /// heap.alloc(Kind::Typed(access), &[0; 7])?;
+    /// assert_eq!(heap.misfit(&table)?, Some(Slot(1)));
+    /// assert_eq!(heap.misfit(&TypeTable::new())?, Some(Slot(0)));
+    /// # Ok::<(), Refusal>(())
+    /// ```
+    pub fn misfit(&self, types: &TypeTable) -> Result<Option<Slot>, Refusal> {
+        let answer = ask!(self, yexwalu_traceable(
+            types.types.as_ptr(), types.types.len(), types.fields.as_ptr(), types.fields.len(),
+            types.consts.as_ptr(), types.consts.len(), types.bytes.as_ptr(), types.bytes.len())
+            ());
+        if answer.number == Refusal::Untraceable.number() {
+            return Ok(Some(Slot(answer.first as u32)));
+        }
+        Heap::pair(answer)?;
+        Ok(None)
+    }
+
     /// The heap as a page of text, without epoch and log (docs/FORMAT.md).
     ///
     /// ```
@@ -663,14 +855,31 @@ impl Heap {
     /// let mut heap = Heap::new(1, 64, 4096)?;
     /// heap.alloc(Kind::Bytes, b"AB")?;
     /// let page = heap.write_page()?;
-    /// assert_eq!(page, b"tag,since_gc,reclaim_at,live_bytes,slots,free,quarantine,sealed\n1,34,4096,0,1,0,0,0\n\
-    /// generation,kind,type,start,writes64,data\n1,2,0,0,0,4142\nfree\nquarantine\nsealed\n");
+    /// assert_eq!(page, b"tag,since_gc,reclaim_at,live_bytes,slots,free,quarantine,sealed,retired\n1,34,4096,0,1,0,0,0,0\n\
+    /// generation,kind,type,start,writes64,data\n1,2,0,0,0,4142\nfree\nquarantine\nsealed\nretired\n");
     /// assert_eq!(Heap::read_page(64, 4096, &page)?.write_page()?, page);
     /// # Ok::<(), Refusal>(())
     /// ```
     pub fn write_page(&self) -> Result<Vec<u8>, Refusal> {
-        let mut out = vec![0; self.page_length()?];
-        self.write_page_into(&mut out)?;
+        self.page_with(Column::Data)
+    }
+
+    /// As `write_page`, with objects as they are or in byte planes, which pack better where neighbouring words differ little.
+    ///
+    /// ```
+    /// use yexwalu::{Column, Heap, Kind, Refusal};
+    /// let mut heap = Heap::new(1, 64, 4096)?;
+    /// heap.alloc(Kind::Bytes, &[1000u64, 1001, 1003].map(u64::to_le_bytes).concat())?;
+    /// let page = heap.page_with(Column::Planes)?;
+    /// assert!(page.ends_with(b"writes64,planes\n1,2,0,0,0,e80102030000000000000000000000000000000000000000\nfree\nquarantine\nsealed\nretired\n"));
+    /// let mut again = Heap::new(1, 64, 4096)?;
+    /// let form = again.read_page_over(&page)?;
+    /// assert_eq!(again.page_with(form.column)?, page);
+    /// # Ok::<(), Refusal>(())
+    /// ```
+    pub fn page_with(&self, column: Column) -> Result<Vec<u8>, Refusal> {
+        let mut out = vec![0; self.page_length_with(column)?];
+        self.write_page_with(column, &mut out)?;
         Ok(out)
     }
 
@@ -680,22 +889,43 @@ impl Heap {
     /// use yexwalu::{Heap, Kind, Refusal};
     /// let mut heap = Heap::new(1, 64, 4096)?;
     /// heap.alloc(Kind::Bytes, b"AB")?;
-    /// assert_eq!(heap.page_length()?, 163);
-    /// assert_eq!(heap.write_page()?.len(), 163);
+    /// assert_eq!(heap.page_length()?, 181);
+    /// assert_eq!(heap.write_page()?.len(), 181);
     /// # Ok::<(), Refusal>(())
     /// ```
     pub fn page_length(&self) -> Result<usize, Refusal> {
-        Ok(Heap::pair(ask!(self, yexwalu_page_length()))?.0 as usize)
+        self.page_length_with(Column::Data)
+    }
+
+    /// The same of a page with this column. With planes it has two bytes more, those of the longer name.
+    pub fn page_length_with(&self, column: Column) -> Result<usize, Refusal> {
+        Ok(Heap::pair(ask!(self, yexwalu_page_length(column == Column::Planes)))?.0 as usize)
     }
 
     /// As `write_page`, with the text written to the front of a lent output. The answer is the number of bytes, which is `page_length`. An output of so many bytes is enough; a shorter one is refused (7).
     pub fn write_page_into(&self, out: &mut [u8]) -> Result<usize, Refusal> {
-        let answer = ask!(self, yexwalu_write_page(out.as_mut_ptr(), out.len()));
+        self.write_page_with(Column::Data, out)
+    }
+
+    /// The same with this column; the answer is `page_length_with`.
+    pub fn write_page_with(&self, column: Column, out: &mut [u8]) -> Result<usize, Refusal> {
+        let answer = ask!(self, yexwalu_write_page(column == Column::Planes, out.as_mut_ptr(), out.len()));
         Ok(Heap::pair(answer)?.0 as usize)
     }
 
     /// The heap of a page, in new memory for so many objects and bytes of data, as `new` takes them. It is refused where the text is no page (17), what it shows is no heap or the sizes are out
     /// of range (1), and where the heap has more data (6) or more slots (5).
+    ///
+    /// ```
+    /// use yexwalu::{Heap, Kind, Refusal};
+    /// let mut heap = Heap::new(1, 64, 4096)?;
+    /// heap.alloc(Kind::Bytes, b"AB")?;
+    /// let page = heap.write_page()?;
+    /// assert_eq!(Heap::read_page(64, 4096, &page)?.memory(), heap.memory());
+    /// assert_eq!(Heap::read_page(64, 1, &page), Err(Refusal::NoRoom));
+    /// assert_eq!(Heap::read_page(64, 4096, &page[1..]), Err(Refusal::Page));
+    /// # Ok::<(), Refusal>(())
+    /// ```
     pub fn read_page(slots: usize, pool: usize, text: &[u8]) -> Result<Heap, Refusal> {
         let (memory, scratch) = Heap::memory_for(slots, pool);
         let mut heap = Heap::from_parts(Header::default(), memory, scratch);
@@ -703,9 +933,11 @@ impl Heap {
         Ok(heap)
     }
 
-    /// As `read_page`, into this heap's memory. What it held is not looked at, and stays after a refusal.
-    pub fn read_page_over(&mut self, text: &[u8]) -> Result<(), Refusal> {
+    /// As `read_page`, into this heap's memory. What it held is not looked at, and stays after a refusal. The answer is the form that was met: a page of 64 bits with `retired` is written
+    /// again to the same bytes with the column that was met.
+    pub fn read_page_over(&mut self, text: &[u8]) -> Result<Form, Refusal> {
         let done = change!(&mut self.memory, self.scratch.get_mut(), yexwalu_read_page(self.header)(text.as_ptr(), text.len()));
-        self.done(done).map(|_| ())
+        let (bits, names) = self.done(done)?;
+        Ok(Form { bits: bits as u32, retired: names & 1 == 1, column: if names < 2 { Column::Data } else { Column::Planes } })
     }
 }

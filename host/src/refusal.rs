@@ -1,7 +1,7 @@
 use std::fmt;
 
 /// Why a call was not done: a row of document 01's table, by its number and its word. The table may get more rows. Where several would refuse a call, 18 comes first, then 17, 1, 10, 15, 8, 14, 16, 2, 3, 19, 4, 9, 20, 6, 5, then 11 or 12 as met,
-/// 13 and 7.
+/// 13 or 21, and 7.
 ///
 /// ```
 /// use yexwalu::Refusal;
@@ -38,13 +38,13 @@ pub enum Refusal {
     TooLarge = 12,
     /// 13, untraceable: a value or a frame that can't be traced.
     Untraceable = 13,
-    /// 14, pins: pins that do not rise strictly.
+    /// 14, pins: pins, wanted slots or addresses that do not rise strictly, or addresses that are not in pairs.
     Pins = 14,
     /// 15, function: the function's code is not in order.
     Function = 15,
     /// 16, no map: not a safepoint inside a block.
     NoMap = 16,
-    /// 17, page: not a page, or not a line of a script.
+    /// 17, page: not a page, not a line of a script, not the text of a type table, or not its names.
     Page = 17,
     /// 18, scratch: too little scratch.
     Scratch = 18,
@@ -52,6 +52,8 @@ pub enum Refusal {
     NeverIssued = 19,
     /// 20, worn out: a slot that has its last generation gets no other handle.
     WornOut = 20,
+    /// 21, no roots: no root list lets a collection keep just the wanted slots.
+    NoRoots = 21,
 }
 
 use Refusal::*;
@@ -77,6 +79,7 @@ const ALL: &[(Refusal, &str)] = &[
     (Scratch, "scratch"),
     (NeverIssued, "never issued"),
     (WornOut, "worn out"),
+    (NoRoots, "no roots"),
 ];
 
 impl Refusal {

@@ -14,8 +14,6 @@ pub const NO_CONSTANT: ConstId = u32::MAX;
 /// its values can't be traced (13). At most 4,096 types, 16,384 fields and 4,096 constants; a type may not unfold into more than 65,536 parts. What is not so is refused (10) when the table is used,
 /// not before.
 ///
-/// The methods that add something panic past 4,294,967,295 of its sort: there would be no number for it.
-///
 /// ```
 /// use yexwalu::{TypeTable, Refusal, descriptor, Direction};
 /// let mut table = TypeTable::new();
@@ -53,6 +51,12 @@ pub enum Direction {
 }
 
 /// The descriptor bytes of dimensions: left, right and direction of each, three signed little-endian words.
+///
+/// ```
+/// use yexwalu::{descriptor, Direction};
+/// let bytes = descriptor(&[(7, 0, Direction::Downto)]);
+/// assert_eq!((bytes.len(), bytes[0], bytes[16]), (24, 7, 1));
+/// ```
 pub fn descriptor(dimensions: &[(i64, i64, Direction)]) -> Vec<u8> {
     let mut bytes = Vec::new();
     for (left, right, direction) in dimensions {
@@ -65,6 +69,7 @@ pub fn descriptor(dimensions: &[(i64, i64, Direction)]) -> Vec<u8> {
 
 /// Where the parts of a value lie.
 #[derive(Clone, Debug, PartialEq, Eq)]
+#[non_exhaustive]
 pub struct Layout {
     /// Bytes of a value.
     pub size: u64,
@@ -233,6 +238,16 @@ impl TypeTable {
     }
 
     /// The bytes of a descriptor of a type; a type that has none of a fixed size is refused (11).
+    ///
+    /// ```
+    /// use yexwalu::{Refusal, TypeTable};
+    /// let mut table = TypeTable::new();
+    /// let real = table.real();
+    /// let matrix = table.array(real, None, 2);
+    /// assert_eq!(table.desc_size(matrix)?, 48);
+    /// assert_eq!(table.desc_size(9), Err(Refusal::Malformed));
+    /// # Ok::<(), Refusal>(())
+    /// ```
     pub fn desc_size(&self, ty: TypeId) -> Result<u64, Refusal> {
         let answer = on_table!(self, yexwalu_desc_size(ty.into()));
         Refusal::check(answer.number)?;
@@ -240,6 +255,15 @@ impl TypeTable {
     }
 
     /// Can values of the type hold handles? A type that is missing, or deeper than 64 levels, counts as one that can.
+    ///
+    /// ```
+    /// use yexwalu::{Refusal, TypeTable};
+    /// let mut table = TypeTable::new();
+    /// let (real, access) = (table.real(), table.access());
+    /// let pair = table.record(&[(real, None), (access, None)]);
+    /// assert_eq!((table.has_handles(real)?, table.has_handles(pair)?, table.has_handles(9)?), (false, true, true));
+    /// # Ok::<(), Refusal>(())
+    /// ```
     pub fn has_handles(&self, ty: TypeId) -> Result<bool, Refusal> {
         let answer = on_table!(self, yexwalu_has_handles(ty.into()));
         Refusal::check(answer.number)?;
@@ -283,6 +307,15 @@ impl TypeTable {
     }
 
     /// The handles of a value of a type that needs no descriptor, refused as by `object_handles`.
+    ///
+    /// ```
+    /// use yexwalu::{Handle, Refusal, TypeTable};
+    /// let mut table = TypeTable::new();
+    /// let access = table.access();
+    /// assert_eq!(table.value_handles(access, &7u64.to_le_bytes())?, [Handle(7)]);
+    /// assert_eq!(table.value_handles(access, &[0; 7]), Err(Refusal::Untraceable));
+    /// # Ok::<(), Refusal>(())
+    /// ```
     pub fn value_handles(&self, ty: TypeId, data: &[u8]) -> Result<Vec<Handle>, Refusal> {
         TypeTable::listed(data.len() / 8, |out| self.value_handles_into(ty, data, out))
     }
@@ -326,5 +359,73 @@ impl TypeTable {
             map.as_ptr(), map.len(), memory.as_ptr(), memory.len(), handles.as_mut_ptr(), handles.len(), addresses.as_mut_ptr(), addresses.len()));
         Refusal::check(answer.number)?;
         Ok((answer.first as usize, answer.second as usize))
+    }
+
+    /// No names: an empty line for each type, field and constant, as `write_text` takes them.
+    pub fn no_names(&self) -> Vec<u8> {
+        vec![b'\n'; self.types.len() / 4 + self.fields.len() / 2 + self.consts.len() / 3]
+    }
+
+    /// The table as text (docs/FORMAT.md). `names` has a line of plain text for each type, then for each field, then for each constant: bytes from 32 on but the comma, then byte 10; other names are
+    /// refused (17), and so is a table that is not in order (10).
+    ///
+    /// ```
+    /// use yexwalu::{Refusal, TypeTable};
+    /// let mut table = TypeTable::new();
+    /// let int = table.integer(0, 100);
+    /// table.record(&[(int, None)]);
+    /// let text = table.write_text(b"percent\npoint\nx\n")?;
+    /// assert_eq!(text, b"types,fields,constants\n2,1,0\nclass,a,b,c,name\n0,0,100,0,percent\n5,0,1,0,point\ntype,constant,name\n0,4294967295,x\nplain,start,length,name\nbytes\n\n");
+    /// assert_eq!(TypeTable::read_text(&text)?, (table, b"percent\npoint\nx\n".to_vec()));
+    /// assert_eq!(TypeTable::read_text(&text[1..]), Err(Refusal::Page));
+    /// # Ok::<(), Refusal>(())
+    /// ```
+    pub fn write_text(&self, names: &[u8]) -> Result<Vec<u8>, Refusal> {
+        // names lines and counts take 90 and 63 bytes at most, a number 20 and the comma after it
+        let numbers = self.types.len() + self.fields.len() + self.consts.len();
+        let mut out = vec![0; 153 + 21 * numbers + names.len() + 2 * self.bytes.len()];
+        let n = self.write_text_into(names, &mut out)?;
+        out.truncate(n);
+        Ok(out)
+    }
+
+    /// As `write_text`, to the front of a lent output (7). The answer is how many bytes.
+    pub fn write_text_into(&self, names: &[u8], out: &mut [u8]) -> Result<usize, Refusal> {
+        let answer = on_table!(self, yexwalu_write_table(names.as_ptr(), names.len(), out.as_mut_ptr(), out.len()));
+        Refusal::check(answer.number)?;
+        Ok(answer.first as usize)
+    }
+
+    /// The table whose text this is, and its names. It is refused where it is no such text (17), or the table is not in order (10).
+    pub fn read_text(text: &[u8]) -> Result<(TypeTable, Vec<u8>), Refusal> {
+        // as much as a table takes at most; a byte of a constant takes two of the text
+        let mut table = TypeTable {
+            types: vec![0; 16384],
+            fields: vec![0; 32768],
+            consts: vec![0; 12288],
+            bytes: vec![0; text.len() / 2],
+        };
+        let mut names = vec![0; text.len()];
+        let (mut words, mut halves) = (vec![0u64; 28672], vec![0u32; 32768]);
+        // SAFETY: each pointer leads to as many elements as the length after it says, and what the call writes is lent once.
+        let read = unsafe {
+            ffi::yexwalu_read_table(
+                table.types.as_mut_ptr(), table.types.len(),
+                table.fields.as_mut_ptr(), table.fields.len(),
+                table.consts.as_mut_ptr(), table.consts.len(),
+                table.bytes.as_mut_ptr(), table.bytes.len(),
+                names.as_mut_ptr(), names.len(),
+                text.as_ptr(), text.len(),
+                words.as_mut_ptr(), words.len(),
+                halves.as_mut_ptr(), halves.len(),
+            )
+        };
+        Refusal::check(read.answer.number)?;
+        table.types.truncate(read.types);
+        table.fields.truncate(read.fields);
+        table.consts.truncate(read.consts);
+        table.bytes.truncate(read.bytes);
+        names.truncate(read.names);
+        Ok((table, names))
     }
 }

@@ -64,6 +64,7 @@ fn c_type(ty: &str) -> &str {
         "Answer" => "yexwalu_answer",
         "Done" => "yexwalu_done",
         "LayoutAnswer" | "RawLayout" => "yexwalu_layout_answer",
+        "TableRead" => "yexwalu_table_read",
         other => other,
     }
 }
@@ -190,8 +191,8 @@ fn structs(source: &str) -> Structs {
 
 #[test]
 fn structs_are_the_same_everywhere() {
-    let exported = structs(&(text("crates/heap/src/lib.rt") + &text("crates/refusal/src/lib.rt") + &text("crates/door/src/lib.rt") + &exports()));
-    assert_eq!(exported.len(), 4);
+    let exported = structs(&(text("crates/heap/src/lib.rt") + &text("crates/refusal/src/lib.rt") + &text("crates/door/src/lib.rt") + &text("crates/table_reader/src/lib.rt") + &exports()));
+    assert_eq!(exported.len(), 5);
     assert_eq!(structs(&ffi()), exported);
     let mut header_has = Structs::new();
     for item in header().split("typedef struct {").skip(1) {
@@ -205,9 +206,9 @@ fn structs_are_the_same_everywhere() {
 
 #[test]
 fn the_header_has_the_numbers_and_words_of_the_refusals() {
-    let all: Vec<Refusal> = (1..=19).map(|n| Refusal::from_number(n).unwrap()).collect();
+    let all: Vec<Refusal> = (1..=21).map(|n| Refusal::from_number(n).unwrap()).collect();
     assert!(all.iter().zip(1..).all(|(r, n)| r.number() == n));
-    assert!(Refusal::from_number(0).is_none() && Refusal::from_number(20).is_none());
+    assert!(Refusal::from_number(0).is_none() && Refusal::from_number(22).is_none());
     let header = header();
     let constants = header.split_once("enum {\n").unwrap().1.split_once("\n}").unwrap().0;
     let words = all.iter().map(|r| format!("    YEXWALU_{} = {}", r.word().to_uppercase().replace(' ', "_"), r.number()));

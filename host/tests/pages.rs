@@ -1,7 +1,7 @@
 //! A page has the length that is told before. Damaged pages: a page that is read gives back its very text; one that is refused leaves what was lent.
 mod common;
-use common::{sample, Random};
-use yexwalu::{Heap, Kind, Refusal, Scratch};
+use common::{narrow, sample, without_retired, Random};
+use yexwalu::{Column, Heap, Kind, Refusal, Scratch};
 
 // Reads a text into memory that held something else.
 fn read(slots: usize, pool: usize, text: &[u8]) -> Result<Heap, Refusal> {
@@ -10,9 +10,10 @@ fn read(slots: usize, pool: usize, text: &[u8]) -> Result<Heap, Refusal> {
     let answer = heap.read_page_over(text);
     assert_eq!(heap.scratch(), Scratch::zeros(slots));
     match answer {
-        Ok(()) => {
+        Ok(form) => {
             assert!(heap.header().epoch == 0 && heap.header().log == [0; 16]);
-            assert_eq!(heap.write_page().unwrap(), text, "a page that is read is written again");
+            assert!(form.bits == 64 && form.retired);
+            assert_eq!(heap.page_with(form.column).unwrap(), text, "a page that is read is written again");
             Ok(heap)
         }
         Err(why) => {
@@ -61,6 +62,50 @@ fn a_page_has_the_length_that_is_told() {
         let mut out = vec![0xee; n - 1];
         assert_eq!(heap.write_page_into(&mut out), Err(Refusal::ShortList));
         assert!(out.iter().all(|b| *b == 0xee));
+    }
+}
+
+// The column of an object, by the sentence of the request.
+fn planes(bytes: &[u8]) -> Vec<u8> {
+    let (words, rest) = bytes.split_at(bytes.len() / 8 * 8);
+    let words: Vec<u64> = words.chunks(8).map(|w| u64::from_le_bytes(w.try_into().unwrap())).collect();
+    let less: Vec<[u8; 8]> = (0..words.len()).map(|i| words[i].wrapping_sub(if i == 0 { 0 } else { words[i - 1] }).to_le_bytes()).collect();
+    (0..8).flat_map(|j| less.iter().map(move |w| w[j])).chain(rest.iter().copied()).collect()
+}
+
+#[test]
+fn planes_are_written_and_read_back() {
+    let mut random = Random::new(41);
+    for length in (0..40).chain([63, 64, 65, 800]) {
+        let bytes: Vec<u8> = (0..length).map(|_| random.below(256) as u8).collect();
+        let mut heap = Heap::new(7, 4, 4096).unwrap();
+        let handle = heap.alloc(Kind::Bytes, &bytes).unwrap();
+        heap.alloc(Kind::Bytes, &[0xff; 17]).unwrap();
+        let data = heap.write_page().unwrap();
+        let page = heap.page_with(Column::Planes).unwrap();
+        assert_eq!(page.len(), data.len() + 2);
+        assert_eq!(heap.page_length_with(Column::Planes).unwrap(), page.len());
+        let column: String = planes(&bytes).iter().map(|b| format!("{b:02x}")).collect();
+        assert!(String::from_utf8(page.clone()).unwrap().contains(&format!("writes64,planes\n1,2,0,0,0,{column}\n")), "{length}");
+        let mut again = read(4, 4096, &page).unwrap();
+        assert_eq!(again.memory(), heap.memory());
+        assert_eq!(again.write_page().unwrap(), data);
+        assert_eq!(again.take(handle).unwrap().bytes, bytes);
+    }
+}
+
+#[test]
+fn every_form_is_told() {
+    let (heap, _) = sample(8, 64);
+    for column in [Column::Data, Column::Planes] {
+        let page = String::from_utf8(heap.page_with(column).unwrap()).unwrap();
+        for (text, bits, retired) in [(page.clone(), 64, true), (narrow(&page), 32, true), (without_retired(&page), 64, false), (without_retired(&narrow(&page)), 32, false)] {
+            let mut again = Heap::new(1, 8, 64).unwrap();
+            let form = again.read_page_over(text.as_bytes()).unwrap();
+            assert_eq!((form.bits, form.retired, form.column), (bits, retired, column));
+            assert_eq!(again.memory(), heap.memory());
+            assert_eq!(again.page_with(column).unwrap(), page.as_bytes());
+        }
     }
 }
 
@@ -172,27 +217,50 @@ fn a_page_with_a_number_changed() {
     }
 }
 
-// A page as the first programs wrote it, with write counts of 32 bits.
-fn earlier(page: &[u8]) -> Vec<u8> {
-    let text = String::from_utf8(page.to_vec()).unwrap();
-    assert_eq!(text.matches(",writes64,").count(), 1);
-    text.replace(",writes64,", ",writes,").into_bytes()
+#[test]
+fn a_page_of_an_earlier_form_is_read_and_written_in_the_new_one() {
+    let (heap, _) = sample(8, 64);
+    let page = String::from_utf8(heap.write_page().unwrap()).unwrap();
+    for text in [narrow(&page), without_retired(&page), without_retired(&narrow(&page))] {
+        let again = Heap::read_page(8, 64, text.as_bytes()).unwrap();
+        assert_eq!(again.memory(), heap.memory());
+        assert_eq!(again.write_page().unwrap(), page.as_bytes());
+    }
+    // a count of 33 bits is no number in the earlier form
+    let most = page.replace(LINE, "1,1,3,2,4294967295,7468547264\n");
+    let past = page.replace(LINE, "1,1,3,2,4294967296,7468547264\n");
+    assert_eq!(Heap::read_page(8, 64, narrow(&most).as_bytes()).unwrap().write_page().unwrap(), most.as_bytes());
+    assert_eq!(Heap::read_page(8, 64, narrow(&past).as_bytes()).err(), Some(Refusal::Page));
+    assert_eq!(Heap::read_page(8, 64, past.as_bytes()).unwrap().write_page().unwrap(), past.as_bytes());
+    // the list and its name stand together
+    assert_eq!(read(8, 64, page.strip_suffix("retired\n").unwrap().as_bytes()).err(), Some(Refusal::Page));
+    assert_eq!(read(8, 64, (without_retired(&page) + "retired\n").as_bytes()).err(), Some(Refusal::Page));
+}
+
+// Three dead slots, the first and the last at the last generation; the lists are given, the retired one where the page has it.
+fn dead(free: &[u32], retired: Option<&[u32]>) -> String {
+    let list = |name: &str, slots: &[u32]| format!("{name}\n") + &slots.iter().map(|i| format!("{i}\n")).collect::<String>();
+    let (name, count, last) = retired.map_or(Default::default(), |r| (",retired", format!(",{}", r.len()), list("retired", r)));
+    let head = format!("tag,since_gc,reclaim_at,live_bytes,slots,free,quarantine,sealed{name}\n1,0,4096,0,3,{},0,0{count}\n", free.len());
+    head + "generation,kind,type,start,writes64,data\n4294967295,0,0,0,0,\n5,0,0,0,0,\n4294967295,0,0,0,0,\n" + &list("free", free) + "quarantine\nsealed\n" + &last
 }
 
 #[test]
-fn a_page_of_the_earlier_form_is_read_and_written_under_the_new_name() {
-    let (heap, _) = sample(8, 64);
-    let page = heap.write_page().unwrap();
-    let again = Heap::read_page(8, 64, &earlier(&page)).unwrap();
-    assert_eq!(again.memory(), heap.memory());
-    assert_eq!(again.write_page().unwrap(), page);
-    // a count of 33 bits is no number there
-    let text = String::from_utf8(page).unwrap();
-    let most = text.replace(LINE, "1,1,3,2,4294967295,7468547264\n");
-    let past = text.replace(LINE, "1,1,3,2,4294967296,7468547264\n");
-    assert_eq!(Heap::read_page(8, 64, &earlier(most.as_bytes())).unwrap().write_page().unwrap(), most.as_bytes());
-    assert_eq!(Heap::read_page(8, 64, &earlier(past.as_bytes())).err(), Some(Refusal::Page));
-    assert_eq!(Heap::read_page(8, 64, past.as_bytes()).unwrap().write_page().unwrap(), past.as_bytes());
+fn worn_out_slots_of_an_earlier_page_retire_in_free_order() {
+    let page = dead(&[1], Some(&[2, 0]));
+    let mut heap = read(3, 8, page.as_bytes()).unwrap();
+    assert_eq!(Heap::read_page(3, 8, dead(&[2, 1, 0], None).as_bytes()).unwrap().write_page().unwrap(), page.as_bytes());
+    assert_eq!((heap.memory().free()[..1].to_vec(), heap.memory().retired()[..2].to_vec()), (vec![1], vec![2, 0]));
+    assert_eq!(heap.page_length().unwrap(), page.len());
+    heap.alloc(Kind::Bytes, b"a").unwrap();
+    assert_eq!(heap.alloc(Kind::Bytes, b"b").err(), Some(Refusal::Full));
+    // a free slot at the last generation; a retired one at another; in two lists, in none, twice in one, no slot
+    for (free, retired) in [(&[1, 0][..], &[2][..]), (&[0], &[1, 2]), (&[1], &[2, 0, 1]), (&[], &[2, 0]), (&[1], &[2]), (&[1], &[2, 0, 0]), (&[1], &[2, 0, 3])] {
+        assert_eq!(read(3, 8, dead(free, Some(retired)).as_bytes()).err(), Some(Refusal::BrokenHeap), "{free:?} {retired:?}");
+    }
+    for free in [&[2, 1, 0, 0][..], &[2, 1], &[2, 1, 3]] {
+        assert_eq!(read(3, 8, dead(free, None).as_bytes()).err(), Some(Refusal::BrokenHeap), "{free:?}");
+    }
 }
 
 #[test]

@@ -2,12 +2,12 @@
 //! it was.
 mod common;
 use common::sample;
-use yexwalu::{descriptor, ffi, Class, Direction, FrameSlot, Function, Handle, Header, Heap, InstKind, Kind, Memory, Refusal, Scratch, TypeTable, Wanted};
+use yexwalu::{Column, descriptor, ffi, Class, Direction, FrameSlot, Function, Handle, Header, Heap, InstKind, Kind, Memory, Refusal, Scratch, TypeTable, Wanted};
 
 type Call = (&'static str, fn(&mut Heap) -> Result<(), Refusal>);
 
 // Every call on a heap, each one that succeeds on the sample.
-const CALLS: [Call; 26] = [
+const CALLS: [Call; 29] = [
     ("alloc", |h| h.alloc(Kind::Bytes, b"x").map(drop)),
     ("alloc_from", |h| h.alloc_from(Kind::Bytes, 0, b"x").map(drop)),
     ("take", |h| h.take_into(Handle(7 << 56 | 2 << 32 | 1), &mut [0; 64]).map(drop)),
@@ -28,12 +28,15 @@ const CALLS: [Call; 26] = [
     ("kind", |h| h.kind(2).map(drop)),
     ("stamp", |h| h.stamp(2).map(drop)),
     ("slot_handles", |h| h.slot_handles(&plain(), 2).map(drop)),
+    ("traceable", |h| h.misfit(&plain()).map(drop)),
     ("page_length", |h| h.page_length().map(drop)),
+    ("page_length", |h| h.page_length_with(Column::Planes).map(drop)),
     ("write_page", |h| h.write_page_into(&mut [0; 4096]).map(drop)),
+    ("write_page", |h| h.write_page_with(Column::Planes, &mut [0; 4096]).map(drop)),
     ("collect", |h| h.collect(&plain(), &[Handle(7 << 56 | 2 << 32 | 1)], &[1])),
     ("collect_joined", |h| h.collect_joined(&plain(), &stopped(), 1, &[7 << 56 | 2 << 32 | 1, 0], &[], &[], &[1], &[])),
     ("run", |h| h.run(b"alloc,0,2,41\nseal,0,0,\n")),
-    ("read_page", |h| h.read_page_over(b"tag,since_gc,reclaim_at,live_bytes,slots,free,quarantine,sealed\n1,0,4096,0,0,0,0,0\ngeneration,kind,type,start,writes,data\nfree\nquarantine\nsealed\n")),
+    ("read_page", |h| h.read_page_over(b"tag,since_gc,reclaim_at,live_bytes,slots,free,quarantine,sealed\n1,0,4096,0,0,0,0,0\ngeneration,kind,type,start,writes,data\nfree\nquarantine\nsealed\n").map(drop)),
 ];
 
 // Types without handles, so that the sample can be traced.
@@ -153,7 +156,7 @@ fn a_list_one_short_or_long_is_1() {
     }
 }
 
-// Kinds are 0 to 3, write counts have 32 bits; what is not in use is zero.
+// Kinds are 0 to 3, generations 1 or more; what is not in use is zero.
 #[test]
 fn a_number_out_of_its_range_is_1() {
     let (header, memory, _) = sample(8, 64).0.into_parts();
@@ -257,6 +260,7 @@ fn an_object_beyond_all_memory_is_1() {
 }
 
 // The calls on a handle, each one with the output that it needs, and a slot's bytes that the pool has no room for.
+#[allow(clippy::type_complexity)]
 const ON_A_HANDLE: [(&str, fn(&mut Heap, Handle) -> Result<(), Refusal>); 4] = [
     ("resolve", |h, x| h.resolve(x).map(drop)),
     ("edit", |h, x| h.edit(x, &[0; 999], 0).map(drop)),
@@ -429,7 +433,7 @@ fn a_worn_out_slot_takes_no_handle() {
     let last = heap.reissue(1, 0).unwrap();
     assert_eq!(last, Handle(1 << 56 | 1 << 32 | u64::from(u32::MAX)));
     assert_eq!(heap.reissue(1, 0), Err(Refusal::WornOut));
-    assert_eq!(heap.resolve(last), Ok(1));
+    assert_eq!(heap.resolve(last), Ok(yexwalu::Slot(1)));
     assert_eq!(Refusal::WornOut.to_string(), "20: worn out");
 }
 

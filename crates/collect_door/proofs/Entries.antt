@@ -31,20 +31,10 @@ use Rattle.collect.specs.Safepoint.{atSafepoint, CanLook}
 use Rattle.door.specs.HeapCalls.{test, admitted, enough, heapTests, zeros, Entered, outcome, outcomeOf}
 use Rattle.door.specs.declared.Entry.{Entry}
 use Rattle.door.specs.declared.Entry.the-variants.{Ready, Not}
-use Rattle.door.proofs.Entering.{fails, passes, few-marks, few-words, is-enough, and-holds, and-fails, and-more, cleared-in, holding, call-refused, call-cleared, marks-zero, work-zero, rows-zero}
+use Rattle.door.proofs.Entering.{fails, passes, few-marks, few-words, is-enough, and-holds, and-fails, and-more, cleared-in, holding, call-refused, call-cleared, marks-zero, work-zero, rows-zero, zeros-again, zeros-room}
 use Rattle.collect_door.specs.Calls.{Given, tableIn, collectTests, tests, collectCall, Asked, table, frame, pinning, coded, roomy, rowTests, inputTests, joining, joinedCall}
 use Rattle.collect_door.specs.Demand.{RightlyCollected, Demand}
 use Rattle.collect_door.proofs.Theorem.{collect-rightly, demand}
-
--- scratch that was made zero is zero, and as long as it was
-zeros-again : (m m′ : List ℕ) → m′ ≡ zeros m → m′ ≡ zeros m′
-zeros-again m m′ e = e ∙ ap (λ (k : ℕ). replicate k 0) (sym (ap length e ∙ length-replicate (length m) 0))
-
-room : (m m′ : List ℕ) (n : ℕ) → m′ ≡ zeros m → leb n (length m) ≡ true → n ≤ length m′
-room m m′ n e t =
-    let k : length m′ ≡ length m = ap length e ∙ length-replicate (length m) 0 in
-    let h : n ≤ length m = leb-true n (length m) t in
-    omega arith
 
 -- ---- collect
 
@@ -72,9 +62,9 @@ module _ (g : Given) (l : Lent) {m w m′ w′ : List ℕ} {e : Entry} (s : Ente
         formed = holding s 1 i;
         rises = holding s 3 i;
         marks-clear = zeros-again m m′ (marks-zero s i);
-        marks-room = room m m′ (slotCount l) (marks-zero s i) (t .0);
+        marks-room = zeros-room m m′ (slotCount l) (marks-zero s i) (t .0);
         work-clear = zeros-again w w′ (work-zero s i);
-        work-room = room w w′ (slotCount l) (work-zero s i) (t .1);
+        work-room = zeros-room w w′ (slotCount l) (work-zero s i) (t .1);
       }
 
   pub collect-refused : {why : Refusal} {r : Answer} → e ≡ Not why → r ≡ told (Refused why)
@@ -201,15 +191,15 @@ module _ (a : Asked) (l : Lent) (m w r m′ w′ r′ : List ℕ) (e : Entry) (s
           formed = holding s 1 i;
           rises = holding s 4 i;
           marks-clear = zeros-again m m′ (marks-zero s i);
-          marks-room = room m m′ (slotCount l) (marks-zero s i) (u .0);
+          marks-room = zeros-room m m′ (slotCount l) (marks-zero s i) (u .0);
           work-clear = zeros-again w w′ (work-zero s i);
-          work-room = room w w′ (slotCount l) (work-zero s i) (u .1);
+          work-room = zeros-room w w′ (slotCount l) (work-zero s i) (u .1);
         },
         (
           record {
             formed = c .0;
             valued = eqb-true _ _ (c .1);
-            room = room r r′ (need (a .code)) (rows-zero s i) (t .1);
+            room = zeros-room r r′ (need (a .code)) (rows-zero s i) (t .1);
             clear = zeros-again r r′ (rows-zero s i);
           },
           holding s 5 i,

@@ -11,8 +11,9 @@ use lib.Dec.{eqb, ltb}
 use borrow.Author.Tests.{eq-eqb, ne-eqb, lt-ltb, ltb-true}
 use Rattle.word.specs.Choice.{if_then_else_}
 use Rattle.word.proofs.Bools.{bool-ext}
+use Rattle.word.specs.Lists.{filter}
 use Rattle.heap.specs.State.{State, bit, times, withQuarantine, withReclaim}
-use Rattle.heap.specs.Calls.{freed, filter, member, recycle}
+use Rattle.heap.specs.Calls.{freed, member, recycle}
 use Rattle.reach.specs.Reach.{_∈_}
 
 -- ---- a member stands in the list

@@ -12,7 +12,7 @@ use borrow.Author.Tests.{eqb-true, eq-eqb}
 use Rattle.heap.specs.State.{State}
 use Rattle.flow.specs.Function.{Function, has, valid, safepoint, Live, LiveList}
 use Rattle.word.proofs.Bools.{or-cases, or-left, or-right, and-both, both-and}
-use Rattle.flow.proofs.Lists.{has-sift}
+use Rattle.flow.proofs.Lists.{has-filter}
 use Rattle.flow.proofs.Validity.{valid-disjoint, safepoint-held, row-list}
 use Rattle.addresses.specs.Listed.{paired, slotsOf}
 use Rattle.addresses.proofs.Listing.{slots-listed}
@@ -31,10 +31,10 @@ module _ (f : Function) (pc : ℕ) (good : valid f ≡ true) (at : safepoint f p
   pub has-register : (has (registersOf class f pc) r ≡ true) ↔ (Live f pc r × (getD (f .classes) r 0 ≡ class))
   unfolding registersOf
   has-register =
-      let sifted = has-sift (λ q. eqb (getD (f .classes) q 0) class) (liveReferences f pc) r in
+      let kept = has-filter (λ q. eqb (getD (f .classes) q 0) class) (liveReferences f pc) r in
       let exactly = live-references f pc good at .exactly r in (
-        λ h. let b = and-both (eqb (getD (f .classes) r 0) class) (has (liveReferences f pc) r) (sym sifted ∙ h) in (exactly .0 (b .1) .0, eqb-true (getD (f .classes) r 0) class (b .0)),
-        λ (l, e). sifted ∙ both-and (eqb (getD (f .classes) r 0) class) (has (liveReferences f pc) r) (eq-eqb (getD (f .classes) r 0) class e) (exactly .1 (l, ap isReference e ∙ asked)),
+        λ h. let b = and-both (eqb (getD (f .classes) r 0) class) (has (liveReferences f pc) r) (sym kept ∙ h) in (exactly .0 (b .1) .0, eqb-true (getD (f .classes) r 0) class (b .0)),
+        λ (l, e). kept ∙ both-and (eqb (getD (f .classes) r 0) class) (has (liveReferences f pc) r) (eq-eqb (getD (f .classes) r 0) class e) (exactly .1 (l, ap isReference e ∙ asked)),
       )
 
 -- ---- membership

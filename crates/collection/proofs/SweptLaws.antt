@@ -12,10 +12,11 @@ use lib.Dec.{eqb}
 use borrow.Author.Tests.{eq-eqb, ne-eqb}
 use Rattle.word.specs.Choice.{if_then_else_}
 use Rattle.word.specs.Result.{ok}
+use Rattle.word.specs.Lists.{filter}
 use Rattle.handle.specs.Handle.{indexOf, resolveBy}
 use Rattle.handle.proofs.ResolveLaws.{Resolves, resolve-ok, resolve-same}
 use Rattle.heap.specs.State.{Slot, State, noSlot, slotAt, live, worn, times, withSince, withLive}
-use Rattle.heap.specs.Calls.{resolve, changed, release, released, filter, member, recycle}
+use Rattle.heap.specs.Calls.{resolve, changed, release, released, member, recycle}
 use Rattle.heap.specs.WellFormed.{sound, fits}
 use Rattle.heap.proofs.Sound.{Sound}
 use Rattle.heap.proofs.Testing.{sound-tested, sound-test}

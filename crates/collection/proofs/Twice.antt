@@ -11,9 +11,10 @@ use lib.Dec.{eqb, ltb}
 use borrow.Author.Tests.{ne-eqb, ltb-true, lt-ltb}
 use Rattle.word.specs.Choice.{if_then_else_}
 use Rattle.word.specs.Result.{Result, ok, refused}
+use Rattle.word.specs.Lists.{filter}
 use Rattle.ty.specs.Types.{Table}
 use Rattle.heap.specs.State.{Slot, State, noSlot, slotAt, live, worn, withSince, withLive}
-use Rattle.heap.specs.Calls.{Changed, done, resolve, filter, member, recycle}
+use Rattle.heap.specs.Calls.{Changed, done, resolve, member, recycle}
 use Rattle.flow.specs.Function.{Function}
 use Rattle.trace.specs.Places.{handlesOf}
 use Rattle.reach.specs.Reach.{Graph, Starts, First, Next, Reached, Stuck}

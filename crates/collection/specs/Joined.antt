@@ -6,10 +6,11 @@ use mathlib.Core.Option.{Option, none, some}
 use Prim.Native.Nat.{ℕ}
 use lib.Dec.{eqb}
 use lib.ListN.{length, getD}
+use Rattle.word.specs.Lists.{filter}
 use Rattle.ty.specs.Types.{Table}
 use Rattle.heap.specs.State.{State}
 use Rattle.heap.specs.Calls.{Changed, refuse}
-use Rattle.flow.specs.Function.{Function, sift}
+use Rattle.flow.specs.Function.{Function}
 use Rattle.flow.specs.Dataflow.{liveRow, track}
 use Rattle.addresses.specs.Listed.{slotsOf}
 use Rattle.collection.specs.Collected.{graph, starts, collected}
@@ -26,7 +27,7 @@ liveReferences f pc = liveRow (length (f .classes)) (track isReference f) pc
 
 -- those of one class
 abbrev pub ofClass : (class : ℕ) (classes registers : List ℕ) → List ℕ
-ofClass class classes registers = sift (λ r. eqb (getD classes r 0) class) registers
+ofClass class classes registers = filter (λ r. eqb (getD classes r 0) class) registers
 
 unfoldable pub registersOf : (class : ℕ) → Function → (pc : ℕ) → List ℕ
 registersOf class f pc = ofClass class (f .classes) (liveReferences f pc)

@@ -4,9 +4,9 @@ use mathlib.Core.Bool.{Bool, true, false}
 use mathlib.Core.List.{List, [], _∷_, _++_, map}
 use Prim.Native.Nat.{ℕ, zero, suc, _≤_, _<_}
 use native.Mathlib.Omega.{arith}
-use lib.ListN.{length, getD}
+use lib.ListN.{length, getD, replicate, length-replicate}
 use lib.Dec.{eqb, leb}
-use borrow.Author.Tests.{le-leb, lt-leb}
+use borrow.Author.Tests.{le-leb, lt-leb, leb-true}
 use Rattle.word.specs.Choice.{if_then_else_}
 use Rattle.word.specs.Result.{Result}
 use Rattle.heap.specs.State.{State}
@@ -188,3 +188,14 @@ rows-zero s i = ap (λ (x : List (List ℕ)). getD x 2 []) (cleared-in s i)
 -- where 18 and 1 come first and none failed, the heap is well formed
 pub entered : {scratch scratch′ : List (List ℕ)} {b : Bool} {x y : Refusal} (l : Lent) {ts : List Test} {e : Entry} → Entered scratch (test b x ∷ test (wellFormed l) y ∷ ts) e scratch′ → e ≡ Ready → wellFormed l ≡ true
 entered {b = b} {x = x} {y = y} l {ts = ts} s i = passed (wellFormed l) y ts (passed b x (test (wellFormed l) y ∷ ts) (sym (s .found) ∙ i) .1) .0
+
+-- ---- scratch that was made zero is zero, and as long as it was
+
+pub zeros-again : (m m′ : List ℕ) → m′ ≡ zeros m → m′ ≡ zeros m′
+zeros-again m m′ e = e ∙ ap (λ (k : ℕ). replicate k 0) (sym (ap length e ∙ length-replicate (length m) 0))
+
+pub zeros-room : (m m′ : List ℕ) (n : ℕ) → m′ ≡ zeros m → leb n (length m) ≡ true → n ≤ length m′
+zeros-room m m′ n e t =
+    let k : length m′ ≡ length m = ap length e ∙ length-replicate (length m) 0 in
+    let h : n ≤ length m = leb-true n (length m) t in
+    omega arith

@@ -6,7 +6,7 @@ use mathlib.Core.Path.{_≡_, refl, sym, ap, _∙_, subst}
 use native.Mathlib.Omega.{arith}
 use lib.ListN.{length}
 use Rattle.word.specs.Result.{Result, ok, refused}
-use Rattle.refusal.specs.Told.{answered, nothing}
+use Rattle.refusal.specs.Told.{answered}
 use Rattle.refusal.specs.declared.Answer.{Answer}
 use Rattle.heap.specs.State.{State, dataSize}
 use Rattle.heap.specs.Lent.{Lent, lent, stored, view, slotCount, poolSize}
@@ -16,8 +16,8 @@ use Rattle.heap.proofs.Storing.{view-stored}
 use Rattle.door.specs.HeapCalls.{Outcome, outcome, enough}
 use Rattle.door.proofs.Entering.{is-enough}
 use Rattle.pages.specs.Page.{readPage}
-use Rattle.page_check.specs.Sections.{verdict}
-use Rattle.page_reader.specs.Reading.{inRange, Left, left, readInto}
+use Rattle.page_check.specs.Sections.{formIn, verdict}
+use Rattle.page_reader.specs.Reading.{bitsMet, namesMet, inRange, Left, left, readInto}
 use Rattle.page_reader.proofs.Loaded.{in-range, passed, few-numbers}
 use Rattle.page_door.specs.Page.{reading}
 use Rattle.figures.specs.declared.Figures.{Figures}
@@ -56,15 +56,15 @@ module _ (h : Heap) (narrow wide pool marks work text : List ℕ) (n : length na
   sizes = sym (in-range h narrow wide pool) ∙ (λ j. sizesFit (n j) (w j) (p j)) ∙ fits-lent
 
   -- what the call made of the text
-  made : readInto l text ≡ left l v
+  made : readInto l text ≡ left l (formIn text) v
   unfolding readInto
-  made = λ j. left l (verdict (sizes j) (six j) (p j) (readPage text))
+  made = λ j. left l (formIn text) (verdict (sizes j) (six j) (p j) (readPage text))
 
-  answer-is : a ≡ answered nothing nothing (left l v .answer)
+  answer-is : a ≡ answered bitsMet namesMet (left l (formIn text) v .answer)
   unfolding reading
-  answer-is = (rw admits at (ap (λ (o : Outcome). o .answer) told)) ∙ ap (λ (x : Left). answered nothing nothing (x .answer)) made
+  answer-is = (rw admits at (ap (λ (o : Outcome). o .answer) told)) ∙ ap (λ (x : Left). answered bitsMet namesMet (x .answer)) made
 
-  lent-is : l′ ≡ left l v .lent
+  lent-is : l′ ≡ left l (formIn text) v .lent
   unfolding reading
   lent-is = (rw admits at (ap (λ (o : Outcome). o .heap) told)) ∙ ap (λ (x : Left). x .lent) made
 
@@ -73,10 +73,10 @@ module _ (h : Heap) (narrow wide pool marks work text : List ℕ) (n : length na
     where
       go : (x : Result State) → v ≡ x → Was v a l′
       go (ok s) e =
-          taken s e (ap (λ (y : Answer). y .number) answer-is ∙ ap (λ (y : Result State). answered nothing nothing (left l y .answer) .number) e)
-          (lent-is ∙ ap (λ (y : Result State). left l y .lent) e ∙ (λ j. stored (six j) (p j) s))
+          taken s e (ap (λ (y : Answer). y .number) answer-is ∙ ap (λ (y : Result State). answered bitsMet namesMet (left l (formIn text) y .answer) .number) e)
+          (lent-is ∙ ap (λ (y : Result State). left l (formIn text) y .lent) e ∙ (λ j. stored (six j) (p j) s))
       go (refused i) e =
-          turned i e (ap (λ (y : Answer). y .number) answer-is ∙ ap (λ (y : Result State). answered nothing nothing (left l y .answer) .number) e)
+          turned i e (ap (λ (y : Answer). y .number) answer-is ∙ ap (λ (y : Result State). answered bitsMet namesMet (left l (formIn text) y .answer) .number) e)
 
   -- a refusal
   pub show-refused : (a .number ≡ 0 → ⊥) → _≡_ {A = Shown} (record { answer = a .number; figures = noFigures }) (shownAs (pageFigures text))

@@ -10,9 +10,9 @@ use lib.ListN.{length, getD}
 use lib.Dec.{ltb, eqb}
 use borrow.Author.Tests.{eqb-true, ltb-true, eq-eqb, ne-eqb, lt-ltb}
 use Rattle.word.specs.Choice.{if_then_else_}
-use Rattle.word.specs.Lists.{all}
+use Rattle.word.specs.Lists.{all, filter}
 use Rattle.word.specs.Ones.{keep, passing}
-use Rattle.flow.specs.Function.{has, some, sift, rising}
+use Rattle.flow.specs.Function.{has, some, rising}
 use Rattle.word.proofs.Bools.{or-cases, or-left, or-right, and-both, and-false, both-and}
 
 -- ---- what passes
@@ -140,9 +140,9 @@ at-some p (x ∷ l) d h =
 
 -- ---- those of a list that pass
 
-pub has-sift : (t : ℕ → Bool) (l : List ℕ) (r : ℕ) → has (sift t l) r ≡ t r && has l r
-has-sift t [] r = sym (and-false (t r))
-has-sift t (x ∷ l) r = go (has-sift t l r) (t x) refl (ℕ-discrete x r)
+pub has-filter : (t : ℕ → Bool) (l : List ℕ) (r : ℕ) → has (filter t l) r ≡ t r && has l r
+has-filter t [] r = sym (and-false (t r))
+has-filter t (x ∷ l) r = go (has-filter t l r) (t x) refl (ℕ-discrete x r)
   where
     mid : (a b c : Bool) → a ≡ true → b ≡ true → b || (a && c) ≡ a && (b || c)
     mid a b c p q = rw (p, q)
@@ -153,7 +153,7 @@ has-sift t (x ∷ l) r = go (has-sift t l r) (t x) refl (ℕ-discrete x r)
     none : (a b c : Bool) → a ≡ false → a && c ≡ a && (b || c)
     none a b c p = rw p
 
-    go : has (sift t l) r ≡ t r && has l r → (y : Bool) → t x ≡ y → Dec (x ≡ r) → has (if_then_else_ y (x ∷ sift t l) (sift t l)) r ≡ t r && (eqb x r || has l r)
+    go : has (filter t l) r ≡ t r && has l r → (y : Bool) → t x ≡ y → Dec (x ≡ r) → has (if_then_else_ y (x ∷ filter t l) (filter t l)) r ≡ t r && (eqb x r || has l r)
     go rec true e (yes d) = ap (λ (u : Bool). eqb x r || u) rec ∙ mid (t r) (eqb x r) (has l r) (ap t (sym d) ∙ e) (eq-eqb x r d)
     go rec true e (no d) = ap (λ (u : Bool). eqb x r || u) rec ∙ skip (t r) (eqb x r) (has l r) (ne-eqb x r d)
     go rec false e (yes d) = rec ∙ none (t r) (eqb x r) (has l r) (ap t (sym d) ∙ e)

@@ -11,7 +11,7 @@ use Rattle.flow.specs.Function.{Function, Instruction, has, reads, write
 use Rattle.flow.specs.Dataflow.{asked, only, onlyAll, track}
 use Rattle.word.proofs.Bools.{and-both, both-and}
 use Rattle.flow.proofs.Laws.{Disjoint}
-use Rattle.flow.proofs.Lists.{has-sift}
+use Rattle.flow.proofs.Lists.{has-filter}
 
 only-at : (t : ℕ → Bool) (l : List Instruction) (p : ℕ) (d : Instruction) → getD (onlyAll t l) p (only t d) ≡ only t (getD l p d)
 only-at t [] p d = refl
@@ -31,14 +31,14 @@ module _ (t : ℕ → Bool) (f : Function) where
   unfolding reads track
   reads-track p r =
       ap (λ (i : Instruction). ltb r (length (f .classes)) && has (i .reads) r) (inst-track p)
-      ∙ ap (λ (u : Bool). ltb r (length (f .classes)) && u) (has-sift (asked t (f .classes)) (inst f p .reads) r)
+      ∙ ap (λ (u : Bool). ltb r (length (f .classes)) && u) (has-filter (asked t (f .classes)) (inst f p .reads) r)
       ∙ absorb (ltb r (length (f .classes))) (t (getD (f .classes) r 0)) (has (inst f p .reads) r)
 
   pub writes-track : (p r : ℕ) → writes (track t f) p r ≡ asked t (f .classes) r && writes f p r
   unfolding writes track
   writes-track p r =
       ap (λ (i : Instruction). ltb r (length (f .classes)) && has (i .writes) r) (inst-track p)
-      ∙ ap (λ (u : Bool). ltb r (length (f .classes)) && u) (has-sift (asked t (f .classes)) (inst f p .writes) r)
+      ∙ ap (λ (u : Bool). ltb r (length (f .classes)) && u) (has-filter (asked t (f .classes)) (inst f p .writes) r)
       ∙ absorb (ltb r (length (f .classes))) (t (getD (f .classes) r 0)) (has (inst f p .writes) r)
 
   pub successors-track : (b : ℕ) → successors (track t f) b ≡ successors f b

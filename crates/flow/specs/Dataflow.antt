@@ -9,7 +9,8 @@ use lib.ListN.{length, getD}
 use lib.Dec.{ltb}
 use Rattle.word.specs.Choice.{if_then_else_}
 use Rattle.word.specs.Ones.{passing}
-use Rattle.flow.specs.Function.{Function, sift, Instruction, Block, reads, writes, start, end, holds, successors, Live}
+use Rattle.word.specs.Lists.{filter}
+use Rattle.flow.specs.Function.{Function, Instruction, Block, reads, writes, start, end, holds, successors, Live}
 
 -- r before an instruction that reads it (or not) and writes it (or not), from r after it
 abbrev pub turn : Bool → Bool → Bool → Bool
@@ -92,7 +93,7 @@ abbrev pub asked : (ℕ → Bool) → List ℕ → ℕ → Bool
 asked t classes r = ltb r (length classes) && t (getD classes r 0)
 
 abbrev pub only : (ℕ → Bool) → Instruction → Instruction
-only t i = record { kind = i .kind; writes = sift t (i .writes); reads = sift t (i .reads); targets = i .targets }
+only t i = record { kind = i .kind; writes = filter t (i .writes); reads = filter t (i .reads); targets = i .targets }
 
 abbrev pub onlyAll : (ℕ → Bool) → List Instruction → List Instruction
 onlyAll t [] = []

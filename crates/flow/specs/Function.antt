@@ -8,7 +8,7 @@ use Prim.Native.Nat.{ℕ, suc, _+_, _-_, _≤_, _<_, min, max}
 use lib.ListN.{length, getD}
 use lib.Dec.{leb, ltb, eqb}
 use Rattle.word.specs.Choice.{if_then_else_}
-use Rattle.word.specs.Lists.{all}
+use Rattle.word.specs.Lists.{all, filter}
 use Rattle.word.specs.Ones.{passing}
 
 -- kind: 0 plain, 1 safepoint, 2 branch, 3 conditional, 4 case, 5 return, 6 unreachable; registers written; registers read; target blocks (a case: arms, then default)
@@ -61,14 +61,9 @@ writes f p r = ltb r (length (f .classes)) && has (inst f p .writes) r
 
 -- ---- where control goes
 
--- those of the list that pass a test
-abbrev pub sift : (ℕ → Bool) → List ℕ → List ℕ
-sift t [] = []
-sift t (x ∷ xs) = if t x then (x ∷ sift t xs) else sift t xs
-
 -- "the targets that exist": the numbers of a list that are below n
 abbrev pub existing : ℕ → List ℕ → List ℕ
-existing n ts = sift (λ t. ltb t n) ts
+existing n ts = filter (λ t. ltb t n) ts
 
 -- "the first nonempty block that starts at this one's end", pc: a list of one or none; the blocks are counted from i
 abbrev pub firstAt : List Block → ℕ → ℕ → List ℕ

@@ -7,10 +7,11 @@ use native.Mathlib.Omega.{arith}
 use lib.ListN.{length}
 use lib.Dec.{eqb}
 use native.Mathlib.Decide.{decLt, ℕ-discrete}
-use borrow.Author.Tests.{eq-eqb, ne-eqb, eqb-true}
+use borrow.Author.Tests.{eq-eqb, ne-eqb, eqb-true, not-true}
 use Rattle.word.specs.Choice.{if_then_else_}
+use Rattle.word.specs.Lists.{filter}
 use Rattle.heap.specs.State.{State, slotAt, worn, lastGeneration, bit, times, withQuarantine}
-use Rattle.heap.specs.Calls.{filter, member, freed, recycle}
+use Rattle.heap.specs.Calls.{member, freed, recycle}
 use Rattle.heap.proofs.Sound.{Sound}
 use Rattle.heap.proofs.Counting.{all-slots, listed-inside, times-append}
 use Rattle.heap.proofs.Keeping.{sound-change}
@@ -31,7 +32,7 @@ pub filter-append : (p : ℕ → Bool) (xs ys : List ℕ) → filter p (xs ++ ys
 filter-append p [] ys = refl
 filter-append p (x ∷ xs) ys = ap (λ (l : List ℕ). if_then_else_ (p x) (x ∷ l) l) (filter-append p xs ys) ∙ choice-append (p x) x (filter p xs) (filter p ys)
 
-times-filter : (p : ℕ → Bool) (i : ℕ) (xs : List ℕ) → times i (filter p xs) + times i (filter (λ j. not (p j)) xs) ≡ times i xs
+pub times-filter : (p : ℕ → Bool) (i : ℕ) (xs : List ℕ) → times i (filter p xs) + times i (filter (λ j. not (p j)) xs) ≡ times i xs
 unfolding times
 times-filter p i [] = omega arith
 times-filter p i (x ∷ xs) = one (p x) (times-filter p i xs)
@@ -52,10 +53,6 @@ filter-passed p i (x ∷ xs) m = one (p x) refl (filter-passed p i xs) m
       | yes q ↦ ap p (sym q) ∙ e
       | no q ↦ rest (omega (arith, ap bit (ne-eqb x i q)))
     ]
-
-not-true : (b : Bool) → not b ≡ true → b ≡ false
-not-true false e = refl
-not-true true e = let z : _≡_ {A = ℕ} 0 1 = cc in absurd (omega arith)
 
 -- some of the quarantined slots leave it
 module _ (S P : ℕ) (st : State) (kept gone : List ℕ) (ok : Sound S P st) (all : (i : ℕ) → times i kept + times i gone ≡ times i (st .quarantine)) where

@@ -122,7 +122,7 @@ parts-test h p =
 
 -- ---- free and retired slots
 
-all-times : (p : ℕ → Bool) (xs : List ℕ) (i : ℕ) → all p xs ≡ true → 1 ≤ times i xs → p i ≡ true
+pub all-times : (p : ℕ → Bool) (xs : List ℕ) (i : ℕ) → all p xs ≡ true → 1 ≤ times i xs → p i ≡ true
 unfolding all times
 all-times p [] i t m = absurd (omega arith)
 all-times p (x ∷ xs) i t m =

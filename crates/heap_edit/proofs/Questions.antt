@@ -8,7 +8,7 @@ use lib.ListN.{length, getD, take, List·getD-eq-default}
 use lib.Dec.{eqb, ltb, leb}
 use borrow.Author.Tests.{ltb-true, lt-ltb, le-ltb, le-leb, lt-leb, eq-eqb, ne-eqb}
 use Rattle.word.specs.Result.{ok}
-use Rattle.word.proofs.Bools.{bool-ext}
+use Rattle.word.proofs.Bools.{bool-ext, positive}
 use Rattle.refusal.specs.Told.{refusedBy, told, answered, here, nothing}
 use Rattle.refusal.specs.declared.Answer.{Answer}
 use Rattle.refusal.specs.declared.Reply.{Reply}
@@ -82,10 +82,6 @@ module _ (h : State) (k : Heap) (e : headerOf h ≡ k) where
 
 -- ---- a live slot or none
 
-some : (k : ℕ) → (k ≡ 0 → ⊥) → 0 < k
-some zero f = absurd (f refl)
-some (suc k) f = omega arith
-
 module _ (h : State) (i : ℕ) where
   pub none-past : length (h .slots) ≤ i → live (slotAt h i) ≡ false
   none-past b = ap live (List·getD-eq-default (h .slots) noSlot b)
@@ -94,7 +90,7 @@ module _ (h : State) (i : ℕ) where
   lifeless e z = ap (ltb 0) (sym e ∙ z)
 
   pub alive : {k : ℕ} → k ≡ slotAt h i .kind → (k ≡ 0 → ⊥) → live (slotAt h i) ≡ true
-  alive e n = lt-ltb 0 (slotAt h i .kind) (some (slotAt h i .kind) (λ z. n (e ∙ z)))
+  alive e n = lt-ltb 0 (slotAt h i .kind) (positive (slotAt h i .kind) (λ z. n (e ∙ z)))
 
   pub no-kind : live (slotAt h i) ≡ false → refusedBy 9 ≡ answered (λ (x : Kind). x .kind) (λ (x : Kind). x .type) (kindAt h i)
   unfolding kindAt

@@ -1,31 +1,35 @@
 -- What the tracer emits into the queue is what crate `reach` defines as following handles, where the scratch is good: the guards of `emit` never bite.
 -- Assumes nothing.
-use Prim.Native.Nat.{ℕ, _+_, _-_, _*_, _≤_, _<_}
+use Prim.Native.Nat.{ℕ, _+_, _-_, _*_, _^_, _≤_, _<_}
 use mathlib.Core.Path.{_≡_, refl, sym, ap, _∙_, subst}
 use mathlib.Core.Option.{Option, none, some}
-use mathlib.Core.Bool.{Bool}
-use mathlib.Core.List.{List, [], _∷_, _++_}
-use lib.ListN.{length, getD, take, drop, drop-of-length-le}
-use lib.Seq.{length-take-le}
-use native.Mathlib.Decide.{ℕ-discrete}
+use mathlib.Core.Bool.{Bool, true, false}
+use mathlib.Core.List.{List, [], _∷_, _++_, map}
+use lib.ListN.{length, getD, set, take, drop, drop-of-length-le, length-map}
+use lib.Dec.{ltb, eqb}
+use borrow.Author.Tests.{lt-ltb, le-ltb}
+use lib.Seq.{length-take-le, map-set-same}
+use native.Mathlib.Decide.{ℕ-discrete, decLt}
 use native.Mathlib.Omega.{arith}
+use Rattle.word.specs.Choice.{if_then_else_}
 use Rattle.word.specs.Result.{Result, ok, refused}
 use Rattle.word.specs.Run.{run}
 use Rattle.word.proofs.RunLaws.{run-get, first-get}
+use Rattle.word.proofs.ListLaws.{drop-cons-one}
 use Rattle.handle.specs.Columns.{liveIn}
 use Rattle.heap.specs.Packing.{startOf, dataAt}
 use Rattle.ty.specs.Types.{Table}
 use Rattle.trace.specs.Places.{handlesOf}
-use Rattle.trace.specs.Emit.{Raw, rawOf, into, resolveIn, queued, queuedIf, emittedBy, emitted, emitAll, emitting, told}
+use Rattle.trace.specs.Emit.{Raw, rawOf, into, resolveIn, over, queued, queuedIf, emittedBy, emitted, emitAll, emitting, told}
 use Rattle.trace.specs.declared.Answer.{Answer}
 use Rattle.trace.specs.declared.Answer.the-variants.{Traced, Untraceable}
 use Rattle.trace.specs.declared.Sink.the-variants.{Work}
 use Rattle.trace.proofs.Emits.{queue-marked, queue-room, ok-inj}
 use Rattle.reach.specs.Marking.{State, visit, visitMaybe, follow, followAll, pinIf, pinAll}
 use Rattle.collection.specs.Collected.{found}
-use Rattle.mark.specs.Scratch.{stateOf, Scratch, Holds, following, Traces, seededFrom}
+use Rattle.mark.specs.Scratch.{low, high, stateOf, Scratch, Holds, following, Traces, Noted, NotedBy, seededFrom}
 use Rattle.mark.specs.Graph.{leadsTo, shownIn, Fit}
-use Rattle.mark.proofs.States.{unmarked-room, meet-marked, meet-new, Pushing, pushing-next, pushing-end, drop-cons-one}
+use Rattle.mark.proofs.States.{high-over, unmarked-room, meet-marked, meet-new, Pushing, pushing-next, pushing-end}
 use Rattle.mark.proofs.Inside.{resolves-in}
 
 abbrev pub HoldsRaw : ℕ → Raw → State → Type 0
@@ -43,7 +47,7 @@ module _ (n : ℕ) where
       go (no q) =
           subst (λ (r : Raw). HoldsRaw n r (visit (stateOf marks words c) i)) (queue-marked marks words c i inside q) (meet-marked n marks words c i s q)
       go (yes q) =
-          let room : c < length words = omega (arith, s .words, unmarked-room n (stateOf marks words c) (s .good) i l q, length-take-le c words (s .room)) in
+          let room : c < length words = omega (arith, s .words, unmarked-room n (stateOf marks words c) (s .good) i l q, length-map (take c words) low, length-take-le c words (s .room)) in
           subst (λ (r : Raw). HoldsRaw n r (visit (stateOf marks words c) i)) (queue-room marks words c i inside q room) (meet-new n marks words c i s room q l)
 
   -- as the contract of `queue` says it
@@ -88,6 +92,40 @@ module _ (n : ℕ) where
     traces Untraceable none marks words c marks′ words′ s t = refl
     traces Untraceable (some hs) marks words c marks′ words′ s t = let x : _≡_ {A = ℕ} 0 1 = cc in absurd (omega arith)
 
+-- ---- what is noted in the upper halves stays
+
+module _ (n : ℕ) (few : n ≤ 16777216) where
+  pub queue-noted : (marks words : List ℕ) (c i : ℕ) → i < n → Noted words (queued (rawOf marks words c) i .words)
+  unfolding queued
+  queue-noted marks words c i l = go (ltb i (length marks)) (eqb (getD marks i 0) 0) (decLt c (length words))
+    where
+      go : (a b : Bool) → Dec (c < length words)
+          → Noted words ((if a then (if b then (if ltb c (length words) then rawOf (set marks i 1) (set words c (over (getD words c 0) i)) (c + 1) else rawOf marks words c) else rawOf marks words c) else rawOf marks words c) .words)
+      go false b d = refl
+      go true false d = refl
+      go true true (no d) = rw (le-ltb c (length words) (omega arith)) refl
+      go true true (yes d) = rw (lt-ltb c (length words) d) (map-set-same high words c (over (getD words c 0) i) 0 (high-over (getD words c 0) i (omega arith)))
+
+  module _ (R : ℕ → Result ℕ) (z : (h i : ℕ) → R h ≡ ok i → i < n) where
+    all-noted : (hs : List ℕ) (r : Raw) → Noted (r .words) (emitAll (into Work R) r hs .words)
+    unfolding emitAll emitted emittedBy
+    all-noted [] r = refl
+    all-noted (h ∷ hs) r = all-noted hs (queuedIf r (R h)) ∙ go (R h) refl
+      where
+        go : (o : Result ℕ) → R h ≡ o → Noted (r .words) (queuedIf r o .words)
+        go (ok i) e = queue-noted (r .marks) (r .words) (r .count) i (z h i e)
+        go (refused m) e = refl
+
+    pub emit-noted : (h : ℕ) (marks words : List ℕ) (c : ℕ) (marks′ words′ : List ℕ) (c′ : ℕ) → rawOf marks′ words′ c′ ≡ emitted (into Work R) (rawOf marks words c) h → Noted words words′
+    unfolding emitAll
+    emit-noted h marks words c marks′ words′ c′ e = ap (λ (r : Raw). map high (r .words)) e ∙ all-noted (h ∷ []) (rawOf marks words c)
+
+    pub trace-noted : (r : Answer) (o : Option (List ℕ)) (marks words : List ℕ) (c : ℕ) (marks′ words′ : List ℕ) → told r marks′ words′ ≡ emitting (into Work R) (rawOf marks words c) o → NotedBy r words words′
+    unfolding emitting
+    trace-noted Untraceable o marks words c marks′ words′ t = tt
+    trace-noted (Traced k) none marks words c marks′ words′ t = let x : _≡_ {A = ℕ} 0 1 = cc in absurd (omega arith)
+    trace-noted (Traced k) (some hs) marks words c marks′ words′ t = ap (λ (r : Raw). map high (r .words)) (ok-inj t) ∙ all-noted hs (rawOf marks words c)
+
 -- ---- a list of handles, and of pins, taken in turn
 
 abbrev pub Pushes : (tag slots S : ℕ) (narrow list marks₀ work₀ : List ℕ) (total : State) (marks work : List ℕ) (count k : ℕ) → Type 0
@@ -115,6 +153,20 @@ module _ (slots S : ℕ) (narrow list marks₀ work₀ : List ℕ) (total : Stat
 
   pub pins-end : length list ≤ k → Holds slots marks work count total
   pins-end h = pushing-end _ slots marks₀ work₀ total marks work count (drop k list) p (λ s. refl) (drop-of-length-le list h)
+
+-- what is noted stays in both loops
+
+pub pushes-noted : (tag slots S : ℕ) (narrow list marks₀ work₀ : List ℕ) (total : State) (marks work : List ℕ) (count k : ℕ) → Pushes tag slots S narrow list marks₀ work₀ total marks work count k → Noted work₀ work
+    → (marks′ work′ : List ℕ) (count′ : ℕ) → rawOf marks′ work′ count′ ≡ emitted (into Work (resolveIn tag slots S narrow)) (rawOf marks work count) (getD list k 0) → Noted work₀ work′
+pushes-noted tag slots S narrow list marks₀ work₀ total marks work count k p f marks′ work′ count′ e =
+    emit-noted slots (p .scratch .few) (resolveIn tag slots S narrow) (resolves-in tag slots S narrow) (getD list k 0) marks work count marks′ work′ count′ e ∙ f
+
+-- as the contract of `queue` says it
+pub pin-noted : (slots : ℕ) (marks words : List ℕ) (c i : ℕ) (marks′ words′ : List ℕ) (c′ : ℕ) → Scratch slots marks words c → i < slots → rawOf marks′ words′ c′ ≡ queued (rawOf marks words c) i → Noted words words′
+pin-noted slots marks words c i marks′ words′ c′ s l e = ap (λ (r : Raw). map high (r .words)) e ∙ queue-noted slots (s .few) marks words c i l
+
+pub noted-on : (a b c : List ℕ) → Noted b c → Noted a b → Noted a c
+noted-on a b c f g = f ∙ g
 
 -- ---- the starts
 
@@ -159,3 +211,8 @@ module _ (slots S : ℕ) (narrow wide pool : List ℕ) (fit : Fit slots S narrow
         slot-traces r marks′ words′ e =
             traces slots (resolveIn tag slots S narrow) (resolves-in tag slots S narrow) r _ marks words c marks′ words′ s
             (e ∙ ap (emitting (into Work (resolveIn tag slots S narrow)) (rawOf marks words c)) slot-shown)
+
+        pub slot-noted : (r : Answer) (marks′ words′ : List ℕ)
+            → told r marks′ words′ ≡ emitting (into Work (resolveIn tag slots S narrow)) (rawOf marks words c) (handlesOf T (getD narrow (S + i) 0) (getD narrow (2 * S + i) 0) (getD wide i 0) (take (getD wide (S + i) 0 - a) (drop a pool)))
+            → NotedBy r words words′
+        slot-noted r marks′ words′ e = trace-noted slots (s .few) (resolveIn tag slots S narrow) (resolves-in tag slots S narrow) r _ marks words c marks′ words′ e

@@ -3,14 +3,15 @@ use Prim.Native.Nat.{ℕ, zero, suc, _+_, _-_, _≤_, _<_}
 use mathlib.Core.Path.{_≡_, refl, sym, ap, _∙_, subst, fun-ext}
 use mathlib.Core.Bool.{Bool}
 use mathlib.Core.Option.{Option, none, some}
-use mathlib.Core.List.{List, [], _∷_, _++_}
-use lib.ListN.{length, getD, take, drop, replicate}
+use mathlib.Core.List.{List, [], _∷_, _++_, map}
+use lib.ListN.{length, getD, take, drop, replicate, length-map, List·getD-map}
 use lib.Seq.{length-take-le, getD-take}
 use lib.Dec.{ltb}
 use borrow.Author.Tests.{lt-ltb, le-ltb}
 use native.Mathlib.Nat.{sub-zero}
 use native.Mathlib.Numerals.{add-one}
 use native.Mathlib.Omega.{arith}
+use Rattle.word.proofs.ListLaws.{take-zeros}
 use Rattle.reach.specs.Reach.{Graph}
 use Rattle.reach.specs.Marking.{State, followAll, drained, marking, orDone, orStuck}
 use Rattle.heap.specs.Packing.{pad}
@@ -19,7 +20,7 @@ use Rattle.ty.specs.Types.{Table}
 use Rattle.trace.specs.declared.Answer.{Answer}
 use Rattle.trace.specs.declared.Answer.the-variants.{Traced, Untraceable}
 use Rattle.mark.specs.Graph.{leadsTo, shownIn, graphIn}
-use Rattle.mark.specs.Scratch.{stateOf, Scratch, Holds, following, Traces, seededFrom}
+use Rattle.mark.specs.Scratch.{low, stateOf, Noted, NotedBy, Scratch, Holds, following, Traces, seededFrom}
 use Rattle.mark.specs.Told.{marksIn, startsOf, Ready}
 use Rattle.mark.proofs.States.{scratch-start}
 use Rattle.reach.proofs.Grown.{∈-getD, good-room}
@@ -47,50 +48,51 @@ pub record Draining (G : Graph) (slots : ℕ) (marks₀ work₀ : List ℕ) (tot
   pub same : drained G (slots - next) (stateOf marks work count) next ≡ total
   pub long : length marks ≡ length marks₀
   pub words : length work ≡ length work₀
+  pub noted : Noted work₀ work
 
 module _ (slots : ℕ) (marks work : List ℕ) (count : ℕ) (s : Scratch slots marks work count) where
-  pub queue-length : length (take count work) ≡ count
-  queue-length = length-take-le count work (s .room)
+  pub queue-length : length (map low (take count work)) ≡ count
+  queue-length = length-map (take count work) low ∙ length-take-le count work (s .room)
 
   pub queue-slots : count ≤ slots
   queue-slots = omega (arith, good-room slots (stateOf marks work count) (s .good), queue-length)
 
-  pub queue-at : (k : ℕ) → k < count → getD (take count work) k 0 ≡ getD work k 0
-  queue-at k h = getD-take count work k 0 h
+  pub queue-at : (k : ℕ) → k < count → getD (map low (take count work)) k 0 ≡ low (getD work k 0)
+  queue-at k h = List·getD-map low (take count work) k 0 ∙ ap low (getD-take count work k 0 h)
 
-  pub queue-below : (k : ℕ) → k < count → getD work k 0 < slots
+  pub queue-below : (k : ℕ) → k < count → low (getD work k 0) < slots
   queue-below k h =
-      subst (λ (i : ℕ). i < slots) (queue-at k h) (s .good .within (getD (take count work) k 0) (∈-getD (take count work) k (omega (arith, queue-length))))
+      subst (λ (i : ℕ). i < slots) (queue-at k h) (s .good .within (getD (map low (take count work)) k 0) (∈-getD (map low (take count work)) k (omega (arith, queue-length))))
 
 module _ (G : Graph) (slots : ℕ) (marks₀ work₀ : List ℕ) (total : Option State) (marks work : List ℕ) (count next : ℕ) (d : Draining G slots marks₀ work₀ total marks work count next) where
   pub draining-end : count ≤ next → total ≡ some (stateOf marks work count)
   draining-end h = sym (d .same) ∙ drained-end G (slots - next) (stateOf marks work count) next (omega (arith, queue-length slots marks work count (d .scratch)))
 
   module _ (h : next < count) where
-    inside : next < length (take count work)
+    inside : next < length (map low (take count work))
     inside = omega (arith, queue-length slots marks work count (d .scratch))
 
     fuel : slots - next ≡ suc (slots - suc next)
     fuel = omega (arith, queue-slots slots marks work count (d .scratch))
 
-    at-queue : (o : Option (List ℕ)) → G .handles (getD work next 0) ≡ o → G .handles (getD (take count work) next 0) ≡ o
+    at-queue : (o : Option (List ℕ)) → G .handles (low (getD work next 0)) ≡ o → G .handles (getD (map low (take count work)) next 0) ≡ o
     at-queue o e = ap (G .handles) (queue-at slots marks work count (d .scratch) next h) ∙ e
 
-    pub draining-stuck : following (G .resolve) (stateOf marks work count) (G .handles (getD work next 0)) ≡ none → total ≡ none
-    draining-stuck e = go (G .handles (getD work next 0)) refl e
+    pub draining-stuck : following (G .resolve) (stateOf marks work count) (G .handles (low (getD work next 0))) ≡ none → total ≡ none
+    draining-stuck e = go (G .handles (low (getD work next 0))) refl e
       where
-        go : (o : Option (List ℕ)) → G .handles (getD work next 0) ≡ o → following (G .resolve) (stateOf marks work count) o ≡ none → total ≡ none
+        go : (o : Option (List ℕ)) → G .handles (low (getD work next 0)) ≡ o → following (G .resolve) (stateOf marks work count) o ≡ none → total ≡ none
         go none w e′ = sym (d .same) ∙ ap (λ (f : ℕ). drained G f (stateOf marks work count) next) fuel ∙ drained-stuck G (slots - suc next) (stateOf marks work count) next inside (at-queue none w)
         go (some hs) w e′ = let x : _≡_ {A = ℕ} 0 1 = cc in absurd (omega arith)
 
-    pub draining-next : (marks′ work′ : List ℕ) (count′ : ℕ) → (following (G .resolve) (stateOf marks work count) (G .handles (getD work next 0)) ≡ some (stateOf marks′ work′ count′)) → Scratch slots marks′ work′ count′ → length marks′ ≡ length marks → length work′ ≡ length work
+    pub draining-next : (marks′ work′ : List ℕ) (count′ : ℕ) → (following (G .resolve) (stateOf marks work count) (G .handles (low (getD work next 0))) ≡ some (stateOf marks′ work′ count′)) → Scratch slots marks′ work′ count′ → Noted work work′ → length marks′ ≡ length marks → length work′ ≡ length work
         → Draining G slots marks₀ work₀ total marks′ work′ count′ (next + 1)
-    draining-next marks′ work′ count′ e r a b = go (G .handles (getD work next 0)) refl e
+    draining-next marks′ work′ count′ e r f a b = go (G .handles (low (getD work next 0))) refl e
       where
         inj : (x y : State) → some x ≡ some y → x ≡ y
         inj x y w = cc
 
-        go : (o : Option (List ℕ)) → G .handles (getD work next 0) ≡ o → following (G .resolve) (stateOf marks work count) o ≡ some (stateOf marks′ work′ count′) → Draining G slots marks₀ work₀ total marks′ work′ count′ (next + 1)
+        go : (o : Option (List ℕ)) → G .handles (low (getD work next 0)) ≡ o → following (G .resolve) (stateOf marks work count) o ≡ some (stateOf marks′ work′ count′) → Draining G slots marks₀ work₀ total marks′ work′ count′ (next + 1)
         go none w e′ = let x : _≡_ {A = ℕ} 0 1 = cc in absurd (omega arith)
         go (some hs) w e′ =
             let q : followAll (G .resolve) (stateOf marks work count) hs ≡ stateOf marks′ work′ count′ = inj _ _ e′ in
@@ -104,11 +106,12 @@ module _ (G : Graph) (slots : ℕ) (marks₀ work₀ : List ℕ) (total : Option
                   ∙ d .same;
               long = a ∙ d .long;
               words = b ∙ d .words;
+              noted = f ∙ d .noted;
             }
 
-pub draining-start : (G : Graph) (slots : ℕ) (marks work : List ℕ) (n : ℕ) → Scratch slots marks work n → Draining G slots marks work (drained G slots (stateOf marks work n) 0) marks work n 0
-draining-start G slots marks work n s =
-    record { scratch = s; same = ap (λ (f : ℕ). drained G f (stateOf marks work n) 0) (sub-zero slots); long = refl; words = refl }
+pub draining-start : (G : Graph) (slots : ℕ) (marks work : List ℕ) (n from : ℕ) → Scratch slots marks work n
+    → Draining G slots marks work (drained G (slots - from) (stateOf marks work n) from) marks work n from
+draining-start G slots marks work n from s = record { scratch = s; same = refl; long = refl; words = refl; noted = refl }
 
 -- ---- the loop over the columns' graph, with what `trace_at` ensures
 
@@ -120,16 +123,16 @@ module _ (T : Table) (tag slots S : ℕ) (narrow wide pool marks₀ work₀ : Li
   drains-end h = draining-end (graphIn T tag slots S narrow wide pool) slots marks₀ work₀ total marks work count next d h
 
   module _ (h : next < count) where
-    module _ (r : Answer) (marks′ work′ : List ℕ) (t : Traces r slots marks′ work′ (following (leadsTo tag slots S narrow) (stateOf marks work count) (shownIn T S narrow wide pool (getD work next 0)))) where
+    module _ (r : Answer) (marks′ work′ : List ℕ) (t : Traces r slots marks′ work′ (following (leadsTo tag slots S narrow) (stateOf marks work count) (shownIn T S narrow wide pool (low (getD work next 0))))) where
       pub drains-stuck : r ≡ Untraceable → total ≡ none
       drains-stuck e =
           draining-stuck (graphIn T tag slots S narrow wide pool) slots marks₀ work₀ total marks work count next d h
-          (subst (λ (x : Answer). Traces x slots marks′ work′ (following (leadsTo tag slots S narrow) (stateOf marks work count) (shownIn T S narrow wide pool (getD work next 0)))) e t)
+          (subst (λ (x : Answer). Traces x slots marks′ work′ (following (leadsTo tag slots S narrow) (stateOf marks work count) (shownIn T S narrow wide pool (low (getD work next 0))))) e t)
 
-      pub drains-next : (m : ℕ) → r ≡ Traced m → length marks′ ≡ length marks → length work′ ≡ length work → Drains T tag slots S narrow wide pool marks₀ work₀ total marks′ work′ m (next + 1)
-      drains-next m e a b =
-          let q = subst (λ (x : Answer). Traces x slots marks′ work′ (following (leadsTo tag slots S narrow) (stateOf marks work count) (shownIn T S narrow wide pool (getD work next 0)))) e t in
-          draining-next (graphIn T tag slots S narrow wide pool) slots marks₀ work₀ total marks work count next d h marks′ work′ m (q .0) (q .1) a b
+      pub drains-next : (m : ℕ) → r ≡ Traced m → NotedBy r work work′ → length marks′ ≡ length marks → length work′ ≡ length work → Drains T tag slots S narrow wide pool marks₀ work₀ total marks′ work′ m (next + 1)
+      drains-next m e f a b =
+          let q = subst (λ (x : Answer). Traces x slots marks′ work′ (following (leadsTo tag slots S narrow) (stateOf marks work count) (shownIn T S narrow wide pool (low (getD work next 0))))) e t in
+          draining-next (graphIn T tag slots S narrow wide pool) slots marks₀ work₀ total marks work count next d h marks′ work′ m (q .0) (q .1) (subst (λ (x : Answer). NotedBy x work work′) e f) a b
 
 -- the walk through the queue does not ask which slots are live
 pub drained-live : (G : Graph) (L : ℕ → Bool) (f : ℕ) (s : State) (k : ℕ) → drained G f s k ≡ drained (record { live = L; resolve = G .resolve; handles = G .handles }) f s k
@@ -141,21 +144,21 @@ drained-live G L (suc f) s k =
 
 -- ---- the whole
 
-pub from-done : (G : Graph) (slots : ℕ) (marks work : List ℕ) (n : ℕ) (s : State) → Holds slots marks work n s → (r : Answer) (marks′ work′ : List ℕ) → Traces r slots marks′ work′ (drained G slots (stateOf marks work n) 0)
+pub from-done : (G : Graph) (slots : ℕ) (marks work : List ℕ) (n : ℕ) (s : State) → Holds slots marks work n s → (r : Answer) (marks′ work′ : List ℕ) → Traces r slots marks′ work′ (drained G (slots - 0) (stateOf marks work n) 0)
     → Traces r slots marks′ work′ (drained G slots s 0)
-from-done G slots marks work n s h r marks′ work′ t = subst (λ (x : State). Traces r slots marks′ work′ (drained G slots x 0)) (h .state) t
+from-done G slots marks work n s h r marks′ work′ t =
+    subst (λ (f : ℕ). Traces r slots marks′ work′ (drained G f s 0)) (sub-zero slots) (subst (λ (x : State). Traces r slots marks′ work′ (drained G (slots - 0) x 0)) (h .state) t)
 
-take-zeros : (n m : ℕ) → n ≤ m → take {A = ℕ} n (replicate m 0) ≡ replicate n 0
-take-zeros zero m h = refl
-take-zeros (suc n) zero h = absurd (omega arith)
-take-zeros (suc n) (suc m) h = ap (λ (l : List ℕ). 0 ∷ l) (take-zeros n m (omega arith))
+pub from-noted : (a b c : List ℕ) (r : Answer) → Noted a b → NotedBy r b c → NotedBy r a c
+from-noted a b c (Traced n) f g = g ∙ f
+from-noted a b c Untraceable f g = tt
 
 module _ (slots : ℕ) (marks work : List ℕ) (ready : Ready slots marks work) where
-  first-clear : take slots marks ≡ replicate slots 0
+  pub first-clear : take slots marks ≡ replicate slots 0
   first-clear = ap (take slots) (ready .clear) ∙ take-zeros slots (length marks) (ready .marked)
 
-  pub ready-scratch : Scratch slots (take slots marks) work 0
-  ready-scratch = scratch-start slots (take slots marks) work first-clear (ready .queued)
+  pub ready-scratch : slots ≤ 16777216 → Scratch slots (take slots marks) work 0
+  ready-scratch few = scratch-start slots (take slots marks) work few first-clear (ready .queued)
 
   pub first-long : slots ≡ length (take slots marks)
   first-long = sym (length-take-le slots marks (ready .marked))

@@ -102,7 +102,7 @@ module _ (h : Heap) (narrow wide pool : List ℕ) (wf : wellFormed (lent h narro
   start-same : (i : ℕ) → getD (l .start) i 0 ≡ slotAt (view l) i .start
   start-same i = ap (λ (x : List ℕ). getD x i 0) (facts .start) ∙ column-any (slotCount l) (λ s. s .start) (view l .slots) i refl
 
-  generation-same : (i : ℕ) → getD (l .generation) i 0 ≡ slotAt (view l) i .generation
+  pub generation-same : (i : ℕ) → getD (l .generation) i 0 ≡ slotAt (view l) i .generation
   generation-same i = ap (λ (x : List ℕ). getD x i 0) (facts .generation) ∙ column-any (slotCount l) (λ s. s .generation) (view l .slots) i refl
 
   bytes-same : (i : ℕ) → dataAt (l .end) (l .pool) i ≡ slotAt (view l) i .bytes

@@ -1,8 +1,9 @@
 -- The marking from the frame, the registers, the seals and the pins: what each step leaves, put together. Assumes nothing.
-use Prim.Native.Nat.{ℕ}
+use Prim.Native.Nat.{ℕ, _-_}
 use mathlib.Core.Path.{_≡_, refl, sym, ap, _∙_, subst}
 use mathlib.Core.Option.{Option, none, some}
 use mathlib.Core.List.{List, _++_, append-assoc}
+use native.Mathlib.Nat.{sub-zero}
 use native.Mathlib.Omega.{arith}
 use Rattle.ty.specs.Types.{Table}
 use Rattle.trace.specs.Emit.{rawOf, into, resolveIn, emitting, told as toldTrace}
@@ -50,7 +51,7 @@ module _ (T : Table) (tag slots S : ℕ) (narrow wide pool : List ℕ) (marks wo
   -- all is marked, or a reached object can't be traced
   pub frame-marked : (n : ℕ) → r ≡ Traced n → (words : List ℕ) → ((hs : List ℕ) → frame ≡ some hs → words ≡ pins) → (marks₂ work₂ : List ℕ) (m : ℕ)
       → Holds slots marks₂ work₂ m (seededFrom (leadsTo tag slots S narrow) (inUse slots) (stateOf marks₁ work₁ n) values sealed words)
-      → (a : Answer) (marks₃ work₃ : List ℕ) → Traces a slots marks₃ work₃ (drained (graphIn T tag slots S narrow wide pool) slots (stateOf marks₂ work₂ m) 0)
+      → (a : Answer) (marks₃ work₃ : List ℕ) → Traces a slots marks₃ work₃ (drained (graphIn T tag slots S narrow wide pool) (slots - 0) (stateOf marks₂ work₂ m) 0)
       → Traces a slots marks₃ work₃ (joinedFrom (heldIn T tag slots S narrow wide pool) slots (stateOf marks work 0) frame values sealed pins)
   frame-marked n e words known marks₂ work₂ m held a marks₃ work₃ d = go frame known (at (Traced n) e .0)
     where
@@ -70,7 +71,8 @@ module _ (T : Table) (tag slots S : ℕ) (narrow wide pool : List ℕ) (marks wo
       go none k q = let z : _≡_ {A = ℕ} 0 1 = cc in absurd (omega arith)
       go (some hs) k q =
           subst (λ (x : Option State). Traces a slots marks₃ work₃ x)
-          (drained-live (graphIn T tag slots S narrow wide pool) (inUse slots) slots (stateOf marks₂ work₂ m) 0
+          (ap (λ (f : ℕ). drained (graphIn T tag slots S narrow wide pool) f (stateOf marks₂ work₂ m) 0) (sub-zero slots)
+          ∙ drained-live (graphIn T tag slots S narrow wide pool) (inUse slots) slots (stateOf marks₂ work₂ m) 0
           ∙ ap (λ (x : State). drained G slots x 0) (held .state ∙ seeds hs (sym (inj _ _ q)) (k hs refl))) d
 
 -- ---- the seeds, step by step

@@ -9,6 +9,7 @@ use lib.Dec.{ltb, eqb, leb}
 use borrow.Author.Tests.{lt-ltb, le-ltb, le-leb, lt-leb, eq-eqb, ne-eqb}
 use native.Mathlib.Omega.{arith}
 use Rattle.word.specs.Choice.{if_then_else_}
+use Rattle.word.proofs.ListLaws.{drop-cons-one}
 use Rattle.layout.proofs.LayLaws.{rest}
 use Rattle.trace.specs.Places.{handleAt}
 use Rattle.addresses.specs.Listed.{slotOf, slotsOf}
@@ -22,7 +23,7 @@ use Rattle.reach.specs.Marking.{State, visit, followAll, pinIf, pinAll}
 use Rattle.mark.specs.Scratch.{stateOf, Scratch, Holds}
 use Rattle.mark.specs.Joining.{inUse, taking}
 use Rattle.mark.proofs.Bridge.{follows-append}
-use Rattle.mark.proofs.States.{Pushing, pushing-next, pushing-part, pushing-end, drop-cons-one}
+use Rattle.mark.proofs.States.{Pushing, pushing-next, pushing-part, pushing-end}
 
 pub pins-append : (L : ℕ → Bool) (s : State) (a b : List ℕ) → pinAll L s (a ++ b) ≡ pinAll L (pinAll L s a) b
 pins-append L s [] b = refl

@@ -14,8 +14,9 @@ use borrow.Author.Tests.{lt-ltb, le-ltb, eq-eqb, ne-eqb}
 use Rattle.word.specs.Choice.{if_then_else_}
 use Rattle.word.specs.Ones.{passing}
 use Rattle.word.proofs.OnesLaws.{trailing-lt}
+use Rattle.word.proofs.Bools.{positive}
 use Rattle.rows.specs.Row.{bitIn, listed}
-use Rattle.rows.proofs.Listing.{leftover, pass-word, take-bit, all-left, positive, less-word, passing-most}
+use Rattle.rows.proofs.Listing.{leftover, pass-word, take-bit, all-left, less-word, passing-most}
 use Rattle.rows.proofs.Below.{below, below-in, below-out, below-none, below-listed}
 use Rattle.trace.specs.Emit.{rawOf, into, resolveIn, emitted}
 use Rattle.trace.specs.declared.Sink.the-variants.{Work}

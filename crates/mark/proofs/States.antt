@@ -1,9 +1,9 @@
 -- The scratch as a state: one object met, and a list of handles or pins taken in turn. Room in the queue comes by counting the marks. Assumes nothing.
-use Prim.Native.Nat.{ℕ, _+_, _≤_, _<_}
+use Prim.Native.Nat.{ℕ, suc, _+_, _-_, _%_, _/_, _^_, _≤_, _<_}
 use mathlib.Core.Path.{_≡_, refl, sym, ap, _∙_, subst}
 use mathlib.Core.Logic.{⊎-elim}
-use mathlib.Core.List.{List, [], _∷_, _++_}
-use lib.ListN.{length, getD, drop, set, length-set, replicate, length-replicate}
+use mathlib.Core.List.{List, [], _∷_, _++_, map, map-append}
+use lib.ListN.{length, getD, take, drop, set, length-set, replicate, length-replicate}
 use lib.Seq.{drop-cons, take-suc-set, getD-set-same, getD-set-other}
 use borrow.Author.Tests.{eq-eqb, ne-eqb}
 use native.Mathlib.Numerals.{add-one}
@@ -15,7 +15,8 @@ use Rattle.handle.specs.Columns.{liveIn}
 use Rattle.handle.proofs.ResolveLaws.{live-beyond, live-not, live-there}
 use Rattle.reach.specs.Marking.{State, Good, visit, pinIf}
 use Rattle.reach.proofs.Grown.{sum-set, sum-le, visit-grown, good-nothing}
-use Rattle.mark.specs.Scratch.{stateOf, Holds, Scratch}
+use Rattle.trace.specs.Emit.{over}
+use Rattle.mark.specs.Scratch.{low, high, stateOf, Holds, Scratch}
 
 -- an unmarked slot leaves room in the queue
 pub unmarked-room : (n : ℕ) (s : State) → Good n s → (i : ℕ) → i < n → getD (s .marks) i 0 ≡ 0 → length (s .queue) < n
@@ -33,27 +34,40 @@ unmarked-room n s g i h e =
 
 -- ---- an object met
 
+pub low-over : (w i : ℕ) → i < 2 ^ 32 → low (over w i) ≡ i
+low-over w i h = omega arith
+
+pub high-over : (w i : ℕ) → i < 2 ^ 32 → high (over w i) ≡ high w
+high-over w i h = omega arith
+
 module _ (slots : ℕ) (marks work : List ℕ) (n i : ℕ) (c : Scratch slots marks work n) where
   pub meet-marked : (getD marks i 0 ≡ 0 → ⊥) → Holds slots marks work n (visit (stateOf marks work n) i)
   unfolding visit
   meet-marked e = record { state = rw (ne-eqb (getD marks i 0) 0 e); scratch = c }
 
   module _ (room : n < length work) (e : getD marks i 0 ≡ 0) where
-    meet-state : stateOf (set marks i 1) (set work n i) (n + 1) ≡ visit (stateOf marks work n) i
+    meet-state : i < slots → stateOf (set marks i 1) (set work n (over (getD work n 0) i)) (n + 1) ≡ visit (stateOf marks work n) i
     unfolding visit
-    meet-state = rw (eq-eqb (getD marks i 0) 0 e, add-one n) (λ k. record { marks = set marks i 1; queue = take-suc-set work n i room k })
+    meet-state l =
+        let queue : map low (take (suc n) (set work n (over (getD work n 0) i))) ≡ map low (take n work) ++ i ∷ [] =
+        ap (map low) (take-suc-set work n (over (getD work n 0) i) room) ∙ map-append low (take n work) (over (getD work n 0) i ∷ [])
+        ∙ ap (λ (x : ℕ). map low (take n work) ++ x ∷ []) (low-over (getD work n 0) i (omega (arith, c .few))) in
+        rw (eq-eqb (getD marks i 0) 0 e, add-one n) (λ k. record { marks = set marks i 1; queue = queue k })
 
-    pub meet-new : i < slots → Holds slots (set marks i 1) (set work n i) (n + 1) (visit (stateOf marks work n) i)
+    pub meet-new : i < slots → Holds slots (set marks i 1) (set work n (over (getD work n 0) i)) (n + 1) (visit (stateOf marks work n) i)
     meet-new l =
-        let g : Good slots (stateOf (set marks i 1) (set work n i) (n + 1)) = subst (Good slots) (sym meet-state) (visit-grown slots (λ j. Unit {0}) (stateOf marks work n) i (c .good) l tt .good) in
+        let g : Good slots (stateOf (set marks i 1) (set work n (over (getD work n 0) i)) (n + 1)) =
+        subst (Good slots) (sym (meet-state l)) (visit-grown slots (λ j. Unit {0}) (stateOf marks work n) i (c .good) l tt .good) in
+        let long : length (set work n (over (getD work n 0) i)) ≡ length work = length-set work n (over (getD work n 0) i) in
         record {
-          state = meet-state;
-          scratch = record { size = g .size; words = omega (arith, c .words, length-set work n i); room = omega (arith, length-set work n i); good = g };
+          state = meet-state l;
+          scratch = record { few = c .few; size = g .size; words = omega (arith, c .words); room = omega arith; good = g };
         }
 
-pub scratch-start : (slots : ℕ) (marks work : List ℕ) → marks ≡ replicate slots 0 → slots ≤ length work → Scratch slots marks work 0
-scratch-start slots marks work e h =
+pub scratch-start : (slots : ℕ) (marks work : List ℕ) → slots ≤ 16777216 → marks ≡ replicate slots 0 → slots ≤ length work → Scratch slots marks work 0
+scratch-start slots marks work few e h =
     record {
+      few = few;
       size = ap length e ∙ length-replicate slots 0;
       words = h;
       room = omega arith;
@@ -61,9 +75,6 @@ scratch-start slots marks work e h =
     }
 
 -- ---- a list taken in turn
-
-pub drop-cons-one : (l : List ℕ) (k : ℕ) → k < length l → drop k l ≡ getD l k 0 ∷ drop (k + 1) l
-drop-cons-one l k h = drop-cons l k 0 h ∙ ap (λ (j : ℕ). getD l k 0 ∷ drop j l) (sym (add-one k))
 
 -- handles or pins are taken in turn: the rest, from the state that is there, gives what all gives from the state at the start
 pub record Pushing (F : State → List ℕ → State) (slots : ℕ) (marks₀ work₀ : List ℕ) (total : State) (marks work : List ℕ) (count : ℕ) (rest : List ℕ) : Type 0 where

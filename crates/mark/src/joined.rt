@@ -267,6 +267,7 @@ fn mark_frame(
         marks,
         work,
         m,
+        0,
     )
 }
 

@@ -5,7 +5,7 @@ use trace::Answer;
 use trace::Sink;
 ghost use mathlib.Core.Path.{_≡_};
 ghost use mathlib.Core.Bool.{true};
-ghost use Prim.Native.Nat.{_<_};
+ghost use Prim.Native.Nat.{_-_, _<_};
 ghost use lib.ListN.{length};
 ghost use Rattle.word.specs.Run.{run};
 ghost use Rattle.handle.specs.Columns.{liveIn};
@@ -15,7 +15,7 @@ ghost use Rattle.ty.specs.View.{tableOf};
 ghost use Rattle.trace.specs.Emit.{Runs};
 ghost use Rattle.reach.specs.Marking.{followAll, pinIf, pinAll, drained};
 ghost use Rattle.mark.specs.Graph.{leadsTo, shownIn, graphIn, Fit};
-ghost use Rattle.mark.specs.Scratch.{stateOf, Scratch, Holds, following, Traces, seededFrom};
+ghost use Rattle.mark.specs.Scratch.{stateOf, Scratch, Holds, following, Traces, Noted, NotedBy, seededFrom};
 ghost use Rattle.mark.specs.Told.{told, marksIn, heapMarks, Ready};
 
 pub mod hold; // what is pinned, by pins and by addresses
@@ -42,6 +42,7 @@ pub fn push_all(
     requires { ⌜ Scratch slots (now marks) (now work) n ⌝ }
     ensures { λ r. ⌜ Holds slots (now (marks .exit)) (now (work .exit)) r
         (followAll (leadsTo tag slots s (now (narrow .entry))) (stateOf (now (marks .entry)) (now (work .entry)) n) (now (list .entry))) ⌝ }
+    ensures { λ _. ⌜ Noted (now (work .entry)) (now (work .exit)) ⌝ }
 {
     let mut count = n;
     let mut k = 0;
@@ -67,6 +68,7 @@ fn pin(
     requires { ⌜ Scratch slots (now marks) (now work) n ⌝ }
     ensures { λ r. ⌜ Holds slots (now (marks .exit)) (now (work .exit)) r
         (pinIf (liveIn slots (run s s (now (narrow .entry))) i) (stateOf (now (marks .entry)) (now (work .entry)) n) i) ⌝ }
+    ensures { λ _. ⌜ Noted (now (work .entry)) (now (work .exit)) ⌝ }
 {
     let j = i as usize;
     if slots <= j {
@@ -92,6 +94,7 @@ pub fn pin_all(
     requires { ⌜ Scratch slots (now marks) (now work) n ⌝ }
     ensures { λ r. ⌜ Holds slots (now (marks .exit)) (now (work .exit)) r
         (pinAll (liveIn slots (run s s (now (narrow .entry)))) (stateOf (now (marks .entry)) (now (work .entry)) n) (now (pins .entry))) ⌝ }
+    ensures { λ _. ⌜ Noted (now (work .entry)) (now (work .exit)) ⌝ }
 {
     let mut count = n;
     let mut k = 0;
@@ -120,6 +123,7 @@ pub fn seed(
     ensures { λ r. ⌜ Holds slots (now (marks .exit)) (now (work .exit)) r
         (seededFrom (leadsTo tag slots s (now (narrow .entry))) (liveIn slots (run s s (now (narrow .entry))))
         (stateOf (now (marks .entry)) (now (work .entry)) n) (now (roots .entry)) (now (sealed .entry)) (now (pins .entry))) ⌝ }
+    ensures { λ _. ⌜ Noted (now (work .entry)) (now (work .exit)) ⌝ }
 {
     let a = push_all(tag, slots, s, narrow, roots, marks, work, n);
     let b = push_all(tag, slots, s, narrow, sealed, marks, work, a);
@@ -149,6 +153,7 @@ fn trace_at(
     ensures { λ r. ⌜ Traces r slots (now (marks .exit)) (now (work .exit))
         (following (leadsTo tag slots s (now (narrow .entry))) (stateOf (now (marks .entry)) (now (work .entry)) n)
         (shownIn (tableOf (now (types .entry)) (now (fields .entry)) (now (consts .entry)) (now (bytes .entry))) s (now (narrow .entry)) (now (wide .entry)) (now (pool .entry)) i)) ⌝ }
+    ensures { λ r. ⌜ NotedBy r (now (work .entry)) (now (work .exit)) ⌝ }
 {
     let a = heap::start_of(wide, s, i);
     let e = wide[s + i] as usize;
@@ -175,7 +180,7 @@ fn trace_at(
     )
 }
 
-// The queue is gone through from the front: `work[..next]` are traced.
+// The queue is gone through from its object at `from` on: those before it are traced.
 pub fn drain(
     types: &[u64],
     fields: &[u32],
@@ -190,17 +195,19 @@ pub fn drain(
     marks: &mut [u8],
     work: &mut [u64],
     n: usize,
+    from: usize,
 ) -> Answer
     requires { ⌜ Fit slots s (now narrow) (now wide) (now pool) ⌝ }
     requires { ⌜ Scratch slots (now marks) (now work) n ⌝ }
     ensures { λ r. ⌜ Traces r slots (now (marks .exit)) (now (work .exit)) (drained
         (graphIn (tableOf (now (types .entry)) (now (fields .entry)) (now (consts .entry)) (now (bytes .entry))) tag slots s (now (narrow .entry)) (now (wide .entry)) (now (pool .entry)))
-        slots (stateOf (now (marks .entry)) (now (work .entry)) n) 0) ⌝ }
+        (slots - from) (stateOf (now (marks .entry)) (now (work .entry)) n) from) ⌝ }
+    ensures { λ r. ⌜ NotedBy r (now (work .entry)) (now (work .exit)) ⌝ }
 {
     let mut count = n;
-    let mut next = 0;
+    let mut next = from;
     while next < count {
-        let i = work[next] as usize;
+        let i = (work[next] % 4294967296) as usize;
         let r = trace_at(
             types,
             fields,
@@ -251,6 +258,7 @@ pub fn mark_from(
         (graphIn (tableOf (now (types .entry)) (now (fields .entry)) (now (consts .entry)) (now (bytes .entry))) tag slots s (now (narrow .entry)) (now (wide .entry)) (now (pool .entry)))
         slots (seededFrom (leadsTo tag slots s (now (narrow .entry))) (liveIn slots (run s s (now (narrow .entry))))
         (stateOf (now (marks .entry)) (now (work .entry)) n) (now (roots .entry)) (now (sealed .entry)) (now (pins .entry))) 0) ⌝ }
+    ensures { λ r. ⌜ NotedBy r (now (work .entry)) (now (work .exit)) ⌝ }
 {
     let m = seed(tag, slots, s, narrow, roots, sealed, pins, marks, work, n);
     drain(
@@ -267,6 +275,7 @@ pub fn mark_from(
         marks,
         work,
         m,
+        0,
     )
 }
 

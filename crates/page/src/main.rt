@@ -247,7 +247,7 @@ fn serve(
     let start = made.heap;
     let fed = feed(start, narrow, wide, pool, room, marks, work, buf);
     let after = fed.heap;
-    let written = page::write_page(after, narrow, wide, pool, text, marks, work);
+    let written = page::write_page(after, narrow, wide, pool, false, text, marks, work);
     show(fed.number, text, written.first as usize);
 }
 

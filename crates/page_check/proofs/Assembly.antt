@@ -1,29 +1,30 @@
 -- The whole of a page, part by part as the first pass reads it.
 use Prim.Native.Nat.{ℕ, suc, _+_, _-_, _^_, _≤_, _<_}
-use mathlib.Core.List.{List, [], _∷_, _++_}
+use mathlib.Core.List.{List, [], _∷_, _++_, map}
 use mathlib.Core.Option.{Option, none, some}
 use mathlib.Core.Bool.{Bool, true, false, _&&_}
 use mathlib.Core.Path.{_≡_, refl, sym, ap, _∙_, subst}
 use lib.Dec.{ltb}
-use lib.ListN.{length, drop, drop-of-length-le}
+use lib.ListN.{length, drop, drop-of-length-le, length-map}
 use lib.Seq.{drop-cons}
 use native.Mathlib.Omega.{arith}
 use Rattle.word.specs.Lists.{all}
 use Rattle.word.proofs.ListLaws.{all-append}
 use Rattle.text.specs.Text.{give, readLiteral}
-use Rattle.text.specs.Format.{Format, Right, number, pair, times, afterLiteral, readAll}
+use Rattle.text.specs.Format.{Format, Right, number, pair, times, afterLiteral, mapped, readAll}
 use Rattle.text.proofs.Laws.{times-right, number-right}
 use Rattle.text.proofs.Getting.{suffix}
 use Rattle.heap.specs.State.{Slot, State, dataSize}
 use Rattle.heap.specs.WellFormed.{soundSlot, soundSeals, soundReclaim, sound}
-use Rattle.pages.specs.Form.{Form, heapNames, freeName, quarantineName, sealedName}
-use Rattle.pages.specs.Page.{Head, headFormat, bodyFormat, slotFormat, pageFormat, readPage, whole, stateOf}
+use Rattle.pages.specs.Form.{Form, formOf, slotNamed, freeName, quarantineName, sealedName}
+use Rattle.pages.specs.Page.{Head, headFormat, bodyFormat, slotFormat, outOfColumn, slotsFormat, retiredFormat, pageFormat, readPage, whole, stateOf}
 use Rattle.pages.proofs.Laws.{slot-right, slots-wider, head-right}
 use Rattle.page_check.specs.Answer.{headAnswer, slotsAnswer, indicesMore, sealsMore}
 use Rattle.page_check.specs.Partition.{valuesAt, ValuesParsed}
-use Rattle.page_check.specs.Parts.{numbersOf, slotNamed}
+use Rattle.page_check.specs.Parts.{numbersOf, heapNamed, sectionsOf}
 use Rattle.page_check.specs.Sections.{heapIn, formIn, soundBut, Sectioned}
 use Rattle.page_check.specs.Filling.{SlotsParsed}
+use Rattle.page_check.proofs.Columned.{same-sound, same-size}
 use Rattle.page_check.proofs.Once.{slots-are, read-count}
 use Rattle.page_check.specs.declared.HeadRead.{HeadRead}
 use Rattle.page_check.specs.declared.HeadLine.{HeadLine}
@@ -41,26 +42,27 @@ rest-of : {A : Type 0} {f : Format A} {good : A → Type 0} → Right f good →
     rest ≡ drop (length s - length rest) s
 rest-of {A} {f} r s k a rest e = suffix (f .print a) rest s k (r .back (drop k s) a rest e .1)
 
-pub head-found : (s : List ℕ) (k : ℕ) {r : HeadLine} (x : HeadRead) → r ≡ headAnswer (length s) (headFormat .read (drop k s)) → r ≡ Head-of x →
-    (headFormat .read (drop k s) ≡ give (numbersOf x) (drop (x .next) s)) × (x .next ≤ length s)
-head-found s k {r} x e f = go (headFormat .read (drop k s)) refl e
-  where
-    go : (o : Option (Head × List ℕ)) → headFormat .read (drop k s) ≡ o → r ≡ headAnswer (length s) o →
-        (headFormat .read (drop k s) ≡ give (numbersOf x) (drop (x .next) s)) × (x .next ≤ length s)
-    go none q g = absurd (contradiction cc)
-    go (some y) q g =
-        let v : headAnswer (length s) (some y) ≡ Head-of x = sym g ∙ f in
-        let z : HeadRead = record { tag = y .0 .0; «since_gc» = y .0 .1 .0; «reclaim_at» = y .0 .1 .1 .0; «live_bytes» = y .0 .1 .1 .1 .0; slots = y .0 .1 .1 .1 .1 .0; free = y .0 .1 .1 .1 .1 .1 .0; quarantine = y .0 .1 .1 .1 .1 .1 .1 .0; sealed = y .0 .1 .1 .1 .1 .1 .1 .1; next = length s - length (y .1) } in
-        let w : z ≡ x = cc in
-        subst (λ (x : HeadRead). (headFormat .read (drop k s) ≡ give (numbersOf x) (drop (x .next) s)) × (x .next ≤ length s)) w
-        (q ∙ ap (give (y .0)) (rest-of head-right s k (y .0) (y .1) q), omega arith)
+module _ (ret : Bool) (s : List ℕ) (k : ℕ) {r : HeadLine} (e : r ≡ headAnswer ret (length s) (headFormat ret .read (drop k s))) where
+  pub head-found : (x : HeadRead) → r ≡ Head-of x →
+      (x .retiring ≡ ret) × (headFormat ret .read (drop k s) ≡ give (numbersOf x) (drop (x .next) s)) × (x .next ≤ length s)
+  head-found x f = go (headFormat ret .read (drop k s)) refl e
+    where
+      go : (o : Option (Head × List ℕ)) → headFormat ret .read (drop k s) ≡ o → r ≡ headAnswer ret (length s) o →
+          (x .retiring ≡ ret) × (headFormat ret .read (drop k s) ≡ give (numbersOf x) (drop (x .next) s)) × (x .next ≤ length s)
+      go none q g = absurd (contradiction cc)
+      go (some y) q g =
+          let v : headAnswer ret (length s) (some y) ≡ Head-of x = sym g ∙ f in
+          let z : HeadRead = record { retiring = ret; tag = y .0 .0; «since_gc» = y .0 .1 .0; «reclaim_at» = y .0 .1 .1 .0; «live_bytes» = y .0 .1 .1 .1 .0; slots = y .0 .1 .1 .1 .1 .0; free = y .0 .1 .1 .1 .1 .1 .0; quarantine = y .0 .1 .1 .1 .1 .1 .1 .0; sealed = y .0 .1 .1 .1 .1 .1 .1 .1 .0; retired = y .0 .1 .1 .1 .1 .1 .1 .1 .1; next = length s - length (y .1) } in
+          let w : z ≡ x = cc in
+          subst (λ (x : HeadRead). (x .retiring ≡ ret) × (headFormat ret .read (drop k s) ≡ give (numbersOf x) (drop (x .next) s)) × (x .next ≤ length s)) w
+          (refl, q ∙ ap (give (y .0)) (rest-of (head-right ret) s k (y .0) (y .1) q), omega arith)
 
-pub head-lost : (s : List ℕ) (k : ℕ) {r : HeadLine} → r ≡ headAnswer (length s) (headFormat .read (drop k s)) → r ≡ NoHead → headFormat .read (drop k s) ≡ none
-head-lost s k {r} e f = go (headFormat .read (drop k s)) refl e
-  where
-    go : (o : Option (Head × List ℕ)) → headFormat .read (drop k s) ≡ o → r ≡ headAnswer (length s) o → headFormat .read (drop k s) ≡ none
-    go none q g = q
-    go (some y) q g = absurd (contradiction cc)
+  pub head-lost : r ≡ NoHead → headFormat ret .read (drop k s) ≡ none
+  head-lost f = go (headFormat ret .read (drop k s)) refl e
+    where
+      go : (o : Option (Head × List ℕ)) → headFormat ret .read (drop k s) ≡ o → r ≡ headAnswer ret (length s) o → headFormat ret .read (drop k s) ≡ none
+      go none q g = q
+      go (some y) q g = absurd (contradiction cc)
 
 pub slots-found : (w : Bool) (s : List ℕ) (k cnt : ℕ) {r : Slots} (ok : Bool) (size : ℕ) (c : ℕ) → r ≡ slotsAnswer (length s) (readAll (slotFormat w .read) cnt (drop k s)) → r ≡ Lines ok size c →
     (l : List Slot) × (readAll (slotFormat w .read) cnt (drop k s) ≡ give l (drop c s)) × (c ≤ length s) × (ok ≡ all soundSlot l) × (size ≡ dataSize l)
@@ -127,66 +129,71 @@ seals-none s k cnt tag n {r} e f = go (readAll (number 64 10 .read) cnt (drop k 
     go (some y) q g = absurd (contradiction cc)
 
 module _ (s : List ℕ) where
-  pub page-none-1 : readLiteral heapNames (drop 0 s) ≡ none → readPage s ≡ none
-  unfolding readPage pageFormat afterLiteral pair bodyFormat times
+  pub page-none-1 : heapNamed .read (drop 0 s) ≡ none → readPage s ≡ none
+  unfolding readPage pageFormat afterLiteral pair bodyFormat slotsFormat mapped times
   page-none-1 q = rw (q)
 
-  module _ (a : ℕ) (e1 : readLiteral heapNames (drop 0 s) ≡ some (drop a s)) where
-    pub page-none-2 : headFormat .read (drop a s) ≡ none → readPage s ≡ none
-    unfolding readPage pageFormat afterLiteral pair bodyFormat times
+  module _ (ret : Bool) (a : ℕ) (e1 : heapNamed .read (drop 0 s) ≡ give ret (drop a s)) where
+    pub page-none-2 : headFormat ret .read (drop a s) ≡ none → readPage s ≡ none
+    unfolding readPage pageFormat afterLiteral pair bodyFormat slotsFormat mapped times
     page-none-2 q = rw (e1, q)
 
-    module _ (x : HeadRead) (e2 : headFormat .read (drop a s) ≡ give (numbersOf x) (drop (x .next) s)) where
+    module _ (x : HeadRead) (e2 : headFormat ret .read (drop a s) ≡ give (numbersOf x) (drop (x .next) s)) where
       pub page-none-3 : slotNamed .read (drop (x .next) s) ≡ none → readPage s ≡ none
-      unfolding readPage pageFormat afterLiteral pair bodyFormat times
+      unfolding readPage pageFormat afterLiteral pair bodyFormat slotsFormat mapped times
       page-none-3 q = rw (e1, e2, q)
 
-      module _ (w : Bool) (b : ℕ) (e3 : slotNamed .read (drop (x .next) s) ≡ give w (drop b s)) where
+      module _ (w p : Bool) (b : ℕ) (e3 : slotNamed .read (drop (x .next) s) ≡ give (w, p) (drop b s)) where
         pub page-none-4 : readAll (slotFormat w .read) (x .slots) (drop b s) ≡ none → readPage s ≡ none
-        unfolding readPage pageFormat afterLiteral pair bodyFormat times
+        unfolding readPage pageFormat afterLiteral pair bodyFormat slotsFormat mapped times
         page-none-4 q = rw (e1, e2, e3, q)
 
         module _ (sl : List Slot) (c : ℕ) (e4 : readAll (slotFormat w .read) (x .slots) (drop b s) ≡ give sl (drop c s)) where
           pub page-none-5 : readLiteral freeName (drop c s) ≡ none → readPage s ≡ none
-          unfolding readPage pageFormat afterLiteral pair bodyFormat times
+          unfolding readPage pageFormat afterLiteral pair bodyFormat slotsFormat mapped times
           page-none-5 q = rw (e1, e2, e3, e4, q)
 
           module _ (d : ℕ) (e5 : readLiteral freeName (drop c s) ≡ some (drop d s)) where
             pub page-none-6 : readAll (number 32 10 .read) (x .free) (drop d s) ≡ none → readPage s ≡ none
-            unfolding readPage pageFormat afterLiteral pair bodyFormat times
+            unfolding readPage pageFormat afterLiteral pair bodyFormat slotsFormat mapped times
             page-none-6 q = rw (e1, e2, e3, e4, e5, q)
 
             module _ (fl : List ℕ) (e : ℕ) (e6 : readAll (number 32 10 .read) (x .free) (drop d s) ≡ give fl (drop e s)) where
               pub page-none-7 : readLiteral quarantineName (drop e s) ≡ none → readPage s ≡ none
-              unfolding readPage pageFormat afterLiteral pair bodyFormat times
+              unfolding readPage pageFormat afterLiteral pair bodyFormat slotsFormat mapped times
               page-none-7 q = rw (e1, e2, e3, e4, e5, e6, q)
 
               module _ (g : ℕ) (e7 : readLiteral quarantineName (drop e s) ≡ some (drop g s)) where
                 pub page-none-8 : readAll (number 32 10 .read) (x .quarantine) (drop g s) ≡ none → readPage s ≡ none
-                unfolding readPage pageFormat afterLiteral pair bodyFormat times
+                unfolding readPage pageFormat afterLiteral pair bodyFormat slotsFormat mapped times
                 page-none-8 q = rw (e1, e2, e3, e4, e5, e6, e7, q)
 
                 module _ (ql : List ℕ) (i : ℕ) (e8 : readAll (number 32 10 .read) (x .quarantine) (drop g s) ≡ give ql (drop i s)) where
                   pub page-none-9 : readLiteral sealedName (drop i s) ≡ none → readPage s ≡ none
-                  unfolding readPage pageFormat afterLiteral pair bodyFormat times
+                  unfolding readPage pageFormat afterLiteral pair bodyFormat slotsFormat mapped times
                   page-none-9 q = rw (e1, e2, e3, e4, e5, e6, e7, e8, q)
 
                   module _ (j : ℕ) (e9 : readLiteral sealedName (drop i s) ≡ some (drop j s)) where
                     pub page-none-10 : readAll (number 64 10 .read) (x .sealed) (drop j s) ≡ none → readPage s ≡ none
-                    unfolding readPage pageFormat afterLiteral pair bodyFormat times
+                    unfolding readPage pageFormat afterLiteral pair bodyFormat slotsFormat mapped times
                     page-none-10 q = rw (e1, e2, e3, e4, e5, e6, e7, e8, e9, q)
 
                     module _ (zl : List ℕ) (k : ℕ) (e10 : readAll (number 64 10 .read) (x .sealed) (drop j s) ≡ give zl (drop k s)) where
-                      page-more : (m : ℕ) (t : List ℕ) → drop k s ≡ m ∷ t → readPage s ≡ none
-                      unfolding readPage pageFormat afterLiteral pair bodyFormat times
-                      page-more m t q = rw (e1, e2, e3, e4, e5, e6, e7, e8, e9, e10, q)
+                      pub page-none-11 : retiredFormat ret (x .retired) .read (drop k s) ≡ none → readPage s ≡ none
+                      unfolding readPage pageFormat afterLiteral pair bodyFormat slotsFormat mapped times
+                      page-none-11 q = rw (e1, e2, e3, e4, e5, e6, e7, e8, e9, e10, q)
 
-                      pub page-long : k < length s → readPage s ≡ none
-                      page-long h = page-more (lib.ListN.getD s k 0) (drop (suc k) s) (drop-cons s k 0 h)
+                      module _ (rl : List ℕ) (o : ℕ) (e11 : retiredFormat ret (x .retired) .read (drop k s) ≡ give rl (drop o s)) where
+                        page-more : (m : ℕ) (t : List ℕ) → drop o s ≡ m ∷ t → readPage s ≡ none
+                        unfolding readPage pageFormat afterLiteral pair bodyFormat slotsFormat mapped times
+                        page-more m t q = rw (e1, e2, e3, e4, e5, e6, e7, e8, e9, e10, e11, q)
 
-                      pub page-whole : length s ≤ k → readPage s ≡ some (record { wide = w }, stateOf (numbersOf x) (sl, (fl, (ql, zl))))
-                      unfolding readPage pageFormat afterLiteral pair bodyFormat times
-                      page-whole h = rw (e1, e2, e3, e4, e5, e6, e7, e8, e9, e10, drop-of-length-le s {i = k} h)
+                        pub page-long : o < length s → readPage s ≡ none
+                        page-long h = page-more (lib.ListN.getD s o 0) (drop (suc o) s) (drop-cons s o 0 h)
+
+                        pub page-whole : length s ≤ o → readPage s ≡ some (formOf ret w p, stateOf (numbersOf x) (map (outOfColumn p) sl, (fl, (ql, (zl, rl)))))
+                        unfolding readPage pageFormat afterLiteral pair bodyFormat slotsFormat mapped times
+                        page-whole h = rw (e1, e2, e3, e4, e5, e6, e7, e8, e9, e10, e11, drop-of-length-le s {i = o} h)
 
 -- THE VERDICT
 
@@ -214,51 +221,39 @@ unfolding formIn
 form-is s f h e = rw (e, formIn)
 
 -- the sections that were read are those of the heap that they make up
-module _ (s : List ℕ) (wide : Bool) (x : HeadRead) (sl : List Slot) (fl ql zl : List ℕ) where
+module _ (s : List ℕ) (wide planar : Bool) (x : HeadRead) (sl : List Slot) (fl ql zl rl : List ℕ) where
   abbrev pub made : State
-  made = stateOf (numbersOf x) (sl, (fl, (ql, zl)))
+  made = stateOf (numbersOf x) (map (outOfColumn planar) sl, (fl, (ql, (zl, rl))))
 
   abbrev form : Form
-  form = record { wide = wide }
+  form = formOf (x .retiring) wide planar
 
-  pub sectioned : (b c d g i j k size : ℕ) (rest : List ℕ) (a1 a2 a3 a4 r : Bool) → readPage s ≡ some (form, made) →
+  pub sectioned : (b c d g i j k l size : ℕ) (rest rest′ : List ℕ) (a1 a2 a3 a4 a5 r : Bool) → readPage s ≡ some (form, made) →
       readAll (slotFormat wide .read) (x .slots) (drop b s) ≡ give sl (drop c s) → a1 ≡ all soundSlot sl → size ≡ dataSize sl →
       readAll (number 32 10 .read) (x .free) (drop d s) ≡ give fl (drop g s) → a2 ≡ all (λ i. ltb i (x .slots)) fl →
       readAll (number 32 10 .read) (x .quarantine) (drop i s) ≡ give ql (drop j s) → a3 ≡ all (λ i. ltb i (x .slots)) ql →
       readAll (number 64 10 .read) (x .sealed) (drop k s) ≡ give zl rest → a4 ≡ soundSeals (x .tag) (x .slots) 0 zl →
-      r ≡ (a1 && (a2 && a3) && a4 && soundReclaim (x .«reclaim_at»)) →
-      b ≤ length s → d ≤ length s → i ≤ length s → k ≤ length s →
-      Sectioned s (record {
-        wide = wide;
-        tag = x .tag;
-        «since_gc» = x .«since_gc»;
-        «reclaim_at» = x .«reclaim_at»;
-        «live_bytes» = x .«live_bytes»;
-        slots = x .slots;
-        free = x .free;
-        quarantine = x .quarantine;
-        sealed = x .sealed;
-        «slots_at» = b;
-        «free_at» = d;
-        «quarantine_at» = i;
-        «sealed_at» = k;
-        size = size;
-        sound = r;
-      })
-  sectioned b c d g i j k size rest a1 a2 a3 a4 r page met h1 hs ef h2 eq h3 ez h4 hr lb ld li lk =
+      readAll (number 32 10 .read) (x .retired) (drop l s) ≡ give rl rest′ → a5 ≡ all (λ i. ltb i (x .slots)) rl → (x .retiring ≡ false → rl ≡ []) →
+      r ≡ (a1 && (a2 && a3 && a5) && a4 && soundReclaim (x .«reclaim_at»)) →
+      b ≤ length s → d ≤ length s → i ≤ length s → k ≤ length s → l ≤ length s →
+      Sectioned s (sectionsOf wide planar x b d i k l size r)
+  sectioned b c d g i j k l size rest rest′ a1 a2 a3 a4 a5 r page met h1 hs ef h2 eq h3 ez h4 er h5 hn hr lb ld li lk ll =
       let w : heapIn s ≡ made = heap-is s form made page in
       let f : formIn s ≡ form = form-is s form made page in
       let es : readAll (slotFormat true .read) (x .slots) (drop b s) ≡ give sl (drop c s) = slots-wider wide (x .slots) (drop b s) sl (drop c s) met in
-      let n : length sl ≡ x .slots = read-count (x .slots) (drop b s) sl (drop c s) es in
+      let n : length (map (outOfColumn planar) sl) ≡ x .slots = length-map sl (outOfColumn planar) ∙ read-count (x .slots) (drop b s) sl (drop c s) es in
+      let h1′ : a1 ≡ all soundSlot (map (outOfColumn planar) sl) = h1 ∙ sym (same-sound planar sl) in
       record {
         page = page ∙ (λ j. some (sym f j, sym w j));
+        retiring = ap (λ (g : Form). g .retiring) (sym f);
         wide = ap (λ (g : Form). g .wide) (sym f);
+        planar = ap (λ (g : Form). g .planar) (sym f);
         tag = ap (λ (h : State). h .tag) (sym w);
         since = ap (λ (h : State). h .sinceGc) (sym w);
         reclaim = ap (λ (h : State). h .reclaimAt) (sym w);
         live = ap (λ (h : State). h .liveBytes) (sym w);
         slots = slots-parsed s b (x .slots) sl (drop c s) es;
-        slotsAre = slots-are s b (x .slots) sl (drop c s) es ∙ ap (λ (h : State). h .slots) (sym w);
+        slotsAre = ap (map (outOfColumn planar)) (slots-are s b (x .slots) sl (drop c s) es) ∙ ap (λ (h : State). h .slots) (sym w);
         slotCount = sym n ∙ ap (λ (h : State). length (h .slots)) (sym w);
         free = values-parsed 32 s d (x .free) fl (drop g s) ef;
         freeAre = values-are 32 s d (x .free) fl (drop g s) ef ∙ ap (λ (h : State). h .free) (sym w);
@@ -269,11 +264,16 @@ module _ (s : List ℕ) (wide : Bool) (x : HeadRead) (sl : List Slot) (fl ql zl 
         sealed = values-parsed 64 s k (x .sealed) zl rest ez;
         sealedAre = values-are 64 s k (x .sealed) zl rest ez ∙ ap (λ (h : State). h .sealed) (sym w);
         sealedCount = sym (values-count 64 s k (x .sealed) zl rest ez) ∙ ap (λ (h : State). length (h .sealed)) (sym w);
-        size = hs ∙ ap (λ (h : State). dataSize (h .slots)) (sym w);
+        retired = values-parsed 32 s l (x .retired) rl rest′ er;
+        retiredAre = values-are 32 s l (x .retired) rl rest′ er ∙ ap (λ (h : State). h .retired) (sym w);
+        retiredCount = sym (values-count 32 s l (x .retired) rl rest′ er) ∙ ap (λ (h : State). length (h .retired)) (sym w);
+        retiredNone = λ e. ap (λ (h : State). h .retired) w ∙ hn e;
+        size = hs ∙ sym (same-size planar sl) ∙ ap (λ (h : State). dataSize (h .slots)) (sym w);
         sound =
-            hr ∙ rw (h1, h2, h3, h4, ← all-append (λ i. ltb i (x .slots)) fl ql, ← n) refl ∙ ap soundBut (sym w);
+            hr ∙ rw (h1′, h2, h3, h4, h5, ← all-append (λ i. ltb i (x .slots)) fl ql, ← all-append (λ i. ltb i (x .slots)) (fl ++ ql) rl, ← n) refl ∙ ap soundBut (sym w);
         slotsInside = lb;
         freeInside = ld;
         quarantineInside = li;
         sealedInside = lk;
+        retiredInside = ll;
       }

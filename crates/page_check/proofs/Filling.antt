@@ -4,9 +4,9 @@ use mathlib.Core.List.{List, [], _∷_, _++_, append-nil}
 use mathlib.Core.Option.{Option, none, some}
 use mathlib.Core.Path.{_≡_, refl, sym, ap, _∙_, subst}
 use mathlib.Core.Bool.{Bool, true, false, _&&_}
-use lib.Dec.{eqb}
 use Rattle.word.proofs.Bools.{and-true, and-assoc}
-use Rattle.page_check.specs.Partition.{marked, expected, agree}
+use Rattle.page_check.specs.Partition.{marked, right, agree}
+use Rattle.page_check.specs.declared.Rule.{Rule}
 use lib.ListN.{length, drop, getD, length-drop, drop-of-length-le, replicate}
 use lib.Seq.{drop-cons}
 use native.Mathlib.Omega.{arith}
@@ -69,16 +69,17 @@ module _ {A : Type 0} (r : Reader A) (d : A) where
 drop-at : (l : List Slot) (i : ℕ) → i < length l → drop i l ≡ getD l i blank ∷ drop (i + 1) l
 drop-at l i h = drop-cons l i blank h ∙ ap (λ (n : ℕ). getD l i blank ∷ drop n l) (sym (add-one i))
 
-pub agree-next : (l : List Slot) (row : List ℕ) (i : ℕ) (ok b t : Bool) (total : Bool) (kind e : ℕ) → i < length l → total ≡ (ok && agree (drop i l) row i) →
-    e ≡ expected kind → kind ≡ getD l i blank .kind → t ≡ eqb (marked row i) e → b ≡ (ok && t) → total ≡ (b && agree (drop (i + 1) l) row (i + 1))
-agree-next l row i ok b t total kind e h q f g u v =
-    q ∙ ap (λ (m : List Slot). ok && agree m row i) (drop-at l i h)
-    ∙ sym (and-assoc ok (eqb (marked row i) (expected (getD l i blank .kind))) (agree (drop (i + 1) l) row (i + 1)))
-    ∙ ap (λ (x : Bool). x && agree (drop (i + 1) l) row (i + 1))
-    (ap (λ (k : ℕ). ok && eqb (marked row i) (expected k)) (sym g) ∙ ap (λ (k : ℕ). ok && eqb (marked row i) k) (sym f) ∙ ap (λ (x : Bool). ok && x) (sym u) ∙ sym v)
+pub agree-next : (rule : Rule) (l : List Slot) (row : List ℕ) (i : ℕ) (ok : Bool) {b t total : Bool} (generation kind n : ℕ) → i < length l → total ≡ (ok && agree rule (drop i l) row i) →
+    generation ≡ getD l i blank .generation → kind ≡ getD l i blank .kind → n ≡ marked row i → t ≡ right rule generation kind n → b ≡ (ok && t) →
+    total ≡ (b && agree rule (drop (i + 1) l) row (i + 1))
+agree-next rule l row i ok generation kind n h q g k m u v =
+    q ∙ ap (λ (m : List Slot). ok && agree rule m row i) (drop-at l i h)
+    ∙ sym (and-assoc ok (right rule (getD l i blank .generation) (getD l i blank .kind) (marked row i)) (agree rule (drop (i + 1) l) row (i + 1)))
+    ∙ ap (λ (x : Bool). x && agree rule (drop (i + 1) l) row (i + 1))
+    ((λ j. ok && right rule (sym g j) (sym k j) (sym m j)) ∙ ap (λ (x : Bool). ok && x) (sym u) ∙ sym v)
 
-pub agree-done : (l : List Slot) (row : List ℕ) (i : ℕ) (ok total : Bool) → length l ≤ i → total ≡ (ok && agree (drop i l) row i) → ok ≡ total
-agree-done l row i ok total h q = sym (q ∙ ap (λ (m : List Slot). ok && agree m row i) (drop-of-length-le l {i = i} h) ∙ and-true ok)
+pub agree-done : (rule : Rule) (l : List Slot) (row : List ℕ) (i : ℕ) (ok total : Bool) → length l ≤ i → total ≡ (ok && agree rule (drop i l) row i) → ok ≡ total
+agree-done rule l row i ok total h q = sym (q ∙ ap (λ (m : List Slot). ok && agree rule m row i) (drop-of-length-le l {i = i} h) ∙ and-true ok)
 
 module _ {A : Type 0} (r : Reader A) where
   done-step : (t : List ℕ) (l : List A) (i : ℕ) (rest : List ℕ) → readAll r zero t ≡ give (drop i l) rest → t ≡ rest

@@ -22,7 +22,7 @@ module _ (ret : Bool) (s : List ℕ) (at : ℕ) where
   abbrev read-head : Option (Head × List ℕ)
   read-head = headFormat ret .read (drop at s)
 
-  pub no-head : read-head ≡ none → NoHead ≡ headAnswer (length s) read-head
+  pub no-head : read-head ≡ none → NoHead ≡ headAnswer ret (length s) read-head
   no-head e = rw e
 
   pub none-1 : number 8 44 .read (drop at s) ≡ none → read-head ≡ none
@@ -74,10 +74,10 @@ module _ (ret : Bool) (s : List ℕ) (at : ℕ) where
                   unfolding headFormat pair
                   head-all v9 k9 e = rw (e1, e2, e3, e4, e5, e6, e7, e8, e)
 
-pub head-there : (s : List ℕ) (v1 v2 v3 v4 v5 v6 v7 v8 v9 k : ℕ) (o : Option (Head × List ℕ)) → o ≡ give {A = Head} (v1, (v2, (v3, (v4, (v5, (v6, (v7, (v8, v9)))))))) (drop k s) → k ≤ length s →
-    Head-of (record { tag = v1; «since_gc» = v2; «reclaim_at» = v3; «live_bytes» = v4; slots = v5; free = v6; quarantine = v7; sealed = v8; retired = v9; next = k }) ≡ headAnswer (length s) o
-head-there s v1 v2 v3 v4 v5 v6 v7 v8 v9 k o e h =
-    rw e (λ j. Head-of (record { tag = v1; «since_gc» = v2; «reclaim_at» = v3; «live_bytes» = v4; slots = v5; free = v6; quarantine = v7; sealed = v8; retired = v9; next = (let w : k ≡ length s - length (drop k s) = omega (arith, length-drop k s) in w) j }))
+pub head-there : (ret : Bool) (s : List ℕ) (v1 v2 v3 v4 v5 v6 v7 v8 v9 k : ℕ) (o : Option (Head × List ℕ)) → o ≡ give {A = Head} (v1, (v2, (v3, (v4, (v5, (v6, (v7, (v8, v9)))))))) (drop k s) → k ≤ length s →
+    Head-of (record { retiring = ret; tag = v1; «since_gc» = v2; «reclaim_at» = v3; «live_bytes» = v4; slots = v5; free = v6; quarantine = v7; sealed = v8; retired = v9; next = k }) ≡ headAnswer ret (length s) o
+head-there ret s v1 v2 v3 v4 v5 v6 v7 v8 v9 k o e h =
+    rw e (λ j. Head-of (record { retiring = ret; tag = v1; «since_gc» = v2; «reclaim_at» = v3; «live_bytes» = v4; slots = v5; free = v6; quarantine = v7; sealed = v8; retired = v9; next = (let w : k ≡ length s - length (drop k s) = omega (arith, length-drop k s) in w) j }))
 
 -- the count of seals, and the byte after it
 pub end-found : (ret : Bool) (s : List ℕ) (at : ℕ) {r : Decimal} {end : ℕ} (n k : ℕ) → end ≡ sealedEnd ret → r ≡ decimalAnswer (length s) (readField (2 ^ 32 - 1) end (drop at s)) → r ≡ Number n k →
@@ -95,7 +95,7 @@ end-none false s at m e f = value-none s 32 at (e ∙ ap (λ (end : ℕ). decima
 -- the count of the retired, where the line has it
 pub retired-found : (ret : Bool) (s : List ℕ) (at : ℕ) {r : Decimal} (n k : ℕ) → at ≤ length s → r ≡ decimalAnswer (length s) (retiredCount ret .read (drop at s)) → r ≡ Number n k →
     (retiredCount ret .read (drop at s) ≡ give n (drop k s)) × (k ≤ length s)
-unfolding retiredCount number
+unfolding retiredCount number always
 retired-found true s at n k h e f = let p = value-found s 32 at n k e f in (p .0, p .1)
 retired-found false s at n k h e f =
     let v : Number 0 (length s - length (drop at s)) ≡ Number n k = sym e ∙ f in

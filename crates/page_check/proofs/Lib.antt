@@ -2,6 +2,7 @@ pub mod Lines
 pub mod Reading
 pub mod Counting
 pub mod Filling
+pub mod Columned
 pub mod Once
 pub mod Lists
 pub mod Names

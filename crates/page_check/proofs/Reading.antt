@@ -7,6 +7,8 @@ use mathlib.Core.Bool.{Bool, true, false, _&&_}
 use native.Mathlib.Nat.{zero-add}
 use lib.ListN.{length, drop, length-drop, length-append}
 use native.Mathlib.Omega.{arith}
+use lib.Dec.{leb}
+use borrow.Author.Tests.{le-leb}
 use Rattle.word.specs.Lists.{all}
 use Rattle.word.proofs.Bools.{and-true, and-assoc}
 use Rattle.text.specs.Text.{give, Reader, decimal, _>>=_, digitOf, readField, readHex}
@@ -22,7 +24,7 @@ use Rattle.page_check.specs.declared.SlotLine.{SlotLine}
 use Rattle.page_check.specs.declared.SlotRead.{SlotRead}
 use Rattle.page_check.specs.declared.Slots.{Slots}
 use Rattle.page_check.specs.declared.Slots.the-variants.{Lines, NoSlots}
-use Rattle.heap.specs.State.{Slot, dataOf, dataSize}
+use Rattle.heap.specs.State.{Slot, lastGeneration, dataOf, dataSize}
 use Rattle.heap.specs.Packing.{flat}
 use Rattle.pages.specs.Form.{writesWidth}
 use Rattle.pages.specs.Page.{slotFormat, fieldsOf}
@@ -153,12 +155,13 @@ found-rest w s k sl rest e =
     let b = slot-right w .back (drop k s) sl rest e in
     let l : length (slotFormat w .print sl) + length rest ≡ length s - k = sym (length-append (slotFormat w .print sl) rest) ∙ ap length (b .1) ∙ length-drop k s in
     let m : length (slotFormat w .print sl) ≡ length (decimal (sl .generation)) + length (decimal (sl .kind)) + length (decimal (sl .type)) + length (decimal (sl .start)) + length (decimal (sl .writes)) + 2 * length (sl .bytes) + 6 =
-    ap length (slot-prints w sl) ∙ slot-length-decimal (sl .generation) (sl .kind) (sl .type) (sl .start) (sl .writes) (sl .bytes) in
+    ap length (slot-prints w sl) ∙ slot-length-decimal false (sl .generation) (sl .kind) (sl .type) (sl .start) (sl .writes) (sl .bytes) in
     (suffix (slotFormat w .print sl) rest s k (b .1), λ h. omega arith)
 
-sound-same : (sl : Slot) → soundNumbers (sl .generation) (sl .kind) (sl .type) (sl .start) (sl .writes) (length (sl .bytes)) ≡ soundSlot sl
+-- a generation of 32 bits is at most the last
+sound-same : (sl : Slot) → sl .generation < 2 ^ 32 → soundNumbers (sl .generation) (sl .kind) (sl .type) (sl .start) (sl .writes) (length (sl .bytes)) ≡ soundSlot sl
 unfolding soundNumbers soundSlot
-sound-same sl = refl
+sound-same sl h = rw (le-leb (sl .generation) lastGeneration (omega arith), and-true (leb (sl .kind) 3 && leb 1 (sl .generation)))
 
 pub line-found : (w : Bool) (s : List ℕ) (k : ℕ) {r : SlotLine} (x : SlotRead) → r ≡ slotAnswer (length s) (slotFormat w .read (drop k s)) → r ≡ Line x → Found w s k x
 line-found w s k {r} x e f = go (slotFormat w .read (drop k s)) refl e
@@ -185,7 +188,7 @@ line-found w s k {r} x e f = go (slotFormat w .read (drop k s)) refl e
           start = refl;
           writes = refl;
           good = within;
-          sound = sound-same (y .0);
+          sound = sound-same (y .0) (within .0);
         })
 
 pub line-lost : (w : Bool) (s : List ℕ) (k : ℕ) {r : SlotLine} → r ≡ slotAnswer (length s) (slotFormat w .read (drop k s)) → r ≡ NoLine → slotFormat w .read (drop k s) ≡ none

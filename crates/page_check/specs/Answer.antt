@@ -60,6 +60,6 @@ abbrev pub sealsMore : (len tag n from : ℕ) (ok : Bool) → Option (List ℕ �
 sealsMore len tag n from ok none = NoValues
 sealsMore len tag n from ok (some r) = Good (ok && soundSeals tag n from (r .0)) (len - length (r .1))
 
-abbrev pub headAnswer : (len : ℕ) → Option (Head × List ℕ) → HeadLine
-headAnswer len none = NoHead
-headAnswer len (some r) = Head-of (record { tag = r .0 .0; «since_gc» = r .0 .1 .0; «reclaim_at» = r .0 .1 .1 .0; «live_bytes» = r .0 .1 .1 .1 .0; slots = r .0 .1 .1 .1 .1 .0; free = r .0 .1 .1 .1 .1 .1 .0; quarantine = r .0 .1 .1 .1 .1 .1 .1 .0; sealed = r .0 .1 .1 .1 .1 .1 .1 .1 .0; retired = r .0 .1 .1 .1 .1 .1 .1 .1 .1; next = len - length (r .1) })
+abbrev pub headAnswer : (retiring : Bool) (len : ℕ) → Option (Head × List ℕ) → HeadLine
+headAnswer retiring len none = NoHead
+headAnswer retiring len (some r) = Head-of (record { retiring = retiring; tag = r .0 .0; «since_gc» = r .0 .1 .0; «reclaim_at» = r .0 .1 .1 .0; «live_bytes» = r .0 .1 .1 .1 .0; slots = r .0 .1 .1 .1 .1 .0; free = r .0 .1 .1 .1 .1 .1 .0; quarantine = r .0 .1 .1 .1 .1 .1 .1 .0; sealed = r .0 .1 .1 .1 .1 .1 .1 .1 .0; retired = r .0 .1 .1 .1 .1 .1 .1 .1 .1; next = len - length (r .1) })

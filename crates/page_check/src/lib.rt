@@ -14,17 +14,17 @@ ghost use Rattle.pages.specs.Form.{writesWidth, names, sealedName};
 ghost use Rattle.pages.specs.Page.{slotFormat, sealedEnd, retiredCount, headFormat, readPage};
 ghost use Rattle.text.specs.Format.{readAll, number};
 ghost use mathlib.Core.Bool.{_&&_};
-ghost use Rattle.page_check.specs.Partition.{valuesAt, ValuesParsed, marked, Marked, expected, agree, eachOnce};
+ghost use Rattle.page_check.specs.Partition.{valuesAt, ValuesParsed, marked, Marked, expected, right, agree};
 ghost use Rattle.page_check.specs.Filling.{slotsAt, SlotsParsed, RunChecked};
 ghost use Rattle.page_check.specs.Answer.{slotAnswer, slotsAnswer, soundNumbers, indicesMore, sealsMore, sealTest, headAnswer};
 ghost use lib.Dec.{eqb, leb, ltb};
 ghost use Prim.Native.Nat.{_%_};
 ghost use Rattle.handle.specs.Handle.{tagOf, indexOf, generationOf};
 ghost use Rattle.heap.specs.WellFormed.{soundSeals, soundReclaim};
-ghost use Rattle.page_check.specs.Sections.{heapIn, Sectioned, Parsing, verdict, Checking};
-ghost use Rattle.page_check.specs.Parts.{sectionsOf, HeadSectioned, SlotSectioned, ListSectioned};
+ghost use Rattle.page_check.specs.Sections.{heapIn, formIn, listed, obeyed, parted, Sectioned, Parsing, verdict, Checking};
+ghost use Rattle.page_check.specs.Parts.{sectionsOf, HeadSectioned, NamesRead, SlotSectioned, ListSectioned, RetiredSectioned};
 ghost use Rattle.word.specs.Lists.{all};
-ghost use mathlib.Core.Bool.{true};
+ghost use mathlib.Core.Bool.{true, false};
 
 // What a slot's line says: its numbers, how many bytes of data, and where the next line begins.
 pub struct SlotRead {
@@ -200,16 +200,48 @@ fn expected_of(kind: u64) -> u8
     if 0 < kind { 0 } else { 1 }
 }
 
+// What a pass over the lines of the slots asks of the lists: that each slot is in exactly one place, that no free slot is worn out, or that each retired one is.
+pub enum Rule {
+    Once,
+    Young,
+    Worn,
+}
+
+// Is a slot right by a rule, if it stands `n` times in the lists that the rule asks about?
+fn right_by(rule: Rule, generation: u64, kind: u64, n: u8) -> bool
+    requires { ⌜ n ≤ 1 ⌝ }
+    ensures { λ r. ⌜ r ≡ right rule generation kind n ⌝ }
+{
+    match rule {
+        Rule::Once => {
+            let e = expected_of(kind);
+            return n == e;
+        }
+        Rule::Young => {
+            if n == 0 {
+                return true;
+            }
+            return generation != 4294967295;
+        }
+        Rule::Worn => {
+            if n == 0 {
+                return true;
+            }
+            return generation == 4294967295;
+        }
+    }
+}
+
 // Whether bits are what the lines of `count` slots ask for, and what comes after the lines.
 pub struct Chunk {
     pub ok: bool,
     pub next: usize,
 }
 
-fn check_chunk(s: &[u8], at: usize, count: usize, row: &[u64]) -> Chunk
+fn check_chunk(s: &[u8], at: usize, count: usize, rule: Rule, row: &[u64]) -> Chunk
     requires { ⌜ SlotsParsed (now s) at count ⌝ }
     requires { ⌜ at ≤ length (now s) ⌝ }
-    ensures { λ r. ⌜ r .ok ≡ agree (slotsAt (now (s .entry)) at count) (now (row .entry)) 0 ⌝ }
+    ensures { λ r. ⌜ r .ok ≡ agree rule (slotsAt (now (s .entry)) at count) (now (row .entry)) 0 ⌝ }
     ensures { λ r. ⌜ readAll (slotFormat true .read) count (drop at (now (s .entry))) ≡ give (slotsAt (now (s .entry)) at count) (drop (r .next) (now (s .entry))) ⌝ }
     ensures { λ r. ⌜ r .next ≤ length (now (s .entry)) ⌝ }
 {
@@ -221,35 +253,71 @@ fn check_chunk(s: &[u8], at: usize, count: usize, row: &[u64]) -> Chunk
             return Chunk { ok: false, next: k };
         };
         let c = bit_of(row, i);
-        let e = expected_of(x.kind);
-        ok = both(ok, c == e);
+        ok = both(ok, right_by(rule, x.generation, x.kind, c));
         k = x.next;
         i += 1;
     }
     Chunk { ok: ok, next: k }
 }
 
-// Is each of the `m` slots from `base` on, whose lines stand from `at` on, in exactly one place?
-fn check_run(s: &[u8], x: Sections, at: usize, m: usize, base: usize, row: &mut [u64]) -> Chunk
+// Sets the bits of the slots in all three lists, as `mark` does.
+fn mark_dead(s: &[u8], x: Sections, base: usize, m: usize, row: &mut [u64]) -> bool
+    requires { ⌜ Sectioned (now s) x ⌝ }
+    requires { ⌜ m ≤ 64 * length (now row) ⌝ }
+    ensures { λ r. ⌜ Marked (now (row .entry)) (now (row .exit)) base m
+        (heapIn (now (s .entry)) .free ++ heapIn (now (s .entry)) .quarantine ++ heapIn (now (s .entry)) .retired) r ⌝ }
+{
+    if mark(s, x.free_at, x.free, base, m, row) {} else {
+        return false;
+    }
+    if mark(s, x.quarantine_at, x.quarantine, base, m, row) {} else {
+        return false;
+    }
+    mark(s, x.retired_at, x.retired, base, m, row)
+}
+
+// Sets the bits of the slots in the lists that a rule asks about.
+fn mark_listed(s: &[u8], x: Sections, rule: Rule, base: usize, m: usize, row: &mut [u64]) -> bool
+    requires { ⌜ Sectioned (now s) x ⌝ }
+    requires { ⌜ m ≤ 64 * length (now row) ⌝ }
+    ensures { λ r. ⌜ Marked (now (row .entry)) (now (row .exit)) base m (listed rule (heapIn (now (s .entry)))) r ⌝ }
+{
+    match rule {
+        Rule::Once => {
+            return mark_dead(s, x, base, m, row);
+        }
+        Rule::Young => {
+            return mark(s, x.free_at, x.free, base, m, row);
+        }
+        Rule::Worn => {
+            return mark(s, x.retired_at, x.retired, base, m, row);
+        }
+    }
+}
+
+// Are the `m` slots from `base` on, whose lines stand from `at` on, right by a rule?
+fn check_run(
+    s: &[u8],
+    x: Sections,
+    rule: Rule,
+    at: usize,
+    m: usize,
+    base: usize,
+    row: &mut [u64],
+) -> Chunk
     requires { ⌜ Sectioned (now s) x ⌝ }
     requires { ⌜ SlotsParsed (now s) at m ⌝ }
     requires { ⌜ (at ≤ length (now s)) × (m ≤ 64 * length (now row)) ⌝ }
-    ensures { λ r. ⌜ RunChecked (now (s .entry)) (heapIn (now (s .entry)) .free ++ heapIn (now (s .entry)) .quarantine) at m base (r .ok) (r .next) ⌝ }
+    ensures { λ r. ⌜ RunChecked (now (s .entry)) rule (listed rule (heapIn (now (s .entry)))) at m base (r .ok) (r .next) ⌝ }
 {
     memory::clear_u64(row);
-    if mark(s, x.free_at, x.free, base, m, row) {} else {
+    if mark_listed(s, x, rule, base, m, row) {} else {
         return Chunk {
             ok: false,
             next: at,
         };
     }
-    if mark(s, x.quarantine_at, x.quarantine, base, m, row) {} else {
-        return Chunk {
-            ok: false,
-            next: at,
-        };
-    }
-    check_chunk(s, at, m, row)
+    check_chunk(s, at, m, rule, row)
 }
 
 // How many of the slots that are left go into one run: one a bit.
@@ -260,18 +328,17 @@ fn run_of(words: usize, left: usize) -> usize
     if left / 64 < words { left } else { 64 * words }
 }
 
-// Is each slot of a page in exactly one place: live, or once in one of the two lists? The lines of the slots are read once, the lists once a run:
-// one run where the lent words have a bit for each slot.
-fn partition(s: &[u8], x: Sections, row: &mut [u64]) -> bool
+// Are the slots of a page right by a rule? The lines of the slots are read once, the lists once a run: one run where the lent words have a bit for each slot.
+fn check_rule(s: &[u8], x: Sections, rule: Rule, row: &mut [u64]) -> bool
     requires { ⌜ Sectioned (now s) x ⌝ }
     requires { ⌜ 1 ≤ length (now row) ⌝ }
-    ensures { λ r. ⌜ r ≡ eachOnce (heapIn (now (s .entry)) .free ++ heapIn (now (s .entry)) .quarantine) (heapIn (now (s .entry)) .slots) 0 ⌝ }
+    ensures { λ r. ⌜ r ≡ obeyed rule (heapIn (now (s .entry))) ⌝ }
 {
     let mut k = x.slots_at;
     let mut base = 0;
     while base < x.slots {
         let m = run_of(row.len(), x.slots - base);
-        let c = check_run(s, x, k, m, base, row);
+        let c = check_run(s, x, rule, k, m, base, row);
         if c.ok {} else {
             return false;
         }
@@ -279,6 +346,24 @@ fn partition(s: &[u8], x: Sections, row: &mut [u64]) -> bool
         base += m;
     }
     true
+}
+
+// Is each slot of a page in exactly one place: live, or once in one of the lists? And, in a page with `retired`, is no free slot worn out and each retired one?
+fn partition(s: &[u8], x: Sections, row: &mut [u64]) -> bool
+    requires { ⌜ Sectioned (now s) x ⌝ }
+    requires { ⌜ 1 ≤ length (now row) ⌝ }
+    ensures { λ r. ⌜ r ≡ parted (formIn (now (s .entry)) .retiring) (heapIn (now (s .entry))) ⌝ }
+{
+    if check_rule(s, x, Rule::Once, row) {} else {
+        return false;
+    }
+    if x.retiring {} else {
+        return true;
+    }
+    if check_rule(s, x, Rule::Young, row) {} else {
+        return false;
+    }
+    check_rule(s, x, Rule::Worn, row)
 }
 
 // Whether the values of a list are as they are to be, and what comes after them.
@@ -364,8 +449,9 @@ fn check_seals(s: &[u8], at: usize, count: usize, tag: u64, n: usize) -> Values
     Values::Good(ok, k)
 }
 
-// What the line of a heap's numbers says, and where the next line begins.
+// What the line of a heap's numbers says, with `retired` or without, and where the next line begins.
 pub struct HeadRead {
+    pub retiring: bool,
     pub tag: u64,
     pub since_gc: u64,
     pub reclaim_at: u64,
@@ -403,7 +489,7 @@ fn retired_count(s: &[u8], at: usize, retiring: bool) -> Decimal
 
 // Reads the line of a heap's numbers from `at` on.
 pub fn get_head(s: &[u8], at: usize, retiring: bool) -> HeadLine
-    ensures { λ r. ⌜ r ≡ headAnswer (length (now (s .entry))) (headFormat retiring .read (drop at (now (s .entry)))) ⌝ }
+    ensures { λ r. ⌜ r ≡ headAnswer retiring (length (now (s .entry))) (headFormat retiring .read (drop at (now (s .entry)))) ⌝ }
 {
     let end = sealed_end(retiring);
     let Decimal::Number(t, a) = text::get_field(s, at, 255, 44) else {
@@ -434,6 +520,7 @@ pub fn get_head(s: &[u8], at: usize, retiring: bool) -> HeadLine
         return HeadLine::NoHead;
     };
     HeadLine::Head(HeadRead {
+        retiring: retiring,
         tag: t,
         since_gc: u,
         reclaim_at: r,
@@ -448,20 +535,30 @@ pub fn get_head(s: &[u8], at: usize, retiring: bool) -> HeadLine
 }
 
 // What a heap must be besides its partition, part by part.
-fn sound_parts(slots: bool, free: bool, quarantine: bool, seals: bool, reclaim: u64) -> bool
-    ensures { λ r. ⌜ r ≡ (slots && (free && quarantine) && seals && soundReclaim reclaim) ⌝ }
+fn sound_parts(
+    slots: bool,
+    free: bool,
+    quarantine: bool,
+    retired: bool,
+    seals: bool,
+    reclaim: u64,
+) -> bool
+    ensures { λ r. ⌜ r ≡ (slots && (free && quarantine && retired) && seals && soundReclaim reclaim) ⌝ }
 {
-    let a = both(slots, both(free, quarantine));
+    let dead = both(both(free, quarantine), retired);
+    let a = both(slots, dead);
     let b = both(a, seals);
     let c = both(reclaim % 2 == 0, 4096 <= reclaim);
     let d = both(c, reclaim <= 33554432);
     both(b, d)
 }
 
-// What the first pass finds in a page: which name its write counts have, the heap's numbers, where the lines of its slots and lists begin, how many bytes of data the slots have,
-// and whether the heap is sound, its partition apart.
+// What the first pass finds in a page: whether it has the retired list, which name its write counts have, planes or data, the heap's numbers, where the lines of its slots and lists begin,
+// how many bytes of data the slots have, and whether the heap is sound, its partition apart.
 pub struct Sections {
+    pub retiring: bool,
     pub wide: bool,
+    pub planar: bool,
     pub tag: u64,
     pub since_gc: u64,
     pub reclaim_at: u64,
@@ -470,10 +567,12 @@ pub struct Sections {
     pub free: usize,
     pub quarantine: usize,
     pub sealed: usize,
+    pub retired: usize,
     pub slots_at: usize,
     pub free_at: usize,
     pub quarantine_at: usize,
     pub sealed_at: usize,
+    pub retired_at: usize,
     pub size: usize,
     pub sound: bool,
 }
@@ -485,18 +584,22 @@ pub enum Parsed {
 
 fn assembled(
     wide: bool,
+    planar: bool,
     x: HeadRead,
     slots_at: usize,
     free_at: usize,
     quarantine_at: usize,
     sealed_at: usize,
+    retired_at: usize,
     size: usize,
     sound: bool,
 ) -> Sections
-    ensures { λ r. ⌜ r ≡ sectionsOf wide x «slots_at» «free_at» «quarantine_at» «sealed_at» size sound ⌝ }
+    ensures { λ r. ⌜ r ≡ sectionsOf wide planar x «slots_at» «free_at» «quarantine_at» «sealed_at» «retired_at» size sound ⌝ }
 {
     Sections {
+        retiring: x.retiring,
         wide: wide,
+        planar: planar,
         tag: x.tag,
         since_gc: x.since_gc,
         reclaim_at: x.reclaim_at,
@@ -505,27 +608,15 @@ fn assembled(
         free: x.free,
         quarantine: x.quarantine,
         sealed: x.sealed,
+        retired: x.retired,
         slots_at: slots_at,
         free_at: free_at,
         quarantine_at: quarantine_at,
         sealed_at: sealed_at,
+        retired_at: retired_at,
         size: size,
         sound: sound,
     }
-}
-
-// Reads the first two lines.
-fn head_section(s: &[u8]) -> HeadLine
-    ensures { λ r. ⌜ HeadSectioned (now (s .entry)) r ⌝ }
-{
-    let Literal::Past(a) = text::expect(
-        s,
-        0,
-        b"tag,since_gc,reclaim_at,live_bytes,slots,free,quarantine,sealed\n",
-    ) else {
-        return HeadLine::NoHead;
-    };
-    get_head(s, a, true)
 }
 
 // Reads a names line that ends in one of two ways, from `at` on: which way, and where the next line begins.
@@ -539,9 +630,51 @@ fn names_line(s: &[u8], at: usize, front: &[u8], first: &[u8], second: &[u8]) ->
     text::expect_either(s, a, first, second)
 }
 
-// The lines of slots after their names line: where they begin, then as `Slots`, and which name the write counts have.
+// Reads the first two lines.
+fn head_section(s: &[u8]) -> HeadLine
+    ensures { λ r. ⌜ HeadSectioned (now (s .entry)) r ⌝ }
+{
+    let Either::One(retiring, a) = names_line(
+        s,
+        0,
+        b"tag,since_gc,reclaim_at,live_bytes,slots,free,quarantine,sealed",
+        b",retired\n",
+        b"\n",
+    ) else {
+        return HeadLine::NoHead;
+    };
+    get_head(s, a, retiring)
+}
+
+// What the names line of the slots says: which name the write counts have, planes or data, and where the next line begins; or that it is none.
+pub enum SlotNames {
+    Named(bool, bool, usize),
+    Unnamed,
+}
+
+// Reads the names line of the slots from `at` on.
+fn slot_names(s: &[u8], at: usize) -> SlotNames
+    requires { ⌜ at ≤ length (now s) ⌝ }
+    ensures { λ r. ⌜ NamesRead (now (s .entry)) at r ⌝ }
+{
+    let Either::One(wide, a) = names_line(
+        s,
+        at,
+        b"generation,kind,type,start,",
+        b"writes64,",
+        b"writes,",
+    ) else {
+        return SlotNames::Unnamed;
+    };
+    let Either::One(planar, b) = text::expect_either(s, a, b"planes\n", b"data\n") else {
+        return SlotNames::Unnamed;
+    };
+    SlotNames::Named(wide, planar, b)
+}
+
+// The lines of slots after their names line: where they begin, then as `Slots`, then what the names line says.
 pub enum SlotSection {
-    Found(usize, bool, usize, usize, bool),
+    Found(usize, bool, usize, usize, bool, bool),
     Lost,
 }
 
@@ -550,19 +683,13 @@ fn slot_section(s: &[u8], at: usize, count: usize) -> SlotSection
     requires { ⌜ at ≤ length (now s) ⌝ }
     ensures { λ r. ⌜ SlotSectioned (now (s .entry)) at count r ⌝ }
 {
-    let Either::One(wide, b) = names_line(
-        s,
-        at,
-        b"generation,kind,type,start,",
-        b"writes64,data\n",
-        b"writes,data\n",
-    ) else {
+    let SlotNames::Named(wide, planar, b) = slot_names(s, at) else {
         return SlotSection::Lost;
     };
     let Slots::Lines(ok, size, next) = check_slots(s, b, count, wide) else {
         return SlotSection::Lost;
     };
-    SlotSection::Found(b, ok, size, next, wide)
+    SlotSection::Found(b, ok, size, next, wide, planar)
 }
 
 // The values of a list after its name: where they begin, then as `Values`.
@@ -599,6 +726,18 @@ fn seal_section(s: &[u8], at: usize, count: usize, tag: u64, n: usize) -> ListSe
     ListSection::Listed(b, ok, next)
 }
 
+// Reads the name of the retired, then `count` slot indices, where the page has them: are all below n?
+fn retired_section(s: &[u8], at: usize, retiring: bool, count: usize, n: usize) -> ListSection
+    requires { ⌜ at ≤ length (now s) ⌝ }
+    requires { ⌜ (retiring ≡ false → count ≡ 0) ⌝ }
+    ensures { λ r. ⌜ RetiredSectioned retiring (now (s .entry)) at count (all (λ i. ltb i n)) r ⌝ }
+{
+    if retiring {
+        return index_section(s, b"retired\n", at, count, n);
+    }
+    ListSection::Listed(at, true, at)
+}
+
 // Is a text a page? Nothing but the text is looked at.
 pub fn parse_page(s: &[u8]) -> Parsed
     ensures { λ r. ⌜ Parsing (now (s .entry)) r ⌝ }
@@ -606,7 +745,7 @@ pub fn parse_page(s: &[u8]) -> Parsed
     let HeadLine::Head(x) = head_section(s) else {
         return Parsed::NotPage;
     };
-    let SlotSection::Found(b, ok1, size, c, wide) = slot_section(s, x.next, x.slots) else {
+    let SlotSection::Found(b, ok1, size, c, wide, planar) = slot_section(s, x.next, x.slots) else {
         return Parsed::NotPage;
     };
     let ListSection::Listed(d, ok2, e) = index_section(s, b"free\n", c, x.free, x.slots) else {
@@ -619,11 +758,15 @@ pub fn parse_page(s: &[u8]) -> Parsed
     let ListSection::Listed(j, ok4, k) = seal_section(s, i, x.sealed, x.tag, x.slots) else {
         return Parsed::NotPage;
     };
-    if k < s.len() {
+    let ListSection::Listed(l, ok5, m) = retired_section(s, k, x.retiring, x.retired, x.slots)
+    else {
+        return Parsed::NotPage;
+    };
+    if m < s.len() {
         return Parsed::NotPage;
     }
-    let sound = sound_parts(ok1, ok2, ok3, ok4, x.reclaim_at);
-    Parsed::Page(assembled(wide, x, b, d, g, j, size, sound))
+    let sound = sound_parts(ok1, ok2, ok3, ok5, ok4, x.reclaim_at);
+    Parsed::Page(assembled(wide, planar, x, b, d, g, j, l, size, sound))
 }
 
 // What the first pass tells of a text: a page that can be read, or why it is refused.

@@ -26,15 +26,15 @@ use Rattle.pages.specs.Answer.{PageWritten, textAnswer, textOut}
 use Rattle.page_reader.specs.Reading.{readInto, PageRead}
 use Rattle.page_door.specs.Page.{writing, pageOut, reading}
 
-module _ (l : Lent) {marks work marks′ work′ : List ℕ} {e : Entry} (s : Entered (marks ∷ work ∷ []) (heapTests marks work l) e (marks′ ∷ work′ ∷ [])) (out : List ℕ) where
-  pub write-refused : {why : Refusal} {r : Answer} → e ≡ Not why → r ≡ told (Refused why) → (asked r marks′ work′ ≡ writing marks work l out) × (out ≡ pageOut marks work l out)
+module _ (l : Lent) {marks work marks′ work′ : List ℕ} {e : Entry} (s : Entered (marks ∷ work ∷ []) (heapTests marks work l) e (marks′ ∷ work′ ∷ [])) (planar : Bool) (out : List ℕ) where
+  pub write-refused : {why : Refusal} {r : Answer} → e ≡ Not why → r ≡ told (Refused why) → (asked r marks′ work′ ≡ writing marks work l planar out) × (out ≡ pageOut marks work l planar out)
   write-refused i t =
-      (ask-refused s here nothing l (λ h. textAnswer (pageText written h) out) i t, sym (whether-not s (λ why. out) (textOut (pageText written (view l)) out) i))
+      (ask-refused s here nothing l (λ h. textAnswer (pageText (written planar) h) out) i t, sym (whether-not s (λ why. out) (textOut (pageText (written planar) (view l)) out) i))
 
-  pub write-done : {out′ : List ℕ} {reply : Reply} {r : Answer} → e ≡ Ready → PageWritten out out′ (pageText written (view l)) reply → r ≡ told reply →
-      (asked r marks′ work′ ≡ writing marks work l out) × (out′ ≡ pageOut marks work l out)
+  pub write-done : {out′ : List ℕ} {reply : Reply} {r : Answer} → e ≡ Ready → PageWritten out out′ (pageText (written planar) (view l)) reply → r ≡ told reply →
+      (asked r marks′ work′ ≡ writing marks work l planar out) × (out′ ≡ pageOut marks work l planar out)
   write-done i p t =
-      (ask-ready s here nothing l (λ h. textAnswer (pageText written h) out) i (p .answer) t, p .out ∙ sym (whether-ready s (λ why. out) (textOut (pageText written (view l)) out) i))
+      (ask-ready s here nothing l (λ h. textAnswer (pageText (written planar) h) out) i (p .answer) t, p .out ∙ sym (whether-ready s (λ why. out) (textOut (pageText (written planar) (view l)) out) i))
 
   pub write-formed : e ≡ Ready → wellFormed l ≡ true
   write-formed i = entered l s i

@@ -14,44 +14,46 @@ ghost use lib.ListN.{length};
 ghost use Rattle.door.specs.HeapCalls.{asked, outcome};
 ghost use Rattle.page_door.specs.Page.{measuring, writing, pageOut, reading};
 
-// How many bytes a heap's page has: 18, 1. `write_page` takes so many, no more and no fewer.
+// How many bytes a heap's page has, with byte planes or data: 18, 1. `write_page` takes so many, no more and no fewer.
 #[no_mangle]
 pub extern "C" fn yexwalu_page_length(
     heap: Heap,
     narrow: &[u32],
     wide: &[u64],
     pool: &[u8],
+    planar: bool,
     marks: &mut [u8],
     work: &mut [u64],
 ) -> Answer
     ensures { λ r. ⌜ asked r (now (marks .exit)) (now (work .exit))
-        ≡ measuring (now (marks .entry)) (now (work .entry)) (lent heap (now (narrow .entry)) (now (wide .entry)) (now (pool .entry))) ⌝ }
+        ≡ measuring (now (marks .entry)) (now (work .entry)) (lent heap (now (narrow .entry)) (now (wide .entry)) (now (pool .entry))) planar ⌝ }
 {
     match door::enter(heap, narrow, wide, pool, marks, work) {
         Entry::Not(why) => Reply::Not(why).numbers(),
-        Entry::Ready => pages::measure(heap, narrow, wide, pool).numbers(),
+        Entry::Ready => pages::measure(heap, narrow, wide, pool, planar).numbers(),
     }
 }
 
-// Writes a heap's page to `out`: 18, 1, 7. The answer is its length.
+// Writes a heap's page to `out`, with byte planes or data: 18, 1, 7. The answer is its length.
 #[no_mangle]
 pub extern "C" fn yexwalu_write_page(
     heap: Heap,
     narrow: &[u32],
     wide: &[u64],
     pool: &[u8],
+    planar: bool,
     out: &mut [u8],
     marks: &mut [u8],
     work: &mut [u64],
 ) -> Answer
     ensures { λ r. ⌜ asked r (now (marks .exit)) (now (work .exit))
-        ≡ writing (now (marks .entry)) (now (work .entry)) (lent heap (now (narrow .entry)) (now (wide .entry)) (now (pool .entry))) (now (out .entry)) ⌝ }
+        ≡ writing (now (marks .entry)) (now (work .entry)) (lent heap (now (narrow .entry)) (now (wide .entry)) (now (pool .entry))) planar (now (out .entry)) ⌝ }
     ensures { λ _. ⌜ now (out .exit)
-        ≡ pageOut (now (marks .entry)) (now (work .entry)) (lent heap (now (narrow .entry)) (now (wide .entry)) (now (pool .entry))) (now (out .entry)) ⌝ }
+        ≡ pageOut (now (marks .entry)) (now (work .entry)) (lent heap (now (narrow .entry)) (now (wide .entry)) (now (pool .entry))) planar (now (out .entry)) ⌝ }
 {
     match door::enter(heap, narrow, wide, pool, marks, work) {
         Entry::Not(why) => Reply::Not(why).numbers(),
-        Entry::Ready => pages::write(heap, narrow, wide, pool, out).numbers(),
+        Entry::Ready => pages::write(heap, narrow, wide, pool, planar, out).numbers(),
     }
 }
 
@@ -68,7 +70,8 @@ fn scratch_fits(narrow: &[u32], marks: &[u8], work: &[u64]) -> bool
     }
 }
 
-// Reads a page into lent memory: 18, 17, 1, 6, 5. What the lent heap held before isn't looked at.
+// Reads a page into lent memory: 18, 17, 1, 6, 5. What the lent heap held before isn't looked at. The answer tells the form that was met: first the bits of a write count, 64 or 32;
+// second 1 for `retired`, 2 for `planes`, 3 for both, 0 for neither.
 #[no_mangle]
 pub extern "C" fn yexwalu_read_page(
     heap: Heap,

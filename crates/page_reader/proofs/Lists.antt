@@ -1,4 +1,4 @@
--- The lists of a page, put into their runs. Assumes nothing.
+-- The quarantine, the retired and the seals of a page, put into their runs. Assumes nothing.
 use Prim.Native.Nat.{ℕ, _+_, _-_, _*_, _/_, _≤_}
 use mathlib.Core.List.{List, _++_}
 use mathlib.Core.Path.{_≡_, refl, sym, ap, _∙_, subst}
@@ -10,21 +10,13 @@ use Rattle.word.proofs.RunLaws.{run-part, length-run, lent-run, lent-above, len
 use Rattle.text.specs.Put.{putText}
 use Rattle.heap.specs.Lent.{Lent, columns, cut, lent}
 use Rattle.heap.specs.declared.Heap.{Heap}
-use Rattle.heap.proofs.Runs.{recount, with-free, with-quarantine, with-sealed}
+use Rattle.heap.proofs.Runs.{recount, with-quarantine, with-retired, with-sealed}
 use Rattle.page_reader.specs.Columns.{withLists, ListsFilled}
 
 -- a run lent and returned
 module _ (h : Heap) (S : ℕ) (narrow wide pool ys : List ℕ) (long : length ys ≡ S) where
   abbrev l : Lent
   l = cut h S narrow wide pool
-
-  lent-free : 4 * S ≤ length narrow → cut h S (putMid (3 * S) (4 * S - 3 * S) narrow ys) wide pool ≡ with-free l ys
-  lent-free room =
-      let sum : 4 * S ≡ 3 * S + S = omega arith in
-      λ j. columns h S (lent-below S (3 * S) (4 * S) narrow ys sum room long 0 (omega arith) j) (lent-below S (3 * S) (4 * S) narrow ys sum room long S (omega arith) j)
-      (lent-below S (3 * S) (4 * S) narrow ys sum room long (2 * S) (omega arith) j) (l .start) (l .end) (l .writes) pool (lent-run S (3 * S) (4 * S) narrow ys sum room long j)
-      (lent-above S (3 * S) (4 * S) narrow ys sum room long (4 * S) (omega arith) j) (l .sealed) (lent-above S (3 * S) (4 * S) narrow ys sum room long (5 * S) (omega arith) j)
-      (lent-past S (3 * S) (4 * S) narrow ys sum room long (6 * S) (omega arith) j ++ drop (4 * S) wide)
 
   lent-quarantine : 5 * S ≤ length narrow → cut h S (putMid (4 * S) (5 * S - 4 * S) narrow ys) wide pool ≡ with-quarantine l ys
   lent-quarantine room =
@@ -33,6 +25,14 @@ module _ (h : Heap) (S : ℕ) (narrow wide pool ys : List ℕ) (long : length ys
       (lent-below S (4 * S) (5 * S) narrow ys sum room long (2 * S) (omega arith) j) (l .start) (l .end) (l .writes) pool (lent-below S (4 * S) (5 * S) narrow ys sum room long (3 * S) (omega arith) j)
       (lent-run S (4 * S) (5 * S) narrow ys sum room long j) (l .sealed) (lent-above S (4 * S) (5 * S) narrow ys sum room long (5 * S) (omega arith) j)
       (lent-past S (4 * S) (5 * S) narrow ys sum room long (6 * S) (omega arith) j ++ drop (4 * S) wide)
+
+  lent-retired : 6 * S ≤ length narrow → cut h S (putMid (5 * S) (6 * S - 5 * S) narrow ys) wide pool ≡ with-retired l ys
+  lent-retired room =
+      let sum : 6 * S ≡ 5 * S + S = omega arith in
+      λ j. columns h S (lent-below S (5 * S) (6 * S) narrow ys sum room long 0 (omega arith) j) (lent-below S (5 * S) (6 * S) narrow ys sum room long S (omega arith) j)
+      (lent-below S (5 * S) (6 * S) narrow ys sum room long (2 * S) (omega arith) j) (l .start) (l .end) (l .writes) pool (lent-below S (5 * S) (6 * S) narrow ys sum room long (3 * S) (omega arith) j)
+      (lent-below S (5 * S) (6 * S) narrow ys sum room long (4 * S) (omega arith) j) (l .sealed) (lent-run S (5 * S) (6 * S) narrow ys sum room long j)
+      (lent-past S (5 * S) (6 * S) narrow ys sum room long (6 * S) (omega arith) j ++ drop (4 * S) wide)
 
   lent-sealed : 4 * S ≤ length wide → cut h S narrow (putMid (3 * S) (4 * S - 3 * S) wide ys) pool ≡ with-sealed l ys
   lent-sealed room =
@@ -48,57 +48,57 @@ part-length S at to xs e r = ap length (run-part S at xs at to refl e) ∙ lengt
 pub part-room : (S at to n : ℕ) (xs : List ℕ) → to ≡ at + S → to ≤ length xs → n ≤ S → n ≤ length (take (to - at) (drop at xs))
 part-room S at to n xs e r h = omega (arith, part-length S at to xs e r)
 
-pub free-room : (narrow : List ℕ) (n : ℕ) → n ≤ length narrow / 6 → n ≤ length (take (4 * (length narrow / 6) - 3 * (length narrow / 6)) (drop (3 * (length narrow / 6)) narrow))
-free-room narrow n h = part-room (length narrow / 6) (3 * (length narrow / 6)) (4 * (length narrow / 6)) n narrow (omega arith) (omega arith) h
+pub quarantine-room : (narrow : List ℕ) (n : ℕ) → n ≤ length narrow / 6 → n ≤ length (take (5 * (length narrow / 6) - 4 * (length narrow / 6)) (drop (4 * (length narrow / 6)) narrow))
+quarantine-room narrow n h = part-room (length narrow / 6) (4 * (length narrow / 6)) (5 * (length narrow / 6)) n narrow (omega arith) (omega arith) h
 
--- once the free list is there
-pub quarantine-room : (narrow ys : List ℕ) (n : ℕ) → length ys ≡ length (take (4 * (length narrow / 6) - 3 * (length narrow / 6)) (drop (3 * (length narrow / 6)) narrow)) → n ≤ length narrow / 6 →
-    n ≤ length (take (5 * (length narrow / 6) - 4 * (length narrow / 6)) (drop (4 * (length narrow / 6)) (putMid (3 * (length narrow / 6)) (4 * (length narrow / 6) - 3 * (length narrow / 6)) narrow ys)))
-quarantine-room narrow ys n e h =
+-- once the quarantine is there
+pub retired-room : (narrow ys : List ℕ) (n : ℕ) → length ys ≡ length (take (5 * (length narrow / 6) - 4 * (length narrow / 6)) (drop (4 * (length narrow / 6)) narrow)) → n ≤ length narrow / 6 →
+    n ≤ length (take (6 * (length narrow / 6) - 5 * (length narrow / 6)) (drop (5 * (length narrow / 6)) (putMid (4 * (length narrow / 6)) (5 * (length narrow / 6) - 4 * (length narrow / 6)) narrow ys)))
+retired-room narrow ys n e h =
     let S : ℕ = length narrow / 6 in
-    part-room S (4 * S) (5 * S) n (putMid (3 * S) (4 * S - 3 * S) narrow ys) (omega arith) (omega (arith, same-len-mid (3 * S) (4 * S - 3 * S) narrow ys e)) h
+    part-room S (5 * S) (6 * S) n (putMid (4 * S) (5 * S - 4 * S) narrow ys) (omega arith) (omega (arith, same-len-mid (4 * S) (5 * S - 4 * S) narrow ys e)) h
 
-module _ (narrow wide : List ℕ) (f q z ys₁ ys₂ ys₃ : List ℕ) where
+module _ (narrow wide : List ℕ) (q r z ys₁ ys₂ ys₃ : List ℕ) where
   abbrev S : ℕ
   S = length narrow / 6
 
   abbrev narrow₁ : List ℕ
-  narrow₁ = putMid (3 * S) (4 * S - 3 * S) narrow ys₁
+  narrow₁ = putMid (4 * S) (5 * S - 4 * S) narrow ys₁
 
   pub lists-filled :
       4 * (length narrow / 6) ≤ length wide →
-      ys₁ ≡ putText (take (4 * (length narrow / 6) - 3 * (length narrow / 6)) (drop (3 * (length narrow / 6)) narrow)) 0 f →
-      length ys₁ ≡ length (take (4 * (length narrow / 6) - 3 * (length narrow / 6)) (drop (3 * (length narrow / 6)) narrow)) →
-      ys₂ ≡ putText (take (5 * (length narrow / 6) - 4 * (length narrow / 6)) (drop (4 * (length narrow / 6)) (putMid (3 * (length narrow / 6)) (4 * (length narrow / 6) - 3 * (length narrow / 6)) narrow ys₁))) 0 q →
-      length ys₂ ≡ length (take (5 * (length narrow / 6) - 4 * (length narrow / 6)) (drop (4 * (length narrow / 6)) (putMid (3 * (length narrow / 6)) (4 * (length narrow / 6) - 3 * (length narrow / 6)) narrow ys₁))) →
+      ys₁ ≡ putText (take (5 * (length narrow / 6) - 4 * (length narrow / 6)) (drop (4 * (length narrow / 6)) narrow)) 0 q →
+      length ys₁ ≡ length (take (5 * (length narrow / 6) - 4 * (length narrow / 6)) (drop (4 * (length narrow / 6)) narrow)) →
+      ys₂ ≡ putText (take (6 * (length narrow / 6) - 5 * (length narrow / 6)) (drop (5 * (length narrow / 6)) (putMid (4 * (length narrow / 6)) (5 * (length narrow / 6) - 4 * (length narrow / 6)) narrow ys₁))) 0 r →
+      length ys₂ ≡ length (take (6 * (length narrow / 6) - 5 * (length narrow / 6)) (drop (5 * (length narrow / 6)) (putMid (4 * (length narrow / 6)) (5 * (length narrow / 6) - 4 * (length narrow / 6)) narrow ys₁))) →
       ys₃ ≡ putText (take (4 * (length narrow / 6) - 3 * (length narrow / 6)) (drop (3 * (length narrow / 6)) wide)) 0 z →
       length ys₃ ≡ length (take (4 * (length narrow / 6) - 3 * (length narrow / 6)) (drop (3 * (length narrow / 6)) wide)) →
-      ListsFilled narrow wide (putMid (4 * (length narrow / 6)) (5 * (length narrow / 6) - 4 * (length narrow / 6)) (putMid (3 * (length narrow / 6)) (4 * (length narrow / 6) - 3 * (length narrow / 6)) narrow ys₁) ys₂)
-      (putMid (3 * (length narrow / 6)) (4 * (length narrow / 6) - 3 * (length narrow / 6)) wide ys₃) f q z
+      ListsFilled narrow wide (putMid (5 * (length narrow / 6)) (6 * (length narrow / 6) - 5 * (length narrow / 6)) (putMid (4 * (length narrow / 6)) (5 * (length narrow / 6) - 4 * (length narrow / 6)) narrow ys₁) ys₂)
+      (putMid (3 * (length narrow / 6)) (4 * (length narrow / 6) - 3 * (length narrow / 6)) wide ys₃) q r z
   lists-filled room e₁ n₁ e₂ n₂ e₃ n₃ =
-      let long₁ : length ys₁ ≡ S = n₁ ∙ part-length S (3 * S) (4 * S) narrow (omega arith) (omega arith) in
-      let same₁ : length narrow₁ ≡ length narrow = same-len-mid (3 * S) (4 * S - 3 * S) narrow ys₁ n₁ in
-      let long₂ : length ys₂ ≡ S = n₂ ∙ part-length S (4 * S) (5 * S) narrow₁ (omega arith) (omega arith) in
-      let same₂ : length (putMid (4 * S) (5 * S - 4 * S) narrow₁ ys₂) ≡ length narrow = same-len-mid (4 * S) (5 * S - 4 * S) narrow₁ ys₂ n₂ ∙ same₁ in
+      let long₁ : length ys₁ ≡ S = n₁ ∙ part-length S (4 * S) (5 * S) narrow (omega arith) (omega arith) in
+      let same₁ : length narrow₁ ≡ length narrow = same-len-mid (4 * S) (5 * S - 4 * S) narrow ys₁ n₁ in
+      let long₂ : length ys₂ ≡ S = n₂ ∙ part-length S (5 * S) (6 * S) narrow₁ (omega arith) (omega arith) in
+      let same₂ : length (putMid (5 * S) (6 * S - 5 * S) narrow₁ ys₂) ≡ length narrow = same-len-mid (5 * S) (6 * S - 5 * S) narrow₁ ys₂ n₂ ∙ same₁ in
       let long₃ : length ys₃ ≡ S = n₃ ∙ part-length S (3 * S) (4 * S) wide (omega arith) room in
       let wide₁ : List ℕ = putMid (3 * S) (4 * S - 3 * S) wide ys₃ in
-      let sum : 4 * S ≡ 3 * S + S = omega arith in
-      let f-is : ys₁ ≡ putText (run S (3 * S) narrow) 0 f = e₁ ∙ ap (λ (t : List ℕ). putText t 0 f) (run-part S (3 * S) narrow (3 * S) (4 * S) refl sum) in
-      let beside : run S (4 * S) narrow₁ ≡ run S (4 * S) narrow = lent-above S (3 * S) (4 * S) narrow ys₁ sum (omega arith) long₁ (4 * S) (omega arith) in
-      let q-is : ys₂ ≡ putText (run S (4 * S) narrow) 0 q =
-      e₂ ∙ ap (λ (t : List ℕ). putText t 0 q) (run-part S (4 * S) narrow₁ (4 * S) (5 * S) refl (omega arith) ∙ beside) in
-      let z-is : ys₃ ≡ putText (run S (3 * S) wide) 0 z = e₃ ∙ ap (λ (t : List ℕ). putText t 0 z) (run-part S (3 * S) wide (3 * S) (4 * S) refl sum) in
+      let sum : 5 * S ≡ 4 * S + S = omega arith in
+      let q-is : ys₁ ≡ putText (run S (4 * S) narrow) 0 q = e₁ ∙ ap (λ (t : List ℕ). putText t 0 q) (run-part S (4 * S) narrow (4 * S) (5 * S) refl sum) in
+      let beside : run S (5 * S) narrow₁ ≡ run S (5 * S) narrow = lent-above S (4 * S) (5 * S) narrow ys₁ sum (omega arith) long₁ (5 * S) (omega arith) in
+      let r-is : ys₂ ≡ putText (run S (5 * S) narrow) 0 r =
+      e₂ ∙ ap (λ (t : List ℕ). putText t 0 r) (run-part S (5 * S) narrow₁ (5 * S) (6 * S) refl (omega arith) ∙ beside) in
+      let z-is : ys₃ ≡ putText (run S (3 * S) wide) 0 z = e₃ ∙ ap (λ (t : List ℕ). putText t 0 z) (run-part S (3 * S) wide (3 * S) (4 * S) refl (omega arith)) in
       record {
         lists = λ h pool.
-            recount h narrow (putMid (4 * S) (5 * S - 4 * S) narrow₁ ys₂) wide₁ pool same₂
-            ∙ lent-quarantine h S narrow₁ wide₁ pool ys₂ long₂ (omega arith)
-            ∙ ap (λ (x : Lent). with-quarantine x ys₂) (lent-free h S narrow wide₁ pool ys₁ long₁ (omega arith))
-            ∙ ap (λ (x : Lent). with-quarantine (with-free x ys₁) ys₂) (lent-sealed h S narrow wide pool ys₃ long₃ room)
+            recount h narrow (putMid (5 * S) (6 * S - 5 * S) narrow₁ ys₂) wide₁ pool same₂
+            ∙ lent-retired h S narrow₁ wide₁ pool ys₂ long₂ (omega arith)
+            ∙ ap (λ (x : Lent). with-retired x ys₂) (lent-quarantine h S narrow wide₁ pool ys₁ long₁ (omega arith))
+            ∙ ap (λ (x : Lent). with-retired (with-quarantine x ys₁) ys₂) (lent-sealed h S narrow wide pool ys₃ long₃ room)
             ∙ (let l : Lent = cut h S narrow wide pool in
-            λ j. columns h S (l .generation) (l .kind) (l .type) (l .start) (l .end) (l .writes) pool (f-is j) (q-is j) (z-is j) (l .retired) (l .over));
+            λ j. columns h S (l .generation) (l .kind) (l .type) (l .start) (l .end) (l .writes) pool (l .free) (q-is j) (z-is j) (r-is j) (l .over));
       }
 
-  pub lists-same : length ys₁ ≡ length (take (4 * (length narrow / 6) - 3 * (length narrow / 6)) (drop (3 * (length narrow / 6)) narrow)) →
-      length ys₂ ≡ length (take (5 * (length narrow / 6) - 4 * (length narrow / 6)) (drop (4 * (length narrow / 6)) (putMid (3 * (length narrow / 6)) (4 * (length narrow / 6) - 3 * (length narrow / 6)) narrow ys₁))) →
-      length (putMid (4 * (length narrow / 6)) (5 * (length narrow / 6) - 4 * (length narrow / 6)) (putMid (3 * (length narrow / 6)) (4 * (length narrow / 6) - 3 * (length narrow / 6)) narrow ys₁) ys₂) ≡ length narrow
-  lists-same n₁ n₂ = same-len-mid (4 * S) (5 * S - 4 * S) narrow₁ ys₂ n₂ ∙ same-len-mid (3 * S) (4 * S - 3 * S) narrow ys₁ n₁
+  pub lists-same : length ys₁ ≡ length (take (5 * (length narrow / 6) - 4 * (length narrow / 6)) (drop (4 * (length narrow / 6)) narrow)) →
+      length ys₂ ≡ length (take (6 * (length narrow / 6) - 5 * (length narrow / 6)) (drop (5 * (length narrow / 6)) (putMid (4 * (length narrow / 6)) (5 * (length narrow / 6) - 4 * (length narrow / 6)) narrow ys₁))) →
+      length (putMid (5 * (length narrow / 6)) (6 * (length narrow / 6) - 5 * (length narrow / 6)) (putMid (4 * (length narrow / 6)) (5 * (length narrow / 6) - 4 * (length narrow / 6)) narrow ys₁) ys₂) ≡ length narrow
+  lists-same n₁ n₂ = same-len-mid (5 * S) (6 * S - 5 * S) narrow₁ ys₂ n₂ ∙ same-len-mid (4 * S) (5 * S - 4 * S) narrow ys₁ n₁

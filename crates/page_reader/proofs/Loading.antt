@@ -1,19 +1,21 @@
 -- Zeros, then what was filled in: a column as a heap lies there. Assumes nothing.
-use Prim.Native.Nat.{ℕ, zero, suc, _+_, _-_, _≤_, _<_}
+use Prim.Native.Nat.{ℕ, zero, suc, _+_, _-_, _^_, _≤_, _<_}
 use mathlib.Core.List.{List, _++_}
-use mathlib.Core.Path.{_≡_, sym, ap, _∙_}
+use mathlib.Core.Bool.{Bool, true, false}
+use mathlib.Core.Path.{_≡_, refl, sym, ap, _∙_}
 use lib.ListN.{length, drop, replicate}
 use native.Mathlib.Omega.{arith}
 use native.Mathlib.Nat.{zero-add}
 use Rattle.word.proofs.PutLaws.{put-all}
 use Rattle.text.specs.Put.{putText}
 use Rattle.heap.specs.Packing.{pad}
+use Rattle.heap.specs.State.{State}
 use Rattle.heap.specs.Lent.{headerOf}
 use Rattle.heap.specs.declared.Heap.{Heap}
 use Rattle.heap.proofs.Packing.{drop-replicate}
-use Rattle.pages.specs.Page.{Unsaved}
+use Rattle.pages.specs.Page.{Unsaved, moved}
 use Rattle.pages.proofs.Laws.{written-read}
-use Rattle.page_check.specs.Sections.{heapIn, formIn, Sectioned}
+use Rattle.page_check.specs.Sections.{heapIn, formIn, broughtIn, Sectioned}
 use Rattle.page_check.specs.declared.Sections.{Sections}
 
 -- zeros filled in from the front
@@ -25,11 +27,33 @@ padded n a xs e =
 
 -- THE HEADER
 
+-- moving changes two counts
+moved-header : (b : Bool) (h : State) →
+    _≡_ {A = Heap} (record {
+      tag = h .tag;
+      «since_gc» = h .sinceGc;
+      «reclaim_at» = h .reclaimAt;
+      «live_bytes» = h .liveBytes;
+      epoch = h .epoch;
+      log = h .log;
+      slots = length (h .slots);
+      free = length (moved b h .free);
+      quarantine = length (h .quarantine);
+      retired = length (moved b h .retired);
+      sealed = length (h .sealed);
+    }) (headerOf (moved b h))
+unfolding headerOf
+moved-header true h = refl
+moved-header false h = refl
+
 module _ (s : List ℕ) (x : Sections) (p : Sectioned s x) where
   pub tag-fits : x .tag < 256
   tag-fits = omega (arith, p .tag, written-read s (formIn s) (heapIn s) (p .page) .1 .tag)
 
-  pub header-is :
+  pub sum-fits : (moved : ℕ) → moved + length (heapIn s .retired) < 2 ^ 32 → moved + x .retired < 2 ^ 64
+  sum-fits moved h = omega (arith, p .retiredCount)
+
+  pub header-is : (free moved : ℕ) → free ≡ length (broughtIn s .free) → moved + length (heapIn s .retired) ≡ length (broughtIn s .retired) →
       _≡_ {A = Heap} (record {
         tag = x .tag;
         «since_gc» = x .«since_gc»;
@@ -38,14 +62,13 @@ module _ (s : List ℕ) (x : Sections) (p : Sectioned s x) where
         epoch = 0;
         log = replicate 16 0;
         slots = x .slots;
-        free = x .free;
+        free = free;
         quarantine = x .quarantine;
-        retired = 0;
+        retired = moved + x .retired;
         sealed = x .sealed;
-      }) (headerOf (heapIn s))
-  unfolding headerOf
-  header-is i =
-      let u : Unsaved (heapIn s) = written-read s (formIn s) (heapIn s) (p .page) .2 in
+      }) (headerOf (broughtIn s))
+  header-is free moved f m =
+      (λ i. let u : Unsaved (heapIn s) = written-read s (formIn s) (heapIn s) (p .page) .2 in
       record {
         tag = p .tag i;
         «since_gc» = p .since i;
@@ -54,8 +77,8 @@ module _ (s : List ℕ) (x : Sections) (p : Sectioned s x) where
         epoch = sym (u .epoch) i;
         log = sym (u .log) i;
         slots = p .slotCount i;
-        free = p .freeCount i;
+        free = f i;
         quarantine = p .quarantineCount i;
-        retired = 0;
+        retired = (ap (λ (n : ℕ). moved + n) (p .retiredCount) ∙ m) i;
         sealed = p .sealedCount i;
-      }
+      }) ∙ moved-header (formIn s .retiring) (heapIn s)

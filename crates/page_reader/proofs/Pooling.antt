@@ -1,7 +1,7 @@
 -- The data of a page's slots, put into the pool slot by slot. Assumes nothing.
 use Prim.Native.Nat.{ℕ, _+_, _-_, _*_, _≤_, _<_}
-use mathlib.Core.List.{List, [], _∷_, _++_, append-assoc}
-use mathlib.Core.Bool.{true}
+use mathlib.Core.List.{List, [], _∷_, _++_, append-assoc, map, map-append}
+use mathlib.Core.Bool.{Bool, true, false}
 use mathlib.Core.Path.{_≡_, refl, sym, ap, _∙_}
 use lib.ListN.{length, take, drop, getD, length-drop, length-append}
 use lib.Seq.{take-all, drop-append-seam, drop-drop}
@@ -15,15 +15,17 @@ use Rattle.text.proofs.Laws.{hex-forth, hex-length}
 use Rattle.text.proofs.Putting.{puts-puts, puts-at, puts-none}
 use Rattle.heap.specs.State.{Slot, dataOf, dataSize}
 use Rattle.heap.specs.Packing.{flat}
-use Rattle.pages.specs.Page.{slotFormat}
-use Rattle.pages.specs.Columns.{slot}
+use Rattle.pages.specs.Form.{fromColumn}
+use Rattle.pages.specs.Page.{slotFormat, outOfColumn}
+use Rattle.pages.specs.Columns.{slot, field}
 use Rattle.pages.proofs.Laws.{slot-right, slot-prints}
-use Rattle.pages.proofs.Writing.{blank, field, slot-parts}
+use Rattle.pages.proofs.Writing.{blank, slot-parts}
 use Rattle.page_check.specs.Filling.{slotsAt, SlotsParsed}
 use Rattle.page_check.specs.Answer.{slotAnswer}
 use Rattle.page_check.specs.declared.SlotRead.{SlotRead}
 use Rattle.page_check.specs.declared.SlotLine.{SlotLine}
 use Rattle.page_check.specs.declared.SlotLine.the-variants.{Line, NoLine}
+use Rattle.page_check.proofs.Columned.{same-size}
 use Rattle.page_check.proofs.Reading.{Found, line-found, line-lost}
 use Rattle.page_check.proofs.Filling.{read-next, read-some, read-end}
 use Rattle.page_reader.proofs.Filled.{take-more, data-next}
@@ -41,7 +43,7 @@ module _ (s : List ℕ) (k : ℕ) (x : SlotRead) (f : Found true s k x) (h : k �
   spelled =
       let b = slot-right true .back (drop k s) (f .sl) (drop (x .next) s) (f .reads) in
       let y : Slot = f .sl in
-      let e : slotFormat true .print y ≡ front ++ hex (y .bytes) ++ (10 ∷ []) = slot-prints true y ∙ sym (slot-parts (y .generation) (y .kind) (y .type) (y .start) (y .writes) (y .bytes)) in
+      let e : slotFormat true .print y ≡ front ++ hex (y .bytes) ++ (10 ∷ []) = slot-prints true y ∙ sym (slot-parts false (y .generation) (y .kind) (y .type) (y .start) (y .writes) (y .bytes)) in
       sym (append-assoc front (hex (y .bytes)) (newline ∷ drop (x .next) s))
       ∙ sym (append-assoc (front ++ hex (y .bytes)) (newline ∷ []) (drop (x .next) s))
       ∙ ap (λ (t : List ℕ). t ++ drop (x .next) s) (sym e) ∙ b .1
@@ -85,19 +87,19 @@ data-inside (z ∷ l) Prim.Native.Nat.zero = omega arith
 data-inside (z ∷ l) (Prim.Native.Nat.suc i) = omega (arith, data-inside l i, length-append (z .bytes) (flat (dataOf l)), length-append (z .bytes) (flat (dataOf (take i l))))
 
 -- the data of i slots is in the pool up to `to`, and the lines of the others stand in the text from k on
-pub record Pooling (s : List ℕ) (at count : ℕ) (pool₀ pool : List ℕ) (k to i : ℕ) : Type 0 where
+pub record Pooling (c : Bool) (s : List ℕ) (at count : ℕ) (pool₀ pool : List ℕ) (k to i : ℕ) : Type 0 where
   pub low : i ≤ count
   pub inside : k ≤ length s
   pub room : dataSize (slotsAt s at count) ≤ length pool₀
   pub same : length pool ≡ length pool₀
-  pub put : Puts pool₀ pool 0 to (flat (dataOf (take i (slotsAt s at count))))
+  pub put : Puts pool₀ pool 0 to (flat (dataOf (map (outOfColumn c) (take i (slotsAt s at count)))))
   pub rest : List ℕ
   pub left : readAll (slotFormat true .read) (count - i) (drop k s) ≡ give (drop i (slotsAt s at count)) rest
 
-pub pooling-begin : (s : List ℕ) (at count : ℕ) (pool : List ℕ) → SlotsParsed s at count → at ≤ length s → dataSize (slotsAt s at count) ≤ length pool →
-    Pooling s at count pool pool at 0 0
-unfolding flat
-pooling-begin s at count pool p h r = record {
+pub pooling-begin : (c : Bool) (s : List ℕ) (at count : ℕ) (pool : List ℕ) → SlotsParsed s at count → at ≤ length s → dataSize (slotsAt s at count) ≤ length pool →
+    Pooling c s at count pool pool at 0 0
+unfolding flat map
+pooling-begin c s at count pool p h r = record {
   low = omega arith;
   inside = h;
   room = r;
@@ -107,7 +109,7 @@ pooling-begin s at count pool p h r = record {
   left = ap (λ (n : ℕ). readAll (slotFormat true .read) n (drop at s)) (sub-zero count) ∙ p .reads;
 }
 
-module _ (s : List ℕ) (at count : ℕ) (pool₀ pool : List ℕ) (k to i : ℕ) (p : Pooling s at count pool₀ pool k to i) where
+module _ (c : Bool) (s : List ℕ) (at count : ℕ) (pool₀ pool : List ℕ) (k to i : ℕ) (p : Pooling c s at count pool₀ pool k to i) where
   module _ (h : i < count) {r : SlotLine} (e : r ≡ slotAnswer (length s) (slotFormat true .read (drop k s))) where
     pub pooling-some : r ≡ NoLine → ⊥
     pooling-some f = read-some (slotFormat true .read) blank (drop k s) (slotsAt s at count) i count (p .rest) h (p .left) (line-lost true s k e f)
@@ -131,7 +133,8 @@ module _ (s : List ℕ) (at count : ℕ) (pool₀ pool : List ℕ) (k to i : ℕ
 
       size-next : to + x .bytes ≡ dataSize (take (i + 1) (slotsAt s at count))
       size-next =
-          data-next (slotsAt s at count) i to (x .bytes) (next .0) (p .put .next ∙ native.Mathlib.Nat.zero-add (dataSize (take i (slotsAt s at count))))
+          data-next (slotsAt s at count) i to (x .bytes) (next .0)
+          (p .put .next ∙ native.Mathlib.Nat.zero-add (dataSize (map (outOfColumn c) (take i (slotsAt s at count)))) ∙ same-size c (take i (slotsAt s at count)))
           (found .bytes ∙ ap (λ (y : Slot). length (y .bytes)) (next .1))
 
       pub data-there : HexParsed s (x .next - 1 - x .bytes - x .bytes)
@@ -143,8 +146,8 @@ module _ (s : List ℕ) (at count : ℕ) (pool₀ pool : List ℕ) (k to i : ℕ
       pub data-fits : to + x .bytes ≤ length pool
       data-fits = omega (arith, size-next, data-inside (slotsAt s at count) (i + 1), p .room, p .same)
 
-      pub pooling-next : (pool′ : List ℕ) (to′ : ℕ) → length pool′ ≡ length pool → Puts pool pool′ to to′ (hexAt s (x .next - 1 - x .bytes - x .bytes)) →
-          Pooling s at count pool₀ pool′ (x .next) to′ (i + 1)
+      pub pooling-next : (pool′ : List ℕ) (to′ : ℕ) → length pool′ ≡ length pool → Puts pool pool′ to to′ (fromColumn c (hexAt s (x .next - 1 - x .bytes - x .bytes))) →
+          Pooling c s at count pool₀ pool′ (x .next) to′ (i + 1)
       pooling-next pool′ to′ m q = record {
         low = omega arith;
         inside = found .next;
@@ -152,15 +155,16 @@ module _ (s : List ℕ) (at count : ℕ) (pool₀ pool : List ℕ) (k to i : ℕ
         same = m ∙ p .same;
         put =
             puts-at (puts-puts (p .put) q (omega arith)) refl
-            (ap (λ (b : List ℕ). flat (dataOf (take i (slotsAt s at count))) ++ b) (data-is s k x found (p .inside) ∙ ap (λ (y : Slot). y .bytes) (next .1))
-            ∙ sym (flat-snoc (take i (slotsAt s at count)) (getD (slotsAt s at count) i blank))
-            ∙ ap (λ (l : List Slot). flat (dataOf l)) (take-more (slotsAt s at count) i (next .0)));
+            (ap (λ (b : List ℕ). flat (dataOf (map (outOfColumn c) (take i (slotsAt s at count)))) ++ fromColumn c b) (data-is s k x found (p .inside) ∙ ap (λ (y : Slot). y .bytes) (next .1))
+            ∙ sym (flat-snoc (map (outOfColumn c) (take i (slotsAt s at count))) (outOfColumn c (getD (slotsAt s at count) i blank)))
+            ∙ ap (λ (l : List Slot). flat (dataOf l)) (sym (map-append (outOfColumn c) (take i (slotsAt s at count)) (getD (slotsAt s at count) i blank ∷ [])))
+            ∙ ap (λ (l : List Slot). flat (dataOf (map (outOfColumn c) l))) (take-more (slotsAt s at count) i (next .0)));
         rest = p .rest;
         left = next .2;
       }
 
-  pub pooling-end : count ≤ i → pool ≡ putText pool₀ 0 (flat (dataOf (slotsAt s at count)))
+  pub pooling-end : count ≤ i → pool ≡ putText pool₀ 0 (flat (dataOf (map (outOfColumn c) (slotsAt s at count))))
   pooling-end h =
       p .put .out
-      ∙ ap (λ (l : List Slot). putText pool₀ 0 (flat (dataOf l)))
+      ∙ ap (λ (l : List Slot). putText pool₀ 0 (flat (dataOf (map (outOfColumn c) l))))
       (take-all i (slotsAt s at count) (read-end (slotFormat true .read) blank (drop k s) (slotsAt s at count) i count (p .rest) h (p .left)))

@@ -9,7 +9,7 @@ use lib.Dec.{eqb, leb}
 use borrow.Author.Tests.{lt-ltb, le-ltb, leb-true}
 use Rattle.text.specs.Text.{ascii, decimal, line}
 use Rattle.text.specs.Format.{All}
-use Rattle.text.proofs.Laws.{decimal-length, decimal-length-one, hex-length}
+use Rattle.text.proofs.Laws.{decimal-length, decimal-length-one}
 use Rattle.word.specs.Lists.{all}
 use Rattle.word.proofs.Bools.{and-both}
 use Rattle.heap.proofs.Counting.{sum, sum-add, sum-same, sum-ones, sum-first, times-append, times-length}
@@ -20,7 +20,8 @@ use Rattle.heap.specs.State.{Slot, State, noSlot, dataOf, dataSize, times, slot
 use Rattle.heap.specs.Calls.{liveCount}
 use Rattle.heap.specs.Packing.{flat}
 use Rattle.heap.specs.WellFormed.{partitioned, soundSlot, retiredRightly, soundSeals, soundReclaim, sound}
-use Rattle.pages.specs.Form.{Form, formOf, writesWidth, heapFront, retiredToo, noRetired, heapNames, slotFront, wideWrites, narrowWrites, slotNames, freeName, quarantineName, sealedName, retiredName}
+use Rattle.pages.specs.Form.{Form, formOf, writesWidth, heapFront, retiredToo, noRetired, heapNames, slotFront, wideWrites, narrowWrites, planesName, dataName, slotNames, freeName, quarantineName, sealedName, retiredName}
+use Rattle.pages.proofs.Writing.{column-hex, same-lines}
 use Rattle.pages.specs.Page.{slotLine, valueLine, numbersLine, heapLine, retiredPart, pageText, SlotWithin, RetiredWithin, Within}
 
 -- numbers of each width
@@ -40,34 +41,34 @@ writes-long false n h = omega (arith, middle n h)
 digit : (n : ℕ) → n ≤ 3 → length (decimal n) ≡ 1
 digit n h = decimal-length-one n (omega arith)
 
-live-line : (w : Bool) (s : Slot) → SlotWithin w s → s .kind ≤ 3 → length (slotLine s) ≤ 67 + 2 * length (s .bytes)
+live-line : (p w : Bool) (s : Slot) → SlotWithin w s → s .kind ≤ 3 → length (slotLine p s) ≤ 67 + 2 * length (s .bytes)
 unfolding slotLine line
-live-line w s g k =
+live-line p w s g k =
     simp length-append
-    (omega (arith, middle (s .generation) (g .generation), digit (s .kind) k, middle (s .type) (g .type), long (s .start) (g .start), writes-long w (s .writes) (g .writes), hex-length (s .bytes)))
+    (omega (arith, middle (s .generation) (g .generation), digit (s .kind) k, middle (s .type) (g .type), long (s .start) (g .start), writes-long w (s .writes) (g .writes), column-hex p (s .bytes)))
 
-dead-line : (w : Bool) (s : Slot) → SlotWithin w s → s .kind ≡ 0 → s .type ≡ 0 → s .start ≡ 0 → s .writes ≡ 0 → length (slotLine s) ≤ 20 + 2 * length (s .bytes)
+dead-line : (p w : Bool) (s : Slot) → SlotWithin w s → s .kind ≡ 0 → s .type ≡ 0 → s .start ≡ 0 → s .writes ≡ 0 → length (slotLine p s) ≤ 20 + 2 * length (s .bytes)
 unfolding slotLine line
-dead-line w s g k a b c =
+dead-line p w s g k a b c =
     simp length-append
-    (omega (arith, middle (s .generation) (g .generation), digit (s .kind) (omega arith), digit (s .type) (omega arith), digit (s .start) (omega arith), digit (s .writes) (omega arith), hex-length (s .bytes)))
+    (omega (arith, middle (s .generation) (g .generation), digit (s .kind) (omega arith), digit (s .type) (omega arith), digit (s .start) (omega arith), digit (s .writes) (omega arith), column-hex p (s .bytes)))
 
-slot-line : (w : Bool) (s : Slot) → SlotWithin w s → SlotSound s → length (slotLine s) ≤ 20 + 47 * bit (live s) + 2 * length (s .bytes)
-slot-line w s g f = one (s .kind) refl
+slot-line : (p w : Bool) (s : Slot) → SlotWithin w s → SlotSound s → length (slotLine p s) ≤ 20 + 47 * bit (live s) + 2 * length (s .bytes)
+slot-line p w s g f = one (s .kind) refl
   where
-    one : (k : ℕ) → s .kind ≡ k → length (slotLine s) ≤ 20 + 47 * bit (live s) + 2 * length (s .bytes)
+    one : (k : ℕ) → s .kind ≡ k → length (slotLine p s) ≤ 20 + 47 * bit (live s) + 2 * length (s .bytes)
     one zero e =
         let d = f .dead e in
-        omega (arith, dead-line w s g e (ap (λ (x : Slot). x .type) d) (ap (λ (x : Slot). x .start) d) (ap (λ (x : Slot). x .writes) d))
-    one (suc k) e = omega (arith, ap bit (lt-ltb 0 (s .kind) (omega arith)), live-line w s g (f .kinds))
+        omega (arith, dead-line p w s g e (ap (λ (x : Slot). x .type) d) (ap (λ (x : Slot). x .start) d) (ap (λ (x : Slot). x .writes) d))
+    one (suc k) e = omega (arith, ap bit (lt-ltb 0 (s .kind) (omega arith)), live-line p w s g (f .kinds))
 
-slot-lines : (w : Bool) (l : List Slot) → All (SlotWithin w) l → all soundSlot l ≡ true → length (flatMap slotLine l) ≤ 20 * length l + 47 * liveCount l + 2 * dataSize l
+slot-lines : (p w : Bool) (l : List Slot) → All (SlotWithin w) l → all soundSlot l ≡ true → length (flatMap (slotLine p) l) ≤ 20 * length l + 47 * liveCount l + 2 * dataSize l
 unfolding flatMap flat all liveCount
-slot-lines w [] h e = omega arith
-slot-lines w (s ∷ l) h e =
-    let p = and-both (soundSlot s) (all soundSlot l) e in
-    rw (length-append (slotLine s) (flatMap slotLine l), length-append (s .bytes) (flat (dataOf l)))
-    (omega (arith, slot-line w s (h .0) (slot-tested s (p .0)), slot-lines w l (h .1) (p .1)))
+slot-lines p w [] h e = omega arith
+slot-lines p w (s ∷ l) h e =
+    let q = and-both (soundSlot s) (all soundSlot l) e in
+    rw (length-append (slotLine p s) (flatMap (slotLine p) l), length-append (s .bytes) (flat (dataOf l)))
+    (omega (arith, slot-line p w s (h .0) (slot-tested s (q .0)), slot-lines p w l (h .1) (q .1)))
 
 value-length : (n k : ℕ) → length (decimal n) ≤ k → length (valueLine n) ≤ k + 1
 unfolding valueLine line
@@ -121,15 +122,19 @@ head-length false h a b c d e f g i j =
       middle (length (h .sealed)) i,
     ))
 
-names-length : (f : Form) → length (heapNames f) + length (slotNames f) + length freeName + length quarantineName + length sealedName ≤ 136
-unfolding heapNames heapFront retiredToo noRetired slotNames slotFront wideWrites narrowWrites freeName quarantineName sealedName ascii
-names-length f = one (f .retiring) (f .wide)
+names-length : (f : Form) → length (heapNames f) + length (slotNames f) + length freeName + length quarantineName + length sealedName ≤ 138
+unfolding heapNames heapFront retiredToo noRetired slotNames slotFront wideWrites narrowWrites planesName dataName freeName quarantineName sealedName ascii
+names-length f = one (f .retiring) (f .wide) (f .planar)
   where
-    one : (r w : Bool) → length (heapNames (formOf r w)) + length (slotNames (formOf r w)) + length freeName + length quarantineName + length sealedName ≤ 136
-    one true true = omega arith
-    one true false = omega arith
-    one false true = omega arith
-    one false false = omega arith
+    one : (r w p : Bool) → length (heapNames (formOf r w p)) + length (slotNames (formOf r w p)) + length freeName + length quarantineName + length sealedName ≤ 138
+    one true true true = omega arith
+    one true true false = omega arith
+    one true false true = omega arith
+    one true false false = omega arith
+    one false true true = omega arith
+    one false true false = omega arith
+    one false false true = omega arith
+    one false false false = omega arith
 
 -- the live ones, counted by their indices
 live-sum : (l : List Slot) → sum (length l) (λ i. bit (live (getD l i noSlot))) ≡ liveCount l
@@ -190,7 +195,7 @@ page-length f h w e =
       arith,
       names-length f,
       head-length (f .retiring) h (w .tag) (w .sinceGc) (reclaim-most (h .reclaimAt) (p .reclaim)) (w .liveBytes) (w .slot-count) (w .free-count) (w .quarantine-count) (w .sealed-count) (w .retired),
-      slot-lines (f .wide) (h .slots) (w .slots) (p .slots),
+      slot-lines (f .planar) (f .wide) (h .slots) (w .slots) (p .slots),
       middle-lines (h .free) (w .free),
       middle-lines (h .quarantine) (w .quarantine),
       long-lines (h .sealed) (w .sealed),
@@ -198,3 +203,17 @@ page-length f h w e =
       placed-once h (p .partition),
       sealed-length h (p .seals),
     ))
+
+names-longer : (r w : Bool) → length (slotNames (formOf r w true)) ≡ length (slotNames (formOf r w false)) + 2
+unfolding slotNames slotFront wideWrites narrowWrites planesName dataName ascii
+names-longer r true = refl
+names-longer r false = refl
+
+same-names : (r w p : Bool) → heapNames (formOf r w p) ≡ heapNames (formOf r w false)
+unfolding heapNames
+same-names r w p = refl
+
+-- WITH PLANES A PAGE HAS TWO BYTES MORE, those of the longer name
+pub planes-longer : (r w : Bool) (h : State) → length (pageText (formOf r w true) h) ≡ length (pageText (formOf r w false) h) + 2
+unfolding pageText
+planes-longer r w h = simp length-append (omega (arith, same-lines true (h .slots), names-longer r w, ap length (same-names r w true)))

@@ -1,20 +1,22 @@
 -- The laws of the page.
 use Prim.Native.Nat.{ℕ, _+_, _-_, _^_, _≤_, _<_}
 use mathlib.Core.Bool.{Bool, true, false, not}
-use mathlib.Core.List.{List, [], _∷_, _++_, append-assoc, append-nil, flatMap}
+use mathlib.Core.List.{List, [], _∷_, _++_, append-assoc, append-nil, map, flatMap}
 use mathlib.Core.Option.{none, some}
-use mathlib.Core.Path.{_≡_, refl, sym, ap, subst, _∙_}
+use mathlib.Core.Path.{_≡_, refl, sym, ap, ap₂, subst, _∙_}
 use mathlib.Core.Logic.{_↔_}
 use native.Mathlib.Omega.{arith}
-use lib.ListN.{length}
+use lib.ListN.{length, length-map}
 use Rattle.text.specs.Text.{give, _>>=_, ascii, line, newline, comma, Bytes, digitOf, readLiteral}
 use Rattle.text.specs.Format.{Right, number, bytesLine, afterLiteral, either, always, pair, times, mapped, readAll, All}
-use Rattle.text.proofs.Laws.{none-not-some, bind-some, some-inj, number-right, bytes-line-right, after-literal-right, Any, Apart, either-right, always-right, pair-right, times-right, mapped-right, injective}
+use Rattle.text.proofs.Laws.{none-not-some, bind-some, some-inj, number-right, bytes-line-right, after-literal-right, Any, Apart, either-right, always-right, pair-right, times-right, mapped-where, mapped-right, injective}
 use Rattle.heap.specs.State.{Slot, State, slotAt, worn}
-use Rattle.heap.specs.Calls.{filter}
 use Rattle.word.specs.Choice.{if_then_else_}
-use Rattle.pages.specs.Form.{Form, formOf, written, writesWidth, heapFront, retiredToo, noRetired, heapNames, slotFront, wideWrites, narrowWrites, slotNames, names, freeName, quarantineName, sealedName, retiredName}
-use Rattle.pages.specs.Page.{slotLine, valueLine, numbersLine, heapLine, retiredPart, pageText, SlotWithin, RetiredWithin, Within, Unsaved, Fields, slotOf, fieldsOf, slotFormat, Counts, Head, sealedEnd, retiredCount, headFormat, retiredFormat, Body, bodyFormat, Parts, pageFormat, stateOf, readOf, countsOf, headOf, bodyOf, saved, whole, readPage, moved}
+use Rattle.word.specs.Lists.{filter}
+use Rattle.planes.specs.Planes.{planes, restored}
+use Rattle.planes.proofs.Laws.{bytes-planes, bytes-restored, restored-planes, planes-restored}
+use Rattle.pages.specs.Form.{Form, formOf, written, writesWidth, column, fromColumn, heapFront, retiredToo, noRetired, heapNames, slotFront, wideWrites, narrowWrites, planesName, dataName, slotNames, slotNamed, names, freeName, quarantineName, sealedName, retiredName}
+use Rattle.pages.specs.Page.{slotLine, valueLine, numbersLine, heapLine, retiredPart, pageText, SlotWithin, RetiredWithin, Within, Unsaved, Fields, slotOf, fieldsOf, slotFormat, withBytes, inColumn, outOfColumn, slotsFormat, Counts, Head, sealedEnd, retiredCount, headFormat, retiredFormat, Body, bodyFormat, Parts, pageFormat, stateOf, readOf, countsOf, headOf, bodyOf, saved, whole, readPage, moved}
 
 no-comma : digitOf comma ≡ none
 unfolding digitOf
@@ -39,6 +41,66 @@ slot-right w =
     mapped-right slotOf fieldsOf (λ s. refl) (λ f. refl)
     (pair-right (num 32) λ _. pair-right (num 8) λ _. pair-right (num 32) λ _. pair-right (num 64) λ _. pair-right (num (writesWidth w)) λ _. bytes-line-right)
 
+-- columns, both ways
+
+record There (p : Bool) (w : Bool) (s : Slot) : Type 0 where
+  good : Fields-good w (fieldsOf (inColumn p s))
+  same : outOfColumn p (inColumn p s) ≡ s
+
+record Again (p : Bool) (w : Bool) (s : Slot) : Type 0 where
+  good : Fields-good w (fieldsOf (outOfColumn p s))
+  same : inColumn p (outOfColumn p s) ≡ s
+
+there : (p w : Bool) (s : Slot) → Fields-good w (fieldsOf s) → There p w s
+there true w s g =
+    record {
+      good = (g .0, (g .1 .0, (g .1 .1 .0, (g .1 .1 .1 .0, (g .1 .1 .1 .1 .0, bytes-planes 8 (s .bytes) (g .1 .1 .1 .1 .1))))));
+      same = ap (withBytes s) (restored-planes 8 (s .bytes) (g .1 .1 .1 .1 .1));
+    }
+there false w s g = record { good = g; same = refl }
+
+again : (p w : Bool) (s : Slot) → Fields-good w (fieldsOf s) → Again p w s
+again true w s g =
+    record {
+      good = (g .0, (g .1 .0, (g .1 .1 .0, (g .1 .1 .1 .0, (g .1 .1 .1 .1 .0, bytes-restored 8 (s .bytes) (g .1 .1 .1 .1 .1))))));
+      same = ap (withBytes s) (planes-restored 8 (s .bytes) (g .1 .1 .1 .1 .1));
+    }
+again false w s g = record { good = g; same = refl }
+
+-- a list taken entry by entry to another of the same length, and back
+record Mapped {A : Type 0} (good : A → Type 0) (n : ℕ) (to from : A → A) (l : List A) : Type 0 where
+  all : All good (map to l)
+  count : length (map to l) ≡ n
+  back : map from (map to l) ≡ l
+
+mapped-all : {A : Type 0} (good : A → Type 0) (to from : A → A) → ((a : A) → good a → good (to a)) → ((a : A) → good a → from (to a) ≡ a) →
+    (n : ℕ) (l : List A) → All good l → length l ≡ n → Mapped good n to from l
+unfolding map
+mapped-all {A} good to from g e n l h k = record { all = alls l h; count = length-map l to ∙ k; back = backs l h }
+  where
+    alls : (l : List A) → All good l → All good (map to l)
+    alls [] h = tt
+    alls (a ∷ l) h = (g a (h .0), alls l (h .1))
+
+    backs : (l : List A) → All good l → map from (map to l) ≡ l
+    backs [] h = refl
+    backs (a ∷ l) h = ap₂ (λ (x : A) (y : List A). x ∷ y) (e a (h .0)) (backs l (h .1))
+
+abbrev pub Listed : {A : Type 0} → (A → Type 0) → ℕ → List A → Type 0
+Listed good n l = All good l × (length l ≡ n)
+
+pub slots-right : (w p : Bool) (n : ℕ) → Right (slotsFormat w p n) (Listed (λ s. Fields-good w (fieldsOf s)) n)
+unfolding slotsFormat
+slots-right w p n =
+    mapped-where (Listed (λ s. Fields-good w (fieldsOf s)) n) (map (outOfColumn p)) (map (inColumn p))
+    (λ l h.
+    let m = mapped-all (λ s. Fields-good w (fieldsOf s)) (inColumn p) (outOfColumn p) (λ s g. there p w s g .good) (λ s g. there p w s g .same) n l (h .0) (h .1) in
+    ((m .all, m .count), m .back))
+    (λ l h.
+    let m = mapped-all (λ s. Fields-good w (fieldsOf s)) (outOfColumn p) (inColumn p) (λ s g. again p w s g .good) (λ s g. again p w s g .same) n l (h .0) (h .1) in
+    ((m .all, m .count), m .back))
+    (times-right n (slot-right w))
+
 abbrev pub Count-good : (retiring : Bool) → ℕ → Type 0
 Count-good true n = n < 2 ^ 32
 Count-good false n = n ≡ 0
@@ -62,9 +124,6 @@ head-right r =
     pair-right (num 8) λ _. pair-right (num 64) λ _. pair-right (num 64) λ _. pair-right (num 64)
     λ _. pair-right (num 32) λ _. pair-right (num 32) λ _. pair-right (num 32) λ _. pair-right (sealed-right r) λ _. count-right r
 
-abbrev pub Listed : {A : Type 0} → (A → Type 0) → ℕ → List A → Type 0
-Listed good n l = All good l × (length l ≡ n)
-
 abbrev pub Retired-good : (retiring : Bool) → ℕ → List ℕ → Type 0
 Retired-good true n l = Listed (λ i. i < 2 ^ 32) n l
 Retired-good false n l = l ≡ []
@@ -85,7 +144,7 @@ Body-good f d b =
 body-right : (f : Form) (d : Counts) → Right (bodyFormat f d) (Body-good f d)
 unfolding bodyFormat
 body-right f d =
-    pair-right (times-right (d .0) (slot-right (f .wide)))
+    pair-right (slots-right (f .wide) (f .planar) (d .0))
     λ _. after-literal-right freeName (pair-right (times-right (d .1 .0) (last 32))
     λ _. after-literal-right quarantineName (pair-right (times-right (d .1 .1 .0) (last 32))
     λ _. after-literal-right sealedName (pair-right (times-right (d .1 .1 .1 .0) (last 64))
@@ -103,23 +162,46 @@ writes-apart t = refl
 pub heap-names-right : Right (names heapFront retiredToo noRetired) Any
 heap-names-right = after-literal-right heapFront (either-right retiredToo noRetired retired-apart)
 
-pub names-right : Right (names slotFront wideWrites narrowWrites) Any
-names-right = after-literal-right slotFront (either-right wideWrites narrowWrites writes-apart)
+pub columns-apart : Apart planesName dataName
+unfolding planesName dataName ascii readLiteral
+columns-apart t = refl
+
+abbrev pub Both : Bool × Bool → Type 0
+Both n = Any (n .0) × Any (n .1)
+
+pub writes-right : Right (names slotFront wideWrites narrowWrites) Any
+writes-right = after-literal-right slotFront (either-right wideWrites narrowWrites writes-apart)
+
+pub columns-right : Right (either planesName dataName) Any
+columns-right = either-right planesName dataName columns-apart
+
+pub names-right : Right slotNamed Both
+unfolding slotNamed
+names-right = pair-right writes-right λ _. columns-right
 
 abbrev pub Parts-good : Parts → Type 0
-Parts-good p = Any (p .0) × (Head-good (p .0) (p .1 .0) × (Any (p .1 .1 .0) × Body-good (formOf (p .0) (p .1 .1 .0)) (p .1 .0 .1 .1 .1 .1) (p .1 .1 .1)))
+Parts-good p = Any (p .0) × (Head-good (p .0) (p .1 .0) × (Both (p .1 .1 .0) × Body-good (formOf (p .0) (p .1 .1 .0 .0) (p .1 .1 .0 .1)) (p .1 .0 .1 .1 .1 .1) (p .1 .1 .1)))
 
 pub page-right : Right pageFormat Parts-good
 unfolding pageFormat
 page-right =
     pair-right heap-names-right λ r. pair-right (head-right r)
-    λ d. pair-right names-right λ w. body-right (formOf r w) (d .1 .1 .1 .1)
+    λ d. pair-right names-right λ n. body-right (formOf r (n .0) (n .1)) (d .1 .1 .1 .1)
 
 -- The format prints the page
 
-pub slot-prints : (w : Bool) (s : Slot) → slotFormat w .print s ≡ slotLine s
+pub slot-prints : (w : Bool) (s : Slot) → slotFormat w .print s ≡ slotLine false s
 unfolding slotFormat slotLine number pair mapped bytesLine line
 slot-prints w s = simp append-assoc
+
+column-prints : (w p : Bool) (s : Slot) → slotFormat w .print (inColumn p s) ≡ slotLine p s
+unfolding slotFormat slotLine number pair mapped bytesLine line
+column-prints w p s = simp append-assoc
+
+slots-print : (w p : Bool) (n : ℕ) (l : List Slot) → slotsFormat w p n .print l ≡ flatMap (slotLine p) l
+unfolding slotsFormat mapped times flatMap map
+slots-print w p n [] = refl
+slots-print w p n (s ∷ l) = ap₂ (λ (x y : List ℕ). x ++ y) (column-prints w p s) (slots-print w p n l)
 
 pub value-prints : (width n : ℕ) → number width newline .print n ≡ valueLine n
 unfolding number valueLine line
@@ -139,8 +221,8 @@ heap-names-print : (f : Form) → names heapFront retiredToo noRetired .print (f
 unfolding afterLiteral either heapNames
 heap-names-print f = refl
 
-names-print : (f : Form) → names slotFront wideWrites narrowWrites .print (f .wide) ≡ slotNames f
-unfolding afterLiteral either slotNames
+names-print : (f : Form) → slotNamed .print (f .wide, f .planar) ≡ slotNames f
+unfolding slotNamed pair afterLiteral either slotNames
 names-print f = refl
 
 retired-prints : (r : Bool) (n : ℕ) (l : List ℕ) → retiredFormat r n .print l ≡ retiredPart r l
@@ -149,12 +231,12 @@ retired-prints true n l = rw (flatMap-same (number 32 newline .print) valueLine 
 retired-prints false n l = refl
 
 body-prints : (f : Form) (h : State) → bodyFormat f (countsOf h) .print (bodyOf h) ≡
-    flatMap slotLine (h .slots) ++ (freeName ++ (flatMap valueLine (h .free)
+    flatMap (slotLine (f .planar)) (h .slots) ++ (freeName ++ (flatMap valueLine (h .free)
     ++ (quarantineName ++ (flatMap valueLine (h .quarantine) ++ (sealedName ++ (flatMap valueLine (h .sealed) ++ retiredPart (f .retiring) (h .retired)))))))
 unfolding bodyFormat afterLiteral pair times
 body-prints f h =
     rw (
-      flatMap-same (slotFormat (f .wide) .print) slotLine (slot-prints (f .wide)) (h .slots),
+      slots-print (f .wide) (f .planar) (length (h .slots)) (h .slots),
       flatMap-same (number 32 newline .print) valueLine (value-prints 32) (h .free),
       flatMap-same (number 32 newline .print) valueLine (value-prints 32) (h .quarantine),
       flatMap-same (number 64 newline .print) valueLine (value-prints 64) (h .sealed),
@@ -164,6 +246,14 @@ body-prints f h =
 pub page-prints : (f : Form) (h : State) → RetiredWithin (f .retiring) (h .retired) → pageFormat .print (saved f h) ≡ pageText f h
 unfolding pageFormat pair pageText
 page-prints f h w = rw (heap-names-print f, head-prints (f .retiring) h w, names-print f, body-prints f h) (simp append-assoc)
+
+-- THE NAMES LINES TELL THE EIGHT FORMS APART
+pub forms-apart : (f k : Form) → heapNames f ≡ heapNames k → slotNames f ≡ slotNames k → f ≡ k
+forms-apart f k a b =
+    let r : f .retiring ≡ k .retiring = injective heap-names-right (f .retiring) (k .retiring) tt tt (heap-names-print f ∙ a ∙ sym (heap-names-print k)) in
+    let n : _≡_ {A = Bool × Bool} (f .wide, f .planar) (k .wide, k .planar) =
+    injective names-right (f .wide, f .planar) (k .wide, k .planar) (tt, tt) (tt, tt) (names-print f ∙ b ∙ sym (names-print k)) in
+    λ i. formOf (r i) (n i .0) (n i .1)
 
 -- Numbers within their widths
 
@@ -195,7 +285,7 @@ good-saved f h w = (
   (
     (w .tag, (w .sinceGc, (w .reclaimAt, (w .liveBytes, (w .slot-count, (w .free-count, (w .quarantine-count, (w .sealed-count, retired-counted (f .retiring) (h .retired) (w .retired))))))))),
     (
-      tt,
+      (tt, tt),
       ((all-map (fields-within (f .wide)) (h .slots) (w .slots), refl), ((w .free, refl), ((w .quarantine, refl), ((w .sealed, refl), retired-listed (f .retiring) (h .retired) (w .retired))))),
     ),
   ),
@@ -216,7 +306,7 @@ within-read p good =
         free-count = rw (b .1 .0 .1) (g .1 .1 .1 .1 .1 .0);
         quarantine-count = rw (b .1 .1 .0 .1) (g .1 .1 .1 .1 .1 .1 .0);
         sealed-count = rw (b .1 .1 .1 .0 .1) (g .1 .1 .1 .1 .1 .1 .1 .0);
-        slots = all-map (within-fields (p .1 .1 .0)) (p .1 .1 .1 .0) (b .0 .0);
+        slots = all-map (within-fields (p .1 .1 .0 .0)) (p .1 .1 .1 .0) (b .0 .0);
         free = b .1 .0 .0;
         quarantine = b .1 .1 .0 .0;
         sealed = b .1 .1 .1 .0 .0;
@@ -300,10 +390,11 @@ kept t (x ∷ l) = one (t x) (kept t l)
     one true k = record { fewer = omega (arith, k .fewer); all = λ h. (h .0, k .all (h .1)) }
     one false k = record { fewer = omega (arith, k .fewer); all = λ h. k .all (h .1) }
 
-pub moved-within : (f : Form) (h : State) → Within f h → Within written (moved (f .retiring) h)
-moved-within f h w = go (f .retiring) (w .retired)
+-- with either column
+pub moved-within : (p : Bool) (f : Form) (h : State) → Within f h → Within (written p) (moved (f .retiring) h)
+moved-within p f h w = go (f .retiring) (w .retired)
   where
-    go : (r : Bool) → RetiredWithin r (h .retired) → Within written (moved r h)
+    go : (r : Bool) → RetiredWithin r (h .retired) → Within (written p) (moved r h)
     go true z =
         record {
           tag = w .tag;

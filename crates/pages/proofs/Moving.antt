@@ -8,26 +8,16 @@ use native.Mathlib.Omega.{arith}
 use lib.ListN.{length}
 use lib.Dec.{eqb, ltb}
 use Rattle.word.specs.Choice.{if_then_else_}
-use Rattle.word.specs.Lists.{all, allBelow}
+use Rattle.word.specs.Lists.{all, allBelow, filter}
 use Rattle.word.proofs.Bools.{and-true, and-false}
 use Rattle.word.proofs.ListLaws.{all-append, below-same}
 use Rattle.heap.specs.State.{State, slotAt, worn, times}
-use Rattle.heap.specs.Calls.{filter}
 use Rattle.heap.specs.WellFormed.{soundSlot, places, partitioned, retiredRightly, soundSeals, soundReclaim, sound}
 use Rattle.heap.proofs.Counting.{times-append}
+use Rattle.heap.proofs.Recycled.{times-filter}
 use Rattle.pages.specs.Page.{moved, soundBefore}
 
 -- ---- a list parted by a test
-
-times-parted : (p : ℕ → Bool) (i : ℕ) (xs : List ℕ) → times i (filter (λ j. not (p j)) xs) + times i (filter p xs) ≡ times i xs
-unfolding times
-times-parted p i [] = omega arith
-times-parted p i (x ∷ xs) = one (p x) (times-parted p i xs)
-  where
-    one : (b : Bool) → times i (filter (λ j. not (p j)) xs) + times i (filter p xs) ≡ times i xs →
-        times i (if not b then (x ∷ filter (λ j. not (p j)) xs) else filter (λ j. not (p j)) xs) + times i (if b then (x ∷ filter p xs) else filter p xs) ≡ times i (x ∷ xs)
-    one true ih = omega arith
-    one false ih = omega arith
 
 all-parted : (t p : ℕ → Bool) (xs : List ℕ) → (all t (filter (λ i. not (p i)) xs) && all t (filter p xs)) ≡ all t xs
 unfolding all
@@ -77,7 +67,7 @@ module _ (h : State) where
   spent = filter (λ i. worn (slotAt h i)) (h .free)
 
   same-places : (i : ℕ) → places (moved false h) i ≡ places h i
-  same-places i = omega (arith, times-parted (λ j. worn (slotAt h j)) i (h .free), times-append i (h .retired) spent)
+  same-places i = omega (arith, times-filter (λ j. worn (slotAt h j)) i (h .free), times-append i (h .retired) spent)
 
   same-listed : (t : ℕ → Bool) → all t (young ++ h .quarantine ++ (h .retired ++ spent)) ≡ all t (h .free ++ h .quarantine ++ h .retired)
   same-listed t =

@@ -1,7 +1,7 @@
 -- What the writer's loops add line by line.
 use Prim.Native.Nat.{ℕ, zero, suc, _+_, _-_, _*_, _≤_, _<_}
 use mathlib.Core.List.{List, [], _∷_, _++_, append-assoc, append-nil, flatMap}
-use mathlib.Core.Bool.{true}
+use mathlib.Core.Bool.{Bool, true, false}
 use mathlib.Core.Path.{_≡_, refl, sym, ap, _∙_}
 use lib.ListN.{length, take, drop, getD, set, length-append}
 use lib.Seq.{take-suc, take-all}
@@ -13,6 +13,9 @@ use Rattle.text.specs.Put.{putText, Puts}
 use Rattle.text.proofs.Laws.{hex-length}
 use Rattle.text.proofs.Putting.{puts-puts, puts-byte, puts-length, puts-at}
 use Rattle.heap.specs.State.{Slot}
+use Rattle.planes.specs.Planes.{planes}
+use Rattle.planes.proofs.Laws.{length-planes, length-restored}
+use Rattle.pages.specs.Form.{column, fromColumn}
 use Rattle.pages.specs.Page.{valueLine, slotLine, numbersLine}
 use Rattle.heap.specs.Lent.{Lent, slotIn}
 use Rattle.pages.specs.Columns.{slot, slotsIn, field, headFields}
@@ -73,26 +76,57 @@ puts-number {a} {b} {at} {k} n e p h =
     let m : length b ≡ length a = puts-length p (omega arith) in
     puts-puts p (puts-byte b k e (omega (arith, p .next))) (omega arith)
 
-pub slot-parts : (g k t s w : ℕ) (bs : List ℕ) →
-    field g 44 ++ field k 44 ++ field t 44 ++ field s 44 ++ field w 44 ++ hex bs ++ (10 ∷ []) ≡ slotLine (slot g k t s w bs)
+-- planes take as many bytes as data
+pub column-length : (p : Bool) (bs : List ℕ) → length (column p bs) ≡ length bs
+column-length true bs = length-planes 8 bs
+column-length false bs = refl
+
+pub back-length : (p : Bool) (bs : List ℕ) → length (fromColumn p bs) ≡ length bs
+back-length true bs = length-restored 8 bs
+back-length false bs = refl
+
+pub column-hex : (p : Bool) (bs : List ℕ) → length (hex (column p bs)) ≡ 2 * length bs
+column-hex p bs = hex-length (column p bs) ∙ ap (λ (n : ℕ). 2 * n) (column-length p bs)
+
+-- either column was put
+pub puts-planes : {a b : List ℕ} {at r : ℕ} (p : Bool) (bs : List ℕ) → p ≡ true → Puts a b at r (hex (planes 8 bs)) → Puts a b at r (hex (column p bs))
+puts-planes p bs e q = puts-at q refl (ap (λ (x : Bool). hex (column x bs)) (sym e))
+
+pub puts-data : {a b : List ℕ} {at r : ℕ} (p : Bool) (bs : List ℕ) → p ≡ false → Puts a b at r (hex bs) → Puts a b at r (hex (column p bs))
+puts-data p bs e q = puts-at q refl (ap (λ (x : Bool). hex (column x bs)) (sym e))
+
+pub slot-parts : (p : Bool) (g k t s w : ℕ) (bs : List ℕ) →
+    field g 44 ++ field k 44 ++ field t 44 ++ field s 44 ++ field w 44 ++ hex (column p bs) ++ (10 ∷ []) ≡ slotLine p (slot g k t s w bs)
 unfolding slotLine line
-slot-parts g k t s w bs = simp append-assoc
+slot-parts p g k t s w bs = simp append-assoc
 
-pub slot-length : (g k t s w : ℕ) (bs : List ℕ) →
-    length (slotLine (slot g k t s w bs)) ≡ length (field g 44) + length (field k 44) + length (field t 44) + length (field s 44) + length (field w 44) + length (hex bs) + 1
-slot-length g k t s w bs = ap length (sym (slot-parts g k t s w bs)) ∙ simp length-append
+pub slot-length : (p : Bool) (g k t s w : ℕ) (bs : List ℕ) →
+    length (slotLine p (slot g k t s w bs)) ≡ length (field g 44) + length (field k 44) + length (field t 44) + length (field s 44) + length (field w 44) + length (hex (column p bs)) + 1
+slot-length p g k t s w bs = ap length (sym (slot-parts p g k t s w bs)) ∙ simp length-append
 
-pub slot-length-decimal : (g k t s w : ℕ) (bs : List ℕ) →
-    length (slotLine (slot g k t s w bs)) ≡ length (decimal g) + length (decimal k) + length (decimal t) + length (decimal s) + length (decimal w) + 2 * length bs + 6
-slot-length-decimal g k t s w bs =
-    slot-length g k t s w bs
-    ∙ omega (arith, length-append (decimal g) (44 ∷ []), length-append (decimal k) (44 ∷ []), length-append (decimal t) (44 ∷ []), length-append (decimal s) (44 ∷ []), length-append (decimal w) (44 ∷ []), hex-length bs)
+pub slot-length-decimal : (p : Bool) (g k t s w : ℕ) (bs : List ℕ) →
+    length (slotLine p (slot g k t s w bs)) ≡ length (decimal g) + length (decimal k) + length (decimal t) + length (decimal s) + length (decimal w) + 2 * length bs + 6
+slot-length-decimal p g k t s w bs =
+    slot-length p g k t s w bs
+    ∙ omega (arith, length-append (decimal g) (44 ∷ []), length-append (decimal k) (44 ∷ []), length-append (decimal t) (44 ∷ []), length-append (decimal s) (44 ∷ []), length-append (decimal w) (44 ∷ []), column-hex p bs)
 
-module _ {a b1 b2 b3 b4 b5 b6 : List ℕ} {at k1 k2 k3 k4 k5 k6 : ℕ} (g k t s w : ℕ) (bs : List ℕ) where
+-- a slot's line is as long with planes as with data
+pub same-line : (p : Bool) (s : Slot) → length (slotLine p s) ≡ length (slotLine false s)
+same-line p s =
+    slot-length-decimal p (s .generation) (s .kind) (s .type) (s .start) (s .writes) (s .bytes)
+    ∙ sym (slot-length-decimal false (s .generation) (s .kind) (s .type) (s .start) (s .writes) (s .bytes))
+
+pub same-lines : (p : Bool) (l : List Slot) → length (flatMap (slotLine p) l) ≡ length (flatMap (slotLine false) l)
+unfolding flatMap
+same-lines p [] = refl
+same-lines p (s ∷ l) =
+    rw (length-append (slotLine p s) (flatMap (slotLine p) l), length-append (slotLine false s) (flatMap (slotLine false) l), same-line p s, same-lines p l)
+
+module _ {a b1 b2 b3 b4 b5 b6 : List ℕ} {at k1 k2 k3 k4 k5 k6 : ℕ} (p : Bool) (g k t s w : ℕ) (bs : List ℕ) where
   pub puts-slot : Puts a b1 at k1 (field g 44) → Puts b1 b2 k1 k2 (field k 44) → Puts b2 b3 k2 k3 (field t 44) → Puts b3 b4 k3 k4 (field s 44) → Puts b4 b5 k4 k5 (field w 44) →
-      Puts b5 b6 k5 k6 (hex bs) → at ≤ length a → k6 < length b6 → Puts a (set b6 k6 10) at (k6 + 1) (slotLine (slot g k t s w bs))
+      Puts b5 b6 k5 k6 (hex (column p bs)) → at ≤ length a → k6 < length b6 → Puts a (set b6 k6 10) at (k6 + 1) (slotLine p (slot g k t s w bs))
   puts-slot p1 p2 p3 p4 p5 p6 h l =
-      puts-at (puts-puts (puts-puts (puts-puts (puts-puts (puts-puts (puts-puts p1 p2 h) p3 h) p4 h) p5 h) p6 h) (puts-byte b6 k6 10 l) h) refl (slot-parts g k t s w bs)
+      puts-at (puts-puts (puts-puts (puts-puts (puts-puts (puts-puts (puts-puts p1 p2 h) p3 h) p4 h) p5 h) p6 h) (puts-byte b6 k6 10 l) h) refl (slot-parts p g k t s w bs)
 
 -- SLOTS IN COLUMNS
 
@@ -105,27 +139,28 @@ slot-at c n j d h = getD-tabulate n (slotIn c) j d h
 abbrev pub blank : Slot
 blank = slot 0 0 0 0 0 []
 
-abbrev pub lines : Lent → (n i : ℕ) → List ℕ
-lines c n i = flatMap slotLine (take i (slotsIn c n))
+abbrev pub lines : (planar : Bool) → Lent → (n i : ℕ) → List ℕ
+lines p c n i = flatMap (slotLine p) (take i (slotsIn c n))
 
-pub lines-all : (c : Lent) (n : ℕ) → lines c n n ≡ flatMap slotLine (slotsIn c n)
-lines-all c n = ap (flatMap slotLine) (take-all n (slotsIn c n) (omega (arith, slots-length c n)))
+module _ (p : Bool) where
+  pub lines-all : (c : Lent) (n : ℕ) → lines p c n n ≡ flatMap (slotLine p) (slotsIn c n)
+  lines-all c n = ap (flatMap (slotLine p)) (take-all n (slotsIn c n) (omega (arith, slots-length c n)))
 
--- one slot's line more
-pub line-more-length : (c : Lent) (n i : ℕ) → i < n → length (lines c n (i + 1)) ≡ length (lines c n i) + length (slotLine (slotIn c i))
-line-more-length c n i h =
-    flat-more-length slotLine (slotsIn c n) i blank (omega (arith, slots-length c n))
-    ∙ ap (λ (s : Slot). length (lines c n i) + length (slotLine s)) (slot-at c n i blank h)
+  -- one slot's line more
+  pub line-more-length : (c : Lent) (n i : ℕ) → i < n → length (lines p c n (i + 1)) ≡ length (lines p c n i) + length (slotLine p (slotIn c i))
+  line-more-length c n i h =
+      flat-more-length (slotLine p) (slotsIn c n) i blank (omega (arith, slots-length c n))
+      ∙ ap (λ (s : Slot). length (lines p c n i) + length (slotLine p s)) (slot-at c n i blank h)
 
-pub line-room : (c : Lent) (n i : ℕ) → i < n → length (lines c n i) + length (slotLine (slotIn c i)) ≤ length (flatMap slotLine (slotsIn c n))
-line-room c n i h =
-    rw (← ap (λ (s : Slot). length (slotLine s)) (slot-at c n i blank h), ← lines-all c n)
-    (flat-room slotLine (slotsIn c n) i n blank h (omega (arith, slots-length c n)))
+  pub line-room : (c : Lent) (n i : ℕ) → i < n → length (lines p c n i) + length (slotLine p (slotIn c i)) ≤ length (flatMap (slotLine p) (slotsIn c n))
+  line-room c n i h =
+      rw (← ap (λ (s : Slot). length (slotLine p s)) (slot-at c n i blank h), ← lines-all c n)
+      (flat-room (slotLine p) (slotsIn c n) i n blank h (omega (arith, slots-length c n)))
 
-pub puts-line : (k : Lent) (n i : ℕ) (a b c : List ℕ) (at m r : ℕ) → i < n → at ≤ length a →
-    Puts a b at m (lines k n i) → Puts b c m r (slotLine (slotIn k i)) → Puts a c at r (lines k n (i + 1))
-puts-line k n i a b c at m r h l p q =
-    puts-more slotLine a b c at m r (slotsIn k n) i blank (omega (arith, slots-length k n)) p (puts-at q refl (ap slotLine (sym (slot-at k n i blank h)))) l
+  pub puts-line : (k : Lent) (n i : ℕ) (a b c : List ℕ) (at m r : ℕ) → i < n → at ≤ length a →
+      Puts a b at m (lines p k n i) → Puts b c m r (slotLine p (slotIn k i)) → Puts a c at r (lines p k n (i + 1))
+  puts-line k n i a b c at m r h l q x =
+      puts-more (slotLine p) a b c at m r (slotsIn k n) i blank (omega (arith, slots-length k n)) q (puts-at x refl (ap (slotLine p) (sym (slot-at k n i blank h)))) l
 
 -- THE LINE OF NUMBERS
 

@@ -3,28 +3,38 @@ use mathlib.Core.Bool.{Bool, true, false}
 use mathlib.Core.List.{List, _++_}
 use Prim.Native.Nat.{ℕ}
 use Rattle.text.specs.Text.{ascii}
-use Rattle.text.specs.Format.{Format, afterLiteral, either}
+use Rattle.text.specs.Format.{Format, afterLiteral, either, pair}
 use Rattle.word.specs.Choice.{if_then_else_}
+use Rattle.planes.specs.Planes.{planes, restored}
 
--- write counts of 64 bits under the name `writes64`, or of 32 bits under `writes` (request [6]); with the list `retired` as the last, or without it (request [7])
+-- write counts of 64 bits under the name `writes64`, or of 32 bits under `writes` (request [6]); with the list `retired` as the last, or without it (request [7]);
+-- objects in byte planes under the name `planes`, or as they are under `data` (request [11])
 pub record Form : Type 0 where
   pub wide : Bool
   pub retiring : Bool
+  pub planar : Bool
 
-abbrev pub formOf : (retiring wide : Bool) → Form
-formOf r w = record { wide = w; retiring = r }
+abbrev pub formOf : (retiring wide planar : Bool) → Form
+formOf r w p = record { wide = w; retiring = r; planar = p }
 
--- the form that is written
-abbrev pub written : Form
-written = formOf true true
+-- the form that is written, with planes or data as the host says
+abbrev pub written : (planar : Bool) → Form
+written p = formOf true true p
 
 -- the form that document 01 began with
 abbrev pub earlier : Form
-earlier = formOf false false
+earlier = formOf false false false
 
 -- how many bits a write count has
 abbrev pub writesWidth : (wide : Bool) → ℕ
 writesWidth wide = if wide then 64 else 32
+
+-- how an object's bytes stand in its column, and the way back
+abbrev pub column : (planar : Bool) → List ℕ → List ℕ
+column planar bytes = if planar then planes 8 bytes else bytes
+
+abbrev pub fromColumn : (planar : Bool) → List ℕ → List ℕ
+fromColumn planar bytes = if planar then restored 8 bytes else bytes
 
 -- NAMES
 
@@ -49,14 +59,24 @@ unfoldable pub slotFront : List ℕ
 slotFront = ascii "generation,kind,type,start,"
 
 unfoldable pub wideWrites : List ℕ
-wideWrites = ascii "writes64,data\n"
+wideWrites = ascii "writes64,"
 
 unfoldable pub narrowWrites : List ℕ
-narrowWrites = ascii "writes,data\n"
+narrowWrites = ascii "writes,"
+
+unfoldable pub planesName : List ℕ
+planesName = ascii "planes\n"
+
+unfoldable pub dataName : List ℕ
+dataName = ascii "data\n"
 
 -- the names line of the slots
 unfoldable pub slotNames : Form → List ℕ
-slotNames f = slotFront ++ (if f .wide then wideWrites else narrowWrites)
+slotNames f = slotFront ++ (if f .wide then wideWrites else narrowWrites) ++ (if f .planar then planesName else dataName)
+
+-- it is read in two steps: which write counts, then which column
+unfoldable pub slotNamed : Format (Bool × Bool)
+slotNamed = pair (names slotFront wideWrites narrowWrites) λ _. either planesName dataName
 
 unfoldable pub freeName : List ℕ
 freeName = ascii "free\n"

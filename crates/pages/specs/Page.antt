@@ -1,6 +1,6 @@
--- The page (01, "Page"; requests [6] and [7]): a heap as text, in every form. Epoch and log are not saved, and read as 0.
+-- The page (01, "Page"; requests [6], [7] and [11]): a heap as text, in every form. Epoch and log are not saved, and read as 0.
 use Prim.Native.Nat.{ℕ, _<_, _^_}
-use mathlib.Core.List.{List, [], _∷_, _++_, flatMap}
+use mathlib.Core.List.{List, [], _∷_, _++_, map, flatMap}
 use mathlib.Core.Option.{Option, none, some}
 use mathlib.Core.Bool.{Bool, true, false, _&&_}
 use mathlib.Core.Path.{_≡_}
@@ -12,13 +12,13 @@ use Rattle.heap.specs.State.{Slot, State, withFree}
 use Rattle.heap.specs.Calls.{freed}
 use Rattle.heap.specs.WellFormed.{soundSlot, partitioned, soundSeals, soundReclaim}
 use Rattle.word.specs.Lists.{all}
-use Rattle.pages.specs.Form.{Form, formOf, writesWidth, heapFront, retiredToo, noRetired, heapNames, slotFront, wideWrites, narrowWrites, slotNames, names, freeName, quarantineName, sealedName, retiredName}
+use Rattle.pages.specs.Form.{Form, formOf, writesWidth, column, fromColumn, heapFront, retiredToo, noRetired, heapNames, slotNames, slotNamed, names, freeName, quarantineName, sealedName, retiredName}
 
 -- WRITING
 
-unfoldable pub slotLine : Slot → List ℕ
-slotLine s =
-    line (decimal (s .generation) ∷ decimal (s .kind) ∷ decimal (s .type) ∷ decimal (s .start) ∷ decimal (s .writes) ∷ hex (s .bytes) ∷ [])
+unfoldable pub slotLine : (planar : Bool) → Slot → List ℕ
+slotLine p s =
+    line (decimal (s .generation) ∷ decimal (s .kind) ∷ decimal (s .type) ∷ decimal (s .start) ∷ decimal (s .writes) ∷ hex (column p (s .bytes)) ∷ [])
 
 -- one value a line
 unfoldable pub valueLine : ℕ → List ℕ
@@ -39,7 +39,7 @@ retiredPart r l = if r then retiredName ++ flatMap valueLine l else []
 unfoldable pub pageText : Form → State → List ℕ
 pageText f h =
     heapNames f ++ heapLine (f .retiring) h
-    ++ slotNames f ++ flatMap slotLine (h .slots)
+    ++ slotNames f ++ flatMap (slotLine (f .planar)) (h .slots)
     ++ freeName ++ flatMap valueLine (h .free)
     ++ quarantineName ++ flatMap valueLine (h .quarantine)
     ++ sealedName ++ flatMap valueLine (h .sealed)
@@ -91,10 +91,25 @@ slotOf f = record { generation = f .0; kind = f .1 .0; type = f .1 .1 .0; start 
 abbrev pub fieldsOf : Slot → Fields
 fieldsOf s = (s .generation, (s .kind, (s .type, (s .start, (s .writes, s .bytes)))))
 
+-- a slot's line as it stands: the bytes are its column
 unfoldable pub slotFormat : (wide : Bool) → Format Slot
 slotFormat w =
     mapped slotOf fieldsOf
     (pair (number 32 comma) λ _. pair (number 8 comma) λ _. pair (number 32 comma) λ _. pair (number 64 comma) λ _. pair (number (writesWidth w) comma) λ _. bytesLine)
+
+abbrev pub withBytes : Slot → List ℕ → Slot
+withBytes s bs = record { generation = s .generation; kind = s .kind; type = s .type; start = s .start; writes = s .writes; bytes = bs }
+
+-- a slot with its column for its bytes, and the way back
+abbrev pub inColumn : (planar : Bool) → Slot → Slot
+inColumn p s = withBytes s (column p (s .bytes))
+
+abbrev pub outOfColumn : (planar : Bool) → Slot → Slot
+outOfColumn p s = withBytes s (fromColumn p (s .bytes))
+
+-- n slots
+unfoldable pub slotsFormat : (wide planar : Bool) (n : ℕ) → Format (List Slot)
+slotsFormat w p n = mapped (map (outOfColumn p)) (map (inColumn p)) (times n (slotFormat w))
 
 -- the numbers of line 2: tag, since_gc, reclaim_at, live_bytes, then the counts: slots, free, quarantine, sealed, retired
 abbrev pub Counts : Type 0
@@ -124,20 +139,20 @@ Body = List Slot × (List ℕ × (List ℕ × (List ℕ × List ℕ)))
 
 unfoldable pub bodyFormat : Form → Counts → Format Body
 bodyFormat f d =
-    pair (times (d .0) (slotFormat (f .wide)))
+    pair (slotsFormat (f .wide) (f .planar) (d .0))
     λ _. afterLiteral freeName (pair (times (d .1 .0) (number 32 newline))
     λ _. afterLiteral quarantineName (pair (times (d .1 .1 .0) (number 32 newline))
     λ _. afterLiteral sealedName (pair (times (d .1 .1 .1 .0) (number 64 newline))
     λ _. retiredFormat (f .retiring) (d .1 .1 .1 .1))))
 
--- with `retired` or without, line 2, the width of writes, and what follows: forms are told apart as the text goes on
+-- with `retired` or without, line 2, the width of writes and planes or data, and what follows: forms are told apart as the text goes on
 abbrev pub Parts : Type 0
-Parts = Bool × (Head × (Bool × Body))
+Parts = Bool × (Head × ((Bool × Bool) × Body))
 
 unfoldable pub pageFormat : Format Parts
 pageFormat =
     pair (names heapFront retiredToo noRetired) λ r. pair (headFormat r)
-    λ d. pair (names slotFront wideWrites narrowWrites) λ w. bodyFormat (formOf r w) (d .1 .1 .1 .1)
+    λ d. pair slotNamed λ n. bodyFormat (formOf r (n .0) (n .1)) (d .1 .1 .1 .1)
 
 abbrev pub stateOf : Head → Body → State
 stateOf d b =
@@ -156,7 +171,7 @@ stateOf d b =
     }
 
 abbrev pub readOf : Parts → Form × State
-readOf p = (formOf (p .0) (p .1 .1 .0), stateOf (p .1 .0) (p .1 .1 .1))
+readOf p = (formOf (p .0) (p .1 .1 .0 .0) (p .1 .1 .0 .1), stateOf (p .1 .0) (p .1 .1 .1))
 
 abbrev pub countsOf : State → Counts
 countsOf h = (length (h .slots), (length (h .free), (length (h .quarantine), (length (h .sealed), length (h .retired)))))
@@ -168,7 +183,7 @@ abbrev pub bodyOf : State → Body
 bodyOf h = (h .slots, (h .free, (h .quarantine, (h .sealed, h .retired))))
 
 abbrev pub saved : Form → State → Parts
-saved f h = (f .retiring, (headOf h, (f .wide, bodyOf h)))
+saved f h = (f .retiring, (headOf h, ((f .wide, f .planar), bodyOf h)))
 
 abbrev pub whole : {A : Type 0} → A × List ℕ → Option A
 whole {A} r = go (r .1)

@@ -8,12 +8,12 @@ ghost use Prim.Native.Nat.{ℕ, _+_, _-_, _*_, _/_, _≤_, _<_};
 ghost use lib.ListN.{length, take, drop};
 ghost use Rattle.text.specs.Text.{decimal, hex};
 ghost use Rattle.text.specs.Put.{Puts};
-ghost use Rattle.pages.specs.Form.{written};
+ghost use Rattle.pages.specs.Form.{written, column, heapNames, slotNames, freeName, quarantineName, sealedName, retiredName};
 ghost use Rattle.pages.specs.Page.{valueLine, slotLine, numbersLine, pageText};
 ghost use Rattle.pages.specs.Columns.{slot, slotsIn, headFields, Ready};
 ghost use Rattle.heap.specs.Lent.{lent, view};
 ghost use Rattle.heap.specs.WellFormed.{wellFormed};
-ghost use mathlib.Core.Bool.{true};
+ghost use mathlib.Core.Bool.{true, false};
 ghost use Rattle.word.specs.Result.{ok};
 ghost use Rattle.refusal.specs.Told.{told, answered, here, nothing};
 ghost use Rattle.pages.specs.Answer.{PageWritten};
@@ -96,7 +96,7 @@ fn put_handles(out: &mut [u8], at: usize, list: &[u64], count: usize) -> usize
 // How long a slot's line is.
 fn slot_len(generation: u32, kind: u32, ty: u32, start: u64, writes: u64, bytes: &[u8]) -> usize
     requires { ⌜ length (now bytes) ≤ 1073741824 ⌝ }
-    ensures { λ r. ⌜ r ≡ length (slotLine (slot generation kind ty start writes (now (bytes .entry)))) ⌝ }
+    ensures { λ r. ⌜ r ≡ length (slotLine false (slot generation kind ty start writes (now (bytes .entry)))) ⌝ }
     ensures { λ r. ⌜ r ≤ 76 + 2 * length (now (bytes .entry)) ⌝ }
 {
     let a = text::decimal_len(generation as u64);
@@ -105,6 +105,17 @@ fn slot_len(generation: u32, kind: u32, ty: u32, start: u64, writes: u64, bytes:
     let d = text::decimal_len(start);
     let e = text::decimal_len(writes);
     a + b + c + d + e + 2 * bytes.len() + 6
+}
+
+// Puts an object's column in hexadecimal from `at` on: its byte planes, or its bytes as they are.
+fn put_column(out: &mut [u8], at: usize, bytes: &[u8], planar: bool) -> usize
+    requires { ⌜ at + 2 * length (now bytes) ≤ length (now out) ⌝ }
+    ensures { λ r. ⌜ Puts (now (out .entry)) (now (out .exit)) at r (hex (column planar (now (bytes .entry)))) ⌝ }
+{
+    if planar {
+        return planes::put_planes(out, at, bytes);
+    }
+    text::put_hex(out, at, bytes)
 }
 
 // Puts a slot's line from `at` on.
@@ -117,25 +128,26 @@ fn put_slot(
     start: u64,
     writes: u64,
     bytes: &[u8],
+    planar: bool,
 ) -> usize
-    requires { ⌜ at + length (slotLine (slot generation kind ty start writes (now bytes))) ≤ length (now out) ⌝ }
-    ensures { λ r. ⌜ Puts (now (out .entry)) (now (out .exit)) at r (slotLine (slot generation kind ty start writes (now (bytes .entry)))) ⌝ }
+    requires { ⌜ at + length (slotLine planar (slot generation kind ty start writes (now bytes))) ≤ length (now out) ⌝ }
+    ensures { λ r. ⌜ Puts (now (out .entry)) (now (out .exit)) at r (slotLine planar (slot generation kind ty start writes (now (bytes .entry)))) ⌝ }
 {
     let a = put_number(out, at, generation as u64, 44);
     let b = put_number(out, a, kind as u64, 44);
     let c = put_number(out, b, ty as u64, 44);
     let d = put_number(out, c, start, 44);
     let e = put_number(out, d, writes, 44);
-    let f = text::put_hex(out, e, bytes);
+    let f = put_column(out, e, bytes, planar);
     out[f] = 10;
     f + 1
 }
 
-// How long the lines of the slots are.
+// How long the lines of the slots are; with planes as with data.
 fn slots_len(heap: Heap, narrow: &[u32], wide: &[u64], pool: &[u8]) -> usize
     requires { ⌜ Ready (lent heap (now narrow) (now wide) (now pool)) ⌝ }
     requires { ⌜ 4 * (length (now narrow) / 6) ≤ length (now wide) ⌝ }
-    ensures { λ r. ⌜ r ≡ length (flatMap slotLine (slotsIn (lent heap (now (narrow .entry)) (now (wide .entry)) (now (pool .entry))) (heap .slots))) ⌝ }
+    ensures { λ r. ⌜ r ≡ length (flatMap (slotLine false) (slotsIn (lent heap (now (narrow .entry)) (now (wide .entry)) (now (pool .entry))) (heap .slots))) ⌝ }
     ensures { λ r. ⌜ r ≤ 76 * heap .slots + 2 * length (now (pool .entry)) ⌝ }
 {
     let s = narrow.len() / 6;
@@ -166,13 +178,14 @@ fn put_slots(
     narrow: &[u32],
     wide: &[u64],
     pool: &[u8],
+    planar: bool,
     out: &mut [u8],
     at: usize,
 ) -> usize
     requires { ⌜ Ready (lent heap (now narrow) (now wide) (now pool)) ⌝ }
     requires { ⌜ 4 * (length (now narrow) / 6) ≤ length (now wide) ⌝ }
-    requires { ⌜ at + length (flatMap slotLine (slotsIn (lent heap (now narrow) (now wide) (now pool)) (heap .slots))) ≤ length (now out) ⌝ }
-    ensures { λ r. ⌜ Puts (now (out .entry)) (now (out .exit)) at r (flatMap slotLine (slotsIn (lent heap (now (narrow .entry)) (now (wide .entry)) (now (pool .entry))) (heap .slots))) ⌝ }
+    requires { ⌜ at + length (flatMap (slotLine planar) (slotsIn (lent heap (now narrow) (now wide) (now pool)) (heap .slots))) ≤ length (now out) ⌝ }
+    ensures { λ r. ⌜ Puts (now (out .entry)) (now (out .exit)) at r (flatMap (slotLine planar) (slotsIn (lent heap (now (narrow .entry)) (now (wide .entry)) (now (pool .entry))) (heap .slots))) ⌝ }
 {
     let s = narrow.len() / 6;
     let two = 2 * s;
@@ -190,6 +203,7 @@ fn put_slots(
             wide[i],
             wide[two + i],
             &pool[from..to],
+            planar,
         );
         from = to;
         i += 1;
@@ -268,11 +282,30 @@ fn put_handles_after(out: &mut [u8], at: usize, name: &[u8], list: &[u64], count
     put_handles(out, k, list, count)
 }
 
+// Puts the names line of the slots from `at` on.
+fn put_slot_names(out: &mut [u8], at: usize, planar: bool) -> usize
+    requires { ⌜ at + length (slotNames (written planar)) ≤ length (now out) ⌝ }
+    ensures { λ r. ⌜ Puts (now (out .entry)) (now (out .exit)) at r (slotNames (written planar)) ⌝ }
+{
+    if planar {
+        return text::put_literal(out, at, b"generation,kind,type,start,writes64,planes\n");
+    }
+    text::put_literal(out, at, b"generation,kind,type,start,writes64,data\n")
+}
+
+// How long the names of a page are.
+fn names_len(planar: bool) -> usize
+    ensures { λ r. ⌜ r ≡ length (heapNames (written planar)) + length (slotNames (written planar)) + length (freeName ++ quarantineName ++ sealedName ++ retiredName) ⌝ }
+    ensures { λ r. ⌜ r ≤ 146 ⌝ }
+{
+    if planar { 146 } else { 144 }
+}
+
 // How long a heap's page is.
-fn page_len(heap: Heap, narrow: &[u32], wide: &[u64], pool: &[u8]) -> usize
+fn page_len(heap: Heap, narrow: &[u32], wide: &[u64], pool: &[u8], planar: bool) -> usize
     requires { ⌜ Ready (lent heap (now narrow) (now wide) (now pool)) ⌝ }
     requires { ⌜ 4 * (length (now narrow) / 6) ≤ length (now wide) ⌝ }
-    ensures { λ r. ⌜ r ≡ length (pageText written (view (lent heap (now (narrow .entry)) (now (wide .entry)) (now (pool .entry))))) ⌝ }
+    ensures { λ r. ⌜ r ≡ length (pageText (written planar) (view (lent heap (now (narrow .entry)) (now (wide .entry)) (now (pool .entry))))) ⌝ }
 {
     let s = narrow.len() / 6;
     let three = 3 * s;
@@ -285,24 +318,32 @@ fn page_len(heap: Heap, narrow: &[u32], wide: &[u64], pool: &[u8]) -> usize
     let d = indices_len(&narrow[four..five], heap.quarantine);
     let e = handles_len(&wide[three..four], heap.sealed);
     let f = indices_len(&narrow[five..six], heap.retired);
-    144 + a + b + c + d + e + f
+    let g = names_len(planar);
+    g + a + b + c + d + e + f
 }
 
 // Answers how many bytes a heap's page has, and writes none.
-pub fn measure(heap: Heap, narrow: &[u32], wide: &[u64], pool: &[u8]) -> Reply
+pub fn measure(heap: Heap, narrow: &[u32], wide: &[u64], pool: &[u8], planar: bool) -> Reply
     requires { ⌜ wellFormed (lent heap (now narrow) (now wide) (now pool)) ≡ true ⌝ }
-    ensures { λ r. ⌜ told r ≡ answered here nothing (ok (length (pageText written (view (lent heap (now (narrow .entry)) (now (wide .entry)) (now (pool .entry))))))) ⌝ }
+    ensures { λ r. ⌜ told r ≡ answered here nothing (ok (length (pageText (written planar) (view (lent heap (now (narrow .entry)) (now (wide .entry)) (now (pool .entry))))))) ⌝ }
 {
-    let n = page_len(heap, narrow, wide, pool);
+    let n = page_len(heap, narrow, wide, pool, planar);
     Reply::Is(n as u64, 0)
 }
 
 // Writes a heap's page to `out`, and answers its length; an output that is too short stays as it was.
-pub fn write(heap: Heap, narrow: &[u32], wide: &[u64], pool: &[u8], out: &mut [u8]) -> Reply
+pub fn write(
+    heap: Heap,
+    narrow: &[u32],
+    wide: &[u64],
+    pool: &[u8],
+    planar: bool,
+    out: &mut [u8],
+) -> Reply
     requires { ⌜ wellFormed (lent heap (now narrow) (now wide) (now pool)) ≡ true ⌝ }
-    ensures { λ r. ⌜ PageWritten (now (out .entry)) (now (out .exit)) (pageText written (view (lent heap (now (narrow .entry)) (now (wide .entry)) (now (pool .entry))))) r ⌝ }
+    ensures { λ r. ⌜ PageWritten (now (out .entry)) (now (out .exit)) (pageText (written planar) (view (lent heap (now (narrow .entry)) (now (wide .entry)) (now (pool .entry))))) r ⌝ }
 {
-    let n = page_len(heap, narrow, wide, pool);
+    let n = page_len(heap, narrow, wide, pool, planar);
     if out.len() < n {
         return Reply::Not(Refusal::ShortList);
     }
@@ -312,8 +353,8 @@ pub fn write(heap: Heap, narrow: &[u32], wide: &[u64], pool: &[u8], out: &mut [u
         b"tag,since_gc,reclaim_at,live_bytes,slots,free,quarantine,sealed,retired\n",
     );
     let b = put_head(out, a, heap);
-    let c = text::put_literal(out, b, b"generation,kind,type,start,writes64,data\n");
-    let d = put_slots(heap, narrow, wide, pool, out, c);
+    let c = put_slot_names(out, b, planar);
+    let d = put_slots(heap, narrow, wide, pool, planar, out, c);
     let s = narrow.len() / 6;
     let three = 3 * s;
     let four = 4 * s;

@@ -8,7 +8,7 @@ use Rattle.word.specs.Choice.{if_then_else_}
 use Rattle.refusal.specs.Told.{numberOf, refusedBy, told}
 use Rattle.refusal.specs.declared.Answer.{Answer}
 use Rattle.refusal.specs.declared.Refusal.{Refusal}
-use Rattle.refusal.specs.declared.Refusal.the-variants.{BrokenHeap, Null, WrongHeap, Stale, Full, NoRoom, ShortList, Kind, NothingThere, TypeTable, Malformed, TooLarge, Untraceable, Pins, Function, NoMap, Page, Scratch, NeverIssued, WornOut}
+use Rattle.refusal.specs.declared.Refusal.the-variants.{BrokenHeap, Null, WrongHeap, Stale, Full, NoRoom, ShortList, Kind, NothingThere, TypeTable, Malformed, TooLarge, Untraceable, Pins, Function, NoMap, Page, Scratch, NeverIssued, WornOut, NoRoots}
 use Rattle.refusal.specs.declared.Reply.{Reply}
 use Rattle.refusal.specs.declared.Reply.the-variants.{Is, Not}
 
@@ -16,7 +16,7 @@ use Rattle.refusal.specs.declared.Reply.the-variants.{Is, Not}
 abbrev replyOf : Answer → Reply
 replyOf a =
     if eqb (a .number) 0 then Is (a .first) (a .second)
-    else Not (getD (Scratch ∷ BrokenHeap ∷ Null ∷ WrongHeap ∷ Stale ∷ Full ∷ NoRoom ∷ ShortList ∷ Kind ∷ NothingThere ∷ TypeTable ∷ Malformed ∷ TooLarge ∷ Untraceable ∷ Pins ∷ Function ∷ NoMap ∷ Page ∷ Scratch ∷ NeverIssued ∷ WornOut ∷ []) (a .number) Scratch)
+    else Not (getD (Scratch ∷ BrokenHeap ∷ Null ∷ WrongHeap ∷ Stale ∷ Full ∷ NoRoom ∷ ShortList ∷ Kind ∷ NothingThere ∷ TypeTable ∷ Malformed ∷ TooLarge ∷ Untraceable ∷ Pins ∷ Function ∷ NoMap ∷ Page ∷ Scratch ∷ NeverIssued ∷ WornOut ∷ NoRoots ∷ []) (a .number) Scratch)
 
 reply-told : (r : Reply) → replyOf (told r) ≡ r
 reply-told (Is a b) = refl
@@ -40,6 +40,7 @@ reply-told (Not Page) = refl
 reply-told (Not Scratch) = refl
 reply-told (Not NeverIssued) = refl
 reply-told (Not WornOut) = refl
+reply-told (Not NoRoots) = refl
 
 -- no two replies have the same numbers
 pub told-once : (a b : Reply) → told a ≡ told b → a ≡ b

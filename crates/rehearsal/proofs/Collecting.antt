@@ -13,12 +13,13 @@ use borrow.Author.Tests.{eqb-true, eq-eqb}
 use Rattle.word.specs.Choice.{if_then_else_}
 use Rattle.word.specs.Result.{Result, ok, refused}
 use Rattle.word.proofs.Bools.{bool-ext, true-false}
+use Rattle.word.specs.Lists.{filter}
 use Rattle.text.proofs.Laws.{none-not-some, some-inj}
 use Rattle.handle.specs.Handle.{packed}
 use Rattle.ty.specs.Types.{Table}
 use Rattle.trace.specs.Places.{handlesOf}
 use Rattle.heap.specs.State.{Slot, State, noSlot, slotAt, live, lastGeneration, worn}
-use Rattle.heap.specs.Calls.{Changed, resolve, filter, member, released}
+use Rattle.heap.specs.Calls.{Changed, resolve, member, released}
 use Rattle.heap.proofs.Sound.{Sound}
 use Rattle.reach.specs.Reach.{Graph, Starts, Reached, Stuck, First, Next, _∈_}
 use Rattle.reach.specs.Marking.{State as Marks, marking}

@@ -13,11 +13,12 @@ use Rattle.word.specs.Le.{bytes as bytesOf}
 use Rattle.word.specs.Num.{saturating}
 use Rattle.word.specs.Put.{put}
 use Rattle.word.specs.Result.{ok, refused}
+use Rattle.word.specs.Lists.{filter}
 use Rattle.handle.specs.Handle.{packed, indexOf}
 use Rattle.ty.specs.Types.{Table}
 use Rattle.trace.specs.Places.{handlesOf}
 use Rattle.heap.specs.State.{lastGeneration}
-use Rattle.heap.specs.Calls.{step, last, butLast, filter, member, typeFor}
+use Rattle.heap.specs.Calls.{step, last, butLast, member, typeFor}
 use Rattle.reach.specs.Reach.{Graph, Starts, Reached}
 use Rattle.rehearsal.specs.Runs.{Told, World}
 

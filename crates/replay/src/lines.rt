@@ -41,6 +41,7 @@ enum Route {
     // An empty line or a comment has no answer.
     Silent,
     Table,
+    TableText,
     Types,
     Code,
     Live,
@@ -79,6 +80,9 @@ fn way(line: &[u8]) -> Route {
     }
     if table::command(line) < table::UNKNOWN {
         return Route::Table;
+    }
+    if replay_tables::command(line) < replay_tables::UNKNOWN {
+        return Route::TableText;
     }
     if types::command(line) < types::UNKNOWN {
         return Route::Types;
@@ -170,6 +174,7 @@ fn serve(
     match route {
         Route::Silent => state,
         Route::Table => with_table(state, table::make(line, t, bytes, halves, words)),
+        Route::TableText => with_table(state, replay_tables::answer(line, t, bytes, halves, words)),
         Route::Code => with_code(state, code::make(line, f, bytes, halves, words)),
         Route::Types => {
             types::answer(line, t, bytes, halves, words);

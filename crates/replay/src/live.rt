@@ -21,7 +21,7 @@ use protocol::write::put_number;
 use yexwalu::live;
 
 // The scratch of a live map.
-pub type Rows = [u64; 262144];
+pub type Rows = [u64; 131072];
 
 const LIVE: usize = 0;
 
@@ -164,7 +164,7 @@ fn at(
 
 // The call, on the parts of the function.
 fn told(q: Question, kinds: &[u8], ends: &[u32], refs: &[u32], blocks: &[u32], classes: &[u8]) {
-    let mut rows = [7u64; 262144];
+    let mut rows = [7u64; 131072];
     if q.one {
         at(q, kinds, ends, refs, blocks, classes, &mut rows);
     } else {

@@ -1,6 +1,7 @@
 // The questions to a heap.
 use crate::Kept;
 use crate::request::Asked;
+use crate::request::column;
 use crate::request::none;
 use crate::request::one;
 use heap::Heap;
@@ -64,6 +65,8 @@ fn asking(c: usize, line: &[u8], at: usize) -> Asked {
         DATA => one(line, at, HALF),
         KIND => one(line, at, HALF),
         STAMP => one(line, at, HALF),
+        PAGE => column(line, at),
+        PAGE_LENGTH => column(line, at),
         UNKNOWN => Asked::Bad,
         _ => none(),
     }
@@ -97,16 +100,40 @@ fn called(c: usize, x: u64, heap: Heap, narrow: &[u32], wide: &[u64], pool: &[u8
         KIND => heaps::kind(heap, narrow, wide, pool, i, &mut marks, &mut work),
         STAMP => heaps::stamp(heap, narrow, wide, pool, i, &mut marks, &mut work),
         SLOTS => heaps::slots(heap, narrow, wide, pool, &mut marks, &mut work),
-        PAGE_LENGTH => yexwalu::page::page_length(heap, narrow, wide, pool, &mut marks, &mut work),
+        PAGE_LENGTH => yexwalu::page::page_length(
+            heap,
+            narrow,
+            wide,
+            pool,
+            x == 1,
+            &mut marks,
+            &mut work,
+        ),
         _ => heaps::live(heap, narrow, wide, pool, &mut marks, &mut work),
     }
 }
 
-// The page, on one line.
-fn page(heap: Heap, narrow: &[u32], wide: &[u64], pool: &[u8], text: &mut [u8; 262144]) {
+// The page, on one line, with planes or data.
+fn page(
+    heap: Heap,
+    narrow: &[u32],
+    wide: &[u64],
+    pool: &[u8],
+    planar: bool,
+    text: &mut [u8; 262144],
+) {
     let mut marks = [7u8; 8192];
     let mut work = [7u64; 8192];
-    let a = yexwalu::page::write_page(heap, narrow, wide, pool, text, &mut marks, &mut work);
+    let a = yexwalu::page::write_page(
+        heap,
+        narrow,
+        wide,
+        pool,
+        planar,
+        text,
+        &mut marks,
+        &mut work,
+    );
     put_number(a.number);
     if a.number == 0 {
         put_page(text, a.first as usize);
@@ -152,7 +179,7 @@ fn told(c: usize, x: u64, heap: Heap, narrow: &[u32], wide: &[u64], pool: &[u8])
         EPOCH => epoch(heap),
         PAGE => {
             let mut text = [0u8; 262144];
-            page(heap, narrow, wide, pool, &mut text)
+            page(heap, narrow, wide, pool, x == 1, &mut text)
         }
         _ => show(c, x, heap, narrow, wide, pool),
     }

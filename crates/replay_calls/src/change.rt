@@ -54,14 +54,16 @@ const SEAL: usize = 11;
 
 const RUN: usize = 12;
 
-pub const UNKNOWN: usize = 13;
+const READ: usize = 13;
+
+pub const UNKNOWN: usize = 14;
 
 // Which change a line has.
 pub fn command(line: &[u8]) -> usize {
     which(
         line,
         0,
-        b"new load setepoch alloc fill edit write reissue take free recycle seal run ",
+        b"new load setepoch alloc fill edit write reissue take free recycle seal run read ",
     )
 }
 
@@ -69,7 +71,7 @@ pub fn command(line: &[u8]) -> usize {
 fn asking(c: usize, line: &[u8], at: usize, bytes: &mut Bytes, lists: &mut Halves) -> Asked {
     match c {
         NEW => request::new(line, at),
-        LOAD => request::load(line, at, bytes),
+        LOAD | READ => request::load(line, at, bytes),
         SET_EPOCH => request::epoch(line, at, lists),
         ALLOC => request::alloc(line, at, bytes),
         EDIT => request::edit(line, at, bytes),
@@ -232,7 +234,7 @@ fn whole(
             let done = heaps::new((r.x % 256) as u8, narrow, wide, pool, &mut m, &mut w);
             made(heap, done)
         }
-        LOAD => yexwalu::page::read_page(heap, narrow, wide, pool, text, &mut m, &mut w),
+        LOAD | READ => yexwalu::page::read_page(heap, narrow, wide, pool, text, &mut m, &mut w),
         _ => heaps::run(heap, narrow, wide, pool, text, room, &mut m, &mut w),
     }
 }
@@ -291,7 +293,7 @@ fn on_heap(
 fn sized(c: usize, r: Request, kept: Kept) -> Kept {
     let mut next = kept;
     match c {
-        NEW | LOAD => {
+        NEW | LOAD | READ => {
             next.slots = r.y as usize;
             next.pool = r.z as usize;
             next
@@ -328,11 +330,27 @@ fn taken(a: Answer, room: &Pool) {
     put(b"\n");
 }
 
+// A page that was read: how many bits its write counts have, 1 with `retired` and 0 without, and its column.
+fn met(a: Answer) {
+    put_number(a.number);
+    if a.number == 0 {
+        put_next(a.first);
+        put_next(a.second % 2);
+        if a.second < 2 {
+            put(b" data");
+        } else {
+            put(b" planes");
+        }
+    }
+    put(b"\n");
+}
+
 // The answer to a change, with the values that it has.
 fn show(c: usize, r: Request, a: Answer, room: &Pool) {
     match c {
         TAKE => taken(a, room),
         FILL => filled(a, r.x),
+        READ => met(a),
         ALLOC | EDIT | REISSUE => put_answer(a, 1),
         _ => put_answer(a, 0),
     }

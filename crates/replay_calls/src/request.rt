@@ -15,6 +15,7 @@ use protocol::read::Field;
 use protocol::read::ends;
 use protocol::read::last_or;
 use protocol::read::number;
+use protocol::read::which;
 
 // Up to three numbers, and where the bytes and the slots of a line end in the lent lists.
 pub struct Request {
@@ -52,6 +53,18 @@ pub fn one(line: &[u8], at: usize, most: u64) -> Asked {
         return Asked::Bad;
     };
     numbers(x, 0, 0, SPELLED)
+}
+
+// The column of a page: data, also where nothing is said, or planes.
+pub fn column(line: &[u8], at: usize) -> Asked {
+    if at < line.len() {
+        let k = which(line, at, b"data planes ");
+        if k == 2 {
+            return Asked::Bad;
+        }
+        return numbers(k as u64, 0, 0, SPELLED);
+    }
+    none()
 }
 
 // A slot and a number.

@@ -14,6 +14,7 @@ use Rattle.word.specs.Ones.{keep, passing, onesFrom}
 use Rattle.word.specs.Put.{put}
 use Rattle.word.proofs.OnesLaws.{passing-append, passing-ones, ones-none, ones-next, less-one-digit}
 use Rattle.word.proofs.PutLaws.{put-none, put-put, copy-turn}
+use Rattle.word.proofs.Bools.{positive}
 use Rattle.rows.specs.Row.{bitIn, listed}
 use Rattle.rows.proofs.RowLaws.{bitIn-word}
 
@@ -24,12 +25,6 @@ after W row i = passing (bitIn W row) (i * W) ((length row - i) * W)
 -- those of `rest` in word i, then those of the words after it
 unfoldable pub leftover : (W : ℕ) (row : List ℕ) (i rest : ℕ) → List ℕ
 leftover W row i rest = onesFrom W rest (i * W) ++ after W row (i + 1)
-
-pub positive : (n : ℕ) → (n ≡ 0 → ⊥) → 0 < n
-positive n h = elim (decLt 0 n) [
-  | yes y ↦ y
-  | no y ↦ absurd (h (omega arith))
-]
 
 -- a word without its lowest set bit is a word
 pub less-word : (W x : ℕ) → 0 < x → x < 2 ^ W → bitAnd x (x - 1) < 2 ^ W

@@ -6,8 +6,8 @@ use mathlib.Core.Option.{Option, some}
 use Prim.Native.Nat.{ℕ, _+_, _≤_, _<_}
 use native.Mathlib.Omega.{arith}
 use lib.ListN.{length, getD, drop, length-drop}
+use Rattle.word.proofs.ListLaws.{drop-cons-one}
 use Rattle.text.specs.Text.{give}
-use Rattle.text.proofs.Getting.{drop-at}
 use Rattle.refusal.specs.Told.{nothing}
 use Rattle.refusal.specs.declared.Refusal.the-variants.{Page}
 use Rattle.refusal.specs.declared.Reply.{Reply}
@@ -111,7 +111,7 @@ module _ (l : Lent) (s : List ℕ) (at : ℕ) (k : at < length s) (l′ : Lent) 
   went-on (Recycle n) h d = by-call recycles n (h .call) (h .inside) d
   went-on Bad h d =
       let b : runScript (slotCount l) (poolSize l) (drop at s) (view l) ≡ refuse 17 (view l) =
-      rw (drop-at s at k) (run-bad (slotCount l) (poolSize l) (getD s at 0) (drop (at + 1) s) (view l) (ap readCall (sym (drop-at s at k)) ∙ h)) in
+      rw (drop-cons-one s at k) (run-bad (slotCount l) (poolSize l) (getD s at 0) (drop (at + 1) s) (view l) (ap readCall (sym (drop-cons-one s at k)) ∙ h)) in
       by-end (refuse 17 (view l)) (length s) b k (omega arith) (d .leaves) (d .says)
 
   pub stepped : (r : Line) {next : ℕ} → LineRead (readCall (drop at s)) s r → LineEnds l l′ reply (callIn s r) → next ≡ nextAfter (length s) r → Stepping l l′ s at reply next

@@ -9,6 +9,7 @@ use lib.Seq.{drop-drop, take-all}
 use borrow.Author.Tests.{le-ltb}
 use Rattle.word.specs.Choice.{if_then_else_}
 use Rattle.word.specs.Result.{Result, refused}
+use Rattle.word.proofs.Bools.{positive}
 use Rattle.figures.specs.declared.Figures.{Figures}
 use Rattle.figures.specs.declared.Shown.{Shown}
 use Rattle.figures.specs.Figures.{pageFigures}
@@ -84,9 +85,6 @@ module _ (s : Shelf) (good : Good s) (held input out held′ : List ℕ) (used t
 pub rest-of : (l : List ℕ) (a : ℕ) → take (length l - a) (drop a l) ≡ drop a l
 rest-of l a = take-all (length l - a) (drop a l) (omega (arith, length-drop a l))
 
-above : (n : ℕ) → (n ≡ 0 → ⊥) → 0 < n
-above n f = omega arith
-
 -- ---- steps one after another
 
 pub record Gone (s₀ : Shelf) (held₀ input out₀ : List ℕ) (s : Shelf) (held out : List ℕ) (used to : ℕ) : Type 0 where
@@ -127,4 +125,4 @@ module _ {s₀ : Shelf} {held₀ input out₀ : List ℕ} {s : Shelf} {held out 
   gone-all h = gone-goes (λ k. omega arith)
 
   pub gone-full : 65376 < to → Goes s₀ held₀ input out₀ 0 s held out used to
-  gone-full h = gone-goes (λ k. above used (λ e. omega (arith, g .first e)))
+  gone-full h = gone-goes (λ k. positive used (λ e. omega (arith, g .first e)))

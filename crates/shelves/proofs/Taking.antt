@@ -14,6 +14,7 @@ use Rattle.word.specs.Choice.{if_then_else_}
 use Rattle.word.specs.Put.{put}
 use Rattle.word.specs.Result.{Result, ok, refused}
 use Rattle.word.proofs.PutLaws.{take-put}
+use Rattle.word.proofs.Bools.{by-size}
 use Rattle.figures.specs.declared.Figures.{Figures}
 use Rattle.shelves.specs.declared.At.{At}
 use Rattle.shelves.specs.declared.At.the-variants.{Line, Page as InPage, Passing, Over}
@@ -50,14 +51,6 @@ module _ (most : ℕ) (failed : Bool) (p : ℕ) (t : List ℕ) where
   pub over-there : p ≤ length t → passedOver most failed p t ≡ answersIn most failed (drop p t)
   unfolding passedOver
   over-there h = rw (le-ltb (length t) p h)
-
--- short or not
-by-size : {R : Type 0} (a b : ℕ) → (a < b → R) → (b ≤ a → R) → R
-by-size {R} a b f g = go (ltb a b) refl
-  where
-    go : (x : Bool) → ltb a b ≡ x → R
-    go true e = f (ltb-true a b e)
-    go false e = g (ltb-false a b e)
 
 -- ---- a page begins
 

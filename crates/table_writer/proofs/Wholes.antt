@@ -15,7 +15,8 @@ use Rattle.text.specs.Format.{readAll, pair, times}
 use Rattle.text.specs.Put.{Puts}
 use Rattle.text.proofs.Laws.{times-right, hex-length}
 use Rattle.text.proofs.Putting.{puts-puts, puts-byte, puts-at, puts-length}
-use Rattle.tables.specs.Table.{Row, readName, field, nameText, nameFormat, rowLine, countNames, typeNames, fieldNames, constantNames, bytesName, countsLine, tableText, toEnd}
+use Rattle.pages.specs.Page.{whole}
+use Rattle.tables.specs.Table.{Row, readName, field, nameText, nameFormat, rowLine, countNames, typeNames, fieldNames, constantNames, bytesName, countsLine, tableText}
 use Rattle.word.specs.Result.{ok}
 use Rattle.word.proofs.Bools.{and-both}
 use Rattle.ty.specs.Check.{allOf, tableGood}
@@ -35,7 +36,7 @@ use Rattle.table_writer.proofs.RowsPut.{names-are}
 -- THE NAMES
 
 module _ (names : List ℕ) (t f c : ℕ) where
-  no-names : (namesFormat t f c .read names >>= λ r. toEnd r) ≡ none → NamesGot names t f c NotNames
+  no-names : (namesFormat t f c .read names >>= λ r. whole r) ≡ none → NamesGot names t f c NotNames
   no-names e = record { found = λ a b q. absurd (let z : _≡_ {A = ℕ} 0 1 = cc in omega arith); lost = λ q. e }
 
   pub names-lost-1 : readAll readName t (drop 0 names) ≡ none → NamesGot names t f c NotNames
@@ -283,10 +284,10 @@ puts-tail {o0} {o1} {o2} {at} {p} {q} b x y l1 l2 h =
 -- A TABLE THAT 01 TAKES HAS WHOLE ROWS
 
 module _ (w f c b : List ℕ) (good : tableGood w f c b ≡ true) where
-  whole : (eqb (length w % 4) 0 ≡ true) × (leb (length w / 4) 4096 ≡ true) × (eqb (length f % 2) 0 ≡ true) × (leb (length f / 2) 16384 ≡ true) × (eqb (length c % 3) 0 ≡ true)
+  lengths-good : (eqb (length w % 4) 0 ≡ true) × (leb (length w / 4) 4096 ≡ true) × (eqb (length f % 2) 0 ≡ true) × (leb (length f / 2) 16384 ≡ true) × (eqb (length c % 3) 0 ≡ true)
       × (leb (length c / 3) 4096 ≡ true)
   unfolding tableGood allOf
-  whole =
+  lengths-good =
       let p0 = and-both _ _ good in
       let p1 = and-both _ _ (p0 .1) in
       let p2 = and-both _ _ (p1 .1) in
@@ -296,19 +297,22 @@ module _ (w f c b : List ℕ) (good : tableGood w f c b ≡ true) where
       (p0 .0, p1 .0, p2 .0, p3 .0, p4 .0, p5 .0)
 
   pub types-whole : 4 * (length w / 4) ≡ length w
-  types-whole = omega (arith, eqb-true (length w % 4) 0 (whole .0))
+  types-whole = omega (arith, eqb-true (length w % 4) 0 (lengths-good .0))
 
   pub fields-whole : 2 * (length f / 2) ≡ length f
-  fields-whole = omega (arith, eqb-true (length f % 2) 0 (whole .2))
+  fields-whole = omega (arith, eqb-true (length f % 2) 0 (lengths-good .2))
 
   pub constants-whole : 3 * (length c / 3) ≡ length c
-  constants-whole = omega (arith, eqb-true (length c % 3) 0 (whole .4))
+  constants-whole = omega (arith, eqb-true (length c % 3) 0 (lengths-good .4))
+
+  pub counts-small : (length w / 4 ≤ 4096) × (length f / 2 ≤ 16384) × (length c / 3 ≤ 4096)
+  counts-small = (leb-true (length w / 4) 4096 (lengths-good .1), leb-true (length f / 2) 16384 (lengths-good .3), leb-true (length c / 3) 4096 (lengths-good .5))
 
   pub lengths-small : (length w ≤ 32768) × (length f ≤ 32768) × (length c ≤ 32768)
   lengths-small = (
-    omega (arith, types-whole, leb-true (length w / 4) 4096 (whole .1)),
-    omega (arith, fields-whole, leb-true (length f / 2) 16384 (whole .3)),
-    omega (arith, constants-whole, leb-true (length c / 3) 4096 (whole .5)),
+    omega (arith, types-whole, counts-small .0),
+    omega (arith, fields-whole, counts-small .1),
+    omega (arith, constants-whole, counts-small .2),
   )
 
 -- WHAT IS TOLD
@@ -323,11 +327,11 @@ module _ (w f c b names : List ℕ) where
   abbrev v : ℕ
   v = length c / 3
 
-  named-none : (namesFormat (length w / 4) (length f / 2) (length c / 3) .read names >>= λ r. toEnd r) ≡ none → namedIn w f c b names ≡ none
+  named-none : (namesFormat (length w / 4) (length f / 2) (length c / 3) .read names >>= λ r. whole r) ≡ none → namedIn w f c b names ≡ none
   unfolding namedIn
   named-none e = go (namesFormat (length w / 4) (length f / 2) (length c / 3) .read names) e
     where
-      go : (o : Option (Names × List ℕ)) → (o >>= λ r. toEnd r) ≡ none → (o >>= λ r. toEnd r >>= λ n. some (withNames w f c b n)) ≡ none
+      go : (o : Option (Names × List ℕ)) → (o >>= λ r. whole r) ≡ none → (o >>= λ r. whole r >>= λ n. some (withNames w f c b n)) ≡ none
       go none q = refl
       go (some r) q = rw q
 

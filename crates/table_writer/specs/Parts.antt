@@ -6,7 +6,8 @@ use mathlib.Core.Path.{_≡_}
 use lib.ListN.{length, drop}
 use Rattle.text.specs.Text.{give, _>>=_}
 use Rattle.text.specs.Format.{readAll}
-use Rattle.tables.specs.Table.{Named, readName, field, countsLine, tableText, toEnd}
+use Rattle.pages.specs.Page.{whole}
+use Rattle.tables.specs.Table.{Named, readName, field, countsLine, tableText}
 use Rattle.tables.specs.Lists.{namesFormat, withNames}
 use Rattle.tables.specs.Answer.{namesAt}
 use Rattle.table_writer.specs.declared.NamesRead.{NamesRead}
@@ -25,7 +26,7 @@ pub record NamesFound (names : List ℕ) (t f c a b : ℕ) : Type 0 where
 
 pub record NamesGot (names : List ℕ) (t f c : ℕ) (x : NamesRead) : Type 0 where
   pub found : (a b : ℕ) → x ≡ At a b → NamesFound names t f c a b
-  pub lost : x ≡ NotNames → (namesFormat t f c .read names >>= λ r. toEnd r) ≡ none
+  pub lost : x ≡ NotNames → (namesFormat t f c .read names >>= λ r. whole r) ≡ none
 
 -- the table whose names were found
 abbrev pub named : (w f c b names : List ℕ) (x y : ℕ) → Named

@@ -1,5 +1,4 @@
 // The writer of type tables as text.
-use refusal::Answer;
 use refusal::Refusal;
 use refusal::Reply;
 use text::Literal;
@@ -14,8 +13,7 @@ ghost use Rattle.tables.specs.Table.{field, rowLine, countsLine, countNames, by
 ghost use Rattle.tables.specs.Lists.{rowsOf};
 ghost use Rattle.tables.specs.Answer.{namesAt, RowsReady};
 ghost use Rattle.table_writer.specs.Parts.{NamesGot, named, restLength, Ready};
-ghost use Rattle.refusal.specs.Told.{answered, here, nothing};
-ghost use Rattle.table_writer.specs.Writing.{tableIn, writing, leaving, TableWritten};
+ghost use Rattle.table_writer.specs.Writing.{tableIn, TableWritten};
 
 fn widened(x: u32) -> u64
     ensures { λ r. ⌜ r ≡ x ⌝ }
@@ -278,23 +276,4 @@ pub fn write(
     }
     let n = put_table(types, fields, consts, bytes, names, a, b, out);
     Reply::Is(n as u64, 0)
-}
-
-// THE PUBLIC CALL: writes a type table and its names as text to `out`: 17, 10, 7. The answer is the text's length. `names` has a line of plain text for each type, then for each
-// field, then for each constant.
-#[no_mangle]
-pub extern "C" fn yexwalu_write_table(
-    types: &[u64],
-    fields: &[u32],
-    consts: &[u64],
-    bytes: &[u8],
-    names: &[u8],
-    out: &mut [u8],
-) -> Answer
-    ensures { λ r. ⌜ r
-        ≡ answered here nothing (writing (tableIn (now (types .entry)) (now (fields .entry)) (now (consts .entry)) (now (bytes .entry)) (now (names .entry))) (now (out .entry))) ⌝ }
-    ensures { λ _. ⌜ now (out .exit)
-        ≡ leaving (tableIn (now (types .entry)) (now (fields .entry)) (now (consts .entry)) (now (bytes .entry)) (now (names .entry))) (now (out .entry)) ⌝ }
-{
-    write(types, fields, consts, bytes, names, out).numbers()
 }

@@ -12,15 +12,12 @@ use borrow.Author.Tests.{ne-eqb, eq-eqb, eqb-true, leb-true}
 use Rattle.word.specs.Choice.{if_then_else_}
 use Rattle.text.specs.Text.{give, _>>=_, decimal, hex, line, newline, comma, Bytes, digitOf, stops, readField, readDecimal, readLiteral}
 use Rattle.text.specs.Format.{Format, Right, bytesLine, afterLiteral, pair, times, All}
-use Rattle.text.proofs.Laws.{none-not-some, bind-some, some-inj, split, passed, decimal-forth, decimal-back, literal-forth, literal-back, bytes-line-right, after-literal-right, pair-right, times-right}
-use Rattle.tables.specs.Table.{Row, Named, field, nameText, rowLine, countNames, typeNames, fieldNames, constantNames, bytesName, countsLine, tableText, plain, Plain, RowWithin, most64, most32, Within, upTo, readName, nameFormat, rowFormat, Counts, countsFormat, rowsFormat, bytesFormat, Body, tableFormat, namedOf, saved, toEnd, readTable}
+use Rattle.text.proofs.Laws.{none-not-some, bind-some, some-inj, split, passed, decimal-forth, decimal-back, literal-forth, literal-back, bytes-line-right, after-literal-right, pair-right, times-right, number-join}
+use Rattle.pages.specs.Page.{whole}
+use Rattle.pages.proofs.Laws.{whole-some, flatMap-same}
+use Rattle.tables.specs.Table.{Row, Named, field, nameText, rowLine, countNames, typeNames, fieldNames, constantNames, bytesName, countsLine, tableText, plain, Plain, RowWithin, most64, most32, Within, upTo, readName, nameFormat, rowFormat, Counts, countsFormat, rowsFormat, bytesFormat, Body, tableFormat, namedOf, saved, readTable}
 
 -- NUMBERS UP TO A BOUND
-
-number-join : (most m n end : ℕ) (t w u rest : List ℕ) → m ≤ most → decimal m ++ w ≡ t → end ∷ u ≡ w → m ≡ n → u ≡ rest →
-    (n ≤ most) × ((decimal n ++ (end ∷ [])) ++ rest ≡ t)
-number-join most m n end t w u rest h d l v0 v1 =
-    (omega arith, append-assoc (decimal n) (end ∷ []) rest ∙ rw (← v1, l, ← v0) d)
 
 pub up-to-right : (most end : ℕ) → digitOf end ≡ none → Right (upTo most end) (λ n. n ≤ most)
 unfolding upTo readField stops
@@ -153,11 +150,6 @@ row-prints : (k most : ℕ) (r : Row) → rowFormat k most .print r ≡ rowLine 
 unfolding rowFormat rowLine pair times upTo nameFormat field
 row-prints k most r = refl
 
-flatMap-same : {A : Type 0} (f g : A → List ℕ) → ((a : A) → f a ≡ g a) → (l : List A) → flatMap f l ≡ flatMap g l
-unfolding flatMap
-flatMap-same f g e [] = refl
-flatMap-same f g e (a ∷ l) = rw (e a, flatMap-same f g e l)
-
 counts-print : (n : Counts) → countsFormat .print n ≡ countNames ++ countsLine (n .0) (n .1 .0) (n .1 .1)
 unfolding countsFormat afterLiteral countsLine upTo pair line
 counts-print n = simp append-assoc
@@ -204,13 +196,6 @@ within-named p g b = (
   rw (b .0 .1, b .1 .0 .1, b .1 .1 .0 .1),
 )
 
-pub to-end-some : {A : Type 0} (r : A × List ℕ) (a : A) → toEnd r ≡ some a → r ≡ (a, [])
-to-end-some {A} r a e = go (r .0) (r .1) e
-  where
-    go : (x : A) (t : List ℕ) → toEnd {A = A} (x, t) ≡ some a → _≡_ {A = A × List ℕ} (x, t) (a, [])
-    go x [] e = cc
-    go x (b ∷ t) e = absurd (none-not-some e)
-
 -- reading what was written gives the table back
 pub read-written : (d : Named) → Within d → readTable (tableText d) ≡ some d
 unfolding readTable
@@ -223,10 +208,10 @@ read-written d w =
 pub written-read : (t : List ℕ) (d : Named) → readTable t ≡ some d → (tableText d ≡ t) × Within d
 unfolding readTable
 written-read t d e =
-    let p : (r : (Counts × Body) × List ℕ) × (tableFormat .read t ≡ some r) × ((toEnd r >>= λ p. some (namedOf p)) ≡ some d) =
-    bind-some (tableFormat .read t) (λ r. toEnd r >>= λ p. some (namedOf p)) d e in
-    let q : (x : Counts × Body) × (toEnd (p .0) ≡ some x) × (some (namedOf x) ≡ some d) = bind-some (toEnd (p .0)) (λ p. some (namedOf p)) d (p .2) in
-    finish t d (q .0) (p .1 ∙ ap some (to-end-some (p .0) (q .0) (q .1))) (some-inj (q .2))
+    let p : (r : (Counts × Body) × List ℕ) × (tableFormat .read t ≡ some r) × ((whole r >>= λ p. some (namedOf p)) ≡ some d) =
+    bind-some (tableFormat .read t) (λ r. whole r >>= λ p. some (namedOf p)) d e in
+    let q : (x : Counts × Body) × (whole (p .0) ≡ some x) × (some (namedOf x) ≡ some d) = bind-some (whole (p .0)) (λ p. some (namedOf p)) d (p .2) in
+    finish t d (q .0) (p .1 ∙ ap some (whole-some (p .0) (q .0) (q .1))) (some-inj (q .2))
   where
     finish : (t : List ℕ) (d : Named) (x : Counts × Body) → tableFormat .read t ≡ give x [] → namedOf x ≡ d → (tableText d ≡ t) × Within d
     finish t d x f v =

@@ -9,8 +9,8 @@ use lib.ListN.{length, take, drop, getD, length-drop, length-append, drop-of-len
 use lib.Seq.{take-append-seam}
 use native.Mathlib.Omega.{arith}
 use borrow.Author.Tests.{le-leb, lt-leb, eq-eqb, ne-eqb}
+use Rattle.word.proofs.ListLaws.{drop-cons-one}
 use Rattle.text.specs.Text.{give, _>>=_}
-use Rattle.text.proofs.Getting.{drop-at}
 use Rattle.text.specs.declared.Literal.{Literal}
 use Rattle.text.specs.declared.Literal.the-variants.{Past, Missing}
 use Rattle.tables.specs.Table.{plain, Plain, nameText, nameFormat, readName}
@@ -30,20 +30,20 @@ module _ (s : List ℕ) (i : ℕ) {x : Literal} (e : x ≡ ending (length s) (re
   pub name-there : i < length s → getD s i 0 ≡ 10 → Past (i + 1) ≡ x
   unfolding readName
   name-there h b =
-      sym (e ∙ rw (drop-at s i h, eq-eqb (getD s i 0) 10 b) (ap Past (let v : length s - length (drop (i + 1) s) ≡ i + 1 = omega (arith, length-drop (i + 1) s) in v)))
+      sym (e ∙ rw (drop-cons-one s i h, eq-eqb (getD s i 0) 10 b) (ap Past (let v : length s - length (drop (i + 1) s) ≡ i + 1 = omega (arith, length-drop (i + 1) s) in v)))
 
   pub name-low : i < length s → (getD s i 0 ≡ 10 → ⊥) → getD s i 0 < 32 → Missing ≡ x
   unfolding readName plain
-  name-low h b l = sym (e ∙ rw (drop-at s i h, ne-eqb (getD s i 0) 10 b, lt-leb 32 (getD s i 0) l))
+  name-low h b l = sym (e ∙ rw (drop-cons-one s i h, ne-eqb (getD s i 0) 10 b, lt-leb 32 (getD s i 0) l))
 
   pub name-comma : i < length s → (getD s i 0 ≡ 10 → ⊥) → 32 ≤ getD s i 0 → getD s i 0 ≡ 44 → Missing ≡ x
   unfolding readName plain
-  name-comma h b l m = sym (e ∙ rw (drop-at s i h, ne-eqb (getD s i 0) 10 b, le-leb 32 (getD s i 0) l, eq-eqb (getD s i 0) 44 m))
+  name-comma h b l m = sym (e ∙ rw (drop-cons-one s i h, ne-eqb (getD s i 0) 10 b, le-leb 32 (getD s i 0) l, eq-eqb (getD s i 0) 44 m))
 
   pub name-on : i < length s → (getD s i 0 ≡ 10 → ⊥) → 32 ≤ getD s i 0 → (getD s i 0 ≡ 44 → ⊥) → x ≡ ending (length s) (readName (drop (i + 1) s))
   unfolding readName plain
   name-on h b l m =
-      e ∙ rw (drop-at s i h, ne-eqb (getD s i 0) 10 b, le-leb 32 (getD s i 0) l, ne-eqb (getD s i 0) 44 m)
+      e ∙ rw (drop-cons-one s i h, ne-eqb (getD s i 0) 10 b, le-leb 32 (getD s i 0) l, ne-eqb (getD s i 0) 44 m)
       (name-step-ending (length s) (getD s i 0) (readName (drop (i + 1) s)))
 
 -- a name that was found

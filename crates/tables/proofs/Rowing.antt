@@ -5,13 +5,14 @@ use mathlib.Core.Path.{_≡_, refl, sym, ap, _∙_}
 use lib.ListN.{length, take, drop, getD, set, length-append, length-drop, length-take}
 use lib.Seq.{drop-drop, take-all, take-length}
 use native.Mathlib.Omega.{arith}
-use native.Mathlib.Nat.{add-zero}
+use native.Mathlib.Nat.{add-zero, mul-suc}
 use Rattle.text.specs.Text.{decimal, comma, newline}
+use Rattle.text.specs.Format.{All}
 use Rattle.text.specs.Put.{Puts}
 use Rattle.text.proofs.Laws.{decimal-length}
 use Rattle.text.proofs.Putting.{puts-puts, puts-byte, puts-length, puts-at, puts-none}
 use Rattle.pages.proofs.Writing.{flat-more-length, flat-room, puts-more}
-use Rattle.tables.specs.Table.{Row, field, nameText, rowLine}
+use Rattle.tables.specs.Table.{Row, RowWithin, field, nameText, rowLine}
 use Rattle.tables.specs.Lists.{rowsOf, numbersIn, namesIn}
 
 pub flat-append : {A : Type 0} (f : A → List ℕ) (xs ys : List A) → flatMap f (xs ++ ys) ≡ flatMap f xs ++ flatMap f ys
@@ -117,3 +118,10 @@ rows-room k l ms ns =
       ap length (flat-append rowLine (rowsOf k l ms) (rowsOf k (drop (k * length ms) l) ns)),
       length-append (flatMap rowLine (rowsOf k l ms)) (flatMap rowLine (rowsOf k (drop (k * length ms) l) ns)),
     )
+
+-- how many numbers lines have
+pub numbers-size : (k most : ℕ) (rows : List Row) → All (RowWithin k most) rows → length (numbersIn rows) ≡ k * length rows
+unfolding numbersIn flatMap
+numbers-size k most [] a = omega arith
+numbers-size k most (r ∷ rows) a =
+    omega (arith, a .0 .0 .1, numbers-size k most rows (a .1), length-append (r .0) (numbersIn rows), mul-suc k (length rows))

@@ -7,8 +7,9 @@ use mathlib.Core.Option.{Option, some}
 use lib.ListN.{length, take, drop}
 use Rattle.text.specs.Text.{_>>=_}
 use Rattle.text.specs.Format.{Format, pair, times}
+use Rattle.pages.specs.Page.{whole}
 use Rattle.ty.specs.Check.{tableGood}
-use Rattle.tables.specs.Table.{Row, Named, nameText, nameFormat, toEnd}
+use Rattle.tables.specs.Table.{Row, Named, nameText, nameFormat}
 
 unfoldable pub numbersIn : List Row → List ℕ
 numbersIn rows = flatMap (λ r. r .0) rows
@@ -41,4 +42,4 @@ withNames w f c b n = record { types = rowsOf 4 w (n .0); fields = rowsOf 2 f (n
 -- the table that lies in lent lists; none where `names` is not a line of plain text for each type, field and constant
 unfoldable pub namedIn : (types fields constants bytes names : List ℕ) → Option Named
 namedIn w f c b names =
-    namesFormat (length w / 4) (length f / 2) (length c / 3) .read names >>= λ r. toEnd r >>= λ n. some (withNames w f c b n)
+    namesFormat (length w / 4) (length f / 2) (length c / 3) .read names >>= λ r. whole r >>= λ n. some (withNames w f c b n)

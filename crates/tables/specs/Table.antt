@@ -10,6 +10,7 @@ use lib.ListN.{length}
 use Rattle.word.specs.Choice.{if_then_else_}
 use Rattle.text.specs.Text.{_>>=_, ascii, decimal, hex, line, newline, comma, Bytes, Reader, give, readField}
 use Rattle.text.specs.Format.{Format, bytesLine, afterLiteral, pair, times, All}
+use Rattle.pages.specs.Page.{whole}
 
 -- a line: its numbers, and the name at its end
 abbrev pub Row : Type 0
@@ -138,14 +139,6 @@ saved d = (
   (d .types, (d .fields, (d .constants, d .bytes))),
 )
 
--- what was read, if it is all of the text
-abbrev pub toEnd : {A : Type 0} → A × List ℕ → Option A
-toEnd {A} r = go (r .1)
-  where
-    go : List ℕ → Option A
-    go [] = some (r .0)
-    go (b ∷ t) = none
-
 -- the table whose text a text is, if it is one's
 unfoldable pub readTable : List ℕ → Option Named
-readTable t = tableFormat .read t >>= λ r. toEnd r >>= λ p. some (namedOf p)
+readTable t = tableFormat .read t >>= λ r. whole r >>= λ p. some (namedOf p)

@@ -50,3 +50,17 @@ module _ (s : List ℕ) (at : ℕ) (p : HexParsed s at) (i : ℕ) (h : i < lengt
   low-value k a e q =
       q ∙ ap (λ (n : ℕ). valueOr16 (hexDigitOf (getD s n 0))) (let v : k + 1 ≡ at + (2 * i + 1) = omega arith in v) ∙ ap (λ (n : ℕ). valueOr16 (hexDigitOf n)) low-digit
       ∙ ap valueOr16 (hex-digit-forth (getD (hexAt s at) i 0 % 16) (omega (arith, the-byte)))
+
+-- a byte from its two digits' values
+pub record Spelled (s : List ℕ) (at i a b : ℕ) : Type 0 where
+  pub small : a * 16 < 256
+  pub whole : a * 16 + b < 256
+  pub value : a * 16 + b ≡ getD (hexAt s at) i 0
+
+pub from-digits : (s : List ℕ) (at i a b : ℕ) → HexParsed s at → i < length (hexAt s at) → a ≡ valueOr16 (hexDigitOf (getD s (at + 2 * i) 0)) →
+    b ≡ valueOr16 (hexDigitOf (getD s (at + 2 * i + 1) 0)) → Spelled s at i a b
+from-digits s at i a b p h ea eb =
+    let x : a ≡ getD (hexAt s at) i 0 / 16 = high-value s at p i h (at + 2 * i) a refl ea in
+    let y : b ≡ getD (hexAt s at) i 0 % 16 = low-value s at p i h (at + 2 * i) b refl eb in
+    let z : getD (hexAt s at) i 0 < 256 = the-byte s at p i h in
+    record { small = omega arith; whole = omega arith; value = omega arith }

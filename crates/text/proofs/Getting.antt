@@ -14,6 +14,7 @@ use native.Mathlib.Numerals.{add-one}
 use native.Mathlib.Nat.{zero-add}
 use borrow.Author.Tests.{le-leb, lt-leb, not-true, not-false, eq-eqb, ne-eqb, leb-true, leb-false, eqb-true}
 use Rattle.word.proofs.BitLaws.{or-none}
+use Rattle.word.proofs.ListLaws.{drop-cons-one}
 use Rattle.text.specs.Text.{_>>=_, give, decimal, hex, newline, Bytes, digitOf, stops, ends, scan, capped, after, readDecimal, readLiteral, hexDigitOf, byteOf, readHex, readField}
 use Rattle.text.specs.Format.{Format, Right, either, number}
 use Rattle.text.specs.declared.Decimal.{Decimal}
@@ -26,10 +27,6 @@ use Rattle.text.specs.declared.Literal.the-variants.{Past, Missing}
 use Rattle.text.specs.declared.Hex.the-variants.{Count, NoHex}
 use Rattle.text.specs.declared.Decimal.the-variants.{Number, NoNumber}
 use Rattle.text.proofs.Laws.{digit-of-digit, scan-some, scan-stops, scan-grows, read-digit, hex-digit-back, decimal-back, number-right, hex-back, literal-back}
-
--- what stands at an index, and what comes after it
-pub drop-at : (s : List ℕ) (i : ℕ) → i < length s → drop i s ≡ getD s i 0 ∷ drop (i + 1) s
-drop-at s i h = rw (add-one i) (drop-cons s i 0 h)
 
 pub low : (b : ℕ) → b < 48 → digitOf b ≡ none
 unfolding digitOf
@@ -46,7 +43,7 @@ mid b h k = rw (le-leb 48 b h, le-leb b 57 k)
 module _ (s : List ℕ) (i : ℕ) where
   pub stops-at : i < length s → digitOf (getD s i 0) ≡ none → stops (drop i s)
   unfolding stops
-  stops-at h e = rw (drop-at s i h) e
+  stops-at h e = rw (drop-cons-one s i h) e
 
   pub stops-end : length s ≤ i → stops (drop i s)
   unfolding stops
@@ -54,10 +51,10 @@ module _ (s : List ℕ) (i : ℕ) where
 
   pub goes-on : i < length s → (d : ℕ) → digitOf (getD s i 0) ≡ some d → ends (drop i s) ≡ false
   unfolding ends
-  goes-on h d e = rw (drop-at s i h) (rw (e, ends))
+  goes-on h d e = rw (drop-cons-one s i h) (rw (e, ends))
 
   pub step : i < length s → (n d : ℕ) → digitOf (getD s i 0) ≡ some d → scan n (drop i s) ≡ scan (n * 10 + d) (drop (i + 1) s)
-  step h n d e = rw (drop-at s i h) (scan-some n (getD s i 0) d (drop (i + 1) s) e)
+  step h n d e = rw (drop-cons-one s i h) (scan-some n (getD s i 0) d (drop (i + 1) s) e)
 
 -- a number that stands there
 pub found : (s : List ℕ) (most i n : ℕ) (r : ℕ × List ℕ) → n ≤ most → i ≤ length s → r ≡ scan n (drop i s) → stops (drop i s) →
@@ -78,10 +75,10 @@ module _ (s : List ℕ) (most at : ℕ) where
 
   pub no-digit : at < length s → digitOf (getD s at 0) ≡ none → NoNumber ≡ decimalAnswer (length s) (readDecimal most (drop at s))
   unfolding readDecimal
-  no-digit h e = rw (drop-at s at h, e)
+  no-digit h e = rw (drop-cons-one s at h, e)
 
   pub read-at : at < length s → (d : ℕ) → digitOf (getD s at 0) ≡ some d → readDecimal most (drop at s) ≡ after most d (drop (at + 1) s)
-  read-at h d e = rw (drop-at s at h) (read-digit most (getD s at 0) d (drop (at + 1) s) e)
+  read-at h d e = rw (drop-cons-one s at h) (read-digit most (getD s at 0) d (drop (at + 1) s) e)
 
   pub zero-at : at < length s → getD s at 0 ≡ 48 → readDecimal most (drop at s) ≡ after most 0 (drop (at + 1) s)
   zero-at h e = read-at h 0 (rw e (digit-of-digit 0 (omega arith)))
@@ -116,16 +113,16 @@ module _ (l s : List ℕ) (at i : ℕ) where
 
   pub literal-short : i < length l → length s ≤ at + i → left-over ≡ none
   unfolding readLiteral
-  literal-short h k = rw (drop-at l i h, drop-of-length-le s {i = at + i} k)
+  literal-short h k = rw (drop-cons-one l i h, drop-of-length-le s {i = at + i} k)
 
   pub literal-other : i < length l → at + i < length s → (getD l i 0 ≡ getD s (at + i) 0 → ⊥) → left-over ≡ none
   unfolding readLiteral
-  literal-other h k n = rw (drop-at l i h, drop-at s (at + i) k, ne-eqb (getD l i 0) (getD s (at + i) 0) n)
+  literal-other h k n = rw (drop-cons-one l i h, drop-cons-one s (at + i) k, ne-eqb (getD l i 0) (getD s (at + i) 0) n)
 
   pub literal-same : i < length l → at + i < length s → getD l i 0 ≡ getD s (at + i) 0 → left-over ≡ readLiteral (drop (i + 1) l) (drop (at + (i + 1)) s)
   unfolding readLiteral
   literal-same h k e =
-      rw (drop-at l i h, drop-at s (at + i) k, eq-eqb (getD l i 0) (getD s (at + i) 0) e)
+      rw (drop-cons-one l i h, drop-cons-one s (at + i) k, eq-eqb (getD l i 0) (getD s (at + i) 0) e)
       (ap (λ (m : ℕ). readLiteral (drop (i + 1) l) (drop m s)) (let v : at + i + 1 ≡ at + (i + 1) = omega arith in v))
 
   pub literal-all : length l ≤ i → at + i ≤ length s → left-over ≡ some (drop (at + i) s)
@@ -191,14 +188,14 @@ module _ (s : List ℕ) (n i : ℕ) where
 
   pub hex-line : i < length s → getD s i 0 ≡ 10 → Count n (i + 1) ≡ hexMore (length s) n (readHex (drop i s))
   hex-line h e =
-      rw (drop-at s i h) (rw (newline-reads (getD s i 0) (drop (i + 1) s) e)
+      rw (drop-cons-one s i h) (rw (newline-reads (getD s i 0) (drop (i + 1) s) e)
       (λ k. Count (let v : n ≡ n + 0 = omega arith in v k) (let v : i + 1 ≡ length s - length (drop (i + 1) s) = omega (arith, length-drop (i + 1) s) in v k)))
 
   pub hex-short : i < length s → length s ≤ i + 1 → (getD s i 0 ≡ 10 → ⊥) → NoHex ≡ hexMore (length s) n (readHex (drop i s))
-  hex-short h k e = rw (drop-at s i h, drop-of-length-le s {i = i + 1} k) (rw (one-reads (getD s i 0) e))
+  hex-short h k e = rw (drop-cons-one s i h, drop-of-length-le s {i = i + 1} k) (rw (one-reads (getD s i 0) e))
 
   two : i + 1 < length s → drop i s ≡ getD s i 0 ∷ getD s (i + 1) 0 ∷ drop (i + 2) s
-  two h = drop-at s i (omega arith) ∙ ap (λ (t : List ℕ). getD s i 0 ∷ t) (drop-at s (i + 1) h ∙ ap (λ (m : ℕ). getD s (i + 1) 0 ∷ drop m s) (let v : i + 1 + 1 ≡ i + 2 = omega arith in v))
+  two h = drop-cons-one s i (omega arith) ∙ ap (λ (t : List ℕ). getD s i 0 ∷ t) (drop-cons-one s (i + 1) h ∙ ap (λ (m : ℕ). getD s (i + 1) 0 ∷ drop m s) (let v : i + 1 + 1 ≡ i + 2 = omega arith in v))
 
   pub hex-first : i + 1 < length s → (getD s i 0 ≡ 10 → ⊥) → valueOr16 (hexDigitOf (getD s i 0)) ≡ 16 → NoHex ≡ hexMore (length s) n (readHex (drop i s))
   hex-first h e f = rw (two h) (rw (first-none (getD s i 0) (getD s (i + 1) 0) (drop (i + 2) s) e (value-none (getD s i 0) f)))
@@ -334,12 +331,12 @@ module _ (s : List ℕ) (most end at n k : ℕ) (e : readDecimal most (drop at s
 
   pub field-other : k < length s → (getD s k 0 ≡ end → ⊥) → NoNumber ≡ decimalAnswer (length s) (readField most end (drop at s))
   unfolding readField readLiteral
-  field-other h f = rw e (rw (drop-at s k h) (rw (ne-eqb end (getD s k 0) (λ x. f (sym x)))))
+  field-other h f = rw e (rw (drop-cons-one s k h) (rw (ne-eqb end (getD s k 0) (λ x. f (sym x)))))
 
   pub field-there : k < length s → getD s k 0 ≡ end → Number n (k + 1) ≡ decimalAnswer (length s) (readField most end (drop at s))
   unfolding readField readLiteral
   field-there h f =
-      rw e (rw (drop-at s k h) (rw (eq-eqb end (getD s k 0) (sym f))
+      rw e (rw (drop-cons-one s k h) (rw (eq-eqb end (getD s k 0) (sym f))
       (ap (Number n) (let v : k + 1 ≡ length s - length (drop (k + 1) s) = omega (arith, length-drop (k + 1) s) in v))))
 
 pub field-none : (s : List ℕ) (most end at : ℕ) → readDecimal most (drop at s) ≡ none → NoNumber ≡ decimalAnswer (length s) (readField most end (drop at s))

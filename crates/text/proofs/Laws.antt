@@ -352,7 +352,7 @@ literal-back (c ∷ cs) (b ∷ t) rest e =
 
 -- FORMATS
 
-number-join : (most m n end : ℕ) (t w u rest : List ℕ) → m ≤ most → decimal m ++ w ≡ t → end ∷ u ≡ w → m ≡ n → u ≡ rest →
+pub number-join : (most m n end : ℕ) (t w u rest : List ℕ) → m ≤ most → decimal m ++ w ≡ t → end ∷ u ≡ w → m ≡ n → u ≡ rest →
     (n ≤ most) × ((decimal n ++ (end ∷ [])) ++ rest ≡ t)
 number-join most m n end t w u rest h d l v0 v1 =
     (omega arith, append-assoc (decimal n) (end ∷ []) rest ∙ rw (← v1, l, ← v0) d)
@@ -498,20 +498,27 @@ pub times-right : {A : Type 0} {f : Format A} {good : A → Type 0} (n : ℕ) �
 unfolding times
 times-right n r = record { forth = λ l rest h. all-forth r n l rest (h .0) (h .1); back = λ t l rest e. all-back r n t l rest e }
 
-pub mapped-right : {A B : Type 0} {f : Format A} {good : A → Type 0} (to : A → B) (from : B → A) →
-    ((b : B) → to (from b) ≡ b) → ((a : A) → from (to a) ≡ a) → Right f good → Right (mapped to from f) (λ b. good (from b))
+-- values of another type, one for one where they are good
+pub mapped-where : {A B : Type 0} {f : Format A} {good : A → Type 0} (fine : B → Type 0) (to : A → B) (from : B → A) →
+    ((b : B) → fine b → good (from b) × (to (from b) ≡ b)) → ((a : A) → good a → fine (to a) × (from (to a) ≡ a)) → Right f good → Right (mapped to from f) fine
 unfolding mapped
-mapped-right {A} {B} {f} {good} to from there back-again r =
+mapped-where {A} {B} {f} {good} fine to from there again r =
     record {
-      forth = λ b rest h. rw (r .forth (from b) rest h, there b);
+      forth = λ b rest h. rw (r .forth (from b) rest (there b h .0), there b h .1);
       back = λ t b rest e.
           let p : (x : A × List ℕ) × (f .read t ≡ some x) × (give (to (x .0)) (x .1) ≡ give b rest) = bind-some (f .read t) (λ r. give (to (r .0)) (r .1)) (b, rest) e in
           let v : _≡_ {A = B × List ℕ} (to (p .0 .0), p .0 .1) (b, rest) = some-inj (p .2) in
           go t (p .0 .0) b (p .0 .1) rest (ap (λ (x : B × List ℕ). x .0) v) (ap (λ (x : B × List ℕ). x .1) v) (r .back t (p .0 .0) (p .0 .1) (p .1));
     }
   where
-    go : (t : List ℕ) (a : A) (b : B) (u rest : List ℕ) → to a ≡ b → u ≡ rest → good a × (f .print a ++ u ≡ t) → good (from b) × (f .print (from b) ++ rest ≡ t)
-    go t a b u rest v0 v1 h = rw (← v0, back-again a, ← v1) h
+    go : (t : List ℕ) (a : A) (b : B) (u rest : List ℕ) → to a ≡ b → u ≡ rest → good a × (f .print a ++ u ≡ t) → fine b × (f .print (from b) ++ rest ≡ t)
+    go t a b u rest v0 v1 h = let g = again a (h .0) in rw (← v0, g .1, ← v1) (g .0, h .1)
+
+-- everywhere
+pub mapped-right : {A B : Type 0} {f : Format A} {good : A → Type 0} (to : A → B) (from : B → A) →
+    ((b : B) → to (from b) ≡ b) → ((a : A) → from (to a) ≡ a) → Right f good → Right (mapped to from f) (λ b. good (from b))
+mapped-right {A} {B} {f} {good} to from there back-again r =
+    mapped-where (λ b. good (from b)) to from (λ b h. (h, there b)) (λ a h. (rw (back-again a) h, back-again a)) r
 
 -- two values with the same text are the same
 pub injective : {A : Type 0} {f : Format A} {good : A → Type 0} → Right f good → (a b : A) → good a → good b → f .print a ≡ f .print b → a ≡ b

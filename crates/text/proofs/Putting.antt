@@ -100,3 +100,24 @@ puts-all i l p e = puts-at p refl (take-all i l (omega arith))
 
 pub puts-all-hex : {a b : List ℕ} {at r : ℕ} (i : ℕ) (l : List ℕ) → Puts a b at r (hex (take i l)) → i ≡ length l → Puts a b at r (hex l)
 puts-all-hex i l p e = puts-at p refl (ap hex (take-all i l (omega arith)))
+
+-- the first i elements of a list that is copied one by one
+pub record Copies (a b : List ℕ) (at i : ℕ) (l : List ℕ) : Type 0 where
+  pub within : i ≤ length l
+  pub size : length b ≡ length a
+  pub puts : Puts a b at (at + i) (take i l)
+
+pub copies-begin : (a : List ℕ) (at n : ℕ) (l : List ℕ) → at + n ≤ length a → Copies a a at 0 l
+copies-begin a at n l h = record { within = omega arith; size = refl; puts = puts-at (puts-none a at (omega arith)) (sym (add-zero at)) refl }
+
+pub copies-next : {a b : List ℕ} {at i : ℕ} {l : List ℕ} (n v : ℕ) → Copies a b at i l → i < n → n ≡ length l → at + n ≤ length a → v ≡ getD l i 0 →
+    Copies a (set b (at + i) v) at (i + 1) l
+copies-next {a} {b} {at} {i} {l} n v p h e room f =
+    rw f (record {
+      within = omega arith;
+      size = length-set b (at + i) (getD l i 0) ∙ p .size;
+      puts = literal-step a b at i l (omega arith) (omega arith) (p .size) (p .puts);
+    })
+
+pub copies-stop : {a b : List ℕ} {at i : ℕ} {l : List ℕ} (n : ℕ) → Copies a b at i l → n ≤ i → n ≡ length l → Puts a b at (at + i) l
+copies-stop {a} {b} {at} {i} {l} n p h e = puts-all i l (p .puts) (omega (arith, p .within))

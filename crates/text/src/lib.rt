@@ -1,7 +1,7 @@
 // Text as bytes: decimal numbers without spare zeros, lowercase hexadecimal, literals.
 ghost use mathlib.Core.Path.{_≡_};
 ghost use Prim.Native.Nat.{ℕ, _+_, _-_, _/_, _≤_, _<_};
-ghost use lib.ListN.{length, take, drop};
+ghost use lib.ListN.{length, take, drop, getD};
 ghost use mathlib.Core.Bool.{not, true};
 ghost use Rattle.text.specs.Text.{decimal, hex, hexDigit, ends, scan, capped, readDecimal, readLiteral, hexDigitOf, readHex, readField};
 ghost use Rattle.text.specs.Answer.{decimalAnswer, literalAnswer, eitherAnswer, hexAnswer, hexMore, valueOr16};
@@ -329,6 +329,18 @@ pub fn get_field(s: &[u8], at: usize, most: u64, end: u8) -> Decimal
     Decimal::NoNumber
 }
 
+// Byte i of those that a text spells in hexadecimal from `at` on.
+pub fn hex_byte(s: &[u8], at: usize, i: usize) -> u8
+    requires { ⌜ HexParsed (now s) at ⌝ }
+    requires { ⌜ i < length (hexAt (now s) at) ⌝ }
+    ensures { λ r. ⌜ r ≡ getD (hexAt (now (s .entry)) at) i 0 ⌝ }
+{
+    let k = at + 2 * i;
+    let a = hex_value(s[k]);
+    let b = hex_value(s[k + 1]);
+    a * 16 + b
+}
+
 // Puts the `count` bytes that a text spells in hexadecimal from `at` on into `out` from `to` on, and answers where they end.
 pub fn copy_hex(s: &[u8], at: usize, count: usize, out: &mut [u8], to: usize) -> usize
     requires { ⌜ HexParsed (now s) at ⌝ }
@@ -336,12 +348,8 @@ pub fn copy_hex(s: &[u8], at: usize, count: usize, out: &mut [u8], to: usize) ->
     ensures { λ r. ⌜ Puts (now (out .entry)) (now (out .exit)) to r (hexAt (now (s .entry)) at) ⌝ }
 {
     let mut i = 0;
-    let mut k = at;
     while i < count {
-        let a = hex_value(s[k]);
-        let b = hex_value(s[k + 1]);
-        out[to + i] = a * 16 + b;
-        k += 2;
+        out[to + i] = hex_byte(s, at, i);
         i += 1;
     }
     to + i

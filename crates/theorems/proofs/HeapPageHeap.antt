@@ -20,18 +20,18 @@ module _ (l m : Lent) (q : Answer) (m′ : Lent) (t : Trip l m q m′) where
   trip-wrote = wrote l (t .writes) (t .written)
 
   -- the text that was written is the heap's page
-  text-written : take (t .wrote .first) (t .out′) ≡ pageText written (view l)
+  text-written : take (t .wrote .first) (t .out′) ≡ pageText (written (t .planar)) (view l)
   text-written =
       let w = trip-wrote in
-      ap (take (t .wrote .first)) (w .page) ∙ ap (λ (k : ℕ). take k (putText (t .out) 0 (pageText written (view l)))) (w .size) ∙ taken-back (t .out) (pageText written (view l))
+      ap (take (t .wrote .first)) (w .page) ∙ ap (λ (k : ℕ). take k (putText (t .out) 0 (pageText (written (t .planar)) (view l)))) (w .size) ∙ taken-back (t .out) (pageText (written (t .planar)) (view l))
 
-  reads-page : Reads m (pageText written (view l)) (t .marks₂) (t .work₂) q m′ (t .marks₂′) (t .work₂′)
+  reads-page : Reads m (pageText (written (t .planar)) (view l)) (t .marks₂) (t .work₂) q m′ (t .marks₂′) (t .work₂′)
   reads-page = rw text-written at (t .reads)
 
 pub written-read : WrittenRead
 written-read l m q m′ b t v =
     let w = trip-wrote l m q m′ t in
-    page-taken (words-within l (w .formed) b) (sound-part l (w .formed)) v (t .scratch) (reads-page l m q m′ t)
+    page-taken (words-within (t .planar) l (w .formed) b) (sound-part l (w .formed)) v (t .scratch) (reads-page l m q m′ t)
 
 pub written-read-same : WrittenReadSame
 unfolding stored headerOf

@@ -13,4 +13,7 @@ pub mod PlacesRise
 pub mod ProvedTable
 pub mod TestsPass
 pub mod CollectedTwice
+pub mod RetiredStays
 pub mod Shelf
+pub mod RootsCollected
+pub mod TableText

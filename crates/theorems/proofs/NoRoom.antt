@@ -14,6 +14,7 @@ use borrow.Author.Tests.{le-leb, eq-eqb, ne-eqb}
 use Rattle.word.specs.Choice.{if_then_else_}
 use Rattle.word.specs.Num.{alignUp}
 use Rattle.word.proofs.NumLaws.{align-same, align-next}
+use Rattle.trace.proofs.Levels.{from-laid, from-dims}
 use Rattle.ty.specs.Types.{Ty, Ty.missing, Ty.int, Ty.physical, Ty.enum, Ty.real, Ty.array, Ty.fields, Ty.access, Ty.file, Ty.protected, Field, Field.field, Const, Const.plain, Const.other, Table, typeAt, constAt, none as noConst}
 use Rattle.ty.specs.Words.{wordOf, onWord, roundUp}
 use Rattle.ty.specs.Scalars.{scalarSize, elemSize, narrow, leafBy, logicLeaf}
@@ -34,16 +35,6 @@ use Rattle.trace.proofs.DescLaws.{used-is-at}
 use Rattle.trace.proofs.Emits.{many-end, many-one, turns-none, turns-one}
 
 -- ---- what a layout was made from
-
-pub from-laid : {R : Type 0} (l : Lay) (f : ℕ → ℕ → ℕ → ℕ → ℕ → Lay) (s a st q u : ℕ) → onLaid l f ≡ Laid s a st q u → ((s′ a′ st′ q′ u′ : ℕ) → l ≡ Laid s′ a′ st′ q′ u′ → f s′ a′ st′ q′ u′ ≡ Laid s a st q u → R) → R
-from-laid (Laid s′ a′ st′ q′ u′) f s a st q u e k = k s′ a′ st′ q′ u′ refl e
-from-laid Malformed f s a st q u e k = let z : _≡_ {A = ℕ} 0 1 = cc in absurd (omega arith)
-from-laid TooLarge f s a st q u e k = let z : _≡_ {A = ℕ} 0 1 = cc in absurd (omega arith)
-
-pub from-dims : {R : Type 0} (x : Dims) (f : ℕ → Lay) (s a st q u : ℕ) → onDims x f ≡ Laid s a st q u → ((n : ℕ) → f n ≡ Laid s a st q u → R) → R
-from-dims (Count n) f s a st q u e k = k n e
-from-dims Bad f s a st q u e k = let z : _≡_ {A = ℕ} 0 1 = cc in absurd (omega arith)
-from-dims Large f s a st q u e k = let z : _≡_ {A = ℕ} 0 1 = cc in absurd (omega arith)
 
 from-word : {R : Type 0} (x : Word) (f : ℕ → Lay) (s a st q u : ℕ) → onWord TooLarge x f ≡ Laid s a st q u → ((n : ℕ) → x ≡ Is n → f n ≡ Laid s a st q u → R) → R
 from-word (Is n) f s a st q u e k = k n refl e

@@ -9,10 +9,10 @@ use Rattle.theorems.proofs.Widths.{words-within}
 use Rattle.theorems.proofs.PageWriting.{wrote, writes-page, sound-part}
 
 pub written-bound : WrittenBound
-written-bound l out marks work r out′ marks′ work′ b c z =
+written-bound p l out marks work r out′ marks′ work′ b c z =
     let w = wrote l c z in
-    omega (arith, w .size, page-length written (view l) (words-within l (w .formed) b) (sound-part l (w .formed)))
+    omega (arith, w .size, page-length (written p) (view l) (words-within p l (w .formed) b) (sound-part l (w .formed)))
 
 pub bound-suffices : BoundSuffices
-bound-suffices l out marks work r out′ marks′ work′ b f s h c =
-    writes-page l c f s (omega (arith, page-length written (view l) (words-within l f b) (sound-part l f))) .0
+bound-suffices p l out marks work r out′ marks′ work′ b f s h c =
+    writes-page l c f s (omega (arith, page-length (written p) (view l) (words-within p l f b) (sound-part l f))) .0

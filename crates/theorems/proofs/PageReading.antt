@@ -10,22 +10,24 @@ use native.Mathlib.Omega.{arith}
 use borrow.Author.Tests.{le-leb, le-ltb, eq-eqb}
 use Rattle.word.specs.Result.{Result, ok, refused}
 use Rattle.word.proofs.Bools.{and-both}
-use Rattle.refusal.specs.Told.{refusedBy, answered, nothing}
+use Rattle.refusal.specs.Told.{refusedBy, answered}
 use Rattle.refusal.specs.declared.Answer.{Answer}
 use Rattle.heap.specs.State.{State, dataSize}
 use Rattle.heap.specs.Packing.{pad}
 use Rattle.heap.specs.Lent.{Lent, stored, view, slotCount, poolSize}
-use Rattle.heap.specs.WellFormed.{partitioned, sound, fits, wellFormed}
+use Rattle.heap.specs.WellFormed.{partitioned, retiredRightly, sound, fits, wellFormed}
 use Rattle.heap.proofs.Sound.{WellFormed}
+use Rattle.heap.proofs.Counting.{all-slots}
 use Rattle.heap.proofs.Packing.{length-pad}
 use Rattle.heap.proofs.Seals.{seals-few}
 use Rattle.heap.proofs.Storing.{view-stored}
 use Rattle.heap.proofs.Testing.{stored-formed, formed-tested}
 use Rattle.pages.specs.Form.{Form}
-use Rattle.pages.specs.Page.{pageText, Within, readPage}
+use Rattle.pages.specs.Page.{pageText, Within, readPage, moved, brought}
 use Rattle.pages.proofs.Laws.{read-written}
-use Rattle.page_check.specs.Sections.{verdict}
-use Rattle.page_reader.specs.Reading.{inRange, Left, left, readInto}
+use Rattle.page_check.specs.Sections.{formIn, verdict}
+use Rattle.page_check.proofs.Assembly.{form-is}
+use Rattle.page_reader.specs.Reading.{bitsMet, namesMet, inRange, Left, left, readInto}
 use Rattle.page_reader.proofs.Loaded.{not-ok, passed, few-numbers}
 use Rattle.door.specs.HeapCalls.{Outcome, enough}
 use Rattle.door.proofs.Entering.{is-enough}
@@ -34,7 +36,7 @@ use Rattle.theorems.specs.PageCalls.{Reads, unlogged, done, Scratch, Roo
 
 -- epoch and log have no part in being sound
 pub sound-unlogged : (h : State) → sound (unlogged h) ≡ sound h
-unfolding sound partitioned
+unfolding sound partitioned retiredRightly
 sound-unlogged h = refl
 
 -- sizes in range
@@ -55,47 +57,60 @@ room-formed h l s r = stored-formed (slotCount l) (poolSize l) h (room-fits h l 
 
 -- ACCEPTING
 
-accepted : (S P : ℕ) (f : Form) (h : State) → sound h ≡ true → dataSize (h .slots) ≤ P → length (h .slots) ≤ S → verdict true S P (some (f, h)) ≡ ok h
+accepted : (S P : ℕ) (p : Form × State) → sound (brought p) ≡ true → dataSize (brought p .slots) ≤ P → length (brought p .slots) ≤ S → verdict true S P (some p) ≡ ok (brought p)
 unfolding verdict
-accepted S P f h s d n = rw (s, le-ltb P (dataSize (h .slots)) d, le-ltb S (length (h .slots)) n)
+accepted S P p s d n = rw (s, le-ltb P (dataSize (brought p .slots)) d, le-ltb S (length (brought p .slots)) n)
 
--- a sound heap's page, in any form, is read into lent memory with room
-pub read-in : (f : Form) (h : State) (l : Lent) → Within f h → sound h ≡ true → Room h l → readInto l (pageText f h) ≡ left l (ok (unlogged h))
+-- nor in moving
+moved-unlogged : (b : Bool) (h : State) → moved b (unlogged h) ≡ unlogged (moved b h)
+moved-unlogged true h = refl
+moved-unlogged false h = refl
+
+-- a page, in any form, of which the heap that it brings is sound, is read into lent memory with room
+pub read-in : (f : Form) (h : State) (l : Lent) → Within f h → sound (brought (f, h)) ≡ true → Room (brought (f, h)) l → readInto l (pageText f h) ≡ left l f (ok (unlogged (brought (f, h))))
 unfolding readInto
 read-in f h l w s r =
-    ap (left l)
+    (λ j. left l (form-is (pageText f h) f (unlogged h) (read-written f h w) j) (verdict (inRange l) (slotCount l) (poolSize l) (readPage (pageText f h))))
+    ∙ ap (left l f)
     (ap (λ (b : Bool). verdict b (slotCount l) (poolSize l) (readPage (pageText f h))) (r .sizes)
     ∙ ap (verdict true (slotCount l) (poolSize l)) (read-written f h w)
-    ∙ accepted (slotCount l) (poolSize l) f (unlogged h) (sound-unlogged h ∙ s) (r .bytes) (r .slots))
+    ∙ accepted (slotCount l) (poolSize l) (f, unlogged h) (ap sound same ∙ sound-unlogged (brought (f, h)) ∙ s)
+    (omega (arith, r .bytes, ap (λ (x : State). dataSize (x .slots)) same)) (omega (arith, r .slots, ap (λ (x : State). length (x .slots)) same))
+    ∙ ap ok same)
+  where
+    same : brought (f, unlogged h) ≡ unlogged (brought (f, h))
+    same = moved-unlogged (f .retiring) h
 
 -- ACCEPTED
 
--- a text that was taken is the page of a sound heap that has room, and this heap lies in lent memory afterwards
+-- a text that was taken is a page that brings a sound heap that has room, and this heap lies in lent memory afterwards
 pub record Taken (l : Lent) (text : List ℕ) (h : State) : Type 0 where
   pub form : Form
-  pub page : readPage text ≡ some (form, h)
+  pub said : State
+  pub page : readPage text ≡ some (form, said)
+  pub heap : brought (form, said) ≡ h
   pub sound : sound h ≡ true
   pub room : Room h l
   pub lies : readInto l text .lent ≡ stored (slotCount l) (poolSize l) h
 
 -- an answer of success stands for a heap
-answers : (l : Lent) (v : Result State) → left l v .answer ≡ ok tt → (h : State) × (v ≡ ok h)
-answers l (ok h) e = (h, refl)
-answers l (refused n) e = absurd (not-ok n e)
+answers : (l : Lent) (f : Form) (v : Result State) → left l f v .answer ≡ ok f → (h : State) × (v ≡ ok h)
+answers l f (ok h) e = (h, refl)
+answers l f (refused n) e = absurd (not-ok n e)
 
-pub taken : (l : Lent) (text : List ℕ) → readInto l text .answer ≡ ok tt → (h : State) × Taken l text h
+pub taken : (l : Lent) (text : List ℕ) → readInto l text .answer ≡ ok (formIn text) → (h : State) × Taken l text h
 unfolding readInto
 taken l text e =
-    let a = answers l (verdict (inRange l) (slotCount l) (poolSize l) (readPage text)) e in
+    let a = answers l (formIn text) (verdict (inRange l) (slotCount l) (poolSize l) (readPage text)) e in
     let p = passed (inRange l) (slotCount l) (poolSize l) (readPage text) (a .0) (a .1) in
-    (a .0, record { form = p .form; page = p .page; sound = p .sound; room = record { sizes = p .sizes; slots = p .slots; bytes = p .room }; lies = ap (λ (v : Result State). left l v .lent) (a .1) })
+    (a .0, record { form = p .form; said = p .said; page = p .page; heap = p .heap; sound = p .sound; room = record { sizes = p .sizes; slots = p .slots; bytes = p .room }; lies = ap (λ (v : Result State). left l (formIn text) v .lent) (a .1) })
 
 -- the number 0 is success: every other answer of the reader is 17, 1, 6 or 5
-pub answer-done : (l : Lent) (text : List ℕ) → answered nothing nothing (readInto l text .answer) .number ≡ 0 → readInto l text .answer ≡ ok tt
+pub answer-done : (l : Lent) (text : List ℕ) → answered bitsMet namesMet (readInto l text .answer) .number ≡ 0 → readInto l text .answer ≡ ok (formIn text)
 unfolding readInto
 answer-done l text e = go (verdict (inRange l) (slotCount l) (poolSize l) (readPage text)) refl e
   where
-    go : (v : Result State) → verdict (inRange l) (slotCount l) (poolSize l) (readPage text) ≡ v → answered nothing nothing (left l v .answer) .number ≡ 0 → left l v .answer ≡ ok tt
+    go : (v : Result State) → verdict (inRange l) (slotCount l) (poolSize l) (readPage text) ≡ v → answered bitsMet namesMet (left l (formIn text) v .answer) .number ≡ 0 → left l (formIn text) v .answer ≡ ok (formIn text)
     go (ok h) q z = refl
     go (refused n) q z = absurd (omega (arith, few-numbers (inRange l) (slotCount l) (poolSize l) (readPage text) n q))
 
@@ -103,7 +118,7 @@ answer-done l text e = go (verdict (inRange l) (slotCount l) (poolSize l) (readP
 
 module _ {l : Lent} {text marks work : List ℕ} {r : Answer} {l′ : Lent} {marks′ work′ : List ℕ} (c : Reads l text marks work r l′ marks′ work′) where
   -- with scratch enough
-  pub reads-enough : enough marks work l ≡ true → (r ≡ answered nothing nothing (readInto l text .answer)) × (l′ ≡ readInto l text .lent)
+  pub reads-enough : enough marks work l ≡ true → (r ≡ answered bitsMet namesMet (readInto l text .answer)) × (l′ ≡ readInto l text .lent)
   unfolding reading
   reads-enough e = (rw e at (ap (λ (o : Outcome). o .answer) (c .told)), rw e at (ap (λ (o : Outcome). o .heap) (c .told)))
 
@@ -111,18 +126,19 @@ module _ {l : Lent} {text marks work : List ℕ} {r : Answer} {l′ : Lent} {mar
   unfolding reading
   reads-few e = rw e at (ap (λ (o : Outcome). o .answer) (c .told))
 
--- a sound heap's page, in any form, is taken in by any lent memory with room and scratch
-pub page-taken : {f : Form} {h : State} {m m′ : Lent} {marks work marks′ work′ : List ℕ} {r : Answer} → Within f h → sound h ≡ true → Room h m → Scratch m marks work →
-    Reads m (pageText f h) marks work r m′ marks′ work′ → TookIn h m r m′
+-- a page, in any form, of which the heap that it brings is sound, is taken in by any lent memory with room and scratch
+pub page-taken : {f : Form} {h : State} {m m′ : Lent} {marks work marks′ work′ : List ℕ} {r : Answer} → Within f h → sound (brought (f, h)) ≡ true → Room (brought (f, h)) m → Scratch m marks work →
+    Reads m (pageText f h) marks work r m′ marks′ work′ → TookIn f (brought (f, h)) m r m′
 page-taken {f} {h} {m} {m′} {marks} {work} {r = r} w s v q c =
     let e = reads-enough c (is-enough marks work m (q .marks) (q .work)) in
     let i = read-in f h m w s v in
-    let lies : m′ ≡ stored (slotCount m) (poolSize m) (unlogged h) = e .1 ∙ ap (λ (x : Left). x .lent) i in
+    let g : State = brought (f, h) in
+    let lies : m′ ≡ stored (slotCount m) (poolSize m) (unlogged g) = e .1 ∙ ap (λ (x : Left). x .lent) i in
     record {
-      answer = e .0 ∙ ap (λ (x : Left). answered nothing nothing (x .answer)) i;
+      answer = e .0 ∙ ap (λ (x : Left). answered bitsMet namesMet (x .answer)) i;
       lies = lies;
-      heap = ap view lies ∙ view-stored (slotCount m) (poolSize m) (unlogged h);
-      formed = ap wellFormed lies ∙ room-formed (unlogged h) m (sound-unlogged h ∙ s) (record { sizes = v .sizes; slots = v .slots; bytes = v .bytes });
+      heap = ap view lies ∙ view-stored (slotCount m) (poolSize m) (unlogged g);
+      formed = ap wellFormed lies ∙ room-formed (unlogged g) m (sound-unlogged g ∙ s) (record { sizes = v .sizes; slots = v .slots; bytes = v .bytes });
     }
 
 -- SIZES
@@ -136,7 +152,7 @@ formed-sizes l f =
     let h : State = view l in
     let seals = seals-few (h .tag) (length (h .slots)) 0 (h .sealed) (omega arith) (w .sound .seals) in
     let lies = w .lies in
-    let retired : length (l .retired) ≡ S = ap (λ (x : Lent). length (x .retired)) lies ∙ length-pad S [] (omega arith) in
+    let retired : length (l .retired) ≡ S = ap (λ (x : Lent). length (x .retired)) lies ∙ length-pad S (h .retired) (omega (arith, all-slots S (poolSize l) h (w .sound), w .sound .slots-fit)) in
     let sealed : length (l .sealed) ≡ S = ap (λ (x : Lent). length (x .sealed)) lies ∙ length-pad S (h .sealed) (omega (arith, seals, w .sound .slots-fit)) in
     let over : length (l .over) ≡ 0 = ap (λ (x : Lent). length (x .over)) lies in
     simp (

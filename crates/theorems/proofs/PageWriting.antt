@@ -52,16 +52,16 @@ module _ (marks work : List ℕ) (l : Lent) where
 pub not-zero : {r : Answer} (n : ℕ) → r ≡ refusedBy n → 1 ≤ n → r .number ≡ 0 → ⊥
 not-zero n e h z = omega (arith, ap (λ (a : Answer). a .number) e)
 
-module _ (l : Lent) {out marks work : List ℕ} {r : Answer} {out′ marks′ work′ : List ℕ} (c : Writes l out marks work r out′ marks′ work′) where
+module _ (l : Lent) {p : Bool} {out marks work : List ℕ} {r : Answer} {out′ marks′ work′ : List ℕ} (c : Writes l p out marks work r out′ marks′ work′) where
   abbrev pub text : List ℕ
-  text = pageText written (view l)
+  text = pageText (written p) (view l)
 
   pub refused-by : {why : Refusal} → admitted (heapTests marks work l) ≡ Not why → r ≡ refusedBy (numberOf why)
-  refused-by e = ap (λ (a : Asked). a .answer) (c .told ∙ asking-not here nothing (marks ∷ work ∷ []) (heapTests marks work l) l (λ h. textAnswer (pageText written h) out) e)
+  refused-by e = ap (λ (a : Asked). a .answer) (c .told ∙ asking-not here nothing (marks ∷ work ∷ []) (heapTests marks work l) l (λ h. textAnswer (pageText (written p) h) out) e)
 
   module _ (e : admitted (heapTests marks work l) ≡ Ready) where
     answer-is : r ≡ answered here nothing (textAnswer text out)
-    answer-is = ap (λ (a : Asked). a .answer) (c .told ∙ asking-ready here nothing (marks ∷ work ∷ []) (heapTests marks work l) l (λ h. textAnswer (pageText written h) out) e)
+    answer-is = ap (λ (a : Asked). a .answer) (c .told ∙ asking-ready here nothing (marks ∷ work ∷ []) (heapTests marks work l) l (λ h. textAnswer (pageText (written p) h) out) e)
 
     out-is : out′ ≡ textOut text out
     out-is = c .page ∙ ap (λ (x : Entry). whether x (λ why. out) (textOut text out)) e
@@ -81,8 +81,8 @@ module _ (l : Lent) {out marks work : List ℕ} {r : Answer} {out′ marks′ wo
   -- a page was written: the heap is well formed, and its page stands at the start of the output
   pub record Wrote : Type 0 where
     pub formed : wellFormed l ≡ true
-    pub size : r .first ≡ length (pageText written (view l))
-    pub page : out′ ≡ putText out 0 (pageText written (view l))
+    pub size : r .first ≡ length (pageText (written p) (view l))
+    pub page : out′ ≡ putText out 0 (pageText (written p) (view l))
 
   pub wrote : r .number ≡ 0 → Wrote
   wrote z = go (enough marks work l) refl (wellFormed l) refl (leb (length text) (length out)) refl
@@ -101,10 +101,10 @@ module _ (l : Lent) {out marks work : List ℕ} {r : Answer} {out′ marks′ wo
     ready : admitted (heapTests marks work l) ≡ Ready
     ready = is-ready marks work l (is-enough marks work l (s .marks) (s .work)) f
 
-    pub writes-page : length (pageText written (view l)) ≤ length out → (r ≡ done (length (pageText written (view l)))) × (out′ ≡ putText out 0 (pageText written (view l)))
+    pub writes-page : length (pageText (written p) (view l)) ≤ length out → (r ≡ done (length (pageText (written p) (view l)))) × (out′ ≡ putText out 0 (pageText (written p) (view l)))
     writes-page h = (fits-answer ready h, fits-out ready h)
 
-    pub writes-none : length out < length (pageText written (view l)) → (r ≡ refusedBy 7) × (out′ ≡ out)
+    pub writes-none : length out < length (pageText (written p) (view l)) → (r ≡ refusedBy 7) × (out′ ≡ out)
     writes-none h = (short-answer ready h, short-out ready h)
 
 pub put-start : (out t : List ℕ) → putText out 0 t ≡ t ++ drop (length t) out

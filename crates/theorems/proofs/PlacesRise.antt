@@ -13,6 +13,7 @@ use native.Mathlib.Nat.{mul-suc, zero-mul}
 use native.Mathlib.Decide.{ℕ-discrete, decLt}
 use native.Mathlib.Omega.{arith}
 use Rattle.word.specs.Choice.{if_then_else_}
+use Rattle.trace.proofs.Levels.{from-laid, from-dims}
 use Rattle.ty.specs.Types.{Ty, Ty.missing, Ty.int, Ty.physical, Ty.enum, Ty.real, Ty.array, Ty.fields, Ty.access, Ty.file, Ty.protected, Field, Field.field, Const, Const.plain, Const.other, Table, typeAt, constAt, none as noConst}
 use Rattle.ty.specs.Words.{onWord, wordOf, roundUp}
 use Rattle.ty.specs.Scalars.{scalarSize, narrow, elemSize, logicLeaf}
@@ -30,7 +31,7 @@ use Rattle.trace.specs.declared.Placed.the-variants.{At, Unplaced}
 use Rattle.trace.proofs.Walks.{walk-is}
 use Rattle.theorems.specs.StrideZero.{ShortConstants}
 use Rattle.theorems.specs.PlacesRise.{Apart, PlacesRise, HandlesRise}
-use Rattle.theorems.proofs.NoRoom.{from-laid, from-dims, up, laid-parts, leaf-free, more}
+use Rattle.theorems.proofs.NoRoom.{up, laid-parts, leaf-free, more}
 
 -- ---- lists of places
 

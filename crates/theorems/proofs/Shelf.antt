@@ -10,6 +10,7 @@ use lib.Seq.{take-at, drop-at, length-take-le}
 use borrow.Author.Tests.{ltb-true, ltb-false}
 use Rattle.word.specs.Choice.{if_then_else_}
 use Rattle.word.specs.Result.{Result, ok, refused}
+use Rattle.word.proofs.Bools.{by-size}
 use Rattle.text.specs.Text.{decimal, newline}
 use Rattle.text.specs.Format.{All}
 use Rattle.text.proofs.Laws.{decimal-length}
@@ -169,13 +170,6 @@ no-pages e = let z : _≡_ {A = ℕ} 0 1 = cc in omega arith
 one-or-none : (failed : Bool) (p : List ℕ) (ps : List (List ℕ)) → (if failed then cut-off ∷ [] else []) ≡ map whole (p ∷ ps) → ⊥
 one-or-none true p ps e = no-cut (cons-first e .0)
 one-or-none false p ps e = no-pages e
-
-by-size : {R : Type 0} (a b : ℕ) → (a < b → R) → (b ≤ a → R) → R
-by-size {R} a b f g = go (ltb a b) refl
-  where
-    go : (x : Bool) → ltb a b ≡ x → R
-    go true e = f (ltb-true a b e)
-    go false e = g (ltb-false a b e)
 
 is-shelf : (failed : Bool) (most : ℕ) (t : List ℕ) (ps : List (List ℕ)) → pagesIn most failed t ≡ map whole ps → IsShelf t ps
 unfolding pagesIn byLine shelfOf

@@ -1,6 +1,6 @@
 -- Well-formed lent memory of machine words holds a heap whose numbers are within the page's widths. Assumes nothing.
 use Prim.Native.Nat.{ℕ, zero, suc, _-_, _^_, _≤_, _<_}
-use mathlib.Core.Bool.{true}
+use mathlib.Core.Bool.{Bool, true}
 use mathlib.Core.List.{List, [], _∷_}
 use mathlib.Core.Path.{_≡_, refl, subst}
 use lib.ListN.{length, getD, take, drop, length-take}
@@ -74,9 +74,9 @@ slot-within l w i s =
 few : (n most : ℕ) (xs : List ℕ) → n ≤ most → length (take n xs) ≤ most
 few n most xs h = omega (arith, length-take n xs)
 
-pub words-within : (l : Lent) → wellFormed l ≡ true → Words l → Within written (view l)
+pub words-within : (p : Bool) (l : Lent) → wellFormed l ≡ true → Words l → Within (written p) (view l)
 unfolding view
-words-within l f w =
+words-within p l f w =
     let r : Ready l = ready f in
     record {
       tag = w .tag;
@@ -92,4 +92,5 @@ words-within l f w =
       free = taken-below 32 (l .header .free) (l .free) (w .free);
       quarantine = taken-below 32 (l .header .quarantine) (l .quarantine) (w .quarantine);
       sealed = taken-below 64 (l .header .sealed) (l .sealed) (w .sealed);
+      retired = (omega (arith, few (l .header .retired) 16777216 (l .retired) (r .retiredCount)), taken-below 32 (l .header .retired) (l .retired) (w .retired));
     }

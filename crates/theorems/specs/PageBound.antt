@@ -1,6 +1,6 @@
 -- A page takes at most 256 + 96 × slots + 2 × data bytes (01, "Page").
 use Prim.Native.Nat.{ℕ, _+_, _*_, _≤_}
-use mathlib.Core.Bool.{true}
+use mathlib.Core.Bool.{Bool, true}
 use mathlib.Core.List.{List}
 use mathlib.Core.Path.{_≡_}
 use lib.ListN.{length}
@@ -19,11 +19,11 @@ pageBound h = 256 + 96 * length (h .slots) + 2 * dataSize (h .slots)
 -- what was written is no longer
 abbrev pub WrittenBound : Type 0
 WrittenBound =
-    (l : Lent) (out marks work : List ℕ) (r : Answer) (out′ marks′ work′ : List ℕ) →
-    Words l → Writes l out marks work r out′ marks′ work′ → r .number ≡ 0 → r .first ≤ pageBound (view l)
+    (p : Bool) (l : Lent) (out marks work : List ℕ) (r : Answer) (out′ marks′ work′ : List ℕ) →
+    Words l → Writes l p out marks work r out′ marks′ work′ → r .number ≡ 0 → r .first ≤ pageBound (view l)
 
 -- an output of so many bytes is long enough
 abbrev pub BoundSuffices : Type 0
 BoundSuffices =
-    (l : Lent) (out marks work : List ℕ) (r : Answer) (out′ marks′ work′ : List ℕ) →
-    Words l → wellFormed l ≡ true → Scratch l marks work → pageBound (view l) ≤ length out → Writes l out marks work r out′ marks′ work′ → r ≡ done (length (pageText written (view l)))
+    (p : Bool) (l : Lent) (out marks work : List ℕ) (r : Answer) (out′ marks′ work′ : List ℕ) →
+    Words l → wellFormed l ≡ true → Scratch l marks work → pageBound (view l) ≤ length out → Writes l p out marks work r out′ marks′ work′ → r ≡ done (length (pageText (written p) (view l)))

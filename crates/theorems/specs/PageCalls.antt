@@ -1,6 +1,6 @@
 -- What the theorems on the page speak of (01, "Page").
 use Prim.Native.Nat.{ℕ, _≤_, _<_}
-use mathlib.Core.Bool.{true}
+use mathlib.Core.Bool.{Bool, true}
 use mathlib.Core.List.{List, _++_}
 use mathlib.Core.Path.{_≡_}
 use lib.ListN.{length, drop, replicate}
@@ -11,21 +11,26 @@ use Rattle.heap.specs.Header.{setEpoch}
 use Rattle.heap.specs.Lent.{Lent, columns, stored, view, slotCount, poolSize}
 use Rattle.heap.specs.WellFormed.{wellFormed}
 use Rattle.door.specs.HeapCalls.{asked, outcome}
-use Rattle.page_reader.specs.Reading.{inRange}
+use Rattle.pages.specs.Form.{Form}
+use Rattle.page_reader.specs.Reading.{bitsMet, namesMet, inRange}
 use Rattle.page_door.specs.Page.{writing, pageOut, reading}
 
--- a call of `write_page` on the heap in l answered r: its contract
-pub record Writes (l : Lent) (out marks work : List ℕ) (r : Answer) (out′ marks′ work′ : List ℕ) : Type 0 where
-  pub told : asked r marks′ work′ ≡ writing marks work l out
-  pub page : out′ ≡ pageOut marks work l out
+-- a call of `write_page` on the heap in l, with planes or data, answered r: its contract
+pub record Writes (l : Lent) (planar : Bool) (out marks work : List ℕ) (r : Answer) (out′ marks′ work′ : List ℕ) : Type 0 where
+  pub told : asked r marks′ work′ ≡ writing marks work l planar out
+  pub page : out′ ≡ pageOut marks work l planar out
 
 -- a call of `read_page` on lent memory l answered r and left l′: its contract
 pub record Reads (l : Lent) (text marks work : List ℕ) (r : Answer) (l′ : Lent) (marks′ work′ : List ℕ) : Type 0 where
   pub told : outcome r l′ marks′ work′ ≡ reading marks work l text
 
--- the answer 0 with these values
+-- the answer 0 with this value
 abbrev pub done : (first : ℕ) → Answer
 done n = record { number = 0; first = n; second = 0 }
+
+-- the answer 0 that tells which form was met
+abbrev pub met : Form → Answer
+met f = record { number = 0; first = bitsMet f; second = namesMet f }
 
 -- a heap as its page brings it back: epoch and log aren't saved and read as 0
 abbrev pub unlogged : State → State
@@ -54,9 +59,9 @@ pub record SameSizes (a b : Lent) : Type 0 where
   pub slots : slotCount b ≡ slotCount a
   pub bytes : poolSize b ≡ poolSize a
 
--- lent memory that was l took in the heap h: `stored` fixes every entry
-pub record TookIn (h : State) (l : Lent) (r : Answer) (l′ : Lent) : Type 0 where
-  pub answer : r ≡ done 0
+-- lent memory that was l took in the heap h from a page of the form f: `stored` fixes every entry
+pub record TookIn (f : Form) (h : State) (l : Lent) (r : Answer) (l′ : Lent) : Type 0 where
+  pub answer : r ≡ met f
   pub lies : l′ ≡ stored (slotCount l) (poolSize l) (unlogged h)
   pub heap : view l′ ≡ unlogged h
   pub formed : wellFormed l′ ≡ true

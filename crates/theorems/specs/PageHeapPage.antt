@@ -1,6 +1,6 @@
--- Page, heap, page: what `read_page` read in the form that is written, `write_page` writes again, byte for byte (01, "Page"; request [6]).
+-- Page, heap, page: what `read_page` read in the form that is written, `write_page` writes again, byte for byte (01, "Page"; requests [6], [7] and [11]).
 use Prim.Native.Nat.{ℕ}
-use mathlib.Core.Bool.{true}
+use mathlib.Core.Bool.{Bool, true}
 use mathlib.Core.List.{List}
 use mathlib.Core.Path.{_≡_}
 use Rattle.refusal.specs.declared.Answer.{Answer}
@@ -25,8 +25,8 @@ pub record TextRead (text : List ℕ) (l′ : Lent) : Type 0 where
 abbrev pub ReadFormed : Type 0
 ReadFormed = (text : List ℕ) (l′ : Lent) → TextRead text l′ → wellFormed l′ ≡ true
 
--- writing it gives a text in the form that is written back, and 7 for an output that is shorter
+-- writing it gives a text in the form that is written back, with planes or data as it was met, and 7 for an output that is shorter
 abbrev pub ReadWritten : Type 0
 ReadWritten =
-    (text : List ℕ) (l′ : Lent) (out marks work : List ℕ) (r : Answer) (out′ marks′ work′ : List ℕ) →
-    TextRead text l′ → formIn text ≡ written → Scratch l′ marks work → Writes l′ out marks work r out′ marks′ work′ → WroteText text out r out′
+    (p : Bool) (text : List ℕ) (l′ : Lent) (out marks work : List ℕ) (r : Answer) (out′ marks′ work′ : List ℕ) →
+    TextRead text l′ → formIn text ≡ written p → Scratch l′ marks work → Writes l′ p out marks work r out′ marks′ work′ → WroteText text out r out′

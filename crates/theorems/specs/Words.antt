@@ -23,4 +23,5 @@ pub record Words (l : Lent) : Type 0 where
   pub pool : Entries 8 (l .pool)
   pub free : Entries 32 (l .free)
   pub quarantine : Entries 32 (l .quarantine)
+  pub retired : Entries 32 (l .retired)
   pub sealed : Entries 64 (l .sealed)

@@ -9,6 +9,7 @@ use lib.Dec.{eqb}
 use borrow.Author.Tests.{lt-ltb}
 use Rattle.ty.specs.Types.{Ty, Ty.missing, Ty.int, Ty.physical, Ty.enum, Ty.real, Ty.array, Ty.fields, Ty.access, Ty.file, Ty.protected, Field, Field.field, Table, typeAt, constAt, none}
 use Rattle.word.specs.Choice.{if_then_else_}
+use Rattle.ty.proofs.Laws.{word-is}
 use Rattle.ty.specs.Words.{wordOf, onWord, roundUp}
 use Rattle.ty.specs.Scalars.{scalarSize, elemSize, logicLeaf}
 use Rattle.layout.specs.Layout.{dimsOf, onDims, onLaid, onBytes, under, usedBy, arrayLaid, arrayOf, endOf, placed, recordOf, scalarLaid, sizeOr, layoutBy, layoutAt}
@@ -28,10 +29,6 @@ abbrev Sizes : Word → Lay → Type 0
 Sizes x (Laid s a st m u) = x ≡ Is u
 Sizes x Malformed = Unit {0}
 Sizes x TooLarge = Unit {0}
-
-fits : (n : ℕ) → n < 2 ^ 64 → wordOf n ≡ Is n
-unfolding wordOf
-fits n h = rw (lt-ltb n (2 ^ 64) h) refl
 
 on-laid : (x : Word) (l : Lay) (f : ℕ → ℕ → ℕ → ℕ → ℕ → Lay) → ((s a st m u : ℕ) → l ≡ Laid s a st m u → Sizes x (f s a st m u)) → Sizes x (onLaid l f)
 on-laid x (Laid s a st m u) f h = h s a st m u refl
@@ -63,11 +60,11 @@ array-laid-sizes x logic k s a m used g =
     (on-word x (wordOf (k * m)) _ (λ q. g))
 
 array-desc : (b : Bool) (x : Word) (h u : ℕ) → if_then_else_ b x (Is 0) ≡ Is (if_then_else_ b u 0) → h + if_then_else_ b u 0 < 2 ^ 64 → if_then_else_ b (onWord Over x (λ m. wordOf (h + m))) (Is h) ≡ Is (h + if_then_else_ b u 0)
-array-desc true x h u e l = rw e (fits (h + u) l)
+array-desc true x h u e l = rw e (word-is (h + u) l)
 array-desc false x h u e l = let z : h ≡ h + 0 = omega arith in ap Is z
 
 fields-desc : (b : Bool) (x : Word) (h u : ℕ) (f : ℕ → Word) → if_then_else_ b x (Is 0) ≡ Is (if_then_else_ b u 0) → h + if_then_else_ b u 0 < 2 ^ 64 → if_then_else_ b (onWord Over x (λ m. onWord Over (wordOf (h + m)) f)) (f h) ≡ f (h + if_then_else_ b u 0)
-fields-desc true x h u f e l = rw (e, fits (h + u) l) refl
+fields-desc true x h u f e l = rw (e, word-is (h + u) l) refl
 fields-desc false x h u f e l = let z : h ≡ h + 0 = omega arith in ap f z
 
 module _ (T : Table) (n k : ℕ) (IH : (t : ℕ) (d : List ℕ) → length d < 2 ^ 64 → Sizes (descAt (T .types) k t) (layoutAt T n t d)) where
@@ -92,7 +89,7 @@ module _ (T : Table) (n k : ℕ) (IH : (t : ℕ) (d : List ℕ) → length d < 2
           let i = dims-within j d 1 q eq in
           let g = used-within T n e c (drop (24 * j) d) s a st m u eu in
           let y = length-drop (24 * j) d in
-          rw (fits (24 * j) (omega arith)) (array-desc (eqb c none) (descAt (T .types) k e) (24 * j) u (under-sizes e c (drop (24 * j) d) s a st m u (omega arith) eu) (omega arith))
+          rw (word-is (24 * j) (omega arith)) (array-desc (eqb c none) (descAt (T .types) k e) (24 * j) u (under-sizes e c (drop (24 * j) d) s a st m u (omega arith) eu) (omega arith))
 
   record-sizes : (fs : List Field) (d : List ℕ) (off al used : ℕ) → length d < 2 ^ 64 → used ≤ length d → Sizes (descFields (descAt (T .types) k) fs used) (recordOf T (layoutAt T n) fs d off al used)
   unfolding recordOf endOf descFields

@@ -23,7 +23,7 @@ use Rattle.handle.specs.declared.Resolved.the-variants.{Null, WrongHeap, NeverI
 use Rattle.handle.proofs.Resolved.{the-type as resolved-type}
 use Rattle.trace.specs.Places.{Places, onlyIf, both, many, turns, handleAt, wordsAt}
 use Rattle.trace.specs.Walk.{Stepped}
-use Rattle.trace.specs.Emit.{Raw, rawOf, Into, into, resolveIn, queued, queuedIf, emittedBy, emitted, emitAll, emitting, emittingAt, told}
+use Rattle.trace.specs.Emit.{Raw, rawOf, Into, into, resolveIn, over, queued, queuedIf, emittedBy, emitted, emitAll, emitting, emittingAt, told}
 use Rattle.trace.specs.declared.Sink.{Sink}
 use Rattle.trace.specs.declared.Sink.the-variants.{Check, List as ToList, Work}
 use Rattle.trace.specs.declared.Answer.{Answer}
@@ -46,7 +46,7 @@ module _ (ms to : List ℕ) (n i : ℕ) where
       unfolding queued
       queue-full h = rw (lt-ltb i (length ms) l, eq-eqb (getD ms i 0) 0 z, le-ltb n (length to) h) refl
 
-      pub queue-room : n < length to → rawOf (set ms i 1) (set to n i) (n + 1) ≡ queued (rawOf ms to n) i
+      pub queue-room : n < length to → rawOf (set ms i 1) (set to n (over (getD to n 0) i)) (n + 1) ≡ queued (rawOf ms to n) i
       unfolding queued
       queue-room h = rw (lt-ltb i (length ms) l, eq-eqb (getD ms i 0) 0 z, lt-ltb n (length to) h) refl
 

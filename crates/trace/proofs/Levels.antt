@@ -30,12 +30,12 @@ laid-ext Malformed f g h = refl
 laid-ext TooLarge f g h = refl
 
 -- what was laid out had its part laid out
-from-laid : {R : Type 0} (l : Lay) (f : ℕ → ℕ → ℕ → ℕ → ℕ → Lay) (s a st q u : ℕ) → onLaid l f ≡ Laid s a st q u → ((s′ a′ st′ q′ u′ : ℕ) → l ≡ Laid s′ a′ st′ q′ u′ → f s′ a′ st′ q′ u′ ≡ Laid s a st q u → R) → R
+pub from-laid : {R : Type 0} (l : Lay) (f : ℕ → ℕ → ℕ → ℕ → ℕ → Lay) (s a st q u : ℕ) → onLaid l f ≡ Laid s a st q u → ((s′ a′ st′ q′ u′ : ℕ) → l ≡ Laid s′ a′ st′ q′ u′ → f s′ a′ st′ q′ u′ ≡ Laid s a st q u → R) → R
 from-laid (Laid s′ a′ st′ q′ u′) f s a st q u e k = k s′ a′ st′ q′ u′ refl e
 from-laid Malformed f s a st q u e k = let z : _≡_ {A = ℕ} 0 1 = cc in absurd (omega arith)
 from-laid TooLarge f s a st q u e k = let z : _≡_ {A = ℕ} 0 1 = cc in absurd (omega arith)
 
-from-dims : {R : Type 0} (x : Dims) (f : ℕ → Lay) (s a st q u : ℕ) → onDims x f ≡ Laid s a st q u → ((n : ℕ) → f n ≡ Laid s a st q u → R) → R
+pub from-dims : {R : Type 0} (x : Dims) (f : ℕ → Lay) (s a st q u : ℕ) → onDims x f ≡ Laid s a st q u → ((n : ℕ) → f n ≡ Laid s a st q u → R) → R
 from-dims (Count n) f s a st q u e k = k n e
 from-dims Bad f s a st q u e k = let z : _≡_ {A = ℕ} 0 1 = cc in absurd (omega arith)
 from-dims Large f s a st q u e k = let z : _≡_ {A = ℕ} 0 1 = cc in absurd (omega arith)

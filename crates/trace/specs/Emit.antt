@@ -1,5 +1,5 @@
 -- Where traced handles go: counted, written to a list, or marked and queued by a collection. Named by inner contracts: Places.antt says which handles there are.
-use Prim.Native.Nat.{ℕ, _+_, _-_, _*_, _^_, _≤_, min}
+use Prim.Native.Nat.{ℕ, _+_, _-_, _*_, _%_, _^_, _≤_, min}
 use mathlib.Core.Option.{Option, none, some}
 use mathlib.Core.List.{List, [], _∷_}
 use lib.ListN.{length, getD, set}
@@ -41,12 +41,16 @@ pub record Runs (slots s : ℕ) (narrow : List ℕ) : Type 0 where
   pub used : slots ≤ s
   pub there : 2 * s ≤ length narrow
 
--- an object is met: unless it is marked, it is marked and queued
+-- a word with i in its lower half, its upper half as it was
+abbrev pub over : (w i : ℕ) → ℕ
+over w i = w - w % 2 ^ 32 + i
+
+-- an object is met: unless it is marked, it is marked and queued, in the lower half of the next word
 unfoldable pub queued : Raw → ℕ → Raw
 queued s i =
     if ltb i (length (s .marks))
     then (if eqb (getD (s .marks) i 0) 0
-    then (if ltb (s .count) (length (s .words)) then rawOf (set (s .marks) i 1) (set (s .words) (s .count) i) (s .count + 1) else s)
+    then (if ltb (s .count) (length (s .words)) then rawOf (set (s .marks) i 1) (set (s .words) (s .count) (over (getD (s .words) (s .count) 0) i)) (s .count + 1) else s)
     else s) else s
 
 abbrev pub queuedIf : Raw → Result ℕ → Raw

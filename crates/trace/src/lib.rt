@@ -59,7 +59,7 @@ pub enum Fields {
     Not,
 }
 
-// An object is met: unless it is marked, it is marked and queued.
+// An object is met: unless it is marked, it is marked and queued. The upper half of each word is left as it is, for what a call notes of a slot.
 pub fn queue(marks: &mut [u8], to: &mut [u64], n: usize, i: u32) -> usize
     ensures { λ r. ⌜ rawOf (now (marks .exit)) (now (to .exit)) r ≡ queued (rawOf (now (marks .entry)) (now (to .entry)) n) i ⌝ }
 {
@@ -74,7 +74,8 @@ pub fn queue(marks: &mut [u8], to: &mut [u64], n: usize, i: u32) -> usize
         return n;
     }
     marks[j] = 1;
-    to[n] = i as u64;
+    let w = to[n];
+    to[n] = w - w % 4294967296 + i as u64;
     n + 1
 }
 

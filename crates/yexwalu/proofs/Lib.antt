@@ -3,4 +3,3 @@ mod TableCalls
 mod TypeCalls
 mod HandleCalls
 mod LiveCalls
-mod SlotCalls

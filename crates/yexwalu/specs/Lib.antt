@@ -2,5 +2,4 @@
 pub mod Table
 pub mod Types
 pub mod Handles
-pub mod SlotHandles
 pub mod Live

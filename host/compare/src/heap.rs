@@ -91,6 +91,7 @@ impl Run {
                     Kind::Typed(t) => format!("1 {t}"),
                     Kind::Bytes => "2 0".into(),
                     Kind::Handles => "3 0".into(),
+                    other => format!("{other:?}"),
                 };
                 (format!("kind {i}"), told(self.heap.kind(i), show))
             }

@@ -1,5 +1,5 @@
 //! Random type tables, descriptors and values.
-use crate::common::Random;
+use crate::common::{narrow, without_retired, Random};
 use crate::{hex, list, seeds, told, Oracle};
 use yexwalu::{descriptor, ConstId, Direction, FrameSlot, Handle, Heap, Kind, Refusal, TypeTable, NO_CONSTANT};
 
@@ -355,8 +355,8 @@ pub fn pins(random: &mut Random, slots: usize) -> Vec<u32> {
 /// The two heaps are the same, as their pages, epochs and logs show them.
 pub fn same(oracle: &mut Oracle, heap: &Heap, place: &str) {
     let page = String::from_utf8(heap.write_page().unwrap()).unwrap();
-    // the Rust's write counts have 32 bits; none reaches them here
-    let page = page.replacen(",writes64,", ",writes,", 1);
+    // the Rust's write counts have 32 bits, and its pages no retired list; no count and no generation comes to its end here
+    let page = without_retired(&narrow(&page));
     oracle.agrees("page", &format!("0 {}", page.replace('\n', ";")), place);
     let header = heap.header();
     oracle.agrees("epoch", &format!("0 {} {}", header.epoch, list(&header.log)), place);

@@ -44,3 +44,17 @@ pub fn sample(slots: usize, pool: usize) -> (Heap, Vec<Handle>) {
     heap.write(2, 0, b"T").unwrap();
     (heap, all)
 }
+
+/// A page under the name that the first programs had for write counts, of 32 bits.
+pub fn narrow(page: &str) -> String {
+    assert_eq!(page.matches(",writes64,").count(), 1);
+    page.replace(",writes64,", ",writes,")
+}
+
+/// A page without the retired list, which is empty, as the first programs wrote it.
+pub fn without_retired(page: &str) -> String {
+    let lines: Vec<&str> = page.lines().collect();
+    let (names, counts) = (lines[0].strip_suffix(",retired").unwrap(), lines[1].strip_suffix(",0").unwrap());
+    let rest = lines[2..].strip_suffix(&["retired"]).unwrap();
+    [&[names, counts][..], rest].concat().join("\n") + "\n"
+}

@@ -11,15 +11,15 @@ use Rattle.mark.proofs.drain.Statement.{statement}
 use Rattle.mark.proofs.drain.Tie as tie
 
 abbrev Inv-loop : tie.InvT-loop
-Inv-loop types fields consts bytes tag slots s narrow wide pool marks₀ work₀ n count₀ next₀ marks work count next =
-    Drains (tableOf types fields consts bytes) tag slots s narrow wide pool marks₀ work₀ (drained (graphIn (tableOf types fields consts bytes) tag slots s narrow wide pool) slots (stateOf marks₀ work₀ n) 0) marks work count next
+Inv-loop types fields consts bytes tag slots s narrow wide pool marks₀ work₀ n from count₀ next₀ marks work count next =
+    Drains (tableOf types fields consts bytes) tag slots s narrow wide pool marks₀ work₀ (drained (graphIn (tableOf types fields consts bytes) tag slots s narrow wide pool) (slots - from) (stateOf marks₀ work₀ n) from) marks work count next
 
 abbrev μ-loop : tie.MeasureT-loop
-μ-loop types fields consts bytes tag slots s narrow wide pool marks₀ work₀ n count₀ next₀ marks work count next =
+μ-loop types fields consts bytes tag slots s narrow wide pool marks₀ work₀ n from count₀ next₀ marks work count next =
     slots - next
 
 loop-holds : tie.Need-loop-holds Inv-loop μ-loop
-loop-holds c = draining-start _ _ _ _ _ (c .before .before .before .before .before .before .before .before .before .pre .1)
+loop-holds c = draining-start _ _ _ _ _ _ (c .before .before .before .before .before .before .before .before .before .pre .1)
 
 mul-i : tie.Need-mul-i Inv-loop μ-loop
 mul-i c = search needs
@@ -61,7 +61,7 @@ same-length-4 : tie.Need-same-length-4 Inv-loop μ-loop
 same-length-4 c = search needs
 
 returns-2 : tie.Need-returns-2 Inv-loop μ-loop
-returns-2 c = (search drains-end, c .before .loop .inv .scratch)
+returns-2 c = ((search drains-end, c .before .loop .inv .scratch), c .before .loop .inv .noted)
 
 pub drain-spec : {M : Type 1} → statement M
 drain-spec =

@@ -1,5 +1,5 @@
 -- `mark::mark_from` meets its contract. Assumes nothing.
-use Rattle.mark.proofs.Draining.{from-done}
+use Rattle.mark.proofs.Draining.{from-done, from-noted}
 use borrow.Author.Needs.{needs}
 use Rattle.mark.proofs.mark_from.Statement.{statement}
 use Rattle.mark.proofs.mark_from.Tie as tie
@@ -17,7 +17,7 @@ same-length-2 : tie.Need-same-length-2
 same-length-2 c = search needs
 
 returns : tie.Need-returns
-returns c = search from-done
+returns c = (search from-done, search from-noted)
 
 pub mark-from-spec : {M : Type 1} → statement M
 mark-from-spec =

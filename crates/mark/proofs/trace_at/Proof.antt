@@ -1,6 +1,6 @@
 -- `mark::trace_at` meets its contract. Assumes nothing.
 use Prim.Native.Nat.{_+_, _*_}
-use Rattle.mark.proofs.Bridge.{slot-rises, slot-ends, slot-traces}
+use Rattle.mark.proofs.Bridge.{slot-rises, slot-ends, slot-traces, slot-noted}
 use native.Mathlib.Omega.{arith}
 use borrow.Author.Needs.{needs}
 use Rattle.mark.proofs.trace_at.Statement.{statement}
@@ -67,7 +67,7 @@ same-length-2 : tie.Need-same-length-2
 same-length-2 c = search needs
 
 returns : tie.Need-returns
-returns c = search slot-traces
+returns c = (search slot-traces, search slot-noted)
 
 pub trace-at-spec : {M : Type 1} → statement M
 trace-at-spec =

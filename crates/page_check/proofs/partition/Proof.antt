@@ -1,65 +1,54 @@
-use mathlib.Core.Path.{_≡_, refl, _∙_}
-use Prim.Native.Nat.{_-_}
-use lib.ListN.{length}
-use native.Mathlib.Omega.{arith}
-use Rattle.page_check.proofs.Once.{Left, left-whole, left-next, left-wrong, left-none, run-parsed}
+use Rattle.page_check.specs.Sections.{heapIn, formIn}
+use Rattle.page_check.proofs.Verdict.{parted-not, parted-before, parted-old, parted-all}
+use borrow.Author.Needs.{needs}
 use Rattle.page_check.proofs.partition.Statement.{statement}
 use Rattle.page_check.proofs.partition.Tie as tie
-use Rattle.page_check.proofs.partition.Reads as reads
 
-abbrev Inv-loop : tie.InvT-loop
-Inv-loop s x row₀ k₀ base₀ row k base = (length row ≡ length row₀) × Left s x k base
+check-rule-requires : tie.Need-check-rule-requires
+check-rule-requires c κs = search needs
 
-abbrev μ-loop : tie.MeasureT-loop
-μ-loop s x row₀ k₀ base₀ row k base = x .slots - base
+same-length : tie.Need-same-length
+same-length c = search needs
 
-loop-holds : tie.Need-loop-holds Inv-loop μ-loop
-loop-holds c = (refl, left-whole (c .before .before .args .s .now) (c .before .before .args .x) (c .before .before .pre .0))
+returns : tie.Need-returns
+returns c = parted-not (formIn (c .before .before .before .before .before .before .before .args .s .now) .retiring) (heapIn (c .before .before .before .before .before .before .before .args .s .now)) (c .before .before .before .check-rule .ensures) (c .if1 .left)
 
-sub-run-of : tie.Need-sub-run-of Inv-loop μ-loop
-sub-run-of c = c .before .before .before .loop .inv .1 .below
+same-length-2 : tie.Need-same-length-2
+same-length-2 c = search needs
 
-run-of-requires : tie.Need-run-of-requires Inv-loop μ-loop
-run-of-requires c κs = tt
+returns-2 : tie.Need-returns-2
+returns-2 c = parted-before (formIn (c .before .before .before .before .before .before .before .before .args .s .now) .retiring) (heapIn (c .before .before .before .before .before .before .before .before .args .s .now)) (c .before .before .before .before .check-rule .ensures) (c .before .if1 .taken) (c .before .before .before .before .before .before .before .before .pre .0 .retiring) (c .if2 .left)
 
-check-run-requires : tie.Need-check-run-requires Inv-loop μ-loop
-check-run-requires c κs = (c .before .before .before .before .before .before .before .before .pre .0, (run-parsed (c .before .before .before .before .before .before .before .before .args .s .now) (c .before .before .before .before .before .before .before .before .args .x) (c .before .before .before .before .before .loop .k) (c .before .run-of .result) (c .before .before .before .before .before .loop .base) (c .before .before .before .before .before .loop .inv .1) (omega (arith, c .before .run-of .ensures .0 .0, c .before .before .before .before .before .loop .inv .1 .below)), (c .before .before .before .before .before .loop .inv .1 .inside, c .before .run-of .ensures .0 .1)))
+check-rule-requires-2 : tie.Need-check-rule-requires-2
+check-rule-requires-2 c κs = search needs
 
-same-length : tie.Need-same-length Inv-loop μ-loop
-same-length c = c .before .before .before .check-run .kept .1 .1 .1 .1 .1 .0 ∙ c .before .before .before .before .before .before .before .before .before .loop .inv .0
+same-length-3 : tie.Need-same-length-3
+same-length-3 c = search needs
 
-returns : tie.Need-returns Inv-loop μ-loop
-returns c = left-wrong (c .before .before .before .before .before .before .before .before .before .before .before .before .args .s .now) (c .before .before .before .before .before .before .before .before .before .before .before .before .args .x) (c .before .before .before .before .before .before .before .before .before .loop .k) (c .before .before .before .before .before .run-of .result) (c .before .before .before .before .before .before .before .before .before .loop .base) (c .before .before .before .before .before .before .before .before .before .loop .inv .1) (omega (arith, c .before .before .before .before .before .run-of .ensures .0 .0, c .before .before .before .before .before .before .before .before .before .loop .inv .1 .below)) (c .before .before .before .check-run .ensures) (c .if2 .left)
+returns-3 : tie.Need-returns-3
+returns-3 c = parted-old (formIn (c .before .before .before .before .before .before .before .before .before .before .before .before .before .args .s .now) .retiring) (heapIn (c .before .before .before .before .before .before .before .before .before .before .before .before .before .args .s .now)) (c .before .before .before .before .before .before .before .before .before .check-rule .ensures) (c .before .before .before .before .before .before .if1 .taken) (c .before .before .before .before .before .before .before .before .before .before .before .before .before .pre .0 .retiring) (c .before .before .before .before .before .if2 .taken) (c .before .before .before .check-rule2 .ensures) (c .if3 .left)
 
-add-base : tie.Need-add-base Inv-loop μ-loop
-add-base c = omega (arith, c .before .before .before .before .before .run-of .ensures .0 .0, c .before .before .before .before .before .before .before .before .before .loop .inv .1 .below)
+check-rule-requires-3 : tie.Need-check-rule-requires-3
+check-rule-requires-3 c κs = search needs
 
-loop-less : tie.Need-loop-less Inv-loop μ-loop
-loop-less c = omega (arith, c .before .before .before .before .before .run-of .ensures .1 (omega (arith, c .before .before .before .before .before .before .before .before .before .before .before .before .pre .1, c .before .before .before .before .before .before .before .before .before .loop .inv .0)) (omega (arith, c .before .before .before .before .before .before .before .if1 .taken)), c .before .before .before .before .before .run-of .ensures .0 .0, c .before .before .before .before .before .before .before .if1 .taken)
+same-length-4 : tie.Need-same-length-4
+same-length-4 c = search needs
 
-loop-again : tie.Need-loop-again Inv-loop μ-loop
-loop-again c = (c .before .before .before .check-run .kept .1 .1 .1 .1 .1 .0 ∙ c .before .before .before .before .before .before .before .before .before .loop .inv .0, left-next (c .before .before .before .before .before .before .before .before .before .before .before .before .args .s .now) (c .before .before .before .before .before .before .before .before .before .before .before .before .args .x) (c .before .before .before .before .before .before .before .before .before .loop .k) (c .before .before .before .before .before .run-of .result) (c .before .before .before .before .before .before .before .before .before .loop .base) (c .before .before .before .before .before .before .before .before .before .loop .inv .1) (omega (arith, c .before .before .before .before .before .run-of .ensures .0 .0, c .before .before .before .before .before .before .before .before .before .loop .inv .1 .below)) (c .before .before .before .check-run .ensures) (c .if2 .taken))
-
-same-length-2 : tie.Need-same-length-2 Inv-loop μ-loop
-same-length-2 c = c .before .before .loop .inv .0
-
-returns-2 : tie.Need-returns-2 Inv-loop μ-loop
-returns-2 c = left-none (c .before .before .before .before .before .args .s .now) (c .before .before .before .before .before .args .x) (c .before .before .loop .k) (c .before .before .loop .base) (c .before .before .before .before .before .pre .0) (c .before .before .loop .inv .1) (c .if1 .left)
+returns-4 : tie.Need-returns-4
+returns-4 c = parted-all (formIn (c .before .before .before .before .before .before .before .before .before .before .before .before .before .before .before .before .before .args .s .now) .retiring) (heapIn (c .before .before .before .before .before .before .before .before .before .before .before .before .before .before .before .before .before .args .s .now)) (c .before .before .before .before .before .before .before .before .before .before .before .before .before .check-rule .ensures) (c .before .before .before .before .before .before .before .before .before .before .if1 .taken) (c .before .before .before .before .before .before .before .before .before .before .before .before .before .before .before .before .before .pre .0 .retiring) (c .before .before .before .before .before .before .before .before .before .if2 .taken) (c .before .before .before .before .before .before .before .check-rule2 .ensures) (c .before .before .before .before .if3 .taken) (c .before .before .check-rule3 .ensures)
 
 pub partition-spec : {M : Type 1} → statement M
 partition-spec =
     tie.close
     (tie.spec
-    Inv-loop
-    μ-loop
-    loop-holds
-    sub-run-of
-    run-of-requires
-    check-run-requires
+    check-rule-requires
     same-length
     returns
-    add-base
-    loop-less
-    loop-again
     same-length-2
-    returns-2)
+    returns-2
+    check-rule-requires-2
+    same-length-3
+    returns-3
+    check-rule-requires-3
+    same-length-4
+    returns-4)

@@ -21,6 +21,9 @@ both-requires-5 c κs = search needs
 both-requires-6 : tie.Need-both-requires-6
 both-requires-6 c κs = search needs
 
+both-requires-7 : tie.Need-both-requires-7
+both-requires-7 c κs = search needs
+
 returns : tie.Need-returns
 unfolding soundReclaim
 returns c = cc
@@ -35,4 +38,5 @@ sound-parts-spec =
     both-requires-4
     both-requires-5
     both-requires-6
+    both-requires-7
     returns)

@@ -6,10 +6,10 @@ use Rattle.page_reader.proofs.fill_data.Statement.{statement}
 use Rattle.page_reader.proofs.fill_data.Tie as tie
 
 abbrev Inv-loop : tie.InvT-loop
-Inv-loop s at count pool₀ k₀ to₀ i₀ pool k to i = Pooling s at count pool₀ pool k to i
+Inv-loop s at count planar pool₀ k₀ to₀ i₀ pool k to i = Pooling planar s at count pool₀ pool k to i
 
 abbrev μ-loop : tie.MeasureT-loop
-μ-loop s at count pool₀ k₀ to₀ i₀ pool k to i = count - i
+μ-loop s at count planar pool₀ k₀ to₀ i₀ pool k to i = count - i
 
 loop-holds : tie.Need-loop-holds Inv-loop μ-loop
 loop-holds c = search pooling-begin
@@ -38,8 +38,8 @@ sub-from-2 c = search line-data
 sub-from-3 : tie.Need-sub-from-3 Inv-loop μ-loop
 sub-from-3 c = search line-digits
 
-copy-hex-requires : tie.Need-copy-hex-requires Inv-loop μ-loop
-copy-hex-requires c κs = (search data-there, (search data-size, search data-fits))
+fill-column-requires : tie.Need-fill-column-requires Inv-loop μ-loop
+fill-column-requires c κs = (search data-there, (search data-size, search data-fits))
 
 add-i : tie.Need-add-i Inv-loop μ-loop
 add-i c = omega (arith, c .before .before .before .before .before .before .before .before .before .before .before .loop-test .taken, c .before .before .before .before .before .before .before .before .before .before .before .before .before .before .before .fits)
@@ -71,7 +71,7 @@ fill-data-spec =
     sub-from
     sub-from-2
     sub-from-3
-    copy-hex-requires
+    fill-column-requires
     add-i
     loop-less
     loop-again

@@ -5,7 +5,7 @@ use lib.ListN.{length}
 use denote.Ref.{now}
 use borrow.Author.Needs.{needs}
 use Rattle.text.specs.Put.{putText}
-use Rattle.page_reader.proofs.Lists.{part-room, free-room, quarantine-room, lists-filled}
+use Rattle.page_reader.proofs.Lists.{part-room, quarantine-room, retired-room, lists-filled}
 use Rattle.page_reader.proofs.fill_lists.Statement.{statement}
 use Rattle.page_reader.proofs.fill_lists.Tie as tie
 
@@ -17,6 +17,9 @@ mul-four c = search needs
 
 mul-five : tie.Need-mul-five
 mul-five c = search needs
+
+mul-six : tie.Need-mul-six
+mul-six c = search needs
 
 mul-fill-indices : tie.Need-mul-fill-indices
 mul-fill-indices c = search needs
@@ -31,7 +34,7 @@ part-fill-indices-end : tie.Need-part-fill-indices-end
 part-fill-indices-end c = search needs
 
 fill-indices-requires : tie.Need-fill-indices-requires
-fill-indices-requires c κs = (c .before .before .before .before .pre .0 .free, (c .before .before .before .before .pre .0 .freeInside, free-room (now (c .before .before .before .before .args .narrow)) _ (omega (arith, c .before .before .before .before .pre .0 .freeCount, c .before .before .before .before .pre .1 .0 .0))))
+fill-indices-requires c κs = (c .before .before .before .before .pre .0 .quarantine, (c .before .before .before .before .pre .0 .quarantineInside, quarantine-room (now (c .before .before .before .before .args .narrow)) _ (omega (arith, c .before .before .before .before .pre .0 .quarantineCount, c .before .before .before .before .pre .1 .0 .0))))
 
 mul-fill-indices-2 : tie.Need-mul-fill-indices-2
 mul-fill-indices-2 c = search needs
@@ -46,7 +49,7 @@ part-fill-indices-end-2 : tie.Need-part-fill-indices-end-2
 part-fill-indices-end-2 c = search needs
 
 fill-indices-requires-2 : tie.Need-fill-indices-requires-2
-fill-indices-requires-2 c κs = (c .before .before .before .before .before .before .before .before .pre .0 .quarantine, (c .before .before .before .before .before .before .before .before .pre .0 .quarantineInside, quarantine-room (now (c .before .before .before .before .before .before .before .before .args .narrow)) (c .before .before .before .fill-indices .last .1 .1 .1 .0) _ (c .before .before .before .fill-indices .kept .1 .1 .1 .0) (omega (arith, c .before .before .before .before .before .before .before .before .pre .0 .quarantineCount, c .before .before .before .before .before .before .before .before .pre .1 .0 .1))))
+fill-indices-requires-2 c κs = (c .before .before .before .before .before .before .before .before .pre .0 .retired, (c .before .before .before .before .before .before .before .before .pre .0 .retiredInside, retired-room (now (c .before .before .before .before .before .before .before .before .args .narrow)) (c .before .before .before .fill-indices .last .1 .1 .1 .0) _ (c .before .before .before .fill-indices .kept .1 .1 .1 .0) (omega (arith, c .before .before .before .before .before .before .before .before .pre .0 .retiredCount, c .before .before .before .before .before .before .before .before .pre .1 .0 .1))))
 
 mul-fill-handles : tie.Need-mul-fill-handles
 mul-fill-handles c = search needs
@@ -70,7 +73,7 @@ same-length-2 : tie.Need-same-length-2
 same-length-2 c = search needs
 
 returns : tie.Need-returns
-returns c = lists-filled (now (c .before .before .before .before .before .before .before .before .before .before .before .before .before .before .before .args .narrow)) (now (c .before .before .before .before .before .before .before .before .before .before .before .before .before .before .before .args .wide)) _ _ _ _ _ _ (c .before .before .before .before .before .before .before .before .before .before .before .before .before .before .before .pre .1 .1 .1) (c .before .before .before .before .before .before .before .before .before .before .fill-indices .ensures ∙ ap (putText _ 0) (c .before .before .before .before .before .before .before .before .before .before .before .before .before .before .before .pre .0 .freeAre)) (c .before .before .before .before .before .before .before .before .before .before .fill-indices .kept .1 .1 .1 .0) (c .before .before .before .before .before .before .fill-indices2 .ensures ∙ ap (putText _ 0) (c .before .before .before .before .before .before .before .before .before .before .before .before .before .before .before .pre .0 .quarantineAre)) (c .before .before .before .before .before .before .fill-indices2 .kept .1 .1 .1 .0) (c .before .before .fill-handles .ensures ∙ ap (putText _ 0) (c .before .before .before .before .before .before .before .before .before .before .before .before .before .before .before .pre .0 .sealedAre)) (c .before .before .fill-handles .kept .1 .1 .1 .0)
+returns c = lists-filled (now (c .before .before .before .before .before .before .before .before .before .before .before .before .before .before .before .args .narrow)) (now (c .before .before .before .before .before .before .before .before .before .before .before .before .before .before .before .args .wide)) _ _ _ _ _ _ (c .before .before .before .before .before .before .before .before .before .before .before .before .before .before .before .pre .1 .1 .1) (c .before .before .before .before .before .before .before .before .before .before .fill-indices .ensures ∙ ap (putText _ 0) (c .before .before .before .before .before .before .before .before .before .before .before .before .before .before .before .pre .0 .quarantineAre)) (c .before .before .before .before .before .before .before .before .before .before .fill-indices .kept .1 .1 .1 .0) (c .before .before .before .before .before .before .fill-indices2 .ensures ∙ ap (putText _ 0) (c .before .before .before .before .before .before .before .before .before .before .before .before .before .before .before .pre .0 .retiredAre)) (c .before .before .before .before .before .before .fill-indices2 .kept .1 .1 .1 .0) (c .before .before .fill-handles .ensures ∙ ap (putText _ 0) (c .before .before .before .before .before .before .before .before .before .before .before .before .before .before .before .pre .0 .sealedAre)) (c .before .before .fill-handles .kept .1 .1 .1 .0)
 
 pub fill-lists-spec : {M : Type 1} → statement M
 fill-lists-spec =
@@ -79,6 +82,7 @@ fill-lists-spec =
     mul-three
     mul-four
     mul-five
+    mul-six
     mul-fill-indices
     sub-fill-indices
     part-fill-indices-start

@@ -18,6 +18,12 @@ enum-known-found c = search needs
 load-requires : tie.Need-load-requires
 load-requires c κs = let a = is-page _ _ _ (c .before .before .before .before .before .before .before .before .check-page .ensures .0) (c .before .before .before .before .found .given .1) in (a .sections, roomy _ _ _ _ _ (c .before .before .before .before .before .before .before .before .before .before .sizes-fit .ensures) a)
 
+bits-met-requires : tie.Need-bits-met-requires
+bits-met-requires c κs = search needs
+
+names-met-requires : tie.Need-names-met-requires
+names-met-requires c κs = search needs
+
 enum-known-found-2 : tie.Need-enum-known-found-2
 enum-known-found-2 c = search needs
 
@@ -34,7 +40,7 @@ same-length-4 : tie.Need-same-length-4
 same-length-4 c = search needs
 
 returns : tie.Need-returns
-returns c = (read-done (lent (c .before .before .before .before .before .before .before .before .before .before .before .before .before .before .before .before .before .before .before .before .before .before .before .args .heap) (now (c .before .before .before .before .before .before .before .before .before .before .before .before .before .before .before .before .before .before .before .before .before .before .before .args .narrow)) (now (c .before .before .before .before .before .before .before .before .before .before .before .before .before .before .before .before .before .before .before .before .before .before .before .args .wide)) (now (c .before .before .before .before .before .before .before .before .before .before .before .before .before .before .before .before .before .before .before .before .before .before .before .args .pool))) _ (c .before .before .before .before .before .before .before .before .before .before .before .before .before .before .before .before .before .sizes-fit .ensures ∙ in-range (c .before .before .before .before .before .before .before .before .before .before .before .before .before .before .before .before .before .before .before .before .before .before .before .args .heap) (now (c .before .before .before .before .before .before .before .before .before .before .before .before .before .before .before .before .before .before .before .before .before .before .before .args .narrow)) (now (c .before .before .before .before .before .before .before .before .before .before .before .before .before .before .before .before .before .before .before .before .before .before .before .args .wide)) (now (c .before .before .before .before .before .before .before .before .before .before .before .before .before .before .before .before .before .before .before .before .before .before .before .args .pool))) _ _ (is-page _ _ _ (c .before .before .before .before .before .before .before .before .before .before .before .before .before .before .before .check-page .ensures .0) (c .before .before .before .before .before .before .before .before .before .before .before .found .given .1)) (c .before .before .before .before .before .before .load .ensures), c .before .before .before .before .before .before .before .before .before .before .before .before .before .before .before .check-page .ensures .1)
+returns c = (read-done (lent (c .before .before .before .before .before .before .before .before .before .before .before .before .before .before .before .before .before .before .before .before .before .before .before .before .before .args .heap) (now (c .before .before .before .before .before .before .before .before .before .before .before .before .before .before .before .before .before .before .before .before .before .before .before .before .before .args .narrow)) (now (c .before .before .before .before .before .before .before .before .before .before .before .before .before .before .before .before .before .before .before .before .before .before .before .before .before .args .wide)) (now (c .before .before .before .before .before .before .before .before .before .before .before .before .before .before .before .before .before .before .before .before .before .before .before .before .before .args .pool))) _ (c .before .before .before .before .before .before .before .before .before .before .before .before .before .before .before .before .before .before .before .sizes-fit .ensures ∙ in-range (c .before .before .before .before .before .before .before .before .before .before .before .before .before .before .before .before .before .before .before .before .before .before .before .before .before .args .heap) (now (c .before .before .before .before .before .before .before .before .before .before .before .before .before .before .before .before .before .before .before .before .before .before .before .before .before .args .narrow)) (now (c .before .before .before .before .before .before .before .before .before .before .before .before .before .before .before .before .before .before .before .before .before .before .before .before .before .args .wide)) (now (c .before .before .before .before .before .before .before .before .before .before .before .before .before .before .before .before .before .before .before .before .before .before .before .before .before .args .pool))) _ _ (is-page _ _ _ (c .before .before .before .before .before .before .before .before .before .before .before .before .before .before .before .before .before .check-page .ensures .0) (c .before .before .before .before .before .before .before .before .before .before .before .before .before .found .given .1)) (c .before .before .before .before .before .before .before .before .load .ensures) _ _ (c .before .bits-met .ensures) (c .names-met .ensures), c .before .before .before .before .before .before .before .before .before .before .before .before .before .before .before .before .before .check-page .ensures .1)
 
 same-length-5 : tie.Need-same-length-5
 same-length-5 c = search needs
@@ -50,6 +56,8 @@ read-spec =
     check-page-requires
     enum-known-found
     load-requires
+    bits-met-requires
+    names-met-requires
     enum-known-found-2
     same-length
     same-length-2

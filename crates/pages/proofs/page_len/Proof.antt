@@ -84,6 +84,9 @@ part-indices-len-end-3 c = search needs
 indices-len-requires-3 : tie.Need-indices-len-requires-3
 indices-len-requires-3 c κs = (retired-in (c .before .before .before .before .before .before .before .before .before .before .before .before .args .heap) (now (c .before .before .before .before .before .before .before .before .before .before .before .before .args .narrow)) (now (c .before .before .before .before .before .before .before .before .before .before .before .before .args .wide)) (now (c .before .before .before .before .before .before .before .before .before .before .before .before .args .pool)) (c .before .before .before .before .before .before .before .before .before .before .before .before .pre .0), c .before .before .before .before .before .before .before .before .before .before .before .before .pre .0 .retiredCount)
 
+names-len-requires : tie.Need-names-len-requires
+names-len-requires c κs = search needs
+
 add-result : tie.Need-add-result
 add-result c = search needs
 
@@ -103,7 +106,7 @@ add-result-6 : tie.Need-add-result-6
 add-result-6 c = search needs
 
 returns : tie.Need-returns
-returns c = omega (arith, page-sum (c .before .before .before .before .before .before .before .before .before .before .before .before .before .args .heap) (now (c .before .before .before .before .before .before .before .before .before .before .before .before .before .args .narrow)) (now (c .before .before .before .before .before .before .before .before .before .before .before .before .before .args .wide)) (now (c .before .before .before .before .before .before .before .before .before .before .before .before .before .args .pool)) (c .before .before .before .before .before .before .before .before .before .before .before .before .before .pre .0), c .before .before .before .before .before .before .before .before .before .head-len .ensures .0, c .before .before .before .before .before .before .before .before .slots-len .ensures .0, c .before .before .before .before .before .before .indices-len .ensures .0, c .before .before .before .before .indices-len2 .ensures .0, c .before .before .handles-len .ensures .0, c .indices-len3 .ensures .0)
+returns c = omega (arith, page-sum (c .before .before .before .before .before .before .before .before .before .before .before .before .before .before .args .heap) (now (c .before .before .before .before .before .before .before .before .before .before .before .before .before .before .args .narrow)) (now (c .before .before .before .before .before .before .before .before .before .before .before .before .before .before .args .wide)) (now (c .before .before .before .before .before .before .before .before .before .before .before .before .before .before .args .pool)) (c .before .before .before .before .before .before .before .before .before .before .before .before .before .before .pre .0) (c .before .before .before .before .before .before .before .before .before .before .before .before .before .before .args .planar), c .names-len .ensures .0, c .before .before .before .before .before .before .before .before .before .before .head-len .ensures .0, c .before .before .before .before .before .before .before .before .before .slots-len .ensures .0, c .before .before .before .before .before .before .before .indices-len .ensures .0, c .before .before .before .before .before .indices-len2 .ensures .0, c .before .before .before .handles-len .ensures .0, c .before .indices-len3 .ensures .0)
 
 pub page-len-spec : {M : Type 1} → statement M
 page-len-spec =
@@ -135,6 +138,7 @@ page-len-spec =
     part-indices-len-start-3
     part-indices-len-end-3
     indices-len-requires-3
+    names-len-requires
     add-result
     add-result-2
     add-result-3

@@ -7,16 +7,16 @@ use Rattle.pages.proofs.put_slots.Statement.{statement}
 use Rattle.pages.proofs.put_slots.Tie as tie
 
 abbrev Inv-loop : tie.InvT-loop
-Inv-loop heap narrow wide pool out₀ at s two k₀ from₀ i₀ out k from i = Putting (lent heap narrow wide pool) out₀ out at k from i
+Inv-loop heap narrow wide pool planar out₀ at s two k₀ from₀ i₀ out k from i = Putting planar (lent heap narrow wide pool) out₀ out at k from i
 
 abbrev μ-loop : tie.MeasureT-loop
-μ-loop heap narrow wide pool out₀ at s two k₀ from₀ i₀ out k from i = heap .slots - i
+μ-loop heap narrow wide pool planar out₀ at s two k₀ from₀ i₀ out k from i = heap .slots - i
 
 mul-two : tie.Need-mul-two Inv-loop μ-loop
 mul-two c = omega arith
 
 loop-holds : tie.Need-loop-holds Inv-loop μ-loop
-loop-holds c = putting-begin (lent (c .before .before .before .before .args .heap) (now (c .before .before .before .before .args .narrow)) (now (c .before .before .before .before .args .wide)) (now (c .before .before .before .before .args .pool))) (now (c .before .before .before .before .args .out)) (c .before .before .before .before .args .at) (omega (arith, c .before .before .before .before .pre .1 .1))
+loop-holds c = putting-begin (c .before .before .before .before .args .planar) (lent (c .before .before .before .before .args .heap) (now (c .before .before .before .before .args .narrow)) (now (c .before .before .before .before .args .wide)) (now (c .before .before .before .before .args .pool))) (now (c .before .before .before .before .args .out)) (c .before .before .before .before .args .at) (omega (arith, c .before .before .before .before .pre .1 .1))
 
 add-to : tie.Need-add-to Inv-loop μ-loop
 add-to c = omega (arith, c .if1 .taken, c .before .before .before .before .before .before .before .pre .0 .slots, c .before .before .before .before .before .before .before .pre .1 .0)
@@ -91,7 +91,7 @@ same-length : tie.Need-same-length Inv-loop μ-loop
 same-length c = c .before .before .loop .inv .same
 
 returns : tie.Need-returns Inv-loop μ-loop
-returns c = putting-end (lent (c .before .before .before .before .before .before .before .args .heap) (now (c .before .before .before .before .before .before .before .args .narrow)) (now (c .before .before .before .before .before .before .before .args .wide)) (now (c .before .before .before .before .before .before .before .args .pool))) _ _ _ _ _ _ (c .before .before .loop .inv) (omega arith)
+returns c = putting-end (c .before .before .before .before .before .before .before .args .planar) (lent (c .before .before .before .before .before .before .before .args .heap) (now (c .before .before .before .before .before .before .before .args .narrow)) (now (c .before .before .before .before .before .before .before .args .wide)) (now (c .before .before .before .before .before .before .before .args .pool))) _ _ _ _ _ _ (c .before .before .loop .inv) (omega arith)
 
 pub put-slots-spec : {M : Type 1} → statement M
 put-slots-spec =

@@ -1,5 +1,6 @@
 use Rattle.pages.proofs.Writing.{slot-length-decimal}
 use Rattle.text.proofs.Laws.{decimal-length}
+use mathlib.Core.Bool.{false}
 use native.Mathlib.Omega.{arith}
 use Prim.Native.Nat.{_-_}
 use borrow.Author.Needs.{needs}
@@ -43,7 +44,7 @@ add-result-6 : tie.Need-add-result-6
 add-result-6 c = omega (arith, c .before .before .before .before .decimal-len .ensures, decimal-length 9 (c .before .before .before .before .before .before .args .generation) (omega arith), c .before .before .before .decimal-len2 .ensures, decimal-length 9 (c .before .before .before .before .before .before .args .kind) (omega arith), c .before .before .decimal-len3 .ensures, decimal-length 9 (c .before .before .before .before .before .before .args .ty) (omega arith), c .before .decimal-len4 .ensures, decimal-length 19 (c .before .before .before .before .before .before .args .start) (omega arith), c .decimal-len5 .ensures, decimal-length 19 (c .before .before .before .before .before .before .args .writes) (omega arith))
 
 returns : tie.Need-returns
-returns c = (omega (arith, slot-length-decimal (c .before .before .before .before .before .before .args .generation) (c .before .before .before .before .before .before .args .kind) (c .before .before .before .before .before .before .args .ty) (c .before .before .before .before .before .before .args .start) (c .before .before .before .before .before .before .args .writes) (c .before .before .before .before .before .before .args .bytes .now), c .before .before .before .before .decimal-len .ensures, c .before .before .before .decimal-len2 .ensures, c .before .before .decimal-len3 .ensures, c .before .decimal-len4 .ensures, c .decimal-len5 .ensures), omega (arith, c .before .before .before .before .decimal-len .ensures, decimal-length 9 (c .before .before .before .before .before .before .args .generation) (omega arith), c .before .before .before .decimal-len2 .ensures, decimal-length 9 (c .before .before .before .before .before .before .args .kind) (omega arith), c .before .before .decimal-len3 .ensures, decimal-length 9 (c .before .before .before .before .before .before .args .ty) (omega arith), c .before .decimal-len4 .ensures, decimal-length 19 (c .before .before .before .before .before .before .args .start) (omega arith), c .decimal-len5 .ensures, decimal-length 19 (c .before .before .before .before .before .before .args .writes) (omega arith)))
+returns c = (omega (arith, slot-length-decimal false (c .before .before .before .before .before .before .args .generation) (c .before .before .before .before .before .before .args .kind) (c .before .before .before .before .before .before .args .ty) (c .before .before .before .before .before .before .args .start) (c .before .before .before .before .before .before .args .writes) (c .before .before .before .before .before .before .args .bytes .now), c .before .before .before .before .decimal-len .ensures, c .before .before .before .decimal-len2 .ensures, c .before .before .decimal-len3 .ensures, c .before .decimal-len4 .ensures, c .decimal-len5 .ensures), omega (arith, c .before .before .before .before .decimal-len .ensures, decimal-length 9 (c .before .before .before .before .before .before .args .generation) (omega arith), c .before .before .before .decimal-len2 .ensures, decimal-length 9 (c .before .before .before .before .before .before .args .kind) (omega arith), c .before .before .decimal-len3 .ensures, decimal-length 9 (c .before .before .before .before .before .before .args .ty) (omega arith), c .before .decimal-len4 .ensures, decimal-length 19 (c .before .before .before .before .before .before .args .start) (omega arith), c .decimal-len5 .ensures, decimal-length 19 (c .before .before .before .before .before .before .args .writes) (omega arith)))
 
 pub slot-len-spec : {M : Type 1} → statement M
 slot-len-spec =

@@ -3,7 +3,7 @@ use mathlib.Core.Path.{refl}
 use lib.Dec.{lit<}
 use native.Mathlib.Omega.{arith}
 use borrow.Author.Needs.{needs}
-use Rattle.rows.proofs.Listing.{positive}
+use Rattle.word.proofs.Bools.{positive}
 use Rattle.rows.proofs.Turning.{zeros-fit, sum-fits, pass-on, took-one}
 use Rattle.rows.proofs.take_turn.Statement.{statement}
 use Rattle.rows.proofs.take_turn.Tie as tie

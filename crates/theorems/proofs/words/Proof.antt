@@ -29,6 +29,7 @@ returns c =
       pool = λ i. c .before .shared-slice-known3 .given i .fits;
       free = run-words 32 S (3 * S) narrow (λ i. c .before .before .before .shared-slice-known .given i .fits);
       quarantine = run-words 32 S (4 * S) narrow (λ i. c .before .before .before .shared-slice-known .given i .fits);
+      retired = run-words 32 S (5 * S) narrow (λ i. c .before .before .before .shared-slice-known .given i .fits);
       sealed = run-words 64 S (3 * S) wide (λ i. c .before .before .shared-slice-known2 .given i .fits);
     }
 

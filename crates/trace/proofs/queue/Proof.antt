@@ -1,5 +1,6 @@
 -- `trace::queue` meets its contract. Assumes nothing.
 use Rattle.trace.proofs.Emits.{queue-beyond, queue-marked, queue-full, queue-room}
+use native.Mathlib.Omega.{arith}
 use borrow.Author.Needs.{needs}
 use Rattle.trace.proofs.queue.Statement.{statement}
 use Rattle.trace.proofs.queue.Tie as tie
@@ -18,6 +19,18 @@ returns-3 c = search queue-full
 
 slice-write-marks : tie.Need-slice-write-marks
 slice-write-marks c = search needs
+
+mul-w : tie.Need-mul-w
+mul-w c = search needs
+
+slice-read-w : tie.Need-slice-read-w
+slice-read-w c = search needs
+
+sub-to : tie.Need-sub-to
+sub-to c = search needs
+
+add-to : tie.Need-add-to
+add-to c = omega (arith, c .slice-known2 .given (c .before .before .before .before .before .args .n) .fits)
 
 mul-to : tie.Need-mul-to
 mul-to c = search needs
@@ -46,6 +59,10 @@ queue-spec =
     returns-2
     returns-3
     slice-write-marks
+    mul-w
+    slice-read-w
+    sub-to
+    add-to
     mul-to
     slice-write-to
     add-result

@@ -2,7 +2,7 @@
 use Prim.Native.Nat.{_+_, _-_}
 use native.Mathlib.Omega.{arith}
 use Rattle.word.proofs.OnesLaws.{trailing-lt}
-use Rattle.rows.proofs.Listing.{positive}
+use Rattle.word.proofs.Bools.{positive}
 use Rattle.mark.specs.Graph.{leadsTo}
 use Rattle.mark.specs.Scratch.{stateOf}
 use Rattle.mark.specs.Joining.{taking, rowValues}

@@ -1,0 +1,3 @@
+-- What the proofs of several calls use.
+mod SlotCalls
+mod TraceCalls

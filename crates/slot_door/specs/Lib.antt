@@ -1,0 +1,3 @@
+-- The definitions that the public contracts cite.
+pub mod SlotHandles
+pub mod Traceable

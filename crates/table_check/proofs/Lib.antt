@@ -1,0 +1,4 @@
+pub mod Lining
+pub mod Edges
+pub mod Assembly
+pub mod Admitting
