@@ -4,7 +4,7 @@ use common::Random;
 use std::collections::BTreeMap;
 use yexwalu::{ffi, Handle, Header, Heap, Memory, Refusal, Scratch, TypeTable};
 
-// An object of the plain machine, under its handle. Kind 1 has no type here, and so can't be traced unless it is empty.
+// An object of the plain machine, under its handle. Kind 1 has no type here, and so can't be traced.
 struct Object {
     kind: u64,
     bytes: Vec<u8>,
@@ -35,7 +35,7 @@ impl Machine {
             let Some(o) = self.objects.get(&handle).filter(|_| !reached.contains(&handle)) else { continue };
             reached.push(handle);
             match o.kind {
-                1 if !o.bytes.is_empty() => return false,
+                1 => return false,
                 3 => todo.extend(o.bytes.get(24..).unwrap_or(&[]).chunks_exact(8).map(word)),
                 _ => (),
             }
