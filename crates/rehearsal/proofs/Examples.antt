@@ -16,7 +16,8 @@ use Rattle.object_door.specs.ObjectCalls.{allocating}
 use Rattle.reach.specs.Marking.{marking, drained, visit, follow}
 use Rattle.collection.specs.Swept.{swept, dropUnmarked, dropped, dropSlots, liveSize}
 use Rattle.collection.specs.Collected.{collected}
-use Rattle.trace.specs.Places.{handlesOf, kindPlaces, handlesPlaces, rising, wordsAt}
+use Rattle.ty.specs.Walks.{handlesAt, handlesBy, descAt, descBy}
+use Rattle.trace.specs.Places.{handlesOf, kindPlaces, objectPlaces, handlesPlaces, rising, wordsAt}
 use Rattle.rehearsal.specs.Lines.{Line, alloc, store, drop, lineText, linesText}
 use Rattle.rehearsal.specs.Runs.{Figures, rehearsed, after, does, collecting, allocating as allocs, figuresLine}
 use Rattle.rehearsal.specs.OnHeap.{heaped, fresh, collectsHeap, storesHeap}
@@ -57,6 +58,11 @@ pub endings : map (λ ls. on 1 40 0 ls) ((box ∷ drop 1 ∷ drop 1 ∷ box ∷ 
     ≡ figures 0 0 64 64 9 ∷ figures 0 0 64 64 9 ∷ figures 0 0 64 64 9 ∷ figures 0 1 64 0 8 ∷ figures 0 1 64 64 6 ∷ figures 0 1 64 64 5 ∷ figures 0 0 64 64 0 ∷ []
 unfolding rehearsed after does collecting allocs heaped new collectsHeap storesHeap allocating allocFrom packed liveSize flat resolve resolveBy tagOf indexOf generationOf write put bytes collected marking drained visit follow handlesOf kindPlaces handlesPlaces rising wordsAt le swept dropUnmarked dropped dropSlots recycle times
 endings = refl
+
+-- a held object that can't be traced ends it with 13, uncounted, before anything of the allocation is looked at; one that isn't held just goes
+pub untraced : map (λ ls. on 4 64 0 ls) ((alloc 7 1 (0 ∷ []) ∷ alloc 0 4 [] ∷ []) ∷ (alloc 7 1 (0 ∷ []) ∷ drop 1 ∷ alloc 0 2 [] ∷ []) ∷ []) ≡ figures 0 0 33 33 13 ∷ figures 0 1 33 32 0 ∷ []
+unfolding rehearsed after does collecting allocs heaped new collectsHeap storesHeap allocating allocFrom packed liveSize flat resolve resolveBy tagOf indexOf generationOf write put bytes collected marking drained visit follow handlesOf kindPlaces handlesPlaces rising wordsAt le swept dropUnmarked dropped dropSlots recycle times objectPlaces handlesAt handlesBy descAt descBy
+untraced = refl
 
 -- ---- text
 
