@@ -3,7 +3,7 @@ mod common;
 use common::{narrow, sample, without_retired, Random};
 use yexwalu::{Column, Heap, Kind, Refusal, Scratch};
 
-// Reads a text into memory that held something else.
+// Reads a text into memory that held something else: five slots and 56 bytes, for which it must have room.
 fn read(slots: usize, pool: usize, text: &[u8]) -> Result<Heap, Refusal> {
     let (old, _) = sample(slots, pool);
     let mut heap = old.clone();
@@ -78,7 +78,7 @@ fn planes_are_written_and_read_back() {
     let mut random = Random::new(41);
     for length in (0..40).chain([63, 64, 65, 800]) {
         let bytes: Vec<u8> = (0..length).map(|_| random.below(256) as u8).collect();
-        let mut heap = Heap::new(7, 4, 4096).unwrap();
+        let mut heap = Heap::new(7, 8, 4096).unwrap();
         let handle = heap.alloc(Kind::Bytes, &bytes).unwrap();
         heap.alloc(Kind::Bytes, &[0xff; 17]).unwrap();
         let data = heap.write_page().unwrap();
@@ -87,7 +87,7 @@ fn planes_are_written_and_read_back() {
         assert_eq!(heap.page_length_with(Column::Planes).unwrap(), page.len());
         let column: String = planes(&bytes).iter().map(|b| format!("{b:02x}")).collect();
         assert!(String::from_utf8(page.clone()).unwrap().contains(&format!("writes64,planes\n1,2,0,0,0,{column}\n")), "{length}");
-        let mut again = read(4, 4096, &page).unwrap();
+        let mut again = read(8, 4096, &page).unwrap();
         assert_eq!(again.memory(), heap.memory());
         assert_eq!(again.write_page().unwrap(), data);
         assert_eq!(again.take(handle).unwrap().bytes, bytes);
@@ -248,7 +248,8 @@ fn dead(free: &[u32], retired: Option<&[u32]>) -> String {
 #[test]
 fn worn_out_slots_of_an_earlier_page_retire_in_free_order() {
     let page = dead(&[1], Some(&[2, 0]));
-    let mut heap = read(3, 8, page.as_bytes()).unwrap();
+    read(8, 64, page.as_bytes()).unwrap();
+    let mut heap = Heap::read_page(3, 8, page.as_bytes()).unwrap();
     assert_eq!(Heap::read_page(3, 8, dead(&[2, 1, 0], None).as_bytes()).unwrap().write_page().unwrap(), page.as_bytes());
     assert_eq!((heap.memory().free()[..1].to_vec(), heap.memory().retired()[..2].to_vec()), (vec![1], vec![2, 0]));
     assert_eq!(heap.page_length().unwrap(), page.len());
@@ -256,10 +257,10 @@ fn worn_out_slots_of_an_earlier_page_retire_in_free_order() {
     assert_eq!(heap.alloc(Kind::Bytes, b"b").err(), Some(Refusal::Full));
     // a free slot at the last generation; a retired one at another; in two lists, in none, twice in one, no slot
     for (free, retired) in [(&[1, 0][..], &[2][..]), (&[0], &[1, 2]), (&[1], &[2, 0, 1]), (&[], &[2, 0]), (&[1], &[2]), (&[1], &[2, 0, 0]), (&[1], &[2, 0, 3])] {
-        assert_eq!(read(3, 8, dead(free, Some(retired)).as_bytes()).err(), Some(Refusal::BrokenHeap), "{free:?} {retired:?}");
+        assert_eq!(read(8, 64, dead(free, Some(retired)).as_bytes()).err(), Some(Refusal::BrokenHeap), "{free:?} {retired:?}");
     }
     for free in [&[2, 1, 0, 0][..], &[2, 1], &[2, 1, 3]] {
-        assert_eq!(read(3, 8, dead(free, None).as_bytes()).err(), Some(Refusal::BrokenHeap), "{free:?}");
+        assert_eq!(read(8, 64, dead(free, None).as_bytes()).err(), Some(Refusal::BrokenHeap), "{free:?}");
     }
 }
 
