@@ -7,10 +7,10 @@ use mathlib.Core.Option.{some}
 use mathlib.Core.Path.{_≡_, refl, sym, ap, _∙_, subst}
 use lib.ListN.{length, getD, drop, length-append, length-drop, drop-of-length-le}
 use Rattle.word.specs.Run.{run}
+use Rattle.word.proofs.ListLaws.{drop-cons-one}
 use Rattle.text.specs.Text.{decimal}
 use Rattle.text.specs.Put.{Puts, putText}
 use Rattle.text.proofs.Putting.{puts-puts, puts-none, puts-length}
-use Rattle.text.proofs.Getting.{drop-at}
 use Rattle.ty.specs.Types.{Table}
 use Rattle.heap.specs.State.{State}
 use Rattle.heap.specs.Lent.{Lent, stored, view, slotCount, poolSize}
@@ -176,7 +176,7 @@ module _ {T : Table} {l₀ : Lent} {s ns out₀ : List ℕ} {l : Lent} {out : Li
     repeat-least p = omega (arith, p .next, v .printed .next, v .least, line-long (figuresIn (getD ns i 0) g))
 
     next-left : drop i ns ≡ getD ns i 0 ∷ drop (i + 1) ns
-    next-left = drop-at ns i less
+    next-left = drop-cons-one ns i less
 
     pub repeat-next : {out′ : List ℕ} {at′ : ℕ} → getD ns i 0 < 2 ^ 64 → g .collections < 2 ^ 64 → Puts out out′ at at′ (figuresLine (figuresIn (getD ns i 0) g)) → Repeating T l₀ s ns out₀ l₁ out′ at′ (i + 1)
     unfolding memoryAfter figuresText
