@@ -9,6 +9,7 @@ mod stand_ins;
 use stand_ins::{exec, reflect, state};
 
 mod page;
+mod rehearse;
 use std::hint::black_box;
 use std::ops::Range;
 use yavs_ir::{Block, BlockId, Field, Func, Inst, Ops, Program, Reg, RegTy, Ty, TyId};
@@ -350,7 +351,20 @@ fn roots_found(table: &mut Table, shape: &str, n: usize, count: usize, edges: im
     table.row(&format!("roots_for, {shape} (ns), by slots"), n, a, b);
 }
 
-const ROWS: [&str; 15] = ["churn", "script", "view", "layout", "object_handles", "live_refs", "sparse_rows", "collect", "joined", "roots_for", "write_page", "read_page", "write_planes", "read_planes", "memcpy"];
+// Lines of a rehearsal, of which 1,000 objects are held, for four thresholds: the time of one line for one threshold.
+fn rehearsals(table: &mut Table, lines: usize) {
+    let thresholds = [10_000, 100_000, 1_000_000, 10_000_000];
+    let steps = rehearse::steps(lines, 1000);
+    let text = rehearse::text(&steps);
+    let types = TypeTable::new();
+    let here = || Heap::rehearse(&types, lines, 32 * lines, text.as_bytes(), &thresholds).unwrap();
+    let there = || thresholds.iter().map(|t| rehearse::run(&steps, *t)).collect::<String>();
+    assert_eq!(String::from_utf8(here()).unwrap(), there());
+    let turns = (lines * thresholds.len()) as f64;
+    table.row("rehearse, four thresholds (ns a line), by lines", lines, time(|| drop(black_box(here()))) / turns, time(|| drop(black_box(there()))) / turns);
+}
+
+const ROWS: [&str; 16] = ["churn", "script", "view", "layout", "object_handles", "live_refs", "sparse_rows", "collect", "joined", "roots_for", "rehearse", "write_page", "read_page", "write_planes", "read_planes", "memcpy"];
 
 fn main() {
     let words: Vec<String> = std::env::args().skip(1).collect();
@@ -383,6 +397,7 @@ fn main() {
                 SIZES.iter().for_each(|n| roots_found(&mut table, "chain", *n, 1, |i| if i > 0 { i - 1..i } else { 0..0 }));
                 SIZES.iter().for_each(|n| roots_found(&mut table, "all apart", *n, *n, |_| 0..0));
             }
+            "rehearse" => [1_000, 10_000, 100_000].iter().for_each(|n| rehearsals(&mut table, *n)),
             "memcpy" => OBJECTS.iter().for_each(|n| copies(&mut table, *n)),
             "write_planes" | "read_planes" => OBJECTS.iter().for_each(|n| pages(&mut table, *n, row == "read_planes", Column::Planes)),
             _ => OBJECTS.iter().for_each(|n| pages(&mut table, *n, row == "read_page", Column::Data)),

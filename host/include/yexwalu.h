@@ -573,6 +573,28 @@ yexwalu_done yexwalu_run(
     uint8_t *marks, size_t marks_len,
     uint64_t *work, size_t work_len);
 
+/*
+ * Rehearses collection thresholds: for each, a new heap of tag 1 in the lent memory runs the lines of `text`, with a collection from the held handles before an allocation whenever
+ * one is due. A line is `alloc,TYPE,KIND,HEX`, `store,HELD,INTO,OFFSET` or `drop,HELD`, each with byte 10 at its end; held objects are named by their turn among the alloc lines, from 1.
+ * For each threshold a line `threshold,collections,highest,last,answer` is written to the front of `out`, which has at least 80 bytes for each (7). first: how many bytes were written.
+ * The memory then holds the heap of the last run; with no threshold it stays. `words` is scratch besides, two for each slot. 18, 17, 1, 10, 7, all before any run.
+ */
+yexwalu_done yexwalu_rehearse(
+    const uint64_t *types, size_t types_len,
+    const uint32_t *fields, size_t fields_len,
+    const uint64_t *consts, size_t consts_len,
+    const uint8_t *bytes, size_t bytes_len,
+    yexwalu_header heap,
+    uint32_t *narrow, size_t narrow_len,
+    uint64_t *wide, size_t wide_len,
+    uint8_t *pool, size_t pool_len,
+    const uint8_t *text, size_t text_len,
+    const uint64_t *thresholds, size_t thresholds_len,
+    uint8_t *out, size_t out_len,
+    uint64_t *words, size_t words_len,
+    uint8_t *marks, size_t marks_len,
+    uint64_t *work, size_t work_len);
+
 /* ---- A heap as a page of text ---- */
 
 /* How many bytes the heap's page has, with byte planes (planar) or with data. first: that number. 18, 1. */

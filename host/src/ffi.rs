@@ -132,6 +132,9 @@ heap_calls! {
     yexwalu_seal(heap: Header;;) -> Done;
     /// See [`Heap::run_with`](crate::Heap::run_with).
     yexwalu_run(heap: Header; script: *const u8, script_len: usize, room: *mut u8, room_len: usize;) -> Done;
+    /// See [`Heap::rehearse`](crate::Heap::rehearse).
+    yexwalu_rehearse(types: *const u64, types_len: usize, fields: *const u32, fields_len: usize, consts: *const u64, consts_len: usize, bytes: *const u8, bytes_len: usize, heap: Header;
+        text: *const u8, text_len: usize, thresholds: *const u64, thresholds_len: usize, out: *mut u8, out_len: usize, words: *mut u64, words_len: usize;) -> Done;
     /// See [`Heap::gc_due`](crate::Heap::gc_due).
     yexwalu_gc_due(heap: Header; threshold: u64;) -> Answer;
     /// See [`Heap::reclaim_due`](crate::Heap::reclaim_due).

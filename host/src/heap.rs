@@ -643,6 +643,31 @@ impl Heap {
         self.done(done).map(|_| ())
     }
 
+    /// Rehearses collection thresholds in memory of so many slots and bytes: for each, a new heap of tag 1 runs the lines of `text`, `alloc,TYPE,KIND,HEX`, `store,HELD,INTO,OFFSET` and `drop,HELD`, each with byte 10 at its end, with a
+    /// collection from the held handles before an allocation whenever one is due. Held objects are named by their turn among the `alloc` lines, from 1. The answer has a line
+    /// `threshold,collections,highest,last,answer` for each threshold. 17 for another text, then 1 for sizes out of range, then 10.
+    ///
+    /// ```
+    /// use yexwalu::{Heap, Refusal, TypeTable};
+    /// let lines = b"alloc,0,2,4142\ndrop,1\nalloc,0,2,43\n";
+    /// let figures = Heap::rehearse(&TypeTable::new(), 64, 4096, lines, &[0, 1000])?;
+    /// assert_eq!(figures, b"0,1,34,33,0\n1000,0,67,67,0\n");
+    /// assert_eq!(Heap::rehearse(&TypeTable::new(), 64, 4096, b"free,1\n", &[]), Err(Refusal::Page));
+    /// # Ok::<(), Refusal>(())
+    /// ```
+    pub fn rehearse(types: &TypeTable, slots: usize, pool: usize, text: &[u8], thresholds: &[u64]) -> Result<Vec<u8>, Refusal> {
+        let (mut memory, mut scratch) = Heap::memory_for(slots, pool);
+        let mut out = vec![0; 80 * thresholds.len()];
+        let mut words = vec![0; 2 * memory.slots()];
+        let done = change!(&mut memory, &mut scratch, yexwalu_rehearse(
+            types.types.as_ptr(), types.types.len(), types.fields.as_ptr(), types.fields.len(),
+            types.consts.as_ptr(), types.consts.len(), types.bytes.as_ptr(), types.bytes.len(), Header::default())
+            (text.as_ptr(), text.len(), thresholds.as_ptr(), thresholds.len(), out.as_mut_ptr(), out.len(), words.as_mut_ptr(), words.len()));
+        Refusal::check(done.answer.number)?;
+        out.truncate(done.answer.first as usize);
+        Ok(out)
+    }
+
     fn yes(answer: ffi::Answer) -> Result<bool, Refusal> {
         Refusal::check(answer.number)?;
         Ok(answer.first == 1)

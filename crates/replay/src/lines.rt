@@ -42,6 +42,7 @@ enum Route {
     Silent,
     Table,
     TableText,
+    Rehearsal,
     Types,
     Code,
     Live,
@@ -83,6 +84,9 @@ fn way(line: &[u8]) -> Route {
     }
     if replay_tables::command(line) < replay_tables::UNKNOWN {
         return Route::TableText;
+    }
+    if replay_rehearsals::command(line) < replay_rehearsals::UNKNOWN {
+        return Route::Rehearsal;
     }
     if types::command(line) < types::UNKNOWN {
         return Route::Types;
@@ -175,6 +179,10 @@ fn serve(
         Route::Silent => state,
         Route::Table => with_table(state, table::make(line, t, bytes, halves, words)),
         Route::TableText => with_table(state, replay_tables::answer(line, t, bytes, halves, words)),
+        Route::Rehearsal => {
+            replay_rehearsals::answer(line, t, bytes, halves, words);
+            state
+        }
         Route::Code => with_code(state, code::make(line, f, bytes, halves, words)),
         Route::Types => {
             types::answer(line, t, bytes, halves, words);

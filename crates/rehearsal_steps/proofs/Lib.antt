@@ -1,0 +1,4 @@
+pub mod Rooting
+pub mod Sums
+pub mod Swept
+pub mod Placed
