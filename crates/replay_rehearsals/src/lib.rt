@@ -62,7 +62,7 @@ fn spelled(line: &[u8], at: usize, bytes: &mut Bytes) -> Run {
 }
 
 // Up to 2,048 slots, 65,536 bytes and 256 thresholds, then the text.
-fn wanted(line: &[u8], bytes: &mut Bytes, list: &mut Words) -> Wanted {
+fn fields_of(line: &[u8], bytes: &mut Bytes, list: &mut Words) -> Wanted {
     let Field::Is(s, a) = number(line, second(line), 2048) else {
         return Wanted::Bad;
     };
@@ -163,7 +163,7 @@ fn told(a: Answer, out: &mut [u8]) {
 
 // Runs a line. The output has 80 bytes for each of 256 thresholds.
 pub fn answer(line: &[u8], table: Table, bytes: &mut Bytes, lists: &Halves, list: &mut Words) {
-    let Wanted::Is(asked) = wanted(line, bytes, list) else {
+    let Wanted::Is(asked) = fields_of(line, bytes, list) else {
         put_bad();
         return;
     };
