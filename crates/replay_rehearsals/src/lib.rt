@@ -31,6 +31,9 @@ use yexwalu::heaps;
 
 pub const UNKNOWN: usize = 1;
 
+// 80 bytes for each of 256 thresholds.
+type Out = [u8; 20480];
+
 // Is it the command that a line has?
 pub fn command(line: &[u8]) -> usize {
     which(line, 0, b"rehearse ")
@@ -149,7 +152,7 @@ fn on_memory(
 }
 
 // What was printed, on one line; `-` for nothing.
-fn told(a: Answer, out: &mut [u8]) {
+fn told(a: Answer, out: &mut Out) {
     put_number(a.number);
     if a.number == 0 {
         if a.first == 0 {
@@ -161,7 +164,7 @@ fn told(a: Answer, out: &mut [u8]) {
     put(b"\n");
 }
 
-// Runs a line. The output has 80 bytes for each of 256 thresholds.
+// Runs a line.
 pub fn answer(line: &[u8], table: Table, bytes: &mut Bytes, lists: &Halves, list: &mut Words) {
     let Wanted::Is(asked) = fields_of(line, bytes, list) else {
         put_bad();
