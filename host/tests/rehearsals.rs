@@ -232,7 +232,8 @@ fn refused(before: &Lent, why: Refusal) {
 #[test]
 fn refusals_come_in_order_and_change_nothing() {
     // one more each time, which is tested before those that are there
-    let faults: [(Refusal, fn(&mut Lent)); 5] = [
+    type Fault = (Refusal, fn(&mut Lent));
+    let faults: [Fault; 5] = [
         (Refusal::ShortList, |l| l.out.truncate(159)),
         (Refusal::TypeTable, |l| l.types.truncate(3)),
         (Refusal::BrokenHeap, |l| l.wide.truncate(15)),
