@@ -1,5 +1,7 @@
 // A list of addresses, each with the index of the slot in which it lies, as a host lends it: address, slot, address, slot, .. Addresses rise strictly, so that one
 // is found by halves.
+#![tactic(auto)]
+
 ghost use Rattle.std.specs.Prelude.{◌≡◌, true};
 ghost use Rattle.addresses.specs.Listed.{paired, slot_of};
 ghost use Rattle.addresses.specs.Told.{told};
@@ -7,7 +9,7 @@ ghost use Rattle.addresses.specs.Told.{told};
 use heap_calls::recycle::half;
 
 // The slot of an address.
-#[derive(Drop)]
+#[derive(Clone, Copy)]
 pub enum Slot {
     At(u64),
     Nowhere,

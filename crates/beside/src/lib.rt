@@ -1,5 +1,7 @@
 // Two objects of two heaps side by side, at one handle place: the bytes up to it, and the handles there. An order is a byte: 0 equal, 1 less, 2 greater. What belongs to the
 // second heap has a name that begins with o, for the other.
+#![tactic(auto)]
+
 ghost use Rattle.std.specs.Prelude.{◌≡◌, ◌+◌, ◌-◌, ◌/◌, ◌<◌, ◌≤◌, length, take, drop, get_or};
 ghost use Rattle.handle.specs.Handle.{told};
 ghost use Rattle.alike.specs.Order.{order};

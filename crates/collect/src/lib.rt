@@ -1,5 +1,7 @@
 // Collections of a well formed heap in lent memory: what is reached is marked, and the rest is swept. Nothing changes before all that is reached has been
 // traced.
+#![tactic(auto)]
+
 ghost use Rattle.std.specs.Prelude.{◌≡◌, true, length, replicate};
 ghost use Rattle.refusal.specs.Told.{nothing};
 ghost use Rattle.heap.specs.Lent.{lent, view};

@@ -1,5 +1,7 @@
 // What two marked heaps are compared by, short of their objects: the turn at which each object was first met, and the roots as handle places. An order is a byte: 0 equal, 1 less,
 // 2 greater. What belongs to the second heap has a name that begins with o, for the other.
+#![tactic(auto)]
+
 ghost use Rattle.std.specs.Prelude.{◌≡◌, ◌≤◌, length, eqb};
 ghost use Rattle.word.specs.Choice.{if◌then◌else◌};
 ghost use Rattle.alike.specs.Inner.ByTurns.{numbers, ◌andThen◌};

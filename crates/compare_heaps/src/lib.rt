@@ -1,5 +1,7 @@
 // Two heaps that are known to be well formed, compared by what their roots reach: each is marked, the turn of each object is put beside the queue, and the roots and then the objects are
 // gone through side by side. Linear in the slots, the data and the handles of both.
+#![tactic(auto)]
+
 ghost use Rattle.std.specs.Prelude.{◌≡◌, length};
 ghost use Rattle.heap.specs.Lent.{lent, view};
 ghost use Rattle.ty.specs.View.{table_of};
@@ -19,7 +21,7 @@ use trace::Answer;
 mod meet; // what the roots of a heap reach, in the order first met
 
 // What is found: an order as a byte, 0 equal, 1 less, 2 greater; or that something reached in either heap can't be traced.
-#[derive(Drop)]
+#[derive(Clone, Copy)]
 pub enum Compared {
     Is(u8),
     Untraceable,

@@ -1,4 +1,6 @@
 // Two objects side by side: kind, type, start and length as numbers, then the bytes outside the handle places, then the handles.
+#![tactic(auto)]
+
 ghost use Rattle.std.specs.Prelude.{◌≡◌, ◌*◌, ◌≤◌, ◌<◌, min, length};
 ghost use Rattle.std.proofs.Math.Option.{none};
 ghost use Rattle.ty.specs.View.{table_of};
@@ -11,7 +13,7 @@ ghost use Rattle.compare_objects.specs.Inner.Sides.{head_of, head_order, data_be
 use trace::Answer;
 
 // What a slot's numbers say: kind, type and start of its object, and from where to where its data lies in the pool.
-#[derive(Drop)]
+#[derive(Clone, Copy)]
 pub struct Head {
     pub kind: u32,
     pub t: u32,

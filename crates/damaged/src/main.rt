@@ -3,6 +3,8 @@
 //
 // A line TITLE|PAGE of standard input has a page, which is damaged at every place; a line NAME|OLD|NEW has a damage of that page, the first OLD made NEW. `;` stands for byte 10
 // and `^` for byte 13.
+#![tactic(auto)]
+
 ghost use Rattle.std.specs.Prelude.{◌≤◌, length};
 
 use heap::Heap;
@@ -126,7 +128,7 @@ fn same_memory(narrow: &[u32; 48], wide: &[u64; 32], pool: &[u8; 8]) -> bool {
 }
 
 // What a text is answered, and whether header and memory are the same afterwards.
-#[derive(Drop)]
+#[derive(Clone, Copy)]
 struct Seen {
     number: u64,
     same: bool,
@@ -316,7 +318,7 @@ fn unfold(s: &mut [u8; 32768]) {
 }
 
 // Where the page lies in the input.
-#[derive(Drop)]
+#[derive(Clone, Copy)]
 struct Page {
     from: usize,
     to: usize,

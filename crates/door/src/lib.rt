@@ -1,4 +1,6 @@
 // What every public call on a heap goes in by: scratch (18) and the heap (1) are tested first, each time.
+#![tactic(auto)]
+
 ghost use Rattle.std.specs.Prelude.{[], ◌∷◌};
 ghost use Rattle.heap.specs.Lent.{lent};
 ghost use Rattle.door.specs.HeapCalls.{Entered, heap_tests};
@@ -8,14 +10,14 @@ use refusal::{Answer, Refusal};
 
 // The header after a call, and its answer in numbers.
 #[repr(C)]
-#[derive(Drop)]
+#[derive(Clone, Copy)]
 pub struct Done {
     pub heap: Heap,
     pub answer: Answer,
 }
 
 // What the tests before a call found.
-#[derive(Drop)]
+#[derive(Clone, Copy)]
 pub enum Entry {
     Ready,
     Not(Refusal),

@@ -1,4 +1,6 @@
 // Figures of a page: how many objects it has, the bytes of their data and the largest of them; and the line that is printed of it.
+#![tactic(auto)]
+
 ghost use Rattle.std.specs.Prelude.{◌≡◌, [], ◌∷◌, ◌++◌, ◌+◌, ◌^◌, ◌≤◌, ◌<◌, max, ltb, length, take};
 ghost use Rattle.word.specs.Choice.{if◌then◌else◌};
 ghost use Rattle.word.specs.Result.{refused};
@@ -11,7 +13,7 @@ ghost use Rattle.figures.specs.Inner.Counting.{one, shown_as, Lies, Small};
 use heap::Heap;
 
 // How many objects, the bytes of their data, and the most that one of them has.
-#[derive(Drop)]
+#[derive(Clone, Copy)]
 pub struct Figures {
     pub objects: u64,
     pub bytes: u64,
@@ -104,7 +106,7 @@ fn count(heap: Heap, narrow: &[u32; 24576], wide: &[u64; 16384], pool: &[u8; 163
 }
 
 // What a page shows: its answer, and its figures; zeros after a refusal.
-#[derive(Drop)]
+#[derive(Clone, Copy)]
 pub struct Shown {
     pub answer: u64,
     pub figures: Figures,

@@ -1,4 +1,6 @@
 // The frame map: slot_roots of heap.rs. A map is lent as one list, three words an entry (offset, kind, type), and goes with the frame's memory.
+#![tactic(auto)]
+
 ghost use Rattle.std.specs.Prelude.{◌≡◌, ◌%◌, length};
 ghost use Rattle.ty.specs.View.{table_of};
 ghost use Rattle.trace.specs.Emit.{raw_of, into, resolve_in, Runs, emit_all, emitting, told};

@@ -1,4 +1,6 @@
 // A heap in lent memory: its header, and how a slot and its data in the packed pool are replaced.
+#![tactic(auto)]
+
 ghost use Rattle.std.specs.Prelude.{◌≡◌, ◌*◌, ◌≤◌, length};
 ghost use Rattle.word.specs.Run.{run};
 ghost use Rattle.heap.specs.Packing.{start_of};
@@ -12,7 +14,7 @@ use refusal::Reply;
 
 // The numbers of a heap, and how many entries of the slots and of each list are in use.
 #[repr(C)]
-#[derive(Drop)]
+#[derive(Clone, Copy)]
 pub struct Heap {
     pub tag: u8,
     pub since_gc: u64,
@@ -124,7 +126,7 @@ impl Heap {
 }
 
 // The header after a call that may change the heap, and its reply.
-#[derive(Drop)]
+#[derive(Clone, Copy)]
 pub struct Changed {
     pub heap: Heap,
     pub reply: Reply,

@@ -1,5 +1,7 @@
 // Public calls on a heap in lent memory, part of the front door: what is asked of it, and objects changed in their slots.
 // Scratch (18) and the heap (1) are tested first, each time; `marks` and `work` are scratch.
+#![tactic(auto)]
+
 ghost use Rattle.std.specs.Prelude.{◌≡◌, length};
 ghost use Rattle.word.specs.Result.{ok};
 ghost use Rattle.refusal.specs.Told.{here, nothing};

@@ -1,4 +1,6 @@
 // What a heap is asked, and how an object is changed in its slot: calls on a heap that lies well formed in lent memory.
+#![tactic(auto)]
+
 ghost use Rattle.std.specs.Prelude.{◌≡◌, ℕ, ◌+◌, ◌-◌, ◌*◌, ◌/◌, ◌%◌, ◌^◌, ◌<◌, true, List, length, nat_le, slice_index, slice_set};
 ghost use Rattle.word.specs.Result.{ok};
 ghost use Rattle.refusal.specs.Told.{told, answered, here, nothing};
@@ -98,7 +100,7 @@ pub fn resolve(heap: Heap, narrow: &[u32], wide: &[u64], pool: &[u8], x: u64) ->
 }
 
 // What of a slot's data is visible.
-#[derive(Drop)]
+#[derive(Clone, Copy)]
 pub enum Visible {
     // No live slot.
     Dead,

@@ -1,5 +1,7 @@
 // Calls on a heap that is known to be well formed: what each public call of the name does, without the test. The header lies where the host keeps it and is changed there; no scratch.
 // A host may use them that alone can write to header and memory, and that got the heap from a call: each call here leaves it well formed again.
+#![tactic(auto)]
+
 ghost use Rattle.std.specs.Prelude.{◌≡◌, true, ◌/◌, length};
 ghost use Rattle.refusal.specs.Told.{told, answered, here, nothing};
 ghost use Rattle.heap.specs.Lent.{lent, view};

@@ -1,4 +1,6 @@
 // More calls on a heap that is known to be well formed, as in `held`: objects removed and changed in their slots, and what the heap is asked. The header of those that do not change it is lent to be read.
+#![tactic(auto)]
+
 ghost use Rattle.std.specs.Prelude.{◌≡◌, true, length};
 ghost use Rattle.word.specs.Result.{ok};
 ghost use Rattle.refusal.specs.Told.{answered, here, nothing};

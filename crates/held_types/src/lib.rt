@@ -1,5 +1,7 @@
 // Calls with a type table that was checked once: what each public call of the name does, without the test (10). Nothing is required: the view of a table is total, so every table has an answer, also one that is
 // not in order. A host may use them on a table of which `yexwalu_layout` or another checked call did not say 10, as long as nobody changes it; then they answer what those do.
+#![tactic(auto)]
+
 ghost use Rattle.std.specs.Prelude.{◌≡◌, length};
 ghost use Rattle.word.specs.Choice.{if◌then◌else◌};
 ghost use Rattle.word.specs.Result.{ok, refused};
@@ -15,7 +17,7 @@ use refusal::{Answer, Refusal, Reply};
 
 // Document 01's number, 0 for success, and a layout, zeros after a refusal.
 #[repr(C)]
-#[derive(Drop)]
+#[derive(Clone, Copy)]
 pub struct Laying {
     pub number: u64,
     pub size: u64,

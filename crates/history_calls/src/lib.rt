@@ -1,5 +1,7 @@
 // The calls that a history is of (crate `histories`), made: each function does no more than make a public call. Its contract is the public call's own, said by `contract`
 // of crates/histories/specs/Calls.antt: so it is the public calls that the theorems on histories speak of. Questions are apart: `QuestionsAreCalls` joins them.
+#![tactic(auto)]
+
 ghost use Rattle.std.specs.Prelude.{◌≡◌, [], ◌∷◌};
 ghost use Rattle.heap.specs.Lent.{lent};
 ghost use Rattle.door.specs.HeapCalls.{outcome, outcome_of};

@@ -1,4 +1,6 @@
 // The layout of a value of a type under a descriptor, and a record's offsets. A port of ty.rs.
+#![tactic(auto)]
+
 ghost use Rattle.std.specs.Prelude.{◌≡◌, true, length};
 ghost use Prim.Native.Nat.{ℕ, ◌+◌, ◌-◌, ◌*◌, ◌/◌, ◌≤◌, max};
 ghost use Rattle.word.specs.Put.{put};
@@ -13,7 +15,7 @@ ghost use Rattle.layout.specs.Lent.{scalar_part, type_laid, part_laid, array_in,
 use ty::{Entry, Part, Scalar, Word};
 
 // The positions of an array's dimensions.
-#[derive(Drop)]
+#[derive(Clone, Copy)]
 pub enum Dims {
     Count(u64),
     Bad,
@@ -21,7 +23,7 @@ pub enum Dims {
 }
 
 // A layout: 11 is Malformed, 12 TooLarge. used: the descriptor bytes that it read.
-#[derive(Drop)]
+#[derive(Clone, Copy)]
 pub enum Lay {
     Laid {
         size: u64,
@@ -35,7 +37,7 @@ pub enum Lay {
 }
 
 // A layout whose offsets were written, so many.
-#[derive(Drop)]
+#[derive(Clone, Copy)]
 pub enum Answer {
     Layout {
         size: u64,
@@ -51,7 +53,7 @@ pub enum Answer {
 }
 
 // The fields of a record, the first and how many, if all are scalars without constants.
-#[derive(Drop)]
+#[derive(Clone, Copy)]
 pub enum Scalars {
     Of(usize, usize),
     Not,

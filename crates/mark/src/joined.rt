@@ -54,7 +54,7 @@ fn push_at(
 }
 
 // The length of the queue after a row, and in how many turns the row was gone through.
-#[derive(Drop)]
+#[derive(Clone, Copy)]
 pub struct Pushed {
     pub count: usize,
     pub turns: usize,

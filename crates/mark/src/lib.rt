@@ -1,5 +1,7 @@
 // The marking of a collection over a lent heap: what is reached is marked, each object queued once and traced once. Linear in the slots, the visible bytes and
 // the handles, beside the layouts that tracing works out.
+#![tactic(auto)]
+
 ghost use Rattle.std.specs.Prelude.{◌≡◌, true, ◌-◌, ◌<◌, length};
 ghost use Rattle.word.specs.Run.{run};
 ghost use Rattle.handle.specs.Columns.{live_in};
@@ -19,7 +21,7 @@ pub mod hold; // what is pinned, by pins and by addresses
 pub mod joined; // the marking of a joined collection
 
 // All that is reached is marked, or a reached object can't be traced.
-#[derive(Drop)]
+#[derive(Clone, Copy)]
 pub enum Outcome {
     Marked,
     Untraceable,

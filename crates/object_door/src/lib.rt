@@ -1,5 +1,7 @@
 // Public calls that make a heap in lent memory and place and remove objects there, part of the front door: scratch (18) and the heap (1) are tested first, each time.
 // `marks` and `work` are scratch.
+#![tactic(auto)]
+
 ghost use Rattle.std.specs.Prelude.{◌≡◌, [], ◌∷◌, ◌/◌, length};
 ghost use Rattle.refusal.specs.Told.{here, nothing};
 ghost use Rattle.heap.specs.Lent.{lent};

@@ -1,6 +1,8 @@
 // Runs the calls of standard input on a heap of tag 1, 64 slots and 4,096 bytes, and prints its page; a refusal, or 17 for a bad line, is printed alone. It only reads and writes: what is
 // printed is put together by crate `page_runs`. A read that fails is kept apart from the input's end. What the input looks like is said on standard error, where a word was given or 17 is
 // printed; and that what was printed could not be written.
+#![tactic(auto)]
+
 ghost use Rattle.std.specs.Prelude.{◌≤◌, length};
 ghost use Rattle.heap.specs.Lent.{lent};
 ghost use Rattle.page_runs.specs.Inner.Steps.{Good};
@@ -9,7 +11,7 @@ use libc::{STDERR_FILENO, STDIN_FILENO, STDOUT_FILENO};
 use page_runs::Run;
 
 // What the next bytes of the input put at the start of `buf`: how many, 0 at its end; and whether they could not be read.
-#[derive(Drop)]
+#[derive(Clone, Copy)]
 struct Got {
     n: usize,
     failed: bool,
@@ -47,7 +49,7 @@ fn turns_left(turns: u64, more: bool, over: bool) -> u64
     if more { turns } else { 0 }
 }
 
-#[derive(Drop)]
+#[derive(Clone, Copy)]
 struct Ended {
     run: Run,
     failed: bool,

@@ -1,4 +1,6 @@
 // The first pass over a page: what stands in the text, without touching the lent heap.
+#![tactic(auto)]
+
 ghost use Rattle.std.specs.Prelude.{◌≡◌, List, [], ◌∷◌, ◌++◌, ℕ, ◌+◌, ◌-◌, ◌*◌, ◌^◌, ◌≤◌, ◌<◌, length, take, drop, replicate, ◌&&◌, eqb, leb, ltb, ◌%◌, true, false};
 ghost use Rattle.text.specs.Text.{give};
 ghost use Rattle.text.specs.Answer.{decimal_answer, either_answer};
@@ -18,7 +20,7 @@ use refusal::Refusal;
 use text::{Decimal, Either, Hex, Literal};
 
 // What a slot's line says: its numbers, how many bytes of data, and where the next line begins.
-#[derive(Drop)]
+#[derive(Clone, Copy)]
 pub struct SlotRead {
     pub generation: u64,
     pub kind: u64,
@@ -29,7 +31,7 @@ pub struct SlotRead {
     pub next: usize,
 }
 
-#[derive(Drop)]
+#[derive(Clone, Copy)]
 pub enum SlotLine {
     Line(SlotRead),
     NoLine,
@@ -115,7 +117,7 @@ fn sound(x: SlotRead) -> bool
 }
 
 // What the lines of slots say: whether each is sound by itself, how many bytes of data they have, and what comes after them.
-#[derive(Drop)]
+#[derive(Clone, Copy)]
 pub enum Slots {
     Lines(bool, usize, usize),
     NoSlots,
@@ -195,7 +197,7 @@ fn expected_of(kind: u64) -> u8
 }
 
 // What a pass over the lines of the slots asks of the lists: that each slot is in exactly one place, that no free slot is worn out, or that each retired one is.
-#[derive(Drop)]
+#[derive(Clone, Copy)]
 pub enum Rule {
     Once,
     Young,
@@ -228,7 +230,7 @@ fn right_by(rule: Rule, generation: u64, kind: u64, n: u8) -> bool
 }
 
 // Whether bits are what the lines of `count` slots ask for, and what comes after the lines.
-#[derive(Drop)]
+#[derive(Clone, Copy)]
 pub struct Chunk {
     pub ok: bool,
     pub next: usize,
@@ -363,7 +365,7 @@ fn partition(s: &[u8], x: Sections, row: &mut [u64]) -> bool
 }
 
 // Whether the values of a list are as they are to be, and what comes after them.
-#[derive(Drop)]
+#[derive(Clone, Copy)]
 pub enum Values {
     Good(bool, usize),
     NoValues,
@@ -447,7 +449,7 @@ fn check_seals(s: &[u8], at: usize, count: usize, tag: u64, n: usize) -> Values
 }
 
 // What the line of a heap's numbers says, with `retired` or without, and where the next line begins.
-#[derive(Drop)]
+#[derive(Clone, Copy)]
 pub struct HeadRead {
     pub retiring: bool,
     pub tag: u64,
@@ -462,7 +464,7 @@ pub struct HeadRead {
     pub next: usize,
 }
 
-#[derive(Drop)]
+#[derive(Clone, Copy)]
 pub enum HeadLine {
     Head(HeadRead),
     NoHead,
@@ -554,7 +556,7 @@ fn sound_parts(
 
 // What the first pass finds in a page: whether it has the retired list, which name its write counts have, planes or data, the heap's numbers, where the lines of its slots and lists begin,
 // how many bytes of data the slots have, and whether the heap is sound, its partition apart.
-#[derive(Drop)]
+#[derive(Clone, Copy)]
 pub struct Sections {
     pub retiring: bool,
     pub wide: bool,
@@ -577,7 +579,7 @@ pub struct Sections {
     pub sound: bool,
 }
 
-#[derive(Drop)]
+#[derive(Clone, Copy)]
 pub enum Parsed {
     Page(Sections),
     NotPage,
@@ -648,7 +650,7 @@ fn head_section(s: &[u8]) -> HeadLine
 }
 
 // What the names line of the slots says: which name the write counts have, planes or data, and where the next line begins; or that it is none.
-#[derive(Drop)]
+#[derive(Clone, Copy)]
 pub enum SlotNames {
     Named(bool, bool, usize),
     Unnamed,
@@ -675,7 +677,7 @@ fn slot_names(s: &[u8], at: usize) -> SlotNames
 }
 
 // The lines of slots after their names line: where they begin, then as `Slots`, then what the names line says.
-#[derive(Drop)]
+#[derive(Clone, Copy)]
 pub enum SlotSection {
     Found(usize, bool, usize, usize, bool, bool),
     Lost,
@@ -696,7 +698,7 @@ fn slot_section(s: &[u8], at: usize, count: usize) -> SlotSection
 }
 
 // The values of a list after its name: where they begin, then as `Values`.
-#[derive(Drop)]
+#[derive(Clone, Copy)]
 pub enum ListSection {
     Listed(usize, bool, usize),
     Unlisted,
@@ -774,7 +776,7 @@ pub fn parse_page(s: &[u8]) -> Parsed
 }
 
 // What the first pass tells of a text: a page that can be read, or why it is refused.
-#[derive(Drop)]
+#[derive(Clone, Copy)]
 pub enum Checked {
     Page(Sections),
     Not(Refusal),

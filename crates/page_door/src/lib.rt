@@ -1,4 +1,6 @@
 // The public calls of the page (01, "Page"): a heap as text, both ways, and how long that text is.
+#![tactic(auto)]
+
 ghost use Rattle.std.specs.Prelude.{◌≡◌, ◌&&◌, ◌/◌, leb, length};
 ghost use Rattle.heap.specs.Lent.{lent};
 ghost use Rattle.door.specs.HeapCalls.{asked, outcome};

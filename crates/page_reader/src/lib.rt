@@ -1,4 +1,6 @@
 // The second pass over a page: fills the lent heap, once the first pass has accepted the text.
+#![tactic(auto)]
+
 ghost use Rattle.std.specs.Prelude.{◌≡◌, List, [], ◌∷◌, ◌++◌, map, ℕ, ◌+◌, ◌-◌, ◌*◌, ◌/◌, ◌^◌, ◌≤◌, ◌<◌, length, take, drop, replicate};
 ghost use Rattle.text.specs.Put.{put_text, Puts};
 ghost use Rattle.text.specs.Answer.{hex_at, HexParsed};
@@ -117,7 +119,7 @@ fn fill_handles(s: &[u8], at: usize, count: usize, list: &mut [u64])
 }
 
 // How many slots are free, and how many retired.
-#[derive(Drop)]
+#[derive(Clone, Copy)]
 pub struct Counts {
     pub free: usize,
     pub retired: usize,

@@ -1,6 +1,8 @@
 // What the program `page` prints (01, "Page"): the lines of its input are run on a heap of tag 1, 64 slots and 4,096 bytes, and its page is printed, or a refusal alone. A run goes
 // through the input as it comes: `begin`, `go_on` with each part of it, `finish`. Their contracts say that what is left to be printed stays the same at each step, so what `finish` puts
 // is the text that `printed` gives for the whole input. `print_all` does so for an input that is there at once.
+#![tactic(auto)]
+
 ghost use Rattle.std.specs.Prelude.{◌≡◌, ◌-◌, ◌≤◌, min, length, take, drop, false};
 ghost use Rattle.word.specs.Lists.{all};
 ghost use Rattle.text.specs.Text.{read_literal};
@@ -15,7 +17,7 @@ use heap::Heap;
 use text::{Decimal, Literal};
 
 // Where a run stands: the names line is due, lines are run, or it is over and prints this number.
-#[derive(Drop)]
+#[derive(Clone, Copy)]
 pub enum At {
     Names,
     Lines,
@@ -23,7 +25,7 @@ pub enum At {
 }
 
 // A run: its heap, where it stands, and how many bytes of the input are held at the start of the buffer.
-#[derive(Drop)]
+#[derive(Clone, Copy)]
 pub struct Run {
     pub heap: Heap,
     pub at: At,
@@ -130,7 +132,7 @@ fn shorten(buf: &mut [u8; 65536]) -> usize
 }
 
 // What a script came to: 0, or the number of its refusal.
-#[derive(Drop)]
+#[derive(Clone, Copy)]
 struct After {
     heap: Heap,
     number: u64,
@@ -164,7 +166,7 @@ fn run_part(
 }
 
 // Where a run stands, and how many bytes are held at the start of the buffer.
-#[derive(Drop)]
+#[derive(Clone, Copy)]
 struct Kept {
     at: At,
     held: usize,

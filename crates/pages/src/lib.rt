@@ -1,4 +1,6 @@
 // The page: a heap as text, in the form that is written.
+#![tactic(auto)]
+
 ghost use Rattle.std.specs.Prelude.{◌≡◌, ℕ, ◌+◌, ◌-◌, ◌*◌, ◌/◌, ◌≤◌, ◌<◌, length, take, drop, true, false};
 ghost use mathlib.Core.List.{List, [], ◌∷◌, ◌++◌, flat_map};
 ghost use Rattle.text.specs.Text.{decimal, hex};

@@ -1,6 +1,8 @@
 // Scripts, each put through `page_runs::print_all` as the program `page` would print it: once where the input ends with it, once where it could not be read on.
 //
 // Standard input has the scripts, each with byte `|` after it. `~` stands for 1,000 hexadecimal digits, so that a line can be longer than the buffer.
+#![tactic(auto)]
+
 ghost use Rattle.std.specs.Prelude.{◌≤◌};
 ghost use Rattle.std.proofs.Math.ListN.{length};
 

@@ -1,1 +1,3 @@
 // Theorems of handle places (01, "Traced handles"): each statement stands in specs/, its proof in proofs/. This crate has no code.
+
+#![tactic(auto)]

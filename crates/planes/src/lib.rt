@@ -1,4 +1,6 @@
 // Byte planes of eight-byte words: an object's column written in hexadecimal, and the object restored from it in place.
+#![tactic(auto)]
+
 ghost use Rattle.std.specs.Prelude.{◌≡◌, ℕ, ◌+◌, ◌-◌, ◌*◌, ◌/◌, ◌%◌, ◌^◌, ◌<◌, ◌≤◌, [], ◌∷◌, ◌++◌, length};
 ghost use Rattle.word.specs.Le.{le, bytes};
 ghost use Rattle.word.specs.Put.{put};

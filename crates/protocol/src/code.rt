@@ -8,7 +8,7 @@ use crate::{
 };
 
 // Where each part of the function ends.
-#[derive(Drop)]
+#[derive(Clone, Copy)]
 pub struct Function {
     pub kinds: usize,
     pub ends: usize,
@@ -28,7 +28,7 @@ pub fn no_code() -> Function {
     }
 }
 
-#[derive(Drop)]
+#[derive(Clone, Copy)]
 enum Built {
     Is(Function),
     // The line can't be read, or finds no room.
@@ -80,7 +80,7 @@ fn func(line: &[u8], bytes: &mut Bytes, lists: &mut Halves, list: &mut Words) ->
 }
 
 // Where an instruction's registers and targets end; its kind is the first field.
-#[derive(Drop)]
+#[derive(Clone, Copy)]
 enum Listed {
     Is(u64, usize, usize, usize),
     Bad,

@@ -4,7 +4,7 @@ use libc::STDIN_FILENO;
 
 // What of the buffer has been read and not yet been handed out; whether the input has ended; and whether the line at `from` began in bytes that the buffer
 // could not keep.
-#[derive(Drop)]
+#[derive(Clone, Copy)]
 pub struct Input {
     pub from: usize,
     pub end: usize,
@@ -12,7 +12,7 @@ pub struct Input {
     pub long: bool,
 }
 
-#[derive(Drop)]
+#[derive(Clone, Copy)]
 pub enum Line {
     // It lies in the buffer from here up to there.
     At(usize, usize, Input),

@@ -1,5 +1,7 @@
 // A script of calls as text, for the program `replay`: the commands and fields of a line, answers, and the type table and the function that lines make. Nothing here
 // calls the front door.
+#![tactic(auto)]
+
 ghost use Rattle.std.specs.Prelude.{◌≤◌};
 
 pub mod code;

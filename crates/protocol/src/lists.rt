@@ -6,7 +6,7 @@ use crate::{Bytes, HALF, Halves, Words, least};
 use text::Decimal;
 
 // Where what a field has put into a list ends there, and where the field after it begins.
-#[derive(Drop)]
+#[derive(Clone, Copy)]
 pub enum Run {
     Is(usize, usize),
     Bad,
@@ -46,7 +46,7 @@ fn digit(b: u8) -> u8 {
 }
 
 // The byte that two digits spell, and where they end.
-#[derive(Drop)]
+#[derive(Clone, Copy)]
 enum Spelled {
     Is(u8, usize),
     Not,
@@ -151,7 +151,7 @@ fn after_colon(line: &[u8], at: usize, most: u64) -> Decimal {
 }
 
 // One entry of a list of numbers of 32 bits, and where it ends.
-#[derive(Drop)]
+#[derive(Clone, Copy)]
 enum Three {
     Is(u64, u64, u64, usize),
     Bad,

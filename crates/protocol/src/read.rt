@@ -2,7 +2,7 @@
 use text::Decimal;
 
 // A number, and where the field after it begins.
-#[derive(Drop)]
+#[derive(Clone, Copy)]
 pub enum Field {
     Is(u64, usize),
     Bad,

@@ -4,7 +4,7 @@ use crate::read::{Field, number, signed};
 use crate::{BLOCKS, FIELDS, HALF, Halves, WORD, since};
 
 // Class, the three words after it, and where the fields end after it.
-#[derive(Drop)]
+#[derive(Clone, Copy)]
 pub struct Row {
     pub class: u64,
     pub a: u64,
@@ -13,7 +13,7 @@ pub struct Row {
     pub fields: usize,
 }
 
-#[derive(Drop)]
+#[derive(Clone, Copy)]
 pub enum Read {
     Is(Row),
     Bad,

@@ -6,7 +6,7 @@ use crate::write::{put_bad, put_last, put_value};
 use crate::{Bytes, CONSTS, FIELDS, Halves, SPELLED, Words, least, since};
 
 // Where each part of the table ends.
-#[derive(Drop)]
+#[derive(Clone, Copy)]
 pub struct Table {
     pub types: usize,
     pub fields: usize,
@@ -25,7 +25,7 @@ pub fn no_types() -> Table {
 }
 
 // Where what was put ends; or that there is no room for it.
-#[derive(Drop)]
+#[derive(Clone, Copy)]
 enum Room {
     Ends(usize),
     Short,

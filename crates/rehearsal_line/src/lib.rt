@@ -1,4 +1,6 @@
 // A line of a rehearsal (request [12]), whichever it is.
+#![tactic(auto)]
+
 ghost use Rattle.std.specs.Prelude.{◌≡◌, ◌/◌, length};
 ghost use Rattle.ty.specs.View.{table_of};
 ghost use Rattle.heap.specs.Lent.{lent};

@@ -1,4 +1,6 @@
 // The lines of a rehearsal (request [12]), read one at a time.
+#![tactic(auto)]
+
 ghost use Rattle.std.specs.Prelude.{◌≡◌, ◌≤◌, length, drop};
 ghost use Rattle.rehearsal.specs.Lines.{read_alloc, read_store, read_drop, read_line, is_text};
 ghost use Rattle.rehearsal_lines.specs.Found.{LineRead, next_after};
@@ -7,7 +9,7 @@ use script::AllocLine;
 use text::{Decimal, Hex, Literal};
 
 // A line `store`: the turns of what is stored and of what it is stored into, the offset, and where the next line begins.
-#[derive(Drop)]
+#[derive(Clone, Copy)]
 pub struct StoreLine {
     pub held: u64,
     pub into: u64,
@@ -16,7 +18,7 @@ pub struct StoreLine {
 }
 
 // A line, and where the next one begins.
-#[derive(Drop)]
+#[derive(Clone, Copy)]
 pub enum Line {
     Alloc(AllocLine),
     Store(StoreLine),

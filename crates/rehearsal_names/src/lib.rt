@@ -1,5 +1,7 @@
 // The names held in a rehearsal (request [12]) in lent words: turns in the first `s` words, handles in the next `s`, both in the order of turns. An entry that was
 // dropped has handle 0; such entries are squeezed out when there is no room for one more. Names are found by halves.
+#![tactic(auto)]
+
 ghost use Rattle.std.specs.Prelude.{◌≡◌, true};
 ghost use Rattle.heap_calls.specs.Pins.{rising_from};
 ghost use Rattle.rehearsal.specs.Runs.{held_at};

@@ -1,5 +1,7 @@
 // An object whose data stands in hexadecimal in a text, placed on a heap without a copy of the data: the object takes as many bytes of the text first, and then its
 // data is decoded over them in the pool.
+#![tactic(auto)]
+
 ghost use Rattle.std.specs.Prelude.{◌≡◌, true, ◌/◌, ◌≤◌, length};
 ghost use Rattle.text.specs.Answer.{hex_at};
 ghost use Rattle.heap.specs.Lent.{lent, view};

@@ -1,4 +1,6 @@
 // The rehearsal of one threshold after another (request [12]), each from a new heap, and the line that is printed of each.
+#![tactic(auto)]
+
 ghost use Rattle.std.specs.Prelude.{◌≡◌, true, [], ◌∷◌, ◌++◌, ◌+◌, ◌/◌, ◌≤◌, length};
 ghost use Rattle.text.specs.Put.{Puts};
 ghost use Rattle.ty.specs.View.{table_of};
@@ -105,7 +107,7 @@ fn put_figures(out: &mut [u8], at: usize, threshold: u64, g: Going) -> usize
 }
 
 // The header of the last rehearsal's heap, and how many bytes were printed.
-#[derive(Drop)]
+#[derive(Clone, Copy)]
 pub struct Rehearsed {
     pub heap: Heap,
     pub written: usize,

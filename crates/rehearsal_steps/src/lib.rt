@@ -1,4 +1,6 @@
 // A rehearsal under way (request [12]) on a heap that is known to be well formed: its due collection and its allocation. A step costs what the heap's call costs.
+#![tactic(auto)]
+
 ghost use Rattle.std.specs.Prelude.{◌≡◌, ◌+◌, ◌/◌, ◌^◌, ◌<◌, max, length};
 ghost use Rattle.text.specs.Answer.{hex_at};
 ghost use Rattle.ty.specs.View.{table_of};
@@ -15,7 +17,7 @@ use script::AllocLine;
 
 // A rehearsal under way: its heap, the sum of length plus 32 over live objects, how many entries of names are in use, and what is counted. An answer other than 0 has
 // ended it.
-#[derive(Drop)]
+#[derive(Clone, Copy)]
 pub struct Going {
     pub heap: Heap,
     pub size: u64,

@@ -1,4 +1,6 @@
 // The lines `store` and `drop` of a rehearsal (request [12]).
+#![tactic(auto)]
+
 ghost use Rattle.std.specs.Prelude.{◌≡◌, true};
 ghost use Rattle.word.specs.Le.{bytes as bytes_of};
 ghost use Rattle.heap.specs.Lent.{lent, view};

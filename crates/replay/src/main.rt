@@ -1,4 +1,6 @@
 // Runs a script of calls from standard input through the front door, one answer a line.
+#![tactic(auto)]
+
 use protocol::input::{Input, Line};
 use protocol::write::put_bad;
 use protocol::{Buffer, input};

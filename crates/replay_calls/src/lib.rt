@@ -1,4 +1,6 @@
 // The commands of the program `replay` that ask a heap, in lent memory; and what each crate of commands on a heap needs: the heap that is kept, the fields of a line.
+#![tactic(auto)]
+
 use door::Done;
 use heap::Heap;
 
@@ -13,7 +15,7 @@ pub type Wide = [u64; 32768];
 pub type Pool = [u8; 65536];
 
 // A heap: its header, and how many slots and bytes of the lent memory it has.
-#[derive(Drop)]
+#[derive(Clone, Copy)]
 pub struct Kept {
     pub heap: Heap,
     pub slots: usize,

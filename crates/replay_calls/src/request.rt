@@ -4,7 +4,7 @@ use protocol::read::{Field, ends, last_or, number, which};
 use protocol::{Bytes, HALF, HALVES_END, Halves, LISTED, SPELLED, WORD};
 
 // Up to three numbers, and where the bytes and the slots of a line end in the lent lists.
-#[derive(Drop)]
+#[derive(Clone, Copy)]
 pub struct Request {
     pub x: u64,
     pub y: u64,
@@ -13,7 +13,7 @@ pub struct Request {
     pub slots: usize,
 }
 
-#[derive(Drop)]
+#[derive(Clone, Copy)]
 pub enum Asked {
     For(Request),
     Bad,

@@ -1,4 +1,6 @@
 // The commands of the program `replay` that change a heap.
+#![tactic(auto)]
+
 use door::Done;
 use heap::Heap;
 use protocol::lists::low;

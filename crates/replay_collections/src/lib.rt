@@ -1,4 +1,6 @@
 // The commands of the program `replay` that collect: from roots, or at a safepoint of the function.
+#![tactic(auto)]
+
 use door::Done;
 use heap::Heap;
 use protocol::code::Function;
@@ -24,7 +26,7 @@ pub fn command(line: &[u8]) -> usize {
 
 // The place in the code, and where the roots or the registers' values, the frame's memory, its map, the pins and the addresses with their slots end in the lent lists. A
 // plain collection has no frame and no addresses.
-#[derive(Drop)]
+#[derive(Clone, Copy)]
 struct Lists {
     pc: usize,
     words: usize,
@@ -34,7 +36,7 @@ struct Lists {
     addresses: usize,
 }
 
-#[derive(Drop)]
+#[derive(Clone, Copy)]
 enum Wanted {
     Is(Lists),
     Bad,

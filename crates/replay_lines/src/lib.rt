@@ -1,4 +1,6 @@
 // A line of the script of the program `replay`, run on what it is about: it goes by its first word to a group of commands.
+#![tactic(auto)]
+
 use protocol::code::{Function, no_code};
 use protocol::read::byte_at;
 use protocol::table::{Table, no_types};
@@ -9,7 +11,7 @@ use replay_saves::{SWAP, UNKNOWN};
 use replay_types::{live, types};
 
 // What is kept from line to line, beside the lent memory and lists: the current heap and the other one, the type table and the function.
-#[derive(Drop)]
+#[derive(Clone, Copy)]
 pub struct State {
     kept: Kept,
     other: Kept,
@@ -26,7 +28,7 @@ pub fn start() -> State {
     }
 }
 
-#[derive(Drop)]
+#[derive(Clone, Copy)]
 enum Route {
     // An empty line or a comment has no answer.
     Silent,

@@ -1,4 +1,6 @@
 // The command of the program `replay` that rehearses collection thresholds, in memory of its own: the heap of the script stays as it is.
+#![tactic(auto)]
+
 use heap::Heap;
 use protocol::lists::{Run, is_empty, page, words};
 use protocol::read::{Field, ends, number, second, which};
@@ -22,7 +24,7 @@ pub fn command(line: &[u8]) -> usize {
 }
 
 // Slots and bytes, and where the thresholds and the text end in the lent lists.
-#[derive(Drop)]
+#[derive(Clone, Copy)]
 struct Asked {
     slots: usize,
     pool: usize,
@@ -30,7 +32,7 @@ struct Asked {
     text: usize,
 }
 
-#[derive(Drop)]
+#[derive(Clone, Copy)]
 enum Wanted {
     Is(Asked),
     // The line can't be read, or finds no room.

@@ -1,4 +1,6 @@
 // The commands of the program `replay` on two heaps, the current one and the other: they change places, or they are compared.
+#![tactic(auto)]
+
 use heap::Heap;
 use protocol::lists::{Run, words};
 use protocol::read::{second, which};

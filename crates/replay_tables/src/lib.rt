@@ -1,4 +1,6 @@
 // The commands of the program `replay` on a type table's text: a text that is read becomes the type table; the type table is written with the names that a line has.
+#![tactic(auto)]
+
 use protocol::read::{byte_at, past, second, which};
 use protocol::table::Table;
 use protocol::write::{put, put_next, put_number, put_page};

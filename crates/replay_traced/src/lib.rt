@@ -1,4 +1,6 @@
 // The commands of the program `replay` that trace a heap by the type table and leave it as it is: the handles of a slot, the roots for wanted slots, and whether all slots can be traced.
+#![tactic(auto)]
+
 use heap::Heap;
 use protocol::lists::{Run, halves};
 use protocol::read::{Field, number, second, which};
@@ -24,14 +26,14 @@ pub fn command(line: &[u8]) -> usize {
 }
 
 // A slot, and where pins and wanted slots end in the lent list.
-#[derive(Drop)]
+#[derive(Clone, Copy)]
 struct Question {
     slot: usize,
     pins: usize,
     slots: usize,
 }
 
-#[derive(Drop)]
+#[derive(Clone, Copy)]
 enum Asked {
     For(Question),
     Bad,

@@ -15,14 +15,14 @@ pub fn command(line: &[u8]) -> usize {
 }
 
 // Whether all registers are asked for, or those of classes 2 and 4; and where, if at one instruction.
-#[derive(Drop)]
+#[derive(Clone, Copy)]
 struct Question {
     one: bool,
     all: bool,
     pc: usize,
 }
 
-#[derive(Drop)]
+#[derive(Clone, Copy)]
 enum Asked {
     For(Question),
     Bad,

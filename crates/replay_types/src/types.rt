@@ -30,14 +30,14 @@ pub fn command(line: &[u8]) -> usize {
 }
 
 // A type, and where the bytes and the frame's map of a line end in the lent lists.
-#[derive(Drop)]
+#[derive(Clone, Copy)]
 struct Question {
     t: u64,
     bytes: usize,
     map: usize,
 }
 
-#[derive(Drop)]
+#[derive(Clone, Copy)]
 enum Asked {
     For(Question),
     Bad,

@@ -1,4 +1,6 @@
 // The map of all safepoints of a function: which registers are live before each. Inner functions: the front door is crate `yexwalu`.
+#![tactic(auto)]
+
 ghost use Rattle.std.specs.Prelude.{◌≡◌, true, ◌||◌, ℕ, ◌+◌, ◌-◌, ◌*◌, ◌/◌, ◌≤◌, ◌<◌, ltb, length, set};
 ghost use Rattle.rows.specs.Row.{listed};
 ghost use Rattle.flow.specs.Dataflow.{live_before};
@@ -17,7 +19,7 @@ use roots::fixpoint::{analyse, back_at, gather};
 use roots::row::wide;
 
 // How many safepoints, and registers live at them, there are.
-#[derive(Drop)]
+#[derive(Clone, Copy)]
 pub struct Counts {
     pub points: usize,
     pub registers: usize,

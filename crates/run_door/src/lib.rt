@@ -1,5 +1,7 @@
 // The public call that runs a script of calls on a heap in lent memory, part of the front door: the heap is checked once, and the script's lines are run one by one
 // until one is refused or bad.
+#![tactic(auto)]
+
 ghost use Rattle.std.specs.Prelude.{[], ◌∷◌, ◌≡◌, ◌/◌, length};
 ghost use Rattle.std.proofs.Math.Option.{some};
 ghost use Rattle.heap.specs.Lent.{lent, view};

@@ -1,4 +1,6 @@
 // The lines of a script of calls on a heap, read one at a time.
+#![tactic(auto)]
+
 ghost use Rattle.std.specs.Prelude.{◌≡◌, ◌≤◌, length, drop};
 ghost use Rattle.script.specs.Script.{read_alloc, read_take, read_call, begins_call};
 ghost use Rattle.script.specs.Found.{LineRead, next_after};
@@ -6,7 +8,7 @@ ghost use Rattle.script.specs.Found.{LineRead, next_after};
 use text::{Decimal, Hex, Literal};
 
 // A line `alloc`: type, kind, and data that stands in hexadecimal from `from` on; the next line begins at `next`.
-#[derive(Drop)]
+#[derive(Clone, Copy)]
 pub struct AllocLine {
     pub ty: u64,
     pub kind: u64,
@@ -16,7 +18,7 @@ pub struct AllocLine {
 }
 
 // A call, and where the next line begins.
-#[derive(Drop)]
+#[derive(Clone, Copy)]
 pub enum Line {
     Alloc(AllocLine),
     Take(u64, usize),

@@ -1,5 +1,7 @@
 // Reads pages from standard input, each after a line with its length in bytes, and prints what each shows and the totals over all that are accepted (request [14]). It only
 // reads and writes: what is printed is put together by crate `shelves`. A read that fails is kept apart from the input's end.
+#![tactic(auto)]
+
 ghost use Rattle.std.specs.Prelude.{◌≤◌, length};
 ghost use Rattle.shelves.specs.Inner.Steps.{Good};
 
@@ -7,7 +9,7 @@ use libc::{STDIN_FILENO, STDOUT_FILENO};
 use shelves::Shelf;
 
 // What the next bytes of the input put at the start of `buf`: how many, 0 at its end; and whether they could not be read.
-#[derive(Drop)]
+#[derive(Clone, Copy)]
 struct Got {
     n: usize,
     failed: bool,
@@ -87,7 +89,7 @@ fn turns_left(turns: u64, n: usize, over: bool) -> u64
     turns
 }
 
-#[derive(Drop)]
+#[derive(Clone, Copy)]
 struct Ended {
     shelf: Shelf,
     failed: bool,

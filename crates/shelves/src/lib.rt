@@ -1,6 +1,8 @@
 // Figures for a whole shelf: what each page of an input shows, and the totals over all that are accepted. A run goes through the input as it comes: `begin`, `go_on` with each
 // part of it, `finish`. Their contracts say that what they print is, put together, the text that `shelfText` gives for the whole input. The heap and its scratch are lent for
 // the pages to be read into, and what they hold afterwards means nothing.
+#![tactic(auto)]
+
 ghost use Rattle.std.specs.Prelude.{◌≡◌, ◌||◌, List, ℕ, ◌+◌, ◌*◌, ◌≤◌, min, eqb, ltb};
 ghost use Rattle.figures.specs.Inner.Counting.{Small};
 ghost use Rattle.shelves.specs.Inner.Steps.{GoodAt, Good, Begins, Reads, Takes, Due, After, Answers, Goes, Begun, Ends, is_over, is_cut_off};
@@ -8,7 +10,7 @@ ghost use Rattle.shelves.specs.Inner.Steps.{GoodAt, Good, Begins, Reads, Takes, 
 use figures::{Figures, Shown};
 
 // Where a run stands in its input.
-#[derive(Drop)]
+#[derive(Clone, Copy)]
 pub enum At {
     // A length line is due. So many digits of it were read, and they spell this number.
     Line(u64, u64),
@@ -21,7 +23,7 @@ pub enum At {
 }
 
 // What some more input comes to.
-#[derive(Drop)]
+#[derive(Clone, Copy)]
 pub enum Next {
     // No page has ended.
     Still(At),
@@ -87,7 +89,7 @@ fn take_byte(k: u64, n: u64, b: u8) -> Next
 }
 
 // What was taken in, and how many bytes of the input that took.
-#[derive(Drop)]
+#[derive(Clone, Copy)]
 pub struct Taken {
     pub next: Next,
     pub used: usize,
@@ -171,7 +173,7 @@ fn take_in(at: At, input: &[u8], held: &mut [u8; 32768]) -> Taken
 }
 
 // A run through a shelf: how many pages were met, their totals, and where it stands.
-#[derive(Drop)]
+#[derive(Clone, Copy)]
 pub struct Shelf {
     pub pages: u64,
     pub total: Figures,
@@ -219,7 +221,7 @@ impl Shelf {
 }
 
 // Where a run stands after a step, how many bytes of the input it took, and where in the output it ended.
-#[derive(Drop)]
+#[derive(Clone, Copy)]
 pub struct Progress {
     pub shelf: Shelf,
     pub used: usize,

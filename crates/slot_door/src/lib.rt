@@ -1,5 +1,7 @@
 // The public calls on the slots of a heap and a type table: the handles that a slot shows, in the order in which they are traced (18, 1, 10, 9, 13, 7; after a refusal the lent list is as it was),
 // and whether heap and table fit together (18, 1, 10, 13).
+#![tactic(auto)]
+
 ghost use Rattle.std.specs.Prelude.{◌≡◌, true, [], ◌∷◌, ◌<◌, length};
 ghost use Rattle.ty.specs.View.{table_of};
 ghost use Rattle.trace.specs.Places.{handles_of};

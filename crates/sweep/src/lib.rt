@@ -1,5 +1,7 @@
 // The sweep of a collection, over lent memory: what is not marked is released, the pool is packed again in one pass, the survivors are counted and the
 // quarantine is recycled. Linear in the slots and the pool, `recycle` apart, which looks each quarantined slot up among the pins by halves.
+#![tactic(auto)]
+
 ghost use Rattle.std.specs.Prelude.{◌≡◌, true, [], ◌≤◌, ◌/◌, length};
 ghost use Rattle.heap.specs.State.{bit};
 ghost use Rattle.heap.specs.Lent.{lent, cut, view};

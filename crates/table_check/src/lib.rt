@@ -1,4 +1,6 @@
 // The first pass over a type table's text: what it is refused for, and where its parts stand.
+#![tactic(auto)]
+
 ghost use Rattle.std.specs.Prelude.{◌≡◌, List, [], ◌∷◌, ◌++◌, ℕ, ◌+◌, ◌-◌, ◌*◌, ◌/◌, ◌≤◌, ◌<◌, length, take, drop, replicate};
 ghost use Rattle.text.specs.Text.{read_field};
 ghost use Rattle.text.specs.Put.{put_text};
@@ -31,7 +33,7 @@ pub fn get_numbers(s: &[u8], at: usize, k: usize, most: u64, out: &mut [u64], to
 }
 
 // How many bytes the names of lines take, and what comes after the lines.
-#[derive(Drop)]
+#[derive(Clone, Copy)]
 pub enum Rows {
     Lines(usize, usize),
     NoRows,
@@ -97,7 +99,7 @@ pub fn get_fields(s: &[u8], at: usize, count: usize, out: &mut [u32]) -> Rows
 }
 
 // The lines of a section after its names line: where they begin, then as `Rows`.
-#[derive(Drop)]
+#[derive(Clone, Copy)]
 pub enum Section {
     Found(usize, usize, usize),
     Lost,
@@ -141,7 +143,7 @@ fn fields_section(s: &[u8], at: usize, names: &[u8], count: usize, out: &mut [u3
 }
 
 // The counts of a table, and what comes after their line.
-#[derive(Drop)]
+#[derive(Clone, Copy)]
 pub struct CountsRead {
     pub types: usize,
     pub fields: usize,
@@ -149,7 +151,7 @@ pub struct CountsRead {
     pub next: usize,
 }
 
-#[derive(Drop)]
+#[derive(Clone, Copy)]
 pub enum CountsLine {
     Counts(CountsRead),
     NoCounts,
@@ -180,7 +182,7 @@ fn get_counts(s: &[u8]) -> CountsLine
 }
 
 // Where the constants' bytes begin, and how many they are.
-#[derive(Drop)]
+#[derive(Clone, Copy)]
 pub enum BytesLine {
     Bytes(usize, usize),
     NoBytes,
@@ -204,7 +206,7 @@ fn bytes_section(s: &[u8], at: usize) -> BytesLine
 }
 
 // What the first pass finds in a table's text: the counts, where the lines and the bytes begin, how many bytes there are and how many the names take.
-#[derive(Drop)]
+#[derive(Clone, Copy)]
 pub struct Sections {
     pub types: usize,
     pub fields: usize,
@@ -219,7 +221,7 @@ pub struct Sections {
     pub const_names: usize,
 }
 
-#[derive(Drop)]
+#[derive(Clone, Copy)]
 pub enum Parsed {
     Table(Sections),
     NotTable,
@@ -298,7 +300,7 @@ fn table_good(s: &[u8], x: Sections, words: &[u64], halves: &[u32]) -> bool
 }
 
 // What the first pass tells of a text: a table that can be read, or why it is refused.
-#[derive(Drop)]
+#[derive(Clone, Copy)]
 pub enum Checked {
     Good(Sections),
     Not(Refusal),

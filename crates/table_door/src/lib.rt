@@ -1,4 +1,6 @@
 // The public calls of a type table's text: the table and its names as text, both ways.
+#![tactic(auto)]
+
 ghost use Rattle.std.specs.Prelude.{◌≡◌};
 ghost use Rattle.refusal.specs.Told.{answered, here, nothing};
 ghost use Rattle.table_writer.specs.Writing.{table_in, writing, leaving};

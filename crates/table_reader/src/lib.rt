@@ -1,4 +1,6 @@
 // The second pass: a type table's text that was taken, into lent lists.
+#![tactic(auto)]
+
 ghost use Rattle.std.specs.Prelude.{◌≡◌, List, [], ◌∷◌, ◌++◌, ℕ, ◌+◌, ◌-◌, ◌*◌, ◌/◌, ◌≤◌, ◌<◌, length, take, drop};
 ghost use Rattle.word.specs.Choice.{if◌then◌else◌};
 ghost use Rattle.refusal.specs.declared.Refusal.TheVariants.{ShortList};
@@ -137,7 +139,7 @@ fn load_names(s: &[u8], x: Sections, names: &mut [u8]) -> usize
 
 // What reading answers: how much of each list the table takes; zeros after a refusal.
 #[repr(C)]
-#[derive(Drop)]
+#[derive(Clone, Copy)]
 pub struct TableRead {
     pub answer: Answer,
     pub types: usize,

@@ -1,4 +1,6 @@
 // The writer of type tables as text.
+#![tactic(auto)]
+
 ghost use Rattle.std.specs.Prelude.{◌≡◌, ℕ, ◌+◌, ◌-◌, ◌*◌, ◌/◌, ◌≤◌, ◌<◌, length, take, drop, leb};
 ghost use mathlib.Core.List.{List, [], ◌∷◌, ◌++◌, flat_map};
 ghost use Rattle.text.specs.Put.{Puts};
@@ -135,7 +137,7 @@ fn put_fields(
 }
 
 // Where the names of fields and of constants begin; or that there are not as many names.
-#[derive(Drop)]
+#[derive(Clone, Copy)]
 pub enum NamesRead {
     At(usize, usize),
     NotNames,

@@ -1,4 +1,6 @@
 // A type table as text: definitions and laws, and the names in it.
+#![tactic(auto)]
+
 ghost use Rattle.std.specs.Prelude.{◌≡◌, ℕ, ◌+◌, ◌-◌, ◌*◌, ◌/◌, ◌≤◌, ◌<◌, length, take, drop};
 ghost use mathlib.Core.List.{List, [], ◌∷◌, ◌++◌, flat_map};
 ghost use Rattle.tables.specs.Table.{read_name};

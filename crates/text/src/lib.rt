@@ -1,4 +1,6 @@
 // Text as bytes: decimal numbers without spare zeros, lowercase hexadecimal, literals.
+#![tactic(auto)]
+
 ghost use Rattle.std.specs.Prelude.{◌≡◌, ℕ, ◌+◌, ◌-◌, ◌/◌, ◌≤◌, ◌<◌, length, take, drop, get_or, not, true};
 ghost use Rattle.text.specs.Text.{decimal, hex, hex_digit, ends, scan, capped, read_decimal, read_literal, hex_digit_of, read_hex, read_field};
 ghost use Rattle.text.specs.Answer.{decimal_answer, literal_answer, either_answer, hex_answer, hex_more, value_or16};
@@ -29,7 +31,7 @@ pub fn put_decimal(out: &mut [u8], at: usize, n: u64) -> usize
 }
 
 // A number and where it ends; or no such number.
-#[derive(Drop)]
+#[derive(Clone, Copy)]
 pub enum Decimal {
     Number(u64, usize),
     NoNumber,
@@ -152,7 +154,7 @@ pub fn put_hex(out: &mut [u8], at: usize, bytes: &[u8]) -> usize
 }
 
 // Where a literal that stands in a text ends; or that it does not stand there.
-#[derive(Drop)]
+#[derive(Clone, Copy)]
 pub enum Literal {
     Past(usize),
     Missing,
@@ -181,7 +183,7 @@ pub fn expect(s: &[u8], at: usize, literal: &[u8]) -> Literal
 }
 
 // Which of two literals stands in a text, true for the first, and where it ends; or that neither does.
-#[derive(Drop)]
+#[derive(Clone, Copy)]
 pub enum Either {
     One(bool, usize),
     Neither,
@@ -202,7 +204,7 @@ pub fn expect_either(s: &[u8], at: usize, first: &[u8], second: &[u8]) -> Either
 }
 
 // How many bytes a text spells in hexadecimal up to the line's end, and what comes after that; or that it does not.
-#[derive(Drop)]
+#[derive(Clone, Copy)]
 pub enum Hex {
     Count(usize, usize),
     NoHex,

@@ -1,4 +1,6 @@
 // The great theorems on the public calls: each statement has its name in specs/, its proof in proofs/.
+#![tactic(auto)]
+
 ghost use Rattle.table_reader.specs.Reading.{lists};
 ghost use Rattle.theorems.specs.TableText.{TableWords};
 

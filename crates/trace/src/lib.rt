@@ -1,6 +1,8 @@
 // Traced handles: handles_in, object_handles and value_handles of heap.rs, and what a slot of a heap shows. One tracer over types serves four uses, by the
 // goal that it is given: counting handles, writing them to a lent list, marking and queueing objects for a collection, and comparing an object with another's bytes beside it.
 // What belongs to the heap beside has a name that begins with o, for the other; where there is none, any slices stand in its place.
+#![tactic(auto)]
+
 ghost use Rattle.std.specs.Prelude.{◌≡◌, [], ◌∷◌, map, ℕ, ◌+◌, ◌-◌, ◌*◌, ◌/◌, ◌≤◌, ◌<◌, length, drop, leb};
 ghost use Rattle.std.proofs.Math.Option.{some};
 ghost use Rattle.ty.specs.View.{table_of, types_of};
@@ -18,7 +20,7 @@ use ty::{Entry, Part, Word};
 
 // Where handles go: they are counted, up to one more than a limit; written to the list `to`; or resolved, and what they lead to is marked in `marks` and queued
 // in `to`, each object once.
-#[derive(Drop)]
+#[derive(Clone, Copy)]
 pub enum Sink {
     Check(usize),
     List,
@@ -27,21 +29,21 @@ pub enum Sink {
 
 // What a trace is for: the words at the places go to a sink; or the object is compared, place by place, with one of the heap with this tag and so many of s slots
 // in use, by the turns in both heaps' words. Then the two first marks are what is found so far, and the count is how many bytes are behind.
-#[derive(Drop)]
+#[derive(Clone, Copy)]
 pub enum Goal {
     Words(Sink),
     Beside { tag: u8, slots: usize, s: usize },
 }
 
 // How many words are in use after a trace, or that the value cannot be traced.
-#[derive(Drop)]
+#[derive(Clone, Copy)]
 pub enum Answer {
     Traced(usize),
     Untraceable,
 }
 
 // Where a field of a record lies and ends, its alignment, and what it used of the descriptor.
-#[derive(Drop)]
+#[derive(Clone, Copy)]
 pub enum Placed {
     At {
         offset: u64,
@@ -53,7 +55,7 @@ pub enum Placed {
 }
 
 // What a field is to a tracer: a handle itself, a scalar free of handles, or something to look into.
-#[derive(Drop)]
+#[derive(Clone, Copy)]
 pub enum Leaf {
     Own,
     Free,
@@ -61,7 +63,7 @@ pub enum Leaf {
 }
 
 // The fields of elements that are records to look into: the first, and how many.
-#[derive(Drop)]
+#[derive(Clone, Copy)]
 pub enum Fields {
     Of(usize, usize),
     Not,

@@ -1,4 +1,6 @@
 // The type table of a saved run: its rows read as types, its check, and what a type says without a descriptor. A port of ty.rs.
+#![tactic(auto)]
+
 ghost use Rattle.std.specs.Prelude.{◌≡◌, ◌∷◌, true, length, get_or};
 ghost use Prim.Native.Nat.{ℕ, suc, ◌+◌, ◌-◌, ◌*◌, ◌/◌, ◌≤◌, ◌<◌, ◌^◌, max, min};
 ghost use Rattle.ty.specs.Types.{type_at};
@@ -14,21 +16,21 @@ ghost use Rattle.ty.specs.View.{entry_at, entry_of, part_at, fields_from, types_
 use word::{Aligned, Product};
 
 // A number of 64 bits, or one past them.
-#[derive(Drop)]
+#[derive(Clone, Copy)]
 pub enum Word {
     Is(u64),
     Over,
 }
 
 // A scalar's size; arrays and records have none by themselves.
-#[derive(Drop)]
+#[derive(Clone, Copy)]
 pub enum Scalar {
     Bytes(u64),
     Composite,
 }
 
 // A row of the table. Int's bounds are 64-bit words in two's complement; a Record has its first field and how many.
-#[derive(Drop)]
+#[derive(Clone, Copy)]
 pub enum Entry {
     Missing,
     Int { lo: u64, hi: u64 },
@@ -43,7 +45,7 @@ pub enum Entry {
 }
 
 // Where a constant's plain bytes lie: from, to.
-#[derive(Drop)]
+#[derive(Clone, Copy)]
 pub enum Part {
     Nowhere,
     Of(usize, usize),

@@ -1,4 +1,6 @@
 // Lent memory holds machine words, so a well-formed heap in it is within the page's widths, and the page's bound holds of it.
+#![tactic(auto)]
+
 ghost use Rattle.heap.specs.Lent.{lent};
 ghost use Rattle.widths.specs.Words.{Words};
 

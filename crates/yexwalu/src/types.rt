@@ -15,7 +15,7 @@ pub use yexwalu_layout as layout;
 // Document 01's number, 0 for success, and a layout, zeros after a refusal. used: the descriptor bytes that it read; offsets: how many of the record's fields'
 // offsets were written.
 #[repr(C)]
-#[derive(Drop)]
+#[derive(Clone, Copy)]
 pub struct LayoutAnswer {
     pub number: u64,
     pub size: u64,
