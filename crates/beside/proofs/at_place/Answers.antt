@@ -1,0 +1,10 @@
+-- `beside::at_place` meets its contract.
+use Rattle.beside.proofs.Codings.{found-short, found-both}
+use borrow.Author.Rules.{rules}
+use Rattle.beside.proofs.at_place.Goals as goal
+
+pub returns-then-found-lt2 : goal.returns-then-found-lt2
+returns-then-found-lt2 c = (search rules, search found-short)
+
+pub returns : goal.returns
+returns c = (search rules, search found-both)

@@ -1,0 +1,59 @@
+-- `collect::joined::collect_at` meets its contract.
+use mathlib.Core.Path.{refl, sym, ◌∙◌}
+use Rattle.ty.specs.View.{table_of}
+use Rattle.frame.specs.Frame.{frame_handles, addresses_in}
+use Rattle.roots.specs.Calls.{Lent}
+use Rattle.collect.proofs.Looking.{small, row-past, rows-again, at_none, at_row}
+use borrow.Author.Tests.{not-true}
+use Rattle.collect.proofs.joined.collect_at.Goals as goal
+
+pub returns-then-not-root_row : goal.returns-then-not-root_row
+returns-then-not-root_row c = let f : Lent = record { kinds = c.args.kinds.now; ends = c.args.ends.now; refs = c.args.refs.now; blocks = c.args.blocks.now; classes = c.args.classes.now } in
+    let t = table_of c.args.types.now c.args.fields.now c.args.consts.now c.args.bytes.now in
+    let h = frame_handles t c.args.map.now c.args.memory.now in
+    (at_none f c.args.pc c.args.values.now c.args.rows.now _ c.requires.1.0 _ c.root_row.ensures t h c.args.pins.now c.args.addresses.now (addresses_in t c.args.map.now c.args.memory.now) _ c.if-not-root_row.true c.requires.0.formed, (refl, refl, c.root_row.ensures.stays (not-true _ c.if-not-root_row.true)))
+
+pub overflow_add-words : goal.overflow_add-words
+overflow_add-words c = record { fits = (small _ _ _ c.requires.1.0).sum }
+
+pub overflow_mul-at : goal.overflow_mul-at
+overflow_mul-at c = record { fits = (small _ _ _ c.requires.1.0).three }
+
+pub overflow_mul-at-2 : goal.overflow_mul-at-2
+overflow_mul-at-2 c = record { fits = (small _ _ _ c.requires.1.0).start }
+
+pub overflow_add-past : goal.overflow_add-past
+overflow_add-past c = record { fits = (small _ _ _ c.requires.1.0).past }
+
+pub offset_bounds-rows-at : goal.offset_bounds-rows-at
+offset_bounds-rows-at c = record { fits = (small _ _ _ c.requires.1.0).bytes }
+
+pub slice_bounds-collect_row-end : goal.slice_bounds-collect_row-end
+slice_bounds-collect_row-end c = row-past _ _ _ _ _ c.requires.1.0 _ c.root_row.ensures
+
+pub collect_row-r-requires : goal.collect_row-r-requires
+collect_row-r-requires c = (c.requires.0, record { paired = c.requires.1.1; valued = sym c.requires.1.0.valued })
+
+pub shape_of-narrow : goal.shape_of-narrow
+shape_of-narrow c = c.collect_row-r.auto.1.1.1.1.1.0
+
+pub shape_of-wide : goal.shape_of-wide
+shape_of-wide c = c.collect_row-r.auto.1.1.1.1.1.1.0
+
+pub shape_of-pool : goal.shape_of-pool
+shape_of-pool c = c.collect_row-r.auto.1.1.1.1.1.1.1.0
+
+pub shape_of-marks : goal.shape_of-marks
+shape_of-marks c = c.collect_row-r.auto.1.1.1.1.1.1.1.1.1.1.1.1.1.1.1.0
+
+pub shape_of-work : goal.shape_of-work
+shape_of-work c = c.collect_row-r.auto.1.1.1.1.1.1.1.1.1.1.1.1.1.1.1.1.0
+
+pub shape_of-rows : goal.shape_of-rows
+shape_of-rows c = c.clear_u64.auto.0 ∙ c.root_row.auto.1.1.1.1.1.1.0
+
+pub returns : goal.returns
+returns c = let f : Lent = record { kinds = c.args.kinds.now; ends = c.args.ends.now; refs = c.args.refs.now; blocks = c.args.blocks.now; classes = c.args.classes.now } in
+    let t = table_of c.args.types.now c.args.fields.now c.args.consts.now c.args.bytes.now in
+    let h = frame_handles t c.args.map.now c.args.memory.now in
+    (at_row f c.args.pc c.args.values.now c.args.rows.now _ c.requires.1.0 _ c.root_row.ensures t h c.args.pins.now c.args.addresses.now (addresses_in t c.args.map.now c.args.memory.now) _ c.if-not-root_row.false _ _ c.collect_row-r.ensures.0, (c.collect_row-r.ensures.1.0, c.collect_row-r.ensures.1.1, rows-again f c.args.pc c.args.values.now c.args.rows.now _ c.requires.1.0 _ c.root_row.ensures _ c.clear_u64.ensures))

@@ -1,0 +1,13 @@
+-- `collect_door::yexwalu_collect` meets its contract.
+use Rattle.heap.specs.Lent.{lent}
+use Rattle.collect_door.proofs.Entries.{can-collect, collect-refused, collect-done}
+use Rattle.collect_door.proofs.yexwalu_collect.Goals as goal
+
+pub collect-done-requires : goal.collect-done-requires
+collect-done-requires c = can-collect ((record { types = c.args.types.now; fields = c.args.fields.now; consts = c.args.consts.now; bytes = c.args.bytes.now; roots = c.args.roots.now; pins = c.args.pins.now; })) ((lent c.args.heap c.args.narrow.now c.args.wide.now c.args.pool.now)) c.admit.ensures c.in-Ready.is
+
+pub returns-in-Not : goal.returns-in-Not
+returns-in-Not c = collect-refused ((record { types = c.args.types.now; fields = c.args.fields.now; consts = c.args.consts.now; bytes = c.args.bytes.now; roots = c.args.roots.now; pins = c.args.pins.now; })) ((lent c.args.heap c.args.narrow.now c.args.wide.now c.args.pool.now)) c.admit.ensures c.in-Not.is c.numbers.ensures
+
+pub returns-in-Ready : goal.returns-in-Ready
+returns-in-Ready c = collect-done ((record { types = c.args.types.now; fields = c.args.fields.now; consts = c.args.consts.now; bytes = c.args.bytes.now; roots = c.args.roots.now; pins = c.args.pins.now; })) ((lent c.args.heap c.args.narrow.now c.args.wide.now c.args.pool.now)) c.admit.ensures c.in-Ready.is c.collect-done.ensures.0 c.numbers-in-Ready.ensures c.collect-done.ensures.1

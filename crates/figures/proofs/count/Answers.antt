@@ -1,0 +1,48 @@
+use mathlib.Core.Path.{refl, sym, subst}
+use native.Mathlib.Omega.{arith}
+use Rattle.heap.specs.Lent.{lent, view}
+use Rattle.figures.proofs.Counting.{Counted, counted-first, place, starts, few, counted-more, counted-all}
+use Rattle.figures.proofs.count.Goals as goal
+
+pub none-figures-requires : goal.none-figures-requires
+none-figures-requires c = tt
+
+pub loop-i-init : goal.loop-i-init
+loop-i-init c = λ h e l. subst (Counted (view (lent h c.args.narrow.now c.args.wide.now c.args.pool.now)).slots 0 0) (sym c.none-figures.ensures) (counted-first _)
+
+pub overflow_add-end : goal.overflow_add-end
+overflow_add-end c = omega (arith, place c.args.heap c.args.narrow.now c.args.wide.now c.args.pool.now c.requires c.loop-i.from c.loop-i.i c.loop-i.figures (c.loop-i.invariant c.args.heap refl c.requires) c.loop-i-test.true)
+
+pub offset_bounds-wide-i : goal.offset_bounds-wide-i
+offset_bounds-wide-i c = omega (arith, place c.args.heap c.args.narrow.now c.args.wide.now c.args.pool.now c.requires c.loop-i.from c.loop-i.i c.loop-i.figures (c.loop-i.invariant c.args.heap refl c.requires) c.loop-i-test.true)
+
+pub bounds-wide-i : goal.bounds-wide-i
+bounds-wide-i c = omega (arith, place c.args.heap c.args.narrow.now c.args.wide.now c.args.pool.now c.requires c.loop-i.from c.loop-i.i c.loop-i.figures (c.loop-i.invariant c.args.heap refl c.requires) c.loop-i-test.true)
+
+pub overflow_add-i : goal.overflow_add-i
+overflow_add-i c = omega (arith, place c.args.heap c.args.narrow.now c.args.wide.now c.args.pool.now c.requires c.loop-i.from c.loop-i.i c.loop-i.figures (c.loop-i.invariant c.args.heap refl c.requires) c.loop-i-test.true)
+
+pub offset_bounds-narrow-i : goal.offset_bounds-narrow-i
+offset_bounds-narrow-i c = omega (arith, place c.args.heap c.args.narrow.now c.args.wide.now c.args.pool.now c.requires c.loop-i.from c.loop-i.i c.loop-i.figures (c.loop-i.invariant c.args.heap refl c.requires) c.loop-i-test.true)
+
+pub bounds-narrow-i : goal.bounds-narrow-i
+bounds-narrow-i c = omega (arith, place c.args.heap c.args.narrow.now c.args.wide.now c.args.pool.now c.requires c.loop-i.from c.loop-i.i c.loop-i.figures (c.loop-i.invariant c.args.heap refl c.requires) c.loop-i-test.true)
+
+pub overflow_sub-end : goal.overflow_sub-end
+overflow_sub-end c = starts c.args.heap c.args.narrow.now c.args.wide.now c.args.pool.now c.requires c.loop-i.from c.loop-i.i c.loop-i.figures (c.loop-i.invariant c.args.heap refl c.requires) c.loop-i-test.true
+
+pub with_slot-figures-requires : goal.with_slot-figures-requires
+with_slot-figures-requires c = let w = few c.args.heap c.args.narrow.now c.args.wide.now c.args.pool.now c.requires c.loop-i.from c.loop-i.i c.loop-i.figures (c.loop-i.invariant c.args.heap refl c.requires) c.loop-i-test.true in (omega (arith, w.0), omega (arith, w.1))
+
+pub overflow_add-i-in-loop-i : goal.overflow_add-i-in-loop-i
+overflow_add-i-in-loop-i c = omega (arith, place c.args.heap c.args.narrow.now c.args.wide.now c.args.pool.now c.requires c.loop-i.from c.loop-i.i c.loop-i.figures (c.loop-i.invariant c.args.heap refl c.requires) c.loop-i-test.true)
+
+pub loop-i-smaller : goal.loop-i-smaller
+loop-i-smaller c = omega (arith, c.loop-i-test.true)
+
+pub loop-i-preserved : goal.loop-i-preserved
+loop-i-preserved c = λ h e l. subst (Counted (view (lent h c.args.narrow.now c.args.wide.now c.args.pool.now)).slots _ _) (sym c.with_slot-figures.ensures)
+    (counted-more h c.args.narrow.now c.args.wide.now c.args.pool.now l c.loop-i.from c.loop-i.i c.loop-i.figures (c.loop-i.invariant h e l) (omega (arith, c.loop-i-test.true, e)))
+
+pub returns : goal.returns
+returns c = counted-all c.args.heap c.args.narrow.now c.args.wide.now c.args.pool.now c.requires c.loop-i.from c.loop-i.i c.loop-i.figures (c.loop-i.invariant c.args.heap refl c.requires) c.loop-i-test.false

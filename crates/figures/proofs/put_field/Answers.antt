@@ -1,0 +1,10 @@
+-- `figures::put_field` meets its contract.
+use native.Mathlib.Omega.{arith}
+use Rattle.figures.proofs.Printing.{field-length, field-ends}
+use Rattle.figures.proofs.put_field.Goals as goal
+
+pub put_number-requires : goal.put_number-requires
+put_number-requires c = omega (arith, field-length c.args.n c.args.end (omega arith), c.put_number-arg-1.given.0.1)
+
+pub returns : goal.returns
+returns c = (c.put_number.ensures, (field-ends c.args.n c.args.end c.put_number.ensures (omega arith), c.put_number-arg-1.given.0.1))

@@ -1,0 +1,9 @@
+-- `heap::begins` meets its contract, by its test.
+use Rattle.heap.proofs.Packing.{start-zero, start-one}
+use Rattle.heap.proofs.begins.Goals as goal
+
+pub returns-then-i-eq0 : goal.returns-then-i-eq0
+returns-then-i-eq0 c = start-zero _ _ c.if-i-eq0.true
+
+pub returns-else-i-eq0 : goal.returns-else-i-eq0
+returns-else-i-eq0 c = start-one _ _ c.if-i-eq0.false

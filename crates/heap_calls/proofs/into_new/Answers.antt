@@ -1,0 +1,24 @@
+-- `heap_calls::into_new` meets its contract: one slot more, and it is filled.
+use native.Mathlib.Omega.{arith}
+use lib.ListN.{length-set}
+use mathlib.Core.Path.{◌∙◌}
+use Rattle.heap_calls.proofs.Lending.{lengths, into-new-can, into-new-out}
+use Rattle.heap_calls.proofs.into_new.Goals as goal
+
+pub start_of-used-requires : goal.start_of-used-requires
+start_of-used-requires c = omega (arith, lengths c.args.heap c.args.narrow.now c.args.wide.now c.args.pool.now c.requires.0.formed, c.requires.1)
+
+pub bounds-wide-all : goal.bounds-wide-all
+bounds-wide-all c = omega (arith, lengths c.args.heap c.args.narrow.now c.args.wide.now c.args.pool.now c.requires.0.formed, c.requires.1)
+
+pub overflow_cast-n : goal.overflow_cast-n
+overflow_cast-n c = omega (arith, lengths c.args.heap c.args.narrow.now c.args.wide.now c.args.pool.now c.requires.0.formed, c.requires.1)
+
+pub fill-h-requires : goal.fill-h-requires
+fill-h-requires c = into-new-can c.args.heap c.args.narrow.now c.args.wide.now c.args.pool.now c.args.k c.args.bytes.now c.requires.0 c.requires.1 _ c.start_of-used.ensures _ c.with_slots-after.ensures
+
+pub shape_of-wide : goal.shape_of-wide
+shape_of-wide c = c.fill-h.auto.1.1.0 ∙ simp length-set
+
+pub returns : goal.returns
+returns c = into-new-out c.args.heap c.args.narrow.now c.args.wide.now c.args.pool.now c.args.k c.args.bytes.now c.requires.0 c.requires.1 _ c.start_of-used.ensures _ c.with_slots-after.ensures _ _ _ _ c.fill-h.ensures

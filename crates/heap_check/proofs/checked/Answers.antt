@@ -1,0 +1,38 @@
+-- `heap_check::checked` meets its contract: the sizes, and the runs as columns.
+use mathlib.Core.Path.{sym}
+use lib.ListN.{length}
+use native.Mathlib.Omega.{arith}
+use lib.Seq.{length-take-le}
+use Rattle.heap_check.proofs.Looking.{no_more, holds}
+use Rattle.heap_check.proofs.Formed.{lent-header, lent-sizes, lent-marks, says-in}
+use Rattle.heap_check.proofs.checked.Goals as goal
+
+pub returns-else-header_ok : goal.returns-else-header_ok
+returns-else-header_ok c = no_more c.header_ok.ensures c.if-header_ok.false (λ y. y.header)
+
+pub returns-else-sizes_ok : goal.returns-else-sizes_ok
+returns-else-sizes_ok c = no_more c.sizes_ok.ensures c.if-sizes_ok.false (λ y. y.sizes)
+
+pub slice_bounds-runs_ok-end : goal.slice_bounds-runs_ok-end
+slice_bounds-runs_ok-end c = sym (length-take-le _ _ (omega arith))
+
+pub slice_bounds-runs_ok-end-4 : goal.slice_bounds-runs_ok-end-4
+slice_bounds-runs_ok-end-4 c = sym (length-take-le _ _ (omega (arith, holds c.sizes_ok.ensures c.if-sizes_ok.true)))
+
+pub slice_bounds-runs_ok-end-3 : goal.slice_bounds-runs_ok-end-3
+slice_bounds-runs_ok-end-3 c = omega (arith, holds c.sizes_ok.ensures c.if-sizes_ok.true)
+
+pub slice_bounds-runs_ok-end-4 : goal.slice_bounds-runs_ok-end-4
+slice_bounds-runs_ok-end-4 c = omega (arith, holds c.sizes_ok.ensures c.if-sizes_ok.true)
+
+pub slice_bounds-runs_ok-end-7 : goal.slice_bounds-runs_ok-end-7
+slice_bounds-runs_ok-end-7 c = omega (arith, holds c.sizes_ok.ensures c.if-sizes_ok.true)
+
+pub offset_bounds-narrow-five : goal.offset_bounds-narrow-five
+offset_bounds-narrow-five c = omega (arith, holds c.header_ok.ensures c.if-header_ok.true)
+
+pub runs_ok-requires : goal.runs_ok-requires
+runs_ok-requires c = (lent-header c.args.heap c.args.narrow.now c.args.wide.now c.args.pool.now (holds c.header_ok.ensures c.if-header_ok.true) (holds c.sizes_ok.ensures c.if-sizes_ok.true), (lent-sizes c.args.heap c.args.narrow.now c.args.wide.now c.args.pool.now (holds c.header_ok.ensures c.if-header_ok.true) (holds c.sizes_ok.ensures c.if-sizes_ok.true), (lent-marks c.args.heap c.args.narrow.now c.args.wide.now c.args.pool.now (holds c.header_ok.ensures c.if-header_ok.true) (holds c.sizes_ok.ensures c.if-sizes_ok.true) (length c.args.marks.now) c.requires.0, c.requires.1)))
+
+pub returns : goal.returns
+returns c = says-in c.args.heap c.args.narrow.now c.args.wide.now c.args.pool.now (holds c.header_ok.ensures c.if-header_ok.true) (holds c.sizes_ok.ensures c.if-sizes_ok.true) _ c.runs_ok.ensures

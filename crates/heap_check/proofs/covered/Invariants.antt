@@ -1,0 +1,10 @@
+-- `heap_check::covered` meets its contract. The invariant: nothing is seen exactly if the slots passed are live or marked.
+use Prim.Native.Nat.{◌-◌}
+use Rattle.heap_check.proofs.Looking.{Covering}
+use Rattle.heap_check.proofs.covered.Given as goal
+
+abbrev pub invariant-loop-i : goal.invariant-loop-i
+invariant-loop-i l = Covering l.n l.kind l.marks l.i l.seen
+
+abbrev pub decreases-loop-i : goal.decreases-loop-i
+decreases-loop-i l = l.n - l.i

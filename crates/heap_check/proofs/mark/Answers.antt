@@ -1,0 +1,24 @@
+use native.Mathlib.Omega.{arith}
+use Rattle.heap_check.proofs.Looking.{mark-first, mark-turn, mark-outside, mark-live, mark-twice, mark-end}
+use Rattle.heap_check.proofs.mark.Goals as goal
+
+pub loop-j-init : goal.loop-j-init
+loop-j-init c = mark-first _ _ _ _ c.requires.2
+
+pub overflow_cast-x : goal.overflow_cast-x
+overflow_cast-x c = omega (arith, c.type_inv.list c.loop-j.j)
+
+pub returns-then-x-n : goal.returns-then-x-n
+returns-then-x-n c = search mark-outside
+
+pub returns-then-kind-x-ne0 : goal.returns-then-kind-x-ne0
+returns-then-kind-x-ne0 c = search mark-live
+
+pub returns-then-marks-x-ne0 : goal.returns-then-marks-x-ne0
+returns-then-marks-x-ne0 c = search mark-twice
+
+pub loop-j-preserved : goal.loop-j-preserved
+loop-j-preserved c = search mark-turn
+
+pub returns : goal.returns
+returns c = search mark-end

@@ -1,0 +1,13 @@
+-- `heap_door::yexwalu_reissue` meets its contract.
+use Rattle.heap.specs.Lent.{lent}
+use Rattle.door.proofs.Entering.{entered, call-refused, call-ready}
+use Rattle.heap_door.proofs.yexwalu_reissue.Goals as goal
+
+pub reissue-done-requires : goal.reissue-done-requires
+reissue-done-requires c = entered ((lent c.args.heap c.args.narrow.now c.args.wide.now c.args.pool.now)) c.enter.ensures c.in-Ready.is
+
+pub returns-in-Not : goal.returns-in-Not
+returns-in-Not c = call-refused c.enter.ensures _ _ _ c.in-Not.is c.numbers.ensures
+
+pub returns-in-Ready : goal.returns-in-Ready
+returns-in-Ready c = call-ready c.enter.ensures _ _ _ c.in-Ready.is c.reissue-done.ensures c.numbers-in-Ready.ensures

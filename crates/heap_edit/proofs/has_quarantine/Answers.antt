@@ -1,0 +1,7 @@
+-- `heap_edit::has_quarantine` meets its contract.
+use Rattle.heap.specs.Calls.{has_quarantine}
+use Rattle.heap_edit.proofs.Questions.{says-yes, quarantine-says}
+use Rattle.heap_edit.proofs.has_quarantine.Goals as goal
+
+pub returns : goal.returns
+returns c = says-yes c.yes.result _ has_quarantine c.yes.ensures (λ h e. quarantine-says h _ e)

@@ -1,0 +1,17 @@
+-- `heap_edit::resolve` meets its contract.
+use Rattle.std.proofs.Common.{ap, ◌∙◌, arith}
+use Rattle.heap.specs.Lent.{lent}
+use Rattle.refusal.specs.Told.{told, answered, here, nothing}
+use Rattle.handle.proofs.ResolveLaws.{replied-told}
+use Rattle.heap_edit.proofs.Columns.{Sizes, sizes}
+use Rattle.heap_edit.proofs.Questions.{resolves}
+use Rattle.heap_edit.proofs.resolve.Goals as goal
+
+K : (c : goal.Start) → Sizes c.args.heap c.args.narrow.now c.args.wide.now c.args.pool.now
+K c = sizes c.args.heap c.args.narrow.now c.args.wide.now c.args.pool.now c.requires
+
+pub resolve-requires : goal.resolve-requires
+resolve-requires c = omega (arith, K (goal.at.resolve-requires c).Start)
+
+pub returns : goal.returns
+returns c = ap told c.reply.ensures ∙ replied-told c.resolve.result ∙ ap (answered here nothing) (c.resolve.ensures ∙ resolves ((lent c.args.heap c.args.narrow.now c.args.wide.now c.args.pool.now)) c.requires _)

@@ -1,0 +1,57 @@
+-- `heap_edit::seen` meets its contract.
+use Rattle.std.proofs.Common.{◌<◌, ◌∙◌, arith}
+use Rattle.heap.specs.Lent.{lent, view}
+use Rattle.heap_edit.proofs.Columns.{Sizes, Reads, sizes, reads}
+use Rattle.heap_edit.proofs.Questions.{none-beyond, lifeless, alive, seen_none, seen-hidden, seen-shown}
+use Rattle.heap_edit.proofs.seen.Goals as goal
+
+K : (c : goal.Start) → Sizes c.args.heap c.args.narrow.now c.args.wide.now c.args.pool.now
+K c = sizes c.args.heap c.args.narrow.now c.args.wide.now c.args.pool.now c.requires
+
+R : (c : goal.Start) → c.args.i < c.args.heap.slots → Reads c.args.heap c.args.narrow.now c.args.wide.now c.args.pool.now c.args.i
+R c b = reads c.args.heap c.args.narrow.now c.args.wide.now c.args.pool.now c.requires c.args.i b
+
+pub returns-then-heap-i : goal.returns-then-heap-i
+returns-then-heap-i c = seen_none (view ((lent c.args.heap c.args.narrow.now c.args.wide.now c.args.pool.now))) _ (none-beyond ((lent c.args.heap c.args.narrow.now c.args.wide.now c.args.pool.now)) c.requires _ c.if-heap-i.true)
+
+pub overflow_add-s : goal.overflow_add-s
+overflow_add-s c = omega (arith, K (goal.at.overflow_add-s c).Start)
+
+pub offset_bounds-narrow-s : goal.offset_bounds-narrow-s
+offset_bounds-narrow-s c = omega (arith, K (goal.at.offset_bounds-narrow-s c).Start)
+
+pub bounds-narrow-s : goal.bounds-narrow-s
+bounds-narrow-s c = omega (arith, K (goal.at.bounds-narrow-s c).Start)
+
+pub returns-then-narrow-s-eq0 : goal.returns-then-narrow-s-eq0
+returns-then-narrow-s-eq0 c = seen_none (view ((lent c.args.heap c.args.narrow.now c.args.wide.now c.args.pool.now))) _ (lifeless (view ((lent c.args.heap c.args.narrow.now c.args.wide.now c.args.pool.now))) _ (R (goal.at.returns-then-narrow-s-eq0 c).Start (omega arith)).kind c.if-narrow-s-eq0.true)
+
+pub start_of-from-requires : goal.start_of-from-requires
+start_of-from-requires c = omega (arith, K (goal.at.start_of-from-requires c).Start)
+
+pub overflow_add-size : goal.overflow_add-size
+overflow_add-size c = omega (arith, K (goal.at.overflow_add-size c).Start)
+
+pub offset_bounds-wide-s : goal.offset_bounds-wide-s
+offset_bounds-wide-s c = omega (arith, K (goal.at.offset_bounds-wide-s c).Start)
+
+pub bounds-wide-s : goal.bounds-wide-s
+bounds-wide-s c = omega (arith, K (goal.at.bounds-wide-s c).Start)
+
+pub overflow_sub-size : goal.overflow_sub-size
+overflow_sub-size c = omega (arith, c.start_of-from.ensures, R (goal.at.overflow_sub-size c).Start (omega arith))
+
+pub offset_bounds-wide-i : goal.offset_bounds-wide-i
+offset_bounds-wide-i c = omega (arith, K (goal.at.offset_bounds-wide-i c).Start)
+
+pub bounds-wide-i : goal.bounds-wide-i
+bounds-wide-i c = omega (arith, K (goal.at.bounds-wide-i c).Start)
+
+pub returns-then-size-first : goal.returns-then-size-first
+returns-then-size-first c = let b = R (goal.at.returns-then-size-first c).Start (omega arith) in seen-hidden (view ((lent c.args.heap c.args.narrow.now c.args.wide.now c.args.pool.now))) _ c.if-size-first.true (alive (view ((lent c.args.heap c.args.narrow.now c.args.wide.now c.args.pool.now))) _ b.kind c.if-narrow-s-eq0.false) b.start (omega (arith, c.start_of-from.ensures, b))
+
+pub overflow_add-result : goal.overflow_add-result
+overflow_add-result c = omega (arith, c.start_of-from.ensures, c.if-size-first.false, K (goal.at.overflow_add-result c).Start, R (goal.at.overflow_add-result c).Start (omega arith))
+
+pub returns : goal.returns
+returns c = let b = R (goal.at.returns c).Start (omega arith) in seen-shown (view ((lent c.args.heap c.args.narrow.now c.args.wide.now c.args.pool.now))) _ c.if-size-first.false (alive (view ((lent c.args.heap c.args.narrow.now c.args.wide.now c.args.pool.now))) _ b.kind c.if-narrow-s-eq0.false) b.start (omega (arith, c.start_of-from.ensures, b)) (c.start_of-from.ensures ∙ b.from)

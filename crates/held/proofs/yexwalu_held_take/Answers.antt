@@ -1,0 +1,10 @@
+-- `held::yexwalu_held_take` meets its contract.
+use mathlib.Core.Path.{refl}
+use Rattle.held.proofs.Holding.{formed, holds-take}
+use Rattle.held.proofs.yexwalu_held_take.Goals as goal
+
+pub take-done-requires : goal.take-done-requires
+take-done-requires c = formed c.requires c.header-heap.ensures refl refl
+
+pub returns : goal.returns
+returns c = holds-take _ _ c.take-done.ensures c.numbers.ensures c.header-heap.ensures c.keep.ensures refl refl refl refl

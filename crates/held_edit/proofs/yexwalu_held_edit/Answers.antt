@@ -1,0 +1,11 @@
+-- `held_edit::yexwalu_held_edit` meets its contract.
+use mathlib.Core.Path.{refl}
+use Rattle.refusal.specs.Told.{here, nothing}
+use Rattle.held.proofs.Holding.{formed, holds}
+use Rattle.held_edit.proofs.yexwalu_held_edit.Goals as goal
+
+pub edit-done-requires : goal.edit-done-requires
+edit-done-requires c = formed c.requires c.header-heap.ensures refl refl
+
+pub returns : goal.returns
+returns c = holds here nothing _ c.edit-done.ensures c.numbers.ensures c.header-heap.ensures c.keep.ensures refl refl refl refl

@@ -1,0 +1,6 @@
+-- `held_types::yexwalu_held_layout` meets its contract.
+use Rattle.held_types.proofs.Telling.{lays}
+use Rattle.held_types.proofs.yexwalu_held_layout.Goals as goal
+
+pub returns : goal.returns
+returns c = lays _ _ c.laid_out.ensures c.layout.ensures.0 c.layout.ensures.1

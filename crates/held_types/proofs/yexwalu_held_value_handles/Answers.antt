@@ -1,0 +1,6 @@
+-- `held_types::yexwalu_held_value_handles` meets its contract.
+use Rattle.held_types.proofs.Telling.{lists}
+use Rattle.held_types.proofs.yexwalu_held_value_handles.Goals as goal
+
+pub returns : goal.returns
+returns c = lists c.list_value.ensures c.numbers.ensures

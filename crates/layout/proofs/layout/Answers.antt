@@ -1,0 +1,11 @@
+-- `layout::layout` meets its contract.
+use Rattle.layout.proofs.ScalarLaws.{row_within, scalars-answer, scalars-written}
+use Rattle.layout.proofs.layout.Goals as goal
+
+pub layout_scalars-requires : goal.layout_scalars-requires
+layout_scalars-requires c = let g = c.scalar_record-p.ensures _ _ c.in-Of.is in
+    (row_within _ _ _ _ _ _ g, g.room, g.few, g.scalars)
+
+pub returns : goal.returns
+returns c = let g = c.scalar_record-p.ensures _ _ c.in-Of.is in
+    (scalars-answer _ _ _ _ _ _ _ _ g.row _ _ _ c.layout_scalars.ensures, scalars-written _ _ _ _ _ _ _ _ g.row _ _ _ c.layout_scalars.ensures)

@@ -1,0 +1,23 @@
+-- `layout::layout_any` meets its contract.
+use mathlib.Core.Path.{refl}
+use Rattle.ty.proofs.Ranges.{record-within}
+use Rattle.layout.proofs.OffsetLaws.{call-bad, call-large, call-bare, bare-offsets, call-short, call-full, full-offsets}
+use Rattle.layout.proofs.layout_any.Goals as goal
+
+pub returns-in_default : goal.returns-in_default
+returns-in_default c = (search call-bare, search bare-offsets)
+
+pub returns-then-out-n : goal.returns-then-out-n
+returns-then-out-n c = (search call-short, refl)
+
+pub write_offsets-requires : goal.write_offsets-requires
+write_offsets-requires c = (search record-within, c.if-out-n.false)
+
+pub returns-in-Malformed : goal.returns-in-Malformed
+returns-in-Malformed c = (search call-bad, refl)
+
+pub returns-in-TooLarge : goal.returns-in-TooLarge
+returns-in-TooLarge c = (search call-large, refl)
+
+pub returns-else-out-n : goal.returns-else-out-n
+returns-else-out-n c = (search call-full, search full-offsets)

@@ -1,0 +1,6 @@
+-- `mark::mark_from` meets its contract.
+use Rattle.mark.proofs.Draining.{from-done, from-noted}
+use Rattle.mark.proofs.mark_from.Goals as goal
+
+pub returns : goal.returns
+returns c = (search from-done, search from-noted)

@@ -1,0 +1,14 @@
+-- `mark::pin` meets its contract.
+use mathlib.Core.Path.{refl}
+use Rattle.mark.proofs.States.{pin-beyond, pin-dead, pin-live}
+use Rattle.mark.proofs.Bridge.{queue-met, pin-noted}
+use Rattle.mark.proofs.pin.Goals as goal
+
+pub returns-then-slots-j : goal.returns-then-slots-j
+returns-then-slots-j c = (search pin-beyond, refl)
+
+pub returns-then-narrow-s-eq0 : goal.returns-then-narrow-s-eq0
+returns-then-narrow-s-eq0 c = (search pin-dead, refl)
+
+pub returns : goal.returns
+returns c = (search (pin-live, queue-met), search pin-noted)

@@ -1,0 +1,14 @@
+-- `object_door::yexwalu_take` meets its contract.
+use Rattle.heap.specs.Lent.{lent}
+use Rattle.door.proofs.Entering.{entered}
+use Rattle.object_door.proofs.Objects.{take-refused, take-ready}
+use Rattle.object_door.proofs.yexwalu_take.Goals as goal
+
+pub take-done-requires : goal.take-done-requires
+take-done-requires c = (entered ((lent c.args.heap c.args.narrow.now c.args.wide.now c.args.pool.now)) c.enter.ensures c.in-Ready.is)
+
+pub returns-in-Not : goal.returns-in-Not
+returns-in-Not c = take-refused c.enter.ensures c.args.handle c.args.out.now c.in-Not.is c.numbers.ensures
+
+pub returns-in-Ready : goal.returns-in-Ready
+returns-in-Ready c = take-ready c.enter.ensures c.args.handle c.args.out.now c.in-Ready.is c.take-done.ensures c.numbers-in-Ready.ensures

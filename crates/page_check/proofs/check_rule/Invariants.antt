@@ -1,0 +1,11 @@
+use mathlib.Core.Path.{◌≡◌}
+use Prim.Native.Nat.{◌-◌}
+use lib.ListN.{length}
+use Rattle.page_check.proofs.Once.{Left}
+use Rattle.page_check.proofs.check_rule.Given as goal
+
+abbrev pub invariant-loop-base : goal.invariant-loop-base
+invariant-loop-base l = (length l.row ≡ length l.initial.row) × Left l.s l.x l.rule l.k l.base
+
+abbrev pub decreases-loop-base : goal.decreases-loop-base
+decreases-loop-base l = l.x.slots - l.base

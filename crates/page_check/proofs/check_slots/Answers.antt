@@ -1,0 +1,41 @@
+use Rattle.page_check.proofs.Reading.{slots-begin, slots-lost, slots_next, slots-done, line-found, line-lost}
+use native.Mathlib.Nat.{sub-zero}
+use mathlib.Core.Bool.{true}
+use Rattle.page_check.specs.Answer.{slots_more}
+use Rattle.pages.specs.Page.{slot_format}
+use Rattle.text.specs.Format.{read_all}
+use lib.ListN.{length, drop}
+use native.Mathlib.Omega.{arith}
+use mathlib.Core.Path.{sym, ap, ◌∙◌}
+use Prim.Native.Nat.{ℕ}
+use Rattle.page_check.proofs.check_slots.Goals as goal
+
+pub loop-i-init : goal.loop-i-init
+loop-i-init c = (omega arith, omega arith, omega arith, slots-begin (length c.args.s.now) (read_all (slot_format c.args.wide).read c.args.count (drop c.args.at c.args.s.now)) ∙ ap (λ (m : ℕ). slots_more (length c.args.s.now) true 0 (read_all (slot_format c.args.wide).read m (drop c.args.at c.args.s.now))) (sym (sub-zero c.args.count)))
+
+pub get_slot-requires : goal.get_slot-requires
+get_slot-requires c = tt
+
+pub returns-in_default : goal.returns-in_default
+returns-in_default c = slots-lost c.args.wide c.args.s.now c.loop-i.ok c.loop-i.size c.loop-i.k c.loop-i.i c.args.count c.loop-i-test.true (line-lost c.args.wide c.args.s.now c.loop-i.k c.get_slot.ensures c.in_default.is) c.loop-i.invariant.3
+
+pub sound-requires : goal.sound-requires
+sound-requires c = tt
+
+pub both-ok-requires : goal.both-ok-requires
+both-ok-requires c = tt
+
+pub overflow_add-size : goal.overflow_add-size
+overflow_add-size c = omega (arith, (line-found c.args.wide c.args.s.now c.loop-i.k c.in-Line.x c.get_slot.ensures c.in-Line.is).grows c.loop-i.invariant.1, (line-found c.args.wide c.args.s.now c.loop-i.k c.in-Line.x c.get_slot.ensures c.in-Line.is).next, c.loop-i.invariant.2)
+
+pub overflow_add-i : goal.overflow_add-i
+overflow_add-i c = omega (arith, c.loop-i-test.true)
+
+pub loop-i-smaller : goal.loop-i-smaller
+loop-i-smaller c = omega (arith, c.loop-i-test.true)
+
+pub loop-i-preserved : goal.loop-i-preserved
+loop-i-preserved c = (omega (arith, c.loop-i-test.true), (line-found c.args.wide c.args.s.now c.loop-i.k c.in-Line.x c.get_slot.ensures c.in-Line.is).next, omega (arith, (line-found c.args.wide c.args.s.now c.loop-i.k c.in-Line.x c.get_slot.ensures c.in-Line.is).grows c.loop-i.invariant.1, c.loop-i.invariant.2), slots_next c.args.wide c.args.s.now c.loop-i.ok c.loop-i.size c.loop-i.k c.loop-i.i c.args.count c.in-Line.x c.loop-i-test.true (line-found c.args.wide c.args.s.now c.loop-i.k c.in-Line.x c.get_slot.ensures c.in-Line.is) c.loop-i.invariant.3 c.sound.ensures c.both-ok.ensures)
+
+pub returns : goal.returns
+returns c = slots-done c.args.wide c.args.s.now c.loop-i.ok c.loop-i.size c.loop-i.k c.loop-i.i c.args.count c.loop-i-test.false c.loop-i.invariant.1 c.loop-i.invariant.3

@@ -1,0 +1,13 @@
+-- `page_door::yexwalu_page_length` meets its contract.
+use Rattle.heap.specs.Lent.{lent}
+use Rattle.door.proofs.Entering.{entered, ask-refused, ask-ready}
+use Rattle.page_door.proofs.yexwalu_page_length.Goals as goal
+
+pub measure-requires : goal.measure-requires
+measure-requires c = entered ((lent c.args.heap c.args.narrow.now c.args.wide.now c.args.pool.now)) c.enter.ensures c.in-Ready.is
+
+pub returns-in-Not : goal.returns-in-Not
+returns-in-Not c = ask-refused c.enter.ensures _ _ _ _ c.in-Not.is c.numbers.ensures
+
+pub returns-in-Ready : goal.returns-in-Ready
+returns-in-Ready c = ask-ready c.enter.ensures _ _ _ _ c.in-Ready.is c.measure.ensures c.numbers-in-Ready.ensures

@@ -1,0 +1,12 @@
+use Rattle.heap.specs.Lent.{lent}
+use Rattle.page_door.proofs.Paging.{write-refused, write_done, write-formed}
+use Rattle.page_door.proofs.yexwalu_write_page.Goals as goal
+
+pub write-requires : goal.write-requires
+write-requires c = write-formed (lent c.args.heap c.args.narrow.now c.args.wide.now c.args.pool.now) c.enter.ensures c.args.planar [] c.in-Ready.is
+
+pub returns-in-Not : goal.returns-in-Not
+returns-in-Not c = write-refused (lent c.args.heap c.args.narrow.now c.args.wide.now c.args.pool.now) c.enter.ensures c.args.planar c.args.out.now c.in-Not.is c.numbers.ensures
+
+pub returns-in-Ready : goal.returns-in-Ready
+returns-in-Ready c = write_done (lent c.args.heap c.args.narrow.now c.args.wide.now c.args.pool.now) c.enter.ensures c.args.planar c.args.out.now c.in-Ready.is c.write.ensures c.numbers-in-Ready.ensures

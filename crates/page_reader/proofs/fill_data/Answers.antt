@@ -1,0 +1,33 @@
+use native.Mathlib.Omega.{arith}
+use Rattle.page_reader.proofs.Pooling.{pooling-begin, pooling-some, line-end, line-data, line-digits, data-there, data-size, data-fits, pooling-next, pooling-end}
+use Rattle.page_reader.proofs.fill_data.Goals as goal
+
+pub loop-i-init : goal.loop-i-init
+loop-i-init c = search pooling-begin
+
+pub shape_of-pool-in_default : goal.shape_of-pool-in_default
+shape_of-pool-in_default c = absurd (search pooling-some)
+
+pub returns-in_default : goal.returns-in_default
+returns-in_default c = absurd (search pooling-some)
+
+pub overflow_sub-from : goal.overflow_sub-from
+overflow_sub-from c = search line-end
+
+pub overflow_sub-from-in-loop-i : goal.overflow_sub-from-in-loop-i
+overflow_sub-from-in-loop-i c = search line-data
+
+pub overflow_sub-from-in-loop-i-2 : goal.overflow_sub-from-in-loop-i-2
+overflow_sub-from-in-loop-i-2 c = search line-digits
+
+pub fill_column-to-requires : goal.fill_column-to-requires
+fill_column-to-requires c = (search data-there, (search data-size, search data-fits))
+
+pub overflow_add-i : goal.overflow_add-i
+overflow_add-i c = omega (arith, c.loop-i-test.true, c.ranges)
+
+pub loop-i-preserved : goal.loop-i-preserved
+loop-i-preserved c = search pooling-next
+
+pub returns : goal.returns
+returns c = search pooling-end

@@ -1,0 +1,97 @@
+use native.Mathlib.Omega.{arith}
+use lib.ListN.{length-set}
+use Rattle.page_reader.proofs.Numbers.{filling-begin, filling-some, filling-next, filling-end, generation-fits, kind_fits, type_fits, size_fits}
+use Rattle.page_reader.proofs.fill_slots.Goals as goal
+
+pub overflow_mul-two : goal.overflow_mul-two
+overflow_mul-two c = omega arith
+
+pub loop-i-init : goal.loop-i-init
+loop-i-init c = filling-begin _ _ _ _ _ c.requires.0 c.requires.1.0 c.requires.1.1 c.requires.1.2
+
+pub shape_of-narrow-in_default : goal.shape_of-narrow-in_default
+shape_of-narrow-in_default c = absurd (filling-some _ _ _ _ _ _ _ _ _ _ c.loop-i.invariant c.loop-i-test.true c.get_slot.ensures c.in_default.is)
+
+pub shape_of-wide-in_default : goal.shape_of-wide-in_default
+shape_of-wide-in_default c = absurd (filling-some _ _ _ _ _ _ _ _ _ _ c.loop-i.invariant c.loop-i-test.true c.get_slot.ensures c.in_default.is)
+
+pub returns-in_default : goal.returns-in_default
+returns-in_default c = absurd (filling-some _ _ _ _ _ _ _ _ _ _ c.loop-i.invariant c.loop-i-test.true c.get_slot.ensures c.in_default.is)
+
+pub overflow_cast-narrow : goal.overflow_cast-narrow
+overflow_cast-narrow c = omega (arith, generation-fits _ _ _ _ _ _ _ _ _ _ c.loop-i.invariant c.loop-i-test.true c.get_slot.ensures _ c.in-Line.is)
+
+pub offset_bounds-narrow-i : goal.offset_bounds-narrow-i
+offset_bounds-narrow-i c = omega (arith, c.loop-i-test.true, c.loop-i.invariant.room, c.loop-i.invariant.runs, c.well_formed, c.ranges)
+
+pub bounds-narrow-i : goal.bounds-narrow-i
+bounds-narrow-i c = omega (arith, c.loop-i-test.true, c.loop-i.invariant.same, c.loop-i.invariant.same_wide, c.loop-i.invariant.room, c.loop-i.invariant.runs)
+
+pub overflow_cast-narrow-in-loop-i : goal.overflow_cast-narrow-in-loop-i
+overflow_cast-narrow-in-loop-i c = omega (arith, kind_fits _ _ _ _ _ _ _ _ _ _ c.loop-i.invariant c.loop-i-test.true c.get_slot.ensures _ c.in-Line.is)
+
+pub overflow_add-narrow : goal.overflow_add-narrow
+overflow_add-narrow c = omega (arith, c.loop-i-test.true, c.loop-i.invariant.room, c.loop-i.invariant.runs, c.well_formed, c.ranges)
+
+pub offset_bounds-narrow-all : goal.offset_bounds-narrow-all
+offset_bounds-narrow-all c = omega (arith, c.loop-i-test.true, c.loop-i.invariant.room, c.loop-i.invariant.runs, c.well_formed, c.ranges)
+
+pub bounds-narrow-all : goal.bounds-narrow-all
+bounds-narrow-all c = simp length-set (omega (arith, c.loop-i-test.true, c.loop-i.invariant.same, c.loop-i.invariant.same_wide, c.loop-i.invariant.room, c.loop-i.invariant.runs))
+
+pub overflow_cast-narrow-in-loop-i-2 : goal.overflow_cast-narrow-in-loop-i-2
+overflow_cast-narrow-in-loop-i-2 c = omega (arith, type_fits _ _ _ _ _ _ _ _ _ _ c.loop-i.invariant c.loop-i-test.true c.get_slot.ensures _ c.in-Line.is)
+
+pub overflow_add-narrow-in-loop-i : goal.overflow_add-narrow-in-loop-i
+overflow_add-narrow-in-loop-i c = omega (arith, c.loop-i-test.true, c.loop-i.invariant.room, c.loop-i.invariant.runs, c.well_formed, c.ranges)
+
+pub offset_bounds-narrow-two : goal.offset_bounds-narrow-two
+offset_bounds-narrow-two c = omega (arith, c.loop-i-test.true, c.loop-i.invariant.room, c.loop-i.invariant.runs, c.well_formed, c.ranges)
+
+pub bounds-narrow-two : goal.bounds-narrow-two
+bounds-narrow-two c = simp length-set (omega (arith, c.loop-i-test.true, c.loop-i.invariant.same, c.loop-i.invariant.same_wide, c.loop-i.invariant.room, c.loop-i.invariant.runs))
+
+pub offset_bounds-wide-i : goal.offset_bounds-wide-i
+offset_bounds-wide-i c = omega (arith, c.loop-i-test.true, c.loop-i.invariant.room, c.loop-i.invariant.runs, c.well_formed, c.ranges)
+
+pub bounds-wide-i : goal.bounds-wide-i
+bounds-wide-i c = omega (arith, c.loop-i-test.true, c.loop-i.invariant.same, c.loop-i.invariant.same_wide, c.loop-i.invariant.room, c.loop-i.invariant.runs)
+
+pub overflow_add-wide : goal.overflow_add-wide
+overflow_add-wide c = omega (arith, c.loop-i-test.true, c.loop-i.invariant.room, c.loop-i.invariant.runs, c.well_formed, c.ranges)
+
+pub offset_bounds-wide-two : goal.offset_bounds-wide-two
+offset_bounds-wide-two c = omega (arith, c.loop-i-test.true, c.loop-i.invariant.room, c.loop-i.invariant.runs, c.well_formed, c.ranges)
+
+pub bounds-wide-two : goal.bounds-wide-two
+bounds-wide-two c = simp length-set (omega (arith, c.loop-i-test.true, c.loop-i.invariant.same, c.loop-i.invariant.same_wide, c.loop-i.invariant.room, c.loop-i.invariant.runs))
+
+pub overflow_add-from : goal.overflow_add-from
+overflow_add-from c = omega (arith, size_fits _ _ _ _ _ _ _ _ _ _ c.loop-i.invariant c.loop-i-test.true c.get_slot.ensures _ c.in-Line.is, c.well_formed, c.ranges)
+
+pub overflow_add-wide-in-loop-i : goal.overflow_add-wide-in-loop-i
+overflow_add-wide-in-loop-i c = omega (arith, c.loop-i-test.true, c.loop-i.invariant.room, c.loop-i.invariant.runs, c.well_formed, c.ranges)
+
+pub offset_bounds-wide-all : goal.offset_bounds-wide-all
+offset_bounds-wide-all c = omega (arith, c.loop-i-test.true, c.loop-i.invariant.room, c.loop-i.invariant.runs, c.well_formed, c.ranges)
+
+pub bounds-wide-all : goal.bounds-wide-all
+bounds-wide-all c = simp length-set (omega (arith, c.loop-i-test.true, c.loop-i.invariant.same, c.loop-i.invariant.same_wide, c.loop-i.invariant.room, c.loop-i.invariant.runs))
+
+pub overflow_add-i : goal.overflow_add-i
+overflow_add-i c = omega (arith, c.loop-i-test.true, c.ranges)
+
+pub loop-i-smaller : goal.loop-i-smaller
+loop-i-smaller c = omega (arith, c.loop-i-test.true)
+
+pub loop-i-preserved : goal.loop-i-preserved
+loop-i-preserved c = filling-next _ _ _ _ _ _ _ _ _ _ c.loop-i.invariant c.loop-i-test.true c.get_slot.ensures _ c.in-Line.is
+
+pub shape_of-narrow : goal.shape_of-narrow
+shape_of-narrow c = c.loop-i.invariant.same
+
+pub shape_of-wide : goal.shape_of-wide
+shape_of-wide c = c.loop-i.invariant.same_wide
+
+pub returns : goal.returns
+returns c = filling-end _ _ _ _ _ _ _ _ _ _ c.loop-i.invariant c.loop-i-test.false

@@ -1,0 +1,16 @@
+use mathlib.Core.Path.{◌∙◌}
+use Rattle.heap.specs.Lent.{lent}
+use Rattle.page_reader.proofs.Loaded.{in-range, sizes-some, is-page, roomy, read_done, read-refused}
+use Rattle.page_reader.proofs.read.Goals as goal
+
+pub check_page-found-requires : goal.check_page-found-requires
+check_page-found-requires c = λ e. sizes-some _ _ _ _ c.sizes_fit-sizes.ensures c.requires e
+
+pub load-loaded-requires : goal.load-loaded-requires
+load-loaded-requires c = let a = is-page _ _ _ c.check_page-found.ensures.0 c.in-Page.is in (a.sections, roomy _ _ _ _ _ c.sizes_fit-sizes.ensures a)
+
+pub returns-in-Page : goal.returns-in-Page
+returns-in-Page c = (read_done (lent c.args.heap c.args.narrow.now c.args.wide.now c.args.pool.now) _ (c.sizes_fit-sizes.ensures ∙ in-range c.args.heap c.args.narrow.now c.args.wide.now c.args.pool.now) _ _ (is-page _ _ _ c.check_page-found.ensures.0 c.in-Page.is) c.load-loaded.ensures _ _ c.bits_met-bits.ensures c.names_met-names.ensures, c.check_page-found.ensures.1)
+
+pub returns-in-Not : goal.returns-in-Not
+returns-in-Not c = (read-refused (lent c.args.heap c.args.narrow.now c.args.wide.now c.args.pool.now) _ (c.sizes_fit-sizes.ensures ∙ in-range c.args.heap c.args.narrow.now c.args.wide.now c.args.pool.now) _ c.check_page-found.ensures.0 c.in-Not.is, c.check_page-found.ensures.1)

@@ -1,0 +1,18 @@
+-- `page_runs::named` meets its contract.
+use mathlib.Core.Path.{sym}
+use lib.Seq.{length-take-le}
+use Rattle.text.specs.Text.{ascii}
+use Rattle.page_runs.specs.Printed.{names_line}
+use Rattle.page_runs.proofs.Starting.{is-named, not_named}
+use Rattle.page_runs.proofs.named.Goals as goal
+
+pub slice_bounds-expect-end : goal.slice_bounds-expect-end
+slice_bounds-expect-end c = sym (length-take-le _ _ c.requires)
+
+pub returns-in-Past : goal.returns-in-Past
+unfolding names_line ascii
+returns-in-Past c = search is-named
+
+pub returns-in-Missing : goal.returns-in-Missing
+unfolding names_line ascii
+returns-in-Missing c = search not_named

@@ -1,0 +1,13 @@
+use native.Mathlib.Omega.{arith}
+use Rattle.text.proofs.Laws.{hex-length}
+use Rattle.pages.proofs.Writing.{puts-planes, puts-data}
+use Rattle.pages.proofs.put_column.Goals as goal
+
+pub returns-then-planar : goal.returns-then-planar
+returns-then-planar c = puts-planes c.args.planar c.args.bytes.now c.if-planar.true c.put_planes.ensures
+
+pub put_hex-requires : goal.put_hex-requires
+put_hex-requires c = omega (arith, hex-length c.args.bytes.now, c.requires)
+
+pub returns : goal.returns
+returns c = puts-data c.args.planar c.args.bytes.now c.if-planar.false c.put_hex.ensures

@@ -1,0 +1,71 @@
+use native.Mathlib.Omega.{arith}
+use mathlib.Core.Path.{◌∙◌}
+use Rattle.text.specs.Text.{ascii}
+use Rattle.heap.proofs.Testing.{formed-tested}
+use Rattle.heap.proofs.Runs.{wide_room}
+use Rattle.pages.specs.Form.{heap_front, retired_too, heap_names, free_name, quarantine_name, sealed_name, retired_name}
+use Rattle.pages.proofs.Ready.{ready}
+use Rattle.pages.proofs.Whole.{page-size, puts-page, wrote, short, free_in, quarantine-in, sealed-in, retired-in}
+use Rattle.pages.proofs.write.Goals as goal
+
+pub page_len-n-requires : goal.page_len-n-requires
+unfolding heap_names heap_front retired_too free_name quarantine_name sealed_name retired_name ascii
+page_len-n-requires c = (ready c.requires, wide_room c.args.heap c.args.narrow.now c.args.wide.now c.args.pool.now (formed-tested _ c.requires))
+
+pub returns-then-out-n : goal.returns-then-out-n
+unfolding heap_names heap_front retired_too free_name quarantine_name sealed_name retired_name ascii
+returns-then-out-n c = short c.args.out.now _ (omega (arith, c.page_len-n.ensures, c.if-out-n.true))
+
+pub put_literal-a-requires : goal.put_literal-a-requires
+unfolding heap_names heap_front retired_too free_name quarantine_name sealed_name retired_name ascii
+put_literal-a-requires c = omega (arith, page-size c.args.heap c.args.narrow.now c.args.wide.now c.args.pool.now (ready c.requires) c.args.planar, c.page_len-n.ensures, c.if-out-n.false)
+
+pub put_head-b-requires : goal.put_head-b-requires
+unfolding heap_names heap_front retired_too free_name quarantine_name sealed_name retired_name ascii
+put_head-b-requires c = omega (arith, page-size c.args.heap c.args.narrow.now c.args.wide.now c.args.pool.now (ready c.requires) c.args.planar, c.page_len-n.ensures, c.if-out-n.false, c.put_literal-a.ensures.next, c.put_literal-a.auto.0)
+
+pub put_slot_names-c-requires : goal.put_slot_names-c-requires
+unfolding heap_names heap_front retired_too free_name quarantine_name sealed_name retired_name ascii
+put_slot_names-c-requires c = omega (arith, page-size c.args.heap c.args.narrow.now c.args.wide.now c.args.pool.now (ready c.requires) c.args.planar, c.page_len-n.ensures, c.if-out-n.false, c.put_literal-a.ensures.next, c.put_literal-a.auto.0, c.put_head-b.ensures.next, c.put_head-b.auto.0)
+
+pub put_slots-d-requires : goal.put_slots-d-requires
+unfolding heap_names heap_front retired_too free_name quarantine_name sealed_name retired_name ascii
+put_slots-d-requires c = (ready c.requires, (wide_room c.args.heap c.args.narrow.now c.args.wide.now c.args.pool.now (formed-tested _ c.requires), omega (arith, page-size c.args.heap c.args.narrow.now c.args.wide.now c.args.pool.now (ready c.requires) c.args.planar, c.page_len-n.ensures, c.if-out-n.false, c.put_literal-a.ensures.next, c.put_literal-a.auto.0, c.put_head-b.ensures.next, c.put_head-b.auto.0, c.put_slot_names-c.ensures.next, c.put_slot_names-c.auto.0)))
+
+pub offset_bounds-narrow-three : goal.offset_bounds-narrow-three
+offset_bounds-narrow-three c = omega (arith, (formed-tested _ c.requires).sound.slot-range.1)
+
+pub put_indices_after-e-requires : goal.put_indices_after-e-requires
+unfolding heap_names heap_front retired_too free_name quarantine_name sealed_name retired_name ascii
+put_indices_after-e-requires c = (free_in c.args.heap c.args.narrow.now c.args.wide.now c.args.pool.now (ready c.requires), omega (arith, page-size c.args.heap c.args.narrow.now c.args.wide.now c.args.pool.now (ready c.requires) c.args.planar, c.page_len-n.ensures, c.if-out-n.false, c.put_literal-a.ensures.next, c.put_literal-a.auto.0, c.put_head-b.ensures.next, c.put_head-b.auto.0, c.put_slot_names-c.ensures.next, c.put_slot_names-c.auto.0, c.put_slots-d.ensures.next, c.put_slots-d.auto.1.1.1.1.1.0))
+
+pub offset_bounds-narrow-four : goal.offset_bounds-narrow-four
+offset_bounds-narrow-four c = omega (arith, (formed-tested _ c.requires).sound.slot-range.1)
+
+pub put_indices_after-f-requires : goal.put_indices_after-f-requires
+unfolding heap_names heap_front retired_too free_name quarantine_name sealed_name retired_name ascii
+put_indices_after-f-requires c = (quarantine-in c.args.heap c.args.narrow.now c.args.wide.now c.args.pool.now (ready c.requires), omega (arith, page-size c.args.heap c.args.narrow.now c.args.wide.now c.args.pool.now (ready c.requires) c.args.planar, c.page_len-n.ensures, c.if-out-n.false, c.put_literal-a.ensures.next, c.put_literal-a.auto.0, c.put_head-b.ensures.next, c.put_head-b.auto.0, c.put_slot_names-c.ensures.next, c.put_slot_names-c.auto.0, c.put_slots-d.ensures.next, c.put_slots-d.auto.1.1.1.1.1.0, c.put_indices_after-e.ensures.next, c.put_indices_after-e.auto.0))
+
+pub offset_bounds-wide-three : goal.offset_bounds-wide-three
+offset_bounds-wide-three c = omega (arith, (formed-tested _ c.requires).sound.slot-range.1)
+
+pub slice_bounds-put_handles_after-end-2 : goal.slice_bounds-put_handles_after-end-2
+slice_bounds-put_handles_after-end-2 c = omega (arith, wide_room c.args.heap c.args.narrow.now c.args.wide.now c.args.pool.now (formed-tested _ c.requires))
+
+pub put_handles_after-g-requires : goal.put_handles_after-g-requires
+unfolding heap_names heap_front retired_too free_name quarantine_name sealed_name retired_name ascii
+put_handles_after-g-requires c = (sealed-in c.args.heap c.args.narrow.now c.args.wide.now c.args.pool.now (ready c.requires), omega (arith, page-size c.args.heap c.args.narrow.now c.args.wide.now c.args.pool.now (ready c.requires) c.args.planar, c.page_len-n.ensures, c.if-out-n.false, c.put_literal-a.ensures.next, c.put_literal-a.auto.0, c.put_head-b.ensures.next, c.put_head-b.auto.0, c.put_slot_names-c.ensures.next, c.put_slot_names-c.auto.0, c.put_slots-d.ensures.next, c.put_slots-d.auto.1.1.1.1.1.0, c.put_indices_after-e.ensures.next, c.put_indices_after-e.auto.0, c.put_indices_after-f.ensures.next, c.put_indices_after-f.auto.0))
+
+pub offset_bounds-narrow-five : goal.offset_bounds-narrow-five
+offset_bounds-narrow-five c = omega (arith, (formed-tested _ c.requires).sound.slot-range.1)
+
+pub put_indices_after-k-requires : goal.put_indices_after-k-requires
+unfolding heap_names heap_front retired_too free_name quarantine_name sealed_name retired_name ascii
+put_indices_after-k-requires c = (retired-in c.args.heap c.args.narrow.now c.args.wide.now c.args.pool.now (ready c.requires), omega (arith, page-size c.args.heap c.args.narrow.now c.args.wide.now c.args.pool.now (ready c.requires) c.args.planar, c.page_len-n.ensures, c.if-out-n.false, c.put_literal-a.ensures.next, c.put_literal-a.auto.0, c.put_head-b.ensures.next, c.put_head-b.auto.0, c.put_slot_names-c.ensures.next, c.put_slot_names-c.auto.0, c.put_slots-d.ensures.next, c.put_slots-d.auto.1.1.1.1.1.0, c.put_indices_after-e.ensures.next, c.put_indices_after-e.auto.0, c.put_indices_after-f.ensures.next, c.put_indices_after-f.auto.0, c.put_handles_after-g.ensures.next, c.put_handles_after-g.auto.0))
+
+pub shape_of-out : goal.shape_of-out
+shape_of-out c = c.put_indices_after-k.auto.0 ∙ c.put_handles_after-g.auto.0 ∙ c.put_indices_after-f.auto.0 ∙ c.put_indices_after-e.auto.0 ∙ c.put_slots-d.auto.1.1.1.1.1.0 ∙ c.put_slot_names-c.auto.0 ∙ c.put_head-b.auto.0 ∙ c.put_literal-a.auto.0
+
+pub returns : goal.returns
+unfolding heap_names heap_front retired_too free_name quarantine_name sealed_name retired_name ascii
+returns c = wrote (puts-page c.args.heap c.args.narrow.now c.args.wide.now c.args.pool.now (ready c.requires) c.args.planar c.put_literal-a.ensures c.put_head-b.ensures c.put_slot_names-c.ensures c.put_slots-d.ensures c.put_indices_after-e.ensures c.put_indices_after-f.ensures c.put_handles_after-g.ensures c.put_indices_after-k.ensures (omega arith)) (omega (arith, c.page_len-n.ensures, c.if-out-n.false))

@@ -1,0 +1,18 @@
+use Rattle.std.proofs.Common.{rules}
+use Rattle.planes.proofs.Turns.{scattered-begin, scattered-next, scattered-stop, scattered-size, place-room}
+use Rattle.planes.proofs.scatter.Goals as goal
+
+pub loop-j-init : goal.loop-j-init
+loop-j-init c = search scattered-begin
+
+pub scatter_plane-requires : goal.scatter_plane-requires
+scatter_plane-requires c = search (rules, place-room)
+
+pub loop-j-preserved : goal.loop-j-preserved
+loop-j-preserved c = search scattered-next
+
+pub shape_of-d : goal.shape_of-d
+shape_of-d c = search scattered-size
+
+pub returns : goal.returns
+returns c = search scattered-stop

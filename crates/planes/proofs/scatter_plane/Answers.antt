@@ -1,0 +1,11 @@
+use Rattle.planes.proofs.Turns.{place-begin, place-next, place-stop}
+use Rattle.planes.proofs.scatter_plane.Goals as goal
+
+pub loop-i-init : goal.loop-i-init
+loop-i-init c = search place-begin
+
+pub loop-i-preserved : goal.loop-i-preserved
+loop-i-preserved c = search place-next
+
+pub returns : goal.returns
+returns c = search place-stop

@@ -1,0 +1,12 @@
+use Rattle.planes.proofs.Turns.{sums_next, sums-stop}
+use Rattle.planes.proofs.Stepping.{sum-begin}
+use Rattle.planes.proofs.sum_up.Goals as goal
+
+pub loop-i-init : goal.loop-i-init
+loop-i-init c = sum-begin _ _ _
+
+pub loop-i-preserved : goal.loop-i-preserved
+loop-i-preserved c = search sums_next
+
+pub returns : goal.returns
+returns c = search sums-stop

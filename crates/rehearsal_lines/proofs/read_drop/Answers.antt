@@ -1,0 +1,9 @@
+-- `rehearsal_lines::read_drop` meets its contract.
+use Rattle.rehearsal_lines.proofs.Finding.{no-dropped, drop-read}
+use Rattle.rehearsal_lines.proofs.read_drop.Goals as goal
+
+pub returns-in_default : goal.returns-in_default
+returns-in_default c = search no-dropped
+
+pub returns : goal.returns
+returns c = search drop-read

@@ -1,0 +1,40 @@
+-- `roots::at::live_row` meets its contract.
+use native.Mathlib.Omega.{arith}
+use mathlib.Core.Path.{sym, ◌∙◌, subst}
+use Prim.Native.Nat.{ℕ, ◌*◌, ◌≤◌}
+use lib.ListN.{length}
+use Rattle.roots.specs.Columns.{wanted, seen}
+use Rattle.roots.proofs.Scratch.{end-view}
+use Rattle.roots.proofs.Forms.{formed-columns, ends-inside}
+use Rattle.roots.proofs.Answers.{live-row-cells}
+use Rattle.roots.proofs.at.live_row.Goals as goal
+
+pub analyse-requires : goal.analyse-requires
+analyse-requires c = (c.requires.0, (c.requires.1.0.0, c.requires.1.0.2, c.requires.1.0.3))
+
+pub gather-requires : goal.gather-requires
+gather-requires c = (c.requires.1.0.1, omega (arith, c.requires.1.0.2, c.analyse.ensures.0))
+
+pub overflow_mul-b : goal.overflow_mul-b
+overflow_mul-b c = omega arith
+
+pub overflow_add-b : goal.overflow_add-b
+overflow_add-b c = omega arith
+
+pub offset_bounds-blocks-b : goal.offset_bounds-blocks-b
+offset_bounds-blocks-b c = omega arith
+
+pub bounds-blocks-b : goal.bounds-blocks-b
+bounds-blocks-b c = omega arith
+
+pub overflow_mul-words : goal.overflow_mul-words
+overflow_mul-words c = omega (arith, c.requires.1.0.2)
+
+pub overflow_mul-nb : goal.overflow_mul-nb
+overflow_mul-nb c = omega (arith, c.requires.1.0.2)
+
+pub back_at-requires : goal.back_at-requires
+back_at-requires c = (omega (arith, c.requires.1.0.2, c.analyse.ensures.0, c.gather.ensures.0.kept), (omega (arith, c.requires.1.1.1, c.wide-e.ensures), subst (λ (u : ℕ). 3 * u ≤ length c.args.ends.now) (sym c.wide-e.ensures) (ends-inside c.args.kinds.now c.args.ends.now c.args.refs.now c.args.blocks.now c.args.classes.now c.requires.0 c.args.nb c.requires.1.0.0 c.args.b c.requires.1.0.1 (omega (arith, c.requires.1.1.0, c.requires.1.1.1))), c.requires.1.0.3, (formed-columns c.args.kinds.now c.args.ends.now c.args.refs.now c.args.blocks.now c.args.classes.now c.requires.0).lists))
+
+pub returns : goal.returns
+returns c = (c.back_at.ensures.0.kept ∙ c.gather.ensures.0.kept ∙ c.analyse.ensures.0, live-row-cells (seen (wanted c.args.which) c.args.kinds.now c.args.ends.now c.args.refs.now c.args.blocks.now c.args.classes.now) c.analyse.new.0 c.gather.new.0 c.back_at.new.0 c.args.words c.args.nb c.args.b c.args.pc c.wide-e.result c.analyse.ensures.1 c.requires.1.0.1 (c.wide-e.ensures ∙ sym (end-view (wanted c.args.which) c.args.kinds.now c.args.ends.now c.args.refs.now c.args.blocks.now c.args.classes.now c.args.b (omega (arith, c.requires.1.0.0, c.requires.1.0.1)))) c.gather.ensures.1 (c.back_at.ensures.1 c.args.kinds.now c.args.blocks.now))

@@ -1,0 +1,44 @@
+use native.Mathlib.Omega.{arith}
+use mathlib.Core.Path.{◌≡◌, subst}
+use Prim.Native.Nat.{ℕ, ◌+◌, ◌-◌, ◌*◌}
+use Rattle.roots.specs.Columns.{Pass}
+use Rattle.roots.proofs.Scratch.{block-fits}
+use Rattle.roots.proofs.Steps.{met_of}
+use Rattle.roots.proofs.Passes.{below-high, passes_none, pass-grown, pass-still}
+use Rattle.roots.proofs.fixpoint.pass.Goals as goal
+
+pub overflow_mul-stride : goal.overflow_mul-stride
+overflow_mul-stride c = omega arith
+
+pub loop-b-init : goal.loop-b-init
+loop-b-init c = passes_none _ _ _ _ _ _ _
+
+pub overflow_sub-b : goal.overflow_sub-b
+overflow_sub-b c = omega arith
+
+pub leave-requires : goal.leave-requires
+leave-requires c = (c.requires.0, (c.requires.1.0, omega (arith, c.loop-b.invariant.high, c.loop-b-test.true), omega (arith, c.loop-b.invariant.kept, c.requires.1.1), c.requires.1.2))
+
+pub overflow_mul-b : goal.overflow_mul-b
+overflow_mul-b c = omega (arith, block-fits (c.loop-b.b - 1) c.args.nb (3 * c.args.words) (below-high c.loop-b-test.true c.loop-b.invariant.high), c.requires.1.1)
+
+pub step_block-grown-requires : goal.step_block-grown-requires
+step_block-grown-requires c = omega (arith, block-fits (c.loop-b.b - 1) c.args.nb (3 * c.args.words) (below-high c.loop-b-test.true c.loop-b.invariant.high), c.requires.1.1, c.loop-b.invariant.kept, c.leave.ensures.0.kept)
+
+pub loop-b-smaller-then-grown : goal.loop-b-smaller-then-grown
+loop-b-smaller-then-grown c = omega arith
+
+pub loop-b-preserved-then-grown : goal.loop-b-preserved-then-grown
+loop-b-preserved-then-grown c = pass-grown c.loop-b.invariant c.loop-b-test.true c.leave.new.0 c.step_block-grown.new.0 c.leave.ensures.0 c.leave.ensures.1 (met_of (c.args.nb * (3 * c.args.words)) c.args.words ((c.loop-b.b - 1) * (3 * c.args.words)) ((c.loop-b.b - 1) * (3 * c.args.words) + 2 * c.args.words) ((c.loop-b.b - 1) * (3 * c.args.words) + c.args.words) c.step_block-grown.ensures (omega (arith, block-fits (c.loop-b.b - 1) c.args.nb (3 * c.args.words) (below-high c.loop-b-test.true c.loop-b.invariant.high))) (omega (arith, c.requires.1.1, c.loop-b.invariant.kept, c.leave.ensures.0.kept))) c.if-grown.true
+
+pub loop-b-smaller : goal.loop-b-smaller
+loop-b-smaller c = omega arith
+
+pub loop-b-preserved : goal.loop-b-preserved
+loop-b-preserved c = pass-still c.loop-b.invariant c.loop-b-test.true c.leave.new.0 c.step_block-grown.new.0 c.leave.ensures.0 c.leave.ensures.1 (met_of (c.args.nb * (3 * c.args.words)) c.args.words ((c.loop-b.b - 1) * (3 * c.args.words)) ((c.loop-b.b - 1) * (3 * c.args.words) + 2 * c.args.words) ((c.loop-b.b - 1) * (3 * c.args.words) + c.args.words) c.step_block-grown.ensures (omega (arith, block-fits (c.loop-b.b - 1) c.args.nb (3 * c.args.words) (below-high c.loop-b-test.true c.loop-b.invariant.high))) (omega (arith, c.requires.1.1, c.loop-b.invariant.kept, c.leave.ensures.0.kept))) c.if-grown.false
+
+pub shape_of-s : goal.shape_of-s
+shape_of-s c = c.loop-b.invariant.kept
+
+pub returns : goal.returns
+returns c = let e : c.loop-b.b ≡ 0 = omega arith in subst (λ (u : ℕ). Pass c.args.kinds.now c.args.ends.now c.args.refs.now c.args.blocks.now c.args.s.now c.loop-b.s c.args.nb c.args.words u c.loop-b.changed) e c.loop-b.invariant

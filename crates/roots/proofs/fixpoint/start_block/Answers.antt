@@ -1,0 +1,51 @@
+-- `roots::fixpoint::start_block` meets its contract.
+use native.Mathlib.Omega.{arith}
+use mathlib.Core.Path.{sym, subst}
+use Prim.Native.Nat.{ℕ, ◌*◌, ◌≤◌}
+use lib.ListN.{length}
+use Rattle.roots.specs.Columns.{wanted}
+use Rattle.roots.proofs.Scratch.{block-fits}
+use Rattle.roots.proofs.Builds.{begun-none, begun-rows}
+use Rattle.roots.proofs.fixpoint.start_block.Goals as goal
+
+pub overflow_mul-b : goal.overflow_mul-b
+overflow_mul-b c = omega arith
+
+pub offset_bounds-blocks-b : goal.offset_bounds-blocks-b
+offset_bounds-blocks-b c = omega arith
+
+pub bounds-blocks-b : goal.bounds-blocks-b
+bounds-blocks-b c = omega arith
+
+pub overflow_mul-b-2 : goal.overflow_mul-b-2
+overflow_mul-b-2 c = omega arith
+
+pub overflow_add-b : goal.overflow_add-b
+overflow_add-b c = omega arith
+
+pub offset_bounds-blocks-b-2 : goal.offset_bounds-blocks-b-2
+offset_bounds-blocks-b-2 c = omega arith
+
+pub bounds-blocks-b-2 : goal.bounds-blocks-b-2
+bounds-blocks-b-2 c = omega arith
+
+pub returns-then-e-st : goal.returns-then-e-st
+returns-then-e-st c = begun-none (wanted c.args.which) c.args.ends.now c.args.refs.now c.args.blocks.now c.args.classes.now c.args.nb c.args.words c.args.b c.requires.0.1 c.requires.0.0 _ _ c.wide-st.ensures c.wide-e.ensures c.args.s.now c.requires.1.1 c.if-e-st.true
+
+pub overflow_mul-at : goal.overflow_mul-at
+overflow_mul-at c = omega arith
+
+pub overflow_mul-at-2 : goal.overflow_mul-at-2
+overflow_mul-at-2 c = omega (arith, block-fits c.args.b c.args.nb (3 * c.args.words) c.requires.0.1)
+
+pub back_at-requires : goal.back_at-requires
+back_at-requires c = (omega (arith, block-fits c.args.b c.args.nb (3 * c.args.words) c.requires.0.1, c.requires.0.2), (omega (arith, c.if-e-st.false), subst (λ (u : ℕ). 3 * u ≤ length c.args.ends.now) (sym c.wide-e.ensures) (c.requires.1.0 (omega (arith, c.wide-st.ensures, c.wide-e.ensures, c.if-e-st.false))), c.requires.0.3, c.requires.0.4))
+
+pub overflow_add-at : goal.overflow_add-at
+overflow_add-at c = omega (arith, block-fits c.args.b c.args.nb (3 * c.args.words) c.requires.0.1, c.requires.0.2)
+
+pub kill_at-requires : goal.kill_at-requires
+kill_at-requires c = (omega (arith, block-fits c.args.b c.args.nb (3 * c.args.words) c.requires.0.1, c.requires.0.2, c.back_at.ensures.0.kept), (omega (arith, c.if-e-st.false), subst (λ (u : ℕ). 3 * u ≤ length c.args.ends.now) (sym c.wide-e.ensures) (c.requires.1.0 (omega (arith, c.wide-st.ensures, c.wide-e.ensures, c.if-e-st.false))), c.requires.0.3, c.requires.0.4))
+
+pub returns : goal.returns
+returns c = begun-rows (wanted c.args.which) c.args.ends.now c.args.refs.now c.args.blocks.now c.args.classes.now c.args.nb c.args.words c.args.b c.requires.0.1 c.requires.0.0 _ _ c.wide-st.ensures c.wide-e.ensures c.args.s.now c.requires.1.1 c.back_at.new.0 c.kill_at.new.0 c.back_at.ensures.0 c.back_at.ensures.1 c.kill_at.ensures.0 c.kill_at.ensures.1

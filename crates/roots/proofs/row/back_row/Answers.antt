@@ -1,0 +1,24 @@
+use native.Mathlib.Omega.{arith}
+use Rattle.roots.proofs.Turns.{backs-on, backs-none, backs-end}
+use Rattle.roots.proofs.row.back_row.Goals as goal
+
+pub loop-p-init : goal.loop-p-init
+loop-p-init c = backs-none _ _ _ _ _ _ _ c.requires.0
+
+pub overflow_sub-p : goal.overflow_sub-p
+overflow_sub-p c = omega arith
+
+pub step_back-requires : goal.step_back-requires
+step_back-requires c = (omega arith, omega (arith, c.loop-p.invariant.kept), c.requires.3)
+
+pub loop-p-smaller : goal.loop-p-smaller
+loop-p-smaller c = omega arith
+
+pub loop-p-preserved : goal.loop-p-preserved
+loop-p-preserved c = backs-on c.loop-p.invariant c.loop-p-test.true _ c.step_back.auto.0 c.step_back.ensures
+
+pub shape_of-row : goal.shape_of-row
+shape_of-row c = c.loop-p.invariant.kept
+
+pub returns : goal.returns
+returns c = backs-end c.loop-p.invariant c.loop-p-test.false

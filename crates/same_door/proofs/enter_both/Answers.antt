@@ -1,0 +1,15 @@
+-- `same_door::enter_both` meets its contract.
+use Rattle.same_door.proofs.Entering.{first_short, other-short, first-broken, both-entered}
+use Rattle.same_door.proofs.enter_both.Goals as goal
+
+pub returns-then-not-is_enough : goal.returns-then-not-is_enough
+returns-then-not-is_enough c = search first_short
+
+pub returns-then-not-is_enough-2 : goal.returns-then-not-is_enough-2
+returns-then-not-is_enough-2 c = search other-short
+
+pub returns-in-Not : goal.returns-in-Not
+returns-in-Not c = search first-broken
+
+pub returns-in-Ready : goal.returns-in-Ready
+returns-in-Ready c = search both-entered

@@ -1,0 +1,15 @@
+-- `script::read_take` meets its contract.
+use Rattle.script.proofs.Finding.{no-handle, handle-inside, no-zeros, take-read}
+use Rattle.script.proofs.read_take.Goals as goal
+
+pub returns-in_default : goal.returns-in_default
+returns-in_default c = search no-handle
+
+pub expect-requires : goal.expect-requires
+expect-requires c = search handle-inside
+
+pub returns-in_default-expect : goal.returns-in_default-expect
+returns-in_default-expect c = search no-zeros
+
+pub returns : goal.returns
+returns c = search take-read

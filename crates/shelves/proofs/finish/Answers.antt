@@ -1,0 +1,19 @@
+-- `shelves::finish` meets its contract.
+use native.Mathlib.Omega.{arith}
+use Rattle.shelves.proofs.Telling.{most-at, ends-cut, ends_last}
+use Rattle.shelves.proofs.finish.Goals as goal
+
+pub is_cut_off-requires : goal.is_cut_off-requires
+is_cut_off-requires c = tt
+
+pub overflow_add-shelf : goal.overflow_add-shelf
+overflow_add-shelf c = omega (arith, c.requires.pages, most-at c.args.shelf.at)
+
+pub none-requires : goal.none-requires
+none-requires c = tt
+
+pub returns-then-is_cut_off : goal.returns-then-is_cut_off
+returns-then-is_cut_off c = ends-cut c.args.shelf c.args.failed c.requires c.is_cut_off.ensures _ _ c.if-is_cut_off.true c.none.ensures c.put_line.ensures.0 c.put_line.ensures.0 (omega (arith, c.put_line.ensures.1.0, c.put_line.ensures.1.0))
+
+pub returns : goal.returns
+returns c = ends_last c.args.shelf c.args.failed c.requires c.is_cut_off.ensures _ c.if-is_cut_off.false c.put_line-2.ensures.0 (omega (arith, c.put_line-2.ensures.1.0))

@@ -1,0 +1,13 @@
+-- `slot_door::yexwalu_slot_handles` meets its contract.
+use Rattle.heap.specs.Lent.{lent}
+use Rattle.slot_door.proofs.SlotCalls.{slot-refused, slot-done, slot-formed}
+use Rattle.slot_door.proofs.yexwalu_slot_handles.Goals as goal
+
+pub list_slot-requires : goal.list_slot-requires
+list_slot-requires c = slot-formed (lent c.args.heap c.args.narrow.now c.args.wide.now c.args.pool.now) c.args.types.now c.args.fields.now c.args.consts.now c.args.bytes.now c.admit.ensures c.args.slot c.args.out.now c.in-Ready.is
+
+pub returns-in-Not : goal.returns-in-Not
+returns-in-Not c = slot-refused (lent c.args.heap c.args.narrow.now c.args.wide.now c.args.pool.now) c.args.types.now c.args.fields.now c.args.consts.now c.args.bytes.now c.admit.ensures c.args.slot c.args.out.now c.in-Not.is c.numbers.ensures
+
+pub returns-in-Ready : goal.returns-in-Ready
+returns-in-Ready c = slot-done (lent c.args.heap c.args.narrow.now c.args.wide.now c.args.pool.now) c.args.types.now c.args.fields.now c.args.consts.now c.args.bytes.now c.admit.ensures c.args.slot c.args.out.now c.in-Ready.is c.list_slot.ensures c.numbers-in-Ready.ensures

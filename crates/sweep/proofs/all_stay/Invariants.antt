@@ -1,0 +1,10 @@
+-- `sweep::all_stay` meets its contract. The invariant: nothing was seen exactly if the slots passed stay.
+use Prim.Native.Nat.{◌-◌}
+use Rattle.sweep.proofs.Staying.{Staying}
+use Rattle.sweep.proofs.all_stay.Given as goal
+
+abbrev pub invariant-loop-i : goal.invariant-loop-i
+invariant-loop-i l = Staying l.n l.kind l.marks l.i l.seen
+
+abbrev pub decreases-loop-i : goal.decreases-loop-i
+decreases-loop-i l = l.n - l.i

@@ -1,0 +1,68 @@
+use mathlib.Core.Path.{refl, sym, ◌∙◌}
+use native.Mathlib.Omega.{arith}
+use lib.ListN.{drop, length-set}
+use Rattle.tables.specs.Table.{read_name}
+use Rattle.tables.proofs.Endings.{lost}
+use Rattle.tables.proofs.Naming.{name-found, name-long}
+use Rattle.table_check.proofs.Lining.{lining-begin, lining-room, lining-numbers-lost, lining-name-lost, lining-on, lining-two, lining-end, numbers-within, row_first, row-second}
+use Rattle.table_check.proofs.get_fields.Goals as goal
+
+pub loop-i-init : goal.loop-i-init
+loop-i-init c = (refl, lining-begin _ _ _ _ _ _ _ c.requires.0 (omega (arith, c.requires.1)))
+
+pub slice_bounds-get_numbers-end : goal.slice_bounds-get_numbers-end
+slice_bounds-get_numbers-end c = sym c.loop-i.invariant.0
+
+pub get_numbers-requires : goal.get_numbers-requires
+get_numbers-requires c = (c.loop-i.invariant.1.gathered.inside, omega (arith, c.loop-i.invariant.0))
+
+pub shape_of-out-in_default : goal.shape_of-out-in_default
+shape_of-out-in_default c = c.loop-i.invariant.1.same
+
+pub returns-in_default : goal.returns-in_default
+returns-in_default c = lining-numbers-lost _ _ _ _ _ _ _ _ _ _ _ _ c.loop-i.invariant.1 _ c.loop-i-test.true (c.get_numbers.ensures.lost c.in_default.is)
+
+pub shape_of-out-in_default-get_name : goal.shape_of-out-in_default-get_name
+shape_of-out-in_default-get_name c = c.loop-i.invariant.1.same
+
+pub returns-in_default-get_name : goal.returns-in_default-get_name
+returns-in_default-get_name c = let g = c.get_numbers.ensures.past _ c.in-Past.is in lining-name-lost _ _ _ _ _ _ _ _ _ _ _ _ c.loop-i.invariant.1 _ c.in-Past.a g.values c.loop-i-test.true g.reads (lost c.args.s.now (read_name (drop c.in-Past.a c.args.s.now)) c.get_name.ensures c.in_default-get_name.is)
+
+pub overflow_cast-out : goal.overflow_cast-out
+overflow_cast-out c = let g = c.get_numbers.ensures.past _ c.in-Past.is in record { fits = omega (arith, row_first c.loop-i.row _ g.values 4294967295 c.loop-i.invariant.0 g.holds (numbers-within 2 4294967295 _ g.values _ g.reads)) }
+
+pub offset_bounds-out-j : goal.offset_bounds-out-j
+offset_bounds-out-j c = omega (arith, lining-room _ _ _ _ _ _ _ _ _ _ _ _ c.loop-i.invariant.1 c.loop-i-test.true)
+
+pub bounds-out-j : goal.bounds-out-j
+bounds-out-j c = omega (arith, lining-room _ _ _ _ _ _ _ _ _ _ _ _ c.loop-i.invariant.1 c.loop-i-test.true)
+
+pub overflow_cast-out-in-loop-i : goal.overflow_cast-out-in-loop-i
+overflow_cast-out-in-loop-i c = let g = c.get_numbers.ensures.past _ c.in-Past.is in record { fits = omega (arith, row-second c.loop-i.row _ g.values 4294967295 c.loop-i.invariant.0 g.holds (numbers-within 2 4294967295 _ g.values _ g.reads)) }
+
+pub overflow_add-out : goal.overflow_add-out
+overflow_add-out c = omega (arith, lining-room _ _ _ _ _ _ _ _ _ _ _ _ c.loop-i.invariant.1 c.loop-i-test.true)
+
+pub offset_bounds-out-j-in-loop-i : goal.offset_bounds-out-j-in-loop-i
+offset_bounds-out-j-in-loop-i c = omega (arith, lining-room _ _ _ _ _ _ _ _ _ _ _ _ c.loop-i.invariant.1 c.loop-i-test.true)
+
+pub bounds-out-j-in-loop-i : goal.bounds-out-j-in-loop-i
+bounds-out-j-in-loop-i c = simp length-set (omega (arith, lining-room _ _ _ _ _ _ _ _ _ _ _ _ c.loop-i.invariant.1 c.loop-i-test.true))
+
+pub overflow_sub-size : goal.overflow_sub-size
+overflow_sub-size c = let g = c.get_numbers.ensures.past _ c.in-Past.is in let n = name-found c.args.s.now c.in-Past.a c.in-Past-get_name.next c.get_name.ensures c.in-Past-get_name.is in omega (arith, name-long c.args.s.now c.in-Past.a c.in-Past-get_name.next g.inside n)
+
+pub overflow_add-size : goal.overflow_add-size
+overflow_add-size c = let g = c.get_numbers.ensures.past _ c.in-Past.is in let n = name-found c.args.s.now c.in-Past.a c.in-Past-get_name.next c.get_name.ensures c.in-Past-get_name.is in omega (arith, name-long c.args.s.now c.in-Past.a c.in-Past-get_name.next g.inside n, c.loop-i.invariant.1.small, lining-on _ _ _ _ _ _ _ _ _ _ _ _ c.loop-i.invariant.1 c.loop-i-test.true c.in-Past.a c.in-Past-get_name.next g.values g.reads g.inside n, n.inside)
+
+pub overflow_add-j : goal.overflow_add-j
+overflow_add-j c = omega (arith, lining-room _ _ _ _ _ _ _ _ _ _ _ _ c.loop-i.invariant.1 c.loop-i-test.true)
+
+pub loop-i-preserved : goal.loop-i-preserved
+loop-i-preserved c = let g = c.get_numbers.ensures.past _ c.in-Past.is in let n = name-found c.args.s.now c.in-Past.a c.in-Past-get_name.next c.get_name.ensures c.in-Past-get_name.is in (c.get_numbers.auto.1.1.1.1.0 ∙ c.loop-i.invariant.0, lining-two _ _ _ _ _ _ _ _ _ _ _ c.loop-i.invariant.1 c.loop-i-test.true c.in-Past.a c.in-Past-get_name.next g.values g.reads g.inside n c.loop-i.row _ c.loop-i.invariant.0 g.holds)
+
+pub shape_of-out : goal.shape_of-out
+shape_of-out c = c.loop-i.invariant.1.same
+
+pub returns : goal.returns
+returns c = lining-end _ _ _ _ _ _ _ _ _ _ _ _ c.loop-i.invariant.1 c.loop-i-test.false

@@ -1,0 +1,17 @@
+use Rattle.table_reader.proofs.Verdicts.{few_words, few-halves, tested-small, tested-fits, tested-not}
+use Rattle.table_reader.proofs.tested.Goals as goal
+
+pub returns-then-words-lt28672 : goal.returns-then-words-lt28672
+returns-then-words-lt28672 c = few_words c.args.s.now c.args.types c.args.fields c.args.consts c.args.bytes c.args.names c.args.words.now c.args.halves.now c.if-words-lt28672.true
+
+pub returns-then-halves-lt32768 : goal.returns-then-halves-lt32768
+returns-then-halves-lt32768 c = few-halves c.args.s.now c.args.types c.args.fields c.args.consts c.args.bytes c.args.names c.args.words.now c.args.halves.now c.if-words-lt28672.false c.if-halves-lt32768.true
+
+pub fitted-requires : goal.fitted-requires
+fitted-requires c = tested-small c.args.s.now c.args.types c.args.fields c.args.consts c.args.bytes c.args.names c.args.words.now c.args.halves.now c.if-words-lt28672.false c.if-halves-lt32768.false c.check.ensures.1.0 c.check.ensures.1.1 c.check.ensures.0 c.in-Good.is
+
+pub returns-in-Good : goal.returns-in-Good
+returns-in-Good c = tested-fits c.args.s.now c.args.types c.args.fields c.args.consts c.args.bytes c.args.names c.args.words.now c.args.halves.now c.if-words-lt28672.false c.if-halves-lt32768.false c.check.ensures.1.0 c.check.ensures.1.1 c.check.ensures.0 c.in-Good.is c.fitted.ensures
+
+pub returns-in-Not : goal.returns-in-Not
+returns-in-Not c = tested-not c.args.s.now c.args.types c.args.fields c.args.consts c.args.bytes c.args.names c.args.words.now c.args.halves.now c.if-words-lt28672.false c.if-halves-lt32768.false c.check.ensures.1.0 c.check.ensures.1.1 c.check.ensures.0 c.in-Not.is

@@ -1,0 +1,56 @@
+use mathlib.Core.Path.{◌∙◌}
+use native.Mathlib.Omega.{arith}
+use lib.ListN.{drop}
+use Rattle.tables.specs.Table.{read_name}
+use Rattle.tables.proofs.Endings.{lost}
+use Rattle.tables.proofs.Naming.{name-found, name-long}
+use Rattle.table_writer.proofs.RowsPut.{rows-put-begin, rows-put-some, rows-put-in, rows-put-fits, rows-put-next, rows-put-end}
+use Rattle.table_writer.proofs.put_rows.Goals as goal
+
+pub loop-i-init : goal.loop-i-init
+loop-i-init c = rows-put-begin _ _ _ _ _ _ _ c.requires
+
+pub shape_of-out-in_default : goal.shape_of-out-in_default
+shape_of-out-in_default c = absurd (rows-put-some _ _ _ _ _ _ _ _ _ _ _ _ c.loop-i.invariant c.loop-i-test.true (lost c.args.names.now (read_name (drop c.loop-i.f c.args.names.now)) c.get_name.ensures c.in_default.is))
+
+pub returns-in_default : goal.returns-in_default
+returns-in_default c = absurd (rows-put-some _ _ _ _ _ _ _ _ _ _ _ _ c.loop-i.invariant c.loop-i-test.true (lost c.args.names.now (read_name (drop c.loop-i.f c.args.names.now)) c.get_name.ensures c.in_default.is))
+
+pub overflow_add-e : goal.overflow_add-e
+overflow_add-e c = let n = name-found c.args.names.now c.loop-i.f c.in-Past.next c.get_name.ensures c.in-Past.is in omega (arith, rows-put-in _ _ _ _ _ _ _ _ _ _ _ _ c.loop-i.invariant c.loop-i-test.true _ n)
+
+pub offset_bounds-list-j : goal.offset_bounds-list-j
+offset_bounds-list-j c = let n = name-found c.args.names.now c.loop-i.f c.in-Past.next c.get_name.ensures c.in-Past.is in omega (arith, rows-put-in _ _ _ _ _ _ _ _ _ _ _ _ c.loop-i.invariant c.loop-i-test.true _ n)
+
+pub slice_bounds-put_numbers-count : goal.slice_bounds-put_numbers-count
+slice_bounds-put_numbers-count c = omega arith
+
+pub slice_bounds-put_numbers-start : goal.slice_bounds-put_numbers-start
+slice_bounds-put_numbers-start c = omega arith
+
+pub slice_bounds-put_numbers-end : goal.slice_bounds-put_numbers-end
+slice_bounds-put_numbers-end c = let n = name-found c.args.names.now c.loop-i.f c.in-Past.next c.get_name.ensures c.in-Past.is in omega (arith, rows-put-in _ _ _ _ _ _ _ _ _ _ _ _ c.loop-i.invariant c.loop-i-test.true _ n)
+
+pub put_numbers-a-requires : goal.put_numbers-a-requires
+put_numbers-a-requires c = let n = name-found c.args.names.now c.loop-i.f c.in-Past.next c.get_name.ensures c.in-Past.is in omega (arith, rows-put-fits _ _ _ _ _ _ _ _ _ _ _ _ c.loop-i.invariant c.loop-i-test.true _ n)
+
+pub slice_bounds-put_literal-count : goal.slice_bounds-put_literal-count
+slice_bounds-put_literal-count c = let n = name-found c.args.names.now c.loop-i.f c.in-Past.next c.get_name.ensures c.in-Past.is in omega (arith, name-long _ _ _ c.loop-i.invariant.gathered.inside n)
+
+pub slice_bounds-put_literal-start : goal.slice_bounds-put_literal-start
+slice_bounds-put_literal-start c = let n = name-found c.args.names.now c.loop-i.f c.in-Past.next c.get_name.ensures c.in-Past.is in omega (arith, name-long _ _ _ c.loop-i.invariant.gathered.inside n)
+
+pub slice_bounds-put_literal-end : goal.slice_bounds-put_literal-end
+slice_bounds-put_literal-end c = let n = name-found c.args.names.now c.loop-i.f c.in-Past.next c.get_name.ensures c.in-Past.is in n.inside
+
+pub put_literal-o-requires : goal.put_literal-o-requires
+put_literal-o-requires c = let n = name-found c.args.names.now c.loop-i.f c.in-Past.next c.get_name.ensures c.in-Past.is in omega (arith, rows-put-fits _ _ _ _ _ _ _ _ _ _ _ _ c.loop-i.invariant c.loop-i-test.true _ n, c.put_numbers-a.ensures.next, c.put_numbers-a.auto.0)
+
+pub loop-i-preserved : goal.loop-i-preserved
+loop-i-preserved c = let n = name-found c.args.names.now c.loop-i.f c.in-Past.next c.get_name.ensures c.in-Past.is in rows-put-next _ _ _ _ _ _ _ _ _ _ _ _ c.loop-i.invariant c.loop-i-test.true _ n _ _ _ _ (c.put_literal-o.auto.0 ∙ c.put_numbers-a.auto.0) c.put_numbers-a.ensures c.put_literal-o.ensures
+
+pub shape_of-out : goal.shape_of-out
+shape_of-out c = c.loop-i.invariant.same
+
+pub returns : goal.returns
+returns c = rows-put-end _ _ _ _ _ _ _ _ _ _ _ _ c.loop-i.invariant c.loop-i-test.false

@@ -1,0 +1,13 @@
+-- `text::count_more` meets its contract.
+use Rattle.text.specs.Answer.{hex_more}
+use Rattle.text.specs.Text.{read_hex}
+use lib.ListN.{length, drop}
+use mathlib.Core.Path.{◌≡◌}
+use Prim.Native.Nat.{◌-◌, ◌≤◌}
+use Rattle.text.proofs.count_more.Given as goal
+
+abbrev pub invariant-loop-i : goal.invariant-loop-i
+invariant-loop-i l = (l.n ≤ l.i) × (hex_more (length l.s) l.count (read_hex (drop l.first l.s)) ≡ hex_more (length l.s) l.n (read_hex (drop l.i l.s)))
+
+abbrev pub decreases-loop-i : goal.decreases-loop-i
+decreases-loop-i l = length l.s - l.i

@@ -1,0 +1,115 @@
+use native.Mathlib.Omega.{arith}
+use mathlib.Core.Path.{refl}
+use borrow.Author.Tests.{eq-eqb, ne_eqb}
+use Rattle.ty.specs.Walks.{desc_array}
+use native.Mathlib.Omega.{arith}
+use Rattle.ty.proofs.WalkLaws.{desc-none, desc-missing, desc-of-array, desc-of-record, desc-other}
+use Rattle.ty.proofs.Ranges.{record-within}
+use native.Mathlib.Omega.{arith}
+use Prim.Native.Nat.{◌+◌, ◌*◌}
+use mathlib.Core.Path.{refl, ap, ◌∙◌}
+use mathlib.Core.Logic.{⊎_elim}
+use Rattle.ty.proofs.Laws.{on}
+use Rattle.ty.proofs.WalkLaws.{fields-first, desc-last, desc-skip, desc-stop, desc-over, desc-more}
+use Rattle.ty.specs.Walks.{desc_fields}
+use Rattle.ty.proofs.+desc_array_desc_in_desc_record.Goals as goal
+
+pub desc_array-returns-in_default : goal.desc_array-returns-in_default
+unfolding desc_array
+desc_array-returns-in_default t c = rw (← c.product-p.ensures, c.in_default.is) refl
+
+pub desc_array-returns-then-c-ne4294967295 : goal.desc_array-returns-then-c-ne4294967295
+unfolding desc_array
+desc_array-returns-then-c-ne4294967295 t c = rw (← c.product-p.ensures, c.in-Is.is, ne_eqb _ _ c.if-c-ne4294967295.true) refl
+
+pub desc_array-desc_in-w-requires : goal.desc_array-desc_in-w-requires
+desc_array-desc_in-w-requires t c = (omega arith, tt)
+
+pub desc_array-returns-in_default-w : goal.desc_array-returns-in_default-w
+unfolding desc_array
+desc_array-returns-in_default-w t c = rw (← c.product-p.ensures, c.in-Is.is, eq-eqb _ _ c.if-c-ne4294967295.false, ← c.desc_in-w.ensures, c.in_default-w.is) refl
+
+pub desc_array-returns : goal.desc_array-returns
+unfolding desc_array
+desc_array-returns t c = rw (← c.product-p.ensures, c.in-Is.is, eq-eqb _ _ c.if-c-ne4294967295.false, ← c.desc_in-w.ensures, c.in-Is-w.is) c.sum.ensures
+
+pub desc_in-returns-then-levels-eq0 : goal.desc_in-returns-then-levels-eq0
+desc_in-returns-then-levels-eq0 t c = search desc-none
+
+pub desc_in-overflow_sub-levels : goal.desc_in-overflow_sub-levels
+desc_in-overflow_sub-levels t c = omega arith
+
+pub desc_in-desc_array-requires : goal.desc_in-desc_array-requires
+desc_in-desc_array-requires t c = (omega arith, tt)
+
+pub desc_in-overflow_sub-levels-in-Record : goal.desc_in-overflow_sub-levels-in-Record
+desc_in-overflow_sub-levels-in-Record t c = omega arith
+
+pub desc_in-desc_record-requires : goal.desc_in-desc_record-requires
+desc_in-desc_record-requires t c = (omega arith, search record-within)
+
+pub desc_in-returns-in-Missing : goal.desc_in-returns-in-Missing
+desc_in-returns-in-Missing t c = search desc-missing
+
+pub desc_in-returns-in-Array : goal.desc_in-returns-in-Array
+desc_in-returns-in-Array t c = search desc-of-array
+
+pub desc_in-returns-in-Record : goal.desc_in-returns-in-Record
+desc_in-returns-in-Record t c = search desc-of-record
+
+pub desc_in-returns-in_default : goal.desc_in-returns-in_default
+desc_in-returns-in_default t c = search desc-other
+
+pub desc_record-loop-i-init : goal.desc_record-loop-i-init
+desc_record-loop-i-init t c = (omega arith, rw fields-first refl)
+
+pub desc_record-overflow_add-k : goal.desc_record-overflow_add-k
+desc_record-overflow_add-k t c = omega arith
+
+pub desc_record-overflow_mul-k : goal.desc_record-overflow_mul-k
+desc_record-overflow_mul-k t c = omega arith
+
+pub desc_record-offset_bounds-fields-k : goal.desc_record-offset_bounds-fields-k
+desc_record-offset_bounds-fields-k t c = omega arith
+
+pub desc_record-bounds-fields-k : goal.desc_record-bounds-fields-k
+desc_record-bounds-fields-k t c = omega arith
+
+pub desc_record-overflow_cast-t : goal.desc_record-overflow_cast-t
+desc_record-overflow_cast-t t c = omega (arith, c.type_inv.fields (2 * (c.args.first + c.loop-i.i)))
+
+pub desc_record-overflow_add-c : goal.desc_record-overflow_add-c
+desc_record-overflow_add-c t c = omega arith
+
+pub desc_record-offset_bounds-fields-k-in-loop-i : goal.desc_record-offset_bounds-fields-k-in-loop-i
+desc_record-offset_bounds-fields-k-in-loop-i t c = omega arith
+
+pub desc_record-bounds-fields-k-in-loop-i : goal.desc_record-bounds-fields-k-in-loop-i
+desc_record-bounds-fields-k-in-loop-i t c = omega arith
+
+pub desc_record-overflow_cast-c : goal.desc_record-overflow_cast-c
+desc_record-overflow_cast-c t c = omega (arith, c.type_inv.fields (2 * (c.args.first + c.loop-i.i) + 1))
+
+pub desc_record-desc_in-w-requires : goal.desc_record-desc_in-w-requires
+desc_record-desc_in-w-requires t c = (omega arith, tt)
+
+pub desc_record-returns-in_default : goal.desc_record-returns-in_default
+desc_record-returns-in_default t c = search (desc-stop, on)
+
+pub desc_record-returns-in_default-p : goal.desc_record-returns-in_default-p
+desc_record-returns-in_default-p t c = search (desc-over, on)
+
+pub desc_record-overflow_add-i : goal.desc_record-overflow_add-i
+desc_record-overflow_add-i t c = omega arith
+
+pub desc_record-loop-i-smaller : goal.desc_record-loop-i-smaller
+desc_record-loop-i-smaller t c = omega arith
+
+pub desc_record-loop-i-preserved : goal.desc_record-loop-i-preserved
+desc_record-loop-i-preserved t c = ⊎_elim
+    (λ w. (omega arith, ap (desc_fields _ _) w.9 ∙ desc-more _ _ _ _ _ _ c.loop-i-test.true w.0.taken _ w.1.ensures _ w.3.given.1 _ w.5.ensures _ w.7.given.1 ∙ c.loop-i.invariant.1))
+    (λ w. (omega arith, ap (desc_fields _ _) w.1 ∙ desc-skip _ _ _ _ _ _ c.loop-i-test.true w.0.left ∙ c.loop-i.invariant.1))
+    c.if-c-eq4294967295.branch
+
+pub desc_record-returns : goal.desc_record-returns
+desc_record-returns t c = search (desc-last, on)

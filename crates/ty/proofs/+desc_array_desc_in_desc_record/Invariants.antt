@@ -1,0 +1,21 @@
+use Prim.Native.Nat.{◌+◌, ◌*◌}
+use Prim.Native.Nat.{◌+◌, ◌-◌, ◌*◌, ◌≤◌}
+use mathlib.Core.Path.{◌≡◌}
+use Rattle.ty.specs.Walks.{desc_fields, desc_at}
+use Rattle.ty.specs.View.{types_of, fields_from}
+use Rattle.ty.proofs.+desc_array_desc_in_desc_record.Given as goal
+
+abbrev pub decreases-desc_array : goal.decreases-desc_array
+decreases-desc_array l = 2 * l.levels + 1
+
+abbrev pub decreases-desc_in : goal.decreases-desc_in
+decreases-desc_in l = 2 * l.levels
+
+abbrev pub decreases-desc_record : goal.decreases-desc_record
+decreases-desc_record l = 2 * l.levels + 1
+
+abbrev pub invariant-desc_record-loop-i : goal.invariant-desc_record-loop-i
+invariant-desc_record-loop-i l = (l.i ≤ l.count) × (desc_fields (desc_at (types_of l.types l.fields) l.levels) (fields_from l.fields (l.first + l.i) (l.count - l.i)) l.n ≡ desc_fields (desc_at (types_of l.types l.fields) l.levels) (fields_from l.fields l.first l.count) 0)
+
+abbrev pub decreases-desc_record-loop-i : goal.decreases-desc_record-loop-i
+decreases-desc_record-loop-i l = l.count - l.i

@@ -1,0 +1,78 @@
+use native.Mathlib.Omega.{arith}
+use Rattle.ty.proofs.WalkLaws.{handles-none, handles-missing, handles-access, handles-protected, handles-of-array, handles-of-record, handles-other}
+use Rattle.ty.proofs.Ranges.{record-within}
+use native.Mathlib.Omega.{arith}
+use Prim.Native.Nat.{◌+◌, ◌*◌}
+use mathlib.Core.Path.{refl}
+use Rattle.ty.proofs.Laws.{on}
+use Rattle.ty.proofs.WalkLaws.{fields-first, any_last, any_here, any-more}
+use Rattle.ty.proofs.+handles_in_handles_record.Goals as goal
+
+pub handles_in-returns-then-levels-eq0 : goal.handles_in-returns-then-levels-eq0
+handles_in-returns-then-levels-eq0 t c = search handles-none
+
+pub handles_in-overflow_sub-levels : goal.handles_in-overflow_sub-levels
+handles_in-overflow_sub-levels t c = omega arith
+
+pub handles_in-handles_in-requires : goal.handles_in-handles_in-requires
+handles_in-handles_in-requires t c = (omega arith, tt)
+
+pub handles_in-overflow_sub-levels-in-Record : goal.handles_in-overflow_sub-levels-in-Record
+handles_in-overflow_sub-levels-in-Record t c = omega arith
+
+pub handles_in-handles_record-requires : goal.handles_in-handles_record-requires
+handles_in-handles_record-requires t c = (omega arith, search record-within)
+
+pub handles_in-returns-in-Missing : goal.handles_in-returns-in-Missing
+handles_in-returns-in-Missing t c = search handles-missing
+
+pub handles_in-returns-in-Access : goal.handles_in-returns-in-Access
+handles_in-returns-in-Access t c = search handles-access
+
+pub handles_in-returns-in-Protected : goal.handles_in-returns-in-Protected
+handles_in-returns-in-Protected t c = search handles-protected
+
+pub handles_in-returns-in-Array : goal.handles_in-returns-in-Array
+handles_in-returns-in-Array t c = search handles-of-array
+
+pub handles_in-returns-in-Record : goal.handles_in-returns-in-Record
+handles_in-returns-in-Record t c = search handles-of-record
+
+pub handles_in-returns-in_default : goal.handles_in-returns-in_default
+handles_in-returns-in_default t c = search handles-other
+
+pub handles_record-loop-i-init : goal.handles_record-loop-i-init
+handles_record-loop-i-init t c = (omega arith, rw fields-first refl)
+
+pub handles_record-overflow_add-k : goal.handles_record-overflow_add-k
+handles_record-overflow_add-k t c = omega arith
+
+pub handles_record-overflow_mul-k : goal.handles_record-overflow_mul-k
+handles_record-overflow_mul-k t c = omega arith
+
+pub handles_record-offset_bounds-fields-k : goal.handles_record-offset_bounds-fields-k
+handles_record-offset_bounds-fields-k t c = omega arith
+
+pub handles_record-bounds-fields-k : goal.handles_record-bounds-fields-k
+handles_record-bounds-fields-k t c = omega arith
+
+pub handles_record-overflow_cast-t : goal.handles_record-overflow_cast-t
+handles_record-overflow_cast-t t c = omega (arith, c.type_inv.fields (2 * (c.args.first + c.loop-i.i)))
+
+pub handles_record-handles_in-requires : goal.handles_record-handles_in-requires
+handles_record-handles_in-requires t c = (omega arith, tt)
+
+pub handles_record-returns-then-handles_in : goal.handles_record-returns-then-handles_in
+handles_record-returns-then-handles_in t c = search (any_here, on)
+
+pub handles_record-overflow_add-i : goal.handles_record-overflow_add-i
+handles_record-overflow_add-i t c = omega arith
+
+pub handles_record-loop-i-smaller : goal.handles_record-loop-i-smaller
+handles_record-loop-i-smaller t c = omega arith
+
+pub handles_record-loop-i-preserved : goal.handles_record-loop-i-preserved
+handles_record-loop-i-preserved t c = (omega arith, search (any-more, on))
+
+pub handles_record-returns : goal.handles_record-returns
+handles_record-returns t c = search (any_last, on)

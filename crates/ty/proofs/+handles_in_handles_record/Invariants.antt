@@ -1,0 +1,18 @@
+use Prim.Native.Nat.{◌+◌, ◌*◌}
+use Prim.Native.Nat.{◌+◌, ◌-◌, ◌*◌, ◌≤◌}
+use mathlib.Core.Path.{◌≡◌}
+use Rattle.ty.specs.Walks.{any_field, handles_at}
+use Rattle.ty.specs.View.{types_of, fields_from}
+use Rattle.ty.proofs.+handles_in_handles_record.Given as goal
+
+abbrev pub decreases-handles_in : goal.decreases-handles_in
+decreases-handles_in l = 2 * l.levels
+
+abbrev pub decreases-handles_record : goal.decreases-handles_record
+decreases-handles_record l = 2 * l.levels + 1
+
+abbrev pub invariant-handles_record-loop-i : goal.invariant-handles_record-loop-i
+invariant-handles_record-loop-i l = (l.i ≤ l.count) × (any_field (handles_at (types_of l.types l.fields) l.levels) (fields_from l.fields (l.first + l.i) (l.count - l.i)) ≡ any_field (handles_at (types_of l.types l.fields) l.levels) (fields_from l.fields l.first l.count))
+
+abbrev pub decreases-handles_record-loop-i : goal.decreases-handles_record-loop-i
+decreases-handles_record-loop-i l = l.count - l.i

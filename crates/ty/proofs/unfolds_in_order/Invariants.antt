@@ -1,0 +1,12 @@
+-- `ty::unfolds_in_order` meets its contract.
+use Prim.Native.Nat.{◌-◌, ◌/◌}
+use lib.ListN.{length}
+use Rattle.ty.specs.View.{types_of}
+use Rattle.ty.proofs.BoundLaws.{Bounded}
+use Rattle.ty.proofs.unfolds_in_order.Given as goal
+
+abbrev pub invariant-loop-i : goal.invariant-loop-i
+invariant-loop-i l = Bounded (types_of l.types l.fields) (length l.types / 4) l.initial.counts l.counts l.i
+
+abbrev pub decreases-loop-i : goal.decreases-loop-i
+decreases-loop-i l = l.n - l.i

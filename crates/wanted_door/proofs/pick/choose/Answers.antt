@@ -1,0 +1,40 @@
+use mathlib.Core.Path.{◌∙◌}
+use native.Mathlib.Omega.{arith}
+use Rattle.wanted_door.proofs.Goings.{down-first, down-stuck, down-next, down-end}
+use Rattle.wanted_door.proofs.pick.choose.Goals as goal
+
+pub loop-k-init : goal.loop-k-init
+loop-k-init c = down-first _ _ _ _ _ _ c.requires.1.0
+
+pub offset_bounds-wanted-k : goal.offset_bounds-wanted-k
+offset_bounds-wanted-k c = omega (arith, c.loop-k.invariant.within, c.loop-k-test.true)
+
+pub bounds-wanted-k : goal.bounds-wanted-k
+bounds-wanted-k c = omega (arith, c.loop-k.invariant.within, c.loop-k-test.true)
+
+pub again-r-requires : goal.again-r-requires
+again-r-requires c = (c.requires.0, (c.loop-k.invariant.scratch, c.requires.1.1 _ (omega (arith, c.loop-k.invariant.within, c.loop-k-test.true))))
+
+pub shape_of-marks-in_default : goal.shape_of-marks-in_default
+shape_of-marks-in_default c = c.again-r.auto.1.1.1.1.1.1.1.1.1.1.1.0 ∙ c.loop-k.invariant.long
+
+pub shape_of-work-in_default : goal.shape_of-work-in_default
+shape_of-work-in_default c = c.again-r.auto.1.1.1.1.1.1.1.1.1.1.1.1.0 ∙ c.loop-k.invariant.words
+
+pub returns-in_default : goal.returns-in_default
+returns-in_default c = down-stuck _ _ _ _ _ _ _ _ _ _ c.loop-k.invariant c.loop-k-test.true _ _ _ c.again-r.ensures c.in_default.is
+
+pub loop-k-smaller : goal.loop-k-smaller
+loop-k-smaller c = omega (arith, c.loop-k-test.true)
+
+pub loop-k-preserved : goal.loop-k-preserved
+loop-k-preserved c = down-next _ _ _ _ _ _ _ _ _ _ c.loop-k.invariant c.loop-k-test.true _ _ _ c.again-r.ensures _ c.in-Traced.is c.again-r.auto.1.1.1.1.1.1.1.1.1.1.1.0 c.again-r.auto.1.1.1.1.1.1.1.1.1.1.1.1.0
+
+pub shape_of-marks : goal.shape_of-marks
+shape_of-marks c = c.loop-k.invariant.long
+
+pub shape_of-work : goal.shape_of-work
+shape_of-work c = c.loop-k.invariant.words
+
+pub returns : goal.returns
+returns c = down-end _ _ _ _ _ _ _ _ _ _ c.loop-k.invariant c.loop-k-test.false

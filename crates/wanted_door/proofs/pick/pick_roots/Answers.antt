@@ -1,0 +1,17 @@
+-- `wanted_door::pick::pick_roots` meets its contract.
+use mathlib.Core.Path.{sym}
+use borrow.Author.Tests.{not-true, not-false}
+use Rattle.word.proofs.Bools.{true-false}
+use Rattle.ty.specs.View.{table_of}
+use Rattle.mark.specs.Graph.{graph_in}
+use Rattle.wanted_door.proofs.Searches.{room_after, pick-none, pick-done}
+use Rattle.wanted_door.proofs.pick.pick_roots.Goals as goal
+
+pub returns-then-not-can_keep : goal.returns-then-not-can_keep
+returns-then-not-can_keep c = (pick-none (graph_in (table_of c.args.types.now c.args.fields.now c.args.consts.now c.args.bytes.now) c.args.tag c.args.slots c.args.s c.args.narrow.now c.args.wide.now c.args.pool.now) c.args.slots c.args.sealed.now c.args.pins.now c.args.wanted.now c.args.work.now c.can_keep.result c.can_keep.new.1.1.1.1.1.1.1.1.1.1.1.1.1.1.0 c.can_keep.ensures.0 (not-true _ c.if-not-can_keep.true), λ e. absurd (true-false (sym e)))
+
+pub choose_roots-requires : goal.choose_roots-requires
+choose_roots-requires c = (c.requires.0, (room_after _ _ _ _ _ c.requires.1 c.can_keep.auto.1.1.1.1.1.1.1.1.1.1.1.1.1.0 c.can_keep.auto.1.1.1.1.1.1.1.1.1.1.1.1.1.1.0, c.can_keep.ensures.1 (not-false _ c.if-not-can_keep.false)))
+
+pub returns : goal.returns
+returns c = (pick-done (graph_in (table_of c.args.types.now c.args.fields.now c.args.consts.now c.args.bytes.now) c.args.tag c.args.slots c.args.s c.args.narrow.now c.args.wide.now c.args.pool.now) c.args.slots c.args.sealed.now c.args.pins.now c.args.wanted.now c.args.work.now c.can_keep.result c.can_keep.new.1.1.1.1.1.1.1.1.1.1.1.1.1.1.0 c.can_keep.ensures.0 (not-false _ c.if-not-can_keep.false) c.choose_roots.result c.choose_roots.new.1.1.1.1.1.1.1.1.1.1.1.1.1.1.0 c.choose_roots.ensures, λ e. c.can_keep.ensures.1 (not-false _ c.if-not-can_keep.false))

@@ -1,0 +1,9 @@
+-- `yexwalu::handles::yexwalu_slot_roots` meets its contract.
+use Rattle.yexwalu.proofs.HandleCalls.{roots-refused, roots-passed}
+use Rattle.yexwalu.proofs.handles.yexwalu_slot_roots.Goals as goal
+
+pub returns-then-not-check_table : goal.returns-then-not-check_table
+returns-then-not-check_table c = roots-refused _ _ _ _ c.check_table.ensures c.if-not-check_table.true c.numbers.ensures _ _ _
+
+pub returns : goal.returns
+returns c = roots-passed _ _ _ _ c.check_table.ensures c.if-not-check_table.false c.numbers-2.ensures c.list_roots-reply.ensures

@@ -1,0 +1,10 @@
+-- `yexwalu::live::tracked` meets its contract.
+use mathlib.Core.Path.{sym, ap}
+use Rattle.yexwalu.specs.Live.{asked}
+use Rattle.yexwalu.proofs.live.tracked.Goals as goal
+
+pub returns-then-all : goal.returns-then-all
+returns-then-all c = ap asked (sym c.if-all.true)
+
+pub returns : goal.returns
+returns c = ap asked (sym c.if-all.false)
