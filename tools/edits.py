@@ -1,87 +1,85 @@
 #!/usr/bin/env python3
 """Reads each crates/NAME/must-fail/*.edit, and says where an edit no longer fits the file that it changes.
 
-usage: python3 tools/edits.py [NAME..]        at the top of the repository
+usage: python3 tools/edits.py [--show] [NAME..]        at the top of the repository
 
-Applies the pairs of an edit in turn to a copy of the text. Told are: a file that is missing or outside the crate's src/ and specs/,
+Applies the pairs of an edit in turn to a copy of the text, as `rt` does. Told are: a file that is missing or outside src/, specs/ and proofs/,
 an `old:` that does not stand or stands more than once, a `new:` that is the same text, an edit with no pair, and a pair cut in half.
-Whether the check refuses an edit is for `rt must-fail` to say. Ends with status 1 if anything is told.
+`--show` prints each line that an edit makes, with its place. Whether the check refuses an edit is for `rt must-fail` to say. Ends with status 1 if
+anything is told.
 """
 import glob
 import os
 import sys
 
 
-def value(line, word):
-    """What follows `word:` and one space."""
-    text = line[len(word) + 1 :]
-    return text[1:] if text.startswith(" ") else text
-
-
-def pairs_of(path):
-    """The file that an edit names, its pairs and what is wrong with its lines."""
-    name, old, pairs, wrong = None, None, [], []
+def steps_of(path):
+    """The pairs of an edit, each with its file, and what is wrong with its lines."""
+    name, old, steps, wrong = None, None, [], []
     with open(path, encoding="utf-8") as f:
         lines = f.read().split("\n")
     for line in lines:
-        if line.startswith("file:"):
-            if name is not None:
-                wrong.append("a second line file:")
-            name = value(line, "file").strip()
-        elif line.startswith("old:"):
+        if line.startswith("file: "):
+            name = line[len("file: ") :].strip()
+        elif line.startswith("old: "):
             if old is not None:
-                wrong.append("old: with no new: after it")
-            old = value(line, "old")
+                wrong.append("an old: with no new: after it")
+            old = line[len("old: ") :]
         elif line.startswith("new:"):
-            if old is None:
-                wrong.append("new: with no old: before it")
+            if name is None or not old:
+                wrong.append("a new: before any file: or old:")
             else:
-                pairs.append((old, value(line, "new")))
+                steps.append((name, old, line[len("new:") :].removeprefix(" ")))
             old = None
     if old is not None:
-        wrong.append("old: with no new: after it")
-    if name is None:
-        wrong.append("no line file:")
-    if not pairs:
+        wrong.append("an old: with no new: after it")
+    if not steps and not wrong:
         wrong.append("no pair")
-    return name, pairs, wrong
+    return steps, wrong
 
 
-def told(path):
+def told(path, show):
     """What is wrong with one edit, a list of lines."""
-    name, pairs, wrong = pairs_of(path)
+    steps, wrong = steps_of(path)
     if wrong:
         return wrong
     crate = os.path.dirname(os.path.dirname(path))
-    target = os.path.join(crate, name)
-    if not name.startswith(("src/", "specs/")) or ".." in name:
-        return [f"{name}: not in src/ or specs/"]
-    if not os.path.isfile(target):
-        return [f"{name}: no such file"]
-    with open(target, encoding="utf-8") as f:
-        text = f.read()
-    for old, new in pairs:
-        count = text.count(old)
-        if not old.strip():
-            wrong.append(f"{name}: old: is empty")
+    texts = {}
+    for name, old, new in steps:
+        if os.path.normpath(name) != name or not name.startswith(("src/", "specs/", "proofs/")):
+            wrong.append(f"{name}: not below src/, specs/ or proofs/")
+            continue
+        target = f"{crate}/{name}"
+        if name not in texts:
+            if not os.path.isfile(target):
+                wrong.append(f"{name}: no such file")
+                continue
+            with open(target, encoding="utf-8") as f:
+                texts[name] = f.read()
+        count = texts[name].count(old)
+        if count != 1:
+            wrong.append(f"{name}: stands {count} times: {old}")
         elif old == new:
             wrong.append(f"{name}: new: is old: {old}")
-        elif count == 0:
-            wrong.append(f"{name}: does not stand: {old}")
-        elif count > 1:
-            wrong.append(f"{name}: stands {count} times: {old}")
         else:
-            text = text.replace(old, new)
+            at = texts[name].index(old)
+            texts[name] = texts[name].replace(old, new)
+            if show:
+                row = texts[name].count("\n", 0, at)
+                print(f"{path}: {name}:{row + 1}: {texts[name].split(chr(10))[row].strip()}")
     return wrong
 
 
 def main():
+    words = sys.argv[1:]
+    show = "--show" in words
+    names = [it for it in words if it != "--show"]
     paths = sorted(glob.glob("crates/*/must-fail/*.edit"))
-    if sys.argv[1:]:
-        paths = [p for p in paths if p.split("/")[1] in sys.argv[1:]]
+    if names:
+        paths = [it for it in paths if it.split("/")[1] in names]
     bad = 0
     for path in paths:
-        lines = told(path)
+        lines = told(path, show)
         bad += bool(lines)
         for line in lines:
             print(f"{path}: {line}")
