@@ -30,7 +30,7 @@ fn admit(
 ) -> Entry
     ensures { Entered (words.old ∷ marks.old ∷ work.old ∷ [])
         (rehearse_tests
-        (record { types = types.entry.now; fields = fields.now; consts = consts.now; bytes = bytes.now; text = text.now; thresholds = thresholds.now })
+        (record { types = types.now; fields = fields.now; consts = consts.now; bytes = bytes.now; text = text.now; thresholds = thresholds.now })
         (length narrow.now) (length wide.now) (length pool.now) (length out.now)
         (length words.old) (length marks.old) (length work.old))
         result (words.new ∷ marks.new ∷ work.new ∷ []) }
@@ -86,11 +86,11 @@ pub extern "C" fn yexwalu_rehearse(
         (lent result.heap narrow.new wide.new pool.new)
         (words.new ∷ marks.new ∷ work.new ∷ [])) out.new
         ≡ rehearse_call
-        (record { types = types.entry.now; fields = fields.now; consts = consts.now; bytes = bytes.now; text = text.now; thresholds = thresholds.now })
+        (record { types = types.now; fields = fields.now; consts = consts.now; bytes = bytes.now; text = text.now; thresholds = thresholds.now })
         (lent heap narrow.old wide.old pool.old) (length narrow.old) (length wide.old)
         out.old words.old marks.old work.old }
     ensures plain_lines { PlainLines
-        (record { types = types.entry.now; fields = fields.now; consts = consts.now; bytes = bytes.now; text = text.now; thresholds = thresholds.now })
+        (record { types = types.now; fields = fields.now; consts = consts.now; bytes = bytes.now; text = text.now; thresholds = thresholds.now })
         (length narrow.old) (length pool.old) result.answer out.old out.new }
 {
     match admit(

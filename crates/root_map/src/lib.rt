@@ -258,7 +258,7 @@ pub fn live_refs(
     regs: &mut [u32],
     s: &mut [u64],
 ) -> Reply
-    ensures { LiveRefsCall (record { kinds = kinds.entry.now; ends = ends.now; refs = refs.now; blocks = blocks.now; classes = classes.now })
+    ensures { LiveRefsCall (record { kinds = kinds.now; ends = ends.now; refs = refs.now; blocks = blocks.now; classes = classes.now })
         (wanted which) pcs.old bounds.old regs.old s.old pcs.new bounds.new regs.new s.new (told result) }
 {
     let words = (classes.len() + 63) / 64;

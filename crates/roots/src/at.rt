@@ -97,7 +97,7 @@ pub fn live_at(
     regs: &mut [u32],
     rows: &mut [u64],
 ) -> Reply
-    ensures { LiveAtCall (record { kinds = kinds.entry.now; ends = ends.now; refs = refs.now; blocks = blocks.now; classes = classes.now })
+    ensures { LiveAtCall (record { kinds = kinds.now; ends = ends.now; refs = refs.now; blocks = blocks.now; classes = classes.now })
         (wanted which) pc regs.old rows.old regs.new rows.new (told result) }
 {
     let words = (classes.len() + 63) / 64;

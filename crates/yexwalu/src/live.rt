@@ -34,7 +34,7 @@ pub extern "C" fn yexwalu_live_at(
     rows: &mut [u64],
 ) -> Answer
     ensures { LiveAtCall
-        (record { kinds = kinds.entry.now; ends = ends.now; refs = refs.now; blocks = blocks.now; classes = classes.now })
+        (record { kinds = kinds.now; ends = ends.now; refs = refs.now; blocks = blocks.now; classes = classes.now })
         (asked all) pc regs.old rows.old regs.new rows.new result }
 {
     let which = tracked(all);
@@ -58,7 +58,7 @@ pub extern "C" fn yexwalu_live_refs(
     rows: &mut [u64],
 ) -> Answer
     ensures { LiveRefsCall
-        (record { kinds = kinds.entry.now; ends = ends.now; refs = refs.now; blocks = blocks.now; classes = classes.now })
+        (record { kinds = kinds.now; ends = ends.now; refs = refs.now; blocks = blocks.now; classes = classes.now })
         (asked all) pcs.old bounds.old regs.old rows.old
         pcs.new bounds.new regs.new rows.new result }
 {

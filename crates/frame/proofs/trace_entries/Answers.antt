@@ -3,6 +3,7 @@ use mathlib.Core.Path.{refl}
 use native.Mathlib.Omega.{arith}
 use Rattle.frame.proofs.FrameLaws.{entries-end, entries-fail, entries-more}
 use borrow.Author.Rules.{rules}
+use borrow.Enum.Refused.{opened}
 use Rattle.frame.proofs.trace_entries.Goals as goal
 
 pub loop-at-init : goal.loop-at-init
@@ -39,7 +40,7 @@ pub overflow_cast-t : goal.overflow_cast-t
 overflow_cast-t c = omega (arith, c.type_inv.map (c.loop-at.at + 2))
 
 pub returns-in_default : goal.returns-in_default
-returns-in_default c = search entries-fail
+returns-in_default c = let k2 = opened c.in_default.in_default-own.keys2 in search entries-fail
 
 pub overflow_add-at : goal.overflow_add-at
 overflow_add-at c = omega (arith, c.loop-at-test.true, c.loop-at.invariant.0, c.loop-at.invariant.1, c.requires.0, c.well_formed)

@@ -1,18 +1,22 @@
 use native.Mathlib.Omega.{arith}
 use Rattle.layout.proofs.LayLaws.{array-bad, array-large, array-none, array-some, rest-word, dims-fit, dims-word}
+use borrow.Enum.Refused.{opened}
 use native.Mathlib.Omega.{arith}
 use Rattle.layout.proofs.LayLaws.{below-zero, below_rest, below-nowhere, below-const}
 use Rattle.ty.proofs.Ranges.{part-start, part_end}
+use borrow.Enum.Refused.{opened}
 use native.Mathlib.Omega.{arith}
 use Rattle.layout.proofs.LayLaws.{below-zero, below-scalar}
 use native.Mathlib.Omega.{arith}
 use Rattle.layout.proofs.LayLaws.{in_array, in-record, in-scalar}
 use Rattle.ty.proofs.Ranges.{record-within}
+use borrow.Enum.Refused.{opened}
 use native.Mathlib.Omega.{arith}
 use Prim.Native.Nat.{◌+◌, ◌*◌}
 use Rattle.layout.proofs.LayLaws.{record-last, record-none, record-over, record-more, record-first, rest-used, rest-word}
 use Rattle.layout.specs.Layout.{record_of}
 use Rattle.ty.specs.View.{fields_from}
+use borrow.Enum.Refused.{opened}
 use Rattle.layout.proofs.+layout_array_layout_below_layout_field_layout_in_layout_record.Goals as goal
 
 pub layout_array-returns-in-Bad : goal.layout_array-returns-in-Bad
@@ -34,7 +38,7 @@ pub layout_array-layout_below-el-requires : goal.layout_array-layout_below-el-re
 layout_array-layout_below-el-requires t c = (omega arith, tt)
 
 pub layout_array-returns-in_default : goal.layout_array-returns-in_default
-layout_array-returns-in_default t c = search array-none
+layout_array-returns-in_default t c = let k2 = opened c.in_default.in_default-own.keys2 in search array-none
 
 pub layout_array-overflow_add-at : goal.layout_array-overflow_add-at
 layout_array-overflow_add-at t c = record { fits = search (rest-word, dims-fit, c.well_formed) }
@@ -55,7 +59,7 @@ pub layout_below-returns-then-c-eq4294967295 : goal.layout_below-returns-then-c-
 layout_below-returns-then-c-eq4294967295 t c = search below_rest
 
 pub layout_below-returns-in_default : goal.layout_below-returns-in_default
-layout_below-returns-in_default t c = search below-nowhere
+layout_below-returns-in_default t c = let k2 = opened c.in_default.in_default-own.keys2 in search below-nowhere
 
 pub layout_below-slice_bounds-layout_in-count : goal.layout_below-slice_bounds-layout_in-count
 layout_below-slice_bounds-layout_in-count t c = search part-start
@@ -97,7 +101,7 @@ pub layout_in-returns-in-Record : goal.layout_in-returns-in-Record
 layout_in-returns-in-Record t c = search in-record
 
 pub layout_in-returns-in_default : goal.layout_in-returns-in_default
-layout_in-returns-in_default t c = search in-scalar
+layout_in-returns-in_default t c = let k3 = opened c.in_default.in_default-own.keys3 in search in-scalar
 
 pub layout_record-loop-i-init : goal.layout_record-loop-i-init
 layout_record-loop-i-init t c = (omega arith, omega arith, record-first _ _ _ _ _ _ _ _)
@@ -139,10 +143,10 @@ pub layout_record-layout_field-fl-requires : goal.layout_record-layout_field-fl-
 layout_record-layout_field-fl-requires t c = (omega arith, tt)
 
 pub layout_record-returns-in_default : goal.layout_record-returns-in_default
-layout_record-returns-in_default t c = search record-none
+layout_record-returns-in_default t c = let k2 = opened c.in_default.in_default-own.keys2 in search record-none
 
 pub layout_record-returns-in_default-w : goal.layout_record-returns-in_default-w
-layout_record-returns-in_default-w t c = search record-over
+layout_record-returns-in_default-w t c = let k2 = opened c.in_default-w.in_default-w-own.keys2 in search record-over
 
 pub layout_record-overflow_add-used : goal.layout_record-overflow_add-used
 layout_record-overflow_add-used t c = record { fits = search (rest-word, c.well_formed) }

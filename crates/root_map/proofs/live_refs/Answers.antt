@@ -60,7 +60,7 @@ write_map-requires c = let l : Lent = record { kinds = c.args.kinds.now; ends = 
     let fit = formed-fit c.args.kinds.now c.args.ends.now c.args.refs.now c.args.blocks.now c.args.classes.now good in record { classes_value = good; nb_value = (refl, omega (arith, room, need-is (length c.args.blocks.now / 2) ((length c.args.classes.now + 63) / 64), c.analyse.ensures.0, c.count_map-c.ensures.frame.kept), omega arith, omega (arith, fit.class-count), fit.code-count, c.chain.ensures); fixed = fixed_out c.analyse.ensures.1 c.count_map-c.ensures.frame; fits = room_for l (wanted c.args.which) _ _ _ c.args.s.now good c.count_map-c.ensures c.short.ensures c.if-short.false }
 
 pub shape_of-s : goal.shape_of-s
-shape_of-s c = c.clear_u64-2.auto.0 ∙ c.write_map.ensures.frame.kept ∙ c.count_map-c.ensures.frame.kept ∙ c.analyse.ensures.0
+shape_of-s c = c.clear_u64-2.auto.dst ∙ c.write_map.ensures.frame.kept ∙ c.count_map-c.ensures.frame.kept ∙ c.analyse.ensures.0
 
 pub returns : goal.returns
 returns c = let l : Lent = record { kinds = c.args.kinds.now; ends = c.args.ends.now; refs = c.args.refs.now; blocks = c.args.blocks.now; classes = c.args.classes.now } in

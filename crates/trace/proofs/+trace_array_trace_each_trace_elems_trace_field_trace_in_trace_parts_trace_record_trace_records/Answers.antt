@@ -1,10 +1,12 @@
 use Rattle.trace.proofs.TraceLaws.{array-none, array-fits, array-word, array-some}
 use borrow.Author.Rules.{rules}
 use native.Mathlib.Omega.{arith}
+use borrow.Enum.Refused.{opened}
 use Rattle.trace.proofs.Emits.{elems-end, elems-beyond, elems-fail, elems-next, turns-fall}
 use borrow.Author.Rules.{rules}
 use native.Mathlib.Omega.{arith}
 use mathlib.Core.Path.{refl}
+use borrow.Enum.Refused.{opened}
 use Rattle.trace.proofs.TraceLaws.{looked-records}
 use Rattle.ty.proofs.Ranges.{record-within}
 use borrow.Author.Rules.{rules}
@@ -17,23 +19,27 @@ use Rattle.trace.proofs.TraceLaws.{in-zero, in-plain, in-missing, in-access, in-
 use Rattle.ty.proofs.Ranges.{record-within}
 use borrow.Author.Rules.{rules}
 use native.Mathlib.Omega.{arith}
+use borrow.Enum.Refused.{opened}
 use Rattle.trace.proofs.TraceLaws.{parts-rest, parts-end, parts-nowhere, parts-const}
 use Rattle.ty.proofs.Ranges.{part-start, part_end}
 use borrow.Author.Rules.{rules}
 use native.Mathlib.Omega.{arith}
+use borrow.Enum.Refused.{opened}
 use Rattle.trace.proofs.TraceLaws.{walk_first, fields-end, fields-over, field-unplaced, field-used, field-word, field-beyond, field-fail, field_next}
 use borrow.Author.Rules.{rules}
 use native.Mathlib.Omega.{arith}
 use Prim.Native.Nat.{◌+◌, ◌*◌}
 use mathlib.Core.Path.{refl}
+use borrow.Enum.Refused.{opened}
 use Rattle.trace.proofs.Emits.{elems-end, elems-beyond, elems-fail, elems-next, turns-fall}
 use borrow.Author.Rules.{rules}
 use native.Mathlib.Omega.{arith}
 use mathlib.Core.Path.{refl}
+use borrow.Enum.Refused.{opened}
 use Rattle.trace.proofs.+trace_array_trace_each_trace_elems_trace_field_trace_in_trace_parts_trace_record_trace_records.Goals as goal
 
 pub trace_array-returns-in_default : goal.trace_array-returns-in_default
-trace_array-returns-in_default t c = array-none _ _ _ _ _ _ _ _ _ _ _ _ _ c.layout_array-l.ensures c.in_default.in_default-own.keys2
+trace_array-returns-in_default t c = array-none _ _ _ _ _ _ _ _ _ _ _ _ _ c.layout_array-l.ensures (opened c.in_default.in_default-own.keys2)
 
 pub trace_array-overflow_mul-skip : goal.trace_array-overflow_mul-skip
 trace_array-overflow_mul-skip t c = record { fits = search (array-word, c.well_formed) }
@@ -60,7 +66,7 @@ pub trace_each-trace_in-r-requires : goal.trace_each-trace_in-r-requires
 trace_each-trace_in-r-requires t c = (omega arith, (c.requires.0, omega arith, c.requires.1))
 
 pub trace_each-returns-in_default : goal.trace_each-returns-in_default
-trace_each-returns-in_default t c = search elems-fail
+trace_each-returns-in_default t c = let k2 = opened c.in_default.in_default-own.keys2 in search elems-fail
 
 pub trace_each-overflow_sub-k : goal.trace_each-overflow_sub-k
 trace_each-overflow_sub-k t c = omega arith
@@ -141,7 +147,7 @@ pub trace_in-returns-in-Protected : goal.trace_in-returns-in-Protected
 trace_in-returns-in-Protected t c = in-protected _ _ _ _ _ _ _ _ _ _ _ c.if-left-eq0.false _ c.requires.0 c.if-not-holds.false _ c.ty_at-e.ensures c.in-Protected.is c.trace_word-in-Protected.result c.trace_word-in-Protected.new.to.1.1.1.1.1.1.0 c.trace_word-in-Protected.new.to.1.1.1.1.1.1.1.0 c.trace_word-in-Protected.ensures
 
 pub trace_in-returns-in_default : goal.trace_in-returns-in_default
-trace_in-returns-in_default t c = in-other _ _ _ _ _ _ _ _ _ _ _ c.if-left-eq0.false _ c.requires.0 c.if-not-holds.false _ c.ty_at-e.ensures c.in_default.in_default-own.keys6
+trace_in-returns-in_default t c = in-other _ _ _ _ _ _ _ _ _ _ _ c.if-left-eq0.false _ c.requires.0 c.if-not-holds.false _ c.ty_at-e.ensures (opened c.in_default.in_default-own.keys6)
 
 pub trace_parts-trace_elems-requires : goal.trace_parts-trace_elems-requires
 trace_parts-trace_elems-requires t c = (omega arith, (c.requires.0, c.requires.1))
@@ -153,7 +159,7 @@ pub trace_parts-returns-then-count-eq0 : goal.trace_parts-returns-then-count-eq0
 trace_parts-returns-then-count-eq0 t c = search parts-end
 
 pub trace_parts-returns-in_default : goal.trace_parts-returns-in_default
-trace_parts-returns-in_default t c = search parts-nowhere
+trace_parts-returns-in_default t c = let k2 = opened c.in_default.in_default-own.keys2 in search parts-nowhere
 
 pub trace_parts-slice_bounds-trace_elems-count : goal.trace_parts-slice_bounds-trace_elems-count
 trace_parts-slice_bounds-trace_elems-count t c = search part-start
@@ -204,7 +210,7 @@ pub trace_record-place_field-fl-requires : goal.trace_record-place_field-fl-requ
 trace_record-place_field-fl-requires t c = omega arith
 
 pub trace_record-returns-in_default : goal.trace_record-returns-in_default
-trace_record-returns-in_default t c = search field-unplaced
+trace_record-returns-in_default t c = let k2 = opened c.in_default.in_default-own.keys2 in search field-unplaced
 
 pub trace_record-overflow_sub-data : goal.trace_record-overflow_sub-data
 trace_record-overflow_sub-data t c = omega arith
@@ -234,7 +240,7 @@ pub trace_record-loop-i-preserved : goal.trace_record-loop-i-preserved
 trace_record-loop-i-preserved t c = (omega (arith, c.loop-i-test.true), field-used _ _ _ _ _ _ _ _ _ _ _ _ _ _ _ _ _ c.loop-i.invariant.2 c.loop-i-test.true _ c.place_field-fl.ensures _ _ _ _ c.in-At.is c.loop-i.invariant.1 _ c.used_by-used.ensures, field_next _ _ _ _ _ _ _ _ _ _ _ _ _ _ _ _ _ c.loop-i.invariant.2 c.loop-i-test.true _ c.place_field-fl.ensures _ _ _ _ c.in-At.is c.requires.1 c.if-data-at.false c.trace_field-r.result c.trace_field-r.new.to.1.1.1.1.1.1.1.1.1.1.1.1.1.1.1.0 c.trace_field-r.new.to.1.1.1.1.1.1.1.1.1.1.1.1.1.1.1.1.0 c.trace_field-r.ensures _ c.in-Traced.is _ c.larger-align.ensures _ c.used_by-used.ensures, omega (arith, c.loop-i.invariant.3), omega (arith, c.loop-i.invariant.4))
 
 pub trace_record-returns-in_default-z : goal.trace_record-returns-in_default-z
-trace_record-returns-in_default-z t c = search fields-over
+trace_record-returns-in_default-z t c = let k2 = opened c.in_default-z.in_default-z-own.keys2 in search fields-over
 
 pub trace_record-returns : goal.trace_record-returns
 trace_record-returns t c = search fields-end
@@ -249,7 +255,7 @@ pub trace_records-trace_record-r-requires : goal.trace_records-trace_record-r-re
 trace_records-trace_record-r-requires t c = (omega arith, (c.requires.0, omega arith, c.requires.1))
 
 pub trace_records-returns-in_default : goal.trace_records-returns-in_default
-trace_records-returns-in_default t c = search elems-fail
+trace_records-returns-in_default t c = let k2 = opened c.in_default.in_default-own.keys2 in search elems-fail
 
 pub trace_records-overflow_sub-k : goal.trace_records-overflow_sub-k
 trace_records-overflow_sub-k t c = omega arith

@@ -1,10 +1,11 @@
 -- `trace::list_value` meets its contract.
 use native.Mathlib.Omega.{arith}
 use Rattle.trace.proofs.ListLaws.{list-failed, list-short, list_wrote}
+use borrow.Enum.Refused.{opened}
 use Rattle.trace.proofs.list_value.Goals as goal
 
 pub returns-in_default : goal.returns-in_default
-returns-in_default c = search list-failed
+returns-in_default c = let k2 = opened c.in_default.in_default-own.keys2 in search list-failed
 
 pub returns-then-limit-n : goal.returns-then-limit-n
 returns-then-limit-n c = search list-short

@@ -5,6 +5,7 @@ use Rattle.ty.specs.Walks.{desc_array}
 use native.Mathlib.Omega.{arith}
 use Rattle.ty.proofs.WalkLaws.{desc-none, desc-missing, desc-of-array, desc-of-record, desc-other}
 use Rattle.ty.proofs.Ranges.{record-within}
+use borrow.Enum.Refused.{opened}
 use native.Mathlib.Omega.{arith}
 use Prim.Native.Nat.{◌+◌, ◌*◌}
 use mathlib.Core.Path.{refl, ap, ◌∙◌}
@@ -12,6 +13,7 @@ use mathlib.Core.Logic.{⊎_elim}
 use Rattle.ty.proofs.Laws.{on}
 use Rattle.ty.proofs.WalkLaws.{fields-first, desc-last, desc-skip, desc-stop, desc-over, desc-more}
 use Rattle.ty.specs.Walks.{desc_fields}
+use borrow.Enum.Refused.{opened}
 use Rattle.ty.proofs.+desc_array_desc_in_desc_record.Goals as goal
 
 pub desc_array-returns-in_default : goal.desc_array-returns-in_default
@@ -58,7 +60,7 @@ pub desc_in-returns-in-Record : goal.desc_in-returns-in-Record
 desc_in-returns-in-Record t c = search desc-of-record
 
 pub desc_in-returns-in_default : goal.desc_in-returns-in_default
-desc_in-returns-in_default t c = search desc-other
+desc_in-returns-in_default t c = let k4 = opened c.in_default.in_default-own.keys4 in search desc-other
 
 pub desc_record-loop-i-init : goal.desc_record-loop-i-init
 desc_record-loop-i-init t c = (omega arith, rw fields-first refl)
@@ -94,10 +96,10 @@ pub desc_record-desc_in-w-requires : goal.desc_record-desc_in-w-requires
 desc_record-desc_in-w-requires t c = (omega arith, tt)
 
 pub desc_record-returns-in_default : goal.desc_record-returns-in_default
-desc_record-returns-in_default t c = search (desc-stop, on)
+desc_record-returns-in_default t c = let k2 = opened c.in_default.in_default-own.keys2 in search (desc-stop, on)
 
 pub desc_record-returns-in_default-p : goal.desc_record-returns-in_default-p
-desc_record-returns-in_default-p t c = search (desc-over, on)
+desc_record-returns-in_default-p t c = let k2 = opened c.in_default-p.in_default-p-own.keys2 in search (desc-over, on)
 
 pub desc_record-overflow_add-i : goal.desc_record-overflow_add-i
 desc_record-overflow_add-i t c = omega arith

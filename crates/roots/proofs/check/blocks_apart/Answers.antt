@@ -45,7 +45,7 @@ pub loop-b-smaller : goal.loop-b-smaller
 loop-b-smaller c = omega arith
 
 pub loop-b-preserved : goal.loop-b-preserved
-loop-b-preserved c = held_on c.loop-b.invariant _ _ _ c.loop-b-test.true c.wide-st.ensures c.wide-e.ensures c.mark_block.auto.0 (marked-is (not-false _ c.if-not-mark_block.false) c.mark_block.ensures)
+loop-b-preserved c = held_on c.loop-b.invariant _ _ _ c.loop-b-test.true c.wide-st.ensures c.wide-e.ensures c.mark_block.auto.marks (marked-is (not-false _ c.if-not-mark_block.false) c.mark_block.ensures)
 
 pub returns : goal.returns
 returns c = holds (held-end c.loop-b.invariant c.requires.0 c.loop-b-test.false)
