@@ -1,9 +1,8 @@
 use Rattle.text.proofs.Getting.{field-none, answer-none, decimal-found, field-short, field-there, field-other}
-use borrow.Enum.Refused.{opened}
 use Rattle.text.proofs.get_field.Goals as goal
 
 pub returns-in_default : goal.returns-in_default
-returns-in_default c = let k2 = opened c.in_default.in_default-own.keys2 in search (field-none, answer-none)
+returns-in_default c = search (field-none, answer-none)
 
 pub returns-then-s-next : goal.returns-then-s-next
 returns-then-s-next c = field-short c.args.s.now c.args.most c.args.end c.args.at c.in-Number.n c.in-Number.next (decimal-found c.args.s.now c.args.most c.args.at c.in-Number.n c.in-Number.next c.get_decimal.ensures c.in-Number.is).0 c.if-s-next.true
