@@ -9,11 +9,11 @@ use borrow.Enum.Refused.{opened}
 use native.Mathlib.Omega.{arith}
 use Prim.Native.Nat.{◌+◌, ◌*◌}
 use mathlib.Core.Path.{refl, ap, ◌∙◌}
-use mathlib.Core.Logic.{⊎_elim}
 use Rattle.ty.proofs.Laws.{on}
 use Rattle.ty.proofs.WalkLaws.{fields-first, desc-last, desc-skip, desc-stop, desc-over, desc-more}
 use Rattle.ty.specs.Walks.{desc_fields}
 use borrow.Enum.Refused.{opened}
+use Rattle.ty.proofs.+desc_array_desc_in_desc_record.Goals.{desc_record-then-c-eq4294967295+in-Is+in-Is-p, desc_record-else-c-eq4294967295}
 use Rattle.ty.proofs.+desc_array_desc_in_desc_record.Goals as goal
 
 pub desc_array-returns-in_default : goal.desc_array-returns-in_default
@@ -96,10 +96,10 @@ pub desc_record-desc_in-w-requires : goal.desc_record-desc_in-w-requires
 desc_record-desc_in-w-requires t c = (omega arith, tt)
 
 pub desc_record-returns-in_default : goal.desc_record-returns-in_default
-desc_record-returns-in_default t c = let k2 = opened c.in_default.in_default-own.keys2 in search (desc-stop, on)
+desc_record-returns-in_default t c = search (desc-stop, on)
 
 pub desc_record-returns-in_default-p : goal.desc_record-returns-in_default-p
-desc_record-returns-in_default-p t c = let k2 = opened c.in_default-p.in_default-p-own.keys2 in search (desc-over, on)
+desc_record-returns-in_default-p t c = search (desc-over, on)
 
 pub desc_record-overflow_add-i : goal.desc_record-overflow_add-i
 desc_record-overflow_add-i t c = omega arith
@@ -108,10 +108,10 @@ pub desc_record-loop-i-smaller : goal.desc_record-loop-i-smaller
 desc_record-loop-i-smaller t c = omega arith
 
 pub desc_record-loop-i-preserved : goal.desc_record-loop-i-preserved
-desc_record-loop-i-preserved t c = ⊎_elim
-    (λ w. (omega arith, ap (desc_fields _ _) w.9 ∙ desc-more _ _ _ _ _ _ c.loop-i-test.true w.0.taken _ w.1.ensures _ w.3.given.1 _ w.5.ensures _ w.7.given.1 ∙ c.loop-i.invariant.1))
-    (λ w. (omega arith, ap (desc_fields _ _) w.1 ∙ desc-skip _ _ _ _ _ _ c.loop-i-test.true w.0.left ∙ c.loop-i.invariant.1))
-    c.if-c-eq4294967295.branch
+desc_record-loop-i-preserved t c = elim c.if-c-eq4294967295.branch [
+    desc_record-then-c-eq4294967295+in-Is+in-Is-p w ↦ (omega arith, ap (desc_fields _ _) w.n-is ∙ desc-more _ _ _ _ _ _ c.loop-i-test.true w.if-c-eq4294967295.true _ w.desc_in-w.ensures _ w.in-Is.is _ w.sum-p.ensures _ w.in-Is-p.is ∙ c.loop-i.invariant.1)
+  | desc_record-else-c-eq4294967295 w ↦ (omega arith, ap (desc_fields _ _) w.n-is ∙ desc-skip _ _ _ _ _ _ c.loop-i-test.true w.if-c-eq4294967295.false ∙ c.loop-i.invariant.1)
+  ]
 
 pub desc_record-returns : goal.desc_record-returns
 desc_record-returns t c = search (desc-last, on)

@@ -1,7 +1,6 @@
 use native.Mathlib.Omega.{arith}
 use Rattle.ty.proofs.WalkLaws.{handles-none, handles-missing, handles-access, handles-protected, handles-of-array, handles-of-record, handles-other}
 use Rattle.ty.proofs.Ranges.{record-within}
-use borrow.Enum.Refused.{opened}
 use native.Mathlib.Omega.{arith}
 use Prim.Native.Nat.{◌+◌, ◌*◌}
 use mathlib.Core.Path.{refl}
@@ -40,7 +39,7 @@ pub handles_in-returns-in-Record : goal.handles_in-returns-in-Record
 handles_in-returns-in-Record t c = search handles-of-record
 
 pub handles_in-returns-in_default : goal.handles_in-returns-in_default
-handles_in-returns-in_default t c = let k6 = opened c.in_default.in_default-own.keys6 in search handles-other
+handles_in-returns-in_default t c = search handles-other
 
 pub handles_record-loop-i-init : goal.handles_record-loop-i-init
 handles_record-loop-i-init t c = (omega arith, rw fields-first refl)

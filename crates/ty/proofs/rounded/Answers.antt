@@ -1,10 +1,9 @@
 -- `ty::rounded` meets its contract.
 use Rattle.ty.proofs.Laws.{aligned-is, aligned-over}
-use borrow.Enum.Refused.{opened}
 use Rattle.ty.proofs.rounded.Goals as goal
 
 pub returns-in_default : goal.returns-in_default
-returns-in_default c = let k2 = opened c.in_default.in_default-own.keys2 in search aligned-over
+returns-in_default c = search aligned-over
 
 pub returns : goal.returns
 returns c = search aligned-is
