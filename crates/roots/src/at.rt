@@ -54,7 +54,7 @@ pub fn live_row(
         ≡ live_before (seen (wanted which) kinds.now ends.now refs.now blocks.now classes.now) b pc q) }
 {
     analyse(s, kinds, ends, refs, blocks, classes, which, nb, words);
-    gather(s, nb, words, b);
+    gather(s, kinds, ends, refs, blocks, nb, words, b);
     let e = wide(blocks[2 * b + 1]);
     back_at(
         s,

@@ -8,4 +8,4 @@ pub returns-then-st-pc : goal.returns-then-st-pc
 returns-then-st-pc c = found-on c.requires.1 c.requires.0 c.requires.4 c.if-b-nb.true _ c.wide-st.ensures (omega (arith, c.if-st-pc.true))
 
 pub returns : goal.returns
-returns c = found-last c.requires.1 c.requires.0 c.requires.4 _ (⊎_elim (λ w. λ k. omega (arith, w.2.ensures, w.3.left)) (λ w. λ k. absurd (omega (arith, w.left))) c.if-b-nb.branch) c.first_at.ensures.0
+returns c = found-last c.requires.1 c.requires.0 c.requires.4 _ (⊎_elim (λ w. λ k. omega (arith, w.2.ensures, w.3.left)) (λ w. λ k. absurd (omega (arith, w.left))) c.if-b-nb.branch) c.first_at.ensures

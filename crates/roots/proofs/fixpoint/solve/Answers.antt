@@ -8,10 +8,10 @@ use Rattle.roots.proofs.Passes.{solving-on, solving-end}
 use Rattle.roots.proofs.fixpoint.solve.Goals as goal
 
 pub loop-nb-init : goal.loop-nb-init
-loop-nb-init c = record { kept = refl; rows = λ t cs r. r }
+loop-nb-init c = record { kept = refl; linked = c.requires.nb_value.2; rows = λ t cs r. r }
 
 pub pass-more-requires : goal.pass-more-requires
-pass-more-requires c = record { columns = c.requires.columns; nb_value = (c.requires.nb_value.0, omega (arith, c.loop-nb.invariant.kept, c.requires.nb_value.1), c.requires.nb_value.2) }
+pass-more-requires c = record { columns = c.requires.columns; nb_value = (c.requires.nb_value.0, omega (arith, c.loop-nb.invariant.kept, c.requires.nb_value.1), c.loop-nb.invariant.linked) }
 
 pub shape_of-s-then-not-more : goal.shape_of-s-then-not-more
 shape_of-s-then-not-more c = c.pass-more.ensures.kept ∙ c.loop-nb.invariant.kept
