@@ -59,7 +59,7 @@ pub layout_below-returns-then-c-eq4294967295 : goal.layout_below-returns-then-c-
 layout_below-returns-then-c-eq4294967295 t c = search below_rest
 
 pub layout_below-returns-in_default : goal.layout_below-returns-in_default
-layout_below-returns-in_default t c = let k2 = opened c.in_default.in_default-own.keys2 in search below-nowhere
+layout_below-returns-in_default t c = search below-nowhere
 
 pub layout_below-slice_bounds-layout_in-count : goal.layout_below-slice_bounds-layout_in-count
 layout_below-slice_bounds-layout_in-count t c = search part-start
@@ -89,7 +89,7 @@ pub layout_field-returns : goal.layout_field-returns
 layout_field-returns t c = search below-scalar
 
 pub layout_in-layout_array-requires : goal.layout_in-layout_array-requires
-layout_in-layout_array-requires t c = (omega (arith, c.requires.0), tt)
+layout_in-layout_array-requires t c = (omega arith, tt)
 
 pub layout_in-layout_record-requires : goal.layout_in-layout_record-requires
 layout_in-layout_record-requires t c = (omega arith, search record-within)
@@ -146,7 +146,7 @@ pub layout_record-returns-in_default : goal.layout_record-returns-in_default
 layout_record-returns-in_default t c = let k2 = opened c.in_default.in_default-own.keys2 in search record-none
 
 pub layout_record-returns-in_default-w : goal.layout_record-returns-in_default-w
-layout_record-returns-in_default-w t c = let k2 = opened c.in_default-w.in_default-w-own.keys2 in search record-over
+layout_record-returns-in_default-w t c = search record-over
 
 pub layout_record-overflow_add-used : goal.layout_record-overflow_add-used
 layout_record-overflow_add-used t c = record { fits = search (rest-word, c.well_formed) }

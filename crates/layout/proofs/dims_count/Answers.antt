@@ -2,7 +2,6 @@ use mathlib.Core.Path.{◌∙◌}
 use native.Mathlib.Omega.{arith}
 use Rattle.ty.proofs.Laws.{on}
 use Rattle.layout.proofs.DimLaws.{dims-start, dims-short, dims-dir, dims-len, dims-product, dims-more, dims-end}
-use borrow.Enum.Refused.{opened}
 use Rattle.layout.proofs.dims_count.Goals as goal
 
 pub loop-k-init : goal.loop-k-init
@@ -33,10 +32,10 @@ pub returns-then-dir-gt1 : goal.returns-then-dir-gt1
 returns-then-dir-gt1 c = search (dims-dir, on)
 
 pub returns-in_default : goal.returns-in_default
-returns-in_default c = let k2 = opened c.in_default.in_default-own.keys2 in search (dims-len, on)
+returns-in_default c = search (dims-len, on)
 
 pub returns-in_default-p : goal.returns-in_default-p
-returns-in_default-p c = let k2 = opened c.in_default-p.in_default-p-own.keys2 in search (dims-product, on)
+returns-in_default-p c = search (dims-product, on)
 
 pub overflow_add-k : goal.overflow_add-k
 overflow_add-k c = omega arith
