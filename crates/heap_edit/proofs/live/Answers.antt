@@ -28,13 +28,13 @@ loop-i-smaller c = omega arith
 
 pub loop-i-preserved : goal.loop-i-preserved
 loop-i-preserved c = (
-      omega arith,
-      ⊎_elim (λ y. omega (arith, y, c.loop-i.invariant)) (λ y. omega (arith, y, c.loop-i.invariant)) c.if-narrow-s-ne0.branch,
-      λ h e w.
-          ⊎_elim (λ y. rw y.1 (count-one h c.args.narrow.now c.args.wide.now c.args.pool.now w (c.loop-i.invariant.2 h e w) (omega arith) y.0.taken))
-          (λ y. rw y.1 (count_none h c.args.narrow.now c.args.wide.now c.args.pool.now w (c.loop-i.invariant.2 h e w) (omega arith) y.0.left))
-          c.if-narrow-s-ne0.branch,
-    )
+  omega arith,
+  ⊎_elim (λ y. omega (arith, y, c.loop-i.invariant)) (λ y. omega (arith, y, c.loop-i.invariant)) c.if-narrow-s-ne0.branch,
+  λ h e w.
+      ⊎_elim (λ y. rw y.1 (count-one h c.args.narrow.now c.args.wide.now c.args.pool.now w (c.loop-i.invariant.2 h e w) (omega arith) y.0.taken))
+      (λ y. rw y.1 (count_none h c.args.narrow.now c.args.wide.now c.args.pool.now w (c.loop-i.invariant.2 h e w) (omega arith) y.0.left))
+      c.if-narrow-s-ne0.branch,
+)
 
 pub returns : goal.returns
 returns c = ap (λ (n : ℕ). answered here nothing (ok n)) (count-end c.args.heap c.args.narrow.now c.args.wide.now c.args.pool.now c.requires (c.loop-i.invariant.2 c.args.heap refl c.requires) (omega arith))

@@ -14,7 +14,7 @@ unfolding step_word
 loop-i-preserved c = let fk = (c.slice_known-in-loop-i-3-1.given (c.args.kill + c.loop-i.i)).fits in
     elim c.if-new-old.branch [
       | then-new-old w ↦ rw w.changed-is (next-new-at 64 _ _ _ _ _ _ c.requires _ _ _ c.loop-i.invariant (search rules) fk (c.slice_known-1.given (c.args.live + c.loop-i.i)).fits
-    (c.slice_known-in-loop-i-1.given (c.args.made + c.loop-i.i)).fits (c.slice_known-in-loop-i-2-1.given (c.args.out + c.loop-i.i)).fits w.if-new-old.true)
+          (c.slice_known-in-loop-i-1.given (c.args.made + c.loop-i.i)).fits (c.slice_known-in-loop-i-2-1.given (c.args.out + c.loop-i.i)).fits w.if-new-old.true)
       | else-new-old w ↦ rw w.changed-is (next-same-at 64 _ _ _ _ _ _ c.requires _ _ _ c.loop-i.invariant (search rules) fk w.if-new-old.false)
     ]
 

@@ -109,9 +109,9 @@ desc_record-loop-i-smaller t c = omega arith
 
 pub desc_record-loop-i-preserved : goal.desc_record-loop-i-preserved
 desc_record-loop-i-preserved t c = elim c.if-c-eq4294967295.branch [
-    desc_record-then-c-eq4294967295+in-Is+in-Is-p w ↦ (omega arith, ap (desc_fields _ _) w.n-is ∙ desc-more _ _ _ _ _ _ c.loop-i-test.true w.if-c-eq4294967295.true _ w.desc_in-w.ensures _ w.in-Is.is _ w.sum-p.ensures _ w.in-Is-p.is ∙ c.loop-i.invariant.1)
+  | desc_record-then-c-eq4294967295+in-Is+in-Is-p w ↦ (omega arith, ap (desc_fields _ _) w.n-is ∙ desc-more _ _ _ _ _ _ c.loop-i-test.true w.if-c-eq4294967295.true _ w.desc_in-w.ensures _ w.in-Is.is _ w.sum-p.ensures _ w.in-Is-p.is ∙ c.loop-i.invariant.1)
   | desc_record-else-c-eq4294967295 w ↦ (omega arith, ap (desc_fields _ _) w.n-is ∙ desc-skip _ _ _ _ _ _ c.loop-i-test.true w.if-c-eq4294967295.false ∙ c.loop-i.invariant.1)
-  ]
+]
 
 pub desc_record-returns : goal.desc_record-returns
 desc_record-returns t c = search (desc-last, on)

@@ -39,14 +39,13 @@ pub overflow_add-at-in-loop-b : goal.overflow_add-at-in-loop-b
 overflow_add-at-in-loop-b c = omega (arith, c.requires.nb_value.1)
 
 pub step_block-grown-requires : goal.step_block-grown-requires
-step_block-grown-requires c = let fits = block-fits (c.loop-b.b - 1) c.args.nb (3 * c.args.words) (below-high c.loop-b-test.true c.loop-b.invariant.high) in
-    (
-      record { live_in = omega (arith, fits); made_in = omega arith; out_in = omega arith; kill_in = omega (arith, fits); made_apart = inl (omega (arith, fits)); out_apart = inl (omega (arith, fits)); kill_apart = inl (omega arith) },
-      omega (arith, c.requires.nb_value.1, c.loop-b.invariant.kept, c.gather.ensures.0.kept),
-      omega (arith, fits),
-      omega (arith, fits),
-      omega arith,
-    )
+step_block-grown-requires c = let fits = block-fits (c.loop-b.b - 1) c.args.nb (3 * c.args.words) (below-high c.loop-b-test.true c.loop-b.invariant.high) in (
+  record { live_in = omega (arith, fits); made_in = omega arith; out_in = omega arith; kill_in = omega (arith, fits); made_apart = inl (omega (arith, fits)); out_apart = inl (omega (arith, fits)); kill_apart = inl (omega arith) },
+  omega (arith, c.requires.nb_value.1, c.loop-b.invariant.kept, c.gather.ensures.0.kept),
+  omega (arith, fits),
+  omega (arith, fits),
+  omega arith,
+)
 
 pub loop-b-smaller-then-grown : goal.loop-b-smaller-then-grown
 loop-b-smaller-then-grown c = omega arith
