@@ -28,7 +28,7 @@ pub put_number-requires : goal.put_number-requires
 put_number-requires c = omega (arith, head-length c.args.h.tag c.args.h.since_gc c.args.h.reclaim_at c.args.h.live_bytes c.args.h.slots c.args.h.free c.args.h.quarantine c.args.h.sealed, c.requires, c.put_number-a.ensures.next, c.put_number-a.auto.out, c.put_number-b.ensures.next, c.put_number-b.auto.out, c.put_number-c.ensures.next, c.put_number-c.auto.out, c.put_number-d.ensures.next, c.put_number-d.auto.out, c.put_number-e.ensures.next, c.put_number-e.auto.out, c.put_number-f.ensures.next, c.put_number-f.auto.out, c.put_number-g.ensures.next, c.put_number-g.auto.out)
 
 pub shape_of-out : goal.shape_of-out
-shape_of-out c = c.put_number.auto.out ∙ c.put_number-g.auto.out ∙ c.put_number-f.auto.out ∙ c.put_number-e.auto.out ∙ c.put_number-d.auto.out ∙ c.put_number-c.auto.out ∙ c.put_number-b.auto.out ∙ c.put_number.auto.out
+shape_of-out c = c.put_number.auto.out ∙ c.put_number-g.auto.out ∙ c.put_number-f.auto.out ∙ c.put_number-e.auto.out ∙ c.put_number-d.auto.out ∙ c.put_number-c.auto.out ∙ c.put_number-b.auto.out ∙ c.put_number-a.auto.out
 
 pub returns : goal.returns
-returns c = puts-head c.args.h.tag c.args.h.since_gc c.args.h.reclaim_at c.args.h.live_bytes c.args.h.slots c.args.h.free c.args.h.quarantine c.args.h.sealed c.put_number.ensures c.put_number-b.ensures c.put_number-c.ensures c.put_number-d.ensures c.put_number-e.ensures c.put_number-f.ensures c.put_number-g.ensures c.put_number.ensures (omega (arith, c.requires))
+returns c = puts-head c.args.h.tag c.args.h.since_gc c.args.h.reclaim_at c.args.h.live_bytes c.args.h.slots c.args.h.free c.args.h.quarantine c.args.h.sealed c.put_number-a.ensures c.put_number-b.ensures c.put_number-c.ensures c.put_number-d.ensures c.put_number-e.ensures c.put_number-f.ensures c.put_number-g.ensures c.put_number.ensures (omega (arith, c.requires))

@@ -4,7 +4,7 @@ use Rattle.text.proofs.Putting.{puts_none, puts-at}
 use Rattle.text.specs.Text.{decimal}
 use lib.ListN.{length, take, get_or}
 use native.Mathlib.Omega.{arith}
-use mathlib.Core.List.{◌∷◌, ◌++◌, flat_map}
+use mathlib.Core.List.{[], ◌∷◌, ◌++◌, flat_map}
 use mathlib.Core.Path.{◌≡◌, refl, ap, ◌∙◌}
 use Prim.Native.Nat.{ℕ}
 use Rattle.pages.proofs.put_indices.Goals as goal

@@ -2,7 +2,7 @@ use Rattle.pages.proofs.Writing.{puts-number}
 use Rattle.text.specs.Text.{decimal}
 use lib.ListN.{length-append}
 use native.Mathlib.Omega.{arith}
-use mathlib.Core.List.{◌∷◌}
+use mathlib.Core.List.{[], ◌∷◌}
 use Rattle.pages.proofs.put_number.Goals as goal
 
 pub put_decimal-k-requires : goal.put_decimal-k-requires
