@@ -1,7 +1,7 @@
 -- The ways out of the tracer, one law for each. Assumes nothing.
 use mathlib.Core.Path.{◌≡◌, refl, sym, ap, subst, ◌∙◌}
 use mathlib.Core.List.{List, [], ◌∷◌}
-use mathlib.Core.Bool.{Bool, true, false, not}
+use mathlib.Core.Bool.{Bool, true, false}
 use mathlib.Core.Option.{none, some}
 use Prim.Native.Nat.{ℕ, suc, ◌+◌, ◌-◌, ◌*◌, ◌/◌, ◌^◌, ◌≤◌, ◌<◌, max}
 use native.Mathlib.Omega.{arith}
@@ -9,7 +9,7 @@ use lib.ListN.{length, take, drop, get_or, length-drop}
 use lib.Dec.{leb, eqb}
 use types.Run.{OneOf, miss}
 use denote.Enum.Declared.{tag_of}
-use borrow.Author.Tests.{eq-eqb, ne_eqb, le-leb, lt-leb, not-true, not-false}
+use borrow.Author.Tests.{eq-eqb, ne_eqb, le-leb, lt-leb}
 use Rattle.ty.specs.Types.{Ty, Ty.missing, Ty.int, Ty.physical, Ty.enum, Ty.real, Ty.array, Ty.fields, Ty.access, Ty.file, Ty.protected, Const, Const.plain, Const.other, Table, type_at, const_at, none as no_const}
 use Rattle.word.specs.Choice.{if◌then◌else◌}
 use Rattle.ty.specs.Words.{word_of, on_word, round_up}
@@ -63,14 +63,14 @@ module _ (w fs cs b : List ℕ) (left t : ℕ) (d : List ℕ) (at : ℕ) (k : Ai
         ap (λ (m : ℕ). places_at (table_of w fs cs b) (length v) m t d at) one
         ∙ ap (λ (y : Bool). if◌then◌else◌ y (places_by (table_of w fs cs b) (places_at (table_of w fs cs b) (length v) (left - 1)) (length v) t d at (type_at (types_of w fs) t)) (some [])) (sym ex)
 
-    pub in-plain : not x ≡ true → ok s ≡ handing_at k v s (places_at (table_of w fs cs b) (length v) left t d at)
-    in-plain o = emit-nil k v s _ (split ∙ ap (λ (y : Bool). if◌then◌else◌ y (places_by (table_of w fs cs b) (places_at (table_of w fs cs b) (length v) (left - 1)) (length v) t d at (type_at (types_of w fs) t)) (some [])) (not-true x o))
+    pub in-plain : x ≡ false → ok s ≡ handing_at k v s (places_at (table_of w fs cs b) (length v) left t d at)
+    in-plain o = emit-nil k v s _ (split ∙ ap (λ (y : Bool). if◌then◌else◌ y (places_by (table_of w fs cs b) (places_at (table_of w fs cs b) (length v) (left - 1)) (length v) t d at (type_at (types_of w fs) t)) (some [])) o)
 
-    module _ (o : not x ≡ false) (e : Entry) (ee : e ≡ entry_at w (length fs / 2) t) where
+    module _ (o : x ≡ true) (e : Entry) (ee : e ≡ entry_at w (length fs / 2) t) where
       level : places_at (table_of w fs cs b) (length v) left t d at ≡ places_by (table_of w fs cs b) (places_at (table_of w fs cs b) (length v) (left - 1)) (length v) t d at (read_ty fs e)
       level =
           split
-          ∙ ap (λ (y : Bool). if◌then◌else◌ y (places_by (table_of w fs cs b) (places_at (table_of w fs cs b) (length v) (left - 1)) (length v) t d at (type_at (types_of w fs) t)) (some [])) (not-false x o)
+          ∙ ap (λ (y : Bool). if◌then◌else◌ y (places_by (table_of w fs cs b) (places_at (table_of w fs cs b) (length v) (left - 1)) (length v) t d at (type_at (types_of w fs) t)) (some [])) o
           ∙ ap (places_by (table_of w fs cs b) (places_at (table_of w fs cs b) (length v) (left - 1)) (length v) t d at) (type-at w fs t ∙ ap (read_ty fs) (sym ee))
 
       pub in-missing : e ≡ Missing → refused 13 ≡ handing_at k v s (places_at (table_of w fs cs b) (length v) left t d at)
@@ -127,14 +127,14 @@ module _ (w fs cs b : List ℕ) (left t : ℕ) (d : List ℕ) (at : ℕ) (k : Ai
 pub looked-not : (w fs : List ℕ) (t left : ℕ) (x : Bool) (i n : ℕ) → Not ≡ Fields-as-Of i n → Looked w fs t left x i n
 looked-not w fs t left x i n e = let z : ◌≡◌ {A = ℕ} 0 1 = cc in absurd (omega arith)
 
-pub looked-of : (w fs : List ℕ) (t left : ℕ) (x : Bool) → (left ≡ 0 → ⊥) → not x ≡ false → (e : Entry) → e ≡ entry_at w (length fs / 2) t → (i n : ℕ) → e ≡ Record i n → (i' n' : ℕ) → Fields-as-Of i n ≡ Fields-as-Of i' n' → Looked w fs t left x i' n'
-looked-of w fs t left x h o e ee i n q i' n' z = record { level = h; handles = not-false x o; row = cc }
+pub looked-of : (w fs : List ℕ) (t left : ℕ) (x : Bool) → (left ≡ 0 → ⊥) → x ≡ true → (e : Entry) → e ≡ entry_at w (length fs / 2) t → (i n : ℕ) → e ≡ Record i n → (i' n' : ℕ) → Fields-as-Of i n ≡ Fields-as-Of i' n' → Looked w fs t left x i' n'
+looked-of w fs t left x h o e ee i n q i' n' z = record { level = h; handles = o; row = cc }
 
 -- ---- trace_elems
 
 module _ (w fs cs b : List ℕ) (left t : ℕ) (d : List ℕ) (k : Aim) (v : List ℕ) (s : Raw) (x : Bool) (ex : x ≡ has_handles (types_of w fs) t) (i n : ℕ) (g : length d < 2 ^ 64) (l : Looked w fs t left x i n) where
   pub looked-records : (st q at : ℕ) (r : Answer) (ms to : List ℕ) → told r ms to ≡ handing_at k v s (many (length v) (λ p. walk (table_of w fs cs b) (places_at (table_of w fs cs b) (length v) (left - 1)) (length v) p (fields_from fs i n) d 0 1 0) st q at) → told r ms to ≡ handing_at k v s (many (length v) (places_at (table_of w fs cs b) (length v) left t d) st q at)
-  looked-records st q at r ms to er = er ∙ ap (handing_at k v s) (many-ext (length v) _ _ (λ p. record_is w fs cs b left t d p k v s l.level x ex (ap not l.handles) (Record i n) (sym l.row) i n refl g) st q at)
+  looked-records st q at r ms to er = er ∙ ap (handing_at k v s) (many-ext (length v) _ _ (λ p. record_is w fs cs b left t d p k v s l.level x ex l.handles (Record i n) (sym l.row) i n refl g) st q at)
 
 -- ---- trace_parts
 

@@ -1,6 +1,5 @@
 -- `trace::leaf_at` meets its contract.
 use Rattle.trace.proofs.TraceLaws.{leaf-const, leaf-missing, leaf-array, leaf-record, leaf-access, leaf-protected, leaf-other}
-use borrow.Enum.Refused.{opened}
 use Rattle.trace.proofs.leaf_at.Goals as goal
 
 pub returns-then-c-ne4294967295 : goal.returns-then-c-ne4294967295
@@ -22,4 +21,4 @@ pub returns-in-Protected : goal.returns-in-Protected
 returns-in-Protected c = search leaf-protected
 
 pub returns-in_default : goal.returns-in_default
-returns-in_default c = let k6 = opened c.in_default.in_default-own.keys6 in search leaf-other
+returns-in_default c = search leaf-other

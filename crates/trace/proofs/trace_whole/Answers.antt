@@ -2,14 +2,13 @@
 use mathlib.Core.Path.{sym}
 use lib.Seq.{length-take-le}
 use Rattle.trace.proofs.Objects.{object-plain, object-size, object-cut, object-whole}
-use borrow.Enum.Refused.{opened}
 use Rattle.trace.proofs.trace_whole.Goals as goal
 
 pub returns-then-not-holds : goal.returns-then-not-holds
 returns-then-not-holds c = search object-plain
 
 pub returns-in_default : goal.returns-in_default
-returns-in_default c = let k2 = opened c.in_default.in_default-own.keys2 in search object-size
+returns-in_default c = search object-size
 
 pub returns-then-data-k : goal.returns-then-data-k
 returns-then-data-k c = search object-cut
