@@ -1,5 +1,4 @@
 use native.Mathlib.Omega.{arith}
-use borrow.Author.Tests.{not-true, not-false}
 use mathlib.Core.Path.{refl, ◌∙◌}
 use Prim.Native.Nat.{◌*◌}
 use lib.ListN.{take, length-take}
@@ -17,10 +16,10 @@ pub shape_of-s-then-not-more : goal.shape_of-s-then-not-more
 shape_of-s-then-not-more c = c.pass-more.ensures.kept ∙ c.loop-nb.invariant.kept
 
 pub returns-then-not-more : goal.returns-then-not-more
-returns-then-not-more c = solving-end c.loop-nb.invariant c.pass-more.ensures (not-true _ c.if-not-more.true)
+returns-then-not-more c = solving-end c.loop-nb.invariant c.pass-more.ensures c.if-not-more.true
 
 pub loop-nb-smaller : goal.loop-nb-smaller
-loop-nb-smaller c = omega (arith, c.pass-more.ensures.more (not-false _ c.if-not-more.false), listed_le 64 (take (c.args.nb * (3 * c.args.words)) c.pass-more.new.s), length-take (c.args.nb * (3 * c.args.words)) c.pass-more.new.s)
+loop-nb-smaller c = omega (arith, c.pass-more.ensures.more c.if-not-more.false, listed_le 64 (take (c.args.nb * (3 * c.args.words)) c.pass-more.new.s), length-take (c.args.nb * (3 * c.args.words)) c.pass-more.new.s)
 
 pub loop-nb-preserved : goal.loop-nb-preserved
 loop-nb-preserved c = solving-on c.loop-nb.invariant c.pass-more.ensures
