@@ -1,11 +1,11 @@
 use native.Mathlib.Omega.{arith}
 use mathlib.Core.Path.{sym, ◌∙◌, ap, subst}
-use mathlib.Core.Logic.{⊎_elim}
 use mathlib.Core.List.{List}
 use Prim.Native.Nat.{ℕ, ◌*◌}
 use Rattle.roots.specs.Columns.{Outside, cell}
 use Rattle.roots.proofs.Scratch.{block-fits, targets-none, targets-on, targets-skip, targets-end}
 use Rattle.roots.proofs.fixpoint.join_targets.Goals as goal
+use Rattle.roots.proofs.fixpoint.join_targets.Goals.{then-t-nb, else-t-nb}
 
 pub overflow_mul-stride : goal.overflow_mul-stride
 overflow_mul-stride c = omega arith
@@ -35,12 +35,12 @@ pub loop-i-smaller : goal.loop-i-smaller
 loop-i-smaller c = omega arith
 
 pub loop-i-preserved : goal.loop-i-preserved
-loop-i-preserved c = ⊎_elim
-    (λ w. targets-on c.loop-i.invariant _ _ c.loop-i-test.true c.requires.1 c.wide-t.ensures w.0.taken
-    (subst (λ (z : List ℕ). Outside c.loop-i.s z (c.args.nb * (3 * c.args.words)) c.args.words) (sym w.5) w.2.ensures.0)
-    (λ q m. ap (λ (z : List ℕ). cell z (c.args.nb * (3 * c.args.words)) q) w.5 ∙ w.2.ensures.1 q m))
-    (λ w. targets-skip c.loop-i.invariant _ _ c.loop-i-test.true c.requires.1 c.wide-t.ensures w.0.left w.1)
-    c.if-t-nb.branch
+loop-i-preserved c = elim c.if-t-nb.branch [
+      | then-t-nb w ↦ targets-on c.loop-i.invariant _ _ c.loop-i-test.true c.requires.1 c.wide-t.ensures w.if-t-nb.true
+        (subst (λ (z : List ℕ). Outside c.loop-i.s z (c.args.nb * (3 * c.args.words)) c.args.words) (sym w.s-is) w.join.ensures.0)
+        (λ q m. ap (λ (z : List ℕ). cell z (c.args.nb * (3 * c.args.words)) q) w.s-is ∙ w.join.ensures.1 q m)
+      | else-t-nb w ↦ targets-skip c.loop-i.invariant _ _ c.loop-i-test.true c.requires.1 c.wide-t.ensures w.if-t-nb.false w.s-is
+    ]
 
 pub shape_of-s : goal.shape_of-s
 shape_of-s c = c.loop-i.invariant.frame.kept

@@ -1,7 +1,7 @@
 -- `roots::fixpoint::leave` meets its contract.
 use native.Mathlib.Omega.{arith}
 use mathlib.Core.Path.{sym, ◌∙◌, ap}
-use mathlib.Core.Logic.{inl, inr, ⊎_elim}
+use mathlib.Core.Logic.{inl, inr}
 use mathlib.Core.Bool.{Bool, ◌||◌}
 use Prim.Native.Nat.{◌+◌, ◌-◌, ◌*◌}
 use Rattle.roots.specs.Columns.{cell, live_at}
@@ -9,6 +9,7 @@ use Rattle.roots.proofs.Turns.{next_fits}
 use Rattle.roots.proofs.Scratch.{outside_refl, block-fits, leave_none, leave-targets, leave-stop, leave-next, last-inside, joined-one, joined-none}
 use Rattle.roots.proofs.Passes.{linked-next}
 use Rattle.roots.proofs.fixpoint.leave.Goals as goal
+use Rattle.roots.proofs.fixpoint.leave.Goals.{then-k-ge2+else-k-le4+else-k-le6, else-k-ge2}
 
 pub returns-then-words-eq0 : goal.returns-then-words-eq0
 returns-then-words-eq0 c = (outside_refl _ _ _, λ t cs q h. absurd (omega (arith, c.if-words-eq0.true)))
@@ -104,7 +105,7 @@ pub join-requires : goal.join-requires
 join-requires c = (omega (arith, block-fits c.index-t.result c.args.nb (3 * c.args.words) c.if-t-nb.true), omega (arith, c.requires.nb_value.2))
 
 pub returns-then-t-nb : goal.returns-then-t-nb
-returns-then-t-nb c = (c.join.ensures.0, λ t cs q h. c.join.ensures.1 q h ∙ sym (ap (λ (x : Bool). x || cell c.args.s.now (c.args.nb * (3 * c.args.words)) q) (leave-next c.requires.columns t cs c.args.nb c.args.b c.wide-st.result c.wide-e.result c.requires.nb_value.0 c.requires.nb_value.1 c.wide-st.ensures c.wide-e.ensures (live_at c.args.s.now c.args.words c.args.nb q) c.if-e-st.false (⊎_elim (λ w. inr w.2.left) (λ w. inl w.left) c.if-k-ge2.branch) c.index-t.result (linked-next (c.requires.nb_value.3 (omega (arith, c.if-words-eq0.false))) c.args.b _ _ _ c.requires.nb_value.1 c.wide-st.ensures c.wide-e.ensures c.if-e-st.false c.index-t.ensures) ∙ joined-one c.args.s.now c.args.words c.args.nb q c.index-t.result c.if-t-nb.true)))
+returns-then-t-nb c = (c.join.ensures.0, λ t cs q h. c.join.ensures.1 q h ∙ sym (ap (λ (x : Bool). x || cell c.args.s.now (c.args.nb * (3 * c.args.words)) q) (leave-next c.requires.columns t cs c.args.nb c.args.b c.wide-st.result c.wide-e.result c.requires.nb_value.0 c.requires.nb_value.1 c.wide-st.ensures c.wide-e.ensures (live_at c.args.s.now c.args.words c.args.nb q) c.if-e-st.false (elim c.if-k-ge2.branch [ then-k-ge2+else-k-le4+else-k-le6 w ↦ inr w.if-k-le6.false | else-k-ge2 w ↦ inl w.if-k-ge2.false ]) c.index-t.result (linked-next (c.requires.nb_value.3 (omega (arith, c.if-words-eq0.false))) c.args.b _ _ _ c.requires.nb_value.1 c.wide-st.ensures c.wide-e.ensures c.if-e-st.false c.index-t.ensures) ∙ joined-one c.args.s.now c.args.words c.args.nb q c.index-t.result c.if-t-nb.true)))
 
 pub returns-else-t-nb : goal.returns-else-t-nb
-returns-else-t-nb c = (outside_refl _ _ _, λ t cs q h. sym (ap (λ (x : Bool). x || cell c.args.s.now (c.args.nb * (3 * c.args.words)) q) (leave-next c.requires.columns t cs c.args.nb c.args.b c.wide-st.result c.wide-e.result c.requires.nb_value.0 c.requires.nb_value.1 c.wide-st.ensures c.wide-e.ensures (live_at c.args.s.now c.args.words c.args.nb q) c.if-e-st.false (⊎_elim (λ w. inr w.2.left) (λ w. inl w.left) c.if-k-ge2.branch) c.index-t.result (linked-next (c.requires.nb_value.3 (omega (arith, c.if-words-eq0.false))) c.args.b _ _ _ c.requires.nb_value.1 c.wide-st.ensures c.wide-e.ensures c.if-e-st.false c.index-t.ensures) ∙ joined-none (live_at c.args.s.now c.args.words c.args.nb q) c.args.nb c.index-t.result c.if-t-nb.false)))
+returns-else-t-nb c = (outside_refl _ _ _, λ t cs q h. sym (ap (λ (x : Bool). x || cell c.args.s.now (c.args.nb * (3 * c.args.words)) q) (leave-next c.requires.columns t cs c.args.nb c.args.b c.wide-st.result c.wide-e.result c.requires.nb_value.0 c.requires.nb_value.1 c.wide-st.ensures c.wide-e.ensures (live_at c.args.s.now c.args.words c.args.nb q) c.if-e-st.false (elim c.if-k-ge2.branch [ then-k-ge2+else-k-le4+else-k-le6 w ↦ inr w.if-k-le6.false | else-k-ge2 w ↦ inl w.if-k-ge2.false ]) c.index-t.result (linked-next (c.requires.nb_value.3 (omega (arith, c.if-words-eq0.false))) c.args.b _ _ _ c.requires.nb_value.1 c.wide-st.ensures c.wide-e.ensures c.if-e-st.false c.index-t.ensures) ∙ joined-none (live_at c.args.s.now c.args.words c.args.nb q) c.args.nb c.index-t.result c.if-t-nb.false)))
