@@ -33,7 +33,7 @@ pub collect_row-r-requires : goal.collect_row-r-requires
 collect_row-r-requires c = record { can_collect = c.requires.can_collect; ordered = record { paired = c.requires.addresses_value; valued = sym c.requires.can_look.valued } }
 
 pub shape_of-narrow : goal.shape_of-narrow
-shape_of-narrow c = c.collect_row-r.auto.work
+shape_of-narrow c = c.collect_row-r.auto.narrow
 
 pub shape_of-wide : goal.shape_of-wide
 shape_of-wide c = c.collect_row-r.auto.wide
@@ -48,7 +48,7 @@ pub shape_of-work : goal.shape_of-work
 shape_of-work c = c.collect_row-r.auto.work
 
 pub shape_of-rows : goal.shape_of-rows
-shape_of-rows c = c.clear_u64.auto.dst ∙ c.root_row.auto.1.1.1.1.1.1.0
+shape_of-rows c = c.clear_u64.auto.dst ∙ c.root_row.auto.rows
 
 pub returns : goal.returns
 returns c = let f : Lent = record { kinds = c.args.kinds.now; ends = c.args.ends.now; refs = c.args.refs.now; blocks = c.args.blocks.now; classes = c.args.classes.now } in
