@@ -3,7 +3,6 @@ use mathlib.Core.Path.{refl}
 use native.Mathlib.Omega.{arith}
 use Rattle.frame.proofs.FrameLaws.{entries-end, entries-fail, entries-more}
 use borrow.Author.Rules.{rules}
-use borrow.Enum.Refused.{opened}
 use Rattle.frame.proofs.trace_entries.Goals as goal
 
 pub loop-at-init : goal.loop-at-init
@@ -40,7 +39,7 @@ pub overflow_cast-t : goal.overflow_cast-t
 overflow_cast-t c = omega (arith, c.type_inv.map (c.loop-at.at + 2))
 
 pub returns-in_default : goal.returns-in_default
-returns-in_default c = let k2 = opened c.in_default.in_default-own.keys2 in search entries-fail
+returns-in_default c = search entries-fail
 
 pub overflow_add-at : goal.overflow_add-at
 overflow_add-at c = omega (arith, c.loop-at-test.true, c.loop-at.invariant.0, c.loop-at.invariant.1, c.requires.0, c.well_formed)
@@ -49,7 +48,7 @@ pub loop-at-smaller : goal.loop-at-smaller
 loop-at-smaller c = omega (arith, c.loop-at-test.true, c.loop-at.invariant.0, c.loop-at.invariant.1, c.requires.0)
 
 pub loop-at-preserved : goal.loop-at-preserved
-loop-at-preserved c = (omega (arith, c.loop-at-test.true, c.loop-at.invariant.0, c.loop-at.invariant.1, c.requires.0), omega (arith, c.loop-at-test.true, c.loop-at.invariant.0, c.loop-at.invariant.1, c.requires.0), entries-more _ _ _ _ _ _ _ _ _ _ c.loop-at.invariant.2 c.loop-at-test.true c.requires.0 c.loop-at.invariant.1 c.trace_entry-r.result c.trace_entry-r.new.to.1.1.1.1.1.1.1.1.1.1.1.1.1.0 c.trace_entry-r.new.to.1.1.1.1.1.1.1.1.1.1.1.1.1.1.0 c.trace_entry-r.ensures _ c.in-Traced.is, search rules, search rules)
+loop-at-preserved c = (omega (arith, c.loop-at-test.true, c.loop-at.invariant.0, c.loop-at.invariant.1, c.requires.0), omega (arith, c.loop-at-test.true, c.loop-at.invariant.0, c.loop-at.invariant.1, c.requires.0), entries-more _ _ _ _ _ _ _ _ _ _ c.loop-at.invariant.2 c.loop-at-test.true c.requires.0 c.loop-at.invariant.1 c.trace_entry-r.result c.trace_entry-r.new.marks c.trace_entry-r.new.to c.trace_entry-r.ensures _ c.in-Traced.is, search rules, search rules)
 
 pub returns : goal.returns
 returns c = search entries-end
