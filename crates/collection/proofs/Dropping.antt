@@ -88,7 +88,7 @@ after-ind marks h Q first stays gone zero le = first
 after-ind marks h Q first stays gone (suc n) le =
     let q : Q n (after marks h n) = after-ind marks h Q first stays gone n (omega arith) in
     let one : (b : Bool) → goes marks n (slot_at h n) ≡ b → Q (suc n) (if b then drop_slot (after marks h n) n else after marks h n) =
-    λ b. elim b [ true ↦ λ e. gone n le q e | false ↦ λ e. stays n le q e ] in
+    λ b. elim b as (λ (k : Bool). goes marks n (slot_at h n) ≡ k → Q (suc n) (if k then drop_slot (after marks h n) n else after marks h n)) [ true ↦ λ e. gone n le q e | false ↦ λ e. stays n le q e ] in
     subst (Q (suc n)) (sym (after_next marks h n le)) (one (goes marks n (slot_at h n)) refl)
 
 -- ---- what a slot becomes
