@@ -2,8 +2,7 @@
 // not in order. A host may use them on a table of which `yexwalu_layout` or another checked call did not say 10, as long as nobody changes it; then they answer what those do.
 #![tactic(auto)]
 
-ghost use Rattle.std.specs.Prelude.{◌≡◌, length};
-ghost use Rattle.word.specs.Choice.{if◌then◌else◌};
+ghost use Rattle.std.specs.Prelude.{◌≡◌, length, if◌then◌else◌};
 ghost use Rattle.word.specs.Result.{ok, refused};
 ghost use Rattle.refusal.specs.Told.{number_of, answered, here, nothing};
 ghost use Rattle.ty.specs.View.{types_of, table_of};

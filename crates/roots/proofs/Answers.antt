@@ -10,7 +10,7 @@ use lib.ListN.{length, get_or, take, drop, replicate, length-take, length-drop}
 use lib.Dec.{ltb}
 use borrow.Author.Tests.{lt-ltb, le-ltb, eq-eqb, ne_eqb}
 use borrow.Author.Count.{below_more}
-use Rattle.word.specs.Choice.{if◌then◌else◌}
+use Rattle.std.specs.Prelude.{if◌then◌else◌}
 use Rattle.word.specs.Result.{Result, ok, refused}
 use Rattle.word.specs.Put.{put}
 use Rattle.word.specs.Ones.{passing}

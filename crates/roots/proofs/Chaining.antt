@@ -10,7 +10,7 @@ use native.Mathlib.Decide.{ℕ_discrete, dec_lt}
 use lib.ListN.{length, get_or, set, replicate, length-set, get_or-replicate, length-replicate}
 use borrow.Author.Tests.{le-ltb}
 use lib.Seq.{get_or-set_same, get_or-set_other}
-use Rattle.word.specs.Choice.{if◌then◌else◌}
+use Rattle.std.specs.Prelude.{if◌then◌else◌}
 use Rattle.word.specs.Lists.{tabulate}
 use Rattle.flow.specs.Function.{first_at}
 use Rattle.roots.specs.View.{block_at}

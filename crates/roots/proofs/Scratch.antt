@@ -14,7 +14,7 @@ use lib.Seq.{slice, slice-cons, slice_empty, get_or-set_same, get_or-set_other, 
 use lib.Dec.{eqb, ltb, leb}
 use lib.Bits.{bit_or}
 use borrow.Author.Tests.{eq-eqb, ne_eqb, lt-ltb, le-ltb, le-leb, lt-leb}
-use Rattle.word.specs.Choice.{if◌then◌else◌}
+use Rattle.std.specs.Prelude.{if◌then◌else◌}
 use Rattle.word.specs.Bit.{bit}
 use Rattle.word.proofs.BitLaws.{bit-or, bit-of-zero}
 use Rattle.word.specs.Lists.{tabulate}

@@ -8,7 +8,7 @@ use native.Mathlib.Numerals.{add-one}
 use lib.ListN.{length, get_or, set, length-set, length-append}
 use lib.Dec.{eqb, ltb}
 use borrow.Author.Tests.{lt-ltb, le-ltb, eq-eqb, ne_eqb}
-use Rattle.word.specs.Choice.{if◌then◌else◌}
+use Rattle.std.specs.Prelude.{if◌then◌else◌}
 use Rattle.word.proofs.RunLaws.{run-get, first-get}
 use Rattle.heap.specs.Packing.{pad}
 use Rattle.heap.specs.State.{Slot, State, slot_at, live, last_generation, worn, bit, with_free, with_retired}

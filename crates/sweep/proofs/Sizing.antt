@@ -9,7 +9,7 @@ use lib.ListN.{length, get_or, take, length-map, get_or-map}
 use lib.Seq.{take-suc, take_all}
 use lib.Dec.{ltb}
 use borrow.Author.Tests.{lt-ltb, le-ltb}
-use Rattle.word.specs.Choice.{if◌then◌else◌}
+use Rattle.std.specs.Prelude.{if◌then◌else◌}
 use Rattle.heap.specs.Packing.{pad, flat, ends, start_of}
 use Rattle.heap.specs.State.{Slot, no_slot, data_of, live}
 use Rattle.heap.specs.Lent.{column}

@@ -11,7 +11,7 @@ use types.Run.{OneOf, miss}
 use denote.Enum.Declared.{tag_of}
 use borrow.Author.Tests.{eq-eqb, ne_eqb, le-leb, lt-leb}
 use Rattle.ty.specs.Types.{Ty, Ty.missing, Ty.int, Ty.physical, Ty.enum, Ty.real, Ty.array, Ty.fields, Ty.access, Ty.file, Ty.protected, Const, Const.plain, Const.other, Table, type_at, const_at, none as no_const}
-use Rattle.word.specs.Choice.{if◌then◌else◌}
+use Rattle.std.specs.Prelude.{if◌then◌else◌}
 use Rattle.ty.specs.Words.{word_of, on_word, round_up}
 use Rattle.layout.specs.Layout.{on_dims, dims_of, under, used_by, end_of, array_of, record_of, layout_at, layout_of}
 use Rattle.ty.specs.Walks.{has_handles, handles_by, handles_at}

@@ -1,8 +1,7 @@
 -- Where traced handles go: counted, written to a list, marked and queued by a collection, or compared with those of an object beside. Named by inner contracts: Places.antt says which
 -- handles there are.
-use Rattle.std.specs.Prelude.{ℕ, ◌+◌, ◌-◌, ◌%◌, ◌^◌, min, ◌≡◌, List, [], ◌∷◌, length, get_or, set, ltb, eqb}
+use Rattle.std.specs.Prelude.{ℕ, ◌+◌, ◌-◌, ◌%◌, ◌^◌, min, ◌≡◌, List, [], ◌∷◌, length, get_or, set, ltb, eqb, if◌then◌else◌}
 use Rattle.std.proofs.Math.Option.{Option, none, some}
-use Rattle.word.specs.Choice.{if◌then◌else◌}
 use Rattle.word.specs.Result.{Result, ok, refused}
 use Rattle.beside.specs.Inner.Ranks.{place_in}
 use Rattle.beside.specs.Inner.Found.{found_at}
