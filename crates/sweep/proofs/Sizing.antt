@@ -34,7 +34,8 @@ size-most : (k from e : ℕ) → one_size k from e ≤ e - from + 32
 size-most k from e = most (ltb 0 k)
   where
     most : (b : Bool) → (if b then (e - from + 32) else 0) ≤ e - from + 32
-    most b = elim b [ true ↦ omega arith | false ↦ omega arith ]
+    most true = omega arith
+    most false = omega arith
 
 -- ---- the loop
 
