@@ -88,10 +88,13 @@ def filled(words, indent):
 
 
 def call(path, names):
-    one = "    %s(%s)" % (path, ", ".join(names))
-    if len(one) <= 100:
-        return one
-    return "\n".join(["    %s(" % path] + filled([n + "," for n in names], " " * 8) + ["    )"])
+    """Laid out as `rt fmt` does: on one line up to 60 characters of arguments, else filled where each is short."""
+    arguments = ", ".join(names)
+    if len(arguments) <= 60 and len(path) + len(arguments) + 6 <= 100:
+        return "    %s(%s)" % (path, arguments)
+    words = [n + "," for n in names]
+    inside = filled(words, " " * 8) if all(len(n) <= 10 for n in names) else [" " * 8 + w for w in words]
+    return "\n".join(["    %s(" % path] + inside + ["    )"])
 
 
 def import_lines(start, names, joint):
@@ -139,7 +142,7 @@ def main():
     texts["lib.rt"] = (
         "// The calls for C, and for the Rust crate of host/: a static library. Each export calls the library's function of its name and has its clauses, word for word.\n"
         "// tools/exports.py writes these files from the libraries; with --check it says whether they are what it would write.\n#![tactic(auto)]\n\n"
-        + "".join("pub mod %s;\n" % m for m, _ in FILES))
+        + "".join("pub mod %s;\n" % m for m in sorted(m for m, _ in FILES)))
     lines = read("crates.txt").splitlines()
     order = [l.split(":")[0].split()[0] for l in lines if l.strip() and not l.startswith("#")]
     line = "%s staticlib: %s" % (CRATE, " ".join(c for c in order if c in crates))

@@ -2,20 +2,20 @@
 // tools/exports.py writes these files from the libraries; with --check it says whether they are what it would write.
 #![tactic(auto)]
 
-pub mod heaps;
-pub mod objects;
 pub mod collections;
 pub mod collections_joined;
-pub mod roots_wanted;
+pub mod handles;
+pub mod heaps;
+pub mod held_changes;
+pub mod held_objects;
+pub mod held_tables;
+pub mod live;
+pub mod objects;
 pub mod page_texts;
-pub mod table_texts;
-pub mod slots;
-pub mod runs;
 pub mod rehearsals;
+pub mod roots_wanted;
+pub mod runs;
+pub mod slots;
+pub mod table_texts;
 pub mod two_saves;
 pub mod types;
-pub mod handles;
-pub mod live;
-pub mod held_objects;
-pub mod held_changes;
-pub mod held_tables;

@@ -44,7 +44,9 @@ pub extern "C" fn yexwalu_alloc_from(
         ≡ heap_call here nothing marks.old work.old (lent heap narrow.old wide.old pool.old)
         (allocating (length narrow.old / 6) (length pool.old) kind ty start bytes.now) }
 {
-    object_door::yexwalu_alloc_from(heap, narrow, wide, pool, kind, ty, start, bytes, marks, work)
+    object_door::yexwalu_alloc_from(
+        heap, narrow, wide, pool, kind, ty, start, bytes, marks, work,
+    )
 }
 
 #[unsafe(no_mangle)]

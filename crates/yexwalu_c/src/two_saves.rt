@@ -42,8 +42,24 @@ pub extern "C" fn yexwalu_same(
         other_roots.now other_marks.old other_work.old) result }
 {
     same_door::yexwalu_same(
-        types, fields, consts, bytes, heap, narrow, wide, pool, other, other_narrow, other_wide,
-        other_pool, roots, other_roots, marks, work, other_marks, other_work,
+        types,
+        fields,
+        consts,
+        bytes,
+        heap,
+        narrow,
+        wide,
+        pool,
+        other,
+        other_narrow,
+        other_wide,
+        other_pool,
+        roots,
+        other_roots,
+        marks,
+        work,
+        other_marks,
+        other_work,
     )
 }
 
@@ -81,7 +97,23 @@ pub extern "C" fn yexwalu_order(
         other_roots.now other_marks.old other_work.old) result }
 {
     same_door::yexwalu_order(
-        types, fields, consts, bytes, heap, narrow, wide, pool, other, other_narrow, other_wide,
-        other_pool, roots, other_roots, marks, work, other_marks, other_work,
+        types,
+        fields,
+        consts,
+        bytes,
+        heap,
+        narrow,
+        wide,
+        pool,
+        other,
+        other_narrow,
+        other_wide,
+        other_pool,
+        roots,
+        other_roots,
+        marks,
+        work,
+        other_marks,
+        other_work,
     )
 }
