@@ -25,10 +25,10 @@ pub extern "C" fn yexwalu_collect(
 ) -> Done
     ensures work_after { outcome result.answer (lent result.heap narrow.new wide.new pool.new) marks.new work.new
         ≡ collect_call
-        (record { types = types.entry.now; fields = fields.now; consts = consts.now; bytes = bytes.now; roots = roots.now; pins = pins.now })
+        (record { types = types.now; fields = fields.now; consts = consts.now; bytes = bytes.now; roots = roots.now; pins = pins.now })
         marks.old work.old (lent heap narrow.old wide.old pool.old) }
     ensures rightly_collected { RightlyCollected
-        (record { types = types.entry.now; fields = fields.now; consts = consts.now; bytes = bytes.now; roots = roots.now; pins = pins.now })
+        (record { types = types.now; fields = fields.now; consts = consts.now; bytes = bytes.now; roots = roots.now; pins = pins.now })
         marks.old work.old (lent heap narrow.old wide.old pool.old)
         (outcome result.answer (lent result.heap narrow.new wide.new pool.new) marks.new work.new) }
 {

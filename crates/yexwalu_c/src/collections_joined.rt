@@ -36,11 +36,11 @@ pub extern "C" fn yexwalu_collect_joined(
     ensures rows_after { outcome_of result.answer (lent result.heap narrow.new wide.new pool.new)
         (marks.new ∷ work.new ∷ rows.new ∷ [])
         ≡ joined_call (record {
-          types = types.entry.now;
+          types = types.now;
           fields = fields.now;
           consts = consts.now;
           bytes = bytes.now;
-          code = record { kinds = kinds.entry.now; ends = ends.now; refs = refs.now; blocks = blocks.now; classes = classes.now };
+          code = record { kinds = kinds.now; ends = ends.now; refs = refs.now; blocks = blocks.now; classes = classes.now };
           pc = pc;
           values = values.now;
           map = map.now;
@@ -50,11 +50,11 @@ pub extern "C" fn yexwalu_collect_joined(
         })
         marks.old work.old rows.old (lent heap narrow.old wide.old pool.old) }
     ensures demand { Demand (record {
-      types = types.entry.now;
+      types = types.now;
       fields = fields.now;
       consts = consts.now;
       bytes = bytes.now;
-      code = record { kinds = kinds.entry.now; ends = ends.now; refs = refs.now; blocks = blocks.now; classes = classes.now };
+      code = record { kinds = kinds.now; ends = ends.now; refs = refs.now; blocks = blocks.now; classes = classes.now };
       pc = pc;
       values = values.now;
       map = map.now;

@@ -1,6 +1,5 @@
 // For C: the calls of held_types.
-ghost use Rattle.std.specs.Prelude.{◌≡◌, length};
-ghost use Rattle.word.specs.Choice.{if◌then◌else◌};
+ghost use Rattle.std.specs.Prelude.{◌≡◌, length, if◌then◌else◌};
 ghost use Rattle.word.specs.Result.{ok};
 ghost use Rattle.refusal.specs.Told.{answered, here, nothing};
 ghost use Rattle.ty.specs.View.{types_of, table_of};

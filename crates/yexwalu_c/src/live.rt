@@ -18,7 +18,7 @@ pub extern "C" fn yexwalu_live_at(
     rows: &mut [u64],
 ) -> Answer
     ensures { LiveAtCall
-        (record { kinds = kinds.entry.now; ends = ends.now; refs = refs.now; blocks = blocks.now; classes = classes.now })
+        (record { kinds = kinds.now; ends = ends.now; refs = refs.now; blocks = blocks.now; classes = classes.now })
         (asked all) pc regs.old rows.old regs.new rows.new result }
 {
     yexwalu::live::yexwalu_live_at(kinds, ends, refs, blocks, classes, all, pc, regs, rows)
@@ -38,7 +38,7 @@ pub extern "C" fn yexwalu_live_refs(
     rows: &mut [u64],
 ) -> Answer
     ensures { LiveRefsCall
-        (record { kinds = kinds.entry.now; ends = ends.now; refs = refs.now; blocks = blocks.now; classes = classes.now })
+        (record { kinds = kinds.now; ends = ends.now; refs = refs.now; blocks = blocks.now; classes = classes.now })
         (asked all) pcs.old bounds.old regs.old rows.old
         pcs.new bounds.new regs.new rows.new result }
 {

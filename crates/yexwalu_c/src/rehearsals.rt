@@ -29,11 +29,11 @@ pub extern "C" fn yexwalu_rehearse(
         (lent result.heap narrow.new wide.new pool.new)
         (words.new ∷ marks.new ∷ work.new ∷ [])) out.new
         ≡ rehearse_call
-        (record { types = types.entry.now; fields = fields.now; consts = consts.now; bytes = bytes.now; text = text.now; thresholds = thresholds.now })
+        (record { types = types.now; fields = fields.now; consts = consts.now; bytes = bytes.now; text = text.now; thresholds = thresholds.now })
         (lent heap narrow.old wide.old pool.old) (length narrow.old) (length wide.old)
         out.old words.old marks.old work.old }
     ensures plain_lines { PlainLines
-        (record { types = types.entry.now; fields = fields.now; consts = consts.now; bytes = bytes.now; text = text.now; thresholds = thresholds.now })
+        (record { types = types.now; fields = fields.now; consts = consts.now; bytes = bytes.now; text = text.now; thresholds = thresholds.now })
         (length narrow.old) (length pool.old) result.answer out.old out.new }
 {
     rehearse_door::yexwalu_rehearse(

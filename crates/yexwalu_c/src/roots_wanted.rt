@@ -25,14 +25,14 @@ pub extern "C" fn yexwalu_roots_for(
 ) -> Answer
     ensures work_after { asked result marks.new work.new
         ≡ roots_call
-        (record { types = types.entry.now; fields = fields.now; consts = consts.now; bytes = bytes.now; pins = pins.now; wanted = wanted.now })
+        (record { types = types.now; fields = fields.now; consts = consts.now; bytes = bytes.now; pins = pins.now; wanted = wanted.now })
         marks.old work.old (lent heap narrow.now wide.now pool.now) out.old }
     ensures out_after { out.new
         ≡ roots_out
-        (record { types = types.entry.now; fields = fields.now; consts = consts.now; bytes = bytes.now; pins = pins.now; wanted = wanted.now })
+        (record { types = types.now; fields = fields.now; consts = consts.now; bytes = bytes.now; pins = pins.now; wanted = wanted.now })
         marks.old work.old (lent heap narrow.now wide.now pool.now) out.old }
     ensures right_roots { RightRoots
-        (record { types = types.entry.now; fields = fields.now; consts = consts.now; bytes = bytes.now; pins = pins.now; wanted = wanted.now })
+        (record { types = types.now; fields = fields.now; consts = consts.now; bytes = bytes.now; pins = pins.now; wanted = wanted.now })
         marks.old work.old (lent heap narrow.now wide.now pool.now) out.old result out.new }
 {
     wanted_door::yexwalu_roots_for(
