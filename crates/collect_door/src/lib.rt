@@ -48,8 +48,7 @@ fn admit(
 }
 
 // Drops the objects to which no chain leads from a root, a seal or a pin. Where a reached object can't be traced nothing changes.
-#[unsafe(no_mangle)]
-pub extern "C" fn yexwalu_collect(
+pub fn yexwalu_collect(
     types: &[u64],
     fields: &[u32],
     consts: &[u64],

@@ -65,8 +65,7 @@ fn admit(
 
 // For each threshold a new heap of tag 1 in the lent memory runs the lines of the text, and a line of figures is printed. The answer is the number of bytes printed; the
 // memory then holds the heap of the last run.
-#[unsafe(no_mangle)]
-pub extern "C" fn yexwalu_rehearse(
+pub fn yexwalu_rehearse(
     types: &[u64],
     fields: &[u32],
     consts: &[u64],

@@ -121,8 +121,7 @@ fn list_roots(
 
 // The fewest roots with which `collect`, with these pins, keeps just the wanted slots and drops the others; of several lists as short the one with the smaller slot at
 // the first place where they differ. Their handles go to the lent list, rising by slot, from its front on. 18, 1, 10, 14, 21, 7. first: how many.
-#[unsafe(no_mangle)]
-pub extern "C" fn yexwalu_roots_for(
+pub fn yexwalu_roots_for(
     types: &[u64],
     fields: &[u32],
     consts: &[u64],

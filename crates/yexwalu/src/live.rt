@@ -21,8 +21,7 @@ fn tracked(all: bool) -> Tracked
 }
 
 // The registers that are live before the safepoint pc, rising: those of classes 2 and 4, or all. first: how many.
-#[unsafe(no_mangle)]
-pub extern "C" fn yexwalu_live_at(
+pub fn yexwalu_live_at(
     kinds: &[u8],
     ends: &[u32],
     refs: &[u32],
@@ -44,8 +43,7 @@ pub extern "C" fn yexwalu_live_at(
 
 // The map of all safepoints, rising: `pcs` has each, `bounds` where its registers end in `regs`, and `regs` the registers that are live before it, rising: those of
 // classes 2 and 4, or all. first: how many safepoints; second: how many registers.
-#[unsafe(no_mangle)]
-pub extern "C" fn yexwalu_live_refs(
+pub fn yexwalu_live_refs(
     kinds: &[u8],
     ends: &[u32],
     refs: &[u32],
