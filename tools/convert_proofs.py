@@ -21,9 +21,88 @@ def norm(n):
     return n
 
 
+def clauses_of(crates):
+    """Each function's parameters and the names of its clauses, by path."""
+    out = {}
+    for c in crates:
+        for root, dirs, names in os.walk(f"crates/{c}/src"):
+            for n in sorted(names):
+                if not n.endswith(".rt"):
+                    continue
+                rel = os.path.relpath(os.path.join(root, n), f"crates/{c}/src")[:-3]
+                mod = [] if rel in ("lib", "main") else rel.split(os.sep)
+                text = open(os.path.join(root, n), encoding="utf-8").read()
+                impl = None
+                for m in re.finditer(r"(?m)^impl(?:<[^>]*>)? (?:\w+ for )?(\w+)|^(\s*)(?:pub(?:\([a-z]+\))? )?(?:unsafe )?(?:extern \"C\" )?fn (\w+)(?:<[^>]*>)?\(", text):
+                    if m.group(1):
+                        impl = m.group(1)
+                        continue
+                    if not m.group(2):
+                        impl = None
+                    i, depth = m.end(), 1
+                    while depth:
+                        depth += {"(": 1, ")": -1}.get(text[i], 0)
+                        i += 1
+                    params = []
+                    d, cur = 0, ""
+                    for ch in text[m.end() : i - 1] + ",":
+                        if ch in "([<":
+                            d += 1
+                        if ch in ")]>":
+                            d -= 1
+                        if ch == "," and d == 0:
+                            if cur.strip():
+                                nm, _, ty = cur.strip().partition(":")
+                                params.append((nm.replace("mut ", "").strip(), ty.strip()))
+                            cur = ""
+                        else:
+                            cur += ch
+                    j = text.find("\n{", i)
+                    k = text.find("\n    {", i)
+                    end = min(x for x in (j, k, len(text)) if x >= 0)
+                    head = text[i:end]
+                    if "{" in head.split("\n")[0] and "requires" not in head.split("\n")[0]:
+                        head = ""
+                    req = [x or "" for x in re.findall(r"\n\s+requires(?: (\w+))? \{", head)]
+                    ens = [x or "" for x in re.findall(r"\n\s+ensures(?: (\w+))? \{", head)]
+                    path = "::".join([c] + mod + ([impl] if impl and m.group(2) else []) + [m.group(3)])
+                    out[path] = {"params": params, "requires": req, "ensures": ens, "muts": [a for a, ty in params if ty.startswith("&mut") or re.match(r"&'\w+ mut", ty)]}
+    return out
+
+
+CLAUSES = {}
+
+
+def by_clause(names, r):
+    """Projections from right-nested pairs, as names of clauses: None where they end at a pair of several."""
+    n = len(names)
+    if n < 2:
+        return r
+    k = 0
+    while k < n - 1 and k < len(r) and r[k] == "1":
+        k += 1
+    if k == n - 1:
+        return [names[k]] + r[k:]
+    if k < len(r) and r[k] == "0":
+        return [names[k]] + r[k + 1 :]
+    if k == len(r):
+        return [("several", names[k:])]
+    return r
+
+
 class Fn:
     def __init__(self, key, e, crate):
         self.key, self.e, self.crate = key, e, crate
+        m = re.match(r"^Rattle-\w+-proofs\.(.*)\.Lts(?:-(\S+))?$", key)
+        inner = m.group(1)
+        if m.group(2):
+            inner = ".".join(inner.split(".")[:-1] + [m.group(2)])
+        self.path = "::".join([crate] + inner.split("."))
+        self.own = CLAUSES.get(self.path)
+        if not self.own:
+            like = [v for k, v in CLAUSES.items() if k.startswith(crate + "::") and k.split("::")[-1] == self.path.split("::")[-1]]
+            self.own = like[0] if len(like) == 1 else {"params": [], "requires": [], "ensures": [], "muts": []}
+        self.member = bool(m.group(2))
         self.places = {p[0]: p for p in e["places"]}
         self.order = [p[0] for p in e["places"]]
         self.index = {p[0]: i for i, p in enumerate(e["places"])}
@@ -90,7 +169,15 @@ class Convert:
             return None, p
         s, r = rest[0], rest[1:]
         if s in ("args", "requires", "ranges", "lifetimes", "type_inv", "well_formed", "well-formed", "utf8", "entry_args", "items_fit", "captures", "auto", "pre"):
-            return [{"pre": "requires", "well-formed": "well_formed"}.get(s, s)] + r, None
+            s = {"pre": "requires", "well-formed": "well_formed"}.get(s, s)
+            if s == "requires" and fn.own:
+                if fn.member:
+                    if r[:1] == ["1"]:
+                        r = r[1:]
+                    elif r:
+                        self.said.append(f"{fn.key}: measure {r}")
+                r = by_clause(fn.own["requires"], r)
+            return [s] + r, None
         n = norm(s.strip("«»"))
         best = None
         for p in fn.chain(place):
@@ -101,7 +188,7 @@ class Convert:
                         if best is None or len(path) > best[0]:
                             best = (len(path), [a[0], new] + r[len(path) :])
         if best and best[0] > 0:
-            return best[1], None
+            return self.arm_fields(place, best[1]), None
         for v, st in fn.e["typed"][fn.index[place]]:
             if norm(st) == n and r[:1] == ["given"]:
                 return ["type_inv", v] + r[1:], None
@@ -129,8 +216,27 @@ class Convert:
         return rest, None
 
     def call_fields(self, p, r):
-        """Of a call's record: `.x.kept.0`, `.x.last.0` and the like are by name today."""
+        """Of a call's record: `.x.kept.0`, `.x.last.0` and the like are by name today, and clauses too."""
+        callee = self.fn.places[p][3]
+        got = CLAUSES.get(callee) if callee else None
+        if not got or not r:
+            return r
+        if r[0] in ("new", "last", "kept", "head") and len(r) > 1 and r[1].isdigit():
+            k = int(r[1])
+            if k < len(got["muts"]):
+                return [r[0], got["muts"][k]] + r[2:]
+        if r[0] == "ensures":
+            return ["ensures"] + by_clause(got["ensures"], r[1:])
         return r
+
+    def arm_fields(self, p, new):
+        if "ensures" in new:
+            i = new.index("ensures")
+            for q in self.fn.chain(p):
+                callee = self.fn.places[q][3]
+                if callee and callee in CLAUSES:
+                    return new[: i + 1] + by_clause(CLAUSES[callee]["ensures"], new[i + 1 :])
+        return new
 
     def expr(self, text, env, goal):
         """env: variable -> place (its record). goal: the goal's name, or None in a helper."""
@@ -202,15 +308,53 @@ class Convert:
             if v in env:
                 base = env[v]
                 if isinstance(base, tuple):
-                    out.append(".".join([base[2]] + base[1] + f))
+                    b1 = list(base[1])
+                    if b1 and isinstance(b1[-1], tuple):
+                        ns = b1.pop()[1]
+                        b1 += by_clause(ns, f)
+                        if isinstance(b1[-1], tuple):
+                            stem = ".".join([base[2]] + b1[:-1])
+                            each = [f"{stem}.{x}" for x in b1[-1][1]]
+                            whole = each[-1]
+                            for x in reversed(each[:-1]):
+                                whole = f"({x}, {whole})"
+                            out.append(whole)
+                        else:
+                            out.append(".".join([base[2]] + b1))
+                    else:
+                        # a call's record, or a part of it
+                        if len(b1) == 1 and f and f[0] in ("ensures", "new", "last", "kept"):
+                            for q in self.fn.order:
+                                if self.fn.places[q][2][1] == b1[0]:
+                                    f = self.call_fields(q, f)
+                                    break
+                        if f and isinstance(f[-1], tuple):
+                            each = [".".join([base[2]] + b1 + f[:-1] + [x]) for x in f[-1][1]]
+                            whole = each[-1]
+                            for x in reversed(each[:-1]):
+                                whole = f"({x}, {whole})"
+                            out.append(whole)
+                        else:
+                            out.append(".".join([base[2]] + b1 + f))
                 else:
                     new, pl = self.step(base, f)
                     root = self.root.get(v, v)
-                    if pl is None:
+                    if pl is None and new and isinstance(new[-1], tuple):
+                        stem = ".".join([root] + new[:-1])
+                        inlist = bool(re.search(r"(omega|grind|search|cc|simp|rw) \([^()]*$", "".join(out)))
+                        each = [f"{stem}.{x}" for x in new[-1][1]]
+                        whole = each[-1]
+                        for x in reversed(each[:-1]):
+                            whole = f"({x}, {whole})"
+                        out.append(", ".join(each) if inlist else whole)
+                    elif pl is None:
                         out.append(".".join([root] + new))
                     else:
                         np = self.fn.newplace[pl]
-                        if goal:
+                        if goal and pl == self.goalplace:
+                            out.append(root)
+                        elif goal:
+                            self.imports.add(np)
                             out.append(f"(goal.at.{goal} {'t ' if self.cycle else ''}{root}).{np}")
                         elif f:
                             out.append(f"{root}")
@@ -328,6 +472,88 @@ def used_names(text):
     return set(re.findall(r"[^\s(){};,.@\"\[\]]+", text))
 
 
+def split_top(s):
+    """The parts of a tuple's text, or None."""
+    s = s.strip()
+    if not (s.startswith("(") and s.endswith(")")):
+        return None
+    ts = tokens(s)
+    depth, parts, cur = 0, [], ""
+    for k, t in enumerate(ts):
+        if t in "([{":
+            depth += 1
+            if depth == 1:
+                continue
+        if t in ")]}":
+            depth -= 1
+            if depth == 0 and k != len(ts) - 1:
+                return None
+            if depth == 0:
+                break
+        if t == "," and depth == 1:
+            parts.append(cur.strip())
+            cur = ""
+        else:
+            cur += t
+    if cur.strip():
+        parts.append(cur.strip())
+    return parts if len(parts) > 1 else None
+
+
+def as_record(got, names, measured):
+    """A tuple for several clauses, as the record that is wanted today."""
+    if len(names) < 2:
+        return got
+    ts = tokens(got)
+    depth, last = 0, None
+    for k, t in enumerate(ts):
+        if t in "([{":
+            depth += 1
+        elif t in ")]}":
+            depth -= 1
+        elif t == "in" and depth == 0:
+            last = k
+    head = "" if last is None else "".join(ts[: last + 1]) + " "
+    tail = ("".join(ts) if last is None else "".join(ts[last + 1 :])).strip()
+    # an outer bracket
+    def rec(parts):
+        n = len(names)
+        while len(parts) < n:
+            more = split_top(parts[-1])
+            if not more:
+                return None
+            parts = parts[:-1] + more
+        if len(parts) > n:
+            parts = parts[: n - 1] + ["(" + ", ".join(parts[n - 1 :]) + ")"]
+        return "record { " + "; ".join(f"{a} = {b}" for a, b in zip(names, parts)) + " }"
+    parts = split_top(tail)
+    if measured:
+        if parts:
+            if len(parts) == 2 and split_top(parts[1]):
+                r = rec(split_top(parts[1]))
+            else:
+                r = rec(parts[1:])
+            if r:
+                return head + f"({parts[0]}, {r})"
+        return got
+    if parts:
+        r = rec(parts)
+        if r:
+            return head + r
+        return got
+    if re.match(r"^(search|omega|grind|simp|rw|cc)\b", tail):
+        if re.match(r"^(search|omega|grind)\b", tail):
+            return head + "record { " + "; ".join(f"{a} = {tail}" for a in names) + " }"
+        return got
+    if tail.startswith("λ") or tail.startswith("record") or tail.startswith("elim") or tail.startswith("⊎"):
+        return got
+    fields, pre = [], "p"
+    for k, a in enumerate(names):
+        fields.append(f"{a} = {pre}" + (".0" if k < len(names) - 1 else ""))
+        pre += ".1"
+    return head + f"let p = {tail} in record {{ " + "; ".join(fields) + " }"
+
+
 def trim_uses(uses, text):
     """Drops imported names that the text does not have."""
     out = []
@@ -399,6 +625,8 @@ def convert(path, fn, goals_module, cycle, said):
     cv = Convert(fn, said)
     cv.cycle = cycle
     cv.root = {}
+    cv.imports = set()
+    cv.goalplace = None
     inv, ans, hoisted = [], [], []
     short = os.path.dirname(path)
     for d in defs:
@@ -472,7 +700,19 @@ def convert(path, fn, goals_module, cycle, said):
                 env[args[0]] = place
             if "requires" in mn.group(1) and extra and extra[0] in ("κs", "_"):
                 extra = extra[1:]
+            cv.goalplace = place
             got = cv.expr(body, env, new)
+            names_ = []
+            if re.match(r"returns(-|$)", mn.group(1)):
+                names_ = fn.own["ensures"]
+            mr = re.match(r"^(\S+?)-requires(-\d+)?$", norm(mn.group(1)))
+            measured = False
+            if mr:
+                for k in fn.e["params"]:
+                    if norm(k.split("::")[-1]) == mr.group(1) and k in CLAUSES:
+                        names_ = CLAUSES[k]["requires"]
+                        measured = cycle and k.split("::")[-1] in fn.e.get("members", [])
+            got = as_record(got, names_, measured)
             pre = "t " if cycle else ""
             argtext = " ".join([pre + (args[0] if args else "c")] + extra)
             ans.append((d["comments"], f"pub {new} : goal.{new}\n" + "".join(u + "\n" for u in d["unfolding"]) + f"{new} {argtext} = {got}"))
@@ -494,7 +734,8 @@ def convert(path, fn, goals_module, cycle, said):
                 said.append(f"{short}: helper {name} at {pn}")
                 continue
             np = fn.newplace[pl]
-            ty2 = re.sub(r"\((\S+) : (?:tie|lts)\.([^\s)]+)[^)]*\)", lambda mm: f"({mm.group(1)} : goal.{np})", ty, count=1) if mp else re.sub(r"^(?:tie|lts)\.(\S+?) →", f"goal.{np} →", ty)
+            cv.imports.add(np)
+            ty2 = re.sub(r"\((\S+) : (?:tie|lts)\.([^\s)]+)[^)]*\)", lambda mm: f"({mm.group(1)} : {np})", ty, count=1) if mp else re.sub(r"^(?:tie|lts)\.(\S+?) →", f"{np} →", ty)
             var = mp.group(1) if mp else "c"
             cv.root = {}
             hd, tl = (ty2.split("→", 1) + [""])[:2]
@@ -508,7 +749,11 @@ def convert(path, fn, goals_module, cycle, said):
             continue
         # a lemma or word of its own
         ans.append((d["comments"], f"{d['mods']}{name} : {ty}\n" + "".join(u + "\n" for u in d["unfolding"]) + "\n".join(d["clauses"])))
-    return head, uses, inv, ans
+    return head, uses, inv, ans, cv.imports
+
+
+def goal_names(gm, names):
+    return f"\nuse {gm}.Goals.{{{', '.join(sorted(names))}}}" if names else ""
 
 
 def write(path, head, uses, goaluse, parts):
@@ -521,6 +766,7 @@ def write(path, head, uses, goaluse, parts):
 def main():
     names, crates = sys.argv[1], sys.argv[2:]
     said = []
+    CLAUSES.update(clauses_of(sorted(os.listdir("crates"))))
     if not crates:
         crates = sorted(os.listdir("crates"))
     for c in crates:
@@ -534,6 +780,8 @@ def main():
             if not m:
                 continue
             folder, member = m.group(1).replace(".", "/"), m.group(2)
+            if member:
+                e["members"] = [k.split(".Lts-")[1] for k in d if ".Lts-" in k and k.startswith(key.split(".Lts-")[0] + ".")]
             fn = Fn(key, e, c)
             base = f"crates/{c}/proofs/{folder}"
             gm = f"Rattle.{c}.proofs.{m.group(1)}"
@@ -553,8 +801,9 @@ def main():
                 if not f:
                     said.append(f"{base}: no file for {member}")
                     continue
-                head, uses, inv, ans = convert(f, fn, gm, True, said)
-                cyc = CYCLES.setdefault(base, {"gm": gm, "inv": [], "ans": [], "uses": [], "head": "", "members": {}})
+                head, uses, inv, ans, imp = convert(f, fn, gm, True, said)
+                cyc = CYCLES.setdefault(base, {"gm": gm, "inv": [], "ans": [], "uses": [], "head": "", "members": {}, "imports": set()})
+                cyc["imports"] |= imp
                 cyc["inv"] += inv
                 cyc["ans"] += ans
                 cyc["uses"] += uses
@@ -567,11 +816,11 @@ def main():
             f = base + "/Proof.antt"
             if not os.path.exists(f):
                 continue
-            head, uses, inv, ans = convert(f, fn, gm, False, said)
+            head, uses, inv, ans, imp = convert(f, fn, gm, False, said)
             if inv:
                 write(base + "/Invariants.antt", head, uses, f"use {gm}.Given as goal", inv)
             if ans:
-                write(base + "/Answers.antt", head if not inv else "", uses, f"use {gm}.Goals as goal", ans)
+                write(base + "/Answers.antt", head if not inv else "", uses, f"use {gm}.Goals as goal" + goal_names(gm, imp), ans)
             os.remove(f)
             if not os.listdir(base):
                 os.rmdir(base)
@@ -600,7 +849,7 @@ def main():
             muses = [u for u in re.findall(r"(?m)^use .*$", cl) if "proofs" not in u]
             write(base + "/Invariants.antt", "", muses + cyc["uses"], f"use {cyc['gm']}.Given as goal", meas + cyc["inv"])
             if cyc["ans"]:
-                write(base + "/Answers.antt", "", cyc["uses"], f"use {cyc['gm']}.Goals as goal", cyc["ans"])
+                write(base + "/Answers.antt", "", cyc["uses"], f"use {cyc['gm']}.Goals as goal" + goal_names(cyc["gm"], cyc["imports"]), cyc["ans"])
             for f in list(cyc["members"].values()) + [base + "/Proof/Claims.antt", base + "/Proof.antt"]:
                 if os.path.exists(f):
                     os.remove(f)

@@ -12,7 +12,7 @@ use Rattle.word.specs.Choice.{if◌then◌else◌}
 use Rattle.reach.specs.Reach.{◌∈◌}
 use Rattle.alike.specs.Same.{Object, Model, Traceable, Counted, OneTable, Slots}
 use Rattle.alike.specs.Order.{met, resolves, worth, places_code, object_code, objects_code, encoding, Order, Order.less, Order.equal, Order.greater, order, heap_order}
-use Rattle.alike.specs.Inner.ByTurns.{numbers, ◌andThen◌, place_order, object_order, objects_order, by_turns}
+use Rattle.alike.specs.Inner.ByTurns.{numbers, ◌and_then◌, place_order, object_order, objects_order, by_turns}
 use Rattle.alike.proofs.FirstMet.{met-reached}
 use Rattle.alike.proofs.Orders.{order-equal}
 

@@ -16,7 +16,7 @@ use Rattle.handle.specs.declared.Resolved.{Resolved}
 use Rattle.handle.specs.declared.Resolved.TheVariants.{Null, WrongHeap, NeverIssued, Stale, At}
 use Rattle.handle.specs.contracts.Resolved.{the_type as resolved-type}
 use Rattle.alike.specs.Order.{Order, Order.less, Order.equal, Order.greater, order}
-use Rattle.alike.specs.Inner.ByTurns.{numbers, ◌andThen◌}
+use Rattle.alike.specs.Inner.ByTurns.{numbers, ◌and_then◌}
 use Rattle.alike.specs.Inner.Beside.{Beside, beside_at}
 use Rattle.alike.proofs.Turns.{order-cons}
 use Rattle.beside.specs.Inner.Codes.{code, order_of, then_code}

@@ -10,7 +10,7 @@ use native.Mathlib.Omega.{arith}
 use Rattle.word.specs.Choice.{if◌then◌else◌}
 use Rattle.word.proofs.ListLaws.{drop-cons-one}
 use Rattle.alike.specs.Order.{Order, Order.less, Order.equal, Order.greater}
-use Rattle.alike.specs.Inner.ByTurns.{numbers, ◌andThen◌}
+use Rattle.alike.specs.Inner.ByTurns.{numbers, ◌and_then◌}
 use Rattle.alike.proofs.Turns.{numbers-equal}
 use Rattle.beside.specs.Inner.Codes.{code}
 use Rattle.compare.specs.Inner.Lists.{lists_order}

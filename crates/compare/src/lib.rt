@@ -4,7 +4,7 @@
 
 ghost use Rattle.std.specs.Prelude.{◌≡◌, ◌≤◌, length, eqb};
 ghost use Rattle.word.specs.Choice.{if◌then◌else◌};
-ghost use Rattle.alike.specs.Inner.ByTurns.{numbers, ◌andThen◌};
+ghost use Rattle.alike.specs.Inner.ByTurns.{numbers, ◌and_then◌};
 ghost use Rattle.beside.specs.Inner.Codes.{code};
 ghost use Rattle.beside.specs.Inner.Ranks.{resolve_in, Runs, place_in};
 ghost use Rattle.compare.specs.Inner.Turns.{lows, CanQueue, CanTurn, Raised, Turned};

@@ -7,7 +7,7 @@ use lib.ListN.{length, get_or}
 use native.Mathlib.Omega.{arith}
 use Rattle.ty.specs.Types.{Table}
 use Rattle.alike.specs.Order.{Order}
-use Rattle.alike.specs.Inner.ByTurns.{numbers, ◌andThen◌}
+use Rattle.alike.specs.Inner.ByTurns.{numbers, ◌and_then◌}
 use Rattle.beside.specs.Inner.Codes.{code}
 use Rattle.beside.specs.Inner.Ranks.{resolve_in, place_in}
 use Rattle.compare.specs.Inner.Turns.{lows}

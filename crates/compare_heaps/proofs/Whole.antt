@@ -25,7 +25,7 @@ use Rattle.mark.proofs.Formed.{formed-fit, formed-few}
 use Rattle.mark.proofs.Inside.{resolves-in}
 use Rattle.alike.specs.Same.{Model}
 use Rattle.alike.specs.Order.{Order, Order.less, Order.equal, Order.greater, order, met, resolves, worth, places_code}
-use Rattle.alike.specs.Inner.ByTurns.{numbers, ◌andThen◌, place_order, slot_order, objects_order, by_turns}
+use Rattle.alike.specs.Inner.ByTurns.{numbers, ◌and_then◌, place_order, slot_order, objects_order, by_turns}
 use Rattle.alike.specs.Inner.Beside.{beside_first, beside_all, beside_end}
 use Rattle.alike.proofs.Turns.{then-assoc, then-after, numbers-equal, places-cons}
 use Rattle.beside.specs.Inner.Codes.{code}

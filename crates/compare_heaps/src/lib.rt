@@ -6,7 +6,7 @@ ghost use Rattle.std.specs.Prelude.{◌≡◌, length};
 ghost use Rattle.heap.specs.Lent.{lent, view};
 ghost use Rattle.ty.specs.View.{table_of};
 ghost use Rattle.mark.specs.Graph.{Fit};
-ghost use Rattle.alike.specs.Inner.ByTurns.{numbers, ◌andThen◌};
+ghost use Rattle.alike.specs.Inner.ByTurns.{numbers, ◌and_then◌};
 ghost use Rattle.beside.specs.Inner.Codes.{code};
 ghost use Rattle.beside.specs.Inner.Ranks.{resolve_in, place_in};
 ghost use Rattle.compare.specs.Inner.Turns.{lows};

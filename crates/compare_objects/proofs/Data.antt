@@ -18,7 +18,7 @@ use Rattle.trace.specs.declared.Answer.{Answer}
 use Rattle.trace.specs.declared.Answer.TheVariants.{Traced, Untraceable}
 use Rattle.trace.proofs.BesideLaws.{beside-told, beside_none}
 use Rattle.alike.specs.Order.{Order, order}
-use Rattle.alike.specs.Inner.ByTurns.{numbers, ◌andThen◌}
+use Rattle.alike.specs.Inner.ByTurns.{numbers, ◌and_then◌}
 use Rattle.alike.specs.Inner.Beside.{Beside, beside_first, beside_all, beside_end}
 use Rattle.beside.specs.Inner.Codes.{code, then_code}
 use Rattle.beside.specs.Inner.Ranks.{place_in}

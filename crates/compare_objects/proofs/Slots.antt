@@ -13,7 +13,7 @@ use Rattle.ty.specs.Types.{Table}
 use Rattle.trace.specs.Places.{shown_places}
 use Rattle.mark.specs.Graph.{Fit}
 use Rattle.alike.specs.Order.{Order, Order.less, Order.equal, Order.greater}
-use Rattle.alike.specs.Inner.ByTurns.{◌andThen◌, numbers}
+use Rattle.alike.specs.Inner.ByTurns.{◌and_then◌, numbers}
 use Rattle.alike.proofs.Turns.{numbers-equal}
 use Rattle.beside.specs.Inner.Codes.{code}
 use Rattle.compare.proofs.Going.{code-equal, then-first, then-second}

@@ -10,7 +10,7 @@ use native.Mathlib.Nat.{le_of_suc-le-suc, not-suc-le-zero, add-zero}
 use native.Mathlib.Omega.{arith}
 use Rattle.reach.specs.Reach.{◌∈◌}
 use Rattle.alike.specs.Order.{Order, order}
-use Rattle.alike.specs.Inner.ByTurns.{◌andThen◌}
+use Rattle.alike.specs.Inner.ByTurns.{◌and_then◌}
 use Rattle.alike.proofs.Turns.{order-append}
 use Rattle.places.specs.PlacesRise.{Apart}
 use Rattle.models.specs.Objects.{in_place, outside}

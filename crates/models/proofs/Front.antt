@@ -20,7 +20,7 @@ use Rattle.trace.specs.Places.{Places, only_if, places_at, handles_places, kind_
 use Rattle.reach.specs.Reach.{◌∈◌}
 use Rattle.alike.specs.Same.{Object, Model, shown, Counted, OneTable}
 use Rattle.alike.specs.Order.{Order, Order.less, Order.equal, Order.greater, order, places_code}
-use Rattle.alike.specs.Inner.ByTurns.{numbers, ◌andThen◌, object_order}
+use Rattle.alike.specs.Inner.ByTurns.{numbers, ◌and_then◌, object_order}
 use Rattle.alike.proofs.Orders.{order-equal}
 use Rattle.alike.proofs.Turns.{then-after, numbers-equal, order-append}
 use Rattle.places.proofs.Least.{Least, places-least}

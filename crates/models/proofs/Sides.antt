@@ -8,7 +8,7 @@ use Rattle.ty.specs.Types.{Table}
 use Rattle.trace.specs.Places.{handle_at}
 use Rattle.alike.specs.Same.{Object, Model}
 use Rattle.alike.specs.Order.{Order, Order.less, Order.equal, Order.greater, order, places_code}
-use Rattle.alike.specs.Inner.ByTurns.{numbers, ◌andThen◌, place_order, object_order, slot_order}
+use Rattle.alike.specs.Inner.ByTurns.{numbers, ◌and_then◌, place_order, object_order, slot_order}
 use Rattle.alike.specs.Inner.Beside.{Beside, beside_first, beside_at, beside_all, beside_end}
 use Rattle.alike.proofs.Turns.{then-assoc, then-after, numbers-equal, places-cons}
 use Rattle.places.specs.StrideZero.{ShortConstants}

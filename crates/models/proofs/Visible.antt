@@ -16,7 +16,7 @@ use Rattle.trace.specs.Places.{kind_places, shown_places}
 use Rattle.places.specs.StrideZero.{ShortConstants}
 use Rattle.alike.specs.Same.{Object, Model}
 use Rattle.alike.specs.Order.{Order, Order.equal, order}
-use Rattle.alike.specs.Inner.ByTurns.{numbers, ◌andThen◌, place_order, slot_order}
+use Rattle.alike.specs.Inner.ByTurns.{numbers, ◌and_then◌, place_order, slot_order}
 use Rattle.alike.specs.Inner.Beside.{Beside, beside_first, beside_all, beside_end}
 use Rattle.alike.proofs.Orders.{order-refl}
 use Rattle.alike.proofs.Turns.{then-assoc, then-after, numbers-equal, order-append}

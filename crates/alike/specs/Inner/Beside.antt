@@ -3,7 +3,7 @@
 use Rattle.std.specs.Prelude.{ℕ, ◌+◌, ◌-◌, List, [], ◌∷◌, take, drop}
 use Rattle.word.specs.Le.{le}
 use Rattle.alike.specs.Order.{Order, Order.equal, order}
-use Rattle.alike.specs.Inner.ByTurns.{◌andThen◌}
+use Rattle.alike.specs.Inner.ByTurns.{◌and_then◌}
 
 pub record Beside : Type 0 where
   pub done : ℕ

@@ -11,8 +11,8 @@ abbrev pub numbers : ℕ → ℕ → Order
 numbers x y = if ltb x y then less else (if ltb y x then greater else equal)
 
 -- the first that is not equal decides
-infixr 20 ◌andThen◌
-abbrev pub ◌andThen◌ : Order → Order → Order
+infixr 20 ◌and_then◌
+abbrev pub ◌and_then◌ : Order → Order → Order
 less and_then o = less
 equal and_then o = o
 greater and_then o = greater

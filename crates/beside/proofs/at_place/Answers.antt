@@ -4,7 +4,7 @@ use borrow.Author.Rules.{rules}
 use Rattle.beside.proofs.at_place.Goals as goal
 
 pub returns-then-found-lt2 : goal.returns-then-found-lt2
-returns-then-found-lt2 c = (search rules, search found-short)
+returns-then-found-lt2 c = record { value = search rules; found_after = search found-short }
 
 pub returns : goal.returns
-returns c = (search rules, search found-both)
+returns c = record { value = search rules; found_after = search found-both }

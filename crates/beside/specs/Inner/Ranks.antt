@@ -6,7 +6,7 @@ use Rattle.word.specs.Run.{run}
 use Rattle.handle.specs.Handle.{resolve_by}
 use Rattle.handle.specs.Columns.{live_in}
 use Rattle.alike.specs.Order.{Order}
-use Rattle.alike.specs.Inner.ByTurns.{numbers, ◌andThen◌}
+use Rattle.alike.specs.Inner.ByTurns.{numbers, ◌and_then◌}
 
 -- what a handle resolves to in the heap with this tag and so many of s slots in use, by its generations and kinds
 unfoldable pub resolve_in : (tag slots s : ℕ) → List ℕ → ℕ → Result ℕ

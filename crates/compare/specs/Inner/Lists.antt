@@ -1,7 +1,7 @@
 -- Two lists compared from the front by an order of what stands at equal places; the one that ends first is less.
 use Rattle.std.specs.Prelude.{ℕ, List, [], ◌∷◌}
 use Rattle.alike.specs.Order.{Order, Order.less, Order.equal, Order.greater}
-use Rattle.alike.specs.Inner.ByTurns.{◌andThen◌}
+use Rattle.alike.specs.Inner.ByTurns.{◌and_then◌}
 
 unfoldable pub lists_order : (ℕ → ℕ → Order) → List ℕ → List ℕ → Order
 lists_order f [] [] = equal

@@ -7,7 +7,7 @@ use Rattle.heap.specs.Packing.{start_of, data_at}
 use Rattle.ty.specs.Types.{Table}
 use Rattle.trace.specs.Places.{Places, shown_places}
 use Rattle.alike.specs.Order.{Order, Order.equal, order}
-use Rattle.alike.specs.Inner.ByTurns.{numbers, ◌andThen◌}
+use Rattle.alike.specs.Inner.ByTurns.{numbers, ◌and_then◌}
 use Rattle.alike.specs.Inner.Beside.{beside_first, beside_all, beside_end}
 use Rattle.compare_objects.specs.declared.Head.{Head}
 

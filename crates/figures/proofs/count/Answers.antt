@@ -45,4 +45,4 @@ loop-i-preserved c = λ h e l. subst (Counted (view (lent h c.args.narrow.now c.
     (counted-more h c.args.narrow.now c.args.wide.now c.args.pool.now l c.loop-i.from c.loop-i.i c.loop-i.figures (c.loop-i.invariant h e l) (omega (arith, c.loop-i-test.true, e)))
 
 pub returns : goal.returns
-returns c = counted-all c.args.heap c.args.narrow.now c.args.wide.now c.args.pool.now c.requires c.loop-i.from c.loop-i.i c.loop-i.figures (c.loop-i.invariant c.args.heap refl c.requires) c.loop-i-test.false
+returns c = let p = counted-all c.args.heap c.args.narrow.now c.args.wide.now c.args.pool.now c.requires c.loop-i.from c.loop-i.i c.loop-i.figures (c.loop-i.invariant c.args.heap refl c.requires) c.loop-i-test.false in record { value = p.0; small = p.1 }

@@ -5,4 +5,4 @@ use Rattle.figures.proofs.Showing.{small-none}
 use Rattle.figures.proofs.no_page.Goals as goal
 
 pub returns : goal.returns
-returns c = (λ j. record { answer = 17; figures = c.none.ensures j }, subst Small (sym c.none.ensures) small-none)
+returns c = record { value = λ j. record { answer = 17; figures = c.none.ensures j }; small = subst Small (sym c.none.ensures) small-none }

@@ -18,10 +18,10 @@ pub none-requires : goal.none-requires
 none-requires c = tt
 
 pub returns-then-number-ne0 : goal.returns-then-number-ne0
-returns-then-number-ne0 c = ((λ j. record { answer = c.yexwalu_read_page-done.result.answer.number; figures = c.none.ensures j }) ∙ show-refused c.new.result c.args.narrow.now c.args.wide.now c.args.pool.now c.args.marks.now c.args.work.now _ c.yexwalu_read_page-arg-1.given.0.1 c.yexwalu_read_page-arg-2-1.given.0.1 c.yexwalu_read_page-arg-3-1.given.0.1 c.yexwalu_read_page-arg-4-1.given.0.1 c.yexwalu_read_page-arg-5-1.given.0.1 c.yexwalu_read_page-done.ensures c.if-number-ne0.true, subst Small (sym c.none.ensures) small-none)
+returns-then-number-ne0 c = record { value = (λ j. record { answer = c.yexwalu_read_page-done.result.answer.number; figures = c.none.ensures j }) ∙ show-refused c.new.result c.args.narrow.now c.args.wide.now c.args.pool.now c.args.marks.now c.args.work.now _ c.yexwalu_read_page-arg-1.given.0.1 c.yexwalu_read_page-arg-2-1.given.0.1 c.yexwalu_read_page-arg-3-1.given.0.1 c.yexwalu_read_page-arg-4-1.given.0.1 c.yexwalu_read_page-arg-5-1.given.0.1 c.yexwalu_read_page-done.ensures c.if-number-ne0.true; small = subst Small (sym c.none.ensures) small-none }
 
 pub count-requires : goal.count-requires
 count-requires c = show-lies c.new.result c.args.narrow.now c.args.wide.now c.args.pool.now c.args.marks.now c.args.work.now _ c.yexwalu_read_page-arg-1.given.0.1 c.yexwalu_read_page-arg-2-1.given.0.1 c.yexwalu_read_page-arg-3-1.given.0.1 c.yexwalu_read_page-arg-4-1.given.0.1 c.yexwalu_read_page-arg-5-1.given.0.1 c.yexwalu_read_page-done.ensures c.if-number-ne0.false
 
 pub returns : goal.returns
-returns c = (show-done c.new.result c.args.narrow.now c.args.wide.now c.args.pool.now c.args.marks.now c.args.work.now _ c.yexwalu_read_page-arg-1.given.0.1 c.yexwalu_read_page-arg-2-1.given.0.1 c.yexwalu_read_page-arg-3-1.given.0.1 c.yexwalu_read_page-arg-4-1.given.0.1 c.yexwalu_read_page-arg-5-1.given.0.1 c.yexwalu_read_page-done.ensures c.if-number-ne0.false _ c.count.ensures.0, c.count.ensures.1)
+returns c = record { value = show-done c.new.result c.args.narrow.now c.args.wide.now c.args.pool.now c.args.marks.now c.args.work.now _ c.yexwalu_read_page-arg-1.given.0.1 c.yexwalu_read_page-arg-2-1.given.0.1 c.yexwalu_read_page-arg-3-1.given.0.1 c.yexwalu_read_page-arg-4-1.given.0.1 c.yexwalu_read_page-arg-5-1.given.0.1 c.yexwalu_read_page-done.ensures c.if-number-ne0.false _ c.count.ensures.value; small = c.count.ensures.small }

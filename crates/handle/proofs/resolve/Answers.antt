@@ -6,9 +6,10 @@ use Rattle.word.proofs.RunLaws.{run-get, first-get}
 use Rattle.handle.specs.Handle.{tag_of, generation_of}
 use Rattle.handle.proofs.ResolveLaws.{resolve-null, resolve-wrong, resolve-unissued, resolve-dead, resolve-old, resolve-at, live-not, live-there}
 use Rattle.handle.proofs.resolve.Goals as goal
+use Rattle.handle.proofs.resolve.Goals.{Else-tag_of-tag}
 
 -- past the two first tests: the handle is not 0, and its tag is the heap's
-own : (c : goal.Else-tag_of-tag) → tag_of c.args.h ≡ c.args.tag
+own : (c : Else-tag_of-tag) → tag_of c.args.h ≡ c.args.tag
 own c = sym c.tag_of.ensures ∙ c.if-tag_of-tag.false
 
 pub returns-then-h-eq0 : goal.returns-then-h-eq0

@@ -3,8 +3,9 @@ use Rattle.std.proofs.Common.{length, get_or, arith}
 use Rattle.heap.specs.Columns.{datas}
 use Rattle.heap.proofs.Splicing.{Marks, marks, splice-whole}
 use Rattle.heap.proofs.splice.Goals as goal
+use Rattle.heap.proofs.splice.Goals.{After-begins-e}
 
-knows : (c : goal.After-begins-e) → (Marks (datas c.args.n c.args.end.now c.args.pool.now) c.args.n c.args.i c.args.end.now c.begins-a.result (get_or c.args.end.now c.args.i 0) c.begins-e.result (length c.args.new.now) (length c.args.pool.now))
+knows : (c : After-begins-e) → (Marks (datas c.args.n c.args.end.now c.args.pool.now) c.args.n c.args.i c.args.end.now c.begins-a.result (get_or c.args.end.now c.args.i 0) c.begins-e.result (length c.args.new.now) (length c.args.pool.now))
 knows c = marks c.args.n c.args.i c.args.end.now c.args.pool.now c.args.new.now c.requires c.begins-a.result c.begins-e.result c.begins-a.ensures c.begins-e.ensures
 
 pub overflow_add-a : goal.overflow_add-a

@@ -8,12 +8,13 @@ use Rattle.word.proofs.RunLaws.{run-get, first-get}
 use Rattle.heap_calls.proofs.Taking.{there, slot-short, slot-taken}
 use Rattle.heap_calls.proofs.Lending.{lengths}
 use Rattle.heap_calls.proofs.take_slot.Goals as goal
+use Rattle.heap_calls.proofs.take_slot.Goals.{Start}
 
 -- where the object's data ends, and its start
-end_is : (c : goal.Start) → get_or ((lent c.args.heap c.args.narrow.now c.args.wide.now c.args.pool.now)).end c.args.i 0 ≡ get_or c.args.wide.now (length c.args.narrow.now / 6 + c.args.i) 0
+end_is : (c : Start) → get_or ((lent c.args.heap c.args.narrow.now c.args.wide.now c.args.pool.now)).end c.args.i 0 ≡ get_or c.args.wide.now (length c.args.narrow.now / 6 + c.args.i) 0
 end_is c = run-get _ _ _ _ (omega (arith, there ((lent c.args.heap c.args.narrow.now c.args.wide.now c.args.pool.now)) c.args.i c.requires))
 
-from_is : (c : goal.Start) → get_or c.args.wide.now c.args.i 0 ≡ get_or ((lent c.args.heap c.args.narrow.now c.args.wide.now c.args.pool.now)).start c.args.i 0
+from_is : (c : Start) → get_or c.args.wide.now c.args.i 0 ≡ get_or ((lent c.args.heap c.args.narrow.now c.args.wide.now c.args.pool.now)).start c.args.i 0
 from_is c = sym (first-get _ _ _ (omega (arith, there ((lent c.args.heap c.args.narrow.now c.args.wide.now c.args.pool.now)) c.args.i c.requires)))
 
 pub start_of-a-requires : goal.start_of-a-requires

@@ -32,7 +32,7 @@ pub offset_bounds-narrow-five : goal.offset_bounds-narrow-five
 offset_bounds-narrow-five c = omega (arith, holds c.header_ok.ensures c.if-header_ok.true)
 
 pub runs_ok-requires : goal.runs_ok-requires
-runs_ok-requires c = (lent-header c.args.heap c.args.narrow.now c.args.wide.now c.args.pool.now (holds c.header_ok.ensures c.if-header_ok.true) (holds c.sizes_ok.ensures c.if-sizes_ok.true), (lent-sizes c.args.heap c.args.narrow.now c.args.wide.now c.args.pool.now (holds c.header_ok.ensures c.if-header_ok.true) (holds c.sizes_ok.ensures c.if-sizes_ok.true), (lent-marks c.args.heap c.args.narrow.now c.args.wide.now c.args.pool.now (holds c.header_ok.ensures c.if-header_ok.true) (holds c.sizes_ok.ensures c.if-sizes_ok.true) (length c.args.marks.now) c.requires.0, c.requires.1)))
+runs_ok-requires c = record { header_ok = lent-header c.args.heap c.args.narrow.now c.args.wide.now c.args.pool.now (holds c.header_ok.ensures c.if-header_ok.true) (holds c.sizes_ok.ensures c.if-sizes_ok.true); equal_sizes = lent-sizes c.args.heap c.args.narrow.now c.args.wide.now c.args.pool.now (holds c.header_ok.ensures c.if-header_ok.true) (holds c.sizes_ok.ensures c.if-sizes_ok.true); generation_in_bounds = (lent-marks c.args.heap c.args.narrow.now c.args.wide.now c.args.pool.now (holds c.header_ok.ensures c.if-header_ok.true) (holds c.sizes_ok.ensures c.if-sizes_ok.true) (length c.args.marks.now) c.requires.0, c.requires.1) }
 
 pub returns : goal.returns
 returns c = says-in c.args.heap c.args.narrow.now c.args.wide.now c.args.pool.now (holds c.header_ok.ensures c.if-header_ok.true) (holds c.sizes_ok.ensures c.if-sizes_ok.true) _ c.runs_ok.ensures

@@ -7,13 +7,13 @@ pub returns-else-partition_ok : goal.returns-else-partition_ok
 returns-else-partition_ok c = no_more c.partition_ok.ensures c.if-partition_ok.false (λ y. y.partition)
 
 pub aged-requires : goal.aged-requires
-aged-requires c = entries-inside c.args.n _ c.args.kind.now c.args.free.now c.args.quarantine.now c.args.retired.now c.args.free.now (holds c.partition_ok.ensures c.if-partition_ok.true) c.requires.1 (λ i. omega arith)
+aged-requires c = entries-inside c.args.n _ c.args.kind.now c.args.free.now c.args.quarantine.now c.args.retired.now c.args.free.now (holds c.partition_ok.ensures c.if-partition_ok.true) c.requires.n_in_bounds_2 (λ i. omega arith)
 
 pub returns-else-aged : goal.returns-else-aged
 returns-else-aged c = no_more c.aged.ensures c.if-aged.false (λ y. y.young)
 
 pub aged-requires-2 : goal.aged-requires-2
-aged-requires-2 c = entries-inside c.args.n _ c.args.kind.now c.args.free.now c.args.quarantine.now c.args.retired.now c.args.retired.now (holds c.partition_ok.ensures c.if-partition_ok.true) c.requires.1 (λ i. omega arith)
+aged-requires-2 c = entries-inside c.args.n _ c.args.kind.now c.args.free.now c.args.quarantine.now c.args.retired.now c.args.retired.now (holds c.partition_ok.ensures c.if-partition_ok.true) c.requires.n_in_bounds_2 (λ i. omega arith)
 
 pub returns-else-aged-2 : goal.returns-else-aged-2
 returns-else-aged-2 c = no_more c.aged-2.ensures c.if-aged-2.false (λ y. y.spent)

@@ -12,28 +12,28 @@ pub returns-else-slots_ok : goal.returns-else-slots_ok
 returns-else-slots_ok c = no_more c.slots_ok.ensures c.if-slots_ok.false (λ y. y.slots)
 
 pub begins-requires : goal.begins-requires
-begins-requires c = omega (arith, c.requires.0, c.requires.1.0)
+begins-requires c = omega (arith, c.requires.header_ok, c.requires.equal_sizes)
 
 pub returns-else-zeros_u8 : goal.returns-else-zeros_u8
 returns-else-zeros_u8 c = no-more-test c.zeros_u8.ensures c.if-zeros_u8.false (λ y. rw c.begins.ensures y.pool)
 
 pub slice_bounds-seals_ok-end : goal.slice_bounds-seals_ok-end
-slice_bounds-seals_ok-end c = sym (length-take-le _ _ (omega (arith, c.requires.0, c.requires.1.0)))
+slice_bounds-seals_ok-end c = sym (length-take-le _ _ (omega (arith, c.requires.header_ok, c.requires.equal_sizes)))
 
 pub returns-else-seals_ok : goal.returns-else-seals_ok
 returns-else-seals_ok c = says-no (λ y. false-true _ c.if-seals_ok.false (c.seals_ok.ensures ∙ y.seals))
 
 pub slice_bounds-lists_ok-end : goal.slice_bounds-lists_ok-end
-slice_bounds-lists_ok-end c = sym (length-take-le _ _ (omega (arith, c.requires.0, c.requires.1.0)))
+slice_bounds-lists_ok-end c = sym (length-take-le _ _ (omega (arith, c.requires.header_ok, c.requires.equal_sizes)))
 
 pub slice_bounds-lists_ok-end-2 : goal.slice_bounds-lists_ok-end-2
-slice_bounds-lists_ok-end-2 c = sym (length-take-le _ _ (omega (arith, c.requires.0, c.requires.1.0)))
+slice_bounds-lists_ok-end-2 c = sym (length-take-le _ _ (omega (arith, c.requires.header_ok, c.requires.equal_sizes)))
 
 pub slice_bounds-lists_ok-end-3 : goal.slice_bounds-lists_ok-end-3
-slice_bounds-lists_ok-end-3 c = sym (length-take-le _ _ (omega (arith, c.requires.0, c.requires.1.0)))
+slice_bounds-lists_ok-end-3 c = sym (length-take-le _ _ (omega (arith, c.requires.header_ok, c.requires.equal_sizes)))
 
 pub lists_ok-requires : goal.lists_ok-requires
-lists_ok-requires c = ((omega (arith, c.requires.0, c.requires.1.0), omega (arith, c.requires.0, c.requires.1.1.0), (holds c.unused_ok.ensures c.if-unused_ok.true).kind, c.requires.1.1.1), omega (arith, c.requires.0))
+lists_ok-requires c = record { n_in_bounds = (omega (arith, c.requires.header_ok, c.requires.equal_sizes), omega (arith, c.requires.header_ok, c.requires.generation_in_bounds.0), (holds c.unused_ok.ensures c.if-unused_ok.true).kind, c.requires.generation_in_bounds.1); n_in_bounds_2 = omega (arith, c.requires.header_ok) }
 
 pub returns-else-lists_ok : goal.returns-else-lists_ok
 returns-else-lists_ok c = no_more c.lists_ok.ensures c.if-lists_ok.false (λ y. y.lists)

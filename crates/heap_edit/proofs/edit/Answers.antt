@@ -4,8 +4,9 @@ use Rattle.heap.specs.Lent.{lent}
 use Rattle.heap_edit.proofs.Columns.{Sizes, sizes}
 use Rattle.heap_edit.proofs.Editing.{found, edit-unfound, edit-inside, edit-not, edit-can, edit-yes}
 use Rattle.heap_edit.proofs.edit.Goals as goal
+use Rattle.heap_edit.proofs.edit.Goals.{Start}
 
-K : (c : goal.Start) → Sizes c.args.heap c.args.narrow.now c.args.wide.now c.args.pool.now
+K : (c : Start) → Sizes c.args.heap c.args.narrow.now c.args.wide.now c.args.pool.now
 K c = sizes c.args.heap c.args.narrow.now c.args.wide.now c.args.pool.now c.requires
 
 pub resolve-found-requires : goal.resolve-found-requires
@@ -15,7 +16,7 @@ pub returns-in_default : goal.returns-in_default
 returns-in_default c = edit-unfound ((lent c.args.heap c.args.narrow.now c.args.wide.now c.args.pool.now)) c.requires c.args.x c.args.bytes.now c.args.start c.resolve-found.result c.in_default.in_default-own.keys2 (found ((lent c.args.heap c.args.narrow.now c.args.wide.now c.args.pool.now)) c.requires _ c.resolve-found.result c.resolve-found.ensures) c.reply.ensures
 
 pub fits-requires : goal.fits-requires
-fits-requires c = (c.requires, edit-inside ((lent c.args.heap c.args.narrow.now c.args.wide.now c.args.pool.now)) c.requires c.args.x c.args.bytes.now c.args.start (found ((lent c.args.heap c.args.narrow.now c.args.wide.now c.args.pool.now)) c.requires _ c.resolve-found.result c.resolve-found.ensures) c.in-At.is)
+fits-requires c = record { pool_value = c.requires; i_lt_slots = edit-inside ((lent c.args.heap c.args.narrow.now c.args.wide.now c.args.pool.now)) c.requires c.args.x c.args.bytes.now c.args.start (found ((lent c.args.heap c.args.narrow.now c.args.wide.now c.args.pool.now)) c.requires _ c.resolve-found.result c.resolve-found.ensures) c.in-At.is }
 
 pub returns-else-fits : goal.returns-else-fits
 returns-else-fits c = edit-not ((lent c.args.heap c.args.narrow.now c.args.wide.now c.args.pool.now)) c.requires c.args.x c.args.bytes.now c.args.start (found ((lent c.args.heap c.args.narrow.now c.args.wide.now c.args.pool.now)) c.requires _ c.resolve-found.result c.resolve-found.ensures) c.in-At.is c.fits.ensures c.if-fits.false

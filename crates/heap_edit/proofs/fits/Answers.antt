@@ -3,12 +3,13 @@ use Rattle.std.proofs.Common.{◌≡◌, ℕ, ◌+◌, ◌-◌, ◌<◌, ◌≤�
 use Rattle.word.proofs.Bools.{bool-ext}
 use Rattle.heap_edit.proofs.Columns.{Sizes, Reads, sizes, reads}
 use Rattle.heap_edit.proofs.fits.Goals as goal
+use Rattle.heap_edit.proofs.fits.Goals.{Start}
 
-K : (c : goal.Start) → Sizes c.args.heap c.args.narrow.now c.args.wide.now c.args.pool.now
-K c = sizes c.args.heap c.args.narrow.now c.args.wide.now c.args.pool.now c.requires.0
+K : (c : Start) → Sizes c.args.heap c.args.narrow.now c.args.wide.now c.args.pool.now
+K c = sizes c.args.heap c.args.narrow.now c.args.wide.now c.args.pool.now c.requires.pool_value
 
-R : (c : goal.Start) → c.args.i < c.args.heap.slots → Reads c.args.heap c.args.narrow.now c.args.wide.now c.args.pool.now c.args.i
-R c b = reads c.args.heap c.args.narrow.now c.args.wide.now c.args.pool.now c.requires.0 c.args.i b
+R : (c : Start) → c.args.i < c.args.heap.slots → Reads c.args.heap c.args.narrow.now c.args.wide.now c.args.pool.now c.args.i
+R c b = reads c.args.heap c.args.narrow.now c.args.wide.now c.args.pool.now c.requires.pool_value c.args.i b
 
 -- what is left takes m exactly if both together fit
 fits-left : (m room from to used F U n : ℕ) → from ≡ F → used ≡ U → to ≡ F + n → F + n ≤ U → U ≤ room → leb m (room - (used - (to - from))) ≡ leb (U - n + m) room
@@ -18,28 +19,28 @@ fits-left m room from to used F U n f u t less h =
     (λ y. le-leb m (room - (used - (to - from))) (omega (arith, leb-true (U - n + m) room y)))
 
 pub start_of-from-requires : goal.start_of-from-requires
-start_of-from-requires c = omega (arith, K (goal.at.start_of-from-requires c).Start, c.requires.1)
+start_of-from-requires c = omega (arith, K (goal.at.start_of-from-requires c).Start, c.requires.i_lt_slots)
 
 pub start_of-used-requires : goal.start_of-used-requires
-start_of-used-requires c = omega (arith, K (goal.at.start_of-used-requires c).Start, c.requires.1)
+start_of-used-requires c = omega (arith, K (goal.at.start_of-used-requires c).Start, c.requires.i_lt_slots)
 
 pub overflow_add-size : goal.overflow_add-size
-overflow_add-size c = omega (arith, K (goal.at.overflow_add-size c).Start, c.requires.1)
+overflow_add-size c = omega (arith, K (goal.at.overflow_add-size c).Start, c.requires.i_lt_slots)
 
 pub offset_bounds-wide-s : goal.offset_bounds-wide-s
-offset_bounds-wide-s c = omega (arith, K (goal.at.offset_bounds-wide-s c).Start, c.requires.1)
+offset_bounds-wide-s c = omega (arith, K (goal.at.offset_bounds-wide-s c).Start, c.requires.i_lt_slots)
 
 pub bounds-wide-s : goal.bounds-wide-s
-bounds-wide-s c = omega (arith, K (goal.at.bounds-wide-s c).Start, c.requires.1)
+bounds-wide-s c = omega (arith, K (goal.at.bounds-wide-s c).Start, c.requires.i_lt_slots)
 
 pub overflow_sub-size : goal.overflow_sub-size
-overflow_sub-size c = omega (arith, c.start_of-from.ensures, R (goal.at.overflow_sub-size c).Start c.requires.1)
+overflow_sub-size c = omega (arith, c.start_of-from.ensures, R (goal.at.overflow_sub-size c).Start c.requires.i_lt_slots)
 
 pub overflow_sub-result : goal.overflow_sub-result
-overflow_sub-result c = omega (arith, c.start_of-from.ensures, c.start_of-used.ensures, R (goal.at.overflow_sub-result c).Start c.requires.1)
+overflow_sub-result c = omega (arith, c.start_of-from.ensures, c.start_of-used.ensures, R (goal.at.overflow_sub-result c).Start c.requires.i_lt_slots)
 
 pub overflow_sub-result-2 : goal.overflow_sub-result-2
-overflow_sub-result-2 c = omega (arith, c.start_of-from.ensures, c.start_of-used.ensures, R (goal.at.overflow_sub-result-2 c).Start c.requires.1)
+overflow_sub-result-2 c = omega (arith, c.start_of-from.ensures, c.start_of-used.ensures, R (goal.at.overflow_sub-result-2 c).Start c.requires.i_lt_slots)
 
 pub returns : goal.returns
-returns c = let b = R (goal.at.returns c).Start c.requires.1 in fits-left _ _ _ _ _ _ _ _ (c.start_of-from.ensures ∙ b.from) (c.start_of-used.ensures ∙ b.used) b.end b.within b.fit
+returns c = let b = R (goal.at.returns c).Start c.requires.i_lt_slots in fits-left _ _ _ _ _ _ _ _ (c.start_of-from.ensures ∙ b.from) (c.start_of-used.ensures ∙ b.used) b.end b.within b.fit

@@ -4,8 +4,9 @@ use Rattle.heap.specs.Lent.{lent}
 use Rattle.heap_edit.proofs.Columns.{Sizes, sizes}
 use Rattle.heap_edit.proofs.Reissuing.{reissue-outside, reissue-of-dead, reissue-of-worn, reissue-yes}
 use Rattle.heap_edit.proofs.reissue.Goals as goal
+use Rattle.heap_edit.proofs.reissue.Goals.{Start}
 
-K : (c : goal.Start) → Sizes c.args.heap c.args.narrow.now c.args.wide.now c.args.pool.now
+K : (c : Start) → Sizes c.args.heap c.args.narrow.now c.args.wide.now c.args.pool.now
 K c = sizes c.args.heap c.args.narrow.now c.args.wide.now c.args.pool.now c.requires
 
 pub returns-then-heap-i : goal.returns-then-heap-i

@@ -6,8 +6,9 @@ use Rattle.handle.proofs.ResolveLaws.{replied-told}
 use Rattle.heap_edit.proofs.Columns.{Sizes, sizes}
 use Rattle.heap_edit.proofs.Questions.{resolves}
 use Rattle.heap_edit.proofs.resolve.Goals as goal
+use Rattle.heap_edit.proofs.resolve.Goals.{Start}
 
-K : (c : goal.Start) → Sizes c.args.heap c.args.narrow.now c.args.wide.now c.args.pool.now
+K : (c : Start) → Sizes c.args.heap c.args.narrow.now c.args.wide.now c.args.pool.now
 K c = sizes c.args.heap c.args.narrow.now c.args.wide.now c.args.pool.now c.requires
 
 pub resolve-requires : goal.resolve-requires

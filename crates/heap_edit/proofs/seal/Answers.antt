@@ -3,8 +3,9 @@ use Rattle.std.proofs.Common.{arith}
 use Rattle.heap_edit.proofs.Columns.{Sizes, sizes}
 use Rattle.heap_edit.proofs.Sealing.{can-list, sealed-out}
 use Rattle.heap_edit.proofs.seal.Goals as goal
+use Rattle.heap_edit.proofs.seal.Goals.{Start}
 
-K : (c : goal.Start) → Sizes c.args.heap c.args.narrow.now c.args.wide.now c.args.pool.now
+K : (c : Start) → Sizes c.args.heap c.args.narrow.now c.args.wide.now c.args.pool.now
 K c = sizes c.args.heap c.args.narrow.now c.args.wide.now c.args.pool.now c.requires
 
 pub slice_bounds-list_all-end : goal.slice_bounds-list_all-end

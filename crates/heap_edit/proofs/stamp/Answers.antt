@@ -4,11 +4,12 @@ use Rattle.heap.specs.Lent.{lent, view}
 use Rattle.heap_edit.proofs.Columns.{Sizes, Reads, sizes, reads}
 use Rattle.heap_edit.proofs.Questions.{none-beyond, lifeless, no-stamp, its-stamp}
 use Rattle.heap_edit.proofs.stamp.Goals as goal
+use Rattle.heap_edit.proofs.stamp.Goals.{Start}
 
-K : (c : goal.Start) → Sizes c.args.heap c.args.narrow.now c.args.wide.now c.args.pool.now
+K : (c : Start) → Sizes c.args.heap c.args.narrow.now c.args.wide.now c.args.pool.now
 K c = sizes c.args.heap c.args.narrow.now c.args.wide.now c.args.pool.now c.requires
 
-R : (c : goal.Start) → c.args.i < c.args.heap.slots → Reads c.args.heap c.args.narrow.now c.args.wide.now c.args.pool.now c.args.i
+R : (c : Start) → c.args.i < c.args.heap.slots → Reads c.args.heap c.args.narrow.now c.args.wide.now c.args.pool.now c.args.i
 R c b = reads c.args.heap c.args.narrow.now c.args.wide.now c.args.pool.now c.requires c.args.i b
 
 pub returns-then-heap-i : goal.returns-then-heap-i

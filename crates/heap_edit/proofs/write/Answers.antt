@@ -4,8 +4,9 @@ use Rattle.heap.specs.Lent.{lent}
 use Rattle.heap_edit.proofs.Columns.{Sizes, sizes}
 use Rattle.heap_edit.proofs.Writing.{hidden-inside, shown-inside, write-none, write-hides, write-off, write-yes}
 use Rattle.heap_edit.proofs.write.Goals as goal
+use Rattle.heap_edit.proofs.write.Goals.{Start}
 
-K : (c : goal.Start) → Sizes c.args.heap c.args.narrow.now c.args.wide.now c.args.pool.now
+K : (c : Start) → Sizes c.args.heap c.args.narrow.now c.args.wide.now c.args.pool.now
 K c = sizes c.args.heap c.args.narrow.now c.args.wide.now c.args.pool.now c.requires
 
 pub overflow_add-s : goal.overflow_add-s

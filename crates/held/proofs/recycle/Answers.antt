@@ -4,7 +4,7 @@ use Rattle.object_door.proofs.Objects.{of-pins, no_pins}
 use Rattle.held.proofs.recycle.Goals as goal
 
 pub recycle-after-requires : goal.recycle-after-requires
-recycle-after-requires c = (c.requires, sym c.rise.ensures ∙ c.if-rise.true)
+recycle-after-requires c = record { pool_value = c.requires; pins_value = sym c.rise.ensures ∙ c.if-rise.true }
 
 pub returns-then-rise : goal.returns-then-rise
 returns-then-rise c = of-pins _ _ _ (sym c.rise.ensures ∙ c.if-rise.true) c.recycle-after.ensures

@@ -7,5 +7,4 @@ layout_scalars-requires c = let g = c.scalar_record-p.ensures _ _ c.in-Of.is in
     (row_within _ _ _ _ _ _ g, g.room, g.few, g.scalars)
 
 pub returns : goal.returns
-returns c = let g = c.scalar_record-p.ensures _ _ c.in-Of.is in
-    (scalars-answer _ _ _ _ _ _ _ _ g.row _ _ _ c.layout_scalars.ensures, scalars-written _ _ _ _ _ _ _ _ g.row _ _ _ c.layout_scalars.ensures)
+returns c = let g = c.scalar_record-p.ensures _ _ c.in-Of.is in record { answer = scalars-answer _ _ _ _ _ _ _ _ g.row _ _ _ c.layout_scalars.ensures; written = scalars-written _ _ _ _ _ _ _ _ g.row _ _ _ c.layout_scalars.ensures }

@@ -5,19 +5,19 @@ use Rattle.layout.proofs.OffsetLaws.{call-bad, call-large, call-bare, bare-offse
 use Rattle.layout.proofs.layout_any.Goals as goal
 
 pub returns-in_default : goal.returns-in_default
-returns-in_default c = (search call-bare, search bare-offsets)
+returns-in_default c = record { answer = search call-bare; written = search bare-offsets }
 
 pub returns-then-out-n : goal.returns-then-out-n
-returns-then-out-n c = (search call-short, refl)
+returns-then-out-n c = record { answer = search call-short; written = refl }
 
 pub write_offsets-requires : goal.write_offsets-requires
 write_offsets-requires c = (search record-within, c.if-out-n.false)
 
 pub returns-in-Malformed : goal.returns-in-Malformed
-returns-in-Malformed c = (search call-bad, refl)
+returns-in-Malformed c = record { answer = search call-bad; written = refl }
 
 pub returns-in-TooLarge : goal.returns-in-TooLarge
-returns-in-TooLarge c = (search call-large, refl)
+returns-in-TooLarge c = record { answer = search call-large; written = refl }
 
 pub returns-else-out-n : goal.returns-else-out-n
-returns-else-out-n c = (search call-full, search full-offsets)
+returns-else-out-n c = record { answer = search call-full; written = search full-offsets }

@@ -3,13 +3,13 @@ use native.Mathlib.Omega.{arith}
 use Rattle.mark.proofs.drain.Goals as goal
 
 pub loop-next-init : goal.loop-next-init
-loop-next-init c = draining-start _ _ _ _ _ _ c.requires.1
+loop-next-init c = draining-start _ _ _ _ _ _ c.requires.scratch
 
 pub trace_at-r-requires : goal.trace_at-r-requires
-trace_at-r-requires c = (c.requires.0, (c.loop-next.invariant.scratch, queue-below _ _ _ _ c.loop-next.invariant.scratch _ c.loop-next-test.true))
+trace_at-r-requires c = record { fit = c.requires.fit; scratch = c.loop-next.invariant.scratch; i_lt_slots = queue-below _ _ _ _ c.loop-next.invariant.scratch _ c.loop-next-test.true }
 
 pub returns-in_default : goal.returns-in_default
-returns-in_default c = search drains-stuck
+returns-in_default c = record { traces = search drains-stuck; noted_by = search drains-stuck }
 
 pub overflow_add-next : goal.overflow_add-next
 overflow_add-next c = omega (arith, queue-slots _ _ _ _ c.loop-next.invariant.scratch, c.loop-next-test.true, c.ranges.slots)
@@ -21,4 +21,4 @@ pub loop-next-preserved : goal.loop-next-preserved
 loop-next-preserved c = search drains-next
 
 pub returns : goal.returns
-returns c = ((search drains-end, c.loop-next.invariant.scratch), c.loop-next.invariant.noted)
+returns c = record { traces = (search drains-end, c.loop-next.invariant.scratch); noted_by = c.loop-next.invariant.noted }

@@ -5,10 +5,10 @@ use Rattle.mark.proofs.Bridge.{queue-met, pin-noted}
 use Rattle.mark.proofs.pin.Goals as goal
 
 pub returns-then-slots-j : goal.returns-then-slots-j
-returns-then-slots-j c = (search pin-beyond, refl)
+returns-then-slots-j c = record { holds = search pin-beyond; noted = refl }
 
 pub returns-then-narrow-s-eq0 : goal.returns-then-narrow-s-eq0
-returns-then-narrow-s-eq0 c = (search pin-dead, refl)
+returns-then-narrow-s-eq0 c = record { holds = search pin-dead; noted = refl }
 
 pub returns : goal.returns
-returns c = (search (pin-live, queue-met), search pin-noted)
+returns c = record { holds = search (pin-live, queue-met); noted = search pin-noted }

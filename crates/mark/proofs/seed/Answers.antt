@@ -4,4 +4,4 @@ use Rattle.mark.proofs.Bridge.{seed-done}
 use Rattle.mark.proofs.seed.Goals as goal
 
 pub returns : goal.returns
-returns c = (seed-done _ _ _ _ c.args.roots.now c.args.sealed.now c.args.pins.now _ _ _ _ _ _ _ _ _ c.push_all-a.ensures.0 c.push_all-b.ensures.0 c.pin_all.ensures.0, c.pin_all.ensures.1 ∙ c.push_all-b.ensures.1 ∙ c.push_all-a.ensures.1)
+returns c = record { holds = seed-done _ _ _ _ c.args.roots.now c.args.sealed.now c.args.pins.now _ _ _ _ _ _ _ _ _ c.push_all-a.ensures.holds c.push_all-b.ensures.holds c.pin_all.ensures.holds; noted = c.pin_all.ensures.noted ∙ c.push_all-b.ensures.noted ∙ c.push_all-a.ensures.noted }

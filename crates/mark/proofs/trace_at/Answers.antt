@@ -17,4 +17,4 @@ pub slice_bounds-trace_slot-end : goal.slice_bounds-trace_slot-end
 slice_bounds-trace_slot-end c = search slot-ends
 
 pub returns : goal.returns
-returns c = (search slot-traces, search slot-noted)
+returns c = record { traces = search slot-traces; noted_by = search slot-noted }

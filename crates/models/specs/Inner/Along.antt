@@ -3,7 +3,7 @@ use Rattle.std.specs.Prelude.{ℕ, ◌+◌, ◌-◌, List, [], ◌∷◌, map, l
 use Rattle.trace.specs.Places.{handle_at}
 use Rattle.alike.specs.Same.{Model}
 use Rattle.alike.specs.Order.{Order, order, places_code}
-use Rattle.alike.specs.Inner.ByTurns.{numbers, ◌andThen◌, place_order}
+use Rattle.alike.specs.Inner.ByTurns.{numbers, ◌and_then◌, place_order}
 use Rattle.alike.specs.Inner.Beside.{beside_first, beside_all, beside_end}
 use Rattle.models.specs.Objects.{outside}
 

@@ -3,7 +3,7 @@ use Rattle.object_door.proofs.Making.{new-can, new-refused, new-ready}
 use Rattle.object_door.proofs.yexwalu_new.Goals as goal
 
 pub new-after-requires : goal.new-after-requires
-new-after-requires c = ((new-can c.args.marks.now c.args.work.now c.args.narrow.now c.args.wide.now c.args.pool.now c.enter_new.ensures c.args.tag c.in-Ready.is).narrow, (new-can c.args.marks.now c.args.work.now c.args.narrow.now c.args.wide.now c.args.pool.now c.enter_new.ensures c.args.tag c.in-Ready.is).wide)
+new-after-requires c = record { narrow_len = (new-can c.args.marks.now c.args.work.now c.args.narrow.now c.args.wide.now c.args.pool.now c.enter_new.ensures c.args.tag c.in-Ready.is).narrow; wide_len = (new-can c.args.marks.now c.args.work.now c.args.narrow.now c.args.wide.now c.args.pool.now c.enter_new.ensures c.args.tag c.in-Ready.is).wide }
 
 pub returns-in-Not : goal.returns-in-Not
 returns-in-Not c = new-refused c.args.marks.now c.args.work.now c.args.narrow.now c.args.wide.now c.args.pool.now c.enter_new.ensures c.args.tag c.in-Not.is c.no_heap.ensures c.numbers.ensures

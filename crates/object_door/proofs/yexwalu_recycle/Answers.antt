@@ -7,7 +7,7 @@ use Rattle.object_door.proofs.Objects.{of-pins, no_pins}
 use Rattle.object_door.proofs.yexwalu_recycle.Goals as goal
 
 pub recycle-after-requires : goal.recycle-after-requires
-recycle-after-requires c = (entered ((lent c.args.heap c.args.narrow.now c.args.wide.now c.args.pool.now)) c.enter.ensures c.in-Ready.is, sym c.rise.ensures ∙ c.if-rise.true)
+recycle-after-requires c = record { pool_value = entered ((lent c.args.heap c.args.narrow.now c.args.wide.now c.args.pool.now)) c.enter.ensures c.in-Ready.is; pins_value = sym c.rise.ensures ∙ c.if-rise.true }
 
 pub returns-then-rise : goal.returns-then-rise
 returns-then-rise c = call-ready c.enter.ensures nothing nothing _ c.in-Ready.is (of-pins ((lent c.args.heap c.args.narrow.now c.args.wide.now c.args.pool.now)) c.args.pins.now _ (sym c.rise.ensures ∙ c.if-rise.true) c.recycle-after.ensures) c.numbers-then-rise.ensures

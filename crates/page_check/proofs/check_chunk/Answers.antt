@@ -16,13 +16,13 @@ use Prim.Native.Nat.{ℕ}
 use Rattle.page_check.proofs.check_chunk.Goals as goal
 
 pub loop-i-init : goal.loop-i-init
-loop-i-init c = (omega arith, omega arith, refl, (c.requires.0.rest, c.requires.0.reads, ap (λ (m : ℕ). read_all (slot_format true).read m (drop c.args.at c.args.s.now)) (sub-zero c.args.count) ∙ c.requires.0.reads))
+loop-i-init c = (omega arith, omega arith, refl, (c.requires.slots_parsed.rest, c.requires.slots_parsed.reads, ap (λ (m : ℕ). read_all (slot_format true).read m (drop c.args.at c.args.s.now)) (sub-zero c.args.count) ∙ c.requires.slots_parsed.reads))
 
 pub get_slot-requires : goal.get_slot-requires
 get_slot-requires c = tt
 
 pub returns-in_default : goal.returns-in_default
-returns-in_default c = absurd (read_some (slot_format true).read blank (drop c.loop-i.k c.args.s.now) (slots_at c.args.s.now c.args.at c.args.count) c.loop-i.i c.args.count c.loop-i.invariant.3.0 c.loop-i-test.true c.loop-i.invariant.3.2 (line-lost true c.args.s.now c.loop-i.k c.get_slot.ensures c.in_default.is))
+returns-in_default c = let p = absurd (read_some (slot_format true).read blank (drop c.loop-i.k c.args.s.now) (slots_at c.args.s.now c.args.at c.args.count) c.loop-i.i c.args.count c.loop-i.invariant.3.0 c.loop-i-test.true c.loop-i.invariant.3.2 (line-lost true c.args.s.now c.loop-i.k c.get_slot.ensures c.in_default.is)) in record { ok_value = p.0; s_value = p.1.0; next_in_bounds = p.1.1 }
 
 pub bit_of-c-requires : goal.bit_of-c-requires
 bit_of-c-requires c = tt
@@ -51,4 +51,4 @@ loop-i-preserved c = let l = slots_at c.args.s.now c.args.at c.args.count in
     )
 
 pub returns : goal.returns
-returns c = (agree-done c.args.rule (slots_at c.args.s.now c.args.at c.args.count) c.args.row.now c.loop-i.i c.loop-i.ok _ (read-end (slot_format true).read blank (drop c.loop-i.k c.args.s.now) (slots_at c.args.s.now c.args.at c.args.count) c.loop-i.i c.args.count c.loop-i.invariant.3.0 c.loop-i-test.false c.loop-i.invariant.3.2) c.loop-i.invariant.2, (c.loop-i.invariant.3.1 ∙ ap (give (slots_at c.args.s.now c.args.at c.args.count)) (sym (read-rest (slot_format true).read (drop c.loop-i.k c.args.s.now) (slots_at c.args.s.now c.args.at c.args.count) c.loop-i.i c.args.count c.loop-i.invariant.3.0 c.loop-i-test.false c.loop-i.invariant.3.2)), c.loop-i.invariant.1))
+returns c = record { ok_value = agree-done c.args.rule (slots_at c.args.s.now c.args.at c.args.count) c.args.row.now c.loop-i.i c.loop-i.ok _ (read-end (slot_format true).read blank (drop c.loop-i.k c.args.s.now) (slots_at c.args.s.now c.args.at c.args.count) c.loop-i.i c.args.count c.loop-i.invariant.3.0 c.loop-i-test.false c.loop-i.invariant.3.2) c.loop-i.invariant.2; s_value = c.loop-i.invariant.3.1 ∙ ap (give (slots_at c.args.s.now c.args.at c.args.count)) (sym (read-rest (slot_format true).read (drop c.loop-i.k c.args.s.now) (slots_at c.args.s.now c.args.at c.args.count) c.loop-i.i c.args.count c.loop-i.invariant.3.0 c.loop-i-test.false c.loop-i.invariant.3.2)); next_in_bounds = c.loop-i.invariant.1 }

@@ -4,7 +4,7 @@ use Rattle.page_check.proofs.Once.{left-whole, left-next, left-wrong, left-none,
 use Rattle.page_check.proofs.check_rule.Goals as goal
 
 pub loop-base-init : goal.loop-base-init
-loop-base-init c = (refl, left-whole c.args.s.now c.args.x c.args.rule c.requires.0)
+loop-base-init c = (refl, left-whole c.args.s.now c.args.x c.args.rule c.requires.sectioned)
 
 pub overflow_sub-x : goal.overflow_sub-x
 overflow_sub-x c = c.loop-base.invariant.1.below
@@ -13,25 +13,25 @@ pub run_of-m-requires : goal.run_of-m-requires
 run_of-m-requires c = tt
 
 pub check_run-c-requires : goal.check_run-c-requires
-check_run-c-requires c = (c.requires.0, (run-parsed c.args.s.now c.args.x c.args.rule c.loop-base.k c.run_of-m.result c.loop-base.base c.loop-base.invariant.1 (omega (arith, c.run_of-m.ensures.0.0, c.loop-base.invariant.1.below)), (c.loop-base.invariant.1.inside, c.run_of-m.ensures.0.1)))
+check_run-c-requires c = record { sectioned = c.requires.sectioned; slots_parsed = run-parsed c.args.s.now c.args.x c.args.rule c.loop-base.k c.run_of-m.result c.loop-base.base c.loop-base.invariant.1 (omega (arith, c.run_of-m.ensures.upper_bound.0, c.loop-base.invariant.1.below)); at_in_bounds = (c.loop-base.invariant.1.inside, c.run_of-m.ensures.upper_bound.1) }
 
 pub shape_of-row-else-c : goal.shape_of-row-else-c
 shape_of-row-else-c c = c.check_run-c.auto.1.1.1.1.1.1.0 ∙ c.loop-base.invariant.0
 
 pub returns-else-c : goal.returns-else-c
-returns-else-c c = left-wrong c.args.s.now c.args.x c.args.rule c.loop-base.k c.run_of-m.result c.loop-base.base c.loop-base.invariant.1 (omega (arith, c.run_of-m.ensures.0.0, c.loop-base.invariant.1.below)) c.check_run-c.ensures c.if-c.false
+returns-else-c c = left-wrong c.args.s.now c.args.x c.args.rule c.loop-base.k c.run_of-m.result c.loop-base.base c.loop-base.invariant.1 (omega (arith, c.run_of-m.ensures.upper_bound.0, c.loop-base.invariant.1.below)) c.check_run-c.ensures c.if-c.false
 
 pub overflow_add-base : goal.overflow_add-base
-overflow_add-base c = omega (arith, c.run_of-m.ensures.0.0, c.loop-base.invariant.1.below)
+overflow_add-base c = omega (arith, c.run_of-m.ensures.upper_bound.0, c.loop-base.invariant.1.below)
 
 pub loop-base-smaller : goal.loop-base-smaller
-loop-base-smaller c = omega (arith, c.run_of-m.ensures.1 (omega (arith, c.requires.1, c.loop-base.invariant.0)) (omega (arith, c.loop-base-test.true)), c.run_of-m.ensures.0.0, c.loop-base-test.true)
+loop-base-smaller c = omega (arith, c.run_of-m.ensures.lower_bound (omega (arith, c.requires.in_bounds, c.loop-base.invariant.0)) (omega (arith, c.loop-base-test.true)), c.run_of-m.ensures.upper_bound.0, c.loop-base-test.true)
 
 pub loop-base-preserved : goal.loop-base-preserved
-loop-base-preserved c = (c.check_run-c.auto.1.1.1.1.1.1.0 ∙ c.loop-base.invariant.0, left-next c.args.s.now c.args.x c.args.rule c.loop-base.k c.run_of-m.result c.loop-base.base c.loop-base.invariant.1 (omega (arith, c.run_of-m.ensures.0.0, c.loop-base.invariant.1.below)) c.check_run-c.ensures c.if-c.true)
+loop-base-preserved c = (c.check_run-c.auto.1.1.1.1.1.1.0 ∙ c.loop-base.invariant.0, left-next c.args.s.now c.args.x c.args.rule c.loop-base.k c.run_of-m.result c.loop-base.base c.loop-base.invariant.1 (omega (arith, c.run_of-m.ensures.upper_bound.0, c.loop-base.invariant.1.below)) c.check_run-c.ensures c.if-c.true)
 
 pub shape_of-row : goal.shape_of-row
 shape_of-row c = c.loop-base.invariant.0
 
 pub returns : goal.returns
-returns c = left-none c.args.s.now c.args.x c.args.rule c.loop-base.k c.loop-base.base c.requires.0 c.loop-base.invariant.1 c.loop-base-test.false
+returns c = left-none c.args.s.now c.args.x c.args.rule c.loop-base.k c.loop-base.base c.requires.sectioned c.loop-base.invariant.1 c.loop-base-test.false

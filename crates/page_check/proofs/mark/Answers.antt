@@ -10,7 +10,7 @@ use Prim.Native.Nat.{ℕ}
 use Rattle.page_check.proofs.mark.Goals as goal
 
 pub loop-i-init : goal.loop-i-init
-loop-i-init c = (omega arith, c.requires.1.0, refl, mark-nothing c.args.row.now c.args.base c.args.m, (c.requires.0.rest, ap (λ (m : ℕ). read_all (number 32 10).read m (drop c.args.at c.args.s.now)) (sub-zero c.args.count) ∙ c.requires.0.reads))
+loop-i-init c = (omega arith, c.requires.at_in_bounds.0, refl, mark-nothing c.args.row.now c.args.base c.args.m, (c.requires.values_parsed.rest, ap (λ (m : ℕ). read_all (number 32 10).read m (drop c.args.at c.args.s.now)) (sub-zero c.args.count) ∙ c.requires.values_parsed.reads))
 
 pub get_field-requires : goal.get_field-requires
 get_field-requires c = tt
@@ -23,7 +23,7 @@ returns-in_default c = let l = values_at 32 c.args.s.now c.args.at c.args.count 
     absurd (not_none c.args.s.now c.loop-i.k c.loop-i.i c.args.count l c.loop-i.invariant.4.0 c.loop-i-test.true c.loop-i.invariant.4.1 (line-none c.args.s.now c.loop-i.k c.get_field.ensures c.in_default.is))
 
 pub mark_one-requires : goal.mark_one-requires
-mark_one-requires c = omega (arith, c.requires.1.1, c.loop-i.invariant.2)
+mark_one-requires c = omega (arith, c.requires.at_in_bounds.1, c.loop-i.invariant.2)
 
 pub shape_of-row-else-mark_one : goal.shape_of-row-else-mark_one
 shape_of-row-else-mark_one c = c.mark_one.auto.0 ∙ c.loop-i.invariant.2
@@ -32,7 +32,7 @@ pub returns-else-mark_one : goal.returns-else-mark_one
 returns-else-mark_one c = let l = values_at 32 c.args.s.now c.args.at c.args.count in
     let v = line-value c.args.s.now c.loop-i.k c.in-Number.v c.in-Number.next c.get_field.ensures c.in-Number.is in
     let n = next-value c.args.s.now c.loop-i.k c.loop-i.i c.args.count c.in-Number.v c.in-Number.next l c.loop-i.invariant.4.0 c.loop-i-test.true c.loop-i.invariant.4.1 v.0 in
-    mark-stop c.args.row.now c.loop-i.row c.mark_one.new.0 c.args.base c.args.m c.in-Number.v c.loop-i.i l c.loop-i.invariant.3 c.mark_one.ensures n.inside n.value c.if-mark_one.false
+    mark-stop c.args.row.now c.loop-i.row c.mark_one.new.row c.args.base c.args.m c.in-Number.v c.loop-i.i l c.loop-i.invariant.3 c.mark_one.ensures n.inside n.value c.if-mark_one.false
 
 pub overflow_add-i : goal.overflow_add-i
 overflow_add-i c = omega (arith, c.loop-i-test.true)
@@ -44,7 +44,7 @@ pub loop-i-preserved : goal.loop-i-preserved
 loop-i-preserved c = let l = values_at 32 c.args.s.now c.args.at c.args.count in
     let v = line-value c.args.s.now c.loop-i.k c.in-Number.v c.in-Number.next c.get_field.ensures c.in-Number.is in
     let n = next-value c.args.s.now c.loop-i.k c.loop-i.i c.args.count c.in-Number.v c.in-Number.next l c.loop-i.invariant.4.0 c.loop-i-test.true c.loop-i.invariant.4.1 v.0 in
-    (omega (arith, c.loop-i-test.true), v.1, c.mark_one.auto.0 ∙ c.loop-i.invariant.2, mark-next c.args.row.now c.loop-i.row c.mark_one.new.0 c.args.base c.args.m c.in-Number.v c.loop-i.i l c.loop-i.invariant.3 c.mark_one.ensures n.inside n.value c.if-mark_one.true, (c.loop-i.invariant.4.0, n.left_over))
+    (omega (arith, c.loop-i-test.true), v.1, c.mark_one.auto.0 ∙ c.loop-i.invariant.2, mark-next c.args.row.now c.loop-i.row c.mark_one.new.row c.args.base c.args.m c.in-Number.v c.loop-i.i l c.loop-i.invariant.3 c.mark_one.ensures n.inside n.value c.if-mark_one.true, (c.loop-i.invariant.4.0, n.left_over))
 
 pub shape_of-row : goal.shape_of-row
 shape_of-row c = c.loop-i.invariant.2

@@ -2,10 +2,10 @@ use Rattle.page_check.proofs.Once.{listed-once, listed-young, listed-worn}
 use Rattle.page_check.proofs.mark_listed.Goals as goal
 
 pub returns-in-Once : goal.returns-in-Once
-returns-in-Once c = listed-once c.args.s.now c.args.x c.requires.0 c.args.base c.args.m c.in-Once.is c.mark_dead.ensures
+returns-in-Once c = listed-once c.args.s.now c.args.x c.requires.sectioned c.args.base c.args.m c.in-Once.is c.mark_dead.ensures
 
 pub returns-in-Young : goal.returns-in-Young
-returns-in-Young c = listed-young c.args.s.now c.args.x c.requires.0 c.args.base c.args.m c.in-Young.is c.mark.ensures
+returns-in-Young c = listed-young c.args.s.now c.args.x c.requires.sectioned c.args.base c.args.m c.in-Young.is c.mark.ensures
 
 pub returns-in-Worn : goal.returns-in-Worn
-returns-in-Worn c = listed-worn c.args.s.now c.args.x c.requires.0 c.args.base c.args.m c.in-Worn.is c.mark-in-Worn.ensures
+returns-in-Worn c = listed-worn c.args.s.now c.args.x c.requires.sectioned c.args.base c.args.m c.in-Worn.is c.mark-in-Worn.ensures

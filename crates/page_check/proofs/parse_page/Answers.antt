@@ -68,8 +68,7 @@ retired_section-requires c = let h = head-is c.args.s.now c.in-Head.x c.head_sec
     let k = slots-is c.args.s.now c.in-Head.x h c.in-Found.b c.in-Found.ok1 c.in-Found.size c.in-Found.c c.in-Found.wide c.in-Found.planar c.slot_section.ensures c.in-Found.is in
     let f = list-is 32 free_name c.args.s.now c.in-Found.c c.in-Head.x.free (all (λ i. ltb i c.in-Head.x.slots)) c.in-Listed.d c.in-Listed.ok2 c.in-Listed.e c.index_section.ensures c.in-Listed.is in
     let q = list-is 32 quarantine_name c.args.s.now c.in-Listed.e c.in-Head.x.quarantine (all (λ i. ltb i c.in-Head.x.slots)) c.in-Listed-index_section.g c.in-Listed-index_section.ok3 c.in-Listed-index_section.i c.index_section-2.ensures c.in-Listed-index_section.is in
-    let z = list-is 64 sealed_name c.args.s.now c.in-Listed-index_section.i c.in-Head.x.sealed (sound_seals c.in-Head.x.tag c.in-Head.x.slots 0) c.in-Listed-seal_section.j c.in-Listed-seal_section.ok4 c.in-Listed-seal_section.k c.seal_section.ensures c.in-Listed-seal_section.is in
-    (z.inside, none-counted c.args.s.now c.in-Head.x h)
+    let z = list-is 64 sealed_name c.args.s.now c.in-Listed-index_section.i c.in-Head.x.sealed (sound_seals c.in-Head.x.tag c.in-Head.x.slots 0) c.in-Listed-seal_section.j c.in-Listed-seal_section.ok4 c.in-Listed-seal_section.k c.seal_section.ensures c.in-Listed-seal_section.is in record { at_in_bounds = z.inside; count_value = none-counted c.args.s.now c.in-Head.x h }
 
 pub returns-in_default-retired_section : goal.returns-in_default-retired_section
 unfolding free_name quarantine_name sealed_name ascii

@@ -8,4 +8,4 @@ unfolding retired_name ascii
 returns-then-retiring c = retired-there c.args.s.now c.args.at c.args.count c.args.n c.args.retiring c.index_section.result c.if-retiring.true c.index_section.ensures
 
 pub returns : goal.returns
-returns c = retired-absent c.args.s.now c.args.at c.args.count c.args.n c.args.retiring c.if-retiring.false (c.requires.1 c.if-retiring.false) c.requires.0
+returns c = retired-absent c.args.s.now c.args.at c.args.count c.args.n c.args.retiring c.if-retiring.false (c.requires.count_value c.if-retiring.false) c.requires.at_in_bounds

@@ -4,4 +4,4 @@ use borrow.Author.Rules.{rules}
 use Rattle.page_check.proofs.slot_of.Goals as goal
 
 pub returns : goal.returns
-returns c = (search rules, omega (arith, index-lt c.args.x))
+returns c = record { value = search rules; upper_bound = omega (arith, index-lt c.args.x) }

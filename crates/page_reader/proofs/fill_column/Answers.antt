@@ -3,19 +3,19 @@ use Rattle.page_reader.proofs.Restoring.{lent-column, column-start, column-end, 
 use Rattle.page_reader.proofs.fill_column.Goals as goal
 
 pub returns-else-planar : goal.returns-else-planar
-returns-else-planar c = puts_plain (hex_at c.args.s.now c.args.at) c.args.count c.copy_hex-end.ensures c.requires.1.0 c.requires.1.1 c.args.planar c.if-planar.false
+returns-else-planar c = puts_plain (hex_at c.args.s.now c.args.at) c.args.count c.copy_hex-end.ensures c.requires.count_value.0 c.requires.count_value.1 c.args.planar c.if-planar.false
 
 pub slice_bounds-restore-count : goal.slice_bounds-restore-count
-slice_bounds-restore-count c = column-start (hex_at c.args.s.now c.args.at) c.args.count c.copy_hex-end.ensures c.requires.1.0 c.requires.1.1
+slice_bounds-restore-count c = column-start (hex_at c.args.s.now c.args.at) c.args.count c.copy_hex-end.ensures c.requires.count_value.0 c.requires.count_value.1
 
 pub slice_bounds-restore-start : goal.slice_bounds-restore-start
-slice_bounds-restore-start c = column-start (hex_at c.args.s.now c.args.at) c.args.count c.copy_hex-end.ensures c.requires.1.0 c.requires.1.1
+slice_bounds-restore-start c = column-start (hex_at c.args.s.now c.args.at) c.args.count c.copy_hex-end.ensures c.requires.count_value.0 c.requires.count_value.1
 
 pub slice_bounds-restore-end : goal.slice_bounds-restore-end
-slice_bounds-restore-end c = column-end (hex_at c.args.s.now c.args.at) c.args.count c.copy_hex-end.ensures c.requires.1.0 c.requires.1.1
+slice_bounds-restore-end c = column-end (hex_at c.args.s.now c.args.at) c.args.count c.copy_hex-end.ensures c.requires.count_value.0 c.requires.count_value.1
 
 pub restore-requires : goal.restore-requires
-restore-requires c = (c.requires.0, lent-column (hex_at c.args.s.now c.args.at) c.args.count c.copy_hex-end.ensures c.requires.1.0 c.requires.1.1)
+restore-requires c = record { hex_parsed = c.requires.hex_parsed; d_value = lent-column (hex_at c.args.s.now c.args.at) c.args.count c.copy_hex-end.ensures c.requires.count_value.0 c.requires.count_value.1 }
 
 pub returns : goal.returns
-returns c = puts-restored (hex_at c.args.s.now c.args.at) c.args.count c.copy_hex-end.ensures c.requires.1.0 c.requires.1.1 c.args.planar _ c.if-planar.true c.restore.ensures
+returns c = puts-restored (hex_at c.args.s.now c.args.at) c.args.count c.copy_hex-end.ensures c.requires.count_value.0 c.requires.count_value.1 c.args.planar _ c.if-planar.true c.restore.ensures

@@ -4,7 +4,7 @@ use Rattle.page_reader.proofs.Parting.{parting-begin, parting-some, parting-fits
 use Rattle.page_reader.proofs.part_free.Goals as goal
 
 pub loop-i-init : goal.loop-i-init
-loop-i-init c = parting-begin _ _ _ _ c.requires.0 c.requires.1.0.0 c.requires.1.0.1 c.requires.1.1
+loop-i-init c = parting-begin _ _ _ _ c.requires.values_parsed c.requires.at_in_bounds.0 c.requires.at_in_bounds.1 c.requires.below
 
 pub shape_of-narrow-in_default : goal.shape_of-narrow-in_default
 shape_of-narrow-in_default c = absurd (parting-some _ _ _ _ _ _ _ _ _ c.loop-i.invariant c.loop-i-test.true c.get_field.ensures c.in_default.is)

@@ -9,4 +9,4 @@ pub yexwalu_write_page-written-requires : goal.yexwalu_write_page-written-requir
 yexwalu_write_page-written-requires c = tt
 
 pub returns : goal.returns
-returns c = page-put _ c.requires c.words.ensures _ _ _ c.yexwalu_write_page-arg-5-1.given.0.1 c.yexwalu_write_page-arg-6-1.given.0.1 c.yexwalu_write_page-arg-4-1.given.0.1 _ _ _ _ c.yexwalu_write_page-written.ensures.0 c.yexwalu_write_page-written.ensures.1
+returns c = page-put _ c.requires c.words.ensures _ _ _ c.yexwalu_write_page-arg-5-1.given.0.1 c.yexwalu_write_page-arg-6-1.given.0.1 c.yexwalu_write_page-arg-4-1.given.0.1 _ _ _ _ c.yexwalu_write_page-written.ensures.work_after c.yexwalu_write_page-written.ensures.out_after

@@ -28,4 +28,4 @@ pub overflow_add-result-8 : goal.overflow_add-result-8
 overflow_add-result-8 c = omega (arith, c.decimal_len-a.ensures, c.decimal_len-b.ensures, c.decimal_len-c.ensures, c.decimal_len-d.ensures, c.decimal_len-e.ensures, c.decimal_len-f.ensures, c.decimal_len-g.ensures, c.decimal_len-z.ensures, decimal-length 19 c.args.h.tag (omega arith), decimal-length 19 c.args.h.since_gc (omega arith), decimal-length 19 c.args.h.reclaim_at (omega arith), decimal-length 19 c.args.h.live_bytes (omega arith), decimal-length 19 c.args.h.slots (omega arith), decimal-length 19 c.args.h.free (omega arith), decimal-length 19 c.args.h.quarantine (omega arith), decimal-length 19 c.args.h.sealed (omega arith))
 
 pub returns : goal.returns
-returns c = (omega (arith, c.decimal_len-a.ensures, c.decimal_len-b.ensures, c.decimal_len-c.ensures, c.decimal_len-d.ensures, c.decimal_len-e.ensures, c.decimal_len-f.ensures, c.decimal_len-g.ensures, c.decimal_len-z.ensures, head-length-decimal c.args.h.tag c.args.h.since_gc c.args.h.reclaim_at c.args.h.live_bytes c.args.h.slots c.args.h.free c.args.h.quarantine c.args.h.sealed), omega (arith, c.decimal_len-a.ensures, c.decimal_len-b.ensures, c.decimal_len-c.ensures, c.decimal_len-d.ensures, c.decimal_len-e.ensures, c.decimal_len-f.ensures, c.decimal_len-g.ensures, c.decimal_len-z.ensures, decimal-length 19 c.args.h.tag (omega arith), decimal-length 19 c.args.h.since_gc (omega arith), decimal-length 19 c.args.h.reclaim_at (omega arith), decimal-length 19 c.args.h.live_bytes (omega arith), decimal-length 19 c.args.h.slots (omega arith), decimal-length 19 c.args.h.free (omega arith), decimal-length 19 c.args.h.quarantine (omega arith), decimal-length 19 c.args.h.sealed (omega arith)))
+returns c = record { value = omega (arith, c.decimal_len-a.ensures, c.decimal_len-b.ensures, c.decimal_len-c.ensures, c.decimal_len-d.ensures, c.decimal_len-e.ensures, c.decimal_len-f.ensures, c.decimal_len-g.ensures, c.decimal_len-z.ensures, head-length-decimal c.args.h.tag c.args.h.since_gc c.args.h.reclaim_at c.args.h.live_bytes c.args.h.slots c.args.h.free c.args.h.quarantine c.args.h.sealed); upper_bound = omega (arith, c.decimal_len-a.ensures, c.decimal_len-b.ensures, c.decimal_len-c.ensures, c.decimal_len-d.ensures, c.decimal_len-e.ensures, c.decimal_len-f.ensures, c.decimal_len-g.ensures, c.decimal_len-z.ensures, decimal-length 19 c.args.h.tag (omega arith), decimal-length 19 c.args.h.since_gc (omega arith), decimal-length 19 c.args.h.reclaim_at (omega arith), decimal-length 19 c.args.h.live_bytes (omega arith), decimal-length 19 c.args.h.slots (omega arith), decimal-length 19 c.args.h.free (omega arith), decimal-length 19 c.args.h.quarantine (omega arith), decimal-length 19 c.args.h.sealed (omega arith)) }

@@ -37,4 +37,4 @@ pub loop-i-preserved : goal.loop-i-preserved
 loop-i-preserved c = (omega arith, omega (arith, c.decimal_len-d.ensures, decimal-length 19 (get_or c.args.list.now c.loop-i.i 0) (omega (arith, c.type_inv.list c.loop-i.i)), flat-more-length value_line c.args.list.now c.loop-i.i 0 (omega arith), value-length (get_or c.args.list.now c.loop-i.i 0)), omega (arith, c.decimal_len-d.ensures, decimal-length 19 (get_or c.args.list.now c.loop-i.i 0) (omega (arith, c.type_inv.list c.loop-i.i))))
 
 pub returns : goal.returns
-returns c = (c.loop-i.invariant.1 ∙ ap (λ (m : ℕ). length (flat_map value_line (take m c.args.list.now))) (let e : c.loop-i.i ≡ c.args.count = omega arith in e), omega arith)
+returns c = record { value = c.loop-i.invariant.1 ∙ ap (λ (m : ℕ). length (flat_map value_line (take m c.args.list.now))) (let e : c.loop-i.i ≡ c.args.count = omega arith in e); upper_bound = omega arith }

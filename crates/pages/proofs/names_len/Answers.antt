@@ -10,8 +10,8 @@ use Rattle.pages.proofs.names_len.Goals as goal
 
 pub returns-then-planar : goal.returns-then-planar
 unfolding heap_names heap_front retired_too slot_names slot_front wide_writes planes_name data_name free_name quarantine_name sealed_name retired_name ascii
-returns-then-planar c = (ap (λ (p : Bool). length (heap_names (written p)) + length (slot_names (written p)) + length (free_name ++ quarantine_name ++ sealed_name ++ retired_name)) (sym c.if-planar.true), omega arith)
+returns-then-planar c = record { value = ap (λ (p : Bool). length (heap_names (written p)) + length (slot_names (written p)) + length (free_name ++ quarantine_name ++ sealed_name ++ retired_name)) (sym c.if-planar.true); upper_bound = omega arith }
 
 pub returns-else-planar : goal.returns-else-planar
 unfolding heap_names heap_front retired_too slot_names slot_front wide_writes planes_name data_name free_name quarantine_name sealed_name retired_name ascii
-returns-else-planar c = (ap (λ (p : Bool). length (heap_names (written p)) + length (slot_names (written p)) + length (free_name ++ quarantine_name ++ sealed_name ++ retired_name)) (sym c.if-planar.false), omega arith)
+returns-else-planar c = record { value = ap (λ (p : Bool). length (heap_names (written p)) + length (slot_names (written p)) + length (free_name ++ quarantine_name ++ sealed_name ++ retired_name)) (sym c.if-planar.false); upper_bound = omega arith }

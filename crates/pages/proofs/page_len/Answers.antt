@@ -3,16 +3,16 @@ use Rattle.pages.proofs.Whole.{page-sum, free_in, quarantine-in, sealed-in, reti
 use Rattle.pages.proofs.page_len.Goals as goal
 
 pub indices_len-c-requires : goal.indices_len-c-requires
-indices_len-c-requires c = (free_in c.args.heap c.args.narrow.now c.args.wide.now c.args.pool.now c.requires.0, c.requires.0.free_count)
+indices_len-c-requires c = (free_in c.args.heap c.args.narrow.now c.args.wide.now c.args.pool.now c.requires.ready, c.requires.ready.free_count)
 
 pub indices_len-d-requires : goal.indices_len-d-requires
-indices_len-d-requires c = (quarantine-in c.args.heap c.args.narrow.now c.args.wide.now c.args.pool.now c.requires.0, c.requires.0.quarantine_count)
+indices_len-d-requires c = (quarantine-in c.args.heap c.args.narrow.now c.args.wide.now c.args.pool.now c.requires.ready, c.requires.ready.quarantine_count)
 
 pub handles_len-e-requires : goal.handles_len-e-requires
-handles_len-e-requires c = (sealed-in c.args.heap c.args.narrow.now c.args.wide.now c.args.pool.now c.requires.0, c.requires.0.sealed_count)
+handles_len-e-requires c = (sealed-in c.args.heap c.args.narrow.now c.args.wide.now c.args.pool.now c.requires.ready, c.requires.ready.sealed_count)
 
 pub indices_len-f-requires : goal.indices_len-f-requires
-indices_len-f-requires c = (retired-in c.args.heap c.args.narrow.now c.args.wide.now c.args.pool.now c.requires.0, c.requires.0.retired_count)
+indices_len-f-requires c = (retired-in c.args.heap c.args.narrow.now c.args.wide.now c.args.pool.now c.requires.ready, c.requires.ready.retired_count)
 
 pub returns : goal.returns
-returns c = omega (arith, page-sum c.args.heap c.args.narrow.now c.args.wide.now c.args.pool.now c.requires.0 c.args.planar, c.names_len-g.ensures.0, c.head_len-a.ensures.0, c.slots_len-b.ensures.0, c.indices_len-c.ensures.0, c.indices_len-d.ensures.0, c.handles_len-e.ensures.0, c.indices_len-f.ensures.0)
+returns c = omega (arith, page-sum c.args.heap c.args.narrow.now c.args.wide.now c.args.pool.now c.requires.ready c.args.planar, c.names_len-g.ensures.value, c.head_len-a.ensures.value, c.slots_len-b.ensures.value, c.indices_len-c.ensures.value, c.indices_len-d.ensures.value, c.handles_len-e.ensures.value, c.indices_len-f.ensures.value)

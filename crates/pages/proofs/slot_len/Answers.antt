@@ -23,4 +23,4 @@ pub overflow_add-result-6 : goal.overflow_add-result-6
 overflow_add-result-6 c = omega (arith, c.decimal_len-a.ensures, decimal-length 9 c.args.generation (omega arith), c.decimal_len-b.ensures, decimal-length 9 c.args.kind (omega arith), c.decimal_len-c.ensures, decimal-length 9 c.args.ty (omega arith), c.decimal_len-d.ensures, decimal-length 19 c.args.start (omega arith), c.decimal_len-e.ensures, decimal-length 19 c.args.writes (omega arith))
 
 pub returns : goal.returns
-returns c = (omega (arith, slot-length-decimal false c.args.generation c.args.kind c.args.ty c.args.start c.args.writes c.args.bytes.now, c.decimal_len-a.ensures, c.decimal_len-b.ensures, c.decimal_len-c.ensures, c.decimal_len-d.ensures, c.decimal_len-e.ensures), omega (arith, c.decimal_len-a.ensures, decimal-length 9 c.args.generation (omega arith), c.decimal_len-b.ensures, decimal-length 9 c.args.kind (omega arith), c.decimal_len-c.ensures, decimal-length 9 c.args.ty (omega arith), c.decimal_len-d.ensures, decimal-length 19 c.args.start (omega arith), c.decimal_len-e.ensures, decimal-length 19 c.args.writes (omega arith)))
+returns c = record { value = omega (arith, slot-length-decimal false c.args.generation c.args.kind c.args.ty c.args.start c.args.writes c.args.bytes.now, c.decimal_len-a.ensures, c.decimal_len-b.ensures, c.decimal_len-c.ensures, c.decimal_len-d.ensures, c.decimal_len-e.ensures); upper_bound = omega (arith, c.decimal_len-a.ensures, decimal-length 9 c.args.generation (omega arith), c.decimal_len-b.ensures, decimal-length 9 c.args.kind (omega arith), c.decimal_len-c.ensures, decimal-length 9 c.args.ty (omega arith), c.decimal_len-d.ensures, decimal-length 19 c.args.start (omega arith), c.decimal_len-e.ensures, decimal-length 19 c.args.writes (omega arith)) }

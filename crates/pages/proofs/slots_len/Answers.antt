@@ -10,67 +10,67 @@ pub loop-i-init : goal.loop-i-init
 loop-i-init c = summed-begin (lent c.args.heap c.args.narrow.now c.args.wide.now c.args.pool.now)
 
 pub overflow_add-to : goal.overflow_add-to
-overflow_add-to c = omega (arith, c.loop-i-test.true, c.requires.0.slots, c.requires.1)
+overflow_add-to c = omega (arith, c.loop-i-test.true, c.requires.ready.slots, c.requires.narrow_in_bounds)
 
 pub offset_bounds-wide-s : goal.offset_bounds-wide-s
-offset_bounds-wide-s c = omega (arith, c.loop-i-test.true, c.requires.0.slots, c.requires.1)
+offset_bounds-wide-s c = omega (arith, c.loop-i-test.true, c.requires.ready.slots, c.requires.narrow_in_bounds)
 
 pub bounds-wide-s : goal.bounds-wide-s
-bounds-wide-s c = omega (arith, c.loop-i-test.true, c.requires.0.slots, c.requires.1)
+bounds-wide-s c = omega (arith, c.loop-i-test.true, c.requires.ready.slots, c.requires.narrow_in_bounds)
 
 pub offset_bounds-narrow-i : goal.offset_bounds-narrow-i
-offset_bounds-narrow-i c = omega (arith, c.loop-i-test.true, c.requires.0.slots, c.requires.1)
+offset_bounds-narrow-i c = omega (arith, c.loop-i-test.true, c.requires.ready.slots, c.requires.narrow_in_bounds)
 
 pub bounds-narrow-i : goal.bounds-narrow-i
-bounds-narrow-i c = omega (arith, c.loop-i-test.true, c.requires.0.slots, c.requires.1)
+bounds-narrow-i c = omega (arith, c.loop-i-test.true, c.requires.ready.slots, c.requires.narrow_in_bounds)
 
 pub overflow_add-s : goal.overflow_add-s
-overflow_add-s c = omega (arith, c.loop-i-test.true, c.requires.0.slots, c.requires.1)
+overflow_add-s c = omega (arith, c.loop-i-test.true, c.requires.ready.slots, c.requires.narrow_in_bounds)
 
 pub offset_bounds-narrow-s : goal.offset_bounds-narrow-s
-offset_bounds-narrow-s c = omega (arith, c.loop-i-test.true, c.requires.0.slots, c.requires.1)
+offset_bounds-narrow-s c = omega (arith, c.loop-i-test.true, c.requires.ready.slots, c.requires.narrow_in_bounds)
 
 pub bounds-narrow-s : goal.bounds-narrow-s
-bounds-narrow-s c = omega (arith, c.loop-i-test.true, c.requires.0.slots, c.requires.1)
+bounds-narrow-s c = omega (arith, c.loop-i-test.true, c.requires.ready.slots, c.requires.narrow_in_bounds)
 
 pub overflow_add-two : goal.overflow_add-two
-overflow_add-two c = omega (arith, c.loop-i-test.true, c.requires.0.slots, c.requires.1)
+overflow_add-two c = omega (arith, c.loop-i-test.true, c.requires.ready.slots, c.requires.narrow_in_bounds)
 
 pub offset_bounds-narrow-two : goal.offset_bounds-narrow-two
-offset_bounds-narrow-two c = omega (arith, c.loop-i-test.true, c.requires.0.slots, c.requires.1)
+offset_bounds-narrow-two c = omega (arith, c.loop-i-test.true, c.requires.ready.slots, c.requires.narrow_in_bounds)
 
 pub bounds-narrow-two : goal.bounds-narrow-two
-bounds-narrow-two c = omega (arith, c.loop-i-test.true, c.requires.0.slots, c.requires.1)
+bounds-narrow-two c = omega (arith, c.loop-i-test.true, c.requires.ready.slots, c.requires.narrow_in_bounds)
 
 pub offset_bounds-wide-i : goal.offset_bounds-wide-i
-offset_bounds-wide-i c = omega (arith, c.loop-i-test.true, c.requires.0.slots, c.requires.1)
+offset_bounds-wide-i c = omega (arith, c.loop-i-test.true, c.requires.ready.slots, c.requires.narrow_in_bounds)
 
 pub bounds-wide-i : goal.bounds-wide-i
-bounds-wide-i c = omega (arith, c.loop-i-test.true, c.requires.0.slots, c.requires.1)
+bounds-wide-i c = omega (arith, c.loop-i-test.true, c.requires.ready.slots, c.requires.narrow_in_bounds)
 
 pub overflow_add-two-in-loop-i : goal.overflow_add-two-in-loop-i
-overflow_add-two-in-loop-i c = omega (arith, c.loop-i-test.true, c.requires.0.slots, c.requires.1)
+overflow_add-two-in-loop-i c = omega (arith, c.loop-i-test.true, c.requires.ready.slots, c.requires.narrow_in_bounds)
 
 pub offset_bounds-wide-two : goal.offset_bounds-wide-two
-offset_bounds-wide-two c = omega (arith, c.loop-i-test.true, c.requires.0.slots, c.requires.1)
+offset_bounds-wide-two c = omega (arith, c.loop-i-test.true, c.requires.ready.slots, c.requires.narrow_in_bounds)
 
 pub bounds-wide-two : goal.bounds-wide-two
-bounds-wide-two c = omega (arith, c.loop-i-test.true, c.requires.0.slots, c.requires.1)
+bounds-wide-two c = omega (arith, c.loop-i-test.true, c.requires.ready.slots, c.requires.narrow_in_bounds)
 
 pub slice_bounds-slot_len-count : goal.slice_bounds-slot_len-count
-slice_bounds-slot_len-count c = rises c.args.heap c.args.narrow.now c.args.wide.now c.args.pool.now c.requires.0 c.loop-i.i c.loop-i.from c.loop-i-test.true c.loop-i.invariant.starts
+slice_bounds-slot_len-count c = rises c.args.heap c.args.narrow.now c.args.wide.now c.args.pool.now c.requires.ready c.loop-i.i c.loop-i.from c.loop-i-test.true c.loop-i.invariant.starts
 
 pub slice_bounds-slot_len-start : goal.slice_bounds-slot_len-start
-slice_bounds-slot_len-start c = rises c.args.heap c.args.narrow.now c.args.wide.now c.args.pool.now c.requires.0 c.loop-i.i c.loop-i.from c.loop-i-test.true c.loop-i.invariant.starts
+slice_bounds-slot_len-start c = rises c.args.heap c.args.narrow.now c.args.wide.now c.args.pool.now c.requires.ready c.loop-i.i c.loop-i.from c.loop-i-test.true c.loop-i.invariant.starts
 
 pub slice_bounds-slot_len-end : goal.slice_bounds-slot_len-end
-slice_bounds-slot_len-end c = stays c.args.heap c.args.narrow.now c.args.wide.now c.args.pool.now c.requires.0 c.loop-i.i c.loop-i.from c.loop-i-test.true c.loop-i.invariant.starts
+slice_bounds-slot_len-end c = stays c.args.heap c.args.narrow.now c.args.wide.now c.args.pool.now c.requires.ready c.loop-i.i c.loop-i.from c.loop-i-test.true c.loop-i.invariant.starts
 
 pub slot_len-d-requires : goal.slot_len-d-requires
-slot_len-d-requires c = omega (arith, part-size c.args.heap c.args.narrow.now c.args.wide.now c.args.pool.now c.requires.0 c.loop-i.i c.loop-i.from c.loop-i-test.true c.loop-i.invariant.starts, stays c.args.heap c.args.narrow.now c.args.wide.now c.args.pool.now c.requires.0 c.loop-i.i c.loop-i.from c.loop-i-test.true c.loop-i.invariant.starts, c.requires.0.pool)
+slot_len-d-requires c = omega (arith, part-size c.args.heap c.args.narrow.now c.args.wide.now c.args.pool.now c.requires.ready c.loop-i.i c.loop-i.from c.loop-i-test.true c.loop-i.invariant.starts, stays c.args.heap c.args.narrow.now c.args.wide.now c.args.pool.now c.requires.ready c.loop-i.i c.loop-i.from c.loop-i-test.true c.loop-i.invariant.starts, c.requires.ready.pool)
 
 pub overflow_add-n : goal.overflow_add-n
-overflow_add-n c = omega (arith, sum_fits c.args.heap c.args.narrow.now c.args.wide.now c.args.pool.now c.requires.0 c.loop-i.i c.loop-i.from c.loop-i-test.true c.loop-i.invariant.starts c.loop-i.invariant c.slot_len-d.ensures.1)
+overflow_add-n c = omega (arith, sum_fits c.args.heap c.args.narrow.now c.args.wide.now c.args.pool.now c.requires.ready c.loop-i.i c.loop-i.from c.loop-i-test.true c.loop-i.invariant.starts c.loop-i.invariant c.slot_len-d.ensures.upper_bound)
 
 pub overflow_add-i : goal.overflow_add-i
 overflow_add-i c = omega (arith, c.loop-i-test.true)
@@ -79,7 +79,7 @@ pub loop-i-smaller : goal.loop-i-smaller
 loop-i-smaller c = omega (arith, c.loop-i-test.true)
 
 pub loop-i-preserved : goal.loop-i-preserved
-loop-i-preserved c = summed-next c.args.heap c.args.narrow.now c.args.wide.now c.args.pool.now c.requires.0 c.loop-i.i c.loop-i.from c.loop-i-test.true c.loop-i.invariant.starts c.loop-i.invariant c.slot_len-d.ensures.0 c.slot_len-d.ensures.1
+loop-i-preserved c = summed-next c.args.heap c.args.narrow.now c.args.wide.now c.args.pool.now c.requires.ready c.loop-i.i c.loop-i.from c.loop-i-test.true c.loop-i.invariant.starts c.loop-i.invariant c.slot_len-d.ensures.value c.slot_len-d.ensures.upper_bound
 
 pub returns : goal.returns
-returns c = summed-end (lent c.args.heap c.args.narrow.now c.args.wide.now c.args.pool.now) _ _ _ c.requires.0 c.loop-i.invariant (omega arith)
+returns c = let p = summed-end (lent c.args.heap c.args.narrow.now c.args.wide.now c.args.pool.now) _ _ _ c.requires.ready c.loop-i.invariant (omega arith) in record { value = p.0; upper_bound = p.1 }

@@ -10,22 +10,22 @@ use Rattle.rehearsal_line.proofs.Lined.{store_line, drop-line, drop-header, as_l
 use Rattle.rehearsal_line.proofs.do_line.Goals as goal
 
 pub do_alloc-requires : goal.do_alloc-requires
-do_alloc-requires c = (c.requires.0, (c.requires.1.0, (c.requires.1.1.0, (alloc-data _ c.args.line _ c.in-Alloc.is c.requires.1.1.1.0, c.requires.1.1.1.1))))
+do_alloc-requires c = record { in_order = c.requires.in_order; cleared = c.requires.cleared; short = c.requires.short; data_there = alloc-data _ c.args.line _ c.in-Alloc.is c.requires.data_in; led = c.requires.led }
 
 pub do_store-requires : goal.do_store-requires
-do_store-requires c = (c.requires.0, led-whole c.requires.0 c.requires.1.1.1.1)
+do_store-requires c = record { in_order = c.requires.in_order; whole = led-whole c.requires.in_order c.requires.led }
 
 pub do_drop-requires : goal.do_drop-requires
-do_drop-requires c = names-there c.requires.0 0 0 0
+do_drop-requires c = names-there c.requires.in_order 0 0 0
 
 pub returns-in-Alloc : goal.returns-in-Alloc
-returns-in-Alloc c = (as_line ((table_of c.args.types.now c.args.fields.now c.args.consts.now c.args.bytes.now)) ((lent c.args.g.heap c.args.narrow.now c.args.wide.now c.args.pool.now)) c.args.words.now c.args.g c.args.threshold c.args.s.now c.args.line _ (ap (step_in c.args.s.now) c.in-Alloc.is) c.do_alloc.ensures.0, c.do_alloc.ensures.1)
+returns-in-Alloc c = record { goes = as_line ((table_of c.args.types.now c.args.fields.now c.args.consts.now c.args.bytes.now)) ((lent c.args.g.heap c.args.narrow.now c.args.wide.now c.args.pool.now)) c.args.words.now c.args.g c.args.threshold c.args.s.now c.args.line _ (ap (step_in c.args.s.now) c.in-Alloc.is) c.do_alloc.ensures.goes; marks_unchanged = c.do_alloc.ensures.marks_unchanged }
 
 pub returns-in-Store : goal.returns-in-Store
-returns-in-Store c = (as_line ((table_of c.args.types.now c.args.fields.now c.args.consts.now c.args.bytes.now)) ((lent c.args.g.heap c.args.narrow.now c.args.wide.now c.args.pool.now)) c.args.words.now c.args.g c.args.threshold c.args.s.now c.args.line _ (ap (step_in c.args.s.now) c.in-Store.is) (store_line ((table_of c.args.types.now c.args.fields.now c.args.consts.now c.args.bytes.now)) ((lent c.args.g.heap c.args.narrow.now c.args.wide.now c.args.pool.now)) c.args.words.now c.args.g c.args.threshold _ _ _ c.do_store.ensures), (refl, refl))
+returns-in-Store c = record { goes = as_line ((table_of c.args.types.now c.args.fields.now c.args.consts.now c.args.bytes.now)) ((lent c.args.g.heap c.args.narrow.now c.args.wide.now c.args.pool.now)) c.args.words.now c.args.g c.args.threshold c.args.s.now c.args.line _ (ap (step_in c.args.s.now) c.in-Store.is) (store_line ((table_of c.args.types.now c.args.fields.now c.args.consts.now c.args.bytes.now)) ((lent c.args.g.heap c.args.narrow.now c.args.wide.now c.args.pool.now)) c.args.words.now c.args.g c.args.threshold _ _ _ c.do_store.ensures); marks_unchanged = (refl, refl) }
 
 pub returns-in-Drop : goal.returns-in-Drop
-returns-in-Drop c = (as_line ((table_of c.args.types.now c.args.fields.now c.args.consts.now c.args.bytes.now)) ((lent c.args.g.heap c.args.narrow.now c.args.wide.now c.args.pool.now)) c.args.words.now c.args.g c.args.threshold c.args.s.now c.args.line _ (ap (step_in c.args.s.now) c.in-Drop.is) (drop-line ((table_of c.args.types.now c.args.fields.now c.args.consts.now c.args.bytes.now)) c.args.threshold c.requires.0 _ refl c.do_drop.auto.1.1.1.0 c.do_drop.ensures refl (ap (λ (h : Heap). lent h c.args.narrow.now c.args.wide.now c.args.pool.now) (drop-header c.do_drop.ensures))), (refl, refl))
+returns-in-Drop c = record { goes = as_line ((table_of c.args.types.now c.args.fields.now c.args.consts.now c.args.bytes.now)) ((lent c.args.g.heap c.args.narrow.now c.args.wide.now c.args.pool.now)) c.args.words.now c.args.g c.args.threshold c.args.s.now c.args.line _ (ap (step_in c.args.s.now) c.in-Drop.is) (drop-line ((table_of c.args.types.now c.args.fields.now c.args.consts.now c.args.bytes.now)) c.args.threshold c.requires.in_order _ refl c.do_drop.auto.1.1.1.0 c.do_drop.ensures refl (ap (λ (h : Heap). lent h c.args.narrow.now c.args.wide.now c.args.pool.now) (drop-header c.do_drop.ensures))); marks_unchanged = (refl, refl) }
 
 pub returns-in-Bad : goal.returns-in-Bad
-returns-in-Bad c = (bad-line ((table_of c.args.types.now c.args.fields.now c.args.consts.now c.args.bytes.now)) c.args.threshold c.args.s.now c.args.line c.requires.0 c.in-Bad.is, (refl, refl))
+returns-in-Bad c = record { goes = bad-line ((table_of c.args.types.now c.args.fields.now c.args.consts.now c.args.bytes.now)) c.args.threshold c.args.s.now c.args.line c.requires.in_order c.in-Bad.is; marks_unchanged = (refl, refl) }

@@ -8,13 +8,13 @@ use Rattle.rehearsal_runs.proofs.Repeating.{start-order, start-begun, start-form
 use Rattle.rehearsal_runs.proofs.rehearse_one.Goals as goal
 
 pub new-heap-requires : goal.new-heap-requires
-new-heap-requires c = (c.requires.0.six, c.requires.0.four)
+new-heap-requires c = record { narrow_len = c.requires.lent_room.six; wide_len = c.requires.lent_room.four }
 
 pub run_lines-requires : goal.run_lines-requires
-run_lines-requires c = (start-order _ _ c.new-heap.ensures (start-formed c.requires.0 c.new-heap.ensures) (omega (arith, c.requires.0.names, (ap (λ (j : ℕ). j / 6) c.new-heap.auto.1.0))), (clear-same c.new-heap.auto.1.0 c.requires.1.0, (start-begun _ _ c.new-heap.ensures _ _ _, c.requires.1.1)))
+run_lines-requires c = record { in_order = start-order _ _ c.new-heap.ensures (start-formed c.requires.lent_room c.new-heap.ensures) (omega (arith, c.requires.lent_room.names, (ap (λ (j : ℕ). j / 6) c.new-heap.auto.1.0))); cleared = clear-same c.new-heap.auto.1.0 c.requires.cleared; begun = start-begun _ _ c.new-heap.ensures _ _ _; s_value = c.requires.s_value }
 
 pub shape_of-narrow : goal.shape_of-narrow
 shape_of-narrow c = c.run_lines.auto.1.1.1.1.1.0 ∙ c.new-heap.auto.1.0
 
 pub returns : goal.returns
-returns c = (goes-sizes (table_of c.args.types.now c.args.fields.now c.args.consts.now c.args.bytes.now) _ _ (ap (λ (j : ℕ). j / 6) c.new-heap.auto.1.0) c.new-heap.auto.1.1.1.0 c.run_lines.ensures.0, c.run_lines.ensures.1)
+returns c = record { goes = goes-sizes (table_of c.args.types.now c.args.fields.now c.args.consts.now c.args.bytes.now) _ _ (ap (λ (j : ℕ). j / 6) c.new-heap.auto.1.0) c.new-heap.auto.1.1.1.0 c.run_lines.ensures.goes; marks_unchanged = c.run_lines.ensures.marks_unchanged }

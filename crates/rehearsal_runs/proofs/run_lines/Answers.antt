@@ -6,19 +6,19 @@ use Rattle.rehearsal_runs.proofs.Running.{same, on, still-clear, line-data, runn
 use Rattle.rehearsal_runs.proofs.run_lines.Goals as goal
 
 pub loop-at-init : goal.loop-at-init
-loop-at-init c = (running-first c.requires.0 c.requires.1.1.0 c.requires.1.1.1, same _ _ _ _ _ _)
+loop-at-init c = (running-first c.requires.in_order c.requires.begun c.requires.s_value, same _ _ _ _ _ _)
 
 pub read_line-line-requires : goal.read_line-line-requires
 read_line-line-requires c = c.loop-at.invariant.0.inside
 
 pub do_line-r-requires : goal.do_line-r-requires
-do_line-r-requires c = (c.loop-at.invariant.0.order, (still-clear c.requires.1.0 c.loop-at.invariant.1, (running-short c.loop-at.invariant.0 (omega (arith, c.loop-at.invariant.0.inside, c.well_formed.1.1.1.1.1.1.1.1.0.0)), (line-data c.args.s.now c.loop-at.at c.read_line-line.result c.read_line-line.ensures, running-led c.loop-at.invariant.0))))
+do_line-r-requires c = record { in_order = c.loop-at.invariant.0.order; cleared = still-clear c.requires.cleared c.loop-at.invariant.1; short = running-short c.loop-at.invariant.0 (omega (arith, c.loop-at.invariant.0.inside, c.well_formed.1.1.1.1.1.1.1.1.0.0)); data_in = line-data c.args.s.now c.loop-at.at c.read_line-line.result c.read_line-line.ensures; led = running-led c.loop-at.invariant.0 }
 
 pub loop-at-smaller : goal.loop-at-smaller
 loop-at-smaller c = omega (arith, next-later c.loop-at.invariant.0 c.loop-at-test.true c.read_line-line.result c.read_line-line.ensures, next-within c.loop-at.invariant.0 c.loop-at-test.true c.read_line-line.result c.read_line-line.ensures, c.next_after-at.ensures)
 
 pub loop-at-preserved : goal.loop-at-preserved
-loop-at-preserved c = (running-next c.loop-at.invariant.0 c.loop-at-test.true c.read_line-line.result c.read_line-line.ensures c.do_line-r.ensures.0 (ap (λ (j : ℕ). j / 6) c.do_line-r.auto.1.1.1.1.1.0) c.do_line-r.auto.1.1.1.1.1.1.1.0 c.next_after-at.ensures c.if-r-eq0.true, on (record { narrow = c.do_line-r.auto.1.1.1.1.1.0; wide = c.do_line-r.auto.1.1.1.1.1.1.0; pool = c.do_line-r.auto.1.1.1.1.1.1.1.0; words = c.do_line-r.auto.1.1.1.1.1.1.1.1.1.1.1.0; marks = c.do_line-r.ensures.1.0; work = c.do_line-r.ensures.1.1 }) c.loop-at.invariant.1)
+loop-at-preserved c = (running-next c.loop-at.invariant.0 c.loop-at-test.true c.read_line-line.result c.read_line-line.ensures c.do_line-r.ensures.goes (ap (λ (j : ℕ). j / 6) c.do_line-r.auto.1.1.1.1.1.0) c.do_line-r.auto.1.1.1.1.1.1.1.0 c.next_after-at.ensures c.if-r-eq0.true, on (record { narrow = c.do_line-r.auto.1.1.1.1.1.0; wide = c.do_line-r.auto.1.1.1.1.1.1.0; pool = c.do_line-r.auto.1.1.1.1.1.1.1.0; words = c.do_line-r.auto.1.1.1.1.1.1.1.1.1.1.1.0; marks = c.do_line-r.ensures.marks_unchanged.0; work = c.do_line-r.ensures.marks_unchanged.1 }) c.loop-at.invariant.1)
 
 pub shape_of-narrow-else-r-eq0 : goal.shape_of-narrow-else-r-eq0
 shape_of-narrow-else-r-eq0 c = c.do_line-r.auto.1.1.1.1.1.0 ∙ c.loop-at.invariant.1.narrow
@@ -33,13 +33,13 @@ pub shape_of-words-else-r-eq0 : goal.shape_of-words-else-r-eq0
 shape_of-words-else-r-eq0 c = c.do_line-r.auto.1.1.1.1.1.1.1.1.1.1.1.0 ∙ c.loop-at.invariant.1.words
 
 pub shape_of-marks-else-r-eq0 : goal.shape_of-marks-else-r-eq0
-shape_of-marks-else-r-eq0 c = ap length (c.do_line-r.ensures.1.0 ∙ c.loop-at.invariant.1.marks)
+shape_of-marks-else-r-eq0 c = ap length (c.do_line-r.ensures.marks_unchanged.0 ∙ c.loop-at.invariant.1.marks)
 
 pub shape_of-work-else-r-eq0 : goal.shape_of-work-else-r-eq0
-shape_of-work-else-r-eq0 c = ap length (c.do_line-r.ensures.1.1 ∙ c.loop-at.invariant.1.work)
+shape_of-work-else-r-eq0 c = ap length (c.do_line-r.ensures.marks_unchanged.1 ∙ c.loop-at.invariant.1.work)
 
 pub returns-else-r-eq0 : goal.returns-else-r-eq0
-returns-else-r-eq0 c = (running-stop c.loop-at.invariant.0 c.loop-at-test.true c.read_line-line.result c.read_line-line.ensures c.do_line-r.ensures.0 (ap (λ (j : ℕ). j / 6) c.do_line-r.auto.1.1.1.1.1.0) c.do_line-r.auto.1.1.1.1.1.1.1.0 c.if-r-eq0.false, (c.do_line-r.ensures.1.0 ∙ c.loop-at.invariant.1.marks, c.do_line-r.ensures.1.1 ∙ c.loop-at.invariant.1.work))
+returns-else-r-eq0 c = record { goes = running-stop c.loop-at.invariant.0 c.loop-at-test.true c.read_line-line.result c.read_line-line.ensures c.do_line-r.ensures.goes (ap (λ (j : ℕ). j / 6) c.do_line-r.auto.1.1.1.1.1.0) c.do_line-r.auto.1.1.1.1.1.1.1.0 c.if-r-eq0.false; marks_unchanged = (c.do_line-r.ensures.marks_unchanged.0 ∙ c.loop-at.invariant.1.marks, c.do_line-r.ensures.marks_unchanged.1 ∙ c.loop-at.invariant.1.work) }
 
 pub shape_of-narrow : goal.shape_of-narrow
 shape_of-narrow c = c.loop-at.invariant.1.narrow
@@ -60,4 +60,4 @@ pub shape_of-work : goal.shape_of-work
 shape_of-work c = ap length c.loop-at.invariant.1.work
 
 pub returns : goal.returns
-returns c = (running-end c.loop-at.invariant.0 c.loop-at-test.false, (c.loop-at.invariant.1.marks, c.loop-at.invariant.1.work))
+returns c = record { goes = running-end c.loop-at.invariant.0 c.loop-at-test.false; marks_unchanged = (c.loop-at.invariant.1.marks, c.loop-at.invariant.1.work) }

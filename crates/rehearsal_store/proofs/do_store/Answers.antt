@@ -3,7 +3,7 @@ use Rattle.rehearsal_store.proofs.Stored.{goes_same}
 use Rattle.rehearsal_store.proofs.do_store.Goals as goal
 
 pub try_store-went-requires : goal.try_store-went-requires
-try_store-went-requires c = c.requires
+try_store-went-requires c = record { in_order = c.requires.in_order; whole = c.requires.whole }
 
 pub or_ended-requires : goal.or_ended-requires
 or_ended-requires c = tt
@@ -15,4 +15,4 @@ pub shape_of-pool : goal.shape_of-pool
 shape_of-pool c = c.try_store-went.auto.1.1.1.0
 
 pub returns : goal.returns
-returns c = goes_same c.args.narrow.now c.try_store-went.new.1.1.0 c.try_store-went.new.1.1.1.0 c.args.g c.try_store-went.result c.or_ended.ensures c.try_store-went.ensures
+returns c = goes_same c.args.narrow.now c.try_store-went.new.pool.1.0 c.try_store-went.new.pool.1.1.0 c.args.g c.try_store-went.result c.or_ended.ensures c.try_store-went.ensures

@@ -38,19 +38,12 @@ chain-requires c = let good = sym c.check_function.ensures ∙ not-false _ c.if-
 
 pub analyse-requires : goal.analyse-requires
 analyse-requires c = let good = sym c.check_function.ensures ∙ not-false _ c.if-not-check_function.false in
-    let room = c.enough.ensures.0 (not-false _ c.if-not-enough.false) in
-    (good, (refl, omega (arith, room, need-is (length c.args.blocks.now / 2) ((length c.args.classes.now + 63) / 64)), omega arith))
+    let room = c.enough.ensures.0 (not-false _ c.if-not-enough.false) in record { classes_value = good; nb_value = (refl, omega (arith, room, need-is (length c.args.blocks.now / 2) ((length c.args.classes.now + 63) / 64)), omega arith) }
 
 pub count_map-c-requires : goal.count_map-c-requires
 count_map-c-requires c = let room = c.enough.ensures.0 (not-false _ c.if-not-enough.false) in
     let good = sym c.check_function.ensures ∙ not-false _ c.if-not-check_function.false in
-    let fit = formed-fit c.args.kinds.now c.args.ends.now c.args.refs.now c.args.blocks.now c.args.classes.now good in (
-      good,
-      (
-        (refl, omega (arith, room, need-is (length c.args.blocks.now / 2) ((length c.args.classes.now + 63) / 64), c.analyse.ensures.0), omega arith, omega (arith, fit.class-count), fit.code-count, c.chain.ensures),
-        c.analyse.ensures.1,
-      ),
-    )
+    let fit = formed-fit c.args.kinds.now c.args.ends.now c.args.refs.now c.args.blocks.now c.args.classes.now good in record { classes_value = good; nb_value = (refl, omega (arith, room, need-is (length c.args.blocks.now / 2) ((length c.args.classes.now + 63) / 64), c.analyse.ensures.0), omega arith, omega (arith, fit.class-count), fit.code-count, c.chain.ensures); fixed = c.analyse.ensures.1 }
 
 pub returns-then-short : goal.returns-then-short
 returns-then-short c = let l : Lent = record { kinds = c.args.kinds.now; ends = c.args.ends.now; refs = c.args.refs.now; blocks = c.args.blocks.now; classes = c.args.classes.now } in
@@ -64,13 +57,7 @@ pub write_map-requires : goal.write_map-requires
 write_map-requires c = let l : Lent = record { kinds = c.args.kinds.now; ends = c.args.ends.now; refs = c.args.refs.now; blocks = c.args.blocks.now; classes = c.args.classes.now } in
     let room = c.enough.ensures.0 (not-false _ c.if-not-enough.false) in
     let good = sym c.check_function.ensures ∙ not-false _ c.if-not-check_function.false in
-    let fit = formed-fit c.args.kinds.now c.args.ends.now c.args.refs.now c.args.blocks.now c.args.classes.now good in (
-      good,
-      (
-        (refl, omega (arith, room, need-is (length c.args.blocks.now / 2) ((length c.args.classes.now + 63) / 64), c.analyse.ensures.0, c.count_map-c.ensures.frame.kept), omega arith, omega (arith, fit.class-count), fit.code-count, c.chain.ensures),
-        (fixed_out c.analyse.ensures.1 c.count_map-c.ensures.frame, room_for l (wanted c.args.which) _ _ _ c.args.s.now good c.count_map-c.ensures c.short.ensures c.if-short.false),
-      ),
-    )
+    let fit = formed-fit c.args.kinds.now c.args.ends.now c.args.refs.now c.args.blocks.now c.args.classes.now good in record { classes_value = good; nb_value = (refl, omega (arith, room, need-is (length c.args.blocks.now / 2) ((length c.args.classes.now + 63) / 64), c.analyse.ensures.0, c.count_map-c.ensures.frame.kept), omega arith, omega (arith, fit.class-count), fit.code-count, c.chain.ensures); fixed = fixed_out c.analyse.ensures.1 c.count_map-c.ensures.frame; fits = room_for l (wanted c.args.which) _ _ _ c.args.s.now good c.count_map-c.ensures c.short.ensures c.if-short.false }
 
 pub shape_of-s : goal.shape_of-s
 shape_of-s c = c.clear_u64-2.auto.0 ∙ c.write_map.ensures.frame.kept ∙ c.count_map-c.ensures.frame.kept ∙ c.analyse.ensures.0

@@ -11,47 +11,46 @@ pub overflow_mul-at-2 : goal.overflow_mul-at-2
 overflow_mul-at-2 c = omega arith
 
 pub loop-pc-init : goal.loop-pc-init
-loop-pc-init c = writing-none _ _ _ _ _ _ _ _ c.requires.1.1.1 c.requires.0 c.requires.1.0.0 _
+loop-pc-init c = writing-none _ _ _ _ _ _ _ _ c.requires.fits c.requires.classes_value c.requires.nb_value.0 _
 
 pub overflow_sub-pc : goal.overflow_sub-pc
 overflow_sub-pc c = omega arith
 
 pub block_of-b-requires : goal.block_of-b-requires
-block_of-b-requires c = (c.requires.1.0.0, (formed-fit _ _ _ _ _ c.requires.0).apart, c.requires.1.0.5, omega (arith, c.requires.1.0.4, c.loop-pc.invariant.going.high, c.loop-pc-test.true), found-next _ _ _ _ _ _ _ _ _ c.loop-pc.invariant.going.placed (back_one _ c.loop-pc-test.true))
+block_of-b-requires c = (c.requires.nb_value.0, (formed-fit _ _ _ _ _ c.requires.classes_value).apart, c.requires.nb_value.5, omega (arith, c.requires.nb_value.4, c.loop-pc.invariant.going.high, c.loop-pc-test.true), found-next _ _ _ _ _ _ _ _ _ c.loop-pc.invariant.going.placed (back_one _ c.loop-pc-test.true))
 
 pub point_row-requires : goal.point_row-requires
-point_row-requires c = (c.requires.0, ((c.requires.1.0.0, omega (arith, c.requires.1.0.1, c.loop-pc.invariant.going.frame.kept), c.requires.1.0.2, omega (arith, c.loop-pc.invariant.going.high, c.loop-pc-test.true), omega (arith, c.loop-pc.invariant.going.placed.below, c.loop-pc-test.true), c.block_of-b.ensures), (fixed_out c.requires.1.1.0 c.loop-pc.invariant.going.frame, (placed-next _ _ _ _ _ _ _ _ c.requires.0 c.requires.1.0.0 c.loop-pc.invariant.going.placed (back_one _ c.loop-pc-test.true) c.block_of-b.ensures).standing)))
+point_row-requires c = record { classes_value = c.requires.classes_value; nb_value = (c.requires.nb_value.0, omega (arith, c.requires.nb_value.1, c.loop-pc.invariant.going.frame.kept), c.requires.nb_value.2, omega (arith, c.loop-pc.invariant.going.high, c.loop-pc-test.true), omega (arith, c.loop-pc.invariant.going.placed.below, c.loop-pc-test.true), c.block_of-b.ensures); fixed = fixed_out c.requires.fixed c.loop-pc.invariant.going.frame; standing = (placed-next _ _ _ _ _ _ _ _ c.requires.classes_value c.requires.nb_value.0 c.loop-pc.invariant.going.placed (back_one _ c.loop-pc-test.true) c.block_of-b.ensures).standing }
 
 pub overflow_sub-k : goal.overflow_sub-k
-overflow_sub-k c = omega (arith, one_less _ _ _ _ _ _ _ _ c.requires.1.1.1 c.loop-pc.invariant (back_one _ c.loop-pc-test.true) c.point_row.ensures c.if-point_row.true)
+overflow_sub-k c = omega (arith, one_less _ _ _ _ _ _ _ _ c.requires.fits c.loop-pc.invariant (back_one _ c.loop-pc-test.true) c.point_row.ensures c.if-point_row.true)
 
 pub write_point-to-requires : goal.write_point-to-requires
-write_point-to-requires c = let high = registers-room _ _ _ _ _ _ _ _ c.requires.1.1.1 c.loop-pc.invariant in
-    ((omega (arith, c.requires.1.0.1, c.loop-pc.invariant.going.frame.kept, c.point_row.ensures.frame.kept), c.requires.1.0.3, omega (arith, c.requires.1.0.4, c.loop-pc.invariant.going.high, c.loop-pc-test.true), room-points _ _ _ _ _ _ _ _ c.requires.1.1.1 c.loop-pc.invariant (back_one _ c.loop-pc-test.true) c.point_row.ensures c.if-point_row.true, room-bounds _ _ _ _ _ _ _ _ c.requires.1.1.1 c.loop-pc.invariant (back_one _ c.loop-pc-test.true) c.point_row.ensures c.if-point_row.true, omega (arith, c.requires.1.0.4, high.1)), (room-registers _ _ _ _ _ _ _ _ c.requires.1.1.1 c.loop-pc.invariant (back_one _ c.loop-pc-test.true) c.point_row.ensures c.if-point_row.true, high.0))
+write_point-to-requires c = let high = registers-room _ _ _ _ _ _ _ _ c.requires.fits c.loop-pc.invariant in record { words_in_bounds = (omega (arith, c.requires.nb_value.1, c.loop-pc.invariant.going.frame.kept, c.point_row.ensures.frame.kept), c.requires.nb_value.3, omega (arith, c.requires.nb_value.4, c.loop-pc.invariant.going.high, c.loop-pc-test.true), room-points _ _ _ _ _ _ _ _ c.requires.fits c.loop-pc.invariant (back_one _ c.loop-pc-test.true) c.point_row.ensures c.if-point_row.true, room-bounds _ _ _ _ _ _ _ _ c.requires.fits c.loop-pc.invariant (back_one _ c.loop-pc-test.true) c.point_row.ensures c.if-point_row.true, omega (arith, c.requires.nb_value.4, high.1)); words_len_bound = (room-registers _ _ _ _ _ _ _ _ c.requires.fits c.loop-pc.invariant (back_one _ c.loop-pc-test.true) c.point_row.ensures c.if-point_row.true, high.0) }
 
 pub loop-pc-smaller-then-point_row : goal.loop-pc-smaller-then-point_row
 loop-pc-smaller-then-point_row c = omega arith
 
 pub loop-pc-preserved-then-point_row : goal.loop-pc-preserved-then-point_row
-loop-pc-preserved-then-point_row c = writing-yes _ _ _ _ _ _ _ _ c.requires.1.1.1 c.loop-pc.invariant (back_one _ c.loop-pc-test.true) c.point_row.ensures c.if-point_row.true (placed-next _ _ _ _ _ _ _ _ c.requires.0 c.requires.1.0.0 c.loop-pc.invariant.going.placed (back_one _ c.loop-pc-test.true) c.block_of-b.ensures) _ _ _ _ c.write_point-to.ensures.0 c.write_point-to.ensures.1 c.write_point-to.ensures.2 c.write_point-to.ensures.3
+loop-pc-preserved-then-point_row c = writing-yes _ _ _ _ _ _ _ _ c.requires.fits c.loop-pc.invariant (back_one _ c.loop-pc-test.true) c.point_row.ensures c.if-point_row.true (placed-next _ _ _ _ _ _ _ _ c.requires.classes_value c.requires.nb_value.0 c.loop-pc.invariant.going.placed (back_one _ c.loop-pc-test.true) c.block_of-b.ensures) _ _ _ _ c.write_point-to.ensures.0 c.write_point-to.ensures.1 c.write_point-to.ensures.2 c.write_point-to.ensures.3
 
 pub loop-pc-smaller : goal.loop-pc-smaller
 loop-pc-smaller c = omega arith
 
 pub loop-pc-preserved : goal.loop-pc-preserved
-loop-pc-preserved c = writing-no _ _ _ _ _ _ _ _ c.requires.1.1.1 c.loop-pc.invariant (back_one _ c.loop-pc-test.true) c.point_row.ensures c.if-point_row.false (placed-next _ _ _ _ _ _ _ _ c.requires.0 c.requires.1.0.0 c.loop-pc.invariant.going.placed (back_one _ c.loop-pc-test.true) c.block_of-b.ensures)
+loop-pc-preserved c = writing-no _ _ _ _ _ _ _ _ c.requires.fits c.loop-pc.invariant (back_one _ c.loop-pc-test.true) c.point_row.ensures c.if-point_row.false (placed-next _ _ _ _ _ _ _ _ c.requires.classes_value c.requires.nb_value.0 c.loop-pc.invariant.going.placed (back_one _ c.loop-pc-test.true) c.block_of-b.ensures)
 
 pub shape_of-s : goal.shape_of-s
 shape_of-s c = c.loop-pc.invariant.going.frame.kept
 
 pub shape_of-pcs : goal.shape_of-pcs
-shape_of-pcs c = points_kept _ _ _ _ _ _ _ _ c.requires.1.1.1 c.loop-pc.invariant
+shape_of-pcs c = points_kept _ _ _ _ _ _ _ _ c.requires.fits c.loop-pc.invariant
 
 pub shape_of-bounds : goal.shape_of-bounds
-shape_of-bounds c = bounds-kept _ _ _ _ _ _ _ _ c.requires.1.1.1 c.loop-pc.invariant
+shape_of-bounds c = bounds-kept _ _ _ _ _ _ _ _ c.requires.fits c.loop-pc.invariant
 
 pub shape_of-regs : goal.shape_of-regs
-shape_of-regs c = registers-kept _ _ _ _ _ _ _ _ c.requires.1.1.1 c.loop-pc.invariant
+shape_of-regs c = registers-kept _ _ _ _ _ _ _ _ c.requires.fits c.loop-pc.invariant
 
 pub returns : goal.returns
-returns c = writing-end _ _ _ _ _ _ _ _ c.requires.1.1.1 c.loop-pc.invariant (omega (arith, c.loop-pc-test.false))
+returns c = writing-end _ _ _ _ _ _ _ _ c.requires.fits c.loop-pc.invariant (omega (arith, c.loop-pc-test.false))

@@ -16,4 +16,4 @@ pub returns : goal.returns
 unfolding listing listed_into
 returns c = let h : length (listed 64 c.args.row.now) ≤ length c.args.out.now = rw (← c.count.ensures) c.if-out-count.false in
     let room = le-ltb _ _ h in
-    (simp (room, c.list_row.ensures.0), simp room c.list_row.ensures.1.1)
+    (simp (room, c.list_row.ensures.bits), simp room c.list_row.ensures.written)

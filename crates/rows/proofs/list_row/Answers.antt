@@ -42,4 +42,4 @@ pub shape_of-out : goal.shape_of-out
 shape_of-out c = c.loop-word.invariant.1.same
 
 pub returns : goal.returns
-returns c = let f = finished 64 (lit< tt) _ _ _ _ _ _ _ c.loop-word.invariant.1 (past_end 64 (lit< tt) _ _ _ _ _ _ _ c.loop-word.invariant.1 _ c.loop-word.invariant.0 c.loop-word-test.false) in (f.0, (f.1, f.2))
+returns c = let f = finished 64 (lit< tt) _ _ _ _ _ _ _ c.loop-word.invariant.1 (past_end 64 (lit< tt) _ _ _ _ _ _ _ c.loop-word.invariant.1 _ c.loop-word.invariant.0 c.loop-word-test.false) in record { bits = f.0; turns = f.1; written = f.2 }

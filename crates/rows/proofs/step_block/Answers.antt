@@ -12,6 +12,6 @@ step_at-requires c = let l = mid_len c.args.at (c.args.at + 3 * c.args.words) c.
 
 pub returns : goal.returns
 returns c = stepped-block 64 c.args.scratch.now _ c.args.at (c.args.at + 3 * c.args.words) c.args.words _ refl
-    (put-part c.args.at (c.args.at + 3 * c.args.words) c.args.scratch.now c.step_at.new.0 _ (omega arith) c.requires
+    (put-part c.args.at (c.args.at + 3 * c.args.words) c.args.scratch.now c.step_at.new.scratch _ (omega arith) c.requires
     (c.step_at.auto.0 ∙ mid_len c.args.at (c.args.at + 3 * c.args.words) c.args.scratch.now c.requires)
     c.step_at.ensures)

@@ -4,22 +4,22 @@ use Rattle.run_door.proofs.Placing.{part_count, decoded, placed-low, placed-high
 use Rattle.run_door.proofs.do_alloc.Goals as goal
 
 pub returns-then-k-lt1 : goal.returns-then-k-lt1
-returns-then-k-lt1 c = placed-low ((lent c.args.heap c.args.narrow.now c.args.wide.now c.args.pool.now)) _ _ c.args.a c.requires.0 c.if-k-lt1.true
+returns-then-k-lt1 c = placed-low ((lent c.args.heap c.args.narrow.now c.args.wide.now c.args.pool.now)) _ _ c.args.a c.requires.can_run c.if-k-lt1.true
 
 pub returns-then-k-gt3 : goal.returns-then-k-gt3
-returns-then-k-gt3 c = placed-high ((lent c.args.heap c.args.narrow.now c.args.wide.now c.args.pool.now)) _ _ c.args.a c.requires.0 c.if-k-lt1.false c.if-k-gt3.true
+returns-then-k-gt3 c = placed-high ((lent c.args.heap c.args.narrow.now c.args.wide.now c.args.pool.now)) _ _ c.args.a c.requires.can_run c.if-k-lt1.false c.if-k-gt3.true
 
 pub returns-then-pool-count : goal.returns-then-pool-count
-returns-then-pool-count c = placed-none ((lent c.args.heap c.args.narrow.now c.args.wide.now c.args.pool.now)) _ _ c.args.a c.requires.0 c.if-k-lt1.false c.if-k-gt3.false c.requires.1 c.if-pool-count.true
+returns-then-pool-count c = placed-none ((lent c.args.heap c.args.narrow.now c.args.wide.now c.args.pool.now)) _ _ c.args.a c.requires.can_run c.if-k-lt1.false c.if-k-gt3.false c.requires.data_there c.if-pool-count.true
 
 pub slice_bounds-alloc_from-end-2 : goal.slice_bounds-alloc_from-end-2
-slice_bounds-alloc_from-end-2 c = part_count ((lent c.args.heap c.args.narrow.now c.args.wide.now c.args.pool.now)) _ _ _ c.requires.0 c.if-pool-count.false c.copy_hex.auto.1.1.1.0
+slice_bounds-alloc_from-end-2 c = part_count ((lent c.args.heap c.args.narrow.now c.args.wide.now c.args.pool.now)) _ _ _ c.requires.can_run c.if-pool-count.false c.copy_hex.auto.1.1.1.0
 
 pub alloc_from-requires : goal.alloc_from-requires
-alloc_from-requires c = (c.requires.0.formed, (c.if-k-lt1.false, c.if-k-gt3.false))
+alloc_from-requires c = record { pool_value = c.requires.can_run.formed; le_k = (c.if-k-lt1.false, c.if-k-gt3.false) }
 
 pub shape_of-room : goal.shape_of-room
 shape_of-room c = c.copy_hex.auto.1.1.1.0
 
 pub returns : goal.returns
-returns c = placed-done ((lent c.args.heap c.args.narrow.now c.args.wide.now c.args.pool.now)) _ _ c.args.a c.requires.0 c.if-k-lt1.false c.if-k-gt3.false c.requires.1 _ _ _ (decoded _ _ _ _ _ _ c.copy_hex.ensures c.requires.1.counted) c.alloc_from.ensures
+returns c = placed-done ((lent c.args.heap c.args.narrow.now c.args.wide.now c.args.pool.now)) _ _ c.args.a c.requires.can_run c.if-k-lt1.false c.if-k-gt3.false c.requires.data_there _ _ _ (decoded _ _ _ _ _ _ c.copy_hex.ensures c.requires.data_there.counted) c.alloc_from.ensures

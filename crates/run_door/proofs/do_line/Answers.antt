@@ -5,13 +5,13 @@ use Rattle.run_door.proofs.Moving.{no_pins, alloc-data, does-bad, does-alloc, do
 use Rattle.run_door.proofs.do_line.Goals as goal
 
 pub do_alloc-requires : goal.do_alloc-requires
-do_alloc-requires c = (c.requires.0, alloc-data c.args.s.now c.args.line _ c.requires.1 c.in-Alloc.is)
+do_alloc-requires c = record { can_run = c.requires.can_run; data_there = alloc-data c.args.s.now c.args.line _ c.requires.data_in c.in-Alloc.is }
 
 pub recycle-after-requires : goal.recycle-after-requires
-recycle-after-requires c = (c.requires.0.formed, no_pins)
+recycle-after-requires c = record { pool_value = c.requires.can_run.formed; pins_value = no_pins }
 
 pub returns-in-Bad : goal.returns-in-Bad
-returns-in-Bad c = does-bad ((lent c.args.heap c.args.narrow.now c.args.wide.now c.args.pool.now)) c.args.s.now c.args.line _ c.requires.0 c.in-Bad.is
+returns-in-Bad c = does-bad ((lent c.args.heap c.args.narrow.now c.args.wide.now c.args.pool.now)) c.args.s.now c.args.line _ c.requires.can_run c.in-Bad.is
 
 pub returns-in-Alloc : goal.returns-in-Alloc
 returns-in-Alloc c = does-alloc ((lent c.args.heap c.args.narrow.now c.args.wide.now c.args.pool.now)) c.args.s.now c.args.line _ _ _ c.in-Alloc.is c.do_alloc.ensures

@@ -12,7 +12,7 @@ pub read_line-line-requires : goal.read_line-line-requires
 read_line-line-requires c = c.loop-at.invariant.0.inside
 
 pub do_line-done-requires : goal.do_line-done-requires
-do_line-done-requires c = (run-can _ _ _ _ _ c.loop-at.invariant.0, line-data _ _ c.read_line-line.result c.read_line-line.ensures)
+do_line-done-requires c = record { can_run = run-can _ _ _ _ _ c.loop-at.invariant.0; data_in = line-data _ _ c.read_line-line.result c.read_line-line.ensures }
 
 pub loop-at-smaller : goal.loop-at-smaller
 loop-at-smaller c = let w = stepped _ _ _ c.loop-at-test.true _ _ c.read_line-line.result c.read_line-line.ensures c.do_line-done.ensures c.next_after-at.ensures in omega (arith, w.on, w.inside)

@@ -20,7 +20,7 @@ pub returns-then-narrow-s-eq0 : goal.returns-then-narrow-s-eq0
 returns-then-narrow-s-eq0 c = slot-dead c.args.heap c.args.narrow.now c.args.wide.now c.args.pool.now c.requires _ _ _ c.if-slots-i.false c.if-narrow-s-eq0.true
 
 pub list_at-requires : goal.list_at-requires
-list_at-requires c = (formed-fit c.args.heap c.args.narrow.now c.args.wide.now c.args.pool.now c.requires, c.if-slots-i.false)
+list_at-requires c = record { fit = formed-fit c.args.heap c.args.narrow.now c.args.wide.now c.args.pool.now c.requires; i_lt_slots = c.if-slots-i.false }
 
 pub returns : goal.returns
 returns c = slot-listed c.args.heap c.args.narrow.now c.args.wide.now c.args.pool.now c.requires _ _ _ c.if-slots-i.false c.if-narrow-s-eq0.false _ _ c.list_at.ensures

@@ -3,4 +3,4 @@ use Rattle.sweep.proofs.Sweeping.{sweep-leaves}
 use Rattle.sweep.proofs.sweep.Goals as goal
 
 pub returns : goal.returns
-returns c = sweep-leaves _ c.requires.0 c.drop_unmarked-h.ensures c.recycle.ensures
+returns c = sweep-leaves _ c.requires.can_sweep c.drop_unmarked-h.ensures c.recycle.ensures

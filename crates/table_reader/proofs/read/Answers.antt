@@ -3,16 +3,16 @@ use Rattle.table_reader.proofs.Verdicts.{has_room, bytes_count, read_done, read-
 use Rattle.table_reader.proofs.read.Goals as goal
 
 pub load_numbers-requires : goal.load_numbers-requires
-load_numbers-requires c = let h = has_room _ _ _ _ _ _ (c.tested-found.ensures.table _ c.in-Good.is).1 in ((c.tested-found.ensures.table _ c.in-Good.is).0, (h.0, h.1, h.2))
+load_numbers-requires c = let h = has_room _ _ _ _ _ _ (c.tested-found.ensures.table _ c.in-Good.is).1 in record { sectioned = (c.tested-found.ensures.table _ c.in-Good.is).0; types_in_bounds = (h.0, h.1, h.2) }
 
 pub copy_hex-requires : goal.copy_hex-requires
-copy_hex-requires c = let p = (c.tested-found.ensures.table _ c.in-Good.is).0 in let h = has_room _ _ _ _ _ _ (c.tested-found.ensures.table _ c.in-Good.is).1 in (p.bytes_parsed, (bytes_count _ _ p, omega (arith, h.3)))
+copy_hex-requires c = let p = (c.tested-found.ensures.table _ c.in-Good.is).0 in let h = has_room _ _ _ _ _ _ (c.tested-found.ensures.table _ c.in-Good.is).1 in record { hex_parsed = p.bytes_parsed; count_value = (bytes_count _ _ p, omega (arith, h.3)) }
 
 pub load_names-n-requires : goal.load_names-n-requires
-load_names-n-requires c = let h = has_room _ _ _ _ _ _ (c.tested-found.ensures.table _ c.in-Good.is).1 in ((c.tested-found.ensures.table _ c.in-Good.is).0, h.4)
+load_names-n-requires c = let h = has_room _ _ _ _ _ _ (c.tested-found.ensures.table _ c.in-Good.is).1 in record { sectioned = (c.tested-found.ensures.table _ c.in-Good.is).0; const_names_in_bounds = h.4 }
 
 pub told_of-requires : goal.told_of-requires
-told_of-requires c = let p = (c.tested-found.ensures.table _ c.in-Good.is).0 in ((p.types_most, p.fields_most, p.consts_most), c.load_names-n.ensures.1)
+told_of-requires c = let p = (c.tested-found.ensures.table _ c.in-Good.is).0 in record { types_bound = (p.types_most, p.fields_most, p.consts_most); names_value = c.load_names-n.ensures.value }
 
 pub shape_of-words-in-Good : goal.shape_of-words-in-Good
 shape_of-words-in-Good c = c.tested-found.auto.1.1.1.1.1.1.0
@@ -21,7 +21,7 @@ pub shape_of-halves-in-Good : goal.shape_of-halves-in-Good
 shape_of-halves-in-Good c = c.tested-found.auto.1.1.1.1.1.1.1.0
 
 pub returns-in-Good : goal.returns-in-Good
-returns-in-Good c = read_done c.args.types.now c.args.fields.now c.args.consts.now c.args.bytes.now c.args.names.now c.args.s.now c.args.words.now c.args.halves.now c.tested-found.ensures c.in-Good.is c.told_of.ensures c.load_numbers.ensures.0 c.load_numbers.ensures.1.0 c.load_numbers.ensures.1.1 c.copy_hex.ensures.out c.load_names-n.ensures.0
+returns-in-Good c = read_done c.args.types.now c.args.fields.now c.args.consts.now c.args.bytes.now c.args.names.now c.args.s.now c.args.words.now c.args.halves.now c.tested-found.ensures c.in-Good.is c.told_of.ensures c.load_numbers.ensures.types_after c.load_numbers.ensures.fields_after c.load_numbers.ensures.consts_after c.copy_hex.ensures.out c.load_names-n.ensures.names_after
 
 pub returns-in-Not : goal.returns-in-Not
 returns-in-Not c = read-refused c.args.types.now c.args.fields.now c.args.consts.now c.args.bytes.now c.args.names.now c.args.s.now c.args.words.now c.args.halves.now c.tested-found.ensures c.in-Not.is c.numbers.ensures

@@ -15,4 +15,4 @@ pub overflow_add-result-3 : goal.overflow_add-result-3
 overflow_add-result-3 c = omega (arith, digits-most c.args.t _ c.decimal_len-x.ensures (search rules), digits-most c.args.f _ c.decimal_len-y.ensures (search rules), digits-most c.args.c _ c.decimal_len-z.ensures (search rules))
 
 pub returns : goal.returns
-returns c = (omega (arith, counts-length c.args.t c.args.f c.args.c, c.decimal_len-x.ensures, c.decimal_len-y.ensures, c.decimal_len-z.ensures), omega (arith, digits-most c.args.t _ c.decimal_len-x.ensures (search rules), digits-most c.args.f _ c.decimal_len-y.ensures (search rules), digits-most c.args.c _ c.decimal_len-z.ensures (search rules)))
+returns c = record { value = omega (arith, counts-length c.args.t c.args.f c.args.c, c.decimal_len-x.ensures, c.decimal_len-y.ensures, c.decimal_len-z.ensures); upper_bound = omega (arith, digits-most c.args.t _ c.decimal_len-x.ensures (search rules), digits-most c.args.f _ c.decimal_len-y.ensures (search rules), digits-most c.args.c _ c.decimal_len-z.ensures (search rules)) }

@@ -15,4 +15,4 @@ pub loop-i-preserved : goal.loop-i-preserved
 loop-i-preserved c = measured-next _ _ _ _ c.loop-i.invariant c.loop-i-test.true c.decimal_len-d.ensures (omega (arith, c.type_inv.list c.loop-i.i))
 
 pub returns : goal.returns
-returns c = measured-end _ _ _ c.loop-i.invariant c.loop-i-test.false
+returns c = let p = measured-end _ _ _ c.loop-i.invariant c.loop-i-test.false in record { value = p.0; upper_bound = p.1 }

@@ -45,10 +45,10 @@ pub trace_array-slice_bounds-trace_parts-start : goal.trace_array-slice_bounds-t
 trace_array-slice_bounds-trace_parts-start t c = search array-fits
 
 pub trace_array-trace_parts-requires : goal.trace_array-trace_parts-requires
-trace_array-trace_parts-requires t c = (omega arith, (c.has_handles-holds.ensures, c.requires.1))
+trace_array-trace_parts-requires t c = (omega arith, (c.has_handles-holds.ensures, c.requires))
 
 pub trace_array-returns : goal.trace_array-returns
-trace_array-returns t c = array-some _ _ _ _ _ _ _ _ _ _ _ _ _ c.layout_array-l.ensures _ _ _ _ _ c.in-Laid.is _ c.turns_of-k.ensures c.trace_parts.result c.trace_parts.new.1.1.1.1.1.1.1.1.1.1.1.1.1.1.1.1.1.1.0 c.trace_parts.new.1.1.1.1.1.1.1.1.1.1.1.1.1.1.1.1.1.1.1.0 c.trace_parts.ensures
+trace_array-returns t c = array-some _ _ _ _ _ _ _ _ _ _ _ _ _ c.layout_array-l.ensures _ _ _ _ _ c.in-Laid.is _ c.turns_of-k.ensures c.trace_parts.result c.trace_parts.new.to.1.1.1.1.1.1.1.1.1.1.1.1.1.1.1.1.1.0 c.trace_parts.new.to.1.1.1.1.1.1.1.1.1.1.1.1.1.1.1.1.1.1.0 c.trace_parts.ensures
 
 pub trace_each-loop-k-init : goal.trace_each-loop-k-init
 trace_each-loop-k-init t c = (refl, refl, refl)
@@ -57,7 +57,7 @@ pub trace_each-returns-then-data-p : goal.trace_each-returns-then-data-p
 trace_each-returns-then-data-p t c = search elems-beyond
 
 pub trace_each-trace_in-r-requires : goal.trace_each-trace_in-r-requires
-trace_each-trace_in-r-requires t c = (omega arith, (c.requires.1.0, omega arith, c.requires.1.1))
+trace_each-trace_in-r-requires t c = (omega arith, (c.requires.0, omega arith, c.requires.1))
 
 pub trace_each-returns-in_default : goal.trace_each-returns-in_default
 trace_each-returns-in_default t c = search elems-fail
@@ -75,7 +75,7 @@ pub trace_each-returns : goal.trace_each-returns
 trace_each-returns t c = search elems-end
 
 pub trace_elems-trace_each-requires : goal.trace_elems-trace_each-requires
-trace_elems-trace_each-requires t c = (omega arith, (c.requires.1.0, c.requires.1.1))
+trace_elems-trace_each-requires t c = (omega arith, (c.requires.0, c.requires.1))
 
 pub trace_elems-returns-in_default : goal.trace_elems-returns-in_default
 trace_elems-returns-in_default t c = c.trace_each.ensures
@@ -84,10 +84,10 @@ pub trace_elems-overflow_sub-left : goal.trace_elems-overflow_sub-left
 trace_elems-overflow_sub-left t c = omega (arith, (c.fields_at-f.ensures _ _ c.in-Of.is).level)
 
 pub trace_elems-trace_records-requires : goal.trace_elems-trace_records-requires
-trace_elems-trace_records-requires t c = (omega (arith, (c.fields_at-f.ensures _ _ c.in-Of.is).level), (record-within _ _ _ _ refl _ _ (c.fields_at-f.ensures _ _ c.in-Of.is).row, c.requires.1.1))
+trace_elems-trace_records-requires t c = (omega (arith, (c.fields_at-f.ensures _ _ c.in-Of.is).level), (record-within _ _ _ _ refl _ _ (c.fields_at-f.ensures _ _ c.in-Of.is).row, c.requires.1))
 
 pub trace_elems-returns : goal.trace_elems-returns
-trace_elems-returns t c = looked-records _ _ _ _ _ _ _ _ _ _ _ c.requires.1.0 _ _ (omega (arith, c.well_formed)) (c.fields_at-f.ensures _ _ c.in-Of.is) _ _ _ c.trace_records.result c.trace_records.new.1.1.1.1.1.1.1.1.1.1.1.1.1.1.1.1.1.0 c.trace_records.new.1.1.1.1.1.1.1.1.1.1.1.1.1.1.1.1.1.1.0 c.trace_records.ensures
+trace_elems-returns t c = looked-records _ _ _ _ _ _ _ _ _ _ _ c.requires.0 _ _ (omega (arith, c.well_formed)) (c.fields_at-f.ensures _ _ c.in-Of.is) _ _ _ c.trace_records.result c.trace_records.new.to.1.1.1.1.1.1.1.1.1.1.1.1.1.1.1.1.0 c.trace_records.new.to.1.1.1.1.1.1.1.1.1.1.1.1.1.1.1.1.1.0 c.trace_records.ensures
 
 pub trace_field-returns-then-left-eq0 : goal.trace_field-returns-then-left-eq0
 trace_field-returns-then-left-eq0 t c = search part-zero
@@ -102,49 +102,49 @@ pub trace_field-returns-in-Own : goal.trace_field-returns-in-Own
 trace_field-returns-in-Own t c = search part-own
 
 pub trace_field-returns-in-Deep : goal.trace_field-returns-in-Deep
-trace_field-returns-in-Deep t c = part-one _ _ _ _ c.args.used c.args.desc.now _ _ _ _ c.requires.1.1 0 c.trace_parts.result c.trace_parts.new.1.1.1.1.1.1.1.1.1.1.1.1.1.1.1.1.1.1.0 c.trace_parts.new.1.1.1.1.1.1.1.1.1.1.1.1.1.1.1.1.1.1.1.0 c.trace_parts.ensures
+trace_field-returns-in-Deep t c = part-one _ _ _ _ c.args.used c.args.desc.now _ _ _ _ c.requires.1 0 c.trace_parts.result c.trace_parts.new.to.1.1.1.1.1.1.1.1.1.1.1.1.1.1.1.1.1.0 c.trace_parts.new.to.1.1.1.1.1.1.1.1.1.1.1.1.1.1.1.1.1.1.0 c.trace_parts.ensures
 
 pub trace_in-returns-then-left-eq0 : goal.trace_in-returns-then-left-eq0
 trace_in-returns-then-left-eq0 t c = search in-zero
 
 pub trace_in-returns-then-not-holds : goal.trace_in-returns-then-not-holds
-trace_in-returns-then-not-holds t c = in-plain _ _ _ _ _ _ _ _ _ _ _ c.if-left-eq0.false _ c.requires.1.0 c.if-not-holds.true
+trace_in-returns-then-not-holds t c = in-plain _ _ _ _ _ _ _ _ _ _ _ c.if-left-eq0.false _ c.requires.0 c.if-not-holds.true
 
 pub trace_in-overflow_sub-left : goal.trace_in-overflow_sub-left
 trace_in-overflow_sub-left t c = omega arith
 
 pub trace_in-trace_array-requires : goal.trace_in-trace_array-requires
-trace_in-trace_array-requires t c = (omega arith, c.requires.1.2)
+trace_in-trace_array-requires t c = (omega arith, c.requires.2)
 
 pub trace_in-overflow_sub-left-in-Record : goal.trace_in-overflow_sub-left-in-Record
 trace_in-overflow_sub-left-in-Record t c = omega arith
 
 pub trace_in-trace_records-requires : goal.trace_in-trace_records-requires
-trace_in-trace_records-requires t c = (omega arith, (record-within _ _ _ _ c.ty_at-e.ensures _ _ c.in-Record.is, c.requires.1.2))
+trace_in-trace_records-requires t c = (omega arith, (record-within _ _ _ _ c.ty_at-e.ensures _ _ c.in-Record.is, c.requires.2))
 
 pub trace_in-trace_word-requires-in-Protected : goal.trace_in-trace_word-requires-in-Protected
-trace_in-trace_word-requires-in-Protected t c = (c.requires.1.1, c.requires.1.2)
+trace_in-trace_word-requires-in-Protected t c = (c.requires.1, c.requires.2)
 
 pub trace_in-returns-in-Missing : goal.trace_in-returns-in-Missing
-trace_in-returns-in-Missing t c = in-missing _ _ _ _ _ _ _ _ _ _ _ c.if-left-eq0.false _ c.requires.1.0 c.if-not-holds.false _ c.ty_at-e.ensures c.in-Missing.is
+trace_in-returns-in-Missing t c = in-missing _ _ _ _ _ _ _ _ _ _ _ c.if-left-eq0.false _ c.requires.0 c.if-not-holds.false _ c.ty_at-e.ensures c.in-Missing.is
 
 pub trace_in-returns-in-Array : goal.trace_in-returns-in-Array
-trace_in-returns-in-Array t c = in_array _ _ _ _ _ _ _ _ _ _ _ c.if-left-eq0.false _ c.requires.1.0 c.if-not-holds.false _ c.ty_at-e.ensures _ _ _ c.in-Array.is c.trace_array.result c.trace_array.new.1.1.1.1.1.1.1.1.1.1.1.1.1.1.1.1.1.0 c.trace_array.new.1.1.1.1.1.1.1.1.1.1.1.1.1.1.1.1.1.1.0 c.trace_array.ensures
+trace_in-returns-in-Array t c = in_array _ _ _ _ _ _ _ _ _ _ _ c.if-left-eq0.false _ c.requires.0 c.if-not-holds.false _ c.ty_at-e.ensures _ _ _ c.in-Array.is c.trace_array.result c.trace_array.new.to.1.1.1.1.1.1.1.1.1.1.1.1.1.1.1.1.0 c.trace_array.new.to.1.1.1.1.1.1.1.1.1.1.1.1.1.1.1.1.1.0 c.trace_array.ensures
 
 pub trace_in-returns-in-Record : goal.trace_in-returns-in-Record
-trace_in-returns-in-Record t c = in-record _ _ _ _ _ _ _ _ _ _ _ c.if-left-eq0.false _ c.requires.1.0 c.if-not-holds.false _ c.ty_at-e.ensures _ _ c.in-Record.is (omega (arith, c.well_formed)) c.requires.1.1 _ c.trace_records.result c.trace_records.new.1.1.1.1.1.1.1.1.1.1.1.1.1.1.1.1.1.0 c.trace_records.new.1.1.1.1.1.1.1.1.1.1.1.1.1.1.1.1.1.1.0 c.trace_records.ensures
+trace_in-returns-in-Record t c = in-record _ _ _ _ _ _ _ _ _ _ _ c.if-left-eq0.false _ c.requires.0 c.if-not-holds.false _ c.ty_at-e.ensures _ _ c.in-Record.is (omega (arith, c.well_formed)) c.requires.1 _ c.trace_records.result c.trace_records.new.to.1.1.1.1.1.1.1.1.1.1.1.1.1.1.1.1.0 c.trace_records.new.to.1.1.1.1.1.1.1.1.1.1.1.1.1.1.1.1.1.0 c.trace_records.ensures
 
 pub trace_in-returns-in-Access : goal.trace_in-returns-in-Access
-trace_in-returns-in-Access t c = in-access _ _ _ _ _ _ _ _ _ _ _ c.if-left-eq0.false _ c.requires.1.0 c.if-not-holds.false _ c.ty_at-e.ensures c.in-Access.is c.trace_word.result c.trace_word.new.1.1.1.1.1.1.1.0 c.trace_word.new.1.1.1.1.1.1.1.1.0 c.trace_word.ensures
+trace_in-returns-in-Access t c = in-access _ _ _ _ _ _ _ _ _ _ _ c.if-left-eq0.false _ c.requires.0 c.if-not-holds.false _ c.ty_at-e.ensures c.in-Access.is c.trace_word.result c.trace_word.new.to.1.1.1.1.1.1.0 c.trace_word.new.to.1.1.1.1.1.1.1.0 c.trace_word.ensures
 
 pub trace_in-returns-in-Protected : goal.trace_in-returns-in-Protected
-trace_in-returns-in-Protected t c = in-protected _ _ _ _ _ _ _ _ _ _ _ c.if-left-eq0.false _ c.requires.1.0 c.if-not-holds.false _ c.ty_at-e.ensures c.in-Protected.is c.trace_word-in-Protected.result c.trace_word-in-Protected.new.1.1.1.1.1.1.1.0 c.trace_word-in-Protected.new.1.1.1.1.1.1.1.1.0 c.trace_word-in-Protected.ensures
+trace_in-returns-in-Protected t c = in-protected _ _ _ _ _ _ _ _ _ _ _ c.if-left-eq0.false _ c.requires.0 c.if-not-holds.false _ c.ty_at-e.ensures c.in-Protected.is c.trace_word-in-Protected.result c.trace_word-in-Protected.new.to.1.1.1.1.1.1.0 c.trace_word-in-Protected.new.to.1.1.1.1.1.1.1.0 c.trace_word-in-Protected.ensures
 
 pub trace_in-returns-in_default : goal.trace_in-returns-in_default
-trace_in-returns-in_default t c = in-other _ _ _ _ _ _ _ _ _ _ _ c.if-left-eq0.false _ c.requires.1.0 c.if-not-holds.false _ c.ty_at-e.ensures c.in_default.in_default-own.keys6
+trace_in-returns-in_default t c = in-other _ _ _ _ _ _ _ _ _ _ _ c.if-left-eq0.false _ c.requires.0 c.if-not-holds.false _ c.ty_at-e.ensures c.in_default.in_default-own.keys6
 
 pub trace_parts-trace_elems-requires : goal.trace_parts-trace_elems-requires
-trace_parts-trace_elems-requires t c = (omega arith, (c.requires.1.0, c.requires.1.1))
+trace_parts-trace_elems-requires t c = (omega arith, (c.requires.0, c.requires.1))
 
 pub trace_parts-returns-then-c-eq4294967295 : goal.trace_parts-returns-then-c-eq4294967295
 trace_parts-returns-then-c-eq4294967295 t c = search parts-rest
@@ -165,7 +165,7 @@ pub trace_parts-slice_bounds-trace_elems-end : goal.trace_parts-slice_bounds-tra
 trace_parts-slice_bounds-trace_elems-end t c = search part_end
 
 pub trace_parts-trace_elems-requires-2 : goal.trace_parts-trace_elems-requires-2
-trace_parts-trace_elems-requires-2 t c = (omega arith, (c.requires.1.0, c.requires.1.1))
+trace_parts-trace_elems-requires-2 t c = (omega arith, (c.requires.0, c.requires.1))
 
 pub trace_parts-returns : goal.trace_parts-returns
 trace_parts-returns t c = search parts-const
@@ -213,13 +213,13 @@ pub trace_record-returns-then-data-at : goal.trace_record-returns-then-data-at
 trace_record-returns-then-data-at t c = search field-beyond
 
 pub trace_record-overflow_add-at : goal.trace_record-overflow_add-at
-trace_record-overflow_add-at t c = omega (arith, c.if-data-at.false, c.requires.1.1, c.well_formed)
+trace_record-overflow_add-at t c = omega (arith, c.if-data-at.false, c.requires.1, c.well_formed)
 
 pub trace_record-trace_field-r-requires : goal.trace_record-trace_field-r-requires
-trace_record-trace_field-r-requires t c = (omega arith, (c.loop-i.invariant.1, omega (arith, c.if-data-at.false, c.requires.1.1), c.requires.1.2))
+trace_record-trace_field-r-requires t c = (omega arith, (c.loop-i.invariant.1, omega (arith, c.if-data-at.false, c.requires.1), c.requires.2))
 
 pub trace_record-returns-in_default-r : goal.trace_record-returns-in_default-r
-trace_record-returns-in_default-r t c = field-fail _ _ _ _ _ _ _ _ _ _ _ _ _ _ _ _ _ c.loop-i.invariant.2 c.loop-i-test.true _ c.place_field-fl.ensures _ _ _ _ c.in-At.is c.requires.1.1 c.if-data-at.false c.trace_field-r.result c.trace_field-r.new.1.1.1.1.1.1.1.1.1.1.1.1.1.1.1.1.0 c.trace_field-r.new.1.1.1.1.1.1.1.1.1.1.1.1.1.1.1.1.1.0 c.trace_field-r.ensures c.in_default-r.is
+trace_record-returns-in_default-r t c = field-fail _ _ _ _ _ _ _ _ _ _ _ _ _ _ _ _ _ c.loop-i.invariant.2 c.loop-i-test.true _ c.place_field-fl.ensures _ _ _ _ c.in-At.is c.requires.1 c.if-data-at.false c.trace_field-r.result c.trace_field-r.new.to.1.1.1.1.1.1.1.1.1.1.1.1.1.1.1.0 c.trace_field-r.new.to.1.1.1.1.1.1.1.1.1.1.1.1.1.1.1.1.0 c.trace_field-r.ensures c.in_default-r.is
 
 pub trace_record-overflow_add-used : goal.trace_record-overflow_add-used
 trace_record-overflow_add-used t c = record { fits = field-word _ _ _ _ _ _ _ _ _ _ _ _ _ _ _ _ _ c.loop-i.invariant.2 c.loop-i-test.true _ c.place_field-fl.ensures _ _ _ _ c.in-At.is c.loop-i.invariant.1 (omega (arith, c.well_formed)) _ c.used_by-used.ensures }
@@ -231,7 +231,7 @@ pub trace_record-loop-i-smaller : goal.trace_record-loop-i-smaller
 trace_record-loop-i-smaller t c = omega (arith, c.loop-i-test.true)
 
 pub trace_record-loop-i-preserved : goal.trace_record-loop-i-preserved
-trace_record-loop-i-preserved t c = (omega (arith, c.loop-i-test.true), field-used _ _ _ _ _ _ _ _ _ _ _ _ _ _ _ _ _ c.loop-i.invariant.2 c.loop-i-test.true _ c.place_field-fl.ensures _ _ _ _ c.in-At.is c.loop-i.invariant.1 _ c.used_by-used.ensures, field_next _ _ _ _ _ _ _ _ _ _ _ _ _ _ _ _ _ c.loop-i.invariant.2 c.loop-i-test.true _ c.place_field-fl.ensures _ _ _ _ c.in-At.is c.requires.1.1 c.if-data-at.false c.trace_field-r.result c.trace_field-r.new.1.1.1.1.1.1.1.1.1.1.1.1.1.1.1.1.0 c.trace_field-r.new.1.1.1.1.1.1.1.1.1.1.1.1.1.1.1.1.1.0 c.trace_field-r.ensures _ c.in-Traced.is _ c.larger-align.ensures _ c.used_by-used.ensures, omega (arith, c.loop-i.invariant.3), omega (arith, c.loop-i.invariant.4))
+trace_record-loop-i-preserved t c = (omega (arith, c.loop-i-test.true), field-used _ _ _ _ _ _ _ _ _ _ _ _ _ _ _ _ _ c.loop-i.invariant.2 c.loop-i-test.true _ c.place_field-fl.ensures _ _ _ _ c.in-At.is c.loop-i.invariant.1 _ c.used_by-used.ensures, field_next _ _ _ _ _ _ _ _ _ _ _ _ _ _ _ _ _ c.loop-i.invariant.2 c.loop-i-test.true _ c.place_field-fl.ensures _ _ _ _ c.in-At.is c.requires.1 c.if-data-at.false c.trace_field-r.result c.trace_field-r.new.to.1.1.1.1.1.1.1.1.1.1.1.1.1.1.1.0 c.trace_field-r.new.to.1.1.1.1.1.1.1.1.1.1.1.1.1.1.1.1.0 c.trace_field-r.ensures _ c.in-Traced.is _ c.larger-align.ensures _ c.used_by-used.ensures, omega (arith, c.loop-i.invariant.3), omega (arith, c.loop-i.invariant.4))
 
 pub trace_record-returns-in_default-z : goal.trace_record-returns-in_default-z
 trace_record-returns-in_default-z t c = search fields-over
@@ -246,7 +246,7 @@ pub trace_records-returns-then-data-o : goal.trace_records-returns-then-data-o
 trace_records-returns-then-data-o t c = search elems-beyond
 
 pub trace_records-trace_record-r-requires : goal.trace_records-trace_record-r-requires
-trace_records-trace_record-r-requires t c = (omega arith, (c.requires.1.0, omega arith, c.requires.1.1))
+trace_records-trace_record-r-requires t c = (omega arith, (c.requires.0, omega arith, c.requires.1))
 
 pub trace_records-returns-in_default : goal.trace_records-returns-in_default
 trace_records-returns-in_default t c = search elems-fail

@@ -10,29 +10,28 @@ use Rattle.collect.proofs.joined.collect_at.Goals as goal
 pub returns-then-not-root_row : goal.returns-then-not-root_row
 returns-then-not-root_row c = let f : Lent = record { kinds = c.args.kinds.now; ends = c.args.ends.now; refs = c.args.refs.now; blocks = c.args.blocks.now; classes = c.args.classes.now } in
     let t = table_of c.args.types.now c.args.fields.now c.args.consts.now c.args.bytes.now in
-    let h = frame_handles t c.args.map.now c.args.memory.now in
-    (at_none f c.args.pc c.args.values.now c.args.rows.now _ c.requires.1.0 _ c.root_row.ensures t h c.args.pins.now c.args.addresses.now (addresses_in t c.args.map.now c.args.memory.now) _ c.if-not-root_row.true c.requires.0.formed, (refl, refl, c.root_row.ensures.stays (not-true _ c.if-not-root_row.true)))
+    let h = frame_handles t c.args.map.now c.args.memory.now in record { tells = at_none f c.args.pc c.args.values.now c.args.rows.now _ c.requires.can_look _ c.root_row.ensures t h c.args.pins.now c.args.addresses.now (addresses_in t c.args.map.now c.args.memory.now) _ c.if-not-root_row.true c.requires.can_collect.formed; marks_unchanged = (refl, refl, c.root_row.ensures.stays (not-true _ c.if-not-root_row.true)) }
 
 pub overflow_add-words : goal.overflow_add-words
-overflow_add-words c = record { fits = (small _ _ _ c.requires.1.0).sum }
+overflow_add-words c = record { fits = (small _ _ _ c.requires.can_look).sum }
 
 pub overflow_mul-at : goal.overflow_mul-at
-overflow_mul-at c = record { fits = (small _ _ _ c.requires.1.0).three }
+overflow_mul-at c = record { fits = (small _ _ _ c.requires.can_look).three }
 
 pub overflow_mul-at-2 : goal.overflow_mul-at-2
-overflow_mul-at-2 c = record { fits = (small _ _ _ c.requires.1.0).start }
+overflow_mul-at-2 c = record { fits = (small _ _ _ c.requires.can_look).start }
 
 pub overflow_add-past : goal.overflow_add-past
-overflow_add-past c = record { fits = (small _ _ _ c.requires.1.0).past }
+overflow_add-past c = record { fits = (small _ _ _ c.requires.can_look).past }
 
 pub offset_bounds-rows-at : goal.offset_bounds-rows-at
-offset_bounds-rows-at c = record { fits = (small _ _ _ c.requires.1.0).bytes }
+offset_bounds-rows-at c = record { fits = (small _ _ _ c.requires.can_look).bytes }
 
 pub slice_bounds-collect_row-end : goal.slice_bounds-collect_row-end
-slice_bounds-collect_row-end c = row-past _ _ _ _ _ c.requires.1.0 _ c.root_row.ensures
+slice_bounds-collect_row-end c = row-past _ _ _ _ _ c.requires.can_look _ c.root_row.ensures
 
 pub collect_row-r-requires : goal.collect_row-r-requires
-collect_row-r-requires c = (c.requires.0, record { paired = c.requires.1.1; valued = sym c.requires.1.0.valued })
+collect_row-r-requires c = record { can_collect = c.requires.can_collect; ordered = record { paired = c.requires.addresses_value; valued = sym c.requires.can_look.valued } }
 
 pub shape_of-narrow : goal.shape_of-narrow
 shape_of-narrow c = c.collect_row-r.auto.1.1.1.1.1.0
@@ -55,5 +54,4 @@ shape_of-rows c = c.clear_u64.auto.0 ∙ c.root_row.auto.1.1.1.1.1.1.0
 pub returns : goal.returns
 returns c = let f : Lent = record { kinds = c.args.kinds.now; ends = c.args.ends.now; refs = c.args.refs.now; blocks = c.args.blocks.now; classes = c.args.classes.now } in
     let t = table_of c.args.types.now c.args.fields.now c.args.consts.now c.args.bytes.now in
-    let h = frame_handles t c.args.map.now c.args.memory.now in
-    (at_row f c.args.pc c.args.values.now c.args.rows.now _ c.requires.1.0 _ c.root_row.ensures t h c.args.pins.now c.args.addresses.now (addresses_in t c.args.map.now c.args.memory.now) _ c.if-not-root_row.false _ _ c.collect_row-r.ensures.0, (c.collect_row-r.ensures.1.0, c.collect_row-r.ensures.1.1, rows-again f c.args.pc c.args.values.now c.args.rows.now _ c.requires.1.0 _ c.root_row.ensures _ c.clear_u64.ensures))
+    let h = frame_handles t c.args.map.now c.args.memory.now in record { tells = at_row f c.args.pc c.args.values.now c.args.rows.now _ c.requires.can_look _ c.root_row.ensures t h c.args.pins.now c.args.addresses.now (addresses_in t c.args.map.now c.args.memory.now) _ c.if-not-root_row.false _ _ c.collect_row-r.ensures.tells; marks_unchanged = (c.collect_row-r.ensures.marks_unchanged.0, c.collect_row-r.ensures.marks_unchanged.1, rows-again f c.args.pc c.args.values.now c.args.rows.now _ c.requires.can_look _ c.root_row.ensures _ c.clear_u64.ensures) }

@@ -29,4 +29,4 @@ pub loop-i-preserved : goal.loop-i-preserved
 loop-i-preserved c = search row-take
 
 pub returns : goal.returns
-returns c = (search row-end, search row-turns)
+returns c = record { followed = search row-end; turns = search row-turns }

@@ -7,13 +7,13 @@ use Rattle.mark.proofs.FrameMarks.{joined-seeds}
 use Rattle.mark.proofs.joined.seed_joined.Goals as goal
 
 pub hold_all-c-requires : goal.hold_all-c-requires
-hold_all-c-requires c = (c.requires.1.0.few, c.push_all-b.ensures.0.scratch)
+hold_all-c-requires c = record { slots_bound = c.requires.can_hold.few; scratch = c.push_all-b.ensures.holds.scratch }
 
 pub hold_frame-d-requires : goal.hold_frame-d-requires
-hold_frame-d-requires c = ((c.requires.1.0.few, c.requires.1.0.ordered.paired), c.hold_all-c.ensures.scratch)
+hold_frame-d-requires c = record { slots_bound = (c.requires.can_hold.few, c.requires.can_hold.ordered.paired); scratch = c.hold_all-c.ensures.scratch }
 
 pub push_row-requires : goal.push_row-requires
-push_row-requires c = (c.requires.0, (c.requires.1.0, c.hold_frame-d.ensures.scratch))
+push_row-requires c = record { runs = c.requires.runs; can_hold = c.requires.can_hold; scratch = c.hold_frame-d.ensures.scratch }
 
 pub shape_of-marks : goal.shape_of-marks
 shape_of-marks c = c.push_row.auto.1.1.1.1.1.1.1.1.1.0 ∙ c.hold_frame-d.auto.1.1.1.1.0 ∙ c.hold_all-c.auto.1.1.0 ∙ c.push_all-b.auto.1.1.1.1.1.0 ∙ c.push_row.auto.1.1.1.1.1.1.1.1.1.0
@@ -22,4 +22,4 @@ pub shape_of-work : goal.shape_of-work
 shape_of-work c = c.push_row.auto.1.1.1.1.1.1.1.1.1.1.0 ∙ c.hold_frame-d.auto.1.1.1.1.1.0 ∙ c.hold_all-c.auto.1.1.1.0 ∙ c.push_all-b.auto.1.1.1.1.1.1.0 ∙ c.push_row.auto.1.1.1.1.1.1.1.1.1.1.0
 
 pub returns : goal.returns
-returns c = joined-seeds (leads_to c.args.tag c.args.slots c.args.s c.args.narrow.now) c.args.slots c.args.addresses.now (row_values 4 c.args.classes.now c.args.row.now c.args.values.now) c.args.sealed.now c.args.pins.now (entries_words c.args.memory.now (entries_of c.args.map.now)) (row_values 2 c.args.classes.now c.args.row.now c.args.values.now) _ _ _ _ _ _ _ _ _ _ _ _ _ _ _ _ c.push_row.ensures.0 c.push_all-b.ensures.0 c.hold_all-c.ensures c.hold_frame-d.ensures c.push_row.ensures.0
+returns c = joined-seeds (leads_to c.args.tag c.args.slots c.args.s c.args.narrow.now) c.args.slots c.args.addresses.now (row_values 4 c.args.classes.now c.args.row.now c.args.values.now) c.args.sealed.now c.args.pins.now (entries_words c.args.memory.now (entries_of c.args.map.now)) (row_values 2 c.args.classes.now c.args.row.now c.args.values.now) _ _ _ _ _ _ _ _ _ _ _ _ _ _ _ _ c.push_row.ensures.followed c.push_all-b.ensures.holds c.hold_all-c.ensures c.hold_frame-d.ensures c.push_row.ensures.followed

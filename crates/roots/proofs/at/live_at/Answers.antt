@@ -34,7 +34,7 @@ pub returns-then-kinds-pc-ne1 : goal.returns-then-kinds-pc-ne1
 returns-then-kinds-pc-ne1 c = at-no-map (record { kinds = c.args.kinds.now; ends = c.args.ends.now; refs = c.args.refs.now; blocks = c.args.blocks.now; classes = c.args.classes.now }) (wanted c.args.which) c.args.pc _ _ (c.enough.ensures.0 (not-false _ c.if-not-enough.false)) _ c.clear_u64-then-kinds-pc-ne1.ensures (sym c.check_function.ensures ∙ not-false _ c.if-not-check_function.false) (not-safepoint c.args.kinds.now c.args.ends.now c.args.refs.now c.args.blocks.now c.args.classes.now (sym c.check_function.ensures ∙ not-false _ c.if-not-check_function.false) c.args.pc (in_code c.args.kinds.now c.args.ends.now c.args.refs.now c.args.blocks.now c.args.classes.now (sym c.check_function.ensures ∙ not-false _ c.if-not-check_function.false) c.args.pc _ c.if-nb-b.false (c.find_block-b.ensures.here c.if-nb-b.false).0 (c.find_block-b.ensures.here c.if-nb-b.false).1) c.if-kinds-pc-ne1.true)
 
 pub live_row-requires : goal.live_row-requires
-live_row-requires c = ((sym c.check_function.ensures ∙ not-false _ c.if-not-check_function.false), ((refl, c.if-nb-b.false, omega (arith, (c.enough.ensures.0 (not-false _ c.if-not-enough.false)), need-is (length c.args.blocks.now / 2) ((length c.args.classes.now + 63) / 64)), omega arith), ((c.find_block-b.ensures.here c.if-nb-b.false).0, (c.find_block-b.ensures.here c.if-nb-b.false).1)))
+live_row-requires c = record { classes_value = (sym c.check_function.ensures ∙ not-false _ c.if-not-check_function.false); nb_value = (refl, c.if-nb-b.false, omega (arith, (c.enough.ensures.0 (not-false _ c.if-not-enough.false)), need-is (length c.args.blocks.now / 2) ((length c.args.classes.now + 63) / 64)), omega arith); b_bound = ((c.find_block-b.ensures.here c.if-nb-b.false).0, (c.find_block-b.ensures.here c.if-nb-b.false).1) }
 
 pub overflow_mul-words : goal.overflow_mul-words
 overflow_mul-words c = omega (arith, (formed-fit c.args.kinds.now c.args.ends.now c.args.refs.now c.args.blocks.now c.args.classes.now (sym c.check_function.ensures ∙ not-false _ c.if-not-check_function.false)).class-count)
@@ -46,4 +46,4 @@ pub list_at-requires : goal.list_at-requires
 list_at-requires c = (omega (arith, (c.enough.ensures.0 (not-false _ c.if-not-enough.false)), need-is (length c.args.blocks.now / 2) ((length c.args.classes.now + 63) / 64), c.live_row.ensures.0), omega (arith, (formed-fit c.args.kinds.now c.args.ends.now c.args.refs.now c.args.blocks.now c.args.classes.now (sym c.check_function.ensures ∙ not-false _ c.if-not-check_function.false)).class-count))
 
 pub returns : goal.returns
-returns c = at_listed (record { kinds = c.args.kinds.now; ends = c.args.ends.now; refs = c.args.refs.now; blocks = c.args.blocks.now; classes = c.args.classes.now }) (wanted c.args.which) c.args.pc c.args.regs.now c.args.rows.now (c.enough.ensures.0 (not-false _ c.if-not-enough.false)) c.list_at.new.0 (c.list_at.ensures.2 ∙ ap (λ (u : ℕ). replicate u 0) c.live_row.ensures.0) (sym c.check_function.ensures ∙ not-false _ c.if-not-check_function.false) (is-safepoint c.args.kinds.now c.args.ends.now c.args.refs.now c.args.blocks.now c.args.classes.now (sym c.check_function.ensures ∙ not-false _ c.if-not-check_function.false) c.args.pc (found-held c.args.kinds.now c.args.ends.now c.args.refs.now c.args.blocks.now c.args.classes.now (sym c.check_function.ensures ∙ not-false _ c.if-not-check_function.false) c.args.pc c.find_block-b.result c.if-nb-b.false (c.find_block-b.ensures.here c.if-nb-b.false).0 (c.find_block-b.ensures.here c.if-nb-b.false).1) (in_code c.args.kinds.now c.args.ends.now c.args.refs.now c.args.blocks.now c.args.classes.now (sym c.check_function.ensures ∙ not-false _ c.if-not-check_function.false) c.args.pc c.find_block-b.result c.if-nb-b.false (c.find_block-b.ensures.here c.if-nb-b.false).0 (c.find_block-b.ensures.here c.if-nb-b.false).1) c.if-kinds-pc-ne1.false) _ _ _ (row_listed (seen (wanted c.args.which) c.args.kinds.now c.args.ends.now c.args.refs.now c.args.blocks.now c.args.classes.now) c.live_row.new.0 (length c.args.blocks.now / 2 * (3 * ((length c.args.classes.now + 63) / 64))) ((length c.args.classes.now + 63) / 64) c.find_block-b.result c.args.pc (omega (arith, (c.enough.ensures.0 (not-false _ c.if-not-enough.false)), need-is (length c.args.blocks.now / 2) ((length c.args.classes.now + 63) / 64), c.live_row.ensures.0)) c.live_row.ensures.1 (seen-holder (wanted c.args.which) c.args.kinds.now c.args.ends.now c.args.refs.now c.args.blocks.now c.args.classes.now c.args.pc c.find_block-b.result (found-holder c.args.kinds.now c.args.ends.now c.args.refs.now c.args.blocks.now c.args.classes.now (sym c.check_function.ensures ∙ not-false _ c.if-not-check_function.false) c.args.pc c.find_block-b.result c.if-nb-b.false (c.find_block-b.ensures.here c.if-nb-b.false).0 (c.find_block-b.ensures.here c.if-nb-b.false).1))) c.list_at.ensures.0 c.list_at.ensures.1
+returns c = at_listed (record { kinds = c.args.kinds.now; ends = c.args.ends.now; refs = c.args.refs.now; blocks = c.args.blocks.now; classes = c.args.classes.now }) (wanted c.args.which) c.args.pc c.args.regs.now c.args.rows.now (c.enough.ensures.0 (not-false _ c.if-not-enough.false)) c.list_at.new.s (c.list_at.ensures.2 ∙ ap (λ (u : ℕ). replicate u 0) c.live_row.ensures.0) (sym c.check_function.ensures ∙ not-false _ c.if-not-check_function.false) (is-safepoint c.args.kinds.now c.args.ends.now c.args.refs.now c.args.blocks.now c.args.classes.now (sym c.check_function.ensures ∙ not-false _ c.if-not-check_function.false) c.args.pc (found-held c.args.kinds.now c.args.ends.now c.args.refs.now c.args.blocks.now c.args.classes.now (sym c.check_function.ensures ∙ not-false _ c.if-not-check_function.false) c.args.pc c.find_block-b.result c.if-nb-b.false (c.find_block-b.ensures.here c.if-nb-b.false).0 (c.find_block-b.ensures.here c.if-nb-b.false).1) (in_code c.args.kinds.now c.args.ends.now c.args.refs.now c.args.blocks.now c.args.classes.now (sym c.check_function.ensures ∙ not-false _ c.if-not-check_function.false) c.args.pc c.find_block-b.result c.if-nb-b.false (c.find_block-b.ensures.here c.if-nb-b.false).0 (c.find_block-b.ensures.here c.if-nb-b.false).1) c.if-kinds-pc-ne1.false) _ _ _ (row_listed (seen (wanted c.args.which) c.args.kinds.now c.args.ends.now c.args.refs.now c.args.blocks.now c.args.classes.now) c.live_row.new.s (length c.args.blocks.now / 2 * (3 * ((length c.args.classes.now + 63) / 64))) ((length c.args.classes.now + 63) / 64) c.find_block-b.result c.args.pc (omega (arith, (c.enough.ensures.0 (not-false _ c.if-not-enough.false)), need-is (length c.args.blocks.now / 2) ((length c.args.classes.now + 63) / 64), c.live_row.ensures.0)) c.live_row.ensures.1 (seen-holder (wanted c.args.which) c.args.kinds.now c.args.ends.now c.args.refs.now c.args.blocks.now c.args.classes.now c.args.pc c.find_block-b.result (found-holder c.args.kinds.now c.args.ends.now c.args.refs.now c.args.blocks.now c.args.classes.now (sym c.check_function.ensures ∙ not-false _ c.if-not-check_function.false) c.args.pc c.find_block-b.result c.if-nb-b.false (c.find_block-b.ensures.here c.if-nb-b.false).0 (c.find_block-b.ensures.here c.if-nb-b.false).1))) c.list_at.ensures.0 c.list_at.ensures.1

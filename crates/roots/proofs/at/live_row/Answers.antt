@@ -10,10 +10,10 @@ use Rattle.roots.proofs.Answers.{live-row-cells}
 use Rattle.roots.proofs.at.live_row.Goals as goal
 
 pub analyse-requires : goal.analyse-requires
-analyse-requires c = (c.requires.0, (c.requires.1.0.0, c.requires.1.0.2, c.requires.1.0.3))
+analyse-requires c = record { classes_value = c.requires.classes_value; nb_value = (c.requires.nb_value.0, c.requires.nb_value.2, c.requires.nb_value.3) }
 
 pub gather-requires : goal.gather-requires
-gather-requires c = (c.requires.1.0.1, omega (arith, c.requires.1.0.2, c.analyse.ensures.0))
+gather-requires c = (c.requires.nb_value.1, omega (arith, c.requires.nb_value.2, c.analyse.ensures.0))
 
 pub overflow_mul-b : goal.overflow_mul-b
 overflow_mul-b c = omega arith
@@ -28,13 +28,13 @@ pub bounds-blocks-b : goal.bounds-blocks-b
 bounds-blocks-b c = omega arith
 
 pub overflow_mul-words : goal.overflow_mul-words
-overflow_mul-words c = omega (arith, c.requires.1.0.2)
+overflow_mul-words c = omega (arith, c.requires.nb_value.2)
 
 pub overflow_mul-nb : goal.overflow_mul-nb
-overflow_mul-nb c = omega (arith, c.requires.1.0.2)
+overflow_mul-nb c = omega (arith, c.requires.nb_value.2)
 
 pub back_at-requires : goal.back_at-requires
-back_at-requires c = (omega (arith, c.requires.1.0.2, c.analyse.ensures.0, c.gather.ensures.0.kept), (omega (arith, c.requires.1.1.1, c.wide-e.ensures), subst (λ (u : ℕ). 3 * u ≤ length c.args.ends.now) (sym c.wide-e.ensures) (ends-inside c.args.kinds.now c.args.ends.now c.args.refs.now c.args.blocks.now c.args.classes.now c.requires.0 c.args.nb c.requires.1.0.0 c.args.b c.requires.1.0.1 (omega (arith, c.requires.1.1.0, c.requires.1.1.1))), c.requires.1.0.3, (formed-columns c.args.kinds.now c.args.ends.now c.args.refs.now c.args.blocks.now c.args.classes.now c.requires.0).lists))
+back_at-requires c = record { words_in_bounds = omega (arith, c.requires.nb_value.2, c.analyse.ensures.0, c.gather.ensures.0.kept); from_le_to = (omega (arith, c.requires.b_bound.1, c.wide-e.ensures), subst (λ (u : ℕ). 3 * u ≤ length c.args.ends.now) (sym c.wide-e.ensures) (ends-inside c.args.kinds.now c.args.ends.now c.args.refs.now c.args.blocks.now c.args.classes.now c.requires.classes_value c.args.nb c.requires.nb_value.0 c.args.b c.requires.nb_value.1 (omega (arith, c.requires.b_bound.0, c.requires.b_bound.1))), c.requires.nb_value.3, (formed-columns c.args.kinds.now c.args.ends.now c.args.refs.now c.args.blocks.now c.args.classes.now c.requires.classes_value).lists) }
 
 pub returns : goal.returns
-returns c = (c.back_at.ensures.0.kept ∙ c.gather.ensures.0.kept ∙ c.analyse.ensures.0, live-row-cells (seen (wanted c.args.which) c.args.kinds.now c.args.ends.now c.args.refs.now c.args.blocks.now c.args.classes.now) c.analyse.new.0 c.gather.new.0 c.back_at.new.0 c.args.words c.args.nb c.args.b c.args.pc c.wide-e.result c.analyse.ensures.1 c.requires.1.0.1 (c.wide-e.ensures ∙ sym (end-view (wanted c.args.which) c.args.kinds.now c.args.ends.now c.args.refs.now c.args.blocks.now c.args.classes.now c.args.b (omega (arith, c.requires.1.0.0, c.requires.1.0.1)))) c.gather.ensures.1 (c.back_at.ensures.1 c.args.kinds.now c.args.blocks.now))
+returns c = (c.back_at.ensures.0.kept ∙ c.gather.ensures.0.kept ∙ c.analyse.ensures.0, live-row-cells (seen (wanted c.args.which) c.args.kinds.now c.args.ends.now c.args.refs.now c.args.blocks.now c.args.classes.now) c.analyse.new.s c.gather.new.s c.back_at.new.s c.args.words c.args.nb c.args.b c.args.pc c.wide-e.result c.analyse.ensures.1 c.requires.nb_value.1 (c.wide-e.ensures ∙ sym (end-view (wanted c.args.which) c.args.kinds.now c.args.ends.now c.args.refs.now c.args.blocks.now c.args.classes.now c.args.b (omega (arith, c.requires.nb_value.0, c.requires.nb_value.1)))) c.gather.ensures.1 (c.back_at.ensures.1 c.args.kinds.now c.args.blocks.now))

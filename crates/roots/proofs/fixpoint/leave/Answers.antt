@@ -32,75 +32,75 @@ pub bounds-blocks-b-2 : goal.bounds-blocks-b-2
 bounds-blocks-b-2 c = omega arith
 
 pub returns-then-e-st : goal.returns-then-e-st
-returns-then-e-st c = (outside_refl _ _ _, λ t cs q h. sym (ap (λ (x : Bool). x || cell c.args.s.now (c.args.b * (3 * c.args.words) + 2 * c.args.words) q) (leave_none c.requires.0 t cs c.args.nb c.args.b c.wide-st.result c.wide-e.result c.requires.1.0 c.requires.1.1 c.wide-st.ensures c.wide-e.ensures (live_at c.args.s.now c.args.words c.args.nb q) c.if-e-st.true)))
+returns-then-e-st c = (outside_refl _ _ _, λ t cs q h. sym (ap (λ (x : Bool). x || cell c.args.s.now (c.args.b * (3 * c.args.words) + 2 * c.args.words) q) (leave_none c.requires.columns t cs c.args.nb c.args.b c.wide-st.result c.wide-e.result c.requires.nb_value.0 c.requires.nb_value.1 c.wide-st.ensures c.wide-e.ensures (live_at c.args.s.now c.args.words c.args.nb q) c.if-e-st.true)))
 
 pub overflow_sub-k : goal.overflow_sub-k
 overflow_sub-k c = omega arith
 
 pub bounds-kinds-e : goal.bounds-kinds-e
-bounds-kinds-e c = omega (arith, last-inside c.requires.0 c.args.nb c.args.b c.wide-st.result c.wide-e.result c.requires.1.0 c.requires.1.1 c.wide-st.ensures c.wide-e.ensures c.if-e-st.false)
+bounds-kinds-e c = omega (arith, last-inside c.requires.columns c.args.nb c.args.b c.wide-st.result c.wide-e.result c.requires.nb_value.0 c.requires.nb_value.1 c.wide-st.ensures c.wide-e.ensures c.if-e-st.false)
 
 pub overflow_sub-j : goal.overflow_sub-j
 overflow_sub-j c = omega arith
 
 pub overflow_mul-j : goal.overflow_mul-j
-overflow_mul-j c = omega (arith, last-inside c.requires.0 c.args.nb c.args.b c.wide-st.result c.wide-e.result c.requires.1.0 c.requires.1.1 c.wide-st.ensures c.wide-e.ensures c.if-e-st.false, c.requires.0.three)
+overflow_mul-j c = omega (arith, last-inside c.requires.columns c.args.nb c.args.b c.wide-st.result c.wide-e.result c.requires.nb_value.0 c.requires.nb_value.1 c.wide-st.ensures c.wide-e.ensures c.if-e-st.false, c.requires.columns.three)
 
 pub overflow_add-j : goal.overflow_add-j
-overflow_add-j c = omega (arith, last-inside c.requires.0 c.args.nb c.args.b c.wide-st.result c.wide-e.result c.requires.1.0 c.requires.1.1 c.wide-st.ensures c.wide-e.ensures c.if-e-st.false, c.requires.0.three)
+overflow_add-j c = omega (arith, last-inside c.requires.columns c.args.nb c.args.b c.wide-st.result c.wide-e.result c.requires.nb_value.0 c.requires.nb_value.1 c.wide-st.ensures c.wide-e.ensures c.if-e-st.false, c.requires.columns.three)
 
 pub offset_bounds-ends-j : goal.offset_bounds-ends-j
-offset_bounds-ends-j c = omega (arith, last-inside c.requires.0 c.args.nb c.args.b c.wide-st.result c.wide-e.result c.requires.1.0 c.requires.1.1 c.wide-st.ensures c.wide-e.ensures c.if-e-st.false, c.requires.0.three)
+offset_bounds-ends-j c = omega (arith, last-inside c.requires.columns c.args.nb c.args.b c.wide-st.result c.wide-e.result c.requires.nb_value.0 c.requires.nb_value.1 c.wide-st.ensures c.wide-e.ensures c.if-e-st.false, c.requires.columns.three)
 
 pub bounds-ends-j : goal.bounds-ends-j
-bounds-ends-j c = omega (arith, last-inside c.requires.0 c.args.nb c.args.b c.wide-st.result c.wide-e.result c.requires.1.0 c.requires.1.1 c.wide-st.ensures c.wide-e.ensures c.if-e-st.false, c.requires.0.three)
+bounds-ends-j c = omega (arith, last-inside c.requires.columns c.args.nb c.args.b c.wide-st.result c.wide-e.result c.requires.nb_value.0 c.requires.nb_value.1 c.wide-st.ensures c.wide-e.ensures c.if-e-st.false, c.requires.columns.three)
 
 pub overflow_add-j-then-k-le4 : goal.overflow_add-j-then-k-le4
-overflow_add-j-then-k-le4 c = omega (arith, last-inside c.requires.0 c.args.nb c.args.b c.wide-st.result c.wide-e.result c.requires.1.0 c.requires.1.1 c.wide-st.ensures c.wide-e.ensures c.if-e-st.false, c.requires.0.three)
+overflow_add-j-then-k-le4 c = omega (arith, last-inside c.requires.columns c.args.nb c.args.b c.wide-st.result c.wide-e.result c.requires.nb_value.0 c.requires.nb_value.1 c.wide-st.ensures c.wide-e.ensures c.if-e-st.false, c.requires.columns.three)
 
 pub offset_bounds-ends-j-then-k-le4 : goal.offset_bounds-ends-j-then-k-le4
-offset_bounds-ends-j-then-k-le4 c = omega (arith, last-inside c.requires.0 c.args.nb c.args.b c.wide-st.result c.wide-e.result c.requires.1.0 c.requires.1.1 c.wide-st.ensures c.wide-e.ensures c.if-e-st.false, c.requires.0.three)
+offset_bounds-ends-j-then-k-le4 c = omega (arith, last-inside c.requires.columns c.args.nb c.args.b c.wide-st.result c.wide-e.result c.requires.nb_value.0 c.requires.nb_value.1 c.wide-st.ensures c.wide-e.ensures c.if-e-st.false, c.requires.columns.three)
 
 pub bounds-ends-j-then-k-le4 : goal.bounds-ends-j-then-k-le4
-bounds-ends-j-then-k-le4 c = omega (arith, last-inside c.requires.0 c.args.nb c.args.b c.wide-st.result c.wide-e.result c.requires.1.0 c.requires.1.1 c.wide-st.ensures c.wide-e.ensures c.if-e-st.false, c.requires.0.three)
+bounds-ends-j-then-k-le4 c = omega (arith, last-inside c.requires.columns c.args.nb c.args.b c.wide-st.result c.wide-e.result c.requires.nb_value.0 c.requires.nb_value.1 c.wide-st.ensures c.wide-e.ensures c.if-e-st.false, c.requires.columns.three)
 
 pub join_targets-requires : goal.join_targets-requires
-join_targets-requires c = let h = next_fits c.requires.0.lists (3 * (c.wide-e.result - 1) + 1) _ _ (omega (arith, last-inside c.requires.0 c.args.nb c.args.b c.wide-st.result c.wide-e.result c.requires.1.0 c.requires.1.1 c.wide-st.ensures c.wide-e.ensures c.if-e-st.false, c.requires.0.three)) c.wide-from.ensures c.wide-to.ensures in (h.0, h.1, c.requires.1.1, c.requires.1.2)
+join_targets-requires c = let h = next_fits c.requires.columns.lists (3 * (c.wide-e.result - 1) + 1) _ _ (omega (arith, last-inside c.requires.columns c.args.nb c.args.b c.wide-st.result c.wide-e.result c.requires.nb_value.0 c.requires.nb_value.1 c.wide-st.ensures c.wide-e.ensures c.if-e-st.false, c.requires.columns.three)) c.wide-from.ensures c.wide-to.ensures in (h.0, h.1, c.requires.nb_value.1, c.requires.nb_value.2)
 
 pub returns-then-k-le4 : goal.returns-then-k-le4
-returns-then-k-le4 c = (c.join_targets.ensures.0, λ t cs q h. c.join_targets.ensures.1 q h ∙ sym (ap (λ (x : Bool). x || cell c.args.s.now (c.args.b * (3 * c.args.words) + 2 * c.args.words) q) (leave-targets c.requires.0 t cs c.args.nb c.args.b c.wide-st.result c.wide-e.result c.requires.1.0 c.requires.1.1 c.wide-st.ensures c.wide-e.ensures (live_at c.args.s.now c.args.words c.args.nb q) c.if-e-st.false c.if-k-ge2.true c.if-k-le4.true _ _ c.wide-from.ensures c.wide-to.ensures)))
+returns-then-k-le4 c = (c.join_targets.ensures.0, λ t cs q h. c.join_targets.ensures.1 q h ∙ sym (ap (λ (x : Bool). x || cell c.args.s.now (c.args.b * (3 * c.args.words) + 2 * c.args.words) q) (leave-targets c.requires.columns t cs c.args.nb c.args.b c.wide-st.result c.wide-e.result c.requires.nb_value.0 c.requires.nb_value.1 c.wide-st.ensures c.wide-e.ensures (live_at c.args.s.now c.args.words c.args.nb q) c.if-e-st.false c.if-k-ge2.true c.if-k-le4.true _ _ c.wide-from.ensures c.wide-to.ensures)))
 
 pub returns-then-k-le6 : goal.returns-then-k-le6
-returns-then-k-le6 c = (outside_refl _ _ _, λ t cs q h. sym (ap (λ (x : Bool). x || cell c.args.s.now (c.args.b * (3 * c.args.words) + 2 * c.args.words) q) (leave-stop c.requires.0 t cs c.args.nb c.args.b c.wide-st.result c.wide-e.result c.requires.1.0 c.requires.1.1 c.wide-st.ensures c.wide-e.ensures (live_at c.args.s.now c.args.words c.args.nb q) c.if-e-st.false c.if-k-le4.false c.if-k-le6.true)))
+returns-then-k-le6 c = (outside_refl _ _ _, λ t cs q h. sym (ap (λ (x : Bool). x || cell c.args.s.now (c.args.b * (3 * c.args.words) + 2 * c.args.words) q) (leave-stop c.requires.columns t cs c.args.nb c.args.b c.wide-st.result c.wide-e.result c.requires.nb_value.0 c.requires.nb_value.1 c.wide-st.ensures c.wide-e.ensures (live_at c.args.s.now c.args.words c.args.nb q) c.if-e-st.false c.if-k-le4.false c.if-k-le6.true)))
 
 pub offset_bounds-nexts-b : goal.offset_bounds-nexts-b
 offset_bounds-nexts-b c = omega arith
 
 pub bounds-nexts-b : goal.bounds-nexts-b
-bounds-nexts-b c = omega (arith, c.requires.1.1, c.requires.1.3.room)
+bounds-nexts-b c = omega (arith, c.requires.nb_value.1, c.requires.nb_value.3.room)
 
 pub overflow_mul-stride : goal.overflow_mul-stride
 overflow_mul-stride c = omega arith
 
 pub overflow_mul-b-then-t-nb : goal.overflow_mul-b-then-t-nb
-overflow_mul-b-then-t-nb c = omega (arith, block-fits c.args.b c.args.nb (3 * c.args.words) c.requires.1.1)
+overflow_mul-b-then-t-nb c = omega (arith, block-fits c.args.b c.args.nb (3 * c.args.words) c.requires.nb_value.1)
 
 pub overflow_mul-words : goal.overflow_mul-words
 overflow_mul-words c = omega arith
 
 pub overflow_add-b-then-t-nb : goal.overflow_add-b-then-t-nb
-overflow_add-b-then-t-nb c = omega (arith, block-fits c.args.b c.args.nb (3 * c.args.words) c.requires.1.1, c.requires.1.2)
+overflow_add-b-then-t-nb c = omega (arith, block-fits c.args.b c.args.nb (3 * c.args.words) c.requires.nb_value.1, c.requires.nb_value.2)
 
 pub overflow_mul-t : goal.overflow_mul-t
 overflow_mul-t c = omega (arith, block-fits c.short-t.result c.args.nb (3 * c.args.words) c.if-t-nb.true)
 
 pub join-requires : goal.join-requires
-join-requires c = let fits = block-fits c.args.b c.args.nb (3 * c.args.words) c.requires.1.1 in
+join-requires c = let fits = block-fits c.args.b c.args.nb (3 * c.args.words) c.requires.nb_value.1 in
     let other = block-fits c.short-t.result c.args.nb (3 * c.args.words) c.if-t-nb.true in
-    (⊎_elim (λ k. inr k) (λ k. inl k) (out-beside c.args.nb c.args.words c.args.b c.short-t.result c.if-t-nb.true), omega (arith, other, c.requires.1.2), omega (arith, fits, c.requires.1.2))
+    (⊎_elim (λ k. inr k) (λ k. inl k) (out-beside c.args.nb c.args.words c.args.b c.short-t.result c.if-t-nb.true), omega (arith, other, c.requires.nb_value.2), omega (arith, fits, c.requires.nb_value.2))
 
 pub returns-then-t-nb : goal.returns-then-t-nb
-returns-then-t-nb c = (c.join.ensures.0, λ t cs q h. c.join.ensures.1 q h ∙ sym (ap (λ (x : Bool). x || cell c.args.s.now (c.args.b * (3 * c.args.words) + 2 * c.args.words) q) (leave-next c.requires.0 t cs c.args.nb c.args.b c.wide-st.result c.wide-e.result c.requires.1.0 c.requires.1.1 c.wide-st.ensures c.wide-e.ensures (live_at c.args.s.now c.args.words c.args.nb q) c.if-e-st.false (⊎_elim (λ w. inr w.2.left) (λ w. inl w.left) c.if-k-ge2.branch) c.short-t.result (linked-next c.requires.1.3 c.args.b _ _ c.requires.1.1 c.wide-e.ensures c.short-t.ensures) ∙ joined-one c.args.s.now c.args.words c.args.nb q c.short-t.result c.if-t-nb.true)))
+returns-then-t-nb c = (c.join.ensures.0, λ t cs q h. c.join.ensures.1 q h ∙ sym (ap (λ (x : Bool). x || cell c.args.s.now (c.args.b * (3 * c.args.words) + 2 * c.args.words) q) (leave-next c.requires.columns t cs c.args.nb c.args.b c.wide-st.result c.wide-e.result c.requires.nb_value.0 c.requires.nb_value.1 c.wide-st.ensures c.wide-e.ensures (live_at c.args.s.now c.args.words c.args.nb q) c.if-e-st.false (⊎_elim (λ w. inr w.2.left) (λ w. inl w.left) c.if-k-ge2.branch) c.short-t.result (linked-next c.requires.nb_value.3 c.args.b _ _ c.requires.nb_value.1 c.wide-e.ensures c.short-t.ensures) ∙ joined-one c.args.s.now c.args.words c.args.nb q c.short-t.result c.if-t-nb.true)))
 
 pub returns-else-t-nb : goal.returns-else-t-nb
-returns-else-t-nb c = (outside_refl _ _ _, λ t cs q h. sym (ap (λ (x : Bool). x || cell c.args.s.now (c.args.b * (3 * c.args.words) + 2 * c.args.words) q) (leave-next c.requires.0 t cs c.args.nb c.args.b c.wide-st.result c.wide-e.result c.requires.1.0 c.requires.1.1 c.wide-st.ensures c.wide-e.ensures (live_at c.args.s.now c.args.words c.args.nb q) c.if-e-st.false (⊎_elim (λ w. inr w.2.left) (λ w. inl w.left) c.if-k-ge2.branch) c.short-t.result (linked-next c.requires.1.3 c.args.b _ _ c.requires.1.1 c.wide-e.ensures c.short-t.ensures) ∙ joined-none (live_at c.args.s.now c.args.words c.args.nb q) c.args.nb c.short-t.result c.if-t-nb.false)))
+returns-else-t-nb c = (outside_refl _ _ _, λ t cs q h. sym (ap (λ (x : Bool). x || cell c.args.s.now (c.args.b * (3 * c.args.words) + 2 * c.args.words) q) (leave-next c.requires.columns t cs c.args.nb c.args.b c.wide-st.result c.wide-e.result c.requires.nb_value.0 c.requires.nb_value.1 c.wide-st.ensures c.wide-e.ensures (live_at c.args.s.now c.args.words c.args.nb q) c.if-e-st.false (⊎_elim (λ w. inr w.2.left) (λ w. inl w.left) c.if-k-ge2.branch) c.short-t.result (linked-next c.requires.nb_value.3 c.args.b _ _ c.requires.nb_value.1 c.wide-e.ensures c.short-t.ensures) ∙ joined-none (live_at c.args.s.now c.args.words c.args.nb q) c.args.nb c.short-t.result c.if-t-nb.false)))

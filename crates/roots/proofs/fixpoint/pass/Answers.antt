@@ -17,25 +17,25 @@ pub overflow_sub-b : goal.overflow_sub-b
 overflow_sub-b c = omega arith
 
 pub leave-requires : goal.leave-requires
-leave-requires c = (c.requires.0, (c.requires.1.0, omega (arith, c.loop-b.invariant.high, c.loop-b-test.true), omega (arith, c.loop-b.invariant.kept, c.requires.1.1), c.requires.1.2))
+leave-requires c = record { columns = c.requires.columns; nb_value = (c.requires.nb_value.0, omega (arith, c.loop-b.invariant.high, c.loop-b-test.true), omega (arith, c.loop-b.invariant.kept, c.requires.nb_value.1), c.requires.nb_value.2) }
 
 pub overflow_mul-b : goal.overflow_mul-b
-overflow_mul-b c = omega (arith, block-fits (c.loop-b.b - 1) c.args.nb (3 * c.args.words) (below-high c.loop-b-test.true c.loop-b.invariant.high), c.requires.1.1)
+overflow_mul-b c = omega (arith, block-fits (c.loop-b.b - 1) c.args.nb (3 * c.args.words) (below-high c.loop-b-test.true c.loop-b.invariant.high), c.requires.nb_value.1)
 
 pub step_block-grown-requires : goal.step_block-grown-requires
-step_block-grown-requires c = omega (arith, block-fits (c.loop-b.b - 1) c.args.nb (3 * c.args.words) (below-high c.loop-b-test.true c.loop-b.invariant.high), c.requires.1.1, c.loop-b.invariant.kept, c.leave.ensures.0.kept)
+step_block-grown-requires c = omega (arith, block-fits (c.loop-b.b - 1) c.args.nb (3 * c.args.words) (below-high c.loop-b-test.true c.loop-b.invariant.high), c.requires.nb_value.1, c.loop-b.invariant.kept, c.leave.ensures.0.kept)
 
 pub loop-b-smaller-then-grown : goal.loop-b-smaller-then-grown
 loop-b-smaller-then-grown c = omega arith
 
 pub loop-b-preserved-then-grown : goal.loop-b-preserved-then-grown
-loop-b-preserved-then-grown c = pass-grown c.loop-b.invariant c.loop-b-test.true c.leave.new.0 c.step_block-grown.new.0 c.leave.ensures.0 c.leave.ensures.1 (met_of (c.args.nb * (3 * c.args.words)) c.args.words ((c.loop-b.b - 1) * (3 * c.args.words)) ((c.loop-b.b - 1) * (3 * c.args.words) + 2 * c.args.words) ((c.loop-b.b - 1) * (3 * c.args.words) + c.args.words) c.step_block-grown.ensures (omega (arith, block-fits (c.loop-b.b - 1) c.args.nb (3 * c.args.words) (below-high c.loop-b-test.true c.loop-b.invariant.high))) (omega (arith, c.requires.1.1, c.loop-b.invariant.kept, c.leave.ensures.0.kept))) c.if-grown.true
+loop-b-preserved-then-grown c = pass-grown c.loop-b.invariant c.loop-b-test.true c.leave.new.s c.step_block-grown.new.scratch c.leave.ensures.0 c.leave.ensures.1 (met_of (c.args.nb * (3 * c.args.words)) c.args.words ((c.loop-b.b - 1) * (3 * c.args.words)) ((c.loop-b.b - 1) * (3 * c.args.words) + 2 * c.args.words) ((c.loop-b.b - 1) * (3 * c.args.words) + c.args.words) c.step_block-grown.ensures (omega (arith, block-fits (c.loop-b.b - 1) c.args.nb (3 * c.args.words) (below-high c.loop-b-test.true c.loop-b.invariant.high))) (omega (arith, c.requires.nb_value.1, c.loop-b.invariant.kept, c.leave.ensures.0.kept))) c.if-grown.true
 
 pub loop-b-smaller : goal.loop-b-smaller
 loop-b-smaller c = omega arith
 
 pub loop-b-preserved : goal.loop-b-preserved
-loop-b-preserved c = pass-still c.loop-b.invariant c.loop-b-test.true c.leave.new.0 c.step_block-grown.new.0 c.leave.ensures.0 c.leave.ensures.1 (met_of (c.args.nb * (3 * c.args.words)) c.args.words ((c.loop-b.b - 1) * (3 * c.args.words)) ((c.loop-b.b - 1) * (3 * c.args.words) + 2 * c.args.words) ((c.loop-b.b - 1) * (3 * c.args.words) + c.args.words) c.step_block-grown.ensures (omega (arith, block-fits (c.loop-b.b - 1) c.args.nb (3 * c.args.words) (below-high c.loop-b-test.true c.loop-b.invariant.high))) (omega (arith, c.requires.1.1, c.loop-b.invariant.kept, c.leave.ensures.0.kept))) c.if-grown.false
+loop-b-preserved c = pass-still c.loop-b.invariant c.loop-b-test.true c.leave.new.s c.step_block-grown.new.scratch c.leave.ensures.0 c.leave.ensures.1 (met_of (c.args.nb * (3 * c.args.words)) c.args.words ((c.loop-b.b - 1) * (3 * c.args.words)) ((c.loop-b.b - 1) * (3 * c.args.words) + 2 * c.args.words) ((c.loop-b.b - 1) * (3 * c.args.words) + c.args.words) c.step_block-grown.ensures (omega (arith, block-fits (c.loop-b.b - 1) c.args.nb (3 * c.args.words) (below-high c.loop-b-test.true c.loop-b.invariant.high))) (omega (arith, c.requires.nb_value.1, c.loop-b.invariant.kept, c.leave.ensures.0.kept))) c.if-grown.false
 
 pub shape_of-s : goal.shape_of-s
 shape_of-s c = c.loop-b.invariant.kept

@@ -30,22 +30,22 @@ pub bounds-blocks-b-2 : goal.bounds-blocks-b-2
 bounds-blocks-b-2 c = omega arith
 
 pub returns-then-e-st : goal.returns-then-e-st
-returns-then-e-st c = begun-none (wanted c.args.which) c.args.ends.now c.args.refs.now c.args.blocks.now c.args.classes.now c.args.nb c.args.words c.args.b c.requires.0.1 c.requires.0.0 _ _ c.wide-st.ensures c.wide-e.ensures c.args.s.now c.requires.1.1 c.if-e-st.true
+returns-then-e-st c = begun-none (wanted c.args.which) c.args.ends.now c.args.refs.now c.args.blocks.now c.args.classes.now c.args.nb c.args.words c.args.b c.requires.nb_value.1 c.requires.nb_value.0 _ _ c.wide-st.ensures c.wide-e.ensures c.args.s.now c.requires.by_index c.if-e-st.true
 
 pub overflow_mul-at : goal.overflow_mul-at
 overflow_mul-at c = omega arith
 
 pub overflow_mul-at-2 : goal.overflow_mul-at-2
-overflow_mul-at-2 c = omega (arith, block-fits c.args.b c.args.nb (3 * c.args.words) c.requires.0.1)
+overflow_mul-at-2 c = omega (arith, block-fits c.args.b c.args.nb (3 * c.args.words) c.requires.nb_value.1)
 
 pub back_at-requires : goal.back_at-requires
-back_at-requires c = (omega (arith, block-fits c.args.b c.args.nb (3 * c.args.words) c.requires.0.1, c.requires.0.2), (omega (arith, c.if-e-st.false), subst (λ (u : ℕ). 3 * u ≤ length c.args.ends.now) (sym c.wide-e.ensures) (c.requires.1.0 (omega (arith, c.wide-st.ensures, c.wide-e.ensures, c.if-e-st.false))), c.requires.0.3, c.requires.0.4))
+back_at-requires c = record { words_in_bounds = omega (arith, block-fits c.args.b c.args.nb (3 * c.args.words) c.requires.nb_value.1, c.requires.nb_value.2); from_le_to = (omega (arith, c.if-e-st.false), subst (λ (u : ℕ). 3 * u ≤ length c.args.ends.now) (sym c.wide-e.ensures) (c.requires.b_in_bounds (omega (arith, c.wide-st.ensures, c.wide-e.ensures, c.if-e-st.false))), c.requires.nb_value.3, c.requires.nb_value.4) }
 
 pub overflow_add-at : goal.overflow_add-at
-overflow_add-at c = omega (arith, block-fits c.args.b c.args.nb (3 * c.args.words) c.requires.0.1, c.requires.0.2)
+overflow_add-at c = omega (arith, block-fits c.args.b c.args.nb (3 * c.args.words) c.requires.nb_value.1, c.requires.nb_value.2)
 
 pub kill_at-requires : goal.kill_at-requires
-kill_at-requires c = (omega (arith, block-fits c.args.b c.args.nb (3 * c.args.words) c.requires.0.1, c.requires.0.2, c.back_at.ensures.0.kept), (omega (arith, c.if-e-st.false), subst (λ (u : ℕ). 3 * u ≤ length c.args.ends.now) (sym c.wide-e.ensures) (c.requires.1.0 (omega (arith, c.wide-st.ensures, c.wide-e.ensures, c.if-e-st.false))), c.requires.0.3, c.requires.0.4))
+kill_at-requires c = record { words_in_bounds = omega (arith, block-fits c.args.b c.args.nb (3 * c.args.words) c.requires.nb_value.1, c.requires.nb_value.2, c.back_at.ensures.0.kept); from_le_to = (omega (arith, c.if-e-st.false), subst (λ (u : ℕ). 3 * u ≤ length c.args.ends.now) (sym c.wide-e.ensures) (c.requires.b_in_bounds (omega (arith, c.wide-st.ensures, c.wide-e.ensures, c.if-e-st.false))), c.requires.nb_value.3, c.requires.nb_value.4) }
 
 pub returns : goal.returns
-returns c = begun-rows (wanted c.args.which) c.args.ends.now c.args.refs.now c.args.blocks.now c.args.classes.now c.args.nb c.args.words c.args.b c.requires.0.1 c.requires.0.0 _ _ c.wide-st.ensures c.wide-e.ensures c.args.s.now c.requires.1.1 c.back_at.new.0 c.kill_at.new.0 c.back_at.ensures.0 c.back_at.ensures.1 c.kill_at.ensures.0 c.kill_at.ensures.1
+returns c = begun-rows (wanted c.args.which) c.args.ends.now c.args.refs.now c.args.blocks.now c.args.classes.now c.args.nb c.args.words c.args.b c.requires.nb_value.1 c.requires.nb_value.0 _ _ c.wide-st.ensures c.wide-e.ensures c.args.s.now c.requires.by_index c.back_at.new.s c.kill_at.new.s c.back_at.ensures.0 c.back_at.ensures.1 c.kill_at.ensures.0 c.kill_at.ensures.1

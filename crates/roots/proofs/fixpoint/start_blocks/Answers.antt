@@ -3,10 +3,10 @@ use Rattle.roots.proofs.Builds.{builds-none, builds-on, builds-end}
 use Rattle.roots.proofs.fixpoint.start_blocks.Goals as goal
 
 pub loop-b-init : goal.loop-b-init
-loop-b-init c = builds-none _ _ _ _ _ _ _ _ c.requires.1.1
+loop-b-init c = builds-none _ _ _ _ _ _ _ _ c.requires.by_index_2
 
 pub start_block-requires : goal.start_block-requires
-start_block-requires c = ((c.requires.0.0, c.loop-b-test.true, omega (arith, c.loop-b.invariant.kept, c.requires.0.1), c.requires.0.2, c.requires.0.3), (c.requires.1.0 c.loop-b.b c.loop-b-test.true, c.loop-b.invariant.rest))
+start_block-requires c = record { nb_value = (c.requires.nb_value.0, c.loop-b-test.true, omega (arith, c.loop-b.invariant.kept, c.requires.nb_value.1), c.requires.nb_value.2, c.requires.nb_value.3); b_in_bounds = c.requires.by_index c.loop-b.b c.loop-b-test.true; by_index = c.loop-b.invariant.rest }
 
 pub overflow_add-b : goal.overflow_add-b
 overflow_add-b c = omega arith

@@ -6,10 +6,10 @@ use Rattle.wanted_door.proofs.Goings.{up_first, up-dead, up-stuck, up_next, up-e
 use Rattle.wanted_door.proofs.pick.candidates.Goals as goal
 
 pub loop-k-init : goal.loop-k-init
-loop-k-init c = up_first _ _ _ _ _ _ c.requires.1
+loop-k-init c = up_first _ _ _ _ _ _ c.requires.scratch
 
 pub is_live-requires : goal.is_live-requires
-is_live-requires c = c.requires.0.runs
+is_live-requires c = c.requires.fit.runs
 
 pub shape_of-marks-then-not-is_live : goal.shape_of-marks-then-not-is_live
 shape_of-marks-then-not-is_live c = c.loop-k.invariant.long
@@ -21,7 +21,7 @@ pub returns-then-not-is_live : goal.returns-then-not-is_live
 returns-then-not-is_live c = up-dead _ _ _ _ _ _ _ _ _ _ c.loop-k.invariant c.loop-k-test.true _ c.is_live.ensures (not-true _ c.if-not-is_live.true)
 
 pub meet-r-requires : goal.meet-r-requires
-meet-r-requires c = (c.requires.0, (c.loop-k.invariant.scratch, live_below _ _ _ (sym c.is_live.ensures ∙ not-false _ c.if-not-is_live.false)))
+meet-r-requires c = record { fit = c.requires.fit; scratch = c.loop-k.invariant.scratch; w_lt_slots = live_below _ _ _ (sym c.is_live.ensures ∙ not-false _ c.if-not-is_live.false) }
 
 pub shape_of-marks-in_default : goal.shape_of-marks-in_default
 shape_of-marks-in_default c = c.meet-r.auto.1.1.1.1.1.1.1.1.1.1.1.1.0 ∙ c.loop-k.invariant.long

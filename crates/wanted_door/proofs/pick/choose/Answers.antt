@@ -4,7 +4,7 @@ use Rattle.wanted_door.proofs.Goings.{down-first, down-stuck, down-next, down-en
 use Rattle.wanted_door.proofs.pick.choose.Goals as goal
 
 pub loop-k-init : goal.loop-k-init
-loop-k-init c = down-first _ _ _ _ _ _ c.requires.1.0
+loop-k-init c = down-first _ _ _ _ _ _ c.requires.scratch
 
 pub offset_bounds-wanted-k : goal.offset_bounds-wanted-k
 offset_bounds-wanted-k c = omega (arith, c.loop-k.invariant.within, c.loop-k-test.true)
@@ -13,7 +13,7 @@ pub bounds-wanted-k : goal.bounds-wanted-k
 bounds-wanted-k c = omega (arith, c.loop-k.invariant.within, c.loop-k-test.true)
 
 pub again-r-requires : goal.again-r-requires
-again-r-requires c = (c.requires.0, (c.loop-k.invariant.scratch, c.requires.1.1 _ (omega (arith, c.loop-k.invariant.within, c.loop-k-test.true))))
+again-r-requires c = record { fit = c.requires.fit; scratch = c.loop-k.invariant.scratch; w_lt_slots = c.requires.inside _ (omega (arith, c.loop-k.invariant.within, c.loop-k-test.true)) }
 
 pub shape_of-marks-in_default : goal.shape_of-marks-in_default
 shape_of-marks-in_default c = c.again-r.auto.1.1.1.1.1.1.1.1.1.1.1.0 ∙ c.loop-k.invariant.long

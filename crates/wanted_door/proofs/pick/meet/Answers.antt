@@ -7,19 +7,19 @@ use Rattle.wanted_door.proofs.Meeting.{met-old, met-scratch, met-stuck, met-new}
 use Rattle.wanted_door.proofs.pick.meet.Goals as goal
 
 pub returns-then-marks-i-ne0 : goal.returns-then-marks-i-ne0
-returns-then-marks-i-ne0 c = met-old _ _ _ _ _ _ _ c.requires.1.0 c.if-marks-i-ne0.true
+returns-then-marks-i-ne0 c = met-old _ _ _ _ _ _ _ c.requires.scratch c.if-marks-i-ne0.true
 
 pub drain-r-requires : goal.drain-r-requires
-drain-r-requires c = (c.requires.0, met-scratch _ _ _ _ _ c.requires.1.0 c.requires.1.1 _ _ _ c.queue-m.ensures)
+drain-r-requires c = record { fit = c.requires.fit; scratch = met-scratch _ _ _ _ _ c.requires.scratch c.requires.w_lt_slots _ _ _ c.queue-m.ensures }
 
 pub returns-in_default : goal.returns-in_default
-returns-in_default c = met-stuck _ _ _ _ _ _ _ c.requires.1.0 c.requires.1.1 c.if-marks-i-ne0.false _ _ _ c.queue-m.ensures _ _ _ c.drain-r.ensures.0 c.drain-r.ensures.1 c.in_default.is
+returns-in_default c = met-stuck _ _ _ _ _ _ _ c.requires.scratch c.requires.w_lt_slots c.if-marks-i-ne0.false _ _ _ c.queue-m.ensures _ _ _ c.drain-r.ensures.traces c.drain-r.ensures.noted_by c.in_default.is
 
 pub offset_bounds-work-i : goal.offset_bounds-work-i
-offset_bounds-work-i c = omega (arith, c.requires.1.0.few, c.requires.1.0.words, c.requires.1.1, c.queue-m.auto.1.0, c.drain-r.auto.1.1.1.1.1.1.1.1.1.1.1.0)
+offset_bounds-work-i c = omega (arith, c.requires.scratch.few, c.requires.scratch.words, c.requires.w_lt_slots, c.queue-m.auto.1.0, c.drain-r.auto.1.1.1.1.1.1.1.1.1.1.1.0)
 
 pub bounds-work-i : goal.bounds-work-i
-bounds-work-i c = omega (arith, c.requires.1.0.words, c.requires.1.1, c.queue-m.auto.1.0, c.drain-r.auto.1.1.1.1.1.1.1.1.1.1.1.0)
+bounds-work-i c = omega (arith, c.requires.scratch.words, c.requires.w_lt_slots, c.queue-m.auto.1.0, c.drain-r.auto.1.1.1.1.1.1.1.1.1.1.1.0)
 
 pub overflow_mul-work : goal.overflow_mul-work
 overflow_mul-work c = omega (arith, c.ranges.note)
@@ -28,13 +28,13 @@ pub overflow_add-work : goal.overflow_add-work
 overflow_add-work c = omega (arith, c.ranges.note)
 
 pub offset_bounds-work-i-2 : goal.offset_bounds-work-i-2
-offset_bounds-work-i-2 c = omega (arith, c.requires.1.0.few, c.requires.1.0.words, c.requires.1.1, c.queue-m.auto.1.0, c.drain-r.auto.1.1.1.1.1.1.1.1.1.1.1.0)
+offset_bounds-work-i-2 c = omega (arith, c.requires.scratch.few, c.requires.scratch.words, c.requires.w_lt_slots, c.queue-m.auto.1.0, c.drain-r.auto.1.1.1.1.1.1.1.1.1.1.1.0)
 
 pub bounds-work-i-2 : goal.bounds-work-i-2
-bounds-work-i-2 c = omega (arith, c.requires.1.0.words, c.requires.1.1, c.queue-m.auto.1.0, c.drain-r.auto.1.1.1.1.1.1.1.1.1.1.1.0)
+bounds-work-i-2 c = omega (arith, c.requires.scratch.words, c.requires.w_lt_slots, c.queue-m.auto.1.0, c.drain-r.auto.1.1.1.1.1.1.1.1.1.1.1.0)
 
 pub shape_of-work : goal.shape_of-work
-shape_of-work c = length-set {A = ℕ} c.drain-r.new.1.1.1.1.1.1.1.1.1.1.1.0 c.args.w (get_or c.drain-r.new.1.1.1.1.1.1.1.1.1.1.1.0 c.args.w 0 % 4294967296 + c.args.note * 4294967296) ∙ c.drain-r.auto.1.1.1.1.1.1.1.1.1.1.1.0 ∙ c.queue-m.auto.1.0
+shape_of-work c = length-set {A = ℕ} c.drain-r.new.work.1.1.1.1.1.1.1.1.1.1.0 c.args.w (get_or c.drain-r.new.work.1.1.1.1.1.1.1.1.1.1.0 c.args.w 0 % 4294967296 + c.args.note * 4294967296) ∙ c.drain-r.auto.1.1.1.1.1.1.1.1.1.1.1.0 ∙ c.queue-m.auto.1.0
 
 pub returns : goal.returns
-returns c = met-new _ _ _ _ _ _ _ c.requires.1.0 c.requires.1.1 c.if-marks-i-ne0.false _ _ _ c.queue-m.ensures _ _ _ c.drain-r.ensures.0 c.drain-r.ensures.1 _ c.in-Traced.is
+returns c = met-new _ _ _ _ _ _ _ c.requires.scratch c.requires.w_lt_slots c.if-marks-i-ne0.false _ _ _ c.queue-m.ensures _ _ _ c.drain-r.ensures.traces c.drain-r.ensures.noted_by _ c.in-Traced.is
