@@ -93,11 +93,9 @@ pub fn put_words(output: &mut Vec<u8>, s: &[u64], count: usize) -> io::Result<()
         put(output, b"-")?;
     }
     let n = least(count, s.len());
-    let mut i = 0;
-    while i < n {
+    for i in 0..n {
         put_comma(output, i == 0)?;
         put_number(output, s[i])?;
-        i += 1;
     }
     Ok(())
 }
@@ -112,11 +110,9 @@ pub fn put_halves(output: &mut Vec<u8>, s: &[u32], from: usize, to: usize) -> io
         put(output, b"-")?;
     }
     let n = least(to, s.len());
-    let mut i = from;
-    while i < n {
+    for i in from..n {
         put_comma(output, i == from)?;
         put_number(output, wide(s[i]))?;
-        i += 1;
     }
     Ok(())
 }
