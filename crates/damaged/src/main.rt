@@ -8,7 +8,8 @@
 ghost use Rattle.std.specs.Prelude.{◌≤◌, length};
 
 use heap::Heap;
-use libc::{STDIN_FILENO, STDOUT_FILENO};
+use std::io;
+use std::io::Read;
 use text::Literal;
 
 fn least(a: usize, b: usize) -> usize
@@ -24,8 +25,8 @@ fn part<'a>(s: &'a [u8], from: usize, to: usize) -> &'a [u8] {
     &s[a..e]
 }
 
-fn put(s: &[u8]) {
-    io::write_all(STDOUT_FILENO, s);
+fn put(rt: &impl Print, s: &[u8]) -> io::Result<()> {
+    rt.write_all(s)
 }
 
 fn sevens() -> Heap {
@@ -223,25 +224,24 @@ fn answer_to(page: &[u8], at: usize, old: usize, new: &[u8]) -> Seen
     read_front(&text, n)
 }
 
-fn put_seen(s: Seen) {
-    put(b": ");
-    io::print_decimal(STDOUT_FILENO, s.number);
+fn put_seen(rt: &impl Print, s: Seen) -> io::Result<()> {
+    put(rt, b": ")?;
+    rt.print(s.number)?;
     if s.same {
-        put(b" same\n");
+        put(rt, b" same\n")
     } else {
-        put(b" changed\n");
+        put(rt, b" changed\n")
     }
 }
 
 // The first `old` of a page replaced by `new`.
-fn damage(name: &[u8], page: &[u8], old: &[u8], new: &[u8]) {
-    put(name);
+fn damage(rt: &impl Print, name: &[u8], page: &[u8], old: &[u8], new: &[u8]) -> io::Result<()> {
+    put(rt, name)?;
     let at = find(page, old);
     if page.len() - at < old.len() {
-        put(b": not there\n");
-        return;
+        return put(rt, b": not there\n");
     }
-    put_seen(answer_to(page, at, old.len(), new));
+    put_seen(rt, answer_to(page, at, old.len(), new))
 }
 
 // 1 if the answer is a number, where up to `old` bytes from `at` on are replaced by `new`, and all the same just if that is a refusal.
@@ -271,32 +271,39 @@ fn places(page: &[u8], old: usize, new: &[u8], number: u64) -> u64 {
     n
 }
 
-fn count(name: &[u8], page: &[u8], old: usize, new: &[u8], number: u64) {
-    put(name);
-    io::print_decimal(STDOUT_FILENO, places(page, old, new, number));
+fn count(
+    rt: &impl Print,
+    name: &[u8],
+    page: &[u8],
+    old: usize,
+    new: &[u8],
+    number: u64,
+) -> io::Result<()> {
+    put(rt, name)?;
+    rt.print(places(page, old, new, number))
 }
 
 // How often each number is the answer, of all places in a page.
-fn tally(name: &[u8], page: &[u8], old: usize, new: &[u8]) {
-    put(name);
-    count(b": 17 ", page, old, new, 17);
-    count(b" times, 1 ", page, old, new, 1);
-    count(b", 6 ", page, old, new, 6);
-    count(b", 5 ", page, old, new, 5);
-    count(b", 0 ", page, old, new, 0);
-    put(b"\n");
+fn tally(rt: &impl Print, name: &[u8], page: &[u8], old: usize, new: &[u8]) -> io::Result<()> {
+    put(rt, name)?;
+    count(rt, b": 17 ", page, old, new, 17)?;
+    count(rt, b" times, 1 ", page, old, new, 1)?;
+    count(rt, b", 6 ", page, old, new, 6)?;
+    count(rt, b", 5 ", page, old, new, 5)?;
+    count(rt, b", 0 ", page, old, new, 0)?;
+    put(rt, b"\n")
 }
 
 // One damage at every place: a byte made another, dropped, added, the rest cut off.
-fn everywhere(title: &[u8], page: &[u8]) {
-    put(title);
-    put(b"\n");
-    tally(b"cut short", page, 1024, b"");
-    tally(b"a byte made x", page, 1, b"x");
-    tally(b"a byte made 1", page, 1, b"1");
-    tally(b"a byte dropped", page, 1, b"");
-    tally(b"a zero added", page, 0, b"0");
-    tally(b"a line's end added", page, 0, b"\n");
+fn everywhere(rt: &impl Print, title: &[u8], page: &[u8]) -> io::Result<()> {
+    put(rt, title)?;
+    put(rt, b"\n")?;
+    tally(rt, b"cut short", page, 1024, b"")?;
+    tally(rt, b"a byte made x", page, 1, b"x")?;
+    tally(rt, b"a byte made 1", page, 1, b"1")?;
+    tally(rt, b"a byte dropped", page, 1, b"")?;
+    tally(rt, b"a zero added", page, 0, b"0")?;
+    tally(rt, b"a line's end added", page, 0, b"\n")
 }
 
 // The byte that a byte of the input stands for. A line then ends by 0.
@@ -309,12 +316,25 @@ fn meant(b: u8) -> u8 {
     }
 }
 
-fn unfold(s: &mut [u8; 32768]) {
+fn unfold(s: &mut [u8]) {
     let mut i = 0;
-    while i < 32768 {
+    while i < s.len() {
         s[i] = meant(s[i]);
         i += 1;
     }
+}
+
+// Where the first `b` stands from `from` on, below `to`; `to` where there is none.
+fn find_byte(s: &[u8], from: usize, to: usize, b: u8) -> usize
+    requires { (from ≤ to) × (to ≤ length s.now) }
+    ensures { (from ≤ result) × (result ≤ to) }
+{
+    for i in from..to {
+        if s[i] == b {
+            return i;
+        }
+    }
+    to
 }
 
 // Where the page lies in the input.
@@ -325,45 +345,53 @@ struct Page {
 }
 
 // Runs the line from `at` up to `end`, and tells the page after it.
-fn line(s: &[u8], at: usize, end: usize, page: Page) -> Page
+fn line(rt: &impl Print, s: &[u8], at: usize, end: usize, page: Page) -> io::Result<Page>
     requires at_le_end { at ≤ end }
     requires end_in_bounds { end ≤ length s.now }
 {
-    let f = bytes::scan::find(s, at, end, 124);
+    let f = find_byte(s, at, end, 124);
     if f == end {
-        return page;
+        return Ok(page);
     }
     let a = f + 1;
-    let g = bytes::scan::find(s, a, end, 124);
+    let g = find_byte(s, a, end, 124);
     if g == end {
-        everywhere(&s[at..f], &s[a..end]);
-        return Page { from: a, to: end };
+        everywhere(rt, &s[at..f], &s[a..end])?;
+        return Ok(Page { from: a, to: end });
     }
     let b = g + 1;
-    damage(&s[at..f], part(s, page.from, page.to), &s[a..g], &s[b..end]);
-    page
+    damage(
+        rt,
+        &s[at..f],
+        part(s, page.from, page.to),
+        &s[a..g],
+        &s[b..end],
+    )?;
+    Ok(page)
 }
 
 // Runs the lines of the first `n` bytes.
-fn lines(s: &[u8], n: usize)
+fn lines(rt: &impl Print, s: &[u8], n: usize) -> io::Result<()>
     requires { n ≤ length s.now }
 {
     let mut page = Page { from: 0, to: 0 };
     let mut at = 0;
     while at < n {
-        let end = bytes::scan::find(s, at, n, 0);
-        page = line(s, at, end, page);
+        let end = find_byte(s, at, n, 0);
+        page = line(rt, s, at, end, page)?;
         at = end + 1;
     }
+    Ok(())
 }
 
-fn run(s: &[u8; 32768], n: usize) {
-    lines(s, least(n, 32768));
+fn run(rt: &impl Print, s: &[u8], n: usize) -> io::Result<()> {
+    lines(rt, s, least(n, s.len()))
 }
 
-fn main() {
-    let mut input = [0u8; 32768];
-    let n = io::read_full(STDIN_FILENO, &mut input);
+fn main(rt: HostRuntime) -> io::Result<()> {
+    let mut input = Vec::new(rt.alloc());
+    let mut reader = rt.stdin().take(32768);
+    reader.read_to_end(&mut input)?;
     unfold(&mut input);
-    run(&input, n);
+    run(&rt, &input, input.len())
 }

@@ -7,8 +7,11 @@ ghost use Rattle.std.specs.Prelude.{◌≤◌, length};
 ghost use Rattle.heap.specs.Lent.{lent};
 ghost use Rattle.page_runs.specs.Inner.Steps.{Good};
 
-use libc::{STDERR_FILENO, STDIN_FILENO, STDOUT_FILENO};
 use page_runs::Run;
+use std::env::FillError;
+use std::io;
+use std::io::Read;
+use std::rt::Env;
 
 // What the next bytes of the input put at the start of `buf`: how many, 0 at its end; and whether they could not be read.
 #[derive(Clone, Copy)]
@@ -17,22 +20,24 @@ struct Got {
     failed: bool,
 }
 
-fn read_some(buf: &mut [u8]) -> Got
+fn read_some(reader: &mut impl Read, buf: &mut [u8]) -> Got
     ensures { result.n ≤ length buf.old }
 {
-    let got = libc::read(STDIN_FILENO, buf);
-    Got {
-        n: io::count(got, buf),
-        failed: got < 0,
+    match reader.read(buf) {
+        Ok(n) => Got {
+            n: n,
+            failed: false,
+        },
+        Err(_) => Got { n: 0, failed: true },
     }
 }
 
 // How many bytes stand in the buffer after those that are held and those that the input has next; and whether these could not be read.
-fn read_on(buf: &mut [u8], held: usize) -> Got
+fn read_on(reader: &mut impl Read, buf: &mut [u8], held: usize) -> Got
     requires { held ≤ length buf.old }
     ensures { result.n ≤ length buf.old }
 {
-    let got = read_some(&mut buf[held..]);
+    let got = read_some(reader, &mut buf[held..]);
     Got {
         n: held + got.n,
         failed: got.failed,
@@ -57,6 +62,7 @@ struct Ended {
 
 // Goes through the input as it comes.
 fn serve(
+    reader: &mut impl Read,
     run: Run,
     narrow: &mut [u32; 384],
     wide: &mut [u64; 256],
@@ -74,7 +80,7 @@ fn serve(
     let mut turns: u64 = 18446744073709551615;
     while 0 < turns {
         let held = s.held;
-        let got = read_on(buf, held);
+        let got = read_on(reader, buf, held);
         let n = got.n;
         s = page_runs::go_on(s, narrow, wide, pool, buf, n, room, marks, work);
         failed = got.failed;
@@ -87,11 +93,10 @@ fn serve(
 }
 
 // What the input looks like.
-fn say_form() {
-    io::write_all(
-        STDERR_FILENO,
-        b"page: the input is a line call,number,kind,bytes and a line for each call: alloc,TYPE,KIND,DATA with data in hexadecimal, take,HANDLE,0, and seal,0,0, and recycle,0,0,\n",
-    );
+fn say_form(rt: &impl Eprint) -> io::Result<()> {
+    rt.eprintln(
+        "page: the input is a line call,number,kind,bytes and a line for each call: alloc,TYPE,KIND,DATA with data in hexadecimal, take,HANDLE,0, and seal,0,0, and recycle,0,0,",
+    )
 }
 
 // Is 17 all that was printed?
@@ -106,35 +111,47 @@ fn is_17(out: &[u8; 14592], n: usize) -> bool {
 }
 
 // Writes the first `n` bytes, and says so where that can't be done.
-fn print(out: &[u8], n: usize)
+fn print(rt: &(impl Print + Eprint), out: &[u8], n: usize) -> io::Result<()>
     requires { n ≤ length out.now }
 {
-    if io::write_all(STDOUT_FILENO, &out[..n]) {} else {
-        io::write_all(STDERR_FILENO, b"page: not all could be written\n");
+    if let Err(e) = rt.write_all(&out[..n]) {
+        rt.eprintln("page: not all could be written")?;
+        return Err(e);
     }
+    Ok(())
 }
 
 // Writes the first `n` bytes of the output.
-fn print_front(out: &[u8; 14592], n: usize)
+fn print_front(rt: &(impl Print + Eprint), out: &[u8; 14592], n: usize) -> io::Result<()>
     requires { n ≤ 14592 }
 {
-    print(out, n);
+    print(rt, out, n)
 }
 
-fn main() {
-    if 1 < os::arg_count() {
-        say_form();
+// Was a word given after the program's name?
+fn is_word_given(rt: &impl Env) -> bool {
+    match rt.arg(1, &mut []) {
+        Err(FillError::NotPresent) => false,
+        _ => true,
     }
+}
+
+fn main(rt: HostRuntime) -> io::Result<()> {
+    if is_word_given(&rt) {
+        say_form(&rt)?;
+    }
+    let mut reader = rt.stdin();
     let mut narrow = [0u32; 384];
     let mut wide = [0u64; 256];
     let mut pool = [0u8; 4096];
     let mut room = [0u8; 4096];
     let mut marks = [0u8; 64];
     let mut work = [0u64; 64];
-    let mut buf = io::large_buffer();
+    let mut buf = [0u8; 65536];
     let mut out = [0u8; 14592];
     let start = page_runs::begin(&mut narrow, &mut wide, &mut pool, &mut marks, &mut work);
     let end = serve(
+        &mut reader,
         start,
         &mut narrow,
         &mut wide,
@@ -158,7 +175,7 @@ fn main() {
         &mut work,
     );
     if is_17(&out, n) {
-        say_form();
+        say_form(&rt)?;
     }
-    print_front(&out, n);
+    print_front(&rt, &out, n)
 }

@@ -3,10 +3,10 @@
 // Standard input has the scripts, each with byte `|` after it. `~` stands for 1,000 hexadecimal digits, so that a line can be longer than the buffer.
 #![tactic(auto)]
 
-ghost use Rattle.std.specs.Prelude.{◌≤◌};
-ghost use Rattle.std.proofs.Math.ListN.{length};
+ghost use Rattle.std.specs.Prelude.{◌≤◌, length};
 
-use libc::{STDIN_FILENO, STDOUT_FILENO};
+use std::io;
+use std::io::Read;
 
 // Where the next script ends: at `|`, or with the input.
 fn script_end(s: &[u8], from: usize, n: usize) -> usize
@@ -66,20 +66,21 @@ fn unfold(s: &[u8], from: usize, to: usize, out: &mut [u8; 262144]) -> usize
     n
 }
 
-fn print(out: &[u8], n: usize)
+fn print(rt: &impl Print, out: &[u8], n: usize) -> io::Result<()>
     requires { n ≤ length out.now }
 {
-    io::write_all(STDOUT_FILENO, &out[..n]);
+    rt.write_all(&out[..n])
 }
 
-fn print_front(out: &[u8; 14592], n: usize)
+fn print_front(rt: &impl Print, out: &[u8; 14592], n: usize) -> io::Result<()>
     requires { n ≤ 14592 }
 {
-    print(out, n);
+    print(rt, out, n)
 }
 
 // What is printed for an input.
 fn show(
+    rt: &impl Print,
     input: &[u8],
     failed: bool,
     narrow: &mut [u32; 384],
@@ -90,15 +91,15 @@ fn show(
     room: &mut [u8; 4096],
     marks: &mut [u8; 64],
     work: &mut [u64; 64],
-) {
+) -> io::Result<()> {
     let n = page_runs::print_all(
         input, failed, narrow, wide, pool, buf, out, room, marks, work,
     );
-    print_front(out, n);
+    print_front(rt, out, n)
 }
 
 // What is printed for a script of `n` bytes, ended and failed.
-fn show_both(script: &[u8], n: usize)
+fn show_both(rt: &impl Print, script: &[u8], n: usize) -> io::Result<()>
     requires { n ≤ length script.now }
 {
     let mut narrow = [0u32; 384];
@@ -107,10 +108,11 @@ fn show_both(script: &[u8], n: usize)
     let mut room = [0u8; 4096];
     let mut marks = [0u8; 64];
     let mut work = [0u64; 64];
-    let mut buf = io::large_buffer();
+    let mut buf = [0u8; 65536];
     let mut out = [0u8; 14592];
-    io::write_all(STDOUT_FILENO, b"ended\n");
+    rt.println("ended")?;
     show(
+        rt,
         &script[..n],
         false,
         &mut narrow,
@@ -121,9 +123,10 @@ fn show_both(script: &[u8], n: usize)
         &mut room,
         &mut marks,
         &mut work,
-    );
-    io::write_all(STDOUT_FILENO, b"failed\n");
+    )?;
+    rt.println("failed")?;
     show(
+        rt,
         &script[..n],
         true,
         &mut narrow,
@@ -134,25 +137,27 @@ fn show_both(script: &[u8], n: usize)
         &mut room,
         &mut marks,
         &mut work,
-    );
+    )
 }
 
 // Every script of the first `n` bytes.
-fn show_all(s: &[u8], n: usize, script: &mut [u8; 262144])
+fn show_all(rt: &impl Print, s: &[u8], n: usize, script: &mut [u8; 262144]) -> io::Result<()>
     requires { n ≤ length s.now }
 {
     let mut from = 0;
     while from < n {
         let end = script_end(s, from, n);
         let size = unfold(s, from, end, script);
-        show_both(script, size);
+        show_both(rt, script, size)?;
         from = end + 1;
     }
+    Ok(())
 }
 
-fn main() {
-    let mut input = io::large_buffer();
-    let n = io::read_full(STDIN_FILENO, &mut input);
+fn main(rt: HostRuntime) -> io::Result<()> {
+    let mut input = Vec::new(rt.alloc());
+    let mut reader = rt.stdin().take(65536);
+    reader.read_to_end(&mut input)?;
     let mut script = [0u8; 262144];
-    show_all(&input, n, &mut script);
+    show_all(&rt, &input, input.len(), &mut script)
 }

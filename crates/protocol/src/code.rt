@@ -6,6 +6,7 @@ use crate::{
     BLOCKS, Bytes, CLASSES, ENDS, FIELDS, HALF, Halves, KINDS, LISTED, MOST, NUMBERS, Words, least,
     since,
 };
+use std::io;
 
 // Where each part of the function ends.
 #[derive(Clone, Copy)]
@@ -130,15 +131,15 @@ fn inst(line: &[u8], code: Function, bytes: &mut Bytes, lists: &mut Halves) -> B
 }
 
 // Answers a line that makes the function: the new one, or the old one where the line is bad.
-fn made(built: Built, old: Function) -> Function {
+fn made(output: &mut Vec<u8>, built: Built, old: Function) -> io::Result<Function> {
     match built {
         Built::Is(code) => {
-            put_last(0);
-            code
+            put_last(output, 0)?;
+            Ok(code)
         }
         Built::Bad => {
-            put_bad();
-            old
+            put_bad(output)?;
+            Ok(old)
         }
     }
 }
@@ -152,15 +153,16 @@ pub const UNKNOWN: usize = 2;
 
 // Runs a line that makes the function, and tells the function after it.
 pub fn make(
+    output: &mut Vec<u8>,
     line: &[u8],
     code: Function,
     bytes: &mut Bytes,
     lists: &mut Halves,
     list: &mut Words,
-) -> Function {
+) -> io::Result<Function> {
     let built = match command(line) {
         0 => func(line, bytes, lists, list),
         _ => inst(line, code, bytes, lists),
     };
-    made(built, code)
+    made(output, built, code)
 }

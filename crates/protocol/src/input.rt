@@ -1,6 +1,9 @@
 // The lines of standard input, in a buffer. A line may have up to 262,144 bytes.
-use crate::{Buffer, least};
-use libc::STDIN_FILENO;
+ghost use Rattle.std.specs.Prelude.{◌≤◌, length, IfOk};
+
+use crate::{Buffer, find, least};
+use std::io;
+use std::io::Read;
 
 // What of the buffer has been read and not yet been handed out; whether the input has ended; and whether the line at `from` began in bytes that the buffer
 // could not keep.
@@ -36,7 +39,7 @@ pub fn start() -> Input {
 fn line_end(buffer: &[u8], from: usize, end: usize) -> usize {
     let e = least(end, buffer.len());
     let a = least(from, e);
-    bytes::scan::find(buffer, a, e, 10)
+    find(buffer, a, e, 10)
 }
 
 // The line from `from` up to `stop`, after which `rest` is left.
@@ -95,31 +98,30 @@ fn move_front(buffer: &mut [u8], from: usize, end: usize) -> usize {
 }
 
 // One read into the buffer from `to` on: where what has been read ends. `to` itself means that nothing came.
-fn read_to(buffer: &mut [u8], to: usize) -> usize {
+fn read_to(reader: &mut impl Read, buffer: &mut [u8], to: usize) -> io::Result<usize> {
     if to < buffer.len() {
-        let rest = &mut buffer[to..];
-        let got = libc::read(STDIN_FILENO, rest);
-        return to + io::count(got, rest);
+        let n = reader.read(&mut buffer[to..])?;
+        return Ok(to + n);
     }
-    to
+    Ok(to)
 }
 
 // Reads more. A line that fills the whole buffer is dropped, and known to be too long.
-pub fn more(buffer: &mut Buffer, input: Input) -> Input {
+pub fn more(reader: &mut impl Read, buffer: &mut Buffer, input: Input) -> io::Result<Input> {
     let kept = move_front(buffer, input.from, input.end);
     if kept == 262144 {
-        return Input {
+        return Ok(Input {
             from: 0,
             end: 0,
             over: false,
             long: true,
-        };
+        });
     }
-    let end = read_to(buffer, kept);
-    Input {
+    let end = read_to(reader, buffer, kept)?;
+    Ok(Input {
         from: 0,
         end: end,
         over: end == kept,
         long: input.long,
-    }
+    })
 }

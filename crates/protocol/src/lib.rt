@@ -2,7 +2,7 @@
 // calls the front door.
 #![tactic(auto)]
 
-ghost use Rattle.std.specs.Prelude.{◌≤◌};
+ghost use Rattle.std.specs.Prelude.{◌≤◌, length};
 
 pub mod code;
 pub mod input;
@@ -64,6 +64,19 @@ pub fn least(a: usize, b: usize) -> usize
     ensures { (result ≤ a) × (result ≤ b) }
 {
     if a < b { a } else { b }
+}
+
+// Where the first `b` stands from `from` on, below `to`; `to` where there is none.
+pub fn find(s: &[u8], from: usize, to: usize, b: u8) -> usize
+    requires { (from ≤ to) × (to ≤ length s.now) }
+    ensures { (from ≤ result) × (result ≤ to) }
+{
+    for i in from..to {
+        if s[i] == b {
+            return i;
+        }
+    }
+    to
 }
 
 // How far `a` lies past `b`.

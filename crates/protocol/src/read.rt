@@ -1,4 +1,5 @@
 // The fields of a line, one space between two of them. What stands after the last field that a command wants isn't looked at.
+use crate::find;
 use text::Decimal;
 
 // A number, and where the field after it begins.
@@ -65,13 +66,13 @@ pub fn signed(line: &[u8], at: usize) -> Field {
     let Field::Is(x, next) = number(line, from, 9223372036854775808) else {
         return Field::Bad;
     };
-    Field::Is(std::num::wrapping_sub_u64(0, x), next)
+    Field::Is(0u64.wrapping_sub(x), next)
 }
 
 // Where the field after the first begins.
 pub fn second(line: &[u8]) -> usize {
     let n = line.len();
-    past(line, bytes::scan::find(line, 0, n, 32), 32)
+    past(line, find(line, 0, n, 32), 32)
 }
 
 // Does the field at `at` read as the name at `from` of a list of names, each of which has a space after it?
@@ -101,7 +102,7 @@ pub fn which(line: &[u8], at: usize, names: &[u8]) -> usize {
             return k;
         }
         k += 1;
-        from = bytes::scan::find(names, from, n, 32) + 1;
+        from = find(names, from, n, 32) + 1;
     }
     k
 }

@@ -4,6 +4,7 @@ use crate::read::{second, which};
 use crate::row::{Read, Row, row_of};
 use crate::write::{put_bad, put_last, put_value};
 use crate::{Bytes, CONSTS, FIELDS, Halves, SPELLED, Words, least, since};
+use std::io;
 
 // Where each part of the table ends.
 #[derive(Clone, Copy)]
@@ -68,57 +69,75 @@ fn put_bytes(bytes: &mut Bytes, at: usize, end: usize) -> Room {
 }
 
 // A type. The answer is its number.
-fn add_type(line: &[u8], table: Table, halves: &mut Halves, words: &mut Words) -> Table {
+fn add_type(
+    output: &mut Vec<u8>,
+    line: &[u8],
+    table: Table,
+    halves: &mut Halves,
+    words: &mut Words,
+) -> io::Result<Table> {
     let at = table.types;
     let Read::Is(row) = row_of(line, second(line), halves, table.fields) else {
-        put_bad();
-        return table;
+        put_bad(output)?;
+        return Ok(table);
     };
     let Room::Ends(end) = put_type(words, at, row) else {
-        put_bad();
-        return table;
+        put_bad(output)?;
+        return Ok(table);
     };
-    put_value((at / 4) as u64);
-    Table {
+    put_value(output, (at / 4) as u64)?;
+    Ok(Table {
         types: end,
         fields: row.fields,
         consts: table.consts,
         bytes: table.bytes,
-    }
+    })
 }
 
 // A constant's row, after its bytes, which end at `end`. The answer is its number.
-fn add_row(table: Table, words: &mut Words, plain: u64, end: usize) -> Table {
+fn add_row(
+    output: &mut Vec<u8>,
+    table: Table,
+    words: &mut Words,
+    plain: u64,
+    end: usize,
+) -> io::Result<Table> {
     let at = table.consts;
     let from = table.bytes;
     let Room::Ends(last) = put_const(words, at, plain, from, since(end, from)) else {
-        put_bad();
-        return table;
+        put_bad(output)?;
+        return Ok(table);
     };
-    put_value((since(at, CONSTS) / 3) as u64);
-    Table {
+    put_value(output, (since(at, CONSTS) / 3) as u64)?;
+    Ok(Table {
         types: table.types,
         fields: table.fields,
         consts: last,
         bytes: end,
-    }
+    })
 }
 
 // A constant, of plain bytes or not.
-fn add_const(line: &[u8], table: Table, bytes: &mut Bytes, words: &mut Words) -> Table {
+fn add_const(
+    output: &mut Vec<u8>,
+    line: &[u8],
+    table: Table,
+    bytes: &mut Bytes,
+    words: &mut Words,
+) -> io::Result<Table> {
     let at = second(line);
     if which(line, at, b"other ") == 0 {
-        return add_row(table, words, 0, table.bytes);
+        return add_row(output, table, words, 0, table.bytes);
     }
     let Run::Is(to, _) = hex(line, at, bytes) else {
-        put_bad();
-        return table;
+        put_bad(output)?;
+        return Ok(table);
     };
     let Room::Ends(end) = put_bytes(bytes, table.bytes, to) else {
-        put_bad();
-        return table;
+        put_bad(output)?;
+        return Ok(table);
     };
-    add_row(table, words, 1, end)
+    add_row(output, table, words, 1, end)
 }
 
 // Which command of the table a line has.
@@ -130,18 +149,19 @@ pub const UNKNOWN: usize = 3;
 
 // Runs a line that makes the table, and tells the table after it. A line that can't be read, or that finds no room, leaves it as it was.
 pub fn make(
+    output: &mut Vec<u8>,
     line: &[u8],
     table: Table,
     bytes: &mut Bytes,
     halves: &mut Halves,
     words: &mut Words,
-) -> Table {
+) -> io::Result<Table> {
     match command(line) {
         0 => {
-            put_last(0);
-            no_types()
+            put_last(output, 0)?;
+            Ok(no_types())
         }
-        1 => add_type(line, table, halves, words),
-        _ => add_const(line, table, bytes, words),
+        1 => add_type(output, line, table, halves, words),
+        _ => add_const(output, line, table, bytes, words),
     }
 }

@@ -1,102 +1,103 @@
-// Answers, written to standard output as they come.
+// Answers, each put at the end of `output`, which the program writes to standard output line by line.
 ghost use Rattle.std.specs.Prelude.{◌≤◌, length};
 
 use crate::{least, part_u8};
-use libc::STDOUT_FILENO;
 use refusal::Answer;
+use std::io;
+use std::io::Write;
 
-pub fn put(s: &[u8]) {
-    io::write_all(STDOUT_FILENO, s);
+pub fn put(output: &mut Vec<u8>, s: &[u8]) -> io::Result<()> {
+    output.extend_from_slice(s)?;
+    Ok(())
 }
 
-pub fn put_number(x: u64) {
-    io::print_decimal(STDOUT_FILENO, x);
+pub fn put_number(output: &mut Vec<u8>, x: u64) -> io::Result<()> {
+    write!(output, "{x}")
 }
 
 // A space, then a number.
-pub fn put_next(x: u64) {
-    put(b" ");
-    put_number(x);
+pub fn put_next(output: &mut Vec<u8>, x: u64) -> io::Result<()> {
+    put(output, b" ")?;
+    put_number(output, x)
 }
 
 // A number that ends its line.
-pub fn put_last(x: u64) {
-    put_number(x);
-    put(b"\n");
+pub fn put_last(output: &mut Vec<u8>, x: u64) -> io::Result<()> {
+    put_number(output, x)?;
+    put(output, b"\n")
 }
 
 // A line that can't be read, or that finds no room.
-pub fn put_bad() {
-    put(b"bad\n");
+pub fn put_bad(output: &mut Vec<u8>) -> io::Result<()> {
+    put(output, b"bad\n")
 }
 
 // 0, then a value.
-pub fn put_value(x: u64) {
-    put(b"0 ");
-    put_last(x);
+pub fn put_value(output: &mut Vec<u8>, x: u64) -> io::Result<()> {
+    put(output, b"0 ")?;
+    put_last(output, x)
 }
 
 // 0, then a value, and a space before what follows.
-pub fn put_value_next(x: u64) {
-    put(b"0 ");
-    put_number(x);
-    put(b" ");
+pub fn put_value_next(output: &mut Vec<u8>, x: u64) -> io::Result<()> {
+    put(output, b"0 ")?;
+    put_number(output, x)?;
+    put(output, b" ")
 }
 
 // An answer: the number of a refusal alone, else 0 and so many of its values.
-pub fn put_answer(a: Answer, values: u64) {
-    put_number(a.number);
+pub fn put_answer(output: &mut Vec<u8>, a: Answer, values: u64) -> io::Result<()> {
+    put_number(output, a.number)?;
     if a.number == 0 {
         if 0 < values {
-            put_next(a.first);
+            put_next(output, a.first)?;
         }
         if 1 < values {
-            put_next(a.second);
+            put_next(output, a.second)?;
         }
     }
-    put(b"\n");
+    put(output, b"\n")
 }
 
 // A space, then bytes in hexadecimal.
-fn put_digits(s: &[u8])
+fn put_digits(output: &mut Vec<u8>, s: &[u8]) -> io::Result<()>
     requires { length s.now ≤ 65536 }
 {
     let mut room = [32u8; 131073];
     let k = text::put_hex(&mut room, 1, s);
-    put(part_u8(&room, 0, k));
+    put(output, part_u8(&room, 0, k))
 }
 
 // A space, then so many bytes from `from` on in hexadecimal; `-` for none.
-pub fn put_hex(s: &[u8], from: usize, count: usize) {
+pub fn put_hex(output: &mut Vec<u8>, s: &[u8], from: usize, count: usize) -> io::Result<()> {
     if count == 0 {
-        put(b" -");
-        return;
+        return put(output, b" -");
     }
     let a = least(from, s.len());
     let e = a + least(count, least(s.len() - a, 65536));
-    put_digits(&s[a..e]);
+    put_digits(output, &s[a..e])
 }
 
 // A comma before every entry but the first.
-fn put_comma(first: bool) {
+fn put_comma(output: &mut Vec<u8>, first: bool) -> io::Result<()> {
     if !first {
-        put(b",");
+        put(output, b",")?;
     }
+    Ok(())
 }
 
 // A space, then the first `count` words with commas; `-` for none.
-pub fn put_words(s: &[u64], count: usize) {
-    put(b" ");
+pub fn put_words(output: &mut Vec<u8>, s: &[u64], count: usize) -> io::Result<()> {
+    put(output, b" ")?;
     if count == 0 {
-        put(b"-");
+        put(output, b"-")?;
     }
     let n = least(count, s.len());
-    let mut i = 0;
-    while i < n {
-        put_comma(i == 0);
-        put_number(s[i]);
-        i += 1;
+    for i in 0..n {
+        put_comma(output, i == 0)?;
+        put_number(output, s[i])?;
     }
+    Ok(())
 }
 
 fn wide(x: u32) -> u64 {
@@ -104,17 +105,16 @@ fn wide(x: u32) -> u64 {
 }
 
 // The numbers from `from` up to `to`, with commas; `-` for none.
-pub fn put_halves(s: &[u32], from: usize, to: usize) {
+pub fn put_halves(output: &mut Vec<u8>, s: &[u32], from: usize, to: usize) -> io::Result<()> {
     if from == to {
-        put(b"-");
+        put(output, b"-")?;
     }
     let n = least(to, s.len());
-    let mut i = from;
-    while i < n {
-        put_comma(i == from);
-        put_number(wide(s[i]));
-        i += 1;
+    for i in from..n {
+        put_comma(output, i == from)?;
+        put_number(output, wide(s[i]))?;
     }
+    Ok(())
 }
 
 // A page's byte, with `;` for byte 10.
@@ -132,9 +132,9 @@ fn fold(s: &mut [u8]) {
 }
 
 // A space, then the first `count` bytes of a page on one line. The page's bytes are changed.
-pub fn put_page(s: &mut [u8], count: usize) {
+pub fn put_page(output: &mut Vec<u8>, s: &mut [u8], count: usize) -> io::Result<()> {
     let n = least(count, s.len());
     fold(&mut s[0..n]);
-    put(b" ");
-    put(part_u8(s, 0, n));
+    put(output, b" ")?;
+    put(output, part_u8(s, 0, n))
 }

@@ -5,12 +5,22 @@ use protocol::input::{Input, Line};
 use protocol::write::put_bad;
 use protocol::{Buffer, input};
 use replay_lines::run_line;
+use std::io;
 
 fn next_line(buffer: &Buffer, input: Input) -> Line {
     input::next_line(buffer, input)
 }
 
-fn main() {
+// Writes what was put, and empties the buffer for the next line's answer.
+fn flush(rt: &impl Print, output: &mut Vec<u8>) -> io::Result<()> {
+    rt.write_all(output)?;
+    output.clear();
+    Ok(())
+}
+
+fn main(rt: HostRuntime) -> io::Result<()> {
+    let mut reader = rt.stdin();
+    let mut output = Vec::new(rt.alloc());
     let mut narrow = [0u32; 49152];
     let mut wide = [0u64; 32768];
     let mut pool = [0u8; 65536];
@@ -29,6 +39,7 @@ fn main() {
         match next_line(&buffer, input) {
             Line::At(from, to, rest) => {
                 state = run_line(
+                    &mut output,
                     &buffer,
                     from,
                     to,
@@ -42,15 +53,18 @@ fn main() {
                     &mut bytes,
                     &mut halves,
                     &mut words,
-                );
+                )?;
+                flush(&rt, &mut output)?;
                 input = rest;
             }
             Line::Long(rest) => {
-                put_bad();
+                put_bad(&mut output)?;
+                flush(&rt, &mut output)?;
                 input = rest;
             }
-            Line::Short => input = input::more(&mut buffer, input),
-            Line::Over => return,
+            Line::Short => input = input::more(&mut reader, &mut buffer, input)?,
+            Line::Over => return Ok(()),
         }
     }
+    Ok(())
 }

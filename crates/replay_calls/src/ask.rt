@@ -8,6 +8,7 @@ use protocol::write::{
 };
 use protocol::{HALF, WORD, least};
 use refusal::Answer;
+use std::io;
 use yexwalu::heaps;
 
 const GC_DUE: usize = 0;
@@ -104,80 +105,111 @@ fn called(c: usize, x: u64, heap: Heap, narrow: &[u32], wide: &[u64], pool: &[u8
 
 // The page, on one line, with planes or data.
 fn page(
+    output: &mut Vec<u8>,
     heap: Heap,
     narrow: &[u32],
     wide: &[u64],
     pool: &[u8],
     planar: bool,
     text: &mut [u8; 262144],
-) {
+) -> io::Result<()> {
     let mut marks = [7u8; 8192];
     let mut work = [7u64; 8192];
     let a = yexwalu::page::write_page(
         heap, narrow, wide, pool, planar, text, &mut marks, &mut work,
     );
-    put_number(a.number);
+    put_number(output, a.number)?;
     if a.number == 0 {
-        put_page(text, a.first as usize);
+        put_page(output, text, a.first as usize)?;
     }
-    put(b"\n");
+    put(output, b"\n")
 }
 
 // Visible data, which lies in the pool.
-fn data(a: Answer, pool: &[u8]) {
-    put_number(a.number);
+fn data(output: &mut Vec<u8>, a: Answer, pool: &[u8]) -> io::Result<()> {
+    put_number(output, a.number)?;
     if a.number == 0 {
-        put_hex(pool, a.first as usize, a.second as usize);
+        put_hex(output, pool, a.first as usize, a.second as usize)?;
     }
-    put(b"\n");
+    put(output, b"\n")
 }
 
 // The epoch and the log, which stand in the header.
-fn epoch(heap: Heap) {
+fn epoch(output: &mut Vec<u8>, heap: Heap) -> io::Result<()> {
     let log = heap.log;
-    put_value_next(heap.epoch);
-    put_halves(&log, 0, 16);
-    put(b"\n");
+    put_value_next(output, heap.epoch)?;
+    put_halves(output, &log, 0, 16)?;
+    put(output, b"\n")
 }
 
 // The answer to a question, with the values that it has.
-fn show(c: usize, x: u64, heap: Heap, narrow: &[u32], wide: &[u64], pool: &[u8]) {
+fn show(
+    output: &mut Vec<u8>,
+    c: usize,
+    x: u64,
+    heap: Heap,
+    narrow: &[u32],
+    wide: &[u64],
+    pool: &[u8],
+) -> io::Result<()> {
     let a = called(c, x, heap, narrow, wide, pool);
     match c {
-        DATA => data(a, pool),
-        KIND => put_answer(a, 2),
-        STAMP => put_answer(a, 2),
+        DATA => data(output, a, pool),
+        KIND => put_answer(output, a, 2),
+        STAMP => put_answer(output, a, 2),
         SLOTS => {
             let live = called(UNKNOWN, x, heap, narrow, wide, pool);
-            put_answer(counts(a, live), 2)
+            put_answer(output, counts(a, live), 2)
         }
-        _ => put_answer(a, 1),
+        _ => put_answer(output, a, 1),
     }
 }
 
 // The question to the heap in these parts of the memory.
-fn told(c: usize, x: u64, heap: Heap, narrow: &[u32], wide: &[u64], pool: &[u8]) {
+fn told(
+    output: &mut Vec<u8>,
+    c: usize,
+    x: u64,
+    heap: Heap,
+    narrow: &[u32],
+    wide: &[u64],
+    pool: &[u8],
+) -> io::Result<()> {
     match c {
-        EPOCH => epoch(heap),
+        EPOCH => epoch(output, heap),
         PAGE => {
             let mut text = [0u8; 262144];
-            page(heap, narrow, wide, pool, x == 1, &mut text)
+            page(output, heap, narrow, wide, pool, x == 1, &mut text)
         }
-        _ => show(c, x, heap, narrow, wide, pool),
+        _ => show(output, c, x, heap, narrow, wide, pool),
     }
 }
 
 // Answers a question.
-pub fn answer(line: &[u8], kept: Kept, narrow: &[u32], wide: &[u64], pool: &[u8]) {
+pub fn answer(
+    output: &mut Vec<u8>,
+    line: &[u8],
+    kept: Kept,
+    narrow: &[u32],
+    wide: &[u64],
+    pool: &[u8],
+) -> io::Result<()> {
     let c = command(line);
     let Asked::For(r) = asking(c, line, second(line)) else {
-        put_bad();
-        return;
+        return put_bad(output);
     };
     let s = least(kept.slots, least(narrow.len() / 6, wide.len() / 4));
     let a = 6 * s;
     let b = 4 * s;
     let p = least(kept.pool, pool.len());
     let heap = kept.heap;
-    told(c, r.x, heap, &narrow[0..a], &wide[0..b], &pool[0..p]);
+    told(
+        output,
+        c,
+        r.x,
+        heap,
+        &narrow[0..a],
+        &wide[0..b],
+        &pool[0..p],
+    )
 }

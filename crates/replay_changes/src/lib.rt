@@ -10,6 +10,7 @@ use protocol::{Bytes, Halves, LISTED, SPELLED, WORD, least, part_u8, part_u32};
 use refusal::Answer;
 use replay_calls::request::{Asked, Request};
 use replay_calls::{Kept, Narrow, Pool, Wide, request};
+use std::io;
 use yexwalu::heaps;
 
 const NEW: usize = 0;
@@ -296,52 +297,53 @@ fn after(old: Kept, new: Kept, done: Done) -> Kept {
 }
 
 // The last of so many answers.
-fn filled(a: Answer, count: u64) {
+fn filled(output: &mut Vec<u8>, a: Answer, count: u64) -> io::Result<()> {
     if count == 0 {
-        put(b"none\n");
+        put(output, b"none\n")
     } else {
-        put_answer(a, 1);
+        put_answer(output, a, 1)
     }
 }
 
 // An object that was taken out: its bytes, which lie in `room`, and its start.
-fn taken(a: Answer, room: &Pool) {
-    put_number(a.number);
+fn taken(output: &mut Vec<u8>, a: Answer, room: &Pool) -> io::Result<()> {
+    put_number(output, a.number)?;
     if a.number == 0 {
-        put_hex(room, 0, a.first as usize);
-        put_next(a.second);
+        put_hex(output, room, 0, a.first as usize)?;
+        put_next(output, a.second)?;
     }
-    put(b"\n");
+    put(output, b"\n")
 }
 
 // A page that was read: how many bits its write counts have, 1 with `retired` and 0 without, and its column.
-fn met(a: Answer) {
-    put_number(a.number);
+fn met(output: &mut Vec<u8>, a: Answer) -> io::Result<()> {
+    put_number(output, a.number)?;
     if a.number == 0 {
-        put_next(a.first);
-        put_next(a.second % 2);
+        put_next(output, a.first)?;
+        put_next(output, a.second % 2)?;
         if a.second < 2 {
-            put(b" data");
+            put(output, b" data")?;
         } else {
-            put(b" planes");
+            put(output, b" planes")?;
         }
     }
-    put(b"\n");
+    put(output, b"\n")
 }
 
 // The answer to a change, with the values that it has.
-fn show(c: usize, r: Request, a: Answer, room: &Pool) {
+fn show(output: &mut Vec<u8>, c: usize, r: Request, a: Answer, room: &Pool) -> io::Result<()> {
     match c {
-        TAKE => taken(a, room),
-        FILL => filled(a, r.x),
-        READ => met(a),
-        ALLOC | EDIT | REISSUE => put_answer(a, 1),
-        _ => put_answer(a, 0),
+        TAKE => taken(output, a, room),
+        FILL => filled(output, a, r.x),
+        READ => met(output, a),
+        ALLOC | EDIT | REISSUE => put_answer(output, a, 1),
+        _ => put_answer(output, a, 0),
     }
 }
 
 // Runs a line that changes the heap.
 pub fn answer(
+    output: &mut Vec<u8>,
     line: &[u8],
     kept: Kept,
     narrow: &mut Narrow,
@@ -349,16 +351,16 @@ pub fn answer(
     pool: &mut Pool,
     bytes: &mut Bytes,
     lists: &mut Halves,
-) -> Kept {
+) -> io::Result<Kept> {
     let c = command(line);
     let Asked::For(r) = asking(c, line, second(line), bytes, lists) else {
-        put_bad();
-        return kept;
+        put_bad(output)?;
+        return Ok(kept);
     };
     let next = sized(c, r, kept);
     let mut room = [0u8; 65536];
     let done = on_heap(c, r, next, narrow, wide, pool, bytes, lists, &mut room);
     let a = done.answer;
-    show(c, r, a, &room);
-    after(kept, next, done)
+    show(output, c, r, a, &room)?;
+    Ok(after(kept, next, done))
 }

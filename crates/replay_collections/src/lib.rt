@@ -13,6 +13,7 @@ use protocol::{
     NUMBERS, Rows, SPELLED, WORD, WORDS_END, Words, least, part_u8, part_u32, part_u64,
 };
 use replay_calls::{Kept, Narrow, Pool, Wide, after};
+use std::io;
 use yexwalu::heaps;
 
 const COLLECT: usize = 0;
@@ -269,6 +270,7 @@ fn on_heap(
 
 // Runs a line.
 pub fn answer(
+    output: &mut Vec<u8>,
     line: &[u8],
     kept: Kept,
     narrow: &mut Narrow,
@@ -279,16 +281,16 @@ pub fn answer(
     bytes: &mut Bytes,
     lists: &mut Halves,
     list: &mut Words,
-) -> Kept {
+) -> io::Result<Kept> {
     let c = command(line);
     let Wanted::Is(wanted) = wanted_by(c, line, bytes, lists, list) else {
-        put_bad();
-        return kept;
+        put_bad(output)?;
+        return Ok(kept);
     };
     let done = on_heap(
         c, wanted, kept, narrow, wide, pool, table, code, bytes, lists, list,
     );
     let a = done.answer;
-    put_answer(a, 0);
-    after(kept, done)
+    put_answer(output, a, 0)?;
+    Ok(after(kept, done))
 }

@@ -9,6 +9,7 @@ use protocol::{Buffer, Bytes, Halves, Words, code, part_u8, table};
 use replay_calls::{Kept, Narrow, Pool, Wide, ask};
 use replay_saves::{SWAP, UNKNOWN};
 use replay_types::{live, types};
+use std::io;
 
 // What is kept from line to line, beside the lent memory and lists: the current heap and the other one, the type table and the function.
 #[derive(Clone, Copy)]
@@ -127,6 +128,7 @@ fn swapped(state: State) -> State {
 
 // Runs a line on the heap.
 fn on_memory(
+    output: &mut Vec<u8>,
     route: Route,
     line: &[u8],
     state: State,
@@ -136,35 +138,40 @@ fn on_memory(
     bytes: &mut Bytes,
     halves: &mut Halves,
     words: &mut Words,
-) -> Kept {
+) -> io::Result<Kept> {
     let kept = state.kept;
     match route {
-        Route::Change => replay_changes::answer(line, kept, narrow, wide, pool, bytes, halves),
+        Route::Change => replay_changes::answer(
+            output, line, kept, narrow, wide, pool, bytes, halves,
+        ),
         Route::Ask => {
-            ask::answer(line, kept, narrow, wide, pool);
-            kept
+            ask::answer(output, line, kept, narrow, wide, pool)?;
+            Ok(kept)
         }
         Route::Traced => {
             let table = state.table;
-            replay_traced::answer(line, kept, narrow, wide, pool, table, bytes, halves, words);
-            kept
+            replay_traced::answer(
+                output, line, kept, narrow, wide, pool, table, bytes, halves, words,
+            )?;
+            Ok(kept)
         }
         Route::Collect => {
             let table = state.table;
             let code = state.code;
             replay_collections::answer(
-                line, kept, narrow, wide, pool, table, code, bytes, halves, words,
+                output, line, kept, narrow, wide, pool, table, code, bytes, halves, words,
             )
         }
         _ => {
-            put_bad();
-            kept
+            put_bad(output)?;
+            Ok(kept)
         }
     }
 }
 
 // Runs a line, and tells what is kept after it.
 fn serve(
+    output: &mut Vec<u8>,
     line: &[u8],
     state: State,
     narrow: &mut Narrow,
@@ -173,36 +180,48 @@ fn serve(
     bytes: &mut Bytes,
     halves: &mut Halves,
     words: &mut Words,
-) -> State {
+) -> io::Result<State> {
     let t = state.table;
     let f = state.code;
     let route = way(line);
     match route {
-        Route::Silent => state,
-        Route::Table => with_table(state, table::make(line, t, bytes, halves, words)),
-        Route::TableText => with_table(state, replay_tables::answer(line, t, bytes, halves, words)),
-        Route::Rehearsal => {
-            replay_rehearsals::answer(line, t, bytes, halves, words);
-            state
+        Route::Silent => Ok(state),
+        Route::Table => {
+            let table = table::make(output, line, t, bytes, halves, words)?;
+            Ok(with_table(state, table))
         }
-        Route::Code => with_code(state, code::make(line, f, bytes, halves, words)),
+        Route::TableText => {
+            let table = replay_tables::answer(output, line, t, bytes, halves, words)?;
+            Ok(with_table(state, table))
+        }
+        Route::Rehearsal => {
+            replay_rehearsals::answer(output, line, t, bytes, halves, words)?;
+            Ok(state)
+        }
+        Route::Code => {
+            let code = code::make(output, line, f, bytes, halves, words)?;
+            Ok(with_code(state, code))
+        }
         Route::Types => {
-            types::answer(line, t, bytes, halves, words);
-            state
+            types::answer(output, line, t, bytes, halves, words)?;
+            Ok(state)
         }
         Route::Live => {
-            live::answer(line, f, bytes, halves);
-            state
+            live::answer(output, line, f, bytes, halves)?;
+            Ok(state)
         }
         _ => {
-            let kept = on_memory(route, line, state, narrow, wide, pool, bytes, halves, words);
-            with_kept(state, kept)
+            let kept = on_memory(
+                output, route, line, state, narrow, wide, pool, bytes, halves, words,
+            )?;
+            Ok(with_kept(state, kept))
         }
     }
 }
 
 // The same of the line that lies in the buffer from `from` up to `to`. Only lines on both heaps are lent the other one.
 pub fn run_line(
+    output: &mut Vec<u8>,
     buffer: &Buffer,
     from: usize,
     to: usize,
@@ -216,19 +235,30 @@ pub fn run_line(
     bytes: &mut Bytes,
     halves: &mut Halves,
     words: &mut Words,
-) -> State {
+) -> io::Result<State> {
     let line = part_u8(buffer, from, to);
     match replay_saves::command(line) {
         SWAP => {
-            replay_saves::swap(narrow, wide, pool, other_narrow, other_wide, other_pool);
-            swapped(state)
+            replay_saves::swap(
+                output,
+                narrow,
+                wide,
+                pool,
+                other_narrow,
+                other_wide,
+                other_pool,
+            )?;
+            Ok(swapped(state))
         }
-        UNKNOWN => serve(line, state, narrow, wide, pool, bytes, halves, words),
+        UNKNOWN => serve(
+            output, line, state, narrow, wide, pool, bytes, halves, words,
+        ),
         _ => {
             let kept = state.kept;
             let other = state.other;
             let table = state.table;
             replay_saves::answer(
+                output,
                 line,
                 kept,
                 narrow,
@@ -242,8 +272,8 @@ pub fn run_line(
                 bytes,
                 halves,
                 words,
-            );
-            state
+            )?;
+            Ok(state)
         }
     }
 }

@@ -11,6 +11,7 @@ use protocol::{
     part_u64,
 };
 use refusal::Answer;
+use std::io;
 use yexwalu::heaps;
 
 pub const UNKNOWN: usize = 1;
@@ -138,23 +139,29 @@ fn on_memory(
 }
 
 // What was printed, on one line; `-` for nothing.
-fn told(a: Answer, out: &mut Out) {
-    put_number(a.number);
+fn told(output: &mut Vec<u8>, a: Answer, out: &mut Out) -> io::Result<()> {
+    put_number(output, a.number)?;
     if a.number == 0 {
         if a.first == 0 {
-            put(b" -");
+            put(output, b" -")?;
         } else {
-            put_page(out, a.first as usize);
+            put_page(output, out, a.first as usize)?;
         }
     }
-    put(b"\n");
+    put(output, b"\n")
 }
 
 // Runs a line.
-pub fn answer(line: &[u8], table: Table, bytes: &mut Bytes, lists: &Halves, list: &mut Words) {
+pub fn answer(
+    output: &mut Vec<u8>,
+    line: &[u8],
+    table: Table,
+    bytes: &mut Bytes,
+    lists: &Halves,
+    list: &mut Words,
+) -> io::Result<()> {
     let Wanted::Is(asked) = fields_of(line, bytes, list) else {
-        put_bad();
-        return;
+        return put_bad(output);
     };
     let mut narrow = [0u32; 12288];
     let mut wide = [0u64; 8192];
@@ -171,5 +178,5 @@ pub fn answer(line: &[u8], table: Table, bytes: &mut Bytes, lists: &Halves, list
         lists,
         list,
     );
-    told(a, &mut out);
+    told(output, a, &mut out)
 }

@@ -12,6 +12,7 @@ use protocol::{
 };
 use refusal::Answer;
 use replay_calls::{Kept, Narrow, Pool, Wide};
+use std::io;
 use yexwalu::heaps;
 
 pub const SWAP: usize = 0;
@@ -67,17 +68,18 @@ fn exchange_u8(a: &mut Pool, b: &mut Pool) {
 
 // The memory of the two heaps changes places.
 pub fn swap(
+    output: &mut Vec<u8>,
     narrow: &mut Narrow,
     wide: &mut Wide,
     pool: &mut Pool,
     other_narrow: &mut Narrow,
     other_wide: &mut Wide,
     other_pool: &mut Pool,
-) {
+) -> io::Result<()> {
     exchange_u32(narrow, other_narrow);
     exchange_u64(wide, other_wide);
     exchange_u8(pool, other_pool);
-    put(b"0\n");
+    put(output, b"0\n")
 }
 
 // The call, with scratch for each heap.
@@ -197,29 +199,29 @@ fn on_heaps(
 }
 
 // Which heap comes first.
-fn put_order(first: u64) {
+fn put_order(output: &mut Vec<u8>, first: u64) -> io::Result<()> {
     match first {
-        0 => put(b" less"),
-        1 => put(b" equal"),
-        _ => put(b" greater"),
+        0 => put(output, b" less"),
+        1 => put(output, b" equal"),
+        _ => put(output, b" greater"),
     }
 }
 
 // The answer, in numbers or in words.
-fn show(c: usize, a: Answer) {
+fn show(output: &mut Vec<u8>, c: usize, a: Answer) -> io::Result<()> {
     if c == SAME {
-        put_answer(a, 1);
-        return;
+        return put_answer(output, a, 1);
     }
-    put_number(a.number);
+    put_number(output, a.number)?;
     if a.number == 0 {
-        put_order(a.first);
+        put_order(output, a.first)?;
     }
-    put(b"\n");
+    put(output, b"\n")
 }
 
 // Compares the two heaps from the roots of the line, the current heap's first.
 pub fn answer(
+    output: &mut Vec<u8>,
     line: &[u8],
     kept: Kept,
     narrow: &Narrow,
@@ -233,17 +235,16 @@ pub fn answer(
     bytes: &Bytes,
     lists: &Halves,
     list: &mut Words,
-) {
+) -> io::Result<()> {
     let Run::Is(to, a) = words(line, second(line), WORD, list, NUMBERS, NUMBERS + MOST) else {
-        put_bad();
-        return;
+        return put_bad(output);
     };
     let Run::Is(end, _) = words(line, a, WORD, list, to, WORDS_END) else {
-        put_bad();
-        return;
+        return put_bad(output);
     };
     let c = command(line);
     show(
+        output,
         c,
         on_heaps(
             c,
@@ -262,5 +263,5 @@ pub fn answer(
             lists,
             list,
         ),
-    );
+    )
 }

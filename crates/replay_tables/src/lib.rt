@@ -5,6 +5,7 @@ use protocol::read::{byte_at, past, second, which};
 use protocol::table::Table;
 use protocol::write::{put, put_next, put_number, put_page};
 use protocol::{Bytes, CONSTS, FIELDS, Halves, SPELLED, Words, least, part_u8, part_u32, part_u64};
+use std::io;
 use yexwalu::{TableRead, table_text};
 
 const READ: usize = 0;
@@ -70,17 +71,17 @@ fn called(
 }
 
 // What was read: how much of each list the table takes.
-fn told(r: TableRead) {
+fn told(output: &mut Vec<u8>, r: TableRead) -> io::Result<()> {
     let a = r.answer;
-    put_number(a.number);
+    put_number(output, a.number)?;
     if a.number == 0 {
-        put_next(r.types as u64);
-        put_next(r.fields as u64);
-        put_next(r.consts as u64);
-        put_next(r.bytes as u64);
-        put_next(r.names as u64);
+        put_next(output, r.types as u64)?;
+        put_next(output, r.fields as u64)?;
+        put_next(output, r.consts as u64)?;
+        put_next(output, r.bytes as u64)?;
+        put_next(output, r.names as u64)?;
     }
-    put(b"\n");
+    put(output, b"\n")
 }
 
 // Copies the first `count` numbers to the place for types.
@@ -143,32 +144,40 @@ fn kept(r: TableRead) -> Table {
 
 // Reads a text into lists of its own, then copies what it took to the places of the type table. A refusal leaves the table that there was.
 fn read(
+    output: &mut Vec<u8>,
     end: usize,
     table: Table,
     bytes: &mut Bytes,
     lists: &mut Halves,
     list: &mut Words,
-) -> Table {
+) -> io::Result<Table> {
     let mut types = [7u64; 16384];
     let mut fields = [7u32; 32768];
     let mut consts = [7u64; 12288];
     let mut octets = [7u8; 65536];
     let text = part_u8(bytes, SPELLED, end);
     let r = called(text, &mut types, &mut fields, &mut consts, &mut octets);
-    told(r);
+    told(output, r)?;
     let a = r.answer;
     if a.number == 0 {
         keep_types(&types, r.types, list);
         keep_fields(&fields, r.fields, lists);
         keep_consts(&consts, r.consts, list);
         keep_bytes(&octets, r.bytes, bytes);
-        return kept(r);
+        return Ok(kept(r));
     }
-    table
+    Ok(table)
 }
 
 // Writes the type table with the names that end at `end`, on one line.
-fn write(end: usize, table: Table, bytes: &Bytes, lists: &Halves, list: &Words) {
+fn write(
+    output: &mut Vec<u8>,
+    end: usize,
+    table: Table,
+    bytes: &Bytes,
+    lists: &Halves,
+    list: &Words,
+) -> io::Result<()> {
     let mut out = [7u8; 262144];
     let a = table_text::write_table(
         part_u64(list, 0, table.types),
@@ -178,25 +187,26 @@ fn write(end: usize, table: Table, bytes: &Bytes, lists: &Halves, list: &Words) 
         part_u8(bytes, SPELLED, end),
         &mut out,
     );
-    put_number(a.number);
+    put_number(output, a.number)?;
     if a.number == 0 {
-        put_page(&mut out, a.first as usize);
+        put_page(output, &mut out, a.first as usize)?;
     }
-    put(b"\n");
+    put(output, b"\n")
 }
 
 // Runs a line, and tells the table after it.
 pub fn answer(
+    output: &mut Vec<u8>,
     line: &[u8],
     table: Table,
     bytes: &mut Bytes,
     lists: &mut Halves,
     list: &mut Words,
-) -> Table {
+) -> io::Result<Table> {
     let end = spelled(line, bytes);
     if command(line) == READ {
-        return read(end, table, bytes, lists, list);
+        return read(output, end, table, bytes, lists, list);
     }
-    write(end, table, bytes, lists, list);
-    table
+    write(output, end, table, bytes, lists, list)?;
+    Ok(table)
 }

@@ -12,6 +12,7 @@ use protocol::{
 };
 use refusal::Answer;
 use replay_calls::Kept;
+use std::io;
 use yexwalu::{handles, heaps};
 
 const HANDLES: usize = 0;
@@ -80,12 +81,12 @@ fn asking(c: usize, line: &[u8], lists: &mut Halves) -> Asked {
 }
 
 // An answer that has a list: so many of its entries.
-fn put_list(a: Answer, out: &[u64]) {
-    put_number(a.number);
+fn put_list(output: &mut Vec<u8>, a: Answer, out: &[u64]) -> io::Result<()> {
+    put_number(output, a.number)?;
     if a.number == 0 {
-        put_words(out, a.first as usize);
+        put_words(output, out, a.first as usize)?;
     }
-    put(b"\n");
+    put(output, b"\n")
 }
 
 // The handles of a slot.
@@ -110,6 +111,7 @@ fn listed(
 
 // The same, printed. An object of the longest pool shows 8,192 handles at most.
 fn shown(
+    output: &mut Vec<u8>,
     types: &[u64],
     fields: &[u32],
     consts: &[u64],
@@ -119,12 +121,12 @@ fn shown(
     wide: &[u64],
     pool: &[u8],
     slot: usize,
-) {
+) -> io::Result<()> {
     let mut out = [7u64; 8192];
     let a = listed(
         types, fields, consts, bytes, heap, narrow, wide, pool, slot, &mut out,
     );
-    put_list(a, &out);
+    put_list(output, a, &out)
 }
 
 // The roots for wanted slots.
@@ -151,6 +153,7 @@ fn sought(
 
 // The same, printed. There are 8,192 slots at most.
 fn found(
+    output: &mut Vec<u8>,
     types: &[u64],
     fields: &[u32],
     consts: &[u64],
@@ -161,16 +164,17 @@ fn found(
     pool: &[u8],
     pins: &[u32],
     slots: &[u32],
-) {
+) -> io::Result<()> {
     let mut out = [7u64; 8192];
     let a = sought(
         types, fields, consts, bytes, heap, narrow, wide, pool, pins, slots, &mut out,
     );
-    put_list(a, &out);
+    put_list(output, a, &out)
 }
 
 // Whether the heap and the table fit together: the first slot that does not, where there is one.
 fn fitting(
+    output: &mut Vec<u8>,
     types: &[u64],
     fields: &[u32],
     consts: &[u64],
@@ -179,21 +183,22 @@ fn fitting(
     narrow: &[u32],
     wide: &[u64],
     pool: &[u8],
-) {
+) -> io::Result<()> {
     let mut marks = [7u8; 8192];
     let mut work = [7u64; 8192];
     let a = handles::traceable(
         types, fields, consts, bytes, heap, narrow, wide, pool, &mut marks, &mut work,
     );
-    put_number(a.number);
+    put_number(output, a.number)?;
     if a.number == 13 {
-        put_next(a.first);
+        put_next(output, a.first)?;
     }
-    put(b"\n");
+    put(output, b"\n")
 }
 
 // The call, on the parts of the table and of the heap's memory.
 fn called(
+    output: &mut Vec<u8>,
     c: usize,
     slot: usize,
     types: &[u64],
@@ -206,18 +211,23 @@ fn called(
     pool: &[u8],
     pins: &[u32],
     slots: &[u32],
-) {
+) -> io::Result<()> {
     match c {
-        HANDLES => shown(types, fields, consts, bytes, heap, narrow, wide, pool, slot),
-        ROOTS_FOR => found(
-            types, fields, consts, bytes, heap, narrow, wide, pool, pins, slots,
+        HANDLES => shown(
+            output, types, fields, consts, bytes, heap, narrow, wide, pool, slot,
         ),
-        _ => fitting(types, fields, consts, bytes, heap, narrow, wide, pool),
+        ROOTS_FOR => found(
+            output, types, fields, consts, bytes, heap, narrow, wide, pool, pins, slots,
+        ),
+        _ => fitting(
+            output, types, fields, consts, bytes, heap, narrow, wide, pool,
+        ),
     }
 }
 
 // The same, on the memory and the lent lists.
 fn on_heap(
+    output: &mut Vec<u8>,
     c: usize,
     q: Question,
     kept: Kept,
@@ -228,13 +238,14 @@ fn on_heap(
     octets: &Bytes,
     lists: &Halves,
     list: &Words,
-) {
+) -> io::Result<()> {
     let s = least(kept.slots, least(narrow.len() / 6, wide.len() / 4));
     let x = 6 * s;
     let y = 4 * s;
     let z = least(kept.pool, pool.len());
     let heap = kept.heap;
     called(
+        output,
         c,
         q.slot,
         part_u64(list, 0, table.types),
@@ -247,11 +258,12 @@ fn on_heap(
         &pool[0..z],
         part_u32(lists, LISTED, q.pins),
         part_u32(lists, q.pins, q.slots),
-    );
+    )
 }
 
 // Answers a line.
 pub fn answer(
+    output: &mut Vec<u8>,
     line: &[u8],
     kept: Kept,
     narrow: &[u32],
@@ -261,11 +273,12 @@ pub fn answer(
     bytes: &Bytes,
     lists: &mut Halves,
     list: &Words,
-) {
+) -> io::Result<()> {
     let c = command(line);
     let Asked::For(q) = asking(c, line, lists) else {
-        put_bad();
-        return;
+        return put_bad(output);
     };
-    on_heap(c, q, kept, narrow, wide, pool, table, bytes, lists, list);
+    on_heap(
+        output, c, q, kept, narrow, wide, pool, table, bytes, lists, list,
+    )
 }

@@ -3,6 +3,7 @@ use protocol::code::Function;
 use protocol::read::{Field, number, second, which};
 use protocol::write::{put, put_bad, put_halves, put_number};
 use protocol::{BLOCKS, Bytes, CLASSES, ENDS, HALF, Halves, KINDS, Rows, least, part_u8, part_u32};
+use std::io;
 use yexwalu::live;
 
 const LIVE: usize = 0;
@@ -58,30 +59,39 @@ fn wide(x: u32) -> u64 {
 }
 
 // Where a safepoint is not the first, a semicolon stands before it.
-fn put_semicolon(i: usize) {
+fn put_semicolon(output: &mut Vec<u8>, i: usize) -> io::Result<()> {
     if 0 < i {
-        put(b";");
+        put(output, b";")?;
     }
+    Ok(())
 }
 
 // So many safepoints with their registers.
-fn points(pcs: &[u32; 65536], bounds: &[u32; 65536], regs: &[u32; 65536], count: usize) {
+fn points(
+    output: &mut Vec<u8>,
+    pcs: &[u32; 65536],
+    bounds: &[u32; 65536],
+    regs: &[u32; 65536],
+    count: usize,
+) -> io::Result<()> {
     let n = least(count, 65536);
     let mut from: usize = 0;
     let mut i: usize = 0;
     while i < n {
-        put_semicolon(i);
+        put_semicolon(output, i)?;
         let to = place(bounds[i]);
-        put_number(wide(pcs[i]));
-        put(b"=");
-        put_halves(regs, from, to);
+        put_number(output, wide(pcs[i]))?;
+        put(output, b"=")?;
+        put_halves(output, regs, from, to)?;
         from = to;
         i += 1;
     }
+    Ok(())
 }
 
 // The map of all safepoints. Room for as many safepoints as there may be instructions.
 fn map(
+    output: &mut Vec<u8>,
     q: Question,
     kinds: &[u8],
     ends: &[u32],
@@ -89,7 +99,7 @@ fn map(
     blocks: &[u32],
     classes: &[u8],
     rows: &mut Rows,
-) {
+) -> io::Result<()> {
     let mut pcs = [0u32; 65536];
     let mut bounds = [0u32; 65536];
     let mut regs = [0u32; 65536];
@@ -105,19 +115,20 @@ fn map(
         &mut regs,
         rows,
     );
-    put_number(a.number);
+    put_number(output, a.number)?;
     if a.number == 0 {
-        put(b" ");
+        put(output, b" ")?;
         if a.first == 0 {
-            put(b"none");
+            put(output, b"none")?;
         }
-        points(&pcs, &bounds, &regs, a.first as usize);
+        points(output, &pcs, &bounds, &regs, a.first as usize)?;
     }
-    put(b"\n");
+    put(output, b"\n")
 }
 
 // The registers at one safepoint.
 fn at(
+    output: &mut Vec<u8>,
     q: Question,
     kinds: &[u8],
     ends: &[u32],
@@ -125,41 +136,55 @@ fn at(
     blocks: &[u32],
     classes: &[u8],
     rows: &mut Rows,
-) {
+) -> io::Result<()> {
     let mut regs = [0u32; 65536];
     let a = live::live_at(
         kinds, ends, refs, blocks, classes, q.all, q.pc, &mut regs, rows,
     );
-    put_number(a.number);
+    put_number(output, a.number)?;
     if a.number == 0 {
-        put(b" ");
-        put_halves(&regs, 0, a.first as usize);
+        put(output, b" ")?;
+        put_halves(output, &regs, 0, a.first as usize)?;
     }
-    put(b"\n");
+    put(output, b"\n")
 }
 
 // The call, on the parts of the function.
-fn told(q: Question, kinds: &[u8], ends: &[u32], refs: &[u32], blocks: &[u32], classes: &[u8]) {
+fn told(
+    output: &mut Vec<u8>,
+    q: Question,
+    kinds: &[u8],
+    ends: &[u32],
+    refs: &[u32],
+    blocks: &[u32],
+    classes: &[u8],
+) -> io::Result<()> {
     let mut rows = [7u64; 131072];
     if q.one {
-        at(q, kinds, ends, refs, blocks, classes, &mut rows);
+        at(output, q, kinds, ends, refs, blocks, classes, &mut rows)
     } else {
-        map(q, kinds, ends, refs, blocks, classes, &mut rows);
+        map(output, q, kinds, ends, refs, blocks, classes, &mut rows)
     }
 }
 
 // Answers a question.
-pub fn answer(line: &[u8], code: Function, bytes: &Bytes, lists: &Halves) {
+pub fn answer(
+    output: &mut Vec<u8>,
+    line: &[u8],
+    code: Function,
+    bytes: &Bytes,
+    lists: &Halves,
+) -> io::Result<()> {
     let Asked::For(q) = asking(command(line), line) else {
-        put_bad();
-        return;
+        return put_bad(output);
     };
     told(
+        output,
         q,
         part_u8(bytes, KINDS, code.kinds),
         part_u32(lists, ENDS, code.ends),
         part_u32(lists, 0, code.refs),
         part_u32(lists, BLOCKS, code.blocks),
         part_u8(bytes, CLASSES, code.classes),
-    );
+    )
 }

@@ -8,6 +8,7 @@ use protocol::{
     part_u64,
 };
 use refusal::Answer;
+use std::io;
 use yexwalu::handles;
 
 const DESC_SIZE: usize = 0;
@@ -89,28 +90,36 @@ fn asking(c: usize, line: &[u8], bytes: &mut Bytes, lists: &mut Halves) -> Asked
 }
 
 // A type without a descriptor's size is `none`, as the Rust has it.
-fn size(a: Answer) {
+fn size(output: &mut Vec<u8>, a: Answer) -> io::Result<()> {
     if a.number == 11 {
-        put(b"none\n");
+        put(output, b"none\n")
     } else {
-        put_answer(a, 1);
+        put_answer(output, a, 1)
     }
 }
 
 // The layout, and the offsets of a record's fields.
-fn layout(t: u64, types: &[u64], fields: &[u32], consts: &[u64], bytes: &[u8], desc: &[u8]) {
+fn layout(
+    output: &mut Vec<u8>,
+    t: u64,
+    types: &[u64],
+    fields: &[u32],
+    consts: &[u64],
+    bytes: &[u8],
+    desc: &[u8],
+) -> io::Result<()> {
     let mut offsets = [0u64; 16384];
     let a = yexwalu::types::layout(types, fields, consts, bytes, t, desc, &mut offsets);
-    put_number(a.number);
+    put_number(output, a.number)?;
     if a.number == 0 {
-        put_next(a.size);
-        put_next(a.align);
-        put_next(a.stride);
-        put_next(a.count);
-        put_next(a.used);
-        put_words(&offsets, a.offsets as usize);
+        put_next(output, a.size)?;
+        put_next(output, a.align)?;
+        put_next(output, a.stride)?;
+        put_next(output, a.count)?;
+        put_next(output, a.used)?;
+        put_words(output, &offsets, a.offsets as usize)?;
     }
-    put(b"\n");
+    put(output, b"\n")
 }
 
 // The handles of an object or a value.
@@ -131,6 +140,7 @@ fn listed(
 }
 
 fn held(
+    output: &mut Vec<u8>,
     c: usize,
     t: u64,
     types: &[u64],
@@ -138,18 +148,26 @@ fn held(
     consts: &[u64],
     bytes: &[u8],
     data: &[u8],
-) {
+) -> io::Result<()> {
     let mut out = [0u64; 16384];
     let a = listed(c, t, types, fields, consts, bytes, data, &mut out);
-    put_number(a.number);
+    put_number(output, a.number)?;
     if a.number == 0 {
-        put_words(&out, a.first as usize);
+        put_words(output, &out, a.first as usize)?;
     }
-    put(b"\n");
+    put(output, b"\n")
 }
 
 // The handles and addresses of a frame. An entry of the map gives one address at most.
-fn roots(types: &[u64], fields: &[u32], consts: &[u64], bytes: &[u8], map: &[u32], memory: &[u8]) {
+fn roots(
+    output: &mut Vec<u8>,
+    types: &[u64],
+    fields: &[u32],
+    consts: &[u64],
+    bytes: &[u8],
+    map: &[u32],
+    memory: &[u8],
+) -> io::Result<()> {
     let mut out = [0u64; 16384];
     let mut places = [0u64; 16384];
     let a = handles::slot_roots(
@@ -162,16 +180,17 @@ fn roots(types: &[u64], fields: &[u32], consts: &[u64], bytes: &[u8], map: &[u32
         &mut out,
         &mut places,
     );
-    put_number(a.number);
+    put_number(output, a.number)?;
     if a.number == 0 {
-        put_words(&out, a.first as usize);
-        put_words(&places, a.second as usize);
+        put_words(output, &out, a.first as usize)?;
+        put_words(output, &places, a.second as usize)?;
     }
-    put(b"\n");
+    put(output, b"\n")
 }
 
 // The call, on the parts of the table.
 fn told(
+    output: &mut Vec<u8>,
     c: usize,
     t: u64,
     types: &[u64],
@@ -180,22 +199,35 @@ fn told(
     bytes: &[u8],
     data: &[u8],
     map: &[u32],
-) {
+) -> io::Result<()> {
     match c {
-        DESC_SIZE => size(yexwalu::types::desc_size(types, fields, consts, bytes, t)),
+        DESC_SIZE => size(
+            output,
+            yexwalu::types::desc_size(types, fields, consts, bytes, t),
+        ),
         HAS_HANDLES => put_answer(
+            output,
             yexwalu::types::has_handles(types, fields, consts, bytes, t),
             1,
         ),
-        LAYOUT => layout(t, types, fields, consts, bytes, data),
-        SLOT_ROOTS => roots(types, fields, consts, bytes, map, data),
-        _ => held(c, t, types, fields, consts, bytes, data),
+        LAYOUT => layout(output, t, types, fields, consts, bytes, data),
+        SLOT_ROOTS => roots(output, types, fields, consts, bytes, map, data),
+        _ => held(output, c, t, types, fields, consts, bytes, data),
     }
 }
 
 // The same, on the lent lists.
-fn on_table(c: usize, q: Question, table: Table, bytes: &Bytes, lists: &Halves, words: &Words) {
+fn on_table(
+    output: &mut Vec<u8>,
+    c: usize,
+    q: Question,
+    table: Table,
+    bytes: &Bytes,
+    lists: &Halves,
+    words: &Words,
+) -> io::Result<()> {
     told(
+        output,
         c,
         q.t,
         part_u64(words, 0, table.types),
@@ -204,15 +236,21 @@ fn on_table(c: usize, q: Question, table: Table, bytes: &Bytes, lists: &Halves, 
         part_u8(bytes, 0, table.bytes),
         part_u8(bytes, SPELLED, q.bytes),
         part_u32(lists, LISTED, q.map),
-    );
+    )
 }
 
 // Answers a question.
-pub fn answer(line: &[u8], table: Table, bytes: &mut Bytes, lists: &mut Halves, words: &Words) {
+pub fn answer(
+    output: &mut Vec<u8>,
+    line: &[u8],
+    table: Table,
+    bytes: &mut Bytes,
+    lists: &mut Halves,
+    words: &Words,
+) -> io::Result<()> {
     let c = command(line);
     let Asked::For(q) = asking(c, line, bytes, lists) else {
-        put_bad();
-        return;
+        return put_bad(output);
     };
-    on_table(c, q, table, bytes, lists, words);
+    on_table(output, c, q, table, bytes, lists, words)
 }
