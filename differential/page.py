@@ -1,5 +1,5 @@
 #!/usr/bin/env python3
-"""page.py --page target/bin/page [--seeds A-B]    the program `page` against a model of it
+"""page.py --page crates/page/out/page [--seeds A-B]    the program `page` against a model of it
 page.py --sample                                   writes crates/pages_tried/stdin and stdout
 
 The model is written from document 01 and docs/DECISIONS.md (7, 8) alone: which lines are calls, what each does, and what is printed. Inputs: every refusal that a script can give, every way

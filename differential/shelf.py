@@ -1,5 +1,5 @@
 #!/usr/bin/env python3
-"""shelf.py --shelf target/bin/shelf [--seeds A-B] [--million]    the program `shelf` against a model of it
+"""shelf.py --shelf crates/shelf/out/shelf [--seeds A-B] [--million]    the program `shelf` against a model of it
 shelf.py --sample                                              writes crates/shelf/stdin and stdout
 
 The model is written from request [14] and docs/FORMAT.md alone: which texts are pages, which heaps are well formed, and what is printed. Inputs: every kind of page and of length line,

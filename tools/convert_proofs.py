@@ -170,6 +170,8 @@ class Convert:
         s, r = rest[0], rest[1:]
         if s in ("args", "requires", "ranges", "lifetimes", "type_inv", "well_formed", "well-formed", "utf8", "entry_args", "items_fit", "captures", "auto", "pre"):
             s = {"pre": "requires", "well-formed": "well_formed"}.get(s, s)
+            if s == "args" and r and re.match(r"t\d+$", r[0]) and fn.own["params"] and fn.own["params"][0][0] in ("self", "&self", "&mut self"):
+                r = ["self"] + r[1:]
             if s == "requires" and fn.own:
                 if fn.member:
                     if r[:1] == ["1"]:
@@ -221,7 +223,7 @@ class Convert:
         got = CLAUSES.get(callee) if callee else None
         if not got or not r:
             return r
-        if r[0] in ("new", "last", "kept", "head") and len(r) > 1 and r[1].isdigit():
+        if r[0] in ("new", "last", "kept", "head", "auto") and len(r) > 1 and r[1].isdigit():
             k = int(r[1])
             if k < len(got["muts"]):
                 return [r[0], got["muts"][k]] + r[2:]
@@ -323,7 +325,7 @@ class Convert:
                             out.append(".".join([base[2]] + b1))
                     else:
                         # a call's record, or a part of it
-                        if len(b1) == 1 and f and f[0] in ("ensures", "new", "last", "kept"):
+                        if len(b1) == 1 and f and f[0] in ("ensures", "new", "last", "kept", "auto"):
                             for q in self.fn.order:
                                 if self.fn.places[q][2][1] == b1[0]:
                                     f = self.call_fields(q, f)
@@ -572,7 +574,7 @@ def trim_uses(uses, text):
             w = n.split(" as ")[-1].strip()
             if "◌" in w:
                 bits = [b for b in w.split("◌") if b]
-                if all(b in words for b in bits):
+                if all(b in words for b in bits) or w in words:
                     keep.append(n)
             elif w in words:
                 keep.append(n)
@@ -627,6 +629,7 @@ def convert(path, fn, goals_module, cycle, said):
     cv.root = {}
     cv.imports = set()
     cv.goalplace = None
+    cv.opened = False
     inv, ans, hoisted = [], [], []
     short = os.path.dirname(path)
     for d in defs:
@@ -712,6 +715,18 @@ def convert(path, fn, goals_module, cycle, said):
                     if norm(k.split("::")[-1]) == mr.group(1) and k in CLAUSES:
                         names_ = CLAUSES[k]["requires"]
                         measured = cycle and k.split("::")[-1] in fn.e.get("members", [])
+            got = re.sub(r"(?<![\w(])(c\.in_default(?:-\d+)?\.in_default(?:-\d+)?-own\.keys\d+)", r"(opened \1)", got)
+            if re.match(r"^(let .* in )?search (?!rules$)", got, re.S):
+                lets = ""
+                for q in fn.chain(place):
+                    a = fn.e["arms"][fn.index[q]]
+                    mk = re.match(r"At-match\d*-(keys\d+)$", q)
+                    if a and mk and a[0].startswith("in_default"):
+                        lets += f"let k{mk.group(1)[4:]} = opened {args[0]}.{a[0]}.{a[0]}-own.{mk.group(1)} in "
+                if "opened" not in got:
+                    got = lets + got
+            if "opened " in got:
+                cv.opened = True
             got = as_record(got, names_, measured)
             pre = "t " if cycle else ""
             argtext = " ".join([pre + (args[0] if args else "c")] + extra)
@@ -749,6 +764,8 @@ def convert(path, fn, goals_module, cycle, said):
             continue
         # a lemma or word of its own
         ans.append((d["comments"], f"{d['mods']}{name} : {ty}\n" + "".join(u + "\n" for u in d["unfolding"]) + "\n".join(d["clauses"])))
+    if cv.opened:
+        uses = uses + ["use borrow.Enum.Refused.{opened}"]
     return head, uses, inv, ans, cv.imports
 
 

@@ -1,5 +1,5 @@
 #!/usr/bin/env python3
-"""check.py REPLAY [SEED]: holds reader.py to the built program `replay` (rt check replay; target/bin/replay).
+"""check.py REPLAY [SEED]: holds reader.py to the built program `replay` (`rt run` in crates/replay makes it: crates/replay/out/replay).
 
 1. Each sample is answered as its name says: 17-.., 1-.. and 10-.. are refused so, the others are taken.
 2. Pages, the samples and each of them with one byte changed, removed, doubled or put in, are answered alike by both (`read`, which tells the form too), and an accepted one is printed again (`page`, `page planes`) as reader.py would write it in the form of

@@ -1,5 +1,5 @@
 #!/usr/bin/env python3
-"""make.py REPLAY: writes the samples of this folder again, with the built program `replay` (rt check replay; target/bin/replay). Run it when the form of the page changes.
+"""make.py REPLAY: writes the samples of this folder again, with the built program `replay` (`rt run` in crates/replay makes it: crates/replay/out/replay). Run it when the form of the page changes.
 
 Good pages are what `replay` answers to `page` after a script of calls. Refused ones are good ones with one thing changed. Tables are written by `table` below."""
 import hashlib

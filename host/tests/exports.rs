@@ -1,4 +1,4 @@
-//! Every exported call is a public call of `yexwalu`, but those without a check, which are for `Heap` and `CheckedTable` alone. The header and `ffi` have each of them with the same parameters and answer, and the same structs; the header and `Refusal` have the same numbers and words.
+//! Every exported call is a public call of `yexwalu`, but those without a check, which are for `Heap` and `CheckedTable` alone. It calls the library's function of its name, with that function's parameters and clauses. The header and `ffi` have each of them with the same parameters and answer, and the same structs; the header and `Refusal` have the same numbers and words.
 use std::collections::BTreeMap;
 use std::fs;
 use std::path::{Path, PathBuf};
@@ -20,14 +20,15 @@ fn source_of(name: &str) -> String {
     files.iter().map(|f| fs::read_to_string(f).unwrap()).collect()
 }
 
-// What the front door has for Rattle, in one of its modules: `pub use crate::yexwalu_name as name;`.
+// What the front door has for Rattle, in one of its modules: `pub use crate::yexwalu_name as name;`, or several of a crate in braces. `write` is a macro's name in Rattle, so that call is `write_data`.
 fn public_calls() -> Vec<String> {
     let source = source_of("yexwalu");
-    let used = source.lines().filter_map(|l| l.strip_prefix("pub use ")?.strip_suffix(';')?.split_once(" as "));
+    let lists = source.split("\npub use ").skip(1).map(|u| u.split_once(';').unwrap().0);
+    let used = lists.flat_map(|list| list.split(['{', ',', '}']).filter_map(|u| u.trim().split_once(" as ")));
     let mut calls: Vec<String> = used
         .map(|(path, name)| {
             let call = path.rsplit("::").next().unwrap();
-            assert_eq!(call, format!("yexwalu_{name}"));
+            assert_eq!(call, format!("yexwalu_{}", if name == "write_data" { "write" } else { name }));
             call.into()
         })
         .collect();
@@ -35,15 +36,9 @@ fn public_calls() -> Vec<String> {
     calls
 }
 
-// The crates that the archive is made of, under the name that `host/archive` has for them: `crates` has the front door, `held` the calls without a check.
-fn exports_of(which: &str) -> String {
-    let archive = text("host/archive");
-    let names = archive.split_once(&format!("\n{which}=\"")).unwrap().1.split_once('"').unwrap().0;
-    names.split(' ').map(source_of).collect()
-}
-
+// The crate that the archive is made of: every export.
 fn exports() -> String {
-    exports_of("crates")
+    source_of("yexwalu_c")
 }
 
 fn ffi() -> String {
@@ -72,14 +67,20 @@ fn c_type(ty: &str) -> &str {
 // Each function, its answer and then its parameters, by their types as C has them.
 type Signatures = BTreeMap<String, Vec<String>>;
 
+// Of the exports of the front door.
 fn exported() -> Signatures {
-    exported_in(&exports())
+    all_exported().into_iter().filter(|(name, _)| !name.starts_with("yexwalu_held_")).collect()
 }
 
-// Of the exports: a slice is a pointer and a length, an array a pointer alone.
-fn exported_in(source: &str) -> Signatures {
+// Of those without a check.
+fn exported_held() -> Signatures {
+    all_exported().into_iter().filter(|(name, _)| name.starts_with("yexwalu_held_")).collect()
+}
+
+// Of all exports: a slice is a pointer and a length, an array a pointer alone.
+fn all_exported() -> Signatures {
     let mut all = Signatures::new();
-    for function in source.split("pub extern \"C\" fn ").skip(1) {
+    for function in exports().split("pub extern \"C\" fn ").skip(1) {
         let (name, rest) = function.split_once('(').unwrap();
         let (parameters, rest) = rest.split_once(") -> ").unwrap();
         let mut types = vec![c_type(rest.split_whitespace().next().unwrap()).to_string()];
@@ -178,6 +179,20 @@ fn every_public_call_is_exported() {
     assert_eq!(exported().into_keys().collect::<Vec<_>>(), public_calls());
 }
 
+// An export says what the library's function says, word for word, and calls it.
+#[test]
+fn exports_have_the_clauses_of_the_library() {
+    let mut libraries = BTreeMap::new();
+    for export in exports().split("pub extern \"C\" fn ").skip(1) {
+        let (head, body) = export.split_once("\n{\n").unwrap();
+        let name = head.split_once('(').unwrap().0;
+        let (path, _) = body.trim_start().split_once(&format!("::{name}(")).unwrap();
+        let library = path.split("::").next().unwrap().to_string();
+        let source = libraries.entry(library.clone()).or_insert_with(|| source_of(&library));
+        assert!(source.contains(&format!("\npub fn {head}\n{{\n")), "{name} is not what it is in {library}");
+    }
+}
+
 #[test]
 fn the_header_has_the_exported_calls() {
     let (exported, header) = (exported(), in_header());
@@ -206,9 +221,7 @@ fn ffi_has_the_exported_calls() {
 // C gets none of them, and no module but `heap` and `checked` names one.
 #[test]
 fn the_calls_without_a_check_are_for_rust_alone() {
-    let held = exported_in(&exports_of("held"));
-    same_calls(&in_held(), &held);
-    assert!(held.keys().all(|name| name.starts_with("yexwalu_held_")));
+    same_calls(&in_held(), &exported_held());
     assert!(!header().contains("yexwalu_held_") && !ffi().contains("yexwalu_held_"));
     for file in fs::read_dir(top().join("host/src")).unwrap().map(|f| f.unwrap().path()).filter(|f| f.is_file()) {
         let name = file.file_name().unwrap().to_str().unwrap();
@@ -236,7 +249,7 @@ fn structs(source: &str) -> Structs {
 
 #[test]
 fn structs_are_the_same_everywhere() {
-    let exported = structs(&(text("crates/heap/src/lib.rt") + &text("crates/refusal/src/lib.rt") + &text("crates/door/src/lib.rt") + &text("crates/table_reader/src/lib.rt") + &exports()));
+    let exported = structs(&(text("crates/heap/src/lib.rt") + &text("crates/refusal/src/lib.rt") + &text("crates/door/src/lib.rt") + &text("crates/table_reader/src/lib.rt") + &text("crates/yexwalu/src/types.rt")));
     assert_eq!(exported.len(), 5);
     assert_eq!(structs(&ffi()), exported);
     let mut header_has = Structs::new();

@@ -8,7 +8,7 @@ use native.Mathlib.Decide.{dec_lt}
 use lib.ListN.{length, get_or, drop, drop_of_length-le}
 use lib.Dec.{leb, ltb, eqb}
 use borrow.Author.Tests.{le-leb, lt-leb, leb-true, eq-eqb, ne_eqb}
-use Rattle.word.specs.Choice.{if◌then◌else◌}
+use Rattle.std.specs.Prelude.{if◌then◌else◌}
 use Rattle.word.proofs.Bools.{and_both}
 use Rattle.heap_calls.specs.Pins.{rising_from, rising}
 use Rattle.heap_calls.specs.Inner.Recycled.{Half}

@@ -8,7 +8,7 @@ use mathlib.Core.List.{List, [], ◌∷◌, ◌++◌, append_assoc, append-nil}
 use lib.ListN.{length}
 use lib.Dec.{ltb}
 use native.Mathlib.Omega.{arith}
-use Rattle.word.specs.Choice.{if◌then◌else◌}
+use Rattle.std.specs.Prelude.{if◌then◌else◌}
 use Rattle.reach.specs.Reach.{◌∈◌}
 use Rattle.alike.specs.Same.{Object, Model, Traceable, Counted, OneTable, Slots}
 use Rattle.alike.specs.Order.{met, resolves, worth, places_code, object_code, objects_code, encoding, Order, Order.less, Order.equal, Order.greater, order, heap_order}

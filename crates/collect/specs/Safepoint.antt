@@ -1,7 +1,6 @@
 -- The joined collection at an instruction of a lent function (01, "Frame map and joined collection" and number 16 of "What the host is told").
-use Rattle.std.specs.Prelude.{◌≡◌, Bool, true, false, List, ℕ, ◌+◌, ◌-◌, ◌*◌, ◌/◌, ◌≤◌, length, take, drop, replicate}
+use Rattle.std.specs.Prelude.{◌≡◌, Bool, true, false, List, ℕ, ◌+◌, ◌-◌, ◌*◌, ◌/◌, ◌≤◌, length, take, drop, replicate, if◌then◌else◌}
 use Rattle.std.proofs.Math.Option.{Option}
-use Rattle.word.specs.Choice.{if◌then◌else◌}
 use Rattle.word.specs.Ones.{passing}
 use Rattle.rows.specs.Row.{bit_in}
 use Rattle.ty.specs.Types.{Table}

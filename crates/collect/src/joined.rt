@@ -108,7 +108,7 @@ fn root_row(
     requires classes_value { right (record { kinds = kinds.now; ends = ends.now; refs = refs.now; blocks = blocks.now; classes = classes.now }) ≡ true }
     requires classes_in_bounds { need (record { kinds = kinds.now; ends = ends.now; refs = refs.now; blocks = blocks.now; classes = classes.now }) ≤ length rows.old }
     ensures { RootRow
-        (record { kinds = kinds.entry.now; ends = ends.now; refs = refs.now; blocks = blocks.now; classes = classes.now })
+        (record { kinds = kinds.now; ends = ends.now; refs = refs.now; blocks = blocks.now; classes = classes.now })
         pc rows.old rows.new result }
 {
     let words = (classes.len() + 63) / 64;
@@ -168,7 +168,7 @@ pub fn collect_at(
         (lent heap narrow.old wide.old pool.old)
         (lent result.heap narrow.new wide.new pool.new) result.reply
         (at_safepoint (table_of types.now fields.now consts.now bytes.now)
-        (function (record { kinds = kinds.entry.now; ends = ends.now; refs = refs.now; blocks = blocks.now; classes = classes.now }))
+        (function (record { kinds = kinds.now; ends = ends.now; refs = refs.now; blocks = blocks.now; classes = classes.now }))
         pc values.now
         (frame_handles (table_of types.now fields.now consts.now bytes.now) map.now memory.now)
         (record {

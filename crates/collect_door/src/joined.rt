@@ -68,7 +68,7 @@ fn admit_inputs(
     addresses: &[u64],
 ) -> Entry
     ensures { result ≡ admitted (input_tests types.now fields.now consts.now bytes.now
-        (record { kinds = kinds.entry.now; ends = ends.now; refs = refs.now; blocks = blocks.now; classes = classes.now })
+        (record { kinds = kinds.now; ends = ends.now; refs = refs.now; blocks = blocks.now; classes = classes.now })
         values.now pins.now addresses.now) }
 {
     if !ty::check_table(types, fields, consts, bytes) {
@@ -115,7 +115,7 @@ fn admit_joined(
         (row_tests ((3 * (length blocks.now / 2) + 2) * ((length classes.now + 63) / 64))
         marks.old work.old rows.old (lent heap narrow.now wide.now pool.now)
         ++ input_tests types.now fields.now consts.now bytes.now
-        (record { kinds = kinds.entry.now; ends = ends.now; refs = refs.now; blocks = blocks.now; classes = classes.now })
+        (record { kinds = kinds.now; ends = ends.now; refs = refs.now; blocks = blocks.now; classes = classes.now })
         values.now pins.now addresses.now)
         result (marks.new ∷ work.new ∷ rows.new ∷ []) }
 {
@@ -131,8 +131,7 @@ fn admit_joined(
 // An object outlives the collection exactly if a chain leads to it from the pins, the seals, the handles of the frame or the values of the registers of class 4
 // that are live at the safepoint pc. `addresses` are pairs of an address and a slot index, addresses strictly rising: an address that the frame has, or a register of
 // class 2 that is live there, pins the slot that it is listed with.
-#[unsafe(no_mangle)]
-pub extern "C" fn yexwalu_collect_joined(
+pub fn yexwalu_collect_joined(
     types: &[u64],
     fields: &[u32],
     consts: &[u64],
@@ -159,11 +158,11 @@ pub extern "C" fn yexwalu_collect_joined(
     ensures rows_after { outcome_of result.answer (lent result.heap narrow.new wide.new pool.new)
         (marks.new ∷ work.new ∷ rows.new ∷ [])
         ≡ joined_call (record {
-          types = types.entry.now;
+          types = types.now;
           fields = fields.now;
           consts = consts.now;
           bytes = bytes.now;
-          code = record { kinds = kinds.entry.now; ends = ends.now; refs = refs.now; blocks = blocks.now; classes = classes.now };
+          code = record { kinds = kinds.now; ends = ends.now; refs = refs.now; blocks = blocks.now; classes = classes.now };
           pc = pc;
           values = values.now;
           map = map.now;
@@ -173,11 +172,11 @@ pub extern "C" fn yexwalu_collect_joined(
         })
         marks.old work.old rows.old (lent heap narrow.old wide.old pool.old) }
     ensures demand { Demand (record {
-      types = types.entry.now;
+      types = types.now;
       fields = fields.now;
       consts = consts.now;
       bytes = bytes.now;
-      code = record { kinds = kinds.entry.now; ends = ends.now; refs = refs.now; blocks = blocks.now; classes = classes.now };
+      code = record { kinds = kinds.now; ends = ends.now; refs = refs.now; blocks = blocks.now; classes = classes.now };
       pc = pc;
       values = values.now;
       map = map.now;

@@ -48,8 +48,7 @@ fn admit(
 }
 
 // Drops the objects to which no chain leads from a root, a seal or a pin. Where a reached object can't be traced nothing changes.
-#[unsafe(no_mangle)]
-pub extern "C" fn yexwalu_collect(
+pub fn yexwalu_collect(
     types: &[u64],
     fields: &[u32],
     consts: &[u64],
@@ -65,10 +64,10 @@ pub extern "C" fn yexwalu_collect(
 ) -> Done
     ensures work_after { outcome result.answer (lent result.heap narrow.new wide.new pool.new) marks.new work.new
         ≡ collect_call
-        (record { types = types.entry.now; fields = fields.now; consts = consts.now; bytes = bytes.now; roots = roots.now; pins = pins.now })
+        (record { types = types.now; fields = fields.now; consts = consts.now; bytes = bytes.now; roots = roots.now; pins = pins.now })
         marks.old work.old (lent heap narrow.old wide.old pool.old) }
     ensures rightly_collected { RightlyCollected
-        (record { types = types.entry.now; fields = fields.now; consts = consts.now; bytes = bytes.now; roots = roots.now; pins = pins.now })
+        (record { types = types.now; fields = fields.now; consts = consts.now; bytes = bytes.now; roots = roots.now; pins = pins.now })
         marks.old work.old (lent heap narrow.old wide.old pool.old)
         (outcome result.answer (lent result.heap narrow.new wide.new pool.new) marks.new work.new) }
 {

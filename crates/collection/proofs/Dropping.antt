@@ -9,7 +9,7 @@ use lib.ListN.{length, get_or, take, set, length-set, get_or-eq_default}
 use lib.Seq.{take-suc, take_all, length-take-le}
 use lib.Dec.{eqb, ltb}
 use borrow.Author.Tests.{eq-eqb, ne_eqb, lt-ltb, ltb-true}
-use Rattle.word.specs.Choice.{if◌then◌else◌}
+use Rattle.std.specs.Prelude.{if◌then◌else◌}
 use Rattle.word.proofs.Bools.{and_both}
 use Rattle.heap.specs.State.{Slot, State, no_slot, slot_at, live}
 use Rattle.heap.specs.Calls.{changed, released, take_slot}
@@ -88,7 +88,7 @@ after-ind marks h Q first stays gone zero le = first
 after-ind marks h Q first stays gone (suc n) le =
     let q : Q n (after marks h n) = after-ind marks h Q first stays gone n (omega arith) in
     let one : (b : Bool) → goes marks n (slot_at h n) ≡ b → Q (suc n) (if b then drop_slot (after marks h n) n else after marks h n) =
-    λ b. elim b [ true ↦ λ e. gone n le q e | false ↦ λ e. stays n le q e ] in
+    λ b. elim b as (λ (k : Bool). goes marks n (slot_at h n) ≡ k → Q (suc n) (if k then drop_slot (after marks h n) n else after marks h n)) [ true ↦ λ e. gone n le q e | false ↦ λ e. stays n le q e ] in
     subst (Q (suc n)) (sym (after_next marks h n le)) (one (goes marks n (slot_at h n)) refl)
 
 -- ---- what a slot becomes

@@ -9,7 +9,7 @@ use native.Mathlib.Decide.{ℕ_discrete}
 use lib.ListN.{length}
 use lib.Dec.{eqb, ltb}
 use borrow.Author.Tests.{eq-eqb, ne_eqb, lt-ltb, ltb-true}
-use Rattle.word.specs.Choice.{if◌then◌else◌}
+use Rattle.std.specs.Prelude.{if◌then◌else◌}
 use Rattle.word.proofs.Bools.{bool-ext}
 use Rattle.word.specs.Lists.{filter}
 use Rattle.heap.specs.State.{State, bit, times, with_quarantine, with_reclaim}

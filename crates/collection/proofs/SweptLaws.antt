@@ -10,7 +10,7 @@ use lib.ListN.{length, get_or, take, replicate, length-set}
 use lib.Seq.{get_or-set_same, take_all}
 use lib.Dec.{eqb}
 use borrow.Author.Tests.{eq-eqb, ne_eqb}
-use Rattle.word.specs.Choice.{if◌then◌else◌}
+use Rattle.std.specs.Prelude.{if◌then◌else◌}
 use Rattle.word.specs.Result.{ok}
 use Rattle.word.specs.Lists.{filter}
 use Rattle.handle.specs.Handle.{indexOf, resolve_by}

@@ -9,7 +9,7 @@ use native.Mathlib.Omega.{arith}
 use lib.ListN.{length, get_or, get_or-map}
 use lib.Dec.{eqb, ltb}
 use borrow.Author.Tests.{ne_eqb, ltb-true, lt-ltb}
-use Rattle.word.specs.Choice.{if◌then◌else◌}
+use Rattle.std.specs.Prelude.{if◌then◌else◌}
 use Rattle.word.specs.Result.{Result, ok, refused}
 use Rattle.word.specs.Lists.{filter}
 use Rattle.ty.specs.Types.{Table}

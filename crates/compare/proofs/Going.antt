@@ -7,7 +7,7 @@ use lib.ListN.{length, get_or, drop, length-drop}
 use lib.Dec.{eqb, ltb}
 use borrow.Author.Tests.{eq-eqb, ne_eqb, lt-ltb, le-ltb}
 use native.Mathlib.Omega.{arith}
-use Rattle.word.specs.Choice.{if◌then◌else◌}
+use Rattle.std.specs.Prelude.{if◌then◌else◌}
 use Rattle.word.proofs.ListLaws.{drop-cons-one}
 use Rattle.alike.specs.Order.{Order, Order.less, Order.equal, Order.greater}
 use Rattle.alike.specs.Inner.ByTurns.{numbers, ◌and_then◌}

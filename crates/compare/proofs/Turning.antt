@@ -11,7 +11,7 @@ use borrow.Author.Tests.{eqb-true}
 use native.Mathlib.Numerals.{add-one}
 use native.Mathlib.Decide.{ℕ_discrete}
 use native.Mathlib.Omega.{arith}
-use Rattle.word.specs.Choice.{if◌then◌else◌}
+use Rattle.std.specs.Prelude.{if◌then◌else◌}
 use Rattle.reach.specs.Reach.{◌∈◌}
 use Rattle.reach.proofs.Grown.{∈-getD}
 use Rattle.alike.specs.Order.{has, turn}

@@ -2,8 +2,7 @@
 // 2 greater. What belongs to the second heap has a name that begins with o, for the other.
 #![tactic(auto)]
 
-ghost use Rattle.std.specs.Prelude.{◌≡◌, ◌≤◌, length, eqb};
-ghost use Rattle.word.specs.Choice.{if◌then◌else◌};
+ghost use Rattle.std.specs.Prelude.{◌≡◌, ◌≤◌, length, eqb, if◌then◌else◌};
 ghost use Rattle.alike.specs.Inner.ByTurns.{numbers, ◌and_then◌};
 ghost use Rattle.beside.specs.Inner.Codes.{code};
 ghost use Rattle.beside.specs.Inner.Ranks.{resolve_in, Runs, place_in};

@@ -8,11 +8,11 @@ use lib.Seq.{take_all}
 use lib.Dec.{eqb}
 use native.Mathlib.Decide.{dec_lt}
 use native.Mathlib.Omega.{arith}
-use Rattle.word.specs.Choice.{if◌then◌else◌}
+use Rattle.std.specs.Prelude.{if◌then◌else◌}
 use Rattle.word.specs.Result.{Result}
 use Rattle.ty.specs.Types.{Table}
 use Rattle.trace.specs.Places.{Places, shown_places}
-use Rattle.trace.specs.Emit.{Raw, raw_of, resolve_in, aim, emitting_at, told}
+use Rattle.trace.specs.Emit.{Raw, raw_of, resolve_in, aim, handing_at, told}
 use Rattle.trace.specs.declared.Goal.TheVariants.{Beside as Goal-as-Beside}
 use Rattle.trace.specs.declared.Answer.{Answer}
 use Rattle.trace.specs.declared.Answer.TheVariants.{Traced, Untraceable}
@@ -74,7 +74,7 @@ module _ (s f : ℕ) (b : List ℕ) (e : f ≡ min s (length b)) where
 -- ---- what one trace found
 
 module _ (T : Table) (kind t start : ℕ) (b c work : List ℕ) (otag oslots os : ℕ) (R : ℕ → Result ℕ) (onarrow owork : List ℕ) (r : Answer) (found work' : List ℕ)
-    (er : told r found work' ≡ emitting_at (aim (Goal-as-Beside otag oslots os) R onarrow (drop start c) owork) (drop start b) (raw_of (0 ∷ 0 ∷ []) work 0) (shown_places T kind t start b))
+    (er : told r found work' ≡ handing_at (aim (Goal-as-Beside otag oslots os) R onarrow (drop start c) owork) (drop start b) (raw_of (0 ∷ 0 ∷ []) work 0) (shown_places T kind t start b))
     (can : shown_places T kind t start b ≡ none → ⊥) where
   abbrev place : ℕ → ℕ → Order
   place = place_in R work (resolve_in otag oslots os onarrow) owork

@@ -8,7 +8,7 @@ use native.Mathlib.Numerals.{add-one}
 use lib.Dec.{ltb}
 use lib.ListN.{length, get_or, take, drop, length-append, length-map, get_or-map, drop_of_length-le}
 use lib.Seq.{drop-cons, take_all}
-use Rattle.word.specs.Choice.{if◌then◌else◌}
+use Rattle.std.specs.Prelude.{if◌then◌else◌}
 use Rattle.word.proofs.RunLaws.{run-get}
 use Rattle.heap.specs.State.{Slot, no_slot, live, data_of}
 use Rattle.heap.specs.Packing.{flat}

@@ -1,8 +1,7 @@
 // Figures of a page: how many objects it has, the bytes of their data and the largest of them; and the line that is printed of it.
 #![tactic(auto)]
 
-ghost use Rattle.std.specs.Prelude.{◌≡◌, [], ◌∷◌, ◌++◌, ◌+◌, ◌^◌, ◌≤◌, ◌<◌, max, ltb, length, take};
-ghost use Rattle.word.specs.Choice.{if◌then◌else◌};
+ghost use Rattle.std.specs.Prelude.{◌≡◌, [], ◌∷◌, ◌++◌, ◌+◌, ◌^◌, ◌≤◌, ◌<◌, max, ltb, length, take, if◌then◌else◌};
 ghost use Rattle.word.specs.Result.{refused};
 ghost use Rattle.text.specs.Text.{decimal};
 ghost use Rattle.text.specs.Put.{Puts};

@@ -7,7 +7,7 @@ use Prim.Native.Nat.{ℕ, zero, suc, ◌+◌, ◌-◌, ◌≤◌, ◌<◌}
 use native.Mathlib.Omega.{arith}
 use native.Mathlib.Decide.{ℕ_discrete}
 use lib.ListN.{length}
-use Rattle.word.specs.Choice.{if◌then◌else◌}
+use Rattle.std.specs.Prelude.{if◌then◌else◌}
 use Rattle.flow.specs.Function.{Function, start, end, Live}
 use Rattle.flow.specs.Dataflow.{into, Closed, Sound, pass_of, still, passes, live_in, live_before}
 use Rattle.word.proofs.Bools.{or_cases, or_left, or_right, and_both, either, bool-ext}

@@ -6,7 +6,7 @@ use mathlib.Core.List.{List, [], ◌∷◌}
 use Prim.Native.Nat.{ℕ, zero, suc, ◌-◌}
 use lib.ListN.{length, get_or}
 use lib.Dec.{ltb}
-use Rattle.word.specs.Choice.{if◌then◌else◌}
+use Rattle.std.specs.Prelude.{if◌then◌else◌}
 use Rattle.flow.specs.Function.{Function, Instruction, has, reads, writes, inst, start, end, exits, successors, Next, Walk, ReadFirst, Live}
 use Rattle.flow.specs.Dataflow.{asked, only, only_all, track}
 use Rattle.word.proofs.Bools.{and_both, both-and}

@@ -9,7 +9,7 @@ use native.Mathlib.Decide.{dec_lt}
 use lib.ListN.{length, get_or}
 use lib.Dec.{leb, ltb, eqb}
 use borrow.Author.Tests.{not-true, ltb-true, leb-true, lt-ltb, le-ltb, le-leb}
-use Rattle.word.specs.Choice.{if◌then◌else◌}
+use Rattle.std.specs.Prelude.{if◌then◌else◌}
 use Rattle.word.specs.Lists.{all}
 use Rattle.word.specs.Ones.{passing}
 use Rattle.flow.specs.Function.{Function, Block, has, some, inst, block, start, end, holds, safepoint, share, apart, inside, valid, Live, LiveList}

@@ -1,7 +1,6 @@
 -- A function's code, where control goes, walks, and what it is for a register to be live (01, "Live map", and numbers 15 and 16 of "What the
 -- host is told"). No bit row and no dataflow is named here.
-use Rattle.std.specs.Prelude.{◌≡◌, ◌⊎◌, ◌↔◌, Bool, true, false, not, ◌&&◌, ◌||◌, List, [], ◌∷◌, ℕ, suc, ◌+◌, ◌-◌, ◌≤◌, ◌<◌, min, max, length, get_or, leb, ltb, eqb}
-use Rattle.word.specs.Choice.{if◌then◌else◌}
+use Rattle.std.specs.Prelude.{◌≡◌, ◌⊎◌, ◌↔◌, Bool, true, false, not, ◌&&◌, ◌||◌, List, [], ◌∷◌, ℕ, suc, ◌+◌, ◌-◌, ◌≤◌, ◌<◌, min, max, length, get_or, leb, ltb, eqb, if◌then◌else◌}
 use Rattle.word.specs.Lists.{all, filter}
 use Rattle.word.specs.Ones.{passing}
 

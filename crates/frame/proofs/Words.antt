@@ -8,7 +8,7 @@ use lib.ListN.{length, drop}
 use lib.Dec.{leb, eqb}
 use borrow.Author.Tests.{eqb-true, eq-eqb}
 use native.Mathlib.Omega.{arith}
-use Rattle.word.specs.Choice.{if◌then◌else◌}
+use Rattle.std.specs.Prelude.{if◌then◌else◌}
 use Rattle.ty.specs.Types.{Table}
 use Rattle.trace.specs.Places.{both, value_handles}
 use Rattle.frame.specs.Frame.{Entry, entry, entries_of, first_word, entry_roots, entries_roots, frame_roots, listed, addresses_in, entry_words, entries_words}

@@ -1,7 +1,6 @@
 -- The handles and the addresses of a frame's memory by its map (01, "Frame map and joined collection"; slot_roots of heap.rs).
-use Rattle.std.specs.Prelude.{ℕ, ◌%◌, List, [], ◌∷◌, ◌++◌, length, drop, leb, eqb}
+use Rattle.std.specs.Prelude.{ℕ, ◌%◌, List, [], ◌∷◌, ◌++◌, length, drop, leb, eqb, if◌then◌else◌}
 use Rattle.std.proofs.Math.Option.{Option, none, some}
-use Rattle.word.specs.Choice.{if◌then◌else◌}
 use Rattle.ty.specs.Types.{Table}
 use Rattle.trace.specs.Places.{both, handle_at, value_handles}
 

@@ -1,7 +1,6 @@
 -- What a call that lists a frame's handles and addresses answers and writes: 13 before 7, and after a refusal both lists are as they were.
-use Rattle.std.specs.Prelude.{ℕ, ◌≡◌, List, length, leb}
+use Rattle.std.specs.Prelude.{ℕ, ◌≡◌, List, length, leb, if◌then◌else◌}
 use Rattle.std.proofs.Math.Option.{Option, none, some}
-use Rattle.word.specs.Choice.{if◌then◌else◌}
 use Rattle.word.specs.Put.{put}
 use Rattle.word.specs.Result.{Result, ok, refused}
 use Rattle.refusal.specs.declared.Reply.{Reply}

@@ -19,8 +19,7 @@ use refusal::{Answer, Reply};
 // ---- questions
 
 // Is a collection due: more since the last one than the threshold, and than what outlived it? First: 1 for yes, 0 for no.
-#[unsafe(no_mangle)]
-pub extern "C" fn yexwalu_gc_due(
+pub fn yexwalu_gc_due(
     heap: Heap,
     narrow: &[u32],
     wide: &[u64],
@@ -40,8 +39,7 @@ pub extern "C" fn yexwalu_gc_due(
 }
 
 // Are there so many slots in quarantine that they should be recycled? First: 1 for yes, 0 for no.
-#[unsafe(no_mangle)]
-pub extern "C" fn yexwalu_reclaim_due(
+pub fn yexwalu_reclaim_due(
     heap: Heap,
     narrow: &[u32],
     wide: &[u64],
@@ -60,8 +58,7 @@ pub extern "C" fn yexwalu_reclaim_due(
 }
 
 // Is a slot in quarantine? First: 1 for yes, 0 for no.
-#[unsafe(no_mangle)]
-pub extern "C" fn yexwalu_has_quarantine(
+pub fn yexwalu_has_quarantine(
     heap: Heap,
     narrow: &[u32],
     wide: &[u64],
@@ -80,8 +77,7 @@ pub extern "C" fn yexwalu_has_quarantine(
 }
 
 // Is it the heap of this tag, with nothing sealed? First: 1 for yes, 0 for no.
-#[unsafe(no_mangle)]
-pub extern "C" fn yexwalu_is_plain(
+pub fn yexwalu_is_plain(
     heap: Heap,
     narrow: &[u32],
     wide: &[u64],
@@ -101,8 +97,7 @@ pub extern "C" fn yexwalu_is_plain(
 }
 
 // First: the number of slots, live and dead.
-#[unsafe(no_mangle)]
-pub extern "C" fn yexwalu_slots(
+pub fn yexwalu_slots(
     heap: Heap,
     narrow: &[u32],
     wide: &[u64],
@@ -121,8 +116,7 @@ pub extern "C" fn yexwalu_slots(
 }
 
 // First: the number of live slots.
-#[unsafe(no_mangle)]
-pub extern "C" fn yexwalu_live(
+pub fn yexwalu_live(
     heap: Heap,
     narrow: &[u32],
     wide: &[u64],
@@ -141,8 +135,7 @@ pub extern "C" fn yexwalu_live(
 }
 
 // First: the slot that a handle leads to.
-#[unsafe(no_mangle)]
-pub extern "C" fn yexwalu_resolve(
+pub fn yexwalu_resolve(
     heap: Heap,
     narrow: &[u32],
     wide: &[u64],
@@ -162,8 +155,7 @@ pub extern "C" fn yexwalu_resolve(
 }
 
 // Where the visible data of slot `i` lies. First: from where in the pool on; second: how many bytes.
-#[unsafe(no_mangle)]
-pub extern "C" fn yexwalu_data(
+pub fn yexwalu_data(
     heap: Heap,
     narrow: &[u32],
     wide: &[u64],
@@ -183,8 +175,7 @@ pub extern "C" fn yexwalu_data(
 }
 
 // First: the kind of slot `i`; second: its type.
-#[unsafe(no_mangle)]
-pub extern "C" fn yexwalu_kind(
+pub fn yexwalu_kind(
     heap: Heap,
     narrow: &[u32],
     wide: &[u64],
@@ -204,8 +195,7 @@ pub extern "C" fn yexwalu_kind(
 }
 
 // First: the generation of slot `i`; second: its write count.
-#[unsafe(no_mangle)]
-pub extern "C" fn yexwalu_stamp(
+pub fn yexwalu_stamp(
     heap: Heap,
     narrow: &[u32],
     wide: &[u64],
@@ -227,8 +217,7 @@ pub extern "C" fn yexwalu_stamp(
 // ---- changes in place
 
 // New bytes and a new start for the object that a handle leads to. First: its slot.
-#[unsafe(no_mangle)]
-pub extern "C" fn yexwalu_edit(
+pub fn yexwalu_edit(
     heap: Heap,
     narrow: &mut [u32],
     wide: &mut [u64],
@@ -261,8 +250,7 @@ pub extern "C" fn yexwalu_edit(
 }
 
 // Bytes put over the visible data of slot `i`, from the offset `at` in it. The header stays as it is.
-#[unsafe(no_mangle)]
-pub extern "C" fn yexwalu_write(
+pub fn yexwalu_write(
     heap: Heap,
     narrow: &[u32],
     wide: &mut [u64],
@@ -284,8 +272,7 @@ pub extern "C" fn yexwalu_write(
 }
 
 // A new handle for slot `i`, also for a dead one, which its handle then does not lead to. First: the handle.
-#[unsafe(no_mangle)]
-pub extern "C" fn yexwalu_reissue(
+pub fn yexwalu_reissue(
     heap: Heap,
     narrow: &mut [u32],
     wide: &mut [u64],
@@ -317,8 +304,7 @@ pub extern "C" fn yexwalu_reissue(
 }
 
 // The seals become the handles of all live slots.
-#[unsafe(no_mangle)]
-pub extern "C" fn yexwalu_seal(
+pub fn yexwalu_seal(
     heap: Heap,
     narrow: &[u32],
     wide: &mut [u64],

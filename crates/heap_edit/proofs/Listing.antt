@@ -2,7 +2,7 @@
 use Rattle.std.proofs.Common.{◌≡◌, ℕ, suc, ◌+◌, ◌-◌, ◌/◌, ◌<◌, ◌≤◌, Bool, true, false, List, [], ◌∷◌, ◌++◌, length, get_or, take, drop, set, replicate, sym, refl, ap, ◌∙◌, subst, append-nil, zero-add, add-one, arith, length-append, length-drop, drop_of_length-le, take_all, drop-cons, take_at}
 use native.Mathlib.Decide.{ℕ_discrete}
 use lib.ListN.{length-replicate}
-use Rattle.word.specs.Choice.{if◌then◌else◌}
+use Rattle.std.specs.Prelude.{if◌then◌else◌}
 use Rattle.word.specs.Put.{put}
 use Rattle.word.proofs.PutLaws.{Filling, fill_start, fill-next}
 use Rattle.handle.specs.Handle.{packed}

@@ -110,8 +110,7 @@ fn recycle(heap: Heap, narrow: &mut [u32], wide: &[u64], pool: &[u8], pins: &[u3
 }
 
 // Places the object `bytes[start..]` of this kind and type. First: its handle.
-#[unsafe(no_mangle)]
-pub extern "C" fn yexwalu_held_alloc_from(
+pub fn yexwalu_held_alloc_from(
     tag: &mut [u8; 1],
     numbers: &mut [u64; 4],
     log: &mut [u32; 16],
@@ -139,8 +138,7 @@ pub extern "C" fn yexwalu_held_alloc_from(
 }
 
 // Hands out the whole data of the object that the handle names; its slot goes into quarantine. First: its length; second: its start.
-#[unsafe(no_mangle)]
-pub extern "C" fn yexwalu_held_take(
+pub fn yexwalu_held_take(
     tag: &mut [u8; 1],
     numbers: &mut [u64; 4],
     log: &mut [u32; 16],
@@ -168,8 +166,7 @@ pub extern "C" fn yexwalu_held_take(
 }
 
 // Pinned slots stay in quarantine, in order; the others join the free list, or the retired list where they are worn out.
-#[unsafe(no_mangle)]
-pub extern "C" fn yexwalu_held_recycle(
+pub fn yexwalu_held_recycle(
     tag: &mut [u8; 1],
     numbers: &mut [u64; 4],
     log: &mut [u32; 16],

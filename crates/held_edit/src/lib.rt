@@ -15,8 +15,7 @@ ghost use Rattle.held.specs.Held.{in_place, Held};
 use refusal::{Answer, Reply};
 
 // Takes out the object that the handle names, as `yexwalu_held_take` does, without handing it out.
-#[unsafe(no_mangle)]
-pub extern "C" fn yexwalu_held_free(
+pub fn yexwalu_held_free(
     tag: &mut [u8; 1],
     numbers: &mut [u64; 4],
     log: &mut [u32; 16],
@@ -41,8 +40,7 @@ pub extern "C" fn yexwalu_held_free(
 }
 
 // New bytes and a new start for the object that the handle leads to. First: its slot.
-#[unsafe(no_mangle)]
-pub extern "C" fn yexwalu_held_edit(
+pub fn yexwalu_held_edit(
     tag: &mut [u8; 1],
     numbers: &mut [u64; 4],
     log: &mut [u32; 16],
@@ -69,8 +67,7 @@ pub extern "C" fn yexwalu_held_edit(
 }
 
 // A new handle for the live slot `i`. First: the handle.
-#[unsafe(no_mangle)]
-pub extern "C" fn yexwalu_held_reissue(
+pub fn yexwalu_held_reissue(
     tag: &mut [u8; 1],
     numbers: &mut [u64; 4],
     log: &mut [u32; 16],
@@ -96,8 +93,7 @@ pub extern "C" fn yexwalu_held_reissue(
 }
 
 // The seals become the handles of all live slots.
-#[unsafe(no_mangle)]
-pub extern "C" fn yexwalu_held_seal(
+pub fn yexwalu_held_seal(
     tag: &mut [u8; 1],
     numbers: &mut [u64; 4],
     log: &mut [u32; 16],
@@ -119,8 +115,7 @@ pub extern "C" fn yexwalu_held_seal(
 }
 
 // Bytes put over the visible data of slot `i`, from the offset `at` in it. The header stays as it is.
-#[unsafe(no_mangle)]
-pub extern "C" fn yexwalu_held_write(
+pub fn yexwalu_held_write(
     tag: &[u8; 1],
     numbers: &[u64; 4],
     log: &[u32; 16],
@@ -143,8 +138,7 @@ pub extern "C" fn yexwalu_held_write(
 }
 
 // First: the slot that a handle leads to.
-#[unsafe(no_mangle)]
-pub extern "C" fn yexwalu_held_resolve(
+pub fn yexwalu_held_resolve(
     tag: &[u8; 1],
     numbers: &[u64; 4],
     log: &[u32; 16],
@@ -163,8 +157,7 @@ pub extern "C" fn yexwalu_held_resolve(
 }
 
 // Where the visible data of slot `i` lies. First: from where in the pool on; second: how many bytes.
-#[unsafe(no_mangle)]
-pub extern "C" fn yexwalu_held_data(
+pub fn yexwalu_held_data(
     tag: &[u8; 1],
     numbers: &[u64; 4],
     log: &[u32; 16],
@@ -183,8 +176,7 @@ pub extern "C" fn yexwalu_held_data(
 }
 
 // First: the kind of slot `i`; second: its type.
-#[unsafe(no_mangle)]
-pub extern "C" fn yexwalu_held_kind(
+pub fn yexwalu_held_kind(
     tag: &[u8; 1],
     numbers: &[u64; 4],
     log: &[u32; 16],
@@ -203,8 +195,7 @@ pub extern "C" fn yexwalu_held_kind(
 }
 
 // First: the generation of slot `i`; second: its write count.
-#[unsafe(no_mangle)]
-pub extern "C" fn yexwalu_held_stamp(
+pub fn yexwalu_held_stamp(
     tag: &[u8; 1],
     numbers: &[u64; 4],
     log: &[u32; 16],
@@ -223,8 +214,7 @@ pub extern "C" fn yexwalu_held_stamp(
 }
 
 // First: the number of live slots.
-#[unsafe(no_mangle)]
-pub extern "C" fn yexwalu_held_live(
+pub fn yexwalu_held_live(
     tag: &[u8; 1],
     numbers: &[u64; 4],
     log: &[u32; 16],
@@ -242,8 +232,7 @@ pub extern "C" fn yexwalu_held_live(
 }
 
 // First: the number of slots, live and dead.
-#[unsafe(no_mangle)]
-pub extern "C" fn yexwalu_held_slots(
+pub fn yexwalu_held_slots(
     tag: &[u8; 1],
     numbers: &[u64; 4],
     log: &[u32; 16],
@@ -261,8 +250,7 @@ pub extern "C" fn yexwalu_held_slots(
 }
 
 // Is a collection due? First: 1 for yes, 0 for no.
-#[unsafe(no_mangle)]
-pub extern "C" fn yexwalu_held_gc_due(
+pub fn yexwalu_held_gc_due(
     tag: &[u8; 1],
     numbers: &[u64; 4],
     log: &[u32; 16],
@@ -281,8 +269,7 @@ pub extern "C" fn yexwalu_held_gc_due(
 }
 
 // Should the slots in quarantine be recycled? First: 1 for yes, 0 for no.
-#[unsafe(no_mangle)]
-pub extern "C" fn yexwalu_held_reclaim_due(
+pub fn yexwalu_held_reclaim_due(
     tag: &[u8; 1],
     numbers: &[u64; 4],
     log: &[u32; 16],
@@ -300,8 +287,7 @@ pub extern "C" fn yexwalu_held_reclaim_due(
 }
 
 // Is a slot in quarantine? First: 1 for yes, 0 for no.
-#[unsafe(no_mangle)]
-pub extern "C" fn yexwalu_held_has_quarantine(
+pub fn yexwalu_held_has_quarantine(
     tag: &[u8; 1],
     numbers: &[u64; 4],
     log: &[u32; 16],
@@ -319,8 +305,7 @@ pub extern "C" fn yexwalu_held_has_quarantine(
 }
 
 // Is it the heap of this tag, with nothing sealed? First: 1 for yes, 0 for no.
-#[unsafe(no_mangle)]
-pub extern "C" fn yexwalu_held_is_plain(
+pub fn yexwalu_held_is_plain(
     tag: &[u8; 1],
     numbers: &[u64; 4],
     log: &[u32; 16],

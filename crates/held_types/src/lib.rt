@@ -2,8 +2,7 @@
 // not in order. A host may use them on a table of which `yexwalu_layout` or another checked call did not say 10, as long as nobody changes it; then they answer what those do.
 #![tactic(auto)]
 
-ghost use Rattle.std.specs.Prelude.{◌≡◌, length};
-ghost use Rattle.word.specs.Choice.{if◌then◌else◌};
+ghost use Rattle.std.specs.Prelude.{◌≡◌, length, if◌then◌else◌};
 ghost use Rattle.word.specs.Result.{ok, refused};
 ghost use Rattle.refusal.specs.Told.{number_of, answered, here, nothing};
 ghost use Rattle.ty.specs.View.{types_of, table_of};
@@ -69,8 +68,7 @@ fn laid_out(a: layout::Answer) -> Laying
 }
 
 // The layout of type t under the descriptor, with the offsets of a record's fields in the lent list from its front on.
-#[unsafe(no_mangle)]
-pub extern "C" fn yexwalu_held_layout(
+pub fn yexwalu_held_layout(
     types: &[u64],
     fields: &[u32],
     consts: &[u64],
@@ -89,8 +87,7 @@ pub extern "C" fn yexwalu_held_layout(
 }
 
 // Whether values of type t can hold handles: 1 or 0.
-#[unsafe(no_mangle)]
-pub extern "C" fn yexwalu_held_has_handles(types: &[u64], fields: &[u32], t: u64) -> Answer
+pub fn yexwalu_held_has_handles(types: &[u64], fields: &[u32], t: u64) -> Answer
     ensures { result ≡ answered here nothing (ok (if has_handles (types_of types.now fields.now) t then 1 else 0)) }
 {
     if ty::has_handles(types, fields, t) {
@@ -100,8 +97,7 @@ pub extern "C" fn yexwalu_held_has_handles(types: &[u64], fields: &[u32], t: u64
 }
 
 // The handles of an object's visible data, which is of type t: its descriptor, then its value. They go to the lent list from its front on. First: how many.
-#[unsafe(no_mangle)]
-pub extern "C" fn yexwalu_held_object_handles(
+pub fn yexwalu_held_object_handles(
     types: &[u64],
     fields: &[u32],
     consts: &[u64],
@@ -119,8 +115,7 @@ pub extern "C" fn yexwalu_held_object_handles(
 }
 
 // The handles of a value of type t that needs no descriptor. First: how many.
-#[unsafe(no_mangle)]
-pub extern "C" fn yexwalu_held_value_handles(
+pub fn yexwalu_held_value_handles(
     types: &[u64],
     fields: &[u32],
     consts: &[u64],

@@ -10,7 +10,7 @@ use lib.ListN.{length, get_or, set, length-set, length-append, get_or-eq_default
 use lib.Seq.{get_or-set_same, get_or-set_other}
 use lib.Dec.{ltb, leb}
 use borrow.Author.Tests.{eq-eqb, ne_eqb, lt-ltb, leb-true}
-use Rattle.word.specs.Choice.{if◌then◌else◌}
+use Rattle.std.specs.Prelude.{if◌then◌else◌}
 use Rattle.word.specs.Put.{put}
 use Rattle.word.specs.Result.{Result, ok, refused}
 use Rattle.word.proofs.Bools.{and_both, either}

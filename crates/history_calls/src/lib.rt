@@ -176,7 +176,7 @@ pub fn collect(
 ) -> Done
     ensures { outcome result.answer (lent result.heap narrow.new wide.new pool.new) marks.new work.new
         ≡ contract (lending marks.old work.old)
-        (collected (record { types = types.entry.now; fields = fields.now; consts = consts.now; bytes = bytes.now; roots = roots.now; pins = pins.now }))
+        (collected (record { types = types.now; fields = fields.now; consts = consts.now; bytes = bytes.now; roots = roots.now; pins = pins.now }))
         (lent heap narrow.old wide.old pool.old) }
 {
     collect_door::yexwalu_collect(
@@ -209,14 +209,14 @@ pub fn collect_joined(
     rows: &mut [u64],
 ) -> Done
     ensures { outcome_of result.answer (lent result.heap narrow.new wide.new pool.new)
-        (marks.exit.now ∷ work.new ∷ rows.new ∷ [])
-        ≡ contract (record { marks = marks.entry.now; work = work.old; rows = rows.old; room = [] })
+        (marks.new ∷ work.new ∷ rows.new ∷ [])
+        ≡ contract (record { marks = marks.old; work = work.old; rows = rows.old; room = [] })
         (joined (record {
-          types = types.entry.now;
+          types = types.now;
           fields = fields.now;
           consts = consts.now;
           bytes = bytes.now;
-          code = record { kinds = kinds.entry.now; ends = ends.now; refs = refs.now; blocks = blocks.now; classes = classes.now };
+          code = record { kinds = kinds.now; ends = ends.now; refs = refs.now; blocks = blocks.now; classes = classes.now };
           pc = pc;
           values = values.now;
           map = map.now;
@@ -243,8 +243,8 @@ pub fn run(
     work: &mut [u64],
 ) -> Done
     ensures { outcome_of result.answer (lent result.heap narrow.new wide.new pool.new)
-        (room.new ∷ marks.exit.now ∷ work.new ∷ [])
-        ≡ contract (record { marks = marks.entry.now; work = work.old; rows = []; room = room.old }) (ran script.now)
+        (room.new ∷ marks.new ∷ work.new ∷ [])
+        ≡ contract (record { marks = marks.old; work = work.old; rows = []; room = room.old }) (ran script.now)
         (lent heap narrow.old wide.old pool.old) }
 {
     run_door::yexwalu_run(heap, narrow, wide, pool, script, room, marks, work)

@@ -10,7 +10,7 @@ use types.Run.{OneOf, miss}
 use denote.Enum.Declared.{tag_of}
 use borrow.Author.Tests.{eq-eqb, ne_eqb}
 use Rattle.ty.specs.Types.{Ty, Ty.missing, Ty.int, Ty.physical, Ty.enum, Ty.real, Ty.array, Ty.fields, Ty.access, Ty.file, Ty.protected, type_at, Const, Const.plain, Const.other, Table, const_at, none}
-use Rattle.word.specs.Choice.{if◌then◌else◌}
+use Rattle.std.specs.Prelude.{if◌then◌else◌}
 use Rattle.layout.specs.Layout.{dims_of, on_laid, on_bytes, under, used_by, array_laid, array_of, end_of, placed, record_of, scalar_laid, size_or, layout_by, layout_at}
 use Rattle.ty.specs.Scalars.{scalar_size, elem_size, logic_leaf}
 use Rattle.ty.specs.View.{read_ty, entry_at, fields_from, part_at, read_part, types_of, consts_of, table_of, bare}

@@ -8,7 +8,7 @@ use lib.ListN.{length, drop, length-drop}
 use lib.Dec.{ltb, eqb}
 use borrow.Author.Tests.{ltb-false}
 use Rattle.ty.specs.Types.{Ty, Ty.missing, Ty.int, Ty.physical, Ty.enum, Ty.real, Ty.array, Ty.fields, Ty.access, Ty.file, Ty.protected, Field, Field.field, Table, type_at, const_at, none}
-use Rattle.word.specs.Choice.{if◌then◌else◌}
+use Rattle.std.specs.Prelude.{if◌then◌else◌}
 use Rattle.ty.specs.Words.{word_of, on_word, round_up}
 use Rattle.layout.specs.Layout.{desc_word, dim_len, dims_of, on_dims, on_laid, on_bytes, under, used_by, array_laid, array_of, end_of, placed, record_of, scalar_laid, size_or, layout_by, layout_at}
 use Rattle.ty.specs.Scalars.{scalar_size, elem_size, logic_leaf}

@@ -1,6 +1,5 @@
 -- The layout of a value of a type under a descriptor (01, "Type table", and ty.rs). `Malformed` is told as 11, `TooLarge` as 12.
-use Rattle.std.specs.Prelude.{ℕ, zero, suc, ◌+◌, ◌-◌, ◌*◌, ◌/◌, max, List, [], ◌∷◌, ltb, eqb, length, take, drop}
-use Rattle.word.specs.Choice.{if◌then◌else◌}
+use Rattle.std.specs.Prelude.{ℕ, zero, suc, ◌+◌, ◌-◌, ◌*◌, ◌/◌, max, List, [], ◌∷◌, ltb, eqb, length, take, drop, if◌then◌else◌}
 use Rattle.word.specs.Le.{le}
 use Rattle.ty.specs.Types.{Ty, Ty.missing, Ty.int, Ty.physical, Ty.enum, Ty.real, Ty.array, Ty.fields, Ty.access, Ty.file, Ty.protected, Field, Field.field, Const, Const.plain, Const.other, Table, type_at, const_at, none}
 use Rattle.ty.specs.Words.{word_of, on_word, rank, round_up}

@@ -1,6 +1,5 @@
 -- What the contracts of the layout's functions cite: the definitions, at the lists of the four lent slices.
-use Rattle.std.specs.Prelude.{ℕ, suc, ◌+◌, ◌*◌, ◌/◌, ◌≤◌, ◌<◌, ◌≡◌, List, eqb, length, get_or}
-use Rattle.word.specs.Choice.{if◌then◌else◌}
+use Rattle.std.specs.Prelude.{ℕ, suc, ◌+◌, ◌*◌, ◌/◌, ◌≤◌, ◌<◌, ◌≡◌, List, eqb, length, get_or, if◌then◌else◌}
 use Rattle.ty.specs.Types.{type_at, none}
 use Rattle.ty.specs.Scalars.{scalar_size}
 use Rattle.ty.specs.View.{entry_at, types_of, table_of, fields_from}

@@ -11,7 +11,7 @@ use lib.ListN.{length, get_or}
 use native.Mathlib.Decide.{dec_lt}
 use native.Mathlib.Omega.{arith}
 use borrow.Author.Tests.{lt-ltb, le-ltb, eq-eqb, ne_eqb}
-use Rattle.word.specs.Choice.{if◌then◌else◌}
+use Rattle.std.specs.Prelude.{if◌then◌else◌}
 use Rattle.word.specs.Ones.{passing}
 use Rattle.word.proofs.OnesLaws.{trailing_lt}
 use Rattle.word.proofs.Bools.{positive}

@@ -8,7 +8,7 @@ use lib.ListN.{length, drop, length-drop}
 use lib.Dec.{leb}
 use borrow.Author.Tests.{leb-true}
 use native.Mathlib.Omega.{arith}
-use Rattle.word.specs.Choice.{if◌then◌else◌}
+use Rattle.std.specs.Prelude.{if◌then◌else◌}
 use Rattle.ty.specs.Types.{Table}
 use Rattle.trace.specs.Places.{Places, kind_places, shown_places}
 use Rattle.places.specs.StrideZero.{ShortConstants}

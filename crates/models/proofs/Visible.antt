@@ -9,7 +9,7 @@ use lib.Seq.{drop-drop, take-add, take_all, length-take-le}
 use lib.Dec.{leb}
 use borrow.Author.Tests.{leb-true, leb-false}
 use native.Mathlib.Omega.{arith}
-use Rattle.word.specs.Choice.{if◌then◌else◌}
+use Rattle.std.specs.Prelude.{if◌then◌else◌}
 use Rattle.word.specs.Le.{le}
 use Rattle.ty.specs.Types.{Table}
 use Rattle.trace.specs.Places.{kind_places, shown_places}

@@ -1,7 +1,6 @@
 -- What the object of a slot holds, by its kind, type, start and bytes and the type table (02, [5]): its handle places, the 64 bits there, the bytes outside.
-use Rattle.std.specs.Prelude.{ℕ, suc, ◌+◌, Bool, false, ◌||◌, ◌&&◌, List, [], ◌∷◌, map, length, leb, ltb}
+use Rattle.std.specs.Prelude.{ℕ, suc, ◌+◌, Bool, false, ◌||◌, ◌&&◌, List, [], ◌∷◌, map, length, leb, ltb, if◌then◌else◌}
 use Rattle.std.proofs.Math.Option.{Option, none, some}
-use Rattle.word.specs.Choice.{if◌then◌else◌}
 use Rattle.ty.specs.Types.{Table}
 use Rattle.trace.specs.Places.{Places, shown_places, handle_at}
 use Rattle.alike.specs.Same.{Object, Model}

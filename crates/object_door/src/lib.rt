@@ -55,8 +55,7 @@ fn enter_new(narrow: &[u32], wide: &[u64], pool: &[u8], marks: &mut [u8], work: 
 }
 
 // An empty heap in lent memory: all of it is cleared.
-#[unsafe(no_mangle)]
-pub extern "C" fn yexwalu_new(
+pub fn yexwalu_new(
     tag: u8,
     narrow: &mut [u32],
     wide: &mut [u64],
@@ -97,8 +96,7 @@ pub fn is_kind(k: u8) -> bool
 }
 
 // Places the object `bytes[start..]` of this kind and type; the answer is its handle.
-#[unsafe(no_mangle)]
-pub extern "C" fn yexwalu_alloc_from(
+pub fn yexwalu_alloc_from(
     heap: Heap,
     narrow: &mut [u32],
     wide: &mut [u64],
@@ -139,8 +137,7 @@ pub extern "C" fn yexwalu_alloc_from(
 }
 
 // Places the object `bytes`, visible from its first byte on.
-#[unsafe(no_mangle)]
-pub extern "C" fn yexwalu_alloc(
+pub fn yexwalu_alloc(
     heap: Heap,
     narrow: &mut [u32],
     wide: &mut [u64],
@@ -160,8 +157,7 @@ pub extern "C" fn yexwalu_alloc(
 }
 
 // Hands out the whole data of the object that the handle names: its length and its start; the slot goes into quarantine.
-#[unsafe(no_mangle)]
-pub extern "C" fn yexwalu_take(
+pub fn yexwalu_take(
     heap: Heap,
     narrow: &mut [u32],
     wide: &mut [u64],
@@ -195,8 +191,7 @@ pub extern "C" fn yexwalu_take(
 }
 
 // As `take`, without handing out the object.
-#[unsafe(no_mangle)]
-pub extern "C" fn yexwalu_free(
+pub fn yexwalu_free(
     heap: Heap,
     narrow: &mut [u32],
     wide: &mut [u64],
@@ -228,8 +223,7 @@ pub extern "C" fn yexwalu_free(
 }
 
 // Pinned slots stay in quarantine, in order; the others join the free list.
-#[unsafe(no_mangle)]
-pub extern "C" fn yexwalu_recycle(
+pub fn yexwalu_recycle(
     heap: Heap,
     narrow: &mut [u32],
     wide: &[u64],

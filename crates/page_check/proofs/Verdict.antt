@@ -11,7 +11,7 @@ use native.Mathlib.Nat.{zero-add, add-zero}
 use native.Mathlib.Decide.{dec_lt, ℕ_discrete}
 use borrow.Author.Tests.{eqb-true, eq-eqb, ne_eqb, lt-ltb, le-ltb}
 use Rattle.word.specs.Lists.{all, all_below}
-use Rattle.word.specs.Choice.{if◌then◌else◌}
+use Rattle.std.specs.Prelude.{if◌then◌else◌}
 use Rattle.word.specs.Result.{refused}
 use Rattle.word.proofs.Bools.{bool-ext, and-true, and-false, and_both, both-and, and_assoc}
 use Rattle.word.proofs.ListLaws.{at_all, below_at, at-below, below-same, below-front}

@@ -1,10 +1,9 @@
 -- What the code answers for what a reader gives.
-use Rattle.std.specs.Prelude.{ℕ, ◌+◌, ◌-◌, List, Bool, not, ◌&&◌, ◌||◌, leb, ltb, eqb, length}
+use Rattle.std.specs.Prelude.{ℕ, ◌+◌, ◌-◌, List, Bool, not, ◌&&◌, ◌||◌, leb, ltb, eqb, length, if◌then◌else◌}
 use Rattle.std.proofs.Math.Option.{Option, none, some}
 use Rattle.word.specs.Lists.{all}
 use Rattle.heap.specs.State.{data_size, Slot}
 use Rattle.heap.specs.WellFormed.{sound_slot, sound_seals}
-use Rattle.word.specs.Choice.{if◌then◌else◌}
 use Rattle.handle.specs.Handle.{tag_of, indexOf, generation_of}
 use Rattle.pages.specs.Page.{Head}
 use Rattle.page_check.specs.declared.HeadLine.{HeadLine}

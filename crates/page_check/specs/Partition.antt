@@ -1,9 +1,8 @@
 -- Which of some slots stand in the lists of a page, one bit a slot in lent words.
-use Rattle.std.specs.Prelude.{ℕ, ◌+◌, ◌≤◌, ◌<◌, List, [], ◌∷◌, ◌≡◌, Bool, true, false, not, ◌&&◌, ◌||◌, eqb, ltb, drop}
+use Rattle.std.specs.Prelude.{ℕ, ◌+◌, ◌≤◌, ◌<◌, List, [], ◌∷◌, ◌≡◌, Bool, true, false, not, ◌&&◌, ◌||◌, eqb, ltb, drop, if◌then◌else◌}
 use Rattle.std.proofs.Math.Option.{none, some}
 use Rattle.heap.specs.State.{Slot, bit, times, last_generation}
 use Rattle.text.specs.Text.{give}
-use Rattle.word.specs.Choice.{if◌then◌else◌}
 use Rattle.rows.specs.Row.{bit_in}
 use Rattle.text.specs.Format.{number, read_all}
 use Rattle.page_check.specs.declared.Rule.{Rule}

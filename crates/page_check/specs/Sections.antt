@@ -1,10 +1,9 @@
 -- What the first pass over a text finds (01, "Page").
-use Rattle.std.specs.Prelude.{ℕ, ◌≤◌, List, [], ◌++◌, map, Bool, true, false, ◌&&◌, ◌≡◌, ltb, length}
+use Rattle.std.specs.Prelude.{ℕ, ◌≤◌, List, [], ◌++◌, map, Bool, true, false, ◌&&◌, ◌≡◌, ltb, length, if◌then◌else◌}
 use Rattle.std.proofs.Math.Option.{Option, none, some}
 use Rattle.word.specs.Lists.{all}
 use Rattle.heap.specs.State.{State, data_size}
 use Rattle.heap.specs.Calls.{new}
-use Rattle.word.specs.Choice.{if◌then◌else◌}
 use Rattle.word.specs.Result.{Result, ok, refused}
 use Rattle.refusal.specs.Told.{number_of}
 use Rattle.heap.specs.WellFormed.{sound_slot, sound_seals, sound_reclaim, sound}

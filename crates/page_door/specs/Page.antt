@@ -1,6 +1,5 @@
 -- The page's calls (01, "Page"; 02, [9] and [11]), each refusal in 01's order.
-use Rattle.std.specs.Prelude.{ℕ, Bool, List, length}
-use Rattle.word.specs.Choice.{if◌then◌else◌}
+use Rattle.std.specs.Prelude.{ℕ, Bool, List, length, if◌then◌else◌}
 use Rattle.word.specs.Result.{ok}
 use Rattle.refusal.specs.Told.{refused_by, answered, here, nothing}
 use Rattle.heap.specs.Lent.{Lent, view}

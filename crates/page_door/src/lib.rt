@@ -11,8 +11,7 @@ use heap::Heap;
 use refusal::{Answer, Refusal, Reply};
 
 // How many bytes a heap's page has, with byte planes or data: 18, 1. `write_page` takes so many, no more and no fewer.
-#[unsafe(no_mangle)]
-pub extern "C" fn yexwalu_page_length(
+pub fn yexwalu_page_length(
     heap: Heap,
     narrow: &[u32],
     wide: &[u64],
@@ -31,8 +30,7 @@ pub extern "C" fn yexwalu_page_length(
 }
 
 // Writes a heap's page to `out`, with byte planes or data: 18, 1, 7. The answer is its length.
-#[unsafe(no_mangle)]
-pub extern "C" fn yexwalu_write_page(
+pub fn yexwalu_write_page(
     heap: Heap,
     narrow: &[u32],
     wide: &[u64],
@@ -68,8 +66,7 @@ fn scratch_fits(narrow: &[u32], marks: &[u8], work: &[u64]) -> bool
 
 // Reads a page into lent memory: 18, 17, 1, 6, 5. What the lent heap held before isn't looked at. The answer tells the form that was met: first the bits of a write count, 64 or 32;
 // second 1 for `retired`, 2 for `planes`, 3 for both, 0 for neither.
-#[unsafe(no_mangle)]
-pub extern "C" fn yexwalu_read_page(
+pub fn yexwalu_read_page(
     heap: Heap,
     narrow: &mut [u32],
     wide: &mut [u64],

@@ -8,7 +8,7 @@ use lib.ListN.{length, get_or, replicate, length-map, length-append, get_or-map,
 use native.Mathlib.Omega.{arith}
 use native.Mathlib.Decide.{dec_lt}
 use borrow.Author.Tests.{ltb-true, not-true}
-use Rattle.word.specs.Choice.{if◌then◌else◌}
+use Rattle.std.specs.Prelude.{if◌then◌else◌}
 use Rattle.word.specs.Lists.{all, all_below, filter}
 use Rattle.word.proofs.Bools.{and_both}
 use Rattle.word.proofs.ListLaws.{all-at, all_append}

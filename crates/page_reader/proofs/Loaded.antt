@@ -13,7 +13,7 @@ use Rattle.word.specs.Result.{Result, ok, refused}
 use Rattle.word.proofs.Bools.{and_both, bool-ext}
 use Rattle.word.proofs.RunLaws.{length_run, run_room}
 use Rattle.text.specs.Put.{put_text}
-use Rattle.word.specs.Choice.{if◌then◌else◌}
+use Rattle.std.specs.Prelude.{if◌then◌else◌}
 use Rattle.refusal.specs.Told.{number_of, told}
 use Rattle.refusal.specs.declared.Refusal.{Refusal}
 use Rattle.refusal.specs.declared.Reply.TheVariants.{Is, Not}

@@ -9,7 +9,7 @@ use lib.Seq.{take-suc, take_all, length-take-le}
 use native.Mathlib.Omega.{arith}
 use native.Mathlib.Nat.{sub-zero}
 use native.Mathlib.Numerals.{add-one}
-use Rattle.word.specs.Choice.{if◌then◌else◌}
+use Rattle.std.specs.Prelude.{if◌then◌else◌}
 use Rattle.word.specs.Run.{run}
 use Rattle.word.proofs.RunLaws.{length_run, first-get}
 use Rattle.word.specs.Lists.{filter}

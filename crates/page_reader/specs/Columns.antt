@@ -1,6 +1,5 @@
 -- What the second pass leaves in the lent runs.
-use Rattle.std.specs.Prelude.{ℕ, ◌+◌, ◌*◌, ◌/◌, ◌≤◌, ◌<◌, Bool, true, not, List, map, ◌≡◌, eqb, length, get_or, set}
-use Rattle.word.specs.Choice.{if◌then◌else◌}
+use Rattle.std.specs.Prelude.{ℕ, ◌+◌, ◌*◌, ◌/◌, ◌≤◌, ◌<◌, Bool, true, not, List, map, ◌≡◌, eqb, length, get_or, set, if◌then◌else◌}
 use Rattle.word.specs.Lists.{all, filter}
 use Rattle.word.specs.Run.{run}
 use Rattle.heap.specs.State.{State, data_size, Slot, slot_at, data_of, last_generation, worn}

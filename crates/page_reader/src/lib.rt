@@ -1,10 +1,9 @@
 // The second pass over a page: fills the lent heap, once the first pass has accepted the text.
 #![tactic(auto)]
 
-ghost use Rattle.std.specs.Prelude.{◌≡◌, List, [], ◌∷◌, ◌++◌, map, ℕ, ◌+◌, ◌-◌, ◌*◌, ◌/◌, ◌^◌, ◌≤◌, ◌<◌, length, take, drop, replicate};
+ghost use Rattle.std.specs.Prelude.{◌≡◌, List, [], ◌∷◌, ◌++◌, map, ℕ, ◌+◌, ◌-◌, ◌*◌, ◌/◌, ◌^◌, ◌≤◌, ◌<◌, length, take, drop, replicate, if◌then◌else◌};
 ghost use Rattle.text.specs.Put.{put_text, Puts};
 ghost use Rattle.text.specs.Answer.{hex_at, HexParsed};
-ghost use Rattle.word.specs.Choice.{if◌then◌else◌};
 ghost use Rattle.pages.specs.Form.{writes_width, from_column};
 ghost use Rattle.pages.specs.Page.{out_of_column};
 ghost use Rattle.heap.specs.State.{data_of, data_size};

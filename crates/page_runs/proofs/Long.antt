@@ -9,7 +9,7 @@ use lib.Dec.{eqb, leb}
 use lib.ListN.{length, take, drop, get_or, length-append, length-take, length-drop, take-append-drop, get_or-append}
 use lib.Seq.{take_at, drop_at, take-add, take-append-le, take-append_seam, get_or-drop}
 use borrow.Author.Tests.{ne_eqb}
-use Rattle.word.specs.Choice.{if◌then◌else◌}
+use Rattle.std.specs.Prelude.{if◌then◌else◌}
 use Rattle.word.specs.Lists.{all}
 use Rattle.word.specs.Put.{put}
 use Rattle.word.proofs.Bools.{and_both, or_cases}

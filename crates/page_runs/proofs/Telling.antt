@@ -10,7 +10,7 @@ use lib.ListN.{length, take, drop, length-append, length-take}
 use lib.Dec.{leb}
 use lib.Seq.{take_all}
 use borrow.Author.Tests.{le-leb}
-use Rattle.word.specs.Choice.{if◌then◌else◌}
+use Rattle.std.specs.Prelude.{if◌then◌else◌}
 use Rattle.word.specs.Result.{Result, ok, refused}
 use Rattle.word.proofs.PutLaws.{take_put}
 use Rattle.text.specs.Text.{newline, decimal, line}

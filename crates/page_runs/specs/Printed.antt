@@ -1,7 +1,6 @@
 -- What the program `page` prints for an input (01, "Page"; docs/DECISIONS.md, points 7 and 8).
-use Rattle.std.specs.Prelude.{ℕ, Bool, false, List}
+use Rattle.std.specs.Prelude.{ℕ, Bool, false, List, if◌then◌else◌}
 use Rattle.std.proofs.Math.Option.{Option, none, some}
-use Rattle.word.specs.Choice.{if◌then◌else◌}
 use Rattle.word.specs.Result.{Result, ok, refused}
 use Rattle.text.specs.Text.{ascii, read_literal}
 use Rattle.heap.specs.State.{State}

@@ -11,7 +11,7 @@ use Rattle.text.specs.Text.{give, ◌>>=◌, ascii, line, newline, comma, Bytes,
 use Rattle.text.specs.Format.{Right, number, bytes_line, after_literal, either, always, pair, times, mapped, read_all, All}
 use Rattle.text.proofs.Laws.{none-not-some, bind-some, some_inj, number-right, bytes-line-right, after-literal-right, Any, Apart, either-right, always-right, pair-right, times-right, mapped-where, mapped-right, injective}
 use Rattle.heap.specs.State.{Slot, State, slot_at, worn}
-use Rattle.word.specs.Choice.{if◌then◌else◌}
+use Rattle.std.specs.Prelude.{if◌then◌else◌}
 use Rattle.word.specs.Lists.{filter}
 use Rattle.planes.specs.Planes.{planes, restored}
 use Rattle.planes.proofs.Laws.{bytes-planes, bytes-restored, restored-planes, planes-restored}

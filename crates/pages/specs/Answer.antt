@@ -1,6 +1,5 @@
 -- What the writer answers, and what it leaves in the lent output.
-use Rattle.std.specs.Prelude.{ℕ, List, ◌≡◌, leb, length}
-use Rattle.word.specs.Choice.{if◌then◌else◌}
+use Rattle.std.specs.Prelude.{ℕ, List, ◌≡◌, leb, length, if◌then◌else◌}
 use Rattle.word.specs.Result.{Result, ok, refused}
 use Rattle.text.specs.Put.{put_text}
 use Rattle.refusal.specs.Told.{told, answered, here, nothing}

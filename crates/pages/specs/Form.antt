@@ -1,8 +1,7 @@
 -- The forms of a page, and the names by which they are told apart. One form is written; every form is read.
-use Rattle.std.specs.Prelude.{Bool, true, false, List, ◌++◌, ℕ}
+use Rattle.std.specs.Prelude.{Bool, true, false, List, ◌++◌, ℕ, if◌then◌else◌}
 use Rattle.text.specs.Text.{ascii}
 use Rattle.text.specs.Format.{Format, after_literal, either, pair}
-use Rattle.word.specs.Choice.{if◌then◌else◌}
 use Rattle.planes.specs.Planes.{planes, restored}
 
 -- write counts of 64 bits under the name `writes64`, or of 32 bits under `writes` (request [6]); with the list `retired` as the last, or without it (request [7]);

@@ -1,9 +1,8 @@
 -- The page (01, "Page"; requests [6], [7] and [11]): a heap as text, in every form. Epoch and log are not saved, and read as 0.
-use Rattle.std.specs.Prelude.{ℕ, ◌<◌, ◌^◌, Bool, true, false, ◌&&◌, ◌≡◌, length, replicate}
+use Rattle.std.specs.Prelude.{ℕ, ◌<◌, ◌^◌, Bool, true, false, ◌&&◌, ◌≡◌, length, replicate, if◌then◌else◌}
 use mathlib.Core.List.{List, [], ◌∷◌, ◌++◌, map, flat_map}
 use Rattle.std.proofs.Math.Option.{Option, none, some}
 use Rattle.text.specs.Text.{◌>>=◌, decimal, hex, line, newline, comma, Bytes}
-use Rattle.word.specs.Choice.{if◌then◌else◌}
 use Rattle.text.specs.Format.{Format, number, bytes_line, always, after_literal, pair, times, mapped, All}
 use Rattle.heap.specs.State.{Slot, State, with_free}
 use Rattle.heap.specs.Calls.{freed}

@@ -11,7 +11,7 @@ use native.Mathlib.Nat.{mul-pos}
 use lib.ListN.{length, drop, length-drop}
 use lib.Dec.{leb, eqb, ltb}
 use borrow.Author.Tests.{le-leb, eq-eqb, ne_eqb}
-use Rattle.word.specs.Choice.{if◌then◌else◌}
+use Rattle.std.specs.Prelude.{if◌then◌else◌}
 use Rattle.word.specs.Num.{align_up}
 use Rattle.word.proofs.NumLaws.{align_same, align-next}
 use Rattle.trace.proofs.Levels.{from-laid, from-dims}

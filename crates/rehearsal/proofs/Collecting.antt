@@ -10,7 +10,7 @@ use lib.Dec.{eqb}
 use lib.ListN.{length, get_or, get_or-map}
 use lib.Seq.{ext_get_or}
 use borrow.Author.Tests.{eqb-true, eq-eqb}
-use Rattle.word.specs.Choice.{if◌then◌else◌}
+use Rattle.std.specs.Prelude.{if◌then◌else◌}
 use Rattle.word.specs.Result.{Result, ok, refused}
 use Rattle.word.proofs.Bools.{bool-ext, true-false}
 use Rattle.word.specs.Lists.{filter}

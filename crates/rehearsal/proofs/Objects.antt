@@ -8,7 +8,7 @@ use mathlib.Core.Path.{◌≡◌, refl, sym, ap, ◌∙◌, subst}
 use lib.Dec.{eqb, ltb}
 use lib.ListN.{length, get_or, set, length-append}
 use borrow.Author.Tests.{ne_eqb, eq-eqb, eqb-true, lt-ltb, le-ltb}
-use Rattle.word.specs.Choice.{if◌then◌else◌}
+use Rattle.std.specs.Prelude.{if◌then◌else◌}
 use Rattle.word.specs.Le.{bytes as bytes_of}
 use Rattle.word.specs.Put.{put}
 use Rattle.handle.specs.Handle.{packed, indexOf}

@@ -1,8 +1,7 @@
 -- The plain machine of a rehearsal (02 [12]): a list of objects, each with the handle that a heap of tag 1 would issue it. A collection is said by chains of such
 -- handles (crate `reach`); no worklist, columns or marks stand here.
-use Rattle.std.specs.Prelude.{ℕ, suc, ◌+◌, max, ◌≡◌, Bool, true, false, not, ◌&&◌, ◌||◌, List, [], ◌∷◌, ◌++◌, map, ◌↔◌, eqb, ltb, leb, length, get_or, set}
+use Rattle.std.specs.Prelude.{ℕ, suc, ◌+◌, max, ◌≡◌, Bool, true, false, not, ◌&&◌, ◌||◌, List, [], ◌∷◌, ◌++◌, map, ◌↔◌, eqb, ltb, leb, length, get_or, set, if◌then◌else◌}
 use Rattle.std.proofs.Math.Option.{Option, none, some}
-use Rattle.word.specs.Choice.{if◌then◌else◌}
 use Rattle.word.specs.Le.{bytes as bytes_of}
 use Rattle.word.specs.Num.{saturating}
 use Rattle.word.specs.Put.{put}

@@ -13,7 +13,7 @@ use Rattle.heap.specs.Lent.{Lent, view, slot_count, pool_size}
 use Rattle.heap_calls.specs.Pins.{rising_from}
 use Rattle.script.specs.Found.{DataThere}
 use Rattle.rehearsal.specs.Lines.{Line as Step, alloc, store, drop}
-use Rattle.word.specs.Choice.{if◌then◌else◌}
+use Rattle.std.specs.Prelude.{if◌then◌else◌}
 use Rattle.heap.specs.Calls.{gc_due}
 use Rattle.rehearsal.specs.Runs.{Run, held_at, handles, swept, collecting, allocating, storing, dropping, does, unless}
 use Rattle.rehearsal.specs.OnHeap.{heaped, collects_heap}

@@ -9,7 +9,7 @@ use mathlib.Core.Path.{◌≡◌, refl, sym, ap, ◌∙◌, subst}
 use lib.Dec.{eqb, leb}
 use lib.ListN.{length, get_or, take, set, get_or-eq_default}
 use borrow.Author.Tests.{leb-true, ne_eqb, eq-eqb, eqb-true}
-use Rattle.word.specs.Choice.{if◌then◌else◌}
+use Rattle.std.specs.Prelude.{if◌then◌else◌}
 use Rattle.word.specs.Run.{run}
 use Rattle.word.proofs.Bools.{and_both}
 use Rattle.word.proofs.RunLaws.{run-get, length_run, run-set, run-below}

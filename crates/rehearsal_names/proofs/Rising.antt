@@ -8,7 +8,7 @@ use mathlib.Core.Path.{◌≡◌, refl, sym, ap, ◌∙◌}
 use lib.Dec.{eqb, leb}
 use lib.ListN.{length, get_or}
 use borrow.Author.Tests.{leb-true, le-leb, ne_eqb, eq-eqb}
-use Rattle.word.specs.Choice.{if◌then◌else◌}
+use Rattle.std.specs.Prelude.{if◌then◌else◌}
 use Rattle.word.proofs.Bools.{and_both, both-and}
 use Rattle.heap_calls.specs.Pins.{rising_from, rising}
 use Rattle.heap_calls.proofs.Searching.{Between}

@@ -1,6 +1,5 @@
 -- How entries are found and moved: what only inner functions' contracts cite.
-use Rattle.std.specs.Prelude.{ℕ, zero, suc, ◌+◌, ◌≤◌, ◌<◌, true, List, [], ◌∷◌, ◌++◌, map, ◌≡◌, eqb, length, get_or, set}
-use Rattle.word.specs.Choice.{if◌then◌else◌}
+use Rattle.std.specs.Prelude.{ℕ, zero, suc, ◌+◌, ◌≤◌, ◌<◌, true, List, [], ◌∷◌, ◌++◌, map, ◌≡◌, eqb, length, get_or, set, if◌then◌else◌}
 use Rattle.word.specs.Run.{run}
 use Rattle.heap_calls.specs.Pins.{rising_from}
 use Rattle.rehearsal.specs.Runs.{Held as Name, handles}

@@ -9,7 +9,7 @@ use lib.Dec.{leb}
 use lib.ListN.{length, get_or, set, length-append}
 use borrow.Author.Tests.{lt-ltb}
 use lib.Seq.{get_or_at}
-use Rattle.word.specs.Choice.{if◌then◌else◌}
+use Rattle.std.specs.Prelude.{if◌then◌else◌}
 use Rattle.word.specs.Result.{Result, ok, refused}
 use Rattle.heap.specs.Packing.{flat}
 use Rattle.heap.specs.State.{Slot, State, no_slot, slot_at, live, data_of, bit, times, with_free}

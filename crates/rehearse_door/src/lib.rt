@@ -30,7 +30,7 @@ fn admit(
 ) -> Entry
     ensures { Entered (words.old ∷ marks.old ∷ work.old ∷ [])
         (rehearse_tests
-        (record { types = types.entry.now; fields = fields.now; consts = consts.now; bytes = bytes.now; text = text.now; thresholds = thresholds.now })
+        (record { types = types.now; fields = fields.now; consts = consts.now; bytes = bytes.now; text = text.now; thresholds = thresholds.now })
         (length narrow.now) (length wide.now) (length pool.now) (length out.now)
         (length words.old) (length marks.old) (length work.old))
         result (words.new ∷ marks.new ∷ work.new ∷ []) }
@@ -65,8 +65,7 @@ fn admit(
 
 // For each threshold a new heap of tag 1 in the lent memory runs the lines of the text, and a line of figures is printed. The answer is the number of bytes printed; the
 // memory then holds the heap of the last run.
-#[unsafe(no_mangle)]
-pub extern "C" fn yexwalu_rehearse(
+pub fn yexwalu_rehearse(
     types: &[u64],
     fields: &[u32],
     consts: &[u64],
@@ -86,11 +85,11 @@ pub extern "C" fn yexwalu_rehearse(
         (lent result.heap narrow.new wide.new pool.new)
         (words.new ∷ marks.new ∷ work.new ∷ [])) out.new
         ≡ rehearse_call
-        (record { types = types.entry.now; fields = fields.now; consts = consts.now; bytes = bytes.now; text = text.now; thresholds = thresholds.now })
+        (record { types = types.now; fields = fields.now; consts = consts.now; bytes = bytes.now; text = text.now; thresholds = thresholds.now })
         (lent heap narrow.old wide.old pool.old) (length narrow.old) (length wide.old)
         out.old words.old marks.old work.old }
     ensures plain_lines { PlainLines
-        (record { types = types.entry.now; fields = fields.now; consts = consts.now; bytes = bytes.now; text = text.now; thresholds = thresholds.now })
+        (record { types = types.now; fields = fields.now; consts = consts.now; bytes = bytes.now; text = text.now; thresholds = thresholds.now })
         (length narrow.old) (length pool.old) result.answer out.old out.new }
 {
     match admit(

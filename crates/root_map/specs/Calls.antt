@@ -1,7 +1,6 @@
 -- What `live_refs` answers, and what it leaves (01, "Live map" and "What the host is told"): the refusals in their order, 18, 15, 7.
-use Rattle.std.specs.Prelude.{◌≡◌, Bool, not, ◌||◌, ℕ, ◌+◌, ltb, length}
+use Rattle.std.specs.Prelude.{◌≡◌, Bool, not, ◌||◌, ℕ, ◌+◌, ltb, length, if◌then◌else◌}
 use mathlib.Core.List.{List, [], ◌∷◌, flat_map}
-use Rattle.word.specs.Choice.{if◌then◌else◌}
 use Rattle.word.specs.Result.{Result, ok, refused}
 use Rattle.word.specs.Put.{put}
 use Rattle.refusal.specs.Told.{answered}

@@ -58,7 +58,7 @@ fn block_row(
 )
     requires classes_value { formed kinds.now ends.now refs.now blocks.now classes.now ≡ true }
     requires nb_value { (nb ≡ length blocks.now / 2) × (nb * (3 * words) + 2 * words ≤ length s.old) × (length classes.now ≤ 64 * words) × (b < nb) × In blocks.now b pc × (pc < q) }
-    requires fixed { Fixed (seen (wanted which) kinds.now ends.now refs.now blocks.now classes.now) s.old words nb }
+    requires fixed { Fixed (seen (wanted which) kinds.now ends.now refs.now blocks.now classes.now) blocks.now s.old words nb }
     requires standing { Standing (wanted which) kinds.now ends.now refs.now blocks.now classes.now s.old words nb b q }
     ensures { Outside s.old s.new (nb * (3 * words)) words × ((r : ℕ) → r < 64 * words → cell s.new (nb * (3 * words)) r
         ≡ live_before (seen (wanted which) kinds.now ends.now refs.now blocks.now classes.now) b pc r) }
@@ -69,7 +69,7 @@ fn block_row(
         back_at(s, at, words, ends, refs, classes, which, pc, q);
         return;
     }
-    gather(s, nb, words, b);
+    gather(s, kinds, ends, refs, blocks, nb, words, b);
     back_at(s, at, words, ends, refs, classes, which, pc, e);
 }
 
@@ -92,7 +92,7 @@ fn point_row(
     requires classes_value { formed kinds.now ends.now refs.now blocks.now classes.now ≡ true }
     requires nb_value { (nb ≡ length blocks.now / 2) × (nb * (3 * words) + 2 * words ≤ length s.old) × (length classes.now ≤ 64 * words) × (pc < length kinds.now) × (pc < q)
         × Found blocks.now nb pc b }
-    requires fixed { Fixed (seen (wanted which) kinds.now ends.now refs.now blocks.now classes.now) s.old words nb }
+    requires fixed { Fixed (seen (wanted which) kinds.now ends.now refs.now blocks.now classes.now) blocks.now s.old words nb }
     requires standing { Standing (wanted which) kinds.now ends.now refs.now blocks.now classes.now s.old words nb b q }
     ensures { Pointed (wanted which) kinds.now ends.now refs.now blocks.now classes.now s.old
         s.new words nb b pc result }
@@ -135,7 +135,7 @@ fn count_map(
     requires classes_value { formed kinds.now ends.now refs.now blocks.now classes.now ≡ true }
     requires nb_value { (nb ≡ length blocks.now / 2) × (nb * (3 * words) + 2 * words ≤ length s.old) × (length classes.now ≤ 64 * words) × (words ≤ 256) × (length kinds.now ≤ 65536)
         × Chains blocks.now 1 nb 0 heads.now links.now }
-    requires fixed { Fixed (seen (wanted which) kinds.now ends.now refs.now blocks.now classes.now) s.old words nb }
+    requires fixed { Fixed (seen (wanted which) kinds.now ends.now refs.now blocks.now classes.now) blocks.now s.old words nb }
     ensures { Counted (wanted which) kinds.now ends.now refs.now blocks.now classes.now s.old
         s.new words nb (length kinds.now) result.points result.registers }
 {
@@ -221,7 +221,7 @@ fn write_map(
     requires classes_value { formed kinds.now ends.now refs.now blocks.now classes.now ≡ true }
     requires nb_value { (nb ≡ length blocks.now / 2) × (nb * (3 * words) + 2 * words ≤ length s.old) × (length classes.now ≤ 64 * words) × (words ≤ 256) × (length kinds.now ≤ 65536)
         × Chains blocks.now 1 nb 0 heads.now links.now }
-    requires fixed { Fixed (seen (wanted which) kinds.now ends.now refs.now blocks.now classes.now) s.old words nb }
+    requires fixed { Fixed (seen (wanted which) kinds.now ends.now refs.now blocks.now classes.now) blocks.now s.old words nb }
     requires fits { Fits (wanted which) kinds.now ends.now refs.now blocks.now classes.now pcs.old bounds.old regs.old points registers }
     ensures { Written (wanted which) kinds.now ends.now refs.now blocks.now classes.now s.old s.new
         pcs.old pcs.new bounds.old bounds.new regs.old regs.new words nb (length kinds.now) }
@@ -258,7 +258,7 @@ pub fn live_refs(
     regs: &mut [u32],
     s: &mut [u64],
 ) -> Reply
-    ensures { LiveRefsCall (record { kinds = kinds.entry.now; ends = ends.now; refs = refs.now; blocks = blocks.now; classes = classes.now })
+    ensures { LiveRefsCall (record { kinds = kinds.now; ends = ends.now; refs = refs.now; blocks = blocks.now; classes = classes.now })
         (wanted which) pcs.old bounds.old regs.old s.old pcs.new bounds.new regs.new s.new (told result) }
 {
     let words = (classes.len() + 63) / 64;

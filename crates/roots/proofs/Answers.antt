@@ -1,5 +1,5 @@
 -- From the steps' contracts to the answers of the calls: one law for each way out. Assumes nothing.
-use mathlib.Core.Path.{◌≡◌, refl, sym, ap, ap₂, ◌∙◌}
+use mathlib.Core.Path.{◌≡◌, refl, sym, ap, ap₂, ◌∙◌, fun_ext}
 use mathlib.Core.Logic.{◌⊎◌, inl, inr}
 use mathlib.Core.Bool.{Bool, true, false, not, ◌&&◌}
 use mathlib.Core.List.{List, [], ◌∷◌}
@@ -10,7 +10,7 @@ use lib.ListN.{length, get_or, take, drop, replicate, length-take, length-drop}
 use lib.Dec.{ltb}
 use borrow.Author.Tests.{lt-ltb, le-ltb, eq-eqb, ne_eqb}
 use borrow.Author.Count.{below_more}
-use Rattle.word.specs.Choice.{if◌then◌else◌}
+use Rattle.std.specs.Prelude.{if◌then◌else◌}
 use Rattle.word.specs.Result.{Result, ok, refused}
 use Rattle.word.specs.Put.{put}
 use Rattle.word.specs.Ones.{passing}
@@ -25,7 +25,7 @@ use Rattle.flow.proofs.Lists.{passing-same, some_at, at_some}
 use Rattle.flow.proofs.Validity.{held, holder-is, holds_parts, parts-holds, safepoint-held, row_list, map-unique}
 use Rattle.roots.specs.View.{view, formed}
 use Rattle.roots.specs.Calls.{Lent, function, right, need, after, scratch_after, registers_at, live_at_answer, LiveAtCall}
-use Rattle.roots.specs.Columns.{seen, cell, Fixed, Found}
+use Rattle.roots.specs.Columns.{seen, cell, live_at, Fixed, Found}
 use Rattle.roots.proofs.Turns.{inst-view}
 use Rattle.roots.proofs.Steps.{part-cell}
 use Rattle.roots.proofs.Forms.{formed-columns, formed-disjoint, blocks-count, block-at}
@@ -41,13 +41,13 @@ no-then b x y h = rw h
 
 -- ---- the row of an instruction
 
-pub live-row-cells : (f : Function) (s s₁ s₂ : List ℕ) (W nb b pc e : ℕ) → Fixed f s W nb → b < nb → e ≡ end f b
-    → ((q : ℕ) → q < 64 * W → cell s₁ (nb * (3 * W)) q ≡ cell s (b * (3 * W) + 2 * W) q)
+pub live-row-cells : (f : Function) (bs s s₁ s₂ : List ℕ) (W nb b pc e : ℕ) → Fixed f bs s W nb → e ≡ end f b
+    → ((q : ℕ) → q < 64 * W → cell s₁ (nb * (3 * W)) q ≡ out f (live_at s W nb q) b)
     → ((q : ℕ) → q < 64 * W → cell s₂ (nb * (3 * W)) q ≡ back f q pc (e - pc) (cell s₁ (nb * (3 * W)) q))
     → (q : ℕ) → q < 64 * W → cell s₂ (nb * (3 * W)) q ≡ live_before f b pc q
 unfolding live_before
-live-row-cells f s s₁ s₂ W nb b pc e v known ee c₁ c₂ q h =
-    c₂ q h ∙ ap₂ (λ (x : ℕ) (y : Bool). back f q pc (x - pc) y) ee (c₁ q h ∙ v.outs b q known h)
+live-row-cells f bs s s₁ s₂ W nb b pc e v ee c₁ c₂ q h =
+    c₂ q h ∙ ap₂ (λ (x : ℕ) (y : Bool). back f q pc (x - pc) y) ee (c₁ q h ∙ ap (λ (X : ℕ → Bool). out f X b) (fun_ext (λ c. v.lives c q h)))
 
 -- its set bits are the registers
 pub row_listed : (f : Function) (s : List ℕ) (a W b pc : ℕ) → a + W ≤ length s → ((q : ℕ) → q < 64 * W → cell s a q ≡ live_before f b pc q) → holder f.blocks pc 0 ≡ b

@@ -10,11 +10,11 @@ use native.Mathlib.Decide.{ℕ_discrete, dec_lt}
 use lib.ListN.{length, get_or, set, replicate, length-set, get_or-replicate, length-replicate}
 use borrow.Author.Tests.{le-ltb}
 use lib.Seq.{get_or-set_same, get_or-set_other}
-use Rattle.word.specs.Choice.{if◌then◌else◌}
+use Rattle.std.specs.Prelude.{if◌then◌else◌}
 use Rattle.word.specs.Lists.{tabulate}
 use Rattle.flow.specs.Function.{first_at}
 use Rattle.roots.specs.View.{block_at}
-use Rattle.roots.specs.Columns.{oneBelow, First, Keyed, Bucketed, Chains, Linked}
+use Rattle.roots.specs.Columns.{oneBelow, First, Keyed, Bucketed, Chains}
 use Rattle.roots.proofs.Scratch.{Firsts, firsts-none, firsts-found, firsts-empty, firsts-other, firsts-end}
 
 bucket : (x : ℕ) → x % 4096 < 4096
@@ -154,27 +154,3 @@ first-start bs nb pc c f = go (dec_lt c nb)
     go (no h) =
         firsts-end (before nb (omega arith) (omega arith)) (omega arith)
         ∙ ap (λ (u : Bool). if◌then◌else◌ u (nb ∷ []) []) (le-ltb nb nb (omega arith)) ∙ sym (ap (λ (u : Bool). if◌then◌else◌ u (c ∷ []) []) (le-ltb c nb (omega arith)))
-
--- ---- the block that each one falls through to
-
--- those of the first b blocks are found
-pub record Follows (bs nexts₀ nexts : List ℕ) (nb b : ℕ) : Type 0 where
-  pub kept : length nexts ≡ length nexts₀
-  pub high : b ≤ nb
-  pub next : (c : ℕ) → c < b → first_at (tabulate nb (block_at bs)) (get_or bs (2 * c + 1) 0) 0 ≡ oneBelow (get_or nexts c 0) nb
-
-pub follows-none : (bs nexts : List ℕ) (nb : ℕ) → Follows bs nexts nexts nb 0
-follows-none bs nexts nb = record { kept = refl; high = omega arith; next = λ c h. absurd (omega arith) }
-
-module _ {bs nexts₀ nexts : List ℕ} {nb b : ℕ} (inv : Follows bs nexts₀ nexts nb b) (room : nb ≤ length nexts₀) where
-  pub follows_on : b < nb → (e v : ℕ) → e ≡ get_or bs (2 * b + 1) 0 → First (Keyed bs 0 e) 0 nb v → Follows bs nexts₀ (set nexts b v) nb (b + 1)
-  follows_on h e v ee f = record { kept = length-set nexts b v ∙ inv.kept; high = omega arith; next = λ c l. go c l (ℕ_discrete c b) }
-    where
-      go : (c : ℕ) → c < b + 1 → Dec (c ≡ b) → first_at (tabulate nb (block_at bs)) (get_or bs (2 * c + 1) 0) 0 ≡ oneBelow (get_or (set nexts b v) c 0) nb
-      go c l (yes q) =
-          ap (λ (u : ℕ). first_at (tabulate nb (block_at bs)) u 0) (ap (λ (u : ℕ). get_or bs (2 * u + 1) 0) q ∙ sym ee) ∙ first-start bs nb e v f
-          ∙ ap (λ (u : ℕ). oneBelow u nb) (sym (ap (λ (u : ℕ). get_or (set nexts b v) u 0) q ∙ get_or-set_same nexts b v 0 (omega (arith, inv.kept))))
-      go c l (no q) = inv.next c (omega arith) ∙ ap (λ (u : ℕ). oneBelow u nb) (sym (get_or-set_other nexts b c v 0 q))
-
-  pub follows-end : nb ≤ b → Linked bs nexts nb
-  follows-end h = record { room = omega (arith, inv.kept); next = λ c l. inv.next c (omega arith) }

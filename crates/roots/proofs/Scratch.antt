@@ -1,5 +1,5 @@
 -- Rows in the scratch: a turn of each loop over the words, and the frames. Assumes nothing.
-use mathlib.Core.Path.{◌≡◌, refl, sym, ap, ap₂, ◌∙◌, subst}
+use mathlib.Core.Path.{◌≡◌, refl, sym, ap, ap₂, ◌∙◌, subst, fun_ext}
 use mathlib.Core.Logic.{◌⊎◌, inl, inr, ⊎_elim}
 use mathlib.Core.Bool.{Bool, true, false, ◌&&◌, ◌||◌}
 use mathlib.Core.List.{List, [], ◌∷◌, ◌++◌}
@@ -14,13 +14,13 @@ use lib.Seq.{slice, slice-cons, slice_empty, get_or-set_same, get_or-set_other, 
 use lib.Dec.{eqb, ltb, leb}
 use lib.Bits.{bit_or}
 use borrow.Author.Tests.{eq-eqb, ne_eqb, lt-ltb, le-ltb, le-leb, lt-leb}
-use Rattle.word.specs.Choice.{if◌then◌else◌}
+use Rattle.std.specs.Prelude.{if◌then◌else◌}
 use Rattle.word.specs.Bit.{bit}
 use Rattle.word.proofs.BitLaws.{bit-or, bit-of-zero}
 use Rattle.word.specs.Lists.{tabulate}
 use Rattle.word.proofs.ListLaws.{length-tabulate, get_d_tabulate}
 use Rattle.word.proofs.Bools.{both-and}
-use Rattle.rows.specs.Row.{bit_in, Disjoint}
+use Rattle.rows.specs.Row.{bit_in}
 use Rattle.rows.proofs.RowLaws.{or_swap as or_comm}
 use Rattle.flow.specs.Function.{Function, Instruction, Block, inst, block, start, end, existing, first_at, exits, successors}
 use Rattle.flow.specs.Dataflow.{any_of, out, track}
@@ -40,7 +40,7 @@ pub joins-none : (s : List ℕ) (dst src words : ℕ) → Joins s s dst src word
 joins-none s dst src words = record { kept = refl; high = omega arith; new = λ v h. absurd (omega arith); same = λ i h. refl }
 
 module _ {s₀ s : List ℕ} {dst src words w : ℕ} where
-  pub joins-on : Joins s₀ s dst src words w → w < words → Disjoint words dst src → dst + words ≤ length s₀
+  pub joins-on : Joins s₀ s dst src words w → w < words → src + words ≤ dst → dst + words ≤ length s₀
       → Joins s₀ (set s (dst + w) (bit_or (get_or s (dst + w) 0) (get_or s (src + w) 0))) dst src words (w + 1)
   joins-on inv h d l =
       record { kept = length-set s (dst + w) _ ∙ inv.kept; high = omega arith; new = new'; same = same' }
@@ -49,7 +49,7 @@ module _ {s₀ s : List ℕ} {dst src words w : ℕ} where
       x = bit_or (get_or s (dst + w) 0) (get_or s (src + w) 0)
 
       at : x ≡ bit_or (get_or s₀ (dst + w) 0) (get_or s₀ (src + w) 0)
-      at = ap₂ bit_or (inv.same (dst + w) (inr (omega arith))) (inv.same (src + w) (⊎_elim (λ k. inr (omega arith)) (λ k. inl (omega arith)) d))
+      at = ap₂ bit_or (inv.same (dst + w) (inr (omega arith))) (inv.same (src + w) (inl (omega arith)))
 
       new' : (v : ℕ) → v < w + 1 → get_or (set s (dst + w) x) (dst + v) 0 ≡ bit_or (get_or s₀ (dst + v) 0) (get_or s₀ (src + v) 0)
       new' v k = go (ℕ_discrete v w)
@@ -89,40 +89,9 @@ pub cell-after : {s s' : List ℕ} {a w : ℕ} → Outside s s' a w → (b q : �
 unfolding cell
 cell-after o b q k = ap (λ (x : ℕ). bit x (q % 64)) (o.same (b + q / 64) (inr (omega arith)))
 
-pub cell_apart : {s s' : List ℕ} {a W : ℕ} → Outside s s' a W → (b q : ℕ) → q < 64 * W → (b + W ≤ a) ⊎ (a + W ≤ b) → cell s' b q ≡ cell s b q
-cell_apart {s} {s'} {a} {W} o b q h d = ⊎_elim (λ k. cell-before o b q W h k) (λ k. cell-after o b q k) d
-
 -- the rows of block b lie below those of nb blocks
 pub block-fits : (b nb S : ℕ) → b < nb → b * S + S ≤ nb * S
 block-fits b nb S h = subst (λ (x : ℕ). x ≤ nb * S) (suc-mul b S) (mul-le-mul_right S h)
-
--- the rows of two blocks
-pub blocks-apart : (t b S : ℕ) → (t ≡ b → ⊥) → (t * S + S ≤ b * S) ⊎ (b * S + S ≤ t * S)
-blocks-apart t b S ne = go (dec_lt t b)
-  where
-    go : Dec (t < b) → (t * S + S ≤ b * S) ⊎ (b * S + S ≤ t * S)
-    go (yes h) = inl (block-fits t b S h)
-    go (no h) = inr (block-fits b t S (omega arith))
-
--- a block's row at e and a row at d, of one block or of two
-pub rows_apart : (t b W e d : ℕ) → e + W ≤ 3 * W → d + W ≤ 3 * W → (t ≡ b → (e + W ≤ d) ⊎ (d + W ≤ e))
-    → (t * (3 * W) + e + W ≤ b * (3 * W) + d) ⊎ (b * (3 * W) + d + W ≤ t * (3 * W) + e)
-rows_apart t b W e d he hd f = go (ℕ_discrete t b)
-  where
-    go : Dec (t ≡ b) → (t * (3 * W) + e + W ≤ b * (3 * W) + d) ⊎ (b * (3 * W) + d + W ≤ t * (3 * W) + e)
-    go (yes q) = let q' = ap (λ (u : ℕ). u * (3 * W)) q in ⊎_elim (λ k. inl (omega (arith, q'))) (λ k. inr (omega (arith, q'))) (f q)
-    go (no q) = ⊎_elim (λ k. inl (omega arith)) (λ k. inr (omega arith)) (blocks-apart t b (3 * W) q)
-
--- the row at a shares no word with a live-in row
-abbrev pub Beside : (nb W a : ℕ) → Type 0
-Beside nb W a = (t : ℕ) → t < nb → (t * (3 * W) + W ≤ a) ⊎ (a + W ≤ t * (3 * W))
-
--- a live-out row, and the row after the blocks'
-pub out-beside : (nb W b : ℕ) → Beside nb W (b * (3 * W) + 2 * W)
-out-beside nb W b t h = ⊎_elim (λ k. inl (omega arith)) (λ k. inr (omega arith)) (rows_apart t b W 0 (2 * W) (omega arith) (omega arith) (λ e. inl (omega arith)))
-
-pub past-beside : (nb W : ℕ) → Beside nb W (nb * (3 * W))
-past-beside nb W t h = inl (omega (arith, block-fits t nb (3 * W) h))
 
 -- ---- the target blocks of an instruction
 
@@ -146,21 +115,21 @@ or_swap true false c = refl
 or_swap false true c = refl
 or_swap false false c = refl
 
-pub record Targets (refs : List ℕ) (to nb W a : ℕ) (s₀ s : List ℕ) (i₀ i : ℕ) : Type 0 where
+pub record Targets (refs : List ℕ) (to nb W : ℕ) (s₀ s : List ℕ) (i₀ i : ℕ) : Type 0 where
   pub low : i₀ ≤ i
   pub high : i ≤ to
-  pub frame : Outside s₀ s a W
-  pub cells : (q : ℕ) → q < 64 * W → any_of (live_at s₀ W nb q) (existing nb (slice i to refs)) || cell s a q
-      ≡ any_of (live_at s₀ W nb q) (existing nb (slice i₀ to refs)) || cell s₀ a q
+  pub frame : Outside s₀ s (nb * (3 * W)) W
+  pub cells : (q : ℕ) → q < 64 * W → any_of (live_at s₀ W nb q) (existing nb (slice i to refs)) || cell s (nb * (3 * W)) q
+      ≡ any_of (live_at s₀ W nb q) (existing nb (slice i₀ to refs)) || cell s₀ (nb * (3 * W)) q
 
-pub targets-none : (refs : List ℕ) (to nb W a : ℕ) (s : List ℕ) (i : ℕ) → i ≤ to → Targets refs to nb W a s s i i
-targets-none refs to nb W a s i h = record { low = omega arith; high = h; frame = outside_refl s a W; cells = λ q k. refl }
+pub targets-none : (refs : List ℕ) (to nb W : ℕ) (s : List ℕ) (i : ℕ) → i ≤ to → Targets refs to nb W s s i i
+targets-none refs to nb W s i h = record { low = omega arith; high = h; frame = outside_refl s (nb * (3 * W)) W; cells = λ q k. refl }
 
-module _ {refs : List ℕ} {to nb W a : ℕ} {s₀ s : List ℕ} {i₀ i : ℕ} where
-  pub targets-on : Targets refs to nb W a s₀ s i₀ i → (s' : List ℕ) (t : ℕ) → i < to → to ≤ length refs → t ≡ get_or refs i 0 → t < nb → Beside nb W a
-      → Outside s s' a W → ((q : ℕ) → q < 64 * W → cell s' a q ≡ cell s (t * (3 * W)) q || cell s a q)
-      → Targets refs to nb W a s₀ s' i₀ (i + 1)
-  targets-on inv s' t h l e k beside o b =
+module _ {refs : List ℕ} {to nb W : ℕ} {s₀ s : List ℕ} {i₀ i : ℕ} where
+  pub targets-on : Targets refs to nb W s₀ s i₀ i → (s' : List ℕ) (t : ℕ) → i < to → to ≤ length refs → t ≡ get_or refs i 0 → t < nb
+      → Outside s s' (nb * (3 * W)) W → ((q : ℕ) → q < 64 * W → cell s' (nb * (3 * W)) q ≡ cell s (t * (3 * W)) q || cell s (nb * (3 * W)) q)
+      → Targets refs to nb W s₀ s' i₀ (i + 1)
+  targets-on inv s' t h l e k o b =
       record {
         low = omega arith;
         high = omega arith;
@@ -169,19 +138,19 @@ module _ {refs : List ℕ} {to nb W a : ℕ} {s₀ s : List ℕ} {i₀ i : ℕ} 
             (let X : ℕ → Bool = live_at s₀ W nb q in
             let rest : List ℕ = existing nb (slice (i + 1) to refs) in
             let x : cell s (t * (3 * W)) q ≡ X t =
-            cell_apart inv.frame (t * (3 * W)) q m (beside t k) ∙ sym (live_of s₀ W nb q t k) in
+            cell-before inv.frame (t * (3 * W)) q W m (omega (arith, block-fits t nb (3 * W) k)) ∙ sym (live_of s₀ W nb q t k) in
             let y : existing nb (slice i to refs) ≡ t ∷ rest =
             existing-next refs nb i to h l ∙ ap (λ (u : ℕ). if◌then◌else◌ (ltb u nb) (u ∷ rest) rest) (sym e) ∙ ap (λ (u : Bool). if◌then◌else◌ u (t ∷ rest) rest) (lt-ltb t nb k) in
-            ap (λ (u : Bool). any_of X rest || u) (b q m ∙ ap (λ (u : Bool). u || cell s a q) x)
-            ∙ or_swap (any_of X rest) (X t) (cell s a q)
-            ∙ ap (λ (u : List ℕ). any_of X u || cell s a q) (sym y)
+            ap (λ (u : Bool). any_of X rest || u) (b q m ∙ ap (λ (u : Bool). u || cell s (nb * (3 * W)) q) x)
+            ∙ or_swap (any_of X rest) (X t) (cell s (nb * (3 * W)) q)
+            ∙ ap (λ (u : List ℕ). any_of X u || cell s (nb * (3 * W)) q) (sym y)
             ∙ inv.cells q m);
       }
 
-  pub targets-skip : Targets refs to nb W a s₀ s i₀ i → (s' : List ℕ) (t : ℕ) → i < to → to ≤ length refs → t ≡ get_or refs i 0 → nb ≤ t
-      → s' ≡ s → Targets refs to nb W a s₀ s' i₀ (i + 1)
+  pub targets-skip : Targets refs to nb W s₀ s i₀ i → (s' : List ℕ) (t : ℕ) → i < to → to ≤ length refs → t ≡ get_or refs i 0 → nb ≤ t
+      → s' ≡ s → Targets refs to nb W s₀ s' i₀ (i + 1)
   targets-skip inv s' t h l e k r =
-      subst (λ (z : List ℕ). Targets refs to nb W a s₀ z i₀ (i + 1)) (sym r)
+      subst (λ (z : List ℕ). Targets refs to nb W s₀ z i₀ (i + 1)) (sym r)
       (record {
         low = omega arith;
         high = omega arith;
@@ -190,14 +159,14 @@ module _ {refs : List ℕ} {to nb W a : ℕ} {s₀ s : List ℕ} {i₀ i : ℕ} 
             (let rest : List ℕ = existing nb (slice (i + 1) to refs) in
             let y : existing nb (slice i to refs) ≡ rest =
             existing-next refs nb i to h l ∙ ap (λ (u : ℕ). if◌then◌else◌ (ltb u nb) (u ∷ rest) rest) (sym e) ∙ ap (λ (u : Bool). if◌then◌else◌ u (t ∷ rest) rest) (le-ltb t nb k) in
-            ap (λ (u : List ℕ). any_of (live_at s₀ W nb q) u || cell s a q) (sym y) ∙ inv.cells q m);
+            ap (λ (u : List ℕ). any_of (live_at s₀ W nb q) u || cell s (nb * (3 * W)) q) (sym y) ∙ inv.cells q m);
       })
 
-  pub targets-end : Targets refs to nb W a s₀ s i₀ i → to ≤ i → (q : ℕ) → q < 64 * W
-      → cell s a q ≡ any_of (live_at s₀ W nb q) (existing nb (slice i₀ to refs)) || cell s₀ a q
+  pub targets-end : Targets refs to nb W s₀ s i₀ i → to ≤ i → (q : ℕ) → q < 64 * W
+      → cell s (nb * (3 * W)) q ≡ any_of (live_at s₀ W nb q) (existing nb (slice i₀ to refs)) || cell s₀ (nb * (3 * W)) q
   targets-end inv h q m =
       let e : i ≡ to = omega (arith, inv.high) in
-      sym (ap (λ (u : List ℕ). any_of (live_at s₀ W nb q) (existing nb u) || cell s a q) (ap (λ (u : ℕ). slice u to refs) e ∙ slice_empty to refs))
+      sym (ap (λ (u : List ℕ). any_of (live_at s₀ W nb q) (existing nb u) || cell s (nb * (3 * W)) q) (ap (λ (u : ℕ). slice u to refs) e ∙ slice_empty to refs))
       ∙ inv.cells q m
 
 pub and-left-false : (a b : Bool) → a ≡ false → a && b ≡ false
@@ -415,14 +384,17 @@ joined-none X nb t h = ap (any_of X) (cut (ltb t nb) (t ∷ []) [] (le-ltb t nb 
 
 -- ---- the live-in rows and the frames
 
-pub live-kept : {s s' : List ℕ} {a W : ℕ} (nb : ℕ) → Beside nb W a → Outside s s' a W → (q : ℕ) → q < 64 * W → (t : ℕ) → live_at s' W nb q t ≡ live_at s W nb q t
-live-kept {s} {s'} {a} {W} nb beside o q h t = go (dec_lt t nb)
+pub live-frame : {s s' : List ℕ} (nb W : ℕ) → Outside s s' (nb * (3 * W)) W → (q : ℕ) → q < 64 * W → (t : ℕ) → live_at s' W nb q t ≡ live_at s W nb q t
+live-frame {s} {s'} nb W o q h t = go (dec_lt t nb)
   where
     go : Dec (t < nb) → live_at s' W nb q t ≡ live_at s W nb q t
-    go (yes k) = live_of s' W nb q t k ∙ cell_apart o (t * (3 * W)) q h (beside t k) ∙ sym (live_of s W nb q t k)
+    go (yes k) =
+        live_of s' W nb q t k ∙ cell-before o (t * (3 * W)) q W h (omega (arith, block-fits t nb (3 * W) k)) ∙ sym (live_of s W nb q t k)
     go (no k) = live-not s' W nb q t (omega arith) ∙ sym (live-not s W nb q t (omega arith))
 
--- a row that was cleared and joined with the row at src
-pub gathered : {s s₁ : List ℕ} (s₂ : List ℕ) (a W src : ℕ) → Outside s s₁ a W → (q : ℕ) → q < 64 * W → src + W ≤ a → cell s₁ a q ≡ false
-    → cell s₂ a q ≡ cell s₁ src q || cell s₁ a q → cell s₂ a q ≡ cell s src q
-gathered {s} {s₁} s₂ a W src o q h k z e = e ∙ ap₂ (λ (x y : Bool). x || y) (cell-before o src q W h k) z ∙ or-false (cell s src q)
+pub gathered : {s s₁ : List ℕ} (s₂ : List ℕ) (nb W : ℕ) (g : Function) (b : ℕ) → Outside s s₁ (nb * (3 * W)) W
+    → (q : ℕ) → q < 64 * W → cell s₁ (nb * (3 * W)) q ≡ false
+    → cell s₂ (nb * (3 * W)) q ≡ out g (live_at s₁ W nb q) b || cell s₁ (nb * (3 * W)) q
+    → cell s₂ (nb * (3 * W)) q ≡ out g (live_at s W nb q) b
+gathered {s} {s₁} s₂ nb W g b o q h z e =
+    e ∙ ap₂ (λ (X : ℕ → Bool) (y : Bool). out g X b || y) (fun_ext (live-frame nb W o q h)) z ∙ or-false (out g (live_at s W nb q) b)

@@ -1,21 +1,16 @@
--- One block of a pass: its live-out row gets more, and `rows::step_block` adds what is not killed to its live-in row. Assumes nothing.
+-- One block of a pass: the row after the blocks' has its live-out, and `rows::step_at` adds what is not killed to its live-in row. Assumes nothing.
 use mathlib.Core.Path.{◌≡◌, refl, sym, ap, ap₂, ◌∙◌, subst}
-use mathlib.Core.Logic.{◌⊎◌, inl, inr, ⊎_elim}
+use mathlib.Core.Logic.{◌⊎◌, inl, ⊎_elim}
 use mathlib.Core.Bool.{Bool, true, false, not, ◌&&◌, ◌||◌}
 use mathlib.Core.List.{List}
 use Prim.Native.Nat.{ℕ, ◌+◌, ◌-◌, ◌*◌, ◌/◌, ◌%◌, ◌≤◌, ◌<◌}
 use native.Mathlib.Omega.{arith}
 use native.Mathlib.Decide.{dec_lt}
-use native.Mathlib.Nat.{mul-add-div_right, mul-add-mod_self_right}
-use lib.Dec.{lit<}
 use lib.ListN.{length, get_or, take, drop, length-drop, length-take}
 use lib.Seq.{take-take, get_or-take, get_or-drop, ext_get_or}
 use Rattle.word.specs.Bit.{bit}
-use Rattle.word.specs.Ones.{passing}
 use Rattle.rows.specs.Row.{bit_in, part, Part, Stepped, listed}
-use Rattle.rows.proofs.RowLaws.{from-word}
-use Rattle.rows.proofs.PartLaws.{bit_in-within}
-use Rattle.roots.proofs.Growth.{stepped-more, passing-grows}
+use Rattle.roots.proofs.Growth.{stepped-more}
 use Rattle.roots.specs.Columns.{Outside, cell, set_bits}
 
 -- bits of a part
@@ -80,63 +75,31 @@ module _ {s s' : List ℕ} {a e : ℕ} {R : List ℕ → List ℕ → Type 0} (p
         ∙ get_or-drop e s i 0 ∙ sym (get_or-take m s (e + i) 0 k) ∙ sym (get_or-drop e (take m s) i 0));
   }
 
--- what `rows::step_block` ensures, said of rows in the scratch
+-- what one step of `rows::step_at` ensures, said of rows in the scratch: a row of zeros is given for what is made
 pub record Met (s s' : List ℕ) (m W live out kill : ℕ) (changed : Bool) : Type 0 where
   pub frame : Outside s s' live W
   pub cells : (q : ℕ) → q < 64 * W → cell s' live q ≡ cell s live q || (cell s out q && not (cell s kill q))
   pub same : changed ≡ false → s' ≡ s
   pub more : changed ≡ true → set_bits m s < set_bits m s'
 
-pub met_of : {s s' : List ℕ} (m W live out kill : ℕ) {changed : Bool}
-    → Part s s' live (live + W) (λ l l'. Stepped 64 l (part out (out + W) s) (part kill (kill + W) s) l' changed)
-    → live + W ≤ m → m ≤ length s → Met s s' m W live out kill changed
-met_of {s} {s'} m W live out kill {changed} p low high = record {
+pub met_of : {s s' : List ℕ} (m W live made out kill : ℕ) {changed : Bool}
+    → Part s s' live (live + W) (λ l l'. Stepped 64 l (part made (made + W) s) (part out (out + W) s) (part kill (kill + W) s) l' changed)
+    → live + W ≤ m → m ≤ length s → ((q : ℕ) → q < 64 * W → cell s made q ≡ false) → Met s s' m W live out kill changed
+met_of {s} {s'} m W live made out kill {changed} p low high blank = record {
   frame = part-frame p W refl;
   cells = λ q h.
       sym (part-cell live W s' q h) ∙ p.inside.bits q
-      ∙ ap₂ (λ (x y : Bool). x || y) (part-cell live W s q h) (ap₂ (λ (x y : Bool). x && not y) (part-cell out W s q h) (part-cell kill W s q h));
+      ∙ ap₂ (λ (x y : Bool). x || y) (part-cell live W s q h)
+      (ap₂ (λ (x y : Bool). x || y) (part-cell made W s q h ∙ blank q h)
+      (ap₂ (λ (x y : Bool). x && not y) (part-cell out W s q h) (part-cell kill W s q h)));
   same = λ c. part_same p (p.inside.same c);
-  more = λ c. stepped-more (take m s) (take m s') live (live + W) (part out (out + W) s) (part kill (kill + W) s) (omega arith)
+  more = λ c. stepped-more (take m s) (take m s') live (live + W) (part made (made + W) s) (part out (out + W) s) (part kill (kill + W) s) (omega arith)
       (omega (arith, length-take m s)) changed (part-take p m (omega arith) low) c;
 }
 
--- ---- a row that gets more
-
-bit-take : (m : ℕ) (l : List ℕ) (k : ℕ) → k / 64 < m → bit_in 64 (take m l) k ≡ bit_in 64 l k
-unfolding bit_in
-bit-take m l k h = ap (λ (x : ℕ). bit x (k % 64)) (get_or-take m l (k / 64) 0 h)
-
-bit_kept : {s s' : List ℕ} {a W : ℕ} → Outside s s' a W → (k : ℕ) → (k / 64 < a) ⊎ (a + W ≤ k / 64) → bit_in 64 s' k ≡ bit_in 64 s k
-unfolding bit_in
-bit_kept o k d = ap (λ (x : ℕ). bit x (k % 64)) (o.same (k / 64) d)
-
-bit-cell : (s : List ℕ) (a q : ℕ) → bit_in 64 s (a * 64 + q) ≡ cell s a q
-unfolding bit_in cell
-bit-cell s a q = ap₂ (λ (x y : ℕ). bit (get_or s x 0) y) (mul-add-div_right (lit< tt) a q) (mul-add-mod_self_right a 64 q)
-
--- where one row got more and nothing else changed, as many bits are set
-pub bits-grown : {s s' : List ℕ} {a W : ℕ} (m : ℕ) → Outside s s' a W → ((q : ℕ) → q < 64 * W → cell s a q ≡ true → cell s' a q ≡ true) → set_bits m s ≤ set_bits m s'
-unfolding listed
-bits-grown {s} {s'} {a} {W} m o g =
-    subst (λ (n : ℕ). length (passing (bit_in 64 (take m s)) 0 (length (take m s) * 64)) ≤ length (passing (bit_in 64 (take m s')) 0 (n * 64))) (sym lens)
-    (passing-grows (bit_in 64 (take m s)) (bit_in 64 (take m s')) 0 (length (take m s) * 64) more)
-  where
-    lens : length (take m s') ≡ length (take m s)
-    lens = omega (arith, length-take m s, length-take m s', o.kept)
-
-    inside : (k : ℕ) → a ≤ k / 64 → k / 64 < a + W → bit_in 64 s k ≡ true → bit_in 64 s' k ≡ true
-    inside k low high h =
-        let t = from-word 64 a k (lit< tt) low in
-        let l : t.0 < 64 * W = let q = t.2 in omega arith in
-        ap (bit_in 64 s') t.1 ∙ bit-cell s' a t.0 ∙ g t.0 l (sym (bit-cell s a t.0) ∙ ap (bit_in 64 s) (sym t.1) ∙ h)
-
-    go : (k : ℕ) → Dec (k / 64 < a) → Dec (k / 64 < a + W) → bit_in 64 s k ≡ true → bit_in 64 s' k ≡ true
-    go k (yes x) y h = bit_kept o k (inl x) ∙ h
-    go k (no x) (yes y) h = inside k (omega arith) y h
-    go k (no x) (no y) h = bit_kept o k (inr (omega arith)) ∙ h
-
-    more : (k : ℕ) → bit_in 64 (take m s) k ≡ true → bit_in 64 (take m s') k ≡ true
-    more k h =
-        let w = bit_in-within 64 (take m s) k h in
-        let l : k / 64 < m = omega (arith, length-take m s) in
-        bit-take m s' k l ∙ go k (dec_lt (k / 64) a) (dec_lt (k / 64) (a + W)) (sym (bit-take m s k l) ∙ h)
+-- words from m on do not count
+pub bits-kept : {s s' : List ℕ} {a w : ℕ} (m : ℕ) → m ≤ a → Outside s s' a w → set_bits m s' ≡ set_bits m s
+bits-kept {s} {s'} m h o =
+    ap (λ (l : List ℕ). length (listed 64 l))
+    (ext_get_or 0 (take m s') (take m s) (omega (arith, length-take m s, length-take m s', o.kept))
+    (λ i k. let l : i < m = omega (arith, length-take m s') in get_or-take m s' i 0 l ∙ o.same i (inl (omega arith)) ∙ sym (get_or-take m s i 0 l)))

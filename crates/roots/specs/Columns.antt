@@ -1,12 +1,11 @@
--- What the inner functions ensure of the scratch. Block b has three bit rows of W words at b * (3 * W): live-in, kill and live-out. After the rows of the last
--- block comes the row of one instruction.
-use Rattle.std.specs.Prelude.{◌≡◌, ◌⊎◌, Bool, true, false, not, ◌&&◌, ◌||◌, List, [], ◌∷◌, ℕ, zero, ◌+◌, ◌-◌, ◌*◌, ◌/◌, ◌%◌, ◌≤◌, ◌<◌, length, get_or, take, ltb, eqb}
-use Rattle.word.specs.Choice.{if◌then◌else◌}
+-- What the inner functions ensure of the scratch. Block b has three rows of W words at b * (3 * W): live-in, kill, and one whose first word is the block
+-- that follows in the code. After the rows of the last block come the row in which the live-out of one block is gathered, and a row of zeros.
+use Rattle.std.specs.Prelude.{◌≡◌, ◌⊎◌, Bool, true, false, not, ◌&&◌, ◌||◌, List, [], ◌∷◌, ℕ, zero, ◌+◌, ◌-◌, ◌*◌, ◌/◌, ◌%◌, ◌≤◌, ◌<◌, length, get_or, take, ltb, eqb, if◌then◌else◌}
 use Rattle.word.specs.Bit.{bit}
 use Rattle.word.specs.Lists.{tabulate}
 use Rattle.rows.specs.Row.{bit_in, listed}
 use Rattle.flow.specs.Function.{Function, first_at, end}
-use Rattle.flow.specs.Dataflow.{gen, kill, out, into, Sound, live_in, track}
+use Rattle.flow.specs.Dataflow.{gen, kill, into, Sound, live_in, track}
 use Rattle.roots.specs.View.{start_of, block_at, view}
 use Rattle.roots.specs.declared.Tracked.{Tracked}
 use Rattle.roots.specs.declared.Tracked.TheVariants.{References, Handles, All}
@@ -53,17 +52,17 @@ oneBelow t n = if◌then◌else◌ (ltb t n) (t ∷ []) []
 abbrev pub set_bits : ℕ → List ℕ → ℕ
 set_bits k s = length (listed 64 (take k s))
 
--- the live-in rows have gen, the kill rows are right, r is live into each block whose live-in row has it, and the live-out rows have nothing that no successor's live-in row has
+-- the live-in rows have gen, the kill rows are right, and r is live into each block whose live-in row has it
 pub record Rows (f : Function) (s : List ℕ) (W nb : ℕ) : Type 0 where
   pub gens : (b q : ℕ) → b < nb → q < 64 * W → gen f q b ≡ true → live_at s W nb q b ≡ true
   pub kills : (b q : ℕ) → b < nb → q < 64 * W → cell s (b * (3 * W) + W) q ≡ kill f q b
   pub sound : (q : ℕ) → q < 64 * W → Sound f q (live_at s W nb q)
-  pub outs : (b q : ℕ) → b < nb → q < 64 * W → cell s (b * (3 * W) + 2 * W) q ≡ true → out f (live_at s W nb q) b ≡ true
 
--- number b of the list is the first nonempty block that starts where block b ends, or none
-pub record Linked (bs nexts : List ℕ) (nb : ℕ) : Type 0 where
-  pub room : nb ≤ length nexts
-  pub next : (b : ℕ) → b < nb → first_at (tabulate nb (block_at bs)) (get_or bs (2 * b + 1) 0) 0 ≡ oneBelow (get_or nexts b 0) nb
+-- the third row of a nonempty block begins with the block that it falls through to, and the last row is zero
+pub record Linked (bs s : List ℕ) (W nb : ℕ) : Type 0 where
+  pub wide : 0 < W
+  pub next : (b : ℕ) → b < nb → get_or bs (2 * b) 0 < get_or bs (2 * b + 1) 0 → first_at (tabulate nb (block_at bs)) (get_or bs (2 * b + 1) 0) 0 ≡ oneBelow (get_or s (b * (3 * W) + 2 * W) 0) nb
+  pub blank : (q : ℕ) → q < 64 * W → cell s (nb * (3 * W) + W) q ≡ false
 
 -- c is the first of i, i + 1, .. that has P, if it is below n; otherwise none of them below n has it
 pub record First (P : ℕ → Type 0) (i n c : ℕ) : Type 0 where
@@ -87,42 +86,42 @@ pub record Chains (bs : List ℕ) (w nb b : ℕ) (heads links : List ℕ) : Type
   pub head : (k : ℕ) → k < 4096 → First (Bucketed bs w k) b nb (get_or heads k 0)
   pub link : (j : ℕ) → b ≤ j → j < nb → get_or bs (2 * j) 0 < get_or bs (2 * j + 1) 0 → First (Bucketed bs w (get_or bs (2 * j + w) 0 % 4096)) (j + 1) nb (get_or links j 0)
 
--- the live-in and kill rows of block b are begun, in words that were zero
-pub record Begun (t : ℕ → Bool) (ends refs bs cs s s' : List ℕ) (W b : ℕ) : Type 0 where
-  pub frame : Outside s s' (b * (3 * W)) (2 * W)
+-- the rows of block b are begun, in words that were zero
+pub record Begun (t : ℕ → Bool) (ends refs bs cs s s' : List ℕ) (nb W b : ℕ) : Type 0 where
+  pub frame : Outside s s' (b * (3 * W)) (3 * W)
   pub lives : (ks : List ℕ) (q : ℕ) → q < 64 * W → cell s' (b * (3 * W)) q ≡ gen (seen t ks ends refs bs cs) q b
   pub kills : (ks : List ℕ) (q : ℕ) → q < 64 * W → cell s' (b * (3 * W) + W) q ≡ kill (seen t ks ends refs bs cs) q b
+  pub next : get_or bs (2 * b) 0 < get_or bs (2 * b + 1) 0 → first_at (tabulate nb (block_at bs)) (get_or bs (2 * b + 1) 0) 0 ≡ oneBelow (get_or s' (b * (3 * W) + 2 * W) 0) nb
 
 -- those of every block
 pub record Built (t : ℕ → Bool) (ends refs bs cs s s' : List ℕ) (nb W : ℕ) : Type 0 where
   pub kept : length s' ≡ length s
+  pub linked : Linked bs s' W nb
   pub rows : (ks : List ℕ) → Rows (seen t ks ends refs bs cs) s' W nb
 
 -- a pass from s₀ that has done the blocks from b on and is now at s; `changed` says whether a live-in row got more
 pub record Pass (ks ends refs bs s₀ s : List ℕ) (nb W b : ℕ) (changed : Bool) : Type 0 where
   pub kept : length s ≡ length s₀
   pub high : b ≤ nb
+  pub linked : Linked bs s W nb
   pub rows : (t : ℕ → Bool) (cs : List ℕ) → Rows (seen t ks ends refs bs cs) s₀ W nb → Rows (seen t ks ends refs bs cs) s W nb
   pub grown : set_bits (nb * (3 * W)) s₀ ≤ set_bits (nb * (3 * W)) s
   pub closed : changed ≡ false → (t : ℕ → Bool) (cs : List ℕ) (q c : ℕ) → Rows (seen t ks ends refs bs cs) s₀ W nb → q < 64 * W → b ≤ c → c < nb
       → into (seen t ks ends refs bs cs) q (live_at s W nb q) c ≡ true → live_at s W nb q c ≡ true
-  pub filled : changed ≡ false → (t : ℕ → Bool) (cs : List ℕ) (q c : ℕ) → Rows (seen t ks ends refs bs cs) s₀ W nb → q < 64 * W → b ≤ c → c < nb
-      → cell s (c * (3 * W) + 2 * W) q ≡ out (seen t ks ends refs bs cs) (live_at s W nb q) c
   pub more : changed ≡ true → set_bits (nb * (3 * W)) s₀ < set_bits (nb * (3 * W)) s
 
--- no pass adds anything any more, and the live-out rows are those of the live-in rows
+-- no pass adds anything any more
 pub record Solved (ks ends refs bs s₀ s : List ℕ) (nb W : ℕ) : Type 0 where
   pub kept : length s ≡ length s₀
+  pub linked : Linked bs s W nb
   pub rows : (t : ℕ → Bool) (cs : List ℕ) → Rows (seen t ks ends refs bs cs) s₀ W nb → Rows (seen t ks ends refs bs cs) s W nb
-  pub filled : (t : ℕ → Bool) (cs : List ℕ) (q : ℕ) → Rows (seen t ks ends refs bs cs) s₀ W nb → q < 64 * W → (b : ℕ) → b < nb
-      → cell s (b * (3 * W) + 2 * W) q ≡ out (seen t ks ends refs bs cs) (live_at s W nb q) b
   pub closed : (t : ℕ → Bool) (cs : List ℕ) (q : ℕ) → Rows (seen t ks ends refs bs cs) s₀ W nb → q < 64 * W → (b : ℕ) → b < nb
       → into (seen t ks ends refs bs cs) q (live_at s W nb q) b ≡ true → live_at s W nb q b ≡ true
 
--- the live-in rows are the least fixpoint, and the live-out rows are those of it
-pub record Fixed (f : Function) (s : List ℕ) (W nb : ℕ) : Type 0 where
+-- the live-in rows are the least fixpoint
+pub record Fixed (f : Function) (bs s : List ℕ) (W nb : ℕ) : Type 0 where
+  pub linked : 0 < W → Linked bs s W nb
   pub lives : (b q : ℕ) → q < 64 * W → live_at s W nb q b ≡ live_in f q b
-  pub outs : (b q : ℕ) → b < nb → q < 64 * W → cell s (b * (3 * W) + 2 * W) q ≡ out f (live_in f q) b
 
 -- block r holds instruction pc, or no block does and r is nb
 pub record Found (bs : List ℕ) (nb pc r : ℕ) : Type 0 where

@@ -54,7 +54,7 @@ pub fn live_row(
         ≡ live_before (seen (wanted which) kinds.now ends.now refs.now blocks.now classes.now) b pc q) }
 {
     analyse(s, kinds, ends, refs, blocks, classes, which, nb, words);
-    gather(s, nb, words, b);
+    gather(s, kinds, ends, refs, blocks, nb, words, b);
     let e = wide(blocks[2 * b + 1]);
     back_at(
         s,
@@ -97,7 +97,7 @@ pub fn live_at(
     regs: &mut [u32],
     rows: &mut [u64],
 ) -> Reply
-    ensures { LiveAtCall (record { kinds = kinds.entry.now; ends = ends.now; refs = refs.now; blocks = blocks.now; classes = classes.now })
+    ensures { LiveAtCall (record { kinds = kinds.now; ends = ends.now; refs = refs.now; blocks = blocks.now; classes = classes.now })
         (wanted which) pc regs.old rows.old regs.new rows.new (told result) }
 {
     let words = (classes.len() + 63) / 64;

@@ -2,12 +2,12 @@
 // start and word 1 its end. Blocks that share no instruction of 65,536 have at most 16 starts, and 16 ends, of one remainder.
 // 65,535 is no block: its two bytes are equal, so that an array of it is filled as bytes are, in half the time.
 ghost use Rattle.std.specs.Prelude.{◌≡◌, ◌+◌, ◌*◌, ◌/◌, ◌≤◌, ◌<◌, length};
-ghost use Rattle.roots.specs.Columns.{First, Keyed, Chains, Linked};
+ghost use Rattle.roots.specs.Columns.{First, Keyed, Chains};
 
 use crate::row::wide;
 
 // A number of 16 bits as an index.
-pub fn short(x: u16) -> usize
+fn short(x: u16) -> usize
     ensures { result ≡ x }
 {
     x as usize
@@ -50,7 +50,7 @@ pub fn first_at(
     pc: usize,
 ) -> usize
     requires { (nb * 2 ≤ length blocks.now) × (word < 2) × Chains blocks.now word nb 0 heads.now links.now }
-    ensures { First (Keyed blocks.now word pc) 0 nb result × (result ≤ nb) }
+    ensures { First (Keyed blocks.now word pc) 0 nb result }
 {
     let mut c = short(heads[pc % 4096]);
     while c < nb {
@@ -60,30 +60,4 @@ pub fn first_at(
         c = short(links[c]);
     }
     nb
-}
-
-// The block that each one falls through to, found through the chains of the blocks by their start: the first nonempty one that starts at its end, or nb.
-fn follow(blocks: &[u32], nb: usize, heads: &[u16], links: &[u16], nexts: &mut [u16])
-    requires { (nb ≡ length blocks.now / 2) × (nb ≤ 4096) × (nb ≤ length nexts.old) × Chains blocks.now 0 nb 0 heads.now links.now }
-    ensures { Linked blocks.now nexts.new nb }
-{
-    let mut b = 0;
-    while b < nb {
-        let e = wide(blocks[2 * b + 1]);
-        let t = first_at(blocks, nb, 0, heads, links, e);
-        nexts[b] = t as u16;
-        b += 1;
-    }
-}
-
-// The block that each one falls through to, or nb.
-pub fn link(blocks: &[u32], nb: usize, nexts: &mut [u16])
-    requires { (nb ≡ length blocks.now / 2) × (nb ≤ 4096) × (nb ≤ length nexts.old) }
-    ensures { Linked blocks.now nexts.new nb }
-{
-    // 65,535 is no block.
-    let mut heads = [65535u16; 4096];
-    let mut links = [65535u16; 4096];
-    chain(blocks, nb, 0, &mut heads, &mut links);
-    follow(blocks, nb, &heads, &links, nexts);
 }

@@ -1,15 +1,21 @@
-// The three rows of each block in one scratch, live-in, kill and live-out, and the passes to the least fixpoint.
+// The rows of all blocks in one scratch: gen and kill, the live-out of a block, and the passes to the least fixpoint.
 ghost use Rattle.std.specs.Prelude.{◌≡◌, Bool, true, false, ◌||◌, List, ℕ, ◌+◌, ◌-◌, ◌*◌, ◌/◌, ◌≤◌, ◌<◌, length, get_or};
 ghost use Rattle.std.proofs.Math.Seq.{slice};
-ghost use Rattle.rows.specs.Row.{Disjoint};
 ghost use Rattle.flow.specs.Function.{existing};
 ghost use Rattle.flow.specs.Dataflow.{back, killed, any_of, out};
 ghost use Rattle.roots.specs.View.{formed};
-ghost use Rattle.roots.specs.Columns.{wanted, seen, Lists, Columns, Outside, cell, live_at, Linked, Begun, Built, Pass, Solved, Fixed};
+ghost use Rattle.roots.specs.Columns.{wanted, seen, Lists, Columns, Outside, cell, live_at, Linked, Chains, Begun, Built, Pass, Solved, Fixed};
 
 use crate::Tracked;
-use crate::chains::{link, short};
+use crate::chains::{chain, first_at};
 use crate::row::wide;
+
+// A number of 64 bits as an index.
+fn index(x: u64) -> usize
+    ensures { result ≡ x }
+{
+    x as usize
+}
 
 // The row at `at` becomes zero.
 fn clear_row(s: &mut [u64], at: usize, words: usize)
@@ -64,7 +70,7 @@ fn kill_at(
 
 // The row at dst gets the registers of the row at src too.
 fn join(s: &mut [u64], dst: usize, src: usize, words: usize)
-    requires { Disjoint words dst src × (src + words ≤ length s.old) × (dst + words ≤ length s.old) }
+    requires { (src + words ≤ dst) × (dst + words ≤ length s.old) }
     ensures { Outside s.old s.new dst words × ((q : ℕ) → q < 64 * words → cell s.new dst q ≡ cell s.old src q || cell s.old dst q) }
 {
     let mut w = 0;
@@ -76,22 +82,14 @@ fn join(s: &mut [u64], dst: usize, src: usize, words: usize)
     }
 }
 
-// The live-out row of block b gets the live-in registers of the blocks refs[from..to] that exist.
-fn join_targets(
-    s: &mut [u64],
-    refs: &[u32],
-    from: usize,
-    to: usize,
-    nb: usize,
-    words: usize,
-    b: usize,
-)
-    requires { (from ≤ to) × (to ≤ length refs.now) × (b < nb) × (nb * (3 * words) + 2 * words ≤ length s.old) }
-    ensures { Outside s.old s.new (b * (3 * words) + 2 * words) words × ((q : ℕ) → q < 64 * words → cell s.new (b * (3 * words) + 2 * words) q
-        ≡ any_of (live_at s.old words nb q) (existing nb (slice from to refs.now)) || cell s.old (b * (3 * words) + 2 * words) q) }
+// The row after the blocks' gets the live-in registers of the blocks refs[from..to] that exist.
+fn join_targets(s: &mut [u64], refs: &[u32], from: usize, to: usize, nb: usize, words: usize)
+    requires { (from ≤ to) × (to ≤ length refs.now) × (nb * (3 * words) + words ≤ length s.old) }
+    ensures { Outside s.old s.new (nb * (3 * words)) words × ((q : ℕ) → q < 64 * words → cell s.new (nb * (3 * words)) q
+        ≡ any_of (live_at s.old words nb q) (existing nb (slice from to refs.now)) || cell s.old (nb * (3 * words)) q) }
 {
     let stride = 3 * words;
-    let out = b * stride + 2 * words;
+    let out = nb * stride;
     let mut i = from;
     while i < to {
         let t = wide(refs[i]);
@@ -102,25 +100,28 @@ fn join_targets(
     }
 }
 
-// The live-out row of block b gets the live-in registers of the blocks that follow it.
+// The row after the blocks' gets the live-out of block b.
 fn leave(
     s: &mut [u64],
     kinds: &[u8],
     ends: &[u32],
     refs: &[u32],
     blocks: &[u32],
-    nexts: &[u16],
     nb: usize,
     words: usize,
     b: usize,
 )
     requires columns { Columns kinds.now ends.now refs.now blocks.now }
-    requires nb_value { (nb ≡ length blocks.now / 2) × (b < nb) × (nb * (3 * words) + 2 * words ≤ length s.old) × Linked blocks.now nexts.now nb }
-    ensures { Outside s.old s.new (b * (3 * words) + 2 * words) words
-        × ((t : ℕ → Bool) (cs : List ℕ) (q : ℕ) → q < 64 * words → cell s.new (b * (3 * words) + 2 * words) q
+    requires nb_value { (nb ≡ length blocks.now / 2) × (b < nb) × (nb * (3 * words) + 2 * words ≤ length s.old) × (0 < words → Linked blocks.now s.old words nb) }
+    ensures { Outside s.old s.new (nb * (3 * words)) words × ((t : ℕ → Bool) (cs : List ℕ) (q : ℕ) → q < 64 * words → cell s.new (nb * (3 * words)) q
         ≡ out (seen t kinds.now ends.now refs.now blocks.now cs) (live_at s.old words nb q) b
-        || cell s.old (b * (3 * words) + 2 * words) q) }
+        || cell s.old (nb * (3 * words)) q) }
 {
+    if words == 0 {
+        return;
+    }
+    let stride = 3 * words;
+    let at = nb * stride;
     let st = wide(blocks[2 * b]);
     let e = wide(blocks[2 * b + 1]);
     if e <= st {
@@ -132,54 +133,62 @@ fn leave(
             let j = 3 * (e - 1) + 1;
             let from = wide(ends[j]);
             let to = wide(ends[j + 1]);
-            join_targets(s, refs, from, to, nb, words, b);
+            join_targets(s, refs, from, to, nb, words);
             return;
         }
         if k <= 6 {
             return;
         }
     }
-    let t = short(nexts[b]);
+    let t = index(s[b * stride + 2 * words]);
     if t < nb {
-        let stride = 3 * words;
-        join(s, b * stride + 2 * words, t * stride, words);
+        join(s, at, t * stride, words);
     }
 }
 
-// The row after the blocks' becomes the live-out row of block b.
-pub fn gather(s: &mut [u64], nb: usize, words: usize, b: usize)
-    requires { (b < nb) × (nb * (3 * words) + 2 * words ≤ length s.old) }
-    ensures { Outside s.old s.new (nb * (3 * words)) words
-        × ((q : ℕ) → q < 64 * words → cell s.new (nb * (3 * words)) q ≡ cell s.old (b * (3 * words) + 2 * words) q) }
+// The row after the blocks' becomes the live-out of block b.
+pub fn gather(
+    s: &mut [u64],
+    kinds: &[u8],
+    ends: &[u32],
+    refs: &[u32],
+    blocks: &[u32],
+    nb: usize,
+    words: usize,
+    b: usize,
+)
+    requires columns { Columns kinds.now ends.now refs.now blocks.now }
+    requires nb_value { (nb ≡ length blocks.now / 2) × (b < nb) × (nb * (3 * words) + 2 * words ≤ length s.old) × (0 < words → Linked blocks.now s.old words nb) }
+    ensures { Outside s.old s.new (nb * (3 * words)) words × ((t : ℕ → Bool) (cs : List ℕ) (q : ℕ) → q < 64 * words → cell s.new (nb * (3 * words)) q
+        ≡ out (seen t kinds.now ends.now refs.now blocks.now cs) (live_at s.old words nb q) b) }
 {
-    let stride = 3 * words;
-    let at = nb * stride;
-    clear_row(s, at, words);
-    join(s, at, b * stride + 2 * words, words);
+    clear_row(s, nb * (3 * words), words);
+    leave(s, kinds, ends, refs, blocks, nb, words, b);
 }
 
-// One pass over the blocks, the last first: each block's three rows are lent on to the step. Whether a live-in row got more.
+// One pass over the blocks, the last first. Whether a live-in row got more.
 fn pass(
     s: &mut [u64],
     kinds: &[u8],
     ends: &[u32],
     refs: &[u32],
     blocks: &[u32],
-    nexts: &[u16],
     nb: usize,
     words: usize,
 ) -> bool
     requires columns { Columns kinds.now ends.now refs.now blocks.now }
-    requires nb_value { (nb ≡ length blocks.now / 2) × (nb * (3 * words) + 2 * words ≤ length s.old) × Linked blocks.now nexts.now nb }
+    requires nb_value { (nb ≡ length blocks.now / 2) × (nb * (3 * words) + 2 * words ≤ length s.old) × Linked blocks.now s.old words nb }
     ensures { Pass kinds.now ends.now refs.now blocks.now s.old s.new nb words 0 result }
 {
     let stride = 3 * words;
+    let at = nb * stride;
     let mut changed = false;
     let mut b = nb;
     while 0 < b {
         b -= 1;
-        leave(s, kinds, ends, refs, blocks, nexts, nb, words, b);
-        let grown = rows::step_block(s, words, b * stride);
+        gather(s, kinds, ends, refs, blocks, nb, words, b);
+        let live = b * stride;
+        let grown = rows::step_block(s, words, live, at + words, at, live + words, at + 2 * words);
         if grown {
             changed = true;
         }
@@ -194,23 +203,22 @@ fn solve(
     ends: &[u32],
     refs: &[u32],
     blocks: &[u32],
-    nexts: &[u16],
     nb: usize,
     words: usize,
 )
     requires columns { Columns kinds.now ends.now refs.now blocks.now }
-    requires nb_value { (nb ≡ length blocks.now / 2) × (nb * (3 * words) + 2 * words ≤ length s.old) × Linked blocks.now nexts.now nb }
+    requires nb_value { (nb ≡ length blocks.now / 2) × (nb * (3 * words) + 2 * words ≤ length s.old) × Linked blocks.now s.old words nb }
     ensures { Solved kinds.now ends.now refs.now blocks.now s.old s.new nb words }
 {
     loop {
-        let more = pass(s, kinds, ends, refs, blocks, nexts, nb, words);
+        let more = pass(s, kinds, ends, refs, blocks, nb, words);
         if !more {
             return;
         }
     }
 }
 
-// The rows of block b, in words that are zero: gen, kill, and nothing live out of it yet.
+// The rows of block b, in words that are zero: gen, kill, and the block that it falls through to.
 fn start_block(
     s: &mut [u64],
     ends: &[u32],
@@ -221,11 +229,14 @@ fn start_block(
     nb: usize,
     words: usize,
     b: usize,
+    heads: &[u16],
+    links: &[u16],
 )
-    requires nb_value { (nb ≡ length blocks.now / 2) × (b < nb) × (nb * (3 * words) + 2 * words ≤ length s.old) × (length classes.now ≤ 64 * words) × Lists ends.now refs.now }
+    requires nb_value { (nb ≡ length blocks.now / 2) × (b < nb) × (nb * (3 * words) + 2 * words ≤ length s.old) × (length classes.now ≤ 64 * words) × (0 < words)
+        × Lists ends.now refs.now × Chains blocks.now 0 nb 0 heads.now links.now }
     requires b_in_bounds { get_or blocks.now (2 * b) 0 < get_or blocks.now (2 * b + 1) 0 → 3 * get_or blocks.now (2 * b + 1) 0 ≤ length ends.now }
     requires by_index { (i : ℕ) → b * (3 * words) ≤ i → get_or s.old i 0 ≡ 0 }
-    ensures { Begun (wanted which) ends.now refs.now blocks.now classes.now s.old s.new words b }
+    ensures { Begun (wanted which) ends.now refs.now blocks.now classes.now s.old s.new nb words b }
 {
     let st = wide(blocks[2 * b]);
     let e = wide(blocks[2 * b + 1]);
@@ -235,9 +246,11 @@ fn start_block(
     let at = b * (3 * words);
     back_at(s, at, words, ends, refs, classes, which, st, e);
     kill_at(s, at + words, words, ends, refs, classes, which, st, e);
+    let t = first_at(blocks, nb, 0, heads, links, e);
+    s[at + 2 * words] = t as u64;
 }
 
-// The rows of every block, in a scratch of zeros.
+// The rows of every block, in a scratch of zeros, from the chains of the blocks by their start.
 fn start_blocks(
     s: &mut [u64],
     ends: &[u32],
@@ -247,20 +260,51 @@ fn start_blocks(
     which: Tracked,
     nb: usize,
     words: usize,
+    heads: &[u16],
+    links: &[u16],
 )
-    requires nb_value { (nb ≡ length blocks.now / 2) × (nb * (3 * words) + 2 * words ≤ length s.old) × (length classes.now ≤ 64 * words) × Lists ends.now refs.now }
+    requires nb_value { (nb ≡ length blocks.now / 2) × (nb * (3 * words) + 2 * words ≤ length s.old) × (length classes.now ≤ 64 * words) × (0 < words) × Lists ends.now refs.now
+        × Chains blocks.now 0 nb 0 heads.now links.now }
     requires by_index { (b : ℕ) → b < nb → get_or blocks.now (2 * b) 0 < get_or blocks.now (2 * b + 1) 0 → 3 * get_or blocks.now (2 * b + 1) 0 ≤ length ends.now }
     requires by_index_2 { (i : ℕ) → get_or s.old i 0 ≡ 0 }
     ensures { Built (wanted which) ends.now refs.now blocks.now classes.now s.old s.new nb words }
 {
     let mut b = 0;
     while b < nb {
-        start_block(s, ends, refs, blocks, classes, which, nb, words, b);
+        start_block(
+            s, ends, refs, blocks, classes, which, nb, words, b, heads, links,
+        );
         b += 1;
     }
 }
 
-// The live-in and the live-out row of every block.
+// The rows of every block, in a scratch of zeros.
+fn build(
+    s: &mut [u64],
+    ends: &[u32],
+    refs: &[u32],
+    blocks: &[u32],
+    classes: &[u8],
+    which: Tracked,
+    nb: usize,
+    words: usize,
+)
+    requires nb_value { (nb ≡ length blocks.now / 2) × (nb * (3 * words) + 2 * words ≤ length s.old) × (length classes.now ≤ 64 * words) × (0 < words) × Lists ends.now refs.now
+        × (nb ≤ 4096) }
+    requires by_index { (b : ℕ) → b < nb → get_or blocks.now (2 * b) 0 < get_or blocks.now (2 * b + 1) 0 → 3 * get_or blocks.now (2 * b + 1) 0 ≤ length ends.now }
+    requires by_index_2 { (i : ℕ) → get_or s.old i 0 ≡ 0 }
+    ensures { Built (wanted which) ends.now refs.now blocks.now classes.now s.old s.new nb words }
+{
+    // 65,535 is no block.
+    let mut heads = [65535u16; 4096];
+    let mut links = [65535u16; 4096];
+    chain(blocks, nb, 0, &mut heads, &mut links);
+    start_blocks(
+        s, ends, refs, blocks, classes, which, nb, words, &heads, &links,
+    );
+}
+
+// The live-in row of every block.
 pub fn analyse(
     s: &mut [u64],
     kinds: &[u8],
@@ -275,15 +319,12 @@ pub fn analyse(
     requires classes_value { formed kinds.now ends.now refs.now blocks.now classes.now ≡ true }
     requires nb_value { (nb ≡ length blocks.now / 2) × (nb * (3 * words) + 2 * words ≤ length s.old) × (length classes.now ≤ 64 * words) }
     ensures { (length s.new ≡ length s.old)
-        × Fixed (seen (wanted which) kinds.now ends.now refs.now blocks.now classes.now) s.new words nb }
+        × Fixed (seen (wanted which) kinds.now ends.now refs.now blocks.now classes.now) blocks.now s.new words nb }
 {
     memory::clear_u64(s);
     if words == 0 {
         return;
     }
-    start_blocks(s, ends, refs, blocks, classes, which, nb, words);
-    // 65,535 is no block.
-    let mut nexts = [65535u16; 4096];
-    link(blocks, nb, &mut nexts);
-    solve(s, kinds, ends, refs, blocks, &nexts, nb, words);
+    build(s, ends, refs, blocks, classes, which, nb, words);
+    solve(s, kinds, ends, refs, blocks, nb, words);
 }

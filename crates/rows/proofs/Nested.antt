@@ -2,8 +2,8 @@
 use mathlib.Core.Path.{◌≡◌, refl, sym, ap, ap₂, ◌∙◌, subst}
 use mathlib.Core.List.{List, [], ◌∷◌, ◌++◌}
 use mathlib.Core.Bool.{Bool}
-use mathlib.Core.Logic.{inl}
-use Prim.Native.Nat.{ℕ, zero, suc, ◌+◌, ◌-◌, ◌*◌, ◌≤◌}
+use mathlib.Core.Logic.{inl, inr, ⊎_elim}
+use Prim.Native.Nat.{ℕ, zero, suc, ◌+◌, ◌-◌, ◌≤◌}
 use native.Mathlib.Nat.{zero-add, suc-add, add-sub_cancel_left}
 use native.Mathlib.Omega.{arith}
 use lib.ListN.{length, take, drop, take-append-drop}
@@ -56,19 +56,27 @@ part-first s s' a e w R h p =
       after = drop-both a e w s' h ∙ ap₂ ◌++◌ cut p.after ∙ sym (drop-both a e w s h);
     }
 
--- the row at d of a part, as one of the whole
-pub part_at : (a e d w : ℕ) (s : List ℕ) → a + d + w ≤ e → part d (d + w) (part a e s) ≡ part (a + d) (a + d + w) s
-part_at a e d w s h = ap (λ (k : ℕ). part k (k + w) (part a e s)) (sym (add-sub_cancel_left a d)) ∙ part-part a e (a + d) w s (omega arith) h
+-- rows from a on share no word, counted from a
+pub moved_apart : (n words a made out kill : ℕ) → Apart n words a made out kill → a ≤ made → a ≤ out → a ≤ kill → Apart (n - a) words 0 (made - a) (out - a) (kill - a)
+moved_apart n words a made out kill p m o k = record {
+  live_in = let x = p.live_in in omega arith;
+  made_in = let x = p.made_in in omega arith;
+  out_in = let x = p.out_in in omega arith;
+  kill_in = let x = p.kill_in in omega arith;
+  made_apart = ⊎_elim (λ h. inl (omega arith)) (λ h. inr (omega arith)) p.made_apart;
+  out_apart = ⊎_elim (λ h. inl (omega arith)) (λ h. inr (omega arith)) p.out_apart;
+  kill_apart = ⊎_elim (λ h. inl (omega arith)) (λ h. inr (omega arith)) p.kill_apart;
+}
 
--- the three rows of one block share no word
-pub three-apart : (n words : ℕ) → n ≡ 3 * words → Apart n words 0 (2 * words) words
-three-apart n words e =
-    record { live_in = omega arith; out_in = omega arith; kill_in = omega arith; out_apart = inl (omega arith); kill_apart = inl (omega arith) }
-
--- the step on the three rows that were lent, said of the whole
-pub stepped-block : (W : ℕ) (s s' : List ℕ) (a e words : ℕ) (r : Bool) → e ≡ a + 3 * words
-    → Part s s' a e (λ m m'. Part m m' 0 (0 + words) (λ l l'. Stepped W l (part (2 * words) (2 * words + words) m) (part words (words + words) m) l' r))
-    → Part s s' a (a + words) (λ l l'. Stepped W l (part (a + 2 * words) (a + 2 * words + words) s) (part (a + words) (a + words + words) s) l' r)
-stepped-block W s s' a e words r size q =
-    part-first s s' a e words _ (omega arith)
-    (record { len = q.len; inside = rw (← part_at a e (2 * words) words s (omega arith), ← part_at a e words words s (omega arith)) q.inside; before = q.before; after = q.after })
+-- the step in a part that was lent, said of the whole
+pub stepped-first : (W : ℕ) (s s' : List ℕ) (a e words made out kill : ℕ) (r : Bool) → Apart e words a made out kill → a ≤ made → a ≤ out → a ≤ kill
+    → Part s s' a e (λ m m'. Part m m' 0 (0 + words) (λ l l'. Stepped W l (part (made - a) ((made - a) + words) m) (part (out - a) ((out - a) + words) m) (part (kill - a) ((kill - a) + words) m) l' r))
+    → Part s s' a (a + words) (λ l l'. Stepped W l (part made (made + words) s) (part out (out + words) s) (part kill (kill + words) s) l' r)
+stepped-first W s s' a e words made out kill r p m o k q =
+    part-first s s' a e words _ p.live_in
+    (record {
+      len = q.len;
+      inside = rw (← part-part a e made words s m p.made_in, ← part-part a e out words s o p.out_in, ← part-part a e kill words s k p.kill_in) q.inside;
+      before = q.before;
+      after = q.after;
+    })

@@ -154,8 +154,7 @@ fn order_reply(found: Compared) -> Reply
 
 // Are two heaps the same model: can the objects that the roots reach in the one be paired with those in the other, the roots in order, each pair of one kind, type, start and length, with the
 // same bytes outside the handle places, and handles that lead to paired objects or are the same bits and resolve in neither? 18, 1, 10, 13. first: 1 yes, 0 no.
-#[unsafe(no_mangle)]
-pub extern "C" fn yexwalu_same(
+pub fn yexwalu_same(
     types: &[u64],
     fields: &[u32],
     consts: &[u64],
@@ -238,8 +237,7 @@ pub extern "C" fn yexwalu_same(
 
 // Which of two heaps comes first: the shorter root list, then the roots as handle places, then the objects in the order first met. 18, 1, 10, 13. first: 0 less (the heap that is
 // named first), 1 equal, 2 greater. Equal means that `same` says yes.
-#[unsafe(no_mangle)]
-pub extern "C" fn yexwalu_order(
+pub fn yexwalu_order(
     types: &[u64],
     fields: &[u32],
     consts: &[u64],

@@ -1,7 +1,6 @@
 -- A script (01, "Page" and "What the host is told"): calls as lines of text, and what running them does to a heap.
-use Rattle.std.specs.Prelude.{ℕ, ◌^◌, ◌<◌, Bool, true, false, List, [], ◌∷◌, eqb}
+use Rattle.std.specs.Prelude.{ℕ, ◌^◌, ◌<◌, Bool, true, false, List, [], ◌∷◌, eqb, if◌then◌else◌}
 use Rattle.std.proofs.Math.Option.{Option, none, some}
-use Rattle.word.specs.Choice.{if◌then◌else◌}
 use Rattle.word.specs.Result.{Result, ok, refused}
 use Rattle.text.specs.Text.{Reader, give, ◌>>=◌, ascii, newline, comma, decimal, hex, line, Bytes, read_literal}
 use Rattle.text.specs.Format.{Format, number, bytes_line, pair}

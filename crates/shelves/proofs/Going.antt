@@ -7,7 +7,7 @@ use native.Mathlib.Omega.{arith}
 use lib.ListN.{length, take, drop, length-take, length-drop}
 use lib.Seq.{drop-drop, take_all}
 use borrow.Author.Tests.{le-ltb}
-use Rattle.word.specs.Choice.{if◌then◌else◌}
+use Rattle.std.specs.Prelude.{if◌then◌else◌}
 use Rattle.word.specs.Result.{Result, refused}
 use Rattle.word.proofs.Bools.{positive}
 use Rattle.figures.specs.declared.Figures.{Figures}

@@ -8,7 +8,7 @@ use native.Mathlib.Numerals.{add-one}
 use native.Mathlib.Nat.{le_refl}
 use lib.ListN.{length, take, length-append, length-take}
 use lib.Seq.{take-length}
-use Rattle.word.specs.Choice.{if◌then◌else◌}
+use Rattle.std.specs.Prelude.{if◌then◌else◌}
 use Rattle.word.specs.Result.{Result, ok, refused}
 use Rattle.word.proofs.PutLaws.{take_put}
 use Rattle.text.specs.Text.{ascii}

@@ -1,8 +1,7 @@
 -- `traceable`: do a heap and a type table fit together (01, "Traced handles")? Every object of kind Typed has a type of the table, and its handles can be traced. 18, 1, 10, and 13 with the
 -- first slot that does not fit.
-use Rattle.std.specs.Prelude.{ℕ, zero, suc, Bool, true, false, ◌&&◌, List, [], ◌∷◌, map, eqb, ltb, length}
+use Rattle.std.specs.Prelude.{ℕ, zero, suc, Bool, true, false, ◌&&◌, List, [], ◌∷◌, map, eqb, ltb, length, if◌then◌else◌}
 use Rattle.std.proofs.Math.Option.{Option, none, some}
-use Rattle.word.specs.Choice.{if◌then◌else◌}
 use Rattle.refusal.specs.Told.{number_of, refused_by}
 use Rattle.refusal.specs.declared.Answer.{Answer}
 use Rattle.ty.specs.Types.{Table}

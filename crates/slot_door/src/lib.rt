@@ -186,8 +186,7 @@ fn list_slot(
 
 // The handles that a live slot shows, in the order in which it is traced: an object of kind Typed by its type, of kind Handles by offset, of kind Bytes none. One with nothing
 // visible shows none. They go to the lent list from its front on. 18, 1, 10, 9, 13, 7. first: how many.
-#[unsafe(no_mangle)]
-pub extern "C" fn yexwalu_slot_handles(
+pub fn yexwalu_slot_handles(
     types: &[u64],
     fields: &[u32],
     consts: &[u64],
@@ -286,8 +285,7 @@ fn first_misfit(
 }
 
 // Do a heap and a type table fit together: has every object of kind Typed a type of the table, and can its handles be traced? 18, 1, 10, 13. After 13, first: the first slot that does not fit.
-#[unsafe(no_mangle)]
-pub extern "C" fn yexwalu_traceable(
+pub fn yexwalu_traceable(
     types: &[u64],
     fields: &[u32],
     consts: &[u64],

@@ -11,7 +11,7 @@ use lib.Seq.{take-suc, take_all, drop_at, take-suc-set, drop-set-lt, drop-drop, 
 use lib.Dec.{ltb}
 use borrow.Author.Tests.{lt-ltb, le-ltb}
 use Rattle.word.specs.Put.{put}
-use Rattle.word.specs.Choice.{if◌then◌else◌}
+use Rattle.std.specs.Prelude.{if◌then◌else◌}
 use Rattle.word.proofs.ListLaws.{length-tabulate}
 use Rattle.word.proofs.PutLaws.{put-none, length-put, take_put, drop-put}
 use Rattle.heap.specs.Packing.{pad, flat, ends, data_at, start_of}

@@ -8,7 +8,7 @@ use native.Mathlib.Numerals.{add-one}
 use lib.ListN.{length, get_or, set, length-set, length-append}
 use lib.Dec.{eqb, ltb}
 use borrow.Author.Tests.{lt-ltb, le-ltb, eq-eqb, ne_eqb}
-use Rattle.word.specs.Choice.{if◌then◌else◌}
+use Rattle.std.specs.Prelude.{if◌then◌else◌}
 use Rattle.word.proofs.RunLaws.{run-get, first-get}
 use Rattle.heap.specs.Packing.{pad}
 use Rattle.heap.specs.State.{Slot, State, slot_at, live, last_generation, worn, bit, with_free, with_retired}
@@ -161,7 +161,7 @@ module _ (l : Lent) (P : ℕ) (st : State) (ok : Sound l.count P st) where
         let more : (xs : List ℕ) → length xs + 1 ≡ length (xs ++ i ∷ []) = λ xs. omega (arith, length-append xs (i ∷ [])) in
         let f' : set (pad S f) (length f) i ≡ pad S (f ++ i ∷ []) = pad-push S f (length f) i refl (list-room k).0 in
         let r' : set (pad S r) (length r) i ≡ pad S (r ++ i ∷ []) = pad-push S r (length r) i refl (list-room k).1 in
-        elim b [
+        elim b as (λ (k : Bool). (if k then retired_in (dead_in (columns_of l st) i) i else freed_in (dead_in (columns_of l st) i) i) ≡ columns_of l (joining k)) [
           | true ↦ λ j. columns (set_retired (set_free (set_slots (set_changed (header_of st) i) (count j)) (length (same f j))) (more r j)) S (g j) (ks j) (t j) (s j) l.end (w j) l.pool (pad S (same f j)) l.quarantine l.sealed (r' j) l.over
           | false ↦ λ j. columns (set_retired (set_free (set_slots (set_changed (header_of st) i) (count j)) (more f j)) (length (same r j))) S (g j) (ks j) (t j) (s j) l.end (w j) l.pool (f' j) l.quarantine l.sealed (pad S (same r j)) l.over
         ]
@@ -187,7 +187,7 @@ columns-visited l P marks h n ok less =
     let inside : n < length A.slots = omega (arith, d.count) in
     let kind : get_or (columns_of l A).kind n 0 ≡ (slot_at h n).kind = kind_at l P A sound n inside ∙ ap (λ (s : Slot). s.kind) same in
     let one : (b : Bool) → goes marks n (slot_at h n) ≡ b → (if b then released_in (columns_of l A) n else columns_of l A) ≡ columns_of l (if b then drop_slot A n else A) =
-    λ b. elim b [ true ↦ λ e. columns-dropped l P A sound n inside (ap live same ∙ goes-live marks n (slot_at h n) e) | false ↦ λ e. refl ] in
+    λ b. elim b as (λ (k : Bool). goes marks n (slot_at h n) ≡ k → (if k then released_in (columns_of l A) n else columns_of l A) ≡ columns_of l (if k then drop_slot A n else A)) [ true ↦ λ e. columns-dropped l P A sound n inside (ap live same ∙ goes-live marks n (slot_at h n) e) | false ↦ λ e. refl ] in
     ap (λ (k : ℕ). if is_going k (get_or marks n 0) then released_in (columns_of l A) n else columns_of l A) kind
     ∙ one (goes marks n (slot_at h n)) refl
     ∙ ap (columns_of l) (sym (after_next marks h n less))

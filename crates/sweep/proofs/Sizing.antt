@@ -9,7 +9,7 @@ use lib.ListN.{length, get_or, take, length-map, get_or-map}
 use lib.Seq.{take-suc, take_all}
 use lib.Dec.{ltb}
 use borrow.Author.Tests.{lt-ltb, le-ltb}
-use Rattle.word.specs.Choice.{if◌then◌else◌}
+use Rattle.std.specs.Prelude.{if◌then◌else◌}
 use Rattle.heap.specs.Packing.{pad, flat, ends, start_of}
 use Rattle.heap.specs.State.{Slot, no_slot, data_of, live}
 use Rattle.heap.specs.Lent.{column}
@@ -34,7 +34,8 @@ size-most : (k from e : ℕ) → one_size k from e ≤ e - from + 32
 size-most k from e = most (ltb 0 k)
   where
     most : (b : Bool) → (if b then (e - from + 32) else 0) ≤ e - from + 32
-    most b = elim b [ true ↦ omega arith | false ↦ omega arith ]
+    most true = omega arith
+    most false = omega arith
 
 -- ---- the loop
 

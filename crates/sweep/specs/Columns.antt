@@ -1,7 +1,6 @@
 -- What the inner functions ask and ensure of the columns.
-use Rattle.std.specs.Prelude.{◌≡◌, Bool, true, not, ◌&&◌, List, [], ◌∷◌, ℕ, zero, suc, ◌+◌, ◌*◌, ◌-◌, ◌<◌, ◌≤◌, length, get_or, set, drop, eqb, ltb}
+use Rattle.std.specs.Prelude.{◌≡◌, Bool, true, not, ◌&&◌, List, [], ◌∷◌, ℕ, zero, suc, ◌+◌, ◌*◌, ◌-◌, ◌<◌, ◌≤◌, length, get_or, set, drop, eqb, ltb, if◌then◌else◌}
 use Rattle.word.specs.Put.{put}
-use Rattle.word.specs.Choice.{if◌then◌else◌}
 use Rattle.heap.specs.Packing.{pad, flat, ends, start_of}
 use Rattle.heap.specs.Columns.{datas, Packed}
 use Rattle.heap.specs.State.{State, last_generation}

@@ -1,6 +1,6 @@
 -- What a table's text is refused for: not such a text 17, a table that 01 refuses 10.
 use Rattle.std.proofs.Math.Option.{Option, none, some}
-use Rattle.word.specs.Choice.{if◌then◌else◌}
+use Rattle.std.specs.Prelude.{if◌then◌else◌}
 use Rattle.word.specs.Result.{Result, ok, refused}
 use Rattle.tables.specs.Table.{Named}
 use Rattle.tables.specs.Lists.{good}

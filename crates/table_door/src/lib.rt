@@ -11,8 +11,7 @@ use table_reader::TableRead;
 
 // Writes a type table and its names as text to `out`: 17, 10, 7. The answer is the text's length. `names` has a line of plain text for each type, then for each
 // field, then for each constant.
-#[unsafe(no_mangle)]
-pub extern "C" fn yexwalu_write_table(
+pub fn yexwalu_write_table(
     types: &[u64],
     fields: &[u32],
     consts: &[u64],
@@ -30,8 +29,7 @@ pub extern "C" fn yexwalu_write_table(
 
 // Reads the text of a type table into the fronts of lent lists: 18, 17, 10, 7. The answer says how much of each list the table takes; past that, and after a refusal, the lists are
 // as they were. `words` (28,672) and `halves` (32,768) are scratch.
-#[unsafe(no_mangle)]
-pub extern "C" fn yexwalu_read_table(
+pub fn yexwalu_read_table(
     types: &mut [u64],
     fields: &mut [u32],
     consts: &mut [u64],

@@ -1,8 +1,7 @@
 // The second pass: a type table's text that was taken, into lent lists.
 #![tactic(auto)]
 
-ghost use Rattle.std.specs.Prelude.{◌≡◌, List, [], ◌∷◌, ◌++◌, ℕ, ◌+◌, ◌-◌, ◌*◌, ◌/◌, ◌≤◌, ◌<◌, length, take, drop};
-ghost use Rattle.word.specs.Choice.{if◌then◌else◌};
+ghost use Rattle.std.specs.Prelude.{◌≡◌, List, [], ◌∷◌, ◌++◌, ℕ, ◌+◌, ◌-◌, ◌*◌, ◌/◌, ◌≤◌, ◌<◌, length, take, drop, if◌then◌else◌};
 ghost use Rattle.refusal.specs.declared.Refusal.TheVariants.{ShortList};
 ghost use Rattle.text.specs.Put.{put_text};
 ghost use Rattle.tables.specs.Lists.{numbers_in, names_in, all_names};

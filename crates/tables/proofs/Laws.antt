@@ -9,7 +9,7 @@ use native.Mathlib.Omega.{arith}
 use lib.Dec.{leb, eqb}
 use lib.ListN.{length}
 use borrow.Author.Tests.{ne_eqb, eq-eqb, eqb-true, leb-true}
-use Rattle.word.specs.Choice.{if◌then◌else◌}
+use Rattle.std.specs.Prelude.{if◌then◌else◌}
 use Rattle.text.specs.Text.{give, ◌>>=◌, decimal, hex, line, newline, comma, Bytes, digit_of, Stops, read_field, read_decimal, read_literal}
 use Rattle.text.specs.Format.{Format, Right, bytes_line, after_literal, pair, times, All}
 use Rattle.text.proofs.Laws.{none-not-some, bind-some, some_inj, split, passed, decimal-forth, decimal-back, literal-forth, literal-back, bytes-line-right, after-literal-right, pair-right, times-right, number-join}

@@ -1,8 +1,7 @@
 -- A format: how values of a type are printed, and how they are read back with the rest of the text. Formats are put together from smaller ones.
-use Rattle.std.specs.Prelude.{ℕ, zero, suc, ◌-◌, ◌^◌, ◌≡◌, Bool, true, false}
+use Rattle.std.specs.Prelude.{ℕ, zero, suc, ◌-◌, ◌^◌, ◌≡◌, Bool, true, false, if◌then◌else◌}
 use mathlib.Core.List.{List, [], ◌∷◌, ◌++◌, flat_map}
 use Rattle.std.proofs.Math.Option.{Option, none, some}
-use Rattle.word.specs.Choice.{if◌then◌else◌}
 use Rattle.text.specs.Text.{Reader, give, ◌>>=◌, newline, decimal, hex, read_field, read_hex, read_literal}
 
 pub record Format (A : Type 0) : Type 0 where

@@ -8,7 +8,7 @@ use lib.Dec.{ltb}
 use lib.ListN.{length, take, drop, length-append, take-append-drop, length-take}
 use lib.Seq.{take_at, drop_at, length-take-le}
 use borrow.Author.Tests.{ltb-true, ltb-false}
-use Rattle.word.specs.Choice.{if◌then◌else◌}
+use Rattle.std.specs.Prelude.{if◌then◌else◌}
 use Rattle.word.specs.Result.{Result, ok, refused}
 use Rattle.word.proofs.Bools.{by_size}
 use Rattle.text.specs.Text.{decimal, newline}

@@ -11,7 +11,7 @@ use Rattle.beside.specs.Inner.Ranks.{place_in}
 use Rattle.beside.specs.Inner.Found.{codes_of}
 use Rattle.beside.proofs.Codings.{beside-found}
 use Rattle.trace.specs.Places.{Places}
-use Rattle.trace.specs.Emit.{Raw, raw_of, resolve_in, aim, handed_by, handed, handed_all, emitting_at, told}
+use Rattle.trace.specs.Emit.{Raw, raw_of, resolve_in, aim, handed_by, handed, handed_all, handing_at, told}
 use Rattle.trace.specs.declared.Goal.TheVariants.{Beside as Goal-as-Beside}
 use Rattle.trace.specs.declared.Answer.{Answer}
 use Rattle.trace.specs.declared.Answer.TheVariants.{Traced, Untraceable}
@@ -37,19 +37,19 @@ module _ (tag slots c : ℕ) (R : ℕ → Result ℕ) (on other ow v work : List
       ∙ beside-all (beside_at place_beside v other x a) ps
 
   -- from nothing found on
-  module _ (o : Places) (r : Answer) (found work' : List ℕ) (er : told r found work' ≡ emitting_at (aim (Goal-as-Beside tag slots c) R on other ow) v (raw_of (0 ∷ 0 ∷ []) work 0) o) where
+  module _ (o : Places) (r : Answer) (found work' : List ℕ) (er : told r found work' ≡ handing_at (aim (Goal-as-Beside tag slots c) R on other ow) v (raw_of (0 ∷ 0 ∷ []) work 0) o) where
     pub beside-told : (ps : List ℕ) → o ≡ some ps → (n : ℕ) → r ≡ Traced n → raw_of found work' n ≡ beside_raw (beside_all place_beside v other beside_first ps)
-    unfolding emitting_at
+    unfolding handing_at
     beside-told ps e n t = ok-inj (rw (e, t) at er) ∙ beside-all beside_first ps
 
     pub beside_none : r ≡ Untraceable → o ≡ none
-    unfolding emitting_at
+    unfolding handing_at
     beside_none t = by o (rw t at er)
       where
-        by : (q : Places) → refused 13 ≡ emitting_at (aim (Goal-as-Beside tag slots c) R on other ow) v (raw_of (0 ∷ 0 ∷ []) work 0) q → q ≡ none
+        by : (q : Places) → refused 13 ≡ handing_at (aim (Goal-as-Beside tag slots c) R on other ow) v (raw_of (0 ∷ 0 ∷ []) work 0) q → q ≡ none
         by none e = refl
         by (some ps) e = let x : ◌≡◌ {A = ℕ} 0 1 = cc in absurd (omega arith)
 
     pub beside-some : (ps : List ℕ) → o ≡ some ps → r ≡ Untraceable → ⊥
-    unfolding emitting_at
+    unfolding handing_at
     beside-some ps e t = let f = rw (e, t) at er in let x : ◌≡◌ {A = ℕ} 0 1 = cc in omega arith

@@ -8,7 +8,7 @@ use lib.ListN.{length, drop, length-drop}
 use lib.Dec.{eqb}
 use borrow.Author.Tests.{lt-ltb}
 use Rattle.ty.specs.Types.{Ty, Ty.missing, Ty.int, Ty.physical, Ty.enum, Ty.real, Ty.array, Ty.fields, Ty.access, Ty.file, Ty.protected, Field, Field.field, Table, type_at, const_at, none}
-use Rattle.word.specs.Choice.{if◌then◌else◌}
+use Rattle.std.specs.Prelude.{if◌then◌else◌}
 use Rattle.ty.proofs.Laws.{word-is}
 use Rattle.ty.specs.Words.{word_of, on_word, round_up}
 use Rattle.ty.specs.Scalars.{scalar_size, elem_size, logic_leaf}

@@ -13,7 +13,7 @@ use native.Mathlib.Nat.{add-div_right, div-eq_of_lt}
 use native.Mathlib.Omega.{arith}
 use types.Run.{OneOf, miss}
 use denote.Enum.Declared.{tag_of}
-use Rattle.word.specs.Choice.{if◌then◌else◌}
+use Rattle.std.specs.Prelude.{if◌then◌else◌}
 use Rattle.word.specs.Result.{Result, ok, refused}
 use Rattle.word.specs.Run.{run}
 use Rattle.handle.specs.Handle.{resolve_by, told as resolved}
@@ -25,7 +25,7 @@ use Rattle.trace.specs.Places.{Places, only_if, both, many, turns, handle_at, wo
 use Rattle.trace.specs.Walk.{Stepped}
 use Rattle.beside.specs.Inner.Ranks.{place_in}
 use Rattle.beside.specs.Inner.Found.{found_at}
-use Rattle.trace.specs.Emit.{Raw, raw_of, Into, into, resolve_in, over, queued, queued_if, emitted_by, emitted, emit_all, emitting, Ready, Runs, Aim, aim, handed_by, handed, handed_all, emitting_at, told}
+use Rattle.trace.specs.Emit.{Raw, raw_of, Into, into, resolve_in, over, queued, queued_if, emitted_by, emitted, emit_all, emitting, Ready, Runs, Aim, aim, handed_by, handed, handed_all, handing_at, told}
 use Rattle.trace.specs.declared.Sink.{Sink}
 use Rattle.trace.specs.declared.Sink.TheVariants.{Check, List as ToList, Work}
 use Rattle.trace.specs.declared.Goal.{Goal}
@@ -118,12 +118,12 @@ module _ (R : ℕ → Result ℕ) (on other ow v : List ℕ) (g : Goal) (at : �
   hand-beside tag slots c e ms to n m em ms' q = rw (e, em, q) refl
 
 module _ (k : Aim) (v : List ℕ) (s : Raw) (at : ℕ) (le : at ≤ length v) where
-  pub word-short : length v - at < 8 → refused 13 ≡ emitting_at k v s (only_if (leb (at + 8) (length v)) (some (at ∷ [])))
-  unfolding emitting_at
+  pub word-short : length v - at < 8 → refused 13 ≡ handing_at k v s (only_if (leb (at + 8) (length v)) (some (at ∷ [])))
+  unfolding handing_at
   word-short l = rw (lt-leb (at + 8) (length v) (omega arith)) refl
 
-  pub word-one : 8 ≤ length v - at → (t : Raw) → t ≡ handed k v s at → ok t ≡ emitting_at k v s (only_if (leb (at + 8) (length v)) (some (at ∷ [])))
-  unfolding emitting_at handed_all
+  pub word-one : 8 ≤ length v - at → (t : Raw) → t ≡ handed k v s at → ok t ≡ handing_at k v s (only_if (leb (at + 8) (length v)) (some (at ∷ [])))
+  unfolding handing_at handed_all
   word-one l t q = rw (le-leb (at + 8) (length v) (omega arith)) (ap {B = Result Raw} ok q)
 
 -- ---- emission, one list after the other
@@ -152,23 +152,23 @@ unfolding handed_all
 handed-append k v s [] b = refl
 handed-append k v s (p ∷ a) b = handed-append k v (handed k v s p) a b
 
-pub then_some : (k : Aim) (v : List ℕ) (s t : Raw) (a b : Places) → ok t ≡ emitting_at k v s a → emitting_at k v t b ≡ emitting_at k v s (both a b)
-unfolding emitting_at both
+pub then_some : (k : Aim) (v : List ℕ) (s t : Raw) (a b : Places) → ok t ≡ handing_at k v s a → handing_at k v t b ≡ handing_at k v s (both a b)
+unfolding handing_at both
 then_some k v s t none b e = let x : ◌≡◌ {A = ℕ} 0 1 = cc in absurd (omega arith)
 then_some k v s t (some a) none e = refl
 then_some k v s t (some a) (some b) e = sym (ap {B = Result Raw} ok (handed-append k v s a b ∙ ap (λ (u : Raw). handed_all k v u b) (sym (ok-inj e))))
 
-pub then-none : (k : Aim) (v : List ℕ) (s : Raw) (a b : Places) → refused 13 ≡ emitting_at k v s a → refused 13 ≡ emitting_at k v s (both a b)
-unfolding emitting_at both
+pub then-none : (k : Aim) (v : List ℕ) (s : Raw) (a b : Places) → refused 13 ≡ handing_at k v s a → refused 13 ≡ handing_at k v s (both a b)
+unfolding handing_at both
 then-none k v s none b e = refl
 then-none k v s (some a) b e = let x : ◌≡◌ {A = ℕ} 0 1 = cc in absurd (omega arith)
 
-pub emit-none : (k : Aim) (v : List ℕ) (s : Raw) (o : Places) → o ≡ none → refused 13 ≡ emitting_at k v s o
-unfolding emitting_at
+pub emit-none : (k : Aim) (v : List ℕ) (s : Raw) (o : Places) → o ≡ none → refused 13 ≡ handing_at k v s o
+unfolding handing_at
 emit-none k v s o e = rw e refl
 
-pub emit-nil : (k : Aim) (v : List ℕ) (s : Raw) (o : Places) → o ≡ some [] → ok s ≡ emitting_at k v s o
-unfolding emitting_at handed_all
+pub emit-nil : (k : Aim) (v : List ℕ) (s : Raw) (o : Places) → o ≡ some [] → ok s ≡ handing_at k v s o
+unfolding handing_at handed_all
 emit-nil k v s o e = rw e refl
 
 -- for a sink the places are the words there
@@ -178,8 +178,8 @@ module _ (sink : Sink) (R : ℕ → Result ℕ) (on other ow v : List ℕ) where
   words-all s [] = refl
   words-all s (p ∷ ps) = words-all (emitted (into sink R) s (handle_at v p)) ps
 
-  pub words-at : (s : Raw) (o : Places) → emitting_at (aim (Words sink) R on other ow) v s o ≡ emitting (into sink R) s (words_at v o)
-  unfolding emitting_at emitting words_at
+  pub words-at : (s : Raw) (o : Places) → handing_at (aim (Words sink) R on other ow) v s o ≡ emitting (into sink R) s (words_at v o)
+  unfolding handing_at emitting words_at
   words-at s none = refl
   words-at s (some ps) = ap {B = Result Raw} ok (words-all s ps)
 
@@ -283,20 +283,20 @@ turns-fall len st c o r h l s = by (ℕ_discrete st 0)
     by (no e) = rw (ne_eqb st 0 e) (strides-fall len st o r (omega arith) l s)
 
 -- the turn at an element: c are left, the first at o. G is what all of them leave, of which the invariant says that it is what those left leave.
-module _ (k : Aim) (v : List ℕ) (f : ℕ → Places) (st c o m : ℕ) (ms to : List ℕ) (G : Result Raw) (inv : emitting_at k v (raw_of ms to m) (many (length v) f st c o) ≡ G) where
+module _ (k : Aim) (v : List ℕ) (f : ℕ → Places) (st c o m : ℕ) (ms to : List ℕ) (G : Result Raw) (inv : handing_at k v (raw_of ms to m) (many (length v) f st c o) ≡ G) where
   pub elems-end : c ≤ 0 → ok (raw_of ms to m) ≡ G
   elems-end h = emit-nil k v (raw_of ms to m) _ (many-end (length v) f st c o h) ∙ inv
 
   pub elems-beyond : 0 < c → length v < o → refused 13 ≡ G
   elems-beyond h l = emit-none k v (raw_of ms to m) _ (many-beyond (length v) f st c o h l) ∙ inv
 
-  module _ (h : 0 < c) (l : o ≤ length v) (r : Answer) (ms' to' : List ℕ) (er : told r ms' to' ≡ emitting_at k v (raw_of ms to m) (f o)) where
+  module _ (h : 0 < c) (l : o ≤ length v) (r : Answer) (ms' to' : List ℕ) (er : told r ms' to' ≡ handing_at k v (raw_of ms to m) (f o)) where
     pub elems-fail : r ≡ Untraceable → refused 13 ≡ G
-    elems-fail e = then-none k v (raw_of ms to m) (f o) _ (told-untraceable r ms' to' _ er e) ∙ ap (emitting_at k v (raw_of ms to m)) (sym (many-cons (length v) f st c o h l)) ∙ inv
+    elems-fail e = then-none k v (raw_of ms to m) (f o) _ (told-untraceable r ms' to' _ er e) ∙ ap (handing_at k v (raw_of ms to m)) (sym (many-cons (length v) f st c o h l)) ∙ inv
 
-    pub elems-next : (m' : ℕ) → r ≡ Traced m' → (o' : ℕ) → Stepped (length v) (o + st) o' → emitting_at k v (raw_of ms' to' m') (many (length v) f st (c - 1) o') ≡ G
+    pub elems-next : (m' : ℕ) → r ≡ Traced m' → (o' : ℕ) → Stepped (length v) (o + st) o' → handing_at k v (raw_of ms' to' m') (many (length v) f st (c - 1) o') ≡ G
     elems-next m' e o' s =
-        ap (emitting_at k v (raw_of ms' to' m')) (sym (many-two (length v) f st (c - 1) (o + st) o' s))
+        ap (handing_at k v (raw_of ms' to' m')) (sym (many-two (length v) f st (c - 1) (o + st) o' s))
         ∙ then_some k v (raw_of ms to m) (raw_of ms' to' m') (f o) _ (told-traced r ms' to' _ m' er e)
-        ∙ ap (emitting_at k v (raw_of ms to m)) (sym (many-cons (length v) f st c o h l))
+        ∙ ap (handing_at k v (raw_of ms to m)) (sym (many-cons (length v) f st c o h l))
         ∙ inv

@@ -9,7 +9,7 @@ use lib.Dec.{leb}
 use borrow.Author.Tests.{le-leb, lt-leb, eq-eqb, ne_eqb, not-true, not-false}
 use native.Mathlib.Omega.{arith}
 use Rattle.word.specs.Result.{Result, ok, refused}
-use Rattle.word.specs.Choice.{if◌then◌else◌}
+use Rattle.std.specs.Prelude.{if◌then◌else◌}
 use Rattle.ty.specs.Types.{Table}
 use Rattle.ty.specs.Walks.{desc_size, has_handles}
 use Rattle.ty.specs.View.{table_of, types_of}
@@ -17,7 +17,7 @@ use Rattle.ty.specs.declared.Word.{Word}
 use Rattle.ty.specs.declared.Word.TheVariants.{Is, Over}
 use Rattle.layout.proofs.LayLaws.{rest}
 use Rattle.trace.specs.Places.{Places, places_at, object_places, rising, handles_places, kind_places, shown_places, words_at, value_handles, object_handles, handles_of}
-use Rattle.trace.specs.Emit.{Raw, into, Runs, emitting, Ready, Aim, aim, handed, handed_all, emitting_at, told}
+use Rattle.trace.specs.Emit.{Raw, into, Runs, emitting, Ready, Aim, aim, handed, handed_all, handing_at, told}
 use Rattle.trace.specs.declared.Sink.{Sink}
 use Rattle.trace.specs.declared.Goal.{Goal}
 use Rattle.trace.specs.declared.Goal.TheVariants.{Words, Beside}
@@ -42,31 +42,31 @@ ready-rest slots s narrow goal v columns other r start =
 
 -- ---- a value
 
-pub value-whole : (T : Table) (t : ℕ) (v : List ℕ) (sink : Sink) (R : ℕ → Result ℕ) (on other ow : List ℕ) (s : Raw) (r : Answer) (ms to : List ℕ) → told r ms to ≡ emitting_at (aim (Words sink) R on other ow) v s (places_at T (length v) 65 t [] 0) → told r ms to ≡ emitting (into sink R) s (value_handles T t v)
+pub value-whole : (T : Table) (t : ℕ) (v : List ℕ) (sink : Sink) (R : ℕ → Result ℕ) (on other ow : List ℕ) (s : Raw) (r : Answer) (ms to : List ℕ) → told r ms to ≡ handing_at (aim (Words sink) R on other ow) v s (places_at T (length v) 65 t [] 0) → told r ms to ≡ emitting (into sink R) s (value_handles T t v)
 unfolding value_handles
 value-whole T t v sink R on other ow s r ms to er = er ∙ words-at sink R on other ow v s (places_at T (length v) 65 t [] 0)
 
 -- ---- an object
 
 module _ (w fs cs b : List ℕ) (t : ℕ) (v : List ℕ) (k : Aim) (s : Raw) (x : Bool) (ex : x ≡ has_handles (types_of w fs) t) where
-  pub object-plain : not x ≡ true → ok s ≡ emitting_at k v s (object_places (table_of w fs cs b) t v)
+  pub object-plain : not x ≡ true → ok s ≡ handing_at k v s (object_places (table_of w fs cs b) t v)
   unfolding object_places
   object-plain o = emit-nil k v s _ (rw (← ex, not-true x o) refl)
 
   module _ (o : not x ≡ false) (z : Word) (ez : z ≡ desc_size (types_of w fs) t) where
-    pub object-size : z ≡ Over → refused 13 ≡ emitting_at k v s (object_places (table_of w fs cs b) t v)
+    pub object-size : z ≡ Over → refused 13 ≡ handing_at k v s (object_places (table_of w fs cs b) t v)
     unfolding object_places
     object-size h = emit-none k v s _ (rw (← ex, not-false x o, ← ez, h) refl)
 
-    pub object-cut : (n : ℕ) → z ≡ Is n → length v < n → refused 13 ≡ emitting_at k v s (object_places (table_of w fs cs b) t v)
+    pub object-cut : (n : ℕ) → z ≡ Is n → length v < n → refused 13 ≡ handing_at k v s (object_places (table_of w fs cs b) t v)
     unfolding object_places
     object-cut n h l = emit-none k v s _ (rw (← ex, not-false x o, ← ez, h, lt-leb n (length v) l) refl)
 
-    pub object-whole : (n : ℕ) → z ≡ Is n → n ≤ length v → (r : Answer) (ms to : List ℕ) → told r ms to ≡ emitting_at k v s (places_at (table_of w fs cs b) (length v) 65 t (take n v) n) → told r ms to ≡ emitting_at k v s (object_places (table_of w fs cs b) t v)
+    pub object-whole : (n : ℕ) → z ≡ Is n → n ≤ length v → (r : Answer) (ms to : List ℕ) → told r ms to ≡ handing_at k v s (places_at (table_of w fs cs b) (length v) 65 t (take n v) n) → told r ms to ≡ handing_at k v s (object_places (table_of w fs cs b) t v)
     unfolding object_places
     object-whole n h l r ms to er = rw (← ex, not-false x o, ← ez, h, le-leb n (length v) l) er
 
-pub object-words : (T : Table) (t : ℕ) (v : List ℕ) (sink : Sink) (R : ℕ → Result ℕ) (on other ow : List ℕ) (s : Raw) (r : Answer) (ms to : List ℕ) → told r ms to ≡ emitting_at (aim (Words sink) R on other ow) v s (object_places T t v) → told r ms to ≡ emitting (into sink R) s (object_handles T t v)
+pub object-words : (T : Table) (t : ℕ) (v : List ℕ) (sink : Sink) (R : ℕ → Result ℕ) (on other ow : List ℕ) (s : Raw) (r : Answer) (ms to : List ℕ) → told r ms to ≡ handing_at (aim (Words sink) R on other ow) v s (object_places T t v) → told r ms to ≡ emitting (into sink R) s (object_handles T t v)
 unfolding object_handles
 object-words T t v sink R on other ow s r ms to er = er ∙ words-at sink R on other ow v s (object_places T t v)
 
@@ -100,34 +100,34 @@ module _ (k : Aim) (v : List ℕ) (at : ℕ) (s G : Raw) (inv : handed_all k v s
 -- ---- visible data by its kind
 
 module _ (T : Table) (kind t : ℕ) (v : List ℕ) (k : Aim) (s : Raw) where
-  pub kind-typed : kind ≡ 1 → (r : Answer) (ms to : List ℕ) → told r ms to ≡ emitting_at k v s (object_places T t v) → told r ms to ≡ emitting_at k v s (kind_places T kind t v)
+  pub kind-typed : kind ≡ 1 → (r : Answer) (ms to : List ℕ) → told r ms to ≡ handing_at k v s (object_places T t v) → told r ms to ≡ handing_at k v s (kind_places T kind t v)
   unfolding kind_places
   kind-typed h r ms to er = rw (eq-eqb kind 1 h) er
 
   module _ (n1 : kind ≡ 1 → ⊥) where
-    pub kind-handles : kind ≡ 3 → (u : Raw) → u ≡ handed_all k v s (handles_places (length v)) → ok u ≡ emitting_at k v s (kind_places T kind t v)
-    unfolding kind_places emitting_at
+    pub kind-handles : kind ≡ 3 → (u : Raw) → u ≡ handed_all k v s (handles_places (length v)) → ok u ≡ handing_at k v s (kind_places T kind t v)
+    unfolding kind_places handing_at
     kind-handles h u eu = rw (ne_eqb kind 1 n1, eq-eqb kind 3 h) (ap {B = Result Raw} ok eu)
 
-    pub kind-bytes : (kind ≡ 3 → ⊥) → ok s ≡ emitting_at k v s (kind_places T kind t v)
+    pub kind-bytes : (kind ≡ 3 → ⊥) → ok s ≡ handing_at k v s (kind_places T kind t v)
     unfolding kind_places
     kind-bytes n3 = emit-nil k v s _ (rw (ne_eqb kind 1 n1, ne_eqb kind 3 n3) refl)
 
 -- ---- a slot
 
 module _ (T : Table) (kind t start : ℕ) (v : List ℕ) (g : Goal) (R : ℕ → Result ℕ) (on other ow : List ℕ) (s : Raw) where
-  pub shown-hidden : length v < start → ok s ≡ emitting_at (aim g R on (drop start other) ow) (drop start v) s (shown_places T kind t start v)
+  pub shown-hidden : length v < start → ok s ≡ handing_at (aim g R on (drop start other) ow) (drop start v) s (shown_places T kind t start v)
   unfolding shown_places
   shown-hidden h = emit-nil (aim g R on (drop start other) ow) (drop start v) s _ (rw (lt-leb start (length v) h) refl)
 
   pub shown_rest : start ≤ length v → (r : Answer) (ms to : List ℕ)
-      → told r ms to ≡ emitting_at (aim g R on (take (length other - start) (drop start other)) ow) (take (length v - start) (drop start v)) s (kind_places T kind t (take (length v - start) (drop start v)))
-      → told r ms to ≡ emitting_at (aim g R on (drop start other) ow) (drop start v) s (shown_places T kind t start v)
+      → told r ms to ≡ handing_at (aim g R on (take (length other - start) (drop start other)) ow) (take (length v - start) (drop start v)) s (kind_places T kind t (take (length v - start) (drop start v)))
+      → told r ms to ≡ handing_at (aim g R on (drop start other) ow) (drop start v) s (shown_places T kind t start v)
   unfolding shown_places
   shown_rest l r ms to er =
       rw (le-leb start (length v) l) (er
-      ∙ ap (λ (x : List ℕ). emitting_at (aim g R on x ow) (take (length v - start) (drop start v)) s (kind_places T kind t (take (length v - start) (drop start v)))) (rest start other)
-      ∙ ap (λ (x : List ℕ). emitting_at (aim g R on (drop start other) ow) x s (kind_places T kind t x)) (rest start v))
+      ∙ ap (λ (x : List ℕ). handing_at (aim g R on x ow) (take (length v - start) (drop start v)) s (kind_places T kind t (take (length v - start) (drop start v)))) (rest start other)
+      ∙ ap (λ (x : List ℕ). handing_at (aim g R on (drop start other) ow) x s (kind_places T kind t x)) (rest start v))
 
 if-words : (v : List ℕ) (b : Bool) (o : Places) → words_at v (if b then o else some []) ≡ (if b then words_at v o else some [])
 unfolding words_at
@@ -135,7 +135,7 @@ if-words v true o = refl
 if-words v false o = refl
 
 pub slot-words : (T : Table) (kind t start : ℕ) (v : List ℕ) (sink : Sink) (R : ℕ → Result ℕ) (on other ow : List ℕ) (s : Raw) (r : Answer) (ms to : List ℕ)
-    → told r ms to ≡ emitting_at (aim (Words sink) R on (drop start other) ow) (drop start v) s (shown_places T kind t start v)
+    → told r ms to ≡ handing_at (aim (Words sink) R on (drop start other) ow) (drop start v) s (shown_places T kind t start v)
     → told r ms to ≡ emitting (into sink R) s (handles_of T kind t start v)
 unfolding handles_of shown_places
 slot-words T kind t start v sink R on other ow s r ms to er =

@@ -1,7 +1,7 @@
 -- The ways out of the tracer, one law for each. Assumes nothing.
 use mathlib.Core.Path.{◌≡◌, refl, sym, ap, subst, ◌∙◌}
 use mathlib.Core.List.{List, [], ◌∷◌}
-use mathlib.Core.Bool.{Bool, true, false, not}
+use mathlib.Core.Bool.{Bool, true, false}
 use mathlib.Core.Option.{none, some}
 use Prim.Native.Nat.{ℕ, suc, ◌+◌, ◌-◌, ◌*◌, ◌/◌, ◌^◌, ◌≤◌, ◌<◌, max}
 use native.Mathlib.Omega.{arith}
@@ -9,9 +9,9 @@ use lib.ListN.{length, take, drop, get_or, length-drop}
 use lib.Dec.{leb, eqb}
 use types.Run.{OneOf, miss}
 use denote.Enum.Declared.{tag_of}
-use borrow.Author.Tests.{eq-eqb, ne_eqb, le-leb, lt-leb, not-true, not-false}
+use borrow.Author.Tests.{eq-eqb, ne_eqb, le-leb, lt-leb}
 use Rattle.ty.specs.Types.{Ty, Ty.missing, Ty.int, Ty.physical, Ty.enum, Ty.real, Ty.array, Ty.fields, Ty.access, Ty.file, Ty.protected, Const, Const.plain, Const.other, Table, type_at, const_at, none as no_const}
-use Rattle.word.specs.Choice.{if◌then◌else◌}
+use Rattle.std.specs.Prelude.{if◌then◌else◌}
 use Rattle.ty.specs.Words.{word_of, on_word, round_up}
 use Rattle.layout.specs.Layout.{on_dims, dims_of, under, used_by, end_of, array_of, record_of, layout_at, layout_of}
 use Rattle.ty.specs.Walks.{has_handles, handles_by, handles_at}
@@ -40,7 +40,7 @@ use Rattle.trace.specs.declared.Fields.TheVariants.{Of as Fields-as-Of, Not}
 use Rattle.trace.specs.declared.Leaf.{Leaf}
 use Rattle.trace.specs.declared.Leaf.TheVariants.{Own, Free, Deep}
 use Rattle.word.specs.Result.{Result, ok, refused}
-use Rattle.trace.specs.Emit.{Raw, raw_of, Aim, emitting_at, told}
+use Rattle.trace.specs.Emit.{Raw, raw_of, Aim, handing_at, told}
 use Rattle.trace.specs.declared.Placed.{Placed}
 use Rattle.trace.specs.declared.Placed.TheVariants.{At, Unplaced}
 use Rattle.trace.specs.declared.Answer.{Answer}
@@ -51,7 +51,7 @@ use Rattle.trace.proofs.Walks.{walk_is}
 -- ---- trace_in
 
 module _ (w fs cs b : List ℕ) (left t : ℕ) (d : List ℕ) (at : ℕ) (k : Aim) (v : List ℕ) (s : Raw) where
-  pub in-zero : left ≡ 0 → refused 13 ≡ emitting_at k v s (places_at (table_of w fs cs b) (length v) left t d at)
+  pub in-zero : left ≡ 0 → refused 13 ≡ handing_at k v s (places_at (table_of w fs cs b) (length v) left t d at)
   unfolding places_at
   in-zero h = emit-none k v s _ (ap (λ (m : ℕ). places_at (table_of w fs cs b) (length v) m t d at) h)
 
@@ -63,29 +63,29 @@ module _ (w fs cs b : List ℕ) (left t : ℕ) (d : List ℕ) (at : ℕ) (k : Ai
         ap (λ (m : ℕ). places_at (table_of w fs cs b) (length v) m t d at) one
         ∙ ap (λ (y : Bool). if◌then◌else◌ y (places_by (table_of w fs cs b) (places_at (table_of w fs cs b) (length v) (left - 1)) (length v) t d at (type_at (types_of w fs) t)) (some [])) (sym ex)
 
-    pub in-plain : not x ≡ true → ok s ≡ emitting_at k v s (places_at (table_of w fs cs b) (length v) left t d at)
-    in-plain o = emit-nil k v s _ (split ∙ ap (λ (y : Bool). if◌then◌else◌ y (places_by (table_of w fs cs b) (places_at (table_of w fs cs b) (length v) (left - 1)) (length v) t d at (type_at (types_of w fs) t)) (some [])) (not-true x o))
+    pub in-plain : x ≡ false → ok s ≡ handing_at k v s (places_at (table_of w fs cs b) (length v) left t d at)
+    in-plain o = emit-nil k v s _ (split ∙ ap (λ (y : Bool). if◌then◌else◌ y (places_by (table_of w fs cs b) (places_at (table_of w fs cs b) (length v) (left - 1)) (length v) t d at (type_at (types_of w fs) t)) (some [])) o)
 
-    module _ (o : not x ≡ false) (e : Entry) (ee : e ≡ entry_at w (length fs / 2) t) where
+    module _ (o : x ≡ true) (e : Entry) (ee : e ≡ entry_at w (length fs / 2) t) where
       level : places_at (table_of w fs cs b) (length v) left t d at ≡ places_by (table_of w fs cs b) (places_at (table_of w fs cs b) (length v) (left - 1)) (length v) t d at (read_ty fs e)
       level =
           split
-          ∙ ap (λ (y : Bool). if◌then◌else◌ y (places_by (table_of w fs cs b) (places_at (table_of w fs cs b) (length v) (left - 1)) (length v) t d at (type_at (types_of w fs) t)) (some [])) (not-false x o)
+          ∙ ap (λ (y : Bool). if◌then◌else◌ y (places_by (table_of w fs cs b) (places_at (table_of w fs cs b) (length v) (left - 1)) (length v) t d at (type_at (types_of w fs) t)) (some [])) o
           ∙ ap (places_by (table_of w fs cs b) (places_at (table_of w fs cs b) (length v) (left - 1)) (length v) t d at) (type-at w fs t ∙ ap (read_ty fs) (sym ee))
 
-      pub in-missing : e ≡ Missing → refused 13 ≡ emitting_at k v s (places_at (table_of w fs cs b) (length v) left t d at)
+      pub in-missing : e ≡ Missing → refused 13 ≡ handing_at k v s (places_at (table_of w fs cs b) (length v) left t d at)
       unfolding places_by read_ty
       in-missing q = emit-none k v s _ (rw (level, q) refl)
 
-      pub in-access : e ≡ Access → (r : Answer) (ms to : List ℕ) → told r ms to ≡ emitting_at k v s (only_if (leb (at + 8) (length v)) (some (at ∷ []))) → told r ms to ≡ emitting_at k v s (places_at (table_of w fs cs b) (length v) left t d at)
+      pub in-access : e ≡ Access → (r : Answer) (ms to : List ℕ) → told r ms to ≡ handing_at k v s (only_if (leb (at + 8) (length v)) (some (at ∷ []))) → told r ms to ≡ handing_at k v s (places_at (table_of w fs cs b) (length v) left t d at)
       unfolding places_by read_ty
       in-access q r ms to er = rw (level, q) er
 
-      pub in-protected : e ≡ Protected → (r : Answer) (ms to : List ℕ) → told r ms to ≡ emitting_at k v s (only_if (leb (at + 8) (length v)) (some (at ∷ []))) → told r ms to ≡ emitting_at k v s (places_at (table_of w fs cs b) (length v) left t d at)
+      pub in-protected : e ≡ Protected → (r : Answer) (ms to : List ℕ) → told r ms to ≡ handing_at k v s (only_if (leb (at + 8) (length v)) (some (at ∷ []))) → told r ms to ≡ handing_at k v s (places_at (table_of w fs cs b) (length v) left t d at)
       unfolding places_by read_ty
       in-protected q r ms to er = rw (level, q) er
 
-      pub in_array : (el c j : ℕ) → e ≡ Array el c j → (r : Answer) (ms to : List ℕ) → told r ms to ≡ emitting_at k v s (if_laid (array_of (table_of w fs cs b) (layout_at (table_of w fs cs b) 64) t el c j d) (λ st n. many (length v) (part_places (table_of w fs cs b) (places_at (table_of w fs cs b) (length v) (left - 1)) el c (drop (24 * j) d)) st (turns st n) at)) → told r ms to ≡ emitting_at k v s (places_at (table_of w fs cs b) (length v) left t d at)
+      pub in_array : (el c j : ℕ) → e ≡ Array el c j → (r : Answer) (ms to : List ℕ) → told r ms to ≡ handing_at k v s (if_laid (array_of (table_of w fs cs b) (layout_at (table_of w fs cs b) 64) t el c j d) (λ st n. many (length v) (part_places (table_of w fs cs b) (places_at (table_of w fs cs b) (length v) (left - 1)) el c (drop (24 * j) d)) st (turns st n) at)) → told r ms to ≡ handing_at k v s (places_at (table_of w fs cs b) (length v) left t d at)
       unfolding places_by read_ty layout_of
       in_array el c j q r ms to er =
           let l : array_of (table_of w fs cs b) (layout_at (table_of w fs cs b) 64) t el c j d ≡ layout_at (table_of w fs cs b) 65 t d = lay-array w fs cs b 64 t d e ee _ el c j q refl in
@@ -103,8 +103,8 @@ module _ (w fs cs b : List ℕ) (left t : ℕ) (d : List ℕ) (at : ℕ) (k : Ai
           rw (level, q, ← l, ← f) (walk_is (table_of w fs cs b) (places_at (table_of w fs cs b) (length v) (left - 1)) (length v) at (fields_from fs i n) d 0 1 0 g)
 
       -- it is traced as one record of one
-      pub in-record : (i n : ℕ) → e ≡ Record i n → length d < 2 ^ 64 → at ≤ length v → (st : ℕ) (r : Answer) (ms to : List ℕ) → told r ms to ≡ emitting_at k v s (many (length v) (λ p. walk (table_of w fs cs b) (places_at (table_of w fs cs b) (length v) (left - 1)) (length v) p (fields_from fs i n) d 0 1 0) st 1 at) → told r ms to ≡ emitting_at k v s (places_at (table_of w fs cs b) (length v) left t d at)
-      in-record i n q g h' st r ms to er = er ∙ ap (emitting_at k v s) (many-one (length v) (λ p. walk (table_of w fs cs b) (places_at (table_of w fs cs b) (length v) (left - 1)) (length v) p (fields_from fs i n) d 0 1 0) st at h' ∙ record_is i n q g)
+      pub in-record : (i n : ℕ) → e ≡ Record i n → length d < 2 ^ 64 → at ≤ length v → (st : ℕ) (r : Answer) (ms to : List ℕ) → told r ms to ≡ handing_at k v s (many (length v) (λ p. walk (table_of w fs cs b) (places_at (table_of w fs cs b) (length v) (left - 1)) (length v) p (fields_from fs i n) d 0 1 0) st 1 at) → told r ms to ≡ handing_at k v s (places_at (table_of w fs cs b) (length v) left t d at)
+      in-record i n q g h' st r ms to er = er ∙ ap (handing_at k v s) (many-one (length v) (λ p. walk (table_of w fs cs b) (places_at (table_of w fs cs b) (length v) (left - 1)) (length v) p (fields_from fs i n) d 0 1 0) st at h' ∙ record_is i n q g)
 
       other-cases : (x : Entry) → OneOf (1 ∷ 2 ∷ 3 ∷ 4 ∷ 8 ∷ []) (tag_of entry-type x) → places_by (table_of w fs cs b) (places_at (table_of w fs cs b) (length v) (left - 1)) (length v) t d at (read_ty fs x) ≡ some []
       unfolding places_by read_ty
@@ -119,7 +119,7 @@ module _ (w fs cs b : List ℕ) (left t : ℕ) (d : List ℕ) (at : ℕ) (k : Ai
       other-cases File z = refl
       other-cases Protected z = absurd (miss (1 ∷ 2 ∷ 3 ∷ 4 ∷ 8 ∷ []) 9 tt z)
 
-      pub in-other : OneOf (1 ∷ 2 ∷ 3 ∷ 4 ∷ 8 ∷ []) (tag_of entry-type e) → ok s ≡ emitting_at k v s (places_at (table_of w fs cs b) (length v) left t d at)
+      pub in-other : OneOf (1 ∷ 2 ∷ 3 ∷ 4 ∷ 8 ∷ []) (tag_of entry-type e) → ok s ≡ handing_at k v s (places_at (table_of w fs cs b) (length v) left t d at)
       in-other z = emit-nil k v s _ (level ∙ other-cases e z)
 
 -- ---- fields_at
@@ -127,33 +127,33 @@ module _ (w fs cs b : List ℕ) (left t : ℕ) (d : List ℕ) (at : ℕ) (k : Ai
 pub looked-not : (w fs : List ℕ) (t left : ℕ) (x : Bool) (i n : ℕ) → Not ≡ Fields-as-Of i n → Looked w fs t left x i n
 looked-not w fs t left x i n e = let z : ◌≡◌ {A = ℕ} 0 1 = cc in absurd (omega arith)
 
-pub looked-of : (w fs : List ℕ) (t left : ℕ) (x : Bool) → (left ≡ 0 → ⊥) → not x ≡ false → (e : Entry) → e ≡ entry_at w (length fs / 2) t → (i n : ℕ) → e ≡ Record i n → (i' n' : ℕ) → Fields-as-Of i n ≡ Fields-as-Of i' n' → Looked w fs t left x i' n'
-looked-of w fs t left x h o e ee i n q i' n' z = record { level = h; handles = not-false x o; row = cc }
+pub looked-of : (w fs : List ℕ) (t left : ℕ) (x : Bool) → (left ≡ 0 → ⊥) → x ≡ true → (e : Entry) → e ≡ entry_at w (length fs / 2) t → (i n : ℕ) → e ≡ Record i n → (i' n' : ℕ) → Fields-as-Of i n ≡ Fields-as-Of i' n' → Looked w fs t left x i' n'
+looked-of w fs t left x h o e ee i n q i' n' z = record { level = h; handles = o; row = cc }
 
 -- ---- trace_elems
 
 module _ (w fs cs b : List ℕ) (left t : ℕ) (d : List ℕ) (k : Aim) (v : List ℕ) (s : Raw) (x : Bool) (ex : x ≡ has_handles (types_of w fs) t) (i n : ℕ) (g : length d < 2 ^ 64) (l : Looked w fs t left x i n) where
-  pub looked-records : (st q at : ℕ) (r : Answer) (ms to : List ℕ) → told r ms to ≡ emitting_at k v s (many (length v) (λ p. walk (table_of w fs cs b) (places_at (table_of w fs cs b) (length v) (left - 1)) (length v) p (fields_from fs i n) d 0 1 0) st q at) → told r ms to ≡ emitting_at k v s (many (length v) (places_at (table_of w fs cs b) (length v) left t d) st q at)
-  looked-records st q at r ms to er = er ∙ ap (emitting_at k v s) (many-ext (length v) _ _ (λ p. record_is w fs cs b left t d p k v s l.level x ex (ap not l.handles) (Record i n) (sym l.row) i n refl g) st q at)
+  pub looked-records : (st q at : ℕ) (r : Answer) (ms to : List ℕ) → told r ms to ≡ handing_at k v s (many (length v) (λ p. walk (table_of w fs cs b) (places_at (table_of w fs cs b) (length v) (left - 1)) (length v) p (fields_from fs i n) d 0 1 0) st q at) → told r ms to ≡ handing_at k v s (many (length v) (places_at (table_of w fs cs b) (length v) left t d) st q at)
+  looked-records st q at r ms to er = er ∙ ap (handing_at k v s) (many-ext (length v) _ _ (λ p. record_is w fs cs b left t d p k v s l.level x ex l.handles (Record i n) (sym l.row) i n refl g) st q at)
 
 -- ---- trace_parts
 
 module _ (w fs cs b : List ℕ) (left t c : ℕ) (d : List ℕ) (st n at : ℕ) (k : Aim) (v : List ℕ) (s : Raw) where
-  pub parts-rest : c ≡ 4294967295 → (r : Answer) (ms to : List ℕ) → told r ms to ≡ emitting_at k v s (many (length v) (places_at (table_of w fs cs b) (length v) left t d) st n at) → told r ms to ≡ emitting_at k v s (many (length v) (part_places (table_of w fs cs b) (places_at (table_of w fs cs b) (length v) left) t c d) st n at)
+  pub parts-rest : c ≡ 4294967295 → (r : Answer) (ms to : List ℕ) → told r ms to ≡ handing_at k v s (many (length v) (places_at (table_of w fs cs b) (length v) left t d) st n at) → told r ms to ≡ handing_at k v s (many (length v) (part_places (table_of w fs cs b) (places_at (table_of w fs cs b) (length v) left) t c d) st n at)
   unfolding part_places
-  parts-rest h r ms to er = er ∙ ap (emitting_at k v s) (many-ext (length v) _ _ (λ p. rw (eq-eqb c no_const h) refl) st n at)
+  parts-rest h r ms to er = er ∙ ap (handing_at k v s) (many-ext (length v) _ _ (λ p. rw (eq-eqb c no_const h) refl) st n at)
 
-  pub parts-end : n ≡ 0 → ok s ≡ emitting_at k v s (many (length v) (part_places (table_of w fs cs b) (places_at (table_of w fs cs b) (length v) left) t c d) st n at)
+  pub parts-end : n ≡ 0 → ok s ≡ handing_at k v s (many (length v) (part_places (table_of w fs cs b) (places_at (table_of w fs cs b) (length v) left) t c d) st n at)
   parts-end h = emit-nil k v s _ (many-end (length v) _ st n at (omega arith))
 
   module _ (h : c ≡ 4294967295 → ⊥) (p : Part) (ep : p ≡ part_at cs (length b) c) where
-    pub parts-nowhere : (n ≡ 0 → ⊥) → p ≡ Nowhere → refused 13 ≡ emitting_at k v s (many (length v) (part_places (table_of w fs cs b) (places_at (table_of w fs cs b) (length v) left) t c d) st n at)
+    pub parts-nowhere : (n ≡ 0 → ⊥) → p ≡ Nowhere → refused 13 ≡ handing_at k v s (many (length v) (part_places (table_of w fs cs b) (places_at (table_of w fs cs b) (length v) left) t c d) st n at)
     unfolding part_places read_part
     parts-nowhere z e = emit-none k v s _ (many-none (length v) _ (λ q. rw (ne_eqb c no_const h, const-at, ← ep, e) refl) st n at z)
 
-    pub parts-const : (x y : ℕ) → p ≡ Of x y → (r : Answer) (ms to : List ℕ) → told r ms to ≡ emitting_at k v s (many (length v) (places_at (table_of w fs cs b) (length v) left t (take (y - x) (drop x b))) st n at) → told r ms to ≡ emitting_at k v s (many (length v) (part_places (table_of w fs cs b) (places_at (table_of w fs cs b) (length v) left) t c d) st n at)
+    pub parts-const : (x y : ℕ) → p ≡ Of x y → (r : Answer) (ms to : List ℕ) → told r ms to ≡ handing_at k v s (many (length v) (places_at (table_of w fs cs b) (length v) left t (take (y - x) (drop x b))) st n at) → told r ms to ≡ handing_at k v s (many (length v) (part_places (table_of w fs cs b) (places_at (table_of w fs cs b) (length v) left) t c d) st n at)
     unfolding part_places read_part
-    parts-const x y e r ms to er = er ∙ ap (emitting_at k v s) (many-ext (length v) _ _ (λ q. rw (ne_eqb c no_const h, const-at, ← ep, e) refl) st n at)
+    parts-const x y e r ms to er = er ∙ ap (handing_at k v s) (many-ext (length v) _ _ (λ q. rw (ne_eqb c no_const h, const-at, ← ep, e) refl) st n at)
 
 -- ---- trace_field
 
@@ -206,7 +206,7 @@ module _ (w fs cs b : List ℕ) (left t c : ℕ) (d : List ℕ) (at : ℕ) (k : 
   unfolding part_places places_at
   part_none = no_part (eqb c no_const) (const_at (consts_of cs b) c)
 
-  pub part-zero : left ≡ 0 → refused 13 ≡ emitting_at k v s (part_places (table_of w fs cs b) (places_at (table_of w fs cs b) (length v) left) t c d at)
+  pub part-zero : left ≡ 0 → refused 13 ≡ handing_at k v s (part_places (table_of w fs cs b) (places_at (table_of w fs cs b) (length v) left) t c d at)
   part-zero h = emit-none k v s _ (ap (λ (m : ℕ). part_places (table_of w fs cs b) (places_at (table_of w fs cs b) (length v) m) t c d at) h ∙ part_none)
 
   module _ (h : left ≡ 0 → ⊥) (l : Leaf) (el : l ≡ part_leaf w fs t c) where
@@ -232,15 +232,15 @@ module _ (w fs cs b : List ℕ) (left t c : ℕ) (d : List ℕ) (at : ℕ) (k : 
     unfolding part_places part_leaf
     free_part q = free-case (eqb c no_const) (sym el ∙ q)
 
-    pub part-own : l ≡ Own → (r : Answer) (ms to : List ℕ) → told r ms to ≡ emitting_at k v s (only_if (leb (at + 8) (length v)) (some (at ∷ []))) → told r ms to ≡ emitting_at k v s (part_places (table_of w fs cs b) (places_at (table_of w fs cs b) (length v) left) t c d at)
-    part-own q r ms to er = er ∙ ap (emitting_at k v s) (sym (own-part q))
+    pub part-own : l ≡ Own → (r : Answer) (ms to : List ℕ) → told r ms to ≡ handing_at k v s (only_if (leb (at + 8) (length v)) (some (at ∷ []))) → told r ms to ≡ handing_at k v s (part_places (table_of w fs cs b) (places_at (table_of w fs cs b) (length v) left) t c d at)
+    part-own q r ms to er = er ∙ ap (handing_at k v s) (sym (own-part q))
 
-    pub part_free : l ≡ Free → ok s ≡ emitting_at k v s (part_places (table_of w fs cs b) (places_at (table_of w fs cs b) (length v) left) t c d at)
+    pub part_free : l ≡ Free → ok s ≡ handing_at k v s (part_places (table_of w fs cs b) (places_at (table_of w fs cs b) (length v) left) t c d at)
     part_free q = emit-nil k v s _ (free_part q)
 
 -- one element is a field
-pub part-one : (T : Table) (next : Below) (t c used : ℕ) (d : List ℕ) (at : ℕ) (k : Aim) (v : List ℕ) (s : Raw) → at ≤ length v → (st : ℕ) (r : Answer) (ms to : List ℕ) → told r ms to ≡ emitting_at k v s (many (length v) (part_places T next t c (take (length d - used) (drop used d))) st 1 at) → told r ms to ≡ emitting_at k v s (part_places T next t c (drop used d) at)
-part-one T next t c used d at k v s h st r ms to er = rw (← rest used d) (er ∙ ap (emitting_at k v s) (many-one (length v) (part_places T next t c (take (length d - used) (drop used d))) st at h))
+pub part-one : (T : Table) (next : Below) (t c used : ℕ) (d : List ℕ) (at : ℕ) (k : Aim) (v : List ℕ) (s : Raw) → at ≤ length v → (st : ℕ) (r : Answer) (ms to : List ℕ) → told r ms to ≡ handing_at k v s (many (length v) (part_places T next t c (take (length d - used) (drop used d))) st 1 at) → told r ms to ≡ handing_at k v s (part_places T next t c (drop used d) at)
+part-one T next t c used d at k v s h st r ms to er = rw (← rest used d) (er ∙ ap (handing_at k v s) (many-one (length v) (part_places T next t c (take (length d - used) (drop used d))) st at h))
 
 -- ---- leaf_at
 
@@ -311,11 +311,11 @@ module _ (T : Table) (lay : ℕ → List ℕ → Lay) (t el c j : ℕ) (d : List
   array-word h = let g = array-fits in omega arith
 
 module _ (T : Table) (lay : ℕ → List ℕ → Lay) (next : Below) (t el c j : ℕ) (d : List ℕ) (at : ℕ) (k : Aim) (v : List ℕ) (s : Raw) (l : Lay) (el' : l ≡ array_of T lay t el c j d) where
-  pub array-none : OneOf (1 ∷ 2 ∷ []) (tag_of lay-type l) → refused 13 ≡ emitting_at k v s (if_laid (array_of T lay t el c j d) (λ st n. many (length v) (part_places T next el c (drop (24 * j) d)) st (turns st n) at))
+  pub array-none : OneOf (1 ∷ 2 ∷ []) (tag_of lay-type l) → refused 13 ≡ handing_at k v s (if_laid (array_of T lay t el c j d) (λ st n. many (length v) (part_places T next el c (drop (24 * j) d)) st (turns st n) at))
   array-none h = emit-none k v s _ (rw (← el') (no-laid l _ h))
 
   module _ (z a st n u : ℕ) (o : l ≡ Laid z a st n u) where
-    pub array-some : (q : ℕ) → q ≡ turns st n → (r : Answer) (ms to : List ℕ) → told r ms to ≡ emitting_at k v s (many (length v) (part_places T next el c (take (length d - 24 * j) (drop (24 * j) d))) st q at) → told r ms to ≡ emitting_at k v s (if_laid (array_of T lay t el c j d) (λ st n. many (length v) (part_places T next el c (drop (24 * j) d)) st (turns st n) at))
+    pub array-some : (q : ℕ) → q ≡ turns st n → (r : Answer) (ms to : List ℕ) → told r ms to ≡ handing_at k v s (many (length v) (part_places T next el c (take (length d - 24 * j) (drop (24 * j) d))) st q at) → told r ms to ≡ handing_at k v s (if_laid (array_of T lay t el c j d) (λ st n. many (length v) (part_places T next el c (drop (24 * j) d)) st (turns st n) at))
     array-some q eq r ms to er = rw (← el', o, ← eq, ← rest (24 * j) d) er
 
 -- ---- place_after
@@ -368,10 +368,10 @@ module _ (o e a u : ℕ) where
 
 -- ---- trace_record: the turn at field i of n, from field f on. G is what all the fields leave.
 
-pub walk_first : (T : Table) (next : Below) (end at : ℕ) (fs : List ℕ) (f n : ℕ) (d : List ℕ) (k : Aim) (v : List ℕ) (s : Raw) → emitting_at k v s (walk T next end at (fields_from fs (f + 0) (n - 0)) d 0 1 0) ≡ emitting_at k v s (walk T next end at (fields_from fs f n) d 0 1 0)
+pub walk_first : (T : Table) (next : Below) (end at : ℕ) (fs : List ℕ) (f n : ℕ) (d : List ℕ) (k : Aim) (v : List ℕ) (s : Raw) → handing_at k v s (walk T next end at (fields_from fs (f + 0) (n - 0)) d 0 1 0) ≡ handing_at k v s (walk T next end at (fields_from fs f n) d 0 1 0)
 walk_first T next end at fs f n d k v s = rw fields-first refl
 
-module _ (T : Table) (next : Below) (fs : List ℕ) (f n i : ℕ) (d : List ℕ) (off al used at : ℕ) (k : Aim) (v ms to : List ℕ) (m : ℕ) (G : Result Raw) (inv : emitting_at k v (raw_of ms to m) (walk T next (length v) at (fields_from fs (f + i) (n - i)) d off al used) ≡ G) where
+module _ (T : Table) (next : Below) (fs : List ℕ) (f n i : ℕ) (d : List ℕ) (off al used at : ℕ) (k : Aim) (v ms to : List ℕ) (m : ℕ) (G : Result Raw) (inv : handing_at k v (raw_of ms to m) (walk T next (length v) at (fields_from fs (f + i) (n - i)) d off al used) ≡ G) where
   module _ (h : n ≤ i) (z : Lay) (ez : z ≡ end_of off al used) where
     last-is : walk T next (length v) at (fields_from fs (f + i) (n - i)) d off al used ≡ if_laid z (λ st n. some [])
     unfolding walk
@@ -403,17 +403,17 @@ module _ (T : Table) (next : Below) (fs : List ℕ) (f n i : ℕ) (d : List ℕ)
       pub field-beyond : at ≤ length v → length v - at < o → refused 13 ≡ G
       field-beyond h l = emit-none k v (raw_of ms to m) _ (rw (next-is, q, lt-leb (at + o) (length v) (omega arith)) refl) ∙ inv
 
-      module _ (h : at ≤ length v) (l : o ≤ length v - at) (r : Answer) (ms' to' : List ℕ) (er : told r ms' to' ≡ emitting_at k v (raw_of ms to m) (part_places T next (get_or fs (2 * (f + i)) 0) (get_or fs (2 * (f + i) + 1) 0) (drop used d) (at + o))) where
+      module _ (h : at ≤ length v) (l : o ≤ length v - at) (r : Answer) (ms' to' : List ℕ) (er : told r ms' to' ≡ handing_at k v (raw_of ms to m) (part_places T next (get_or fs (2 * (f + i)) 0) (get_or fs (2 * (f + i) + 1) 0) (drop used d) (at + o))) where
         turn : walk T next (length v) at (fields_from fs (f + i) (n - i)) d off al used ≡ both (part_places T next (get_or fs (2 * (f + i)) 0) (get_or fs (2 * (f + i) + 1) 0) (drop used d) (at + o)) (walk T next (length v) at (fields_from fs (f + (i + 1)) (n - (i + 1))) d e (max al a) (used + used_by (get_or fs (2 * (f + i) + 1) 0) u))
         turn = rw (next-is, q, le-leb (at + o) (length v) (omega arith)) refl
 
         pub field-fail : r ≡ Untraceable → refused 13 ≡ G
-        field-fail x = then-none k v (raw_of ms to m) _ _ (told-untraceable r ms' to' _ er x) ∙ ap (emitting_at k v (raw_of ms to m)) (sym turn) ∙ inv
+        field-fail x = then-none k v (raw_of ms to m) _ _ (told-untraceable r ms' to' _ er x) ∙ ap (handing_at k v (raw_of ms to m)) (sym turn) ∙ inv
 
-        pub field_next : (m' : ℕ) → r ≡ Traced m' → (al' : ℕ) → al' ≡ max al a → (u' : ℕ) → u' ≡ used_by (get_or fs (2 * (f + i) + 1) 0) u → emitting_at k v (raw_of ms' to' m') (walk T next (length v) at (fields_from fs (f + (i + 1)) (n - (i + 1))) d e al' (used + u')) ≡ G
+        pub field_next : (m' : ℕ) → r ≡ Traced m' → (al' : ℕ) → al' ≡ max al a → (u' : ℕ) → u' ≡ used_by (get_or fs (2 * (f + i) + 1) 0) u → handing_at k v (raw_of ms' to' m') (walk T next (length v) at (fields_from fs (f + (i + 1)) (n - (i + 1))) d e al' (used + u')) ≡ G
         field_next m' x al' ea u' eu =
-            ap (λ (y : ℕ). emitting_at k v (raw_of ms' to' m') (walk T next (length v) at (fields_from fs (f + (i + 1)) (n - (i + 1))) d e y (used + u'))) ea
-            ∙ ap (λ (y : ℕ). emitting_at k v (raw_of ms' to' m') (walk T next (length v) at (fields_from fs (f + (i + 1)) (n - (i + 1))) d e (max al a) (used + y))) eu
+            ap (λ (y : ℕ). handing_at k v (raw_of ms' to' m') (walk T next (length v) at (fields_from fs (f + (i + 1)) (n - (i + 1))) d e y (used + u'))) ea
+            ∙ ap (λ (y : ℕ). handing_at k v (raw_of ms' to' m') (walk T next (length v) at (fields_from fs (f + (i + 1)) (n - (i + 1))) d e (max al a) (used + y))) eu
             ∙ then_some k v (raw_of ms to m) (raw_of ms' to' m') _ _ (told-traced r ms' to' _ m' er x)
-            ∙ ap (emitting_at k v (raw_of ms to m)) (sym turn)
+            ∙ ap (handing_at k v (raw_of ms to m)) (sym turn)
             ∙ inv

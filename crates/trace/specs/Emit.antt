@@ -1,12 +1,11 @@
 -- Where traced handles go: counted, written to a list, marked and queued by a collection, or compared with those of an object beside. Named by inner contracts: Places.antt says which
 -- handles there are.
-use Rattle.std.specs.Prelude.{ℕ, ◌+◌, ◌-◌, ◌%◌, ◌^◌, min, ◌≡◌, List, [], ◌∷◌, length, get_or, set, ltb, eqb}
+use Rattle.std.specs.Prelude.{ℕ, ◌+◌, ◌-◌, ◌%◌, ◌^◌, min, ◌≡◌, List, [], ◌∷◌, length, get_or, set, ltb, eqb, if◌then◌else◌}
 use Rattle.std.proofs.Math.Option.{Option, none, some}
-use Rattle.word.specs.Choice.{if◌then◌else◌}
 use Rattle.word.specs.Result.{Result, ok, refused}
 use Rattle.beside.specs.Inner.Ranks.{place_in}
 use Rattle.beside.specs.Inner.Found.{found_at}
-use Rattle.trace.specs.Places.{Places, handle_at}
+use Rattle.trace.specs.Places.{Places, handle_at, words_at}
 use Rattle.trace.specs.declared.Sink.{Sink}
 use Rattle.trace.specs.declared.Sink.TheVariants.{Check, List as ToList, Work}
 use Rattle.trace.specs.declared.Goal.{Goal}
@@ -101,9 +100,13 @@ handed_all k v s [] = s
 handed_all k v s (a ∷ ps) = handed_all k v (handed k v s a) ps
 
 -- 13 where there are none because of a failure
-unfoldable pub emitting_at : Aim → List ℕ → Raw → Places → Result Raw
-emitting_at k v s none = refused 13
-emitting_at k v s (some ps) = ok (handed_all k v s ps)
+unfoldable pub handing_at : Aim → List ℕ → Raw → Places → Result Raw
+handing_at k v s none = refused 13
+handing_at k v s (some ps) = ok (handed_all k v s ps)
+
+-- the handles at places of the data v
+abbrev pub emitting_at : Into → List ℕ → Raw → Places → Result Raw
+emitting_at k v s o = emitting k s (words_at v o)
 
 -- what the answer of a trace says, with the marks and the words after it
 abbrev pub told : Answer → List ℕ → List ℕ → Result Raw

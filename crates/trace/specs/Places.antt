@@ -1,8 +1,7 @@
 -- The places of the handles in a value, an object and a slot's data, as byte offsets, and the words there (01, "Traced handles", and "Heap", `collect`;
 -- handles_in, object_handles and value_handles of heap.rs). Places stand in the order in which the Rust pushes handles.
-use Rattle.std.specs.Prelude.{ℕ, zero, suc, ◌+◌, ◌-◌, ◌*◌, ◌/◌, min, Bool, true, false, List, [], ◌∷◌, ◌++◌, map, length, take, drop, leb, eqb}
+use Rattle.std.specs.Prelude.{ℕ, zero, suc, ◌+◌, ◌-◌, ◌*◌, ◌/◌, min, Bool, true, false, List, [], ◌∷◌, ◌++◌, map, length, take, drop, leb, eqb, if◌then◌else◌}
 use Rattle.std.proofs.Math.Option.{Option, none, some}
-use Rattle.word.specs.Choice.{if◌then◌else◌}
 use Rattle.word.specs.Le.{le}
 use Rattle.ty.specs.Types.{Ty, Ty.missing, Ty.int, Ty.physical, Ty.enum, Ty.real, Ty.array, Ty.fields, Ty.access, Ty.file, Ty.protected, Field, Field.field, Const, Const.plain, Const.other, Table, type_at, const_at, none as no_const}
 use Rattle.ty.specs.Words.{on_word}

@@ -1,7 +1,6 @@
 -- What the tracer goes by, level for level: a record field by field, as its layout is found. proofs/Walks shows that it is `places_at`.
-use Rattle.std.specs.Prelude.{ℕ, ◌+◌, ◌*◌, ◌/◌, ◌≤◌, ◌<◌, max, ◌≡◌, Bool, true, List, [], ◌∷◌, length, drop, leb, eqb}
+use Rattle.std.specs.Prelude.{ℕ, ◌+◌, ◌*◌, ◌/◌, ◌≤◌, ◌<◌, max, ◌≡◌, Bool, true, List, [], ◌∷◌, length, drop, leb, eqb, if◌then◌else◌}
 use Rattle.std.proofs.Math.Option.{none, some}
-use Rattle.word.specs.Choice.{if◌then◌else◌}
 use Rattle.ty.specs.Types.{Ty, Ty.missing, Ty.int, Ty.physical, Ty.enum, Ty.real, Ty.array, Ty.fields, Ty.access, Ty.file, Ty.protected, Field, Field.field, Table, type_at, none as no_const}
 use Rattle.ty.specs.Words.{word_of, on_word, round_up}
 use Rattle.ty.specs.View.{types_of, table_of, fields_from, entry_at}

@@ -10,7 +10,7 @@ ghost use Rattle.ty.specs.Walks.{has_handles};
 ghost use Rattle.layout.specs.Lent.{part_laid};
 ghost use Rattle.trace.specs.Places.{handle_at, only_if, turns, object_places, handles_places, kind_places, shown_places, value_handles, object_handles, handles_of};
 ghost use Rattle.trace.specs.Walk.{Stepped, Looked, part_leaf, placed_after, field_at, type_places, below_places, elem_places, parts_places, array_places, record_places, records_places};
-ghost use Rattle.trace.specs.Emit.{emit_all, raw_of, into, resolve_in, Runs, queued, emitted, emitting, Ready, aim, handed, handed_all, emitting_at, told};
+ghost use Rattle.trace.specs.Emit.{emit_all, raw_of, into, resolve_in, Runs, queued, emitted, emitting, Ready, aim, handed, handed_all, handing_at, told};
 ghost use Rattle.trace.specs.Listing.{listing, Lists};
 
 use handle::Resolved;
@@ -186,7 +186,7 @@ fn trace_word(
 ) -> Answer
     requires { (at ≤ length «data».now) × Ready slots s narrow.now goal «data».now onarrow.now other.now }
     ensures { told result marks.new to.new ≡
-        emitting_at (aim goal (resolve_in tag slots s narrow.now) onarrow.now other.now owork.now)
+        handing_at (aim goal (resolve_in tag slots s narrow.now) onarrow.now other.now owork.now)
         «data».now (raw_of marks.old to.old n)
         (only_if (leb (at + 8) (length «data».now)) (some (at ∷ []))) }
 {
@@ -225,7 +225,7 @@ fn trace_in(
 ) -> Answer
     requires { (holds ≡ has_handles (types_of types.now fields.now) t) × (at ≤ length «data».now) × Ready slots s narrow.now goal «data».now onarrow.now other.now }
     ensures { told result marks.new to.new ≡
-        emitting_at (aim goal (resolve_in tag slots s narrow.now) onarrow.now other.now owork.now)
+        handing_at (aim goal (resolve_in tag slots s narrow.now) onarrow.now other.now owork.now)
         «data».now (raw_of marks.old to.old n)
         (type_places types.now fields.now consts.now bytes.now (length «data».now) t desc.now left at) }
 {
@@ -344,7 +344,7 @@ fn trace_array(
 ) -> Answer
     requires { Ready slots s narrow.now goal «data».now onarrow.now other.now }
     ensures { told result marks.new to.new ≡
-        emitting_at (aim goal (resolve_in tag slots s narrow.now) onarrow.now other.now owork.now)
+        handing_at (aim goal (resolve_in tag slots s narrow.now) onarrow.now other.now owork.now)
         «data».now (raw_of marks.old to.old n)
         (array_places types.now fields.now consts.now bytes.now (length «data».now) t elem c dims desc.now left at) }
 {
@@ -449,7 +449,7 @@ fn trace_each(
 ) -> Answer
     requires { (holds ≡ has_handles (types_of types.now fields.now) t) × Ready slots s narrow.now goal «data».now onarrow.now other.now }
     ensures { told result marks.new to.new ≡
-        emitting_at (aim goal (resolve_in tag slots s narrow.now) onarrow.now other.now owork.now)
+        handing_at (aim goal (resolve_in tag slots s narrow.now) onarrow.now other.now owork.now)
         «data».now (raw_of marks.old to.old n)
         (elem_places types.now fields.now consts.now bytes.now (length «data».now) t desc.now left stride count at) }
 {
@@ -503,7 +503,7 @@ fn trace_elems(
 ) -> Answer
     requires { (holds ≡ has_handles (types_of types.now fields.now) t) × Ready slots s narrow.now goal «data».now onarrow.now other.now }
     ensures { told result marks.new to.new ≡
-        emitting_at (aim goal (resolve_in tag slots s narrow.now) onarrow.now other.now owork.now)
+        handing_at (aim goal (resolve_in tag slots s narrow.now) onarrow.now other.now owork.now)
         «data».now (raw_of marks.old to.old n)
         (elem_places types.now fields.now consts.now bytes.now (length «data».now) t desc.now left stride count at) }
 {
@@ -571,7 +571,7 @@ fn trace_parts(
 ) -> Answer
     requires { (holds ≡ has_handles (types_of types.now fields.now) t) × Ready slots s narrow.now goal «data».now onarrow.now other.now }
     ensures { told result marks.new to.new ≡
-        emitting_at (aim goal (resolve_in tag slots s narrow.now) onarrow.now other.now owork.now)
+        handing_at (aim goal (resolve_in tag slots s narrow.now) onarrow.now other.now owork.now)
         «data».now (raw_of marks.old to.old n)
         (parts_places types.now fields.now consts.now bytes.now (length «data».now) t c desc.now left stride count at) }
 {
@@ -718,7 +718,7 @@ fn trace_field(
 ) -> Answer
     requires { (used ≤ length desc.now) × (at ≤ length «data».now) × Ready slots s narrow.now goal «data».now onarrow.now other.now }
     ensures { told result marks.new to.new ≡
-        emitting_at (aim goal (resolve_in tag slots s narrow.now) onarrow.now other.now owork.now)
+        handing_at (aim goal (resolve_in tag slots s narrow.now) onarrow.now other.now owork.now)
         «data».now (raw_of marks.old to.old n)
         (below_places types.now fields.now consts.now bytes.now (length «data».now) t c (drop used desc.now) left at) }
 {
@@ -790,7 +790,7 @@ fn trace_record(
 ) -> Answer
     requires { (first + count ≤ length fields.now / 2) × (at ≤ length «data».now) × Ready slots s narrow.now goal «data».now onarrow.now other.now }
     ensures { told result marks.new to.new ≡
-        emitting_at (aim goal (resolve_in tag slots s narrow.now) onarrow.now other.now owork.now)
+        handing_at (aim goal (resolve_in tag slots s narrow.now) onarrow.now other.now owork.now)
         «data».now (raw_of marks.old to.old n)
         (record_places types.now fields.now consts.now bytes.now (length «data».now) first count desc.now left at) }
 {
@@ -893,7 +893,7 @@ fn trace_records(
 ) -> Answer
     requires { (first + len ≤ length fields.now / 2) × Ready slots s narrow.now goal «data».now onarrow.now other.now }
     ensures { told result marks.new to.new ≡
-        emitting_at (aim goal (resolve_in tag slots s narrow.now) onarrow.now other.now owork.now)
+        handing_at (aim goal (resolve_in tag slots s narrow.now) onarrow.now other.now owork.now)
         «data».now (raw_of marks.old to.old n)
         (records_places types.now fields.now consts.now bytes.now (length «data».now) first len desc.now left stride count at) }
 {
@@ -988,7 +988,7 @@ fn trace_whole(
 ) -> Answer
     requires { Ready slots s narrow.now goal «data».now onarrow.now other.now }
     ensures { told result marks.new to.new ≡
-        emitting_at (aim goal (resolve_in tag slots s narrow.now) onarrow.now other.now owork.now)
+        handing_at (aim goal (resolve_in tag slots s narrow.now) onarrow.now other.now owork.now)
         «data».now (raw_of marks.old to.old n)
         (object_places (table_of types.now fields.now consts.now bytes.now) t «data».now) }
 {
@@ -1073,7 +1073,7 @@ pub fn trace_object(
 }
 
 // The handles of a Handles object's visible data: at 24, 32, .. while eight bytes fit.
-fn trace_handles(
+fn hand_handles(
     tag: u8,
     slots: usize,
     s: usize,
@@ -1131,7 +1131,7 @@ fn trace_visible(
 ) -> Answer
     requires { Ready slots s narrow.now goal «data».now onarrow.now other.now }
     ensures { told result marks.new to.new ≡
-        emitting_at (aim goal (resolve_in tag slots s narrow.now) onarrow.now other.now owork.now)
+        handing_at (aim goal (resolve_in tag slots s narrow.now) onarrow.now other.now owork.now)
         «data».now (raw_of marks.old to.old n)
         (kind_places (table_of types.now fields.now consts.now bytes.now) of t «data».now) }
 {
@@ -1142,7 +1142,7 @@ fn trace_visible(
         );
     }
     if of == 3 {
-        let m = trace_handles(
+        let m = hand_handles(
             tag, slots, s, narrow, data, goal, marks, to, n, onarrow, other, owork,
         );
         return Answer::Traced(m);
@@ -1174,7 +1174,7 @@ fn trace_shown(
 ) -> Answer
     requires { Ready slots s narrow.now goal «data».now onarrow.now other.now }
     ensures { told result marks.new to.new ≡
-        emitting_at (aim goal (resolve_in tag slots s narrow.now) onarrow.now (drop start other.now) owork.now)
+        handing_at (aim goal (resolve_in tag slots s narrow.now) onarrow.now (drop start other.now) owork.now)
         (drop start «data».now) (raw_of marks.old to.old n)
         (shown_places (table_of types.now fields.now consts.now bytes.now) of t start «data».now) }
 {
@@ -1203,9 +1203,9 @@ fn trace_shown(
     )
 }
 
-// The handles of a Handles object's visible data to a sink: at 24, 32, .. while eight bytes fit. It stands beside trace_handles, whose goal and other object a collection would pass on for nothing:
+// The handles of a Handles object's visible data to a sink: at 24, 32, .. while eight bytes fit. It stands beside hand_handles, whose goal and other object a collection would pass on for nothing:
 // with them a collection of small objects took twice the time.
-fn emit_handles(
+pub fn trace_handles(
     tag: u8,
     slots: usize,
     s: usize,
@@ -1309,7 +1309,7 @@ pub fn trace_slot(
         );
     }
     if of == 3 {
-        let m = emit_handles(tag, slots, s, narrow, &data[start..], sink, marks, to, n);
+        let m = trace_handles(tag, slots, s, narrow, &data[start..], sink, marks, to, n);
         return Answer::Traced(m);
     }
     Answer::Traced(n)
@@ -1342,7 +1342,7 @@ pub fn trace_beside(
 ) -> Answer
     requires { Runs slots s narrow.now × Runs oslots os onarrow.now × (length «data».now ≡ length other.now) }
     ensures { told result found.new work.new ≡
-        emitting_at (aim (Goal.Beside otag oslots os) (resolve_in tag slots s narrow.now) onarrow.now (drop start other.now) owork.now)
+        handing_at (aim (Goal.Beside otag oslots os) (resolve_in tag slots s narrow.now) onarrow.now (drop start other.now) owork.now)
         (drop start «data».now) (raw_of found.old work.old n)
         (shown_places (table_of types.now fields.now consts.now bytes.now) of t start «data».now) }
 {

@@ -7,7 +7,7 @@ use native.Mathlib.Omega.{arith}
 use lib.ListN.{length, get_or}
 use lib.Dec.{ltb, leb, eqb}
 use borrow.Author.Tests.{leb-true}
-use Rattle.word.specs.Choice.{if◌then◌else◌}
+use Rattle.std.specs.Prelude.{if◌then◌else◌}
 use Rattle.ty.specs.Scalars.{elem_size}
 use Rattle.ty.specs.View.{read_ty, entry_of, entry_at, part_at, bare}
 use Rattle.ty.specs.declared.Part.{Part}

@@ -1,7 +1,6 @@
 -- What one pass over the types in their order finds out: a bound of each type's unfolding at any number of levels, from the bounds of the types before it.
 -- Named by inner contracts only; Check.antt says what is right.
-use Rattle.std.specs.Prelude.{ℕ, ◌+◌, min, List, [], ◌∷◌, ltb, get_or}
-use Rattle.word.specs.Choice.{if◌then◌else◌}
+use Rattle.std.specs.Prelude.{ℕ, ◌+◌, min, List, [], ◌∷◌, ltb, get_or, if◌then◌else◌}
 use Rattle.ty.specs.Types.{Ty, Ty.missing, Ty.int, Ty.physical, Ty.enum, Ty.real, Ty.array, Ty.fields, Ty.access, Ty.file, Ty.protected, Field, Field.field}
 
 -- the bound of type t, where those of the first i of n types are known: 1 of a missing type, past the largest that is taken of one that comes later

@@ -1,7 +1,6 @@
 -- Which type tables are taken (01, "Type table"; otherwise 10).
-use Rattle.std.specs.Prelude.{ℕ, ◌+◌, ◌*◌, ◌/◌, ◌%◌, List, [], ◌∷◌, Bool, true, ◌&&◌, leb, eqb, length, get_or}
+use Rattle.std.specs.Prelude.{ℕ, ◌+◌, ◌*◌, ◌/◌, ◌%◌, List, [], ◌∷◌, Bool, true, ◌&&◌, leb, eqb, length, get_or, if◌then◌else◌}
 use Rattle.ty.specs.Types.{Ty}
-use Rattle.word.specs.Choice.{if◌then◌else◌}
 use Rattle.word.specs.Lists.{all_below}
 use Rattle.ty.specs.View.{types_of}
 use Rattle.ty.specs.Walks.{unfold_at}

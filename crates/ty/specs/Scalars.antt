@@ -1,6 +1,5 @@
 -- Sizes of scalars, and the logic kind of nested arrays (01, "Type table": scalars, narrow elements, logic arrays).
-use Rattle.std.specs.Prelude.{ℕ, zero, suc, ◌+◌, ◌-◌, ◌^◌, List, Bool, ◌&&◌, ltb, leb}
-use Rattle.word.specs.Choice.{if◌then◌else◌}
+use Rattle.std.specs.Prelude.{ℕ, zero, suc, ◌+◌, ◌-◌, ◌^◌, List, Bool, ◌&&◌, ltb, leb, if◌then◌else◌}
 use Rattle.ty.specs.Words.{rank}
 use Rattle.ty.specs.Types.{Ty, Ty.missing, Ty.int, Ty.physical, Ty.enum, Ty.real, Ty.array, Ty.fields, Ty.access, Ty.file, Ty.protected, type_at}
 use Rattle.ty.specs.declared.Scalar.{Scalar}

@@ -1,8 +1,7 @@
 -- The lent slices of a type table, read as plain data: four words a type, two a field, three a constant. What is bad reads as missing, so that every
 -- slice is some table.
-use Rattle.std.specs.Prelude.{ℕ, zero, suc, ◌+◌, ◌-◌, ◌*◌, ◌/◌, List, [], ◌∷◌, ltb, leb, eqb, length, get_or, drop, take}
+use Rattle.std.specs.Prelude.{ℕ, zero, suc, ◌+◌, ◌-◌, ◌*◌, ◌/◌, List, [], ◌∷◌, ltb, leb, eqb, length, get_or, drop, take, if◌then◌else◌}
 use Rattle.ty.specs.Types.{Ty, Ty.missing, Ty.int, Ty.physical, Ty.enum, Ty.real, Ty.array, Ty.fields, Ty.access, Ty.file, Ty.protected, Field, Field.field, Const, Const.plain, Const.other, Table}
-use Rattle.word.specs.Choice.{if◌then◌else◌}
 use Rattle.word.specs.Lists.{tabulate}
 use Rattle.ty.specs.declared.Entry.{Entry}
 use Rattle.ty.specs.declared.Entry.TheVariants.{Missing, Int, Physical, Enum, Real, Array, Record, Access, File, Protected}

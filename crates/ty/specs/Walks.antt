@@ -1,9 +1,8 @@
 -- Descriptor size, "has handles" and unfolding of a type (01, "Type table", and ty.rs).
 -- Each goes down levels, of which the first argument says how many are left: 65, for the depths 0 to 64.
-use Rattle.std.specs.Prelude.{ℕ, zero, suc, ◌+◌, ◌*◌, List, [], ◌∷◌, Bool, true, false, ◌||◌, eqb}
+use Rattle.std.specs.Prelude.{ℕ, zero, suc, ◌+◌, ◌*◌, List, [], ◌∷◌, Bool, true, false, ◌||◌, eqb, if◌then◌else◌}
 use Rattle.std.proofs.Math.Option.{Option, none, some}
 use Rattle.ty.specs.Types.{Ty, Ty.missing, Ty.int, Ty.physical, Ty.enum, Ty.real, Ty.array, Ty.fields, Ty.access, Ty.file, Ty.protected, Field, Field.field, type_at, none as no_const}
-use Rattle.word.specs.Choice.{if◌then◌else◌}
 use Rattle.ty.specs.Words.{word_of, on_word}
 use Rattle.ty.specs.declared.Word.{Word}
 use Rattle.ty.specs.declared.Word.TheVariants.{Is, Over}

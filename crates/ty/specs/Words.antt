@@ -1,6 +1,5 @@
 -- Numbers of 64 bits, signed ones by their rank, and aligning (01, "Type table").
-use Rattle.std.specs.Prelude.{ℕ, ◌+◌, ◌-◌, ◌^◌, max, ltb}
-use Rattle.word.specs.Choice.{if◌then◌else◌}
+use Rattle.std.specs.Prelude.{ℕ, ◌+◌, ◌-◌, ◌^◌, max, ltb, if◌then◌else◌}
 use Rattle.word.specs.Num.{align_up}
 use Rattle.ty.specs.declared.Word.{Word}
 use Rattle.ty.specs.declared.Word.TheVariants.{Is, Over}

@@ -1,7 +1,6 @@
 -- The way of Way.antt as code goes it: with one marking that grows, and a note of each slot. Named by inner contracts; proofs/Searching.antt shows that it finds the answer.
-use Rattle.std.specs.Prelude.{List, [], ◌∷◌, Bool, ℕ, zero, suc, ◌-◌, length, get_or, set, eqb}
+use Rattle.std.specs.Prelude.{List, [], ◌∷◌, Bool, ℕ, zero, suc, ◌-◌, length, get_or, set, eqb, if◌then◌else◌}
 use Rattle.std.proofs.Math.Option.{Option, none, some}
-use Rattle.word.specs.Choice.{if◌then◌else◌}
 use Rattle.reach.specs.Reach.{Graph, Starts}
 use Rattle.reach.specs.Marking.{State, visit, drained, marking}
 

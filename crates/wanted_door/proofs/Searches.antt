@@ -7,7 +7,7 @@ use mathlib.Core.List.{List, [], map}
 use lib.ListN.{length, get_or, replicate, length-replicate}
 use lib.Dec.{eqb}
 use native.Mathlib.Omega.{arith}
-use Rattle.word.specs.Choice.{if◌then◌else◌}
+use Rattle.std.specs.Prelude.{if◌then◌else◌}
 use Rattle.trace.specs.declared.Answer.{Answer}
 use Rattle.trace.specs.declared.Answer.TheVariants.{Traced, Untraceable}
 use Rattle.reach.specs.Reach.{Graph}

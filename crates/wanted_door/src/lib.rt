@@ -121,8 +121,7 @@ fn list_roots(
 
 // The fewest roots with which `collect`, with these pins, keeps just the wanted slots and drops the others; of several lists as short the one with the smaller slot at
 // the first place where they differ. Their handles go to the lent list, rising by slot, from its front on. 18, 1, 10, 14, 21, 7. first: how many.
-#[unsafe(no_mangle)]
-pub extern "C" fn yexwalu_roots_for(
+pub fn yexwalu_roots_for(
     types: &[u64],
     fields: &[u32],
     consts: &[u64],
@@ -139,14 +138,14 @@ pub extern "C" fn yexwalu_roots_for(
 ) -> Answer
     ensures work_after { asked result marks.new work.new
         ≡ roots_call
-        (record { types = types.entry.now; fields = fields.now; consts = consts.now; bytes = bytes.now; pins = pins.now; wanted = wanted.now })
+        (record { types = types.now; fields = fields.now; consts = consts.now; bytes = bytes.now; pins = pins.now; wanted = wanted.now })
         marks.old work.old (lent heap narrow.now wide.now pool.now) out.old }
     ensures out_after { out.new
         ≡ roots_out
-        (record { types = types.entry.now; fields = fields.now; consts = consts.now; bytes = bytes.now; pins = pins.now; wanted = wanted.now })
+        (record { types = types.now; fields = fields.now; consts = consts.now; bytes = bytes.now; pins = pins.now; wanted = wanted.now })
         marks.old work.old (lent heap narrow.now wide.now pool.now) out.old }
     ensures right_roots { RightRoots
-        (record { types = types.entry.now; fields = fields.now; consts = consts.now; bytes = bytes.now; pins = pins.now; wanted = wanted.now })
+        (record { types = types.now; fields = fields.now; consts = consts.now; bytes = bytes.now; pins = pins.now; wanted = wanted.now })
         marks.old work.old (lent heap narrow.now wide.now pool.now) out.old result out.new }
 {
     match admit(

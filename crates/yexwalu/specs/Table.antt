@@ -1,6 +1,5 @@
 -- A call with a type table (01, "What the host is told": 10 before anything else).
-use Rattle.std.specs.Prelude.{ℕ, List}
-use Rattle.word.specs.Choice.{if◌then◌else◌}
+use Rattle.std.specs.Prelude.{ℕ, List, if◌then◌else◌}
 use Rattle.word.specs.Result.{Result, refused}
 use Rattle.ty.specs.Check.{table_good}
 

@@ -1,7 +1,6 @@
 -- What the calls about types answer (01, "Type table"; 10, then 11 or 12, then 7).
-use Rattle.std.specs.Prelude.{ℕ, List}
+use Rattle.std.specs.Prelude.{ℕ, List, if◌then◌else◌}
 use Rattle.std.proofs.Math.Option.{Option, none, some}
-use Rattle.word.specs.Choice.{if◌then◌else◌}
 use Rattle.word.specs.Result.{Result, ok, refused}
 use Rattle.ty.specs.Walks.{desc_bytes, has_handles}
 use Rattle.ty.specs.View.{types_of, table_of}

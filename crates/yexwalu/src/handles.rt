@@ -15,8 +15,7 @@ pub use yexwalu_slot_roots as slot_roots;
 pub use yexwalu_value_handles as value_handles;
 
 // The handles of an object's visible data, which is of type t: its descriptor, then its value. They go to the lent list from its front on. first: how many.
-#[unsafe(no_mangle)]
-pub extern "C" fn yexwalu_object_handles(
+pub fn yexwalu_object_handles(
     types: &[u64],
     fields: &[u32],
     consts: &[u64],
@@ -38,8 +37,7 @@ pub extern "C" fn yexwalu_object_handles(
 }
 
 // The handles of a value of type t that needs no descriptor. first: how many.
-#[unsafe(no_mangle)]
-pub extern "C" fn yexwalu_value_handles(
+pub fn yexwalu_value_handles(
     types: &[u64],
     fields: &[u32],
     consts: &[u64],
@@ -62,8 +60,7 @@ pub extern "C" fn yexwalu_value_handles(
 
 // The handles and the addresses of a frame's memory by its map, three words an entry (offset, kind, type), each into a lent list of its own. first: how many
 // handles; second: how many addresses.
-#[unsafe(no_mangle)]
-pub extern "C" fn yexwalu_slot_roots(
+pub fn yexwalu_slot_roots(
     types: &[u64],
     fields: &[u32],
     consts: &[u64],

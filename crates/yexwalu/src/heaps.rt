@@ -6,7 +6,7 @@ pub use heap_door::{
     yexwalu_has_quarantine as has_quarantine, yexwalu_is_plain as is_plain, yexwalu_kind as kind,
     yexwalu_live as live, yexwalu_reclaim_due as reclaim_due, yexwalu_reissue as reissue,
     yexwalu_resolve as resolve, yexwalu_seal as seal, yexwalu_slots as slots,
-    yexwalu_stamp as stamp, yexwalu_write as write,
+    yexwalu_stamp as stamp, yexwalu_write as write_data,
 };
 pub use object_door::{
     yexwalu_alloc as alloc, yexwalu_alloc_from as alloc_from, yexwalu_free as free,

@@ -21,8 +21,7 @@ fn tracked(all: bool) -> Tracked
 }
 
 // The registers that are live before the safepoint pc, rising: those of classes 2 and 4, or all. first: how many.
-#[unsafe(no_mangle)]
-pub extern "C" fn yexwalu_live_at(
+pub fn yexwalu_live_at(
     kinds: &[u8],
     ends: &[u32],
     refs: &[u32],
@@ -34,7 +33,7 @@ pub extern "C" fn yexwalu_live_at(
     rows: &mut [u64],
 ) -> Answer
     ensures { LiveAtCall
-        (record { kinds = kinds.entry.now; ends = ends.now; refs = refs.now; blocks = blocks.now; classes = classes.now })
+        (record { kinds = kinds.now; ends = ends.now; refs = refs.now; blocks = blocks.now; classes = classes.now })
         (asked all) pc regs.old rows.old regs.new rows.new result }
 {
     let which = tracked(all);
@@ -44,8 +43,7 @@ pub extern "C" fn yexwalu_live_at(
 
 // The map of all safepoints, rising: `pcs` has each, `bounds` where its registers end in `regs`, and `regs` the registers that are live before it, rising: those of
 // classes 2 and 4, or all. first: how many safepoints; second: how many registers.
-#[unsafe(no_mangle)]
-pub extern "C" fn yexwalu_live_refs(
+pub fn yexwalu_live_refs(
     kinds: &[u8],
     ends: &[u32],
     refs: &[u32],
@@ -58,7 +56,7 @@ pub extern "C" fn yexwalu_live_refs(
     rows: &mut [u64],
 ) -> Answer
     ensures { LiveRefsCall
-        (record { kinds = kinds.entry.now; ends = ends.now; refs = refs.now; blocks = blocks.now; classes = classes.now })
+        (record { kinds = kinds.now; ends = ends.now; refs = refs.now; blocks = blocks.now; classes = classes.now })
         (asked all) pcs.old bounds.old regs.old rows.old
         pcs.new bounds.new regs.new rows.new result }
 {

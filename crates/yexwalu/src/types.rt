@@ -67,8 +67,7 @@ fn laid_out(a: layout::Answer) -> LayoutAnswer
 }
 
 // The layout of type t under the descriptor, with the offsets of a record's fields in the lent list from its front on.
-#[unsafe(no_mangle)]
-pub extern "C" fn yexwalu_layout(
+pub fn yexwalu_layout(
     types: &[u64],
     fields: &[u32],
     consts: &[u64],
@@ -91,8 +90,7 @@ pub extern "C" fn yexwalu_layout(
 }
 
 // The bytes of a descriptor of type t.
-#[unsafe(no_mangle)]
-pub extern "C" fn yexwalu_desc_size(
+pub fn yexwalu_desc_size(
     types: &[u64],
     fields: &[u32],
     consts: &[u64],
@@ -112,8 +110,7 @@ pub extern "C" fn yexwalu_desc_size(
 }
 
 // Whether values of type t can hold handles: 1 or 0.
-#[unsafe(no_mangle)]
-pub extern "C" fn yexwalu_has_handles(
+pub fn yexwalu_has_handles(
     types: &[u64],
     fields: &[u32],
     consts: &[u64],

@@ -1,8 +1,7 @@
 -- The order of heaps as code goes through them: number by number and object by object, without writing a list. proofs/ByTurns shows that it is the order of
 -- the encodings (Order.antt).
-use Rattle.std.specs.Prelude.{ℕ, List, [], ◌∷◌, length, ltb}
+use Rattle.std.specs.Prelude.{ℕ, List, [], ◌∷◌, length, ltb, if◌then◌else◌}
 use Rattle.std.proofs.Math.Option.{Option, none, some}
-use Rattle.word.specs.Choice.{if◌then◌else◌}
 use Rattle.alike.specs.Same.{Object, Model}
 use Rattle.alike.specs.Order.{Order, Order.less, Order.equal, Order.greater, order, resolves, worth, places_code}
 

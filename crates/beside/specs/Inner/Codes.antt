@@ -1,6 +1,5 @@
 -- An order as a byte: 0 equal, 1 less, 2 greater.
-use Rattle.std.specs.Prelude.{ℕ, eqb}
-use Rattle.word.specs.Choice.{if◌then◌else◌}
+use Rattle.std.specs.Prelude.{ℕ, eqb, if◌then◌else◌}
 use Rattle.alike.specs.Order.{Order, Order.less, Order.equal, Order.greater}
 
 abbrev pub code : Order → ℕ

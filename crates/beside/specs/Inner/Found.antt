@@ -1,6 +1,5 @@
 -- What is found of two objects side by side, in two lent bytes: the order of the bytes outside the handle places so far, and that of the handles (alike/specs/inner/Beside).
-use Rattle.std.specs.Prelude.{ℕ, ◌-◌, List, [], ◌∷◌, length, take, drop, get_or, set, ltb}
-use Rattle.word.specs.Choice.{if◌then◌else◌}
+use Rattle.std.specs.Prelude.{ℕ, ◌-◌, List, [], ◌∷◌, length, take, drop, get_or, set, ltb, if◌then◌else◌}
 use Rattle.word.specs.Le.{le}
 use Rattle.alike.specs.Order.{Order, order}
 use Rattle.alike.specs.Inner.Beside.{Beside}

@@ -48,7 +48,7 @@ pub loop-at-smaller : goal.loop-at-smaller
 loop-at-smaller c = omega (arith, c.loop-at-test.true, c.loop-at.invariant.0, c.loop-at.invariant.1, c.requires.0)
 
 pub loop-at-preserved : goal.loop-at-preserved
-loop-at-preserved c = (omega (arith, c.loop-at-test.true, c.loop-at.invariant.0, c.loop-at.invariant.1, c.requires.0), omega (arith, c.loop-at-test.true, c.loop-at.invariant.0, c.loop-at.invariant.1, c.requires.0), entries-more _ _ _ _ _ _ _ _ _ _ c.loop-at.invariant.2 c.loop-at-test.true c.requires.0 c.loop-at.invariant.1 c.trace_entry-r.result c.trace_entry-r.new.to.1.1.1.1.1.1.1.1.1.1.1.1.1.0 c.trace_entry-r.new.to.1.1.1.1.1.1.1.1.1.1.1.1.1.1.0 c.trace_entry-r.ensures _ c.in-Traced.is, search rules, search rules)
+loop-at-preserved c = (omega (arith, c.loop-at-test.true, c.loop-at.invariant.0, c.loop-at.invariant.1, c.requires.0), omega (arith, c.loop-at-test.true, c.loop-at.invariant.0, c.loop-at.invariant.1, c.requires.0), entries-more _ _ _ _ _ _ _ _ _ _ c.loop-at.invariant.2 c.loop-at-test.true c.requires.0 c.loop-at.invariant.1 c.trace_entry-r.result c.trace_entry-r.new.marks c.trace_entry-r.new.to c.trace_entry-r.ensures _ c.in-Traced.is, search rules, search rules)
 
 pub returns : goal.returns
 returns c = search entries-end

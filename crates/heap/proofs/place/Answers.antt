@@ -22,7 +22,7 @@ pub splice-requires : goal.splice-requires
 splice-requires c = place-can c.args.heap c.args.narrow.now c.args.wide.now c.args.pool.now c.args.i c.args.bytes.now c.requires c.args.g c.args.k c.args.t c.args.start c.args.w
 
 pub shape_of-wide : goal.shape_of-wide
-shape_of-wide c = place_same c.args.heap c.args.narrow.now c.args.wide.now c.args.pool.now c.args.i c.args.bytes.now c.requires c.args.g c.args.k c.args.t c.args.start c.args.w c.splice.new.end c.splice.auto.0
+shape_of-wide c = place_same c.args.heap c.args.narrow.now c.args.wide.now c.args.pool.now c.args.i c.args.bytes.now c.requires c.args.g c.args.k c.args.t c.args.start c.args.w c.splice.new.end c.splice.auto.end
 
 pub returns : goal.returns
-returns c = place-done c.args.heap c.args.narrow.now c.args.wide.now c.args.pool.now c.args.i c.args.bytes.now c.requires c.args.g c.args.k c.args.t c.args.start c.args.w _ _ c.splice.auto.0 c.splice.ensures
+returns c = place-done c.args.heap c.args.narrow.now c.args.wide.now c.args.pool.now c.args.i c.args.bytes.now c.requires c.args.g c.args.k c.args.t c.args.start c.args.w _ _ c.splice.auto.end c.splice.ensures

@@ -24,7 +24,7 @@ pub fill-h-requires : goal.fill-h-requires
 fill-h-requires c = into-free-can c.args.heap c.args.narrow.now c.args.wide.now c.args.pool.now c.args.k c.args.bytes.now c.requires.can_alloc c.requires.free_nonzero _ c.with_free-after.ensures
 
 pub shape_of-narrow : goal.shape_of-narrow
-shape_of-narrow c = c.fill-h.auto.1.0 ∙ simp length-set
+shape_of-narrow c = c.fill-h.auto.narrow ∙ simp length-set
 
 pub returns : goal.returns
 returns c = into-free-out c.args.heap c.args.narrow.now c.args.wide.now c.args.pool.now c.args.k c.args.bytes.now c.requires.can_alloc c.requires.free_nonzero _ c.with_free-after.ensures _ _ _ _ c.fill-h.ensures

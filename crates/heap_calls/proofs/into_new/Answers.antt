@@ -18,7 +18,7 @@ pub fill-h-requires : goal.fill-h-requires
 fill-h-requires c = into-new-can c.args.heap c.args.narrow.now c.args.wide.now c.args.pool.now c.args.k c.args.bytes.now c.requires.can_alloc c.requires.slots_in_bounds _ c.start_of-used.ensures _ c.with_slots-after.ensures
 
 pub shape_of-wide : goal.shape_of-wide
-shape_of-wide c = c.fill-h.auto.1.1.0 ∙ simp length-set
+shape_of-wide c = c.fill-h.auto.wide ∙ simp length-set
 
 pub returns : goal.returns
 returns c = into-new-out c.args.heap c.args.narrow.now c.args.wide.now c.args.pool.now c.args.k c.args.bytes.now c.requires.can_alloc c.requires.slots_in_bounds _ c.start_of-used.ensures _ c.with_slots-after.ensures _ _ _ _ c.fill-h.ensures

@@ -26,7 +26,7 @@ pub place-requires : goal.place-requires
 place-requires c = put-away-can c.args.heap c.args.narrow.now c.args.wide.now c.args.pool.now c.args.i c.requires _ _ c.changed.ensures c.with_quarantine-after.ensures
 
 pub shape_of-narrow : goal.shape_of-narrow
-shape_of-narrow c = c.place.auto.1.0 ∙ simp length-set
+shape_of-narrow c = c.place.auto.narrow ∙ simp length-set
 
 pub returns : goal.returns
 returns c = put-away-out c.args.heap c.args.narrow.now c.args.wide.now c.args.pool.now c.args.i c.requires _ _ c.changed.ensures c.with_quarantine-after.ensures _ _ c.next_generation-g.ensures c.place.ensures

@@ -1,7 +1,6 @@
 -- What a recycling does to the lists: of the quarantine's entries the pinned are kept, the worn out retire, and the others become free.
-use Rattle.std.specs.Prelude.{◌≡◌, Bool, not, ◌&&◌, List, ℕ, ◌+◌, ◌-◌, ◌*◌, ◌<◌, length, get_or, set, take, drop, replicate, eqb}
+use Rattle.std.specs.Prelude.{◌≡◌, Bool, not, ◌&&◌, List, ℕ, ◌+◌, ◌-◌, ◌*◌, ◌<◌, length, get_or, set, take, drop, replicate, eqb, if◌then◌else◌}
 use Rattle.word.specs.Run.{run}
-use Rattle.word.specs.Choice.{if◌then◌else◌}
 use Rattle.word.specs.Put.{put}
 use Rattle.word.specs.Lists.{filter}
 use Rattle.heap.specs.State.{last_generation}

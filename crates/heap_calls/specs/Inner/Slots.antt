@@ -1,6 +1,5 @@
 -- What the parts of the calls that place and remove objects ask and leave.
-use Rattle.std.specs.Prelude.{◌≡◌, true, List, ℕ, ◌+◌, ◌≤◌, ◌<◌, ◌^◌, length, get_or, ltb}
-use Rattle.word.specs.Choice.{if◌then◌else◌}
+use Rattle.std.specs.Prelude.{◌≡◌, true, List, ℕ, ◌+◌, ◌≤◌, ◌<◌, ◌^◌, length, get_or, ltb, if◌then◌else◌}
 use Rattle.refusal.specs.Told.{told, answered, here, nothing}
 use Rattle.refusal.specs.declared.Reply.{Reply}
 use Rattle.handle.specs.Handle.{packed}

@@ -9,4 +9,4 @@ pub checked-formed-requires : goal.checked-formed-requires
 checked-formed-requires c = (search rules, zeros-cleared _ (length c.args.marks.now) c.clear_u8.ensures)
 
 pub returns : goal.returns
-returns c = (says-formed c.args.heap c.args.narrow.now c.args.wide.now c.args.pool.now _ c.checked-formed.ensures, zeros-as {n = length c.checked-formed.new.1.1.1.1.0} {m = length c.args.marks.now} c.clear_u8-2.ensures (search rules))
+returns c = (says-formed c.args.heap c.args.narrow.now c.args.wide.now c.args.pool.now _ c.checked-formed.ensures, zeros-as {n = length c.checked-formed.new.marks} {m = length c.args.marks.now} c.clear_u8-2.ensures (search rules))

@@ -19,14 +19,14 @@ slice_bounds-runs_ok-end c = sym (length-take-le _ _ (omega arith))
 pub slice_bounds-runs_ok-end-4 : goal.slice_bounds-runs_ok-end-4
 slice_bounds-runs_ok-end-4 c = sym (length-take-le _ _ (omega (arith, holds c.sizes_ok.ensures c.if-sizes_ok.true)))
 
-pub slice_bounds-runs_ok-end-3 : goal.slice_bounds-runs_ok-end-3
-slice_bounds-runs_ok-end-3 c = omega (arith, holds c.sizes_ok.ensures c.if-sizes_ok.true)
+pub slice_bounds-runs_ok-end-5 : goal.slice_bounds-runs_ok-end-5
+slice_bounds-runs_ok-end-5 c = omega (arith, holds c.sizes_ok.ensures c.if-sizes_ok.true)
 
-pub slice_bounds-runs_ok-end-4 : goal.slice_bounds-runs_ok-end-4
-slice_bounds-runs_ok-end-4 c = omega (arith, holds c.sizes_ok.ensures c.if-sizes_ok.true)
+pub slice_bounds-runs_ok-end-6 : goal.slice_bounds-runs_ok-end-6
+slice_bounds-runs_ok-end-6 c = omega (arith, holds c.sizes_ok.ensures c.if-sizes_ok.true)
 
-pub slice_bounds-runs_ok-end-7 : goal.slice_bounds-runs_ok-end-7
-slice_bounds-runs_ok-end-7 c = omega (arith, holds c.sizes_ok.ensures c.if-sizes_ok.true)
+pub slice_bounds-runs_ok-end-9 : goal.slice_bounds-runs_ok-end-9
+slice_bounds-runs_ok-end-9 c = omega (arith, holds c.sizes_ok.ensures c.if-sizes_ok.true)
 
 pub offset_bounds-narrow-five : goal.offset_bounds-narrow-five
 offset_bounds-narrow-five c = omega (arith, holds c.header_ok.ensures c.if-header_ok.true)

@@ -40,9 +40,9 @@ returns-else-lists_ok c = no_more c.lists_ok.ensures c.if-lists_ok.false (λ y. 
 
 pub returns : goal.returns
 returns c = says-yes (record {
-      unused = holds c.unused_ok.ensures c.if-unused_ok.true;
-      slots = holds c.slots_ok.ensures c.if-slots_ok.true;
-      pool = rw (sym c.begins.ensures) (holds_test c.zeros_u8.ensures c.if-zeros_u8.true);
-      seals = sym c.seals_ok.ensures ∙ c.if-seals_ok.true;
-      lists = holds c.lists_ok.ensures c.if-lists_ok.true;
-    })
+  unused = holds c.unused_ok.ensures c.if-unused_ok.true;
+  slots = holds c.slots_ok.ensures c.if-slots_ok.true;
+  pool = rw (sym c.begins.ensures) (holds_test c.zeros_u8.ensures c.if-zeros_u8.true);
+  seals = sym c.seals_ok.ensures ∙ c.if-seals_ok.true;
+  lists = holds c.lists_ok.ensures c.if-lists_ok.true;
+})

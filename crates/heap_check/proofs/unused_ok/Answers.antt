@@ -34,14 +34,14 @@ returns-else-zeros_u32-6 c = no-more-test c.zeros_u32-6.ensures c.if-zeros_u32-6
 
 pub returns : goal.returns
 returns c = says-yes (record {
-      generation = holds_test c.zeros_u32.ensures c.if-zeros_u32.true;
-      kind = holds_test c.zeros_u32-2.ensures c.if-zeros_u32-2.true;
-      type = holds_test c.zeros_u32-3.ensures c.if-zeros_u32-3.true;
-      start = holds_test c.zeros_u64.ensures c.if-zeros_u64.true;
-      end = holds_test c.zeros_u64-2.ensures c.if-zeros_u64-2.true;
-      writes = holds_test c.zeros_u64-3.ensures c.if-zeros_u64-3.true;
-      free = holds_test c.zeros_u32-4.ensures c.if-zeros_u32-4.true;
-      quarantine = holds_test c.zeros_u32-5.ensures c.if-zeros_u32-5.true;
-      sealed = holds_test c.zeros_u64-4.ensures c.if-zeros_u64-4.true;
-      retired = holds_test c.zeros_u32-6.ensures c.if-zeros_u32-6.true;
-    })
+  generation = holds_test c.zeros_u32.ensures c.if-zeros_u32.true;
+  kind = holds_test c.zeros_u32-2.ensures c.if-zeros_u32-2.true;
+  type = holds_test c.zeros_u32-3.ensures c.if-zeros_u32-3.true;
+  start = holds_test c.zeros_u64.ensures c.if-zeros_u64.true;
+  end = holds_test c.zeros_u64-2.ensures c.if-zeros_u64-2.true;
+  writes = holds_test c.zeros_u64-3.ensures c.if-zeros_u64-3.true;
+  free = holds_test c.zeros_u32-4.ensures c.if-zeros_u32-4.true;
+  quarantine = holds_test c.zeros_u32-5.ensures c.if-zeros_u32-5.true;
+  sealed = holds_test c.zeros_u64-4.ensures c.if-zeros_u64-4.true;
+  retired = holds_test c.zeros_u32-6.ensures c.if-zeros_u32-6.true;
+})

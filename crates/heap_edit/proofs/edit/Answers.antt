@@ -3,6 +3,7 @@ use Rattle.std.proofs.Common.{arith}
 use Rattle.heap.specs.Lent.{lent}
 use Rattle.heap_edit.proofs.Columns.{Sizes, sizes}
 use Rattle.heap_edit.proofs.Editing.{found, edit-unfound, edit-inside, edit-not, edit-can, edit-yes}
+use borrow.Enum.Refused.{opened}
 use Rattle.heap_edit.proofs.edit.Goals as goal
 use Rattle.heap_edit.proofs.edit.Goals.{Start}
 
@@ -13,7 +14,7 @@ pub resolve-found-requires : goal.resolve-found-requires
 resolve-found-requires c = omega (arith, K (goal.at.resolve-found-requires c).Start)
 
 pub returns-in_default : goal.returns-in_default
-returns-in_default c = edit-unfound ((lent c.args.heap c.args.narrow.now c.args.wide.now c.args.pool.now)) c.requires c.args.x c.args.bytes.now c.args.start c.resolve-found.result c.in_default.in_default-own.keys2 (found ((lent c.args.heap c.args.narrow.now c.args.wide.now c.args.pool.now)) c.requires _ c.resolve-found.result c.resolve-found.ensures) c.reply.ensures
+returns-in_default c = edit-unfound ((lent c.args.heap c.args.narrow.now c.args.wide.now c.args.pool.now)) c.requires c.args.x c.args.bytes.now c.args.start c.resolve-found.result (opened c.in_default.in_default-own.keys2) (found ((lent c.args.heap c.args.narrow.now c.args.wide.now c.args.pool.now)) c.requires _ c.resolve-found.result c.resolve-found.ensures) c.reply.ensures
 
 pub fits-requires : goal.fits-requires
 fits-requires c = record { pool_value = c.requires; i_lt_slots = edit-inside ((lent c.args.heap c.args.narrow.now c.args.wide.now c.args.pool.now)) c.requires c.args.x c.args.bytes.now c.args.start (found ((lent c.args.heap c.args.narrow.now c.args.wide.now c.args.pool.now)) c.requires _ c.resolve-found.result c.resolve-found.ensures) c.in-At.is }

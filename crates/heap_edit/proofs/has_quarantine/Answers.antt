@@ -4,4 +4,4 @@ use Rattle.heap_edit.proofs.Questions.{says-yes, quarantine-says}
 use Rattle.heap_edit.proofs.has_quarantine.Goals as goal
 
 pub returns : goal.returns
-returns c = says-yes c.yes.result _ has_quarantine c.yes.ensures (λ h e. quarantine-says h _ e)
+returns c = says-yes c.yes.result c.args.heap has_quarantine c.yes.ensures (λ h e. quarantine-says h c.args.heap e)

@@ -1,9 +1,10 @@
-use Rattle.std.proofs.Common.{ℕ, refl, ap, ⊎_elim, arith}
+use Rattle.std.proofs.Common.{ℕ, refl, ap, arith}
 use Rattle.word.specs.Result.{ok}
 use Rattle.refusal.specs.Told.{answered, here, nothing}
 use Rattle.heap_edit.proofs.Columns.{sizes}
 use Rattle.heap_edit.proofs.Listing.{count-first, count-one, count_none, count-end}
 use Rattle.heap_edit.proofs.live.Goals as goal
+use Rattle.heap_edit.proofs.live.Goals.{then-narrow-s-ne0, else-narrow-s-ne0}
 
 pub loop-i-init : goal.loop-i-init
 loop-i-init c = (omega arith, omega arith, λ h e w. count-first _)
@@ -28,13 +29,14 @@ loop-i-smaller c = omega arith
 
 pub loop-i-preserved : goal.loop-i-preserved
 loop-i-preserved c = (
-      omega arith,
-      ⊎_elim (λ y. omega (arith, y, c.loop-i.invariant)) (λ y. omega (arith, y, c.loop-i.invariant)) c.if-narrow-s-ne0.branch,
-      λ h e w.
-          ⊎_elim (λ y. rw y.1 (count-one h c.args.narrow.now c.args.wide.now c.args.pool.now w (c.loop-i.invariant.2 h e w) (omega arith) y.0.taken))
-          (λ y. rw y.1 (count_none h c.args.narrow.now c.args.wide.now c.args.pool.now w (c.loop-i.invariant.2 h e w) (omega arith) y.0.left))
-          c.if-narrow-s-ne0.branch,
-    )
+  omega arith,
+  elim c.if-narrow-s-ne0.branch [ then-narrow-s-ne0 y ↦ omega (arith, y, c.loop-i.invariant) | else-narrow-s-ne0 y ↦ omega (arith, y, c.loop-i.invariant) ],
+  λ h e w.
+      elim c.if-narrow-s-ne0.branch [
+        then-narrow-s-ne0 y ↦ rw y.count-is (count-one h c.args.narrow.now c.args.wide.now c.args.pool.now w (c.loop-i.invariant.2 h e w) (omega arith) y.if-narrow-s-ne0.true)
+      | else-narrow-s-ne0 y ↦ rw y.count-is (count_none h c.args.narrow.now c.args.wide.now c.args.pool.now w (c.loop-i.invariant.2 h e w) (omega arith) y.if-narrow-s-ne0.false)
+      ],
+)
 
 pub returns : goal.returns
 returns c = ap (λ (n : ℕ). answered here nothing (ok n)) (count-end c.args.heap c.args.narrow.now c.args.wide.now c.args.pool.now c.requires (c.loop-i.invariant.2 c.args.heap refl c.requires) (omega arith))

@@ -4,4 +4,4 @@ use Rattle.heap_edit.proofs.Questions.{says-yes, reclaim-says}
 use Rattle.heap_edit.proofs.reclaim_due.Goals as goal
 
 pub returns : goal.returns
-returns c = says-yes c.yes.result _ reclaim_due c.yes.ensures (λ h e. reclaim-says h _ e)
+returns c = says-yes c.yes.result c.args.heap reclaim_due c.yes.ensures (λ h e. reclaim-says h c.args.heap e)

@@ -1,6 +1,5 @@
 -- What of a slot's data is visible.
-use Rattle.std.specs.Prelude.{ℕ, ◌+◌, ◌-◌, not, length, take, nat_lt}
-use Rattle.word.specs.Choice.{if◌then◌else◌}
+use Rattle.std.specs.Prelude.{ℕ, ◌+◌, ◌-◌, not, length, take, nat_lt, if◌then◌else◌}
 use Rattle.heap.specs.State.{Slot, State, slot_at, live, data_size}
 use Rattle.heap_edit.specs.declared.Visible.{Visible}
 use Rattle.heap_edit.specs.declared.Visible.TheVariants.{Dead, Hidden, Shown}

@@ -1,18 +1,22 @@
 use native.Mathlib.Omega.{arith}
 use Rattle.layout.proofs.LayLaws.{array-bad, array-large, array-none, array-some, rest-word, dims-fit, dims-word}
+use borrow.Enum.Refused.{opened}
 use native.Mathlib.Omega.{arith}
 use Rattle.layout.proofs.LayLaws.{below-zero, below_rest, below-nowhere, below-const}
 use Rattle.ty.proofs.Ranges.{part-start, part_end}
+use borrow.Enum.Refused.{opened}
 use native.Mathlib.Omega.{arith}
 use Rattle.layout.proofs.LayLaws.{below-zero, below-scalar}
 use native.Mathlib.Omega.{arith}
 use Rattle.layout.proofs.LayLaws.{in_array, in-record, in-scalar}
 use Rattle.ty.proofs.Ranges.{record-within}
+use borrow.Enum.Refused.{opened}
 use native.Mathlib.Omega.{arith}
 use Prim.Native.Nat.{◌+◌, ◌*◌}
 use Rattle.layout.proofs.LayLaws.{record-last, record-none, record-over, record-more, record-first, rest-used, rest-word}
 use Rattle.layout.specs.Layout.{record_of}
 use Rattle.ty.specs.View.{fields_from}
+use borrow.Enum.Refused.{opened}
 use Rattle.layout.proofs.+layout_array_layout_below_layout_field_layout_in_layout_record.Goals as goal
 
 pub layout_array-returns-in-Bad : goal.layout_array-returns-in-Bad
@@ -34,7 +38,7 @@ pub layout_array-layout_below-el-requires : goal.layout_array-layout_below-el-re
 layout_array-layout_below-el-requires t c = (omega arith, tt)
 
 pub layout_array-returns-in_default : goal.layout_array-returns-in_default
-layout_array-returns-in_default t c = search array-none
+layout_array-returns-in_default t c = let k2 = opened c.in_default.in_default-own.keys2 in search array-none
 
 pub layout_array-overflow_add-at : goal.layout_array-overflow_add-at
 layout_array-overflow_add-at t c = record { fits = search (rest-word, dims-fit, c.well_formed) }
@@ -85,7 +89,7 @@ pub layout_field-returns : goal.layout_field-returns
 layout_field-returns t c = search below-scalar
 
 pub layout_in-layout_array-requires : goal.layout_in-layout_array-requires
-layout_in-layout_array-requires t c = (omega (arith, c.requires.0), tt)
+layout_in-layout_array-requires t c = (omega arith, tt)
 
 pub layout_in-layout_record-requires : goal.layout_in-layout_record-requires
 layout_in-layout_record-requires t c = (omega arith, search record-within)
@@ -97,7 +101,7 @@ pub layout_in-returns-in-Record : goal.layout_in-returns-in-Record
 layout_in-returns-in-Record t c = search in-record
 
 pub layout_in-returns-in_default : goal.layout_in-returns-in_default
-layout_in-returns-in_default t c = search in-scalar
+layout_in-returns-in_default t c = let k3 = opened c.in_default.in_default-own.keys3 in search in-scalar
 
 pub layout_record-loop-i-init : goal.layout_record-loop-i-init
 layout_record-loop-i-init t c = (omega arith, omega arith, record-first _ _ _ _ _ _ _ _)
@@ -139,7 +143,7 @@ pub layout_record-layout_field-fl-requires : goal.layout_record-layout_field-fl-
 layout_record-layout_field-fl-requires t c = (omega arith, tt)
 
 pub layout_record-returns-in_default : goal.layout_record-returns-in_default
-layout_record-returns-in_default t c = search record-none
+layout_record-returns-in_default t c = let k2 = opened c.in_default.in_default-own.keys2 in search record-none
 
 pub layout_record-returns-in_default-w : goal.layout_record-returns-in_default-w
 layout_record-returns-in_default-w t c = search record-over

@@ -2,10 +2,11 @@
 use mathlib.Core.Path.{refl}
 use Rattle.ty.proofs.Ranges.{record-within}
 use Rattle.layout.proofs.OffsetLaws.{call-bad, call-large, call-bare, bare-offsets, call-short, call-full, full-offsets}
+use borrow.Enum.Refused.{opened}
 use Rattle.layout.proofs.layout_any.Goals as goal
 
 pub returns-in_default : goal.returns-in_default
-returns-in_default c = record { answer = search call-bare; written = search bare-offsets }
+returns-in_default c = let k2 = opened c.in_default.in_default-own.keys2 in record { answer = search call-bare; written = search bare-offsets }
 
 pub returns-then-out-n : goal.returns-then-out-n
 returns-then-out-n c = record { answer = search call-short; written = refl }

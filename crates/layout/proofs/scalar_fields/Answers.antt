@@ -1,3 +1,4 @@
+use mathlib.Core.Path.{◌≡◌}
 use Prim.Native.Nat.{ℕ, ◌+◌, ◌*◌}
 use native.Mathlib.Omega.{arith}
 use Rattle.layout.proofs.ScalarLaws.{scalars-none, scalars-more}

@@ -2,6 +2,7 @@ use Prim.Native.Nat.{◌+◌, ◌*◌}
 use native.Mathlib.Omega.{arith}
 use Rattle.layout.proofs.LayLaws.{rest-used}
 use Rattle.layout.proofs.OffsetLaws.{writing_start, writing-same, writing-place, writing-stop, writing-next, off-last, off-none, off-align, off-size, off-more}
+use borrow.Enum.Refused.{opened}
 use Rattle.layout.proofs.write_offsets.Goals as goal
 
 pub loop-i-init : goal.loop-i-init
@@ -47,7 +48,7 @@ pub shape_of-out-in_default : goal.shape_of-out-in_default
 shape_of-out-in_default c = writing-same _ _ _ _ _ _ _ _ _ _ c.loop-i.invariant
 
 pub returns-in_default : goal.returns-in_default
-returns-in_default c = writing-stop _ _ _ _ _ _ _ _ _ _ c.loop-i.invariant (search off-none)
+returns-in_default c = writing-stop _ _ _ _ _ _ _ _ _ _ c.loop-i.invariant (let k2 = opened c.in_default.in_default-own.keys2 in search off-none)
 
 pub shape_of-out-in_default-w : goal.shape_of-out-in_default-w
 shape_of-out-in_default-w c = writing-same _ _ _ _ _ _ _ _ _ _ c.loop-i.invariant

@@ -22,7 +22,7 @@ pub get_slot-requires : goal.get_slot-requires
 get_slot-requires c = tt
 
 pub returns-in_default : goal.returns-in_default
-returns-in_default c = let p = absurd (read_some (slot_format true).read blank (drop c.loop-i.k c.args.s.now) (slots_at c.args.s.now c.args.at c.args.count) c.loop-i.i c.args.count c.loop-i.invariant.3.0 c.loop-i-test.true c.loop-i.invariant.3.2 (line-lost true c.args.s.now c.loop-i.k c.get_slot.ensures c.in_default.is)) in record { ok_value = p.0; s_value = p.1.0; next_in_bounds = p.1.1 }
+returns-in_default c = absurd (read_some (slot_format true).read blank (drop c.loop-i.k c.args.s.now) (slots_at c.args.s.now c.args.at c.args.count) c.loop-i.i c.args.count c.loop-i.invariant.3.0 c.loop-i-test.true c.loop-i.invariant.3.2 (line-lost true c.args.s.now c.loop-i.k c.get_slot.ensures c.in_default.is))
 
 pub bit_of-c-requires : goal.bit_of-c-requires
 bit_of-c-requires c = tt

@@ -1,3 +1,4 @@
+use mathlib.Core.List.{[]}
 use Rattle.heap.specs.Lent.{lent}
 use Rattle.page_door.proofs.Paging.{write-refused, write_done, write-formed}
 use Rattle.page_door.proofs.yexwalu_write_page.Goals as goal

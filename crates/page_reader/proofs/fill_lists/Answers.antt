@@ -10,10 +10,10 @@ pub fill_indices-requires : goal.fill_indices-requires
 fill_indices-requires c = record { values_parsed = c.requires.sectioned.quarantine; at_in_bounds = (c.requires.sectioned.quarantine_inside, quarantine-room c.args.narrow.now _ (omega (arith, c.requires.sectioned.quarantine_count, c.requires.s_in_bounds.0))) }
 
 pub fill_indices-requires-2 : goal.fill_indices-requires-2
-fill_indices-requires-2 c = record { values_parsed = c.requires.sectioned.retired; at_in_bounds = (c.requires.sectioned.retired_inside, retired_room c.args.narrow.now c.fill_indices.new.1.1.1.0 _ c.fill_indices.auto.1.1.1.0 (omega (arith, c.requires.sectioned.retired_count, c.requires.s_in_bounds.1))) }
+fill_indices-requires-2 c = record { values_parsed = c.requires.sectioned.retired; at_in_bounds = (c.requires.sectioned.retired_inside, retired_room c.args.narrow.now c.fill_indices.new.list _ c.fill_indices.auto.list (omega (arith, c.requires.sectioned.retired_count, c.requires.s_in_bounds.1))) }
 
 pub fill_handles-requires : goal.fill_handles-requires
 fill_handles-requires c = record { values_parsed = c.requires.sectioned.sealed; at_in_bounds = (c.requires.sectioned.sealed_inside, part_room (length c.args.narrow.now / 6) _ _ _ _ (omega arith) c.requires.s_in_bounds_2.1 (omega (arith, c.requires.sectioned.sealed_count, c.requires.s_in_bounds_2.0))) }
 
 pub returns : goal.returns
-returns c = lists_filled c.args.narrow.now c.args.wide.now _ _ _ _ _ _ c.requires.s_in_bounds_2.1 (c.fill_indices.ensures ∙ ap (put_text _ 0) c.requires.sectioned.quarantine_are) c.fill_indices.auto.1.1.1.0 (c.fill_indices-2.ensures ∙ ap (put_text _ 0) c.requires.sectioned.retired_are) c.fill_indices-2.auto.1.1.1.0 (c.fill_handles.ensures ∙ ap (put_text _ 0) c.requires.sectioned.sealed_are) c.fill_handles.auto.1.1.1.0
+returns c = lists_filled c.args.narrow.now c.args.wide.now _ _ _ _ _ _ c.requires.s_in_bounds_2.1 (c.fill_indices.ensures ∙ ap (put_text _ 0) c.requires.sectioned.quarantine_are) c.fill_indices.auto.list (c.fill_indices-2.ensures ∙ ap (put_text _ 0) c.requires.sectioned.retired_are) c.fill_indices-2.auto.list (c.fill_handles.ensures ∙ ap (put_text _ 0) c.requires.sectioned.sealed_are) c.fill_handles.auto.list

@@ -1,6 +1,6 @@
 use mathlib.Core.Path.{sym}
 use Prim.Native.Nat.{◌+◌}
-use Rattle.word.specs.Choice.{if◌then◌else◌}
+use Rattle.std.specs.Prelude.{if◌then◌else◌}
 use Rattle.page_reader.proofs.names_met.Goals as goal
 
 pub returns-then-planar : goal.returns-then-planar

@@ -28,7 +28,7 @@ pub loop-i-smaller : goal.loop-i-smaller
 loop-i-smaller c = omega arith
 
 pub loop-i-preserved : goal.loop-i-preserved
-loop-i-preserved c = (omega arith, c.put_number-k.auto.0 ∙ c.loop-i.invariant.1, puts-more value_line c.args.out.now c.loop-i.out c.put_number-k.new.out c.args.at c.loop-i.k c.put_number-k.result c.args.list.now c.loop-i.i 0 (omega arith) c.loop-i.invariant.2 (puts-at c.put_number-k.ensures refl (value-is (get_or c.args.list.now c.loop-i.i 0))) (omega arith))
+loop-i-preserved c = (omega arith, c.put_number-k.auto.out ∙ c.loop-i.invariant.1, puts-more value_line c.args.out.now c.loop-i.out c.put_number-k.new.out c.args.at c.loop-i.k c.put_number-k.result c.args.list.now c.loop-i.i 0 (omega arith) c.loop-i.invariant.2 (puts-at c.put_number-k.ensures refl (value-is (get_or c.args.list.now c.loop-i.i 0))) (omega arith))
 
 pub shape_of-out : goal.shape_of-out
 shape_of-out c = c.loop-i.invariant.1

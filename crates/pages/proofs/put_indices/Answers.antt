@@ -4,7 +4,7 @@ use Rattle.text.proofs.Putting.{puts_none, puts-at}
 use Rattle.text.specs.Text.{decimal}
 use lib.ListN.{length, take, get_or}
 use native.Mathlib.Omega.{arith}
-use mathlib.Core.List.{◌∷◌, ◌++◌, flat_map}
+use mathlib.Core.List.{[], ◌∷◌, ◌++◌, flat_map}
 use mathlib.Core.Path.{◌≡◌, refl, ap, ◌∙◌}
 use Prim.Native.Nat.{ℕ}
 use Rattle.pages.proofs.put_indices.Goals as goal
@@ -32,7 +32,7 @@ pub loop-i-smaller : goal.loop-i-smaller
 loop-i-smaller c = omega arith
 
 pub loop-i-preserved : goal.loop-i-preserved
-loop-i-preserved c = (omega arith, c.put_number-k.auto.0 ∙ c.loop-i.invariant.1, puts-more value_line c.args.out.now c.loop-i.out c.put_number-k.new.out c.args.at c.loop-i.k c.put_number-k.result c.args.list.now c.loop-i.i 0 (omega arith) c.loop-i.invariant.2 (puts-at c.put_number-k.ensures refl (ap (λ (m : ℕ). decimal m ++ (10 ∷ [])) c.widened.ensures ∙ value-is (get_or c.args.list.now c.loop-i.i 0))) (omega arith))
+loop-i-preserved c = (omega arith, c.put_number-k.auto.out ∙ c.loop-i.invariant.1, puts-more value_line c.args.out.now c.loop-i.out c.put_number-k.new.out c.args.at c.loop-i.k c.put_number-k.result c.args.list.now c.loop-i.i 0 (omega arith) c.loop-i.invariant.2 (puts-at c.put_number-k.ensures refl (ap (λ (m : ℕ). decimal m ++ (10 ∷ [])) c.widened.ensures ∙ value-is (get_or c.args.list.now c.loop-i.i 0))) (omega arith))
 
 pub shape_of-out : goal.shape_of-out
 shape_of-out c = c.loop-i.invariant.1

@@ -76,7 +76,7 @@ pub loop-i-smaller : goal.loop-i-smaller
 loop-i-smaller c = omega (arith, c.loop-i-test.true)
 
 pub loop-i-preserved : goal.loop-i-preserved
-loop-i-preserved c = putting-next c.args.heap c.args.narrow.now c.args.wide.now c.args.pool.now c.requires.ready c.loop-i.i c.loop-i.from c.loop-i-test.true c.loop-i.invariant.starts c.loop-i.invariant c.put_slot-k.ensures c.put_slot-k.auto.0 (omega (arith, c.requires.slots_in_bounds))
+loop-i-preserved c = putting-next c.args.heap c.args.narrow.now c.args.wide.now c.args.pool.now c.requires.ready c.loop-i.i c.loop-i.from c.loop-i-test.true c.loop-i.invariant.starts c.loop-i.invariant c.put_slot-k.ensures c.put_slot-k.auto.out (omega (arith, c.requires.slots_in_bounds))
 
 pub shape_of-out : goal.shape_of-out
 shape_of-out c = c.loop-i.invariant.same

@@ -22,29 +22,29 @@ put_literal-a-requires c = omega (arith, page-size c.args.heap c.args.narrow.now
 
 pub put_head-b-requires : goal.put_head-b-requires
 unfolding heap_names heap_front retired_too free_name quarantine_name sealed_name retired_name ascii
-put_head-b-requires c = omega (arith, page-size c.args.heap c.args.narrow.now c.args.wide.now c.args.pool.now (ready c.requires) c.args.planar, c.page_len-n.ensures, c.if-out-n.false, c.put_literal-a.ensures.next, c.put_literal-a.auto.0)
+put_head-b-requires c = omega (arith, page-size c.args.heap c.args.narrow.now c.args.wide.now c.args.pool.now (ready c.requires) c.args.planar, c.page_len-n.ensures, c.if-out-n.false, c.put_literal-a.ensures.next, c.put_literal-a.auto.out)
 
 pub put_slot_names-c-requires : goal.put_slot_names-c-requires
 unfolding heap_names heap_front retired_too free_name quarantine_name sealed_name retired_name ascii
-put_slot_names-c-requires c = omega (arith, page-size c.args.heap c.args.narrow.now c.args.wide.now c.args.pool.now (ready c.requires) c.args.planar, c.page_len-n.ensures, c.if-out-n.false, c.put_literal-a.ensures.next, c.put_literal-a.auto.0, c.put_head-b.ensures.next, c.put_head-b.auto.0)
+put_slot_names-c-requires c = omega (arith, page-size c.args.heap c.args.narrow.now c.args.wide.now c.args.pool.now (ready c.requires) c.args.planar, c.page_len-n.ensures, c.if-out-n.false, c.put_literal-a.ensures.next, c.put_literal-a.auto.out, c.put_head-b.ensures.next, c.put_head-b.auto.out)
 
 pub put_slots-d-requires : goal.put_slots-d-requires
 unfolding heap_names heap_front retired_too free_name quarantine_name sealed_name retired_name ascii
-put_slots-d-requires c = record { ready = ready c.requires; narrow_in_bounds = wide_room c.args.heap c.args.narrow.now c.args.wide.now c.args.pool.now (formed-tested _ c.requires); slots_in_bounds = omega (arith, page-size c.args.heap c.args.narrow.now c.args.wide.now c.args.pool.now (ready c.requires) c.args.planar, c.page_len-n.ensures, c.if-out-n.false, c.put_literal-a.ensures.next, c.put_literal-a.auto.0, c.put_head-b.ensures.next, c.put_head-b.auto.0, c.put_slot_names-c.ensures.next, c.put_slot_names-c.auto.0) }
+put_slots-d-requires c = record { ready = ready c.requires; narrow_in_bounds = wide_room c.args.heap c.args.narrow.now c.args.wide.now c.args.pool.now (formed-tested _ c.requires); slots_in_bounds = omega (arith, page-size c.args.heap c.args.narrow.now c.args.wide.now c.args.pool.now (ready c.requires) c.args.planar, c.page_len-n.ensures, c.if-out-n.false, c.put_literal-a.ensures.next, c.put_literal-a.auto.out, c.put_head-b.ensures.next, c.put_head-b.auto.out, c.put_slot_names-c.ensures.next, c.put_slot_names-c.auto.out) }
 
 pub offset_bounds-narrow-three : goal.offset_bounds-narrow-three
 offset_bounds-narrow-three c = omega (arith, (formed-tested _ c.requires).sound.slot-range.1)
 
 pub put_indices_after-e-requires : goal.put_indices_after-e-requires
 unfolding heap_names heap_front retired_too free_name quarantine_name sealed_name retired_name ascii
-put_indices_after-e-requires c = record { count_in_bounds = free_in c.args.heap c.args.narrow.now c.args.wide.now c.args.pool.now (ready c.requires); list_in_bounds = omega (arith, page-size c.args.heap c.args.narrow.now c.args.wide.now c.args.pool.now (ready c.requires) c.args.planar, c.page_len-n.ensures, c.if-out-n.false, c.put_literal-a.ensures.next, c.put_literal-a.auto.0, c.put_head-b.ensures.next, c.put_head-b.auto.0, c.put_slot_names-c.ensures.next, c.put_slot_names-c.auto.0, c.put_slots-d.ensures.next, c.put_slots-d.auto.1.1.1.1.1.0) }
+put_indices_after-e-requires c = record { count_in_bounds = free_in c.args.heap c.args.narrow.now c.args.wide.now c.args.pool.now (ready c.requires); list_in_bounds = omega (arith, page-size c.args.heap c.args.narrow.now c.args.wide.now c.args.pool.now (ready c.requires) c.args.planar, c.page_len-n.ensures, c.if-out-n.false, c.put_literal-a.ensures.next, c.put_literal-a.auto.out, c.put_head-b.ensures.next, c.put_head-b.auto.out, c.put_slot_names-c.ensures.next, c.put_slot_names-c.auto.out, c.put_slots-d.ensures.next, c.put_slots-d.auto.out) }
 
 pub offset_bounds-narrow-four : goal.offset_bounds-narrow-four
 offset_bounds-narrow-four c = omega (arith, (formed-tested _ c.requires).sound.slot-range.1)
 
 pub put_indices_after-f-requires : goal.put_indices_after-f-requires
 unfolding heap_names heap_front retired_too free_name quarantine_name sealed_name retired_name ascii
-put_indices_after-f-requires c = record { count_in_bounds = quarantine-in c.args.heap c.args.narrow.now c.args.wide.now c.args.pool.now (ready c.requires); list_in_bounds = omega (arith, page-size c.args.heap c.args.narrow.now c.args.wide.now c.args.pool.now (ready c.requires) c.args.planar, c.page_len-n.ensures, c.if-out-n.false, c.put_literal-a.ensures.next, c.put_literal-a.auto.0, c.put_head-b.ensures.next, c.put_head-b.auto.0, c.put_slot_names-c.ensures.next, c.put_slot_names-c.auto.0, c.put_slots-d.ensures.next, c.put_slots-d.auto.1.1.1.1.1.0, c.put_indices_after-e.ensures.next, c.put_indices_after-e.auto.0) }
+put_indices_after-f-requires c = record { count_in_bounds = quarantine-in c.args.heap c.args.narrow.now c.args.wide.now c.args.pool.now (ready c.requires); list_in_bounds = omega (arith, page-size c.args.heap c.args.narrow.now c.args.wide.now c.args.pool.now (ready c.requires) c.args.planar, c.page_len-n.ensures, c.if-out-n.false, c.put_literal-a.ensures.next, c.put_literal-a.auto.out, c.put_head-b.ensures.next, c.put_head-b.auto.out, c.put_slot_names-c.ensures.next, c.put_slot_names-c.auto.out, c.put_slots-d.ensures.next, c.put_slots-d.auto.out, c.put_indices_after-e.ensures.next, c.put_indices_after-e.auto.out) }
 
 pub offset_bounds-wide-three : goal.offset_bounds-wide-three
 offset_bounds-wide-three c = omega (arith, (formed-tested _ c.requires).sound.slot-range.1)
@@ -54,17 +54,17 @@ slice_bounds-put_handles_after-end-2 c = omega (arith, wide_room c.args.heap c.a
 
 pub put_handles_after-g-requires : goal.put_handles_after-g-requires
 unfolding heap_names heap_front retired_too free_name quarantine_name sealed_name retired_name ascii
-put_handles_after-g-requires c = record { count_in_bounds = sealed-in c.args.heap c.args.narrow.now c.args.wide.now c.args.pool.now (ready c.requires); list_in_bounds = omega (arith, page-size c.args.heap c.args.narrow.now c.args.wide.now c.args.pool.now (ready c.requires) c.args.planar, c.page_len-n.ensures, c.if-out-n.false, c.put_literal-a.ensures.next, c.put_literal-a.auto.0, c.put_head-b.ensures.next, c.put_head-b.auto.0, c.put_slot_names-c.ensures.next, c.put_slot_names-c.auto.0, c.put_slots-d.ensures.next, c.put_slots-d.auto.1.1.1.1.1.0, c.put_indices_after-e.ensures.next, c.put_indices_after-e.auto.0, c.put_indices_after-f.ensures.next, c.put_indices_after-f.auto.0) }
+put_handles_after-g-requires c = record { count_in_bounds = sealed-in c.args.heap c.args.narrow.now c.args.wide.now c.args.pool.now (ready c.requires); list_in_bounds = omega (arith, page-size c.args.heap c.args.narrow.now c.args.wide.now c.args.pool.now (ready c.requires) c.args.planar, c.page_len-n.ensures, c.if-out-n.false, c.put_literal-a.ensures.next, c.put_literal-a.auto.out, c.put_head-b.ensures.next, c.put_head-b.auto.out, c.put_slot_names-c.ensures.next, c.put_slot_names-c.auto.out, c.put_slots-d.ensures.next, c.put_slots-d.auto.out, c.put_indices_after-e.ensures.next, c.put_indices_after-e.auto.out, c.put_indices_after-f.ensures.next, c.put_indices_after-f.auto.out) }
 
 pub offset_bounds-narrow-five : goal.offset_bounds-narrow-five
 offset_bounds-narrow-five c = omega (arith, (formed-tested _ c.requires).sound.slot-range.1)
 
 pub put_indices_after-k-requires : goal.put_indices_after-k-requires
 unfolding heap_names heap_front retired_too free_name quarantine_name sealed_name retired_name ascii
-put_indices_after-k-requires c = record { count_in_bounds = retired-in c.args.heap c.args.narrow.now c.args.wide.now c.args.pool.now (ready c.requires); list_in_bounds = omega (arith, page-size c.args.heap c.args.narrow.now c.args.wide.now c.args.pool.now (ready c.requires) c.args.planar, c.page_len-n.ensures, c.if-out-n.false, c.put_literal-a.ensures.next, c.put_literal-a.auto.0, c.put_head-b.ensures.next, c.put_head-b.auto.0, c.put_slot_names-c.ensures.next, c.put_slot_names-c.auto.0, c.put_slots-d.ensures.next, c.put_slots-d.auto.1.1.1.1.1.0, c.put_indices_after-e.ensures.next, c.put_indices_after-e.auto.0, c.put_indices_after-f.ensures.next, c.put_indices_after-f.auto.0, c.put_handles_after-g.ensures.next, c.put_handles_after-g.auto.0) }
+put_indices_after-k-requires c = record { count_in_bounds = retired-in c.args.heap c.args.narrow.now c.args.wide.now c.args.pool.now (ready c.requires); list_in_bounds = omega (arith, page-size c.args.heap c.args.narrow.now c.args.wide.now c.args.pool.now (ready c.requires) c.args.planar, c.page_len-n.ensures, c.if-out-n.false, c.put_literal-a.ensures.next, c.put_literal-a.auto.out, c.put_head-b.ensures.next, c.put_head-b.auto.out, c.put_slot_names-c.ensures.next, c.put_slot_names-c.auto.out, c.put_slots-d.ensures.next, c.put_slots-d.auto.out, c.put_indices_after-e.ensures.next, c.put_indices_after-e.auto.out, c.put_indices_after-f.ensures.next, c.put_indices_after-f.auto.out, c.put_handles_after-g.ensures.next, c.put_handles_after-g.auto.out) }
 
 pub shape_of-out : goal.shape_of-out
-shape_of-out c = c.put_indices_after-k.auto.0 ∙ c.put_handles_after-g.auto.0 ∙ c.put_indices_after-f.auto.0 ∙ c.put_indices_after-e.auto.0 ∙ c.put_slots-d.auto.1.1.1.1.1.0 ∙ c.put_slot_names-c.auto.0 ∙ c.put_head-b.auto.0 ∙ c.put_literal-a.auto.0
+shape_of-out c = c.put_indices_after-k.auto.out ∙ c.put_handles_after-g.auto.out ∙ c.put_indices_after-f.auto.out ∙ c.put_indices_after-e.auto.out ∙ c.put_slots-d.auto.out ∙ c.put_slot_names-c.auto.out ∙ c.put_head-b.auto.out ∙ c.put_literal-a.auto.out
 
 pub returns : goal.returns
 unfolding heap_names heap_front retired_too free_name quarantine_name sealed_name retired_name ascii

@@ -6,4 +6,4 @@ pub returns-then-n-s : goal.returns-then-n-s
 returns-then-n-s c = roomy-there c.requires c.if-n-s.true
 
 pub returns : goal.returns
-returns c = roomy-squeezed c.requires c.squeeze.ensures c.squeeze.auto.0
+returns c = roomy-squeezed c.requires c.squeeze.ensures c.squeeze.auto.words

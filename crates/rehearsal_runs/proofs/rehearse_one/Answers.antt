@@ -11,10 +11,10 @@ pub new-heap-requires : goal.new-heap-requires
 new-heap-requires c = record { narrow_len = c.requires.lent_room.six; wide_len = c.requires.lent_room.four }
 
 pub run_lines-requires : goal.run_lines-requires
-run_lines-requires c = record { in_order = start-order _ _ c.new-heap.ensures (start-formed c.requires.lent_room c.new-heap.ensures) (omega (arith, c.requires.lent_room.names, (ap (λ (j : ℕ). j / 6) c.new-heap.auto.1.0))); cleared = clear-same c.new-heap.auto.1.0 c.requires.cleared; begun = start-begun _ _ c.new-heap.ensures _ _ _; s_value = c.requires.s_value }
+run_lines-requires c = record { in_order = start-order _ _ c.new-heap.ensures (start-formed c.requires.lent_room c.new-heap.ensures) (omega (arith, c.requires.lent_room.names, (ap (λ (j : ℕ). j / 6) c.new-heap.auto.narrow))); cleared = clear-same c.new-heap.auto.narrow c.requires.cleared; begun = start-begun _ _ c.new-heap.ensures _ _ _; s_value = c.requires.s_value }
 
 pub shape_of-narrow : goal.shape_of-narrow
-shape_of-narrow c = c.run_lines.auto.1.1.1.1.1.0 ∙ c.new-heap.auto.1.0
+shape_of-narrow c = c.run_lines.auto.narrow ∙ c.new-heap.auto.narrow
 
 pub returns : goal.returns
-returns c = record { goes = goes-sizes (table_of c.args.types.now c.args.fields.now c.args.consts.now c.args.bytes.now) _ _ (ap (λ (j : ℕ). j / 6) c.new-heap.auto.1.0) c.new-heap.auto.1.1.1.0 c.run_lines.ensures.goes; marks_unchanged = c.run_lines.ensures.marks_unchanged }
+returns c = record { goes = goes-sizes (table_of c.args.types.now c.args.fields.now c.args.consts.now c.args.bytes.now) _ _ (ap (λ (j : ℕ). j / 6) c.new-heap.auto.narrow) c.new-heap.auto.pool c.run_lines.ensures.goes; marks_unchanged = c.run_lines.ensures.marks_unchanged }

@@ -18,19 +18,19 @@ pub loop-at-smaller : goal.loop-at-smaller
 loop-at-smaller c = omega (arith, next-later c.loop-at.invariant.0 c.loop-at-test.true c.read_line-line.result c.read_line-line.ensures, next-within c.loop-at.invariant.0 c.loop-at-test.true c.read_line-line.result c.read_line-line.ensures, c.next_after-at.ensures)
 
 pub loop-at-preserved : goal.loop-at-preserved
-loop-at-preserved c = (running-next c.loop-at.invariant.0 c.loop-at-test.true c.read_line-line.result c.read_line-line.ensures c.do_line-r.ensures.goes (ap (λ (j : ℕ). j / 6) c.do_line-r.auto.1.1.1.1.1.0) c.do_line-r.auto.1.1.1.1.1.1.1.0 c.next_after-at.ensures c.if-r-eq0.true, on (record { narrow = c.do_line-r.auto.1.1.1.1.1.0; wide = c.do_line-r.auto.1.1.1.1.1.1.0; pool = c.do_line-r.auto.1.1.1.1.1.1.1.0; words = c.do_line-r.auto.1.1.1.1.1.1.1.1.1.1.1.0; marks = c.do_line-r.ensures.marks_unchanged.0; work = c.do_line-r.ensures.marks_unchanged.1 }) c.loop-at.invariant.1)
+loop-at-preserved c = (running-next c.loop-at.invariant.0 c.loop-at-test.true c.read_line-line.result c.read_line-line.ensures c.do_line-r.ensures.goes (ap (λ (j : ℕ). j / 6) c.do_line-r.auto.narrow) c.do_line-r.auto.pool c.next_after-at.ensures c.if-r-eq0.true, on (record { narrow = c.do_line-r.auto.narrow; wide = c.do_line-r.auto.wide; pool = c.do_line-r.auto.pool; words = c.do_line-r.auto.words; marks = c.do_line-r.ensures.marks_unchanged.0; work = c.do_line-r.ensures.marks_unchanged.1 }) c.loop-at.invariant.1)
 
 pub shape_of-narrow-else-r-eq0 : goal.shape_of-narrow-else-r-eq0
-shape_of-narrow-else-r-eq0 c = c.do_line-r.auto.1.1.1.1.1.0 ∙ c.loop-at.invariant.1.narrow
+shape_of-narrow-else-r-eq0 c = c.do_line-r.auto.narrow ∙ c.loop-at.invariant.1.narrow
 
 pub shape_of-wide-else-r-eq0 : goal.shape_of-wide-else-r-eq0
-shape_of-wide-else-r-eq0 c = c.do_line-r.auto.1.1.1.1.1.1.0 ∙ c.loop-at.invariant.1.wide
+shape_of-wide-else-r-eq0 c = c.do_line-r.auto.wide ∙ c.loop-at.invariant.1.wide
 
 pub shape_of-pool-else-r-eq0 : goal.shape_of-pool-else-r-eq0
-shape_of-pool-else-r-eq0 c = c.do_line-r.auto.1.1.1.1.1.1.1.0 ∙ c.loop-at.invariant.1.pool
+shape_of-pool-else-r-eq0 c = c.do_line-r.auto.pool ∙ c.loop-at.invariant.1.pool
 
 pub shape_of-words-else-r-eq0 : goal.shape_of-words-else-r-eq0
-shape_of-words-else-r-eq0 c = c.do_line-r.auto.1.1.1.1.1.1.1.1.1.1.1.0 ∙ c.loop-at.invariant.1.words
+shape_of-words-else-r-eq0 c = c.do_line-r.auto.words ∙ c.loop-at.invariant.1.words
 
 pub shape_of-marks-else-r-eq0 : goal.shape_of-marks-else-r-eq0
 shape_of-marks-else-r-eq0 c = ap length (c.do_line-r.ensures.marks_unchanged.0 ∙ c.loop-at.invariant.1.marks)
@@ -39,7 +39,7 @@ pub shape_of-work-else-r-eq0 : goal.shape_of-work-else-r-eq0
 shape_of-work-else-r-eq0 c = ap length (c.do_line-r.ensures.marks_unchanged.1 ∙ c.loop-at.invariant.1.work)
 
 pub returns-else-r-eq0 : goal.returns-else-r-eq0
-returns-else-r-eq0 c = record { goes = running-stop c.loop-at.invariant.0 c.loop-at-test.true c.read_line-line.result c.read_line-line.ensures c.do_line-r.ensures.goes (ap (λ (j : ℕ). j / 6) c.do_line-r.auto.1.1.1.1.1.0) c.do_line-r.auto.1.1.1.1.1.1.1.0 c.if-r-eq0.false; marks_unchanged = (c.do_line-r.ensures.marks_unchanged.0 ∙ c.loop-at.invariant.1.marks, c.do_line-r.ensures.marks_unchanged.1 ∙ c.loop-at.invariant.1.work) }
+returns-else-r-eq0 c = record { goes = running-stop c.loop-at.invariant.0 c.loop-at-test.true c.read_line-line.result c.read_line-line.ensures c.do_line-r.ensures.goes (ap (λ (j : ℕ). j / 6) c.do_line-r.auto.narrow) c.do_line-r.auto.pool c.if-r-eq0.false; marks_unchanged = (c.do_line-r.ensures.marks_unchanged.0 ∙ c.loop-at.invariant.1.marks, c.do_line-r.ensures.marks_unchanged.1 ∙ c.loop-at.invariant.1.work) }
 
 pub shape_of-narrow : goal.shape_of-narrow
 shape_of-narrow c = c.loop-at.invariant.1.narrow

@@ -9,10 +9,10 @@ pub or_ended-requires : goal.or_ended-requires
 or_ended-requires c = tt
 
 pub shape_of-wide : goal.shape_of-wide
-shape_of-wide c = c.try_store-went.auto.1.1.0
+shape_of-wide c = c.try_store-went.auto.wide
 
 pub shape_of-pool : goal.shape_of-pool
-shape_of-pool c = c.try_store-went.auto.1.1.1.0
+shape_of-pool c = c.try_store-went.auto.pool
 
 pub returns : goal.returns
-returns c = goes_same c.args.narrow.now c.try_store-went.new.pool.1.0 c.try_store-went.new.pool.1.1.0 c.args.g c.try_store-went.result c.or_ended.ensures c.try_store-went.ensures
+returns c = goes_same c.args.narrow.now c.try_store-went.new.wide c.try_store-went.new.pool c.args.g c.try_store-went.result c.or_ended.ensures c.try_store-went.ensures

@@ -19,10 +19,10 @@ pub store_into-requires : goal.store_into-requires
 store_into-requires c = record { pool_value = c.requires.in_order.formed; whole = c.requires.whole }
 
 pub shape_of-wide : goal.shape_of-wide
-shape_of-wide c = c.store_into.auto.1.1.0
+shape_of-wide c = c.store_into.auto.wide
 
 pub shape_of-pool : goal.shape_of-pool
-shape_of-pool c = c.store_into.auto.1.1.1.0
+shape_of-pool c = c.store_into.auto.pool
 
 pub returns : goal.returns
 returns c = store-either c.requires.in_order _ _ _ c.held_at-x.ensures c.if-x-eq0.false c.held_at-y.ensures c.if-y-eq0.false c.store_into.result c.store_into.ensures refl

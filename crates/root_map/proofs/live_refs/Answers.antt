@@ -1,6 +1,5 @@
 -- `root_map::live_refs` meets its contract.
 use native.Mathlib.Omega.{arith}
-use borrow.Author.Tests.{not-true, not-false}
 use mathlib.Core.Path.{refl, sym, ◌∙◌, ap}
 use Prim.Native.Nat.{ℕ, ◌+◌, ◌/◌}
 use lib.ListN.{length, replicate}
@@ -24,48 +23,48 @@ overflow_add-nb c = omega arith
 
 pub returns-then-not-enough : goal.returns-then-not-enough
 returns-then-not-enough c = let l : Lent = record { kinds = c.args.kinds.now; ends = c.args.ends.now; refs = c.args.refs.now; blocks = c.args.blocks.now; classes = c.args.classes.now } in
-    refs-scratch l (wanted c.args.which) _ _ _ _ (above _ _ (refuted _ c.enough.ensures (not-true _ c.if-not-enough.true)))
+    refs-scratch l (wanted c.args.which) _ _ _ _ (above _ _ (refuted _ c.enough.ensures c.if-not-enough.true))
 
 pub returns-then-not-check_function : goal.returns-then-not-check_function
 returns-then-not-check_function c = let l : Lent = record { kinds = c.args.kinds.now; ends = c.args.ends.now; refs = c.args.refs.now; blocks = c.args.blocks.now; classes = c.args.classes.now } in
-    let room = c.enough.ensures.0 (not-false _ c.if-not-enough.false) in
-    refs-function l (wanted c.args.which) _ _ _ _ room _ c.clear_u64.ensures (sym c.check_function.ensures ∙ not-true _ c.if-not-check_function.true)
+    let room = c.enough.ensures.0 c.if-not-enough.false in
+    refs-function l (wanted c.args.which) _ _ _ _ room _ c.clear_u64.ensures (sym c.check_function.ensures ∙ c.if-not-check_function.true)
 
 pub chain-requires : goal.chain-requires
-chain-requires c = let good = sym c.check_function.ensures ∙ not-false _ c.if-not-check_function.false in
+chain-requires c = let good = sym c.check_function.ensures ∙ c.if-not-check_function.false in
     let few = (formed-fit c.args.kinds.now c.args.ends.now c.args.refs.now c.args.blocks.now c.args.classes.now good).block-count in
     (refl, few, omega arith, chains-none _ _ _ 4096 _ _ refl refl refl few)
 
 pub analyse-requires : goal.analyse-requires
-analyse-requires c = let good = sym c.check_function.ensures ∙ not-false _ c.if-not-check_function.false in
-    let room = c.enough.ensures.0 (not-false _ c.if-not-enough.false) in record { classes_value = good; nb_value = (refl, omega (arith, room, need-is (length c.args.blocks.now / 2) ((length c.args.classes.now + 63) / 64)), omega arith) }
+analyse-requires c = let good = sym c.check_function.ensures ∙ c.if-not-check_function.false in
+    let room = c.enough.ensures.0 c.if-not-enough.false in record { classes_value = good; nb_value = (refl, omega (arith, room, need-is (length c.args.blocks.now / 2) ((length c.args.classes.now + 63) / 64)), omega arith) }
 
 pub count_map-c-requires : goal.count_map-c-requires
-count_map-c-requires c = let room = c.enough.ensures.0 (not-false _ c.if-not-enough.false) in
-    let good = sym c.check_function.ensures ∙ not-false _ c.if-not-check_function.false in
+count_map-c-requires c = let room = c.enough.ensures.0 c.if-not-enough.false in
+    let good = sym c.check_function.ensures ∙ c.if-not-check_function.false in
     let fit = formed-fit c.args.kinds.now c.args.ends.now c.args.refs.now c.args.blocks.now c.args.classes.now good in record { classes_value = good; nb_value = (refl, omega (arith, room, need-is (length c.args.blocks.now / 2) ((length c.args.classes.now + 63) / 64), c.analyse.ensures.0), omega arith, omega (arith, fit.class-count), fit.code-count, c.chain.ensures); fixed = c.analyse.ensures.1 }
 
 pub returns-then-short : goal.returns-then-short
 returns-then-short c = let l : Lent = record { kinds = c.args.kinds.now; ends = c.args.ends.now; refs = c.args.refs.now; blocks = c.args.blocks.now; classes = c.args.classes.now } in
-    let good = sym c.check_function.ensures ∙ not-false _ c.if-not-check_function.false in
-    let room = c.enough.ensures.0 (not-false _ c.if-not-enough.false) in
+    let good = sym c.check_function.ensures ∙ c.if-not-check_function.false in
+    let room = c.enough.ensures.0 c.if-not-enough.false in
     let kept = c.count_map-c.ensures.frame.kept ∙ c.analyse.ensures.0 in
     refs-short l (wanted c.args.which) _ _ _ _ good c.count_map-c.ensures c.short.ensures room _
     (c.clear_u64-then-short.ensures ∙ ap (λ (u : ℕ). replicate u 0) kept) c.if-short.true
 
 pub write_map-requires : goal.write_map-requires
 write_map-requires c = let l : Lent = record { kinds = c.args.kinds.now; ends = c.args.ends.now; refs = c.args.refs.now; blocks = c.args.blocks.now; classes = c.args.classes.now } in
-    let room = c.enough.ensures.0 (not-false _ c.if-not-enough.false) in
-    let good = sym c.check_function.ensures ∙ not-false _ c.if-not-check_function.false in
+    let room = c.enough.ensures.0 c.if-not-enough.false in
+    let good = sym c.check_function.ensures ∙ c.if-not-check_function.false in
     let fit = formed-fit c.args.kinds.now c.args.ends.now c.args.refs.now c.args.blocks.now c.args.classes.now good in record { classes_value = good; nb_value = (refl, omega (arith, room, need-is (length c.args.blocks.now / 2) ((length c.args.classes.now + 63) / 64), c.analyse.ensures.0, c.count_map-c.ensures.frame.kept), omega arith, omega (arith, fit.class-count), fit.code-count, c.chain.ensures); fixed = fixed_out c.analyse.ensures.1 c.count_map-c.ensures.frame; fits = room_for l (wanted c.args.which) _ _ _ c.args.s.now good c.count_map-c.ensures c.short.ensures c.if-short.false }
 
 pub shape_of-s : goal.shape_of-s
-shape_of-s c = c.clear_u64-2.auto.0 ∙ c.write_map.ensures.frame.kept ∙ c.count_map-c.ensures.frame.kept ∙ c.analyse.ensures.0
+shape_of-s c = c.clear_u64-2.auto.dst ∙ c.write_map.ensures.frame.kept ∙ c.count_map-c.ensures.frame.kept ∙ c.analyse.ensures.0
 
 pub returns : goal.returns
 returns c = let l : Lent = record { kinds = c.args.kinds.now; ends = c.args.ends.now; refs = c.args.refs.now; blocks = c.args.blocks.now; classes = c.args.classes.now } in
-    let good = sym c.check_function.ensures ∙ not-false _ c.if-not-check_function.false in
-    let room = c.enough.ensures.0 (not-false _ c.if-not-enough.false) in
+    let good = sym c.check_function.ensures ∙ c.if-not-check_function.false in
+    let room = c.enough.ensures.0 c.if-not-enough.false in
     let kept = c.write_map.ensures.frame.kept ∙ c.count_map-c.ensures.frame.kept ∙ c.analyse.ensures.0 in
     refs-map l (wanted c.args.which) _ _ _ _ good c.count_map-c.ensures c.short.ensures room _
     (c.clear_u64-2.ensures ∙ ap (λ (u : ℕ). replicate u 0) kept) c.if-short.false c.write_map.ensures

@@ -1,5 +1,5 @@
 use mathlib.Core.Path.{◌≡◌, refl, sym, ap, ap₂, ◌∙◌}
-use Prim.Native.Nat.{ℕ, ◌≤◌, ◌*◌}
+use Prim.Native.Nat.{ℕ, ◌≤◌, ◌+◌, ◌*◌}
 use native.Mathlib.Omega.{arith}
 use lib.Count.{ones, ones-le}
 use lib.ListN.{length, get_or, length-append}
@@ -28,12 +28,12 @@ overflow_add-n c = omega (arith, few c)
 
 pub loop-i-preserved : goal.loop-i-preserved
 loop-i-preserved c = (
-      search rules,
-      omega (arith, few c),
-      ap₂ ◌+◌ c.loop-i.invariant.2 (sym (length-ones 64 (get_or c.args.row.now c.loop-i.i 0) (c.loop-i.i * 64) (c.type_inv.row c.loop-i.i).fits))
-          ∙ sym (length-append (passing (bit_in 64 c.args.row.now) 0 (c.loop-i.i * 64)) (ones_from 64 (get_or c.args.row.now c.loop-i.i 0) (c.loop-i.i * 64)))
-          ∙ ap length (sym (passing-word 64 c.args.row.now c.loop-i.i)),
-    )
+  search rules,
+  omega (arith, few c),
+  ap₂ ◌+◌ c.loop-i.invariant.2 (sym (length-ones 64 (get_or c.args.row.now c.loop-i.i 0) (c.loop-i.i * 64) (c.type_inv.row c.loop-i.i).fits))
+      ∙ sym (length-append (passing (bit_in 64 c.args.row.now) 0 (c.loop-i.i * 64)) (ones_from 64 (get_or c.args.row.now c.loop-i.i 0) (c.loop-i.i * 64)))
+      ∙ ap length (sym (passing-word 64 c.args.row.now c.loop-i.i)),
+)
 
 pub returns : goal.returns
 unfolding listed

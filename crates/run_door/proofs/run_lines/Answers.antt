@@ -3,6 +3,7 @@ use Prim.Native.Nat.{ℕ, ◌/◌}
 use native.Mathlib.Omega.{arith}
 use Rattle.run_door.proofs.Moving.{line-data, stepped}
 use Rattle.run_door.proofs.Looping.{same, on, run-first, run-can, run-turn, run-stop, run_end}
+use borrow.Enum.Refused.{opened}
 use Rattle.run_door.proofs.run_lines.Goals as goal
 
 pub loop-at-init : goal.loop-at-init
@@ -18,22 +19,22 @@ pub loop-at-smaller : goal.loop-at-smaller
 loop-at-smaller c = let w = stepped _ _ _ c.loop-at-test.true _ _ c.read_line-line.result c.read_line-line.ensures c.do_line-done.ensures c.next_after-at.ensures in omega (arith, w.on, w.inside)
 
 pub loop-at-preserved : goal.loop-at-preserved
-loop-at-preserved c = (run-turn _ _ _ _ _ c.loop-at.invariant.0 _ _ _ (stepped _ _ _ c.loop-at-test.true _ _ c.read_line-line.result c.read_line-line.ensures c.do_line-done.ensures c.next_after-at.ensures) (ap (λ (n : ℕ). n / 6) c.do_line-done.auto.1.0) c.do_line-done.auto.1.1.1.0 _ c.in-Is.in-Is-own.keys1 c.do_line-done.auto.1.1.1.1.1.1.0, on (record { narrow = c.do_line-done.auto.1.0; wide = c.do_line-done.auto.1.1.0; pool = c.do_line-done.auto.1.1.1.0; room = c.do_line-done.auto.1.1.1.1.1.1.0 }) c.loop-at.invariant.1)
+loop-at-preserved c = (run-turn _ _ _ _ _ c.loop-at.invariant.0 _ _ _ (stepped _ _ _ c.loop-at-test.true _ _ c.read_line-line.result c.read_line-line.ensures c.do_line-done.ensures c.next_after-at.ensures) (ap (λ (n : ℕ). n / 6) c.do_line-done.auto.narrow) c.do_line-done.auto.pool _ c.in-Is.in-Is-own.keys1 c.do_line-done.auto.room, on (record { narrow = c.do_line-done.auto.narrow; wide = c.do_line-done.auto.wide; pool = c.do_line-done.auto.pool; room = c.do_line-done.auto.room }) c.loop-at.invariant.1)
 
 pub shape_of-narrow-in_default : goal.shape_of-narrow-in_default
-shape_of-narrow-in_default c = c.do_line-done.auto.1.0 ∙ c.loop-at.invariant.1.narrow
+shape_of-narrow-in_default c = c.do_line-done.auto.narrow ∙ c.loop-at.invariant.1.narrow
 
 pub shape_of-wide-in_default : goal.shape_of-wide-in_default
-shape_of-wide-in_default c = c.do_line-done.auto.1.1.0 ∙ c.loop-at.invariant.1.wide
+shape_of-wide-in_default c = c.do_line-done.auto.wide ∙ c.loop-at.invariant.1.wide
 
 pub shape_of-pool-in_default : goal.shape_of-pool-in_default
-shape_of-pool-in_default c = c.do_line-done.auto.1.1.1.0 ∙ c.loop-at.invariant.1.pool
+shape_of-pool-in_default c = c.do_line-done.auto.pool ∙ c.loop-at.invariant.1.pool
 
 pub shape_of-room-in_default : goal.shape_of-room-in_default
-shape_of-room-in_default c = c.do_line-done.auto.1.1.1.1.1.1.0 ∙ c.loop-at.invariant.1.room
+shape_of-room-in_default c = c.do_line-done.auto.room ∙ c.loop-at.invariant.1.room
 
 pub returns-in_default : goal.returns-in_default
-returns-in_default c = run-stop _ _ _ _ _ c.loop-at.invariant.0 _ _ _ (stepped _ _ _ c.loop-at-test.true _ _ c.read_line-line.result c.read_line-line.ensures c.do_line-done.ensures c.next_after-at.ensures) (ap (λ (n : ℕ). n / 6) c.do_line-done.auto.1.0) c.do_line-done.auto.1.1.1.0 c.in_default.in_default-own.keys2
+returns-in_default c = run-stop _ _ _ _ _ c.loop-at.invariant.0 _ _ _ (stepped _ _ _ c.loop-at-test.true _ _ c.read_line-line.result c.read_line-line.ensures c.do_line-done.ensures c.next_after-at.ensures) (ap (λ (n : ℕ). n / 6) c.do_line-done.auto.narrow) c.do_line-done.auto.pool (opened c.in_default.in_default-own.keys2)
 
 pub shape_of-narrow : goal.shape_of-narrow
 shape_of-narrow c = c.loop-at.invariant.1.narrow

@@ -1,6 +1,5 @@
 -- What a comparison tells: yes or no, and less, equal or greater, by the byte that it found.
-use Rattle.std.specs.Prelude.{eqb}
-use Rattle.word.specs.Choice.{if◌then◌else◌}
+use Rattle.std.specs.Prelude.{eqb, if◌then◌else◌}
 use Rattle.refusal.specs.declared.Refusal.TheVariants.{Untraceable as CannotTrace}
 use Rattle.refusal.specs.declared.Reply.{Reply}
 use Rattle.refusal.specs.declared.Reply.TheVariants.{Is as Told, Not}

@@ -1,6 +1,5 @@
 -- What is left to be printed, by where a run stands; the contracts of its steps say that a step leaves it as it is, but for what it printed.
-use Rattle.std.specs.Prelude.{ℕ, ◌+◌, ◌-◌, ◌*◌, ◌^◌, ◌≤◌, ◌<◌, Bool, true, false, List, [], ◌∷◌, ◌++◌, map, ◌≡◌, ltb, length, take, drop}
-use Rattle.word.specs.Choice.{if◌then◌else◌}
+use Rattle.std.specs.Prelude.{ℕ, ◌+◌, ◌-◌, ◌*◌, ◌^◌, ◌≤◌, ◌<◌, Bool, true, false, List, [], ◌∷◌, ◌++◌, map, ◌≡◌, ltb, length, take, drop, if◌then◌else◌}
 use Rattle.word.specs.Result.{Result, refused}
 use Rattle.figures.specs.declared.Figures.{Figures}
 use Rattle.shelves.specs.declared.At.{At}

@@ -1,10 +1,14 @@
 -- `sweep::drop_unmarked` meets its contract.
 use mathlib.Core.Path.{sym, ◌∙◌}
-use Rattle.sweep.proofs.Sweeping.{can-look, kept-can, kept-done}
+use native.Mathlib.Omega.{arith}
+use Rattle.sweep.proofs.Sweeping.{room, can-look, kept-can, kept-done}
 use Rattle.sweep.proofs.drop_unmarked.Goals as goal
 
 pub all_stay-requires : goal.all_stay-requires
 all_stay-requires c = can-look c.args.heap c.args.narrow.now c.args.wide.now c.args.pool.now c.args.marks.now c.requires
+
+pub slice_bounds-live_size-end-then-all_stay : goal.slice_bounds-live_size-end-then-all_stay
+slice_bounds-live_size-end-then-all_stay c = omega (arith, room c.args.heap c.args.narrow.now c.args.wide.now c.args.pool.now c.args.marks.now c.requires)
 
 pub live_size-total-requires : goal.live_size-total-requires
 live_size-total-requires c = kept-can c.args.heap c.args.narrow.now c.args.wide.now c.args.pool.now c.args.marks.now c.requires (sym c.if-all_stay.true ∙ c.all_stay.ensures)

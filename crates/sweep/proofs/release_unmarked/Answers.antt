@@ -9,7 +9,7 @@ pub visit-h-requires : goal.visit-h-requires
 visit-h-requires c = release-can c.args.heap c.args.narrow.now c.args.wide.now c.args.pool.now c.args.marks.now c.requires c.loop-i.invariant c.loop-i-test.true
 
 pub loop-i-preserved : goal.loop-i-preserved
-loop-i-preserved c = release-turn c.args.heap c.args.narrow.now c.args.wide.now c.args.pool.now c.args.marks.now c.requires c.loop-i.invariant c.loop-i-test.true c.visit-h.auto.1.0 c.visit-h.auto.1.1.0 c.visit-h.ensures
+loop-i-preserved c = release-turn c.args.heap c.args.narrow.now c.args.wide.now c.args.pool.now c.args.marks.now c.requires c.loop-i.invariant c.loop-i-test.true c.visit-h.auto.narrow c.visit-h.auto.wide c.visit-h.ensures
 
 pub returns : goal.returns
 returns c = release-last c.args.heap c.args.narrow.now c.args.wide.now c.args.pool.now c.args.marks.now c.requires c.loop-i.invariant (search rules)

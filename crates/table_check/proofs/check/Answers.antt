@@ -4,4 +4,4 @@ use lib.ListN.{replicate}
 use Rattle.table_check.proofs.check.Goals as goal
 
 pub returns : goal.returns
-returns c = record { admitted = c.admit-found.ensures; words_after = c.clear_u64.ensures ∙ ap (λ (n : ℕ). replicate n 0) c.admit-found.auto.1.0; halves_after = c.clear_u32.ensures ∙ ap (λ (n : ℕ). replicate n 0) c.admit-found.auto.1.1.0 }
+returns c = record { admitted = c.admit-found.ensures; words_after = c.clear_u64.ensures ∙ ap (λ (n : ℕ). replicate n 0) c.admit-found.auto.words; halves_after = c.clear_u32.ensures ∙ ap (λ (n : ℕ). replicate n 0) c.admit-found.auto.halves }

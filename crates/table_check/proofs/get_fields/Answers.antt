@@ -59,7 +59,7 @@ pub overflow_add-j : goal.overflow_add-j
 overflow_add-j c = omega (arith, lining-room _ _ _ _ _ _ _ _ _ _ _ _ c.loop-i.invariant.1 c.loop-i-test.true)
 
 pub loop-i-preserved : goal.loop-i-preserved
-loop-i-preserved c = let g = c.get_numbers.ensures.past _ c.in-Past.is in let n = name-found c.args.s.now c.in-Past.a c.in-Past-get_name.next c.get_name.ensures c.in-Past-get_name.is in (c.get_numbers.auto.1.1.1.1.0 ∙ c.loop-i.invariant.0, lining-two _ _ _ _ _ _ _ _ _ _ _ c.loop-i.invariant.1 c.loop-i-test.true c.in-Past.a c.in-Past-get_name.next g.values g.reads g.inside n c.loop-i.row _ c.loop-i.invariant.0 g.holds)
+loop-i-preserved c = let g = c.get_numbers.ensures.past _ c.in-Past.is in let n = name-found c.args.s.now c.in-Past.a c.in-Past-get_name.next c.get_name.ensures c.in-Past-get_name.is in (c.get_numbers.auto.out ∙ c.loop-i.invariant.0, lining-two _ _ _ _ _ _ _ _ _ _ _ c.loop-i.invariant.1 c.loop-i-test.true c.in-Past.a c.in-Past-get_name.next g.values g.reads g.inside n c.loop-i.row _ c.loop-i.invariant.0 g.holds)
 
 pub shape_of-out : goal.shape_of-out
 shape_of-out c = c.loop-i.invariant.1.same

@@ -14,13 +14,13 @@ pub get_numbers-requires : goal.get_numbers-requires
 get_numbers-requires c = (c.loop-i.invariant.gathered.inside, lining-room _ _ _ _ _ _ _ _ _ _ _ _ c.loop-i.invariant c.loop-i-test.true)
 
 pub shape_of-out-in_default : goal.shape_of-out-in_default
-shape_of-out-in_default c = c.get_numbers.auto.1.1.1.1.0 ∙ c.loop-i.invariant.same
+shape_of-out-in_default c = c.get_numbers.auto.out ∙ c.loop-i.invariant.same
 
 pub returns-in_default : goal.returns-in_default
 returns-in_default c = lining-numbers-lost _ _ _ _ _ _ _ _ _ _ _ _ c.loop-i.invariant _ c.loop-i-test.true (c.get_numbers.ensures.lost c.in_default.is)
 
 pub shape_of-out-in_default-get_name : goal.shape_of-out-in_default-get_name
-shape_of-out-in_default-get_name c = c.get_numbers.auto.1.1.1.1.0 ∙ c.loop-i.invariant.same
+shape_of-out-in_default-get_name c = c.get_numbers.auto.out ∙ c.loop-i.invariant.same
 
 pub returns-in_default-get_name : goal.returns-in_default-get_name
 returns-in_default-get_name c = let g = c.get_numbers.ensures.past _ c.in-Past.is in lining-name-lost _ _ _ _ _ _ _ _ _ _ _ _ c.loop-i.invariant _ c.in-Past.a g.values c.loop-i-test.true g.reads (lost c.args.s.now (read_name (drop c.in-Past.a c.args.s.now)) c.get_name.ensures c.in_default-get_name.is)
@@ -35,7 +35,7 @@ pub overflow_add-j : goal.overflow_add-j
 overflow_add-j c = omega (arith, lining-room _ _ _ _ _ _ _ _ _ _ _ _ c.loop-i.invariant c.loop-i-test.true)
 
 pub loop-i-preserved : goal.loop-i-preserved
-loop-i-preserved c = let g = c.get_numbers.ensures.past _ c.in-Past.is in let n = name-found c.args.s.now c.in-Past.a c.in-Past-get_name.next c.get_name.ensures c.in-Past-get_name.is in lining-next _ _ _ _ _ _ _ _ _ _ _ _ c.loop-i.invariant c.loop-i-test.true c.in-Past.a c.in-Past-get_name.next g.values g.reads g.inside n _ g.holds c.get_numbers.auto.1.1.1.1.0
+loop-i-preserved c = let g = c.get_numbers.ensures.past _ c.in-Past.is in let n = name-found c.args.s.now c.in-Past.a c.in-Past-get_name.next c.get_name.ensures c.in-Past-get_name.is in lining-next _ _ _ _ _ _ _ _ _ _ _ _ c.loop-i.invariant c.loop-i-test.true c.in-Past.a c.in-Past-get_name.next g.values g.reads g.inside n _ g.holds c.get_numbers.auto.out
 
 pub shape_of-out : goal.shape_of-out
 shape_of-out c = c.loop-i.invariant.same

@@ -23,7 +23,7 @@ unfolding type_names field_names constant_names ascii
 returns-in_default-fields_section c = parsed-lost (table-lost-3 c.args.s.now c.in-Counts.n (c.get_counts.ensures.found c.in-Counts.n c.in-Counts.is) (c.rows_section.ensures.found _ _ _ c.in-Found.is) (c.fields_section.ensures.lost c.in_default-fields_section.is))
 
 pub rows_section-requires-2 : goal.rows_section-requires-2
-rows_section-requires-2 c = ((c.fields_section.ensures.found _ _ _ c.in-Found-fields_section.is).rows.inside, omega (arith, (c.get_counts.ensures.found c.in-Counts.n c.in-Counts.is).consts, c.requires.0, c.rows_section.auto.1.1.1.1.1.1.0))
+rows_section-requires-2 c = ((c.fields_section.ensures.found _ _ _ c.in-Found-fields_section.is).rows.inside, omega (arith, (c.get_counts.ensures.found c.in-Counts.n c.in-Counts.is).consts, c.requires.0, c.rows_section.auto.out))
 
 pub returns-in_default-rows_section-2 : goal.returns-in_default-rows_section-2
 unfolding type_names field_names constant_names ascii
@@ -37,7 +37,7 @@ unfolding type_names field_names constant_names ascii
 returns-in_default-bytes_section c = parsed-lost (table-lost-5 c.args.s.now c.in-Counts.n (c.get_counts.ensures.found c.in-Counts.n c.in-Counts.is) (c.rows_section.ensures.found _ _ _ c.in-Found.is) (c.fields_section.ensures.found _ _ _ c.in-Found-fields_section.is) (c.rows_section-2.ensures.found _ _ _ c.in-Found-rows_section.is) (c.bytes_section.ensures.lost c.in_default-bytes_section.is))
 
 pub shape_of-words : goal.shape_of-words
-shape_of-words c = c.rows_section-2.auto.1.1.1.1.1.1.0 ∙ c.rows_section.auto.1.1.1.1.1.1.0
+shape_of-words c = c.rows_section-2.auto.out ∙ c.rows_section.auto.out
 
 pub returns : goal.returns
 unfolding type_names field_names constant_names ascii

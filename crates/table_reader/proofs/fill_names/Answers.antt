@@ -41,7 +41,7 @@ pub put_literal-o-requires : goal.put_literal-o-requires
 put_literal-o-requires c = let g = c.get_numbers.ensures.past _ c.in-Past.is in let n = name-found c.args.s.now c.in-Past.a c.in-Past-get_name.next c.get_name.ensures c.in-Past-get_name.is in naming-room _ _ _ _ _ _ _ _ _ _ _ c.loop-i.invariant.1 c.loop-i-test.true c.in-Past.a c.in-Past-get_name.next g.values g.reads g.inside n
 
 pub loop-i-preserved : goal.loop-i-preserved
-loop-i-preserved c = let g = c.get_numbers.ensures.past _ c.in-Past.is in let n = name-found c.args.s.now c.in-Past.a c.in-Past-get_name.next c.get_name.ensures c.in-Past-get_name.is in (c.get_numbers.auto.1.1.1.1.0 ∙ c.loop-i.invariant.0, naming-next _ _ _ _ _ _ _ _ _ _ _ c.loop-i.invariant.1 c.loop-i-test.true c.in-Past.a c.in-Past-get_name.next g.values g.reads g.inside n _ _ c.put_literal-o.auto.0 c.put_literal-o.ensures)
+loop-i-preserved c = let g = c.get_numbers.ensures.past _ c.in-Past.is in let n = name-found c.args.s.now c.in-Past.a c.in-Past-get_name.next c.get_name.ensures c.in-Past-get_name.is in (c.get_numbers.auto.out ∙ c.loop-i.invariant.0, naming-next _ _ _ _ _ _ _ _ _ _ _ c.loop-i.invariant.1 c.loop-i-test.true c.in-Past.a c.in-Past-get_name.next g.values g.reads g.inside n _ _ c.put_literal-o.auto.out c.put_literal-o.ensures)
 
 pub shape_of-names : goal.shape_of-names
 shape_of-names c = c.loop-i.invariant.1.same

@@ -15,10 +15,10 @@ pub told_of-requires : goal.told_of-requires
 told_of-requires c = let p = (c.tested-found.ensures.table _ c.in-Good.is).0 in record { types_bound = (p.types_most, p.fields_most, p.consts_most); names_value = c.load_names-n.ensures.value }
 
 pub shape_of-words-in-Good : goal.shape_of-words-in-Good
-shape_of-words-in-Good c = c.tested-found.auto.1.1.1.1.1.1.0
+shape_of-words-in-Good c = c.tested-found.auto.words
 
 pub shape_of-halves-in-Good : goal.shape_of-halves-in-Good
-shape_of-halves-in-Good c = c.tested-found.auto.1.1.1.1.1.1.1.0
+shape_of-halves-in-Good c = c.tested-found.auto.halves
 
 pub returns-in-Good : goal.returns-in-Good
 returns-in-Good c = read_done c.args.types.now c.args.fields.now c.args.consts.now c.args.bytes.now c.args.names.now c.args.s.now c.args.words.now c.args.halves.now c.tested-found.ensures c.in-Good.is c.told_of.ensures c.load_numbers.ensures.types_after c.load_numbers.ensures.fields_after c.load_numbers.ensures.consts_after c.copy_hex.ensures.out c.load_names-n.ensures.names_after

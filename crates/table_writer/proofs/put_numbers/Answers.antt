@@ -8,7 +8,7 @@ pub put_number-k-requires : goal.put_number-k-requires
 put_number-k-requires c = numbered-room _ _ _ _ _ _ c.loop-i.invariant c.loop-i-test.true
 
 pub loop-i-preserved : goal.loop-i-preserved
-loop-i-preserved c = numbered_next _ _ _ _ _ _ c.loop-i.invariant _ _ c.loop-i-test.true c.put_number-k.auto.0 c.put_number-k.ensures
+loop-i-preserved c = numbered_next _ _ _ _ _ _ c.loop-i.invariant _ _ c.loop-i-test.true c.put_number-k.auto.out c.put_number-k.ensures
 
 pub shape_of-out : goal.shape_of-out
 shape_of-out c = c.loop-i.invariant.same

@@ -44,10 +44,10 @@ pub slice_bounds-put_literal-end : goal.slice_bounds-put_literal-end
 slice_bounds-put_literal-end c = let n = name-found c.args.names.now c.loop-i.f c.in-Past.next c.get_name.ensures c.in-Past.is in n.inside
 
 pub put_literal-o-requires : goal.put_literal-o-requires
-put_literal-o-requires c = let n = name-found c.args.names.now c.loop-i.f c.in-Past.next c.get_name.ensures c.in-Past.is in omega (arith, rows-put-fits _ _ _ _ _ _ _ _ _ _ _ _ c.loop-i.invariant c.loop-i-test.true _ n, c.put_numbers-a.ensures.next, c.put_numbers-a.auto.0)
+put_literal-o-requires c = let n = name-found c.args.names.now c.loop-i.f c.in-Past.next c.get_name.ensures c.in-Past.is in omega (arith, rows-put-fits _ _ _ _ _ _ _ _ _ _ _ _ c.loop-i.invariant c.loop-i-test.true _ n, c.put_numbers-a.ensures.next, c.put_numbers-a.auto.out)
 
 pub loop-i-preserved : goal.loop-i-preserved
-loop-i-preserved c = let n = name-found c.args.names.now c.loop-i.f c.in-Past.next c.get_name.ensures c.in-Past.is in rows-put-next _ _ _ _ _ _ _ _ _ _ _ _ c.loop-i.invariant c.loop-i-test.true _ n _ _ _ _ (c.put_literal-o.auto.0 ∙ c.put_numbers-a.auto.0) c.put_numbers-a.ensures c.put_literal-o.ensures
+loop-i-preserved c = let n = name-found c.args.names.now c.loop-i.f c.in-Past.next c.get_name.ensures c.in-Past.is in rows-put-next _ _ _ _ _ _ _ _ _ _ _ _ c.loop-i.invariant c.loop-i-test.true _ n _ _ _ _ (c.put_literal-o.auto.out ∙ c.put_numbers-a.auto.out) c.put_numbers-a.ensures c.put_literal-o.ensures
 
 pub shape_of-out : goal.shape_of-out
 shape_of-out c = c.loop-i.invariant.same

@@ -10,35 +10,35 @@ put_counts-p-requires c = omega (arith, part-lengths c.args.types.now c.args.fie
 
 pub put_literal-q-requires : goal.put_literal-q-requires
 unfolding type_names field_names constant_names ascii
-put_literal-q-requires c = omega (arith, part-lengths c.args.types.now c.args.fields.now c.args.consts.now c.args.bytes.now c.args.names.now c.args.a c.args.b c.requires.found, c.requires.fits, c.put_counts-p.ensures.next, c.put_counts-p.auto.0)
+put_literal-q-requires c = omega (arith, part-lengths c.args.types.now c.args.fields.now c.args.consts.now c.args.bytes.now c.args.names.now c.args.a c.args.b c.requires.found, c.requires.fits, c.put_counts-p.ensures.next, c.put_counts-p.auto.out)
 
 pub put_rows-u-requires : goal.put_rows-u-requires
 unfolding type_names field_names constant_names ascii
-put_rows-u-requires c = record { rest = _; reads = c.requires.found.types; inside = omega arith; long = omega (arith, c.requires.types); fits = omega (arith, part-lengths c.args.types.now c.args.fields.now c.args.consts.now c.args.bytes.now c.args.names.now c.args.a c.args.b c.requires.found, c.requires.fits, c.put_counts-p.ensures.next, c.put_counts-p.auto.0, c.put_literal-q.ensures.next, c.put_literal-q.auto.0) }
+put_rows-u-requires c = record { rest = _; reads = c.requires.found.types; inside = omega arith; long = omega (arith, c.requires.types); fits = omega (arith, part-lengths c.args.types.now c.args.fields.now c.args.consts.now c.args.bytes.now c.args.names.now c.args.a c.args.b c.requires.found, c.requires.fits, c.put_counts-p.ensures.next, c.put_counts-p.auto.out, c.put_literal-q.ensures.next, c.put_literal-q.auto.out) }
 
 pub put_literal-v-requires : goal.put_literal-v-requires
 unfolding type_names field_names constant_names ascii
-put_literal-v-requires c = omega (arith, part-lengths c.args.types.now c.args.fields.now c.args.consts.now c.args.bytes.now c.args.names.now c.args.a c.args.b c.requires.found, c.requires.fits, c.put_counts-p.ensures.next, c.put_counts-p.auto.0, c.put_literal-q.ensures.next, c.put_literal-q.auto.0, c.put_rows-u.ensures.next, c.put_rows-u.auto.0)
+put_literal-v-requires c = omega (arith, part-lengths c.args.types.now c.args.fields.now c.args.consts.now c.args.bytes.now c.args.names.now c.args.a c.args.b c.requires.found, c.requires.fits, c.put_counts-p.ensures.next, c.put_counts-p.auto.out, c.put_literal-q.ensures.next, c.put_literal-q.auto.out, c.put_rows-u.ensures.next, c.put_rows-u.auto.out)
 
 pub put_fields-x-requires : goal.put_fields-x-requires
 unfolding type_names field_names constant_names ascii
-put_fields-x-requires c = record { rest = _; reads = c.requires.found.fields; inside = c.requires.found.first; long = omega (arith, c.requires.fields); fits = omega (arith, part-lengths c.args.types.now c.args.fields.now c.args.consts.now c.args.bytes.now c.args.names.now c.args.a c.args.b c.requires.found, c.requires.fits, c.put_counts-p.ensures.next, c.put_counts-p.auto.0, c.put_literal-q.ensures.next, c.put_literal-q.auto.0, c.put_rows-u.ensures.next, c.put_rows-u.auto.0, c.put_literal-v.ensures.next, c.put_literal-v.auto.0) }
+put_fields-x-requires c = record { rest = _; reads = c.requires.found.fields; inside = c.requires.found.first; long = omega (arith, c.requires.fields); fits = omega (arith, part-lengths c.args.types.now c.args.fields.now c.args.consts.now c.args.bytes.now c.args.names.now c.args.a c.args.b c.requires.found, c.requires.fits, c.put_counts-p.ensures.next, c.put_counts-p.auto.out, c.put_literal-q.ensures.next, c.put_literal-q.auto.out, c.put_rows-u.ensures.next, c.put_rows-u.auto.out, c.put_literal-v.ensures.next, c.put_literal-v.auto.out) }
 
 pub put_literal-y-requires : goal.put_literal-y-requires
 unfolding type_names field_names constant_names ascii
-put_literal-y-requires c = omega (arith, part-lengths c.args.types.now c.args.fields.now c.args.consts.now c.args.bytes.now c.args.names.now c.args.a c.args.b c.requires.found, c.requires.fits, c.put_counts-p.ensures.next, c.put_counts-p.auto.0, c.put_literal-q.ensures.next, c.put_literal-q.auto.0, c.put_rows-u.ensures.next, c.put_rows-u.auto.0, c.put_literal-v.ensures.next, c.put_literal-v.auto.0, c.put_fields-x.ensures.next, c.put_fields-x.auto.0)
+put_literal-y-requires c = omega (arith, part-lengths c.args.types.now c.args.fields.now c.args.consts.now c.args.bytes.now c.args.names.now c.args.a c.args.b c.requires.found, c.requires.fits, c.put_counts-p.ensures.next, c.put_counts-p.auto.out, c.put_literal-q.ensures.next, c.put_literal-q.auto.out, c.put_rows-u.ensures.next, c.put_rows-u.auto.out, c.put_literal-v.ensures.next, c.put_literal-v.auto.out, c.put_fields-x.ensures.next, c.put_fields-x.auto.out)
 
 pub put_rows-z-requires : goal.put_rows-z-requires
 unfolding type_names field_names constant_names ascii
-put_rows-z-requires c = record { rest = _; reads = c.requires.found.constants; inside = c.requires.found.second; long = omega (arith, c.requires.constants); fits = omega (arith, part-lengths c.args.types.now c.args.fields.now c.args.consts.now c.args.bytes.now c.args.names.now c.args.a c.args.b c.requires.found, c.requires.fits, c.put_counts-p.ensures.next, c.put_counts-p.auto.0, c.put_literal-q.ensures.next, c.put_literal-q.auto.0, c.put_rows-u.ensures.next, c.put_rows-u.auto.0, c.put_literal-v.ensures.next, c.put_literal-v.auto.0, c.put_fields-x.ensures.next, c.put_fields-x.auto.0, c.put_literal-y.ensures.next, c.put_literal-y.auto.0) }
+put_rows-z-requires c = record { rest = _; reads = c.requires.found.constants; inside = c.requires.found.second; long = omega (arith, c.requires.constants); fits = omega (arith, part-lengths c.args.types.now c.args.fields.now c.args.consts.now c.args.bytes.now c.args.names.now c.args.a c.args.b c.requires.found, c.requires.fits, c.put_counts-p.ensures.next, c.put_counts-p.auto.out, c.put_literal-q.ensures.next, c.put_literal-q.auto.out, c.put_rows-u.ensures.next, c.put_rows-u.auto.out, c.put_literal-v.ensures.next, c.put_literal-v.auto.out, c.put_fields-x.ensures.next, c.put_fields-x.auto.out, c.put_literal-y.ensures.next, c.put_literal-y.auto.out) }
 
 pub put_bytes-requires : goal.put_bytes-requires
 unfolding type_names field_names constant_names ascii
-put_bytes-requires c = omega (arith, part-lengths c.args.types.now c.args.fields.now c.args.consts.now c.args.bytes.now c.args.names.now c.args.a c.args.b c.requires.found, c.requires.fits, c.put_counts-p.ensures.next, c.put_counts-p.auto.0, c.put_literal-q.ensures.next, c.put_literal-q.auto.0, c.put_rows-u.ensures.next, c.put_rows-u.auto.0, c.put_literal-v.ensures.next, c.put_literal-v.auto.0, c.put_fields-x.ensures.next, c.put_fields-x.auto.0, c.put_literal-y.ensures.next, c.put_literal-y.auto.0, c.put_rows-z.ensures.next, c.put_rows-z.auto.0)
+put_bytes-requires c = omega (arith, part-lengths c.args.types.now c.args.fields.now c.args.consts.now c.args.bytes.now c.args.names.now c.args.a c.args.b c.requires.found, c.requires.fits, c.put_counts-p.ensures.next, c.put_counts-p.auto.out, c.put_literal-q.ensures.next, c.put_literal-q.auto.out, c.put_rows-u.ensures.next, c.put_rows-u.auto.out, c.put_literal-v.ensures.next, c.put_literal-v.auto.out, c.put_fields-x.ensures.next, c.put_fields-x.auto.out, c.put_literal-y.ensures.next, c.put_literal-y.auto.out, c.put_rows-z.ensures.next, c.put_rows-z.auto.out)
 
 pub shape_of-out : goal.shape_of-out
-shape_of-out c = c.put_bytes.auto.0 ∙ (c.put_rows-z.auto.0 ∙ (c.put_literal-y.auto.0 ∙ (c.put_fields-x.auto.0 ∙ (c.put_literal-v.auto.0 ∙ (c.put_rows-u.auto.0 ∙ (c.put_literal-q.auto.0 ∙ c.put_counts-p.auto.0))))))
+shape_of-out c = c.put_bytes.auto.out ∙ (c.put_rows-z.auto.out ∙ (c.put_literal-y.auto.out ∙ (c.put_fields-x.auto.out ∙ (c.put_literal-v.auto.out ∙ (c.put_rows-u.auto.out ∙ (c.put_literal-q.auto.out ∙ c.put_counts-p.auto.out))))))
 
 pub returns : goal.returns
 unfolding type_names field_names constant_names ascii
-returns c = puts-table c.args.types.now c.args.fields.now c.args.consts.now c.args.bytes.now c.args.names.now c.args.a c.args.b c.requires.found c.put_counts-p.ensures c.put_literal-q.ensures c.put_rows-u.ensures c.put_literal-v.ensures c.put_fields-x.ensures c.put_literal-y.ensures c.put_rows-z.ensures c.put_bytes.ensures (omega (arith, part-lengths c.args.types.now c.args.fields.now c.args.consts.now c.args.bytes.now c.args.names.now c.args.a c.args.b c.requires.found, c.requires.fits, c.put_counts-p.ensures.next, c.put_counts-p.auto.0)) (omega (arith, part-lengths c.args.types.now c.args.fields.now c.args.consts.now c.args.bytes.now c.args.names.now c.args.a c.args.b c.requires.found, c.requires.fits, c.put_counts-p.ensures.next, c.put_counts-p.auto.0, c.put_literal-q.ensures.next, c.put_literal-q.auto.0)) (omega (arith, part-lengths c.args.types.now c.args.fields.now c.args.consts.now c.args.bytes.now c.args.names.now c.args.a c.args.b c.requires.found, c.requires.fits, c.put_counts-p.ensures.next, c.put_counts-p.auto.0, c.put_literal-q.ensures.next, c.put_literal-q.auto.0, c.put_rows-u.ensures.next, c.put_rows-u.auto.0)) (omega (arith, part-lengths c.args.types.now c.args.fields.now c.args.consts.now c.args.bytes.now c.args.names.now c.args.a c.args.b c.requires.found, c.requires.fits, c.put_counts-p.ensures.next, c.put_counts-p.auto.0, c.put_literal-q.ensures.next, c.put_literal-q.auto.0, c.put_rows-u.ensures.next, c.put_rows-u.auto.0, c.put_literal-v.ensures.next, c.put_literal-v.auto.0)) (omega (arith, part-lengths c.args.types.now c.args.fields.now c.args.consts.now c.args.bytes.now c.args.names.now c.args.a c.args.b c.requires.found, c.requires.fits, c.put_counts-p.ensures.next, c.put_counts-p.auto.0, c.put_literal-q.ensures.next, c.put_literal-q.auto.0, c.put_rows-u.ensures.next, c.put_rows-u.auto.0, c.put_literal-v.ensures.next, c.put_literal-v.auto.0, c.put_fields-x.ensures.next, c.put_fields-x.auto.0)) (omega (arith, part-lengths c.args.types.now c.args.fields.now c.args.consts.now c.args.bytes.now c.args.names.now c.args.a c.args.b c.requires.found, c.requires.fits, c.put_counts-p.ensures.next, c.put_counts-p.auto.0, c.put_literal-q.ensures.next, c.put_literal-q.auto.0, c.put_rows-u.ensures.next, c.put_rows-u.auto.0, c.put_literal-v.ensures.next, c.put_literal-v.auto.0, c.put_fields-x.ensures.next, c.put_fields-x.auto.0, c.put_literal-y.ensures.next, c.put_literal-y.auto.0))
+returns c = puts-table c.args.types.now c.args.fields.now c.args.consts.now c.args.bytes.now c.args.names.now c.args.a c.args.b c.requires.found c.put_counts-p.ensures c.put_literal-q.ensures c.put_rows-u.ensures c.put_literal-v.ensures c.put_fields-x.ensures c.put_literal-y.ensures c.put_rows-z.ensures c.put_bytes.ensures (omega (arith, part-lengths c.args.types.now c.args.fields.now c.args.consts.now c.args.bytes.now c.args.names.now c.args.a c.args.b c.requires.found, c.requires.fits, c.put_counts-p.ensures.next, c.put_counts-p.auto.out)) (omega (arith, part-lengths c.args.types.now c.args.fields.now c.args.consts.now c.args.bytes.now c.args.names.now c.args.a c.args.b c.requires.found, c.requires.fits, c.put_counts-p.ensures.next, c.put_counts-p.auto.out, c.put_literal-q.ensures.next, c.put_literal-q.auto.out)) (omega (arith, part-lengths c.args.types.now c.args.fields.now c.args.consts.now c.args.bytes.now c.args.names.now c.args.a c.args.b c.requires.found, c.requires.fits, c.put_counts-p.ensures.next, c.put_counts-p.auto.out, c.put_literal-q.ensures.next, c.put_literal-q.auto.out, c.put_rows-u.ensures.next, c.put_rows-u.auto.out)) (omega (arith, part-lengths c.args.types.now c.args.fields.now c.args.consts.now c.args.bytes.now c.args.names.now c.args.a c.args.b c.requires.found, c.requires.fits, c.put_counts-p.ensures.next, c.put_counts-p.auto.out, c.put_literal-q.ensures.next, c.put_literal-q.auto.out, c.put_rows-u.ensures.next, c.put_rows-u.auto.out, c.put_literal-v.ensures.next, c.put_literal-v.auto.out)) (omega (arith, part-lengths c.args.types.now c.args.fields.now c.args.consts.now c.args.bytes.now c.args.names.now c.args.a c.args.b c.requires.found, c.requires.fits, c.put_counts-p.ensures.next, c.put_counts-p.auto.out, c.put_literal-q.ensures.next, c.put_literal-q.auto.out, c.put_rows-u.ensures.next, c.put_rows-u.auto.out, c.put_literal-v.ensures.next, c.put_literal-v.auto.out, c.put_fields-x.ensures.next, c.put_fields-x.auto.out)) (omega (arith, part-lengths c.args.types.now c.args.fields.now c.args.consts.now c.args.bytes.now c.args.names.now c.args.a c.args.b c.requires.found, c.requires.fits, c.put_counts-p.ensures.next, c.put_counts-p.auto.out, c.put_literal-q.ensures.next, c.put_literal-q.auto.out, c.put_rows-u.ensures.next, c.put_rows-u.auto.out, c.put_literal-v.ensures.next, c.put_literal-v.auto.out, c.put_fields-x.ensures.next, c.put_fields-x.auto.out, c.put_literal-y.ensures.next, c.put_literal-y.auto.out))

@@ -26,7 +26,7 @@ pub overflow_add-out-else-n-lt10 : goal.overflow_add-out-else-n-lt10
 overflow_add-out-else-n-lt10 t c = omega arith
 
 pub bounds-out-k : goal.bounds-out-k
-bounds-out-k t c = omega (arith, c.put_decimal-k.ensures.next, c.put_decimal-k.auto.0, decimal-length-more c.args.n c.if-n-lt10.false, c.requires)
+bounds-out-k t c = omega (arith, c.put_decimal-k.ensures.next, c.put_decimal-k.auto.out, decimal-length-more c.args.n c.if-n-lt10.false, c.requires)
 
 pub overflow_add-result-else-n-lt10 : goal.overflow_add-result-else-n-lt10
 overflow_add-result-else-n-lt10 t c = omega (arith, c.put_decimal-k.ensures.next, decimal-length-more c.args.n c.if-n-lt10.false, c.requires)
@@ -38,7 +38,7 @@ pub returns-then-n-lt10 : goal.returns-then-n-lt10
 returns-then-n-lt10 t c = puts_one c.args.out.now c.args.at c.args.n c.if-n-lt10.true c.requires
 
 pub shape_of-out-else-n-lt10 : goal.shape_of-out-else-n-lt10
-shape_of-out-else-n-lt10 t c = simp length-set c.put_decimal-k.auto.0
+shape_of-out-else-n-lt10 t c = simp length-set c.put_decimal-k.auto.out
 
 pub returns-else-n-lt10 : goal.returns-else-n-lt10
 returns-else-n-lt10 t c = puts-more c.args.out.now c.put_decimal-k.new.out c.args.at c.put_decimal-k.result c.args.n c.if-n-lt10.false c.requires c.put_decimal-k.ensures

@@ -1,10 +1,12 @@
 use Rattle.trace.proofs.TraceLaws.{array-none, array-fits, array-word, array-some}
 use borrow.Author.Rules.{rules}
 use native.Mathlib.Omega.{arith}
+use borrow.Enum.Refused.{opened}
 use Rattle.trace.proofs.Emits.{elems-end, elems-beyond, elems-fail, elems-next, turns-fall}
 use borrow.Author.Rules.{rules}
 use native.Mathlib.Omega.{arith}
 use mathlib.Core.Path.{refl}
+use borrow.Enum.Refused.{opened}
 use Rattle.trace.proofs.TraceLaws.{looked-records}
 use Rattle.ty.proofs.Ranges.{record-within}
 use borrow.Author.Rules.{rules}
@@ -17,23 +19,27 @@ use Rattle.trace.proofs.TraceLaws.{in-zero, in-plain, in-missing, in-access, in-
 use Rattle.ty.proofs.Ranges.{record-within}
 use borrow.Author.Rules.{rules}
 use native.Mathlib.Omega.{arith}
+use borrow.Enum.Refused.{opened}
 use Rattle.trace.proofs.TraceLaws.{parts-rest, parts-end, parts-nowhere, parts-const}
 use Rattle.ty.proofs.Ranges.{part-start, part_end}
 use borrow.Author.Rules.{rules}
 use native.Mathlib.Omega.{arith}
+use borrow.Enum.Refused.{opened}
 use Rattle.trace.proofs.TraceLaws.{walk_first, fields-end, fields-over, field-unplaced, field-used, field-word, field-beyond, field-fail, field_next}
 use borrow.Author.Rules.{rules}
 use native.Mathlib.Omega.{arith}
 use Prim.Native.Nat.{◌+◌, ◌*◌}
 use mathlib.Core.Path.{refl}
+use borrow.Enum.Refused.{opened}
 use Rattle.trace.proofs.Emits.{elems-end, elems-beyond, elems-fail, elems-next, turns-fall}
 use borrow.Author.Rules.{rules}
 use native.Mathlib.Omega.{arith}
 use mathlib.Core.Path.{refl}
+use borrow.Enum.Refused.{opened}
 use Rattle.trace.proofs.+trace_array_trace_each_trace_elems_trace_field_trace_in_trace_parts_trace_record_trace_records.Goals as goal
 
 pub trace_array-returns-in_default : goal.trace_array-returns-in_default
-trace_array-returns-in_default t c = array-none _ _ _ _ _ _ _ _ _ _ _ _ _ c.layout_array-l.ensures c.in_default.in_default-own.keys2
+trace_array-returns-in_default t c = array-none _ _ _ _ _ _ _ _ _ _ _ _ _ c.layout_array-l.ensures (opened c.in_default.in_default-own.keys2)
 
 pub trace_array-overflow_mul-skip : goal.trace_array-overflow_mul-skip
 trace_array-overflow_mul-skip t c = record { fits = search (array-word, c.well_formed) }
@@ -48,7 +54,7 @@ pub trace_array-trace_parts-requires : goal.trace_array-trace_parts-requires
 trace_array-trace_parts-requires t c = (omega arith, (c.has_handles-holds.ensures, c.requires))
 
 pub trace_array-returns : goal.trace_array-returns
-trace_array-returns t c = array-some _ _ _ _ _ _ _ _ _ _ _ _ _ c.layout_array-l.ensures _ _ _ _ _ c.in-Laid.is _ c.turns_of-k.ensures c.trace_parts.result c.trace_parts.new.to.1.1.1.1.1.1.1.1.1.1.1.1.1.1.1.1.1.0 c.trace_parts.new.to.1.1.1.1.1.1.1.1.1.1.1.1.1.1.1.1.1.1.0 c.trace_parts.ensures
+trace_array-returns t c = array-some _ _ _ _ _ _ _ _ _ _ _ _ _ c.layout_array-l.ensures _ _ _ _ _ c.in-Laid.is _ c.turns_of-k.ensures c.trace_parts.result c.trace_parts.new.marks c.trace_parts.new.to c.trace_parts.ensures
 
 pub trace_each-loop-k-init : goal.trace_each-loop-k-init
 trace_each-loop-k-init t c = (refl, refl, refl)
@@ -87,7 +93,7 @@ pub trace_elems-trace_records-requires : goal.trace_elems-trace_records-requires
 trace_elems-trace_records-requires t c = (omega (arith, (c.fields_at-f.ensures _ _ c.in-Of.is).level), (record-within _ _ _ _ refl _ _ (c.fields_at-f.ensures _ _ c.in-Of.is).row, c.requires.1))
 
 pub trace_elems-returns : goal.trace_elems-returns
-trace_elems-returns t c = looked-records _ _ _ _ _ _ _ _ _ _ _ c.requires.0 _ _ (omega (arith, c.well_formed)) (c.fields_at-f.ensures _ _ c.in-Of.is) _ _ _ c.trace_records.result c.trace_records.new.to.1.1.1.1.1.1.1.1.1.1.1.1.1.1.1.1.0 c.trace_records.new.to.1.1.1.1.1.1.1.1.1.1.1.1.1.1.1.1.1.0 c.trace_records.ensures
+trace_elems-returns t c = looked-records _ _ _ _ _ _ _ _ _ _ _ c.requires.0 _ _ (omega (arith, c.well_formed)) (c.fields_at-f.ensures _ _ c.in-Of.is) _ _ _ c.trace_records.result c.trace_records.new.marks c.trace_records.new.to c.trace_records.ensures
 
 pub trace_field-returns-then-left-eq0 : goal.trace_field-returns-then-left-eq0
 trace_field-returns-then-left-eq0 t c = search part-zero
@@ -102,7 +108,7 @@ pub trace_field-returns-in-Own : goal.trace_field-returns-in-Own
 trace_field-returns-in-Own t c = search part-own
 
 pub trace_field-returns-in-Deep : goal.trace_field-returns-in-Deep
-trace_field-returns-in-Deep t c = part-one _ _ _ _ c.args.used c.args.desc.now _ _ _ _ c.requires.1 0 c.trace_parts.result c.trace_parts.new.to.1.1.1.1.1.1.1.1.1.1.1.1.1.1.1.1.1.0 c.trace_parts.new.to.1.1.1.1.1.1.1.1.1.1.1.1.1.1.1.1.1.1.0 c.trace_parts.ensures
+trace_field-returns-in-Deep t c = part-one _ _ _ _ c.args.used c.args.desc.now _ _ _ _ c.requires.1 0 c.trace_parts.result c.trace_parts.new.marks c.trace_parts.new.to c.trace_parts.ensures
 
 pub trace_in-returns-then-left-eq0 : goal.trace_in-returns-then-left-eq0
 trace_in-returns-then-left-eq0 t c = search in-zero
@@ -129,16 +135,16 @@ pub trace_in-returns-in-Missing : goal.trace_in-returns-in-Missing
 trace_in-returns-in-Missing t c = in-missing _ _ _ _ _ _ _ _ _ _ _ c.if-left-eq0.false _ c.requires.0 c.if-not-holds.false _ c.ty_at-e.ensures c.in-Missing.is
 
 pub trace_in-returns-in-Array : goal.trace_in-returns-in-Array
-trace_in-returns-in-Array t c = in_array _ _ _ _ _ _ _ _ _ _ _ c.if-left-eq0.false _ c.requires.0 c.if-not-holds.false _ c.ty_at-e.ensures _ _ _ c.in-Array.is c.trace_array.result c.trace_array.new.to.1.1.1.1.1.1.1.1.1.1.1.1.1.1.1.1.0 c.trace_array.new.to.1.1.1.1.1.1.1.1.1.1.1.1.1.1.1.1.1.0 c.trace_array.ensures
+trace_in-returns-in-Array t c = in_array _ _ _ _ _ _ _ _ _ _ _ c.if-left-eq0.false _ c.requires.0 c.if-not-holds.false _ c.ty_at-e.ensures _ _ _ c.in-Array.is c.trace_array.result c.trace_array.new.marks c.trace_array.new.to c.trace_array.ensures
 
 pub trace_in-returns-in-Record : goal.trace_in-returns-in-Record
-trace_in-returns-in-Record t c = in-record _ _ _ _ _ _ _ _ _ _ _ c.if-left-eq0.false _ c.requires.0 c.if-not-holds.false _ c.ty_at-e.ensures _ _ c.in-Record.is (omega (arith, c.well_formed)) c.requires.1 _ c.trace_records.result c.trace_records.new.to.1.1.1.1.1.1.1.1.1.1.1.1.1.1.1.1.0 c.trace_records.new.to.1.1.1.1.1.1.1.1.1.1.1.1.1.1.1.1.1.0 c.trace_records.ensures
+trace_in-returns-in-Record t c = in-record _ _ _ _ _ _ _ _ _ _ _ c.if-left-eq0.false _ c.requires.0 c.if-not-holds.false _ c.ty_at-e.ensures _ _ c.in-Record.is (omega (arith, c.well_formed)) c.requires.1 _ c.trace_records.result c.trace_records.new.marks c.trace_records.new.to c.trace_records.ensures
 
 pub trace_in-returns-in-Access : goal.trace_in-returns-in-Access
-trace_in-returns-in-Access t c = in-access _ _ _ _ _ _ _ _ _ _ _ c.if-left-eq0.false _ c.requires.0 c.if-not-holds.false _ c.ty_at-e.ensures c.in-Access.is c.trace_word.result c.trace_word.new.to.1.1.1.1.1.1.0 c.trace_word.new.to.1.1.1.1.1.1.1.0 c.trace_word.ensures
+trace_in-returns-in-Access t c = in-access _ _ _ _ _ _ _ _ _ _ _ c.if-left-eq0.false _ c.requires.0 c.if-not-holds.false _ c.ty_at-e.ensures c.in-Access.is c.trace_word.result c.trace_word.new.marks c.trace_word.new.to c.trace_word.ensures
 
 pub trace_in-returns-in-Protected : goal.trace_in-returns-in-Protected
-trace_in-returns-in-Protected t c = in-protected _ _ _ _ _ _ _ _ _ _ _ c.if-left-eq0.false _ c.requires.0 c.if-not-holds.false _ c.ty_at-e.ensures c.in-Protected.is c.trace_word-in-Protected.result c.trace_word-in-Protected.new.to.1.1.1.1.1.1.0 c.trace_word-in-Protected.new.to.1.1.1.1.1.1.1.0 c.trace_word-in-Protected.ensures
+trace_in-returns-in-Protected t c = in-protected _ _ _ _ _ _ _ _ _ _ _ c.if-left-eq0.false _ c.requires.0 c.if-not-holds.false _ c.ty_at-e.ensures c.in-Protected.is c.trace_word-in-Protected.result c.trace_word-in-Protected.new.marks c.trace_word-in-Protected.new.to c.trace_word-in-Protected.ensures
 
 pub trace_in-returns-in_default : goal.trace_in-returns-in_default
 trace_in-returns-in_default t c = in-other _ _ _ _ _ _ _ _ _ _ _ c.if-left-eq0.false _ c.requires.0 c.if-not-holds.false _ c.ty_at-e.ensures c.in_default.in_default-own.keys6
@@ -219,7 +225,7 @@ pub trace_record-trace_field-r-requires : goal.trace_record-trace_field-r-requir
 trace_record-trace_field-r-requires t c = (omega arith, (c.loop-i.invariant.1, omega (arith, c.if-data-at.false, c.requires.1), c.requires.2))
 
 pub trace_record-returns-in_default-r : goal.trace_record-returns-in_default-r
-trace_record-returns-in_default-r t c = field-fail _ _ _ _ _ _ _ _ _ _ _ _ _ _ _ _ _ c.loop-i.invariant.2 c.loop-i-test.true _ c.place_field-fl.ensures _ _ _ _ c.in-At.is c.requires.1 c.if-data-at.false c.trace_field-r.result c.trace_field-r.new.to.1.1.1.1.1.1.1.1.1.1.1.1.1.1.1.0 c.trace_field-r.new.to.1.1.1.1.1.1.1.1.1.1.1.1.1.1.1.1.0 c.trace_field-r.ensures c.in_default-r.is
+trace_record-returns-in_default-r t c = field-fail _ _ _ _ _ _ _ _ _ _ _ _ _ _ _ _ _ c.loop-i.invariant.2 c.loop-i-test.true _ c.place_field-fl.ensures _ _ _ _ c.in-At.is c.requires.1 c.if-data-at.false c.trace_field-r.result c.trace_field-r.new.marks c.trace_field-r.new.to c.trace_field-r.ensures c.in_default-r.is
 
 pub trace_record-overflow_add-used : goal.trace_record-overflow_add-used
 trace_record-overflow_add-used t c = record { fits = field-word _ _ _ _ _ _ _ _ _ _ _ _ _ _ _ _ _ c.loop-i.invariant.2 c.loop-i-test.true _ c.place_field-fl.ensures _ _ _ _ c.in-At.is c.loop-i.invariant.1 (omega (arith, c.well_formed)) _ c.used_by-used.ensures }
@@ -231,10 +237,10 @@ pub trace_record-loop-i-smaller : goal.trace_record-loop-i-smaller
 trace_record-loop-i-smaller t c = omega (arith, c.loop-i-test.true)
 
 pub trace_record-loop-i-preserved : goal.trace_record-loop-i-preserved
-trace_record-loop-i-preserved t c = (omega (arith, c.loop-i-test.true), field-used _ _ _ _ _ _ _ _ _ _ _ _ _ _ _ _ _ c.loop-i.invariant.2 c.loop-i-test.true _ c.place_field-fl.ensures _ _ _ _ c.in-At.is c.loop-i.invariant.1 _ c.used_by-used.ensures, field_next _ _ _ _ _ _ _ _ _ _ _ _ _ _ _ _ _ c.loop-i.invariant.2 c.loop-i-test.true _ c.place_field-fl.ensures _ _ _ _ c.in-At.is c.requires.1 c.if-data-at.false c.trace_field-r.result c.trace_field-r.new.to.1.1.1.1.1.1.1.1.1.1.1.1.1.1.1.0 c.trace_field-r.new.to.1.1.1.1.1.1.1.1.1.1.1.1.1.1.1.1.0 c.trace_field-r.ensures _ c.in-Traced.is _ c.larger-align.ensures _ c.used_by-used.ensures, omega (arith, c.loop-i.invariant.3), omega (arith, c.loop-i.invariant.4))
+trace_record-loop-i-preserved t c = (omega (arith, c.loop-i-test.true), field-used _ _ _ _ _ _ _ _ _ _ _ _ _ _ _ _ _ c.loop-i.invariant.2 c.loop-i-test.true _ c.place_field-fl.ensures _ _ _ _ c.in-At.is c.loop-i.invariant.1 _ c.used_by-used.ensures, field_next _ _ _ _ _ _ _ _ _ _ _ _ _ _ _ _ _ c.loop-i.invariant.2 c.loop-i-test.true _ c.place_field-fl.ensures _ _ _ _ c.in-At.is c.requires.1 c.if-data-at.false c.trace_field-r.result c.trace_field-r.new.marks c.trace_field-r.new.to c.trace_field-r.ensures _ c.in-Traced.is _ c.larger-align.ensures _ c.used_by-used.ensures, omega (arith, c.loop-i.invariant.3), omega (arith, c.loop-i.invariant.4))
 
 pub trace_record-returns-in_default-z : goal.trace_record-returns-in_default-z
-trace_record-returns-in_default-z t c = search fields-over
+trace_record-returns-in_default-z t c = let k2 = opened c.in_default-z.in_default-z-own.keys2 in search fields-over
 
 pub trace_record-returns : goal.trace_record-returns
 trace_record-returns t c = search fields-end

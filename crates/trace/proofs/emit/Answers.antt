@@ -1,6 +1,7 @@
 -- `trace::emit` meets its contract.
 use native.Mathlib.Omega.{arith}
 use Rattle.trace.proofs.Emits.{check-room, check-full, list-room, list_full, work_none, work-at}
+use borrow.Enum.Refused.{opened}
 use Rattle.trace.proofs.emit.Goals as goal
 
 pub returns-then-n-limit : goal.returns-then-n-limit
@@ -13,7 +14,7 @@ pub returns-then-n-to : goal.returns-then-n-to
 returns-then-n-to c = search list-room
 
 pub returns-in_default : goal.returns-in_default
-returns-in_default c = search work_none
+returns-in_default c = let k2 = opened c.in_default.in_default-own.keys2 in search work_none
 
 pub returns-else-limit : goal.returns-else-limit
 returns-else-limit c = check-full _ _ _ _ _ _ _ _ c.in-Check.is c.if-n-limit.false (omega arith)

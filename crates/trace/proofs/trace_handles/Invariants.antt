@@ -1,14 +1,15 @@
 -- `trace::trace_handles` meets its contract. The invariant: the places from `at` on are still to come, the last at byte `last` at the most.
 use Prim.Native.Nat.{◌+◌, ◌-◌, ◌/◌}
 use mathlib.Core.Path.{◌≡◌}
+use mathlib.Core.List.{map}
 use lib.ListN.{length}
-use Rattle.trace.specs.Places.{rising, handles_places}
-use Rattle.trace.specs.Emit.{raw_of, aim, resolve_in, handed_all}
+use Rattle.trace.specs.Places.{handle_at, rising, handles_places}
+use Rattle.trace.specs.Emit.{raw_of, into, resolve_in, emit_all}
 use Rattle.trace.proofs.trace_handles.Given as goal
 
 abbrev pub invariant-loop-at : goal.invariant-loop-at
-invariant-loop-at l = (handed_all (aim l.goal (resolve_in l.tag l.slots l.s l.narrow) l.onarrow l.other l.owork) l.«data» (raw_of l.marks l.to l.m) (rising ((length l.«data» - l.at) / 8) l.at)
-    ≡ handed_all (aim l.goal (resolve_in l.tag l.slots l.s l.narrow) l.onarrow l.other l.owork) l.«data» (raw_of l.initial.marks l.initial.to l.n) (handles_places (length l.«data»)))
+invariant-loop-at l = (emit_all (into l.sink (resolve_in l.tag l.slots l.s l.narrow)) (raw_of l.marks l.to l.m) (map (handle_at l.«data») (rising ((length l.«data» - l.at) / 8) l.at))
+    ≡ emit_all (into l.sink (resolve_in l.tag l.slots l.s l.narrow)) (raw_of l.initial.marks l.initial.to l.n) (map (handle_at l.«data») (handles_places (length l.«data»))))
     × (length l.marks ≡ length l.initial.marks) × (length l.to ≡ length l.initial.to) × (l.last + 8 ≡ length l.«data»)
 
 abbrev pub decreases-loop-at : goal.decreases-loop-at

@@ -5,13 +5,15 @@ use Rattle.ty.specs.Walks.{desc_array}
 use native.Mathlib.Omega.{arith}
 use Rattle.ty.proofs.WalkLaws.{desc-none, desc-missing, desc-of-array, desc-of-record, desc-other}
 use Rattle.ty.proofs.Ranges.{record-within}
+use borrow.Enum.Refused.{opened}
 use native.Mathlib.Omega.{arith}
 use Prim.Native.Nat.{◌+◌, ◌*◌}
 use mathlib.Core.Path.{refl, ap, ◌∙◌}
-use mathlib.Core.Logic.{⊎_elim}
 use Rattle.ty.proofs.Laws.{on}
 use Rattle.ty.proofs.WalkLaws.{fields-first, desc-last, desc-skip, desc-stop, desc-over, desc-more}
 use Rattle.ty.specs.Walks.{desc_fields}
+use borrow.Enum.Refused.{opened}
+use Rattle.ty.proofs.+desc_array_desc_in_desc_record.Goals.{desc_record-then-c-eq4294967295+in-Is+in-Is-p, desc_record-else-c-eq4294967295}
 use Rattle.ty.proofs.+desc_array_desc_in_desc_record.Goals as goal
 
 pub desc_array-returns-in_default : goal.desc_array-returns-in_default
@@ -58,7 +60,7 @@ pub desc_in-returns-in-Record : goal.desc_in-returns-in-Record
 desc_in-returns-in-Record t c = search desc-of-record
 
 pub desc_in-returns-in_default : goal.desc_in-returns-in_default
-desc_in-returns-in_default t c = search desc-other
+desc_in-returns-in_default t c = let k4 = opened c.in_default.in_default-own.keys4 in search desc-other
 
 pub desc_record-loop-i-init : goal.desc_record-loop-i-init
 desc_record-loop-i-init t c = (omega arith, rw fields-first refl)
@@ -106,10 +108,10 @@ pub desc_record-loop-i-smaller : goal.desc_record-loop-i-smaller
 desc_record-loop-i-smaller t c = omega arith
 
 pub desc_record-loop-i-preserved : goal.desc_record-loop-i-preserved
-desc_record-loop-i-preserved t c = ⊎_elim
-    (λ w. (omega arith, ap (desc_fields _ _) w.9 ∙ desc-more _ _ _ _ _ _ c.loop-i-test.true w.0.taken _ w.1.ensures _ w.3.given.1 _ w.5.ensures _ w.7.given.1 ∙ c.loop-i.invariant.1))
-    (λ w. (omega arith, ap (desc_fields _ _) w.1 ∙ desc-skip _ _ _ _ _ _ c.loop-i-test.true w.0.left ∙ c.loop-i.invariant.1))
-    c.if-c-eq4294967295.branch
+desc_record-loop-i-preserved t c = elim c.if-c-eq4294967295.branch [
+  | desc_record-then-c-eq4294967295+in-Is+in-Is-p w ↦ (omega arith, ap (desc_fields _ _) w.n-is ∙ desc-more _ _ _ _ _ _ c.loop-i-test.true w.if-c-eq4294967295.true _ w.desc_in-w.ensures _ w.in-Is.is _ w.sum-p.ensures _ w.in-Is-p.is ∙ c.loop-i.invariant.1)
+  | desc_record-else-c-eq4294967295 w ↦ (omega arith, ap (desc_fields _ _) w.n-is ∙ desc-skip _ _ _ _ _ _ c.loop-i-test.true w.if-c-eq4294967295.false ∙ c.loop-i.invariant.1)
+]
 
 pub desc_record-returns : goal.desc_record-returns
 desc_record-returns t c = search (desc-last, on)

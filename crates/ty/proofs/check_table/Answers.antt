@@ -1,6 +1,6 @@
 -- `ty::check_table` meets its contract.
 use mathlib.Core.Path.{refl, sym}
-use borrow.Author.Tests.{lt-leb, le-leb, eq-eqb, ne_eqb, not-true, not-false}
+use borrow.Author.Tests.{lt-leb, le-leb, eq-eqb, ne_eqb}
 use Rattle.word.proofs.Bools.{and-true}
 use Rattle.ty.specs.Check.{table_good, all_of}
 use Rattle.ty.proofs.check_table.Goals as goal
@@ -31,12 +31,12 @@ returns-then-consts-gt4096 c = rw (eq-eqb _ _ c.if-types-ne0.false, le-leb _ _ c
 
 pub returns-then-not-types_good : goal.returns-then-not-types_good
 unfolding table_good all_of
-returns-then-not-types_good c = rw (eq-eqb _ _ c.if-types-ne0.false, le-leb _ _ c.if-types-gt4096.false, eq-eqb _ _ c.if-fields-ne0.false, le-leb _ _ c.if-fields-gt16384.false, eq-eqb _ _ c.if-consts-ne0.false, le-leb _ _ c.if-consts-gt4096.false, ← c.types_good.ensures, not-true c.types_good.result c.if-not-types_good.true) refl
+returns-then-not-types_good c = rw (eq-eqb _ _ c.if-types-ne0.false, le-leb _ _ c.if-types-gt4096.false, eq-eqb _ _ c.if-fields-ne0.false, le-leb _ _ c.if-fields-gt16384.false, eq-eqb _ _ c.if-consts-ne0.false, le-leb _ _ c.if-consts-gt4096.false, ← c.types_good.ensures, c.if-not-types_good.true) refl
 
 pub returns-then-not-consts_good : goal.returns-then-not-consts_good
 unfolding table_good all_of
-returns-then-not-consts_good c = rw (eq-eqb _ _ c.if-types-ne0.false, le-leb _ _ c.if-types-gt4096.false, eq-eqb _ _ c.if-fields-ne0.false, le-leb _ _ c.if-fields-gt16384.false, eq-eqb _ _ c.if-consts-ne0.false, le-leb _ _ c.if-consts-gt4096.false, ← c.types_good.ensures, not-false c.types_good.result c.if-not-types_good.false, ← c.consts_good.ensures, not-true c.consts_good.result c.if-not-consts_good.true) refl
+returns-then-not-consts_good c = rw (eq-eqb _ _ c.if-types-ne0.false, le-leb _ _ c.if-types-gt4096.false, eq-eqb _ _ c.if-fields-ne0.false, le-leb _ _ c.if-fields-gt16384.false, eq-eqb _ _ c.if-consts-ne0.false, le-leb _ _ c.if-consts-gt4096.false, ← c.types_good.ensures, c.if-not-types_good.false, ← c.consts_good.ensures, c.if-not-consts_good.true) refl
 
 pub returns : goal.returns
 unfolding table_good all_of
-returns c = rw (eq-eqb _ _ c.if-types-ne0.false, le-leb _ _ c.if-types-gt4096.false, eq-eqb _ _ c.if-fields-ne0.false, le-leb _ _ c.if-fields-gt16384.false, eq-eqb _ _ c.if-consts-ne0.false, le-leb _ _ c.if-consts-gt4096.false, ← c.types_good.ensures, not-false c.types_good.result c.if-not-types_good.false, ← c.consts_good.ensures, not-false c.consts_good.result c.if-not-consts_good.false, ← c.unfolds_good.ensures) (sym (and-true _))
+returns c = rw (eq-eqb _ _ c.if-types-ne0.false, le-leb _ _ c.if-types-gt4096.false, eq-eqb _ _ c.if-fields-ne0.false, le-leb _ _ c.if-fields-gt16384.false, eq-eqb _ _ c.if-consts-ne0.false, le-leb _ _ c.if-consts-gt4096.false, ← c.types_good.ensures, c.if-not-types_good.false, ← c.consts_good.ensures, c.if-not-consts_good.false, ← c.unfolds_good.ensures) (sym (and-true _))

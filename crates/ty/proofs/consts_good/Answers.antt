@@ -1,7 +1,5 @@
 use mathlib.Core.Path.{◌∙◌, sym}
-use mathlib.Core.Bool.{true}
 use native.Mathlib.Omega.{arith}
-use borrow.Author.Tests.{not-true, not-false}
 use Rattle.ty.specs.Check.{good_const_at}
 use Rattle.ty.proofs.CheckLaws.{all_start, all-next, all-false, all_end}
 use Rattle.ty.proofs.consts_good.Goals as goal
@@ -38,7 +36,7 @@ bounds-consts-at-in-loop-i-2 c = omega arith
 
 pub returns-then-not-const_good : goal.returns-then-not-const_good
 unfolding good_const_at
-returns-then-not-const_good c = all-false _ _ _ c.loop-i-test.true (sym c.const_good.ensures ∙ not-true _ c.if-not-const_good.true)
+returns-then-not-const_good c = all-false _ _ _ c.loop-i-test.true (sym c.const_good.ensures ∙ c.if-not-const_good.true)
 
 pub overflow_add-i : goal.overflow_add-i
 overflow_add-i c = omega arith
@@ -48,7 +46,7 @@ loop-i-smaller c = omega arith
 
 pub loop-i-preserved : goal.loop-i-preserved
 unfolding good_const_at
-loop-i-preserved c = (omega arith, all-next _ _ c.loop-i.invariant.1 (sym c.const_good.ensures ∙ not-false _ c.if-not-const_good.false))
+loop-i-preserved c = (omega arith, all-next _ _ c.loop-i.invariant.1 (sym c.const_good.ensures ∙ c.if-not-const_good.false))
 
 pub returns : goal.returns
 returns c = all_end _ _ _ c.loop-i.invariant.0 c.loop-i-test.false c.loop-i.invariant.1

@@ -2,6 +2,7 @@
 use native.Mathlib.Omega.{arith}
 use Rattle.ty.proofs.Ranges.{record-within}
 use Rattle.ty.proofs.CountLaws.{length-sums, count-array, count-record, count-rises, count-leaf}
+use borrow.Enum.Refused.{opened}
 use Rattle.ty.proofs.count_type.Goals as goal
 
 pub overflow_add-first : goal.overflow_add-first
@@ -23,4 +24,4 @@ pub returns-in-Record : goal.returns-in-Record
 returns-in-Record c = search (count-record, record-within)
 
 pub returns-in_default : goal.returns-in_default
-returns-in_default c = search count-leaf
+returns-in_default c = let k3 = opened c.in_default.in_default-own.keys3 in search count-leaf

@@ -4,10 +4,11 @@ use borrow.Author.Tests.{lt-leb, le-leb, lt-ltb, le-ltb}
 use Rattle.ty.specs.Scalars.{elem_size, narrow}
 use Rattle.ty.specs.View.{read_ty}
 use Rattle.ty.proofs.Lookup.{not_int}
+use borrow.Enum.Refused.{opened}
 use Rattle.ty.proofs.elem_size.Goals as goal
 
 pub returns-in_default : goal.returns-in_default
-returns-in_default c = c.scalar_size.ensures ∙ not_int _ c.in_default.in_default-own.keys2
+returns-in_default c = c.scalar_size.ensures ∙ not_int _ (opened c.in_default.in_default-own.keys2)
 
 pub returns-then-l-lt9223372034707292160 : goal.returns-then-l-lt9223372034707292160
 unfolding elem_size read_ty narrow

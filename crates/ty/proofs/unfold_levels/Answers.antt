@@ -11,7 +11,7 @@ pub unfold_level-requires : goal.unfold_level-requires
 unfold_level-requires c = (c.loop-k.invariant.third, c.requires.fits.fields, capped-counts _ _ _ _ c.loop-k.invariant.level)
 
 pub unfold_level-requires-in-loop-k : goal.unfold_level-requires-in-loop-k
-unfold_level-requires-in-loop-k c = (c.unfold_level.auto.1.1.1.0 ∙ c.loop-k.invariant.third, c.requires.fits.fields, capped-counts _ _ _ _ (next_level _ _ _ (2 * c.loop-k.k + 2) _ _ _ c.loop-k.invariant.level (omega arith) (omega arith) c.loop-k.invariant.second c.unfold_level.ensures))
+unfold_level-requires-in-loop-k c = (c.unfold_level.auto.sums ∙ c.loop-k.invariant.third, c.requires.fits.fields, capped-counts _ _ _ _ (next_level _ _ _ (2 * c.loop-k.k + 2) _ _ _ c.loop-k.invariant.level (omega arith) (omega arith) c.loop-k.invariant.second c.unfold_level.ensures))
 
 pub overflow_add-k : goal.overflow_add-k
 overflow_add-k c = omega (arith, c.loop-k.invariant.bound)
@@ -20,7 +20,7 @@ pub loop-k-smaller : goal.loop-k-smaller
 loop-k-smaller c = omega (arith, c.loop-k.invariant.bound)
 
 pub loop-k-preserved : goal.loop-k-preserved
-loop-k-preserved c = record { bound = omega (arith, c.loop-k-test.true); level = next_level _ _ _ _ _ _ _ (next_level _ _ _ (2 * c.loop-k.k + 2) _ _ _ c.loop-k.invariant.level (omega arith) (omega arith) c.loop-k.invariant.second c.unfold_level.ensures) (omega arith) (omega arith) (length-counts _ _ _ _ c.loop-k.invariant.level) c.unfold_level-in-loop-k.ensures; second = c.unfold_level.auto.1.1.1.1.0 ∙ c.loop-k.invariant.second; third = c.unfold_level-in-loop-k.auto.1.1.1.0 ∙ c.unfold_level.auto.1.1.1.0 ∙ c.loop-k.invariant.third }
+loop-k-preserved c = record { bound = omega (arith, c.loop-k-test.true); level = next_level _ _ _ _ _ _ _ (next_level _ _ _ (2 * c.loop-k.k + 2) _ _ _ c.loop-k.invariant.level (omega arith) (omega arith) c.loop-k.invariant.second c.unfold_level.ensures) (omega arith) (omega arith) (length-counts _ _ _ _ c.loop-k.invariant.level) c.unfold_level-in-loop-k.ensures; second = c.unfold_level.auto.next ∙ c.loop-k.invariant.second; third = c.unfold_level-in-loop-k.auto.sums ∙ c.unfold_level.auto.sums ∙ c.loop-k.invariant.third }
 
 pub shape_of-counts : goal.shape_of-counts
 shape_of-counts c = length-counts _ _ _ _ c.loop-k.invariant.level ∙ sym c.requires.fits.first

@@ -1,6 +1,5 @@
 -- `wanted_door::list_roots` meets its contract.
 use mathlib.Core.Path.{refl}
-use borrow.Author.Tests.{not-true, not-false}
 use native.Mathlib.Omega.{arith}
 use Rattle.ty.specs.View.{table_of}
 use Rattle.mark.proofs.Formed.{formed-fit, formed-seals, seals-end}
@@ -23,10 +22,10 @@ pub pick_roots-requires : goal.pick_roots-requires
 pick_roots-requires c = record { fit = formed-fit c.args.heap c.args.narrow.now c.args.wide.now c.args.pool.now c.requires.formed; clear = search-clear c.args.heap c.args.narrow.now c.args.wide.now c.args.pool.now c.args.wanted.now c.args.marks.now c.args.work.now c.requires }
 
 pub returns-then-not-pick_roots : goal.returns-then-not-pick_roots
-returns-then-not-pick_roots c = none_found c.args.heap c.args.narrow.now c.args.wide.now c.args.pool.now c.args.wanted.now c.args.marks.now c.args.work.now c.requires (table_of c.args.types.now c.args.fields.now c.args.consts.now c.args.bytes.now) _ (formed-seals c.args.heap c.args.narrow.now c.args.wide.now c.args.pool.now c.requires.formed _ _ refl refl) c.args.pins.now c.pick_roots.result c.pick_roots.new.work.1.1.1.1.1.1.1.1.1.1.1.1.1.0 c.pick_roots.ensures.work_after c.args.out.now (not-true _ c.if-not-pick_roots.true)
+returns-then-not-pick_roots c = none_found c.args.heap c.args.narrow.now c.args.wide.now c.args.pool.now c.args.wanted.now c.args.marks.now c.args.work.now c.requires (table_of c.args.types.now c.args.fields.now c.args.consts.now c.args.bytes.now) _ (formed-seals c.args.heap c.args.narrow.now c.args.wide.now c.args.pool.now c.requires.formed _ _ refl refl) c.args.pins.now c.pick_roots.result c.pick_roots.new.work c.pick_roots.ensures.work_after c.args.out.now c.if-not-pick_roots.true
 
 pub name_roots-requires : goal.name_roots-requires
-name_roots-requires c = can-name c.args.heap c.args.narrow.now c.args.wide.now c.args.pool.now c.args.wanted.now c.args.marks.now c.args.work.now c.requires (c.pick_roots.ensures.inside (not-false _ c.if-not-pick_roots.false)) _ c.pick_roots.auto.1.1.1.1.1.1.1.1.1.1.1.1.1.1.0
+name_roots-requires c = can-name c.args.heap c.args.narrow.now c.args.wide.now c.args.pool.now c.args.wanted.now c.args.marks.now c.args.work.now c.requires (c.pick_roots.ensures.inside c.if-not-pick_roots.false) _ c.pick_roots.auto.work
 
 pub returns : goal.returns
-returns c = roots-found c.args.heap c.args.narrow.now c.args.wide.now c.args.pool.now c.args.wanted.now c.args.marks.now c.args.work.now c.requires (table_of c.args.types.now c.args.fields.now c.args.consts.now c.args.bytes.now) _ (formed-seals c.args.heap c.args.narrow.now c.args.wide.now c.args.pool.now c.requires.formed _ _ refl refl) c.args.pins.now c.pick_roots.result c.pick_roots.new.work.1.1.1.1.1.1.1.1.1.1.1.1.1.0 c.pick_roots.ensures.work_after c.args.out.now (not-false _ c.if-not-pick_roots.false) (c.pick_roots.ensures.inside (not-false _ c.if-not-pick_roots.false)) c.name_roots.result c.name_roots.new.1.1.1.1.0 c.name_roots.ensures
+returns c = roots-found c.args.heap c.args.narrow.now c.args.wide.now c.args.pool.now c.args.wanted.now c.args.marks.now c.args.work.now c.requires (table_of c.args.types.now c.args.fields.now c.args.consts.now c.args.bytes.now) _ (formed-seals c.args.heap c.args.narrow.now c.args.wide.now c.args.pool.now c.requires.formed _ _ refl refl) c.args.pins.now c.pick_roots.result c.pick_roots.new.work c.pick_roots.ensures.work_after c.args.out.now c.if-not-pick_roots.false (c.pick_roots.ensures.inside c.if-not-pick_roots.false) c.name_roots.result c.name_roots.new.out c.name_roots.ensures

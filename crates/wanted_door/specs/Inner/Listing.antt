@@ -1,6 +1,5 @@
 -- What the functions that search and list the roots ask and write.
-use Rattle.std.specs.Prelude.{◌≡◌, true, List, map, ℕ, ◌≤◌, length, get_or, replicate, leb}
-use Rattle.word.specs.Choice.{if◌then◌else◌}
+use Rattle.std.specs.Prelude.{◌≡◌, true, List, map, ℕ, ◌≤◌, length, get_or, replicate, leb, if◌then◌else◌}
 use Rattle.word.specs.Result.{Result, ok, refused}
 use Rattle.handle.specs.Handle.{packed}
 use Rattle.heap.specs.Lent.{Lent, slot_count}

@@ -4,13 +4,12 @@ use Rattle.ty.specs.View.{table_of}
 use Rattle.frame.specs.Frame.{frame_handles, addresses_in}
 use Rattle.roots.specs.Calls.{Lent}
 use Rattle.collect.proofs.Looking.{small, row-past, rows-again, at_none, at_row}
-use borrow.Author.Tests.{not-true}
 use Rattle.collect.proofs.joined.collect_at.Goals as goal
 
 pub returns-then-not-root_row : goal.returns-then-not-root_row
 returns-then-not-root_row c = let f : Lent = record { kinds = c.args.kinds.now; ends = c.args.ends.now; refs = c.args.refs.now; blocks = c.args.blocks.now; classes = c.args.classes.now } in
     let t = table_of c.args.types.now c.args.fields.now c.args.consts.now c.args.bytes.now in
-    let h = frame_handles t c.args.map.now c.args.memory.now in record { tells = at_none f c.args.pc c.args.values.now c.args.rows.now _ c.requires.can_look _ c.root_row.ensures t h c.args.pins.now c.args.addresses.now (addresses_in t c.args.map.now c.args.memory.now) _ c.if-not-root_row.true c.requires.can_collect.formed; marks_unchanged = (refl, refl, c.root_row.ensures.stays (not-true _ c.if-not-root_row.true)) }
+    let h = frame_handles t c.args.map.now c.args.memory.now in record { tells = at_none f c.args.pc c.args.values.now c.args.rows.now _ c.requires.can_look _ c.root_row.ensures t h c.args.pins.now c.args.addresses.now (addresses_in t c.args.map.now c.args.memory.now) _ c.if-not-root_row.true c.requires.can_collect.formed; marks_unchanged = (refl, refl, c.root_row.ensures.stays c.if-not-root_row.true) }
 
 pub overflow_add-words : goal.overflow_add-words
 overflow_add-words c = record { fits = (small _ _ _ c.requires.can_look).sum }
@@ -34,22 +33,22 @@ pub collect_row-r-requires : goal.collect_row-r-requires
 collect_row-r-requires c = record { can_collect = c.requires.can_collect; ordered = record { paired = c.requires.addresses_value; valued = sym c.requires.can_look.valued } }
 
 pub shape_of-narrow : goal.shape_of-narrow
-shape_of-narrow c = c.collect_row-r.auto.1.1.1.1.1.0
+shape_of-narrow c = c.collect_row-r.auto.narrow
 
 pub shape_of-wide : goal.shape_of-wide
-shape_of-wide c = c.collect_row-r.auto.1.1.1.1.1.1.0
+shape_of-wide c = c.collect_row-r.auto.wide
 
 pub shape_of-pool : goal.shape_of-pool
-shape_of-pool c = c.collect_row-r.auto.1.1.1.1.1.1.1.0
+shape_of-pool c = c.collect_row-r.auto.pool
 
 pub shape_of-marks : goal.shape_of-marks
-shape_of-marks c = c.collect_row-r.auto.1.1.1.1.1.1.1.1.1.1.1.1.1.1.1.0
+shape_of-marks c = c.collect_row-r.auto.marks
 
 pub shape_of-work : goal.shape_of-work
-shape_of-work c = c.collect_row-r.auto.1.1.1.1.1.1.1.1.1.1.1.1.1.1.1.1.0
+shape_of-work c = c.collect_row-r.auto.work
 
 pub shape_of-rows : goal.shape_of-rows
-shape_of-rows c = c.clear_u64.auto.0 ∙ c.root_row.auto.1.1.1.1.1.1.0
+shape_of-rows c = c.clear_u64.auto.dst ∙ c.root_row.auto.rows
 
 pub returns : goal.returns
 returns c = let f : Lent = record { kinds = c.args.kinds.now; ends = c.args.ends.now; refs = c.args.refs.now; blocks = c.args.blocks.now; classes = c.args.classes.now } in

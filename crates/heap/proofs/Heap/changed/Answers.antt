@@ -4,4 +4,4 @@ use Rattle.heap.specs.Header.{set_epoch}
 use Rattle.heap.proofs.Heap.changed.Goals as goal
 
 pub returns : goal.returns
-returns c = ap (λ (e : ℕ). set_epoch c.args.t1 e (set c.args.t1.log (e % 16) c.args.i)) c.wrapping_add_u64-e.ensures
+returns c = ap (λ (e : ℕ). set_epoch c.args.self e (set c.args.self.log (e % 16) c.args.i)) c.wrapping_add_u64-e.ensures.value

@@ -42,7 +42,7 @@ pub fill_u32-requires : goal.fill_u32-requires
 fill_u32-requires c = in-fill c.args.all c.args.f c.args.r c.args.q (c.args.pins.now ++ marked_slots c.args.marks.now) c.args.narrow.now c.requires.q_bound.0 c.requires.q_bound.1 c.requires.q_bound.2 c.loop-j.invariant
 
 pub shape_of-narrow : goal.shape_of-narrow
-shape_of-narrow c = in-same c.args.all c.args.f c.args.r c.args.q (c.args.pins.now ++ marked_slots c.args.marks.now) c.args.narrow.now c.requires.q_bound.0 c.requires.q_bound.1 c.requires.q_bound.2 c.loop-j.invariant c.fill_u32.new.dst c.fill_u32.auto.0
+shape_of-narrow c = in-same c.args.all c.args.f c.args.r c.args.q (c.args.pins.now ++ marked_slots c.args.marks.now) c.args.narrow.now c.requires.q_bound.0 c.requires.q_bound.1 c.requires.q_bound.2 c.loop-j.invariant c.fill_u32.new.dst c.fill_u32.auto.dst
 
 pub returns : goal.returns
-returns c = in-last c.args.all c.args.f c.args.r c.args.q (c.args.pins.now ++ marked_slots c.args.marks.now) c.args.narrow.now c.requires.q_bound.0 c.requires.q_bound.1 c.requires.q_bound.2 c.loop-j.invariant c.fill_u32.new.dst c.fill_u32.auto.0 c.loop-j-test.false c.fill_u32.ensures
+returns c = in-last c.args.all c.args.f c.args.r c.args.q (c.args.pins.now ++ marked_slots c.args.marks.now) c.args.narrow.now c.requires.q_bound.0 c.requires.q_bound.1 c.requires.q_bound.2 c.loop-j.invariant c.fill_u32.new.dst c.fill_u32.auto.dst c.loop-j-test.false c.fill_u32.ensures

@@ -1,6 +1,6 @@
 -- `heap_calls::recycle::recycle_marked` meets its contract: the lists, and the four numbers of the header.
 use native.Mathlib.Omega.{arith}
-use mathlib.Core.List.{◌∷◌}
+use mathlib.Core.List.{◌∷◌, []}
 use Rattle.heap.specs.Lent.{lent}
 use Rattle.heap_calls.proofs.Recycling.{lists-can}
 use Rattle.heap_calls.proofs.Going.{entries-are, kept-few, recycled-leaves}

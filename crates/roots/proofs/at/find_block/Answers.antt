@@ -1,7 +1,7 @@
 use native.Mathlib.Omega.{arith}
-use mathlib.Core.Logic.{⊎_elim}
 use Rattle.roots.proofs.Answers.{seeks-none, seeks-on, seeks-found, seeks-end}
 use Rattle.roots.proofs.at.find_block.Goals as goal
+use Rattle.roots.proofs.at.find_block.Goals.{then-st-pc+else-pc-e, else-st-pc}
 
 pub loop-b-init : goal.loop-b-init
 loop-b-init c = seeks-none _ _ _
@@ -38,7 +38,7 @@ loop-b-smaller c = omega arith
 
 pub loop-b-preserved : goal.loop-b-preserved
 loop-b-preserved c = seeks-on c.loop-b.invariant c.loop-b-test.true
-    (⊎_elim (λ w. λ l m. omega (arith, c.wide-st.ensures, c.wide-e.ensures, w.1.left)) (λ w. λ l m. omega (arith, c.wide-st.ensures, w.left)) c.if-st-pc.branch)
+    (elim c.if-st-pc.branch [ then-st-pc+else-pc-e w ↦ λ l m. omega (arith, c.wide-st.ensures, c.wide-e.ensures, w.if-pc-e.false) | else-st-pc w ↦ λ l m. omega (arith, c.wide-st.ensures, w.if-st-pc.false) ])
 
 pub returns : goal.returns
 returns c = seeks-end c.loop-b.invariant c.loop-b-test.false

@@ -13,7 +13,7 @@ pub analyse-requires : goal.analyse-requires
 analyse-requires c = record { classes_value = c.requires.classes_value; nb_value = (c.requires.nb_value.0, c.requires.nb_value.2, c.requires.nb_value.3) }
 
 pub gather-requires : goal.gather-requires
-gather-requires c = (c.requires.nb_value.1, omega (arith, c.requires.nb_value.2, c.analyse.ensures.0))
+gather-requires c = record { columns = formed-columns c.args.kinds.now c.args.ends.now c.args.refs.now c.args.blocks.now c.args.classes.now c.requires.classes_value; nb_value = (c.requires.nb_value.0, c.requires.nb_value.1, omega (arith, c.requires.nb_value.2, c.analyse.ensures.0), λ h. c.analyse.ensures.1.linked h) }
 
 pub overflow_mul-b : goal.overflow_mul-b
 overflow_mul-b c = omega arith
@@ -37,4 +37,4 @@ pub back_at-requires : goal.back_at-requires
 back_at-requires c = record { words_in_bounds = omega (arith, c.requires.nb_value.2, c.analyse.ensures.0, c.gather.ensures.0.kept); from_le_to = (omega (arith, c.requires.b_bound.1, c.wide-e.ensures), subst (λ (u : ℕ). 3 * u ≤ length c.args.ends.now) (sym c.wide-e.ensures) (ends-inside c.args.kinds.now c.args.ends.now c.args.refs.now c.args.blocks.now c.args.classes.now c.requires.classes_value c.args.nb c.requires.nb_value.0 c.args.b c.requires.nb_value.1 (omega (arith, c.requires.b_bound.0, c.requires.b_bound.1))), c.requires.nb_value.3, (formed-columns c.args.kinds.now c.args.ends.now c.args.refs.now c.args.blocks.now c.args.classes.now c.requires.classes_value).lists) }
 
 pub returns : goal.returns
-returns c = (c.back_at.ensures.0.kept ∙ c.gather.ensures.0.kept ∙ c.analyse.ensures.0, live-row-cells (seen (wanted c.args.which) c.args.kinds.now c.args.ends.now c.args.refs.now c.args.blocks.now c.args.classes.now) c.analyse.new.s c.gather.new.s c.back_at.new.s c.args.words c.args.nb c.args.b c.args.pc c.wide-e.result c.analyse.ensures.1 c.requires.nb_value.1 (c.wide-e.ensures ∙ sym (end-view (wanted c.args.which) c.args.kinds.now c.args.ends.now c.args.refs.now c.args.blocks.now c.args.classes.now c.args.b (omega (arith, c.requires.nb_value.0, c.requires.nb_value.1)))) c.gather.ensures.1 (c.back_at.ensures.1 c.args.kinds.now c.args.blocks.now))
+returns c = (c.back_at.ensures.0.kept ∙ c.gather.ensures.0.kept ∙ c.analyse.ensures.0, live-row-cells (seen (wanted c.args.which) c.args.kinds.now c.args.ends.now c.args.refs.now c.args.blocks.now c.args.classes.now) c.args.blocks.now c.analyse.new.s c.gather.new.s c.back_at.new.s c.args.words c.args.nb c.args.b c.args.pc c.wide-e.result c.analyse.ensures.1 (c.wide-e.ensures ∙ sym (end-view (wanted c.args.which) c.args.kinds.now c.args.ends.now c.args.refs.now c.args.blocks.now c.args.classes.now c.args.b (omega (arith, c.requires.nb_value.0, c.requires.nb_value.1)))) (c.gather.ensures.1 (wanted c.args.which) c.args.classes.now) (c.back_at.ensures.1 c.args.kinds.now c.args.blocks.now))

@@ -24,7 +24,7 @@ pub bounds-blocks-c : goal.bounds-blocks-c
 bounds-blocks-c c = omega (arith, c.requires.0, c.requires.1, c.loop-c-test.true)
 
 pub returns-then-wide-pc : goal.returns-then-wide-pc
-returns-then-wide-pc c = (chase-found c.loop-c.invariant c.loop-c-test.true _ c.wide.ensures c.if-wide-pc.true, omega arith)
+returns-then-wide-pc c = chase-found c.loop-c.invariant c.loop-c-test.true _ c.wide.ensures c.if-wide-pc.true
 
 pub offset_bounds-links-c : goal.offset_bounds-links-c
 offset_bounds-links-c c = omega arith
@@ -39,4 +39,4 @@ pub loop-c-preserved : goal.loop-c-preserved
 loop-c-preserved c = chase-on c.loop-c.invariant c.requires.2 c.loop-c-test.true _ _ c.wide.ensures c.if-wide-pc.false c.short-c-in-loop-c.ensures
 
 pub returns : goal.returns
-returns c = (chase-end c.loop-c.invariant c.loop-c-test.false, omega arith)
+returns c = chase-end c.loop-c.invariant c.loop-c-test.false

@@ -1,6 +1,5 @@
 use native.Mathlib.Omega.{arith}
 use mathlib.Core.Path.{refl, sym}
-use borrow.Author.Tests.{not-true, not-false}
 use Rattle.roots.proofs.Checks.{holds, fails}
 use Rattle.roots.proofs.Marks.{marked-is, held_none, held_on, held-end, held-met}
 use Rattle.roots.proofs.check.blocks_apart.Goals as goal
@@ -36,7 +35,7 @@ pub mark_block-requires : goal.mark_block-requires
 mark_block-requires c = λ h. omega (arith, c.loop-b.invariant.len, c.wide-e.ensures, c.requires.1 c.loop-b.b (omega (arith, c.requires.0, c.loop-b-test.true)) (omega (arith, c.wide-st.ensures, c.wide-e.ensures)))
 
 pub returns-then-not-mark_block : goal.returns-then-not-mark_block
-returns-then-not-mark_block c = fails (held-met c.loop-b.invariant _ _ _ c.requires.0 c.loop-b-test.true c.wide-st.ensures c.wide-e.ensures (marked-is (not-true _ c.if-not-mark_block.true) c.mark_block.ensures))
+returns-then-not-mark_block c = fails (held-met c.loop-b.invariant _ _ _ c.requires.0 c.loop-b-test.true c.wide-st.ensures c.wide-e.ensures (marked-is c.if-not-mark_block.true c.mark_block.ensures))
 
 pub overflow_add-b-in-loop-b : goal.overflow_add-b-in-loop-b
 overflow_add-b-in-loop-b c = omega arith
@@ -45,7 +44,7 @@ pub loop-b-smaller : goal.loop-b-smaller
 loop-b-smaller c = omega arith
 
 pub loop-b-preserved : goal.loop-b-preserved
-loop-b-preserved c = held_on c.loop-b.invariant _ _ _ c.loop-b-test.true c.wide-st.ensures c.wide-e.ensures c.mark_block.auto.0 (marked-is (not-false _ c.if-not-mark_block.false) c.mark_block.ensures)
+loop-b-preserved c = held_on c.loop-b.invariant _ _ _ c.loop-b-test.true c.wide-st.ensures c.wide-e.ensures c.mark_block.auto.marks (marked-is c.if-not-mark_block.false c.mark_block.ensures)
 
 pub returns : goal.returns
 returns c = holds (held-end c.loop-b.invariant c.requires.0 c.loop-b-test.false)

@@ -1,7 +1,7 @@
 use native.Mathlib.Omega.{arith}
-use mathlib.Core.Logic.{⊎_elim}
 use Rattle.roots.proofs.Checks.{holds, fails, upto-none, upto-on, upto-end}
 use Rattle.roots.proofs.check.blocks_inside.Goals as goal
+use Rattle.roots.proofs.check.blocks_inside.Goals.{then-st-e+else-count-e, else-st-e}
 
 pub loop-b-init : goal.loop-b-init
 loop-b-init c = upto-none _ _
@@ -37,7 +37,7 @@ pub loop-b-smaller : goal.loop-b-smaller
 loop-b-smaller c = omega arith
 
 pub loop-b-preserved : goal.loop-b-preserved
-loop-b-preserved c = upto-on c.loop-b.invariant c.loop-b-test.true (λ l. ⊎_elim (λ w. omega (arith, c.wide-e.ensures, w.1.left)) (λ w. omega (arith, c.wide-st.ensures, c.wide-e.ensures, w.left)) c.if-st-e.branch)
+loop-b-preserved c = upto-on c.loop-b.invariant c.loop-b-test.true (λ l. elim c.if-st-e.branch [ then-st-e+else-count-e w ↦ omega (arith, c.wide-e.ensures, w.if-count-e.false) | else-st-e w ↦ omega (arith, c.wide-st.ensures, c.wide-e.ensures, w.if-st-e.false) ])
 
 pub returns : goal.returns
 returns c = holds (λ k l. upto-end c.loop-b.invariant c.loop-b-test.false k (omega (arith, c.requires)))

@@ -1,7 +1,6 @@
 -- `roots::check::check_function` meets its contract.
 use native.Mathlib.Omega.{arith}
 use mathlib.Core.Path.{refl}
-use borrow.Author.Tests.{not-true, not-false}
 use Rattle.roots.proofs.Checks.{holds, fails, refuted, is-formed}
 use Rattle.roots.proofs.check.check_function.Goals as goal
 
@@ -24,22 +23,22 @@ pub returns-then-blocks-ne0 : goal.returns-then-blocks-ne0
 returns-then-blocks-ne0 c = is-formed c.args.kinds.now c.args.ends.now c.args.refs.now c.args.blocks.now c.args.classes.now _ (fails (λ v. c.if-blocks-ne0.true v.pairs))
 
 pub returns-then-not-lists_fit : goal.returns-then-not-lists_fit
-returns-then-not-lists_fit c = is-formed c.args.kinds.now c.args.ends.now c.args.refs.now c.args.blocks.now c.args.classes.now _ (fails (λ v. refuted _ c.lists_fit.ensures (not-true _ c.if-not-lists_fit.true) v.lists))
+returns-then-not-lists_fit c = is-formed c.args.kinds.now c.args.ends.now c.args.refs.now c.args.blocks.now c.args.classes.now _ (fails (λ v. refuted _ c.lists_fit.ensures c.if-not-lists_fit.true v.lists))
 
 pub returns-then-not-all_at_most : goal.returns-then-not-all_at_most
-returns-then-not-all_at_most c = is-formed c.args.kinds.now c.args.ends.now c.args.refs.now c.args.blocks.now c.args.classes.now _ (fails (λ v. refuted _ c.all_at_most.ensures (not-true _ c.if-not-all_at_most.true) v.kinds-known))
+returns-then-not-all_at_most c = is-formed c.args.kinds.now c.args.ends.now c.args.refs.now c.args.blocks.now c.args.classes.now _ (fails (λ v. refuted _ c.all_at_most.ensures c.if-not-all_at_most.true v.kinds-known))
 
 pub returns-then-not-all_at_most-2 : goal.returns-then-not-all_at_most-2
-returns-then-not-all_at_most-2 c = is-formed c.args.kinds.now c.args.ends.now c.args.refs.now c.args.blocks.now c.args.classes.now _ (fails (λ v. refuted _ c.all_at_most-2.ensures (not-true _ c.if-not-all_at_most-2.true) v.classes-known))
+returns-then-not-all_at_most-2 c = is-formed c.args.kinds.now c.args.ends.now c.args.refs.now c.args.blocks.now c.args.classes.now _ (fails (λ v. refuted _ c.all_at_most-2.ensures c.if-not-all_at_most-2.true v.classes-known))
 
 pub returns-then-not-blocks_inside : goal.returns-then-not-blocks_inside
-returns-then-not-blocks_inside c = is-formed c.args.kinds.now c.args.ends.now c.args.refs.now c.args.blocks.now c.args.classes.now _ (fails (λ v. refuted _ c.blocks_inside.ensures (not-true _ c.if-not-blocks_inside.true) v.inside))
+returns-then-not-blocks_inside c = is-formed c.args.kinds.now c.args.ends.now c.args.refs.now c.args.blocks.now c.args.classes.now _ (fails (λ v. refuted _ c.blocks_inside.ensures c.if-not-blocks_inside.true v.inside))
 
 pub blocks_apart-requires : goal.blocks_apart-requires
-blocks_apart-requires c = (refl, λ b k l. omega (arith, c.blocks_inside.ensures.0 (not-false _ c.if-not-blocks_inside.false) b k l, c.if-kinds-gt65536.false))
+blocks_apart-requires c = (refl, λ b k l. omega (arith, c.blocks_inside.ensures.0 c.if-not-blocks_inside.false b k l, c.if-kinds-gt65536.false))
 
 pub returns-then-not-blocks_apart : goal.returns-then-not-blocks_apart
-returns-then-not-blocks_apart c = is-formed c.args.kinds.now c.args.ends.now c.args.refs.now c.args.blocks.now c.args.classes.now _ (fails (λ v. refuted _ c.blocks_apart.ensures (not-true _ c.if-not-blocks_apart.true) v.apart))
+returns-then-not-blocks_apart c = is-formed c.args.kinds.now c.args.ends.now c.args.refs.now c.args.blocks.now c.args.classes.now _ (fails (λ v. refuted _ c.blocks_apart.ensures c.if-not-blocks_apart.true v.apart))
 
 pub returns : goal.returns
 returns c = is-formed c.args.kinds.now c.args.ends.now c.args.refs.now c.args.blocks.now c.args.classes.now _ (holds (record {
@@ -48,9 +47,9 @@ returns c = is-formed c.args.kinds.now c.args.ends.now c.args.refs.now c.args.bl
       class-count = c.if-classes-gt16384.false;
       three = c.if-ends-kinds.false;
       pairs = c.if-blocks-ne0.false;
-      lists = c.lists_fit.ensures.0 (not-false _ c.if-not-lists_fit.false);
-      kinds-known = c.all_at_most.ensures.0 (not-false _ c.if-not-all_at_most.false);
-      classes-known = c.all_at_most-2.ensures.0 (not-false _ c.if-not-all_at_most-2.false);
-      inside = c.blocks_inside.ensures.0 (not-false _ c.if-not-blocks_inside.false);
-      apart = c.blocks_apart.ensures.0 (not-false _ c.if-not-blocks_apart.false);
+      lists = c.lists_fit.ensures.0 c.if-not-lists_fit.false;
+      kinds-known = c.all_at_most.ensures.0 c.if-not-all_at_most.false;
+      classes-known = c.all_at_most-2.ensures.0 c.if-not-all_at_most-2.false;
+      inside = c.blocks_inside.ensures.0 c.if-not-blocks_inside.false;
+      apart = c.blocks_apart.ensures.0 c.if-not-blocks_apart.false;
     }))

@@ -22,7 +22,7 @@ pub loop-p-smaller : goal.loop-p-smaller
 loop-p-smaller c = omega arith
 
 pub loop-p-preserved : goal.loop-p-preserved
-loop-p-preserved c = marking-on c.loop-p.invariant _ c.loop-p-test.true c.set_bit.auto.0 (sym c.test_bit.ensures ∙ c.if-test_bit.false) c.set_bit.ensures
+loop-p-preserved c = marking-on c.loop-p.invariant _ c.loop-p-test.true c.set_bit.auto.row (sym c.test_bit.ensures ∙ c.if-test_bit.false) c.set_bit.ensures
 
 pub shape_of-marks : goal.shape_of-marks
 shape_of-marks c = c.loop-p.invariant.len

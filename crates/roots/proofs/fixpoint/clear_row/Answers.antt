@@ -24,7 +24,7 @@ pub slice_bounds-clear_u64-end : goal.slice_bounds-clear_u64-end
 slice_bounds-clear_u64-end c = omega arith
 
 pub returns : goal.returns
-returns c = let l = c.clear_u64.auto.0 ∙ mid-length c.args.at c.args.words c.args.s.now (omega arith) in (
-      mid-frame c.args.at c.args.words c.args.s.now c.clear_u64.new.dst c.requires l,
-      λ q h. mid-cell c.args.at c.args.words c.args.s.now c.clear_u64.new.dst c.requires l q h ∙ ap (λ (z : List ℕ). bit_in 64 z q) c.clear_u64.ensures ∙ zero_bit (length (take ((c.args.at + c.args.words) - c.args.at) (drop c.args.at c.args.s.now))) q,
-    )
+returns c = let l = c.clear_u64.auto.dst ∙ mid-length c.args.at c.args.words c.args.s.now (omega arith) in (
+  mid-frame c.args.at c.args.words c.args.s.now c.clear_u64.new.dst c.requires l,
+  λ q h. mid-cell c.args.at c.args.words c.args.s.now c.clear_u64.new.dst c.requires l q h ∙ ap (λ (z : List ℕ). bit_in 64 z q) c.clear_u64.ensures ∙ zero_bit (length (take ((c.args.at + c.args.words) - c.args.at) (drop c.args.at c.args.s.now))) q,
+)

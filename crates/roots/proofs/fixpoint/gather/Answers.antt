@@ -1,18 +1,21 @@
 -- `roots::fixpoint::gather` meets its contract.
 use native.Mathlib.Omega.{arith}
-use mathlib.Core.Logic.{inr}
-use Prim.Native.Nat.{◌+◌, ◌*◌}
-use Rattle.roots.proofs.Scratch.{outside_trans, block-fits, gathered}
+use Rattle.roots.specs.Columns.{seen}
+use Rattle.roots.proofs.Scratch.{outside_trans, gathered}
+use Rattle.roots.proofs.Passes.{linked-out}
 use Rattle.roots.proofs.fixpoint.gather.Goals as goal
 
-pub overflow_mul-b : goal.overflow_mul-b
-overflow_mul-b c = omega (arith, block-fits c.args.b c.args.nb (3 * c.args.words) c.requires.0)
+pub overflow_mul-words : goal.overflow_mul-words
+overflow_mul-words c = omega arith
 
-pub overflow_add-b : goal.overflow_add-b
-overflow_add-b c = omega (arith, block-fits c.args.b c.args.nb (3 * c.args.words) c.requires.0, c.requires.1)
+pub overflow_mul-nb : goal.overflow_mul-nb
+overflow_mul-nb c = omega arith
 
-pub join-requires : goal.join-requires
-join-requires c = let fits = block-fits c.args.b c.args.nb (3 * c.args.words) c.requires.0 in (inr (omega (arith, fits)), omega (arith, fits, c.requires.1, c.clear_row.ensures.0.kept), omega (arith, c.requires.1, c.clear_row.ensures.0.kept))
+pub leave-requires : goal.leave-requires
+leave-requires c = record { columns = c.requires.columns; nb_value = (c.requires.nb_value.0, c.requires.nb_value.1, omega (arith, c.requires.nb_value.2, c.clear_row.ensures.0.kept), λ h. linked-out (c.requires.nb_value.3 h) c.clear_row.ensures.0) }
 
 pub returns : goal.returns
-returns c = (outside_trans c.clear_row.ensures.0 c.join.ensures.0, λ q h. gathered c.join.new.s (c.args.nb * (3 * c.args.words)) c.args.words (c.args.b * (3 * c.args.words) + 2 * c.args.words) c.clear_row.ensures.0 q h (omega (arith, block-fits c.args.b c.args.nb (3 * c.args.words) c.requires.0)) (c.clear_row.ensures.1 q h) (c.join.ensures.1 q h))
+returns c = (
+  outside_trans c.clear_row.ensures.0 c.leave.ensures.0,
+  λ t cs q h. gathered c.leave.new.s c.args.nb c.args.words (seen t c.args.kinds.now c.args.ends.now c.args.refs.now c.args.blocks.now cs) c.args.b c.clear_row.ensures.0 q h (c.clear_row.ensures.1 q h) (c.leave.ensures.1 t cs q h),
+)

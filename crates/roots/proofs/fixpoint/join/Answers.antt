@@ -36,7 +36,7 @@ pub loop-w-smaller : goal.loop-w-smaller
 loop-w-smaller c = omega arith
 
 pub loop-w-preserved : goal.loop-w-preserved
-loop-w-preserved c = joins-on c.loop-w.invariant c.loop-w-test.true c.requires.0 c.requires.2
+loop-w-preserved c = joins-on c.loop-w.invariant c.loop-w-test.true c.requires.0 c.requires.1
 
 pub shape_of-s : goal.shape_of-s
 shape_of-s c = c.loop-w.invariant.kept

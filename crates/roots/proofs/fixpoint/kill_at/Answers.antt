@@ -27,8 +27,8 @@ pub kill_row-requires : goal.kill_row-requires
 kill_row-requires c = let l = mid-length c.args.at c.args.words c.args.s.now (omega arith) in (c.requires.from_le_to.0, c.requires.from_le_to.1, omega (arith, l, c.requires.from_le_to.2), c.requires.from_le_to.3)
 
 pub returns : goal.returns
-returns c = let l = c.kill_row.auto.0 ∙ mid-length c.args.at c.args.words c.args.s.now (omega arith) in (
-      mid-frame c.args.at c.args.words c.args.s.now c.kill_row.new.row c.requires.words_in_bounds l,
-      λ ks bs q h. mid-cell c.args.at c.args.words c.args.s.now c.kill_row.new.row c.requires.words_in_bounds l q h ∙ c.kill_row.ensures ks bs q
-          ∙ ap (λ (x : Bool). killed (seen (wanted c.args.which) ks c.args.ends.now c.args.refs.now bs c.args.classes.now) q c.args.from (c.args.to - c.args.from) || x) (mid-bit c.args.at c.args.words c.args.s.now q h),
-    )
+returns c = let l = c.kill_row.auto.row ∙ mid-length c.args.at c.args.words c.args.s.now (omega arith) in (
+  mid-frame c.args.at c.args.words c.args.s.now c.kill_row.new.row c.requires.words_in_bounds l,
+  λ ks bs q h. mid-cell c.args.at c.args.words c.args.s.now c.kill_row.new.row c.requires.words_in_bounds l q h ∙ c.kill_row.ensures ks bs q
+      ∙ ap (λ (x : Bool). killed (seen (wanted c.args.which) ks c.args.ends.now c.args.refs.now bs c.args.classes.now) q c.args.from (c.args.to - c.args.from) || x) (mid-bit c.args.at c.args.words c.args.s.now q h),
+)

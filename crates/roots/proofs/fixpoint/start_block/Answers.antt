@@ -1,10 +1,11 @@
 -- `roots::fixpoint::start_block` meets its contract.
 use native.Mathlib.Omega.{arith}
-use mathlib.Core.Path.{sym, subst}
+use mathlib.Core.Path.{sym, ◌∙◌, subst}
 use Prim.Native.Nat.{ℕ, ◌*◌, ◌≤◌}
-use lib.ListN.{length}
+use lib.ListN.{length, length-set}
 use Rattle.roots.specs.Columns.{wanted}
 use Rattle.roots.proofs.Scratch.{block-fits}
+use Rattle.roots.proofs.Chaining.{first-start}
 use Rattle.roots.proofs.Builds.{begun-none, begun-rows}
 use Rattle.roots.proofs.fixpoint.start_block.Goals as goal
 
@@ -39,13 +40,31 @@ pub overflow_mul-at-2 : goal.overflow_mul-at-2
 overflow_mul-at-2 c = omega (arith, block-fits c.args.b c.args.nb (3 * c.args.words) c.requires.nb_value.1)
 
 pub back_at-requires : goal.back_at-requires
-back_at-requires c = record { words_in_bounds = omega (arith, block-fits c.args.b c.args.nb (3 * c.args.words) c.requires.nb_value.1, c.requires.nb_value.2); from_le_to = (omega (arith, c.if-e-st.false), subst (λ (u : ℕ). 3 * u ≤ length c.args.ends.now) (sym c.wide-e.ensures) (c.requires.b_in_bounds (omega (arith, c.wide-st.ensures, c.wide-e.ensures, c.if-e-st.false))), c.requires.nb_value.3, c.requires.nb_value.4) }
+back_at-requires c = record { words_in_bounds = omega (arith, block-fits c.args.b c.args.nb (3 * c.args.words) c.requires.nb_value.1, c.requires.nb_value.2); from_le_to = (omega (arith, c.if-e-st.false), subst (λ (u : ℕ). 3 * u ≤ length c.args.ends.now) (sym c.wide-e.ensures) (c.requires.b_in_bounds (omega (arith, c.wide-st.ensures, c.wide-e.ensures, c.if-e-st.false))), c.requires.nb_value.3, c.requires.nb_value.5) }
 
 pub overflow_add-at : goal.overflow_add-at
 overflow_add-at c = omega (arith, block-fits c.args.b c.args.nb (3 * c.args.words) c.requires.nb_value.1, c.requires.nb_value.2)
 
 pub kill_at-requires : goal.kill_at-requires
-kill_at-requires c = record { words_in_bounds = omega (arith, block-fits c.args.b c.args.nb (3 * c.args.words) c.requires.nb_value.1, c.requires.nb_value.2, c.back_at.ensures.0.kept); from_le_to = (omega (arith, c.if-e-st.false), subst (λ (u : ℕ). 3 * u ≤ length c.args.ends.now) (sym c.wide-e.ensures) (c.requires.b_in_bounds (omega (arith, c.wide-st.ensures, c.wide-e.ensures, c.if-e-st.false))), c.requires.nb_value.3, c.requires.nb_value.4) }
+kill_at-requires c = record { words_in_bounds = omega (arith, block-fits c.args.b c.args.nb (3 * c.args.words) c.requires.nb_value.1, c.requires.nb_value.2, c.back_at.ensures.0.kept); from_le_to = (omega (arith, c.if-e-st.false), subst (λ (u : ℕ). 3 * u ≤ length c.args.ends.now) (sym c.wide-e.ensures) (c.requires.b_in_bounds (omega (arith, c.wide-st.ensures, c.wide-e.ensures, c.if-e-st.false))), c.requires.nb_value.3, c.requires.nb_value.5) }
+
+pub first_at-t-requires : goal.first_at-t-requires
+first_at-t-requires c = (omega (arith, c.requires.nb_value.0), omega arith, c.requires.nb_value.6)
+
+pub overflow_mul-s : goal.overflow_mul-s
+overflow_mul-s c = omega (arith, block-fits c.args.b c.args.nb (3 * c.args.words) c.requires.nb_value.1, c.requires.nb_value.2, c.back_at.ensures.0.kept, c.kill_at.ensures.0.kept)
+
+pub overflow_add-s : goal.overflow_add-s
+overflow_add-s c = omega (arith, block-fits c.args.b c.args.nb (3 * c.args.words) c.requires.nb_value.1, c.requires.nb_value.2, c.back_at.ensures.0.kept, c.kill_at.ensures.0.kept)
+
+pub offset_bounds-s-at : goal.offset_bounds-s-at
+offset_bounds-s-at c = omega (arith, block-fits c.args.b c.args.nb (3 * c.args.words) c.requires.nb_value.1, c.requires.nb_value.2, c.back_at.ensures.0.kept, c.kill_at.ensures.0.kept)
+
+pub bounds-s-at : goal.bounds-s-at
+bounds-s-at c = omega (arith, block-fits c.args.b c.args.nb (3 * c.args.words) c.requires.nb_value.1, c.requires.nb_value.2, c.back_at.ensures.0.kept, c.kill_at.ensures.0.kept, c.requires.nb_value.4)
+
+pub shape_of-s : goal.shape_of-s
+shape_of-s c = length-set c.kill_at.new.s _ _ ∙ c.kill_at.ensures.0.kept ∙ c.back_at.ensures.0.kept
 
 pub returns : goal.returns
-returns c = begun-rows (wanted c.args.which) c.args.ends.now c.args.refs.now c.args.blocks.now c.args.classes.now c.args.nb c.args.words c.args.b c.requires.nb_value.1 c.requires.nb_value.0 _ _ c.wide-st.ensures c.wide-e.ensures c.args.s.now c.requires.by_index c.back_at.new.s c.kill_at.new.s c.back_at.ensures.0 c.back_at.ensures.1 c.kill_at.ensures.0 c.kill_at.ensures.1
+returns c = begun-rows (wanted c.args.which) c.args.ends.now c.args.refs.now c.args.blocks.now c.args.classes.now c.args.nb c.args.words c.args.b c.requires.nb_value.1 c.requires.nb_value.0 _ _ c.wide-st.ensures c.wide-e.ensures c.args.s.now c.requires.by_index c.back_at.new.s c.kill_at.new.s _ c.requires.nb_value.4 (omega (arith, c.requires.nb_value.2)) c.back_at.ensures.0 c.back_at.ensures.1 c.kill_at.ensures.0 c.kill_at.ensures.1 (first-start c.args.blocks.now _ _ _ c.first_at-t.ensures)

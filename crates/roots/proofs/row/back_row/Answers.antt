@@ -15,7 +15,7 @@ pub loop-p-smaller : goal.loop-p-smaller
 loop-p-smaller c = omega arith
 
 pub loop-p-preserved : goal.loop-p-preserved
-loop-p-preserved c = backs-on c.loop-p.invariant c.loop-p-test.true _ c.step_back.auto.0 c.step_back.ensures
+loop-p-preserved c = backs-on c.loop-p.invariant c.loop-p-test.true _ c.step_back.auto.row c.step_back.ensures
 
 pub shape_of-row : goal.shape_of-row
 shape_of-row c = c.loop-p.invariant.kept

@@ -28,7 +28,7 @@ pub loop-p-smaller : goal.loop-p-smaller
 loop-p-smaller c = omega arith
 
 pub loop-p-preserved : goal.loop-p-preserved
-loop-p-preserved c = kills-on c.loop-p.invariant c.loop-p-test.true c.requires.1 _ _ _ c.list_start-a.ensures c.wide-m.ensures c.set_all.auto.0 c.set_all.ensures
+loop-p-preserved c = kills-on c.loop-p.invariant c.loop-p-test.true c.requires.1 _ _ _ c.list_start-a.ensures c.wide-m.ensures c.set_all.auto.row c.set_all.ensures
 
 pub shape_of-row : goal.shape_of-row
 shape_of-row c = c.loop-p.invariant.kept

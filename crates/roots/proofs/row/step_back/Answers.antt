@@ -26,7 +26,7 @@ pub clear_all-requires : goal.clear_all-requires
 clear_all-requires c = let h = list-fits c.requires.2 (3 * c.args.p) _ _ (omega arith) c.list_start-a.ensures c.wide-m.ensures in (h.0, h.1, omega arith)
 
 pub set_all-requires : goal.set_all-requires
-set_all-requires c = let h = next_fits c.requires.2 (3 * c.args.p) _ _ (omega arith) c.wide-m.ensures c.wide-e.ensures in (h.0, h.1, omega (arith, c.clear_all.auto.0))
+set_all-requires c = let h = next_fits c.requires.2 (3 * c.args.p) _ _ (omega arith) c.wide-m.ensures c.wide-e.ensures in (h.0, h.1, omega (arith, c.clear_all.auto.row))
 
 pub returns : goal.returns
 returns c = stepped-back _ _ _ _ _ _ _ _ _ _ _ c.requires.0 c.list_start-a.ensures c.wide-m.ensures c.wide-e.ensures c.clear_all.ensures c.set_all.ensures

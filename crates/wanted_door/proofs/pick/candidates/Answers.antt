@@ -1,5 +1,4 @@
 use mathlib.Core.Path.{sym, ◌∙◌}
-use borrow.Author.Tests.{not-true, not-false}
 use native.Mathlib.Omega.{arith}
 use Rattle.wanted_door.proofs.Meeting.{live_below}
 use Rattle.wanted_door.proofs.Goings.{up_first, up-dead, up-stuck, up_next, up-end}
@@ -18,25 +17,25 @@ pub shape_of-work-then-not-is_live : goal.shape_of-work-then-not-is_live
 shape_of-work-then-not-is_live c = c.loop-k.invariant.words
 
 pub returns-then-not-is_live : goal.returns-then-not-is_live
-returns-then-not-is_live c = up-dead _ _ _ _ _ _ _ _ _ _ c.loop-k.invariant c.loop-k-test.true _ c.is_live.ensures (not-true _ c.if-not-is_live.true)
+returns-then-not-is_live c = up-dead _ _ _ _ _ _ _ _ _ _ c.loop-k.invariant c.loop-k-test.true _ c.is_live.ensures c.if-not-is_live.true
 
 pub meet-r-requires : goal.meet-r-requires
-meet-r-requires c = record { fit = c.requires.fit; scratch = c.loop-k.invariant.scratch; w_lt_slots = live_below _ _ _ (sym c.is_live.ensures ∙ not-false _ c.if-not-is_live.false) }
+meet-r-requires c = record { fit = c.requires.fit; scratch = c.loop-k.invariant.scratch; w_lt_slots = live_below _ _ _ (sym c.is_live.ensures ∙ c.if-not-is_live.false) }
 
 pub shape_of-marks-in_default : goal.shape_of-marks-in_default
-shape_of-marks-in_default c = c.meet-r.auto.1.1.1.1.1.1.1.1.1.1.1.1.0 ∙ c.loop-k.invariant.long
+shape_of-marks-in_default c = c.meet-r.auto.marks ∙ c.loop-k.invariant.long
 
 pub shape_of-work-in_default : goal.shape_of-work-in_default
-shape_of-work-in_default c = c.meet-r.auto.1.1.1.1.1.1.1.1.1.1.1.1.1.0 ∙ c.loop-k.invariant.words
+shape_of-work-in_default c = c.meet-r.auto.work ∙ c.loop-k.invariant.words
 
 pub returns-in_default : goal.returns-in_default
-returns-in_default c = up-stuck _ _ _ _ _ _ _ _ _ _ c.loop-k.invariant c.loop-k-test.true _ c.is_live.ensures (not-false _ c.if-not-is_live.false) _ _ _ c.meet-r.ensures c.in_default.is
+returns-in_default c = up-stuck _ _ _ _ _ _ _ _ _ _ c.loop-k.invariant c.loop-k-test.true _ c.is_live.ensures c.if-not-is_live.false _ _ _ c.meet-r.ensures c.in_default.is
 
 pub overflow_add-k : goal.overflow_add-k
 overflow_add-k c = omega (arith, c.loop-k-test.true, c.well_formed)
 
 pub loop-k-preserved : goal.loop-k-preserved
-loop-k-preserved c = up_next _ _ _ _ _ _ _ _ _ _ c.loop-k.invariant c.loop-k-test.true _ c.is_live.ensures (not-false _ c.if-not-is_live.false) _ _ _ c.meet-r.ensures _ c.in-Traced.is c.meet-r.auto.1.1.1.1.1.1.1.1.1.1.1.1.0 c.meet-r.auto.1.1.1.1.1.1.1.1.1.1.1.1.1.0
+loop-k-preserved c = up_next _ _ _ _ _ _ _ _ _ _ c.loop-k.invariant c.loop-k-test.true _ c.is_live.ensures c.if-not-is_live.false _ _ _ c.meet-r.ensures _ c.in-Traced.is c.meet-r.auto.marks c.meet-r.auto.work
 
 pub shape_of-marks : goal.shape_of-marks
 shape_of-marks c = c.loop-k.invariant.long

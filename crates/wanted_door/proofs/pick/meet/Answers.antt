@@ -16,10 +16,10 @@ pub returns-in_default : goal.returns-in_default
 returns-in_default c = met-stuck _ _ _ _ _ _ _ c.requires.scratch c.requires.w_lt_slots c.if-marks-i-ne0.false _ _ _ c.queue-m.ensures _ _ _ c.drain-r.ensures.traces c.drain-r.ensures.noted_by c.in_default.is
 
 pub offset_bounds-work-i : goal.offset_bounds-work-i
-offset_bounds-work-i c = omega (arith, c.requires.scratch.few, c.requires.scratch.words, c.requires.w_lt_slots, c.queue-m.auto.1.0, c.drain-r.auto.1.1.1.1.1.1.1.1.1.1.1.0)
+offset_bounds-work-i c = omega (arith, c.requires.scratch.few, c.requires.scratch.words, c.requires.w_lt_slots, c.queue-m.auto.to, c.drain-r.auto.work)
 
 pub bounds-work-i : goal.bounds-work-i
-bounds-work-i c = omega (arith, c.requires.scratch.words, c.requires.w_lt_slots, c.queue-m.auto.1.0, c.drain-r.auto.1.1.1.1.1.1.1.1.1.1.1.0)
+bounds-work-i c = omega (arith, c.requires.scratch.words, c.requires.w_lt_slots, c.queue-m.auto.to, c.drain-r.auto.work)
 
 pub overflow_mul-work : goal.overflow_mul-work
 overflow_mul-work c = omega (arith, c.ranges.note)
@@ -28,13 +28,13 @@ pub overflow_add-work : goal.overflow_add-work
 overflow_add-work c = omega (arith, c.ranges.note)
 
 pub offset_bounds-work-i-2 : goal.offset_bounds-work-i-2
-offset_bounds-work-i-2 c = omega (arith, c.requires.scratch.few, c.requires.scratch.words, c.requires.w_lt_slots, c.queue-m.auto.1.0, c.drain-r.auto.1.1.1.1.1.1.1.1.1.1.1.0)
+offset_bounds-work-i-2 c = omega (arith, c.requires.scratch.few, c.requires.scratch.words, c.requires.w_lt_slots, c.queue-m.auto.to, c.drain-r.auto.work)
 
 pub bounds-work-i-2 : goal.bounds-work-i-2
-bounds-work-i-2 c = omega (arith, c.requires.scratch.words, c.requires.w_lt_slots, c.queue-m.auto.1.0, c.drain-r.auto.1.1.1.1.1.1.1.1.1.1.1.0)
+bounds-work-i-2 c = omega (arith, c.requires.scratch.words, c.requires.w_lt_slots, c.queue-m.auto.to, c.drain-r.auto.work)
 
 pub shape_of-work : goal.shape_of-work
-shape_of-work c = length-set {A = ℕ} c.drain-r.new.work.1.1.1.1.1.1.1.1.1.1.0 c.args.w (get_or c.drain-r.new.work.1.1.1.1.1.1.1.1.1.1.0 c.args.w 0 % 4294967296 + c.args.note * 4294967296) ∙ c.drain-r.auto.1.1.1.1.1.1.1.1.1.1.1.0 ∙ c.queue-m.auto.1.0
+shape_of-work c = length-set {A = ℕ} c.drain-r.new.work c.args.w (get_or c.drain-r.new.work c.args.w 0 % 4294967296 + c.args.note * 4294967296) ∙ c.drain-r.auto.work ∙ c.queue-m.auto.to
 
 pub returns : goal.returns
 returns c = met-new _ _ _ _ _ _ _ c.requires.scratch c.requires.w_lt_slots c.if-marks-i-ne0.false _ _ _ c.queue-m.ensures _ _ _ c.drain-r.ensures.traces c.drain-r.ensures.noted_by _ c.in-Traced.is

@@ -1,0 +1,75 @@
+// For C: the calls of held_types.
+ghost use Rattle.std.specs.Prelude.{◌≡◌, length, if◌then◌else◌};
+ghost use Rattle.word.specs.Result.{ok};
+ghost use Rattle.refusal.specs.Told.{answered, here, nothing};
+ghost use Rattle.ty.specs.View.{types_of, table_of};
+ghost use Rattle.ty.specs.Walks.{has_handles};
+ghost use Rattle.layout.specs.Offsets.{offsets_of, layout_call, written_by};
+ghost use Rattle.trace.specs.Places.{object_handles, value_handles};
+ghost use Rattle.trace.specs.Listing.{listing, written_to};
+ghost use Rattle.held_types.specs.Laid.{laid};
+
+use held_types::Laying;
+use refusal::Answer;
+
+#[unsafe(no_mangle)]
+pub extern "C" fn yexwalu_held_layout(
+    types: &[u64],
+    fields: &[u32],
+    consts: &[u64],
+    bytes: &[u8],
+    t: u64,
+    desc: &[u8],
+    out: &mut [u64],
+) -> Laying
+    ensures answer { result ≡ laid (layout_call (table_of types.now fields.now consts.now bytes.now)
+        t desc.now (length out.old)) }
+    ensures written { out.new ≡ written_by
+        (layout_call (table_of types.now fields.now consts.now bytes.now) t desc.now (length out.old))
+        (offsets_of (table_of types.now fields.now consts.now bytes.now) t desc.now) out.old }
+{
+    held_types::yexwalu_held_layout(types, fields, consts, bytes, t, desc, out)
+}
+
+#[unsafe(no_mangle)]
+pub extern "C" fn yexwalu_held_has_handles(types: &[u64], fields: &[u32], t: u64) -> Answer
+    ensures { result ≡ answered here nothing (ok (if has_handles (types_of types.now fields.now) t then 1 else 0)) }
+{
+    held_types::yexwalu_held_has_handles(types, fields, t)
+}
+
+#[unsafe(no_mangle)]
+pub extern "C" fn yexwalu_held_object_handles(
+    types: &[u64],
+    fields: &[u32],
+    consts: &[u64],
+    bytes: &[u8],
+    t: u64,
+    data: &[u8],
+    out: &mut [u64],
+) -> Answer
+    ensures answer { result ≡ answered length nothing
+        (listing (object_handles (table_of types.now fields.now consts.now bytes.now) t «data».now) (length out.old)) }
+    ensures written { out.new ≡ written_to out.old
+        (listing (object_handles (table_of types.now fields.now consts.now bytes.now) t «data».now) (length out.old)) }
+{
+    held_types::yexwalu_held_object_handles(types, fields, consts, bytes, t, data, out)
+}
+
+#[unsafe(no_mangle)]
+pub extern "C" fn yexwalu_held_value_handles(
+    types: &[u64],
+    fields: &[u32],
+    consts: &[u64],
+    bytes: &[u8],
+    t: u64,
+    data: &[u8],
+    out: &mut [u64],
+) -> Answer
+    ensures answer { result ≡ answered length nothing
+        (listing (value_handles (table_of types.now fields.now consts.now bytes.now) t «data».now) (length out.old)) }
+    ensures written { out.new ≡ written_to out.old
+        (listing (value_handles (table_of types.now fields.now consts.now bytes.now) t «data».now) (length out.old)) }
+{
+    held_types::yexwalu_held_value_handles(types, fields, consts, bytes, t, data, out)
+}

@@ -1,0 +1,28 @@
+// For C: the calls of run_door.
+ghost use Rattle.std.specs.Prelude.{[], ◌∷◌, ◌≡◌};
+ghost use Rattle.heap.specs.Lent.{lent};
+ghost use Rattle.door.specs.HeapCalls.{outcome_of};
+ghost use Rattle.run_door.specs.Run.{run_call};
+
+use door::Done;
+use heap::Heap;
+
+#[unsafe(no_mangle)]
+pub extern "C" fn yexwalu_run(
+    heap: Heap,
+    narrow: &mut [u32],
+    wide: &mut [u64],
+    pool: &mut [u8],
+    script: &[u8],
+    room: &mut [u8],
+    marks: &mut [u8],
+    work: &mut [u64],
+) -> Done
+    ensures { outcome_of result.answer
+        (lent result.heap narrow.new wide.new pool.new)
+        (room.new ∷ marks.new ∷ work.new ∷ [])
+        ≡ run_call room.old marks.old work.old
+        (lent heap narrow.old wide.old pool.old) script.now }
+{
+    run_door::yexwalu_run(heap, narrow, wide, pool, script, room, marks, work)
+}
