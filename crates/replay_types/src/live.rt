@@ -76,15 +76,13 @@ fn points(
 ) -> io::Result<()> {
     let n = least(count, 65536);
     let mut from: usize = 0;
-    let mut i: usize = 0;
-    while i < n {
+    for i in 0..n {
         put_semicolon(output, i)?;
         let to = place(bounds[i]);
         put_number(output, wide(pcs[i]))?;
         put(output, b"=")?;
         put_halves(output, regs, from, to)?;
         from = to;
-        i += 1;
     }
     Ok(())
 }
