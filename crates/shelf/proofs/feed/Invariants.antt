@@ -4,7 +4,7 @@ use Rattle.shelves.specs.Inner.Steps.{Good}
 use Rattle.shelf.proofs.feed.Given as goal
 
 abbrev pub invariant-loop-used : goal.invariant-loop-used
-invariant-loop-used l = Good l.s × (l.used ≤ l.n)
+invariant-loop-used g l = Good l.s × (l.used ≤ l.n)
 
 abbrev pub decreases-loop-used : goal.decreases-loop-used
-decreases-loop-used l = l.n - l.used
+decreases-loop-used g l = l.n - l.used

@@ -4,7 +4,7 @@ use Rattle.shelves.specs.Inner.Steps.{Good}
 use Rattle.shelf.proofs.serve.Given as goal
 
 abbrev pub invariant-loop-turns : goal.invariant-loop-turns
-invariant-loop-turns l = Good l.s × (length l.input ≡ length l.initial.input)
+invariant-loop-turns g l = Good l.s × (length l.input ≡ length l.initial.input)
 
 abbrev pub decreases-loop-turns : goal.decreases-loop-turns
-decreases-loop-turns l = l.turns
+decreases-loop-turns g l = l.turns
