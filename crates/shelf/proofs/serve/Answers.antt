@@ -1,5 +1,5 @@
 -- `shelf::serve` meets its contract.
-use Rattle.std.proofs.Common.{arith, refl, ◌∙◌}
+use Rattle.std.proofs.Common.{arith, refl}
 use Rattle.shelf.proofs.serve.Goals as goal
 
 pub loop-turns-init : goal.loop-turns-init
