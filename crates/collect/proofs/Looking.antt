@@ -1,13 +1,12 @@
 -- The live registers of classes 2 and 4 in their row, and what follows for the collection at a safepoint. Assumes nothing.
 use mathlib.Core.Path.{◌≡◌, refl, sym, ap, ◌∙◌, subst}
-use mathlib.Core.Bool.{Bool, true, false, not}
+use mathlib.Core.Bool.{Bool, true, false}
 use mathlib.Core.List.{List, ◌++◌}
 use mathlib.Core.Option.{Option}
 use Prim.Native.Nat.{ℕ, ◌+◌, ◌*◌, ◌/◌, ◌^◌, ◌≤◌, ◌<◌}
 use native.Mathlib.Nat.{mul-le-mul_right}
 use native.Mathlib.Omega.{arith}
 use lib.ListN.{length, get_or, replicate}
-use borrow.Author.Tests.{not-true, not-false}
 use Rattle.word.specs.Ones.{passing}
 use Rattle.rows.specs.Row.{bit_in, part}
 use Rattle.refusal.specs.Told.{nothing}
@@ -120,17 +119,17 @@ module _ (f : Lent) (pc : ℕ) (values rows rows' : List ℕ) (can : CanLook f v
   rows-again rows'' e = e ∙ ap (λ (n : ℕ). replicate n 0) row.kept ∙ sym can.clear
 
   module _ (T : Table) (frame : Option (List ℕ)) (given listed framed : List ℕ) (l : Heap) where
-    pub at_none : not r ≡ true → well_formed l ≡ true → Tells nothing nothing l l (Not NoMap) (at_safepoint T (function f) pc values frame (record { given = given; listed = listed; framed = framed }) (view l))
+    pub at_none : r ≡ false → well_formed l ≡ true → Tells nothing nothing l l (Not NoMap) (at_safepoint T (function f) pc values frame (record { given = given; listed = listed; framed = framed }) (view l))
     unfolding at_safepoint
     at_none e formed =
-        let s : safepoint (function f) pc ≡ false = sym row.says ∙ not-true _ e in
+        let s : safepoint (function f) pc ≡ false = sym row.says ∙ e in
         rw s (record { leaves = record { lies = (formed-tested l formed).lies; formed = formed }; says = refl })
 
-    pub at_row : not r ≡ false → (l' : Heap) (a : Reply) → Tells nothing nothing l l' a (joined_by T frame (row_values 4 f.classes (row_in f rows') values) (given ++ slots_of listed (framed ++ row_values 2 f.classes (row_in f rows') values)) (view l))
+    pub at_row : r ≡ true → (l' : Heap) (a : Reply) → Tells nothing nothing l l' a (joined_by T frame (row_values 4 f.classes (row_in f rows') values) (given ++ slots_of listed (framed ++ row_values 2 f.classes (row_in f rows') values)) (view l))
         → Tells nothing nothing l l' a (at_safepoint T (function f) pc values frame (record { given = given; listed = listed; framed = framed }) (view l))
     unfolding at_safepoint joined pins_at
     at_row e l' a d =
-        let t : r ≡ true = not-false _ e in
+        let t : r ≡ true = e in
         let s : safepoint (function f) pc ≡ true = sym row.says ∙ t in
         rw s
         (subst (λ (x : List ℕ). Tells nothing nothing l l' a (joined_by T frame (values_of values (registers_of 4 (function f) pc)) (given ++ slots_of listed (framed ++ x)) (view l))) (row-values 2 t)

@@ -1,13 +1,13 @@
 -- What the tests of the public collections find, and what follows for the calls. Assumes nothing.
 use mathlib.Core.Path.{◌≡◌, refl, sym, ap, ◌∙◌, subst}
-use mathlib.Core.Bool.{Bool, true, false, not}
+use mathlib.Core.Bool.{Bool, true, false}
 use mathlib.Core.List.{List, [], ◌∷◌, ◌++◌}
 use mathlib.Core.Logic.{◌↔◌}
 use Prim.Native.Nat.{ℕ, ◌≤◌, ◌<◌}
 use native.Mathlib.Omega.{arith}
 use lib.ListN.{length, replicate, length-replicate}
 use lib.Dec.{leb, eqb}
-use borrow.Author.Tests.{le-leb, leb-true, eq-eqb, ne_eqb, eqb-true, not-true, not-false}
+use borrow.Author.Tests.{le-leb, leb-true, eq-eqb, ne_eqb, eqb-true}
 use Rattle.std.specs.Prelude.{if◌then◌else◌}
 use Rattle.word.proofs.Bools.{bool-ext, and_both}
 use Rattle.refusal.specs.Told.{told, nothing}
@@ -43,15 +43,15 @@ module _ (l : Lent) {m w m' w' : List ℕ} {e : Entry} (s : Entered (m ∷ w ∷
   not_entered i = and-more s (test (table_good types fields consts bytes) TypeTable ∷ test (rising pins) Pins ∷ []) i
 
   module _ (i : e ≡ Ready) (g : Bool) (eg : g ≡ table_good types fields consts bytes) where
-    pub no_table : not g ≡ true → Entered (m ∷ w ∷ []) (collect_tests types fields consts bytes pins m w l) (Not TypeTable) (m' ∷ w' ∷ [])
-    no_table h = and-more (and-fails s {why = TypeTable} i (sym eg ∙ not-true g h) refl) (test (rising pins) Pins ∷ []) refl
+    pub no_table : g ≡ false → Entered (m ∷ w ∷ []) (collect_tests types fields consts bytes pins m w l) (Not TypeTable) (m' ∷ w' ∷ [])
+    no_table h = and-more (and-fails s {why = TypeTable} i (sym eg ∙ h) refl) (test (rising pins) Pins ∷ []) refl
 
-    module _ (h : not g ≡ false) (p : Bool) (ep : p ≡ rising pins) where
-      pub no_pins : not p ≡ true → Entered (m ∷ w ∷ []) (collect_tests types fields consts bytes pins m w l) (Not Pins) (m' ∷ w' ∷ [])
-      no_pins k = and-fails (and-holds s TypeTable i (sym eg ∙ not-false g h)) {why = Pins} refl (sym ep ∙ not-true p k) refl
+    module _ (h : g ≡ true) (p : Bool) (ep : p ≡ rising pins) where
+      pub no_pins : p ≡ false → Entered (m ∷ w ∷ []) (collect_tests types fields consts bytes pins m w l) (Not Pins) (m' ∷ w' ∷ [])
+      no_pins k = and-fails (and-holds s TypeTable i (sym eg ∙ h)) {why = Pins} refl (sym ep ∙ k) refl
 
-      pub all-entered : not p ≡ false → Entered (m ∷ w ∷ []) (collect_tests types fields consts bytes pins m w l) Ready (m' ∷ w' ∷ [])
-      all-entered k = and-holds (and-holds s TypeTable i (sym eg ∙ not-false g h)) Pins refl (sym ep ∙ not-false p k)
+      pub all-entered : p ≡ true → Entered (m ∷ w ∷ []) (collect_tests types fields consts bytes pins m w l) Ready (m' ∷ w' ∷ [])
+      all-entered k = and-holds (and-holds s TypeTable i (sym eg ∙ h)) Pins refl (sym ep ∙ k)
 
 module _ (g : Given) (l : Lent) {m w m' w' : List ℕ} {e : Entry} (s : Entered (m ∷ w ∷ []) (tests g m w l) e (m' ∷ w' ∷ [])) where
   pub can-collect : e ≡ Ready → CanCollect l g.pins m' w'
@@ -95,17 +95,17 @@ module _ (n : ℕ) (m w r : List ℕ) (l : Lent) where
   no_words h k = record { found = fails _ _ _ (simp (few_words m w l h k)); left = refl }
 
   module _ (h : slot_count l ≤ length m) (k : slot_count l ≤ length w) (q : Bool) (e : q ≡ leb n (length r)) where
-    pub no_rows : not q ≡ true → Entered (m ∷ w ∷ r ∷ []) (row_tests n m w r l) (Not Scratch) (m ∷ w ∷ r ∷ [])
+    pub no_rows : q ≡ false → Entered (m ∷ w ∷ r ∷ []) (row_tests n m w r l) (Not Scratch) (m ∷ w ∷ r ∷ [])
     unfolding roomy
-    no_rows j = record { found = fails _ _ _ (simp (is-enough m w l h k, sym e ∙ not-true q j)); left = refl }
+    no_rows j = record { found = fails _ _ _ (simp (is-enough m w l h k, sym e ∙ j)); left = refl }
 
-    module _ (j : not q ≡ false) (b : Bool) (m' w' r' : List ℕ) (f : (b ≡ well_formed l) × (m' ≡ zeros m)) (z : w' ≡ zeros w) (y : r' ≡ zeros r) where
+    module _ (j : q ≡ true) (b : Bool) (m' w' r' : List ℕ) (f : (b ≡ well_formed l) × (m' ≡ zeros m)) (z : w' ≡ zeros w) (y : r' ≡ zeros r) where
       cleared : m' ∷ w' ∷ r' ∷ [] ≡ zeros m ∷ zeros w ∷ zeros r ∷ []
       cleared = λ i. f.1 i ∷ z i ∷ y i ∷ []
 
       is-roomy : roomy n m w r l ≡ true
       unfolding roomy
-      is-roomy = simp (is-enough m w l h k, sym e ∙ not-false q j)
+      is-roomy = simp (is-enough m w l h k, sym e ∙ j)
 
       pub not-formed : b ≡ false → Entered (m ∷ w ∷ r ∷ []) (row_tests n m w r l) (Not BrokenHeap) (m' ∷ w' ∷ r' ∷ [])
       not-formed x = record { found = passes _ _ _ is-roomy (fails _ _ _ (sym f.0 ∙ x)); left = cleared }
@@ -122,36 +122,36 @@ unfolding admitted
 none_left = refl
 
 module _ (types fields consts bytes : List ℕ) (c : Code) (values pins addresses : List ℕ) (g : Bool) (eg : g ≡ table_good types fields consts bytes) where
-  pub bad-table : not g ≡ true → Not TypeTable ≡ admitted (input_tests types fields consts bytes c values pins addresses)
-  bad-table h = fails _ _ _ (sym eg ∙ not-true g h)
+  pub bad-table : g ≡ false → Not TypeTable ≡ admitted (input_tests types fields consts bytes c values pins addresses)
+  bad-table h = fails _ _ _ (sym eg ∙ h)
 
-  module _ (h : not g ≡ false) (f : Bool) (ef : f ≡ right c) where
+  module _ (h : g ≡ true) (f : Bool) (ef : f ≡ right c) where
     not-coded : coded c values ≡ false → Not Function ≡ admitted (input_tests types fields consts bytes c values pins addresses)
-    not-coded n = passes _ _ _ (sym eg ∙ not-false g h) (fails _ _ _ n)
+    not-coded n = passes _ _ _ (sym eg ∙ h) (fails _ _ _ n)
 
-    pub bad-code : not f ≡ true → Not Function ≡ admitted (input_tests types fields consts bytes c values pins addresses)
+    pub bad-code : f ≡ false → Not Function ≡ admitted (input_tests types fields consts bytes c values pins addresses)
     unfolding coded
-    bad-code k = not-coded (simp (sym ef ∙ not-true f k))
+    bad-code k = not-coded (simp (sym ef ∙ k))
 
-    module _ (k : not f ≡ false) where
+    module _ (k : f ≡ true) where
       pub bad-values : (length values ≡ length c.classes → ⊥) → Not Function ≡ admitted (input_tests types fields consts bytes c values pins addresses)
       unfolding coded
-      bad-values n = not-coded (simp (sym ef ∙ not-false f k, ne_eqb (length values) (length c.classes) n))
+      bad-values n = not-coded (simp (sym ef ∙ k, ne_eqb (length values) (length c.classes) n))
 
       module _ (v : length values ≡ length c.classes) (p : Bool) (ep : p ≡ rising pins) where
         is-coded : coded c values ≡ true
         unfolding coded
-        is-coded = simp (sym ef ∙ not-false f k, eq-eqb (length values) (length c.classes) v)
+        is-coded = simp (sym ef ∙ k, eq-eqb (length values) (length c.classes) v)
 
-        pub bad-pins : not p ≡ true → Not Pins ≡ admitted (input_tests types fields consts bytes c values pins addresses)
-        bad-pins n = passes _ _ _ (sym eg ∙ not-false g h) (passes _ _ _ is-coded (fails _ _ _ (sym ep ∙ not-true p n)))
+        pub bad-pins : p ≡ false → Not Pins ≡ admitted (input_tests types fields consts bytes c values pins addresses)
+        bad-pins n = passes _ _ _ (sym eg ∙ h) (passes _ _ _ is-coded (fails _ _ _ (sym ep ∙ n)))
 
-        module _ (n : not p ≡ false) (q : Bool) (eq : q ≡ paired addresses) where
-          pub bad-addresses : not q ≡ true → Not Pins ≡ admitted (input_tests types fields consts bytes c values pins addresses)
-          bad-addresses m = passes _ _ _ (sym eg ∙ not-false g h) (passes _ _ _ is-coded (passes _ _ _ (sym ep ∙ not-false p n) (fails _ _ _ (sym eq ∙ not-true q m))))
+        module _ (n : p ≡ true) (q : Bool) (eq : q ≡ paired addresses) where
+          pub bad-addresses : q ≡ false → Not Pins ≡ admitted (input_tests types fields consts bytes c values pins addresses)
+          bad-addresses m = passes _ _ _ (sym eg ∙ h) (passes _ _ _ is-coded (passes _ _ _ (sym ep ∙ n) (fails _ _ _ (sym eq ∙ m))))
 
-          pub good-inputs : not q ≡ false → Ready ≡ admitted (input_tests types fields consts bytes c values pins addresses)
-          good-inputs m = passes _ _ _ (sym eg ∙ not-false g h) (passes _ _ _ is-coded (passes _ _ _ (sym ep ∙ not-false p n) (passes _ _ _ (sym eq ∙ not-false q m) none_left)))
+          pub good-inputs : q ≡ true → Ready ≡ admitted (input_tests types fields consts bytes c values pins addresses)
+          good-inputs m = passes _ _ _ (sym eg ∙ h) (passes _ _ _ is-coded (passes _ _ _ (sym ep ∙ n) (passes _ _ _ (sym eq ∙ m) none_left)))
 
 -- ---- all tests but the last
 

@@ -1,11 +1,11 @@
 -- The ways out of the tests on two heaps. Assumes nothing.
 use mathlib.Core.Path.{◌≡◌, refl, sym, ap, ◌∙◌}
-use mathlib.Core.Bool.{Bool, true, false, not, ◌&&◌}
+use mathlib.Core.Bool.{Bool, true, false, ◌&&◌}
 use mathlib.Core.List.{List, [], ◌∷◌}
 use Prim.Native.Nat.{ℕ, ◌≤◌, ◌<◌}
 use lib.ListN.{length}
 use lib.Dec.{leb}
-use borrow.Author.Tests.{lt-leb, le-leb, not-true, not-false}
+use borrow.Author.Tests.{lt-leb, le-leb}
 use Rattle.refusal.specs.declared.Refusal.{Refusal}
 use Rattle.refusal.specs.declared.Refusal.TheVariants.{BrokenHeap, Scratch}
 use Rattle.heap.specs.Lent.{Lent, slot_count}
@@ -27,23 +27,23 @@ module _ (l k : Lent) (m w om ow : List ℕ) where
   All e a b c d = Entered (m ∷ w ∷ om ∷ ow ∷ []) (both_tests m w om ow l k) e (a ∷ b ∷ c ∷ d ∷ [])
 
   module _ (b : Bool) (eb : b ≡ (leb (slot_count l) (length m) && leb (slot_count l) (length w))) where
-    pub first_short : not b ≡ true → All (Not Scratch) m w om ow
+    pub first_short : b ≡ false → All (Not Scratch) m w om ow
     unfolding enough
-    first_short h = record { found = fails _ _ _ (sym eb ∙ not-true b h); left = refl }
+    first_short h = record { found = fails _ _ _ (sym eb ∙ h); left = refl }
 
-    module _ (h : not b ≡ false) (c : Bool) (ec : c ≡ (leb (slot_count k) (length om) && leb (slot_count k) (length ow))) where
+    module _ (h : b ≡ true) (c : Bool) (ec : c ≡ (leb (slot_count k) (length om) && leb (slot_count k) (length ow))) where
       enough-first : enough m w l ≡ true
       unfolding enough
-      enough-first = sym eb ∙ not-false b h
+      enough-first = sym eb ∙ h
 
-      pub other-short : not c ≡ true → All (Not Scratch) m w om ow
+      pub other-short : c ≡ false → All (Not Scratch) m w om ow
       unfolding enough
-      other-short i = record { found = passes _ _ _ enough-first (fails _ _ _ (sym ec ∙ not-true c i)); left = refl }
+      other-short i = record { found = passes _ _ _ enough-first (fails _ _ _ (sym ec ∙ i)); left = refl }
 
-      module _ (i : not c ≡ false) where
+      module _ (i : c ≡ true) where
         enough-other : enough om ow k ≡ true
         unfolding enough
-        enough-other = sym ec ∙ not-false c i
+        enough-other = sym ec ∙ i
 
         -- what one heap's tests say where there is scratch enough
         by_form : (a b : List ℕ) (x : Lent) → enough a b x ≡ true → admitted (heap_tests a b x) ≡ admitted (test (well_formed x) BrokenHeap ∷ [])

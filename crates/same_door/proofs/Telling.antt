@@ -1,11 +1,11 @@
 -- The ways out of `same` and `order`. Assumes nothing.
 use mathlib.Core.Path.{◌≡◌, refl, sym, ap, ◌∙◌}
-use mathlib.Core.Bool.{Bool, true, false, not}
+use mathlib.Core.Bool.{Bool, true, false}
 use mathlib.Core.List.{List, [], ◌∷◌}
 use Prim.Native.Nat.{ℕ}
 use lib.ListN.{length, replicate, get_or}
 use lib.Dec.{eqb, leb}
-use borrow.Author.Tests.{not-true, not-false, eq-eqb, ne_eqb}
+use borrow.Author.Tests.{eq-eqb, ne_eqb}
 use Rattle.std.specs.Prelude.{if◌then◌else◌}
 use Rattle.word.specs.Result.{Result, ok, refused}
 use Rattle.word.proofs.Bools.{and_both}
@@ -44,11 +44,11 @@ module _ (l k : Lent) {m w om ow m' w' om' ow' : List ℕ} {e : Entry} (s : Ente
   not_entered i = and-more s (test (table_good types fields consts bytes) TypeTable ∷ []) i
 
   module _ (i : e ≡ Ready) (g : Bool) (eg : g ≡ table_good types fields consts bytes) where
-    pub no_table : not g ≡ true → All (Not TypeTable)
-    no_table h = and-fails s {why = TypeTable} i (sym eg ∙ not-true g h) refl
+    pub no_table : g ≡ false → All (Not TypeTable)
+    no_table h = and-fails s {why = TypeTable} i (sym eg ∙ h) refl
 
-    pub all-entered : not g ≡ false → All Ready
-    all-entered h = and-holds s TypeTable i (sym eg ∙ not-false g h)
+    pub all-entered : g ≡ true → All Ready
+    all-entered h = and-holds s TypeTable i (sym eg ∙ h)
 
 -- ---- the number that is told
 

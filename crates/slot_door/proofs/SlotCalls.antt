@@ -1,11 +1,10 @@
 -- The ways out of `slot_handles`. Assumes nothing.
 use Prim.Native.Nat.{ℕ, ◌+◌, ◌-◌, ◌*◌, ◌/◌, ◌≤◌, ◌<◌}
 use mathlib.Core.Path.{◌≡◌, refl, sym, ap, ◌∙◌, subst}
-use mathlib.Core.Bool.{Bool, true, false, not}
+use mathlib.Core.Bool.{Bool, true, false}
 use mathlib.Core.List.{List, [], ◌∷◌}
 use native.Mathlib.Omega.{arith}
 use lib.ListN.{length, get_or, take, drop}
-use borrow.Author.Tests.{not-true, not-false}
 use Rattle.word.specs.Result.{Result, refused}
 use Rattle.word.specs.Run.{run}
 use Rattle.word.proofs.RunLaws.{run-get}
@@ -89,11 +88,11 @@ module _ (l : Lent) {m w m' w' : List ℕ} {e : Entry} (s : Entered (m ∷ w ∷
   not_entered i = and-more s (test (table_good types fields consts bytes) TypeTable ∷ []) i
 
   module _ (i : e ≡ Ready) (g : Bool) (eg : g ≡ table_good types fields consts bytes) where
-    pub no_table : not g ≡ true → Entered (m ∷ w ∷ []) (slot_tests types fields consts bytes m w l) (Not TypeTable) (m' ∷ w' ∷ [])
-    no_table h = and-fails s {why = TypeTable} i (sym eg ∙ not-true g h) refl
+    pub no_table : g ≡ false → Entered (m ∷ w ∷ []) (slot_tests types fields consts bytes m w l) (Not TypeTable) (m' ∷ w' ∷ [])
+    no_table h = and-fails s {why = TypeTable} i (sym eg ∙ h) refl
 
-    pub all-entered : not g ≡ false → Entered (m ∷ w ∷ []) (slot_tests types fields consts bytes m w l) Ready (m' ∷ w' ∷ [])
-    all-entered h = and-holds s TypeTable i (sym eg ∙ not-false g h)
+    pub all-entered : g ≡ true → Entered (m ∷ w ∷ []) (slot_tests types fields consts bytes m w l) Ready (m' ∷ w' ∷ [])
+    all-entered h = and-holds s TypeTable i (sym eg ∙ h)
 
 module _ (l : Lent) (types fields consts bytes : List ℕ) {m w m' w' : List ℕ} {e : Entry} (s : Entered (m ∷ w ∷ []) (slot_tests types fields consts bytes m w l) e (m' ∷ w' ∷ [])) (slot : ℕ) (out : List ℕ) where
   abbrev T : Table

@@ -1,12 +1,12 @@
 -- What the tests of `roots_for` find, and what follows for the call. Assumes nothing.
 use mathlib.Core.Path.{◌≡◌, refl, sym, ap, ◌∙◌}
-use mathlib.Core.Bool.{Bool, true, false, not}
+use mathlib.Core.Bool.{Bool, true, false}
 use mathlib.Core.List.{List, [], ◌∷◌}
 use Prim.Native.Nat.{ℕ, ◌≤◌}
 use native.Mathlib.Omega.{arith}
 use lib.ListN.{length, replicate, length-replicate}
 use lib.Dec.{leb}
-use borrow.Author.Tests.{leb-true, not-true, not-false}
+use borrow.Author.Tests.{leb-true}
 use Rattle.word.proofs.Bools.{and_both}
 use Rattle.refusal.specs.Told.{told, nothing}
 use Rattle.refusal.specs.declared.Answer.{Answer}
@@ -33,19 +33,19 @@ module _ (l : Lent) {m w m' w' : List ℕ} {e : Entry} (s : Entered (m ∷ w ∷
   not_entered i = and-more s (test (table_good types fields consts bytes) TypeTable ∷ test (rising pins) Pins ∷ test (rising wanted) Pins ∷ []) i
 
   module _ (i : e ≡ Ready) (g : Bool) (eg : g ≡ table_good types fields consts bytes) where
-    pub no_table : not g ≡ true → Entered (m ∷ w ∷ []) (wanted_tests types fields consts bytes pins wanted m w l) (Not TypeTable) (m' ∷ w' ∷ [])
-    no_table h = and-more (and-fails s {why = TypeTable} i (sym eg ∙ not-true g h) refl) (test (rising pins) Pins ∷ test (rising wanted) Pins ∷ []) refl
+    pub no_table : g ≡ false → Entered (m ∷ w ∷ []) (wanted_tests types fields consts bytes pins wanted m w l) (Not TypeTable) (m' ∷ w' ∷ [])
+    no_table h = and-more (and-fails s {why = TypeTable} i (sym eg ∙ h) refl) (test (rising pins) Pins ∷ test (rising wanted) Pins ∷ []) refl
 
-    module _ (h : not g ≡ false) (p : Bool) (ep : p ≡ rising pins) where
-      pub no_pins : not p ≡ true → Entered (m ∷ w ∷ []) (wanted_tests types fields consts bytes pins wanted m w l) (Not Pins) (m' ∷ w' ∷ [])
-      no_pins k = and-more (and-fails (and-holds s TypeTable i (sym eg ∙ not-false g h)) {why = Pins} refl (sym ep ∙ not-true p k) refl) (test (rising wanted) Pins ∷ []) refl
+    module _ (h : g ≡ true) (p : Bool) (ep : p ≡ rising pins) where
+      pub no_pins : p ≡ false → Entered (m ∷ w ∷ []) (wanted_tests types fields consts bytes pins wanted m w l) (Not Pins) (m' ∷ w' ∷ [])
+      no_pins k = and-more (and-fails (and-holds s TypeTable i (sym eg ∙ h)) {why = Pins} refl (sym ep ∙ k) refl) (test (rising wanted) Pins ∷ []) refl
 
-      module _ (k : not p ≡ false) (q : Bool) (eq : q ≡ rising wanted) where
-        pub no-wanted : not q ≡ true → Entered (m ∷ w ∷ []) (wanted_tests types fields consts bytes pins wanted m w l) (Not Pins) (m' ∷ w' ∷ [])
-        no-wanted j = and-fails (and-holds (and-holds s TypeTable i (sym eg ∙ not-false g h)) Pins refl (sym ep ∙ not-false p k)) {why = Pins} refl (sym eq ∙ not-true q j) refl
+      module _ (k : p ≡ true) (q : Bool) (eq : q ≡ rising wanted) where
+        pub no-wanted : q ≡ false → Entered (m ∷ w ∷ []) (wanted_tests types fields consts bytes pins wanted m w l) (Not Pins) (m' ∷ w' ∷ [])
+        no-wanted j = and-fails (and-holds (and-holds s TypeTable i (sym eg ∙ h)) Pins refl (sym ep ∙ k)) {why = Pins} refl (sym eq ∙ j) refl
 
-        pub all-entered : not q ≡ false → Entered (m ∷ w ∷ []) (wanted_tests types fields consts bytes pins wanted m w l) Ready (m' ∷ w' ∷ [])
-        all-entered j = and-holds (and-holds (and-holds s TypeTable i (sym eg ∙ not-false g h)) Pins refl (sym ep ∙ not-false p k)) Pins refl (sym eq ∙ not-false q j)
+        pub all-entered : q ≡ true → Entered (m ∷ w ∷ []) (wanted_tests types fields consts bytes pins wanted m w l) Ready (m' ∷ w' ∷ [])
+        all-entered j = and-holds (and-holds (and-holds s TypeTable i (sym eg ∙ h)) Pins refl (sym ep ∙ k)) Pins refl (sym eq ∙ j)
 
 -- ---- the public call
 

@@ -1,6 +1,6 @@
 -- The ways out of the calls that list handles: a table that is not taken, and what the crates below answer. Assumes nothing.
 use mathlib.Core.Path.{◌≡◌, sym, ap, ◌∙◌}
-use mathlib.Core.Bool.{Bool, true, false, not}
+use mathlib.Core.Bool.{Bool, true, false}
 use mathlib.Core.List.{List}
 use Prim.Native.Nat.{ℕ}
 use lib.ListN.{length}
@@ -19,7 +19,7 @@ abbrev counts : Result Roots → Answer
 counts = answered (λ c. length c.handles) (λ c. length c.addresses)
 
 module _ (w fs cs b : List ℕ) {g : Bool} (eg : g ≡ table_good w fs cs b) where
-  module _ (h : not g ≡ true) {r : Answer} (e : r ≡ refused_by 10) where
+  module _ (h : g ≡ false) {r : Answer} (e : r ≡ refused_by 10) where
     pub list-refused : (call : Result (List ℕ)) (out : List ℕ) → HandlesCall (on_table w fs cs b call) out out r
     list-refused call out = let q = table-bad w fs cs b eg call h in record { answer = e ∙ sym (ap (answered length nothing) q); written = sym (ap (written_to out) q) }
 
@@ -28,7 +28,7 @@ module _ (w fs cs b : List ℕ) {g : Bool} (eg : g ≡ table_good w fs cs b) whe
         let q = table-bad w fs cs b eg call h in
         record { answer = e ∙ sym (ap counts q); handles_are = sym (ap (handles_to hs) q); addresses_are = sym (ap (addresses_to ds) q) }
 
-  module _ (h : not g ≡ false) {x : Reply} {r : Answer} (e : r ≡ told x) where
+  module _ (h : g ≡ true) {x : Reply} {r : Answer} (e : r ≡ told x) where
     pub list-passed : {call : Result (List ℕ)} {out out' : List ℕ} → Lists call x out out' → HandlesCall (on_table w fs cs b call) out out' r
     list-passed {call} {out} {out'} s =
         let q = sym (table-good w fs cs b eg call h) in record { answer = e ∙ s.answer ∙ ap (answered length nothing) q; written = s.written ∙ ap (written_to out) q }

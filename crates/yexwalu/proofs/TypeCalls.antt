@@ -1,10 +1,9 @@
 -- The ways out of the calls about types. Assumes nothing.
 use mathlib.Core.Path.{◌≡◌, refl, sym, ap, ◌∙◌}
-use mathlib.Core.Bool.{Bool, true, false, not}
+use mathlib.Core.Bool.{Bool, true, false}
 use mathlib.Core.List.{List}
 use mathlib.Core.Option.{Option, none, some}
 use native.Mathlib.Omega.{arith}
-use borrow.Author.Tests.{not-false}
 use Prim.Native.Nat.{ℕ}
 use Rattle.std.specs.Prelude.{if◌then◌else◌}
 use Rattle.word.specs.Result.{Result, ok, refused}
@@ -33,35 +32,35 @@ sized-none (some m) e = let z : ◌≡◌ {A = ℕ} 0 1 = cc in absurd (omega ar
 
 module _ (w fs cs b : List ℕ) (t : ℕ) {g : Bool} (eg : g ≡ table_good w fs cs b) where
   -- refused: whatever the call is
-  pub answer-refused : {r : Answer} (call : Result ℕ) → not g ≡ true → r ≡ refused_by 10 → r ≡ answered here nothing (on_table w fs cs b call)
+  pub answer-refused : {r : Answer} (call : Result ℕ) → g ≡ false → r ≡ refused_by 10 → r ≡ answered here nothing (on_table w fs cs b call)
   answer-refused call h e = e ∙ sym (ap (answered here nothing) (table-bad w fs cs b eg call h))
 
-  answer-passed : {r : Answer} {x y : Result ℕ} → not g ≡ false → x ≡ y → r ≡ answered here nothing y → r ≡ answered here nothing (on_table w fs cs b x)
+  answer-passed : {r : Answer} {x y : Result ℕ} → g ≡ true → x ≡ y → r ≡ answered here nothing y → r ≡ answered here nothing (on_table w fs cs b x)
   answer-passed {r} {x} {y} h q e = e ∙ sym (ap (answered here nothing) (table-good w fs cs b eg x h ∙ q))
 
   -- a checked table's size is exact
-  size_exact : {x y : Word} → not g ≡ false → x ≡ desc_size (types_of w fs) t → x ≡ y → exactly (desc_bytes (types_of w fs) t) ≡ y
-  size_exact h e q = sym (exact w fs cs b (sym eg ∙ not-false g h) t) ∙ sym e ∙ q
+  size_exact : {x y : Word} → g ≡ true → x ≡ desc_size (types_of w fs) t → x ≡ y → exactly (desc_bytes (types_of w fs) t) ≡ y
+  size_exact h e q = sym (exact w fs cs b (sym eg ∙ h) t) ∙ sym e ∙ q
 
-  pub size-passed : {x : Word} {n : ℕ} {r : Answer} → not g ≡ false → x ≡ desc_size (types_of w fs) t → x ≡ Is n → r ≡ answered here nothing (ok n) → r ≡ answered here nothing (size_called w fs cs b t)
+  pub size-passed : {x : Word} {n : ℕ} {r : Answer} → g ≡ true → x ≡ desc_size (types_of w fs) t → x ≡ Is n → r ≡ answered here nothing (ok n) → r ≡ answered here nothing (size_called w fs cs b t)
   size-passed {x} {n} h e q a = answer-passed h (sized-some (desc_bytes (types_of w fs) t) n (size_exact h e q)) a
 
-  pub size_none : {x : Word} {r : Answer} → not g ≡ false → x ≡ desc_size (types_of w fs) t → x ≡ Over → r ≡ refused_by 11 → r ≡ answered here nothing (size_called w fs cs b t)
+  pub size_none : {x : Word} {r : Answer} → g ≡ true → x ≡ desc_size (types_of w fs) t → x ≡ Over → r ≡ refused_by 11 → r ≡ answered here nothing (size_called w fs cs b t)
   size_none h e q a = answer-passed h (sized-none (desc_bytes (types_of w fs) t) (size_exact h e q)) a
 
-  pub handles-yes : {x : Bool} {r : Answer} → not g ≡ false → x ≡ has_handles (types_of w fs) t → x ≡ true → r ≡ answered here nothing (ok 1) → r ≡ answered here nothing (handles_called w fs cs b t)
+  pub handles-yes : {x : Bool} {r : Answer} → g ≡ true → x ≡ has_handles (types_of w fs) t → x ≡ true → r ≡ answered here nothing (ok 1) → r ≡ answered here nothing (handles_called w fs cs b t)
   handles-yes h e q a = answer-passed h (ap (λ (u : Bool). ok (if u then 1 else 0)) (sym e ∙ q)) a
 
-  pub handles-no : {x : Bool} {r : Answer} → not g ≡ false → x ≡ has_handles (types_of w fs) t → x ≡ false → r ≡ answered here nothing (ok 0) → r ≡ answered here nothing (handles_called w fs cs b t)
+  pub handles-no : {x : Bool} {r : Answer} → g ≡ true → x ≡ has_handles (types_of w fs) t → x ≡ false → r ≡ answered here nothing (ok 0) → r ≡ answered here nothing (handles_called w fs cs b t)
   handles-no h e q a = answer-passed h (ap (λ (u : Bool). ok (if u then 1 else 0)) (sym e ∙ q)) a
 
   -- ---- a layout, and the lent list after the call
 
   module _ (d : List ℕ) (offs out : List ℕ) (places : ℕ) where
-    pub layout-refused : {r : LayoutAnswer} → not g ≡ true → r ≡ laid (refused 10) → (r ≡ laid (layout_called w fs cs b t d places)) × (out ≡ written_by (layout_called w fs cs b t d places) offs out)
+    pub layout-refused : {r : LayoutAnswer} → g ≡ false → r ≡ laid (refused 10) → (r ≡ laid (layout_called w fs cs b t d places)) × (out ≡ written_by (layout_called w fs cs b t d places) offs out)
     layout-refused h e = let q = table-bad w fs cs b eg (layout_call (table_of w fs cs b) t d places) h in (e ∙ sym (ap laid q), sym (ap (λ (u : Result Values). written_by u offs out) q))
 
-    pub layout-passed : {r : LayoutAnswer} {x : Result Values} {out' : List ℕ} → not g ≡ false → x ≡ layout_call (table_of w fs cs b) t d places → out' ≡ written_by x offs out → r ≡ laid x
+    pub layout-passed : {r : LayoutAnswer} {x : Result Values} {out' : List ℕ} → g ≡ true → x ≡ layout_call (table_of w fs cs b) t d places → out' ≡ written_by x offs out → r ≡ laid x
         → (r ≡ laid (layout_called w fs cs b t d places)) × (out' ≡ written_by (layout_called w fs cs b t d places) offs out)
     layout-passed h p o e =
         let q = p ∙ sym (table-good w fs cs b eg (layout_call (table_of w fs cs b) t d places) h) in

@@ -25,7 +25,7 @@ pub returns-in-Store : goal.returns-in-Store
 returns-in-Store c = record { goes = as_line ((table_of c.args.types.now c.args.fields.now c.args.consts.now c.args.bytes.now)) ((lent c.args.g.heap c.args.narrow.now c.args.wide.now c.args.pool.now)) c.args.words.now c.args.g c.args.threshold c.args.s.now c.args.line _ (ap (step_in c.args.s.now) c.in-Store.is) (store_line ((table_of c.args.types.now c.args.fields.now c.args.consts.now c.args.bytes.now)) ((lent c.args.g.heap c.args.narrow.now c.args.wide.now c.args.pool.now)) c.args.words.now c.args.g c.args.threshold _ _ _ c.do_store.ensures); marks_unchanged = (refl, refl) }
 
 pub returns-in-Drop : goal.returns-in-Drop
-returns-in-Drop c = record { goes = as_line ((table_of c.args.types.now c.args.fields.now c.args.consts.now c.args.bytes.now)) ((lent c.args.g.heap c.args.narrow.now c.args.wide.now c.args.pool.now)) c.args.words.now c.args.g c.args.threshold c.args.s.now c.args.line _ (ap (step_in c.args.s.now) c.in-Drop.is) (drop-line ((table_of c.args.types.now c.args.fields.now c.args.consts.now c.args.bytes.now)) c.args.threshold c.requires.in_order _ refl c.do_drop.auto.1.1.1.0 c.do_drop.ensures refl (ap (λ (h : Heap). lent h c.args.narrow.now c.args.wide.now c.args.pool.now) (drop-header c.do_drop.ensures))); marks_unchanged = (refl, refl) }
+returns-in-Drop c = record { goes = as_line ((table_of c.args.types.now c.args.fields.now c.args.consts.now c.args.bytes.now)) ((lent c.args.g.heap c.args.narrow.now c.args.wide.now c.args.pool.now)) c.args.words.now c.args.g c.args.threshold c.args.s.now c.args.line _ (ap (step_in c.args.s.now) c.in-Drop.is) (drop-line ((table_of c.args.types.now c.args.fields.now c.args.consts.now c.args.bytes.now)) c.args.threshold c.requires.in_order _ refl c.do_drop.auto.words c.do_drop.ensures refl (ap (λ (h : Heap). lent h c.args.narrow.now c.args.wide.now c.args.pool.now) (drop-header c.do_drop.ensures))); marks_unchanged = (refl, refl) }
 
 pub returns-in-Bad : goal.returns-in-Bad
 returns-in-Bad c = record { goes = bad-line ((table_of c.args.types.now c.args.fields.now c.args.consts.now c.args.bytes.now)) c.args.threshold c.args.s.now c.args.line c.requires.in_order c.in-Bad.is; marks_unchanged = (refl, refl) }

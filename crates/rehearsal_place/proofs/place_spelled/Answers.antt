@@ -5,7 +5,6 @@ use Prim.Native.Nat.{ℕ, ◌/◌}
 use Rattle.heap.specs.Lent.{lent}
 use Rattle.rehearsal_place.proofs.Spelling.{spelled-room}
 use Rattle.rehearsal_place.proofs.Answering.{spelled-refused, spelled-start, spelled-fits, spelled-done}
-use borrow.Enum.Refused.{opened}
 use Rattle.rehearsal_place.proofs.place_spelled.Goals as goal
 
 pub overflow_add-from : goal.overflow_add-from
@@ -15,7 +14,7 @@ pub slice_bounds-alloc_from-end : goal.slice_bounds-alloc_from-end
 slice_bounds-alloc_from-end c = omega (arith, spelled-room c.requires.spelled)
 
 pub returns-in_default : goal.returns-in_default
-returns-in_default c = spelled-refused ((lent c.args.heap c.args.narrow.now c.args.wide.now c.args.pool.now)) c.requires.pool_value _ _ c.requires.le_k.0 c.requires.le_k.1 _ _ _ c.requires.spelled c.alloc_from-done.result.heap c.alloc_from-done.new.narrow c.alloc_from-done.new.wide c.alloc_from-done.new.pool _ c.alloc_from-done.ensures (opened c.in_default.in_default-own.keys2)
+returns-in_default c = spelled-refused ((lent c.args.heap c.args.narrow.now c.args.wide.now c.args.pool.now)) c.requires.pool_value _ _ c.requires.le_k.0 c.requires.le_k.1 _ _ _ c.requires.spelled c.alloc_from-done.result.heap c.alloc_from-done.new.narrow c.alloc_from-done.new.wide c.alloc_from-done.new.pool _ c.alloc_from-done.ensures (c.in_default.in_default-own.keys2)
 
 pub start_of-to-requires : goal.start_of-to-requires
 start_of-to-requires c = spelled-start ((lent c.args.heap c.args.narrow.now c.args.wide.now c.args.pool.now)) c.requires.pool_value _ _ c.requires.le_k.0 c.requires.le_k.1 _ _ _ c.requires.spelled c.alloc_from-done.result.heap c.alloc_from-done.new.narrow c.alloc_from-done.new.wide c.alloc_from-done.new.pool _ c.alloc_from-done.ensures _ _ c.in-Is.is c.index_of-i.ensures

@@ -3,7 +3,6 @@ use native.Mathlib.Omega.{arith}
 use mathlib.Core.Path.{refl, ap}
 use Prim.Native.Nat.{ℕ, ◌/◌}
 use Rattle.rehearsal_steps.proofs.Swept.{can-collect, roots-end, roots-small, not-due, sweep-refused, sweep-done}
-use borrow.Enum.Refused.{opened}
 use Rattle.rehearsal_steps.proofs.collect_due.Goals as goal
 
 pub returns-then-due-eq0 : goal.returns-then-due-eq0
@@ -22,7 +21,7 @@ pub collect-done-requires : goal.collect-done-requires
 collect-done-requires c = can-collect c.requires.in_order c.requires.cleared
 
 pub returns-in_default : goal.returns-in_default
-returns-in_default c = record { goes = sweep-refused _ _ _ _ _ c.requires.in_order c.gc_due.result c.gc_due.ensures c.numbers-due.ensures c.if-due-eq0.false _ refl _ c.collect-done.ensures.tells (ap (λ (k : ℕ). k / 6) c.collect-done.auto.narrow) (opened c.in_default.in_default-own.keys2); marks_unchanged = c.collect-done.ensures.marks_unchanged }
+returns-in_default c = record { goes = sweep-refused _ _ _ _ _ c.requires.in_order c.gc_due.result c.gc_due.ensures c.numbers-due.ensures c.if-due-eq0.false _ refl _ c.collect-done.ensures.tells (ap (λ (k : ℕ). k / 6) c.collect-done.auto.narrow) (c.in_default.in_default-own.keys2); marks_unchanged = c.collect-done.ensures.marks_unchanged }
 
 pub overflow_add-result : goal.overflow_add-result
 overflow_add-result c = omega (arith, c.requires.short)

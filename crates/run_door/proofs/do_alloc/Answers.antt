@@ -13,13 +13,13 @@ pub returns-then-pool-count : goal.returns-then-pool-count
 returns-then-pool-count c = placed-none ((lent c.args.heap c.args.narrow.now c.args.wide.now c.args.pool.now)) _ _ c.args.a c.requires.can_run c.if-k-lt1.false c.if-k-gt3.false c.requires.data_there c.if-pool-count.true
 
 pub slice_bounds-alloc_from-end-2 : goal.slice_bounds-alloc_from-end-2
-slice_bounds-alloc_from-end-2 c = part_count ((lent c.args.heap c.args.narrow.now c.args.wide.now c.args.pool.now)) _ _ _ c.requires.can_run c.if-pool-count.false c.copy_hex.auto.1.1.1.0
+slice_bounds-alloc_from-end-2 c = part_count ((lent c.args.heap c.args.narrow.now c.args.wide.now c.args.pool.now)) _ _ _ c.requires.can_run c.if-pool-count.false c.copy_hex.auto.out
 
 pub alloc_from-requires : goal.alloc_from-requires
 alloc_from-requires c = record { pool_value = c.requires.can_run.formed; le_k = (c.if-k-lt1.false, c.if-k-gt3.false) }
 
 pub shape_of-room : goal.shape_of-room
-shape_of-room c = c.copy_hex.auto.1.1.1.0
+shape_of-room c = c.copy_hex.auto.out
 
 pub returns : goal.returns
 returns c = placed-done ((lent c.args.heap c.args.narrow.now c.args.wide.now c.args.pool.now)) _ _ c.args.a c.requires.can_run c.if-k-lt1.false c.if-k-gt3.false c.requires.data_there _ _ _ (decoded _ _ _ _ _ _ c.copy_hex.ensures c.requires.data_there.counted) c.alloc_from.ensures

@@ -3,7 +3,6 @@ use Prim.Native.Nat.{ℕ, ◌/◌}
 use native.Mathlib.Omega.{arith}
 use Rattle.run_door.proofs.Moving.{line-data, stepped}
 use Rattle.run_door.proofs.Looping.{same, on, run-first, run-can, run-turn, run-stop, run_end}
-use borrow.Enum.Refused.{opened}
 use Rattle.run_door.proofs.run_lines.Goals as goal
 
 pub loop-at-init : goal.loop-at-init
@@ -34,7 +33,7 @@ pub shape_of-room-in_default : goal.shape_of-room-in_default
 shape_of-room-in_default c = c.do_line-done.auto.room ∙ c.loop-at.invariant.1.room
 
 pub returns-in_default : goal.returns-in_default
-returns-in_default c = run-stop _ _ _ _ _ c.loop-at.invariant.0 _ _ _ (stepped _ _ _ c.loop-at-test.true _ _ c.read_line-line.result c.read_line-line.ensures c.do_line-done.ensures c.next_after-at.ensures) (ap (λ (n : ℕ). n / 6) c.do_line-done.auto.narrow) c.do_line-done.auto.pool (opened c.in_default.in_default-own.keys2)
+returns-in_default c = run-stop _ _ _ _ _ c.loop-at.invariant.0 _ _ _ (stepped _ _ _ c.loop-at-test.true _ _ c.read_line-line.result c.read_line-line.ensures c.do_line-done.ensures c.next_after-at.ensures) (ap (λ (n : ℕ). n / 6) c.do_line-done.auto.narrow) c.do_line-done.auto.pool (c.in_default.in_default-own.keys2)
 
 pub shape_of-narrow : goal.shape_of-narrow
 shape_of-narrow c = c.loop-at.invariant.1.narrow

@@ -13,7 +13,7 @@ pub none-requires : goal.none-requires
 none-requires c = tt
 
 pub returns-then-is_cut_off : goal.returns-then-is_cut_off
-returns-then-is_cut_off c = ends-cut c.args.shelf c.args.failed c.requires c.is_cut_off.ensures _ _ c.if-is_cut_off.true c.none.ensures c.put_line.ensures.puts c.put_line.ensures.puts (omega (arith, c.put_line.ensures.upper_bound.0, c.put_line.ensures.upper_bound.0))
+returns-then-is_cut_off c = ends-cut c.args.shelf c.args.failed c.requires c.is_cut_off.ensures _ _ c.if-is_cut_off.true c.none.ensures c.put_line-to.ensures.puts c.put_line.ensures.puts (omega (arith, c.put_line-to.ensures.upper_bound.0, c.put_line.ensures.upper_bound.0))
 
 pub returns : goal.returns
 returns c = ends_last c.args.shelf c.args.failed c.requires c.is_cut_off.ensures _ c.if-is_cut_off.false c.put_line-2.ensures.puts (omega (arith, c.put_line-2.ensures.upper_bound.0))

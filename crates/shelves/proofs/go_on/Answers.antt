@@ -21,7 +21,7 @@ pub step-now-requires : goal.step-now-requires
 step-now-requires c = (c.loop-used.invariant.good, omega (arith, c.if-to-gt65376.false))
 
 pub overflow_add-used : goal.overflow_add-used
-overflow_add-used c = omega (arith, (more-used c.loop-used.invariant c.loop-used-test.true (rest_of c.args.input.now c.loop-used.used) c.step-now.ensures).1, c.well_formed.1.0.0)
+overflow_add-used c = omega (arith, (more-used c.loop-used.invariant c.loop-used-test.true (rest_of c.args.input.now c.loop-used.used) c.step-now.ensures).1)
 
 pub loop-used-smaller : goal.loop-used-smaller
 loop-used-smaller c = let w = more-used c.loop-used.invariant c.loop-used-test.true (rest_of c.args.input.now c.loop-used.used) c.step-now.ensures in omega (arith, w.0, w.1)

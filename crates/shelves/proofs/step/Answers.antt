@@ -9,7 +9,7 @@ pub take_in-taken-requires : goal.take_in-taken-requires
 take_in-taken-requires c = c.requires.0.at
 
 pub show-shown-requires : goal.show-shown-requires
-show-shown-requires c = omega (arith, whole-small c.args.shelf c.requires.0 c.args.held.now c.args.input.now c.args.out.now _ _ c.args.to c.take_in-taken.ensures c.in-Whole.n c.in-Whole.is, c.show-arg-in-Whole-1.given.0)
+show-shown-requires c = omega (arith, whole-small c.args.shelf c.requires.0 c.args.held.now c.args.input.now c.args.out.now _ _ c.args.to c.take_in-taken.ensures c.in-Whole.n c.in-Whole.is)
 
 pub answer-requires : goal.answer-requires
 answer-requires c = record { pages_bound = (before_last c.args.shelf c.requires.0 c.args.held.now c.args.input.now c.args.out.now _ _ c.args.to c.take_in-taken.ensures (Whole c.in-Whole.n) c.in-Whole.is refl, c.requires.0.objects, c.requires.0.bytes, c.show-shown.ensures.small); to_bound = c.requires.1 }

@@ -8,11 +8,10 @@ use Rattle.mark.specs.Joining.{row_values}
 use Prim.Native.Nat.{ℕ}
 use mathlib.Core.Path.{sym, ap, ◌∙◌}
 use mathlib.Core.List.{List, ◌++◌}
-use borrow.Enum.Refused.{opened}
 use Rattle.mark.proofs.joined.mark_frame.Goals as goal
 
 pub returns-in_default : goal.returns-in_default
-returns-in_default c = let k2 = opened c.in_default.in_default-own.keys2 in search frame-stuck
+returns-in_default c = let k2 = c.in_default.in_default-own.keys2 in search frame-stuck
 
 pub seed_joined-m-requires : goal.seed_joined-m-requires
 seed_joined-m-requires c = record { runs = c.requires.fit.runs; can_hold = c.requires.can_hold; scratch = frame-scratch _ _ _ _ _ _ c.requires.scratch _ _ _ _ c.trace_frame-r.ensures _ c.in-Traced.is }

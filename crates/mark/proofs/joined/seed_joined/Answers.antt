@@ -16,10 +16,10 @@ pub push_row-requires : goal.push_row-requires
 push_row-requires c = record { runs = c.requires.runs; can_hold = c.requires.can_hold; scratch = c.hold_frame-d.ensures.scratch }
 
 pub shape_of-marks : goal.shape_of-marks
-shape_of-marks c = c.push_row.auto.marks ∙ c.hold_frame-d.auto.marks ∙ c.hold_all-c.auto.marks ∙ c.push_all-b.auto.marks ∙ c.push_row.auto.marks
+shape_of-marks c = c.push_row.auto.marks ∙ c.hold_frame-d.auto.marks ∙ c.hold_all-c.auto.marks ∙ c.push_all-b.auto.marks ∙ c.push_row-a.auto.marks
 
 pub shape_of-work : goal.shape_of-work
-shape_of-work c = c.push_row.auto.work ∙ c.hold_frame-d.auto.work ∙ c.hold_all-c.auto.work ∙ c.push_all-b.auto.work ∙ c.push_row.auto.work
+shape_of-work c = c.push_row.auto.work ∙ c.hold_frame-d.auto.work ∙ c.hold_all-c.auto.work ∙ c.push_all-b.auto.work ∙ c.push_row-a.auto.work
 
 pub returns : goal.returns
-returns c = joined-seeds (leads_to c.args.tag c.args.slots c.args.s c.args.narrow.now) c.args.slots c.args.addresses.now (row_values 4 c.args.classes.now c.args.row.now c.args.values.now) c.args.sealed.now c.args.pins.now (entries_words c.args.memory.now (entries_of c.args.map.now)) (row_values 2 c.args.classes.now c.args.row.now c.args.values.now) _ _ _ _ _ _ _ _ _ _ _ _ _ _ _ _ c.push_row.ensures.followed c.push_all-b.ensures.holds c.hold_all-c.ensures c.hold_frame-d.ensures c.push_row.ensures.followed
+returns c = joined-seeds (leads_to c.args.tag c.args.slots c.args.s c.args.narrow.now) c.args.slots c.args.addresses.now (row_values 4 c.args.classes.now c.args.row.now c.args.values.now) c.args.sealed.now c.args.pins.now (entries_words c.args.memory.now (entries_of c.args.map.now)) (row_values 2 c.args.classes.now c.args.row.now c.args.values.now) _ _ _ _ _ _ _ _ _ _ _ _ _ _ _ _ c.push_row-a.ensures.followed c.push_all-b.ensures.holds c.hold_all-c.ensures c.hold_frame-d.ensures c.push_row.ensures.followed
