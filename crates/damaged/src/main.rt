@@ -317,10 +317,8 @@ fn meant(b: u8) -> u8 {
 }
 
 fn unfold(s: &mut [u8]) {
-    let mut i = 0;
-    while i < s.len() {
-        s[i] = meant(s[i]);
-        i += 1;
+    for b in s.iter_mut() {
+        *b = meant(*b);
     }
 }
 
