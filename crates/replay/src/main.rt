@@ -33,9 +33,7 @@ fn main(rt: HostRuntime) -> io::Result<()> {
     let mut buffer = [0u8; 262144];
     let mut state = replay_lines::start();
     let mut input = input::start();
-    let mut turns = u64::MAX;
-    while turns > 0 {
-        turns -= 1;
+    for _ in 0..u64::MAX {
         match next_line(&buffer, input) {
             Line::At(from, to, rest) => {
                 state = run_line(
