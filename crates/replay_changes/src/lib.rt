@@ -119,7 +119,7 @@ fn with_bytes(
         EDIT => heaps::edit(heap, narrow, wide, pool, x, data, y, &mut m, &mut w),
         _ => {
             let i = x as usize;
-            let answer = heaps::write_data(heap, narrow, wide, pool, i, y, data, &mut m, &mut w);
+            let answer = heaps::write(heap, narrow, wide, pool, i, y, data, &mut m, &mut w);
             same(heap, answer)
         }
     }

@@ -4,6 +4,8 @@
 ghost use Rattle.table_reader.specs.Reading.{lists};
 ghost use Rattle.theorems.specs.TableText.{TableWords};
 
+pub use widths::words;
+
 fn nothing() {}
 
 // Does nothing. Its contract says what the theorem on a table's text asks for of lent lists, and that whoever lends them has it.

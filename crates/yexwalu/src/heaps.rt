@@ -1,18 +1,45 @@
 // Every call on a heap. Scratch (18) and the heap (1) are tested first, each time; the header goes in by value and comes back in `Done`.
+ghost use Rattle.std.specs.Prelude.{◌≡◌};
+ghost use Rattle.refusal.specs.Told.{nothing};
+ghost use Rattle.heap.specs.Lent.{lent};
+ghost use Rattle.heap.specs.Calls.{write as written};
+ghost use Rattle.door.specs.HeapCalls.{outcome, heap_call};
+
 pub use collect_door::joined::yexwalu_collect_joined as collect_joined;
 pub use collect_door::yexwalu_collect as collect;
+use heap::Heap;
 pub use heap_door::{
     yexwalu_data as data, yexwalu_edit as edit, yexwalu_gc_due as gc_due,
     yexwalu_has_quarantine as has_quarantine, yexwalu_is_plain as is_plain, yexwalu_kind as kind,
     yexwalu_live as live, yexwalu_reclaim_due as reclaim_due, yexwalu_reissue as reissue,
     yexwalu_resolve as resolve, yexwalu_seal as seal, yexwalu_slots as slots,
-    yexwalu_stamp as stamp, yexwalu_write as write_data,
+    yexwalu_stamp as stamp,
 };
 pub use object_door::{
     yexwalu_alloc as alloc, yexwalu_alloc_from as alloc_from, yexwalu_free as free,
     yexwalu_new as new, yexwalu_recycle as recycle, yexwalu_take as take,
 };
+use refusal::Answer;
 pub use rehearse_door::yexwalu_rehearse as rehearse;
 pub use run_door::yexwalu_run as run;
 pub use same_door::{yexwalu_order as order, yexwalu_same as same};
 pub use wanted_door::yexwalu_roots_for as roots_for;
+
+// `yexwalu_write` under its short name. An import can't rename it so, since a macro is called `write`.
+pub fn write(
+    heap: Heap,
+    narrow: &[u32],
+    wide: &mut [u64],
+    pool: &mut [u8],
+    i: usize,
+    at: usize,
+    bytes: &[u8],
+    marks: &mut [u8],
+    work: &mut [u64],
+) -> Answer
+    ensures { outcome result (lent heap narrow.now wide.new pool.new) marks.new work.new
+        ≡ heap_call nothing nothing marks.old work.old (lent heap narrow.now wide.old pool.old)
+        (λ h. written h i at bytes.now) }
+{
+    heap_door::yexwalu_write(heap, narrow, wide, pool, i, at, bytes, marks, work)
+}

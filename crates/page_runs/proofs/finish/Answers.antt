@@ -4,7 +4,7 @@ use Rattle.page_runs.proofs.Telling.{ends-over, ends-names, ends-refused, ends-f
 use Rattle.page_runs.proofs.finish.Goals as goal
 
 pub run_part-after-requires : goal.run_part-after-requires
-run_part-after-requires c = record { lies = c.requires.heap; from_le_to = (omega arith, omega (arith, c.requires.room, c.run_part-arg-in-Lines-3-1.given.0)) }
+run_part-after-requires c = record { lies = c.requires.heap; from_le_to = (omega arith, omega (arith, c.requires.room, c.run_part-arg-in-Lines-3-1.given)) }
 
 pub returns-then-after-ne0 : goal.returns-then-after-ne0
 returns-then-after-ne0 c = ends-refused c.args.buf.now c.args.run.held c.run_part-after.ensures _ _ c.in-Lines.is c.if-after-ne0.true c.put_number-then-after-ne0.ensures

@@ -18,4 +18,4 @@ pub put_number-requires : goal.put_number-requires
 put_number-requires c = room-5 _ _ c.requires c.put_number-a.ensures c.put_number-b.ensures c.put_number-c.ensures c.put_number-d.ensures
 
 pub returns : goal.returns
-returns c = puts-line _ _ c.requires c.put_number.ensures c.put_number-b.ensures c.put_number-c.ensures c.put_number-d.ensures c.put_number.ensures
+returns c = puts-line _ _ c.requires c.put_number-a.ensures c.put_number-b.ensures c.put_number-c.ensures c.put_number-d.ensures c.put_number.ensures

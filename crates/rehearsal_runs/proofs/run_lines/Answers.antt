@@ -12,7 +12,7 @@ pub read_line-line-requires : goal.read_line-line-requires
 read_line-line-requires c = c.loop-at.invariant.0.inside
 
 pub do_line-r-requires : goal.do_line-r-requires
-do_line-r-requires c = record { in_order = c.loop-at.invariant.0.order; cleared = still-clear c.requires.cleared c.loop-at.invariant.1; short = running-short c.loop-at.invariant.0 (omega (arith, c.loop-at.invariant.0.inside, c.well_formed.1.1.1.1.1.1.1.1.0.0)); data_in = line-data c.args.s.now c.loop-at.at c.read_line-line.result c.read_line-line.ensures; led = running-led c.loop-at.invariant.0 }
+do_line-r-requires c = record { in_order = c.loop-at.invariant.0.order; cleared = still-clear c.requires.cleared c.loop-at.invariant.1; short = running-short c.loop-at.invariant.0 (omega (arith, c.loop-at.invariant.0.inside)); data_in = line-data c.args.s.now c.loop-at.at c.read_line-line.result c.read_line-line.ensures; led = running-led c.loop-at.invariant.0 }
 
 pub loop-at-smaller : goal.loop-at-smaller
 loop-at-smaller c = omega (arith, next-later c.loop-at.invariant.0 c.loop-at-test.true c.read_line-line.result c.read_line-line.ensures, next-within c.loop-at.invariant.0 c.loop-at-test.true c.read_line-line.result c.read_line-line.ensures, c.next_after-at.ensures)
