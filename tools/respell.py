@@ -30,6 +30,8 @@ BY_PLACE = [
     ("crates/", "set_free", "set-free"),
 ]
 KIT = "/opt/rattle/rattle"
+# Own names that some file of the kit has too, and one word that the kit has renamed.
+OWN = {"indexOf": "index_of", "asWord": "as_word", "oneBelow": "one_below", "orNone": "or_none", "flatMap": "flat_map", "getD": "get_or"}
 
 
 def read(p):
@@ -89,7 +91,7 @@ def main():
             return "_".join(snake(it) if CAMEL.fullmatch(it) else it for it in token.split("-"))
         out = []
         for it in parts(token):
-            out.append(snake(it) if CAMEL.fullmatch(it) and it not in kit else it)
+            out.append(OWN[it] if it in OWN else snake(it) if CAMEL.fullmatch(it) and it not in kit else it)
         return "".join(out)
 
     for p, t in texts.items():

@@ -19,7 +19,7 @@ use Rattle.heap.specs.Lent.{Lent, header_of, stored, view, slot_count, pool_size
 use Rattle.heap.specs.WellFormed.{well_formed}
 use Rattle.heap.specs.Calls.{Changed, refuse, done}
 use Rattle.heap.specs.Done.{Leaves, Tells}
-use Rattle.heap.proofs.Packing.{getD-pad}
+use Rattle.heap.proofs.Packing.{get_or-pad}
 use Rattle.heap.proofs.Sound.{Sound}
 use Rattle.heap_calls.specs.Pins.{marked_slots}
 use Rattle.heap.proofs.Testing.{formed-tested}
@@ -81,7 +81,7 @@ finished-collected h handles S L r marks room t = go r (marking (graph h handles
         let p : marks ≡ pad L m.marks = inj q in
         let n : length m.marks ≡ length h.slots = marks-length (graph h handles) S (length h.slots) (sized h handles) m w in
         ap (λ (x : State). done tt x)
-        (swept_same h marks m.marks S.pins (λ i b. ap (λ (k : ℕ). eqb k 0) (ap (λ (x : List ℕ). get_or x i 0) p ∙ getD-pad L m.marks i (omega arith))))
+        (swept_same h marks m.marks S.pins (λ i b. ap (λ (k : ℕ). eqb k 0) (ap (λ (x : List ℕ). get_or x i 0) p ∙ get_or-pad L m.marks i (omega arith))))
 
 -- the same where pinned slots are marked too, with the marked slots as pins
 finished-held : (h : State) (S' P : ℕ) → Sound S' P h → (T : Table) (S : Starts) (L : ℕ) (r : Outcome) (marks : List ℕ) → length marks ≡ L → length h.slots ≤ L
@@ -99,7 +99,7 @@ finished-held h S' P fine T S L r marks long room t = go r (marking (held_graph 
     go Marked (some m) w q =
         let p : marks ≡ pad L m.marks = inj q in
         let n : length m.marks ≡ length h.slots = marks-length (held_graph h (shown T h)) S (length h.slots) (held-sized h (shown T h) (dead-shows T h) S) m w in
-        sym (held-collected h (shown T h) (dead-shows T h) S m w S' P fine marks (omega arith) (λ i b. ap (λ (x : List ℕ). get_or x i 0) p ∙ getD-pad L m.marks i (omega arith)))
+        sym (held-collected h (shown T h) (dead-shows T h) S m w S' P fine marks (omega arith) (λ i b. ap (λ (x : List ℕ). get_or x i 0) p ∙ get_or-pad L m.marks i (omega arith)))
 
 -- no marks: 13, and the heap unchanged
 none-marked : (r : Outcome) (marks pins : List ℕ) (h : State) → told r marks ≡ none → finished r marks pins h ≡ refuse 13 h

@@ -6,7 +6,7 @@ use Prim.Native.Nat.{ℕ}
 use lib.ListN.{replicate}
 use lib.Dec.{eqb}
 use Rattle.std.specs.Prelude.{if◌then◌else◌}
-use Rattle.handle.specs.Handle.{packed, tag_of, indexOf, generation_of, resolve_by}
+use Rattle.handle.specs.Handle.{packed, tag_of, index_of, generation_of, resolve_by}
 use Rattle.heap.specs.State.{Slot, State, times}
 use Rattle.heap.specs.Calls.{Changed, refuse, recycle, resolve}
 use Rattle.reach.specs.Marking.{visit, follow, drained, marking}
@@ -46,7 +46,7 @@ kinds r = map (λ (s : Slot). s.kind) r.heap.slots
 -- Nothing leads to the ring: it is dropped, and so is what can't be traced. One handle keeps the whole ring. An old handle keeps nothing, and a pin on a missing
 -- slot is no refusal.
 pub ring : map kinds (collection [] [] ∷ collection (packed 1 1 7 ∷ []) [] ∷ collection (packed 1 1 6 ∷ []) (3 ∷ []) ∷ []) ≡ (0 ∷ 0 ∷ 0 ∷ []) ∷ (3 ∷ 3 ∷ 0 ∷ []) ∷ (0 ∷ 0 ∷ 0 ∷ []) ∷ []
-unfolding collected marking drained visit follow resolve resolve_by packed tag_of indexOf generation_of swept drop_unmarked recycle dropped drop_slots live_size times
+unfolding collected marking drained visit follow resolve resolve_by packed tag_of index_of generation_of swept drop_unmarked recycle dropped drop_slots live_size times
 ring = refl
 
 -- a pin reaches what can't be traced: refused, the heap as it was

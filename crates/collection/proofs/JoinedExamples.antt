@@ -5,7 +5,7 @@ use mathlib.Core.Option.{Option, none, some}
 use Prim.Native.Nat.{ℕ}
 use lib.ListN.{replicate}
 use Rattle.word.specs.Ones.{passing}
-use Rattle.handle.specs.Handle.{packed, tag_of, indexOf, generation_of, resolve_by}
+use Rattle.handle.specs.Handle.{packed, tag_of, index_of, generation_of, resolve_by}
 use Rattle.ty.specs.Types.{Table}
 use Rattle.trace.specs.Places.{words_at, kind_places, handles_of}
 use Rattle.heap.specs.State.{Slot, State, times}
@@ -57,7 +57,7 @@ kinds r = map (λ (s : Slot). s.kind) r.heap.slots
 
 -- What the live register of class 4 and the frame hold stays, the rest is dropped. A pin keeps its slot, and one on a missing slot nothing.
 pub kept : (T : Table) → map kinds (collection T (some (packed 1 2 9 ∷ [])) [] [] [] ∷ collection T (some []) (1 ∷ 4 ∷ []) [] [] ∷ []) ≡ (2 ∷ 0 ∷ 2 ∷ 0 ∷ []) ∷ (2 ∷ 2 ∷ 0 ∷ 0 ∷ []) ∷ []
-unfolding joined registers_of live_references pins_at slots_of slot_of values_of live_row passing live_before live_in gen kill successors reads writes track words_at kind_places handles_of collected marking drained visit follow resolve resolve_by packed tag_of indexOf generation_of swept drop_unmarked recycle dropped drop_slots live_size times
+unfolding joined registers_of live_references pins_at slots_of slot_of values_of live_row passing live_before live_in gen kill successors reads writes track words_at kind_places handles_of collected marking drained visit follow resolve resolve_by packed tag_of index_of generation_of swept drop_unmarked recycle dropped drop_slots live_size times
 kept T = refl
 
 -- An address of the frame that is listed pins its slot, and so does the value of the live register of class 2. An address between two listed ones pins nothing, and
@@ -65,7 +65,7 @@ kept T = refl
 pub addressed : (T : Table)
     → map kinds (collection T (some []) [] (100 ∷ 1 ∷ 200 ∷ 2 ∷ []) (100 ∷ 150 ∷ []) ∷ collection T (some []) [] (200 ∷ 1 ∷ packed 1 3 11 ∷ 3 ∷ []) [] ∷ [])
     ≡ (2 ∷ 2 ∷ 0 ∷ 0 ∷ []) ∷ (2 ∷ 0 ∷ 0 ∷ 2 ∷ []) ∷ []
-unfolding joined registers_of live_references pins_at slots_of slot_of values_of live_row passing live_before live_in gen kill successors reads writes track words_at kind_places handles_of collected marking drained visit follow resolve resolve_by packed tag_of indexOf generation_of swept drop_unmarked recycle dropped drop_slots live_size times
+unfolding joined registers_of live_references pins_at slots_of slot_of values_of live_row passing live_before live_in gen kill successors reads writes track words_at kind_places handles_of collected marking drained visit follow resolve resolve_by packed tag_of index_of generation_of swept drop_unmarked recycle dropped drop_slots live_size times
 addressed T = refl
 
 -- a frame map that fails: refused, the heap as it was

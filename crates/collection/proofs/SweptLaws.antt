@@ -13,7 +13,7 @@ use borrow.Author.Tests.{eq-eqb, ne_eqb}
 use Rattle.std.specs.Prelude.{if◌then◌else◌}
 use Rattle.word.specs.Result.{ok}
 use Rattle.word.specs.Lists.{filter}
-use Rattle.handle.specs.Handle.{indexOf, resolve_by}
+use Rattle.handle.specs.Handle.{index_of, resolve_by}
 use Rattle.handle.proofs.ResolveLaws.{Resolves, resolve-ok, resolve_same}
 use Rattle.heap.specs.State.{Slot, State, no_slot, slot_at, live, worn, times, with_since, with_live}
 use Rattle.heap.specs.Calls.{resolve, changed, release, released, member, recycle}
@@ -78,26 +78,26 @@ unfolding swept drop_unmarked recycle
 swept-tag h marks pins = (all-dropped marks h).tag
 
 -- the slot that a handle resolves to is live, and the one that the handle names
-pub resolved_live : (h : State) (x i : ℕ) → resolve h x ≡ ok i → (live (slot_at h i) ≡ true) × (indexOf x ≡ i)
+pub resolved_live : (h : State) (x i : ℕ) → resolve h x ≡ ok i → (live (slot_at h i) ≡ true) × (index_of x ≡ i)
 unfolding resolve
 resolved_live h x i e =
     let r : Resolves h.tag (length h.slots) (λ j. live (slot_at h j)) (λ j. (slot_at h j).generation) x i = resolve-ok h.tag (length h.slots) (λ j. live (slot_at h j)) (λ j. (slot_at h j).generation) x i e in
     (r.alive, r.index)
 
-same-resolve : (h h' : State) (x : ℕ) → h'.tag ≡ h.tag → length h'.slots ≡ length h.slots → slot_at h' (indexOf x) ≡ slot_at h (indexOf x) → resolve h' x ≡ resolve h x
+same-resolve : (h h' : State) (x : ℕ) → h'.tag ≡ h.tag → length h'.slots ≡ length h.slots → slot_at h' (index_of x) ≡ slot_at h (index_of x) → resolve h' x ≡ resolve h x
 unfolding resolve
 same-resolve h h' x et en es =
     ap (λ (t : ℕ). resolve_by t (length h'.slots) (λ i. live (slot_at h' i)) (λ i. (slot_at h' i).generation) x) et
     ∙ resolve_same h.tag (length h'.slots) (length h.slots) (λ i. live (slot_at h' i)) (λ i. live (slot_at h i)) (λ i. (slot_at h' i).generation) (λ i. (slot_at h i).generation) x en (ap live es) (ap (λ (s : Slot). s.generation) es)
 
 module _ (h : State) (marks pins : List ℕ) (x i : ℕ) where
-  same-marked : 0 < get_or marks (indexOf x) 0 → resolve (swept h marks pins) x ≡ resolve h x
-  same-marked m = same-resolve h (swept h marks pins) x (swept-tag h marks pins) (swept-count h marks pins) (survivor h marks pins (indexOf x) m)
+  same-marked : 0 < get_or marks (index_of x) 0 → resolve (swept h marks pins) x ≡ resolve h x
+  same-marked m = same-resolve h (swept h marks pins) x (swept-tag h marks pins) (swept-count h marks pins) (survivor h marks pins (index_of x) m)
 
   -- a handle that resolves afterwards did so before, and its slot is marked
   pub resolved-before : resolve (swept h marks pins) x ≡ ok i → (resolve h x ≡ ok i) × (0 < get_or marks i 0)
   resolved-before e =
-      let r : (live (slot_at (swept h marks pins) i) ≡ true) × (indexOf x ≡ i) = resolved_live (swept h marks pins) x i e in
+      let r : (live (slot_at (swept h marks pins) i) ≡ true) × (index_of x ≡ i) = resolved_live (swept h marks pins) x i e in
       let m : 0 < get_or marks i 0 = (only-marked h marks pins i r.0).1 in
       (sym (same-marked (subst (λ (k : ℕ). 0 < get_or marks k 0) (sym r.1) m)) ∙ e, m)
 

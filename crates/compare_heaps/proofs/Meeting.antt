@@ -14,7 +14,7 @@ use Rattle.trace.specs.declared.Answer.{Answer}
 use Rattle.trace.specs.declared.Answer.TheVariants.{Traced, Untraceable}
 use Rattle.reach.specs.Reach.{◌∈◌}
 use Rattle.reach.specs.Marking.{State, drained}
-use Rattle.reach.proofs.Grown.{∈-getD}
+use Rattle.reach.proofs.Grown.{∈-get_or}
 use Rattle.mark.specs.Graph.{leads_to, graph_in}
 use Rattle.mark.specs.Scratch.{low, state_of, Scratch, Traces, seeded_from}
 use Rattle.mark.proofs.States.{scratch-start}
@@ -62,7 +62,7 @@ module _ (T : Table) (tag slots S : ℕ) (narrow wide pool : List ℕ) where
         room = q.room;
         inside = q.inside;
         traced = λ k h e.
-            let in-lows : get_or (lows n work) k 0 ∈ lows n work = ∈-getD (lows n work) k (omega (arith, lows-length n work q.room)) in
+            let in-lows : get_or (lows n work) k 0 ∈ lows n work = ∈-get_or (lows n work) k (omega (arith, lows-length n work q.room)) in
             let o : ℕ = get_or work k 0 % 16777216 in
             let i : o ∈ met M roots slots = subst (λ (l : List ℕ). o ∈ l) q.queue (subst (λ (x : ℕ). x ∈ lows n work) (lows-at n work q.room k h) in-lows) in
             let r = reached-places roots q.traced o i in

@@ -1,7 +1,7 @@
 -- When a heap is well formed (01, "Well formed" and "Added"; request [7]): tests that other definitions branch on.
 use Rattle.std.specs.Prelude.{ℕ, suc, ◌+◌, ◌%◌, Bool, true, not, ◌&&◌, ◌||◌, ltb, List, [], ◌∷◌, ◌++◌, length, ◌==◌, nat_eq, nat_le, nat_lt}
 use Rattle.word.specs.Lists.{all, all_below, same_list}
-use Rattle.handle.specs.Handle.{tag_of, indexOf, generation_of}
+use Rattle.handle.specs.Handle.{tag_of, index_of, generation_of}
 use Rattle.heap.specs.State.{Slot, State, slot_at, live, last_generation, worn, data_size, bit, times}
 use Rattle.heap.specs.Lent.{Lent, stored, view, slot_count, pool_size}
 use Rattle.heap.specs.declared.Heap.{Heap}
@@ -31,8 +31,8 @@ retired_rightly h = all (λ i. not (worn (slot_at h i))) h.free && all (λ i. wo
 unfoldable pub sound_seals : (tag n from : ℕ) → List ℕ → Bool
 sound_seals tag n from [] = true
 sound_seals tag n from (x ∷ xs) =
-    (tag_of x == tag) && nat_le from (indexOf x) && nat_lt (indexOf x) n && nat_le 1 (generation_of x)
-    && sound_seals tag n (suc (indexOf x)) xs
+    (tag_of x == tag) && nat_le from (index_of x) && nat_lt (index_of x) n && nat_le 1 (generation_of x)
+    && sound_seals tag n (suc (index_of x)) xs
 
 -- reclaim_at even, 4,096 to 33,554,432
 unfoldable pub sound_reclaim : ℕ → Bool

@@ -9,7 +9,7 @@ use Rattle.refusal.specs.Told.{refused_by, told, answered, here, nothing}
 use Rattle.refusal.specs.declared.Answer.{Answer}
 use Rattle.refusal.specs.declared.Reply.{Reply}
 use Rattle.refusal.specs.declared.Reply.TheVariants.{Is}
-use Rattle.handle.specs.Handle.{indexOf, resolve_by}
+use Rattle.handle.specs.Handle.{index_of, resolve_by}
 use Rattle.handle.specs.Columns.{live_in}
 use Rattle.handle.proofs.ResolveLaws.{resolve_same, live-beyond, live-not, live-there}
 use Rattle.heap.specs.State.{Slot, State, no_slot, slot_at, live, data_size, bit}
@@ -160,12 +160,12 @@ module _ (l : Lent) (w : well_formed l ≡ true) where
   unfolding resolve
   resolves x =
       resolve_same l.header.tag l.header.slots (length (view l).slots) (live_in l.header.slots l.kind) (λ i. live (slot_at (view l) i)) (λ i. get_or l.generation i 0) (λ i. (slot_at (view l) i).generation) x
-      (knows l w).slot_count there (generation-is l w (indexOf x))
+      (knows l w).slot_count there (generation-is l w (index_of x))
       ∙ ap (λ (t : ℕ). resolve_by t (length (view l).slots) (λ i. live (slot_at (view l) i)) (λ i. (slot_at (view l) i).generation) x) (sym (header_is (view l) l.header (sym (knows l w).header)).tag)
     where
-      there : live_in l.header.slots l.kind (indexOf x) ≡ live (slot_at (view l) (indexOf x))
+      there : live_in l.header.slots l.kind (index_of x) ≡ live (slot_at (view l) (index_of x))
       there =
-          let i : ℕ = indexOf x in
+          let i : ℕ = index_of x in
           elim (dec_lt i l.header.slots) [
             | no b ↦ live-beyond l.header.slots l.kind i (omega arith) ∙ sym (none-beyond i (omega arith))
             | yes b ↦ elim (ℕ_discrete (get_or l.kind i 0) 0) [

@@ -7,7 +7,7 @@ use Rattle.word.proofs.Bools.{either}
 use Rattle.word.specs.Put.{put}
 use Rattle.word.specs.Result.{Result, ok, refused}
 use Rattle.word.proofs.PutLaws.{length-put}
-use Rattle.handle.specs.Handle.{packed, indexOf}
+use Rattle.handle.specs.Handle.{packed, index_of}
 use Rattle.handle.proofs.HandleLaws.{tag-packed, index-packed, generation-packed}
 use Rattle.handle.proofs.ResolveLaws.{resolve-ok}
 use Rattle.heap.specs.State.{Slot, State, no_slot, slot_at, live, last_generation, data_size, with_sealed}
@@ -113,7 +113,7 @@ handles-sound tag n i from (s ∷ ss) e few low each =
         let at = index-packed tag i s.generation (omega arith) g.1 in
         seals-join tag n from (packed tag i s.generation) (live_handles tag (suc i) ss)
         (record { ours = tag-packed tag i s.generation (omega arith) g.1; above = omega arith; inside = omega arith; aged = omega (arith, generation-packed tag i s.generation g.1, g.0) })
-        ∙ rest (suc (indexOf (packed tag i s.generation))) (omega arith)
+        ∙ rest (suc (index_of (packed tag i s.generation))) (omega arith)
 
 pub seal-sound : (S P : ℕ) (h : State) → Sound S P h → Sound S P (seal h)
 unfolding seal

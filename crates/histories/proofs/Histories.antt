@@ -9,7 +9,7 @@ use native.Mathlib.Omega.{arith}
 use lib.ListN.{length}
 use Rattle.word.specs.Result.{Result, ok, refused}
 use Rattle.word.proofs.Bools.{either}
-use Rattle.handle.specs.Handle.{packed, tag_of, indexOf, generation_of}
+use Rattle.handle.specs.Handle.{packed, tag_of, index_of, generation_of}
 use Rattle.handle.proofs.HandleLaws.{packed-inj}
 use Rattle.handle.proofs.ResolveLaws.{Resolves as Leads, resolve-ok, resolve-at}
 use Rattle.ty.specs.Types.{Table}
@@ -178,18 +178,18 @@ unfolding resolve
 leads h x i e = resolve-ok h.tag (length h.slots) (λ j. live (slot_at h j)) (λ j. (slot_at h j).generation) x i e
 
 -- a handle of this heap resolves exactly at one age of its slot
-resolve-age : (h : State) (x i : ℕ) → LeadsIn h x i → age (slot_at h (indexOf x)) ≡ 2 * generation_of x
+resolve-age : (h : State) (x i : ℕ) → LeadsIn h x i → age (slot_at h (index_of x)) ≡ 2 * generation_of x
 resolve-age h x i f = omega (arith, ap (λ (n : ℕ). age (slot_at h n)) f.index, ap bit f.alive, f.current)
 
-age-resolve : (h : State) (x : ℕ) → (x ≡ 0 → ⊥) → tag_of x ≡ h.tag → age (slot_at h (indexOf x)) ≡ 2 * generation_of x → Resolves h x
+age-resolve : (h : State) (x : ℕ) → (x ≡ 0 → ⊥) → tag_of x ≡ h.tag → age (slot_at h (index_of x)) ≡ 2 * generation_of x → Resolves h x
 unfolding resolve
-age-resolve h x full own a = go (either (live (slot_at h (indexOf x))))
+age-resolve h x full own a = go (either (live (slot_at h (index_of x))))
   where
-    go : (live (slot_at h (indexOf x)) ≡ true) ⊎ (live (slot_at h (indexOf x)) ≡ false) → Resolves h x
+    go : (live (slot_at h (index_of x)) ≡ true) ⊎ (live (slot_at h (index_of x)) ≡ false) → Resolves h x
     go (inl e) =
-        let inside = live_inside h (indexOf x) e in
-        let g : (slot_at h (indexOf x)).generation ≡ generation_of x = omega (arith, ap bit e) in
-        (indexOf x, unfold resolve in resolve-at h.tag (length h.slots) (λ j. live (slot_at h j)) (λ j. (slot_at h j).generation) x full own inside e g)
+        let inside = live_inside h (index_of x) e in
+        let g : (slot_at h (index_of x)).generation ≡ generation_of x = omega (arith, ap bit e) in
+        (index_of x, unfold resolve in resolve-at h.tag (length h.slots) (λ j. live (slot_at h j)) (λ j. (slot_at h j).generation) x full own inside e g)
     go (inr e) = absurd (omega (arith, ap bit e))
 
 pub never : (S P : ℕ) (next later : List Step) (h : State) (x : ℕ) → Sound S P h → Resolves h x → (Resolves (after S P next h) x → ⊥) → Resolves (after S P later (after S P next h)) x → ⊥
@@ -201,7 +201,7 @@ never S P next later h x k r gone back =
     let g₁ = after-grew S P next h k in
     let g₂ = after-grew S P later h₁ g₁.sound in
     gone (age-resolve h₁ x a.full (a.own ∙ sym g₁.tag)
-    (omega (arith, resolve-age h x r.0 a, resolve-age h₂ x back.0 b, g₁.ages (indexOf x), g₂.ages (indexOf x))))
+    (omega (arith, resolve-age h x r.0 a, resolve-age h₂ x back.0 b, g₁.ages (index_of x), g₂.ages (index_of x))))
 
 -- ---- counts
 

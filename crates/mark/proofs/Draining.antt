@@ -23,7 +23,7 @@ use Rattle.mark.specs.Graph.{leads_to, shown_in, graph_in}
 use Rattle.mark.specs.Scratch.{low, state_of, Noted, NotedBy, Scratch, Holds, following, Traces, seeded_from}
 use Rattle.mark.specs.Told.{marks_in, starts_of, Ready}
 use Rattle.mark.proofs.States.{scratch-start}
-use Rattle.reach.proofs.Grown.{∈-getD, good-room}
+use Rattle.reach.proofs.Grown.{∈-get_or, good-room}
 
 -- ---- the function's clauses
 
@@ -62,7 +62,7 @@ module _ (slots : ℕ) (marks work : List ℕ) (count : ℕ) (s : Scratch slots 
 
   pub queue-below : (k : ℕ) → k < count → low (get_or work k 0) < slots
   queue-below k h =
-      subst (λ (i : ℕ). i < slots) (queue-at k h) (s.good.within (get_or (map low (take count work)) k 0) (∈-getD (map low (take count work)) k (omega (arith, queue-length))))
+      subst (λ (i : ℕ). i < slots) (queue-at k h) (s.good.within (get_or (map low (take count work)) k 0) (∈-get_or (map low (take count work)) k (omega (arith, queue-length))))
 
 module _ (G : Graph) (slots : ℕ) (marks₀ work₀ : List ℕ) (total : Option State) (marks work : List ℕ) (count next : ℕ) (d : Draining G slots marks₀ work₀ total marks work count next) where
   pub draining-end : count ≤ next → total ≡ some (state_of marks work count)

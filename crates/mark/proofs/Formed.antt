@@ -11,7 +11,7 @@ use borrow.Author.Tests.{lt-ltb, le-ltb, ne_eqb}
 use native.Mathlib.Decide.{dec_lt}
 use native.Mathlib.Omega.{arith}
 use Rattle.word.specs.Run.{run}
-use Rattle.handle.specs.Handle.{indexOf}
+use Rattle.handle.specs.Handle.{index_of}
 use Rattle.handle.specs.Columns.{live_in}
 use Rattle.handle.proofs.ResolveLaws.{resolve_same}
 use Rattle.heap.specs.Packing.{flat, ends, start_of, data_at}
@@ -23,7 +23,7 @@ use Rattle.heap.specs.Calls.{resolve}
 use Rattle.heap.proofs.Sound.{WellFormed}
 use Rattle.heap.proofs.Packing.{data-at, start-of, length-ends, end-at}
 use Rattle.heap.proofs.Splicing.{flat-mono}
-use Rattle.heap.proofs.Storing.{column-any, getD-pad-past}
+use Rattle.heap.proofs.Storing.{column-any, get_or-pad-past}
 use Rattle.heap.proofs.Changing.{Known, known}
 use Rattle.heap.proofs.Testing.{formed-tested}
 use Rattle.heap.proofs.Runs.{wide_room}
@@ -115,7 +115,7 @@ module _ (h : Heap) (narrow wide pool : List ℕ) (wf : well_formed (lent h narr
           ∙ data-at (slot_count l) (pool_size l) (data_of (view l).slots) i (omega (arith, n-data))
           ∙ get_or-map (λ (s : Slot). s.bytes) (view l).slots i no_slot
       go (no h) =
-          let e : get_or l.end i 0 ≡ 0 = ap (λ (x : List ℕ). get_or x i 0) facts.end ∙ getD-pad-past (slot_count l) (ends 0 (data_of (view l).slots)) i (omega (arith, n-data, length-ends 0 (data_of (view l).slots))) in
+          let e : get_or l.end i 0 ≡ 0 = ap (λ (x : List ℕ). get_or x i 0) facts.end ∙ get_or-pad-past (slot_count l) (ends 0 (data_of (view l).slots)) i (omega (arith, n-data, length-ends 0 (data_of (view l).slots))) in
           let z : get_or l.end i 0 - start_of l.end i ≡ 0 = omega arith in
           ap (λ (m : ℕ). take m (drop (start_of l.end i) l.pool)) z ∙ sym (ap (λ (s : Slot). s.bytes) (past i (omega arith)))
 
@@ -132,7 +132,7 @@ module _ (h : Heap) (narrow wide pool : List ℕ) (wf : well_formed (lent h narr
   leads-same x =
       ap found
       (resolve_same l.header.tag l.header.slots (length (view l).slots) (live_in l.header.slots l.kind) (λ i. live (slot_at (view l) i)) (λ i. get_or l.generation i 0) (λ i. (slot_at (view l) i).generation) x
-      facts.slot_count (live_same (indexOf x)) (generation-same (indexOf x)))
+      facts.slot_count (live_same (index_of x)) (generation-same (index_of x)))
 
   module _ (T : Table) where
     shown-same : (i : ℕ) → shown_in T S narrow wide pool i ≡ shown T (view l) i

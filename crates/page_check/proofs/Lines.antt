@@ -5,7 +5,7 @@ use mathlib.Core.Path.{◌≡◌, sym, ap, ◌∙◌}
 use native.Mathlib.Omega.{arith}
 use lib.Dec.{leb, eqb}
 use borrow.Author.Tests.{le-leb, lt-leb, eq-eqb, ne_eqb, lt-ltb, le-ltb}
-use Rattle.handle.specs.Handle.{tag_of, indexOf, generation_of}
+use Rattle.handle.specs.Handle.{tag_of, index_of, generation_of}
 use Rattle.heap.specs.State.{last_generation}
 use Rattle.page_check.specs.Answer.{sound_numbers, seal_test}
 use Rattle.page_check.specs.Partition.{expected, right}
@@ -61,7 +61,7 @@ module _ (rule : Rule) (g k n : ℕ) where
   pub worn-one : rule ≡ Worn → (n ≡ 0 → ⊥) → n ≤ 1 → eqb g last_generation ≡ right rule g k n
   worn-one q e h = let w : eqb g last_generation ≡ right Worn g k n = rw (ne_eqb n 0 e, eq-eqb n 1 (omega arith)) in w ∙ ap (λ (r : Rule). right r g k n) (sym q)
 
-module _ (tag n from x : ℕ) {i u : ℕ} (e : i ≡ indexOf x) (v : u ≡ tag_of x) where
+module _ (tag n from x : ℕ) {i u : ℕ} (e : i ≡ index_of x) (v : u ≡ tag_of x) where
   pub other-heap : (u ≡ tag → ⊥) → false ≡ seal_test tag n from x
   unfolding seal_test
   other-heap f = rw (← v, ne_eqb u tag f)

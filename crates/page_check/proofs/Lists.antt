@@ -17,7 +17,7 @@ use Rattle.text.specs.declared.Decimal.{Decimal}
 use Rattle.text.specs.declared.Decimal.TheVariants.{Number, NoNumber}
 use Rattle.text.proofs.Getting.{answer-none, field_found}
 use Rattle.heap.specs.WellFormed.{sound_seals}
-use Rattle.handle.specs.Handle.{indexOf}
+use Rattle.handle.specs.Handle.{index_of}
 use Rattle.page_check.specs.Answer.{indices_more, seals_more, seal_test}
 use Rattle.page_check.specs.declared.Values.{Values}
 use Rattle.page_check.specs.declared.Values.TheVariants.{Good, NoValues}
@@ -39,11 +39,11 @@ indices_step len n ok x none = refl
 indices_step len n ok x (some r) = ap (λ (b : Bool). Good b (len - length r.1)) (sym (and_assoc ok (ltb x n) (all (λ i. ltb i n) r.0)))
 
 seals-step : (len tag n from : ℕ) (ok : Bool) (x : ℕ) (o : Option (List ℕ × List ℕ)) →
-    seals_more len tag n from ok (o >>= λ y. give (x ∷ y.0) y.1) ≡ seals_more len tag n (indexOf x + 1) (ok && seal_test tag n from x) o
+    seals_more len tag n from ok (o >>= λ y. give (x ∷ y.0) y.1) ≡ seals_more len tag n (index_of x + 1) (ok && seal_test tag n from x) o
 unfolding sound_seals seal_test
 seals-step len tag n from ok x none = refl
 seals-step len tag n from ok x (some r) =
-    rw (add-one (indexOf x)) (ap (λ (b : Bool). Good b (len - length r.1)) (sym (and_assoc ok (seal_test tag n from x) (sound_seals tag n (suc (indexOf x)) r.0))))
+    rw (add-one (index_of x)) (ap (λ (b : Bool). Good b (len - length r.1)) (sym (and_assoc ok (seal_test tag n from x) (sound_seals tag n (suc (index_of x)) r.0))))
 
 -- the values that are left, from position k on
 module _ (width : ℕ) (s : List ℕ) (k i count : ℕ) where
@@ -69,7 +69,7 @@ module _ (s : List ℕ) (tag n from : ℕ) (ok : Bool) (k i count : ℕ) {now : 
   pub seals-lost : i < count → (number 64 10).read (drop k s) ≡ none → NoValues ≡ now
   seals-lost h f = sym (e ∙ ap (seals_more (length s) tag n from ok) (all_none (number 64 10).read i count (drop k s) h f))
 
-  pub seals-next : (v next : ℕ) (b t : Bool) (m : ℕ) → i < count → (number 64 10).read (drop k s) ≡ give v (drop next s) → t ≡ seal_test tag n from v → b ≡ (ok && t) → m ≡ indexOf v →
+  pub seals-next : (v next : ℕ) (b t : Bool) (m : ℕ) → i < count → (number 64 10).read (drop k s) ≡ give v (drop next s) → t ≡ seal_test tag n from v → b ≡ (ok && t) → m ≡ index_of v →
       now ≡ seals_more (length s) tag n (m + 1) b (left 64 s next (i + 1) count)
   seals-next v next b t m h f g q w =
       e ∙ ap (seals_more (length s) tag n from ok) (all-some (number 64 10).read i count (drop k s) v (drop next s) h f)

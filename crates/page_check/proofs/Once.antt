@@ -13,7 +13,7 @@ use borrow.Author.Tests.{ne_eqb}
 use Rattle.word.specs.Bit as word
 use Rattle.word.proofs.Bools.{true-false, and-false, and_assoc}
 use Rattle.word.proofs.BitLaws.{bit-of-zero}
-use Rattle.word.proofs.ListLaws.{getD-zeros}
+use Rattle.word.proofs.ListLaws.{get_or-zeros}
 use Rattle.rows.specs.Row.{bit_in}
 use Rattle.text.specs.Text.{give, Reader, ◌>>=◌}
 use Rattle.text.specs.Format.{read_all, times}
@@ -34,7 +34,7 @@ use Rattle.page_check.proofs.Counting.{mark-told, mark-both, mark-spoilt}
 
 zero_row : (n j : ℕ) → marked (replicate n 0) j ≡ 0
 unfolding bit_in
-zero_row n j = ap (λ (x : ℕ). bit (word.bit x (j % 64))) (getD-zeros n (j / 64)) ∙ ap bit (bit-of-zero (j % 64))
+zero_row n j = ap (λ (x : ℕ). bit (word.bit x (j % 64))) (get_or-zeros n (j / 64)) ∙ ap bit (bit-of-zero (j % 64))
 
 pub bit-low : (row : List ℕ) (i : ℕ) {n : ℕ} → n ≡ marked row i → n ≤ 1
 bit-low row i {n} e = go (bit_in 64 row i) e

@@ -4,7 +4,7 @@ use Rattle.std.proofs.Math.Option.{Option, none, some}
 use Rattle.word.specs.Lists.{all}
 use Rattle.heap.specs.State.{data_size, Slot}
 use Rattle.heap.specs.WellFormed.{sound_slot, sound_seals}
-use Rattle.handle.specs.Handle.{tag_of, indexOf, generation_of}
+use Rattle.handle.specs.Handle.{tag_of, index_of, generation_of}
 use Rattle.pages.specs.Page.{Head}
 use Rattle.page_check.specs.declared.HeadLine.{HeadLine}
 use Rattle.page_check.specs.declared.HeadLine.TheVariants.{Head as Head-of, NoHead}
@@ -48,7 +48,7 @@ indices_more len n ok none = NoValues
 indices_more len n ok (some r) = Good (ok && all (λ i. ltb i n) r.0) (len - length r.1)
 
 unfoldable pub seal_test : (tag n from x : ℕ) → Bool
-seal_test tag n from x = eqb (tag_of x) tag && leb from (indexOf x) && ltb (indexOf x) n && leb 1 (generation_of x)
+seal_test tag n from x = eqb (tag_of x) tag && leb from (index_of x) && ltb (index_of x) n && leb 1 (generation_of x)
 
 -- a list of seals that are sound from slot `from` on
 abbrev pub seals_more : (len tag n from : ℕ) (ok : Bool) → Option (List ℕ × List ℕ) → Values

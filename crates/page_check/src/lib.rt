@@ -10,7 +10,7 @@ ghost use Rattle.text.specs.Format.{read_all, number};
 ghost use Rattle.page_check.specs.Partition.{values_at, ValuesParsed, marked, Marked, expected, right, agree};
 ghost use Rattle.page_check.specs.Filling.{slots_at, SlotsParsed, RunChecked};
 ghost use Rattle.page_check.specs.Answer.{slot_answer, slots_answer, sound_numbers, indices_more, seals_more, seal_test, head_answer};
-ghost use Rattle.handle.specs.Handle.{tag_of, indexOf, generation_of};
+ghost use Rattle.handle.specs.Handle.{tag_of, index_of, generation_of};
 ghost use Rattle.heap.specs.WellFormed.{sound_seals, sound_reclaim};
 ghost use Rattle.page_check.specs.Sections.{heap_in, form_in, listed, obeyed, parted, Sectioned, Parsing, verdict, Checking};
 ghost use Rattle.page_check.specs.Parts.{sections_of, HeadSectioned, NamesRead, SlotSectioned, ListSectioned, RetiredSectioned};
@@ -392,7 +392,7 @@ fn check_indices(s: &[u8], at: usize, count: usize, n: usize) -> Values
 }
 
 fn slot_of(x: u64) -> usize
-    ensures value { result ≡ indexOf x }
+    ensures value { result ≡ index_of x }
     ensures upper_bound { result < 16777216 }
 {
     handle::index_of(x) as usize

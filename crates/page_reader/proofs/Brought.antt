@@ -17,8 +17,8 @@ use Rattle.text.proofs.Putting.{put-nothing}
 use Rattle.heap.specs.State.{Slot, State, no_slot, slot_at, last_generation, worn}
 use Rattle.heap.specs.Packing.{pad}
 use Rattle.heap.specs.WellFormed.{places, partitioned, retired_rightly, sound}
-use Rattle.heap.proofs.Packing.{getD-pad}
-use Rattle.heap.proofs.Storing.{getD-pad-past}
+use Rattle.heap.proofs.Packing.{get_or-pad}
+use Rattle.heap.proofs.Storing.{get_or-pad-past}
 use Rattle.pages.specs.Page.{moved}
 use Rattle.pages.proofs.Bound.{parts}
 use Rattle.pages.proofs.Moving.{same-partition}
@@ -52,9 +52,9 @@ module _ (h : State) (S : ℕ) (gs : List ℕ) (e : gs ≡ pad S (map (λ (x : S
       let ages : List ℕ = map (λ (x : Slot). x.generation) h.slots in
       ap (λ (l : List ℕ). get_or l i 0) e
       ∙ elim (dec_lt i (length h.slots)) [
-        | yes y ↦ getD-pad S ages i (omega (arith, length-map h.slots (λ (x : Slot). x.generation))) ∙ get_or-map (λ (x : Slot). x.generation) h.slots i no_slot
+        | yes y ↦ get_or-pad S ages i (omega (arith, length-map h.slots (λ (x : Slot). x.generation))) ∙ get_or-map (λ (x : Slot). x.generation) h.slots i no_slot
         | no y ↦
-            getD-pad-past S ages i (omega (arith, length-map h.slots (λ (x : Slot). x.generation)))
+            get_or-pad-past S ages i (omega (arith, length-map h.slots (λ (x : Slot). x.generation)))
             ∙ sym (ap (λ (x : Slot). x.generation) (get_or-eq_default h.slots no_slot (omega arith)))
       ]
 

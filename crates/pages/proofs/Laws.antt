@@ -207,10 +207,10 @@ pub value-prints : (width n : ℕ) → (number width newline).print n ≡ value_
 unfolding number value_line line
 value-prints width n = refl
 
-pub flatMap-same : {A : Type 0} (f g : A → List ℕ) → ((a : A) → f a ≡ g a) → (l : List A) → flat_map f l ≡ flat_map g l
+pub flat_map-same : {A : Type 0} (f g : A → List ℕ) → ((a : A) → f a ≡ g a) → (l : List A) → flat_map f l ≡ flat_map g l
 unfolding flat_map
-flatMap-same f g e [] = refl
-flatMap-same f g e (a ∷ l) = rw (e a, flatMap-same f g e l)
+flat_map-same f g e [] = refl
+flat_map-same f g e (a ∷ l) = rw (e a, flat_map-same f g e l)
 
 pub head-prints : (r : Bool) (h : State) → RetiredWithin r h.retired → (head_format r).print (head_of h) ≡ heap_line r h
 unfolding head_format heap_line numbers_line number pair line retired_count always
@@ -227,7 +227,7 @@ names-print f = refl
 
 retired-prints : (r : Bool) (n : ℕ) (l : List ℕ) → (retired_format r n).print l ≡ retired_part r l
 unfolding retired_format retired_part after_literal times always
-retired-prints true n l = rw (flatMap-same (number 32 newline).print value_line (value-prints 32) l)
+retired-prints true n l = rw (flat_map-same (number 32 newline).print value_line (value-prints 32) l)
 retired-prints false n l = refl
 
 body-prints : (f : Form) (h : State) → (body_format f (counts_of h)).print (body_of h) ≡
@@ -237,9 +237,9 @@ unfolding body_format after_literal pair times
 body-prints f h =
     rw (
       slots-print f.wide f.planar (length h.slots) h.slots,
-      flatMap-same (number 32 newline).print value_line (value-prints 32) h.free,
-      flatMap-same (number 32 newline).print value_line (value-prints 32) h.quarantine,
-      flatMap-same (number 64 newline).print value_line (value-prints 64) h.sealed,
+      flat_map-same (number 32 newline).print value_line (value-prints 32) h.free,
+      flat_map-same (number 32 newline).print value_line (value-prints 32) h.quarantine,
+      flat_map-same (number 64 newline).print value_line (value-prints 64) h.sealed,
       retired-prints f.retiring (length h.retired) h.retired,
     )
 
@@ -437,6 +437,6 @@ unfolding times
 slots-wider w n t l rest e =
     let b = (times-right n (slot-right w)).back t l rest e in
     let same : flat_map (slot_format true).print l ≡ flat_map (slot_format w).print l =
-    flatMap-same (slot_format true).print (slot_format w).print (λ s. slot-prints true s ∙ sym (slot-prints w s)) l in
+    flat_map-same (slot_format true).print (slot_format w).print (λ s. slot-prints true s ∙ sym (slot-prints w s)) l in
     ap (read_all (slot_format true).read n) (sym b.1 ∙ ap (λ (x : List ℕ). x ++ rest) (sym same))
     ∙ (times-right n (slot-right true)).forth l rest (all_map (fields-wider w) l b.0.0, b.0.1)

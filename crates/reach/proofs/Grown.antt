@@ -36,10 +36,10 @@ pub ∈-one : (x y : ℕ) → x ∈ (y ∷ []) → x ≡ y
 ∈-one x y (inr m) = absurd m
 
 -- what stands at an index is in the list, and what is in the list stands at an index
-pub ∈-getD : (s : List ℕ) (k : ℕ) → k < length s → get_or s k 0 ∈ s
-∈-getD [] k h = absurd (not-suc-le-zero h)
-∈-getD (x ∷ xs) zero h = inl refl
-∈-getD (x ∷ xs) (suc k) h = inr (∈-getD xs k (le_of_suc-le-suc h))
+pub ∈-get_or : (s : List ℕ) (k : ℕ) → k < length s → get_or s k 0 ∈ s
+∈-get_or [] k h = absurd (not-suc-le-zero h)
+∈-get_or (x ∷ xs) zero h = inl refl
+∈-get_or (x ∷ xs) (suc k) h = inr (∈-get_or xs k (le_of_suc-le-suc h))
 
 pub ∈-index : (x : ℕ) (s : List ℕ) → x ∈ s → (k : ℕ) × (k < length s) × (get_or s k 0 ≡ x)
 ∈-index x [] m = absurd m

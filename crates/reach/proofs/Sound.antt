@@ -12,7 +12,7 @@ use native.Mathlib.Omega.{arith}
 use native.Mathlib.Decide.{dec_lt}
 use Rattle.reach.specs.Reach.{Graph, Starts, ◌∈◌, First, Next, Linked, Chain, last_of, LeadsTo, Reached, Stuck}
 use Rattle.reach.specs.Marking.{State, Good, nothing, met, visit, visit_maybe, follow, follow_all, pin_if, pin_all, seeded, drained, marking, or_done, or_stuck}
-use Rattle.reach.proofs.Grown.{Grown, ∈-left, ∈-right, ∈-cases, ∈-one, ∈-getD, ∈-index, good-nothing, good-room, grown-same, grown-then, grown-in, grown-all, grown-at, grown-length, visit-grown, visit-in}
+use Rattle.reach.proofs.Grown.{Grown, ∈-left, ∈-right, ∈-cases, ∈-one, ∈-get_or, ∈-index, good-nothing, good-room, grown-same, grown-then, grown-in, grown-all, grown-at, grown-length, visit-grown, visit-in}
 
 -- objects have slots below n
 pub record Sized (G : Graph) (n : ℕ) : Type 0 where
@@ -185,7 +185,7 @@ module _ (G : Graph) (S : Starts) (n : ℕ) (z : Sized G n) where
   pub going_next : (s : State) (k : ℕ) → Going G S n s k → k < length s.queue → (hs : List ℕ) → G.handles (get_or s.queue k 0) ≡ some hs → Going G S n (follow_all G.resolve s hs) (suc k)
   going_next s k g h hs e =
       let o = get_or s.queue k 0 in
-      let q : (u i : ℕ) → u ∈ hs → G.resolve u ≡ some i → Reached G S i = λ u i m w. reached-next G S o i (g.sound o (∈-getD s.queue k h)) (hs, e, (u, m, w)) in
+      let q : (u i : ℕ) → u ∈ hs → G.resolve u ≡ some i → Reached G S i = λ u i m w. reached-next G S o i (g.sound o (∈-get_or s.queue k h)) (hs, e, (u, m, w)) in
       let t = follow_all G.resolve s hs in
       let a : Grown n (Reached G S) s t = follows-grown G n z (Reached G S) s hs g.good q in
       record {
@@ -207,7 +207,7 @@ module _ (G : Graph) (S : Starts) (n : ℕ) (z : Sized G n) where
 
   -- the object at k can't be traced
   pub going-stuck : (s : State) (k : ℕ) → Going G S n s k → k < length s.queue → G.handles (get_or s.queue k 0) ≡ none → Stuck G S
-  going-stuck s k g h e = (get_or s.queue k 0, g.sound (get_or s.queue k 0) (∈-getD s.queue k h), e)
+  going-stuck s k g h e = (get_or s.queue k 0, g.sound (get_or s.queue k 0) (∈-get_or s.queue k h), e)
 
   -- one turn of the marking, whatever the turns after it give
   turn-answer : (f : ℕ) (s : State) (k : ℕ) → Going G S n s k → n ≤ suc f + k

@@ -11,7 +11,7 @@ use borrow.Author.Tests.{ne_eqb, eq-eqb, eqb-true, lt-ltb, le-ltb}
 use Rattle.std.specs.Prelude.{if◌then◌else◌}
 use Rattle.word.specs.Le.{bytes as bytes_of}
 use Rattle.word.specs.Put.{put}
-use Rattle.handle.specs.Handle.{packed, indexOf}
+use Rattle.handle.specs.Handle.{packed, index_of}
 use Rattle.handle.proofs.HandleLaws.{index-packed}
 use Rattle.text.proofs.Laws.{none-not-some, some_inj}
 use Rattle.heap.specs.Packing.{flat}
@@ -246,10 +246,10 @@ unfolding those objects dropped
 gone-objects keep marks i [] h young few = refl
 gone-objects keep marks i (s ∷ ss) h young few =
     let ih : numbers (those (λ x. not (keep x)) (objects (suc i) ss)) ≡ dropped marks (suc i) ss = gone-objects keep marks (suc i) ss (agree-later keep marks i s ss h) (λ k. young (suc k)) (omega arith) in
-    let index : indexOf (packed 1 i s.generation) ≡ i = index-packed 1 i s.generation (omega arith) (young 0) in
+    let index : index_of (packed 1 i s.generation) ≡ i = index-packed 1 i s.generation (omega arith) (young 0) in
     by-life s (λ l. go (keep (packed 1 i s.generation)) refl l (agree-here keep marks i s ss h l) index ih) (λ l. rw l ih)
   where
-    go : (b : Bool) → keep (packed 1 i s.generation) ≡ b → live s ≡ true → eqb (get_or marks i 0) 0 ≡ not (keep (packed 1 i s.generation)) → indexOf (packed 1 i s.generation) ≡ i
+    go : (b : Bool) → keep (packed 1 i s.generation) ≡ b → live s ≡ true → eqb (get_or marks i 0) 0 ≡ not (keep (packed 1 i s.generation)) → index_of (packed 1 i s.generation) ≡ i
         → numbers (those (λ x. not (keep x)) (objects (suc i) ss)) ≡ dropped marks (suc i) ss → numbers (those (λ x. not (keep x)) (objects i (s ∷ ss))) ≡ dropped marks i (s ∷ ss)
     go true q l a n ih = rw (l, a, q, ih)
     go false q l a n ih = rw (l, a, q, n, ih)

@@ -11,7 +11,7 @@ use lib.ListN.{length, get_or, get_or-eq_default}
 use borrow.Author.Tests.{ltb-false, ltb-true, le-leb}
 use Rattle.word.specs.Lists.{all, all_below}
 use Rattle.word.specs.Result.{Result, ok}
-use Rattle.handle.specs.Handle.{packed, tag_of, indexOf, generation_of}
+use Rattle.handle.specs.Handle.{packed, tag_of, index_of, generation_of}
 use Rattle.handle.proofs.HandleLaws.{packed-fields}
 use Rattle.handle.proofs.ResolveLaws.{Resolves, resolve-ok, resolve-packed}
 use Rattle.heap.specs.Packing.{flat}

@@ -7,7 +7,7 @@ use Rattle.word.specs.Num.{saturating}
 use Rattle.word.specs.Put.{put}
 use Rattle.word.specs.Result.{ok, refused}
 use Rattle.word.specs.Lists.{filter}
-use Rattle.handle.specs.Handle.{packed, indexOf}
+use Rattle.handle.specs.Handle.{packed, index_of}
 use Rattle.ty.specs.Types.{Table}
 use Rattle.trace.specs.Places.{handles_of}
 use Rattle.heap.specs.State.{last_generation}
@@ -156,7 +156,7 @@ stuck T keep (o ∷ os) = keep o.handle && untraceable (shows T o) || stuck T ke
 
 -- the numbers in their handles
 abbrev pub numbers : List Object → List ℕ
-numbers = map (λ (o : Object). indexOf o.handle)
+numbers = map (λ (o : Object). index_of o.handle)
 
 -- the ages of some numbers step; the list's first is number i
 unfoldable pub older : (numbers : List ℕ) (i : ℕ) → List ℕ → List ℕ

@@ -9,7 +9,7 @@ use types.Run.{OneOf, miss}
 use lib.ListN.{length, take, drop}
 use Rattle.std.specs.Prelude.{if◌then◌else◌}
 use Rattle.word.specs.Result.{Result, ok, refused}
-use Rattle.handle.specs.Handle.{indexOf}
+use Rattle.handle.specs.Handle.{index_of}
 use Rattle.text.specs.Answer.{hex_at}
 use Rattle.refusal.specs.Told.{number_of, told, answered, here, nothing}
 use Rattle.refusal.specs.declared.Answer.{Answer}
@@ -105,7 +105,7 @@ module _ (l : Lent) (w : well_formed l ≡ true) (k t : ℕ) (low : 1 ≤ k) (hi
     seen : view l₁ ≡ first.heap
     seen = ap view d.leaves.lies ∙ view-stored (slot_count l) (pool_size l) first.heap
 
-    spelled-can : {i : ℕ} → i ≡ indexOf x → CanDecode l₁ s from count i
+    spelled-can : {i : ℕ} → i ≡ index_of x → CanDecode l₁ s from count i
     spelled-can {i} e =
         record {
           formed = d.leaves.formed;
@@ -114,13 +114,13 @@ module _ (l : Lent) (w : well_formed l ≡ true) (k t : ℕ) (low : 1 ≤ k) (hi
           long = (λ q. length (slot_at (seen q) (e q)).bytes) ∙ ap length instead.data-there ∙ sym (part-long p) ∙ sym p.counted;
         }
 
-    pub spelled-start : {i : ℕ} → i ≡ indexOf x → (i ≤ length n₁ / 6) × (2 * (length n₁ / 6) ≤ length w₁)
+    pub spelled-start : {i : ℕ} → i ≡ index_of x → (i ≤ length n₁ / 6) × (2 * (length n₁ / 6) ≤ length w₁)
     spelled-start {i} e = start-can h₁ n₁ w₁ p₁ s from count i (spelled-can e)
 
-    pub spelled-fits : {i at : ℕ} → i ≡ indexOf x → at ≡ start_of (run (length n₁ / 6) (length n₁ / 6) w₁) i → at + count ≤ length p₁
+    pub spelled-fits : {i at : ℕ} → i ≡ index_of x → at ≡ start_of (run (length n₁ / 6) (length n₁ / 6) w₁) i → at + count ≤ length p₁
     spelled-fits {i} e ea = decode-room h₁ n₁ w₁ p₁ s from count i (spelled-can e) ea
 
-    pub spelled-done : {i at r : ℕ} {p₂ : List ℕ} → i ≡ indexOf x → at ≡ start_of (run (length n₁ / 6) (length n₁ / 6) w₁) i → Puts p₁ p₂ at r (hex_at s from)
+    pub spelled-done : {i at r : ℕ} {p₂ : List ℕ} → i ≡ index_of x → at ≡ start_of (run (length n₁ / 6) (length n₁ / 6) w₁) i → Puts p₁ p₂ at r (hex_at s from)
         → length n₁ / 6 ≡ slot_count l → length p₁ ≡ pool_size l → PlaceDoes l (lent h₁ n₁ w₁ p₂) (Is x y) k t (hex_at s from)
     spelled-done {i} {at} {r} {p₂} e ea put S P =
         let left : Decoded l₁ (lent h₁ n₁ w₁ p₂) (hex_at s from) i = decode-done h₁ n₁ w₁ p₁ s from count i (spelled-can e) ea put in

@@ -9,7 +9,7 @@ use borrow.Author.Tests.{lt-ltb}
 use lib.ListN.{length, set, length-append}
 use lib.Seq.{set-set}
 use Rattle.word.specs.Result.{Result, ok, refused}
-use Rattle.handle.specs.Handle.{packed, indexOf}
+use Rattle.handle.specs.Handle.{packed, index_of}
 use Rattle.handle.proofs.HandleLaws.{index-packed}
 use Rattle.heap.specs.Packing.{flat}
 use Rattle.heap.specs.State.{Slot, State, no_slot, slot_at, live, data_of, with_free}
@@ -23,9 +23,9 @@ use Rattle.rehearsal_place.specs.Decoding.{with_bytes, with_data}
 -- what the one allocation tells of the other
 pub record Instead (a b : Changed ℕ) (x : ℕ) (bytes bytes' : List ℕ) : Type 0 where
   pub answer : b.answer ≡ ok x
-  pub heap : b.heap ≡ with_data a.heap (indexOf x) bytes'
-  pub alive : live (slot_at a.heap (indexOf x)) ≡ true
-  pub data-there : (slot_at a.heap (indexOf x)).bytes ≡ bytes
+  pub heap : b.heap ≡ with_data a.heap (index_of x) bytes'
+  pub alive : live (slot_at a.heap (index_of x)) ≡ true
+  pub data-there : (slot_at a.heap (index_of x)).bytes ≡ bytes
 
 module _ (st : State) (j k t : ℕ) (bytes bytes' : List ℕ) (inside : j < length st.slots) (small : j < 2 ^ 24) (low : 1 ≤ k) where
   abbrev old : Slot
@@ -34,8 +34,8 @@ module _ (st : State) (j k t : ℕ) (bytes bytes' : List ℕ) (inside : j < leng
   placed-instead : (x : ℕ) → (placed st j k t 0 bytes).answer ≡ ok x → Instead (placed st j k t 0 bytes) (placed st j k t 0 bytes') x bytes bytes'
   placed-instead x e =
       let x-is : packed st.tag j (step (slot_at st j).generation) ≡ x = cc in
-      let i : indexOf x ≡ j = ap indexOf (sym x-is) ∙ index-packed st.tag j (step (slot_at st j).generation) small (omega (arith, step-most (slot_at st j).generation)) in
-      let there : slot_at (with_slot st j old) (indexOf x) ≡ old = ap (slot_at (with_slot st j old)) i ∙ at_same st j old inside in
+      let i : index_of x ≡ j = ap index_of (sym x-is) ∙ index-packed st.tag j (step (slot_at st j).generation) small (omega (arith, step-most (slot_at st j).generation)) in
+      let there : slot_at (with_slot st j old) (index_of x) ≡ old = ap (slot_at (with_slot st j old)) i ∙ at_same st j old inside in
       record {
         answer = e;
         heap = sym ((λ q. with_slot (with_slot st j old) (i q) (with_bytes (there q) bytes')) ∙ ap (λ (l : List Slot). record {

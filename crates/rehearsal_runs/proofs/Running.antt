@@ -24,7 +24,7 @@ use Rattle.rehearsal_steps.specs.declared.Going.{Going}
 use Rattle.rehearsal_steps.specs.Going.{going_on, InOrder, Short, Cleared, Led, Goes}
 use Rattle.rehearsal_steps.specs.Steps.{doing_in, line_does}
 use Rattle.rehearsal_line.proofs.Leading.{led-line}
-use Rattle.rehearsal_runs.specs.Runs.{orNone, lines_of, run_of, Begun}
+use Rattle.rehearsal_runs.specs.Runs.{or_none, lines_of, run_of, Begun}
 
 -- lists of the same lengths
 pub record Sizes (n₀ n₁ w₀ w₁ p₀ p₁ a₀ a₁ m₀ m₁ k₀ k₁ : List ℕ) : Type 0 where
@@ -56,7 +56,7 @@ goes-sizes T n ls a b d = record { order = d.order; is = d.is ∙ (λ i. run_of 
 
 -- ---- lines
 
-text-read : (o : Option (List Step)) → is_read o ≡ true → o ≡ some (orNone o)
+text-read : (o : Option (List Step)) → is_read o ≡ true → o ≡ some (or_none o)
 text-read none e = absurd (true-false (sym e))
 text-read (some ls) e = refl
 

@@ -13,12 +13,12 @@ use Rattle.rehearsal_steps.specs.declared.Going.{Going}
 use Rattle.rehearsal_steps.specs.Going.{going_on, Cleared}
 
 -- the lines of a text; none where it is no text of lines
-abbrev pub orNone : Option (List Line) → List Line
-orNone none = []
-orNone (some ls) = ls
+abbrev pub or_none : Option (List Line) → List Line
+or_none none = []
+or_none (some ls) = ls
 
 unfoldable pub lines_of : List ℕ → List Line
-lines_of t = orNone (read_lines t)
+lines_of t = or_none (read_lines t)
 
 -- the run of lines on a new heap
 abbrev pub run_of : Table → (S P threshold : ℕ) → List Line → Run State

@@ -18,7 +18,7 @@ use Rattle.word.proofs.Bools.{or_left}
 use Rattle.word.specs.Lists.{tabulate}
 use Rattle.flow.proofs.Laws.{step-sound}
 use Rattle.roots.specs.View.{block_at}
-use Rattle.roots.specs.Columns.{seen, Outside, cell, live_at, oneBelow, Begun, Built}
+use Rattle.roots.specs.Columns.{seen, Outside, cell, live_at, one_below, Begun, Built}
 use Rattle.roots.proofs.Scratch.{block-fits, cell-before, cell-after, live_of, live-not, start-view, end-view, or-false}
 
 pub zero-cell : (s : List ℕ) (a q : ℕ) → ((i : ℕ) → a ≤ i → get_or s i 0 ≡ 0) → cell s a q ≡ false
@@ -58,7 +58,7 @@ module _ (t : ℕ → Bool) (ends refs bs cs : List ℕ) (nb W b : ℕ) (h : b <
       → ((ks bs' : List ℕ) (q : ℕ) → q < 64 * W → cell s₁ (b * (3 * W)) q ≡ back (seen t ks ends refs bs' cs) q st (e - st) (cell s (b * (3 * W)) q))
       → Outside s₁ s₂ (b * (3 * W) + W) W
       → ((ks bs' : List ℕ) (q : ℕ) → q < 64 * W → cell s₂ (b * (3 * W) + W) q ≡ killed (seen t ks ends refs bs' cs) q st (e - st) || cell s₁ (b * (3 * W) + W) q)
-      → first_at (tabulate nb (block_at bs)) e 0 ≡ oneBelow v nb
+      → first_at (tabulate nb (block_at bs)) e 0 ≡ one_below v nb
       → Begun t ends refs bs cs s (set s₂ (b * (3 * W) + 2 * W) v) nb W b
   begun-rows s₁ s₂ v pos fit o₁ c₁ o₂ c₂ first = record {
     frame = record {
@@ -72,7 +72,7 @@ module _ (t : ℕ → Bool) (ends refs bs cs : List ℕ) (nb W b : ℕ) (h : b <
         ∙ ap (λ (u : Bool). killed (seen t ks ends refs bs cs) q st (e - st) || u) (cell-after o₁ (b * (3 * W) + W) q (omega arith) ∙ zero-cell s (b * (3 * W) + W) q (λ i o. zeros i (omega arith)))
         ∙ or-false (killed (seen t ks ends refs bs cs) q st (e - st)) ∙ sym (kill-is ks q);
     next = λ l. ap (λ (u : ℕ). first_at (tabulate nb (block_at bs)) u 0) (sym ee) ∙ first
-        ∙ ap (λ (u : ℕ). oneBelow u nb) (sym (get_or-set_same s₂ (b * (3 * W) + 2 * W) v 0 (omega (arith, o₁.kept, o₂.kept, block-fits b nb (3 * W) h))));
+        ∙ ap (λ (u : ℕ). one_below u nb) (sym (get_or-set_same s₂ (b * (3 * W) + 2 * W) v 0 (omega (arith, o₁.kept, o₂.kept, block-fits b nb (3 * W) h))));
   }
     where
       set-frame : Outside s₂ (set s₂ (b * (3 * W) + 2 * W) v) (b * (3 * W) + 2 * W) W
@@ -87,7 +87,7 @@ pub record Builds (t : ℕ → Bool) (ends refs bs cs s₀ s : List ℕ) (nb W b
   pub rest : (i : ℕ) → b * (3 * W) ≤ i → get_or s i 0 ≡ 0
   pub lives : (ks : List ℕ) (c q : ℕ) → c < b → q < 64 * W → cell s (c * (3 * W)) q ≡ gen (seen t ks ends refs bs cs) q c
   pub kills : (ks : List ℕ) (c q : ℕ) → c < b → q < 64 * W → cell s (c * (3 * W) + W) q ≡ kill (seen t ks ends refs bs cs) q c
-  pub nexts : (c : ℕ) → c < b → get_or bs (2 * c) 0 < get_or bs (2 * c + 1) 0 → first_at (tabulate nb (block_at bs)) (get_or bs (2 * c + 1) 0) 0 ≡ oneBelow (get_or s (c * (3 * W) + 2 * W) 0) nb
+  pub nexts : (c : ℕ) → c < b → get_or bs (2 * c) 0 < get_or bs (2 * c + 1) 0 → first_at (tabulate nb (block_at bs)) (get_or bs (2 * c + 1) 0) 0 ≡ one_below (get_or s (c * (3 * W) + 2 * W) 0) nb
 
 pub builds-none : (t : ℕ → Bool) (ends refs bs cs s : List ℕ) (nb W : ℕ) → ((i : ℕ) → get_or s i 0 ≡ 0) → Builds t ends refs bs cs s s nb W 0
 builds-none t ends refs bs cs s nb W z =
@@ -115,13 +115,13 @@ module _ {t : ℕ → Bool} {ends refs bs cs s₀ s : List ℕ} {nb W b : ℕ} (
       kl ks c q (yes d) l m = rw d (g.kills ks q m)
       kl ks c q (no d) l m = old c W q (omega arith) m (omega arith) ∙ inv.kills ks c q (omega arith) m
 
-      nx : (c : ℕ) → Dec (c ≡ b) → c < b + 1 → get_or bs (2 * c) 0 < get_or bs (2 * c + 1) 0 → first_at (tabulate nb (block_at bs)) (get_or bs (2 * c + 1) 0) 0 ≡ oneBelow (get_or s' (c * (3 * W) + 2 * W) 0) nb
+      nx : (c : ℕ) → Dec (c ≡ b) → c < b + 1 → get_or bs (2 * c) 0 < get_or bs (2 * c + 1) 0 → first_at (tabulate nb (block_at bs)) (get_or bs (2 * c + 1) 0) 0 ≡ one_below (get_or s' (c * (3 * W) + 2 * W) 0) nb
       nx c (yes d) l m =
-          subst (λ (u : ℕ). first_at (tabulate nb (block_at bs)) (get_or bs (2 * u + 1) 0) 0 ≡ oneBelow (get_or s' (u * (3 * W) + 2 * W) 0) nb) (sym d)
+          subst (λ (u : ℕ). first_at (tabulate nb (block_at bs)) (get_or bs (2 * u + 1) 0) 0 ≡ one_below (get_or s' (u * (3 * W) + 2 * W) 0) nb) (sym d)
           (g.next (subst (λ (u : ℕ). get_or bs (2 * u) 0 < get_or bs (2 * u + 1) 0) d m))
       nx c (no d) l m =
           let k : c < b = omega arith in
-          inv.nexts c k m ∙ ap (λ (u : ℕ). oneBelow u nb) (sym (g.frame.same (c * (3 * W) + 2 * W) (inl (omega (arith, block-fits c b (3 * W) k)))))
+          inv.nexts c k m ∙ ap (λ (u : ℕ). one_below u nb) (sym (g.frame.same (c * (3 * W) + 2 * W) (inl (omega (arith, block-fits c b (3 * W) k)))))
 
   pub builds-end : nb ≤ b → 0 < W → Built t ends refs bs cs s₀ s nb W
   builds-end h pos = record {

@@ -14,7 +14,7 @@ use Rattle.std.specs.Prelude.{if◌then◌else◌}
 use Rattle.word.specs.Lists.{tabulate}
 use Rattle.flow.specs.Function.{first_at}
 use Rattle.roots.specs.View.{block_at}
-use Rattle.roots.specs.Columns.{oneBelow, First, Keyed, Bucketed, Chains}
+use Rattle.roots.specs.Columns.{one_below, First, Keyed, Bucketed, Chains}
 use Rattle.roots.proofs.Scratch.{Firsts, firsts-none, firsts-found, firsts-empty, firsts-other, firsts-end}
 
 bucket : (x : ℕ) → x % 4096 < 4096
@@ -140,7 +140,7 @@ passed bs nb pc (suc i) h n = subst (Firsts bs nb pc) (add-one i) (go (passed bs
         empty z = omega arith
     go f (no q) = firsts-other f (omega arith) _ refl q
 
-pub first-start : (bs : List ℕ) (nb pc c : ℕ) → First (Keyed bs 0 pc) 0 nb c → first_at (tabulate nb (block_at bs)) pc 0 ≡ oneBelow c nb
+pub first-start : (bs : List ℕ) (nb pc c : ℕ) → First (Keyed bs 0 pc) 0 nb c → first_at (tabulate nb (block_at bs)) pc 0 ≡ one_below c nb
 first-start bs nb pc c f = go (dec_lt c nb)
   where
     start : (j : ℕ) → get_or bs (2 * j + 0) 0 ≡ get_or bs (2 * j) 0
@@ -149,7 +149,7 @@ first-start bs nb pc c f = go (dec_lt c nb)
     before : (i : ℕ) → i ≤ c → i ≤ nb → Firsts bs nb pc i
     before i k m = passed bs nb pc i m (λ j l q s. f.none j (omega arith) (omega arith) (omega arith) (s, start j ∙ q))
 
-    go : Dec (c < nb) → first_at (tabulate nb (block_at bs)) pc 0 ≡ oneBelow c nb
+    go : Dec (c < nb) → first_at (tabulate nb (block_at bs)) pc 0 ≡ one_below c nb
     go (yes h) = firsts-found (before c (omega arith) (omega arith)) h _ _ refl refl (sym (start c) ∙ (f.here h).1) (f.here h).0
     go (no h) =
         firsts-end (before nb (omega arith) (omega arith)) (omega arith)

@@ -14,7 +14,7 @@ use Rattle.word.specs.Lists.{tabulate}
 use Rattle.flow.proofs.Laws.{step-sound, Disjoint}
 use Rattle.flow.proofs.Fixpoint.{fixpoint-is}
 use Rattle.roots.specs.View.{block_at}
-use Rattle.roots.specs.Columns.{seen, Outside, cell, live_at, oneBelow, set_bits, Rows, Linked, Pass, Solved, Fixed}
+use Rattle.roots.specs.Columns.{seen, Outside, cell, live_at, one_below, set_bits, Rows, Linked, Pass, Solved, Fixed}
 use Rattle.roots.proofs.Scratch.{block-fits, cell-before, cell-after, live_of, live-not, live-frame}
 use Rattle.roots.proofs.Steps.{Met, bits-kept}
 
@@ -49,14 +49,14 @@ kept-live {s} {s'} b W nb o t q h ne = go (dec_lt t nb)
 pub linked-out : {bs s s₁ : List ℕ} {W nb : ℕ} → Linked bs s W nb → Outside s s₁ (nb * (3 * W)) W → Linked bs s₁ W nb
 linked-out {bs} {s} {s₁} {W} {nb} l o = record {
   wide = l.wide;
-  next = λ b k h. l.next b k h ∙ ap (λ (x : ℕ). oneBelow x nb) (sym (o.same (b * (3 * W) + 2 * W) (inl (omega (arith, block-fits b nb (3 * W) k, l.wide)))));
+  next = λ b k h. l.next b k h ∙ ap (λ (x : ℕ). one_below x nb) (sym (o.same (b * (3 * W) + 2 * W) (inl (omega (arith, block-fits b nb (3 * W) k, l.wide)))));
   blank = λ q h. cell-after o (nb * (3 * W) + W) q (omega arith) ∙ l.blank q h;
 }
 
 pub linked-live : {bs s s₁ : List ℕ} {W nb : ℕ} (b : ℕ) → b < nb → Linked bs s W nb → Outside s s₁ (b * (3 * W)) W → Linked bs s₁ W nb
 linked-live {bs} {s} {s₁} {W} {nb} b known l o = record {
   wide = l.wide;
-  next = λ t k h. l.next t k h ∙ ap (λ (x : ℕ). oneBelow x nb) (sym (o.same (t * (3 * W) + 2 * W) (place t (ℕ_discrete t b))));
+  next = λ t k h. l.next t k h ∙ ap (λ (x : ℕ). one_below x nb) (sym (o.same (t * (3 * W) + 2 * W) (place t (ℕ_discrete t b))));
   blank = λ q h. cell-after o (nb * (3 * W) + W) q (omega (arith, block-fits b nb (3 * W) known)) ∙ l.blank q h;
 }
   where
@@ -204,9 +204,9 @@ solved-fixed {ks} {ends} {refs} {bs} {s₀} {s} {nb} {W} t cs v r d size = recor
 
 -- the block that block b falls through to
 pub linked-next : {bs s : List ℕ} {W nb : ℕ} → Linked bs s W nb → (b st e v : ℕ) → b < nb → st ≡ get_or bs (2 * b) 0 → e ≡ get_or bs (2 * b + 1) 0 → st < e
-    → v ≡ get_or s (b * (3 * W) + 2 * W) 0 → first_at (tabulate nb (block_at bs)) e 0 ≡ oneBelow v nb
+    → v ≡ get_or s (b * (3 * W) + 2 * W) 0 → first_at (tabulate nb (block_at bs)) e 0 ≡ one_below v nb
 linked-next {bs} {s} {W} {nb} l b st e v known est ee h ev =
-    ap (λ (u : ℕ). first_at (tabulate nb (block_at bs)) u 0) ee ∙ l.next b known (omega arith) ∙ ap (λ (u : ℕ). oneBelow u nb) (sym ev)
+    ap (λ (u : ℕ). first_at (tabulate nb (block_at bs)) u 0) ee ∙ l.next b known (omega arith) ∙ ap (λ (u : ℕ). one_below u nb) (sym ev)
 
 pub below-high : {b nb : ℕ} → 0 < b → b ≤ nb → b - 1 < nb
 below-high h k = omega arith

@@ -25,7 +25,7 @@ use Rattle.rows.proofs.RowLaws.{or_swap as or_comm}
 use Rattle.flow.specs.Function.{Function, Instruction, Block, inst, block, start, end, existing, first_at, exits, successors}
 use Rattle.flow.specs.Dataflow.{any_of, out, track}
 use Rattle.roots.specs.View.{list_at, block_at, view}
-use Rattle.roots.specs.Columns.{seen, Columns, Outside, cell, live_at, oneBelow}
+use Rattle.roots.specs.Columns.{seen, Columns, Outside, cell, live_at, one_below}
 use Rattle.roots.proofs.Turns.{inst-seen, list-next}
 
 -- ---- joining rows
@@ -196,7 +196,7 @@ firsts-none blocks nb pc = record { high = omega arith; is = refl }
 
 module _ {blocks : List ℕ} {nb pc i : ℕ} where
   pub firsts-found : Firsts blocks nb pc i → i < nb → (a e : ℕ) → a ≡ get_or blocks (2 * i) 0 → e ≡ get_or blocks (2 * i + 1) 0 → a ≡ pc → a < e
-      → first_at (tabulate nb (block_at blocks)) pc 0 ≡ oneBelow i nb
+      → first_at (tabulate nb (block_at blocks)) pc 0 ≡ one_below i nb
   firsts-found inv h a e ea ee x y =
       inv.is ∙ first_next blocks nb pc i h
       ∙ ap (λ (u : Bool). if◌then◌else◌ u (i ∷ []) (first_at (drop (i + 1) (tabulate nb (block_at blocks))) pc (i + 1))) (ap₂ (λ (u v : Bool). u && v) (eq-eqb (get_or blocks (2 * i) 0) pc (sym ea ∙ x)) (lt-ltb (get_or blocks (2 * i) 0) (get_or blocks (2 * i + 1) 0) (omega arith)))
@@ -214,7 +214,7 @@ module _ {blocks : List ℕ} {nb pc i : ℕ} where
   firsts-other inv h a ea y =
       firsts-on inv h (and-left-false (eqb (get_or blocks (2 * i) 0) pc) (ltb (get_or blocks (2 * i) 0) (get_or blocks (2 * i + 1) 0)) (ne_eqb (get_or blocks (2 * i) 0) pc (λ z. y (ea ∙ z))))
 
-  pub firsts-end : Firsts blocks nb pc i → nb ≤ i → first_at (tabulate nb (block_at blocks)) pc 0 ≡ oneBelow nb nb
+  pub firsts-end : Firsts blocks nb pc i → nb ≤ i → first_at (tabulate nb (block_at blocks)) pc 0 ≡ one_below nb nb
   firsts-end inv h =
       inv.is
       ∙ ap (λ (l : List Block). first_at l pc i) (drop_of_length-le (tabulate nb (block_at blocks)) {i = i} (omega (arith, length-tabulate nb (block_at blocks))))
@@ -353,8 +353,8 @@ module _ {ks ends refs bs : List ℕ} (cols : Columns ks ends refs bs) (t : ℕ 
       ∙ keep _ [] _ (both-and _ _ (le-leb 5 (get_or ks (e - 1) 0) l) (le-leb (get_or ks (e - 1) 0) 6 g)))
 
   pub leave-next : (X : ℕ → Bool) → st < e → (get_or ks (e - 1) 0 < 2) ⊎ (6 < get_or ks (e - 1) 0) → (v : ℕ)
-      → first_at (tabulate nb (block_at bs)) e 0 ≡ oneBelow v nb
-      → out (seen t ks ends refs bs cs) X b ≡ any_of X (oneBelow v nb)
+      → first_at (tabulate nb (block_at bs)) e 0 ≡ one_below v nb
+      → out (seen t ks ends refs bs cs) X b ≡ any_of X (one_below v nb)
   unfolding f k
   leave-next X h d v ft =
       ap (any_of X)
@@ -376,10 +376,10 @@ or-false true = refl
 or-false false = refl
 
 -- the one successor of a block that goes on at its end
-pub joined-one : (s : List ℕ) (W nb q t : ℕ) → t < nb → any_of (live_at s W nb q) (oneBelow t nb) ≡ cell s (t * (3 * W)) q
+pub joined-one : (s : List ℕ) (W nb q t : ℕ) → t < nb → any_of (live_at s W nb q) (one_below t nb) ≡ cell s (t * (3 * W)) q
 joined-one s W nb q t h = ap (any_of (live_at s W nb q)) (keep (ltb t nb) (t ∷ []) [] (lt-ltb t nb h)) ∙ or-false (live_at s W nb q t) ∙ live_of s W nb q t h
 
-pub joined-none : (X : ℕ → Bool) (nb t : ℕ) → nb ≤ t → any_of X (oneBelow t nb) ≡ false
+pub joined-none : (X : ℕ → Bool) (nb t : ℕ) → nb ≤ t → any_of X (one_below t nb) ≡ false
 joined-none X nb t h = ap (any_of X) (cut (ltb t nb) (t ∷ []) [] (le-ltb t nb h))
 
 -- ---- the live-in rows and the frames

@@ -45,8 +45,8 @@ unfoldable pub live_at : List ℕ → ℕ → ℕ → ℕ → ℕ → Bool
 live_at s W nb q b = ltb b nb && cell s (b * (3 * W)) q
 
 -- as a list: the index where it is below n
-abbrev pub oneBelow : ℕ → ℕ → List ℕ
-oneBelow t n = if◌then◌else◌ (ltb t n) (t ∷ []) []
+abbrev pub one_below : ℕ → ℕ → List ℕ
+one_below t n = if◌then◌else◌ (ltb t n) (t ∷ []) []
 
 -- how many bits of the first k words are set
 abbrev pub set_bits : ℕ → List ℕ → ℕ
@@ -61,7 +61,7 @@ pub record Rows (f : Function) (s : List ℕ) (W nb : ℕ) : Type 0 where
 -- the third row of a nonempty block begins with the block that it falls through to, and the last row is zero
 pub record Linked (bs s : List ℕ) (W nb : ℕ) : Type 0 where
   pub wide : 0 < W
-  pub next : (b : ℕ) → b < nb → get_or bs (2 * b) 0 < get_or bs (2 * b + 1) 0 → first_at (tabulate nb (block_at bs)) (get_or bs (2 * b + 1) 0) 0 ≡ oneBelow (get_or s (b * (3 * W) + 2 * W) 0) nb
+  pub next : (b : ℕ) → b < nb → get_or bs (2 * b) 0 < get_or bs (2 * b + 1) 0 → first_at (tabulate nb (block_at bs)) (get_or bs (2 * b + 1) 0) 0 ≡ one_below (get_or s (b * (3 * W) + 2 * W) 0) nb
   pub blank : (q : ℕ) → q < 64 * W → cell s (nb * (3 * W) + W) q ≡ false
 
 -- c is the first of i, i + 1, .. that has P, if it is below n; otherwise none of them below n has it
@@ -91,7 +91,7 @@ pub record Begun (t : ℕ → Bool) (ends refs bs cs s s' : List ℕ) (nb W b : 
   pub frame : Outside s s' (b * (3 * W)) (3 * W)
   pub lives : (ks : List ℕ) (q : ℕ) → q < 64 * W → cell s' (b * (3 * W)) q ≡ gen (seen t ks ends refs bs cs) q b
   pub kills : (ks : List ℕ) (q : ℕ) → q < 64 * W → cell s' (b * (3 * W) + W) q ≡ kill (seen t ks ends refs bs cs) q b
-  pub next : get_or bs (2 * b) 0 < get_or bs (2 * b + 1) 0 → first_at (tabulate nb (block_at bs)) (get_or bs (2 * b + 1) 0) 0 ≡ oneBelow (get_or s' (b * (3 * W) + 2 * W) 0) nb
+  pub next : get_or bs (2 * b) 0 < get_or bs (2 * b + 1) 0 → first_at (tabulate nb (block_at bs)) (get_or bs (2 * b + 1) 0) 0 ≡ one_below (get_or s' (b * (3 * W) + 2 * W) 0) nb
 
 -- those of every block
 pub record Built (t : ℕ → Bool) (ends refs bs cs s s' : List ℕ) (nb W : ℕ) : Type 0 where

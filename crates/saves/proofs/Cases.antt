@@ -5,7 +5,7 @@ use mathlib.Core.List.{List, [], ◌∷◌, ◌++◌}
 use lib.ListN.{replicate}
 use Rattle.word.specs.Le.{le}
 use Rattle.word.specs.Result.{ok, refused}
-use Rattle.handle.specs.Handle.{packed, tag_of, indexOf, generation_of, resolve_by}
+use Rattle.handle.specs.Handle.{packed, tag_of, index_of, generation_of, resolve_by}
 use Rattle.ty.specs.Types.{Table}
 use Rattle.ty.specs.Walks.{desc_by, desc_at, handles_by, handles_at}
 use Rattle.trace.specs.Places.{object_places, rising, handles_places, kind_places, shown_places}
@@ -71,5 +71,5 @@ told :
     ∷ ordering table (one 7) (other 7) [] (to 2 ∷ [])
     ∷ []
     ≡ ok equal ∷ ok less ∷ ok greater ∷ refused 13 ∷ refused 13 ∷ []
-unfolding ordering heap_model object_of slot_places shown_places kind_places object_places handles_places rising outside in_place le packed tag_of indexOf generation_of resolve resolve_by marking drained visit follow heap_order order encoding met onward handles_by handles_at desc_by desc_at
+unfolding ordering heap_model object_of slot_places shown_places kind_places object_places handles_places rising outside in_place le packed tag_of index_of generation_of resolve resolve_by marking drained visit follow heap_order order encoding met onward handles_by handles_at desc_by desc_at
 told = refl

@@ -12,7 +12,7 @@ use Rattle.heap.specs.declared.Heap.{Heap}
 use Rattle.heap.specs.Lent.{Lent, lent, stored, view, slot_in, slot_count, pool_size}
 use Rattle.heap.specs.WellFormed.{well_formed}
 use Rattle.heap.proofs.Packing.{data-at, length-ends}
-use Rattle.heap.proofs.Storing.{column-any, getD-pad-past}
+use Rattle.heap.proofs.Storing.{column-any, get_or-pad-past}
 use Rattle.heap.proofs.Testing.{formed-tested}
 use Rattle.ty.specs.Types.{Table}
 use Rattle.reach.specs.Reach.{Graph}
@@ -41,7 +41,7 @@ slot-any S P h i =
     bytes (yes l) = data-at S P (data_of h.slots) i (omega (arith, n-data)) ∙ get_or-map (λ (s : Slot). s.bytes) h.slots i no_slot
     bytes (no l) =
         let end = pad S (ends 0 (data_of h.slots)) in
-        let e : get_or end i 0 ≡ 0 = getD-pad-past S (ends 0 (data_of h.slots)) i (omega (arith, n-data, length-ends 0 (data_of h.slots))) in
+        let e : get_or end i 0 ≡ 0 = get_or-pad-past S (ends 0 (data_of h.slots)) i (omega (arith, n-data, length-ends 0 (data_of h.slots))) in
         let z : get_or end i 0 - start_of end i ≡ 0 = omega arith in
         ap (λ (m : ℕ). take m (drop (start_of end i) (pad P (flat (data_of h.slots))))) z ∙ sym (ap (λ (s : Slot). s.bytes) (get_or-eq_default h.slots no_slot (omega arith)))
 

@@ -7,7 +7,7 @@ use lib.Dec.{eqb, ltb, leb}
 use lib.ListN.{length}
 use Rattle.std.specs.Prelude.{if◌then◌else◌}
 use Rattle.word.specs.Result.{Result, ok, refused}
-use Rattle.handle.specs.Handle.{tag_of, indexOf, generation_of, resolve_by}
+use Rattle.handle.specs.Handle.{tag_of, index_of, generation_of, resolve_by}
 use Rattle.heap.specs.State.{State, live, slot_at, data_size, with_free}
 use Rattle.heap.specs.Calls.{Changed, done, refuse, charged, placed, grown, last, but_last, alloc_from, resolve, on_slot, take_slot, free}
 use Rattle.object_door.specs.ObjectCalls.{is_kind, allocating}
@@ -42,13 +42,13 @@ module _ (h : State) (x : ℕ) where
   resolve-numbered : Numbered (resolve h x)
   unfolding resolve resolve_by
   resolve-numbered =
-      let there : Bool = live (slot_at h (indexOf x)) && eqb (slot_at h (indexOf x)).generation (generation_of x) in
-      let found : Result ℕ = if there then ok (indexOf x) else refused 4 in
+      let there : Bool = live (slot_at h (index_of x)) && eqb (slot_at h (index_of x)).generation (generation_of x) in
+      let found : Result ℕ = if there then ok (index_of x) else refused 4 in
       let other : Bool = not (eqb (tag_of x) h.tag) in
-      let beyond : Bool = leb (length h.slots) (indexOf x) in
+      let beyond : Bool = leb (length h.slots) (index_of x) in
       let inside : Result ℕ = if beyond then refused 19 else found in
       or_else (eqb x 0) (refused 2) (if other then refused 3 else inside) (omega arith)
-      (or_else other (refused 3) inside (omega arith) (or_else beyond (refused 19) found (omega arith) (or_else there (ok (indexOf x)) (refused 4) tt (omega arith))))
+      (or_else other (refused 3) inside (omega arith) (or_else beyond (refused 19) found (omega arith) (or_else there (ok (index_of x)) (refused 4) tt (omega arith))))
 
 on-slot : (h : State) (r : Result ℕ) (f : ℕ → State) → Numbered r → Numbered (on_slot {A = Unit} h r (λ i. done tt (f i))).answer
 on-slot h (ok i) f n = tt

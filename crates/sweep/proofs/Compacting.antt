@@ -16,7 +16,7 @@ use Rattle.word.proofs.ListLaws.{length-tabulate}
 use Rattle.word.proofs.PutLaws.{put-none, length-put, take_put, drop-put}
 use Rattle.heap.specs.Packing.{pad, flat, ends, data_at, start_of}
 use Rattle.heap.specs.Columns.{datas}
-use Rattle.heap.proofs.Packing.{flat-suc, length-ends, getD-ends, start-of, end-at, data-at}
+use Rattle.heap.proofs.Packing.{flat-suc, length-ends, get_or-ends, start-of, end-at, data-at}
 use Rattle.heap.proofs.Splicing.{flat-mono}
 use Rattle.sweep.specs.Columns.{kept, CanCompact, Compacted, kept_size, CanSettle, Settled}
 
@@ -172,7 +172,7 @@ module _ {n : ℕ} {ks E Q : List ℕ} (can : CanCompact n ks E Q) where
         let m-is : m ≡ length (get_or K i []) = sym (length-take-le m (drop from pool) (omega arith)) ∙ ap length part in
         let K-next : flat (take (suc i) K) ≡ flat (take i K) ++ get_or K i [] = flat-suc K i i_k in
         let to-next : r ≡ length (flat (take (suc i) K)) = s.next ∙ omega (arith, m-is, v.to_is, ap length K-next ∙ length-append (flat (take i K)) (get_or K i [])) in
-        let E-at : get_or (ends 0 K) i 0 ≡ r = getD-ends 0 K i i_k ∙ omega (arith, to-next) in
+        let E-at : get_or (ends 0 K) i 0 ≡ r = get_or-ends 0 K i i_k ∙ omega (arith, to-next) in
         let same : length pool' ≡ length pool = ap length s.bytes ∙ length-put pool to (drop from pool) m (omega arith) (omega arith) in
         record {
           few = omega arith;

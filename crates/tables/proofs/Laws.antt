@@ -14,7 +14,7 @@ use Rattle.text.specs.Text.{give, ◌>>=◌, decimal, hex, line, newline, comma,
 use Rattle.text.specs.Format.{Format, Right, bytes_line, after_literal, pair, times, All}
 use Rattle.text.proofs.Laws.{none-not-some, bind-some, some_inj, split, passed, decimal-forth, decimal-back, literal-forth, literal-back, bytes-line-right, after-literal-right, pair-right, times-right, number-join}
 use Rattle.pages.specs.Page.{whole}
-use Rattle.pages.proofs.Laws.{whole-some, flatMap-same}
+use Rattle.pages.proofs.Laws.{whole-some, flat_map-same}
 use Rattle.tables.specs.Table.{Row, Named, field, name_text, row_line, count_names, type_names, field_names, constant_names, bytes_name, counts_line, table_text, plain, Plain, RowWithin, most64, most32, Within, up_to, read_name, name_format, row_format, Counts, counts_format, rows_format, bytes_format, Body, table_format, named_of, saved, read_table}
 
 -- NUMBERS UP TO A BOUND
@@ -156,7 +156,7 @@ counts-print n = simp append_assoc
 
 rows-print : (names : List ℕ) (n k most : ℕ) (l : List Row) → (rows_format names n k most).print l ≡ names ++ flat_map row_line l
 unfolding rows_format after_literal times
-rows-print names n k most l = rw (flatMap-same (row_format k most).print row_line (row-prints k most) l)
+rows-print names n k most l = rw (flat_map-same (row_format k most).print row_line (row-prints k most) l)
 
 bytes-print : (b : List ℕ) → bytes_format.print b ≡ bytes_name ++ (hex b ++ (newline ∷ []))
 unfolding bytes_format after_literal bytes_line

@@ -17,7 +17,7 @@ use Rattle.heap.specs.State.{Slot, State}
 use Rattle.heap.specs.Lent.{Lent, view, slot_count, pool_size}
 use Rattle.pages.specs.Form.{Form, form_of, writes_width, written, earlier, heap_front, no_retired, heap_names, slot_front, narrow_writes, data_name, slot_names, free_name, quarantine_name, sealed_name}
 use Rattle.pages.specs.Page.{slot_line, value_line, heap_line, retired_part, page_text, Within, Unsaved, slot_format, Head, head_format, Body, state_of, head_of, body_of, whole, read_page}
-use Rattle.pages.proofs.Laws.{Head-good, Body-good, head-right, slot-right, last, head-prints, slot-prints, value-prints, flatMap-same, good-saved, within-read, whole-some, same-unsaved, read-written, written_read, read-exactly}
+use Rattle.pages.proofs.Laws.{Head-good, Body-good, head-right, slot-right, last, head-prints, slot-prints, value-prints, flat_map-same, good-saved, within-read, whole-some, same-unsaved, read-written, written_read, read-exactly}
 use Rattle.page_reader.specs.Reading.{Left, left, in_range}
 use Rattle.theorems.specs.EarlierPage.{earlier_heap_names, earlier_slot_names, earlier_body, earlier_format, earlier_read, earlier_verdict, earlier_into}
 use Rattle.theorems.specs.PageForms.{EveryFormRead, EarlierStillRead, EarlierRefuses, EarlierRewritten, FormTold, FormsTold}
@@ -57,10 +57,10 @@ unfolding earlier_body after_literal pair times always free_name quarantine_name
 body-prints h =
     rw (
       slot-named,
-      flatMap-same (slot_format false).print (slot_line false) (slot-prints false) h.slots,
-      flatMap-same (number 32 newline).print value_line (value-prints 32) h.free,
-      flatMap-same (number 32 newline).print value_line (value-prints 32) h.quarantine,
-      flatMap-same (number 64 newline).print value_line (value-prints 64) h.sealed,
+      flat_map-same (slot_format false).print (slot_line false) (slot-prints false) h.slots,
+      flat_map-same (number 32 newline).print value_line (value-prints 32) h.free,
+      flat_map-same (number 32 newline).print value_line (value-prints 32) h.quarantine,
+      flat_map-same (number 64 newline).print value_line (value-prints 64) h.sealed,
     )
 
 earlier-prints : (h : State) → h.retired ≡ [] → earlier_format.print (head_of h, body_of h) ≡ page_text earlier h

@@ -4,7 +4,7 @@ use mathlib.Core.Bool.{Bool, true}
 use Rattle.word.specs.Lists.{all, same_list}
 use Rattle.word.specs.Num.{align_up}
 use Rattle.word.specs.Le.{le, bytes}
-use Rattle.handle.specs.Handle.{packed, tag_of, indexOf, generation_of, resolve_by}
+use Rattle.handle.specs.Handle.{packed, tag_of, index_of, generation_of, resolve_by}
 use Rattle.heap.specs.Calls.{new, resolve}
 use Rattle.ty.specs.Words.{word_of, rank}
 use Rattle.ty.specs.Scalars.{scalar_size, narrow, elem_size, logic_leaf, leaf_by}
@@ -15,5 +15,5 @@ use Rattle.theorems.specs.TableLayouts.{dim, sample, nested, answered, cases}
 use Rattle.theorems.specs.ProvedTable.{laid, handles_in, table, all_right}
 
 pub table-holds : all_right table ≡ true
-unfolding all_right all same_list table laid handles_in packed resolve new resolve_by tag_of indexOf generation_of handles_of kind_places handles_places rising words_at le bytes cases dim sample nested answered layout_of layout_at layout_by array_of array_laid dims_of word_of dim_len rank align_up under elem_size scalar_size narrow logic_leaf leaf_by record_of end_of placed offsets_of offsets_from
+unfolding all_right all same_list table laid handles_in packed resolve new resolve_by tag_of index_of generation_of handles_of kind_places handles_places rising words_at le bytes cases dim sample nested answered layout_of layout_at layout_by array_of array_laid dims_of word_of dim_len rank align_up under elem_size scalar_size narrow logic_leaf leaf_by record_of end_of placed offsets_of offsets_from
 table-holds = refl

@@ -26,9 +26,9 @@ use Rattle.ty.proofs.Lookup.{le-or-lt, type-at}
 use Rattle.ty.proofs.CountLaws.{past_one, length_types}
 
 -- a size in 64 bits
-abbrev pub asWord : Option ℕ → Word
-asWord none = Over
-asWord (some n) = word_of n
+abbrev pub as_word : Option ℕ → Word
+as_word none = Over
+as_word (some n) = word_of n
 
 -- a sum by words, of a number that fits
 word-cases : (n m : ℕ) (x : Bool) → ltb m (2 ^ 64) ≡ x → on_word Over (if◌then◌else◌ x (Is m) Over) (λ k. word_of (n + k)) ≡ word_of (n + m)
@@ -39,71 +39,71 @@ word_sum : (n m : ℕ) → on_word Over (word_of m) (λ k. word_of (n + k)) ≡ 
 unfolding word_of
 word_sum n m = word-cases n m (ltb m (2 ^ 64)) refl
 
-sum-size : (n : ℕ) (x : Option ℕ) → on_word Over (asWord x) (λ m. word_of (n + m)) ≡ asWord (plus (some n) x)
+sum-size : (n : ℕ) (x : Option ℕ) → on_word Over (as_word x) (λ m. word_of (n + m)) ≡ as_word (plus (some n) x)
 sum-size n none = refl
 sum-size n (some m) = word_sum n m
 
 -- an array's own bytes may be past 64 bits, and then so is the sum
 own-cases : (n : ℕ) (c : Bool) (x : Option ℕ) (b : Bool) → ltb n (2 ^ 64) ≡ b
-    → on_word Over (if◌then◌else◌ b (Is n) Over) (λ h. if◌then◌else◌ c (on_word Over (asWord x) (λ m. word_of (h + m))) (Is h)) ≡ asWord (if◌then◌else◌ c (plus (some n) x) (some n))
+    → on_word Over (if◌then◌else◌ b (Is n) Over) (λ h. if◌then◌else◌ c (on_word Over (as_word x) (λ m. word_of (h + m))) (Is h)) ≡ as_word (if◌then◌else◌ c (plus (some n) x) (some n))
 own-cases n true x true e = sum-size n x
 own-cases n false x true e = sym (word-is n (ltb-true n (2 ^ 64) e))
 own-cases n true none false e = refl
 own-cases n true (some m) false e = let k = ltb-false n (2 ^ 64) e in sym (word_over (n + m) (omega arith))
 own-cases n false x false e = let k = ltb-false n (2 ^ 64) e in sym (word_over n (omega arith))
 
-array_size : (f : ℕ → Word) (g : ℕ → Option ℕ) → ((t : ℕ) → f t ≡ asWord (g t)) → (e c k : ℕ) → desc_array f e c k ≡ asWord (if◌then◌else◌ (eqb c no_const) (plus (some (24 * k)) (g e)) (some (24 * k)))
+array_size : (f : ℕ → Word) (g : ℕ → Option ℕ) → ((t : ℕ) → f t ≡ as_word (g t)) → (e c k : ℕ) → desc_array f e c k ≡ as_word (if◌then◌else◌ (eqb c no_const) (plus (some (24 * k)) (g e)) (some (24 * k)))
 unfolding desc_array word_of
 array_size f g h e c k = rw (h e) (own-cases (24 * k) (eqb c no_const) (g e) (ltb (24 * k) (2 ^ 64)) refl)
 
 -- a record's fields, after n bytes
-module _ (f : ℕ → Word) (g : ℕ → Option ℕ) (h : (t : ℕ) → f t ≡ asWord (g t)) where
-  past : (n m : ℕ) (r : Option ℕ) → 2 ^ 64 ≤ n + m → Over ≡ asWord (plus (some n) (plus (some m) r))
+module _ (f : ℕ → Word) (g : ℕ → Option ℕ) (h : (t : ℕ) → f t ≡ as_word (g t)) where
+  past : (n m : ℕ) (r : Option ℕ) → 2 ^ 64 ≤ n + m → Over ≡ as_word (plus (some n) (plus (some m) r))
   past n m none k = refl
   past n m (some r) k = sym (word_over (n + (m + r)) (omega arith))
 
-  regroup : (n m : ℕ) (r : Option ℕ) → asWord (plus (some (n + m)) r) ≡ asWord (plus (some n) (plus (some m) r))
+  regroup : (n m : ℕ) (r : Option ℕ) → as_word (plus (some (n + m)) r) ≡ as_word (plus (some n) (plus (some m) r))
   regroup n m none = refl
   regroup n m (some r) = ap word_of (omega arith)
 
   -- one field of m bytes, and what is done with the sum
-  then-cases : (n m : ℕ) (r : Option ℕ) (next : ℕ → Word) → ((s : ℕ) → s < 2 ^ 64 → next s ≡ asWord (plus (some s) r)) → (b : Bool) → ltb (n + m) (2 ^ 64) ≡ b
-      → on_word Over (if◌then◌else◌ b (Is (n + m)) Over) next ≡ asWord (plus (some n) (plus (some m) r))
+  then-cases : (n m : ℕ) (r : Option ℕ) (next : ℕ → Word) → ((s : ℕ) → s < 2 ^ 64 → next s ≡ as_word (plus (some s) r)) → (b : Bool) → ltb (n + m) (2 ^ 64) ≡ b
+      → on_word Over (if◌then◌else◌ b (Is (n + m)) Over) next ≡ as_word (plus (some n) (plus (some m) r))
   then-cases n m r next k true e = k (n + m) (ltb-true (n + m) (2 ^ 64) e) ∙ regroup n m r
   then-cases n m r next k false e = past n m r (ltb-false (n + m) (2 ^ 64) e)
 
-  then-sum : (n m : ℕ) (r : Option ℕ) (next : ℕ → Word) → ((s : ℕ) → s < 2 ^ 64 → next s ≡ asWord (plus (some s) r)) → on_word Over (word_of (n + m)) next ≡ asWord (plus (some n) (plus (some m) r))
+  then-sum : (n m : ℕ) (r : Option ℕ) (next : ℕ → Word) → ((s : ℕ) → s < 2 ^ 64 → next s ≡ as_word (plus (some s) r)) → on_word Over (word_of (n + m)) next ≡ as_word (plus (some n) (plus (some m) r))
   unfolding word_of
   then-sum n m r next k = then-cases n m r next k (ltb (n + m) (2 ^ 64)) refl
 
-  one-cases : (n m : ℕ) (r : Option ℕ) (next : ℕ → Word) → ((s : ℕ) → s < 2 ^ 64 → next s ≡ asWord (plus (some s) r)) → (b : Bool) → ltb m (2 ^ 64) ≡ b
-      → on_word Over (if◌then◌else◌ b (Is m) Over) (λ k. on_word Over (word_of (n + k)) next) ≡ asWord (plus (some n) (plus (some m) r))
+  one-cases : (n m : ℕ) (r : Option ℕ) (next : ℕ → Word) → ((s : ℕ) → s < 2 ^ 64 → next s ≡ as_word (plus (some s) r)) → (b : Bool) → ltb m (2 ^ 64) ≡ b
+      → on_word Over (if◌then◌else◌ b (Is m) Over) (λ k. on_word Over (word_of (n + k)) next) ≡ as_word (plus (some n) (plus (some m) r))
   one-cases n m r next k true e = then-sum n m r next k
   one-cases n m r next k false e = let z = ltb-false m (2 ^ 64) e in past n m r (omega arith)
 
-  one_size : (n : ℕ) (x r : Option ℕ) (next : ℕ → Word) → ((s : ℕ) → s < 2 ^ 64 → next s ≡ asWord (plus (some s) r)) → on_word Over (asWord x) (λ k. on_word Over (word_of (n + k)) next) ≡ asWord (plus (some n) (plus x r))
+  one_size : (n : ℕ) (x r : Option ℕ) (next : ℕ → Word) → ((s : ℕ) → s < 2 ^ 64 → next s ≡ as_word (plus (some s) r)) → on_word Over (as_word x) (λ k. on_word Over (word_of (n + k)) next) ≡ as_word (plus (some n) (plus x r))
   unfolding word_of
   one_size n none r next k = refl
   one_size n (some m) r next k = one-cases n m r next k (ltb m (2 ^ 64)) refl
 
-  choice-size : (c : Bool) (n : ℕ) (x r : Option ℕ) (next : ℕ → Word) → n < 2 ^ 64 → ((s : ℕ) → s < 2 ^ 64 → next s ≡ asWord (plus (some s) r))
-      → if◌then◌else◌ c (on_word Over (asWord x) (λ k. on_word Over (word_of (n + k)) next)) (next n) ≡ asWord (plus (some n) (if◌then◌else◌ c (plus x r) r))
+  choice-size : (c : Bool) (n : ℕ) (x r : Option ℕ) (next : ℕ → Word) → n < 2 ^ 64 → ((s : ℕ) → s < 2 ^ 64 → next s ≡ as_word (plus (some s) r))
+      → if◌then◌else◌ c (on_word Over (as_word x) (λ k. on_word Over (word_of (n + k)) next)) (next n) ≡ as_word (plus (some n) (if◌then◌else◌ c (plus x r) r))
   choice-size true n x r next l k = one_size n x r next k
   choice-size false n x r next l k = k n l
 
-  fields-size : (fs : List Field) (n : ℕ) → n < 2 ^ 64 → desc_fields f fs n ≡ asWord (plus (some n) (size_fields g fs))
+  fields-size : (fs : List Field) (n : ℕ) → n < 2 ^ 64 → desc_fields f fs n ≡ as_word (plus (some n) (size_fields g fs))
   unfolding desc_fields size_fields
   fields-size [] n l = let e : n + 0 ≡ n = omega arith in sym (ap word_of e ∙ word-is n l)
   fields-size (field t c ∷ fs) n l = rw (h t) (choice-size (eqb c no_const) n (g t) (size_fields g fs) (λ s. desc_fields f fs s) l (fields-size fs))
 
-  record-size : (fs : List Field) → desc_fields f fs 0 ≡ asWord (size_fields g fs)
+  record-size : (fs : List Field) → desc_fields f fs 0 ≡ as_word (size_fields g fs)
   record-size fs = fields-size fs 0 (omega arith) ∙ zero-size (size_fields g fs)
     where
-      zero-size : (r : Option ℕ) → asWord (plus (some 0) r) ≡ asWord r
+      zero-size : (r : Option ℕ) → as_word (plus (some 0) r) ≡ as_word r
       zero-size none = refl
       zero-size (some m) = ap word_of (omega arith)
 
-  by_size : (y : Ty) → desc_by f y ≡ asWord (size_by g y)
+  by_size : (y : Ty) → desc_by f y ≡ as_word (size_by g y)
   unfolding desc_by size_by word_of
   by_size missing = refl
   by_size (int lo hi) = refl
@@ -117,7 +117,7 @@ module _ (f : ℕ → Word) (g : ℕ → Option ℕ) (h : (t : ℕ) → f t ≡ 
   by_size protected = refl
 
 -- on every table: the size in 64 bits is the size where it has 64 bits
-pub at_size : (ts : List Ty) (n t : ℕ) → desc_at ts n t ≡ asWord (size_at ts n t)
+pub at_size : (ts : List Ty) (n t : ℕ) → desc_at ts n t ≡ as_word (size_at ts n t)
 unfolding desc_at size_at
 at_size ts zero t = refl
 at_size ts (suc n) t = by_size (desc_at ts n) (size_at ts n) (at_size ts n) (type_at ts t)
@@ -237,7 +237,7 @@ module _ (w fs cs b : List ℕ) (good : table_good w fs cs b ≡ true) where
       (λ h. leb-true (unfold_at (types_of w fs) 65 t) 65536 (below_at (small_at (types_of w fs)) (length w / 4) parts.1 t h))
       (le-or-lt (length w / 4) t)
 
-  exact-cases : (x : Option ℕ) (b : ℕ) → b < 2 ^ 64 → Small x b → asWord x ≡ exactly x
+  exact-cases : (x : Option ℕ) (b : ℕ) → b < 2 ^ 64 → Small x b → as_word x ≡ exactly x
   exact-cases none b h k = refl
   exact-cases (some m) b h k = word-is m (omega arith)
 

@@ -12,7 +12,7 @@ use lib.Dec.{leb}
 use Rattle.word.proofs.Bools.{and_both}
 use Rattle.heap_calls.specs.Pins.{rising_from, rising}
 use Rattle.reach.specs.Reach.{Graph, Starts, ◌∈◌}
-use Rattle.reach.proofs.Grown.{∈-getD, ∈-index}
+use Rattle.reach.proofs.Grown.{∈-get_or, ∈-index}
 use Rattle.wanted.specs.Wanted.{Sorted, Rising}
 use Rattle.wanted.specs.Way.{seen, picked, has, candidates, root_slots, down_from, those}
 use Rattle.wanted.proofs.Counting.{compared}
@@ -79,7 +79,7 @@ sorted-same T asym (x ∷ xs) (y ∷ ys) s u f g =
 pub rising-at : (W : List ℕ) → Rising W → (j k : ℕ) → j < k → k < length W → get_or W j 0 < get_or W k 0
 rising-at [] up j k a b = absurd (omega arith)
 rising-at (w ∷ ws) up zero zero a b = absurd (omega arith)
-rising-at (w ∷ ws) up zero (suc k) a b = up.0 (get_or ws k 0) (∈-getD ws k (omega arith))
+rising-at (w ∷ ws) up zero (suc k) a b = up.0 (get_or ws k 0) (∈-get_or ws k (omega arith))
 rising-at (w ∷ ws) up (suc j) zero a b = absurd (omega arith)
 rising-at (w ∷ ws) up (suc j) (suc k) a b = rising-at ws up.1 j k (omega arith) (omega arith)
 

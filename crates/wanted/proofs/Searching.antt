@@ -15,7 +15,7 @@ use Rattle.std.specs.Prelude.{if◌then◌else◌}
 use Rattle.word.specs.Result.{ok, refused}
 use Rattle.reach.specs.Reach.{Graph, Starts, ◌∈◌}
 use Rattle.reach.specs.Marking.{State, visit, drained, marking}
-use Rattle.reach.proofs.Grown.{∈-getD}
+use Rattle.reach.proofs.Grown.{∈-get_or}
 use Rattle.wanted.specs.Wanted.{Rising, Objects}
 use Rattle.wanted.specs.Way.{candidates, root_slots, has, possible, roots_for, down_from, those}
 use Rattle.wanted.specs.Search.{Going, going, noted, noting, and_then, meeting, upward, again, downward, as_many, secondly, notes_of, searched_by, searched}
@@ -134,7 +134,7 @@ module _ (G : Graph) (handle : ℕ → ℕ) (n : ℕ) (z : Objects G handle n) (
       w = get_or W k 0
 
       here : w ∈ W
-      here = ∈-getD W k h
+      here = ∈-get_or W k h
 
       inside : w < length g.notes
       inside = omega (arith, z.below w (lives w here))

@@ -4,9 +4,11 @@ ghost use Rattle.refusal.specs.Told.{nothing};
 ghost use Rattle.heap.specs.Lent.{lent};
 ghost use Rattle.heap.specs.Calls.{write as written};
 ghost use Rattle.door.specs.HeapCalls.{outcome, heap_call};
+ghost use Rattle.collect_door.specs.Calls.{collect_call};
+ghost use Rattle.collect_door.specs.Demand.{RightlyCollected};
 
 pub use collect_door::joined::yexwalu_collect_joined as collect_joined;
-pub use collect_door::yexwalu_collect as collect;
+use door::Done;
 use heap::Heap;
 pub use heap_door::{
     yexwalu_data as data, yexwalu_edit as edit, yexwalu_gc_due as gc_due,
@@ -42,4 +44,33 @@ pub fn write(
         (λ h. written h i at bytes.now) }
 {
     heap_door::yexwalu_write(heap, narrow, wide, pool, i, at, bytes, marks, work)
+}
+
+// `yexwalu_collect` under its short name. An import can't rename it so, since a crate is called `collect`.
+pub fn collect(
+    types: &[u64],
+    fields: &[u32],
+    consts: &[u64],
+    bytes: &[u8],
+    heap: Heap,
+    narrow: &mut [u32],
+    wide: &mut [u64],
+    pool: &mut [u8],
+    roots: &[u64],
+    pins: &[u32],
+    marks: &mut [u8],
+    work: &mut [u64],
+) -> Done
+    ensures work_after { outcome result.answer (lent result.heap narrow.new wide.new pool.new) marks.new work.new
+        ≡ collect_call
+        (record { types = types.now; fields = fields.now; consts = consts.now; bytes = bytes.now; roots = roots.now; pins = pins.now })
+        marks.old work.old (lent heap narrow.old wide.old pool.old) }
+    ensures rightly_collected { RightlyCollected
+        (record { types = types.now; fields = fields.now; consts = consts.now; bytes = bytes.now; roots = roots.now; pins = pins.now })
+        marks.old work.old (lent heap narrow.old wide.old pool.old)
+        (outcome result.answer (lent result.heap narrow.new wide.new pool.new) marks.new work.new) }
+{
+    collect_door::yexwalu_collect(
+        types, fields, consts, bytes, heap, narrow, wide, pool, roots, pins, marks, work,
+    )
 }

@@ -10,7 +10,6 @@ use refusal::{Answer, Refusal, Reply};
 use ty::Word;
 pub use yexwalu_desc_size as desc_size;
 pub use yexwalu_has_handles as has_handles;
-pub use yexwalu_layout as layout;
 
 // Document 01's number, 0 for success, and a layout, zeros after a refusal. used: the descriptor bytes that it read; offsets: how many of the record's fields'
 // offsets were written.
@@ -87,6 +86,26 @@ pub fn yexwalu_layout(
         return not_laid(Refusal::TypeTable);
     }
     laid_out(layout::layout(types, fields, consts, bytes, t, desc, out))
+}
+
+// `yexwalu_layout` under its short name. An import can't rename it so, since a crate is called `layout`.
+pub fn layout(
+    types: &[u64],
+    fields: &[u32],
+    consts: &[u64],
+    bytes: &[u8],
+    t: u64,
+    desc: &[u8],
+    out: &mut [u64],
+) -> LayoutAnswer
+    ensures answer { result ≡ laid (layout_called types.now fields.now consts.now bytes.now
+        t desc.now (length out.old)) }
+    ensures written { out.new ≡ written_by
+        (layout_called types.now fields.now consts.now bytes.now t desc.now (length out.old))
+        (offsets_of (table_of types.now fields.now consts.now bytes.now) t desc.now)
+        out.old }
+{
+    yexwalu_layout(types, fields, consts, bytes, t, desc, out)
 }
 
 // The bytes of a descriptor of type t.

@@ -33,8 +33,8 @@ loop-i-preserved c = (
   elim c.if-narrow-s-ne0.branch [ then-narrow-s-ne0 y ↦ omega (arith, y, c.loop-i.invariant) | else-narrow-s-ne0 y ↦ omega (arith, y, c.loop-i.invariant) ],
   λ h e w.
       elim c.if-narrow-s-ne0.branch [
-        then-narrow-s-ne0 y ↦ rw y.count-is (count-one h c.args.narrow.now c.args.wide.now c.args.pool.now w (c.loop-i.invariant.2 h e w) (omega arith) y.if-narrow-s-ne0.true)
-      | else-narrow-s-ne0 y ↦ rw y.count-is (count_none h c.args.narrow.now c.args.wide.now c.args.pool.now w (c.loop-i.invariant.2 h e w) (omega arith) y.if-narrow-s-ne0.false)
+        | then-narrow-s-ne0 y ↦ rw y.count-is (count-one h c.args.narrow.now c.args.wide.now c.args.pool.now w (c.loop-i.invariant.2 h e w) (omega arith) y.if-narrow-s-ne0.true)
+        | else-narrow-s-ne0 y ↦ rw y.count-is (count_none h c.args.narrow.now c.args.wide.now c.args.pool.now w (c.loop-i.invariant.2 h e w) (omega arith) y.if-narrow-s-ne0.false)
       ],
 )
 

@@ -1,5 +1,6 @@
 -- `rehearsal_line::do_alloc` meets its contract.
 use native.Mathlib.Omega.{arith}
+use mathlib.Core.List.{[]}
 use mathlib.Core.Path.{ap, ◌∙◌}
 use Prim.Native.Nat.{ℕ, ◌/◌}
 use Rattle.ty.specs.View.{table_of}

@@ -15,7 +15,7 @@ pub rehearse_one-g-requires : goal.rehearse_one-g-requires
 rehearse_one-g-requires c = record { lent_room = room-same c.requires.memory c.loop-i.invariant.1; cleared = still-clear c.requires.clear c.loop-i.invariant.1; s_value = c.requires.text }
 
 pub put_figures-at-requires : goal.put_figures-at-requires
-put_figures-at-requires c = repeat-put c.loop-i.invariant.0 c.loop-i-test.true (goes-sizes (table_of c.args.types.now c.args.fields.now c.args.consts.now c.args.bytes.now) (get_or c.args.thresholds.now _ 0) (lines_of c.args.s.now) (ap (λ (j : ℕ). j / 6) c.loop-i.invariant.1.narrow) c.loop-i.invariant.1.pool c.rehearse_one-g.ensures.goes) (ap (λ (j : ℕ). j / 6) (c.rehearse_one-g.auto.narrow ∙ c.loop-i.invariant.1.narrow)) (c.rehearse_one-g.auto.pool ∙ c.loop-i.invariant.1.pool) (c.type_inv.thresholds _) (omega arith)
+put_figures-at-requires c = repeat-put c.loop-i.invariant.0 c.loop-i-test.true (goes-sizes (table_of c.args.types.now c.args.fields.now c.args.consts.now c.args.bytes.now) (get_or c.args.thresholds.now _ 0) (lines_of c.args.s.now) (ap (λ (j : ℕ). j / 6) c.loop-i.invariant.1.narrow) c.loop-i.invariant.1.pool c.rehearse_one-g.ensures.goes) (ap (λ (j : ℕ). j / 6) (c.rehearse_one-g.auto.narrow ∙ c.loop-i.invariant.1.narrow)) (c.rehearse_one-g.auto.pool ∙ c.loop-i.invariant.1.pool) (c.type_inv.thresholds _).fits (omega arith)
 
 pub overflow_add-i : goal.overflow_add-i
 overflow_add-i c = omega (arith, c.loop-i-test.true)
@@ -24,7 +24,7 @@ pub loop-i-smaller : goal.loop-i-smaller
 loop-i-smaller c = omega (arith, c.loop-i-test.true)
 
 pub loop-i-preserved : goal.loop-i-preserved
-loop-i-preserved c = (repeat-next c.loop-i.invariant.0 c.loop-i-test.true (goes-sizes (table_of c.args.types.now c.args.fields.now c.args.consts.now c.args.bytes.now) (get_or c.args.thresholds.now _ 0) (lines_of c.args.s.now) (ap (λ (j : ℕ). j / 6) c.loop-i.invariant.1.narrow) c.loop-i.invariant.1.pool c.rehearse_one-g.ensures.goes) (ap (λ (j : ℕ). j / 6) (c.rehearse_one-g.auto.narrow ∙ c.loop-i.invariant.1.narrow)) (c.rehearse_one-g.auto.pool ∙ c.loop-i.invariant.1.pool) (c.type_inv.thresholds _) (omega arith) c.put_figures-at.ensures, on (record { narrow = c.rehearse_one-g.auto.narrow; wide = c.rehearse_one-g.auto.wide; pool = c.rehearse_one-g.auto.pool; words = c.rehearse_one-g.auto.words; marks = c.rehearse_one-g.ensures.marks_unchanged.0; work = c.rehearse_one-g.ensures.marks_unchanged.1 }) c.loop-i.invariant.1)
+loop-i-preserved c = (repeat-next c.loop-i.invariant.0 c.loop-i-test.true (goes-sizes (table_of c.args.types.now c.args.fields.now c.args.consts.now c.args.bytes.now) (get_or c.args.thresholds.now _ 0) (lines_of c.args.s.now) (ap (λ (j : ℕ). j / 6) c.loop-i.invariant.1.narrow) c.loop-i.invariant.1.pool c.rehearse_one-g.ensures.goes) (ap (λ (j : ℕ). j / 6) (c.rehearse_one-g.auto.narrow ∙ c.loop-i.invariant.1.narrow)) (c.rehearse_one-g.auto.pool ∙ c.loop-i.invariant.1.pool) (c.type_inv.thresholds _).fits (omega arith) c.put_figures-at.ensures, on (record { narrow = c.rehearse_one-g.auto.narrow; wide = c.rehearse_one-g.auto.wide; pool = c.rehearse_one-g.auto.pool; words = c.rehearse_one-g.auto.words; marks = c.rehearse_one-g.ensures.marks_unchanged.0; work = c.rehearse_one-g.ensures.marks_unchanged.1 }) c.loop-i.invariant.1)
 
 pub shape_of-narrow : goal.shape_of-narrow
 shape_of-narrow c = c.loop-i.invariant.1.narrow

@@ -42,14 +42,14 @@ returns-then-not-blocks_apart c = is-formed c.args.kinds.now c.args.ends.now c.a
 
 pub returns : goal.returns
 returns c = is-formed c.args.kinds.now c.args.ends.now c.args.refs.now c.args.blocks.now c.args.classes.now _ (holds (record {
-      code-count = c.if-kinds-gt65536.false;
-      block-count = c.if-nb-gt4096.false;
-      class-count = c.if-classes-gt16384.false;
-      three = c.if-ends-kinds.false;
-      pairs = c.if-blocks-ne0.false;
-      lists = c.lists_fit.ensures.0 c.if-not-lists_fit.false;
-      kinds-known = c.all_at_most.ensures.0 c.if-not-all_at_most.false;
-      classes-known = c.all_at_most-2.ensures.0 c.if-not-all_at_most-2.false;
-      inside = c.blocks_inside.ensures.0 c.if-not-blocks_inside.false;
-      apart = c.blocks_apart.ensures.0 c.if-not-blocks_apart.false;
-    }))
+  code-count = c.if-kinds-gt65536.false;
+  block-count = c.if-nb-gt4096.false;
+  class-count = c.if-classes-gt16384.false;
+  three = c.if-ends-kinds.false;
+  pairs = c.if-blocks-ne0.false;
+  lists = c.lists_fit.ensures.0 c.if-not-lists_fit.false;
+  kinds-known = c.all_at_most.ensures.0 c.if-not-all_at_most.false;
+  classes-known = c.all_at_most-2.ensures.0 c.if-not-all_at_most-2.false;
+  inside = c.blocks_inside.ensures.0 c.if-not-blocks_inside.false;
+  apart = c.blocks_apart.ensures.0 c.if-not-blocks_apart.false;
+}))

@@ -36,11 +36,11 @@ loop-i-smaller c = omega arith
 
 pub loop-i-preserved : goal.loop-i-preserved
 loop-i-preserved c = elim c.if-t-nb.branch [
-      | then-t-nb w ↦ targets-on c.loop-i.invariant _ _ c.loop-i-test.true c.requires.1 c.wide-t.ensures w.if-t-nb.true
-        (subst (λ (z : List ℕ). Outside c.loop-i.s z (c.args.nb * (3 * c.args.words)) c.args.words) (sym w.s-is) w.join.ensures.0)
-        (λ q m. ap (λ (z : List ℕ). cell z (c.args.nb * (3 * c.args.words)) q) w.s-is ∙ w.join.ensures.1 q m)
-      | else-t-nb w ↦ targets-skip c.loop-i.invariant _ _ c.loop-i-test.true c.requires.1 c.wide-t.ensures w.if-t-nb.false w.s-is
-    ]
+  | then-t-nb w ↦ targets-on c.loop-i.invariant _ _ c.loop-i-test.true c.requires.1 c.wide-t.ensures w.if-t-nb.true
+      (subst (λ (z : List ℕ). Outside c.loop-i.s z (c.args.nb * (3 * c.args.words)) c.args.words) (sym w.s-is) w.join.ensures.0)
+      (λ q m. ap (λ (z : List ℕ). cell z (c.args.nb * (3 * c.args.words)) q) w.s-is ∙ w.join.ensures.1 q m)
+  | else-t-nb w ↦ targets-skip c.loop-i.invariant _ _ c.loop-i-test.true c.requires.1 c.wide-t.ensures w.if-t-nb.false w.s-is
+]
 
 pub shape_of-s : goal.shape_of-s
 shape_of-s c = c.loop-i.invariant.frame.kept

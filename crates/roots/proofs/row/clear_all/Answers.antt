@@ -29,10 +29,10 @@ loop-i-smaller c = omega arith
 
 pub loop-i-preserved : goal.loop-i-preserved
 loop-i-preserved c = elim c.if-takes_part.branch [
-      | then-takes_part w ↦ clears-on c.loop-i.invariant _ _ c.loop-i-test.true (omega arith) c.wide-r.ensures (sym c.takes_part.ensures ∙ w.if-takes_part.true)
-        (ap length w.row-is ∙ w.clear_bit.auto.row) (λ q. ap (λ (l : List ℕ). bit_in 64 l q) w.row-is ∙ w.clear_bit.ensures q)
-      | else-takes_part w ↦ clears-skip c.loop-i.invariant _ _ c.loop-i-test.true (omega arith) c.wide-r.ensures (sym c.takes_part.ensures ∙ w.if-takes_part.false) w.row-is
-    ]
+  | then-takes_part w ↦ clears-on c.loop-i.invariant _ _ c.loop-i-test.true (omega arith) c.wide-r.ensures (sym c.takes_part.ensures ∙ w.if-takes_part.true)
+      (ap length w.row-is ∙ w.clear_bit.auto.row) (λ q. ap (λ (l : List ℕ). bit_in 64 l q) w.row-is ∙ w.clear_bit.ensures q)
+  | else-takes_part w ↦ clears-skip c.loop-i.invariant _ _ c.loop-i-test.true (omega arith) c.wide-r.ensures (sym c.takes_part.ensures ∙ w.if-takes_part.false) w.row-is
+]
 
 pub shape_of-row : goal.shape_of-row
 shape_of-row c = omega arith
