@@ -5,7 +5,7 @@
 // and `^` for byte 13.
 #![tactic(auto)]
 
-ghost use Rattle.std.specs.Prelude.{◌≤◌, length};
+ghost use Rattle.std.specs.Prelude.{◌≤◌, length, IfOk};
 
 use heap::Heap;
 use std::io;
@@ -317,10 +317,8 @@ fn meant(b: u8) -> u8 {
 }
 
 fn unfold(s: &mut [u8]) {
-    let mut i = 0;
-    while i < s.len() {
-        s[i] = meant(s[i]);
-        i += 1;
+    for b in s.iter_mut() {
+        *b = meant(*b);
     }
 }
 
@@ -388,10 +386,25 @@ fn run(rt: &impl Print, s: &[u8], n: usize) -> io::Result<()> {
     lines(rt, s, least(n, s.len()))
 }
 
+// Reads until the buffer is full or the input ends: how many bytes came.
+fn read_full(reader: &mut impl Read, buf: &mut [u8]) -> io::Result<usize>
+    ensures { IfOk result (λ n. n ≤ length buf.old) }
+{
+    let mut n = 0;
+    for _ in 0..u64::MAX {
+        let k = reader.read(&mut buf[n..])?;
+        if k == 0 {
+            return Ok(n);
+        }
+        n += k;
+    }
+    Ok(n)
+}
+
 fn main(rt: HostRuntime) -> io::Result<()> {
-    let mut input = Vec::new(rt.alloc());
-    let mut reader = rt.stdin().take(32768);
-    reader.read_to_end(&mut input)?;
+    let mut input = [0u8; 32768];
+    let mut reader = rt.stdin();
+    let n = read_full(&mut reader, &mut input)?;
     unfold(&mut input);
-    run(&rt, &input, input.len())
+    run(&rt, &input, n)
 }

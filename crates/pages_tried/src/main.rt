@@ -3,7 +3,7 @@
 // Standard input has the scripts, each with byte `|` after it. `~` stands for 1,000 hexadecimal digits, so that a line can be longer than the buffer.
 #![tactic(auto)]
 
-ghost use Rattle.std.specs.Prelude.{◌≤◌, length};
+ghost use Rattle.std.specs.Prelude.{◌≤◌, length, IfOk};
 
 use std::io;
 use std::io::Read;
@@ -154,10 +154,25 @@ fn show_all(rt: &impl Print, s: &[u8], n: usize, script: &mut [u8; 262144]) -> i
     Ok(())
 }
 
+// Reads until the buffer is full or the input ends: how many bytes came.
+fn read_full(reader: &mut impl Read, buf: &mut [u8]) -> io::Result<usize>
+    ensures { IfOk result (λ n. n ≤ length buf.old) }
+{
+    let mut n = 0;
+    for _ in 0..u64::MAX {
+        let k = reader.read(&mut buf[n..])?;
+        if k == 0 {
+            return Ok(n);
+        }
+        n += k;
+    }
+    Ok(n)
+}
+
 fn main(rt: HostRuntime) -> io::Result<()> {
-    let mut input = Vec::new(rt.alloc());
-    let mut reader = rt.stdin().take(65536);
-    reader.read_to_end(&mut input)?;
+    let mut input = [0u8; 65536];
+    let mut reader = rt.stdin();
+    let n = read_full(&mut reader, &mut input)?;
     let mut script = [0u8; 262144];
-    show_all(&rt, &input, input.len(), &mut script)
+    show_all(&rt, &input, n, &mut script)
 }

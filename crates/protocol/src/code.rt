@@ -131,14 +131,14 @@ fn inst(line: &[u8], code: Function, bytes: &mut Bytes, lists: &mut Halves) -> B
 }
 
 // Answers a line that makes the function: the new one, or the old one where the line is bad.
-fn made(output: &mut Vec<u8>, built: Built, old: Function) -> io::Result<Function> {
+fn made(rt: &impl Print, built: Built, old: Function) -> io::Result<Function> {
     match built {
         Built::Is(code) => {
-            put_last(output, 0)?;
+            put_last(rt, 0)?;
             Ok(code)
         }
         Built::Bad => {
-            put_bad(output)?;
+            put_bad(rt)?;
             Ok(old)
         }
     }
@@ -153,7 +153,7 @@ pub const UNKNOWN: usize = 2;
 
 // Runs a line that makes the function, and tells the function after it.
 pub fn make(
-    output: &mut Vec<u8>,
+    rt: &impl Print,
     line: &[u8],
     code: Function,
     bytes: &mut Bytes,
@@ -164,5 +164,5 @@ pub fn make(
         0 => func(line, bytes, lists, list),
         _ => inst(line, code, bytes, lists),
     };
-    made(output, built, code)
+    made(rt, built, code)
 }

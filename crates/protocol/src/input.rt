@@ -1,5 +1,4 @@
 // The lines of standard input, in a buffer. A line may have up to 262,144 bytes.
-ghost use Rattle.std.specs.Prelude.{◌≤◌, length, IfOk};
 
 use crate::{Buffer, find, least};
 use std::io;

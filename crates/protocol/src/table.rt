@@ -70,7 +70,7 @@ fn put_bytes(bytes: &mut Bytes, at: usize, end: usize) -> Room {
 
 // A type. The answer is its number.
 fn add_type(
-    output: &mut Vec<u8>,
+    rt: &impl Print,
     line: &[u8],
     table: Table,
     halves: &mut Halves,
@@ -78,14 +78,14 @@ fn add_type(
 ) -> io::Result<Table> {
     let at = table.types;
     let Read::Is(row) = row_of(line, second(line), halves, table.fields) else {
-        put_bad(output)?;
+        put_bad(rt)?;
         return Ok(table);
     };
     let Room::Ends(end) = put_type(words, at, row) else {
-        put_bad(output)?;
+        put_bad(rt)?;
         return Ok(table);
     };
-    put_value(output, (at / 4) as u64)?;
+    put_value(rt, (at / 4) as u64)?;
     Ok(Table {
         types: end,
         fields: row.fields,
@@ -96,7 +96,7 @@ fn add_type(
 
 // A constant's row, after its bytes, which end at `end`. The answer is its number.
 fn add_row(
-    output: &mut Vec<u8>,
+    rt: &impl Print,
     table: Table,
     words: &mut Words,
     plain: u64,
@@ -105,10 +105,10 @@ fn add_row(
     let at = table.consts;
     let from = table.bytes;
     let Room::Ends(last) = put_const(words, at, plain, from, since(end, from)) else {
-        put_bad(output)?;
+        put_bad(rt)?;
         return Ok(table);
     };
-    put_value(output, (since(at, CONSTS) / 3) as u64)?;
+    put_value(rt, (since(at, CONSTS) / 3) as u64)?;
     Ok(Table {
         types: table.types,
         fields: table.fields,
@@ -119,7 +119,7 @@ fn add_row(
 
 // A constant, of plain bytes or not.
 fn add_const(
-    output: &mut Vec<u8>,
+    rt: &impl Print,
     line: &[u8],
     table: Table,
     bytes: &mut Bytes,
@@ -127,17 +127,17 @@ fn add_const(
 ) -> io::Result<Table> {
     let at = second(line);
     if which(line, at, b"other ") == 0 {
-        return add_row(output, table, words, 0, table.bytes);
+        return add_row(rt, table, words, 0, table.bytes);
     }
     let Run::Is(to, _) = hex(line, at, bytes) else {
-        put_bad(output)?;
+        put_bad(rt)?;
         return Ok(table);
     };
     let Room::Ends(end) = put_bytes(bytes, table.bytes, to) else {
-        put_bad(output)?;
+        put_bad(rt)?;
         return Ok(table);
     };
-    add_row(output, table, words, 1, end)
+    add_row(rt, table, words, 1, end)
 }
 
 // Which command of the table a line has.
@@ -149,7 +149,7 @@ pub const UNKNOWN: usize = 3;
 
 // Runs a line that makes the table, and tells the table after it. A line that can't be read, or that finds no room, leaves it as it was.
 pub fn make(
-    output: &mut Vec<u8>,
+    rt: &impl Print,
     line: &[u8],
     table: Table,
     bytes: &mut Bytes,
@@ -158,10 +158,10 @@ pub fn make(
 ) -> io::Result<Table> {
     match command(line) {
         0 => {
-            put_last(output, 0)?;
+            put_last(rt, 0)?;
             Ok(no_types())
         }
-        1 => add_type(output, line, table, halves, words),
-        _ => add_const(output, line, table, bytes, words),
+        1 => add_type(rt, line, table, halves, words),
+        _ => add_const(rt, line, table, bytes, words),
     }
 }

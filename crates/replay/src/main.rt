@@ -11,16 +11,8 @@ fn next_line(buffer: &Buffer, input: Input) -> Line {
     input::next_line(buffer, input)
 }
 
-// Writes what was put, and empties the buffer for the next line's answer.
-fn flush(rt: &impl Print, output: &mut Vec<u8>) -> io::Result<()> {
-    rt.write_all(output)?;
-    output.clear();
-    Ok(())
-}
-
 fn main(rt: HostRuntime) -> io::Result<()> {
     let mut reader = rt.stdin();
-    let mut output = Vec::new(rt.alloc());
     let mut narrow = [0u32; 49152];
     let mut wide = [0u64; 32768];
     let mut pool = [0u8; 65536];
@@ -33,13 +25,11 @@ fn main(rt: HostRuntime) -> io::Result<()> {
     let mut buffer = [0u8; 262144];
     let mut state = replay_lines::start();
     let mut input = input::start();
-    let mut turns = u64::MAX;
-    while turns > 0 {
-        turns -= 1;
+    for _ in 0..u64::MAX {
         match next_line(&buffer, input) {
             Line::At(from, to, rest) => {
                 state = run_line(
-                    &mut output,
+                    &rt,
                     &buffer,
                     from,
                     to,
@@ -54,12 +44,10 @@ fn main(rt: HostRuntime) -> io::Result<()> {
                     &mut halves,
                     &mut words,
                 )?;
-                flush(&rt, &mut output)?;
                 input = rest;
             }
             Line::Long(rest) => {
-                put_bad(&mut output)?;
-                flush(&rt, &mut output)?;
+                put_bad(&rt)?;
                 input = rest;
             }
             Line::Short => input = input::more(&mut reader, &mut buffer, input)?,

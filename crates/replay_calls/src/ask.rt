@@ -105,7 +105,7 @@ fn called(c: usize, x: u64, heap: Heap, narrow: &[u32], wide: &[u64], pool: &[u8
 
 // The page, on one line, with planes or data.
 fn page(
-    output: &mut Vec<u8>,
+    rt: &impl Print,
     heap: Heap,
     narrow: &[u32],
     wide: &[u64],
@@ -118,33 +118,33 @@ fn page(
     let a = yexwalu::page::write_page(
         heap, narrow, wide, pool, planar, text, &mut marks, &mut work,
     );
-    put_number(output, a.number)?;
+    put_number(rt, a.number)?;
     if a.number == 0 {
-        put_page(output, text, a.first as usize)?;
+        put_page(rt, text, a.first as usize)?;
     }
-    put(output, b"\n")
+    put(rt, b"\n")
 }
 
 // Visible data, which lies in the pool.
-fn data(output: &mut Vec<u8>, a: Answer, pool: &[u8]) -> io::Result<()> {
-    put_number(output, a.number)?;
+fn data(rt: &impl Print, a: Answer, pool: &[u8]) -> io::Result<()> {
+    put_number(rt, a.number)?;
     if a.number == 0 {
-        put_hex(output, pool, a.first as usize, a.second as usize)?;
+        put_hex(rt, pool, a.first as usize, a.second as usize)?;
     }
-    put(output, b"\n")
+    put(rt, b"\n")
 }
 
 // The epoch and the log, which stand in the header.
-fn epoch(output: &mut Vec<u8>, heap: Heap) -> io::Result<()> {
+fn epoch(rt: &impl Print, heap: Heap) -> io::Result<()> {
     let log = heap.log;
-    put_value_next(output, heap.epoch)?;
-    put_halves(output, &log, 0, 16)?;
-    put(output, b"\n")
+    put_value_next(rt, heap.epoch)?;
+    put_halves(rt, &log, 0, 16)?;
+    put(rt, b"\n")
 }
 
 // The answer to a question, with the values that it has.
 fn show(
-    output: &mut Vec<u8>,
+    rt: &impl Print,
     c: usize,
     x: u64,
     heap: Heap,
@@ -154,20 +154,20 @@ fn show(
 ) -> io::Result<()> {
     let a = called(c, x, heap, narrow, wide, pool);
     match c {
-        DATA => data(output, a, pool),
-        KIND => put_answer(output, a, 2),
-        STAMP => put_answer(output, a, 2),
+        DATA => data(rt, a, pool),
+        KIND => put_answer(rt, a, 2),
+        STAMP => put_answer(rt, a, 2),
         SLOTS => {
             let live = called(UNKNOWN, x, heap, narrow, wide, pool);
-            put_answer(output, counts(a, live), 2)
+            put_answer(rt, counts(a, live), 2)
         }
-        _ => put_answer(output, a, 1),
+        _ => put_answer(rt, a, 1),
     }
 }
 
 // The question to the heap in these parts of the memory.
 fn told(
-    output: &mut Vec<u8>,
+    rt: &impl Print,
     c: usize,
     x: u64,
     heap: Heap,
@@ -176,18 +176,18 @@ fn told(
     pool: &[u8],
 ) -> io::Result<()> {
     match c {
-        EPOCH => epoch(output, heap),
+        EPOCH => epoch(rt, heap),
         PAGE => {
             let mut text = [0u8; 262144];
-            page(output, heap, narrow, wide, pool, x == 1, &mut text)
+            page(rt, heap, narrow, wide, pool, x == 1, &mut text)
         }
-        _ => show(output, c, x, heap, narrow, wide, pool),
+        _ => show(rt, c, x, heap, narrow, wide, pool),
     }
 }
 
 // Answers a question.
 pub fn answer(
-    output: &mut Vec<u8>,
+    rt: &impl Print,
     line: &[u8],
     kept: Kept,
     narrow: &[u32],
@@ -196,20 +196,12 @@ pub fn answer(
 ) -> io::Result<()> {
     let c = command(line);
     let Asked::For(r) = asking(c, line, second(line)) else {
-        return put_bad(output);
+        return put_bad(rt);
     };
     let s = least(kept.slots, least(narrow.len() / 6, wide.len() / 4));
     let a = 6 * s;
     let b = 4 * s;
     let p = least(kept.pool, pool.len());
     let heap = kept.heap;
-    told(
-        output,
-        c,
-        r.x,
-        heap,
-        &narrow[0..a],
-        &wide[0..b],
-        &pool[0..p],
-    )
+    told(rt, c, r.x, heap, &narrow[0..a], &wide[0..b], &pool[0..p])
 }

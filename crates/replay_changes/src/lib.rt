@@ -297,53 +297,53 @@ fn after(old: Kept, new: Kept, done: Done) -> Kept {
 }
 
 // The last of so many answers.
-fn filled(output: &mut Vec<u8>, a: Answer, count: u64) -> io::Result<()> {
+fn filled(rt: &impl Print, a: Answer, count: u64) -> io::Result<()> {
     if count == 0 {
-        put(output, b"none\n")
+        put(rt, b"none\n")
     } else {
-        put_answer(output, a, 1)
+        put_answer(rt, a, 1)
     }
 }
 
 // An object that was taken out: its bytes, which lie in `room`, and its start.
-fn taken(output: &mut Vec<u8>, a: Answer, room: &Pool) -> io::Result<()> {
-    put_number(output, a.number)?;
+fn taken(rt: &impl Print, a: Answer, room: &Pool) -> io::Result<()> {
+    put_number(rt, a.number)?;
     if a.number == 0 {
-        put_hex(output, room, 0, a.first as usize)?;
-        put_next(output, a.second)?;
+        put_hex(rt, room, 0, a.first as usize)?;
+        put_next(rt, a.second)?;
     }
-    put(output, b"\n")
+    put(rt, b"\n")
 }
 
 // A page that was read: how many bits its write counts have, 1 with `retired` and 0 without, and its column.
-fn met(output: &mut Vec<u8>, a: Answer) -> io::Result<()> {
-    put_number(output, a.number)?;
+fn met(rt: &impl Print, a: Answer) -> io::Result<()> {
+    put_number(rt, a.number)?;
     if a.number == 0 {
-        put_next(output, a.first)?;
-        put_next(output, a.second % 2)?;
+        put_next(rt, a.first)?;
+        put_next(rt, a.second % 2)?;
         if a.second < 2 {
-            put(output, b" data")?;
+            put(rt, b" data")?;
         } else {
-            put(output, b" planes")?;
+            put(rt, b" planes")?;
         }
     }
-    put(output, b"\n")
+    put(rt, b"\n")
 }
 
 // The answer to a change, with the values that it has.
-fn show(output: &mut Vec<u8>, c: usize, r: Request, a: Answer, room: &Pool) -> io::Result<()> {
+fn show(rt: &impl Print, c: usize, r: Request, a: Answer, room: &Pool) -> io::Result<()> {
     match c {
-        TAKE => taken(output, a, room),
-        FILL => filled(output, a, r.x),
-        READ => met(output, a),
-        ALLOC | EDIT | REISSUE => put_answer(output, a, 1),
-        _ => put_answer(output, a, 0),
+        TAKE => taken(rt, a, room),
+        FILL => filled(rt, a, r.x),
+        READ => met(rt, a),
+        ALLOC | EDIT | REISSUE => put_answer(rt, a, 1),
+        _ => put_answer(rt, a, 0),
     }
 }
 
 // Runs a line that changes the heap.
 pub fn answer(
-    output: &mut Vec<u8>,
+    rt: &impl Print,
     line: &[u8],
     kept: Kept,
     narrow: &mut Narrow,
@@ -354,13 +354,13 @@ pub fn answer(
 ) -> io::Result<Kept> {
     let c = command(line);
     let Asked::For(r) = asking(c, line, second(line), bytes, lists) else {
-        put_bad(output)?;
+        put_bad(rt)?;
         return Ok(kept);
     };
     let next = sized(c, r, kept);
     let mut room = [0u8; 65536];
     let done = on_heap(c, r, next, narrow, wide, pool, bytes, lists, &mut room);
     let a = done.answer;
-    show(output, c, r, a, &room)?;
+    show(rt, c, r, a, &room)?;
     Ok(after(kept, next, done))
 }

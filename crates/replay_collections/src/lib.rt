@@ -270,7 +270,7 @@ fn on_heap(
 
 // Runs a line.
 pub fn answer(
-    output: &mut Vec<u8>,
+    rt: &impl Print,
     line: &[u8],
     kept: Kept,
     narrow: &mut Narrow,
@@ -284,13 +284,13 @@ pub fn answer(
 ) -> io::Result<Kept> {
     let c = command(line);
     let Wanted::Is(wanted) = wanted_by(c, line, bytes, lists, list) else {
-        put_bad(output)?;
+        put_bad(rt)?;
         return Ok(kept);
     };
     let done = on_heap(
         c, wanted, kept, narrow, wide, pool, table, code, bytes, lists, list,
     );
     let a = done.answer;
-    put_answer(output, a, 0)?;
+    put_answer(rt, a, 0)?;
     Ok(after(kept, done))
 }

@@ -128,7 +128,7 @@ fn swapped(state: State) -> State {
 
 // Runs a line on the heap.
 fn on_memory(
-    output: &mut Vec<u8>,
+    rt: &impl Print,
     route: Route,
     line: &[u8],
     state: State,
@@ -141,17 +141,15 @@ fn on_memory(
 ) -> io::Result<Kept> {
     let kept = state.kept;
     match route {
-        Route::Change => replay_changes::answer(
-            output, line, kept, narrow, wide, pool, bytes, halves,
-        ),
+        Route::Change => replay_changes::answer(rt, line, kept, narrow, wide, pool, bytes, halves),
         Route::Ask => {
-            ask::answer(output, line, kept, narrow, wide, pool)?;
+            ask::answer(rt, line, kept, narrow, wide, pool)?;
             Ok(kept)
         }
         Route::Traced => {
             let table = state.table;
             replay_traced::answer(
-                output, line, kept, narrow, wide, pool, table, bytes, halves, words,
+                rt, line, kept, narrow, wide, pool, table, bytes, halves, words,
             )?;
             Ok(kept)
         }
@@ -159,11 +157,11 @@ fn on_memory(
             let table = state.table;
             let code = state.code;
             replay_collections::answer(
-                output, line, kept, narrow, wide, pool, table, code, bytes, halves, words,
+                rt, line, kept, narrow, wide, pool, table, code, bytes, halves, words,
             )
         }
         _ => {
-            put_bad(output)?;
+            put_bad(rt)?;
             Ok(kept)
         }
     }
@@ -171,7 +169,7 @@ fn on_memory(
 
 // Runs a line, and tells what is kept after it.
 fn serve(
-    output: &mut Vec<u8>,
+    rt: &impl Print,
     line: &[u8],
     state: State,
     narrow: &mut Narrow,
@@ -187,32 +185,32 @@ fn serve(
     match route {
         Route::Silent => Ok(state),
         Route::Table => {
-            let table = table::make(output, line, t, bytes, halves, words)?;
+            let table = table::make(rt, line, t, bytes, halves, words)?;
             Ok(with_table(state, table))
         }
         Route::TableText => {
-            let table = replay_tables::answer(output, line, t, bytes, halves, words)?;
+            let table = replay_tables::answer(rt, line, t, bytes, halves, words)?;
             Ok(with_table(state, table))
         }
         Route::Rehearsal => {
-            replay_rehearsals::answer(output, line, t, bytes, halves, words)?;
+            replay_rehearsals::answer(rt, line, t, bytes, halves, words)?;
             Ok(state)
         }
         Route::Code => {
-            let code = code::make(output, line, f, bytes, halves, words)?;
+            let code = code::make(rt, line, f, bytes, halves, words)?;
             Ok(with_code(state, code))
         }
         Route::Types => {
-            types::answer(output, line, t, bytes, halves, words)?;
+            types::answer(rt, line, t, bytes, halves, words)?;
             Ok(state)
         }
         Route::Live => {
-            live::answer(output, line, f, bytes, halves)?;
+            live::answer(rt, line, f, bytes, halves)?;
             Ok(state)
         }
         _ => {
             let kept = on_memory(
-                output, route, line, state, narrow, wide, pool, bytes, halves, words,
+                rt, route, line, state, narrow, wide, pool, bytes, halves, words,
             )?;
             Ok(with_kept(state, kept))
         }
@@ -221,7 +219,7 @@ fn serve(
 
 // The same of the line that lies in the buffer from `from` up to `to`. Only lines on both heaps are lent the other one.
 pub fn run_line(
-    output: &mut Vec<u8>,
+    rt: &impl Print,
     buffer: &Buffer,
     from: usize,
     to: usize,
@@ -239,26 +237,16 @@ pub fn run_line(
     let line = part_u8(buffer, from, to);
     match replay_saves::command(line) {
         SWAP => {
-            replay_saves::swap(
-                output,
-                narrow,
-                wide,
-                pool,
-                other_narrow,
-                other_wide,
-                other_pool,
-            )?;
+            replay_saves::swap(rt, narrow, wide, pool, other_narrow, other_wide, other_pool)?;
             Ok(swapped(state))
         }
-        UNKNOWN => serve(
-            output, line, state, narrow, wide, pool, bytes, halves, words,
-        ),
+        UNKNOWN => serve(rt, line, state, narrow, wide, pool, bytes, halves, words),
         _ => {
             let kept = state.kept;
             let other = state.other;
             let table = state.table;
             replay_saves::answer(
-                output,
+                rt,
                 line,
                 kept,
                 narrow,

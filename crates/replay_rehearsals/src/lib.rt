@@ -139,21 +139,21 @@ fn on_memory(
 }
 
 // What was printed, on one line; `-` for nothing.
-fn told(output: &mut Vec<u8>, a: Answer, out: &mut Out) -> io::Result<()> {
-    put_number(output, a.number)?;
+fn told(rt: &impl Print, a: Answer, out: &mut Out) -> io::Result<()> {
+    put_number(rt, a.number)?;
     if a.number == 0 {
         if a.first == 0 {
-            put(output, b" -")?;
+            put(rt, b" -")?;
         } else {
-            put_page(output, out, a.first as usize)?;
+            put_page(rt, out, a.first as usize)?;
         }
     }
-    put(output, b"\n")
+    put(rt, b"\n")
 }
 
 // Runs a line.
 pub fn answer(
-    output: &mut Vec<u8>,
+    rt: &impl Print,
     line: &[u8],
     table: Table,
     bytes: &mut Bytes,
@@ -161,7 +161,7 @@ pub fn answer(
     list: &mut Words,
 ) -> io::Result<()> {
     let Wanted::Is(asked) = fields_of(line, bytes, list) else {
-        return put_bad(output);
+        return put_bad(rt);
     };
     let mut narrow = [0u32; 12288];
     let mut wide = [0u64; 8192];
@@ -178,5 +178,5 @@ pub fn answer(
         lists,
         list,
     );
-    told(output, a, &mut out)
+    told(rt, a, &mut out)
 }

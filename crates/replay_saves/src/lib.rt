@@ -68,7 +68,7 @@ fn exchange_u8(a: &mut Pool, b: &mut Pool) {
 
 // The memory of the two heaps changes places.
 pub fn swap(
-    output: &mut Vec<u8>,
+    rt: &impl Print,
     narrow: &mut Narrow,
     wide: &mut Wide,
     pool: &mut Pool,
@@ -79,7 +79,7 @@ pub fn swap(
     exchange_u32(narrow, other_narrow);
     exchange_u64(wide, other_wide);
     exchange_u8(pool, other_pool);
-    put(output, b"0\n")
+    put(rt, b"0\n")
 }
 
 // The call, with scratch for each heap.
@@ -199,29 +199,29 @@ fn on_heaps(
 }
 
 // Which heap comes first.
-fn put_order(output: &mut Vec<u8>, first: u64) -> io::Result<()> {
+fn put_order(rt: &impl Print, first: u64) -> io::Result<()> {
     match first {
-        0 => put(output, b" less"),
-        1 => put(output, b" equal"),
-        _ => put(output, b" greater"),
+        0 => put(rt, b" less"),
+        1 => put(rt, b" equal"),
+        _ => put(rt, b" greater"),
     }
 }
 
 // The answer, in numbers or in words.
-fn show(output: &mut Vec<u8>, c: usize, a: Answer) -> io::Result<()> {
+fn show(rt: &impl Print, c: usize, a: Answer) -> io::Result<()> {
     if c == SAME {
-        return put_answer(output, a, 1);
+        return put_answer(rt, a, 1);
     }
-    put_number(output, a.number)?;
+    put_number(rt, a.number)?;
     if a.number == 0 {
-        put_order(output, a.first)?;
+        put_order(rt, a.first)?;
     }
-    put(output, b"\n")
+    put(rt, b"\n")
 }
 
 // Compares the two heaps from the roots of the line, the current heap's first.
 pub fn answer(
-    output: &mut Vec<u8>,
+    rt: &impl Print,
     line: &[u8],
     kept: Kept,
     narrow: &Narrow,
@@ -237,14 +237,14 @@ pub fn answer(
     list: &mut Words,
 ) -> io::Result<()> {
     let Run::Is(to, a) = words(line, second(line), WORD, list, NUMBERS, NUMBERS + MOST) else {
-        return put_bad(output);
+        return put_bad(rt);
     };
     let Run::Is(end, _) = words(line, a, WORD, list, to, WORDS_END) else {
-        return put_bad(output);
+        return put_bad(rt);
     };
     let c = command(line);
     show(
-        output,
+        rt,
         c,
         on_heaps(
             c,

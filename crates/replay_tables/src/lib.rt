@@ -71,17 +71,17 @@ fn called(
 }
 
 // What was read: how much of each list the table takes.
-fn told(output: &mut Vec<u8>, r: TableRead) -> io::Result<()> {
+fn told(rt: &impl Print, r: TableRead) -> io::Result<()> {
     let a = r.answer;
-    put_number(output, a.number)?;
+    put_number(rt, a.number)?;
     if a.number == 0 {
-        put_next(output, r.types as u64)?;
-        put_next(output, r.fields as u64)?;
-        put_next(output, r.consts as u64)?;
-        put_next(output, r.bytes as u64)?;
-        put_next(output, r.names as u64)?;
+        put_next(rt, r.types as u64)?;
+        put_next(rt, r.fields as u64)?;
+        put_next(rt, r.consts as u64)?;
+        put_next(rt, r.bytes as u64)?;
+        put_next(rt, r.names as u64)?;
     }
-    put(output, b"\n")
+    put(rt, b"\n")
 }
 
 // Copies the first `count` numbers to the place for types.
@@ -144,7 +144,7 @@ fn kept(r: TableRead) -> Table {
 
 // Reads a text into lists of its own, then copies what it took to the places of the type table. A refusal leaves the table that there was.
 fn read(
-    output: &mut Vec<u8>,
+    rt: &impl Print,
     end: usize,
     table: Table,
     bytes: &mut Bytes,
@@ -157,7 +157,7 @@ fn read(
     let mut octets = [7u8; 65536];
     let text = part_u8(bytes, SPELLED, end);
     let r = called(text, &mut types, &mut fields, &mut consts, &mut octets);
-    told(output, r)?;
+    told(rt, r)?;
     let a = r.answer;
     if a.number == 0 {
         keep_types(&types, r.types, list);
@@ -171,7 +171,7 @@ fn read(
 
 // Writes the type table with the names that end at `end`, on one line.
 fn write(
-    output: &mut Vec<u8>,
+    rt: &impl Print,
     end: usize,
     table: Table,
     bytes: &Bytes,
@@ -187,16 +187,16 @@ fn write(
         part_u8(bytes, SPELLED, end),
         &mut out,
     );
-    put_number(output, a.number)?;
+    put_number(rt, a.number)?;
     if a.number == 0 {
-        put_page(output, &mut out, a.first as usize)?;
+        put_page(rt, &mut out, a.first as usize)?;
     }
-    put(output, b"\n")
+    put(rt, b"\n")
 }
 
 // Runs a line, and tells the table after it.
 pub fn answer(
-    output: &mut Vec<u8>,
+    rt: &impl Print,
     line: &[u8],
     table: Table,
     bytes: &mut Bytes,
@@ -205,8 +205,8 @@ pub fn answer(
 ) -> io::Result<Table> {
     let end = spelled(line, bytes);
     if command(line) == READ {
-        return read(output, end, table, bytes, lists, list);
+        return read(rt, end, table, bytes, lists, list);
     }
-    write(output, end, table, bytes, lists, list)?;
+    write(rt, end, table, bytes, lists, list)?;
     Ok(table)
 }

@@ -81,12 +81,12 @@ fn asking(c: usize, line: &[u8], lists: &mut Halves) -> Asked {
 }
 
 // An answer that has a list: so many of its entries.
-fn put_list(output: &mut Vec<u8>, a: Answer, out: &[u64]) -> io::Result<()> {
-    put_number(output, a.number)?;
+fn put_list(rt: &impl Print, a: Answer, out: &[u64]) -> io::Result<()> {
+    put_number(rt, a.number)?;
     if a.number == 0 {
-        put_words(output, out, a.first as usize)?;
+        put_words(rt, out, a.first as usize)?;
     }
-    put(output, b"\n")
+    put(rt, b"\n")
 }
 
 // The handles of a slot.
@@ -111,7 +111,7 @@ fn listed(
 
 // The same, printed. An object of the longest pool shows 8,192 handles at most.
 fn shown(
-    output: &mut Vec<u8>,
+    rt: &impl Print,
     types: &[u64],
     fields: &[u32],
     consts: &[u64],
@@ -126,7 +126,7 @@ fn shown(
     let a = listed(
         types, fields, consts, bytes, heap, narrow, wide, pool, slot, &mut out,
     );
-    put_list(output, a, &out)
+    put_list(rt, a, &out)
 }
 
 // The roots for wanted slots.
@@ -153,7 +153,7 @@ fn sought(
 
 // The same, printed. There are 8,192 slots at most.
 fn found(
-    output: &mut Vec<u8>,
+    rt: &impl Print,
     types: &[u64],
     fields: &[u32],
     consts: &[u64],
@@ -169,12 +169,12 @@ fn found(
     let a = sought(
         types, fields, consts, bytes, heap, narrow, wide, pool, pins, slots, &mut out,
     );
-    put_list(output, a, &out)
+    put_list(rt, a, &out)
 }
 
 // Whether the heap and the table fit together: the first slot that does not, where there is one.
 fn fitting(
-    output: &mut Vec<u8>,
+    rt: &impl Print,
     types: &[u64],
     fields: &[u32],
     consts: &[u64],
@@ -189,16 +189,16 @@ fn fitting(
     let a = handles::traceable(
         types, fields, consts, bytes, heap, narrow, wide, pool, &mut marks, &mut work,
     );
-    put_number(output, a.number)?;
+    put_number(rt, a.number)?;
     if a.number == 13 {
-        put_next(output, a.first)?;
+        put_next(rt, a.first)?;
     }
-    put(output, b"\n")
+    put(rt, b"\n")
 }
 
 // The call, on the parts of the table and of the heap's memory.
 fn called(
-    output: &mut Vec<u8>,
+    rt: &impl Print,
     c: usize,
     slot: usize,
     types: &[u64],
@@ -214,20 +214,18 @@ fn called(
 ) -> io::Result<()> {
     match c {
         HANDLES => shown(
-            output, types, fields, consts, bytes, heap, narrow, wide, pool, slot,
+            rt, types, fields, consts, bytes, heap, narrow, wide, pool, slot,
         ),
         ROOTS_FOR => found(
-            output, types, fields, consts, bytes, heap, narrow, wide, pool, pins, slots,
+            rt, types, fields, consts, bytes, heap, narrow, wide, pool, pins, slots,
         ),
-        _ => fitting(
-            output, types, fields, consts, bytes, heap, narrow, wide, pool,
-        ),
+        _ => fitting(rt, types, fields, consts, bytes, heap, narrow, wide, pool),
     }
 }
 
 // The same, on the memory and the lent lists.
 fn on_heap(
-    output: &mut Vec<u8>,
+    rt: &impl Print,
     c: usize,
     q: Question,
     kept: Kept,
@@ -245,7 +243,7 @@ fn on_heap(
     let z = least(kept.pool, pool.len());
     let heap = kept.heap;
     called(
-        output,
+        rt,
         c,
         q.slot,
         part_u64(list, 0, table.types),
@@ -263,7 +261,7 @@ fn on_heap(
 
 // Answers a line.
 pub fn answer(
-    output: &mut Vec<u8>,
+    rt: &impl Print,
     line: &[u8],
     kept: Kept,
     narrow: &[u32],
@@ -276,9 +274,9 @@ pub fn answer(
 ) -> io::Result<()> {
     let c = command(line);
     let Asked::For(q) = asking(c, line, lists) else {
-        return put_bad(output);
+        return put_bad(rt);
     };
     on_heap(
-        output, c, q, kept, narrow, wide, pool, table, bytes, lists, list,
+        rt, c, q, kept, narrow, wide, pool, table, bytes, lists, list,
     )
 }

@@ -59,16 +59,16 @@ fn wide(x: u32) -> u64 {
 }
 
 // Where a safepoint is not the first, a semicolon stands before it.
-fn put_semicolon(output: &mut Vec<u8>, i: usize) -> io::Result<()> {
+fn put_semicolon(rt: &impl Print, i: usize) -> io::Result<()> {
     if 0 < i {
-        put(output, b";")?;
+        put(rt, b";")?;
     }
     Ok(())
 }
 
 // So many safepoints with their registers.
 fn points(
-    output: &mut Vec<u8>,
+    rt: &impl Print,
     pcs: &[u32; 65536],
     bounds: &[u32; 65536],
     regs: &[u32; 65536],
@@ -76,22 +76,20 @@ fn points(
 ) -> io::Result<()> {
     let n = least(count, 65536);
     let mut from: usize = 0;
-    let mut i: usize = 0;
-    while i < n {
-        put_semicolon(output, i)?;
+    for i in 0..n {
+        put_semicolon(rt, i)?;
         let to = place(bounds[i]);
-        put_number(output, wide(pcs[i]))?;
-        put(output, b"=")?;
-        put_halves(output, regs, from, to)?;
+        put_number(rt, wide(pcs[i]))?;
+        put(rt, b"=")?;
+        put_halves(rt, regs, from, to)?;
         from = to;
-        i += 1;
     }
     Ok(())
 }
 
 // The map of all safepoints. Room for as many safepoints as there may be instructions.
 fn map(
-    output: &mut Vec<u8>,
+    rt: &impl Print,
     q: Question,
     kinds: &[u8],
     ends: &[u32],
@@ -115,20 +113,20 @@ fn map(
         &mut regs,
         rows,
     );
-    put_number(output, a.number)?;
+    put_number(rt, a.number)?;
     if a.number == 0 {
-        put(output, b" ")?;
+        put(rt, b" ")?;
         if a.first == 0 {
-            put(output, b"none")?;
+            put(rt, b"none")?;
         }
-        points(output, &pcs, &bounds, &regs, a.first as usize)?;
+        points(rt, &pcs, &bounds, &regs, a.first as usize)?;
     }
-    put(output, b"\n")
+    put(rt, b"\n")
 }
 
 // The registers at one safepoint.
 fn at(
-    output: &mut Vec<u8>,
+    rt: &impl Print,
     q: Question,
     kinds: &[u8],
     ends: &[u32],
@@ -141,17 +139,17 @@ fn at(
     let a = live::live_at(
         kinds, ends, refs, blocks, classes, q.all, q.pc, &mut regs, rows,
     );
-    put_number(output, a.number)?;
+    put_number(rt, a.number)?;
     if a.number == 0 {
-        put(output, b" ")?;
-        put_halves(output, &regs, 0, a.first as usize)?;
+        put(rt, b" ")?;
+        put_halves(rt, &regs, 0, a.first as usize)?;
     }
-    put(output, b"\n")
+    put(rt, b"\n")
 }
 
 // The call, on the parts of the function.
 fn told(
-    output: &mut Vec<u8>,
+    rt: &impl Print,
     q: Question,
     kinds: &[u8],
     ends: &[u32],
@@ -161,25 +159,25 @@ fn told(
 ) -> io::Result<()> {
     let mut rows = [7u64; 131072];
     if q.one {
-        at(output, q, kinds, ends, refs, blocks, classes, &mut rows)
+        at(rt, q, kinds, ends, refs, blocks, classes, &mut rows)
     } else {
-        map(output, q, kinds, ends, refs, blocks, classes, &mut rows)
+        map(rt, q, kinds, ends, refs, blocks, classes, &mut rows)
     }
 }
 
 // Answers a question.
 pub fn answer(
-    output: &mut Vec<u8>,
+    rt: &impl Print,
     line: &[u8],
     code: Function,
     bytes: &Bytes,
     lists: &Halves,
 ) -> io::Result<()> {
     let Asked::For(q) = asking(command(line), line) else {
-        return put_bad(output);
+        return put_bad(rt);
     };
     told(
-        output,
+        rt,
         q,
         part_u8(bytes, KINDS, code.kinds),
         part_u32(lists, ENDS, code.ends),

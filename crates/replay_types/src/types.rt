@@ -90,17 +90,17 @@ fn asking(c: usize, line: &[u8], bytes: &mut Bytes, lists: &mut Halves) -> Asked
 }
 
 // A type without a descriptor's size is `none`, as the Rust has it.
-fn size(output: &mut Vec<u8>, a: Answer) -> io::Result<()> {
+fn size(rt: &impl Print, a: Answer) -> io::Result<()> {
     if a.number == 11 {
-        put(output, b"none\n")
+        put(rt, b"none\n")
     } else {
-        put_answer(output, a, 1)
+        put_answer(rt, a, 1)
     }
 }
 
 // The layout, and the offsets of a record's fields.
 fn layout(
-    output: &mut Vec<u8>,
+    rt: &impl Print,
     t: u64,
     types: &[u64],
     fields: &[u32],
@@ -110,16 +110,16 @@ fn layout(
 ) -> io::Result<()> {
     let mut offsets = [0u64; 16384];
     let a = yexwalu::types::layout(types, fields, consts, bytes, t, desc, &mut offsets);
-    put_number(output, a.number)?;
+    put_number(rt, a.number)?;
     if a.number == 0 {
-        put_next(output, a.size)?;
-        put_next(output, a.align)?;
-        put_next(output, a.stride)?;
-        put_next(output, a.count)?;
-        put_next(output, a.used)?;
-        put_words(output, &offsets, a.offsets as usize)?;
+        put_next(rt, a.size)?;
+        put_next(rt, a.align)?;
+        put_next(rt, a.stride)?;
+        put_next(rt, a.count)?;
+        put_next(rt, a.used)?;
+        put_words(rt, &offsets, a.offsets as usize)?;
     }
-    put(output, b"\n")
+    put(rt, b"\n")
 }
 
 // The handles of an object or a value.
@@ -140,7 +140,7 @@ fn listed(
 }
 
 fn held(
-    output: &mut Vec<u8>,
+    rt: &impl Print,
     c: usize,
     t: u64,
     types: &[u64],
@@ -151,16 +151,16 @@ fn held(
 ) -> io::Result<()> {
     let mut out = [0u64; 16384];
     let a = listed(c, t, types, fields, consts, bytes, data, &mut out);
-    put_number(output, a.number)?;
+    put_number(rt, a.number)?;
     if a.number == 0 {
-        put_words(output, &out, a.first as usize)?;
+        put_words(rt, &out, a.first as usize)?;
     }
-    put(output, b"\n")
+    put(rt, b"\n")
 }
 
 // The handles and addresses of a frame. An entry of the map gives one address at most.
 fn roots(
-    output: &mut Vec<u8>,
+    rt: &impl Print,
     types: &[u64],
     fields: &[u32],
     consts: &[u64],
@@ -180,17 +180,17 @@ fn roots(
         &mut out,
         &mut places,
     );
-    put_number(output, a.number)?;
+    put_number(rt, a.number)?;
     if a.number == 0 {
-        put_words(output, &out, a.first as usize)?;
-        put_words(output, &places, a.second as usize)?;
+        put_words(rt, &out, a.first as usize)?;
+        put_words(rt, &places, a.second as usize)?;
     }
-    put(output, b"\n")
+    put(rt, b"\n")
 }
 
 // The call, on the parts of the table.
 fn told(
-    output: &mut Vec<u8>,
+    rt: &impl Print,
     c: usize,
     t: u64,
     types: &[u64],
@@ -202,23 +202,23 @@ fn told(
 ) -> io::Result<()> {
     match c {
         DESC_SIZE => size(
-            output,
+            rt,
             yexwalu::types::desc_size(types, fields, consts, bytes, t),
         ),
         HAS_HANDLES => put_answer(
-            output,
+            rt,
             yexwalu::types::has_handles(types, fields, consts, bytes, t),
             1,
         ),
-        LAYOUT => layout(output, t, types, fields, consts, bytes, data),
-        SLOT_ROOTS => roots(output, types, fields, consts, bytes, map, data),
-        _ => held(output, c, t, types, fields, consts, bytes, data),
+        LAYOUT => layout(rt, t, types, fields, consts, bytes, data),
+        SLOT_ROOTS => roots(rt, types, fields, consts, bytes, map, data),
+        _ => held(rt, c, t, types, fields, consts, bytes, data),
     }
 }
 
 // The same, on the lent lists.
 fn on_table(
-    output: &mut Vec<u8>,
+    rt: &impl Print,
     c: usize,
     q: Question,
     table: Table,
@@ -227,7 +227,7 @@ fn on_table(
     words: &Words,
 ) -> io::Result<()> {
     told(
-        output,
+        rt,
         c,
         q.t,
         part_u64(words, 0, table.types),
@@ -241,7 +241,7 @@ fn on_table(
 
 // Answers a question.
 pub fn answer(
-    output: &mut Vec<u8>,
+    rt: &impl Print,
     line: &[u8],
     table: Table,
     bytes: &mut Bytes,
@@ -250,7 +250,7 @@ pub fn answer(
 ) -> io::Result<()> {
     let c = command(line);
     let Asked::For(q) = asking(c, line, bytes, lists) else {
-        return put_bad(output);
+        return put_bad(rt);
     };
-    on_table(output, c, q, table, bytes, lists, words)
+    on_table(rt, c, q, table, bytes, lists, words)
 }

@@ -1,0 +1,23 @@
+use native.Mathlib.Omega.{arith}
+use Rattle.pages_tried.proofs.script_end.Goals as goal
+
+pub loop-i-init : goal.loop-i-init
+loop-i-init c = (omega arith, omega arith)
+
+pub bounds-s-i : goal.bounds-s-i
+bounds-s-i c = omega arith
+
+pub returns-then-s-i-eq124 : goal.returns-then-s-i-eq124
+returns-then-s-i-eq124 c = (omega arith, omega arith)
+
+pub overflow_add-i : goal.overflow_add-i
+overflow_add-i c = omega arith
+
+pub loop-i-smaller : goal.loop-i-smaller
+loop-i-smaller c = omega arith
+
+pub loop-i-preserved : goal.loop-i-preserved
+loop-i-preserved c = (omega arith, omega arith)
+
+pub returns : goal.returns
+returns c = (omega arith, omega arith)
