@@ -6,7 +6,7 @@ ghost use Rattle.word.specs.Run.{run};
 ghost use Rattle.heap.specs.Packing.{start_of};
 ghost use Rattle.heap.specs.Calls.{new as new_heap};
 ghost use Rattle.heap.specs.Lent.{header_of, lent};
-ghost use Rattle.heap.specs.Header.{set_charged, set_changed, set_since, set_reclaim, set_live, set_slots, set-free, set_quarantine, set_retired, set_sealed};
+ghost use Rattle.heap.specs.Header.{set_charged, set_changed, set_since, set_reclaim, set_live, set_slots, set_free, set_quarantine, set_retired, set_sealed};
 ghost use Rattle.heap.specs.Sizes.{sizes_fit};
 ghost use Rattle.heap.specs.Columns.{CanSplice, Spliced, CanPlace, PlacedIn};
 
@@ -97,7 +97,7 @@ impl Heap {
     }
 
     pub fn with_free(mut self, n: usize) -> Heap
-        ensures { result ≡ set-free self n }
+        ensures { result ≡ set_free self n }
     {
         self.free = n;
         self

@@ -26,11 +26,11 @@ use Rattle.door.specs.declared.Entry.TheVariants.{Ready, Not}
 use Rattle.object_door.specs.ObjectCalls.{allocating, recycling, take_call}
 use Rattle.heap_door.specs.Sealing.{sealing}
 use Rattle.collect_door.specs.Calls.{table_in, tests, Asked, table, frame, pinning, joined_tests, joining}
-use Rattle.script.specs.Script.{Call as LineCall, alloc as alloc_line, take as take_line, seal as seal_line, recycle as recycle_line, call_of, lines, silent, quiet, doing as line_doing, line_does_lem, unless, and_then, run_lines, run_script}
+use Rattle.script.specs.Script.{Call as LineCall, alloc as alloc_line, take as take_line, seal as seal_line, recycle as recycle_line, call_of, lines, silent, quiet, doing as line_doing, line_does, unless, and_then, run_lines, run_script}
 use Rattle.run_door.specs.Run.{run_tests}
 use Rattle.histories.specs.Steps.{Told, Step, alloc, reissue, edit, write, take, free, recycle, seal, collect, ask, Answer, nothing as silence, handle, slot, object, told, saying, answering, silently, doing}
 use Rattle.histories.specs.History.{after}
-use Rattle.histories.specs.Calls.{Scratch, Call, alloc_from, reissue as reissue_call, edit as edit_call, write as write_call, take as take_out, free as free_call, recycle as recycle_call, seal as seal_call, collect as collect_call, collect_joined, run, question, leaving, contract, turned, joined_step_lem, line_step, unless_refused, line_steps, steps}
+use Rattle.histories.specs.Calls.{Scratch, Call, alloc_from, reissue as reissue_call, edit as edit_call, write as write_call, take as take_out, free as free_call, recycle as recycle_call, seal as seal_call, collect as collect_call, collect_joined, run, question, leaving, contract, turned, joined_step, line_step, unless_refused, line_steps, steps}
 use Rattle.histories.specs.Promises.{numbers, ended_by, ending, first_told, said_of, Does, CallsDoSteps, told_by, QuestionsAreCalls}
 use Rattle.histories.proofs.Histories.{after-grew}
 
@@ -71,11 +71,11 @@ module _ {A : Type 0} (first second : A → ℕ) (scratch : List (List ℕ)) (te
 
 -- ---- the joined collection, questions
 
-joined_step_lem : (S P : ℕ) (a : Asked) (h : State) → doing S P (joined_step_lem a (frame a)) h ≡ silently (joining a h)
+joined_step_lem : (S P : ℕ) (a : Asked) (h : State) → doing S P (joined_step a (frame a)) h ≡ silently (joining a h)
 unfolding doing joined
 joined_step_lem S P a h = go (frame a)
   where
-    go : (o : Option (List ℕ)) → doing S P (joined_step_lem a o) h ≡ silently (joined (table a) (function a.code) a.pc a.values o (pinning a) h)
+    go : (o : Option (List ℕ)) → doing S P (joined_step a o) h ≡ silently (joined (table a) (function a.code) a.pc a.values o (pinning a) h)
     go none = unfold doing in unfold joined in refl
     go (some handles) = unfold doing in unfold joined in refl
 
@@ -89,7 +89,7 @@ silent-unit : (r : Result Unit) → r ≡ silent (saying (λ _. silence) r)
 silent-unit (ok tt) = refl
 silent-unit (refused n) = refl
 
-line_does_lem : (S P : ℕ) (o : Option LineCall) (h : State) → line_does_lem S P o h ≡ quiet (doing S P (line_step o) h)
+line_does_lem : (S P : ℕ) (o : Option LineCall) (h : State) → line_does S P o h ≡ quiet (doing S P (line_step o) h)
 unfolding line_doing doing
 line_does_lem S P none h = refl
 line_does_lem S P (some (alloc_line t k bs)) h = λ j. record { answer = silent-saying handle (allocating S P k t 0 bs h).answer j; heap = (allocating S P k t 0 bs h).heap }
@@ -193,7 +193,7 @@ module _ (s : Scratch) (l : Lent) (wf : well_formed l ≡ true) where
   does-by (collect_call g) =
       does-calling nothing nothing two (tests g s.marks s.work l) l wf (collecting (table_in g) g.roots g.pins) (collect (table_in g) g.roots g.pins) (λ _. silence) refl (λ a. refl)
   does-by (collect_joined a) =
-      does-calling nothing nothing (s.marks ∷ s.work ∷ s.rows ∷ []) (joined_tests a s.marks s.work s.rows l) l wf (joining a) (joined_step_lem a (frame a)) (λ _. silence)
+      does-calling nothing nothing (s.marks ∷ s.work ∷ s.rows ∷ []) (joined_tests a s.marks s.work s.rows l) l wf (joining a) (joined_step a (frame a)) (λ _. silence)
       (joined_step_lem (slot_count l) (pool_size l) a (view l)) (λ a. refl)
   does-by (run text) = does-run (s.room ∷ s.marks ∷ s.work ∷ []) (run_tests s.room s.marks s.work l text) l wf text
   does-by (question more answer) = does-asking two (front ++ more) l wf answer

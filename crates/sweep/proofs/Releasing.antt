@@ -14,7 +14,7 @@ use Rattle.heap.specs.Packing.{pad}
 use Rattle.heap.specs.State.{Slot, State, slot_at, live, last_generation, worn, bit, with_free, with_retired}
 use Rattle.heap.specs.Calls.{step, changed, release, released}
 use Rattle.heap.specs.Lent.{Lent, columns, column, cut, lent, header_of, stored, view, slot_count, pool_size}
-use Rattle.heap.specs.Header.{set-free, set_retired, set_slots, set_changed}
+use Rattle.heap.specs.Header.{set_free, set_retired, set_slots, set_changed}
 use Rattle.heap.specs.declared.Heap.{Heap}
 use Rattle.heap.proofs.Sound.{Sound, WellFormed, live_bit}
 use Rattle.heap.proofs.Storing.{column-set, column-at, pad-push}
@@ -57,14 +57,14 @@ module _ (h h₁ h₂ : Heap) (S i g : ℕ) (narrow wide : List ℕ) (can : CanR
       ∙ ap F₅ (set-start h₁ S narrow wide [] i 0 inside)
       ∙ (λ j. columns (e₁ j) S (set l.generation i (next j)) (set l.kind i 0) (set l.type i 0) (set l.start i 0) l.end (set l.writes i 0) [] l.free l.quarantine l.sealed l.retired l.over)
 
-  pub free_in : (g ≡ 4294967295 → ⊥) → h₂ ≡ set-free h₁ (h.free + 1)
+  pub free_in : (g ≡ 4294967295 → ⊥) → h₂ ≡ set_free h₁ (h.free + 1)
       → cut h₂ S (set (set (set (set narrow i g) (S + i) 0) (2 * S + i) 0) (3 * S + h.free) i) (set (set wide i 0) (2 * S + i) 0) [] ≡ released_in (cut h S narrow wide []) i
   unfolding released_in
   free_in ne e₂ =
       let l : Lent = cut h S narrow wide [] in
       set-free h₂ S narrow₃ wide₂ [] h.free i can.free_room
       ∙ ap (λ (x : Heap). with-free (with-header (cut h₁ S narrow₃ wide₂ []) x) (set (cut h₁ S narrow₃ wide₂ []).free h.free i)) e₂
-      ∙ ap (λ (x : Lent). with-free (with-header x (set-free x.header (h.free + 1))) (set x.free h.free i)) dead-in
+      ∙ ap (λ (x : Lent). with-free (with-header x (set_free x.header (h.free + 1))) (set x.free h.free i)) dead-in
       ∙ ap (λ (b : Bool). if b then retired_in (dead_in l i) i else freed_in (dead_in l i) i) (sym (ap (λ (x : ℕ). eqb x last_generation) (sym next) ∙ ne_eqb g last_generation ne))
 
   pub retired-in : g ≡ 4294967295 → h₂ ≡ set_retired h₁ (h.retired + 1)
@@ -162,8 +162,8 @@ module _ (l : Lent) (P : ℕ) (st : State) (ok : Sound l.count P st) where
         let f' : set (pad S f) (length f) i ≡ pad S (f ++ i ∷ []) = pad-push S f (length f) i refl (list-room k).0 in
         let r' : set (pad S r) (length r) i ≡ pad S (r ++ i ∷ []) = pad-push S r (length r) i refl (list-room k).1 in
         elim b as (λ (k : Bool). (if k then retired_in (dead_in (columns_of l st) i) i else freed_in (dead_in (columns_of l st) i) i) ≡ columns_of l (joining k)) [
-          | true ↦ λ j. columns (set_retired (set-free (set_slots (set_changed (header_of st) i) (count j)) (length (same f j))) (more r j)) S (g j) (ks j) (t j) (s j) l.end (w j) l.pool (pad S (same f j)) l.quarantine l.sealed (r' j) l.over
-          | false ↦ λ j. columns (set_retired (set-free (set_slots (set_changed (header_of st) i) (count j)) (more f j)) (length (same r j))) S (g j) (ks j) (t j) (s j) l.end (w j) l.pool (f' j) l.quarantine l.sealed (pad S (same r j)) l.over
+          | true ↦ λ j. columns (set_retired (set_free (set_slots (set_changed (header_of st) i) (count j)) (length (same f j))) (more r j)) S (g j) (ks j) (t j) (s j) l.end (w j) l.pool (pad S (same f j)) l.quarantine l.sealed (r' j) l.over
+          | false ↦ λ j. columns (set_retired (set_free (set_slots (set_changed (header_of st) i) (count j)) (more f j)) (length (same r j))) S (g j) (ks j) (t j) (s j) l.end (w j) l.pool (f' j) l.quarantine l.sealed (pad S (same r j)) l.over
         ]
 
     columns-dropped : live (slot_at st i) ≡ true → released_in (columns_of l st) i ≡ columns_of l (drop_slot st i)

@@ -6,7 +6,7 @@ use Rattle.heap.specs.Columns.{datas, Packed}
 use Rattle.heap.specs.State.{State, last_generation}
 use Rattle.heap.specs.Calls.{step}
 use Rattle.heap.specs.Lent.{Lent, columns, column, header_of, slot_count}
-use Rattle.heap.specs.Header.{set-free, set_retired, set_changed}
+use Rattle.heap.specs.Header.{set_free, set_retired, set_changed}
 use Rattle.heap.specs.WellFormed.{well_formed}
 use Rattle.heap.specs.declared.Heap.{Heap}
 
@@ -57,7 +57,7 @@ dead_in l i =
 -- slot i at the end of the free list, of the retired list
 abbrev pub freed_in : Lent → ℕ → Lent
 freed_in l i =
-    columns (set-free l.header (l.header.free + 1)) l.count l.generation l.kind l.type l.start l.end l.writes l.pool
+    columns (set_free l.header (l.header.free + 1)) l.count l.generation l.kind l.type l.start l.end l.writes l.pool
     (set l.free l.header.free i) l.quarantine l.sealed l.retired l.over
 
 abbrev pub retired_in : Lent → ℕ → Lent
