@@ -92,11 +92,17 @@ fn serve(
     }
 }
 
+// Says a line on standard error. Where that can't be done, nothing is lost that was asked for.
+fn say(rt: &impl Eprint, line: &str) {
+    if let Err(_) = rt.eprintln(line) {}
+}
+
 // What the input looks like.
-fn say_form(rt: &impl Eprint) -> io::Result<()> {
-    rt.eprintln(
+fn say_form(rt: &impl Eprint) {
+    say(
+        rt,
         "page: the input is a line call,number,kind,bytes and a line for each call: alloc,TYPE,KIND,DATA with data in hexadecimal, take,HANDLE,0, and seal,0,0, and recycle,0,0,",
-    )
+    );
 }
 
 // Is 17 all that was printed?
@@ -115,7 +121,7 @@ fn print(rt: &(impl Print + Eprint), out: &[u8], n: usize) -> io::Result<()>
     requires { n ≤ length out.now }
 {
     if let Err(e) = rt.write_all(&out[..n]) {
-        rt.eprintln("page: not all could be written")?;
+        say(rt, "page: not all could be written");
         return Err(e);
     }
     Ok(())
@@ -138,7 +144,7 @@ fn is_word_given(rt: &impl Env) -> bool {
 
 fn main(rt: HostRuntime) -> io::Result<()> {
     if is_word_given(&rt) {
-        say_form(&rt)?;
+        say_form(&rt);
     }
     let mut reader = rt.stdin();
     let mut narrow = [0u32; 384];
@@ -175,7 +181,7 @@ fn main(rt: HostRuntime) -> io::Result<()> {
         &mut work,
     );
     if is_17(&out, n) {
-        say_form(&rt)?;
+        say_form(&rt);
     }
     print_front(&rt, &out, n)
 }
