@@ -20,7 +20,7 @@ fn source_of(name: &str) -> String {
     files.iter().map(|f| fs::read_to_string(f).unwrap()).collect()
 }
 
-// What the front door has for Rattle, in one of its modules: `pub use crate::yexwalu_name as name;`, or several of a crate in braces. `write` is a macro's name in Rattle, so that call is `write_data`.
+// What the front door has for Rattle, in one of its modules: `pub use crate::yexwalu_name as name;`, or several of a crate in braces. Three that an import can't rename so are functions, `pub fn name`, that call it.
 fn public_calls() -> Vec<String> {
     let source = source_of("yexwalu");
     let lists = source.split("\npub use ").skip(1).map(|u| u.split_once(';').unwrap().0);
@@ -28,12 +28,25 @@ fn public_calls() -> Vec<String> {
     let mut calls: Vec<String> = used
         .map(|(path, name)| {
             let call = path.rsplit("::").next().unwrap();
-            assert_eq!(call, format!("yexwalu_{}", if name == "write_data" { "write" } else { name }));
+            assert_eq!(call, format!("yexwalu_{name}"));
             call.into()
         })
+        .chain(short_names().into_keys().map(|name| format!("yexwalu_{name}")))
         .collect();
     calls.sort();
     calls
+}
+
+// The public functions of the front door that stand under a short name: the name, then what stands from its parameters to its body, and the body.
+fn short_names() -> BTreeMap<String, (String, String)> {
+    let source = source_of("yexwalu");
+    let functions = source.split("\npub fn ").skip(1).filter(|f| !f.starts_with("yexwalu_"));
+    let parts = functions.map(|f| {
+        let (head, rest) = f.split_once("\n{\n").unwrap();
+        let (name, head) = head.split_once('(').unwrap();
+        (name.into(), (head.into(), rest.split("\n}\n").next().unwrap().trim().into()))
+    });
+    parts.collect()
 }
 
 // The crate that the archive is made of: every export.
@@ -191,6 +204,17 @@ fn exports_have_the_clauses_of_the_library() {
         let source = libraries.entry(library.clone()).or_insert_with(|| source_of(&library));
         assert!(source.contains(&format!("\npub fn {head}\n{{\n")), "{name} is not what it is in {library}");
     }
+}
+
+// So does a function of the front door that stands under a short name.
+#[test]
+fn short_names_have_the_clauses_of_the_library() {
+    let exports = exports();
+    for (name, (head, body)) in short_names() {
+        assert!(exports.contains(&format!("fn yexwalu_{name}({head}\n{{\n")), "{name} is not what its export is");
+        assert!(body.split_once('(').unwrap().0.ends_with(&format!("yexwalu_{name}")), "{name} does not call its call");
+    }
+    assert_eq!(short_names().into_keys().collect::<Vec<_>>(), ["collect", "layout", "write"]);
 }
 
 #[test]
