@@ -2,7 +2,7 @@
 // calls the front door.
 #![tactic(auto)]
 
-ghost use Rattle.std.specs.Prelude.{◌≤◌, length};
+ghost use Rattle.std.specs.Prelude.{◌≡◌, ℕ, ◌<◌, ◌≤◌, ◌≢◌, length, slice_index};
 
 pub mod code;
 pub mod input;
@@ -69,7 +69,9 @@ pub fn least(a: usize, b: usize) -> usize
 // Where the first `b` stands from `from` on, below `to`; `to` where there is none.
 pub fn find(s: &[u8], from: usize, to: usize, b: u8) -> usize
     requires { (from ≤ to) × (to ≤ length s.now) }
-    ensures { (from ≤ result) × (result ≤ to) }
+    ensures within { (from ≤ result) × (result ≤ to) }
+    ensures before { (k : ℕ) → from ≤ k → k < result → slice_index s.now k ≢ b }
+    ensures found { result < to → slice_index s.now result ≡ b }
 {
     for i in from..to {
         if s[i] == b {
