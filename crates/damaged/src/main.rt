@@ -10,7 +10,6 @@ ghost use Rattle.std.specs.Prelude.{◌≤◌, length, IfOk};
 use heap::Heap;
 use std::io;
 use std::io::Read;
-use text::Literal;
 
 fn least(a: usize, b: usize) -> usize
     ensures { (result ≤ a) × (result ≤ b) }
@@ -173,8 +172,8 @@ fn stands(s: &[u8], at: usize, part: &[u8]) -> bool
     requires { at ≤ length s.now }
 {
     match text::expect(s, at, part) {
-        Literal::Past(n) => true,
-        Literal::Missing => false,
+        Some(n) => true,
+        None => false,
     }
 }
 

@@ -1,5 +1,5 @@
 -- The whole of a page, part by part as the first pass reads it.
-use Prim.Native.Nat.{ℕ, suc, ◌+◌, ◌-◌, ◌^◌, ◌≤◌, ◌<◌}
+use Prim.Native.Nat.{ℕ, suc, ◌-◌, ◌^◌, ◌≤◌, ◌<◌}
 use mathlib.Core.List.{List, [], ◌∷◌, ◌++◌, map}
 use mathlib.Core.Option.{Option, none, some}
 use mathlib.Core.Bool.{Bool, true, false, ◌&&◌}
@@ -15,9 +15,9 @@ use Rattle.text.specs.Format.{Format, Right, number, pair, times, after_literal,
 use Rattle.text.proofs.Laws.{times-right, number-right}
 use Rattle.text.proofs.Getting.{suffix}
 use Rattle.heap.specs.State.{Slot, State, data_size}
-use Rattle.heap.specs.WellFormed.{sound_slot, sound_seals, sound_reclaim, sound}
+use Rattle.heap.specs.WellFormed.{sound_slot, sound_seals, sound_reclaim}
 use Rattle.pages.specs.Form.{Form, form_of, slot_named, free_name, quarantine_name, sealed_name}
-use Rattle.pages.specs.Page.{Head, head_format, body_format, slot_format, out_of_column, slots_format, retired_format, page_format, read_page, whole, state_of}
+use Rattle.pages.specs.Page.{Head, head_format, body_format, slot_format, out_of_column, slots_format, retired_format, page_format, read_page, state_of}
 use Rattle.pages.proofs.Laws.{slot-right, slots-wider, head-right}
 use Rattle.page_check.specs.Answer.{head_answer, slots_answer, indices_more, seals_more}
 use Rattle.page_check.specs.Partition.{values_at, ValuesParsed}

@@ -3,7 +3,7 @@ use Prim.Native.Nat.{ℕ, ◌+◌}
 use mathlib.Core.Bool.{Bool, ◌&&◌}
 use mathlib.Core.List.{List, [], ◌∷◌, map}
 use mathlib.Core.Path.{◌≡◌, refl, ap}
-use lib.ListN.{length, length-append}
+use lib.ListN.{length-append}
 use Rattle.word.specs.Lists.{all}
 use Rattle.heap.specs.State.{Slot, data_of, data_size, times}
 use Rattle.heap.specs.Packing.{flat}

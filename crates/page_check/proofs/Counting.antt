@@ -1,7 +1,8 @@
 -- Marking the values of a list, one bit each.
 use Prim.Native.Nat.{ℕ, zero, suc, ◌+◌, ◌-◌, ◌^◌, ◌≤◌, ◌<◌}
 use mathlib.Core.List.{List, [], ◌∷◌, ◌++◌}
-use mathlib.Core.Option.{Option, none, some}
+use mathlib.Core.Option as maybe
+use mathlib.Core.Option.{none, some}
 use mathlib.Core.Bool.{Bool, true, false, ◌||◌}
 use mathlib.Core.Path.{◌≡◌, refl, sym, ap, ◌∙◌, subst}
 use lib.Dec.{eqb}
@@ -14,9 +15,8 @@ use Rattle.word.proofs.Bools.{true-false}
 use Rattle.rows.specs.Row.{bit_in}
 use Rattle.text.specs.Text.{give, Reader, ◌>>=◌, digit_of, read_field}
 use Rattle.text.specs.Format.{number, read_all}
-use Rattle.text.specs.Answer.{decimal_answer}
-use Rattle.text.specs.declared.Decimal.{Decimal}
-use Rattle.text.specs.declared.Decimal.TheVariants.{Number, NoNumber}
+use Rattle.text.specs.Answer.{value_answer}
+use Rattle.std.specs.Prelude.{Option, Some, None}
 use Rattle.text.proofs.Laws.{bind-some, some_inj, none-not-some}
 use Rattle.text.proofs.Getting.{answer-none, field_found}
 use Rattle.heap.specs.State.{bit, times}
@@ -120,7 +120,7 @@ next-value s k i count v next l rest h e f =
     let r : Reader ℕ = (number 32 10).read in
     let e1 : read_all r (suc (count - (i + 1))) (drop k s) ≡ give (drop i l) rest = subst (λ (n : ℕ). read_all r n (drop k s) ≡ give (drop i l) rest) (let w : count - i ≡ suc (count - (i + 1)) = omega arith in w) e in
     let e2 : (read_all r (count - (i + 1)) (drop next s) >>= λ y. give (v ∷ y.0) y.1) ≡ give (drop i l) rest =
-    sym (ap (λ (o : Option (ℕ × List ℕ)). o >>= λ x. read_all r (count - (i + 1)) x.1 >>= λ y. give (x.0 ∷ y.0) y.1) f) ∙ e1 in
+    sym (ap (λ (o : maybe.Option (ℕ × List ℕ)). o >>= λ x. read_all r (count - (i + 1)) x.1 >>= λ y. give (x.0 ∷ y.0) y.1) f) ∙ e1 in
     let q : (y : List ℕ × List ℕ) × (read_all r (count - (i + 1)) (drop next s) ≡ some y) × (give (v ∷ y.0) y.1 ≡ give (drop i l) rest) =
     bind-some (read_all r (count - (i + 1)) (drop next s)) (λ y. give (v ∷ y.0) y.1) (drop i l, rest) e2 in
     let w : ◌≡◌ {A = List ℕ × List ℕ} (v ∷ q.0.0, q.0.1) (drop i l, rest) = some_inj q.2 in
@@ -138,7 +138,7 @@ unfolding read_all
 not_none s k i count l rest h e f =
     let r : Reader ℕ = (number 32 10).read in
     let e1 : read_all r (suc (count - (i + 1))) (drop k s) ≡ give (drop i l) rest = subst (λ (n : ℕ). read_all r n (drop k s) ≡ give (drop i l) rest) (let w : count - i ≡ suc (count - (i + 1)) = omega arith in w) e in
-    none-not-some (sym (ap (λ (o : Option (ℕ × List ℕ)). o >>= λ x. read_all r (count - (i + 1)) x.1 >>= λ y. give (x.0 ∷ y.0) y.1) f) ∙ e1)
+    none-not-some (sym (ap (λ (o : maybe.Option (ℕ × List ℕ)). o >>= λ x. read_all r (count - (i + 1)) x.1 >>= λ y. give (x.0 ∷ y.0) y.1) f) ∙ e1)
 
 pub done-length : (s : List ℕ) (k i count : ℕ) (l rest : List ℕ) → count ≤ i → read_all (number 32 10).read (count - i) (drop k s) ≡ give (drop i l) rest → length l ≤ i
 unfolding read_all
@@ -147,11 +147,11 @@ done-length s k i count l rest h e =
     let d : [] ≡ drop i l = ap (λ (z : List ℕ × List ℕ). z.0) (some_inj e1) in
     omega (arith, length-drop i l, ap length d)
 
-pub line-value : (s : List ℕ) (at : ℕ) {r : Decimal} (n k : ℕ) → r ≡ decimal_answer (length s) (read_field 4294967295 10 (drop at s)) → r ≡ Number n k →
+pub line-value : (s : List ℕ) (at : ℕ) {r : Option (ℕ × ℕ)} (n k : ℕ) → r ≡ value_answer (length s) (read_field 4294967295 10 (drop at s)) → r ≡ Some (n, k) →
     ((number 32 10).read (drop at s) ≡ give n (drop k s)) × (k ≤ length s) × (n < 2 ^ 32)
 unfolding number digit_of
 line-value s at n k e f = field_found s 32 10 at n k refl e f
 
-pub line-none : (s : List ℕ) (at : ℕ) {r : Decimal} → r ≡ decimal_answer (length s) (read_field 4294967295 10 (drop at s)) → r ≡ NoNumber → (number 32 10).read (drop at s) ≡ none
+pub line-none : (s : List ℕ) (at : ℕ) {r : Option (ℕ × ℕ)} → r ≡ value_answer (length s) (read_field 4294967295 10 (drop at s)) → r ≡ None → (number 32 10).read (drop at s) ≡ none
 unfolding number
 line-none s at e f = answer-none s (read_field 4294967295 10 (drop at s)) e f

@@ -1,8 +1,9 @@
 -- The lists of a page, value by value as the code reads them.
 use Prim.Native.Nat.{ℕ, suc, ◌+◌, ◌-◌, ◌^◌, ◌≤◌, ◌<◌}
 use mathlib.Core.List.{List, ◌∷◌}
-use mathlib.Core.Option.{Option, none, some}
-use mathlib.Core.Bool.{Bool, true, false, ◌&&◌}
+use mathlib.Core.Option as maybe
+use mathlib.Core.Option.{none, some}
+use mathlib.Core.Bool.{Bool, ◌&&◌}
 use mathlib.Core.Path.{◌≡◌, refl, sym, ap, ◌∙◌}
 use lib.Dec.{ltb}
 use lib.ListN.{length, drop, length-drop}
@@ -12,9 +13,8 @@ use Rattle.word.specs.Lists.{all}
 use Rattle.word.proofs.Bools.{and-true, and_assoc}
 use Rattle.text.specs.Text.{give, ◌>>=◌, digit_of, read_field}
 use Rattle.text.specs.Format.{number, read_all}
-use Rattle.text.specs.Answer.{decimal_answer}
-use Rattle.text.specs.declared.Decimal.{Decimal}
-use Rattle.text.specs.declared.Decimal.TheVariants.{Number, NoNumber}
+use Rattle.text.specs.Answer.{value_answer}
+use Rattle.std.specs.Prelude.{Option, Some, None}
 use Rattle.text.proofs.Getting.{answer-none, field_found}
 use Rattle.heap.specs.WellFormed.{sound_seals}
 use Rattle.handle.specs.Handle.{index_of}
@@ -23,22 +23,22 @@ use Rattle.page_check.specs.declared.Values.{Values}
 use Rattle.page_check.specs.declared.Values.TheVariants.{Good, NoValues}
 use Rattle.page_check.proofs.Reading.{all_none, all-some, all_done}
 
-pub value_found : (s : List ℕ) (width at : ℕ) {r : Decimal} (n k : ℕ) → r ≡ decimal_answer (length s) (read_field (2 ^ width - 1) 10 (drop at s)) → r ≡ Number n k →
+pub value_found : (s : List ℕ) (width at : ℕ) {r : Option (ℕ × ℕ)} (n k : ℕ) → r ≡ value_answer (length s) (read_field (2 ^ width - 1) 10 (drop at s)) → r ≡ Some (n, k) →
     ((number width 10).read (drop at s) ≡ give n (drop k s)) × (k ≤ length s) × (n < 2 ^ width)
 unfolding number digit_of
 value_found s width at n k e f = field_found s width 10 at n k refl e f
 
-pub value_none : (s : List ℕ) (width at : ℕ) {r : Decimal} → r ≡ decimal_answer (length s) (read_field (2 ^ width - 1) 10 (drop at s)) → r ≡ NoNumber →
+pub value_none : (s : List ℕ) (width at : ℕ) {r : Option (ℕ × ℕ)} → r ≡ value_answer (length s) (read_field (2 ^ width - 1) 10 (drop at s)) → r ≡ None →
     (number width 10).read (drop at s) ≡ none
 unfolding number
 value_none s width at e f = answer-none s (read_field (2 ^ width - 1) 10 (drop at s)) e f
 
-indices_step : (len n : ℕ) (ok : Bool) (x : ℕ) (o : Option (List ℕ × List ℕ)) → indices_more len n ok (o >>= λ y. give (x ∷ y.0) y.1) ≡ indices_more len n (ok && ltb x n) o
+indices_step : (len n : ℕ) (ok : Bool) (x : ℕ) (o : maybe.Option (List ℕ × List ℕ)) → indices_more len n ok (o >>= λ y. give (x ∷ y.0) y.1) ≡ indices_more len n (ok && ltb x n) o
 unfolding all
 indices_step len n ok x none = refl
 indices_step len n ok x (some r) = ap (λ (b : Bool). Good b (len - length r.1)) (sym (and_assoc ok (ltb x n) (all (λ i. ltb i n) r.0)))
 
-seals-step : (len tag n from : ℕ) (ok : Bool) (x : ℕ) (o : Option (List ℕ × List ℕ)) →
+seals-step : (len tag n from : ℕ) (ok : Bool) (x : ℕ) (o : maybe.Option (List ℕ × List ℕ)) →
     seals_more len tag n from ok (o >>= λ y. give (x ∷ y.0) y.1) ≡ seals_more len tag n (index_of x + 1) (ok && seal_test tag n from x) o
 unfolding sound_seals seal_test
 seals-step len tag n from ok x none = refl
@@ -47,7 +47,7 @@ seals-step len tag n from ok x (some r) =
 
 -- the values that are left, from position k on
 module _ (width : ℕ) (s : List ℕ) (k i count : ℕ) where
-  abbrev pub left : Option (List ℕ × List ℕ)
+  abbrev pub left : maybe.Option (List ℕ × List ℕ)
   left = read_all (number width 10).read (count - i) (drop k s)
 
 module _ (s : List ℕ) (n : ℕ) (ok : Bool) (k i count : ℕ) {now : Values} (e : now ≡ indices_more (length s) n ok (left 32 s k i count)) where

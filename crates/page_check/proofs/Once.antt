@@ -1,11 +1,11 @@
 -- Bits, run after run, say that each slot is right by a rule. Assumes nothing.
-use Prim.Native.Nat.{ℕ, zero, suc, ◌+◌, ◌-◌, ◌*◌, ◌/◌, ◌%◌, ◌≤◌, ◌<◌}
+use Prim.Native.Nat.{ℕ, zero, suc, ◌+◌, ◌-◌, ◌/◌, ◌%◌, ◌≤◌, ◌<◌}
 use mathlib.Core.List.{List, [], ◌∷◌, ◌++◌}
 use mathlib.Core.Option.{some}
-use mathlib.Core.Bool.{Bool, true, false, not, ◌&&◌, ◌||◌}
+use mathlib.Core.Bool.{Bool, true, false, ◌&&◌}
 use mathlib.Core.Path.{◌≡◌, refl, sym, ap, ◌∙◌, subst}
-use lib.Dec.{eqb, ltb}
-use lib.ListN.{length, take, drop, get_or, replicate, take-append-drop, drop_of_length-le}
+use lib.Dec.{ltb}
+use lib.ListN.{length, take, drop, replicate, take-append-drop, drop_of_length-le}
 use lib.Seq.{drop-drop}
 use native.Mathlib.Omega.{arith}
 use native.Mathlib.Nat.{zero-add, add-zero, sub-zero}
@@ -22,7 +22,6 @@ use Rattle.heap.specs.State.{Slot, State, bit}
 use Rattle.pages.specs.Page.{slot_format}
 use Rattle.heap.specs.State as wf
 use Rattle.pages.proofs.Laws.{slot-right}
-use Rattle.heap.proofs.Counting.{times-append}
 use Rattle.page_check.specs.Partition.{values_at, marked, Marked, expected, right, agree, each}
 use Rattle.page_check.specs.Filling.{slots_at, SlotsParsed, RunChecked}
 use Rattle.page_check.proofs.Columned.{same-each}

@@ -1,7 +1,8 @@
 -- A slot's line, field by field as the code reads it.
 use Prim.Native.Nat.{ℕ, zero, suc, ◌+◌, ◌-◌, ◌*◌, ◌^◌, ◌≤◌, ◌<◌}
 use mathlib.Core.List.{List, [], ◌∷◌}
-use mathlib.Core.Option.{Option, none, some}
+use mathlib.Core.Option as maybe
+use mathlib.Core.Option.{none, some}
 use mathlib.Core.Path.{◌≡◌, refl, sym, ap, ◌∙◌, subst}
 use mathlib.Core.Bool.{Bool, true, false, ◌&&◌}
 use native.Mathlib.Nat.{zero-add}
@@ -13,9 +14,8 @@ use Rattle.word.specs.Lists.{all}
 use Rattle.word.proofs.Bools.{and-true, and_assoc}
 use Rattle.text.specs.Text.{give, Reader, decimal, ◌>>=◌, digit_of, read_field, read_hex}
 use Rattle.text.specs.Format.{number, bytes_line, pair, mapped, read_all}
-use Rattle.text.specs.Answer.{decimal_answer}
-use Rattle.text.specs.declared.Decimal.{Decimal}
-use Rattle.text.specs.declared.Decimal.TheVariants.{Number, NoNumber}
+use Rattle.text.specs.Answer.{value_answer}
+use Rattle.std.specs.Prelude.{Option, Some, None}
 use Rattle.text.proofs.Getting.{answer-none, field_found, suffix}
 use Rattle.pages.proofs.Laws.{slot-right, slot-prints, Fields-good}
 use Rattle.pages.proofs.Writing.{slot-length-decimal}
@@ -33,27 +33,27 @@ use Rattle.page_check.specs.Answer.{slot_answer, slots_answer, slots_more, sound
 use Rattle.page_check.specs.declared.SlotLine.TheVariants.{Line, NoLine}
 
 -- a field that was read, as the format reads it
-pub comma-found : (s : List ℕ) (width at : ℕ) {r : Decimal} (n k : ℕ) → r ≡ decimal_answer (length s) (read_field (2 ^ width - 1) 44 (drop at s)) → r ≡ Number n k →
+pub comma-found : (s : List ℕ) (width at : ℕ) {r : Option (ℕ × ℕ)} (n k : ℕ) → r ≡ value_answer (length s) (read_field (2 ^ width - 1) 44 (drop at s)) → r ≡ Some (n, k) →
     ((number width 44).read (drop at s) ≡ give n (drop k s)) × (k ≤ length s) × (n < 2 ^ width)
 unfolding number digit_of
 comma-found s width at n k e f = field_found s width 44 at n k refl e f
 
-pub comma-none : (s : List ℕ) (width at : ℕ) {r : Decimal} → r ≡ decimal_answer (length s) (read_field (2 ^ width - 1) 44 (drop at s)) → r ≡ NoNumber →
+pub comma-none : (s : List ℕ) (width at : ℕ) {r : Option (ℕ × ℕ)} → r ≡ value_answer (length s) (read_field (2 ^ width - 1) 44 (drop at s)) → r ≡ None →
     (number width 44).read (drop at s) ≡ none
 unfolding number
 comma-none s width at e f = answer-none s (read_field (2 ^ width - 1) 44 (drop at s)) e f
 
 -- the same of a bound that the code has found
-pub count-found : (s : List ℕ) (width at : ℕ) {r : Decimal} {most : ℕ} (n k : ℕ) → most ≡ 2 ^ width - 1 → r ≡ decimal_answer (length s) (read_field most 44 (drop at s)) → r ≡ Number n k →
+pub count-found : (s : List ℕ) (width at : ℕ) {r : Option (ℕ × ℕ)} {most : ℕ} (n k : ℕ) → most ≡ 2 ^ width - 1 → r ≡ value_answer (length s) (read_field most 44 (drop at s)) → r ≡ Some (n, k) →
     ((number width 44).read (drop at s) ≡ give n (drop k s)) × (k ≤ length s) × (n < 2 ^ width)
-count-found s width at n k m e f = comma-found s width at n k (e ∙ ap (λ (most : ℕ). decimal_answer (length s) (read_field most 44 (drop at s))) m) f
+count-found s width at n k m e f = comma-found s width at n k (e ∙ ap (λ (most : ℕ). value_answer (length s) (read_field most 44 (drop at s))) m) f
 
-pub count_none : (s : List ℕ) (width at : ℕ) {r : Decimal} {most : ℕ} → most ≡ 2 ^ width - 1 → r ≡ decimal_answer (length s) (read_field most 44 (drop at s)) → r ≡ NoNumber →
+pub count_none : (s : List ℕ) (width at : ℕ) {r : Option (ℕ × ℕ)} {most : ℕ} → most ≡ 2 ^ width - 1 → r ≡ value_answer (length s) (read_field most 44 (drop at s)) → r ≡ None →
     (number width 44).read (drop at s) ≡ none
-count_none s width at m e f = comma-none s width at (e ∙ ap (λ (most : ℕ). decimal_answer (length s) (read_field most 44 (drop at s))) m) f
+count_none s width at m e f = comma-none s width at (e ∙ ap (λ (most : ℕ). value_answer (length s) (read_field most 44 (drop at s))) m) f
 
 module _ (wide : Bool) (s : List ℕ) (at : ℕ) where
-  abbrev read-slot : Option (Slot × List ℕ)
+  abbrev read-slot : maybe.Option (Slot × List ℕ)
   read-slot = (slot_format wide).read (drop at s)
 
   pub missing : read-slot ≡ none → NoLine ≡ slot_answer (length s) read-slot
@@ -92,7 +92,7 @@ module _ (wide : Bool) (s : List ℕ) (at : ℕ) where
             unfolding slot_format mapped pair bytes_line
             slot-all bs f e = rw (e1, e2, e3, e4, e5, e)
 
-pub line-there : (s : List ℕ) (g k t p w n f : ℕ) (bs : List ℕ) (o : Option (Slot × List ℕ)) → o ≡ give (slot g k t p w bs) (drop f s) → length bs ≡ n → f ≤ length s →
+pub line-there : (s : List ℕ) (g k t p w n f : ℕ) (bs : List ℕ) (o : maybe.Option (Slot × List ℕ)) → o ≡ give (slot g k t p w bs) (drop f s) → length bs ≡ n → f ≤ length s →
     Line (record { generation = g; kind = k; ty = t; start = p; writes = w; bytes = n; next = f }) ≡ slot_answer (length s) o
 line-there s g k t p w n f bs o e l h =
     rw e (λ i. Line (record { generation = g; kind = k; ty = t; start = p; writes = w; bytes = sym l i; next = (let v : f ≡ length s - length (drop f s) = omega (arith, length-drop f s) in v) i }))
@@ -103,7 +103,7 @@ pub data-cons : (y : Slot) (l : List Slot) → data_size (y ∷ l) ≡ length y.
 unfolding flat
 data-cons y l = length-append y.bytes (flat (data_of l))
 
-pub slots-begin : (len : ℕ) (o : Option (List Slot × List ℕ)) → slots_answer len o ≡ slots_more len true 0 o
+pub slots-begin : (len : ℕ) (o : maybe.Option (List Slot × List ℕ)) → slots_answer len o ≡ slots_more len true 0 o
 slots-begin len none = refl
 slots-begin len (some r) = ap (λ (m : ℕ). Lines (all sound_slot r.0) m (len - length r.1)) (sym (zero-add (data_size r.0)))
 
@@ -121,7 +121,7 @@ module _ {A : Type 0} (r : Reader A) where
   unfolding read_all
   all_done i count t h = rw (let v : count - i ≡ zero = omega arith in v)
 
-pub slots-step : (len : ℕ) (ok : Bool) (size : ℕ) (x : Slot) (o : Option (List Slot × List ℕ)) →
+pub slots-step : (len : ℕ) (ok : Bool) (size : ℕ) (x : Slot) (o : maybe.Option (List Slot × List ℕ)) →
     slots_more len ok size (o >>= λ y. give (x ∷ y.0) y.1) ≡ slots_more len (ok && sound_slot x) (size + length x.bytes) o
 unfolding all
 slots-step len ok size x none = refl
@@ -129,7 +129,7 @@ slots-step len ok size x (some r) = λ i.
     Lines (sym (and_assoc ok (sound_slot x) (all sound_slot r.0)) i)
     ((let v : size + data_size (x ∷ r.0) ≡ size + length x.bytes + data_size r.0 = omega (arith, data-cons x r.0) in v) i) (len - length r.1)
 
-pub slots_end : (s : List ℕ) (ok : Bool) (size k : ℕ) (o : Option (List Slot × List ℕ)) → k ≤ length s → o ≡ give [] (drop k s) → Lines ok size k ≡ slots_more (length s) ok size o
+pub slots_end : (s : List ℕ) (ok : Bool) (size k : ℕ) (o : maybe.Option (List Slot × List ℕ)) → k ≤ length s → o ≡ give [] (drop k s) → Lines ok size k ≡ slots_more (length s) ok size o
 unfolding flat all
 slots_end s ok size k o h e =
     rw e (λ i. Lines (sym (and-true ok) i) ((let v : size ≡ size + 0 = omega arith in v) i) ((let v : k ≡ length s - length (drop k s) = omega (arith, length-drop k s) in v) i))
@@ -166,7 +166,7 @@ sound-same sl h = rw (le-leb sl.generation last_generation (omega arith), and-tr
 pub line-found : (w : Bool) (s : List ℕ) (k : ℕ) {r : SlotLine} (x : SlotRead) → r ≡ slot_answer (length s) ((slot_format w).read (drop k s)) → r ≡ Line x → Found w s k x
 line-found w s k {r} x e f = go ((slot_format w).read (drop k s)) refl e
   where
-    go : (o : Option (Slot × List ℕ)) → (slot_format w).read (drop k s) ≡ o → r ≡ slot_answer (length s) o → Found w s k x
+    go : (o : maybe.Option (Slot × List ℕ)) → (slot_format w).read (drop k s) ≡ o → r ≡ slot_answer (length s) o → Found w s k x
     go none q g = absurd (let z : ◌≡◌ {A = ℕ} 0 1 = cc in omega arith)
     go (some y) q g =
         let z : SlotRead =
@@ -194,7 +194,7 @@ line-found w s k {r} x e f = go ((slot_format w).read (drop k s)) refl e
 pub line-lost : (w : Bool) (s : List ℕ) (k : ℕ) {r : SlotLine} → r ≡ slot_answer (length s) ((slot_format w).read (drop k s)) → r ≡ NoLine → (slot_format w).read (drop k s) ≡ none
 line-lost w s k {r} e f = go ((slot_format w).read (drop k s)) refl e
   where
-    go : (o : Option (Slot × List ℕ)) → (slot_format w).read (drop k s) ≡ o → r ≡ slot_answer (length s) o → (slot_format w).read (drop k s) ≡ none
+    go : (o : maybe.Option (Slot × List ℕ)) → (slot_format w).read (drop k s) ≡ o → r ≡ slot_answer (length s) o → (slot_format w).read (drop k s) ≡ none
     go none q g = q
     go (some y) q g = absurd (let z : ◌≡◌ {A = ℕ} 0 1 = cc in omega arith)
 
@@ -204,7 +204,7 @@ pub slots_next : (w : Bool) (s : List ℕ) (ok : Bool) (size k i count : ℕ) (x
     d ≡ sound_numbers x.generation x.kind x.ty x.start x.writes x.bytes → b ≡ (ok && d) →
     now ≡ slots_more (length s) b (size + x.bytes) (read_all (slot_format w).read (count - (i + 1)) (drop x.next s))
 slots_next w s ok size k i count x {now} {b} {d} h f e g q =
-    let o : Option (List Slot × List ℕ) = read_all (slot_format w).read (count - (i + 1)) (drop x.next s) in
+    let o : maybe.Option (List Slot × List ℕ) = read_all (slot_format w).read (count - (i + 1)) (drop x.next s) in
     let v : b ≡ (ok && sound_slot f.sl) = q ∙ ap (λ (t : Bool). ok && t) (g ∙ f.sound) in
     let z : size + x.bytes ≡ size + length f.sl.bytes = ap (λ (m : ℕ). size + m) f.bytes in
     e ∙ ap (slots_more (length s) ok size) (all-some (slot_format w).read i count (drop k s) f.sl (drop x.next s) h f.reads)

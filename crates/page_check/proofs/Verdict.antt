@@ -1,5 +1,5 @@
 -- From the sections that were found to what a text is refused for. Assumes nothing.
-use Prim.Native.Nat.{ℕ, zero, suc, ◌+◌, ◌≤◌, ◌<◌}
+use Prim.Native.Nat.{ℕ, suc, ◌+◌, ◌≤◌, ◌<◌}
 use mathlib.Core.List.{List, [], ◌∷◌, ◌++◌}
 use mathlib.Core.Option.{none}
 use mathlib.Core.Bool.{Bool, true, false, not, ◌&&◌, ◌||◌}
@@ -17,7 +17,6 @@ use Rattle.word.proofs.Bools.{bool-ext, and-true, and-false, and_both, both-and,
 use Rattle.word.proofs.ListLaws.{at_all, below_at, at-below, below-same, below-front}
 use Rattle.heap.specs.State.{Slot, State, no_slot, slot_at, data_size, live, worn, bit, times}
 use Rattle.heap.specs.WellFormed.{places, partitioned, retired_rightly, sound_slot, sound_seals, sound_reclaim, sound}
-use Rattle.pages.specs.Form.{Form}
 use Rattle.pages.specs.Page.{read_page, moved, sound_before}
 use Rattle.pages.proofs.Moving.{moved-sound}
 use Rattle.heap.proofs.Counting.{times-append, times-member}

@@ -1,6 +1,6 @@
 -- The parts of a page, each with its name before it, as the first pass finds them.
 use Rattle.std.specs.Prelude.{ℕ, ◌≤◌, List, Bool, ◌⊎◌, ◌≡◌, length, drop}
-use Rattle.std.proofs.Math.Option.{Option, none, some}
+use Rattle.std.proofs.Math.Option.{none, some}
 use Rattle.word.specs.Lists.{all}
 use Rattle.text.specs.Text.{give, Reader, read_literal}
 use Rattle.text.specs.Format.{Format, number, read_all}

@@ -3,7 +3,7 @@
 
 ghost use Rattle.std.specs.Prelude.{◌≡◌, List, [], ◌∷◌, ◌++◌, ℕ, ◌+◌, ◌-◌, ◌*◌, ◌^◌, ◌≤◌, ◌<◌, length, take, drop, replicate, ◌&&◌, eqb, leb, ltb, ◌%◌, true, false};
 ghost use Rattle.text.specs.Text.{give};
-ghost use Rattle.text.specs.Answer.{decimal_answer, either_answer};
+ghost use Rattle.text.specs.Answer.{value_answer};
 ghost use Rattle.pages.specs.Form.{writes_width, names, sealed_name};
 ghost use Rattle.pages.specs.Page.{slot_format, sealed_end, retired_count, head_format, read_page};
 ghost use Rattle.text.specs.Format.{read_all, number};
@@ -17,7 +17,6 @@ ghost use Rattle.page_check.specs.Parts.{sections_of, HeadSectioned, NamesRead, 
 ghost use Rattle.word.specs.Lists.{all};
 
 use refusal::Refusal;
-use text::{Decimal, Either, Hex, Literal};
 
 // What a slot's line says: its numbers, how many bytes of data, and where the next line begins.
 #[derive(Clone, Copy)]
@@ -53,22 +52,22 @@ pub fn get_slot(s: &[u8], at: usize, wide: bool) -> SlotLine
     ensures { result ≡ slot_answer (length s.now) ((slot_format wide).read (drop at s.now)) }
 {
     let most = most_writes(wide);
-    let Decimal::Number(g, a) = text::get_field(s, at, 4294967295, 44) else {
+    let Some((g, a)) = text::get_field(s, at, 4294967295, 44) else {
         return SlotLine::NoLine;
     };
-    let Decimal::Number(k, b) = text::get_field(s, a, 255, 44) else {
+    let Some((k, b)) = text::get_field(s, a, 255, 44) else {
         return SlotLine::NoLine;
     };
-    let Decimal::Number(t, c) = text::get_field(s, b, 4294967295, 44) else {
+    let Some((t, c)) = text::get_field(s, b, 4294967295, 44) else {
         return SlotLine::NoLine;
     };
-    let Decimal::Number(p, d) = text::get_field(s, c, 18446744073709551615, 44) else {
+    let Some((p, d)) = text::get_field(s, c, 18446744073709551615, 44) else {
         return SlotLine::NoLine;
     };
-    let Decimal::Number(w, e) = text::get_field(s, d, most, 44) else {
+    let Some((w, e)) = text::get_field(s, d, most, 44) else {
         return SlotLine::NoLine;
     };
-    let Hex::Count(n, f) = text::count_hex(s, e) else {
+    let Some((n, f)) = text::count_hex(s, e) else {
         return SlotLine::NoLine;
     };
     SlotLine::Line(SlotRead {
@@ -172,7 +171,7 @@ fn mark(s: &[u8], at: usize, count: usize, base: usize, m: usize, row: &mut [u64
     let mut k = at;
     let mut i = 0;
     while i < count {
-        let Decimal::Number(v, next) = text::get_field(s, k, 4294967295, 10) else {
+        let Some((v, next)) = text::get_field(s, k, 4294967295, 10) else {
             return false;
         };
         if mark_one(row, base, m, v as usize) {} else {
@@ -380,7 +379,7 @@ fn check_indices(s: &[u8], at: usize, count: usize, n: usize) -> Values
     let mut k = at;
     let mut i = 0;
     while i < count {
-        let Decimal::Number(v, next) = text::get_field(s, k, 4294967295, 10) else {
+        let Some((v, next)) = text::get_field(s, k, 4294967295, 10) else {
             return Values::NoValues;
         };
         let w = v as usize;
@@ -437,7 +436,7 @@ fn check_seals(s: &[u8], at: usize, count: usize, tag: u64, n: usize) -> Values
     let mut k = at;
     let mut i = 0;
     while i < count {
-        let Decimal::Number(v, next) = text::get_field(s, k, 18446744073709551615, 10) else {
+        let Some((v, next)) = text::get_field(s, k, 18446744073709551615, 10) else {
             return Values::NoValues;
         };
         ok = both(ok, sound_seal(v, tag, n, from));
@@ -478,14 +477,14 @@ fn sealed_end(retiring: bool) -> u8
 }
 
 // Reads the count of the retired, where the line has it.
-fn retired_count(s: &[u8], at: usize, retiring: bool) -> Decimal
+fn retired_count(s: &[u8], at: usize, retiring: bool) -> Option<(u64, usize)>
     requires { at ≤ length s.now }
-    ensures { result ≡ decimal_answer (length s.now) ((retired_count retiring).read (drop at s.now)) }
+    ensures { result ≡ value_answer (length s.now) ((retired_count retiring).read (drop at s.now)) }
 {
     if retiring {
         return text::get_field(s, at, 4294967295, 10);
     }
-    Decimal::Number(0, at)
+    Some((0, at))
 }
 
 // Reads the line of a heap's numbers from `at` on.
@@ -493,31 +492,31 @@ pub fn get_head(s: &[u8], at: usize, retiring: bool) -> HeadLine
     ensures { result ≡ head_answer retiring (length s.now) ((head_format retiring).read (drop at s.now)) }
 {
     let end = sealed_end(retiring);
-    let Decimal::Number(t, a) = text::get_field(s, at, 255, 44) else {
+    let Some((t, a)) = text::get_field(s, at, 255, 44) else {
         return HeadLine::NoHead;
     };
-    let Decimal::Number(u, b) = text::get_field(s, a, 18446744073709551615, 44) else {
+    let Some((u, b)) = text::get_field(s, a, 18446744073709551615, 44) else {
         return HeadLine::NoHead;
     };
-    let Decimal::Number(r, c) = text::get_field(s, b, 18446744073709551615, 44) else {
+    let Some((r, c)) = text::get_field(s, b, 18446744073709551615, 44) else {
         return HeadLine::NoHead;
     };
-    let Decimal::Number(l, d) = text::get_field(s, c, 18446744073709551615, 44) else {
+    let Some((l, d)) = text::get_field(s, c, 18446744073709551615, 44) else {
         return HeadLine::NoHead;
     };
-    let Decimal::Number(n, e) = text::get_field(s, d, 4294967295, 44) else {
+    let Some((n, e)) = text::get_field(s, d, 4294967295, 44) else {
         return HeadLine::NoHead;
     };
-    let Decimal::Number(f, g) = text::get_field(s, e, 4294967295, 44) else {
+    let Some((f, g)) = text::get_field(s, e, 4294967295, 44) else {
         return HeadLine::NoHead;
     };
-    let Decimal::Number(q, h) = text::get_field(s, g, 4294967295, 44) else {
+    let Some((q, h)) = text::get_field(s, g, 4294967295, 44) else {
         return HeadLine::NoHead;
     };
-    let Decimal::Number(z, i) = text::get_field(s, h, 4294967295, end) else {
+    let Some((z, i)) = text::get_field(s, h, 4294967295, end) else {
         return HeadLine::NoHead;
     };
-    let Decimal::Number(w, j) = retired_count(s, i, retiring) else {
+    let Some((w, j)) = retired_count(s, i, retiring) else {
         return HeadLine::NoHead;
     };
     HeadLine::Head(HeadRead {
@@ -623,13 +622,17 @@ fn assembled(
 }
 
 // Reads a names line that ends in one of two ways, from `at` on: which way, and where the next line begins.
-fn names_line(s: &[u8], at: usize, front: &[u8], first: &[u8], second: &[u8]) -> Either
+fn names_line(
+    s: &[u8],
+    at: usize,
+    front: &[u8],
+    first: &[u8],
+    second: &[u8],
+) -> Option<(bool, usize)>
     requires { at ≤ length s.now }
-    ensures { result ≡ either_answer (length s.now) ((names front.now first.now second.now).read (drop at s.now)) }
+    ensures { result ≡ value_answer (length s.now) ((names front.now first.now second.now).read (drop at s.now)) }
 {
-    let Literal::Past(a) = text::expect(s, at, front) else {
-        return Either::Neither;
-    };
+    let a = text::expect(s, at, front)?;
     text::expect_either(s, a, first, second)
 }
 
@@ -637,7 +640,7 @@ fn names_line(s: &[u8], at: usize, front: &[u8], first: &[u8], second: &[u8]) ->
 fn head_section(s: &[u8]) -> HeadLine
     ensures { HeadSectioned s.now result }
 {
-    let Either::One(retiring, a) = names_line(
+    let Some((retiring, a)) = names_line(
         s,
         0,
         b"tag,since_gc,reclaim_at,live_bytes,slots,free,quarantine,sealed",
@@ -661,7 +664,7 @@ fn slot_names(s: &[u8], at: usize) -> SlotNames
     requires { at ≤ length s.now }
     ensures { NamesRead s.now at result }
 {
-    let Either::One(wide, a) = names_line(
+    let Some((wide, a)) = names_line(
         s,
         at,
         b"generation,kind,type,start,",
@@ -670,7 +673,7 @@ fn slot_names(s: &[u8], at: usize) -> SlotNames
     ) else {
         return SlotNames::Unnamed;
     };
-    let Either::One(planar, b) = text::expect_either(s, a, b"planes\n", b"data\n") else {
+    let Some((planar, b)) = text::expect_either(s, a, b"planes\n", b"data\n") else {
         return SlotNames::Unnamed;
     };
     SlotNames::Named(wide, planar, b)
@@ -709,7 +712,7 @@ fn index_section(s: &[u8], name: &[u8], at: usize, count: usize, n: usize) -> Li
     requires { at ≤ length s.now }
     ensures { ListSectioned 32 name.now s.now at count (all (λ i. ltb i n)) result }
 {
-    let Literal::Past(b) = text::expect(s, at, name) else {
+    let Some(b) = text::expect(s, at, name) else {
         return ListSection::Unlisted;
     };
     let Values::Good(ok, next) = check_indices(s, b, count, n) else {
@@ -723,7 +726,7 @@ fn seal_section(s: &[u8], at: usize, count: usize, tag: u64, n: usize) -> ListSe
     requires { at ≤ length s.now }
     ensures { ListSectioned 64 sealed_name s.now at count (sound_seals tag n 0) result }
 {
-    let Literal::Past(b) = text::expect(s, at, b"sealed\n") else {
+    let Some(b) = text::expect(s, at, b"sealed\n") else {
         return ListSection::Unlisted;
     };
     let Values::Good(ok, next) = check_seals(s, b, count, tag, n) else {

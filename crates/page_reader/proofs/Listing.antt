@@ -9,10 +9,9 @@ use native.Mathlib.Nat.{sub-zero}
 use native.Mathlib.Numerals.{add-one}
 use Rattle.text.specs.Text.{give, read_field}
 use Rattle.text.specs.Format.{number, read_all}
-use Rattle.text.specs.Answer.{decimal_answer}
+use Rattle.text.specs.Answer.{value_answer}
 use Rattle.text.specs.Put.{put_text}
-use Rattle.text.specs.declared.Decimal.{Decimal}
-use Rattle.text.specs.declared.Decimal.TheVariants.{Number, NoNumber}
+use Rattle.std.specs.Prelude.{Option, Some, None}
 use Rattle.text.proofs.Putting.{put-nothing}
 use Rattle.page_check.specs.Partition.{values_at, ValuesParsed}
 use Rattle.page_check.proofs.Lists.{value_found, value_none}
@@ -42,15 +41,15 @@ listing-begin width s at count list p h r = record {
 }
 
 module _ (width : ℕ) (s : List ℕ) (at count : ℕ) (list₀ list : List ℕ) (k i : ℕ) (p : Listing width s at count list₀ list k i) where
-  module _ (h : i < count) {r : Decimal} (e : r ≡ decimal_answer (length s) (read_field (2 ^ width - 1) 10 (drop k s))) where
+  module _ (h : i < count) {r : Option (ℕ × ℕ)} (e : r ≡ value_answer (length s) (read_field (2 ^ width - 1) 10 (drop k s))) where
     -- while values are left, the next one is there
-    pub listing-some : r ≡ NoNumber → ⊥
+    pub listing-some : r ≡ None → ⊥
     listing-some f = read_some (number width 10).read 0 (drop k s) (values_at width s at count) i count p.rest h p.left (value_none s width k e f)
 
-    pub listing-fits : (v next : ℕ) → r ≡ Number v next → v < 2 ^ width
+    pub listing-fits : (v next : ℕ) → r ≡ Some (v, next) → v < 2 ^ width
     listing-fits v next f = (value_found s width k v next e f).2
 
-    pub listing-next : (v next : ℕ) → r ≡ Number v next → Listing width s at count list₀ (set list i v) next (i + 1)
+    pub listing-next : (v next : ℕ) → r ≡ Some (v, next) → Listing width s at count list₀ (set list i v) next (i + 1)
     listing-next v next f =
         let l : List ℕ = values_at width s at count in
         let q = value_found s width k v next e f in

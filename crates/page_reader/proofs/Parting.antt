@@ -15,10 +15,9 @@ use Rattle.word.proofs.RunLaws.{length_run, first-get}
 use Rattle.word.specs.Lists.{filter}
 use Rattle.text.specs.Text.{give, read_field}
 use Rattle.text.specs.Format.{number, read_all}
-use Rattle.text.specs.Answer.{decimal_answer}
+use Rattle.text.specs.Answer.{value_answer}
 use Rattle.text.specs.Put.{put_text}
-use Rattle.text.specs.declared.Decimal.{Decimal}
-use Rattle.text.specs.declared.Decimal.TheVariants.{Number, NoNumber}
+use Rattle.std.specs.Prelude.{Option, Some, None}
 use Rattle.text.proofs.Putting.{put-nothing}
 use Rattle.heap.specs.State.{last_generation}
 use Rattle.heap.specs.Lent.{Lent, columns, cut, lent}
@@ -90,12 +89,12 @@ module _ (s : List ℕ) (at count : ℕ) (narrow₀ narrow : List ℕ) (f r k i 
         parted = λ x wide pool. recount x narrow₀ narrow wide pool p.same ∙ p.parted x wide pool ∙ ap (with_parted (cut x S narrow₀ wide pool)) e;
       }
 
-  module _ (h : i < count) {d : Decimal} (e : d ≡ decimal_answer (length s) (read_field (2 ^ 32 - 1) 10 (drop k s))) where
+  module _ (h : i < count) {d : Option (ℕ × ℕ)} (e : d ≡ value_answer (length s) (read_field (2 ^ 32 - 1) 10 (drop k s))) where
     -- while slots are left, the next one is there
-    pub parting-some : d ≡ NoNumber → ⊥
+    pub parting-some : d ≡ None → ⊥
     parting-some q = read_some (number 32 10).read 0 (drop k s) list i count p.rest h p.left (value_none s 32 k e q)
 
-    module _ (v next : ℕ) (q : d ≡ Number v next) where
+    module _ (v next : ℕ) (q : d ≡ Some (v, next)) where
       found : ((number 32 10).read (drop k s) ≡ give v (drop next s)) × (next ≤ length s) × (v < 2 ^ 32)
       found = value_found s 32 k v next e q
 

@@ -18,7 +18,6 @@ ghost use Rattle.page_reader.specs.Reading.{PageRead};
 use heap::{Changed, Heap};
 use page_check::{Checked, Sections, SlotLine};
 use refusal::Reply;
-use text::Decimal;
 
 // Puts the numbers of `count` slots, whose lines stand from `at` on, into their runs.
 fn fill_slots(s: &[u8], at: usize, count: usize, narrow: &mut [u32], wide: &mut [u64])
@@ -90,7 +89,7 @@ fn fill_indices(s: &[u8], at: usize, count: usize, list: &mut [u32])
     let mut k = at;
     let mut i = 0;
     while i < count {
-        let Decimal::Number(v, next) = text::get_field(s, k, 4294967295, 10) else {
+        let Some((v, next)) = text::get_field(s, k, 4294967295, 10) else {
             return;
         };
         list[i] = v as u32;
@@ -108,7 +107,7 @@ fn fill_handles(s: &[u8], at: usize, count: usize, list: &mut [u64])
     let mut k = at;
     let mut i = 0;
     while i < count {
-        let Decimal::Number(v, next) = text::get_field(s, k, 18446744073709551615, 10) else {
+        let Some((v, next)) = text::get_field(s, k, 18446744073709551615, 10) else {
             return;
         };
         list[i] = v;
@@ -156,7 +155,7 @@ fn part_free(s: &[u8], at: usize, count: usize, narrow: &mut [u32]) -> Counts
     let mut k = at;
     let mut i = 0;
     while i < count {
-        let Decimal::Number(v, next) = text::get_field(s, k, 4294967295, 10) else {
+        let Some((v, next)) = text::get_field(s, k, 4294967295, 10) else {
             return Counts {
                 free: 0,
                 retired: 0,

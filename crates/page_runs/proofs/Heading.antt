@@ -15,11 +15,8 @@ use Rattle.word.proofs.ListLaws.{drop-cons-one}
 use Rattle.word.proofs.PutLaws.{take_put}
 use Rattle.text.specs.Text.{give, ascii, comma, decimal, digit_of, read_literal, read_field}
 use Rattle.text.specs.Format.{number}
-use Rattle.text.specs.Answer.{decimal_answer, literal_answer}
-use Rattle.text.specs.declared.Decimal.{Decimal}
-use Rattle.text.specs.declared.Decimal.TheVariants.{Number, NoNumber}
-use Rattle.text.specs.declared.Literal.{Literal}
-use Rattle.text.specs.declared.Literal.TheVariants.{Past, Missing}
+use Rattle.text.specs.Answer.{value_answer, literal_answer}
+use Rattle.std.specs.Prelude.{Option, Some, None}
 use Rattle.text.proofs.Laws.{decimal-length, literal-back, number-right}
 use Rattle.text.proofs.Getting.{answer-none, field_found, literal-found, literal-lost}
 use Rattle.script.specs.Script.{run_script}
@@ -38,29 +35,29 @@ lost s e = record { none = λ z. e; some = λ n. absurd (n refl) }
 abbrev alloc_name : List ℕ
 alloc_name = 97 ∷ 108 ∷ 108 ∷ 111 ∷ 99 ∷ 44 ∷ []
 
-module _ (s : List ℕ) (r : Literal) (e : r ≡ literal_answer (length s) (read_literal alloc_name (drop 0 s))) where
-  pub no_name : r ≡ Missing → HeadFound s 0
+module _ (s : List ℕ) (r : Option ℕ) (e : r ≡ literal_answer (length s) (read_literal alloc_name (drop 0 s))) where
+  pub no_name : r ≡ None → HeadFound s 0
   unfolding read_head ascii
   no_name f = lost s (rw (literal-lost alloc_name s 0 e f))
 
-  module _ (a : ℕ) (f : r ≡ Past a) (q : Decimal) (e₂ : q ≡ decimal_answer (length s) (read_field 4294967295 44 (drop a s))) where
+  module _ (a : ℕ) (f : r ≡ Some a) (q : Option (ℕ × ℕ)) (e₂ : q ≡ value_answer (length s) (read_field 4294967295 44 (drop a s))) where
     name-read : read_literal alloc_name s ≡ some (drop a s)
     name-read = (literal-found alloc_name s 0 a e f).0
 
-    pub no-type : q ≡ NoNumber → HeadFound s 0
+    pub no-type : q ≡ None → HeadFound s 0
     unfolding read_head ascii number
     no-type g = lost s (rw (name-read, answer-none s (read_field 4294967295 44 (drop a s)) e₂ g))
 
-    module _ (t b : ℕ) (g : q ≡ Number t b) (p : Decimal) (e₃ : p ≡ decimal_answer (length s) (read_field 255 44 (drop b s))) where
+    module _ (t b : ℕ) (g : q ≡ Some (t, b)) (p : Option (ℕ × ℕ)) (e₃ : p ≡ value_answer (length s) (read_field 255 44 (drop b s))) where
       type-found : ((number 32 comma).read (drop a s) ≡ give t (drop b s)) × (b ≤ length s) × (t < 2 ^ 32)
       unfolding number
       type-found = field_found s 32 44 a t b no-comma e₂ g
 
-      pub no_kind : p ≡ NoNumber → HeadFound s 0
+      pub no_kind : p ≡ None → HeadFound s 0
       unfolding read_head ascii number
       no_kind k = lost s (rw (name-read, type-found.0, answer-none s (read_field 255 44 (drop b s)) e₃ k))
 
-      pub found : (k c : ℕ) → p ≡ Number k c → HeadFound s c
+      pub found : (k c : ℕ) → p ≡ Some (k, c) → HeadFound s c
       unfolding head_of ascii number
       found k c h =
           let w = field_found s 8 44 b k c no-comma e₃ h in

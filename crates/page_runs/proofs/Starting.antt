@@ -2,15 +2,15 @@
 use Prim.Native.Nat.{ℕ, ◌+◌, ◌-◌, ◌/◌, ◌≤◌, ◌<◌}
 use mathlib.Core.Bool.{Bool, true, false}
 use mathlib.Core.List.{List, [], ◌∷◌, ◌++◌}
-use mathlib.Core.Option.{Option, none, some}
+use mathlib.Core.Option as maybe
+use mathlib.Core.Option.{none, some}
 use mathlib.Core.Path.{◌≡◌, refl, sym, ap, ◌∙◌, subst}
 use native.Mathlib.Omega.{arith}
 use lib.ListN.{length, take, drop}
 use lib.Seq.{take-add, length-take-le, drop_at}
 use Rattle.text.specs.Text.{ascii, read_literal}
 use Rattle.text.specs.Answer.{literal_answer}
-use Rattle.text.specs.declared.Literal.{Literal}
-use Rattle.text.specs.declared.Literal.TheVariants.{Past, Missing}
+use Rattle.std.specs.Prelude.{Option, Some, None}
 use Rattle.text.proofs.Laws.{literal-back}
 use Rattle.refusal.specs.declared.Answer.{Answer}
 use Rattle.heap.specs.State.{data_of}
@@ -72,18 +72,18 @@ module _ (m w n v p : List ℕ) (lm : length m ≡ 64) (lw : length w ≡ 64) (l
 
 -- ---- the names line
 
-module _ (s : List ℕ) (r : Literal) (e : r ≡ literal_answer (length s) (read_literal names_line s)) where
-  pub is-named : (k : ℕ) → r ≡ Past k → true ≡ is_there (read_literal names_line s)
+module _ (s : List ℕ) (r : Option ℕ) (e : r ≡ literal_answer (length s) (read_literal names_line s)) where
+  pub is-named : (k : ℕ) → r ≡ Some k → true ≡ is_there (read_literal names_line s)
   is-named k f = go (read_literal names_line s) e
     where
-      go : (o : Option (List ℕ)) → r ≡ literal_answer (length s) o → true ≡ is_there o
+      go : (o : maybe.Option (List ℕ)) → r ≡ literal_answer (length s) o → true ≡ is_there o
       go none g = absurd (let z : ◌≡◌ {A = ℕ} 0 1 = cc in omega arith)
       go (some t) g = refl
 
-  pub not_named : r ≡ Missing → false ≡ is_there (read_literal names_line s)
+  pub not_named : r ≡ None → false ≡ is_there (read_literal names_line s)
   not_named f = go (read_literal names_line s) e
     where
-      go : (o : Option (List ℕ)) → r ≡ literal_answer (length s) o → false ≡ is_there o
+      go : (o : maybe.Option (List ℕ)) → r ≡ literal_answer (length s) o → false ≡ is_there o
       go none g = refl
       go (some t) g = absurd (let z : ◌≡◌ {A = ℕ} 0 1 = cc in omega arith)
 
@@ -96,14 +96,14 @@ goes-named : {l l' : Lent} {t : List ℕ} {r : Run} {b : List ℕ} → true ≡ 
 unfolding text_left
 goes-named {l} {l'} {t} {r} {b} e g = go (read_literal names_line t) refl e
   where
-    go : (o : Option (List ℕ)) → read_literal names_line t ≡ o → true ≡ is_there o → Goes Names l t r l' b
+    go : (o : maybe.Option (List ℕ)) → read_literal names_line t ≡ o → true ≡ is_there o → Goes Names l t r l' b
     go none q f = absurd (let z : ◌≡◌ {A = ℕ} 0 1 = cc in omega arith)
     go (some u) q f =
         let v : drop 23 t ≡ u = ap (drop 23) (sym (literal-back names_line t u q)) ∙ drop_at names_line u 23 names-length in
         record {
           good = g.good;
           same = λ failed rest.
-              ap (λ (o : Option (List ℕ)). after_names failed o (view l)) (literal-on names_line t u rest q ∙ ap (λ (x : List ℕ). some (x ++ rest)) (sym v))
+              ap (λ (o : maybe.Option (List ℕ)). after_names failed o (view l)) (literal-on names_line t u rest q ∙ ap (λ (x : List ℕ). some (x ++ rest)) (sym v))
               ∙ g.same failed rest;
         }
 
@@ -115,7 +115,7 @@ after_line b n h k =
     let e : n ≡ 23 + (n - 23) = omega arith in
     sym (ap (λ (m : ℕ). drop 23 (take m b)) e ∙ ap (drop 23) (take-add 23 (n - 23) b) ∙ drop_at (take 23 b) (take (n - 23) (drop 23 b)) 23 (length-take-le 23 b (omega arith)))
 
-gone : (o : Option (List ℕ)) → false ≡ is_there o → o ≡ none
+gone : (o : maybe.Option (List ℕ)) → false ≡ is_there o → o ≡ none
 gone none f = refl
 gone (some x) f = absurd (let z : ◌≡◌ {A = ℕ} 0 1 = cc in omega arith)
 
@@ -141,7 +141,7 @@ module _ {l : Lent} (lies : Lies l) (b : List ℕ) (n : ℕ) (h : Heap) (at : At
         (record {
           good = record { heap = lies; short = tt; room = omega arith };
           same = λ failed rest.
-              ap (λ (o : Option (List ℕ)). after_names failed o (view l))
+              ap (λ (o : maybe.Option (List ℕ)). after_names failed o (view l))
               (literal-never names_line (take n b) rest (omega (arith, names-length, length-take-le n b (omega arith))) (gone (read_literal names_line (take n b)) f));
         })
 

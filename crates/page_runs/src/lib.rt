@@ -14,7 +14,6 @@ ghost use Rattle.page_runs.specs.Inner.Steps.{text_left, Lies, Good, Begun, Goes
 ghost use Rattle.page_runs.specs.Inner.Long.{Open, HeadFound, is_hex, Shortens};
 
 use heap::Heap;
-use text::{Decimal, Literal};
 
 // Where a run stands: the names line is due, lines are run, or it is over and prints this number.
 #[derive(Clone, Copy)]
@@ -72,13 +71,13 @@ fn ready(s: &[u8], from: usize, end: usize) -> usize
 fn data_start(s: &[u8]) -> usize
     ensures { HeadFound s.now result }
 {
-    let Literal::Past(a) = text::expect(s, 0, b"alloc,") else {
+    let Some(a) = text::expect(s, 0, b"alloc,") else {
         return 0;
     };
-    let Decimal::Number(_, b) = text::get_field(s, a, 4294967295, 44) else {
+    let Some((_, b)) = text::get_field(s, a, 4294967295, 44) else {
         return 0;
     };
-    let Decimal::Number(_, c) = text::get_field(s, b, 255, 44) else {
+    let Some((_, c)) = text::get_field(s, b, 255, 44) else {
         return 0;
     };
     c
@@ -242,8 +241,8 @@ fn named(s: &[u8], n: usize) -> bool
     ensures { result ≡ is_there (read_literal names_line (take n s.now)) }
 {
     match text::expect(&s[..n], 0, b"call,number,kind,bytes\n") {
-        Literal::Past(_) => true,
-        Literal::Missing => false,
+        Some(_) => true,
+        None => false,
     }
 }
 

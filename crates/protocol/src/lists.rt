@@ -3,7 +3,6 @@ ghost use Rattle.std.specs.Prelude.{◌≤◌};
 
 use crate::read::{byte_at, ends, past};
 use crate::{Bytes, HALF, Halves, Words, least};
-use text::Decimal;
 
 // Where what a field has put into a list ends there, and where the field after it begins.
 #[derive(Clone, Copy)]
@@ -123,7 +122,7 @@ pub fn words(line: &[u8], at: usize, most: u64, into: &mut Words, from: usize, t
     let mut i = at;
     let mut k = from;
     while k < top {
-        let Decimal::Number(x, next) = text::get_decimal(line, i, most) else {
+        let Some((x, next)) = text::get_decimal(line, i, most) else {
             return Run::Bad;
         };
         into[k] = x;
@@ -142,10 +141,10 @@ pub fn low(x: u64) -> u32 {
 }
 
 // A number after a colon at `at`, of at most `most`.
-fn after_colon(line: &[u8], at: usize, most: u64) -> Decimal {
+fn after_colon(line: &[u8], at: usize, most: u64) -> Option<(u64, usize)> {
     let from = past(line, at, 58);
     if from == at {
-        return Decimal::NoNumber;
+        return None;
     }
     text::get_decimal(line, from, most)
 }
@@ -159,13 +158,13 @@ enum Three {
 
 // A number; OFFSET:KIND or OFFSET:KIND:TYPE, the kind of 8 bits.
 fn entry_of_map(line: &[u8], x: u64, at: usize) -> Three {
-    let Decimal::Number(y, a) = after_colon(line, at, 255) else {
+    let Some((y, a)) = after_colon(line, at, 255) else {
         return Three::Bad;
     };
     if past(line, a, 58) == a {
         return Three::Is(x, y, 0, a);
     }
-    let Decimal::Number(z, b) = after_colon(line, a, HALF) else {
+    let Some((z, b)) = after_colon(line, a, HALF) else {
         return Three::Bad;
     };
     Three::Is(x, y, z, b)
@@ -173,7 +172,7 @@ fn entry_of_map(line: &[u8], x: u64, at: usize) -> Three {
 
 // An entry of one number, of two with a colon between them, or of a frame's map, which takes three.
 fn entry(line: &[u8], at: usize, width: usize) -> Three {
-    let Decimal::Number(x, a) = text::get_decimal(line, at, HALF) else {
+    let Some((x, a)) = text::get_decimal(line, at, HALF) else {
         return Three::Bad;
     };
     if width == 1 {
@@ -182,7 +181,7 @@ fn entry(line: &[u8], at: usize, width: usize) -> Three {
     if width == 3 {
         return entry_of_map(line, x, a);
     }
-    let Decimal::Number(y, b) = after_colon(line, a, HALF) else {
+    let Some((y, b)) = after_colon(line, a, HALF) else {
         return Three::Bad;
     };
     Three::Is(x, y, 0, b)

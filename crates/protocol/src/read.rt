@@ -1,6 +1,5 @@
 // The fields of a line, one space between two of them. What stands after the last field that a command wants isn't looked at.
 use crate::find;
-use text::Decimal;
 
 // A number, and where the field after it begins.
 #[derive(Clone, Copy)]
@@ -43,7 +42,7 @@ fn whole(line: &[u8], x: u64, at: usize) -> Field {
 
 // The number at `at`, of at most `most`.
 pub fn number(line: &[u8], at: usize, most: u64) -> Field {
-    let Decimal::Number(x, next) = text::get_decimal(line, at, most) else {
+    let Some((x, next)) = text::get_decimal(line, at, most) else {
         return Field::Bad;
     };
     whole(line, x, next)

@@ -3,20 +3,16 @@ use Prim.Native.Nat.{ℕ, ◌≤◌, ◌<◌, ◌^◌}
 use native.Mathlib.Omega.{arith}
 use mathlib.Core.Bool.{Bool, true, false}
 use mathlib.Core.List.{List, [], ◌∷◌}
-use mathlib.Core.Option.{Option, none}
+use mathlib.Core.Option as maybe
+use mathlib.Core.Option.{none}
 use mathlib.Core.Path.{◌≡◌, refl, sym, ap, ◌∙◌, subst}
 use denote.Enum.Declared.{tag_of}
 use types.Run.{OneOf, miss}
 use lib.ListN.{length, drop, length-drop, drop_of_length-le}
 use Rattle.text.specs.Text.{give, ascii, comma, newline, digit_of, read_hex, read_literal, read_field}
 use Rattle.text.specs.Format.{number, bytes_line, pair}
-use Rattle.text.specs.Answer.{decimal_answer, literal_answer, hex_answer, hex_at}
-use Rattle.text.specs.declared.Decimal.{Decimal}
-use Rattle.text.specs.declared.Decimal.TheVariants.{Number, NoNumber}
-use Rattle.text.specs.declared.Literal.{Literal}
-use Rattle.text.specs.declared.Literal.TheVariants.{Past, Missing}
-use Rattle.text.specs.declared.Hex.{Hex}
-use Rattle.text.specs.declared.Hex.TheVariants.{Count, NoHex}
+use Rattle.text.specs.Answer.{value_answer, literal_answer, hex_answer, hex_at}
+use Rattle.std.specs.Prelude.{Option, Some, None}
 use Rattle.text.proofs.Getting.{answer-none, field_found, hex-found, hex-missing, literal-found, literal-lost}
 use Rattle.script.specs.Script.{alloc_format}
 use Rattle.rehearsal.specs.Lines.{Line as Step, alloc, store, drop as drops, store_format, read_alloc, read_store, read_drop, read_line, is_text}
@@ -40,12 +36,12 @@ hex-at s b bs rest e = rw (hex_at, e)
 
 -- ---- `alloc`: type, kind, data
 
-module _ (s : List ℕ) (at : ℕ) (r : Decimal) (e : r ≡ decimal_answer (length s) (read_field 4294967295 44 (drop at s))) where
-  pub no-type : r ≡ NoNumber → read_alloc (drop at s) ≡ none
+module _ (s : List ℕ) (at : ℕ) (r : Option (ℕ × ℕ)) (e : r ≡ value_answer (length s) (read_field 4294967295 44 (drop at s))) where
+  pub no-type : r ≡ None → read_alloc (drop at s) ≡ none
   unfolding read_alloc alloc_format pair number
   no-type f = rw (answer-none s (read_field 4294967295 44 (drop at s)) e f)
 
-  module _ (t a : ℕ) (f : r ≡ Number t a) (q : Decimal) (e₂ : q ≡ decimal_answer (length s) (read_field 255 44 (drop a s))) where
+  module _ (t a : ℕ) (f : r ≡ Some (t, a)) (q : Option (ℕ × ℕ)) (e₂ : q ≡ value_answer (length s) (read_field 255 44 (drop a s))) where
     type-read : (number 32 comma).read (drop at s) ≡ give t (drop a s)
     unfolding number
     type-read = (field_found s 32 44 at t a no-comma e f).0
@@ -54,20 +50,20 @@ module _ (s : List ℕ) (at : ℕ) (r : Decimal) (e : r ≡ decimal_answer (leng
     unfolding number
     type-narrow = (field_found s 32 44 at t a no-comma e f).2
 
-    pub no_kind : q ≡ NoNumber → read_alloc (drop at s) ≡ none
+    pub no_kind : q ≡ None → read_alloc (drop at s) ≡ none
     unfolding read_alloc alloc_format pair number
     no_kind g = rw (type-read, answer-none s (read_field 255 44 (drop a s)) e₂ g)
 
-    module _ (k b : ℕ) (g : q ≡ Number k b) (p : Hex) (e₃ : p ≡ hex_answer (length s) (read_hex (drop b s))) where
+    module _ (k b : ℕ) (g : q ≡ Some (k, b)) (p : Option (ℕ × ℕ)) (e₃ : p ≡ hex_answer (length s) (read_hex (drop b s))) where
       kind-read : (number 8 comma).read (drop a s) ≡ give k (drop b s)
       unfolding number
       kind-read = (field_found s 8 44 a k b no-comma e₂ g).0
 
-      pub no-data : p ≡ NoHex → read_alloc (drop at s) ≡ none
+      pub no-data : p ≡ None → read_alloc (drop at s) ≡ none
       unfolding read_alloc alloc_format pair bytes_line
       no-data h = rw (type-read, kind-read, hex-missing s b e₃ h)
 
-      pub alloc-read : (n c : ℕ) → p ≡ Count n c → AllocRead (read_alloc (drop at s)) s (record { ty = t; kind = k; from = b; count = n; next = c })
+      pub alloc-read : (n c : ℕ) → p ≡ Some (n, c) → AllocRead (read_alloc (drop at s)) s (record { ty = t; kind = k; from = b; count = n; next = c })
       unfolding read_alloc alloc_format pair bytes_line
       alloc-read n c h =
           let x = hex-found s b n c e₃ h in
@@ -79,30 +75,30 @@ module _ (s : List ℕ) (at : ℕ) (r : Decimal) (e : r ≡ decimal_answer (leng
 
 -- ---- `store`: two turns, an offset
 
-module _ (s : List ℕ) (at : ℕ) (r : Decimal) (e : r ≡ decimal_answer (length s) (read_field 18446744073709551615 44 (drop at s))) where
-  pub no-held : r ≡ NoNumber → read_store (drop at s) ≡ none
+module _ (s : List ℕ) (at : ℕ) (r : Option (ℕ × ℕ)) (e : r ≡ value_answer (length s) (read_field 18446744073709551615 44 (drop at s))) where
+  pub no-held : r ≡ None → read_store (drop at s) ≡ none
   unfolding read_store store_format pair number
   no-held f = rw (answer-none s (read_field 18446744073709551615 44 (drop at s)) e f)
 
-  module _ (x a : ℕ) (f : r ≡ Number x a) (q : Decimal) (e₂ : q ≡ decimal_answer (length s) (read_field 18446744073709551615 44 (drop a s))) where
+  module _ (x a : ℕ) (f : r ≡ Some (x, a)) (q : Option (ℕ × ℕ)) (e₂ : q ≡ value_answer (length s) (read_field 18446744073709551615 44 (drop a s))) where
     held-read : (number 64 comma).read (drop at s) ≡ give x (drop a s)
     unfolding number
     held-read = (field_found s 64 44 at x a no-comma e f).0
 
-    pub no-into : q ≡ NoNumber → read_store (drop at s) ≡ none
+    pub no-into : q ≡ None → read_store (drop at s) ≡ none
     unfolding read_store store_format pair number
     no-into g = rw (held-read, answer-none s (read_field 18446744073709551615 44 (drop a s)) e₂ g)
 
-    module _ (y b : ℕ) (g : q ≡ Number y b) (p : Decimal) (e₃ : p ≡ decimal_answer (length s) (read_field 18446744073709551615 10 (drop b s))) where
+    module _ (y b : ℕ) (g : q ≡ Some (y, b)) (p : Option (ℕ × ℕ)) (e₃ : p ≡ value_answer (length s) (read_field 18446744073709551615 10 (drop b s))) where
       into-read : (number 64 comma).read (drop a s) ≡ give y (drop b s)
       unfolding number
       into-read = (field_found s 64 44 a y b no-comma e₂ g).0
 
-      pub no-offset : p ≡ NoNumber → read_store (drop at s) ≡ none
+      pub no-offset : p ≡ None → read_store (drop at s) ≡ none
       unfolding read_store store_format pair number
       no-offset h = rw (held-read, into-read, answer-none s (read_field 18446744073709551615 10 (drop b s)) e₃ h)
 
-      pub store-read : (o c : ℕ) → p ≡ Number o c → Reads (read_store (drop at s)) s (store x y o) c
+      pub store-read : (o c : ℕ) → p ≡ Some (o, c) → Reads (read_store (drop at s)) s (store x y o) c
       unfolding read_store store_format pair number
       store-read o c h =
           let z = field_found s 64 10 b o c no-newline e₃ h in
@@ -110,12 +106,12 @@ module _ (s : List ℕ) (at : ℕ) (r : Decimal) (e : r ≡ decimal_answer (leng
 
 -- ---- `drop`: a turn
 
-module _ (s : List ℕ) (at : ℕ) (r : Decimal) (e : r ≡ decimal_answer (length s) (read_field 18446744073709551615 10 (drop at s))) where
-  pub no-dropped : r ≡ NoNumber → read_drop (drop at s) ≡ none
+module _ (s : List ℕ) (at : ℕ) (r : Option (ℕ × ℕ)) (e : r ≡ value_answer (length s) (read_field 18446744073709551615 10 (drop at s))) where
+  pub no-dropped : r ≡ None → read_drop (drop at s) ≡ none
   unfolding read_drop number
   no-dropped f = rw (answer-none s (read_field 18446744073709551615 10 (drop at s)) e f)
 
-  pub drop-read : (x a : ℕ) → r ≡ Number x a → Reads (read_drop (drop at s)) s (drops x) a
+  pub drop-read : (x a : ℕ) → r ≡ Some (x, a) → Reads (read_drop (drop at s)) s (drops x) a
   unfolding read_drop number
   drop-read x a f =
       let z = field_found s 64 10 at x a no-newline e f in
@@ -132,22 +128,22 @@ store_name = 115 ∷ 116 ∷ 111 ∷ 114 ∷ 101 ∷ 44 ∷ []
 abbrev drop_name : List ℕ
 drop_name = 100 ∷ 114 ∷ 111 ∷ 112 ∷ 44 ∷ []
 
-module _ (s : List ℕ) (at : ℕ) (r : Literal) (e : r ≡ literal_answer (length s) (read_literal alloc_name (drop at s))) where
-  pub by-alloc : (a : ℕ) → r ≡ Past a → (l : Line) → LineRead (read_alloc (drop a s)) s l → LineRead (read_line (drop at s)) s l
+module _ (s : List ℕ) (at : ℕ) (r : Option ℕ) (e : r ≡ literal_answer (length s) (read_literal alloc_name (drop at s))) where
+  pub by-alloc : (a : ℕ) → r ≡ Some a → (l : Line) → LineRead (read_alloc (drop a s)) s l → LineRead (read_line (drop at s)) s l
   unfolding read_line ascii
-  by-alloc a f l h = subst (λ (o : Option (Step × List ℕ)). LineRead o s l) (rw (literal-found alloc_name s at a e f).0) h
+  by-alloc a f l h = subst (λ (o : maybe.Option (Step × List ℕ)). LineRead o s l) (rw (literal-found alloc_name s at a e f).0) h
 
-  module _ (f : r ≡ Missing) (r₂ : Literal) (e₂ : r₂ ≡ literal_answer (length s) (read_literal store_name (drop at s))) where
-    pub by-store : (a : ℕ) → r₂ ≡ Past a → (l : Line) → LineRead (read_store (drop a s)) s l → LineRead (read_line (drop at s)) s l
+  module _ (f : r ≡ None) (r₂ : Option ℕ) (e₂ : r₂ ≡ literal_answer (length s) (read_literal store_name (drop at s))) where
+    pub by-store : (a : ℕ) → r₂ ≡ Some a → (l : Line) → LineRead (read_store (drop a s)) s l → LineRead (read_line (drop at s)) s l
     unfolding read_line ascii
-    by-store a g l h = subst (λ (o : Option (Step × List ℕ)). LineRead o s l) (rw (literal-lost alloc_name s at e f, (literal-found store_name s at a e₂ g).0)) h
+    by-store a g l h = subst (λ (o : maybe.Option (Step × List ℕ)). LineRead o s l) (rw (literal-lost alloc_name s at e f, (literal-found store_name s at a e₂ g).0)) h
 
-    module _ (g : r₂ ≡ Missing) (r₃ : Literal) (e₃ : r₃ ≡ literal_answer (length s) (read_literal drop_name (drop at s))) where
-      pub by-drop : (a : ℕ) → r₃ ≡ Past a → (l : Line) → LineRead (read_drop (drop a s)) s l → LineRead (read_line (drop at s)) s l
+    module _ (g : r₂ ≡ None) (r₃ : Option ℕ) (e₃ : r₃ ≡ literal_answer (length s) (read_literal drop_name (drop at s))) where
+      pub by-drop : (a : ℕ) → r₃ ≡ Some a → (l : Line) → LineRead (read_drop (drop a s)) s l → LineRead (read_line (drop at s)) s l
       unfolding read_line ascii
-      by-drop a h l k = subst (λ (o : Option (Step × List ℕ)). LineRead o s l) (rw (literal-lost alloc_name s at e f, literal-lost store_name s at e₂ g, (literal-found drop_name s at a e₃ h).0)) k
+      by-drop a h l k = subst (λ (o : maybe.Option (Step × List ℕ)). LineRead o s l) (rw (literal-lost alloc_name s at e f, literal-lost store_name s at e₂ g, (literal-found drop_name s at a e₃ h).0)) k
 
-      pub no_name : r₃ ≡ Missing → read_line (drop at s) ≡ none
+      pub no_name : r₃ ≡ None → read_line (drop at s) ≡ none
       unfolding read_line ascii
       no_name h = rw (literal-lost alloc_name s at e f, literal-lost store_name s at e₂ g, literal-lost drop_name s at e₃ h)
 

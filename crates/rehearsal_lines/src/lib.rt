@@ -6,7 +6,6 @@ ghost use Rattle.rehearsal.specs.Lines.{read_alloc, read_store, read_drop, read_
 ghost use Rattle.rehearsal_lines.specs.Found.{LineRead, next_after};
 
 use script::AllocLine;
-use text::{Decimal, Hex, Literal};
 
 // A line `store`: the turns of what is stored and of what it is stored into, the offset, and where the next line begins.
 #[derive(Clone, Copy)]
@@ -30,13 +29,13 @@ pub enum Line {
 fn read_alloc(s: &[u8], at: usize) -> Line
     ensures { LineRead (read_alloc (drop at s.now)) s.now result }
 {
-    let Decimal::Number(t, a) = text::get_field(s, at, 4294967295, 44) else {
+    let Some((t, a)) = text::get_field(s, at, 4294967295, 44) else {
         return Line::Bad;
     };
-    let Decimal::Number(k, b) = text::get_field(s, a, 255, 44) else {
+    let Some((k, b)) = text::get_field(s, a, 255, 44) else {
         return Line::Bad;
     };
-    let Hex::Count(n, c) = text::count_hex(s, b) else {
+    let Some((n, c)) = text::count_hex(s, b) else {
         return Line::Bad;
     };
     Line::Alloc(AllocLine {
@@ -52,13 +51,13 @@ fn read_alloc(s: &[u8], at: usize) -> Line
 fn read_store(s: &[u8], at: usize) -> Line
     ensures { LineRead (read_store (drop at s.now)) s.now result }
 {
-    let Decimal::Number(x, a) = text::get_field(s, at, 18446744073709551615, 44) else {
+    let Some((x, a)) = text::get_field(s, at, 18446744073709551615, 44) else {
         return Line::Bad;
     };
-    let Decimal::Number(y, b) = text::get_field(s, a, 18446744073709551615, 44) else {
+    let Some((y, b)) = text::get_field(s, a, 18446744073709551615, 44) else {
         return Line::Bad;
     };
-    let Decimal::Number(o, c) = text::get_field(s, b, 18446744073709551615, 10) else {
+    let Some((o, c)) = text::get_field(s, b, 18446744073709551615, 10) else {
         return Line::Bad;
     };
     Line::Store(StoreLine {
@@ -73,7 +72,7 @@ fn read_store(s: &[u8], at: usize) -> Line
 fn read_drop(s: &[u8], at: usize) -> Line
     ensures { LineRead (read_drop (drop at s.now)) s.now result }
 {
-    let Decimal::Number(x, a) = text::get_field(s, at, 18446744073709551615, 10) else {
+    let Some((x, a)) = text::get_field(s, at, 18446744073709551615, 10) else {
         return Line::Bad;
     };
     Line::Drop(x, a)
@@ -85,12 +84,12 @@ pub fn read_line(s: &[u8], at: usize) -> Line
     ensures { LineRead (read_line (drop at s.now)) s.now result }
 {
     match text::expect(s, at, b"alloc,") {
-        Literal::Past(a) => read_alloc(s, a),
-        Literal::Missing => match text::expect(s, at, b"store,") {
-            Literal::Past(a) => read_store(s, a),
-            Literal::Missing => match text::expect(s, at, b"drop,") {
-                Literal::Past(a) => read_drop(s, a),
-                Literal::Missing => Line::Bad,
+        Some(a) => read_alloc(s, a),
+        None => match text::expect(s, at, b"store,") {
+            Some(a) => read_store(s, a),
+            None => match text::expect(s, at, b"drop,") {
+                Some(a) => read_drop(s, a),
+                None => Line::Bad,
             },
         },
     }

@@ -2,20 +2,16 @@
 use Prim.Native.Nat.{ℕ, ◌≤◌, ◌<◌, ◌^◌}
 use mathlib.Core.Bool.{true, false}
 use mathlib.Core.List.{List, [], ◌∷◌}
-use mathlib.Core.Option.{Option, none}
+use mathlib.Core.Option as maybe
+use mathlib.Core.Option.{none}
 use mathlib.Core.Path.{◌≡◌, refl, sym, ap, ◌∙◌, subst}
 use denote.Enum.Declared.{tag_of}
 use types.Run.{OneOf, miss}
 use lib.ListN.{length, drop}
 use Rattle.text.specs.Text.{give, ascii, comma, digit_of, read_hex, read_literal, read_field}
 use Rattle.text.specs.Format.{number, bytes_line, pair}
-use Rattle.text.specs.Answer.{decimal_answer, literal_answer, hex_answer, hex_at}
-use Rattle.text.specs.declared.Decimal.{Decimal}
-use Rattle.text.specs.declared.Decimal.TheVariants.{Number, NoNumber}
-use Rattle.text.specs.declared.Literal.{Literal}
-use Rattle.text.specs.declared.Literal.TheVariants.{Past, Missing}
-use Rattle.text.specs.declared.Hex.{Hex}
-use Rattle.text.specs.declared.Hex.TheVariants.{Count, NoHex}
+use Rattle.text.specs.Answer.{value_answer, literal_answer, hex_answer, hex_at}
+use Rattle.std.specs.Prelude.{Option, Some, None}
 use Rattle.text.proofs.Getting.{answer-none, field_found, hex-found, hex-missing, literal-found, literal-lost}
 use Rattle.script.specs.Script.{Call, alloc, take, seal, recycle, alloc_format, read_alloc, read_take, read_call, begins_call}
 use Rattle.script.specs.Found.{AllocRead, Reads, LineRead}
@@ -34,12 +30,12 @@ hex-at s b bs rest e = rw (hex_at, e)
 
 -- ---- `alloc`: type, kind, data
 
-module _ (s : List ℕ) (at : ℕ) (r : Decimal) (e : r ≡ decimal_answer (length s) (read_field 4294967295 44 (drop at s))) where
-  pub no-type : r ≡ NoNumber → read_alloc (drop at s) ≡ none
+module _ (s : List ℕ) (at : ℕ) (r : Option (ℕ × ℕ)) (e : r ≡ value_answer (length s) (read_field 4294967295 44 (drop at s))) where
+  pub no-type : r ≡ None → read_alloc (drop at s) ≡ none
   unfolding read_alloc alloc_format pair number
   no-type f = rw (answer-none s (read_field 4294967295 44 (drop at s)) e f)
 
-  module _ (t a : ℕ) (f : r ≡ Number t a) (q : Decimal) (e₂ : q ≡ decimal_answer (length s) (read_field 255 44 (drop a s))) where
+  module _ (t a : ℕ) (f : r ≡ Some (t, a)) (q : Option (ℕ × ℕ)) (e₂ : q ≡ value_answer (length s) (read_field 255 44 (drop a s))) where
     type-read : (number 32 comma).read (drop at s) ≡ give t (drop a s)
     unfolding number
     type-read = (field_found s 32 44 at t a no-comma e f).0
@@ -48,20 +44,20 @@ module _ (s : List ℕ) (at : ℕ) (r : Decimal) (e : r ≡ decimal_answer (leng
     unfolding number
     type-narrow = (field_found s 32 44 at t a no-comma e f).2
 
-    pub no_kind : q ≡ NoNumber → read_alloc (drop at s) ≡ none
+    pub no_kind : q ≡ None → read_alloc (drop at s) ≡ none
     unfolding read_alloc alloc_format pair number
     no_kind g = rw (type-read, answer-none s (read_field 255 44 (drop a s)) e₂ g)
 
-    module _ (k b : ℕ) (g : q ≡ Number k b) (p : Hex) (e₃ : p ≡ hex_answer (length s) (read_hex (drop b s))) where
+    module _ (k b : ℕ) (g : q ≡ Some (k, b)) (p : Option (ℕ × ℕ)) (e₃ : p ≡ hex_answer (length s) (read_hex (drop b s))) where
       kind-read : (number 8 comma).read (drop a s) ≡ give k (drop b s)
       unfolding number
       kind-read = (field_found s 8 44 a k b no-comma e₂ g).0
 
-      pub no-data : p ≡ NoHex → read_alloc (drop at s) ≡ none
+      pub no-data : p ≡ None → read_alloc (drop at s) ≡ none
       unfolding read_alloc alloc_format pair bytes_line
       no-data h = rw (type-read, kind-read, hex-missing s b e₃ h)
 
-      pub alloc-read : (n c : ℕ) → p ≡ Count n c → AllocRead (read_alloc (drop at s)) s (record { ty = t; kind = k; from = b; count = n; next = c })
+      pub alloc-read : (n c : ℕ) → p ≡ Some (n, c) → AllocRead (read_alloc (drop at s)) s (record { ty = t; kind = k; from = b; count = n; next = c })
       unfolding read_alloc alloc_format pair bytes_line
       alloc-read n c h =
           let x = hex-found s b n c e₃ h in
@@ -74,12 +70,12 @@ module _ (s : List ℕ) (at : ℕ) (r : Decimal) (e : r ≡ decimal_answer (leng
 
 -- ---- `take`: handle, and fields that it does not use
 
-module _ (s : List ℕ) (at : ℕ) (r : Decimal) (e : r ≡ decimal_answer (length s) (read_field 18446744073709551615 44 (drop at s))) where
-  pub no-handle : r ≡ NoNumber → read_take (drop at s) ≡ none
+module _ (s : List ℕ) (at : ℕ) (r : Option (ℕ × ℕ)) (e : r ≡ value_answer (length s) (read_field 18446744073709551615 44 (drop at s))) where
+  pub no-handle : r ≡ None → read_take (drop at s) ≡ none
   unfolding read_take number
   no-handle f = rw (answer-none s (read_field 18446744073709551615 44 (drop at s)) e f)
 
-  module _ (x a : ℕ) (f : r ≡ Number x a) where
+  module _ (x a : ℕ) (f : r ≡ Some (x, a)) where
     handle-read : (number 64 comma).read (drop at s) ≡ give x (drop a s)
     unfolding number
     handle-read = (field_found s 64 44 at x a no-comma e f).0
@@ -88,12 +84,12 @@ module _ (s : List ℕ) (at : ℕ) (r : Decimal) (e : r ≡ decimal_answer (leng
     unfolding number
     handle-inside = (field_found s 64 44 at x a no-comma e f).1
 
-    module _ (q : Literal) (e₂ : q ≡ literal_answer (length s) (read_literal (48 ∷ 44 ∷ 10 ∷ []) (drop a s))) where
-      pub no-zeros : q ≡ Missing → read_take (drop at s) ≡ none
+    module _ (q : Option ℕ) (e₂ : q ≡ literal_answer (length s) (read_literal (48 ∷ 44 ∷ 10 ∷ []) (drop a s))) where
+      pub no-zeros : q ≡ None → read_take (drop at s) ≡ none
       unfolding read_take ascii
       no-zeros g = rw (handle-read, literal-lost (48 ∷ 44 ∷ 10 ∷ []) s a e₂ g)
 
-      pub take-read : (b : ℕ) → q ≡ Past b → Reads (read_take (drop at s)) s (take x) b
+      pub take-read : (b : ℕ) → q ≡ Some b → Reads (read_take (drop at s)) s (take x) b
       unfolding read_take ascii
       take-read b g =
           let y = literal-found (48 ∷ 44 ∷ 10 ∷ []) s a b e₂ g in
@@ -113,31 +109,31 @@ seal_line = 115 ∷ 101 ∷ 97 ∷ 108 ∷ 44 ∷ 48 ∷ 44 ∷ 48 ∷ 44 ∷ 10
 abbrev recycle_line : List ℕ
 recycle_line = 114 ∷ 101 ∷ 99 ∷ 121 ∷ 99 ∷ 108 ∷ 101 ∷ 44 ∷ 48 ∷ 44 ∷ 48 ∷ 44 ∷ 10 ∷ []
 
-module _ (s : List ℕ) (at : ℕ) (r : Literal) (e : r ≡ literal_answer (length s) (read_literal alloc_name (drop at s))) where
-  pub by-alloc : (a : ℕ) → r ≡ Past a → (l : Line) → LineRead (read_alloc (drop a s)) s l → LineRead (read_call (drop at s)) s l
+module _ (s : List ℕ) (at : ℕ) (r : Option ℕ) (e : r ≡ literal_answer (length s) (read_literal alloc_name (drop at s))) where
+  pub by-alloc : (a : ℕ) → r ≡ Some a → (l : Line) → LineRead (read_alloc (drop a s)) s l → LineRead (read_call (drop at s)) s l
   unfolding read_call ascii
-  by-alloc a f l h = subst (λ (o : Option (Call × List ℕ)). LineRead o s l) (rw (literal-found alloc_name s at a e f).0) h
+  by-alloc a f l h = subst (λ (o : maybe.Option (Call × List ℕ)). LineRead o s l) (rw (literal-found alloc_name s at a e f).0) h
 
-  module _ (f : r ≡ Missing) (r₂ : Literal) (e₂ : r₂ ≡ literal_answer (length s) (read_literal take_name (drop at s))) where
-    pub by-take : (a : ℕ) → r₂ ≡ Past a → (l : Line) → LineRead (read_take (drop a s)) s l → LineRead (read_call (drop at s)) s l
+  module _ (f : r ≡ None) (r₂ : Option ℕ) (e₂ : r₂ ≡ literal_answer (length s) (read_literal take_name (drop at s))) where
+    pub by-take : (a : ℕ) → r₂ ≡ Some a → (l : Line) → LineRead (read_take (drop a s)) s l → LineRead (read_call (drop at s)) s l
     unfolding read_call ascii
-    by-take a g l h = subst (λ (o : Option (Call × List ℕ)). LineRead o s l) (rw (literal-lost alloc_name s at e f, (literal-found take_name s at a e₂ g).0)) h
+    by-take a g l h = subst (λ (o : maybe.Option (Call × List ℕ)). LineRead o s l) (rw (literal-lost alloc_name s at e f, (literal-found take_name s at a e₂ g).0)) h
 
-    module _ (g : r₂ ≡ Missing) (r₃ : Literal) (e₃ : r₃ ≡ literal_answer (length s) (read_literal seal_line (drop at s))) where
-      pub seal-read : (a : ℕ) → r₃ ≡ Past a → Reads (read_call (drop at s)) s seal a
+    module _ (g : r₂ ≡ None) (r₃ : Option ℕ) (e₃ : r₃ ≡ literal_answer (length s) (read_literal seal_line (drop at s))) where
+      pub seal-read : (a : ℕ) → r₃ ≡ Some a → Reads (read_call (drop at s)) s seal a
       unfolding read_call ascii
       seal-read a h =
           let y = literal-found seal_line s at a e₃ h in
           record { call = rw (literal-lost alloc_name s at e f, literal-lost take_name s at e₂ g, y.0); inside = y.1 }
 
-      module _ (h : r₃ ≡ Missing) (r₄ : Literal) (e₄ : r₄ ≡ literal_answer (length s) (read_literal recycle_line (drop at s))) where
-        pub recycle-read : (a : ℕ) → r₄ ≡ Past a → Reads (read_call (drop at s)) s recycle a
+      module _ (h : r₃ ≡ None) (r₄ : Option ℕ) (e₄ : r₄ ≡ literal_answer (length s) (read_literal recycle_line (drop at s))) where
+        pub recycle-read : (a : ℕ) → r₄ ≡ Some a → Reads (read_call (drop at s)) s recycle a
         unfolding read_call ascii
         recycle-read a i =
             let y = literal-found recycle_line s at a e₄ i in
             record { call = rw (literal-lost alloc_name s at e f, literal-lost take_name s at e₂ g, literal-lost seal_line s at e₃ h, y.0); inside = y.1 }
 
-        pub no_name : r₄ ≡ Missing → read_call (drop at s) ≡ none
+        pub no_name : r₄ ≡ None → read_call (drop at s) ≡ none
         unfolding read_call ascii
         no_name i = rw (literal-lost alloc_name s at e f, literal-lost take_name s at e₂ g, literal-lost seal_line s at e₃ h, literal-lost recycle_line s at e₄ i)
 

@@ -5,8 +5,6 @@ ghost use Rattle.std.specs.Prelude.{◌≡◌, ◌≤◌, length, drop};
 ghost use Rattle.script.specs.Script.{read_alloc, read_take, read_call, begins_call};
 ghost use Rattle.script.specs.Found.{LineRead, next_after};
 
-use text::{Decimal, Hex, Literal};
-
 // A line `alloc`: type, kind, and data that stands in hexadecimal from `from` on; the next line begins at `next`.
 #[derive(Clone, Copy)]
 pub struct AllocLine {
@@ -31,13 +29,13 @@ pub enum Line {
 fn read_alloc(s: &[u8], at: usize) -> Line
     ensures { LineRead (read_alloc (drop at s.now)) s.now result }
 {
-    let Decimal::Number(t, a) = text::get_field(s, at, 4294967295, 44) else {
+    let Some((t, a)) = text::get_field(s, at, 4294967295, 44) else {
         return Line::Bad;
     };
-    let Decimal::Number(k, b) = text::get_field(s, a, 255, 44) else {
+    let Some((k, b)) = text::get_field(s, a, 255, 44) else {
         return Line::Bad;
     };
-    let Hex::Count(n, c) = text::count_hex(s, b) else {
+    let Some((n, c)) = text::count_hex(s, b) else {
         return Line::Bad;
     };
     Line::Alloc(AllocLine {
@@ -53,10 +51,10 @@ fn read_alloc(s: &[u8], at: usize) -> Line
 fn read_take(s: &[u8], at: usize) -> Line
     ensures { LineRead (read_take (drop at s.now)) s.now result }
 {
-    let Decimal::Number(x, a) = text::get_field(s, at, 18446744073709551615, 44) else {
+    let Some((x, a)) = text::get_field(s, at, 18446744073709551615, 44) else {
         return Line::Bad;
     };
-    let Literal::Past(b) = text::expect(s, a, b"0,\n") else {
+    let Some(b) = text::expect(s, a, b"0,\n") else {
         return Line::Bad;
     };
     Line::Take(x, b)
@@ -68,14 +66,14 @@ pub fn read_line(s: &[u8], at: usize) -> Line
     ensures { LineRead (read_call (drop at s.now)) s.now result }
 {
     match text::expect(s, at, b"alloc,") {
-        Literal::Past(a) => read_alloc(s, a),
-        Literal::Missing => match text::expect(s, at, b"take,") {
-            Literal::Past(a) => read_take(s, a),
-            Literal::Missing => match text::expect(s, at, b"seal,0,0,\n") {
-                Literal::Past(a) => Line::Seal(a),
-                Literal::Missing => match text::expect(s, at, b"recycle,0,0,\n") {
-                    Literal::Past(a) => Line::Recycle(a),
-                    Literal::Missing => Line::Bad,
+        Some(a) => read_alloc(s, a),
+        None => match text::expect(s, at, b"take,") {
+            Some(a) => read_take(s, a),
+            None => match text::expect(s, at, b"seal,0,0,\n") {
+                Some(a) => Line::Seal(a),
+                None => match text::expect(s, at, b"recycle,0,0,\n") {
+                    Some(a) => Line::Recycle(a),
+                    None => Line::Bad,
                 },
             },
         },

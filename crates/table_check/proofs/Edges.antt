@@ -1,18 +1,16 @@
 -- The first lines and the last ones of a table's text. Assumes nothing.
 use Prim.Native.Nat.{ℕ, ◌+◌, ◌-◌, ◌≤◌, ◌<◌}
 use mathlib.Core.List.{List, [], ◌∷◌, ◌++◌, append_assoc}
-use mathlib.Core.Option.{Option, none, some}
+use mathlib.Core.Option as maybe
+use mathlib.Core.Option.{none, some}
 use mathlib.Core.Logic.{◌⊎◌, inl, inr}
 use mathlib.Core.Path.{◌≡◌, refl, sym, ap, ◌∙◌, subst}
 use lib.ListN.{length, drop, length-append, length-drop, drop_of_length-le}
 use native.Mathlib.Omega.{arith}
 use Rattle.text.specs.Text.{give, ◌>>=◌, read_field, read_literal, read_hex, hex, newline, Bytes}
 use Rattle.text.specs.Format.{Format, Right, pair, after_literal, bytes_line}
-use Rattle.text.specs.Answer.{decimal_answer, hex_answer, hex_at, HexParsed}
-use Rattle.text.specs.declared.Decimal.{Decimal}
-use Rattle.text.specs.declared.Decimal.TheVariants.{Number, NoNumber}
-use Rattle.text.specs.declared.Hex.{Hex}
-use Rattle.text.specs.declared.Hex.TheVariants.{Count, NoHex}
+use Rattle.text.specs.Answer.{value_answer, hex_answer, hex_at, HexParsed}
+use Rattle.std.specs.Prelude.{Option, Some, None}
 use Rattle.text.proofs.Laws.{hex-back, hex-length}
 use Rattle.text.proofs.Getting.{suffix, answer-some, answer-none, hex-found, hex-missing}
 use Rattle.tables.specs.Table.{up_to, count_names, bytes_name, Counts, counts_format, bytes_format}
@@ -22,7 +20,7 @@ use Rattle.table_check.specs.declared.CountsRead.{CountsRead}
 use Rattle.table_check.specs.declared.CountsLine.TheVariants.{Counts as Counts-of, NoCounts}
 use Rattle.table_check.specs.declared.BytesLine.TheVariants.{Bytes as Bytes_of, NoBytes}
 
-field_in : (s : List ℕ) (most end at : ℕ) → Right (up_to most end) (λ n. n ≤ most) → {r : Decimal} (n k : ℕ) → r ≡ decimal_answer (length s) (read_field most end (drop at s)) → r ≡ Number n k →
+field_in : (s : List ℕ) (most end at : ℕ) → Right (up_to most end) (λ n. n ≤ most) → {r : Option (ℕ × ℕ)} (n k : ℕ) → r ≡ value_answer (length s) (read_field most end (drop at s)) → r ≡ Some (n, k) →
     (read_field most end (drop at s) ≡ give n (drop k s)) × (k ≤ length s) × (n ≤ most)
 unfolding up_to
 field_in s most end at right n k e f =
@@ -39,22 +37,22 @@ module _ (s : List ℕ) where
   counts-nameless e = no-counts (rw e)
 
   module _ (a : ℕ) (e0 : read_literal count_names (drop 0 s) ≡ some (drop a s)) where
-    pub counts-none-1 : {r : Decimal} → r ≡ decimal_answer (length s) (read_field 4096 44 (drop a s)) → r ≡ NoNumber → CountsGot s NoCounts
+    pub counts-none-1 : {r : Option (ℕ × ℕ)} → r ≡ value_answer (length s) (read_field 4096 44 (drop a s)) → r ≡ None → CountsGot s NoCounts
     unfolding counts_format after_literal pair up_to
     counts-none-1 e f = no-counts (rw (e0, answer-none s (read_field 4096 44 (drop a s)) e f))
 
-    module _ {r1 : Decimal} (t b : ℕ) (e1 : r1 ≡ decimal_answer (length s) (read_field 4096 44 (drop a s))) (f1 : r1 ≡ Number t b) where
-      pub counts-none-2 : {r : Decimal} → r ≡ decimal_answer (length s) (read_field 16384 44 (drop b s)) → r ≡ NoNumber → CountsGot s NoCounts
+    module _ {r1 : Option (ℕ × ℕ)} (t b : ℕ) (e1 : r1 ≡ value_answer (length s) (read_field 4096 44 (drop a s))) (f1 : r1 ≡ Some (t, b)) where
+      pub counts-none-2 : {r : Option (ℕ × ℕ)} → r ≡ value_answer (length s) (read_field 16384 44 (drop b s)) → r ≡ None → CountsGot s NoCounts
       unfolding counts_format after_literal pair up_to
       counts-none-2 e f = no-counts (rw (e0, (field_in s 4096 44 a (num 4096) t b e1 f1).0, answer-none s (read_field 16384 44 (drop b s)) e f))
 
-      module _ {r2 : Decimal} (f d : ℕ) (e2 : r2 ≡ decimal_answer (length s) (read_field 16384 44 (drop b s))) (f2 : r2 ≡ Number f d) where
-        pub counts-none-3 : {r : Decimal} → r ≡ decimal_answer (length s) (read_field 4096 10 (drop d s)) → r ≡ NoNumber → CountsGot s NoCounts
+      module _ {r2 : Option (ℕ × ℕ)} (f d : ℕ) (e2 : r2 ≡ value_answer (length s) (read_field 16384 44 (drop b s))) (f2 : r2 ≡ Some (f, d)) where
+        pub counts-none-3 : {r : Option (ℕ × ℕ)} → r ≡ value_answer (length s) (read_field 4096 10 (drop d s)) → r ≡ None → CountsGot s NoCounts
         unfolding counts_format after_literal pair up_to
         counts-none-3 e g =
             no-counts (rw (e0, (field_in s 4096 44 a (num 4096) t b e1 f1).0, (field_in s 16384 44 b (num 16384) f d e2 f2).0, answer-none s (read_field 4096 10 (drop d s)) e g))
 
-        module _ {r3 : Decimal} (c e : ℕ) (e3 : r3 ≡ decimal_answer (length s) (read_field 4096 10 (drop d s))) (f3 : r3 ≡ Number c e) where
+        module _ {r3 : Option (ℕ × ℕ)} (c e : ℕ) (e3 : r3 ≡ value_answer (length s) (read_field 4096 10 (drop d s))) (f3 : r3 ≡ Some (c, e)) where
           reads_all : counts_format.read (drop 0 s) ≡ give {A = Counts} (t, (f, c)) (drop e s)
           unfolding counts_format after_literal pair up_to
           reads_all = rw (e0, (field_in s 4096 44 a (num 4096) t b e1 f1).0, (field_in s 16384 44 b (num 16384) f d e2 f2).0, (field_in s 4096 10 d (last 4096) c e e3 f3).0)
@@ -89,11 +87,11 @@ module _ (s : List ℕ) (at : ℕ) where
   bytes-nameless e = no_bytes (inl (rw e))
 
   module _ (b : ℕ) (e0 : read_literal bytes_name (drop at s) ≡ some (drop b s)) where
-    pub bytes-none : {r : Hex} → r ≡ hex_answer (length s) (read_hex (drop b s)) → r ≡ NoHex → BytesGot s at NoBytes
+    pub bytes-none : {r : Option (ℕ × ℕ)} → r ≡ hex_answer (length s) (read_hex (drop b s)) → r ≡ None → BytesGot s at NoBytes
     unfolding bytes_format after_literal bytes_line
     bytes-none e f = no_bytes (inl (rw (e0, hex-missing s b e f)))
 
-    module _ {r : Hex} (n e : ℕ) (g : r ≡ hex_answer (length s) (read_hex (drop b s))) (f : r ≡ Count n e) where
+    module _ {r : Option (ℕ × ℕ)} (n e : ℕ) (g : r ≡ hex_answer (length s) (read_hex (drop b s))) (f : r ≡ Some (n, e)) where
       reads_bytes : bytes_format.read (drop at s) ≡ give (hex-found s b n e g f).0 (drop e s)
       unfolding bytes_format after_literal bytes_line
       reads_bytes = rw (e0, (hex-found s b n e g f).1)

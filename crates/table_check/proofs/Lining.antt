@@ -1,7 +1,8 @@
 -- Lines of a table, read number by number and name by name. Assumes nothing.
 use Prim.Native.Nat.{ℕ, zero, suc, ◌+◌, ◌-◌, ◌*◌, ◌≤◌, ◌<◌}
 use mathlib.Core.List.{List, [], ◌∷◌, ◌++◌, append_assoc, append-nil, flat_map}
-use mathlib.Core.Option.{Option, none, some}
+use mathlib.Core.Option as maybe
+use mathlib.Core.Option.{none, some}
 use mathlib.Core.Path.{◌≡◌, refl, sym, ap, ◌∙◌, subst}
 use lib.ListN.{length, take, drop, get_or, set, length-append, length-drop, length-set}
 use lib.Seq.{drop-cons}
@@ -11,11 +12,9 @@ use native.Mathlib.Nat.{mul-le-mul_left, mul-suc}
 use Rattle.word.proofs.PutLaws.{put_whole}
 use Rattle.text.specs.Text.{give, ◌>>=◌, read_field, read_literal, comma, digit_of}
 use Rattle.text.specs.Format.{Format, Right, read_all, pair, times, after_literal, All}
-use Rattle.text.specs.Answer.{decimal_answer}
+use Rattle.text.specs.Answer.{value_answer}
 use Rattle.text.specs.Put.{put_text, Puts}
-use Rattle.text.specs.declared.Literal.TheVariants.{Past, Missing}
-use Rattle.text.specs.declared.Decimal.{Decimal}
-use Rattle.text.specs.declared.Decimal.TheVariants.{Number, NoNumber}
+use Rattle.std.specs.Prelude.{Option, Some, None}
 use Rattle.text.proofs.Laws.{none-not-some, some_inj, times-right}
 use Rattle.text.proofs.Getting.{suffix, answer-some, answer-none}
 use Rattle.text.proofs.Putting.{puts-puts, puts-byte, puts-at, puts_none, puts-length}
@@ -36,7 +35,7 @@ line_of ns name = (ns, name)
 
 -- A NUMBER
 
-pub number-found : (s : List ℕ) (most at : ℕ) {r : Decimal} (n k : ℕ) → r ≡ decimal_answer (length s) (read_field most 44 (drop at s)) → r ≡ Number n k →
+pub number-found : (s : List ℕ) (most at : ℕ) {r : Option (ℕ × ℕ)} (n k : ℕ) → r ≡ value_answer (length s) (read_field most 44 (drop at s)) → r ≡ Some (n, k) →
     (read_field most 44 (drop at s) ≡ give n (drop k s)) × (k ≤ length s)
 unfolding up_to
 number-found s most at n k e f =
@@ -59,10 +58,10 @@ numbering-begin s at k most out to h r = record {
 }
 
 module _ (s : List ℕ) (at k most : ℕ) (out₀ : List ℕ) (to : ℕ) (out : List ℕ) (p i : ℕ) (g : Numbering s at k most out₀ to out p i) where
-  pub numbering-lost : {r : Decimal} (P : List ℕ → Type 0) → i < k → r ≡ decimal_answer (length s) (read_field most 44 (drop p s)) → r ≡ NoNumber → Got (read_field most 44) s at k P Missing
+  pub numbering-lost : {r : Option (ℕ × ℕ)} (P : List ℕ → Type 0) → i < k → r ≡ value_answer (length s) (read_field most 44 (drop p s)) → r ≡ None → Got (read_field most 44) s at k P None
   numbering-lost P h e f = got-missing P (gather-lost (read_field most 44) s at k p i g.gathered h (answer-none s (read_field most 44 (drop p s)) e f))
 
-  pub numbering-next : {r : Decimal} (v next : ℕ) → i < k → r ≡ decimal_answer (length s) (read_field most 44 (drop p s)) → r ≡ Number v next →
+  pub numbering-next : {r : Option (ℕ × ℕ)} (v next : ℕ) → i < k → r ≡ value_answer (length s) (read_field most 44 (drop p s)) → r ≡ Some (v, next) →
       Numbering s at k most out₀ to (set out (to + i) v) next (i + 1)
   numbering-next v next h e f =
       let q = number-found s most p v next e f in
@@ -74,7 +73,7 @@ module _ (s : List ℕ) (at k most : ℕ) (out₀ : List ℕ) (to : ℕ) (out : 
             (puts-at (puts-puts g.gathered.holds (puts-byte out (to + i) v (omega (arith, g.room, g.same))) (omega (arith, g.room))) (omega arith) refl);
       }
 
-  pub numbering-end : k ≤ i → Got (read_field most 44) s at k (λ ns. out ≡ put_text out₀ to ns) (Past p)
+  pub numbering-end : k ≤ i → Got (read_field most 44) s at k (λ ns. out ≡ put_text out₀ to ns) (Some p)
   numbering-end h =
       let d = gather-done (read_field most 44) s at k p i g.gathered h in
       got-there (record { values = d.values; reads = d.reads; inside = d.inside; long = d.long; holds = d.holds.out })

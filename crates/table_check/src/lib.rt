@@ -12,24 +12,28 @@ ghost use Rattle.table_check.specs.Inner.Parsing.{table_of, Sectioned, Holding, 
 ghost use Rattle.table_check.specs.Inner.Admitting.{Admitted};
 
 use refusal::Refusal;
-use text::{Decimal, Hex, Literal};
 
 // Reads k numbers, each with a comma after it, from `at` on into a list from `to` on.
-pub fn get_numbers(s: &[u8], at: usize, k: usize, most: u64, out: &mut [u64], to: usize) -> Literal
+pub fn get_numbers(
+    s: &[u8],
+    at: usize,
+    k: usize,
+    most: u64,
+    out: &mut [u64],
+    to: usize,
+) -> Option<usize>
     requires { (at ≤ length s.now) × (to + k ≤ length out.old) }
     ensures { Got (read_field most 44) s.now at k (λ ns. out.new ≡ put_text out.old to ns) result }
 {
     let mut p = at;
     let mut i = 0;
     while i < k {
-        let Decimal::Number(v, next) = text::get_field(s, p, most, 44) else {
-            return Literal::Missing;
-        };
+        let (v, next) = text::get_field(s, p, most, 44)?;
         out[to + i] = v;
         p = next;
         i += 1;
     }
-    Literal::Past(p)
+    Some(p)
 }
 
 // How many bytes the names of lines take, and what comes after the lines.
@@ -57,10 +61,10 @@ pub fn get_rows(
     let mut j = to;
     let mut i = 0;
     while i < count {
-        let Literal::Past(a) = get_numbers(s, p, k, most, out, j) else {
+        let Some(a) = get_numbers(s, p, k, most, out, j) else {
             return Rows::NoRows;
         };
-        let Literal::Past(next) = tables::get_name(s, a) else {
+        let Some(next) = tables::get_name(s, a) else {
             return Rows::NoRows;
         };
         size = size + (next - a);
@@ -82,10 +86,10 @@ pub fn get_fields(s: &[u8], at: usize, count: usize, out: &mut [u32]) -> Rows
     let mut j = 0;
     let mut i = 0;
     while i < count {
-        let Literal::Past(a) = get_numbers(s, p, 2, 4294967295, &mut row, 0) else {
+        let Some(a) = get_numbers(s, p, 2, 4294967295, &mut row, 0) else {
             return Rows::NoRows;
         };
-        let Literal::Past(next) = tables::get_name(s, a) else {
+        let Some(next) = tables::get_name(s, a) else {
             return Rows::NoRows;
         };
         out[j] = row[0] as u32;
@@ -119,7 +123,7 @@ fn rows_section(
     requires { (at ≤ length s.now) × (to + k * count ≤ length out.old) }
     ensures { SectionGot names.now k most s.now at count out.old out.new to result }
 {
-    let Literal::Past(b) = text::expect(s, at, names) else {
+    let Some(b) = text::expect(s, at, names) else {
         return Section::Lost;
     };
     let Rows::Lines(size, next) = get_rows(s, b, count, k, most, out, to) else {
@@ -133,7 +137,7 @@ fn fields_section(s: &[u8], at: usize, names: &[u8], count: usize, out: &mut [u3
     requires { (at ≤ length s.now) × (2 * count ≤ length out.old) }
     ensures { SectionGot names.now 2 4294967295 s.now at count out.old out.new 0 result }
 {
-    let Literal::Past(b) = text::expect(s, at, names) else {
+    let Some(b) = text::expect(s, at, names) else {
         return Section::Lost;
     };
     let Rows::Lines(size, next) = get_fields(s, b, count, out) else {
@@ -161,16 +165,16 @@ pub enum CountsLine {
 fn get_counts(s: &[u8]) -> CountsLine
     ensures { CountsGot s.now result }
 {
-    let Literal::Past(a) = text::expect(s, 0, b"types,fields,constants\n") else {
+    let Some(a) = text::expect(s, 0, b"types,fields,constants\n") else {
         return CountsLine::NoCounts;
     };
-    let Decimal::Number(t, b) = text::get_field(s, a, 4096, 44) else {
+    let Some((t, b)) = text::get_field(s, a, 4096, 44) else {
         return CountsLine::NoCounts;
     };
-    let Decimal::Number(f, d) = text::get_field(s, b, 16384, 44) else {
+    let Some((f, d)) = text::get_field(s, b, 16384, 44) else {
         return CountsLine::NoCounts;
     };
-    let Decimal::Number(c, e) = text::get_field(s, d, 4096, 10) else {
+    let Some((c, e)) = text::get_field(s, d, 4096, 10) else {
         return CountsLine::NoCounts;
     };
     CountsLine::Counts(CountsRead {
@@ -193,10 +197,10 @@ fn bytes_section(s: &[u8], at: usize) -> BytesLine
     requires { at ≤ length s.now }
     ensures { BytesGot s.now at result }
 {
-    let Literal::Past(b) = text::expect(s, at, b"bytes\n") else {
+    let Some(b) = text::expect(s, at, b"bytes\n") else {
         return BytesLine::NoBytes;
     };
-    let Hex::Count(n, e) = text::count_hex(s, b) else {
+    let Some((n, e)) = text::count_hex(s, b) else {
         return BytesLine::NoBytes;
     };
     if e < s.len() {

@@ -13,7 +13,6 @@ ghost use Rattle.table_reader.specs.Reading.{lists, outcome, reading};
 
 use refusal::{Answer, Refusal, Reply};
 use table_check::{Checked, Sections};
-use text::Literal;
 
 // Puts the names of `count` lines that stand from `at` on into a list from `to` on.
 fn fill_names(s: &[u8], at: usize, count: usize, k: usize, most: u64, names: &mut [u8], to: usize)
@@ -25,10 +24,10 @@ fn fill_names(s: &[u8], at: usize, count: usize, k: usize, most: u64, names: &mu
     let mut o = to;
     let mut i = 0;
     while i < count {
-        let Literal::Past(a) = table_check::get_numbers(s, p, k, most, &mut row, 0) else {
+        let Some(a) = table_check::get_numbers(s, p, k, most, &mut row, 0) else {
             return;
         };
-        let Literal::Past(next) = tables::get_name(s, a) else {
+        let Some(next) = tables::get_name(s, a) else {
             return;
         };
         o = text::put_literal(names, o, &s[a..next]);

@@ -12,7 +12,6 @@ ghost use Rattle.table_writer.specs.Parts.{NamesGot, named, rest_length, Ready};
 ghost use Rattle.table_writer.specs.Writing.{table_in, TableWritten};
 
 use refusal::{Refusal, Reply};
-use text::Literal;
 
 fn widened(x: u32) -> u64
     ensures { result ≡ x }
@@ -93,7 +92,7 @@ fn put_rows(
     let mut j = 0;
     let mut i = 0;
     while i < count {
-        let Literal::Past(next) = tables::get_name(names, f) else {
+        let Some(next) = tables::get_name(names, f) else {
             return o;
         };
         let e = j + k;
@@ -123,7 +122,7 @@ fn put_fields(
     let mut j = 0;
     let mut i = 0;
     while i < count {
-        let Literal::Past(next) = tables::get_name(names, f) else {
+        let Some(next) = tables::get_name(names, f) else {
             return o;
         };
         let row = [widened(list[j]), widened(list[j + 1])];
@@ -146,13 +145,13 @@ pub enum NamesRead {
 fn find_names(names: &[u8], t: usize, f: usize, c: usize) -> NamesRead
     ensures { NamesGot names.now t f c result }
 {
-    let Literal::Past(a) = tables::skip_names(names, 0, t) else {
+    let Some(a) = tables::skip_names(names, 0, t) else {
         return NamesRead::NotNames;
     };
-    let Literal::Past(b) = tables::skip_names(names, a, f) else {
+    let Some(b) = tables::skip_names(names, a, f) else {
         return NamesRead::NotNames;
     };
-    let Literal::Past(e) = tables::skip_names(names, b, c) else {
+    let Some(e) = tables::skip_names(names, b, c) else {
         return NamesRead::NotNames;
     };
     if e < names.len() {

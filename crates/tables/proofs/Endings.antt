@@ -1,7 +1,8 @@
 -- What a reader leaves, for any right format; and values read one after another, for any reader. Assumes nothing.
-use Prim.Native.Nat.{ℕ, zero, suc, ◌+◌, ◌-◌, ◌≤◌, ◌<◌}
+use Prim.Native.Nat.{ℕ, ◌+◌, ◌-◌, ◌≤◌, ◌<◌}
 use mathlib.Core.List.{List, [], ◌∷◌, ◌++◌, append_assoc, append-nil}
-use mathlib.Core.Option.{Option, none, some}
+use mathlib.Core.Option as maybe
+use mathlib.Core.Option.{none, some}
 use mathlib.Core.Path.{◌≡◌, refl, sym, ap, ◌∙◌, subst}
 use lib.ListN.{length, drop, length-drop, length-append}
 use native.Mathlib.Omega.{arith}
@@ -10,8 +11,7 @@ use Rattle.text.specs.Text.{give, ◌>>=◌, Reader}
 use Rattle.text.specs.Format.{Format, Right, read_all}
 use Rattle.text.proofs.Laws.{none-not-some, some_inj}
 use Rattle.text.proofs.Getting.{suffix}
-use Rattle.text.specs.declared.Literal.{Literal}
-use Rattle.text.specs.declared.Literal.TheVariants.{Past, Missing}
+use Rattle.std.specs.Prelude.{Option, Some, None}
 use Rattle.page_check.proofs.Reading.{all_none, all-some, all_done}
 use Rattle.tables.specs.Answer.{ending, GotAll, Got}
 
@@ -27,13 +27,13 @@ pub record Ended {A : Type 0} (f : Format A) (fine : A → Type 0) (s : List ℕ
   pub within : fine value
 
 module _ {A : Type 0} {f : Format A} {fine : A → Type 0} (right : Right f fine) (s : List ℕ) (at : ℕ) where
-  pub found : {r : Literal} (k : ℕ) → r ≡ ending (length s) (f.read (drop at s)) → r ≡ Past k → Ended f fine s at k
+  pub found : {r : Option ℕ} (k : ℕ) → r ≡ ending (length s) (f.read (drop at s)) → r ≡ Some k → Ended f fine s at k
   found {r} k e q = go (f.read (drop at s)) refl e
     where
-      go : (o : Option (A × List ℕ)) → f.read (drop at s) ≡ o → r ≡ ending (length s) o → Ended f fine s at k
+      go : (o : maybe.Option (A × List ℕ)) → f.read (drop at s) ≡ o → r ≡ ending (length s) o → Ended f fine s at k
       go none p g = absurd (contradiction cc)
       go (some x) p g =
-          let v : Past (length s - length x.1) ≡ Past k = sym g ∙ q in
+          let v : Some (length s - length x.1) ≡ Some k = sym g ∙ q in
           let v1 : length s - length x.1 ≡ k = cc in
           let b : fine x.0 × (f.print x.0 ++ x.1 ≡ drop at s) = right.back (drop at s) x.0 x.1 p in
           let t : x.1 ≡ drop k s = suffix (f.print x.0) x.1 s at b.1 ∙ ap (λ (m : ℕ). drop m s) v1 in
@@ -45,18 +45,18 @@ module _ {A : Type 0} {f : Format A} {fine : A → Type 0} (right : Right f fine
             within = b.0;
           }
 
-module _ {A : Type 0} (s : List ℕ) (o : Option (A × List ℕ)) where
-  pub lost : {r : Literal} → r ≡ ending (length s) o → r ≡ Missing → o ≡ none
+module _ {A : Type 0} (s : List ℕ) (o : maybe.Option (A × List ℕ)) where
+  pub lost : {r : Option ℕ} → r ≡ ending (length s) o → r ≡ None → o ≡ none
   lost {r} e q = go o refl e
     where
-      go : (p : Option (A × List ℕ)) → o ≡ p → r ≡ ending (length s) p → o ≡ none
+      go : (p : maybe.Option (A × List ℕ)) → o ≡ p → r ≡ ending (length s) p → o ≡ none
       go none f g = f
       go (some x) f g = absurd (contradiction cc)
 
-  pub there : (a : A) (k : ℕ) → k ≤ length s → o ≡ give a (drop k s) → Past k ≡ ending (length s) o
-  there a k h e = rw e (ap Past (let v : k ≡ length s - length (drop k s) = omega (arith, length-drop k s) in v))
+  pub there : (a : A) (k : ℕ) → k ≤ length s → o ≡ give a (drop k s) → Some k ≡ ending (length s) o
+  there a k h e = rw e (ap Some (let v : k ≡ length s - length (drop k s) = omega (arith, length-drop k s) in v))
 
-  pub not_there : o ≡ none → Missing ≡ ending (length s) o
+  pub not_there : o ≡ none → None ≡ ending (length s) o
   not_there e = rw e
 
 -- VALUES READ ONE AFTER ANOTHER
@@ -96,9 +96,9 @@ module _ {A : Type 0} (r : Reader A) (s : List ℕ) (at count : ℕ) where
           many = omega (arith, length-append g.done (x ∷ []), g.many);
           holds = q;
           some_left = λ ys rest f.
-              g.some_left (x ∷ ys) rest (step ∙ ap (λ (o : Option (List A × List ℕ)). o >>= λ y. give (x ∷ y.0) y.1) f)
+              g.some_left (x ∷ ys) rest (step ∙ ap (λ (o : maybe.Option (List A × List ℕ)). o >>= λ y. give (x ∷ y.0) y.1) f)
               ∙ ap (λ (z : List A). give z rest) (sym (append_assoc g.done (x ∷ []) ys));
-          none_left = λ f. g.none_left (step ∙ ap (λ (o : Option (List A × List ℕ)). o >>= λ y. give (x ∷ y.0) y.1) f);
+          none_left = λ f. g.none_left (step ∙ ap (λ (o : maybe.Option (List A × List ℕ)). o >>= λ y. give (x ∷ y.0) y.1) f);
         }
 
     pub gather-lost : i < count → r (drop k s) ≡ none → read_all r count (drop at s) ≡ none
@@ -115,13 +115,13 @@ module _ {A : Type 0} (r : Reader A) (s : List ℕ) (at count : ℕ) where
 
 -- an answer by its cases
 module _ {A : Type 0} {r : Reader A} {s : List ℕ} {at count : ℕ} {P : List A → Type 0} where
-  pub got-there : {k : ℕ} → GotAll r s at count P k → Got r s at count P (Past k)
+  pub got-there : {k : ℕ} → GotAll r s at count P k → Got r s at count P (Some k)
   got-there {k} g = record {
     past = λ n e. subst (GotAll r s at count P) (let v : k ≡ n = cc in v) g;
     lost = λ e. absurd (let z : ◌≡◌ {A = ℕ} 0 1 = cc in omega arith);
   }
 
-pub got-missing : {A : Type 0} {r : Reader A} {s : List ℕ} {at count : ℕ} (P : List A → Type 0) → read_all r count (drop at s) ≡ none → Got r s at count P Missing
+pub got-missing : {A : Type 0} {r : Reader A} {s : List ℕ} {at count : ℕ} (P : List A → Type 0) → read_all r count (drop at s) ≡ none → Got r s at count P None
 got-missing P f = record {
   past = λ n e. absurd (let z : ◌≡◌ {A = ℕ} 0 1 = cc in omega arith);
   lost = λ e. f;
@@ -132,7 +132,7 @@ pub gather-split : {A : Type 0} (r : Reader A) (s : List ℕ) (at count k i : �
     read_all r count (drop at s) ≡ give all rest → (ys : List A) × (all ≡ g.done ++ ys)
 gather-split {A} r s at count k i g all rest e = go (read_all r (count - i) (drop k s)) refl
   where
-    go : (o : Option (List A × List ℕ)) → read_all r (count - i) (drop k s) ≡ o → (ys : List A) × (all ≡ g.done ++ ys)
+    go : (o : maybe.Option (List A × List ℕ)) → read_all r (count - i) (drop k s) ≡ o → (ys : List A) × (all ≡ g.done ++ ys)
     go none f = absurd (none-not-some (sym (g.none_left f) ∙ e))
     go (some x) f = (x.0, ap (λ (z : List A × List ℕ). z.0) (some_inj (sym e ∙ g.some_left x.0 x.1 f)))
 

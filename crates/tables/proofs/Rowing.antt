@@ -1,19 +1,19 @@
 -- Lines put one after another: numbers with their commas, then a name. Assumes nothing.
-use Prim.Native.Nat.{ℕ, zero, suc, ◌+◌, ◌-◌, ◌*◌, ◌≤◌, ◌<◌}
+use Prim.Native.Nat.{ℕ, suc, ◌+◌, ◌*◌, ◌≤◌, ◌<◌}
 use mathlib.Core.List.{List, [], ◌∷◌, ◌++◌, append_assoc, append-nil, flat_map}
 use mathlib.Core.Path.{◌≡◌, refl, sym, ap, ◌∙◌}
-use lib.ListN.{length, take, drop, get_or, set, length-append, length-drop, length-take}
+use lib.ListN.{length, take, drop, get_or, set, length-append}
 use lib.Seq.{drop-drop, take_all, take-length}
 use native.Mathlib.Omega.{arith}
-use native.Mathlib.Nat.{add-zero, mul-suc}
-use Rattle.text.specs.Text.{decimal, comma, newline}
+use native.Mathlib.Nat.{mul-suc}
+use Rattle.text.specs.Text.{decimal, comma}
 use Rattle.text.specs.Format.{All}
 use Rattle.text.specs.Put.{Puts}
 use Rattle.text.proofs.Laws.{decimal-length}
 use Rattle.text.proofs.Putting.{puts-puts, puts-byte, puts-length, puts-at, puts_none}
 use Rattle.pages.proofs.Writing.{flat-more-length, flat-room, puts-more}
 use Rattle.tables.specs.Table.{Row, RowWithin, field, name_text, row_line}
-use Rattle.tables.specs.Lists.{rows_of, numbers_in, names_in}
+use Rattle.tables.specs.Lists.{rows_of, numbers_in}
 
 pub flat_append : {A : Type 0} (f : A → List ℕ) (xs ys : List A) → flat_map f (xs ++ ys) ≡ flat_map f xs ++ flat_map f ys
 unfolding flat_map

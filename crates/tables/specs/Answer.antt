@@ -1,18 +1,18 @@
 -- What the code answers for what a reader finds: where the rest of the text begins, and what holds of the values that stand there.
 use Rattle.std.specs.Prelude.{ℕ, ◌+◌, ◌-◌, ◌*◌, ◌≤◌, ◌≡◌, length, drop}
 use mathlib.Core.List.{List, [], flat_map}
-use Rattle.std.proofs.Math.Option.{Option, none, some}
+use mathlib.Core.Option as maybe
+use mathlib.Core.Option.{none, some}
 use Rattle.text.specs.Text.{Reader, give}
 use Rattle.text.specs.Format.{read_all}
 use Rattle.tables.specs.Table.{read_name, row_line}
 use Rattle.tables.specs.Lists.{rows_of}
-use Rattle.text.specs.declared.Literal.{Literal}
-use Rattle.text.specs.declared.Literal.TheVariants.{Past, Missing}
+use Rattle.std.specs.Prelude.{Option, Some, None}
 
 -- in a text of length `len`
-abbrev pub ending : {A : Type 0} → (len : ℕ) → Option (A × List ℕ) → Literal
-ending len none = Missing
-ending len (some r) = Past (len - length r.1)
+abbrev pub ending : {A : Type 0} → (len : ℕ) → maybe.Option (A × List ℕ) → Option ℕ
+ending len none = None
+ending len (some r) = Some (len - length r.1)
 
 -- `count` values stand in the text from `at` to k, and P holds of them
 pub record GotAll {A : Type 0} (r : Reader A) (s : List ℕ) (at count : ℕ) (P : List A → Type 0) (k : ℕ) : Type 0 where
@@ -23,9 +23,9 @@ pub record GotAll {A : Type 0} (r : Reader A) (s : List ℕ) (at count : ℕ) (P
   pub holds : P values
 
 -- they stand there, or not all of them do
-pub record Got {A : Type 0} (r : Reader A) (s : List ℕ) (at count : ℕ) (P : List A → Type 0) (x : Literal) : Type 0 where
-  pub past : (k : ℕ) → x ≡ Past k → GotAll r s at count P k
-  pub lost : x ≡ Missing → read_all r count (drop at s) ≡ none
+pub record Got {A : Type 0} (r : Reader A) (s : List ℕ) (at count : ℕ) (P : List A → Type 0) (x : Option ℕ) : Type 0 where
+  pub past : (k : ℕ) → x ≡ Some k → GotAll r s at count P k
+  pub lost : x ≡ None → read_all r count (drop at s) ≡ none
 
 -- LINES THAT ARE PUT
 

@@ -1,6 +1,6 @@
 -- A type table as text, in the manner of the page (01, "Page" and "Type table"): names lines, one line a type, a field and a constant, each with a name at its end,
 -- then the constants' bytes. Names are carried and not interpreted.
-use Rattle.std.specs.Prelude.{ℕ, ◌-◌, ◌^◌, ◌≤◌, Bool, true, not, ◌&&◌, ◌≡◌, leb, eqb, length, if◌then◌else◌}
+use Rattle.std.specs.Prelude.{ℕ, ◌≤◌, Bool, true, not, ◌&&◌, ◌≡◌, leb, eqb, length, if◌then◌else◌}
 use mathlib.Core.List.{List, [], ◌∷◌, ◌++◌, flat_map}
 use Rattle.std.proofs.Math.Option.{Option, none, some}
 use Rattle.text.specs.Text.{◌>>=◌, ascii, decimal, hex, line, newline, comma, Bytes, Reader, give, read_field}

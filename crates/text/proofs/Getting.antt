@@ -2,7 +2,8 @@
 use Prim.Native.Nat.{ℕ, zero, suc, ◌+◌, ◌-◌, ◌*◌, ◌/◌, ◌^◌, ◌≤◌, ◌<◌}
 use mathlib.Core.List.{List, [], ◌∷◌, ◌++◌, append_assoc}
 use mathlib.Core.Bool.{Bool, true, false, not}
-use mathlib.Core.Option.{Option, none, some}
+use mathlib.Core.Option as maybe
+use mathlib.Core.Option.{none, some}
 use mathlib.Core.Path.{◌≡◌, refl, sym, ap, ◌∙◌, subst}
 use lib.Bits.{bit_or}
 use lib.Dec.{leb, eqb}
@@ -17,15 +18,8 @@ use Rattle.word.proofs.BitLaws.{or-none}
 use Rattle.word.proofs.ListLaws.{drop-cons-one}
 use Rattle.text.specs.Text.{◌>>=◌, give, decimal, hex, newline, Bytes, digit_of, Stops, ends, scan, capped, after, read_decimal, read_literal, hex_digit_of, byte_of, read_hex, read_field}
 use Rattle.text.specs.Format.{Format, Right, either, number}
-use Rattle.text.specs.declared.Decimal.{Decimal}
-use Rattle.text.specs.declared.Hex.{Hex}
-use Rattle.text.specs.declared.Literal.{Literal}
-use Rattle.text.specs.declared.Either.{Either}
-use Rattle.text.specs.declared.Either.TheVariants.{One, Neither}
-use Rattle.text.specs.Answer.{decimal_answer, literal_answer, either_answer, hex_answer, hex_more, value_or16, HexDigit, HexDigits, HexRun}
-use Rattle.text.specs.declared.Literal.TheVariants.{Past, Missing}
-use Rattle.text.specs.declared.Hex.TheVariants.{Count, NoHex}
-use Rattle.text.specs.declared.Decimal.TheVariants.{Number, NoNumber}
+use Rattle.std.specs.Prelude.{Option, Some, None}
+use Rattle.text.specs.Answer.{value_answer, literal_answer, value_answer, hex_answer, hex_more, value_or16, HexDigit, HexDigits, HexRun}
 use Rattle.text.proofs.Laws.{digit-of-digit, scan-some, scan-stops, scan-grows, read-digit, hex-digit-back, decimal-back, number-right, hex-back, literal-back}
 
 pub low : (b : ℕ) → b < 48 → digit_of b ≡ none
@@ -58,22 +52,22 @@ module _ (s : List ℕ) (i : ℕ) where
 
 -- a number that stands there
 pub found : (s : List ℕ) (most i n : ℕ) (r : ℕ × List ℕ) → n ≤ most → i ≤ length s → r ≡ scan n (drop i s) → Stops (drop i s) →
-    Number n i ≡ decimal_answer (length s) (capped most r)
+    Some (n, i) ≡ value_answer (length s) (capped most r)
 unfolding capped
 found s most i n r h k e t =
-    rw (e, scan-stops n (drop i s) t, le-leb n most h) (ap (λ (m : ℕ). Number n m) (let v : i ≡ length s - length (drop i s) = omega (arith, length-drop i s) in v))
+    rw (e, scan-stops n (drop i s) t, le-leb n most h) (ap (λ (m : ℕ). Some (n, m)) (let v : i ≡ length s - length (drop i s) = omega (arith, length-drop i s) in v))
 
 -- a number that is too large
-pub past : (s : List ℕ) (most n : ℕ) (t : List ℕ) (r : ℕ × List ℕ) → most < n → r ≡ scan n t → NoNumber ≡ decimal_answer (length s) (capped most r)
+pub past : (s : List ℕ) (most n : ℕ) (t : List ℕ) (r : ℕ × List ℕ) → most < n → r ≡ scan n t → None ≡ value_answer (length s) (capped most r)
 unfolding capped
 past s most n t r h e = rw (e, lt-leb (scan n t).0 most (omega (arith, scan-grows n t)))
 
 module _ (s : List ℕ) (most at : ℕ) where
-  pub nothing-there : length s ≤ at → NoNumber ≡ decimal_answer (length s) (read_decimal most (drop at s))
+  pub nothing-there : length s ≤ at → None ≡ value_answer (length s) (read_decimal most (drop at s))
   unfolding read_decimal
   nothing-there h = rw (drop_of_length-le s {i = at} h)
 
-  pub no_digit : at < length s → digit_of (get_or s at 0) ≡ none → NoNumber ≡ decimal_answer (length s) (read_decimal most (drop at s))
+  pub no_digit : at < length s → digit_of (get_or s at 0) ≡ none → None ≡ value_answer (length s) (read_decimal most (drop at s))
   unfolding read_decimal
   no_digit h e = rw (drop-cons-one s at h, e)
 
@@ -83,15 +77,15 @@ module _ (s : List ℕ) (most at : ℕ) where
   pub zero-at : at < length s → get_or s at 0 ≡ 48 → read_decimal most (drop at s) ≡ after most 0 (drop (at + 1) s)
   zero-at h e = read_at h 0 (rw e (digit-of-digit 0 (omega arith)))
 
-  pub spare-zero : at < length s → get_or s at 0 ≡ 48 → not (ends (drop (at + 1) s)) ≡ true → NoNumber ≡ decimal_answer (length s) (read_decimal most (drop at s))
+  pub spare-zero : at < length s → get_or s at 0 ≡ 48 → not (ends (drop (at + 1) s)) ≡ true → None ≡ value_answer (length s) (read_decimal most (drop at s))
   unfolding after
   spare-zero h e t = rw (zero-at h e) (rw (not-true (ends (drop (at + 1) s)) t))
 
-  pub just-zero : at < length s → get_or s at 0 ≡ 48 → not (ends (drop (at + 1) s)) ≡ false → Number 0 (at + 1) ≡ decimal_answer (length s) (read_decimal most (drop at s))
+  pub just-zero : at < length s → get_or s at 0 ≡ 48 → not (ends (drop (at + 1) s)) ≡ false → Some (0, at + 1) ≡ value_answer (length s) (read_decimal most (drop at s))
   unfolding after
   just-zero h e t =
       rw (zero-at h e) (rw (not-false (ends (drop (at + 1) s)) t)
-      (ap (λ (m : ℕ). Number 0 m) (let v : at + 1 ≡ length s - length (drop (at + 1) s) = omega (arith, length-drop (at + 1) s) in v)))
+      (ap (λ (m : ℕ). Some (0, m)) (let v : at + 1 ≡ length s - length (drop (at + 1) s) = omega (arith, length-drop (at + 1) s) in v)))
 
   -- a digit d other than 0, at byte b
   pub first-digit : at < length s → (d : ℕ) → 1 ≤ d → digit_of (get_or s at 0) ≡ some d → read_decimal most (drop at s) ≡ capped most (scan d (drop (at + 1) s))
@@ -99,8 +93,8 @@ module _ (s : List ℕ) (most at : ℕ) where
   first-digit h zero l e = absurd (omega arith)
   first-digit h (suc d) l e = read_at h (suc d) e
 
-pub too_large : (s : List ℕ) (most d : ℕ) {o : Option (ℕ × List ℕ)} (t : List ℕ) → most < d → o ≡ capped most (scan d t) → NoNumber ≡ decimal_answer (length s) o
-too_large s most d t h e = past s most d t (scan d t) h refl ∙ ap (decimal_answer (length s)) (sym e)
+pub too_large : (s : List ℕ) (most d : ℕ) {o : maybe.Option (ℕ × List ℕ)} (t : List ℕ) → most < d → o ≡ capped most (scan d t) → None ≡ value_answer (length s) o
+too_large s most d t h e = past s most d t (scan d t) h refl ∙ ap (value_answer (length s)) (sym e)
 
 pub one_up : (b d : ℕ) → 48 ≤ b → (b ≡ 48 → ⊥) → d ≡ b - 48 → 1 ≤ d
 one_up b d h n e = omega arith
@@ -108,7 +102,7 @@ one_up b d h n e = omega arith
 -- LITERALS
 
 module _ (l s : List ℕ) (at i : ℕ) where
-  abbrev left_over : Option (List ℕ)
+  abbrev left_over : maybe.Option (List ℕ)
   left_over = read_literal (drop i l) (drop (at + i) s)
 
   pub literal-short : i < length l → length s ≤ at + i → left_over ≡ none
@@ -129,29 +123,29 @@ module _ (l s : List ℕ) (at i : ℕ) where
   unfolding read_literal
   literal-all h k = rw (drop_of_length-le l {i = i} h)
 
-pub literal-missing : (s : List ℕ) {o p : Option (List ℕ)} → o ≡ p → p ≡ none → Missing ≡ literal_answer (length s) o
+pub literal-missing : (s : List ℕ) {o p : maybe.Option (List ℕ)} → o ≡ p → p ≡ none → None ≡ literal_answer (length s) o
 literal-missing s e f = rw (e, f)
 
-pub literal-past : (s : List ℕ) (k : ℕ) {o p : Option (List ℕ)} → k ≤ length s → o ≡ p → p ≡ some (drop k s) → Past k ≡ literal_answer (length s) o
-literal-past s k h e f = rw (e, f) (ap Past (let v : k ≡ length s - length (drop k s) = omega (arith, length-drop k s) in v))
+pub literal-past : (s : List ℕ) (k : ℕ) {o p : maybe.Option (List ℕ)} → k ≤ length s → o ≡ p → p ≡ some (drop k s) → Some k ≡ literal_answer (length s) o
+literal-past s k h e f = rw (e, f) (ap Some (let v : k ≡ length s - length (drop k s) = omega (arith, length-drop k s) in v))
 
 -- HEXADECIMAL
 
-pub hex-begin : (len : ℕ) (o : Option (List ℕ × List ℕ)) → hex_answer len o ≡ hex_more len 0 o
+pub hex-begin : (len : ℕ) (o : maybe.Option (List ℕ × List ℕ)) → hex_answer len o ≡ hex_more len 0 o
 hex-begin len none = refl
-hex-begin len (some r) = ap (λ (m : ℕ). Count m (len - length r.1)) (sym (zero-add (length r.0)))
+hex-begin len (some r) = ap (λ (m : ℕ). Some (m, len - length r.1)) (sym (zero-add (length r.0)))
 
 pub value_none : (b : ℕ) → value_or16 (hex_digit_of b) ≡ 16 → hex_digit_of b ≡ none
 value_none b e = go (hex_digit_of b) refl
   where
-    go : (o : Option ℕ) → hex_digit_of b ≡ o → hex_digit_of b ≡ none
+    go : (o : maybe.Option ℕ) → hex_digit_of b ≡ o → hex_digit_of b ≡ none
     go none f = f
     go (some d) f = absurd (omega (arith, (hex-digit-back b d f).0, sym (ap value_or16 f) ∙ e))
 
 pub value-some : (b : ℕ) → (value_or16 (hex_digit_of b) ≡ 16 → ⊥) → (d : ℕ) × (hex_digit_of b ≡ some d)
 value-some b n = go (hex_digit_of b) refl
   where
-    go : (o : Option ℕ) → hex_digit_of b ≡ o → (d : ℕ) × (hex_digit_of b ≡ some d)
+    go : (o : maybe.Option ℕ) → hex_digit_of b ≡ o → (d : ℕ) × (hex_digit_of b ≡ some d)
     go none f = absurd (n (ap value_or16 f))
     go (some d) f = (d, f)
 
@@ -177,31 +171,31 @@ both_some : (a b d f : ℕ) (t : List ℕ) → (a ≡ 10 → ⊥) → hex_digit_
 unfolding read_hex byte_of
 both_some a b d f t n e g = rw (ne_eqb a 10 n, e, g)
 
-one_more : (len n x : ℕ) (o : Option (List ℕ × List ℕ)) → hex_more len n (o >>= λ r. give (x ∷ r.0) r.1) ≡ hex_more len (n + 1) o
+one_more : (len n x : ℕ) (o : maybe.Option (List ℕ × List ℕ)) → hex_more len n (o >>= λ r. give (x ∷ r.0) r.1) ≡ hex_more len (n + 1) o
 one_more len n x none = refl
-one_more len n x (some r) = ap (λ (m : ℕ). Count m (len - length r.1)) (let v : n + suc (length r.0) ≡ n + 1 + length r.0 = omega arith in v)
+one_more len n x (some r) = ap (λ (m : ℕ). Some (m, len - length r.1)) (let v : n + suc (length r.0) ≡ n + 1 + length r.0 = omega arith in v)
 
 module _ (s : List ℕ) (n i : ℕ) where
-  pub hex-ended : length s ≤ i → NoHex ≡ hex_more (length s) n (read_hex (drop i s))
+  pub hex-ended : length s ≤ i → None ≡ hex_more (length s) n (read_hex (drop i s))
   unfolding read_hex
   hex-ended h = rw (drop_of_length-le s {i = i} h)
 
-  pub hex-line : i < length s → get_or s i 0 ≡ 10 → Count n (i + 1) ≡ hex_more (length s) n (read_hex (drop i s))
+  pub hex-line : i < length s → get_or s i 0 ≡ 10 → Some (n, i + 1) ≡ hex_more (length s) n (read_hex (drop i s))
   hex-line h e =
       rw (drop-cons-one s i h) (rw (newline-reads (get_or s i 0) (drop (i + 1) s) e)
-      (λ k. Count (let v : n ≡ n + 0 = omega arith in v k) (let v : i + 1 ≡ length s - length (drop (i + 1) s) = omega (arith, length-drop (i + 1) s) in v k)))
+      (λ k. Some (let v : n ≡ n + 0 = omega arith in v k, (let v : i + 1 ≡ length s - length (drop (i + 1) s) = omega (arith, length-drop (i + 1) s) in v k))))
 
-  pub hex-short : i < length s → length s ≤ i + 1 → (get_or s i 0 ≡ 10 → ⊥) → NoHex ≡ hex_more (length s) n (read_hex (drop i s))
+  pub hex-short : i < length s → length s ≤ i + 1 → (get_or s i 0 ≡ 10 → ⊥) → None ≡ hex_more (length s) n (read_hex (drop i s))
   hex-short h k e = rw (drop-cons-one s i h, drop_of_length-le s {i = i + 1} k) (rw (one-reads (get_or s i 0) e))
 
   two : i + 1 < length s → drop i s ≡ get_or s i 0 ∷ get_or s (i + 1) 0 ∷ drop (i + 2) s
   two h = drop-cons-one s i (omega arith) ∙ ap (λ (t : List ℕ). get_or s i 0 ∷ t) (drop-cons-one s (i + 1) h ∙ ap (λ (m : ℕ). get_or s (i + 1) 0 ∷ drop m s) (let v : i + 1 + 1 ≡ i + 2 = omega arith in v))
 
-  pub hex-first : i + 1 < length s → (get_or s i 0 ≡ 10 → ⊥) → value_or16 (hex_digit_of (get_or s i 0)) ≡ 16 → NoHex ≡ hex_more (length s) n (read_hex (drop i s))
+  pub hex-first : i + 1 < length s → (get_or s i 0 ≡ 10 → ⊥) → value_or16 (hex_digit_of (get_or s i 0)) ≡ 16 → None ≡ hex_more (length s) n (read_hex (drop i s))
   hex-first h e f = rw (two h) (rw (first-none (get_or s i 0) (get_or s (i + 1) 0) (drop (i + 2) s) e (value_none (get_or s i 0) f)))
 
   pub hex-second : i + 1 < length s → (get_or s i 0 ≡ 10 → ⊥) → (value_or16 (hex_digit_of (get_or s i 0)) ≡ 16 → ⊥) → value_or16 (hex_digit_of (get_or s (i + 1) 0)) ≡ 16 →
-      NoHex ≡ hex_more (length s) n (read_hex (drop i s))
+      None ≡ hex_more (length s) n (read_hex (drop i s))
   hex-second h e f g =
       let d = value-some (get_or s i 0) f in
       rw (two h) (rw (second_none (get_or s i 0) (get_or s (i + 1) 0) d.0 (drop (i + 2) s) e d.1 (value_none (get_or s (i + 1) 0) g)))
@@ -283,7 +277,7 @@ module _ (s : List ℕ) (at : ℕ) where
       (record { far = omega (arith, w.far); reads = w.reads ∙ hex-skip s n i 16 d.within d.each })
       (omega (arith, w.far))
 
-  pub run-counted : (r c : ℕ) (x : Hex) → HexRun s at r c → x ≡ hex_more (length s) c (read_hex (drop r s)) → x ≡ hex_answer (length s) (read_hex (drop at s))
+  pub run-counted : (r c : ℕ) (x : Option (ℕ × ℕ)) → HexRun s at r c → x ≡ hex_more (length s) c (read_hex (drop r s)) → x ≡ hex_answer (length s) (read_hex (drop at s))
   run-counted r c x w e = e ∙ sym w.reads
 
 -- FROM ANSWERS BACK TO READERS
@@ -303,21 +297,25 @@ suffix p rest s at e =
     let d : rest ≡ drop (at + length p) s = sym (drop-append_seam p rest) ∙ ap (drop (length p)) e ∙ drop-drop (length p) at s in
     d ∙ drop-back s (at + length p) ∙ ap (λ (t : List ℕ). drop (length s - length t) s) (sym d)
 
-pub answer-some : (s : List ℕ) (o : Option (ℕ × List ℕ)) {r : Decimal} (n k : ℕ) → r ≡ decimal_answer (length s) o → r ≡ Number n k →
+-- both parts of an answer
+pub both-same : {A B : Type 0} {a c : A} {b d : B} → ◌≡◌ {A = Option (A × B)} (Some (a, b)) (Some (c, d)) → (a ≡ c) × (b ≡ d)
+both-same {A} {B} {a} {c} {b} {d} e =
+    let p : ◌≡◌ {A = A × B} (a, b) (c, d) = cc in
+    (ap (λ (x : A × B). x.0) p, ap (λ (x : A × B). x.1) p)
+
+pub answer-some : {A : Type 0} (s : List ℕ) (o : maybe.Option (A × List ℕ)) {r : Option (A × ℕ)} (n : A) (k : ℕ) → r ≡ value_answer (length s) o → r ≡ Some (n, k) →
     (rest : List ℕ) × (o ≡ give n rest) × (k ≡ length s - length rest)
 answer-some s none n k e f = absurd (let z : ◌≡◌ {A = ℕ} 0 1 = cc in omega arith)
-answer-some s (some x) {r} n k e f =
-    let v : Number x.0 (length s - length x.1) ≡ Number n k = sym e ∙ f in
-    let v0 : x.0 ≡ n = cc in
-    let v1 : length s - length x.1 ≡ k = cc in
-    (x.1, ap (λ (m : ℕ). give m x.1) v0, sym v1)
+answer-some {A} s (some x) {r} n k e f =
+    let v = both-same (sym e ∙ f) in
+    (x.1, ap (λ (m : A). give m x.1) v.0, sym v.1)
 
-pub answer-none : (s : List ℕ) (o : Option (ℕ × List ℕ)) {r : Decimal} → r ≡ decimal_answer (length s) o → r ≡ NoNumber → o ≡ none
+pub answer-none : {A : Type 0} (s : List ℕ) (o : maybe.Option (A × List ℕ)) {r : Option (A × ℕ)} → r ≡ value_answer (length s) o → r ≡ None → o ≡ none
 answer-none s none e f = refl
 answer-none s (some x) e f = absurd (let z : ◌≡◌ {A = ℕ} 0 1 = cc in omega arith)
 
 -- a number that the code has read, with what is left after it
-pub decimal-found : (s : List ℕ) (most at : ℕ) {r : Decimal} (n k : ℕ) → r ≡ decimal_answer (length s) (read_decimal most (drop at s)) → r ≡ Number n k →
+pub decimal-found : (s : List ℕ) (most at : ℕ) {r : Option (ℕ × ℕ)} (n k : ℕ) → r ≡ value_answer (length s) (read_decimal most (drop at s)) → r ≡ Some (n, k) →
     (read_decimal most (drop at s) ≡ give n (drop k s)) × (k ≤ length s)
 decimal-found s most at n k e f =
     let x = answer-some s (read_decimal most (drop at s)) n k e f in
@@ -325,110 +323,94 @@ decimal-found s most at n k e f =
     (x.1 ∙ ap (give n) (suffix (decimal n) x.0 s at b.1 ∙ ap (λ (m : ℕ). drop m s) (sym x.2)), omega (arith, x.2))
 
 module _ (s : List ℕ) (most end at n k : ℕ) (e : read_decimal most (drop at s) ≡ give n (drop k s)) where
-  pub field-short : length s ≤ k → NoNumber ≡ decimal_answer (length s) (read_field most end (drop at s))
+  pub field-short : length s ≤ k → None ≡ value_answer (length s) (read_field most end (drop at s))
   unfolding read_field read_literal
   field-short h = rw e (rw (drop_of_length-le s {i = k} h))
 
-  pub field-other : k < length s → (get_or s k 0 ≡ end → ⊥) → NoNumber ≡ decimal_answer (length s) (read_field most end (drop at s))
+  pub field-other : k < length s → (get_or s k 0 ≡ end → ⊥) → None ≡ value_answer (length s) (read_field most end (drop at s))
   unfolding read_field read_literal
   field-other h f = rw e (rw (drop-cons-one s k h) (rw (ne_eqb end (get_or s k 0) (λ x. f (sym x)))))
 
-  pub field-there : k < length s → get_or s k 0 ≡ end → Number n (k + 1) ≡ decimal_answer (length s) (read_field most end (drop at s))
+  pub field-there : k < length s → get_or s k 0 ≡ end → Some (n, k + 1) ≡ value_answer (length s) (read_field most end (drop at s))
   unfolding read_field read_literal
   field-there h f =
       rw e (rw (drop-cons-one s k h) (rw (eq-eqb end (get_or s k 0) (sym f))
-      (ap (Number n) (let v : k + 1 ≡ length s - length (drop (k + 1) s) = omega (arith, length-drop (k + 1) s) in v))))
+      (ap (λ (m : ℕ). Some (n, m)) (let v : k + 1 ≡ length s - length (drop (k + 1) s) = omega (arith, length-drop (k + 1) s) in v))))
 
-pub field-none : (s : List ℕ) (most end at : ℕ) → read_decimal most (drop at s) ≡ none → NoNumber ≡ decimal_answer (length s) (read_field most end (drop at s))
+pub field-none : (s : List ℕ) (most end at : ℕ) → read_decimal most (drop at s) ≡ none → None ≡ value_answer (length s) (read_field most end (drop at s))
 unfolding read_field
 field-none s most end at e = rw e
 
+-- a value of a right format that the code has read, with what is left after it
+pub value-found : {A : Type 0} {f : Format A} {good : A → Type 0} → Right f good → (s : List ℕ) (at : ℕ) {r : Option (A × ℕ)} (a : A) (k : ℕ) →
+    r ≡ value_answer (length s) (f.read (drop at s)) → r ≡ Some (a, k) → (f.read (drop at s) ≡ give a (drop k s)) × (k ≤ length s) × good a
+value-found {A} {f} right s at a k e g =
+    let x = answer-some s (f.read (drop at s)) a k e g in
+    let b = right.back (drop at s) a x.0 x.1 in
+    (x.1 ∙ ap (give a) (suffix (f.print a) x.0 s at b.1 ∙ ap (λ (m : ℕ). drop m s) (sym x.2)), omega (arith, x.2), b.0)
+
 -- a field that the code has read
-pub field_found : (s : List ℕ) (width end at : ℕ) {r : Decimal} (n k : ℕ) → digit_of end ≡ none →
-    r ≡ decimal_answer (length s) ((number width end).read (drop at s)) → r ≡ Number n k →
+pub field_found : (s : List ℕ) (width end at : ℕ) {r : Option (ℕ × ℕ)} (n k : ℕ) → digit_of end ≡ none →
+    r ≡ value_answer (length s) ((number width end).read (drop at s)) → r ≡ Some (n, k) →
     ((number width end).read (drop at s) ≡ give n (drop k s)) × (k ≤ length s) × (n < 2 ^ width)
-field_found s width end at n k stop e f =
-    let x = answer-some s ((number width end).read (drop at s)) n k e f in
-    let b = (number-right width end stop).back (drop at s) n x.0 x.1 in
-    (x.1 ∙ ap (give n) (suffix ((number width end).print n) x.0 s at b.1 ∙ ap (λ (m : ℕ). drop m s) (sym x.2)), omega (arith, x.2), b.0)
+field_found s width end at n k stop e f = value-found (number-right width end stop) s at n k e f
 
 -- bytes that the code has counted
-pub hex-found : (s : List ℕ) (at : ℕ) {r : Hex} (n k : ℕ) → r ≡ hex_answer (length s) (read_hex (drop at s)) → r ≡ Count n k →
+pub hex-found : (s : List ℕ) (at : ℕ) {r : Option (ℕ × ℕ)} (n k : ℕ) → r ≡ hex_answer (length s) (read_hex (drop at s)) → r ≡ Some (n, k) →
     (bs : List ℕ) × (read_hex (drop at s) ≡ give bs (drop k s)) × (length bs ≡ n) × (k ≤ length s)
 hex-found s at {r} n k e f = go (read_hex (drop at s)) refl e
   where
-    go : (o : Option (List ℕ × List ℕ)) → read_hex (drop at s) ≡ o → r ≡ hex_answer (length s) o →
+    go : (o : maybe.Option (List ℕ × List ℕ)) → read_hex (drop at s) ≡ o → r ≡ hex_answer (length s) o →
         (bs : List ℕ) × (read_hex (drop at s) ≡ give bs (drop k s)) × (length bs ≡ n) × (k ≤ length s)
     go none q g = absurd (let z : ◌≡◌ {A = ℕ} 0 1 = cc in omega arith)
     go (some x) q g =
-        let v : Count (length x.0) (length s - length x.1) ≡ Count n k = sym g ∙ f in
-        let v0 : length x.0 ≡ n = cc in
-        let v1 : length s - length x.1 ≡ k = cc in
+        let v = both-same (sym g ∙ f) in
+        let v0 : length x.0 ≡ n = v.0 in
+        let v1 : length s - length x.1 ≡ k = v.1 in
         let b : Bytes x.0 × (hex x.0 ++ (newline ∷ x.1) ≡ drop at s) = hex-back (drop at s) x.0 x.1 q in
         let t : x.1 ≡ drop (length s - length x.1) s =
         suffix (hex x.0 ++ (newline ∷ [])) x.1 s at (append_assoc (hex x.0) (newline ∷ []) x.1 ∙ b.1) in
         (x.0, q ∙ ap (give x.0) (t ∙ ap (λ (m : ℕ). drop m s) v1), v0, omega arith)
 
-pub hex-missing : (s : List ℕ) (at : ℕ) {r : Hex} → r ≡ hex_answer (length s) (read_hex (drop at s)) → r ≡ NoHex → read_hex (drop at s) ≡ none
+pub hex-missing : (s : List ℕ) (at : ℕ) {r : Option (ℕ × ℕ)} → r ≡ hex_answer (length s) (read_hex (drop at s)) → r ≡ None → read_hex (drop at s) ≡ none
 hex-missing s at {r} e f = go (read_hex (drop at s)) refl e
   where
-    go : (o : Option (List ℕ × List ℕ)) → read_hex (drop at s) ≡ o → r ≡ hex_answer (length s) o → read_hex (drop at s) ≡ none
+    go : (o : maybe.Option (List ℕ × List ℕ)) → read_hex (drop at s) ≡ o → r ≡ hex_answer (length s) o → read_hex (drop at s) ≡ none
     go none q g = q
     go (some x) q g = absurd (let z : ◌≡◌ {A = ℕ} 0 1 = cc in omega arith)
 
 -- a literal that the code has found
-pub literal-found : (cs s : List ℕ) (at : ℕ) {r : Literal} (k : ℕ) → r ≡ literal_answer (length s) (read_literal cs (drop at s)) → r ≡ Past k →
+pub literal-found : (cs s : List ℕ) (at : ℕ) {r : Option ℕ} (k : ℕ) → r ≡ literal_answer (length s) (read_literal cs (drop at s)) → r ≡ Some k →
     (read_literal cs (drop at s) ≡ some (drop k s)) × (k ≤ length s)
 literal-found cs s at {r} k e f = go (read_literal cs (drop at s)) refl e
   where
-    go : (o : Option (List ℕ)) → read_literal cs (drop at s) ≡ o → r ≡ literal_answer (length s) o → (read_literal cs (drop at s) ≡ some (drop k s)) × (k ≤ length s)
+    go : (o : maybe.Option (List ℕ)) → read_literal cs (drop at s) ≡ o → r ≡ literal_answer (length s) o → (read_literal cs (drop at s) ≡ some (drop k s)) × (k ≤ length s)
     go none q g = absurd (let z : ◌≡◌ {A = ℕ} 0 1 = cc in omega arith)
     go (some x) q g =
-        let v : Past (length s - length x) ≡ Past k = sym g ∙ f in
+        let v : Some (length s - length x) ≡ Some k = sym g ∙ f in
         let v1 : length s - length x ≡ k = cc in
         (q ∙ ap some (suffix cs x s at (literal-back cs (drop at s) x q) ∙ ap (λ (m : ℕ). drop m s) v1), omega arith)
 
-pub literal-lost : (cs s : List ℕ) (at : ℕ) {r : Literal} → r ≡ literal_answer (length s) (read_literal cs (drop at s)) → r ≡ Missing → read_literal cs (drop at s) ≡ none
+pub literal-lost : (cs s : List ℕ) (at : ℕ) {r : Option ℕ} → r ≡ literal_answer (length s) (read_literal cs (drop at s)) → r ≡ None → read_literal cs (drop at s) ≡ none
 literal-lost cs s at {r} e f = go (read_literal cs (drop at s)) refl e
   where
-    go : (o : Option (List ℕ)) → read_literal cs (drop at s) ≡ o → r ≡ literal_answer (length s) o → read_literal cs (drop at s) ≡ none
+    go : (o : maybe.Option (List ℕ)) → read_literal cs (drop at s) ≡ o → r ≡ literal_answer (length s) o → read_literal cs (drop at s) ≡ none
     go none q g = q
     go (some x) q g = absurd (let z : ◌≡◌ {A = ℕ} 0 1 = cc in omega arith)
 
 -- one of two literals, as each was found or not
-module _ (c d s : List ℕ) (at : ℕ) {r : Literal} (first : r ≡ literal_answer (length s) (read_literal c (drop at s))) where
-  pub either-yes : (k : ℕ) → r ≡ Past k → One true k ≡ either_answer (length s) ((either c d).read (drop at s))
+module _ (c d s : List ℕ) (at : ℕ) {r : Option ℕ} (first : r ≡ literal_answer (length s) (read_literal c (drop at s))) where
+  pub either-yes : (k : ℕ) → r ≡ Some k → Some (true, k) ≡ value_answer (length s) ((either c d).read (drop at s))
   unfolding either
-  either-yes k f = let p = literal-found c s at k first f in rw p.0 (ap (One true) (let v : k ≡ length s - length (drop k s) = omega (arith, length-drop k s, p.1) in v))
+  either-yes k f = let p = literal-found c s at k first f in rw p.0 (ap (λ (m : ℕ). Some (true, m)) (let v : k ≡ length s - length (drop k s) = omega (arith, length-drop k s, p.1) in v))
 
-  module _ (lost : r ≡ Missing) {q : Literal} (second : q ≡ literal_answer (length s) (read_literal d (drop at s))) where
-    pub either-no : (k : ℕ) → q ≡ Past k → One false k ≡ either_answer (length s) ((either c d).read (drop at s))
+  module _ (lost : r ≡ None) {q : Option ℕ} (second : q ≡ literal_answer (length s) (read_literal d (drop at s))) where
+    pub either-no : (k : ℕ) → q ≡ Some k → Some (false, k) ≡ value_answer (length s) ((either c d).read (drop at s))
     unfolding either
     either-no k f =
         let p = literal-found d s at k second f in
-        rw (literal-lost c s at first lost, p.0) (ap (One false) (let v : k ≡ length s - length (drop k s) = omega (arith, length-drop k s, p.1) in v))
+        rw (literal-lost c s at first lost, p.0) (ap (λ (m : ℕ). Some (false, m)) (let v : k ≡ length s - length (drop k s) = omega (arith, length-drop k s, p.1) in v))
 
-    pub either-none : q ≡ Missing → Neither ≡ either_answer (length s) ((either c d).read (drop at s))
+    pub either-none : q ≡ None → None ≡ value_answer (length s) ((either c d).read (drop at s))
     unfolding either
     either-none f = rw (literal-lost c s at first lost, literal-lost d s at second f)
-
--- one of two ways that a right format has, as the code has found it
-pub one_found : {f : Format Bool} {good : Bool → Type 0} → Right f good → (s : List ℕ) (at : ℕ) {r : Either} (b : Bool) (k : ℕ) →
-    r ≡ either_answer (length s) (f.read (drop at s)) → r ≡ One b k → (f.read (drop at s) ≡ give b (drop k s)) × (k ≤ length s)
-one_found {f} right s at {r} b k e g = go (f.read (drop at s)) refl e
-  where
-    go : (o : Option (Bool × List ℕ)) → f.read (drop at s) ≡ o → r ≡ either_answer (length s) o → (f.read (drop at s) ≡ give b (drop k s)) × (k ≤ length s)
-    go none q h = absurd (let z : ◌≡◌ {A = ℕ} 0 1 = cc in omega arith)
-    go (some x) q h =
-        let v : One x.0 (length s - length x.1) ≡ One b k = sym h ∙ g in
-        let v0 : x.0 ≡ b = cc in
-        let v1 : length s - length x.1 ≡ k = cc in
-        let u : x.1 ≡ drop k s = suffix (f.print x.0) x.1 s at (right.back (drop at s) x.0 x.1 q).1 ∙ ap (λ (m : ℕ). drop m s) v1 in
-        (q ∙ (λ j. give (v0 j) (u j)), omega arith)
-
-pub one-lost : (f : Format Bool) (s : List ℕ) (at : ℕ) {r : Either} → r ≡ either_answer (length s) (f.read (drop at s)) → r ≡ Neither → f.read (drop at s) ≡ none
-one-lost f s at {r} e g = go (f.read (drop at s)) refl e
-  where
-    go : (o : Option (Bool × List ℕ)) → f.read (drop at s) ≡ o → r ≡ either_answer (length s) o → f.read (drop at s) ≡ none
-    go none q h = q
-    go (some x) q h = absurd (let z : ◌≡◌ {A = ℕ} 0 1 = cc in omega arith)

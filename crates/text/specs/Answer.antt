@@ -1,38 +1,28 @@
 -- What the code answers for what a reader gives: where the rest of the text begins, in a text of length `len`.
-use Rattle.std.specs.Prelude.{ℕ, ◌+◌, ◌-◌, ◌*◌, ◌≤◌, ◌<◌, List, [], Bool, ◌≡◌, length, get_or, drop}
-use Rattle.std.proofs.Math.Option.{Option, none, some}
+use Rattle.std.specs.Prelude.{ℕ, ◌+◌, ◌-◌, ◌*◌, ◌≤◌, ◌<◌, List, [], ◌≡◌, length, get_or, drop, Option, Some, None}
+use mathlib.Core.Option as maybe
+use mathlib.Core.Option.{none, some}
 use Rattle.text.specs.Text.{read_hex, hex_digit_of, give}
-use Rattle.text.specs.declared.Decimal.{Decimal}
-use Rattle.text.specs.declared.Decimal.TheVariants.{Number, NoNumber}
-use Rattle.text.specs.declared.Literal.{Literal}
-use Rattle.text.specs.declared.Literal.TheVariants.{Past, Missing}
-use Rattle.text.specs.declared.Either.{Either}
-use Rattle.text.specs.declared.Either.TheVariants.{One, Neither}
-use Rattle.text.specs.declared.Hex.{Hex}
-use Rattle.text.specs.declared.Hex.TheVariants.{Count, NoHex}
 
-abbrev pub decimal_answer : (len : ℕ) → Option (ℕ × List ℕ) → Decimal
-decimal_answer len none = NoNumber
-decimal_answer len (some r) = Number r.0 (len - length r.1)
+-- a value and where the rest begins
+abbrev pub value_answer : {A : Type 0} → (len : ℕ) → maybe.Option (A × List ℕ) → Option (A × ℕ)
+value_answer len none = None
+value_answer len (some r) = Some (r.0, len - length r.1)
 
-abbrev pub literal_answer : (len : ℕ) → Option (List ℕ) → Literal
-literal_answer len none = Missing
-literal_answer len (some rest) = Past (len - length rest)
-
-abbrev pub either_answer : (len : ℕ) → Option (Bool × List ℕ) → Either
-either_answer len none = Neither
-either_answer len (some r) = One r.0 (len - length r.1)
+abbrev pub literal_answer : (len : ℕ) → maybe.Option (List ℕ) → Option ℕ
+literal_answer len none = None
+literal_answer len (some rest) = Some (len - length rest)
 
 -- with n bytes read before
-abbrev pub hex_more : (len n : ℕ) → Option (List ℕ × List ℕ) → Hex
-hex_more len n none = NoHex
-hex_more len n (some r) = Count (n + length r.0) (len - length r.1)
+abbrev pub hex_more : (len n : ℕ) → maybe.Option (List ℕ × List ℕ) → Option (ℕ × ℕ)
+hex_more len n none = None
+hex_more len n (some r) = Some (n + length r.0, len - length r.1)
 
-abbrev pub hex_answer : (len : ℕ) → Option (List ℕ × List ℕ) → Hex
-hex_answer len none = NoHex
-hex_answer len (some r) = Count (length r.0) (len - length r.1)
+abbrev pub hex_answer : (len : ℕ) → maybe.Option (List ℕ × List ℕ) → Option (ℕ × ℕ)
+hex_answer len none = None
+hex_answer len (some r) = Some (length r.0, len - length r.1)
 
-abbrev pub value_or16 : Option ℕ → ℕ
+abbrev pub value_or16 : maybe.Option ℕ → ℕ
 value_or16 none = 16
 value_or16 (some d) = d
 

@@ -3,7 +3,7 @@
 
 ghost use Rattle.std.specs.Prelude.{◌≡◌, ℕ, ◌+◌, ◌-◌, ◌/◌, ◌≤◌, ◌<◌, length, take, drop, get_or, not, true};
 ghost use Rattle.text.specs.Text.{decimal, hex, hex_digit, ends, scan, capped, read_decimal, read_literal, hex_digit_of, read_hex, read_field};
-ghost use Rattle.text.specs.Answer.{decimal_answer, literal_answer, either_answer, hex_answer, hex_more, value_or16};
+ghost use Rattle.text.specs.Answer.{value_answer, literal_answer, hex_answer, hex_more, value_or16};
 ghost use Rattle.text.specs.Format.{either};
 ghost use Rattle.text.specs.Put.{Puts};
 ghost use Rattle.text.specs.Answer.{hex_at, HexParsed, HexDigit, HexDigits, HexRun};
@@ -30,13 +30,6 @@ pub fn put_decimal(out: &mut [u8], at: usize, n: u64) -> usize
     }
 }
 
-// A number and where it ends; or no such number.
-#[derive(Clone, Copy)]
-pub enum Decimal {
-    Number(u64, usize),
-    NoNumber,
-}
-
 fn wide(b: u8) -> u64
     ensures { result ≡ b }
 {
@@ -60,58 +53,58 @@ fn digit_at(s: &[u8], at: usize) -> bool
     true
 }
 
-// What follows the digits that spelled `first`, up to `most`.
-fn get_more(s: &[u8], start: usize, first: u64, most: u64) -> Decimal
+// What follows the digits that spelled `first`, up to `most`, and where it ends.
+fn get_more(s: &[u8], start: usize, first: u64, most: u64) -> Option<(u64, usize)>
     requires { (first ≤ most) × (start ≤ length s.now) }
-    ensures { result ≡ decimal_answer (length s.now) (capped most (scan first (drop start s.now))) }
+    ensures { result ≡ value_answer (length s.now) (capped most (scan first (drop start s.now))) }
 {
     let mut n = first;
     let mut i = start;
     while i < s.len() {
         let b = s[i];
         if b < 48 {
-            return Decimal::Number(n, i);
+            return Some((n, i));
         }
         if 57 < b {
-            return Decimal::Number(n, i);
+            return Some((n, i));
         }
         let d = wide(b - 48);
         if most < d {
-            return Decimal::NoNumber;
+            return None;
         }
         if (most - d) / 10 < n {
-            return Decimal::NoNumber;
+            return None;
         }
         n = n * 10 + d;
         i += 1;
     }
-    Decimal::Number(n, i)
+    Some((n, i))
 }
 
-// Reads a number of at most `most` from `at` on.
-pub fn get_decimal(s: &[u8], at: usize, most: u64) -> Decimal
-    ensures { result ≡ decimal_answer (length s.now) (read_decimal most (drop at s.now)) }
+// Reads a number of at most `most` from `at` on: the number and where it ends.
+pub fn get_decimal(s: &[u8], at: usize, most: u64) -> Option<(u64, usize)>
+    ensures { result ≡ value_answer (length s.now) (read_decimal most (drop at s.now)) }
 {
     if s.len() <= at {
-        return Decimal::NoNumber;
+        return None;
     }
     let b = s[at];
     if b < 48 {
-        return Decimal::NoNumber;
+        return None;
     }
     if 57 < b {
-        return Decimal::NoNumber;
+        return None;
     }
     let next = at + 1;
     if b == 48 {
         if digit_at(s, next) {
-            return Decimal::NoNumber;
+            return None;
         }
-        return Decimal::Number(0, next);
+        return Some((0, next));
     }
     let d = wide(b - 48);
     if most < d {
-        return Decimal::NoNumber;
+        return None;
     }
     get_more(s, next, d, most)
 }
@@ -153,15 +146,8 @@ pub fn put_hex(out: &mut [u8], at: usize, bytes: &[u8]) -> usize
     k
 }
 
-// Where a literal that stands in a text ends; or that it does not stand there.
-#[derive(Clone, Copy)]
-pub enum Literal {
-    Past(usize),
-    Missing,
-}
-
-// Is a literal what stands in a text from `at` on?
-pub fn expect(s: &[u8], at: usize, literal: &[u8]) -> Literal
+// Where a literal ends that stands in a text from `at` on.
+pub fn expect(s: &[u8], at: usize, literal: &[u8]) -> Option<usize>
     requires { at ≤ length s.now }
     ensures { result ≡ literal_answer (length s.now) (read_literal literal.now (drop at s.now)) }
 {
@@ -169,45 +155,29 @@ pub fn expect(s: &[u8], at: usize, literal: &[u8]) -> Literal
     while i < literal.len() {
         let k = at + i;
         if s.len() <= k {
-            return Literal::Missing;
+            return None;
         }
         let b = s[k];
         let x = literal[i];
         if x == b {
             i += 1;
         } else {
-            return Literal::Missing;
+            return None;
         }
     }
-    Literal::Past(at + i)
+    Some(at + i)
 }
 
-// Which of two literals stands in a text, true for the first, and where it ends; or that neither does.
-#[derive(Clone, Copy)]
-pub enum Either {
-    One(bool, usize),
-    Neither,
-}
-
-// Is one of two literals what stands in a text from `at` on? The first is tried first.
-pub fn expect_either(s: &[u8], at: usize, first: &[u8], second: &[u8]) -> Either
+// Which of two literals stands in a text from `at` on, true for the first, and where it ends. The first is tried first.
+pub fn expect_either(s: &[u8], at: usize, first: &[u8], second: &[u8]) -> Option<(bool, usize)>
     requires { at ≤ length s.now }
-    ensures { result ≡ either_answer (length s.now) ((either first.now second.now).read (drop at s.now)) }
+    ensures { result ≡ value_answer (length s.now) ((either first.now second.now).read (drop at s.now)) }
 {
-    if let Literal::Past(a) = expect(s, at, first) {
-        return Either::One(true, a);
+    if let Some(a) = expect(s, at, first) {
+        return Some((true, a));
     }
-    let Literal::Past(b) = expect(s, at, second) else {
-        return Either::Neither;
-    };
-    Either::One(false, b)
-}
-
-// How many bytes a text spells in hexadecimal up to the line's end, and what comes after that; or that it does not.
-#[derive(Clone, Copy)]
-pub enum Hex {
-    Count(usize, usize),
-    NoHex,
+    let b = expect(s, at, second)?;
+    Some((false, b))
 }
 
 // The value of a hexadecimal digit, or 16.
@@ -279,7 +249,7 @@ fn hex_blocks(s: &[u8], at: usize) -> usize
 }
 
 // Reads bytes in hexadecimal and the line's end from `first` on, digit by digit, after `count` bytes.
-fn count_more(s: &[u8], first: usize, count: usize) -> Hex
+fn count_more(s: &[u8], first: usize, count: usize) -> Option<(usize, usize)>
     requires { count ≤ first }
     ensures { result ≡ hex_more (length s.now) count (read_hex (drop first s.now)) }
 {
@@ -288,48 +258,46 @@ fn count_more(s: &[u8], first: usize, count: usize) -> Hex
     while i < s.len() {
         let a = s[i];
         if a == 10 {
-            return Hex::Count(n, i + 1);
+            return Some((n, i + 1));
         }
         let k = i + 1;
         if s.len() <= k {
-            return Hex::NoHex;
+            return None;
         }
         if hex_value(a) == 16 {
-            return Hex::NoHex;
+            return None;
         }
         let b = s[k];
         if hex_value(b) == 16 {
-            return Hex::NoHex;
+            return None;
         }
         i += 2;
         n += 1;
     }
-    Hex::NoHex
+    None
 }
 
-// Reads bytes in hexadecimal and the line's end from `at` on.
-pub fn count_hex(s: &[u8], at: usize) -> Hex
+// Reads bytes in hexadecimal and the line's end from `at` on: how many bytes there are, and where the line ends.
+pub fn count_hex(s: &[u8], at: usize) -> Option<(usize, usize)>
     ensures { result ≡ hex_answer (length s.now) (read_hex (drop at s.now)) }
 {
     let first = hex_blocks(s, at);
     count_more(s, first, (first - at) / 2)
 }
 
-// Reads a number of at most `most` and the byte `end` after it, from `at` on.
-pub fn get_field(s: &[u8], at: usize, most: u64, end: u8) -> Decimal
-    ensures { result ≡ decimal_answer (length s.now) (read_field most end (drop at s.now)) }
+// Reads a number of at most `most` and the byte `end` after it, from `at` on: the number and where it ends.
+pub fn get_field(s: &[u8], at: usize, most: u64, end: u8) -> Option<(u64, usize)>
+    ensures { result ≡ value_answer (length s.now) (read_field most end (drop at s.now)) }
 {
-    let Decimal::Number(n, next) = get_decimal(s, at, most) else {
-        return Decimal::NoNumber;
-    };
+    let (n, next) = get_decimal(s, at, most)?;
     if s.len() <= next {
-        return Decimal::NoNumber;
+        return None;
     }
     let b = s[next];
     if b == end {
-        return Decimal::Number(n, next + 1);
+        return Some((n, next + 1));
     }
-    Decimal::NoNumber
+    None
 }
 
 // Byte i of those that a text spells in hexadecimal from `at` on.

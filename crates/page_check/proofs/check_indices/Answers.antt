@@ -28,7 +28,7 @@ pub loop-i-smaller : goal.loop-i-smaller
 loop-i-smaller c = omega (arith, c.loop-i-test.true)
 
 pub loop-i-preserved : goal.loop-i-preserved
-loop-i-preserved c = (omega (arith, c.loop-i-test.true), (value_found c.args.s.now 32 c.loop-i.k c.in-Number.v c.in-Number.next c.get_field.ensures c.in-Number.is).1, indices-next c.args.s.now c.args.n c.loop-i.ok c.loop-i.k c.loop-i.i c.args.count c.loop-i.invariant.2 c.in-Number.v c.in-Number.next c.both-ok.result c.loop-i-test.true (value_found c.args.s.now 32 c.loop-i.k c.in-Number.v c.in-Number.next c.get_field.ensures c.in-Number.is).0 c.both-ok.ensures)
+loop-i-preserved c = (omega (arith, c.loop-i-test.true), (value_found c.args.s.now 32 c.loop-i.k c.in-Some.v c.in-Some.next c.get_field.ensures c.in-Some.is).1, indices-next c.args.s.now c.args.n c.loop-i.ok c.loop-i.k c.loop-i.i c.args.count c.loop-i.invariant.2 c.in-Some.v c.in-Some.next c.both-ok.result c.loop-i-test.true (value_found c.args.s.now 32 c.loop-i.k c.in-Some.v c.in-Some.next c.get_field.ensures c.in-Some.is).0 c.both-ok.ensures)
 
 pub returns : goal.returns
 returns c = indices-done c.args.s.now c.args.n c.loop-i.ok c.loop-i.k c.loop-i.i c.args.count c.loop-i.invariant.2 c.loop-i-test.false c.loop-i.invariant.1

@@ -37,7 +37,7 @@ pub loop-i-smaller : goal.loop-i-smaller
 loop-i-smaller c = omega (arith, c.loop-i-test.true)
 
 pub loop-i-preserved : goal.loop-i-preserved
-loop-i-preserved c = (omega (arith, c.loop-i-test.true), (value_found c.args.s.now 64 c.loop-i.k c.in-Number.v c.in-Number.next c.get_field.ensures c.in-Number.is).1, seals-next c.args.s.now c.args.tag c.args.n c.loop-i.from c.loop-i.ok c.loop-i.k c.loop-i.i c.args.count c.loop-i.invariant.2 c.in-Number.v c.in-Number.next c.both-ok.result c.sound_seal.result c.slot_of-from.result c.loop-i-test.true (value_found c.args.s.now 64 c.loop-i.k c.in-Number.v c.in-Number.next c.get_field.ensures c.in-Number.is).0 c.sound_seal.ensures c.both-ok.ensures c.slot_of-from.ensures.value)
+loop-i-preserved c = (omega (arith, c.loop-i-test.true), (value_found c.args.s.now 64 c.loop-i.k c.in-Some.v c.in-Some.next c.get_field.ensures c.in-Some.is).1, seals-next c.args.s.now c.args.tag c.args.n c.loop-i.from c.loop-i.ok c.loop-i.k c.loop-i.i c.args.count c.loop-i.invariant.2 c.in-Some.v c.in-Some.next c.both-ok.result c.sound_seal.result c.slot_of-from.result c.loop-i-test.true (value_found c.args.s.now 64 c.loop-i.k c.in-Some.v c.in-Some.next c.get_field.ensures c.in-Some.is).0 c.sound_seal.ensures c.both-ok.ensures c.slot_of-from.ensures.value)
 
 pub returns : goal.returns
 returns c = seals-done c.args.s.now c.args.tag c.args.n c.loop-i.from c.loop-i.ok c.loop-i.k c.loop-i.i c.args.count c.loop-i.invariant.2 c.loop-i-test.false c.loop-i.invariant.1

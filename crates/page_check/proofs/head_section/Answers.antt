@@ -1,11 +1,12 @@
 use mathlib.Core.Logic.{inl}
 use Rattle.pages.specs.Form.{heap_front, retired_too, no_retired}
 use Rattle.text.specs.Text.{ascii}
-use Rattle.text.proofs.Getting.{one_found, one-lost}
+use Rattle.text.proofs.Getting.{value-found, answer-none}
 use Rattle.pages.proofs.Laws.{heap-names-right}
 use Rattle.page_check.specs.Parts.{heap_named}
 use Rattle.page_check.proofs.Parts.{head-told}
 use native.Mathlib.Omega.{arith}
+use lib.ListN.{drop}
 use Rattle.page_check.proofs.head_section.Goals as goal
 
 pub names_line-requires : goal.names_line-requires
@@ -13,8 +14,8 @@ names_line-requires c = omega arith
 
 pub returns-in_default : goal.returns-in_default
 unfolding heap_front retired_too no_retired ascii
-returns-in_default c = inl (one-lost heap_named c.args.s.now 0 c.names_line.ensures c.in_default.is)
+returns-in_default c = inl (answer-none c.args.s.now (heap_named.read (drop 0 c.args.s.now)) c.names_line.ensures c.in_default.is)
 
 pub returns : goal.returns
 unfolding heap_front retired_too no_retired ascii
-returns c = head-told c.in-One.retiring c.args.s.now c.in-One.a _ c.get_head.ensures (one_found heap-names-right c.args.s.now 0 c.in-One.retiring c.in-One.a c.names_line.ensures c.in-One.is).0
+returns c = head-told c.in-Some.retiring c.args.s.now c.in-Some.a _ c.get_head.ensures (value-found heap-names-right c.args.s.now 0 c.in-Some.retiring c.in-Some.a c.names_line.ensures c.in-Some.is).0

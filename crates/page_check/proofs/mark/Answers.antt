@@ -5,7 +5,6 @@ use lib.ListN.{drop}
 use native.Mathlib.Nat.{sub-zero}
 use native.Mathlib.Omega.{arith}
 use mathlib.Core.Path.{refl, ap, ◌∙◌}
-use mathlib.Core.Bool.{true}
 use Prim.Native.Nat.{ℕ}
 use Rattle.page_check.proofs.mark.Goals as goal
 
@@ -30,9 +29,9 @@ shape_of-row-else-mark_one c = c.mark_one.auto.row ∙ c.loop-i.invariant.2
 
 pub returns-else-mark_one : goal.returns-else-mark_one
 returns-else-mark_one c = let l = values_at 32 c.args.s.now c.args.at c.args.count in
-    let v = line-value c.args.s.now c.loop-i.k c.in-Number.v c.in-Number.next c.get_field.ensures c.in-Number.is in
-    let n = next-value c.args.s.now c.loop-i.k c.loop-i.i c.args.count c.in-Number.v c.in-Number.next l c.loop-i.invariant.4.0 c.loop-i-test.true c.loop-i.invariant.4.1 v.0 in
-    mark-stop c.args.row.now c.loop-i.row c.mark_one.new.row c.args.base c.args.m c.in-Number.v c.loop-i.i l c.loop-i.invariant.3 c.mark_one.ensures n.inside n.value c.if-mark_one.false
+    let v = line-value c.args.s.now c.loop-i.k c.in-Some.v c.in-Some.next c.get_field.ensures c.in-Some.is in
+    let n = next-value c.args.s.now c.loop-i.k c.loop-i.i c.args.count c.in-Some.v c.in-Some.next l c.loop-i.invariant.4.0 c.loop-i-test.true c.loop-i.invariant.4.1 v.0 in
+    mark-stop c.args.row.now c.loop-i.row c.mark_one.new.row c.args.base c.args.m c.in-Some.v c.loop-i.i l c.loop-i.invariant.3 c.mark_one.ensures n.inside n.value c.if-mark_one.false
 
 pub overflow_add-i : goal.overflow_add-i
 overflow_add-i c = omega (arith, c.loop-i-test.true)
@@ -42,9 +41,9 @@ loop-i-smaller c = omega (arith, c.loop-i-test.true)
 
 pub loop-i-preserved : goal.loop-i-preserved
 loop-i-preserved c = let l = values_at 32 c.args.s.now c.args.at c.args.count in
-    let v = line-value c.args.s.now c.loop-i.k c.in-Number.v c.in-Number.next c.get_field.ensures c.in-Number.is in
-    let n = next-value c.args.s.now c.loop-i.k c.loop-i.i c.args.count c.in-Number.v c.in-Number.next l c.loop-i.invariant.4.0 c.loop-i-test.true c.loop-i.invariant.4.1 v.0 in
-    (omega (arith, c.loop-i-test.true), v.1, c.mark_one.auto.row ∙ c.loop-i.invariant.2, mark-next c.args.row.now c.loop-i.row c.mark_one.new.row c.args.base c.args.m c.in-Number.v c.loop-i.i l c.loop-i.invariant.3 c.mark_one.ensures n.inside n.value c.if-mark_one.true, (c.loop-i.invariant.4.0, n.left_over))
+    let v = line-value c.args.s.now c.loop-i.k c.in-Some.v c.in-Some.next c.get_field.ensures c.in-Some.is in
+    let n = next-value c.args.s.now c.loop-i.k c.loop-i.i c.args.count c.in-Some.v c.in-Some.next l c.loop-i.invariant.4.0 c.loop-i-test.true c.loop-i.invariant.4.1 v.0 in
+    (omega (arith, c.loop-i-test.true), v.1, c.mark_one.auto.row ∙ c.loop-i.invariant.2, mark-next c.args.row.now c.loop-i.row c.mark_one.new.row c.args.base c.args.m c.in-Some.v c.loop-i.i l c.loop-i.invariant.3 c.mark_one.ensures n.inside n.value c.if-mark_one.true, (c.loop-i.invariant.4.0, n.left_over))
 
 pub shape_of-row : goal.shape_of-row
 shape_of-row c = c.loop-i.invariant.2

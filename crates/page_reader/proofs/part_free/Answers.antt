@@ -13,16 +13,16 @@ pub returns-in_default : goal.returns-in_default
 returns-in_default c = absurd (parting-some _ _ _ _ _ _ _ _ _ c.loop-i.invariant c.loop-i-test.true c.get_field.ensures c.in_default.is)
 
 pub offset_bounds-narrow-v : goal.offset_bounds-narrow-v
-offset_bounds-narrow-v c = omega (arith, parting-fits _ _ _ _ _ _ _ _ _ c.loop-i.invariant c.loop-i-test.true c.get_field.ensures _ _ c.in-Number.is)
+offset_bounds-narrow-v c = omega (arith, parting-fits _ _ _ _ _ _ _ _ _ c.loop-i.invariant c.loop-i-test.true c.get_field.ensures _ _ c.in-Some.is)
 
 pub bounds-narrow-v : goal.bounds-narrow-v
-bounds-narrow-v c = parting-inside _ _ _ _ _ _ _ _ _ c.loop-i.invariant c.loop-i-test.true c.get_field.ensures _ _ c.in-Number.is
+bounds-narrow-v c = parting-inside _ _ _ _ _ _ _ _ _ c.loop-i.invariant c.loop-i-test.true c.get_field.ensures _ _ c.in-Some.is
 
 pub overflow_cast-v : goal.overflow_cast-v
-overflow_cast-v c = omega (arith, parting-fits _ _ _ _ _ _ _ _ _ c.loop-i.invariant c.loop-i-test.true c.get_field.ensures _ _ c.in-Number.is)
+overflow_cast-v c = omega (arith, parting-fits _ _ _ _ _ _ _ _ _ c.loop-i.invariant c.loop-i-test.true c.get_field.ensures _ _ c.in-Some.is)
 
 pub put_free-c-requires : goal.put_free-c-requires
-put_free-c-requires c = (parting-free _ _ _ _ _ _ _ _ _ c.loop-i.invariant c.loop-i-test.true c.get_field.ensures _ _ c.in-Number.is, parting-retired _ _ _ _ _ _ _ _ _ c.loop-i.invariant c.loop-i-test.true c.get_field.ensures _ _ c.in-Number.is, omega (arith, c.loop-i.invariant.same))
+put_free-c-requires c = (parting-free _ _ _ _ _ _ _ _ _ c.loop-i.invariant c.loop-i-test.true c.get_field.ensures _ _ c.in-Some.is, parting-retired _ _ _ _ _ _ _ _ _ c.loop-i.invariant c.loop-i-test.true c.get_field.ensures _ _ c.in-Some.is, omega (arith, c.loop-i.invariant.same))
 
 pub overflow_add-i : goal.overflow_add-i
 overflow_add-i c = omega (arith, c.loop-i-test.true)
@@ -31,7 +31,7 @@ pub loop-i-smaller : goal.loop-i-smaller
 loop-i-smaller c = omega (arith, c.loop-i-test.true)
 
 pub loop-i-preserved : goal.loop-i-preserved
-loop-i-preserved c = parting-next _ _ _ _ _ _ _ _ _ c.loop-i.invariant c.loop-i-test.true c.get_field.ensures _ _ c.in-Number.is refl c.put_free-c.ensures
+loop-i-preserved c = parting-next _ _ _ _ _ _ _ _ _ c.loop-i.invariant c.loop-i-test.true c.get_field.ensures _ _ c.in-Some.is refl c.put_free-c.ensures
 
 pub shape_of-narrow : goal.shape_of-narrow
 shape_of-narrow c = c.loop-i.invariant.same

@@ -9,10 +9,10 @@ use Rattle.page_runs.proofs.named.Goals as goal
 pub slice_bounds-expect-end : goal.slice_bounds-expect-end
 slice_bounds-expect-end c = sym (length-take-le _ _ c.requires)
 
-pub returns-in-Past : goal.returns-in-Past
+pub returns-in-Some : goal.returns-in-Some
 unfolding names_line ascii
-returns-in-Past c = search is-named
+returns-in-Some c = search is-named
 
-pub returns-in-Missing : goal.returns-in-Missing
+pub returns-in-None : goal.returns-in-None
 unfolding names_line ascii
-returns-in-Missing c = search not_named
+returns-in-None c = search not_named

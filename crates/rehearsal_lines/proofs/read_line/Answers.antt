@@ -2,14 +2,14 @@
 use Rattle.rehearsal_lines.proofs.Finding.{by-alloc, by-store, by-drop, no_name}
 use Rattle.rehearsal_lines.proofs.read_line.Goals as goal
 
-pub returns-in-Past : goal.returns-in-Past
-returns-in-Past c = search by-alloc
+pub returns-in-Some : goal.returns-in-Some
+returns-in-Some c = search by-alloc
 
-pub returns-in-Past-expect : goal.returns-in-Past-expect
-returns-in-Past-expect c = search by-store
+pub returns-in-Some-expect : goal.returns-in-Some-expect
+returns-in-Some-expect c = search by-store
 
-pub returns-in-Past-expect-2 : goal.returns-in-Past-expect-2
-returns-in-Past-expect-2 c = search by-drop
+pub returns-in-Some-expect-2 : goal.returns-in-Some-expect-2
+returns-in-Some-expect-2 c = search by-drop
 
-pub returns-in-Missing-expect-2 : goal.returns-in-Missing-expect-2
-returns-in-Missing-expect-2 c = search no_name
+pub returns-in-None-expect-2 : goal.returns-in-None-expect-2
+returns-in-None-expect-2 c = search no_name

@@ -10,12 +10,12 @@ returns-in_default c = bytes-nameless c.args.s.now c.args.at (literal-lost bytes
 
 pub returns-in_default-count_hex : goal.returns-in_default-count_hex
 unfolding bytes_name ascii
-returns-in_default-count_hex c = bytes-none c.args.s.now c.args.at c.in-Past.b (literal-found bytes_name c.args.s.now c.args.at c.in-Past.b c.expect.ensures c.in-Past.is).0 c.count_hex.ensures c.in_default-count_hex.is
+returns-in_default-count_hex c = bytes-none c.args.s.now c.args.at c.in-Some.b (literal-found bytes_name c.args.s.now c.args.at c.in-Some.b c.expect.ensures c.in-Some.is).0 c.count_hex.ensures c.in_default-count_hex.is
 
 pub returns-then-e-s : goal.returns-then-e-s
 unfolding bytes_name ascii
-returns-then-e-s c = bytes-over c.args.s.now c.args.at c.in-Past.b (literal-found bytes_name c.args.s.now c.args.at c.in-Past.b c.expect.ensures c.in-Past.is).0 _ _ c.count_hex.ensures c.in-Count.is c.if-e-s.true
+returns-then-e-s c = bytes-over c.args.s.now c.args.at c.in-Some.b (literal-found bytes_name c.args.s.now c.args.at c.in-Some.b c.expect.ensures c.in-Some.is).0 _ _ c.count_hex.ensures c.in-Some-count_hex.is c.if-e-s.true
 
 pub returns : goal.returns
 unfolding bytes_name ascii
-returns c = bytes-there c.args.s.now c.args.at c.in-Past.b (literal-found bytes_name c.args.s.now c.args.at c.in-Past.b c.expect.ensures c.in-Past.is).0 _ _ c.count_hex.ensures c.in-Count.is c.if-e-s.false
+returns c = bytes-there c.args.s.now c.args.at c.in-Some.b (literal-found bytes_name c.args.s.now c.args.at c.in-Some.b c.expect.ensures c.in-Some.is).0 _ _ c.count_hex.ensures c.in-Some-count_hex.is c.if-e-s.false

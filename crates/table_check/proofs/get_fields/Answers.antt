@@ -26,10 +26,10 @@ pub shape_of-out-in_default-get_name : goal.shape_of-out-in_default-get_name
 shape_of-out-in_default-get_name c = c.loop-i.invariant.1.same
 
 pub returns-in_default-get_name : goal.returns-in_default-get_name
-returns-in_default-get_name c = let g = c.get_numbers.ensures.past _ c.in-Past.is in lining-name-lost _ _ _ _ _ _ _ _ _ _ _ _ c.loop-i.invariant.1 _ c.in-Past.a g.values c.loop-i-test.true g.reads (lost c.args.s.now (read_name (drop c.in-Past.a c.args.s.now)) c.get_name.ensures c.in_default-get_name.is)
+returns-in_default-get_name c = let g = c.get_numbers.ensures.past _ c.in-Some.is in lining-name-lost _ _ _ _ _ _ _ _ _ _ _ _ c.loop-i.invariant.1 _ c.in-Some.a g.values c.loop-i-test.true g.reads (lost c.args.s.now (read_name (drop c.in-Some.a c.args.s.now)) c.get_name.ensures c.in_default-get_name.is)
 
 pub overflow_cast-out : goal.overflow_cast-out
-overflow_cast-out c = let g = c.get_numbers.ensures.past _ c.in-Past.is in record { fits = omega (arith, row_first c.loop-i.row _ g.values 4294967295 c.loop-i.invariant.0 g.holds (numbers-within 2 4294967295 _ g.values _ g.reads)) }
+overflow_cast-out c = let g = c.get_numbers.ensures.past _ c.in-Some.is in record { fits = omega (arith, row_first c.loop-i.row _ g.values 4294967295 c.loop-i.invariant.0 g.holds (numbers-within 2 4294967295 _ g.values _ g.reads)) }
 
 pub offset_bounds-out-j : goal.offset_bounds-out-j
 offset_bounds-out-j c = omega (arith, lining-room _ _ _ _ _ _ _ _ _ _ _ _ c.loop-i.invariant.1 c.loop-i-test.true)
@@ -38,7 +38,7 @@ pub bounds-out-j : goal.bounds-out-j
 bounds-out-j c = omega (arith, lining-room _ _ _ _ _ _ _ _ _ _ _ _ c.loop-i.invariant.1 c.loop-i-test.true)
 
 pub overflow_cast-out-in-loop-i : goal.overflow_cast-out-in-loop-i
-overflow_cast-out-in-loop-i c = let g = c.get_numbers.ensures.past _ c.in-Past.is in record { fits = omega (arith, row-second c.loop-i.row _ g.values 4294967295 c.loop-i.invariant.0 g.holds (numbers-within 2 4294967295 _ g.values _ g.reads)) }
+overflow_cast-out-in-loop-i c = let g = c.get_numbers.ensures.past _ c.in-Some.is in record { fits = omega (arith, row-second c.loop-i.row _ g.values 4294967295 c.loop-i.invariant.0 g.holds (numbers-within 2 4294967295 _ g.values _ g.reads)) }
 
 pub overflow_add-out : goal.overflow_add-out
 overflow_add-out c = omega (arith, lining-room _ _ _ _ _ _ _ _ _ _ _ _ c.loop-i.invariant.1 c.loop-i-test.true)
@@ -50,16 +50,16 @@ pub bounds-out-j-in-loop-i : goal.bounds-out-j-in-loop-i
 bounds-out-j-in-loop-i c = simp length-set (omega (arith, lining-room _ _ _ _ _ _ _ _ _ _ _ _ c.loop-i.invariant.1 c.loop-i-test.true))
 
 pub overflow_sub-size : goal.overflow_sub-size
-overflow_sub-size c = let g = c.get_numbers.ensures.past _ c.in-Past.is in let n = name-found c.args.s.now c.in-Past.a c.in-Past-get_name.next c.get_name.ensures c.in-Past-get_name.is in omega (arith, name-long c.args.s.now c.in-Past.a c.in-Past-get_name.next g.inside n)
+overflow_sub-size c = let g = c.get_numbers.ensures.past _ c.in-Some.is in let n = name-found c.args.s.now c.in-Some.a c.in-Some-get_name.next c.get_name.ensures c.in-Some-get_name.is in omega (arith, name-long c.args.s.now c.in-Some.a c.in-Some-get_name.next g.inside n)
 
 pub overflow_add-size : goal.overflow_add-size
-overflow_add-size c = let g = c.get_numbers.ensures.past _ c.in-Past.is in let n = name-found c.args.s.now c.in-Past.a c.in-Past-get_name.next c.get_name.ensures c.in-Past-get_name.is in omega (arith, name-long c.args.s.now c.in-Past.a c.in-Past-get_name.next g.inside n, c.loop-i.invariant.1.small, lining-on _ _ _ _ _ _ _ _ _ _ _ _ c.loop-i.invariant.1 c.loop-i-test.true c.in-Past.a c.in-Past-get_name.next g.values g.reads g.inside n, n.inside)
+overflow_add-size c = let g = c.get_numbers.ensures.past _ c.in-Some.is in let n = name-found c.args.s.now c.in-Some.a c.in-Some-get_name.next c.get_name.ensures c.in-Some-get_name.is in omega (arith, name-long c.args.s.now c.in-Some.a c.in-Some-get_name.next g.inside n, c.loop-i.invariant.1.small, lining-on _ _ _ _ _ _ _ _ _ _ _ _ c.loop-i.invariant.1 c.loop-i-test.true c.in-Some.a c.in-Some-get_name.next g.values g.reads g.inside n, n.inside)
 
 pub overflow_add-j : goal.overflow_add-j
 overflow_add-j c = omega (arith, lining-room _ _ _ _ _ _ _ _ _ _ _ _ c.loop-i.invariant.1 c.loop-i-test.true)
 
 pub loop-i-preserved : goal.loop-i-preserved
-loop-i-preserved c = let g = c.get_numbers.ensures.past _ c.in-Past.is in let n = name-found c.args.s.now c.in-Past.a c.in-Past-get_name.next c.get_name.ensures c.in-Past-get_name.is in (c.get_numbers.auto.out ∙ c.loop-i.invariant.0, lining-two _ _ _ _ _ _ _ _ _ _ _ c.loop-i.invariant.1 c.loop-i-test.true c.in-Past.a c.in-Past-get_name.next g.values g.reads g.inside n c.loop-i.row _ c.loop-i.invariant.0 g.holds)
+loop-i-preserved c = let g = c.get_numbers.ensures.past _ c.in-Some.is in let n = name-found c.args.s.now c.in-Some.a c.in-Some-get_name.next c.get_name.ensures c.in-Some-get_name.is in (c.get_numbers.auto.out ∙ c.loop-i.invariant.0, lining-two _ _ _ _ _ _ _ _ _ _ _ c.loop-i.invariant.1 c.loop-i-test.true c.in-Some.a c.in-Some-get_name.next g.values g.reads g.inside n c.loop-i.row _ c.loop-i.invariant.0 g.holds)
 
 pub shape_of-out : goal.shape_of-out
 shape_of-out c = c.loop-i.invariant.1.same

@@ -5,11 +5,11 @@ use Rattle.table_check.proofs.get_numbers.Goals as goal
 pub loop-i-init : goal.loop-i-init
 loop-i-init c = numbering-begin _ _ _ _ _ _ c.requires.0 c.requires.1
 
-pub shape_of-out-in_default : goal.shape_of-out-in_default
-shape_of-out-in_default c = c.loop-i.invariant.same
+pub shape_of-out-in_err-v : goal.shape_of-out-in_err-v
+shape_of-out-in_err-v c = c.loop-i.invariant.same
 
-pub returns-in_default : goal.returns-in_default
-returns-in_default c = numbering-lost _ _ _ _ _ _ _ _ _ c.loop-i.invariant _ c.loop-i-test.true c.get_field.ensures c.in_default.is
+pub returns-in_err-v : goal.returns-in_err-v
+returns-in_err-v c = rw c.from_residual.ensures (numbering-lost _ _ _ _ _ _ _ _ _ c.loop-i.invariant _ c.loop-i-test.true c.get_field.ensures c.in_err-v.was)
 
 pub overflow_add-out : goal.overflow_add-out
 overflow_add-out c = omega (arith, c.loop-i.invariant.room, c.loop-i.invariant.same, c.loop-i-test.true)
@@ -21,7 +21,7 @@ pub bounds-out-to : goal.bounds-out-to
 bounds-out-to c = omega (arith, c.loop-i.invariant.room, c.loop-i.invariant.same, c.loop-i-test.true)
 
 pub loop-i-preserved : goal.loop-i-preserved
-loop-i-preserved c = numbering-next _ _ _ _ _ _ _ _ _ c.loop-i.invariant _ _ c.loop-i-test.true c.get_field.ensures c.in-Number.is
+loop-i-preserved c = numbering-next _ _ _ _ _ _ _ _ _ c.loop-i.invariant _ _ c.loop-i-test.true c.get_field.ensures c.in_ok-v.was
 
 pub shape_of-out : goal.shape_of-out
 shape_of-out c = c.loop-i.invariant.same

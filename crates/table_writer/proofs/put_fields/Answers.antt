@@ -21,40 +21,40 @@ pub returns-in_default : goal.returns-in_default
 returns-in_default c = absurd (rows-put-some _ _ _ _ _ _ _ _ _ _ _ _ c.loop-i.invariant c.loop-i-test.true (lost c.args.names.now (read_name (drop c.loop-i.f c.args.names.now)) c.get_name.ensures c.in_default.is))
 
 pub offset_bounds-list-j : goal.offset_bounds-list-j
-offset_bounds-list-j c = let n = name-found c.args.names.now c.loop-i.f c.in-Past.next c.get_name.ensures c.in-Past.is in omega (arith, rows-put-in _ _ _ _ _ _ _ _ _ _ _ _ c.loop-i.invariant c.loop-i-test.true _ n)
+offset_bounds-list-j c = let n = name-found c.args.names.now c.loop-i.f c.in-Some.next c.get_name.ensures c.in-Some.is in omega (arith, rows-put-in _ _ _ _ _ _ _ _ _ _ _ _ c.loop-i.invariant c.loop-i-test.true _ n)
 
 pub bounds-list-j : goal.bounds-list-j
-bounds-list-j c = let n = name-found c.args.names.now c.loop-i.f c.in-Past.next c.get_name.ensures c.in-Past.is in omega (arith, rows-put-in _ _ _ _ _ _ _ _ _ _ _ _ c.loop-i.invariant c.loop-i-test.true _ n)
+bounds-list-j c = let n = name-found c.args.names.now c.loop-i.f c.in-Some.next c.get_name.ensures c.in-Some.is in omega (arith, rows-put-in _ _ _ _ _ _ _ _ _ _ _ _ c.loop-i.invariant c.loop-i-test.true _ n)
 
 pub overflow_add-j : goal.overflow_add-j
-overflow_add-j c = let n = name-found c.args.names.now c.loop-i.f c.in-Past.next c.get_name.ensures c.in-Past.is in omega (arith, rows-put-in _ _ _ _ _ _ _ _ _ _ _ _ c.loop-i.invariant c.loop-i-test.true _ n)
+overflow_add-j c = let n = name-found c.args.names.now c.loop-i.f c.in-Some.next c.get_name.ensures c.in-Some.is in omega (arith, rows-put-in _ _ _ _ _ _ _ _ _ _ _ _ c.loop-i.invariant c.loop-i-test.true _ n)
 
 pub offset_bounds-list-j-in-loop-i : goal.offset_bounds-list-j-in-loop-i
-offset_bounds-list-j-in-loop-i c = let n = name-found c.args.names.now c.loop-i.f c.in-Past.next c.get_name.ensures c.in-Past.is in omega (arith, rows-put-in _ _ _ _ _ _ _ _ _ _ _ _ c.loop-i.invariant c.loop-i-test.true _ n)
+offset_bounds-list-j-in-loop-i c = let n = name-found c.args.names.now c.loop-i.f c.in-Some.next c.get_name.ensures c.in-Some.is in omega (arith, rows-put-in _ _ _ _ _ _ _ _ _ _ _ _ c.loop-i.invariant c.loop-i-test.true _ n)
 
 pub bounds-list-j-in-loop-i : goal.bounds-list-j-in-loop-i
-bounds-list-j-in-loop-i c = let n = name-found c.args.names.now c.loop-i.f c.in-Past.next c.get_name.ensures c.in-Past.is in omega (arith, rows-put-in _ _ _ _ _ _ _ _ _ _ _ _ c.loop-i.invariant c.loop-i-test.true _ n)
+bounds-list-j-in-loop-i c = let n = name-found c.args.names.now c.loop-i.f c.in-Some.next c.get_name.ensures c.in-Some.is in omega (arith, rows-put-in _ _ _ _ _ _ _ _ _ _ _ _ c.loop-i.invariant c.loop-i-test.true _ n)
 
 pub put_numbers-a-requires : goal.put_numbers-a-requires
-put_numbers-a-requires c = let n = name-found c.args.names.now c.loop-i.f c.in-Past.next c.get_name.ensures c.in-Past.is in omega (arith, rows-put-fits _ _ _ _ _ _ _ _ _ _ _ _ c.loop-i.invariant c.loop-i-test.true _ n, ap (λ (l : List ℕ). length (flat_map field l)) (two-as c.args.list.now c.loop-i.j _ _ (rows-put-in _ _ _ _ _ _ _ _ _ _ _ _ c.loop-i.invariant c.loop-i-test.true _ n) c.widened.ensures c.widened-in-loop-i.ensures))
+put_numbers-a-requires c = let n = name-found c.args.names.now c.loop-i.f c.in-Some.next c.get_name.ensures c.in-Some.is in omega (arith, rows-put-fits _ _ _ _ _ _ _ _ _ _ _ _ c.loop-i.invariant c.loop-i-test.true _ n, ap (λ (l : List ℕ). length (flat_map field l)) (two-as c.args.list.now c.loop-i.j _ _ (rows-put-in _ _ _ _ _ _ _ _ _ _ _ _ c.loop-i.invariant c.loop-i-test.true _ n) c.widened.ensures c.widened-in-loop-i.ensures))
 
 pub slice_bounds-put_literal-count : goal.slice_bounds-put_literal-count
-slice_bounds-put_literal-count c = let n = name-found c.args.names.now c.loop-i.f c.in-Past.next c.get_name.ensures c.in-Past.is in omega (arith, name-long _ _ _ c.loop-i.invariant.gathered.inside n)
+slice_bounds-put_literal-count c = let n = name-found c.args.names.now c.loop-i.f c.in-Some.next c.get_name.ensures c.in-Some.is in omega (arith, name-long _ _ _ c.loop-i.invariant.gathered.inside n)
 
 pub slice_bounds-put_literal-start : goal.slice_bounds-put_literal-start
-slice_bounds-put_literal-start c = let n = name-found c.args.names.now c.loop-i.f c.in-Past.next c.get_name.ensures c.in-Past.is in omega (arith, name-long _ _ _ c.loop-i.invariant.gathered.inside n)
+slice_bounds-put_literal-start c = let n = name-found c.args.names.now c.loop-i.f c.in-Some.next c.get_name.ensures c.in-Some.is in omega (arith, name-long _ _ _ c.loop-i.invariant.gathered.inside n)
 
 pub slice_bounds-put_literal-end : goal.slice_bounds-put_literal-end
-slice_bounds-put_literal-end c = let n = name-found c.args.names.now c.loop-i.f c.in-Past.next c.get_name.ensures c.in-Past.is in n.inside
+slice_bounds-put_literal-end c = let n = name-found c.args.names.now c.loop-i.f c.in-Some.next c.get_name.ensures c.in-Some.is in n.inside
 
 pub put_literal-o-requires : goal.put_literal-o-requires
-put_literal-o-requires c = let n = name-found c.args.names.now c.loop-i.f c.in-Past.next c.get_name.ensures c.in-Past.is in omega (arith, rows-put-fits _ _ _ _ _ _ _ _ _ _ _ _ c.loop-i.invariant c.loop-i-test.true _ n, c.put_numbers-a.ensures.next, c.put_numbers-a.auto.out, ap (λ (l : List ℕ). length (flat_map field l)) (two-as c.args.list.now c.loop-i.j _ _ (rows-put-in _ _ _ _ _ _ _ _ _ _ _ _ c.loop-i.invariant c.loop-i-test.true _ n) c.widened.ensures c.widened-in-loop-i.ensures))
+put_literal-o-requires c = let n = name-found c.args.names.now c.loop-i.f c.in-Some.next c.get_name.ensures c.in-Some.is in omega (arith, rows-put-fits _ _ _ _ _ _ _ _ _ _ _ _ c.loop-i.invariant c.loop-i-test.true _ n, c.put_numbers-a.ensures.next, c.put_numbers-a.auto.out, ap (λ (l : List ℕ). length (flat_map field l)) (two-as c.args.list.now c.loop-i.j _ _ (rows-put-in _ _ _ _ _ _ _ _ _ _ _ _ c.loop-i.invariant c.loop-i-test.true _ n) c.widened.ensures c.widened-in-loop-i.ensures))
 
 pub overflow_add-j-in-loop-i : goal.overflow_add-j-in-loop-i
-overflow_add-j-in-loop-i c = let n = name-found c.args.names.now c.loop-i.f c.in-Past.next c.get_name.ensures c.in-Past.is in omega (arith, rows-put-in _ _ _ _ _ _ _ _ _ _ _ _ c.loop-i.invariant c.loop-i-test.true _ n)
+overflow_add-j-in-loop-i c = let n = name-found c.args.names.now c.loop-i.f c.in-Some.next c.get_name.ensures c.in-Some.is in omega (arith, rows-put-in _ _ _ _ _ _ _ _ _ _ _ _ c.loop-i.invariant c.loop-i-test.true _ n)
 
 pub loop-i-preserved : goal.loop-i-preserved
-loop-i-preserved c = let n = name-found c.args.names.now c.loop-i.f c.in-Past.next c.get_name.ensures c.in-Past.is in rows-put-next _ _ _ _ _ _ _ _ _ _ _ _ c.loop-i.invariant c.loop-i-test.true _ n _ _ _ _ (c.put_literal-o.auto.out ∙ c.put_numbers-a.auto.out) (puts-at c.put_numbers-a.ensures refl (ap (flat_map field) (two-as c.args.list.now c.loop-i.j _ _ (rows-put-in _ _ _ _ _ _ _ _ _ _ _ _ c.loop-i.invariant c.loop-i-test.true _ n) c.widened.ensures c.widened-in-loop-i.ensures))) c.put_literal-o.ensures
+loop-i-preserved c = let n = name-found c.args.names.now c.loop-i.f c.in-Some.next c.get_name.ensures c.in-Some.is in rows-put-next _ _ _ _ _ _ _ _ _ _ _ _ c.loop-i.invariant c.loop-i-test.true _ n _ _ _ _ (c.put_literal-o.auto.out ∙ c.put_numbers-a.auto.out) (puts-at c.put_numbers-a.ensures refl (ap (flat_map field) (two-as c.args.list.now c.loop-i.j _ _ (rows-put-in _ _ _ _ _ _ _ _ _ _ _ _ c.loop-i.invariant c.loop-i-test.true _ n) c.widened.ensures c.widened-in-loop-i.ensures))) c.put_literal-o.ensures
 
 pub shape_of-out : goal.shape_of-out
 shape_of-out c = c.loop-i.invariant.same

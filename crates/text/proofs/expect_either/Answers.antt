@@ -1,11 +1,12 @@
+use mathlib.Core.Path.{◌∙◌}
 use Rattle.text.proofs.Getting.{either-yes, either-no, either-none}
 use Rattle.text.proofs.expect_either.Goals as goal
 
-pub returns-in-Past : goal.returns-in-Past
-returns-in-Past c = search either-yes
+pub returns-in-Some : goal.returns-in-Some
+returns-in-Some c = search either-yes
 
-pub returns-in_default-expect : goal.returns-in_default-expect
-returns-in_default-expect c = search either-none
+pub returns-in_err-b : goal.returns-in_err-b
+returns-in_err-b c = c.from_residual.ensures ∙ either-none c.args.first.now c.args.second.now c.args.s.now c.args.at c.expect.ensures c.in_default.is c.expect-2.ensures c.in_err-b.was
 
 pub returns : goal.returns
-returns c = search either-no
+returns c = either-no c.args.first.now c.args.second.now c.args.s.now c.args.at c.expect.ensures c.in_default.is c.expect-2.ensures _ c.in_ok-b.was

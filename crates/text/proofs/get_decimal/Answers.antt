@@ -1,5 +1,5 @@
 use Rattle.text.proofs.Getting.{nothing-there, no_digit, spare-zero, just-zero, first-digit, too_large, one_up, low, high, mid}
-use Rattle.text.specs.Answer.{decimal_answer}
+use Rattle.text.specs.Answer.{value_answer}
 use lib.ListN.{get_or, length}
 use mathlib.Core.Option.{some}
 use mathlib.Core.Path.{sym, ap, ◌∙◌}
@@ -24,4 +24,4 @@ pub returns-then-most-d : goal.returns-then-most-d
 returns-then-most-d c = too_large c.args.s.now c.args.most c.wide-d.result _ c.if-most-d.true (first-digit c.args.s.now c.args.most c.args.at c.if-s-at.false c.wide-d.result (one_up (get_or c.args.s.now c.args.at 0) c.wide-d.result c.if-b-lt48.false c.if-b-eq48.false c.wide-d.ensures) (mid (get_or c.args.s.now c.args.at 0) c.if-b-lt48.false c.if-b-gt57.false ∙ ap some (sym c.wide-d.ensures)))
 
 pub returns : goal.returns
-returns c = c.get_more.ensures ∙ ap (decimal_answer (length c.args.s.now)) (sym (first-digit c.args.s.now c.args.most c.args.at c.if-s-at.false c.wide-d.result (one_up (get_or c.args.s.now c.args.at 0) c.wide-d.result c.if-b-lt48.false c.if-b-eq48.false c.wide-d.ensures) (mid (get_or c.args.s.now c.args.at 0) c.if-b-lt48.false c.if-b-gt57.false ∙ ap some (sym c.wide-d.ensures))))
+returns c = c.get_more.ensures ∙ ap (value_answer (length c.args.s.now)) (sym (first-digit c.args.s.now c.args.most c.args.at c.if-s-at.false c.wide-d.result (one_up (get_or c.args.s.now c.args.at 0) c.wide-d.result c.if-b-lt48.false c.if-b-eq48.false c.wide-d.ensures) (mid (get_or c.args.s.now c.args.at 0) c.if-b-lt48.false c.if-b-gt57.false ∙ ap some (sym c.wide-d.ensures))))
