@@ -8,21 +8,6 @@ use Rattle.rows.specs.Row.{bit_in}
 use Rattle.roots.proofs.Scratch.{mid-frame, mid-cell, mid-length, zero_bit}
 use Rattle.roots.proofs.fixpoint.clear_row.Goals as goal
 
-pub overflow_add-past : goal.overflow_add-past
-overflow_add-past c = omega arith
-
-pub offset_bounds-s-at : goal.offset_bounds-s-at
-offset_bounds-s-at c = omega arith
-
-pub slice_bounds-clear_u64-count : goal.slice_bounds-clear_u64-count
-slice_bounds-clear_u64-count c = omega arith
-
-pub slice_bounds-clear_u64-start : goal.slice_bounds-clear_u64-start
-slice_bounds-clear_u64-start c = omega arith
-
-pub slice_bounds-clear_u64-end : goal.slice_bounds-clear_u64-end
-slice_bounds-clear_u64-end c = omega arith
-
 pub returns : goal.returns
 returns c = let l = c.clear_u64.auto.dst ∙ mid-length c.args.at c.args.words c.args.s.now (omega arith) in (
   mid-frame c.args.at c.args.words c.args.s.now c.clear_u64.new.dst c.requires l,
