@@ -5,26 +5,27 @@ use mathlib.Core.Option.{none}
 use mathlib.Core.List.{List}
 use lib.ListN.{length, get_or}
 use native.Mathlib.Omega.{arith}
+use Rattle.std.specs.declared.cmp.Ordering.{Ordering}
+use Rattle.std.specs.Ordering.{nat_cmp}
+use Rattle.std.specs.Cmp.Lexicographic.{slice_cmp}
 use Rattle.ty.specs.Types.{Table}
-use Rattle.alike.specs.Order.{Order}
-use Rattle.alike.specs.Inner.ByTurns.{numbers, ◌and_then◌}
+use Rattle.alike.specs.Inner.ByTurns.{◌and_then◌}
 use Rattle.beside.specs.Inner.Codes.{code}
 use Rattle.beside.specs.Inner.Ranks.{resolve_in, place_in}
 use Rattle.compare.specs.Inner.Turns.{lows}
-use Rattle.compare.specs.Inner.Lists.{lists_order}
 use Rattle.compare.proofs.Turning.{lows-length, lows-at}
 use Rattle.compare.proofs.Going.{Goes, goes_first, goes-next, goes-unlike, goes_over, goes-ended, then-first, then-second}
 use Rattle.compare_objects.specs.Inner.Sides.{places_in, slots_beside, Queued}
 
 module _ (T : Table) (tag slots S : ℕ) (narrow wide pool : List ℕ) (n : ℕ) (tag' slots' S' : ℕ) (narrow' wide' pool' owork : List ℕ) (m : ℕ) where
-  abbrev pub Side : List ℕ → ℕ → ℕ → Order
+  abbrev pub Side : List ℕ → ℕ → ℕ → Ordering
   Side work = slots_beside T (place_in (resolve_in tag slots S narrow) work (resolve_in tag' slots' S' narrow') owork) S narrow wide pool S' narrow' wide' pool'
 
   pub record GoesMet (work₀ work : List ℕ) (k : ℕ) : Type 0 where
     pub kept : work ≡ work₀
     pub first : Queued T slots S narrow wide pool work₀ n
     pub second : Queued T slots' S' narrow' wide' pool' owork m
-    pub goes : Goes (Side work₀) (lows n work₀) (lows m owork) (lists_order (Side work₀) (lows n work₀) (lows m owork)) k
+    pub goes : Goes (Side work₀) (lows n work₀) (lows m owork) (slice_cmp (Side work₀) (lows n work₀) (lows m owork)) k
 
   pub met-first : (work : List ℕ) → Queued T slots S narrow wide pool work n → Queued T slots' S' narrow' wide' pool' owork m → GoesMet work work 0
   met-first work a b = record { kept = refl; first = a; second = b; goes = goes_first (Side work) (lows n work) (lows m owork) }
@@ -36,12 +37,12 @@ module _ (T : Table) (tag slots S : ℕ) (narrow wide pool : List ℕ) (n : ℕ)
     long' : length (lows m owork) ≡ m
     long' = lows-length m owork g.second.room
 
-    abbrev total : Order
-    total = lists_order (Side work₀) (lows n work₀) (lows m owork)
+    abbrev total : Ordering
+    total = slice_cmp (Side work₀) (lows n work₀) (lows m owork)
 
-    pub met-ended : n ≤ k → (r : ℕ) → r ≡ code (numbers k m) → r ≡ code total
+    pub met-ended : n ≤ k → (r : ℕ) → r ≡ code (nat_cmp k m) → r ≡ code total
     met-ended h r e =
-        goes-ended (Side work₀) (lows n work₀) (lows m owork) total k g.goes (omega (arith, long)) r (e ∙ ap (λ (x : ℕ). code (numbers k x)) (sym long'))
+        goes-ended (Side work₀) (lows n work₀) (lows m owork) total k g.goes (omega (arith, long)) r (e ∙ ap (λ (x : ℕ). code (nat_cmp k x)) (sym long'))
 
     module _ (h : k < n) where
       pub met-over : m ≤ k → 2 ≡ code total
@@ -85,9 +86,9 @@ module _ (T : Table) (tag slots S : ℕ) (narrow wide pool : List ℕ) (n : ℕ)
 
 -- ---- roots, then objects
 
-module _ (a b : ℕ) (f g : ℕ → ℕ → Order) (rs ss q p : List ℕ) (r : ℕ) (e : r ≡ code (numbers a b and_then lists_order f rs ss)) where
-  pub roots-unlike : (r ≡ 0 → ⊥) → r ≡ code ((numbers a b and_then lists_order f rs ss) and_then lists_order g q p)
-  roots-unlike h = then-first (numbers a b and_then lists_order f rs ss) (lists_order g q p) r e h
+module _ (a b : ℕ) (f g : ℕ → ℕ → Ordering) (rs ss q p : List ℕ) (r : ℕ) (e : r ≡ code (nat_cmp a b and_then slice_cmp f rs ss)) where
+  pub roots-unlike : (r ≡ 0 → ⊥) → r ≡ code ((nat_cmp a b and_then slice_cmp f rs ss) and_then slice_cmp g q p)
+  roots-unlike h = then-first (nat_cmp a b and_then slice_cmp f rs ss) (slice_cmp g q p) r e h
 
-  pub roots-then : r ≡ 0 → (x : ℕ) → x ≡ code (lists_order g q p) → x ≡ code ((numbers a b and_then lists_order f rs ss) and_then lists_order g q p)
-  roots-then h x d = d ∙ then-second (numbers a b and_then lists_order f rs ss) (lists_order g q p) r e h
+  pub roots-then : r ≡ 0 → (x : ℕ) → x ≡ code (slice_cmp g q p) → x ≡ code ((nat_cmp a b and_then slice_cmp f rs ss) and_then slice_cmp g q p)
+  roots-then h x d = d ∙ then-second (nat_cmp a b and_then slice_cmp f rs ss) (slice_cmp g q p) r e h

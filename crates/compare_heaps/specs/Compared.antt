@@ -1,15 +1,15 @@
 -- What a comparison of two checked heaps asks, and what it finds of the order that `saves` defines.
 use Rattle.std.specs.Prelude.{◌≡◌, true, List, ℕ, ◌≤◌, length, replicate}
+use Rattle.std.specs.declared.cmp.Ordering.{Ordering}
 use Rattle.word.specs.Result.{Result, ok, refused}
 use Rattle.heap.specs.Lent.{Lent, slot_count}
 use Rattle.heap.specs.WellFormed.{well_formed}
-use Rattle.alike.specs.Order.{Order}
 use Rattle.beside.specs.Inner.Codes.{code}
 use Rattle.compare_heaps.specs.declared.Compared.{Compared}
 use Rattle.compare_heaps.specs.declared.Compared.TheVariants.{Is, Untraceable}
 
 -- an order as a byte, or that something can't be traced
-abbrev pub compared_by : Result Order → Compared
+abbrev pub compared_by : Result Ordering → Compared
 compared_by (ok o) = Is (code o)
 compared_by (refused n) = Untraceable
 

@@ -9,6 +9,8 @@ use lib.Dec.{eqb}
 use native.Mathlib.Decide.{dec_lt}
 use native.Mathlib.Omega.{arith}
 use Rattle.std.specs.Prelude.{if◌then◌else◌}
+use Rattle.std.specs.declared.cmp.Ordering.{Ordering}
+use Rattle.std.specs.Ordering.{nat_cmp}
 use Rattle.word.specs.Result.{Result}
 use Rattle.ty.specs.Types.{Table}
 use Rattle.trace.specs.Places.{Places, shown_places}
@@ -17,8 +19,8 @@ use Rattle.trace.specs.declared.Goal.TheVariants.{Beside as Goal-as-Beside}
 use Rattle.trace.specs.declared.Answer.{Answer}
 use Rattle.trace.specs.declared.Answer.TheVariants.{Traced, Untraceable}
 use Rattle.trace.proofs.BesideLaws.{beside-told, beside_none}
-use Rattle.alike.specs.Order.{Order, order}
-use Rattle.alike.specs.Inner.ByTurns.{numbers, ◌and_then◌}
+use Rattle.alike.specs.Order.{order}
+use Rattle.alike.specs.Inner.ByTurns.{◌and_then◌}
 use Rattle.alike.specs.Inner.Beside.{Beside, beside_first, beside_all, beside_end}
 use Rattle.beside.specs.Inner.Codes.{code, then_code}
 use Rattle.beside.specs.Inner.Ranks.{place_in}
@@ -30,13 +32,13 @@ use Rattle.compare_objects.specs.Inner.Sides.{head_order, data_beside}
 
 -- ---- numbers
 
-pub heads : (u v : Head) (a b c d x y r : ℕ) → a ≡ code (numbers u.kind v.kind) → b ≡ code (numbers u.t v.t) → c ≡ code (numbers u.start v.start)
-    → d ≡ code (numbers (u.to - u.from) (v.to - v.from)) → x ≡ (if eqb c 0 then d else c) → y ≡ (if eqb b 0 then x else b) → r ≡ (if eqb a 0 then y else a) → r ≡ code (head_order u v)
+pub heads : (u v : Head) (a b c d x y r : ℕ) → a ≡ code (nat_cmp u.kind v.kind) → b ≡ code (nat_cmp u.t v.t) → c ≡ code (nat_cmp u.start v.start)
+    → d ≡ code (nat_cmp (u.to - u.from) (v.to - v.from)) → x ≡ (if eqb c 0 then d else c) → y ≡ (if eqb b 0 then x else b) → r ≡ (if eqb a 0 then y else a) → r ≡ code (head_order u v)
 heads u v a b c d x y r ea eb ec ed ex ey er =
-    let k = numbers u.kind v.kind in
-    let t = numbers u.t v.t in
-    let s = numbers u.start v.start in
-    let n = numbers (u.to - u.from) (v.to - v.from) in
+    let k = nat_cmp u.kind v.kind in
+    let t = nat_cmp u.t v.t in
+    let s = nat_cmp u.start v.start in
+    let n = nat_cmp (u.to - u.from) (v.to - v.from) in
     then_by k (t and_then s and_then n) a y r er ea (then_by t (s and_then n) b x y ey eb (then_by s n c d x ex ec ed))
 
 -- ---- parts of data: what is visible from start on, or from where the data ends
@@ -76,7 +78,7 @@ module _ (s f : ℕ) (b : List ℕ) (e : f ≡ min s (length b)) where
 module _ (T : Table) (kind t start : ℕ) (b c work : List ℕ) (otag oslots os : ℕ) (R : ℕ → Result ℕ) (onarrow owork : List ℕ) (r : Answer) (found work' : List ℕ)
     (er : told r found work' ≡ handing_at (aim (Goal-as-Beside otag oslots os) R onarrow (drop start c) owork) (drop start b) (raw_of (0 ∷ 0 ∷ []) work 0) (shown_places T kind t start b))
     (can : shown_places T kind t start b ≡ none → ⊥) where
-  abbrev place : ℕ → ℕ → Order
+  abbrev place : ℕ → ℕ → Ordering
   place = place_in R work (resolve_in otag oslots os onarrow) owork
 
   pub data-traced : {X : Type 0} → r ≡ Untraceable → X
@@ -123,7 +125,7 @@ module _ (T : Table) (kind t start : ℕ) (b c work : List ℕ) (otag oslots os 
           let f0 : get_or found 0 0 ≡ code y.bytes = ap (λ (x : Raw). get_or x.marks 0 0) raw in
           let f1 : get_or found 1 0 ≡ code y.handles = ap (λ (x : Raw). get_or x.marks 1 0) raw in
           let dn : done ≡ y.done = ap (λ (x : Raw). x.count) raw in
-          let tail : Order = order (drop y.done (drop start b)) (drop y.done (drop start c)) in
+          let tail : Ordering = order (drop y.done (drop start b)) (drop y.done (drop start c)) in
           let s1 : shown ≡ code (y.bytes and_then tail) =
           es ∙ (λ i. then_code (f0 i) (tails i)) ∙ ap (λ (d : ℕ). then_code (code y.bytes) (order (drop d (drop start b)) (drop d (drop start c)))) dn ∙ then-code y.bytes tail in
           let s2 : inner ≡ code (beside_end place (drop start b) (drop start c) y) = then_by (y.bytes and_then tail) y.handles shown (get_or found 1 0) inner ei s1 f1 in

@@ -6,15 +6,18 @@ use mathlib.Core.List.{List}
 use lib.ListN.{length, get_or, take, drop, length-drop}
 use lib.Seq.{length-take-le}
 use native.Mathlib.Omega.{arith}
+use Rattle.std.specs.declared.cmp.Ordering.{Ordering}
+use Rattle.std.specs.declared.cmp.Ordering.TheVariants.{Less, Equal, Greater}
+use Rattle.std.specs.Ordering.{nat_cmp}
+use Rattle.std.proofs.lemmas.Map.Lookups.{exact_unsigned}
 use Rattle.word.specs.Run.{run}
 use Rattle.word.proofs.RunLaws.{run-get, first-get}
 use Rattle.heap.specs.Packing.{start_of, data_at}
 use Rattle.ty.specs.Types.{Table}
 use Rattle.trace.specs.Places.{shown_places}
 use Rattle.mark.specs.Graph.{Fit}
-use Rattle.alike.specs.Order.{Order, Order.less, Order.equal, Order.greater}
-use Rattle.alike.specs.Inner.ByTurns.{◌and_then◌, numbers}
-use Rattle.alike.proofs.Turns.{numbers-equal}
+use Rattle.alike.specs.Inner.ByTurns.{◌and_then◌}
+
 use Rattle.beside.specs.Inner.Codes.{code}
 use Rattle.compare.proofs.Going.{code-equal, then-first, then-second}
 use Rattle.compare_objects.specs.declared.Head.{Head}
@@ -62,25 +65,25 @@ module _ (slots S : ℕ) (narrow wide pool : List ℕ) (fit : Fit slots S narrow
   slot-traced T f e = f (places-at T ∙ e)
 
 -- the data of two slots whose numbers are equal is equally long
-last-equal : (p q u o : Order) → (p and_then (q and_then (u and_then o))) ≡ equal → o ≡ equal
-last-equal less q u o e = let c : ◌≡◌ {A = ℕ} 0 1 = cc in absurd (omega arith)
-last-equal greater q u o e = let c : ◌≡◌ {A = ℕ} 0 1 = cc in absurd (omega arith)
-last-equal equal less u o e = let c : ◌≡◌ {A = ℕ} 0 1 = cc in absurd (omega arith)
-last-equal equal greater u o e = let c : ◌≡◌ {A = ℕ} 0 1 = cc in absurd (omega arith)
-last-equal equal equal less o e = let c : ◌≡◌ {A = ℕ} 0 1 = cc in absurd (omega arith)
-last-equal equal equal greater o e = let c : ◌≡◌ {A = ℕ} 0 1 = cc in absurd (omega arith)
-last-equal equal equal equal o e = e
+last-equal : (p q u o : Ordering) → (p and_then (q and_then (u and_then o))) ≡ Equal → o ≡ Equal
+last-equal Less q u o e = let c : ◌≡◌ {A = ℕ} 0 1 = cc in absurd (omega arith)
+last-equal Greater q u o e = let c : ◌≡◌ {A = ℕ} 0 1 = cc in absurd (omega arith)
+last-equal Equal Less u o e = let c : ◌≡◌ {A = ℕ} 0 1 = cc in absurd (omega arith)
+last-equal Equal Greater u o e = let c : ◌≡◌ {A = ℕ} 0 1 = cc in absurd (omega arith)
+last-equal Equal Equal Less o e = let c : ◌≡◌ {A = ℕ} 0 1 = cc in absurd (omega arith)
+last-equal Equal Equal Greater o e = let c : ◌≡◌ {A = ℕ} 0 1 = cc in absurd (omega arith)
+last-equal Equal Equal Equal o e = e
 
 pub slots-even : (slots S : ℕ) (narrow wide pool : List ℕ) (fit : Fit slots S narrow wide pool) (i : ℕ) (h : i < slots) (x : Head) (ex : x ≡ head_of S narrow wide i)
     (slots' S' : ℕ) (narrow' wide' pool' : List ℕ) (fit' : Fit slots' S' narrow' wide' pool') (j : ℕ) (h' : j < slots') (y : Head) (ey : y ≡ head_of S' narrow' wide' j)
     (r : ℕ) → r ≡ code (head_order x y) → r ≡ 0 → length (take (x.to - x.from) (drop x.from pool)) ≡ length (take (y.to - y.from) (drop y.from pool'))
 slots-even slots S narrow wide pool fit i h x ex slots' S' narrow' wide' pool' fit' j h' y ey r er z =
-    let n = numbers-equal (x.to - x.from) (y.to - y.from)
-    (last-equal (numbers x.kind y.kind) (numbers x.t y.t) (numbers x.start y.start) (numbers (x.to - x.from) (y.to - y.from)) (code-equal (head_order x y) (sym er ∙ z))) in
+    let n = exact_unsigned (x.to - x.from) (y.to - y.from)
+    (last-equal (nat_cmp x.kind y.kind) (nat_cmp x.t y.t) (nat_cmp x.start y.start) (nat_cmp (x.to - x.from) (y.to - y.from)) (code-equal (head_order x y) (sym er ∙ z))) in
     data-size slots S narrow wide pool fit i h x ex ∙ n ∙ sym (data-size slots' S' narrow' wide' pool' fit' j h' y ey)
 
 -- two slots
-module _ (T : Table) (place : ℕ → ℕ → Order)
+module _ (T : Table) (place : ℕ → ℕ → Ordering)
     (slots S : ℕ) (narrow wide pool : List ℕ) (fit : Fit slots S narrow wide pool) (i : ℕ) (h : i < slots) (x : Head) (ex : x ≡ head_of S narrow wide i)
     (slots' S' : ℕ) (narrow' wide' pool' : List ℕ) (fit' : Fit slots' S' narrow' wide' pool') (j : ℕ) (h' : j < slots') (y : Head) (ey : y ≡ head_of S' narrow' wide' j) where
   abbrev v : List ℕ
@@ -89,7 +92,7 @@ module _ (T : Table) (place : ℕ → ℕ → Order)
   abbrev w : List ℕ
   w = take (y.to - y.from) (drop y.from pool')
 
-  abbrev body : Order
+  abbrev body : Ordering
   body = data_beside place x.start v w (shown_places T x.kind x.t x.start v)
 
   beside-is : slots_beside T place S narrow wide pool S' narrow' wide' pool' i j ≡ head_order x y and_then body

@@ -7,6 +7,8 @@ use lib.ListN.{length, replicate, get_or}
 use lib.Dec.{eqb, leb}
 use borrow.Author.Tests.{eq-eqb, ne_eqb}
 use Rattle.std.specs.Prelude.{if◌then◌else◌}
+use Rattle.std.specs.declared.cmp.Ordering.{Ordering}
+use Rattle.std.specs.declared.cmp.Ordering.TheVariants.{Less, Equal, Greater}
 use Rattle.word.specs.Result.{Result, ok, refused}
 use Rattle.word.proofs.Bools.{and_both}
 use Rattle.refusal.specs.Told.{told, answered, nothing}
@@ -23,7 +25,6 @@ use Rattle.door.specs.HeapCalls.{test, enough, zeros, Entered, asked_of}
 use Rattle.door.specs.declared.Entry.{Entry}
 use Rattle.door.specs.declared.Entry.TheVariants.{Ready, Not}
 use Rattle.door.proofs.Entering.{and-holds, and-fails, and-more, holding, cleared-in, ask-refused, ask-ready, zeros-again, zeros-room}
-use Rattle.alike.specs.Order.{Order, Order.less, Order.equal, Order.greater}
 use Rattle.compare_heaps.specs.declared.Compared.{Compared}
 use Rattle.compare_heaps.specs.declared.Compared.TheVariants.{Is, Untraceable}
 use Rattle.compare_heaps.specs.Compared.{compared_by, CanMark}
@@ -83,24 +84,24 @@ module _ (T : Table) (g h : State) (rs ss : List ℕ) where
   same-told : told (same_reply (compared_by (ordering T g h rs ss))) ≡ answered same_number nothing (ordering T g h rs ss)
   same-told = by_ordering T g h rs ss (λ u q. at (refused 13) q refl) (λ a b q. at (ok (ordered T g h rs ss)) q (each (ordered T g h rs ss)))
     where
-      at : (o : Result Order) → ordering T g h rs ss ≡ o → told (same_reply (compared_by o)) ≡ answered same_number nothing o → told (same_reply (compared_by (ordering T g h rs ss))) ≡ answered same_number nothing (ordering T g h rs ss)
-      at o q r = ap (λ (x : Result Order). told (same_reply (compared_by x))) q ∙ r ∙ sym (ap (answered same_number nothing) q)
+      at : (o : Result Ordering) → ordering T g h rs ss ≡ o → told (same_reply (compared_by o)) ≡ answered same_number nothing o → told (same_reply (compared_by (ordering T g h rs ss))) ≡ answered same_number nothing (ordering T g h rs ss)
+      at o q r = ap (λ (x : Result Ordering). told (same_reply (compared_by x))) q ∙ r ∙ sym (ap (answered same_number nothing) q)
 
-      each : (o : Order) → told (same_reply (compared_by (ok o))) ≡ answered same_number nothing (ok o)
-      each less = refl
-      each equal = refl
-      each greater = refl
+      each : (o : Ordering) → told (same_reply (compared_by (ok o))) ≡ answered same_number nothing (ok o)
+      each Less = refl
+      each Equal = refl
+      each Greater = refl
 
   order-told : told (order_reply (compared_by (ordering T g h rs ss))) ≡ answered order_number nothing (ordering T g h rs ss)
   order-told = by_ordering T g h rs ss (λ u q. at (refused 13) q refl) (λ a b q. at (ok (ordered T g h rs ss)) q (each (ordered T g h rs ss)))
     where
-      at : (o : Result Order) → ordering T g h rs ss ≡ o → told (order_reply (compared_by o)) ≡ answered order_number nothing o → told (order_reply (compared_by (ordering T g h rs ss))) ≡ answered order_number nothing (ordering T g h rs ss)
-      at o q r = ap (λ (x : Result Order). told (order_reply (compared_by x))) q ∙ r ∙ sym (ap (answered order_number nothing) q)
+      at : (o : Result Ordering) → ordering T g h rs ss ≡ o → told (order_reply (compared_by o)) ≡ answered order_number nothing o → told (order_reply (compared_by (ordering T g h rs ss))) ≡ answered order_number nothing (ordering T g h rs ss)
+      at o q r = ap (λ (x : Result Ordering). told (order_reply (compared_by x))) q ∙ r ∙ sym (ap (answered order_number nothing) q)
 
-      each : (o : Order) → told (order_reply (compared_by (ok o))) ≡ answered order_number nothing (ok o)
-      each less = refl
-      each equal = refl
-      each greater = refl
+      each : (o : Ordering) → told (order_reply (compared_by (ok o))) ≡ answered order_number nothing (ok o)
+      each Less = refl
+      each Equal = refl
+      each Greater = refl
 
 -- ---- the calls
 
@@ -108,7 +109,7 @@ zeros-on : (m m' m'' m''' : List ℕ) → m' ≡ zeros m → length m'' ≡ leng
 zeros-on m m' m'' m''' a b c = c ∙ ap (λ (k : ℕ). replicate k 0) b ∙ sym (zeros-again m m' a)
 
 module _ (w : Words) (s t : Save) {e : Entry} {m' w' om' ow' : List ℕ} (x : Entered (scratch_of s t) (save_tests w s t) e (m' ∷ w' ∷ om' ∷ ow' ∷ [])) where
-  abbrev question : State → Result Order
+  abbrev question : State → Result Ordering
   question h = ordering (table_in w) h (view t.heap) s.roots t.roots
 
   part : e ≡ Ready → (k : ℕ) → get_or (m' ∷ w' ∷ om' ∷ ow' ∷ []) k [] ≡ get_or (zeros s.marks ∷ zeros s.work ∷ zeros t.marks ∷ zeros t.work ∷ []) k []
