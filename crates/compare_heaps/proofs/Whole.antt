@@ -6,6 +6,7 @@ use mathlib.Core.List.{List, [], ◌∷◌, ◌++◌}
 use lib.ListN.{length, get_or, take, drop, length-drop, length-append}
 use lib.Seq.{length-take-le}
 use native.Mathlib.Omega.{arith}
+use Rattle.std.specs.Prelude.{Option, Some, None}
 use Rattle.std.specs.declared.cmp.Ordering.{Ordering}
 use Rattle.std.specs.declared.cmp.Ordering.TheVariants.{Less, Equal, Greater}
 use Rattle.std.specs.Ordering.{nat_cmp}
@@ -20,8 +21,6 @@ use Rattle.heap.specs.Lent.{lent, view}
 use Rattle.ty.specs.Types.{Table}
 use Rattle.places.specs.StrideZero.{ShortConstants}
 use Rattle.trace.specs.Places.{Places}
-use Rattle.trace.specs.declared.Answer.{Answer}
-use Rattle.trace.specs.declared.Answer.TheVariants.{Traced, Untraceable as Stuck}
 use Rattle.reach.specs.Reach.{◌∈◌}
 use Rattle.reach.proofs.Grown.{∈-index}
 use Rattle.collection.specs.Collected.{found}
@@ -33,7 +32,6 @@ use Rattle.alike.specs.Order.{order, met, resolves, worth, places_code}
 use Rattle.alike.specs.Inner.ByTurns.{◌and_then◌, place_order, slot_order, objects_order, by_turns}
 use Rattle.alike.specs.Inner.Beside.{beside_first, beside_all, beside_end}
 use Rattle.alike.proofs.Turns.{then-assoc, then-after, places-cons}
-use Rattle.beside.specs.Inner.Codes.{code}
 use Rattle.beside.specs.Inner.Ranks.{resolve_in, rank_of, worth_in, place_in}
 use Rattle.models.specs.Inner.Along.{visible_in_one_go}
 use Rattle.models.proofs.Heaps.{data-short}
@@ -43,7 +41,6 @@ use Rattle.compare.proofs.Turning.{lows-length, lows-at}
 use Rattle.saves.specs.Saves.{ordering}
 use Rattle.saves.specs.Inner.Columns.{columns_model}
 use Rattle.saves.proofs.TwoLent.{lent-first, lent-second, lent-turns}
-use Rattle.compare_heaps.specs.declared.Compared.TheVariants.{Is, Untraceable}
 use Rattle.compare_heaps.specs.Compared.{compared_by, CanMark}
 use Rattle.compare_objects.specs.Inner.Sides.{head_of, data_beside, places_in, slots_beside, Queued}
 use Rattle.compare_heaps.specs.Inner.Marked.{Clear, MetIn, Meets}
@@ -52,7 +49,6 @@ use Rattle.compare_heaps.proofs.Meeting.{reached-places, met-queued}
 -- ---- lists
 
 lists-places : (G H : Model) (q p rs ss : List ℕ) → length rs ≡ length ss → slice_cmp (place_order G H q p) rs ss ≡ order (places_code G q rs) (places_code H p ss)
-unfolding slice_cmp order
 lists-places G H q p [] [] e = refl
 lists-places G H q p [] (w ∷ ss) e = absurd (omega arith)
 lists-places G H q p (v ∷ rs) [] e = absurd (omega arith)
@@ -61,7 +57,7 @@ lists-places G H q p (v ∷ rs) (w ∷ ss) e =
 
 lists-objects : (G H : Model) (q p : List ℕ) (f : ℕ → ℕ → Ordering) (os us : List ℕ) → ((o u : ℕ) → o ∈ os → u ∈ us → f o u ≡ slot_order G H q p (G.object o) (H.object u))
     → slice_cmp f os us ≡ objects_order G H q p os us
-unfolding slice_cmp objects_order
+unfolding objects_order
 lists-objects G H q p f [] [] e = refl
 lists-objects G H q p f [] (u ∷ us) e = refl
 lists-objects G H q p f (o ∷ os) [] e = refl
@@ -188,37 +184,36 @@ module _ (T : Table) (h : Heap) (narrow wide pool : List ℕ) (k : Heap) (narrow
   abbrev H' : Model
   H' = columns_model T k.tag k.slots (length narrow' / 6) narrow' wide' pool'
 
-  module _ (x : Answer) (w : List ℕ) (mx : Meets x (columns_model T h.tag h.slots (length narrow / 6) narrow wide pool) rs h.slots w) where
-    pub whole-first : x ≡ Stuck → Untraceable ≡ compared_by (ordering T (view (lent h narrow wide pool)) (view (lent k narrow' wide' pool')) rs ss)
+  module _ (x : Option ℕ) (w : List ℕ) (mx : Meets x (columns_model T h.tag h.slots (length narrow / 6) narrow wide pool) rs h.slots w) where
+    pub whole-first : x ≡ None → None ≡ compared_by (ordering T (view (lent h narrow wide pool)) (view (lent k narrow' wide' pool')) rs ss)
     whole-first e =
-        ap compared_by (sym (lent-first T h narrow wide pool c.formed k narrow' wide' pool' d.formed rs ss (subst (λ (y : Answer). Meets y G' rs h.slots w) e mx)))
+        ap compared_by (sym (lent-first T h narrow wide pool c.formed k narrow' wide' pool' d.formed rs ss (subst (λ (y : Option ℕ). Meets y G' rs h.slots w) e mx)))
 
-    module _ (y : Answer) (w' : List ℕ) (my : Meets y (columns_model T k.tag k.slots (length narrow' / 6) narrow' wide' pool') ss k.slots w') where
-      pub whole-second : y ≡ Stuck → Untraceable ≡ compared_by (ordering T (view (lent h narrow wide pool)) (view (lent k narrow' wide' pool')) rs ss)
+    module _ (y : Option ℕ) (w' : List ℕ) (my : Meets y (columns_model T k.tag k.slots (length narrow' / 6) narrow' wide' pool') ss k.slots w') where
+      pub whole-second : y ≡ None → None ≡ compared_by (ordering T (view (lent h narrow wide pool)) (view (lent k narrow' wide' pool')) rs ss)
       whole-second e =
-          ap compared_by (sym (lent-second T h narrow wide pool c.formed k narrow' wide' pool' d.formed rs ss (subst (λ (z : Answer). Meets z H' ss k.slots w') e my)))
+          ap compared_by (sym (lent-second T h narrow wide pool c.formed k narrow' wide' pool' d.formed rs ss (subst (λ (z : Option ℕ). Meets z H' ss k.slots w') e my)))
 
-      module _ (n : ℕ) (en : x ≡ Traced n) (m : ℕ) (em : y ≡ Traced m) where
+      module _ (n : ℕ) (en : x ≡ Some n) (m : ℕ) (em : y ≡ Some m) where
         first-met : MetIn G' rs h.slots w n
-        first-met = subst (λ (z : Answer). Meets z G' rs h.slots w) en mx
+        first-met = subst (λ (z : Option ℕ). Meets z G' rs h.slots w) en mx
 
         second-met : MetIn H' ss k.slots w' m
-        second-met = subst (λ (z : Answer). Meets z H' ss k.slots w') em my
+        second-met = subst (λ (z : Option ℕ). Meets z H' ss k.slots w') em my
 
-        pub whole-can : (Fit h.slots (length narrow / 6) narrow wide pool × Fit k.slots (length narrow' / 6) narrow' wide' pool')
-            × (Queued T h.slots (length narrow / 6) narrow wide pool w n × Queued T k.slots (length narrow' / 6) narrow' wide' pool' w' m)
+        pub whole-can : Queued T h.slots (length narrow / 6) narrow wide pool w n × Queued T k.slots (length narrow' / 6) narrow' wide' pool' w' m
         whole-can = (
-          (formed-fit h narrow wide pool c.formed, formed-fit k narrow' wide' pool' d.formed),
-          (met-queued T h.tag h.slots (length narrow / 6) narrow wide pool rs w n first-met, met-queued T k.tag k.slots (length narrow' / 6) narrow' wide' pool' ss w' m second-met),
+          met-queued T h.tag h.slots (length narrow / 6) narrow wide pool rs w n first-met,
+          met-queued T k.tag k.slots (length narrow' / 6) narrow' wide' pool' ss w' m second-met,
         )
 
-        pub whole-found : ShortConstants T → length pool < 2 ^ 64 → (r : ℕ)
-            → r ≡ code ((nat_cmp (length rs) (length ss) and_then slice_cmp (place_in (resolve_in h.tag h.slots (length narrow / 6) narrow) w (resolve_in k.tag k.slots (length narrow' / 6) narrow') w') rs ss)
+        pub whole-found : ShortConstants T → length pool < 2 ^ 64 → (r : Ordering)
+            → r ≡ ((nat_cmp (length rs) (length ss) and_then slice_cmp (place_in (resolve_in h.tag h.slots (length narrow / 6) narrow) w (resolve_in k.tag k.slots (length narrow' / 6) narrow') w') rs ss)
             and_then slice_cmp (slots_beside T (place_in (resolve_in h.tag h.slots (length narrow / 6) narrow) w (resolve_in k.tag k.slots (length narrow' / 6) narrow') w')
             (length narrow / 6) narrow wide pool (length narrow' / 6) narrow' wide' pool') (lows n w) (lows m w'))
-            → Is r ≡ compared_by (ordering T (view (lent h narrow wide pool)) (view (lent k narrow' wide' pool')) rs ss)
+            → Some r ≡ compared_by (ordering T (view (lent h narrow wide pool)) (view (lent k narrow' wide' pool')) rs ss)
         whole-found small short r e =
-            ap Is (e ∙ ap code (found-order T h.tag h.slots (length narrow / 6) narrow wide pool w n rs k.tag k.slots (length narrow' / 6) narrow' wide' pool' w' m ss
+            ap Some (e ∙ (found-order T h.tag h.slots (length narrow / 6) narrow wide pool w n rs k.tag k.slots (length narrow' / 6) narrow' wide' pool' w' m ss
             (formed-fit h narrow wide pool c.formed) (formed-fit k narrow' wide' pool' d.formed) first-met second-met small short))
             ∙ ap compared_by (sym (lent-turns T h narrow wide pool c.formed k narrow' wide' pool' d.formed rs ss first-met.traced second-met.traced))
 

@@ -31,7 +31,7 @@ module _ (G H : Model) (q p b c : List ℕ) where
   codes ps = order (places_code G q (map (λ (a : ℕ). handle_at b a) ps)) (places_code H p (map (λ (a : ℕ). handle_at c a) ps))
 
   pub sides : (ps : List ℕ) (s : Beside) → beside_end (place_order G H q p) b c (beside_all (place_order G H q p) b c s ps) ≡ (s.bytes and_then rest_from s.done ps b c) and_then (s.handles and_then codes ps)
-  unfolding rest_from order
+  unfolding rest_from
   sides [] s = ap (λ (o : Ordering). (s.bytes and_then order (drop s.done b) (drop s.done c)) and_then o) (sym (then_equal s.handles))
   sides (a ∷ ps) s =
       let x = order (take (a - s.done) (drop s.done b)) (take (a - s.done) (drop s.done c)) in

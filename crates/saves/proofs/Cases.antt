@@ -13,7 +13,7 @@ use Rattle.trace.specs.Places.{object_places, rising, handles_places, kind_place
 use Rattle.reach.specs.Marking.{visit, follow, drained, marking}
 use Rattle.heap.specs.State.{Slot, State}
 use Rattle.heap.specs.Calls.{resolve}
-use Rattle.alike.specs.Order.{onward, met, encoding, order, heap_order}
+use Rattle.alike.specs.Order.{onward, met, encoding, heap_order}
 use Rattle.models.specs.Objects.{in_place, outside, slot_places, object_of}
 use Rattle.models.specs.HeapModel.{heap_model}
 use Rattle.saves.specs.Saves.{ordering}
@@ -72,5 +72,5 @@ told :
     ∷ ordering table (one 7) (other 7) [] (to 2 ∷ [])
     ∷ []
     ≡ ok Equal ∷ ok Less ∷ ok Greater ∷ refused 13 ∷ refused 13 ∷ []
-unfolding ordering heap_model object_of slot_places shown_places kind_places object_places handles_places rising outside in_place le packed tag_of index_of generation_of resolve resolve_by marking drained visit follow heap_order order encoding met onward handles_by handles_at desc_by desc_at
+unfolding ordering heap_model object_of slot_places shown_places kind_places object_places handles_places rising outside in_place le packed tag_of index_of generation_of resolve resolve_by marking drained visit follow heap_order encoding met onward handles_by handles_at desc_by desc_at
 told = refl

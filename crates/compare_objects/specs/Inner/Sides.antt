@@ -12,7 +12,7 @@ use Rattle.trace.specs.Places.{Places, shown_places}
 use Rattle.alike.specs.Order.{order}
 use Rattle.alike.specs.Inner.ByTurns.{◌and_then◌}
 use Rattle.alike.specs.Inner.Beside.{beside_first, beside_all, beside_end}
-use Rattle.compare_objects.specs.declared.Head.{Head}
+use Rattle.compare_objects.specs.declared.side.Head.{Head}
 
 -- the numbers of slot i, by the runs
 unfoldable pub head_of : (S : ℕ) (narrow wide : List ℕ) → ℕ → Head
@@ -21,13 +21,12 @@ head_of S narrow wide i =
       kind = get_or (run S S narrow) i 0;
       t = get_or (run S (2 * S) narrow) i 0;
       start = get_or (run S 0 wide) i 0;
-      from = start_of (run S S wide) i;
-      to = get_or (run S S wide) i 0;
+      size = get_or (run S S wide) i 0 - start_of (run S S wide) i;
     }
 
 -- kind, type, start and length
 abbrev pub head_order : Head → Head → Ordering
-head_order x y = nat_cmp x.kind y.kind and_then nat_cmp x.t y.t and_then nat_cmp x.start y.start and_then nat_cmp (x.to - x.from) (y.to - y.from)
+head_order x y = nat_cmp x.kind y.kind and_then nat_cmp x.t y.t and_then nat_cmp x.start y.start and_then nat_cmp x.size y.size
 
 -- the data b and c of two objects that are visible from s on, along the places of the first
 unfoldable pub data_beside : (place : ℕ → ℕ → Ordering) (s : ℕ) (b c : List ℕ) → Places → Ordering
