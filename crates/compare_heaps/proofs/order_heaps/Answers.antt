@@ -21,8 +21,8 @@ invariant_of-there-2 c = record { fit = mark-fit c.args.other c.args.other_narro
 pub first_met-requires : goal.first_met-requires
 first_met-requires c = mark-clear c.args.heap c.args.narrow.now c.args.wide.now c.args.pool.now c.args.marks.now c.args.work.now c.requires.can_mark
 
-pub first_met-requires-2 : goal.first_met-requires-2
-first_met-requires-2 c = mark-clear c.args.other c.args.other_narrow.now c.args.other_wide.now c.args.other_pool.now c.args.other_marks.now c.args.other_work.now c.requires.can_mark_2
+pub first_met-second-requires : goal.first_met-second-requires
+first_met-second-requires c = mark-clear c.args.other c.args.other_narrow.now c.args.other_wide.now c.args.other_pool.now c.args.other_marks.now c.args.other_work.now c.requires.can_mark_2
 
 pub returns-in_err-n : goal.returns-in_err-n
 returns-in_err-n c = c.from_residual.ensures ∙ whole-first (table_of c.args.types.now c.args.fields.now c.args.consts.now c.args.bytes.now) c.args.heap c.args.narrow.now c.args.wide.now c.args.pool.now c.args.other c.args.other_narrow.now c.args.other_wide.now c.args.other_pool.now c.args.marks.now c.args.work.now c.args.other_marks.now c.args.other_work.now c.requires.can_mark c.requires.can_mark_2 c.args.roots.now c.args.other_roots.now c.first_met.result c.first_met.new.work c.first_met.ensures c.in_err-n.was
