@@ -3,8 +3,8 @@ use Rattle.std.proofs.Common.{length}
 use Rattle.shelves.specs.Inner.Steps.{Good}
 use Rattle.shelf.proofs.feed.Given as goal
 
-abbrev pub invariant-loop : goal.invariant-loop
-invariant-loop g l = Good l.shelf
+abbrev pub invariant-loop-rest : goal.invariant-loop-rest
+invariant-loop-rest g l = Good l.shelf
 
-abbrev pub decreases-loop : goal.decreases-loop
-decreases-loop g l = length l.rest
+abbrev pub decreases-loop-rest : goal.decreases-loop-rest
+decreases-loop-rest g l = length l.rest
