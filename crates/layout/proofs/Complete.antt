@@ -4,10 +4,9 @@ use mathlib.Core.List.{List, [], ◌∷◌}
 use Prim.Native.Nat.{ℕ, suc, ◌+◌, max}
 use native.Mathlib.Omega.{arith}
 use lib.ListN.{length, drop}
+use Rattle.std.specs.Prelude.{Some, None}
 use Rattle.ty.specs.Types.{Ty, Ty.missing, Ty.int, Ty.physical, Ty.enum, Ty.real, Ty.array, Ty.fields, Ty.access, Ty.file, Ty.protected, Field, Field.field, Table, type_at}
-use Rattle.ty.specs.Words.{word_of, on_word, round_up}
-use Rattle.ty.specs.declared.Word.{Word}
-use Rattle.ty.specs.declared.Word.TheVariants.{Is, Over}
+use Rattle.ty.specs.Words.{word_of, on_word, round_up, Word}
 use Rattle.layout.specs.Layout.{on_laid, under, used_by, placed, record_of, layout_by, layout_at, layout_of}
 use Rattle.layout.specs.Offsets.{if_laid, offsets_from, offsets_of, fields_of}
 use Rattle.layout.specs.declared.Lay.{Lay}
@@ -17,12 +16,12 @@ module _ (s a st m u : ℕ) where
   -- one field, and those after it
   module _ (k : ℕ) (rec : ℕ → ℕ → ℕ → Lay) (more : ℕ → ℕ → List ℕ) (later : (e b v : ℕ) → rec e b v ≡ Laid s a st m u → length (more e v) ≡ k) where
     by_end : (o b v : ℕ) (y : Word) → on_word TooLarge y (λ e. rec e b v) ≡ Laid s a st m u → length (on_word [] y (λ e. o ∷ more e v)) ≡ suc k
-    by_end o b v Over q = let z : ◌≡◌ {A = ℕ} 0 1 = cc in absurd (omega arith)
-    by_end o b v (Is e) q = ap suc (later e b v q)
+    by_end o b v None q = let z : ◌≡◌ {A = ℕ} 0 1 = cc in absurd (omega arith)
+    by_end o b v (Some e) q = ap suc (later e b v q)
 
-    by-start : (n b v : ℕ) (x : Word) → on_word TooLarge (on_word Over x (λ o. word_of (o + n))) (λ e. rec e b v) ≡ Laid s a st m u → length (on_word [] x (λ o. on_word [] (word_of (o + n)) (λ e. o ∷ more e v))) ≡ suc k
-    by-start n b v Over q = let z : ◌≡◌ {A = ℕ} 0 1 = cc in absurd (omega arith)
-    by-start n b v (Is o) q = by_end o b v (word_of (o + n)) q
+    by-start : (n b v : ℕ) (x : Word) → on_word TooLarge (on_word None x (λ o. word_of (o + n))) (λ e. rec e b v) ≡ Laid s a st m u → length (on_word [] x (λ o. on_word [] (word_of (o + n)) (λ e. o ∷ more e v))) ≡ suc k
+    by-start n b v None q = let z : ◌≡◌ {A = ℕ} 0 1 = cc in absurd (omega arith)
+    by-start n b v (Some o) q = by_end o b v (word_of (o + n)) q
 
     by-laid : (off : ℕ) (l : Lay) → on_laid l (λ n b x y v. on_word TooLarge (placed off b n) (λ e. rec e b v)) ≡ Laid s a st m u → length (if_laid l (λ n b v. on_word [] (word_of (round_up off b)) (λ o. on_word [] (word_of (o + n)) (λ e. o ∷ more e v)))) ≡ suc k
     unfolding placed

@@ -5,14 +5,13 @@ use Prim.Native.Nat.{ℕ, suc, ◌+◌, ◌-◌, ◌*◌, ◌≤◌, ◌<◌}
 use native.Mathlib.Nat.{add-zero}
 use native.Mathlib.Omega.{arith}
 use lib.ListN.{length, take, drop, length-drop}
+use Rattle.std.specs.Prelude.{Some, None}
 use Rattle.word.specs.Le.{le}
 use lib.Seq.{drop-drop}
 use borrow.Author.Tests.{lt-ltb, le-ltb}
-use Rattle.ty.specs.Words.{word_of}
+use Rattle.ty.specs.Words.{word_of, Word}
 use Rattle.layout.specs.Layout.{desc_word, dim_len, dims_of}
 use Rattle.layout.specs.declared.Dims.TheVariants.{Count, Bad, Large}
-use Rattle.ty.specs.declared.Word.{Word}
-use Rattle.ty.specs.declared.Word.TheVariants.{Is, Over}
 
 pub word-drop : (a : ℕ) (d : List ℕ) (i : ℕ) → desc_word (drop a d) i ≡ desc_word d (a + i)
 word-drop a d i = ap (λ (l : List ℕ). le (take 8 l)) (drop-drop i a d)
@@ -38,15 +37,15 @@ module _ (d : List ℕ) (dims k a n : ℕ) (lt : k < dims) where
     dims-dir h = rw (next, le-ltb (length (drop a d)) 24 (rw length-drop long), at-dir, lt-ltb 1 dir h) refl
 
     module _ (small : dir ≤ 1) (w : Word) (ew : w ≡ word_of (dim_len l r dir)) where
-      pub dims-len : w ≡ Over → Large ≡ dims_of (dims - k) (drop a d) n
+      pub dims-len : w ≡ None → Large ≡ dims_of (dims - k) (drop a d) n
       unfolding dims_of
       dims-len h = rw (next, le-ltb (length (drop a d)) 24 (rw length-drop long), len, at-dir, le-ltb 1 dir small, ← ew, h) refl
 
-      pub dims-product : (m : ℕ) → w ≡ Is m → (p : Word) → p ≡ word_of (n * m) → p ≡ Over → Large ≡ dims_of (dims - k) (drop a d) n
+      pub dims-product : (m : ℕ) → w ≡ Some m → (p : Word) → p ≡ word_of (n * m) → p ≡ None → Large ≡ dims_of (dims - k) (drop a d) n
       unfolding dims_of
       dims-product m h p e h2 = rw (next, le-ltb (length (drop a d)) 24 (rw length-drop long), len, at-dir, le-ltb 1 dir small, ← ew, h, ← e, h2) refl
 
-      pub dims-more : (m : ℕ) → w ≡ Is m → (p : Word) → p ≡ word_of (n * m) → (q : ℕ) → p ≡ Is q → dims_of (dims - (k + 1)) (drop (a + 24) d) q ≡ dims_of (dims - k) (drop a d) n
+      pub dims-more : (m : ℕ) → w ≡ Some m → (p : Word) → p ≡ word_of (n * m) → (q : ℕ) → p ≡ Some q → dims_of (dims - (k + 1)) (drop (a + 24) d) q ≡ dims_of (dims - k) (drop a d) n
       unfolding dims_of
       dims-more m h p e q h2 = rw (next, le-ltb (length (drop a d)) 24 (rw length-drop long), len, at-dir, le-ltb 1 dir small, ← ew, h, ← e, h2, drop-drop) refl
 

@@ -9,8 +9,9 @@ use lib.Dec.{eqb, leb}
 use types.Run.{OneOf, miss}
 use denote.Enum.Declared.{tag_of}
 use borrow.Author.Tests.{eq-eqb, ne_eqb}
+use Rattle.ty.specs.Words.{Word}
 use Rattle.ty.specs.Types.{Ty, Ty.missing, Ty.int, Ty.physical, Ty.enum, Ty.real, Ty.array, Ty.fields, Ty.access, Ty.file, Ty.protected, type_at, Const, Const.plain, Const.other, Table, const_at, none}
-use Rattle.std.specs.Prelude.{if◌then◌else◌}
+use Rattle.std.specs.Prelude.{if◌then◌else◌, Option, Some, None}
 use Rattle.layout.specs.Layout.{dims_of, on_laid, on_bytes, under, used_by, array_laid, array_of, end_of, placed, record_of, scalar_laid, size_or, layout_by, layout_at}
 use Rattle.ty.specs.Scalars.{scalar_size, elem_size, logic_leaf}
 use Rattle.ty.specs.View.{read_ty, entry_at, fields_from, part_at, read_part, types_of, consts_of, table_of, bare}
@@ -19,12 +20,6 @@ use Rattle.layout.specs.declared.Lay.{Lay}
 use Rattle.layout.specs.declared.Lay.TheVariants.{Laid, Malformed, TooLarge}
 use Rattle.layout.specs.declared.Dims.{Dims}
 use Rattle.layout.specs.declared.Dims.TheVariants.{Count, Bad, Large}
-use Rattle.ty.specs.declared.Word.{Word}
-use Rattle.ty.specs.declared.Word.TheVariants.{Is, Over}
-use Rattle.ty.specs.declared.Part.{Part}
-use Rattle.ty.specs.declared.Part.TheVariants.{Nowhere, Of}
-use Rattle.ty.specs.declared.Scalar.{Scalar}
-use Rattle.ty.specs.declared.Scalar.TheVariants.{Bytes, Composite}
 use Rattle.ty.specs.declared.Entry.{Entry}
 use Rattle.ty.specs.declared.Entry.TheVariants.{Missing, Int, Physical, Enum, Real, Array, Record, Access, File, Protected}
 use Rattle.ty.specs.contracts.Entry.{the_type as entry-type}
@@ -84,12 +79,12 @@ module _ (w fs cs b : List ℕ) where
     unfolding under
     below_rest n h r e = rw (eq-eqb c none h) (e ∙ ap (λ (m : ℕ). layout_at (table_of w fs cs b) m t d) (one_less n))
 
-    module _ (h : c ≡ 4294967295 → ⊥) (p : Part) (ep : p ≡ part_at cs (length b) c) where
-      pub below-nowhere : p ≡ Nowhere → Malformed ≡ under (table_of w fs cs b) (layout_at (table_of w fs cs b) left) t c d
+    module _ (h : c ≡ 4294967295 → ⊥) (p : Option (ℕ × ℕ)) (ep : p ≡ part_at cs (length b) c) where
+      pub below-nowhere : p ≡ None → Malformed ≡ under (table_of w fs cs b) (layout_at (table_of w fs cs b) left) t c d
       unfolding under read_part
       below-nowhere e = rw (ne_eqb c none h, const-at, ← ep, e) refl
 
-      pub below-const : (left ≡ 0 → ⊥) → (x y : ℕ) → p ≡ Of x y → (r : Lay) → r ≡ layout_at (table_of w fs cs b) (suc (left - 1)) t (take (y - x) (drop x b)) → r ≡ under (table_of w fs cs b) (layout_at (table_of w fs cs b) left) t c d
+      pub below-const : (left ≡ 0 → ⊥) → (x y : ℕ) → p ≡ Some (x, y) → (r : Lay) → r ≡ layout_at (table_of w fs cs b) (suc (left - 1)) t (take (y - x) (drop x b)) → r ≡ under (table_of w fs cs b) (layout_at (table_of w fs cs b) left) t c d
       unfolding under read_part
       below-const n x y e r er = rw (ne_eqb c none h, const-at, ← ep, e) (er ∙ ap (λ (m : ℕ). layout_at (table_of w fs cs b) m t (take (y - x) (drop x b))) (one_less n))
 
@@ -97,7 +92,7 @@ module _ (w fs cs b : List ℕ) where
     no_size : {A : Type 0} (n : ℕ) → n ≡ 0 → (n ≡ 0 → ⊥) → A
     no_size n e h = absurd (h e)
 
-    enum-laid : (x : Bool) (n : ℕ) → n ≡ size_or (if◌then◌else◌ x (Bytes 1) (Bytes 4)) 0 → Laid n n 0 1 0 ≡ scalar_laid (if◌then◌else◌ x (Bytes 1) (Bytes 4))
+    enum-laid : (x : Bool) (n : ℕ) → n ≡ size_or (if◌then◌else◌ x (Some 1) (Some 4)) 0 → Laid n n 0 1 0 ≡ scalar_laid (if◌then◌else◌ x (Some 1) (Some 4))
     enum-laid true n e = rw e refl
     enum-laid false n e = rw e refl
 
@@ -142,10 +137,10 @@ module _ (w fs cs b : List ℕ) where
     entry-size File = refl
     entry-size Protected = refl
 
-    pub scalar_read : (c ≡ 4294967295) → (e : Entry) → e ≡ entry_at w (length fs / 2) t → (s : Scalar) → s ≡ scalar_size (bare e) → (r : ℕ) → r ≡ size_or s 0 → r ≡ scalar_part w fs t c
+    pub scalar_read : (c ≡ 4294967295) → (e : Entry) → e ≡ entry_at w (length fs / 2) t → (s : Option ℕ) → s ≡ scalar_size (bare e) → (r : ℕ) → r ≡ size_or s 0 → r ≡ scalar_part w fs t c
     unfolding scalar_part
     scalar_read h e ee s es r er =
-        rw (eq-eqb c none h) (er ∙ ap (λ (x : Scalar). size_or x 0) (es ∙ entry-size e ∙ ap scalar_size (ap (read_ty fs) ee ∙ sym (type-at w fs t))))
+        rw (eq-eqb c none h) (er ∙ ap (λ (x : Option ℕ). size_or x 0) (es ∙ entry-size e ∙ ap scalar_size (ap (read_ty fs) ee ∙ sym (type-at w fs t))))
 
   -- layout_in
   module _ (left t : ℕ) (d : List ℕ) (e : Entry) (ee : e ≡ entry_at w (length fs / 2) t) (r : Lay) where
@@ -195,7 +190,7 @@ module _ (w fs cs b : List ℕ) where
       unfolding array_of
       array-none o = rw (← ex, h, ← here) (passed_on l _ o)
 
-      pub array-some : (s a st m u : ℕ) → l ≡ Laid s a st m u → (logic : ℕ) → logic ≡ logic_leaf (types_of w fs) 64 t → (e : Entry) → e ≡ entry_at w (length fs / 2) el → (z : Scalar) → z ≡ elem_size (bare e) → (s' a' u' : ℕ) → s' ≡ size_or z s → a' ≡ size_or z a → u' ≡ used_by c u → (r : Lay) → r ≡ array_laid logic n s' a' m (24 * k + u') → r ≡ array_of (table_of w fs cs b) next t el c k d
+      pub array-some : (s a st m u : ℕ) → l ≡ Laid s a st m u → (logic : ℕ) → logic ≡ logic_leaf (types_of w fs) 64 t → (e : Entry) → e ≡ entry_at w (length fs / 2) el → (z : Option ℕ) → z ≡ elem_size (bare e) → (s' a' u' : ℕ) → s' ≡ size_or z s → a' ≡ size_or z a → u' ≡ used_by c u → (r : Lay) → r ≡ array_laid logic n s' a' m (24 * k + u') → r ≡ array_of (table_of w fs cs b) next t el c k d
       unfolding array_of
       array-some s a st m u o logic eg e ee z ez s' a' u' es ea eu' r er =
           rw (← ex, h, ← here, o, ← eg, type-at w fs el, ← ee, elem-bare fs e, ← ez, ← es, ← ea, ← eu') er
@@ -216,11 +211,11 @@ module _ (w fs cs b : List ℕ) where
       record-none o = rw (← inv, fields-next fs f n i lt, ← at_field) (passed_on l _ o)
 
       module _ (s a st m u : ℕ) (o : l ≡ Laid s a st m u) (p : Word) (ep : p ≡ placed off a s) where
-        pub record-over : p ≡ Over → TooLarge ≡ G
+        pub record-over : p ≡ None → TooLarge ≡ G
         unfolding record_of
         record-over h = rw (← inv, fields-next fs f n i lt, ← at_field, o, ← ep, h) refl
 
-        pub record-more : (q : ℕ) → p ≡ Is q → (al' u' : ℕ) → al' ≡ max al a → u' ≡ used_by (get_or fs (2 * (f + i) + 1) 0) u → record_of (table_of w fs cs b) next (fields_from fs (f + (i + 1)) (n - (i + 1))) d q al' (used + u') ≡ G
+        pub record-more : (q : ℕ) → p ≡ Some q → (al' u' : ℕ) → al' ≡ max al a → u' ≡ used_by (get_or fs (2 * (f + i) + 1) 0) u → record_of (table_of w fs cs b) next (fields_from fs (f + (i + 1)) (n - (i + 1))) d q al' (used + u') ≡ G
         unfolding record_of
         record-more q h al' u' ea eu = rw (← inv, fields-next fs f n i lt, ← at_field, o, ← ep, h, ← ea, ← eu) refl
 

@@ -7,12 +7,10 @@ use Prim.Native.Nat.{ℕ, zero, suc, ◌+◌, ◌*◌, ◌≤◌, max}
 use native.Mathlib.Omega.{arith}
 use lib.ListN.{drop}
 use lib.Dec.{eqb}
-use Rattle.std.specs.Prelude.{if◌then◌else◌}
+use Rattle.std.specs.Prelude.{if◌then◌else◌, Some, None}
 use Rattle.ty.specs.Types.{Ty, Ty.missing, Ty.int, Ty.physical, Ty.enum, Ty.real, Ty.array, Ty.fields, Ty.access, Ty.file, Ty.protected, Field, Field.field, Const, Const.plain, Const.other, Table, type_at, const_at, none}
-use Rattle.ty.specs.Words.{on_word}
+use Rattle.ty.specs.Words.{on_word, Word}
 use Rattle.ty.specs.Scalars.{elem_size, logic_leaf}
-use Rattle.ty.specs.declared.Word.{Word}
-use Rattle.ty.specs.declared.Word.TheVariants.{Is, Over}
 use Rattle.layout.specs.Layout.{on_laid, on_dims, on_bytes, dims_of, under, used_by, placed, end_of, array_of, record_of, size_or, array_laid, layout_by, layout_at}
 use Rattle.layout.specs.declared.Lay.{Lay}
 use Rattle.layout.specs.declared.Lay.TheVariants.{Laid, Malformed, TooLarge}
@@ -36,8 +34,8 @@ on-laid Malformed l' f g h k = tt
 on-laid TooLarge l' f g h k = ap (λ (x : Lay). on_laid x g) h
 
 on-word : (w : Word) (f g : ℕ → Lay) → ((n : ℕ) → Keeps (f n) (g n)) → Keeps (on_word TooLarge w f) (on_word TooLarge w g)
-on-word (Is n) f g k = k n
-on-word Over f g k = refl
+on-word (Some n) f g k = k n
+on-word None f g k = refl
 
 on-dims : (x : Dims) (f g : ℕ → Lay) → ((n : ℕ) → Keeps (f n) (g n)) → Keeps (on_dims x f) (on_dims x g)
 on-dims (Count n) f g k = k n

@@ -8,14 +8,13 @@ use lib.ListN.{length, take, drop, get_or, set}
 use types.Run.{OneOf, miss}
 use denote.Enum.Declared.{tag_of}
 use borrow.Author.Tests.{lt-leb, le-leb}
+use Rattle.std.specs.Prelude.{Some, None}
 use Rattle.word.specs.Put.{put}
 use Rattle.word.specs.Result.{refused}
 use Rattle.word.proofs.PutLaws.{put-none, Filling, fill_start, fill-next, fill_stop, fill-length}
 use Rattle.ty.specs.Types.{Field, Field.field, Table, type_at}
-use Rattle.ty.specs.Words.{word_of, on_word, round_up}
+use Rattle.ty.specs.Words.{word_of, on_word, round_up, Word}
 use Rattle.ty.specs.View.{fields_from, read_ty, entry_at, types_of, table_of}
-use Rattle.ty.specs.declared.Word.{Word}
-use Rattle.ty.specs.declared.Word.TheVariants.{Is, Over}
 use Rattle.ty.specs.declared.Entry.{Entry}
 use Rattle.ty.specs.declared.Entry.TheVariants.{Missing, Int, Physical, Enum, Real, Array, Record, Access, File, Protected}
 use Rattle.ty.specs.contracts.Entry.{the_type as entry-type}
@@ -48,16 +47,16 @@ module _ (T : Table) (next : ℕ → List ℕ → Lay) (fs : List ℕ) (f n i : 
     off-none o = rw (fields-next fs f n i lt, ← here) (none-laid l _ o)
 
     module _ (s a st m u : ℕ) (o : l ≡ Laid s a st m u) (p : Word) (ep : p ≡ word_of (round_up off a)) where
-      pub off-align : p ≡ Over → offsets_from T next (fields_from fs (f + i) (n - i)) d off used ≡ []
+      pub off-align : p ≡ None → offsets_from T next (fields_from fs (f + i) (n - i)) d off used ≡ []
       unfolding offsets_from
       off-align h = rw (fields-next fs f n i lt, ← here, o, ← ep, h) refl
 
-      module _ (x : ℕ) (h : p ≡ Is x) (q : Word) (eq : q ≡ word_of (x + s)) where
-        pub off-size : q ≡ Over → offsets_from T next (fields_from fs (f + i) (n - i)) d off used ≡ []
+      module _ (x : ℕ) (h : p ≡ Some x) (q : Word) (eq : q ≡ word_of (x + s)) where
+        pub off-size : q ≡ None → offsets_from T next (fields_from fs (f + i) (n - i)) d off used ≡ []
         unfolding offsets_from
         off-size k = rw (fields-next fs f n i lt, ← here, o, ← ep, h, ← eq, k) refl
 
-        pub off-more : (e : ℕ) → q ≡ Is e → (u' : ℕ) → u' ≡ used_by (get_or fs (2 * (f + i) + 1) 0) u → offsets_from T next (fields_from fs (f + i) (n - i)) d off used ≡ x ∷ offsets_from T next (fields_from fs (f + (i + 1)) (n - (i + 1))) d e (used + u')
+        pub off-more : (e : ℕ) → q ≡ Some e → (u' : ℕ) → u' ≡ used_by (get_or fs (2 * (f + i) + 1) 0) u → offsets_from T next (fields_from fs (f + i) (n - i)) d off used ≡ x ∷ offsets_from T next (fields_from fs (f + (i + 1)) (n - (i + 1))) d e (used + u')
         unfolding offsets_from
         off-more e k u' eu = rw (fields-next fs f n i lt, ← here, o, ← ep, h, ← eq, k, ← eu) refl
 
@@ -83,12 +82,12 @@ no_fields fs Protected h = refl
 -- no more offsets than fields
 module _ (k : ℕ) (more : ℕ → ℕ → List ℕ) (small : (e u : ℕ) → length (more e u) ≤ k) where
   ends : (o u : ℕ) (y : Word) → length (on_word [] y (λ e. o ∷ more e u)) ≤ suc k
-  ends o u Over = omega arith
-  ends o u (Is e) = omega (arith, small e u)
+  ends o u None = omega arith
+  ends o u (Some e) = omega (arith, small e u)
 
   starts : (s u : ℕ) (x : Word) → length (on_word [] x (λ o. on_word [] (word_of (o + s)) (λ e. o ∷ more e u))) ≤ suc k
-  starts s u Over = omega arith
-  starts s u (Is o) = ends o u (word_of (o + s))
+  starts s u None = omega arith
+  starts s u (Some o) = ends o u (word_of (o + s))
 
   one_more : (off : ℕ) (l : Lay) → length (if_laid l (λ s a u. on_word [] (word_of (round_up off a)) (λ o. on_word [] (word_of (o + s)) (λ e. o ∷ more e u)))) ≤ suc k
   one_more off (Laid s a st m u) = starts s u (word_of (round_up off a))

@@ -8,17 +8,13 @@ use native.Mathlib.Omega.{arith}
 use lib.ListN.{length, take, drop, get_or, set}
 use lib.Dec.{eqb, leb}
 use borrow.Author.Tests.{le-leb, leb-true, leb-false}
-use Rattle.std.specs.Prelude.{if◌then◌else◌}
+use Rattle.std.specs.Prelude.{if◌then◌else◌, Some, None}
 use Rattle.word.specs.Num.{align_up}
 use Rattle.word.specs.Put.{put}
 use Rattle.ty.specs.Types.{Ty, Ty.missing, Ty.int, Ty.physical, Ty.enum, Ty.real, Ty.array, Ty.fields, Ty.access, Ty.file, Ty.protected, type_at, none}
-use Rattle.ty.specs.Words.{word_of, round_up}
+use Rattle.ty.specs.Words.{word_of, round_up, Word}
 use Rattle.ty.specs.Scalars.{scalar_size}
 use Rattle.ty.specs.View.{fields_from, entry_at, types_of, table_of}
-use Rattle.ty.specs.declared.Word.{Word}
-use Rattle.ty.specs.declared.Word.TheVariants.{Is, Over}
-use Rattle.ty.specs.declared.Scalar.{Scalar}
-use Rattle.ty.specs.declared.Scalar.TheVariants.{Bytes, Composite}
 use Rattle.ty.specs.declared.Entry.{Entry}
 use Rattle.ty.specs.declared.Entry.TheVariants.{Record}
 use Rattle.ty.proofs.Laws.{word-is}
@@ -63,7 +59,7 @@ module _ (w fs : List ℕ) (t places : ℕ) where
 
 -- ---- sizes and aligning
 
-enum-small : (x : Bool) → size_or (if◌then◌else◌ x (Bytes 1) (Bytes 4)) 0 ≤ 8
+enum-small : (x : Bool) → size_or (if◌then◌else◌ x (Some 1) (Some 4)) 0 ≤ 8
 enum-small true = omega arith
 enum-small false = omega arith
 
@@ -93,16 +89,16 @@ module _ (x a : ℕ) where
   unfolding align_up
   round-near s = omega (arith, div-add-mod' (x + (max a 1 - 1)) (max a 1), le-max_right a 1, max-le {b = 1} s (omega arith))
 
-  pub round-word : x ≤ 4294967296 → a ≤ 8 → word_of (round_up x a) ≡ Is (round_up x a)
+  pub round-word : x ≤ 4294967296 → a ≤ 8 → word_of (round_up x a) ≡ Some (round_up x a)
   round-word h s = word-is (round_up x a) (omega (arith, round-near s))
 
   module _ (h : x ≤ 4294967296) (s : a ≤ 8) (p : Word) (e : p ≡ word_of (round_up x a)) where
-    pub padded-is : (n : ℕ) → p ≡ Is n → (n ≡ round_up x a) × (n ≤ x + 8)
+    pub padded-is : (n : ℕ) → p ≡ Some n → (n ≡ round_up x a) × (n ≤ x + 8)
     padded-is n q =
         let z : n ≡ round_up x a = cc (round-word h s) in
         (z, omega (arith, round-near s))
 
-    pub padded-over : {A : Type 0} → p ≡ Over → A
+    pub padded-over : {A : Type 0} → p ≡ None → A
     padded-over q = let z : ◌≡◌ {A = ℕ} 0 1 = cc (round-word h s) in absurd (omega arith)
 
 -- ---- layout_scalars
@@ -140,13 +136,13 @@ module _ (w fs : List ℕ) (f n : ℕ) (start now : List ℕ) where
       small : x ≤ 8
       small = rw ex (scalar-small w fs (get_or fs (2 * (f + i)) 0) (get_or fs (2 * (f + i) + 1) 0))
 
-      up : Is o ≡ word_of (round_up off x)
+      up : Some o ≡ word_of (round_up off x)
       up = rw eo (sym (round-word off x (omega (arith, g.near)) small))
 
-      sum : Is (o + x) ≡ word_of (o + x)
+      sum : Some (o + x) ≡ word_of (o + x)
       sum = sym (word-is (o + x) (omega (arith, g.near, eo, small, round-near off x small)))
 
-      there : Is (o + x) ≡ placed off x x
+      there : Some (o + x) ≡ placed off x x
       unfolding placed
       there = rw (← up) sum
 
@@ -155,9 +151,9 @@ module _ (w fs : List ℕ) (f n : ℕ) (start now : List ℕ) where
         low = omega arith;
         near = omega (arith, g.near, eo, small, round-near off x small);
         thin = rw ea (max-le g.thin small);
-        laid = λ cs b d. record-more w fs cs b _ f n i d off al 0 _ (g.laid cs b d) lt (Laid x x 0 1 0) (below-scalar w fs cs b 64 _ _ _ (λ z. omega arith) x ex nz) x x 0 1 0 refl (Is (o + x)) there (o + x) refl al' 0 ea (used-none (eqb (get_or fs (2 * (f + i) + 1) 0) none));
+        laid = λ cs b d. record-more w fs cs b _ f n i d off al 0 _ (g.laid cs b d) lt (Laid x x 0 1 0) (below-scalar w fs cs b 64 _ _ _ (λ z. omega arith) x ex nz) x x 0 1 0 refl (Some (o + x)) there (o + x) refl al' 0 ea (used-none (eqb (get_or fs (2 * (f + i) + 1) 0) none));
         written = λ cs b d. writing-next _ fs f n d start now off 0 i (g.written cs b d) lt o (o + x) 0
-            (off-more _ _ fs f n i d off 0 lt (Laid x x 0 1 0) (below-scalar w fs cs b 64 _ _ _ (λ z. omega arith) x ex nz) x x 0 1 0 refl (Is o) up o refl (Is (o + x)) sum (o + x) refl 0 (used-none (eqb (get_or fs (2 * (f + i) + 1) 0) none)))
+            (off-more _ _ fs f n i d off 0 lt (Laid x x 0 1 0) (below-scalar w fs cs b 64 _ _ _ (λ z. omega arith) x ex nz) x x 0 1 0 refl (Some o) up o refl (Some (o + x)) sum (o + x) refl 0 (used-none (eqb (get_or fs (2 * (f + i) + 1) 0) none)))
             (omega arith);
       }
 
@@ -165,7 +161,7 @@ module _ (w fs : List ℕ) (f n : ℕ) (start now : List ℕ) where
       whole : (cs b d : List ℕ) → Laid size al 0 1 0 ≡ record_in w fs cs b f n d 64
       unfolding end_of
       whole cs b d =
-          let e : word_of (round_up off al) ≡ Is size = round-word off al (omega (arith, g.near, g.low)) g.thin ∙ ap Is (sym es) in
+          let e : word_of (round_up off al) ≡ Some size = round-word off al (omega (arith, g.near, g.low)) g.thin ∙ ap Some (sym es) in
           record-last w fs cs b _ f n i d off al 0 _ (g.laid cs b d) h (Laid size al 0 1 0) (rw e refl)
 
       pub placing-end : ScalarsLaid w fs f n start now (Layout size al 0 1 0 n)

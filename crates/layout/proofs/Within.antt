@@ -8,30 +8,26 @@ use lib.ListN.{length, drop, length-drop}
 use lib.Dec.{ltb, eqb}
 use borrow.Author.Tests.{ltb-false}
 use Rattle.ty.specs.Types.{Ty, Ty.missing, Ty.int, Ty.physical, Ty.enum, Ty.real, Ty.array, Ty.fields, Ty.access, Ty.file, Ty.protected, Field, Field.field, Table, type_at, const_at, none}
-use Rattle.std.specs.Prelude.{if◌then◌else◌}
-use Rattle.ty.specs.Words.{word_of, on_word, round_up}
+use Rattle.std.specs.Prelude.{if◌then◌else◌, Option, Some, None}
+use Rattle.ty.specs.Words.{word_of, on_word, round_up, Word}
 use Rattle.layout.specs.Layout.{desc_word, dim_len, dims_of, on_dims, on_laid, on_bytes, under, used_by, array_laid, array_of, end_of, placed, record_of, scalar_laid, size_or, layout_by, layout_at}
 use Rattle.ty.specs.Scalars.{scalar_size, elem_size, logic_leaf}
 use Rattle.layout.specs.declared.Lay.{Lay}
 use Rattle.layout.specs.declared.Lay.TheVariants.{Laid, Malformed, TooLarge}
 use Rattle.layout.specs.declared.Dims.{Dims}
 use Rattle.layout.specs.declared.Dims.TheVariants.{Count, Bad, Large}
-use Rattle.ty.specs.declared.Word.{Word}
-use Rattle.ty.specs.declared.Word.TheVariants.{Is, Over}
-use Rattle.ty.specs.declared.Scalar.{Scalar}
-use Rattle.ty.specs.declared.Scalar.TheVariants.{Bytes, Composite}
 
 -- one dimension, and the dimensions after it
 module _ (d : List ℕ) (k n m : ℕ) (f : ℕ → Dims) (later : (q : ℕ) → f q ≡ Count m → 24 * k ≤ length (drop 24 d)) where
   after : (p : Word) → on_word Large p f ≡ Count m → 24 * k ≤ length (drop 24 d)
-  after Over e = let z : ◌≡◌ {A = ℕ} 0 1 = cc in omega arith
-  after (Is q) e = later q e
+  after None e = let z : ◌≡◌ {A = ℕ} 0 1 = cc in omega arith
+  after (Some q) e = later q e
 
   one-dim : (short down : Bool) (w : Word) → ltb (length d) 24 ≡ short → if◌then◌else◌ short Bad (if◌then◌else◌ down Bad (on_word Large w (λ l. on_word Large (word_of (n * l)) f))) ≡ Count m → 24 * suc k ≤ length d
   one-dim true down w s e = let z : ◌≡◌ {A = ℕ} 0 1 = cc in omega arith
   one-dim false true w s e = let z : ◌≡◌ {A = ℕ} 0 1 = cc in omega arith
-  one-dim false false Over s e = let z : ◌≡◌ {A = ℕ} 0 1 = cc in omega arith
-  one-dim false false (Is l) s e = omega (arith, after (word_of (n * l)) e, length-drop 24 d, ltb-false (length d) 24 s)
+  one-dim false false None s e = let z : ◌≡◌ {A = ℕ} 0 1 = cc in omega arith
+  one-dim false false (Some l) s e = omega (arith, after (word_of (n * l)) e, length-drop 24 d, ltb-false (length d) 24 s)
 
 -- as many dimensions as were counted are there
 pub dims-within : (k : ℕ) (d : List ℕ) (n m : ℕ) → dims_of k d n ≡ Count m → 24 * k ≤ length d
@@ -53,8 +49,8 @@ on-laid n Malformed f h = tt
 on-laid n TooLarge f h = tt
 
 on-word : (n : ℕ) (w : Word) (f : ℕ → Lay) → ((m : ℕ) → Within n (f m)) → Within n (on_word TooLarge w f)
-on-word n (Is m) f h = h m
-on-word n Over f h = tt
+on-word n (Some m) f h = h m
+on-word n None f h = tt
 
 on-dims : (n : ℕ) (x : Dims) (f : ℕ → Lay) → ((m : ℕ) → x ≡ Count m → Within n (f m)) → Within n (on_dims x f)
 on-dims n (Count m) f h = h m refl
@@ -65,9 +61,9 @@ on-pick : (n : ℕ) (b : Bool) (x y : Lay) → Within n x → Within n y → Wit
 on-pick n true x y h k = h
 on-pick n false x y h k = k
 
-on-scalar : (n : ℕ) (x : Scalar) → Within n (scalar_laid x)
-on-scalar n (Bytes m) = omega arith
-on-scalar n Composite = tt
+on-scalar : (n : ℕ) (x : Option ℕ) → Within n (scalar_laid x)
+on-scalar n (Some m) = omega arith
+on-scalar n None = tt
 
 module _ (T : Table) (next : ℕ → List ℕ → Lay) (h : (t : ℕ) (d : List ℕ) → Within (length d) (next t d)) where
   under-cases : (b : Bool) (e : ℕ) (d : List ℕ) (x : Lay) (s a st m u : ℕ) → if◌then◌else◌ b (next e d) x ≡ Laid s a st m u → if◌then◌else◌ b u 0 ≤ length d

@@ -1,13 +1,9 @@
 -- The layout of a value of a type under a descriptor (01, "Type table", and ty.rs). `Malformed` is told as 11, `TooLarge` as 12.
-use Rattle.std.specs.Prelude.{ℕ, zero, suc, ◌+◌, ◌-◌, ◌*◌, ◌/◌, max, List, [], ◌∷◌, ltb, eqb, length, take, drop, if◌then◌else◌}
+use Rattle.std.specs.Prelude.{ℕ, zero, suc, ◌+◌, ◌-◌, ◌*◌, ◌/◌, max, List, [], ◌∷◌, ltb, eqb, length, take, drop, if◌then◌else◌, Option, Some, None}
 use Rattle.word.specs.Le.{le}
 use Rattle.ty.specs.Types.{Ty, Ty.missing, Ty.int, Ty.physical, Ty.enum, Ty.real, Ty.array, Ty.fields, Ty.access, Ty.file, Ty.protected, Field, Field.field, Const, Const.plain, Const.other, Table, type_at, const_at, none}
-use Rattle.ty.specs.Words.{word_of, on_word, rank, round_up}
+use Rattle.ty.specs.Words.{word_of, on_word, rank, round_up, Word}
 use Rattle.ty.specs.Scalars.{scalar_size, elem_size, logic_leaf}
-use Rattle.ty.specs.declared.Word.{Word}
-use Rattle.ty.specs.declared.Word.TheVariants.{Over}
-use Rattle.ty.specs.declared.Scalar.{Scalar}
-use Rattle.ty.specs.declared.Scalar.TheVariants.{Bytes, Composite}
 use Rattle.layout.specs.declared.Lay.{Lay}
 use Rattle.layout.specs.declared.Lay.TheVariants.{Laid, Malformed, TooLarge}
 use Rattle.layout.specs.declared.Dims.{Dims}
@@ -32,9 +28,9 @@ dims_of (suc k) d n =
     on_word Large (word_of (n * l)) (λ m. dims_of k (drop 24 d) m)))
 
 -- a scalar's size in place of another
-abbrev pub size_or : Scalar → ℕ → ℕ
-size_or (Bytes n) m = n
-size_or Composite m = m
+abbrev pub size_or : Option ℕ → ℕ → ℕ
+size_or (Some n) m = n
+size_or None m = m
 
 -- what is done with a layout, the positions of dimensions, a constant's bytes, where they are there
 abbrev pub on_laid : Lay → (ℕ → ℕ → ℕ → ℕ → ℕ → Lay) → Lay
@@ -75,7 +71,7 @@ array_of T next t e c k d =
 
 -- where a field of size s and alignment a ends that comes after off
 unfoldable pub placed : ℕ → ℕ → ℕ → Word
-placed off a s = on_word Over (word_of (round_up off a)) (λ o. word_of (o + s))
+placed off a s = on_word None (word_of (round_up off a)) (λ o. word_of (o + s))
 
 -- a record whose fields end at off: its size is aligned too
 unfoldable pub end_of : ℕ → ℕ → ℕ → Lay
@@ -89,9 +85,9 @@ record_of T next (field t c ∷ fs) d off al used =
     on_word TooLarge (placed off a s) (λ o. record_of T next fs d o (max al a) (used + used_by c u)))
 
 -- a scalar: its alignment is its size
-abbrev pub scalar_laid : Scalar → Lay
-scalar_laid (Bytes n) = Laid n n 0 1 0
-scalar_laid Composite = Malformed
+abbrev pub scalar_laid : Option ℕ → Lay
+scalar_laid (Some n) = Laid n n 0 1 0
+scalar_laid None = Malformed
 
 unfoldable pub layout_by : Table → (ℕ → List ℕ → Lay) → ℕ → List ℕ → Ty → Lay
 layout_by T next t d missing = Malformed

@@ -11,15 +11,14 @@ use lib.Dec.{leb, eqb}
 use borrow.Author.Tests.{leb-true, leb-false, lt-leb}
 use native.Mathlib.Nat.{le_of_suc-le-suc, not-suc-le-zero}
 use native.Mathlib.Omega.{arith}
-use Rattle.std.specs.Prelude.{if◌then◌else◌}
+use Rattle.ty.specs.Words.{Word}
+use Rattle.std.specs.Prelude.{if◌then◌else◌, Some, None}
 use Rattle.std.specs.declared.cmp.Ordering.{Ordering}
 use Rattle.std.specs.declared.cmp.Ordering.TheVariants.{Less, Equal, Greater}
 use Rattle.std.specs.Ordering.{nat_cmp}
 use Rattle.std.proofs.lemmas.Map.Lookups.{exact_unsigned}
 use Rattle.ty.specs.Types.{Table}
 use Rattle.ty.specs.Walks.{desc_size, has_handles}
-use Rattle.ty.specs.declared.Word.{Word}
-use Rattle.ty.specs.declared.Word.TheVariants.{Is, Over}
 use Rattle.trace.specs.Places.{Places, only_if, places_at, handles_places, kind_places, handle_at, words_at, handles_of, shown_places}
 use Rattle.reach.specs.Reach.{◌∈◌}
 use Rattle.alike.specs.Same.{Object, Model, shown, Counted, OneTable}
@@ -35,8 +34,8 @@ use Rattle.models.specs.Inner.Along.{beside_order}
 -- ---- the descriptor
 
 abbrev pub front_by : Bool → Bool → Word → ℕ
-front_by true true (Is n) = n
-front_by true true Over = 0
+front_by true true (Some n) = n
+front_by true true None = 0
 front_by true false w = 0
 front_by false h w = 0
 
@@ -48,8 +47,8 @@ pub kind-same : (T : Table) (k t : ℕ) (v w : List ℕ) → length v ≡ length
 kind-same T k t v w l e = kind-places T k t v ∙ go (eqb k 1) (has_handles T.types t) (desc_size T.types t) e ∙ sym (kind-places T k t w)
   where
     go : (a h : Bool) (d : Word) → take (front_by a h d) v ≡ take (front_by a h d) w → places_if a h d T k t v ≡ places_if a h d T k t w
-    go true true (Is n) e = cc
-    go true true Over e = refl
+    go true true (Some n) e = cc
+    go true true None e = refl
     go true false d e = refl
     go false h d e = ap (λ (n : ℕ). if eqb k 3 then some (handles_places n) else some []) l
 
@@ -62,8 +61,8 @@ kind-low T k t v qs e = go (eqb k 1) (has_handles T.types t) (desc_size T.types 
     laid n false w e = let z : ◌≡◌ {A = ℕ} 0 1 = cc in absurd (omega arith)
 
     go : (a h : Bool) (d : Word) → places_if a h d T k t v ≡ some qs → ((p : ℕ) → p ∈ qs → front_by a h d ≤ p) × (front_by a h d ≤ length v)
-    go true true (Is n) e = laid n (leb n (length v)) refl e
-    go true true Over e = (λ p m. omega arith, omega arith)
+    go true true (Some n) e = laid n (leb n (length v)) refl e
+    go true true None e = (λ p m. omega arith, omega arith)
     go true false d e = (λ p m. omega arith, omega arith)
     go false h d e = (λ p m. omega arith, omega arith)
 

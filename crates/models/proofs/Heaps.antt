@@ -5,10 +5,9 @@ use mathlib.Core.List.{List, [], ◌++◌}
 use lib.ListN.{length, get_or, take, drop, length-append, length-map, length-take, length-drop, get_or-map, get_or-eq_default}
 use native.Mathlib.Decide.{dec_lt}
 use native.Mathlib.Omega.{arith}
+use Rattle.std.specs.Prelude.{Option, Some, None}
 use Rattle.ty.specs.Types.{Const.plain, Table}
 use Rattle.ty.specs.View.{part_at, read_part, table_of}
-use Rattle.ty.specs.declared.Part.{Part}
-use Rattle.ty.specs.declared.Part.TheVariants.{Of, Nowhere}
 use Rattle.ty.proofs.Lookup.{const-at}
 use Rattle.heap.specs.Packing.{flat, start_of, data_at}
 use Rattle.heap.specs.State.{Slot, State, no_slot, slot_at, data_of}
@@ -74,9 +73,9 @@ pub short-constants : (w fs cs b : List ℕ) → length b < 2 ^ 64 → ShortCons
 unfolding read_part
 short-constants w fs cs b h c x e = go (part_at cs (length b) c) (sym (const-at cs b c) ∙ e)
   where
-    go : (p : Part) → read_part b p ≡ plain x → length x < 2 ^ 64
-    go Nowhere e = let z : ◌≡◌ {A = ℕ} 0 1 = cc in absurd (omega arith)
-    go (Of a d) e =
+    go : (p : Option (ℕ × ℕ)) → read_part b p ≡ plain x → length x < 2 ^ 64
+    go None e = let z : ◌≡◌ {A = ℕ} 0 1 = cc in absurd (omega arith)
+    go (Some (a, d)) e =
         let q : take (d - a) (drop a b) ≡ x = cc in
         let z = ap length q in
         omega (arith, length-take (d - a) (drop a b), length-drop a b)

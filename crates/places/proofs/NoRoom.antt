@@ -11,18 +11,14 @@ use native.Mathlib.Nat.{mul-pos}
 use lib.ListN.{length, drop, length-drop}
 use lib.Dec.{leb, eqb, ltb}
 use borrow.Author.Tests.{le-leb, eq-eqb, ne_eqb}
-use Rattle.std.specs.Prelude.{if◌then◌else◌}
+use Rattle.std.specs.Prelude.{if◌then◌else◌, Some, None}
 use Rattle.word.specs.Num.{align_up}
 use Rattle.word.proofs.NumLaws.{align_same, align-next}
 use Rattle.trace.proofs.Levels.{from-laid, from-dims}
 use Rattle.ty.specs.Types.{Ty, Ty.missing, Ty.int, Ty.physical, Ty.enum, Ty.real, Ty.array, Ty.fields, Ty.access, Ty.file, Ty.protected, Field, Field.field, Const, Const.plain, Const.other, Table, type_at, const_at, none as no_const}
-use Rattle.ty.specs.Words.{word_of, on_word, round_up}
+use Rattle.ty.specs.Words.{word_of, on_word, round_up, Word}
 use Rattle.ty.specs.Scalars.{scalar_size, elem_size, narrow, leaf_by, logic_leaf}
 use Rattle.ty.specs.Walks.{handles_by, handles_at, has_handles}
-use Rattle.ty.specs.declared.Word.{Word}
-use Rattle.ty.specs.declared.Word.TheVariants.{Is, Over}
-use Rattle.ty.specs.declared.Scalar.{Scalar}
-use Rattle.ty.specs.declared.Scalar.TheVariants.{Bytes, Composite}
 use Rattle.layout.specs.Layout.{on_dims, on_laid, on_bytes, dims_of, under, used_by, placed, end_of, array_laid, array_of, record_of, scalar_laid, size_or, layout_by, layout_at, layout_of}
 use Rattle.layout.specs.Offsets.{if_laid as offsets_if, offsets_from, offsets_of, fields_of}
 use Rattle.layout.specs.declared.Lay.{Lay}
@@ -36,21 +32,21 @@ use Rattle.trace.proofs.Emits.{many-end, many-one, turns-none, turns-one}
 
 -- ---- what a layout was made from
 
-from-word : {R : Type 0} (x : Word) (f : ℕ → Lay) (s a st q u : ℕ) → on_word TooLarge x f ≡ Laid s a st q u → ((n : ℕ) → x ≡ Is n → f n ≡ Laid s a st q u → R) → R
-from-word (Is n) f s a st q u e k = k n refl e
-from-word Over f s a st q u e k = let z : ◌≡◌ {A = ℕ} 0 1 = cc in absurd (omega arith)
+from-word : {R : Type 0} (x : Word) (f : ℕ → Lay) (s a st q u : ℕ) → on_word TooLarge x f ≡ Laid s a st q u → ((n : ℕ) → x ≡ Some n → f n ≡ Laid s a st q u → R) → R
+from-word (Some n) f s a st q u e k = k n refl e
+from-word None f s a st q u e k = let z : ◌≡◌ {A = ℕ} 0 1 = cc in absurd (omega arith)
 
-from-sum : {R : Type 0} (x : Word) (f : ℕ → Word) (n : ℕ) → on_word Over x f ≡ Is n → ((m : ℕ) → x ≡ Is m → f m ≡ Is n → R) → R
-from-sum (Is m) f n e k = k m refl e
-from-sum Over f n e k = let z : ◌≡◌ {A = ℕ} 0 1 = cc in absurd (omega arith)
+from-sum : {R : Type 0} (x : Word) (f : ℕ → Word) (n : ℕ) → on_word None x f ≡ Some n → ((m : ℕ) → x ≡ Some m → f m ≡ Some n → R) → R
+from-sum (Some m) f n e k = k m refl e
+from-sum None f n e k = let z : ◌≡◌ {A = ℕ} 0 1 = cc in absurd (omega arith)
 
 -- ---- sizes
 
-word-inv : (n k : ℕ) → word_of n ≡ Is k → n ≡ k
+word-inv : (n k : ℕ) → word_of n ≡ Some k → n ≡ k
 unfolding word_of
 word-inv n k e = by (ltb n (2 ^ 64)) e
   where
-    by : (b : Bool) → if◌then◌else◌ b (Is n) Over ≡ Is k → n ≡ k
+    by : (b : Bool) → if◌then◌else◌ b (Some n) None ≡ Some k → n ≡ k
     by true q = cc
     by false q = let z : ◌≡◌ {A = ℕ} 0 1 = cc in absurd (omega arith)
 
@@ -62,7 +58,7 @@ up x a = by (ℕ_discrete (x % max a 1) 0)
     by (no e) = omega (arith, align-next x (max a 1) (omega arith) e)
 
 -- a field ends at least its size after the one before
-from-placed : {R : Type 0} (off a s o : ℕ) → placed off a s ≡ Is o → ((p : ℕ) → word_of (round_up off a) ≡ Is p → word_of (p + s) ≡ Is o → off ≤ p → p + s ≡ o → R) → R
+from-placed : {R : Type 0} (off a s o : ℕ) → placed off a s ≡ Some o → ((p : ℕ) → word_of (round_up off a) ≡ Some p → word_of (p + s) ≡ Some o → off ≤ p → p + s ≡ o → R) → R
 unfolding placed
 from-placed off a s o e k = from-sum (word_of (round_up off a)) _ o e (λ p ep eo. k p ep eo (omega (arith, up off a, word-inv (round_up off a) p ep)) (word-inv (p + s) o eo))
 
@@ -91,22 +87,22 @@ zero-product zero n e h = refl
 zero-product (suc a) n e h = let p : 0 < suc a * n = mul-pos (omega arith) (omega arith) in absurd (omega arith)
 
 -- an element without room is no scalar
-size-zero : (x : Scalar) (s : ℕ) → ((n : ℕ) → x ≡ Bytes n → 0 < n) → size_or x s ≡ 0 → s ≡ 0
-size-zero (Bytes n) s h e = let z = h n refl in absurd (omega arith)
-size-zero Composite s h e = e
+size-zero : (x : Option ℕ) (s : ℕ) → ((n : ℕ) → x ≡ Some n → 0 < n) → size_or x s ≡ 0 → s ≡ 0
+size-zero (Some n) s h e = let z = h n refl in absurd (omega arith)
+size-zero None s h e = e
 
-elem-room : (y : Ty) (n : ℕ) → elem_size y ≡ Bytes n → 0 < n
+elem-room : (y : Ty) (n : ℕ) → elem_size y ≡ Some n → 0 < n
 unfolding elem_size
 elem-room y n e = by y e
   where
-    two : (b : Bool) (i j : ℕ) → 0 < i → 0 < j → if◌then◌else◌ b (Bytes i) (Bytes j) ≡ Bytes n → 0 < n
+    two : (b : Bool) (i j : ℕ) → 0 < i → 0 < j → if◌then◌else◌ b (Some i) (Some j) ≡ Some n → 0 < n
     two true i j h k q = let z : i ≡ n = cc in omega arith
     two false i j h k q = let z : j ≡ n = cc in omega arith
 
-    one : (i : ℕ) → 0 < i → Bytes i ≡ Bytes n → 0 < n
+    one : (i : ℕ) → 0 < i → Some i ≡ Some n → 0 < n
     one i h q = let z : i ≡ n = cc in omega arith
 
-    by : (y : Ty) → elem_size y ≡ Bytes n → 0 < n
+    by : (y : Ty) → elem_size y ≡ Some n → 0 < n
     by missing q = let z : ◌≡◌ {A = ℕ} 0 1 = cc in absurd (omega arith)
     by (int lo hi) q = two (narrow lo hi) 4 8 (omega arith) (omega arith) q
     by physical q = one 8 (omega arith) q
@@ -190,7 +186,7 @@ module _ (T : Table) (end : ℕ) (small : (c : ℕ) (b : List ℕ) → const_at 
         let p0 : p ≡ 0 = omega arith in
         let s0 : s' ≡ 0 = omega arith in
         let short : length (drop used d) < 2 ^ 64 = omega (arith, length-drop used d) in
-        let taken : field_desc T.types t c ≡ Is (used_by c u') = used-is-at T m (omega arith) t c (drop used d) s' a' st' q' u' short eu in
+        let taken : field_desc T.types t c ≡ Some (used_by c u') = used-is-at T m (omega arith) t c (drop used d) s' a' st' q' u' short eu in
         let wide : under T (layout_at T 64) t c (drop used d) ≡ Laid s' a' st' q' u' = more-under T m 64 t c (drop used d) le s' a' st' q' u' eu in
         let offs : offsets_from T (layout_at T 64) (field t c ∷ fs) d 0 used ≡ p ∷ offsets_from T (layout_at T 64) fs d o (used + used_by c u') = rw (wide, ep, ez) refl in
         let here : part_places T (places_at T end m) t c (drop used d) (at + p) ≡ some [] = part-nothing t c (drop used d) short a' st' q' u' (subst (λ (x : ℕ). under T (layout_at T m) t c (drop used d) ≡ Laid x a' st' q' u') s0 eu) (at + p) (omega arith) in

@@ -12,15 +12,12 @@ use borrow.Author.Tests.{leb-true, eqb-true}
 use native.Mathlib.Nat.{mul-suc, zero-mul}
 use native.Mathlib.Decide.{ℕ_discrete, dec_lt}
 use native.Mathlib.Omega.{arith}
-use Rattle.std.specs.Prelude.{if◌then◌else◌}
+use Rattle.std.specs.Prelude.{if◌then◌else◌, Some, None}
 use Rattle.trace.proofs.Levels.{from-laid, from-dims}
 use Rattle.ty.specs.Types.{Ty, Ty.missing, Ty.int, Ty.physical, Ty.enum, Ty.real, Ty.array, Ty.fields, Ty.access, Ty.file, Ty.protected, Field, Field.field, Const, Const.plain, Const.other, Table, type_at, const_at, none as no_const}
-use Rattle.ty.specs.Words.{on_word, word_of, round_up}
+use Rattle.ty.specs.Words.{on_word, word_of, round_up, Word}
 use Rattle.ty.specs.Scalars.{scalar_size, narrow, elem_size, logic_leaf}
 use Rattle.ty.specs.Walks.{desc_size, handles_at, has_handles}
-use Rattle.ty.specs.declared.Word.{Word}
-use Rattle.ty.specs.declared.Word.TheVariants.{Is, Over}
-use Rattle.ty.specs.declared.Scalar.TheVariants.{Bytes}
 use Rattle.layout.specs.Layout.{on_bytes, dims_of, size_or, under, used_by, placed, end_of, array_laid, array_of, record_of, scalar_laid, layout_by, layout_at, layout_of}
 use Rattle.layout.specs.Offsets.{offsets_from, offsets_of, fields_of}
 use Rattle.layout.specs.declared.Lay.{Lay}
@@ -112,13 +109,13 @@ unfolding layout_by elem_size scalar_size
 elem-le T next t d missing s a st q u e = omega arith
 elem-le T next t d (int lo hi) s a st q u e = let z : 8 ≡ s = cc in go (narrow lo hi) z
   where
-    go : (b : Bool) → 8 ≡ s → size_or (if b then Bytes 4 else Bytes 8) s ≤ s
+    go : (b : Bool) → 8 ≡ s → size_or (if b then Some 4 else Some 8) s ≤ s
     go true z = omega arith
     go false z = omega arith
 elem-le T next t d physical s a st q u e = let z : 8 ≡ s = cc in omega arith
 elem-le T next t d (enum n l) s a st q u e = go (leb n 256) e
   where
-    go : (b : Bool) → scalar_laid (if b then Bytes 1 else Bytes 4) ≡ Laid s a st q u → size_or (if b then Bytes 1 else Bytes 4) s ≤ s
+    go : (b : Bool) → scalar_laid (if b then Some 1 else Some 4) ≡ Laid s a st q u → size_or (if b then Some 1 else Some 4) s ≤ s
     go true e = let z : 1 ≡ s = cc in omega arith
     go false e = let z : 4 ≡ s = cc in omega arith
 elem-le T next t d real s a st q u e = let z : 8 ≡ s = cc in omega arith
@@ -162,8 +159,8 @@ module _ (T : Table) (end : ℕ) (small : ShortConstants T) where
     unfolding record_of walk end_of placed word_of
     walk-right at [] d off al used l s a st q u e = go (ltb (round_up off al) (2 ^ 64)) e
       where
-        go : (b : Bool) → on_word TooLarge (if b then Is (round_up off al) else Over) (λ z. Laid z al 0 1 used) ≡ Laid s a st q u
-            → Sits (at + off) (at + s) (if_laid (on_word TooLarge (if b then Is (round_up off al) else Over) (λ z. Laid z al 0 1 used)) (λ st n. some []))
+        go : (b : Bool) → on_word TooLarge (if b then Some (round_up off al) else None) (λ z. Laid z al 0 1 used) ≡ Laid s a st q u
+            → Sits (at + off) (at + s) (if_laid (on_word TooLarge (if b then Some (round_up off al) else None) (λ z. Laid z al 0 1 used)) (λ st n. some []))
         go true e = let z : round_up off al ≡ s = cc in let w = up off al in omega arith
         go false e = tt
     walk-right at (field t c ∷ fs) d off al used l s a st q u e =
@@ -174,9 +171,9 @@ module _ (T : Table) (end : ℕ) (small : ShortConstants T) where
         rest o e a u = only_if (leb (at + o) end) (both (part_places T (places_at T end n) t c (drop used d) (at + o)) (walk T (places_at T end n) end at fs d e (max al a) (used + used_by c u)))
 
         last : (s' a' st' q' u' : ℕ) → under T (layout_at T 64) t c (drop used d) ≡ Laid s' a' st' q' u' → (g : Bool)
-            → on_word TooLarge (if g then Is (round_up off a' + s') else Over) (λ o. record_of T (layout_at T 64) fs d o (max al a') (used + used_by c u')) ≡ Laid s a st q u
+            → on_word TooLarge (if g then Some (round_up off a' + s') else None) (λ o. record_of T (layout_at T 64) fs d o (max al a') (used + used_by c u')) ≡ Laid s a st q u
             → (record_of T (layout_at T 64) fs d (round_up off a' + s') (max al a') (used + used_by c u') ≡ Laid s a st q u → Sits (at + (round_up off a' + s')) (at + s) (walk T (places_at T end n) end at fs d (round_up off a' + s') (max al a') (used + used_by c u')))
-            → Sits (at + off) (at + s) (if_placed (on_word Unplaced (if g then Is (round_up off a' + s') else Over) (λ e. At (round_up off a') e a' u')) rest)
+            → Sits (at + off) (at + s) (if_placed (on_word Unplaced (if g then Some (round_up off a' + s') else None) (λ e. At (round_up off a') e a' u')) rest)
         last s' a' st' q' u' eu false e r = tt
         last s' a' st' q' u' eu true e r =
             let o = round_up off a' in
@@ -187,9 +184,9 @@ module _ (T : Table) (end : ℕ) (small : ShortConstants T) where
             (sits-wide (at + o) (at + o + elem t s') (at + off) (at + (o + s')) (part_places T (places_at T end n) t c (drop used d) (at + o)) (omega arith) (omega (arith, x.1)) x.0) (r e))
 
         go : (s' a' st' q' u' : ℕ) → under T (layout_at T 64) t c (drop used d) ≡ Laid s' a' st' q' u' → (b : Bool)
-            → on_word TooLarge (on_word Over (if b then Is (round_up off a') else Over) (λ o. word_of (o + s'))) (λ o. record_of T (layout_at T 64) fs d o (max al a') (used + used_by c u')) ≡ Laid s a st q u
+            → on_word TooLarge (on_word None (if b then Some (round_up off a') else None) (λ o. word_of (o + s'))) (λ o. record_of T (layout_at T 64) fs d o (max al a') (used + used_by c u')) ≡ Laid s a st q u
             → (record_of T (layout_at T 64) fs d (round_up off a' + s') (max al a') (used + used_by c u') ≡ Laid s a st q u → Sits (at + (round_up off a' + s')) (at + s) (walk T (places_at T end n) end at fs d (round_up off a' + s') (max al a') (used + used_by c u')))
-            → Sits (at + off) (at + s) (if_placed (on_word Unplaced (if b then Is (round_up off a') else Over) (λ o. on_word Unplaced (word_of (o + s')) (λ e. At o e a' u'))) rest)
+            → Sits (at + off) (at + s) (if_placed (on_word Unplaced (if b then Some (round_up off a') else None) (λ o. on_word Unplaced (word_of (o + s')) (λ e. At o e a' u'))) rest)
         go s' a' st' q' u' eu false e r = tt
         go s' a' st' q' u' eu true e r = last s' a' st' q' u' eu (ltb (round_up off a' + s') (2 ^ 64)) e r
 
@@ -323,8 +320,8 @@ module _ (T : Table) (small : ShortConstants T) where
       other-kind false e = none_is qs e
 
       go : (a h : Bool) (d : Word) → places_if a h d T k t v ≡ some qs → Apart 0 (length v) qs
-      go true true (Is n) e = laid n (leb n (length v)) refl e
-      go true true Over e = let z : ◌≡◌ {A = ℕ} 0 1 = cc in absurd (omega arith)
+      go true true (Some n) e = laid n (leb n (length v)) refl e
+      go true true None e = let z : ◌≡◌ {A = ℕ} 0 1 = cc in absurd (omega arith)
       go true false d e = none_is qs e
       go false h d e = other-kind (eqb k 3) e
 

@@ -8,9 +8,9 @@ use lib.ListN.{length, drop, length-drop}
 use lib.Dec.{eqb}
 use borrow.Author.Tests.{lt-ltb}
 use Rattle.ty.specs.Types.{Ty, Ty.missing, Ty.int, Ty.physical, Ty.enum, Ty.real, Ty.array, Ty.fields, Ty.access, Ty.file, Ty.protected, Field, Field.field, Table, type_at, const_at, none}
-use Rattle.std.specs.Prelude.{if◌then◌else◌}
+use Rattle.std.specs.Prelude.{if◌then◌else◌, Option, Some, None}
 use Rattle.ty.proofs.Laws.{word-is}
-use Rattle.ty.specs.Words.{word_of, on_word, round_up}
+use Rattle.ty.specs.Words.{word_of, on_word, round_up, Word}
 use Rattle.ty.specs.Scalars.{scalar_size, elem_size, logic_leaf}
 use Rattle.layout.specs.Layout.{dims_of, on_dims, on_laid, on_bytes, under, used_by, array_laid, array_of, end_of, placed, record_of, scalar_laid, size_or, layout_by, layout_at}
 use Rattle.ty.specs.Walks.{desc_array, desc_fields, desc_by, desc_at, desc_size}
@@ -18,15 +18,11 @@ use Rattle.layout.specs.declared.Lay.{Lay}
 use Rattle.layout.specs.declared.Lay.TheVariants.{Laid, Malformed, TooLarge}
 use Rattle.layout.specs.declared.Dims.{Dims}
 use Rattle.layout.specs.declared.Dims.TheVariants.{Count, Bad, Large}
-use Rattle.ty.specs.declared.Word.{Word}
-use Rattle.ty.specs.declared.Word.TheVariants.{Is, Over}
-use Rattle.ty.specs.declared.Scalar.{Scalar}
-use Rattle.ty.specs.declared.Scalar.TheVariants.{Bytes, Composite}
 use Rattle.layout.proofs.Within.{used-within, dims-within}
 
 -- the size x is what is used, if a layout is given
 abbrev Sizes : Word → Lay → Type 0
-Sizes x (Laid s a st m u) = x ≡ Is u
+Sizes x (Laid s a st m u) = x ≡ Some u
 Sizes x Malformed = Unit {0}
 Sizes x TooLarge = Unit {0}
 
@@ -36,8 +32,8 @@ on-laid x Malformed f h = tt
 on-laid x TooLarge f h = tt
 
 on-word : (x w : Word) (f : ℕ → Lay) → ((m : ℕ) → Sizes x (f m)) → Sizes x (on_word TooLarge w f)
-on-word x (Is m) f h = h m
-on-word x Over f h = tt
+on-word x (Some m) f h = h m
+on-word x None f h = tt
 
 on-dims : (x : Word) (w : Dims) (f : ℕ → Lay) → ((m : ℕ) → w ≡ Count m → Sizes x (f m)) → Sizes x (on_dims w f)
 on-dims x (Count m) f h = h m refl
@@ -48,31 +44,31 @@ on-if◌then◌else◌ : (x : Word) (b : Bool) (y z : Lay) → Sizes x y → Siz
 on-if◌then◌else◌ x true y z h k = h
 on-if◌then◌else◌ x false y z h k = k
 
-on-scalar : (x : Scalar) → Sizes (Is 0) (scalar_laid x)
-on-scalar (Bytes m) = refl
-on-scalar Composite = tt
+on-scalar : (x : Option ℕ) → Sizes (Some 0) (scalar_laid x)
+on-scalar (Some m) = refl
+on-scalar None = tt
 
-array-laid-sizes : (x : Word) (logic k s a m used : ℕ) → x ≡ Is used → Sizes x (array_laid logic k s a m used)
+array-laid-sizes : (x : Word) (logic k s a m used : ℕ) → x ≡ Some used → Sizes x (array_laid logic k s a m used)
 unfolding array_laid
 array-laid-sizes x logic k s a m used g =
     on-if◌then◌else◌ x (eqb logic 0) _ _
     (on-word x (word_of (round_up s a)) _ (λ st. on-word x (word_of (st * k)) _ (λ z. g)))
     (on-word x (word_of (k * m)) _ (λ q. g))
 
-array-desc : (b : Bool) (x : Word) (h u : ℕ) → if◌then◌else◌ b x (Is 0) ≡ Is (if◌then◌else◌ b u 0) → h + if◌then◌else◌ b u 0 < 2 ^ 64 → if◌then◌else◌ b (on_word Over x (λ m. word_of (h + m))) (Is h) ≡ Is (h + if◌then◌else◌ b u 0)
+array-desc : (b : Bool) (x : Word) (h u : ℕ) → if◌then◌else◌ b x (Some 0) ≡ Some (if◌then◌else◌ b u 0) → h + if◌then◌else◌ b u 0 < 2 ^ 64 → if◌then◌else◌ b (on_word None x (λ m. word_of (h + m))) (Some h) ≡ Some (h + if◌then◌else◌ b u 0)
 array-desc true x h u e l = rw e (word-is (h + u) l)
-array-desc false x h u e l = let z : h ≡ h + 0 = omega arith in ap Is z
+array-desc false x h u e l = let z : h ≡ h + 0 = omega arith in ap Some z
 
-fields-desc : (b : Bool) (x : Word) (h u : ℕ) (f : ℕ → Word) → if◌then◌else◌ b x (Is 0) ≡ Is (if◌then◌else◌ b u 0) → h + if◌then◌else◌ b u 0 < 2 ^ 64 → if◌then◌else◌ b (on_word Over x (λ m. on_word Over (word_of (h + m)) f)) (f h) ≡ f (h + if◌then◌else◌ b u 0)
+fields-desc : (b : Bool) (x : Word) (h u : ℕ) (f : ℕ → Word) → if◌then◌else◌ b x (Some 0) ≡ Some (if◌then◌else◌ b u 0) → h + if◌then◌else◌ b u 0 < 2 ^ 64 → if◌then◌else◌ b (on_word None x (λ m. on_word None (word_of (h + m)) f)) (f h) ≡ f (h + if◌then◌else◌ b u 0)
 fields-desc true x h u f e l = rw (e, word-is (h + u) l) refl
 fields-desc false x h u f e l = let z : h ≡ h + 0 = omega arith in ap f z
 
 module _ (T : Table) (n k : ℕ) (IH : (t : ℕ) (d : List ℕ) → length d < 2 ^ 64 → Sizes (desc_at T.types k t) (layout_at T n t d)) where
-  under-cases : (b : Bool) (e : ℕ) (d : List ℕ) (x : Lay) (s a st m u : ℕ) → length d < 2 ^ 64 → if◌then◌else◌ b (layout_at T n e d) x ≡ Laid s a st m u → if◌then◌else◌ b (desc_at T.types k e) (Is 0) ≡ Is (if◌then◌else◌ b u 0)
+  under-cases : (b : Bool) (e : ℕ) (d : List ℕ) (x : Lay) (s a st m u : ℕ) → length d < 2 ^ 64 → if◌then◌else◌ b (layout_at T n e d) x ≡ Laid s a st m u → if◌then◌else◌ b (desc_at T.types k e) (Some 0) ≡ Some (if◌then◌else◌ b u 0)
   under-cases true e d x s a st m u l eq = subst (λ (y : Lay). Sizes (desc_at T.types k e) y) eq (IH e d l)
   under-cases false e d x s a st m u l eq = refl
 
-  under-sizes : (e c : ℕ) (d : List ℕ) (s a st m u : ℕ) → length d < 2 ^ 64 → under T (layout_at T n) e c d ≡ Laid s a st m u → if◌then◌else◌ (eqb c none) (desc_at T.types k e) (Is 0) ≡ Is (used_by c u)
+  under-sizes : (e c : ℕ) (d : List ℕ) (s a st m u : ℕ) → length d < 2 ^ 64 → under T (layout_at T n) e c d ≡ Laid s a st m u → if◌then◌else◌ (eqb c none) (desc_at T.types k e) (Some 0) ≡ Some (used_by c u)
   unfolding under
   under-sizes e c d s a st m u l eq = under-cases (eqb c none) e d (on_bytes (const_at T.consts c) (layout_at T n e)) s a st m u l eq
 
@@ -84,7 +80,7 @@ module _ (T : Table) (n k : ℕ) (IH : (t : ℕ) (d : List ℕ) → length d < 2
       array-laid-sizes _ (logic_leaf T.types 64 t) q (size_or (elem_size (type_at T.types e)) s) (size_or (elem_size (type_at T.types e)) a) m (24 * j + used_by c u)
       (one q eq s a st m u eu)))
     where
-      one : (q : ℕ) → dims_of j d 1 ≡ Count q → (s a st m u : ℕ) → under T (layout_at T n) e c (drop (24 * j) d) ≡ Laid s a st m u → on_word Over (word_of (24 * j)) (λ h. if◌then◌else◌ (eqb c none) (on_word Over (desc_at T.types k e) (λ y. word_of (h + y))) (Is h)) ≡ Is (24 * j + used_by c u)
+      one : (q : ℕ) → dims_of j d 1 ≡ Count q → (s a st m u : ℕ) → under T (layout_at T n) e c (drop (24 * j) d) ≡ Laid s a st m u → on_word None (word_of (24 * j)) (λ h. if◌then◌else◌ (eqb c none) (on_word None (desc_at T.types k e) (λ y. word_of (h + y))) (Some h)) ≡ Some (24 * j + used_by c u)
       one q eq s a st m u eu =
           let i = dims-within j d 1 q eq in
           let g = used-within T n e c (drop (24 * j) d) s a st m u eu in

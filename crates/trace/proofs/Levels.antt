@@ -9,8 +9,8 @@ use native.Mathlib.Omega.{arith}
 use lib.ListN.{length, drop, length-drop}
 use lib.Dec.{leb, eqb}
 use Rattle.ty.specs.Types.{Ty, Ty.missing, Ty.int, Ty.physical, Ty.enum, Ty.real, Ty.array, Ty.fields, Ty.access, Ty.file, Ty.protected, Field, Field.field, Const, Const.plain, Const.other, Table, type_at, const_at, none as no_const}
-use Rattle.std.specs.Prelude.{if◌then◌else◌}
-use Rattle.ty.specs.Words.{on_word}
+use Rattle.std.specs.Prelude.{if◌then◌else◌, Some, None}
+use Rattle.ty.specs.Words.{on_word, Word}
 use Rattle.layout.specs.Layout.{on_dims, on_laid, on_bytes, dims_of, under, used_by, placed, array_of, record_of, layout_by, layout_at, layout_of}
 use Rattle.ty.specs.Walks.{has_handles}
 use Rattle.layout.specs.Offsets.{offsets_of}
@@ -18,8 +18,6 @@ use Rattle.layout.specs.declared.Lay.{Lay}
 use Rattle.layout.specs.declared.Lay.TheVariants.{Laid, Malformed, TooLarge}
 use Rattle.layout.specs.declared.Dims.{Dims}
 use Rattle.layout.specs.declared.Dims.TheVariants.{Count, Bad, Large}
-use Rattle.ty.specs.declared.Word.{Word}
-use Rattle.ty.specs.declared.Word.TheVariants.{Is, Over}
 use Rattle.trace.specs.Places.{Places, Below, only_if, both, turns, if_laid, if_bytes, part_places, field_desc, field_places, places_by, places_at}
 use Rattle.trace.proofs.DescLaws.{used-is-at}
 use Rattle.trace.proofs.Emits.{many-ext}
@@ -41,8 +39,8 @@ from-dims Bad f s a st q u e k = let z : ◌≡◌ {A = ℕ} 0 1 = cc in absurd 
 from-dims Large f s a st q u e k = let z : ◌≡◌ {A = ℕ} 0 1 = cc in absurd (omega arith)
 
 from-word : {R : Type 0} (x : Word) (f : ℕ → Lay) (s a st q u : ℕ) → on_word TooLarge x f ≡ Laid s a st q u → ((n : ℕ) → f n ≡ Laid s a st q u → R) → R
-from-word (Is n) f s a st q u e k = k n e
-from-word Over f s a st q u e k = let z : ◌≡◌ {A = ℕ} 0 1 = cc in absurd (omega arith)
+from-word (Some n) f s a st q u e k = k n e
+from-word None f s a st q u e k = let z : ◌≡◌ {A = ℕ} 0 1 = cc in absurd (omega arith)
 
 -- the two levels agree on every type and descriptor that have a layout with m levels
 abbrev Same : Table → ℕ → ℕ → ℕ → Type 0
@@ -67,7 +65,7 @@ module _ (T : Table) (end : ℕ) (small : (c : ℕ) (b : List ℕ) → const_at 
         from-laid (under T (layout_at T m) t c (drop used d)) _ s a st q u e (λ s' a' st' q' u' eu e'.
         from-word (placed off a' s') _ s a st q u e' (λ o' e''.
         let short : length (drop used d) < 2 ^ 64 = omega (arith, length-drop used d) in
-        let taken : field_desc T.types t c ≡ Is (used_by c u') = used-is-at T m le t c (drop used d) s' a' st' q' u' short eu in
+        let taken : field_desc T.types t c ≡ Some (used_by c u') = used-is-at T m le t c (drop used d) s' a' st' q' u' short eu in
         ap (λ (x : Word). on_word none x (λ k. only_if (leb (at + o) end) (both (part_places T (places_at T end n) t c (drop used d) (at + o)) (field_places T (places_at T end n) end at fs os d (used + k))))) taken
         ∙ ap (λ (x : Places). only_if (leb (at + o) end) (both x (field_places T (places_at T end n) end at fs os d (used + used_by c u')))) (part_same t c (drop used d) short s' a' st' q' u' eu (at + o))
         ∙ ap (λ (x : Places). only_if (leb (at + o) end) (both (part_places T (places_at T end m) t c (drop used d) (at + o)) x)) (fields-same at fs os d o' (max al a') (used + used_by c u') l s a st q u e'')

@@ -8,13 +8,12 @@ use lib.ListN.{length, take, drop, length-drop}
 use lib.Dec.{leb}
 use borrow.Author.Tests.{le-leb, lt-leb, eq-eqb, ne_eqb, not-true, not-false}
 use native.Mathlib.Omega.{arith}
+use Rattle.ty.specs.Words.{Word}
 use Rattle.word.specs.Result.{Result, ok, refused}
-use Rattle.std.specs.Prelude.{if◌then◌else◌}
+use Rattle.std.specs.Prelude.{if◌then◌else◌, Some, None}
 use Rattle.ty.specs.Types.{Table}
 use Rattle.ty.specs.Walks.{desc_size, has_handles}
 use Rattle.ty.specs.View.{table_of, types_of}
-use Rattle.ty.specs.declared.Word.{Word}
-use Rattle.ty.specs.declared.Word.TheVariants.{Is, Over}
 use Rattle.layout.proofs.LayLaws.{rest}
 use Rattle.trace.specs.Places.{Places, places_at, object_places, rising, handles_places, kind_places, shown_places, words_at, value_handles, object_handles, handles_of}
 use Rattle.trace.specs.Emit.{Raw, into, Runs, emitting, Ready, Aim, aim, handed, handed_all, handing_at, told}
@@ -54,15 +53,15 @@ module _ (w fs cs b : List ℕ) (t : ℕ) (v : List ℕ) (k : Aim) (s : Raw) (x 
   object-plain o = emit-nil k v s _ (rw (← ex, not-true x o) refl)
 
   module _ (o : not x ≡ false) (z : Word) (ez : z ≡ desc_size (types_of w fs) t) where
-    pub object-size : z ≡ Over → refused 13 ≡ handing_at k v s (object_places (table_of w fs cs b) t v)
+    pub object-size : z ≡ None → refused 13 ≡ handing_at k v s (object_places (table_of w fs cs b) t v)
     unfolding object_places
     object-size h = emit-none k v s _ (rw (← ex, not-false x o, ← ez, h) refl)
 
-    pub object-cut : (n : ℕ) → z ≡ Is n → length v < n → refused 13 ≡ handing_at k v s (object_places (table_of w fs cs b) t v)
+    pub object-cut : (n : ℕ) → z ≡ Some n → length v < n → refused 13 ≡ handing_at k v s (object_places (table_of w fs cs b) t v)
     unfolding object_places
     object-cut n h l = emit-none k v s _ (rw (← ex, not-false x o, ← ez, h, lt-leb n (length v) l) refl)
 
-    pub object-whole : (n : ℕ) → z ≡ Is n → n ≤ length v → (r : Answer) (ms to : List ℕ) → told r ms to ≡ handing_at k v s (places_at (table_of w fs cs b) (length v) 65 t (take n v) n) → told r ms to ≡ handing_at k v s (object_places (table_of w fs cs b) t v)
+    pub object-whole : (n : ℕ) → z ≡ Some n → n ≤ length v → (r : Answer) (ms to : List ℕ) → told r ms to ≡ handing_at k v s (places_at (table_of w fs cs b) (length v) 65 t (take n v) n) → told r ms to ≡ handing_at k v s (object_places (table_of w fs cs b) t v)
     unfolding object_places
     object-whole n h l r ms to er = rw (← ex, not-false x o, ← ez, h, le-leb n (length v) l) er
 

@@ -11,8 +11,8 @@ use types.Run.{OneOf, miss}
 use denote.Enum.Declared.{tag_of}
 use borrow.Author.Tests.{eq-eqb, ne_eqb, le-leb, lt-leb}
 use Rattle.ty.specs.Types.{Ty, Ty.missing, Ty.int, Ty.physical, Ty.enum, Ty.real, Ty.array, Ty.fields, Ty.access, Ty.file, Ty.protected, Const, Const.plain, Const.other, Table, type_at, const_at, none as no_const}
-use Rattle.std.specs.Prelude.{if◌then◌else◌}
-use Rattle.ty.specs.Words.{word_of, on_word, round_up}
+use Rattle.std.specs.Prelude.{if◌then◌else◌, Some, None}
+use Rattle.ty.specs.Words.{word_of, on_word, round_up, Word}
 use Rattle.layout.specs.Layout.{on_dims, dims_of, under, used_by, end_of, array_of, record_of, layout_at, layout_of}
 use Rattle.ty.specs.Walks.{has_handles, handles_by, handles_at}
 use Rattle.ty.specs.View.{read_ty, entry_at, fields_from, part_at, read_part, types_of, consts_of, table_of}
@@ -22,10 +22,6 @@ use Rattle.layout.specs.declared.Lay.{Lay}
 use Rattle.layout.specs.declared.Lay.TheVariants.{Laid, Malformed, TooLarge}
 use Rattle.layout.specs.declared.Dims.{Dims}
 use Rattle.layout.specs.declared.Dims.TheVariants.{Count, Bad, Large}
-use Rattle.ty.specs.declared.Word.{Word}
-use Rattle.ty.specs.declared.Word.TheVariants.{Is, Over}
-use Rattle.ty.specs.declared.Part.{Part}
-use Rattle.ty.specs.declared.Part.TheVariants.{Nowhere, Of}
 use Rattle.ty.specs.declared.Entry.{Entry}
 use Rattle.ty.specs.declared.Entry.TheVariants.{Missing, Int, Physical, Enum, Real, Array, Record, Access, File, Protected}
 use Rattle.ty.specs.contracts.Entry.{the_type as entry-type}
@@ -124,10 +120,10 @@ module _ (w fs cs b : List ℕ) (left t : ℕ) (d : List ℕ) (at : ℕ) (k : Ai
 
 -- ---- fields_at
 
-pub looked-not : (w fs : List ℕ) (t left : ℕ) (x : Bool) (i n : ℕ) → Not ≡ Fields-as-Of i n → Looked w fs t left x i n
+pub looked-not : (w fs : List ℕ) (t left : ℕ) (x : Bool) (i n : ℕ) → Not ≡ Fields-as-Some (i, n) → Looked w fs t left x i n
 looked-not w fs t left x i n e = let z : ◌≡◌ {A = ℕ} 0 1 = cc in absurd (omega arith)
 
-pub looked-of : (w fs : List ℕ) (t left : ℕ) (x : Bool) → (left ≡ 0 → ⊥) → x ≡ true → (e : Entry) → e ≡ entry_at w (length fs / 2) t → (i n : ℕ) → e ≡ Record i n → (i' n' : ℕ) → Fields-as-Of i n ≡ Fields-as-Of i' n' → Looked w fs t left x i' n'
+pub looked-of : (w fs : List ℕ) (t left : ℕ) (x : Bool) → (left ≡ 0 → ⊥) → x ≡ true → (e : Entry) → e ≡ entry_at w (length fs / 2) t → (i n : ℕ) → e ≡ Record i n → (i' n' : ℕ) → Fields-as-Some (i, n) ≡ Fields-as-Of i' n' → Looked w fs t left x i' n'
 looked-of w fs t left x h o e ee i n q i' n' z = record { level = h; handles = o; row = cc }
 
 -- ---- trace_elems
@@ -146,12 +142,12 @@ module _ (w fs cs b : List ℕ) (left t c : ℕ) (d : List ℕ) (st n at : ℕ) 
   pub parts-end : n ≡ 0 → ok s ≡ handing_at k v s (many (length v) (part_places (table_of w fs cs b) (places_at (table_of w fs cs b) (length v) left) t c d) st n at)
   parts-end h = emit-nil k v s _ (many-end (length v) _ st n at (omega arith))
 
-  module _ (h : c ≡ 4294967295 → ⊥) (p : Part) (ep : p ≡ part_at cs (length b) c) where
-    pub parts-nowhere : (n ≡ 0 → ⊥) → p ≡ Nowhere → refused 13 ≡ handing_at k v s (many (length v) (part_places (table_of w fs cs b) (places_at (table_of w fs cs b) (length v) left) t c d) st n at)
+  module _ (h : c ≡ 4294967295 → ⊥) (p : Option (ℕ × ℕ)) (ep : p ≡ part_at cs (length b) c) where
+    pub parts-nowhere : (n ≡ 0 → ⊥) → p ≡ None → refused 13 ≡ handing_at k v s (many (length v) (part_places (table_of w fs cs b) (places_at (table_of w fs cs b) (length v) left) t c d) st n at)
     unfolding part_places read_part
     parts-nowhere z e = emit-none k v s _ (many-none (length v) _ (λ q. rw (ne_eqb c no_const h, const-at, ← ep, e) refl) st n at z)
 
-    pub parts-const : (x y : ℕ) → p ≡ Of x y → (r : Answer) (ms to : List ℕ) → told r ms to ≡ handing_at k v s (many (length v) (places_at (table_of w fs cs b) (length v) left t (take (y - x) (drop x b))) st n at) → told r ms to ≡ handing_at k v s (many (length v) (part_places (table_of w fs cs b) (places_at (table_of w fs cs b) (length v) left) t c d) st n at)
+    pub parts-const : (x y : ℕ) → p ≡ Some (x, y) → (r : Answer) (ms to : List ℕ) → told r ms to ≡ handing_at k v s (many (length v) (places_at (table_of w fs cs b) (length v) left t (take (y - x) (drop x b))) st n at) → told r ms to ≡ handing_at k v s (many (length v) (part_places (table_of w fs cs b) (places_at (table_of w fs cs b) (length v) left) t c d) st n at)
     unfolding part_places read_part
     parts-const x y e r ms to er = er ∙ ap (handing_at k v s) (many-ext (length v) _ _ (λ q. rw (ne_eqb c no_const h, const-at, ← ep, e) refl) st n at)
 
@@ -321,14 +317,14 @@ module _ (T : Table) (lay : ℕ → List ℕ → Lay) (next : Below) (t el c j :
 -- ---- place_after
 
 module _ (off s a u : ℕ) (p : Word) (ep : p ≡ word_of (round_up off a)) where
-  pub place-over : p ≡ Over → Unplaced ≡ placed_after off s a u
+  pub place-over : p ≡ None → Unplaced ≡ placed_after off s a u
   place-over h = rw (← ep, h) refl
 
-  module _ (x : ℕ) (h : p ≡ Is x) (q : Word) (eq : q ≡ word_of (x + s)) where
-    pub place-past : q ≡ Over → Unplaced ≡ placed_after off s a u
+  module _ (x : ℕ) (h : p ≡ Some x) (q : Word) (eq : q ≡ word_of (x + s)) where
+    pub place-past : q ≡ None → Unplaced ≡ placed_after off s a u
     place-past g = rw (← ep, h, ← eq, g) refl
 
-    pub place-some : (e : ℕ) → q ≡ Is e → At x e a u ≡ placed_after off s a u
+    pub place-some : (e : ℕ) → q ≡ Some e → At x e a u ≡ placed_after off s a u
     place-some e g = rw (← ep, h, ← eq, g) refl
 
 -- ---- place_field
@@ -352,12 +348,12 @@ module _ (w fs cs b : List ℕ) (t c used : ℕ) (d : List ℕ) (off : ℕ) wher
 -- a field that is placed has a layout
 module _ (o e a u : ℕ) where
   placed_end : (s a' u' o' : ℕ) (q : Word) → on_word Unplaced q (λ e'. At o' e' a' u') ≡ At o e a u → u' ≡ u
-  placed_end s a' u' o' Over h = let z : ◌≡◌ {A = ℕ} 0 1 = cc in absurd (omega arith)
-  placed_end s a' u' o' (Is e') h = cc
+  placed_end s a' u' o' None h = let z : ◌≡◌ {A = ℕ} 0 1 = cc in absurd (omega arith)
+  placed_end s a' u' o' (Some e') h = cc
 
   placed_at : (s a' u' : ℕ) (p : Word) → on_word Unplaced p (λ o'. on_word Unplaced (word_of (o' + s)) (λ e'. At o' e' a' u')) ≡ At o e a u → u' ≡ u
-  placed_at s a' u' Over h = let z : ◌≡◌ {A = ℕ} 0 1 = cc in absurd (omega arith)
-  placed_at s a' u' (Is o') h = placed_end s a' u' o' (word_of (o' + s)) h
+  placed_at s a' u' None h = let z : ◌≡◌ {A = ℕ} 0 1 = cc in absurd (omega arith)
+  placed_at s a' u' (Some o') h = placed_end s a' u' o' (word_of (o' + s)) h
 
   placed-within : (T : Table) (n t c : ℕ) (d : List ℕ) (off : ℕ) (l : Lay) → under T (layout_at T n) t c d ≡ l → field_at l off ≡ At o e a u → used_by c u ≤ length d
   placed-within T n t c d off (Laid s a' st m u') el h =

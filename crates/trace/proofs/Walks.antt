@@ -7,14 +7,13 @@ use Prim.Native.Nat.{ℕ, ◌+◌, ◌^◌, ◌<◌, max}
 use native.Mathlib.Omega.{arith}
 use lib.ListN.{length, drop, length-drop}
 use lib.Dec.{leb}
+use Rattle.std.specs.Prelude.{Some, None}
 use Rattle.ty.specs.Types.{Field, Field.field, Table}
-use Rattle.ty.specs.Words.{word_of, on_word, round_up}
+use Rattle.ty.specs.Words.{word_of, on_word, round_up, Word}
 use Rattle.layout.specs.Layout.{on_laid, under, used_by, placed, record_of, layout_at}
 use Rattle.layout.specs.Offsets.{if_laid as offsets_if, offsets_from}
 use Rattle.layout.specs.declared.Lay.{Lay}
 use Rattle.layout.specs.declared.Lay.TheVariants.{Laid, Malformed, TooLarge}
-use Rattle.ty.specs.declared.Word.{Word}
-use Rattle.ty.specs.declared.Word.TheVariants.{Is, Over}
 use Rattle.trace.specs.Places.{Places, Below, only_if, both, if_laid, part_places, field_desc, field_places}
 use Rattle.trace.specs.Walk.{field_at, if_placed, walk}
 use Rattle.trace.specs.declared.Placed.TheVariants.{At, Unplaced}
@@ -35,12 +34,12 @@ after-field TooLarge false x f = refl
 
 module _ (a u : ℕ) (A : ℕ → ℕ → ℕ → ℕ → Places) (R : ℕ → Lay) (O : ℕ → List ℕ) (G : List ℕ → Places) (same : (o e : ℕ) → A o e a u ≡ if_laid (R e) (λ st n. G (o ∷ O e))) where
   by_end : (o : ℕ) (q : Word) → if_placed (on_word Unplaced q (λ e. At o e a u)) A ≡ if_laid (on_word TooLarge q R) (λ st n. G (on_word [] q (λ e. o ∷ O e)))
-  by_end o Over = refl
-  by_end o (Is e) = same o e
+  by_end o None = refl
+  by_end o (Some e) = same o e
 
-  by-offset : (s : ℕ) (p : Word) → if_placed (on_word Unplaced p (λ o. on_word Unplaced (word_of (o + s)) (λ e. At o e a u))) A ≡ if_laid (on_word TooLarge (on_word Over p (λ o. word_of (o + s))) R) (λ st n. G (on_word [] p (λ o. on_word [] (word_of (o + s)) (λ e. o ∷ O e))))
-  by-offset s Over = refl
-  by-offset s (Is o) = by_end o (word_of (o + s))
+  by-offset : (s : ℕ) (p : Word) → if_placed (on_word Unplaced p (λ o. on_word Unplaced (word_of (o + s)) (λ e. At o e a u))) A ≡ if_laid (on_word TooLarge (on_word None p (λ o. word_of (o + s))) R) (λ st n. G (on_word [] p (λ o. on_word [] (word_of (o + s)) (λ e. o ∷ O e))))
+  by-offset s None = refl
+  by-offset s (Some o) = by_end o (word_of (o + s))
 
 one_field : (T : Table) (next : Below) (end at t c : ℕ) (fs : List Field) (d : List ℕ) (off al used s a st m u : ℕ) → length d < 2 ^ 64 → under T (layout_at T 64) t c (drop used d) ≡ Laid s a st m u →
     ((e : ℕ) → walk T next end at fs d e (max al a) (used + used_by c u) ≡ if_laid (record_of T (layout_at T 64) fs d e (max al a) (used + used_by c u)) (λ st n. field_places T next end at fs (offsets_from T (layout_at T 64) fs d e (used + used_by c u)) d (used + used_by c u))) →
@@ -53,7 +52,7 @@ one_field T next end at t c fs d off al used s a st m u l eu later =
     (λ e. record_of T (layout_at T 64) fs d e (max al a) (used + used_by c u)) (λ e. offsets_from T (layout_at T 64) fs d e (used + used_by c u))
     (λ os. field_places T next end at (field t c ∷ fs) os d used) same s (word_of (round_up off a))
   where
-    taken : field_desc T.types t c ≡ Is (used_by c u)
+    taken : field_desc T.types t c ≡ Some (used_by c u)
     taken = used-is T t c (drop used d) s a st m u (omega (arith, length-drop used d)) eu
 
     here : (o : ℕ) (os : List ℕ) → field_places T next end at (field t c ∷ fs) (o ∷ os) d used ≡ only_if (leb (at + o) end) (both (part_places T next t c (drop used d) (at + o)) (field_places T next end at fs os d (used + used_by c u)))

@@ -1,13 +1,11 @@
 -- The places of the handles in a value, an object and a slot's data, as byte offsets, and the words there (01, "Traced handles", and "Heap", `collect`;
 -- handles_in, object_handles and value_handles of heap.rs). Places stand in the order in which the Rust pushes handles.
-use Rattle.std.specs.Prelude.{ℕ, zero, suc, ◌+◌, ◌-◌, ◌*◌, ◌/◌, min, Bool, true, false, List, [], ◌∷◌, ◌++◌, map, length, take, drop, leb, eqb, if◌then◌else◌}
+use Rattle.std.specs.Prelude.{ℕ, zero, suc, ◌+◌, ◌-◌, ◌*◌, ◌/◌, min, Bool, true, false, List, [], ◌∷◌, ◌++◌, map, length, take, drop, leb, eqb, if◌then◌else◌, Some}
 use Rattle.std.proofs.Math.Option.{Option, none, some}
 use Rattle.word.specs.Le.{le}
 use Rattle.ty.specs.Types.{Ty, Ty.missing, Ty.int, Ty.physical, Ty.enum, Ty.real, Ty.array, Ty.fields, Ty.access, Ty.file, Ty.protected, Field, Field.field, Const, Const.plain, Const.other, Table, type_at, const_at, none as no_const}
-use Rattle.ty.specs.Words.{on_word}
+use Rattle.ty.specs.Words.{on_word, Word}
 use Rattle.ty.specs.Walks.{desc_size, has_handles}
-use Rattle.ty.specs.declared.Word.{Word}
-use Rattle.ty.specs.declared.Word.TheVariants.{Is}
 use Rattle.layout.specs.Layout.{layout_of}
 use Rattle.layout.specs.Offsets.{offsets_of}
 use Rattle.layout.specs.declared.Lay.{Lay}
@@ -57,7 +55,7 @@ part_places T next t c d p = if eqb c no_const then next t d p else if_bytes (co
 
 -- what a field takes of the record's descriptor
 abbrev pub field_desc : List Ty → ℕ → ℕ → Word
-field_desc ts t c = if eqb c no_const then desc_size ts t else Is 0
+field_desc ts t c = if eqb c no_const then desc_size ts t else Some 0
 
 -- the fields of a record at their offsets from `at`; an offset beyond the data fails, also of a field without handles
 unfoldable pub field_places : Table → Below → ℕ → ℕ → List Field → List ℕ → List ℕ → ℕ → Places

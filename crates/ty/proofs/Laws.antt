@@ -5,83 +5,60 @@ use Prim.Native.Nat.{ℕ, ◌+◌, ◌-◌, ◌*◌, ◌^◌, ◌≤◌, ◌<◌
 use native.Mathlib.Omega.{arith}
 use lib.Dec.{ltb}
 use borrow.Author.Tests.{lt-ltb, le-ltb, le-leb, lt-leb}
-use Rattle.std.specs.Prelude.{if◌then◌else◌}
-use Rattle.word.specs.Num.{product_at, align_up, aligned_at}
-use Rattle.word.specs.declared.Product.{Product}
-use Rattle.word.specs.declared.Product.TheVariants.{Fits, TooLarge}
+use Rattle.std.specs.Prelude.{Option, Some, None, SomeIff, if◌then◌else◌}
+use Rattle.word.specs.Num.{align_up, aligned_at}
 use Rattle.word.specs.declared.Aligned.{Aligned}
-use Rattle.word.specs.declared.Aligned.TheVariants.{To, TooLarge as TooFar}
-use Rattle.ty.specs.Words.{word_at, word_of}
+use Rattle.word.specs.declared.Aligned.TheVariants.{To, TooLarge}
+use Rattle.ty.specs.Words.{Word, word_at, word_of}
 use Rattle.ty.specs.View.{entry_of}
 use Rattle.ty.specs.declared.Entry.TheVariants.{Missing, Record}
-use Rattle.ty.specs.declared.Word.{Word}
-use Rattle.ty.specs.declared.Word.TheVariants.{Is, Over}
 
 -- words of any width w: a number fits or is too large
 module _ (w : ℕ) where
-  is_at : (n : ℕ) → n < 2 ^ w → word_at w n ≡ Is n
+  is_at : (n : ℕ) → n < 2 ^ w → word_at w n ≡ Some n
   is_at n h = simp (lt-ltb n (2 ^ w) h)
 
-  over-at : (n : ℕ) → 2 ^ w ≤ n → word_at w n ≡ Over
+  over-at : (n : ℕ) → 2 ^ w ≤ n → word_at w n ≡ None
   over-at n h = simp (le-ltb n (2 ^ w) h)
 
-  -- what `checked_mul` and `align_up` of word answer
-  product-is-at : (a b n : ℕ) (p : Product) → p ≡ product_at w a b → p ≡ Fits n → Is n ≡ word_at w (a * b)
-  unfolding product_at
-  product-is-at a b n p e h = go (ltb (a * b) (2 ^ w)) (sym e ∙ h)
-    where
-      go : (x : Bool) → if◌then◌else◌ x (Fits (a * b)) TooLarge ≡ Fits n → Is n ≡ if◌then◌else◌ x (Is (a * b)) Over
-      go true q = let z : a * b ≡ n = cc in ap Is (sym z)
-      go false q = let z : ◌≡◌ {A = ℕ} 0 1 = cc in absurd (omega arith)
-
-  product-over-at : (a b : ℕ) (p : Product) → p ≡ product_at w a b → p ≡ TooLarge → Over ≡ word_at w (a * b)
-  unfolding product_at
-  product-over-at a b p e h = go (ltb (a * b) (2 ^ w)) (sym e ∙ h)
-    where
-      go : (x : Bool) → if◌then◌else◌ x (Fits (a * b)) TooLarge ≡ TooLarge → Over ≡ if◌then◌else◌ x (Is (a * b)) Over
-      go true q = let z : ◌≡◌ {A = ℕ} 0 1 = cc in absurd (omega arith)
-      go false q = refl
-
-  aligned-is-at : (x a b n : ℕ) (p : Aligned) → b ≡ max a 1 → p ≡ aligned_at w x b → p ≡ To n → Is n ≡ word_at w (align_up x (max a 1))
+  -- what `align_up` of word answers
+  aligned-is-at : (x a b n : ℕ) (p : Aligned) → b ≡ max a 1 → p ≡ aligned_at w x b → p ≡ To n → Some n ≡ word_at w (align_up x (max a 1))
   unfolding aligned_at
   aligned-is-at x a b n p eb e h = rw (← eb) (go (ltb (align_up x b) (2 ^ w)) (sym e ∙ h))
     where
-      go : (t : Bool) → if◌then◌else◌ t (To (align_up x b)) TooFar ≡ To n → Is n ≡ if◌then◌else◌ t (Is (align_up x b)) Over
-      go true q = let z : align_up x b ≡ n = cc in ap Is (sym z)
+      go : (t : Bool) → if◌then◌else◌ t (To (align_up x b)) TooLarge ≡ To n → Some n ≡ if◌then◌else◌ t (Some (align_up x b)) None
+      go true q = let z : align_up x b ≡ n = cc in ap Some (sym z)
       go false q = let z : ◌≡◌ {A = ℕ} 0 1 = cc in absurd (omega arith)
 
-  aligned-over-at : (x a b : ℕ) (p : Aligned) → b ≡ max a 1 → p ≡ aligned_at w x b → p ≡ TooFar → Over ≡ word_at w (align_up x (max a 1))
+  aligned-over-at : (x a b : ℕ) (p : Aligned) → b ≡ max a 1 → p ≡ aligned_at w x b → p ≡ TooLarge → None ≡ word_at w (align_up x (max a 1))
   unfolding aligned_at
   aligned-over-at x a b p eb e h = rw (← eb) (go (ltb (align_up x b) (2 ^ w)) (sym e ∙ h))
     where
-      go : (t : Bool) → if◌then◌else◌ t (To (align_up x b)) TooFar ≡ TooFar → Over ≡ if◌then◌else◌ t (Is (align_up x b)) Over
+      go : (t : Bool) → if◌then◌else◌ t (To (align_up x b)) TooLarge ≡ TooLarge → None ≡ if◌then◌else◌ t (Some (align_up x b)) None
       go true q = let z : ◌≡◌ {A = ℕ} 0 1 = cc in absurd (omega arith)
       go false q = refl
 
 -- at 64 bits
-pub word-is : (n : ℕ) → n < 2 ^ 64 → word_of n ≡ Is n
+pub word-is : (n : ℕ) → n < 2 ^ 64 → word_of n ≡ Some n
 unfolding word_of
 word-is = is_at 64
 
-pub word_over : (n : ℕ) → 2 ^ 64 ≤ n → word_of n ≡ Over
+pub word_over : (n : ℕ) → 2 ^ 64 ≤ n → word_of n ≡ None
 unfolding word_of
 word_over = over-at 64
 
-pub product_is : (a b n : ℕ) (p : Product) → p ≡ product_at 64 a b → p ≡ Fits n → Is n ≡ word_of (a * b)
-unfolding word_of
-product_is = product-is-at 64
-
-pub product-over : (a b : ℕ) (p : Product) → p ≡ product_at 64 a b → p ≡ TooLarge → Over ≡ word_of (a * b)
-unfolding word_of
-product-over = product-over-at 64
-
-pub aligned-is : (x a b n : ℕ) (p : Aligned) → b ≡ max a 1 → p ≡ aligned_at 64 x b → p ≡ To n → Is n ≡ word_of (align_up x (max a 1))
+pub aligned-is : (x a b n : ℕ) (p : Aligned) → b ≡ max a 1 → p ≡ aligned_at 64 x b → p ≡ To n → Some n ≡ word_of (align_up x (max a 1))
 unfolding word_of
 aligned-is = aligned-is-at 64
 
-pub aligned-over : (x a b : ℕ) (p : Aligned) → b ≡ max a 1 → p ≡ aligned_at 64 x b → p ≡ TooFar → Over ≡ word_of (align_up x (max a 1))
+pub aligned-over : (x a b : ℕ) (p : Aligned) → b ≡ max a 1 → p ≡ aligned_at 64 x b → p ≡ TooLarge → None ≡ word_of (align_up x (max a 1))
 unfolding word_of
 aligned-over = aligned-over-at 64
+
+-- what a checked sum or product of std answers
+pub word_from_checked : (r : Option ℕ) (n : ℕ) → SomeIff r (n < 2 ^ 64) n → r ≡ word_of n
+word_from_checked None n h = sym (word_over n (omega arith))
+word_from_checked (Some x) n h = ap Some h.1 ∙ sym (word-is n h.0)
 
 -- the same alignment by another name
 pub same_up : (x a b : ℕ) (r : Word) → a ≡ b → r ≡ word_of (align_up x (max b 1)) → r ≡ word_of (align_up x (max a 1))

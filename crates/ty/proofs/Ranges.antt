@@ -1,5 +1,5 @@
 -- What a row that is read promises: a constant's part and a record's fields lie in the table. Assumes nothing.
-use mathlib.Core.Path.{◌≡◌, refl, sym, ◌∙◌}
+use mathlib.Core.Path.{◌≡◌, refl, sym, ap, ◌∙◌}
 use mathlib.Core.List.{List}
 use mathlib.Core.Bool.{Bool, true, false}
 use Prim.Native.Nat.{ℕ, ◌+◌, ◌*◌, ◌/◌, ◌≤◌}
@@ -7,32 +7,31 @@ use native.Mathlib.Omega.{arith}
 use lib.ListN.{length, get_or}
 use lib.Dec.{ltb, leb, eqb}
 use borrow.Author.Tests.{leb-true}
-use Rattle.std.specs.Prelude.{if◌then◌else◌}
+use Rattle.std.specs.Prelude.{Option, Some, None, if◌then◌else◌}
 use Rattle.ty.specs.Scalars.{elem_size}
 use Rattle.ty.specs.View.{read_ty, entry_of, entry_at, part_at, bare}
-use Rattle.ty.specs.declared.Part.{Part}
-use Rattle.ty.specs.declared.Part.TheVariants.{Nowhere, Of}
 use Rattle.ty.specs.declared.Entry.{Entry}
 use Rattle.ty.specs.declared.Entry.TheVariants.{Missing, Int, Physical, Enum, Real, Array, Record, Access, File, Protected}
 
 -- where a constant's part lies
-part-cases : (nb a n : ℕ) (i j k : Bool) (x y : ℕ) → leb (a + n) nb ≡ k → if◌then◌else◌ i (if◌then◌else◌ j (if◌then◌else◌ k (Of a (a + n)) Nowhere) Nowhere) Nowhere ≡ Of x y → (x ≤ y) × (y ≤ nb)
+part-cases : (nb a n : ℕ) (i j k : Bool) (x y : ℕ) → leb (a + n) nb ≡ k → if◌then◌else◌ {A = Option (ℕ × ℕ)} i (if◌then◌else◌ j (if◌then◌else◌ k (Some (a, a + n)) None) None) None ≡ Some (x, y) → (x ≤ y) × (y ≤ nb)
 part-cases nb a n true true true x y h e =
-    let p : a ≡ x = cc in
-    let q : a + n ≡ y = cc in
+    let z : ◌≡◌ {A = ℕ × ℕ} (a, a + n) (x, y) = cc in
+    let p : a ≡ x = ap (λ (v : ℕ × ℕ). v.0) z in
+    let q : a + n ≡ y = ap (λ (v : ℕ × ℕ). v.1) z in
     let r = leb-true (a + n) nb h in
     (omega arith, omega arith)
 part-cases nb a n true true false x y h e = let z : ◌≡◌ {A = ℕ} 0 1 = cc in (omega arith, omega arith)
 part-cases nb a n true false k x y h e = let z : ◌≡◌ {A = ℕ} 0 1 = cc in (omega arith, omega arith)
 part-cases nb a n false j k x y h e = let z : ◌≡◌ {A = ℕ} 0 1 = cc in (omega arith, omega arith)
 
-part-within : (w : List ℕ) (nb c x y : ℕ) → part_at w nb c ≡ Of x y → (x ≤ y) × (y ≤ nb)
+part-within : (w : List ℕ) (nb c x y : ℕ) → part_at w nb c ≡ Some (x, y) → (x ≤ y) × (y ≤ nb)
 unfolding part_at
 part-within w nb c x y e =
     part-cases nb (get_or w (3 * c + 1) 0) (get_or w (3 * c + 2) 0) (ltb c (length w / 3)) (eqb (get_or w (3 * c) 0) 1)
     (leb (get_or w (3 * c + 1) 0 + get_or w (3 * c + 2) 0) nb) x y refl e
 
-module _ (w : List ℕ) (nb c : ℕ) (p : Part) (ep : p ≡ part_at w nb c) (x y : ℕ) (e : p ≡ Of x y) where
+module _ (w : List ℕ) (nb c : ℕ) (p : Option (ℕ × ℕ)) (ep : p ≡ part_at w nb c) (x y : ℕ) (e : p ≡ Some (x, y)) where
   pub part-start : x ≤ y
   part-start = (part-within w nb c x y (sym ep ∙ e)).0
 

@@ -3,23 +3,20 @@ use mathlib.Core.Path.{◌≡◌, refl, sym, ap, subst, ◌∙◌}
 use mathlib.Core.List.{List, [], ◌∷◌}
 use mathlib.Core.Bool.{Bool, true, false}
 use mathlib.Core.Logic.{⊎_elim}
-use mathlib.Core.Option.{Option, none, some}
 use Prim.Native.Nat.{ℕ, zero, suc, ◌+◌, ◌*◌, ◌/◌, ◌^◌, ◌≤◌, ◌<◌}
 use native.Mathlib.Omega.{arith}
 use lib.Dec.{ltb, leb, eqb}
 use lib.ListN.{length, get_or}
 use borrow.Author.Tests.{ltb-true, ltb-false, leb-true}
-use Rattle.std.specs.Prelude.{if◌then◌else◌}
+use Rattle.std.specs.Prelude.{Option, Some, None, if◌then◌else◌}
 use Rattle.word.specs.Lists.{all_below}
 use Rattle.word.proofs.Bools.{and_both}
 use Rattle.word.proofs.ListLaws.{below_at}
 use Rattle.ty.specs.Types.{Ty, Ty.missing, Ty.int, Ty.physical, Ty.enum, Ty.real, Ty.array, Ty.fields, Ty.access, Ty.file, Ty.protected, Field, Field.field, type_at, none as no_const}
-use Rattle.ty.specs.Words.{word_of, on_word}
+use Rattle.ty.specs.Words.{word_of, on_word, Word}
 use Rattle.ty.specs.View.{read_ty, entry_of, entry_at, types_of}
-use Rattle.ty.specs.Walks.{desc_array, desc_fields, desc_by, desc_at, desc_size, plus, size_fields, size_by, size_at, desc_bytes, exactly, unfold_fields, unfold_by, unfold_at}
+use Rattle.ty.specs.Walks.{desc_array, desc_fields, desc_by, desc_at, desc_size, plus, size_fields, size_by, size_at, desc_bytes, unfold_fields, unfold_by, unfold_at}
 use Rattle.ty.specs.Check.{all_of, good_type, good_type_at, small_at, table_good}
-use Rattle.ty.specs.declared.Word.{Word}
-use Rattle.ty.specs.declared.Word.TheVariants.{Is, Over}
 use Rattle.ty.specs.declared.Entry.TheVariants.{Missing, Int, Physical, Enum, Real, Array, Record, Access, File, Protected}
 use Rattle.ty.proofs.Laws.{word-is, word_over}
 use Rattle.ty.proofs.Lookup.{le-or-lt, type-at}
@@ -27,71 +24,71 @@ use Rattle.ty.proofs.CountLaws.{past_one, length_types}
 
 -- a size in 64 bits
 abbrev pub as_word : Option ℕ → Word
-as_word none = Over
-as_word (some n) = word_of n
+as_word None = None
+as_word (Some n) = word_of n
 
 -- a sum by words, of a number that fits
-word-cases : (n m : ℕ) (x : Bool) → ltb m (2 ^ 64) ≡ x → on_word Over (if◌then◌else◌ x (Is m) Over) (λ k. word_of (n + k)) ≡ word_of (n + m)
+word-cases : (n m : ℕ) (x : Bool) → ltb m (2 ^ 64) ≡ x → on_word None (if◌then◌else◌ x (Some m) None) (λ k. word_of (n + k)) ≡ word_of (n + m)
 word-cases n m true e = refl
 word-cases n m false e = let k = ltb-false m (2 ^ 64) e in sym (word_over (n + m) (omega arith))
 
-word_sum : (n m : ℕ) → on_word Over (word_of m) (λ k. word_of (n + k)) ≡ word_of (n + m)
+word_sum : (n m : ℕ) → on_word None (word_of m) (λ k. word_of (n + k)) ≡ word_of (n + m)
 unfolding word_of
 word_sum n m = word-cases n m (ltb m (2 ^ 64)) refl
 
-sum-size : (n : ℕ) (x : Option ℕ) → on_word Over (as_word x) (λ m. word_of (n + m)) ≡ as_word (plus (some n) x)
-sum-size n none = refl
-sum-size n (some m) = word_sum n m
+sum-size : (n : ℕ) (x : Option ℕ) → on_word None (as_word x) (λ m. word_of (n + m)) ≡ as_word (plus (Some n) x)
+sum-size n None = refl
+sum-size n (Some m) = word_sum n m
 
 -- an array's own bytes may be past 64 bits, and then so is the sum
 own-cases : (n : ℕ) (c : Bool) (x : Option ℕ) (b : Bool) → ltb n (2 ^ 64) ≡ b
-    → on_word Over (if◌then◌else◌ b (Is n) Over) (λ h. if◌then◌else◌ c (on_word Over (as_word x) (λ m. word_of (h + m))) (Is h)) ≡ as_word (if◌then◌else◌ c (plus (some n) x) (some n))
+    → on_word None (if◌then◌else◌ b (Some n) None) (λ h. if◌then◌else◌ c (on_word None (as_word x) (λ m. word_of (h + m))) (Some h)) ≡ as_word (if◌then◌else◌ c (plus (Some n) x) (Some n))
 own-cases n true x true e = sum-size n x
 own-cases n false x true e = sym (word-is n (ltb-true n (2 ^ 64) e))
-own-cases n true none false e = refl
-own-cases n true (some m) false e = let k = ltb-false n (2 ^ 64) e in sym (word_over (n + m) (omega arith))
+own-cases n true None false e = refl
+own-cases n true (Some m) false e = let k = ltb-false n (2 ^ 64) e in sym (word_over (n + m) (omega arith))
 own-cases n false x false e = let k = ltb-false n (2 ^ 64) e in sym (word_over n (omega arith))
 
-array_size : (f : ℕ → Word) (g : ℕ → Option ℕ) → ((t : ℕ) → f t ≡ as_word (g t)) → (e c k : ℕ) → desc_array f e c k ≡ as_word (if◌then◌else◌ (eqb c no_const) (plus (some (24 * k)) (g e)) (some (24 * k)))
+array_size : (f : ℕ → Word) (g : ℕ → Option ℕ) → ((t : ℕ) → f t ≡ as_word (g t)) → (e c k : ℕ) → desc_array f e c k ≡ as_word (if◌then◌else◌ (eqb c no_const) (plus (Some (24 * k)) (g e)) (Some (24 * k)))
 unfolding desc_array word_of
 array_size f g h e c k = rw (h e) (own-cases (24 * k) (eqb c no_const) (g e) (ltb (24 * k) (2 ^ 64)) refl)
 
 -- a record's fields, after n bytes
 module _ (f : ℕ → Word) (g : ℕ → Option ℕ) (h : (t : ℕ) → f t ≡ as_word (g t)) where
-  past : (n m : ℕ) (r : Option ℕ) → 2 ^ 64 ≤ n + m → Over ≡ as_word (plus (some n) (plus (some m) r))
-  past n m none k = refl
-  past n m (some r) k = sym (word_over (n + (m + r)) (omega arith))
+  past : (n m : ℕ) (r : Option ℕ) → 2 ^ 64 ≤ n + m → None ≡ as_word (plus (Some n) (plus (Some m) r))
+  past n m None k = refl
+  past n m (Some r) k = sym (word_over (n + (m + r)) (omega arith))
 
-  regroup : (n m : ℕ) (r : Option ℕ) → as_word (plus (some (n + m)) r) ≡ as_word (plus (some n) (plus (some m) r))
-  regroup n m none = refl
-  regroup n m (some r) = ap word_of (omega arith)
+  regroup : (n m : ℕ) (r : Option ℕ) → as_word (plus (Some (n + m)) r) ≡ as_word (plus (Some n) (plus (Some m) r))
+  regroup n m None = refl
+  regroup n m (Some r) = ap word_of (omega arith)
 
   -- one field of m bytes, and what is done with the sum
-  then-cases : (n m : ℕ) (r : Option ℕ) (next : ℕ → Word) → ((s : ℕ) → s < 2 ^ 64 → next s ≡ as_word (plus (some s) r)) → (b : Bool) → ltb (n + m) (2 ^ 64) ≡ b
-      → on_word Over (if◌then◌else◌ b (Is (n + m)) Over) next ≡ as_word (plus (some n) (plus (some m) r))
+  then-cases : (n m : ℕ) (r : Option ℕ) (next : ℕ → Word) → ((s : ℕ) → s < 2 ^ 64 → next s ≡ as_word (plus (Some s) r)) → (b : Bool) → ltb (n + m) (2 ^ 64) ≡ b
+      → on_word None (if◌then◌else◌ b (Some (n + m)) None) next ≡ as_word (plus (Some n) (plus (Some m) r))
   then-cases n m r next k true e = k (n + m) (ltb-true (n + m) (2 ^ 64) e) ∙ regroup n m r
   then-cases n m r next k false e = past n m r (ltb-false (n + m) (2 ^ 64) e)
 
-  then-sum : (n m : ℕ) (r : Option ℕ) (next : ℕ → Word) → ((s : ℕ) → s < 2 ^ 64 → next s ≡ as_word (plus (some s) r)) → on_word Over (word_of (n + m)) next ≡ as_word (plus (some n) (plus (some m) r))
+  then-sum : (n m : ℕ) (r : Option ℕ) (next : ℕ → Word) → ((s : ℕ) → s < 2 ^ 64 → next s ≡ as_word (plus (Some s) r)) → on_word None (word_of (n + m)) next ≡ as_word (plus (Some n) (plus (Some m) r))
   unfolding word_of
   then-sum n m r next k = then-cases n m r next k (ltb (n + m) (2 ^ 64)) refl
 
-  one-cases : (n m : ℕ) (r : Option ℕ) (next : ℕ → Word) → ((s : ℕ) → s < 2 ^ 64 → next s ≡ as_word (plus (some s) r)) → (b : Bool) → ltb m (2 ^ 64) ≡ b
-      → on_word Over (if◌then◌else◌ b (Is m) Over) (λ k. on_word Over (word_of (n + k)) next) ≡ as_word (plus (some n) (plus (some m) r))
+  one-cases : (n m : ℕ) (r : Option ℕ) (next : ℕ → Word) → ((s : ℕ) → s < 2 ^ 64 → next s ≡ as_word (plus (Some s) r)) → (b : Bool) → ltb m (2 ^ 64) ≡ b
+      → on_word None (if◌then◌else◌ b (Some m) None) (λ k. on_word None (word_of (n + k)) next) ≡ as_word (plus (Some n) (plus (Some m) r))
   one-cases n m r next k true e = then-sum n m r next k
   one-cases n m r next k false e = let z = ltb-false m (2 ^ 64) e in past n m r (omega arith)
 
-  one_size : (n : ℕ) (x r : Option ℕ) (next : ℕ → Word) → ((s : ℕ) → s < 2 ^ 64 → next s ≡ as_word (plus (some s) r)) → on_word Over (as_word x) (λ k. on_word Over (word_of (n + k)) next) ≡ as_word (plus (some n) (plus x r))
+  one_size : (n : ℕ) (x r : Option ℕ) (next : ℕ → Word) → ((s : ℕ) → s < 2 ^ 64 → next s ≡ as_word (plus (Some s) r)) → on_word None (as_word x) (λ k. on_word None (word_of (n + k)) next) ≡ as_word (plus (Some n) (plus x r))
   unfolding word_of
-  one_size n none r next k = refl
-  one_size n (some m) r next k = one-cases n m r next k (ltb m (2 ^ 64)) refl
+  one_size n None r next k = refl
+  one_size n (Some m) r next k = one-cases n m r next k (ltb m (2 ^ 64)) refl
 
-  choice-size : (c : Bool) (n : ℕ) (x r : Option ℕ) (next : ℕ → Word) → n < 2 ^ 64 → ((s : ℕ) → s < 2 ^ 64 → next s ≡ as_word (plus (some s) r))
-      → if◌then◌else◌ c (on_word Over (as_word x) (λ k. on_word Over (word_of (n + k)) next)) (next n) ≡ as_word (plus (some n) (if◌then◌else◌ c (plus x r) r))
+  choice-size : (c : Bool) (n : ℕ) (x r : Option ℕ) (next : ℕ → Word) → n < 2 ^ 64 → ((s : ℕ) → s < 2 ^ 64 → next s ≡ as_word (plus (Some s) r))
+      → if◌then◌else◌ c (on_word None (as_word x) (λ k. on_word None (word_of (n + k)) next)) (next n) ≡ as_word (plus (Some n) (if◌then◌else◌ c (plus x r) r))
   choice-size true n x r next l k = one_size n x r next k
   choice-size false n x r next l k = k n l
 
-  fields-size : (fs : List Field) (n : ℕ) → n < 2 ^ 64 → desc_fields f fs n ≡ as_word (plus (some n) (size_fields g fs))
+  fields-size : (fs : List Field) (n : ℕ) → n < 2 ^ 64 → desc_fields f fs n ≡ as_word (plus (Some n) (size_fields g fs))
   unfolding desc_fields size_fields
   fields-size [] n l = let e : n + 0 ≡ n = omega arith in sym (ap word_of e ∙ word-is n l)
   fields-size (field t c ∷ fs) n l = rw (h t) (choice-size (eqb c no_const) n (g t) (size_fields g fs) (λ s. desc_fields f fs s) l (fields-size fs))
@@ -99,9 +96,9 @@ module _ (f : ℕ → Word) (g : ℕ → Option ℕ) (h : (t : ℕ) → f t ≡ 
   record-size : (fs : List Field) → desc_fields f fs 0 ≡ as_word (size_fields g fs)
   record-size fs = fields-size fs 0 (omega arith) ∙ zero-size (size_fields g fs)
     where
-      zero-size : (r : Option ℕ) → as_word (plus (some 0) r) ≡ as_word r
-      zero-size none = refl
-      zero-size (some m) = ap word_of (omega arith)
+      zero-size : (r : Option ℕ) → as_word (plus (Some 0) r) ≡ as_word r
+      zero-size None = refl
+      zero-size (Some m) = ap word_of (omega arith)
 
   by_size : (y : Ty) → desc_by f y ≡ as_word (size_by g y)
   unfolding desc_by size_by word_of
@@ -124,17 +121,17 @@ at_size ts (suc n) t = by_size (desc_at ts n) (size_at ts n) (at_size ts n) (typ
 
 -- a size within a bound, if there is one
 abbrev Small : Option ℕ → ℕ → Type 0
-Small none b = Unit {0}
-Small (some m) b = m ≤ b
+Small None b = Unit {0}
+Small (Some m) b = m ≤ b
 
 plus-small : (x y : Option ℕ) (a b : ℕ) → Small x a → Small y b → Small (plus x y) (a + b)
-plus-small none y a b h k = tt
-plus-small (some m) none a b h k = tt
-plus-small (some m) (some n) a b h k = omega arith
+plus-small None y a b h k = tt
+plus-small (Some m) None a b h k = tt
+plus-small (Some m) (Some n) a b h k = omega arith
 
 small-up : (x : Option ℕ) (a b : ℕ) → a ≤ b → Small x a → Small x b
-small-up none a b h k = tt
-small-up (some m) a b h k = omega arith
+small-up None a b h k = tt
+small-up (Some m) a b h k = omega arith
 
 choose-small : (c : Bool) (x y : Option ℕ) (a : ℕ) → Small x a → Small y a → Small (if◌then◌else◌ c x y) a
 choose-small true x y a h k = h
@@ -172,8 +169,8 @@ module _ (g : ℕ → Option ℕ) (u : ℕ → ℕ) (h : (t : ℕ) → Small (g 
   by-small (enum n l) k = omega arith
   by-small real k = omega arith
   by-small (array e c n) k =
-      choose-small (eqb c no_const) (plus (some (24 * n)) (g e)) (some (24 * n)) _
-      (small-up (plus (some (24 * n)) (g e)) (24 * n + 6120 * u e) _ (omega arith) (plus-small (some (24 * n)) (g e) (24 * n) (6120 * u e) (omega arith) (h e)))
+      choose-small (eqb c no_const) (plus (Some (24 * n)) (g e)) (Some (24 * n)) _
+      (small-up (plus (Some (24 * n)) (g e)) (24 * n + 6120 * u e) _ (omega arith) (plus-small (Some (24 * n)) (g e) (24 * n) (6120 * u e) (omega arith) (h e)))
       (omega arith)
   by-small (fields fs) k = small-up (size_fields g fs) _ _ (omega arith) (fields-small fs)
   by-small access k = omega arith
@@ -237,12 +234,12 @@ module _ (w fs cs b : List ℕ) (good : table_good w fs cs b ≡ true) where
       (λ h. leb-true (unfold_at (types_of w fs) 65 t) 65536 (below_at (small_at (types_of w fs)) (length w / 4) parts.1 t h))
       (le-or-lt (length w / 4) t)
 
-  exact-cases : (x : Option ℕ) (b : ℕ) → b < 2 ^ 64 → Small x b → as_word x ≡ exactly x
-  exact-cases none b h k = refl
-  exact-cases (some m) b h k = word-is m (omega arith)
+  exact-cases : (x : Option ℕ) (b : ℕ) → b < 2 ^ 64 → Small x b → as_word x ≡ x
+  exact-cases None b h k = refl
+  exact-cases (Some m) b h k = word-is m (omega arith)
 
   -- in a checked table no size passes 64 bits
-  pub exact : (t : ℕ) → desc_size (types_of w fs) t ≡ exactly (desc_bytes (types_of w fs) t)
+  pub exact : (t : ℕ) → desc_size (types_of w fs) t ≡ desc_bytes (types_of w fs) t
   exact t =
       at_size (types_of w fs) 65 t
       ∙ exact-cases (size_at (types_of w fs) 65 t) (6120 * unfold_at (types_of w fs) 65 t) (omega (arith, small t)) (at_small (types_of w fs) few 65 t)

@@ -8,12 +8,11 @@ use lib.ListN.{length, get_or}
 use types.Run.{OneOf, miss}
 use denote.Enum.Declared.{tag_of}
 use borrow.Author.Tests.{eq-eqb, ne_eqb}
+use Rattle.std.specs.Prelude.{Some, None}
 use Rattle.ty.specs.Types.{Ty, Field.field, type_at, none}
-use Rattle.ty.specs.Words.{word_of}
+use Rattle.ty.specs.Words.{word_of, Word}
 use Rattle.ty.specs.Walks.{desc_array, desc_fields, desc_by, desc_at, any_field, handles_by, handles_at}
 use Rattle.ty.specs.View.{read_ty, entry_at, fields_from, types_of}
-use Rattle.ty.specs.declared.Word.{Word}
-use Rattle.ty.specs.declared.Word.TheVariants.{Is, Over}
 use Rattle.ty.specs.declared.Entry.{Entry}
 use Rattle.ty.specs.declared.Entry.TheVariants.{Missing, Int, Physical, Enum, Real, Array, Record, Access, File, Protected}
 use Rattle.ty.specs.contracts.Entry.{the_type as entry-type}
@@ -46,7 +45,7 @@ fields-first fs f n =
     rw (p, q) refl
 
 -- descriptor size
-pub desc-none : (ts : List Ty) (n t : ℕ) → n ≡ 0 → Over ≡ desc_at ts n t
+pub desc-none : (ts : List Ty) (n t : ℕ) → n ≡ 0 → None ≡ desc_at ts n t
 unfolding desc_at
 desc-none ts n t h = rw h refl
 
@@ -55,7 +54,7 @@ module _ (w fs : List ℕ) (n t : ℕ) (h : n ≡ 0 → ⊥) (e : Entry) (ee : e
   unfolding desc_at
   desc-level = level (desc_at (types_of w fs)) desc_by w fs (λ m s. refl) n t h e ee
 
-  pub desc-missing : e ≡ Missing → Over ≡ desc_at (types_of w fs) n t
+  pub desc-missing : e ≡ Missing → None ≡ desc_at (types_of w fs) n t
   unfolding desc_by read_ty
   desc-missing o = rw (desc-level, o) refl
 
@@ -67,7 +66,7 @@ module _ (w fs : List ℕ) (n t : ℕ) (h : n ≡ 0 → ⊥) (e : Entry) (ee : e
   unfolding desc_by read_ty
   desc-of-record i m o r er = rw (desc-level, o) er
 
-  desc-cases : (f : ℕ → Word) (x : Entry) → OneOf (1 ∷ 2 ∷ 3 ∷ 4 ∷ 7 ∷ 8 ∷ 9 ∷ []) (tag_of entry-type x) → Is 0 ≡ desc_by f (read_ty fs x)
+  desc-cases : (f : ℕ → Word) (x : Entry) → OneOf (1 ∷ 2 ∷ 3 ∷ 4 ∷ 7 ∷ 8 ∷ 9 ∷ []) (tag_of entry-type x) → Some 0 ≡ desc_by f (read_ty fs x)
   unfolding desc_by read_ty
   desc-cases f Missing o = absurd (miss (1 ∷ 2 ∷ 3 ∷ 4 ∷ 7 ∷ 8 ∷ 9 ∷ []) 0 tt o)
   desc-cases f (Int lo hi) o = refl
@@ -80,12 +79,12 @@ module _ (w fs : List ℕ) (n t : ℕ) (h : n ≡ 0 → ⊥) (e : Entry) (ee : e
   desc-cases f File o = refl
   desc-cases f Protected o = refl
 
-  pub desc-other : OneOf (1 ∷ 2 ∷ 3 ∷ 4 ∷ 7 ∷ 8 ∷ 9 ∷ []) (tag_of entry-type e) → Is 0 ≡ desc_at (types_of w fs) n t
+  pub desc-other : OneOf (1 ∷ 2 ∷ 3 ∷ 4 ∷ 7 ∷ 8 ∷ 9 ∷ []) (tag_of entry-type e) → Some 0 ≡ desc_at (types_of w fs) n t
   desc-other o = desc-cases (desc_at (types_of w fs) (n - 1)) e o ∙ sym desc-level
 
 -- the turn at field i of n, from field f on
 module _ (fs : List ℕ) (next : ℕ → Word) (f n i s : ℕ) where
-  pub desc-last : n ≤ i → Is s ≡ desc_fields next (fields_from fs (f + i) (n - i)) s
+  pub desc-last : n ≤ i → Some s ≡ desc_fields next (fields_from fs (f + i) (n - i)) s
   unfolding desc_fields
   desc-last h = rw (fields-last fs f n i h) refl
 
@@ -95,15 +94,15 @@ module _ (fs : List ℕ) (next : ℕ → Word) (f n i s : ℕ) where
     desc-skip h = rw (fields-next fs f n i lt, ne_eqb (get_or fs (2 * (f + i) + 1) 0) none h) refl
 
     module _ (h : get_or fs (2 * (f + i) + 1) 0 ≡ 4294967295) (x : Word) (ex : x ≡ next (get_or fs (2 * (f + i)) 0)) where
-      pub desc-stop : x ≡ Over → Over ≡ desc_fields next (fields_from fs (f + i) (n - i)) s
+      pub desc-stop : x ≡ None → None ≡ desc_fields next (fields_from fs (f + i) (n - i)) s
       unfolding desc_fields
       desc-stop o = rw (fields-next fs f n i lt, eq-eqb (get_or fs (2 * (f + i) + 1) 0) none h, ← ex, o) refl
 
-      pub desc-over : (m : ℕ) → x ≡ Is m → (p : Word) → p ≡ word_of (s + m) → p ≡ Over → Over ≡ desc_fields next (fields_from fs (f + i) (n - i)) s
+      pub desc-over : (m : ℕ) → x ≡ Some m → (p : Word) → p ≡ word_of (s + m) → p ≡ None → None ≡ desc_fields next (fields_from fs (f + i) (n - i)) s
       unfolding desc_fields
       desc-over m o p ep q = rw (fields-next fs f n i lt, eq-eqb (get_or fs (2 * (f + i) + 1) 0) none h, ← ex, o, ← ep, q) refl
 
-      pub desc-more : (m : ℕ) → x ≡ Is m → (p : Word) → p ≡ word_of (s + m) → (s' : ℕ) → p ≡ Is s' → desc_fields next (fields_from fs (f + (i + 1)) (n - (i + 1))) s' ≡ desc_fields next (fields_from fs (f + i) (n - i)) s
+      pub desc-more : (m : ℕ) → x ≡ Some m → (p : Word) → p ≡ word_of (s + m) → (s' : ℕ) → p ≡ Some s' → desc_fields next (fields_from fs (f + (i + 1)) (n - (i + 1))) s' ≡ desc_fields next (fields_from fs (f + i) (n - i)) s
       unfolding desc_fields
       desc-more m o p ep s' q = rw (fields-next fs f n i lt, eq-eqb (get_or fs (2 * (f + i) + 1) 0) none h, ← ex, o, ← ep, q) refl
 

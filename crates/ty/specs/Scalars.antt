@@ -1,39 +1,37 @@
 -- Sizes of scalars, and the logic kind of nested arrays (01, "Type table": scalars, narrow elements, logic arrays).
-use Rattle.std.specs.Prelude.{ℕ, zero, suc, ◌+◌, ◌-◌, ◌^◌, List, Bool, ◌&&◌, ltb, leb, if◌then◌else◌}
+use Rattle.std.specs.Prelude.{ℕ, zero, suc, ◌+◌, ◌-◌, ◌^◌, List, Bool, ◌&&◌, ltb, leb, Option, Some, None, if◌then◌else◌}
 use Rattle.ty.specs.Words.{rank}
 use Rattle.ty.specs.Types.{Ty, Ty.missing, Ty.int, Ty.physical, Ty.enum, Ty.real, Ty.array, Ty.fields, Ty.access, Ty.file, Ty.protected, type_at}
-use Rattle.ty.specs.declared.Scalar.{Scalar}
-use Rattle.ty.specs.declared.Scalar.TheVariants.{Bytes, Composite}
 
--- 8, but Enum 1 up to 256 literals then 4, File 4
-unfoldable pub scalar_size : Ty → Scalar
-scalar_size missing = Composite
-scalar_size (int lo hi) = Bytes 8
-scalar_size physical = Bytes 8
-scalar_size (enum n logic) = if leb n 256 then Bytes 1 else Bytes 4
-scalar_size real = Bytes 8
-scalar_size (array e c k) = Composite
-scalar_size (fields fs) = Composite
-scalar_size access = Bytes 8
-scalar_size file = Bytes 4
-scalar_size protected = Bytes 8
+-- The size of a scalar; arrays and records have none by themselves. 8, but Enum 1 up to 256 literals then 4, File 4
+unfoldable pub scalar_size : Ty → Option ℕ
+scalar_size missing = None
+scalar_size (int lo hi) = Some 8
+scalar_size physical = Some 8
+scalar_size (enum n logic) = if leb n 256 then Some 1 else Some 4
+scalar_size real = Some 8
+scalar_size (array e c k) = None
+scalar_size (fields fs) = None
+scalar_size access = Some 8
+scalar_size file = Some 4
+scalar_size protected = Some 8
 
 -- an Int with lo at least -2^31 and hi at most 2^31 - 1
 unfoldable pub narrow : ℕ → ℕ → Bool
 narrow lo hi = leb (2 ^ 63 - 2 ^ 31) (rank lo) && ltb (rank hi) (2 ^ 63 + 2 ^ 31)
 
 -- in an array a narrow Int takes 4
-unfoldable pub elem_size : Ty → Scalar
-elem_size missing = Composite
-elem_size (int lo hi) = if narrow lo hi then Bytes 4 else Bytes 8
-elem_size physical = Bytes 8
-elem_size (enum n logic) = if leb n 256 then Bytes 1 else Bytes 4
-elem_size real = Bytes 8
-elem_size (array e c k) = Composite
-elem_size (fields fs) = Composite
-elem_size access = Bytes 8
-elem_size file = Bytes 4
-elem_size protected = Bytes 8
+unfoldable pub elem_size : Ty → Option ℕ
+elem_size missing = None
+elem_size (int lo hi) = if narrow lo hi then Some 4 else Some 8
+elem_size physical = Some 8
+elem_size (enum n logic) = if leb n 256 then Some 1 else Some 4
+elem_size real = Some 8
+elem_size (array e c k) = None
+elem_size (fields fs) = None
+elem_size access = Some 8
+elem_size file = Some 4
+elem_size protected = Some 8
 
 unfoldable pub leaf_by : (ℕ → ℕ) → Ty → ℕ
 leaf_by below missing = 0

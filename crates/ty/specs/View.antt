@@ -1,12 +1,10 @@
 -- The lent slices of a type table, read as plain data: four words a type, two a field, three a constant. What is bad reads as missing, so that every
 -- slice is some table.
-use Rattle.std.specs.Prelude.{ℕ, zero, suc, ◌+◌, ◌-◌, ◌*◌, ◌/◌, List, [], ◌∷◌, ltb, leb, eqb, length, get_or, drop, take, if◌then◌else◌}
+use Rattle.std.specs.Prelude.{ℕ, zero, suc, ◌+◌, ◌-◌, ◌*◌, ◌/◌, List, [], ◌∷◌, ltb, leb, eqb, length, get_or, drop, take, Option, Some, None, if◌then◌else◌}
 use Rattle.ty.specs.Types.{Ty, Ty.missing, Ty.int, Ty.physical, Ty.enum, Ty.real, Ty.array, Ty.fields, Ty.access, Ty.file, Ty.protected, Field, Field.field, Const, Const.plain, Const.other, Table}
 use Rattle.word.specs.Lists.{tabulate}
 use Rattle.ty.specs.declared.Entry.{Entry}
 use Rattle.ty.specs.declared.Entry.TheVariants.{Missing, Int, Physical, Enum, Real, Array, Record, Access, File, Protected}
-use Rattle.ty.specs.declared.Part.{Part}
-use Rattle.ty.specs.declared.Part.TheVariants.{Nowhere, Of}
 
 -- the type whose class is the first of its words; a record whose fields lie outside of the nf fields is missing
 unfoldable pub entry_of : ℕ → ℕ → ℕ → ℕ → ℕ → Entry
@@ -45,18 +43,18 @@ read_ty fs Access = access
 read_ty fs File = file
 read_ty fs Protected = protected
 
--- where the bytes of constant c lie, three words a constant
-unfoldable pub part_at : List ℕ → ℕ → ℕ → Part
+-- where the bytes of constant c lie, from and to, three words a constant
+unfoldable pub part_at : List ℕ → ℕ → ℕ → Option (ℕ × ℕ)
 part_at w nb c =
     if ltb c (length w / 3)
     then (if eqb (get_or w (3 * c) 0) 1
     then (if leb (get_or w (3 * c + 1) 0 + get_or w (3 * c + 2) 0) nb
-    then Of (get_or w (3 * c + 1) 0) (get_or w (3 * c + 1) 0 + get_or w (3 * c + 2) 0)
-    else Nowhere) else Nowhere) else Nowhere
+    then Some (get_or w (3 * c + 1) 0, get_or w (3 * c + 1) 0 + get_or w (3 * c + 2) 0)
+    else None) else None) else None
 
-unfoldable pub read_part : List ℕ → Part → Const
-read_part b Nowhere = other
-read_part b (Of a e) = plain (take (e - a) (drop a b))
+unfoldable pub read_part : List ℕ → Option (ℕ × ℕ) → Const
+read_part b None = other
+read_part b (Some (a, e)) = plain (take (e - a) (drop a b))
 
 unfoldable pub types_of : List ℕ → List ℕ → List Ty
 types_of w fs = tabulate (length w / 4) (λ i. read_ty fs (entry_at w (length fs / 2) i))

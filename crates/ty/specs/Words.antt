@@ -1,12 +1,14 @@
 -- Numbers of 64 bits, signed ones by their rank, and aligning (01, "Type table").
-use Rattle.std.specs.Prelude.{ℕ, ◌+◌, ◌-◌, ◌^◌, max, ltb, if◌then◌else◌}
+use Rattle.std.specs.Prelude.{ℕ, ◌+◌, ◌-◌, ◌^◌, max, ltb, Option, Some, None, if◌then◌else◌}
 use Rattle.word.specs.Num.{align_up}
-use Rattle.ty.specs.declared.Word.{Word}
-use Rattle.ty.specs.declared.Word.TheVariants.{Is, Over}
+
+-- a number of 64 bits, none past them
+abbrev pub Word : Type 0
+Word = Option ℕ
 
 -- a number that fits w bits
 abbrev pub word_at : (w n : ℕ) → Word
-word_at w n = if ltb n (2 ^ w) then Is n else Over
+word_at w n = if ltb n (2 ^ w) then Some n else None
 
 -- 64 bits
 unfoldable pub word_of : ℕ → Word
@@ -14,8 +16,8 @@ word_of n = word_at 64 n
 
 -- with the number, or the other value past 64 bits
 abbrev pub on_word : {A : Type 0} → A → Word → (ℕ → A) → A
-on_word z Over f = z
-on_word z (Is n) f = f n
+on_word z None f = z
+on_word z (Some n) f = f n
 
 -- A word of w bits read as a signed number in two's complement is `above` less `below`: a word x below 2^(w-1) is the number x, the word 2^w - m is the
 -- number -m.

@@ -13,21 +13,7 @@ ghost use Rattle.ty.specs.Bounds.{bound_in, bound_fields, bound_by};
 ghost use Rattle.ty.specs.Counts.{count_in, Capped, Fitting, Scratch, field_sums, next_count, next_counts, counts_at, small_in};
 ghost use Rattle.ty.specs.View.{entry_at, entry_of, part_at, fields_from, types_of, bare};
 
-use word::{Aligned, Product};
-
-// A number of 64 bits, or one past them.
-#[derive(Clone, Copy)]
-pub enum Word {
-    Is(u64),
-    Over,
-}
-
-// A scalar's size; arrays and records have none by themselves.
-#[derive(Clone, Copy)]
-pub enum Scalar {
-    Bytes(u64),
-    Composite,
-}
+use word::Aligned;
 
 // A row of the table. Int's bounds are 64-bit words in two's complement; a Record has its first field and how many.
 #[derive(Clone, Copy)]
@@ -44,33 +30,20 @@ pub enum Entry {
     Protected,
 }
 
-// Where a constant's plain bytes lie: from, to.
-#[derive(Clone, Copy)]
-pub enum Part {
-    Nowhere,
-    Of(usize, usize),
-}
-
-// a * b.
-pub fn product(a: u64, b: u64) -> Word
+// a * b, where it has 64 bits.
+#[tactic(auto, using(crate::proofs::Laws::word_from_checked))]
+pub fn product(a: u64, b: u64) -> Option<u64>
     ensures { result ≡ word_of (a * b) }
 {
-    let p = word::checked_mul(a, b);
-    let Product::Fits(n) = p else {
-        return Word::Over;
-    };
-    Word::Is(n)
+    a.checked_mul(b)
 }
 
-// a + b.
-pub fn sum(a: u64, b: u64) -> Word
+// a + b, where it has 64 bits.
+#[tactic(auto, using(crate::proofs::Laws::word_from_checked))]
+pub fn sum(a: u64, b: u64) -> Option<u64>
     ensures { result ≡ word_of (a + b) }
 {
-    if a <= 18446744073709551615 - b {
-        Word::Is(a + b)
-    } else {
-        Word::Over
-    }
+    a.checked_add(b)
 }
 
 fn at_least_one(a: u64) -> u64
@@ -80,18 +53,18 @@ fn at_least_one(a: u64) -> u64
 }
 
 // The first multiple of a, or of 1 where a is 0, from x on.
-fn rounded(x: u64, a: u64) -> Word
+fn rounded(x: u64, a: u64) -> Option<u64>
     ensures { result ≡ word_of (round_up x a) }
 {
     let up = word::align_up(x, at_least_one(a));
-    let Aligned::To(n) = up else {
-        return Word::Over;
-    };
-    Word::Is(n)
+    match up {
+        Aligned::To(n) => Some(n),
+        Aligned::TooLarge => None,
+    }
 }
 
 // The same. The alignments of scalars are written out, because a known one needs no division.
-pub fn align_up(x: u64, a: u64) -> Word
+pub fn align_up(x: u64, a: u64) -> Option<u64>
     ensures { result ≡ word_of (round_up x a) }
 {
     if a == 8 {
@@ -168,60 +141,60 @@ pub fn ty_at(types: &[u64], fields: &[u32], t: u64) -> Entry
     }
 }
 
-// Where the plain bytes of constant c lie among nb bytes.
-pub fn part_at(consts: &[u64], nb: usize, c: u64) -> Part
+// Where the plain bytes of constant c lie among nb bytes: from, to.
+pub fn part_at(consts: &[u64], nb: usize, c: u64) -> Option<(usize, usize)>
     ensures { result ≡ part_at consts.now nb c }
 {
     let n = consts.len() / 3;
     let i = c as usize;
     if n <= i {
-        return Part::Nowhere;
+        return None;
     }
     let at = 3 * i;
     if consts[at] != 1 {
-        return Part::Nowhere;
+        return None;
     }
     let start = consts[at + 1] as usize;
     let len = consts[at + 2] as usize;
     if nb < start {
-        return Part::Nowhere;
+        return None;
     }
     if nb - start < len {
-        return Part::Nowhere;
+        return None;
     }
-    Part::Of(start, start + len)
+    Some((start, start + len))
 }
 
-// The size of a scalar.
-pub fn scalar_size(e: Entry) -> Scalar
+// The size of a scalar; arrays and records have none by themselves.
+pub fn scalar_size(e: Entry) -> Option<u64>
     ensures { result ≡ scalar_size (bare e) }
 {
     match e {
-        Entry::Missing => Scalar::Composite,
-        Entry::Int { lo: _, hi: _ } => Scalar::Bytes(8),
-        Entry::Physical => Scalar::Bytes(8),
+        Entry::Missing => None,
+        Entry::Int { lo: _, hi: _ } => Some(8),
+        Entry::Physical => Some(8),
         Entry::Enum { literals, logic: _ } => {
             if literals <= 256 {
-                Scalar::Bytes(1)
+                Some(1)
             } else {
-                Scalar::Bytes(4)
+                Some(4)
             }
         }
-        Entry::Real => Scalar::Bytes(8),
+        Entry::Real => Some(8),
         Entry::Array {
             elem: _,
             desc: _,
             dims: _,
-        } => Scalar::Composite,
-        Entry::Record { first: _, count: _ } => Scalar::Composite,
-        Entry::Access => Scalar::Bytes(8),
-        Entry::File => Scalar::Bytes(4),
-        Entry::Protected => Scalar::Bytes(8),
+        } => None,
+        Entry::Record { first: _, count: _ } => None,
+        Entry::Access => Some(8),
+        Entry::File => Some(4),
+        Entry::Protected => Some(8),
     }
 }
 
 // The size of a scalar as an array element: an Int within 32 bits takes 4.
-pub fn elem_size(e: Entry) -> Scalar
+pub fn elem_size(e: Entry) -> Option<u64>
     ensures { result ≡ elem_size (bare e) }
 {
     let Entry::Int { lo, hi } = e else {
@@ -230,12 +203,12 @@ pub fn elem_size(e: Entry) -> Scalar
     let l = rank_of(lo);
     let h = rank_of(hi);
     if l < 9223372034707292160 {
-        return Scalar::Bytes(8);
+        return Some(8);
     }
     if h < 9223372039002259456 {
-        Scalar::Bytes(4)
+        Some(4)
     } else {
-        Scalar::Bytes(8)
+        Some(8)
     }
 }
 
@@ -267,8 +240,8 @@ pub fn logic_leaf(types: &[u64], fields: &[u32], t: u64) -> u64
     0
 }
 
-// The bytes of a descriptor of type t; Over where there is no size.
-pub fn desc_size(types: &[u64], fields: &[u32], t: u64) -> Word
+// The bytes of a descriptor of type t, where it has a size.
+pub fn desc_size(types: &[u64], fields: &[u32], t: u64) -> Option<u64>
     ensures { result ≡ desc_size (types_of types.now fields.now) t }
 {
     desc_in(types, fields, t, 65)
@@ -276,15 +249,15 @@ pub fn desc_size(types: &[u64], fields: &[u32], t: u64) -> Word
 
 // The same with so many levels left.
 #[cycle(desc_array_desc_in_desc_record)]
-pub fn desc_in(types: &[u64], fields: &[u32], t: u64, levels: u64) -> Word
+pub fn desc_in(types: &[u64], fields: &[u32], t: u64, levels: u64) -> Option<u64>
     ensures { result ≡ desc_at (types_of types.now fields.now) levels t }
 {
     if levels == 0 {
-        return Word::Over;
+        return None;
     }
     let e = ty_at(types, fields, t);
     match e {
-        Entry::Missing => Word::Over,
+        Entry::Missing => None,
         Entry::Array { elem, desc, dims } => desc_array(
             types,
             fields,
@@ -294,30 +267,24 @@ pub fn desc_in(types: &[u64], fields: &[u32], t: u64, levels: u64) -> Word
             levels - 1,
         ),
         Entry::Record { first, count } => desc_record(types, fields, first, count, levels - 1),
-        _ => Word::Is(0),
+        _ => Some(0),
     }
 }
 
 #[cycle(desc_array_desc_in_desc_record)]
-fn desc_array(types: &[u64], fields: &[u32], elem: u64, c: u64, dims: u64, levels: u64) -> Word
+fn desc_array(types: &[u64], fields: &[u32], elem: u64, c: u64, dims: u64, levels: u64) -> Option<u64>
     ensures { result ≡ desc_array (desc_at (types_of types.now fields.now) levels) elem c dims }
 {
-    let p = product(24, dims);
-    let Word::Is(h) = p else {
-        return Word::Over;
-    };
+    let h = product(24, dims)?;
     if c != 4294967295 {
-        return Word::Is(h);
+        return Some(h);
     }
-    let w = desc_in(types, fields, elem, levels);
-    let Word::Is(m) = w else {
-        return Word::Over;
-    };
+    let m = desc_in(types, fields, elem, levels)?;
     sum(h, m)
 }
 
 #[cycle(desc_array_desc_in_desc_record)]
-fn desc_record(types: &[u64], fields: &[u32], first: usize, count: usize, levels: u64) -> Word
+fn desc_record(types: &[u64], fields: &[u32], first: usize, count: usize, levels: u64) -> Option<u64>
     requires { first + count ≤ length fields.now / 2 }
     ensures { result ≡ desc_fields (desc_at (types_of types.now fields.now) levels) (fields_from fields.now first count) 0 }
 {
@@ -328,19 +295,12 @@ fn desc_record(types: &[u64], fields: &[u32], first: usize, count: usize, levels
         let t = fields[k] as u64;
         let c = fields[k + 1] as u64;
         if c == 4294967295 {
-            let w = desc_in(types, fields, t, levels);
-            let Word::Is(m) = w else {
-                return Word::Over;
-            };
-            let p = sum(n, m);
-            let Word::Is(s) = p else {
-                return Word::Over;
-            };
-            n = s;
+            let m = desc_in(types, fields, t, levels)?;
+            n = sum(n, m)?;
         }
         i += 1;
     }
-    Word::Is(n)
+    Some(n)
 }
 
 // Whether values of type t can hold handles.

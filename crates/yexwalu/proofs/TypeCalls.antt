@@ -5,15 +5,14 @@ use mathlib.Core.List.{List}
 use mathlib.Core.Option.{Option, none, some}
 use native.Mathlib.Omega.{arith}
 use Prim.Native.Nat.{ℕ}
-use Rattle.std.specs.Prelude.{if◌then◌else◌}
+use Rattle.ty.specs.Words.{Word}
+use Rattle.std.specs.Prelude.{if◌then◌else◌, Some, None}
 use Rattle.word.specs.Result.{Result, ok, refused}
 use Rattle.refusal.specs.Told.{answered, refused_by, here, nothing}
 use Rattle.refusal.specs.declared.Answer.{Answer}
 use Rattle.ty.specs.Check.{table_good}
 use Rattle.ty.specs.Walks.{desc_size, desc_bytes, exactly, has_handles}
 use Rattle.ty.specs.View.{types_of, table_of}
-use Rattle.ty.specs.declared.Word.{Word}
-use Rattle.ty.specs.declared.Word.TheVariants.{Is, Over}
 use Rattle.ty.proofs.Sizes.{exact}
 use Rattle.layout.specs.Offsets.{Values, told, layout_call, written_by}
 use Rattle.layout.specs.declared.Answer as laying
@@ -22,11 +21,11 @@ use Rattle.yexwalu.specs.Types.{laid, layout_called, sized, size_called, handles
 use Rattle.yexwalu.specs.declared.types.LayoutAnswer.{LayoutAnswer}
 use Rattle.yexwalu.proofs.TableCalls.{table-bad, table-good}
 
-sized-some : (x : Option ℕ) (n : ℕ) → exactly x ≡ Is n → sized x ≡ ok n
+sized-some : (x : Option ℕ) (n : ℕ) → exactly x ≡ Some n → sized x ≡ ok n
 sized-some none n e = let z : ◌≡◌ {A = ℕ} 0 1 = cc in absurd (omega arith)
 sized-some (some m) n e = let q : m ≡ n = cc in ap ok q
 
-sized-none : (x : Option ℕ) → exactly x ≡ Over → sized x ≡ refused 11
+sized-none : (x : Option ℕ) → exactly x ≡ None → sized x ≡ refused 11
 sized-none none e = refl
 sized-none (some m) e = let z : ◌≡◌ {A = ℕ} 0 1 = cc in absurd (omega arith)
 
@@ -42,10 +41,10 @@ module _ (w fs cs b : List ℕ) (t : ℕ) {g : Bool} (eg : g ≡ table_good w fs
   size_exact : {x y : Word} → g ≡ true → x ≡ desc_size (types_of w fs) t → x ≡ y → exactly (desc_bytes (types_of w fs) t) ≡ y
   size_exact h e q = sym (exact w fs cs b (sym eg ∙ h) t) ∙ sym e ∙ q
 
-  pub size-passed : {x : Word} {n : ℕ} {r : Answer} → g ≡ true → x ≡ desc_size (types_of w fs) t → x ≡ Is n → r ≡ answered here nothing (ok n) → r ≡ answered here nothing (size_called w fs cs b t)
+  pub size-passed : {x : Word} {n : ℕ} {r : Answer} → g ≡ true → x ≡ desc_size (types_of w fs) t → x ≡ Some n → r ≡ answered here nothing (ok n) → r ≡ answered here nothing (size_called w fs cs b t)
   size-passed {x} {n} h e q a = answer-passed h (sized-some (desc_bytes (types_of w fs) t) n (size_exact h e q)) a
 
-  pub size_none : {x : Word} {r : Answer} → g ≡ true → x ≡ desc_size (types_of w fs) t → x ≡ Over → r ≡ refused_by 11 → r ≡ answered here nothing (size_called w fs cs b t)
+  pub size_none : {x : Word} {r : Answer} → g ≡ true → x ≡ desc_size (types_of w fs) t → x ≡ None → r ≡ refused_by 11 → r ≡ answered here nothing (size_called w fs cs b t)
   size_none h e q a = answer-passed h (sized-none (desc_bytes (types_of w fs) t) (size_exact h e q)) a
 
   pub handles-yes : {x : Bool} {r : Answer} → g ≡ true → x ≡ has_handles (types_of w fs) t → x ≡ true → r ≡ answered here nothing (ok 1) → r ≡ answered here nothing (handles_called w fs cs b t)

@@ -8,32 +8,30 @@ use Rattle.ty.proofs.Ranges.{record-within}
 use borrow.Enum.Refused.{opened}
 use native.Mathlib.Omega.{arith}
 use Prim.Native.Nat.{◌+◌, ◌*◌}
-use mathlib.Core.Path.{refl, ap, ◌∙◌}
+use mathlib.Core.Path.{◌≡◌, refl, ap, ◌∙◌}
+use Rattle.std.specs.Prelude.{Some, None}
 use Rattle.ty.proofs.Laws.{on}
 use Rattle.ty.proofs.WalkLaws.{fields-first, desc-last, desc-skip, desc-stop, desc-over, desc-more}
 use Rattle.ty.specs.Walks.{desc_fields}
 use borrow.Enum.Refused.{opened}
-use Rattle.ty.proofs.+desc_array_desc_in_desc_record.Goals.{desc_record-then-c-eq4294967295+in-Is+in-Is-p, desc_record-else-c-eq4294967295}
+use Rattle.ty.proofs.+desc_array_desc_in_desc_record.Goals.{desc_record-then-c-eq4294967295+in_ok-m+in_ok-n, desc_record-else-c-eq4294967295}
 use Rattle.ty.proofs.+desc_array_desc_in_desc_record.Goals as goal
 
-pub desc_array-returns-in_default : goal.desc_array-returns-in_default
+pub desc_array-returns-in_err-h : goal.desc_array-returns-in_err-h
 unfolding desc_array
-desc_array-returns-in_default t c = rw (← c.product-p.ensures, c.in_default.is) refl
+desc_array-returns-in_err-h t c = rw (← c.product.ensures, c.in_err-h.was, c.from_residual.ensures) refl
 
 pub desc_array-returns-then-c-ne4294967295 : goal.desc_array-returns-then-c-ne4294967295
 unfolding desc_array
-desc_array-returns-then-c-ne4294967295 t c = rw (← c.product-p.ensures, c.in-Is.is, ne_eqb _ _ c.if-c-ne4294967295.true) refl
+desc_array-returns-then-c-ne4294967295 t c = rw (← c.product.ensures, c.in_ok-h.was, ne_eqb _ _ c.if-c-ne4294967295.true) refl
 
-pub desc_array-desc_in-w-requires : goal.desc_array-desc_in-w-requires
-desc_array-desc_in-w-requires t c = (omega arith, tt)
-
-pub desc_array-returns-in_default-w : goal.desc_array-returns-in_default-w
+pub desc_array-returns-in_err-m : goal.desc_array-returns-in_err-m
 unfolding desc_array
-desc_array-returns-in_default-w t c = rw (← c.product-p.ensures, c.in-Is.is, eq-eqb _ _ c.if-c-ne4294967295.false, ← c.desc_in-w.ensures, c.in_default-w.is) refl
+desc_array-returns-in_err-m t c = rw (← c.product.ensures, c.in_ok-h.was, eq-eqb _ _ c.if-c-ne4294967295.false, ← c.desc_in.ensures, c.in_err-m.was, c.from_residual-in_err-m.ensures) refl
 
 pub desc_array-returns : goal.desc_array-returns
 unfolding desc_array
-desc_array-returns t c = rw (← c.product-p.ensures, c.in-Is.is, eq-eqb _ _ c.if-c-ne4294967295.false, ← c.desc_in-w.ensures, c.in-Is-w.is) c.sum.ensures
+desc_array-returns t c = rw (← c.product.ensures, c.in_ok-h.was, eq-eqb _ _ c.if-c-ne4294967295.false, ← c.desc_in.ensures, c.in_ok-m.was) c.sum.ensures
 
 pub desc_in-returns-then-levels-eq0 : goal.desc_in-returns-then-levels-eq0
 desc_in-returns-then-levels-eq0 t c = search desc-none
@@ -92,14 +90,14 @@ desc_record-bounds-fields-k-in-loop-i t c = omega arith
 pub desc_record-overflow_cast-c : goal.desc_record-overflow_cast-c
 desc_record-overflow_cast-c t c = omega (arith, c.type_inv.fields (2 * (c.args.first + c.loop-i.i) + 1))
 
-pub desc_record-desc_in-w-requires : goal.desc_record-desc_in-w-requires
-desc_record-desc_in-w-requires t c = (omega arith, tt)
+pub desc_record-returns-in_err-m : goal.desc_record-returns-in_err-m
+desc_record-returns-in_err-m t c = let h : c.desc_in.result ≡ None = c.in_err-m.was in c.from_residual.ensures ∙ search (desc-stop, on)
 
-pub desc_record-returns-in_default : goal.desc_record-returns-in_default
-desc_record-returns-in_default t c = search (desc-stop, on)
-
-pub desc_record-returns-in_default-p : goal.desc_record-returns-in_default-p
-desc_record-returns-in_default-p t c = search (desc-over, on)
+pub desc_record-returns-in_err-n : goal.desc_record-returns-in_err-n
+desc_record-returns-in_err-n t c =
+    let h : c.desc_in.result ≡ Some c.in_ok-m.m = c.in_ok-m.was in
+    let k : c.sum.result ≡ None = c.in_err-n.was in
+    c.from_residual-in_err-n.ensures ∙ search (desc-over, on)
 
 pub desc_record-overflow_add-i : goal.desc_record-overflow_add-i
 desc_record-overflow_add-i t c = omega arith
@@ -109,7 +107,7 @@ desc_record-loop-i-smaller t c = omega arith
 
 pub desc_record-loop-i-preserved : goal.desc_record-loop-i-preserved
 desc_record-loop-i-preserved t c = elim c.if-c-eq4294967295.branch [
-  | desc_record-then-c-eq4294967295+in-Is+in-Is-p w ↦ (omega arith, ap (desc_fields _ _) w.n-is ∙ desc-more _ _ _ _ _ _ c.loop-i-test.true w.if-c-eq4294967295.true _ w.desc_in-w.ensures _ w.in-Is.is _ w.sum-p.ensures _ w.in-Is-p.is ∙ c.loop-i.invariant.1)
+  | desc_record-then-c-eq4294967295+in_ok-m+in_ok-n w ↦ (omega arith, ap (desc_fields _ _) w.n-is ∙ desc-more _ _ _ _ _ _ c.loop-i-test.true w.if-c-eq4294967295.true _ w.desc_in.ensures _ w.in_ok-m.was _ w.sum.ensures _ w.in_ok-n.was ∙ c.loop-i.invariant.1)
   | desc_record-else-c-eq4294967295 w ↦ (omega arith, ap (desc_fields _ _) w.n-is ∙ desc-skip _ _ _ _ _ _ c.loop-i-test.true w.if-c-eq4294967295.false ∙ c.loop-i.invariant.1)
 ]
 

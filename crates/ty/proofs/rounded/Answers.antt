@@ -2,8 +2,8 @@
 use Rattle.ty.proofs.Laws.{aligned-is, aligned-over}
 use Rattle.ty.proofs.rounded.Goals as goal
 
-pub returns-in_default : goal.returns-in_default
-returns-in_default c = search aligned-over
+pub returns-in-TooLarge : goal.returns-in-TooLarge
+returns-in-TooLarge c = search aligned-over
 
-pub returns : goal.returns
-returns c = search aligned-is
+pub returns-in-To : goal.returns-in-To
+returns-in-To c = search aligned-is
