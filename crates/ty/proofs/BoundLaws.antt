@@ -7,16 +7,14 @@ use native.Mathlib.Nat.{min-eq_left, min-eq_right, le_of_lt, not-suc-le-zero}
 use native.Mathlib.Omega.{arith}
 use lib.ListN.{length, get_or, set, length-set}
 use lib.Seq.{get_or-set_same, get_or-set_other}
-use types.Run.{OneOf, miss}
-use denote.Enum.Declared.{tag_of}
 use borrow.Author.Tests.{lt-ltb, le-ltb}
+use Rattle.std.specs.Prelude.{Some, None}
 use Rattle.ty.specs.Types.{Ty, Ty.missing, Ty.int, Ty.physical, Ty.enum, Ty.real, Ty.array, Ty.fields, Ty.access, Ty.file, Ty.protected, Field, Field.field, type_at}
 use Rattle.ty.specs.Walks.{unfold_fields, unfold_by, unfold_at}
-use Rattle.ty.specs.View.{read_ty, entry_at, fields_from, types_of}
+use Rattle.ty.specs.View.{read_entry, read_ty, entry_at, fields_from, types_of}
 use Rattle.ty.specs.Bounds.{bound_in, bound_fields, bound_by}
 use Rattle.ty.specs.declared.Entry.{Entry}
-use Rattle.ty.specs.declared.Entry.TheVariants.{Missing, Int, Physical, Enum, Real, Array, Record, Access, File, Protected}
-use Rattle.ty.specs.contracts.Entry.{the_type as entry-type}
+use Rattle.ty.specs.declared.Entry.TheVariants.{Int, Physical, Enum, Real, Array, Record, Access, File, Protected}
 use Rattle.ty.proofs.Lookup.{le-or-lt, type-at}
 use Rattle.ty.proofs.WalkLaws.{fields-last, fields-next}
 use Rattle.ty.proofs.CountLaws.{past_one}
@@ -146,31 +144,36 @@ module _ (fs : List ℕ) (g : ℕ → ℕ) (f n j s : ℕ) where
   unfolding bound_fields
   bound-more lt x ex s' es = rw (fields-next fs f n j lt, es, ex) refl
 
+-- a missing type's bound
+pub bound-none : (w fs : List ℕ) (g : ℕ → ℕ) (t : ℕ) → entry_at w (length fs / 2) t ≡ None → 1 ≡ bound_by g (type_at (types_of w fs) t)
+unfolding bound_by read_ty
+bound-none w fs g t h = rw (type-at, h) refl
+
 -- a type's bound
-module _ (w fs : List ℕ) (g : ℕ → ℕ) (t : ℕ) (e : Entry) (ee : e ≡ entry_at w (length fs / 2) t) where
-  here : bound_by g (type_at (types_of w fs) t) ≡ bound_by g (read_ty fs e)
-  here = ap (bound_by g) (type-at w fs t ∙ ap (read_ty fs) (sym ee))
+module _ (w fs : List ℕ) (g : ℕ → ℕ) (t : ℕ) (e : Entry) (ee : entry_at w (length fs / 2) t ≡ Some e) where
+  here : bound_by g (type_at (types_of w fs) t) ≡ bound_by g (read_entry fs e)
+  unfolding read_ty
+  here = ap (bound_by g) (type-at w fs t ∙ ap (read_ty fs) ee)
 
   pub bound-array : (el c k x r : ℕ) → e ≡ Array el c k → x ≡ g el → r ≡ min (1 + x) 65537 → r ≡ bound_by g (type_at (types_of w fs) t)
-  unfolding bound_by read_ty
+  unfolding bound_by read_entry
   bound-array el c k x r o ex er = er ∙ ap (λ (y : ℕ). min (1 + y) 65537) ex ∙ sym (rw (here, o) refl)
 
   pub bound-record : (i m r : ℕ) → e ≡ Record i m → r ≡ bound_fields g (fields_from fs i m) 1 → r ≡ bound_by g (type_at (types_of w fs) t)
-  unfolding bound_by read_ty
+  unfolding bound_by read_entry
   bound-record i m r o er = er ∙ sym (rw (here, o) refl)
 
-  leaf-cases : (x : Entry) → OneOf (0 ∷ 1 ∷ 2 ∷ 3 ∷ 4 ∷ 7 ∷ 8 ∷ 9 ∷ []) (tag_of entry-type x) → 1 ≡ bound_by g (read_ty fs x)
-  unfolding bound_by read_ty
-  leaf-cases Missing o = refl
-  leaf-cases (Int lo hi) o = refl
-  leaf-cases Physical o = refl
-  leaf-cases (Enum x l) o = refl
-  leaf-cases Real o = refl
-  leaf-cases (Array el c k) o = absurd (miss (0 ∷ 1 ∷ 2 ∷ 3 ∷ 4 ∷ 7 ∷ 8 ∷ 9 ∷ []) 5 tt o)
-  leaf-cases (Record i m) o = absurd (miss (0 ∷ 1 ∷ 2 ∷ 3 ∷ 4 ∷ 7 ∷ 8 ∷ 9 ∷ []) 6 tt o)
-  leaf-cases Access o = refl
-  leaf-cases File o = refl
-  leaf-cases Protected o = refl
+  leaf-cases : (x : Entry) → ((a b c : ℕ) → x ≡ Array a b c → ⊥) → ((a b : ℕ) → x ≡ Record a b → ⊥) → 1 ≡ bound_by g (read_entry fs x)
+  unfolding bound_by read_entry
+  leaf-cases (Int lo hi) na nr = refl
+  leaf-cases Physical na nr = refl
+  leaf-cases (Enum x l) na nr = refl
+  leaf-cases Real na nr = refl
+  leaf-cases (Array el c k) na nr = absurd (na el c k refl)
+  leaf-cases (Record i m) na nr = absurd (nr i m refl)
+  leaf-cases Access na nr = refl
+  leaf-cases File na nr = refl
+  leaf-cases Protected na nr = refl
 
-  pub bound-leaf : OneOf (0 ∷ 1 ∷ 2 ∷ 3 ∷ 4 ∷ 7 ∷ 8 ∷ 9 ∷ []) (tag_of entry-type e) → 1 ≡ bound_by g (type_at (types_of w fs) t)
-  bound-leaf o = leaf-cases e o ∙ sym here
+  pub bound-leaf : ((a b c : ℕ) → e ≡ Array a b c → ⊥) → ((a b : ℕ) → e ≡ Record a b → ⊥) → 1 ≡ bound_by g (type_at (types_of w fs) t)
+  bound-leaf na nr = leaf-cases e na nr ∙ sym here

@@ -10,20 +10,18 @@ use native.Mathlib.Omega.{arith}
 use lib.Dec.{leb}
 use lib.ListN.{length, get_or, set, replicate, get_or-eq_default}
 use lib.Seq.{ext_get_or}
-use types.Run.{OneOf, miss}
-use denote.Enum.Declared.{tag_of}
 use borrow.Author.Tests.{lt-leb, le-leb}
+use Rattle.std.specs.Prelude.{Some, None}
 use Rattle.word.specs.Lists.{all_below, tabulate}
 use Rattle.word.proofs.ListLaws.{below-same, length-tabulate, get_d_tabulate, tabulate-past, tabulate-same}
 use Rattle.word.proofs.InPlace.{Mapped, mapped-none, mapped-more}
 use Rattle.ty.specs.Types.{Ty, Ty.missing, Ty.int, Ty.physical, Ty.enum, Ty.real, Ty.array, Ty.fields, Ty.access, Ty.file, Ty.protected, Field, Field.field, type_at}
 use Rattle.ty.specs.Walks.{unfold_fields, unfold_by, unfold_at}
-use Rattle.ty.specs.View.{read_ty, entry_at, fields_from, types_of}
+use Rattle.ty.specs.View.{read_entry, read_ty, entry_at, fields_from, types_of}
 use Rattle.ty.specs.Check.{small_at}
 use Rattle.ty.specs.Counts.{count_in, Capped, field_sum, field_sums, next_count, next_counts, counts_at, small_in}
 use Rattle.ty.specs.declared.Entry.{Entry}
-use Rattle.ty.specs.declared.Entry.TheVariants.{Missing, Int, Physical, Enum, Real, Array, Record, Access, File, Protected}
-use Rattle.ty.specs.contracts.Entry.{the_type as entry-type}
+use Rattle.ty.specs.declared.Entry.TheVariants.{Int, Physical, Enum, Real, Array, Record, Access, File, Protected}
 use Rattle.ty.proofs.Lookup.{le-or-lt, type-at}
 
 -- an element that is there does not go by the default
@@ -253,14 +251,19 @@ pub counts-filled : (ts : List Ty) (counts start now : List ℕ) (i : ℕ) → M
 unfolding next_counts
 counts-filled ts counts start now i m h = filled (next_count ts counts) start now i m h
 
+-- a missing type's count
+pub count-none : (w fs counts : List ℕ) (t : ℕ) → entry_at w (length fs / 2) t ≡ None → 1 ≡ next_count (types_of w fs) counts t
+unfolding next_count unfold_by read_ty
+count-none w fs counts t h = rw (type-at, h) refl
+
 -- a type's count from the level below
-module _ (w fs counts sums : List ℕ) (t : ℕ) (e : Entry) (ee : e ≡ entry_at w (length fs / 2) t) where
-  here : next_count (types_of w fs) counts t ≡ min (suc (unfold_by (count_in counts) (read_ty fs e))) 65537
-  unfolding next_count
-  here = ap (λ (y : Ty). min (suc (unfold_by (count_in counts) y)) 65537) (type-at w fs t ∙ ap (read_ty fs) (sym ee))
+module _ (w fs counts sums : List ℕ) (t : ℕ) (e : Entry) (ee : entry_at w (length fs / 2) t ≡ Some e) where
+  here : next_count (types_of w fs) counts t ≡ min (suc (unfold_by (count_in counts) (read_entry fs e))) 65537
+  unfolding next_count read_ty
+  here = ap (λ (y : Ty). min (suc (unfold_by (count_in counts) y)) 65537) (type-at w fs t ∙ ap (read_ty fs) ee)
 
   pub count-array : (el c k x r : ℕ) → e ≡ Array el c k → x ≡ count_in counts el → r ≡ min (1 + x) 65537 → r ≡ next_count (types_of w fs) counts t
-  unfolding unfold_by read_ty
+  unfolding unfold_by read_entry
   count-array el c k x r o ex er =
       let p : 1 + x ≡ suc (count_in counts el) = omega arith in
       er ∙ ap (λ (y : ℕ). min y 65537) p ∙ sym (rw (here, o) refl)
@@ -283,26 +286,25 @@ module _ (w fs counts sums : List ℕ) (t : ℕ) (e : Entry) (ee : e ≡ entry_a
     count-rises = omega (arith, between)
 
     pub count-record : (r : ℕ) → r ≡ min (1 + (a - b)) 65537 → r ≡ next_count (types_of w fs) counts t
-    unfolding unfold_by read_ty
+    unfolding unfold_by read_entry
     count-record r er =
         let p : 1 + (a - b) ≡ suc (unfold_fields (count_in counts) (fields_from fs i n)) = omega (arith, between) in
         er ∙ ap (λ (y : ℕ). min y 65537) p ∙ sym (rw (here, o) refl)
 
-  leaf-cases : (x : Entry) → OneOf (0 ∷ 1 ∷ 2 ∷ 3 ∷ 4 ∷ 7 ∷ 8 ∷ 9 ∷ []) (tag_of entry-type x) → 1 ≡ min (suc (unfold_by (count_in counts) (read_ty fs x))) 65537
-  unfolding unfold_by read_ty
-  leaf-cases Missing o = refl
-  leaf-cases (Int lo hi) o = refl
-  leaf-cases Physical o = refl
-  leaf-cases (Enum x l) o = refl
-  leaf-cases Real o = refl
-  leaf-cases (Array el c k) o = absurd (miss (0 ∷ 1 ∷ 2 ∷ 3 ∷ 4 ∷ 7 ∷ 8 ∷ 9 ∷ []) 5 tt o)
-  leaf-cases (Record i m) o = absurd (miss (0 ∷ 1 ∷ 2 ∷ 3 ∷ 4 ∷ 7 ∷ 8 ∷ 9 ∷ []) 6 tt o)
-  leaf-cases Access o = refl
-  leaf-cases File o = refl
-  leaf-cases Protected o = refl
+  leaf-cases : (x : Entry) → ((a b c : ℕ) → x ≡ Array a b c → ⊥) → ((a b : ℕ) → x ≡ Record a b → ⊥) → 1 ≡ min (suc (unfold_by (count_in counts) (read_entry fs x))) 65537
+  unfolding unfold_by read_entry
+  leaf-cases (Int lo hi) na nr = refl
+  leaf-cases Physical na nr = refl
+  leaf-cases (Enum x l) na nr = refl
+  leaf-cases Real na nr = refl
+  leaf-cases (Array el c k) na nr = absurd (na el c k refl)
+  leaf-cases (Record i m) na nr = absurd (nr i m refl)
+  leaf-cases Access na nr = refl
+  leaf-cases File na nr = refl
+  leaf-cases Protected na nr = refl
 
-  pub count-leaf : OneOf (0 ∷ 1 ∷ 2 ∷ 3 ∷ 4 ∷ 7 ∷ 8 ∷ 9 ∷ []) (tag_of entry-type e) → 1 ≡ next_count (types_of w fs) counts t
-  count-leaf o = leaf-cases e o ∙ sym here
+  pub count-leaf : ((a b c : ℕ) → e ≡ Array a b c → ⊥) → ((a b : ℕ) → e ≡ Record a b → ⊥) → 1 ≡ next_count (types_of w fs) counts t
+  count-leaf na nr = leaf-cases e na nr ∙ sym here
 
 -- the cap lies above the bound
 small-cap : (x : ℕ) → leb (min x 65537) 65536 ≡ leb x 65536

@@ -1,7 +1,7 @@
 -- Laws of the crate's definitions, over plain numbers. Assumes nothing.
 use mathlib.Core.Path.{◌≡◌, refl, sym, ap, ◌∙◌}
 use mathlib.Core.Bool.{Bool, true, false}
-use Prim.Native.Nat.{ℕ, ◌+◌, ◌-◌, ◌*◌, ◌^◌, ◌≤◌, ◌<◌, max}
+use Prim.Native.Nat.{ℕ, ◌+◌, ◌-◌, ◌^◌, ◌≤◌, ◌<◌, max}
 use native.Mathlib.Omega.{arith}
 use lib.Dec.{ltb}
 use borrow.Author.Tests.{lt-ltb, le-ltb, le-leb, lt-leb}
@@ -11,7 +11,7 @@ use Rattle.word.specs.declared.Aligned.{Aligned}
 use Rattle.word.specs.declared.Aligned.TheVariants.{To, TooLarge}
 use Rattle.ty.specs.Words.{Word, word_at, word_of}
 use Rattle.ty.specs.View.{entry_of}
-use Rattle.ty.specs.declared.Entry.TheVariants.{Missing, Record}
+use Rattle.ty.specs.declared.Entry.TheVariants.{Record}
 
 -- words of any width w: a number fits or is too large
 module _ (w : ℕ) where
@@ -64,11 +64,11 @@ word_from_checked (Some x) n h = ap Some h.1 ∙ sym (word-is n h.0)
 pub same_up : (x a b : ℕ) (r : Word) → a ≡ b → r ≡ word_of (align_up x (max b 1)) → r ≡ word_of (align_up x (max a 1))
 same_up x a b r h e = e ∙ ap (λ (y : ℕ). word_of (align_up x (max y 1))) (sym h)
 
-pub entry_in : (nf a b : ℕ) → a + b ≤ nf → Record a b ≡ entry_of nf 5 a b 0
+pub entry_in : (nf a b : ℕ) → a + b ≤ nf → Some (Record a b) ≡ entry_of nf 5 a b 0
 unfolding entry_of
 entry_in nf a b h = simp (le-leb (a + b) nf h)
 
-pub entry-out : (nf a b : ℕ) → nf < a + b → Missing ≡ entry_of nf 5 a b 0
+pub entry-out : (nf a b : ℕ) → nf < a + b → None ≡ entry_of nf 5 a b 0
 unfolding entry_of
 entry-out nf a b h = simp (lt-leb (a + b) nf h)
 

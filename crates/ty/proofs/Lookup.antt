@@ -1,22 +1,20 @@
 -- Laws of looking a type or a constant up in the table, and of the cases of an entry. Assumes nothing.
 use mathlib.Core.Path.{◌≡◌, refl, sym, ap, ◌∙◌}
-use mathlib.Core.List.{List, [], ◌∷◌}
+use mathlib.Core.List.{List}
 use mathlib.Core.Logic.{◌⊎◌, inl, inr, ⊎_elim}
 use Prim.Native.Nat.{ℕ, suc, ◌+◌, ◌-◌, ◌/◌, ◌≤◌, ◌<◌}
 use native.Mathlib.Nat.{lt_of_not-le}
 use native.Mathlib.Decide.{dec_le}
 use native.Mathlib.Omega.{arith}
 use lib.ListN.{length}
-use types.Run.{OneOf, miss}
-use denote.Enum.Declared.{tag_of}
 use borrow.Author.Tests.{le-ltb}
+use Rattle.std.specs.Prelude.{Some, None}
 use Rattle.word.proofs.ListLaws.{get_d_tabulate, tabulate-past}
 use Rattle.ty.specs.Types.{Ty, Ty.missing, Const.other, type_at, const_at}
 use Rattle.ty.specs.Scalars.{scalar_size, elem_size, logic_leaf, leaf_by}
-use Rattle.ty.specs.View.{read_ty, entry_at, types_of, read_part, part_at, consts_of, bare}
+use Rattle.ty.specs.View.{read_entry, read_ty, entry_at, types_of, read_part, part_at, consts_of, bare}
 use Rattle.ty.specs.declared.Entry.{Entry}
-use Rattle.ty.specs.declared.Entry.TheVariants.{Missing, Int, Physical, Enum, Real, Array, Record, Access, File, Protected}
-use Rattle.ty.specs.contracts.Entry.{the_type}
+use Rattle.ty.specs.declared.Entry.TheVariants.{Int, Physical, Enum, Real, Array, Record, Access, File, Protected}
 
 pub le-or-lt : (a b : ℕ) → (a ≤ b) ⊎ (b < a)
 le-or-lt a b = elim (dec_le a b) [ yes h ↦ inl h | no h ↦ inr (lt_of_not-le h) ]
@@ -45,10 +43,9 @@ const-at w b c = ⊎_elim
     (le-or-lt (length w / 3) c)
 
 -- an entry that is no Int
-pub not_int : (e : Entry) → OneOf (0 ∷ 2 ∷ 3 ∷ 4 ∷ 5 ∷ 6 ∷ 7 ∷ 8 ∷ 9 ∷ []) (tag_of the_type e) → scalar_size (bare e) ≡ elem_size (bare e)
-unfolding scalar_size elem_size read_ty
-not_int Missing h = refl
-not_int (Int lo hi) h = absurd (miss (0 ∷ 2 ∷ 3 ∷ 4 ∷ 5 ∷ 6 ∷ 7 ∷ 8 ∷ 9 ∷ []) 1 tt h)
+pub not_int : (e : Entry) → ((lo hi : ℕ) → e ≡ Int lo hi → ⊥) → scalar_size (bare e) ≡ elem_size (bare e)
+unfolding scalar_size elem_size read_entry
+not_int (Int lo hi) h = absurd (h lo hi refl)
 not_int Physical h = refl
 not_int (Enum n l) h = refl
 not_int Real h = refl
@@ -59,37 +56,42 @@ not_int File h = refl
 not_int Protected h = refl
 
 -- an entry that is no Array and no Enum
-leaf-other : (fs : List ℕ) (f : ℕ → ℕ) (e : Entry) → OneOf (0 ∷ 1 ∷ 2 ∷ 4 ∷ 6 ∷ 7 ∷ 8 ∷ 9 ∷ []) (tag_of the_type e) → 0 ≡ leaf_by f (read_ty fs e)
-unfolding leaf_by read_ty
-leaf-other fs f Missing h = refl
-leaf-other fs f (Int lo hi) h = refl
-leaf-other fs f Physical h = refl
-leaf-other fs f (Enum n l) h = absurd (miss (0 ∷ 1 ∷ 2 ∷ 4 ∷ 6 ∷ 7 ∷ 8 ∷ 9 ∷ []) 3 tt h)
-leaf-other fs f Real h = refl
-leaf-other fs f (Array e c k) h = absurd (miss (0 ∷ 1 ∷ 2 ∷ 4 ∷ 6 ∷ 7 ∷ 8 ∷ 9 ∷ []) 5 tt h)
-leaf-other fs f (Record i n) h = refl
-leaf-other fs f Access h = refl
-leaf-other fs f File h = refl
-leaf-other fs f Protected h = refl
+leaf-other : (fs : List ℕ) (f : ℕ → ℕ) (e : Entry) → ((a b c : ℕ) → e ≡ Array a b c → ⊥) → ((a b : ℕ) → e ≡ Enum a b → ⊥) → 0 ≡ leaf_by f (read_entry fs e)
+unfolding leaf_by read_entry
+leaf-other fs f (Int lo hi) na ne = refl
+leaf-other fs f Physical na ne = refl
+leaf-other fs f (Enum n l) na ne = absurd (ne n l refl)
+leaf-other fs f Real na ne = refl
+leaf-other fs f (Array e c k) na ne = absurd (na e c k refl)
+leaf-other fs f (Record i n) na ne = refl
+leaf-other fs f Access na ne = refl
+leaf-other fs f File na ne = refl
+leaf-other fs f Protected na ne = refl
 
 -- one level of a leaf, the kth of 64
-module _ (w fs : List ℕ) (k at : ℕ) (lt : k < 64) (e : Entry) (is : e ≡ entry_at w (length fs / 2) at) where
-  leaf-level : logic_leaf (types_of w fs) (64 - k) at ≡ leaf_by (logic_leaf (types_of w fs) (64 - (k + 1))) (read_ty fs e)
+module _ (w fs : List ℕ) (k at : ℕ) (lt : k < 64) where
+  leaf-level : logic_leaf (types_of w fs) (64 - k) at ≡ leaf_by (logic_leaf (types_of w fs) (64 - (k + 1))) (read_ty fs (entry_at w (length fs / 2) at))
   unfolding logic_leaf
   leaf-level =
       let s : 64 - k ≡ suc (64 - (k + 1)) = omega arith in
-      ap (λ (n : ℕ). logic_leaf (types_of w fs) n at) s ∙ ap (leaf_by (logic_leaf (types_of w fs) (64 - (k + 1)))) (type-at w fs at ∙ ap (read_ty fs) (sym is))
+      ap (λ (n : ℕ). logic_leaf (types_of w fs) n at) s ∙ ap (leaf_by (logic_leaf (types_of w fs) (64 - (k + 1)))) (type-at w fs at)
 
-  pub leaf-array : (el c m : ℕ) → e ≡ Array el c m → logic_leaf (types_of w fs) (64 - (k + 1)) el ≡ logic_leaf (types_of w fs) (64 - k) at
+  pub leaf-missing : entry_at w (length fs / 2) at ≡ None → 0 ≡ logic_leaf (types_of w fs) (64 - k) at
   unfolding leaf_by read_ty
-  leaf-array el c m h = sym (leaf-level ∙ ap (λ (x : Entry). leaf_by (logic_leaf (types_of w fs) (64 - (k + 1))) (read_ty fs x)) h)
+  leaf-missing h = rw (leaf-level, h) refl
 
-  pub leaf-enum : (n l : ℕ) → e ≡ Enum n l → l ≡ logic_leaf (types_of w fs) (64 - k) at
-  unfolding leaf_by read_ty
-  leaf-enum n l h = sym (leaf-level ∙ ap (λ (x : Entry). leaf_by (logic_leaf (types_of w fs) (64 - (k + 1))) (read_ty fs x)) h)
+  module _ (e : Entry) (is : entry_at w (length fs / 2) at ≡ Some e) where
+    pub leaf-array : (el c m : ℕ) → e ≡ Array el c m → logic_leaf (types_of w fs) (64 - (k + 1)) el ≡ logic_leaf (types_of w fs) (64 - k) at
+    unfolding leaf_by read_ty read_entry
+    leaf-array el c m h = rw (leaf-level, is, h) refl
 
-  pub leaf-none : OneOf (0 ∷ 1 ∷ 2 ∷ 4 ∷ 6 ∷ 7 ∷ 8 ∷ 9 ∷ []) (tag_of the_type e) → 0 ≡ logic_leaf (types_of w fs) (64 - k) at
-  leaf-none h = leaf-other fs (logic_leaf (types_of w fs) (64 - (k + 1))) e h ∙ sym leaf-level
+    pub leaf-enum : (n l : ℕ) → e ≡ Enum n l → l ≡ logic_leaf (types_of w fs) (64 - k) at
+    unfolding leaf_by read_ty read_entry
+    leaf-enum n l h = rw (leaf-level, is, h) refl
+
+    pub leaf-none : ((a b c : ℕ) → e ≡ Array a b c → ⊥) → ((a b : ℕ) → e ≡ Enum a b → ⊥) → 0 ≡ logic_leaf (types_of w fs) (64 - k) at
+    unfolding read_ty
+    leaf-none na ne = rw (leaf-level, is) (leaf-other fs (logic_leaf (types_of w fs) (64 - (k + 1))) e na ne)
 
 pub leaf-end : (ts : List Ty) (k at : ℕ) → 64 ≤ k → 0 ≡ logic_leaf ts (64 - k) at
 unfolding logic_leaf

@@ -9,9 +9,9 @@ use lib.Dec.{ltb, leb, eqb}
 use borrow.Author.Tests.{leb-true}
 use Rattle.std.specs.Prelude.{Option, Some, None, if◌then◌else◌}
 use Rattle.ty.specs.Scalars.{elem_size}
-use Rattle.ty.specs.View.{read_ty, entry_of, entry_at, part_at, bare}
+use Rattle.ty.specs.View.{read_entry, entry_of, entry_at, part_at, bare}
 use Rattle.ty.specs.declared.Entry.{Entry}
-use Rattle.ty.specs.declared.Entry.TheVariants.{Missing, Int, Physical, Enum, Real, Array, Record, Access, File, Protected}
+use Rattle.ty.specs.declared.Entry.TheVariants.{Int, Physical, Enum, Real, Array, Record, Access, File, Protected}
 
 -- where a constant's part lies
 part-cases : (nb a n : ℕ) (i j k : Bool) (x y : ℕ) → leb (a + n) nb ≡ k → if◌then◌else◌ {A = Option (ℕ × ℕ)} i (if◌then◌else◌ j (if◌then◌else◌ k (Some (a, a + n)) None) None) None ≡ Some (x, y) → (x ≤ y) × (y ≤ nb)
@@ -39,7 +39,7 @@ module _ (w : List ℕ) (nb c : ℕ) (p : Option (ℕ × ℕ)) (ep : p ≡ part_
   part_end = (part-within w nb c x y (sym ep ∙ e)).1
 
 -- a record's fields lie in the table
-entry-cases : (nf a b : ℕ) (i : Bool) (x y : ℕ) → leb (a + b) nf ≡ i → if◌then◌else◌ i (Record a b) Missing ≡ Record x y → x + y ≤ nf
+entry-cases : (nf a b : ℕ) (i : Bool) (x y : ℕ) → leb (a + b) nf ≡ i → if◌then◌else◌ i (Some (Record a b)) None ≡ Some (Record x y) → x + y ≤ nf
 entry-cases nf a b true x y h e =
     let p : a ≡ x = cc in
     let q : b ≡ y = cc in
@@ -48,7 +48,7 @@ entry-cases nf a b true x y h e =
 entry-cases nf a b false x y h e = let z : ◌≡◌ {A = ℕ} 0 1 = cc in omega arith
 
 class_cases : (nf a b c : ℕ) (i0 i1 i2 i3 i4 i5 i6 i7 i8 : Bool) (x y : ℕ) →
-    if◌then◌else◌ i0 (Int a b) (if◌then◌else◌ i1 Physical (if◌then◌else◌ i2 (Enum a b) (if◌then◌else◌ i3 Real (if◌then◌else◌ i4 (Array a b c) (if◌then◌else◌ i5 (if◌then◌else◌ (leb (a + b) nf) (Record a b) Missing) (if◌then◌else◌ i6 Access (if◌then◌else◌ i7 File (if◌then◌else◌ i8 Protected Missing)))))))) ≡ Record x y → x + y ≤ nf
+    if◌then◌else◌ i0 (Some (Int a b)) (if◌then◌else◌ i1 (Some Physical) (if◌then◌else◌ i2 (Some (Enum a b)) (if◌then◌else◌ i3 (Some Real) (if◌then◌else◌ i4 (Some (Array a b c)) (if◌then◌else◌ i5 (if◌then◌else◌ (leb (a + b) nf) (Some (Record a b)) None) (if◌then◌else◌ i6 (Some Access) (if◌then◌else◌ i7 (Some File) (if◌then◌else◌ i8 (Some Protected) None)))))))) ≡ Some (Record x y) → x + y ≤ nf
 class_cases nf a b c true i1 i2 i3 i4 i5 i6 i7 i8 x y e = let z : ◌≡◌ {A = ℕ} 0 1 = cc in omega arith
 class_cases nf a b c false true i2 i3 i4 i5 i6 i7 i8 x y e = let z : ◌≡◌ {A = ℕ} 0 1 = cc in omega arith
 class_cases nf a b c false false true i3 i4 i5 i6 i7 i8 x y e = let z : ◌≡◌ {A = ℕ} 0 1 = cc in omega arith
@@ -60,11 +60,11 @@ class_cases nf a b c false false false false false false false true i8 x y e = l
 class_cases nf a b c false false false false false false false false true x y e = let z : ◌≡◌ {A = ℕ} 0 1 = cc in omega arith
 class_cases nf a b c false false false false false false false false false x y e = let z : ◌≡◌ {A = ℕ} 0 1 = cc in omega arith
 
-place-cases : (b : Bool) (e : Entry) (nf x y : ℕ) → (e ≡ Record x y → x + y ≤ nf) → if◌then◌else◌ b e Missing ≡ Record x y → x + y ≤ nf
+place-cases : (b : Bool) (e : Option Entry) (nf x y : ℕ) → (e ≡ Some (Record x y) → x + y ≤ nf) → if◌then◌else◌ b e None ≡ Some (Record x y) → x + y ≤ nf
 place-cases true e nf x y h eq = h eq
 place-cases false e nf x y h eq = let z : ◌≡◌ {A = ℕ} 0 1 = cc in omega arith
 
-within-fields : (w : List ℕ) (nf t x y : ℕ) → entry_at w nf t ≡ Record x y → x + y ≤ nf
+within-fields : (w : List ℕ) (nf t x y : ℕ) → entry_at w nf t ≡ Some (Record x y) → x + y ≤ nf
 unfolding entry_at entry_of
 within-fields w nf t x y e =
     place-cases (ltb t (length w / 4)) _ nf x y
@@ -72,13 +72,12 @@ within-fields w nf t x y e =
     (eqb (get_or w (4 * t) 0) 0) (eqb (get_or w (4 * t) 0) 1) (eqb (get_or w (4 * t) 0) 2) (eqb (get_or w (4 * t) 0) 3) (eqb (get_or w (4 * t) 0) 4)
     (eqb (get_or w (4 * t) 0) 5) (eqb (get_or w (4 * t) 0) 6) (eqb (get_or w (4 * t) 0) 7) (eqb (get_or w (4 * t) 0) 8) x y) e
 
-pub record-within : (w : List ℕ) (nf t : ℕ) (e : Entry) → e ≡ entry_at w nf t → (x y : ℕ) → e ≡ Record x y → x + y ≤ nf
-record-within w nf t e ee x y o = within-fields w nf t x y (sym ee ∙ o)
+pub record-within : (w : List ℕ) (nf t x y : ℕ) (e : Entry) → entry_at w nf t ≡ Some e → e ≡ Record x y → x + y ≤ nf
+record-within w nf t x y e ee o = within-fields w nf t x y (ee ∙ ap Some o)
 
 -- an element's size does not go by a record's fields
-pub elem-bare : (fs : List ℕ) (e : Entry) → elem_size (read_ty fs e) ≡ elem_size (bare e)
-unfolding elem_size read_ty
-elem-bare fs Missing = refl
+pub elem-bare : (fs : List ℕ) (e : Entry) → elem_size (read_entry fs e) ≡ elem_size (bare e)
+unfolding elem_size read_entry
 elem-bare fs (Int lo hi) = refl
 elem-bare fs Physical = refl
 elem-bare fs (Enum n l) = refl

@@ -14,10 +14,10 @@ use Rattle.word.proofs.Bools.{and_both}
 use Rattle.word.proofs.ListLaws.{below_at}
 use Rattle.ty.specs.Types.{Ty, Ty.missing, Ty.int, Ty.physical, Ty.enum, Ty.real, Ty.array, Ty.fields, Ty.access, Ty.file, Ty.protected, Field, Field.field, type_at, none as no_const}
 use Rattle.ty.specs.Words.{word_of, on_word, Word}
-use Rattle.ty.specs.View.{read_ty, entry_of, entry_at, types_of}
+use Rattle.ty.specs.View.{read_entry, read_ty, entry_of, entry_at, types_of}
 use Rattle.ty.specs.Walks.{desc_array, desc_fields, desc_by, desc_at, desc_size, plus, size_fields, size_by, size_at, desc_bytes, unfold_fields, unfold_by, unfold_at}
 use Rattle.ty.specs.Check.{all_of, good_type, good_type_at, small_at, table_good}
-use Rattle.ty.specs.declared.Entry.TheVariants.{Missing, Int, Physical, Enum, Real, Array, Record, Access, File, Protected}
+use Rattle.ty.specs.declared.Entry.TheVariants.{Int, Physical, Enum, Real, Array, Record, Access, File, Protected}
 use Rattle.ty.proofs.Laws.{word-is, word_over}
 use Rattle.ty.proofs.Lookup.{le-or-lt, type-at}
 use Rattle.ty.proofs.CountLaws.{past_one, length_types}
@@ -191,8 +191,8 @@ all_in (b ∷ bs) (suc i) e = all_in bs i (and_both b (all_of bs) e).1
 
 few-cases : (fs : List ℕ) (nf a b c : ℕ) (i0 i1 i2 i3 i4 i5 i6 i7 i8 last : Bool)
     → if◌then◌else◌ i2 (leb b 3) (if◌then◌else◌ i4 (leb c 255) (if◌then◌else◌ i5 (leb (a + b) nf) last)) ≡ true
-    → FewDims (read_ty fs (if◌then◌else◌ i0 (Int a b) (if◌then◌else◌ i1 Physical (if◌then◌else◌ i2 (Enum a b) (if◌then◌else◌ i3 Real (if◌then◌else◌ i4 (Array a b c) (if◌then◌else◌ i5 (if◌then◌else◌ (leb (a + b) nf) (Record a b) Missing) (if◌then◌else◌ i6 Access (if◌then◌else◌ i7 File (if◌then◌else◌ i8 Protected Missing))))))))))
-unfolding read_ty
+    → FewDims (read_ty fs (if◌then◌else◌ i0 (Some (Int a b)) (if◌then◌else◌ i1 (Some Physical) (if◌then◌else◌ i2 (Some (Enum a b)) (if◌then◌else◌ i3 (Some Real) (if◌then◌else◌ i4 (Some (Array a b c)) (if◌then◌else◌ i5 (if◌then◌else◌ (leb (a + b) nf) (Some (Record a b)) None) (if◌then◌else◌ i6 (Some Access) (if◌then◌else◌ i7 (Some File) (if◌then◌else◌ i8 (Some Protected) None))))))))))
+unfolding read_ty read_entry
 few-cases fs nf a b c true i1 i2 i3 i4 i5 i6 i7 i8 last e = tt
 few-cases fs nf a b c false true i2 i3 i4 i5 i6 i7 i8 last e = tt
 few-cases fs nf a b c false false true i3 i4 i5 i6 i7 i8 last e = tt
@@ -200,7 +200,7 @@ few-cases fs nf a b c false false false true i4 i5 i6 i7 i8 last e = tt
 few-cases fs nf a b c false false false false true i5 i6 i7 i8 last e = leb-true c 255 e
 few-cases fs nf a b c false false false false false true i6 i7 i8 last e = in_table (leb (a + b) nf)
   where
-    in_table : (x : Bool) → FewDims (read_ty fs (if◌then◌else◌ x (Record a b) Missing))
+    in_table : (x : Bool) → FewDims (read_ty fs (if◌then◌else◌ x (Some (Record a b)) None))
     in_table true = tt
     in_table false = tt
 few-cases fs nf a b c false false false false false false true i7 i8 last e = tt
@@ -209,8 +209,8 @@ few-cases fs nf a b c false false false false false false false false true last 
 few-cases fs nf a b c false false false false false false false false false last e = tt
 
 few-entry : (fs w : List ℕ) (nf t : ℕ) (inside : Bool) → (inside ≡ true → good_type_at w nf t ≡ true)
-    → FewDims (read_ty fs (if◌then◌else◌ inside (entry_of nf (get_or w (4 * t) 0) (get_or w (4 * t + 1) 0) (get_or w (4 * t + 2) 0) (get_or w (4 * t + 3) 0)) Missing))
-unfolding good_type_at good_type entry_of read_ty
+    → FewDims (read_ty fs (if◌then◌else◌ inside (entry_of nf (get_or w (4 * t) 0) (get_or w (4 * t + 1) 0) (get_or w (4 * t + 2) 0) (get_or w (4 * t + 3) 0)) None))
+unfolding good_type_at good_type entry_of read_ty read_entry
 few-entry fs w nf t true k =
     few-cases fs nf (get_or w (4 * t + 1) 0) (get_or w (4 * t + 2) 0) (get_or w (4 * t + 3) 0)
     (eqb (get_or w (4 * t) 0) 0) (eqb (get_or w (4 * t) 0) 1) (eqb (get_or w (4 * t) 0) 2) (eqb (get_or w (4 * t) 0) 3) (eqb (get_or w (4 * t) 0) 4)

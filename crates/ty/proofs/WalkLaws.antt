@@ -5,25 +5,22 @@ use mathlib.Core.Bool.{Bool, true, false}
 use Prim.Native.Nat.{ℕ, suc, ◌+◌, ◌-◌, ◌*◌, ◌/◌, ◌≤◌, ◌<◌}
 use native.Mathlib.Omega.{arith}
 use lib.ListN.{length, get_or}
-use types.Run.{OneOf, miss}
-use denote.Enum.Declared.{tag_of}
 use borrow.Author.Tests.{eq-eqb, ne_eqb}
 use Rattle.std.specs.Prelude.{Some, None}
 use Rattle.ty.specs.Types.{Ty, Field.field, type_at, none}
 use Rattle.ty.specs.Words.{word_of, Word}
 use Rattle.ty.specs.Walks.{desc_array, desc_fields, desc_by, desc_at, any_field, handles_by, handles_at}
-use Rattle.ty.specs.View.{read_ty, entry_at, fields_from, types_of}
+use Rattle.ty.specs.View.{read_entry, read_ty, entry_at, fields_from, types_of}
 use Rattle.ty.specs.declared.Entry.{Entry}
-use Rattle.ty.specs.declared.Entry.TheVariants.{Missing, Int, Physical, Enum, Real, Array, Record, Access, File, Protected}
-use Rattle.ty.specs.contracts.Entry.{the_type as entry-type}
+use Rattle.ty.specs.declared.Entry.TheVariants.{Int, Physical, Enum, Real, Array, Record, Access, File, Protected}
 use Rattle.ty.proofs.Lookup.{type-at}
 
 -- one level of any walk F that goes by a type's cases
 module _ {R : Type 0} (F : ℕ → ℕ → R) (by : (ℕ → R) → Ty → R) (w fs : List ℕ) (step : (n t : ℕ) → F (suc n) t ≡ by (F n) (type_at (types_of w fs) t)) where
-  level : (n t : ℕ) → (n ≡ 0 → ⊥) → (e : Entry) → e ≡ entry_at w (length fs / 2) t → F n t ≡ by (F (n - 1)) (read_ty fs e)
-  level n t h e ee =
+  level : (n t : ℕ) → (n ≡ 0 → ⊥) → F n t ≡ by (F (n - 1)) (read_ty fs (entry_at w (length fs / 2) t))
+  level n t h =
       let s : n ≡ suc (n - 1) = omega arith in
-      ap (λ (m : ℕ). F m t) s ∙ step (n - 1) t ∙ ap (by (F (n - 1))) (type-at w fs t ∙ ap (read_ty fs) (sym ee))
+      ap (λ (m : ℕ). F m t) s ∙ step (n - 1) t ∙ ap (by (F (n - 1))) (type-at w fs t)
 
 -- the fields from the ith of n on
 module _ (fs : List ℕ) (f n i : ℕ) where
@@ -49,38 +46,41 @@ pub desc-none : (ts : List Ty) (n t : ℕ) → n ≡ 0 → None ≡ desc_at ts n
 unfolding desc_at
 desc-none ts n t h = rw h refl
 
-module _ (w fs : List ℕ) (n t : ℕ) (h : n ≡ 0 → ⊥) (e : Entry) (ee : e ≡ entry_at w (length fs / 2) t) where
-  desc-level : desc_at (types_of w fs) n t ≡ desc_by (desc_at (types_of w fs) (n - 1)) (read_ty fs e)
-  unfolding desc_at
-  desc-level = level (desc_at (types_of w fs)) desc_by w fs (λ m s. refl) n t h e ee
+desc-step : (w fs : List ℕ) (n t : ℕ) → (n ≡ 0 → ⊥) → desc_at (types_of w fs) n t ≡ desc_by (desc_at (types_of w fs) (n - 1)) (read_ty fs (entry_at w (length fs / 2) t))
+unfolding desc_at
+desc-step w fs n t h = level (desc_at (types_of w fs)) desc_by w fs (λ m s. refl) n t h
 
-  pub desc-missing : e ≡ Missing → None ≡ desc_at (types_of w fs) n t
-  unfolding desc_by read_ty
-  desc-missing o = rw (desc-level, o) refl
+pub desc-missing : (w fs : List ℕ) (n t : ℕ) → (n ≡ 0 → ⊥) → entry_at w (length fs / 2) t ≡ None → None ≡ desc_at (types_of w fs) n t
+unfolding desc_by read_ty
+desc-missing w fs n t h o = rw (desc-step w fs n t h, o) refl
+
+module _ (w fs : List ℕ) (n t : ℕ) (h : n ≡ 0 → ⊥) (e : Entry) (ee : entry_at w (length fs / 2) t ≡ Some e) where
+  desc-level : desc_at (types_of w fs) n t ≡ desc_by (desc_at (types_of w fs) (n - 1)) (read_entry fs e)
+  unfolding read_ty
+  desc-level = rw (desc-step w fs n t h, ee) refl
 
   pub desc-of-array : (el c k : ℕ) → e ≡ Array el c k → (r : Word) → r ≡ desc_array (desc_at (types_of w fs) (n - 1)) el c k → r ≡ desc_at (types_of w fs) n t
-  unfolding desc_by read_ty
+  unfolding desc_by read_entry
   desc-of-array el c k o r er = rw (desc-level, o) er
 
   pub desc-of-record : (i m : ℕ) → e ≡ Record i m → (r : Word) → r ≡ desc_fields (desc_at (types_of w fs) (n - 1)) (fields_from fs i m) 0 → r ≡ desc_at (types_of w fs) n t
-  unfolding desc_by read_ty
+  unfolding desc_by read_entry
   desc-of-record i m o r er = rw (desc-level, o) er
 
-  desc-cases : (f : ℕ → Word) (x : Entry) → OneOf (1 ∷ 2 ∷ 3 ∷ 4 ∷ 7 ∷ 8 ∷ 9 ∷ []) (tag_of entry-type x) → Some 0 ≡ desc_by f (read_ty fs x)
-  unfolding desc_by read_ty
-  desc-cases f Missing o = absurd (miss (1 ∷ 2 ∷ 3 ∷ 4 ∷ 7 ∷ 8 ∷ 9 ∷ []) 0 tt o)
-  desc-cases f (Int lo hi) o = refl
-  desc-cases f Physical o = refl
-  desc-cases f (Enum x l) o = refl
-  desc-cases f Real o = refl
-  desc-cases f (Array el c k) o = absurd (miss (1 ∷ 2 ∷ 3 ∷ 4 ∷ 7 ∷ 8 ∷ 9 ∷ []) 5 tt o)
-  desc-cases f (Record i m) o = absurd (miss (1 ∷ 2 ∷ 3 ∷ 4 ∷ 7 ∷ 8 ∷ 9 ∷ []) 6 tt o)
-  desc-cases f Access o = refl
-  desc-cases f File o = refl
-  desc-cases f Protected o = refl
+  desc-cases : (f : ℕ → Word) (x : Entry) → ((a b c : ℕ) → x ≡ Array a b c → ⊥) → ((a b : ℕ) → x ≡ Record a b → ⊥) → Some 0 ≡ desc_by f (read_entry fs x)
+  unfolding desc_by read_entry
+  desc-cases f (Int lo hi) na nr = refl
+  desc-cases f Physical na nr = refl
+  desc-cases f (Enum x l) na nr = refl
+  desc-cases f Real na nr = refl
+  desc-cases f (Array el c k) na nr = absurd (na el c k refl)
+  desc-cases f (Record i m) na nr = absurd (nr i m refl)
+  desc-cases f Access na nr = refl
+  desc-cases f File na nr = refl
+  desc-cases f Protected na nr = refl
 
-  pub desc-other : OneOf (1 ∷ 2 ∷ 3 ∷ 4 ∷ 7 ∷ 8 ∷ 9 ∷ []) (tag_of entry-type e) → Some 0 ≡ desc_at (types_of w fs) n t
-  desc-other o = desc-cases (desc_at (types_of w fs) (n - 1)) e o ∙ sym desc-level
+  pub desc-other : ((a b c : ℕ) → e ≡ Array a b c → ⊥) → ((a b : ℕ) → e ≡ Record a b → ⊥) → Some 0 ≡ desc_at (types_of w fs) n t
+  desc-other na nr = desc-cases (desc_at (types_of w fs) (n - 1)) e na nr ∙ sym desc-level
 
 -- the turn at field i of n, from field f on
 module _ (fs : List ℕ) (next : ℕ → Word) (f n i s : ℕ) where
@@ -111,46 +111,49 @@ pub handles-none : (ts : List Ty) (n t : ℕ) → n ≡ 0 → true ≡ handles_a
 unfolding handles_at
 handles-none ts n t h = rw h refl
 
-module _ (w fs : List ℕ) (n t : ℕ) (h : n ≡ 0 → ⊥) (e : Entry) (ee : e ≡ entry_at w (length fs / 2) t) where
-  handles-level : handles_at (types_of w fs) n t ≡ handles_by (handles_at (types_of w fs) (n - 1)) (read_ty fs e)
-  unfolding handles_at
-  handles-level = level (handles_at (types_of w fs)) handles_by w fs (λ m s. refl) n t h e ee
+handles-step : (w fs : List ℕ) (n t : ℕ) → (n ≡ 0 → ⊥) → handles_at (types_of w fs) n t ≡ handles_by (handles_at (types_of w fs) (n - 1)) (read_ty fs (entry_at w (length fs / 2) t))
+unfolding handles_at
+handles-step w fs n t h = level (handles_at (types_of w fs)) handles_by w fs (λ m s. refl) n t h
 
-  pub handles-missing : e ≡ Missing → true ≡ handles_at (types_of w fs) n t
-  unfolding handles_by read_ty
-  handles-missing o = rw (handles-level, o) refl
+pub handles-missing : (w fs : List ℕ) (n t : ℕ) → (n ≡ 0 → ⊥) → entry_at w (length fs / 2) t ≡ None → true ≡ handles_at (types_of w fs) n t
+unfolding handles_by read_ty
+handles-missing w fs n t h o = rw (handles-step w fs n t h, o) refl
+
+module _ (w fs : List ℕ) (n t : ℕ) (h : n ≡ 0 → ⊥) (e : Entry) (ee : entry_at w (length fs / 2) t ≡ Some e) where
+  handles-level : handles_at (types_of w fs) n t ≡ handles_by (handles_at (types_of w fs) (n - 1)) (read_entry fs e)
+  unfolding read_ty
+  handles-level = rw (handles-step w fs n t h, ee) refl
 
   pub handles-access : e ≡ Access → true ≡ handles_at (types_of w fs) n t
-  unfolding handles_by read_ty
+  unfolding handles_by read_entry
   handles-access o = rw (handles-level, o) refl
 
   pub handles-protected : e ≡ Protected → true ≡ handles_at (types_of w fs) n t
-  unfolding handles_by read_ty
+  unfolding handles_by read_entry
   handles-protected o = rw (handles-level, o) refl
 
   pub handles-of-array : (el c k : ℕ) → e ≡ Array el c k → (r : Bool) → r ≡ handles_at (types_of w fs) (n - 1) el → r ≡ handles_at (types_of w fs) n t
-  unfolding handles_by read_ty
+  unfolding handles_by read_entry
   handles-of-array el c k o r er = rw (handles-level, o) er
 
   pub handles-of-record : (i m : ℕ) → e ≡ Record i m → (r : Bool) → r ≡ any_field (handles_at (types_of w fs) (n - 1)) (fields_from fs i m) → r ≡ handles_at (types_of w fs) n t
-  unfolding handles_by read_ty
+  unfolding handles_by read_entry
   handles-of-record i m o r er = rw (handles-level, o) er
 
-  handles-cases : (f : ℕ → Bool) (x : Entry) → OneOf (1 ∷ 2 ∷ 3 ∷ 4 ∷ 8 ∷ []) (tag_of entry-type x) → false ≡ handles_by f (read_ty fs x)
-  unfolding handles_by read_ty
-  handles-cases f Missing o = absurd (miss (1 ∷ 2 ∷ 3 ∷ 4 ∷ 8 ∷ []) 0 tt o)
-  handles-cases f (Int lo hi) o = refl
-  handles-cases f Physical o = refl
-  handles-cases f (Enum x l) o = refl
-  handles-cases f Real o = refl
-  handles-cases f (Array el c k) o = absurd (miss (1 ∷ 2 ∷ 3 ∷ 4 ∷ 8 ∷ []) 5 tt o)
-  handles-cases f (Record i m) o = absurd (miss (1 ∷ 2 ∷ 3 ∷ 4 ∷ 8 ∷ []) 6 tt o)
-  handles-cases f Access o = absurd (miss (1 ∷ 2 ∷ 3 ∷ 4 ∷ 8 ∷ []) 7 tt o)
-  handles-cases f File o = refl
-  handles-cases f Protected o = absurd (miss (1 ∷ 2 ∷ 3 ∷ 4 ∷ 8 ∷ []) 9 tt o)
+  handles-cases : (f : ℕ → Bool) (x : Entry) → ((a b c : ℕ) → x ≡ Array a b c → ⊥) → ((a b : ℕ) → x ≡ Record a b → ⊥) → (x ≡ Access → ⊥) → (x ≡ Protected → ⊥) → false ≡ handles_by f (read_entry fs x)
+  unfolding handles_by read_entry
+  handles-cases f (Int lo hi) na nr nc np = refl
+  handles-cases f Physical na nr nc np = refl
+  handles-cases f (Enum x l) na nr nc np = refl
+  handles-cases f Real na nr nc np = refl
+  handles-cases f (Array el c k) na nr nc np = absurd (na el c k refl)
+  handles-cases f (Record i m) na nr nc np = absurd (nr i m refl)
+  handles-cases f Access na nr nc np = absurd (nc refl)
+  handles-cases f File na nr nc np = refl
+  handles-cases f Protected na nr nc np = absurd (np refl)
 
-  pub handles-other : OneOf (1 ∷ 2 ∷ 3 ∷ 4 ∷ 8 ∷ []) (tag_of entry-type e) → false ≡ handles_at (types_of w fs) n t
-  handles-other o = handles-cases (handles_at (types_of w fs) (n - 1)) e o ∙ sym handles-level
+  pub handles-other : ((a b c : ℕ) → e ≡ Array a b c → ⊥) → ((a b : ℕ) → e ≡ Record a b → ⊥) → (e ≡ Access → ⊥) → (e ≡ Protected → ⊥) → false ≡ handles_at (types_of w fs) n t
+  handles-other na nr nc np = handles-cases (handles_at (types_of w fs) (n - 1)) e na nr nc np ∙ sym handles-level
 
 module _ (fs : List ℕ) (next : ℕ → Bool) (f n i : ℕ) where
   pub any_last : n ≤ i → false ≡ any_field next (fields_from fs (f + i) (n - i))

@@ -4,44 +4,47 @@ use Rattle.std.specs.Prelude.{ℕ, zero, suc, ◌+◌, ◌-◌, ◌*◌, ◌/◌
 use Rattle.ty.specs.Types.{Ty, Ty.missing, Ty.int, Ty.physical, Ty.enum, Ty.real, Ty.array, Ty.fields, Ty.access, Ty.file, Ty.protected, Field, Field.field, Const, Const.plain, Const.other, Table}
 use Rattle.word.specs.Lists.{tabulate}
 use Rattle.ty.specs.declared.Entry.{Entry}
-use Rattle.ty.specs.declared.Entry.TheVariants.{Missing, Int, Physical, Enum, Real, Array, Record, Access, File, Protected}
+use Rattle.ty.specs.declared.Entry.TheVariants.{Int, Physical, Enum, Real, Array, Record, Access, File, Protected}
 
--- the type whose class is the first of its words; a record whose fields lie outside of the nf fields is missing
-unfoldable pub entry_of : ℕ → ℕ → ℕ → ℕ → ℕ → Entry
+-- the type whose class is the first of its words; a record whose fields lie outside of the nf fields is none
+unfoldable pub entry_of : ℕ → ℕ → ℕ → ℕ → ℕ → Option Entry
 entry_of nf class a b c =
-    if eqb class 0 then Int a b
-    else (if eqb class 1 then Physical
-    else (if eqb class 2 then Enum a b
-    else (if eqb class 3 then Real
-    else (if eqb class 4 then Array a b c
-    else (if eqb class 5 then (if leb (a + b) nf then Record a b else Missing)
-    else (if eqb class 6 then Access
-    else (if eqb class 7 then File
-    else (if eqb class 8 then Protected else Missing))))))))
+    if eqb class 0 then Some (Int a b)
+    else (if eqb class 1 then Some Physical
+    else (if eqb class 2 then Some (Enum a b)
+    else (if eqb class 3 then Some Real
+    else (if eqb class 4 then Some (Array a b c)
+    else (if eqb class 5 then (if leb (a + b) nf then Some (Record a b) else None)
+    else (if eqb class 6 then Some Access
+    else (if eqb class 7 then Some File
+    else (if eqb class 8 then Some Protected else None))))))))
 
 -- the entry at i, four words a type
-unfoldable pub entry_at : List ℕ → ℕ → ℕ → Entry
+unfoldable pub entry_at : List ℕ → ℕ → ℕ → Option Entry
 entry_at w nf t =
     if ltb t (length w / 4)
     then entry_of nf (get_or w (4 * t) 0) (get_or w (4 * t + 1) 0) (get_or w (4 * t + 2) 0) (get_or w (4 * t + 3) 0)
-    else Missing
+    else None
 
 -- n fields from the ith on, two words a field
 unfoldable pub fields_from : List ℕ → ℕ → ℕ → List Field
 fields_from fs i zero = []
 fields_from fs i (suc n) = field (get_or fs (2 * i) 0) (get_or fs (2 * i + 1) 0) ∷ fields_from fs (i + 1) n
 
-unfoldable pub read_ty : List ℕ → Entry → Ty
-read_ty fs Missing = missing
-read_ty fs (Int lo hi) = int lo hi
-read_ty fs Physical = physical
-read_ty fs (Enum n logic) = enum n logic
-read_ty fs Real = real
-read_ty fs (Array e c k) = array e c k
-read_ty fs (Record i n) = fields (fields_from fs i n)
-read_ty fs Access = access
-read_ty fs File = file
-read_ty fs Protected = protected
+unfoldable pub read_entry : List ℕ → Entry → Ty
+read_entry fs (Int lo hi) = int lo hi
+read_entry fs Physical = physical
+read_entry fs (Enum n logic) = enum n logic
+read_entry fs Real = real
+read_entry fs (Array e c k) = array e c k
+read_entry fs (Record i n) = fields (fields_from fs i n)
+read_entry fs Access = access
+read_entry fs File = file
+read_entry fs Protected = protected
+
+unfoldable pub read_ty : List ℕ → Option Entry → Ty
+read_ty fs None = missing
+read_ty fs (Some e) = read_entry fs e
 
 -- where the bytes of constant c lie, from and to, three words a constant
 unfoldable pub part_at : List ℕ → ℕ → ℕ → Option (ℕ × ℕ)
@@ -67,4 +70,4 @@ table_of w fs cs b = record { types = types_of w fs; consts = consts_of cs b }
 
 -- an entry by itself, of a record without its fields
 abbrev pub bare : Entry → Ty
-bare e = read_ty [] e
+bare e = read_entry [] e

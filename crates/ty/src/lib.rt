@@ -18,7 +18,6 @@ use word::Aligned;
 // A row of the table. Int's bounds are 64-bit words in two's complement; a Record has its first field and how many.
 #[derive(Clone, Copy)]
 pub enum Entry {
-    Missing,
     Int { lo: u64, hi: u64 },
     Physical,
     Enum { literals: u64, logic: u64 },
@@ -90,30 +89,27 @@ pub fn rank_of(x: u64) -> u64
     }
 }
 
-// A record's row: missing where its fields lie outside the nf fields.
-fn record_entry(nf: usize, a: u64, b: u64) -> Entry
+// A record's row: none where its fields lie outside the nf fields.
+fn record_entry(nf: usize, a: u64, b: u64) -> Option<Entry>
     ensures { result ≡ entry_of nf 5 a b 0 }
 {
     let first = a as usize;
     let count = b as usize;
-    if nf < first {
-        return Entry::Missing;
+    if nf < first || nf - first < count {
+        return None;
     }
-    if nf - first < count {
-        return Entry::Missing;
-    }
-    Entry::Record { first, count }
+    Some(Entry::Record { first, count })
 }
 
-// The type in row t. Missing: no such row, or a row that is no type.
-pub fn ty_at(types: &[u64], fields: &[u32], t: u64) -> Entry
+// The type in row t. None: no such row, or a row that is no type.
+pub fn ty_at(types: &[u64], fields: &[u32], t: u64) -> Option<Entry>
     ensures { result ≡ entry_at types.now (length fields.now / 2) t }
 {
     let nf = fields.len() / 2;
     let n = types.len() / 4;
     let i = t as usize;
     if n <= i {
-        return Entry::Missing;
+        return None;
     }
     let at = 4 * i;
     let class = types[at];
@@ -121,23 +117,23 @@ pub fn ty_at(types: &[u64], fields: &[u32], t: u64) -> Entry
     let b = types[at + 2];
     let c = types[at + 3];
     match class {
-        0 => Entry::Int { lo: a, hi: b },
-        1 => Entry::Physical,
-        2 => Entry::Enum {
+        0 => Some(Entry::Int { lo: a, hi: b }),
+        1 => Some(Entry::Physical),
+        2 => Some(Entry::Enum {
             literals: a,
             logic: b,
-        },
-        3 => Entry::Real,
-        4 => Entry::Array {
+        }),
+        3 => Some(Entry::Real),
+        4 => Some(Entry::Array {
             elem: a,
             desc: b,
             dims: c,
-        },
+        }),
         5 => record_entry(nf, a, b),
-        6 => Entry::Access,
-        7 => Entry::File,
-        8 => Entry::Protected,
-        _ => Entry::Missing,
+        6 => Some(Entry::Access),
+        7 => Some(Entry::File),
+        8 => Some(Entry::Protected),
+        _ => None,
     }
 }
 
@@ -170,26 +166,11 @@ pub fn scalar_size(e: Entry) -> Option<u64>
     ensures { result ≡ scalar_size (bare e) }
 {
     match e {
-        Entry::Missing => None,
-        Entry::Int { lo: _, hi: _ } => Some(8),
-        Entry::Physical => Some(8),
-        Entry::Enum { literals, logic: _ } => {
-            if literals <= 256 {
-                Some(1)
-            } else {
-                Some(4)
-            }
-        }
-        Entry::Real => Some(8),
-        Entry::Array {
-            elem: _,
-            desc: _,
-            dims: _,
-        } => None,
-        Entry::Record { first: _, count: _ } => None,
-        Entry::Access => Some(8),
+        Entry::Int { .. } | Entry::Physical | Entry::Real | Entry::Access | Entry::Protected =>
+            Some(8),
+        Entry::Enum { literals, .. } => Some(if literals <= 256 { 1 } else { 4 }),
         Entry::File => Some(4),
-        Entry::Protected => Some(8),
+        Entry::Array { .. } | Entry::Record { .. } => None,
     }
 }
 
@@ -202,14 +183,11 @@ pub fn elem_size(e: Entry) -> Option<u64>
     };
     let l = rank_of(lo);
     let h = rank_of(hi);
-    if l < 9223372034707292160 {
-        return Some(8);
-    }
-    if h < 9223372039002259456 {
-        Some(4)
+    Some(if 9223372034707292160 <= l && h < 9223372039002259456 {
+        4
     } else {
-        Some(8)
-    }
+        8
+    })
 }
 
 // The LogicKind of the scalar below nested arrays, 0 for none.
@@ -217,25 +195,15 @@ pub fn logic_leaf(types: &[u64], fields: &[u32], t: u64) -> u64
     ensures { result ≡ logic_leaf (types_of types.now fields.now) 64 t }
 {
     let mut at = t;
-    let mut k: u64 = 0;
-    while k < 64 {
-        let e = ty_at(types, fields, at);
+    for _k in 0u64..64 {
+        let Some(e) = ty_at(types, fields, at) else {
+            return 0;
+        };
         match e {
-            Entry::Array {
-                elem,
-                desc: _,
-                dims: _,
-            } => {
-                at = elem;
-            }
-            Entry::Enum { literals: _, logic } => {
-                return logic;
-            }
-            _ => {
-                return 0;
-            }
+            Entry::Array { elem, .. } => at = elem,
+            Entry::Enum { logic, .. } => return logic,
+            _ => return 0,
         }
-        k += 1;
     }
     0
 }
@@ -255,9 +223,8 @@ pub fn desc_in(types: &[u64], fields: &[u32], t: u64, levels: u64) -> Option<u64
     if levels == 0 {
         return None;
     }
-    let e = ty_at(types, fields, t);
+    let e = ty_at(types, fields, t)?;
     match e {
-        Entry::Missing => None,
         Entry::Array { elem, desc, dims } => desc_array(
             types,
             fields,
@@ -272,7 +239,14 @@ pub fn desc_in(types: &[u64], fields: &[u32], t: u64, levels: u64) -> Option<u64
 }
 
 #[cycle(desc_array_desc_in_desc_record)]
-fn desc_array(types: &[u64], fields: &[u32], elem: u64, c: u64, dims: u64, levels: u64) -> Option<u64>
+fn desc_array(
+    types: &[u64],
+    fields: &[u32],
+    elem: u64,
+    c: u64,
+    dims: u64,
+    levels: u64,
+) -> Option<u64>
     ensures { result ≡ desc_array (desc_at (types_of types.now fields.now) levels) elem c dims }
 {
     let h = product(24, dims)?;
@@ -284,7 +258,13 @@ fn desc_array(types: &[u64], fields: &[u32], elem: u64, c: u64, dims: u64, level
 }
 
 #[cycle(desc_array_desc_in_desc_record)]
-fn desc_record(types: &[u64], fields: &[u32], first: usize, count: usize, levels: u64) -> Option<u64>
+fn desc_record(
+    types: &[u64],
+    fields: &[u32],
+    first: usize,
+    count: usize,
+    levels: u64,
+) -> Option<u64>
     requires { first + count ≤ length fields.now / 2 }
     ensures { result ≡ desc_fields (desc_at (types_of types.now fields.now) levels) (fields_from fields.now first count) 0 }
 {
@@ -318,16 +298,12 @@ pub fn handles_in(types: &[u64], fields: &[u32], t: u64, levels: u64) -> bool
     if levels == 0 {
         return true;
     }
-    let e = ty_at(types, fields, t);
+    let Some(e) = ty_at(types, fields, t) else {
+        return true;
+    };
     match e {
-        Entry::Missing => true,
-        Entry::Access => true,
-        Entry::Protected => true,
-        Entry::Array {
-            elem,
-            desc: _,
-            dims: _,
-        } => handles_in(types, fields, elem, levels - 1),
+        Entry::Access | Entry::Protected => true,
+        Entry::Array { elem, .. } => handles_in(types, fields, elem, levels - 1),
         Entry::Record { first, count } => handles_record(types, fields, first, count, levels - 1),
         _ => false,
     }
@@ -465,13 +441,11 @@ fn count_type(types: &[u64], fields: &[u32], counts: &[u32], sums: &[u32], t: u6
     requires { sums.now ≡ field_sums fields.now counts.now }
     ensures { result ≡ next_count (types_of types.now fields.now) counts.now t }
 {
-    let e = ty_at(types, fields, t);
+    let Some(e) = ty_at(types, fields, t) else {
+        return 1;
+    };
     match e {
-        Entry::Array {
-            elem,
-            desc: _,
-            dims: _,
-        } => capped(1, count_at(counts, elem)),
+        Entry::Array { elem, .. } => capped(1, count_at(counts, elem)),
         Entry::Record { first, count } => {
             let to = sum_before(sums, first + count);
             let from = sum_before(sums, first);
@@ -626,13 +600,11 @@ fn bound_type(types: &[u64], fields: &[u32], counts: &[u32], i: usize, n: usize)
     requires { i ≤ length counts.now }
     ensures { result ≡ bound_by (bound_in counts.now i n) (type_at (types_of types.now fields.now) i) }
 {
-    let e = ty_at(types, fields, i as u64);
+    let Some(e) = ty_at(types, fields, i as u64) else {
+        return 1;
+    };
     match e {
-        Entry::Array {
-            elem,
-            desc: _,
-            dims: _,
-        } => capped(1, bound_at(counts, i, n, elem)),
+        Entry::Array { elem, .. } => capped(1, bound_at(counts, i, n, elem)),
         Entry::Record { first, count } => bound_fields(fields, counts, i, n, first, count),
         _ => 1,
     }
@@ -640,11 +612,10 @@ fn bound_type(types: &[u64], fields: &[u32], counts: &[u32], i: usize, n: usize)
 
 // How many fields type i has: it only says how long the pass below goes on.
 fn fields_in(types: &[u64], fields: &[u32], i: usize) -> usize {
-    let e = ty_at(types, fields, i as u64);
-    match e {
-        Entry::Record { first: _, count } => count,
-        _ => 0,
-    }
+    let Some(Entry::Record { count, .. }) = ty_at(types, fields, i as u64) else {
+        return 0;
+    };
+    count
 }
 
 // Whether one pass over the types shows that every unfolding is within the bound. It does where each type comes after those that it is made of and no field

@@ -5,15 +5,13 @@ use Rattle.ty.specs.Walks.{desc_array}
 use native.Mathlib.Omega.{arith}
 use Rattle.ty.proofs.WalkLaws.{desc-none, desc-missing, desc-of-array, desc-of-record, desc-other}
 use Rattle.ty.proofs.Ranges.{record-within}
-use borrow.Enum.Refused.{opened}
 use native.Mathlib.Omega.{arith}
 use Prim.Native.Nat.{◌+◌, ◌*◌}
-use mathlib.Core.Path.{◌≡◌, refl, ap, ◌∙◌}
+use mathlib.Core.Path.{◌≡◌, refl, sym, ap, ◌∙◌}
 use Rattle.std.specs.Prelude.{Some, None}
 use Rattle.ty.proofs.Laws.{on}
 use Rattle.ty.proofs.WalkLaws.{fields-first, desc-last, desc-skip, desc-stop, desc-over, desc-more}
 use Rattle.ty.specs.Walks.{desc_fields}
-use borrow.Enum.Refused.{opened}
 use Rattle.ty.proofs.+desc_array_desc_in_desc_record.Goals.{desc_record-then-c-eq4294967295+in_ok-m+in_ok-n, desc_record-else-c-eq4294967295}
 use Rattle.ty.proofs.+desc_array_desc_in_desc_record.Goals as goal
 
@@ -46,19 +44,19 @@ pub desc_in-overflow_sub-levels-in-Record : goal.desc_in-overflow_sub-levels-in-
 desc_in-overflow_sub-levels-in-Record t c = omega arith
 
 pub desc_in-desc_record-requires : goal.desc_in-desc_record-requires
-desc_in-desc_record-requires t c = (omega arith, search record-within)
+desc_in-desc_record-requires t c = (omega arith, record-within _ _ _ _ _ _ (sym c.ty_at.ensures ∙ c.in_ok-e.was) c.in-Record.is)
 
-pub desc_in-returns-in-Missing : goal.desc_in-returns-in-Missing
-desc_in-returns-in-Missing t c = search desc-missing
+pub desc_in-returns-in_err-e : goal.desc_in-returns-in_err-e
+desc_in-returns-in_err-e t c = c.from_residual.ensures ∙ desc-missing _ _ _ _ c.if-levels-eq0.false (sym c.ty_at.ensures ∙ c.in_err-e.was)
 
 pub desc_in-returns-in-Array : goal.desc_in-returns-in-Array
-desc_in-returns-in-Array t c = search desc-of-array
+desc_in-returns-in-Array t c = desc-of-array _ _ _ _ c.if-levels-eq0.false _ (sym c.ty_at.ensures ∙ c.in_ok-e.was) _ _ _ c.in-Array.is _ c.desc_array.ensures
 
 pub desc_in-returns-in-Record : goal.desc_in-returns-in-Record
-desc_in-returns-in-Record t c = search desc-of-record
+desc_in-returns-in-Record t c = desc-of-record _ _ _ _ c.if-levels-eq0.false _ (sym c.ty_at.ensures ∙ c.in_ok-e.was) _ _ c.in-Record.is _ c.desc_record.ensures
 
 pub desc_in-returns-in_default : goal.desc_in-returns-in_default
-desc_in-returns-in_default t c = let k4 = opened c.in_default.in_default-own.keys4 in search desc-other
+desc_in-returns-in_default t c = desc-other _ _ _ _ c.if-levels-eq0.false _ (sym c.ty_at.ensures ∙ c.in_ok-e.was) c.in_default.not-Array c.in_default.not-Record
 
 pub desc_record-loop-i-init : goal.desc_record-loop-i-init
 desc_record-loop-i-init t c = (omega arith, rw fields-first refl)

@@ -3,7 +3,8 @@ use Rattle.ty.proofs.WalkLaws.{handles-none, handles-missing, handles-access, ha
 use Rattle.ty.proofs.Ranges.{record-within}
 use native.Mathlib.Omega.{arith}
 use Prim.Native.Nat.{◌+◌, ◌*◌}
-use mathlib.Core.Path.{refl}
+use mathlib.Core.Path.{refl, sym, ◌∙◌}
+use mathlib.Core.Logic.{⊎_elim}
 use Rattle.ty.proofs.Laws.{on}
 use Rattle.ty.proofs.WalkLaws.{fields-first, any_last, any_here, any-more}
 use Rattle.ty.proofs.+handles_in_handles_record.Goals as goal
@@ -21,25 +22,24 @@ pub handles_in-overflow_sub-levels-in-Record : goal.handles_in-overflow_sub-leve
 handles_in-overflow_sub-levels-in-Record t c = omega arith
 
 pub handles_in-handles_record-requires : goal.handles_in-handles_record-requires
-handles_in-handles_record-requires t c = (omega arith, search record-within)
-
-pub handles_in-returns-in-Missing : goal.handles_in-returns-in-Missing
-handles_in-returns-in-Missing t c = search handles-missing
-
-pub handles_in-returns-in-Access : goal.handles_in-returns-in-Access
-handles_in-returns-in-Access t c = search handles-access
-
-pub handles_in-returns-in-Protected : goal.handles_in-returns-in-Protected
-handles_in-returns-in-Protected t c = search handles-protected
-
-pub handles_in-returns-in-Array : goal.handles_in-returns-in-Array
-handles_in-returns-in-Array t c = search handles-of-array
-
-pub handles_in-returns-in-Record : goal.handles_in-returns-in-Record
-handles_in-returns-in-Record t c = search handles-of-record
+handles_in-handles_record-requires t c = (omega arith, record-within _ _ _ _ _ _ (sym c.ty_at.ensures ∙ c.in-Some.is) c.in-Record.is)
 
 pub handles_in-returns-in_default : goal.handles_in-returns-in_default
-handles_in-returns-in_default t c = search handles-other
+handles_in-returns-in_default t c = handles-missing _ _ _ _ c.if-levels-eq0.false (sym c.ty_at.ensures ∙ c.in_default.is)
+
+pub handles_in-returns-in-Access : goal.handles_in-returns-in-Access
+handles_in-returns-in-Access t c =
+    let ee = sym c.ty_at.ensures ∙ c.in-Some.is in
+    ⊎_elim (handles-access _ _ _ _ c.if-levels-eq0.false _ ee) (handles-protected _ _ _ _ c.if-levels-eq0.false _ ee) c.in-Access.is
+
+pub handles_in-returns-in-Array : goal.handles_in-returns-in-Array
+handles_in-returns-in-Array t c = handles-of-array _ _ _ _ c.if-levels-eq0.false _ (sym c.ty_at.ensures ∙ c.in-Some.is) _ _ _ c.in-Array.is _ c.handles_in.ensures
+
+pub handles_in-returns-in-Record : goal.handles_in-returns-in-Record
+handles_in-returns-in-Record t c = handles-of-record _ _ _ _ c.if-levels-eq0.false _ (sym c.ty_at.ensures ∙ c.in-Some.is) _ _ c.in-Record.is _ c.handles_record.ensures
+
+pub handles_in-returns-in_default-e : goal.handles_in-returns-in_default-e
+handles_in-returns-in_default-e t c = handles-other _ _ _ _ c.if-levels-eq0.false _ (sym c.ty_at.ensures ∙ c.in-Some.is) c.in_default-e.not-Array c.in_default-e.not-Record c.in_default-e.not-Access c.in_default-e.not-Protected
 
 pub handles_record-loop-i-init : goal.handles_record-loop-i-init
 handles_record-loop-i-init t c = (omega arith, rw fields-first refl)

@@ -1,12 +1,9 @@
 -- `ty::logic_leaf` meets its contract.
 use mathlib.Core.Path.{◌≡◌}
-use Prim.Native.Nat.{◌≤◌, ◌-◌}
+use Prim.Native.Nat.{◌-◌}
 use Rattle.ty.specs.Scalars.{logic_leaf}
 use Rattle.ty.specs.View.{types_of}
 use Rattle.ty.proofs.logic_leaf.Given as goal
 
 abbrev pub invariant-loop-k : goal.invariant-loop-k
-invariant-loop-k l = (l.k ≤ 64) × (logic_leaf (types_of l.types l.fields) (64 - l.k) l.at ≡ logic_leaf (types_of l.types l.fields) 64 l.t)
-
-abbrev pub decreases-loop-k : goal.decreases-loop-k
-decreases-loop-k l = 64 - l.k
+invariant-loop-k l = logic_leaf (types_of l.types l.fields) (64 - l._k) l.at ≡ logic_leaf (types_of l.types l.fields) 64 l.t

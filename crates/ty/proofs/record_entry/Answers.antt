@@ -6,8 +6,5 @@ use Rattle.ty.proofs.record_entry.Goals as goal
 pub returns-then-nf-first : goal.returns-then-nf-first
 returns-then-nf-first c = entry-out _ _ _ (omega arith)
 
-pub returns-then-nf-first-2 : goal.returns-then-nf-first-2
-returns-then-nf-first-2 c = entry-out _ _ _ (omega arith)
-
 pub returns : goal.returns
 returns c = entry_in _ _ _ (omega arith)
