@@ -15,6 +15,18 @@ ghost use Rattle.ty.specs.View.{entry_at, entry_of, part_at, fields_from, types_
 
 use word::Aligned;
 
+// A type table as it is lent: four words a type, two a field, three a constant, and the constants' plain bytes.
+#[derive(Clone, Copy)]
+pub struct Table<'a> {
+    pub types: &'a [u64],
+    pub fields: &'a [u32],
+    pub consts: &'a [u64],
+    pub bytes: &'a [u8],
+}
+
+// The constant that a part without one names.
+pub const NO_CONST: u64 = 4294967295;
+
 // A row of the table. Int's bounds are 64-bit words in two's complement; a Record has its first field and how many.
 #[derive(Clone, Copy)]
 pub enum Entry {
@@ -101,66 +113,6 @@ fn record_entry(nf: usize, a: u64, b: u64) -> Option<Entry>
     Some(Entry::Record { first, count })
 }
 
-// The type in row t. None: no such row, or a row that is no type.
-pub fn ty_at(types: &[u64], fields: &[u32], t: u64) -> Option<Entry>
-    ensures { result ≡ entry_at types.now (length fields.now / 2) t }
-{
-    let nf = fields.len() / 2;
-    let n = types.len() / 4;
-    let i = t as usize;
-    if n <= i {
-        return None;
-    }
-    let at = 4 * i;
-    let class = types[at];
-    let a = types[at + 1];
-    let b = types[at + 2];
-    let c = types[at + 3];
-    match class {
-        0 => Some(Entry::Int { lo: a, hi: b }),
-        1 => Some(Entry::Physical),
-        2 => Some(Entry::Enum {
-            literals: a,
-            logic: b,
-        }),
-        3 => Some(Entry::Real),
-        4 => Some(Entry::Array {
-            elem: a,
-            desc: b,
-            dims: c,
-        }),
-        5 => record_entry(nf, a, b),
-        6 => Some(Entry::Access),
-        7 => Some(Entry::File),
-        8 => Some(Entry::Protected),
-        _ => None,
-    }
-}
-
-// Where the plain bytes of constant c lie among nb bytes: from, to.
-pub fn part_at(consts: &[u64], nb: usize, c: u64) -> Option<(usize, usize)>
-    ensures { result ≡ part_at consts.now nb c }
-{
-    let n = consts.len() / 3;
-    let i = c as usize;
-    if n <= i {
-        return None;
-    }
-    let at = 3 * i;
-    if consts[at] != 1 {
-        return None;
-    }
-    let start = consts[at + 1] as usize;
-    let len = consts[at + 2] as usize;
-    if nb < start {
-        return None;
-    }
-    if nb - start < len {
-        return None;
-    }
-    Some((start, start + len))
-}
-
 // The size of a scalar; arrays and records have none by themselves.
 pub fn scalar_size(e: Entry) -> Option<u64>
     ensures { result ≡ scalar_size (bare e) }
@@ -190,206 +142,197 @@ pub fn elem_size(e: Entry) -> Option<u64>
     })
 }
 
-// The LogicKind of the scalar below nested arrays, 0 for none.
-pub fn logic_leaf(types: &[u64], fields: &[u32], t: u64) -> u64
-    ensures { result ≡ logic_leaf (types_of types.now fields.now) 64 t }
-{
-    let mut at = t;
-    for _k in 0u64..64 {
-        let Some(e) = ty_at(types, fields, at) else {
-            return 0;
-        };
+impl<'a> Table<'a> {
+    // The type in row t. None: no such row, or a row that is no type.
+    pub fn ty_at(&self, t: u64) -> Option<Entry>
+        ensures { result ≡ entry_at self.now.types.now (length self.now.fields.now / 2) t }
+    {
+        let nf = self.fields.len() / 2;
+        let n = self.types.len() / 4;
+        let i = t as usize;
+        if n <= i {
+            return None;
+        }
+        let at = 4 * i;
+        let class = self.types[at];
+        let a = self.types[at + 1];
+        let b = self.types[at + 2];
+        let c = self.types[at + 3];
+        match class {
+            0 => Some(Entry::Int { lo: a, hi: b }),
+            1 => Some(Entry::Physical),
+            2 => Some(Entry::Enum {
+                literals: a,
+                logic: b,
+            }),
+            3 => Some(Entry::Real),
+            4 => Some(Entry::Array {
+                elem: a,
+                desc: b,
+                dims: c,
+            }),
+            5 => record_entry(nf, a, b),
+            6 => Some(Entry::Access),
+            7 => Some(Entry::File),
+            8 => Some(Entry::Protected),
+            _ => None,
+        }
+    }
+
+    // Where the plain bytes of constant c lie: from, to.
+    pub fn part_at(&self, c: u64) -> Option<(usize, usize)>
+        ensures { result ≡ part_at self.now.consts.now (length self.now.bytes.now) c }
+    {
+        let n = self.consts.len() / 3;
+        let nb = self.bytes.len();
+        let i = c as usize;
+        if n <= i {
+            return None;
+        }
+        let at = 3 * i;
+        if self.consts[at] != 1 {
+            return None;
+        }
+        let start = self.consts[at + 1] as usize;
+        let len = self.consts[at + 2] as usize;
+        if nb < start || nb - start < len {
+            return None;
+        }
+        Some((start, start + len))
+    }
+
+    // The LogicKind of the scalar below nested arrays, 0 for none.
+    pub fn logic_leaf(&self, t: u64) -> u64
+        ensures { result ≡ logic_leaf (types_of self.now.types.now self.now.fields.now) 64 t }
+    {
+        let mut at = t;
+        for _k in 0u64..64 {
+            let Some(e) = self.ty_at(at) else {
+                return 0;
+            };
+            match e {
+                Entry::Array { elem, .. } => at = elem,
+                Entry::Enum { logic, .. } => return logic,
+                _ => return 0,
+            }
+        }
+        0
+    }
+
+    // The bytes of a descriptor of type t, where it has a size.
+    pub fn desc_size(&self, t: u64) -> Option<u64>
+        ensures { result ≡ desc_size (types_of self.now.types.now self.now.fields.now) t }
+    {
+        self.desc_in(t, 65)
+    }
+
+    // The same with so many levels left.
+    #[cycle(desc_array_desc_in_desc_record)]
+    pub fn desc_in(&self, t: u64, levels: u64) -> Option<u64>
+        ensures { result ≡ desc_at (types_of self.now.types.now self.now.fields.now) levels t }
+    {
+        if levels == 0 {
+            return None;
+        }
+        let e = self.ty_at(t)?;
         match e {
-            Entry::Array { elem, .. } => at = elem,
-            Entry::Enum { logic, .. } => return logic,
-            _ => return 0,
+            Entry::Array { elem, desc, dims } => self.desc_array(elem, desc, dims, levels - 1),
+            Entry::Record { first, count } => self.desc_record(first, count, levels - 1),
+            _ => Some(0),
         }
     }
-    0
-}
 
-// The bytes of a descriptor of type t, where it has a size.
-pub fn desc_size(types: &[u64], fields: &[u32], t: u64) -> Option<u64>
-    ensures { result ≡ desc_size (types_of types.now fields.now) t }
-{
-    desc_in(types, fields, t, 65)
-}
-
-// The same with so many levels left.
-#[cycle(desc_array_desc_in_desc_record)]
-pub fn desc_in(types: &[u64], fields: &[u32], t: u64, levels: u64) -> Option<u64>
-    ensures { result ≡ desc_at (types_of types.now fields.now) levels t }
-{
-    if levels == 0 {
-        return None;
-    }
-    let e = ty_at(types, fields, t)?;
-    match e {
-        Entry::Array { elem, desc, dims } => desc_array(
-            types,
-            fields,
-            elem,
-            desc,
-            dims,
-            levels - 1,
-        ),
-        Entry::Record { first, count } => desc_record(types, fields, first, count, levels - 1),
-        _ => Some(0),
-    }
-}
-
-#[cycle(desc_array_desc_in_desc_record)]
-fn desc_array(
-    types: &[u64],
-    fields: &[u32],
-    elem: u64,
-    c: u64,
-    dims: u64,
-    levels: u64,
-) -> Option<u64>
-    ensures { result ≡ desc_array (desc_at (types_of types.now fields.now) levels) elem c dims }
-{
-    let h = product(24, dims)?;
-    if c != 4294967295 {
-        return Some(h);
-    }
-    let m = desc_in(types, fields, elem, levels)?;
-    sum(h, m)
-}
-
-#[cycle(desc_array_desc_in_desc_record)]
-fn desc_record(
-    types: &[u64],
-    fields: &[u32],
-    first: usize,
-    count: usize,
-    levels: u64,
-) -> Option<u64>
-    requires { first + count ≤ length fields.now / 2 }
-    ensures { result ≡ desc_fields (desc_at (types_of types.now fields.now) levels) (fields_from fields.now first count) 0 }
-{
-    let mut n: u64 = 0;
-    let mut i: usize = 0;
-    while i < count {
-        let k = 2 * (first + i);
-        let t = fields[k] as u64;
-        let c = fields[k + 1] as u64;
-        if c == 4294967295 {
-            let m = desc_in(types, fields, t, levels)?;
-            n = sum(n, m)?;
+    #[cycle(desc_array_desc_in_desc_record)]
+    fn desc_array(&self, elem: u64, c: u64, dims: u64, levels: u64) -> Option<u64>
+        ensures { result ≡ desc_array (desc_at (types_of self.now.types.now self.now.fields.now) levels) elem c dims }
+    {
+        let h = product(24, dims)?;
+        if c != NO_CONST {
+            return Some(h);
         }
-        i += 1;
+        let m = self.desc_in(elem, levels)?;
+        sum(h, m)
     }
-    Some(n)
-}
 
-// Whether values of type t can hold handles.
-pub fn has_handles(types: &[u64], fields: &[u32], t: u64) -> bool
-    ensures { result ≡ has_handles (types_of types.now fields.now) t }
-{
-    handles_in(types, fields, t, 65)
-}
-
-// The same with so many levels left.
-#[cycle(handles_in_handles_record)]
-pub fn handles_in(types: &[u64], fields: &[u32], t: u64, levels: u64) -> bool
-    ensures { result ≡ handles_at (types_of types.now fields.now) levels t }
-{
-    if levels == 0 {
-        return true;
+    #[cycle(desc_array_desc_in_desc_record)]
+    fn desc_record(&self, first: usize, count: usize, levels: u64) -> Option<u64>
+        requires { first + count ≤ length self.now.fields.now / 2 }
+        ensures { result ≡ desc_fields (desc_at (types_of self.now.types.now self.now.fields.now) levels) (fields_from self.now.fields.now first count) 0 }
+    {
+        let mut n: u64 = 0;
+        for i in 0..count {
+            let k = 2 * (first + i);
+            let t = self.fields[k] as u64;
+            let c = self.fields[k + 1] as u64;
+            if c == NO_CONST {
+                let m = self.desc_in(t, levels)?;
+                n = sum(n, m)?;
+            }
+        }
+        Some(n)
     }
-    let Some(e) = ty_at(types, fields, t) else {
-        return true;
-    };
-    match e {
-        Entry::Access | Entry::Protected => true,
-        Entry::Array { elem, .. } => handles_in(types, fields, elem, levels - 1),
-        Entry::Record { first, count } => handles_record(types, fields, first, count, levels - 1),
-        _ => false,
-    }
-}
 
-#[cycle(handles_in_handles_record)]
-fn handles_record(types: &[u64], fields: &[u32], first: usize, count: usize, levels: u64) -> bool
-    requires { first + count ≤ length fields.now / 2 }
-    ensures { result ≡ any_field (handles_at (types_of types.now fields.now) levels) (fields_from fields.now first count) }
-{
-    let mut i: usize = 0;
-    while i < count {
-        let k = 2 * (first + i);
-        let t = fields[k] as u64;
-        if handles_in(types, fields, t, levels) {
+    // Whether values of type t can hold handles.
+    pub fn has_handles(&self, t: u64) -> bool
+        ensures { result ≡ has_handles (types_of self.now.types.now self.now.fields.now) t }
+    {
+        self.handles_in(t, 65)
+    }
+
+    // The same with so many levels left.
+    #[cycle(handles_in_handles_record)]
+    pub fn handles_in(&self, t: u64, levels: u64) -> bool
+        ensures { result ≡ handles_at (types_of self.now.types.now self.now.fields.now) levels t }
+    {
+        if levels == 0 {
             return true;
         }
-        i += 1;
+        let Some(e) = self.ty_at(t) else {
+            return true;
+        };
+        match e {
+            Entry::Access | Entry::Protected => true,
+            Entry::Array { elem, .. } => self.handles_in(elem, levels - 1),
+            Entry::Record { first, count } => self.handles_record(first, count, levels - 1),
+            _ => false,
+        }
     }
-    false
+
+    #[cycle(handles_in_handles_record)]
+    fn handles_record(&self, first: usize, count: usize, levels: u64) -> bool
+        requires { first + count ≤ length self.now.fields.now / 2 }
+        ensures { result ≡ any_field (handles_at (types_of self.now.types.now self.now.fields.now) levels) (fields_from self.now.fields.now first count) }
+    {
+        for i in 0..count {
+            let t = self.fields[2 * (first + i)] as u64;
+            if self.handles_in(t, levels) {
+                return true;
+            }
+        }
+        false
+    }
 }
 
 // Whether a row of the types is well formed, with nf fields.
 fn type_good(nf: usize, class: u64, a: u64, b: u64, c: u64) -> bool
     ensures { result ≡ good_type nf class a b c }
 {
-    if class == 2 {
-        return b <= 3;
+    match class {
+        2 => b <= 3,
+        4 => c <= 255,
+        5 => a as usize <= nf && b as usize <= nf - a as usize,
+        _ => class <= 8,
     }
-    if class == 4 {
-        return c <= 255;
-    }
-    if class == 5 {
-        let first = a as usize;
-        let count = b as usize;
-        if nf < first {
-            return false;
-        }
-        return count <= nf - first;
-    }
-    class <= 8
-}
-
-fn types_good(types: &[u64], nf: usize) -> bool
-    ensures { result ≡ all_below (good_type_at types.now nf) (length types.now / 4) }
-{
-    let n = types.len() / 4;
-    let mut i: usize = 0;
-    while i < n {
-        let at = 4 * i;
-        if !type_good(nf, types[at], types[at + 1], types[at + 2], types[at + 3]) {
-            return false;
-        }
-        i += 1;
-    }
-    true
 }
 
 // Whether a row of the constants is well formed, with nb bytes.
 fn const_good(nb: usize, flag: u64, a: u64, n: u64) -> bool
     ensures { result ≡ good_const nb flag a n }
 {
-    if flag == 1 {
-        let start = a as usize;
-        let len = n as usize;
-        if nb < start {
-            return false;
-        }
-        return len <= nb - start;
+    match flag {
+        1 => a as usize <= nb && n as usize <= nb - a as usize,
+        _ => flag == 0,
     }
-    flag == 0
-}
-
-fn consts_good(consts: &[u64], nb: usize) -> bool
-    ensures { result ≡ all_below (good_const_at consts.now nb) (length consts.now / 3) }
-{
-    let n = consts.len() / 3;
-    let mut i: usize = 0;
-    while i < n {
-        let at = 3 * i;
-        if !const_good(nb, consts[at], consts[at + 1], consts[at + 2]) {
-            return false;
-        }
-        i += 1;
-    }
-    true
 }
 
 // The count of type t among the counts of all types: 1 where it is missing.
@@ -404,13 +347,7 @@ fn count_at(counts: &[u32], t: u64) -> u32
 fn capped(a: u32, b: u32) -> u32
     ensures { result ≡ min (a + b) 65537 }
 {
-    if 65537 <= a {
-        return 65537;
-    }
-    if 65537 - a <= b {
-        return 65537;
-    }
-    a + b
+    a.saturating_add(b).min(65537)
 }
 
 // The sums of the first one, two, .. fields' counts, so that a record is one difference however its fields overlap with others'.
@@ -420,11 +357,9 @@ fn sum_fields(fields: &[u32], counts: &[u32], sums: &mut [u32])
 {
     let n = sums.len();
     let mut s: u32 = 0;
-    let mut i: usize = 0;
-    while i < n {
+    for i in 0..n {
         s += count_at(counts, fields[2 * i] as u64);
         sums[i] = s;
-        i += 1;
     }
 }
 
@@ -436,128 +371,16 @@ fn sum_before(sums: &[u32], n: usize) -> u32
     if n == 0 { 0 } else { sums[n - 1] }
 }
 
-// The count of type t, one level more than the counts.
-fn count_type(types: &[u64], fields: &[u32], counts: &[u32], sums: &[u32], t: u64) -> u32
-    requires { sums.now ≡ field_sums fields.now counts.now }
-    ensures { result ≡ next_count (types_of types.now fields.now) counts.now t }
-{
-    let Some(e) = ty_at(types, fields, t) else {
-        return 1;
-    };
-    match e {
-        Entry::Array { elem, .. } => capped(1, count_at(counts, elem)),
-        Entry::Record { first, count } => {
-            let to = sum_before(sums, first + count);
-            let from = sum_before(sums, first);
-            capped(1, to - from)
-        }
-        _ => 1,
-    }
-}
-
-// The counts of all types, one level more.
-fn count_types(types: &[u64], fields: &[u32], counts: &[u32], sums: &[u32], next: &mut [u32])
-    requires { sums.now ≡ field_sums fields.now counts.now }
-    ensures { next.new ≡ next_counts (types_of types.now fields.now) counts.now (length next.old) }
-{
-    let n = next.len();
-    let mut i: usize = 0;
-    while i < n {
-        next[i] = count_type(types, fields, counts, sums, i as u64);
-        i += 1;
-    }
-}
-
-// The counts of all types, one level more, by way of the fields' sums.
-fn unfold_level(types: &[u64], fields: &[u32], counts: &[u32], sums: &mut [u32], next: &mut [u32])
-    requires { (length sums.old ≡ length fields.now / 2) × (length fields.now / 2 ≤ 16384) × Capped counts.now }
-    ensures { next.new ≡ next_counts (types_of types.now fields.now) counts.now (length next.old) }
-{
-    sum_fields(fields, counts, sums);
-    count_types(types, fields, counts, sums, next);
-}
-
-// The counts of all types at 65 levels, from those at one level, two levels a turn.
-fn unfold_levels(
-    types: &[u64],
-    fields: &[u32],
-    counts: &mut [u32],
-    other: &mut [u32],
-    sums: &mut [u32],
-)
-    requires { Scratch types.now fields.now counts.old other.old sums.old }
-    ensures { counts.new ≡ counts_at (types_of types.now fields.now) (length types.now / 4) 65 }
-{
-    let mut k: u64 = 0;
-    while k < 32 {
-        unfold_level(types, fields, counts, sums, other);
-        unfold_level(types, fields, other, sums, counts);
-        k += 1;
-    }
-}
-
 // Whether every count is within the bound.
 fn all_small(counts: &[u32]) -> bool
     ensures { result ≡ all_below (small_in counts.now) (length counts.now) }
 {
-    let mut i: usize = 0;
-    while i < counts.len() {
+    for i in 0..counts.len() {
         if 65536 < counts[i] {
             return false;
         }
-        i += 1;
     }
     true
-}
-
-// Whether every type's unfolding is within the bound, with scratch of one word a type, again, and one a field.
-fn unfolds_small(
-    types: &[u64],
-    fields: &[u32],
-    counts: &mut [u32],
-    other: &mut [u32],
-    sums: &mut [u32],
-) -> bool
-    requires { Fitting types.now fields.now counts.old other.old sums.old }
-    ensures { result ≡ all_below (small_at (types_of types.now fields.now)) (length types.now / 4) }
-{
-    let n = counts.len();
-    memory::fill_u32(counts, 0, n, 1);
-    unfold_levels(types, fields, counts, other, sums);
-    all_small(counts)
-}
-
-// The same with scratch of the largest sizes.
-fn unfolds_within(
-    types: &[u64],
-    fields: &[u32],
-    counts: &mut [u32],
-    other: &mut [u32],
-    sums: &mut [u32],
-) -> bool
-    requires { (length types.now / 4 ≤ 4096) × (length fields.now / 2 ≤ 16384) × (length counts.old ≡ 4096) × (length other.old ≡ 4096) × (length sums.old ≡ 16384) }
-    ensures { result ≡ all_below (small_at (types_of types.now fields.now)) (length types.now / 4) }
-{
-    let n = types.len() / 4;
-    let m = fields.len() / 2;
-    unfolds_small(
-        types,
-        fields,
-        &mut counts[..n],
-        &mut other[..n],
-        &mut sums[..m],
-    )
-}
-
-// The same level by level: 65 levels over all types and fields, some 1.3 million steps at most.
-fn unfolds_exactly(types: &[u64], fields: &[u32]) -> bool
-    requires { (length types.now / 4 ≤ 4096) × (length fields.now / 2 ≤ 16384) }
-    ensures { result ≡ all_below (small_at (types_of types.now fields.now)) (length types.now / 4) }
-{
-    let mut counts = [0u32; 4096];
-    let mut other = [0u32; 4096];
-    let mut sums = [0u32; 16384];
-    unfolds_within(types, fields, &mut counts, &mut other, &mut sums)
 }
 
 // The bound of type t among those of the first i of n types: 1 where it is missing, 65,537 where it comes later.
@@ -585,142 +408,219 @@ fn bound_fields(
     ensures { result ≡ bound_fields (bound_in counts.now i n) (fields_from fields.now first count) 1 }
 {
     let mut s: u32 = 1;
-    let mut j: usize = 0;
-    while j < count {
+    for j in 0..count {
         let k = 2 * (first + j);
         let t = fields[k] as u64;
         s = capped(s, bound_at(counts, i, n, t));
-        j += 1;
     }
     s
 }
 
-// The bound of the unfolding of type i.
-fn bound_type(types: &[u64], fields: &[u32], counts: &[u32], i: usize, n: usize) -> u32
-    requires { i ≤ length counts.now }
-    ensures { result ≡ bound_by (bound_in counts.now i n) (type_at (types_of types.now fields.now) i) }
-{
-    let Some(e) = ty_at(types, fields, i as u64) else {
-        return 1;
-    };
-    match e {
-        Entry::Array { elem, .. } => capped(1, bound_at(counts, i, n, elem)),
-        Entry::Record { first, count } => bound_fields(fields, counts, i, n, first, count),
-        _ => 1,
+impl<'a> Table<'a> {
+    fn types_good(&self) -> bool
+        ensures { result ≡ all_below (good_type_at self.now.types.now (length self.now.fields.now / 2)) (length self.now.types.now / 4) }
+    {
+        let nf = self.fields.len() / 2;
+        let n = self.types.len() / 4;
+        for i in 0..n {
+            let at = 4 * i;
+            if !type_good(
+                nf,
+                self.types[at],
+                self.types[at + 1],
+                self.types[at + 2],
+                self.types[at + 3],
+            ) {
+                return false;
+            }
+        }
+        true
     }
-}
 
-// How many fields type i has: it only says how long the pass below goes on.
-fn fields_in(types: &[u64], fields: &[u32], i: usize) -> usize {
-    let Some(Entry::Record { count, .. }) = ty_at(types, fields, i as u64) else {
-        return 0;
-    };
-    count
-}
+    fn consts_good(&self) -> bool
+        ensures { result ≡ all_below (good_const_at self.now.consts.now (length self.now.bytes.now)) (length self.now.consts.now / 3) }
+    {
+        let nb = self.bytes.len();
+        let n = self.consts.len() / 3;
+        for i in 0..n {
+            let at = 3 * i;
+            if !const_good(
+                nb,
+                self.consts[at],
+                self.consts[at + 1],
+                self.consts[at + 2],
+            ) {
+                return false;
+            }
+        }
+        true
+    }
 
-// Whether one pass over the types shows that every unfolding is within the bound. It does where each type comes after those that it is made of and no field
-// belongs to two records; other tables need all levels.
-fn unfolds_in_order(types: &[u64], fields: &[u32], counts: &mut [u32]) -> bool
-    requires { length types.now / 4 ≤ length counts.old }
-    ensures { result ≡ true → all_below (small_at (types_of types.now fields.now)) (length types.now / 4) ≡ true }
-{
-    let n = types.len() / 4;
-    let mut room = fields.len() / 2;
-    let mut i: usize = 0;
-    while i < n {
-        let k = fields_in(types, fields, i);
-        if room < k {
+    // The count of type t, one level more than the counts.
+    fn count_type(&self, counts: &[u32], sums: &[u32], t: u64) -> u32
+        requires { sums.now ≡ field_sums self.now.fields.now counts.now }
+        ensures { result ≡ next_count (types_of self.now.types.now self.now.fields.now) counts.now t }
+    {
+        let Some(e) = self.ty_at(t) else {
+            return 1;
+        };
+        match e {
+            Entry::Array { elem, .. } => capped(1, count_at(counts, elem)),
+            Entry::Record { first, count } => {
+                let to = sum_before(sums, first + count);
+                let from = sum_before(sums, first);
+                capped(1, to - from)
+            }
+            _ => 1,
+        }
+    }
+
+    // The counts of all types, one level more.
+    fn count_types(&self, counts: &[u32], sums: &[u32], next: &mut [u32])
+        requires { sums.now ≡ field_sums self.now.fields.now counts.now }
+        ensures { next.new ≡ next_counts (types_of self.now.types.now self.now.fields.now) counts.now (length next.old) }
+    {
+        let n = next.len();
+        for i in 0..n {
+            next[i] = self.count_type(counts, sums, i as u64);
+        }
+    }
+
+    // The counts of all types, one level more, by way of the fields' sums.
+    fn unfold_level(&self, counts: &[u32], sums: &mut [u32], next: &mut [u32])
+        requires { (length sums.old ≡ length self.now.fields.now / 2) × (length self.now.fields.now / 2 ≤ 16384) × Capped counts.now }
+        ensures { next.new ≡ next_counts (types_of self.now.types.now self.now.fields.now) counts.now (length next.old) }
+    {
+        sum_fields(self.fields, counts, sums);
+        self.count_types(counts, sums, next);
+    }
+
+    // The counts of all types at 65 levels, from those at one level, two levels a turn.
+    fn unfold_levels(&self, counts: &mut [u32], other: &mut [u32], sums: &mut [u32])
+        requires { Scratch self.now.types.now self.now.fields.now counts.old other.old sums.old }
+        ensures { counts.new ≡ counts_at (types_of self.now.types.now self.now.fields.now) (length self.now.types.now / 4) 65 }
+    {
+        for _k in 0u64..32 {
+            self.unfold_level(counts, sums, other);
+            self.unfold_level(other, sums, counts);
+        }
+    }
+
+    // Whether every type's unfolding is within the bound, with scratch of one word a type, again, and one a field.
+    fn unfolds_small(&self, counts: &mut [u32], other: &mut [u32], sums: &mut [u32]) -> bool
+        requires { Fitting self.now.types.now self.now.fields.now counts.old other.old sums.old }
+        ensures { result ≡ all_below (small_at (types_of self.now.types.now self.now.fields.now)) (length self.now.types.now / 4) }
+    {
+        let n = counts.len();
+        memory::fill_u32(counts, 0, n, 1);
+        self.unfold_levels(counts, other, sums);
+        all_small(counts)
+    }
+
+    // The same with scratch of the largest sizes.
+    fn unfolds_within(&self, counts: &mut [u32], other: &mut [u32], sums: &mut [u32]) -> bool
+        requires { (length self.now.types.now / 4 ≤ 4096) × (length self.now.fields.now / 2 ≤ 16384) × (length counts.old ≡ 4096) × (length other.old ≡ 4096) × (length sums.old ≡ 16384) }
+        ensures { result ≡ all_below (small_at (types_of self.now.types.now self.now.fields.now)) (length self.now.types.now / 4) }
+    {
+        let n = self.types.len() / 4;
+        let m = self.fields.len() / 2;
+        self.unfolds_small(&mut counts[..n], &mut other[..n], &mut sums[..m])
+    }
+
+    // The same level by level: 65 levels over all types and fields, some 1.3 million steps at most.
+    fn unfolds_exactly(&self) -> bool
+        requires { (length self.now.types.now / 4 ≤ 4096) × (length self.now.fields.now / 2 ≤ 16384) }
+        ensures { result ≡ all_below (small_at (types_of self.now.types.now self.now.fields.now)) (length self.now.types.now / 4) }
+    {
+        let mut counts = [0u32; 4096];
+        let mut other = [0u32; 4096];
+        let mut sums = [0u32; 16384];
+        self.unfolds_within(&mut counts, &mut other, &mut sums)
+    }
+
+    // The bound of the unfolding of type i.
+    fn bound_type(&self, counts: &[u32], i: usize, n: usize) -> u32
+        requires { i ≤ length counts.now }
+        ensures { result ≡ bound_by (bound_in counts.now i n) (type_at (types_of self.now.types.now self.now.fields.now) i) }
+    {
+        let Some(e) = self.ty_at(i as u64) else {
+            return 1;
+        };
+        match e {
+            Entry::Array { elem, .. } => capped(1, bound_at(counts, i, n, elem)),
+            Entry::Record { first, count } => bound_fields(self.fields, counts, i, n, first, count),
+            _ => 1,
+        }
+    }
+
+    // How many fields type i has: it only says how long the pass below goes on.
+    fn fields_in(&self, i: usize) -> usize {
+        let Some(Entry::Record { count, .. }) = self.ty_at(i as u64) else {
+            return 0;
+        };
+        count
+    }
+
+    // Whether one pass over the types shows that every unfolding is within the bound. It does where each type comes after those that it is made of and no field
+    // belongs to two records; other tables need all levels.
+    fn unfolds_in_order(&self, counts: &mut [u32]) -> bool
+        requires { length self.now.types.now / 4 ≤ length counts.old }
+        ensures { result ≡ true → all_below (small_at (types_of self.now.types.now self.now.fields.now)) (length self.now.types.now / 4) ≡ true }
+    {
+        let n = self.types.len() / 4;
+        let mut room = self.fields.len() / 2;
+        for i in 0..n {
+            let k = self.fields_in(i);
+            if room < k {
+                return false;
+            }
+            let b = self.bound_type(counts, i, n);
+            if 65536 < b {
+                return false;
+            }
+            counts[i] = b;
+            room -= k;
+        }
+        true
+    }
+
+    // The same in one pass where that shows it, with scratch for at most N types: scratch is cleared on each call, so that a small table takes a small one.
+    fn unfolds_among<const N: usize>(&self) -> bool
+        requires { (length self.now.types.now / 4 ≤ N) × (N ≤ 4096) × (length self.now.fields.now / 2 ≤ 16384) }
+        ensures { result ≡ all_below (small_at (types_of self.now.types.now self.now.fields.now)) (length self.now.types.now / 4) }
+    {
+        let mut counts = [0u32; N];
+        self.unfolds_in_order(&mut counts) || self.unfolds_exactly()
+    }
+
+    // Whether every type's unfolding is within the bound.
+    fn unfolds_good(&self) -> bool
+        requires { (length self.now.types.now / 4 ≤ 4096) × (length self.now.fields.now / 2 ≤ 16384) }
+        ensures { result ≡ all_below (small_at (types_of self.now.types.now self.now.fields.now)) (length self.now.types.now / 4) }
+    {
+        match self.types.len() / 4 {
+            0..=32 => self.unfolds_among::<32>(),
+            33..=256 => self.unfolds_among::<256>(),
+            _ => self.unfolds_among::<4096>(),
+        }
+    }
+
+    // Whether a type table is taken.
+    pub fn check(&self) -> bool
+        ensures { result ≡ table_good self.now.types.now self.now.fields.now self.now.consts.now self.now.bytes.now }
+    {
+        if self.types.len() % 4 != 0 || 4096 < self.types.len() / 4 {
             return false;
         }
-        let b = bound_type(types, fields, counts, i, n);
-        if 65536 < b {
+        if self.fields.len() % 2 != 0 || 16384 < self.fields.len() / 2 {
             return false;
         }
-        counts[i] = b;
-        room -= k;
-        i += 1;
+        if self.consts.len() % 3 != 0 || 4096 < self.consts.len() / 3 {
+            return false;
+        }
+        if !self.types_good() || !self.consts_good() {
+            return false;
+        }
+        self.unfolds_good()
     }
-    true
-}
-
-// Whether every type's unfolding is within the bound, of at most 32 types. Scratch is cleared on each call: a small table takes a small one.
-fn unfolds_32(types: &[u64], fields: &[u32]) -> bool
-    requires { (length types.now / 4 ≤ 32) × (length fields.now / 2 ≤ 16384) }
-    ensures { result ≡ all_below (small_at (types_of types.now fields.now)) (length types.now / 4) }
-{
-    let mut counts = [0u32; 32];
-    if unfolds_in_order(types, fields, &mut counts) {
-        return true;
-    }
-    unfolds_exactly(types, fields)
-}
-
-// The same of at most 256 types.
-fn unfolds_256(types: &[u64], fields: &[u32]) -> bool
-    requires { (length types.now / 4 ≤ 256) × (length fields.now / 2 ≤ 16384) }
-    ensures { result ≡ all_below (small_at (types_of types.now fields.now)) (length types.now / 4) }
-{
-    let mut counts = [0u32; 256];
-    if unfolds_in_order(types, fields, &mut counts) {
-        return true;
-    }
-    unfolds_exactly(types, fields)
-}
-
-// The same of as many types as there may be.
-fn unfolds_4096(types: &[u64], fields: &[u32]) -> bool
-    requires { (length types.now / 4 ≤ 4096) × (length fields.now / 2 ≤ 16384) }
-    ensures { result ≡ all_below (small_at (types_of types.now fields.now)) (length types.now / 4) }
-{
-    let mut counts = [0u32; 4096];
-    if unfolds_in_order(types, fields, &mut counts) {
-        return true;
-    }
-    unfolds_exactly(types, fields)
-}
-
-// Whether every type's unfolding is within the bound.
-fn unfolds_good(types: &[u64], fields: &[u32]) -> bool
-    requires { (length types.now / 4 ≤ 4096) × (length fields.now / 2 ≤ 16384) }
-    ensures { result ≡ all_below (small_at (types_of types.now fields.now)) (length types.now / 4) }
-{
-    let n = types.len() / 4;
-    if n <= 32 {
-        return unfolds_32(types, fields);
-    }
-    if n <= 256 {
-        return unfolds_256(types, fields);
-    }
-    unfolds_4096(types, fields)
-}
-
-// Whether a type table is taken.
-pub fn check_table(types: &[u64], fields: &[u32], consts: &[u64], bytes: &[u8]) -> bool
-    ensures { result ≡ table_good types.now fields.now consts.now bytes.now }
-{
-    if types.len() % 4 != 0 {
-        return false;
-    }
-    if 4096 < types.len() / 4 {
-        return false;
-    }
-    if fields.len() % 2 != 0 {
-        return false;
-    }
-    if 16384 < fields.len() / 2 {
-        return false;
-    }
-    if consts.len() % 3 != 0 {
-        return false;
-    }
-    if 4096 < consts.len() / 3 {
-        return false;
-    }
-    if !types_good(types, fields.len() / 2) {
-        return false;
-    }
-    if !consts_good(consts, bytes.len()) {
-        return false;
-    }
-    unfolds_good(types, fields)
 }

@@ -1,29 +1,16 @@
-use native.Mathlib.Omega.{arith}
 use borrow.Author.Tests.{le-leb, lt-leb}
 use Rattle.ty.specs.Counts.{small_in}
 use Rattle.ty.proofs.CheckLaws.{all_start, all-next, all-false, all_end}
 use Rattle.ty.proofs.all_small.Goals as goal
 
 pub loop-i-init : goal.loop-i-init
-loop-i-init c = (omega arith, all_start _)
-
-pub offset_bounds-counts-i : goal.offset_bounds-counts-i
-offset_bounds-counts-i c = omega arith
-
-pub bounds-counts-i : goal.bounds-counts-i
-bounds-counts-i c = omega arith
+loop-i-init c = all_start _
 
 pub returns-then-counts-i-gt65536 : goal.returns-then-counts-i-gt65536
 returns-then-counts-i-gt65536 c = all-false (small_in c.args.counts.now) _ _ c.loop-i-test.true (lt-leb _ _ c.if-counts-i-gt65536.true)
 
-pub overflow_add-i : goal.overflow_add-i
-overflow_add-i c = omega arith
-
-pub loop-i-smaller : goal.loop-i-smaller
-loop-i-smaller c = omega arith
-
 pub loop-i-preserved : goal.loop-i-preserved
-loop-i-preserved c = (omega arith, all-next (small_in c.args.counts.now) _ c.loop-i.invariant.1 (le-leb _ _ c.if-counts-i-gt65536.false))
+loop-i-preserved c = all-next (small_in c.args.counts.now) _ c.loop-i.invariant (le-leb _ _ c.if-counts-i-gt65536.false)
 
 pub returns : goal.returns
-returns c = all_end (small_in c.args.counts.now) _ _ c.loop-i.invariant.0 c.loop-i-test.false c.loop-i.invariant.1
+returns c = all_end (small_in c.args.counts.now) _ _ c.loop-i.auto.i-end c.loop-i-test.false c.loop-i.invariant

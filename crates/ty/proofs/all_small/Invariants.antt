@@ -1,14 +1,9 @@
 -- `ty::all_small` meets its contract.
-use Prim.Native.Nat.{◌≤◌, ◌-◌}
 use mathlib.Core.Path.{◌≡◌}
 use mathlib.Core.Bool.{true}
-use lib.ListN.{length}
 use Rattle.word.specs.Lists.{all_below}
 use Rattle.ty.specs.Counts.{small_in}
 use Rattle.ty.proofs.all_small.Given as goal
 
 abbrev pub invariant-loop-i : goal.invariant-loop-i
-invariant-loop-i l = (l.i ≤ length l.counts) × (all_below (small_in l.counts) l.i ≡ true)
-
-abbrev pub decreases-loop-i : goal.decreases-loop-i
-decreases-loop-i l = length l.counts - l.i
+invariant-loop-i l = all_below (small_in l.counts) l.i ≡ true

@@ -1,18 +1,19 @@
 -- `ty::const_good` meets its contract.
 use mathlib.Core.Path.{refl}
-use borrow.Author.Tests.{eq-eqb, ne_eqb}
+use native.Mathlib.Omega.{arith}
+use borrow.Author.Tests.{lt-leb, ne_eqb}
 use Rattle.ty.specs.Check.{good_const}
 use Rattle.ty.proofs.CheckLaws.{leb-part, leb-past}
 use Rattle.ty.proofs.const_good.Goals as goal
 
-pub returns-then-nb-start : goal.returns-then-nb-start
+pub returns-then-a-nb : goal.returns-then-a-nb
 unfolding good_const
-returns-then-nb-start c = rw (eq-eqb _ _ c.if-flag-eq1.true) (leb-past _ _ _ c.if-nb-start.true)
+returns-then-a-nb c = rw c.in-1.is (leb-part _ _ _ c.if-a-nb.true)
 
-pub returns-then-flag-eq1 : goal.returns-then-flag-eq1
+pub returns-else-a-nb : goal.returns-else-a-nb
 unfolding good_const
-returns-then-flag-eq1 c = rw (eq-eqb _ _ c.if-flag-eq1.true) (leb-part _ _ _ c.if-nb-start.false)
+returns-else-a-nb c = rw (c.in-1.is, lt-leb _ _ c.if-a-nb.false) (leb-past _ _ _ c.if-a-nb.false)
 
-pub returns : goal.returns
+pub returns-in_default : goal.returns-in_default
 unfolding good_const
-returns c = rw (ne_eqb _ _ c.if-flag-eq1.false) refl
+returns-in_default c = rw (ne_eqb c.args.flag 1 (λ e. omega arith)) refl

@@ -6,32 +6,11 @@ use Rattle.ty.proofs.sum_fields.Goals as goal
 pub loop-i-init : goal.loop-i-init
 loop-i-init c = summing_start _ _ _
 
-pub overflow_mul-i : goal.overflow_mul-i
-overflow_mul-i c = omega arith
-
-pub offset_bounds-fields-i : goal.offset_bounds-fields-i
-offset_bounds-fields-i c = omega arith
-
-pub bounds-fields-i : goal.bounds-fields-i
-bounds-fields-i c = omega arith
-
 pub overflow_cast-fields : goal.overflow_cast-fields
 overflow_cast-fields c = omega (arith, c.shared_slice_known-1.given (2 * c.loop-i.i))
 
 pub overflow_add-s : goal.overflow_add-s
 overflow_add-s c = let k = count_small _ _ _ c.requires.2 c.count_at-s.ensures in omega (arith, c.loop-i.invariant.small, c.loop-i.invariant.within)
-
-pub offset_bounds-sums-i : goal.offset_bounds-sums-i
-offset_bounds-sums-i c = omega arith
-
-pub bounds-sums-i : goal.bounds-sums-i
-bounds-sums-i c = omega arith
-
-pub overflow_add-i : goal.overflow_add-i
-overflow_add-i c = omega arith
-
-pub loop-i-smaller : goal.loop-i-smaller
-loop-i-smaller c = omega arith
 
 pub loop-i-preserved : goal.loop-i-preserved
 loop-i-preserved c = summing-next _ _ _ _ _ _ c.loop-i.invariant c.loop-i-test.true c.requires.2 _ c.count_at-s.ensures

@@ -1,26 +1,27 @@
 -- `ty::type_good` meets its contract.
 use mathlib.Core.Path.{refl}
-use borrow.Author.Tests.{eq-eqb, ne_eqb}
+use native.Mathlib.Omega.{arith}
+use borrow.Author.Tests.{lt-leb, ne_eqb}
 use Rattle.ty.specs.Check.{good_type}
 use Rattle.ty.proofs.CheckLaws.{leb-part, leb-past}
 use Rattle.ty.proofs.type_good.Goals as goal
 
-pub returns-then-class-eq2 : goal.returns-then-class-eq2
+pub returns-in-2 : goal.returns-in-2
 unfolding good_type
-returns-then-class-eq2 c = rw (eq-eqb _ _ c.if-class-eq2.true) refl
+returns-in-2 c = rw c.in-2.is refl
 
-pub returns-then-class-eq4 : goal.returns-then-class-eq4
+pub returns-in-4 : goal.returns-in-4
 unfolding good_type
-returns-then-class-eq4 c = rw (ne_eqb _ _ c.if-class-eq2.false, eq-eqb _ _ c.if-class-eq4.true) refl
+returns-in-4 c = rw c.in-4.is refl
 
-pub returns-then-nf-first : goal.returns-then-nf-first
+pub returns-then-a-nf : goal.returns-then-a-nf
 unfolding good_type
-returns-then-nf-first c = rw (ne_eqb _ _ c.if-class-eq2.false, ne_eqb _ _ c.if-class-eq4.false, eq-eqb _ _ c.if-class-eq5.true) (leb-past _ _ _ c.if-nf-first.true)
+returns-then-a-nf c = rw c.in-5.is (leb-part _ _ _ c.if-a-nf.true)
 
-pub returns-then-class-eq5 : goal.returns-then-class-eq5
+pub returns-else-a-nf : goal.returns-else-a-nf
 unfolding good_type
-returns-then-class-eq5 c = rw (ne_eqb _ _ c.if-class-eq2.false, ne_eqb _ _ c.if-class-eq4.false, eq-eqb _ _ c.if-class-eq5.true) (leb-part _ _ _ c.if-nf-first.false)
+returns-else-a-nf c = rw (c.in-5.is, lt-leb _ _ c.if-a-nf.false) (leb-past _ _ _ c.if-a-nf.false)
 
-pub returns : goal.returns
+pub returns-in_default : goal.returns-in_default
 unfolding good_type
-returns c = rw (ne_eqb _ _ c.if-class-eq2.false, ne_eqb _ _ c.if-class-eq4.false, ne_eqb _ _ c.if-class-eq5.false) refl
+returns-in_default c = rw (ne_eqb c.args.class 2 (λ e. omega arith), ne_eqb c.args.class 4 (λ e. omega arith), ne_eqb c.args.class 5 (λ e. omega arith)) refl
