@@ -4,39 +4,38 @@ use mathlib.Core.List.{List, [], ◌∷◌}
 use Prim.Native.Nat.{ℕ, suc, ◌+◌, max}
 use native.Mathlib.Omega.{arith}
 use lib.ListN.{length, drop}
-use Rattle.std.specs.Prelude.{Some, None}
+use Rattle.std.specs.Prelude.{Some, None, Ok, Err}
 use Rattle.ty.specs.Types.{Ty, Ty.missing, Ty.int, Ty.physical, Ty.enum, Ty.real, Ty.array, Ty.fields, Ty.access, Ty.file, Ty.protected, Field, Field.field, Table, type_at}
 use Rattle.ty.specs.Words.{word_of, on_word, round_up, Word}
-use Rattle.layout.specs.Layout.{on_laid, under, used_by, placed, record_of, layout_by, layout_at, layout_of}
+use Rattle.layout.specs.Layout.{Lay, on_ok, under, used_by, placed, record_of, layout_by, layout_at, layout_of}
 use Rattle.layout.specs.Offsets.{if_laid, offsets_from, offsets_of, fields_of}
-use Rattle.layout.specs.declared.Lay.{Lay}
-use Rattle.layout.specs.declared.Lay.TheVariants.{Laid, Malformed, TooLarge}
+use Rattle.refusal.specs.declared.Refusal.TheVariants.{Malformed, TooLarge}
+use Rattle.layout.specs.declared.Layout.{Layout}
 
-module _ (s a st m u : ℕ) where
+module _ (r : Layout) where
   -- one field, and those after it
-  module _ (k : ℕ) (rec : ℕ → ℕ → ℕ → Lay) (more : ℕ → ℕ → List ℕ) (later : (e b v : ℕ) → rec e b v ≡ Laid s a st m u → length (more e v) ≡ k) where
-    by_end : (o b v : ℕ) (y : Word) → on_word TooLarge y (λ e. rec e b v) ≡ Laid s a st m u → length (on_word [] y (λ e. o ∷ more e v)) ≡ suc k
+  module _ (k : ℕ) (rec : ℕ → ℕ → ℕ → Lay) (more : ℕ → ℕ → List ℕ) (later : (e b v : ℕ) → rec e b v ≡ Ok r → length (more e v) ≡ k) where
+    by_end : (o b v : ℕ) (y : Word) → on_word (Err TooLarge) y (λ e. rec e b v) ≡ Ok r → length (on_word [] y (λ e. o ∷ more e v)) ≡ suc k
     by_end o b v None q = let z : ◌≡◌ {A = ℕ} 0 1 = cc in absurd (omega arith)
     by_end o b v (Some e) q = ap suc (later e b v q)
 
-    by-start : (n b v : ℕ) (x : Word) → on_word TooLarge (on_word None x (λ o. word_of (o + n))) (λ e. rec e b v) ≡ Laid s a st m u → length (on_word [] x (λ o. on_word [] (word_of (o + n)) (λ e. o ∷ more e v))) ≡ suc k
+    by-start : (n b v : ℕ) (x : Word) → on_word (Err TooLarge) (on_word None x (λ o. word_of (o + n))) (λ e. rec e b v) ≡ Ok r → length (on_word [] x (λ o. on_word [] (word_of (o + n)) (λ e. o ∷ more e v))) ≡ suc k
     by-start n b v None q = let z : ◌≡◌ {A = ℕ} 0 1 = cc in absurd (omega arith)
     by-start n b v (Some o) q = by_end o b v (word_of (o + n)) q
 
-    by-laid : (off : ℕ) (l : Lay) → on_laid l (λ n b x y v. on_word TooLarge (placed off b n) (λ e. rec e b v)) ≡ Laid s a st m u → length (if_laid l (λ n b v. on_word [] (word_of (round_up off b)) (λ o. on_word [] (word_of (o + n)) (λ e. o ∷ more e v)))) ≡ suc k
+    by-laid : (off : ℕ) (l : Lay) → on_ok l (λ k. on_word (Err TooLarge) (placed off k.align k.size) (λ e. rec e k.align k.used)) ≡ Ok r → length (if_laid l (λ k. on_word [] (word_of (round_up off k.align)) (λ o. on_word [] (word_of (o + k.size)) (λ e. o ∷ more e k.used)))) ≡ suc k
     unfolding placed
-    by-laid off (Laid n b x y v) q = by-start n b v (word_of (round_up off b)) q
-    by-laid off Malformed q = let z : ◌≡◌ {A = ℕ} 0 1 = cc in absurd (omega arith)
-    by-laid off TooLarge q = let z : ◌≡◌ {A = ℕ} 0 1 = cc in absurd (omega arith)
+    by-laid off (Ok k) q = by-start k.size k.align k.used (word_of (round_up off k.align)) q
+    by-laid off (Err x) q = let z : ◌≡◌ {A = ℕ} 0 1 = cc in absurd (omega arith)
 
-  all_placed : (T : Table) (next : ℕ → List ℕ → Lay) (fs : List Field) (d : List ℕ) (off al used : ℕ) → record_of T next fs d off al used ≡ Laid s a st m u → length (offsets_from T next fs d off used) ≡ length fs
+  all_placed : (T : Table) (next : ℕ → List ℕ → Lay) (fs : List Field) (d : List ℕ) (off al used : ℕ) → record_of T next fs d off al used ≡ Ok r → length (offsets_from T next fs d off used) ≡ length fs
   unfolding record_of offsets_from
   all_placed T next [] d off al used q = refl
   all_placed T next (field t c ∷ fs) d off al used q =
       by-laid (length fs) (λ e b v. record_of T next fs d e (max al b) (used + used_by c v)) (λ e v. offsets_from T next fs d e (used + used_by c v))
-      (λ e b v r. all_placed T next fs d e (max al b) (used + used_by c v) r) off (under T next t c (drop used d)) q
+      (λ e b v h. all_placed T next fs d e (max al b) (used + used_by c v) h) off (under T next t c (drop used d)) q
 
-  by-type : (T : Table) (t : ℕ) (d : List ℕ) (y : Ty) → layout_by T (layout_at T 64) t d y ≡ Laid s a st m u → length (offsets_from T (layout_at T 64) (fields_of y) d 0 0) ≡ length (fields_of y)
+  by-type : (T : Table) (t : ℕ) (d : List ℕ) (y : Ty) → layout_by T (layout_at T 64) t d y ≡ Ok r → length (offsets_from T (layout_at T 64) (fields_of y) d 0 0) ≡ length (fields_of y)
   unfolding layout_by offsets_from
   by-type T t d missing q = refl
   by-type T t d (int lo hi) q = refl
@@ -49,6 +48,6 @@ module _ (s a st m u : ℕ) where
   by-type T t d file q = refl
   by-type T t d protected q = refl
 
-  pub offsets-all : (T : Table) (t : ℕ) (d : List ℕ) → layout_of T t d ≡ Laid s a st m u → length (offsets_of T t d) ≡ length (fields_of (type_at T.types t))
+  pub offsets-all : (T : Table) (t : ℕ) (d : List ℕ) → layout_of T t d ≡ Ok r → length (offsets_of T t d) ≡ length (fields_of (type_at T.types t))
   unfolding layout_of layout_at offsets_of
   offsets-all T t d q = by-type T t d (type_at T.types t) q

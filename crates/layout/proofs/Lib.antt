@@ -6,3 +6,4 @@ pub mod OffsetLaws
 pub mod Levels
 pub mod Complete
 pub mod ScalarLaws
+pub mod Stops

@@ -5,33 +5,25 @@ use Prim.Native.Nat.{ℕ, zero, suc, ◌+◌, ◌-◌, ◌*◌, ◌/◌, ◌≤�
 use native.Mathlib.Nat.{zero-add}
 use native.Mathlib.Omega.{arith}
 use lib.ListN.{length, take, drop, get_or, set}
-use types.Run.{OneOf, miss}
-use denote.Enum.Declared.{tag_of}
 use borrow.Author.Tests.{lt-leb, le-leb}
-use Rattle.std.specs.Prelude.{Some, None}
+use Rattle.std.specs.Prelude.{Option, Some, None, Ok, Err}
 use Rattle.word.specs.Put.{put}
 use Rattle.word.specs.Result.{refused}
 use Rattle.word.proofs.PutLaws.{put-none, Filling, fill_start, fill-next, fill_stop, fill-length}
+use Rattle.refusal.specs.declared.Refusal.{Refusal}
+use Rattle.refusal.specs.declared.Refusal.TheVariants.{ShortList}
 use Rattle.ty.specs.Types.{Field, Field.field, Table, type_at}
 use Rattle.ty.specs.Words.{word_of, on_word, round_up, Word}
-use Rattle.ty.specs.View.{fields_from, read_ty, entry_at, types_of, table_of}
+use Rattle.ty.specs.View.{fields_from, read_ty, read_entry, entry_at, types_of, lent}
 use Rattle.ty.specs.declared.Entry.{Entry}
-use Rattle.ty.specs.declared.Entry.TheVariants.{Missing, Int, Physical, Enum, Real, Array, Record, Access, File, Protected}
-use Rattle.ty.specs.contracts.Entry.{the_type as entry-type}
+use Rattle.ty.specs.declared.Entry.TheVariants.{Int, Physical, Enum, Real, Array, Record, Access, File, Protected}
+use Rattle.ty.specs.declared.Table.{Table as Lent}
 use Rattle.ty.proofs.Lookup.{type-at}
 use Rattle.ty.proofs.WalkLaws.{fields-first, fields-last, fields-next}
-use Rattle.layout.specs.Layout.{under, used_by, layout_at, layout_of}
+use Rattle.layout.specs.Layout.{Lay, under, used_by, layout_at, layout_of}
 use Rattle.layout.specs.Offsets.{if_laid, offsets_from, offsets_of, fields_of, told, layout_call}
-use Rattle.layout.specs.declared.Lay.{Lay}
-use Rattle.layout.specs.declared.Lay.TheVariants.{Laid, Malformed, TooLarge}
-use Rattle.layout.specs.declared.Answer.TheVariants.{Layout}
-use Rattle.layout.specs.contracts.Lay.{the_type as lay-type}
+use Rattle.layout.specs.declared.Layout.{Layout}
 use Rattle.layout.proofs.LayLaws.{rest}
-
-none-laid : (l : Lay) (g : ℕ → ℕ → ℕ → List ℕ) → OneOf (1 ∷ 2 ∷ []) (tag_of lay-type l) → if_laid l g ≡ []
-none-laid (Laid s a st m u) g h = absurd (miss (1 ∷ 2 ∷ []) 0 tt h)
-none-laid Malformed g h = refl
-none-laid TooLarge g h = refl
 
 module _ (T : Table) (next : ℕ → List ℕ → Lay) (fs : List ℕ) (f n i : ℕ) (d : List ℕ) (off used : ℕ) where
   pub off-last : n ≤ i → offsets_from T next (fields_from fs (f + i) (n - i)) d off used ≡ []
@@ -42,21 +34,21 @@ module _ (T : Table) (next : ℕ → List ℕ → Lay) (fs : List ℕ) (f n i : 
     here : l ≡ under T next (get_or fs (2 * (f + i)) 0) (get_or fs (2 * (f + i) + 1) 0) (drop used d)
     here = el ∙ ap (under T next (get_or fs (2 * (f + i)) 0) (get_or fs (2 * (f + i) + 1) 0)) (rest used d)
 
-    pub off-none : OneOf (1 ∷ 2 ∷ []) (tag_of lay-type l) → offsets_from T next (fields_from fs (f + i) (n - i)) d off used ≡ []
+    pub off-none : (why : Refusal) → l ≡ Err why → offsets_from T next (fields_from fs (f + i) (n - i)) d off used ≡ []
     unfolding offsets_from
-    off-none o = rw (fields-next fs f n i lt, ← here) (none-laid l _ o)
+    off-none why o = rw (fields-next fs f n i lt, ← here, o) refl
 
-    module _ (s a st m u : ℕ) (o : l ≡ Laid s a st m u) (p : Word) (ep : p ≡ word_of (round_up off a)) where
+    module _ (v : Layout) (o : l ≡ Ok v) (p : Word) (ep : p ≡ word_of (round_up off v.align)) where
       pub off-align : p ≡ None → offsets_from T next (fields_from fs (f + i) (n - i)) d off used ≡ []
       unfolding offsets_from
       off-align h = rw (fields-next fs f n i lt, ← here, o, ← ep, h) refl
 
-      module _ (x : ℕ) (h : p ≡ Some x) (q : Word) (eq : q ≡ word_of (x + s)) where
+      module _ (x : ℕ) (h : p ≡ Some x) (q : Word) (eq : q ≡ word_of (x + v.size)) where
         pub off-size : q ≡ None → offsets_from T next (fields_from fs (f + i) (n - i)) d off used ≡ []
         unfolding offsets_from
         off-size k = rw (fields-next fs f n i lt, ← here, o, ← ep, h, ← eq, k) refl
 
-        pub off-more : (e : ℕ) → q ≡ Some e → (u' : ℕ) → u' ≡ used_by (get_or fs (2 * (f + i) + 1) 0) u → offsets_from T next (fields_from fs (f + i) (n - i)) d off used ≡ x ∷ offsets_from T next (fields_from fs (f + (i + 1)) (n - (i + 1))) d e (used + u')
+        pub off-more : (e : ℕ) → q ≡ Some e → (u' : ℕ) → u' ≡ used_by (get_or fs (2 * (f + i) + 1) 0) v.used → offsets_from T next (fields_from fs (f + i) (n - i)) d off used ≡ x ∷ offsets_from T next (fields_from fs (f + (i + 1)) (n - (i + 1))) d e (used + u')
         unfolding offsets_from
         off-more e k u' eu = rw (fields-next fs f n i lt, ← here, o, ← ep, h, ← eq, k, ← eu) refl
 
@@ -65,19 +57,19 @@ unfolding fields_from
 length_fields fs i zero = refl
 length_fields fs i (suc n) = ap suc (length_fields fs (i + 1) n)
 
--- no record has no fields
-no_fields : (fs : List ℕ) (e : Entry) → OneOf (0 ∷ 1 ∷ 2 ∷ 3 ∷ 4 ∷ 5 ∷ 7 ∷ 8 ∷ 9 ∷ []) (tag_of entry-type e) → fields_of (read_ty fs e) ≡ []
-unfolding read_ty
-no_fields fs Missing h = refl
-no_fields fs (Int lo hi) h = refl
-no_fields fs Physical h = refl
-no_fields fs (Enum n l) h = refl
-no_fields fs Real h = refl
-no_fields fs (Array e c k) h = refl
-no_fields fs (Record i n) h = absurd (miss (0 ∷ 1 ∷ 2 ∷ 3 ∷ 4 ∷ 5 ∷ 7 ∷ 8 ∷ 9 ∷ []) 6 tt h)
-no_fields fs Access h = refl
-no_fields fs File h = refl
-no_fields fs Protected h = refl
+-- what is no record has no fields
+no_fields : (fs : List ℕ) (o : Option Entry) → ((a b : ℕ) → o ≡ Some (Record a b) → ⊥) → fields_of (read_ty fs o) ≡ []
+unfolding read_ty read_entry
+no_fields fs None h = refl
+no_fields fs (Some (Int lo hi)) h = refl
+no_fields fs (Some Physical) h = refl
+no_fields fs (Some (Enum n l)) h = refl
+no_fields fs (Some Real) h = refl
+no_fields fs (Some (Array e c k)) h = refl
+no_fields fs (Some (Record i n)) h = absurd (h i n refl)
+no_fields fs (Some Access) h = refl
+no_fields fs (Some File) h = refl
+no_fields fs (Some Protected) h = refl
 
 -- no more offsets than fields
 module _ (k : ℕ) (more : ℕ → ℕ → List ℕ) (small : (e u : ℕ) → length (more e u) ≤ k) where
@@ -89,10 +81,9 @@ module _ (k : ℕ) (more : ℕ → ℕ → List ℕ) (small : (e u : ℕ) → le
   starts s u None = omega arith
   starts s u (Some o) = ends o u (word_of (o + s))
 
-  one_more : (off : ℕ) (l : Lay) → length (if_laid l (λ s a u. on_word [] (word_of (round_up off a)) (λ o. on_word [] (word_of (o + s)) (λ e. o ∷ more e u)))) ≤ suc k
-  one_more off (Laid s a st m u) = starts s u (word_of (round_up off a))
-  one_more off Malformed = omega arith
-  one_more off TooLarge = omega arith
+  one_more : (off : ℕ) (l : Lay) → length (if_laid l (λ v. on_word [] (word_of (round_up off v.align)) (λ o. on_word [] (word_of (o + v.size)) (λ e. o ∷ more e v.used)))) ≤ suc k
+  one_more off (Ok v) = starts v.size v.used (word_of (round_up off v.align))
+  one_more off (Err e) = omega arith
 
 no_more : (T : Table) (next : ℕ → List ℕ → Lay) (fs : List Field) (d : List ℕ) (off used : ℕ) → length (offsets_from T next fs d off used) ≤ length fs
 unfolding offsets_from
@@ -138,42 +129,38 @@ module _ (T : Table) (fs : List ℕ) (first count : ℕ) (d start now : List ℕ
     }
 
 -- the fields of a record's row
-pub fields-are : (w fs : List ℕ) (t : ℕ) (e : Entry) → e ≡ entry_at w (length fs / 2) t → (i n : ℕ) → e ≡ Record i n → fields_of (type_at (types_of w fs) t) ≡ fields_from fs i n
-unfolding read_ty
-fields-are w fs t e ee i n h = ap fields_of (type-at w fs t ∙ ap (read_ty fs) (sym ee ∙ h))
+pub fields-are : (w fs : List ℕ) (t i n : ℕ) → entry_at w (length fs / 2) t ≡ Some (Record i n) → fields_of (type_at (types_of w fs) t) ≡ fields_from fs i n
+unfolding read_ty read_entry
+fields-are w fs t i n h = ap fields_of (type-at w fs t ∙ ap (read_ty fs) h)
 
 -- what the call answers, one law for each way out
-module _ (w fs cs b : List ℕ) (t : ℕ) (d : List ℕ) (places : ℕ) (l : Lay) (el : l ≡ layout_at (table_of w fs cs b) 65 t d) where
-  pub call-bad : l ≡ Malformed → refused 11 ≡ layout_call (table_of w fs cs b) t d places
+module _ (T : Lent) (t : ℕ) (d : List ℕ) (places : ℕ) (l : Lay) (el : l ≡ layout_at (lent T) 65 t d) where
+  pub call_stop : (why : Refusal) → l ≡ Err why → told (Err why) ≡ layout_call (lent T) t d places
   unfolding layout_call layout_of
-  call-bad h = rw (← el, h) refl
+  call_stop why h = rw (← el, h) refl
 
-  pub call-large : l ≡ TooLarge → refused 12 ≡ layout_call (table_of w fs cs b) t d places
-  unfolding layout_call layout_of
-  call-large h = rw (← el, h) refl
+  module _ (v : Layout) (o : l ≡ Ok v) where
+    module _ (h : (a b : ℕ) → entry_at T.types.now (length T.fields.now / 2) t ≡ Some (Record a b) → ⊥) where
+      are-none : fields_of (type_at (lent T).types t) ≡ []
+      are-none = ap fields_of (type-at T.types.now T.fields.now t) ∙ no_fields T.fields.now (entry_at T.types.now (length T.fields.now / 2) t) h
 
-  module _ (s a st m u : ℕ) (o : l ≡ Laid s a st m u) (e : Entry) (ee : e ≡ entry_at w (length fs / 2) t) where
-    module _ (h : OneOf (0 ∷ 1 ∷ 2 ∷ 3 ∷ 4 ∷ 5 ∷ 7 ∷ 8 ∷ 9 ∷ []) (tag_of entry-type e)) where
-      are-none : fields_of (type_at (types_of w fs) t) ≡ []
-      are-none = ap fields_of (type-at w fs t ∙ ap (read_ty fs) (sym ee)) ∙ no_fields fs e h
-
-      pub call-bare : told (Layout s a st m u 0) ≡ layout_call (table_of w fs cs b) t d places
+      pub call-bare : told (Ok (v, 0)) ≡ layout_call (lent T) t d places
       unfolding layout_call layout_of
       call-bare = rw (← el, o, are-none, le-leb 0 places (omega arith)) refl
 
-      pub bare-offsets : (out : List ℕ) → out ≡ put out 0 (offsets_of (table_of w fs cs b) t d) (length (offsets_of (table_of w fs cs b) t d))
+      pub bare-offsets : (out : List ℕ) → out ≡ put out 0 (offsets_of (lent T) t d) (length (offsets_of (lent T) t d))
       unfolding offsets_of offsets_from
       bare-offsets out = rw are-none (put-none out 0 [])
 
-    module _ (i n : ℕ) (h : e ≡ Record i n) where
-      pub call-short : places < n → refused 7 ≡ layout_call (table_of w fs cs b) t d places
+    module _ (i n : ℕ) (h : entry_at T.types.now (length T.fields.now / 2) t ≡ Some (Record i n)) where
+      pub call-short : places < n → told (Err ShortList) ≡ layout_call (lent T) t d places
       unfolding layout_call layout_of
-      call-short k = rw (← el, o, fields-are w fs t e ee i n h, length_fields fs i n, lt-leb n places k) refl
+      call-short k = rw (← el, o, fields-are T.types.now T.fields.now t i n h, length_fields T.fields.now i n, lt-leb n places k) refl
 
-      pub call-full : n ≤ places → told (Layout s a st m u n) ≡ layout_call (table_of w fs cs b) t d places
+      pub call-full : n ≤ places → told (Ok (v, n)) ≡ layout_call (lent T) t d places
       unfolding layout_call layout_of
-      call-full k = rw (← el, o, fields-are w fs t e ee i n h, length_fields fs i n, le-leb n places k) refl
+      call-full k = rw (← el, o, fields-are T.types.now T.fields.now t i n h, length_fields T.fields.now i n, le-leb n places k) refl
 
-      pub full-offsets : (out out' : List ℕ) → out' ≡ put out 0 (offsets_from (table_of w fs cs b) (layout_at (table_of w fs cs b) 64) (fields_from fs i n) d 0 0) (length (offsets_from (table_of w fs cs b) (layout_at (table_of w fs cs b) 64) (fields_from fs i n) d 0 0)) → out' ≡ put out 0 (offsets_of (table_of w fs cs b) t d) (length (offsets_of (table_of w fs cs b) t d))
+      pub full-offsets : (out out' : List ℕ) → out' ≡ put out 0 (offsets_from (lent T) (layout_at (lent T) 64) (fields_from T.fields.now i n) d 0 0) (length (offsets_from (lent T) (layout_at (lent T) 64) (fields_from T.fields.now i n) d 0 0)) → out' ≡ put out 0 (offsets_of (lent T) t d) (length (offsets_of (lent T) t d))
       unfolding offsets_of
-      full-offsets out out' q = rw (fields-are w fs t e ee i n h) q
+      full-offsets out out' q = rw (fields-are T.types.now T.fields.now t i n h) q

@@ -1,13 +1,28 @@
--- The layout of a value of a type under a descriptor (01, "Type table", and ty.rs). `Malformed` is told as 11, `TooLarge` as 12.
-use Rattle.std.specs.Prelude.{ℕ, zero, suc, ◌+◌, ◌-◌, ◌*◌, ◌/◌, max, List, [], ◌∷◌, ltb, eqb, length, take, drop, if◌then◌else◌, Option, Some, None}
+-- The layout of a value of a type under a descriptor (01, "Type table", and ty.rs), or why there is none: `Malformed` is told as 11, `TooLarge` as 12.
+use Rattle.std.specs.Prelude.{ℕ, zero, suc, ◌+◌, ◌-◌, ◌*◌, ◌/◌, max, List, [], ◌∷◌, ltb, eqb, length, take, drop, Option, Some, None, unwrap_or, Result, Ok, Err, if◌then◌else◌}
 use Rattle.word.specs.Le.{le}
+use Rattle.refusal.specs.declared.Refusal.{Refusal}
+use Rattle.refusal.specs.declared.Refusal.TheVariants.{Malformed, TooLarge}
 use Rattle.ty.specs.Types.{Ty, Ty.missing, Ty.int, Ty.physical, Ty.enum, Ty.real, Ty.array, Ty.fields, Ty.access, Ty.file, Ty.protected, Field, Field.field, Const, Const.plain, Const.other, Table, type_at, const_at, none}
-use Rattle.ty.specs.Words.{word_of, on_word, rank, round_up, Word}
+use Rattle.ty.specs.Words.{Word, word_of, on_word, rank, round_up}
 use Rattle.ty.specs.Scalars.{scalar_size, elem_size, logic_leaf}
-use Rattle.layout.specs.declared.Lay.{Lay}
-use Rattle.layout.specs.declared.Lay.TheVariants.{Laid, Malformed, TooLarge}
-use Rattle.layout.specs.declared.Dims.{Dims}
-use Rattle.layout.specs.declared.Dims.TheVariants.{Count, Bad, Large}
+use Rattle.layout.specs.declared.Layout.{Layout}
+
+-- a layout, or why there is none
+abbrev pub Lay : Type 0
+Lay = Result Layout Refusal
+
+-- a layout with how many offsets were written, or why there is none
+abbrev pub Answer : Type 0
+Answer = Result (Layout × ℕ) Refusal
+
+-- the positions of an array's dimensions, or why there are none
+abbrev pub Dims : Type 0
+Dims = Result ℕ Refusal
+
+-- a layout that is there
+abbrev pub laid : (size align stride count used : ℕ) → Lay
+laid s a st n u = Ok (record { size = s; align = a; stride = st; count = n; used = u })
 
 -- the descriptor word that starts at byte i, little-endian
 abbrev pub desc_word : List ℕ → ℕ → ℕ
@@ -20,32 +35,21 @@ dim_len l r dir = if eqb dir 1 then (rank l + 1 - rank r) else (rank r + 1 - ran
 
 -- The positions of k dimensions, times n. Per dimension: short, direction, length 2^64, product.
 unfoldable pub dims_of : ℕ → List ℕ → ℕ → Dims
-dims_of zero d n = Count n
+dims_of zero d n = Ok n
 dims_of (suc k) d n =
-    if ltb (length d) 24 then Bad
-    else (if ltb 1 (desc_word d 16) then Bad
-    else on_word Large (word_of (dim_len (desc_word d 0) (desc_word d 8) (desc_word d 16))) (λ l.
-    on_word Large (word_of (n * l)) (λ m. dims_of k (drop 24 d) m)))
+    if ltb (length d) 24 then Err Malformed
+    else (if ltb 1 (desc_word d 16) then Err Malformed
+    else on_word (Err TooLarge) (word_of (dim_len (desc_word d 0) (desc_word d 8) (desc_word d 16))) (λ l.
+    on_word (Err TooLarge) (word_of (n * l)) (λ m. dims_of k (drop 24 d) m)))
 
--- a scalar's size in place of another
-abbrev pub size_or : Option ℕ → ℕ → ℕ
-size_or (Some n) m = n
-size_or None m = m
-
--- what is done with a layout, the positions of dimensions, a constant's bytes, where they are there
-abbrev pub on_laid : Lay → (ℕ → ℕ → ℕ → ℕ → ℕ → Lay) → Lay
-on_laid (Laid s a st n u) f = f s a st n u
-on_laid Malformed f = Malformed
-on_laid TooLarge f = TooLarge
-
-abbrev pub on_dims : Dims → (ℕ → Lay) → Lay
-on_dims (Count n) f = f n
-on_dims Bad f = Malformed
-on_dims Large f = TooLarge
+-- what is done with what is there: a layout, the positions of dimensions, a constant's bytes
+abbrev pub on_ok : {A : Type 0} → Result A Refusal → (A → Lay) → Lay
+on_ok (Ok a) f = f a
+on_ok (Err e) f = Err e
 
 abbrev pub on_bytes : Const → (List ℕ → Lay) → Lay
 on_bytes (plain b) f = f b
-on_bytes other f = Malformed
+on_bytes other f = Err Malformed
 
 -- an element or a field: under the rest of the descriptor, or under its own constant
 unfoldable pub under : Table → (ℕ → List ℕ → Lay) → ℕ → ℕ → List ℕ → Lay
@@ -59,15 +63,15 @@ used_by c u = if eqb c none then u else 0
 unfoldable pub array_laid : ℕ → ℕ → ℕ → ℕ → ℕ → ℕ → Lay
 array_laid logic n s a m used =
     if eqb logic 0
-    then on_word TooLarge (word_of (round_up s a)) (λ st. on_word TooLarge (word_of (st * n)) (λ z. Laid z a st n used))
-    else on_word TooLarge (word_of (n * m)) (λ q. Laid ((q + 63) / 64 * 32) 8 0 q used)
+    then on_word (Err TooLarge) (word_of (round_up s a)) (λ st. on_word (Err TooLarge) (word_of (st * n)) (λ z. laid z a st n used))
+    else on_word (Err TooLarge) (word_of (n * m)) (λ q. laid ((q + 63) / 64 * 32) 8 0 q used)
 
 -- an array: its dimensions, then the element
 unfoldable pub array_of : Table → (ℕ → List ℕ → Lay) → ℕ → ℕ → ℕ → ℕ → List ℕ → Lay
 array_of T next t e c k d =
-    on_dims (dims_of k d 1) (λ n.
-    on_laid (under T next e c (drop (24 * k) d)) (λ s a st m u.
-    array_laid (logic_leaf T.types 64 t) n (size_or (elem_size (type_at T.types e)) s) (size_or (elem_size (type_at T.types e)) a) m (24 * k + used_by c u)))
+    on_ok (dims_of k d 1) (λ n.
+    on_ok (under T next e c (drop (24 * k) d)) (λ l.
+    array_laid (logic_leaf T.types 64 t) n (unwrap_or (elem_size (type_at T.types e)) l.size) (unwrap_or (elem_size (type_at T.types e)) l.align) l.count (24 * k + used_by c l.used)))
 
 -- where a field of size s and alignment a ends that comes after off
 unfoldable pub placed : ℕ → ℕ → ℕ → Word
@@ -75,35 +79,38 @@ placed off a s = on_word None (word_of (round_up off a)) (λ o. word_of (o + s))
 
 -- a record whose fields end at off: its size is aligned too
 unfoldable pub end_of : ℕ → ℕ → ℕ → Lay
-end_of off al used = on_word TooLarge (word_of (round_up off al)) (λ z. Laid z al 0 1 used)
+end_of off al used = on_word (Err TooLarge) (word_of (round_up off al)) (λ z. laid z al 0 1 used)
 
 -- a record: per field its layout, its aligning, its sum
 unfoldable pub record_of : Table → (ℕ → List ℕ → Lay) → List Field → List ℕ → ℕ → ℕ → ℕ → Lay
 record_of T next [] d off al used = end_of off al used
 record_of T next (field t c ∷ fs) d off al used =
-    on_laid (under T next t c (drop used d)) (λ s a st m u.
-    on_word TooLarge (placed off a s) (λ o. record_of T next fs d o (max al a) (used + used_by c u)))
+    on_ok (under T next t c (drop used d)) (λ l.
+    on_word (Err TooLarge) (placed off l.align l.size) (λ o. record_of T next fs d o (max al l.align) (used + used_by c l.used)))
 
 -- a scalar: its alignment is its size
+abbrev pub scalar_layout : ℕ → Layout
+scalar_layout n = record { size = n; align = n; stride = 0; count = 1; used = 0 }
+
 abbrev pub scalar_laid : Option ℕ → Lay
-scalar_laid (Some n) = Laid n n 0 1 0
-scalar_laid None = Malformed
+scalar_laid (Some n) = Ok (scalar_layout n)
+scalar_laid None = Err Malformed
 
 unfoldable pub layout_by : Table → (ℕ → List ℕ → Lay) → ℕ → List ℕ → Ty → Lay
-layout_by T next t d missing = Malformed
-layout_by T next t d (int lo hi) = Laid 8 8 0 1 0
-layout_by T next t d physical = Laid 8 8 0 1 0
+layout_by T next t d missing = Err Malformed
+layout_by T next t d (int lo hi) = Ok (scalar_layout 8)
+layout_by T next t d physical = Ok (scalar_layout 8)
 layout_by T next t d (enum n logic) = scalar_laid (scalar_size (enum n logic))
-layout_by T next t d real = Laid 8 8 0 1 0
+layout_by T next t d real = Ok (scalar_layout 8)
 layout_by T next t d (array e c k) = array_of T next t e c k d
 layout_by T next t d (fields fs) = record_of T next fs d 0 1 0
-layout_by T next t d access = Laid 8 8 0 1 0
-layout_by T next t d file = Laid 4 4 0 1 0
-layout_by T next t d protected = Laid 8 8 0 1 0
+layout_by T next t d access = Ok (scalar_layout 8)
+layout_by T next t d file = Ok (scalar_layout 4)
+layout_by T next t d protected = Ok (scalar_layout 8)
 
 -- the layout of type t under the descriptor d, with so many levels left, itself among them
 unfoldable pub layout_at : Table → ℕ → ℕ → List ℕ → Lay
-layout_at T zero t d = Malformed
+layout_at T zero t d = Err Malformed
 layout_at T (suc n) t d = layout_by T (layout_at T n) t d (type_at T.types t)
 
 -- depths 0 to 64

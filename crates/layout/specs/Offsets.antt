@@ -1,27 +1,24 @@
 -- The offsets of a record's fields, and what a call for a layout answers and writes (01, "Type table": records align each field; 7 short list).
-use Rattle.std.specs.Prelude.{ℕ, ◌+◌, List, [], ◌∷◌, leb, length, drop, if◌then◌else◌}
+use Rattle.std.specs.Prelude.{ℕ, ◌+◌, List, [], ◌∷◌, leb, length, drop, Ok, Err, if◌then◌else◌}
 use Rattle.word.specs.Put.{put}
 use Rattle.word.specs.Result.{Result, ok, refused}
 use Rattle.ty.specs.Types.{Ty, Ty.missing, Ty.int, Ty.physical, Ty.enum, Ty.real, Ty.array, Ty.fields, Ty.access, Ty.file, Ty.protected, Field, Field.field, Table, type_at}
 use Rattle.ty.specs.Words.{word_of, on_word, round_up}
-use Rattle.layout.specs.Layout.{under, used_by, layout_at, layout_of}
-use Rattle.layout.specs.declared.Lay.{Lay}
-use Rattle.layout.specs.declared.Lay.TheVariants.{Laid, Malformed, TooLarge}
-use Rattle.layout.specs.declared.Answer.{Answer}
-use Rattle.layout.specs.declared.Answer.TheVariants.{Layout, Malformed as NotFormed, TooLarge as NotFitting, ShortList}
+use Rattle.refusal.specs.Told.{number_of}
+use Rattle.layout.specs.Layout.{Lay, Answer, under, used_by, layout_at, layout_of}
+use Rattle.layout.specs.declared.Layout.{Layout}
 
-abbrev pub if_laid : Lay → (ℕ → ℕ → ℕ → List ℕ) → List ℕ
-if_laid (Laid s a st n u) f = f s a u
-if_laid Malformed f = []
-if_laid TooLarge f = []
+abbrev pub if_laid : Lay → (Layout → List ℕ) → List ℕ
+if_laid (Ok l) f = f l
+if_laid (Err e) f = []
 
 -- the offsets of the fields, up to the first that cannot be placed, of which a record that has a layout has none (proofs/Complete.antt)
 unfoldable pub offsets_from : Table → (ℕ → List ℕ → Lay) → List Field → List ℕ → ℕ → ℕ → List ℕ
 offsets_from T next [] d off used = []
 offsets_from T next (field t c ∷ fs) d off used =
-    if_laid (under T next t c (drop used d)) (λ s a u.
-    on_word [] (word_of (round_up off a)) (λ o.
-    on_word [] (word_of (o + s)) (λ e. o ∷ offsets_from T next fs d e (used + used_by c u))))
+    if_laid (under T next t c (drop used d)) (λ l.
+    on_word [] (word_of (round_up off l.align)) (λ o.
+    on_word [] (word_of (o + l.size)) (λ e. o ∷ offsets_from T next fs d e (used + used_by c l.used))))
 
 -- the fields of a type, none where it is no record
 abbrev pub fields_of : Ty → List Field
@@ -48,18 +45,18 @@ pub record Values : Type 0 where
   pub used : ℕ
   pub offsets : ℕ
 
+abbrev pub values : Layout → ℕ → Values
+values l k = record { size = l.size; align = l.align; stride = l.stride; count = l.count; used = l.used; offsets = k }
+
 -- each answer's number and values
 abbrev pub told : Answer → Result Values
-told (Layout s a st n u k) = ok (record { size = s; align = a; stride = st; count = n; used = u; offsets = k })
-told NotFormed = refused 11
-told NotFitting = refused 12
-told ShortList = refused 7
+told (Ok (l, k)) = ok (values l k)
+told (Err e) = refused (number_of e)
 
 -- a layout with k offsets asked of a list of so many places
 abbrev pub listed_in : Lay → ℕ → ℕ → Result Values
-listed_in (Laid s a st n u) k places = if leb k places then ok (record { size = s; align = a; stride = st; count = n; used = u; offsets = k }) else refused 7
-listed_in Malformed k places = refused 11
-listed_in TooLarge k places = refused 12
+listed_in (Ok l) k places = if leb k places then ok (values l k) else refused 7
+listed_in (Err e) k places = refused (number_of e)
 
 -- the call: 11 or 12, then 7
 unfoldable pub layout_call : Table → ℕ → List ℕ → ℕ → Result Values

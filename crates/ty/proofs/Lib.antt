@@ -8,3 +8,4 @@ pub mod CheckLaws
 pub mod CountLaws
 pub mod BoundLaws
 pub mod Sizes
+pub mod Rows

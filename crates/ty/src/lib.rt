@@ -11,7 +11,7 @@ ghost use Rattle.word.specs.Lists.{all_below};
 ghost use Rattle.ty.specs.Check.{good_type, good_type_at, good_const, good_const_at, small_at, table_good};
 ghost use Rattle.ty.specs.Bounds.{bound_in, bound_fields, bound_by};
 ghost use Rattle.ty.specs.Counts.{count_in, Capped, Fitting, Scratch, field_sums, next_count, next_counts, counts_at, small_in};
-ghost use Rattle.ty.specs.View.{entry_at, entry_of, part_at, fields_from, types_of, bare};
+ghost use Rattle.ty.specs.View.{entry_at, entry_of, fields_of, part_at, fields_from, types_of, bare};
 
 use word::Aligned;
 
@@ -177,6 +177,17 @@ impl<'a> Table<'a> {
             8 => Some(Entry::Protected),
             _ => None,
         }
+    }
+
+    // The fields of type t if it is a record: the first, and how many.
+    pub fn fields_at(&self, t: u64) -> Option<(usize, usize)>
+        ensures { result ≡ fields_of (entry_at self.now.types.now (length self.now.fields.now / 2) t) }
+    {
+        let e = self.ty_at(t)?;
+        let Entry::Record { first, count } = e else {
+            return None;
+        };
+        Some((first, count))
     }
 
     // Where the plain bytes of constant c lie: from, to.

@@ -3,7 +3,7 @@ use Prim.Native.Nat.{◌+◌, ◌-◌, ◌*◌, ◌≤◌}
 use mathlib.Core.Path.{◌≡◌}
 use lib.ListN.{length}
 use Rattle.layout.specs.Layout.{record_of, layout_at}
-use Rattle.ty.specs.View.{table_of, fields_from}
+use Rattle.ty.specs.View.{lent, fields_from}
 use Rattle.layout.proofs.+layout_array_layout_below_layout_field_layout_in_layout_record.Given as goal
 
 abbrev pub decreases-layout_array : goal.decreases-layout_array
@@ -22,9 +22,6 @@ abbrev pub decreases-layout_record : goal.decreases-layout_record
 decreases-layout_record l = 4 * l.left + 2
 
 abbrev pub invariant-layout_record-loop-i : goal.invariant-layout_record-loop-i
-invariant-layout_record-loop-i l = (l.i ≤ l.count) × (l.used ≤ length l.desc) ×
-    (record_of (table_of l.types l.fields l.consts l.bytes) (layout_at (table_of l.types l.fields l.consts l.bytes) l.left) (fields_from l.fields (l.first + l.i) (l.count - l.i)) l.desc l.off l.align l.used
-    ≡ record_of (table_of l.types l.fields l.consts l.bytes) (layout_at (table_of l.types l.fields l.consts l.bytes) l.left) (fields_from l.fields l.first l.count) l.desc 0 1 0)
-
-abbrev pub decreases-layout_record-loop-i : goal.decreases-layout_record-loop-i
-decreases-layout_record-loop-i l = l.count - l.i
+invariant-layout_record-loop-i l = (l.used ≤ length l.desc) ×
+    (record_of (lent l.table) (layout_at (lent l.table) l.left) (fields_from l.table.fields.now (l.first + l.i) (l.count - l.i)) l.desc l.off l.align l.used
+    ≡ record_of (lent l.table) (layout_at (lent l.table) l.left) (fields_from l.table.fields.now l.first l.count) l.desc 0 1 0)

@@ -1,53 +1,22 @@
 use mathlib.Core.Path.{◌∙◌}
-use native.Mathlib.Omega.{arith}
-use Rattle.ty.proofs.Laws.{on}
-use Rattle.layout.proofs.DimLaws.{dims-start, dims-short, dims-dir, dims-len, dims-product, dims-more, dims-end}
+use Rattle.layout.proofs.DimLaws.{dims-short, dims-dir, dims-len, dims-product, dims-more, dims-end}
+use Rattle.layout.proofs.Stops.{stops}
 use Rattle.layout.proofs.dims_count.Goals as goal
 
-pub loop-k-init : goal.loop-k-init
-loop-k-init c = (omega arith, omega arith, dims-start _ _ _)
-
-pub overflow_sub-d : goal.overflow_sub-d
-overflow_sub-d c = omega arith
-
-pub returns-then-d-at-lt24 : goal.returns-then-d-at-lt24
-returns-then-d-at-lt24 c = search (dims-short, on)
-
-pub get_le-left-requires : goal.get_le-left-requires
-get_le-left-requires c = omega arith
-
-pub overflow_add-at : goal.overflow_add-at
-overflow_add-at c = omega arith
-
-pub get_le-right-requires : goal.get_le-right-requires
-get_le-right-requires c = omega arith
-
-pub overflow_add-at-in-loop-k : goal.overflow_add-at-in-loop-k
-overflow_add-at-in-loop-k c = omega arith
-
-pub get_le-dir-requires : goal.get_le-dir-requires
-get_le-dir-requires c = omega arith
+pub returns-then-rest-lt24 : goal.returns-then-rest-lt24
+returns-then-rest-lt24 c = dims-short _ _ _ _ c.loop-k-test.true c.if-rest-lt24.true ∙ c.loop-k.invariant
 
 pub returns-then-dir-gt1 : goal.returns-then-dir-gt1
-returns-then-dir-gt1 c = search (dims-dir, on)
+returns-then-dir-gt1 c = dims-dir _ c.args.dims _ _ c.loop-k-test.true c.if-rest-lt24.false (rw c.get_le-dir.ensures at c.if-dir-gt1.true) ∙ c.loop-k.invariant
 
-pub returns-in_default : goal.returns-in_default
-returns-in_default c = search (dims-len, on)
+pub returns-in_err-l : goal.returns-in_err-l
+returns-in_err-l c = stops _ _ _ _ c.in_err-l.ensures.value c.from_residual.ensures.1 ∙ dims-len _ c.args.dims _ _ c.loop-k-test.true c.if-rest-lt24.false (rw c.get_le-dir.ensures at c.if-dir-gt1.false) _ (rw (c.get_le-left.ensures, c.get_le-right.ensures, c.get_le-dir.ensures) at c.dim_len.ensures) c.in_err-l.ensures.ok_part ∙ c.loop-k.invariant
 
-pub returns-in_default-p : goal.returns-in_default-p
-returns-in_default-p c = search (dims-product, on)
-
-pub overflow_add-k : goal.overflow_add-k
-overflow_add-k c = omega arith
-
-pub overflow_add-at-in-loop-k-2 : goal.overflow_add-at-in-loop-k-2
-overflow_add-at-in-loop-k-2 c = omega arith
-
-pub loop-k-smaller : goal.loop-k-smaller
-loop-k-smaller c = omega arith
+pub returns-in_err-n : goal.returns-in_err-n
+returns-in_err-n c = stops _ _ _ _ c.in_err-n.ensures.value c.from_residual-in_err-n.ensures.1 ∙ dims-product _ c.args.dims _ _ c.loop-k-test.true c.if-rest-lt24.false (rw c.get_le-dir.ensures at c.if-dir-gt1.false) _ (rw (c.get_le-left.ensures, c.get_le-right.ensures, c.get_le-dir.ensures) at c.dim_len.ensures) _ c.in_ok-l.ensures.ok_part _ c.product.ensures c.in_err-n.ensures.ok_part ∙ c.loop-k.invariant
 
 pub loop-k-preserved : goal.loop-k-preserved
-loop-k-preserved c = (omega arith, omega arith, dims-more c.args.d.now _ _ c.loop-k.at _ c.loop-k-test.true c.if-d-at-lt24.false _ _ _ c.get_le-left.ensures c.get_le-right.ensures c.get_le-dir.ensures c.if-dir-gt1.false _ c.dim_len-w.ensures _ c.in-Is.is _ c.product-p.ensures _ c.in-Is-p.is ∙ c.loop-k.invariant.2)
+loop-k-preserved c = dims-more _ c.args.dims _ _ c.loop-k-test.true c.if-rest-lt24.false (rw c.get_le-dir.ensures at c.if-dir-gt1.false) _ (rw (c.get_le-left.ensures, c.get_le-right.ensures, c.get_le-dir.ensures) at c.dim_len.ensures) _ c.in_ok-l.ensures.ok_part _ c.product.ensures _ c.in_ok-n.ensures.ok_part ∙ c.loop-k.invariant
 
 pub returns : goal.returns
-returns c = search (dims-end, on)
+returns c = dims-end _ _ _ _ c.loop-k-test.false ∙ c.loop-k.invariant

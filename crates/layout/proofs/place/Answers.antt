@@ -3,10 +3,10 @@ use mathlib.Core.Path.{refl}
 use Rattle.layout.specs.Layout.{placed}
 use Rattle.layout.proofs.place.Goals as goal
 
-pub returns-in_default : goal.returns-in_default
+pub returns-in_err-o : goal.returns-in_err-o
 unfolding placed
-returns-in_default c = rw (← c.align_up-w.ensures, c.in_default.is) refl
+returns-in_err-o c = rw (c.from_residual.ensures, ← c.align_up.ensures, c.in_err-o.was) refl
 
 pub returns : goal.returns
 unfolding placed
-returns c = rw (← c.align_up-w.ensures, c.in-Is.is) c.sum.ensures
+returns c = rw (← c.align_up.ensures, c.in_ok-o.was) c.sum.ensures
