@@ -5,16 +5,15 @@ use mathlib.Core.Option.{none, some}
 use mathlib.Core.List.{List, [], ◌∷◌}
 use native.Mathlib.Omega.{arith}
 use Rattle.std.specs.declared.cmp.Ordering.{Ordering}
+use Rattle.std.specs.Prelude.{Some, None}
 use Rattle.word.specs.Result.{Result, refused}
 use Rattle.alike.specs.Inner.Beside.{Beside, beside_first, beside_at, beside_all}
 use Rattle.beside.specs.Inner.Ranks.{place_in}
 use Rattle.beside.specs.Inner.Found.{codes_of}
 use Rattle.beside.proofs.Codings.{beside-found}
 use Rattle.trace.specs.Places.{Places}
-use Rattle.trace.specs.Emit.{Raw, raw_of, resolve_in, aim, handed_by, handed, handed_all, handing_at, told}
+use Rattle.trace.specs.Emit.{Answer, Raw, raw_of, resolve_in, aim, handed_by, handed, handed_all, handing_at, told}
 use Rattle.trace.specs.declared.Goal.TheVariants.{Beside as Goal-as-Beside}
-use Rattle.trace.specs.declared.Answer.{Answer}
-use Rattle.trace.specs.declared.Answer.TheVariants.{Traced, Untraceable}
 use Rattle.trace.proofs.Emits.{ok-inj}
 
 module _ (tag slots c : ℕ) (R : ℕ → Result ℕ) (on other ow v work : List ℕ) where
@@ -38,11 +37,11 @@ module _ (tag slots c : ℕ) (R : ℕ → Result ℕ) (on other ow v work : List
 
   -- from nothing found on
   module _ (o : Places) (r : Answer) (found work' : List ℕ) (er : told r found work' ≡ handing_at (aim (Goal-as-Beside tag slots c) R on other ow) v (raw_of (0 ∷ 0 ∷ []) work 0) o) where
-    pub beside-told : (ps : List ℕ) → o ≡ some ps → (n : ℕ) → r ≡ Traced n → raw_of found work' n ≡ beside_raw (beside_all place_beside v other beside_first ps)
+    pub beside-told : (ps : List ℕ) → o ≡ some ps → (n : ℕ) → r ≡ Some n → raw_of found work' n ≡ beside_raw (beside_all place_beside v other beside_first ps)
     unfolding handing_at
     beside-told ps e n t = ok-inj (rw (e, t) at er) ∙ beside-all beside_first ps
 
-    pub beside_none : r ≡ Untraceable → o ≡ none
+    pub beside_none : r ≡ None → o ≡ none
     unfolding handing_at
     beside_none t = by o (rw t at er)
       where
@@ -50,6 +49,6 @@ module _ (tag slots c : ℕ) (R : ℕ → Result ℕ) (on other ow v work : List
         by none e = refl
         by (some ps) e = let x : ◌≡◌ {A = ℕ} 0 1 = cc in absurd (omega arith)
 
-    pub beside-some : (ps : List ℕ) → o ≡ some ps → r ≡ Untraceable → ⊥
+    pub beside-some : (ps : List ℕ) → o ≡ some ps → r ≡ None → ⊥
     unfolding handing_at
     beside-some ps e t = let f = rw (e, t) at er in let x : ◌≡◌ {A = ℕ} 0 1 = cc in omega arith

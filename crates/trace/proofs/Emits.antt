@@ -13,7 +13,7 @@ use native.Mathlib.Nat.{add-div_right, div-eq_of_lt}
 use native.Mathlib.Omega.{arith}
 use types.Run.{OneOf, miss}
 use denote.Enum.Declared.{tag_of}
-use Rattle.std.specs.Prelude.{if◌then◌else◌}
+use Rattle.std.specs.Prelude.{None, Some, if◌then◌else◌}
 use Rattle.word.specs.Result.{Result, ok, refused}
 use Rattle.word.specs.Run.{run}
 use Rattle.handle.specs.Handle.{resolve_by, told as resolved}
@@ -25,13 +25,11 @@ use Rattle.trace.specs.Places.{Places, only_if, both, many, turns, handle_at, wo
 use Rattle.trace.specs.Walk.{Stepped}
 use Rattle.beside.specs.Inner.Ranks.{place_in}
 use Rattle.beside.specs.Inner.Found.{found_at}
-use Rattle.trace.specs.Emit.{Raw, raw_of, Into, into, resolve_in, over, queued, queued_if, emitted_by, emitted, emit_all, emitting, Ready, Runs, Aim, aim, handed_by, handed, handed_all, handing_at, told}
+use Rattle.trace.specs.Emit.{Answer, Raw, raw_of, Into, into, resolve_in, over, queued, queued_if, emitted_by, emitted, emit_all, emitting, Ready, Runs, Aim, aim, handed_by, handed, handed_all, handing_at, told}
 use Rattle.trace.specs.declared.Sink.{Sink}
 use Rattle.trace.specs.declared.Sink.TheVariants.{Check, List as ToList, Work}
 use Rattle.trace.specs.declared.Goal.{Goal}
 use Rattle.trace.specs.declared.Goal.TheVariants.{Words, Beside}
-use Rattle.trace.specs.declared.Answer.{Answer}
-use Rattle.trace.specs.declared.Answer.TheVariants.{Traced, Untraceable}
 
 -- ---- an object that is met
 
@@ -184,10 +182,10 @@ module _ (sink : Sink) (R : ℕ → Result ℕ) (on other ow v : List ℕ) where
   words-at s (some ps) = ap {B = Result Raw} ok (words-all s ps)
 
 -- the answer, taken apart
-pub told-traced : (r : Answer) (ms to : List ℕ) (o : Result Raw) (m : ℕ) → told r ms to ≡ o → r ≡ Traced m → ok (raw_of ms to m) ≡ o
+pub told-traced : (r : Answer) (ms to : List ℕ) (o : Result Raw) (m : ℕ) → told r ms to ≡ o → r ≡ Some m → ok (raw_of ms to m) ≡ o
 told-traced r ms to o m t e = subst (λ (x : Answer). told x ms to ≡ o) e t
 
-pub told-untraceable : (r : Answer) (ms to : List ℕ) (o : Result Raw) → told r ms to ≡ o → r ≡ Untraceable → refused 13 ≡ o
+pub told-untraceable : (r : Answer) (ms to : List ℕ) (o : Result Raw) → told r ms to ≡ o → r ≡ None → refused 13 ≡ o
 told-untraceable r ms to o t e = subst (λ (x : Answer). told x ms to ≡ o) e t
 
 -- ---- many values
@@ -291,10 +289,10 @@ module _ (k : Aim) (v : List ℕ) (f : ℕ → Places) (st c o m : ℕ) (ms to :
   elems-beyond h l = emit-none k v (raw_of ms to m) _ (many-beyond (length v) f st c o h l) ∙ inv
 
   module _ (h : 0 < c) (l : o ≤ length v) (r : Answer) (ms' to' : List ℕ) (er : told r ms' to' ≡ handing_at k v (raw_of ms to m) (f o)) where
-    pub elems-fail : r ≡ Untraceable → refused 13 ≡ G
+    pub elems-fail : r ≡ None → refused 13 ≡ G
     elems-fail e = then-none k v (raw_of ms to m) (f o) _ (told-untraceable r ms' to' _ er e) ∙ ap (handing_at k v (raw_of ms to m)) (sym (many-cons (length v) f st c o h l)) ∙ inv
 
-    pub elems-next : (m' : ℕ) → r ≡ Traced m' → (o' : ℕ) → Stepped (length v) (o + st) o' → handing_at k v (raw_of ms' to' m') (many (length v) f st (c - 1) o') ≡ G
+    pub elems-next : (m' : ℕ) → r ≡ Some m' → (o' : ℕ) → Stepped (length v) (o + st) o' → handing_at k v (raw_of ms' to' m') (many (length v) f st (c - 1) o') ≡ G
     elems-next m' e o' s =
         ap (handing_at k v (raw_of ms' to' m')) (sym (many-two (length v) f st (c - 1) (o + st) o' s))
         ∙ then_some k v (raw_of ms to m) (raw_of ms' to' m') (f o) _ (told-traced r ms' to' _ m' er e)

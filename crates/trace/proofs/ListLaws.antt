@@ -10,17 +10,16 @@ use native.Mathlib.Nat.{zero-add, add-zero}
 use native.Mathlib.Numerals.{add-one}
 use native.Mathlib.Decide.{dec_lt, dec_le}
 use native.Mathlib.Omega.{arith}
+use Rattle.std.specs.Prelude.{Some, None}
 use Rattle.word.specs.Put.{put}
 use Rattle.word.specs.Result.{Result, ok, refused}
 use Rattle.word.proofs.PutLaws.{put_all}
 use Rattle.refusal.specs.declared.Answer.{Answer as Numbers}
 use Rattle.refusal.specs.declared.Reply.TheVariants.{Is, Not}
 use Rattle.refusal.specs.declared.Refusal.TheVariants.{Untraceable as Failed, ShortList}
-use Rattle.trace.specs.Emit.{Raw, raw_of, into, emitted, emit_all, emitting, told}
+use Rattle.trace.specs.Emit.{Answer, Raw, raw_of, into, emitted, emit_all, emitting, told}
 use Rattle.trace.specs.Listing.{listing, Lists}
 use Rattle.trace.specs.declared.Sink.TheVariants.{Check, List as ToList}
-use Rattle.trace.specs.declared.Answer.{Answer}
-use Rattle.trace.specs.declared.Answer.TheVariants.{Traced, Untraceable}
 use Rattle.trace.proofs.Emits.{check-room, check-full, list-room, ok-inj, told-traced, told-untraceable}
 
 more : (a b : ℕ) → a + 1 + b ≡ a + suc b
@@ -104,8 +103,8 @@ module _ (R : ℕ → Result ℕ) (ms u out : List ℕ) where
     wrote_by : (ms' u' : List ℕ) (n : ℕ) (o : Option (List ℕ)) → length out < 2 ^ 64 - 1 → ok (raw_of ms' u' n) ≡ emitting (into (Check (length out)) R) (raw_of ms u 0) o → n ≤ length out → (r : Answer) (ps' out' : List ℕ) → told r ps' out' ≡ emitting (into ToList Q) (raw_of ps out 0) o → Lists (listing o (length out)) (Is n 0) out out'
     unfolding emitting listing
     wrote_by ms' u' n none b e l r ps' out' s = let x : ◌≡◌ {A = ℕ} 0 1 = cc in absurd (omega arith)
-    wrote_by ms' u' n (some ws) b e l Untraceable ps' out' s = let x : ◌≡◌ {A = ℕ} 0 1 = cc in absurd (omega arith)
-    wrote_by ms' u' n (some ws) b e l (Traced m) ps' out' s =
+    wrote_by ms' u' n (some ws) b e l None ps' out' s = let x : ◌≡◌ {A = ℕ} 0 1 = cc in absurd (omega arith)
+    wrote_by ms' u' n (some ws) b e l (Some m) ps' out' s =
         let g : n ≡ length ws = checked-fits R ms (length out) u ws ms' u' n b (ok-inj e) l in
         let q : length ws ≤ length out = omega arith in
         record {
@@ -114,10 +113,10 @@ module _ (R : ℕ → Result ℕ) (ms u out : List ℕ) where
         }
 
 module _ (R : ℕ → Result ℕ) (ms u ms' u' out : List ℕ) (o : Option (List ℕ)) (r : Answer) (er : told r ms' u' ≡ emitting (into (Check (length out)) R) (raw_of ms u 0) o) where
-  pub list-failed : r ≡ Untraceable → Lists (listing o (length out)) (Not Failed) out out
+  pub list-failed : r ≡ None → Lists (listing o (length out)) (Not Failed) out out
   list-failed e = failed-by R ms u out o (told-untraceable r ms' u' _ er e)
 
-  module _ (n : ℕ) (e : r ≡ Traced n) where
+  module _ (n : ℕ) (e : r ≡ Some n) where
     pub list-short : length out < n → Lists (listing o (length out)) (Not ShortList) out out
     list-short l = short-by R ms u out ms' u' n o (told-traced r ms' u' _ n er e) l
 

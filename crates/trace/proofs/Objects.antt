@@ -13,14 +13,14 @@ use Rattle.word.specs.Result.{Result, ok, refused}
 use Rattle.std.specs.Prelude.{if◌then◌else◌, Some, None}
 use Rattle.ty.specs.Types.{Table}
 use Rattle.ty.specs.Walks.{desc_size, has_handles}
-use Rattle.ty.specs.View.{table_of, types_of}
+use Rattle.ty.specs.declared.Table.{Table as Lent}
+use Rattle.ty.specs.View.{lent, table_of, types_of}
 use Rattle.layout.proofs.LayLaws.{rest}
 use Rattle.trace.specs.Places.{Places, places_at, object_places, rising, handles_places, kind_places, shown_places, words_at, value_handles, object_handles, handles_of}
-use Rattle.trace.specs.Emit.{Raw, into, Runs, emitting, Ready, Aim, aim, handed, handed_all, handing_at, told}
+use Rattle.trace.specs.Emit.{Answer, Raw, into, Runs, emitting, Ready, Aim, aim, handed, handed_all, handing_at, told}
 use Rattle.trace.specs.declared.Sink.{Sink}
 use Rattle.trace.specs.declared.Goal.{Goal}
 use Rattle.trace.specs.declared.Goal.TheVariants.{Words, Beside}
-use Rattle.trace.specs.declared.Answer.{Answer}
 use Rattle.trace.proofs.Emits.{emit-none, emit-nil, words-at}
 
 -- ---- what a trace for a sink needs, and what is left of it for a part of the data
@@ -47,23 +47,23 @@ value-whole T t v sink R on other ow s r ms to er = er ∙ words-at sink R on ot
 
 -- ---- an object
 
-module _ (w fs cs b : List ℕ) (t : ℕ) (v : List ℕ) (k : Aim) (s : Raw) (x : Bool) (ex : x ≡ has_handles (types_of w fs) t) where
-  pub object-plain : not x ≡ true → ok s ≡ handing_at k v s (object_places (table_of w fs cs b) t v)
+module _ (T : Lent) (t : ℕ) (v : List ℕ) (k : Aim) (s : Raw) (x : Bool) (ex : x ≡ has_handles (types_of T.types.now T.fields.now) t) where
+  pub object-plain : x ≡ false → ok s ≡ handing_at k v s (object_places (lent T) t v)
   unfolding object_places
-  object-plain o = emit-nil k v s _ (rw (← ex, not-true x o) refl)
+  object-plain o = emit-nil k v s _ (rw (← ex, o) refl)
 
-  module _ (o : not x ≡ false) (z : Word) (ez : z ≡ desc_size (types_of w fs) t) where
-    pub object-size : z ≡ None → refused 13 ≡ handing_at k v s (object_places (table_of w fs cs b) t v)
+  module _ (o : x ≡ true) (z : Word) (ez : z ≡ desc_size (types_of T.types.now T.fields.now) t) where
+    pub object-size : z ≡ None → refused 13 ≡ handing_at k v s (object_places (lent T) t v)
     unfolding object_places
-    object-size h = emit-none k v s _ (rw (← ex, not-false x o, ← ez, h) refl)
+    object-size h = emit-none k v s _ (rw (← ex, o, ← ez, h) refl)
 
-    pub object-cut : (n : ℕ) → z ≡ Some n → length v < n → refused 13 ≡ handing_at k v s (object_places (table_of w fs cs b) t v)
+    pub object-cut : (n : ℕ) → z ≡ Some n → length v < n → refused 13 ≡ handing_at k v s (object_places (lent T) t v)
     unfolding object_places
-    object-cut n h l = emit-none k v s _ (rw (← ex, not-false x o, ← ez, h, lt-leb n (length v) l) refl)
+    object-cut n h l = emit-none k v s _ (rw (← ex, o, ← ez, h, lt-leb n (length v) l) refl)
 
-    pub object-whole : (n : ℕ) → z ≡ Some n → n ≤ length v → (r : Answer) (ms to : List ℕ) → told r ms to ≡ handing_at k v s (places_at (table_of w fs cs b) (length v) 65 t (take n v) n) → told r ms to ≡ handing_at k v s (object_places (table_of w fs cs b) t v)
+    pub object-whole : (n : ℕ) → z ≡ Some n → n ≤ length v → (r : Answer) (ms to : List ℕ) → told r ms to ≡ handing_at k v s (places_at (lent T) (length v) 65 t (take n v) n) → told r ms to ≡ handing_at k v s (object_places (lent T) t v)
     unfolding object_places
-    object-whole n h l r ms to er = rw (← ex, not-false x o, ← ez, h, le-leb n (length v) l) er
+    object-whole n h l r ms to er = rw (← ex, o, ← ez, h, le-leb n (length v) l) er
 
 pub object-words : (T : Table) (t : ℕ) (v : List ℕ) (sink : Sink) (R : ℕ → Result ℕ) (on other ow : List ℕ) (s : Raw) (r : Answer) (ms to : List ℕ) → told r ms to ≡ handing_at (aim (Words sink) R on other ow) v s (object_places T t v) → told r ms to ≡ emitting (into sink R) s (object_handles T t v)
 unfolding object_handles

@@ -10,8 +10,7 @@ use Rattle.word.specs.Result.{Result, ok, refused}
 use Rattle.ty.specs.Types.{Table}
 use Rattle.layout.proofs.LayLaws.{rest}
 use Rattle.trace.specs.Places.{places_at, object_places, rising, handles_places, kind_places, handle_at, words_at, value_handles, object_handles, handles_of}
-use Rattle.trace.specs.Emit.{Raw, Into, emitted, emit_all, emitting, handing_at, told}
-use Rattle.trace.specs.declared.Answer.{Answer}
+use Rattle.trace.specs.Emit.{Answer, Raw, Into, emitted, emit_all, emitting, handing_at, told}
 use Rattle.trace.proofs.Objects.{rest-none, rest-next}
 
 -- ---- a Handles object: the places from `at` on are still to come

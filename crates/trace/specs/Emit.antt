@@ -1,6 +1,6 @@
 -- Where traced handles go: counted, written to a list, marked and queued by a collection, or compared with those of an object beside. Named by inner contracts: Places.antt says which
 -- handles there are.
-use Rattle.std.specs.Prelude.{ℕ, ◌+◌, ◌-◌, ◌%◌, ◌^◌, min, ◌≡◌, List, [], ◌∷◌, length, get_or, set, ltb, eqb, if◌then◌else◌}
+use Rattle.std.specs.Prelude.{ℕ, ◌+◌, ◌-◌, ◌%◌, ◌^◌, min, ◌≡◌, List, [], ◌∷◌, length, get_or, set, ltb, eqb, Option as Maybe, Some, None, if◌then◌else◌}
 use Rattle.std.proofs.Math.Option.{Option, none, some}
 use Rattle.word.specs.Result.{Result, ok, refused}
 use Rattle.beside.specs.Inner.Ranks.{place_in}
@@ -10,8 +10,6 @@ use Rattle.trace.specs.declared.Sink.{Sink}
 use Rattle.trace.specs.declared.Sink.TheVariants.{Check, List as ToList, Work}
 use Rattle.trace.specs.declared.Goal.{Goal}
 use Rattle.trace.specs.declared.Goal.TheVariants.{Words, Beside}
-use Rattle.trace.specs.declared.Answer.{Answer}
-use Rattle.trace.specs.declared.Answer.TheVariants.{Traced, Untraceable}
 unfoldable pub use Rattle.beside.specs.Inner.Ranks.{resolve_in}
 pub use Rattle.beside.specs.Inner.Ranks.{Runs}
 
@@ -108,7 +106,11 @@ handing_at k v s (some ps) = ok (handed_all k v s ps)
 abbrev pub emitting_at : Into → List ℕ → Raw → Places → Result Raw
 emitting_at k v s o = emitting k s (words_at v o)
 
+-- how many words are in use after a trace, none where the value cannot be traced
+abbrev pub Answer : Type 0
+Answer = Maybe ℕ
+
 -- what the answer of a trace says, with the marks and the words after it
 abbrev pub told : Answer → List ℕ → List ℕ → Result Raw
-told (Traced n) marks words = ok (raw_of marks words n)
-told Untraceable marks words = refused 13
+told (Some n) marks words = ok (raw_of marks words n)
+told None marks words = refused 13

@@ -3,9 +3,9 @@
 // What belongs to the heap beside has a name that begins with o, for the other; where there is none, any slices stand in its place.
 #![tactic(auto)]
 
-ghost use Rattle.std.specs.Prelude.{◌≡◌, [], ◌∷◌, map, ℕ, ◌+◌, ◌-◌, ◌*◌, ◌/◌, ◌≤◌, ◌<◌, length, drop, leb};
+ghost use Rattle.std.specs.Prelude.{◌≡◌, [], ◌∷◌, map, ℕ, Some, ◌+◌, ◌-◌, ◌*◌, ◌/◌, ◌≤◌, ◌<◌, length, drop, leb};
 ghost use Rattle.std.proofs.Math.Option.{some};
-ghost use Rattle.ty.specs.View.{table_of, types_of};
+ghost use Rattle.ty.specs.View.{lent};
 ghost use Rattle.ty.specs.Walks.{has_handles};
 ghost use Rattle.layout.specs.Lent.{part_laid};
 ghost use Rattle.trace.specs.Places.{handle_at, only_if, turns, object_places, handles_places, kind_places, shown_places, value_handles, object_handles, handles_of};
@@ -15,9 +15,8 @@ ghost use Rattle.trace.specs.Listing.{listing, Lists};
 
 use beside::Met;
 use handle::{Resolved, Slots};
-use layout::Lay;
 use refusal::{Refusal, Reply};
-use ty::{Entry, Part, Word};
+use ty::{Entry, Table, NO_CONST};
 
 // Where handles go: they are counted, up to one more than a limit; written to the list `to`; or resolved, and what they lead to is marked in `marks` and queued
 // in `to`, each object once.
@@ -36,23 +35,13 @@ pub enum Goal {
     Beside { tag: u8, slots: usize, s: usize },
 }
 
-// How many words are in use after a trace, or that the value cannot be traced.
-#[derive(Clone, Copy)]
-pub enum Answer {
-    Traced(usize),
-    Untraceable,
-}
-
 // Where a field of a record lies and ends, its alignment, and what it used of the descriptor.
 #[derive(Clone, Copy)]
-pub enum Placed {
-    At {
-        offset: u64,
-        end: u64,
-        align: u64,
-        used: usize,
-    },
-    Unplaced,
+pub struct Placed {
+    pub offset: u64,
+    pub end: u64,
+    pub align: u64,
+    pub used: usize,
 }
 
 // What a field is to a tracer: a handle itself, a scalar free of handles, or something to look into.
@@ -61,13 +50,6 @@ pub enum Leaf {
     Own,
     Free,
     Deep,
-}
-
-// The fields of elements that are records to look into: the first, and how many.
-#[derive(Clone, Copy)]
-pub enum Fields {
-    Of(usize, usize),
-    Not,
 }
 
 // An object is met: unless it is marked, it is marked and queued. The upper half of each word is left as it is, for what a call notes of a slot.
@@ -202,7 +184,7 @@ fn trace_word(
     onarrow: &[u32],
     other: &[u8],
     owork: &[u64],
-) -> Answer
+) -> Option<usize>
     requires { (at ≤ length «data».now) × Ready slots s narrow.now goal «data».now onarrow.now other.now }
     ensures { told result marks.new to.new ≡
         handing_at (aim goal (resolve_in tag slots s narrow.now) onarrow.now other.now owork.now)
@@ -210,9 +192,9 @@ fn trace_word(
         (only_if (leb (at + 8) (length «data».now)) (some (at ∷ []))) }
 {
     if data.len() - at < 8 {
-        return Answer::Untraceable;
+        return None;
     }
-    Answer::Traced(hand(
+    Some(hand(
         tag, slots, s, narrow, data, at, goal, marks, to, n, onarrow, other, owork,
     ))
 }
@@ -220,10 +202,7 @@ fn trace_word(
 // The handles of a value of type t under a descriptor, from byte `at` of the data on. The caller has asked whether the type holds handles.
 #[cycle(trace_array_trace_each_trace_elems_trace_field_trace_in_trace_parts_trace_record_trace_records)]
 fn trace_in(
-    types: &[u64],
-    fields: &[u32],
-    consts: &[u64],
-    bytes: &[u8],
+    table: &Table,
     tag: u8,
     slots: usize,
     s: usize,
@@ -241,31 +220,27 @@ fn trace_in(
     onarrow: &[u32],
     other: &[u8],
     owork: &[u64],
-) -> Answer
-    requires { (holds ≡ has_handles (types_of types.now fields.now) t) × (at ≤ length «data».now) × Ready slots s narrow.now goal «data».now onarrow.now other.now }
+) -> Option<usize>
+    requires { (holds ≡ has_handles (lent table.now).types t) × (at ≤ length «data».now) × Ready slots s narrow.now goal «data».now onarrow.now other.now }
     ensures { told result marks.new to.new ≡
         handing_at (aim goal (resolve_in tag slots s narrow.now) onarrow.now other.now owork.now)
         «data».now (raw_of marks.old to.old n)
-        (type_places types.now fields.now consts.now bytes.now (length «data».now) t desc.now left at) }
+        (type_places table.now (length «data».now) t desc.now left at) }
 {
     if left == 0 {
-        return Answer::Untraceable;
+        return None;
     }
     if !holds {
-        return Answer::Traced(n);
+        return Some(n);
     }
-    let e = ty::ty_at(types, fields, t);
+    let e = table.ty_at(t)?;
     match e {
-        Entry::Missing => Answer::Untraceable,
         Entry::Array {
             elem,
             desc: c,
             dims,
         } => trace_array(
-            types,
-            fields,
-            consts,
-            bytes,
+            table,
             tag,
             slots,
             s,
@@ -287,10 +262,7 @@ fn trace_in(
             owork,
         ),
         Entry::Record { first, count } => trace_records(
-            types,
-            fields,
-            consts,
-            bytes,
+            table,
             tag,
             slots,
             s,
@@ -311,13 +283,10 @@ fn trace_in(
             other,
             owork,
         ),
-        Entry::Access => trace_word(
+        Entry::Access | Entry::Protected => trace_word(
             tag, slots, s, narrow, data, at, goal, marks, to, n, onarrow, other, owork,
         ),
-        Entry::Protected => trace_word(
-            tag, slots, s, narrow, data, at, goal, marks, to, n, onarrow, other, owork,
-        ),
-        _ => Answer::Traced(n),
+        _ => Some(n),
     }
 }
 
@@ -325,22 +294,13 @@ fn trace_in(
 fn turns_of(stride: u64, count: u64) -> u64
     ensures { result ≡ turns stride count }
 {
-    if stride == 0 {
-        if count == 0 {
-            return 0;
-        }
-        return 1;
-    }
-    count
+    if stride == 0 { count.min(1) } else { count }
 }
 
 // An array by its layout. Whether its elements hold handles is asked once.
 #[cycle(trace_array_trace_each_trace_elems_trace_field_trace_in_trace_parts_trace_record_trace_records)]
 fn trace_array(
-    types: &[u64],
-    fields: &[u32],
-    consts: &[u64],
-    bytes: &[u8],
+    table: &Table,
     tag: u8,
     slots: usize,
     s: usize,
@@ -360,32 +320,21 @@ fn trace_array(
     onarrow: &[u32],
     other: &[u8],
     owork: &[u64],
-) -> Answer
+) -> Option<usize>
     requires { Ready slots s narrow.now goal «data».now onarrow.now other.now }
     ensures { told result marks.new to.new ≡
         handing_at (aim goal (resolve_in tag slots s narrow.now) onarrow.now other.now owork.now)
         «data».now (raw_of marks.old to.old n)
-        (array_places types.now fields.now consts.now bytes.now (length «data».now) t elem c dims desc.now left at) }
+        (array_places table.now (length «data».now) t elem c dims desc.now left at) }
 {
-    let l = layout::layout_array(types, fields, consts, bytes, t, elem, c, dims, desc, 64);
-    let Lay::Laid {
-        size: _,
-        align: _,
-        stride,
-        count,
-        used: _,
-    } = l
-    else {
-        return Answer::Untraceable;
+    let Ok(l) = layout::layout_array(table, t, elem, c, dims, desc, 64) else {
+        return None;
     };
     let skip = 24 * (dims as usize);
-    let k = turns_of(stride, count);
-    let holds = ty::has_handles(types, fields, elem);
+    let k = turns_of(l.stride, l.count);
+    let holds = table.has_handles(elem);
     trace_parts(
-        types,
-        fields,
-        consts,
-        bytes,
+        table,
         tag,
         slots,
         s,
@@ -397,7 +346,7 @@ fn trace_array(
         holds,
         data,
         at,
-        stride,
+        l.stride,
         k,
         goal,
         marks,
@@ -421,31 +370,21 @@ fn step(data: &[u8], o: usize, stride: u64) -> usize
     data.len() + 1
 }
 
-// The fields of a record that is looked into: its type holds handles, and a level is left for it.
-fn fields_at(types: &[u64], fields: &[u32], t: u64, left: u64, holds: bool) -> Fields
-    ensures { (i n : ℕ) → result ≡ Fields.Of i n → Looked types.now fields.now t left holds i n }
+// The fields of a record that is looked into, the first and how many: its type holds handles, and a level is left for it.
+fn fields_at(table: &Table, t: u64, left: u64, holds: bool) -> Option<(usize, usize)>
+    ensures { (i n : ℕ) → result ≡ Some (i, n) → Looked table.now t left holds i n }
 {
-    if left == 0 {
-        return Fields::Not;
+    if left == 0 || !holds {
+        return None;
     }
-    if !holds {
-        return Fields::Not;
-    }
-    let e = ty::ty_at(types, fields, t);
-    let Entry::Record { first, count } = e else {
-        return Fields::Not;
-    };
-    Fields::Of(first, count)
+    table.fields_at(t)
 }
 
 // The handles in count elements of one type under one descriptor, the first at byte `at`. Each turn passes a stride's bytes of the data, so that a walk ends within
 // its length whatever the count.
 #[cycle(trace_array_trace_each_trace_elems_trace_field_trace_in_trace_parts_trace_record_trace_records)]
 fn trace_each(
-    types: &[u64],
-    fields: &[u32],
-    consts: &[u64],
-    bytes: &[u8],
+    table: &Table,
     tag: u8,
     slots: usize,
     s: usize,
@@ -465,41 +404,34 @@ fn trace_each(
     onarrow: &[u32],
     other: &[u8],
     owork: &[u64],
-) -> Answer
-    requires { (holds ≡ has_handles (types_of types.now fields.now) t) × Ready slots s narrow.now goal «data».now onarrow.now other.now }
+) -> Option<usize>
+    requires { (holds ≡ has_handles (lent table.now).types t) × Ready slots s narrow.now goal «data».now onarrow.now other.now }
     ensures { told result marks.new to.new ≡
         handing_at (aim goal (resolve_in tag slots s narrow.now) onarrow.now other.now owork.now)
         «data».now (raw_of marks.old to.old n)
-        (elem_places types.now fields.now consts.now bytes.now (length «data».now) t desc.now left stride count at) }
+        (elem_places table.now (length «data».now) t desc.now left stride count at) }
 {
     let mut k = count;
     let mut p = at;
     let mut m = n;
     while 0 < k {
         if data.len() < p {
-            return Answer::Untraceable;
+            return None;
         }
-        let r = trace_in(
-            types, fields, consts, bytes, tag, slots, s, narrow, t, desc, left, holds, data, p,
+        m = trace_in(
+            table, tag, slots, s, narrow, t, desc, left, holds, data, p,
             goal, marks, to, m, onarrow, other, owork,
-        );
-        let Answer::Traced(q) = r else {
-            return Answer::Untraceable;
-        };
-        m = q;
+        )?;
         p = step(data, p, stride);
         k -= 1;
     }
-    Answer::Traced(m)
+    Some(m)
 }
 
 // The same, and records without asking again for each what they are.
 #[cycle(trace_array_trace_each_trace_elems_trace_field_trace_in_trace_parts_trace_record_trace_records)]
 fn trace_elems(
-    types: &[u64],
-    fields: &[u32],
-    consts: &[u64],
-    bytes: &[u8],
+    table: &Table,
     tag: u8,
     slots: usize,
     s: usize,
@@ -519,25 +451,21 @@ fn trace_elems(
     onarrow: &[u32],
     other: &[u8],
     owork: &[u64],
-) -> Answer
-    requires { (holds ≡ has_handles (types_of types.now fields.now) t) × Ready slots s narrow.now goal «data».now onarrow.now other.now }
+) -> Option<usize>
+    requires { (holds ≡ has_handles (lent table.now).types t) × Ready slots s narrow.now goal «data».now onarrow.now other.now }
     ensures { told result marks.new to.new ≡
         handing_at (aim goal (resolve_in tag slots s narrow.now) onarrow.now other.now owork.now)
         «data».now (raw_of marks.old to.old n)
-        (elem_places types.now fields.now consts.now bytes.now (length «data».now) t desc.now left stride count at) }
+        (elem_places table.now (length «data».now) t desc.now left stride count at) }
 {
-    let f = fields_at(types, fields, t, left, holds);
-    let Fields::Of(first, len) = f else {
+    let Some((first, len)) = fields_at(table, t, left, holds) else {
         return trace_each(
-            types, fields, consts, bytes, tag, slots, s, narrow, t, desc, left, holds, data, at,
+            table, tag, slots, s, narrow, t, desc, left, holds, data, at,
             stride, count, goal, marks, to, n, onarrow, other, owork,
         );
     };
     trace_records(
-        types,
-        fields,
-        consts,
-        bytes,
+        table,
         tag,
         slots,
         s,
@@ -563,10 +491,7 @@ fn trace_elems(
 // Elements, or a field as one of them: under the rest of the descriptor, or under their own constant, which is looked up once for all of them.
 #[cycle(trace_array_trace_each_trace_elems_trace_field_trace_in_trace_parts_trace_record_trace_records)]
 fn trace_parts(
-    types: &[u64],
-    fields: &[u32],
-    consts: &[u64],
-    bytes: &[u8],
+    table: &Table,
     tag: u8,
     slots: usize,
     s: usize,
@@ -587,37 +512,31 @@ fn trace_parts(
     onarrow: &[u32],
     other: &[u8],
     owork: &[u64],
-) -> Answer
-    requires { (holds ≡ has_handles (types_of types.now fields.now) t) × Ready slots s narrow.now goal «data».now onarrow.now other.now }
+) -> Option<usize>
+    requires { (holds ≡ has_handles (lent table.now).types t) × Ready slots s narrow.now goal «data».now onarrow.now other.now }
     ensures { told result marks.new to.new ≡
         handing_at (aim goal (resolve_in tag slots s narrow.now) onarrow.now other.now owork.now)
         «data».now (raw_of marks.old to.old n)
-        (parts_places types.now fields.now consts.now bytes.now (length «data».now) t c desc.now left stride count at) }
+        (parts_places table.now (length «data».now) t c desc.now left stride count at) }
 {
-    if c == 4294967295 {
+    if c == NO_CONST {
         return trace_elems(
-            types, fields, consts, bytes, tag, slots, s, narrow, t, desc, left, holds, data, at,
+            table, tag, slots, s, narrow, t, desc, left, holds, data, at,
             stride, count, goal, marks, to, n, onarrow, other, owork,
         );
     }
     if count == 0 {
-        return Answer::Traced(n);
+        return Some(n);
     }
-    let p = ty::part_at(consts, bytes.len(), c);
-    let Part::Of(a, e) = p else {
-        return Answer::Untraceable;
-    };
+    let (a, e) = table.part_at(c)?;
     trace_elems(
-        types,
-        fields,
-        consts,
-        bytes,
+        table,
         tag,
         slots,
         s,
         narrow,
         t,
-        &bytes[a..e],
+        &table.bytes[a..e],
         left,
         holds,
         data,
@@ -635,76 +554,53 @@ fn trace_parts(
 }
 
 // Where a field of a size and an alignment lies that comes after off.
-fn place_after(off: u64, size: u64, align: u64, used: usize) -> Placed
+fn place_after(off: u64, size: u64, align: u64, used: usize) -> Option<Placed>
     ensures { result ≡ placed_after off size align used }
 {
-    let w = ty::align_up(off, align);
-    let Word::Is(offset) = w else {
-        return Placed::Unplaced;
-    };
-    let p = ty::sum(offset, size);
-    let Word::Is(end) = p else {
-        return Placed::Unplaced;
-    };
-    Placed::At {
+    let offset = ty::align_up(off, align)?;
+    let end = ty::sum(offset, size)?;
+    Some(Placed {
         offset,
         end,
         align,
         used,
-    }
+    })
 }
 
 // Where a field lies that comes after off. A scalar needs no part of the descriptor, so that none is made for it.
 fn place_field(
-    types: &[u64],
-    fields: &[u32],
-    consts: &[u64],
-    bytes: &[u8],
+    table: &Table,
     t: u64,
     c: u64,
     desc: &[u8],
     used: usize,
     off: u64,
-) -> Placed
+) -> Option<Placed>
     requires { used ≤ length desc.now }
-    ensures { result ≡ field_at (part_laid types.now fields.now consts.now bytes.now t c (drop used desc.now) 64) off }
+    ensures { result ≡ field_at (part_laid table.now t c (drop used desc.now) 64) off }
 {
-    let n = layout::scalar_bytes(types, fields, t, c);
-    if n != 0 {
+    if let Some(n) = layout::scalar_bytes(table, t, c) {
         return place_after(off, n, n, 0);
     }
-    let l = layout::layout_below(types, fields, consts, bytes, t, c, &desc[used..], 64);
-    let Lay::Laid {
-        size,
-        align,
-        stride: _,
-        count: _,
-        used: u,
-    } = l
-    else {
-        return Placed::Unplaced;
+    let Ok(l) = layout::layout_below(table, t, c, &desc[used..], 64) else {
+        return None;
     };
-    place_after(off, size, align, u)
+    place_after(off, l.size, l.align, l.used)
 }
 
 // What a field of type t with the constant c is to a tracer.
-fn leaf_at(types: &[u64], fields: &[u32], t: u64, c: u64) -> Leaf
-    ensures { result ≡ part_leaf types.now fields.now t c }
+fn leaf_at(table: &Table, t: u64, c: u64) -> Leaf
+    ensures { result ≡ part_leaf table.now t c }
 {
-    if c != 4294967295 {
+    if c != NO_CONST {
         return Leaf::Deep;
     }
-    let e = ty::ty_at(types, fields, t);
+    let Some(e) = table.ty_at(t) else {
+        return Leaf::Deep;
+    };
     match e {
-        Entry::Missing => Leaf::Deep,
-        Entry::Array {
-            elem: _,
-            desc: _,
-            dims: _,
-        } => Leaf::Deep,
-        Entry::Record { first: _, count: _ } => Leaf::Deep,
-        Entry::Access => Leaf::Own,
-        Entry::Protected => Leaf::Own,
+        Entry::Array { .. } | Entry::Record { .. } => Leaf::Deep,
+        Entry::Access | Entry::Protected => Leaf::Own,
         _ => Leaf::Free,
     }
 }
@@ -712,10 +608,7 @@ fn leaf_at(types: &[u64], fields: &[u32], t: u64, c: u64) -> Leaf
 // A field: a handle or a scalar without looking further, anything else as one element would be.
 #[cycle(trace_array_trace_each_trace_elems_trace_field_trace_in_trace_parts_trace_record_trace_records)]
 fn trace_field(
-    types: &[u64],
-    fields: &[u32],
-    consts: &[u64],
-    bytes: &[u8],
+    table: &Table,
     tag: u8,
     slots: usize,
     s: usize,
@@ -734,29 +627,26 @@ fn trace_field(
     onarrow: &[u32],
     other: &[u8],
     owork: &[u64],
-) -> Answer
+) -> Option<usize>
     requires { (used ≤ length desc.now) × (at ≤ length «data».now) × Ready slots s narrow.now goal «data».now onarrow.now other.now }
     ensures { told result marks.new to.new ≡
         handing_at (aim goal (resolve_in tag slots s narrow.now) onarrow.now other.now owork.now)
         «data».now (raw_of marks.old to.old n)
-        (below_places types.now fields.now consts.now bytes.now (length «data».now) t c (drop used desc.now) left at) }
+        (below_places table.now (length «data».now) t c (drop used desc.now) left at) }
 {
     if left == 0 {
-        return Answer::Untraceable;
+        return None;
     }
-    let l = leaf_at(types, fields, t, c);
+    let l = leaf_at(table, t, c);
     match l {
-        Leaf::Free => Answer::Traced(n),
+        Leaf::Free => Some(n),
         Leaf::Own => trace_word(
             tag, slots, s, narrow, data, at, goal, marks, to, n, onarrow, other, owork,
         ),
         Leaf::Deep => {
-            let holds = ty::has_handles(types, fields, t);
+            let holds = table.has_handles(t);
             trace_parts(
-                types,
-                fields,
-                consts,
-                bytes,
+                table,
                 tag,
                 slots,
                 s,
@@ -785,10 +675,7 @@ fn trace_field(
 // A record, field by field, as its layout is found.
 #[cycle(trace_array_trace_each_trace_elems_trace_field_trace_in_trace_parts_trace_record_trace_records)]
 fn trace_record(
-    types: &[u64],
-    fields: &[u32],
-    consts: &[u64],
-    bytes: &[u8],
+    table: &Table,
     tag: u8,
     slots: usize,
     s: usize,
@@ -806,41 +693,28 @@ fn trace_record(
     onarrow: &[u32],
     other: &[u8],
     owork: &[u64],
-) -> Answer
-    requires { (first + count ≤ length fields.now / 2) × (at ≤ length «data».now) × Ready slots s narrow.now goal «data».now onarrow.now other.now }
+) -> Option<usize>
+    requires { (first + count ≤ length table.now.fields.now / 2) × (at ≤ length «data».now) × Ready slots s narrow.now goal «data».now onarrow.now other.now }
     ensures { told result marks.new to.new ≡
         handing_at (aim goal (resolve_in tag slots s narrow.now) onarrow.now other.now owork.now)
         «data».now (raw_of marks.old to.old n)
-        (record_places types.now fields.now consts.now bytes.now (length «data».now) first count desc.now left at) }
+        (record_places table.now (length «data».now) first count desc.now left at) }
 {
     let mut off: u64 = 0;
     let mut align: u64 = 1;
     let mut used: usize = 0;
-    let mut i: usize = 0;
     let mut m = n;
-    while i < count {
+    for i in 0..count {
         let k = 2 * (first + i);
-        let t = fields[k] as u64;
-        let c = fields[k + 1] as u64;
-        let fl = place_field(types, fields, consts, bytes, t, c, desc, used, off);
-        let Placed::At {
-            offset,
-            end,
-            align: a,
-            used: u,
-        } = fl
-        else {
-            return Answer::Untraceable;
-        };
-        let o = offset as usize;
+        let t = table.fields[k] as u64;
+        let c = table.fields[k + 1] as u64;
+        let l = place_field(table, t, c, desc, used, off)?;
+        let o = l.offset as usize;
         if data.len() - at < o {
-            return Answer::Untraceable;
+            return None;
         }
-        let r = trace_field(
-            types,
-            fields,
-            consts,
-            bytes,
+        m = trace_field(
+            table,
             tag,
             slots,
             s,
@@ -859,37 +733,21 @@ fn trace_record(
             onarrow,
             other,
             owork,
-        );
-        let Answer::Traced(q) = r else {
-            return Answer::Untraceable;
-        };
-        m = q;
-        off = end;
-        align = layout::larger(align, a);
-        used += layout::used_by(c, u);
-        i += 1;
+        )?;
+        off = l.end;
+        align = align.max(l.align);
+        used += layout::used_by(c, l.used);
     }
-    let z = layout::record_end(off, align, used);
-    let Lay::Laid {
-        size: _,
-        align: _,
-        stride: _,
-        count: _,
-        used: _,
-    } = z
-    else {
-        return Answer::Untraceable;
-    };
-    Answer::Traced(m)
+    if layout::record_end(off, align, used).is_err() {
+        return None;
+    }
+    Some(m)
 }
 
 // The handles in count records of one type, as trace_each finds those in elements. A type is looked up once for all of them, where trace_in would look it up for each.
 #[cycle(trace_array_trace_each_trace_elems_trace_field_trace_in_trace_parts_trace_record_trace_records)]
 fn trace_records(
-    types: &[u64],
-    fields: &[u32],
-    consts: &[u64],
-    bytes: &[u8],
+    table: &Table,
     tag: u8,
     slots: usize,
     s: usize,
@@ -909,40 +767,33 @@ fn trace_records(
     onarrow: &[u32],
     other: &[u8],
     owork: &[u64],
-) -> Answer
-    requires { (first + len ≤ length fields.now / 2) × Ready slots s narrow.now goal «data».now onarrow.now other.now }
+) -> Option<usize>
+    requires { (first + len ≤ length table.now.fields.now / 2) × Ready slots s narrow.now goal «data».now onarrow.now other.now }
     ensures { told result marks.new to.new ≡
         handing_at (aim goal (resolve_in tag slots s narrow.now) onarrow.now other.now owork.now)
         «data».now (raw_of marks.old to.old n)
-        (records_places types.now fields.now consts.now bytes.now (length «data».now) first len desc.now left stride count at) }
+        (records_places table.now (length «data».now) first len desc.now left stride count at) }
 {
     let mut k = count;
     let mut o = at;
     let mut m = n;
     while 0 < k {
         if data.len() < o {
-            return Answer::Untraceable;
+            return None;
         }
-        let r = trace_record(
-            types, fields, consts, bytes, tag, slots, s, narrow, first, len, desc, left, data, o,
+        m = trace_record(
+            table, tag, slots, s, narrow, first, len, desc, left, data, o,
             goal, marks, to, m, onarrow, other, owork,
-        );
-        let Answer::Traced(q) = r else {
-            return Answer::Untraceable;
-        };
-        m = q;
+        )?;
         o = step(data, o, stride);
         k -= 1;
     }
-    Answer::Traced(m)
+    Some(m)
 }
 
 // The handles of a value of a type that needs no descriptor.
 pub fn trace_value(
-    types: &[u64],
-    fields: &[u32],
-    consts: &[u64],
-    bytes: &[u8],
+    table: &Table,
     tag: u8,
     slots: usize,
     s: usize,
@@ -953,18 +804,15 @@ pub fn trace_value(
     marks: &mut [u8],
     to: &mut [u64],
     n: usize,
-) -> Answer
+) -> Option<usize>
     requires { Runs slots s narrow.now }
     ensures { told result marks.new to.new ≡
         emitting (into sink (resolve_in tag slots s narrow.now)) (raw_of marks.old to.old n)
-        (value_handles (table_of types.now fields.now consts.now bytes.now) t «data».now) }
+        (value_handles (lent table.now) t «data».now) }
 {
-    let holds = ty::has_handles(types, fields, t);
+    let holds = table.has_handles(t);
     trace_in(
-        types,
-        fields,
-        consts,
-        bytes,
+        table,
         tag,
         slots,
         s,
@@ -981,16 +829,13 @@ pub fn trace_value(
         n,
         narrow,
         data,
-        types,
+        table.types,
     )
 }
 
 // The handles of an object's visible data: its descriptor, then its value.
 fn trace_whole(
-    types: &[u64],
-    fields: &[u32],
-    consts: &[u64],
-    bytes: &[u8],
+    table: &Table,
     tag: u8,
     slots: usize,
     s: usize,
@@ -1004,30 +849,23 @@ fn trace_whole(
     onarrow: &[u32],
     other: &[u8],
     owork: &[u64],
-) -> Answer
+) -> Option<usize>
     requires { Ready slots s narrow.now goal «data».now onarrow.now other.now }
     ensures { told result marks.new to.new ≡
         handing_at (aim goal (resolve_in tag slots s narrow.now) onarrow.now other.now owork.now)
         «data».now (raw_of marks.old to.old n)
-        (object_places (table_of types.now fields.now consts.now bytes.now) t «data».now) }
+        (object_places (lent table.now) t «data».now) }
 {
-    let holds = ty::has_handles(types, fields, t);
+    let holds = table.has_handles(t);
     if !holds {
-        return Answer::Traced(n);
+        return Some(n);
     }
-    let w = ty::desc_size(types, fields, t);
-    let Word::Is(size) = w else {
-        return Answer::Untraceable;
-    };
-    let k = size as usize;
+    let k = table.desc_size(t)? as usize;
     if data.len() < k {
-        return Answer::Untraceable;
+        return None;
     }
     trace_in(
-        types,
-        fields,
-        consts,
-        bytes,
+        table,
         tag,
         slots,
         s,
@@ -1050,10 +888,7 @@ fn trace_whole(
 
 // The same for a sink.
 pub fn trace_object(
-    types: &[u64],
-    fields: &[u32],
-    consts: &[u64],
-    bytes: &[u8],
+    table: &Table,
     tag: u8,
     slots: usize,
     s: usize,
@@ -1064,17 +899,14 @@ pub fn trace_object(
     marks: &mut [u8],
     to: &mut [u64],
     n: usize,
-) -> Answer
+) -> Option<usize>
     requires { Runs slots s narrow.now }
     ensures { told result marks.new to.new ≡
         emitting (into sink (resolve_in tag slots s narrow.now)) (raw_of marks.old to.old n)
-        (object_handles (table_of types.now fields.now consts.now bytes.now) t «data».now) }
+        (object_handles (lent table.now) t «data».now) }
 {
     trace_whole(
-        types,
-        fields,
-        consts,
-        bytes,
+        table,
         tag,
         slots,
         s,
@@ -1087,7 +919,7 @@ pub fn trace_object(
         n,
         narrow,
         data,
-        types,
+        table.types,
     )
 }
 
@@ -1129,10 +961,7 @@ fn hand_handles(
 
 // The handles of visible data by the kind of its slot.
 fn trace_visible(
-    types: &[u64],
-    fields: &[u32],
-    consts: &[u64],
-    bytes: &[u8],
+    table: &Table,
     tag: u8,
     slots: usize,
     s: usize,
@@ -1147,16 +976,16 @@ fn trace_visible(
     onarrow: &[u32],
     other: &[u8],
     owork: &[u64],
-) -> Answer
+) -> Option<usize>
     requires { Ready slots s narrow.now goal «data».now onarrow.now other.now }
     ensures { told result marks.new to.new ≡
         handing_at (aim goal (resolve_in tag slots s narrow.now) onarrow.now other.now owork.now)
         «data».now (raw_of marks.old to.old n)
-        (kind_places (table_of types.now fields.now consts.now bytes.now) of t «data».now) }
+        (kind_places (lent table.now) of t «data».now) }
 {
     if of == 1 {
         return trace_whole(
-            types, fields, consts, bytes, tag, slots, s, narrow, t, data, goal, marks, to, n,
+            table, tag, slots, s, narrow, t, data, goal, marks, to, n,
             onarrow, other, owork,
         );
     }
@@ -1164,17 +993,14 @@ fn trace_visible(
         let m = hand_handles(
             tag, slots, s, narrow, data, goal, marks, to, n, onarrow, other, owork,
         );
-        return Answer::Traced(m);
+        return Some(m);
     }
-    Answer::Traced(n)
+    Some(n)
 }
 
 // The handles that a slot of a heap shows: bytes before start are never traced. Places are counted from start, in the data beside too.
 fn trace_shown(
-    types: &[u64],
-    fields: &[u32],
-    consts: &[u64],
-    bytes: &[u8],
+    table: &Table,
     tag: u8,
     slots: usize,
     s: usize,
@@ -1190,21 +1016,18 @@ fn trace_shown(
     onarrow: &[u32],
     other: &[u8],
     owork: &[u64],
-) -> Answer
+) -> Option<usize>
     requires { Ready slots s narrow.now goal «data».now onarrow.now other.now }
     ensures { told result marks.new to.new ≡
         handing_at (aim goal (resolve_in tag slots s narrow.now) onarrow.now (drop start other.now) owork.now)
         (drop start «data».now) (raw_of marks.old to.old n)
-        (shown_places (table_of types.now fields.now consts.now bytes.now) of t start «data».now) }
+        (shown_places (lent table.now) of t start «data».now) }
 {
     if data.len() < start {
-        return Answer::Traced(n);
+        return Some(n);
     }
     trace_visible(
-        types,
-        fields,
-        consts,
-        bytes,
+        table,
         tag,
         slots,
         s,
@@ -1256,10 +1079,7 @@ pub fn trace_handles(
 
 // The handles that a Typed slot shows. It stands apart so that other slots, which need no types, are traced without a call.
 fn trace_typed(
-    types: &[u64],
-    fields: &[u32],
-    consts: &[u64],
-    bytes: &[u8],
+    table: &Table,
     tag: u8,
     slots: usize,
     s: usize,
@@ -1271,17 +1091,14 @@ fn trace_typed(
     marks: &mut [u8],
     to: &mut [u64],
     n: usize,
-) -> Answer
+) -> Option<usize>
     requires { (start ≤ length «data».now) × Runs slots s narrow.now }
     ensures { told result marks.new to.new ≡
         emitting (into sink (resolve_in tag slots s narrow.now)) (raw_of marks.old to.old n)
-        (handles_of (table_of types.now fields.now consts.now bytes.now) 1 t start «data».now) }
+        (handles_of (lent table.now) 1 t start «data».now) }
 {
     trace_object(
-        types,
-        fields,
-        consts,
-        bytes,
+        table,
         tag,
         slots,
         s,
@@ -1297,10 +1114,7 @@ fn trace_typed(
 
 // The handles that a slot of a heap shows, to a sink: bytes before start are never traced.
 pub fn trace_slot(
-    types: &[u64],
-    fields: &[u32],
-    consts: &[u64],
-    bytes: &[u8],
+    table: &Table,
     tag: u8,
     slots: usize,
     s: usize,
@@ -1313,34 +1127,31 @@ pub fn trace_slot(
     marks: &mut [u8],
     to: &mut [u64],
     n: usize,
-) -> Answer
+) -> Option<usize>
     requires { Runs slots s narrow.now }
     ensures { told result marks.new to.new ≡
         emitting (into sink (resolve_in tag slots s narrow.now)) (raw_of marks.old to.old n)
-        (handles_of (table_of types.now fields.now consts.now bytes.now) of t start «data».now) }
+        (handles_of (lent table.now) of t start «data».now) }
 {
     if data.len() < start {
-        return Answer::Traced(n);
+        return Some(n);
     }
     if of == 1 {
         return trace_typed(
-            types, fields, consts, bytes, tag, slots, s, narrow, t, start, data, sink, marks, to, n,
+            table, tag, slots, s, narrow, t, start, data, sink, marks, to, n,
         );
     }
     if of == 3 {
         let m = trace_handles(tag, slots, s, narrow, &data[start..], sink, marks, to, n);
-        return Answer::Traced(m);
+        return Some(m);
     }
-    Answer::Traced(n)
+    Some(n)
 }
 
 // A slot's object beside one of another heap, whose data is as long: what is found of the bytes outside the handle places and of the handles there, and how many bytes
 // are behind, counted from start. `work` has the turns of this heap and is left as it is.
 pub fn trace_beside(
-    types: &[u64],
-    fields: &[u32],
-    consts: &[u64],
-    bytes: &[u8],
+    table: &Table,
     tag: u8,
     slots: usize,
     s: usize,
@@ -1358,18 +1169,15 @@ pub fn trace_beside(
     found: &mut [u8],
     work: &mut [u64],
     n: usize,
-) -> Answer
+) -> Option<usize>
     requires { Runs slots s narrow.now × Runs oslots os onarrow.now × (length «data».now ≡ length other.now) }
     ensures { told result found.new work.new ≡
         handing_at (aim (Goal.Beside otag oslots os) (resolve_in tag slots s narrow.now) onarrow.now (drop start other.now) owork.now)
         (drop start «data».now) (raw_of found.old work.old n)
-        (shown_places (table_of types.now fields.now consts.now bytes.now) of t start «data».now) }
+        (shown_places (lent table.now) of t start «data».now) }
 {
     trace_shown(
-        types,
-        fields,
-        consts,
-        bytes,
+        table,
         tag,
         slots,
         s,
@@ -1394,16 +1202,13 @@ pub fn trace_beside(
 
 // The handles of a value, into the lent list. First they are only counted, so that a refusal leaves the list as it was.
 pub fn list_value(
-    types: &[u64],
-    fields: &[u32],
-    consts: &[u64],
-    bytes: &[u8],
+    table: &Table,
     t: u64,
     data: &[u8],
     out: &mut [u64],
 ) -> Reply
     ensures { Lists
-        (listing (value_handles (table_of types.now fields.now consts.now bytes.now) t «data».now) (length out.old))
+        (listing (value_handles (lent table.now) t «data».now) (length out.old))
         result out.old out.new }
 {
     let narrow = [0u32; 1];
@@ -1411,10 +1216,7 @@ pub fn list_value(
     let mut unused = [0u64; 1];
     let limit = out.len();
     let c = trace_value(
-        types,
-        fields,
-        consts,
-        bytes,
+        table,
         0,
         0,
         0,
@@ -1426,17 +1228,14 @@ pub fn list_value(
         &mut unused,
         0,
     );
-    let Answer::Traced(n) = c else {
+    let Some(n) = c else {
         return Reply::Not(Refusal::Untraceable);
     };
     if limit < n {
         return Reply::Not(Refusal::ShortList);
     }
     trace_value(
-        types,
-        fields,
-        consts,
-        bytes,
+        table,
         0,
         0,
         0,
@@ -1453,16 +1252,13 @@ pub fn list_value(
 
 // The handles of an object's visible data, into the lent list. First they are only counted, so that a refusal leaves the list as it was.
 pub fn list_object(
-    types: &[u64],
-    fields: &[u32],
-    consts: &[u64],
-    bytes: &[u8],
+    table: &Table,
     t: u64,
     data: &[u8],
     out: &mut [u64],
 ) -> Reply
     ensures { Lists
-        (listing (object_handles (table_of types.now fields.now consts.now bytes.now) t «data».now) (length out.old))
+        (listing (object_handles (lent table.now) t «data».now) (length out.old))
         result out.old out.new }
 {
     let narrow = [0u32; 1];
@@ -1470,10 +1266,7 @@ pub fn list_object(
     let mut unused = [0u64; 1];
     let limit = out.len();
     let c = trace_object(
-        types,
-        fields,
-        consts,
-        bytes,
+        table,
         0,
         0,
         0,
@@ -1485,17 +1278,14 @@ pub fn list_object(
         &mut unused,
         0,
     );
-    let Answer::Traced(n) = c else {
+    let Some(n) = c else {
         return Reply::Not(Refusal::Untraceable);
     };
     if limit < n {
         return Reply::Not(Refusal::ShortList);
     }
     trace_object(
-        types,
-        fields,
-        consts,
-        bytes,
+        table,
         0,
         0,
         0,

@@ -617,7 +617,7 @@ impl<'a> Table<'a> {
     }
 
     // Whether a type table is taken.
-    pub fn check(&self) -> bool
+    pub fn check_table(&self) -> bool
         ensures { result ≡ table_good self.now.types.now self.now.fields.now self.now.consts.now self.now.bytes.now }
     {
         if self.types.len() % 4 != 0 || 4096 < self.types.len() / 4 {

@@ -5,7 +5,7 @@ use Rattle.trace.specs.Emit.{raw_of, aim, resolve_in, handing_at}
 use Rattle.trace.specs.Walk.{elem_places}
 use mathlib.Core.Path.{◌≡◌}
 use lib.ListN.{length}
-use Rattle.ty.specs.View.{table_of, fields_from}
+use Rattle.ty.specs.View.{lent, fields_from}
 use Rattle.trace.specs.Emit.{raw_of, aim, resolve_in, handing_at}
 use Rattle.trace.specs.Walk.{walk, record_places}
 use Rattle.trace.specs.Places.{places_at}
@@ -43,25 +43,23 @@ abbrev pub decreases-trace_records : goal.decreases-trace_records
 decreases-trace_records l = 7 * l.left + 6
 
 abbrev pub invariant-trace_each-loop-k : goal.invariant-trace_each-loop-k
-invariant-trace_each-loop-k l = (handing_at (aim l.goal (resolve_in l.tag l.slots l.s l.narrow) l.onarrow l.other l.owork) l.«data» (raw_of l.marks l.to l.m) (elem_places l.types l.fields l.consts l.bytes (length l.«data») l.t l.desc l.left l.stride l.k l.p)
-    ≡ handing_at (aim l.goal (resolve_in l.tag l.slots l.s l.narrow) l.onarrow l.other l.owork) l.«data» (raw_of l.initial.marks l.initial.to l.n) (elem_places l.types l.fields l.consts l.bytes (length l.«data») l.t l.desc l.left l.stride l.count l.at))
+invariant-trace_each-loop-k l = (handing_at (aim l.goal (resolve_in l.tag l.slots l.s l.narrow) l.onarrow l.other l.owork) l.«data» (raw_of l.marks l.to l.m) (elem_places l.table (length l.«data») l.t l.desc l.left l.stride l.k l.p)
+    ≡ handing_at (aim l.goal (resolve_in l.tag l.slots l.s l.narrow) l.onarrow l.other l.owork) l.«data» (raw_of l.initial.marks l.initial.to l.n) (elem_places l.table (length l.«data») l.t l.desc l.left l.stride l.count l.at))
     × (length l.marks ≡ length l.initial.marks) × (length l.to ≡ length l.initial.to)
 
 abbrev pub decreases-trace_each-loop-k : goal.decreases-trace_each-loop-k
 decreases-trace_each-loop-k l = turns_left (length l.«data») l.stride l.k l.p
 
 abbrev pub invariant-trace_record-loop-i : goal.invariant-trace_record-loop-i
-invariant-trace_record-loop-i l = (l.i ≤ l.count) × (l.used ≤ length l.desc)
-    × (handing_at (aim l.goal (resolve_in l.tag l.slots l.s l.narrow) l.onarrow l.other l.owork) l.«data» (raw_of l.marks l.to l.m) (walk (table_of l.types l.fields l.consts l.bytes) (places_at (table_of l.types l.fields l.consts l.bytes) (length l.«data») l.left) (length l.«data») l.at (fields_from l.fields (l.first + l.i) (l.count - l.i)) l.desc l.off l.align l.used)
-    ≡ handing_at (aim l.goal (resolve_in l.tag l.slots l.s l.narrow) l.onarrow l.other l.owork) l.«data» (raw_of l.initial.marks l.initial.to l.n) (record_places l.types l.fields l.consts l.bytes (length l.«data») l.first l.count l.desc l.left l.at))
+invariant-trace_record-loop-i l = (l.used ≤ length l.desc)
+    × (handing_at (aim l.goal (resolve_in l.tag l.slots l.s l.narrow) l.onarrow l.other l.owork) l.«data» (raw_of l.marks l.to l.m) (walk (lent l.table) (places_at (lent l.table) (length l.«data») l.left) (length l.«data») l.at (fields_from l.table.fields.now (l.first + l.i) (l.count - l.i)) l.desc l.off l.align l.used)
+    ≡ handing_at (aim l.goal (resolve_in l.tag l.slots l.s l.narrow) l.onarrow l.other l.owork) l.«data» (raw_of l.initial.marks l.initial.to l.n) (record_places l.table (length l.«data») l.first l.count l.desc l.left l.at))
     × (length l.marks ≡ length l.initial.marks) × (length l.to ≡ length l.initial.to)
 
-abbrev pub decreases-trace_record-loop-i : goal.decreases-trace_record-loop-i
-decreases-trace_record-loop-i l = l.count - l.i
 
 abbrev pub invariant-trace_records-loop-k : goal.invariant-trace_records-loop-k
-invariant-trace_records-loop-k l = (handing_at (aim l.goal (resolve_in l.tag l.slots l.s l.narrow) l.onarrow l.other l.owork) l.«data» (raw_of l.marks l.to l.m) (records_places l.types l.fields l.consts l.bytes (length l.«data») l.first l.len l.desc l.left l.stride l.k l.o)
-    ≡ handing_at (aim l.goal (resolve_in l.tag l.slots l.s l.narrow) l.onarrow l.other l.owork) l.«data» (raw_of l.initial.marks l.initial.to l.n) (records_places l.types l.fields l.consts l.bytes (length l.«data») l.first l.len l.desc l.left l.stride l.count l.at))
+invariant-trace_records-loop-k l = (handing_at (aim l.goal (resolve_in l.tag l.slots l.s l.narrow) l.onarrow l.other l.owork) l.«data» (raw_of l.marks l.to l.m) (records_places l.table (length l.«data») l.first l.len l.desc l.left l.stride l.k l.o)
+    ≡ handing_at (aim l.goal (resolve_in l.tag l.slots l.s l.narrow) l.onarrow l.other l.owork) l.«data» (raw_of l.initial.marks l.initial.to l.n) (records_places l.table (length l.«data») l.first l.len l.desc l.left l.stride l.count l.at))
     × (length l.marks ≡ length l.initial.marks) × (length l.to ≡ length l.initial.to)
 
 abbrev pub decreases-trace_records-loop-k : goal.decreases-trace_records-loop-k

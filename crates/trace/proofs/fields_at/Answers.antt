@@ -1,15 +1,11 @@
 -- `trace::fields_at` meets its contract.
-use Rattle.trace.proofs.TraceLaws.{looked-not, looked-of}
+use mathlib.Core.Path.{sym, ◌∙◌}
+use Rattle.ty.proofs.Rows.{row-is}
+use Rattle.trace.proofs.TraceLaws.{looked-not}
 use Rattle.trace.proofs.fields_at.Goals as goal
 
 pub returns-then-left-eq0 : goal.returns-then-left-eq0
-returns-then-left-eq0 c = looked-not _ _ _ _ _
-
-pub returns-then-not-holds : goal.returns-then-not-holds
-returns-then-not-holds c = looked-not _ _ _ _ _
-
-pub returns-in_default : goal.returns-in_default
-returns-in_default c = looked-not _ _ _ _ _
+returns-then-left-eq0 c = looked-not _ _ _ _
 
 pub returns : goal.returns
-returns c = search looked-of
+returns c = λ i n q. record { level = c.if-left-eq0.false; handles = c.if-not-holds.false; row = row-is _ _ c.fields_at.ensures i n q }

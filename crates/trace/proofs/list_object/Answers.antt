@@ -10,4 +10,4 @@ pub returns-then-limit-n : goal.returns-then-limit-n
 returns-then-limit-n c = search list-short
 
 pub returns : goal.returns
-returns c = list_wrote _ _ _ c.trace_object-c.new.marks c.trace_object-c.new.to _ _ c.trace_object-c.result c.trace_object-c.ensures _ c.in-Traced.is (omega (arith, c.well_formed)) c.if-limit-n.false _ _ c.trace_object.result c.trace_object.new.marks c.trace_object.new.to c.trace_object.ensures
+returns c = list_wrote _ _ _ c.trace_object-c.new.marks c.trace_object-c.new.to _ _ c.trace_object-c.result c.trace_object-c.ensures _ c.in-Some.is (omega (arith, c.well_formed)) c.if-limit-n.false _ _ c.trace_object.result c.trace_object.new.marks c.trace_object.new.to c.trace_object.ensures

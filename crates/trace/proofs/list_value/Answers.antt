@@ -10,4 +10,4 @@ pub returns-then-limit-n : goal.returns-then-limit-n
 returns-then-limit-n c = search list-short
 
 pub returns : goal.returns
-returns c = list_wrote _ _ _ c.trace_value-c.new.marks c.trace_value-c.new.to _ _ c.trace_value-c.result c.trace_value-c.ensures _ c.in-Traced.is (omega (arith, c.well_formed)) c.if-limit-n.false _ _ c.trace_value.result c.trace_value.new.marks c.trace_value.new.to c.trace_value.ensures
+returns c = list_wrote _ _ _ c.trace_value-c.new.marks c.trace_value-c.new.to _ _ c.trace_value-c.result c.trace_value-c.ensures _ c.in-Some.is (omega (arith, c.well_formed)) c.if-limit-n.false _ _ c.trace_value.result c.trace_value.new.marks c.trace_value.new.to c.trace_value.ensures

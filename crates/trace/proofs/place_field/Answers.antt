@@ -1,13 +1,13 @@
 -- `trace::place_field` meets its contract.
+use mathlib.Core.Path.{sym, ◌∙◌}
 use Rattle.trace.proofs.TraceLaws.{place-scalar, place_none, place-laid}
-use borrow.Enum.Refused.{opened}
 use Rattle.trace.proofs.place_field.Goals as goal
 
-pub returns-then-n-ne0 : goal.returns-then-n-ne0
-returns-then-n-ne0 c = search place-scalar
+pub returns-in-Some : goal.returns-in-Some
+returns-in-Some c = place-scalar c.args.table.now _ _ c.args.used c.args.desc.now _ _ (sym c.scalar_bytes.ensures ∙ c.in-Some.is) _ c.place_after.ensures
 
-pub returns-in_default : goal.returns-in_default
-returns-in_default c = let k2 = opened c.in_default.in_default-own.keys2 in search place_none
+pub returns-in_default-layout_below : goal.returns-in_default-layout_below
+returns-in_default-layout_below c = place_none c.args.table.now _ _ c.args.used c.args.desc.now _ _ c.layout_below.ensures _ c.in_default-layout_below.is
 
 pub returns : goal.returns
-returns c = search place-laid
+returns c = place-laid c.args.table.now _ _ c.args.used c.args.desc.now _ _ c.layout_below.ensures _ c.in-Ok.is _ c.place_after-2.ensures

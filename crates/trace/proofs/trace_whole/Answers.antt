@@ -5,16 +5,16 @@ use Rattle.trace.proofs.Objects.{object-plain, object-size, object-cut, object-w
 use Rattle.trace.proofs.trace_whole.Goals as goal
 
 pub returns-then-not-holds : goal.returns-then-not-holds
-returns-then-not-holds c = search object-plain
+returns-then-not-holds c = object-plain c.args.table.now _ _ _ _ _ c.has_handles-holds.ensures c.if-not-holds.true
 
-pub returns-in_default : goal.returns-in_default
-returns-in_default c = search object-size
+pub returns-in_err-k : goal.returns-in_err-k
+returns-in_err-k c = rw c.from_residual.ensures (object-size c.args.table.now _ _ _ _ _ c.has_handles-holds.ensures c.if-not-holds.false _ c.desc_size.ensures c.in_err-k.was)
 
 pub returns-then-data-k : goal.returns-then-data-k
-returns-then-data-k c = search object-cut
+returns-then-data-k c = object-cut c.args.table.now _ _ _ _ _ c.has_handles-holds.ensures c.if-not-holds.false _ c.desc_size.ensures _ c.in_ok-k.was c.if-data-k.true
 
 pub slice_bounds-trace_in-end : goal.slice_bounds-trace_in-end
 slice_bounds-trace_in-end c = sym (length-take-le _ _ c.if-data-k.false)
 
 pub returns : goal.returns
-returns c = search object-whole
+returns c = object-whole c.args.table.now _ _ _ _ _ c.has_handles-holds.ensures c.if-not-holds.false _ c.desc_size.ensures _ c.in_ok-k.was c.if-data-k.false c.trace_in.result c.trace_in.new.marks c.trace_in.new.to c.trace_in.ensures

@@ -1,12 +1,10 @@
 -- `trace::turns_of` meets its contract.
-use Rattle.trace.proofs.Emits.{turns-none, turns-one, turns-all}
+use mathlib.Core.Path.{refl}
+use borrow.Author.Tests.{eq-eqb, ne_eqb}
 use Rattle.trace.proofs.turns_of.Goals as goal
 
-pub returns-then-count-eq0 : goal.returns-then-count-eq0
-returns-then-count-eq0 c = search turns-none
-
 pub returns-then-stride-eq0 : goal.returns-then-stride-eq0
-returns-then-stride-eq0 c = search turns-one
+returns-then-stride-eq0 c = rw (eq-eqb _ _ c.if-stride-eq0.true) c.min.ensures
 
-pub returns : goal.returns
-returns c = search turns-all
+pub returns-else-stride-eq0 : goal.returns-else-stride-eq0
+returns-else-stride-eq0 c = rw (ne_eqb _ _ c.if-stride-eq0.false) refl

@@ -1,13 +1,13 @@
--- `ty::Table::check` meets its contract.
+-- `ty::Table::check_table` meets its contract.
 use mathlib.Core.Path.{refl, sym}
 use borrow.Author.Tests.{lt-leb, le-leb, eq-eqb, ne_eqb}
 use Rattle.word.proofs.Bools.{and-true}
 use Rattle.ty.specs.Check.{table_good, all_of}
-use Rattle.ty.proofs.Table.check.Goals.{then-self-ne0-via-then-self-ne0, then-self-ne0-via-else-self-ne0+then-self-gt4096}
-use Rattle.ty.proofs.Table.check.Goals.{then-self-ne0-2-via-then-self-ne0-2, then-self-ne0-2-via-else-self-ne0-2+then-self-gt16384}
-use Rattle.ty.proofs.Table.check.Goals.{then-self-ne0-3-via-then-self-ne0-3, then-self-ne0-3-via-else-self-ne0-3+then-self-gt4096-2}
-use Rattle.ty.proofs.Table.check.Goals.{then-not-types_good-via-then-not-types_good, then-not-types_good-via-else-not-types_good+then-not-consts_good}
-use Rattle.ty.proofs.Table.check.Goals as goal
+use Rattle.ty.proofs.Table.check_table.Goals.{then-self-ne0-via-then-self-ne0, then-self-ne0-via-else-self-ne0+then-self-gt4096}
+use Rattle.ty.proofs.Table.check_table.Goals.{then-self-ne0-2-via-then-self-ne0-2, then-self-ne0-2-via-else-self-ne0-2+then-self-gt16384}
+use Rattle.ty.proofs.Table.check_table.Goals.{then-self-ne0-3-via-then-self-ne0-3, then-self-ne0-3-via-else-self-ne0-3+then-self-gt4096-2}
+use Rattle.ty.proofs.Table.check_table.Goals.{then-not-types_good-via-then-not-types_good, then-not-types_good-via-else-not-types_good+then-not-consts_good}
+use Rattle.ty.proofs.Table.check_table.Goals as goal
 
 pub returns-then-self-ne0 : goal.returns-then-self-ne0
 unfolding table_good all_of
