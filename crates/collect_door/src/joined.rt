@@ -12,6 +12,7 @@ use heap::Heap;
 use refusal::{Refusal, Reply};
 use roots::Code;
 use roots::check::{check_function, rows_fit};
+use ty::Table;
 
 // Is there scratch enough for the heap and for rows of so many blocks and registers, and is the heap well formed?
 fn enter_rows(
@@ -60,7 +61,7 @@ fn admit_inputs(
     ensures { result ≡ admitted (input_tests types.now fields.now consts.now bytes.now
         (code_lent code.now) values.now pins.now addresses.now) }
 {
-    if !ty::check_table(types, fields, consts, bytes) {
+    if !(Table { types, fields, consts, bytes }).check_table() {
         return Entry::Not(Refusal::TypeTable);
     }
     if !check_function(code) {

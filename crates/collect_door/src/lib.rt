@@ -11,6 +11,7 @@ ghost use Rattle.collect_door.specs.Demand.{RightlyCollected};
 use door::{Done, Entry};
 use heap::Heap;
 use refusal::{Refusal, Reply};
+use ty::Table;
 
 pub mod joined; // at a safepoint, from the frame and the live registers
 
@@ -36,7 +37,7 @@ fn admit(
     match door::enter(heap, narrow, wide, pool, marks, work) {
         Entry::Not(why) => Entry::Not(why),
         Entry::Ready => {
-            if !ty::check_table(types, fields, consts, bytes) {
+            if !(Table { types, fields, consts, bytes }).check_table() {
                 return Entry::Not(Refusal::TypeTable);
             }
             if !heap_calls::recycle::rise(pins) {

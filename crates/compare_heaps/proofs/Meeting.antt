@@ -6,12 +6,12 @@ use mathlib.Core.List.{List, [], map}
 use lib.ListN.{length, get_or, take}
 use lib.Seq.{ext_get_or}
 use native.Mathlib.Omega.{arith}
+use Rattle.trace.specs.Emit.{Answer}
+use Rattle.std.specs.Prelude.{Some, None}
 use Rattle.word.specs.Run.{run}
 use Rattle.handle.specs.Columns.{live_in}
 use Rattle.ty.specs.Types.{Table}
 use Rattle.trace.specs.Places.{Places, shown_places}
-use Rattle.trace.specs.declared.Answer.{Answer}
-use Rattle.trace.specs.declared.Answer.TheVariants.{Traced, Untraceable}
 use Rattle.reach.specs.Reach.{◌∈◌}
 use Rattle.reach.specs.Marking.{State, drained}
 use Rattle.reach.proofs.Grown.{∈-get_or}
@@ -80,12 +80,12 @@ module _ (T : Table) (tag slots S : ℕ) (narrow wide pool : List ℕ) where
     at : (x : Answer) → r ≡ x → Traces x slots marks work from
     at x e = subst (λ (y : Answer). Traces y slots marks work from) e t
 
-    pub meet-stops : r ≡ Untraceable → Stops (columns_model T tag slots S narrow wide pool) roots
-    meet-stops e = marks-untraced T tag slots S narrow wide pool roots marks₀ work₀ c.clear marks work (at Untraceable e)
+    pub meet-stops : r ≡ None → Stops (columns_model T tag slots S narrow wide pool) roots
+    meet-stops e = marks-untraced T tag slots S narrow wide pool roots marks₀ work₀ c.clear marks work (at None e)
 
-    module _ (n : ℕ) (e : r ≡ Traced n) where
+    module _ (n : ℕ) (e : r ≡ Some n) where
       s : Scratch slots marks work n
-      s = (at (Traced n) e).1
+      s = (at (Some n) e).1
 
       lower : (k : ℕ) → k < n → get_or work k 0 % 16777216 ≡ low (get_or work k 0)
       lower k h = let b : low (get_or work k 0) < 16777216 = omega (arith, queue-below slots marks work n s k h, s.few) in omega arith
@@ -94,7 +94,7 @@ module _ (T : Table) (tag slots S : ℕ) (narrow wide pool : List ℕ) where
       as-met =
           ext_get_or 0 (lows n work) (map low (take n work)) (lows-length n work s.room ∙ sym (queue-length slots marks work n s))
           (λ k h. let b : k < n = omega (arith, lows-length n work s.room) in lows-at n work s.room k b ∙ lower k b ∙ sym (queue-at slots marks work n s k b))
-          ∙ (marks-traced T tag slots S narrow wide pool roots marks₀ work₀ c.clear n marks work (at (Traced n) e)).1
+          ∙ (marks-traced T tag slots S narrow wide pool roots marks₀ work₀ c.clear n marks work (at (Some n) e)).1
 
       once : Once (lows n work)
       once = subst (λ (q : List ℕ). Once q) (sym as-met) (met-once M roots slots)
@@ -116,7 +116,7 @@ module _ (T : Table) (tag slots S : ℕ) (narrow wide pool : List ℕ) where
       pub meet-done : (work' : List ℕ) → Turned work' (lows n work) → length work' ≡ length work → MetIn (columns_model T tag slots S narrow wide pool) roots slots work' n
       meet-done work' u l =
           record {
-            traced = (marks-traced T tag slots S narrow wide pool roots marks₀ work₀ c.clear n marks work (at (Traced n) e)).0;
+            traced = (marks-traced T tag slots S narrow wide pool roots marks₀ work₀ c.clear n marks work (at (Some n) e)).0;
             turned = subst (λ (q : List ℕ). Turned work' q) as-met u;
             queue = same ∙ as-met;
             room = room;

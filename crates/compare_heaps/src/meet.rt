@@ -3,7 +3,6 @@ ghost use Rattle.ty.specs.View.{table_of};
 ghost use Rattle.compare_heaps.specs.Inner.Marked.{Clear, Meets, side_model};
 
 use compare_objects::Side;
-use trace::Answer;
 
 // The objects that the roots reach in a heap, in the order first met, go to the lower part of the words of work, and the turn of each to the upper part of its slot's word. None where
 // something reached can't be traced.
@@ -41,7 +40,7 @@ pub fn first_met(
         work,
         0,
     );
-    let Answer::Traced(n) = r else {
+    let Some(n) = r else {
         return None;
     };
     compare::put_turns(work, n);

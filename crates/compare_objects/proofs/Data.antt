@@ -7,14 +7,13 @@ use lib.ListN.{length, get_or, take, drop, length-drop, drop_of_length-le}
 use lib.Seq.{take_all}
 use native.Mathlib.Decide.{dec_lt}
 use native.Mathlib.Omega.{arith}
+use Rattle.std.specs.Prelude.{Some, None}
 use Rattle.std.specs.declared.cmp.Ordering.{Ordering}
 use Rattle.word.specs.Result.{Result}
 use Rattle.ty.specs.Types.{Table}
 use Rattle.trace.specs.Places.{Places, shown_places}
-use Rattle.trace.specs.Emit.{Raw, raw_of, resolve_in, aim, handing_at, told}
+use Rattle.trace.specs.Emit.{Answer, Raw, raw_of, resolve_in, aim, handing_at, told}
 use Rattle.trace.specs.declared.Goal.TheVariants.{Beside as Goal-as-Beside}
-use Rattle.trace.specs.declared.Answer.{Answer}
-use Rattle.trace.specs.declared.Answer.TheVariants.{Traced, Untraceable}
 use Rattle.trace.proofs.BesideLaws.{beside-told, beside_none}
 use Rattle.alike.specs.Order.{order}
 use Rattle.alike.specs.Inner.ByTurns.{◌and_then◌}
@@ -66,10 +65,10 @@ module _ (T : Table) (kind t start : ℕ) (b c work : List ℕ) (otag oslots os 
   abbrev place : ℕ → ℕ → Ordering
   place = place_in R work (resolve_in otag oslots os onarrow) owork
 
-  pub data-traced : {X : Type 0} → r ≡ Untraceable → X
+  pub data-traced : {X : Type 0} → r ≡ None → X
   data-traced e = absurd (can (beside_none otag oslots os R onarrow (drop start c) owork (drop start b) work (shown_places T kind t start b) r found work' er e))
 
-  module _ (done : ℕ) (ed : r ≡ Traced done) where
+  module _ (done : ℕ) (ed : r ≡ Some done) where
     -- by the places that there are
     by-places : {X : Type 0} → ((ps : List ℕ) → shown_places T kind t start b ≡ some ps → X) → X
     by-places {X} f = go (shown_places T kind t start b) refl

@@ -12,7 +12,7 @@ ghost use Rattle.compare_objects.specs.Inner.Lent.{shown_by, sides_order};
 use beside::Met;
 use handle::Slots;
 use std::cmp::Ordering;
-use trace::Answer;
+use ty::Table;
 
 mod side; // one of the two heaps
 
@@ -43,10 +43,12 @@ fn compare_data(
     let from = start.min(data.len());
     let mut found = [0u8; 2];
     let r = trace::trace_beside(
-        types,
-        fields,
-        consts,
-        bytes,
+        &Table {
+            types,
+            fields,
+            consts,
+            bytes,
+        },
         here.tag,
         here.slots,
         here.s,
@@ -65,7 +67,7 @@ fn compare_data(
         work,
         0,
     );
-    let Answer::Traced(done) = r else {
+    let Some(done) = r else {
         return Ordering::Equal;
     };
     let hidden = beside::compare_bytes(data, other, 0, from);

@@ -7,13 +7,12 @@ use lib.Seq.{drop-cons}
 use borrow.Author.Tests.{le-leb, lt-leb, eq-eqb, ne_eqb}
 use native.Mathlib.Numerals.{add-one}
 use native.Mathlib.Omega.{arith}
+use Rattle.std.specs.Prelude.{Some, None}
 use Rattle.word.specs.Result.{Result, ok, refused}
 use Rattle.ty.specs.Types.{Table}
 use Rattle.layout.proofs.LayLaws.{rest}
 use Rattle.trace.specs.Places.{both, handle_at, value_handles}
-use Rattle.trace.specs.Emit.{Raw, raw_of, Into, emitted, emit_all, emitting, told}
-use Rattle.trace.specs.declared.Answer.{Answer}
-use Rattle.trace.specs.declared.Answer.TheVariants.{Traced, Untraceable}
+use Rattle.trace.specs.Emit.{Answer, Raw, raw_of, Into, emitted, emit_all, emitting, told}
 use Rattle.trace.proofs.Emits.{then-words, fail-words, told-traced, told-untraceable}
 use Rattle.frame.specs.Frame.{entry, entries_of, first_word, entry_roots, entries_roots, frame_roots}
 
@@ -91,10 +90,10 @@ module _ (T : Table) (want : ℕ) (m map : List ℕ) (at : ℕ) (k : Into) (ms t
     unfolding entries_roots
     turn = rw (entries_next map at (omega arith)) refl
 
-    pub entries-fail : r ≡ Untraceable → refused 13 ≡ G
+    pub entries-fail : r ≡ None → refused 13 ≡ G
     entries-fail e = fail-words k (raw_of ms to n) _ _ (told-untraceable r ms' to' _ er e) ∙ ap (emitting k (raw_of ms to n)) (sym turn) ∙ inv
 
-    pub entries-more : (q : ℕ) → r ≡ Traced q → emitting k (raw_of ms' to' q) (entries_roots T want m (entries_of (drop (at + 3) map))) ≡ G
+    pub entries-more : (q : ℕ) → r ≡ Some q → emitting k (raw_of ms' to' q) (entries_roots T want m (entries_of (drop (at + 3) map))) ≡ G
     entries-more q e = then-words k (raw_of ms to n) (raw_of ms' to' q) _ _ (told-traced r ms' to' _ q er e) ∙ ap (emitting k (raw_of ms to n)) (sym turn) ∙ inv
 
 -- ---- trace_frame

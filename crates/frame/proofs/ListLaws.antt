@@ -6,13 +6,12 @@ use mathlib.Core.List.{List}
 use lib.ListN.{length}
 use borrow.Author.Tests.{le-leb, lt-leb}
 use native.Mathlib.Omega.{arith}
+use Rattle.std.specs.Prelude.{Some, None}
 use Rattle.word.specs.Result.{Result, ok, refused}
 use Rattle.refusal.specs.declared.Reply.TheVariants.{Is, Not}
 use Rattle.refusal.specs.declared.Refusal.TheVariants.{Untraceable as Failed, ShortList}
-use Rattle.trace.specs.Emit.{Raw, raw_of, Into, into, emit_all, emitting, told}
+use Rattle.trace.specs.Emit.{Answer, Raw, raw_of, Into, into, emit_all, emitting, told}
 use Rattle.trace.specs.declared.Sink.TheVariants.{Check, List as ToList}
-use Rattle.trace.specs.declared.Answer.{Answer}
-use Rattle.trace.specs.declared.Answer.TheVariants.{Traced, Untraceable}
 use Rattle.trace.proofs.Emits.{ok-inj, told-traced, told-untraceable}
 use Rattle.trace.proofs.ListLaws.{checked-short, checked-fits, listed}
 use Rattle.frame.specs.Listing.{roots_listing, Frames}
@@ -30,25 +29,25 @@ from-refused k s (some ws) e = let x : ◌≡◌ {A = ℕ} 0 1 = cc in absurd (o
 
 from_told : {P : Type 0} (k : Into) (s : Raw) (o : Option (List ℕ)) (r : Answer) (ms to ws : List ℕ) → told r ms to ≡ emitting k s o → o ≡ some ws → ((n : ℕ) → raw_of ms to n ≡ emit_all k s ws → P) → P
 unfolding emitting
-from_told k s o Untraceable ms to ws e q c = let f : refused 13 ≡ emitting k s (some ws) = e ∙ ap (emitting k s) q in let x : ◌≡◌ {A = ℕ} 0 1 = cc in absurd (omega arith)
-from_told k s o (Traced n) ms to ws e q c = c n (ok-inj (e ∙ ap (emitting k s) q))
+from_told k s o None ms to ws e q c = let f : refused 13 ≡ emitting k s (some ws) = e ∙ ap (emitting k s) q in let x : ◌≡◌ {A = ℕ} 0 1 = cc in absurd (omega arith)
+from_told k s o (Some n) ms to ws e q c = c n (ok-inj (e ∙ ap (emitting k s) q))
 
 module _ (R : ℕ → Result ℕ) (ms u ms' u' hs : List ℕ) (o : Option (List ℕ)) (r : Answer) (er : told r ms' u' ≡ emitting (into (Check (length hs)) R) (raw_of ms u 0) o) (ds : List ℕ) (p : Option (List ℕ)) where
-  pub handles-lost : r ≡ Untraceable → Frames (roots_listing o p (length hs) (length ds)) (Not Failed) hs ds hs ds
+  pub handles-lost : r ≡ None → Frames (roots_listing o p (length hs) (length ds)) (Not Failed) hs ds hs ds
   unfolding roots_listing
   handles-lost e =
       let q = from-refused _ _ o (told-untraceable r ms' u' _ er e) in
       record { answer = rw q refl; handles = rw q refl; addresses = rw q refl }
 
-  module _ (nh : ℕ) (e : r ≡ Traced nh) (Q : ℕ → Result ℕ) (ns v ns' v' : List ℕ) (a : Answer) (ea : told a ns' v' ≡ emitting (into (Check (length ds)) Q) (raw_of ns v 0) p) where
-    pub addresses-lost : a ≡ Untraceable → Frames (roots_listing o p (length hs) (length ds)) (Not Failed) hs ds hs ds
+  module _ (nh : ℕ) (e : r ≡ Some nh) (Q : ℕ → Result ℕ) (ns v ns' v' : List ℕ) (a : Answer) (ea : told a ns' v' ≡ emitting (into (Check (length ds)) Q) (raw_of ns v 0) p) where
+    pub addresses-lost : a ≡ None → Frames (roots_listing o p (length hs) (length ds)) (Not Failed) hs ds hs ds
     unfolding roots_listing
     addresses-lost f =
         let q = from-refused _ _ p (told-untraceable a ns' v' _ ea f) in
         from-ok _ _ _ o (told-traced r ms' u' _ nh er e) (λ ws eo g.
         record { answer = rw (eo, q) refl; handles = rw (eo, q) refl; addresses = rw (eo, q) refl })
 
-    module _ (na : ℕ) (f : a ≡ Traced na) where
+    module _ (na : ℕ) (f : a ≡ Some na) where
       pub handles-short : length hs < nh → Frames (roots_listing o p (length hs) (length ds)) (Not ShortList) hs ds hs ds
       unfolding roots_listing
       handles-short l =

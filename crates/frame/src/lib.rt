@@ -2,13 +2,14 @@
 #![tactic(auto)]
 
 ghost use Rattle.std.specs.Prelude.{◌≡◌, ◌%◌, length};
-ghost use Rattle.ty.specs.View.{table_of};
+ghost use Rattle.ty.specs.View.{lent};
 ghost use Rattle.trace.specs.Emit.{raw_of, into, resolve_in, Runs, emit_all, emitting, told};
 ghost use Rattle.frame.specs.Frame.{entry, entries_of, first_word, entry_roots, entries_roots, frame_roots, frame_handles, frame_addresses};
 ghost use Rattle.frame.specs.Listing.{roots_listing, Frames};
 
 use refusal::{Refusal, Reply};
-use trace::{Answer, Sink};
+use trace::Sink;
+use ty::Table;
 
 // The word at the start of bytes, if there are eight.
 fn first_word(
@@ -35,10 +36,7 @@ fn first_word(
 
 // What one entry of a frame map gives of a kind: 0 handles, 1 addresses.
 fn trace_entry(
-    types: &[u64],
-    fields: &[u32],
-    consts: &[u64],
-    bytes: &[u8],
+    table: &Table,
     tag: u8,
     slots: usize,
     s: usize,
@@ -52,22 +50,19 @@ fn trace_entry(
     marks: &mut [u8],
     to: &mut [u64],
     n: usize,
-) -> Answer
+) -> Option<usize>
     requires { Runs slots s narrow.now }
     ensures { told result marks.new to.new ≡
         emitting (into sink (resolve_in tag slots s narrow.now)) (raw_of marks.old to.old n)
-        (entry_roots (table_of types.now fields.now consts.now bytes.now) want memory.now (entry offset of t)) }
+        (entry_roots (lent table.now) want memory.now (entry offset of t)) }
 {
     if memory.len() < offset {
-        return Answer::Untraceable;
+        return None;
     }
     if of == 2 {
         if want == 0 {
             return trace::trace_value(
-                types,
-                fields,
-                consts,
-                bytes,
+                table,
                 tag,
                 slots,
                 s,
@@ -80,24 +75,21 @@ fn trace_entry(
                 n,
             );
         }
-        return Answer::Traced(n);
+        return Some(n);
     }
     if 1 < of {
-        return Answer::Untraceable;
+        return None;
     }
     if of == want {
         let m = first_word(tag, slots, s, narrow, &memory[offset..], sink, marks, to, n);
-        return Answer::Traced(m);
+        return Some(m);
     }
-    Answer::Traced(n)
+    Some(n)
 }
 
 // What all entries give of a kind.
 fn trace_entries(
-    types: &[u64],
-    fields: &[u32],
-    consts: &[u64],
-    bytes: &[u8],
+    table: &Table,
     tag: u8,
     slots: usize,
     s: usize,
@@ -109,11 +101,11 @@ fn trace_entries(
     marks: &mut [u8],
     to: &mut [u64],
     n: usize,
-) -> Answer
+) -> Option<usize>
     requires { (length map.now % 3 ≡ 0) × Runs slots s narrow.now }
     ensures { told result marks.new to.new ≡
         emitting (into sink (resolve_in tag slots s narrow.now)) (raw_of marks.old to.old n)
-        (entries_roots (table_of types.now fields.now consts.now bytes.now) want memory.now (entries_of map.now)) }
+        (entries_roots (lent table.now) want memory.now (entries_of map.now)) }
 {
     let mut at: usize = 0;
     let mut m = n;
@@ -121,25 +113,18 @@ fn trace_entries(
         let offset = map[at] as usize;
         let of = map[at + 1];
         let t = map[at + 2] as u64;
-        let r = trace_entry(
-            types, fields, consts, bytes, tag, slots, s, narrow, want, offset, of, t, memory, sink,
+        m = trace_entry(
+            table, tag, slots, s, narrow, want, offset, of, t, memory, sink,
             marks, to, m,
-        );
-        let Answer::Traced(q) = r else {
-            return Answer::Untraceable;
-        };
-        m = q;
+        )?;
         at += 3;
     }
-    Answer::Traced(m)
+    Some(m)
 }
 
 // What a frame gives of a kind: 0 handles, 1 addresses. A map whose last entry is cut short fails.
 pub fn trace_frame(
-    types: &[u64],
-    fields: &[u32],
-    consts: &[u64],
-    bytes: &[u8],
+    table: &Table,
     tag: u8,
     slots: usize,
     s: usize,
@@ -151,34 +136,31 @@ pub fn trace_frame(
     marks: &mut [u8],
     to: &mut [u64],
     n: usize,
-) -> Answer
+) -> Option<usize>
     requires { Runs slots s narrow.now }
     ensures { told result marks.new to.new ≡
         emitting (into sink (resolve_in tag slots s narrow.now)) (raw_of marks.old to.old n)
-        (frame_roots (table_of types.now fields.now consts.now bytes.now) want map.now memory.now) }
+        (frame_roots (lent table.now) want map.now memory.now) }
 {
     if map.len() % 3 != 0 {
-        return Answer::Untraceable;
+        return None;
     }
     trace_entries(
-        types, fields, consts, bytes, tag, slots, s, narrow, want, map, memory, sink, marks, to, n,
+        table, tag, slots, s, narrow, want, map, memory, sink, marks, to, n,
     )
 }
 
 // The handles and the addresses of a frame, into the lent lists. First both are only counted, so that a refusal leaves the lists as they were.
 pub fn list_roots(
-    types: &[u64],
-    fields: &[u32],
-    consts: &[u64],
-    bytes: &[u8],
+    table: &Table,
     map: &[u32],
     memory: &[u8],
     handles: &mut [u64],
     addresses: &mut [u64],
 ) -> Reply
     ensures { Frames (roots_listing
-        (frame_handles (table_of types.now fields.now consts.now bytes.now) map.now memory.now)
-        (frame_addresses (table_of types.now fields.now consts.now bytes.now) map.now memory.now)
+        (frame_handles (lent table.now) map.now memory.now)
+        (frame_addresses (lent table.now) map.now memory.now)
         (length handles.old) (length addresses.old)) result
         handles.old addresses.old handles.new addresses.new }
 {
@@ -188,10 +170,7 @@ pub fn list_roots(
     let lh = handles.len();
     let la = addresses.len();
     let a = trace_frame(
-        types,
-        fields,
-        consts,
-        bytes,
+        table,
         0,
         0,
         0,
@@ -204,14 +183,11 @@ pub fn list_roots(
         &mut unused,
         0,
     );
-    let Answer::Traced(nh) = a else {
+    let Some(nh) = a else {
         return Reply::Not(Refusal::Untraceable);
     };
     let b = trace_frame(
-        types,
-        fields,
-        consts,
-        bytes,
+        table,
         0,
         0,
         0,
@@ -224,7 +200,7 @@ pub fn list_roots(
         &mut unused,
         0,
     );
-    let Answer::Traced(na) = b else {
+    let Some(na) = b else {
         return Reply::Not(Refusal::Untraceable);
     };
     if lh < nh {
@@ -234,10 +210,7 @@ pub fn list_roots(
         return Reply::Not(Refusal::ShortList);
     }
     trace_frame(
-        types,
-        fields,
-        consts,
-        bytes,
+        table,
         0,
         0,
         0,
@@ -251,10 +224,7 @@ pub fn list_roots(
         0,
     );
     trace_frame(
-        types,
-        fields,
-        consts,
-        bytes,
+        table,
         0,
         0,
         0,

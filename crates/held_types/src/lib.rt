@@ -13,6 +13,7 @@ ghost use Rattle.trace.specs.Listing.{listing, written_to};
 ghost use Rattle.held_types.specs.Laid.{laid};
 
 use refusal::{Answer, Refusal, Reply};
+use ty::Table;
 
 // Document 01's number, 0 for success, and a layout, zeros after a refusal.
 #[repr(C)]
@@ -41,29 +42,20 @@ fn not_laid(why: Refusal) -> Laying
     }
 }
 
-fn laid_out(a: layout::Answer) -> Laying
+fn laid_out(a: Result<(layout::Layout, usize), Refusal>) -> Laying
     ensures { result ≡ laid (told a) }
 {
     match a {
-        layout::Answer::Layout {
-            size,
-            align,
-            stride,
-            count,
-            used,
-            offsets,
-        } => Laying {
+        Ok((l, offsets)) => Laying {
             number: 0,
-            size: size,
-            align: align,
-            stride: stride,
-            count: count,
-            used: used as u64,
+            size: l.size,
+            align: l.align,
+            stride: l.stride,
+            count: l.count,
+            used: l.used as u64,
             offsets: offsets as u64,
         },
-        layout::Answer::Malformed => not_laid(Refusal::Malformed),
-        layout::Answer::TooLarge => not_laid(Refusal::TooLarge),
-        layout::Answer::ShortList => not_laid(Refusal::ShortList),
+        Err(why) => not_laid(why),
     }
 }
 
@@ -83,14 +75,26 @@ pub fn yexwalu_held_layout(
         (layout_call (table_of types.now fields.now consts.now bytes.now) t desc.now (length out.old))
         (offsets_of (table_of types.now fields.now consts.now bytes.now) t desc.now) out.old }
 {
-    laid_out(layout::layout(types, fields, consts, bytes, t, desc, out))
+    laid_out(layout::lay_out(&Table {
+            types,
+            fields,
+            consts,
+            bytes,
+        }, t, desc, out))
 }
 
 // Whether values of type t can hold handles: 1 or 0.
 pub fn yexwalu_held_has_handles(types: &[u64], fields: &[u32], t: u64) -> Answer
     ensures { result ≡ answered here nothing (ok (if has_handles (types_of types.now fields.now) t then 1 else 0)) }
 {
-    if ty::has_handles(types, fields, t) {
+    if (Table {
+        types,
+        fields,
+        consts: &[],
+        bytes: &[],
+    })
+    .has_handles(t)
+    {
         return Reply::Is(1, 0).numbers();
     }
     Reply::Is(0, 0).numbers()
@@ -111,7 +115,12 @@ pub fn yexwalu_held_object_handles(
     ensures written { out.new ≡ written_to out.old
         (listing (object_handles (table_of types.now fields.now consts.now bytes.now) t «data».now) (length out.old)) }
 {
-    trace::list_object(types, fields, consts, bytes, t, data, out).numbers()
+    trace::list_object(&Table {
+            types,
+            fields,
+            consts,
+            bytes,
+        }, t, data, out).numbers()
 }
 
 // The handles of a value of type t that needs no descriptor. First: how many.
@@ -129,5 +138,10 @@ pub fn yexwalu_held_value_handles(
     ensures written { out.new ≡ written_to out.old
         (listing (value_handles (table_of types.now fields.now consts.now bytes.now) t «data».now) (length out.old)) }
 {
-    trace::list_value(types, fields, consts, bytes, t, data, out).numbers()
+    trace::list_value(&Table {
+            types,
+            fields,
+            consts,
+            bytes,
+        }, t, data, out).numbers()
 }

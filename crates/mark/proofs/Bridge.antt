@@ -11,7 +11,7 @@ use borrow.Author.Tests.{lt-ltb, le-ltb}
 use lib.Seq.{length-take-le, map-set_same}
 use native.Mathlib.Decide.{ℕ_discrete, dec_lt}
 use native.Mathlib.Omega.{arith}
-use Rattle.std.specs.Prelude.{if◌then◌else◌}
+use Rattle.std.specs.Prelude.{Some, None, if◌then◌else◌}
 use Rattle.word.specs.Result.{Result, ok, refused}
 use Rattle.word.specs.Run.{run}
 use Rattle.word.proofs.RunLaws.{run-get, first-get}
@@ -20,9 +20,7 @@ use Rattle.handle.specs.Columns.{live_in}
 use Rattle.heap.specs.Packing.{start_of, data_at}
 use Rattle.ty.specs.Types.{Table}
 use Rattle.trace.specs.Places.{handles_of}
-use Rattle.trace.specs.Emit.{Raw, raw_of, into, resolve_in, over, queued, queued_if, emitted_by, emitted, emit_all, emitting, told}
-use Rattle.trace.specs.declared.Answer.{Answer}
-use Rattle.trace.specs.declared.Answer.TheVariants.{Traced, Untraceable}
+use Rattle.trace.specs.Emit.{Answer, Raw, raw_of, into, resolve_in, over, queued, queued_if, emitted_by, emitted, emit_all, emitting, told}
 use Rattle.trace.specs.declared.Sink.TheVariants.{Work}
 use Rattle.trace.proofs.Emits.{queue-marked, queue-room, ok-inj}
 use Rattle.reach.specs.Marking.{State, visit, visit_maybe, follow, follow_all, pin_if, pin_all}
@@ -84,13 +82,13 @@ module _ (n : ℕ) where
     pub traces : (r : Answer) (o : Option (List ℕ)) (marks words : List ℕ) (c : ℕ) (marks' words' : List ℕ) → Scratch n marks words c → told r marks' words' ≡ emitting (into Work R) (raw_of marks words c) o
         → Traces r n marks' words' (following (λ x. found (R x)) (state_of marks words c) o)
     unfolding emitting
-    traces (Traced k) none marks words c marks' words' s t = let x : ◌≡◌ {A = ℕ} 0 1 = cc in absurd (omega arith)
-    traces (Traced k) (some hs) marks words c marks' words' s t =
+    traces (Some k) none marks words c marks' words' s t = let x : ◌≡◌ {A = ℕ} 0 1 = cc in absurd (omega arith)
+    traces (Some k) (some hs) marks words c marks' words' s t =
         let h : Holds n marks' words' k (follow_all lead (state_of marks words c) hs) =
         subst (λ (r : Raw). HoldsRaw n r (follow_all lead (state_of marks words c) hs)) (sym (ok-inj t)) (all-holds hs marks words c s) in
         (ap {B = Option State} some (sym h.state), h.scratch)
-    traces Untraceable none marks words c marks' words' s t = refl
-    traces Untraceable (some hs) marks words c marks' words' s t = let x : ◌≡◌ {A = ℕ} 0 1 = cc in absurd (omega arith)
+    traces None none marks words c marks' words' s t = refl
+    traces None (some hs) marks words c marks' words' s t = let x : ◌≡◌ {A = ℕ} 0 1 = cc in absurd (omega arith)
 
 -- ---- what is noted in the upper halves stays
 
@@ -122,9 +120,9 @@ module _ (n : ℕ) (few : n ≤ 16777216) where
 
     pub trace-noted : (r : Answer) (o : Option (List ℕ)) (marks words : List ℕ) (c : ℕ) (marks' words' : List ℕ) → told r marks' words' ≡ emitting (into Work R) (raw_of marks words c) o → NotedBy r words words'
     unfolding emitting
-    trace-noted Untraceable o marks words c marks' words' t = tt
-    trace-noted (Traced k) none marks words c marks' words' t = let x : ◌≡◌ {A = ℕ} 0 1 = cc in absurd (omega arith)
-    trace-noted (Traced k) (some hs) marks words c marks' words' t = ap (λ (r : Raw). map high r.words) (ok-inj t) ∙ all_noted hs (raw_of marks words c)
+    trace-noted None o marks words c marks' words' t = tt
+    trace-noted (Some k) none marks words c marks' words' t = let x : ◌≡◌ {A = ℕ} 0 1 = cc in absurd (omega arith)
+    trace-noted (Some k) (some hs) marks words c marks' words' t = ap (λ (r : Raw). map high r.words) (ok-inj t) ∙ all_noted hs (raw_of marks words c)
 
 -- ---- a list of handles, and of pins, taken in turn
 

@@ -11,14 +11,14 @@ use borrow.Author.Tests.{lt-ltb, le-ltb}
 use native.Mathlib.Nat.{sub-zero}
 use native.Mathlib.Numerals.{add-one}
 use native.Mathlib.Omega.{arith}
+use Rattle.trace.specs.Emit.{Answer}
+use Rattle.std.specs.Prelude.{Some, None}
 use Rattle.word.proofs.ListLaws.{take-zeros}
 use Rattle.reach.specs.Reach.{Graph}
 use Rattle.reach.specs.Marking.{State, follow_all, drained, marking, or_done, or_stuck}
 use Rattle.heap.specs.Packing.{pad}
 use Rattle.heap.proofs.Packing.{drop-replicate}
 use Rattle.ty.specs.Types.{Table}
-use Rattle.trace.specs.declared.Answer.{Answer}
-use Rattle.trace.specs.declared.Answer.TheVariants.{Traced, Untraceable}
 use Rattle.mark.specs.Graph.{leads_to, shown_in, graph_in}
 use Rattle.mark.specs.Scratch.{low, state_of, Noted, NotedBy, Scratch, Holds, following, Traces, seeded_from}
 use Rattle.mark.specs.Told.{marks_in, starts_of, Ready}
@@ -124,12 +124,12 @@ module _ (T : Table) (tag slots S : ℕ) (narrow wide pool marks₀ work₀ : Li
 
   module _ (h : next < count) where
     module _ (r : Answer) (marks' work' : List ℕ) (t : Traces r slots marks' work' (following (leads_to tag slots S narrow) (state_of marks work count) (shown_in T S narrow wide pool (low (get_or work next 0))))) where
-      pub drains-stuck : r ≡ Untraceable → total ≡ none
+      pub drains-stuck : r ≡ None → total ≡ none
       drains-stuck e =
           draining-stuck (graph_in T tag slots S narrow wide pool) slots marks₀ work₀ total marks work count next d h
           (subst (λ (x : Answer). Traces x slots marks' work' (following (leads_to tag slots S narrow) (state_of marks work count) (shown_in T S narrow wide pool (low (get_or work next 0))))) e t)
 
-      pub drains-next : (m : ℕ) → r ≡ Traced m → NotedBy r work work' → length marks' ≡ length marks → length work' ≡ length work → Drains T tag slots S narrow wide pool marks₀ work₀ total marks' work' m (next + 1)
+      pub drains-next : (m : ℕ) → r ≡ Some m → NotedBy r work work' → length marks' ≡ length marks → length work' ≡ length work → Drains T tag slots S narrow wide pool marks₀ work₀ total marks' work' m (next + 1)
       drains-next m e f a b =
           let q = subst (λ (x : Answer). Traces x slots marks' work' (following (leads_to tag slots S narrow) (state_of marks work count) (shown_in T S narrow wide pool (low (get_or work next 0))))) e t in
           draining-next (graph_in T tag slots S narrow wide pool) slots marks₀ work₀ total marks work count next d h marks' work' m q.0 q.1 (subst (λ (x : Answer). NotedBy x work work') e f) a b
@@ -150,8 +150,8 @@ from-done G slots marks work n s h r marks' work' t =
     subst (λ (f : ℕ). Traces r slots marks' work' (drained G f s 0)) (sub-zero slots) (subst (λ (x : State). Traces r slots marks' work' (drained G (slots - 0) x 0)) h.state t)
 
 pub from-noted : (a b c : List ℕ) (r : Answer) → Noted a b → NotedBy r b c → NotedBy r a c
-from-noted a b c (Traced n) f g = g ∙ f
-from-noted a b c Untraceable f g = tt
+from-noted a b c (Some n) f g = g ∙ f
+from-noted a b c None f g = tt
 
 module _ (slots : ℕ) (marks work : List ℕ) (ready : Ready slots marks work) where
   pub first-clear : take slots marks ≡ replicate slots 0
@@ -179,13 +179,13 @@ module _ (slots : ℕ) (marks work : List ℕ) (ready : Ready slots marks work) 
     at : (x : Answer) → r ≡ x → Traces x slots marks' work' answer
     at x e = subst (λ (o : Option State). Traces x slots marks' work' o) as-marking (subst (λ (y : Answer). Traces y slots marks' work' start) e t)
 
-    pub whole-stuck : r ≡ Untraceable → none ≡ marks_in (length marks) (marking G (starts_of roots sealed pins) slots)
-    whole-stuck e = sym (ap (marks_in (length marks)) (at Untraceable e))
+    pub whole-stuck : r ≡ None → none ≡ marks_in (length marks) (marking G (starts_of roots sealed pins) slots)
+    whole-stuck e = sym (ap (marks_in (length marks)) (at None e))
 
-    pub whole-marked : (n : ℕ) → r ≡ Traced n → some (marks' ++ drop slots marks) ≡ marks_in (length marks) (marking G (starts_of roots sealed pins) slots)
+    pub whole-marked : (n : ℕ) → r ≡ Some n → some (marks' ++ drop slots marks) ≡ marks_in (length marks) (marking G (starts_of roots sealed pins) slots)
     unfolding pad
     whole-marked n e =
-        let a = at (Traced n) e in
+        let a = at (Some n) e in
         let rest : drop slots marks ≡ replicate (length marks - length marks') 0 =
         ap (drop slots) ready.clear ∙ drop-replicate slots (length marks) 0 ∙ ap (λ (k : ℕ). replicate (length marks - k) 0) (sym a.1.size) in
         ap (λ (l : List ℕ). some (marks' ++ l)) rest ∙ sym (ap (marks_in (length marks)) a.0)

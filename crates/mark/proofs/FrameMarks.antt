@@ -5,10 +5,9 @@ use mathlib.Core.Option.{Option, none, some}
 use mathlib.Core.List.{List, ◌++◌, append_assoc}
 use native.Mathlib.Nat.{sub-zero}
 use native.Mathlib.Omega.{arith}
+use Rattle.std.specs.Prelude.{Some, None}
 use Rattle.ty.specs.Types.{Table}
-use Rattle.trace.specs.Emit.{raw_of, into, resolve_in, emitting, told as told_trace}
-use Rattle.trace.specs.declared.Answer.{Answer}
-use Rattle.trace.specs.declared.Answer.TheVariants.{Traced, Untraceable}
+use Rattle.trace.specs.Emit.{Answer, raw_of, into, resolve_in, emitting, told as told_trace}
 use Rattle.trace.specs.declared.Sink.TheVariants.{Work}
 use Rattle.reach.specs.Reach.{Graph}
 use Rattle.reach.specs.Marking.{State, follow_all, pin_all, drained}
@@ -24,7 +23,7 @@ use Rattle.mark.proofs.Holding.{pins-append}
 
 -- the scratch after the frame
 pub frame-scratch : (tag slots S : ℕ) (narrow marks work : List ℕ) → Scratch slots marks work 0 → (frame : Option (List ℕ)) (r : Answer) (marks₁ work₁ : List ℕ)
-    → told_trace r marks₁ work₁ ≡ emitting (into Work (resolve_in tag slots S narrow)) (raw_of marks work 0) frame → (n : ℕ) → r ≡ Traced n → Scratch slots marks₁ work₁ n
+    → told_trace r marks₁ work₁ ≡ emitting (into Work (resolve_in tag slots S narrow)) (raw_of marks work 0) frame → (n : ℕ) → r ≡ Some n → Scratch slots marks₁ work₁ n
 frame-scratch tag slots S narrow marks work s frame r marks₁ work₁ t n e =
     (subst (λ (y : Answer). Traces y slots marks₁ work₁ (following (leads_to tag slots S narrow) (state_of marks work 0) frame)) e
     (traces slots (resolve_in tag slots S narrow) (resolves-in tag slots S narrow) r frame marks work 0 marks₁ work₁ s t)).1
@@ -41,19 +40,19 @@ module _ (T : Table) (tag slots S : ℕ) (narrow wide pool : List ℕ) (marks wo
   at x e = subst (λ (y : Answer). Traces y slots marks₁ work₁ (following (leads_to tag slots S narrow) (state_of marks work 0) frame)) e traced
 
   -- the frame map fails
-  pub frame-stuck : r ≡ Untraceable → joined_from (held_in T tag slots S narrow wide pool) slots (state_of marks work 0) frame values sealed pins ≡ none
-  frame-stuck e = go frame (at Untraceable e)
+  pub frame-stuck : r ≡ None → joined_from (held_in T tag slots S narrow wide pool) slots (state_of marks work 0) frame values sealed pins ≡ none
+  frame-stuck e = go frame (at None e)
     where
       go : (o : Option (List ℕ)) → following (leads_to tag slots S narrow) (state_of marks work 0) o ≡ none → joined_from G slots (state_of marks work 0) o values sealed pins ≡ none
       go none q = refl
       go (some hs) q = let z : ◌≡◌ {A = ℕ} 0 1 = cc in absurd (omega arith)
 
   -- all is marked, or a reached object can't be traced
-  pub frame-marked : (n : ℕ) → r ≡ Traced n → (words : List ℕ) → ((hs : List ℕ) → frame ≡ some hs → words ≡ pins) → (marks₂ work₂ : List ℕ) (m : ℕ)
+  pub frame-marked : (n : ℕ) → r ≡ Some n → (words : List ℕ) → ((hs : List ℕ) → frame ≡ some hs → words ≡ pins) → (marks₂ work₂ : List ℕ) (m : ℕ)
       → Holds slots marks₂ work₂ m (seeded_from (leads_to tag slots S narrow) (in_use slots) (state_of marks₁ work₁ n) values sealed words)
       → (a : Answer) (marks₃ work₃ : List ℕ) → Traces a slots marks₃ work₃ (drained (graph_in T tag slots S narrow wide pool) (slots - 0) (state_of marks₂ work₂ m) 0)
       → Traces a slots marks₃ work₃ (joined_from (held_in T tag slots S narrow wide pool) slots (state_of marks work 0) frame values sealed pins)
-  frame-marked n e words known marks₂ work₂ m held a marks₃ work₃ d = go frame known (at (Traced n) e).0
+  frame-marked n e words known marks₂ work₂ m held a marks₃ work₃ d = go frame known (at (Some n) e).0
     where
       inj : (x y : State) → some x ≡ some y → x ≡ y
       inj x y w = cc

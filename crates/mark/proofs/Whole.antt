@@ -6,14 +6,14 @@ use mathlib.Core.Option.{Option, none, some}
 use mathlib.Core.List.{List, ◌++◌}
 use lib.ListN.{length, take, drop}
 use native.Mathlib.Omega.{arith}
+use Rattle.trace.specs.Emit.{Answer}
+use Rattle.std.specs.Prelude.{Some, None}
 use Rattle.word.specs.Run.{run}
 use Rattle.handle.specs.Columns.{live_in}
 use Rattle.heap.specs.declared.Heap.{Heap}
 use Rattle.heap.specs.Lent.{lent, view}
 use Rattle.heap.specs.WellFormed.{well_formed}
 use Rattle.ty.specs.Types.{Table}
-use Rattle.trace.specs.declared.Answer.{Answer}
-use Rattle.trace.specs.declared.Answer.TheVariants.{Traced, Untraceable}
 use Rattle.reach.specs.Marking.{State, drained}
 use Rattle.mark.specs.Graph.{leads_to, graph_in, held_in}
 use Rattle.mark.specs.Scratch.{state_of, Traces, seeded_from}
@@ -30,12 +30,12 @@ module _ (h : Heap) (narrow wide pool : List ℕ) (wf : well_formed (lent h narr
   module _ (roots : List ℕ) (r : Answer) (marks' work' : List ℕ)
       (t : Traces r h.slots marks' work' (drained (graph_in T h.tag h.slots (length narrow / 6) narrow wide pool) h.slots
       (seeded_from (leads_to h.tag h.slots (length narrow / 6) narrow) (live_in h.slots (run (length narrow / 6) (length narrow / 6) narrow)) (state_of (take h.slots marks) work 0) roots sealed pins) 0)) where
-    pub heap-stuck : r ≡ Untraceable → none ≡ marks_in (length marks) (heap_marks T (view (lent h narrow wide pool)) roots pins)
+    pub heap-stuck : r ≡ None → none ≡ marks_in (length marks) (heap_marks T (view (lent h narrow wide pool)) roots pins)
     heap-stuck e =
         whole-stuck h.slots marks work ready (graph_in T h.tag h.slots S narrow wide pool) roots sealed pins r marks' work' t e
         ∙ ap (marks_in (length marks)) (formed-marks h narrow wide pool wf T roots sealed pins es)
 
-    pub heap-marked : (n : ℕ) → r ≡ Traced n → some (marks' ++ drop h.slots marks) ≡ marks_in (length marks) (heap_marks T (view (lent h narrow wide pool)) roots pins)
+    pub heap-marked : (n : ℕ) → r ≡ Some n → some (marks' ++ drop h.slots marks) ≡ marks_in (length marks) (heap_marks T (view (lent h narrow wide pool)) roots pins)
     heap-marked n e =
         whole-marked h.slots marks work ready (graph_in T h.tag h.slots S narrow wide pool) roots sealed pins r marks' work' t n e
         ∙ ap (marks_in (length marks)) (formed-marks h narrow wide pool wf T roots sealed pins es)
@@ -45,22 +45,22 @@ module _ (h : Heap) (narrow wide pool : List ℕ) (wf : well_formed (lent h narr
     at-answer : (x : Answer) → r ≡ x → Traces x h.slots marks' work' (joined_from (held_in T h.tag h.slots S narrow wide pool) h.slots (state_of (take h.slots marks) work 0) frame values sealed pins)
     at-answer x e = subst (λ (y : Answer). Traces y h.slots marks' work' (joined_from (held_in T h.tag h.slots S narrow wide pool) h.slots (state_of (take h.slots marks) work 0) frame values sealed pins)) e t
 
-    pub joined-stuck : r ≡ Untraceable → none ≡ marks_in (length marks) (joined_marks T (view (lent h narrow wide pool)) frame values pins)
-    joined-stuck e = go frame (at-answer Untraceable e)
+    pub joined-stuck : r ≡ None → none ≡ marks_in (length marks) (joined_marks T (view (lent h narrow wide pool)) frame values pins)
+    joined-stuck e = go frame (at-answer None e)
       where
         go : (o : Option (List ℕ)) → joined_from (held_in T h.tag h.slots S narrow wide pool) h.slots (state_of (take h.slots marks) work 0) o values sealed pins ≡ none
             → none ≡ marks_in (length marks) (joined_marks T (view (lent h narrow wide pool)) o values pins)
         go none q = refl
         go (some hs) q =
-            whole-stuck h.slots marks work ready (held_in T h.tag h.slots S narrow wide pool) (hs ++ values) sealed pins Untraceable marks' work' q refl
+            whole-stuck h.slots marks work ready (held_in T h.tag h.slots S narrow wide pool) (hs ++ values) sealed pins None marks' work' q refl
             ∙ ap (marks_in (length marks)) (formed-held h narrow wide pool wf T (hs ++ values) sealed pins es)
 
-    pub joined-marked : (n : ℕ) → r ≡ Traced n → some (marks' ++ drop h.slots marks) ≡ marks_in (length marks) (joined_marks T (view (lent h narrow wide pool)) frame values pins)
-    joined-marked n e = go frame (at-answer (Traced n) e)
+    pub joined-marked : (n : ℕ) → r ≡ Some n → some (marks' ++ drop h.slots marks) ≡ marks_in (length marks) (joined_marks T (view (lent h narrow wide pool)) frame values pins)
+    joined-marked n e = go frame (at-answer (Some n) e)
       where
-        go : (o : Option (List ℕ)) → Traces (Traced n) h.slots marks' work' (joined_from (held_in T h.tag h.slots S narrow wide pool) h.slots (state_of (take h.slots marks) work 0) o values sealed pins)
+        go : (o : Option (List ℕ)) → Traces (Some n) h.slots marks' work' (joined_from (held_in T h.tag h.slots S narrow wide pool) h.slots (state_of (take h.slots marks) work 0) o values sealed pins)
             → some (marks' ++ drop h.slots marks) ≡ marks_in (length marks) (joined_marks T (view (lent h narrow wide pool)) o values pins)
         go none q = let z : ◌≡◌ {A = Option State} none (some (state_of marks' work' n)) = q.0 in let y : ◌≡◌ {A = ℕ} 0 1 = cc in absurd (omega arith)
         go (some hs) q =
-            whole-marked h.slots marks work ready (held_in T h.tag h.slots S narrow wide pool) (hs ++ values) sealed pins (Traced n) marks' work' q n refl
+            whole-marked h.slots marks work ready (held_in T h.tag h.slots S narrow wide pool) (hs ++ values) sealed pins (Some n) marks' work' q n refl
             ∙ ap (marks_in (length marks)) (formed-held h narrow wide pool wf T (hs ++ values) sealed pins es)

@@ -1,9 +1,8 @@
 -- The scratch of a marking as the state that crate `reach` defines: what the inner functions ask and ensure.
-use Rattle.std.specs.Prelude.{ℕ, ◌≤◌, ◌/◌, ◌%◌, ◌^◌, ◌≡◌, Bool, List, ◌++◌, map, length, take}
+use Rattle.trace.specs.Emit.{Answer}
+use Rattle.std.specs.Prelude.{Some, None, ℕ, ◌≤◌, ◌/◌, ◌%◌, ◌^◌, ◌≡◌, Bool, List, ◌++◌, map, length, take}
 use Rattle.std.proofs.Math.Option.{Option, none, some}
 use Rattle.reach.specs.Marking.{State, Good, follow_all, pin_all}
-use Rattle.trace.specs.declared.Answer.{Answer}
-use Rattle.trace.specs.declared.Answer.TheVariants.{Traced, Untraceable}
 
 -- the lower half of a word, where the queue stands, and the upper half, where a call notes something of a slot
 abbrev pub low : ℕ → ℕ
@@ -36,8 +35,8 @@ following R s (some hs) = some (follow_all R s hs)
 
 -- what the answer of a trace says, with marks and work as they are then: the state, or that there is none
 abbrev pub Traces : Answer → ℕ → List ℕ → List ℕ → Option State → Type 0
-Traces (Traced n) slots marks work o = (o ≡ some (state_of marks work n)) × Scratch slots marks work n
-Traces Untraceable slots marks work o = o ≡ none
+Traces (Some n) slots marks work o = (o ≡ some (state_of marks work n)) × Scratch slots marks work n
+Traces None slots marks work o = o ≡ none
 
 -- a state after the roots, the seals and the pins: R says what a handle leads to, L which slots are live
 abbrev pub seeded_from : (R : ℕ → Option ℕ) (L : ℕ → Bool) → State → (roots sealed pins : List ℕ) → State
@@ -49,5 +48,5 @@ Noted work work' = map high work' ≡ map high work
 
 -- after a trace that succeeded
 abbrev pub NotedBy : Answer → (work work' : List ℕ) → Type 0
-NotedBy (Traced n) work work' = Noted work work'
-NotedBy Untraceable work work' = Unit {0}
+NotedBy (Some n) work work' = Noted work work'
+NotedBy None work work' = Unit {0}

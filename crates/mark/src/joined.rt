@@ -16,7 +16,8 @@ ghost use Rattle.mark.specs.Joining.{in_use, taking, value_of, row_values, CanHo
 use crate::Outcome;
 use crate::hold::{hold_address, hold_all, hold_frame};
 use heap::Heap;
-use trace::{Answer, Sink};
+use trace::Sink;
+use ty::Table;
 
 // The value of register q is taken, if there is that register and it is of the class that is wanted: a handle (class 4) is followed, an address (class 2) is looked up
 // and its slot pinned.
@@ -167,7 +168,7 @@ fn mark_frame(
     addresses: &[u64],
     marks: &mut [u8],
     work: &mut [u64],
-) -> Answer
+) -> Option<usize>
     requires fit { Fit slots s narrow.now wide.now pool.now }
     requires can_hold { CanHold slots addresses.now classes.now values.now }
     requires scratch { Scratch slots marks.old work.old 0 }
@@ -181,10 +182,12 @@ fn mark_frame(
         ++ row_values 2 classes.now row.now values.now))) }
 {
     let r = frame::trace_frame(
-        types,
-        fields,
-        consts,
-        bytes,
+        &Table {
+            types,
+            fields,
+            consts,
+            bytes,
+        },
         tag,
         slots,
         s,
@@ -197,8 +200,8 @@ fn mark_frame(
         work,
         0,
     );
-    let Answer::Traced(n) = r else {
-        return Answer::Untraceable;
+    let Some(n) = r else {
+        return None;
     };
     let m = seed_joined(
         tag, slots, s, narrow, classes, row, values, map, memory, sealed, pins, addresses, marks,
@@ -266,7 +269,7 @@ pub fn mark_joined(
         &mut marks[..heap.slots],
         work,
     );
-    let Answer::Traced(_) = r else {
+    let Some(_) = r else {
         return Outcome::Untraceable;
     };
     Outcome::Marked

@@ -15,7 +15,8 @@ ghost use Rattle.mark.specs.Scratch.{state_of, Scratch, Holds, following, Traces
 ghost use Rattle.mark.specs.Told.{told, marks_in, heap_marks, Ready};
 
 use heap::Heap;
-use trace::{Answer, Sink};
+use trace::Sink;
+use ty::Table;
 
 pub mod hold; // what is pinned, by pins and by addresses
 pub mod joined; // the marking of a joined collection
@@ -141,7 +142,7 @@ fn trace_at(
     marks: &mut [u8],
     work: &mut [u64],
     n: usize,
-) -> Answer
+) -> Option<usize>
     requires fit { Fit slots s narrow.now wide.now pool.now }
     requires scratch { Scratch slots marks.old work.old n }
     requires i_lt_slots { i < slots }
@@ -156,10 +157,12 @@ fn trace_at(
     let t = narrow[2 * s + i] as u64;
     let start = wide[i] as usize;
     trace::trace_slot(
-        types,
-        fields,
-        consts,
-        bytes,
+        &Table {
+            types,
+            fields,
+            consts,
+            bytes,
+        },
         tag,
         slots,
         s,
@@ -191,7 +194,7 @@ pub fn drain(
     work: &mut [u64],
     n: usize,
     from: usize,
-) -> Answer
+) -> Option<usize>
     requires fit { Fit slots s narrow.now wide.now pool.now }
     requires scratch { Scratch slots marks.old work.old n }
     ensures traces { Traces result slots marks.new work.new (drained
@@ -206,13 +209,13 @@ pub fn drain(
         let r = trace_at(
             types, fields, consts, bytes, tag, slots, s, narrow, wide, pool, i, marks, work, count,
         );
-        let Answer::Traced(m) = r else {
-            return Answer::Untraceable;
+        let Some(m) = r else {
+            return None;
         };
         count = m;
         next += 1;
     }
-    Answer::Traced(count)
+    Some(count)
 }
 
 // All that is reached from what is queued, the roots, the seals and the pins is marked.
@@ -233,7 +236,7 @@ pub fn mark_from(
     marks: &mut [u8],
     work: &mut [u64],
     n: usize,
-) -> Answer
+) -> Option<usize>
     requires fit { Fit slots s narrow.now wide.now pool.now }
     requires scratch { Scratch slots marks.old work.old n }
     ensures traces { Traces result slots marks.new work.new (drained
@@ -290,7 +293,7 @@ pub fn mark(
         work,
         0,
     );
-    let Answer::Traced(_) = r else {
+    let Some(_) = r else {
         return Outcome::Untraceable;
     };
     Outcome::Marked

@@ -11,6 +11,7 @@ ghost use Rattle.rehearse_door.specs.Rehearse.{rehearse_tests, rehearse_call, Pl
 use door::{Done, Entry};
 use heap::Heap;
 use refusal::{Refusal, Reply};
+use ty::Table;
 
 // Do scratch, text, lent sizes, type table and output let it begin?
 fn admit(
@@ -54,7 +55,7 @@ fn admit(
     if heap::sizes_fit(narrow.len(), wide.len(), pool.len()) {} else {
         return Entry::Not(Refusal::BrokenHeap);
     }
-    if ty::check_table(types, fields, consts, bytes) {} else {
+    if (Table { types, fields, consts, bytes }).check_table() {} else {
         return Entry::Not(Refusal::TypeTable);
     }
     if out.len() / 80 < thresholds.len() {

@@ -15,6 +15,7 @@ use door::Entry;
 use heap::Heap;
 use refusal::{Answer, Refusal, Reply};
 use std::cmp::Ordering;
+use ty::Table;
 
 // Is there a byte and a word for each lent slot?
 fn is_enough(narrow: &[u32], marks: &[u8], work: &[u64]) -> bool
@@ -112,7 +113,7 @@ fn admit(
     ) {
         Entry::Not(why) => Entry::Not(why),
         Entry::Ready => {
-            if !ty::check_table(types, fields, consts, bytes) {
+            if !(Table { types, fields, consts, bytes }).check_table() {
                 return Entry::Not(Refusal::TypeTable);
             }
             Entry::Ready

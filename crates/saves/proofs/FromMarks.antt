@@ -4,12 +4,12 @@ use mathlib.Core.Path.{◌≡◌, refl, sym, ◌∙◌}
 use mathlib.Core.Option.{Option}
 use mathlib.Core.List.{List, [], map, append-nil}
 use lib.ListN.{get_or, take, replicate}
+use Rattle.std.specs.Prelude.{Some, None}
 use Rattle.word.specs.Run.{run}
 use Rattle.handle.specs.Columns.{live_in}
 use Rattle.heap.specs.Packing.{data_at}
 use Rattle.ty.specs.Types.{Table}
 use Rattle.trace.specs.Emit.{resolve_in}
-use Rattle.trace.specs.declared.Answer.TheVariants.{Traced, Untraceable}
 use Rattle.reach.specs.Marking.{State, nothing, follow_all, drained}
 use Rattle.collection.proofs.Demand.{found_ok}
 use Rattle.mark.specs.Graph.{leads_to, shown_in, graph_in}
@@ -45,7 +45,7 @@ module _ (T : Table) (tag slots S : ℕ) (narrow wide pool : List ℕ) where
         λ j. drained (graph_in T tag slots S narrow wide pool) slots (follow_all (leads_to tag slots S narrow) (record { marks = clear j; queue = [] }) (append-nil roots j)) 0
 
     pub marks-traced : (n : ℕ) (marks work : List ℕ)
-        → Traces (Traced n) slots marks work
+        → Traces (Some n) slots marks work
         (drained (graph_in T tag slots S narrow wide pool) slots (seeded_from (leads_to tag slots S narrow) (live_in slots (run S S narrow)) (state_of marks₀ work₀ 0) roots [] []) 0)
         → Traceable (columns_model T tag slots S narrow wide pool) roots × (map low (take n work) ≡ met (columns_model T tag slots S narrow wide pool) roots slots)
     marks-traced n marks work t =
@@ -53,7 +53,7 @@ module _ (T : Table) (tag slots S : ℕ) (narrow wide pool : List ℕ) where
         (r.0, sym r.1)
 
     pub marks-untraced : (marks work : List ℕ)
-        → Traces Untraceable slots marks work
+        → Traces None slots marks work
         (drained (graph_in T tag slots S narrow wide pool) slots (seeded_from (leads_to tag slots S narrow) (live_in slots (run S S narrow)) (state_of marks₀ work₀ 0) roots [] []) 0)
         → Stops (columns_model T tag slots S narrow wide pool) roots
     marks-untraced marks work t = marks-stuck M roots slots columns-slots (graph_in T tag slots S narrow wide pool) (λ h. refl) columns-shown (sym from_nothing ∙ t)

@@ -17,6 +17,7 @@ use door::Entry;
 use heap::Heap;
 use refusal::{Answer, Refusal, Reply};
 use trace::Sink;
+use ty::Table;
 
 // Do scratch, heap and type table let the handles of a slot be listed?
 fn admit(
@@ -39,7 +40,7 @@ fn admit(
     match door::enter(heap, narrow, wide, pool, marks, work) {
         Entry::Not(why) => Entry::Not(why),
         Entry::Ready => {
-            if !ty::check_table(types, fields, consts, bytes) {
+            if !(Table { types, fields, consts, bytes }).check_table() {
                 return Entry::Not(Refusal::TypeTable);
             }
             Entry::Ready
@@ -69,10 +70,12 @@ fn list_shown(
     let mut unused = [0u64; 1];
     let limit = out.len();
     let c = trace::trace_slot(
-        types,
-        fields,
-        consts,
-        bytes,
+        &Table {
+            types,
+            fields,
+            consts,
+            bytes,
+        },
         0,
         0,
         0,
@@ -86,17 +89,19 @@ fn list_shown(
         &mut unused,
         0,
     );
-    let trace::Answer::Traced(n) = c else {
+    let Some(n) = c else {
         return Reply::Not(Refusal::Untraceable);
     };
     if limit < n {
         return Reply::Not(Refusal::ShortList);
     }
     trace::trace_slot(
-        types,
-        fields,
-        consts,
-        bytes,
+        &Table {
+            types,
+            fields,
+            consts,
+            bytes,
+        },
         0,
         0,
         0,

@@ -12,6 +12,7 @@ ghost use Rattle.table_check.specs.Inner.Parsing.{table_of, Sectioned, Holding, 
 ghost use Rattle.table_check.specs.Inner.Admitting.{Admitted};
 
 use refusal::Refusal;
+use ty::Table;
 
 // Reads k numbers, each with a comma after it, from `at` on into a list from `to` on.
 pub fn get_numbers(
@@ -300,7 +301,13 @@ fn table_good(s: &[u8], x: Sections, words: &[u64], halves: &[u32]) -> bool
     let f = 2 * x.fields;
     let c = 16384 + 3 * x.consts;
     let n = x.bytes;
-    ty::check_table(&words[0..t], &halves[0..f], &words[16384..c], &s[0..n])
+    let table = Table {
+        types: &words[0..t],
+        fields: &halves[0..f],
+        consts: &words[16384..c],
+        bytes: &s[0..n],
+    };
+    table.check_table()
 }
 
 // What the first pass tells of a text: a table that can be read, or why it is refused.

@@ -12,6 +12,7 @@ ghost use Rattle.table_writer.specs.Parts.{NamesGot, named, rest_length, Ready};
 ghost use Rattle.table_writer.specs.Writing.{table_in, TableWritten};
 
 use refusal::{Refusal, Reply};
+use ty::Table;
 
 fn widened(x: u32) -> u64
     ensures { result ≡ x }
@@ -266,7 +267,7 @@ pub fn write(
     let NamesRead::At(a, b) = found else {
         return Reply::Not(Refusal::Page);
     };
-    if ty::check_table(types, fields, consts, bytes) {} else {
+    if (Table { types, fields, consts, bytes }).check_table() {} else {
         return Reply::Not(Refusal::TypeTable);
     }
     let rest = rest_len(types, fields, consts);

@@ -6,9 +6,9 @@ use mathlib.Core.Option.{Option, none, some}
 use mathlib.Core.List.{List, [], ◌∷◌}
 use lib.ListN.{length, get_or, drop, drop_of_length-le}
 use native.Mathlib.Omega.{arith}
+use Rattle.trace.specs.Emit.{Answer}
+use Rattle.std.specs.Prelude.{Some, None}
 use Rattle.word.proofs.ListLaws.{drop-cons-one}
-use Rattle.trace.specs.declared.Answer.{Answer}
-use Rattle.trace.specs.declared.Answer.TheVariants.{Traced, Untraceable}
 use Rattle.reach.specs.Reach.{Graph}
 use Rattle.mark.specs.Scratch.{Scratch}
 use Rattle.wanted.specs.Search.{Going, and_then, meeting, upward, again, downward}
@@ -38,7 +38,7 @@ unfolding upward
 upward-none G slots g = refl
 
 module _ (G : Graph) (slots : ℕ) (W marks₀ work₀ : List ℕ) (total : Option Going) (marks work : List ℕ) (count k : ℕ) (u : Upward G slots W marks₀ work₀ total marks work count k) where
-  pub up-end : length W ≤ k → Goes (Traced count) slots marks work total
+  pub up-end : length W ≤ k → Goes (Some count) slots marks work total
   up-end h = (
     sym u.same ∙ ap (λ (l : List ℕ). upward G slots l (going_of marks work count)) (drop_of_length-le W h) ∙ upward-none G slots (going_of marks work count),
     u.scratch,
@@ -58,14 +58,14 @@ module _ (G : Graph) (slots : ℕ) (W marks₀ work₀ : List ℕ) (total : Opti
       turn : total ≡ and_then (meeting G slots 1 (get_or W k 0) (going_of marks work count)) (upward G slots (drop (k + 1) W))
       turn = sym front ∙ upward-live G slots (get_or W k 0) (drop (k + 1) W) (going_of marks work count) (sym e ∙ d)
 
-      pub up-stuck : r ≡ Untraceable → total ≡ none
-      up-stuck q = turn ∙ ap (λ (o : Option Going). and_then o (upward G slots (drop (k + 1) W))) (at Untraceable q)
+      pub up-stuck : r ≡ None → total ≡ none
+      up-stuck q = turn ∙ ap (λ (o : Option Going). and_then o (upward G slots (drop (k + 1) W))) (at None q)
 
-      pub up_next : (m : ℕ) → r ≡ Traced m → length marks' ≡ length marks → length work' ≡ length work → Upward G slots W marks₀ work₀ total marks' work' m (k + 1)
+      pub up_next : (m : ℕ) → r ≡ Some m → length marks' ≡ length marks → length work' ≡ length work → Upward G slots W marks₀ work₀ total marks' work' m (k + 1)
       up_next m q a b =
           record {
-            scratch = (at (Traced m) q).1;
-            same = sym (turn ∙ ap (λ (o : Option Going). and_then o (upward G slots (drop (k + 1) W))) (at (Traced m) q).0);
+            scratch = (at (Some m) q).1;
+            same = sym (turn ∙ ap (λ (o : Option Going). and_then o (upward G slots (drop (k + 1) W))) (at (Some m) q).0);
             long = a ∙ u.long;
             words = b ∙ u.words;
           }
@@ -96,7 +96,7 @@ downward-none G slots W zero g h = refl
 downward-none G slots W (suc j) g h = absurd (omega arith)
 
 module _ (G : Graph) (slots : ℕ) (W marks₀ work₀ : List ℕ) (total : Option Going) (marks work : List ℕ) (count k : ℕ) (u : Downward G slots W marks₀ work₀ total marks work count k) where
-  pub down-end : k ≤ 0 → Goes (Traced count) slots marks work total
+  pub down-end : k ≤ 0 → Goes (Some count) slots marks work total
   down-end h = (sym u.same ∙ downward-none G slots W k (going_of marks work count) h, u.scratch)
 
   module _ (h : 0 < k) (r : Answer) (marks' work' : List ℕ) (g : Goes r slots marks' work' (again G slots (get_or W (k - 1) 0) (going_of marks work count))) where
@@ -106,14 +106,14 @@ module _ (G : Graph) (slots : ℕ) (W marks₀ work₀ : List ℕ) (total : Opti
     fall : total ≡ and_then (again G slots (get_or W (k - 1) 0) (going_of marks work count)) (downward G slots W (k - 1))
     fall = sym u.same ∙ downward-turn G slots W k (going_of marks work count) h
 
-    pub down-stuck : r ≡ Untraceable → total ≡ none
-    down-stuck q = fall ∙ ap (λ (o : Option Going). and_then o (downward G slots W (k - 1))) (fallen Untraceable q)
+    pub down-stuck : r ≡ None → total ≡ none
+    down-stuck q = fall ∙ ap (λ (o : Option Going). and_then o (downward G slots W (k - 1))) (fallen None q)
 
-    pub down-next : (m : ℕ) → r ≡ Traced m → length marks' ≡ length marks → length work' ≡ length work → Downward G slots W marks₀ work₀ total marks' work' m (k - 1)
+    pub down-next : (m : ℕ) → r ≡ Some m → length marks' ≡ length marks → length work' ≡ length work → Downward G slots W marks₀ work₀ total marks' work' m (k - 1)
     down-next m q a b =
         record {
-          scratch = (fallen (Traced m) q).1;
-          same = sym (fall ∙ ap (λ (o : Option Going). and_then o (downward G slots W (k - 1))) (fallen (Traced m) q).0);
+          scratch = (fallen (Some m) q).1;
+          same = sym (fall ∙ ap (λ (o : Option Going). and_then o (downward G slots W (k - 1))) (fallen (Some m) q).0);
           within = omega (arith, u.within);
           long = a ∙ u.long;
           words = b ∙ u.words;

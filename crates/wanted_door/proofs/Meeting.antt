@@ -9,14 +9,13 @@ use lib.Seq.{map-set_same}
 use lib.Dec.{eqb, ltb}
 use borrow.Author.Tests.{eq-eqb, ne_eqb, ltb-true, lt-ltb}
 use native.Mathlib.Omega.{arith}
+use Rattle.std.specs.Prelude.{Some, None}
 use Rattle.word.specs.Run.{run}
 use Rattle.word.proofs.Bools.{and_both}
 use Rattle.word.proofs.RunLaws.{run-get}
 use Rattle.handle.specs.Columns.{live_in}
 use Rattle.heap.proofs.Storing.{map-set}
-use Rattle.trace.specs.Emit.{raw_of, queued}
-use Rattle.trace.specs.declared.Answer.{Answer}
-use Rattle.trace.specs.declared.Answer.TheVariants.{Traced, Untraceable}
+use Rattle.trace.specs.Emit.{Answer, raw_of, queued}
 use Rattle.reach.specs.Reach.{Graph}
 use Rattle.reach.specs.Marking.{State, Good, visit, drained}
 use Rattle.mark.specs.Scratch.{low, high, state_of, Scratch, Holds, Traces, NotedBy}
@@ -83,7 +82,7 @@ pub met-scratch : (slots w : ℕ) (marks work : List ℕ) (n : ℕ) → Scratch 
 met-scratch slots w marks work n s l m₁ w₁ c₁ e = (queue-met slots marks work n w m₁ w₁ c₁ s l e).scratch
 
 module _ (G : Graph) (slots v w : ℕ) (marks work : List ℕ) (n : ℕ) (s : Scratch slots marks work n) where
-  pub met-old : (get_or marks w 0 ≡ 0 → ⊥) → Goes (Traced n) slots marks work (meeting G slots v w (going_of marks work n))
+  pub met-old : (get_or marks w 0 ≡ 0 → ⊥) → Goes (Some n) slots marks work (meeting G slots v w (going_of marks work n))
   met-old h = (meeting-old G slots v w (going_of marks work n) h, s)
 
   module _ (l : w < slots) (h : get_or marks w 0 ≡ 0) (m₁ w₁ : List ℕ) (c₁ : ℕ) (e : raw_of m₁ w₁ c₁ ≡ queued (raw_of marks work n) w) where
@@ -98,13 +97,13 @@ module _ (G : Graph) (slots v w : ℕ) (marks work : List ℕ) (n : ℕ) (s : Sc
       from : (o : Option State) → drained G (slots - n) (state_of m₁ w₁ c₁) n ≡ o → drained G (slots - length (map low (take n work))) (visit (state_of marks work n) w) (length (map low (take n work))) ≡ o
       from o q = (λ j. drained G (slots - queue-length slots marks work n s j) (sym held.state j) (queue-length slots marks work n s j)) ∙ q
 
-      pub met-stuck : r ≡ Untraceable → meeting G slots v w (going_of marks work n) ≡ none
-      met-stuck q = meeting-new G slots v w (going_of marks work n) h none (from none (at Untraceable q))
+      pub met-stuck : r ≡ None → meeting G slots v w (going_of marks work n) ≡ none
+      met-stuck q = meeting-new G slots v w (going_of marks work n) h none (from none (at None q))
 
-      pub met-new : (c : ℕ) → r ≡ Traced c
-          → Goes (Traced c) slots m₂ (set w₂ w (get_or w₂ w 0 % 4294967296 + v * 4294967296)) (meeting G slots v w (going_of marks work n))
+      pub met-new : (c : ℕ) → r ≡ Some c
+          → Goes (Some c) slots m₂ (set w₂ w (get_or w₂ w 0 % 4294967296 + v * 4294967296)) (meeting G slots v w (going_of marks work n))
       met-new c q =
-          let a = at (Traced c) q in
+          let a = at (Some c) q in
           let notes : map high (set w₂ w (over-note (get_or w₂ w 0) v)) ≡ set (map high work) w v =
           note-notes m₂ w₂ c w v ∙ ap (λ (x : List ℕ). set x w v) (subst (λ (y : Answer). NotedBy y w₁ w₂) q f ∙ pin-noted slots marks work n w m₁ w₁ c₁ s l e) in (
             meeting-new G slots v w (going_of marks work n) h (some (state_of m₂ w₂ c)) (from (some (state_of m₂ w₂ c)) a.0)
@@ -118,7 +117,7 @@ note-at : (v : ℕ) (work : List ℕ) (w : ℕ) → noted v (map high work) w �
 note-at v work w = ap (λ (x : ℕ). eqb x v) (get_or-map high work w 0)
 
 module _ (G : Graph) (slots w : ℕ) (marks work : List ℕ) (n : ℕ) where
-  pub again-passed : Scratch slots marks work n → (get_or work w 0 / 4294967296 ≡ 1 → ⊥) → Goes (Traced n) slots marks work (again G slots w (going_of marks work n))
+  pub again-passed : Scratch slots marks work n → (get_or work w 0 / 4294967296 ≡ 1 → ⊥) → Goes (Some n) slots marks work (again G slots w (going_of marks work n))
   again-passed s h = (again-no G slots w (going_of marks work n) (note-at 1 work w ∙ ne_eqb (get_or work w 0 / 4294967296) 1 h), s)
 
   pub again-met : get_or work w 0 / 4294967296 ≡ 1 → (r : Answer) (marks' work' : List ℕ) → Goes r slots marks' work' (meeting G slots 2 w (going_of marks work n)) → Goes r slots marks' work' (again G slots w (going_of marks work n))

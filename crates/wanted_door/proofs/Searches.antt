@@ -7,9 +7,8 @@ use mathlib.Core.List.{List, [], map}
 use lib.ListN.{length, get_or, replicate, length-replicate}
 use lib.Dec.{eqb}
 use native.Mathlib.Omega.{arith}
-use Rattle.std.specs.Prelude.{if◌then◌else◌}
-use Rattle.trace.specs.declared.Answer.{Answer}
-use Rattle.trace.specs.declared.Answer.TheVariants.{Traced, Untraceable}
+use Rattle.trace.specs.Emit.{Answer}
+use Rattle.std.specs.Prelude.{Some, None, if◌then◌else◌}
 use Rattle.reach.specs.Reach.{Graph}
 use Rattle.reach.specs.Marking.{State, drained, marking}
 use Rattle.mark.specs.Scratch.{high, state_of, Scratch, Traces, NotedBy, seeded_from}
@@ -47,23 +46,23 @@ module _ (G : Graph) (slots : ℕ) (sealed pins marks work : List ℕ) (c : Clea
   at x e = subst (λ (o : Option State). Traces x slots m₁ w₁ o) as-marking (subst (λ (y : Answer). Traces y slots m₁ w₁ (drained G slots (seeded_from G.resolve G.live (state_of marks work 0) [] sealed pins) 0)) e t)
 
   -- the marking stands, with the notes as they were
-  pub begun-scratch : (b : ℕ) → r ≡ Traced b → Scratch slots m₁ w₁ b
-  begun-scratch b e = (at (Traced b) e).1
+  pub begun-scratch : (b : ℕ) → r ≡ Some b → Scratch slots m₁ w₁ b
+  begun-scratch b e = (at (Some b) e).1
 
-  begun : (b : ℕ) → r ≡ Traced b → noting marked (map high work) ≡ some (going_of m₁ w₁ b)
-  begun b e = ap (λ (o : Option State). noting o (map high work)) (at (Traced b) e).0 ∙ ap (λ (l : List ℕ). some (going (state_of m₁ w₁ b) l)) (sym (subst (λ (y : Answer). NotedBy y work w₁) e f))
+  begun : (b : ℕ) → r ≡ Some b → noting marked (map high work) ≡ some (going_of m₁ w₁ b)
+  begun b e = ap (λ (o : Option State). noting o (map high work)) (at (Some b) e).0 ∙ ap (λ (l : List ℕ). some (going (state_of m₁ w₁ b) l)) (sym (subst (λ (y : Answer). NotedBy y work w₁) e f))
 
-  stuck : r ≡ Untraceable → noting marked (map high work) ≡ none
-  stuck e = ap (λ (o : Option State). noting o (map high work)) (at Untraceable e)
+  stuck : r ≡ None → noting marked (map high work) ≡ none
+  stuck e = ap (λ (o : Option State). noting o (map high work)) (at None e)
 
   module _ (W : List ℕ) where
-    pub keep-stuck : r ≡ Untraceable → none ≡ notes_of (firstly G (starts_of [] sealed pins) slots W (map high work))
+    pub keep-stuck : r ≡ None → none ≡ notes_of (firstly G (starts_of [] sealed pins) slots W (map high work))
     keep-stuck e = sym (ap (λ (o : Option Going). notes_of (and_then (and_then o (upward G slots W)) (as_many W))) (stuck e))
 
-    pub choose-stuck : r ≡ Untraceable → none ≡ notes_of (secondly G (starts_of [] sealed pins) slots W (map high work))
+    pub choose-stuck : r ≡ None → none ≡ notes_of (secondly G (starts_of [] sealed pins) slots W (map high work))
     choose-stuck e = sym (ap (λ (o : Option Going). notes_of (and_then o (downward G slots W (length W)))) (stuck e))
 
-    module _ (b : ℕ) (e : r ≡ Traced b) (q : Answer) (m₂ w₂ : List ℕ) where
+    module _ (b : ℕ) (e : r ≡ Some b) (q : Answer) (m₂ w₂ : List ℕ) where
       module _ (u : Goes q slots m₂ w₂ (upward G slots W (going_of m₁ w₁ b))) where
         up_at : (x : Answer) → q ≡ x → Goes x slots m₂ w₂ (upward G slots W (going_of m₁ w₁ b))
         up_at x i = subst (λ (y : Answer). Goes y slots m₂ w₂ (upward G slots W (going_of m₁ w₁ b))) i u
@@ -71,21 +70,21 @@ module _ (G : Graph) (slots : ℕ) (sealed pins marks work : List ℕ) (c : Clea
         first : (o : Option Going) → upward G slots W (going_of m₁ w₁ b) ≡ o → notes_of (firstly G (starts_of [] sealed pins) slots W (map high work)) ≡ notes_of (and_then o (as_many W))
         first o i = ap (λ (p : Option Going). notes_of (and_then (and_then p (upward G slots W)) (as_many W))) (begun b e) ∙ ap (λ (p : Option Going). notes_of (and_then p (as_many W))) i
 
-        pub keep-none : q ≡ Untraceable → none ≡ notes_of (firstly G (starts_of [] sealed pins) slots W (map high work))
-        keep-none i = sym (first none (up_at Untraceable i))
+        pub keep-none : q ≡ None → none ≡ notes_of (firstly G (starts_of [] sealed pins) slots W (map high work))
+        keep-none i = sym (first none (up_at None i))
 
-        pub keep-tested : (n : ℕ) → q ≡ Traced n → notes_if (eqb n (length W)) w₂ ≡ notes_of (firstly G (starts_of [] sealed pins) slots W (map high work))
+        pub keep-tested : (n : ℕ) → q ≡ Some n → notes_if (eqb n (length W)) w₂ ≡ notes_of (firstly G (starts_of [] sealed pins) slots W (map high work))
         unfolding as_many
         keep-tested n i =
-            let a = up_at (Traced n) i in
+            let a = up_at (Some n) i in
             by (eqb n (length W)) ∙ ap (λ (k : ℕ). notes_of (if eqb k (length W) then some (going_of m₂ w₂ n) else none)) (sym (queue-length slots m₂ w₂ n a.1)) ∙ sym (first (some (going_of m₂ w₂ n)) a.0)
           where
             by : (x : Bool) → notes_if x w₂ ≡ notes_of (if x then some (going_of m₂ w₂ n) else none)
             by true = refl
             by false = refl
 
-        pub keep-inside : ((i : ℕ) → G.live i ≡ true → i < slots) → (n : ℕ) → q ≡ Traced n → Inside W slots
-        keep-inside below n i k h = below (get_or W k 0) (upward-live G slots W (going_of m₁ w₁ b) (going_of m₂ w₂ n) (up_at (Traced n) i).0 k h)
+        pub keep-inside : ((i : ℕ) → G.live i ≡ true → i < slots) → (n : ℕ) → q ≡ Some n → Inside W slots
+        keep-inside below n i k h = below (get_or W k 0) (upward-live G slots W (going_of m₁ w₁ b) (going_of m₂ w₂ n) (up_at (Some n) i).0 k h)
 
       module _ (u : Goes q slots m₂ w₂ (downward G slots W (length W) (going_of m₁ w₁ b))) where
         down-at : (x : Answer) → q ≡ x → Goes x slots m₂ w₂ (downward G slots W (length W) (going_of m₁ w₁ b))
@@ -94,11 +93,11 @@ module _ (G : Graph) (slots : ℕ) (sealed pins marks work : List ℕ) (c : Clea
         second : (o : Option Going) → downward G slots W (length W) (going_of m₁ w₁ b) ≡ o → notes_of (secondly G (starts_of [] sealed pins) slots W (map high work)) ≡ notes_of o
         second o i = ap (λ (p : Option Going). notes_of (and_then p (downward G slots W (length W)))) (begun b e) ∙ ap notes_of i
 
-        pub choose-none : q ≡ Untraceable → none ≡ notes_of (secondly G (starts_of [] sealed pins) slots W (map high work))
-        choose-none i = sym (second none (down-at Untraceable i))
+        pub choose-none : q ≡ None → none ≡ notes_of (secondly G (starts_of [] sealed pins) slots W (map high work))
+        choose-none i = sym (second none (down-at None i))
 
-        pub choose-done : (n : ℕ) → q ≡ Traced n → some (map high w₂) ≡ notes_of (secondly G (starts_of [] sealed pins) slots W (map high work))
-        choose-done n i = sym (second (some (going_of m₂ w₂ n)) (down-at (Traced n) i).0)
+        pub choose-done : (n : ℕ) → q ≡ Some n → some (map high w₂) ≡ notes_of (secondly G (starts_of [] sealed pins) slots W (map high work))
+        choose-done n i = sym (second (some (going_of m₂ w₂ n)) (down-at (Some n) i).0)
 
 -- ---- both
 

@@ -16,6 +16,7 @@ ghost use Rattle.wanted_door.specs.RootsFor.{root_handles, wanted_tests, roots_c
 use door::Entry;
 use heap::Heap;
 use refusal::{Answer, Refusal, Reply};
+use ty::Table;
 
 mod list; // the roots that were picked, counted and written
 mod pick; // the two goings through the wanted slots
@@ -43,7 +44,7 @@ fn admit(
     match door::enter(heap, narrow, wide, pool, marks, work) {
         Entry::Not(why) => Entry::Not(why),
         Entry::Ready => {
-            if !ty::check_table(types, fields, consts, bytes) {
+            if !(Table { types, fields, consts, bytes }).check_table() {
                 return Entry::Not(Refusal::TypeTable);
             }
             if !heap_calls::recycle::rise(pins) {

@@ -13,7 +13,6 @@ ghost use Rattle.wanted.specs.Search as search;
 ghost use Rattle.wanted.specs.Search.{meeting, upward, downward, firstly, secondly, notes_of, searched};
 ghost use Rattle.wanted_door.specs.Inner.Picking.{going_of, Goes, notes_if, Inside, Room, Clear};
 
-use trace::Answer;
 
 // Is there an object in slot `w`?
 fn is_live(slots: usize, s: usize, narrow: &[u32], w: u32) -> bool
@@ -44,7 +43,7 @@ fn meet(
     marks: &mut [u8],
     work: &mut [u64],
     n: usize,
-) -> Answer
+) -> Option<usize>
     requires fit { Fit slots s narrow.now wide.now pool.now }
     requires scratch { Scratch slots marks.old work.old n }
     requires w_lt_slots { w < slots }
@@ -54,17 +53,17 @@ fn meet(
 {
     let i = w as usize;
     if marks[i] != 0 {
-        return Answer::Traced(n);
+        return Some(n);
     }
     let m = trace::queue(marks, work, n, w);
     let r = mark::drain(
         types, fields, consts, bytes, tag, slots, s, narrow, wide, pool, marks, work, m, n,
     );
-    let Answer::Traced(c) = r else {
-        return Answer::Untraceable;
+    let Some(c) = r else {
+        return None;
     };
     work[i] = work[i] % 4294967296 + (note as u64) * 4294967296;
-    Answer::Traced(c)
+    Some(c)
 }
 
 // The wanted slots, rising: each that is not marked yet is a candidate. Untraceable: one is no object, or leads to what can't be traced.
@@ -83,7 +82,7 @@ fn candidates(
     marks: &mut [u8],
     work: &mut [u64],
     n: usize,
-) -> Answer
+) -> Option<usize>
     requires fit { Fit slots s narrow.now wide.now pool.now }
     requires scratch { Scratch slots marks.old work.old n }
     ensures { Goes result slots marks.new work.new (upward
@@ -95,19 +94,19 @@ fn candidates(
     while k < wanted.len() {
         let w = wanted[k];
         if !is_live(slots, s, narrow, w) {
-            return Answer::Untraceable;
+            return None;
         }
         let r = meet(
             types, fields, consts, bytes, tag, slots, s, narrow, wide, pool, w, 1, marks, work,
             count,
         );
-        let Answer::Traced(m) = r else {
-            return Answer::Untraceable;
+        let Some(m) = r else {
+            return None;
         };
         count = m;
         k += 1;
     }
-    Answer::Traced(count)
+    Some(count)
 }
 
 // A candidate is met once more; another slot is passed over.
@@ -126,7 +125,7 @@ fn again(
     marks: &mut [u8],
     work: &mut [u64],
     n: usize,
-) -> Answer
+) -> Option<usize>
     requires fit { Fit slots s narrow.now wide.now pool.now }
     requires scratch { Scratch slots marks.old work.old n }
     requires w_lt_slots { w < slots }
@@ -136,7 +135,7 @@ fn again(
 {
     let i = w as usize;
     if work[i] / 4294967296 != 1 {
-        return Answer::Traced(n);
+        return Some(n);
     }
     meet(
         types, fields, consts, bytes, tag, slots, s, narrow, wide, pool, w, 2, marks, work, n,
@@ -159,7 +158,7 @@ fn choose(
     marks: &mut [u8],
     work: &mut [u64],
     n: usize,
-) -> Answer
+) -> Option<usize>
     requires fit { Fit slots s narrow.now wide.now pool.now }
     requires scratch { Scratch slots marks.old work.old n }
     requires inside { Inside wanted.now slots }
@@ -174,13 +173,13 @@ fn choose(
         let r = again(
             types, fields, consts, bytes, tag, slots, s, narrow, wide, pool, w, marks, work, count,
         );
-        let Answer::Traced(m) = r else {
-            return Answer::Untraceable;
+        let Some(m) = r else {
+            return None;
         };
         count = m;
         k -= 1;
     }
-    Answer::Traced(count)
+    Some(count)
 }
 
 // Can just the wanted slots be kept? What seals, pins and they lead to can be traced, and is not more than they. 1 is noted of the candidates.
@@ -226,13 +225,13 @@ fn can_keep(
         work,
         0,
     );
-    let Answer::Traced(b) = r else {
+    let Some(b) = r else {
         return false;
     };
     let q = candidates(
         types, fields, consts, bytes, tag, slots, s, narrow, wide, pool, wanted, marks, work, b,
     );
-    let Answer::Traced(n) = q else {
+    let Some(n) = q else {
         return false;
     };
     n == wanted.len()
@@ -282,13 +281,13 @@ fn choose_roots(
         work,
         0,
     );
-    let Answer::Traced(b) = r else {
+    let Some(b) = r else {
         return false;
     };
     let q = choose(
         types, fields, consts, bytes, tag, slots, s, narrow, wide, pool, wanted, marks, work, b,
     );
-    let Answer::Traced(_) = q else {
+    let Some(_) = q else {
         return false;
     };
     true

@@ -2,32 +2,30 @@
 use mathlib.Core.Path.{◌≡◌, refl, sym, ap, ◌∙◌}
 use mathlib.Core.Bool.{Bool, true, false}
 use mathlib.Core.List.{List}
-use mathlib.Core.Option.{Option, none, some}
 use native.Mathlib.Omega.{arith}
 use Prim.Native.Nat.{ℕ}
 use Rattle.ty.specs.Words.{Word}
-use Rattle.std.specs.Prelude.{if◌then◌else◌, Some, None}
+use Rattle.std.specs.Prelude.{Option, Some, None, if◌then◌else◌}
 use Rattle.word.specs.Result.{Result, ok, refused}
 use Rattle.refusal.specs.Told.{answered, refused_by, here, nothing}
 use Rattle.refusal.specs.declared.Answer.{Answer}
 use Rattle.ty.specs.Check.{table_good}
-use Rattle.ty.specs.Walks.{desc_size, desc_bytes, exactly, has_handles}
+use Rattle.ty.specs.Walks.{desc_size, desc_bytes, has_handles}
 use Rattle.ty.specs.View.{types_of, table_of}
 use Rattle.ty.proofs.Sizes.{exact}
 use Rattle.layout.specs.Offsets.{Values, told, layout_call, written_by}
-use Rattle.layout.specs.declared.Answer as laying
 use Rattle.yexwalu.specs.Table.{on_table}
 use Rattle.yexwalu.specs.Types.{laid, layout_called, sized, size_called, handles_called}
 use Rattle.yexwalu.specs.declared.types.LayoutAnswer.{LayoutAnswer}
 use Rattle.yexwalu.proofs.TableCalls.{table-bad, table-good}
 
-sized-some : (x : Option ℕ) (n : ℕ) → exactly x ≡ Some n → sized x ≡ ok n
-sized-some none n e = let z : ◌≡◌ {A = ℕ} 0 1 = cc in absurd (omega arith)
-sized-some (some m) n e = let q : m ≡ n = cc in ap ok q
+sized-some : (x : Option ℕ) (n : ℕ) → x ≡ Some n → sized x ≡ ok n
+sized-some None n e = let z : ◌≡◌ {A = ℕ} 0 1 = cc in absurd (omega arith)
+sized-some (Some m) n e = let q : m ≡ n = cc in ap ok q
 
-sized-none : (x : Option ℕ) → exactly x ≡ None → sized x ≡ refused 11
-sized-none none e = refl
-sized-none (some m) e = let z : ◌≡◌ {A = ℕ} 0 1 = cc in absurd (omega arith)
+sized-none : (x : Option ℕ) → x ≡ None → sized x ≡ refused 11
+sized-none None e = refl
+sized-none (Some m) e = let z : ◌≡◌ {A = ℕ} 0 1 = cc in absurd (omega arith)
 
 module _ (w fs cs b : List ℕ) (t : ℕ) {g : Bool} (eg : g ≡ table_good w fs cs b) where
   -- refused: whatever the call is
@@ -38,7 +36,7 @@ module _ (w fs cs b : List ℕ) (t : ℕ) {g : Bool} (eg : g ≡ table_good w fs
   answer-passed {r} {x} {y} h q e = e ∙ sym (ap (answered here nothing) (table-good w fs cs b eg x h ∙ q))
 
   -- a checked table's size is exact
-  size_exact : {x y : Word} → g ≡ true → x ≡ desc_size (types_of w fs) t → x ≡ y → exactly (desc_bytes (types_of w fs) t) ≡ y
+  size_exact : {x y : Word} → g ≡ true → x ≡ desc_size (types_of w fs) t → x ≡ y → desc_bytes (types_of w fs) t ≡ y
   size_exact h e q = sym (exact w fs cs b (sym eg ∙ h) t) ∙ sym e ∙ q
 
   pub size-passed : {x : Word} {n : ℕ} {r : Answer} → g ≡ true → x ≡ desc_size (types_of w fs) t → x ≡ Some n → r ≡ answered here nothing (ok n) → r ≡ answered here nothing (size_called w fs cs b t)

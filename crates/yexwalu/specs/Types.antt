@@ -1,6 +1,5 @@
 -- What the calls about types answer (01, "Type table"; 10, then 11 or 12, then 7).
-use Rattle.std.specs.Prelude.{ℕ, List, if◌then◌else◌}
-use Rattle.std.proofs.Math.Option.{Option, none, some}
+use Rattle.std.specs.Prelude.{Option, Some, None, ℕ, List, if◌then◌else◌}
 use Rattle.word.specs.Result.{Result, ok, refused}
 use Rattle.ty.specs.Walks.{desc_bytes, has_handles}
 use Rattle.ty.specs.View.{types_of, table_of}
@@ -19,8 +18,8 @@ layout_called w fs cs b t d places = on_table w fs cs b (layout_call (table_of w
 
 -- "no size" is told as 11
 abbrev pub sized : Option ℕ → Result ℕ
-sized (some n) = ok n
-sized none = refused 11
+sized (Some n) = ok n
+sized None = refused 11
 
 abbrev pub size_called : (w fs cs b : List ℕ) (t : ℕ) → Result ℕ
 size_called w fs cs b t = on_table w fs cs b (sized (desc_bytes (types_of w fs) t))

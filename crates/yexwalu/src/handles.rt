@@ -9,6 +9,7 @@ ghost use Rattle.yexwalu.specs.Table.{on_table};
 ghost use Rattle.yexwalu.specs.Handles.{HandlesCall, RootsCall};
 
 use refusal::{Answer, Refusal, Reply};
+use ty::Table;
 pub use slot_door::{yexwalu_slot_handles as slot_handles, yexwalu_traceable as traceable};
 pub use yexwalu_object_handles as object_handles;
 pub use yexwalu_slot_roots as slot_roots;
@@ -29,10 +30,15 @@ pub fn yexwalu_object_handles(
         (length out.old)))
         out.old out.new result }
 {
-    if !ty::check_table(types, fields, consts, bytes) {
+    if !(Table { types, fields, consts, bytes }).check_table() {
         return Reply::Not(Refusal::TypeTable).numbers();
     }
-    let reply = trace::list_object(types, fields, consts, bytes, t, data, out);
+    let reply = trace::list_object(&Table {
+            types,
+            fields,
+            consts,
+            bytes,
+        }, t, data, out);
     reply.numbers()
 }
 
@@ -51,10 +57,15 @@ pub fn yexwalu_value_handles(
         (length out.old)))
         out.old out.new result }
 {
-    if !ty::check_table(types, fields, consts, bytes) {
+    if !(Table { types, fields, consts, bytes }).check_table() {
         return Reply::Not(Refusal::TypeTable).numbers();
     }
-    let reply = trace::list_value(types, fields, consts, bytes, t, data, out);
+    let reply = trace::list_value(&Table {
+            types,
+            fields,
+            consts,
+            bytes,
+        }, t, data, out);
     reply.numbers()
 }
 
@@ -76,11 +87,16 @@ pub fn yexwalu_slot_roots(
         (length handles.old) (length addresses.old)))
         handles.old addresses.old handles.new addresses.new result }
 {
-    if !ty::check_table(types, fields, consts, bytes) {
+    if !(Table { types, fields, consts, bytes }).check_table() {
         return Reply::Not(Refusal::TypeTable).numbers();
     }
     let reply = frame::list_roots(
-        types, fields, consts, bytes, map, memory, handles, addresses,
+        &Table {
+            types,
+            fields,
+            consts,
+            bytes,
+        }, map, memory, handles, addresses,
     );
     reply.numbers()
 }

@@ -7,7 +7,7 @@ ghost use Rattle.layout.specs.Offsets.{told, offsets_of, written_by};
 ghost use Rattle.yexwalu.specs.Types.{laid, layout_called, size_called, handles_called};
 
 use refusal::{Answer, Refusal, Reply};
-use ty::Word;
+use ty::Table;
 pub use yexwalu_desc_size as desc_size;
 pub use yexwalu_has_handles as has_handles;
 
@@ -39,29 +39,20 @@ fn not_laid(why: Refusal) -> LayoutAnswer
     }
 }
 
-fn laid_out(a: layout::Answer) -> LayoutAnswer
+fn laid_out(a: Result<(layout::Layout, usize), Refusal>) -> LayoutAnswer
     ensures { result ≡ laid (told a) }
 {
     match a {
-        layout::Answer::Layout {
-            size,
-            align,
-            stride,
-            count,
-            used,
-            offsets,
-        } => LayoutAnswer {
+        Ok((l, offsets)) => LayoutAnswer {
             number: 0,
-            size: size,
-            align: align,
-            stride: stride,
-            count: count,
-            used: used as u64,
+            size: l.size,
+            align: l.align,
+            stride: l.stride,
+            count: l.count,
+            used: l.used as u64,
             offsets: offsets as u64,
         },
-        layout::Answer::Malformed => not_laid(Refusal::Malformed),
-        layout::Answer::TooLarge => not_laid(Refusal::TooLarge),
-        layout::Answer::ShortList => not_laid(Refusal::ShortList),
+        Err(why) => not_laid(why),
     }
 }
 
@@ -82,10 +73,15 @@ pub fn yexwalu_layout(
         (offsets_of (table_of types.now fields.now consts.now bytes.now) t desc.now)
         out.old }
 {
-    if !ty::check_table(types, fields, consts, bytes) {
+    if !(Table { types, fields, consts, bytes }).check_table() {
         return not_laid(Refusal::TypeTable);
     }
-    laid_out(layout::layout(types, fields, consts, bytes, t, desc, out))
+    laid_out(layout::lay_out(&Table {
+            types,
+            fields,
+            consts,
+            bytes,
+        }, t, desc, out))
 }
 
 // `yexwalu_layout` under its short name. An import can't rename it so, since a crate is called `layout`.
@@ -118,11 +114,10 @@ pub fn yexwalu_desc_size(
 ) -> Answer
     ensures { result ≡ answered here nothing (size_called types.now fields.now consts.now bytes.now t) }
 {
-    if !ty::check_table(types, fields, consts, bytes) {
+    if !(Table { types, fields, consts, bytes }).check_table() {
         return Reply::Not(Refusal::TypeTable).numbers();
     }
-    let w = ty::desc_size(types, fields, t);
-    let Word::Is(n) = w else {
+    let Some(n) = (Table { types, fields, consts, bytes }).desc_size(t) else {
         return Reply::Not(Refusal::Malformed).numbers();
     };
     Reply::Is(n, 0).numbers()
@@ -138,10 +133,10 @@ pub fn yexwalu_has_handles(
 ) -> Answer
     ensures { result ≡ answered here nothing (handles_called types.now fields.now consts.now bytes.now t) }
 {
-    if !ty::check_table(types, fields, consts, bytes) {
+    if !(Table { types, fields, consts, bytes }).check_table() {
         return Reply::Not(Refusal::TypeTable).numbers();
     }
-    if ty::has_handles(types, fields, t) {
+    if (Table { types, fields, consts, bytes }).has_handles(t) {
         return Reply::Is(1, 0).numbers();
     }
     Reply::Is(0, 0).numbers()

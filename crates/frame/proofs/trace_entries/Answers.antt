@@ -38,8 +38,8 @@ bounds-map-at-in-loop-at-2 c = omega (arith, c.loop-at-test.true, c.loop-at.inva
 pub overflow_cast-t : goal.overflow_cast-t
 overflow_cast-t c = omega (arith, c.type_inv.map (c.loop-at.at + 2))
 
-pub returns-in_default : goal.returns-in_default
-returns-in_default c = search entries-fail
+pub returns-in_err-m : goal.returns-in_err-m
+returns-in_err-m c = rw c.from_residual.ensures (entries-fail _ _ _ _ _ _ _ _ _ _ c.loop-at.invariant.2 c.loop-at-test.true c.requires.0 c.loop-at.invariant.1 c.trace_entry.result c.trace_entry.new.marks c.trace_entry.new.to c.trace_entry.ensures c.in_err-m.was)
 
 pub overflow_add-at : goal.overflow_add-at
 overflow_add-at c = omega (arith, c.loop-at-test.true, c.loop-at.invariant.0, c.loop-at.invariant.1, c.requires.0, c.well_formed)
@@ -48,7 +48,7 @@ pub loop-at-smaller : goal.loop-at-smaller
 loop-at-smaller c = omega (arith, c.loop-at-test.true, c.loop-at.invariant.0, c.loop-at.invariant.1, c.requires.0)
 
 pub loop-at-preserved : goal.loop-at-preserved
-loop-at-preserved c = (omega (arith, c.loop-at-test.true, c.loop-at.invariant.0, c.loop-at.invariant.1, c.requires.0), omega (arith, c.loop-at-test.true, c.loop-at.invariant.0, c.loop-at.invariant.1, c.requires.0), entries-more _ _ _ _ _ _ _ _ _ _ c.loop-at.invariant.2 c.loop-at-test.true c.requires.0 c.loop-at.invariant.1 c.trace_entry-r.result c.trace_entry-r.new.marks c.trace_entry-r.new.to c.trace_entry-r.ensures _ c.in-Traced.is, search rules, search rules)
+loop-at-preserved c = (omega (arith, c.loop-at-test.true, c.loop-at.invariant.0, c.loop-at.invariant.1, c.requires.0), omega (arith, c.loop-at-test.true, c.loop-at.invariant.0, c.loop-at.invariant.1, c.requires.0), entries-more _ _ _ _ _ _ _ _ _ _ c.loop-at.invariant.2 c.loop-at-test.true c.requires.0 c.loop-at.invariant.1 c.trace_entry.result c.trace_entry.new.marks c.trace_entry.new.to c.trace_entry.ensures _ c.in_ok-m.was, search rules, search rules)
 
 pub returns : goal.returns
 returns c = search entries-end

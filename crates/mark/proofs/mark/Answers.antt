@@ -23,4 +23,4 @@ pub returns-in_default : goal.returns-in_default
 returns-in_default c = heap-stuck c.args.heap c.args.narrow.now c.args.wide.now c.args.pool.now c.requires.pool_value c.args.marks.now c.args.work.now c.requires.ready (table_of c.args.types.now c.args.fields.now c.args.consts.now c.args.bytes.now) _ (formed-seals c.args.heap c.args.narrow.now c.args.wide.now c.args.pool.now c.requires.pool_value _ _ refl refl) c.args.pins.now c.args.roots.now c.mark_from-r.result _ _ c.mark_from-r.ensures.traces c.in_default.is
 
 pub returns : goal.returns
-returns c = heap-marked c.args.heap c.args.narrow.now c.args.wide.now c.args.pool.now c.requires.pool_value c.args.marks.now c.args.work.now c.requires.ready (table_of c.args.types.now c.args.fields.now c.args.consts.now c.args.bytes.now) _ (formed-seals c.args.heap c.args.narrow.now c.args.wide.now c.args.pool.now c.requires.pool_value _ _ refl refl) c.args.pins.now c.args.roots.now c.mark_from-r.result _ _ c.mark_from-r.ensures.traces _ c.in-Traced.is
+returns c = heap-marked c.args.heap c.args.narrow.now c.args.wide.now c.args.pool.now c.requires.pool_value c.args.marks.now c.args.work.now c.requires.ready (table_of c.args.types.now c.args.fields.now c.args.consts.now c.args.bytes.now) _ (formed-seals c.args.heap c.args.narrow.now c.args.wide.now c.args.pool.now c.requires.pool_value _ _ refl refl) c.args.pins.now c.args.roots.now c.mark_from-r.result _ _ c.mark_from-r.ensures.traces _ c.in-Some.is

@@ -10,4 +10,4 @@ pub returns-then-limit-n : goal.returns-then-limit-n
 returns-then-limit-n c = search list-short
 
 pub returns : goal.returns
-returns c = list_wrote _ _ _ c.trace_slot-c.new.marks c.trace_slot-c.new.to _ _ c.trace_slot-c.result c.trace_slot-c.ensures _ c.in-Traced.is (omega (arith, c.well_formed)) c.if-limit-n.false _ _ c.trace_slot.result c.trace_slot.new.marks c.trace_slot.new.to c.trace_slot.ensures
+returns c = list_wrote _ _ _ c.trace_slot-c.new.marks c.trace_slot-c.new.to _ _ c.trace_slot-c.result c.trace_slot-c.ensures _ c.in-Some.is (omega (arith, c.well_formed)) c.if-limit-n.false _ _ c.trace_slot.result c.trace_slot.new.marks c.trace_slot.new.to c.trace_slot.ensures

@@ -1,8 +1,7 @@
 -- What the inner functions of the search for roots say of marks and work: the marking as crate `mark` has it, the notes in the upper halves of the words.
-use Rattle.std.specs.Prelude.{◌≡◌, Bool, true, false, List, map, ℕ, ◌≤◌, ◌<◌, length, get_or, replicate}
+use Rattle.trace.specs.Emit.{Answer}
+use Rattle.std.specs.Prelude.{Some, None, ◌≡◌, Bool, true, false, List, map, ℕ, ◌≤◌, ◌<◌, length, get_or, replicate}
 use Rattle.std.proofs.Math.Option.{Option, none, some}
-use Rattle.trace.specs.declared.Answer.{Answer}
-use Rattle.trace.specs.declared.Answer.TheVariants.{Traced, Untraceable}
 use Rattle.mark.specs.Scratch.{high, state_of, Scratch}
 use Rattle.wanted.specs.Search.{Going, going}
 
@@ -12,8 +11,8 @@ going_of marks work n = going (state_of marks work n) (map high work)
 
 -- what the answer of a step says, with marks and work as they are then
 abbrev pub Goes : Answer → (slots : ℕ) (marks work : List ℕ) → Option Going → Type 0
-Goes (Traced n) slots marks work o = (o ≡ some (going_of marks work n)) × Scratch slots marks work n
-Goes Untraceable slots marks work o = o ≡ none
+Goes (Some n) slots marks work o = (o ≡ some (going_of marks work n)) × Scratch slots marks work n
+Goes None slots marks work o = o ≡ none
 
 -- the notes, if they were made
 abbrev pub notes_if : Bool → (work : List ℕ) → Option (List ℕ)

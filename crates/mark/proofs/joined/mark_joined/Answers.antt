@@ -27,4 +27,4 @@ pub returns-in_default : goal.returns-in_default
 returns-in_default c = joined-stuck c.args.heap c.args.narrow.now c.args.wide.now c.args.pool.now c.requires.pool_value c.args.marks.now c.args.work.now c.requires.ready (table_of c.args.types.now c.args.fields.now c.args.consts.now c.args.bytes.now) _ (formed-seals c.args.heap c.args.narrow.now c.args.wide.now c.args.pool.now c.requires.pool_value _ _ refl refl) (c.args.pins.now ++ slots_of c.args.addresses.now (addresses_in (table_of c.args.types.now c.args.fields.now c.args.consts.now c.args.bytes.now) c.args.map.now c.args.memory.now ++ row_values 2 c.args.classes.now c.args.row.now c.args.values.now)) (frame_handles (table_of c.args.types.now c.args.fields.now c.args.consts.now c.args.bytes.now) c.args.map.now c.args.memory.now) (row_values 4 c.args.classes.now c.args.row.now c.args.values.now) c.mark_frame-r.result _ _ c.mark_frame-r.ensures c.in_default.is
 
 pub returns : goal.returns
-returns c = joined-marked c.args.heap c.args.narrow.now c.args.wide.now c.args.pool.now c.requires.pool_value c.args.marks.now c.args.work.now c.requires.ready (table_of c.args.types.now c.args.fields.now c.args.consts.now c.args.bytes.now) _ (formed-seals c.args.heap c.args.narrow.now c.args.wide.now c.args.pool.now c.requires.pool_value _ _ refl refl) (c.args.pins.now ++ slots_of c.args.addresses.now (addresses_in (table_of c.args.types.now c.args.fields.now c.args.consts.now c.args.bytes.now) c.args.map.now c.args.memory.now ++ row_values 2 c.args.classes.now c.args.row.now c.args.values.now)) (frame_handles (table_of c.args.types.now c.args.fields.now c.args.consts.now c.args.bytes.now) c.args.map.now c.args.memory.now) (row_values 4 c.args.classes.now c.args.row.now c.args.values.now) c.mark_frame-r.result _ _ c.mark_frame-r.ensures _ c.in-Traced.is
+returns c = joined-marked c.args.heap c.args.narrow.now c.args.wide.now c.args.pool.now c.requires.pool_value c.args.marks.now c.args.work.now c.requires.ready (table_of c.args.types.now c.args.fields.now c.args.consts.now c.args.bytes.now) _ (formed-seals c.args.heap c.args.narrow.now c.args.wide.now c.args.pool.now c.requires.pool_value _ _ refl refl) (c.args.pins.now ++ slots_of c.args.addresses.now (addresses_in (table_of c.args.types.now c.args.fields.now c.args.consts.now c.args.bytes.now) c.args.map.now c.args.memory.now ++ row_values 2 c.args.classes.now c.args.row.now c.args.values.now)) (frame_handles (table_of c.args.types.now c.args.fields.now c.args.consts.now c.args.bytes.now) c.args.map.now c.args.memory.now) (row_values 4 c.args.classes.now c.args.row.now c.args.values.now) c.mark_frame-r.result _ _ c.mark_frame-r.ensures _ c.in-Some.is

@@ -14,10 +14,10 @@ pub returns-in_default : goal.returns-in_default
 returns-in_default c = record { work_after = keep-stuck (graph_in (table_of c.args.types.now c.args.fields.now c.args.consts.now c.args.bytes.now) c.args.tag c.args.slots c.args.s c.args.narrow.now c.args.wide.now c.args.pool.now) c.args.slots c.args.sealed.now c.args.pins.now c.args.marks.now c.args.work.now c.requires.clear c.mark_from-r.result c.mark_from-r.new.marks c.mark_from-r.new.work c.mark_from-r.ensures.traces c.mark_from-r.ensures.noted_by c.args.wanted.now c.in_default.is; inside = λ e. absurd (true-false (sym e)) }
 
 pub candidates-q-requires : goal.candidates-q-requires
-candidates-q-requires c = record { fit = c.requires.fit; scratch = begun-scratch (graph_in (table_of c.args.types.now c.args.fields.now c.args.consts.now c.args.bytes.now) c.args.tag c.args.slots c.args.s c.args.narrow.now c.args.wide.now c.args.pool.now) c.args.slots c.args.sealed.now c.args.pins.now c.args.marks.now c.args.work.now c.requires.clear c.mark_from-r.result c.mark_from-r.new.marks c.mark_from-r.new.work c.mark_from-r.ensures.traces c.mark_from-r.ensures.noted_by _ c.in-Traced.is }
+candidates-q-requires c = record { fit = c.requires.fit; scratch = begun-scratch (graph_in (table_of c.args.types.now c.args.fields.now c.args.consts.now c.args.bytes.now) c.args.tag c.args.slots c.args.s c.args.narrow.now c.args.wide.now c.args.pool.now) c.args.slots c.args.sealed.now c.args.pins.now c.args.marks.now c.args.work.now c.requires.clear c.mark_from-r.result c.mark_from-r.new.marks c.mark_from-r.new.work c.mark_from-r.ensures.traces c.mark_from-r.ensures.noted_by _ c.in-Some.is }
 
 pub returns-in_default-q : goal.returns-in_default-q
-returns-in_default-q c = record { work_after = keep-none (graph_in (table_of c.args.types.now c.args.fields.now c.args.consts.now c.args.bytes.now) c.args.tag c.args.slots c.args.s c.args.narrow.now c.args.wide.now c.args.pool.now) c.args.slots c.args.sealed.now c.args.pins.now c.args.marks.now c.args.work.now c.requires.clear c.mark_from-r.result c.mark_from-r.new.marks c.mark_from-r.new.work c.mark_from-r.ensures.traces c.mark_from-r.ensures.noted_by c.args.wanted.now _ c.in-Traced.is c.candidates-q.result c.candidates-q.new.marks c.candidates-q.new.work c.candidates-q.ensures c.in_default-q.is; inside = λ e. absurd (true-false (sym e)) }
+returns-in_default-q c = record { work_after = keep-none (graph_in (table_of c.args.types.now c.args.fields.now c.args.consts.now c.args.bytes.now) c.args.tag c.args.slots c.args.s c.args.narrow.now c.args.wide.now c.args.pool.now) c.args.slots c.args.sealed.now c.args.pins.now c.args.marks.now c.args.work.now c.requires.clear c.mark_from-r.result c.mark_from-r.new.marks c.mark_from-r.new.work c.mark_from-r.ensures.traces c.mark_from-r.ensures.noted_by c.args.wanted.now _ c.in-Some.is c.candidates-q.result c.candidates-q.new.marks c.candidates-q.new.work c.candidates-q.ensures c.in_default-q.is; inside = λ e. absurd (true-false (sym e)) }
 
 pub returns : goal.returns
-returns c = record { work_after = keep-tested (graph_in (table_of c.args.types.now c.args.fields.now c.args.consts.now c.args.bytes.now) c.args.tag c.args.slots c.args.s c.args.narrow.now c.args.wide.now c.args.pool.now) c.args.slots c.args.sealed.now c.args.pins.now c.args.marks.now c.args.work.now c.requires.clear c.mark_from-r.result c.mark_from-r.new.marks c.mark_from-r.new.work c.mark_from-r.ensures.traces c.mark_from-r.ensures.noted_by c.args.wanted.now _ c.in-Traced.is c.candidates-q.result c.candidates-q.new.marks c.candidates-q.new.work c.candidates-q.ensures _ c.in-Traced-q.is; inside = λ e. keep-inside (graph_in (table_of c.args.types.now c.args.fields.now c.args.consts.now c.args.bytes.now) c.args.tag c.args.slots c.args.s c.args.narrow.now c.args.wide.now c.args.pool.now) c.args.slots c.args.sealed.now c.args.pins.now c.args.marks.now c.args.work.now c.requires.clear c.mark_from-r.result c.mark_from-r.new.marks c.mark_from-r.new.work c.mark_from-r.ensures.traces c.mark_from-r.ensures.noted_by c.args.wanted.now _ c.in-Traced.is c.candidates-q.result c.candidates-q.new.marks c.candidates-q.new.work c.candidates-q.ensures (λ i l. live_below _ _ i l) _ c.in-Traced-q.is }
+returns c = record { work_after = keep-tested (graph_in (table_of c.args.types.now c.args.fields.now c.args.consts.now c.args.bytes.now) c.args.tag c.args.slots c.args.s c.args.narrow.now c.args.wide.now c.args.pool.now) c.args.slots c.args.sealed.now c.args.pins.now c.args.marks.now c.args.work.now c.requires.clear c.mark_from-r.result c.mark_from-r.new.marks c.mark_from-r.new.work c.mark_from-r.ensures.traces c.mark_from-r.ensures.noted_by c.args.wanted.now _ c.in-Some.is c.candidates-q.result c.candidates-q.new.marks c.candidates-q.new.work c.candidates-q.ensures _ c.in-Some-q.is; inside = λ e. keep-inside (graph_in (table_of c.args.types.now c.args.fields.now c.args.consts.now c.args.bytes.now) c.args.tag c.args.slots c.args.s c.args.narrow.now c.args.wide.now c.args.pool.now) c.args.slots c.args.sealed.now c.args.pins.now c.args.marks.now c.args.work.now c.requires.clear c.mark_from-r.result c.mark_from-r.new.marks c.mark_from-r.new.work c.mark_from-r.ensures.traces c.mark_from-r.ensures.noted_by c.args.wanted.now _ c.in-Some.is c.candidates-q.result c.candidates-q.new.marks c.candidates-q.new.work c.candidates-q.ensures (λ i l. live_below _ _ i l) _ c.in-Some-q.is }

@@ -35,7 +35,7 @@ pub overflow_add-k : goal.overflow_add-k
 overflow_add-k c = omega (arith, c.loop-k-test.true, c.well_formed)
 
 pub loop-k-preserved : goal.loop-k-preserved
-loop-k-preserved c = up_next _ _ _ _ _ _ _ _ _ _ c.loop-k.invariant c.loop-k-test.true _ c.is_live.ensures c.if-not-is_live.false _ _ _ c.meet-r.ensures _ c.in-Traced.is c.meet-r.auto.marks c.meet-r.auto.work
+loop-k-preserved c = up_next _ _ _ _ _ _ _ _ _ _ c.loop-k.invariant c.loop-k-test.true _ c.is_live.ensures c.if-not-is_live.false _ _ _ c.meet-r.ensures _ c.in-Some.is c.meet-r.auto.marks c.meet-r.auto.work
 
 pub shape_of-marks : goal.shape_of-marks
 shape_of-marks c = c.loop-k.invariant.long

@@ -28,7 +28,7 @@ pub loop-k-smaller : goal.loop-k-smaller
 loop-k-smaller c = omega (arith, c.loop-k-test.true)
 
 pub loop-k-preserved : goal.loop-k-preserved
-loop-k-preserved c = down-next _ _ _ _ _ _ _ _ _ _ c.loop-k.invariant c.loop-k-test.true _ _ _ c.again-r.ensures _ c.in-Traced.is c.again-r.auto.marks c.again-r.auto.work
+loop-k-preserved c = down-next _ _ _ _ _ _ _ _ _ _ c.loop-k.invariant c.loop-k-test.true _ _ _ c.again-r.ensures _ c.in-Some.is c.again-r.auto.marks c.again-r.auto.work
 
 pub shape_of-marks : goal.shape_of-marks
 shape_of-marks c = c.loop-k.invariant.long

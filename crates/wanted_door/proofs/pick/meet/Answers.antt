@@ -37,4 +37,4 @@ pub shape_of-work : goal.shape_of-work
 shape_of-work c = length-set {A = ℕ} c.drain-r.new.work c.args.w (get_or c.drain-r.new.work c.args.w 0 % 4294967296 + c.args.note * 4294967296) ∙ c.drain-r.auto.work ∙ c.queue-m.auto.to
 
 pub returns : goal.returns
-returns c = met-new _ _ _ _ _ _ _ c.requires.scratch c.requires.w_lt_slots c.if-marks-i-ne0.false _ _ _ c.queue-m.ensures _ _ _ c.drain-r.ensures.traces c.drain-r.ensures.noted_by _ c.in-Traced.is
+returns c = met-new _ _ _ _ _ _ _ c.requires.scratch c.requires.w_lt_slots c.if-marks-i-ne0.false _ _ _ c.queue-m.ensures _ _ _ c.drain-r.ensures.traces c.drain-r.ensures.noted_by _ c.in-Some.is

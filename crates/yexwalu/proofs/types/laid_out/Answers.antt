@@ -1,7 +1,8 @@
 -- `yexwalu::types::laid_out` meets its contract.
+use mathlib.Core.Path.{◌∙◌}
 use Rattle.refusal.proofs.Cases.{case}
 use Rattle.layout.specs.Offsets.{told}
-use Rattle.layout.specs.declared.Answer.{Answer}
+use Rattle.layout.specs.Layout.{Answer}
 use Rattle.yexwalu.specs.Types.{laid}
 use Rattle.yexwalu.specs.declared.types.LayoutAnswer.{LayoutAnswer}
 use Rattle.yexwalu.proofs.types.laid_out.Goals as goal
@@ -9,14 +10,8 @@ use Rattle.yexwalu.proofs.types.laid_out.Goals as goal
 abbrev F : Answer → LayoutAnswer
 F a = laid (told a)
 
-pub returns-in-Layout : goal.returns-in-Layout
-returns-in-Layout c = search (case F)
+pub returns-in-Ok : goal.returns-in-Ok
+returns-in-Ok c = search (case F)
 
-pub returns-in-Malformed : goal.returns-in-Malformed
-returns-in-Malformed c = search (case F)
-
-pub returns-in-TooLarge : goal.returns-in-TooLarge
-returns-in-TooLarge c = search (case F)
-
-pub returns-in-ShortList : goal.returns-in-ShortList
-returns-in-ShortList c = search (case F)
+pub returns-in-Err : goal.returns-in-Err
+returns-in-Err c = c.not_laid.ensures ∙ search (case F)
