@@ -12,25 +12,25 @@ use borrow.Author.Tests.{leb-true, eqb-true}
 use native.Mathlib.Nat.{mul-suc, zero-mul}
 use native.Mathlib.Decide.{ℕ_discrete, dec_lt}
 use native.Mathlib.Omega.{arith}
-use Rattle.std.specs.Prelude.{if◌then◌else◌, Some, None}
-use Rattle.trace.proofs.Levels.{from-laid, from-dims}
+use Rattle.std.specs.Prelude.{Some, None, Ok, Err, unwrap_or, if◌then◌else◌}
 use Rattle.ty.specs.Types.{Ty, Ty.missing, Ty.int, Ty.physical, Ty.enum, Ty.real, Ty.array, Ty.fields, Ty.access, Ty.file, Ty.protected, Field, Field.field, Const, Const.plain, Const.other, Table, type_at, const_at, none as no_const}
 use Rattle.ty.specs.Words.{on_word, word_of, round_up, Word}
 use Rattle.ty.specs.Scalars.{scalar_size, narrow, elem_size, logic_leaf}
 use Rattle.ty.specs.Walks.{desc_size, handles_at, has_handles}
-use Rattle.layout.specs.Layout.{on_bytes, dims_of, size_or, under, used_by, placed, end_of, array_laid, array_of, record_of, scalar_laid, layout_by, layout_at, layout_of}
+use Rattle.layout.specs.Layout.{Lay, laid, on_bytes, dims_of, under, used_by, placed, end_of, array_laid, array_of, record_of, scalar_laid, layout_by, layout_at, layout_of}
 use Rattle.layout.specs.Offsets.{offsets_from, offsets_of, fields_of}
-use Rattle.layout.specs.declared.Lay.{Lay}
-use Rattle.layout.specs.declared.Lay.TheVariants.{Laid, Malformed, TooLarge}
+use Rattle.refusal.specs.declared.Refusal.{Refusal}
+use Rattle.refusal.specs.declared.Refusal.TheVariants.{Malformed, TooLarge}
+use Rattle.layout.specs.declared.Layout.{Layout}
 use Rattle.trace.specs.Places.{Places, Below, only_if, both, many, turns, if_laid, if_bytes, part_places, field_places, places_by, places_at, object_places, rising, handles_places, kind_places, handle_at, words_at, handles_of}
 use Rattle.trace.specs.Walk.{if_placed, walk}
-use Rattle.trace.specs.declared.Placed.TheVariants.{At, Unplaced}
+use Rattle.trace.specs.declared.Placed.{Placed}
 use Rattle.trace.proofs.Walks.{walk_is}
 use Rattle.places.specs.StrideZero.{ShortConstants}
 use Rattle.places.specs.PlacesRise.{Apart, PlacesRise, HandlesRise}
 use Rattle.reach.specs.Reach.{◌∈◌}
 use Rattle.places.proofs.Least.{Least, places-least}
-use Rattle.places.proofs.NoRoom.{up, laid-parts, leaf-free, more}
+use Rattle.places.proofs.NoRoom.{laid-inj, from-laid, from-dims, up, laid-parts, leaf-free, more}
 
 -- ---- lists of places
 
@@ -89,7 +89,7 @@ sits-turns end f s st h g n at = go (eqb st 0) refl
 
 -- ---- numbers of a layout
 
-array-sizes : (n s' a' m' used s a st q u : ℕ) → array_laid 0 n s' a' m' used ≡ Laid s a st q u → (s' ≤ st) × (s ≡ st * q)
+array-sizes : (n s' a' m' used s a st q u : ℕ) → array_laid 0 n s' a' m' used ≡ laid s a st q u → (s' ≤ st) × (s ≡ st * q)
 array-sizes n s' a' m' used s a st q u e =
     let p = laid-parts n s' a' m' used s a st q u e in
     (omega (arith, up s' a', p.1), sym p.2)
@@ -104,26 +104,26 @@ no-logic ts k n t h e = go (ℕ_discrete (logic_leaf ts k t) 0)
 
 -- ---- the size of an element is at most that of its layout
 
-elem-le : (T : Table) (next : ℕ → List ℕ → Lay) (t : ℕ) (d : List ℕ) (y : Ty) (s a st q u : ℕ) → layout_by T next t d y ≡ Laid s a st q u → size_or (elem_size y) s ≤ s
+elem-le : (T : Table) (next : ℕ → List ℕ → Lay) (t : ℕ) (d : List ℕ) (y : Ty) (s a st q u : ℕ) → layout_by T next t d y ≡ laid s a st q u → unwrap_or (elem_size y) s ≤ s
 unfolding layout_by elem_size scalar_size
 elem-le T next t d missing s a st q u e = omega arith
-elem-le T next t d (int lo hi) s a st q u e = let z : 8 ≡ s = cc in go (narrow lo hi) z
+elem-le T next t d (int lo hi) s a st q u e = let z : 8 ≡ s = (laid-inj _ _ _ _ _ _ _ _ _ _ e).0 in go (narrow lo hi) z
   where
-    go : (b : Bool) → 8 ≡ s → size_or (if b then Some 4 else Some 8) s ≤ s
+    go : (b : Bool) → 8 ≡ s → unwrap_or (if b then Some 4 else Some 8) s ≤ s
     go true z = omega arith
     go false z = omega arith
-elem-le T next t d physical s a st q u e = let z : 8 ≡ s = cc in omega arith
+elem-le T next t d physical s a st q u e = let z : 8 ≡ s = (laid-inj _ _ _ _ _ _ _ _ _ _ e).0 in omega arith
 elem-le T next t d (enum n l) s a st q u e = go (leb n 256) e
   where
-    go : (b : Bool) → scalar_laid (if b then Some 1 else Some 4) ≡ Laid s a st q u → size_or (if b then Some 1 else Some 4) s ≤ s
-    go true e = let z : 1 ≡ s = cc in omega arith
-    go false e = let z : 4 ≡ s = cc in omega arith
-elem-le T next t d real s a st q u e = let z : 8 ≡ s = cc in omega arith
+    go : (b : Bool) → scalar_laid (if b then Some 1 else Some 4) ≡ laid s a st q u → unwrap_or (if b then Some 1 else Some 4) s ≤ s
+    go true e = let z : 1 ≡ s = (laid-inj _ _ _ _ _ _ _ _ _ _ e).0 in omega arith
+    go false e = let z : 4 ≡ s = (laid-inj _ _ _ _ _ _ _ _ _ _ e).0 in omega arith
+elem-le T next t d real s a st q u e = let z : 8 ≡ s = (laid-inj _ _ _ _ _ _ _ _ _ _ e).0 in omega arith
 elem-le T next t d (array el c k) s a st q u e = omega arith
 elem-le T next t d (fields fs) s a st q u e = omega arith
-elem-le T next t d access s a st q u e = let z : 8 ≡ s = cc in omega arith
-elem-le T next t d file s a st q u e = let z : 4 ≡ s = cc in omega arith
-elem-le T next t d protected s a st q u e = let z : 8 ≡ s = cc in omega arith
+elem-le T next t d access s a st q u e = let z : 8 ≡ s = (laid-inj _ _ _ _ _ _ _ _ _ _ e).0 in omega arith
+elem-le T next t d file s a st q u e = let z : 4 ≡ s = (laid-inj _ _ _ _ _ _ _ _ _ _ e).0 in omega arith
+elem-le T next t d protected s a st q u e = let z : 8 ≡ s = (laid-inj _ _ _ _ _ _ _ _ _ _ e).0 in omega arith
 
 layout-65 : (T : Table) (t : ℕ) (d : List ℕ) → layout_at T 65 t d ≡ layout_by T (layout_at T 64) t d (type_at T.types t)
 unfolding layout_at
@@ -133,47 +133,47 @@ layout-65 T t d = refl
 
 module _ (T : Table) (end : ℕ) (small : ShortConstants T) where
   abbrev elem : ℕ → ℕ → ℕ
-  elem t s = size_or (elem_size (type_at T.types t)) s
+  elem t s = unwrap_or (elem_size (type_at T.types t)) s
 
   abbrev Right : ℕ → Type 0
-  Right n = (t : ℕ) (d : List ℕ) (at : ℕ) → length d < 2 ^ 64 → (s a st q u : ℕ) → layout_at T 65 t d ≡ Laid s a st q u → Sits at (at + elem t s) (places_at T end n t d at)
+  Right n = (t : ℕ) (d : List ℕ) (at : ℕ) → length d < 2 ^ 64 → (s a st q u : ℕ) → layout_at T 65 t d ≡ laid s a st q u → Sits at (at + elem t s) (places_at T end n t d at)
 
   module _ (n : ℕ) (right : Right n) where
-    value-right : (t : ℕ) (d : List ℕ) (p : ℕ) → length d < 2 ^ 64 → (s a st q u : ℕ) → layout_at T 64 t d ≡ Laid s a st q u → Sits p (p + elem t s) (places_at T end n t d p) × (elem t s ≤ s)
+    value-right : (t : ℕ) (d : List ℕ) (p : ℕ) → length d < 2 ^ 64 → (s a st q u : ℕ) → layout_at T 64 t d ≡ laid s a st q u → Sits p (p + elem t s) (places_at T end n t d p) × (elem t s ≤ s)
     value-right t d p l s a st q u e =
         let f = more T 64 65 t d (omega arith) s a st q u e in
         (right t d p l s a st q u f, elem-le T (layout_at T 64) t d (type_at T.types t) s a st q u (sym (layout-65 T t d) ∙ f))
 
-    part_right : (t c : ℕ) (d : List ℕ) (p : ℕ) → length d < 2 ^ 64 → (s a st q u : ℕ) → under T (layout_at T 64) t c d ≡ Laid s a st q u → Sits p (p + elem t s) (part_places T (places_at T end n) t c d p) × (elem t s ≤ s)
+    part_right : (t c : ℕ) (d : List ℕ) (p : ℕ) → length d < 2 ^ 64 → (s a st q u : ℕ) → under T (layout_at T 64) t c d ≡ laid s a st q u → Sits p (p + elem t s) (part_places T (places_at T end n) t c d p) × (elem t s ≤ s)
     unfolding under part_places
     part_right t c d p l s a st q u e = by (eqb c no_const) (const_at T.consts c) refl e
       where
-        by : (b : Bool) (k : Const) → const_at T.consts c ≡ k → (if b then layout_at T 64 t d else on_bytes k (layout_at T 64 t)) ≡ Laid s a st q u
+        by : (b : Bool) (k : Const) → const_at T.consts c ≡ k → (if b then layout_at T 64 t d else on_bytes k (layout_at T 64 t)) ≡ laid s a st q u
             → Sits p (p + elem t s) (if b then places_at T end n t d p else if_bytes k (λ x. places_at T end n t x p)) × (elem t s ≤ s)
         by true k ek e' = value-right t d p l s a st q u e'
         by false (plain x) ek e' = value-right t x p (small c x ek) s a st q u e'
         by false other ek e' = let z : ◌≡◌ {A = ℕ} 0 1 = cc in absurd (omega arith)
 
-    walk-right : (at : ℕ) (fs : List Field) (d : List ℕ) (off al used : ℕ) → length d < 2 ^ 64 → (s a st q u : ℕ) → record_of T (layout_at T 64) fs d off al used ≡ Laid s a st q u
+    walk-right : (at : ℕ) (fs : List Field) (d : List ℕ) (off al used : ℕ) → length d < 2 ^ 64 → (s a st q u : ℕ) → record_of T (layout_at T 64) fs d off al used ≡ laid s a st q u
         → Sits (at + off) (at + s) (walk T (places_at T end n) end at fs d off al used)
     unfolding record_of walk end_of placed word_of
     walk-right at [] d off al used l s a st q u e = go (ltb (round_up off al) (2 ^ 64)) e
       where
-        go : (b : Bool) → on_word TooLarge (if b then Some (round_up off al) else None) (λ z. Laid z al 0 1 used) ≡ Laid s a st q u
-            → Sits (at + off) (at + s) (if_laid (on_word TooLarge (if b then Some (round_up off al) else None) (λ z. Laid z al 0 1 used)) (λ st n. some []))
-        go true e = let z : round_up off al ≡ s = cc in let w = up off al in omega arith
+        go : (b : Bool) → on_word (Err TooLarge) (if b then Some (round_up off al) else None) (λ z. laid z al 0 1 used) ≡ laid s a st q u
+            → Sits (at + off) (at + s) (if_laid (on_word (Err TooLarge) (if b then Some (round_up off al) else None) (λ z. laid z al 0 1 used)) (λ st n. some []))
+        go true e = let z : round_up off al ≡ s = (laid-inj _ _ _ _ _ _ _ _ _ _ e).0 in let w = up off al in omega arith
         go false e = tt
     walk-right at (field t c ∷ fs) d off al used l s a st q u e =
         from-laid (under T (layout_at T 64) t c (drop used d)) _ s a st q u e (λ s' a' st' q' u' eu e'.
         rw eu (go s' a' st' q' u' eu (ltb (round_up off a') (2 ^ 64)) e' (λ e''. walk-right at fs d (round_up off a' + s') (max al a') (used + used_by c u') l s a st q u e'')))
       where
-        rest : ℕ → ℕ → ℕ → ℕ → Places
-        rest o e a u = only_if (leb (at + o) end) (both (part_places T (places_at T end n) t c (drop used d) (at + o)) (walk T (places_at T end n) end at fs d e (max al a) (used + used_by c u)))
+        rest : Placed → Places
+        rest p = only_if (leb (at + p.offset) end) (both (part_places T (places_at T end n) t c (drop used d) (at + p.offset)) (walk T (places_at T end n) end at fs d p.end (max al p.align) (used + used_by c p.used)))
 
-        last : (s' a' st' q' u' : ℕ) → under T (layout_at T 64) t c (drop used d) ≡ Laid s' a' st' q' u' → (g : Bool)
-            → on_word TooLarge (if g then Some (round_up off a' + s') else None) (λ o. record_of T (layout_at T 64) fs d o (max al a') (used + used_by c u')) ≡ Laid s a st q u
-            → (record_of T (layout_at T 64) fs d (round_up off a' + s') (max al a') (used + used_by c u') ≡ Laid s a st q u → Sits (at + (round_up off a' + s')) (at + s) (walk T (places_at T end n) end at fs d (round_up off a' + s') (max al a') (used + used_by c u')))
-            → Sits (at + off) (at + s) (if_placed (on_word Unplaced (if g then Some (round_up off a' + s') else None) (λ e. At (round_up off a') e a' u')) rest)
+        last : (s' a' st' q' u' : ℕ) → under T (layout_at T 64) t c (drop used d) ≡ laid s' a' st' q' u' → (g : Bool)
+            → on_word (Err TooLarge) (if g then Some (round_up off a' + s') else None) (λ o. record_of T (layout_at T 64) fs d o (max al a') (used + used_by c u')) ≡ laid s a st q u
+            → (record_of T (layout_at T 64) fs d (round_up off a' + s') (max al a') (used + used_by c u') ≡ laid s a st q u → Sits (at + (round_up off a' + s')) (at + s) (walk T (places_at T end n) end at fs d (round_up off a' + s') (max al a') (used + used_by c u')))
+            → Sits (at + off) (at + s) (if_placed (on_word None (if g then Some (round_up off a' + s') else None) (λ e. Some (record { offset = round_up off a'; end = e; align = a'; used = u' }))) rest)
         last s' a' st' q' u' eu false e r = tt
         last s' a' st' q' u' eu true e r =
             let o = round_up off a' in
@@ -183,15 +183,15 @@ module _ (T : Table) (end : ℕ) (small : ShortConstants T) where
             (sits-both (at + off) (at + (o + s')) (at + s) (part_places T (places_at T end n) t c (drop used d) (at + o)) (walk T (places_at T end n) end at fs d (o + s') (max al a') (used + used_by c u'))
             (sits-wide (at + o) (at + o + elem t s') (at + off) (at + (o + s')) (part_places T (places_at T end n) t c (drop used d) (at + o)) (omega arith) (omega (arith, x.1)) x.0) (r e))
 
-        go : (s' a' st' q' u' : ℕ) → under T (layout_at T 64) t c (drop used d) ≡ Laid s' a' st' q' u' → (b : Bool)
-            → on_word TooLarge (on_word None (if b then Some (round_up off a') else None) (λ o. word_of (o + s'))) (λ o. record_of T (layout_at T 64) fs d o (max al a') (used + used_by c u')) ≡ Laid s a st q u
-            → (record_of T (layout_at T 64) fs d (round_up off a' + s') (max al a') (used + used_by c u') ≡ Laid s a st q u → Sits (at + (round_up off a' + s')) (at + s) (walk T (places_at T end n) end at fs d (round_up off a' + s') (max al a') (used + used_by c u')))
-            → Sits (at + off) (at + s) (if_placed (on_word Unplaced (if b then Some (round_up off a') else None) (λ o. on_word Unplaced (word_of (o + s')) (λ e. At o e a' u'))) rest)
+        go : (s' a' st' q' u' : ℕ) → under T (layout_at T 64) t c (drop used d) ≡ laid s' a' st' q' u' → (b : Bool)
+            → on_word (Err TooLarge) (on_word None (if b then Some (round_up off a') else None) (λ o. word_of (o + s'))) (λ o. record_of T (layout_at T 64) fs d o (max al a') (used + used_by c u')) ≡ laid s a st q u
+            → (record_of T (layout_at T 64) fs d (round_up off a' + s') (max al a') (used + used_by c u') ≡ laid s a st q u → Sits (at + (round_up off a' + s')) (at + s) (walk T (places_at T end n) end at fs d (round_up off a' + s') (max al a') (used + used_by c u')))
+            → Sits (at + off) (at + s) (if_placed (on_word None (if b then Some (round_up off a') else None) (λ o. on_word None (word_of (o + s')) (λ e. Some (record { offset = o; end = e; align = a'; used = u' })))) rest)
         go s' a' st' q' u' eu false e r = tt
         go s' a' st' q' u' eu true e r = last s' a' st' q' u' eu (ltb (round_up off a' + s') (2 ^ 64)) e r
 
-    by_right : (t : ℕ) (d : List ℕ) (at : ℕ) (y : Ty) → type_at T.types t ≡ y → has_handles T.types t ≡ true → length d < 2 ^ 64 → (s a st q u : ℕ) → layout_by T (layout_at T 64) t d y ≡ Laid s a st q u
-        → Sits at (at + size_or (elem_size y) s) (places_by T (places_at T end n) end t d at y)
+    by_right : (t : ℕ) (d : List ℕ) (at : ℕ) (y : Ty) → type_at T.types t ≡ y → has_handles T.types t ≡ true → length d < 2 ^ 64 → (s a st q u : ℕ) → layout_by T (layout_at T 64) t d y ≡ laid s a st q u
+        → Sits at (at + unwrap_or (elem_size y) s) (places_by T (places_at T end n) end t d at y)
     unfolding places_by layout_by elem_size layout_of offsets_of array_of
     by_right t d at missing ey h l s a st q u e = tt
     by_right t d at (int lo hi) ey h l s a st q u e = omega arith
@@ -199,7 +199,7 @@ module _ (T : Table) (end : ℕ) (small : ShortConstants T) where
     by_right t d at (enum k g) ey h l s a st q u e = omega arith
     by_right t d at real ey h l s a st q u e = omega arith
     by_right t d at (array el c k) ey h l s a st q u e =
-        let whole : layout_at T 65 t d ≡ Laid s a st q u = layout-65 T t d ∙ ap (λ (y : Ty). layout_by T (layout_at T 64) t d y) ey ∙ e in
+        let whole : layout_at T 65 t d ≡ laid s a st q u = layout-65 T t d ∙ ap (λ (y : Ty). layout_by T (layout_at T 64) t d y) ey ∙ e in
         let logic : logic_leaf T.types 64 t ≡ 0 = no-logic T.types 64 65 t (omega arith) h in
         subst (λ (x : Lay). Sits at (at + s) (if_laid x (λ w m. many end (part_places T (places_at T end n) el c (drop (24 * k) d)) w (turns w m) at))) (sym whole)
         (from-dims (dims_of k d 1) _ s a st q u e (λ m e'.
@@ -230,14 +230,13 @@ module _ (T : Table) (end : ℕ) (small : ShortConstants T) where
       go false h r = omega arith
 
   -- without a layout there are no places
-  unlaid-by : (next : Below) (t : ℕ) (d : List ℕ) (at : ℕ) (y : Ty) (l : Lay) → type_at T.types t ≡ y → layout_at T 65 t d ≡ l → ((s a st q u : ℕ) → l ≡ Laid s a st q u → ⊥) → Sits at at (places_by T next end t d at y)
+  unlaid-by : (next : Below) (t : ℕ) (d : List ℕ) (at : ℕ) (y : Ty) (l : Lay) → type_at T.types t ≡ y → layout_at T 65 t d ≡ l → ((s a st q u : ℕ) → l ≡ laid s a st q u → ⊥) → Sits at at (places_by T next end t d at y)
   unfolding places_by layout_by layout_of
   unlaid-by next t d at y l ey el f = by y ey
     where
-      none_of : (x : Lay) (g : ℕ → ℕ → Places) → ((s a st q u : ℕ) → x ≡ Laid s a st q u → ⊥) → Sits at at (if_laid x g)
-      none_of (Laid s a st q u) g f = absurd (f s a st q u refl)
-      none_of Malformed g f = tt
-      none_of TooLarge g f = tt
+      none_of : (x : Lay) (g : ℕ → ℕ → Places) → ((s a st q u : ℕ) → x ≡ laid s a st q u → ⊥) → Sits at at (if_laid x g)
+      none_of (Ok r) g f = absurd (f r.size r.align r.stride r.count r.used refl)
+      none_of (Err w) g f = tt
 
       scalar : (y : Ty) → type_at T.types t ≡ y → layout_by T (layout_at T 64) t d y ≡ l
       scalar y ey = ap (λ (y : Ty). layout_by T (layout_at T 64) t d y) (sym ey) ∙ sym (layout-65 T t d) ∙ el
@@ -254,7 +253,7 @@ module _ (T : Table) (end : ℕ) (small : ShortConstants T) where
       by file ey = omega arith
       by protected ey = absurd (f 8 8 0 1 0 (sym (scalar protected ey)))
 
-  unlaid-at : (n t : ℕ) (d : List ℕ) (at : ℕ) (l : Lay) → layout_at T 65 t d ≡ l → ((s a st q u : ℕ) → l ≡ Laid s a st q u → ⊥) → Sits at at (places_at T end n t d at)
+  unlaid-at : (n t : ℕ) (d : List ℕ) (at : ℕ) (l : Lay) → layout_at T 65 t d ≡ l → ((s a st q u : ℕ) → l ≡ laid s a st q u → ⊥) → Sits at at (places_at T end n t d at)
   unfolding places_at
   unlaid-at zero t d at l el f = tt
   unlaid-at (suc n) t d at l el f = go (has_handles T.types t)
@@ -272,9 +271,8 @@ module _ (T : Table) (end : ℕ) (small : ShortConstants T) where
           apart-cut at hi end ps (subst (λ (o : Places). Sits at hi o) e a) h (λ p m. (subst (λ (o : Places). Least end at o) e (places-least end T n t d at) p m).1)
 
       go : (x : Lay) → layout_at T 65 t d ≡ x → Apart at end ps
-      go (Laid s a st q u) w = cut (at + elem t s) (right-at n t d at l s a st q u w)
-      go Malformed w = cut at (unlaid-at n t d at Malformed w (λ s a st q u v. let z : ◌≡◌ {A = ℕ} 0 1 = cc in omega arith))
-      go TooLarge w = cut at (unlaid-at n t d at TooLarge w (λ s a st q u v. let z : ◌≡◌ {A = ℕ} 0 1 = cc in omega arith))
+      go (Ok r) w = cut (at + elem t r.size) (right-at n t d at l r.size r.align r.stride r.count r.used w)
+      go (Err x) w = cut at (unlaid-at n t d at (Err x) w (λ s a st q u v. let z : ◌≡◌ {A = ℕ} 0 1 = cc in omega arith))
 
 -- ---- objects
 
@@ -308,19 +306,19 @@ module _ (T : Table) (small : ShortConstants T) where
       none_is : (ps : List ℕ) → some [] ≡ some ps → Apart 0 (length v) ps
       none_is ps e = let w : [] ≡ ps = cc in subst (λ (x : List ℕ). Apart 0 (length v) x) w (omega arith)
 
-      laid : (n : ℕ) (b : Bool) → leb n (length v) ≡ b → only_if b (places_at T (length v) 65 t (take n v) n) ≡ some qs → Apart 0 (length v) qs
-      laid n true w e =
+      shown_at : (n : ℕ) (b : Bool) → leb n (length v) ≡ b → only_if b (places_at T (length v) 65 t (take n v) n) ≡ some qs → Apart 0 (length v) qs
+      shown_at n true w e =
           let h = leb-true n (length v) w in
           let s : length (take n v) < 2 ^ 64 = omega (arith, length-take n v) in
           apart-wide n (length v) 0 (length v) qs (omega arith) (omega arith) (value-apart T (length v) small 65 t (take n v) n qs s h e)
-      laid n false w e = let z : ◌≡◌ {A = ℕ} 0 1 = cc in absurd (omega arith)
+      shown_at n false w e = let z : ◌≡◌ {A = ℕ} 0 1 = cc in absurd (omega arith)
 
       other-kind : (b : Bool) → (if b then some (handles_places (length v)) else some []) ≡ some qs → Apart 0 (length v) qs
       other-kind true e = let w : handles_places (length v) ≡ qs = cc in subst (λ (x : List ℕ). Apart 0 (length v) x) w (handles-apart (length v))
       other-kind false e = none_is qs e
 
       go : (a h : Bool) (d : Word) → places_if a h d T k t v ≡ some qs → Apart 0 (length v) qs
-      go true true (Some n) e = laid n (leb n (length v)) refl e
+      go true true (Some n) e = shown_at n (leb n (length v)) refl e
       go true true None e = let z : ◌≡◌ {A = ℕ} 0 1 = cc in absurd (omega arith)
       go true false d e = none_is qs e
       go false h d e = other-kind (eqb k 3) e

@@ -3,8 +3,7 @@ use Rattle.std.specs.Prelude.{ℕ, ◌*◌, ◌^◌, ◌≤◌, ◌<◌, ◌≡�
 use Rattle.std.proofs.Math.Option.{some}
 use Rattle.ty.specs.Types.{Ty.array, Const.plain, Table, type_at, const_at}
 use Rattle.ty.specs.Walks.{has_handles}
-use Rattle.layout.specs.Layout.{layout_of}
-use Rattle.layout.specs.declared.Lay.TheVariants.{Laid}
+use Rattle.layout.specs.Layout.{laid as is_laid, layout_of}
 use Rattle.trace.specs.Places.{many, part_places, places_at, places_of}
 
 -- constants are shorter than 2^64 bytes, as lent ones are
@@ -19,7 +18,7 @@ pub record StrideZero (T : Table) (end t el c k : ℕ) (d : List ℕ) (count at 
   pub size : ℕ
   pub align : ℕ
   pub used : ℕ
-  pub laid : layout_of T t d ≡ Laid size align 0 count used
+  pub laid : layout_of T t d ≡ is_laid size align 0 count used
   pub inside : at ≤ end
 
 -- it shows nothing

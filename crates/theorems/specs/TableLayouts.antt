@@ -1,9 +1,9 @@
 -- Cases (d) to (j) of 01's proved table, and the depths at which nesting ends: the types, the type and the descriptor that are asked about, and the answer.
-use Rattle.std.specs.Prelude.{ℕ, zero, suc, ◌+◌, ◌-◌, ◌^◌, List, [], ◌∷◌, ◌++◌}
+use Rattle.std.specs.Prelude.{ℕ, zero, suc, ◌+◌, ◌-◌, ◌^◌, List, [], ◌∷◌, ◌++◌, Ok, Err}
 use Rattle.word.specs.Le.{bytes}
 use Rattle.ty.specs.Types.{Ty, Ty.int, Ty.enum, Ty.array, Ty.fields, Ty.access, Field.field, none}
-use Rattle.layout.specs.declared.Lay.{Lay}
-use Rattle.layout.specs.declared.Lay.TheVariants.{Laid, Malformed, TooLarge}
+use Rattle.refusal.specs.Told.{number_of}
+use Rattle.layout.specs.Layout.{Lay}
 
 -- a descriptor of one dimension: left, right, direction
 unfoldable pub dim : ℕ → ℕ → ℕ → List ℕ
@@ -24,9 +24,8 @@ nested leaf i (suc n) = array (i + 1) none 0 ∷ nested leaf (i + 1) n
 
 -- an answer as numbers: 11, 12, or 0 with size, align, stride, count, used, offsets
 unfoldable pub answered : Lay → List ℕ → List ℕ
-answered (Laid s a st n u) offs = 0 ∷ s ∷ a ∷ st ∷ n ∷ u ∷ offs
-answered Malformed offs = 11 ∷ []
-answered TooLarge offs = 12 ∷ []
+answered (Ok l) offs = 0 ∷ l.size ∷ l.align ∷ l.stride ∷ l.count ∷ l.used ∷ offs
+answered (Err why) offs = number_of why ∷ []
 
 -- what is asked, and the answer
 pub record Case : Type 0 where
