@@ -37,16 +37,16 @@ fn finish_marked(
         (finished outcome marks.old (marked_slots marks.old) (view (lent heap narrow.old wide.old pool.old))) }
     ensures marks_after { (marks.new ≡ replicate (length marks.old) 0) × (work.new ≡ replicate (length work.old) 0) }
 {
-    memory::clear_u64(work);
+    work.fill(0);
     let Outcome::Marked = outcome else {
-        memory::clear_u8(marks);
+        marks.fill(0);
         return Changed {
             heap: heap,
             reply: Reply::Not(Refusal::Untraceable),
         };
     };
     let h = sweep::sweep_marked(heap, narrow, wide, pool, marks);
-    memory::clear_u8(marks);
+    marks.fill(0);
     Changed {
         heap: h,
         reply: Reply::Is(0, 0),
@@ -207,6 +207,6 @@ pub fn collect_at(
         marks,
         work,
     );
-    memory::clear_u64(rows);
+    rows.fill(0);
     r
 }

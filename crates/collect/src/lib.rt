@@ -36,16 +36,16 @@ pub fn finish(
         (finished outcome marks.old pins.now (view (lent heap narrow.old wide.old pool.old))) }
     ensures marks_after { (marks.new ≡ replicate (length marks.old) 0) × (work.new ≡ replicate (length work.old) 0) }
 {
-    memory::clear_u64(work);
+    work.fill(0);
     let Outcome::Marked = outcome else {
-        memory::clear_u8(marks);
+        marks.fill(0);
         return Changed {
             heap: heap,
             reply: Reply::Not(Refusal::Untraceable),
         };
     };
     let h = sweep::sweep(heap, narrow, wide, pool, marks, pins);
-    memory::clear_u8(marks);
+    marks.fill(0);
     Changed {
         heap: h,
         reply: Reply::Is(0, 0),

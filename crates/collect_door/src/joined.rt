@@ -44,8 +44,8 @@ fn enter_rows(
     if !rows_enough(blocks, classes, rows) {
         return Entry::Not(Refusal::Scratch);
     }
-    memory::clear_u64(work);
-    memory::clear_u64(rows);
+    work.fill(0);
+    rows.fill(0);
     if heap_check::check(heap, narrow, wide, pool, marks) {
         return Entry::Ready;
     }

@@ -203,9 +203,9 @@ fn replaced(page: &[u8], at: usize, old: usize, new: &[u8], text: &mut [u8; 1024
     }
     let rest = at + least(old, page.len() - at);
     let next = at + new.len();
-    memory::copy_u8(text, 0, page);
-    memory::copy_u8(text, at, new);
-    memory::copy_u8(text, next, &page[rest..]);
+    memory::copy(text, 0, page);
+    memory::copy(text, at, new);
+    memory::copy(text, next, &page[rest..]);
     next + (page.len() - rest)
 }
 

@@ -186,9 +186,9 @@ pub fn new(tag: u8, narrow: &mut [u32], wide: &mut [u64], pool: &mut [u8]) -> He
     ensures { lent result narrow.new wide.new pool.new
         ≡ stored (length narrow.old / 6) (length pool.old) (new_heap tag) }
 {
-    memory::clear_u32(narrow);
-    memory::clear_u64(wide);
-    memory::clear_u8(pool);
+    narrow.fill(0);
+    wide.fill(0);
+    pool.fill(0);
     Heap::new(tag)
 }
 
@@ -316,7 +316,7 @@ pub fn write(
                 return Reply::Not(Refusal::NothingThere);
             }
             raise(wide, 2 * s + i);
-            memory::copy_u8(pool, from + at, bytes);
+            memory::copy(pool, from + at, bytes);
             Reply::Is(0, 0)
         }
     }
@@ -410,7 +410,7 @@ fn list_all(heap: Heap, narrow: &[u32], sealed: &mut [u64]) -> usize
 {
     let count = list_live(heap, narrow, sealed);
     let all = sealed.len();
-    memory::fill_u64(sealed, count, all, 0);
+    memory::fill(sealed, count, all, 0);
     count
 }
 

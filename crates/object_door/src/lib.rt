@@ -46,8 +46,8 @@ fn enter_new(narrow: &[u32], wide: &[u64], pool: &[u8], marks: &mut [u8], work: 
     if work.len() < slots {
         return Entry::Not(Refusal::Scratch);
     }
-    memory::clear_u8(marks);
-    memory::clear_u64(work);
+    marks.fill(0);
+    work.fill(0);
     if heap::sizes_fit(narrow.len(), wide.len(), pool.len()) {
         return Entry::Ready;
     }

@@ -307,7 +307,7 @@ fn check_run(
     requires at_in_bounds { (at ≤ length s.now) × (m ≤ 64 * length row.old) }
     ensures { RunChecked s.now rule (listed rule (heap_in s.now)) at m base result.ok result.next }
 {
-    memory::clear_u64(row);
+    row.fill(0);
     if mark_listed(s, x, rule, base, m, row) {} else {
         return Chunk {
             ok: false,
@@ -791,7 +791,7 @@ pub fn check_page(s: &[u8], sizes: bool, lent: usize, room: usize, work: &mut [u
     ensures checking { Checking s.now (verdict sizes lent room (read_page s.now)) result }
     ensures work_after { work.new ≡ replicate (length work.old) 0 }
 {
-    memory::clear_u64(work);
+    work.fill(0);
     let Parsed::Page(x) = parse_page(s) else {
         return Checked::Not(Refusal::Page);
     };
@@ -799,7 +799,7 @@ pub fn check_page(s: &[u8], sizes: bool, lent: usize, room: usize, work: &mut [u
         return Checked::Not(Refusal::BrokenHeap);
     }
     let once = partition(s, x, work);
-    memory::clear_u64(work);
+    work.fill(0);
     if once {} else {
         return Checked::Not(Refusal::BrokenHeap);
     }

@@ -84,7 +84,7 @@ pub fn yexwalu_read_page(
             answer: Reply::Not(Refusal::Scratch).numbers(),
         };
     }
-    memory::clear_u8(marks);
+    marks.fill(0);
     let done = page_reader::read(heap, narrow, wide, pool, text, work);
     let after = done.heap;
     let reply = done.reply;

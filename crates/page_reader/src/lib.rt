@@ -222,9 +222,9 @@ fn load(s: &[u8], x: Sections, narrow: &mut [u32], wide: &mut [u64], pool: &mut 
     ensures { lent result narrow.new wide.new pool.new
         ≡ stored (length narrow.old / 6) (length pool.old) (brought_in s.now) }
 {
-    memory::clear_u32(narrow);
-    memory::clear_u64(wide);
-    memory::clear_u8(pool);
+    narrow.fill(0);
+    wide.fill(0);
+    pool.fill(0);
     fill_slots(s, x.slots_at, x.slots, narrow, wide);
     fill_data(s, x.slots_at, x.slots, x.planar, pool);
     let c = part_free(s, x.free_at, x.free, narrow);

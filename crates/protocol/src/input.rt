@@ -92,7 +92,7 @@ pub fn next_line(buffer: &[u8], input: Input) -> Line {
 fn move_front(buffer: &mut [u8], from: usize, end: usize) -> usize {
     let e = least(end, buffer.len());
     let a = least(from, e);
-    memory::move_u8(buffer, a, 0, e - a);
+    memory::move_within(buffer, a, 0, e - a);
     e - a
 }
 

@@ -64,7 +64,7 @@ fn put_bytes(bytes: &mut Bytes, at: usize, end: usize) -> Room {
     if 65536 - at < count {
         return Room::Short;
     }
-    memory::move_u8(bytes, SPELLED, at, count);
+    memory::move_within(bytes, SPELLED, at, count);
     Room::Ends(at + count)
 }
 

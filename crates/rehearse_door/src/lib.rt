@@ -45,9 +45,9 @@ fn admit(
     if work.len() < slots {
         return Entry::Not(Refusal::Scratch);
     }
-    memory::clear_u64(words);
-    memory::clear_u8(marks);
-    memory::clear_u64(work);
+    words.fill(0);
+    marks.fill(0);
+    work.fill(0);
     if rehearsal_lines::all_lines(text) {} else {
         return Entry::Not(Refusal::Page);
     }
@@ -104,7 +104,7 @@ pub fn yexwalu_rehearse(
                 types, fields, consts, bytes, heap, narrow, wide, pool, text, thresholds, out,
                 words, marks, work,
             );
-            memory::clear_u64(words);
+            words.fill(0);
             let after = done.heap;
             let written = done.written as u64;
             Done {

@@ -267,7 +267,7 @@ pub fn live_refs(
         return Reply::Not(Refusal::Scratch);
     }
     if !check_function(kinds, ends, refs, blocks, classes) {
-        memory::clear_u64(s);
+        s.fill(0);
         return Reply::Not(Refusal::Function);
     }
     // The chains of the blocks by their end; 65,535 is no block.
@@ -281,13 +281,13 @@ pub fn live_refs(
     let points = c.points;
     let registers = c.registers;
     if short(points, registers, pcs.len(), bounds.len(), regs.len()) {
-        memory::clear_u64(s);
+        s.fill(0);
         return Reply::Not(Refusal::ShortList);
     }
     write_map(
         s, kinds, ends, refs, blocks, classes, which, nb, words, &heads, &links, pcs, bounds, regs,
         points, registers,
     );
-    memory::clear_u64(s);
+    s.fill(0);
     Reply::Is(points as u64, registers as u64)
 }

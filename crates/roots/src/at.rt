@@ -78,7 +78,7 @@ fn list_at(s: &mut [u64], at: usize, words: usize, regs: &mut [u32]) -> Reply
 {
     let past = at + words;
     let answer = rows::list(&s[at..past], regs);
-    memory::clear_u64(s);
+    s.fill(0);
     match answer {
         Listed::Bits(n) => Reply::Is(n as u64, 0),
         Listed::Short => Reply::Not(Refusal::ShortList),
@@ -106,16 +106,16 @@ pub fn live_at(
         return Reply::Not(Refusal::Scratch);
     }
     if !check_function(kinds, ends, refs, blocks, classes) {
-        memory::clear_u64(rows);
+        rows.fill(0);
         return Reply::Not(Refusal::Function);
     }
     let b = find_block(blocks, nb, pc);
     if nb <= b {
-        memory::clear_u64(rows);
+        rows.fill(0);
         return Reply::Not(Refusal::NoMap);
     }
     if kinds[pc] != 1 {
-        memory::clear_u64(rows);
+        rows.fill(0);
         return Reply::Not(Refusal::NoMap);
     }
     live_row(

@@ -23,7 +23,7 @@ fn clear_row(s: &mut [u64], at: usize, words: usize)
     ensures { Outside s.old s.new at words × ((q : ℕ) → q < 64 * words → cell s.new at q ≡ false) }
 {
     let past = at + words;
-    memory::clear_u64(&mut s[at..past]);
+    s[at..past].fill(0);
 }
 
 // The row at `at`, lent on to be written, goes back over the instructions from..to.
@@ -321,7 +321,7 @@ pub fn analyse(
     ensures { (length s.new ≡ length s.old)
         × Fixed (seen (wanted which) kinds.now ends.now refs.now blocks.now classes.now) blocks.now s.new words nb }
 {
-    memory::clear_u64(s);
+    s.fill(0);
     if words == 0 {
         return;
     }

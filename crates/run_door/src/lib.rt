@@ -163,12 +163,12 @@ fn admit(
     if work.len() < slots {
         return Entry::Not(Refusal::Scratch);
     }
-    memory::clear_u8(room);
+    room.fill(0);
     if begins_call(script) {
         return enter(heap, narrow, wide, pool, marks, work);
     }
-    memory::clear_u8(marks);
-    memory::clear_u64(work);
+    marks.fill(0);
+    work.fill(0);
     Entry::Not(Refusal::Page)
 }
 
@@ -198,7 +198,7 @@ pub fn yexwalu_run(
         },
         Entry::Ready => {
             let done = run_lines(heap, narrow, wide, pool, script, room);
-            memory::clear_u8(room);
+            room.fill(0);
             let after = done.heap;
             let reply = done.reply;
             Done {

@@ -54,8 +54,8 @@ fn enter_both(
     }
     match door::enter(heap, narrow, wide, pool, marks, work) {
         Entry::Not(why) => {
-            memory::clear_u8(other_marks);
-            memory::clear_u64(other_work);
+            other_marks.fill(0);
+            other_work.fill(0);
             Entry::Not(why)
         }
         Entry::Ready => door::enter(
@@ -226,10 +226,10 @@ pub fn yexwalu_same(
                 other_marks,
                 other_work,
             );
-            memory::clear_u8(marks);
-            memory::clear_u64(work);
-            memory::clear_u8(other_marks);
-            memory::clear_u64(other_work);
+            marks.fill(0);
+            work.fill(0);
+            other_marks.fill(0);
+            other_work.fill(0);
             same_reply(found).numbers()
         }
     }
@@ -309,10 +309,10 @@ pub fn yexwalu_order(
                 other_marks,
                 other_work,
             );
-            memory::clear_u8(marks);
-            memory::clear_u64(work);
-            memory::clear_u8(other_marks);
-            memory::clear_u64(other_work);
+            marks.fill(0);
+            work.fill(0);
+            other_marks.fill(0);
+            other_work.fill(0);
             order_reply(found).numbers()
         }
     }

@@ -107,7 +107,7 @@ fn take_page(n: usize, have: usize, input: &[u8], held: &mut [u8; 32768]) -> Tak
     ensures { Takes (At.Page n have) held.old input.now result.next result.used held.new }
 {
     let used = least(n - have, input.len());
-    memory::copy_u8(held, have, &input[..used]);
+    memory::copy(held, have, &input[..used]);
     let now = have + used;
     if now < n {
         return Taken {

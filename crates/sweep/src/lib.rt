@@ -20,7 +20,7 @@ fn settle(k: u32, from: usize, e: usize, to: usize, pool: &mut [u8]) -> usize
     if k == 0 {
         return to;
     }
-    memory::move_u8(pool, from, to, e - from);
+    memory::move_within(pool, from, to, e - from);
     to + (e - from)
 }
 
@@ -39,7 +39,7 @@ fn compact(n: usize, kind: &[u32], end: &mut [u64], pool: &mut [u8])
         from = e;
         i += 1;
     }
-    memory::fill_u8(pool, to, from, 0);
+    memory::fill(pool, to, from, 0);
 }
 
 // Slot `i` of `s` is dead, one generation on, and logged; it is free, or retired where it is worn out. Its data stays in the pool for now.

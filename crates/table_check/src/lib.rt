@@ -332,7 +332,7 @@ pub fn check(s: &[u8], words: &mut [u64], halves: &mut [u32]) -> Checked
     ensures halves_after { halves.new ≡ replicate (length halves.old) 0 }
 {
     let found = admit(s, words, halves);
-    memory::clear_u64(words);
-    memory::clear_u32(halves);
+    words.fill(0);
+    halves.fill(0);
     found
 }

@@ -5,17 +5,18 @@ use Prim.Native.Nat.{ℕ, ◌+◌, ◌-◌, ◌*◌, ◌^◌, ◌≤◌, ◌<◌
 use native.Mathlib.Omega.{arith}
 use lib.Dec.{ltb}
 use borrow.Author.Tests.{lt-ltb, le-ltb, le-leb, lt-leb}
-use Rattle.std.specs.Prelude.{if◌then◌else◌}
-use Rattle.word.specs.Num.{product_at, align_up, aligned_at}
-use Rattle.word.specs.declared.Product.{Product}
-use Rattle.word.specs.declared.Product.TheVariants.{Fits, TooLarge}
-use Rattle.word.specs.declared.Aligned.{Aligned}
-use Rattle.word.specs.declared.Aligned.TheVariants.{To, TooLarge as TooFar}
+use Rattle.std.specs.Prelude.{if◌then◌else◌, Option, Some, None, SomeIff}
+use Rattle.word.specs.Num.{align_up, aligned_at}
 use Rattle.ty.specs.Words.{word_at, word_of}
 use Rattle.ty.specs.View.{entry_of}
 use Rattle.ty.specs.declared.Entry.TheVariants.{Missing, Record}
 use Rattle.ty.specs.declared.Word.{Word}
 use Rattle.ty.specs.declared.Word.TheVariants.{Is, Over}
+
+-- an option as a word
+abbrev word_of_option : Option ℕ → Word
+word_of_option (Some n) = Is n
+word_of_option None = Over
 
 -- words of any width w: a number fits or is too large
 module _ (w : ℕ) where
@@ -25,38 +26,18 @@ module _ (w : ℕ) where
   over-at : (n : ℕ) → 2 ^ w ≤ n → word_at w n ≡ Over
   over-at n h = simp (le-ltb n (2 ^ w) h)
 
-  -- what `checked_mul` and `align_up` of word answer
-  product-is-at : (a b n : ℕ) (p : Product) → p ≡ product_at w a b → p ≡ Fits n → Is n ≡ word_at w (a * b)
-  unfolding product_at
-  product-is-at a b n p e h = go (ltb (a * b) (2 ^ w)) (sym e ∙ h)
-    where
-      go : (x : Bool) → if◌then◌else◌ x (Fits (a * b)) TooLarge ≡ Fits n → Is n ≡ if◌then◌else◌ x (Is (a * b)) Over
-      go true q = let z : a * b ≡ n = cc in ap Is (sym z)
-      go false q = let z : ◌≡◌ {A = ℕ} 0 1 = cc in absurd (omega arith)
+  -- what `checked_mul` of std and `align_up` of word answer
+  product-at : (n : ℕ) (p : Option ℕ) → SomeIff p (n < 2 ^ w) n → word_of_option p ≡ word_at w n
+  product-at n (Some v) h = ap Is h.1 ∙ sym (is_at n h.0)
+  product-at n None h = sym (over-at n (omega arith))
 
-  product-over-at : (a b : ℕ) (p : Product) → p ≡ product_at w a b → p ≡ TooLarge → Over ≡ word_at w (a * b)
-  unfolding product_at
-  product-over-at a b p e h = go (ltb (a * b) (2 ^ w)) (sym e ∙ h)
-    where
-      go : (x : Bool) → if◌then◌else◌ x (Fits (a * b)) TooLarge ≡ TooLarge → Over ≡ if◌then◌else◌ x (Is (a * b)) Over
-      go true q = let z : ◌≡◌ {A = ℕ} 0 1 = cc in absurd (omega arith)
-      go false q = refl
-
-  aligned-is-at : (x a b n : ℕ) (p : Aligned) → b ≡ max a 1 → p ≡ aligned_at w x b → p ≡ To n → Is n ≡ word_at w (align_up x (max a 1))
+  aligned-at : (x a b : ℕ) (p : Option ℕ) → b ≡ max a 1 → p ≡ aligned_at w x b → word_of_option p ≡ word_at w (align_up x (max a 1))
   unfolding aligned_at
-  aligned-is-at x a b n p eb e h = rw (← eb) (go (ltb (align_up x b) (2 ^ w)) (sym e ∙ h))
+  aligned-at x a b p eb e = rw (e, eb) (go (ltb (align_up x (max a 1)) (2 ^ w)))
     where
-      go : (t : Bool) → if◌then◌else◌ t (To (align_up x b)) TooFar ≡ To n → Is n ≡ if◌then◌else◌ t (Is (align_up x b)) Over
-      go true q = let z : align_up x b ≡ n = cc in ap Is (sym z)
-      go false q = let z : ◌≡◌ {A = ℕ} 0 1 = cc in absurd (omega arith)
-
-  aligned-over-at : (x a b : ℕ) (p : Aligned) → b ≡ max a 1 → p ≡ aligned_at w x b → p ≡ TooFar → Over ≡ word_at w (align_up x (max a 1))
-  unfolding aligned_at
-  aligned-over-at x a b p eb e h = rw (← eb) (go (ltb (align_up x b) (2 ^ w)) (sym e ∙ h))
-    where
-      go : (t : Bool) → if◌then◌else◌ t (To (align_up x b)) TooFar ≡ TooFar → Over ≡ if◌then◌else◌ t (Is (align_up x b)) Over
-      go true q = let z : ◌≡◌ {A = ℕ} 0 1 = cc in absurd (omega arith)
-      go false q = refl
+      go : (t : Bool) → word_of_option (if◌then◌else◌ t (Some (align_up x (max a 1))) None) ≡ if◌then◌else◌ t (Is (align_up x (max a 1))) Over
+      go true = refl
+      go false = refl
 
 -- at 64 bits
 pub word-is : (n : ℕ) → n < 2 ^ 64 → word_of n ≡ Is n
@@ -67,21 +48,21 @@ pub word_over : (n : ℕ) → 2 ^ 64 ≤ n → word_of n ≡ Over
 unfolding word_of
 word_over = over-at 64
 
-pub product_is : (a b n : ℕ) (p : Product) → p ≡ product_at 64 a b → p ≡ Fits n → Is n ≡ word_of (a * b)
+pub product_is : (a b n : ℕ) (p : Option ℕ) → SomeIff p (a * b < 2 ^ 64) (a * b) → p ≡ Some n → Is n ≡ word_of (a * b)
 unfolding word_of
-product_is = product-is-at 64
+product_is a b n p h e = sym (ap word_of_option e) ∙ product-at 64 (a * b) p h
 
-pub product-over : (a b : ℕ) (p : Product) → p ≡ product_at 64 a b → p ≡ TooLarge → Over ≡ word_of (a * b)
+pub product-over : (a b : ℕ) (p : Option ℕ) → SomeIff p (a * b < 2 ^ 64) (a * b) → p ≡ None → Over ≡ word_of (a * b)
 unfolding word_of
-product-over = product-over-at 64
+product-over a b p h e = sym (ap word_of_option e) ∙ product-at 64 (a * b) p h
 
-pub aligned-is : (x a b n : ℕ) (p : Aligned) → b ≡ max a 1 → p ≡ aligned_at 64 x b → p ≡ To n → Is n ≡ word_of (align_up x (max a 1))
+pub aligned-is : (x a b n : ℕ) (p : Option ℕ) → b ≡ max a 1 → p ≡ aligned_at 64 x b → p ≡ Some n → Is n ≡ word_of (align_up x (max a 1))
 unfolding word_of
-aligned-is = aligned-is-at 64
+aligned-is x a b n p eb h e = sym (ap word_of_option e) ∙ aligned-at 64 x a b p eb h
 
-pub aligned-over : (x a b : ℕ) (p : Aligned) → b ≡ max a 1 → p ≡ aligned_at 64 x b → p ≡ TooFar → Over ≡ word_of (align_up x (max a 1))
+pub aligned-over : (x a b : ℕ) (p : Option ℕ) → b ≡ max a 1 → p ≡ aligned_at 64 x b → p ≡ None → Over ≡ word_of (align_up x (max a 1))
 unfolding word_of
-aligned-over = aligned-over-at 64
+aligned-over x a b p eb h e = sym (ap word_of_option e) ∙ aligned-at 64 x a b p eb h
 
 -- the same alignment by another name
 pub same_up : (x a b : ℕ) (r : Word) → a ≡ b → r ≡ word_of (align_up x (max b 1)) → r ≡ word_of (align_up x (max a 1))

@@ -13,7 +13,6 @@ ghost use Rattle.ty.specs.Bounds.{bound_in, bound_fields, bound_by};
 ghost use Rattle.ty.specs.Counts.{count_in, Capped, Fitting, Scratch, field_sums, next_count, next_counts, counts_at, small_in};
 ghost use Rattle.ty.specs.View.{entry_at, entry_of, part_at, fields_from, types_of, bare};
 
-use word::{Aligned, Product};
 
 // A number of 64 bits, or one past them.
 #[derive(Clone, Copy)]
@@ -55,11 +54,10 @@ pub enum Part {
 pub fn product(a: u64, b: u64) -> Word
     ensures { result ≡ word_of (a * b) }
 {
-    let p = word::checked_mul(a, b);
-    let Product::Fits(n) = p else {
-        return Word::Over;
-    };
-    Word::Is(n)
+    match a.checked_mul(b) {
+        Some(n) => Word::Is(n),
+        None => Word::Over,
+    }
 }
 
 // a + b.
@@ -83,11 +81,10 @@ fn at_least_one(a: u64) -> u64
 fn rounded(x: u64, a: u64) -> Word
     ensures { result ≡ word_of (round_up x a) }
 {
-    let up = word::align_up(x, at_least_one(a));
-    let Aligned::To(n) = up else {
-        return Word::Over;
-    };
-    Word::Is(n)
+    match word::align_up(x, at_least_one(a)) {
+        Some(n) => Word::Is(n),
+        None => Word::Over,
+    }
 }
 
 // The same. The alignments of scalars are written out, because a known one needs no division.
@@ -588,7 +585,7 @@ fn unfolds_small(
     ensures { result ≡ all_below (small_at (types_of types.now fields.now)) (length types.now / 4) }
 {
     let n = counts.len();
-    memory::fill_u32(counts, 0, n, 1);
+    counts.fill(1);
     unfold_levels(types, fields, counts, other, sums);
     all_small(counts)
 }

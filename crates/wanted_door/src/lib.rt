@@ -157,8 +157,8 @@ pub fn yexwalu_roots_for(
                 types, fields, consts, bytes, heap, narrow, wide, pool, pins, wanted, out, marks,
                 work,
             );
-            memory::clear_u8(marks);
-            memory::clear_u64(work);
+            marks.fill(0);
+            work.fill(0);
             reply.numbers()
         }
     }

@@ -2,7 +2,7 @@
 use mathlib.Core.Path.{sym, ◌∙◌}
 use native.Mathlib.Omega.{arith}
 use lib.Seq.{length-take-le}
-use Rattle.heap_check.proofs.Looking.{says-no, says-yes, false-true, no_more, no-more-test, holds, holds_test}
+use Rattle.heap_check.proofs.Looking.{says-no, says-yes, false-true, no_more, no-more-zeros, holds, holds-zeros}
 use Rattle.heap_check.proofs.runs_ok.Goals as goal
 
 pub returns-else-unused_ok : goal.returns-else-unused_ok
@@ -14,8 +14,8 @@ returns-else-slots_ok c = no_more c.slots_ok.ensures c.if-slots_ok.false (λ y. 
 pub begins-requires : goal.begins-requires
 begins-requires c = omega (arith, c.requires.header_ok, c.requires.equal_sizes)
 
-pub returns-else-zeros_u8 : goal.returns-else-zeros_u8
-returns-else-zeros_u8 c = no-more-test c.zeros_u8.ensures c.if-zeros_u8.false (λ y. rw c.begins.ensures y.pool)
+pub returns-then-not-all_are : goal.returns-then-not-all_are
+returns-then-not-all_are c = no-more-zeros c.begins.result c.args.pool.now c.all_are.ensures c.if-not-all_are.true (λ y. rw c.begins.ensures y.pool)
 
 pub slice_bounds-seals_ok-end : goal.slice_bounds-seals_ok-end
 slice_bounds-seals_ok-end c = sym (length-take-le _ _ (omega (arith, c.requires.header_ok, c.requires.equal_sizes)))
@@ -42,7 +42,7 @@ pub returns : goal.returns
 returns c = says-yes (record {
   unused = holds c.unused_ok.ensures c.if-unused_ok.true;
   slots = holds c.slots_ok.ensures c.if-slots_ok.true;
-  pool = rw (sym c.begins.ensures) (holds_test c.zeros_u8.ensures c.if-zeros_u8.true);
+  pool = rw (sym c.begins.ensures) (holds-zeros c.begins.result c.args.pool.now c.all_are.ensures c.if-not-all_are.false);
   seals = sym c.seals_ok.ensures ∙ c.if-seals_ok.true;
   lists = holds c.lists_ok.ensures c.if-lists_ok.true;
 })

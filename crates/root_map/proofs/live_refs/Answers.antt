@@ -28,7 +28,7 @@ returns-then-not-enough c = let l : Lent = record { kinds = c.args.kinds.now; en
 pub returns-then-not-check_function : goal.returns-then-not-check_function
 returns-then-not-check_function c = let l : Lent = record { kinds = c.args.kinds.now; ends = c.args.ends.now; refs = c.args.refs.now; blocks = c.args.blocks.now; classes = c.args.classes.now } in
     let room = c.enough.ensures.0 c.if-not-enough.false in
-    refs-function l (wanted c.args.which) _ _ _ _ room _ c.clear_u64.ensures (sym c.check_function.ensures ∙ c.if-not-check_function.true)
+    refs-function l (wanted c.args.which) _ _ _ _ room _ (c.fill.ensures.after (λ y e. e)) (sym c.check_function.ensures ∙ c.if-not-check_function.true)
 
 pub chain-requires : goal.chain-requires
 chain-requires c = let good = sym c.check_function.ensures ∙ c.if-not-check_function.false in
@@ -50,7 +50,7 @@ returns-then-short c = let l : Lent = record { kinds = c.args.kinds.now; ends = 
     let room = c.enough.ensures.0 c.if-not-enough.false in
     let kept = c.count_map-c.ensures.frame.kept ∙ c.analyse.ensures.0 in
     refs-short l (wanted c.args.which) _ _ _ _ good c.count_map-c.ensures c.short.ensures room _
-    (c.clear_u64-then-short.ensures ∙ ap (λ (u : ℕ). replicate u 0) kept) c.if-short.true
+    ((c.fill-then-short.ensures.after (λ y e. e)) ∙ ap (λ (u : ℕ). replicate u 0) kept) c.if-short.true
 
 pub write_map-requires : goal.write_map-requires
 write_map-requires c = let l : Lent = record { kinds = c.args.kinds.now; ends = c.args.ends.now; refs = c.args.refs.now; blocks = c.args.blocks.now; classes = c.args.classes.now } in
@@ -59,7 +59,7 @@ write_map-requires c = let l : Lent = record { kinds = c.args.kinds.now; ends = 
     let fit = formed-fit c.args.kinds.now c.args.ends.now c.args.refs.now c.args.blocks.now c.args.classes.now good in record { classes_value = good; nb_value = (refl, omega (arith, room, need-is (length c.args.blocks.now / 2) ((length c.args.classes.now + 63) / 64), c.analyse.ensures.0, c.count_map-c.ensures.frame.kept), omega arith, omega (arith, fit.class-count), fit.code-count, c.chain.ensures); fixed = fixed_out c.analyse.ensures.1 c.count_map-c.ensures.frame; fits = room_for l (wanted c.args.which) _ _ _ c.args.s.now good c.count_map-c.ensures c.short.ensures c.if-short.false }
 
 pub shape_of-s : goal.shape_of-s
-shape_of-s c = c.clear_u64-2.auto.dst ∙ c.write_map.ensures.frame.kept ∙ c.count_map-c.ensures.frame.kept ∙ c.analyse.ensures.0
+shape_of-s c = c.fill-2.auto.self ∙ c.write_map.ensures.frame.kept ∙ c.count_map-c.ensures.frame.kept ∙ c.analyse.ensures.0
 
 pub returns : goal.returns
 returns c = let l : Lent = record { kinds = c.args.kinds.now; ends = c.args.ends.now; refs = c.args.refs.now; blocks = c.args.blocks.now; classes = c.args.classes.now } in
@@ -67,4 +67,4 @@ returns c = let l : Lent = record { kinds = c.args.kinds.now; ends = c.args.ends
     let room = c.enough.ensures.0 c.if-not-enough.false in
     let kept = c.write_map.ensures.frame.kept ∙ c.count_map-c.ensures.frame.kept ∙ c.analyse.ensures.0 in
     refs-map l (wanted c.args.which) _ _ _ _ good c.count_map-c.ensures c.short.ensures room _
-    (c.clear_u64-2.ensures ∙ ap (λ (u : ℕ). replicate u 0) kept) c.if-short.false c.write_map.ensures
+    ((c.fill-2.ensures.after (λ y e. e)) ∙ ap (λ (u : ℕ). replicate u 0) kept) c.if-short.false c.write_map.ensures

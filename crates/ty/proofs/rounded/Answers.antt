@@ -2,8 +2,8 @@
 use Rattle.ty.proofs.Laws.{aligned-is, aligned-over}
 use Rattle.ty.proofs.rounded.Goals as goal
 
-pub returns-in_default : goal.returns-in_default
-returns-in_default c = search aligned-over
+pub returns-in-Some : goal.returns-in-Some
+returns-in-Some c = aligned-is _ _ _ _ _ c.at_least_one.ensures c.align_up.ensures c.in-Some.is
 
-pub returns : goal.returns
-returns c = search aligned-is
+pub returns-in-None : goal.returns-in-None
+returns-in-None c = aligned-over _ _ _ _ c.at_least_one.ensures c.align_up.ensures c.in-None.is

@@ -22,7 +22,7 @@ pub slice_bounds-list-end : goal.slice_bounds-list-end
 slice_bounds-list-end c = omega arith
 
 pub returns-in-Bits : goal.returns-in-Bits
-returns-in-Bits c = (sym (ap (λ (a : Listed). answered here nothing (told a)) c.in-Bits.is) ∙ ap (answered here nothing) c.list-answer.ensures.0, c.list-answer.ensures.1, c.clear_u64.ensures)
+returns-in-Bits c = (sym (ap (λ (a : Listed). answered here nothing (told a)) c.in-Bits.is) ∙ ap (answered here nothing) c.list-answer.ensures.0, c.list-answer.ensures.1, (c.fill.ensures.after (λ y e. e)))
 
 pub returns-in-Short : goal.returns-in-Short
-returns-in-Short c = (sym (ap (λ (a : Listed). answered here nothing (told a)) c.in-Short.is) ∙ ap (answered here nothing) c.list-answer.ensures.0, c.list-answer.ensures.1, c.clear_u64.ensures)
+returns-in-Short c = (sym (ap (λ (a : Listed). answered here nothing (told a)) c.in-Short.is) ∙ ap (answered here nothing) c.list-answer.ensures.0, c.list-answer.ensures.1, (c.fill.ensures.after (λ y e. e)))

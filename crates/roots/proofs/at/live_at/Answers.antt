@@ -21,16 +21,16 @@ pub returns-then-not-enough : goal.returns-then-not-enough
 returns-then-not-enough c = at-scratch (record { kinds = c.args.kinds.now; ends = c.args.ends.now; refs = c.args.refs.now; blocks = c.args.blocks.now; classes = c.args.classes.now }) (wanted c.args.which) c.args.pc _ _ (above _ _ (refuted _ c.enough.ensures c.if-not-enough.true))
 
 pub returns-then-not-check_function : goal.returns-then-not-check_function
-returns-then-not-check_function c = at-function (record { kinds = c.args.kinds.now; ends = c.args.ends.now; refs = c.args.refs.now; blocks = c.args.blocks.now; classes = c.args.classes.now }) (wanted c.args.which) c.args.pc _ _ (c.enough.ensures.0 c.if-not-enough.false) _ c.clear_u64.ensures (sym c.check_function.ensures ∙ c.if-not-check_function.true)
+returns-then-not-check_function c = at-function (record { kinds = c.args.kinds.now; ends = c.args.ends.now; refs = c.args.refs.now; blocks = c.args.blocks.now; classes = c.args.classes.now }) (wanted c.args.which) c.args.pc _ _ (c.enough.ensures.0 c.if-not-enough.false) _ (c.fill.ensures.after (λ y e. e)) (sym c.check_function.ensures ∙ c.if-not-check_function.true)
 
 pub returns-then-nb-b : goal.returns-then-nb-b
-returns-then-nb-b c = at-no-map (record { kinds = c.args.kinds.now; ends = c.args.ends.now; refs = c.args.refs.now; blocks = c.args.blocks.now; classes = c.args.classes.now }) (wanted c.args.which) c.args.pc _ _ (c.enough.ensures.0 c.if-not-enough.false) _ c.clear_u64-then-nb-b.ensures (sym c.check_function.ensures ∙ c.if-not-check_function.false) (not-held c.args.kinds.now c.args.ends.now c.args.refs.now c.args.blocks.now c.args.classes.now (sym c.check_function.ensures ∙ c.if-not-check_function.false) c.args.pc c.find_block-b.ensures c.if-nb-b.true)
+returns-then-nb-b c = at-no-map (record { kinds = c.args.kinds.now; ends = c.args.ends.now; refs = c.args.refs.now; blocks = c.args.blocks.now; classes = c.args.classes.now }) (wanted c.args.which) c.args.pc _ _ (c.enough.ensures.0 c.if-not-enough.false) _ (c.fill-then-nb-b.ensures.after (λ y e. e)) (sym c.check_function.ensures ∙ c.if-not-check_function.false) (not-held c.args.kinds.now c.args.ends.now c.args.refs.now c.args.blocks.now c.args.classes.now (sym c.check_function.ensures ∙ c.if-not-check_function.false) c.args.pc c.find_block-b.ensures c.if-nb-b.true)
 
 pub bounds-kinds-pc : goal.bounds-kinds-pc
 bounds-kinds-pc c = in_code c.args.kinds.now c.args.ends.now c.args.refs.now c.args.blocks.now c.args.classes.now (sym c.check_function.ensures ∙ c.if-not-check_function.false) c.args.pc _ c.if-nb-b.false (c.find_block-b.ensures.here c.if-nb-b.false).0 (c.find_block-b.ensures.here c.if-nb-b.false).1
 
 pub returns-then-kinds-pc-ne1 : goal.returns-then-kinds-pc-ne1
-returns-then-kinds-pc-ne1 c = at-no-map (record { kinds = c.args.kinds.now; ends = c.args.ends.now; refs = c.args.refs.now; blocks = c.args.blocks.now; classes = c.args.classes.now }) (wanted c.args.which) c.args.pc _ _ (c.enough.ensures.0 c.if-not-enough.false) _ c.clear_u64-then-kinds-pc-ne1.ensures (sym c.check_function.ensures ∙ c.if-not-check_function.false) (not-safepoint c.args.kinds.now c.args.ends.now c.args.refs.now c.args.blocks.now c.args.classes.now (sym c.check_function.ensures ∙ c.if-not-check_function.false) c.args.pc (in_code c.args.kinds.now c.args.ends.now c.args.refs.now c.args.blocks.now c.args.classes.now (sym c.check_function.ensures ∙ c.if-not-check_function.false) c.args.pc _ c.if-nb-b.false (c.find_block-b.ensures.here c.if-nb-b.false).0 (c.find_block-b.ensures.here c.if-nb-b.false).1) c.if-kinds-pc-ne1.true)
+returns-then-kinds-pc-ne1 c = at-no-map (record { kinds = c.args.kinds.now; ends = c.args.ends.now; refs = c.args.refs.now; blocks = c.args.blocks.now; classes = c.args.classes.now }) (wanted c.args.which) c.args.pc _ _ (c.enough.ensures.0 c.if-not-enough.false) _ (c.fill-then-kinds-pc-ne1.ensures.after (λ y e. e)) (sym c.check_function.ensures ∙ c.if-not-check_function.false) (not-safepoint c.args.kinds.now c.args.ends.now c.args.refs.now c.args.blocks.now c.args.classes.now (sym c.check_function.ensures ∙ c.if-not-check_function.false) c.args.pc (in_code c.args.kinds.now c.args.ends.now c.args.refs.now c.args.blocks.now c.args.classes.now (sym c.check_function.ensures ∙ c.if-not-check_function.false) c.args.pc _ c.if-nb-b.false (c.find_block-b.ensures.here c.if-nb-b.false).0 (c.find_block-b.ensures.here c.if-nb-b.false).1) c.if-kinds-pc-ne1.true)
 
 pub live_row-requires : goal.live_row-requires
 live_row-requires c = record { classes_value = (sym c.check_function.ensures ∙ c.if-not-check_function.false); nb_value = (refl, c.if-nb-b.false, omega (arith, (c.enough.ensures.0 c.if-not-enough.false), need-is (length c.args.blocks.now / 2) ((length c.args.classes.now + 63) / 64)), omega arith); b_bound = ((c.find_block-b.ensures.here c.if-nb-b.false).0, (c.find_block-b.ensures.here c.if-nb-b.false).1) }

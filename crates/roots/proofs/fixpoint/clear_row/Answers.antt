@@ -14,17 +14,17 @@ overflow_add-past c = omega arith
 pub offset_bounds-s-at : goal.offset_bounds-s-at
 offset_bounds-s-at c = omega arith
 
-pub slice_bounds-clear_u64-count : goal.slice_bounds-clear_u64-count
-slice_bounds-clear_u64-count c = omega arith
+pub slice_bounds-fill-count : goal.slice_bounds-fill-count
+slice_bounds-fill-count c = omega arith
 
-pub slice_bounds-clear_u64-start : goal.slice_bounds-clear_u64-start
-slice_bounds-clear_u64-start c = omega arith
+pub slice_bounds-fill-start : goal.slice_bounds-fill-start
+slice_bounds-fill-start c = omega arith
 
-pub slice_bounds-clear_u64-end : goal.slice_bounds-clear_u64-end
-slice_bounds-clear_u64-end c = omega arith
+pub slice_bounds-fill-end : goal.slice_bounds-fill-end
+slice_bounds-fill-end c = omega arith
 
 pub returns : goal.returns
-returns c = let l = c.clear_u64.auto.dst ∙ mid-length c.args.at c.args.words c.args.s.now (omega arith) in (
-  mid-frame c.args.at c.args.words c.args.s.now c.clear_u64.new.dst c.requires l,
-  λ q h. mid-cell c.args.at c.args.words c.args.s.now c.clear_u64.new.dst c.requires l q h ∙ ap (λ (z : List ℕ). bit_in 64 z q) c.clear_u64.ensures ∙ zero_bit (length (take ((c.args.at + c.args.words) - c.args.at) (drop c.args.at c.args.s.now))) q,
+returns c = let l = c.fill.auto.self ∙ mid-length c.args.at c.args.words c.args.s.now (omega arith) in (
+  mid-frame c.args.at c.args.words c.args.s.now c.fill.new.self c.requires l,
+  λ q h. mid-cell c.args.at c.args.words c.args.s.now c.fill.new.self c.requires l q h ∙ ap (λ (z : List ℕ). bit_in 64 z q) (c.fill.ensures.after (λ y e. e)) ∙ zero_bit (length (take ((c.args.at + c.args.words) - c.args.at) (drop c.args.at c.args.s.now))) q,
 )
