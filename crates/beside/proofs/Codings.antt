@@ -12,9 +12,8 @@ use Rattle.word.specs.Run.{run}
 use Rattle.word.proofs.ListLaws.{drop-cons-one}
 use Rattle.handle.specs.Handle.{resolve_by, told}
 use Rattle.handle.specs.Columns.{live_in}
-use Rattle.handle.specs.declared.Resolved.{Resolved}
-use Rattle.handle.specs.declared.Resolved.TheVariants.{Null, WrongHeap, NeverIssued, Stale, At}
-use Rattle.handle.specs.contracts.Resolved.{the_type as resolved-type}
+use Rattle.std.specs.Prelude.{Result as Outcome, Ok, Err}
+use Rattle.refusal.specs.declared.Refusal.{Refusal}
 use Rattle.alike.specs.Order.{Order, Order.less, Order.equal, Order.greater, order}
 use Rattle.alike.specs.Inner.ByTurns.{numbers, ◌and_then◌}
 use Rattle.alike.specs.Inner.Beside.{Beside, beside_at}
@@ -83,25 +82,11 @@ module _ (a b : List ℕ) (to i : ℕ) (G : Order) (inv : order (take (to - i) (
 
 -- ---- a handle
 
-pub rank-none : (r : Resolved) → OneOf (0 ∷ 1 ∷ 2 ∷ 3 ∷ []) (tag_of resolved-type r) → 0 ≡ rank_of (told r)
-rank-none Null o = refl
-rank-none WrongHeap o = refl
-rank-none NeverIssued o = refl
-rank-none Stale o = refl
-rank-none (At i) o = absurd (miss (0 ∷ 1 ∷ 2 ∷ 3 ∷ []) 4 tt o)
-
 pub turn-beyond : (work : List ℕ) (i : ℕ) → length work ≤ i → 0 ≡ get_or work i 0 / 16777216
 turn-beyond work i h = let z : get_or work i 0 ≡ 0 = get_or-eq_default work 0 h in rw z refl
 
 module _ (work : List ℕ) (h : ℕ) where
-  pub worth-none : (r : Resolved) → OneOf (0 ∷ 1 ∷ 2 ∷ 3 ∷ []) (tag_of resolved-type r) → h ≡ worth_in work h (told r)
-  worth-none Null o = refl
-  worth-none WrongHeap o = refl
-  worth-none NeverIssued o = refl
-  worth-none Stale o = refl
-  worth-none (At i) o = absurd (miss (0 ∷ 1 ∷ 2 ∷ 3 ∷ []) 4 tt o)
-
-  pub worth-some : (r : Resolved) (i : ℕ) → r ≡ At i → (z : ℕ) → z ≡ get_or work i 0 / 16777216 → z ≡ worth_in work h (told r)
+  pub worth-some : (r : Outcome ℕ Refusal) (i : ℕ) → r ≡ Ok i → (z : ℕ) → z ≡ get_or work i 0 / 16777216 → z ≡ worth_in work h (told r)
   worth-some r i e z q = rw e q
 
 -- ---- two handles
@@ -116,8 +101,8 @@ code-second less u c d e h q = absurd (omega arith)
 code-second equal u c d e h q = q
 code-second greater u c d e h q = absurd (omega arith)
 
-module _ (tag slots s : ℕ) (narrow : List ℕ) (a : Resolved) (v : ℕ) (ea : told a ≡ resolve_by tag slots (live_in slots (run s s narrow)) (λ i. get_or (run s 0 narrow) i 0) v)
-    (otag oslots os : ℕ) (onarrow : List ℕ) (b : Resolved) (w : ℕ) (eb : told b ≡ resolve_by otag oslots (live_in oslots (run os os onarrow)) (λ i. get_or (run os 0 onarrow) i 0) w)
+module _ (tag slots s : ℕ) (narrow : List ℕ) (a : Outcome ℕ Refusal) (v : ℕ) (ea : told a ≡ resolve_by tag slots (live_in slots (run s s narrow)) (λ i. get_or (run s 0 narrow) i 0) v)
+    (otag oslots os : ℕ) (onarrow : List ℕ) (b : Outcome ℕ Refusal) (w : ℕ) (eb : told b ≡ resolve_by otag oslots (live_in oslots (run os os onarrow)) (λ i. get_or (run os 0 onarrow) i 0) w)
     (work owork : List ℕ) (p q c : ℕ) (ep : p ≡ rank_of (told a)) (eq : q ≡ rank_of (told b)) (ec : c ≡ code (numbers p q)) where
   both-are : (numbers p q and_then numbers (worth_in work v (told a)) (worth_in owork w (told b))) ≡ place_in (resolve_in tag slots s narrow) work (resolve_in otag oslots os onarrow) owork v w
   unfolding place_in resolve_in

@@ -10,7 +10,7 @@ ghost use Rattle.beside.specs.Inner.Codes.{code, then_code};
 ghost use Rattle.beside.specs.Inner.Ranks.{resolve_in, Runs, rank_of, worth_in, place_in};
 ghost use Rattle.beside.specs.Inner.Found.{found_at};
 
-use handle::Resolved;
+use refusal::Refusal;
 
 // Two numbers.
 pub fn compare(x: u64, y: u64) -> u8
@@ -46,13 +46,13 @@ pub fn compare_bytes(data: &[u8], other: &[u8], from: usize, to: usize) -> u8
 }
 
 // Whether a handle resolves, as a number.
-fn rank(r: Resolved) -> u64
+fn rank(r: Result<u32, Refusal>) -> u64
     ensures { result ≡ rank_of (told r) }
 {
-    let Resolved::At(_) = r else {
-        return 0;
-    };
-    1
+    match r {
+        Ok(_) => 1,
+        Err(_) => 0,
+    }
 }
 
 // The turn of slot i: the upper bits of its word.
@@ -67,13 +67,13 @@ pub fn turn_of(work: &[u64], i: u32) -> u64
 }
 
 // What handles that both resolve, or both do not, are compared by.
-fn worth(work: &[u64], h: u64, r: Resolved) -> u64
+fn worth(work: &[u64], h: u64, r: Result<u32, Refusal>) -> u64
     ensures { result ≡ worth_in work.now h (told r) }
 {
-    let Resolved::At(i) = r else {
-        return h;
-    };
-    turn_of(work, i)
+    match r {
+        Ok(i) => turn_of(work, i),
+        Err(_) => h,
+    }
 }
 
 // Two handles, v in the one heap and w in the other.

@@ -16,7 +16,7 @@ ghost use Rattle.collect.specs.Safepoint.{at_safepoint, CanLook, RootRow};
 
 use heap::{Changed, Heap};
 use mark::Outcome;
-use refusal::{Refusal, Reply};
+use refusal::Refusal;
 use roots::Tracked;
 
 // What follows a marking that marks pinned slots too: the objects without a mark are dropped and the quarantined slots without one become free, unless an object can't
@@ -42,14 +42,14 @@ fn finish_marked(
         marks.fill(0);
         return Changed {
             heap: heap,
-            reply: Reply::Not(Refusal::Untraceable),
+            reply: Err(Refusal::Untraceable),
         };
     };
     let h = sweep::sweep_marked(heap, narrow, wide, pool, marks);
     marks.fill(0);
     Changed {
         heap: h,
-        reply: Reply::Is(0, 0),
+        reply: Ok((0, 0)),
     }
 }
 
@@ -182,7 +182,7 @@ pub fn collect_at(
     if !root_row(kinds, ends, refs, blocks, classes, pc, rows) {
         return Changed {
             heap: heap,
-            reply: Reply::Not(Refusal::NoMap),
+            reply: Err(Refusal::NoMap),
         };
     }
     let words = (classes.len() + 63) / 64;

@@ -13,7 +13,7 @@ ghost use Rattle.collect.specs.Collect.{collecting, finished, CanCollect};
 
 use heap::{Changed, Heap};
 use mark::Outcome;
-use refusal::{Refusal, Reply};
+use refusal::Refusal;
 
 pub mod joined; // at a safepoint, from the frame and the live registers
 
@@ -41,14 +41,14 @@ pub fn finish(
         marks.fill(0);
         return Changed {
             heap: heap,
-            reply: Reply::Not(Refusal::Untraceable),
+            reply: Err(Refusal::Untraceable),
         };
     };
     let h = sweep::sweep(heap, narrow, wide, pool, marks, pins);
     marks.fill(0);
     Changed {
         heap: h,
-        reply: Reply::Is(0, 0),
+        reply: Ok((0, 0)),
     }
 }
 

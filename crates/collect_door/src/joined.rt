@@ -7,7 +7,7 @@ ghost use Rattle.collect_door.specs.Demand.{Demand};
 
 use door::{Done, Entry};
 use heap::Heap;
-use refusal::{Refusal, Reply};
+use refusal::{Answer, Refusal};
 
 // Do three rows a block and two more fit, with a bit for each register?
 fn rows_enough(blocks: &[u32], classes: &[u8], rows: &[u64]) -> bool
@@ -194,7 +194,7 @@ pub fn yexwalu_collect_joined(
     ) {
         Entry::Not(why) => Done {
             heap: heap,
-            answer: Reply::Not(why).numbers(),
+            answer: Answer::from(Err(why)),
         },
         Entry::Ready => {
             let done = collect::joined::collect_at(
@@ -205,7 +205,7 @@ pub fn yexwalu_collect_joined(
             let reply = done.reply;
             Done {
                 heap: after,
-                answer: reply.numbers(),
+                answer: Answer::from(reply),
             }
         }
     }

@@ -7,7 +7,7 @@ ghost use Rattle.trace.specs.Emit.{raw_of, into, resolve_in, Runs, emit_all, emi
 ghost use Rattle.frame.specs.Frame.{entry, entries_of, first_word, entry_roots, entries_roots, frame_roots, frame_handles, frame_addresses};
 ghost use Rattle.frame.specs.Listing.{roots_listing, Frames};
 
-use refusal::{Refusal, Reply};
+use refusal::{Answer, Refusal, Reply};
 use trace::{Answer, Sink};
 
 // The word at the start of bytes, if there are eight.
@@ -205,7 +205,7 @@ pub fn list_roots(
         0,
     );
     let Answer::Traced(nh) = a else {
-        return Reply::Not(Refusal::Untraceable);
+        return Err(Refusal::Untraceable);
     };
     let b = trace_frame(
         types,
@@ -225,13 +225,13 @@ pub fn list_roots(
         0,
     );
     let Answer::Traced(na) = b else {
-        return Reply::Not(Refusal::Untraceable);
+        return Err(Refusal::Untraceable);
     };
     if lh < nh {
-        return Reply::Not(Refusal::ShortList);
+        return Err(Refusal::ShortList);
     }
     if la < na {
-        return Reply::Not(Refusal::ShortList);
+        return Err(Refusal::ShortList);
     }
     trace_frame(
         types,
@@ -267,5 +267,5 @@ pub fn list_roots(
         addresses,
         0,
     );
-    Reply::Is(nh as u64, na as u64)
+    Ok((nh as u64, na as u64))
 }

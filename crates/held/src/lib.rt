@@ -13,7 +13,7 @@ ghost use Rattle.object_door.specs.ObjectCalls.{allocating, recycling};
 ghost use Rattle.held.specs.Held.{head_in, in_place, Held};
 
 use heap::{Changed, Heap};
-use refusal::{Answer, Refusal, Reply};
+use refusal::{Answer, Refusal};
 
 // The header that lies in lent memory: the tag; since_gc, reclaim_at, live_bytes and epoch; the log; how many entries of the slots and of each list are in use.
 pub fn header(tag: &[u8; 1], numbers: &[u64; 4], log: &[u32; 16], lengths: &[u64; 5]) -> Heap
@@ -85,7 +85,7 @@ fn alloc_from(
     }
     Changed {
         heap: heap,
-        reply: Reply::Not(Refusal::Kind),
+        reply: Err(Refusal::Kind),
     }
 }
 
@@ -100,12 +100,12 @@ fn recycle(heap: Heap, narrow: &mut [u32], wide: &[u64], pool: &[u8], pins: &[u3
         let after = heap_calls::recycle::recycle(heap, narrow, wide, pool, pins);
         return Changed {
             heap: after,
-            reply: Reply::Is(0, 0),
+            reply: Ok((0, 0)),
         };
     }
     Changed {
         heap: heap,
-        reply: Reply::Not(Refusal::Pins),
+        reply: Err(Refusal::Pins),
     }
 }
 
@@ -134,7 +134,7 @@ pub fn yexwalu_held_alloc_from(
     let after = done.heap;
     let reply = done.reply;
     keep(after, tag, numbers, log, lengths);
-    reply.numbers()
+    Answer::from(reply)
 }
 
 // Hands out the whole data of the object that the handle names; its slot goes into quarantine. First: its length; second: its start.
@@ -162,7 +162,7 @@ pub fn yexwalu_held_take(
     let after = done.heap;
     let reply = done.reply;
     keep(after, tag, numbers, log, lengths);
-    reply.numbers()
+    Answer::from(reply)
 }
 
 // Pinned slots stay in quarantine, in order; the others join the free list, or the retired list where they are worn out.
@@ -187,5 +187,5 @@ pub fn yexwalu_held_recycle(
     let after = done.heap;
     let reply = done.reply;
     keep(after, tag, numbers, log, lengths);
-    reply.numbers()
+    Answer::from(reply)
 }

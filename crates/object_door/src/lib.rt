@@ -12,7 +12,7 @@ ghost use Rattle.object_door.specs.Making.{no_header, new_tests, new_call};
 
 use door::{Done, Entry, enter};
 use heap::Heap;
-use refusal::{Refusal, Reply};
+use refusal::{Answer, Refusal};
 
 // The header that a refusal returns: zeros, which no call takes for a heap.
 fn no_heap() -> Heap
@@ -70,13 +70,13 @@ pub fn yexwalu_new(
     match enter_new(narrow, wide, pool, marks, work) {
         Entry::Not(why) => Done {
             heap: no_heap(),
-            answer: Reply::Not(why).numbers(),
+            answer: Answer::from(Err(why)),
         },
         Entry::Ready => {
             let after = heap_edit::new(tag, narrow, wide, pool);
             Done {
                 heap: after,
-                answer: Reply::Is(0, 0).numbers(),
+                answer: Answer::from(Ok((0, 0))),
             }
         }
     }
@@ -116,7 +116,7 @@ pub fn yexwalu_alloc_from(
     match enter(heap, narrow, wide, pool, marks, work) {
         Entry::Not(why) => Done {
             heap: heap,
-            answer: Reply::Not(why).numbers(),
+            answer: Answer::from(Err(why)),
         },
         Entry::Ready => {
             if is_kind(kind) {
@@ -125,12 +125,12 @@ pub fn yexwalu_alloc_from(
                 let reply = done.reply;
                 return Done {
                     heap: after,
-                    answer: reply.numbers(),
+                    answer: Answer::from(reply),
                 };
             }
             Done {
                 heap: heap,
-                answer: Reply::Not(Refusal::Kind).numbers(),
+                answer: Answer::from(Err(Refusal::Kind)),
             }
         }
     }
@@ -176,7 +176,7 @@ pub fn yexwalu_take(
     match enter(heap, narrow, wide, pool, marks, work) {
         Entry::Not(why) => Done {
             heap: heap,
-            answer: Reply::Not(why).numbers(),
+            answer: Answer::from(Err(why)),
         },
         Entry::Ready => {
             let done = heap_calls::take(heap, narrow, wide, pool, handle, out);
@@ -184,7 +184,7 @@ pub fn yexwalu_take(
             let reply = done.reply;
             Done {
                 heap: after,
-                answer: reply.numbers(),
+                answer: Answer::from(reply),
             }
         }
     }
@@ -208,7 +208,7 @@ pub fn yexwalu_free(
     match enter(heap, narrow, wide, pool, marks, work) {
         Entry::Not(why) => Done {
             heap: heap,
-            answer: Reply::Not(why).numbers(),
+            answer: Answer::from(Err(why)),
         },
         Entry::Ready => {
             let done = heap_calls::free(heap, narrow, wide, pool, handle);
@@ -216,7 +216,7 @@ pub fn yexwalu_free(
             let reply = done.reply;
             Done {
                 heap: after,
-                answer: reply.numbers(),
+                answer: Answer::from(reply),
             }
         }
     }
@@ -240,19 +240,19 @@ pub fn yexwalu_recycle(
     match enter(heap, narrow, wide, pool, marks, work) {
         Entry::Not(why) => Done {
             heap: heap,
-            answer: Reply::Not(why).numbers(),
+            answer: Answer::from(Err(why)),
         },
         Entry::Ready => {
             if heap_calls::recycle::rise(pins) {
                 let after = heap_calls::recycle::recycle(heap, narrow, wide, pool, pins);
                 return Done {
                     heap: after,
-                    answer: Reply::Is(0, 0).numbers(),
+                    answer: Answer::from(Ok((0, 0))),
                 };
             }
             Done {
                 heap: heap,
-                answer: Reply::Not(Refusal::Pins).numbers(),
+                answer: Answer::from(Err(Refusal::Pins)),
             }
         }
     }

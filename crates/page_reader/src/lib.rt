@@ -17,7 +17,6 @@ ghost use Rattle.page_reader.specs.Reading.{PageRead};
 
 use heap::{Changed, Heap};
 use page_check::{Checked, Sections, SlotLine};
-use refusal::Reply;
 
 // Puts the numbers of `count` slots, whose lines stand from `at` on, into their runs.
 fn fill_slots(s: &[u8], at: usize, count: usize, narrow: &mut [u32], wide: &mut [u64])
@@ -280,12 +279,12 @@ pub fn read(
             let names = names_met(x.retiring, x.planar);
             Changed {
                 heap: loaded,
-                reply: Reply::Is(bits, names),
+                reply: Ok((bits, names)),
             }
         }
         Checked::Not(why) => Changed {
             heap: heap,
-            reply: Reply::Not(why),
+            reply: Err(why),
         },
     }
 }

@@ -327,7 +327,7 @@ pub fn measure(heap: Heap, narrow: &[u32], wide: &[u64], pool: &[u8], planar: bo
     ensures { told result ≡ answered here nothing (ok (length (page_text (written planar) (view (lent heap narrow.now wide.now pool.now))))) }
 {
     let n = page_len(heap, narrow, wide, pool, planar);
-    Reply::Is(n as u64, 0)
+    Ok((n as u64, 0))
 }
 
 // Writes a heap's page to `out`, and answers its length; an output that is too short stays as it was.
@@ -344,7 +344,7 @@ pub fn write(
 {
     let n = page_len(heap, narrow, wide, pool, planar);
     if out.len() < n {
-        return Reply::Not(Refusal::ShortList);
+        return Err(Refusal::ShortList);
     }
     let a = text::put_literal(
         out,
@@ -369,5 +369,5 @@ pub fn write(
     );
     let g = put_handles_after(out, f, b"sealed\n", &wide[three..four], heap.sealed);
     let k = put_indices_after(out, g, b"retired\n", &narrow[five..six], heap.retired);
-    Reply::Is(k as u64, 0)
+    Ok((k as u64, 0))
 }

@@ -13,7 +13,7 @@ ghost use Rattle.object_door.specs.ObjectCalls.{allocating};
 ghost use Rattle.rehearsal_place.specs.Decoding.{Spelled, PlaceDoes};
 
 use heap::{Changed, Heap};
-use refusal::{Refusal, Reply};
+use refusal::Refusal;
 use script::AllocLine;
 
 // Places the object of kind `k` whose data the text spells: 6, then 5.
@@ -36,21 +36,16 @@ fn place_spelled(
         (lent result.heap narrow.new wide.new pool.new) result.reply k t (hex_at s.now from) }
 {
     let done = heap_calls::alloc_from(heap, narrow, wide, pool, k, t, 0, &s[from..from + count]);
-    let after = done.heap;
-    let reply = done.reply;
-    let Reply::Is(x, _) = reply else {
-        return Changed {
-            heap: after,
-            reply: reply,
-        };
+    let x = match done.reply {
+        Ok((x, _)) => x,
+        Err(_) => {
+            return done;
+        }
     };
     let i = handle::index_of(x) as usize;
     let to = heap::start_of(wide, narrow.len() / 6, i);
     text::copy_hex(s, from, count, pool, to);
-    Changed {
-        heap: after,
-        reply: reply,
-    }
+    done
 }
 
 // Places the object of an `alloc` line: 8, then 6, then 5.
@@ -74,13 +69,13 @@ pub fn place(
     if k < 1 {
         return Changed {
             heap: heap,
-            reply: Reply::Not(Refusal::Kind),
+            reply: Err(Refusal::Kind),
         };
     }
     if 3 < k {
         return Changed {
             heap: heap,
-            reply: Reply::Not(Refusal::Kind),
+            reply: Err(Refusal::Kind),
         };
     }
     let ty = a.ty as u32;

@@ -10,7 +10,7 @@ ghost use Rattle.rehearse_door.specs.Rehearse.{rehearse_tests, rehearse_call, Pl
 
 use door::{Done, Entry};
 use heap::Heap;
-use refusal::{Refusal, Reply};
+use refusal::{Answer, Refusal};
 
 // Do scratch, text, lent sizes, type table and output let it begin?
 fn admit(
@@ -97,7 +97,7 @@ pub fn yexwalu_rehearse(
     ) {
         Entry::Not(why) => Done {
             heap: heap,
-            answer: Reply::Not(why).numbers(),
+            answer: Answer::from(Err(why)),
         },
         Entry::Ready => {
             let done = rehearsal_runs::rehearse_all(
@@ -109,7 +109,7 @@ pub fn yexwalu_rehearse(
             let written = done.written as u64;
             Done {
                 heap: after,
-                answer: Reply::Is(written, 0).numbers(),
+                answer: Answer::from(Ok((written, 0))),
             }
         }
     }

@@ -264,11 +264,11 @@ pub fn live_refs(
     let words = (classes.len() + 63) / 64;
     let nb = blocks.len() / 2;
     if !enough(s.len(), 3 * nb + 2, words) {
-        return Reply::Not(Refusal::Scratch);
+        return Err(Refusal::Scratch);
     }
     if !check_function(kinds, ends, refs, blocks, classes) {
         s.fill(0);
-        return Reply::Not(Refusal::Function);
+        return Err(Refusal::Function);
     }
     // The chains of the blocks by their end; 65,535 is no block.
     let mut heads = [65535u16; 4096];
@@ -282,12 +282,12 @@ pub fn live_refs(
     let registers = c.registers;
     if short(points, registers, pcs.len(), bounds.len(), regs.len()) {
         s.fill(0);
-        return Reply::Not(Refusal::ShortList);
+        return Err(Refusal::ShortList);
     }
     write_map(
         s, kinds, ends, refs, blocks, classes, which, nb, words, &heads, &links, pcs, bounds, regs,
         points, registers,
     );
     s.fill(0);
-    Reply::Is(points as u64, registers as u64)
+    Ok((points as u64, registers as u64))
 }

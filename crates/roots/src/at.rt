@@ -80,8 +80,8 @@ fn list_at(s: &mut [u64], at: usize, words: usize, regs: &mut [u32]) -> Reply
     let answer = rows::list(&s[at..past], regs);
     s.fill(0);
     match answer {
-        Listed::Bits(n) => Reply::Is(n as u64, 0),
-        Listed::Short => Reply::Not(Refusal::ShortList),
+        Listed::Bits(n) => Ok((n as u64, 0)),
+        Listed::Short => Err(Refusal::ShortList),
     }
 }
 
@@ -103,20 +103,20 @@ pub fn live_at(
     let words = (classes.len() + 63) / 64;
     let nb = blocks.len() / 2;
     if !enough(rows.len(), 3 * nb + 2, words) {
-        return Reply::Not(Refusal::Scratch);
+        return Err(Refusal::Scratch);
     }
     if !check_function(kinds, ends, refs, blocks, classes) {
         rows.fill(0);
-        return Reply::Not(Refusal::Function);
+        return Err(Refusal::Function);
     }
     let b = find_block(blocks, nb, pc);
     if nb <= b {
         rows.fill(0);
-        return Reply::Not(Refusal::NoMap);
+        return Err(Refusal::NoMap);
     }
     if kinds[pc] != 1 {
         rows.fill(0);
-        return Reply::Not(Refusal::NoMap);
+        return Err(Refusal::NoMap);
     }
     live_row(
         rows, kinds, ends, refs, blocks, classes, which, nb, words, b, pc,

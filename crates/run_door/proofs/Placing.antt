@@ -11,8 +11,8 @@ use Rattle.text.specs.Put.{Puts, put_text}
 use Rattle.text.specs.Answer.{hex_at}
 use Rattle.refusal.specs.Told.{here, nothing}
 use Rattle.refusal.specs.declared.Refusal.TheVariants.{Kind, NoRoom}
-use Rattle.refusal.specs.declared.Reply.{Reply}
-use Rattle.refusal.specs.declared.Reply.TheVariants.{Not}
+use Rattle.refusal.specs.Told.{Reply}
+use Rattle.std.specs.Prelude.{Err}
 use Rattle.heap.specs.Lent.{Lent, view, slot_count, pool_size}
 use Rattle.heap.specs.Calls.{refuse, alloc_from}
 use Rattle.heap.specs.Done.{Tells}
@@ -48,19 +48,19 @@ module _ (l : Lent) (room s : List ℕ) (a : AllocLine) (can : CanRun l room) wh
             d.says;
       }
 
-  pub placed-low : a.kind < 1 → LineEnds l l (Not Kind) (some (call_at s a))
-  placed-low h = ended l (Not Kind) (no_kind l a.kind a.ty 0 (hex_at s a.from) (sym (kind-low a.kind h)) can.formed)
+  pub placed-low : a.kind < 1 → LineEnds l l (Err Kind) (some (call_at s a))
+  placed-low h = ended l (Err Kind) (no_kind l a.kind a.ty 0 (hex_at s a.from) (sym (kind-low a.kind h)) can.formed)
 
-  pub placed-high : 1 ≤ a.kind → 3 < a.kind → LineEnds l l (Not Kind) (some (call_at s a))
-  placed-high g h = ended l (Not Kind) (no_kind l a.kind a.ty 0 (hex_at s a.from) (sym (kind-high a.kind g h)) can.formed)
+  pub placed-high : 1 ≤ a.kind → 3 < a.kind → LineEnds l l (Err Kind) (some (call_at s a))
+  placed-high g h = ended l (Err Kind) (no_kind l a.kind a.ty 0 (hex_at s a.from) (sym (kind-high a.kind g h)) can.formed)
 
   module _ (low : 1 ≤ a.kind) (high : a.kind ≤ 3) (there : DataThere s a) where
-    pub placed-none : pool_size l < a.count → LineEnds l l (Not NoRoom) (some (call_at s a))
+    pub placed-none : pool_size l < a.count → LineEnds l l (Err NoRoom) (some (call_at s a))
     placed-none h =
         let e : alloc_from (slot_count l) (pool_size l) (view l) a.kind a.ty 0 (hex_at s a.from) ≡ refuse 6 (view l) =
         alloc-none (slot_count l) (pool_size l) (view l) a.kind a.ty 0 (hex_at s a.from) (omega (arith, there.counted)) in
-        ended l (Not NoRoom)
-        (of-kind l a.kind a.ty 0 (hex_at s a.from) l (Not NoRoom) (sym (kind-good a.kind low high)) (rw e (refuses here nothing l can.formed)))
+        ended l (Err NoRoom)
+        (of-kind l a.kind a.ty 0 (hex_at s a.from) l (Err NoRoom) (sym (kind-good a.kind low high)) (rw e (refuses here nothing l can.formed)))
 
     pub placed-done : (l' : Lent) (reply : Reply) (bytes : List ℕ) → bytes ≡ hex_at s a.from
         → Tells here nothing l l' reply (alloc_from (slot_count l) (pool_size l) (view l) a.kind a.ty 0 bytes)

@@ -15,7 +15,7 @@ ghost use Rattle.run_door.specs.Inner.Steps.{LineEnds, CanRun};
 
 use door::{Done, Entry, enter};
 use heap::{Changed, Heap};
-use refusal::{Refusal, Reply};
+use refusal::{Answer, Refusal};
 use script::{AllocLine, Line, begins_call, next_after, read_line};
 
 // The call of an `alloc` line: 8, then 6, then 5. Data longer than the pool is not decoded, so that the room is enough.
@@ -39,19 +39,19 @@ fn do_alloc(
     if k < 1 {
         return Changed {
             heap: heap,
-            reply: Reply::Not(Refusal::Kind),
+            reply: Err(Refusal::Kind),
         };
     }
     if 3 < k {
         return Changed {
             heap: heap,
-            reply: Reply::Not(Refusal::Kind),
+            reply: Err(Refusal::Kind),
         };
     }
     if pool.len() < count {
         return Changed {
             heap: heap,
-            reply: Reply::Not(Refusal::NoRoom),
+            reply: Err(Refusal::NoRoom),
         };
     }
     text::copy_hex(s, a.from, count, room, 0);
@@ -78,7 +78,7 @@ fn do_line(
     match line {
         Line::Bad => Changed {
             heap: heap,
-            reply: Reply::Not(Refusal::Page),
+            reply: Err(Refusal::Page),
         },
         Line::Alloc(a) => do_alloc(heap, narrow, wide, pool, s, a, room),
         Line::Take(x, _) => heap_calls::free(heap, narrow, wide, pool, x),
@@ -86,7 +86,7 @@ fn do_line(
             let after = heap_edit::seal(heap, narrow, wide, pool);
             Changed {
                 heap: after,
-                reply: Reply::Is(0, 0),
+                reply: Ok((0, 0)),
             }
         }
         Line::Recycle(_) => {
@@ -94,7 +94,7 @@ fn do_line(
             let after = heap_calls::recycle::recycle(heap, narrow, wide, pool, &pins);
             Changed {
                 heap: after,
-                reply: Reply::Is(0, 0),
+                reply: Ok((0, 0)),
             }
         }
     }
@@ -121,19 +121,15 @@ fn run_lines(
     while at < s.len() {
         let line = read_line(s, at);
         let done = do_line(h, narrow, wide, pool, s, line, room);
+        if done.reply.is_err() {
+            return done;
+        }
         h = done.heap;
         at = next_after(line, s.len());
-        let reply = done.reply;
-        let Reply::Is(_, _) = reply else {
-            return Changed {
-                heap: h,
-                reply: reply,
-            };
-        };
     }
     Changed {
         heap: h,
-        reply: Reply::Is(0, 0),
+        reply: Ok((0, 0)),
     }
 }
 
@@ -194,7 +190,7 @@ pub fn yexwalu_run(
     match admit(heap, narrow, wide, pool, script, room, marks, work) {
         Entry::Not(why) => Done {
             heap: heap,
-            answer: Reply::Not(why).numbers(),
+            answer: Answer::from(Err(why)),
         },
         Entry::Ready => {
             let done = run_lines(heap, narrow, wide, pool, script, room);
@@ -203,7 +199,7 @@ pub fn yexwalu_run(
             let reply = done.reply;
             Done {
                 heap: after,
-                answer: reply.numbers(),
+                answer: Answer::from(reply),
             }
         }
     }

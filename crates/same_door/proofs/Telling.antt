@@ -13,8 +13,8 @@ use Rattle.refusal.specs.Told.{told, answered, nothing}
 use Rattle.refusal.specs.declared.Answer.{Answer}
 use Rattle.refusal.specs.declared.Refusal.{Refusal}
 use Rattle.refusal.specs.declared.Refusal.TheVariants.{TypeTable, Untraceable as CannotTrace}
-use Rattle.refusal.specs.declared.Reply.{Reply}
-use Rattle.refusal.specs.declared.Reply.TheVariants.{Is as Told, Not as Refused}
+use Rattle.refusal.specs.Told.{Reply}
+use Rattle.std.specs.Prelude.{Ok, Err}
 use Rattle.ty.specs.Types.{Table}
 use Rattle.ty.specs.Check.{table_good}
 use Rattle.heap.specs.State.{State}
@@ -53,31 +53,31 @@ module _ (l k : Lent) {m w om ow m' w' om' ow' : List ℕ} {e : Entry} (s : Ente
 -- ---- the number that is told
 
 module _ (f : Compared) where
-  pub same-stuck : f ≡ Untraceable → Refused CannotTrace ≡ same_reply f
+  pub same-stuck : f ≡ Untraceable → Err CannotTrace ≡ same_reply f
   same-stuck e = sym (ap same_reply e)
 
-  pub order-stuck : f ≡ Untraceable → Refused CannotTrace ≡ order_reply f
+  pub order-stuck : f ≡ Untraceable → Err CannotTrace ≡ order_reply f
   order-stuck e = sym (ap order_reply e)
 
   module _ (c : ℕ) (e : f ≡ Is c) where
-    pub same-equal : c ≡ 0 → Told 1 0 ≡ same_reply f
-    same-equal z = sym (ap same_reply e ∙ ap (λ (b : Bool). Told (if b then 1 else 0) 0) (eq-eqb c 0 z))
+    pub same-equal : c ≡ 0 → Ok (1, 0) ≡ same_reply f
+    same-equal z = sym (ap same_reply e ∙ ap (λ (b : Bool). Ok ((if b then 1 else 0), 0)) (eq-eqb c 0 z))
 
-    pub same-unlike : (c ≡ 0 → ⊥) → Told 0 0 ≡ same_reply f
-    same-unlike z = sym (ap same_reply e ∙ ap (λ (b : Bool). Told (if b then 1 else 0) 0) (ne_eqb c 0 z))
+    pub same-unlike : (c ≡ 0 → ⊥) → Ok (0, 0) ≡ same_reply f
+    same-unlike z = sym (ap same_reply e ∙ ap (λ (b : Bool). Ok ((if b then 1 else 0), 0)) (ne_eqb c 0 z))
 
-    pub order-equal : c ≡ 0 → Told 1 0 ≡ order_reply f
-    order-equal z = sym (ap order_reply e ∙ ap (λ (b : Bool). Told (if b then 1 else (if eqb c 1 then 0 else 2)) 0) (eq-eqb c 0 z))
+    pub order-equal : c ≡ 0 → Ok (1, 0) ≡ order_reply f
+    order-equal z = sym (ap order_reply e ∙ ap (λ (b : Bool). Ok ((if b then 1 else (if eqb c 1 then 0 else 2)), 0)) (eq-eqb c 0 z))
 
     module _ (z : c ≡ 0 → ⊥) where
-      apart : order_reply f ≡ Told (if eqb c 1 then 0 else 2) 0
-      apart = ap order_reply e ∙ ap (λ (b : Bool). Told (if b then 1 else (if eqb c 1 then 0 else 2)) 0) (ne_eqb c 0 z)
+      apart : order_reply f ≡ Ok ((if eqb c 1 then 0 else 2), 0)
+      apart = ap order_reply e ∙ ap (λ (b : Bool). Ok ((if b then 1 else (if eqb c 1 then 0 else 2)), 0)) (ne_eqb c 0 z)
 
-      pub order-less : c ≡ 1 → Told 0 0 ≡ order_reply f
-      order-less y = sym (apart ∙ ap (λ (b : Bool). Told (if b then 0 else 2) 0) (eq-eqb c 1 y))
+      pub order-less : c ≡ 1 → Ok (0, 0) ≡ order_reply f
+      order-less y = sym (apart ∙ ap (λ (b : Bool). Ok ((if b then 0 else 2), 0)) (eq-eqb c 1 y))
 
-      pub order-greater : (c ≡ 1 → ⊥) → Told 2 0 ≡ order_reply f
-      order-greater y = sym (apart ∙ ap (λ (b : Bool). Told (if b then 0 else 2) 0) (ne_eqb c 1 y))
+      pub order-greater : (c ≡ 1 → ⊥) → Ok (2, 0) ≡ order_reply f
+      order-greater y = sym (apart ∙ ap (λ (b : Bool). Ok ((if b then 0 else 2), 0)) (ne_eqb c 1 y))
 
 module _ (T : Table) (g h : State) (rs ss : List ℕ) where
   same-told : told (same_reply (compared_by (ordering T g h rs ss))) ≡ answered same_number nothing (ordering T g h rs ss)
@@ -136,12 +136,12 @@ module _ (w : Words) (s t : Save) {e : Entry} {m' w' om' ow' : List ℕ} (x : En
         work_room = zeros-room t.work ow' (slot_count t.heap) (part i 3) b.1;
       }
 
-  pub same-refused : {why : Refusal} {r : Answer} → e ≡ Not why → r ≡ told (Refused why) → (asked_of r (m' ∷ w' ∷ om' ∷ ow' ∷ []) ≡ same_call w s t) × RightSame w s t r
+  pub same-refused : {why : Refusal} {r : Answer} → e ≡ Not why → r ≡ told (Err why) → (asked_of r (m' ∷ w' ∷ om' ∷ ow' ∷ []) ≡ same_call w s t) × RightSame w s t r
   same-refused {r = r} i q =
       let z : asked_of r (m' ∷ w' ∷ om' ∷ ow' ∷ []) ≡ same_call w s t = ask-refused x same_number nothing s.heap question i q in
       (z, rightly-same w s t r (m' ∷ w' ∷ om' ∷ ow' ∷ []) z)
 
-  pub order-refused : {why : Refusal} {r : Answer} → e ≡ Not why → r ≡ told (Refused why) → (asked_of r (m' ∷ w' ∷ om' ∷ ow' ∷ []) ≡ order_call w s t) × RightOrder w s t r
+  pub order-refused : {why : Refusal} {r : Answer} → e ≡ Not why → r ≡ told (Err why) → (asked_of r (m' ∷ w' ∷ om' ∷ ow' ∷ []) ≡ order_call w s t) × RightOrder w s t r
   order-refused {r = r} i q =
       let z : asked_of r (m' ∷ w' ∷ om' ∷ ow' ∷ []) ≡ order_call w s t = ask-refused x order_number nothing s.heap question i q in
       (z, rightly-ordered w s t r (m' ∷ w' ∷ om' ∷ ow' ∷ []) z)

@@ -124,12 +124,12 @@ fn same_reply(found: Compared) -> Reply
     ensures { result ≡ same_reply found }
 {
     match found {
-        Compared::Untraceable => Reply::Not(Refusal::Untraceable),
+        Compared::Untraceable => Err(Refusal::Untraceable),
         Compared::Is(c) => {
             if c == 0 {
-                return Reply::Is(1, 0);
+                return Ok((1, 0));
             }
-            Reply::Is(0, 0)
+            Ok((0, 0))
         }
     }
 }
@@ -139,15 +139,15 @@ fn order_reply(found: Compared) -> Reply
     ensures { result ≡ order_reply found }
 {
     match found {
-        Compared::Untraceable => Reply::Not(Refusal::Untraceable),
+        Compared::Untraceable => Err(Refusal::Untraceable),
         Compared::Is(c) => {
             if c == 0 {
-                return Reply::Is(1, 0);
+                return Ok((1, 0));
             }
             if c == 1 {
-                return Reply::Is(0, 0);
+                return Ok((0, 0));
             }
-            Reply::Is(2, 0)
+            Ok((2, 0))
         }
     }
 }
@@ -204,7 +204,7 @@ pub fn yexwalu_same(
         other_marks,
         other_work,
     ) {
-        Entry::Not(why) => Reply::Not(why).numbers(),
+        Entry::Not(why) => Answer::from(Err(why)),
         Entry::Ready => {
             let found = compare_heaps::order_heaps(
                 types,
@@ -230,7 +230,7 @@ pub fn yexwalu_same(
             work.fill(0);
             other_marks.fill(0);
             other_work.fill(0);
-            same_reply(found).numbers()
+            Answer::from(same_reply(found))
         }
     }
 }
@@ -287,7 +287,7 @@ pub fn yexwalu_order(
         other_marks,
         other_work,
     ) {
-        Entry::Not(why) => Reply::Not(why).numbers(),
+        Entry::Not(why) => Answer::from(Err(why)),
         Entry::Ready => {
             let found = compare_heaps::order_heaps(
                 types,
@@ -313,7 +313,7 @@ pub fn yexwalu_order(
             work.fill(0);
             other_marks.fill(0);
             other_work.fill(0);
-            order_reply(found).numbers()
+            Answer::from(order_reply(found))
         }
     }
 }

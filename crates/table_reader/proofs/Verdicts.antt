@@ -15,7 +15,7 @@ use Rattle.text.specs.Put.{put_text}
 use Rattle.text.specs.Answer.{hex_at}
 use Rattle.refusal.specs.Told.{number_of, refused_by, told}
 use Rattle.refusal.specs.declared.Answer.{Answer}
-use Rattle.refusal.specs.declared.Reply.TheVariants.{Is, Not as Refused}
+use Rattle.std.specs.Prelude.{Ok, Err}
 use Rattle.refusal.specs.declared.Refusal.{Refusal}
 use Rattle.refusal.specs.declared.Refusal.TheVariants.{ShortList, TypeTable, Page, Scratch}
 use Rattle.tables.specs.Table.{read_table}
@@ -102,7 +102,7 @@ fitted-some x t f c b n e h = rw (← e, h)
 pub fitted_none : (x : Sections) (t f c b n : ℕ) {r : Bool} → r ≡ room_for x t f c b n → r ≡ false → Not ShortList ≡ (if room_for x t f c b n then Good x else Not ShortList)
 fitted_none x t f c b n e h = rw (← e, h)
 
-pub told_same : (x : Sections) (n : ℕ) {a : Answer} → a ≡ told (Is 0 0) → n ≡ x.type_names + (x.field_names + x.const_names) →
+pub told_same : (x : Sections) (n : ℕ) {a : Answer} → a ≡ told (Ok (0, 0)) → n ≡ x.type_names + (x.field_names + x.const_names) →
     record { answer = a; types = 4 * x.types; fields = 2 * x.fields; consts = 3 * x.consts; bytes = x.bytes; names = n } ≡ told_of x
 told_same x n e h = λ i. record { answer = e i; types = 4 * x.types; fields = 2 * x.fields; consts = 3 * x.consts; bytes = x.bytes; names = h i }
 
@@ -211,7 +211,7 @@ module _ (s : List ℕ) (t f c b n : ℕ) (words halves : List ℕ) where
 
 module _ (types fields consts bytes names s words halves : List ℕ) {words' halves' : List ℕ} {r : Checked}
     (a : Tested s (length types) (length fields) (length consts) (length bytes) (length names) words halves words' halves' r) where
-  pub read-refused : {why : Refusal} {x : Answer} → r ≡ Not why → x ≡ told (Refused why) →
+  pub read-refused : {why : Refusal} {x : Answer} → r ≡ Not why → x ≡ told (Err why) →
       outcome (record { answer = x; types = 0; fields = 0; consts = 0; bytes = 0; names = 0 }) (lists types fields consts bytes names) words' halves'
       ≡ reading (lists types fields consts bytes names) s words halves
   unfolding reading table_told lists_left

@@ -11,7 +11,7 @@ ghost use Rattle.table_reader.specs.Inner.Ready.{rows_at, NamesReady};
 ghost use Rattle.table_reader.specs.Inner.Testing.{room_for, Tested, told_of};
 ghost use Rattle.table_reader.specs.Reading.{lists, outcome, reading};
 
-use refusal::{Answer, Refusal, Reply};
+use refusal::{Answer, Refusal};
 use table_check::{Checked, Sections};
 
 // Puts the names of `count` lines that stand from `at` on into a list from `to` on.
@@ -153,7 +153,7 @@ fn told_of(x: Sections, names: usize) -> TableRead
     ensures { result ≡ told_of x }
 {
     TableRead {
-        answer: Reply::Is(0, 0).numbers(),
+        answer: Answer::from(Ok((0, 0))),
         types: 4 * x.types,
         fields: 2 * x.fields,
         consts: 3 * x.consts,
@@ -194,7 +194,7 @@ pub fn read(
             told_of(x, n)
         }
         Checked::Not(why) => TableRead {
-            answer: Reply::Not(why).numbers(),
+            answer: Answer::from(Err(why)),
             types: 0,
             fields: 0,
             consts: 0,

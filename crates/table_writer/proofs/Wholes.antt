@@ -22,7 +22,7 @@ use Rattle.word.proofs.Bools.{and_both}
 use Rattle.ty.specs.Check.{all_of, table_good}
 use Rattle.refusal.specs.Told.{told}
 use Rattle.refusal.specs.declared.Refusal.TheVariants.{ShortList, TypeTable, Page}
-use Rattle.refusal.specs.declared.Reply.TheVariants.{Is, Not}
+use Rattle.std.specs.Prelude.{Ok, Err}
 use Rattle.tables.specs.Lists.{Names, names_format, rows_of, with_names, named_in}
 use Rattle.tables.specs.Answer.{GotAll, names_at, RowsReady}
 use Rattle.tables.proofs.Laws.{name-right}
@@ -335,7 +335,7 @@ module _ (w f c b names : List ℕ) where
       go none q = refl
       go (some r) q = rw q
 
-  pub written-17 : {x : NamesRead} (out : List ℕ) → NamesGot names (length w / 4) (length f / 2) (length c / 3) x → x ≡ NotNames → TableWritten (table_in w f c b names) out out (Not Page)
+  pub written-17 : {x : NamesRead} (out : List ℕ) → NamesGot names (length w / 4) (length f / 2) (length c / 3) x → x ≡ NotNames → TableWritten (table_in w f c b names) out out (Err Page)
   unfolding table_in writing leaving
   written-17 out g e = rw (named_none (g.lost e), table_in) (record { answer = refl; out = refl })
 
@@ -344,7 +344,7 @@ module _ (w f c b names : List ℕ) where
     unfolding named_in names_format pair times name_format
     named_some = rw (n.types, n.fields, n.constants)
 
-    pub written-10 : (out : List ℕ) → table_good w f c b ≡ false → TableWritten (table_in w f c b names) out out (Not TypeTable)
+    pub written-10 : (out : List ℕ) → table_good w f c b ≡ false → TableWritten (table_in w f c b names) out out (Err TypeTable)
     unfolding table_in writing leaving
     written-10 out e = rw (named_some, table_in, e) (record { answer = refl; out = refl })
 
@@ -359,7 +359,7 @@ module _ (w f c b names : List ℕ) where
           ∙ text-length w f c b names x y n (types-whole w f c b good) (fields-whole w f c b good) (constants-whole w f c b good)
 
       pub written-7 : (out : List ℕ) (rest : ℕ) → rest ≡ rest_length w f c → leb (rest + length names + 2 * length b) (length out) ≡ false →
-          TableWritten (table_in w f c b names) out out (Not ShortList)
+          TableWritten (table_in w f c b names) out out (Err ShortList)
       unfolding writing leaving
       written-7 out rest e q =
           let s : leb (length (table_text (named w f c b names x y))) (length out) ≡ false = ap (λ (m : ℕ). leb m (length out)) (sym (text-rest rest e)) ∙ q in
@@ -375,8 +375,8 @@ module _ (w f c b names : List ℕ) where
       }
 
       pub written : (out out' : List ℕ) (k rest : ℕ) → rest ≡ rest_length w f c → leb (rest + length names + 2 * length b) (length out) ≡ true →
-          Puts out out' 0 k (table_text (named w f c b names x y)) → TableWritten (table_in w f c b names) out out' (Is k 0)
+          Puts out out' 0 k (table_text (named w f c b names x y)) → TableWritten (table_in w f c b names) out out' (Ok (k, 0))
       unfolding writing leaving
       written out out' k rest e q p =
           let s : leb (length (table_text (named w f c b names x y))) (length out) ≡ true = ap (λ (m : ℕ). leb m (length out)) (sym (text-rest rest e)) ∙ q in
-          rw (taken good) (record { answer = rw s (ap (λ (m : ℕ). told (Is m 0)) (p.next ∙ zero-add (length (table_text (named w f c b names x y))))); out = rw s p.out })
+          rw (taken good) (record { answer = rw s (ap (λ (m : ℕ). told (Ok (m, 0))) (p.next ∙ zero-add (length (table_text (named w f c b names x y))))); out = rw s p.out })

@@ -264,15 +264,15 @@ pub fn write(
 {
     let found = find_names(names, types.len() / 4, fields.len() / 2, consts.len() / 3);
     let NamesRead::At(a, b) = found else {
-        return Reply::Not(Refusal::Page);
+        return Err(Refusal::Page);
     };
     if ty::check_table(types, fields, consts, bytes) {} else {
-        return Reply::Not(Refusal::TypeTable);
+        return Err(Refusal::TypeTable);
     }
     let rest = rest_len(types, fields, consts);
     if room_for(out.len(), rest, names.len(), bytes.len()) {} else {
-        return Reply::Not(Refusal::ShortList);
+        return Err(Refusal::ShortList);
     }
     let n = put_table(types, fields, consts, bytes, names, a, b, out);
-    Reply::Is(n as u64, 0)
+    Ok((n as u64, 0))
 }

@@ -13,9 +13,8 @@ ghost use Rattle.trace.specs.Walk.{Stepped, Looked, part_leaf, placed_after, fie
 ghost use Rattle.trace.specs.Emit.{emit_all, raw_of, into, resolve_in, Runs, queued, emitted, emitting, Ready, aim, handed, handed_all, handing_at, told};
 ghost use Rattle.trace.specs.Listing.{listing, Lists};
 
-use handle::Resolved;
 use layout::Lay;
-use refusal::{Refusal, Reply};
+use refusal::{Answer, Refusal, Reply};
 use ty::{Entry, Part, Word};
 
 // Where handles go: they are counted, up to one more than a limit; written to the list `to`; or resolved, and what they lead to is marked in `marks` and queued
@@ -123,11 +122,10 @@ pub fn emit(
             to.len() + 1
         }
         Sink::Work => {
-            let r = handle::resolve(tag, slots, s, narrow, h);
-            let Resolved::At(i) = r else {
-                return n;
-            };
-            queue(marks, to, n, i)
+            match handle::resolve(tag, slots, s, narrow, h) {
+                Ok(i) => queue(marks, to, n, i),
+                Err(_) => n,
+            }
         }
     }
 }
@@ -1408,10 +1406,10 @@ pub fn list_value(
         0,
     );
     let Answer::Traced(n) = c else {
-        return Reply::Not(Refusal::Untraceable);
+        return Err(Refusal::Untraceable);
     };
     if limit < n {
-        return Reply::Not(Refusal::ShortList);
+        return Err(Refusal::ShortList);
     }
     trace_value(
         types,
@@ -1429,7 +1427,7 @@ pub fn list_value(
         out,
         0,
     );
-    Reply::Is(n as u64, 0)
+    Ok((n as u64, 0))
 }
 
 // The handles of an object's visible data, into the lent list. First they are only counted, so that a refusal leaves the list as it was.
@@ -1467,10 +1465,10 @@ pub fn list_object(
         0,
     );
     let Answer::Traced(n) = c else {
-        return Reply::Not(Refusal::Untraceable);
+        return Err(Refusal::Untraceable);
     };
     if limit < n {
-        return Reply::Not(Refusal::ShortList);
+        return Err(Refusal::ShortList);
     }
     trace_object(
         types,
@@ -1488,5 +1486,5 @@ pub fn list_object(
         out,
         0,
     );
-    Reply::Is(n as u64, 0)
+    Ok((n as u64, 0))
 }

@@ -8,7 +8,7 @@ ghost use Rattle.frame.specs.Listing.{roots_listing};
 ghost use Rattle.yexwalu.specs.Table.{on_table};
 ghost use Rattle.yexwalu.specs.Handles.{HandlesCall, RootsCall};
 
-use refusal::{Answer, Refusal, Reply};
+use refusal::{Answer, Refusal};
 pub use slot_door::{yexwalu_slot_handles as slot_handles, yexwalu_traceable as traceable};
 pub use yexwalu_object_handles as object_handles;
 pub use yexwalu_slot_roots as slot_roots;
@@ -30,10 +30,10 @@ pub fn yexwalu_object_handles(
         out.old out.new result }
 {
     if !ty::check_table(types, fields, consts, bytes) {
-        return Reply::Not(Refusal::TypeTable).numbers();
+        return Answer::from(Err(Refusal::TypeTable));
     }
     let reply = trace::list_object(types, fields, consts, bytes, t, data, out);
-    reply.numbers()
+    Answer::from(reply)
 }
 
 // The handles of a value of type t that needs no descriptor. first: how many.
@@ -52,10 +52,10 @@ pub fn yexwalu_value_handles(
         out.old out.new result }
 {
     if !ty::check_table(types, fields, consts, bytes) {
-        return Reply::Not(Refusal::TypeTable).numbers();
+        return Answer::from(Err(Refusal::TypeTable));
     }
     let reply = trace::list_value(types, fields, consts, bytes, t, data, out);
-    reply.numbers()
+    Answer::from(reply)
 }
 
 // The handles and the addresses of a frame's memory by its map, three words an entry (offset, kind, type), each into a lent list of its own. first: how many
@@ -77,10 +77,10 @@ pub fn yexwalu_slot_roots(
         handles.old addresses.old handles.new addresses.new result }
 {
     if !ty::check_table(types, fields, consts, bytes) {
-        return Reply::Not(Refusal::TypeTable).numbers();
+        return Answer::from(Err(Refusal::TypeTable));
     }
     let reply = frame::list_roots(
         types, fields, consts, bytes, map, memory, handles, addresses,
     );
-    reply.numbers()
+    Answer::from(reply)
 }

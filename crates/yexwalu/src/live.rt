@@ -38,7 +38,7 @@ pub fn yexwalu_live_at(
 {
     let which = tracked(all);
     let reply = roots::at::live_at(kinds, ends, refs, blocks, classes, which, pc, regs, rows);
-    reply.numbers()
+    Answer::from(reply)
 }
 
 // The map of all safepoints, rising: `pcs` has each, `bounds` where its registers end in `regs`, and `regs` the registers that are live before it, rising: those of
@@ -64,5 +64,5 @@ pub fn yexwalu_live_refs(
     let reply = root_map::live_refs(
         kinds, ends, refs, blocks, classes, which, pcs, bounds, regs, rows,
     );
-    reply.numbers()
+    Answer::from(reply)
 }

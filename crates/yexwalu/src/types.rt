@@ -6,7 +6,7 @@ ghost use Rattle.ty.specs.View.{table_of};
 ghost use Rattle.layout.specs.Offsets.{told, offsets_of, written_by};
 ghost use Rattle.yexwalu.specs.Types.{laid, layout_called, size_called, handles_called};
 
-use refusal::{Answer, Refusal, Reply};
+use refusal::{Answer, Refusal};
 use ty::Word;
 pub use yexwalu_desc_size as desc_size;
 pub use yexwalu_has_handles as has_handles;
@@ -29,7 +29,7 @@ fn not_laid(why: Refusal) -> LayoutAnswer
     ensures { result ≡ laid (refused (number_of why)) }
 {
     LayoutAnswer {
-        number: why.number(),
+        number: u64::from(why),
         size: 0,
         align: 0,
         stride: 0,
@@ -119,13 +119,13 @@ pub fn yexwalu_desc_size(
     ensures { result ≡ answered here nothing (size_called types.now fields.now consts.now bytes.now t) }
 {
     if !ty::check_table(types, fields, consts, bytes) {
-        return Reply::Not(Refusal::TypeTable).numbers();
+        return Answer::from(Err(Refusal::TypeTable));
     }
     let w = ty::desc_size(types, fields, t);
     let Word::Is(n) = w else {
-        return Reply::Not(Refusal::Malformed).numbers();
+        return Answer::from(Err(Refusal::Malformed));
     };
-    Reply::Is(n, 0).numbers()
+    Answer::from(Ok((n, 0)))
 }
 
 // Whether values of type t can hold handles: 1 or 0.
@@ -139,10 +139,10 @@ pub fn yexwalu_has_handles(
     ensures { result ≡ answered here nothing (handles_called types.now fields.now consts.now bytes.now t) }
 {
     if !ty::check_table(types, fields, consts, bytes) {
-        return Reply::Not(Refusal::TypeTable).numbers();
+        return Answer::from(Err(Refusal::TypeTable));
     }
     if ty::has_handles(types, fields, t) {
-        return Reply::Is(1, 0).numbers();
+        return Answer::from(Ok((1, 0)));
     }
-    Reply::Is(0, 0).numbers()
+    Answer::from(Ok((0, 0)))
 }

@@ -1,8 +1,8 @@
 -- `heap_edit::resolve` meets its contract.
-use Rattle.std.proofs.Common.{ap, ◌∙◌, arith}
+use Rattle.std.proofs.Common.{ap, sym, ◌∙◌, arith}
 use Rattle.heap.specs.Lent.{lent}
-use Rattle.refusal.specs.Told.{told, answered, here, nothing}
-use Rattle.handle.proofs.ResolveLaws.{replied-told}
+use Rattle.refusal.specs.Told.{answered, here, nothing}
+use Rattle.handle.specs.Handle.{told as resolved}
 use Rattle.heap_edit.proofs.Columns.{Sizes, sizes}
 use Rattle.heap_edit.proofs.Questions.{resolves}
 use Rattle.heap_edit.proofs.resolve.Goals as goal
@@ -11,8 +11,11 @@ use Rattle.heap_edit.proofs.resolve.Goals.{Start}
 K : (c : Start) → Sizes c.args.heap c.args.narrow.now c.args.wide.now c.args.pool.now
 K c = sizes c.args.heap c.args.narrow.now c.args.wide.now c.args.pool.now c.requires
 
-pub resolve-requires : goal.resolve-requires
-resolve-requires c = omega (arith, K (goal.at.resolve-requires c).Start)
+pub resolve-i-requires : goal.resolve-i-requires
+resolve-i-requires c = omega (arith, K (goal.at.resolve-i-requires c).Start)
+
+pub returns-in_err-i : goal.returns-in_err-i
+returns-in_err-i c = ap (answered here nothing) (sym (ap resolved c.in_err-i.was) ∙ c.resolve-i.ensures ∙ resolves ((lent c.args.heap c.args.narrow.now c.args.wide.now c.args.pool.now)) c.requires _)
 
 pub returns : goal.returns
-returns c = ap told c.reply.ensures ∙ replied-told c.resolve.result ∙ ap (answered here nothing) (c.resolve.ensures ∙ resolves ((lent c.args.heap c.args.narrow.now c.args.wide.now c.args.pool.now)) c.requires _)
+returns c = ap (answered here nothing) (sym (ap resolved c.in_ok-i.was) ∙ c.resolve-i.ensures ∙ resolves ((lent c.args.heap c.args.narrow.now c.args.wide.now c.args.pool.now)) c.requires _)

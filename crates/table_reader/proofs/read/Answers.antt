@@ -24,4 +24,4 @@ pub returns-in-Good : goal.returns-in-Good
 returns-in-Good c = read_done c.args.types.now c.args.fields.now c.args.consts.now c.args.bytes.now c.args.names.now c.args.s.now c.args.words.now c.args.halves.now c.tested-found.ensures c.in-Good.is c.told_of.ensures c.load_numbers.ensures.types_after c.load_numbers.ensures.fields_after c.load_numbers.ensures.consts_after c.copy_hex.ensures.out c.load_names-n.ensures.names_after
 
 pub returns-in-Not : goal.returns-in-Not
-returns-in-Not c = read-refused c.args.types.now c.args.fields.now c.args.consts.now c.args.bytes.now c.args.names.now c.args.s.now c.args.words.now c.args.halves.now c.tested-found.ensures c.in-Not.is c.numbers.ensures
+returns-in-Not c = read-refused c.args.types.now c.args.fields.now c.args.consts.now c.args.bytes.now c.args.names.now c.args.s.now c.args.words.now c.args.halves.now c.tested-found.ensures c.in-Not.is c.from.ensures
