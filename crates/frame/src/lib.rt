@@ -7,7 +7,7 @@ ghost use Rattle.trace.specs.Emit.{raw_of, into, resolve_in, Runs, emit_all, emi
 ghost use Rattle.frame.specs.Frame.{entry, entries_of, first_word, entry_roots, entries_roots, frame_roots, frame_handles, frame_addresses};
 ghost use Rattle.frame.specs.Listing.{roots_listing, Frames};
 
-use refusal::{Answer, Refusal, Reply};
+use refusal::{Refusal, Reply};
 use trace::{Answer, Sink};
 
 // The word at the start of bytes, if there are eight.

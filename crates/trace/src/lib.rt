@@ -14,7 +14,7 @@ ghost use Rattle.trace.specs.Emit.{emit_all, raw_of, into, resolve_in, Runs, que
 ghost use Rattle.trace.specs.Listing.{listing, Lists};
 
 use layout::Lay;
-use refusal::{Answer, Refusal, Reply};
+use refusal::{Refusal, Reply};
 use ty::{Entry, Part, Word};
 
 // Where handles go: they are counted, up to one more than a limit; written to the list `to`; or resolved, and what they lead to is marked in `marks` and queued

@@ -13,8 +13,8 @@ resolve-requires c = omega (arith, lengths c.args.heap c.args.narrow.now c.args.
 pub returns-in-Err : goal.returns-in-Err
 returns-in-Err c = free-unfound ((lent c.args.heap c.args.narrow.now c.args.wide.now c.args.pool.now)) c.requires c.args.x c.resolve.result _ (resolved-as ((lent c.args.heap c.args.narrow.now c.args.wide.now c.args.pool.now)) c.requires c.args.x c.resolve.result c.resolve.ensures) c.in-Err.is
 
-pub put_away-heap-requires : goal.put_away-heap-requires
-put_away-heap-requires c = resolved-can ((lent c.args.heap c.args.narrow.now c.args.wide.now c.args.pool.now)) c.requires c.args.x _ (ap told (sym c.in-Ok.is) ∙ (resolved-as ((lent c.args.heap c.args.narrow.now c.args.wide.now c.args.pool.now)) c.requires c.args.x c.resolve.result c.resolve.ensures))
+pub put_away-requires : goal.put_away-requires
+put_away-requires c = resolved-can ((lent c.args.heap c.args.narrow.now c.args.wide.now c.args.pool.now)) c.requires c.args.x _ (ap told (sym c.in-Ok.is) ∙ (resolved-as ((lent c.args.heap c.args.narrow.now c.args.wide.now c.args.pool.now)) c.requires c.args.x c.resolve.result c.resolve.ensures))
 
 pub returns-in-Ok : goal.returns-in-Ok
-returns-in-Ok c = free-at ((lent c.args.heap c.args.narrow.now c.args.wide.now c.args.pool.now)) c.requires c.args.x _ _ (ap told (sym c.in-Ok.is) ∙ (resolved-as ((lent c.args.heap c.args.narrow.now c.args.wide.now c.args.pool.now)) c.requires c.args.x c.resolve.result c.resolve.ensures)) c.put_away-heap.ensures
+returns-in-Ok c = free-at ((lent c.args.heap c.args.narrow.now c.args.wide.now c.args.pool.now)) c.requires c.args.x _ _ (ap told (sym c.in-Ok.is) ∙ (resolved-as ((lent c.args.heap c.args.narrow.now c.args.wide.now c.args.pool.now)) c.requires c.args.x c.resolve.result c.resolve.ensures)) c.put_away.ensures
