@@ -11,11 +11,11 @@ use Rattle.heap_edit.proofs.resolve.Goals.{Start}
 K : (c : Start) → Sizes c.args.heap c.args.narrow.now c.args.wide.now c.args.pool.now
 K c = sizes c.args.heap c.args.narrow.now c.args.wide.now c.args.pool.now c.requires
 
-pub resolve-i-requires : goal.resolve-i-requires
-resolve-i-requires c = omega (arith, K (goal.at.resolve-i-requires c).Start)
+pub resolve-requires : goal.resolve-requires
+resolve-requires c = omega (arith, K (goal.at.resolve-requires c).Start)
 
 pub returns-in_err-i : goal.returns-in_err-i
-returns-in_err-i c = ap (answered here nothing) (sym (ap resolved c.in_err-i.was) ∙ c.resolve-i.ensures ∙ resolves ((lent c.args.heap c.args.narrow.now c.args.wide.now c.args.pool.now)) c.requires _)
+returns-in_err-i c = ap (answered here nothing) (sym (ap resolved c.in_err-i.was) ∙ c.resolve.ensures ∙ resolves ((lent c.args.heap c.args.narrow.now c.args.wide.now c.args.pool.now)) c.requires _)
 
 pub returns : goal.returns
-returns c = ap (answered here nothing) (sym (ap resolved c.in_ok-i.was) ∙ c.resolve-i.ensures ∙ resolves ((lent c.args.heap c.args.narrow.now c.args.wide.now c.args.pool.now)) c.requires _)
+returns c = ap (answered here nothing) (sym (ap resolved c.in_ok-i.was) ∙ c.resolve.ensures ∙ resolves ((lent c.args.heap c.args.narrow.now c.args.wide.now c.args.pool.now)) c.requires _)
