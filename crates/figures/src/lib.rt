@@ -94,12 +94,10 @@ fn count(heap: Heap, narrow: &[u32; 24576], wide: &[u64; 16384], pool: &[u8; 163
     let n = heap.slots;
     let mut figures = Figures::none();
     let mut from = 0;
-    let mut i = 0;
-    while i < n {
+    for i in 0..n {
         let end = wide[4096 + i];
         figures = figures.with_slot(narrow[4096 + i], end - from);
         from = end;
-        i += 1;
     }
     figures
 }

@@ -26,11 +26,9 @@ fn numbers_len(list: &[u64]) -> usize
     ensures upper_bound { result ≤ 21 * length list.now }
 {
     let mut n = 0;
-    let mut i = 0;
-    while i < list.len() {
+    for i in 0..list.len() {
         let d = text::decimal_len(list[i]);
         n = n + d + 1;
-        i += 1;
     }
     n
 }
@@ -41,11 +39,9 @@ fn halves_len(list: &[u32]) -> usize
     ensures upper_bound { result ≤ 21 * length list.now }
 {
     let mut n = 0;
-    let mut i = 0;
-    while i < list.len() {
+    for i in 0..list.len() {
         let d = text::decimal_len(widened(list[i]));
         n = n + d + 1;
-        i += 1;
     }
     n
 }
@@ -66,10 +62,8 @@ fn put_numbers(out: &mut [u8], at: usize, list: &[u64]) -> usize
     ensures { Puts out.old out.new at result (flat_map field list.now) }
 {
     let mut k = at;
-    let mut i = 0;
-    while i < list.len() {
+    for i in 0..list.len() {
         k = put_number(out, k, list[i]);
-        i += 1;
     }
     k
 }
@@ -90,8 +84,7 @@ fn put_rows(
     let mut o = at;
     let mut f = from;
     let mut j = 0;
-    let mut i = 0;
-    while i < count {
+    for i in 0..count {
         let Some(next) = tables::get_name(names, f) else {
             return o;
         };
@@ -100,7 +93,6 @@ fn put_rows(
         o = text::put_literal(out, a, &names[f..next]);
         f = next;
         j = e;
-        i += 1;
     }
     o
 }
@@ -120,8 +112,7 @@ fn put_fields(
     let mut o = at;
     let mut f = from;
     let mut j = 0;
-    let mut i = 0;
-    while i < count {
+    for i in 0..count {
         let Some(next) = tables::get_name(names, f) else {
             return o;
         };
@@ -130,7 +121,6 @@ fn put_fields(
         o = text::put_literal(out, a, &names[f..next]);
         f = next;
         j = j + 2;
-        i += 1;
     }
     o
 }
