@@ -125,29 +125,26 @@ fn put_fields(
     o
 }
 
-// Where the names of fields and of constants begin; or that there are not as many names.
+// Where the names of fields and of constants begin.
 #[derive(Clone, Copy)]
-pub enum NamesRead {
-    At(usize, usize),
-    NotNames,
+pub struct NamesRead {
+    pub fields_at: usize,
+    pub consts_at: usize,
 }
 
-fn find_names(names: &[u8], t: usize, f: usize, c: usize) -> NamesRead
+fn find_names(names: &[u8], t: usize, f: usize, c: usize) -> Option<NamesRead>
     ensures { NamesGot names.now t f c result }
 {
-    let Some(a) = tables::skip_names(names, 0, t) else {
-        return NamesRead::NotNames;
-    };
-    let Some(b) = tables::skip_names(names, a, f) else {
-        return NamesRead::NotNames;
-    };
-    let Some(e) = tables::skip_names(names, b, c) else {
-        return NamesRead::NotNames;
-    };
-    if e < names.len() {
-        return NamesRead::NotNames;
+    let fields_at = tables::skip_names(names, 0, t)?;
+    let consts_at = tables::skip_names(names, fields_at, f)?;
+    let end = tables::skip_names(names, consts_at, c)?;
+    if end < names.len() {
+        return None;
     }
-    NamesRead::At(a, b)
+    Some(NamesRead {
+        fields_at,
+        consts_at,
+    })
 }
 
 // How long the line of the counts is.
@@ -252,17 +249,25 @@ pub fn write(
     ensures { TableWritten (table_in types.now fields.now consts.now bytes.now names.now)
         out.old out.new result }
 {
-    let found = find_names(names, types.len() / 4, fields.len() / 2, consts.len() / 3);
-    let NamesRead::At(a, b) = found else {
+    let Some(at) = find_names(names, types.len() / 4, fields.len() / 2, consts.len() / 3) else {
         return Err(Refusal::Page);
     };
-    if ty::check_table(types, fields, consts, bytes) {} else {
+    if !ty::check_table(types, fields, consts, bytes) {
         return Err(Refusal::TypeTable);
     }
     let rest = rest_len(types, fields, consts);
-    if room_for(out.len(), rest, names.len(), bytes.len()) {} else {
+    if !room_for(out.len(), rest, names.len(), bytes.len()) {
         return Err(Refusal::ShortList);
     }
-    let n = put_table(types, fields, consts, bytes, names, a, b, out);
+    let n = put_table(
+        types,
+        fields,
+        consts,
+        bytes,
+        names,
+        at.fields_at,
+        at.consts_at,
+        out,
+    );
     Ok((n as u64, 0))
 }
