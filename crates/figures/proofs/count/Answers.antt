@@ -31,9 +31,6 @@ overflow_sub-end c = starts c.args.heap c.args.narrow.now c.args.wide.now c.args
 pub with_slot-figures-requires : goal.with_slot-figures-requires
 with_slot-figures-requires c = let w = few c.args.heap c.args.narrow.now c.args.wide.now c.args.pool.now c.requires c.loop-i.from c.loop-i.i c.loop-i.figures (c.loop-i.invariant c.args.heap refl c.requires) c.loop-i-test.true in (omega (arith, w.0), omega (arith, w.1))
 
-pub overflow_add-i-in-loop-i : goal.overflow_add-i-in-loop-i
-overflow_add-i-in-loop-i c = omega (arith, place c.args.heap c.args.narrow.now c.args.wide.now c.args.pool.now c.requires c.loop-i.from c.loop-i.i c.loop-i.figures (c.loop-i.invariant c.args.heap refl c.requires) c.loop-i-test.true)
-
 pub loop-i-preserved : goal.loop-i-preserved
 loop-i-preserved c = λ h e l. subst (Counted (view (lent h c.args.narrow.now c.args.wide.now c.args.pool.now)).slots _ _) (sym c.with_slot-figures.ensures)
     (counted-more h c.args.narrow.now c.args.wide.now c.args.pool.now l c.loop-i.from c.loop-i.i c.loop-i.figures (c.loop-i.invariant h e l) (omega (arith, c.loop-i-test.true, e)))
