@@ -7,7 +7,7 @@ ghost use Rattle.beside.specs.Inner.Codes.{code, order_of, then_code};
 ghost use Rattle.beside.specs.Inner.Ranks.{place_of, met_order};
 ghost use Rattle.beside.specs.Inner.Found.{found_at};
 
-use handle::{Resolved, Slots};
+use handle::Slots;
 use std::cmp::Ordering;
 
 // A heap whose objects have been met: its slots, and the turn of each in the upper bits of its slot's word.
@@ -41,8 +41,8 @@ impl Met<'_, '_> {
         ensures { result ≡ place_of self.entry h }
     {
         match self.slots.resolve(h) {
-            Resolved::At(i) => Place::Turn(self.turn_of(i)),
-            _ => Place::Unresolved(h),
+            Ok(i) => Place::Turn(self.turn_of(i)),
+            Err(_) => Place::Unresolved(h),
         }
     }
 }

@@ -11,8 +11,8 @@ use lib.ListN.{length, get_or, replicate}
 use lib.Dec.{eqb}
 use Rattle.refusal.specs.Told.{nothing}
 use Rattle.refusal.specs.declared.Refusal.TheVariants.{Untraceable as NotTraced}
-use Rattle.refusal.specs.declared.Reply.{Reply}
-use Rattle.refusal.specs.declared.Reply.TheVariants.{Is, Not}
+use Rattle.refusal.specs.Told.{Reply}
+use Rattle.std.specs.Prelude.{Ok, Err}
 use Rattle.heap.specs.Packing.{pad}
 use Rattle.heap.specs.State.{State}
 use Rattle.heap.specs.Lent.{Lent, header_of, stored, view, slot_count, pool_size}
@@ -55,14 +55,14 @@ is-untraceable Marked o = absurd (miss (1 ∷ []) 0 tt o)
 is-untraceable Untraceable o = refl
 
 module _ (l : Lent) (marks pins : List ℕ) (r : Outcome) where
-  pub finish-stuck : well_formed l ≡ true → OneOf (1 ∷ []) (tag_of outcome-type r) → Tells nothing nothing l l (Not NotTraced) (finished r marks pins (view l))
+  pub finish-stuck : well_formed l ≡ true → OneOf (1 ∷ []) (tag_of outcome-type r) → Tells nothing nothing l l (Err NotTraced) (finished r marks pins (view l))
   finish-stuck f e =
-      subst (λ (x : Outcome). Tells nothing nothing l l (Not NotTraced) (finished x marks pins (view l))) (sym (is-untraceable r e))
+      subst (λ (x : Outcome). Tells nothing nothing l l (Err NotTraced) (finished x marks pins (view l))) (sym (is-untraceable r e))
       (record { leaves = record { lies = (formed-tested l f).lies; formed = f }; says = refl })
 
-  pub finish-done : OneOf (0 ∷ []) (tag_of outcome-type r) → (l' : Lent) → Leaves l l' (swept (view l) marks pins) → Tells nothing nothing l l' (Is 0 0) (finished r marks pins (view l))
+  pub finish-done : OneOf (0 ∷ []) (tag_of outcome-type r) → (l' : Lent) → Leaves l l' (swept (view l) marks pins) → Tells nothing nothing l l' (Ok (0, 0)) (finished r marks pins (view l))
   finish-done e l' left =
-      subst (λ (x : Outcome). Tells nothing nothing l l' (Is 0 0) (finished x marks pins (view l))) (sym (is-marked r e)) (record { leaves = left; says = refl })
+      subst (λ (x : Outcome). Tells nothing nothing l l' (Ok (0, 0)) (finished x marks pins (view l))) (sym (is-marked r e)) (record { leaves = left; says = refl })
 
 -- after the marking of a heap it is the collection
 finished-collected : (h : State) (handles : ℕ → Option (List ℕ)) (S : Starts) (L : ℕ) (r : Outcome) (marks : List ℕ) → length h.slots ≤ L

@@ -11,8 +11,8 @@ use Rattle.word.specs.Ones.{passing}
 use Rattle.rows.specs.Row.{bit_in, part}
 use Rattle.refusal.specs.Told.{nothing}
 use Rattle.refusal.specs.declared.Refusal.TheVariants.{NoMap}
-use Rattle.refusal.specs.declared.Reply.{Reply}
-use Rattle.refusal.specs.declared.Reply.TheVariants.{Not}
+use Rattle.refusal.specs.Told.{Reply}
+use Rattle.std.specs.Prelude.{Err}
 use Rattle.ty.specs.Types.{Table}
 use Rattle.heap.specs.Lent.{Lent as Heap, view}
 use Rattle.heap.specs.WellFormed.{well_formed}
@@ -119,7 +119,7 @@ module _ (f : Lent) (pc : ℕ) (values rows rows' : List ℕ) (can : CanLook f v
   rows-again rows'' e = e ∙ ap (λ (n : ℕ). replicate n 0) row.kept ∙ sym can.clear
 
   module _ (T : Table) (frame : Option (List ℕ)) (given listed framed : List ℕ) (l : Heap) where
-    pub at_none : r ≡ false → well_formed l ≡ true → Tells nothing nothing l l (Not NoMap) (at_safepoint T (function f) pc values frame (record { given = given; listed = listed; framed = framed }) (view l))
+    pub at_none : r ≡ false → well_formed l ≡ true → Tells nothing nothing l l (Err NoMap) (at_safepoint T (function f) pc values frame (record { given = given; listed = listed; framed = framed }) (view l))
     unfolding at_safepoint
     at_none e formed =
         let s : safepoint (function f) pc ≡ false = sym row.says ∙ e in

@@ -17,7 +17,7 @@ ghost use Rattle.collect.specs.Safepoint.{at_safepoint, CanLook, RootRow};
 
 use heap::{Changed, Heap};
 use mark::Outcome;
-use refusal::{Refusal, Reply};
+use refusal::Refusal;
 use roots::at::{live_row, safepoint_block};
 use roots::{Code, Plan, Tracked};
 
@@ -39,19 +39,19 @@ fn finish_marked(
         (finished outcome marks.old (marked_slots marks.old) (view (lent heap narrow.old wide.old pool.old))) }
     ensures marks_after { (marks.new ≡ replicate (length marks.old) 0) × (work.new ≡ replicate (length work.old) 0) }
 {
-    memory::clear_u64(work);
+    work.fill(0);
     let Outcome::Marked = outcome else {
-        memory::clear_u8(marks);
+        marks.fill(0);
         return Changed {
             heap: heap,
-            reply: Reply::Not(Refusal::Untraceable),
+            reply: Err(Refusal::Untraceable),
         };
     };
     let h = sweep::sweep_marked(heap, narrow, wide, pool, marks);
-    memory::clear_u8(marks);
+    marks.fill(0);
     Changed {
         heap: h,
-        reply: Reply::Is(0, 0),
+        reply: Ok((0, 0)),
     }
 }
 
@@ -153,7 +153,7 @@ pub fn collect_at(
     if !root_row(code, pc, rows) {
         return Changed {
             heap: heap,
-            reply: Reply::Not(Refusal::NoMap),
+            reply: Err(Refusal::NoMap),
         };
     }
     let words = code.words();
@@ -178,6 +178,6 @@ pub fn collect_at(
         marks,
         work,
     );
-    memory::clear_u64(rows);
+    rows.fill(0);
     r
 }

@@ -13,7 +13,7 @@ ghost use Rattle.collect.specs.Collect.{collecting, finished, CanCollect};
 
 use heap::{Changed, Heap};
 use mark::Outcome;
-use refusal::{Refusal, Reply};
+use refusal::Refusal;
 
 pub mod joined; // at a safepoint, from the frame and the live registers
 
@@ -36,19 +36,19 @@ pub fn finish(
         (finished outcome marks.old pins.now (view (lent heap narrow.old wide.old pool.old))) }
     ensures marks_after { (marks.new ≡ replicate (length marks.old) 0) × (work.new ≡ replicate (length work.old) 0) }
 {
-    memory::clear_u64(work);
+    work.fill(0);
     let Outcome::Marked = outcome else {
-        memory::clear_u8(marks);
+        marks.fill(0);
         return Changed {
             heap: heap,
-            reply: Reply::Not(Refusal::Untraceable),
+            reply: Err(Refusal::Untraceable),
         };
     };
     let h = sweep::sweep(heap, narrow, wide, pool, marks, pins);
-    memory::clear_u8(marks);
+    marks.fill(0);
     Changed {
         heap: h,
-        reply: Reply::Is(0, 0),
+        reply: Ok((0, 0)),
     }
 }
 

@@ -12,8 +12,8 @@ use Rattle.word.proofs.Bools.{bool-ext, and_both}
 use Rattle.refusal.specs.Told.{told, nothing}
 use Rattle.refusal.specs.declared.Refusal.{Refusal}
 use Rattle.refusal.specs.declared.Refusal.TheVariants.{BrokenHeap, TypeTable, Pins, Function, NoMap, Scratch}
-use Rattle.refusal.specs.declared.Reply.{Reply}
-use Rattle.refusal.specs.declared.Reply.TheVariants.{Not as Refused}
+use Rattle.refusal.specs.Told.{Reply}
+use Rattle.std.specs.Prelude.{Err}
 use Rattle.refusal.specs.declared.Answer.{Answer}
 use Rattle.ty.specs.Check.{table_good}
 use Rattle.heap.specs.Lent.{Lent, view, slot_count}
@@ -66,7 +66,7 @@ module _ (g : Given) (l : Lent) {m w m' w' : List ℕ} {e : Entry} (s : Entered 
         work_room = zeros-room w w' (slot_count l) (work-zero s i) t.1;
       }
 
-  pub collect-refused : {why : Refusal} {r : Answer} → e ≡ Not why → r ≡ told (Refused why)
+  pub collect-refused : {why : Refusal} {r : Answer} → e ≡ Not why → r ≡ told (Err why)
       → (outcome r l m' w' ≡ collect_call g m w l) × RightlyCollected g m w l (outcome r l m' w')
   collect-refused {r = r} i t =
       let k : outcome r l m' w' ≡ collect_call g m w l = call-refused s nothing nothing (collecting (table_in g) g.roots g.pins) i t in
@@ -205,7 +205,7 @@ module _ (a : Asked) (l : Lent) (m w r m' w' r' : List ℕ) (e : Entry) (s : Adm
         ),
       )
 
-  pub join-refused : (why : Refusal) (x : Answer) → e ≡ Not why → x ≡ told (Refused why)
+  pub join-refused : (why : Refusal) (x : Answer) → e ≡ Not why → x ≡ told (Err why)
       → (outcome_of x l (m' ∷ w' ∷ r' ∷ []) ≡ joined_call a m w r l) × Demand a m w r l (outcome_of x l (m' ∷ w' ∷ r' ∷ []))
   join-refused why x i t =
       let k : outcome_of x l (m' ∷ w' ∷ r' ∷ []) ≡ joined_call a m w r l =

@@ -10,8 +10,8 @@ use Rattle.word.specs.Result.{ok, refused}
 use Rattle.refusal.specs.Told.{number_of, answered, nothing}
 use Rattle.refusal.specs.declared.Refusal.{Refusal}
 use Rattle.refusal.specs.declared.Refusal.TheVariants.{Untraceable, Scratch}
-use Rattle.refusal.specs.declared.Reply.{Reply}
-use Rattle.refusal.specs.declared.Reply.TheVariants.{Is, Not as Refused}
+use Rattle.refusal.specs.Told.{Reply}
+use Rattle.std.specs.Prelude.{Ok, Err}
 use Rattle.refusal.specs.declared.Answer.{Answer}
 use Rattle.refusal.proofs.Numbers.{told-once, number-once}
 use Rattle.heap.specs.State.{State}
@@ -27,13 +27,13 @@ use Rattle.door.proofs.Entering.{apart, calling-not, calling-ready}
 use Rattle.collect_door.specs.Demand.{done, refusal, Refusals}
 
 abbrev code : Reply → ℕ
-code (Is a b) = 0
-code (Refused why) = 1
+code (Ok (a, b)) = 0
+code (Err why) = 1
 
 -- no refusal is a success, and no two are the same
 never_done : {X : Type 0} (why : Refusal) → done ≡ refusal why → X
 never_done why q =
-    let z : ◌≡◌ {A = ℕ} 0 1 = ap code (told-once (Is 0 0) (Refused why) q) in
+    let z : ◌≡◌ {A = ℕ} 0 1 = ap code (told-once (Ok (0, 0)) (Err why) q) in
     absurd (omega arith)
 
 one : (a b : Refusal) → refusal a ≡ refusal b → a ≡ b

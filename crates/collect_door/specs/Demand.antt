@@ -5,7 +5,7 @@ use Rattle.std.proofs.Math.Option.{some}
 use Rattle.refusal.specs.Told.{told}
 use Rattle.refusal.specs.declared.Refusal.{Refusal}
 use Rattle.refusal.specs.declared.Refusal.TheVariants.{Untraceable, Scratch}
-use Rattle.refusal.specs.declared.Reply.TheVariants.{Is, Not as Refused}
+use Rattle.std.specs.Prelude.{Ok, Err}
 use Rattle.refusal.specs.declared.Answer.{Answer}
 use Rattle.heap.specs.Lent.{Lent, stored, view, slot_count, pool_size}
 use Rattle.heap.specs.WellFormed.{well_formed}
@@ -22,10 +22,10 @@ use Rattle.collect_door.specs.Calls.{Given, table_in, tests, Asked, table, frame
 
 -- a success has no values
 abbrev pub done : Answer
-done = told (Is 0 0)
+done = told (Ok (0, 0))
 
 abbrev pub refusal : Refusal → Answer
-refusal why = told (Refused why)
+refusal why = told (Err why)
 
 -- What is right of a call's refusals. l is the lent memory before, o the answer, the lent memory and the scratch after it; `stuck`: it can't be traced.
 pub record Refusals (scratch : List (List ℕ)) (tests : List Test) (stuck : Type 0) (l : Lent) (o : Outcome) : Type 0 where

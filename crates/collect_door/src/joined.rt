@@ -9,7 +9,7 @@ ghost use Rattle.collect_door.specs.Demand.{Demand};
 
 use door::{Done, Entry};
 use heap::Heap;
-use refusal::{Refusal, Reply};
+use refusal::{Answer, Refusal};
 use roots::Code;
 use roots::check::{check_function, rows_fit};
 use ty::Table;
@@ -39,8 +39,8 @@ fn enter_rows(
     if !rows_fit(code, rows.len()) {
         return Entry::Not(Refusal::Scratch);
     }
-    memory::clear_u64(work);
-    memory::clear_u64(rows);
+    work.fill(0);
+    rows.fill(0);
     if heap_check::check(heap, narrow, wide, pool, marks) {
         return Entry::Ready;
     }
@@ -182,7 +182,7 @@ pub fn yexwalu_collect_joined(
     ) {
         Entry::Not(why) => Done {
             heap: heap,
-            answer: Reply::Not(why).numbers(),
+            answer: Answer::from(Err(why)),
         },
         Entry::Ready => {
             let done = collect::joined::collect_at(
@@ -193,7 +193,7 @@ pub fn yexwalu_collect_joined(
             let reply = done.reply;
             Done {
                 heap: after,
-                answer: reply.numbers(),
+                answer: Answer::from(reply),
             }
         }
     }

@@ -10,7 +10,7 @@ ghost use Rattle.collect_door.specs.Demand.{RightlyCollected};
 
 use door::{Done, Entry};
 use heap::Heap;
-use refusal::{Refusal, Reply};
+use refusal::{Answer, Refusal};
 use ty::Table;
 
 pub mod joined; // at a safepoint, from the frame and the live registers
@@ -77,7 +77,7 @@ pub fn yexwalu_collect(
     ) {
         Entry::Not(why) => Done {
             heap: heap,
-            answer: Reply::Not(why).numbers(),
+            answer: Answer::from(Err(why)),
         },
         Entry::Ready => {
             let done = collect::collect(
@@ -87,7 +87,7 @@ pub fn yexwalu_collect(
             let reply = done.reply;
             Done {
                 heap: after,
-                answer: reply.numbers(),
+                answer: Answer::from(reply),
             }
         }
     }

@@ -18,8 +18,8 @@ use Rattle.refusal.specs.Told.{number_of, refused_by, told, answered}
 use Rattle.refusal.specs.declared.Refusal.{Refusal}
 use Rattle.refusal.specs.declared.Refusal.TheVariants.{BrokenHeap, Scratch}
 use Rattle.refusal.specs.declared.Answer.{Answer}
-use Rattle.refusal.specs.declared.Reply.{Reply}
-use Rattle.refusal.specs.declared.Reply.TheVariants.{Not as Refused}
+use Rattle.refusal.specs.Told.{Reply}
+use Rattle.std.specs.Prelude.{Err}
 use Rattle.door.specs.HeapCalls.{Test, test, admitted, whether, enough, heap_tests, zeros, scratch_after, Entered, Outcome, outcome_of, calling, Asked, asked_of, asking}
 use Rattle.door.specs.declared.Entry.{Entry}
 use Rattle.door.specs.declared.Entry.TheVariants.{Ready, Not}
@@ -156,7 +156,7 @@ module _ {scratch scratch' : List (List ℕ)} {tests : List Test} {e : Entry} (s
 
   module _ {A : Type 0} (first second : A → ℕ) where
     module _ {l : Lent} (call : State → Changed A) {r : Answer} where
-      pub call-refused : {why : Refusal} → e ≡ Not why → r ≡ told (Refused why) → outcome_of r l scratch' ≡ calling first second scratch tests l call
+      pub call-refused : {why : Refusal} → e ≡ Not why → r ≡ told (Err why) → outcome_of r l scratch' ≡ calling first second scratch tests l call
       call-refused i t = (λ j. outcome_of (t j) l ((s.left ∙ ap (λ (x : Entry). scratch_after x scratch) i) j)) ∙ sym (calling-not first second scratch tests l call (sym s.found ∙ i))
 
       -- a call that leaves scratch zero
@@ -169,7 +169,7 @@ module _ {scratch scratch' : List (List ℕ)} {tests : List Test} {e : Entry} (s
       call-ready i d t = call-cleared i d t (cleared-in i)
 
     module _ (l : Lent) (question : State → Result A) {r : Answer} where
-      pub ask-refused : {why : Refusal} → e ≡ Not why → r ≡ told (Refused why) → asked_of r scratch' ≡ asking first second scratch tests l question
+      pub ask-refused : {why : Refusal} → e ≡ Not why → r ≡ told (Err why) → asked_of r scratch' ≡ asking first second scratch tests l question
       ask-refused i t = (λ j. asked_of (t j) ((s.left ∙ ap (λ (x : Entry). scratch_after x scratch) i) j)) ∙ sym (asking-not first second scratch tests l question (sym s.found ∙ i))
 
       pub ask-ready : {a : Answer} → e ≡ Ready → a ≡ answered first second (question (view l)) → r ≡ a → asked_of r scratch' ≡ asking first second scratch tests l question

@@ -43,7 +43,7 @@ pub fn enter(
     if work.len() < slots {
         return Entry::Not(Refusal::Scratch);
     }
-    memory::clear_u64(work);
+    work.fill(0);
     if heap_check::check(heap, narrow, wide, pool, marks) {
         return Entry::Ready;
     }

@@ -8,7 +8,7 @@ use borrow.Author.Tests.{le-leb, lt-leb}
 use native.Mathlib.Omega.{arith}
 use Rattle.std.specs.Prelude.{Some, None}
 use Rattle.word.specs.Result.{Result, ok, refused}
-use Rattle.refusal.specs.declared.Reply.TheVariants.{Is, Not}
+use Rattle.std.specs.Prelude.{Ok, Err}
 use Rattle.refusal.specs.declared.Refusal.TheVariants.{Untraceable as Failed, ShortList}
 use Rattle.trace.specs.Emit.{Answer, Raw, raw_of, Into, into, emit_all, emitting, told}
 use Rattle.trace.specs.declared.Sink.TheVariants.{Check, List as ToList}
@@ -33,14 +33,14 @@ from_told k s o None ms to ws e q c = let f : refused 13 ≡ emitting k s (some 
 from_told k s o (Some n) ms to ws e q c = c n (ok-inj (e ∙ ap (emitting k s) q))
 
 module _ (R : ℕ → Result ℕ) (ms u ms' u' hs : List ℕ) (o : Option (List ℕ)) (r : Answer) (er : told r ms' u' ≡ emitting (into (Check (length hs)) R) (raw_of ms u 0) o) (ds : List ℕ) (p : Option (List ℕ)) where
-  pub handles-lost : r ≡ None → Frames (roots_listing o p (length hs) (length ds)) (Not Failed) hs ds hs ds
+  pub handles-lost : r ≡ None → Frames (roots_listing o p (length hs) (length ds)) (Err Failed) hs ds hs ds
   unfolding roots_listing
   handles-lost e =
       let q = from-refused _ _ o (told-untraceable r ms' u' _ er e) in
       record { answer = rw q refl; handles = rw q refl; addresses = rw q refl }
 
   module _ (nh : ℕ) (e : r ≡ Some nh) (Q : ℕ → Result ℕ) (ns v ns' v' : List ℕ) (a : Answer) (ea : told a ns' v' ≡ emitting (into (Check (length ds)) Q) (raw_of ns v 0) p) where
-    pub addresses-lost : a ≡ None → Frames (roots_listing o p (length hs) (length ds)) (Not Failed) hs ds hs ds
+    pub addresses-lost : a ≡ None → Frames (roots_listing o p (length hs) (length ds)) (Err Failed) hs ds hs ds
     unfolding roots_listing
     addresses-lost f =
         let q = from-refused _ _ p (told-untraceable a ns' v' _ ea f) in
@@ -48,7 +48,7 @@ module _ (R : ℕ → Result ℕ) (ms u ms' u' hs : List ℕ) (o : Option (List 
         record { answer = rw (eo, q) refl; handles = rw (eo, q) refl; addresses = rw (eo, q) refl })
 
     module _ (na : ℕ) (f : a ≡ Some na) where
-      pub handles-short : length hs < nh → Frames (roots_listing o p (length hs) (length ds)) (Not ShortList) hs ds hs ds
+      pub handles-short : length hs < nh → Frames (roots_listing o p (length hs) (length ds)) (Err ShortList) hs ds hs ds
       unfolding roots_listing
       handles-short l =
           from-ok _ _ _ o (told-traced r ms' u' _ nh er e) (λ ws eo g.
@@ -57,7 +57,7 @@ module _ (R : ℕ → Result ℕ) (ms u ms' u' hs : List ℕ) (o : Option (List 
           record { answer = rw (eo, ep, lt-leb (length ws) (length hs) q) refl; handles = rw (eo, ep, lt-leb (length ws) (length hs) q) refl; addresses = rw (eo, ep, lt-leb (length ws) (length hs) q) refl }))
 
       module _ (b : length hs < 2 ^ 64 - 1) (l : nh ≤ length hs) where
-        pub addresses-short : length ds < na → Frames (roots_listing o p (length hs) (length ds)) (Not ShortList) hs ds hs ds
+        pub addresses-short : length ds < na → Frames (roots_listing o p (length hs) (length ds)) (Err ShortList) hs ds hs ds
         unfolding roots_listing
         addresses-short z =
             from-ok _ _ _ o (told-traced r ms' u' _ nh er e) (λ ws eo g.
@@ -71,7 +71,7 @@ module _ (R : ℕ → Result ℕ) (ms u ms' u' hs : List ℕ) (o : Option (List 
               addresses = rw (eo, ep, le-leb (length ws) (length hs) w, lt-leb (length xs) (length ds) q) refl;
             }))
 
-        pub roots-wrote : length ds < 2 ^ 64 - 1 → na ≤ length ds → (A : ℕ → Result ℕ) (as₀ as₁ hs' : List ℕ) (x : Answer) → told x as₁ hs' ≡ emitting (into ToList A) (raw_of as₀ hs 0) o → (B : ℕ → Result ℕ) (bs₀ bs₁ ds' : List ℕ) (y : Answer) → told y bs₁ ds' ≡ emitting (into ToList B) (raw_of bs₀ ds 0) p → Frames (roots_listing o p (length hs) (length ds)) (Is nh na) hs ds hs' ds'
+        pub roots-wrote : length ds < 2 ^ 64 - 1 → na ≤ length ds → (A : ℕ → Result ℕ) (as₀ as₁ hs' : List ℕ) (x : Answer) → told x as₁ hs' ≡ emitting (into ToList A) (raw_of as₀ hs 0) o → (B : ℕ → Result ℕ) (bs₀ bs₁ ds' : List ℕ) (y : Answer) → told y bs₁ ds' ≡ emitting (into ToList B) (raw_of bs₀ ds 0) p → Frames (roots_listing o p (length hs) (length ds)) (Ok (nh, na)) hs ds hs' ds'
         unfolding roots_listing
         roots-wrote d z A as₀ as₁ hs' x ex B bs₀ bs₁ ds' y ey =
             from-ok _ _ _ o (told-traced r ms' u' _ nh er e) (λ ws eo g.

@@ -3,7 +3,7 @@ use Rattle.std.specs.Prelude.{ℕ, ◌≡◌, List, length, leb, if◌then◌els
 use Rattle.std.proofs.Math.Option.{Option, none, some}
 use Rattle.word.specs.Put.{put}
 use Rattle.word.specs.Result.{Result, ok, refused}
-use Rattle.refusal.specs.declared.Reply.{Reply}
+use Rattle.refusal.specs.Told.{Reply}
 use Rattle.refusal.specs.Told.{told, answered}
 
 -- handles and addresses

@@ -184,7 +184,7 @@ pub fn list_roots(
         0,
     );
     let Some(nh) = a else {
-        return Reply::Not(Refusal::Untraceable);
+        return Err(Refusal::Untraceable);
     };
     let b = trace_frame(
         table,
@@ -201,13 +201,13 @@ pub fn list_roots(
         0,
     );
     let Some(na) = b else {
-        return Reply::Not(Refusal::Untraceable);
+        return Err(Refusal::Untraceable);
     };
     if lh < nh {
-        return Reply::Not(Refusal::ShortList);
+        return Err(Refusal::ShortList);
     }
     if la < na {
-        return Reply::Not(Refusal::ShortList);
+        return Err(Refusal::ShortList);
     }
     trace_frame(
         table,
@@ -237,5 +237,5 @@ pub fn list_roots(
         addresses,
         0,
     );
-    Reply::Is(nh as u64, na as u64)
+    Ok((nh as u64, na as u64))
 }

@@ -53,7 +53,7 @@ impl Heap {
     pub fn charged(mut self, n: u64) -> Heap
         ensures { result ≡ set_charged self n }
     {
-        self.since_gc = word::saturating_add(self.since_gc, n);
+        self.since_gc = self.since_gc.saturating_add(n);
         self
     }
 
@@ -184,10 +184,10 @@ pub fn splice(end: &mut [u64], pool: &mut [u8], n: usize, i: usize, new: &[u8])
     let b = end[i] as usize;
     let e = begins(end, n);
     let m = new.len();
-    memory::move_u8(pool, b, a + m, e - b);
-    memory::copy_u8(pool, a, new);
-    memory::fill_u8(pool, a + m + (e - b), e, 0);
-    memory::shift_u64(end, i, n, (b - a) as u64, m as u64);
+    memory::move_within(pool, b, a + m, e - b);
+    memory::copy(pool, a, new);
+    memory::fill(pool, a + m + (e - b), e, 0);
+    memory::shift(end, i, n, (b - a) as u64, m as u64);
 }
 
 // Slot `i` gets these numbers and this data.

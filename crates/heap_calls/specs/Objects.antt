@@ -3,7 +3,7 @@ use Rattle.std.specs.Prelude.{◌≡◌, List, ℕ, length}
 use Rattle.word.specs.Put.{put}
 use Rattle.word.specs.Result.{Result, ok, refused}
 use Rattle.refusal.specs.Told.{told, answered, here, nothing}
-use Rattle.refusal.specs.declared.Reply.{Reply}
+use Rattle.refusal.specs.Told.{Reply}
 use Rattle.heap.specs.Lent.{Lent, view, slot_count, pool_size}
 use Rattle.heap.specs.Calls.{Object, alloc_from, take_into, free}
 use Rattle.heap.specs.Done.{Leaves, Tells}

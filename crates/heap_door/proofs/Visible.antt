@@ -17,8 +17,8 @@ use Rattle.heap.specs.Calls.{Place, visible_at, place_at}
 use Rattle.heap.proofs.Packing.{flat-split, start-of}
 use Rattle.heap.proofs.Testing.{formed-tested}
 use Rattle.refusal.specs.Told.{number_of, refused_by, answered}
-use Rattle.refusal.specs.declared.Reply.{Reply}
-use Rattle.refusal.specs.declared.Reply.TheVariants.{Is, Not as Refused}
+use Rattle.refusal.specs.Told.{Reply}
+use Rattle.std.specs.Prelude.{Ok, Err}
 use Rattle.refusal.proofs.Numbers.{told-once}
 use Rattle.refusal.specs.declared.Answer.{Answer}
 use Rattle.refusal.specs.declared.Refusal.{Refusal}
@@ -89,11 +89,11 @@ refused-some h i n q z = go (live (slot_at h i)) (leb (slot_at h i).start (lengt
     go true true e f = let a : code (place_at h i) ≡ 1 = simp (e, f) in omega (arith, ap code q)
 
 abbrev is_not : Reply → ℕ
-is_not (Is a b) = 0
-is_not (Refused why) = 1
+is_not (Ok (a, b)) = 0
+is_not (Err why) = 1
 
 some_number : (why : Refusal) → number_of why ≡ 0 → ⊥
-some_number why e = let z : ◌≡◌ {A = ℕ} 1 0 = ap is_not (told-once (Refused why) (Is 0 0) (ap refused_by e)) in omega arith
+some_number why e = let z : ◌≡◌ {A = ℕ} 1 0 = ap is_not (told-once (Err why) (Ok (0, 0)) (ap refused_by e)) in omega arith
 
 -- THE LAW of the public call: where it answers a place, the lent pool's bytes there are the visible data of the slot
 pub data-visible : {answer : Answer} (marks work marks' work' : List ℕ) (l : Lent) (i : ℕ)

@@ -14,7 +14,7 @@ ghost use Rattle.heap_door.specs.Sealing.{sealing};
 
 use door::{Done, Entry, enter};
 use heap::Heap;
-use refusal::{Answer, Reply};
+use refusal::Answer;
 
 // ---- questions
 
@@ -33,8 +33,8 @@ pub fn yexwalu_gc_due(
         (lent heap narrow.now wide.now pool.now) (λ h. ok (gc_due h threshold)) }
 {
     match enter(heap, narrow, wide, pool, marks, work) {
-        Entry::Not(why) => Reply::Not(why).numbers(),
-        Entry::Ready => heap_edit::gc_due(heap, threshold).numbers(),
+        Entry::Not(why) => Answer::from(Err(why)),
+        Entry::Ready => Answer::from(heap_edit::gc_due(heap, threshold)),
     }
 }
 
@@ -52,8 +52,8 @@ pub fn yexwalu_reclaim_due(
         (lent heap narrow.now wide.now pool.now) (λ h. ok (reclaim_due h)) }
 {
     match enter(heap, narrow, wide, pool, marks, work) {
-        Entry::Not(why) => Reply::Not(why).numbers(),
-        Entry::Ready => heap_edit::reclaim_due(heap).numbers(),
+        Entry::Not(why) => Answer::from(Err(why)),
+        Entry::Ready => Answer::from(heap_edit::reclaim_due(heap)),
     }
 }
 
@@ -71,8 +71,8 @@ pub fn yexwalu_has_quarantine(
         (lent heap narrow.now wide.now pool.now) (λ h. ok (has_quarantine h)) }
 {
     match enter(heap, narrow, wide, pool, marks, work) {
-        Entry::Not(why) => Reply::Not(why).numbers(),
-        Entry::Ready => heap_edit::has_quarantine(heap).numbers(),
+        Entry::Not(why) => Answer::from(Err(why)),
+        Entry::Ready => Answer::from(heap_edit::has_quarantine(heap)),
     }
 }
 
@@ -91,8 +91,8 @@ pub fn yexwalu_is_plain(
         (lent heap narrow.now wide.now pool.now) (λ h. ok (is_plain h tag)) }
 {
     match enter(heap, narrow, wide, pool, marks, work) {
-        Entry::Not(why) => Reply::Not(why).numbers(),
-        Entry::Ready => heap_edit::is_plain(heap, tag).numbers(),
+        Entry::Not(why) => Answer::from(Err(why)),
+        Entry::Ready => Answer::from(heap_edit::is_plain(heap, tag)),
     }
 }
 
@@ -110,8 +110,8 @@ pub fn yexwalu_slots(
         (lent heap narrow.now wide.now pool.now) (λ h. ok (length h.slots)) }
 {
     match enter(heap, narrow, wide, pool, marks, work) {
-        Entry::Not(why) => Reply::Not(why).numbers(),
-        Entry::Ready => heap_edit::slots(heap).numbers(),
+        Entry::Not(why) => Answer::from(Err(why)),
+        Entry::Ready => Answer::from(heap_edit::slots(heap)),
     }
 }
 
@@ -129,8 +129,8 @@ pub fn yexwalu_live(
         (lent heap narrow.now wide.now pool.now) (λ h. ok (live_count h.slots)) }
 {
     match enter(heap, narrow, wide, pool, marks, work) {
-        Entry::Not(why) => Reply::Not(why).numbers(),
-        Entry::Ready => heap_edit::live(heap, narrow, wide, pool).numbers(),
+        Entry::Not(why) => Answer::from(Err(why)),
+        Entry::Ready => Answer::from(heap_edit::live(heap, narrow, wide, pool)),
     }
 }
 
@@ -149,8 +149,8 @@ pub fn yexwalu_resolve(
         (lent heap narrow.now wide.now pool.now) (λ h. resolved h handle) }
 {
     match enter(heap, narrow, wide, pool, marks, work) {
-        Entry::Not(why) => Reply::Not(why).numbers(),
-        Entry::Ready => heap_edit::resolve(heap, narrow, wide, pool, handle).numbers(),
+        Entry::Not(why) => Answer::from(Err(why)),
+        Entry::Ready => Answer::from(heap_edit::resolve(heap, narrow, wide, pool, handle)),
     }
 }
 
@@ -169,8 +169,8 @@ pub fn yexwalu_data(
         (lent heap narrow.now wide.now pool.now) (λ h. place_at h i) }
 {
     match enter(heap, narrow, wide, pool, marks, work) {
-        Entry::Not(why) => Reply::Not(why).numbers(),
-        Entry::Ready => heap_edit::data(heap, narrow, wide, pool, i).numbers(),
+        Entry::Not(why) => Answer::from(Err(why)),
+        Entry::Ready => Answer::from(heap_edit::data(heap, narrow, wide, pool, i)),
     }
 }
 
@@ -189,8 +189,8 @@ pub fn yexwalu_kind(
         (lent heap narrow.now wide.now pool.now) (λ h. kind_at h i) }
 {
     match enter(heap, narrow, wide, pool, marks, work) {
-        Entry::Not(why) => Reply::Not(why).numbers(),
-        Entry::Ready => heap_edit::kind(heap, narrow, wide, pool, i).numbers(),
+        Entry::Not(why) => Answer::from(Err(why)),
+        Entry::Ready => Answer::from(heap_edit::kind(heap, narrow, wide, pool, i)),
     }
 }
 
@@ -209,8 +209,8 @@ pub fn yexwalu_stamp(
         (lent heap narrow.now wide.now pool.now) (λ h. stamp_at h i) }
 {
     match enter(heap, narrow, wide, pool, marks, work) {
-        Entry::Not(why) => Reply::Not(why).numbers(),
-        Entry::Ready => heap_edit::stamp(heap, narrow, wide, pool, i).numbers(),
+        Entry::Not(why) => Answer::from(Err(why)),
+        Entry::Ready => Answer::from(heap_edit::stamp(heap, narrow, wide, pool, i)),
     }
 }
 
@@ -235,7 +235,7 @@ pub fn yexwalu_edit(
     match enter(heap, narrow, wide, pool, marks, work) {
         Entry::Not(why) => Done {
             heap: heap,
-            answer: Reply::Not(why).numbers(),
+            answer: Answer::from(Err(why)),
         },
         Entry::Ready => {
             let done = heap_edit::edit(heap, narrow, wide, pool, handle, bytes, start);
@@ -243,7 +243,7 @@ pub fn yexwalu_edit(
             let reply = done.reply;
             Done {
                 heap: after,
-                answer: reply.numbers(),
+                answer: Answer::from(reply),
             }
         }
     }
@@ -266,8 +266,8 @@ pub fn yexwalu_write(
         (λ h. written h i at bytes.now) }
 {
     match enter(heap, narrow, wide, pool, marks, work) {
-        Entry::Not(why) => Reply::Not(why).numbers(),
-        Entry::Ready => heap_edit::write(heap, narrow, wide, pool, i, at, bytes).numbers(),
+        Entry::Not(why) => Answer::from(Err(why)),
+        Entry::Ready => Answer::from(heap_edit::write(heap, narrow, wide, pool, i, at, bytes)),
     }
 }
 
@@ -289,7 +289,7 @@ pub fn yexwalu_reissue(
     match enter(heap, narrow, wide, pool, marks, work) {
         Entry::Not(why) => Done {
             heap: heap,
-            answer: Reply::Not(why).numbers(),
+            answer: Answer::from(Err(why)),
         },
         Entry::Ready => {
             let done = heap_edit::reissue(heap, narrow, wide, pool, i, grown);
@@ -297,7 +297,7 @@ pub fn yexwalu_reissue(
             let reply = done.reply;
             Done {
                 heap: after,
-                answer: reply.numbers(),
+                answer: Answer::from(reply),
             }
         }
     }
@@ -318,13 +318,13 @@ pub fn yexwalu_seal(
     match enter(heap, narrow, wide, pool, marks, work) {
         Entry::Not(why) => Done {
             heap: heap,
-            answer: Reply::Not(why).numbers(),
+            answer: Answer::from(Err(why)),
         },
         Entry::Ready => {
             let after = heap_edit::seal(heap, narrow, wide, pool);
             Done {
                 heap: after,
-                answer: Reply::Is(0, 0).numbers(),
+                answer: Answer::from(Ok((0, 0))),
             }
         }
     }

@@ -3,14 +3,13 @@ use Rattle.std.proofs.Common.{◌≡◌, ℕ, ◌+◌, ◌-◌, ◌*◌, ◌/◌
 use types.Run.{OneOf, miss}
 use denote.Enum.Declared.{tag_of}
 use Rattle.word.specs.Result.{ok, refused}
-use Rattle.refusal.specs.Told.{here, nothing}
+use Rattle.refusal.specs.Told.{number_of, here, nothing}
 use Rattle.refusal.specs.declared.Refusal.TheVariants.{NoRoom}
-use Rattle.refusal.specs.declared.Reply.{Reply}
-use Rattle.refusal.specs.declared.Reply.TheVariants.{Is, Not}
-use Rattle.handle.specs.Handle.{told, replied}
-use Rattle.handle.specs.declared.Resolved.{Resolved}
-use Rattle.handle.specs.declared.Resolved.TheVariants.{Null, WrongHeap, NeverIssued, Stale, At}
-use Rattle.handle.specs.contracts.Resolved.{the_type as resolved-type}
+use Rattle.refusal.specs.Told.{Reply}
+use Rattle.std.specs.Prelude.{Ok, Err}
+use Rattle.handle.specs.Handle.{told}
+use Rattle.std.specs.Prelude.{Result as Outcome}
+use Rattle.refusal.specs.declared.Refusal.{Refusal}
 use Rattle.heap.specs.State.{Slot, slot_at, data_size}
 use Rattle.heap.specs.Lent.{Lent, lent, stored, view, slot_count, pool_size}
 use Rattle.heap.specs.WellFormed.{well_formed}
@@ -37,7 +36,7 @@ pub placed-raised : {l l' : Lent} {i g k t s w w' : ℕ} {bytes : List ℕ} → 
 placed-raised {l} {l'} {i} {g} {k} {t} {s} {w} {w'} {bytes} done e = subst (λ (v : ℕ). PlacedIn l l' i g k t s v bytes) e done
 
 -- what `resolve` found in the heap that lies there
-pub found : (l : Lent) → well_formed l ≡ true → (x : ℕ) (r : Resolved) → told r ≡ resolve_by l.header.tag l.header.slots (live_in l.header.slots l.kind) (λ i. get_or l.generation i 0) x → told r ≡ resolve (view l) x
+pub found : (l : Lent) → well_formed l ≡ true → (x : ℕ) (r : Outcome ℕ Refusal) → told r ≡ resolve_by l.header.tag l.header.slots (live_in l.header.slots l.kind) (λ i. get_or l.generation i 0) x → told r ≡ resolve (view l) x
 found l w x r e = e ∙ resolves l w x
 
 module _ (l : Lent) (w : well_formed l ≡ true) (x : ℕ) (bytes : List ℕ) (first : ℕ) where
@@ -48,18 +47,10 @@ module _ (l : Lent) (w : well_formed l ≡ true) (x : ℕ) (bytes : List ℕ) (f
   edit-no n e = edit-none n (edit-unresolved (pool_size l) (view l) x bytes first n e)
 
   -- an answer of `resolve` that is no slot is that refusal of `edit`
-  pub edit-unfound : {reply : Reply} (r : Resolved) → OneOf (0 ∷ 1 ∷ 2 ∷ 3 ∷ []) (tag_of resolved-type r) → told r ≡ resolve (view l) x → reply ≡ replied r
-      → Tells here nothing l l reply (edit (pool_size l) (view l) x bytes first)
-  edit-unfound {reply} r k e q = subst (λ (y : Reply). Tells here nothing l l y (edit (pool_size l) (view l) x bytes first)) (sym q) (go r k e)
-    where
-      go : (r : Resolved) → OneOf (0 ∷ 1 ∷ 2 ∷ 3 ∷ []) (tag_of resolved-type r) → told r ≡ resolve (view l) x → Tells here nothing l l (replied r) (edit (pool_size l) (view l) x bytes first)
-      go Null k e = tells-not here nothing (edit-no 2 (sym e))
-      go WrongHeap k e = tells-not here nothing (edit-no 3 (sym e))
-      go NeverIssued k e = tells-not here nothing (edit-no 19 (sym e))
-      go Stale k e = tells-not here nothing (edit-no 4 (sym e))
-      go (At i) k e = absurd (miss (0 ∷ 1 ∷ 2 ∷ 3 ∷ []) 4 tt k)
+  pub edit-unfound : (r : Outcome ℕ Refusal) (why : Refusal) → told r ≡ resolve (view l) x → r ≡ Err why → Tells here nothing l l (Err why) (edit (pool_size l) (view l) x bytes first)
+  edit-unfound r why e k = tells-not here nothing (edit-no (number_of why) (sym e ∙ ap told k))
 
-  module _ {r : Resolved} {i : ℕ} (s : told r ≡ resolve (view l) x) (f : r ≡ At i) where
+  module _ {r : Outcome ℕ Refusal} {i : ℕ} (s : told r ≡ resolve (view l) x) (f : r ≡ Ok i) where
     at : resolve (view l) x ≡ ok i
     at = sym s ∙ ap told f
 
@@ -71,7 +62,7 @@ module _ (l : Lent) (w : well_formed l ≡ true) (x : ℕ) (bytes : List ℕ) (f
     size = data_size (view l).slots - length (slot_at (view l) i).bytes + length bytes
 
     module _ {z : Bool} (q : z ≡ leb size (pool_size l)) where
-      pub edit-not : z ≡ false → Tells here nothing l l (Not NoRoom) (edit (pool_size l) (view l) x bytes first)
+      pub edit-not : z ≡ false → Tells here nothing l l (Err NoRoom) (edit (pool_size l) (view l) x bytes first)
       edit-not f = tells-not here nothing (edit-none 6 (edit-full (pool_size l) (view l) x bytes first i at (leb-false size (pool_size l) (sym q ∙ f))))
 
       module _ (t : z ≡ true) {hd : Heap} (eh : hd ≡ set_changed l.header i) where
@@ -105,13 +96,13 @@ module _ (l : Lent) (w : well_formed l ≡ true) (x : ℕ) (bytes : List ℕ) (f
             }
 
 -- at the lists that are lent
-module _ (h : Heap) (narrow wide pool : List ℕ) (w : well_formed (lent h narrow wide pool) ≡ true) (x : ℕ) (bytes : List ℕ) (first : ℕ) {r : Resolved} {i : ℕ}
-    (s : told r ≡ resolve (view (lent h narrow wide pool)) x) (f : r ≡ At i) {b : Bool}
+module _ (h : Heap) (narrow wide pool : List ℕ) (w : well_formed (lent h narrow wide pool) ≡ true) (x : ℕ) (bytes : List ℕ) (first : ℕ) {r : Outcome ℕ Refusal} {i : ℕ}
+    (s : told r ≡ resolve (view (lent h narrow wide pool)) x) (f : r ≡ Ok i) {b : Bool}
     (q : b ≡ leb (data_size (view (lent h narrow wide pool)).slots - length (slot_at (view (lent h narrow wide pool)) i).bytes + length bytes) (length pool)) (t : b ≡ true)
     {hd : Heap} (eh : hd ≡ set_changed h i) where
   pub edit-yes : (l' : Lent)
       → PlacedIn (lent hd narrow wide pool) l' i (get_or narrow i 0) (get_or narrow (length narrow / 6 + i) 0) (get_or narrow (2 * (length narrow / 6) + i) 0) first ((get_or wide (2 * (length narrow / 6) + i) 0 + 1) % 2 ^ 64) bytes
-      → Tells here nothing (lent h narrow wide pool) l' (Is i 0) (edit (length pool) (view (lent h narrow wide pool)) x bytes first)
+      → Tells here nothing (lent h narrow wide pool) l' (Ok (i, 0)) (edit (length pool) (view (lent h narrow wide pool)) x bytes first)
   edit-yes l' done =
       let l : Lent = lent h narrow wide pool in
       let v : Reads h narrow wide pool i = reads h narrow wide pool w i (edit-inside l w x bytes first s f) in

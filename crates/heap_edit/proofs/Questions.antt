@@ -7,8 +7,8 @@ use Rattle.word.specs.Result.{ok}
 use Rattle.word.proofs.Bools.{bool-ext, positive}
 use Rattle.refusal.specs.Told.{refused_by, told, answered, here, nothing}
 use Rattle.refusal.specs.declared.Answer.{Answer}
-use Rattle.refusal.specs.declared.Reply.{Reply}
-use Rattle.refusal.specs.declared.Reply.TheVariants.{Is}
+use Rattle.refusal.specs.Told.{Reply}
+use Rattle.std.specs.Prelude.{Ok}
 use Rattle.handle.specs.Handle.{index_of, resolve_by}
 use Rattle.handle.specs.Columns.{live_in}
 use Rattle.handle.proofs.ResolveLaws.{resolve_same, live-beyond, live-not, live-there}
@@ -92,18 +92,18 @@ module _ (h : State) (i : ℕ) where
   unfolding kind_at
   no_kind e = simp e
 
-  pub its-kind : {k t : ℕ} → k ≡ (slot_at h i).kind → t ≡ (slot_at h i).type → (k ≡ 0 → ⊥) → told (Is k t) ≡ answered (λ (x : Kind). x.kind) (λ (x : Kind). x.type) (kind_at h i)
+  pub its-kind : {k t : ℕ} → k ≡ (slot_at h i).kind → t ≡ (slot_at h i).type → (k ≡ 0 → ⊥) → told (Ok (k, t)) ≡ answered (λ (x : Kind). x.kind) (λ (x : Kind). x.type) (kind_at h i)
   unfolding kind_at
-  its-kind ek et n = (λ j. told (Is (ek j) (et j))) ∙ simp (alive ek n)
+  its-kind ek et n = (λ j. told (Ok ((ek j), (et j)))) ∙ simp (alive ek n)
 
   pub no-stamp : live (slot_at h i) ≡ false → refused_by 9 ≡ answered (λ (x : Stamp). x.generation) (λ (x : Stamp). x.writes) (stamp_at h i)
   unfolding stamp_at
   no-stamp e = simp e
 
   pub its-stamp : {g k w : ℕ} → g ≡ (slot_at h i).generation → k ≡ (slot_at h i).kind → w ≡ (slot_at h i).writes → (k ≡ 0 → ⊥)
-      → told (Is g w) ≡ answered (λ (x : Stamp). x.generation) (λ (x : Stamp). x.writes) (stamp_at h i)
+      → told (Ok (g, w)) ≡ answered (λ (x : Stamp). x.generation) (λ (x : Stamp). x.writes) (stamp_at h i)
   unfolding stamp_at
-  its-stamp eg ek ew n = (λ j. told (Is (eg j) (ew j))) ∙ simp (alive ek n)
+  its-stamp eg ek ew n = (λ j. told (Ok ((eg j), (ew j)))) ∙ simp (alive ek n)
 
   -- ---- the visible data
 
@@ -127,7 +127,7 @@ module _ (h : State) (i : ℕ) where
 abbrev pub seen_told : Visible → Answer
 seen_told Dead = refused_by 9
 seen_told Hidden = refused_by 9
-seen_told (Shown from size) = told (Is from size)
+seen_told (Shown from size) = told (Ok (from, size))
 
 pub place-seen : (h : State) (i : ℕ) → seen_told (seen_at h i) ≡ answered (λ (p : Place). p.from) (λ (p : Place). p.size) (place_at h i)
 unfolding seen_at place_at

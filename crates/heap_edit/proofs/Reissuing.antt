@@ -5,7 +5,7 @@ use Rattle.word.specs.Result.{ok}
 use Rattle.refusal.specs.Told.{here, nothing, number_of}
 use Rattle.refusal.specs.declared.Refusal.TheVariants.{NothingThere, WornOut}
 use Rattle.refusal.specs.declared.Refusal.{Refusal}
-use Rattle.refusal.specs.declared.Reply.TheVariants.{Is, Not}
+use Rattle.std.specs.Prelude.{Ok, Err}
 use Rattle.handle.specs.Handle.{packed}
 use Rattle.heap.specs.State.{Slot, no_slot, slot_at, live, last_generation}
 use Rattle.heap.specs.Lent.{Lent, lent, stored, view, slot_count, pool_size}
@@ -24,10 +24,10 @@ use Rattle.heap_edit.proofs.Soundness.{reissue-sound}
 use Rattle.heap_edit.proofs.Replacing.{stays, slot-lies, same-data}
 
 module _ (l : Lent) (w : well_formed l ≡ true) (i grown : ℕ) where
-  not_done : (why : Refusal) → reissue (view l) i grown ≡ refuse (number_of why) (view l) → Tells here nothing l l (Not why) (reissue (view l) i grown)
-  not_done why e = subst (λ (c : Changed ℕ). Tells here nothing l l (Not why) c) (sym e) (record { leaves = record { lies = (formed l w).lies; formed = w }; says = refl })
+  not_done : (why : Refusal) → reissue (view l) i grown ≡ refuse (number_of why) (view l) → Tells here nothing l l (Err why) (reissue (view l) i grown)
+  not_done why e = subst (λ (c : Changed ℕ). Tells here nothing l l (Err why) c) (sym e) (record { leaves = record { lies = (formed l w).lies; formed = w }; says = refl })
 
-  pub reissue-outside : l.header.slots ≤ i → Tells here nothing l l (Not NothingThere) (reissue (view l) i grown)
+  pub reissue-outside : l.header.slots ≤ i → Tells here nothing l l (Err NothingThere) (reissue (view l) i grown)
   reissue-outside b = not_done NothingThere (reissue-dead (view l) i grown (ap live (get_or-eq_default (view l).slots no_slot (omega (arith, (knows l w).slot_count)))))
 
   reissue-at : (g x : ℕ) (hd : Heap) (l' : Lent) → i < l.header.slots → live (slot_at (view l) i) ≡ true → ((slot_at (view l) i).generation ≡ last_generation → ⊥)
@@ -55,7 +55,7 @@ module _ (l : Lent) (w : well_formed l ≡ true) (i grown : ℕ) where
       }
 
 module _ (h : Heap) (narrow wide pool : List ℕ) (w : well_formed (lent h narrow wide pool) ≡ true) (i grown : ℕ) (b : i < h.slots) where
-  pub reissue-of-dead : get_or narrow (length narrow / 6 + i) 0 ≡ 0 → Tells here nothing (lent h narrow wide pool) (lent h narrow wide pool) (Not NothingThere) (reissue (view (lent h narrow wide pool)) i grown)
+  pub reissue-of-dead : get_or narrow (length narrow / 6 + i) 0 ≡ 0 → Tells here nothing (lent h narrow wide pool) (lent h narrow wide pool) (Err NothingThere) (reissue (view (lent h narrow wide pool)) i grown)
   reissue-of-dead z =
       let l : Lent = lent h narrow wide pool in
       not_done l w i grown NothingThere (reissue-dead (view l) i grown (le-ltb 0 (slot_at (view l) i).kind (omega (arith, (reads h narrow wide pool w i b).kind))))
@@ -66,13 +66,13 @@ module _ (h : Heap) (narrow wide pool : List ℕ) (w : well_formed (lent h narro
         let some : 0 < get_or narrow (length narrow / 6 + i) 0 = omega (arith, alive) in
         lt-ltb 0 (slot_at (view (lent h narrow wide pool)) i).kind (omega (arith, (reads h narrow wide pool w i b).kind))
 
-    pub reissue-of-worn : get_or narrow i 0 ≡ 4294967295 → Tells here nothing (lent h narrow wide pool) (lent h narrow wide pool) (Not WornOut) (reissue (view (lent h narrow wide pool)) i grown)
+    pub reissue-of-worn : get_or narrow i 0 ≡ 4294967295 → Tells here nothing (lent h narrow wide pool) (lent h narrow wide pool) (Err WornOut) (reissue (view (lent h narrow wide pool)) i grown)
     reissue-of-worn e =
         let l : Lent = lent h narrow wide pool in
         not_done l w i grown WornOut (reissue-worn (view l) i grown is_live (omega (arith, (reads h narrow wide pool w i b).generation)))
 
     pub reissue-yes : (g x : ℕ) (hd : Heap) → (get_or narrow i 0 ≡ 4294967295 → ⊥) → g ≡ step (get_or narrow i 0) → hd ≡ set_charged h grown → x ≡ packed h.tag i g
-        → Tells here nothing (lent h narrow wide pool) (lent hd (set narrow i g) (set wide (2 * (length narrow / 6) + i) 0) pool) (Is x 0) (reissue (view (lent h narrow wide pool)) i grown)
+        → Tells here nothing (lent h narrow wide pool) (lent hd (set narrow i g) (set wide (2 * (length narrow / 6) + i) 0) pool) (Ok (x, 0)) (reissue (view (lent h narrow wide pool)) i grown)
     reissue-yes g x hd ne eg eh ex =
         let l : Lent = lent h narrow wide pool in
         let S : ℕ = length narrow / 6 in

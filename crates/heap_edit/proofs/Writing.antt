@@ -7,7 +7,7 @@ use Rattle.word.proofs.Bools.{either}
 use Rattle.word.proofs.RunLaws.{run-get}
 use Rattle.refusal.specs.Told.{nothing}
 use Rattle.refusal.specs.declared.Refusal.TheVariants.{NothingThere}
-use Rattle.refusal.specs.declared.Reply.TheVariants.{Is, Not}
+use Rattle.std.specs.Prelude.{Ok, Err}
 use Rattle.heap.specs.Packing.{start_of}
 use Rattle.heap.specs.State.{State, slot_at, live, data_size}
 use Rattle.heap.specs.Lent.{Lent, lent, columns, stored, view, slot_count, pool_size}
@@ -86,10 +86,10 @@ module _ (l : Lent) (w : well_formed l ≡ true) (i at : ℕ) (bytes : List ℕ)
   in_use : live (slot_at (view l) i) ≡ true → i < l.header.slots
   in_use a = omega (arith, (knows l w).slot_count, live_inside (view l) i a)
 
-  untold : write (view l) i at bytes ≡ refuse 9 (view l) → Tells nothing nothing l l (Not NothingThere) (write (view l) i at bytes)
-  untold e = subst (λ (c : Changed Unit). Tells nothing nothing l l (Not NothingThere) c) (sym e) (record { leaves = record { lies = (formed l w).lies; formed = w }; says = refl })
+  untold : write (view l) i at bytes ≡ refuse 9 (view l) → Tells nothing nothing l l (Err NothingThere) (write (view l) i at bytes)
+  untold e = subst (λ (c : Changed Unit). Tells nothing nothing l l (Err NothingThere) c) (sym e) (record { leaves = record { lies = (formed l w).lies; formed = w }; says = refl })
 
-  pub write-none : seen_at (view l) i ≡ Dead → Tells nothing nothing l l (Not NothingThere) (write (view l) i at bytes)
+  pub write-none : seen_at (view l) i ≡ Dead → Tells nothing nothing l l (Err NothingThere) (write (view l) i at bytes)
   write-none e = untold (write-dead (view l) i at bytes (is-dead (view l) i e))
 
   -- slot i with this data in the pool and one write more
@@ -123,7 +123,7 @@ module _ (l : Lent) (w : well_formed l ≡ true) (i at : ℕ) (bytes : List ℕ)
   hidden-inside e = in_use (is_hidden (view l) i e).alive
 
   write-quiet : (ws : List ℕ) (l' : Lent) → seen_at (view l) i ≡ Hidden → ws ≡ set l.writes i ((get_or l.writes i 0 + 1) % 2 ^ 64) → l' ≡ after ws l.pool
-      → Tells nothing nothing l l' (Not NothingThere) (write (view l) i at bytes)
+      → Tells nothing nothing l l' (Err NothingThere) (write (view l) i at bytes)
   write-quiet ws l' e q el =
       let h = is_hidden (view l) i e in
       tells-not nothing nothing (after_write _ _ (refused 9) (write-hidden (view l) i at bytes h.alive h.beyond)
@@ -134,7 +134,7 @@ module _ (l : Lent) (w : well_formed l ≡ true) (i at : ℕ) (bytes : List ℕ)
     shown = is-shown (view l) i from size e
 
     -- a range that ends beyond what is visible
-    pub write-off : size < at + length bytes → Tells nothing nothing l l (Not NothingThere) (write (view l) i at bytes)
+    pub write-off : size < at + length bytes → Tells nothing nothing l l (Err NothingThere) (write (view l) i at bytes)
     write-off b = untold (write-beyond (view l) i at bytes shown.alive shown.within (omega (arith, shown)))
 
     pub shown-inside : (i < l.header.slots) × (from + size ≤ length l.pool)
@@ -143,7 +143,7 @@ module _ (l : Lent) (w : well_formed l ≡ true) (i at : ℕ) (bytes : List ℕ)
         (b, omega (arith, shown, data-inside l w i b))
 
     write-over : (ws ps : List ℕ) (l' : Lent) → at + length bytes ≤ size → ws ≡ set l.writes i ((get_or l.writes i 0 + 1) % 2 ^ 64) → ps ≡ put l.pool (from + at) bytes (length bytes)
-        → l' ≡ after ws ps → Tells nothing nothing l l' (Is 0 0) (write (view l) i at bytes)
+        → l' ≡ after ws ps → Tells nothing nothing l l' (Ok (0, 0)) (write (view l) i at bytes)
     write-over ws ps l' b q p el =
         let inside = in_use shown.alive in
         let at' : from + at ≡ start_of l.end i + ((slot_at (view l) i).start + at) = omega (arith, shown, data-inside l w i inside) in
@@ -173,9 +173,9 @@ module _ (h : Heap) (narrow wide pool : List ℕ) (w : well_formed (lent h narro
   lies : (ps : List ℕ) → lent h narrow wide' ps ≡ after l w i at bytes ws ps
   lies ps = ap (λ (x : List ℕ). lent h narrow x ps) e ∙ set-writes h S narrow wide ps i _ inside
 
-  pub write-hides : seen_at (view l) i ≡ Hidden → Tells nothing nothing l (lent h narrow wide' pool) (Not NothingThere) (write (view l) i at bytes)
+  pub write-hides : seen_at (view l) i ≡ Hidden → Tells nothing nothing l (lent h narrow wide' pool) (Err NothingThere) (write (view l) i at bytes)
   write-hides s = write-quiet l w i at bytes ws _ s raised (lies pool)
 
   pub write-yes : {from size : ℕ} (ps : List ℕ) → seen_at (view l) i ≡ Shown from size → at + length bytes ≤ size → ps ≡ put pool (from + at) bytes (length bytes)
-      → Tells nothing nothing l (lent h narrow wide' ps) (Is 0 0) (write (view l) i at bytes)
+      → Tells nothing nothing l (lent h narrow wide' ps) (Ok (0, 0)) (write (view l) i at bytes)
   write-yes ps s fits p = write-over l w i at bytes s ws ps _ fits raised p (lies ps)

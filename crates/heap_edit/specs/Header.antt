@@ -2,7 +2,7 @@
 use Rattle.std.specs.Prelude.{◌≡◌, ℕ, true}
 use Rattle.word.specs.Result.{ok}
 use Rattle.refusal.specs.Told.{told, answered, here, nothing}
-use Rattle.refusal.specs.declared.Reply.{Reply}
+use Rattle.refusal.specs.Told.{Reply}
 use Rattle.heap.specs.declared.Heap.{Heap}
 use Rattle.heap.specs.State.{State}
 use Rattle.heap.specs.Lent.{Lent, view}

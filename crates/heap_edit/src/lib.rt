@@ -15,7 +15,6 @@ ghost use Rattle.heap_edit.specs.Header.{OfHeader};
 ghost use Rattle.heap_edit.specs.Inner.Seen.{seen_at};
 ghost use Rattle.heap_edit.specs.Inner.Handles.{CanList, Listing, Listed, AllListed};
 
-use handle::Resolved;
 use heap::{Changed, Heap};
 use refusal::{Refusal, Reply};
 
@@ -26,9 +25,9 @@ fn yes(b: bool) -> Reply
     ensures { told result ≡ answered bit nothing (ok b) }
 {
     if b {
-        return Reply::Is(1, 0);
+        return Ok((1, 0));
     }
-    Reply::Is(0, 0)
+    Ok((0, 0))
 }
 
 // Is a collection due: more since the last one than the threshold, and than what outlived it?
@@ -68,7 +67,7 @@ pub fn is_plain(heap: Heap, tag: u8) -> Reply
 pub fn slots(heap: Heap) -> Reply
     ensures { OfHeader heap result (λ h. length h.slots) }
 {
-    Reply::Is(heap.slots as u64, 0)
+    Ok((heap.slots as u64, 0))
 }
 
 // ---- What the slots answer
@@ -88,7 +87,7 @@ pub fn live(heap: Heap, narrow: &[u32], wide: &[u64], pool: &[u8]) -> Reply
         }
         i += 1;
     }
-    Reply::Is(count, 0)
+    Ok((count, 0))
 }
 
 // The slot that a handle leads to.
@@ -96,7 +95,8 @@ pub fn resolve(heap: Heap, narrow: &[u32], wide: &[u64], pool: &[u8], x: u64) ->
     requires { well_formed (lent heap narrow.now wide.now pool.now) ≡ true }
     ensures { told result ≡ answered here nothing (resolved (view (lent heap narrow.now wide.now pool.now)) x) }
 {
-    handle::resolve(heap.tag, heap.slots, narrow.len() / 6, narrow, x).reply()
+    let i = handle::resolve(heap.tag, heap.slots, narrow.len() / 6, narrow, x)?;
+    Ok((i as u64, 0))
 }
 
 // What of a slot's data is visible.
@@ -138,9 +138,9 @@ pub fn data(heap: Heap, narrow: &[u32], wide: &[u64], pool: &[u8], i: usize) -> 
         (place_at (view (lent heap narrow.now wide.now pool.now)) i) }
 {
     match seen(heap, narrow, wide, pool, i) {
-        Visible::Dead => Reply::Not(Refusal::NothingThere),
-        Visible::Hidden => Reply::Not(Refusal::NothingThere),
-        Visible::Shown(from, size) => Reply::Is(from as u64, size as u64),
+        Visible::Dead => Err(Refusal::NothingThere),
+        Visible::Hidden => Err(Refusal::NothingThere),
+        Visible::Shown(from, size) => Ok((from as u64, size as u64)),
     }
 }
 
@@ -151,14 +151,14 @@ pub fn kind(heap: Heap, narrow: &[u32], wide: &[u64], pool: &[u8], i: usize) -> 
         (kind_at (view (lent heap narrow.now wide.now pool.now)) i) }
 {
     if heap.slots <= i {
-        return Reply::Not(Refusal::NothingThere);
+        return Err(Refusal::NothingThere);
     }
     let s = narrow.len() / 6;
     let k = narrow[s + i];
     if k == 0 {
-        return Reply::Not(Refusal::NothingThere);
+        return Err(Refusal::NothingThere);
     }
-    Reply::Is(k as u64, narrow[2 * s + i] as u64)
+    Ok((k as u64, narrow[2 * s + i] as u64))
 }
 
 // The generation and the write count of slot `i`.
@@ -168,13 +168,13 @@ pub fn stamp(heap: Heap, narrow: &[u32], wide: &[u64], pool: &[u8], i: usize) ->
         (stamp_at (view (lent heap narrow.now wide.now pool.now)) i) }
 {
     if heap.slots <= i {
-        return Reply::Not(Refusal::NothingThere);
+        return Err(Refusal::NothingThere);
     }
     let s = narrow.len() / 6;
     if narrow[s + i] == 0 {
-        return Reply::Not(Refusal::NothingThere);
+        return Err(Refusal::NothingThere);
     }
-    Reply::Is(narrow[i] as u64, wide[2 * s + i])
+    Ok((narrow[i] as u64, wide[2 * s + i]))
 }
 
 // ---- new
@@ -186,9 +186,9 @@ pub fn new(tag: u8, narrow: &mut [u32], wide: &mut [u64], pool: &mut [u8]) -> He
     ensures { lent result narrow.new wide.new pool.new
         ≡ stored (length narrow.old / 6) (length pool.old) (new_heap tag) }
 {
-    memory::clear_u32(narrow);
-    memory::clear_u64(wide);
-    memory::clear_u8(pool);
+    narrow.fill(0);
+    wide.fill(0);
+    pool.fill(0);
     Heap::new(tag)
 }
 
@@ -254,25 +254,27 @@ pub fn edit(
         (lent result.heap narrow.new wide.new pool.new) result.reply
         (edited (length pool.old) (view (lent heap narrow.old wide.old pool.old)) x bytes.now start) }
 {
-    let found = handle::resolve(heap.tag, heap.slots, narrow.len() / 6, narrow, x);
-    let Resolved::At(index) = found else {
-        return Changed {
-            heap: heap,
-            reply: found.reply(),
-        };
+    let index = match handle::resolve(heap.tag, heap.slots, narrow.len() / 6, narrow, x) {
+        Ok(index) => index,
+        Err(why) => {
+            return Changed {
+                heap: heap,
+                reply: Err(why),
+            };
+        }
     };
     let i = index as usize;
     if fits(heap, narrow, wide, pool, i, bytes.len()) {} else {
         return Changed {
             heap: heap,
-            reply: Reply::Not(Refusal::NoRoom),
+            reply: Err(Refusal::NoRoom),
         };
     }
     let after = heap.changed(index);
     replace(after, narrow, wide, pool, i, start, bytes);
     Changed {
         heap: after,
-        reply: Reply::Is(index as u64, 0),
+        reply: Ok((index as u64, 0)),
     }
 }
 
@@ -303,21 +305,21 @@ pub fn write(
 {
     let s = narrow.len() / 6;
     match seen(heap, narrow, wide, pool, i) {
-        Visible::Dead => Reply::Not(Refusal::NothingThere),
+        Visible::Dead => Err(Refusal::NothingThere),
         Visible::Hidden => {
             raise(wide, 2 * s + i);
-            Reply::Not(Refusal::NothingThere)
+            Err(Refusal::NothingThere)
         }
         Visible::Shown(from, size) => {
             if size < at {
-                return Reply::Not(Refusal::NothingThere);
+                return Err(Refusal::NothingThere);
             }
             if size - at < bytes.len() {
-                return Reply::Not(Refusal::NothingThere);
+                return Err(Refusal::NothingThere);
             }
             raise(wide, 2 * s + i);
-            memory::copy_u8(pool, from + at, bytes);
-            Reply::Is(0, 0)
+            memory::copy(pool, from + at, bytes);
+            Ok((0, 0))
         }
     }
 }
@@ -343,21 +345,21 @@ pub fn reissue(
     if heap.slots <= i {
         return Changed {
             heap: heap,
-            reply: Reply::Not(Refusal::NothingThere),
+            reply: Err(Refusal::NothingThere),
         };
     }
     let held = narrow[s + i];
     if held == 0 {
         return Changed {
             heap: heap,
-            reply: Reply::Not(Refusal::NothingThere),
+            reply: Err(Refusal::NothingThere),
         };
     }
     let old = narrow[i];
     if old == u32::MAX {
         return Changed {
             heap: heap,
-            reply: Reply::Not(Refusal::WornOut),
+            reply: Err(Refusal::WornOut),
         };
     }
     let g = word::next_generation(old);
@@ -365,7 +367,7 @@ pub fn reissue(
     wide[2 * s + i] = 0;
     Changed {
         heap: heap.charged(grown),
-        reply: Reply::Is(handle::pack(tag, i as u32, g), 0),
+        reply: Ok((handle::pack(tag, i as u32, g), 0)),
     }
 }
 
@@ -410,7 +412,7 @@ fn list_all(heap: Heap, narrow: &[u32], sealed: &mut [u64]) -> usize
 {
     let count = list_live(heap, narrow, sealed);
     let all = sealed.len();
-    memory::fill_u64(sealed, count, all, 0);
+    memory::fill(sealed, count, all, 0);
     count
 }
 

@@ -4,7 +4,7 @@ use Prim.Native.Nat.{ℕ}
 use Rattle.word.specs.Result.{Result}
 use Rattle.refusal.specs.Told.{answered, nothing}
 use Rattle.refusal.specs.declared.Answer.{Answer}
-use Rattle.refusal.specs.declared.Reply.TheVariants.{Is}
+use Rattle.std.specs.Prelude.{Ok}
 use Rattle.heap.specs.State.{State}
 use Rattle.heap.specs.Lent.{Lent, view}
 use Rattle.heap.specs.Calls.{seal}
@@ -14,7 +14,7 @@ use Rattle.heap_door.specs.Sealing.{sealing}
 use Rattle.held.proofs.Holding.{headed, same}
 
 -- a seal tells nothing
-pub sealed-tells : {k k' : Lent} → Leaves k k' (seal (view k)) → Tells nothing nothing k k' (Is 0 0) (sealing (view k))
+pub sealed-tells : {k k' : Lent} → Leaves k k' (seal (view k)) → Tells nothing nothing k k' (Ok (0, 0)) (sealing (view k))
 sealed-tells d = record { leaves = d; says = refl }
 
 module _ {A : Type 0} (first second : A → ℕ) (question : State → Result A) {h g : Heap} {k l : Lent} {x r : Answer} where

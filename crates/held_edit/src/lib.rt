@@ -12,7 +12,7 @@ ghost use Rattle.heap.specs.Calls.{resolve as resolved, edit as edited, write as
 ghost use Rattle.heap_door.specs.Sealing.{sealing};
 ghost use Rattle.held.specs.Held.{in_place, Held};
 
-use refusal::{Answer, Reply};
+use refusal::Answer;
 
 // Takes out the object that the handle names, as `yexwalu_held_take` does, without handing it out.
 pub fn yexwalu_held_free(
@@ -33,10 +33,8 @@ pub fn yexwalu_held_free(
 {
     let heap = held::header(tag, numbers, log, lengths);
     let done = heap_calls::free(heap, narrow, wide, pool, handle);
-    let after = done.heap;
-    let reply = done.reply;
-    held::keep(after, tag, numbers, log, lengths);
-    reply.numbers()
+    held::keep(done.heap, tag, numbers, log, lengths);
+    Answer::from(done.reply)
 }
 
 // New bytes and a new start for the object that the handle leads to. First: its slot.
@@ -60,10 +58,8 @@ pub fn yexwalu_held_edit(
 {
     let heap = held::header(tag, numbers, log, lengths);
     let done = heap_edit::edit(heap, narrow, wide, pool, handle, bytes, start);
-    let after = done.heap;
-    let reply = done.reply;
-    held::keep(after, tag, numbers, log, lengths);
-    reply.numbers()
+    held::keep(done.heap, tag, numbers, log, lengths);
+    Answer::from(done.reply)
 }
 
 // A new handle for the live slot `i`. First: the handle.
@@ -86,10 +82,8 @@ pub fn yexwalu_held_reissue(
 {
     let heap = held::header(tag, numbers, log, lengths);
     let done = heap_edit::reissue(heap, narrow, wide, pool, i, grown);
-    let after = done.heap;
-    let reply = done.reply;
-    held::keep(after, tag, numbers, log, lengths);
-    reply.numbers()
+    held::keep(done.heap, tag, numbers, log, lengths);
+    Answer::from(done.reply)
 }
 
 // The seals become the handles of all live slots.
@@ -111,7 +105,7 @@ pub fn yexwalu_held_seal(
     let heap = held::header(tag, numbers, log, lengths);
     let after = heap_edit::seal(heap, narrow, wide, pool);
     held::keep(after, tag, numbers, log, lengths);
-    Reply::Is(0, 0).numbers()
+    Answer::from(Ok((0, 0)))
 }
 
 // Bytes put over the visible data of slot `i`, from the offset `at` in it. The header stays as it is.
@@ -134,7 +128,7 @@ pub fn yexwalu_held_write(
         (λ h. written h i at bytes.now) }
 {
     let heap = held::header(tag, numbers, log, lengths);
-    heap_edit::write(heap, narrow, wide, pool, i, at, bytes).numbers()
+    Answer::from(heap_edit::write(heap, narrow, wide, pool, i, at, bytes))
 }
 
 // First: the slot that a handle leads to.
@@ -153,7 +147,7 @@ pub fn yexwalu_held_resolve(
         (view (in_place tag.now numbers.now log.now lengths.now narrow.now wide.now pool.now)) handle) }
 {
     let heap = held::header(tag, numbers, log, lengths);
-    heap_edit::resolve(heap, narrow, wide, pool, handle).numbers()
+    Answer::from(heap_edit::resolve(heap, narrow, wide, pool, handle))
 }
 
 // Where the visible data of slot `i` lies. First: from where in the pool on; second: how many bytes.
@@ -172,7 +166,7 @@ pub fn yexwalu_held_data(
         (view (in_place tag.now numbers.now log.now lengths.now narrow.now wide.now pool.now)) i) }
 {
     let heap = held::header(tag, numbers, log, lengths);
-    heap_edit::data(heap, narrow, wide, pool, i).numbers()
+    Answer::from(heap_edit::data(heap, narrow, wide, pool, i))
 }
 
 // First: the kind of slot `i`; second: its type.
@@ -191,7 +185,7 @@ pub fn yexwalu_held_kind(
         (view (in_place tag.now numbers.now log.now lengths.now narrow.now wide.now pool.now)) i) }
 {
     let heap = held::header(tag, numbers, log, lengths);
-    heap_edit::kind(heap, narrow, wide, pool, i).numbers()
+    Answer::from(heap_edit::kind(heap, narrow, wide, pool, i))
 }
 
 // First: the generation of slot `i`; second: its write count.
@@ -210,7 +204,7 @@ pub fn yexwalu_held_stamp(
         (view (in_place tag.now numbers.now log.now lengths.now narrow.now wide.now pool.now)) i) }
 {
     let heap = held::header(tag, numbers, log, lengths);
-    heap_edit::stamp(heap, narrow, wide, pool, i).numbers()
+    Answer::from(heap_edit::stamp(heap, narrow, wide, pool, i))
 }
 
 // First: the number of live slots.
@@ -228,7 +222,7 @@ pub fn yexwalu_held_live(
         (view (in_place tag.now numbers.now log.now lengths.now narrow.now wide.now pool.now)).slots)) }
 {
     let heap = held::header(tag, numbers, log, lengths);
-    heap_edit::live(heap, narrow, wide, pool).numbers()
+    Answer::from(heap_edit::live(heap, narrow, wide, pool))
 }
 
 // First: the number of slots, live and dead.
@@ -246,7 +240,7 @@ pub fn yexwalu_held_slots(
         (view (in_place tag.now numbers.now log.now lengths.now narrow.now wide.now pool.now)).slots)) }
 {
     let heap = held::header(tag, numbers, log, lengths);
-    heap_edit::slots(heap).numbers()
+    Answer::from(heap_edit::slots(heap))
 }
 
 // Is a collection due? First: 1 for yes, 0 for no.
@@ -265,7 +259,7 @@ pub fn yexwalu_held_gc_due(
         (view (in_place tag.now numbers.now log.now lengths.now narrow.now wide.now pool.now)) threshold)) }
 {
     let heap = held::header(tag, numbers, log, lengths);
-    heap_edit::gc_due(heap, threshold).numbers()
+    Answer::from(heap_edit::gc_due(heap, threshold))
 }
 
 // Should the slots in quarantine be recycled? First: 1 for yes, 0 for no.
@@ -283,7 +277,7 @@ pub fn yexwalu_held_reclaim_due(
         (view (in_place tag.now numbers.now log.now lengths.now narrow.now wide.now pool.now)))) }
 {
     let heap = held::header(tag, numbers, log, lengths);
-    heap_edit::reclaim_due(heap).numbers()
+    Answer::from(heap_edit::reclaim_due(heap))
 }
 
 // Is a slot in quarantine? First: 1 for yes, 0 for no.
@@ -301,7 +295,7 @@ pub fn yexwalu_held_has_quarantine(
         (view (in_place tag.now numbers.now log.now lengths.now narrow.now wide.now pool.now)))) }
 {
     let heap = held::header(tag, numbers, log, lengths);
-    heap_edit::has_quarantine(heap).numbers()
+    Answer::from(heap_edit::has_quarantine(heap))
 }
 
 // Is it the heap of this tag, with nothing sealed? First: 1 for yes, 0 for no.
@@ -320,5 +314,5 @@ pub fn yexwalu_held_is_plain(
         (view (in_place tag.now numbers.now log.now lengths.now narrow.now wide.now pool.now)) wanted)) }
 {
     let heap = held::header(tag, numbers, log, lengths);
-    heap_edit::is_plain(heap, wanted).numbers()
+    Answer::from(heap_edit::is_plain(heap, wanted))
 }

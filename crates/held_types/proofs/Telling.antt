@@ -8,7 +8,7 @@ use Rattle.std.specs.Prelude.{if◌then◌else◌}
 use Rattle.word.specs.Result.{Result, ok}
 use Rattle.refusal.specs.Told.{told, answered, here, nothing}
 use Rattle.refusal.specs.declared.Answer.{Answer}
-use Rattle.refusal.specs.declared.Reply.{Reply}
+use Rattle.refusal.specs.Told.{Reply}
 use Rattle.layout.specs.Offsets.{Values, written_by}
 use Rattle.trace.specs.Listing.{Lists, written_to}
 use Rattle.held_types.specs.Laid.{laid}

@@ -12,7 +12,7 @@ ghost use Rattle.trace.specs.Places.{object_handles, value_handles};
 ghost use Rattle.trace.specs.Listing.{listing, written_to};
 ghost use Rattle.held_types.specs.Laid.{laid};
 
-use refusal::{Answer, Refusal, Reply};
+use refusal::{Answer, Refusal};
 use ty::Table;
 
 // Document 01's number, 0 for success, and a layout, zeros after a refusal.
@@ -32,7 +32,7 @@ fn not_laid(why: Refusal) -> Laying
     ensures { result ≡ laid (refused (number_of why)) }
 {
     Laying {
-        number: why.number(),
+        number: u64::from(why),
         size: 0,
         align: 0,
         stride: 0,
@@ -95,9 +95,9 @@ pub fn yexwalu_held_has_handles(types: &[u64], fields: &[u32], t: u64) -> Answer
     })
     .has_handles(t)
     {
-        return Reply::Is(1, 0).numbers();
+        return Answer::from(Ok((1, 0)));
     }
-    Reply::Is(0, 0).numbers()
+    Answer::from(Ok((0, 0)))
 }
 
 // The handles of an object's visible data, which is of type t: its descriptor, then its value. They go to the lent list from its front on. First: how many.
@@ -115,12 +115,12 @@ pub fn yexwalu_held_object_handles(
     ensures written { out.new ≡ written_to out.old
         (listing (object_handles (table_of types.now fields.now consts.now bytes.now) t «data».now) (length out.old)) }
 {
-    trace::list_object(&Table {
+    Answer::from(trace::list_object(&Table {
             types,
             fields,
             consts,
             bytes,
-        }, t, data, out).numbers()
+        }, t, data, out))
 }
 
 // The handles of a value of type t that needs no descriptor. First: how many.
@@ -138,10 +138,10 @@ pub fn yexwalu_held_value_handles(
     ensures written { out.new ≡ written_to out.old
         (listing (value_handles (table_of types.now fields.now consts.now bytes.now) t «data».now) (length out.old)) }
 {
-    trace::list_value(&Table {
+    Answer::from(trace::list_value(&Table {
             types,
             fields,
             consts,
             bytes,
-        }, t, data, out).numbers()
+        }, t, data, out))
 }

@@ -14,7 +14,7 @@ use Rattle.refusal.specs.Told.{told, nothing}
 use Rattle.refusal.specs.declared.Answer.{Answer}
 use Rattle.refusal.specs.declared.Refusal.{Refusal}
 use Rattle.refusal.specs.declared.Refusal.TheVariants.{BrokenHeap, Scratch}
-use Rattle.refusal.specs.declared.Reply.TheVariants.{Is, Not as Refused}
+use Rattle.std.specs.Prelude.{Ok, Err}
 use Rattle.heap.specs.Packing.{flat}
 use Rattle.heap.specs.Lent.{Lent, lent, stored, view}
 use Rattle.heap.specs.WellFormed.{partitioned, retired_rightly, sound_seals, sound_reclaim, sound, fits, well_formed}
@@ -80,12 +80,12 @@ module _ (m w narrow wide pool : List ℕ) {m' w' : List ℕ} {e : Entry} (s : E
   pub new-can : e ≡ Ready → Sizes (length narrow) (length wide) (length pool)
   new-can i = sizes-tested _ _ _ (passed _ _ _ (passed _ _ _ (sym s.found ∙ i)).1).0
 
-  pub new-refused : {why : Refusal} {h : Heap} {r : Answer} → e ≡ Not why → h ≡ no_header → r ≡ told (Refused why) → outcome r (lent h narrow wide pool) m' w' ≡ new_call m w narrow wide pool tag
+  pub new-refused : {why : Refusal} {h : Heap} {r : Answer} → e ≡ Not why → h ≡ no_header → r ≡ told (Err why) → outcome r (lent h narrow wide pool) m' w' ≡ new_call m w narrow wide pool tag
   new-refused {r = r} i eh t =
       (λ j. outcome r (lent (eh j) narrow wide pool) m' w') ∙ call-refused s nothing nothing (making tag) i t
 
-  pub new-ready : {l' : Lent} {r : Answer} → e ≡ Ready → l' ≡ stored (length narrow / 6) (length pool) (new tag) → r ≡ told (Is 0 0) → outcome r l' m' w' ≡ new_call m w narrow wide pool tag
+  pub new-ready : {l' : Lent} {r : Answer} → e ≡ Ready → l' ≡ stored (length narrow / 6) (length pool) (new tag) → r ≡ told (Ok (0, 0)) → outcome r l' m' w' ≡ new_call m w narrow wide pool tag
   new-ready {l'} i lies t =
-      let d : Tells nothing nothing (lent no_header narrow wide pool) l' (Is 0 0) (making tag (view (lent no_header narrow wide pool))) =
+      let d : Tells nothing nothing (lent no_header narrow wide pool) l' (Ok (0, 0)) (making tag (view (lent no_header narrow wide pool))) =
       record { leaves = record { lies = lies; formed = ap well_formed lies ∙ made-formed (length narrow) (length wide) (length pool) tag (new-can i) }; says = refl } in
       call-ready s nothing nothing (making tag) i d t

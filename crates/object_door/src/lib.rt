@@ -2,17 +2,20 @@
 // `marks` and `work` are scratch.
 #![tactic(auto)]
 
-ghost use Rattle.std.specs.Prelude.{◌≡◌, [], ◌∷◌, ◌/◌, length};
+ghost use Rattle.std.specs.Prelude.{◌≡◌, true, [], ◌∷◌, ◌/◌, length};
 ghost use Rattle.refusal.specs.Told.{here, nothing};
-ghost use Rattle.heap.specs.Lent.{lent};
+ghost use Rattle.heap.specs.Lent.{lent, view};
+ghost use Rattle.heap.specs.WellFormed.{well_formed};
+ghost use Rattle.heap.specs.Done.{Tells};
 ghost use Rattle.heap.specs.Calls.{free as freed};
 ghost use Rattle.door.specs.HeapCalls.{Entered, outcome, heap_call};
-ghost use Rattle.object_door.specs.ObjectCalls.{is_kind, allocating, recycling, handed, take_call};
+ghost use Rattle.object_door.specs.ObjectCalls.{allocating, recycling, handed, take_call};
 ghost use Rattle.object_door.specs.Making.{no_header, new_tests, new_call};
 
 use door::{Done, Entry, enter};
-use heap::Heap;
-use refusal::{Refusal, Reply};
+use heap::{Changed, Heap};
+use heap_calls::kind::ObjectKind;
+use refusal::{Answer, Refusal};
 
 // The header that a refusal returns: zeros, which no call takes for a heap.
 fn no_heap() -> Heap
@@ -46,8 +49,8 @@ fn enter_new(narrow: &[u32], wide: &[u64], pool: &[u8], marks: &mut [u8], work: 
     if work.len() < slots {
         return Entry::Not(Refusal::Scratch);
     }
-    memory::clear_u8(marks);
-    memory::clear_u64(work);
+    marks.fill(0);
+    work.fill(0);
     if heap::sizes_fit(narrow.len(), wide.len(), pool.len()) {
         return Entry::Ready;
     }
@@ -70,29 +73,61 @@ pub fn yexwalu_new(
     match enter_new(narrow, wide, pool, marks, work) {
         Entry::Not(why) => Done {
             heap: no_heap(),
-            answer: Reply::Not(why).numbers(),
+            answer: Answer::from(Err(why)),
         },
         Entry::Ready => {
             let after = heap_edit::new(tag, narrow, wide, pool);
             Done {
                 heap: after,
-                answer: Reply::Is(0, 0).numbers(),
+                answer: Answer::from(Ok((0, 0))),
             }
         }
     }
 }
 
-// Is `k` the kind of an object: Typed, Bytes or Handles?
-pub fn is_kind(k: u8) -> bool
-    ensures { result ≡ is_kind k }
+// Places the object `bytes[start..]` on a heap that is known to be well formed, where the number is a kind's.
+pub fn alloc_from(
+    heap: Heap,
+    narrow: &mut [u32],
+    wide: &mut [u64],
+    pool: &mut [u8],
+    kind: u64,
+    ty: u32,
+    start: usize,
+    bytes: &[u8],
+) -> Changed
+    requires { well_formed (lent heap narrow.old wide.old pool.old) ≡ true }
+    ensures { Tells here nothing (lent heap narrow.old wide.old pool.old)
+        (lent result.heap narrow.new wide.new pool.new) result.reply
+        (allocating (length narrow.old / 6) (length pool.old) kind ty start bytes.now
+        (view (lent heap narrow.old wide.old pool.old))) }
 {
-    if k < 1 {
-        return false;
+    match ObjectKind::try_from(kind) {
+        Ok(k) => heap_calls::alloc_from(heap, narrow, wide, pool, k, ty, start, bytes),
+        Err(why) => Changed {
+            heap: heap,
+            reply: Err(why),
+        },
     }
-    if 3 < k {
-        return false;
+}
+
+// Recycles on a heap that is known to be well formed, where the pins rise strictly.
+pub fn recycle(heap: Heap, narrow: &mut [u32], wide: &[u64], pool: &[u8], pins: &[u32]) -> Changed
+    requires { well_formed (lent heap narrow.old wide.now pool.now) ≡ true }
+    ensures { Tells nothing nothing (lent heap narrow.old wide.now pool.now)
+        (lent result.heap narrow.new wide.now pool.now) result.reply
+        (recycling pins.now (view (lent heap narrow.old wide.now pool.now))) }
+{
+    if heap_calls::recycle::rise(pins) {
+        return Changed {
+            heap: heap_calls::recycle::recycle(heap, narrow, wide, pool, pins),
+            reply: Ok((0, 0)),
+        };
     }
-    true
+    Changed {
+        heap: heap,
+        reply: Err(Refusal::Pins),
+    }
 }
 
 // Places the object `bytes[start..]` of this kind and type; the answer is its handle.
@@ -116,21 +151,13 @@ pub fn yexwalu_alloc_from(
     match enter(heap, narrow, wide, pool, marks, work) {
         Entry::Not(why) => Done {
             heap: heap,
-            answer: Reply::Not(why).numbers(),
+            answer: Answer::from(Err(why)),
         },
         Entry::Ready => {
-            if is_kind(kind) {
-                let done = heap_calls::alloc_from(heap, narrow, wide, pool, kind, ty, start, bytes);
-                let after = done.heap;
-                let reply = done.reply;
-                return Done {
-                    heap: after,
-                    answer: reply.numbers(),
-                };
-            }
+            let done = alloc_from(heap, narrow, wide, pool, kind as u64, ty, start, bytes);
             Done {
-                heap: heap,
-                answer: Reply::Not(Refusal::Kind).numbers(),
+                heap: done.heap,
+                answer: Answer::from(done.reply),
             }
         }
     }
@@ -176,15 +203,13 @@ pub fn yexwalu_take(
     match enter(heap, narrow, wide, pool, marks, work) {
         Entry::Not(why) => Done {
             heap: heap,
-            answer: Reply::Not(why).numbers(),
+            answer: Answer::from(Err(why)),
         },
         Entry::Ready => {
             let done = heap_calls::take(heap, narrow, wide, pool, handle, out);
-            let after = done.heap;
-            let reply = done.reply;
             Done {
-                heap: after,
-                answer: reply.numbers(),
+                heap: done.heap,
+                answer: Answer::from(done.reply),
             }
         }
     }
@@ -208,15 +233,13 @@ pub fn yexwalu_free(
     match enter(heap, narrow, wide, pool, marks, work) {
         Entry::Not(why) => Done {
             heap: heap,
-            answer: Reply::Not(why).numbers(),
+            answer: Answer::from(Err(why)),
         },
         Entry::Ready => {
             let done = heap_calls::free(heap, narrow, wide, pool, handle);
-            let after = done.heap;
-            let reply = done.reply;
             Done {
-                heap: after,
-                answer: reply.numbers(),
+                heap: done.heap,
+                answer: Answer::from(done.reply),
             }
         }
     }
@@ -240,19 +263,13 @@ pub fn yexwalu_recycle(
     match enter(heap, narrow, wide, pool, marks, work) {
         Entry::Not(why) => Done {
             heap: heap,
-            answer: Reply::Not(why).numbers(),
+            answer: Answer::from(Err(why)),
         },
         Entry::Ready => {
-            if heap_calls::recycle::rise(pins) {
-                let after = heap_calls::recycle::recycle(heap, narrow, wide, pool, pins);
-                return Done {
-                    heap: after,
-                    answer: Reply::Is(0, 0).numbers(),
-                };
-            }
+            let done = recycle(heap, narrow, wide, pool, pins);
             Done {
-                heap: heap,
-                answer: Reply::Not(Refusal::Pins).numbers(),
+                heap: done.heap,
+                answer: Answer::from(done.reply),
             }
         }
     }

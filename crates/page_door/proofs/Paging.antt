@@ -11,8 +11,8 @@ use Rattle.refusal.specs.Told.{told, here, nothing}
 use Rattle.refusal.specs.declared.Answer.{Answer}
 use Rattle.refusal.specs.declared.Refusal.{Refusal}
 use Rattle.refusal.specs.declared.Refusal.TheVariants.{Scratch}
-use Rattle.refusal.specs.declared.Reply.{Reply}
-use Rattle.refusal.specs.declared.Reply.TheVariants.{Not as Refused}
+use Rattle.refusal.specs.Told.{Reply}
+use Rattle.std.specs.Prelude.{Err}
 use Rattle.heap.specs.State.{State}
 use Rattle.heap.specs.Lent.{Lent, view, slot_count}
 use Rattle.heap.specs.WellFormed.{well_formed}
@@ -27,7 +27,7 @@ use Rattle.page_reader.specs.Reading.{read_into, PageRead}
 use Rattle.page_door.specs.Page.{writing, page_out, reading}
 
 module _ (l : Lent) {marks work marks' work' : List ℕ} {e : Entry} (s : Entered (marks ∷ work ∷ []) (heap_tests marks work l) e (marks' ∷ work' ∷ [])) (planar : Bool) (out : List ℕ) where
-  pub write-refused : {why : Refusal} {r : Answer} → e ≡ Not why → r ≡ told (Refused why) → (asked r marks' work' ≡ writing marks work l planar out) × (out ≡ page_out marks work l planar out)
+  pub write-refused : {why : Refusal} {r : Answer} → e ≡ Not why → r ≡ told (Err why) → (asked r marks' work' ≡ writing marks work l planar out) × (out ≡ page_out marks work l planar out)
   write-refused i t =
       (ask-refused s here nothing l (λ h. text_answer (page_text (written planar) h) out) i t, sym (whether-not s (λ why. out) (text_out (page_text (written planar) (view l)) out) i))
 
@@ -44,7 +44,7 @@ module _ (l : Lent) (text marks work : List ℕ) {b : Bool} (v : b ≡ (leb (slo
   unfolding enough
   is-enough = v
 
-  pub few-scratch : {r : Answer} → b ≡ false → r ≡ told (Refused Scratch) → outcome r l marks work ≡ reading marks work l text
+  pub few-scratch : {r : Answer} → b ≡ false → r ≡ told (Err Scratch) → outcome r l marks work ≡ reading marks work l text
   unfolding reading
   few-scratch f t = ap (λ (a : Answer). outcome a l marks work) t ∙ rw (← is-enough, f)
 

@@ -8,7 +8,7 @@ ghost use Rattle.page_door.specs.Page.{measuring, writing, page_out, reading};
 
 use door::{Done, Entry};
 use heap::Heap;
-use refusal::{Answer, Refusal, Reply};
+use refusal::{Answer, Refusal};
 
 // How many bytes a heap's page has, with byte planes or data: 18, 1. `write_page` takes so many, no more and no fewer.
 pub fn yexwalu_page_length(
@@ -24,8 +24,8 @@ pub fn yexwalu_page_length(
         ≡ measuring marks.old work.old (lent heap narrow.now wide.now pool.now) planar }
 {
     match door::enter(heap, narrow, wide, pool, marks, work) {
-        Entry::Not(why) => Reply::Not(why).numbers(),
-        Entry::Ready => pages::measure(heap, narrow, wide, pool, planar).numbers(),
+        Entry::Not(why) => Answer::from(Err(why)),
+        Entry::Ready => Answer::from(pages::measure(heap, narrow, wide, pool, planar)),
     }
 }
 
@@ -46,8 +46,8 @@ pub fn yexwalu_write_page(
         ≡ page_out marks.old work.old (lent heap narrow.now wide.now pool.now) planar out.old }
 {
     match door::enter(heap, narrow, wide, pool, marks, work) {
-        Entry::Not(why) => Reply::Not(why).numbers(),
-        Entry::Ready => pages::write(heap, narrow, wide, pool, planar, out).numbers(),
+        Entry::Not(why) => Answer::from(Err(why)),
+        Entry::Ready => Answer::from(pages::write(heap, narrow, wide, pool, planar, out)),
     }
 }
 
@@ -81,15 +81,15 @@ pub fn yexwalu_read_page(
     if scratch_fits(narrow, marks, work) {} else {
         return Done {
             heap: heap,
-            answer: Reply::Not(Refusal::Scratch).numbers(),
+            answer: Answer::from(Err(Refusal::Scratch)),
         };
     }
-    memory::clear_u8(marks);
+    marks.fill(0);
     let done = page_reader::read(heap, narrow, wide, pool, text, work);
     let after = done.heap;
     let reply = done.reply;
     Done {
         heap: after,
-        answer: reply.numbers(),
+        answer: Answer::from(reply),
     }
 }

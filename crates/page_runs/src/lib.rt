@@ -126,7 +126,7 @@ fn shorten(buf: &mut [u8; 65536]) -> usize
         return 0;
     }
     let odd = (65536 - from) % 2;
-    memory::move_u8(buf, 65536 - odd, from + 8194, odd);
+    memory::move_within(buf, 65536 - odd, from + 8194, odd);
     from + 8194 + odd
 }
 
@@ -177,7 +177,7 @@ fn keep(buf: &mut [u8; 65536], from: usize, end: usize) -> Kept
     ensures { Keeps (take (end - from) (drop from buf.old)) buf.new result }
 {
     let n = end - from;
-    memory::move_u8(buf, from, 0, n);
+    memory::move_within(buf, from, 0, n);
     if n < 65536 {
         return Kept {
             at: At::Lines,
@@ -400,7 +400,7 @@ pub fn print_all(
         let held = run.held;
         let more = least(input.len() - used, 65536 - held);
         let next = used + more;
-        memory::copy_u8(buf, held, &input[used..next]);
+        memory::copy(buf, held, &input[used..next]);
         run = go_on(run, narrow, wide, pool, buf, held + more, room, marks, work);
         used = next;
     }

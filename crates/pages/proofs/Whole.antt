@@ -20,7 +20,7 @@ use Rattle.heap.specs.declared.Heap.{Heap}
 use Rattle.word.specs.Result.{ok}
 use Rattle.refusal.specs.Told.{told, answered, here, nothing}
 use Rattle.refusal.specs.declared.Refusal.TheVariants.{ShortList}
-use Rattle.refusal.specs.declared.Reply.TheVariants.{Is, Not}
+use Rattle.std.specs.Prelude.{Ok, Err}
 use Rattle.word.proofs.RunLaws.{run-part}
 use Rattle.pages.proofs.Writing.{slots_length, same_lines}
 
@@ -132,16 +132,16 @@ module _ (h : Heap) (narrow wide pool : List ℕ) (r : Ready (lent h narrow wide
     puts-page p1 p2 p3 p4 p5 p6 p7 p8 l =
         puts-at (puts-puts (puts-puts (puts-puts (puts-puts (puts-puts (puts-puts (puts-puts p1 p2 l) p3 l) p4 l) p5 l) p6 l) p7 l) p8 l) refl page-parts
 
-pub wrote : {a b t : List ℕ} {k : ℕ} → Puts a b 0 k t → length t ≤ length a → PageWritten a b t (Is k 0)
+pub wrote : {a b t : List ℕ} {k : ℕ} → Puts a b 0 k t → length t ≤ length a → PageWritten a b t (Ok (k, 0))
 wrote {a} {b} {t} {k} p h =
     record {
-      answer = rw (le-leb (length t) (length a) h) (ap (λ (n : ℕ). told (Is n 0)) (p.next ∙ zero-add (length t)));
+      answer = rw (le-leb (length t) (length a) h) (ap (λ (n : ℕ). told (Ok (n, 0))) (p.next ∙ zero-add (length t)));
       out = rw (le-leb (length t) (length a) h) p.out;
     }
 
-pub short : (a t : List ℕ) → length a < length t → PageWritten a a t (Not ShortList)
+pub short : (a t : List ℕ) → length a < length t → PageWritten a a t (Err ShortList)
 short a t h = record { answer = rw (lt-leb (length t) (length a) h); out = rw (lt-leb (length t) (length a) h) }
 
 -- the number alone
-pub measured : {k n : ℕ} → k ≡ n → told (Is k 0) ≡ answered here nothing (ok n)
-measured e = ap (λ (k : ℕ). told (Is k 0)) e
+pub measured : {k n : ℕ} → k ≡ n → told (Ok (k, 0)) ≡ answered here nothing (ok n)
+measured e = ap (λ (k : ℕ). told (Ok (k, 0))) e

@@ -3,7 +3,7 @@ use Rattle.std.specs.Prelude.{ℕ, List, ◌≡◌, leb, length, if◌then◌els
 use Rattle.word.specs.Result.{Result, ok, refused}
 use Rattle.text.specs.Put.{put_text}
 use Rattle.refusal.specs.Told.{told, answered, here, nothing}
-use Rattle.refusal.specs.declared.Reply.{Reply}
+use Rattle.refusal.specs.Told.{Reply}
 
 -- how many bytes the text takes, or an output too short: 7
 abbrev pub text_answer : (text out : List ℕ) → Result ℕ

@@ -15,10 +15,9 @@ use Rattle.refusal.specs.Told.{number_of, told, answered, here, nothing}
 use Rattle.refusal.specs.declared.Answer.{Answer}
 use Rattle.refusal.specs.declared.Refusal.{Refusal}
 use Rattle.refusal.specs.declared.Refusal.TheVariants.{Kind}
-use Rattle.refusal.specs.declared.Reply.{Reply}
-use Rattle.refusal.specs.declared.Reply.TheVariants.{Is, Not}
+use Rattle.refusal.specs.Told.{Reply}
+use Rattle.std.specs.Prelude.{Result as Outcome, Ok, Err, is_err}
 use Rattle.refusal.proofs.Numbers.{told-once}
-use Rattle.refusal.specs.contracts.Reply.{the_type as reply-type}
 use Rattle.heap.specs.State.{State, slot_at, live}
 use Rattle.heap.specs.Packing.{start_of}
 use Rattle.heap.specs.Lent.{Lent, lent, stored, view, slot_count, pool_size}
@@ -31,8 +30,10 @@ use Rattle.heap.specs.Done.{Leaves, Tells}
 use Rattle.heap.proofs.Sound.{Sound}
 use Rattle.heap.proofs.Storing.{view-stored}
 use Rattle.heap.proofs.Testing.{formed-tested}
+use Rattle.heap_calls.specs.Kinds.{kind_number, kind_of}
+use Rattle.heap_calls.specs.declared.kind.ObjectKind.{ObjectKind}
 use Rattle.object_door.specs.ObjectCalls.{is_kind, allocating}
-use Rattle.object_door.proofs.Objects.{kind-low, kind-high, kind-good, of-kind, no_kind}
+use Rattle.object_door.proofs.Objects.{kind-good, found-kind, missing-kind, of-kind, no_kind}
 use Rattle.script.specs.Found.{DataThere}
 use Rattle.script.specs.declared.AllocLine.{AllocLine}
 use Rattle.script.proofs.Refusing.{Numbered, alloc-numbered}
@@ -46,20 +47,20 @@ pub data-spelled : (s : List ℕ) (a : AllocLine) → DataThere s a → Spelled 
 data-spelled s a d = record { parsed = d.parsed; counted = d.counted }
 
 abbrev code : Reply → ℕ
-code (Is a b) = 0
-code (Not why) = 1
+code (Ok (a, b)) = 0
+code (Err why) = 1
 
 pub apart : {X : Type 0} (why : Refusal) → number_of why ≡ 0 → X
 apart why e =
-    let t : told (Not why) ≡ told (Is 0 0) = ap (λ (k : ℕ). record { number = k; first = 0; second = 0 }) e in
-    let z : ◌≡◌ {A = ℕ} 1 0 = ap code (told-once (Not why) (Is 0 0) t) in
+    let t : told (Err why) ≡ told (Ok (0, 0)) = ap (λ (k : ℕ). record { number = k; first = 0; second = 0 }) e in
+    let z : ◌≡◌ {A = ℕ} 1 0 = ap code (told-once (Err why) (Ok (0, 0)) t) in
     absurd (omega arith)
 
-pub is_ok : {x y : ℕ} (a : Result ℕ) → Numbered a → told (Is x y) ≡ answered here nothing a → a ≡ ok x
+pub is_ok : {x y : ℕ} (a : Result ℕ) → Numbered a → told (Ok (x, y)) ≡ answered here nothing a → a ≡ ok x
 is_ok (ok z) n e = ap ok (sym (ap (λ (r : Answer). r.first) e))
 is_ok (refused k) n e = let z : ◌≡◌ {A = ℕ} 0 k = ap (λ (r : Answer). r.number) e in absurd (omega arith)
 
-pub is-refused : (why : Refusal) (a : Result ℕ) → told (Not why) ≡ answered here nothing a → a ≡ refused (number_of why)
+pub is-refused : (why : Refusal) (a : Result ℕ) → told (Err why) ≡ answered here nothing a → a ≡ refused (number_of why)
 is-refused why (ok z) e = apart why (ap (λ (r : Answer). r.number) e)
 is-refused why (refused k) e = ap refused (sym (ap (λ (r : Answer). r.number) e))
 
@@ -88,14 +89,14 @@ module _ (l : Lent) (w : well_formed l ≡ true) (k t : ℕ) (low : 1 ≤ k) (hi
   both : ((x : ℕ) → first.answer ≡ ok x → Instead first wanted x part (hex_at s from)) × ((n : ℕ) → first.answer ≡ refused n → wanted ≡ first)
   both = alloc-instead (slot_count l) (pool_size l) (view l) (formed-tested l w).sound k t part (hex_at s from) (part-long p) low
 
-  pub spelled-refused : OneOf (1 ∷ []) (tag_of reply-type reply) → PlaceDoes l l₁ reply k t (hex_at s from)
+  pub spelled-refused : is_err reply ≡ true → PlaceDoes l l₁ reply k t (hex_at s from)
   spelled-refused o = go reply o d
     where
-      go : (r : Reply) → OneOf (1 ∷ []) (tag_of reply-type r) → Tells here nothing l l₁ r first → PlaceDoes l l₁ r k t (hex_at s from)
-      go (Is a b) q e = absurd (miss (1 ∷ []) 0 tt q)
-      go (Not why) q e = subst (λ (c : Changed ℕ). Tells here nothing l l₁ (Not why) c) (sym (both.1 (number_of why) (is-refused why first.answer e.says))) e
+      go : (r : Reply) → is_err r ≡ true → Tells here nothing l l₁ r first → PlaceDoes l l₁ r k t (hex_at s from)
+      go (Ok (a, b)) q e = cc q
+      go (Err why) q e = subst (λ (c : Changed ℕ). Tells here nothing l l₁ (Err why) c) (sym (both.1 (number_of why) (is-refused why first.answer e.says))) e
 
-  module _ (x y : ℕ) (is : reply ≡ Is x y) where
+  module _ (x y : ℕ) (is : reply ≡ Ok (x, y)) where
     placed-ok : first.answer ≡ ok x
     placed-ok = is_ok first.answer (from-numbered (slot_count l) (pool_size l) k t part (view l) low high) (sym (ap told is) ∙ d.says)
 
@@ -121,7 +122,7 @@ module _ (l : Lent) (w : well_formed l ≡ true) (k t : ℕ) (low : 1 ≤ k) (hi
     spelled-fits {i} e ea = decode-room h₁ n₁ w₁ p₁ s from count i (spelled-can e) ea
 
     pub spelled-done : {i at r : ℕ} {p₂ : List ℕ} → i ≡ index_of x → at ≡ start_of (run (length n₁ / 6) (length n₁ / 6) w₁) i → Puts p₁ p₂ at r (hex_at s from)
-        → length n₁ / 6 ≡ slot_count l → length p₁ ≡ pool_size l → PlaceDoes l (lent h₁ n₁ w₁ p₂) (Is x y) k t (hex_at s from)
+        → length n₁ / 6 ≡ slot_count l → length p₁ ≡ pool_size l → PlaceDoes l (lent h₁ n₁ w₁ p₂) reply k t (hex_at s from)
     spelled-done {i} {at} {r} {p₂} e ea put S P =
         let left : Decoded l₁ (lent h₁ n₁ w₁ p₂) (hex_at s from) i = decode-done h₁ n₁ w₁ p₁ s from count i (spelled-can e) ea put in
         record {
@@ -132,19 +133,19 @@ module _ (l : Lent) (w : well_formed l ≡ true) (k t : ℕ) (low : 1 ≤ k) (hi
           says = says-ok ∙ ap (answered here nothing) (sym instead.answer);
         }
       where
-        says-ok : told (Is x y) ≡ answered here nothing (ok x)
-        says-ok = sym (ap told is) ∙ d.says ∙ ap (answered here nothing) placed-ok
+        says-ok : told reply ≡ answered here nothing (ok x)
+        says-ok = d.says ∙ ap (answered here nothing) placed-ok
 
 -- ---- by kind
 
-module _ (l : Lent) (w : well_formed l ≡ true) (s : List ℕ) (a : AllocLine) where
-  pub place-low : a.kind < 1 → Tells here nothing l l (Not Kind) (allocating (slot_count l) (pool_size l) a.kind a.ty 0 (hex_at s a.from) (view l))
-  place-low h = no_kind l a.kind a.ty 0 (hex_at s a.from) (sym (kind-low a.kind h)) w
+module _ (l : Lent) (w : well_formed l ≡ true) (s : List ℕ) (a : AllocLine) {r : Outcome ObjectKind Refusal} (p : r ≡ kind_of a.kind) where
+  pub place-other : (why : Refusal) → r ≡ Err why → Tells here nothing l l (Err why) (allocating (slot_count l) (pool_size l) a.kind a.ty 0 (hex_at s a.from) (view l))
+  place-other why q =
+      let f = missing-kind a.kind why p q in
+      rw f.0 (no_kind l a.kind a.ty 0 (hex_at s a.from) f.1 w)
 
-  module _ (low : 1 ≤ a.kind) where
-    pub place-high : 3 < a.kind → Tells here nothing l l (Not Kind) (allocating (slot_count l) (pool_size l) a.kind a.ty 0 (hex_at s a.from) (view l))
-    place-high h = no_kind l a.kind a.ty 0 (hex_at s a.from) (sym (kind-high a.kind low h)) w
-
-    pub place-good : (l' : Lent) (reply : Reply) → a.kind ≤ 3 → PlaceDoes l l' reply a.kind a.ty (hex_at s a.from)
-        → Tells here nothing l l' reply (allocating (slot_count l) (pool_size l) a.kind a.ty 0 (hex_at s a.from) (view l))
-    place-good l' reply high d = of-kind l a.kind a.ty 0 (hex_at s a.from) l' reply (sym (kind-good a.kind low high)) d
+  pub place-good : (k : ObjectKind) → r ≡ Ok k → (l' : Lent) (reply : Reply) → PlaceDoes l l' reply (kind_number k) a.ty (hex_at s a.from)
+      → Tells here nothing l l' reply (allocating (slot_count l) (pool_size l) a.kind a.ty 0 (hex_at s a.from) (view l))
+  place-good k q l' reply d =
+      let f = found-kind a.kind k p q in
+      of-kind l a.kind a.ty 0 (hex_at s a.from) l' reply f.1 (rw f.0 at d)

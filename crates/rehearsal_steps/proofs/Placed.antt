@@ -11,7 +11,7 @@ use Rattle.word.specs.Run.{run}
 use Rattle.text.specs.Answer.{hex_at}
 use Rattle.refusal.specs.Told.{told, answered, here, nothing}
 use Rattle.refusal.specs.declared.Answer.{Answer}
-use Rattle.refusal.specs.declared.Reply.{Reply}
+use Rattle.refusal.specs.Told.{Reply}
 use Rattle.heap.specs.Packing.{flat}
 use Rattle.heap.specs.State.{State, data_of}
 use Rattle.heap.specs.Lent.{Lent, stored, view, slot_count, pool_size}

@@ -14,9 +14,8 @@ use Rattle.word.specs.Run.{run}
 use Rattle.word.proofs.RunLaws.{run-part, length_run}
 use Rattle.refusal.specs.Told.{number_of, told, answered, here, nothing}
 use Rattle.refusal.specs.declared.Answer.{Answer}
-use Rattle.refusal.specs.declared.Reply.{Reply}
-use Rattle.refusal.specs.declared.Reply.TheVariants.{Is, Not}
-use Rattle.refusal.specs.contracts.Reply.{the_type as reply-type}
+use Rattle.refusal.specs.Told.{Reply}
+use Rattle.std.specs.Prelude.{Ok, Err, is_err, IsOk}
 use Rattle.ty.specs.Types.{Table}
 use Rattle.heap.specs.State.{State, bit}
 use Rattle.heap.specs.Lent.{Lent, stored, view, slot_count, pool_size}
@@ -77,15 +76,15 @@ leaving h (some m) = ((λ n q. was-done n q), λ q. (refl, swept-live h m.marks 
 
 -- ---- what a reply says
 
-pub says-refused : (reply : Reply) → OneOf (1 ∷ []) (tag_of reply-type reply) → (a : Result Unit) → told reply ≡ answered nothing nothing a → (k : ℕ) × (a ≡ refused k)
-says-refused (Is x y) o a e = absurd (miss (1 ∷ []) 0 tt o)
-says-refused (Not why) o (ok u) e = apart why (ap (λ (r : Answer). r.number) e)
-says-refused (Not why) o (refused k) e = (k, refl)
+pub says-refused : (reply : Reply) → is_err reply ≡ true → (a : Result Unit) → told reply ≡ answered nothing nothing a → (k : ℕ) × (a ≡ refused k)
+says-refused (Ok (x, y)) o a e = cc o
+says-refused (Err why) o (ok u) e = apart why (ap (λ (r : Answer). r.number) e)
+says-refused (Err why) o (refused k) e = (k, refl)
 
-pub says-ok : (reply : Reply) → OneOf (0 ∷ []) (tag_of reply-type reply) → (a : Result Unit) → told reply ≡ answered nothing nothing a → ((k : ℕ) → a ≡ refused k → 0 < k) → a ≡ ok tt
-says-ok (Is x y) o (ok u) e f = refl
-says-ok (Is x y) o (refused k) e f = let z : ◌≡◌ {A = ℕ} 0 k = ap (λ (r : Answer). r.number) e in let w : 0 < k = f k refl in absurd (omega arith)
-says-ok (Not why) o a e f = absurd (miss (0 ∷ []) 1 tt o)
+pub says-ok : (reply : Reply) → IsOk reply → (a : Result Unit) → told reply ≡ answered nothing nothing a → ((k : ℕ) → a ≡ refused k → 0 < k) → a ≡ ok tt
+says-ok (Ok (x, y)) o (ok u) e f = refl
+says-ok (Ok (x, y)) o (refused k) e f = let z : ◌≡◌ {A = ℕ} 0 k = ap (λ (r : Answer). r.number) e in let w : 0 < k = f k refl in absurd (omega arith)
+says-ok (Err why) o a e f = cc o
 
 live-shown : (l : Lent) → l.header.live_bytes ≡ (view l).live_bytes
 unfolding view
@@ -153,7 +152,7 @@ module _ (T : Table) (l : Lent) (words : List ℕ) (g : Going) (n : ℕ) (order 
         ap (λ (b : Bool). if b then swept_run G n r (collects_heap T (handles r.held) (view l)) else r) (not-due-bit (gc_due (view l) n) (λ z. is-due (due-says reply₀ asked eq ∙ z)))
         ∙ ap (λ (x : Changed Unit). swept_run G n r (left x)) (sym (call-is e q))
 
-    pub sweep-refused : OneOf (1 ∷ []) (tag_of reply-type reply) → Goes l₁ words (ended_by g l₁.header 13) (collecting_in T l words g n)
+    pub sweep-refused : is_err reply ≡ true → Goes l₁ words (ended_by g l₁.header 13) (collecting_in T l words g n)
     sweep-refused o =
         let no : (k : ℕ) × (c.answer ≡ refused k) = says-refused reply o c.answer d.says in
         let w = (leaves-it e q).0 no.0 no.1 in
@@ -170,7 +169,7 @@ module _ (T : Table) (l : Lent) (words : List ℕ) (g : Going) (n : ℕ) (order 
               ∙ ap (swept_run (heaped T (slot_count l) (pool_size l)) n (going_on l words g)) (sym w.0) ∙ sym swept-run;
         }
 
-    pub sweep-done : OneOf (0 ∷ []) (tag_of reply-type reply) → Goes l₁ words (record { heap = l₁.header; size = l₁.header.live_bytes; held = g.held; turns = g.turns; collections = g.collections + 1; highest = g.highest; answer = g.answer }) (collecting_in T l words g n)
+    pub sweep-done : IsOk reply → Goes l₁ words (record { heap = l₁.header; size = l₁.header.live_bytes; held = g.held; turns = g.turns; collections = g.collections + 1; highest = g.highest; answer = g.answer }) (collecting_in T l words g n)
     sweep-done o =
         let yes-ok : c.answer ≡ ok tt = says-ok reply o c.answer d.says (λ k z. omega (arith, ((leaves-it e q).0 k z).1.1)) in
         let w = (leaves-it e q).1 yes-ok in

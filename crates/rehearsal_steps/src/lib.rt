@@ -10,7 +10,7 @@ ghost use Rattle.rehearsal_steps.specs.Going.{InOrder, Short, Cleared, Goes};
 ghost use Rattle.rehearsal_steps.specs.Steps.{CanHoldMore, collecting_in, allocating_in};
 
 use heap::Heap;
-use refusal::Reply;
+use refusal::Answer;
 use rehearsal_names::hold;
 use rehearsal_place::place;
 use script::AllocLine;
@@ -58,7 +58,7 @@ pub fn collect_due(
         (lent g.heap narrow.old wide.old pool.old) words.now g threshold) }
     ensures marks_unchanged { (marks.new ≡ marks.old) × (work.new ≡ work.old) }
 {
-    let due = heap_edit::gc_due(g.heap, threshold).numbers();
+    let due = Answer::from(heap_edit::gc_due(g.heap, threshold));
     if due.first == 0 {
         return g;
     }
@@ -80,8 +80,7 @@ pub fn collect_due(
         work,
     );
     let after = done.heap;
-    let reply = done.reply;
-    let Reply::Is(_, _) = reply else {
+    if done.reply.is_err() {
         return Going {
             heap: after,
             size: g.size,
@@ -90,7 +89,7 @@ pub fn collect_due(
             collections: g.collections,
             highest: g.highest,
             answer: 13,
-        };
+        }
     };
     Going {
         heap: after,
@@ -126,7 +125,7 @@ pub fn allocate(
     let done = place(g.heap, narrow, wide, pool, s, a);
     let after = done.heap;
     let reply = done.reply;
-    let told = reply.numbers();
+    let told = Answer::from(reply);
     if told.number == 0 {
         let turn = g.turns + 1;
         let n = hold(words, all, g.held, turn, told.first);

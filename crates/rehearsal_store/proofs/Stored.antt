@@ -16,9 +16,8 @@ use Rattle.word.specs.Run.{run}
 use Rattle.word.proofs.PutLaws.{length-put}
 use Rattle.refusal.specs.Told.{number_of, told, answered, here, nothing}
 use Rattle.refusal.specs.declared.Answer.{Answer}
-use Rattle.refusal.specs.declared.Reply.{Reply}
-use Rattle.refusal.specs.declared.Reply.TheVariants.{Is, Not}
-use Rattle.refusal.specs.contracts.Reply.{the_type as reply-type}
+use Rattle.refusal.specs.Told.{Reply}
+use Rattle.std.specs.Prelude.{Ok, Err, is_err, IsOk}
 use Rattle.heap.specs.State.{Slot, State, no_slot, slot_at, live}
 use Rattle.heap.specs.Lent.{Lent, lent, stored, view, slot_count, pool_size}
 use Rattle.heap.specs.WellFormed.{well_formed}
@@ -62,13 +61,13 @@ Wrote h c =
     × (c.answer ≡ ok tt → (left c ≡ some c.heap) × (live_size c.heap.slots ≡ live_size h.slots))
 
 module _ (l : Lent) (w : well_formed l ≡ true) (whole : Whole (view l)) (x y at : ℕ) where
-  pub store-unresolved : (reply : Reply) → OneOf (1 ∷ []) (tag_of reply-type reply) → told reply ≡ answered here nothing (resolve (view l) y) → StoresInto l l false x y at
+  pub store-unresolved : (reply : Reply) → is_err reply ≡ true → told reply ≡ answered here nothing (resolve (view l) y) → StoresInto l l false x y at
   unfolding stores_heap
-  store-unresolved (Is a b) o e = absurd (miss (1 ∷ []) 0 tt o)
-  store-unresolved (Not why) o e =
+  store-unresolved (Ok (a, b)) o e = cc o
+  store-unresolved (Err why) o e =
       (ap (λ (r : Result ℕ). left (on_slot (view l) r (λ i. write (view l) i at (bytes_of 8 x)))) (is-refused why (resolve (view l) y) e), refl)
 
-  module _ {i j : ℕ} {reply : Reply} (f : reply ≡ Is i j) (e : told reply ≡ answered here nothing (resolve (view l) y)) where
+  module _ {i j : ℕ} {reply : Reply} (f : reply ≡ Ok (i, j)) (e : told reply ≡ answered here nothing (resolve (view l) y)) where
     resolved : resolve (view l) y ≡ ok i
     resolved = is_ok (resolve (view l) y) (resolve-numbered (view l) y) (sym (ap told f) ∙ e)
 
@@ -93,13 +92,13 @@ module _ (l : Lent) (w : well_formed l ≡ true) (whole : Whole (view l)) (x y a
       d₁ : Tells nothing nothing l l₁ r (write (view l) i at (bytes_of 8 x))
       d₁ = subst (λ (bs : List ℕ). Tells nothing nothing l l₁ r (write (view l) i at bs)) eb d
 
-      pub store-refused : OneOf (1 ∷ []) (tag_of reply-type r) → StoresInto l l₁ false x y at
+      pub store-refused : is_err r ≡ true → StoresInto l l₁ false x y at
       store-refused o =
           let no = says-refused r o (write (view l) i at (bytes_of 8 x)).answer d₁.says in
           let v = outcome.0 no.0 no.1 in
           (stores-is ∙ v.0, d₁.leaves.lies ∙ ap (stored (slot_count l) (pool_size l)) v.1.0 ∙ sym (formed-tested l w).lies)
 
-      pub store-done : OneOf (0 ∷ []) (tag_of reply-type r) → StoresInto l l₁ true x y at
+      pub store-done : IsOk r → StoresInto l l₁ true x y at
       store-done o =
           let yes-ok : (write (view l) i at (bytes_of 8 x)).answer ≡ ok tt = says-ok r o (write (view l) i at (bytes_of 8 x)).answer d₁.says (λ k q. omega (arith, (outcome.0 k q).1.1)) in
           let v = outcome.1 yes-ok in

@@ -10,7 +10,7 @@ ghost use Rattle.rehearsal_steps.specs.Going.{InOrder, Whole, Goes};
 ghost use Rattle.rehearsal_steps.specs.Steps.{after_drop, StoresInto, Dropped, storing_in};
 
 use heap::Heap;
-use refusal::Reply;
+
 use rehearsal_lines::StoreLine;
 use rehearsal_names::{held_at, let_go};
 use rehearsal_steps::Going;
@@ -53,22 +53,17 @@ fn store_into(
     ensures { StoresInto (lent heap narrow.now wide.old pool.old)
         (lent heap narrow.now wide.new pool.new) result x y offset }
 {
-    let Reply::Is(i, _) = heap_edit::resolve(heap, narrow, wide, pool, y) else {
-        return false;
+    let i = match heap_edit::resolve(heap, narrow, wide, pool, y) {
+        Ok((i, _)) => i as usize,
+        Err(_) => {
+            return false;
+        }
     };
     let bytes = le_bytes(x);
-    let Reply::Is(_, _) = heap_edit::write(
-        heap,
-        narrow,
-        wide,
-        pool,
-        i as usize,
-        offset as usize,
-        &bytes,
-    ) else {
-        return false;
-    };
-    true
+    match heap_edit::write(heap, narrow, wide, pool, i, offset as usize, &bytes) {
+        Ok(_) => true,
+        Err(_) => false,
+    }
 }
 
 // Stores what is held under the turn `a.held` into what is held under `a.into`; false where either is not held, or the handle would lie beyond the data.

@@ -14,7 +14,7 @@ use Rattle.refusal.specs.Told.{number_of, refused_by, told, answered, here, noth
 use Rattle.refusal.specs.declared.Answer.{Answer}
 use Rattle.refusal.specs.declared.Refusal.{Refusal}
 use Rattle.refusal.specs.declared.Refusal.TheVariants.{BrokenHeap, ShortList, TypeTable, Page, Scratch}
-use Rattle.refusal.specs.declared.Reply.TheVariants.{Is, Not as Refused}
+use Rattle.std.specs.Prelude.{Ok, Err}
 use Rattle.ty.specs.Check.{table_good}
 use Rattle.heap.specs.Lent.{Lent, lent, slot_count, pool_size}
 use Rattle.heap.specs.Sizes.{sizes_fit}
@@ -162,11 +162,11 @@ module _ (g : Given) (h : Heap) (narrow wide pool out w m k : List ℕ) {w' m' k
         }
 
     module _ {l' : Lent} {out' : List ℕ} {written : ℕ} {answer : Answer} {w'' m'' k'' : List ℕ}
-        (d : Rehearses (table_in g) (lent h narrow wide pool) g.text g.thresholds out l' out' written) (t : answer ≡ told (Is written 0)) (ew : w'' ≡ zeros w) (em : m'' ≡ m') (ek : k'' ≡ k') where
+        (d : Rehearses (table_in g) (lent h narrow wide pool) g.text g.thresholds out l' out' written) (t : answer ≡ told (Ok (written, 0))) (ew : w'' ≡ zeros w) (em : m'' ≡ m') (ek : k'' ≡ k') where
       pub rehearse-done : handed (outcome_of answer l' (w'' ∷ m'' ∷ k'' ∷ [])) out' ≡ rehearse_call g (lent h narrow wide pool) (length narrow) (length wide) out w m k
       unfolding rehearse_call
       rehearse-done =
-          (λ j. handed (outcome_of ((t ∙ ap (λ (n : ℕ). told (Is n 0)) d.long) j) (d.memory j) (ew j ∷ (em ∙ zero-marks) j ∷ (ek ∙ zero-work) j ∷ [])) (d.printed j))
+          (λ j. handed (outcome_of ((t ∙ ap (λ (n : ℕ). told (Ok (n, 0))) d.long) j) (d.memory j) (ew j ∷ (em ∙ zero-marks) j ∷ (ek ∙ zero-work) j ∷ [])) (d.printed j))
           ∙ sym (whether-ready s (λ why. handed (outcome_of (refused_by (number_of why)) l (scratch_after (Not why) (w ∷ m ∷ k ∷ []))) out)
           (handed (outcome_of (answered here nothing (ok (length (figures_by g (slot_count l) (pool_size l))))) (memory_after (table_in g) (slot_count l) (pool_size l) l g.thresholds (lines_of g.text)) (map zeros (w ∷ m ∷ k ∷ []))) (put_text out 0 (figures_by g (slot_count l) (pool_size l)))) i)
 
@@ -175,7 +175,7 @@ module _ (g : Given) (h : Heap) (narrow wide pool out w m k : List ℕ) {w' m' k
           let r = can-rehearse.memory in
           d.printed ∙ ap (put_text out 0) (text-theorem (table_in g) tells right (length narrow / 6) (length pool) r.low r.high r.small g.thresholds (lines_of g.text))
 
-  module _ {why : Refusal} {answer : Answer} (i : e ≡ Not why) (t : answer ≡ told (Refused why)) where
+  module _ {why : Refusal} {answer : Answer} (i : e ≡ Not why) (t : answer ≡ told (Err why)) where
     pub rehearse-refused : handed (outcome_of answer (lent h narrow wide pool) (w' ∷ m' ∷ k' ∷ [])) out ≡ rehearse_call g (lent h narrow wide pool) (length narrow) (length wide) out w m k
     unfolding rehearse_call
     rehearse-refused =

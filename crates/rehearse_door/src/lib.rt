@@ -10,7 +10,7 @@ ghost use Rattle.rehearse_door.specs.Rehearse.{rehearse_tests, rehearse_call, Pl
 
 use door::{Done, Entry};
 use heap::Heap;
-use refusal::{Refusal, Reply};
+use refusal::{Answer, Refusal};
 use ty::Table;
 
 // Do scratch, text, lent sizes, type table and output let it begin?
@@ -46,9 +46,9 @@ fn admit(
     if work.len() < slots {
         return Entry::Not(Refusal::Scratch);
     }
-    memory::clear_u64(words);
-    memory::clear_u8(marks);
-    memory::clear_u64(work);
+    words.fill(0);
+    marks.fill(0);
+    work.fill(0);
     if rehearsal_lines::all_lines(text) {} else {
         return Entry::Not(Refusal::Page);
     }
@@ -98,19 +98,19 @@ pub fn yexwalu_rehearse(
     ) {
         Entry::Not(why) => Done {
             heap: heap,
-            answer: Reply::Not(why).numbers(),
+            answer: Answer::from(Err(why)),
         },
         Entry::Ready => {
             let done = rehearsal_runs::rehearse_all(
                 types, fields, consts, bytes, heap, narrow, wide, pool, text, thresholds, out,
                 words, marks, work,
             );
-            memory::clear_u64(words);
+            words.fill(0);
             let after = done.heap;
             let written = done.written as u64;
             Done {
                 heap: after,
-                answer: Reply::Is(written, 0).numbers(),
+                answer: Answer::from(Ok((written, 0))),
             }
         }
     }

@@ -194,11 +194,11 @@ pub fn live_refs(
     ensures { LiveRefsCall (lent code.entry) (wanted which) pcs.old bounds.old regs.old s.old pcs.new bounds.new regs.new s.new (told result) }
 {
     if !rows_fit(&code, s.len()) {
-        return Reply::Not(Refusal::Scratch);
+        return Err(Refusal::Scratch);
     }
     if !check_function(&code) {
-        memory::clear_u64(s);
-        return Reply::Not(Refusal::Function);
+        s.fill(0);
+        return Err(Refusal::Function);
     }
     let plan = Plan::new(code, which);
     let mut by_end = BlockChains {
@@ -210,10 +210,10 @@ pub fn live_refs(
     let counts = count_map(s, &plan, &by_end);
     let Counts { points, registers } = counts;
     if short(points, registers, pcs.len(), bounds.len(), regs.len()) {
-        memory::clear_u64(s);
-        return Reply::Not(Refusal::ShortList);
+        s.fill(0);
+        return Err(Refusal::ShortList);
     }
     write_map(s, &plan, &by_end, pcs, bounds, regs, counts);
-    memory::clear_u64(s);
-    Reply::Is(points as u64, registers as u64)
+    s.fill(0);
+    Ok((points as u64, registers as u64))
 }

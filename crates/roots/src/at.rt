@@ -64,10 +64,10 @@ fn list_at(s: &mut [u64], at: usize, words: usize, regs: &mut [u32]) -> Reply
 {
     let past = at + words;
     let answer = rows::list(&s[at..past], regs);
-    memory::clear_u64(s);
+    s.fill(0);
     match answer {
-        Some(n) => Reply::Is(n as u64, 0),
-        None => Reply::Not(Refusal::ShortList),
+        Some(n) => Ok((n as u64, 0)),
+        None => Err(Refusal::ShortList),
     }
 }
 
@@ -76,16 +76,16 @@ pub fn live_at(code: Code, which: Tracked, pc: usize, regs: &mut [u32], rows: &m
     ensures { LiveAtCall (lent code.entry) (wanted which) pc regs.old rows.old regs.new rows.new (told result) }
 {
     if !rows_fit(&code, rows.len()) {
-        return Reply::Not(Refusal::Scratch);
+        return Err(Refusal::Scratch);
     }
     if !check_function(&code) {
-        memory::clear_u64(rows);
-        return Reply::Not(Refusal::Function);
+        rows.fill(0);
+        return Err(Refusal::Function);
     }
     let plan = Plan::new(code, which);
     let Some(b) = safepoint_block(&plan, pc) else {
-        memory::clear_u64(rows);
-        return Reply::Not(Refusal::NoMap);
+        rows.fill(0);
+        return Err(Refusal::NoMap);
     };
     live_row(rows, &plan, b, pc);
     list_at(rows, plan.nb * (3 * plan.words), plan.words, regs)

@@ -23,7 +23,7 @@ fn clear_row(s: &mut [u64], at: usize, words: usize)
     ensures { Outside s.old s.new at words × ((q : ℕ) → q < 64 * words → cell s.new at q ≡ false) }
 {
     let past = at + words;
-    memory::clear_u64(&mut s[at..past]);
+    s[at..past].fill(0);
 }
 
 // The row at `at`, lent on to be written, goes back over the instructions from..to.
@@ -217,7 +217,7 @@ pub fn analyse(s: &mut [u64], plan: &Plan)
     requires nb_value { Room plan.now s.old }
     ensures { (length s.new ≡ length s.old) × Fixed (all_seen plan.now) plan.now.code.blocks.now s.new plan.now.words plan.now.nb }
 {
-    memory::clear_u64(s);
+    s.fill(0);
     if plan.words == 0 {
         return;
     }

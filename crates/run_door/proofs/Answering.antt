@@ -9,10 +9,9 @@ use Rattle.word.specs.Result.{Result, ok, refused}
 use Rattle.refusal.specs.Told.{number_of, told, answered, nothing}
 use Rattle.refusal.specs.declared.Answer.{Answer}
 use Rattle.refusal.specs.declared.Refusal.{Refusal}
-use Rattle.refusal.specs.declared.Reply.{Reply}
-use Rattle.refusal.specs.declared.Reply.TheVariants.{Is, Not}
+use Rattle.refusal.specs.Told.{Reply}
+use Rattle.std.specs.Prelude.{true, Ok, Err, is_err, IsOk}
 use Rattle.refusal.proofs.Numbers.{told-once}
-use Rattle.refusal.specs.contracts.Reply.{the_type as reply-type}
 use Rattle.heap.specs.Lent.{Lent}
 use Rattle.heap.specs.Calls.{Changed}
 use Rattle.heap.specs.Done.{Does, Tells}
@@ -21,31 +20,31 @@ use Rattle.script.proofs.Refusing.{Numbered}
 use Rattle.run_door.specs.Inner.Steps.{end_of}
 
 abbrev code : Reply → ℕ
-code (Is a b) = 0
-code (Not why) = 1
+code (Ok (a, b)) = 0
+code (Err why) = 1
 
 abbrev number_in : Answer → ℕ
 number_in a = a.number
 
 -- a refusal does not tell what a success tells
-apart : {X : Type 0} (why : Refusal) → told (Not why) ≡ told (Is 0 0) → X
-apart why e = let z : ◌≡◌ {A = ℕ} 1 0 = ap code (told-once (Not why) (Is 0 0) e) in absurd (omega arith)
+apart : {X : Type 0} (why : Refusal) → told (Err why) ≡ told (Ok (0, 0)) → X
+apart why e = let z : ◌≡◌ {A = ℕ} 1 0 = ap code (told-once (Err why) (Ok (0, 0)) e) in absurd (omega arith)
 
 pub ends_as : {A : Type 0} (f g : A → ℕ) (r : Reply) (x : Result A) → Numbered x → told r ≡ answered f g x → end_of r ≡ silent x
-ends_as f g (Is a b) (ok y) n e = refl
-ends_as f g (Is a b) (refused k) n e = let z : ◌≡◌ {A = ℕ} 0 k = ap number_in e in absurd (omega arith)
-ends_as f g (Not why) (ok y) n e = let z : number_of why ≡ 0 = ap number_in e in apart why (ap (λ (k : ℕ). record { number = k; first = 0; second = 0 }) z)
-ends_as f g (Not why) (refused k) n e = ap refused (ap number_in e)
+ends_as f g (Ok (a, b)) (ok y) n e = refl
+ends_as f g (Ok (a, b)) (refused k) n e = let z : ◌≡◌ {A = ℕ} 0 k = ap number_in e in absurd (omega arith)
+ends_as f g (Err why) (ok y) n e = let z : number_of why ≡ 0 = ap number_in e in apart why (ap (λ (k : ℕ). record { number = k; first = 0; second = 0 }) z)
+ends_as f g (Err why) (refused k) n e = ap refused (ap number_in e)
 
 pub silent-unit : (x : Result Unit) → silent x ≡ x
 silent-unit (ok a) = refl
 silent-unit (refused n) = refl
 
-pub is-done : (r : Reply) → OneOf (0 ∷ []) (tag_of reply-type r) → end_of r ≡ ok tt
-is-done (Is a b) o = refl
-is-done (Not why) o = absurd (miss (0 ∷ []) 1 tt o)
+pub is-done : (r : Reply) → IsOk r → end_of r ≡ ok tt
+is-done (Ok (a, b)) o = refl
+is-done (Err why) o = cc o
 
 -- a refusal has no values
-pub tells-why : {l l' : Lent} {call : Changed Unit} (r : Reply) → OneOf (1 ∷ []) (tag_of reply-type r) → Does l l' (end_of r) call → Tells nothing nothing l l' r call
-tells-why (Is a b) o d = absurd (miss (1 ∷ []) 0 tt o)
-tells-why (Not why) o d = record { leaves = d.leaves; says = ap (answered nothing nothing) d.says }
+pub tells-why : {l l' : Lent} {call : Changed Unit} (r : Reply) → is_err r ≡ true → Does l l' (end_of r) call → Tells nothing nothing l l' r call
+tells-why (Ok (a, b)) o d = cc o
+tells-why (Err why) o d = record { leaves = d.leaves; says = ap (answered nothing nothing) d.says }

@@ -9,9 +9,8 @@ use types.Run.{OneOf, miss}
 use lib.ListN.{length, drop, drop_of_length-le}
 use Rattle.word.specs.Result.{Result, ok}
 use Rattle.refusal.specs.Told.{nothing}
-use Rattle.refusal.specs.declared.Reply.{Reply}
-use Rattle.refusal.specs.declared.Reply.TheVariants.{Is, Not}
-use Rattle.refusal.specs.contracts.Reply.{the_type as reply-type}
+use Rattle.refusal.specs.Told.{Reply}
+use Rattle.std.specs.Prelude.{Ok, Err, is_err, IsOk}
 use Rattle.heap.specs.State.{State}
 use Rattle.heap.specs.Lent.{Lent, view, stored, slot_count, pool_size}
 use Rattle.heap.specs.WellFormed.{well_formed}
@@ -53,9 +52,9 @@ abbrev with : Result Unit → State → Changed Unit
 with a h = record { answer = a; heap = h }
 
 -- a refusal ends it
-ended : (r : Reply) (h : State) (f : State → Changed Unit) → OneOf (1 ∷ []) (tag_of reply-type r) → and_then (with (end_of r) h) f ≡ with (end_of r) h
-ended (Is a b) h f o = absurd (miss (1 ∷ []) 0 tt o)
-ended (Not why) h f o = refl
+ended : (r : Reply) (h : State) (f : State → Changed Unit) → is_err r ≡ true → and_then (with (end_of r) h) f ≡ with (end_of r) h
+ended (Ok (a, b)) h f o = cc o
+ended (Err why) h f o = refl
 
 -- a heap that lies in memory of the same size
 left_there : (l₀ l : Lent) (a : Result Unit) (call : Changed Unit) → well_formed l ≡ true → slot_count l ≡ slot_count l₀ → pool_size l ≡ pool_size l₀ → with a (view l) ≡ call → Does l₀ l a call
@@ -69,7 +68,7 @@ module _ (l₀ l : Lent) (room s : List ℕ) (at : ℕ) (now : Running l₀ l ro
   pub run-can : CanRun l room
   run-can = record { formed = now.formed; room = now.room }
 
-  pub run_end : length s ≤ at → Tells nothing nothing l₀ l (Is 0 0) (run_script (slot_count l₀) (pool_size l₀) s (view l₀))
+  pub run_end : length s ≤ at → Tells nothing nothing l₀ l (Ok (0, 0)) (run_script (slot_count l₀) (pool_size l₀) s (view l₀))
   run_end h =
       tells_is nothing nothing {a = tt}
       (left_there l₀ l (ok tt) (run_script (slot_count l₀) (pool_size l₀) s (view l₀)) now.formed now.slots now.pool
@@ -83,7 +82,7 @@ module _ (l₀ l : Lent) (room s : List ℕ) (at : ℕ) (now : Running l₀ l ro
         (subst (λ (S : ℕ). run_script S (pool_size l) (drop at s) (view l) ≡ and_then (with (end_of reply) (view l')) (run_script S (pool_size l) (drop next s))) now.slots went.runs)
 
     module _ (S : slot_count l' ≡ slot_count l) (P : pool_size l' ≡ pool_size l) where
-      pub run-turn : (room' : List ℕ) → OneOf (0 ∷ []) (tag_of reply-type reply) → length room' ≡ length room → Running l₀ l' room' s next
+      pub run-turn : (room' : List ℕ) → IsOk reply → length room' ≡ length room → Running l₀ l' room' s next
       run-turn room' o z =
           record {
             formed = went.formed;
@@ -94,7 +93,7 @@ module _ (l₀ l : Lent) (room s : List ℕ) (at : ℕ) (now : Running l₀ l ro
             left = sym (ap (λ (a : Result Unit). and_then (with a (view l')) (run_script (slot_count l₀) (pool_size l₀) (drop next s))) (is-done reply o)) ∙ sym went_on ∙ now.left;
           }
 
-      pub run-stop : OneOf (1 ∷ []) (tag_of reply-type reply) → Tells nothing nothing l₀ l' reply (run_script (slot_count l₀) (pool_size l₀) s (view l₀))
+      pub run-stop : is_err reply ≡ true → Tells nothing nothing l₀ l' reply (run_script (slot_count l₀) (pool_size l₀) s (view l₀))
       run-stop o =
           tells-why reply o
           (left_there l₀ l' (end_of reply) (run_script (slot_count l₀) (pool_size l₀) s (view l₀)) went.formed (S ∙ now.slots) (P ∙ now.pool)

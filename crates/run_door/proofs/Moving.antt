@@ -10,8 +10,8 @@ use Rattle.word.proofs.ListLaws.{drop-cons-one}
 use Rattle.text.specs.Text.{give}
 use Rattle.refusal.specs.Told.{nothing}
 use Rattle.refusal.specs.declared.Refusal.TheVariants.{Page}
-use Rattle.refusal.specs.declared.Reply.{Reply}
-use Rattle.refusal.specs.declared.Reply.TheVariants.{Is, Not}
+use Rattle.refusal.specs.Told.{Reply}
+use Rattle.std.specs.Prelude.{Ok, Err}
 use Rattle.heap.specs.Lent.{Lent, view, slot_count, pool_size}
 use Rattle.heap.specs.Calls.{Changed, refuse, free, recycle, seal as sealed}
 use Rattle.heap.specs.WellFormed.{well_formed}
@@ -51,7 +51,7 @@ module _ (l : Lent) (s : List ℕ) (r : Line) where
   of-line : (line : Line) {l' : Lent} {reply : Reply} → r ≡ line → LineEnds l l' reply (call_in s line) → LineEnds l l' reply (call_in s r)
   of-line line {l'} {reply} e d = subst (λ (x : Line). LineEnds l l' reply (call_in s x)) (sym e) d
 
-  pub does-bad : (room : List ℕ) → CanRun l room → r ≡ Bad → LineEnds l l (Not Page) (call_in s r)
+  pub does-bad : (room : List ℕ) → CanRun l room → r ≡ Bad → LineEnds l l (Err Page) (call_in s r)
   does-bad room can e = of-line Bad e (record { leaves = record { lies = (formed-tested l can.formed).lies; formed = can.formed }; says = refl })
 
   pub does-alloc : (l' : Lent) (a : AllocLine) (reply : Reply) → r ≡ Alloc a → LineEnds l l' reply (some (call_at s a)) → LineEnds l l' reply (call_in s r)
@@ -66,11 +66,11 @@ module _ (l : Lent) (s : List ℕ) (r : Line) where
         says = ends_as nothing nothing reply (free (view l) x).answer (free-numbered (view l) x) d.says ∙ silent-unit (free (view l) x).answer;
       })
 
-  pub does-seal : (l' : Lent) (next : ℕ) → r ≡ Seal next → Leaves l l' (sealed (view l)) → LineEnds l l' (Is 0 0) (call_in s r)
+  pub does-seal : (l' : Lent) (next : ℕ) → r ≡ Seal next → Leaves l l' (sealed (view l)) → LineEnds l l' (Ok (0, 0)) (call_in s r)
   unfolding doing
   does-seal l' next e d = of-line (Seal next) e (record { leaves = d; says = refl })
 
-  pub does-recycle : (l' : Lent) (next : ℕ) (pins : List ℕ) → r ≡ Recycle next → pins ≡ [] → Leaves l l' (recycle (view l) pins) → LineEnds l l' (Is 0 0) (call_in s r)
+  pub does-recycle : (l' : Lent) (next : ℕ) (pins : List ℕ) → r ≡ Recycle next → pins ≡ [] → Leaves l l' (recycle (view l) pins) → LineEnds l l' (Ok (0, 0)) (call_in s r)
   unfolding doing recycling rising_from
   does-recycle l' next pins e g d =
       let f : Leaves l l' (recycle (view l) []) = subst (λ (p : List ℕ). Leaves l l' (recycle (view l) p)) g d in

@@ -15,7 +15,8 @@ ghost use Rattle.run_door.specs.Inner.Steps.{LineEnds, CanRun};
 
 use door::{Done, Entry, enter};
 use heap::{Changed, Heap};
-use refusal::{Refusal, Reply};
+use heap_calls::kind::ObjectKind;
+use refusal::{Answer, Refusal};
 use script::{AllocLine, Line, begins_call, next_after, read_line};
 
 // The call of an `alloc` line: 8, then 6, then 5. Data longer than the pool is not decoded, so that the room is enough.
@@ -34,29 +35,25 @@ fn do_alloc(
         (lent heap narrow.old wide.old pool.old)
         (lent result.heap narrow.new wide.new pool.new) result.reply (some (call_at s.now a)) }
 {
-    let k = a.kind;
+    let kind = match ObjectKind::try_from(a.kind) {
+        Ok(kind) => kind,
+        Err(why) => {
+            return Changed {
+                heap: heap,
+                reply: Err(why),
+            };
+        }
+    };
     let count = a.count;
-    if k < 1 {
-        return Changed {
-            heap: heap,
-            reply: Reply::Not(Refusal::Kind),
-        };
-    }
-    if 3 < k {
-        return Changed {
-            heap: heap,
-            reply: Reply::Not(Refusal::Kind),
-        };
-    }
     if pool.len() < count {
         return Changed {
             heap: heap,
-            reply: Reply::Not(Refusal::NoRoom),
+            reply: Err(Refusal::NoRoom),
         };
     }
     text::copy_hex(s, a.from, count, room, 0);
     let ty = a.ty as u32;
-    heap_calls::alloc_from(heap, narrow, wide, pool, k as u8, ty, 0, &room[..count])
+    heap_calls::alloc_from(heap, narrow, wide, pool, kind, ty, 0, &room[..count])
 }
 
 // The call of a line that was read. A bad line is 17.
@@ -78,7 +75,7 @@ fn do_line(
     match line {
         Line::Bad => Changed {
             heap: heap,
-            reply: Reply::Not(Refusal::Page),
+            reply: Err(Refusal::Page),
         },
         Line::Alloc(a) => do_alloc(heap, narrow, wide, pool, s, a, room),
         Line::Take(x, _) => heap_calls::free(heap, narrow, wide, pool, x),
@@ -86,7 +83,7 @@ fn do_line(
             let after = heap_edit::seal(heap, narrow, wide, pool);
             Changed {
                 heap: after,
-                reply: Reply::Is(0, 0),
+                reply: Ok((0, 0)),
             }
         }
         Line::Recycle(_) => {
@@ -94,7 +91,7 @@ fn do_line(
             let after = heap_calls::recycle::recycle(heap, narrow, wide, pool, &pins);
             Changed {
                 heap: after,
-                reply: Reply::Is(0, 0),
+                reply: Ok((0, 0)),
             }
         }
     }
@@ -121,19 +118,15 @@ fn run_lines(
     while at < s.len() {
         let line = read_line(s, at);
         let done = do_line(h, narrow, wide, pool, s, line, room);
+        if done.reply.is_err() {
+            return done;
+        }
         h = done.heap;
         at = next_after(line, s.len());
-        let reply = done.reply;
-        let Reply::Is(_, _) = reply else {
-            return Changed {
-                heap: h,
-                reply: reply,
-            };
-        };
     }
     Changed {
         heap: h,
-        reply: Reply::Is(0, 0),
+        reply: Ok((0, 0)),
     }
 }
 
@@ -163,12 +156,12 @@ fn admit(
     if work.len() < slots {
         return Entry::Not(Refusal::Scratch);
     }
-    memory::clear_u8(room);
+    room.fill(0);
     if begins_call(script) {
         return enter(heap, narrow, wide, pool, marks, work);
     }
-    memory::clear_u8(marks);
-    memory::clear_u64(work);
+    marks.fill(0);
+    work.fill(0);
     Entry::Not(Refusal::Page)
 }
 
@@ -194,16 +187,16 @@ pub fn yexwalu_run(
     match admit(heap, narrow, wide, pool, script, room, marks, work) {
         Entry::Not(why) => Done {
             heap: heap,
-            answer: Reply::Not(why).numbers(),
+            answer: Answer::from(Err(why)),
         },
         Entry::Ready => {
             let done = run_lines(heap, narrow, wide, pool, script, room);
-            memory::clear_u8(room);
+            room.fill(0);
             let after = done.heap;
             let reply = done.reply;
             Done {
                 heap: after,
-                answer: reply.numbers(),
+                answer: Answer::from(reply),
             }
         }
     }

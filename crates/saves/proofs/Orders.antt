@@ -9,7 +9,7 @@ use Rattle.std.specs.declared.cmp.Ordering.{Ordering}
 use Rattle.std.specs.declared.cmp.Ordering.TheVariants.{Less, Equal, Greater}
 use Rattle.std.specs.Ordering.{ordering_reverse}
 use Rattle.refusal.specs.Told.{told}
-use Rattle.refusal.specs.declared.Reply.TheVariants.{Is}
+use Rattle.std.specs.Prelude.{Ok}
 use Rattle.ty.specs.Check.{table_good}
 use Rattle.heap.specs.Lent.{view}
 use Rattle.heap.specs.WellFormed.{well_formed}
@@ -53,11 +53,11 @@ order-swapped w s t = heap-turned (model_in w s) (model_in w t) s.roots t.roots 
 
 module _ (w : Words) (s t : Save) where
   -- x of the one is told where y of the other is, y being x turned round
-  turn-told : (x y : ℕ) → ((o : Ordering) → order_number o ≡ x → order_number (ordering_reverse o) ≡ y) → (order_call w s t).answer ≡ told (Is x 0) → (order_call w t s).answer ≡ told (Is y 0)
+  turn-told : (x y : ℕ) → ((o : Ordering) → order_number o ≡ x → order_number (ordering_reverse o) ≡ y) → (order_call w s t).answer ≡ told (Ok (x, 0)) → (order_call w t s).answer ≡ told (Ok (y, 0))
   turn-told x y f q =
       let c = told-compared w s t order_number (order_call w s t).answer (order_call w s t).scratch refl x q in
       compared-told w t s order_number (order_call w t s).answer (order_call w t s).scratch refl (compared-swapped w s t c.0)
-      ∙ ap (λ (n : ℕ). told (Is n 0)) (ap order_number (order-swapped w s t) ∙ f (order_in w s t) c.1)
+      ∙ ap (λ (n : ℕ). told (Ok (n, 0))) (ap order_number (order-swapped w s t) ∙ f (order_in w s t) c.1)
 
 less-greater : (o : Ordering) → order_number o ≡ 0 → order_number (ordering_reverse o) ≡ 2
 less-greater Less e = refl
@@ -97,5 +97,5 @@ order-transitive w s t u x y h l a b =
     let c = told-compared w s t order_number (order_call w s t).answer (order_call w s t).scratch refl x a in
     let d = told-compared w t u order_number (order_call w t u).answer (order_call w t u).scratch refl y b in
     compared-told w s u order_number (order_call w s u).answer (order_call w s u).scratch refl (compared-over w s t u c.0 d.0)
-    ∙ ap (λ (n : ℕ). told (Is n 0))
+    ∙ ap (λ (n : ℕ). told (Ok (n, 0)))
     (lists-over (encoding (model_in w s) s.roots (length (view s.heap).slots)) (encoding (model_in w t) t.roots (length (view t.heap).slots)) (encoding (model_in w u) u.roots (length (view u.heap).slots)) x y h l c.1 d.1)

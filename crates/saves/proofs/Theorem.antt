@@ -13,7 +13,7 @@ use Rattle.refusal.specs.Told.{number_of, told, answered, nothing}
 use Rattle.refusal.specs.declared.Answer.{Answer}
 use Rattle.refusal.specs.declared.Refusal.{Refusal}
 use Rattle.refusal.specs.declared.Refusal.TheVariants.{BrokenHeap, TypeTable, Scratch, Untraceable as CannotTrace}
-use Rattle.refusal.specs.declared.Reply.TheVariants.{Is, Not as Refused}
+use Rattle.std.specs.Prelude.{Ok, Err}
 use Rattle.ty.specs.Check.{table_good}
 use Rattle.heap.specs.State.{State}
 use Rattle.heap.specs.Lent.{view}
@@ -83,9 +83,9 @@ module _ (w : Words) (s t : Save) where
 
   module _ (numbered : Ordering → ℕ) (a : Answer) (scratch : List (List ℕ)) (e : asked_of a scratch ≡ comparing numbered w s t) where
     pub by_call : {X : Type 0}
-        → ((why : Refusal) → admitted (save_tests w s t) ≡ Not why → a ≡ told (Refused why) → X)
-        → (Admitted w s t → Untraceable (model_in w s) s.roots ⊎ Untraceable (model_in w t) t.roots → a ≡ told (Refused CannotTrace) → X)
-        → (Compared w s t → a ≡ told (Is (numbered order_in) 0) → X)
+        → ((why : Refusal) → admitted (save_tests w s t) ≡ Not why → a ≡ told (Err why) → X)
+        → (Admitted w s t → Untraceable (model_in w s) s.roots ⊎ Untraceable (model_in w t) t.roots → a ≡ told (Err CannotTrace) → X)
+        → (Compared w s t → a ≡ told (Ok ((numbered order_in), 0)) → X)
         → X
     by_call {X} turned stop done = go (admitted (save_tests w s t)) refl
       where
@@ -103,7 +103,7 @@ module _ (w : Words) (s t : Save) where
             (λ c d q. done (record { admits = i; first = c; second = d }) (told_is i (ok order_in) q))
 
     -- both traced: the number is that of the order
-    pub compared-told : Compared w s t → a ≡ told (Is (numbered order_in) 0)
+    pub compared-told : Compared w s t → a ≡ told (Ok ((numbered order_in), 0))
     compared-told c =
         by_call
         (λ why i r. apart (sym i ∙ c.admits))
@@ -111,7 +111,7 @@ module _ (w : Words) (s t : Save) where
         (λ d r. r)
 
     -- a number was told: both are traced
-    pub told-compared : (x : ℕ) → a ≡ told (Is x 0) → Compared w s t × (numbered order_in ≡ x)
+    pub told-compared : (x : ℕ) → a ≡ told (Ok (x, 0)) → Compared w s t × (numbered order_in ≡ x)
     told-compared x q =
         by_call
         (λ why i r. absurd ((early w s t why i).0 (sym (number r) ∙ number q)))
@@ -131,10 +131,10 @@ module _ (w : Words) (s t : Save) where
     )
 
     -- the number 1 exactly for equal, whichever of the two numberings
-    pub yes-told : ((o : Ordering) → numbered o ≡ 1 → o ≡ Equal) → numbered Equal ≡ 1 → (a ≡ told (Is 1 0)) ↔ (Compared w s t × Yes w s t)
+    pub yes-told : ((o : Ordering) → numbered o ≡ 1 → o ≡ Equal) → numbered Equal ≡ 1 → (a ≡ told (Ok (1, 0))) ↔ (Compared w s t × Yes w s t)
     yes-told f g = (
       λ q. let r = told-compared 1 q in (r.0, equal-yes r.0 (f order_in r.1)),
-      λ q. compared-told q.0 ∙ ap (λ (n : ℕ). told (Is n 0)) (ap numbered (yes-equal q.0 q.1) ∙ g),
+      λ q. compared-told q.0 ∙ ap (λ (n : ℕ). told (Ok (n, 0))) (ap numbered (yes-equal q.0 q.1) ∙ g),
     )
 
 -- ---- THE THEOREMS
@@ -161,7 +161,7 @@ rightly-same w s t a scratch e =
       yes = yes-told w s t same_number a scratch e same-one refl;
       no = (
         λ q. let r = told-compared w s t same_number a scratch e 0 q in (r.0, λ y. let z : ◌≡◌ {A = ℕ} 1 0 = sym (ap same_number (yes-equal w s t r.0 y)) ∙ r.1 in omega arith),
-        λ q. compared-told w s t same_number a scratch e q.0 ∙ ap (λ (n : ℕ). told (Is n 0)) (same_none (order_in w s t) (λ d. q.1 (equal-yes w s t q.0 d))),
+        λ q. compared-told w s t same_number a scratch e q.0 ∙ ap (λ (n : ℕ). told (Ok (n, 0))) (same_none (order_in w s t) (λ d. q.1 (equal-yes w s t q.0 d))),
       );
     }
 
@@ -173,7 +173,7 @@ rightly-ordered w s t a scratch e =
       total = λ c. each (order_in w s t) (compared-told w s t order_number a scratch e c);
     }
   where
-    each : (o : Ordering) → a ≡ told (Is (order_number o) 0) → (a ≡ told (Is 0 0)) ⊎ ((a ≡ told (Is 1 0)) ⊎ (a ≡ told (Is 2 0)))
+    each : (o : Ordering) → a ≡ told (Ok ((order_number o), 0)) → (a ≡ told (Ok (0, 0))) ⊎ ((a ≡ told (Ok (1, 0))) ⊎ (a ≡ told (Ok (2, 0))))
     each Less q = inl q
     each Equal q = inr (inl q)
     each Greater q = inr (inr q)

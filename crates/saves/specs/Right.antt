@@ -3,7 +3,7 @@ use Rattle.std.specs.Prelude.{ℕ, ◌≤◌, min, ◌≡◌, ◌⊎◌, ◌↔�
 use Rattle.refusal.specs.Told.{told}
 use Rattle.refusal.specs.declared.Answer.{Answer}
 use Rattle.refusal.specs.declared.Refusal.TheVariants.{Untraceable as CannotTrace}
-use Rattle.refusal.specs.declared.Reply.TheVariants.{Is, Not as Refused}
+use Rattle.std.specs.Prelude.{Ok, Err}
 use Rattle.heap.specs.Lent.{view}
 use Rattle.door.specs.HeapCalls.{admitted}
 use Rattle.door.specs.declared.Entry.TheVariants.{Ready}
@@ -28,7 +28,7 @@ module _ (w : Words) (s t : Save) where
 
   -- 13 exactly if no test fails and something reached from the roots in either heap can't be traced
   abbrev pub Stops : Answer → Type 0
-  Stops a = (a ≡ told (Refused CannotTrace)) ↔ (Admitted × (Untraceable (model_in w s) s.roots ⊎ Untraceable (model_in w t) t.roots))
+  Stops a = (a ≡ told (Err CannotTrace)) ↔ (Admitted × (Untraceable (model_in w s) s.roots ⊎ Untraceable (model_in w t) t.roots))
 
   -- there is a pairing
   abbrev pub Yes : Type 0
@@ -38,24 +38,24 @@ module _ (w : Words) (s t : Save) where
   pub record RightSame (a : Answer) : Type 0 where
     pub untraceable : Stops a
     -- yes exactly if both can be traced and a pairing exists, no exactly if both can be traced and none exists
-    pub yes : (a ≡ told (Is 1 0)) ↔ (Compared × Yes)
-    pub no : (a ≡ told (Is 0 0)) ↔ (Compared × (Yes → ⊥))
+    pub yes : (a ≡ told (Ok (1, 0))) ↔ (Compared × Yes)
+    pub no : (a ≡ told (Ok (0, 0))) ↔ (Compared × (Yes → ⊥))
 
   -- what is right of the answer of `order`
   pub record RightOrder (a : Answer) : Type 0 where
     pub untraceable : Stops a
     -- "Equal in this order must mean yes above"
-    pub equally : (a ≡ told (Is 1 0)) ↔ (Compared × Yes)
+    pub equally : (a ≡ told (Ok (1, 0))) ↔ (Compared × Yes)
     -- otherwise less or greater
-    pub total : Compared → (a ≡ told (Is 0 0)) ⊎ ((a ≡ told (Is 1 0)) ⊎ (a ≡ told (Is 2 0)))
+    pub total : Compared → (a ≡ told (Ok (0, 0))) ⊎ ((a ≡ told (Ok (1, 0))) ⊎ (a ≡ told (Ok (2, 0))))
 
 -- THEOREMS on the order: with the saves in the other order of naming the answer is turned round,
 abbrev pub SwapTurns : Type 0
 SwapTurns =
     (w : Words) (s t : Save)
-    → (((order_call w s t).answer ≡ told (Is 0 0)) ↔ ((order_call w t s).answer ≡ told (Is 2 0))) × (((order_call w s t).answer ≡ told (Is 1 0)) ↔ ((order_call w t s).answer ≡ told (Is 1 0)))
+    → (((order_call w s t).answer ≡ told (Ok (0, 0))) ↔ ((order_call w t s).answer ≡ told (Ok (2, 0)))) × (((order_call w s t).answer ≡ told (Ok (1, 0))) ↔ ((order_call w t s).answer ≡ told (Ok (1, 0))))
 
 -- and what comes before or stands equal, twice in a row, comes before if it does so once: x and y are 0 (less) or 1 (equal)
 abbrev pub OrderTransitive : Type 0
 OrderTransitive =
-    (w : Words) (s t u : Save) (x y : ℕ) → x ≤ 1 → y ≤ 1 → (order_call w s t).answer ≡ told (Is x 0) → (order_call w t u).answer ≡ told (Is y 0) → (order_call w s u).answer ≡ told (Is (min x y) 0)
+    (w : Words) (s t u : Save) (x y : ℕ) → x ≤ 1 → y ≤ 1 → (order_call w s t).answer ≡ told (Ok (x, 0)) → (order_call w t u).answer ≡ told (Ok (y, 0)) → (order_call w s u).answer ≡ told (Ok ((min x y), 0))

@@ -12,8 +12,8 @@ use Rattle.refusal.specs.Told.{told, nothing}
 use Rattle.refusal.specs.declared.Answer.{Answer}
 use Rattle.refusal.specs.declared.Refusal.{Refusal}
 use Rattle.refusal.specs.declared.Refusal.TheVariants.{NothingThere, TypeTable}
-use Rattle.refusal.specs.declared.Reply.{Reply}
-use Rattle.refusal.specs.declared.Reply.TheVariants.{Not as Refused}
+use Rattle.refusal.specs.Told.{Reply}
+use Rattle.std.specs.Prelude.{Err}
 use Rattle.handle.specs.Columns.{live_in}
 use Rattle.handle.proofs.ResolveLaws.{live-beyond, live-not, live-there}
 use Rattle.ty.specs.Types.{Table}
@@ -61,18 +61,18 @@ module _ (h : Heap) (narrow wide pool : List ℕ) (wf : well_formed (lent h narr
   shown-is = ap (λ (G : Graph). G.handles i) (formed-graph h narrow wide pool wf T)
 
   module _ (out : List ℕ) where
-    none-there : live (slot_at (view l) i) ≡ false → Lists (slot_handles T i (length out) (view l)) (Refused NothingThere) out out
+    none-there : live (slot_at (view l) i) ≡ false → Lists (slot_handles T i (length out) (view l)) (Err NothingThere) out out
     unfolding slot_handles
     none-there e = record { answer = rw e refl; written = rw e refl }
 
-    pub slot-missing : h.slots ≤ i → Lists (slot_handles T i (length out) (view (lent h narrow wide pool))) (Refused NothingThere) out out
+    pub slot-missing : h.slots ≤ i → Lists (slot_handles T i (length out) (view (lent h narrow wide pool))) (Err NothingThere) out out
     slot-missing b = none-there (sym live-is ∙ live-beyond h.slots (run S S narrow) i b)
 
     module _ (b : i < h.slots) where
       kind-is : get_or (run S S narrow) i 0 ≡ get_or narrow (length narrow / 6 + i) 0
       kind-is = run-get S S narrow i (omega (arith, (formed-fit h narrow wide pool wf).runs.used))
 
-      pub slot-dead : get_or narrow (length narrow / 6 + i) 0 ≡ 0 → Lists (slot_handles T i (length out) (view (lent h narrow wide pool))) (Refused NothingThere) out out
+      pub slot-dead : get_or narrow (length narrow / 6 + i) 0 ≡ 0 → Lists (slot_handles T i (length out) (view (lent h narrow wide pool))) (Err NothingThere) out out
       slot-dead z = none-there (sym live-is ∙ live-not h.slots (run S S narrow) i (kind-is ∙ z))
 
       pub slot-listed : (get_or narrow (length narrow / 6 + i) 0 ≡ 0 → ⊥) → (r : Reply) (out' : List ℕ) → Lists (listing (shown_in T (length narrow / 6) narrow wide pool i) (length out)) r out out'
@@ -98,7 +98,7 @@ module _ (l : Lent) (types fields consts bytes : List ℕ) {m w m' w' : List ℕ
   abbrev T : Table
   T = table_of types fields consts bytes
 
-  pub slot-refused : {why : Refusal} {r : Answer} → e ≡ Not why → r ≡ told (Refused why) → (asked r m' w' ≡ slot_call types fields consts bytes m w l slot out) × (out ≡ slot_out types fields consts bytes m w l slot out)
+  pub slot-refused : {why : Refusal} {r : Answer} → e ≡ Not why → r ≡ told (Err why) → (asked r m' w' ≡ slot_call types fields consts bytes m w l slot out) × (out ≡ slot_out types fields consts bytes m w l slot out)
   slot-refused i t =
       (ask-refused s length nothing l (slot_handles T slot (length out)) i t, sym (whether-not s (λ why. out) (written_to out (slot_handles T slot (length out) (view l))) i))
 

@@ -14,8 +14,8 @@ use Rattle.word.proofs.RunLaws.{run-get}
 use Rattle.refusal.specs.Told.{number_of, refused_by, told, answered, nothing}
 use Rattle.refusal.specs.declared.Answer.{Answer}
 use Rattle.refusal.specs.declared.Refusal.{Refusal}
-use Rattle.refusal.specs.declared.Reply.{Reply}
-use Rattle.refusal.specs.declared.Reply.TheVariants.{Not as Refused}
+use Rattle.refusal.specs.Told.{Reply}
+use Rattle.std.specs.Prelude.{Err}
 use Rattle.ty.specs.Types.{Table}
 use Rattle.ty.specs.View.{table_of}
 use Rattle.ty.proofs.CountLaws.{length_types}
@@ -139,7 +139,7 @@ module _ (h : Heap) (narrow wide pool : List ℕ) (T : Table) where
 -- ---- the public call
 
 module _ (l : Lent) (types fields consts bytes : List ℕ) {m w m' w' : List ℕ} {e : Entry} (s : Entered (m ∷ w ∷ []) (slot_tests types fields consts bytes m w l) e (m' ∷ w' ∷ [])) where
-  pub trace-refused : {why : Refusal} {r : Answer} → e ≡ Not why → r ≡ told (Refused why) → asked r m' w' ≡ trace_call types fields consts bytes m w l
+  pub trace-refused : {why : Refusal} {r : Answer} → e ≡ Not why → r ≡ told (Err why) → asked r m' w' ≡ trace_call types fields consts bytes m w l
   trace-refused i t =
       (λ j. asked_of (t j) ((s.left ∙ ap (λ (x : Entry). scratch_after x (m ∷ w ∷ [])) i) j))
       ∙ sym (whether-not s (λ why. asked_of (refused_by (number_of why)) (scratch_after (Not why) (m ∷ w ∷ []))) (asked_of (misfit_told (misfit (table_of types fields consts bytes) (view l))) (map zeros (m ∷ w ∷ []))) i)

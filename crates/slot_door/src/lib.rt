@@ -90,10 +90,10 @@ fn list_shown(
         0,
     );
     let Some(n) = c else {
-        return Reply::Not(Refusal::Untraceable);
+        return Err(Refusal::Untraceable);
     };
     if limit < n {
-        return Reply::Not(Refusal::ShortList);
+        return Err(Refusal::ShortList);
     }
     trace::trace_slot(
         &Table {
@@ -115,7 +115,7 @@ fn list_shown(
         out,
         0,
     );
-    Reply::Is(n as u64, 0)
+    Ok((n as u64, 0))
 }
 
 // The handles that slot i shows, which is in use: 13, 7.
@@ -179,10 +179,10 @@ fn list_slot(
     let slots = heap.slots;
     let s = narrow.len() / 6;
     if slots <= i {
-        return Reply::Not(Refusal::NothingThere);
+        return Err(Refusal::NothingThere);
     }
     if narrow[s + i] == 0 {
-        return Reply::Not(Refusal::NothingThere);
+        return Err(Refusal::NothingThere);
     }
     list_at(
         types, fields, consts, bytes, slots, s, narrow, wide, pool, i, out,
@@ -215,11 +215,10 @@ pub fn yexwalu_slot_handles(
     match admit(
         types, fields, consts, bytes, heap, narrow, wide, pool, marks, work,
     ) {
-        Entry::Not(why) => Reply::Not(why).numbers(),
-        Entry::Ready => list_slot(
+        Entry::Not(why) => Answer::from(Err(why)),
+        Entry::Ready => Answer::from(list_slot(
             types, fields, consts, bytes, heap, narrow, wide, pool, slot, out,
-        )
-        .numbers(),
+        )),
     }
 }
 
@@ -252,7 +251,7 @@ fn fits_table(
     let listed = list_at(
         types, fields, consts, bytes, heap.slots, s, narrow, wide, pool, i, &mut none,
     );
-    let a = listed.numbers();
+    let a = Answer::from(listed);
     a.number != 13
 }
 
@@ -309,7 +308,7 @@ pub fn yexwalu_traceable(
     match admit(
         types, fields, consts, bytes, heap, narrow, wide, pool, marks, work,
     ) {
-        Entry::Not(why) => Reply::Not(why).numbers(),
+        Entry::Not(why) => Answer::from(Err(why)),
         Entry::Ready => first_misfit(types, fields, consts, bytes, heap, narrow, wide, pool),
     }
 }

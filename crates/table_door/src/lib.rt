@@ -24,7 +24,7 @@ pub fn yexwalu_write_table(
     ensures out_after { out.new
         ≡ leaving (table_in types.now fields.now consts.now bytes.now names.now) out.old }
 {
-    table_writer::write(types, fields, consts, bytes, names, out).numbers()
+    Answer::from(table_writer::write(types, fields, consts, bytes, names, out))
 }
 
 // Reads the text of a type table into the fronts of lent lists: 18, 17, 10, 7. The answer says how much of each list the table takes; past that, and after a refusal, the lists are

@@ -18,9 +18,8 @@ use Rattle.word.specs.Result.{Result, ok, refused}
 use Rattle.word.specs.Run.{run}
 use Rattle.handle.specs.Handle.{resolve_by, told as resolved}
 use Rattle.handle.specs.Columns.{live_in}
-use Rattle.handle.specs.declared.Resolved.{Resolved}
-use Rattle.handle.specs.declared.Resolved.TheVariants.{Null, WrongHeap, NeverIssued, Stale, At}
-use Rattle.handle.specs.contracts.Resolved.{the_type as resolved-type}
+use Rattle.std.specs.Prelude.{Result as Outcome, Ok, Err}
+use Rattle.refusal.specs.declared.Refusal.{Refusal}
 use Rattle.trace.specs.Places.{Places, only_if, both, many, turns, handle_at, words_at}
 use Rattle.trace.specs.Walk.{Stepped}
 use Rattle.beside.specs.Inner.Ranks.{place_in}
@@ -71,23 +70,16 @@ module _ (ms to : List ℕ) (n h : ℕ) (R : ℕ → Result ℕ) (k : Sink) wher
   unfolding emitted emitted_by
   list_full e l = rw (e, le-ltb n (length to) l) refl
 
-module _ (ms to : List ℕ) (n h tag slots c : ℕ) (narrow : List ℕ) (k : Sink) (e : k ≡ Work) (x : Resolved) (ex : resolved x ≡ resolve_by tag slots (live_in slots (run c c narrow)) (λ i. get_or (run c 0 narrow) i 0) h) where
+module _ (ms to : List ℕ) (n h tag slots c : ℕ) (narrow : List ℕ) (k : Sink) (e : k ≡ Work) (x : Outcome ℕ Refusal) (ex : resolved x ≡ resolve_by tag slots (live_in slots (run c c narrow)) (λ i. get_or (run c 0 narrow) i 0) h) where
   work-by : emitted (into k (resolve_in tag slots c narrow)) (raw_of ms to n) h ≡ queued_if (raw_of ms to n) (resolved x)
   unfolding emitted emitted_by resolve_in
   work-by = rw (e, ← ex) refl
 
-  unresolved : (y : Resolved) → OneOf (0 ∷ 1 ∷ 2 ∷ 3 ∷ []) (tag_of resolved-type y) → queued_if (raw_of ms to n) (resolved y) ≡ raw_of ms to n
-  unresolved Null o = refl
-  unresolved WrongHeap o = refl
-  unresolved NeverIssued o = refl
-  unresolved Stale o = refl
-  unresolved (At i) o = absurd (miss (0 ∷ 1 ∷ 2 ∷ 3 ∷ []) 4 tt o)
+  pub work_none : (why : Refusal) → x ≡ Err why → raw_of ms to n ≡ emitted (into k (resolve_in tag slots c narrow)) (raw_of ms to n) h
+  work_none why o = sym (work-by ∙ ap (λ (y : Outcome ℕ Refusal). queued_if (raw_of ms to n) (resolved y)) o)
 
-  pub work_none : OneOf (0 ∷ 1 ∷ 2 ∷ 3 ∷ []) (tag_of resolved-type x) → raw_of ms to n ≡ emitted (into k (resolve_in tag slots c narrow)) (raw_of ms to n) h
-  work_none o = sym (work-by ∙ unresolved x o)
-
-  pub work-at : (i : ℕ) → x ≡ At i → (t : Raw) → t ≡ queued (raw_of ms to n) i → t ≡ emitted (into k (resolve_in tag slots c narrow)) (raw_of ms to n) h
-  work-at i o t q = q ∙ sym (work-by ∙ ap (λ (y : Resolved). queued_if (raw_of ms to n) (resolved y)) o)
+  pub work-at : (i : ℕ) → x ≡ Ok i → (t : Raw) → t ≡ queued (raw_of ms to n) i → t ≡ emitted (into k (resolve_in tag slots c narrow)) (raw_of ms to n) h
+  work-at i o t q = q ∙ sym (work-by ∙ ap (λ (y : Outcome ℕ Refusal). queued_if (raw_of ms to n) (resolved y)) o)
 
 -- ---- turns
 

@@ -15,7 +15,7 @@ use Rattle.word.specs.Put.{put}
 use Rattle.word.specs.Result.{Result, ok, refused}
 use Rattle.word.proofs.PutLaws.{put_all}
 use Rattle.refusal.specs.declared.Answer.{Answer as Numbers}
-use Rattle.refusal.specs.declared.Reply.TheVariants.{Is, Not}
+use Rattle.std.specs.Prelude.{Ok, Err}
 use Rattle.refusal.specs.declared.Refusal.TheVariants.{Untraceable as Failed, ShortList}
 use Rattle.trace.specs.Emit.{Answer, Raw, raw_of, into, emitted, emit_all, emitting, told}
 use Rattle.trace.specs.Listing.{listing, Lists}
@@ -87,12 +87,12 @@ abbrev counted : ℕ → Numbers
 counted n = record { number = 0; first = n; second = 0 }
 
 module _ (R : ℕ → Result ℕ) (ms u out : List ℕ) where
-  failed-by : (o : Option (List ℕ)) → refused 13 ≡ emitting (into (Check (length out)) R) (raw_of ms u 0) o → Lists (listing o (length out)) (Not Failed) out out
+  failed-by : (o : Option (List ℕ)) → refused 13 ≡ emitting (into (Check (length out)) R) (raw_of ms u 0) o → Lists (listing o (length out)) (Err Failed) out out
   unfolding emitting listing
   failed-by none e = record { answer = refl; written = refl }
   failed-by (some ws) e = let x : ◌≡◌ {A = ℕ} 0 1 = cc in absurd (omega arith)
 
-  short-by : (ms' u' : List ℕ) (n : ℕ) (o : Option (List ℕ)) → ok (raw_of ms' u' n) ≡ emitting (into (Check (length out)) R) (raw_of ms u 0) o → length out < n → Lists (listing o (length out)) (Not ShortList) out out
+  short-by : (ms' u' : List ℕ) (n : ℕ) (o : Option (List ℕ)) → ok (raw_of ms' u' n) ≡ emitting (into (Check (length out)) R) (raw_of ms u 0) o → length out < n → Lists (listing o (length out)) (Err ShortList) out out
   unfolding emitting listing
   short-by ms' u' n none e l = let x : ◌≡◌ {A = ℕ} 0 1 = cc in absurd (omega arith)
   short-by ms' u' n (some ws) e l =
@@ -100,7 +100,7 @@ module _ (R : ℕ → Result ℕ) (ms u out : List ℕ) where
       record { answer = rw (lt-leb (length ws) (length out) g) refl; written = rw (lt-leb (length ws) (length out) g) refl }
 
   module _ (Q : ℕ → Result ℕ) (ps : List ℕ) where
-    wrote_by : (ms' u' : List ℕ) (n : ℕ) (o : Option (List ℕ)) → length out < 2 ^ 64 - 1 → ok (raw_of ms' u' n) ≡ emitting (into (Check (length out)) R) (raw_of ms u 0) o → n ≤ length out → (r : Answer) (ps' out' : List ℕ) → told r ps' out' ≡ emitting (into ToList Q) (raw_of ps out 0) o → Lists (listing o (length out)) (Is n 0) out out'
+    wrote_by : (ms' u' : List ℕ) (n : ℕ) (o : Option (List ℕ)) → length out < 2 ^ 64 - 1 → ok (raw_of ms' u' n) ≡ emitting (into (Check (length out)) R) (raw_of ms u 0) o → n ≤ length out → (r : Answer) (ps' out' : List ℕ) → told r ps' out' ≡ emitting (into ToList Q) (raw_of ps out 0) o → Lists (listing o (length out)) (Ok (n, 0)) out out'
     unfolding emitting listing
     wrote_by ms' u' n none b e l r ps' out' s = let x : ◌≡◌ {A = ℕ} 0 1 = cc in absurd (omega arith)
     wrote_by ms' u' n (some ws) b e l None ps' out' s = let x : ◌≡◌ {A = ℕ} 0 1 = cc in absurd (omega arith)
@@ -113,12 +113,12 @@ module _ (R : ℕ → Result ℕ) (ms u out : List ℕ) where
         }
 
 module _ (R : ℕ → Result ℕ) (ms u ms' u' out : List ℕ) (o : Option (List ℕ)) (r : Answer) (er : told r ms' u' ≡ emitting (into (Check (length out)) R) (raw_of ms u 0) o) where
-  pub list-failed : r ≡ None → Lists (listing o (length out)) (Not Failed) out out
+  pub list-failed : r ≡ None → Lists (listing o (length out)) (Err Failed) out out
   list-failed e = failed-by R ms u out o (told-untraceable r ms' u' _ er e)
 
   module _ (n : ℕ) (e : r ≡ Some n) where
-    pub list-short : length out < n → Lists (listing o (length out)) (Not ShortList) out out
+    pub list-short : length out < n → Lists (listing o (length out)) (Err ShortList) out out
     list-short l = short-by R ms u out ms' u' n o (told-traced r ms' u' _ n er e) l
 
-    pub list_wrote : length out < 2 ^ 64 - 1 → n ≤ length out → (Q : ℕ → Result ℕ) (ps : List ℕ) (q : Answer) (ps' out' : List ℕ) → told q ps' out' ≡ emitting (into ToList Q) (raw_of ps out 0) o → Lists (listing o (length out)) (Is n 0) out out'
+    pub list_wrote : length out < 2 ^ 64 - 1 → n ≤ length out → (Q : ℕ → Result ℕ) (ps : List ℕ) (q : Answer) (ps' out' : List ℕ) → told q ps' out' ≡ emitting (into ToList Q) (raw_of ps out 0) o → Lists (listing o (length out)) (Ok (n, 0)) out out'
     list_wrote b l Q ps q ps' out' s = wrote_by R ms u out Q ps ms' u' n o b (told-traced r ms' u' _ n er e) l q ps' out' s

@@ -14,7 +14,7 @@ ghost use Rattle.trace.specs.Emit.{emit_all, raw_of, into, resolve_in, Runs, que
 ghost use Rattle.trace.specs.Listing.{listing, Lists};
 
 use beside::Met;
-use handle::{Resolved, Slots};
+use handle::Slots;
 use refusal::{Refusal, Reply};
 use ty::{Entry, Table, NO_CONST};
 
@@ -106,11 +106,10 @@ pub fn emit(
             to.len() + 1
         }
         Sink::Work => {
-            let r = handle::resolve(tag, slots, s, narrow, h);
-            let Resolved::At(i) = r else {
-                return n;
-            };
-            queue(marks, to, n, i)
+            match handle::resolve(tag, slots, s, narrow, h) {
+                Ok(i) => queue(marks, to, n, i),
+                Err(_) => n,
+            }
         }
     }
 }
@@ -1229,10 +1228,10 @@ pub fn list_value(
         0,
     );
     let Some(n) = c else {
-        return Reply::Not(Refusal::Untraceable);
+        return Err(Refusal::Untraceable);
     };
     if limit < n {
-        return Reply::Not(Refusal::ShortList);
+        return Err(Refusal::ShortList);
     }
     trace_value(
         table,
@@ -1247,7 +1246,7 @@ pub fn list_value(
         out,
         0,
     );
-    Reply::Is(n as u64, 0)
+    Ok((n as u64, 0))
 }
 
 // The handles of an object's visible data, into the lent list. First they are only counted, so that a refusal leaves the list as it was.
@@ -1279,10 +1278,10 @@ pub fn list_object(
         0,
     );
     let Some(n) = c else {
-        return Reply::Not(Refusal::Untraceable);
+        return Err(Refusal::Untraceable);
     };
     if limit < n {
-        return Reply::Not(Refusal::ShortList);
+        return Err(Refusal::ShortList);
     }
     trace_object(
         table,
@@ -1297,5 +1296,5 @@ pub fn list_object(
         out,
         0,
     );
-    Reply::Is(n as u64, 0)
+    Ok((n as u64, 0))
 }

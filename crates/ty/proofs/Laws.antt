@@ -1,14 +1,12 @@
 -- Laws of the crate's definitions, over plain numbers. Assumes nothing.
 use mathlib.Core.Path.{◌≡◌, refl, sym, ap, ◌∙◌}
 use mathlib.Core.Bool.{Bool, true, false}
-use Prim.Native.Nat.{ℕ, ◌+◌, ◌-◌, ◌^◌, ◌≤◌, ◌<◌, max}
+use Prim.Native.Nat.{ℕ, ◌+◌, ◌-◌, ◌*◌, ◌^◌, ◌≤◌, ◌<◌, max}
 use native.Mathlib.Omega.{arith}
 use lib.Dec.{ltb}
 use borrow.Author.Tests.{lt-ltb, le-ltb, le-leb, lt-leb}
 use Rattle.std.specs.Prelude.{Option, Some, None, SomeIff, if◌then◌else◌}
 use Rattle.word.specs.Num.{align_up, aligned_at}
-use Rattle.word.specs.declared.Aligned.{Aligned}
-use Rattle.word.specs.declared.Aligned.TheVariants.{To, TooLarge}
 use Rattle.ty.specs.Words.{Word, word_at, word_of}
 use Rattle.ty.specs.View.{entry_of}
 use Rattle.ty.specs.declared.Entry.TheVariants.{Record}
@@ -21,23 +19,6 @@ module _ (w : ℕ) where
   over-at : (n : ℕ) → 2 ^ w ≤ n → word_at w n ≡ None
   over-at n h = simp (le-ltb n (2 ^ w) h)
 
-  -- what `align_up` of word answers
-  aligned-is-at : (x a b n : ℕ) (p : Aligned) → b ≡ max a 1 → p ≡ aligned_at w x b → p ≡ To n → Some n ≡ word_at w (align_up x (max a 1))
-  unfolding aligned_at
-  aligned-is-at x a b n p eb e h = rw (← eb) (go (ltb (align_up x b) (2 ^ w)) (sym e ∙ h))
-    where
-      go : (t : Bool) → if◌then◌else◌ t (To (align_up x b)) TooLarge ≡ To n → Some n ≡ if◌then◌else◌ t (Some (align_up x b)) None
-      go true q = let z : align_up x b ≡ n = cc in ap Some (sym z)
-      go false q = let z : ◌≡◌ {A = ℕ} 0 1 = cc in absurd (omega arith)
-
-  aligned-over-at : (x a b : ℕ) (p : Aligned) → b ≡ max a 1 → p ≡ aligned_at w x b → p ≡ TooLarge → None ≡ word_at w (align_up x (max a 1))
-  unfolding aligned_at
-  aligned-over-at x a b p eb e h = rw (← eb) (go (ltb (align_up x b) (2 ^ w)) (sym e ∙ h))
-    where
-      go : (t : Bool) → if◌then◌else◌ t (To (align_up x b)) TooLarge ≡ TooLarge → None ≡ if◌then◌else◌ t (Some (align_up x b)) None
-      go true q = let z : ◌≡◌ {A = ℕ} 0 1 = cc in absurd (omega arith)
-      go false q = refl
-
 -- at 64 bits
 pub word-is : (n : ℕ) → n < 2 ^ 64 → word_of n ≡ Some n
 unfolding word_of
@@ -47,18 +28,15 @@ pub word_over : (n : ℕ) → 2 ^ 64 ≤ n → word_of n ≡ None
 unfolding word_of
 word_over = over-at 64
 
-pub aligned-is : (x a b n : ℕ) (p : Aligned) → b ≡ max a 1 → p ≡ aligned_at 64 x b → p ≡ To n → Some n ≡ word_of (align_up x (max a 1))
-unfolding word_of
-aligned-is = aligned-is-at 64
-
-pub aligned-over : (x a b : ℕ) (p : Aligned) → b ≡ max a 1 → p ≡ aligned_at 64 x b → p ≡ TooLarge → None ≡ word_of (align_up x (max a 1))
-unfolding word_of
-aligned-over = aligned-over-at 64
-
 -- what a checked sum or product of std answers
 pub word_from_checked : (r : Option ℕ) (n : ℕ) → SomeIff r (n < 2 ^ 64) n → r ≡ word_of n
 word_from_checked None n h = sym (word_over n (omega arith))
 word_from_checked (Some x) n h = ap Some h.1 ∙ sym (word-is n h.0)
+
+-- what `align_up` of word answers
+pub word_from_aligned : (r : Option ℕ) (x a b : ℕ) → r ≡ aligned_at 64 x b → b ≡ max a 1 → r ≡ word_of (align_up x (max a 1))
+unfolding word_of aligned_at
+word_from_aligned r x a b e eb = e ∙ ap (aligned_at 64 x) eb
 
 -- the same alignment by another name
 pub same_up : (x a b : ℕ) (r : Word) → a ≡ b → r ≡ word_of (align_up x (max b 1)) → r ≡ word_of (align_up x (max a 1))

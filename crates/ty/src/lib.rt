@@ -13,8 +13,6 @@ ghost use Rattle.ty.specs.Bounds.{bound_in, bound_fields, bound_by};
 ghost use Rattle.ty.specs.Counts.{count_in, Capped, Fitting, Scratch, field_sums, next_count, next_counts, counts_at, small_in};
 ghost use Rattle.ty.specs.View.{entry_at, entry_of, fields_of, part_at, fields_from, types_of, bare};
 
-use word::Aligned;
-
 // A type table as it is lent: four words a type, two a field, three a constant, and the constants' plain bytes.
 #[derive(Clone, Copy)]
 pub struct Table<'a> {
@@ -64,14 +62,11 @@ fn at_least_one(a: u64) -> u64
 }
 
 // The first multiple of a, or of 1 where a is 0, from x on.
+#[tactic(auto, using(crate::proofs::Laws::word_from_aligned))]
 fn rounded(x: u64, a: u64) -> Option<u64>
     ensures { result ≡ word_of (round_up x a) }
 {
-    let up = word::align_up(x, at_least_one(a));
-    match up {
-        Aligned::To(n) => Some(n),
-        Aligned::TooLarge => None,
-    }
+    word::align_up(x, at_least_one(a))
 }
 
 // The same. The alignments of scalars are written out, because a known one needs no division.
@@ -522,8 +517,7 @@ impl<'a> Table<'a> {
         requires { Fitting self.now.types.now self.now.fields.now counts.old other.old sums.old }
         ensures { result ≡ all_below (small_at (types_of self.now.types.now self.now.fields.now)) (length self.now.types.now / 4) }
     {
-        let n = counts.len();
-        memory::fill_u32(counts, 0, n, 1);
+        counts.fill(1);
         self.unfold_levels(counts, other, sums);
         all_small(counts)
     }

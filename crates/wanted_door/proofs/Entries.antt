@@ -12,8 +12,8 @@ use Rattle.refusal.specs.Told.{told, nothing}
 use Rattle.refusal.specs.declared.Answer.{Answer}
 use Rattle.refusal.specs.declared.Refusal.{Refusal}
 use Rattle.refusal.specs.declared.Refusal.TheVariants.{TypeTable, Pins}
-use Rattle.refusal.specs.declared.Reply.{Reply}
-use Rattle.refusal.specs.declared.Reply.TheVariants.{Not as Refused}
+use Rattle.refusal.specs.Told.{Reply}
+use Rattle.std.specs.Prelude.{Err}
 use Rattle.ty.specs.Check.{table_good}
 use Rattle.heap.specs.Lent.{Lent, view, slot_count}
 use Rattle.heap_calls.specs.Pins.{rising}
@@ -67,7 +67,7 @@ module _ (g : Given) (l : Lent) {m w m' w' : List ℕ} {e : Entry} (s : Entered 
       }
 
   module _ (out : List ℕ) where
-    pub roots-refused : {why : Refusal} {r : Answer} → e ≡ Not why → r ≡ told (Refused why)
+    pub roots-refused : {why : Refusal} {r : Answer} → e ≡ Not why → r ≡ told (Err why)
         → (asked r m' w' ≡ roots_call g m w l out) × ((out ≡ roots_out g m w l out) × RightRoots g m w l out r out)
     roots-refused {r = r} i t =
         let k : asked r m' w' ≡ roots_call g m w l out = ask-refused s length nothing l (root_handles (table_in g) g.pins g.wanted (length out)) i t in

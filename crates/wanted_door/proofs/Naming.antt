@@ -15,8 +15,8 @@ use Rattle.word.specs.Put.{put}
 use Rattle.word.specs.Result.{Result, ok, refused}
 use Rattle.word.proofs.RunLaws.{first-get}
 use Rattle.refusal.specs.declared.Refusal.TheVariants.{ShortList, NoRoots}
-use Rattle.refusal.specs.declared.Reply.{Reply}
-use Rattle.refusal.specs.declared.Reply.TheVariants.{Is, Not as Refused}
+use Rattle.refusal.specs.Told.{Reply}
+use Rattle.std.specs.Prelude.{Ok, Err}
 use Rattle.handle.specs.Handle.{packed}
 use Rattle.ty.specs.Types.{Table}
 use Rattle.heap.specs.declared.Heap.{Heap}
@@ -45,7 +45,7 @@ use Rattle.wanted_door.specs.Inner.Listing.{handles_in, named_in, CanName, CanSe
 -- ---- the ways out of `name_roots`
 
 module _ (tag : ℕ) (narrow is out : List ℕ) (n : ℕ) (e : n ≡ length is) where
-  pub name-short : length out < n → Lists (named_in tag narrow is (length out)) (Refused ShortList) out out
+  pub name-short : length out < n → Lists (named_in tag narrow is (length out)) (Err ShortList) out out
   name-short h =
       let k : leb (length is) (length out) ≡ false = lt-leb (length is) (length out) (omega arith) in
       record { answer = rw k refl; written = rw k refl }
@@ -53,7 +53,7 @@ module _ (tag : ℕ) (narrow is out : List ℕ) (n : ℕ) (e : n ≡ length is) 
   pub name-room : n ≤ length out → length is ≤ length out
   name-room h = omega arith
 
-  pub name-wrote : n ≤ length out → (out' : List ℕ) → out' ≡ put out 0 (handles_in tag narrow is) (length is) → Lists (named_in tag narrow is (length out)) (Is n 0) out out'
+  pub name-wrote : n ≤ length out → (out' : List ℕ) → out' ≡ put out 0 (handles_in tag narrow is) (length is) → Lists (named_in tag narrow is (length out)) (Ok (n, 0)) out out'
   name-wrote h out' w =
       let k : leb (length is) (length out) ≡ true = le-leb (length is) (length out) (omega arith) in
       let long : length (handles_in tag narrow is) ≡ length is = length-map is (λ i. packed tag i (get_or narrow i 0)) in
@@ -131,11 +131,11 @@ module _ (h : Heap) (narrow wide pool W marks work : List ℕ) (c : CanSearch (l
     at b i = subst (λ (x : Bool). Found G (handle_at (view l)) (length (view l).slots) (objects (view l) (shown T (view l)) (slot_count l) (pool_size l) (formed-tested l c.formed).sound) from W (rises W c.rises) (notes_if x work')) i found
 
     module _ (out : List ℕ) where
-      pub none_found : r ≡ false → Lists (root_handles T pins W (length out) (view (lent h narrow wide pool))) (Refused NoRoots) out out
+      pub none_found : r ≡ false → Lists (root_handles T pins W (length out) (view (lent h narrow wide pool))) (Err NoRoots) out out
       unfolding root_handles listed
       none_found i =
           let q : root_handles T pins W (length out) (view l) ≡ refused 21 = ap (λ (x : Result (List ℕ)). listed (view l) x (length out)) (at false i) in
-          subst (λ (x : Result (List ℕ)). Lists x (Refused NoRoots) out out) (sym q) (record { answer = refl; written = refl })
+          subst (λ (x : Result (List ℕ)). Lists x (Err NoRoots) out out) (sym q) (record { answer = refl; written = refl })
 
       -- the slots' handles, by the lent generations and by the heap
       handles-same : Inside W h.slots → (is : List ℕ) → ((i : ℕ) → i ∈ is → i ∈ W) → handles_in h.tag narrow is ≡ map (handle_at (view l)) is

@@ -14,7 +14,7 @@ use Rattle.refusal.specs.Told.{number_of, told, answered, nothing}
 use Rattle.refusal.specs.declared.Answer.{Answer}
 use Rattle.refusal.specs.declared.Refusal.{Refusal}
 use Rattle.refusal.specs.declared.Refusal.TheVariants.{ShortList, NoRoots}
-use Rattle.refusal.specs.declared.Reply.TheVariants.{Is, Not as Refused}
+use Rattle.std.specs.Prelude.{Ok, Err}
 use Rattle.ty.specs.Types.{Table}
 use Rattle.trace.specs.Listing.{written_to}
 use Rattle.heap.specs.State.{State}
@@ -101,10 +101,10 @@ module _ (g : Given) (marks work : List ℕ) (l : Lent) (out : List ℕ) (a : An
 
   -- refused by a test, no roots, too many for the list, or done
   by_call : {X : Type 0}
-      → ((why : Refusal) → admitted (tests g marks work l) ≡ Not why → a ≡ told (Refused why) → X)
-      → (admitted (tests g marks work l) ≡ Ready → ((R : List ℕ) → Serving g l R → ⊥) → a ≡ told (Refused NoRoots) → X)
-      → (admitted (tests g marks work l) ≡ Ready → (is : List ℕ) → Answering g l is → length out < length is → a ≡ told (Refused ShortList) → X)
-      → (admitted (tests g marks work l) ≡ Ready → (is : List ℕ) → Answering g l is → length is ≤ length out → a ≡ told (Is (length is) 0) → out' ≡ put out 0 (map (handle_at h) is) (length is) → X)
+      → ((why : Refusal) → admitted (tests g marks work l) ≡ Not why → a ≡ told (Err why) → X)
+      → (admitted (tests g marks work l) ≡ Ready → ((R : List ℕ) → Serving g l R → ⊥) → a ≡ told (Err NoRoots) → X)
+      → (admitted (tests g marks work l) ≡ Ready → (is : List ℕ) → Answering g l is → length out < length is → a ≡ told (Err ShortList) → X)
+      → (admitted (tests g marks work l) ≡ Ready → (is : List ℕ) → Answering g l is → length is ≤ length out → a ≡ told (Ok ((length is), 0)) → out' ≡ put out 0 (map (handle_at h) is) (length is) → X)
       → X
   unfolding root_handles listed
   by_call {X} turned none short done = go (admitted (tests g marks work l)) refl
@@ -117,7 +117,7 @@ module _ (g : Given) (marks work : List ℕ) (l : Lent) (out : List ℕ) (a : An
           let few : length is ≤ length out = omega arith in
           let t = told_is i (ok (map (handle_at h) is)) (ap (λ (x : Result (List ℕ)). listed h x (length out)) q ∙ ap (λ (b : Bool). if b then ok (map (handle_at h) is) else refused 7) (le-leb (length is) (length out) few)) in
           done i is (best h (shown T h) g.pins W (slot_count l) (pool_size l) (sound i) (up i) is q) few
-          (t.0 ∙ ap (λ (n : ℕ). told (Is n 0)) (length-map is (handle_at h))) (t.1 ∙ ap (put out 0 (map (handle_at h) is)) (length-map is (handle_at h)))
+          (t.0 ∙ ap (λ (n : ℕ). told (Ok (n, 0))) (length-map is (handle_at h))) (t.1 ∙ ap (put out 0 (map (handle_at h) is)) (length-map is (handle_at h)))
 
       go : (t : Entry) → admitted (tests g marks work l) ≡ t → X
       go (Not why) i = turned why i (ap (λ (x : Asked). x.answer) (e ∙ asking-not length nothing (marks ∷ work ∷ []) (tests g marks work l) l question i))

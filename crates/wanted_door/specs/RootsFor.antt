@@ -6,7 +6,7 @@ use Rattle.word.specs.Result.{Result, ok, refused}
 use Rattle.refusal.specs.Told.{told, nothing}
 use Rattle.refusal.specs.declared.Answer.{Answer}
 use Rattle.refusal.specs.declared.Refusal.TheVariants.{TypeTable, Pins, ShortList, NoRoots}
-use Rattle.refusal.specs.declared.Reply.TheVariants.{Is, Not as Refused}
+use Rattle.std.specs.Prelude.{Ok, Err}
 use Rattle.ty.specs.Types.{Table}
 use Rattle.ty.specs.View.{table_of}
 use Rattle.ty.specs.Check.{table_good}
@@ -70,9 +70,9 @@ module _ (g : Given) (marks work : List ℕ) (l : Lent) (out : List ℕ) where
   -- What is right of the answer a and of the list out' afterwards.
   pub record RightRoots (a : Answer) (out' : List ℕ) : Type 0 where
     -- 21 exactly when no test fails and no root list at all has the outcome
-    pub no_roots : (a ≡ told (Refused NoRoots)) ↔ ((admitted (tests g marks work l) ≡ Ready) × ((R : List ℕ) → Serving g l R → ⊥))
+    pub no_roots : (a ≡ told (Err NoRoots)) ↔ ((admitted (tests g marks work l) ≡ Ready) × ((R : List ℕ) → Serving g l R → ⊥))
     -- 7 exactly when no test fails, there is an answer, and it has more roots than there is room
-    pub too_short : (a ≡ told (Refused ShortList)) ↔ ((admitted (tests g marks work l) ≡ Ready) × ((is : List ℕ) × Answering g l is × (length out < length is)))
+    pub too_short : (a ≡ told (Err ShortList)) ↔ ((admitted (tests g marks work l) ≡ Ready) × ((is : List ℕ) × Answering g l is × (length out < length is)))
     -- otherwise the list holds the answer, and how many they are is told
     pub best : a.number ≡ 0
-        → (admitted (tests g marks work l) ≡ Ready) × ((is : List ℕ) × Answering g l is × (a ≡ told (Is (length is) 0)) × (out' ≡ put out 0 (map (handle_at (view l)) is) (length is)))
+        → (admitted (tests g marks work l) ≡ Ready) × ((is : List ℕ) × Answering g l is × (a ≡ told (Ok ((length is), 0))) × (out' ≡ put out 0 (map (handle_at (view l)) is) (length is)))

@@ -67,10 +67,10 @@ fn name_roots(tag: u8, narrow: &[u32], wanted: &[u32], work: &[u64], out: &mut [
 {
     let n = list::count_roots(wanted, work);
     if out.len() < n {
-        return Reply::Not(Refusal::ShortList);
+        return Err(Refusal::ShortList);
     }
     list::write_roots(tag, narrow, wanted, work, out);
-    Reply::Is(n as u64, 0)
+    Ok((n as u64, 0))
 }
 
 // The roots of a checked heap that keep just the wanted slots: 21, 7.
@@ -115,7 +115,7 @@ fn list_roots(
         &mut marks[..heap.slots],
         work,
     ) {
-        return Reply::Not(Refusal::NoRoots);
+        return Err(Refusal::NoRoots);
     }
     name_roots(heap.tag, narrow, wanted, work, out)
 }
@@ -152,15 +152,15 @@ pub fn yexwalu_roots_for(
     match admit(
         types, fields, consts, bytes, heap, narrow, wide, pool, pins, wanted, marks, work,
     ) {
-        Entry::Not(why) => Reply::Not(why).numbers(),
+        Entry::Not(why) => Answer::from(Err(why)),
         Entry::Ready => {
             let reply = list_roots(
                 types, fields, consts, bytes, heap, narrow, wide, pool, pins, wanted, out, marks,
                 work,
             );
-            memory::clear_u8(marks);
-            memory::clear_u64(work);
-            reply.numbers()
+            marks.fill(0);
+            work.fill(0);
+            Answer::from(reply)
         }
     }
 }

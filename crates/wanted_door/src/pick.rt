@@ -262,7 +262,7 @@ fn choose_roots(
         (graph_in (table_of types.now fields.now consts.now bytes.now) tag slots s narrow.now wide.now pool.now)
         (starts_of [] sealed.now pins.now) slots wanted.now (map high work.old)) }
 {
-    memory::clear_u8(marks);
+    marks.fill(0);
     let r = mark::mark_from(
         types,
         fields,

@@ -7,7 +7,7 @@ use lib.ListN.{length}
 use Rattle.word.specs.Result.{Result}
 use Rattle.refusal.specs.Told.{told, answered, refused_by, nothing}
 use Rattle.refusal.specs.declared.Answer.{Answer}
-use Rattle.refusal.specs.declared.Reply.{Reply}
+use Rattle.refusal.specs.Told.{Reply}
 use Rattle.ty.specs.Check.{table_good}
 use Rattle.trace.specs.Listing.{Lists, written_to}
 use Rattle.frame.specs.Listing.{Roots, Frames, handles_to, addresses_to}

@@ -8,7 +8,7 @@ ghost use Rattle.frame.specs.Listing.{roots_listing};
 ghost use Rattle.yexwalu.specs.Table.{on_table};
 ghost use Rattle.yexwalu.specs.Handles.{HandlesCall, RootsCall};
 
-use refusal::{Answer, Refusal, Reply};
+use refusal::{Answer, Refusal};
 use ty::Table;
 pub use slot_door::{yexwalu_slot_handles as slot_handles, yexwalu_traceable as traceable};
 pub use yexwalu_object_handles as object_handles;
@@ -30,8 +30,14 @@ pub fn yexwalu_object_handles(
         (length out.old)))
         out.old out.new result }
 {
-    if !(Table { types, fields, consts, bytes }).check_table() {
-        return Reply::Not(Refusal::TypeTable).numbers();
+    if !(Table {
+        types,
+        fields,
+        consts,
+        bytes,
+    })
+    .check_table() {
+        return Answer::from(Err(Refusal::TypeTable));
     }
     let reply = trace::list_object(&Table {
             types,
@@ -39,7 +45,7 @@ pub fn yexwalu_object_handles(
             consts,
             bytes,
         }, t, data, out);
-    reply.numbers()
+    Answer::from(reply)
 }
 
 // The handles of a value of type t that needs no descriptor. first: how many.
@@ -57,8 +63,14 @@ pub fn yexwalu_value_handles(
         (length out.old)))
         out.old out.new result }
 {
-    if !(Table { types, fields, consts, bytes }).check_table() {
-        return Reply::Not(Refusal::TypeTable).numbers();
+    if !(Table {
+        types,
+        fields,
+        consts,
+        bytes,
+    })
+    .check_table() {
+        return Answer::from(Err(Refusal::TypeTable));
     }
     let reply = trace::list_value(&Table {
             types,
@@ -66,7 +78,7 @@ pub fn yexwalu_value_handles(
             consts,
             bytes,
         }, t, data, out);
-    reply.numbers()
+    Answer::from(reply)
 }
 
 // The handles and the addresses of a frame's memory by its map, three words an entry (offset, kind, type), each into a lent list of its own. first: how many
@@ -87,8 +99,14 @@ pub fn yexwalu_slot_roots(
         (length handles.old) (length addresses.old)))
         handles.old addresses.old handles.new addresses.new result }
 {
-    if !(Table { types, fields, consts, bytes }).check_table() {
-        return Reply::Not(Refusal::TypeTable).numbers();
+    if !(Table {
+        types,
+        fields,
+        consts,
+        bytes,
+    })
+    .check_table() {
+        return Answer::from(Err(Refusal::TypeTable));
     }
     let reply = frame::list_roots(
         &Table {
@@ -98,5 +116,5 @@ pub fn yexwalu_slot_roots(
             bytes,
         }, map, memory, handles, addresses,
     );
-    reply.numbers()
+    Answer::from(reply)
 }

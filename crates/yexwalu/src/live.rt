@@ -45,7 +45,7 @@ pub fn yexwalu_live_at(
         classes,
     };
     let reply = roots::at::live_at(code, tracked(all), pc, regs, rows);
-    reply.numbers()
+    Answer::from(reply)
 }
 
 // The map of all safepoints, rising: `pcs` has each, `bounds` where its registers end in `regs`, and `regs` the registers that are live before it, rising: those of
@@ -75,5 +75,5 @@ pub fn yexwalu_live_refs(
         classes,
     };
     let reply = root_map::live_refs(code, tracked(all), pcs, bounds, regs, rows);
-    reply.numbers()
+    Answer::from(reply)
 }

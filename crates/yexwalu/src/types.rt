@@ -6,7 +6,7 @@ ghost use Rattle.ty.specs.View.{table_of};
 ghost use Rattle.layout.specs.Offsets.{told, offsets_of, written_by};
 ghost use Rattle.yexwalu.specs.Types.{laid, layout_called, size_called, handles_called};
 
-use refusal::{Answer, Refusal, Reply};
+use refusal::{Answer, Refusal};
 use ty::Table;
 pub use yexwalu_desc_size as desc_size;
 pub use yexwalu_has_handles as has_handles;
@@ -29,7 +29,7 @@ fn not_laid(why: Refusal) -> LayoutAnswer
     ensures { result ≡ laid (refused (number_of why)) }
 {
     LayoutAnswer {
-        number: why.number(),
+        number: u64::from(why),
         size: 0,
         align: 0,
         stride: 0,
@@ -114,13 +114,25 @@ pub fn yexwalu_desc_size(
 ) -> Answer
     ensures { result ≡ answered here nothing (size_called types.now fields.now consts.now bytes.now t) }
 {
-    if !(Table { types, fields, consts, bytes }).check_table() {
-        return Reply::Not(Refusal::TypeTable).numbers();
+    if !(Table {
+        types,
+        fields,
+        consts,
+        bytes,
+    })
+    .check_table() {
+        return Answer::from(Err(Refusal::TypeTable));
     }
-    let Some(n) = (Table { types, fields, consts, bytes }).desc_size(t) else {
-        return Reply::Not(Refusal::Malformed).numbers();
+    let table = Table {
+        types,
+        fields,
+        consts,
+        bytes,
     };
-    Reply::Is(n, 0).numbers()
+    let Some(n) = table.desc_size(t) else {
+        return Answer::from(Err(Refusal::Malformed));
+    };
+    Answer::from(Ok((n, 0)))
 }
 
 // Whether values of type t can hold handles: 1 or 0.
@@ -133,11 +145,24 @@ pub fn yexwalu_has_handles(
 ) -> Answer
     ensures { result ≡ answered here nothing (handles_called types.now fields.now consts.now bytes.now t) }
 {
-    if !(Table { types, fields, consts, bytes }).check_table() {
-        return Reply::Not(Refusal::TypeTable).numbers();
+    if !(Table {
+        types,
+        fields,
+        consts,
+        bytes,
+    })
+    .check_table() {
+        return Answer::from(Err(Refusal::TypeTable));
     }
-    if (Table { types, fields, consts, bytes }).has_handles(t) {
-        return Reply::Is(1, 0).numbers();
+    if (Table {
+        types,
+        fields,
+        consts,
+        bytes,
+    })
+    .has_handles(t)
+    {
+        return Answer::from(Ok((1, 0)));
     }
-    Reply::Is(0, 0).numbers()
+    Answer::from(Ok((0, 0)))
 }

@@ -7,7 +7,7 @@ pub collect-done-requires : goal.collect-done-requires
 collect-done-requires c = can-collect ((record { types = c.args.types.now; fields = c.args.fields.now; consts = c.args.consts.now; bytes = c.args.bytes.now; roots = c.args.roots.now; pins = c.args.pins.now })) ((lent c.args.heap c.args.narrow.now c.args.wide.now c.args.pool.now)) c.admit.ensures c.in-Ready.is
 
 pub returns-in-Not : goal.returns-in-Not
-returns-in-Not c = let p = collect-refused ((record { types = c.args.types.now; fields = c.args.fields.now; consts = c.args.consts.now; bytes = c.args.bytes.now; roots = c.args.roots.now; pins = c.args.pins.now })) ((lent c.args.heap c.args.narrow.now c.args.wide.now c.args.pool.now)) c.admit.ensures c.in-Not.is c.numbers.ensures in record { work_after = p.0; rightly_collected = p.1 }
+returns-in-Not c = let p = collect-refused ((record { types = c.args.types.now; fields = c.args.fields.now; consts = c.args.consts.now; bytes = c.args.bytes.now; roots = c.args.roots.now; pins = c.args.pins.now })) ((lent c.args.heap c.args.narrow.now c.args.wide.now c.args.pool.now)) c.admit.ensures c.in-Not.is c.from.ensures in record { work_after = p.0; rightly_collected = p.1 }
 
 pub returns-in-Ready : goal.returns-in-Ready
-returns-in-Ready c = let p = collect-done ((record { types = c.args.types.now; fields = c.args.fields.now; consts = c.args.consts.now; bytes = c.args.bytes.now; roots = c.args.roots.now; pins = c.args.pins.now })) ((lent c.args.heap c.args.narrow.now c.args.wide.now c.args.pool.now)) c.admit.ensures c.in-Ready.is c.collect-done.ensures.tells c.numbers-in-Ready.ensures c.collect-done.ensures.marks_unchanged in record { work_after = p.0; rightly_collected = p.1 }
+returns-in-Ready c = let p = collect-done ((record { types = c.args.types.now; fields = c.args.fields.now; consts = c.args.consts.now; bytes = c.args.bytes.now; roots = c.args.roots.now; pins = c.args.pins.now })) ((lent c.args.heap c.args.narrow.now c.args.wide.now c.args.pool.now)) c.admit.ensures c.in-Ready.is c.collect-done.ensures.tells c.from-in-Ready.ensures c.collect-done.ensures.marks_unchanged in record { work_after = p.0; rightly_collected = p.1 }

@@ -14,11 +14,11 @@ overflow_add-a c = omega (arith, knows (goal.at.overflow_add-a c).After-begins-e
 pub overflow_sub-e : goal.overflow_sub-e
 overflow_sub-e c = omega (arith, knows (goal.at.overflow_sub-e c).After-begins-e)
 
-pub move_u8-requires : goal.move_u8-requires
-move_u8-requires c = omega (arith, knows (goal.at.move_u8-requires c).After-begins-e)
+pub move_within-requires : goal.move_within-requires
+move_within-requires c = omega (arith, knows (goal.at.move_within-requires c).After-begins-e)
 
-pub copy_u8-requires : goal.copy_u8-requires
-copy_u8-requires c = omega (arith, knows (goal.at.copy_u8-requires c).After-begins-e)
+pub copy-requires : goal.copy-requires
+copy-requires c = omega (arith, knows (goal.at.copy-requires c).After-begins-e)
 
 pub overflow_add-a-2 : goal.overflow_add-a-2
 overflow_add-a-2 c = omega (arith, knows (goal.at.overflow_add-a-2 c).After-begins-e)
@@ -29,14 +29,14 @@ overflow_sub-e-2 c = omega (arith, knows (goal.at.overflow_sub-e-2 c).After-begi
 pub overflow_add-a-3 : goal.overflow_add-a-3
 overflow_add-a-3 c = omega (arith, knows (goal.at.overflow_add-a-3 c).After-begins-e)
 
-pub fill_u8-requires : goal.fill_u8-requires
-fill_u8-requires c = omega (arith, knows (goal.at.fill_u8-requires c).After-begins-e)
+pub fill-requires : goal.fill-requires
+fill-requires c = omega (arith, knows (goal.at.fill-requires c).After-begins-e)
 
 pub overflow_sub-b : goal.overflow_sub-b
 overflow_sub-b c = omega (arith, knows (goal.at.overflow_sub-b c).After-begins-e)
 
-pub shift_u64-requires : goal.shift_u64-requires
-shift_u64-requires c = (omega (arith, knows (goal.at.shift_u64-requires c).After-begins-e), (knows (goal.at.shift_u64-requires c).After-begins-e).few, λ j h h'. omega (arith, knows (goal.at.shift_u64-requires c).After-begins-e, (knows (goal.at.shift_u64-requires c).After-begins-e).each j h h'))
+pub shift-requires : goal.shift-requires
+shift-requires c = (omega (arith, knows (goal.at.shift-requires c).After-begins-e), (knows (goal.at.shift-requires c).After-begins-e).few, λ j h h'. omega (arith, knows (goal.at.shift-requires c).After-begins-e, (knows (goal.at.shift-requires c).After-begins-e).each j h h'))
 
 pub returns : goal.returns
-returns c = splice-whole _ _ _ _ _ _ _ _ _ _ _ c.requires c.begins-a.ensures c.begins-e.ensures c.move_u8.ensures c.copy_u8.ensures c.fill_u8.ensures c.shift_u64.ensures
+returns c = splice-whole _ _ _ _ _ _ _ _ _ _ _ c.requires c.begins-a.ensures c.begins-e.ensures c.move_within.ensures c.copy.ensures c.fill.ensures c.shift.ensures

@@ -32,14 +32,14 @@ returns-then-out-size c = slot-short ((lent c.args.heap c.args.narrow.now c.args
 pub bounds-wide-j : goal.bounds-wide-j
 bounds-wide-j c = omega (arith, there ((lent c.args.heap c.args.narrow.now c.args.wide.now c.args.pool.now)) c.args.i c.requires, lengths c.args.heap c.args.narrow.now c.args.wide.now c.args.pool.now c.requires.formed)
 
-pub slice_bounds-copy_u8-count : goal.slice_bounds-copy_u8-count
-slice_bounds-copy_u8-count c = omega (arith, there ((lent c.args.heap c.args.narrow.now c.args.wide.now c.args.pool.now)) c.args.i c.requires, lengths c.args.heap c.args.narrow.now c.args.wide.now c.args.pool.now c.requires.formed, end_is (goal.at.slice_bounds-copy_u8-count c).Start, c.start_of-a.ensures)
+pub slice_bounds-copy-count : goal.slice_bounds-copy-count
+slice_bounds-copy-count c = omega (arith, there ((lent c.args.heap c.args.narrow.now c.args.wide.now c.args.pool.now)) c.args.i c.requires, lengths c.args.heap c.args.narrow.now c.args.wide.now c.args.pool.now c.requires.formed, end_is (goal.at.slice_bounds-copy-count c).Start, c.start_of-a.ensures)
 
-pub slice_bounds-copy_u8-start : goal.slice_bounds-copy_u8-start
-slice_bounds-copy_u8-start c = omega (arith, there ((lent c.args.heap c.args.narrow.now c.args.wide.now c.args.pool.now)) c.args.i c.requires, lengths c.args.heap c.args.narrow.now c.args.wide.now c.args.pool.now c.requires.formed, end_is (goal.at.slice_bounds-copy_u8-start c).Start, c.start_of-a.ensures)
+pub slice_bounds-copy-start : goal.slice_bounds-copy-start
+slice_bounds-copy-start c = omega (arith, there ((lent c.args.heap c.args.narrow.now c.args.wide.now c.args.pool.now)) c.args.i c.requires, lengths c.args.heap c.args.narrow.now c.args.wide.now c.args.pool.now c.requires.formed, end_is (goal.at.slice_bounds-copy-start c).Start, c.start_of-a.ensures)
 
-pub slice_bounds-copy_u8-end : goal.slice_bounds-copy_u8-end
-slice_bounds-copy_u8-end c = omega (arith, there ((lent c.args.heap c.args.narrow.now c.args.wide.now c.args.pool.now)) c.args.i c.requires, lengths c.args.heap c.args.narrow.now c.args.wide.now c.args.pool.now c.requires.formed, end_is (goal.at.slice_bounds-copy_u8-end c).Start, c.start_of-a.ensures)
+pub slice_bounds-copy-end : goal.slice_bounds-copy-end
+slice_bounds-copy-end c = omega (arith, there ((lent c.args.heap c.args.narrow.now c.args.wide.now c.args.pool.now)) c.args.i c.requires, lengths c.args.heap c.args.narrow.now c.args.wide.now c.args.pool.now c.requires.formed, end_is (goal.at.slice_bounds-copy-end c).Start, c.start_of-a.ensures)
 
 pub returns : goal.returns
-returns c = slot-taken ((lent c.args.heap c.args.narrow.now c.args.wide.now c.args.pool.now)) _ c.requires _ _ _ c.args.out.now _ _ (omega (arith, c.start_of-a.ensures, end_is (goal.at.returns c).Start)) c.if-out-size.false (from_is (goal.at.returns c).Start) (rw c.start_of-a.ensures refl) c.copy_u8.ensures c.put_away-after.ensures
+returns c = slot-taken ((lent c.args.heap c.args.narrow.now c.args.wide.now c.args.pool.now)) _ c.requires _ _ _ c.args.out.now _ _ (omega (arith, c.start_of-a.ensures, end_is (goal.at.returns c).Start)) c.if-out-size.false (from_is (goal.at.returns c).Start) (rw c.start_of-a.ensures refl) c.copy.ensures c.put_away-after.ensures

@@ -1,7 +1,7 @@
 -- What the parts of the calls that place and remove objects ask and leave.
 use Rattle.std.specs.Prelude.{◌≡◌, true, List, ℕ, ◌+◌, ◌≤◌, ◌<◌, ◌^◌, length, get_or, ltb, if◌then◌else◌}
 use Rattle.refusal.specs.Told.{told, answered, here, nothing}
-use Rattle.refusal.specs.declared.Reply.{Reply}
+use Rattle.refusal.specs.Told.{Reply}
 use Rattle.handle.specs.Handle.{packed}
 use Rattle.heap.specs.State.{State, slot_at, live, data_size, with_free}
 use Rattle.heap.specs.Lent.{Lent, view, pool_size}

@@ -6,7 +6,7 @@ use borrow.Author.Rules.{rules}
 use Rattle.heap_check.proofs.check.Goals as goal
 
 pub checked-formed-requires : goal.checked-formed-requires
-checked-formed-requires c = (search rules, zeros-cleared _ (length c.args.marks.now) c.clear_u8.ensures)
+checked-formed-requires c = (search rules, zeros-cleared _ (length c.args.marks.now) (c.fill.ensures.after (λ y e. e)))
 
 pub returns : goal.returns
-returns c = (says-formed c.args.heap c.args.narrow.now c.args.wide.now c.args.pool.now _ c.checked-formed.ensures, zeros-as {n = length c.checked-formed.new.marks} {m = length c.args.marks.now} c.clear_u8-2.ensures (search rules))
+returns c = (says-formed c.args.heap c.args.narrow.now c.args.wide.now c.args.pool.now _ c.checked-formed.ensures, zeros-as {n = length c.checked-formed.new.marks} {m = length c.args.marks.now} (c.fill-2.ensures.after (λ y e. e)) (search rules))

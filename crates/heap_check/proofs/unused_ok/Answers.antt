@@ -1,47 +1,47 @@
 -- `heap_check::unused_ok` meets its contract: a column that is not zero is refused.
-use Rattle.heap_check.proofs.Looking.{says-yes, no-more-test, holds_test}
+use Rattle.heap_check.proofs.Looking.{says-yes, no-more-zeros, holds-zeros}
 use Rattle.heap_check.proofs.unused_ok.Goals as goal
 
-pub returns-else-zeros_u32 : goal.returns-else-zeros_u32
-returns-else-zeros_u32 c = no-more-test c.zeros_u32.ensures c.if-zeros_u32.false (λ y. y.generation)
+pub returns-then-not-all_are : goal.returns-then-not-all_are
+returns-then-not-all_are c = no-more-zeros c.args.n c.args.generation.now c.all_are.ensures c.if-not-all_are.true (λ y. y.generation)
 
-pub returns-else-zeros_u32-2 : goal.returns-else-zeros_u32-2
-returns-else-zeros_u32-2 c = no-more-test c.zeros_u32-2.ensures c.if-zeros_u32-2.false (λ y. y.kind)
+pub returns-then-not-all_are-2 : goal.returns-then-not-all_are-2
+returns-then-not-all_are-2 c = no-more-zeros c.args.n c.args.kind.now c.all_are-2.ensures c.if-not-all_are-2.true (λ y. y.kind)
 
-pub returns-else-zeros_u32-3 : goal.returns-else-zeros_u32-3
-returns-else-zeros_u32-3 c = no-more-test c.zeros_u32-3.ensures c.if-zeros_u32-3.false (λ y. y.type)
+pub returns-then-not-all_are-3 : goal.returns-then-not-all_are-3
+returns-then-not-all_are-3 c = no-more-zeros c.args.n c.args.ty.now c.all_are-3.ensures c.if-not-all_are-3.true (λ y. y.type)
 
-pub returns-else-zeros_u64 : goal.returns-else-zeros_u64
-returns-else-zeros_u64 c = no-more-test c.zeros_u64.ensures c.if-zeros_u64.false (λ y. y.start)
+pub returns-then-not-all_are-4 : goal.returns-then-not-all_are-4
+returns-then-not-all_are-4 c = no-more-zeros c.args.n c.args.start.now c.all_are-4.ensures c.if-not-all_are-4.true (λ y. y.start)
 
-pub returns-else-zeros_u64-2 : goal.returns-else-zeros_u64-2
-returns-else-zeros_u64-2 c = no-more-test c.zeros_u64-2.ensures c.if-zeros_u64-2.false (λ y. y.end)
+pub returns-then-not-all_are-5 : goal.returns-then-not-all_are-5
+returns-then-not-all_are-5 c = no-more-zeros c.args.n c.args.end.now c.all_are-5.ensures c.if-not-all_are-5.true (λ y. y.end)
 
-pub returns-else-zeros_u64-3 : goal.returns-else-zeros_u64-3
-returns-else-zeros_u64-3 c = no-more-test c.zeros_u64-3.ensures c.if-zeros_u64-3.false (λ y. y.writes)
+pub returns-then-not-all_are-6 : goal.returns-then-not-all_are-6
+returns-then-not-all_are-6 c = no-more-zeros c.args.n c.args.writes.now c.all_are-6.ensures c.if-not-all_are-6.true (λ y. y.writes)
 
-pub returns-else-zeros_u32-4 : goal.returns-else-zeros_u32-4
-returns-else-zeros_u32-4 c = no-more-test c.zeros_u32-4.ensures c.if-zeros_u32-4.false (λ y. y.free)
+pub returns-then-not-all_are-7 : goal.returns-then-not-all_are-7
+returns-then-not-all_are-7 c = no-more-zeros c.args.f c.args.free.now c.all_are-7.ensures c.if-not-all_are-7.true (λ y. y.free)
 
-pub returns-else-zeros_u32-5 : goal.returns-else-zeros_u32-5
-returns-else-zeros_u32-5 c = no-more-test c.zeros_u32-5.ensures c.if-zeros_u32-5.false (λ y. y.quarantine)
+pub returns-then-not-all_are-8 : goal.returns-then-not-all_are-8
+returns-then-not-all_are-8 c = no-more-zeros c.args.q c.args.quarantine.now c.all_are-8.ensures c.if-not-all_are-8.true (λ y. y.quarantine)
 
-pub returns-else-zeros_u64-4 : goal.returns-else-zeros_u64-4
-returns-else-zeros_u64-4 c = no-more-test c.zeros_u64-4.ensures c.if-zeros_u64-4.false (λ y. y.sealed)
+pub returns-then-not-all_are-9 : goal.returns-then-not-all_are-9
+returns-then-not-all_are-9 c = no-more-zeros c.args.x c.args.sealed.now c.all_are-9.ensures c.if-not-all_are-9.true (λ y. y.sealed)
 
-pub returns-else-zeros_u32-6 : goal.returns-else-zeros_u32-6
-returns-else-zeros_u32-6 c = no-more-test c.zeros_u32-6.ensures c.if-zeros_u32-6.false (λ y. y.retired)
+pub returns-then-not-all_are-10 : goal.returns-then-not-all_are-10
+returns-then-not-all_are-10 c = no-more-zeros c.args.r c.args.retired.now c.all_are-10.ensures c.if-not-all_are-10.true (λ y. y.retired)
 
 pub returns : goal.returns
 returns c = says-yes (record {
-  generation = holds_test c.zeros_u32.ensures c.if-zeros_u32.true;
-  kind = holds_test c.zeros_u32-2.ensures c.if-zeros_u32-2.true;
-  type = holds_test c.zeros_u32-3.ensures c.if-zeros_u32-3.true;
-  start = holds_test c.zeros_u64.ensures c.if-zeros_u64.true;
-  end = holds_test c.zeros_u64-2.ensures c.if-zeros_u64-2.true;
-  writes = holds_test c.zeros_u64-3.ensures c.if-zeros_u64-3.true;
-  free = holds_test c.zeros_u32-4.ensures c.if-zeros_u32-4.true;
-  quarantine = holds_test c.zeros_u32-5.ensures c.if-zeros_u32-5.true;
-  sealed = holds_test c.zeros_u64-4.ensures c.if-zeros_u64-4.true;
-  retired = holds_test c.zeros_u32-6.ensures c.if-zeros_u32-6.true;
+  generation = holds-zeros c.args.n c.args.generation.now c.all_are.ensures c.if-not-all_are.false;
+  kind = holds-zeros c.args.n c.args.kind.now c.all_are-2.ensures c.if-not-all_are-2.false;
+  type = holds-zeros c.args.n c.args.ty.now c.all_are-3.ensures c.if-not-all_are-3.false;
+  start = holds-zeros c.args.n c.args.start.now c.all_are-4.ensures c.if-not-all_are-4.false;
+  end = holds-zeros c.args.n c.args.end.now c.all_are-5.ensures c.if-not-all_are-5.false;
+  writes = holds-zeros c.args.n c.args.writes.now c.all_are-6.ensures c.if-not-all_are-6.false;
+  free = holds-zeros c.args.f c.args.free.now c.all_are-7.ensures c.if-not-all_are-7.false;
+  quarantine = holds-zeros c.args.q c.args.quarantine.now c.all_are-8.ensures c.if-not-all_are-8.false;
+  sealed = holds-zeros c.args.x c.args.sealed.now c.all_are-9.ensures c.if-not-all_are-9.false;
+  retired = holds-zeros c.args.r c.args.retired.now c.all_are-10.ensures c.if-not-all_are-10.false;
 })

@@ -5,7 +5,7 @@ use Rattle.door.proofs.Entering.{entered, ask-refused, ask-ready}
 use Rattle.heap_door.proofs.yexwalu_has_quarantine.Goals as goal
 
 pub returns-in-Not : goal.returns-in-Not
-returns-in-Not c = ask-refused c.enter.ensures _ _ _ _ c.in-Not.is c.numbers.ensures
+returns-in-Not c = ask-refused c.enter.ensures _ _ _ _ c.in-Not.is c.from.ensures
 
 pub returns-in-Ready : goal.returns-in-Ready
-returns-in-Ready c = ask-ready c.enter.ensures _ _ _ _ c.in-Ready.is (c.has_quarantine.ensures ((lent c.args.heap c.args.narrow.now c.args.wide.now c.args.pool.now)) refl (entered ((lent c.args.heap c.args.narrow.now c.args.wide.now c.args.pool.now)) c.enter.ensures c.in-Ready.is)) c.numbers-in-Ready.ensures
+returns-in-Ready c = ask-ready c.enter.ensures _ _ _ _ c.in-Ready.is (c.has_quarantine.ensures ((lent c.args.heap c.args.narrow.now c.args.wide.now c.args.pool.now)) refl (entered ((lent c.args.heap c.args.narrow.now c.args.wide.now c.args.pool.now)) c.enter.ensures c.in-Ready.is)) c.from-in-Ready.ensures

@@ -1,7 +1,7 @@
 -- `heap_door::yexwalu_seal` meets its contract.
 use mathlib.Core.Path.{refl}
 use Rattle.refusal.specs.Told.{nothing}
-use Rattle.refusal.specs.declared.Reply.TheVariants.{Is}
+use Rattle.std.specs.Prelude.{Ok}
 use Rattle.heap.specs.Calls.{seal}
 use Rattle.heap_door.specs.Sealing.{sealing}
 use Rattle.heap.specs.Done.{Leaves, Tells}
@@ -9,14 +9,14 @@ use Rattle.heap.specs.Lent.{Lent, lent, view}
 use Rattle.door.proofs.Entering.{entered, call-refused, call-ready}
 use Rattle.heap_door.proofs.yexwalu_seal.Goals as goal
 
-sealed-told : (l l' : Lent) → Leaves l l' (seal (view l)) → Tells nothing nothing l l' (Is 0 0) (sealing (view l))
+sealed-told : (l l' : Lent) → Leaves l l' (seal (view l)) → Tells nothing nothing l l' (Ok (0, 0)) (sealing (view l))
 sealed-told l l' k = record { leaves = k; says = refl }
 
 pub seal-after-requires : goal.seal-after-requires
 seal-after-requires c = entered ((lent c.args.heap c.args.narrow.now c.args.wide.now c.args.pool.now)) c.enter.ensures c.in-Ready.is
 
 pub returns-in-Not : goal.returns-in-Not
-returns-in-Not c = call-refused c.enter.ensures _ _ _ c.in-Not.is c.numbers.ensures
+returns-in-Not c = call-refused c.enter.ensures _ _ _ c.in-Not.is c.from.ensures
 
 pub returns-in-Ready : goal.returns-in-Ready
-returns-in-Ready c = call-ready c.enter.ensures _ _ _ c.in-Ready.is (sealed-told _ _ c.seal-after.ensures) c.numbers-in-Ready.ensures
+returns-in-Ready c = call-ready c.enter.ensures _ _ _ c.in-Ready.is (sealed-told _ _ c.seal-after.ensures) c.from-in-Ready.ensures

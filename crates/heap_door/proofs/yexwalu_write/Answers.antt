@@ -7,7 +7,7 @@ pub write-requires : goal.write-requires
 write-requires c = entered ((lent c.args.heap c.args.narrow.now c.args.wide.now c.args.pool.now)) c.enter.ensures c.in-Ready.is
 
 pub returns-in-Not : goal.returns-in-Not
-returns-in-Not c = call-refused c.enter.ensures _ _ _ c.in-Not.is c.numbers.ensures
+returns-in-Not c = call-refused c.enter.ensures _ _ _ c.in-Not.is c.from.ensures
 
 pub returns-in-Ready : goal.returns-in-Ready
-returns-in-Ready c = call-ready c.enter.ensures _ _ _ c.in-Ready.is c.write.ensures c.numbers-in-Ready.ensures
+returns-in-Ready c = call-ready c.enter.ensures _ _ _ c.in-Ready.is c.write.ensures c.from-in-Ready.ensures

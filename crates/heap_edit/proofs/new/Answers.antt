@@ -3,4 +3,4 @@ use Rattle.heap_edit.proofs.Making.{new-lies}
 use Rattle.heap_edit.proofs.new.Goals as goal
 
 pub returns : goal.returns
-returns c = new-lies _ _ c.args.narrow.now c.args.wide.now c.args.pool.now _ _ _ c.requires.narrow_len c.requires.wide_len c.new.ensures c.clear_u32.ensures c.clear_u64.ensures c.clear_u8.ensures
+returns c = new-lies _ _ c.args.narrow.now c.args.wide.now c.args.pool.now _ _ _ c.requires.narrow_len c.requires.wide_len c.new.ensures (c.fill.ensures.after (λ y e. e)) (c.fill-2.ensures.after (λ y e. e)) (c.fill-3.ensures.after (λ y e. e))

@@ -30,8 +30,8 @@ raise-requires-in-Shown c = omega (arith, K (goal.at.raise-requires-in-Shown c).
 pub overflow_add-from : goal.overflow_add-from
 overflow_add-from c = omega (arith, K (goal.at.overflow_add-from c).Start, c.if-size-at.false, shown-inside ((lent c.args.heap c.args.narrow.now c.args.wide.now c.args.pool.now)) c.requires _ c.args.at c.args.bytes.now (sym c.seen.ensures ∙ c.in-Shown.is))
 
-pub copy_u8-requires : goal.copy_u8-requires
-copy_u8-requires c = omega (arith, c.if-size-at.false, c.if-size-at-2.false, shown-inside ((lent c.args.heap c.args.narrow.now c.args.wide.now c.args.pool.now)) c.requires _ c.args.at c.args.bytes.now (sym c.seen.ensures ∙ c.in-Shown.is))
+pub copy-requires : goal.copy-requires
+copy-requires c = omega (arith, c.if-size-at.false, c.if-size-at-2.false, shown-inside ((lent c.args.heap c.args.narrow.now c.args.wide.now c.args.pool.now)) c.requires _ c.args.at c.args.bytes.now (sym c.seen.ensures ∙ c.in-Shown.is))
 
 pub returns-in-Dead : goal.returns-in-Dead
 returns-in-Dead c = write-none ((lent c.args.heap c.args.narrow.now c.args.wide.now c.args.pool.now)) c.requires _ c.args.at c.args.bytes.now (sym c.seen.ensures ∙ c.in-Dead.is)
@@ -40,4 +40,4 @@ pub returns-in-Hidden : goal.returns-in-Hidden
 returns-in-Hidden c = write-hides c.args.heap c.args.narrow.now c.args.wide.now c.args.pool.now c.requires _ c.args.at c.args.bytes.now _ (hidden-inside ((lent c.args.heap c.args.narrow.now c.args.wide.now c.args.pool.now)) c.requires _ c.args.at c.args.bytes.now (sym c.seen.ensures ∙ c.in-Hidden.is)) c.raise.ensures (sym c.seen.ensures ∙ c.in-Hidden.is)
 
 pub returns-else-size-at-2 : goal.returns-else-size-at-2
-returns-else-size-at-2 c = write-yes c.args.heap c.args.narrow.now c.args.wide.now c.args.pool.now c.requires _ c.args.at c.args.bytes.now _ (shown-inside ((lent c.args.heap c.args.narrow.now c.args.wide.now c.args.pool.now)) c.requires _ c.args.at c.args.bytes.now (sym c.seen.ensures ∙ c.in-Shown.is)).0 c.raise-in-Shown.ensures _ (sym c.seen.ensures ∙ c.in-Shown.is) (omega (arith, c.if-size-at.false, c.if-size-at-2.false)) c.copy_u8.ensures
+returns-else-size-at-2 c = write-yes c.args.heap c.args.narrow.now c.args.wide.now c.args.pool.now c.requires _ c.args.at c.args.bytes.now _ (shown-inside ((lent c.args.heap c.args.narrow.now c.args.wide.now c.args.pool.now)) c.requires _ c.args.at c.args.bytes.now (sym c.seen.ensures ∙ c.in-Shown.is)).0 c.raise-in-Shown.ensures _ (sym c.seen.ensures ∙ c.in-Shown.is) (omega (arith, c.if-size-at.false, c.if-size-at-2.false)) c.copy.ensures

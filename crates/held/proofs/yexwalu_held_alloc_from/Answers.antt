@@ -8,4 +8,4 @@ pub alloc_from-done-requires : goal.alloc_from-done-requires
 alloc_from-done-requires c = formed c.requires c.header-heap.ensures refl refl
 
 pub returns : goal.returns
-returns c = holds here nothing _ c.alloc_from-done.ensures c.numbers.ensures c.header-heap.ensures c.keep.ensures refl refl refl refl
+returns c = holds here nothing _ c.alloc_from-done.ensures c.from.ensures c.header-heap.ensures c.keep.ensures refl refl refl refl

@@ -9,4 +9,4 @@ pub data-requires : goal.data-requires
 data-requires c = formed c.requires c.header-heap.ensures refl refl
 
 pub returns : goal.returns
-returns c = asks (λ (p : Place). p.from) (λ (p : Place). p.size) (λ s. place_at s c.args.i) c.data.ensures c.numbers.ensures c.header-heap.ensures refl refl
+returns c = asks (λ (p : Place). p.from) (λ (p : Place). p.size) (λ s. place_at s c.args.i) c.data.ensures c.from.ensures c.header-heap.ensures refl refl

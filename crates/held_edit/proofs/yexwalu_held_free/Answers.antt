@@ -8,4 +8,4 @@ pub free-done-requires : goal.free-done-requires
 free-done-requires c = formed c.requires c.header-heap.ensures refl refl
 
 pub returns : goal.returns
-returns c = holds nothing nothing _ c.free-done.ensures c.numbers.ensures c.header-heap.ensures c.keep.ensures refl refl refl refl
+returns c = holds nothing nothing _ c.free-done.ensures c.from.ensures c.header-heap.ensures c.keep.ensures refl refl refl refl

@@ -9,4 +9,4 @@ pub kind-requires : goal.kind-requires
 kind-requires c = formed c.requires c.header-heap.ensures refl refl
 
 pub returns : goal.returns
-returns c = asks (λ (k : Kind). k.kind) (λ (k : Kind). k.type) (λ s. kind_at s c.args.i) c.kind.ensures c.numbers.ensures c.header-heap.ensures refl refl
+returns c = asks (λ (k : Kind). k.kind) (λ (k : Kind). k.type) (λ s. kind_at s c.args.i) c.kind.ensures c.from.ensures c.header-heap.ensures refl refl

@@ -11,4 +11,4 @@ pub live-requires : goal.live-requires
 live-requires c = formed c.requires c.header-heap.ensures refl refl
 
 pub returns : goal.returns
-returns c = asks here nothing (λ s. ok (live_count s.slots)) c.live.ensures c.numbers.ensures c.header-heap.ensures refl refl
+returns c = asks here nothing (λ s. ok (live_count s.slots)) c.live.ensures c.from.ensures c.header-heap.ensures refl refl

@@ -8,4 +8,4 @@ pub reissue-done-requires : goal.reissue-done-requires
 reissue-done-requires c = formed c.requires c.header-heap.ensures refl refl
 
 pub returns : goal.returns
-returns c = holds here nothing _ c.reissue-done.ensures c.numbers.ensures c.header-heap.ensures c.keep.ensures refl refl refl refl
+returns c = holds here nothing _ c.reissue-done.ensures c.from.ensures c.header-heap.ensures c.keep.ensures refl refl refl refl

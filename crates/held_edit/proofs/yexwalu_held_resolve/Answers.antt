@@ -10,4 +10,4 @@ pub resolve-requires : goal.resolve-requires
 resolve-requires c = formed c.requires c.header-heap.ensures refl refl
 
 pub returns : goal.returns
-returns c = asks here nothing (λ s. resolve s c.args.handle) c.resolve.ensures c.numbers.ensures c.header-heap.ensures refl refl
+returns c = asks here nothing (λ s. resolve s c.args.handle) c.resolve.ensures c.from.ensures c.header-heap.ensures refl refl

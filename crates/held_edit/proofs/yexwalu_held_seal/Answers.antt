@@ -9,4 +9,4 @@ pub seal-after-requires : goal.seal-after-requires
 seal-after-requires c = formed c.requires c.header-heap.ensures refl refl
 
 pub returns : goal.returns
-returns c = holds nothing nothing _ (sealed-tells c.seal-after.ensures) c.numbers.ensures c.header-heap.ensures c.keep.ensures refl refl refl refl
+returns c = holds nothing nothing _ (sealed-tells c.seal-after.ensures) c.from.ensures c.header-heap.ensures c.keep.ensures refl refl refl refl

@@ -9,4 +9,4 @@ pub stamp-requires : goal.stamp-requires
 stamp-requires c = formed c.requires c.header-heap.ensures refl refl
 
 pub returns : goal.returns
-returns c = asks (λ (k : Stamp). k.generation) (λ (k : Stamp). k.writes) (λ s. stamp_at s c.args.i) c.stamp.ensures c.numbers.ensures c.header-heap.ensures refl refl
+returns c = asks (λ (k : Stamp). k.generation) (λ (k : Stamp). k.writes) (λ s. stamp_at s c.args.i) c.stamp.ensures c.from.ensures c.header-heap.ensures refl refl

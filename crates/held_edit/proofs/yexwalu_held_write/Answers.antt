@@ -8,4 +8,4 @@ pub write-requires : goal.write-requires
 write-requires c = formed c.requires c.header-heap.ensures refl refl
 
 pub returns : goal.returns
-returns c = holds nothing nothing _ c.write.ensures c.numbers.ensures c.header-heap.ensures c.header-heap.ensures refl refl refl refl
+returns c = holds nothing nothing _ c.write.ensures c.from.ensures c.header-heap.ensures c.header-heap.ensures refl refl refl refl

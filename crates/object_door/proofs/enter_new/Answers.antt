@@ -9,7 +9,7 @@ pub returns-then-work-slots : goal.returns-then-work-slots
 returns-then-work-slots c = new-no-words c.args.marks.now c.args.work.now c.args.narrow.now c.args.wide.now c.args.pool.now c.if-marks-slots.false c.if-work-slots.true
 
 pub returns-then-sizes_fit : goal.returns-then-sizes_fit
-returns-then-sizes_fit c = new-sizes c.args.marks.now c.args.work.now c.args.narrow.now c.args.wide.now c.args.pool.now c.if-marks-slots.false c.if-work-slots.false _ _ _ c.sizes_fit.ensures c.clear_u8.ensures c.clear_u64.ensures c.if-sizes_fit.true
+returns-then-sizes_fit c = new-sizes c.args.marks.now c.args.work.now c.args.narrow.now c.args.wide.now c.args.pool.now c.if-marks-slots.false c.if-work-slots.false _ _ _ c.sizes_fit.ensures (c.fill.ensures.after (λ y e. e)) (c.fill-2.ensures.after (λ y e. e)) c.if-sizes_fit.true
 
 pub returns : goal.returns
-returns c = new-no-sizes c.args.marks.now c.args.work.now c.args.narrow.now c.args.wide.now c.args.pool.now c.if-marks-slots.false c.if-work-slots.false _ _ _ c.sizes_fit.ensures c.clear_u8.ensures c.clear_u64.ensures c.if-sizes_fit.false
+returns c = new-no-sizes c.args.marks.now c.args.work.now c.args.narrow.now c.args.wide.now c.args.pool.now c.if-marks-slots.false c.if-work-slots.false _ _ _ c.sizes_fit.ensures (c.fill.ensures.after (λ y e. e)) (c.fill-2.ensures.after (λ y e. e)) c.if-sizes_fit.false

@@ -8,7 +8,7 @@ pub take-done-requires : goal.take-done-requires
 take-done-requires c = (entered ((lent c.args.heap c.args.narrow.now c.args.wide.now c.args.pool.now)) c.enter.ensures c.in-Ready.is)
 
 pub returns-in-Not : goal.returns-in-Not
-returns-in-Not c = take-refused c.enter.ensures c.args.handle c.args.out.now c.in-Not.is c.numbers.ensures
+returns-in-Not c = take-refused c.enter.ensures c.args.handle c.args.out.now c.in-Not.is c.from.ensures
 
 pub returns-in-Ready : goal.returns-in-Ready
-returns-in-Ready c = take-ready c.enter.ensures c.args.handle c.args.out.now c.in-Ready.is c.take-done.ensures c.numbers-in-Ready.ensures
+returns-in-Ready c = take-ready c.enter.ensures c.args.handle c.args.out.now c.in-Ready.is c.take-done.ensures c.from-in-Ready.ensures

@@ -7,7 +7,7 @@ pub measure-requires : goal.measure-requires
 measure-requires c = entered ((lent c.args.heap c.args.narrow.now c.args.wide.now c.args.pool.now)) c.enter.ensures c.in-Ready.is
 
 pub returns-in-Not : goal.returns-in-Not
-returns-in-Not c = ask-refused c.enter.ensures _ _ _ _ c.in-Not.is c.numbers.ensures
+returns-in-Not c = ask-refused c.enter.ensures _ _ _ _ c.in-Not.is c.from.ensures
 
 pub returns-in-Ready : goal.returns-in-Ready
-returns-in-Ready c = ask-ready c.enter.ensures _ _ _ _ c.in-Ready.is c.measure.ensures c.numbers-in-Ready.ensures
+returns-in-Ready c = ask-ready c.enter.ensures _ _ _ _ c.in-Ready.is c.measure.ensures c.from-in-Ready.ensures

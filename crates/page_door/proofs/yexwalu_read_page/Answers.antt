@@ -3,10 +3,10 @@ use Rattle.page_door.proofs.Paging.{few-scratch, has-work, page-read}
 use Rattle.page_door.proofs.yexwalu_read_page.Goals as goal
 
 pub returns-else-scratch_fits : goal.returns-else-scratch_fits
-returns-else-scratch_fits c = few-scratch (lent c.args.heap c.args.narrow.now c.args.wide.now c.args.pool.now) c.args.text.now c.args.marks.now c.args.work.now c.scratch_fits.ensures c.if-scratch_fits.false c.numbers.ensures
+returns-else-scratch_fits c = few-scratch (lent c.args.heap c.args.narrow.now c.args.wide.now c.args.pool.now) c.args.text.now c.args.marks.now c.args.work.now c.scratch_fits.ensures c.if-scratch_fits.false c.from.ensures
 
 pub read-done-requires : goal.read-done-requires
 read-done-requires c = has-work (lent c.args.heap c.args.narrow.now c.args.wide.now c.args.pool.now) c.args.text.now c.args.marks.now c.args.work.now c.scratch_fits.ensures c.if-scratch_fits.true
 
 pub returns : goal.returns
-returns c = page-read (lent c.args.heap c.args.narrow.now c.args.wide.now c.args.pool.now) c.args.text.now c.args.marks.now c.args.work.now c.scratch_fits.ensures c.if-scratch_fits.true c.read-done.ensures.page_read c.numbers-2.ensures c.clear_u8.ensures c.read-done.ensures.work_after
+returns c = page-read (lent c.args.heap c.args.narrow.now c.args.wide.now c.args.pool.now) c.args.text.now c.args.marks.now c.args.work.now c.scratch_fits.ensures c.if-scratch_fits.true c.read-done.ensures.page_read c.from-2.ensures (c.fill.ensures.after (λ y e. e)) c.read-done.ensures.work_after

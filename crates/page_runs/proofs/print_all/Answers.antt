@@ -20,17 +20,17 @@ least-more-requires c = tt
 pub overflow_add-next : goal.overflow_add-next
 overflow_add-next c = omega (arith, (some_more c.loop-used.invariant _ c.loop-used-test.true c.least-more.ensures).1)
 
-pub slice_bounds-copy_u8-count : goal.slice_bounds-copy_u8-count
-slice_bounds-copy_u8-count c = omega arith
+pub slice_bounds-copy-count : goal.slice_bounds-copy-count
+slice_bounds-copy-count c = omega arith
 
-pub slice_bounds-copy_u8-start : goal.slice_bounds-copy_u8-start
-slice_bounds-copy_u8-start c = omega arith
+pub slice_bounds-copy-start : goal.slice_bounds-copy-start
+slice_bounds-copy-start c = omega arith
 
-pub slice_bounds-copy_u8-end-in-loop-used : goal.slice_bounds-copy_u8-end-in-loop-used
-slice_bounds-copy_u8-end-in-loop-used c = omega (arith, (some_more c.loop-used.invariant _ c.loop-used-test.true c.least-more.ensures).1)
+pub slice_bounds-copy-end-in-loop-used : goal.slice_bounds-copy-end-in-loop-used
+slice_bounds-copy-end-in-loop-used c = omega (arith, (some_more c.loop-used.invariant _ c.loop-used-test.true c.least-more.ensures).1)
 
-pub copy_u8-requires : goal.copy_u8-requires
-copy_u8-requires c = omega (arith, part_length c.loop-used.invariant _ c.loop-used-test.true c.least-more.ensures, (some_more c.loop-used.invariant _ c.loop-used-test.true c.least-more.ensures).2, c.copy_u8-arg-1.given.0.1)
+pub copy-requires : goal.copy-requires
+copy-requires c = omega (arith, part_length c.loop-used.invariant _ c.loop-used-test.true c.least-more.ensures, (some_more c.loop-used.invariant _ c.loop-used-test.true c.least-more.ensures).2, c.copy-arg-1.given.0.1)
 
 pub overflow_add-held : goal.overflow_add-held
 overflow_add-held c = omega (arith, (some_more c.loop-used.invariant _ c.loop-used-test.true c.least-more.ensures).2)
@@ -42,7 +42,7 @@ pub loop-used-smaller : goal.loop-used-smaller
 loop-used-smaller c = let w = some_more c.loop-used.invariant _ c.loop-used-test.true c.least-more.ensures in omega (arith, w.0, w.1)
 
 pub loop-used-preserved : goal.loop-used-preserved
-loop-used-preserved c = going_on c.loop-used.invariant _ c.loop-used-test.true c.least-more.ensures c.copy_u8-arg-1.given.0.1 _ c.copy_u8.ensures c.go_on-run.ensures
+loop-used-preserved c = going_on c.loop-used.invariant _ c.loop-used-test.true c.least-more.ensures c.copy-arg-1.given.0.1 _ c.copy.ensures c.go_on-run.ensures
 
 pub finish-requires : goal.finish-requires
 finish-requires c = c.loop-used.invariant.good

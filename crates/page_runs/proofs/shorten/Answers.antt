@@ -16,8 +16,8 @@ overflow_sub-odd c = omega (arith, head-fits _ c.requires c.data_start-arg-2-1.g
 pub overflow_add-from : goal.overflow_add-from
 overflow_add-from c = omega (arith, head-fits _ c.requires c.data_start-arg-2-1.given _ c.data_start-from.ensures c.if-from-eq0.false)
 
-pub move_u8-requires : goal.move_u8-requires
-move_u8-requires c = let k = head-fits _ c.requires c.data_start-arg-2-1.given _ c.data_start-from.ensures c.if-from-eq0.false in (omega (arith, k, c.move_u8-arg-1.given.0.1), omega (arith, k, c.move_u8-arg-1.given.0.1))
+pub move_within-requires : goal.move_within-requires
+move_within-requires c = let k = head-fits _ c.requires c.data_start-arg-2-1.given _ c.data_start-from.ensures c.if-from-eq0.false in (omega (arith, k, c.move_within-arg-1.given.0.1), omega (arith, k, c.move_within-arg-1.given.0.1))
 
 pub overflow_add-result : goal.overflow_add-result
 overflow_add-result c = omega (arith, head-fits _ c.requires c.data_start-arg-2-1.given _ c.data_start-from.ensures c.if-from-eq0.false)
@@ -26,4 +26,4 @@ pub overflow_add-result-2 : goal.overflow_add-result-2
 overflow_add-result-2 c = omega (arith, head-fits _ c.requires c.data_start-arg-2-1.given _ c.data_start-from.ensures c.if-from-eq0.false)
 
 pub returns : goal.returns
-returns c = shortened _ c.requires c.data_start-arg-2-1.given _ c.data_start-from.ensures c.if-from-eq0.false (sym c.if-all_hex.true ∙ c.all_hex.ensures) _ refl _ c.move_u8.ensures
+returns c = shortened _ c.requires c.data_start-arg-2-1.given _ c.data_start-from.ensures c.if-from-eq0.false (sym c.if-all_hex.true ∙ c.all_hex.ensures) _ refl _ c.move_within.ensures

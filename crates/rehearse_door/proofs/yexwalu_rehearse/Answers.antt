@@ -9,10 +9,10 @@ pub rehearse_all-done-requires : goal.rehearse_all-done-requires
 rehearse_all-done-requires c = can-rehearse ((record { types = c.args.types.now; fields = c.args.fields.now; consts = c.args.consts.now; bytes = c.args.bytes.now; text = c.args.text.now; thresholds = c.args.thresholds.now })) c.args.heap c.args.narrow.now c.args.wide.now c.args.pool.now c.args.out.now c.args.words.now c.args.marks.now c.args.work.now c.admit.ensures c.in-Ready.is
 
 pub returns-in-Not : goal.returns-in-Not
-returns-in-Not c = record { out_after = rehearse-refused ((record { types = c.args.types.now; fields = c.args.fields.now; consts = c.args.consts.now; bytes = c.args.bytes.now; text = c.args.text.now; thresholds = c.args.thresholds.now })) c.args.heap c.args.narrow.now c.args.wide.now c.args.pool.now c.args.out.now c.args.words.now c.args.marks.now c.args.work.now c.admit.ensures c.in-Not.is c.numbers.ensures; plain_lines = plain-refused ((record { types = c.args.types.now; fields = c.args.fields.now; consts = c.args.consts.now; bytes = c.args.bytes.now; text = c.args.text.now; thresholds = c.args.thresholds.now })) c.args.heap c.args.narrow.now c.args.wide.now c.args.pool.now c.args.out.now c.args.words.now c.args.marks.now c.args.work.now c.admit.ensures c.in-Not.is c.numbers.ensures }
+returns-in-Not c = record { out_after = rehearse-refused ((record { types = c.args.types.now; fields = c.args.fields.now; consts = c.args.consts.now; bytes = c.args.bytes.now; text = c.args.text.now; thresholds = c.args.thresholds.now })) c.args.heap c.args.narrow.now c.args.wide.now c.args.pool.now c.args.out.now c.args.words.now c.args.marks.now c.args.work.now c.admit.ensures c.in-Not.is c.from.ensures; plain_lines = plain-refused ((record { types = c.args.types.now; fields = c.args.fields.now; consts = c.args.consts.now; bytes = c.args.bytes.now; text = c.args.text.now; thresholds = c.args.thresholds.now })) c.args.heap c.args.narrow.now c.args.wide.now c.args.pool.now c.args.out.now c.args.words.now c.args.marks.now c.args.work.now c.admit.ensures c.in-Not.is c.from.ensures }
 
 pub shape_of-words-in-Ready : goal.shape_of-words-in-Ready
-shape_of-words-in-Ready c = c.clear_u64.auto.dst ∙ c.rehearse_all-done.auto.words ∙ c.admit.auto.words
+shape_of-words-in-Ready c = c.fill.auto.self ∙ c.rehearse_all-done.auto.words ∙ c.admit.auto.words
 
 pub shape_of-marks-in-Ready : goal.shape_of-marks-in-Ready
 shape_of-marks-in-Ready c = c.rehearse_all-done.auto.marks ∙ c.admit.auto.marks
@@ -21,4 +21,4 @@ pub shape_of-work-in-Ready : goal.shape_of-work-in-Ready
 shape_of-work-in-Ready c = c.rehearse_all-done.auto.work ∙ c.admit.auto.work
 
 pub returns-in-Ready : goal.returns-in-Ready
-returns-in-Ready c = record { out_after = rehearse-done ((record { types = c.args.types.now; fields = c.args.fields.now; consts = c.args.consts.now; bytes = c.args.bytes.now; text = c.args.text.now; thresholds = c.args.thresholds.now })) c.args.heap c.args.narrow.now c.args.wide.now c.args.pool.now c.args.out.now c.args.words.now c.args.marks.now c.args.work.now c.admit.ensures c.in-Ready.is c.rehearse_all-done.ensures.rehearses c.numbers-in-Ready.ensures (c.clear_u64.ensures ∙ ap (λ (j : ℕ). replicate j 0) (c.rehearse_all-done.auto.words ∙ c.admit.auto.words)) c.rehearse_all-done.ensures.marks_unchanged.0 c.rehearse_all-done.ensures.marks_unchanged.1; plain_lines = plain_done ((record { types = c.args.types.now; fields = c.args.fields.now; consts = c.args.consts.now; bytes = c.args.bytes.now; text = c.args.text.now; thresholds = c.args.thresholds.now })) c.args.heap c.args.narrow.now c.args.wide.now c.args.pool.now c.args.out.now c.args.words.now c.args.marks.now c.args.work.now c.admit.ensures c.in-Ready.is c.rehearse_all-done.ensures.rehearses c.numbers-in-Ready.ensures (c.clear_u64.ensures ∙ ap (λ (j : ℕ). replicate j 0) (c.rehearse_all-done.auto.words ∙ c.admit.auto.words)) c.rehearse_all-done.ensures.marks_unchanged.0 c.rehearse_all-done.ensures.marks_unchanged.1 }
+returns-in-Ready c = record { out_after = rehearse-done ((record { types = c.args.types.now; fields = c.args.fields.now; consts = c.args.consts.now; bytes = c.args.bytes.now; text = c.args.text.now; thresholds = c.args.thresholds.now })) c.args.heap c.args.narrow.now c.args.wide.now c.args.pool.now c.args.out.now c.args.words.now c.args.marks.now c.args.work.now c.admit.ensures c.in-Ready.is c.rehearse_all-done.ensures.rehearses c.from-in-Ready.ensures ((c.fill.ensures.after (λ y e. e)) ∙ ap (λ (j : ℕ). replicate j 0) (c.rehearse_all-done.auto.words ∙ c.admit.auto.words)) c.rehearse_all-done.ensures.marks_unchanged.0 c.rehearse_all-done.ensures.marks_unchanged.1; plain_lines = plain_done ((record { types = c.args.types.now; fields = c.args.fields.now; consts = c.args.consts.now; bytes = c.args.bytes.now; text = c.args.text.now; thresholds = c.args.thresholds.now })) c.args.heap c.args.narrow.now c.args.wide.now c.args.pool.now c.args.out.now c.args.words.now c.args.marks.now c.args.work.now c.admit.ensures c.in-Ready.is c.rehearse_all-done.ensures.rehearses c.from-in-Ready.ensures ((c.fill.ensures.after (λ y e. e)) ∙ ap (λ (j : ℕ). replicate j 0) (c.rehearse_all-done.auto.words ∙ c.admit.auto.words)) c.rehearse_all-done.ensures.marks_unchanged.0 c.rehearse_all-done.ensures.marks_unchanged.1 }

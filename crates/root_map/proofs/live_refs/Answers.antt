@@ -22,7 +22,7 @@ returns-then-not-rows_fit c =
 
 pub returns-then-not-check_function : goal.returns-then-not-check_function
 returns-then-not-check_function c =
-    refs-function (lent c.args.code) (wanted c.args.which) _ _ _ _ (c.rows_fit.ensures.0 c.if-not-rows_fit.false) _ c.clear_u64.ensures
+    refs-function (lent c.args.code) (wanted c.args.which) _ _ _ _ (c.rows_fit.ensures.0 c.if-not-rows_fit.false) _ (c.fill.ensures.after (λ y e. e))
     (sym c.check_function.ensures ∙ c.if-not-check_function.true)
 
 pub chain-requires : goal.chain-requires
@@ -43,7 +43,7 @@ returns-then-short c =
     let kept = c.count_map-counts.ensures.frame.kept ∙ c.analyse.ensures.0 in
     asked-map p _ _ c.new-plan.ensures.code c.new-plan.ensures.which _ _ _ _ _ _ _ _ _
     (refs-short (lent p.code) (wanted p.which) _ _ _ _ p.passed c.count_map-counts.ensures c.short.ensures (asked-room p c.args.code c.new-plan.ensures.code _ _ c.rows_fit.ensures c.if-not-rows_fit.false) _
-    (c.clear_u64-then-short.ensures ∙ ap (λ (u : ℕ). replicate u 0) kept) c.if-short.true)
+    ((c.fill-then-short.ensures.after (λ y e. e)) ∙ ap (λ (u : ℕ). replicate u 0) kept) c.if-short.true)
 
 pub write_map-requires : goal.write_map-requires
 write_map-requires c =
@@ -56,7 +56,7 @@ write_map-requires c =
     }
 
 pub shape_of-s : goal.shape_of-s
-shape_of-s c = c.clear_u64-2.auto.dst ∙ c.write_map.ensures.frame.kept ∙ c.count_map-counts.ensures.frame.kept ∙ c.analyse.ensures.0
+shape_of-s c = c.fill-2.auto.self ∙ c.write_map.ensures.frame.kept ∙ c.count_map-counts.ensures.frame.kept ∙ c.analyse.ensures.0
 
 pub returns : goal.returns
 returns c =
@@ -64,4 +64,4 @@ returns c =
     let kept = c.write_map.ensures.frame.kept ∙ c.count_map-counts.ensures.frame.kept ∙ c.analyse.ensures.0 in
     asked-map p _ _ c.new-plan.ensures.code c.new-plan.ensures.which _ _ _ _ _ _ _ _ _
     (refs-map (lent p.code) (wanted p.which) _ _ _ _ p.passed c.count_map-counts.ensures c.short.ensures (asked-room p c.args.code c.new-plan.ensures.code _ _ c.rows_fit.ensures c.if-not-rows_fit.false) _
-    (c.clear_u64-2.ensures ∙ ap (λ (u : ℕ). replicate u 0) kept) c.if-short.false c.write_map.ensures)
+    ((c.fill-2.ensures.after (λ y e. e)) ∙ ap (λ (u : ℕ). replicate u 0) kept) c.if-short.false c.write_map.ensures)

@@ -12,7 +12,7 @@ pub run_lines-done-requires : goal.run_lines-done-requires
 run_lines-done-requires c = run-ready _ _ _ ((lent c.args.heap c.args.narrow.now c.args.wide.now c.args.pool.now)) _ c.admit.ensures c.in-Ready.is c.admit.auto.room
 
 pub returns-in-Not : goal.returns-in-Not
-returns-in-Not c = call-refused c.admit.ensures nothing nothing _ c.in-Not.is c.numbers.ensures
+returns-in-Not c = call-refused c.admit.ensures nothing nothing _ c.in-Not.is c.from.ensures
 
 pub returns-in-Ready : goal.returns-in-Ready
-returns-in-Ready c = run-done _ _ _ ((lent c.args.heap c.args.narrow.now c.args.wide.now c.args.pool.now)) _ c.admit.ensures c.in-Ready.is c.run_lines-done.ensures c.numbers-in-Ready.ensures (c.clear_u8.ensures ∙ ap (λ (n : ℕ). replicate n 0) (c.run_lines-done.auto.room ∙ c.admit.auto.room))
+returns-in-Ready c = run-done _ _ _ ((lent c.args.heap c.args.narrow.now c.args.wide.now c.args.pool.now)) _ c.admit.ensures c.in-Ready.is c.run_lines-done.ensures c.from-in-Ready.ensures ((c.fill.ensures.after (λ y e. e)) ∙ ap (λ (n : ℕ). replicate n 0) (c.run_lines-done.auto.room ∙ c.admit.auto.room))

@@ -3,8 +3,8 @@ use Rattle.std.specs.Prelude.{ℕ, ◌≤◌, true, List, ◌≡◌, length}
 use Rattle.std.proofs.Math.Option.{Option}
 use Rattle.word.specs.Result.{Result, ok, refused}
 use Rattle.refusal.specs.Told.{number_of}
-use Rattle.refusal.specs.declared.Reply.{Reply}
-use Rattle.refusal.specs.declared.Reply.TheVariants.{Is, Not}
+use Rattle.refusal.specs.Told.{Reply}
+use Rattle.std.specs.Prelude.{Ok, Err}
 use Rattle.heap.specs.Lent.{Lent, view, slot_count, pool_size}
 use Rattle.heap.specs.WellFormed.{well_formed}
 use Rattle.heap.specs.Done.{Leaves}
@@ -12,8 +12,8 @@ use Rattle.script.specs.Script.{Call, line_does}
 
 -- a reply without its values
 abbrev pub end_of : Reply → Result Unit
-end_of (Is a b) = ok tt
-end_of (Not why) = refused (number_of why)
+end_of (Ok (a, b)) = ok tt
+end_of (Err why) = refused (number_of why)
 
 -- a heap that is well formed, with room for the data of any object
 pub record CanRun (l : Lent) (lent-room : List ℕ) : Type 0 where

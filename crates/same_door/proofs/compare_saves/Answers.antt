@@ -33,4 +33,4 @@ returns-in-Ready c =
     c.admit.ensures c.in-Ready.is _ c.order_heaps-found.ensures
     c.order_heaps-found.new.marks c.order_heaps-found.new.work c.order_heaps-found.new.other_marks c.order_heaps-found.new.other_work
     c.order_heaps-found.auto.marks c.order_heaps-found.auto.work c.order_heaps-found.auto.other_marks c.order_heaps-found.auto.other_work
-    _ _ _ _ c.clear_u8.ensures c.clear_u64.ensures c.clear_u8-in-Ready.ensures c.clear_u64-in-Ready.ensures _ c.ok_or.ensures.value
+    _ _ _ _ (c.fill.ensures.after (λ y e. e)) (c.fill-in-Ready.ensures.after (λ y e. e)) (c.fill-in-Ready-2.ensures.after (λ y e. e)) (c.fill-in-Ready-3.ensures.after (λ y e. e)) _ c.ok_or.ensures.value

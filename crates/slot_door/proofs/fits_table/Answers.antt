@@ -37,4 +37,4 @@ pub list_at-listed-requires : goal.list_at-listed-requires
 list_at-listed-requires c = record { fit = formed-fit c.args.heap c.args.narrow.now c.args.wide.now c.args.pool.now c.requires.pool_value; i_lt_slots = c.requires.i_lt_slots }
 
 pub returns : goal.returns
-returns c = is-traced c.args.heap c.args.narrow.now c.args.wide.now c.args.pool.now c.requires.pool_value c.args.types.now c.args.fields.now c.args.consts.now c.args.bytes.now c.args.i c.requires.i_lt_slots c.if-narrow-s-eq1.true c.if-types-t.false c.list_at-listed.ensures c.numbers-a.ensures
+returns c = is-traced c.args.heap c.args.narrow.now c.args.wide.now c.args.pool.now c.requires.pool_value c.args.types.now c.args.fields.now c.args.consts.now c.args.bytes.now c.args.i c.requires.i_lt_slots c.if-narrow-s-eq1.true c.if-types-t.false c.list_at-listed.ensures c.from-a.ensures

@@ -7,7 +7,7 @@ pub list_slot-requires : goal.list_slot-requires
 list_slot-requires c = slot-formed (lent c.args.heap c.args.narrow.now c.args.wide.now c.args.pool.now) c.args.types.now c.args.fields.now c.args.consts.now c.args.bytes.now c.admit.ensures c.args.slot c.args.out.now c.in-Ready.is
 
 pub returns-in-Not : goal.returns-in-Not
-returns-in-Not c = let p = slot-refused (lent c.args.heap c.args.narrow.now c.args.wide.now c.args.pool.now) c.args.types.now c.args.fields.now c.args.consts.now c.args.bytes.now c.admit.ensures c.args.slot c.args.out.now c.in-Not.is c.numbers.ensures in record { work_after = p.0; out_after = p.1 }
+returns-in-Not c = let p = slot-refused (lent c.args.heap c.args.narrow.now c.args.wide.now c.args.pool.now) c.args.types.now c.args.fields.now c.args.consts.now c.args.bytes.now c.admit.ensures c.args.slot c.args.out.now c.in-Not.is c.from.ensures in record { work_after = p.0; out_after = p.1 }
 
 pub returns-in-Ready : goal.returns-in-Ready
-returns-in-Ready c = let p = slot-done (lent c.args.heap c.args.narrow.now c.args.wide.now c.args.pool.now) c.args.types.now c.args.fields.now c.args.consts.now c.args.bytes.now c.admit.ensures c.args.slot c.args.out.now c.in-Ready.is c.list_slot.ensures c.numbers-in-Ready.ensures in record { work_after = p.0; out_after = p.1 }
+returns-in-Ready c = let p = slot-done (lent c.args.heap c.args.narrow.now c.args.wide.now c.args.pool.now) c.args.types.now c.args.fields.now c.args.consts.now c.args.bytes.now c.admit.ensures c.args.slot c.args.out.now c.in-Ready.is c.list_slot.ensures c.from-in-Ready.ensures in record { work_after = p.0; out_after = p.1 }

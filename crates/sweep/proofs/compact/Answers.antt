@@ -10,8 +10,8 @@ settle-to-requires c = search pack-can
 pub loop-i-preserved : goal.loop-i-preserved
 loop-i-preserved c = search pack-turn
 
-pub fill_u8-requires : goal.fill_u8-requires
-fill_u8-requires c = search pack-clear
+pub fill-requires : goal.fill-requires
+fill-requires c = search pack-clear
 
 pub returns : goal.returns
 returns c = search pack-last

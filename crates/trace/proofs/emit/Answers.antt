@@ -1,7 +1,6 @@
 -- `trace::emit` meets its contract.
 use native.Mathlib.Omega.{arith}
 use Rattle.trace.proofs.Emits.{check-room, check-full, list-room, list_full, work_none, work-at}
-use borrow.Enum.Refused.{opened}
 use Rattle.trace.proofs.emit.Goals as goal
 
 pub returns-then-n-limit : goal.returns-then-n-limit
@@ -13,8 +12,8 @@ returns-then-limit c = check-full _ _ _ _ _ _ _ _ c.in-Check.is c.if-n-limit.fal
 pub returns-then-n-to : goal.returns-then-n-to
 returns-then-n-to c = search list-room
 
-pub returns-in_default : goal.returns-in_default
-returns-in_default c = let k2 = opened c.in_default.in_default-own.keys2 in search work_none
+pub returns-in-Err : goal.returns-in-Err
+returns-in-Err c = search work_none
 
 pub returns-else-limit : goal.returns-else-limit
 returns-else-limit c = check-full _ _ _ _ _ _ _ _ c.in-Check.is c.if-n-limit.false (omega arith)
@@ -22,5 +21,5 @@ returns-else-limit c = check-full _ _ _ _ _ _ _ _ c.in-Check.is c.if-n-limit.fal
 pub returns-else-n-to : goal.returns-else-n-to
 returns-else-n-to c = search list_full
 
-pub returns-in-At : goal.returns-in-At
-returns-in-At c = search work-at
+pub returns-in-Ok : goal.returns-in-Ok
+returns-in-Ok c = search work-at

@@ -45,9 +45,9 @@ pub shape_of-work : goal.shape_of-work
 shape_of-work c = c.collect_row-r.auto.work
 
 pub shape_of-rows : goal.shape_of-rows
-shape_of-rows c = c.clear_u64.auto.dst ∙ c.root_row.auto.rows
+shape_of-rows c = c.fill.auto.self ∙ c.root_row.auto.rows
 
 pub returns : goal.returns
 returns c = let f = lent c.args.code in
     let t = table_of c.args.types.now c.args.fields.now c.args.consts.now c.args.bytes.now in
-    let h = frame_handles t c.args.map.now c.args.memory.now in record { tells = at_row f c.args.pc c.args.values.now c.args.rows.now _ c.requires.can_look _ c.root_row.ensures t h c.args.pins.now c.args.addresses.now (addresses_in t c.args.map.now c.args.memory.now) _ c.if-not-root_row.false _ _ (rw (c.words-words.ensures, c.block_count.ensures) at c.collect_row-r.ensures.tells); marks_unchanged = (c.collect_row-r.ensures.marks_unchanged.0, c.collect_row-r.ensures.marks_unchanged.1, rows-again f c.args.pc c.args.values.now c.args.rows.now _ c.requires.can_look _ c.root_row.ensures _ c.clear_u64.ensures) }
+    let h = frame_handles t c.args.map.now c.args.memory.now in record { tells = at_row f c.args.pc c.args.values.now c.args.rows.now _ c.requires.can_look _ c.root_row.ensures t h c.args.pins.now c.args.addresses.now (addresses_in t c.args.map.now c.args.memory.now) _ c.if-not-root_row.false _ _ (rw (c.words-words.ensures, c.block_count.ensures) at c.collect_row-r.ensures.tells); marks_unchanged = (c.collect_row-r.ensures.marks_unchanged.0, c.collect_row-r.ensures.marks_unchanged.1, rows-again f c.args.pc c.args.values.now c.args.rows.now _ c.requires.can_look _ c.root_row.ensures _ (c.fill.ensures.after (λ y e. e))) }

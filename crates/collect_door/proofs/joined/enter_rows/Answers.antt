@@ -12,7 +12,7 @@ pub returns-then-not-rows_fit : goal.returns-then-not-rows_fit
 returns-then-not-rows_fit c = no_rows _ _ _ _ _ c.if-marks-slots.false c.if-work-slots.false _ (by-leb _ _ _ c.rows_fit.ensures) c.if-not-rows_fit.true
 
 pub returns-then-check : goal.returns-then-check
-returns-then-check c = is-formed _ _ _ _ _ c.if-marks-slots.false c.if-work-slots.false _ (by-leb _ _ _ c.rows_fit.ensures) c.if-not-rows_fit.false _ _ _ _ c.check.ensures c.clear_u64.ensures c.clear_u64-2.ensures c.if-check.true
+returns-then-check c = is-formed _ _ _ _ _ c.if-marks-slots.false c.if-work-slots.false _ (by-leb _ _ _ c.rows_fit.ensures) c.if-not-rows_fit.false _ _ _ _ c.check.ensures (c.fill.ensures.after (λ y e. e)) (c.fill-2.ensures.after (λ y e. e)) c.if-check.true
 
 pub returns : goal.returns
-returns c = not-formed _ _ _ _ _ c.if-marks-slots.false c.if-work-slots.false _ (by-leb _ _ _ c.rows_fit.ensures) c.if-not-rows_fit.false _ _ _ _ c.check.ensures c.clear_u64.ensures c.clear_u64-2.ensures c.if-check.false
+returns c = not-formed _ _ _ _ _ c.if-marks-slots.false c.if-work-slots.false _ (by-leb _ _ _ c.rows_fit.ensures) c.if-not-rows_fit.false _ _ _ _ c.check.ensures (c.fill.ensures.after (λ y e. e)) (c.fill-2.ensures.after (λ y e. e)) c.if-check.false

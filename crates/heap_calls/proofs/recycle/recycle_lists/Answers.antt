@@ -35,14 +35,14 @@ put_entry-c-requires c = omega (arith, c.loop-j.invariant, c.loop-j.invariant.be
 pub loop-j-preserved : goal.loop-j-preserved
 loop-j-preserved c = in-turn c.args.all c.args.f c.args.r c.args.q (c.args.pins.now ++ marked_slots c.args.marks.now) c.args.narrow.now c.requires.q_bound.0 c.requires.q_bound.1 c.requires.q_bound.2 c.loop-j.invariant c.loop-j-test.true c.requires.entries c.stays-held.ensures refl c.put_entry-c.ensures
 
-pub slice_bounds-fill_u32-end : goal.slice_bounds-fill_u32-end
-slice_bounds-fill_u32-end c = omega (arith, c.loop-j.invariant, c.loop-j.invariant.beside.long, c.requires.q_bound)
+pub slice_bounds-fill-end : goal.slice_bounds-fill-end
+slice_bounds-fill-end c = omega (arith, c.loop-j.invariant, c.loop-j.invariant.beside.long, c.requires.q_bound)
 
-pub fill_u32-requires : goal.fill_u32-requires
-fill_u32-requires c = in-fill c.args.all c.args.f c.args.r c.args.q (c.args.pins.now ++ marked_slots c.args.marks.now) c.args.narrow.now c.requires.q_bound.0 c.requires.q_bound.1 c.requires.q_bound.2 c.loop-j.invariant
+pub fill-requires : goal.fill-requires
+fill-requires c = in-fill c.args.all c.args.f c.args.r c.args.q (c.args.pins.now ++ marked_slots c.args.marks.now) c.args.narrow.now c.requires.q_bound.0 c.requires.q_bound.1 c.requires.q_bound.2 c.loop-j.invariant
 
 pub shape_of-narrow : goal.shape_of-narrow
-shape_of-narrow c = in-same c.args.all c.args.f c.args.r c.args.q (c.args.pins.now ++ marked_slots c.args.marks.now) c.args.narrow.now c.requires.q_bound.0 c.requires.q_bound.1 c.requires.q_bound.2 c.loop-j.invariant c.fill_u32.new.dst c.fill_u32.auto.dst
+shape_of-narrow c = in-same c.args.all c.args.f c.args.r c.args.q (c.args.pins.now ++ marked_slots c.args.marks.now) c.args.narrow.now c.requires.q_bound.0 c.requires.q_bound.1 c.requires.q_bound.2 c.loop-j.invariant c.fill.new.dst c.fill.auto.dst
 
 pub returns : goal.returns
-returns c = in-last c.args.all c.args.f c.args.r c.args.q (c.args.pins.now ++ marked_slots c.args.marks.now) c.args.narrow.now c.requires.q_bound.0 c.requires.q_bound.1 c.requires.q_bound.2 c.loop-j.invariant c.fill_u32.new.dst c.fill_u32.auto.dst c.loop-j-test.false c.fill_u32.ensures
+returns c = in-last c.args.all c.args.f c.args.r c.args.q (c.args.pins.now ++ marked_slots c.args.marks.now) c.args.narrow.now c.requires.q_bound.0 c.requires.q_bound.1 c.requires.q_bound.2 c.loop-j.invariant c.fill.new.dst c.fill.auto.dst c.loop-j-test.false c.fill.ensures

@@ -5,7 +5,7 @@ use Rattle.rows.specs.Listing.{told}
 use Rattle.roots.proofs.at.list_at.Goals as goal
 
 pub returns-in-Some : goal.returns-in-Some
-returns-in-Some c = (ap (λ a. answered here nothing (told a)) (sym c.in-Some.is) ∙ ap (answered here nothing) c.list-answer.ensures.0, c.list-answer.ensures.1, c.clear_u64.ensures)
+returns-in-Some c = (ap (λ a. answered here nothing (told a)) (sym c.in-Some.is) ∙ ap (answered here nothing) c.list-answer.ensures.0, c.list-answer.ensures.1, (c.fill.ensures.after (λ y e. e)))
 
 pub returns-in-None : goal.returns-in-None
-returns-in-None c = (ap (λ a. answered here nothing (told a)) (sym c.in-None.is) ∙ ap (answered here nothing) c.list-answer.ensures.0, c.list-answer.ensures.1, c.clear_u64.ensures)
+returns-in-None c = (ap (λ a. answered here nothing (told a)) (sym c.in-None.is) ∙ ap (answered here nothing) c.list-answer.ensures.0, c.list-answer.ensures.1, (c.fill.ensures.after (λ y e. e)))

@@ -20,13 +20,13 @@ returns-then-not-rows_fit c = at-scratch (lent c.args.code) (wanted c.args.which
 
 pub returns-then-not-check_function : goal.returns-then-not-check_function
 returns-then-not-check_function c = at-function (lent c.args.code) (wanted c.args.which) c.args.pc _ _
-    (c.rows_fit.ensures.0 c.if-not-rows_fit.false) _ c.clear_u64.ensures (sym c.check_function.ensures ∙ c.if-not-check_function.true)
+    (c.rows_fit.ensures.0 c.if-not-rows_fit.false) _ (c.fill.ensures.after (λ y e. e)) (sym c.check_function.ensures ∙ c.if-not-check_function.true)
 
 pub returns-in_default : goal.returns-in_default
 returns-in_default c =
     let p = c.new-plan.result in
     asked-plan p _ _ c.new-plan.ensures.code c.new-plan.ensures.which _ _ _ _ _ _
-    (at-no-map (lent p.code) (wanted p.which) c.args.pc _ _ (asked-room c.new-plan.result c.args.code c.new-plan.ensures.code _ _ c.rows_fit.ensures c.if-not-rows_fit.false) _ c.clear_u64-in_default.ensures p.passed (sym c.in_default.ensures.safepoint))
+    (at-no-map (lent p.code) (wanted p.which) c.args.pc _ _ (asked-room c.new-plan.result c.args.code c.new-plan.ensures.code _ _ c.rows_fit.ensures c.if-not-rows_fit.false) _ (c.fill-in_default.ensures.after (λ y e. e)) p.passed (sym c.in_default.ensures.safepoint))
 
 pub live_row-requires : goal.live_row-requires
 live_row-requires c = record {

@@ -7,13 +7,13 @@ use Rattle.roots.proofs.Forms.{seen-disjoint, seen-count}
 use Rattle.roots.proofs.fixpoint.analyse.Goals as goal
 
 pub returns-then-plan-eq0 : goal.returns-then-plan-eq0
-returns-then-plan-eq0 c = (c.clear_u64.auto.dst, record { linked = λ h. absurd (omega (arith, c.if-plan-eq0.true)); lives = λ b q h. absurd (omega (arith, c.if-plan-eq0.true)) })
+returns-then-plan-eq0 c = (c.fill.auto.self, record { linked = λ h. absurd (omega (arith, c.if-plan-eq0.true)); lives = λ b q h. absurd (omega (arith, c.if-plan-eq0.true)) })
 
 pub build-requires : goal.build-requires
-build-requires c = record { nb_value = (omega (arith, c.requires.nb_value, c.clear_u64.auto.dst), omega (arith, c.if-plan-eq0.false)); by_index_2 = zeros-at c.clear_u64.new.dst _ c.clear_u64.ensures }
+build-requires c = record { nb_value = (omega (arith, c.requires.nb_value, c.fill.auto.self), omega (arith, c.if-plan-eq0.false)); by_index_2 = zeros-at c.fill.new.self _ (c.fill.ensures.after (λ y e. e)) }
 
 pub solve-requires : goal.solve-requires
-solve-requires c = record { nb_value = (omega (arith, c.requires.nb_value, c.build.ensures.kept, c.clear_u64.auto.dst), c.build.ensures.linked) }
+solve-requires c = record { nb_value = (omega (arith, c.requires.nb_value, c.build.ensures.kept, c.fill.auto.self), c.build.ensures.linked) }
 
 pub returns : goal.returns
-returns c = (c.solve.ensures.kept ∙ c.build.ensures.kept ∙ c.clear_u64.auto.dst, solved-fixed (wanted c.args.plan.now.which) c.args.plan.now.code.classes.now c.solve.ensures (c.build.ensures.rows c.args.plan.now.code.kinds.now) (seen-disjoint c.args.plan.now.code.kinds.now c.args.plan.now.code.ends.now c.args.plan.now.code.refs.now c.args.plan.now.code.blocks.now c.args.plan.now.code.classes.now (wanted c.args.plan.now.which) c.args.plan.now.passed) (seen-count c.args.plan.now.code.kinds.now c.args.plan.now.code.ends.now c.args.plan.now.code.refs.now c.args.plan.now.code.blocks.now c.args.plan.now.code.classes.now (wanted c.args.plan.now.which) ∙ sym c.args.plan.now.counted))
+returns c = (c.solve.ensures.kept ∙ c.build.ensures.kept ∙ c.fill.auto.self, solved-fixed (wanted c.args.plan.now.which) c.args.plan.now.code.classes.now c.solve.ensures (c.build.ensures.rows c.args.plan.now.code.kinds.now) (seen-disjoint c.args.plan.now.code.kinds.now c.args.plan.now.code.ends.now c.args.plan.now.code.refs.now c.args.plan.now.code.blocks.now c.args.plan.now.code.classes.now (wanted c.args.plan.now.which) c.args.plan.now.passed) (seen-count c.args.plan.now.code.kinds.now c.args.plan.now.code.ends.now c.args.plan.now.code.refs.now c.args.plan.now.code.blocks.now c.args.plan.now.code.classes.now (wanted c.args.plan.now.which) ∙ sym c.args.plan.now.counted))

@@ -9,7 +9,7 @@ use Rattle.roots.proofs.Scratch.{mid-frame, mid-cell, mid-length, zero_bit}
 use Rattle.roots.proofs.fixpoint.clear_row.Goals as goal
 
 pub returns : goal.returns
-returns c = let l = c.clear_u64.auto.dst ∙ mid-length c.args.at c.args.words c.args.s.now (omega arith) in (
-  mid-frame c.args.at c.args.words c.args.s.now c.clear_u64.new.dst c.requires l,
-  λ q h. mid-cell c.args.at c.args.words c.args.s.now c.clear_u64.new.dst c.requires l q h ∙ ap (λ (z : List ℕ). bit_in 64 z q) c.clear_u64.ensures ∙ zero_bit (length (take ((c.args.at + c.args.words) - c.args.at) (drop c.args.at c.args.s.now))) q,
+returns c = let l = c.fill.auto.self ∙ mid-length c.args.at c.args.words c.args.s.now (omega arith) in (
+  mid-frame c.args.at c.args.words c.args.s.now c.fill.new.self c.requires l,
+  λ q h. mid-cell c.args.at c.args.words c.args.s.now c.fill.new.self c.requires l q h ∙ ap (λ (z : List ℕ). bit_in 64 z q) (c.fill.ensures.after (λ y e. e)) ∙ zero_bit (length (take ((c.args.at + c.args.words) - c.args.at) (drop c.args.at c.args.s.now))) q,
 )

@@ -1,7 +1,0 @@
--- `memory::clear_u8` meets its contract.
-use mathlib.Core.Path.{◌∙◌, refl}
-use Rattle.memory.proofs.Turns.{filled-whole}
-use Rattle.memory.proofs.clear_u8.Goals as goal
-
-pub returns : goal.returns
-returns c = c.fill_u8.ensures ∙ filled-whole _ _ _ refl
