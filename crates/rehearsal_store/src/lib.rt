@@ -10,7 +10,6 @@ ghost use Rattle.rehearsal_steps.specs.Going.{InOrder, Whole, Goes};
 ghost use Rattle.rehearsal_steps.specs.Steps.{after_drop, StoresInto, Dropped, storing_in};
 
 use heap::Heap;
-
 use rehearsal_lines::StoreLine;
 use rehearsal_names::{held_at, let_go};
 use rehearsal_steps::Going;
@@ -99,16 +98,7 @@ fn or_ended(went: bool, g: Going) -> Going
     if went {
         return g;
     }
-    let heap = g.heap;
-    Going {
-        heap: heap,
-        size: g.size,
-        held: g.held,
-        turns: g.turns,
-        collections: g.collections,
-        highest: g.highest,
-        answer: 9,
-    }
+    Going { answer: 9, ..g }
 }
 
 // A line `store`; 9 ends it where either is not held, or the handle would lie beyond the data.
