@@ -23,7 +23,7 @@ use Rattle.refusal.proofs.Numbers.{told-once}
 use Rattle.refusal.specs.declared.Answer.{Answer}
 use Rattle.refusal.specs.declared.Refusal.{Refusal}
 use Rattle.refusal.specs.declared.Refusal.TheVariants.{BrokenHeap, Scratch}
-use Rattle.heap_edit.proofs.Columns.{from_at}
+use Rattle.heap.proofs.Columns.{from_at}
 use Rattle.heap.proofs.Keeping.{live_inside}
 use Rattle.door.specs.HeapCalls.{test, admitted, enough, heap_tests, Asked, asked, heap_ask}
 use Rattle.door.specs.declared.Entry.{Entry}
