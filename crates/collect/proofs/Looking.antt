@@ -6,7 +6,7 @@ use mathlib.Core.Option.{Option}
 use Prim.Native.Nat.{ℕ, ◌+◌, ◌*◌, ◌/◌, ◌^◌, ◌≤◌, ◌<◌}
 use native.Mathlib.Nat.{mul-le-mul_right}
 use native.Mathlib.Omega.{arith}
-use lib.ListN.{length, get_or, replicate}
+use lib.ListN.{length, replicate}
 use Rattle.word.specs.Ones.{passing}
 use Rattle.rows.specs.Row.{bit_in, part}
 use Rattle.refusal.specs.Told.{nothing}
@@ -23,10 +23,14 @@ use Rattle.flow.specs.Dataflow.{live_before, live_row, holder, track}
 use Rattle.flow.proofs.Lists.{passing-same}
 use Rattle.roots.specs.View.{view as function_in}
 use Rattle.roots.specs.Calls.{Lent, function, right, need}
-use Rattle.roots.specs.Columns.{seen, cell, Found}
+use Rattle.roots.specs.Columns.{wanted, seen, cell, In}
+use Rattle.roots.specs.Plans.{lent, all_seen, out_row}
+use Rattle.roots.specs.declared.Tracked.{Tracked}
+use Rattle.roots.specs.declared.Tracked.TheVariants.{References}
+use Rattle.roots.specs.declared.Plan.{Plan}
 use Rattle.roots.proofs.Checks.{formed-fit}
 use Rattle.roots.proofs.Steps.{part-cell}
-use Rattle.roots.proofs.Answers.{need-is, found-held, found-holder, seen-holder, in_code, is-safepoint, not-safepoint, not-held}
+use Rattle.roots.proofs.Answers.{need-is, found-holder, seen-holder}
 use Rattle.collection.specs.Joined.{is_reference, live_references, of_class, registers_of, values_of, joined_by, pins_at, joined}
 use Rattle.addresses.specs.Listed.{slots_of}
 use Rattle.mark.specs.Joining.{row_values}
@@ -55,51 +59,47 @@ module _ (f : Lent) (pc : ℕ) (rows : List ℕ) (good : right f ≡ true) (room
   pub look-room : length f.blocks / 2 * (3 * row_words f) + 2 * row_words f ≤ length rows
   look-room = omega (arith, room, need-is (length f.blocks / 2) (row_words f))
 
-  module _ (b : ℕ) (found : Found f.blocks (length f.blocks / 2) pc b) where
-    pub look-outside : length f.blocks / 2 ≤ b → RootRow f pc rows rows false
-    look-outside h =
+  pub look-none : safepoint (function f) pc ≡ false → RootRow f pc rows rows false
+  look-none e = record {
+    says = sym e;
+    kept = refl;
+    stays = λ z. refl;
+    registers = λ z. let y : ◌≡◌ {A = ℕ} 0 1 = cc in absurd (omega arith);
+  }
+
+  module _ (b : ℕ) (h : b < length f.blocks / 2) (at : In f.blocks b pc) where
+    holds-here : holder (function f).blocks pc 0 ≡ b
+    holds-here = found-holder f.kinds f.ends f.refs f.blocks f.classes good pc b h at.0 at.1
+
+    classes-are : (function f).classes ≡ f.classes
+    unfolding function_in
+    classes-are = refl
+
+    pub look-found : safepoint (function f) pc ≡ true → (rows' : List ℕ) → length rows' ≡ length rows
+        → ((q : ℕ) → q < 64 * row_words f → cell rows' (row_start f) q ≡ live_before (seen is_reference f.kinds f.ends f.refs f.blocks f.classes) b pc q)
+        → RootRow f pc rows rows' true
+    unfolding live_references live_row part
+    look-found e rows' n c =
         record {
-          says = sym (not-held f.kinds f.ends f.refs f.blocks f.classes good pc found h);
-          kept = refl;
-          stays = λ e. refl;
-          registers = λ e. let z : ◌≡◌ {A = ℕ} 0 1 = cc in absurd (omega arith);
+          says = sym e;
+          kept = n;
+          stays = λ z. let y : ◌≡◌ {A = ℕ} 0 1 = cc in absurd (omega arith);
+          registers = λ z.
+              passing-same (bit_in 64 (row_in f rows')) (live_before (track is_reference (function f)) (holder (track is_reference (function f)).blocks pc 0) pc) 0 (length f.classes)
+              (λ k l m. part-cell (row_start f) (row_words f) rows' k (omega arith) ∙ c k (omega arith) ∙ ap (λ (u : ℕ). live_before (track is_reference (function f)) u pc k) (sym (seen-holder is_reference f.kinds f.ends f.refs f.blocks f.classes pc b holds-here)))
+              ∙ ap (λ (u : ℕ). passing (live_before (track is_reference (function f)) (holder (track is_reference (function f)).blocks pc 0) pc) 0 u) (sym (ap length classes-are));
         }
 
-    module _ (h : b < length f.blocks / 2) where
-      pub look-inside : pc < length f.kinds
-      look-inside = in_code f.kinds f.ends f.refs f.blocks f.classes good pc b h (found.here h).0 (found.here h).1
-
-      pub look-other : (get_or f.kinds pc 0 ≡ 1 → ⊥) → RootRow f pc rows rows false
-      look-other n =
-          record {
-            says = sym (not-safepoint f.kinds f.ends f.refs f.blocks f.classes good pc look-inside n);
-            kept = refl;
-            stays = λ e. refl;
-            registers = λ e. let z : ◌≡◌ {A = ℕ} 0 1 = cc in absurd (omega arith);
-          }
-
-      holds-here : holder (function f).blocks pc 0 ≡ b
-      holds-here = found-holder f.kinds f.ends f.refs f.blocks f.classes good pc b h (found.here h).0 (found.here h).1
-
-      classes-are : (function f).classes ≡ f.classes
-      unfolding function_in
-      classes-are = refl
-
-      pub look-found : get_or f.kinds pc 0 ≡ 1 → (rows' : List ℕ) → length rows' ≡ length rows
-          → ((q : ℕ) → q < 64 * row_words f → cell rows' (length f.blocks / 2 * (3 * row_words f)) q ≡ live_before (seen is_reference f.kinds f.ends f.refs f.blocks f.classes) b pc q)
-          → RootRow f pc rows rows' true
-      unfolding live_references live_row part
-      look-found e rows' n c =
-          record {
-            says =
-                sym (is-safepoint f.kinds f.ends f.refs f.blocks f.classes good pc (found-held f.kinds f.ends f.refs f.blocks f.classes good pc b h (found.here h).0 (found.here h).1) look-inside e);
-            kept = n;
-            stays = λ z. let y : ◌≡◌ {A = ℕ} 0 1 = cc in absurd (omega arith);
-            registers = λ z.
-                passing-same (bit_in 64 (row_in f rows')) (live_before (track is_reference (function f)) (holder (track is_reference (function f)).blocks pc 0) pc) 0 (length f.classes)
-                (λ k l m. part-cell (row_start f) (row_words f) rows' k (omega arith) ∙ c k (omega arith) ∙ ap (λ (u : ℕ). live_before (track is_reference (function f)) u pc k) (sym (seen-holder is_reference f.kinds f.ends f.refs f.blocks f.classes pc b holds-here)))
-                ∙ ap (λ (u : ℕ). passing (live_before (track is_reference (function f)) (holder (track is_reference (function f)).blocks pc 0) pc) 0 u) (sym (ap length classes-are));
-          }
+-- the same of a plan that asks for references
+pub plan-found : (p : Plan) → p.which ≡ References → (pc : ℕ) (rows : List ℕ) → need (lent p.code) ≤ length rows → (b : ℕ) → b < p.nb → In p.code.blocks.now b pc
+    → safepoint (function (lent p.code)) pc ≡ true → (rows' : List ℕ) → length rows' ≡ length rows
+    → ((q : ℕ) → q < 64 * p.words → cell rows' (out_row p) q ≡ live_before (all_seen p) b pc q) → RootRow (lent p.code) pc rows rows' true
+plan-found p w pc rows room b h at e rows' n c =
+    look-found (lent p.code) pc rows p.passed room b (omega (arith, p.counted)) at e rows' n
+    (subst (λ (t : Tracked). (q : ℕ) → q < 64 * row_words (lent p.code) → cell rows' (row_start (lent p.code)) q
+    ≡ live_before (seen (wanted t) p.code.kinds.now p.code.ends.now p.code.refs.now p.code.blocks.now p.code.classes.now) b pc q) w
+    (subst (λ (k : ℕ). (q : ℕ) → q < 64 * row_words (lent p.code) → cell rows' (k * (3 * row_words (lent p.code))) q ≡ live_before (all_seen p) b pc q) p.counted
+    (subst (λ (k : ℕ). (q : ℕ) → q < 64 * k → cell rows' (p.nb * (3 * k)) q ≡ live_before (all_seen p) b pc q) p.covered c)))
 
 -- ---- the collection
 

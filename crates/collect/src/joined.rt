@@ -8,6 +8,7 @@ ghost use Rattle.sweep.specs.Columns.{CanSweep};
 ghost use Rattle.ty.specs.View.{table_of};
 ghost use Rattle.frame.specs.Frame.{frame_handles, addresses_in};
 ghost use Rattle.roots.specs.Calls.{function, right, need};
+ghost use Rattle.roots.specs.Plans.{lent as lent_code};
 ghost use Rattle.addresses.specs.Listed.{paired, slots_of};
 ghost use Rattle.mark.specs.Joining.{row_values, Ordered};
 ghost use Rattle.collection.specs.Joined.{joined_by};
@@ -17,7 +18,8 @@ ghost use Rattle.collect.specs.Safepoint.{at_safepoint, CanLook, RootRow};
 use heap::{Changed, Heap};
 use mark::Outcome;
 use refusal::Refusal;
-use roots::Tracked;
+use roots::at::{live_row, safepoint_block};
+use roots::{Code, Plan, Tracked};
 
 // What follows a marking that marks pinned slots too: the objects without a mark are dropped and the quarantined slots without one become free, unless an object can't
 // be traced. The scratch is zero afterwards.
@@ -96,43 +98,16 @@ fn collect_row(
 }
 
 // The registers of classes 2 and 4 that are live before the safepoint pc become a row of the scratch. False: pc is no safepoint inside a block.
-fn root_row(
-    kinds: &[u8],
-    ends: &[u32],
-    refs: &[u32],
-    blocks: &[u32],
-    classes: &[u8],
-    pc: usize,
-    rows: &mut [u64],
-) -> bool
-    requires classes_value { right (record { kinds = kinds.now; ends = ends.now; refs = refs.now; blocks = blocks.now; classes = classes.now }) ≡ true }
-    requires classes_in_bounds { need (record { kinds = kinds.now; ends = ends.now; refs = refs.now; blocks = blocks.now; classes = classes.now }) ≤ length rows.old }
-    ensures { RootRow
-        (record { kinds = kinds.now; ends = ends.now; refs = refs.now; blocks = blocks.now; classes = classes.now })
-        pc rows.old rows.new result }
+fn root_row(code: Code, pc: usize, rows: &mut [u64]) -> bool
+    requires formed { right (lent_code code) ≡ true }
+    requires room { need (lent_code code) ≤ length rows.old }
+    ensures { RootRow (lent_code code.entry) pc rows.old rows.new result }
 {
-    let words = (classes.len() + 63) / 64;
-    let nb = blocks.len() / 2;
-    let b = roots::at::find_block(blocks, nb, pc);
-    if nb <= b {
+    let plan = Plan::new(code, Tracked::References);
+    let Some(b) = safepoint_block(&plan, pc) else {
         return false;
-    }
-    if kinds[pc] != 1 {
-        return false;
-    }
-    roots::at::live_row(
-        rows,
-        kinds,
-        ends,
-        refs,
-        blocks,
-        classes,
-        Tracked::References,
-        nb,
-        words,
-        b,
-        pc,
-    );
+    };
+    live_row(rows, &plan, b, pc);
     true
 }
 
@@ -146,11 +121,7 @@ pub fn collect_at(
     narrow: &mut [u32],
     wide: &mut [u64],
     pool: &mut [u8],
-    kinds: &[u8],
-    ends: &[u32],
-    refs: &[u32],
-    blocks: &[u32],
-    classes: &[u8],
+    code: Code,
     pc: usize,
     values: &[u64],
     map: &[u32],
@@ -162,13 +133,13 @@ pub fn collect_at(
     rows: &mut [u64],
 ) -> Changed
     requires can_collect { CanCollect (lent heap narrow.old wide.old pool.old) pins.now marks.old work.old }
-    requires can_look { CanLook (record { kinds = kinds.now; ends = ends.now; refs = refs.now; blocks = blocks.now; classes = classes.now }) values.now rows.old }
+    requires can_look { CanLook (lent_code code) values.now rows.old }
     requires addresses_value { paired addresses.now ≡ true }
     ensures tells { Tells nothing nothing
         (lent heap narrow.old wide.old pool.old)
         (lent result.heap narrow.new wide.new pool.new) result.reply
         (at_safepoint (table_of types.now fields.now consts.now bytes.now)
-        (function (record { kinds = kinds.now; ends = ends.now; refs = refs.now; blocks = blocks.now; classes = classes.now }))
+        (function (lent_code code.entry))
         pc values.now
         (frame_handles (table_of types.now fields.now consts.now bytes.now) map.now memory.now)
         (record {
@@ -179,14 +150,14 @@ pub fn collect_at(
         (view (lent heap narrow.old wide.old pool.old))) }
     ensures marks_unchanged { (marks.new ≡ marks.old) × (work.new ≡ work.old) × (rows.new ≡ rows.old) }
 {
-    if !root_row(kinds, ends, refs, blocks, classes, pc, rows) {
+    if !root_row(code, pc, rows) {
         return Changed {
             heap: heap,
             reply: Err(Refusal::NoMap),
         };
     }
-    let words = (classes.len() + 63) / 64;
-    let at = blocks.len() / 2 * (3 * words);
+    let words = code.words();
+    let at = code.block_count() * (3 * words);
     let past = at + words;
     let r = collect_row(
         types,
@@ -197,7 +168,7 @@ pub fn collect_at(
         narrow,
         wide,
         pool,
-        classes,
+        code.classes,
         &rows[at..past],
         values,
         map,

@@ -33,7 +33,7 @@ use Rattle.door.specs.HeapCalls.{admitted, Outcome}
 use Rattle.door.specs.declared.Entry.TheVariants.{Ready}
 use Rattle.door.proofs.Entering.{all_hold}
 use Rattle.collect_door.specs.Calls.{Given, table_in, tests, collect_call, Asked, table, frame, pinning, coded, joined_tests, joining, joined_call}
-use Rattle.collect_door.specs.Demand.{done, Marks, Collected, objects_in, starts_in, RightlyCollected, objects, StartsAt, Demand}
+use Rattle.collect_door.specs.Demand.{done, Marks, Collected, objects_in, starts_in, RightlyCollected, StartsAt, Demand}
 use Rattle.collect_door.proofs.Refusing.{Two, succeeded, refuses-rightly}
 
 -- a collection that is done, of any roots: by what it does to the heap

@@ -1,6 +1,8 @@
 // The joined collection as a host calls it: all is tested, then the heap is collected from the frame and the registers that are live at the safepoint.
 ghost use Rattle.std.specs.Prelude.{◌≡◌, [], ◌∷◌, ◌++◌, ◌+◌, ◌*◌, ◌/◌, length, leb};
 ghost use Rattle.heap.specs.Lent.{lent};
+ghost use Rattle.roots.specs.Calls.{need};
+ghost use Rattle.roots.specs.Plans.{lent as code_lent};
 ghost use Rattle.door.specs.HeapCalls.{Entered, admitted, outcome_of};
 ghost use Rattle.collect_door.specs.Calls.{row_tests, input_tests, joined_call};
 ghost use Rattle.collect_door.specs.Demand.{Demand};
@@ -8,14 +10,8 @@ ghost use Rattle.collect_door.specs.Demand.{Demand};
 use door::{Done, Entry};
 use heap::Heap;
 use refusal::{Answer, Refusal};
-
-// Do three rows a block and two more fit, with a bit for each register?
-fn rows_enough(blocks: &[u32], classes: &[u8], rows: &[u64]) -> bool
-    ensures { result ≡ leb ((3 * (length blocks.now / 2) + 2) * ((length classes.now + 63) / 64)) (length rows.now) }
-{
-    let words = (classes.len() + 63) / 64;
-    roots::check::enough(rows.len(), 3 * (blocks.len() / 2) + 2, words)
-}
+use roots::Code;
+use roots::check::{check_function, rows_fit};
 
 // Is there scratch enough for the heap and for rows of so many blocks and registers, and is the heap well formed?
 fn enter_rows(
@@ -23,15 +19,13 @@ fn enter_rows(
     narrow: &[u32],
     wide: &[u64],
     pool: &[u8],
-    blocks: &[u32],
-    classes: &[u8],
+    code: &Code,
     marks: &mut [u8],
     work: &mut [u64],
     rows: &mut [u64],
 ) -> Entry
     ensures { Entered (marks.old ∷ work.old ∷ rows.old ∷ [])
-        (row_tests ((3 * (length blocks.now / 2) + 2) * ((length classes.now + 63) / 64))
-        marks.old work.old rows.old (lent heap narrow.now wide.now pool.now))
+        (row_tests (need (code_lent code.now)) marks.old work.old rows.old (lent heap narrow.now wide.now pool.now))
         result (marks.new ∷ work.new ∷ rows.new ∷ []) }
 {
     let slots = narrow.len() / 6;
@@ -41,7 +35,7 @@ fn enter_rows(
     if work.len() < slots {
         return Entry::Not(Refusal::Scratch);
     }
-    if !rows_enough(blocks, classes, rows) {
+    if !rows_fit(code, rows.len()) {
         return Entry::Not(Refusal::Scratch);
     }
     work.fill(0);
@@ -58,26 +52,21 @@ fn admit_inputs(
     fields: &[u32],
     consts: &[u64],
     bytes: &[u8],
-    kinds: &[u8],
-    ends: &[u32],
-    refs: &[u32],
-    blocks: &[u32],
-    classes: &[u8],
+    code: &Code,
     values: &[u64],
     pins: &[u32],
     addresses: &[u64],
 ) -> Entry
     ensures { result ≡ admitted (input_tests types.now fields.now consts.now bytes.now
-        (record { kinds = kinds.now; ends = ends.now; refs = refs.now; blocks = blocks.now; classes = classes.now })
-        values.now pins.now addresses.now) }
+        (code_lent code.now) values.now pins.now addresses.now) }
 {
     if !ty::check_table(types, fields, consts, bytes) {
         return Entry::Not(Refusal::TypeTable);
     }
-    if !roots::check::check_function(kinds, ends, refs, blocks, classes) {
+    if !check_function(code) {
         return Entry::Not(Refusal::Function);
     }
-    if values.len() != classes.len() {
+    if values.len() != code.classes.len() {
         return Entry::Not(Refusal::Function);
     }
     if !heap_calls::recycle::rise(pins) {
@@ -99,11 +88,7 @@ fn admit_joined(
     narrow: &[u32],
     wide: &[u64],
     pool: &[u8],
-    kinds: &[u8],
-    ends: &[u32],
-    refs: &[u32],
-    blocks: &[u32],
-    classes: &[u8],
+    code: &Code,
     values: &[u64],
     pins: &[u32],
     addresses: &[u64],
@@ -112,19 +97,14 @@ fn admit_joined(
     rows: &mut [u64],
 ) -> Entry
     ensures { Entered (marks.old ∷ work.old ∷ rows.old ∷ [])
-        (row_tests ((3 * (length blocks.now / 2) + 2) * ((length classes.now + 63) / 64))
-        marks.old work.old rows.old (lent heap narrow.now wide.now pool.now)
+        (row_tests (need (code_lent code.now)) marks.old work.old rows.old (lent heap narrow.now wide.now pool.now)
         ++ input_tests types.now fields.now consts.now bytes.now
-        (record { kinds = kinds.now; ends = ends.now; refs = refs.now; blocks = blocks.now; classes = classes.now })
-        values.now pins.now addresses.now)
+        (code_lent code.now) values.now pins.now addresses.now)
         result (marks.new ∷ work.new ∷ rows.new ∷ []) }
 {
-    match enter_rows(heap, narrow, wide, pool, blocks, classes, marks, work, rows) {
+    match enter_rows(heap, narrow, wide, pool, code, marks, work, rows) {
         Entry::Not(why) => Entry::Not(why),
-        Entry::Ready => admit_inputs(
-            types, fields, consts, bytes, kinds, ends, refs, blocks, classes, values, pins,
-            addresses,
-        ),
+        Entry::Ready => admit_inputs(types, fields, consts, bytes, code, values, pins, addresses),
     }
 }
 
@@ -188,9 +168,16 @@ pub fn yexwalu_collect_joined(
         (outcome_of result.answer (lent result.heap narrow.new wide.new pool.new)
         (marks.new ∷ work.new ∷ rows.new ∷ [])) }
 {
+    let code = Code {
+        kinds,
+        ends,
+        refs,
+        blocks,
+        classes,
+    };
     match admit_joined(
-        types, fields, consts, bytes, heap, narrow, wide, pool, kinds, ends, refs, blocks, classes,
-        values, pins, addresses, marks, work, rows,
+        types, fields, consts, bytes, heap, narrow, wide, pool, &code, values, pins, addresses,
+        marks, work, rows,
     ) {
         Entry::Not(why) => Done {
             heap: heap,
@@ -198,8 +185,8 @@ pub fn yexwalu_collect_joined(
         },
         Entry::Ready => {
             let done = collect::joined::collect_at(
-                types, fields, consts, bytes, heap, narrow, wide, pool, kinds, ends, refs, blocks,
-                classes, pc, values, map, memory, pins, addresses, marks, work, rows,
+                types, fields, consts, bytes, heap, narrow, wide, pool, code, pc, values, map,
+                memory, pins, addresses, marks, work, rows,
             );
             let after = done.heap;
             let reply = done.reply;

@@ -29,11 +29,8 @@ pub fn hold_all(slots: usize, pins: &[u32], marks: &mut [u8], work: &mut [u64], 
     ensures { Holds slots marks.new work.new result (pin_all (in_use slots) (state_of marks.old work.old n) pins.now) }
 {
     let mut count = n;
-    let mut k = 0;
-    while k < pins.len() {
-        let i = pins[k] as u64;
-        count = hold(slots, i, marks, work, count);
-        k += 1;
+    for i in pins {
+        count = hold(slots, *i as u64, marks, work, count);
     }
     count
 }
@@ -121,12 +118,10 @@ pub fn hold_frame(
 {
     let whole = map.len() / 3;
     let mut count = n;
-    let mut k = 0;
-    while k < whole {
+    for k in 0..whole {
         let offset = map[3 * k] as usize;
         let of = map[3 * k + 1];
         count = hold_entry(slots, addresses, offset, of, memory, marks, work, count);
-        k += 1;
     }
     count
 }

@@ -45,11 +45,8 @@ pub fn push_all(
     ensures noted { Noted work.old work.new }
 {
     let mut count = n;
-    let mut k = 0;
-    while k < list.len() {
-        let h = list[k];
-        count = trace::emit(tag, slots, s, narrow, Sink::Work, marks, work, count, h);
-        k += 1;
+    for h in list {
+        count = trace::emit(tag, slots, s, narrow, Sink::Work, marks, work, count, *h);
     }
     count
 }
@@ -97,10 +94,8 @@ pub fn pin_all(
     ensures noted { Noted work.old work.new }
 {
     let mut count = n;
-    let mut k = 0;
-    while k < pins.len() {
-        count = pin(slots, s, narrow, pins[k], marks, work, count);
-        k += 1;
+    for i in pins {
+        count = pin(slots, s, narrow, *i, marks, work, count);
     }
     count
 }

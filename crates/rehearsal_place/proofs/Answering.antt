@@ -120,7 +120,7 @@ module _ (l : Lent) (w : well_formed l ≡ true) (k t : ℕ) (low : 1 ≤ k) (hi
     spelled-fits {i} e ea = decode-room h₁ n₁ w₁ p₁ s from count i (spelled-can e) ea
 
     pub spelled-done : {i at r : ℕ} {p₂ : List ℕ} → i ≡ index_of x → at ≡ start_of (run (length n₁ / 6) (length n₁ / 6) w₁) i → Puts p₁ p₂ at r (hex_at s from)
-        → length n₁ / 6 ≡ slot_count l → length p₁ ≡ pool_size l → PlaceDoes l (lent h₁ n₁ w₁ p₂) (Ok (x, y)) k t (hex_at s from)
+        → length n₁ / 6 ≡ slot_count l → length p₁ ≡ pool_size l → PlaceDoes l (lent h₁ n₁ w₁ p₂) reply k t (hex_at s from)
     spelled-done {i} {at} {r} {p₂} e ea put S P =
         let left : Decoded l₁ (lent h₁ n₁ w₁ p₂) (hex_at s from) i = decode-done h₁ n₁ w₁ p₁ s from count i (spelled-can e) ea put in
         record {
@@ -131,8 +131,8 @@ module _ (l : Lent) (w : well_formed l ≡ true) (k t : ℕ) (low : 1 ≤ k) (hi
           says = says-ok ∙ ap (answered here nothing) (sym instead.answer);
         }
       where
-        says-ok : told (Ok (x, y)) ≡ answered here nothing (ok x)
-        says-ok = sym (ap told is) ∙ d.says ∙ ap (answered here nothing) placed-ok
+        says-ok : told reply ≡ answered here nothing (ok x)
+        says-ok = d.says ∙ ap (answered here nothing) placed-ok
 
 -- ---- by kind
 

@@ -1,8 +1,8 @@
 -- What `live_refs` answers, a law for each way out. Assumes nothing.
-use mathlib.Core.Path.{◌≡◌, refl, sym, ap, ap₂, ◌∙◌}
+use mathlib.Core.Path.{◌≡◌, refl, sym, ap, ap₂, ◌∙◌, subst}
 use mathlib.Core.Bool.{Bool, true, false, not, ◌||◌, true≢false}
 use mathlib.Core.List.{List, flat_map}
-use Prim.Native.Nat.{ℕ, ◌+◌, ◌/◌, ◌≤◌, ◌<◌}
+use Prim.Native.Nat.{ℕ, ◌≤◌, ◌<◌}
 use lib.ListN.{length, replicate}
 use lib.Dec.{ltb}
 use borrow.Author.Tests.{lt-ltb, le-ltb, ltb-false}
@@ -13,6 +13,11 @@ use Rattle.flow.specs.Function.{safepoint, safepoints}
 use Rattle.refusal.specs.Told.{answered, refused_by}
 use Rattle.refusal.specs.declared.Answer.{Answer}
 use Rattle.roots.specs.Calls.{Lent, function, right, need, after, scratch_after, registers_at}
+use Rattle.roots.specs.Columns.{wanted}
+use Rattle.roots.specs.Plans.{lent}
+use Rattle.roots.specs.declared.Code.{Code}
+use Rattle.roots.specs.declared.Tracked.{Tracked}
+use Rattle.roots.specs.declared.Plan.{Plan}
 use Rattle.roots.proofs.Forms.{code-count, formed-parts}
 use Rattle.roots.proofs.Answers.{yes-then, no-then}
 use Rattle.root_map.specs.Calls.{limits, Size, points_in, registers_in, live_refs_answer, LiveRefsCall}
@@ -23,9 +28,6 @@ neither false b h = (refl, h)
 neither true b h = absurd (true≢false h)
 
 module _ (l : Lent) (t : ℕ → Bool) where
-  abbrev words : ℕ
-  words = (length l.classes + 63) / 64
-
   abbrev live : ℕ → List ℕ
   live = registers_at l t
 
@@ -64,7 +66,7 @@ module _ (l : Lent) (t : ℕ → Bool) where
       refs-function h = refuse rows' scratch-is 15 (no-then _ _ _ (le-ltb (length rows) (need l) room) ∙ yes-then _ _ _ (ap not h))
 
     -- what was counted, and whether there is room for it
-    module _ (good : right l ≡ true) {s s' : List ℕ} {nb p n : ℕ} (counted : Counted t l.kinds l.ends l.refs l.blocks l.classes s s' words nb (length l.kinds) p n)
+    module _ (good : right l ≡ true) {s s' : List ℕ} {nb w p n : ℕ} (counted : Counted t l.kinds l.ends l.refs l.blocks l.classes s s' w nb (length l.kinds) p n)
         {b : Bool} (test : b ≡ (ltb (length pcs) p || (ltb (length bounds) p || ltb (length regs) n))) where
       points-count : p ≡ length points
       points-count = counted.points_are ∙ ap length (all-points good)
@@ -99,7 +101,7 @@ module _ (l : Lent) (t : ℕ → Bool) where
         unfolding live_refs_answer
         answer-is h = no-then _ _ _ (le-ltb (length rows) (need l) room) ∙ no-then _ _ _ (ap not good) ∙ no-then _ _ _ (tested ∙ h)
 
-        pub refs-map : b ≡ false → {r r' pcs' bounds' regs' : List ℕ} → Written t l.kinds l.ends l.refs l.blocks l.classes r r' pcs pcs' bounds bounds' regs regs' words nb (length l.kinds)
+        pub refs-map : b ≡ false → {r r' pcs' bounds' regs' : List ℕ} → Written t l.kinds l.ends l.refs l.blocks l.classes r r' pcs pcs' bounds bounds' regs regs' w nb (length l.kinds)
             → LiveRefsCall l t pcs bounds regs rows pcs' bounds' regs' rows' (record { number = 0; first = p; second = n })
         refs-map h w =
             let all = all-points good in
@@ -113,3 +115,10 @@ module _ (l : Lent) (t : ℕ → Bool) where
                   ∙ sym (ap (λ (u : Result Size). after u regs (put regs 0 (flat_map live points) (length (flat_map live points)))) is);
               scratch = scratch-is room rows' clean;
             }
+
+-- a plan of what was asked
+pub asked-map : (p : Plan) (code : Code) (which : Tracked) → p.code ≡ code → p.which ≡ which → (pcs bounds regs rows pcs' bounds' regs' rows' : List ℕ) (r : Answer)
+    → LiveRefsCall (lent p.code) (wanted p.which) pcs bounds regs rows pcs' bounds' regs' rows' r → LiveRefsCall (lent code) (wanted which) pcs bounds regs rows pcs' bounds' regs' rows' r
+asked-map p code which e w pcs bounds regs rows pcs' bounds' regs' rows' r h =
+    subst (λ (k : Code). LiveRefsCall (lent k) (wanted which) pcs bounds regs rows pcs' bounds' regs' rows' r) e
+    (subst (λ (t : Tracked). LiveRefsCall (lent p.code) (wanted t) pcs bounds regs rows pcs' bounds' regs' rows' r) w h)

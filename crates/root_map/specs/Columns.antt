@@ -1,6 +1,6 @@
 -- What the inner functions ensure: the map of the first i instructions, counted, then written.
 use Rattle.std.specs.Prelude.{◌≡◌, Bool, true, false, ℕ, ◌+◌, ◌-◌, ◌*◌, ◌≤◌, ◌<◌, length, get_or, take, drop}
-use mathlib.Core.List.{List, [], ◌∷◌, flat_map}
+use mathlib.Core.List.{List, flat_map}
 use Rattle.word.specs.Ones.{passing}
 use Rattle.word.specs.Put.{put}
 use Rattle.rows.specs.Row.{listed}

@@ -1,3 +1,4 @@
--- What `live_refs` answers (Calls), and what the inner functions ensure (Columns).
+-- What `live_refs` answers (Calls), what the inner functions ensure (Columns), and that of a plan (Plans).
 pub mod Calls
 pub mod Columns
+pub mod Plans

@@ -6,17 +6,18 @@ ghost use Rattle.rows.specs.Row.{listed};
 ghost use Rattle.flow.specs.Dataflow.{live_before};
 ghost use Rattle.word.specs.Put.{put};
 ghost use Rattle.refusal.specs.Told.{told};
-ghost use Rattle.roots.specs.View.{formed};
 ghost use Rattle.root_map.specs.Calls.{LiveRefsCall};
-ghost use Rattle.roots.specs.Columns.{wanted, seen, cell, Outside, Fixed, Found, In, Separate, Chains};
-ghost use Rattle.root_map.specs.Columns.{row_at, Standing, Pointed, Counted, Fits, Written};
+ghost use Rattle.roots.specs.Columns.{wanted, cell, Outside, Fixed, Found, In, Chains};
+ghost use Rattle.roots.specs.Plans.{lent, all_seen, out_row, Room};
+ghost use Rattle.root_map.specs.Columns.{row_at};
+ghost use Rattle.root_map.specs.Plans.{StandingAt, PointedAt, CountedAt, FitsAt, WrittenAt};
 
 use refusal::{Refusal, Reply};
-use roots::Tracked;
-use roots::chains::{chain, first_at};
-use roots::check::{check_function, enough};
+use roots::chains::{BlockChains, NO_BLOCK};
+use roots::check::{check_function, rows_fit};
 use roots::fixpoint::{analyse, back_at, gather};
 use roots::row::wide;
+use roots::{Code, Plan, Tracked};
 
 // How many safepoints, and registers live at them, there are.
 #[derive(Clone, Copy)]
@@ -25,87 +26,58 @@ pub struct Counts {
     pub registers: usize,
 }
 
-// The block that holds instruction pc, or nb, where b is that of pc + 1. From the last instruction to the first, a block is entered at its last one: where b
-// does not hold pc too, only a block that ends at pc + 1 can, and the chains of the blocks by their end have it.
-fn block_of(blocks: &[u32], nb: usize, heads: &[u16], links: &[u16], b: usize, pc: usize) -> usize
-    requires { (nb ≡ length blocks.now / 2) × Separate blocks.now × Chains blocks.now 1 nb 0 heads.now links.now × (pc < 65536) × Found blocks.now nb (pc + 1) b }
-    ensures { Found blocks.now nb pc result }
+// The block that holds instruction pc, or the number of blocks, where b is that of pc + 1. From the last instruction to the first, a block is entered at its
+// last one: where b does not hold pc too, only a block that ends at pc + 1 can, and the chains of the blocks by their end have it.
+fn block_of(plan: &Plan, by_end: &BlockChains, b: usize, pc: usize) -> usize
+    requires { Chains plan.now.code.blocks.now 1 plan.now.nb 0 by_end.now.heads by_end.now.links × (pc < 65536) × Found plan.now.code.blocks.now plan.now.nb (pc + 1) b }
+    ensures { Found plan.now.code.blocks.now plan.now.nb pc result }
 {
+    let Plan { code, nb, .. } = *plan;
     if b < nb {
-        let st = wide(blocks[2 * b]);
+        let st = wide(code.blocks[2 * b]);
         if st <= pc {
             return b;
         }
     }
-    first_at(blocks, nb, 1, heads, links, pc + 1)
+    by_end.first_at(plan, 1, pc + 1)
 }
 
 // The row after the blocks' becomes the registers that are live before instruction pc of block b. Where q is before the block's end, the row is that before
 // q, and the walk goes on from there.
-fn block_row(
-    s: &mut [u64],
-    kinds: &[u8],
-    ends: &[u32],
-    refs: &[u32],
-    blocks: &[u32],
-    classes: &[u8],
-    which: Tracked,
-    nb: usize,
-    words: usize,
-    b: usize,
-    q: usize,
-    pc: usize,
-)
-    requires classes_value { formed kinds.now ends.now refs.now blocks.now classes.now ≡ true }
-    requires nb_value { (nb ≡ length blocks.now / 2) × (nb * (3 * words) + 2 * words ≤ length s.old) × (length classes.now ≤ 64 * words) × (b < nb) × In blocks.now b pc × (pc < q) }
-    requires fixed { Fixed (seen (wanted which) kinds.now ends.now refs.now blocks.now classes.now) blocks.now s.old words nb }
-    requires standing { Standing (wanted which) kinds.now ends.now refs.now blocks.now classes.now s.old words nb b q }
-    ensures { Outside s.old s.new (nb * (3 * words)) words × ((r : ℕ) → r < 64 * words → cell s.new (nb * (3 * words)) r
-        ≡ live_before (seen (wanted which) kinds.now ends.now refs.now blocks.now classes.now) b pc r) }
+fn block_row(s: &mut [u64], plan: &Plan, b: usize, q: usize, pc: usize)
+    requires nb_value { Room plan.now s.old × (b < plan.now.nb) × In plan.now.code.blocks.now b pc × (pc < q) }
+    requires fixed { Fixed (all_seen plan.now) plan.now.code.blocks.now s.old plan.now.words plan.now.nb }
+    requires standing { StandingAt plan.now s.old b q }
+    ensures { Outside s.old s.new (out_row plan.now) plan.now.words × ((r : ℕ) → r < 64 * plan.now.words → cell s.new (out_row plan.now) r
+        ≡ live_before (all_seen plan.now) b pc r) }
 {
-    let at = nb * (3 * words);
-    let e = wide(blocks[2 * b + 1]);
+    let at = plan.nb * (3 * plan.words);
+    let e = wide(plan.code.blocks[2 * b + 1]);
     if q < e {
-        back_at(s, at, words, ends, refs, classes, which, pc, q);
+        back_at(s, plan, at, pc, q);
         return;
     }
-    gather(s, kinds, ends, refs, blocks, nb, words, b);
-    back_at(s, at, words, ends, refs, classes, which, pc, e);
+    gather(s, plan, b);
+    back_at(s, plan, at, pc, e);
 }
 
 // Whether instruction pc, which block b holds if b is a block, is a safepoint inside a block. Then the row after the blocks' becomes the registers that are
 // live before it.
-fn point_row(
-    s: &mut [u64],
-    kinds: &[u8],
-    ends: &[u32],
-    refs: &[u32],
-    blocks: &[u32],
-    classes: &[u8],
-    which: Tracked,
-    nb: usize,
-    words: usize,
-    b: usize,
-    q: usize,
-    pc: usize,
-) -> bool
-    requires classes_value { formed kinds.now ends.now refs.now blocks.now classes.now ≡ true }
-    requires nb_value { (nb ≡ length blocks.now / 2) × (nb * (3 * words) + 2 * words ≤ length s.old) × (length classes.now ≤ 64 * words) × (pc < length kinds.now) × (pc < q)
-        × Found blocks.now nb pc b }
-    requires fixed { Fixed (seen (wanted which) kinds.now ends.now refs.now blocks.now classes.now) blocks.now s.old words nb }
-    requires standing { Standing (wanted which) kinds.now ends.now refs.now blocks.now classes.now s.old words nb b q }
-    ensures { Pointed (wanted which) kinds.now ends.now refs.now blocks.now classes.now s.old
-        s.new words nb b pc result }
+fn point_row(s: &mut [u64], plan: &Plan, b: usize, q: usize, pc: usize) -> bool
+    requires nb_value { Room plan.now s.old × (pc < length plan.now.code.kinds.now) × (pc < q) × Found plan.now.code.blocks.now plan.now.nb pc b }
+    requires fixed { Fixed (all_seen plan.now) plan.now.code.blocks.now s.old plan.now.words plan.now.nb }
+    requires standing { StandingAt plan.now s.old b q }
+    ensures { PointedAt plan.now s.old s.new b pc result }
 {
+    let Plan { code, nb, .. } = *plan;
+    let kinds = code.kinds;
     if kinds[pc] != 1 {
         return false;
     }
     if nb <= b {
         return false;
     }
-    block_row(
-        s, kinds, ends, refs, blocks, classes, which, nb, words, b, q, pc,
-    );
+    block_row(s, plan, b, q, pc);
     true
 }
 
@@ -119,41 +91,22 @@ fn count_at(s: &[u64], at: usize, words: usize) -> usize
 }
 
 // Counts the map, the last instruction first.
-fn count_map(
-    s: &mut [u64],
-    kinds: &[u8],
-    ends: &[u32],
-    refs: &[u32],
-    blocks: &[u32],
-    classes: &[u8],
-    which: Tracked,
-    nb: usize,
-    words: usize,
-    heads: &[u16],
-    links: &[u16],
-) -> Counts
-    requires classes_value { formed kinds.now ends.now refs.now blocks.now classes.now ≡ true }
-    requires nb_value { (nb ≡ length blocks.now / 2) × (nb * (3 * words) + 2 * words ≤ length s.old) × (length classes.now ≤ 64 * words) × (words ≤ 256) × (length kinds.now ≤ 65536)
-        × Chains blocks.now 1 nb 0 heads.now links.now }
-    requires fixed { Fixed (seen (wanted which) kinds.now ends.now refs.now blocks.now classes.now) blocks.now s.old words nb }
-    ensures { Counted (wanted which) kinds.now ends.now refs.now blocks.now classes.now s.old
-        s.new words nb (length kinds.now) result.points result.registers }
+fn count_map(s: &mut [u64], plan: &Plan, by_end: &BlockChains) -> Counts
+    requires nb_value { Room plan.now s.old × Chains plan.now.code.blocks.now 1 plan.now.nb 0 by_end.now.heads by_end.now.links }
+    requires fixed { Fixed (all_seen plan.now) plan.now.code.blocks.now s.old plan.now.words plan.now.nb }
+    ensures { CountedAt plan.now s.old s.new (length plan.now.code.kinds.now) result.points result.registers }
 {
-    let at = nb * (3 * words);
+    let at = plan.nb * (3 * plan.words);
     let mut points: usize = 0;
     let mut registers: usize = 0;
-    let mut b = nb;
-    let mut pc = kinds.len();
-    let mut q = pc;
-    while 0 < pc {
-        pc -= 1;
-        b = block_of(blocks, nb, heads, links, b, pc);
-        if point_row(
-            s, kinds, ends, refs, blocks, classes, which, nb, words, b, q, pc,
-        ) {
+    let mut b = plan.nb;
+    let mut q = plan.code.kinds.len();
+    for pc in (0..plan.code.kinds.len()).rev() {
+        b = block_of(plan, by_end, b, pc);
+        if point_row(s, plan, b, q, pc) {
             q = pc;
             points += 1;
-            registers += count_at(s, at, words);
+            registers += count_at(s, at, plan.words);
         }
     }
     Counts { points, registers }
@@ -202,92 +155,65 @@ fn write_point(
 // Writes the map, of so many safepoints and registers, the last instruction first.
 fn write_map(
     s: &mut [u64],
-    kinds: &[u8],
-    ends: &[u32],
-    refs: &[u32],
-    blocks: &[u32],
-    classes: &[u8],
-    which: Tracked,
-    nb: usize,
-    words: usize,
-    heads: &[u16],
-    links: &[u16],
+    plan: &Plan,
+    by_end: &BlockChains,
     pcs: &mut [u32],
     bounds: &mut [u32],
     regs: &mut [u32],
-    points: usize,
-    registers: usize,
+    counts: Counts,
 )
-    requires classes_value { formed kinds.now ends.now refs.now blocks.now classes.now ≡ true }
-    requires nb_value { (nb ≡ length blocks.now / 2) × (nb * (3 * words) + 2 * words ≤ length s.old) × (length classes.now ≤ 64 * words) × (words ≤ 256) × (length kinds.now ≤ 65536)
-        × Chains blocks.now 1 nb 0 heads.now links.now }
-    requires fixed { Fixed (seen (wanted which) kinds.now ends.now refs.now blocks.now classes.now) blocks.now s.old words nb }
-    requires fits { Fits (wanted which) kinds.now ends.now refs.now blocks.now classes.now pcs.old bounds.old regs.old points registers }
-    ensures { Written (wanted which) kinds.now ends.now refs.now blocks.now classes.now s.old s.new
-        pcs.old pcs.new bounds.old bounds.new regs.old regs.new words nb (length kinds.now) }
+    requires nb_value { Room plan.now s.old × Chains plan.now.code.blocks.now 1 plan.now.nb 0 by_end.now.heads by_end.now.links }
+    requires fixed { Fixed (all_seen plan.now) plan.now.code.blocks.now s.old plan.now.words plan.now.nb }
+    requires fits { FitsAt plan.now pcs.old bounds.old regs.old counts.points counts.registers }
+    ensures { WrittenAt plan.now s.old s.new pcs.old pcs.new bounds.old bounds.new regs.old regs.new (length plan.now.code.kinds.now) }
 {
-    let at = nb * (3 * words);
-    let mut k = points;
-    let mut to = registers;
-    let mut b = nb;
-    let mut pc = kinds.len();
-    let mut q = pc;
-    while 0 < pc {
-        pc -= 1;
-        b = block_of(blocks, nb, heads, links, b, pc);
-        if point_row(
-            s, kinds, ends, refs, blocks, classes, which, nb, words, b, q, pc,
-        ) {
+    let at = plan.nb * (3 * plan.words);
+    let mut k = counts.points;
+    let mut to = counts.registers;
+    let mut b = plan.nb;
+    let mut q = plan.code.kinds.len();
+    for pc in (0..plan.code.kinds.len()).rev() {
+        b = block_of(plan, by_end, b, pc);
+        if point_row(s, plan, b, q, pc) {
             q = pc;
             k -= 1;
-            to = write_point(s, at, words, pc, pcs, bounds, regs, k, to);
+            to = write_point(s, at, plan.words, pc, pcs, bounds, regs, k, to);
         }
     }
 }
 
 // The registers that are live before each safepoint, rising, the safepoints rising too.
 pub fn live_refs(
-    kinds: &[u8],
-    ends: &[u32],
-    refs: &[u32],
-    blocks: &[u32],
-    classes: &[u8],
+    code: Code,
     which: Tracked,
     pcs: &mut [u32],
     bounds: &mut [u32],
     regs: &mut [u32],
     s: &mut [u64],
 ) -> Reply
-    ensures { LiveRefsCall (record { kinds = kinds.now; ends = ends.now; refs = refs.now; blocks = blocks.now; classes = classes.now })
-        (wanted which) pcs.old bounds.old regs.old s.old pcs.new bounds.new regs.new s.new (told result) }
+    ensures { LiveRefsCall (lent code.entry) (wanted which) pcs.old bounds.old regs.old s.old pcs.new bounds.new regs.new s.new (told result) }
 {
-    let words = (classes.len() + 63) / 64;
-    let nb = blocks.len() / 2;
-    if !enough(s.len(), 3 * nb + 2, words) {
+    if !rows_fit(&code, s.len()) {
         return Err(Refusal::Scratch);
     }
-    if !check_function(kinds, ends, refs, blocks, classes) {
+    if !check_function(&code) {
         s.fill(0);
         return Err(Refusal::Function);
     }
-    // The chains of the blocks by their end; 65,535 is no block.
-    let mut heads = [65535u16; 4096];
-    let mut links = [65535u16; 4096];
-    chain(blocks, nb, 1, &mut heads, &mut links);
-    analyse(s, kinds, ends, refs, blocks, classes, which, nb, words);
-    let c = count_map(
-        s, kinds, ends, refs, blocks, classes, which, nb, words, &heads, &links,
-    );
-    let points = c.points;
-    let registers = c.registers;
+    let plan = Plan::new(code, which);
+    let mut by_end = BlockChains {
+        heads: [NO_BLOCK; 4096],
+        links: [NO_BLOCK; 4096],
+    };
+    by_end.chain(&plan, 1);
+    analyse(s, &plan);
+    let counts = count_map(s, &plan, &by_end);
+    let Counts { points, registers } = counts;
     if short(points, registers, pcs.len(), bounds.len(), regs.len()) {
         s.fill(0);
         return Err(Refusal::ShortList);
     }
-    write_map(
-        s, kinds, ends, refs, blocks, classes, which, nb, words, &heads, &links, pcs, bounds, regs,
-        points, registers,
-    );
+    write_map(s, &plan, &by_end, pcs, bounds, regs, counts);
     s.fill(0);
     Ok((points as u64, registers as u64))
 }

@@ -2,7 +2,7 @@
 use mathlib.Core.Path.{◌≡◌, refl, sym, ap, ap₂, ◌∙◌, fun_ext}
 use mathlib.Core.Logic.{◌⊎◌, inl, inr}
 use mathlib.Core.Bool.{Bool, true, false, not, ◌&&◌}
-use mathlib.Core.List.{List, [], ◌∷◌}
+use mathlib.Core.List.{List}
 use Prim.Native.Nat.{ℕ, ◌+◌, ◌-◌, ◌*◌, ◌/◌, ◌≤◌, ◌<◌}
 use native.Mathlib.Omega.{arith}
 use native.Mathlib.Nat.{add-mul, mul_assoc, mul_comm}
@@ -18,7 +18,7 @@ use Rattle.refusal.specs.Told.{answered, refused_by, here, nothing}
 use Rattle.refusal.specs.declared.Answer.{Answer}
 use Rattle.rows.specs.Row.{bit_in, part, listed}
 use Rattle.rows.specs.Listing.{listing, listed_into}
-use Rattle.flow.specs.Function.{Function, Block, Instruction, LiveList, holds, inst, block, start, end, safepoint, safepoints}
+use Rattle.flow.specs.Function.{Function, Block, Instruction, LiveList, holds, inst, start, end, safepoint}
 use Rattle.flow.specs.Dataflow.{back, out, live_before, holder, live_row, track}
 use Rattle.word.proofs.Bools.{either, both-and}
 use Rattle.flow.proofs.Lists.{passing-same, some_at, at_some}

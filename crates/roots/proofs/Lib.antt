@@ -8,5 +8,7 @@ pub mod Passes
 pub mod Builds
 pub mod Forms
 pub mod Checks
+pub mod Plans
 pub mod Marks
 pub mod Answers
+pub mod Asking

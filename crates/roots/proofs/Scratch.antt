@@ -7,7 +7,7 @@ use Prim.Native.Nat.{ℕ, suc, ◌+◌, ◌-◌, ◌*◌, ◌/◌, ◌%◌, ◌�
 use native.Mathlib.Omega.{arith}
 use native.Mathlib.Numerals.{add-one}
 use native.Mathlib.Decide.{ℕ_discrete, dec_lt}
-use native.Mathlib.Nat.{zero-add, mul-le-mul_right, suc-mul}
+use native.Mathlib.Nat.{mul-le-mul_right, suc-mul}
 use borrow.Rule.Slice.PartMut.{put_mid, post_of, same_len_mid}
 use lib.ListN.{length, get_or, set, replicate, drop, take, get_or-replicate, get_or-append, get_or-eq_default, length-set, length-drop, length-replicate, drop_of_length-le}
 use lib.Seq.{slice, slice-cons, slice_empty, get_or-set_same, get_or-set_other, get_or-take, get_or-drop, get_or-append-add, length-take-le, drop-cons}

@@ -1,6 +1,6 @@
 -- The lent columns read as a function. `kinds` has an entry an instruction; `ends` three: where its registers written, its registers read and its
 -- target blocks end in `refs`, each list starting where the one before ends. `blocks` has two entries a block, start and end; `classes` one a register.
-use Rattle.std.specs.Prelude.{Bool, true, ◌&&◌, List, [], ◌∷◌, ℕ, zero, suc, ◌+◌, ◌*◌, ◌-◌, ◌/◌, ◌%◌, ◌≤◌, ◌<◌, leb, eqb, length, get_or}
+use Rattle.std.specs.Prelude.{Bool, true, ◌&&◌, List, [], ◌∷◌, ℕ, zero, suc, ◌+◌, ◌*◌, ◌/◌, ◌%◌, leb, eqb, length, get_or}
 use Rattle.std.proofs.Math.Seq.{slice}
 use Rattle.word.specs.Lists.{tabulate}
 use Rattle.flow.specs.Function.{Function, Instruction, Block, valid}

@@ -1,30 +1,25 @@
 // The test of a lent function: number 15 otherwise.
 ghost use Rattle.std.specs.Prelude.{◌≡◌, Bool, true, false, ◌↔◌, ◌*◌, ◌/◌, ◌≤◌, ◌<◌, length};
 ghost use Rattle.roots.specs.View.{formed};
+ghost use Rattle.roots.specs.Calls.{need};
+ghost use Rattle.roots.specs.Plans.{lent};
 ghost use Rattle.roots.specs.Columns.{Lists, Separate, AtMost, Inside, Marked};
 
+use crate::Code;
 use crate::row::{list_start, wide};
 
 // Whether every byte is at most limit.
 fn all_at_most(bytes: &[u8], limit: u8) -> bool
     ensures { (result ≡ true) ↔ AtMost bytes.now limit }
 {
-    let mut i = 0;
-    while i < bytes.len() {
-        if bytes[i] > limit {
-            return false;
-        }
-        i += 1;
-    }
-    true
+    bytes.iter().all(|byte| *byte <= limit)
 }
 
 // Whether the lists lie in refs, in order.
 fn lists_fit(ends: &[u32], refs: &[u32]) -> bool
     ensures { (result ≡ true) ↔ Lists ends.now refs.now }
 {
-    let mut k = 0;
-    while k < ends.len() {
+    for k in 0..ends.len() {
         let a = list_start(ends, k);
         let m = wide(ends[k]);
         if m < a {
@@ -33,7 +28,6 @@ fn lists_fit(ends: &[u32], refs: &[u32]) -> bool
         if refs.len() < m {
             return false;
         }
-        k += 1;
     }
     true
 }
@@ -43,8 +37,7 @@ fn blocks_inside(blocks: &[u32], nb: usize, count: usize) -> bool
     requires { nb ≡ length blocks.now / 2 }
     ensures { (result ≡ true) ↔ Inside blocks.now count }
 {
-    let mut b = 0;
-    while b < nb {
+    for b in 0..nb {
         let st = wide(blocks[2 * b]);
         let e = wide(blocks[2 * b + 1]);
         if st < e {
@@ -52,7 +45,6 @@ fn blocks_inside(blocks: &[u32], nb: usize, count: usize) -> bool
                 return false;
             }
         }
-        b += 1;
     }
     true
 }
@@ -62,13 +54,11 @@ fn mark_block(marks: &mut [u64], from: usize, to: usize) -> bool
     requires { from < to → to ≤ 64 * length marks.old }
     ensures { Marked marks.old marks.new from to result }
 {
-    let mut p = from;
-    while p < to {
+    for p in from..to {
         if rows::test_bit(marks, p) {
             return false;
         }
         rows::set_bit(marks, p);
-        p += 1;
     }
     true
 }
@@ -79,29 +69,28 @@ fn blocks_apart(blocks: &[u32], nb: usize) -> bool
     ensures { (result ≡ true) ↔ Separate blocks.now }
 {
     let mut marks = [0u64; 1024];
-    let mut b = 0;
-    while b < nb {
+    for b in 0..nb {
         let st = wide(blocks[2 * b]);
         let e = wide(blocks[2 * b + 1]);
         if !mark_block(&mut marks, st, e) {
             return false;
         }
-        b += 1;
     }
     true
 }
 
 // Whether the lent columns are a function.
-pub fn check_function(
-    kinds: &[u8],
-    ends: &[u32],
-    refs: &[u32],
-    blocks: &[u32],
-    classes: &[u8],
-) -> bool
-    ensures { result ≡ formed kinds.now ends.now refs.now blocks.now classes.now }
+pub fn check_function(code: &Code) -> bool
+    ensures { result ≡ formed code.now.kinds.now code.now.ends.now code.now.refs.now code.now.blocks.now code.now.classes.now }
 {
-    let nb = blocks.len() / 2;
+    let Code {
+        kinds,
+        ends,
+        refs,
+        blocks,
+        classes,
+    } = *code;
+    let nb = code.block_count();
     if kinds.len() > 65536 {
         return false;
     }
@@ -129,21 +118,19 @@ pub fn check_function(
     if !blocks_inside(blocks, nb, kinds.len()) {
         return false;
     }
-    if !blocks_apart(blocks, nb) {
-        return false;
-    }
-    true
+    blocks_apart(blocks, nb)
 }
 
 // Whether rows of so many words fit.
-pub fn enough(len: usize, rows: usize, words: usize) -> bool
+fn enough(len: usize, rows: usize, words: usize) -> bool
     ensures { (result ≡ true) ↔ (rows * words ≤ len) }
 {
-    if words == 0 {
-        return true;
-    }
-    if len / words < rows {
-        return false;
-    }
-    true
+    words == 0 || rows <= len / words
+}
+
+// Whether the rows of a function fit in a scratch of so many words.
+pub fn rows_fit(code: &Code, len: usize) -> bool
+    ensures { (result ≡ true) ↔ (need (lent code.now) ≤ len) }
+{
+    enough(len, 3 * code.block_count() + 2, code.words())
 }

@@ -1,14 +1,14 @@
 // The rows of all blocks in one scratch: gen and kill, the live-out of a block, and the passes to the least fixpoint.
 ghost use Rattle.std.specs.Prelude.{◌≡◌, Bool, true, false, ◌||◌, List, ℕ, ◌+◌, ◌-◌, ◌*◌, ◌/◌, ◌≤◌, ◌<◌, length, get_or};
-ghost use Rattle.std.proofs.Math.Seq.{slice};
 ghost use Rattle.flow.specs.Function.{existing};
 ghost use Rattle.flow.specs.Dataflow.{back, killed, any_of, out};
-ghost use Rattle.roots.specs.View.{formed};
-ghost use Rattle.roots.specs.Columns.{wanted, seen, Lists, Columns, Outside, cell, live_at, Linked, Chains, Begun, Built, Pass, Solved, Fixed};
+ghost use Rattle.roots.specs.Columns.{wanted, Outside, cell, live_at, Linked, Chains, Begun, Built, Pass, Solved, Fixed};
+ghost use Rattle.roots.specs.Plans.{part_seen, all_seen, tested, out_row, Room};
 
-use crate::Tracked;
-use crate::chains::{chain, first_at};
-use crate::row::wide;
+use crate::Plan;
+use crate::chains::{BlockChains, NO_BLOCK};
+use crate::row::{back_row, kill_row, wide};
+use rows::Step;
 
 // A number of 64 bits as an index.
 fn index(x: u64) -> usize
@@ -27,45 +27,25 @@ fn clear_row(s: &mut [u64], at: usize, words: usize)
 }
 
 // The row at `at`, lent on to be written, goes back over the instructions from..to.
-pub fn back_at(
-    s: &mut [u64],
-    at: usize,
-    words: usize,
-    ends: &[u32],
-    refs: &[u32],
-    classes: &[u8],
-    which: Tracked,
-    from: usize,
-    to: usize,
-)
-    requires words_in_bounds { at + words ≤ length s.old }
-    requires from_le_to { (from ≤ to) × (3 * to ≤ length ends.now) × (length classes.now ≤ 64 * words) × Lists ends.now refs.now }
-    ensures { Outside s.old s.new at words × ((ks bs : List ℕ) (q : ℕ) → q < 64 * words → cell s.new at q
-        ≡ back (seen (wanted which) ks ends.now refs.now bs classes.now) q from (to - from) (cell s.old at q)) }
+pub fn back_at(s: &mut [u64], plan: &Plan, at: usize, from: usize, to: usize)
+    requires words_in_bounds { at + plan.now.words ≤ length s.old }
+    requires from_le_to { (from ≤ to) × (3 * to ≤ length plan.now.code.ends.now) }
+    ensures { Outside s.old s.new at plan.now.words × ((ks bs : List ℕ) (q : ℕ) → q < 64 * plan.now.words → cell s.new at q
+        ≡ back (part_seen plan.now ks bs) q from (to - from) (cell s.old at q)) }
 {
-    let past = at + words;
-    crate::row::back_row(&mut s[at..past], ends, refs, classes, which, from, to);
+    let past = at + plan.words;
+    back_row(&mut s[at..past], plan, from, to);
 }
 
 // The row at `at`, lent on to be written, gets the registers that the instructions from..to write.
-fn kill_at(
-    s: &mut [u64],
-    at: usize,
-    words: usize,
-    ends: &[u32],
-    refs: &[u32],
-    classes: &[u8],
-    which: Tracked,
-    from: usize,
-    to: usize,
-)
-    requires words_in_bounds { at + words ≤ length s.old }
-    requires from_le_to { (from ≤ to) × (3 * to ≤ length ends.now) × (length classes.now ≤ 64 * words) × Lists ends.now refs.now }
-    ensures { Outside s.old s.new at words × ((ks bs : List ℕ) (q : ℕ) → q < 64 * words → cell s.new at q
-        ≡ killed (seen (wanted which) ks ends.now refs.now bs classes.now) q from (to - from) || cell s.old at q) }
+fn kill_at(s: &mut [u64], plan: &Plan, at: usize, from: usize, to: usize)
+    requires words_in_bounds { at + plan.now.words ≤ length s.old }
+    requires from_le_to { (from ≤ to) × (3 * to ≤ length plan.now.code.ends.now) }
+    ensures { Outside s.old s.new at plan.now.words × ((ks bs : List ℕ) (q : ℕ) → q < 64 * plan.now.words → cell s.new at q
+        ≡ killed (part_seen plan.now ks bs) q from (to - from) || cell s.old at q) }
 {
-    let past = at + words;
-    crate::row::kill_row(&mut s[at..past], ends, refs, classes, which, from, to);
+    let past = at + plan.words;
+    kill_row(&mut s[at..past], plan, from, to);
 }
 
 // The row at dst gets the registers of the row at src too.
@@ -73,67 +53,58 @@ fn join(s: &mut [u64], dst: usize, src: usize, words: usize)
     requires { (src + words ≤ dst) × (dst + words ≤ length s.old) }
     ensures { Outside s.old s.new dst words × ((q : ℕ) → q < 64 * words → cell s.new dst q ≡ cell s.old src q || cell s.old dst q) }
 {
-    let mut w = 0;
-    while w < words {
-        let i = dst + w;
-        let j = src + w;
-        s[i] = s[i] | s[j];
-        w += 1;
+    for w in 0..words {
+        s[dst + w] |= s[src + w];
     }
 }
 
-// The row after the blocks' gets the live-in registers of the blocks refs[from..to] that exist.
-fn join_targets(s: &mut [u64], refs: &[u32], from: usize, to: usize, nb: usize, words: usize)
-    requires { (from ≤ to) × (to ≤ length refs.now) × (nb * (3 * words) + words ≤ length s.old) }
-    ensures { Outside s.old s.new (nb * (3 * words)) words × ((q : ℕ) → q < 64 * words → cell s.new (nb * (3 * words)) q
-        ≡ any_of (live_at s.old words nb q) (existing nb (slice from to refs.now)) || cell s.old (nb * (3 * words)) q) }
+// The row after the blocks' gets the live-in registers of those of the target blocks that exist.
+fn join_targets(s: &mut [u64], plan: &Plan, targets: &[u32])
+    requires { out_row plan.now + plan.now.words ≤ length s.old }
+    ensures { Outside s.old s.new (out_row plan.now) plan.now.words × ((q : ℕ) → q < 64 * plan.now.words → cell s.new (out_row plan.now) q
+        ≡ any_of (live_at s.old plan.now.words plan.now.nb q) (existing plan.now.nb targets.now) || cell s.old (out_row plan.now) q) }
 {
+    let Plan { nb, words, .. } = *plan;
     let stride = 3 * words;
     let out = nb * stride;
-    let mut i = from;
-    while i < to {
-        let t = wide(refs[i]);
+    for target in targets {
+        let t = wide(*target);
         if t < nb {
             join(s, out, t * stride, words);
         }
-        i += 1;
     }
 }
 
 // The row after the blocks' gets the live-out of block b.
-fn leave(
-    s: &mut [u64],
-    kinds: &[u8],
-    ends: &[u32],
-    refs: &[u32],
-    blocks: &[u32],
-    nb: usize,
-    words: usize,
-    b: usize,
-)
-    requires columns { Columns kinds.now ends.now refs.now blocks.now }
-    requires nb_value { (nb ≡ length blocks.now / 2) × (b < nb) × (nb * (3 * words) + 2 * words ≤ length s.old) × (0 < words → Linked blocks.now s.old words nb) }
-    ensures { Outside s.old s.new (nb * (3 * words)) words × ((t : ℕ → Bool) (cs : List ℕ) (q : ℕ) → q < 64 * words → cell s.new (nb * (3 * words)) q
-        ≡ out (seen t kinds.now ends.now refs.now blocks.now cs) (live_at s.old words nb q) b
-        || cell s.old (nb * (3 * words)) q) }
+fn leave(s: &mut [u64], plan: &Plan, b: usize)
+    requires nb_value { (b < plan.now.nb) × Room plan.now s.old × (0 < plan.now.words → Linked plan.now.code.blocks.now s.old plan.now.words plan.now.nb) }
+    ensures { Outside s.old s.new (out_row plan.now) plan.now.words
+        × ((t : ℕ → Bool) (cs : List ℕ) (q : ℕ) → q < 64 * plan.now.words → cell s.new (out_row plan.now) q
+        ≡ out (tested plan.now t cs) (live_at s.old plan.now.words plan.now.nb q) b || cell s.old (out_row plan.now) q) }
 {
+    let Plan {
+        code,
+        nb,
+        words,
+        ..
+    } = *plan;
     if words == 0 {
         return;
     }
     let stride = 3 * words;
     let at = nb * stride;
-    let st = wide(blocks[2 * b]);
-    let e = wide(blocks[2 * b + 1]);
+    let st = wide(code.blocks[2 * b]);
+    let e = wide(code.blocks[2 * b + 1]);
     if e <= st {
         return;
     }
-    let k = kinds[e - 1];
+    let k = code.kinds[e - 1];
     if 2 <= k {
         if k <= 4 {
             let j = 3 * (e - 1) + 1;
-            let from = wide(ends[j]);
-            let to = wide(ends[j + 1]);
-            join_targets(s, refs, from, to, nb, words);
+            let from = wide(code.ends[j]);
+            let to = wide(code.ends[j + 1]);
+            join_targets(s, plan, &code.refs[from..to]);
             return;
         }
         if k <= 6 {
@@ -147,48 +118,36 @@ fn leave(
 }
 
 // The row after the blocks' becomes the live-out of block b.
-pub fn gather(
-    s: &mut [u64],
-    kinds: &[u8],
-    ends: &[u32],
-    refs: &[u32],
-    blocks: &[u32],
-    nb: usize,
-    words: usize,
-    b: usize,
-)
-    requires columns { Columns kinds.now ends.now refs.now blocks.now }
-    requires nb_value { (nb ≡ length blocks.now / 2) × (b < nb) × (nb * (3 * words) + 2 * words ≤ length s.old) × (0 < words → Linked blocks.now s.old words nb) }
-    ensures { Outside s.old s.new (nb * (3 * words)) words × ((t : ℕ → Bool) (cs : List ℕ) (q : ℕ) → q < 64 * words → cell s.new (nb * (3 * words)) q
-        ≡ out (seen t kinds.now ends.now refs.now blocks.now cs) (live_at s.old words nb q) b) }
+pub fn gather(s: &mut [u64], plan: &Plan, b: usize)
+    requires nb_value { (b < plan.now.nb) × Room plan.now s.old × (0 < plan.now.words → Linked plan.now.code.blocks.now s.old plan.now.words plan.now.nb) }
+    ensures { Outside s.old s.new (out_row plan.now) plan.now.words
+        × ((t : ℕ → Bool) (cs : List ℕ) (q : ℕ) → q < 64 * plan.now.words → cell s.new (out_row plan.now) q
+        ≡ out (tested plan.now t cs) (live_at s.old plan.now.words plan.now.nb q) b) }
 {
-    clear_row(s, nb * (3 * words), words);
-    leave(s, kinds, ends, refs, blocks, nb, words, b);
+    clear_row(s, plan.nb * (3 * plan.words), plan.words);
+    leave(s, plan, b);
 }
 
 // One pass over the blocks, the last first. Whether a live-in row got more.
-fn pass(
-    s: &mut [u64],
-    kinds: &[u8],
-    ends: &[u32],
-    refs: &[u32],
-    blocks: &[u32],
-    nb: usize,
-    words: usize,
-) -> bool
-    requires columns { Columns kinds.now ends.now refs.now blocks.now }
-    requires nb_value { (nb ≡ length blocks.now / 2) × (nb * (3 * words) + 2 * words ≤ length s.old) × Linked blocks.now s.old words nb }
-    ensures { Pass kinds.now ends.now refs.now blocks.now s.old s.new nb words 0 result }
+fn pass(s: &mut [u64], plan: &Plan) -> bool
+    requires nb_value { Room plan.now s.old × Linked plan.now.code.blocks.now s.old plan.now.words plan.now.nb }
+    ensures { Pass plan.now.code.kinds.now plan.now.code.ends.now plan.now.code.refs.now plan.now.code.blocks.now s.old s.new plan.now.nb plan.now.words 0 result }
 {
+    let Plan { nb, words, .. } = *plan;
     let stride = 3 * words;
     let at = nb * stride;
     let mut changed = false;
-    let mut b = nb;
-    while 0 < b {
-        b -= 1;
-        gather(s, kinds, ends, refs, blocks, nb, words, b);
+    for b in (0..nb).rev() {
+        gather(s, plan, b);
         let live = b * stride;
-        let grown = rows::step_block(s, words, live, at + words, at, live + words, at + 2 * words);
+        let step = Step {
+            words,
+            live,
+            made: at + words,
+            out: at,
+            kill: live + words,
+        };
+        let grown = step.run_before(s, at + 2 * words);
         if grown {
             changed = true;
         }
@@ -197,21 +156,12 @@ fn pass(
 }
 
 // Passes until nothing changes.
-fn solve(
-    s: &mut [u64],
-    kinds: &[u8],
-    ends: &[u32],
-    refs: &[u32],
-    blocks: &[u32],
-    nb: usize,
-    words: usize,
-)
-    requires columns { Columns kinds.now ends.now refs.now blocks.now }
-    requires nb_value { (nb ≡ length blocks.now / 2) × (nb * (3 * words) + 2 * words ≤ length s.old) × Linked blocks.now s.old words nb }
-    ensures { Solved kinds.now ends.now refs.now blocks.now s.old s.new nb words }
+fn solve(s: &mut [u64], plan: &Plan)
+    requires nb_value { Room plan.now s.old × Linked plan.now.code.blocks.now s.old plan.now.words plan.now.nb }
+    ensures { Solved plan.now.code.kinds.now plan.now.code.ends.now plan.now.code.refs.now plan.now.code.blocks.now s.old s.new plan.now.nb plan.now.words }
 {
     loop {
-        let more = pass(s, kinds, ends, refs, blocks, nb, words);
+        let more = pass(s, plan);
         if !more {
             return;
         }
@@ -219,112 +169,58 @@ fn solve(
 }
 
 // The rows of block b, in words that are zero: gen, kill, and the block that it falls through to.
-fn start_block(
-    s: &mut [u64],
-    ends: &[u32],
-    refs: &[u32],
-    blocks: &[u32],
-    classes: &[u8],
-    which: Tracked,
-    nb: usize,
-    words: usize,
-    b: usize,
-    heads: &[u16],
-    links: &[u16],
-)
-    requires nb_value { (nb ≡ length blocks.now / 2) × (b < nb) × (nb * (3 * words) + 2 * words ≤ length s.old) × (length classes.now ≤ 64 * words) × (0 < words)
-        × Lists ends.now refs.now × Chains blocks.now 0 nb 0 heads.now links.now }
-    requires b_in_bounds { get_or blocks.now (2 * b) 0 < get_or blocks.now (2 * b + 1) 0 → 3 * get_or blocks.now (2 * b + 1) 0 ≤ length ends.now }
-    requires by_index { (i : ℕ) → b * (3 * words) ≤ i → get_or s.old i 0 ≡ 0 }
-    ensures { Begun (wanted which) ends.now refs.now blocks.now classes.now s.old s.new nb words b }
+fn start_block(s: &mut [u64], plan: &Plan, b: usize, starts: &BlockChains)
+    requires nb_value { (b < plan.now.nb) × Room plan.now s.old × (0 < plan.now.words) × Chains plan.now.code.blocks.now 0 plan.now.nb 0 starts.now.heads starts.now.links }
+    requires by_index { (i : ℕ) → b * (3 * plan.now.words) ≤ i → get_or s.old i 0 ≡ 0 }
+    ensures { Begun (wanted plan.now.which) plan.now.code.ends.now plan.now.code.refs.now plan.now.code.blocks.now plan.now.code.classes.now s.old s.new plan.now.nb plan.now.words b }
 {
-    let st = wide(blocks[2 * b]);
-    let e = wide(blocks[2 * b + 1]);
+    let st = wide(plan.code.blocks[2 * b]);
+    let e = wide(plan.code.blocks[2 * b + 1]);
     if e <= st {
         return;
     }
+    let words = plan.words;
     let at = b * (3 * words);
-    back_at(s, at, words, ends, refs, classes, which, st, e);
-    kill_at(s, at + words, words, ends, refs, classes, which, st, e);
-    let t = first_at(blocks, nb, 0, heads, links, e);
+    back_at(s, plan, at, st, e);
+    kill_at(s, plan, at + words, st, e);
+    let t = starts.first_at(plan, 0, e);
     s[at + 2 * words] = t as u64;
 }
 
 // The rows of every block, in a scratch of zeros, from the chains of the blocks by their start.
-fn start_blocks(
-    s: &mut [u64],
-    ends: &[u32],
-    refs: &[u32],
-    blocks: &[u32],
-    classes: &[u8],
-    which: Tracked,
-    nb: usize,
-    words: usize,
-    heads: &[u16],
-    links: &[u16],
-)
-    requires nb_value { (nb ≡ length blocks.now / 2) × (nb * (3 * words) + 2 * words ≤ length s.old) × (length classes.now ≤ 64 * words) × (0 < words) × Lists ends.now refs.now
-        × Chains blocks.now 0 nb 0 heads.now links.now }
-    requires by_index { (b : ℕ) → b < nb → get_or blocks.now (2 * b) 0 < get_or blocks.now (2 * b + 1) 0 → 3 * get_or blocks.now (2 * b + 1) 0 ≤ length ends.now }
+fn start_blocks(s: &mut [u64], plan: &Plan, starts: &BlockChains)
+    requires nb_value { Room plan.now s.old × (0 < plan.now.words) × Chains plan.now.code.blocks.now 0 plan.now.nb 0 starts.now.heads starts.now.links }
     requires by_index_2 { (i : ℕ) → get_or s.old i 0 ≡ 0 }
-    ensures { Built (wanted which) ends.now refs.now blocks.now classes.now s.old s.new nb words }
+    ensures { Built (wanted plan.now.which) plan.now.code.ends.now plan.now.code.refs.now plan.now.code.blocks.now plan.now.code.classes.now s.old s.new plan.now.nb plan.now.words }
 {
-    let mut b = 0;
-    while b < nb {
-        start_block(
-            s, ends, refs, blocks, classes, which, nb, words, b, heads, links,
-        );
-        b += 1;
+    for b in 0..plan.nb {
+        start_block(s, plan, b, starts);
     }
 }
 
 // The rows of every block, in a scratch of zeros.
-fn build(
-    s: &mut [u64],
-    ends: &[u32],
-    refs: &[u32],
-    blocks: &[u32],
-    classes: &[u8],
-    which: Tracked,
-    nb: usize,
-    words: usize,
-)
-    requires nb_value { (nb ≡ length blocks.now / 2) × (nb * (3 * words) + 2 * words ≤ length s.old) × (length classes.now ≤ 64 * words) × (0 < words) × Lists ends.now refs.now
-        × (nb ≤ 4096) }
-    requires by_index { (b : ℕ) → b < nb → get_or blocks.now (2 * b) 0 < get_or blocks.now (2 * b + 1) 0 → 3 * get_or blocks.now (2 * b + 1) 0 ≤ length ends.now }
+fn build(s: &mut [u64], plan: &Plan)
+    requires nb_value { Room plan.now s.old × (0 < plan.now.words) }
     requires by_index_2 { (i : ℕ) → get_or s.old i 0 ≡ 0 }
-    ensures { Built (wanted which) ends.now refs.now blocks.now classes.now s.old s.new nb words }
+    ensures { Built (wanted plan.now.which) plan.now.code.ends.now plan.now.code.refs.now plan.now.code.blocks.now plan.now.code.classes.now s.old s.new plan.now.nb plan.now.words }
 {
-    // 65,535 is no block.
-    let mut heads = [65535u16; 4096];
-    let mut links = [65535u16; 4096];
-    chain(blocks, nb, 0, &mut heads, &mut links);
-    start_blocks(
-        s, ends, refs, blocks, classes, which, nb, words, &heads, &links,
-    );
+    let mut starts = BlockChains {
+        heads: [NO_BLOCK; 4096],
+        links: [NO_BLOCK; 4096],
+    };
+    starts.chain(plan, 0);
+    start_blocks(s, plan, &starts);
 }
 
 // The live-in row of every block.
-pub fn analyse(
-    s: &mut [u64],
-    kinds: &[u8],
-    ends: &[u32],
-    refs: &[u32],
-    blocks: &[u32],
-    classes: &[u8],
-    which: Tracked,
-    nb: usize,
-    words: usize,
-)
-    requires classes_value { formed kinds.now ends.now refs.now blocks.now classes.now ≡ true }
-    requires nb_value { (nb ≡ length blocks.now / 2) × (nb * (3 * words) + 2 * words ≤ length s.old) × (length classes.now ≤ 64 * words) }
-    ensures { (length s.new ≡ length s.old)
-        × Fixed (seen (wanted which) kinds.now ends.now refs.now blocks.now classes.now) blocks.now s.new words nb }
+pub fn analyse(s: &mut [u64], plan: &Plan)
+    requires nb_value { Room plan.now s.old }
+    ensures { (length s.new ≡ length s.old) × Fixed (all_seen plan.now) plan.now.code.blocks.now s.new plan.now.words plan.now.nb }
 {
     s.fill(0);
-    if words == 0 {
+    if plan.words == 0 {
         return;
     }
-    build(s, ends, refs, blocks, classes, which, nb, words);
-    solve(s, kinds, ends, refs, blocks, nb, words);
+    build(s, plan);
+    solve(s, plan);
 }

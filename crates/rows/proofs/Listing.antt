@@ -1,20 +1,19 @@
 -- Going through a row word by word: what is left of it at word i when `rest` of that word was not taken yet. A turn passes a word that has nothing left, or takes the
 -- lowest set bit of one. For any word width W. Assumes nothing.
-use mathlib.Core.Path.{◌≡◌, refl, sym, ap, ap₂, ◌∙◌}
+use mathlib.Core.Path.{◌≡◌, sym, ap, ap₂, ◌∙◌}
 use mathlib.Core.Bool.{Bool, true, false}
-use mathlib.Core.List.{List, [], ◌∷◌, ◌++◌, append_assoc, append-nil}
+use mathlib.Core.List.{List, [], ◌∷◌, ◌++◌}
 use Prim.Native.Nat.{ℕ, zero, suc, ◌+◌, ◌-◌, ◌*◌, ◌^◌, ◌≤◌, ◌<◌}
-use native.Mathlib.Nat.{zero-add, add-mul, one-mul, zero-mul}
+use native.Mathlib.Nat.{add-mul, one-mul, zero-mul}
 use native.Mathlib.Decide.{dec_lt}
 use native.Mathlib.Omega.{arith}
 use lib.Bits.{bit_and}
 use lib.Count.{count_trailing_zeros}
-use lib.ListN.{length, get_or, set, length-append, length-set, get_or-eq_default}
+use lib.ListN.{length, get_or, set, get_or-eq_default}
 use Rattle.word.specs.Ones.{keep, passing, ones_from}
 use Rattle.word.specs.Put.{put}
 use Rattle.word.proofs.OnesLaws.{passing-append, passing-ones, ones_none, ones-next, less-one-digit}
-use Rattle.word.proofs.PutLaws.{put-none, put-put, copy-turn}
-use Rattle.word.proofs.Bools.{positive}
+use Rattle.word.proofs.PutLaws.{put-none, copy-turn}
 use Rattle.rows.specs.Row.{bit_in, listed}
 use Rattle.rows.proofs.RowLaws.{bit_in-word}
 

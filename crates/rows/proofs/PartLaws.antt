@@ -1,19 +1,16 @@
 -- What a part that was lent says of the whole scratch: its bits are those of the part, and no other bit changes. Assumes nothing.
-use mathlib.Core.Path.{◌≡◌, refl, sym, ap, ap₂, ◌∙◌, subst}
+use mathlib.Core.Path.{◌≡◌, sym, ap, ◌∙◌}
 use mathlib.Core.Logic.{◌⊎◌, inl, inr}
-use mathlib.Core.Bool.{Bool, true, false, not, ◌&&◌, ◌||◌}
+use mathlib.Core.Bool.{true, false}
 use mathlib.Core.List.{List}
-use Prim.Native.Nat.{ℕ, zero, suc, ◌+◌, ◌-◌, ◌*◌, ◌/◌, ◌%◌, ◌≤◌, ◌<◌}
-use native.Mathlib.Nat.{zero-add}
+use Prim.Native.Nat.{ℕ, zero, ◌+◌, ◌-◌, ◌*◌, ◌/◌, ◌%◌, ◌≤◌, ◌<◌}
 use native.Mathlib.Omega.{arith}
-use lib.Dec.{lit<}
-use lib.ListN.{length, get_or, take, drop, get_or-eq_default}
+use lib.ListN.{length, get_or, get_or-eq_default}
 use lib.Seq.{get_or-take, get_or-drop}
-use borrow.Rule.Slice.PartMut.{mid_len}
 use Rattle.word.specs.Bit.{bit}
 use Rattle.word.proofs.BitLaws.{bit-of-zero, order}
-use Rattle.rows.specs.Row.{bit_in, part, Part, Stepped, listed}
-use Rattle.rows.proofs.RowLaws.{bit_in-mid, from-word}
+use Rattle.rows.specs.Row.{bit_in, part, Part}
+use Rattle.rows.proofs.RowLaws.{bit_in-mid}
 
 -- a bit that is set is in the row
 pub bit_in-within : (W : ℕ) (l : List ℕ) (j : ℕ) → bit_in W l j ≡ true → j / W < length l

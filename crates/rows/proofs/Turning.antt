@@ -1,6 +1,6 @@
 -- One turn of a listing: a word of which nothing is left is passed, or the lowest set bit of what is left is taken. For any word width W. Assumes nothing.
 use mathlib.Core.Path.{◌≡◌, refl, sym, ap, ap₂, ◌∙◌, subst}
-use mathlib.Core.Bool.{Bool, true, false, not}
+use mathlib.Core.Bool.{true, false}
 use mathlib.Core.List.{List, [], ◌∷◌, ◌++◌, append_assoc, append-nil}
 use Prim.Native.Nat.{ℕ, zero, suc, ◌+◌, ◌-◌, ◌*◌, ◌/◌, ◌%◌, ◌^◌, ◌≤◌, ◌<◌}
 use native.Mathlib.Nat.{zero-add, add-zero, add-suc, suc-add, add-mul, one-mul, zero-mul, pow-suc, div-one, div-eq_of_lt, div-mul-le_self, div-add-mod', mul-div_cancel, mul-le-mul_right, le_of_mul-le-mul_right, mul-mod_left, zero-div, zero-mod}
@@ -12,6 +12,7 @@ use lib.Count.{count_trailing_zeros, under}
 use lib.Dec.{eqb}
 use lib.ListN.{length, get_or, set, length-append, length-set, get_or-eq_default}
 use lib.Pow.{pow-lt, shr_lt, shr_le, shr-shr}
+use Rattle.std.specs.Prelude.{Option, Some, None, is_some}
 use Rattle.word.specs.Ones.{keep, passing, ones_from}
 use Rattle.word.specs.Put.{put}
 use Rattle.word.proofs.OnesLaws.{ones_none}
@@ -239,17 +240,13 @@ module _ (W : ℕ) (wide : 0 < W) (row : List ℕ) where
       took_one x e = rw e (record { counted = take-turn; taken = take_left; stands = take-stands; inside = λ _. take-inside; word_of = of ∙ sym same_word })
 
 -- what a turn hands on, by whether it took a bit
-pub flipped : (f : Bool) → not f ≡ false → f ≡ true
-flipped true h = refl
-flipped false h = absurd (let z : ◌≡◌ {A = ℕ} 0 1 = (cc) in omega arith)
+pub went-by : {l m : List ℕ} (o : Option ℕ) (a : ℕ) → o ≡ None → l ≡ keep (is_some o) a m → l ≡ m
+went-by (Some b) a h e = cc
+went-by None a h e = e
 
-pub went-by : {l m : List ℕ} (f : Bool) (a : ℕ) → not f ≡ true → l ≡ keep f a m → l ≡ m
-went-by true a h e = let z : ◌≡◌ {A = ℕ} 0 1 = (cc) in absurd (omega arith)
-went-by false a h e = e
-
-pub was-taken : {l m : List ℕ} (f : Bool) (a : ℕ) → not f ≡ false → l ≡ keep f a m → l ≡ a ∷ m
-was-taken true a h e = e
-was-taken false a h e = let z : ◌≡◌ {A = ℕ} 0 1 = (cc) in absurd (omega arith)
+pub was-taken : {l m : List ℕ} (o : Option ℕ) (a b : ℕ) → o ≡ Some b → l ≡ keep (is_some o) a m → l ≡ a ∷ m
+was-taken (Some c) a b h e = e
+was-taken None a b h e = cc
 
 -- ---- the row listed so far: n bits, in so many turns
 

@@ -21,14 +21,10 @@ pub fn count_roots(wanted: &[u32], work: &[u64]) -> usize
     ensures { result ≡ length (those (noted 2 (map high work.now)) wanted.now) }
 {
     let mut n = 0;
-    let mut k = 0;
-    while k < wanted.len() {
-        let w = wanted[k];
-        k += 1;
-        if !is_root(work, w) {
-            continue;
+    for w in wanted {
+        if is_root(work, *w) {
+            n += 1;
         }
-        n += 1;
     }
     n
 }
@@ -42,14 +38,10 @@ pub fn write_roots(tag: u8, narrow: &[u32], wanted: &[u32], work: &[u64], out: &
         (length (those (noted 2 (map high work.now)) wanted.now)) }
 {
     let mut n = 0;
-    let mut k = 0;
-    while k < wanted.len() {
-        let w = wanted[k];
-        k += 1;
-        if !is_root(work, w) {
-            continue;
+    for w in wanted {
+        if is_root(work, *w) {
+            out[n] = handle::pack(tag, *w, narrow[*w as usize]);
+            n += 1;
         }
-        out[n] = handle::pack(tag, w, narrow[w as usize]);
-        n += 1;
     }
 }

@@ -7,7 +7,7 @@ ghost use Rattle.root_map.specs.Calls.{LiveRefsCall};
 ghost use Rattle.yexwalu.specs.Live.{asked};
 
 use refusal::Answer;
-use roots::Tracked;
+use roots::{Code, Tracked};
 pub use yexwalu_live_at as live_at;
 pub use yexwalu_live_refs as live_refs;
 
@@ -15,9 +15,10 @@ fn tracked(all: bool) -> Tracked
     ensures { wanted result ≡ asked all }
 {
     if all {
-        return Tracked::All;
+        Tracked::All
+    } else {
+        Tracked::References
     }
-    Tracked::References
 }
 
 // The registers that are live before the safepoint pc, rising: those of classes 2 and 4, or all. first: how many.
@@ -36,8 +37,14 @@ pub fn yexwalu_live_at(
         (record { kinds = kinds.now; ends = ends.now; refs = refs.now; blocks = blocks.now; classes = classes.now })
         (asked all) pc regs.old rows.old regs.new rows.new result }
 {
-    let which = tracked(all);
-    let reply = roots::at::live_at(kinds, ends, refs, blocks, classes, which, pc, regs, rows);
+    let code = Code {
+        kinds,
+        ends,
+        refs,
+        blocks,
+        classes,
+    };
+    let reply = roots::at::live_at(code, tracked(all), pc, regs, rows);
     Answer::from(reply)
 }
 
@@ -60,9 +67,13 @@ pub fn yexwalu_live_refs(
         (asked all) pcs.old bounds.old regs.old rows.old
         pcs.new bounds.new regs.new rows.new result }
 {
-    let which = tracked(all);
-    let reply = root_map::live_refs(
-        kinds, ends, refs, blocks, classes, which, pcs, bounds, regs, rows,
-    );
+    let code = Code {
+        kinds,
+        ends,
+        refs,
+        blocks,
+        classes,
+    };
+    let reply = root_map::live_refs(code, tracked(all), pcs, bounds, regs, rows);
     Answer::from(reply)
 }

@@ -1,6 +1,4 @@
 -- `mark::pin_all` meets its contract.
-use Prim.Native.Nat.{◌-◌}
-use lib.ListN.{length}
 use Rattle.word.specs.Run.{run}
 use Rattle.handle.specs.Columns.{live_in}
 use Rattle.reach.specs.Marking.{pin_all}
@@ -8,8 +6,5 @@ use Rattle.mark.specs.Scratch.{state_of, Noted}
 use Rattle.mark.proofs.Bridge.{Pins}
 use Rattle.mark.proofs.pin_all.Given as goal
 
-abbrev pub invariant-loop-k : goal.invariant-loop-k
-invariant-loop-k l = Pins l.slots l.s l.narrow l.pins l.initial.marks l.initial.work (pin_all (live_in l.slots (run l.s l.s l.narrow)) (state_of l.initial.marks l.initial.work l.n) l.pins) l.marks l.work l.count l.k × Noted l.initial.work l.work
-
-abbrev pub decreases-loop-k : goal.decreases-loop-k
-decreases-loop-k l = length l.pins - l.k
+abbrev pub invariant-loop-i : goal.invariant-loop-i
+invariant-loop-i l = Pins l.slots l.s l.narrow l.pins l.initial.marks l.initial.work (pin_all (live_in l.slots (run l.s l.s l.narrow)) (state_of l.initial.marks l.initial.work l.n) l.pins) l.marks l.work l.count l.i-index × Noted l.initial.work l.work

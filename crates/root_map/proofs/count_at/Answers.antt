@@ -5,21 +5,6 @@ use Rattle.roots.proofs.Scratch.{mid-length}
 use Rattle.root_map.specs.Columns.{row_at}
 use Rattle.root_map.proofs.count_at.Goals as goal
 
-pub overflow_add-past : goal.overflow_add-past
-overflow_add-past c = omega arith
-
-pub offset_bounds-s-at : goal.offset_bounds-s-at
-offset_bounds-s-at c = omega arith
-
-pub slice_bounds-count-count : goal.slice_bounds-count-count
-slice_bounds-count-count c = omega arith
-
-pub slice_bounds-count-start : goal.slice_bounds-count-start
-slice_bounds-count-start c = omega arith
-
-pub slice_bounds-count-end : goal.slice_bounds-count-end
-slice_bounds-count-end c = omega arith
-
 pub count-requires : goal.count-requires
 count-requires c = omega (arith, mid-length c.args.at c.args.words c.args.s.now c.requires.0, c.requires.1)
 

@@ -4,7 +4,4 @@ use Rattle.root_map.proofs.Maps.{Counting}
 use Rattle.root_map.proofs.count_map.Given as goal
 
 abbrev pub invariant-loop-pc : goal.invariant-loop-pc
-invariant-loop-pc l = Counting (wanted l.which) l.kinds l.ends l.refs l.blocks l.classes l.words l.nb l.initial.s l.s l.pc l.points l.registers l.b l.q
-
-abbrev pub decreases-loop-pc : goal.decreases-loop-pc
-decreases-loop-pc l = l.pc
+invariant-loop-pc l = Counting (wanted l.plan.which) l.plan.code.kinds.now l.plan.code.ends.now l.plan.code.refs.now l.plan.code.blocks.now l.plan.code.classes.now l.plan.words l.plan.nb l.initial.s l.s l.pc l.points l.registers l.b l.q

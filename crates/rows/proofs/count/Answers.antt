@@ -1,41 +1,21 @@
-use mathlib.Core.Path.{◌≡◌, refl, sym, ap, ap₂, ◌∙◌}
-use Prim.Native.Nat.{ℕ, ◌≤◌, ◌+◌, ◌*◌}
-use native.Mathlib.Omega.{arith}
-use lib.Count.{ones, ones-le}
-use lib.ListN.{length, get_or, length-append}
-use borrow.Author.Rules.{rules}
-use Rattle.word.specs.Ones.{passing, ones_from}
-use Rattle.word.proofs.OnesLaws.{length-ones}
-use Rattle.rows.specs.Row.{bit_in, listed}
-use Rattle.rows.proofs.RowLaws.{passing-word}
+use Rattle.std.proofs.Common.{◌≡◌, length, ◌∙◌, rules, arith}
+use Rattle.std.specs.List.{sum_by}
+use Rattle.std.specs.Int.Count.{ones}
+use Rattle.std.proofs.lemmas.Iterator.{YieldsList-from_slice, YieldsList-from_map}
+use Rattle.std.proofs.lemmas.Iterator.Consumers.{sum_by_from_yields_List, fits_by_from_yields_list}
+use Rattle.rows.specs.Row.{listed}
+use Rattle.rows.proofs.Listing.{listed_le}
+use Rattle.rows.proofs.Counts.{sum-ones-listed}
 use Rattle.rows.proofs.count.Goals as goal
-use Rattle.rows.proofs.count.Goals.{After-shared_slice_known-1}
 
--- a word has at most 64 set bits
-few : (c : After-shared_slice_known-1)
-    → ones (get_or c.args.row.now c.loop-i.i 0) ≤ 64
-few c = ones-le 64 (get_or c.args.row.now c.loop-i.i 0) (c.type_inv.row c.loop-i.i).fits
-
-pub loop-i-init : goal.loop-i-init
-unfolding passing
-loop-i-init c = (search rules, search rules, refl)
-
-pub overflow_cast-n : goal.overflow_cast-n
-overflow_cast-n c = omega (arith, few c)
-
-pub overflow_add-n : goal.overflow_add-n
-overflow_add-n c = omega (arith, few c)
-
-pub loop-i-preserved : goal.loop-i-preserved
-loop-i-preserved c = (
-  search rules,
-  omega (arith, few c),
-  ap₂ ◌+◌ c.loop-i.invariant.2 (sym (length-ones 64 (get_or c.args.row.now c.loop-i.i 0) (c.loop-i.i * 64) (c.type_inv.row c.loop-i.i).fits))
-      ∙ sym (length-append (passing (bit_in 64 c.args.row.now) 0 (c.loop-i.i * 64)) (ones_from 64 (get_or c.args.row.now c.loop-i.i 0) (c.loop-i.i * 64)))
-      ∙ ap length (sym (passing-word 64 c.args.row.now c.loop-i.i)),
-)
+pub sum-requires-clause-fits : goal.sum-requires-clause-fits
+sum-requires-clause-fits c =
+    let row = c.args.row.now in
+    let e : sum_by ones row ≡ length (listed 64 row) = sum-ones-listed 64 row (λ k. (c.type_inv.row k).fits) in
+    fits_by_from_yields_list ones row _ _ (YieldsList-from_map _ ones (YieldsList-from_slice row cc) c.map.ensures.closure (λ x r q k. search rules)) (omega (arith, listed_le 64 row))
 
 pub returns : goal.returns
-unfolding listed
-returns c = let e : c.loop-i.i ≡ length c.args.row.now = omega arith in
-    c.loop-i.invariant.2 ∙ ap (λ (i : ℕ). length (passing (bit_in 64 c.args.row.now) 0 (i * 64))) e
+returns c =
+    let row = c.args.row.now in
+    sum_by_from_yields_List ones row _ _ c.sum.ensures.ran (YieldsList-from_map _ ones (YieldsList-from_slice row cc) c.map.ensures.closure (λ x r q k. search rules))
+    ∙ sum-ones-listed 64 row (λ k. (c.type_inv.row k).fits)

@@ -8,8 +8,8 @@ use Rattle.rows.proofs.Turning.{zeros-fit, sum_fits, pass_on, took_one}
 use Rattle.rows.proofs.take_turn.Goals as goal
 
 -- a word is passed
-pub returns-then-rest-eq0 : goal.returns-then-rest-eq0
-returns-then-rest-eq0 c = pass_on 64 (lit< tt) c.args.row.now c.args.word c.args.at c.args.rest c.requires.1 c.requires.2 c.requires.3 _ c.word_at.result c.if-rest-eq0.true refl c.word_at.ensures (search rules)
+pub returns-then-rest-eq0-clause-turned : goal.returns-then-rest-eq0-clause-turned
+returns-then-rest-eq0-clause-turned c = pass_on 64 (lit< tt) c.args.row.now c.args.word c.args.at c.args.rest c.requires.1 c.requires.2 c.requires.3 _ c.word_at.result c.if-rest-eq0.true refl c.word_at.ensures (search rules)
 
 pub overflow_cast-zeros : goal.overflow_cast-zeros
 overflow_cast-zeros c = record { fits = zeros-fit _ }
@@ -18,5 +18,5 @@ pub overflow_add-to : goal.overflow_add-to
 overflow_add-to c = record { fits = sum_fits _ _ (omega arith) }
 
 -- a bit is taken
-pub returns : goal.returns
-returns c = took_one 64 (lit< tt) c.args.row.now c.args.word c.args.at c.args.rest c.requires.1 c.requires.2 c.requires.3 (positive c.args.rest c.if-rest-eq0.false) c.drop_bits.result c.drop_bits.ensures
+pub returns-clause-turned : goal.returns-clause-turned
+returns-clause-turned c = took_one 64 (lit< tt) c.args.row.now c.args.word c.args.at c.args.rest c.requires.1 c.requires.2 c.requires.3 (positive c.args.rest c.if-rest-eq0.false) c.drop_bits.result c.drop_bits.ensures

@@ -1,6 +1,4 @@
 -- `mark::hold::hold_frame` meets its contract.
-use Prim.Native.Nat.{◌-◌, ◌/◌}
-use lib.ListN.{length}
 use Rattle.addresses.specs.Listed.{slots_of}
 use Rattle.frame.specs.Frame.{entries_of, entries_words}
 use Rattle.reach.specs.Marking.{pin_all}
@@ -11,6 +9,3 @@ use Rattle.mark.proofs.hold.hold_frame.Given as goal
 
 abbrev pub invariant-loop-k : goal.invariant-loop-k
 invariant-loop-k l = HoldsFrame l.slots l.addresses l.map l.memory l.initial.marks l.initial.work (pin_all (in_use l.slots) (state_of l.initial.marks l.initial.work l.n) (slots_of l.addresses (entries_words l.memory (entries_of l.map)))) l.marks l.work l.count l.k
-
-abbrev pub decreases-loop-k : goal.decreases-loop-k
-decreases-loop-k l = length l.map / 3 - l.k

@@ -7,23 +7,8 @@ use Rattle.roots.proofs.check.blocks_apart.Goals as goal
 pub loop-b-init : goal.loop-b-init
 loop-b-init c = held_none _ _ _ 1024 refl refl
 
-pub overflow_mul-b : goal.overflow_mul-b
-overflow_mul-b c = omega arith
-
-pub offset_bounds-blocks-b : goal.offset_bounds-blocks-b
-offset_bounds-blocks-b c = omega arith
-
 pub bounds-blocks-b : goal.bounds-blocks-b
 bounds-blocks-b c = omega (arith, c.requires.0)
-
-pub overflow_mul-b-in-loop-b : goal.overflow_mul-b-in-loop-b
-overflow_mul-b-in-loop-b c = omega arith
-
-pub overflow_add-b : goal.overflow_add-b
-overflow_add-b c = omega arith
-
-pub offset_bounds-blocks-b-in-loop-b : goal.offset_bounds-blocks-b-in-loop-b
-offset_bounds-blocks-b-in-loop-b c = omega arith
 
 pub bounds-blocks-b-in-loop-b : goal.bounds-blocks-b-in-loop-b
 bounds-blocks-b-in-loop-b c = omega (arith, c.requires.0)
@@ -36,12 +21,6 @@ mark_block-requires c = λ h. omega (arith, c.loop-b.invariant.len, c.wide-e.ens
 
 pub returns-then-not-mark_block : goal.returns-then-not-mark_block
 returns-then-not-mark_block c = fails (held-met c.loop-b.invariant _ _ _ c.requires.0 c.loop-b-test.true c.wide-st.ensures c.wide-e.ensures (marked-is c.if-not-mark_block.true c.mark_block.ensures))
-
-pub overflow_add-b-in-loop-b : goal.overflow_add-b-in-loop-b
-overflow_add-b-in-loop-b c = omega arith
-
-pub loop-b-smaller : goal.loop-b-smaller
-loop-b-smaller c = omega arith
 
 pub loop-b-preserved : goal.loop-b-preserved
 loop-b-preserved c = held_on c.loop-b.invariant _ _ _ c.loop-b-test.true c.wide-st.ensures c.wide-e.ensures c.mark_block.auto.marks (marked-is c.if-not-mark_block.false c.mark_block.ensures)

@@ -6,35 +6,8 @@ use Rattle.roots.proofs.check.blocks_inside.Goals.{then-st-e+else-count-e, else-
 pub loop-b-init : goal.loop-b-init
 loop-b-init c = upto-none _ _
 
-pub overflow_mul-b : goal.overflow_mul-b
-overflow_mul-b c = omega arith
-
-pub offset_bounds-blocks-b : goal.offset_bounds-blocks-b
-offset_bounds-blocks-b c = omega arith
-
-pub bounds-blocks-b : goal.bounds-blocks-b
-bounds-blocks-b c = omega arith
-
-pub overflow_mul-b-in-loop-b : goal.overflow_mul-b-in-loop-b
-overflow_mul-b-in-loop-b c = omega arith
-
-pub overflow_add-b : goal.overflow_add-b
-overflow_add-b c = omega arith
-
-pub offset_bounds-blocks-b-in-loop-b : goal.offset_bounds-blocks-b-in-loop-b
-offset_bounds-blocks-b-in-loop-b c = omega arith
-
-pub bounds-blocks-b-in-loop-b : goal.bounds-blocks-b-in-loop-b
-bounds-blocks-b-in-loop-b c = omega arith
-
 pub returns-then-count-e : goal.returns-then-count-e
 returns-then-count-e c = fails (λ v. omega (arith, v c.loop-b.b (omega (arith, c.requires)) (omega (arith, c.wide-st.ensures, c.wide-e.ensures, c.if-st-e.true)), c.wide-e.ensures, c.if-count-e.true))
-
-pub overflow_add-b-in-loop-b : goal.overflow_add-b-in-loop-b
-overflow_add-b-in-loop-b c = omega arith
-
-pub loop-b-smaller : goal.loop-b-smaller
-loop-b-smaller c = omega arith
 
 pub loop-b-preserved : goal.loop-b-preserved
 loop-b-preserved c = upto-on c.loop-b.invariant c.loop-b-test.true (λ l. elim c.if-st-e.branch [ then-st-e+else-count-e w ↦ omega (arith, c.wide-e.ensures, w.if-count-e.false) | else-st-e w ↦ omega (arith, c.wide-st.ensures, c.wide-e.ensures, w.if-st-e.false) ])

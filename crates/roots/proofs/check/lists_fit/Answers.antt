@@ -5,26 +5,11 @@ use Rattle.roots.proofs.check.lists_fit.Goals as goal
 pub loop-k-init : goal.loop-k-init
 loop-k-init c = upto-none _ _
 
-pub list_start-a-requires : goal.list_start-a-requires
-list_start-a-requires c = omega arith
-
-pub offset_bounds-ends-k : goal.offset_bounds-ends-k
-offset_bounds-ends-k c = omega arith
-
-pub bounds-ends-k : goal.bounds-ends-k
-bounds-ends-k c = omega arith
-
 pub returns-then-m-a : goal.returns-then-m-a
 returns-then-m-a c = fails (λ v. omega (arith, v.rising c.loop-k.k c.loop-k-test.true, c.list_start-a.ensures, c.wide-m.ensures, c.if-m-a.true))
 
 pub returns-then-refs-m : goal.returns-then-refs-m
 returns-then-refs-m c = fails (λ v. omega (arith, v.inside c.loop-k.k c.loop-k-test.true, c.wide-m.ensures, c.if-refs-m.true))
-
-pub overflow_add-k : goal.overflow_add-k
-overflow_add-k c = omega arith
-
-pub loop-k-smaller : goal.loop-k-smaller
-loop-k-smaller c = omega arith
 
 pub loop-k-preserved : goal.loop-k-preserved
 loop-k-preserved c = upto-on c.loop-k.invariant c.loop-k-test.true (omega (arith, c.list_start-a.ensures, c.wide-m.ensures, c.if-m-a.false), omega (arith, c.wide-m.ensures, c.if-refs-m.false))

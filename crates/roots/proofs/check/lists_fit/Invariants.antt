@@ -1,11 +1,7 @@
 -- `roots::check::lists_fit` meets its contract.
-use Prim.Native.Nat.{◌-◌}
 use lib.ListN.{length}
 use Rattle.roots.proofs.Checks.{Upto, Fine}
 use Rattle.roots.proofs.check.lists_fit.Given as goal
 
 abbrev pub invariant-loop-k : goal.invariant-loop-k
 invariant-loop-k l = Upto (Fine l.ends l.refs) (length l.ends) l.k
-
-abbrev pub decreases-loop-k : goal.decreases-loop-k
-decreases-loop-k l = length l.ends - l.k

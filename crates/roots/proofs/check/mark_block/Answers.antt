@@ -15,12 +15,6 @@ returns-then-test_bit c = marking-met c.loop-p.invariant c.loop-p-test.true (sym
 pub set_bit-requires : goal.set_bit-requires
 set_bit-requires c = omega (arith, c.loop-p-test.true, c.loop-p.invariant.high, c.loop-p.invariant.len, c.requires (omega (arith, c.loop-p-test.true, c.loop-p.invariant.high)))
 
-pub overflow_add-p : goal.overflow_add-p
-overflow_add-p c = omega arith
-
-pub loop-p-smaller : goal.loop-p-smaller
-loop-p-smaller c = omega arith
-
 pub loop-p-preserved : goal.loop-p-preserved
 loop-p-preserved c = marking-on c.loop-p.invariant _ c.loop-p-test.true c.set_bit.auto.row (sym c.test_bit.ensures ∙ c.if-test_bit.false) c.set_bit.ensures
 

@@ -1,10 +1,6 @@
 -- `roots::check::mark_block` meets its contract.
-use Prim.Native.Nat.{◌-◌}
 use Rattle.roots.proofs.Marks.{Marking}
 use Rattle.roots.proofs.check.mark_block.Given as goal
 
 abbrev pub invariant-loop-p : goal.invariant-loop-p
 invariant-loop-p l = Marking l.initial.marks l.marks l.from l.to l.p
-
-abbrev pub decreases-loop-p : goal.decreases-loop-p
-decreases-loop-p l = l.to - l.p

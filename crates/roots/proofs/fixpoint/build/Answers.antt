@@ -1,14 +1,12 @@
 -- `roots::fixpoint::build` meets its contract.
 use native.Mathlib.Omega.{arith}
 use mathlib.Core.Path.{refl}
+use Rattle.roots.proofs.Plans.{few-blocks}
 use Rattle.roots.proofs.Chaining.{chains-none}
 use Rattle.roots.proofs.fixpoint.build.Goals as goal
 
 pub chain-requires : goal.chain-requires
-chain-requires c = (c.requires.nb_value.0, c.requires.nb_value.5, omega arith, chains-none _ _ _ 4096 _ _ refl refl refl c.requires.nb_value.5)
+chain-requires c = (few-blocks c.args.plan.now, omega arith, chains-none _ _ _ 4096 _ _ refl refl refl (few-blocks c.args.plan.now))
 
 pub start_blocks-requires : goal.start_blocks-requires
-start_blocks-requires c = record { nb_value = (c.requires.nb_value.0, c.requires.nb_value.1, c.requires.nb_value.2, c.requires.nb_value.3, c.requires.nb_value.4, c.chain.ensures); by_index = c.requires.by_index; by_index_2 = c.requires.by_index_2 }
-
-pub returns : goal.returns
-returns c = c.start_blocks.ensures
+start_blocks-requires c = record { nb_value = (c.requires.nb_value.0, c.requires.nb_value.1, c.chain.ensures); by_index_2 = c.requires.by_index_2 }

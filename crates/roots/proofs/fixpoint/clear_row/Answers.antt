@@ -8,21 +8,6 @@ use Rattle.rows.specs.Row.{bit_in}
 use Rattle.roots.proofs.Scratch.{mid-frame, mid-cell, mid-length, zero_bit}
 use Rattle.roots.proofs.fixpoint.clear_row.Goals as goal
 
-pub overflow_add-past : goal.overflow_add-past
-overflow_add-past c = omega arith
-
-pub offset_bounds-s-at : goal.offset_bounds-s-at
-offset_bounds-s-at c = omega arith
-
-pub slice_bounds-fill-count : goal.slice_bounds-fill-count
-slice_bounds-fill-count c = omega arith
-
-pub slice_bounds-fill-start : goal.slice_bounds-fill-start
-slice_bounds-fill-start c = omega arith
-
-pub slice_bounds-fill-end : goal.slice_bounds-fill-end
-slice_bounds-fill-end c = omega arith
-
 pub returns : goal.returns
 returns c = let l = c.fill.auto.self ∙ mid-length c.args.at c.args.words c.args.s.now (omega arith) in (
   mid-frame c.args.at c.args.words c.args.s.now c.fill.new.self c.requires l,

@@ -1,10 +1,6 @@
 -- `roots::fixpoint::join` meets its contract.
-use Prim.Native.Nat.{◌-◌}
 use Rattle.roots.proofs.Scratch.{Joins}
 use Rattle.roots.proofs.fixpoint.join.Given as goal
 
 abbrev pub invariant-loop-w : goal.invariant-loop-w
 invariant-loop-w l = Joins l.initial.s l.s l.dst l.src l.words l.w
-
-abbrev pub decreases-loop-w : goal.decreases-loop-w
-decreases-loop-w l = l.words - l.w

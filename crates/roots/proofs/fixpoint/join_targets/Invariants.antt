@@ -1,10 +1,6 @@
--- `roots::fixpoint::join_targets` meets its contract.
-use Prim.Native.Nat.{◌-◌}
+use lib.ListN.{length}
 use Rattle.roots.proofs.Scratch.{Targets}
 use Rattle.roots.proofs.fixpoint.join_targets.Given as goal
 
-abbrev pub invariant-loop-i : goal.invariant-loop-i
-invariant-loop-i l = Targets l.refs l.to l.nb l.words l.initial.s l.s l.initial.i l.i
-
-abbrev pub decreases-loop-i : goal.decreases-loop-i
-decreases-loop-i l = l.to - l.i
+abbrev pub invariant-loop-target : goal.invariant-loop-target
+invariant-loop-target l = Targets l.targets (length l.targets) l.plan.nb l.plan.words l.initial.s l.s 0 l.target-index

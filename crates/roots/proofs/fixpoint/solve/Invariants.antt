@@ -4,8 +4,8 @@ use Rattle.roots.specs.Columns.{set_bits}
 use Rattle.roots.proofs.Passes.{Solving}
 use Rattle.roots.proofs.fixpoint.solve.Given as goal
 
-abbrev pub invariant-loop-nb : goal.invariant-loop-nb
-invariant-loop-nb l = Solving l.kinds l.ends l.refs l.blocks l.initial.s l.s l.nb l.words
+abbrev pub invariant-loop-more : goal.invariant-loop-more
+invariant-loop-more l = Solving l.plan.code.kinds.now l.plan.code.ends.now l.plan.code.refs.now l.plan.code.blocks.now l.initial.s l.s l.plan.nb l.plan.words
 
-abbrev pub decreases-loop-nb : goal.decreases-loop-nb
-decreases-loop-nb l = l.nb * (3 * l.words) * 64 - set_bits (l.nb * (3 * l.words)) l.s
+abbrev pub decreases-loop-more : goal.decreases-loop-more
+decreases-loop-more l = l.plan.nb * (3 * l.plan.words) * 64 - set_bits (l.plan.nb * (3 * l.plan.words)) l.s

@@ -5,66 +5,43 @@ use Prim.Native.Nat.{ℕ, ◌*◌, ◌≤◌}
 use lib.ListN.{length, length-set}
 use Rattle.roots.specs.Columns.{wanted}
 use Rattle.roots.proofs.Scratch.{block-fits}
+use Rattle.roots.proofs.Plans.{block-inside}
 use Rattle.roots.proofs.Chaining.{first-start}
 use Rattle.roots.proofs.Builds.{begun-none, begun-rows}
 use Rattle.roots.proofs.fixpoint.start_block.Goals as goal
 
-pub overflow_mul-b : goal.overflow_mul-b
-overflow_mul-b c = omega arith
-
-pub offset_bounds-blocks-b : goal.offset_bounds-blocks-b
-offset_bounds-blocks-b c = omega arith
-
-pub bounds-blocks-b : goal.bounds-blocks-b
-bounds-blocks-b c = omega arith
-
-pub overflow_mul-b-2 : goal.overflow_mul-b-2
-overflow_mul-b-2 c = omega arith
-
-pub overflow_add-b : goal.overflow_add-b
-overflow_add-b c = omega arith
-
-pub offset_bounds-blocks-b-2 : goal.offset_bounds-blocks-b-2
-offset_bounds-blocks-b-2 c = omega arith
-
-pub bounds-blocks-b-2 : goal.bounds-blocks-b-2
-bounds-blocks-b-2 c = omega arith
-
 pub returns-then-e-st : goal.returns-then-e-st
-returns-then-e-st c = begun-none (wanted c.args.which) c.args.ends.now c.args.refs.now c.args.blocks.now c.args.classes.now c.args.nb c.args.words c.args.b c.requires.nb_value.1 c.requires.nb_value.0 _ _ c.wide-st.ensures c.wide-e.ensures c.args.s.now c.requires.by_index c.if-e-st.true
-
-pub overflow_mul-at : goal.overflow_mul-at
-overflow_mul-at c = omega arith
+returns-then-e-st c = begun-none (wanted c.args.plan.now.which) c.args.plan.now.code.ends.now c.args.plan.now.code.refs.now c.args.plan.now.code.blocks.now c.args.plan.now.code.classes.now c.args.plan.now.nb c.args.plan.now.words c.args.b c.requires.nb_value.0 c.args.plan.now.counted _ _ c.wide-st.ensures c.wide-e.ensures c.args.s.now c.requires.by_index c.if-e-st.true
 
 pub overflow_mul-at-2 : goal.overflow_mul-at-2
-overflow_mul-at-2 c = omega (arith, block-fits c.args.b c.args.nb (3 * c.args.words) c.requires.nb_value.1)
+overflow_mul-at-2 c = omega (arith, block-fits c.args.b c.args.plan.now.nb (3 * c.args.plan.now.words) c.requires.nb_value.0)
 
 pub back_at-requires : goal.back_at-requires
-back_at-requires c = record { words_in_bounds = omega (arith, block-fits c.args.b c.args.nb (3 * c.args.words) c.requires.nb_value.1, c.requires.nb_value.2); from_le_to = (omega (arith, c.if-e-st.false), subst (λ (u : ℕ). 3 * u ≤ length c.args.ends.now) (sym c.wide-e.ensures) (c.requires.b_in_bounds (omega (arith, c.wide-st.ensures, c.wide-e.ensures, c.if-e-st.false))), c.requires.nb_value.3, c.requires.nb_value.5) }
+back_at-requires c = record { words_in_bounds = omega (arith, block-fits c.args.b c.args.plan.now.nb (3 * c.args.plan.now.words) c.requires.nb_value.0, c.requires.nb_value.1); from_le_to = (omega (arith, c.if-e-st.false), subst (λ (u : ℕ). 3 * u ≤ length c.args.plan.now.code.ends.now) (sym c.wide-e.ensures) (block-inside c.args.plan.now c.args.b c.requires.nb_value.0 (omega (arith, c.wide-st.ensures, c.wide-e.ensures, c.if-e-st.false)))) }
 
 pub overflow_add-at : goal.overflow_add-at
-overflow_add-at c = omega (arith, block-fits c.args.b c.args.nb (3 * c.args.words) c.requires.nb_value.1, c.requires.nb_value.2)
+overflow_add-at c = omega (arith, block-fits c.args.b c.args.plan.now.nb (3 * c.args.plan.now.words) c.requires.nb_value.0, c.requires.nb_value.1)
 
 pub kill_at-requires : goal.kill_at-requires
-kill_at-requires c = record { words_in_bounds = omega (arith, block-fits c.args.b c.args.nb (3 * c.args.words) c.requires.nb_value.1, c.requires.nb_value.2, c.back_at.ensures.0.kept); from_le_to = (omega (arith, c.if-e-st.false), subst (λ (u : ℕ). 3 * u ≤ length c.args.ends.now) (sym c.wide-e.ensures) (c.requires.b_in_bounds (omega (arith, c.wide-st.ensures, c.wide-e.ensures, c.if-e-st.false))), c.requires.nb_value.3, c.requires.nb_value.5) }
+kill_at-requires c = record { words_in_bounds = omega (arith, block-fits c.args.b c.args.plan.now.nb (3 * c.args.plan.now.words) c.requires.nb_value.0, c.requires.nb_value.1, c.back_at.ensures.0.kept); from_le_to = (omega (arith, c.if-e-st.false), subst (λ (u : ℕ). 3 * u ≤ length c.args.plan.now.code.ends.now) (sym c.wide-e.ensures) (block-inside c.args.plan.now c.args.b c.requires.nb_value.0 (omega (arith, c.wide-st.ensures, c.wide-e.ensures, c.if-e-st.false)))) }
 
 pub first_at-t-requires : goal.first_at-t-requires
-first_at-t-requires c = (omega (arith, c.requires.nb_value.0), omega arith, c.requires.nb_value.6)
+first_at-t-requires c = (omega arith, c.requires.nb_value.3)
 
 pub overflow_mul-s : goal.overflow_mul-s
-overflow_mul-s c = omega (arith, block-fits c.args.b c.args.nb (3 * c.args.words) c.requires.nb_value.1, c.requires.nb_value.2, c.back_at.ensures.0.kept, c.kill_at.ensures.0.kept)
+overflow_mul-s c = omega (arith, block-fits c.args.b c.args.plan.now.nb (3 * c.args.plan.now.words) c.requires.nb_value.0, c.requires.nb_value.1, c.back_at.ensures.0.kept, c.kill_at.ensures.0.kept)
 
 pub overflow_add-s : goal.overflow_add-s
-overflow_add-s c = omega (arith, block-fits c.args.b c.args.nb (3 * c.args.words) c.requires.nb_value.1, c.requires.nb_value.2, c.back_at.ensures.0.kept, c.kill_at.ensures.0.kept)
+overflow_add-s c = omega (arith, block-fits c.args.b c.args.plan.now.nb (3 * c.args.plan.now.words) c.requires.nb_value.0, c.requires.nb_value.1, c.back_at.ensures.0.kept, c.kill_at.ensures.0.kept)
 
 pub offset_bounds-s-at : goal.offset_bounds-s-at
-offset_bounds-s-at c = omega (arith, block-fits c.args.b c.args.nb (3 * c.args.words) c.requires.nb_value.1, c.requires.nb_value.2, c.back_at.ensures.0.kept, c.kill_at.ensures.0.kept)
+offset_bounds-s-at c = omega (arith, block-fits c.args.b c.args.plan.now.nb (3 * c.args.plan.now.words) c.requires.nb_value.0, c.requires.nb_value.1, c.back_at.ensures.0.kept, c.kill_at.ensures.0.kept)
 
 pub bounds-s-at : goal.bounds-s-at
-bounds-s-at c = omega (arith, block-fits c.args.b c.args.nb (3 * c.args.words) c.requires.nb_value.1, c.requires.nb_value.2, c.back_at.ensures.0.kept, c.kill_at.ensures.0.kept, c.requires.nb_value.4)
+bounds-s-at c = omega (arith, block-fits c.args.b c.args.plan.now.nb (3 * c.args.plan.now.words) c.requires.nb_value.0, c.requires.nb_value.1, c.back_at.ensures.0.kept, c.kill_at.ensures.0.kept, c.requires.nb_value.2)
 
 pub shape_of-s : goal.shape_of-s
 shape_of-s c = length-set c.kill_at.new.s _ _ ∙ c.kill_at.ensures.0.kept ∙ c.back_at.ensures.0.kept
 
 pub returns : goal.returns
-returns c = begun-rows (wanted c.args.which) c.args.ends.now c.args.refs.now c.args.blocks.now c.args.classes.now c.args.nb c.args.words c.args.b c.requires.nb_value.1 c.requires.nb_value.0 _ _ c.wide-st.ensures c.wide-e.ensures c.args.s.now c.requires.by_index c.back_at.new.s c.kill_at.new.s _ c.requires.nb_value.4 (omega (arith, c.requires.nb_value.2)) c.back_at.ensures.0 c.back_at.ensures.1 c.kill_at.ensures.0 c.kill_at.ensures.1 (first-start c.args.blocks.now _ _ _ c.first_at-t.ensures)
+returns c = begun-rows (wanted c.args.plan.now.which) c.args.plan.now.code.ends.now c.args.plan.now.code.refs.now c.args.plan.now.code.blocks.now c.args.plan.now.code.classes.now c.args.plan.now.nb c.args.plan.now.words c.args.b c.requires.nb_value.0 c.args.plan.now.counted _ _ c.wide-st.ensures c.wide-e.ensures c.args.s.now c.requires.by_index c.back_at.new.s c.kill_at.new.s _ c.requires.nb_value.2 (omega (arith, c.requires.nb_value.1)) c.back_at.ensures.0 c.back_at.ensures.1 c.kill_at.ensures.0 c.kill_at.ensures.1 (first-start c.args.plan.now.code.blocks.now _ _ _ c.first_at-t.ensures)

@@ -5,14 +5,8 @@ use Rattle.roots.proofs.row.back_row.Goals as goal
 pub loop-p-init : goal.loop-p-init
 loop-p-init c = backs-none _ _ _ _ _ _ _ c.requires.0
 
-pub overflow_sub-p : goal.overflow_sub-p
-overflow_sub-p c = omega arith
-
 pub step_back-requires : goal.step_back-requires
-step_back-requires c = (omega arith, omega (arith, c.loop-p.invariant.kept), c.requires.3)
-
-pub loop-p-smaller : goal.loop-p-smaller
-loop-p-smaller c = omega arith
+step_back-requires c = (omega arith, omega (arith, c.loop-p.invariant.kept))
 
 pub loop-p-preserved : goal.loop-p-preserved
 loop-p-preserved c = backs-on c.loop-p.invariant c.loop-p-test.true _ c.step_back.auto.row c.step_back.ensures

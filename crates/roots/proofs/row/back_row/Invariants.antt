@@ -4,7 +4,4 @@ use Rattle.roots.proofs.Turns.{Backs}
 use Rattle.roots.proofs.row.back_row.Given as goal
 
 abbrev pub invariant-loop-p : goal.invariant-loop-p
-invariant-loop-p l = Backs (wanted l.which) l.ends l.refs l.classes l.from l.to l.initial.row l.row l.p
-
-abbrev pub decreases-loop-p : goal.decreases-loop-p
-decreases-loop-p l = l.p
+invariant-loop-p l = Backs (wanted l.plan.which) l.plan.code.ends.now l.plan.code.refs.now l.plan.code.classes.now l.from l.to l.initial.row l.row l.p

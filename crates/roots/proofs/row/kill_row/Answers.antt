@@ -1,34 +1,39 @@
 use native.Mathlib.Omega.{arith}
-use Prim.Native.Nat.{◌-◌, ◌*◌}
+use mathlib.Core.Path.{◌≡◌}
+use mathlib.Core.List.{List}
+use Prim.Native.Nat.{ℕ, ◌-◌, ◌*◌, ◌≤◌, ◌<◌}
+use lib.ListN.{length, get_or}
+use Rattle.roots.specs.View.{start_of}
+use Rattle.roots.specs.Columns.{Lists}
+use Rattle.roots.proofs.Plans.{lists-of-plan, part-slice}
 use Rattle.roots.proofs.Turns.{kills-on, kills-none, kills-end, list-fits}
 use Rattle.roots.proofs.row.kill_row.Goals as goal
+
+-- the registers that instruction p writes lie in refs
+written : (ends refs : List ℕ) → Lists ends refs → (p a m : ℕ) → 3 * p < length ends → a ≡ start_of ends (3 * p) → m ≡ get_or ends (3 * p) 0 → (a ≤ m) × (m ≤ length refs)
+written ends refs l p a m h ea em = list-fits l (3 * p) a m h ea em
 
 pub loop-p-init : goal.loop-p-init
 loop-p-init c = kills-none _ _ _ _ _ _ _ c.requires.0
 
-pub overflow_sub-p : goal.overflow_sub-p
-overflow_sub-p c = omega arith
+pub offset_bounds-plan-a : goal.offset_bounds-plan-a
+offset_bounds-plan-a c = let w = written _ _ (lists-of-plan c.args.plan.now) (c.loop-p.p - 1) _ _ (omega arith) c.list_start-a.ensures c.wide-m.ensures in omega (arith, w.0, w.1)
 
-pub overflow_mul-k : goal.overflow_mul-k
-overflow_mul-k c = omega arith
+pub slice_bounds-set_all-count : goal.slice_bounds-set_all-count
+slice_bounds-set_all-count c = (written _ _ (lists-of-plan c.args.plan.now) (c.loop-p.p - 1) _ _ (omega arith) c.list_start-a.ensures c.wide-m.ensures).0
 
-pub list_start-a-requires : goal.list_start-a-requires
-list_start-a-requires c = omega arith
+pub slice_bounds-set_all-start : goal.slice_bounds-set_all-start
+slice_bounds-set_all-start c = (written _ _ (lists-of-plan c.args.plan.now) (c.loop-p.p - 1) _ _ (omega arith) c.list_start-a.ensures c.wide-m.ensures).0
 
-pub offset_bounds-ends-k : goal.offset_bounds-ends-k
-offset_bounds-ends-k c = omega arith
-
-pub bounds-ends-k : goal.bounds-ends-k
-bounds-ends-k c = omega arith
-
-pub set_all-requires : goal.set_all-requires
-set_all-requires c = let h = list-fits c.requires.3 (3 * (c.loop-p.p - 1)) _ _ (omega arith) c.list_start-a.ensures c.wide-m.ensures in (h.0, h.1, omega (arith, c.loop-p.invariant.kept))
-
-pub loop-p-smaller : goal.loop-p-smaller
-loop-p-smaller c = omega arith
+pub slice_bounds-set_all-end : goal.slice_bounds-set_all-end
+slice_bounds-set_all-end c = (written _ _ (lists-of-plan c.args.plan.now) (c.loop-p.p - 1) _ _ (omega arith) c.list_start-a.ensures c.wide-m.ensures).1
 
 pub loop-p-preserved : goal.loop-p-preserved
-loop-p-preserved c = kills-on c.loop-p.invariant c.loop-p-test.true c.requires.1 _ _ _ c.list_start-a.ensures c.wide-m.ensures c.set_all.auto.row c.set_all.ensures
+loop-p-preserved c =
+    let refs = c.args.plan.now.code.refs.now in
+    let w = written _ refs (lists-of-plan c.args.plan.now) (c.loop-p.p - 1) _ _ (omega arith) c.list_start-a.ensures c.wide-m.ensures in
+    kills-on c.loop-p.invariant c.loop-p-test.true c.requires.1 _ _ _ c.list_start-a.ensures c.wide-m.ensures c.set_all.auto.row
+    (λ q. rw (part-slice c.list_start-a.result c.wide-m.result refs w.0) at (c.set_all.ensures q))
 
 pub shape_of-row : goal.shape_of-row
 shape_of-row c = c.loop-p.invariant.kept

@@ -1,32 +1,48 @@
 -- `roots::row::step_back` meets its contract.
 use native.Mathlib.Omega.{arith}
-use Prim.Native.Nat.{◌*◌}
+use mathlib.Core.Path.{◌≡◌}
+use mathlib.Core.List.{List}
+use Prim.Native.Nat.{ℕ, ◌+◌, ◌*◌, ◌≤◌, ◌<◌}
+use lib.ListN.{length, get_or}
+use Rattle.roots.specs.View.{start_of}
+use Rattle.roots.specs.Columns.{Lists}
+use Rattle.roots.proofs.Plans.{lists-of-plan, part-slice}
 use Rattle.roots.proofs.Turns.{stepped-back, list-fits, next_fits}
 use Rattle.roots.proofs.row.step_back.Goals as goal
 
-pub overflow_mul-k : goal.overflow_mul-k
-overflow_mul-k c = omega arith
+-- the registers written, then those read, lie in refs
+written : (ends refs : List ℕ) → Lists ends refs → (p a m : ℕ) → 3 * p + 2 < length ends → a ≡ start_of ends (3 * p) → m ≡ get_or ends (3 * p) 0 → (a ≤ m) × (m ≤ length refs)
+written ends refs l p a m h ea em = list-fits l (3 * p) a m (omega arith) ea em
 
-pub offset_bounds-ends-k : goal.offset_bounds-ends-k
-offset_bounds-ends-k c = omega arith
+read : (ends refs : List ℕ) → Lists ends refs → (p m e : ℕ) → 3 * p + 2 < length ends → m ≡ get_or ends (3 * p) 0 → e ≡ get_or ends (3 * p + 1) 0 → (m ≤ e) × (e ≤ length refs)
+read ends refs l p m e h em ee = next_fits l (3 * p) m e (omega arith) em ee
 
-pub bounds-ends-k : goal.bounds-ends-k
-bounds-ends-k c = omega arith
+pub offset_bounds-plan-a : goal.offset_bounds-plan-a
+offset_bounds-plan-a c = let w = written _ _ (lists-of-plan c.args.plan.now) c.args.p _ _ c.requires.0 c.list_start-a.ensures c.wide-m.ensures in omega (arith, w.0, w.1)
 
-pub overflow_add-k : goal.overflow_add-k
-overflow_add-k c = omega arith
+pub slice_bounds-clear_all-count : goal.slice_bounds-clear_all-count
+slice_bounds-clear_all-count c = (written _ _ (lists-of-plan c.args.plan.now) c.args.p _ _ c.requires.0 c.list_start-a.ensures c.wide-m.ensures).0
 
-pub offset_bounds-ends-k-2 : goal.offset_bounds-ends-k-2
-offset_bounds-ends-k-2 c = omega arith
+pub slice_bounds-clear_all-start : goal.slice_bounds-clear_all-start
+slice_bounds-clear_all-start c = (written _ _ (lists-of-plan c.args.plan.now) c.args.p _ _ c.requires.0 c.list_start-a.ensures c.wide-m.ensures).0
 
-pub bounds-ends-k-2 : goal.bounds-ends-k-2
-bounds-ends-k-2 c = omega arith
+pub slice_bounds-clear_all-end : goal.slice_bounds-clear_all-end
+slice_bounds-clear_all-end c = (written _ _ (lists-of-plan c.args.plan.now) c.args.p _ _ c.requires.0 c.list_start-a.ensures c.wide-m.ensures).1
 
-pub clear_all-requires : goal.clear_all-requires
-clear_all-requires c = let h = list-fits c.requires.2 (3 * c.args.p) _ _ (omega arith) c.list_start-a.ensures c.wide-m.ensures in (h.0, h.1, omega arith)
+pub slice_bounds-set_all-count : goal.slice_bounds-set_all-count
+slice_bounds-set_all-count c = (read _ _ (lists-of-plan c.args.plan.now) c.args.p _ _ c.requires.0 c.wide-m.ensures c.wide-e.ensures).0
 
-pub set_all-requires : goal.set_all-requires
-set_all-requires c = let h = next_fits c.requires.2 (3 * c.args.p) _ _ (omega arith) c.wide-m.ensures c.wide-e.ensures in (h.0, h.1, omega (arith, c.clear_all.auto.row))
+pub slice_bounds-set_all-start : goal.slice_bounds-set_all-start
+slice_bounds-set_all-start c = (read _ _ (lists-of-plan c.args.plan.now) c.args.p _ _ c.requires.0 c.wide-m.ensures c.wide-e.ensures).0
+
+pub slice_bounds-set_all-end : goal.slice_bounds-set_all-end
+slice_bounds-set_all-end c = (read _ _ (lists-of-plan c.args.plan.now) c.args.p _ _ c.requires.0 c.wide-m.ensures c.wide-e.ensures).1
 
 pub returns : goal.returns
-returns c = stepped-back _ _ _ _ _ _ _ _ _ _ _ c.requires.0 c.list_start-a.ensures c.wide-m.ensures c.wide-e.ensures c.clear_all.ensures c.set_all.ensures
+returns c =
+    let refs = c.args.plan.now.code.refs.now in
+    let w = written _ refs (lists-of-plan c.args.plan.now) c.args.p _ _ c.requires.0 c.list_start-a.ensures c.wide-m.ensures in
+    let r = read _ refs (lists-of-plan c.args.plan.now) c.args.p _ _ c.requires.0 c.wide-m.ensures c.wide-e.ensures in
+    stepped-back _ _ _ _ _ _ _ _ _ _ _ c.requires.0 c.list_start-a.ensures c.wide-m.ensures c.wide-e.ensures
+    (λ q. rw (part-slice c.list_start-a.result c.wide-m.result refs w.0) at (c.clear_all.ensures q))
+    (λ q. rw (part-slice c.wide-m.result c.wide-e.result refs r.0) at (c.set_all.ensures q))

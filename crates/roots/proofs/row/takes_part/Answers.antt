@@ -1,23 +1,15 @@
 -- `roots::row::takes_part` meets its contract.
-use native.Mathlib.Omega.{arith}
+use Rattle.std.proofs.Common.{◌≡◌, ℕ, Bool, true, sym, ◌&&◌, get_or, eqb, ap, ◌∙◌}
 use Rattle.roots.specs.Columns.{wanted}
-use Rattle.roots.proofs.Turns.{asked-past, asked-class, want-pointer, want-other, want-handle, want-all}
+use Rattle.roots.proofs.Turns.{asked-class, want-pointer}
 use Rattle.roots.proofs.row.takes_part.Goals as goal
 
-pub returns-then-classes-r : goal.returns-then-classes-r
-returns-then-classes-r c = asked-past (wanted c.args.which) c.args.classes.now c.args.r c.if-classes-r.true
+pub returns-then-class-eq2 : goal.returns-then-class-eq2
+returns-then-class-eq2 c =
+    let l = c.in-Some.ensures.lookup in
+    let k : get_or c.args.plan.now.code.classes.now c.args.r 0 ≡ 2 = sym (l.3.1 0) ∙ c.if-class-eq2.true in
+    ap (λ (n : ℕ). eqb n 2) c.if-class-eq2.true ∙ asked-class (wanted c.args.plan.now.which) c.args.plan.now.code.classes.now c.args.r true l.3.0 (want-pointer c.args.plan.now.which _ c.in-References.is k)
 
-pub bounds-classes-r : goal.bounds-classes-r
-bounds-classes-r c = omega arith
-
-pub returns-then-k-eq2 : goal.returns-then-k-eq2
-returns-then-k-eq2 c = asked-class (wanted c.args.which) c.args.classes.now c.args.r _ c.if-classes-r.false (want-pointer c.args.which _ c.in-References.is c.if-k-eq2.true)
-
-pub returns-else-k-eq2 : goal.returns-else-k-eq2
-returns-else-k-eq2 c = asked-class (wanted c.args.which) c.args.classes.now c.args.r _ c.if-classes-r.false (want-other c.args.which _ c.in-References.is c.if-k-eq2.false)
-
-pub returns-in-Handles : goal.returns-in-Handles
-returns-in-Handles c = asked-class (wanted c.args.which) c.args.classes.now c.args.r _ c.if-classes-r.false (want-handle c.args.which _ c.in-Handles.is)
-
-pub returns-in-All : goal.returns-in-All
-returns-in-All c = asked-class (wanted c.args.which) c.args.classes.now c.args.r _ c.if-classes-r.false (want-all c.args.which _ c.in-All.is)
+pub returns-in_default : goal.returns-in_default
+returns-in_default c =
+    ap (λ (b : Bool). b && wanted c.args.plan.now.which (get_or c.args.plan.now.code.classes.now c.args.r 0)) c.in_default.ensures.lookup.0

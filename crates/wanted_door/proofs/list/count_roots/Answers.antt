@@ -1,21 +1,22 @@
 use native.Mathlib.Omega.{arith}
 use Rattle.wanted_door.proofs.Roots.{count-first, count-passed, count-taken, count-end}
 use Rattle.wanted_door.proofs.list.count_roots.Goals as goal
+use Rattle.wanted_door.proofs.list.count_roots.Goals.{then-is_root, else-is_root}
 
-pub loop-k-init : goal.loop-k-init
-loop-k-init c = count-first _ _
+pub loop-w-init : goal.loop-w-init
+loop-w-init c = count-first _ _
 
 pub is_root-requires : goal.is_root-requires
-is_root-requires c = c.requires _ c.loop-k-test.true
-
-pub loop-k-preserved-then-not-is_root : goal.loop-k-preserved-then-not-is_root
-loop-k-preserved-then-not-is_root c = count-passed _ _ _ _ c.loop-k.invariant c.loop-k-test.true _ c.is_root.ensures c.if-not-is_root.true
+is_root-requires c = c.requires _ c.loop-w-test.true
 
 pub overflow_add-n : goal.overflow_add-n
-overflow_add-n c = omega (arith, c.loop-k.invariant.low, c.loop-k-test.true, c.well_formed)
+overflow_add-n c = omega (arith, c.loop-w.invariant.low, c.loop-w-test.true, c.well_formed)
 
-pub loop-k-preserved : goal.loop-k-preserved
-loop-k-preserved c = count-taken _ _ _ _ c.loop-k.invariant c.loop-k-test.true _ c.is_root.ensures c.if-not-is_root.false
+pub loop-w-preserved : goal.loop-w-preserved
+loop-w-preserved c = elim c.if-is_root.branch [
+  | then-is_root b ↦ rw b.n-is (count-taken _ _ _ _ c.loop-w.invariant c.loop-w-test.true _ c.is_root.ensures b.if-is_root.true)
+  | else-is_root b ↦ rw b.n-is (count-passed _ _ _ _ c.loop-w.invariant c.loop-w-test.true _ c.is_root.ensures b.if-is_root.false)
+]
 
 pub returns : goal.returns
-returns c = count-end _ _ _ _ c.loop-k.invariant c.loop-k-test.false
+returns c = count-end _ _ _ _ c.loop-w.invariant c.loop-w-test.false

@@ -6,5 +6,5 @@ use Rattle.yexwalu.proofs.live.tracked.Goals as goal
 pub returns-then-all : goal.returns-then-all
 returns-then-all c = ap asked (sym c.if-all.true)
 
-pub returns : goal.returns
-returns c = ap asked (sym c.if-all.false)
+pub returns-else-all : goal.returns-else-all
+returns-else-all c = ap asked (sym c.if-all.false)

@@ -1,0 +1,10 @@
+-- `roots::chains::first_at` meets its contract.
+use Prim.Native.Nat.{◌-◌}
+use Rattle.roots.proofs.Chaining.{Chase}
+use Rattle.roots.proofs.chains.BlockChains.first_at.Given as goal
+
+abbrev pub invariant-loop-c : goal.invariant-loop-c
+invariant-loop-c l = Chase l.plan.code.blocks.now l.word l.plan.nb l.pc l.c
+
+abbrev pub decreases-loop-c : goal.decreases-loop-c
+decreases-loop-c l = l.plan.nb - l.c

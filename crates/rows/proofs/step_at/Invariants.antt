@@ -1,9 +1,0 @@
-use Prim.Native.Nat.{◌-◌}
-use Rattle.rows.proofs.AtPlaces.{At}
-use Rattle.rows.proofs.step_at.Given as goal
-
-abbrev pub invariant-loop-i : goal.invariant-loop-i
-invariant-loop-i l = At 64 l.initial.scratch l.words l.live l.made l.out l.kill l.scratch l.changed l.i
-
-abbrev pub decreases-loop-i : goal.decreases-loop-i
-decreases-loop-i l = l.words - l.i
