@@ -20,8 +20,8 @@ use Rattle.ty.specs.Check.{table_good}
 use Rattle.heap.specs.State.{State}
 use Rattle.heap.specs.Lent.{Lent, view, slot_count}
 use Rattle.door.specs.HeapCalls.{test, enough, zeros, Entered, asked_of}
-use Rattle.door.specs.declared.Entry.{Entry}
-use Rattle.door.specs.declared.Entry.TheVariants.{Ready, Not}
+use Rattle.door.specs.HeapCalls.{Entry}
+use Rattle.door.specs.HeapCalls.{ready}
 use Rattle.door.proofs.Entering.{and-holds, and-fails, and-more, holding, cleared-in, ask-refused, ask-ready, zeros-again, zeros-room}
 use Rattle.alike.specs.Order.{Order, Order.less, Order.equal, Order.greater}
 use Rattle.compare_heaps.specs.declared.Compared.{Compared}
@@ -40,14 +40,14 @@ module _ (l k : Lent) {m w om ow m' w' om' ow' : List ℕ} {e : Entry} (s : Ente
   abbrev All : Entry → Type 0
   All x = Entered (m ∷ w ∷ om ∷ ow ∷ []) (save_tests (words_of types fields consts bytes) (save_of l [] m w) (save_of k [] om ow)) x (m' ∷ w' ∷ om' ∷ ow' ∷ [])
 
-  pub not_entered : {why : Refusal} → e ≡ Not why → All (Not why)
+  pub not_entered : {why : Refusal} → e ≡ Err why → All (Err why)
   not_entered i = and-more s (test (table_good types fields consts bytes) TypeTable ∷ []) i
 
-  module _ (i : e ≡ Ready) (g : Bool) (eg : g ≡ table_good types fields consts bytes) where
-    pub no_table : g ≡ false → All (Not TypeTable)
+  module _ (i : e ≡ ready) (g : Bool) (eg : g ≡ table_good types fields consts bytes) where
+    pub no_table : g ≡ false → All (Err TypeTable)
     no_table h = and-fails s {why = TypeTable} i (sym eg ∙ h) refl
 
-    pub all-entered : g ≡ true → All Ready
+    pub all-entered : g ≡ true → All ready
     all-entered h = and-holds s TypeTable i (sym eg ∙ h)
 
 -- ---- the number that is told
@@ -111,10 +111,10 @@ module _ (w : Words) (s t : Save) {e : Entry} {m' w' om' ow' : List ℕ} (x : En
   abbrev question : State → Result Order
   question h = ordering (table_in w) h (view t.heap) s.roots t.roots
 
-  part : e ≡ Ready → (k : ℕ) → get_or (m' ∷ w' ∷ om' ∷ ow' ∷ []) k [] ≡ get_or (zeros s.marks ∷ zeros s.work ∷ zeros t.marks ∷ zeros t.work ∷ []) k []
+  part : e ≡ ready → (k : ℕ) → get_or (m' ∷ w' ∷ om' ∷ ow' ∷ []) k [] ≡ get_or (zeros s.marks ∷ zeros s.work ∷ zeros t.marks ∷ zeros t.work ∷ []) k []
   part i k = ap (λ (l : List (List ℕ)). get_or l k []) (cleared-in x i)
 
-  pub can-first : e ≡ Ready → CanMark s.heap m' w'
+  pub can-first : e ≡ ready → CanMark s.heap m' w'
   unfolding enough
   can-first i =
       let b = and_both (leb (slot_count s.heap) (length s.marks)) (leb (slot_count s.heap) (length s.work)) (holding x 0 i) in
@@ -125,7 +125,7 @@ module _ (w : Words) (s t : Save) {e : Entry} {m' w' om' ow' : List ℕ} (x : En
         work_room = zeros-room s.work w' (slot_count s.heap) (part i 1) b.1;
       }
 
-  pub can-second : e ≡ Ready → CanMark t.heap om' ow'
+  pub can-second : e ≡ ready → CanMark t.heap om' ow'
   unfolding enough
   can-second i =
       let b = and_both (leb (slot_count t.heap) (length t.marks)) (leb (slot_count t.heap) (length t.work)) (holding x 1 i) in
@@ -136,17 +136,17 @@ module _ (w : Words) (s t : Save) {e : Entry} {m' w' om' ow' : List ℕ} (x : En
         work_room = zeros-room t.work ow' (slot_count t.heap) (part i 3) b.1;
       }
 
-  pub same-refused : {why : Refusal} {r : Answer} → e ≡ Not why → r ≡ told (Err why) → (asked_of r (m' ∷ w' ∷ om' ∷ ow' ∷ []) ≡ same_call w s t) × RightSame w s t r
+  pub same-refused : {why : Refusal} {r : Answer} → e ≡ Err why → r ≡ told (Err why) → (asked_of r (m' ∷ w' ∷ om' ∷ ow' ∷ []) ≡ same_call w s t) × RightSame w s t r
   same-refused {r = r} i q =
       let z : asked_of r (m' ∷ w' ∷ om' ∷ ow' ∷ []) ≡ same_call w s t = ask-refused x same_number nothing s.heap question i q in
       (z, rightly-same w s t r (m' ∷ w' ∷ om' ∷ ow' ∷ []) z)
 
-  pub order-refused : {why : Refusal} {r : Answer} → e ≡ Not why → r ≡ told (Err why) → (asked_of r (m' ∷ w' ∷ om' ∷ ow' ∷ []) ≡ order_call w s t) × RightOrder w s t r
+  pub order-refused : {why : Refusal} {r : Answer} → e ≡ Err why → r ≡ told (Err why) → (asked_of r (m' ∷ w' ∷ om' ∷ ow' ∷ []) ≡ order_call w s t) × RightOrder w s t r
   order-refused {r = r} i q =
       let z : asked_of r (m' ∷ w' ∷ om' ∷ ow' ∷ []) ≡ order_call w s t = ask-refused x order_number nothing s.heap question i q in
       (z, rightly-ordered w s t r (m' ∷ w' ∷ om' ∷ ow' ∷ []) z)
 
-  module _ (i : e ≡ Ready) (f : Compared) (ef : f ≡ compared_by (ordering (table_in w) (view s.heap) (view t.heap) s.roots t.roots))
+  module _ (i : e ≡ ready) (f : Compared) (ef : f ≡ compared_by (ordering (table_in w) (view s.heap) (view t.heap) s.roots t.roots))
       (a b c d : List ℕ) (la : length a ≡ length m') (lb : length b ≡ length w') (lc : length c ≡ length om') (ld : length d ≡ length ow')
       (a' b' c' d' : List ℕ) (za : a' ≡ zeros a) (zb : b' ≡ zeros b) (zc : c' ≡ zeros c) (zd : d' ≡ zeros d) (reply : Reply) (r : Answer) (er : r ≡ told reply) where
     cleared : a' ∷ b' ∷ c' ∷ d' ∷ [] ≡ m' ∷ w' ∷ om' ∷ ow' ∷ []
