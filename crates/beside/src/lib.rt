@@ -1,171 +1,128 @@
-// Two objects of two heaps side by side, at one handle place: the bytes up to it, and the handles there. An order is a byte: 0 equal, 1 less, 2 greater. What belongs to the
-// second heap has a name that begins with o, for the other.
+// Two objects of two heaps side by side, at one handle place: the bytes up to it, and the handles there.
 #![tactic(auto)]
 
-ghost use Rattle.std.specs.Prelude.{◌≡◌, ◌+◌, ◌-◌, ◌/◌, ◌<◌, ◌≤◌, length, take, drop, get_or};
-ghost use Rattle.handle.specs.Handle.{told};
+ghost use Rattle.std.specs.Prelude.{◌≡◌, ◌+◌, ◌-◌, ◌/◌, ◌≤◌, length, take, drop, get_or};
 ghost use Rattle.alike.specs.Order.{order};
-ghost use Rattle.alike.specs.Inner.ByTurns.{numbers};
-ghost use Rattle.beside.specs.Inner.Codes.{code, then_code};
-ghost use Rattle.beside.specs.Inner.Ranks.{resolve_in, Runs, rank_of, worth_in, place_in};
+ghost use Rattle.beside.specs.Inner.Codes.{code, order_of, then_code};
+ghost use Rattle.beside.specs.Inner.Ranks.{place_of, met_order};
 ghost use Rattle.beside.specs.Inner.Found.{found_at};
 
-use refusal::Refusal;
+use handle::Slots;
+use std::cmp::Ordering;
 
-// Two numbers.
-pub fn compare(x: u64, y: u64) -> u8
-    ensures { result ≡ code (numbers x y) }
-{
-    if x < y {
-        return 1;
-    }
-    if y < x {
-        return 2;
-    }
-    0
+// A heap whose objects have been met: its slots, and the turn of each in the upper bits of its slot's word.
+#[derive(Clone, Copy)]
+pub struct Met<'s, 't> {
+    pub slots: Slots<'s>,
+    pub turns: &'t [u64],
 }
 
-// The bytes from..to of both.
-pub fn compare_bytes(data: &[u8], other: &[u8], from: usize, to: usize) -> u8
-    requires { (to ≤ length «data».now) × (to ≤ length other.now) }
-    ensures { result ≡ code (order (take (to - from) (drop from «data».now)) (take (to - from) (drop from other.now))) }
-{
-    let mut i = from;
-    while i < to {
-        let x = data[i];
-        let y = other[i];
-        if x < y {
-            return 1;
+// What a handle is compared by: one that doesn't resolve comes before one that does, two that don't compare as numbers, two that do by the turn of their object.
+#[derive(Clone, Copy, PartialEq, Eq, PartialOrd, Ord)]
+pub enum Place {
+    Unresolved(u64),
+    Turn(u64),
+}
+
+impl Met<'_, '_> {
+    // The turn of slot i: the upper bits of its word.
+    pub fn turn_of(self, i: u32) -> u64
+        ensures { result ≡ get_or self.entry.turns.now i 0 / 16777216 }
+    {
+        let j = i as usize;
+        if self.turns.len() <= j {
+            return 0;
         }
-        if y < x {
-            return 2;
+        self.turns[j] / 16777216
+    }
+
+    // What the handle h is compared by.
+    pub fn place_of(self, h: u64) -> Place
+        ensures { result ≡ place_of self.entry h }
+    {
+        match self.slots.resolve(h) {
+            Ok(i) => Place::Turn(self.turn_of(i)),
+            Err(_) => Place::Unresolved(h),
         }
-        i += 1;
-    }
-    0
-}
-
-// Whether a handle resolves, as a number.
-fn rank(r: Result<u32, Refusal>) -> u64
-    ensures { result ≡ rank_of (told r) }
-{
-    match r {
-        Ok(_) => 1,
-        Err(_) => 0,
-    }
-}
-
-// The turn of slot i: the upper bits of its word.
-pub fn turn_of(work: &[u64], i: u32) -> u64
-    ensures { result ≡ get_or work.now i 0 / 16777216 }
-{
-    let j = i as usize;
-    if work.len() <= j {
-        return 0;
-    }
-    work[j] / 16777216
-}
-
-// What handles that both resolve, or both do not, are compared by.
-fn worth(work: &[u64], h: u64, r: Result<u32, Refusal>) -> u64
-    ensures { result ≡ worth_in work.now h (told r) }
-{
-    match r {
-        Ok(i) => turn_of(work, i),
-        Err(_) => h,
     }
 }
 
 // Two handles, v in the one heap and w in the other.
-pub fn compare_handles(
-    tag: u8,
-    slots: usize,
-    s: usize,
-    narrow: &[u32],
-    work: &[u64],
-    v: u64,
-    otag: u8,
-    oslots: usize,
-    os: usize,
-    onarrow: &[u32],
-    owork: &[u64],
-    w: u64,
-) -> u8
-    requires { Runs slots s narrow.now × Runs oslots os onarrow.now }
-    ensures { result ≡ code (place_in (resolve_in tag slots s narrow.now) work.now (resolve_in otag oslots os onarrow.now) owork.now v w) }
+pub fn compare_handles(here: Met, v: u64, there: Met, w: u64) -> Ordering
+    ensures { result ≡ met_order here.entry there.entry v w }
 {
-    let a = handle::resolve(tag, slots, s, narrow, v);
-    let b = handle::resolve(otag, oslots, os, onarrow, w);
-    let c = compare(rank(a), rank(b));
-    if c != 0 {
-        return c;
-    }
-    compare(worth(work, v, a), worth(owork, w, b))
+    here.place_of(v).cmp(&there.place_of(w))
 }
 
-// The first that is not equal decides: the order found so far, then the bytes from..to.
-pub fn then_bytes(found: u8, data: &[u8], other: &[u8], from: usize, to: usize) -> u8
+// The bytes from..to of both.
+pub fn compare_bytes(data: &[u8], other: &[u8], from: usize, to: usize) -> Ordering
+    requires { (to ≤ length «data».now) × (to ≤ length other.now) }
+    ensures { result ≡ order (take (to - from) (drop from «data».now)) (take (to - from) (drop from other.now)) }
+{
+    if to <= from {
+        return Ordering::Equal;
+    }
+    let (a, b) = (&data[from..to], &other[from..to]);
+    a.cmp(&b)
+}
+
+// An order as a byte of lent scratch, which is 0 as long as all is equal.
+pub fn byte_of(o: Ordering) -> u8
+    ensures { result ≡ code o }
+{
+    match o {
+        Ordering::Equal => 0,
+        Ordering::Less => 1,
+        Ordering::Greater => 2,
+    }
+}
+
+// The order that a byte of lent scratch stands for.
+pub fn order_of(byte: u8) -> Ordering
+    ensures { result ≡ order_of byte }
+{
+    match byte {
+        0 => Ordering::Equal,
+        1 => Ordering::Less,
+        _ => Ordering::Greater,
+    }
+}
+
+// The first that is not equal decides: what is found so far, as a byte, then the bytes from..to.
+fn then_bytes(found: u8, data: &[u8], other: &[u8], from: usize, to: usize) -> u8
     requires { (to ≤ length «data».now) × (to ≤ length other.now) }
     ensures { result ≡ then_code found (order (take (to - from) (drop from «data».now)) (take (to - from) (drop from other.now))) }
 {
     if found != 0 {
         return found;
     }
-    compare_bytes(data, other, from, to)
+    byte_of(compare_bytes(data, other, from, to))
 }
 
 // The same of two handles.
-pub fn then_handles(
-    found: u8,
-    tag: u8,
-    slots: usize,
-    s: usize,
-    narrow: &[u32],
-    work: &[u64],
-    v: u64,
-    otag: u8,
-    oslots: usize,
-    os: usize,
-    onarrow: &[u32],
-    owork: &[u64],
-    w: u64,
-) -> u8
-    requires { Runs slots s narrow.now × Runs oslots os onarrow.now }
-    ensures { result ≡ then_code found
-        (place_in (resolve_in tag slots s narrow.now) work.now (resolve_in otag oslots os onarrow.now) owork.now v w) }
+fn then_handles(found: u8, here: Met, v: u64, there: Met, w: u64) -> u8
+    ensures { result ≡ then_code found (met_order here.entry there.entry v w) }
 {
     if found != 0 {
         return found;
     }
-    compare_handles(
-        tag, slots, s, narrow, work, v, otag, oslots, os, onarrow, owork, w,
-    )
+    byte_of(compare_handles(here, v, there, w))
 }
 
 // At a handle place: the bytes from `done` up to it, then the handles there. The answer is how many bytes are behind afterwards.
+// Kept: `found` is two bytes, since one tracer serves marking and comparing, and the marks that are lent to it are bytes.
 pub fn at_place(
-    tag: u8,
-    slots: usize,
-    s: usize,
-    narrow: &[u32],
-    work: &[u64],
+    here: Met,
     data: &[u8],
-    otag: u8,
-    oslots: usize,
-    os: usize,
-    onarrow: &[u32],
-    owork: &[u64],
+    there: Met,
     other: &[u8],
     at: usize,
     found: &mut [u8],
     done: usize,
 ) -> usize
-    requires runs { Runs slots s narrow.now × Runs oslots os onarrow.now }
-    requires at_in_bounds { (at + 8 ≤ length «data».now) × (length «data».now ≡ length other.now) }
+    requires { (at + 8 ≤ length «data».now) × (length «data».now ≡ length other.now) }
     ensures value { result ≡ at + 8 }
-    ensures found_after { found.new ≡
-        found_at (place_in (resolve_in tag slots s narrow.now) work.now (resolve_in otag oslots os onarrow.now) owork.now)
-        «data».now other.now found.old done at }
+    ensures found_after { found.new ≡ found_at (met_order here.entry there.entry) «data».now other.now found.old done at }
 {
     let next = at + 8;
     if found.len() < 2 {
@@ -174,9 +131,7 @@ pub fn at_place(
     let v = word::get_le(data, at, 8);
     let w = word::get_le(other, at, 8);
     let x = then_bytes(found[0], data, other, done, at);
-    let y = then_handles(
-        found[1], tag, slots, s, narrow, work, v, otag, oslots, os, onarrow, owork, w,
-    );
+    let y = then_handles(found[1], here, v, there, w);
     found[0] = x;
     found[1] = y;
     next

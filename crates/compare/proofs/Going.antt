@@ -2,151 +2,116 @@
 use Prim.Native.Nat.{ℕ, suc, ◌+◌, ◌≤◌, ◌<◌}
 use mathlib.Core.Path.{◌≡◌, refl, sym, ap, ◌∙◌, subst}
 use mathlib.Core.List.{List, [], ◌∷◌}
-use mathlib.Core.Bool.{Bool, true, false}
+use mathlib.Core.Bool.{true, false}
 use lib.ListN.{length, get_or, drop, length-drop}
-use lib.Dec.{eqb, ltb}
-use borrow.Author.Tests.{eq-eqb, ne_eqb, lt-ltb, le-ltb}
 use native.Mathlib.Omega.{arith}
-use Rattle.std.specs.Prelude.{if◌then◌else◌}
+use Rattle.std.specs.declared.cmp.Ordering.{Ordering}
+use Rattle.std.specs.declared.cmp.Ordering.TheVariants.{Less, Equal, Greater}
+use Rattle.std.specs.Ordering.{MatchOrdering, is_ne, nat_cmp}
+use Rattle.std.specs.Cmp.{nat_cmp_is}
+use Rattle.std.specs.Cmp.Lexicographic.{slice_cmp}
+use Rattle.std.proofs.lemmas.Cmp.{ranked}
+use Rattle.std.proofs.lemmas.Map.Lookups.{exact_unsigned}
 use Rattle.word.proofs.ListLaws.{drop-cons-one}
-use Rattle.alike.specs.Order.{Order, Order.less, Order.equal, Order.greater}
-use Rattle.alike.specs.Inner.ByTurns.{numbers, ◌and_then◌}
-use Rattle.alike.proofs.Turns.{numbers-equal}
-use Rattle.beside.specs.Inner.Codes.{code}
-use Rattle.compare.specs.Inner.Lists.{lists_order}
+use Rattle.alike.specs.Inner.ByTurns.{◌and_then◌}
 
--- ---- orders as bytes
+-- ---- one order, and then another
 
-pub code-equal : (o : Order) → code o ≡ 0 → o ≡ equal
-code-equal less e = let z : ◌≡◌ {A = ℕ} 0 1 = sym e in absurd (omega arith)
-code-equal equal e = refl
-code-equal greater e = let z : ◌≡◌ {A = ℕ} 0 2 = sym e in absurd (omega arith)
+pub first-decides : (a b : Ordering) → is_ne a ≡ true → a ≡ a and_then b
+first-decides Less b h = refl
+first-decides Equal b h = absurd (mathlib.Core.Bool.true≢false (sym h))
+first-decides Greater b h = refl
 
-pub then-first : (a b : Order) (r : ℕ) → r ≡ code a → (r ≡ 0 → ⊥) → r ≡ code (a and_then b)
-then-first less b r e f = e
-then-first equal b r e f = absurd (f e)
-then-first greater b r e f = e
+pub is-equal : (a : Ordering) → is_ne a ≡ false → a ≡ Equal
+is-equal Less h = absurd (mathlib.Core.Bool.true≢false h)
+is-equal Equal h = refl
+is-equal Greater h = absurd (mathlib.Core.Bool.true≢false h)
 
-pub then-second : (a b : Order) (r : ℕ) → r ≡ code a → r ≡ 0 → code b ≡ code (a and_then b)
-then-second less b r e f = let z : ◌≡◌ {A = ℕ} 0 1 = sym f ∙ e in absurd (omega arith)
-then-second equal b r e f = refl
-then-second greater b r e f = let z : ◌≡◌ {A = ℕ} 0 2 = sym f ∙ e in absurd (omega arith)
+pub second-decides : (a b : Ordering) → is_ne a ≡ false → b ≡ a and_then b
+second-decides a b h = ap (λ (o : Ordering). o and_then b) (sym (is-equal a h))
 
--- the byte of two orders, one after the other
-pub then-codes : (a b : Order) → (if eqb (code a) 0 then code b else code a) ≡ code (a and_then b)
-then-codes less b = refl
-then-codes equal b = refl
-then-codes greater b = refl
+-- ---- one of them at its end
 
-pub then_by : (a b : Order) (x y r : ℕ) → r ≡ (if eqb x 0 then y else x) → x ≡ code a → y ≡ code b → r ≡ code (a and_then b)
-then_by a b x y r e p q = e ∙ (λ i. if eqb (p i) 0 then q i else p i) ∙ then-codes a b
-
-pub then-nonzero : (x y : ℕ) → (x ≡ 0 → ⊥) → x ≡ (if eqb x 0 then y else x)
-then-nonzero x y h = sym (rw (ne_eqb x 0 h))
-
-pub then-zero : (x y : ℕ) → x ≡ 0 → y ≡ (if eqb x 0 then y else x)
-then-zero x y h = sym (rw (eq-eqb x 0 h))
-
--- ---- one more of each
-
-lists-cons : (f : ℕ → ℕ → Order) (x y : ℕ) (xs ys : List ℕ) → lists_order f (x ∷ xs) (y ∷ ys) ≡ f x y and_then lists_order f xs ys
-unfolding lists_order
-lists-cons f x y xs ys = refl
-
-numbers_more : (b : ℕ) → 0 < b → numbers 0 b ≡ less
-numbers_more b h = rw (lt-ltb 0 b h)
-
--- one of them at its end: the longer is greater
-pub lists-end : (f : ℕ → ℕ → Order) (xs ys : List ℕ) → length xs ≡ 0 → lists_order f xs ys ≡ numbers 0 (length ys)
-unfolding lists_order
+-- the longer is greater
+pub lists-end : (f : ℕ → ℕ → Ordering) (xs ys : List ℕ) → length xs ≡ 0 → slice_cmp f xs ys ≡ nat_cmp 0 (length ys)
 lists-end f [] [] h = refl
-lists-end f [] (y ∷ ys) h = sym (numbers_more (suc (length ys)) (omega arith))
+lists-end f [] (y ∷ ys) h = nat_cmp_is 0 (suc (length ys)) Less (omega arith)
 lists-end f (x ∷ xs) ys h = absurd (omega arith)
 
-lists-over : (f : ℕ → ℕ → Order) (xs ys : List ℕ) → length ys ≡ 0 → 0 < length xs → lists_order f xs ys ≡ greater
-unfolding lists_order
+lists-over : (f : ℕ → ℕ → Ordering) (xs ys : List ℕ) → length ys ≡ 0 → 0 < length xs → slice_cmp f xs ys ≡ Greater
 lists-over f [] ys h l = absurd (omega arith)
 lists-over f (x ∷ xs) [] h l = refl
 lists-over f (x ∷ xs) (y ∷ ys) h l = absurd (omega arith)
 
 -- ---- the loop
 
-pub record Goes (f : ℕ → ℕ → Order) (xs ys : List ℕ) (total : Order) (k : ℕ) : Type 0 where
-  pub same : lists_order f (drop k xs) (drop k ys) ≡ total
+pub record Goes (f : ℕ → ℕ → Ordering) (xs ys : List ℕ) (total : Ordering) (k : ℕ) : Type 0 where
+  pub same : slice_cmp f (drop k xs) (drop k ys) ≡ total
   pub first : k ≤ length xs
   pub second : k ≤ length ys
 
-pub goes_first : (f : ℕ → ℕ → Order) (xs ys : List ℕ) → Goes f xs ys (lists_order f xs ys) 0
+pub goes_first : (f : ℕ → ℕ → Ordering) (xs ys : List ℕ) → Goes f xs ys (slice_cmp f xs ys) 0
 goes_first f xs ys = record { same = refl; first = omega arith; second = omega arith }
 
-module _ (f : ℕ → ℕ → Order) (xs ys : List ℕ) (total : Order) (k : ℕ) (g : Goes f xs ys total k) where
+module _ (f : ℕ → ℕ → Ordering) (xs ys : List ℕ) (total : Ordering) (k : ℕ) (g : Goes f xs ys total k) where
   module _ (a : k < length xs) (b : k < length ys) where
-    front : f (get_or xs k 0) (get_or ys k 0) and_then lists_order f (drop (k + 1) xs) (drop (k + 1) ys) ≡ total
-    front = sym (lists-cons f (get_or xs k 0) (get_or ys k 0) (drop (k + 1) xs) (drop (k + 1) ys)) ∙ sym (λ i. lists_order f (drop-cons-one xs k a i) (drop-cons-one ys k b i)) ∙ g.same
+    front : f (get_or xs k 0) (get_or ys k 0) and_then slice_cmp f (drop (k + 1) xs) (drop (k + 1) ys) ≡ total
+    front = sym (λ i. slice_cmp f (drop-cons-one xs k a i) (drop-cons-one ys k b i)) ∙ g.same
 
-    pub goes-unlike : (r : ℕ) → r ≡ code (f (get_or xs k 0) (get_or ys k 0)) → (r ≡ 0 → ⊥) → r ≡ code total
-    goes-unlike r e h = then-first (f (get_or xs k 0) (get_or ys k 0)) (lists_order f (drop (k + 1) xs) (drop (k + 1) ys)) r e h ∙ ap code front
+    module _ (r : Ordering) (e : r ≡ f (get_or xs k 0) (get_or ys k 0)) where
+      from : r and_then slice_cmp f (drop (k + 1) xs) (drop (k + 1) ys) ≡ total
+      from = ap (λ (o : Ordering). o and_then slice_cmp f (drop (k + 1) xs) (drop (k + 1) ys)) e ∙ front
 
-    pub goes-next : (r : ℕ) → r ≡ code (f (get_or xs k 0) (get_or ys k 0)) → r ≡ 0 → Goes f xs ys total (k + 1)
-    goes-next r e h =
-        record {
-          same = ap (λ (o : Order). o and_then lists_order f (drop (k + 1) xs) (drop (k + 1) ys)) (sym (code-equal (f (get_or xs k 0) (get_or ys k 0)) (sym e ∙ h))) ∙ front;
-          first = omega arith;
-          second = omega arith;
-        }
+      pub goes-unlike : is_ne r ≡ true → r ≡ total
+      goes-unlike h = first-decides r (slice_cmp f (drop (k + 1) xs) (drop (k + 1) ys)) h ∙ from
 
-  -- both are equally long and have been gone through
-  pub goes-both : length xs ≡ length ys → length xs ≤ k → 0 ≡ code total
-  goes-both l h =
-      let x : length (drop k xs) ≡ 0 = omega (arith, length-drop k xs) in
-      let y : length (drop k ys) ≡ 0 = omega (arith, length-drop k ys) in
-      ap code (sym (ap (λ (n : ℕ). numbers 0 n) y) ∙ sym (lists-end f (drop k xs) (drop k ys) x) ∙ g.same)
+      pub goes-next : is_ne r ≡ false → Goes f xs ys total (k + 1)
+      goes-next h = record { same = second-decides r (slice_cmp f (drop (k + 1) xs) (drop (k + 1) ys)) h ∙ from; first = omega arith; second = omega arith }
 
   -- the second has ended
-  pub goes_over : k < length xs → length ys ≤ k → 2 ≡ code total
-  goes_over a h = ap code (sym (lists-over f (drop k xs) (drop k ys) (omega (arith, length-drop k ys)) (omega (arith, length-drop k xs))) ∙ g.same)
+  pub goes_over : k < length xs → length ys ≤ k → Greater ≡ total
+  goes_over a h = sym (lists-over f (drop k xs) (drop k ys) (omega (arith, length-drop k ys)) (omega (arith, length-drop k xs))) ∙ g.same
 
   -- the first has ended
-  pub goes-ended : length xs ≤ k → (r : ℕ) → r ≡ code (numbers k (length ys)) → r ≡ code total
+  pub goes-ended : length xs ≤ k → (r : Ordering) → r ≡ nat_cmp (length xs) (length ys) → r ≡ total
   goes-ended h r e =
-      e ∙ ap code (from (ltb k (length ys)) refl ∙ sym (lists-end f (drop k xs) (drop k ys) (omega (arith, length-drop k xs))) ∙ g.same)
+      left r (ranked (length xs) (length ys) r e) ∙ sym (lists-end f (drop k xs) (drop k ys) (omega (arith, length-drop k xs))) ∙ g.same
     where
       -- k is at most how many there are: what is left says which
-      from : (b : Bool) → ltb k (length ys) ≡ b → numbers k (length ys) ≡ numbers 0 (length (drop k ys))
-      from true e = rw (e, lt-ltb 0 (length (drop k ys)) (omega (arith, length-drop k ys, borrow.Author.Tests.ltb-true k (length ys) e))) refl
-      from false e =
-          let z : length (drop k ys) ≡ 0 = omega (arith, length-drop k ys, borrow.Author.Tests.ltb-false k (length ys) e) in
-          rw (e, le-ltb (length ys) k g.second, z) refl
+      left : (o : Ordering) → MatchOrdering o (length xs < length ys) (length xs ≡ length ys) (length ys < length xs) → o ≡ nat_cmp 0 (length (drop k ys))
+      left Less l = nat_cmp_is 0 (length (drop k ys)) Less (omega (arith, length-drop k ys, g.first))
+      left Equal l = nat_cmp_is 0 (length (drop k ys)) Equal (omega (arith, length-drop k ys, g.first))
+      left Greater l = absurd (omega (arith, g.second))
 
 -- ---- two lists whose lengths are compared first
 
-pub record GoesEven (f : ℕ → ℕ → Order) (xs ys : List ℕ) (k : ℕ) : Type 0 where
+pub record GoesEven (f : ℕ → ℕ → Ordering) (xs ys : List ℕ) (k : ℕ) : Type 0 where
   pub even : length xs ≡ length ys
-  pub goes : Goes f xs ys (numbers (length xs) (length ys) and_then lists_order f xs ys) k
+  pub goes : Goes f xs ys (nat_cmp (length xs) (length ys) and_then slice_cmp f xs ys) k
 
-module _ (f : ℕ → ℕ → Order) (xs ys : List ℕ) where
-  module _ (r : ℕ) (e : r ≡ code (numbers (length xs) (length ys))) where
-    pub even-unlike : (r ≡ 0 → ⊥) → r ≡ code (numbers (length xs) (length ys) and_then lists_order f xs ys)
-    even-unlike h = then-first (numbers (length xs) (length ys)) (lists_order f xs ys) r e h
+module _ (f : ℕ → ℕ → Ordering) (xs ys : List ℕ) where
+  module _ (r : Ordering) (e : r ≡ nat_cmp (length xs) (length ys)) where
+    pub even-unlike : is_ne r ≡ true → r ≡ nat_cmp (length xs) (length ys) and_then slice_cmp f xs ys
+    even-unlike h = first-decides r (slice_cmp f xs ys) h ∙ ap (λ (o : Ordering). o and_then slice_cmp f xs ys) e
 
-    pub even-first : r ≡ 0 → GoesEven f xs ys 0
+    pub even-first : is_ne r ≡ false → GoesEven f xs ys 0
     even-first h =
-        let q : numbers (length xs) (length ys) ≡ equal = code-equal (numbers (length xs) (length ys)) (sym e ∙ h) in
+        let q : nat_cmp (length xs) (length ys) ≡ Equal = sym e ∙ is-equal r h in
         record {
-          even = numbers-equal (length xs) (length ys) q;
-          goes = subst (λ (o : Order). Goes f xs ys (o and_then lists_order f xs ys) 0) (sym q) (goes_first f xs ys);
+          even = exact_unsigned (length xs) (length ys) q;
+          goes = subst (λ (o : Ordering). Goes f xs ys (o and_then slice_cmp f xs ys) 0) (sym q) (goes_first f xs ys);
         }
 
   module _ (k : ℕ) (g : GoesEven f xs ys k) where
     pub even-other : k < length xs → k < length ys
     even-other h = omega (arith, g.even)
 
-    pub even-end : length xs ≤ k → 0 ≡ code (numbers (length xs) (length ys) and_then lists_order f xs ys)
-    even-end h = goes-both f xs ys (numbers (length xs) (length ys) and_then lists_order f xs ys) k g.goes g.even h
+    pub even-end : length xs ≤ k → Equal ≡ nat_cmp (length xs) (length ys) and_then slice_cmp f xs ys
+    even-end h = goes-ended f xs ys (nat_cmp (length xs) (length ys) and_then slice_cmp f xs ys) k g.goes h Equal (nat_cmp_is (length xs) (length ys) Equal g.even)
 
-    module _ (h : k < length xs) (r : ℕ) (e : r ≡ code (f (get_or xs k 0) (get_or ys k 0))) where
-      pub even-stop : (r ≡ 0 → ⊥) → r ≡ code (numbers (length xs) (length ys) and_then lists_order f xs ys)
-      even-stop n = goes-unlike f xs ys (numbers (length xs) (length ys) and_then lists_order f xs ys) k g.goes h (even-other h) r e n
+    module _ (h : k < length xs) (r : Ordering) (e : r ≡ f (get_or xs k 0) (get_or ys k 0)) where
+      pub even-stop : is_ne r ≡ true → r ≡ nat_cmp (length xs) (length ys) and_then slice_cmp f xs ys
+      even-stop n = goes-unlike f xs ys (nat_cmp (length xs) (length ys) and_then slice_cmp f xs ys) k g.goes h (even-other h) r e n
 
-      pub even-next : r ≡ 0 → GoesEven f xs ys (k + 1)
-      even-next z = record { even = g.even; goes = goes-next f xs ys (numbers (length xs) (length ys) and_then lists_order f xs ys) k g.goes h (even-other h) r e z }
+      pub even-next : is_ne r ≡ false → GoesEven f xs ys (k + 1)
+      even-next z = record { even = g.even; goes = goes-next f xs ys (nat_cmp (length xs) (length ys) and_then slice_cmp f xs ys) k g.goes h (even-other h) r e z }

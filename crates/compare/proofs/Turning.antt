@@ -41,10 +41,10 @@ pub raising-first : (n : ℕ) (work : List ℕ) → n ≤ 16777216 → Raising n
 raising-first n work h = record { few = h; long = refl; behind = λ j a b. absurd (omega arith); ahead = λ j a. refl }
 
 module _ (n : ℕ) (work₀ work : List ℕ) (i : ℕ) (t : Raising n work₀ work i) where
-  pub raising-end : length work ≤ i → Raised n work₀ work
-  raising-end h = record { long = t.long; each = λ j b. t.behind j (omega (arith, t.long)) b }
+  pub raising-end : length work₀ ≤ i → Raised n work₀ work
+  raising-end h = record { long = t.long; each = λ j b. t.behind j (omega arith) b }
 
-  pub raising-next : i < length work → (v : ℕ) → v ≡ get_or work i 0 % 16777216 + n * 16777216 → Raising n work₀ (set work i v) (i + 1)
+  pub raising-next : i < length work₀ → (v : ℕ) → v ≡ get_or work i 0 % 16777216 + n * 16777216 → Raising n work₀ (set work i v) (i + 1)
   raising-next h v e =
       record {
         few = t.few;
@@ -55,7 +55,7 @@ module _ (n : ℕ) (work₀ work : List ℕ) (i : ℕ) (t : Raising n work₀ wo
     where
       at : (j : ℕ) → j < i + 1 → j < length work₀ → Dec (j ≡ i) → get_or (set work i v) j 0 ≡ get_or work₀ j 0 % 16777216 + n * 16777216
       at j a b (yes w) =
-          let x : get_or (set work i v) j 0 ≡ v = ap (λ (k : ℕ). get_or (set work i v) k 0) w ∙ get_or-set_same work i v 0 h in
+          let x : get_or (set work i v) j 0 ≡ v = ap (λ (k : ℕ). get_or (set work i v) k 0) w ∙ get_or-set_same work i v 0 (omega (arith, t.long)) in
           let y : get_or work i 0 ≡ get_or work₀ j 0 = t.ahead i (omega arith) ∙ ap (λ (k : ℕ). get_or work₀ k 0) (sym w) in
           x ∙ e ∙ ap (λ (k : ℕ). k % 16777216 + n * 16777216) y
       at j a b (no w) = get_or-set_other work i j v 0 w ∙ t.behind j (omega arith) b

@@ -1,23 +1,23 @@
-// What two marked heaps are compared by, short of their objects: the turn at which each object was first met, and the roots as handle places. An order is a byte: 0 equal, 1 less,
-// 2 greater. What belongs to the second heap has a name that begins with o, for the other.
+// What two marked heaps are compared by, short of their objects: the turn at which each object was first met, and the roots as handle places.
 #![tactic(auto)]
 
-ghost use Rattle.std.specs.Prelude.{◌≡◌, ◌≤◌, length, eqb, if◌then◌else◌};
-ghost use Rattle.alike.specs.Inner.ByTurns.{numbers, ◌and_then◌};
-ghost use Rattle.beside.specs.Inner.Codes.{code};
-ghost use Rattle.beside.specs.Inner.Ranks.{resolve_in, Runs, place_in};
+ghost use Rattle.std.specs.Prelude.{◌≡◌, ◌≤◌, length};
+ghost use Rattle.std.specs.Ordering.{nat_cmp};
+ghost use Rattle.std.specs.Cmp.Lexicographic.{slice_cmp};
+ghost use Rattle.alike.specs.Inner.ByTurns.{◌and_then◌};
+ghost use Rattle.beside.specs.Inner.Ranks.{met_order};
 ghost use Rattle.compare.specs.Inner.Turns.{lows, CanQueue, CanTurn, Raised, Turned};
-ghost use Rattle.compare.specs.Inner.Lists.{lists_order};
+
+use beside::Met;
+use std::cmp::Ordering;
 
 // The upper part of every word becomes n, a turn that none has yet; the lower part keeps the queue.
 fn raise_all(work: &mut [u64], n: usize)
     requires { n ≤ 16777216 }
     ensures { Raised n work.old work.new }
 {
-    let mut i = 0;
-    while i < work.len() {
-        work[i] = work[i] % 16777216 + (n as u64) * 16777216;
-        i += 1;
+    for word in work.iter_mut() {
+        *word = *word % 16777216 + (n as u64) * 16777216;
     }
 }
 
@@ -26,11 +26,9 @@ fn put_each(work: &mut [u64], n: usize)
     requires { CanTurn work.old n }
     ensures { Turned work.new (lows n work.old) }
 {
-    let mut i = 0;
-    while i < n {
+    for i in 0..n {
         let o = (work[i] % 16777216) as usize;
         work[o] = work[o] % 16777216 + (i as u64) * 16777216;
-        i += 1;
     }
 }
 
@@ -43,51 +41,20 @@ pub fn put_turns(work: &mut [u64], n: usize)
     put_each(work, n);
 }
 
-// The first that is not equal decides.
-pub fn then(found: u8, next: u8) -> u8
-    ensures { result ≡ (if eqb found 0 then next else found) }
-{
-    if found != 0 {
-        return found;
-    }
-    next
-}
-
 // The roots of two heaps: the shorter list first, then handle by handle.
-pub fn compare_roots(
-    tag: u8,
-    slots: usize,
-    s: usize,
-    narrow: &[u32],
-    work: &[u64],
-    roots: &[u64],
-    otag: u8,
-    oslots: usize,
-    os: usize,
-    onarrow: &[u32],
-    owork: &[u64],
-    oroots: &[u64],
-) -> u8
-    requires { Runs slots s narrow.now × Runs oslots os onarrow.now }
-    ensures { result ≡ code (numbers (length roots.now) (length oroots.now) and_then lists_order
-        (place_in (resolve_in tag slots s narrow.now) work.now (resolve_in otag oslots os onarrow.now) owork.now)
-        roots.now oroots.now) }
+pub fn compare_roots(here: Met, roots: &[u64], there: Met, other: &[u64]) -> Ordering
+    ensures { result ≡ (nat_cmp (length roots.now) (length other.now)
+        and_then slice_cmp (met_order here.entry there.entry) roots.now other.now) }
 {
-    let c = beside::compare(roots.len() as u64, oroots.len() as u64);
-    if c != 0 {
-        return c;
+    let lengths = roots.len().cmp(&other.len());
+    if lengths.is_ne() {
+        return lengths;
     }
-    let mut k = 0;
-    while k < roots.len() {
-        let v = roots[k];
-        let w = oroots[k];
-        let r = beside::compare_handles(
-            tag, slots, s, narrow, work, v, otag, oslots, os, onarrow, owork, w,
-        );
-        if r != 0 {
-            return r;
+    for (v, w) in roots.iter().zip(other) {
+        let found = beside::compare_handles(here, *v, there, *w);
+        if found.is_ne() {
+            return found;
         }
-        k += 1;
     }
-    0
+    Ordering::Equal
 }

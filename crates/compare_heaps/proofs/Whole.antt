@@ -6,6 +6,12 @@ use mathlib.Core.List.{List, [], ◌∷◌, ◌++◌}
 use lib.ListN.{length, get_or, take, drop, length-drop, length-append}
 use lib.Seq.{length-take-le}
 use native.Mathlib.Omega.{arith}
+use Rattle.std.specs.Prelude.{Option, Some, None}
+use Rattle.std.specs.declared.cmp.Ordering.{Ordering}
+use Rattle.std.specs.declared.cmp.Ordering.TheVariants.{Less, Equal, Greater}
+use Rattle.std.specs.Ordering.{nat_cmp}
+use Rattle.std.specs.Cmp.Lexicographic.{slice_cmp}
+use Rattle.std.proofs.lemmas.Map.Lookups.{exact_unsigned}
 use Rattle.word.specs.Run.{run}
 use Rattle.word.specs.Result.{Result, ok, refused}
 use Rattle.word.proofs.ListLaws.{take-zeros}
@@ -15,8 +21,6 @@ use Rattle.heap.specs.Lent.{lent, view}
 use Rattle.ty.specs.Types.{Table}
 use Rattle.places.specs.StrideZero.{ShortConstants}
 use Rattle.trace.specs.Places.{Places}
-use Rattle.trace.specs.declared.Answer.{Answer}
-use Rattle.trace.specs.declared.Answer.TheVariants.{Traced, Untraceable as Stuck}
 use Rattle.reach.specs.Reach.{◌∈◌}
 use Rattle.reach.proofs.Grown.{∈-index}
 use Rattle.collection.specs.Collected.{found}
@@ -24,22 +28,19 @@ use Rattle.mark.specs.Graph.{Fit}
 use Rattle.mark.proofs.Formed.{formed-fit, formed-few}
 use Rattle.mark.proofs.Inside.{resolves-in}
 use Rattle.alike.specs.Same.{Model}
-use Rattle.alike.specs.Order.{Order, Order.less, Order.equal, Order.greater, order, met, resolves, worth, places_code}
-use Rattle.alike.specs.Inner.ByTurns.{numbers, ◌and_then◌, place_order, slot_order, objects_order, by_turns}
+use Rattle.alike.specs.Order.{order, met, resolves, worth, places_code}
+use Rattle.alike.specs.Inner.ByTurns.{◌and_then◌, place_order, slot_order, objects_order, by_turns}
 use Rattle.alike.specs.Inner.Beside.{beside_first, beside_all, beside_end}
-use Rattle.alike.proofs.Turns.{then-assoc, then-after, numbers-equal, places-cons}
-use Rattle.beside.specs.Inner.Codes.{code}
+use Rattle.alike.proofs.Turns.{then-assoc, then-after, places-cons}
 use Rattle.beside.specs.Inner.Ranks.{resolve_in, rank_of, worth_in, place_in}
 use Rattle.models.specs.Inner.Along.{visible_in_one_go}
 use Rattle.models.proofs.Heaps.{data-short}
 use Rattle.models.proofs.Visible.{slots-visible}
 use Rattle.compare.specs.Inner.Turns.{lows, Turned}
-use Rattle.compare.specs.Inner.Lists.{lists_order}
 use Rattle.compare.proofs.Turning.{lows-length, lows-at}
 use Rattle.saves.specs.Saves.{ordering}
 use Rattle.saves.specs.Inner.Columns.{columns_model}
 use Rattle.saves.proofs.TwoLent.{lent-first, lent-second, lent-turns}
-use Rattle.compare_heaps.specs.declared.Compared.TheVariants.{Is, Untraceable}
 use Rattle.compare_heaps.specs.Compared.{compared_by, CanMark}
 use Rattle.compare_objects.specs.Inner.Sides.{head_of, data_beside, places_in, slots_beside, Queued}
 use Rattle.compare_heaps.specs.Inner.Marked.{Clear, MetIn, Meets}
@@ -47,17 +48,16 @@ use Rattle.compare_heaps.proofs.Meeting.{reached-places, met-queued}
 
 -- ---- lists
 
-lists-places : (G H : Model) (q p rs ss : List ℕ) → length rs ≡ length ss → lists_order (place_order G H q p) rs ss ≡ order (places_code G q rs) (places_code H p ss)
-unfolding lists_order order
+lists-places : (G H : Model) (q p rs ss : List ℕ) → length rs ≡ length ss → slice_cmp (place_order G H q p) rs ss ≡ order (places_code G q rs) (places_code H p ss)
 lists-places G H q p [] [] e = refl
 lists-places G H q p [] (w ∷ ss) e = absurd (omega arith)
 lists-places G H q p (v ∷ rs) [] e = absurd (omega arith)
 lists-places G H q p (v ∷ rs) (w ∷ ss) e =
-    ap (λ (o : Order). place_order G H q p v w and_then o) (lists-places G H q p rs ss (omega arith)) ∙ sym (places-cons G H q p v w rs ss)
+    ap (λ (o : Ordering). place_order G H q p v w and_then o) (lists-places G H q p rs ss (omega arith)) ∙ sym (places-cons G H q p v w rs ss)
 
-lists-objects : (G H : Model) (q p : List ℕ) (f : ℕ → ℕ → Order) (os us : List ℕ) → ((o u : ℕ) → o ∈ os → u ∈ us → f o u ≡ slot_order G H q p (G.object o) (H.object u))
-    → lists_order f os us ≡ objects_order G H q p os us
-unfolding lists_order objects_order
+lists-objects : (G H : Model) (q p : List ℕ) (f : ℕ → ℕ → Ordering) (os us : List ℕ) → ((o u : ℕ) → o ∈ os → u ∈ us → f o u ≡ slot_order G H q p (G.object o) (H.object u))
+    → slice_cmp f os us ≡ objects_order G H q p os us
+unfolding objects_order
 lists-objects G H q p f [] [] e = refl
 lists-objects G H q p f [] (u ∷ us) e = refl
 lists-objects G H q p f (o ∷ os) [] e = refl
@@ -111,17 +111,17 @@ module _ (T : Table)
   p = met H roots' slots'
 
   module _ (fit : Fit slots S narrow wide pool) (fit' : Fit slots' S' narrow' wide' pool') (a : MetIn G roots slots work n) (b : MetIn H roots' slots' work' m) where
-    abbrev place : ℕ → ℕ → Order
+    abbrev place : ℕ → ℕ → Ordering
     place = place_in (resolve_in tag slots S narrow) work (resolve_in tag' slots' S' narrow') work'
 
     place_same : place ≡ place_order G H q p
     unfolding place_in
     place_same = fun_ext (λ v. fun_ext (λ w. λ i.
-        numbers (rank_same tag slots S narrow work q a.turned a.words (resolve_in tag slots S narrow v) i) (rank_same tag' slots' S' narrow' work' p b.turned b.words (resolve_in tag' slots' S' narrow' w) i)
-        and_then numbers (worth-same tag slots S narrow work q a.turned a.words v i) (worth-same tag' slots' S' narrow' work' p b.turned b.words w i)))
+        nat_cmp (rank_same tag slots S narrow work q a.turned a.words (resolve_in tag slots S narrow v) i) (rank_same tag' slots' S' narrow' work' p b.turned b.words (resolve_in tag' slots' S' narrow' w) i)
+        and_then nat_cmp (worth-same tag slots S narrow work q a.turned a.words v i) (worth-same tag' slots' S' narrow' work' p b.turned b.words w i)))
 
     module _ (small : ShortConstants T) (short : length pool < 2 ^ 64) where
-      abbrev Side : ℕ → ℕ → Order
+      abbrev Side : ℕ → ℕ → Ordering
       Side = slots_beside T place S narrow wide pool S' narrow' wide' pool'
 
       -- two met objects
@@ -141,38 +141,38 @@ module _ (T : Table)
           let d : List ℕ = data_at (run S' S' wide') pool' u in
           let z : ℕ = get_or (run S S wide) o 0 - start_of (run S S wide) o in
           let z' : ℕ = get_or (run S' S' wide') u 0 - start_of (run S' S' wide') u in
-          let head : ℕ → ℕ → Order = λ n n'. numbers k k' and_then numbers t t' and_then numbers s s' and_then numbers n n' in
-          let body : (ℕ → ℕ → Order) → Order = λ f. order (take s c) (take s d) and_then beside_end f (drop s c) (drop s d) (beside_all f (drop s c) (drop s d) beside_first ps) in
+          let head : ℕ → ℕ → Ordering = λ n n'. nat_cmp k k' and_then nat_cmp t t' and_then nat_cmp s s' and_then nat_cmp n n' in
+          let body : (ℕ → ℕ → Ordering) → Ordering = λ f. order (take s c) (take s d) and_then beside_end f (drop s c) (drop s d) (beside_all f (drop s c) (drop s d) beside_first ps) in
           let e1 : Side o u ≡ head z z' and_then body place = ap (λ (l : Places). head z z' and_then data_beside place s c d l) x.1.1.1 in
           let e2 : head z z' and_then body place ≡ head (length c) (length d) and_then body (place_order G H q p) =
           λ w. head (sym (data-length slots S narrow wide pool fit o (met-below T tag slots S narrow wide pool roots work n a o i)) w)
           (sym (data-length slots' S' narrow' wide' pool' fit' u (met-below T tag' slots' S' narrow' wide' pool' roots' work' m b u j)) w) and_then body (place_same w) in
           let e3 : head (length c) (length d) and_then body (place_order G H q p) ≡ visible_in_one_go G H q p k t s c k' t' s' d ps =
-          regroup (numbers k k') (numbers t t') (numbers s s') (numbers (length c) (length d)) (body (place_order G H q p)) in
+          regroup (nat_cmp k k') (nat_cmp t t') (nat_cmp s s') (nat_cmp (length c) (length d)) (body (place_order G H q p)) in
           e1 ∙ e2 ∙ e3 ∙ sym (slots-visible G H q p T small k t s c k' t' s' d ps x.0 y.0 (data-short (run S S wide) pool o short) x.1.1.1 x.1.0 y.1.0)
         where
-          regroup : (f g h i j : Order) → (f and_then (g and_then (h and_then i))) and_then j ≡ f and_then (g and_then (h and_then (i and_then j)))
-          regroup less g h i j = refl
-          regroup greater g h i j = refl
-          regroup equal less h i j = refl
-          regroup equal greater h i j = refl
-          regroup equal equal less i j = refl
-          regroup equal equal greater i j = refl
-          regroup equal equal equal i j = refl
+          regroup : (f g h i j : Ordering) → (f and_then (g and_then (h and_then i))) and_then j ≡ f and_then (g and_then (h and_then (i and_then j)))
+          regroup Less g h i j = refl
+          regroup Greater g h i j = refl
+          regroup Equal Less h i j = refl
+          regroup Equal Greater h i j = refl
+          regroup Equal Equal Less i j = refl
+          regroup Equal Equal Greater i j = refl
+          regroup Equal Equal Equal i j = refl
 
-      pub found-order : (numbers (length roots) (length roots') and_then lists_order place roots roots') and_then lists_order Side (lows n work) (lows m work') ≡ by_turns G H roots roots' q p
+      pub found-order : (nat_cmp (length roots) (length roots') and_then slice_cmp place roots roots') and_then slice_cmp Side (lows n work) (lows m work') ≡ by_turns G H roots roots' q p
       unfolding by_turns
       found-order =
-          then-assoc (numbers (length roots) (length roots')) (lists_order place roots roots') (lists_order Side (lows n work) (lows m work'))
-          ∙ then-after (numbers (length roots) (length roots')) (lists_order place roots roots' and_then lists_order Side (lows n work) (lows m work'))
+          then-assoc (nat_cmp (length roots) (length roots')) (slice_cmp place roots roots') (slice_cmp Side (lows n work) (lows m work'))
+          ∙ then-after (nat_cmp (length roots) (length roots')) (slice_cmp place roots roots' and_then slice_cmp Side (lows n work) (lows m work'))
           (order (places_code G q roots) (places_code H p roots') and_then objects_order G H q p q p)
           (λ e. λ i. handles e i and_then objects i)
         where
-          handles : numbers (length roots) (length roots') ≡ equal → lists_order place roots roots' ≡ order (places_code G q roots) (places_code H p roots')
-          handles e = ap (λ (f : ℕ → ℕ → Order). lists_order f roots roots') place_same ∙ lists-places G H q p roots roots' (numbers-equal (length roots) (length roots') e)
+          handles : nat_cmp (length roots) (length roots') ≡ Equal → slice_cmp place roots roots' ≡ order (places_code G q roots) (places_code H p roots')
+          handles e = ap (λ (f : ℕ → ℕ → Ordering). slice_cmp f roots roots') place_same ∙ lists-places G H q p roots roots' (exact_unsigned (length roots) (length roots') e)
 
-          objects : lists_order Side (lows n work) (lows m work') ≡ objects_order G H q p q p
-          objects = (λ i. lists_order Side (a.queue i) (b.queue i)) ∙ lists-objects G H q p Side q p side_same
+          objects : slice_cmp Side (lows n work) (lows m work') ≡ objects_order G H q p q p
+          objects = (λ i. slice_cmp Side (a.queue i) (b.queue i)) ∙ lists-objects G H q p Side q p side_same
 
 -- ---- two lent heaps
 
@@ -184,37 +184,36 @@ module _ (T : Table) (h : Heap) (narrow wide pool : List ℕ) (k : Heap) (narrow
   abbrev H' : Model
   H' = columns_model T k.tag k.slots (length narrow' / 6) narrow' wide' pool'
 
-  module _ (x : Answer) (w : List ℕ) (mx : Meets x (columns_model T h.tag h.slots (length narrow / 6) narrow wide pool) rs h.slots w) where
-    pub whole-first : x ≡ Stuck → Untraceable ≡ compared_by (ordering T (view (lent h narrow wide pool)) (view (lent k narrow' wide' pool')) rs ss)
+  module _ (x : Option ℕ) (w : List ℕ) (mx : Meets x (columns_model T h.tag h.slots (length narrow / 6) narrow wide pool) rs h.slots w) where
+    pub whole-first : x ≡ None → None ≡ compared_by (ordering T (view (lent h narrow wide pool)) (view (lent k narrow' wide' pool')) rs ss)
     whole-first e =
-        ap compared_by (sym (lent-first T h narrow wide pool c.formed k narrow' wide' pool' d.formed rs ss (subst (λ (y : Answer). Meets y G' rs h.slots w) e mx)))
+        ap compared_by (sym (lent-first T h narrow wide pool c.formed k narrow' wide' pool' d.formed rs ss (subst (λ (y : Option ℕ). Meets y G' rs h.slots w) e mx)))
 
-    module _ (y : Answer) (w' : List ℕ) (my : Meets y (columns_model T k.tag k.slots (length narrow' / 6) narrow' wide' pool') ss k.slots w') where
-      pub whole-second : y ≡ Stuck → Untraceable ≡ compared_by (ordering T (view (lent h narrow wide pool)) (view (lent k narrow' wide' pool')) rs ss)
+    module _ (y : Option ℕ) (w' : List ℕ) (my : Meets y (columns_model T k.tag k.slots (length narrow' / 6) narrow' wide' pool') ss k.slots w') where
+      pub whole-second : y ≡ None → None ≡ compared_by (ordering T (view (lent h narrow wide pool)) (view (lent k narrow' wide' pool')) rs ss)
       whole-second e =
-          ap compared_by (sym (lent-second T h narrow wide pool c.formed k narrow' wide' pool' d.formed rs ss (subst (λ (z : Answer). Meets z H' ss k.slots w') e my)))
+          ap compared_by (sym (lent-second T h narrow wide pool c.formed k narrow' wide' pool' d.formed rs ss (subst (λ (z : Option ℕ). Meets z H' ss k.slots w') e my)))
 
-      module _ (n : ℕ) (en : x ≡ Traced n) (m : ℕ) (em : y ≡ Traced m) where
+      module _ (n : ℕ) (en : x ≡ Some n) (m : ℕ) (em : y ≡ Some m) where
         first-met : MetIn G' rs h.slots w n
-        first-met = subst (λ (z : Answer). Meets z G' rs h.slots w) en mx
+        first-met = subst (λ (z : Option ℕ). Meets z G' rs h.slots w) en mx
 
         second-met : MetIn H' ss k.slots w' m
-        second-met = subst (λ (z : Answer). Meets z H' ss k.slots w') em my
+        second-met = subst (λ (z : Option ℕ). Meets z H' ss k.slots w') em my
 
-        pub whole-can : (Fit h.slots (length narrow / 6) narrow wide pool × Fit k.slots (length narrow' / 6) narrow' wide' pool')
-            × (Queued T h.slots (length narrow / 6) narrow wide pool w n × Queued T k.slots (length narrow' / 6) narrow' wide' pool' w' m)
+        pub whole-can : Queued T h.slots (length narrow / 6) narrow wide pool w n × Queued T k.slots (length narrow' / 6) narrow' wide' pool' w' m
         whole-can = (
-          (formed-fit h narrow wide pool c.formed, formed-fit k narrow' wide' pool' d.formed),
-          (met-queued T h.tag h.slots (length narrow / 6) narrow wide pool rs w n first-met, met-queued T k.tag k.slots (length narrow' / 6) narrow' wide' pool' ss w' m second-met),
+          met-queued T h.tag h.slots (length narrow / 6) narrow wide pool rs w n first-met,
+          met-queued T k.tag k.slots (length narrow' / 6) narrow' wide' pool' ss w' m second-met,
         )
 
-        pub whole-found : ShortConstants T → length pool < 2 ^ 64 → (r : ℕ)
-            → r ≡ code ((numbers (length rs) (length ss) and_then lists_order (place_in (resolve_in h.tag h.slots (length narrow / 6) narrow) w (resolve_in k.tag k.slots (length narrow' / 6) narrow') w') rs ss)
-            and_then lists_order (slots_beside T (place_in (resolve_in h.tag h.slots (length narrow / 6) narrow) w (resolve_in k.tag k.slots (length narrow' / 6) narrow') w')
+        pub whole-found : ShortConstants T → length pool < 2 ^ 64 → (r : Ordering)
+            → r ≡ ((nat_cmp (length rs) (length ss) and_then slice_cmp (place_in (resolve_in h.tag h.slots (length narrow / 6) narrow) w (resolve_in k.tag k.slots (length narrow' / 6) narrow') w') rs ss)
+            and_then slice_cmp (slots_beside T (place_in (resolve_in h.tag h.slots (length narrow / 6) narrow) w (resolve_in k.tag k.slots (length narrow' / 6) narrow') w')
             (length narrow / 6) narrow wide pool (length narrow' / 6) narrow' wide' pool') (lows n w) (lows m w'))
-            → Is r ≡ compared_by (ordering T (view (lent h narrow wide pool)) (view (lent k narrow' wide' pool')) rs ss)
+            → Some r ≡ compared_by (ordering T (view (lent h narrow wide pool)) (view (lent k narrow' wide' pool')) rs ss)
         whole-found small short r e =
-            ap Is (e ∙ ap code (found-order T h.tag h.slots (length narrow / 6) narrow wide pool w n rs k.tag k.slots (length narrow' / 6) narrow' wide' pool' w' m ss
+            ap Some (e ∙ (found-order T h.tag h.slots (length narrow / 6) narrow wide pool w n rs k.tag k.slots (length narrow' / 6) narrow' wide' pool' w' m ss
             (formed-fit h narrow wide pool c.formed) (formed-fit k narrow' wide' pool' d.formed) first-met second-met small short))
             ∙ ap compared_by (sym (lent-turns T h narrow wide pool c.formed k narrow' wide' pool' d.formed rs ss first-met.traced second-met.traced))
 

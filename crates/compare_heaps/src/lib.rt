@@ -3,29 +3,24 @@
 #![tactic(auto)]
 
 ghost use Rattle.std.specs.Prelude.{◌≡◌, length};
+ghost use Rattle.std.specs.Ordering.{nat_cmp};
+ghost use Rattle.std.specs.Cmp.Lexicographic.{slice_cmp};
 ghost use Rattle.heap.specs.Lent.{lent, view};
 ghost use Rattle.ty.specs.View.{table_of};
-ghost use Rattle.mark.specs.Graph.{Fit};
-ghost use Rattle.alike.specs.Inner.ByTurns.{numbers, ◌and_then◌};
-ghost use Rattle.beside.specs.Inner.Codes.{code};
-ghost use Rattle.beside.specs.Inner.Ranks.{resolve_in, place_in};
+ghost use Rattle.alike.specs.Inner.ByTurns.{◌and_then◌};
+ghost use Rattle.beside.specs.Inner.Ranks.{slots_resolve, place_in};
 ghost use Rattle.compare.specs.Inner.Turns.{lows};
-ghost use Rattle.compare.specs.Inner.Lists.{lists_order};
 ghost use Rattle.saves.specs.Saves.{ordering};
 ghost use Rattle.compare_heaps.specs.Compared.{compared_by, CanMark};
-ghost use Rattle.compare_objects.specs.Inner.Sides.{slots_beside, Queued};
+ghost use Rattle.compare_objects.specs.Inner.Lent.{sides_order, QueuedIn};
 
+use beside::Met;
+use compare_objects::Side;
+use handle::Slots;
 use heap::Heap;
-use trace::Answer;
+use std::cmp::Ordering;
 
 mod meet; // what the roots of a heap reach, in the order first met
-
-// What is found: an order as a byte, 0 equal, 1 less, 2 greater; or that something reached in either heap can't be traced.
-#[derive(Clone, Copy)]
-pub enum Compared {
-    Is(u8),
-    Untraceable,
-}
 
 // The objects of both heaps in the order first met, n of the one and m of the other.
 fn compare_met(
@@ -33,48 +28,32 @@ fn compare_met(
     fields: &[u32],
     consts: &[u64],
     bytes: &[u8],
-    tag: u8,
-    slots: usize,
-    s: usize,
-    narrow: &[u32],
-    wide: &[u64],
-    pool: &[u8],
+    here: Side,
     work: &mut [u64],
     n: usize,
-    otag: u8,
-    oslots: usize,
-    os: usize,
-    onarrow: &[u32],
-    owide: &[u64],
-    opool: &[u8],
-    owork: &[u64],
+    there: Side,
+    turns: &[u64],
     m: usize,
-) -> u8
-    requires fit { Fit slots s narrow.now wide.now pool.now × Fit oslots os onarrow.now owide.now opool.now }
-    requires queued { Queued (table_of types.now fields.now consts.now bytes.now) slots s narrow.now wide.now pool.now work.old n }
-    requires queued_2 { Queued (table_of types.now fields.now consts.now bytes.now) oslots os onarrow.now owide.now opool.now owork.now m }
-    ensures { result ≡ code (lists_order (slots_beside (table_of types.now fields.now consts.now bytes.now)
-        (place_in (resolve_in tag slots s narrow.now) work.old (resolve_in otag oslots os onarrow.now) owork.now)
-        s narrow.now wide.now pool.now os onarrow.now owide.now opool.now)
-        (lows n work.old) (lows m owork.now)) }
+) -> Ordering
+    requires queued { QueuedIn (table_of types.now fields.now consts.now bytes.now) here work.old n }
+    requires queued_2 { QueuedIn (table_of types.now fields.now consts.now bytes.now) there turns.now m }
+    ensures { result ≡ slice_cmp (sides_order (table_of types.now fields.now consts.now bytes.now) here.entry work.old there.entry turns.now)
+        (lows n work.old) (lows m turns.now) }
 {
-    let mut k = 0;
-    while k < n {
+    for k in 0..n {
         if m <= k {
-            return 2;
+            return Ordering::Greater;
         }
         let i = (work[k] % 16777216) as usize;
-        let j = (owork[k] % 16777216) as usize;
-        let r = compare_objects::compare_slots(
-            types, fields, consts, bytes, tag, slots, s, narrow, wide, pool, work, i, otag, oslots,
-            os, onarrow, owide, opool, owork, j,
+        let j = (turns[k] % 16777216) as usize;
+        let found = compare_objects::compare_slots(
+            types, fields, consts, bytes, here, work, i, there, turns, j,
         );
-        if r != 0 {
-            return r;
+        if found.is_ne() {
+            return found;
         }
-        k += 1;
     }
-    beside::compare(k as u64, m as u64)
+    n.cmp(&m)
 }
 
 // Roots, then objects, of two heaps in which n and m objects were met.
@@ -83,133 +62,119 @@ fn compare_marked(
     fields: &[u32],
     consts: &[u64],
     bytes: &[u8],
-    tag: u8,
-    slots: usize,
-    s: usize,
-    narrow: &[u32],
-    wide: &[u64],
-    pool: &[u8],
+    here: Side,
     roots: &[u64],
     work: &mut [u64],
     n: usize,
-    otag: u8,
-    oslots: usize,
-    os: usize,
-    onarrow: &[u32],
-    owide: &[u64],
-    opool: &[u8],
-    oroots: &[u64],
-    owork: &[u64],
+    there: Side,
+    other_roots: &[u64],
+    turns: &[u64],
     m: usize,
-) -> u8
-    requires fit { Fit slots s narrow.now wide.now pool.now × Fit oslots os onarrow.now owide.now opool.now }
-    requires queued { Queued (table_of types.now fields.now consts.now bytes.now) slots s narrow.now wide.now pool.now work.old n }
-    requires queued_2 { Queued (table_of types.now fields.now consts.now bytes.now) oslots os onarrow.now owide.now opool.now owork.now m }
-    ensures { result ≡ code ((numbers (length roots.now) (length oroots.now) and_then lists_order
-        (place_in (resolve_in tag slots s narrow.now) work.old (resolve_in otag oslots os onarrow.now) owork.now)
-        roots.now oroots.now) and_then lists_order (slots_beside (table_of types.now fields.now consts.now bytes.now)
-        (place_in (resolve_in tag slots s narrow.now) work.old (resolve_in otag oslots os onarrow.now) owork.now)
-        s narrow.now wide.now pool.now os onarrow.now owide.now opool.now)
-        (lows n work.old) (lows m owork.now)) }
+) -> Ordering
+    requires queued { QueuedIn (table_of types.now fields.now consts.now bytes.now) here work.old n }
+    requires queued_2 { QueuedIn (table_of types.now fields.now consts.now bytes.now) there turns.now m }
+    ensures { result ≡ ((nat_cmp (length roots.now) (length other_roots.now) and_then slice_cmp
+        (place_in (slots_resolve here.entry.slots) work.old (slots_resolve there.entry.slots) turns.now)
+        roots.now other_roots.now) and_then slice_cmp
+        (sides_order (table_of types.now fields.now consts.now bytes.now) here.entry work.old there.entry turns.now)
+        (lows n work.old) (lows m turns.now)) }
 {
-    let c = compare::compare_roots(
-        tag, slots, s, narrow, work, roots, otag, oslots, os, onarrow, owork, oroots,
-    );
-    if c != 0 {
-        return c;
+    let a = Met {
+        slots: here.slots,
+        turns: work,
+    };
+    let b = Met {
+        slots: there.slots,
+        turns,
+    };
+    let found = compare::compare_roots(a, roots, b, other_roots);
+    if found.is_ne() {
+        return found;
     }
-    compare_met(
-        types, fields, consts, bytes, tag, slots, s, narrow, wide, pool, work, n, otag, oslots, os,
-        onarrow, owide, opool, owork, m,
-    )
+    compare_met(types, fields, consts, bytes, here, work, n, there, turns, m)
 }
 
-// The order of two well formed heaps, each with roots of its own. The scratch is zero, for more slots than there are: the first of the marks are lent.
-pub fn order_heaps(
+// The order of two well formed heaps, each with roots of its own; none where something reached in either can't be traced. The scratch is zero, for more slots than there are: the first of
+// the marks are lent.
+pub fn order_heaps<'a, 'b>(
     types: &[u64],
     fields: &[u32],
     consts: &[u64],
     bytes: &[u8],
     heap: Heap,
-    narrow: &[u32],
-    wide: &[u64],
-    pool: &[u8],
+    narrow: &'a [u32],
+    wide: &'a [u64],
+    pool: &'a [u8],
     other: Heap,
-    onarrow: &[u32],
-    owide: &[u64],
-    opool: &[u8],
+    other_narrow: &'b [u32],
+    other_wide: &'b [u64],
+    other_pool: &'b [u8],
     roots: &[u64],
-    oroots: &[u64],
+    other_roots: &[u64],
     marks: &mut [u8],
     work: &mut [u64],
-    omarks: &mut [u8],
-    owork: &mut [u64],
-) -> Compared
+    other_marks: &mut [u8],
+    other_work: &mut [u64],
+) -> Option<Ordering>
     requires can_mark { CanMark (lent heap narrow.now wide.now pool.now) marks.old work.old }
-    requires can_mark_2 { CanMark (lent other onarrow.now owide.now opool.now) omarks.old owork.old }
+    requires can_mark_2 { CanMark (lent other other_narrow.now other_wide.now other_pool.now) other_marks.old other_work.old }
     ensures { result ≡ compared_by (ordering (table_of types.now fields.now consts.now bytes.now)
-        (view (lent heap narrow.now wide.now pool.now)) (view (lent other onarrow.now owide.now opool.now))
-        roots.now oroots.now) }
+        (view (lent heap narrow.now wide.now pool.now)) (view (lent other other_narrow.now other_wide.now other_pool.now))
+        roots.now other_roots.now) }
 {
-    let s = narrow.len() / 6;
-    let os = onarrow.len() / 6;
-    let a = meet::first_met(
+    let here = Side {
+        slots: Slots {
+            tag: heap.tag,
+            slots: heap.slots,
+            s: narrow.len() / 6,
+            narrow,
+        },
+        wide,
+        pool,
+    };
+    let there = Side {
+        slots: Slots {
+            tag: other.tag,
+            slots: other.slots,
+            s: other_narrow.len() / 6,
+            narrow: other_narrow,
+        },
+        wide: other_wide,
+        pool: other_pool,
+    };
+    let n = meet::first_met(
         types,
         fields,
         consts,
         bytes,
-        heap.tag,
-        heap.slots,
-        s,
-        narrow,
-        wide,
-        pool,
+        here,
         roots,
         &mut marks[..heap.slots],
         work,
-    );
-    let Answer::Traced(n) = a else {
-        return Compared::Untraceable;
-    };
-    match meet::first_met(
+    )?;
+    let second = meet::first_met(
         types,
         fields,
         consts,
         bytes,
-        other.tag,
-        other.slots,
-        os,
-        onarrow,
-        owide,
-        opool,
-        oroots,
-        &mut omarks[..other.slots],
-        owork,
-    ) {
-        Answer::Untraceable => Compared::Untraceable,
-        Answer::Traced(m) => Compared::Is(compare_marked(
-            types,
-            fields,
-            consts,
-            bytes,
-            heap.tag,
-            heap.slots,
-            s,
-            narrow,
-            wide,
-            pool,
-            roots,
-            work,
-            n,
-            other.tag,
-            other.slots,
-            os,
-            onarrow,
-            owide,
-            opool,
-            oroots,
-            owork,
-            m,
-        )),
-    }
+        there,
+        other_roots,
+        &mut other_marks[..other.slots],
+        other_work,
+    );
+    let m = second?;
+    Some(compare_marked(
+        types,
+        fields,
+        consts,
+        bytes,
+        here,
+        roots,
+        work,
+        n,
+        there,
+        other_roots,
+        other_work,
+        m,
+    ))
 }

@@ -5,10 +5,9 @@ use mathlib.Core.Option.{none, some}
 use mathlib.Core.List.{List, [], ◌∷◌}
 use lib.ListN.{length, get_or, take, drop, length-drop, drop_of_length-le}
 use lib.Seq.{take_all}
-use lib.Dec.{eqb}
 use native.Mathlib.Decide.{dec_lt}
 use native.Mathlib.Omega.{arith}
-use Rattle.std.specs.Prelude.{if◌then◌else◌}
+use Rattle.std.specs.declared.cmp.Ordering.{Ordering}
 use Rattle.word.specs.Result.{Result}
 use Rattle.ty.specs.Types.{Table}
 use Rattle.trace.specs.Places.{Places, shown_places}
@@ -17,27 +16,15 @@ use Rattle.trace.specs.declared.Goal.TheVariants.{Beside as Goal-as-Beside}
 use Rattle.trace.specs.declared.Answer.{Answer}
 use Rattle.trace.specs.declared.Answer.TheVariants.{Traced, Untraceable}
 use Rattle.trace.proofs.BesideLaws.{beside-told, beside_none}
-use Rattle.alike.specs.Order.{Order, order}
-use Rattle.alike.specs.Inner.ByTurns.{numbers, ◌and_then◌}
+use Rattle.alike.specs.Order.{order}
+use Rattle.alike.specs.Inner.ByTurns.{◌and_then◌}
 use Rattle.alike.specs.Inner.Beside.{Beside, beside_first, beside_all, beside_end}
-use Rattle.beside.specs.Inner.Codes.{code, then_code}
+use Rattle.beside.specs.Inner.Codes.{order_of}
 use Rattle.beside.specs.Inner.Ranks.{place_in}
 use Rattle.beside.specs.Inner.Found.{codes_of}
-use Rattle.beside.proofs.Codings.{then-code}
-use Rattle.compare.proofs.Going.{then_by}
-use Rattle.compare_objects.specs.declared.Head.{Head}
-use Rattle.compare_objects.specs.Inner.Sides.{head_order, data_beside}
-
--- ---- numbers
-
-pub heads : (u v : Head) (a b c d x y r : ℕ) → a ≡ code (numbers u.kind v.kind) → b ≡ code (numbers u.t v.t) → c ≡ code (numbers u.start v.start)
-    → d ≡ code (numbers (u.to - u.from) (v.to - v.from)) → x ≡ (if eqb c 0 then d else c) → y ≡ (if eqb b 0 then x else b) → r ≡ (if eqb a 0 then y else a) → r ≡ code (head_order u v)
-heads u v a b c d x y r ea eb ec ed ex ey er =
-    let k = numbers u.kind v.kind in
-    let t = numbers u.t v.t in
-    let s = numbers u.start v.start in
-    let n = numbers (u.to - u.from) (v.to - v.from) in
-    then_by k (t and_then s and_then n) a y r er ea (then_by t (s and_then n) b x y ey eb (then_by s n c d x ex ec ed))
+use Rattle.beside.proofs.Codings.{order-code}
+use Rattle.alike.proofs.Turns.{then-assoc}
+use Rattle.compare_objects.specs.Inner.Sides.{data_beside}
 
 -- ---- parts of data: what is visible from start on, or from where the data ends
 
@@ -76,7 +63,7 @@ module _ (s f : ℕ) (b : List ℕ) (e : f ≡ min s (length b)) where
 module _ (T : Table) (kind t start : ℕ) (b c work : List ℕ) (otag oslots os : ℕ) (R : ℕ → Result ℕ) (onarrow owork : List ℕ) (r : Answer) (found work' : List ℕ)
     (er : told r found work' ≡ handing_at (aim (Goal-as-Beside otag oslots os) R onarrow (drop start c) owork) (drop start b) (raw_of (0 ∷ 0 ∷ []) work 0) (shown_places T kind t start b))
     (can : shown_places T kind t start b ≡ none → ⊥) where
-  abbrev place : ℕ → ℕ → Order
+  abbrev place : ℕ → ℕ → Ordering
   place = place_in R work (resolve_in otag oslots os onarrow) owork
 
   pub data-traced : {X : Type 0} → r ≡ Untraceable → X
@@ -100,32 +87,36 @@ module _ (T : Table) (kind t start : ℕ) (b c work : List ℕ) (otag oslots os 
     pub data-kept : work' ≡ work
     data-kept = by-places (λ ps e. ap (λ (x : Raw). x.words) (raw-is ps e))
 
-    module _ (even : length b ≡ length c) (from : ℕ) (ef : from ≡ min start (length b)) (hidden shown inner out : ℕ)
-        (eh : hidden ≡ code (order (take (from - 0) (drop 0 b)) (take (from - 0) (drop 0 c))))
-        (es : shown ≡ then_code (get_or found 0 0) (order (take ((length b - from) - done) (drop done (take (length b - from) (drop from b)))) (take ((length b - from) - done) (drop done (take (length c - from) (drop from c))))))
-        (ei : inner ≡ (if eqb shown 0 then get_or found 1 0 else shown)) (eo : out ≡ (if eqb hidden 0 then inner else hidden)) where
+    module _ (even : length b ≡ length c) (from : ℕ) (ef : from ≡ min start (length b)) (hidden shown last handles : Ordering)
+        (eh : hidden ≡ order (take (from - 0) (drop 0 b)) (take (from - 0) (drop 0 c))) (es : shown ≡ order_of (get_or found 0 0))
+        (el : last ≡ order (take ((length b - from) - done) (drop done (take (length b - from) (drop from b)))) (take ((length b - from) - done) (drop done (take (length c - from) (drop from c)))))
+        (ei : handles ≡ order_of (get_or found 1 0)) where
       ef' : from ≡ min start (length c)
       ef' = omega arith
 
-      hidden-is : hidden ≡ code (order (take start b) (take start c))
+      hidden-is : hidden ≡ order (take start b) (take start c)
       hidden-is =
           let z : from - 0 ≡ from = omega arith in
-          eh ∙ ap (λ (k : ℕ). code (order (take k b) (take k c))) z ∙ ap code (λ i. order (front_same start from b ef i) (front_same start from c ef' i))
+          eh ∙ ap (λ (k : ℕ). order (take k b) (take k c)) z ∙ (λ i. order (front_same start from b ef i) (front_same start from c ef' i))
 
-      tails : order (take ((length b - from) - done) (drop done (take (length b - from) (drop from b)))) (take ((length b - from) - done) (drop done (take (length c - from) (drop from c)))) ≡ order (drop done (drop start b)) (drop done (drop start c))
-      tails = let n : length b - from ≡ length c - from = omega arith in λ i. order (tail-same start from b ef (length b - from) done refl i) (tail-same start from c ef' (length b - from) done n i)
+      last-is : last ≡ order (drop done (drop start b)) (drop done (drop start c))
+      last-is =
+          let n : length b - from ≡ length c - from = omega arith in
+          el ∙ (λ i. order (tail-same start from b ef (length b - from) done refl i) (tail-same start from c ef' (length b - from) done n i))
 
-      pub data_is : out ≡ code (data_beside place start b c (shown_places T kind t start b))
+      -- as the code puts them together
+      pub data_is : (((hidden and_then shown) and_then last) and_then handles) ≡ data_beside place start b c (shown_places T kind t start b)
       unfolding data_beside
       data_is = by-places (λ ps e.
           let raw = raw-is ps e in
           let y : Beside = along ps in
-          let f0 : get_or found 0 0 ≡ code y.bytes = ap (λ (x : Raw). get_or x.marks 0 0) raw in
-          let f1 : get_or found 1 0 ≡ code y.handles = ap (λ (x : Raw). get_or x.marks 1 0) raw in
+          let f0 : shown ≡ y.bytes = es ∙ ap (λ (x : Raw). order_of (get_or x.marks 0 0)) raw ∙ order-code y.bytes in
+          let f1 : handles ≡ y.handles = ei ∙ ap (λ (x : Raw). order_of (get_or x.marks 1 0)) raw ∙ order-code y.handles in
           let dn : done ≡ y.done = ap (λ (x : Raw). x.count) raw in
-          let tail : Order = order (drop y.done (drop start b)) (drop y.done (drop start c)) in
-          let s1 : shown ≡ code (y.bytes and_then tail) =
-          es ∙ (λ i. then_code (f0 i) (tails i)) ∙ ap (λ (d : ℕ). then_code (code y.bytes) (order (drop d (drop start b)) (drop d (drop start c)))) dn ∙ then-code y.bytes tail in
-          let s2 : inner ≡ code (beside_end place (drop start b) (drop start c) y) = then_by (y.bytes and_then tail) y.handles shown (get_or found 1 0) inner ei s1 f1 in
-          then_by (order (take start b) (take start c)) (beside_end place (drop start b) (drop start c) y) hidden inner out eo hidden-is s2
-          ∙ ap code (ap (data_beside place start b c) (sym e)))
+          let front : Ordering = order (take start b) (take start c) in
+          let tail : Ordering = order (drop y.done (drop start b)) (drop y.done (drop start c)) in
+          (λ i. ((hidden-is i and_then f0 i) and_then last-is i) and_then f1 i)
+          ∙ ap (λ (d : ℕ). ((front and_then y.bytes) and_then order (drop d (drop start b)) (drop d (drop start c))) and_then y.handles) dn
+          ∙ ap (λ (o : Ordering). o and_then y.handles) (then-assoc front y.bytes tail)
+          ∙ then-assoc front (y.bytes and_then tail) y.handles
+          ∙ ap (data_beside place start b c) (sym e))

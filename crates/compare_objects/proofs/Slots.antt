@@ -1,106 +1,118 @@
 -- The objects of two slots: their columns and data in the runs. Assumes nothing.
 use Prim.Native.Nat.{ℕ, ◌+◌, ◌-◌, ◌*◌, ◌≤◌, ◌<◌}
-use mathlib.Core.Path.{◌≡◌, sym, ap, ◌∙◌}
+use mathlib.Core.Path.{◌≡◌, refl, sym, ap, ◌∙◌}
+use mathlib.Core.Bool.{true, false}
 use mathlib.Core.Option.{none}
 use mathlib.Core.List.{List}
 use lib.ListN.{length, get_or, take, drop, length-drop}
 use lib.Seq.{length-take-le}
 use native.Mathlib.Omega.{arith}
+use Rattle.std.specs.declared.cmp.Ordering.{Ordering}
+use Rattle.std.specs.declared.cmp.Ordering.TheVariants.{Less, Equal, Greater}
+use Rattle.std.specs.Ordering.{is_ne, nat_cmp}
+use Rattle.std.specs.Cmp.{IsTotalOrder}
+use Rattle.std.proofs.lemmas.Map.Lookups.{exact_unsigned}
 use Rattle.word.specs.Run.{run}
 use Rattle.word.proofs.RunLaws.{run-get, first-get}
 use Rattle.heap.specs.Packing.{start_of, data_at}
 use Rattle.ty.specs.Types.{Table}
 use Rattle.trace.specs.Places.{shown_places}
 use Rattle.mark.specs.Graph.{Fit}
-use Rattle.alike.specs.Order.{Order, Order.less, Order.equal, Order.greater}
-use Rattle.alike.specs.Inner.ByTurns.{◌and_then◌, numbers}
-use Rattle.alike.proofs.Turns.{numbers-equal}
-use Rattle.beside.specs.Inner.Codes.{code}
-use Rattle.compare.proofs.Going.{code-equal, then-first, then-second}
-use Rattle.compare_objects.specs.declared.Head.{Head}
+use Rattle.alike.specs.Inner.ByTurns.{◌and_then◌}
+use Rattle.compare.proofs.Going.{first-decides, second-decides, is-equal}
+use Rattle.compare_objects.specs.declared.side.Head.{Head}
 use Rattle.compare_objects.specs.Inner.Sides.{head_of, head_order, data_beside, places_in, slots_beside}
 
--- the numbers that are read
-pub head_read : (S : ℕ) (narrow wide : List ℕ) (i a : ℕ) → i < S → a ≡ start_of (run S S wide) i
-    → record { kind = get_or narrow (S + i) 0; t = get_or narrow (2 * S + i) 0; start = get_or wide i 0; from = a; to = get_or wide (S + i) 0 } ≡ head_of S narrow wide i
-unfolding head_of
-head_read S narrow wide i a h ea =
-    λ j. record { kind = sym (run-get S S narrow i h) j; t = sym (run-get S (2 * S) narrow i h) j; start = sym (first-get S wide i h) j; from = ea j; to = sym (run-get S S wide i h) j }
+-- ---- one slot
 
--- one slot's data
-module _ (slots S : ℕ) (narrow wide pool : List ℕ) (fit : Fit slots S narrow wide pool) (i : ℕ) (h : i < slots) (x : Head) (ex : x ≡ head_of S narrow wide i) where
-  from_is : x.from ≡ start_of (run S S wide) i
-  unfolding head_of
-  from_is = ap (λ (y : Head). y.from) ex
+module _ (slots S : ℕ) (narrow wide pool : List ℕ) (fit : Fit slots S narrow wide pool) (i : ℕ) (h : i < slots) where
+  pub head-room : (S + i < length narrow) × (2 * S + i < length narrow) × (i < length wide) × (S + i < length wide)
+  head-room = (omega (arith, fit.runs.used, fit.types), omega (arith, fit.runs.used, fit.types), omega (arith, fit.runs.used, fit.ends), omega (arith, fit.runs.used, fit.ends))
 
-  to_is : x.to ≡ get_or (run S S wide) i 0
-  unfolding head_of
-  to_is = ap (λ (y : Head). y.to) ex
+  end-is : get_or (run S S wide) i 0 ≡ get_or wide (S + i) 0
+  end-is = run-get S S wide i (omega (arith, fit.runs.used))
 
-  start_is : get_or (run S 0 wide) i 0 ≡ x.start
-  unfolding head_of
-  start_is = ap (λ (y : Head). y.start) (sym ex)
+  module _ (a : ℕ) (ea : a ≡ start_of (run S S wide) i) where
+    pub head-rises : a ≤ get_or wide (S + i) 0
+    head-rises = omega (arith, fit.rising i h, end-is)
 
-  pub head-rises : x.from ≤ x.to
-  head-rises = omega (arith, fit.rising i h, from_is, to_is)
+    -- the numbers that are read
+    pub head_read : record { kind = get_or narrow (S + i) 0; t = get_or narrow (2 * S + i) 0; start = get_or wide i 0; size = get_or wide (S + i) 0 - a } ≡ head_of S narrow wide i
+    unfolding head_of
+    head_read =
+        let l : i < S = omega (arith, fit.runs.used) in
+        λ j. record { kind = sym (run-get S S narrow i l) j; t = sym (run-get S (2 * S) narrow i l) j; start = sym (first-get S wide i l) j; size = sym end-is j - ea j }
 
-  pub head-ends : x.to ≤ length pool
-  head-ends = omega (arith, fit.pooled i h, to_is)
+    -- the data that is lent
+    pub data_read : take (get_or wide (S + i) 0 - a) (drop a pool) ≡ data_at (run S S wide) pool i
+    unfolding data_at
+    data_read = λ j. take (sym end-is j - ea j) (drop (ea j) pool)
 
-  data-at : data_at (run S S wide) pool i ≡ take (x.to - x.from) (drop x.from pool)
-  unfolding data_at
-  data-at = λ j. take (sym to_is j - sym from_is j) (drop (sym from_is j) pool)
+  pub head-ends : get_or wide (S + i) 0 ≤ length pool
+  head-ends = omega (arith, fit.pooled i h, end-is)
 
-  data-size : length (take (x.to - x.from) (drop x.from pool)) ≡ x.to - x.from
-  data-size = length-take-le (x.to - x.from) (drop x.from pool) (omega (arith, length-drop x.from pool, head-ends))
+  -- it is as long as the numbers say
+  pub data-size : length (data_at (run S S wide) pool i) ≡ (head_of S narrow wide i).size
+  unfolding data_at head_of
+  data-size =
+      length-take-le (get_or (run S S wide) i 0 - start_of (run S S wide) i) (drop (start_of (run S S wide) i) pool)
+      (omega (arith, length-drop (start_of (run S S wide) i) pool, fit.pooled i h, fit.rising i h))
 
-  places-at : (T : Table) → places_in T S narrow wide pool i ≡ shown_places T x.kind x.t x.start (take (x.to - x.from) (drop x.from pool))
-  unfolding places_in head_of
-  places-at T = λ j. shown_places T (sym ex j).kind (sym ex j).t (sym ex j).start (data-at j)
+-- ---- two heads
 
-  pub slot-traced : (T : Table) → (places_in T S narrow wide pool i ≡ none → ⊥) → shown_places T x.kind x.t x.start (take (x.to - x.from) (drop x.from pool)) ≡ none → ⊥
-  slot-traced T f e = f (places-at T ∙ e)
+-- the derived order is that of the four numbers
+pub heads-met : {C : Head → Head → Ordering} → IsTotalOrder C → ((x y : Head) → C x y ≡ head_order x y) → (x y : Head) (r : Ordering) → r ≡ C x y → r ≡ head_order x y
+heads-met o f x y r e = e ∙ f x y
 
 -- the data of two slots whose numbers are equal is equally long
-last-equal : (p q u o : Order) → (p and_then (q and_then (u and_then o))) ≡ equal → o ≡ equal
-last-equal less q u o e = let c : ◌≡◌ {A = ℕ} 0 1 = cc in absurd (omega arith)
-last-equal greater q u o e = let c : ◌≡◌ {A = ℕ} 0 1 = cc in absurd (omega arith)
-last-equal equal less u o e = let c : ◌≡◌ {A = ℕ} 0 1 = cc in absurd (omega arith)
-last-equal equal greater u o e = let c : ◌≡◌ {A = ℕ} 0 1 = cc in absurd (omega arith)
-last-equal equal equal less o e = let c : ◌≡◌ {A = ℕ} 0 1 = cc in absurd (omega arith)
-last-equal equal equal greater o e = let c : ◌≡◌ {A = ℕ} 0 1 = cc in absurd (omega arith)
-last-equal equal equal equal o e = e
+last-equal : (p q u o : Ordering) → (p and_then (q and_then (u and_then o))) ≡ Equal → o ≡ Equal
+last-equal Less q u o e = let c : ◌≡◌ {A = ℕ} 0 1 = cc in absurd (omega arith)
+last-equal Greater q u o e = let c : ◌≡◌ {A = ℕ} 0 1 = cc in absurd (omega arith)
+last-equal Equal Less u o e = let c : ◌≡◌ {A = ℕ} 0 1 = cc in absurd (omega arith)
+last-equal Equal Greater u o e = let c : ◌≡◌ {A = ℕ} 0 1 = cc in absurd (omega arith)
+last-equal Equal Equal Less o e = let c : ◌≡◌ {A = ℕ} 0 1 = cc in absurd (omega arith)
+last-equal Equal Equal Greater o e = let c : ◌≡◌ {A = ℕ} 0 1 = cc in absurd (omega arith)
+last-equal Equal Equal Equal o e = e
 
-pub slots-even : (slots S : ℕ) (narrow wide pool : List ℕ) (fit : Fit slots S narrow wide pool) (i : ℕ) (h : i < slots) (x : Head) (ex : x ≡ head_of S narrow wide i)
-    (slots' S' : ℕ) (narrow' wide' pool' : List ℕ) (fit' : Fit slots' S' narrow' wide' pool') (j : ℕ) (h' : j < slots') (y : Head) (ey : y ≡ head_of S' narrow' wide' j)
-    (r : ℕ) → r ≡ code (head_order x y) → r ≡ 0 → length (take (x.to - x.from) (drop x.from pool)) ≡ length (take (y.to - y.from) (drop y.from pool'))
-slots-even slots S narrow wide pool fit i h x ex slots' S' narrow' wide' pool' fit' j h' y ey r er z =
-    let n = numbers-equal (x.to - x.from) (y.to - y.from)
-    (last-equal (numbers x.kind y.kind) (numbers x.t y.t) (numbers x.start y.start) (numbers (x.to - x.from) (y.to - y.from)) (code-equal (head_order x y) (sym er ∙ z))) in
-    data-size slots S narrow wide pool fit i h x ex ∙ n ∙ sym (data-size slots' S' narrow' wide' pool' fit' j h' y ey)
+-- ---- two slots
 
--- two slots
-module _ (T : Table) (place : ℕ → ℕ → Order)
-    (slots S : ℕ) (narrow wide pool : List ℕ) (fit : Fit slots S narrow wide pool) (i : ℕ) (h : i < slots) (x : Head) (ex : x ≡ head_of S narrow wide i)
-    (slots' S' : ℕ) (narrow' wide' pool' : List ℕ) (fit' : Fit slots' S' narrow' wide' pool') (j : ℕ) (h' : j < slots') (y : Head) (ey : y ≡ head_of S' narrow' wide' j) where
-  abbrev v : List ℕ
-  v = take (x.to - x.from) (drop x.from pool)
+module _ (slots S : ℕ) (narrow wide pool : List ℕ) (fit : Fit slots S narrow wide pool) (i : ℕ) (h : i < slots)
+    (slots' S' : ℕ) (narrow' wide' pool' : List ℕ) (fit' : Fit slots' S' narrow' wide' pool') (j : ℕ) (h' : j < slots')
+    (x y : Head) (ex : x ≡ head_of S narrow wide i) (ey : y ≡ head_of S' narrow' wide' j) (r : Ordering) (er : r ≡ head_order x y) where
+  module _ (v w : List ℕ) (ev : v ≡ data_at (run S S wide) pool i) (ew : w ≡ data_at (run S' S' wide') pool' j) where
+    pub slots-even : is_ne r ≡ false → length v ≡ length w
+    slots-even z =
+        let n = exact_unsigned x.size y.size (last-equal (nat_cmp x.kind y.kind) (nat_cmp x.t y.t) (nat_cmp x.start y.start) (nat_cmp x.size y.size) (sym er ∙ is-equal r z)) in
+        ap length ev ∙ data-size slots S narrow wide pool fit i h ∙ ap (λ (k : Head). k.size) (sym ex)
+        ∙ n
+        ∙ ap (λ (k : Head). k.size) ey ∙ sym (data-size slots' S' narrow' wide' pool' fit' j h') ∙ ap length (sym ew)
 
-  abbrev w : List ℕ
-  w = take (y.to - y.from) (drop y.from pool')
+    places-at : (T : Table) → places_in T S narrow wide pool i ≡ shown_places T x.kind x.t x.start v
+    unfolding places_in head_of
+    places-at T = λ k. shown_places T (sym ex k).kind (sym ex k).t (sym ex k).start (sym ev k)
 
-  abbrev body : Order
-  body = data_beside place x.start v w (shown_places T x.kind x.t x.start v)
+    pub slot-traced : (T : Table) → (places_in T S narrow wide pool i ≡ none → ⊥) → shown_places T x.kind x.t x.start v ≡ none → ⊥
+    slot-traced T f e = f (places-at T ∙ e)
 
-  beside-is : slots_beside T place S narrow wide pool S' narrow' wide' pool' i j ≡ head_order x y and_then body
-  unfolding slots_beside
-  beside-is =
-      λ z. head_order (sym ex z) (sym ey z)
-      and_then data_beside place (start_is slots S narrow wide pool fit i h x ex z) (data-at slots S narrow wide pool fit i h x ex z) (data-at slots' S' narrow' wide' pool' fit' j h' y ey z) (places-at slots S narrow wide pool fit i h x ex T z)
+  module _ (T : Table) (place : ℕ → ℕ → Ordering) where
+    pub slots-unlike : is_ne r ≡ true → r ≡ slots_beside T place S narrow wide pool S' narrow' wide' pool' i j
+    unfolding slots_beside
+    slots-unlike n =
+        first-decides r (data_beside place (get_or (run S 0 wide) i 0) (data_at (run S S wide) pool i) (data_at (run S' S' wide') pool' j) (places_in T S narrow wide pool i)) n
+        ∙ ap (λ (o : Ordering). o and_then data_beside place (get_or (run S 0 wide) i 0) (data_at (run S S wide) pool i) (data_at (run S' S' wide') pool' j) (places_in T S narrow wide pool i))
+        (er ∙ (λ k. head_order (ex k) (ey k)))
 
-  module _ (r : ℕ) (er : r ≡ code (head_order x y)) where
-    pub slots-unlike : (r ≡ 0 → ⊥) → r ≡ code (slots_beside T place S narrow wide pool S' narrow' wide' pool' i j)
-    slots-unlike n = then-first (head_order x y) body r er n ∙ ap code (sym beside-is)
+    module _ (v w : List ℕ) (ev : v ≡ data_at (run S S wide) pool i) (ew : w ≡ data_at (run S' S' wide') pool' j) where
+      body-is : data_beside place x.start v w (shown_places T x.kind x.t x.start v)
+          ≡ data_beside place (get_or (run S 0 wide) i 0) (data_at (run S S wide) pool i) (data_at (run S' S' wide') pool' j) (places_in T S narrow wide pool i)
+      unfolding head_of
+      body-is = λ k. data_beside place (ex k).start (ev k) (ew k) (sym (places-at v w ev ew T) k)
 
-    pub slots-then : r ≡ 0 → (o : ℕ) → o ≡ code body → o ≡ code (slots_beside T place S narrow wide pool S' narrow' wide' pool' i j)
-    slots-then z o e = e ∙ then-second (head_order x y) body r er z ∙ ap code (sym beside-is)
+      pub slots-then : is_ne r ≡ false → (o : Ordering) → o ≡ data_beside place x.start v w (shown_places T x.kind x.t x.start v)
+          → o ≡ slots_beside T place S narrow wide pool S' narrow' wide' pool' i j
+      unfolding slots_beside
+      slots-then z o e =
+          e ∙ body-is
+          ∙ second-decides r (data_beside place (get_or (run S 0 wide) i 0) (data_at (run S S wide) pool i) (data_at (run S' S' wide') pool' j) (places_in T S narrow wide pool i)) z
+          ∙ ap (λ (o : Ordering). o and_then data_beside place (get_or (run S 0 wide) i 0) (data_at (run S S wide) pool i) (data_at (run S' S' wide') pool' j) (places_in T S narrow wide pool i))
+          (er ∙ (λ k. head_order (ex k) (ey k)))

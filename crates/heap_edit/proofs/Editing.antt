@@ -8,7 +8,7 @@ use Rattle.refusal.specs.declared.Refusal.TheVariants.{NoRoom}
 use Rattle.refusal.specs.Told.{Reply}
 use Rattle.std.specs.Prelude.{Ok, Err}
 use Rattle.handle.specs.Handle.{told}
-use Rattle.std.specs.Prelude.{Result as Outcome, Ok, Err}
+use Rattle.std.specs.Prelude.{Result as Outcome}
 use Rattle.refusal.specs.declared.Refusal.{Refusal}
 use Rattle.heap.specs.State.{Slot, slot_at, data_size}
 use Rattle.heap.specs.Lent.{Lent, lent, stored, view, slot_count, pool_size}

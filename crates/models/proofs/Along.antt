@@ -8,8 +8,9 @@ use lib.Seq.{drop-drop, length-take-le}
 use borrow.Author.Tests.{le-leb, lt-ltb, le-ltb}
 use native.Mathlib.Nat.{le_of_suc-le-suc, not-suc-le-zero, add-zero}
 use native.Mathlib.Omega.{arith}
+use Rattle.std.specs.declared.cmp.Ordering.{Ordering}
 use Rattle.reach.specs.Reach.{◌∈◌}
-use Rattle.alike.specs.Order.{Order, order}
+use Rattle.alike.specs.Order.{order}
 use Rattle.alike.specs.Inner.ByTurns.{◌and_then◌}
 use Rattle.alike.proofs.Turns.{order-append}
 use Rattle.places.specs.PlacesRise.{Apart}
@@ -97,4 +98,4 @@ rest-along (p ∷ ps) done b c e a =
     ap (λ (l : List ℕ). order l (outside (p ∷ ps) done (drop done c))) x
     ∙ ap (λ (l : List ℕ). order (take m (drop done b) ++ outside ps (p + 8) (drop (p + 8) b)) l) y
     ∙ order-append (take m (drop done b)) (take m (drop done c)) (outside ps (p + 8) (drop (p + 8) b)) (outside ps (p + 8) (drop (p + 8) c)) (λ u v w. n)
-    ∙ ap (λ (o : Order). order (take m (drop done b)) (take m (drop done c)) and_then o) (rest-along ps (p + 8) b c e a.1)
+    ∙ ap (λ (o : Ordering). order (take m (drop done b)) (take m (drop done c)) and_then o) (rest-along ps (p + 8) b c e a.1)

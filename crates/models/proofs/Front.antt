@@ -12,6 +12,10 @@ use borrow.Author.Tests.{leb-true, leb-false, lt-leb}
 use native.Mathlib.Nat.{le_of_suc-le-suc, not-suc-le-zero}
 use native.Mathlib.Omega.{arith}
 use Rattle.std.specs.Prelude.{if◌then◌else◌}
+use Rattle.std.specs.declared.cmp.Ordering.{Ordering}
+use Rattle.std.specs.declared.cmp.Ordering.TheVariants.{Less, Equal, Greater}
+use Rattle.std.specs.Ordering.{nat_cmp}
+use Rattle.std.proofs.lemmas.Map.Lookups.{exact_unsigned}
 use Rattle.ty.specs.Types.{Table}
 use Rattle.ty.specs.Walks.{desc_size, has_handles}
 use Rattle.ty.specs.declared.Word.{Word}
@@ -19,10 +23,10 @@ use Rattle.ty.specs.declared.Word.TheVariants.{Is, Over}
 use Rattle.trace.specs.Places.{Places, only_if, places_at, handles_places, kind_places, handle_at, words_at, handles_of, shown_places}
 use Rattle.reach.specs.Reach.{◌∈◌}
 use Rattle.alike.specs.Same.{Object, Model, shown, Counted, OneTable}
-use Rattle.alike.specs.Order.{Order, Order.less, Order.equal, Order.greater, order, places_code}
-use Rattle.alike.specs.Inner.ByTurns.{numbers, ◌and_then◌, object_order}
+use Rattle.alike.specs.Order.{order, places_code}
+use Rattle.alike.specs.Inner.ByTurns.{◌and_then◌, object_order}
 use Rattle.alike.proofs.Orders.{order-equal}
-use Rattle.alike.proofs.Turns.{then-after, numbers-equal, order-append}
+use Rattle.alike.proofs.Turns.{then-after, order-append}
 use Rattle.places.proofs.Least.{Least, places-least}
 use Rattle.places.proofs.PlacesRise.{places_if, kind-places}
 use Rattle.models.specs.Objects.{in_place, outside, moved, slot_places, held, held_at, object_of, model_of}
@@ -83,10 +87,10 @@ outside-front ps i (suc m) (b ∷ bs) f h =
 front-split : (ps : List ℕ) (n : ℕ) (b : List ℕ) → ((p : ℕ) → p ∈ ps → 0 + n ≤ p) → n ≤ length b → outside ps 0 b ≡ take n b ++ drop n (outside ps 0 b)
 front-split ps n b f h = sym (take-append-drop n (outside ps 0 b)) ∙ ap (λ (l : List ℕ). l ++ drop n (outside ps 0 b)) (outside-front ps 0 n b f h).0
 
-then-first : (a b : Order) → a and_then b ≡ equal → a ≡ equal
-then-first less b e = e
-then-first equal b e = refl
-then-first greater b e = e
+then-first : (a b : Ordering) → a and_then b ≡ Equal → a ≡ Equal
+then-first Less b e = e
+then-first Equal b e = refl
+then-first Greater b e = e
 
 -- how many there are is said by the places and the length
 pub outside-length : (ps : List ℕ) (i : ℕ) (cs bs : List ℕ) → length cs ≡ length bs → length (outside ps i cs) ≡ length (outside ps i bs)
@@ -158,12 +162,12 @@ slot_same T k t s b c ps qs l e d u v w = go (leb s (length b)) refl (leb s (len
 
 -- the order of the bytes outside of two such slots goes by the places of the one alone
 pub rest-beside : (T : Table) (k t s : ℕ) (b c ps qs : List ℕ) → length b ≡ length c → slot_places T k t s b ≡ some ps → slot_places T k t s c ≡ some qs
-    → (order (outside ps 0 b) (outside qs 0 c) ≡ order (outside ps 0 b) (outside ps 0 c)) × (order (outside ps 0 b) (outside ps 0 c) ≡ equal → ps ≡ qs)
+    → (order (outside ps 0 b) (outside qs 0 c) ≡ order (outside ps 0 b) (outside ps 0 c)) × (order (outside ps 0 b) (outside ps 0 c) ≡ Equal → ps ≡ qs)
 unfolding slot_places shown_places
 rest-beside T k t s b c ps qs l e d = go (leb s (length b)) refl (leb s (length c)) refl e d
   where
     Goal : Type 0
-    Goal = (order (outside ps 0 b) (outside qs 0 c) ≡ order (outside ps 0 b) (outside ps 0 c)) × (order (outside ps 0 b) (outside ps 0 c) ≡ equal → ps ≡ qs)
+    Goal = (order (outside ps 0 b) (outside qs 0 c) ≡ order (outside ps 0 b) (outside ps 0 c)) × (order (outside ps 0 b) (outside ps 0 c) ≡ Equal → ps ≡ qs)
 
     go : (x : Bool) → leb s (length b) ≡ x → (y : Bool) → leb s (length c) ≡ y → moved s (if x then kind_places T k t (drop s b) else some []) ≡ some ps
         → moved s (if y then kind_places T k t (drop s c) else some []) ≡ some qs → Goal
@@ -249,11 +253,11 @@ module _ (G H : Model) (q p : List ℕ) (T : Table) where
   beside k t s b k' t' s' c ps qs e d =
       let v = order (outside ps 0 b) (outside qs 0 c) and_then order (places_code G q (map (λ (p : ℕ). handle_at b p) ps)) (places_code H p (map (λ (p : ℕ). handle_at c p) qs)) in
       let w = order (outside ps 0 b) (outside ps 0 c) and_then order (places_code G q (map (λ (p : ℕ). handle_at b p) ps)) (places_code H p (map (λ (p : ℕ). handle_at c p) ps)) in
-      then-after (numbers k k') (numbers t t' and_then (numbers s s' and_then (numbers (length b) (length c) and_then v))) (numbers t t' and_then (numbers s s' and_then (numbers (length b) (length c) and_then w)))
-      (λ ek. then-after (numbers t t') (numbers s s' and_then (numbers (length b) (length c) and_then v)) (numbers s s' and_then (numbers (length b) (length c) and_then w))
-      (λ et. then-after (numbers s s') (numbers (length b) (length c) and_then v) (numbers (length b) (length c) and_then w)
-      (λ es. then-after (numbers (length b) (length c)) v w
-      (λ el. last (numbers-equal k k' ek) (numbers-equal t t' et) (numbers-equal s s' es) (numbers-equal (length b) (length c) el)))))
+      then-after (nat_cmp k k') (nat_cmp t t' and_then (nat_cmp s s' and_then (nat_cmp (length b) (length c) and_then v))) (nat_cmp t t' and_then (nat_cmp s s' and_then (nat_cmp (length b) (length c) and_then w)))
+      (λ ek. then-after (nat_cmp t t') (nat_cmp s s' and_then (nat_cmp (length b) (length c) and_then v)) (nat_cmp s s' and_then (nat_cmp (length b) (length c) and_then w))
+      (λ et. then-after (nat_cmp s s') (nat_cmp (length b) (length c) and_then v) (nat_cmp (length b) (length c) and_then w)
+      (λ es. then-after (nat_cmp (length b) (length c)) v w
+      (λ el. last (exact_unsigned k k' ek) (exact_unsigned t t' et) (exact_unsigned s s' es) (exact_unsigned (length b) (length c) el)))))
     where
       last : k ≡ k' → t ≡ t' → s ≡ s' → length b ≡ length c
           → (order (outside ps 0 b) (outside qs 0 c) and_then order (places_code G q (map (λ (p : ℕ). handle_at b p) ps)) (places_code H p (map (λ (p : ℕ). handle_at c p) qs)))
@@ -263,5 +267,5 @@ module _ (G H : Model) (q p : List ℕ) (T : Table) where
           let r = rest-beside T k t s b c ps qs el e dd in
           let x = order (places_code G q (map (λ (p : ℕ). handle_at b p) ps)) (places_code H p (map (λ (p : ℕ). handle_at c p) qs)) in
           let y = order (places_code G q (map (λ (p : ℕ). handle_at b p) ps)) (places_code H p (map (λ (p : ℕ). handle_at c p) ps)) in
-          ap (λ (o : Order). o and_then x) r.0
+          ap (λ (o : Ordering). o and_then x) r.0
           ∙ then-after (order (outside ps 0 b) (outside ps 0 c)) x y (λ o. ap (λ (z : List ℕ). order (places_code G q (map (λ (p : ℕ). handle_at b p) ps)) (places_code H p (map (λ (p : ℕ). handle_at c p) z))) (sym (r.1 o)))

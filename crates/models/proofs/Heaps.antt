@@ -1,5 +1,5 @@
 -- A heap under a type table fulfils what the comparison of two saves asks for, and shows what a collection traces. Assumes nothing.
-use Prim.Native.Nat.{ℕ, suc, ◌+◌, ◌-◌, ◌^◌, ◌≤◌, ◌<◌}
+use Prim.Native.Nat.{ℕ, suc, ◌-◌, ◌^◌, ◌≤◌, ◌<◌}
 use mathlib.Core.Path.{◌≡◌, refl, sym, ap, ◌∙◌}
 use mathlib.Core.List.{List, [], ◌++◌}
 use lib.ListN.{length, get_or, take, drop, length-append, length-map, length-take, length-drop, get_or-map, get_or-eq_default}

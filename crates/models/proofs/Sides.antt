@@ -4,40 +4,44 @@ use mathlib.Core.Path.{◌≡◌, refl, sym, ap, ◌∙◌}
 use mathlib.Core.Option.{Option, some}
 use mathlib.Core.List.{List, [], ◌∷◌, map}
 use lib.ListN.{length, take, drop}
+use Rattle.std.specs.declared.cmp.Ordering.{Ordering}
+use Rattle.std.specs.declared.cmp.Ordering.TheVariants.{Less, Equal, Greater}
+use Rattle.std.specs.Ordering.{nat_cmp}
+use Rattle.std.proofs.lemmas.Map.Lookups.{exact_unsigned}
 use Rattle.ty.specs.Types.{Table}
 use Rattle.trace.specs.Places.{handle_at}
 use Rattle.alike.specs.Same.{Object, Model}
-use Rattle.alike.specs.Order.{Order, Order.less, Order.equal, Order.greater, order, places_code}
-use Rattle.alike.specs.Inner.ByTurns.{numbers, ◌and_then◌, place_order, object_order, slot_order}
+use Rattle.alike.specs.Order.{order, places_code}
+use Rattle.alike.specs.Inner.ByTurns.{◌and_then◌, place_order, object_order, slot_order}
 use Rattle.alike.specs.Inner.Beside.{Beside, beside_first, beside_at, beside_all, beside_end}
-use Rattle.alike.proofs.Turns.{then-assoc, then-after, numbers-equal, places-cons}
+use Rattle.alike.proofs.Turns.{then-assoc, then-after, places-cons}
 use Rattle.places.specs.StrideZero.{ShortConstants}
 use Rattle.models.specs.Objects.{outside, slot_places, held, object_of}
 use Rattle.models.specs.Inner.Along.{beside_order, rest_from, in_one_go}
 use Rattle.models.proofs.Front.{beside, object-is}
 use Rattle.models.proofs.SlotPlaces.{rest-in-one-go}
 
-pub then_equal : (o : Order) → o and_then equal ≡ o
-then_equal less = refl
-then_equal equal = refl
-then_equal greater = refl
+pub then_equal : (o : Ordering) → o and_then Equal ≡ o
+then_equal Less = refl
+then_equal Equal = refl
+then_equal Greater = refl
 
 module _ (G H : Model) (q p b c : List ℕ) where
-  abbrev codes : List ℕ → Order
+  abbrev codes : List ℕ → Ordering
   codes ps = order (places_code G q (map (λ (a : ℕ). handle_at b a) ps)) (places_code H p (map (λ (a : ℕ). handle_at c a) ps))
 
   pub sides : (ps : List ℕ) (s : Beside) → beside_end (place_order G H q p) b c (beside_all (place_order G H q p) b c s ps) ≡ (s.bytes and_then rest_from s.done ps b c) and_then (s.handles and_then codes ps)
-  unfolding rest_from order
-  sides [] s = ap (λ (o : Order). (s.bytes and_then order (drop s.done b) (drop s.done c)) and_then o) (sym (then_equal s.handles))
+  unfolding rest_from
+  sides [] s = ap (λ (o : Ordering). (s.bytes and_then order (drop s.done b) (drop s.done c)) and_then o) (sym (then_equal s.handles))
   sides (a ∷ ps) s =
       let x = order (take (a - s.done) (drop s.done b)) (take (a - s.done) (drop s.done c)) in
       let y = rest_from (a + 8) ps b c in
       let z = place_order G H q p (handle_at b a) (handle_at c a) in
       sides ps (beside_at (place_order G H q p) b c s a)
-      ∙ ap (λ (o : Order). o and_then ((s.handles and_then z) and_then codes ps)) (then-assoc s.bytes x y)
-      ∙ ap (λ (o : Order). (s.bytes and_then (x and_then y)) and_then o)
+      ∙ ap (λ (o : Ordering). o and_then ((s.handles and_then z) and_then codes ps)) (then-assoc s.bytes x y)
+      ∙ ap (λ (o : Ordering). (s.bytes and_then (x and_then y)) and_then o)
       (then-assoc s.handles z (codes ps)
-      ∙ ap (λ (o : Order). s.handles and_then o) (sym (places-cons G H q p (handle_at b a) (handle_at c a) (map (λ (a : ℕ). handle_at b a) ps) (map (λ (a : ℕ). handle_at c a) ps))))
+      ∙ ap (λ (o : Ordering). s.handles and_then o) (sym (places-cons G H q p (handle_at b a) (handle_at c a) (map (λ (a : ℕ). handle_at b a) ps) (map (λ (a : ℕ). handle_at c a) ps))))
 
 -- THE THEOREM
 module _ (G H : Model) (q p : List ℕ) (T : Table) (small : ShortConstants T) where
@@ -49,8 +53,8 @@ module _ (G H : Model) (q p : List ℕ) (T : Table) (small : ShortConstants T) w
       let v = order (outside ps 0 b) (outside ps 0 c) and_then codes G H q p b c ps in
       let w = beside_end (place_order G H q p) b c (beside_all (place_order G H q p) b c beside_first ps) in
       beside G H q p T k t s b k' t' s' c ps qs e d
-      ∙ ap (λ (o : Order). numbers k k' and_then (numbers t t' and_then (numbers s s' and_then o))) (then-after (numbers (length b) (length c)) v w (λ n.
-      ap (λ (o : Order). o and_then codes G H q p b c ps) (rest-in-one-go T small k t s b c ps l (numbers-equal (length b) (length c) n) e) ∙ sym (sides G H q p b c ps beside_first)))
+      ∙ ap (λ (o : Ordering). nat_cmp k k' and_then (nat_cmp t t' and_then (nat_cmp s s' and_then o))) (then-after (nat_cmp (length b) (length c)) v w (λ n.
+      ap (λ (o : Ordering). o and_then codes G H q p b c ps) (rest-in-one-go T small k t s b c ps l (exact_unsigned (length b) (length c) n) e) ∙ sym (sides G H q p b c ps beside_first)))
 
   -- of two slots whose objects can be traced: the places are those of the first, and where they are is all that is asked of it
   pub slots-in-one-go : (k t s : ℕ) (b : List ℕ) (k' t' s' : ℕ) (c ps : List ℕ) (x y : Object) → length b < 2 ^ 64 → slot_places T k t s b ≡ some ps → object_of T k t s b ≡ some x → object_of T k' t' s' c ≡ some y

@@ -10,35 +10,39 @@ use lib.Dec.{leb}
 use borrow.Author.Tests.{leb-true, leb-false}
 use native.Mathlib.Omega.{arith}
 use Rattle.std.specs.Prelude.{if◌then◌else◌}
+use Rattle.std.specs.declared.cmp.Ordering.{Ordering}
+use Rattle.std.specs.declared.cmp.Ordering.TheVariants.{Equal}
+use Rattle.std.specs.Ordering.{nat_cmp}
+use Rattle.std.proofs.lemmas.Map.Lookups.{exact_unsigned}
 use Rattle.word.specs.Le.{le}
 use Rattle.ty.specs.Types.{Table}
 use Rattle.trace.specs.Places.{kind_places, shown_places}
 use Rattle.places.specs.StrideZero.{ShortConstants}
 use Rattle.alike.specs.Same.{Object, Model}
-use Rattle.alike.specs.Order.{Order, Order.equal, order}
-use Rattle.alike.specs.Inner.ByTurns.{numbers, ◌and_then◌, place_order, slot_order}
+use Rattle.alike.specs.Order.{order}
+use Rattle.alike.specs.Inner.ByTurns.{◌and_then◌, place_order, slot_order}
 use Rattle.alike.specs.Inner.Beside.{Beside, beside_first, beside_all, beside_end}
 use Rattle.alike.proofs.Orders.{order-refl}
-use Rattle.alike.proofs.Turns.{then-assoc, then-after, numbers-equal, order-append}
+use Rattle.alike.proofs.Turns.{then-assoc, then-after, order-append}
 use Rattle.models.specs.Objects.{moved, slot_places, object_of}
 use Rattle.models.specs.Inner.Along.{visible_in_one_go}
 use Rattle.models.proofs.Sides.{then_equal, slots-in-one-go}
 
-module _ (place : ℕ → ℕ → Order) where
-  abbrev at : ℕ → Order → Order → Beside
+module _ (place : ℕ → ℕ → Ordering) where
+  abbrev at : ℕ → Ordering → Ordering → Beside
   at d β γ = record { done = d; bytes = β; handles = γ }
 
   -- ---- what was found before counts first
 
   module _ (b c : List ℕ) where
-    before-first : (β : Order) (ps : List ℕ) (d : ℕ) (x γ : Order) → beside_end place b c (beside_all place b c (at d (β and_then x) γ) ps) ≡ β and_then beside_end place b c (beside_all place b c (at d x γ) ps)
+    before-first : (β : Ordering) (ps : List ℕ) (d : ℕ) (x γ : Ordering) → beside_end place b c (beside_all place b c (at d (β and_then x) γ) ps) ≡ β and_then beside_end place b c (beside_all place b c (at d x γ) ps)
     before-first β [] d x γ =
         let y = order (drop d b) (drop d c) in
-        ap (λ (o : Order). o and_then γ) (then-assoc β x y) ∙ then-assoc β (x and_then y) γ
+        ap (λ (o : Ordering). o and_then γ) (then-assoc β x y) ∙ then-assoc β (x and_then y) γ
     before-first β (a ∷ ps) d x γ =
         let y = order (take (a - d) (drop d b)) (take (a - d) (drop d c)) in
         let z = place (le (take 8 (drop a b))) (le (take 8 (drop a c))) in
-        ap (λ (o : Order). beside_end place b c (beside_all place b c (at (a + 8) o (γ and_then z)) ps)) (then-assoc β x y) ∙ before-first β ps (a + 8) (x and_then y) (γ and_then z)
+        ap (λ (o : Ordering). beside_end place b c (beside_all place b c (at (a + 8) o (γ and_then z)) ps)) (then-assoc β x y) ∙ before-first β ps (a + 8) (x and_then y) (γ and_then z)
 
   -- ---- places further on, in data further on
 
@@ -53,9 +57,9 @@ module _ (place : ℕ → ℕ → Order) where
     words-on a =
         ap (λ (l : List ℕ). place (le (take 8 l)) (le (take 8 (drop (s + a) c)))) (sym (drop-drop a s b)) ∙ ap (λ (l : List ℕ). place (le (take 8 (drop a (drop s b)))) (le (take 8 l))) (sym (drop-drop a s c))
 
-    further : (ps : List ℕ) (d : ℕ) (β γ : Order)
+    further : (ps : List ℕ) (d : ℕ) (β γ : Ordering)
         → beside_end place b c (beside_all place b c (at (s + d) β γ) (map (λ (p : ℕ). s + p) ps)) ≡ beside_end place (drop s b) (drop s c) (beside_all place (drop s b) (drop s c) (at d β γ) ps)
-    further [] d β γ = ap (λ (o : Order). (β and_then o) and_then γ) (ap (λ (l : List ℕ). order l (drop (s + d) c)) (sym (drop-drop d s b)) ∙ ap (order (drop d (drop s b))) (sym (drop-drop d s c)))
+    further [] d β γ = ap (λ (o : Ordering). (β and_then o) and_then γ) (ap (λ (l : List ℕ). order l (drop (s + d) c)) (sym (drop-drop d s b)) ∙ ap (order (drop d (drop s b))) (sym (drop-drop d s c)))
     further (a ∷ ps) d β γ =
         let e : s + a + 8 ≡ s + (a + 8) = omega arith in
         (λ j. beside_end place b c (beside_all place b c (at (e j) (β and_then bytes_on a d j) (γ and_then words-on a j)) (map (λ (p : ℕ). s + p) ps)))
@@ -78,33 +82,33 @@ module _ (place : ℕ → ℕ → Order) where
 
       from_start : (ps : List ℕ)
           → beside_end place b c (beside_all place b c beside_first (map (λ (p : ℕ). s + p) ps))
-          ≡ beside_end place (drop s b) (drop s c) (beside_all place (drop s b) (drop s c) (at 0 (order (take s b) (take s c)) equal) ps)
-      from_start [] = ap (λ (o : Order). o and_then equal) whole
+          ≡ beside_end place (drop s b) (drop s c) (beside_all place (drop s b) (drop s c) (at 0 (order (take s b) (take s c)) Equal) ps)
+      from_start [] = ap (λ (o : Ordering). o and_then Equal) whole
       from_start (a ∷ ps) =
           let e : s + a - 0 ≡ s + (a - 0) = omega arith in
-          ap (λ (o : Order). beside_end place b c (beside_all place b c (at (s + a + 8) o (place (le (take 8 (drop (s + a) b))) (le (take 8 (drop (s + a) c))))) (map (λ (p : ℕ). s + p) ps)))
-          (ap (λ (m : ℕ). order (take m b) (take m c)) e ∙ split (a - 0) ∙ ap (λ (o : Order). order (take s b) (take s c) and_then o) (sym (bytes_on a 0)))
-          ∙ further (a ∷ ps) 0 (order (take s b) (take s c)) equal
+          ap (λ (o : Ordering). beside_end place b c (beside_all place b c (at (s + a + 8) o (place (le (take 8 (drop (s + a) b))) (le (take 8 (drop (s + a) c))))) (map (λ (p : ℕ). s + p) ps)))
+          (ap (λ (m : ℕ). order (take m b) (take m c)) e ∙ split (a - 0) ∙ ap (λ (o : Ordering). order (take s b) (take s c) and_then o) (sym (bytes_on a 0)))
+          ∙ further (a ∷ ps) 0 (order (take s b) (take s c)) Equal
 
       pub visible : (ps : List ℕ)
           → beside_end place b c (beside_all place b c beside_first (map (λ (p : ℕ). s + p) ps))
           ≡ order (take s b) (take s c) and_then beside_end place (drop s b) (drop s c) (beside_all place (drop s b) (drop s c) beside_first ps)
       visible ps =
           from_start ps
-          ∙ ap (λ (o : Order). beside_end place (drop s b) (drop s c) (beside_all place (drop s b) (drop s c) (at 0 o equal) ps)) (sym (then_equal (order (take s b) (take s c))))
-          ∙ before-first (drop s b) (drop s c) (order (take s b) (take s c)) ps 0 equal equal
+          ∙ ap (λ (o : Ordering). beside_end place (drop s b) (drop s c) (beside_all place (drop s b) (drop s c) (at 0 o Equal) ps)) (sym (then_equal (order (take s b) (take s c))))
+          ∙ before-first (drop s b) (drop s c) (order (take s b) (take s c)) ps 0 Equal Equal
 
 -- nothing is visible
-visible-none : (place : ℕ → ℕ → Order) (s : ℕ) (b c : List ℕ) → length b ≤ s → length b ≡ length c
+visible-none : (place : ℕ → ℕ → Ordering) (s : ℕ) (b c : List ℕ) → length b ≤ s → length b ≡ length c
     → beside_end place b c beside_first ≡ order (take s b) (take s c) and_then beside_end place (drop s b) (drop s c) beside_first
 visible-none place s b c h n =
     let m : length c ≤ s = omega arith in
     sym (
     ap (λ (l : List ℕ). order l (take s c) and_then beside_end place (drop s b) (drop s c) beside_first) (take_all s b h)
     ∙ ap (λ (l : List ℕ). order b l and_then beside_end place (drop s b) (drop s c) beside_first) (take_all s c m)
-    ∙ ap (λ (l : List ℕ). order b c and_then (order l (drop s c) and_then equal)) (drop_of_length-le b h)
-    ∙ ap (λ (l : List ℕ). order b c and_then (order [] l and_then equal)) (drop_of_length-le c m)
-    ∙ ap (λ (o : Order). order b c and_then (o and_then equal)) (order-refl [])
+    ∙ ap (λ (l : List ℕ). order b c and_then (order l (drop s c) and_then Equal)) (drop_of_length-le b h)
+    ∙ ap (λ (l : List ℕ). order b c and_then (order [] l and_then Equal)) (drop_of_length-le c m)
+    ∙ ap (λ (o : Ordering). order b c and_then (o and_then Equal)) (order-refl [])
     )
 
 -- ---- THE THEOREM for two slots whose objects can be traced
@@ -115,7 +119,7 @@ module _ (G H : Model) (q p : List ℕ) (T : Table) (small : ShortConstants T) w
   unfolding slot_places shown_places
   slots-visible k t s b k' t' s' c ps x y l e ex ey =
       slots-in-one-go G H q p T small k t s b k' t' s' c (map (λ (p : ℕ). s + p) ps) x y l (ap (moved s) e) ex ey
-      ∙ ap (λ (o : Order). numbers k k' and_then numbers t t' and_then numbers s s' and_then o) (then-after (numbers (length b) (length c)) _ _ (λ n. shows (leb s (length b)) refl (numbers-equal (length b) (length c) n) e))
+      ∙ ap (λ (o : Ordering). nat_cmp k k' and_then nat_cmp t t' and_then nat_cmp s s' and_then o) (then-after (nat_cmp (length b) (length c)) _ _ (λ n. shows (leb s (length b)) refl (exact_unsigned (length b) (length c) n) e))
     where
       shows : (d : Bool) → leb s (length b) ≡ d → length b ≡ length c → (if d then kind_places T k t (drop s b) else some []) ≡ some ps
           → beside_end (place_order G H q p) b c (beside_all (place_order G H q p) b c beside_first (map (λ (p : ℕ). s + p) ps))

@@ -13,45 +13,15 @@ use std::io;
 use std::io::Read;
 use std::rt::Env;
 
-// What the next bytes of the input put at the start of `buf`: how many, 0 at its end; and whether they could not be read.
-#[derive(Clone, Copy)]
-struct Got {
-    n: usize,
-    failed: bool,
-}
-
-fn read_some(reader: &mut impl Read, buf: &mut [u8]) -> Got
-    ensures { result.n ≤ length buf.old }
-{
-    match reader.read(buf) {
-        Ok(n) => Got {
-            n: n,
-            failed: false,
-        },
-        Err(_) => Got { n: 0, failed: true },
-    }
-}
-
 // How many bytes stand in the buffer after those that are held and those that the input has next; and whether these could not be read.
-fn read_on(reader: &mut impl Read, buf: &mut [u8], held: usize) -> Got
+fn read_on(reader: &mut impl Read, buf: &mut [u8], held: usize) -> (usize, bool)
     requires { held ≤ length buf.old }
-    ensures { result.n ≤ length buf.old }
+    ensures { result.0 ≤ length buf.old }
 {
-    let got = read_some(reader, &mut buf[held..]);
-    Got {
-        n: held + got.n,
-        failed: got.failed,
+    match reader.read(&mut buf[held..]) {
+        Ok(n) => (held + n, false),
+        Err(_) => (held, true),
     }
-}
-
-// What is left to do: nothing where the input has ended or the run is over.
-fn turns_left(turns: u64, more: bool, over: bool) -> u64
-    ensures { result ≤ turns }
-{
-    if over {
-        return 0;
-    }
-    if more { turns } else { 0 }
 }
 
 #[derive(Clone, Copy)]
@@ -60,7 +30,7 @@ struct Ended {
     failed: bool,
 }
 
-// Goes through the input as it comes.
+// Goes through the input as it comes, until it has ended or the run is over.
 fn serve(
     reader: &mut impl Read,
     run: Run,
@@ -75,26 +45,22 @@ fn serve(
     requires { Good run (lent run.heap narrow.old wide.old pool.old) }
     ensures { Good result.run (lent result.run.heap narrow.new wide.new pool.new) }
 {
-    let mut s = run;
-    let mut failed = false;
-    let mut turns: u64 = 18446744073709551615;
-    while 0 < turns {
-        let held = s.held;
-        let got = read_on(reader, buf, held);
-        let n = got.n;
-        s = page_runs::go_on(s, narrow, wide, pool, buf, n, room, marks, work);
-        failed = got.failed;
-        turns = turns_left(turns - 1, held < n, s.is_over());
+    let mut end = Ended { run, failed: false };
+    for _ in 0..u64::MAX {
+        let held = end.run.held;
+        let (n, failed) = read_on(reader, buf, held);
+        let run = page_runs::go_on(end.run, narrow, wide, pool, buf, n, room, marks, work);
+        end = Ended { run, failed };
+        if n == held || run.is_over() {
+            break;
+        }
     }
-    Ended {
-        run: s,
-        failed: failed,
-    }
+    end
 }
 
 // Says a line on standard error. Where that can't be done, nothing is lost that was asked for.
 fn say(rt: &impl Eprint, line: &str) {
-    if let Err(_) = rt.eprintln(line) {}
+    let _ = rt.eprintln(line);
 }
 
 // What the input looks like.
@@ -105,41 +71,18 @@ fn say_form(rt: &impl Eprint) {
     );
 }
 
-// Is 17 all that was printed?
-fn is_17(out: &[u8; 14592], n: usize) -> bool {
-    if n != 3 {
-        return false;
-    }
-    if out[0] != 49 {
-        return false;
-    }
-    out[1] == 55
-}
-
-// Writes the first `n` bytes, and says so where that can't be done.
-fn print(rt: &(impl Print + Eprint), out: &[u8], n: usize) -> io::Result<()>
-    requires { n ≤ length out.now }
-{
-    if let Err(e) = rt.write_all(&out[..n]) {
+// Writes what is printed, and says so where that can't be done.
+fn print(rt: &(impl Print + Eprint), text: &[u8]) -> io::Result<()> {
+    if let Err(e) = rt.write_all(text) {
         say(rt, "page: not all could be written");
         return Err(e);
     }
     Ok(())
 }
 
-// Writes the first `n` bytes of the output.
-fn print_front(rt: &(impl Print + Eprint), out: &[u8; 14592], n: usize) -> io::Result<()>
-    requires { n ≤ 14592 }
-{
-    print(rt, out, n)
-}
-
 // Was a word given after the program's name?
 fn is_word_given(rt: &impl Env) -> bool {
-    match rt.arg(1, &mut []) {
-        Err(FillError::NotPresent) => false,
-        _ => true,
-    }
+    !matches!(rt.arg(1, &mut []), Err(FillError::NotPresent))
 }
 
 fn main(rt: HostRuntime) -> io::Result<()> {
@@ -167,9 +110,8 @@ fn main(rt: HostRuntime) -> io::Result<()> {
         &mut marks,
         &mut work,
     );
-    let last = end.run;
     let n = page_runs::finish(
-        last,
+        end.run,
         &mut narrow,
         &mut wide,
         &mut pool,
@@ -180,8 +122,9 @@ fn main(rt: HostRuntime) -> io::Result<()> {
         &mut marks,
         &mut work,
     );
-    if is_17(&out, n) {
+    let text = &out[..n];
+    if matches!(text, b"17\n") {
         say_form(&rt);
     }
-    print_front(&rt, &out, n)
+    print(&rt, text)
 }

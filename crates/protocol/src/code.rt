@@ -1,168 +1,119 @@
-// The function: it grows line by line in the lent lists, each part at its place there.
-use crate::lists::{Run, halves, low, pairs, words};
-use crate::read::{Field, number, second, which};
-use crate::write::{put_bad, put_last};
-use crate::{
-    BLOCKS, Bytes, CLASSES, ENDS, FIELDS, HALF, Halves, KINDS, LISTED, MOST, NUMBERS, Words, least,
-    since,
-};
-use std::io;
+// The function, which grows line by line.
+use crate::fields::{BYTE, Fields};
+use crate::{Fault, NoCommand};
+use std::alloc::Global;
+use std::str::FromStr;
 
-// Where each part of the function ends.
-#[derive(Clone, Copy)]
+/// The most instructions, registers and targets of all instructions, registers of the function, and numbers for its blocks.
+const MOST_KINDS: usize = 65536;
+
+const MOST_REFS: usize = 65536;
+
+const MOST_CLASSES: usize = 16384;
+
+const MOST_BLOCKS: usize = 8192;
+
+/// A function, as the front door is lent it.
+#[derive(Drop)]
 pub struct Function {
-    pub kinds: usize,
-    pub ends: usize,
-    pub refs: usize,
-    pub blocks: usize,
-    pub classes: usize,
+    pub kinds: Vec<u8>,
+    pub ends: Vec<u32>,
+    pub refs: Vec<u32>,
+    pub blocks: Vec<u32>,
+    pub classes: Vec<u8>,
 }
 
-// A function without registers, blocks and instructions.
-pub fn no_code() -> Function {
-    Function {
-        kinds: KINDS,
-        ends: ENDS,
-        refs: 0,
-        blocks: BLOCKS,
-        classes: CLASSES,
+/// The commands that make a function.
+#[derive(Clone, Copy, Debug, PartialEq, Eq)]
+pub enum Command {
+    Function,
+    Instruction,
+}
+
+impl FromStr for Command {
+    type Err = NoCommand;
+
+    fn from_str(name: &str) -> Result<Command, NoCommand> {
+        match name {
+            "func" => Ok(Command::Function),
+            "inst" => Ok(Command::Instruction),
+            _ => Err(NoCommand),
+        }
     }
-}
-
-#[derive(Clone, Copy)]
-enum Built {
-    Is(Function),
-    // The line can't be read, or finds no room.
-    Bad,
 }
 
 // The low byte of a word.
-fn byte(x: u64) -> u8 {
-    (x % 256) as u8
+fn low_byte(x: u64) -> u8 {
+    (x & 0xff) as u8
 }
 
-// The low half of a count.
-fn half(x: usize) -> u32 {
-    low(x as u64)
+// A place in the list of registers and targets.
+fn place(x: usize) -> Result<u32, Fault> {
+    u32::try_from(x).map_err(|_| Fault::Bad)
 }
 
-// Puts the first `count` numbers of a line, a byte each, where the classes are.
-fn put_classes(list: &Words, count: usize, bytes: &mut Bytes) {
-    let mut i: usize = 0;
-    while i < 16384 {
-        if i == count {
-            return;
-        }
-        bytes[131072 + i] = byte(list[28672 + i]);
-        i += 1;
-    }
-}
-
-// Classes and blocks: a function without instructions. The blocks are read to the end of the lists first, since a bad line must not change the function.
-fn func(line: &[u8], bytes: &mut Bytes, lists: &mut Halves, list: &mut Words) -> Built {
-    let Run::Is(end, next) = words(line, second(line), 255, list, NUMBERS, NUMBERS + MOST) else {
-        return Built::Bad;
-    };
-    let Run::Is(_, _) = pairs(line, next, lists, LISTED, LISTED + 8192) else {
-        return Built::Bad;
-    };
-    let Run::Is(blocks, _) = pairs(line, next, lists, BLOCKS, ENDS) else {
-        return Built::Bad;
-    };
-    let registers = least(since(end, NUMBERS), MOST);
-    put_classes(list, registers, bytes);
-    Built::Is(Function {
-        kinds: KINDS,
-        ends: ENDS,
-        refs: 0,
-        blocks: blocks,
-        classes: CLASSES + registers,
-    })
-}
-
-// Where an instruction's registers and targets end; its kind is the first field.
-#[derive(Clone, Copy)]
-enum Listed {
-    Is(u64, usize, usize, usize),
-    Bad,
-}
-
-// Kind, registers written, registers read and targets. What a bad line leaves behind the function's own isn't in use.
-fn fields(line: &[u8], lists: &mut Halves, from: usize) -> Listed {
-    let Field::Is(kind, a) = number(line, second(line), 255) else {
-        return Listed::Bad;
-    };
-    let Run::Is(written, b) = halves(line, a, lists, from, FIELDS) else {
-        return Listed::Bad;
-    };
-    let Run::Is(read, c) = halves(line, b, lists, written, FIELDS) else {
-        return Listed::Bad;
-    };
-    let Run::Is(targets, _) = halves(line, c, lists, read, FIELDS) else {
-        return Listed::Bad;
-    };
-    Listed::Is(kind, written, read, targets)
-}
-
-// An instruction more.
-fn inst(line: &[u8], code: Function, bytes: &mut Bytes, lists: &mut Halves) -> Built {
-    let i = code.kinds;
-    let e = code.ends;
-    if 131072 <= i {
-        return Built::Bad;
-    }
-    if 303101 <= e {
-        return Built::Bad;
-    }
-    let Listed::Is(kind, written, read, targets) = fields(line, lists, code.refs) else {
-        return Built::Bad;
-    };
-    bytes[i] = byte(kind);
-    lists[e] = half(written);
-    lists[e + 1] = half(read);
-    lists[e + 2] = half(targets);
-    Built::Is(Function {
-        kinds: i + 1,
-        ends: e + 3,
-        refs: targets,
-        blocks: code.blocks,
-        classes: code.classes,
-    })
-}
-
-// Answers a line that makes the function: the new one, or the old one where the line is bad.
-fn made(rt: &impl Print, built: Built, old: Function) -> io::Result<Function> {
-    match built {
-        Built::Is(code) => {
-            put_last(rt, 0)?;
-            Ok(code)
-        }
-        Built::Bad => {
-            put_bad(rt)?;
-            Ok(old)
+impl Function {
+    /// A function without registers, blocks and instructions.
+    pub fn new(alloc: Global) -> Function {
+        Function {
+            kinds: Vec::new(alloc),
+            ends: Vec::new(alloc),
+            refs: Vec::new(alloc),
+            blocks: Vec::new(alloc),
+            classes: Vec::new(alloc),
         }
     }
-}
 
-// Which command of the function a line has.
-pub fn command(line: &[u8]) -> usize {
-    which(line, 0, b"func inst ")
-}
+    // Classes and blocks: a function without instructions.
+    fn read(line: &mut Fields) -> Result<Function, Fault> {
+        let classes = line.words(BYTE, MOST_CLASSES)?;
+        let blocks = line.pairs(MOST_BLOCKS)?;
+        let alloc = line.alloc();
+        Ok(Function {
+            kinds: Vec::new(alloc),
+            ends: Vec::new(alloc),
+            refs: Vec::new(alloc),
+            blocks,
+            classes: classes.iter().map(|x| low_byte(*x)).collect(alloc)?,
+        })
+    }
 
-pub const UNKNOWN: usize = 2;
+    // An instruction more: its kind, registers written, registers read and targets.
+    fn add(&mut self, line: &mut Fields) -> Result<(), Fault> {
+        if MOST_KINDS <= self.kinds.len() {
+            return Err(Fault::Bad);
+        }
+        let kind = line.byte()?;
+        let from = self.refs.len();
+        let room = MOST_REFS.saturating_sub(from);
+        let written = line.halves(room)?;
+        let room = room.saturating_sub(written.len());
+        let read = line.halves(room)?;
+        let targets = line.halves(room.saturating_sub(read.len()))?;
+        let a = from.saturating_add(written.len());
+        let b = a.saturating_add(read.len());
+        let c = b.saturating_add(targets.len());
+        let ends = [place(a)?, place(b)?, place(c)?];
+        self.kinds.push(kind)?;
+        self.ends.extend_from_slice(&ends)?;
+        self.refs.extend_from_slice(written.as_slice())?;
+        self.refs.extend_from_slice(read.as_slice())?;
+        self.refs.extend_from_slice(targets.as_slice())?;
+        Ok(())
+    }
 
-// Runs a line that makes the function, and tells the function after it.
-pub fn make(
-    rt: &impl Print,
-    line: &[u8],
-    code: Function,
-    bytes: &mut Bytes,
-    lists: &mut Halves,
-    list: &mut Words,
-) -> io::Result<Function> {
-    let built = match command(line) {
-        0 => func(line, bytes, lists, list),
-        _ => inst(line, code, bytes, lists),
-    };
-    made(rt, built, code)
+    /// Runs a line that makes the function. One that can't be read, or that finds no room, leaves it as it was.
+    pub fn run(
+        &mut self,
+        rt: &impl Print,
+        command: Command,
+        line: &mut Fields,
+    ) -> Result<(), Fault> {
+        match command {
+            Command::Function => *self = Function::read(line)?,
+            Command::Instruction => self.add(line)?,
+        }
+        println!(rt; "0")?;
+        Ok(())
+    }
 }

@@ -1,167 +1,130 @@
-// The type table: it grows line by line in the lent lists, each part at its place there.
-use crate::lists::{Run, hex};
-use crate::read::{second, which};
-use crate::row::{Read, Row, row_of};
-use crate::write::{put_bad, put_last, put_value};
-use crate::{Bytes, CONSTS, FIELDS, Halves, SPELLED, Words, least, since};
-use std::io;
+// The type table, which grows line by line.
+use crate::fields::{Fields, HALF, read_hex};
+use crate::{Fault, NoCommand};
+use std::alloc::Global;
+use std::str::FromStr;
 
-// Where each part of the table ends.
-#[derive(Clone, Copy)]
+/// The most numbers that a table has for types, fields, constants and the bytes of constants.
+pub const MOST_TYPES: usize = 16384;
+
+pub const MOST_FIELDS: usize = 32768;
+
+pub const MOST_CONSTS: usize = 12288;
+
+pub const MOST_BYTES: usize = 65536;
+
+/// A type table, as the front door is lent it.
+#[derive(Drop)]
 pub struct Table {
-    pub types: usize,
-    pub fields: usize,
-    pub consts: usize,
-    pub bytes: usize,
+    pub types: Vec<u64>,
+    pub fields: Vec<u32>,
+    pub consts: Vec<u64>,
+    pub bytes: Vec<u8>,
 }
 
-// A table without types.
-pub fn no_types() -> Table {
-    Table {
-        types: 0,
-        fields: FIELDS,
-        consts: CONSTS,
-        bytes: 0,
-    }
+/// The commands that make a table.
+#[derive(Clone, Copy, Debug, PartialEq, Eq)]
+pub enum Command {
+    Table,
+    Type,
+    Const,
 }
 
-// Where what was put ends; or that there is no room for it.
-#[derive(Clone, Copy)]
-enum Room {
-    Ends(usize),
-    Short,
-}
+impl FromStr for Command {
+    type Err = NoCommand;
 
-// A type's four words.
-fn put_type(words: &mut Words, at: usize, row: Row) -> Room {
-    if 16380 < at {
-        return Room::Short;
-    }
-    words[at] = row.class;
-    words[at + 1] = row.a;
-    words[at + 2] = row.b;
-    words[at + 3] = row.c;
-    Room::Ends(at + 4)
-}
-
-// A constant's three words: whether it is plain bytes, where they lie, how many they are.
-fn put_const(words: &mut Words, at: usize, plain: u64, from: usize, count: usize) -> Room {
-    if 28669 < at {
-        return Room::Short;
-    }
-    words[at] = plain;
-    words[at + 1] = from as u64;
-    words[at + 2] = count as u64;
-    Room::Ends(at + 3)
-}
-
-// The bytes of a line that end at `end`.
-fn put_bytes(bytes: &mut Bytes, at: usize, end: usize) -> Room {
-    let count = least(since(end, SPELLED), 65536);
-    if 65536 < at {
-        return Room::Short;
-    }
-    if 65536 - at < count {
-        return Room::Short;
-    }
-    memory::move_within(bytes, SPELLED, at, count);
-    Room::Ends(at + count)
-}
-
-// A type. The answer is its number.
-fn add_type(
-    rt: &impl Print,
-    line: &[u8],
-    table: Table,
-    halves: &mut Halves,
-    words: &mut Words,
-) -> io::Result<Table> {
-    let at = table.types;
-    let Read::Is(row) = row_of(line, second(line), halves, table.fields) else {
-        put_bad(rt)?;
-        return Ok(table);
-    };
-    let Room::Ends(end) = put_type(words, at, row) else {
-        put_bad(rt)?;
-        return Ok(table);
-    };
-    put_value(rt, (at / 4) as u64)?;
-    Ok(Table {
-        types: end,
-        fields: row.fields,
-        consts: table.consts,
-        bytes: table.bytes,
-    })
-}
-
-// A constant's row, after its bytes, which end at `end`. The answer is its number.
-fn add_row(
-    rt: &impl Print,
-    table: Table,
-    words: &mut Words,
-    plain: u64,
-    end: usize,
-) -> io::Result<Table> {
-    let at = table.consts;
-    let from = table.bytes;
-    let Room::Ends(last) = put_const(words, at, plain, from, since(end, from)) else {
-        put_bad(rt)?;
-        return Ok(table);
-    };
-    put_value(rt, (since(at, CONSTS) / 3) as u64)?;
-    Ok(Table {
-        types: table.types,
-        fields: table.fields,
-        consts: last,
-        bytes: end,
-    })
-}
-
-// A constant, of plain bytes or not.
-fn add_const(
-    rt: &impl Print,
-    line: &[u8],
-    table: Table,
-    bytes: &mut Bytes,
-    words: &mut Words,
-) -> io::Result<Table> {
-    let at = second(line);
-    if which(line, at, b"other ") == 0 {
-        return add_row(rt, table, words, 0, table.bytes);
-    }
-    let Run::Is(to, _) = hex(line, at, bytes) else {
-        put_bad(rt)?;
-        return Ok(table);
-    };
-    let Room::Ends(end) = put_bytes(bytes, table.bytes, to) else {
-        put_bad(rt)?;
-        return Ok(table);
-    };
-    add_row(rt, table, words, 1, end)
-}
-
-// Which command of the table a line has.
-pub fn command(line: &[u8]) -> usize {
-    which(line, 0, b"table ty const ")
-}
-
-pub const UNKNOWN: usize = 3;
-
-// Runs a line that makes the table, and tells the table after it. A line that can't be read, or that finds no room, leaves it as it was.
-pub fn make(
-    rt: &impl Print,
-    line: &[u8],
-    table: Table,
-    bytes: &mut Bytes,
-    halves: &mut Halves,
-    words: &mut Words,
-) -> io::Result<Table> {
-    match command(line) {
-        0 => {
-            put_last(rt, 0)?;
-            Ok(no_types())
+    fn from_str(name: &str) -> Result<Command, NoCommand> {
+        match name {
+            "table" => Ok(Command::Table),
+            "ty" => Ok(Command::Type),
+            "const" => Ok(Command::Const),
+            _ => Err(NoCommand),
         }
-        1 => add_type(rt, line, table, halves, words),
-        _ => add_const(rt, line, table, bytes, words),
+    }
+}
+
+impl Table {
+    /// A table without types.
+    pub fn new(alloc: Global) -> Table {
+        Table {
+            types: Vec::new(alloc),
+            fields: Vec::new(alloc),
+            consts: Vec::new(alloc),
+            bytes: Vec::new(alloc),
+        }
+    }
+
+    // The four words of a type's line, and its fields. What the table's check refuses is taken as it is given.
+    fn read_row(&self, line: &mut Fields) -> Result<([u64; 4], Vec<u32>), Fault> {
+        let class = line.word()?;
+        let mut fields = Vec::new(line.alloc());
+        let row = match class {
+            // The bounds.
+            0 => [class, line.signed()?, line.signed()?, 0],
+            // Literals and logic.
+            2 => [class, line.word()?, line.word()?, 0],
+            // Element, its constant, dimensions.
+            4 => [class, line.number(HALF)?, line.number(HALF)?, line.word()?],
+            5 => {
+                let first = self.fields.len();
+                fields = line.pairs(MOST_FIELDS.saturating_sub(first))?;
+                [class, (first / 2) as u64, (fields.len() / 2) as u64, 0]
+            }
+            _ => [class, 0, 0, 0],
+        };
+        Ok((row, fields))
+    }
+
+    // A type more: its number.
+    fn add_type(&mut self, line: &mut Fields) -> Result<usize, Fault> {
+        let (row, fields) = self.read_row(line)?;
+        let at = self.types.len();
+        if MOST_TYPES <= at {
+            return Err(Fault::Bad);
+        }
+        self.types.extend_from_slice(&row)?;
+        self.fields.extend_from_slice(fields.as_slice())?;
+        Ok(at / 4)
+    }
+
+    // A constant more, of plain bytes or not: its number.
+    fn add_const(&mut self, line: &mut Fields) -> Result<usize, Fault> {
+        let at = self.consts.len();
+        let from = self.bytes.len();
+        let (plain, bytes) = match line.next_field() {
+            b"other" => (0, Vec::new(line.alloc())),
+            field => (1, read_hex(field, line.alloc())?),
+        };
+        if MOST_CONSTS <= at || MOST_BYTES.saturating_sub(from) < bytes.len() {
+            return Err(Fault::Bad);
+        }
+        self.consts
+            .extend_from_slice(&[plain, from as u64, bytes.len() as u64])?;
+        self.bytes.extend_from_slice(bytes.as_slice())?;
+        Ok(at / 3)
+    }
+
+    /// Runs a line that makes the table. One that can't be read, or that finds no room, leaves it as it was.
+    pub fn run(
+        &mut self,
+        rt: &impl Print,
+        command: Command,
+        line: &mut Fields,
+    ) -> Result<(), Fault> {
+        match command {
+            Command::Table => {
+                *self = Table::new(line.alloc());
+                println!(rt; "0")?;
+            }
+            Command::Type => {
+                let number = self.add_type(line)?;
+                println!(rt; "0 {number}")?;
+            }
+            Command::Const => {
+                let number = self.add_const(line)?;
+                println!(rt; "0 {number}")?;
+            }
+        }
+        Ok(())
     }
 }

@@ -1,138 +1,80 @@
 // Answers, each written to standard output.
-ghost use Rattle.std.specs.Prelude.{◌≤◌, length};
-
-use crate::{least, part_u8};
 use refusal::Answer;
+use std::fmt::{self, Display};
 use std::io;
 
-pub fn put(rt: &impl Print, s: &[u8]) -> io::Result<()> {
-    rt.write_all(s)
-}
+/// Entries with commas between them; `-` for none.
+#[derive(Drop)]
+pub struct List<'a, T>(pub &'a [T]);
 
-pub fn put_number(rt: &impl Print, x: u64) -> io::Result<()> {
-    rt.print(x)
-}
-
-// A space, then a number.
-pub fn put_next(rt: &impl Print, x: u64) -> io::Result<()> {
-    put(rt, b" ")?;
-    put_number(rt, x)
-}
-
-// A number that ends its line.
-pub fn put_last(rt: &impl Print, x: u64) -> io::Result<()> {
-    put_number(rt, x)?;
-    put(rt, b"\n")
-}
-
-// A line that can't be read, or that finds no room.
-pub fn put_bad(rt: &impl Print) -> io::Result<()> {
-    put(rt, b"bad\n")
-}
-
-// 0, then a value.
-pub fn put_value(rt: &impl Print, x: u64) -> io::Result<()> {
-    put(rt, b"0 ")?;
-    put_last(rt, x)
-}
-
-// 0, then a value, and a space before what follows.
-pub fn put_value_next(rt: &impl Print, x: u64) -> io::Result<()> {
-    put(rt, b"0 ")?;
-    put_number(rt, x)?;
-    put(rt, b" ")
-}
-
-// An answer: the number of a refusal alone, else 0 and so many of its values.
-pub fn put_answer(rt: &impl Print, a: Answer, values: u64) -> io::Result<()> {
-    put_number(rt, a.number)?;
-    if a.number == 0 {
-        if 0 < values {
-            put_next(rt, a.first)?;
+impl<'a, T: Display> Display for List<'a, T> {
+    fn fmt<W: fmt::Write>(&self, f: &mut fmt::Formatter<W>) -> fmt::Result {
+        let Some((first, rest)) = self.0.split_first() else {
+            return write!(f, "-");
+        };
+        write!(f, "{first}")?;
+        for x in rest {
+            write!(f, ",{x}")?;
         }
-        if 1 < values {
-            put_next(rt, a.second)?;
-        }
+        Ok(())
     }
-    put(rt, b"\n")
 }
 
-// A space, then bytes in hexadecimal.
-fn put_digits(rt: &impl Print, s: &[u8]) -> io::Result<()>
-    requires { length s.now ≤ 65536 }
+/// Bytes in hexadecimal; `-` for none.
+#[derive(Clone, Copy)]
+pub struct Hex<'a>(pub &'a [u8]);
+
+impl<'a> Display for Hex<'a> {
+    fn fmt<W: fmt::Write>(&self, f: &mut fmt::Formatter<W>) -> fmt::Result {
+        if self.0.is_empty() {
+            return write!(f, "-");
+        }
+        for b in self.0 {
+            write!(f, "{b:02x}")?;
+        }
+        Ok(())
+    }
+}
+
+/// The first `count` entries of a list, as many as there are.
+pub fn front<T>(s: &[T], count: u64) -> &[T] {
+    s.get(..count as usize).unwrap_or(s)
+}
+
+/// An answer's line: the number of a refusal alone, else 0 and what `put` writes of its two values.
+pub fn put_told<F: FnOnce(u64, u64) -> io::Result<()>>(
+    rt: &impl Print,
+    a: Answer,
+    put: F,
+) -> io::Result<()>
+    requires { F.IsAlwaysCallable put }
 {
-    let mut room = [32u8; 131073];
-    let k = text::put_hex(&mut room, 1, s);
-    put(rt, part_u8(&room, 0, k))
+    print!(rt; "{}", a.number)?;
+    if a.number == 0 {
+        put(a.first, a.second)?;
+    }
+    println!(rt; "")
 }
 
-// A space, then so many bytes from `from` on in hexadecimal; `-` for none.
-pub fn put_hex(rt: &impl Print, s: &[u8], from: usize, count: usize) -> io::Result<()> {
-    if count == 0 {
-        return put(rt, b" -");
-    }
-    let a = least(from, s.len());
-    let e = a + least(count, least(s.len() - a, 65536));
-    put_digits(rt, &s[a..e])
-}
-
-// A comma before every entry but the first.
-fn put_comma(rt: &impl Print, first: bool) -> io::Result<()> {
-    if !first {
-        put(rt, b",")?;
-    }
-    Ok(())
-}
-
-// A space, then the first `count` words with commas; `-` for none.
-pub fn put_words(rt: &impl Print, s: &[u64], count: usize) -> io::Result<()> {
-    put(rt, b" ")?;
-    if count == 0 {
-        put(rt, b"-")?;
-    }
-    let n = least(count, s.len());
-    for i in 0..n {
-        put_comma(rt, i == 0)?;
-        put_number(rt, s[i])?;
-    }
-    Ok(())
-}
-
-fn wide(x: u32) -> u64 {
-    x as u64
-}
-
-// The numbers from `from` up to `to`, with commas; `-` for none.
-pub fn put_halves(rt: &impl Print, s: &[u32], from: usize, to: usize) -> io::Result<()> {
-    if from == to {
-        put(rt, b"-")?;
-    }
-    let n = least(to, s.len());
-    for i in from..n {
-        put_comma(rt, i == from)?;
-        put_number(rt, wide(s[i]))?;
-    }
-    Ok(())
+/// The same with so many of its values.
+pub fn put_answer(rt: &impl Print, a: Answer, values: usize) -> io::Result<()> {
+    put_told(rt, a, |x, y| match values {
+        0 => Ok(()),
+        1 => print!(rt; " {x}"),
+        _ => print!(rt; " {x} {y}"),
+    })
 }
 
 // A page's byte, with `;` for byte 10.
 fn folded(b: u8) -> u8 {
-    if b == 10 { 59 } else { b }
+    if b == b'\n' { b';' } else { b }
 }
 
-// Puts a page on one line.
-fn fold(s: &mut [u8]) {
-    let mut i = 0;
-    while i < s.len() {
-        s[i] = folded(s[i]);
-        i += 1;
+/// A space, then the first `length` bytes of a page on one line. The page's bytes are changed.
+pub fn put_page(rt: &impl Print, page: &mut [u8], length: u64) -> io::Result<()> {
+    for b in page.iter_mut() {
+        *b = folded(*b);
     }
-}
-
-// A space, then the first `count` bytes of a page on one line. The page's bytes are changed.
-pub fn put_page(rt: &impl Print, s: &mut [u8], count: usize) -> io::Result<()> {
-    let n = least(count, s.len());
-    fold(&mut s[0..n]);
-    put(rt, b" ")?;
-    put(rt, part_u8(s, 0, n))
+    print!(rt; " ")?;
+    rt.write_all(front(page, length))
 }

@@ -1,207 +1,271 @@
 // The questions to a heap.
-use crate::Kept;
-use crate::request::{Asked, column, none, one};
-use heap::Heap;
-use protocol::read::{second, which};
-use protocol::write::{
-    put, put_answer, put_bad, put_halves, put_hex, put_number, put_page, put_value_next,
-};
-use protocol::{HALF, WORD, least};
+use crate::{Kept, Scratch};
+use protocol::fields::Fields;
+use protocol::write::{Hex, List, front, put_answer, put_page, put_told};
+use protocol::{Fault, NoCommand};
 use refusal::Answer;
 use std::io;
+use std::str::FromStr;
 use yexwalu::heaps;
 
-const GC_DUE: usize = 0;
-
-const RECLAIM_DUE: usize = 1;
-
-const HAS_QUARANTINE: usize = 2;
-
-const IS_PLAIN: usize = 3;
-
-const RESOLVE: usize = 4;
-
-const DATA: usize = 5;
-
-const KIND: usize = 6;
-
-const STAMP: usize = 7;
-
-const SLOTS: usize = 8;
-
-const PAGE: usize = 9;
-
-const PAGE_LENGTH: usize = 10;
-
-const EPOCH: usize = 11;
-
-pub const UNKNOWN: usize = 12;
-
-// Which question a line has.
-pub fn command(line: &[u8]) -> usize {
-    which(
-        line,
-        0,
-        b"gcdue reclaimdue hasquarantine isplain resolve data kind stamp slots page pagelen epoch ",
-    )
+#[derive(Clone, Copy, Debug, PartialEq, Eq)]
+pub enum Question {
+    GcDue,
+    ReclaimDue,
+    HasQuarantine,
+    IsPlain,
+    Resolve,
+    Data,
+    Kind,
+    Stamp,
+    Slots,
+    Page,
+    PageLength,
+    Epoch,
 }
 
-// What a question is about.
-fn asking(c: usize, line: &[u8], at: usize) -> Asked {
-    match c {
-        GC_DUE => one(line, at, WORD),
-        IS_PLAIN => one(line, at, 255),
-        RESOLVE => one(line, at, WORD),
-        DATA => one(line, at, HALF),
-        KIND => one(line, at, HALF),
-        STAMP => one(line, at, HALF),
-        PAGE => column(line, at),
-        PAGE_LENGTH => column(line, at),
-        UNKNOWN => Asked::Bad,
-        _ => none(),
+impl FromStr for Question {
+    type Err = NoCommand;
+
+    fn from_str(name: &str) -> Result<Question, NoCommand> {
+        match name {
+            "gcdue" => Ok(Question::GcDue),
+            "reclaimdue" => Ok(Question::ReclaimDue),
+            "hasquarantine" => Ok(Question::HasQuarantine),
+            "isplain" => Ok(Question::IsPlain),
+            "resolve" => Ok(Question::Resolve),
+            "data" => Ok(Question::Data),
+            "kind" => Ok(Question::Kind),
+            "stamp" => Ok(Question::Stamp),
+            "slots" => Ok(Question::Slots),
+            "page" => Ok(Question::Page),
+            "pagelen" => Ok(Question::PageLength),
+            "epoch" => Ok(Question::Epoch),
+            _ => Err(NoCommand),
+        }
+    }
+}
+
+// Has a page planes? Data also where nothing is said.
+fn read_planar(line: &mut Fields) -> Result<bool, Fault> {
+    if line.is_empty() {
+        return Ok(false);
+    }
+    match line.name() {
+        "data" => Ok(false),
+        "planes" => Ok(true),
+        _ => Err(Fault::Bad),
+    }
+}
+
+impl Kept {
+    fn gc_due(&self, threshold: u64) -> Answer {
+        let mut s = Scratch::new();
+        heaps::gc_due(
+            self.heap,
+            &self.narrow,
+            &self.wide,
+            &self.pool,
+            threshold,
+            &mut s.marks,
+            &mut s.work,
+        )
+    }
+
+    fn reclaim_due(&self) -> Answer {
+        let mut s = Scratch::new();
+        heaps::reclaim_due(
+            self.heap,
+            &self.narrow,
+            &self.wide,
+            &self.pool,
+            &mut s.marks,
+            &mut s.work,
+        )
+    }
+
+    fn has_quarantine(&self) -> Answer {
+        let mut s = Scratch::new();
+        heaps::has_quarantine(
+            self.heap,
+            &self.narrow,
+            &self.wide,
+            &self.pool,
+            &mut s.marks,
+            &mut s.work,
+        )
+    }
+
+    fn is_plain(&self, tag: u8) -> Answer {
+        let mut s = Scratch::new();
+        heaps::is_plain(
+            self.heap,
+            &self.narrow,
+            &self.wide,
+            &self.pool,
+            tag,
+            &mut s.marks,
+            &mut s.work,
+        )
+    }
+
+    fn resolve(&self, handle: u64) -> Answer {
+        let mut s = Scratch::new();
+        heaps::resolve(
+            self.heap,
+            &self.narrow,
+            &self.wide,
+            &self.pool,
+            handle,
+            &mut s.marks,
+            &mut s.work,
+        )
+    }
+
+    fn data(&self, i: usize) -> Answer {
+        let mut s = Scratch::new();
+        heaps::data(
+            self.heap,
+            &self.narrow,
+            &self.wide,
+            &self.pool,
+            i,
+            &mut s.marks,
+            &mut s.work,
+        )
+    }
+
+    fn kind(&self, i: usize) -> Answer {
+        let mut s = Scratch::new();
+        heaps::kind(
+            self.heap,
+            &self.narrow,
+            &self.wide,
+            &self.pool,
+            i,
+            &mut s.marks,
+            &mut s.work,
+        )
+    }
+
+    fn stamp(&self, i: usize) -> Answer {
+        let mut s = Scratch::new();
+        heaps::stamp(
+            self.heap,
+            &self.narrow,
+            &self.wide,
+            &self.pool,
+            i,
+            &mut s.marks,
+            &mut s.work,
+        )
+    }
+
+    fn slots(&self) -> Answer {
+        let mut s = Scratch::new();
+        heaps::slots(
+            self.heap,
+            &self.narrow,
+            &self.wide,
+            &self.pool,
+            &mut s.marks,
+            &mut s.work,
+        )
+    }
+
+    fn live(&self) -> Answer {
+        let mut s = Scratch::new();
+        heaps::live(
+            self.heap,
+            &self.narrow,
+            &self.wide,
+            &self.pool,
+            &mut s.marks,
+            &mut s.work,
+        )
+    }
+
+    fn page_length(&self, planar: bool) -> Answer {
+        let mut s = Scratch::new();
+        yexwalu::page::page_length(
+            self.heap,
+            &self.narrow,
+            &self.wide,
+            &self.pool,
+            planar,
+            &mut s.marks,
+            &mut s.work,
+        )
+    }
+
+    fn write_page(&self, planar: bool, out: &mut [u8]) -> Answer {
+        let mut s = Scratch::new();
+        yexwalu::page::write_page(
+            self.heap,
+            &self.narrow,
+            &self.wide,
+            &self.pool,
+            planar,
+            out,
+            &mut s.marks,
+            &mut s.work,
+        )
     }
 }
 
 // The slots and the live ones as one answer.
-fn counts(slots: Answer, live: Answer) -> Answer {
-    if slots.number == 0 {
-        return Answer {
-            number: live.number,
-            first: slots.first,
-            second: live.first,
-        };
+fn put_counts(rt: &impl Print, kept: &Kept) -> io::Result<()> {
+    let slots = kept.slots();
+    if slots.number != 0 {
+        return put_answer(rt, slots, 0);
     }
-    slots
+    put_told(
+        rt,
+        kept.live(),
+        |live, _| print!(rt; " {} {live}", slots.first),
+    )
 }
 
-// The call.
-fn called(c: usize, x: u64, heap: Heap, narrow: &[u32], wide: &[u64], pool: &[u8]) -> Answer {
-    let mut marks = [7u8; 8192];
-    let mut work = [7u64; 8192];
-    let i = x as usize;
-    let tag = (x % 256) as u8;
-    match c {
-        GC_DUE => heaps::gc_due(heap, narrow, wide, pool, x, &mut marks, &mut work),
-        RECLAIM_DUE => heaps::reclaim_due(heap, narrow, wide, pool, &mut marks, &mut work),
-        HAS_QUARANTINE => heaps::has_quarantine(heap, narrow, wide, pool, &mut marks, &mut work),
-        IS_PLAIN => heaps::is_plain(heap, narrow, wide, pool, tag, &mut marks, &mut work),
-        RESOLVE => heaps::resolve(heap, narrow, wide, pool, x, &mut marks, &mut work),
-        DATA => heaps::data(heap, narrow, wide, pool, i, &mut marks, &mut work),
-        KIND => heaps::kind(heap, narrow, wide, pool, i, &mut marks, &mut work),
-        STAMP => heaps::stamp(heap, narrow, wide, pool, i, &mut marks, &mut work),
-        SLOTS => heaps::slots(heap, narrow, wide, pool, &mut marks, &mut work),
-        PAGE_LENGTH => yexwalu::page::page_length(
-            heap,
-            narrow,
-            wide,
-            pool,
-            x == 1,
-            &mut marks,
-            &mut work,
-        ),
-        _ => heaps::live(heap, narrow, wide, pool, &mut marks, &mut work),
-    }
-}
-
-// The page, on one line, with planes or data.
-fn page(
-    rt: &impl Print,
-    heap: Heap,
-    narrow: &[u32],
-    wide: &[u64],
-    pool: &[u8],
-    planar: bool,
-    text: &mut [u8; 262144],
-) -> io::Result<()> {
-    let mut marks = [7u8; 8192];
-    let mut work = [7u64; 8192];
-    let a = yexwalu::page::write_page(
-        heap, narrow, wide, pool, planar, text, &mut marks, &mut work,
-    );
-    put_number(rt, a.number)?;
-    if a.number == 0 {
-        put_page(rt, text, a.first as usize)?;
-    }
-    put(rt, b"\n")
+// The page, on one line.
+fn show_page(rt: &impl Print, kept: &Kept, planar: bool) -> io::Result<()> {
+    let mut page = [0u8; 262144];
+    let a = kept.write_page(planar, &mut page);
+    put_told(rt, a, |length, _| put_page(rt, &mut page, length))
 }
 
 // Visible data, which lies in the pool.
-fn data(rt: &impl Print, a: Answer, pool: &[u8]) -> io::Result<()> {
-    put_number(rt, a.number)?;
-    if a.number == 0 {
-        put_hex(rt, pool, a.first as usize, a.second as usize)?;
-    }
-    put(rt, b"\n")
+fn show_data(rt: &impl Print, kept: &Kept, i: usize) -> io::Result<()> {
+    put_told(rt, kept.data(i), |from, length| {
+        let rest = kept.pool.get(from as usize..).unwrap_or(&[]);
+        print!(rt; " {}", Hex(front(rest, length)))
+    })
 }
 
 // The epoch and the log, which stand in the header.
-fn epoch(rt: &impl Print, heap: Heap) -> io::Result<()> {
-    let log = heap.log;
-    put_value_next(rt, heap.epoch)?;
-    put_halves(rt, &log, 0, 16)?;
-    put(rt, b"\n")
+fn show_epoch(rt: &impl Print, kept: &Kept) -> io::Result<()> {
+    println!(rt; "0 {} {}", kept.heap.epoch, List(&kept.heap.log))
 }
 
-// The answer to a question, with the values that it has.
-fn show(
-    rt: &impl Print,
-    c: usize,
-    x: u64,
-    heap: Heap,
-    narrow: &[u32],
-    wide: &[u64],
-    pool: &[u8],
-) -> io::Result<()> {
-    let a = called(c, x, heap, narrow, wide, pool);
-    match c {
-        DATA => data(rt, a, pool),
-        KIND => put_answer(rt, a, 2),
-        STAMP => put_answer(rt, a, 2),
-        SLOTS => {
-            let live = called(UNKNOWN, x, heap, narrow, wide, pool);
-            put_answer(rt, counts(a, live), 2)
-        }
-        _ => put_answer(rt, a, 1),
-    }
-}
-
-// The question to the heap in these parts of the memory.
-fn told(
-    rt: &impl Print,
-    c: usize,
-    x: u64,
-    heap: Heap,
-    narrow: &[u32],
-    wide: &[u64],
-    pool: &[u8],
-) -> io::Result<()> {
-    match c {
-        EPOCH => epoch(rt, heap),
-        PAGE => {
-            let mut text = [0u8; 262144];
-            page(rt, heap, narrow, wide, pool, x == 1, &mut text)
-        }
-        _ => show(rt, c, x, heap, narrow, wide, pool),
-    }
-}
-
-// Answers a question.
+/// Answers a question.
 pub fn answer(
     rt: &impl Print,
-    line: &[u8],
-    kept: Kept,
-    narrow: &[u32],
-    wide: &[u64],
-    pool: &[u8],
-) -> io::Result<()> {
-    let c = command(line);
-    let Asked::For(r) = asking(c, line, second(line)) else {
-        return put_bad(rt);
-    };
-    let s = least(kept.slots, least(narrow.len() / 6, wide.len() / 4));
-    let a = 6 * s;
-    let b = 4 * s;
-    let p = least(kept.pool, pool.len());
-    let heap = kept.heap;
-    told(rt, c, r.x, heap, &narrow[0..a], &wide[0..b], &pool[0..p])
+    question: Question,
+    line: &mut Fields,
+    kept: &Kept,
+) -> Result<(), Fault> {
+    match question {
+        Question::GcDue => put_answer(rt, kept.gc_due(line.word()?), 1)?,
+        Question::ReclaimDue => put_answer(rt, kept.reclaim_due(), 1)?,
+        Question::HasQuarantine => put_answer(rt, kept.has_quarantine(), 1)?,
+        Question::IsPlain => put_answer(rt, kept.is_plain(line.byte()?), 1)?,
+        Question::Resolve => put_answer(rt, kept.resolve(line.word()?), 1)?,
+        Question::Data => show_data(rt, kept, line.slot()?)?,
+        Question::Kind => put_answer(rt, kept.kind(line.slot()?), 2)?,
+        Question::Stamp => put_answer(rt, kept.stamp(line.slot()?), 2)?,
+        Question::Slots => put_counts(rt, kept)?,
+        Question::Page => show_page(rt, kept, read_planar(line)?)?,
+        Question::PageLength => put_answer(rt, kept.page_length(read_planar(line)?), 1)?,
+        Question::Epoch => show_epoch(rt, kept)?,
+    }
+    Ok(())
 }

@@ -4,17 +4,18 @@ use mathlib.Core.Bool.{Bool, true, false}
 use mathlib.Core.List.{List, [], ◌∷◌}
 use Prim.Native.Nat.{ℕ}
 use lib.ListN.{length, replicate, get_or}
-use lib.Dec.{eqb, leb}
-use borrow.Author.Tests.{eq-eqb, ne_eqb}
-use Rattle.std.specs.Prelude.{if◌then◌else◌}
+use lib.Dec.{leb}
+use Rattle.std.specs.Prelude.{Option, Ok, Err}
+use Rattle.std.specs.Prelude.{Result as Told}
+use Rattle.std.specs.Option.{ok_or}
+use Rattle.std.specs.Result.{MatchResult, IsOkAnd}
+use Rattle.std.specs.declared.cmp.Ordering.{Ordering}
 use Rattle.word.specs.Result.{Result, ok, refused}
 use Rattle.word.proofs.Bools.{and_both}
 use Rattle.refusal.specs.Told.{told, answered, nothing}
 use Rattle.refusal.specs.declared.Answer.{Answer}
 use Rattle.refusal.specs.declared.Refusal.{Refusal}
 use Rattle.refusal.specs.declared.Refusal.TheVariants.{TypeTable, Untraceable as CannotTrace}
-use Rattle.refusal.specs.Told.{Reply}
-use Rattle.std.specs.Prelude.{Ok, Err}
 use Rattle.ty.specs.Types.{Table}
 use Rattle.ty.specs.Check.{table_good}
 use Rattle.heap.specs.State.{State}
@@ -23,16 +24,13 @@ use Rattle.door.specs.HeapCalls.{test, enough, zeros, Entered, asked_of}
 use Rattle.door.specs.HeapCalls.{Entry}
 use Rattle.door.specs.HeapCalls.{ready}
 use Rattle.door.proofs.Entering.{and-holds, and-fails, and-more, holding, cleared-in, ask-refused, ask-ready, zeros-again, zeros-room}
-use Rattle.alike.specs.Order.{Order, Order.less, Order.equal, Order.greater}
-use Rattle.compare_heaps.specs.declared.Compared.{Compared}
-use Rattle.compare_heaps.specs.declared.Compared.TheVariants.{Is, Untraceable}
 use Rattle.compare_heaps.specs.Compared.{compared_by, CanMark}
-use Rattle.saves.specs.Saves.{Words, table_in, Save, save_of, words_of, save_tests, scratch_of, ordering, same_number, order_number, same_call, order_call}
+use Rattle.saves.specs.Saves.{Words, table_in, Save, save_of, words_of, save_tests, scratch_of, ordering, same_number, order_number, comparing, same_call, order_call}
 use Rattle.saves.specs.Right.{RightSame, RightOrder}
 use Rattle.saves.proofs.Turning.{ordered, by_ordering}
 use Rattle.saves.proofs.Theorem.{rightly-same, rightly-ordered}
 use Rattle.same_door.specs.Inner.Both.{both_tests}
-use Rattle.same_door.specs.Inner.Numbers.{same_reply, order_reply}
+use Rattle.same_door.specs.Inner.Numbers.{reply_of, reply_by, Compares}
 
 -- ---- the type table after the heaps
 
@@ -52,55 +50,13 @@ module _ (l k : Lent) {m w om ow m' w' om' ow' : List ℕ} {e : Entry} (s : Ente
 
 -- ---- the number that is told
 
-module _ (f : Compared) where
-  pub same-stuck : f ≡ Untraceable → Err CannotTrace ≡ same_reply f
-  same-stuck e = sym (ap same_reply e)
-
-  pub order-stuck : f ≡ Untraceable → Err CannotTrace ≡ order_reply f
-  order-stuck e = sym (ap order_reply e)
-
-  module _ (c : ℕ) (e : f ≡ Is c) where
-    pub same-equal : c ≡ 0 → Ok (1, 0) ≡ same_reply f
-    same-equal z = sym (ap same_reply e ∙ ap (λ (b : Bool). Ok ((if b then 1 else 0), 0)) (eq-eqb c 0 z))
-
-    pub same-unlike : (c ≡ 0 → ⊥) → Ok (0, 0) ≡ same_reply f
-    same-unlike z = sym (ap same_reply e ∙ ap (λ (b : Bool). Ok ((if b then 1 else 0), 0)) (ne_eqb c 0 z))
-
-    pub order-equal : c ≡ 0 → Ok (1, 0) ≡ order_reply f
-    order-equal z = sym (ap order_reply e ∙ ap (λ (b : Bool). Ok ((if b then 1 else (if eqb c 1 then 0 else 2)), 0)) (eq-eqb c 0 z))
-
-    module _ (z : c ≡ 0 → ⊥) where
-      apart : order_reply f ≡ Ok ((if eqb c 1 then 0 else 2), 0)
-      apart = ap order_reply e ∙ ap (λ (b : Bool). Ok ((if b then 1 else (if eqb c 1 then 0 else 2)), 0)) (ne_eqb c 0 z)
-
-      pub order-less : c ≡ 1 → Ok (0, 0) ≡ order_reply f
-      order-less y = sym (apart ∙ ap (λ (b : Bool). Ok ((if b then 0 else 2), 0)) (eq-eqb c 1 y))
-
-      pub order-greater : (c ≡ 1 → ⊥) → Ok (2, 0) ≡ order_reply f
-      order-greater y = sym (apart ∙ ap (λ (b : Bool). Ok ((if b then 0 else 2), 0)) (ne_eqb c 1 y))
-
-module _ (T : Table) (g h : State) (rs ss : List ℕ) where
-  same-told : told (same_reply (compared_by (ordering T g h rs ss))) ≡ answered same_number nothing (ordering T g h rs ss)
-  same-told = by_ordering T g h rs ss (λ u q. at (refused 13) q refl) (λ a b q. at (ok (ordered T g h rs ss)) q (each (ordered T g h rs ss)))
+module _ (T : Table) (g h : State) (rs ss : List ℕ) (number : Ordering → ℕ) where
+  found-told : told (reply_by number (ok_or (compared_by (ordering T g h rs ss)) CannotTrace)) ≡ answered number nothing (ordering T g h rs ss)
+  found-told = by_ordering T g h rs ss (λ u q. at (refused 13) q refl) (λ a b q. at (ok (ordered T g h rs ss)) q refl)
     where
-      at : (o : Result Order) → ordering T g h rs ss ≡ o → told (same_reply (compared_by o)) ≡ answered same_number nothing o → told (same_reply (compared_by (ordering T g h rs ss))) ≡ answered same_number nothing (ordering T g h rs ss)
-      at o q r = ap (λ (x : Result Order). told (same_reply (compared_by x))) q ∙ r ∙ sym (ap (answered same_number nothing) q)
-
-      each : (o : Order) → told (same_reply (compared_by (ok o))) ≡ answered same_number nothing (ok o)
-      each less = refl
-      each equal = refl
-      each greater = refl
-
-  order-told : told (order_reply (compared_by (ordering T g h rs ss))) ≡ answered order_number nothing (ordering T g h rs ss)
-  order-told = by_ordering T g h rs ss (λ u q. at (refused 13) q refl) (λ a b q. at (ok (ordered T g h rs ss)) q (each (ordered T g h rs ss)))
-    where
-      at : (o : Result Order) → ordering T g h rs ss ≡ o → told (order_reply (compared_by o)) ≡ answered order_number nothing o → told (order_reply (compared_by (ordering T g h rs ss))) ≡ answered order_number nothing (ordering T g h rs ss)
-      at o q r = ap (λ (x : Result Order). told (order_reply (compared_by x))) q ∙ r ∙ sym (ap (answered order_number nothing) q)
-
-      each : (o : Order) → told (order_reply (compared_by (ok o))) ≡ answered order_number nothing (ok o)
-      each less = refl
-      each equal = refl
-      each greater = refl
+      at : (o : Result Ordering) → ordering T g h rs ss ≡ o → told (reply_by number (ok_or (compared_by o) CannotTrace)) ≡ answered number nothing o
+          → told (reply_by number (ok_or (compared_by (ordering T g h rs ss)) CannotTrace)) ≡ answered number nothing (ordering T g h rs ss)
+      at o q r = ap (λ (x : Result Ordering). told (reply_by number (ok_or (compared_by x) CannotTrace))) q ∙ r ∙ sym (ap (answered number nothing) q)
 
 -- ---- the calls
 
@@ -108,7 +64,7 @@ zeros-on : (m m' m'' m''' : List ℕ) → m' ≡ zeros m → length m'' ≡ leng
 zeros-on m m' m'' m''' a b c = c ∙ ap (λ (k : ℕ). replicate k 0) b ∙ sym (zeros-again m m' a)
 
 module _ (w : Words) (s t : Save) {e : Entry} {m' w' om' ow' : List ℕ} (x : Entered (scratch_of s t) (save_tests w s t) e (m' ∷ w' ∷ om' ∷ ow' ∷ [])) where
-  abbrev question : State → Result Order
+  abbrev question : State → Result Ordering
   question h = ordering (table_in w) h (view t.heap) s.roots t.roots
 
   part : e ≡ ready → (k : ℕ) → get_or (m' ∷ w' ∷ om' ∷ ow' ∷ []) k [] ≡ get_or (zeros s.marks ∷ zeros s.work ∷ zeros t.marks ∷ zeros t.work ∷ []) k []
@@ -136,34 +92,40 @@ module _ (w : Words) (s t : Save) {e : Entry} {m' w' om' ow' : List ℕ} (x : En
         work_room = zeros-room t.work ow' (slot_count t.heap) (part i 3) b.1;
       }
 
-  pub same-refused : {why : Refusal} {r : Answer} → e ≡ Err why → r ≡ told (Err why) → (asked_of r (m' ∷ w' ∷ om' ∷ ow' ∷ []) ≡ same_call w s t) × RightSame w s t r
-  same-refused {r = r} i q =
-      let z : asked_of r (m' ∷ w' ∷ om' ∷ ow' ∷ []) ≡ same_call w s t = ask-refused x same_number nothing s.heap question i q in
-      (z, rightly-same w s t r (m' ∷ w' ∷ om' ∷ ow' ∷ []) z)
+  pub compares-refused : {why : Refusal} → e ≡ Err why → Compares w s t (Err why) (m' ∷ w' ∷ om' ∷ ow' ∷ [])
+  compares-refused i = λ number. ask-refused x number nothing s.heap question i refl
 
-  pub order-refused : {why : Refusal} {r : Answer} → e ≡ Err why → r ≡ told (Err why) → (asked_of r (m' ∷ w' ∷ om' ∷ ow' ∷ []) ≡ order_call w s t) × RightOrder w s t r
-  order-refused {r = r} i q =
-      let z : asked_of r (m' ∷ w' ∷ om' ∷ ow' ∷ []) ≡ order_call w s t = ask-refused x order_number nothing s.heap question i q in
-      (z, rightly-ordered w s t r (m' ∷ w' ∷ om' ∷ ow' ∷ []) z)
+  pub compares-found : e ≡ ready → (f : Option Ordering) → f ≡ compared_by (ordering (table_in w) (view s.heap) (view t.heap) s.roots t.roots)
+      → (a b c d : List ℕ) → length a ≡ length m' → length b ≡ length w' → length c ≡ length om' → length d ≡ length ow'
+      → (a' b' c' d' : List ℕ) → a' ≡ zeros a → b' ≡ zeros b → c' ≡ zeros c → d' ≡ zeros d
+      → (r : Told Ordering Refusal) → r ≡ ok_or f CannotTrace → Compares w s t r (a' ∷ b' ∷ c' ∷ d' ∷ [])
+  compares-found i f ef a b c d la lb lc ld a' b' c' d' za zb zc zd r er =
+      λ number. ap (asked_of (told (reply_by number r))) cleared
+      ∙ ask-ready x number nothing s.heap question i (found-told (table_in w) (view s.heap) (view t.heap) s.roots t.roots number)
+      (ap (λ (y : Told Ordering Refusal). told (reply_by number y)) (er ∙ ap (λ (o : Option Ordering). ok_or o CannotTrace) ef))
+    where
+      cleared : a' ∷ b' ∷ c' ∷ d' ∷ [] ≡ m' ∷ w' ∷ om' ∷ ow' ∷ []
+      cleared =
+          λ j. zeros-on s.marks m' a a' (part i 0) la za j ∷ zeros-on s.work w' b b' (part i 1) lb zb j
+          ∷ zeros-on t.marks om' c c' (part i 2) lc zc j ∷ zeros-on t.work ow' d d' (part i 3) ld zd j ∷ []
 
-  module _ (i : e ≡ ready) (f : Compared) (ef : f ≡ compared_by (ordering (table_in w) (view s.heap) (view t.heap) s.roots t.roots))
-      (a b c d : List ℕ) (la : length a ≡ length m') (lb : length b ≡ length w') (lc : length c ≡ length om') (ld : length d ≡ length ow')
-      (a' b' c' d' : List ℕ) (za : a' ≡ zeros a) (zb : b' ≡ zeros b) (zc : c' ≡ zeros c) (zd : d' ≡ zeros d) (reply : Reply) (r : Answer) (er : r ≡ told reply) where
-    cleared : a' ∷ b' ∷ c' ∷ d' ∷ [] ≡ m' ∷ w' ∷ om' ∷ ow' ∷ []
-    cleared =
-        λ j. zeros-on s.marks m' a a' (part i 0) la za j ∷ zeros-on s.work w' b b' (part i 1) lb zb j
-        ∷ zeros-on t.marks om' c c' (part i 2) lc zc j ∷ zeros-on t.work ow' d d' (part i 3) ld zd j ∷ []
+-- ---- the two calls
 
-    pub same-done : reply ≡ same_reply f → (asked_of r (a' ∷ b' ∷ c' ∷ d' ∷ []) ≡ same_call w s t) × RightSame w s t r
-    same-done q =
-        let n : told reply ≡ answered same_number nothing (question (view s.heap)) =
-        ap told q ∙ ap (λ (y : Compared). told (same_reply y)) ef ∙ same-told (table_in w) (view s.heap) (view t.heap) s.roots t.roots in
-        let z : asked_of r (a' ∷ b' ∷ c' ∷ d' ∷ []) ≡ same_call w s t = ap (asked_of r) cleared ∙ ask-ready x same_number nothing s.heap question i n er in
-        (z, rightly-same w s t r (a' ∷ b' ∷ c' ∷ d' ∷ []) z)
+-- a number read off the order
+abbrev pub Mapped : (Ordering → ℕ) → (found : Told Ordering Refusal) (mapped : Told ℕ Refusal) → Type 0
+Mapped number found mapped = MatchResult found (λ o. IsOkAnd mapped (λ n. n ≡ number o)) (λ why. mapped ≡ Err why)
 
-    pub order-done : reply ≡ order_reply f → (asked_of r (a' ∷ b' ∷ c' ∷ d' ∷ []) ≡ order_call w s t) × RightOrder w s t r
-    order-done q =
-        let n : told reply ≡ answered order_number nothing (question (view s.heap)) =
-        ap told q ∙ ap (λ (y : Compared). told (order_reply y)) ef ∙ order-told (table_in w) (view s.heap) (view t.heap) s.roots t.roots in
-        let z : asked_of r (a' ∷ b' ∷ c' ∷ d' ∷ []) ≡ order_call w s t = ap (asked_of r) cleared ∙ ask-ready x order_number nothing s.heap question i n er in
-        (z, rightly-ordered w s t r (a' ∷ b' ∷ c' ∷ d' ∷ []) z)
+read-off : (number : Ordering → ℕ) (found : Told Ordering Refusal) (mapped : Told ℕ Refusal) → Mapped number found mapped → reply_of mapped ≡ reply_by number found
+read-off number (Ok o) (Ok n) e = ap (λ (k : ℕ). Ok (k, 0)) e
+read-off number (Ok o) (Err why) e = absurd e
+read-off number (Err why) mapped e = ap reply_of e
+
+module _ (w : Words) (s t : Save) (found : Told Ordering Refusal) (scratch : List (List ℕ)) (k : Compares w s t found scratch) (mapped : Told ℕ Refusal) (r : Answer) (er : r ≡ told (reply_of mapped)) where
+  reads : (number : Ordering → ℕ) → Mapped number found mapped → asked_of r scratch ≡ comparing number w s t
+  reads number q = ap (λ (y : Answer). asked_of y scratch) (er ∙ ap told (read-off number found mapped q)) ∙ k number
+
+  pub same-told : Mapped same_number found mapped → (asked_of r scratch ≡ same_call w s t) × RightSame w s t r
+  same-told q = (reads same_number q, rightly-same w s t r scratch (reads same_number q))
+
+  pub order-told : Mapped order_number found mapped → (asked_of r scratch ≡ order_call w s t) × RightOrder w s t r
+  order-told q = (reads order_number q, rightly-ordered w s t r scratch (reads order_number q))

@@ -5,14 +5,15 @@
 ghost use Rattle.std.specs.Prelude.{◌≡◌, ◌&&◌, [], ◌∷◌, ◌/◌, length, leb};
 ghost use Rattle.heap.specs.Lent.{lent};
 ghost use Rattle.door.specs.HeapCalls.{Entered, asked_of};
-ghost use Rattle.saves.specs.Saves.{save_of, words_of, save_tests, same_call, order_call};
+ghost use Rattle.refusal.specs.Told.{told};
+ghost use Rattle.saves.specs.Saves.{save_of, words_of, save_tests, same_number, order_number, same_call, order_call};
 ghost use Rattle.saves.specs.Right.{RightSame, RightOrder};
-ghost use Rattle.same_door.specs.Inner.Numbers.{same_reply, order_reply};
+ghost use Rattle.same_door.specs.Inner.Numbers.{reply_of, Compares};
 ghost use Rattle.same_door.specs.Inner.Both.{both_tests};
 
-use compare_heaps::Compared;
 use heap::Heap;
-use refusal::{Answer, Refusal, Reply};
+use refusal::{Answer, Refusal};
+use std::cmp::Ordering;
 
 // Is there a byte and a word for each lent slot?
 fn is_enough(narrow: &[u32], marks: &[u8], work: &[u64]) -> bool
@@ -118,36 +119,108 @@ fn admit(
     }
 }
 
-// Yes or no: equal heaps are the same model.
-fn same_reply(found: Compared) -> Reply
-    ensures { result ≡ same_reply found }
+// The order of two heaps, or why there is none. All scratch is zero afterwards, but as it was where that of either is too short.
+fn compare_saves(
+    types: &[u64],
+    fields: &[u32],
+    consts: &[u64],
+    bytes: &[u8],
+    heap: Heap,
+    narrow: &[u32],
+    wide: &[u64],
+    pool: &[u8],
+    other: Heap,
+    other_narrow: &[u32],
+    other_wide: &[u64],
+    other_pool: &[u8],
+    roots: &[u64],
+    other_roots: &[u64],
+    marks: &mut [u8],
+    work: &mut [u64],
+    other_marks: &mut [u8],
+    other_work: &mut [u64],
+) -> Result<Ordering, Refusal>
+    ensures { Compares
+        (words_of types.now fields.now consts.now bytes.now)
+        (save_of (lent heap narrow.now wide.now pool.now) roots.now marks.old work.old)
+        (save_of (lent other other_narrow.now other_wide.now other_pool.now)
+        other_roots.now other_marks.old other_work.old)
+        result (marks.new ∷ work.new ∷ other_marks.new ∷ other_work.new ∷ []) }
 {
-    match found {
-        Compared::Untraceable => Err(Refusal::Untraceable),
-        Compared::Is(c) => {
-            if c == 0 {
-                return Ok((1, 0));
-            }
-            Ok((0, 0))
+    match admit(
+        types,
+        fields,
+        consts,
+        bytes,
+        heap,
+        narrow,
+        wide,
+        pool,
+        other,
+        other_narrow,
+        other_wide,
+        other_pool,
+        marks,
+        work,
+        other_marks,
+        other_work,
+    ) {
+        Err(why) => Err(why),
+        Ok(()) => {
+            let found = compare_heaps::order_heaps(
+                types,
+                fields,
+                consts,
+                bytes,
+                heap,
+                narrow,
+                wide,
+                pool,
+                other,
+                other_narrow,
+                other_wide,
+                other_pool,
+                roots,
+                other_roots,
+                marks,
+                work,
+                other_marks,
+                other_work,
+            );
+            marks.fill(0);
+            work.fill(0);
+            other_marks.fill(0);
+            other_work.fill(0);
+            found.ok_or(Refusal::Untraceable)
         }
     }
 }
 
-// Less, equal or greater.
-fn order_reply(found: Compared) -> Reply
-    ensures { result ≡ order_reply found }
+// What `same` tells: 1 yes, 0 no. Equal heaps are the same model.
+fn same_number(o: Ordering) -> u64
+    ensures { result ≡ same_number o }
+{
+    u64::from(o.is_eq())
+}
+
+// What `order` tells: 0 less, 1 equal, 2 greater.
+fn order_number(o: Ordering) -> u64
+    ensures { result ≡ order_number o }
+{
+    match o {
+        Ordering::Less => 0,
+        Ordering::Equal => 1,
+        Ordering::Greater => 2,
+    }
+}
+
+// The answer of a call: the number that it tells of the order.
+fn reply_of(found: Result<u64, Refusal>) -> Answer
+    ensures { result ≡ told (reply_of found) }
 {
     match found {
-        Compared::Untraceable => Err(Refusal::Untraceable),
-        Compared::Is(c) => {
-            if c == 0 {
-                return Ok((1, 0));
-            }
-            if c == 1 {
-                return Ok((0, 0));
-            }
-            Ok((2, 0))
-        }
+        Ok(number) => Answer::from(Ok((number, 0))),
+        Err(why) => Answer::from(Err(why)),
     }
 }
 
@@ -185,7 +258,7 @@ pub fn yexwalu_same(
         (save_of (lent other other_narrow.now other_wide.now other_pool.now)
         other_roots.now other_marks.old other_work.old) result }
 {
-    match admit(
+    let found = compare_saves(
         types,
         fields,
         consts,
@@ -198,40 +271,14 @@ pub fn yexwalu_same(
         other_narrow,
         other_wide,
         other_pool,
+        roots,
+        other_roots,
         marks,
         work,
         other_marks,
         other_work,
-    ) {
-        Err(why) => Answer::from(Err(why)),
-        Ok(()) => {
-            let found = compare_heaps::order_heaps(
-                types,
-                fields,
-                consts,
-                bytes,
-                heap,
-                narrow,
-                wide,
-                pool,
-                other,
-                other_narrow,
-                other_wide,
-                other_pool,
-                roots,
-                other_roots,
-                marks,
-                work,
-                other_marks,
-                other_work,
-            );
-            marks.fill(0);
-            work.fill(0);
-            other_marks.fill(0);
-            other_work.fill(0);
-            Answer::from(same_reply(found))
-        }
-    }
+    );
+    reply_of(found.map(same_number))
 }
 
 // Which of two heaps comes first: the shorter root list, then the roots as handle places, then the objects in the order first met. 18, 1, 10, 13. first: 0 less (the heap that is
@@ -268,7 +315,7 @@ pub fn yexwalu_order(
         (save_of (lent other other_narrow.now other_wide.now other_pool.now)
         other_roots.now other_marks.old other_work.old) result }
 {
-    match admit(
+    let found = compare_saves(
         types,
         fields,
         consts,
@@ -281,38 +328,12 @@ pub fn yexwalu_order(
         other_narrow,
         other_wide,
         other_pool,
+        roots,
+        other_roots,
         marks,
         work,
         other_marks,
         other_work,
-    ) {
-        Err(why) => Answer::from(Err(why)),
-        Ok(()) => {
-            let found = compare_heaps::order_heaps(
-                types,
-                fields,
-                consts,
-                bytes,
-                heap,
-                narrow,
-                wide,
-                pool,
-                other,
-                other_narrow,
-                other_wide,
-                other_pool,
-                roots,
-                other_roots,
-                marks,
-                work,
-                other_marks,
-                other_work,
-            );
-            marks.fill(0);
-            work.fill(0);
-            other_marks.fill(0);
-            other_work.fill(0);
-            Answer::from(order_reply(found))
-        }
-    }
+    );
+    reply_of(found.map(order_number))
 }

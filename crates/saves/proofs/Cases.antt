@@ -3,6 +3,7 @@ use Prim.Native.Nat.{ℕ}
 use mathlib.Core.Path.{◌≡◌, refl}
 use mathlib.Core.List.{List, [], ◌∷◌, ◌++◌}
 use lib.ListN.{replicate}
+use Rattle.std.specs.declared.cmp.Ordering.TheVariants.{Less, Equal, Greater}
 use Rattle.word.specs.Le.{le}
 use Rattle.word.specs.Result.{ok, refused}
 use Rattle.handle.specs.Handle.{packed, tag_of, index_of, generation_of, resolve_by}
@@ -12,7 +13,7 @@ use Rattle.trace.specs.Places.{object_places, rising, handles_places, kind_place
 use Rattle.reach.specs.Marking.{visit, follow, drained, marking}
 use Rattle.heap.specs.State.{Slot, State}
 use Rattle.heap.specs.Calls.{resolve}
-use Rattle.alike.specs.Order.{onward, met, encoding, Order.less, Order.equal, Order.greater, order, heap_order}
+use Rattle.alike.specs.Order.{onward, met, encoding, heap_order}
 use Rattle.models.specs.Objects.{in_place, outside, slot_places, object_of}
 use Rattle.models.specs.HeapModel.{heap_model}
 use Rattle.saves.specs.Saves.{ordering}
@@ -70,6 +71,6 @@ told :
     ∷ ordering table (other 7) (one 7) (to 2 ∷ []) []
     ∷ ordering table (one 7) (other 7) [] (to 2 ∷ [])
     ∷ []
-    ≡ ok equal ∷ ok less ∷ ok greater ∷ refused 13 ∷ refused 13 ∷ []
-unfolding ordering heap_model object_of slot_places shown_places kind_places object_places handles_places rising outside in_place le packed tag_of index_of generation_of resolve resolve_by marking drained visit follow heap_order order encoding met onward handles_by handles_at desc_by desc_at
+    ≡ ok Equal ∷ ok Less ∷ ok Greater ∷ refused 13 ∷ refused 13 ∷ []
+unfolding ordering heap_model object_of slot_places shown_places kind_places object_places handles_places rising outside in_place le packed tag_of index_of generation_of resolve resolve_by marking drained visit follow heap_order encoding met onward handles_by handles_at desc_by desc_at
 told = refl

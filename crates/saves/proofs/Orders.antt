@@ -5,6 +5,9 @@ use mathlib.Core.Bool.{true}
 use mathlib.Core.List.{List}
 use lib.ListN.{length}
 use native.Mathlib.Omega.{arith}
+use Rattle.std.specs.declared.cmp.Ordering.{Ordering}
+use Rattle.std.specs.declared.cmp.Ordering.TheVariants.{Less, Equal, Greater}
+use Rattle.std.specs.Ordering.{ordering_reverse}
 use Rattle.refusal.specs.Told.{told}
 use Rattle.std.specs.Prelude.{Ok}
 use Rattle.ty.specs.Check.{table_good}
@@ -12,7 +15,7 @@ use Rattle.heap.specs.Lent.{view}
 use Rattle.heap.specs.WellFormed.{well_formed}
 use Rattle.door.specs.HeapCalls.{admitted, enough}
 use Rattle.door.proofs.Entering.{all_hold}
-use Rattle.alike.specs.Order.{encoding, Order, Order.less, Order.equal, Order.greater, turned, order, heap_order}
+use Rattle.alike.specs.Order.{encoding, order, heap_order}
 use Rattle.alike.proofs.Orders.{heap-turned, order_trans, order-left, order-right, equal-trans}
 use Rattle.saves.specs.Saves.{order_number, Save, Words, save_tests, order_call}
 use Rattle.saves.specs.Right.{model_in, Admitted, Compared, SwapTurns, OrderTransitive}
@@ -45,31 +48,31 @@ compared-over w s t u c d =
 
 -- ---- turned round
 
-order-swapped : (w : Words) (s t : Save) → order_in w t s ≡ turned (order_in w s t)
+order-swapped : (w : Words) (s t : Save) → order_in w t s ≡ ordering_reverse (order_in w s t)
 order-swapped w s t = heap-turned (model_in w s) (model_in w t) s.roots t.roots (length (view s.heap).slots) (length (view t.heap).slots)
 
 module _ (w : Words) (s t : Save) where
   -- x of the one is told where y of the other is, y being x turned round
-  turn-told : (x y : ℕ) → ((o : Order) → order_number o ≡ x → order_number (turned o) ≡ y) → (order_call w s t).answer ≡ told (Ok (x, 0)) → (order_call w t s).answer ≡ told (Ok (y, 0))
+  turn-told : (x y : ℕ) → ((o : Ordering) → order_number o ≡ x → order_number (ordering_reverse o) ≡ y) → (order_call w s t).answer ≡ told (Ok (x, 0)) → (order_call w t s).answer ≡ told (Ok (y, 0))
   turn-told x y f q =
       let c = told-compared w s t order_number (order_call w s t).answer (order_call w s t).scratch refl x q in
       compared-told w t s order_number (order_call w t s).answer (order_call w t s).scratch refl (compared-swapped w s t c.0)
       ∙ ap (λ (n : ℕ). told (Ok (n, 0))) (ap order_number (order-swapped w s t) ∙ f (order_in w s t) c.1)
 
-less-greater : (o : Order) → order_number o ≡ 0 → order_number (turned o) ≡ 2
-less-greater less e = refl
-less-greater equal e = absurd (omega arith)
-less-greater greater e = absurd (omega arith)
+less-greater : (o : Ordering) → order_number o ≡ 0 → order_number (ordering_reverse o) ≡ 2
+less-greater Less e = refl
+less-greater Equal e = absurd (omega arith)
+less-greater Greater e = absurd (omega arith)
 
-greater-less : (o : Order) → order_number o ≡ 2 → order_number (turned o) ≡ 0
-greater-less less e = absurd (omega arith)
-greater-less equal e = absurd (omega arith)
-greater-less greater e = refl
+greater-less : (o : Ordering) → order_number o ≡ 2 → order_number (ordering_reverse o) ≡ 0
+greater-less Less e = absurd (omega arith)
+greater-less Equal e = absurd (omega arith)
+greater-less Greater e = refl
 
-equal-equal : (o : Order) → order_number o ≡ 1 → order_number (turned o) ≡ 1
-equal-equal less e = absurd (omega arith)
-equal-equal equal e = refl
-equal-equal greater e = absurd (omega arith)
+equal-equal : (o : Ordering) → order_number o ≡ 1 → order_number (ordering_reverse o) ≡ 1
+equal-equal Less e = absurd (omega arith)
+equal-equal Equal e = refl
+equal-equal Greater e = absurd (omega arith)
 
 pub swap-turns : SwapTurns
 swap-turns w s t = ((turn-told w s t 0 2 less-greater, turn-told w t s 2 0 greater-less), (turn-told w s t 1 1 equal-equal, turn-told w t s 1 1 equal-equal))
@@ -79,14 +82,14 @@ swap-turns w s t = ((turn-told w s t 0 2 less-greater, turn-told w t s 2 0 great
 lists-over : (xs ys zs : List ℕ) (x y : ℕ) → x ≤ 1 → y ≤ 1 → order_number (order xs ys) ≡ x → order_number (order ys zs) ≡ y → order_number (order xs zs) ≡ min x y
 lists-over xs ys zs x y h l a b = go (order xs ys) refl (order ys zs) refl a b
   where
-    go : (o : Order) → order xs ys ≡ o → (p : Order) → order ys zs ≡ p → order_number o ≡ x → order_number p ≡ y → order_number (order xs zs) ≡ min x y
-    go less e less d a b = ap order_number (order_trans xs ys zs e d) ∙ omega arith
-    go less e equal d a b = ap order_number (sym (order-right xs ys zs d) ∙ e) ∙ omega arith
-    go less e greater d a b = absurd (omega arith)
-    go equal e less d a b = ap order_number (order-left xs ys zs e ∙ d) ∙ omega arith
-    go equal e equal d a b = ap order_number (equal-trans xs ys zs e d) ∙ omega arith
-    go equal e greater d a b = absurd (omega arith)
-    go greater e p d a b = absurd (omega arith)
+    go : (o : Ordering) → order xs ys ≡ o → (p : Ordering) → order ys zs ≡ p → order_number o ≡ x → order_number p ≡ y → order_number (order xs zs) ≡ min x y
+    go Less e Less d a b = ap order_number (order_trans xs ys zs e d) ∙ omega arith
+    go Less e Equal d a b = ap order_number (sym (order-right xs ys zs d) ∙ e) ∙ omega arith
+    go Less e Greater d a b = absurd (omega arith)
+    go Equal e Less d a b = ap order_number (order-left xs ys zs e ∙ d) ∙ omega arith
+    go Equal e Equal d a b = ap order_number (equal-trans xs ys zs e d) ∙ omega arith
+    go Equal e Greater d a b = absurd (omega arith)
+    go Greater e p d a b = absurd (omega arith)
 
 pub order-transitive : OrderTransitive
 unfolding heap_order

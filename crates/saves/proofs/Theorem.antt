@@ -6,6 +6,8 @@ use mathlib.Core.Bool.{Bool, true, false}
 use mathlib.Core.List.{List}
 use native.Mathlib.Omega.{arith}
 use Rattle.std.specs.Prelude.{if◌then◌else◌}
+use Rattle.std.specs.declared.cmp.Ordering.{Ordering}
+use Rattle.std.specs.declared.cmp.Ordering.TheVariants.{Less, Equal, Greater}
 use Rattle.word.specs.Result.{Result, ok, refused}
 use Rattle.refusal.specs.Told.{number_of, told, answered, nothing}
 use Rattle.refusal.specs.declared.Answer.{Answer}
@@ -21,7 +23,6 @@ use Rattle.door.specs.HeapCalls.{Entry}
 use Rattle.door.specs.HeapCalls.{ready}
 use Rattle.door.proofs.Entering.{apart, asking-not, asking-ready, same-why}
 use Rattle.alike.specs.Same.{Untraceable}
-use Rattle.alike.specs.Order.{Order, Order.less, Order.equal, Order.greater}
 use Rattle.alike.proofs.FirstMet.{traced-or-not}
 use Rattle.saves.specs.Saves.{ordering, same_number, order_number, Save, Words, table_in, save_tests, scratch_of, comparing, same_call, order_call}
 use Rattle.saves.specs.Right.{model_in, Admitted, Compared, Stops, Yes, RightSame, RightOrder}
@@ -68,16 +69,16 @@ early w s t why q =
 -- ---- the three ways of an answer that satisfies the equation: refused by a test, 13, or the number of the order
 
 module _ (w : Words) (s t : Save) where
-  abbrev pub order_in : Order
+  abbrev pub order_in : Ordering
   order_in = ordered (table_in w) (view s.heap) (view t.heap) s.roots t.roots
 
-  pub equal-yes : Compared w s t → order_in ≡ equal → Yes w s t
+  pub equal-yes : Compared w s t → order_in ≡ Equal → Yes w s t
   equal-yes c = (ordered-equal (table_in w) (view s.heap) (view t.heap) s.roots t.roots c.first c.second).0
 
-  pub yes-equal : Compared w s t → Yes w s t → order_in ≡ equal
+  pub yes-equal : Compared w s t → Yes w s t → order_in ≡ Equal
   yes-equal c = (ordered-equal (table_in w) (view s.heap) (view t.heap) s.roots t.roots c.first c.second).1
 
-  module _ (numbered : Order → ℕ) (a : Answer) (scratch : List (List ℕ)) (e : asked_of a scratch ≡ comparing numbered w s t) where
+  module _ (numbered : Ordering → ℕ) (a : Answer) (scratch : List (List ℕ)) (e : asked_of a scratch ≡ comparing numbered w s t) where
     pub by_call : {X : Type 0}
         → ((why : Refusal) → admitted (save_tests w s t) ≡ Err why → a ≡ told (Err why) → X)
         → (Admitted w s t → Untraceable (model_in w s) s.roots ⊎ Untraceable (model_in w t) t.roots → a ≡ told (Err CannotTrace) → X)
@@ -85,10 +86,10 @@ module _ (w : Words) (s t : Save) where
         → X
     by_call {X} turned stop done = go (admitted (save_tests w s t)) refl
       where
-        question : State → Result Order
+        question : State → Result Ordering
         question h = ordering (table_in w) h (view t.heap) s.roots t.roots
 
-        told_is : Admitted w s t → (r : Result Order) → question (view s.heap) ≡ r → a ≡ answered numbered nothing r
+        told_is : Admitted w s t → (r : Result Ordering) → question (view s.heap) ≡ r → a ≡ answered numbered nothing r
         told_is i r q = ap (λ (x : Asked). x.answer) (e ∙ asking-ready numbered nothing (scratch_of s t) (save_tests w s t) s.heap question i) ∙ ap (answered numbered nothing) q
 
         go : (x : Entry) → admitted (save_tests w s t) ≡ x → X
@@ -127,7 +128,7 @@ module _ (w : Words) (s t : Save) where
     )
 
     -- the number 1 exactly for equal, whichever of the two numberings
-    pub yes-told : ((o : Order) → numbered o ≡ 1 → o ≡ equal) → numbered equal ≡ 1 → (a ≡ told (Ok (1, 0))) ↔ (Compared w s t × Yes w s t)
+    pub yes-told : ((o : Ordering) → numbered o ≡ 1 → o ≡ Equal) → numbered Equal ≡ 1 → (a ≡ told (Ok (1, 0))) ↔ (Compared w s t × Yes w s t)
     yes-told f g = (
       λ q. let r = told-compared 1 q in (r.0, equal-yes r.0 (f order_in r.1)),
       λ q. compared-told q.0 ∙ ap (λ (n : ℕ). told (Ok (n, 0))) (ap numbered (yes-equal q.0 q.1) ∙ g),
@@ -135,20 +136,20 @@ module _ (w : Words) (s t : Save) where
 
 -- ---- THE THEOREMS
 
-same-one : (o : Order) → same_number o ≡ 1 → o ≡ equal
-same-one less e = absurd (omega arith)
-same-one equal e = refl
-same-one greater e = absurd (omega arith)
+same-one : (o : Ordering) → same_number o ≡ 1 → o ≡ Equal
+same-one Less e = absurd (omega arith)
+same-one Equal e = refl
+same-one Greater e = absurd (omega arith)
 
-order-one : (o : Order) → order_number o ≡ 1 → o ≡ equal
-order-one less e = absurd (omega arith)
-order-one equal e = refl
-order-one greater e = absurd (omega arith)
+order-one : (o : Ordering) → order_number o ≡ 1 → o ≡ Equal
+order-one Less e = absurd (omega arith)
+order-one Equal e = refl
+order-one Greater e = absurd (omega arith)
 
-same_none : (o : Order) → (o ≡ equal → ⊥) → same_number o ≡ 0
-same_none less f = refl
-same_none equal f = absurd (f refl)
-same_none greater f = refl
+same_none : (o : Ordering) → (o ≡ Equal → ⊥) → same_number o ≡ 0
+same_none Less f = refl
+same_none Equal f = absurd (f refl)
+same_none Greater f = refl
 
 pub rightly-same : (w : Words) (s t : Save) (a : Answer) (scratch : List (List ℕ)) → asked_of a scratch ≡ same_call w s t → RightSame w s t a
 rightly-same w s t a scratch e =
@@ -169,7 +170,7 @@ rightly-ordered w s t a scratch e =
       total = λ c. each (order_in w s t) (compared-told w s t order_number a scratch e c);
     }
   where
-    each : (o : Order) → a ≡ told (Ok ((order_number o), 0)) → (a ≡ told (Ok (0, 0))) ⊎ ((a ≡ told (Ok (1, 0))) ⊎ (a ≡ told (Ok (2, 0))))
-    each less q = inl q
-    each equal q = inr (inl q)
-    each greater q = inr (inr q)
+    each : (o : Ordering) → a ≡ told (Ok ((order_number o), 0)) → (a ≡ told (Ok (0, 0))) ⊎ ((a ≡ told (Ok (1, 0))) ⊎ (a ≡ told (Ok (2, 0))))
+    each Less q = inl q
+    each Equal q = inr (inl q)
+    each Greater q = inr (inr q)

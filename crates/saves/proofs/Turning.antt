@@ -5,12 +5,14 @@ use mathlib.Core.Logic.{◌⊎◌, inl, inr}
 use mathlib.Core.Option.{Option, none, some}
 use mathlib.Core.List.{List}
 use lib.ListN.{length}
+use Rattle.std.specs.declared.cmp.Ordering.{Ordering}
+use Rattle.std.specs.declared.cmp.Ordering.TheVariants.{Equal}
 use Rattle.word.specs.Result.{ok, refused}
 use Rattle.ty.specs.Types.{Table}
 use Rattle.reach.specs.Marking.{State as Marks}
 use Rattle.heap.specs.State.{State}
 use Rattle.alike.specs.Same.{Untraceable, Traceable, Same}
-use Rattle.alike.specs.Order.{met, Order, Order.equal, heap_order}
+use Rattle.alike.specs.Order.{met, heap_order}
 use Rattle.alike.specs.Inner.ByTurns.{by_turns}
 use Rattle.alike.proofs.FirstMet.{marked as marked-is, marking-traced, marking-stuck, traced-or-not}
 use Rattle.alike.proofs.Orders.{heap-equal}
@@ -29,7 +31,7 @@ by-marked {X} T h roots f g = go (marked T h roots) refl
 
 module _ (T : Table) (g h : State) (rs ss : List ℕ) where
   -- the order of the two, where everything can be traced
-  abbrev pub ordered : Order
+  abbrev pub ordered : Ordering
   ordered = heap_order (heap_model T g) (heap_model T h) rs ss (length g.slots) (length h.slots)
 
   pub ordering-first : Untraceable (heap_model T g) rs → ordering T g h rs ss ≡ refused 13
@@ -59,7 +61,7 @@ module _ (T : Table) (g h : State) (rs ss : List ℕ) where
       ∙ ap ok (order-turns (heap_model T g) (heap_model T h) rs ss (length g.slots) (length h.slots) (heap-slots T g) (heap-slots T h) a b (heap-counted T g) (heap-counted T h) (heap-one-table T g h))
 
   -- equal exactly if a pairing exists
-  pub ordered-equal : Traceable (heap_model T g) rs → Traceable (heap_model T h) ss → (ordered ≡ equal → Same (heap_model T g) (heap_model T h) rs ss) × (Same (heap_model T g) (heap_model T h) rs ss → ordered ≡ equal)
+  pub ordered-equal : Traceable (heap_model T g) rs → Traceable (heap_model T h) ss → (ordered ≡ Equal → Same (heap_model T g) (heap_model T h) rs ss) × (Same (heap_model T g) (heap_model T h) rs ss → ordered ≡ Equal)
   ordered-equal a b =
       heap-equal (heap_model T g) (heap_model T h) rs ss (length g.slots) (length h.slots) (heap-slots T g) (heap-slots T h) a b (heap-counted T g) (heap-counted T h) (heap-one-table T g h)
 

@@ -1,6 +1,8 @@
 -- Two heaps compared under one type table, each from a root list of its own (02, [5]): whether they are the same model, and which comes first. 18 (either heap's scratch), 1 (either heap),
 -- 10, then 13 where something reached in either can't be traced, then the answer.
 use Rattle.std.specs.Prelude.{ℕ, List, [], ◌∷◌, length}
+use Rattle.std.specs.declared.cmp.Ordering.{Ordering}
+use Rattle.std.specs.declared.cmp.Ordering.TheVariants.{Less, Equal, Greater}
 use Rattle.std.proofs.Math.Option.{Option, none, some}
 use Rattle.word.specs.Result.{Result, ok, refused}
 use Rattle.refusal.specs.Told.{nothing}
@@ -14,7 +16,7 @@ use Rattle.heap.specs.Lent.{Lent, view}
 use Rattle.heap.specs.WellFormed.{well_formed}
 use Rattle.door.specs.HeapCalls.{Test, test, enough, Asked, asking}
 use Rattle.alike.specs.Same.{graph, starts}
-use Rattle.alike.specs.Order.{Order, Order.less, Order.equal, Order.greater, heap_order}
+use Rattle.alike.specs.Order.{heap_order}
 use Rattle.models.specs.HeapModel.{heap_model}
 
 -- ---- what is answered
@@ -30,19 +32,19 @@ both_traced (some m) none a = refused 13
 both_traced (some m) (some n) a = ok a
 
 -- the heap g with the roots rs against the heap h with the roots ss
-unfoldable pub ordering : Table → (g h : State) (rs ss : List ℕ) → Result Order
+unfoldable pub ordering : Table → (g h : State) (rs ss : List ℕ) → Result Ordering
 ordering T g h rs ss = both_traced (marked T g rs) (marked T h ss) (heap_order (heap_model T g) (heap_model T h) rs ss (length g.slots) (length h.slots))
 
 -- the number that is told: of `same` 1 yes, 0 no; of `order` 0 less, 1 equal, 2 greater
-abbrev pub same_number : Order → ℕ
-same_number less = 0
-same_number equal = 1
-same_number greater = 0
+abbrev pub same_number : Ordering → ℕ
+same_number Less = 0
+same_number Equal = 1
+same_number Greater = 0
 
-abbrev pub order_number : Order → ℕ
-order_number less = 0
-order_number equal = 1
-order_number greater = 2
+abbrev pub order_number : Ordering → ℕ
+order_number Less = 0
+order_number Equal = 1
+order_number Greater = 2
 
 -- ---- the calls
 
@@ -81,7 +83,7 @@ abbrev pub scratch_of : Save → Save → List (List ℕ)
 scratch_of s t = s.marks ∷ s.work ∷ t.marks ∷ t.work ∷ []
 
 -- what a call tells that reads a number off the order, and scratch afterwards
-abbrev pub comparing : (Order → ℕ) → Words → Save → Save → Asked
+abbrev pub comparing : (Ordering → ℕ) → Words → Save → Save → Asked
 comparing number w s t =
     asking number nothing (scratch_of s t) (save_tests w s t) s.heap (λ h. ordering (table_in w) h (view t.heap) s.roots t.roots)
 

@@ -9,45 +9,21 @@ use shelves::Shelf;
 use std::io;
 use std::io::Read;
 
-// What the next bytes of the input put at the start of `buf`: how many, 0 at its end; and whether they could not be read.
-#[derive(Clone, Copy)]
-struct Got {
-    n: usize,
-    failed: bool,
-}
-
-fn read_some(reader: &mut impl Read, buf: &mut [u8]) -> Got
-    ensures { result.n ≤ length buf.old }
+// How many bytes the input put at the start of `buf`, 0 at its end; and whether they could not be read.
+fn read_some(reader: &mut impl Read, buf: &mut [u8]) -> (usize, bool)
+    ensures { result.0 ≤ length buf.old }
 {
     match reader.read(buf) {
-        Ok(n) => Got {
-            n: n,
-            failed: false,
-        },
-        Err(_) => Got { n: 0, failed: true },
+        Ok(n) => (n, false),
+        Err(_) => (0, true),
     }
 }
 
-// Writes the first `n` bytes.
-fn print(rt: &impl Print, out: &[u8], n: usize) -> io::Result<()>
-    requires { n ≤ length out.now }
-{
-    rt.write_all(&out[..n])
-}
-
-// Writes the first `n` bytes of the output.
-fn print_front(rt: &impl Print, out: &[u8; 65536], n: usize) -> io::Result<()>
-    requires { n ≤ 65536 }
-{
-    print(rt, out, n)
-}
-
-// Goes through the first `n` bytes of the input, and prints the lines of the pages that end there.
+// Goes through what came of the input, and prints the lines of the pages that end there.
 fn feed(
     rt: &impl Print,
     shelf: Shelf,
     input: &[u8],
-    n: usize,
     held: &mut [u8; 32768],
     narrow: &mut [u32; 24576],
     wide: &mut [u64; 16384],
@@ -56,41 +32,18 @@ fn feed(
     marks: &mut [u8; 4096],
     work: &mut [u64; 4096],
 ) -> io::Result<Shelf>
-    requires { Good shelf × (n ≤ length input.now) }
+    requires { Good shelf }
     ensures { IfOk result Good }
 {
-    let mut s = shelf;
-    let mut used = 0;
-    while used < n {
-        let done = shelves::go_on(
-            s,
-            &input[used..n],
-            held,
-            narrow,
-            wide,
-            pool,
-            out,
-            marks,
-            work,
-        );
-        print_front(rt, out, done.to)?;
-        s = done.shelf;
-        used += done.used;
+    let mut shelf = shelf;
+    let mut rest = input;
+    while !rest.is_empty() {
+        let done = shelves::go_on(shelf, rest, held, narrow, wide, pool, out, marks, work);
+        rt.write_all(&out[..done.to])?;
+        shelf = done.shelf;
+        rest = &rest[done.used..];
     }
-    Ok(s)
-}
-
-// What is left to do: nothing where the input has ended or the run is over.
-fn turns_left(turns: u64, n: usize, over: bool) -> u64
-    ensures { result ≤ turns }
-{
-    if n == 0 {
-        return 0;
-    }
-    if over {
-        return 0;
-    }
-    turns
+    Ok(shelf)
 }
 
 #[derive(Clone, Copy)]
@@ -99,7 +52,7 @@ struct Ended {
     failed: bool,
 }
 
-// Goes through the input as it comes.
+// Goes through the input as it comes, until it has ended or the run is over.
 fn serve(
     rt: &impl Print,
     reader: &mut impl Read,
@@ -116,21 +69,30 @@ fn serve(
     requires { Good shelf }
     ensures { IfOk result (λ ended. Good ended.shelf) }
 {
-    let mut s = shelf;
-    let mut failed = false;
-    let mut turns: u64 = 18446744073709551615;
-    while 0 < turns {
-        let got = read_some(reader, input);
-        s = feed(
-            rt, s, input, got.n, held, narrow, wide, pool, out, marks, work,
+    let mut end = Ended {
+        shelf,
+        failed: false,
+    };
+    for _ in 0..u64::MAX {
+        let (n, failed) = read_some(reader, input);
+        let shelf = feed(
+            rt,
+            end.shelf,
+            &input[..n],
+            held,
+            narrow,
+            wide,
+            pool,
+            out,
+            marks,
+            work,
         )?;
-        failed = got.failed;
-        turns = turns_left(turns - 1, got.n, s.is_over());
+        end = Ended { shelf, failed };
+        if n == 0 || shelf.is_over() {
+            break;
+        }
     }
-    Ok(Ended {
-        shelf: s,
-        failed: failed,
-    })
+    Ok(end)
 }
 
 fn main(rt: HostRuntime) -> io::Result<()> {
@@ -144,12 +106,11 @@ fn main(rt: HostRuntime) -> io::Result<()> {
     let mut input = [0u8; 65536];
     let mut out = [0u8; 65536];
     let start = shelves::begin(&mut out);
-    print_front(&rt, &out, start.to)?;
-    let shelf = start.shelf;
+    rt.write_all(&out[..start.to])?;
     let end = serve(
         &rt,
         &mut reader,
-        shelf,
+        start.shelf,
         &mut input,
         &mut held,
         &mut narrow,
@@ -159,7 +120,6 @@ fn main(rt: HostRuntime) -> io::Result<()> {
         &mut marks,
         &mut work,
     )?;
-    let last = end.shelf;
-    let to = shelves::finish(last, end.failed, &mut out);
-    print_front(&rt, &out, to)
+    let to = shelves::finish(end.shelf, end.failed, &mut out);
+    rt.write_all(&out[..to])
 }

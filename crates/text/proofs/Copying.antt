@@ -6,8 +6,9 @@ use lib.ListN.{length, drop, get_or, length-drop, length-append}
 use lib.Seq.{get_or-drop}
 use native.Mathlib.Omega.{arith}
 use Rattle.text.specs.Text.{Bytes, hex, hex_digit, hex_digit_of, newline}
-use Rattle.text.specs.Answer.{hex_at, HexParsed, value_or16}
-use Rattle.text.proofs.Laws.{hex-digit-forth, hex-back, hex-length}
+use mathlib.Core.Option.{none, some}
+use Rattle.text.specs.Answer.{hex_at, HexParsed, HexDigit}
+use Rattle.text.proofs.Laws.{none-not-some, some_inj, hex-digit-forth, hex-back, hex-length}
 
 byte_at : (bs : List ℕ) (i : ℕ) → Bytes bs → i < length bs → get_or bs i 0 < 256
 byte_at [] i b h = absurd (omega arith)
@@ -41,26 +42,36 @@ module _ (s : List ℕ) (at : ℕ) (p : HexParsed s at) (i : ℕ) (h : i < lengt
   pub the-byte : get_or (hex_at s at) i 0 < 256
   the-byte = byte_at (hex_at s at) i spelled.0 h
 
-  pub high_value : (k a : ℕ) → k ≡ at + 2 * i → a ≡ value_or16 (hex_digit_of (get_or s k 0)) → a ≡ get_or (hex_at s at) i 0 / 16
-  high_value k a e q =
-      q ∙ ap (λ (n : ℕ). value_or16 (hex_digit_of (get_or s n 0))) e ∙ ap (λ (n : ℕ). value_or16 (hex_digit_of n)) high_digit
-      ∙ ap value_or16 (hex-digit-forth (get_or (hex_at s at) i 0 / 16) (omega (arith, the-byte)))
+  -- the digits of the byte
+  pub high-is : hex_digit_of (get_or s (at + 2 * i) 0) ≡ some (get_or (hex_at s at) i 0 / 16)
+  high-is = ap hex_digit_of high_digit ∙ hex-digit-forth (get_or (hex_at s at) i 0 / 16) (omega (arith, the-byte))
 
-  pub low_value : (k a : ℕ) → k ≡ at + 2 * i → a ≡ value_or16 (hex_digit_of (get_or s (k + 1) 0)) → a ≡ get_or (hex_at s at) i 0 % 16
-  low_value k a e q =
-      q ∙ ap (λ (n : ℕ). value_or16 (hex_digit_of (get_or s n 0))) (let v : k + 1 ≡ at + (2 * i + 1) = omega arith in v) ∙ ap (λ (n : ℕ). value_or16 (hex_digit_of n)) low_digit
-      ∙ ap value_or16 (hex-digit-forth (get_or (hex_at s at) i 0 % 16) (omega (arith, the-byte)))
+  pub low-is : hex_digit_of (get_or s (at + 2 * i + 1) 0) ≡ some (get_or (hex_at s at) i 0 % 16)
+  low-is =
+      ap (λ (n : ℕ). hex_digit_of (get_or s n 0)) (let v : at + 2 * i + 1 ≡ at + (2 * i + 1) = omega arith in v) ∙ ap hex_digit_of low_digit
+      ∙ hex-digit-forth (get_or (hex_at s at) i 0 % 16) (omega (arith, the-byte))
+
+  pub high-digit : HexDigit (get_or s (at + 2 * i) 0)
+  high-digit = λ e. none-not-some (sym e ∙ high-is)
+
+  pub low-digit : HexDigit (get_or s (at + 2 * i + 1) 0)
+  low-digit = λ e. none-not-some (sym e ∙ low-is)
 
 -- a byte from its two digits' values
 pub record Spelled (s : List ℕ) (at i a b : ℕ) : Type 0 where
-  pub small : a * 16 < 256
-  pub whole : a * 16 + b < 256
-  pub value : a * 16 + b ≡ get_or (hex_at s at) i 0
+  pub small : 16 * a < 256
+  pub whole : 16 * a + b < 256
+  pub value : 16 * a + b ≡ get_or (hex_at s at) i 0
 
-pub from-digits : (s : List ℕ) (at i a b : ℕ) → HexParsed s at → i < length (hex_at s at) → a ≡ value_or16 (hex_digit_of (get_or s (at + 2 * i) 0)) →
-    b ≡ value_or16 (hex_digit_of (get_or s (at + 2 * i + 1) 0)) → Spelled s at i a b
+pub hex-value-small : (s : List ℕ) (at i a : ℕ) → HexParsed s at → i < length (hex_at s at) → hex_digit_of (get_or s (at + 2 * i) 0) ≡ some a → a < 16
+hex-value-small s at i a p h e =
+    let x : a ≡ get_or (hex_at s at) i 0 / 16 = some_inj (sym e ∙ high-is s at p i h) in
+    omega (arith, the-byte s at p i h)
+
+pub from-digits : (s : List ℕ) (at i a b : ℕ) → HexParsed s at → i < length (hex_at s at) → hex_digit_of (get_or s (at + 2 * i) 0) ≡ some a →
+    hex_digit_of (get_or s (at + 2 * i + 1) 0) ≡ some b → Spelled s at i a b
 from-digits s at i a b p h ea eb =
-    let x : a ≡ get_or (hex_at s at) i 0 / 16 = high_value s at p i h (at + 2 * i) a refl ea in
-    let y : b ≡ get_or (hex_at s at) i 0 % 16 = low_value s at p i h (at + 2 * i) b refl eb in
+    let x : a ≡ get_or (hex_at s at) i 0 / 16 = some_inj (sym ea ∙ high-is s at p i h) in
+    let y : b ≡ get_or (hex_at s at) i 0 % 16 = some_inj (sym eb ∙ low-is s at p i h) in
     let z : get_or (hex_at s at) i 0 < 256 = the-byte s at p i h in
     record { small = omega arith; whole = omega arith; value = omega arith }

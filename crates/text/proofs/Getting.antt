@@ -1,26 +1,29 @@
 -- What the code's tests say of the readers.
 use Prim.Native.Nat.{ℕ, zero, suc, ◌+◌, ◌-◌, ◌*◌, ◌/◌, ◌^◌, ◌≤◌, ◌<◌}
 use mathlib.Core.List.{List, [], ◌∷◌, ◌++◌, append_assoc}
-use mathlib.Core.Bool.{Bool, true, false, not}
+use mathlib.Core.Bool.{Bool, true, false, true≢false, ◌&&◌}
 use mathlib.Core.Option as maybe
 use mathlib.Core.Option.{none, some}
 use mathlib.Core.Path.{◌≡◌, refl, sym, ap, ◌∙◌, subst}
 use lib.Bits.{bit_or}
-use lib.Dec.{leb, eqb}
-use lib.ListN.{length, drop, get_or, length-drop, drop_of_length-le}
-use lib.Seq.{drop-cons, drop-drop, drop-append_seam}
+use lib.Dec.{leb, ltb, eqb}
+use lib.Pointwise.{pointwise}
+use Rattle.std.specs.List.{starts_with, slice_range}
+use lib.ListN.{length, take, drop, get_or, length-drop, drop_of_length-le}
+use lib.Seq.{drop-cons, drop-drop, drop-append_seam, take_all, length-take-le, get_or-take, get_or-drop}
 use native.Mathlib.Decide.{ℕ_discrete}
 use native.Mathlib.Omega.{arith}
 use native.Mathlib.Numerals.{add-one}
 use native.Mathlib.Nat.{zero-add}
-use borrow.Author.Tests.{le-leb, lt-leb, not-true, not-false, eq-eqb, ne_eqb, leb-true, leb-false, eqb-true}
+use borrow.Author.Tests.{le-leb, lt-leb, not-true, not-false, eq-eqb, ne_eqb, leb-true, leb-false, ltb-true, eqb-true}
+use Rattle.std.proofs.lemmas.List.{get_or_read}
 use Rattle.word.proofs.BitLaws.{or-none}
 use Rattle.word.proofs.ListLaws.{drop-cons-one}
 use Rattle.text.specs.Text.{◌>>=◌, give, decimal, hex, newline, Bytes, digit_of, Stops, ends, scan, capped, after, read_decimal, read_literal, hex_digit_of, byte_of, read_hex, read_field}
 use Rattle.text.specs.Format.{Format, Right, either, number}
-use Rattle.std.specs.Prelude.{Option, Some, None}
-use Rattle.text.specs.Answer.{value_answer, literal_answer, value_answer, hex_answer, hex_more, value_or16, HexDigit, HexDigits, HexRun}
-use Rattle.text.proofs.Laws.{digit-of-digit, scan-some, scan-stops, scan-grows, read-digit, hex-digit-back, decimal-back, number-right, hex-back, literal-back}
+use Rattle.std.specs.Prelude.{Option, Some, None, MatchOption, MatchBool, is_some}
+use Rattle.text.specs.Answer.{value_answer, literal_answer, value_answer, hex_answer, hex_more, HexDigit, HexDigits, HexRun, DigitAt}
+use Rattle.text.proofs.Laws.{none-not-some, digit-of-digit, digit-of-some, ends-stops, scan-some, scan-stops, scan-grows, read-digit, hex-digit-back, decimal-back, number-right, hex-back, literal-back}
 
 pub low : (b : ℕ) → b < 48 → digit_of b ≡ none
 unfolding digit_of
@@ -33,6 +36,10 @@ high b h = rw (lt-leb b 57 h, le-leb 48 b (omega arith))
 pub mid : (b : ℕ) → 48 ≤ b → b ≤ 57 → digit_of b ≡ some (b - 48)
 unfolding digit_of
 mid b h k = rw (le-leb 48 b h, le-leb b 57 k)
+
+-- a byte that `get` has found
+pub byte-read : (s : List ℕ) (i b : ℕ) → true ≡ ltb i (length s) → b ≡ get_or s i b → (i < length s) × (b ≡ get_or s i 0)
+byte-read s i b h e = let l : i < length s = ltb-true i (length s) (sym h) in (l, get_or_read s i b l e 0)
 
 module _ (s : List ℕ) (i : ℕ) where
   pub stops_at : i < length s → digit_of (get_or s i 0) ≡ none → Stops (drop i s)
@@ -50,6 +57,16 @@ module _ (s : List ℕ) (i : ℕ) where
   pub step : i < length s → (n d : ℕ) → digit_of (get_or s i 0) ≡ some d → scan n (drop i s) ≡ scan (n * 10 + d) (drop (i + 1) s)
   step h n d e = rw (drop-cons-one s i h) (scan-some n (get_or s i 0) d (drop (i + 1) s) e)
 
+pub step-at : {s : List ℕ} {i d : ℕ} (n : ℕ) → DigitAt s i d → scan n (drop i s) ≡ scan (n * 10 + d) (drop (i + 1) s)
+step-at {s} {i} {d} n h = step s i h.inside n d h.digit
+
+-- no digit, by its byte's value
+pub stops-low : (s : List ℕ) (i b : ℕ) → i < length s → b ≡ get_or s i 0 → b < 48 → Stops (drop i s)
+stops-low s i b h e l = stops_at s i h (ap digit_of (sym e) ∙ low b l)
+
+pub stops-high : (s : List ℕ) (i b : ℕ) → i < length s → b ≡ get_or s i 0 → 57 < b → Stops (drop i s)
+stops-high s i b h e l = stops_at s i h (ap digit_of (sym e) ∙ high b l)
+
 -- a number that stands there
 pub found : (s : List ℕ) (most i n : ℕ) (r : ℕ × List ℕ) → n ≤ most → i ≤ length s → r ≡ scan n (drop i s) → Stops (drop i s) →
     Some (n, i) ≡ value_answer (length s) (capped most r)
@@ -62,72 +79,87 @@ pub past : (s : List ℕ) (most n : ℕ) (t : List ℕ) (r : ℕ × List ℕ) �
 unfolding capped
 past s most n t r h e = rw (e, lt-leb (scan n t).0 most (omega (arith, scan-grows n t)))
 
+-- what `is_some` tells of a call
+pub not-some : (P : Type 0) (Q : ℕ → Type 0) (x : Option ℕ) {b : Bool} → MatchOption x P Q → b ≡ is_some x → b ≡ false → P
+not-some P Q None m e f = m
+not-some P Q (Some d) m e f = absurd (true≢false (sym e ∙ f))
+
+pub is-some : (P : Type 0) (Q : ℕ → Type 0) (x : Option ℕ) {b : Bool} → MatchOption x P Q → b ≡ is_some x → b ≡ true → (d : ℕ) × Q d
+is-some P Q None m e f = absurd (true≢false (sym f ∙ e))
+is-some P Q (Some d) m e f = (d, m)
+
+nothing-read : (most : ℕ) (t : List ℕ) → Stops t → read_decimal most t ≡ none
+unfolding read_decimal Stops
+nothing-read most [] h = refl
+nothing-read most (b ∷ t) h = rw h
+
+-- the first digit, or none
 module _ (s : List ℕ) (most at : ℕ) where
-  pub nothing-there : length s ≤ at → None ≡ value_answer (length s) (read_decimal most (drop at s))
-  unfolding read_decimal
-  nothing-there h = rw (drop_of_length-le s {i = at} h)
+  pub no-digit-there : Stops (drop at s) → None ≡ value_answer (length s) (read_decimal most (drop at s))
+  no-digit-there h = rw (nothing-read most (drop at s) h)
 
-  pub no_digit : at < length s → digit_of (get_or s at 0) ≡ none → None ≡ value_answer (length s) (read_decimal most (drop at s))
-  unfolding read_decimal
-  no_digit h e = rw (drop-cons-one s at h, e)
+  pub read_at : (d : ℕ) → DigitAt s at d → read_decimal most (drop at s) ≡ after most d (drop (at + 1) s)
+  read_at d h = rw (drop-cons-one s at h.inside) (read-digit most (get_or s at 0) d (drop (at + 1) s) h.digit)
 
-  pub read_at : at < length s → (d : ℕ) → digit_of (get_or s at 0) ≡ some d → read_decimal most (drop at s) ≡ after most d (drop (at + 1) s)
-  read_at h d e = rw (drop-cons-one s at h) (read-digit most (get_or s at 0) d (drop (at + 1) s) e)
-
-  pub zero-at : at < length s → get_or s at 0 ≡ 48 → read_decimal most (drop at s) ≡ after most 0 (drop (at + 1) s)
-  zero-at h e = read_at h 0 (rw e (digit-of-digit 0 (omega arith)))
-
-  pub spare-zero : at < length s → get_or s at 0 ≡ 48 → not (ends (drop (at + 1) s)) ≡ true → None ≡ value_answer (length s) (read_decimal most (drop at s))
+  pub spare-zero : (z : ℕ) → DigitAt s at z → z ≡ 0 → (d : ℕ) × DigitAt s (at + 1) d → None ≡ value_answer (length s) (read_decimal most (drop at s))
   unfolding after
-  spare-zero h e t = rw (zero-at h e) (rw (not-true (ends (drop (at + 1) s)) t))
+  spare-zero zero h e f = rw (read_at 0 h) (rw (goes_on s (at + 1) f.1.inside f.0 f.1.digit))
+  spare-zero (suc z) h e f = absurd (omega (arith, e))
 
-  pub just-zero : at < length s → get_or s at 0 ≡ 48 → not (ends (drop (at + 1) s)) ≡ false → Some (0, at + 1) ≡ value_answer (length s) (read_decimal most (drop at s))
-  unfolding after
-  just-zero h e t =
-      rw (zero-at h e) (rw (not-false (ends (drop (at + 1) s)) t)
-      (ap (λ (m : ℕ). Some (0, m)) (let v : at + 1 ≡ length s - length (drop (at + 1) s) = omega (arith, length-drop (at + 1) s) in v)))
+  -- a zero that nothing follows is a number of one digit
+  pub one-zero : (z : ℕ) → DigitAt s at z → z ≡ 0 → Stops (drop (at + 1) s) → read_decimal most (drop at s) ≡ capped most (scan z (drop (at + 1) s))
+  unfolding after capped
+  one-zero (suc z) h e f = absurd (omega (arith, e))
+  one-zero zero h e f = rw (read_at 0 h, ends-stops (drop (at + 1) s) f, scan-stops 0 (drop (at + 1) s) f, le-leb 0 most (omega arith))
 
-  -- a digit d other than 0, at byte b
-  pub first-digit : at < length s → (d : ℕ) → 1 ≤ d → digit_of (get_or s at 0) ≡ some d → read_decimal most (drop at s) ≡ capped most (scan d (drop (at + 1) s))
+  -- what follows was looked at
+  pub no-spare : (z : ℕ) → DigitAt s at z → z ≡ 0 → (x : Option ℕ) {b : Bool} → MatchOption x (Stops (drop (at + 1) s)) (λ d. DigitAt s (at + 1) d) → b ≡ is_some x → b ≡ false →
+      read_decimal most (drop at s) ≡ capped most (scan z (drop (at + 1) s))
+  no-spare z h e x m f g = one-zero z h e (not-some _ _ x m f g)
+
+  pub first-digit : (d : ℕ) → (d ≡ 0 → ⊥) → DigitAt s at d → read_decimal most (drop at s) ≡ capped most (scan d (drop (at + 1) s))
   unfolding after
-  first-digit h zero l e = absurd (omega arith)
-  first-digit h (suc d) l e = read_at h (suc d) e
+  first-digit zero l h = absurd (l refl)
+  first-digit (suc d) l h = read_at (suc d) h
 
 pub too_large : (s : List ℕ) (most d : ℕ) {o : maybe.Option (ℕ × List ℕ)} (t : List ℕ) → most < d → o ≡ capped most (scan d t) → None ≡ value_answer (length s) o
 too_large s most d t h e = past s most d t (scan d t) h refl ∙ ap (value_answer (length s)) (sym e)
 
-pub one_up : (b d : ℕ) → 48 ≤ b → (b ≡ 48 → ⊥) → d ≡ b - 48 → 1 ≤ d
-one_up b d h n e = omega arith
-
 -- LITERALS
 
-module _ (l s : List ℕ) (at i : ℕ) where
-  abbrev left_over : maybe.Option (List ℕ)
-  left_over = read_literal (drop i l) (drop (at + i) s)
+pub starts-read : (l t : List ℕ) → pointwise eqb l (take (length l) t) ≡ true → read_literal l t ≡ some (drop (length l) t)
+unfolding read_literal
+starts-read [] t h = refl
+starts-read (c ∷ cs) [] h = absurd (true≢false (sym h))
+starts-read (c ∷ cs) (b ∷ t) h = go (eqb c b) refl (starts-read cs t)
+  where
+    go : (e : Bool) → eqb c b ≡ e → (pointwise eqb cs (take (length cs) t) ≡ true → read_literal cs t ≡ some (drop (length cs) t)) →
+        read_literal (c ∷ cs) (b ∷ t) ≡ some (drop (length (c ∷ cs)) (b ∷ t))
+    go true e ih = rw e (ih (rw e at h))
+    go false e ih = absurd (true≢false (sym (rw e at h)))
 
-  pub literal-short : i < length l → length s ≤ at + i → left_over ≡ none
-  unfolding read_literal
-  literal-short h k = rw (drop-cons-one l i h, drop_of_length-le s {i = at + i} k)
+pub other-lost : (l t : List ℕ) → pointwise eqb l (take (length l) t) ≡ false → read_literal l t ≡ none
+unfolding read_literal
+other-lost [] t h = absurd (true≢false h)
+other-lost (c ∷ cs) [] h = refl
+other-lost (c ∷ cs) (b ∷ t) h = go (eqb c b) refl (other-lost cs t)
+  where
+    go : (e : Bool) → eqb c b ≡ e → (pointwise eqb cs (take (length cs) t) ≡ false → read_literal cs t ≡ none) → read_literal (c ∷ cs) (b ∷ t) ≡ none
+    go true e ih = rw e (ih (rw e at h))
+    go false e ih = rw e
 
-  pub literal-other : i < length l → at + i < length s → (get_or l i 0 ≡ get_or s (at + i) 0 → ⊥) → left_over ≡ none
-  unfolding read_literal
-  literal-other h k n = rw (drop-cons-one l i h, drop-cons-one s (at + i) k, ne_eqb (get_or l i 0) (get_or s (at + i) 0) n)
+-- a part of the text, from `at` on, begins with the literal or not
+module _ (l s : List ℕ) (at : ℕ) {x : Bool} (e : x ≡ starts_with eqb (take (length s - at) (drop at s)) l) where
+  whole-rest : x ≡ pointwise eqb l (take (length l) (drop at s))
+  whole-rest = e ∙ ap (λ (t : List ℕ). starts_with eqb t l) (take_all (length s - at) (drop at s) (omega (arith, length-drop at s)))
 
-  pub literal-same : i < length l → at + i < length s → get_or l i 0 ≡ get_or s (at + i) 0 → left_over ≡ read_literal (drop (i + 1) l) (drop (at + (i + 1)) s)
-  unfolding read_literal
-  literal-same h k e =
-      rw (drop-cons-one l i h, drop-cons-one s (at + i) k, eq-eqb (get_or l i 0) (get_or s (at + i) 0) e)
-      (ap (λ (m : ℕ). read_literal (drop (i + 1) l) (drop m s)) (let v : at + i + 1 ≡ at + (i + 1) = omega arith in v))
+  pub literal-past : x ≡ true → at + length l ≤ length s → Some (at + length l) ≡ literal_answer (length s) (read_literal l (drop at s))
+  literal-past f h =
+      rw (starts-read l (drop at s) (sym whole-rest ∙ f))
+      (ap Some (let v : at + length l ≡ length s - length (drop (length l) (drop at s)) = omega (arith, length-drop (length l) (drop at s), length-drop at s) in v))
 
-  pub literal-all : length l ≤ i → at + i ≤ length s → left_over ≡ some (drop (at + i) s)
-  unfolding read_literal
-  literal-all h k = rw (drop_of_length-le l {i = i} h)
-
-pub literal-missing : (s : List ℕ) {o p : maybe.Option (List ℕ)} → o ≡ p → p ≡ none → None ≡ literal_answer (length s) o
-literal-missing s e f = rw (e, f)
-
-pub literal-past : (s : List ℕ) (k : ℕ) {o p : maybe.Option (List ℕ)} → k ≤ length s → o ≡ p → p ≡ some (drop k s) → Some k ≡ literal_answer (length s) o
-literal-past s k h e f = rw (e, f) (ap Some (let v : k ≡ length s - length (drop k s) = omega (arith, length-drop k s) in v))
+  pub literal-missing : x ≡ false → None ≡ literal_answer (length s) (read_literal l (drop at s))
+  literal-missing f = rw (other-lost l (drop at s) (sym whole-rest ∙ f))
 
 -- HEXADECIMAL
 
@@ -135,19 +167,10 @@ pub hex-begin : (len : ℕ) (o : maybe.Option (List ℕ × List ℕ)) → hex_an
 hex-begin len none = refl
 hex-begin len (some r) = ap (λ (m : ℕ). Some (m, len - length r.1)) (sym (zero-add (length r.0)))
 
-pub value_none : (b : ℕ) → value_or16 (hex_digit_of b) ≡ 16 → hex_digit_of b ≡ none
-value_none b e = go (hex_digit_of b) refl
-  where
-    go : (o : maybe.Option ℕ) → hex_digit_of b ≡ o → hex_digit_of b ≡ none
-    go none f = f
-    go (some d) f = absurd (omega (arith, (hex-digit-back b d f).0, sym (ap value_or16 f) ∙ e))
-
-pub value-some : (b : ℕ) → (value_or16 (hex_digit_of b) ≡ 16 → ⊥) → (d : ℕ) × (hex_digit_of b ≡ some d)
-value-some b n = go (hex_digit_of b) refl
-  where
-    go : (o : maybe.Option ℕ) → hex_digit_of b ≡ o → (d : ℕ) × (hex_digit_of b ≡ some d)
-    go none f = absurd (n (ap value_or16 f))
-    go (some d) f = (d, f)
+-- a byte that is a digit is one of them
+pub digit-some : (o : maybe.Option ℕ) → (o ≡ none → ⊥) → (d : ℕ) × (o ≡ some d)
+digit-some none n = absurd (n refl)
+digit-some (some d) n = (d, refl)
 
 newline-reads : (a : ℕ) (t : List ℕ) → a ≡ 10 → read_hex (a ∷ t) ≡ give [] t
 unfolding read_hex
@@ -175,78 +198,148 @@ one_more : (len n x : ℕ) (o : maybe.Option (List ℕ × List ℕ)) → hex_mor
 one_more len n x none = refl
 one_more len n x (some r) = ap (λ (m : ℕ). Some (m, len - length r.1)) (let v : n + suc (length r.0) ≡ n + 1 + length r.0 = omega arith in v)
 
+-- the bytes as the code reads them: a at i, b at i + 1
 module _ (s : List ℕ) (n i : ℕ) where
   pub hex-ended : length s ≤ i → None ≡ hex_more (length s) n (read_hex (drop i s))
   unfolding read_hex
   hex-ended h = rw (drop_of_length-le s {i = i} h)
 
-  pub hex-line : i < length s → get_or s i 0 ≡ 10 → Some (n, i + 1) ≡ hex_more (length s) n (read_hex (drop i s))
-  hex-line h e =
-      rw (drop-cons-one s i h) (rw (newline-reads (get_or s i 0) (drop (i + 1) s) e)
-      (λ k. Some (let v : n ≡ n + 0 = omega arith in v k, (let v : i + 1 ≡ length s - length (drop (i + 1) s) = omega (arith, length-drop (i + 1) s) in v k))))
+  module _ (a : ℕ) (h : i < length s) (first : a ≡ get_or s i 0) where
+    pub hex-line : a ≡ 10 → Some (n, i + 1) ≡ hex_more (length s) n (read_hex (drop i s))
+    hex-line e =
+        rw (drop-cons-one s i h) (rw (newline-reads (get_or s i 0) (drop (i + 1) s) (sym first ∙ e))
+        (λ k. Some (let v : n ≡ n + 0 = omega arith in v k, let v : i + 1 ≡ length s - length (drop (i + 1) s) = omega (arith, length-drop (i + 1) s) in v k)))
 
-  pub hex-short : i < length s → length s ≤ i + 1 → (get_or s i 0 ≡ 10 → ⊥) → None ≡ hex_more (length s) n (read_hex (drop i s))
-  hex-short h k e = rw (drop-cons-one s i h, drop_of_length-le s {i = i + 1} k) (rw (one-reads (get_or s i 0) e))
+    module _ (e : a ≡ 10 → ⊥) where
+      inside-line : get_or s i 0 ≡ 10 → ⊥
+      inside-line q = e (first ∙ q)
 
-  two : i + 1 < length s → drop i s ≡ get_or s i 0 ∷ get_or s (i + 1) 0 ∷ drop (i + 2) s
-  two h = drop-cons-one s i (omega arith) ∙ ap (λ (t : List ℕ). get_or s i 0 ∷ t) (drop-cons-one s (i + 1) h ∙ ap (λ (m : ℕ). get_or s (i + 1) 0 ∷ drop m s) (let v : i + 1 + 1 ≡ i + 2 = omega arith in v))
+      pub hex-short : length s ≤ i + 1 → None ≡ hex_more (length s) n (read_hex (drop i s))
+      hex-short k = rw (drop-cons-one s i h, drop_of_length-le s {i = i + 1} k) (rw (one-reads (get_or s i 0) inside-line))
 
-  pub hex-first : i + 1 < length s → (get_or s i 0 ≡ 10 → ⊥) → value_or16 (hex_digit_of (get_or s i 0)) ≡ 16 → None ≡ hex_more (length s) n (read_hex (drop i s))
-  hex-first h e f = rw (two h) (rw (first-none (get_or s i 0) (get_or s (i + 1) 0) (drop (i + 2) s) e (value_none (get_or s i 0) f)))
+      two : i + 1 < length s → drop i s ≡ get_or s i 0 ∷ get_or s (i + 1) 0 ∷ drop (i + 2) s
+      two k =
+          drop-cons-one s i h
+          ∙ ap (λ (t : List ℕ). get_or s i 0 ∷ t) (drop-cons-one s (i + 1) k ∙ ap (λ (m : ℕ). get_or s (i + 1) 0 ∷ drop m s) (let v : i + 1 + 1 ≡ i + 2 = omega arith in v))
 
-  pub hex-second : i + 1 < length s → (get_or s i 0 ≡ 10 → ⊥) → (value_or16 (hex_digit_of (get_or s i 0)) ≡ 16 → ⊥) → value_or16 (hex_digit_of (get_or s (i + 1) 0)) ≡ 16 →
-      None ≡ hex_more (length s) n (read_hex (drop i s))
-  hex-second h e f g =
-      let d = value-some (get_or s i 0) f in
-      rw (two h) (rw (second_none (get_or s i 0) (get_or s (i + 1) 0) d.0 (drop (i + 2) s) e d.1 (value_none (get_or s (i + 1) 0) g)))
+      module _ (b : ℕ) (k : i + 1 < length s) (second : b ≡ get_or s (i + 1) 0) where
+        pub hex-first : hex_digit_of a ≡ none → None ≡ hex_more (length s) n (read_hex (drop i s))
+        hex-first f = rw (two k) (rw (first-none (get_or s i 0) (get_or s (i + 1) 0) (drop (i + 2) s) inside-line (ap hex_digit_of (sym first) ∙ f)))
 
-  pub hex-next : i + 1 < length s → (get_or s i 0 ≡ 10 → ⊥) → (value_or16 (hex_digit_of (get_or s i 0)) ≡ 16 → ⊥) → (value_or16 (hex_digit_of (get_or s (i + 1) 0)) ≡ 16 → ⊥) →
-      hex_more (length s) n (read_hex (drop i s)) ≡ hex_more (length s) (n + 1) (read_hex (drop (i + 2) s))
-  hex-next h e f g =
-      let d = value-some (get_or s i 0) f in
-      let b = value-some (get_or s (i + 1) 0) g in
-      rw (two h) (rw (both_some (get_or s i 0) (get_or s (i + 1) 0) d.0 b.0 (drop (i + 2) s) e d.1 b.1) (one_more (length s) n (d.0 * 16 + b.0) (read_hex (drop (i + 2) s))))
+        module _ (is : HexDigit a) where
+          first-is : (d : ℕ) × (hex_digit_of (get_or s i 0) ≡ some d)
+          first-is = let x = digit-some (hex_digit_of a) is in (x.0, ap hex_digit_of (sym first) ∙ x.1)
 
--- which bytes are hexadecimal digits
+          pub hex-second : hex_digit_of b ≡ none → None ≡ hex_more (length s) n (read_hex (drop i s))
+          hex-second g = rw (two k) (rw (second_none (get_or s i 0) (get_or s (i + 1) 0) first-is.0 (drop (i + 2) s) inside-line first-is.1 (ap hex_digit_of (sym second) ∙ g)))
+
+          pub hex-next : HexDigit b → hex_more (length s) n (read_hex (drop i s)) ≡ hex_more (length s) (n + 1) (read_hex (drop (i + 2) s))
+          hex-next is' =
+              let y = digit-some (hex_digit_of b) is' in
+              rw (two k)
+              (rw (both_some (get_or s i 0) (get_or s (i + 1) 0) first-is.0 y.0 (drop (i + 2) s) inside-line first-is.1 (ap hex_digit_of (sym second) ∙ y.1))
+              (one_more (length s) n (first-is.0 * 16 + y.0) (read_hex (drop (i + 2) s))))
+
+and-both : (a b : Bool) → (a && b) ≡ true → (a ≡ true) × (b ≡ true)
+and-both true b e = (refl, e)
+and-both false b e = absurd (true≢false (sym e))
+
+-- which bytes are hexadecimal digits, and which are none
+pub not-hex : (b : ℕ) → b < 48 → hex_digit_of b ≡ none
+unfolding hex_digit_of
+not-hex b h = rw (lt-leb 48 b h, lt-leb 97 b (omega arith))
+
+pub not-hex-between : (b : ℕ) → 57 < b → b < 97 → hex_digit_of b ≡ none
+unfolding hex_digit_of
+not-hex-between b h k = rw (le-leb 48 b (omega arith), lt-leb b 57 h, lt-leb 97 b k)
+
+pub not-hex-above : (b : ℕ) → 102 < b → hex_digit_of b ≡ none
+unfolding hex_digit_of
+not-hex-above b h = rw (le-leb 48 b (omega arith), lt-leb b 57 (omega arith), le-leb 97 b (omega arith), lt-leb b 102 h)
+
+-- a digit is of one of two kinds
+pub hex-from-48 : (b : ℕ) → HexDigit b → 48 ≤ b
+hex-from-48 b d = go (leb 48 b) refl
+  where
+    go : (p : Bool) → leb 48 b ≡ p → 48 ≤ b
+    go true e = leb-true 48 b e
+    go false e = absurd (d (not-hex b (leb-false 48 b e)))
+
+pub hex-from-97 : (b : ℕ) → HexDigit b → 57 < b → 97 ≤ b
+hex-from-97 b d h = go (leb 97 b) refl
+  where
+    go : (p : Bool) → leb 97 b ≡ p → 97 ≤ b
+    go true e = leb-true 97 b e
+    go false e = absurd (d (not-hex-between b h (leb-false 97 b e)))
+
+hex-to-102 : (b : ℕ) → HexDigit b → b ≤ 102
+hex-to-102 b d = go (leb b 102) refl
+  where
+    go : (p : Bool) → leb b 102 ≡ p → b ≤ 102
+    go true e = leb-true b 102 e
+    go false e = absurd (d (not-hex-above b (leb-false b 102 e)))
+
+-- the values of digits
+pub hex-low-value : (b : ℕ) → HexDigit b → b ≤ 57 → hex_digit_of b ≡ some (b - 48)
+unfolding hex_digit_of
+hex-low-value b d h = rw (le-leb 48 b (hex-from-48 b d), le-leb b 57 h)
+
+pub hex-high-value : (b : ℕ) → HexDigit b → 57 < b → hex_digit_of b ≡ some (b - 97 + 10)
+unfolding hex_digit_of
+hex-high-value b d h =
+    let l : 97 ≤ b = hex-from-97 b d h in
+    rw (le-leb 48 b (omega arith), lt-leb b 57 h, le-leb 97 b l, le-leb b 102 (hex-to-102 b d)) (ap some (let v : b - 87 ≡ b - 97 + 10 = omega arith in v))
+
 pub digit-hex : (b : ℕ) → 48 ≤ b → b ≤ 57 → HexDigit b
 unfolding hex_digit_of
 digit-hex b l h =
     let w : hex_digit_of b ≡ some (b - 48) = rw (le-leb 48 b l, le-leb b 57 h) in
-    λ e. omega (arith, sym (ap value_or16 w) ∙ e)
+    λ e. none-not-some (sym e ∙ w)
 
 pub letter-hex : (b : ℕ) → 97 ≤ b → b ≤ 102 → HexDigit b
 unfolding hex_digit_of
 letter-hex b l h =
     let w : hex_digit_of b ≡ some (b - 87) = rw (le-leb 48 b (omega arith), lt-leb b 57 (omega arith), le-leb 97 b l, le-leb b 102 h) in
-    λ e. omega (arith, sym (ap value_or16 w) ∙ e)
+    λ e. none-not-some (sym e ∙ w)
 
--- a block of them, j looked at
-pub record Looking (s : List ℕ) (at j seen : ℕ) : Type 0 where
+-- a block of them, j looked at: `all` says that they are
+pub record Looking (s : List ℕ) (at j : ℕ) (all : Bool) : Type 0 where
   pub room : at + 32 ≤ length s
   pub few : j ≤ 32
-  pub each : seen ≡ 0 → (k : ℕ) → k < j → HexDigit (get_or s (at + k) 0)
+  pub each : all ≡ true → (k : ℕ) → k < j → HexDigit (get_or s (at + k) 0)
 
-pub looking-first : (s : List ℕ) (at : ℕ) → at + 32 ≤ length s → Looking s at 0 0
+pub looking-first : (s : List ℕ) (at : ℕ) → at + 32 ≤ length s → Looking s at 0 true
 looking-first s at room = record { room = room; few = omega arith; each = λ z k h. absurd (omega arith) }
 
-pub looking-next : {s : List ℕ} {at j seen r : ℕ} → Looking s at j seen → j < 32 → (r ≡ 0 → HexDigit (get_or s (at + j) 0)) → Looking s at (j + 1) (bit_or seen r)
-looking-next {s} {at} {j} {seen} {r} v less d =
+pub looking-next : {s : List ℕ} {at j : ℕ} {all r : Bool} → Looking s at j all → j < 32 → (r ≡ true → HexDigit (get_or s (at + j) 0)) → Looking s at (j + 1) (all && r)
+looking-next {s} {at} {j} {all} {r} v less d =
     record {
       room = v.room;
       few = omega arith;
-      each = λ z k h. let w = or-none seen r z in elim (ℕ_discrete k j) [
+      each = λ z k h. let w = and-both all r z in elim (ℕ_discrete k j) [
         | yes e ↦ subst (λ (x : ℕ). HexDigit (get_or s (at + x) 0)) (sym e) (d w.1)
         | no n ↦ v.each w.0 k (omega (arith, n))
       ];
     }
 
-pub looking-last : {s : List ℕ} {at j seen : ℕ} → Looking s at j seen → 32 ≤ j → eqb seen 0 ≡ true → HexDigits s at 32
-looking-last {s} {at} {j} {seen} v all e = record { within = v.room; each = λ k h. v.each (eqb-true seen 0 e) k (omega arith) }
+block-long : {s : List ℕ} {at n j : ℕ} {all : Bool} → Looking s at j all → n ≡ 32 → length (take n (drop at s)) ≡ n
+block-long {s} {at} {n} v e = length-take-le n (drop at s) (omega (arith, length-drop at s, v.room, e))
+
+-- the block as a part of the text, and what the test tells of its byte
+pub looking-on : {s : List ℕ} {at n j : ℕ} {all : Bool} (r : Bool) → Looking s at j all → n ≡ 32 → j < length (take n (drop at s)) →
+    MatchBool r (HexDigit (get_or (take n (drop at s)) j 0)) (hex_digit_of (get_or (take n (drop at s)) j 0) ≡ none) → Looking s at (j + 1) (all && r)
+looking-on {s} {at} {n} {j} true v e h d =
+    let q : get_or (take n (drop at s)) j 0 ≡ get_or s (at + j) 0 = get_or-take n (drop at s) j 0 (omega (arith, h, block-long v e)) ∙ get_or-drop at s j 0 in
+    looking-next v (omega (arith, e, h, block-long v e)) (λ z. subst HexDigit q d)
+looking-on false v e h d = looking-next v (omega (arith, e, h, block-long v e)) (λ z. absurd (true≢false (sym z)))
+
+pub looking-last : {s : List ℕ} {at j : ℕ} {all : Bool} → Looking s at j all → 32 ≤ j → all ≡ true → HexDigits s at 32
+looking-last {s} {at} {j} v most e = record { within = v.room; each = λ k h. v.each e k (omega arith) }
 
 -- a digit is no line's end
 digit-inside : (b : ℕ) → HexDigit b → b ≡ 10 → ⊥
 unfolding hex_digit_of
-digit-inside b d e = d (ap (λ (x : ℕ). value_or16 (hex_digit_of x)) e)
+digit-inside b d e = d (ap hex_digit_of e)
 
 -- the digits of k bytes are passed
 hex-skip : (s : List ℕ) (n i k : ℕ) → i + 2 * k ≤ length s → ((j : ℕ) → j < 2 * k → HexDigit (get_or s (i + j) 0))
@@ -259,7 +352,7 @@ hex-skip s n i (suc k) room each =
     let e : n + 1 + k ≡ n + suc k = omega arith in
     let f : i + 2 + 2 * k ≡ i + 2 * suc k = omega arith in
     let here : HexDigit (get_or s i 0) = subst (λ (x : ℕ). HexDigit (get_or s x 0)) (let z : i + 0 ≡ i = omega arith in z) (each 0 (omega arith)) in
-    hex-next s n i (omega arith) (digit-inside (get_or s i 0) here) here (each 1 (omega arith))
+    hex-next s n i (get_or s i 0) (omega arith) refl (digit-inside (get_or s i 0) here) (get_or s (i + 1) 0) (omega arith) refl here (each 1 (omega arith))
     ∙ hex-skip s (n + 1) (i + 2) k (omega arith) (λ j h. subst (λ (x : ℕ). HexDigit (get_or s x 0)) (let z : i + (2 + j) ≡ i + 2 + j = omega arith in z) (each (2 + j) (omega arith)))
     ∙ (λ j. hex_more (length s) (e j) (read_hex (drop (f j) s)))
 

@@ -1,13 +1,15 @@
 -- The laws of `putText`.
 use Prim.Native.Nat.{ℕ, ◌+◌, ◌-◌, ◌*◌, ◌/◌, ◌%◌, ◌≤◌, ◌<◌}
-use mathlib.Core.List.{List, [], ◌∷◌, ◌++◌}
+use mathlib.Core.List.{List, [], ◌∷◌, ◌++◌, append_assoc}
 use mathlib.Core.Path.{◌≡◌, refl, sym, ap, ◌∙◌}
-use lib.ListN.{length, get_or, take, set, length-append, length-set}
-use lib.Seq.{length-take-le, take-suc, take_all}
+use lib.ListN.{length, get_or, take, drop, set, length-append, length-set}
+use lib.Seq.{length-take-le, take-suc, take_all, drop-drop}
 use native.Mathlib.Omega.{arith}
 use native.Mathlib.Numerals.{add-one}
 use native.Mathlib.Nat.{add-zero}
 use Rattle.word.proofs.PutLaws.{put-none, length-put, put-put, copy-turn}
+use borrow.Rule.Slice.PartMut.{put_mid}
+use Rattle.word.specs.Put.{put}
 use Rattle.text.specs.Put.{put_text, Puts}
 use Rattle.text.specs.Text.{decimal, hex, hex_digit}
 use Rattle.text.proofs.Laws.{decimal-one, decimal-more, decimal-length-one, decimal-length-more, hex-length}
@@ -21,6 +23,13 @@ put-length out at t h = length-put out at t (length t) h (omega arith)
 
 pub put-nothing : (out : List ℕ) (at : ℕ) → put_text out at [] ≡ out
 put-nothing out at = sym (put-none out at [])
+
+-- a part of the list that a copy filled
+pub put-mid-put : (out t : List ℕ) {u : List ℕ} (at k : ℕ) → k ≡ length t → u ≡ t → put_mid at k out u ≡ put_text out at t
+unfolding put
+put-mid-put out t at k e f =
+    rw (f, e, take_all (length t) t (omega arith))
+    (ap (λ (x : List ℕ). take at out ++ (t ++ x)) (drop-drop (length t) at out) ∙ sym (append_assoc (take at out) t (drop (at + length t) out)))
 
 -- two calls, one after the other
 pub puts-puts : {a b c : List ℕ} {at k r : ℕ} {t u : List ℕ} → Puts a b at k t → Puts b c k r u → at ≤ length a → Puts a c at r (t ++ u)
@@ -77,6 +86,10 @@ pub hex-append : (xs ys : List ℕ) → hex (xs ++ ys) ≡ hex xs ++ hex ys
 unfolding hex
 hex-append [] ys = refl
 hex-append (x ∷ xs) ys = rw (hex-append xs ys)
+
+-- there is room for one byte more
+pub hex-room : {a b : List ℕ} {at k : ℕ} (i : ℕ) (l : List ℕ) → i < length l → at + length (hex l) ≤ length a → Puts a b at k (hex (take i l)) → k + 1 < length a
+hex-room i l h f p = omega (arith, hex-length l, hex-length (take i l), length-take-at l i (omega arith), p.next)
 
 -- one byte more in hexadecimal
 pub hex-step : (a b : List ℕ) (at k i : ℕ) (l : List ℕ) → i < length l → at + length (hex l) ≤ length a → length b ≡ length a → Puts a b at k (hex (take i l)) →

@@ -2,7 +2,7 @@
 use Rattle.std.specs.Prelude.{ℕ, ◌+◌, ◌-◌, ◌*◌, ◌≤◌, ◌<◌, List, [], ◌≡◌, length, get_or, drop, Option, Some, None}
 use mathlib.Core.Option as maybe
 use mathlib.Core.Option.{none, some}
-use Rattle.text.specs.Text.{read_hex, hex_digit_of, give}
+use Rattle.text.specs.Text.{read_hex, digit_of, hex_digit_of, give}
 
 -- a value and where the rest begins
 abbrev pub value_answer : {A : Type 0} → (len : ℕ) → maybe.Option (A × List ℕ) → Option (A × ℕ)
@@ -22,9 +22,10 @@ abbrev pub hex_answer : (len : ℕ) → maybe.Option (List ℕ × List ℕ) → 
 hex_answer len none = None
 hex_answer len (some r) = Some (length r.0, len - length r.1)
 
-abbrev pub value_or16 : maybe.Option ℕ → ℕ
-value_or16 none = 16
-value_or16 (some d) = d
+-- the digit d stands at `at`
+pub record DigitAt (s : List ℕ) (at d : ℕ) : Type 0 where
+  pub inside : at < length s
+  pub digit : digit_of (get_or s at 0) ≡ some d
 
 -- the bytes that a text spells from `at` on
 unfoldable pub hex_at : List ℕ → ℕ → List ℕ
@@ -37,7 +38,7 @@ pub record HexParsed (s : List ℕ) (at : ℕ) : Type 0 where
 
 -- a byte is a hexadecimal digit
 abbrev pub HexDigit : ℕ → Type 0
-HexDigit b = value_or16 (hex_digit_of b) ≡ 16 → ⊥
+HexDigit b = hex_digit_of b ≡ none → ⊥
 
 -- n of them stand from `at` on
 pub record HexDigits (s : List ℕ) (at n : ℕ) : Type 0 where

@@ -1,11 +1,12 @@
 // Text as bytes: decimal numbers without spare zeros, lowercase hexadecimal, literals.
 #![tactic(auto)]
 
-ghost use Rattle.std.specs.Prelude.{◌≡◌, ℕ, ◌+◌, ◌-◌, ◌/◌, ◌≤◌, ◌<◌, length, take, drop, get_or, not, true};
-ghost use Rattle.text.specs.Text.{decimal, hex, hex_digit, ends, scan, capped, read_decimal, read_literal, hex_digit_of, read_hex, read_field};
-ghost use Rattle.text.specs.Answer.{value_answer, literal_answer, hex_answer, hex_more, value_or16};
+ghost use Rattle.std.specs.Prelude.{◌≡◌, ℕ, ◌+◌, ◌-◌, ◌/◌, ◌≤◌, ◌<◌, length, take, drop, get_or, true, MatchOption, MatchBool};
+ghost use Rattle.text.specs.Text.{decimal, hex, hex_digit, Stops, scan, capped, read_decimal, read_literal, hex_digit_of, read_hex, read_field};
+ghost use Rattle.text.specs.Answer.{value_answer, literal_answer, hex_answer, hex_more, DigitAt};
 ghost use Rattle.text.specs.Format.{either};
 ghost use Rattle.text.specs.Put.{Puts};
+ghost use Rattle.std.proofs.Math.Option.{none, some};
 ghost use Rattle.text.specs.Answer.{hex_at, HexParsed, HexDigit, HexDigits, HexRun};
 
 // How many digits a number has.
@@ -30,27 +31,14 @@ pub fn put_decimal(out: &mut [u8], at: usize, n: u64) -> usize
     }
 }
 
-fn wide(b: u8) -> u64
-    ensures { result ≡ b }
+// The digit that stands at `at`, if there is one.
+fn digit_at(s: &[u8], at: usize) -> Option<u64>
+    ensures { MatchOption result (Stops (drop at s.now)) (λ d. DigitAt s.now at d) }
 {
-    b as u64
-}
-
-// Is there a digit at `at`?
-fn digit_at(s: &[u8], at: usize) -> bool
-    ensures { result ≡ not (ends (drop at s.now)) }
-{
-    if s.len() <= at {
-        return false;
+    match *s.get(at)? {
+        b @ b'0'..=b'9' => Some(u64::from(b - b'0')),
+        _ => None,
     }
-    let b = s[at];
-    if b < 48 {
-        return false;
-    }
-    if 57 < b {
-        return false;
-    }
-    true
 }
 
 // What follows the digits that spelled `first`, up to `most`, and where it ends.
@@ -60,22 +48,11 @@ fn get_more(s: &[u8], start: usize, first: u64, most: u64) -> Option<(u64, usize
 {
     let mut n = first;
     let mut i = start;
-    while i < s.len() {
-        let b = s[i];
-        if b < 48 {
-            return Some((n, i));
-        }
-        if 57 < b {
-            return Some((n, i));
-        }
-        let d = wide(b - 48);
-        if most < d {
+    while let Some(d) = digit_at(s, i) {
+        n = n.checked_mul(10)?.checked_add(d)?;
+        if most < n {
             return None;
         }
-        if (most - d) / 10 < n {
-            return None;
-        }
-        n = n * 10 + d;
         i += 1;
     }
     Some((n, i))
@@ -85,28 +62,16 @@ fn get_more(s: &[u8], start: usize, first: u64, most: u64) -> Option<(u64, usize
 pub fn get_decimal(s: &[u8], at: usize, most: u64) -> Option<(u64, usize)>
     ensures { result ≡ value_answer (length s.now) (read_decimal most (drop at s.now)) }
 {
-    if s.len() <= at {
-        return None;
-    }
-    let b = s[at];
-    if b < 48 {
-        return None;
-    }
-    if 57 < b {
-        return None;
-    }
+    let first = digit_at(s, at)?;
     let next = at + 1;
-    if b == 48 {
-        if digit_at(s, next) {
-            return None;
-        }
-        return Some((0, next));
-    }
-    let d = wide(b - 48);
-    if most < d {
+    // Nothing follows a zero.
+    if first == 0 && digit_at(s, next).is_some() {
         return None;
     }
-    get_more(s, next, d, most)
+    if most < first {
+        return None;
+    }
+    get_more(s, next, first, most)
 }
 
 // Puts bytes as they are from `at` on, and answers where they end.
@@ -114,19 +79,16 @@ pub fn put_literal(out: &mut [u8], at: usize, literal: &[u8]) -> usize
     requires { at + length literal.now ≤ length out.old }
     ensures { Puts out.old out.new at result literal.now }
 {
-    let mut i = 0;
-    while i < literal.len() {
-        out[at + i] = literal[i];
-        i += 1;
-    }
-    at + i
+    let end = at + literal.len();
+    out[at..end].copy_from_slice(literal);
+    end
 }
 
 fn hex_digit_of(d: u8) -> u8
     requires { d < 16 }
     ensures { result ≡ hex_digit d }
 {
-    if d < 10 { 48 + d } else { 87 + d }
+    if d < 10 { b'0' + d } else { b'a' - 10 + d }
 }
 
 // Puts bytes in hexadecimal from `at` on, and answers where they end.
@@ -134,14 +96,11 @@ pub fn put_hex(out: &mut [u8], at: usize, bytes: &[u8]) -> usize
     requires { at + length (hex bytes.now) ≤ length out.old }
     ensures { Puts out.old out.new at result (hex bytes.now) }
 {
-    let mut i = 0;
     let mut k = at;
-    while i < bytes.len() {
-        let b = bytes[i];
-        out[k] = hex_digit_of(b / 16);
-        out[k + 1] = hex_digit_of(b % 16);
+    for b in bytes {
+        out[k] = hex_digit_of(*b / 16);
+        out[k + 1] = hex_digit_of(*b % 16);
         k += 2;
-        i += 1;
     }
     k
 }
@@ -151,21 +110,11 @@ pub fn expect(s: &[u8], at: usize, literal: &[u8]) -> Option<usize>
     requires { at ≤ length s.now }
     ensures { result ≡ literal_answer (length s.now) (read_literal literal.now (drop at s.now)) }
 {
-    let mut i = 0;
-    while i < literal.len() {
-        let k = at + i;
-        if s.len() <= k {
-            return None;
-        }
-        let b = s[k];
-        let x = literal[i];
-        if x == b {
-            i += 1;
-        } else {
-            return None;
-        }
+    if s[at..].starts_with(literal) {
+        Some(at + literal.len())
+    } else {
+        None
     }
-    Some(at + i)
 }
 
 // Which of two literals stands in a text from `at` on, true for the first, and where it ends. The first is tried first.
@@ -180,61 +129,31 @@ pub fn expect_either(s: &[u8], at: usize, first: &[u8], second: &[u8]) -> Option
     Some((false, b))
 }
 
-// The value of a hexadecimal digit, or 16.
-fn hex_value(b: u8) -> u8
-    ensures { result ≡ value_or16 (hex_digit_of b) }
+fn is_hex_digit(b: u8) -> bool
+    ensures { MatchBool result (HexDigit b) (hex_digit_of b ≡ none) }
 {
-    if b < 48 {
-        return 16;
-    }
-    if b <= 57 {
-        return b - 48;
-    }
-    if b < 97 {
-        return 16;
-    }
-    if b <= 102 {
-        return b - 87;
-    }
-    16
+    matches!(b, b'0'..=b'9' | b'a'..=b'f')
 }
 
-// 0 for a hexadecimal digit, 1 for any other byte. By itself and not from `hex_value`: so the compiler takes many bytes at a time.
-fn no_digit(b: u8) -> u8
-    ensures { result ≡ 0 → HexDigit b }
+fn hex_value(b: u8) -> u8
+    requires { HexDigit b }
+    ensures { hex_digit_of b ≡ some result }
 {
-    if b < 48 {
-        return 1;
-    }
-    if b <= 57 {
-        return 0;
-    }
-    if b < 97 {
-        return 1;
-    }
-    if b <= 102 {
-        return 0;
-    }
-    1
+    if b <= b'9' { b - b'0' } else { b - b'a' + 10 }
 }
 
 // Are there 32 hexadecimal digits from `at` on? All are looked at, so that the compiler takes many at a time.
 fn hex_block(s: &[u8], at: usize) -> bool
     ensures { result ≡ true → HexDigits s.now at 32 }
 {
-    if s.len() < 32 {
+    if s.len() < 32 || s.len() - 32 < at {
         return false;
     }
-    if s.len() - 32 < at {
-        return false;
+    let mut all = true;
+    for b in &s[at..at + 32] {
+        all &= is_hex_digit(*b);
     }
-    let mut j = 0;
-    let mut seen: u8 = 0;
-    while j < 32 {
-        seen = seen | no_digit(s[at + j]);
-        j += 1;
-    }
-    seen == 0
+    all
 }
 
 // Where the blocks of 32 hexadecimal digits end that stand from `at` on.
@@ -255,26 +174,18 @@ fn count_more(s: &[u8], first: usize, count: usize) -> Option<(usize, usize)>
 {
     let mut i = first;
     let mut n = count;
-    while i < s.len() {
-        let a = s[i];
-        if a == 10 {
+    loop {
+        let a = *s.get(i)?;
+        if a == b'\n' {
             return Some((n, i + 1));
         }
-        let k = i + 1;
-        if s.len() <= k {
-            return None;
-        }
-        if hex_value(a) == 16 {
-            return None;
-        }
-        let b = s[k];
-        if hex_value(b) == 16 {
+        let b = *s.get(i + 1)?;
+        if !is_hex_digit(a) || !is_hex_digit(b) {
             return None;
         }
         i += 2;
         n += 1;
     }
-    None
 }
 
 // Reads bytes in hexadecimal and the line's end from `at` on: how many bytes there are, and where the line ends.
@@ -290,14 +201,11 @@ pub fn get_field(s: &[u8], at: usize, most: u64, end: u8) -> Option<(u64, usize)
     ensures { result ≡ value_answer (length s.now) (read_field most end (drop at s.now)) }
 {
     let (n, next) = get_decimal(s, at, most)?;
-    if s.len() <= next {
-        return None;
+    if *s.get(next)? == end {
+        Some((n, next + 1))
+    } else {
+        None
     }
-    let b = s[next];
-    if b == end {
-        return Some((n, next + 1));
-    }
-    None
 }
 
 // Byte i of those that a text spells in hexadecimal from `at` on.
@@ -307,9 +215,7 @@ pub fn hex_byte(s: &[u8], at: usize, i: usize) -> u8
     ensures { result ≡ get_or (hex_at s.now at) i 0 }
 {
     let k = at + 2 * i;
-    let a = hex_value(s[k]);
-    let b = hex_value(s[k + 1]);
-    a * 16 + b
+    16 * hex_value(s[k]) + hex_value(s[k + 1])
 }
 
 // Puts the `count` bytes that a text spells in hexadecimal from `at` on into `out` from `to` on, and answers where they end.
@@ -318,10 +224,8 @@ pub fn copy_hex(s: &[u8], at: usize, count: usize, out: &mut [u8], to: usize) ->
     requires count_value { (count ≡ length (hex_at s.now at)) × (to + count ≤ length out.old) }
     ensures { Puts out.old out.new to result (hex_at s.now at) }
 {
-    let mut i = 0;
-    while i < count {
+    for i in 0..count {
         out[to + i] = hex_byte(s, at, i);
-        i += 1;
     }
-    to + i
+    to + count
 }

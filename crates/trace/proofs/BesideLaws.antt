@@ -4,8 +4,8 @@ use mathlib.Core.Path.{◌≡◌, refl, ap, ◌∙◌}
 use mathlib.Core.Option.{none, some}
 use mathlib.Core.List.{List, [], ◌∷◌}
 use native.Mathlib.Omega.{arith}
+use Rattle.std.specs.declared.cmp.Ordering.{Ordering}
 use Rattle.word.specs.Result.{Result, refused}
-use Rattle.alike.specs.Order.{Order}
 use Rattle.alike.specs.Inner.Beside.{Beside, beside_first, beside_at, beside_all}
 use Rattle.beside.specs.Inner.Ranks.{place_in}
 use Rattle.beside.specs.Inner.Found.{codes_of}
@@ -19,7 +19,7 @@ use Rattle.trace.proofs.Emits.{ok-inj}
 
 module _ (tag slots c : ℕ) (R : ℕ → Result ℕ) (on other ow v work : List ℕ) where
   -- how two handles compare: R and the turns in `work` for the one heap, the columns and the turns of the other
-  abbrev pub place_beside : ℕ → ℕ → Order
+  abbrev pub place_beside : ℕ → ℕ → Ordering
   place_beside = place_in R work (resolve_in tag slots c on) ow
 
   abbrev pub beside_raw : Beside → Raw

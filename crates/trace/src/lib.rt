@@ -13,6 +13,8 @@ ghost use Rattle.trace.specs.Walk.{Stepped, Looked, part_leaf, placed_after, fie
 ghost use Rattle.trace.specs.Emit.{emit_all, raw_of, into, resolve_in, Runs, queued, emitted, emitting, Ready, aim, handed, handed_all, handing_at, told};
 ghost use Rattle.trace.specs.Listing.{listing, Lists};
 
+use beside::Met;
+use handle::Slots;
 use layout::Lay;
 use refusal::{Refusal, Reply};
 use ty::{Entry, Part, Word};
@@ -160,9 +162,27 @@ fn hand(
             tag: t,
             slots: k,
             s: c,
-        } => beside::at_place(
-            tag, slots, s, narrow, to, data, t, k, c, onarrow, owork, other, at, marks, n,
-        ),
+        } => {
+            let here = Met {
+                slots: Slots {
+                    tag,
+                    slots,
+                    s,
+                    narrow,
+                },
+                turns: to,
+            };
+            let there = Met {
+                slots: Slots {
+                    tag: t,
+                    slots: k,
+                    s: c,
+                    narrow: onarrow,
+                },
+                turns: owork,
+            };
+            beside::at_place(here, data, there, other, at, marks, n)
+        }
     }
 }
 

@@ -13,7 +13,6 @@ ghost use Rattle.ty.specs.Bounds.{bound_in, bound_fields, bound_by};
 ghost use Rattle.ty.specs.Counts.{count_in, Capped, Fitting, Scratch, field_sums, next_count, next_counts, counts_at, small_in};
 ghost use Rattle.ty.specs.View.{entry_at, entry_of, part_at, fields_from, types_of, bare};
 
-
 // A number of 64 bits, or one past them.
 #[derive(Clone, Copy)]
 pub enum Word {

@@ -1,7 +1,8 @@
 -- What is found of two objects side by side, in two lent bytes: the order of the bytes outside the handle places so far, and that of the handles (alike/specs/inner/Beside).
 use Rattle.std.specs.Prelude.{ℕ, ◌-◌, List, [], ◌∷◌, length, take, drop, get_or, set, ltb, if◌then◌else◌}
+use Rattle.std.specs.declared.cmp.Ordering.{Ordering}
 use Rattle.word.specs.Le.{le}
-use Rattle.alike.specs.Order.{Order, order}
+use Rattle.alike.specs.Order.{order}
 use Rattle.alike.specs.Inner.Beside.{Beside}
 use Rattle.beside.specs.Inner.Codes.{code, then_code}
 
@@ -10,7 +11,7 @@ abbrev pub codes_of : Beside → List ℕ
 codes_of x = code x.bytes ∷ code x.handles ∷ []
 
 -- the bytes after the handle place a, where the first `done` bytes were behind; there must be two of them
-unfoldable pub found_at : (place : ℕ → ℕ → Order) (b c found : List ℕ) (done a : ℕ) → List ℕ
+unfoldable pub found_at : (place : ℕ → ℕ → Ordering) (b c found : List ℕ) (done a : ℕ) → List ℕ
 found_at place b c found done a =
     if ltb (length found) 2 then found
     else set (set found 0 (then_code (get_or found 0 0) (order (take (a - done) (drop done b)) (take (a - done) (drop done c)))))

@@ -1,21 +1,16 @@
 -- Handles compared in two heaps whose objects have been met (02, [5]): "a handle that doesn't resolve comes before one that does, two that don't compare as numbers, two that do by the
 -- turn". The turn of the object of slot o stands in the upper bits of the o-th word of the heap's work (alike/specs/inner/Packed).
-use Rattle.std.specs.Prelude.{ℕ, ◌*◌, ◌/◌, ◌≤◌, List, length, get_or}
+use Rattle.std.specs.Prelude.{ℕ, ◌/◌, List, get_or}
+use Rattle.std.specs.declared.cmp.Ordering.{Ordering}
+use Rattle.std.specs.Ordering.{nat_cmp}
 use Rattle.word.specs.Result.{Result, ok, refused}
-use Rattle.word.specs.Run.{run}
-use Rattle.handle.specs.Handle.{resolve_by}
-use Rattle.handle.specs.Columns.{live_in}
-use Rattle.alike.specs.Order.{Order}
-use Rattle.alike.specs.Inner.ByTurns.{numbers, ◌and_then◌}
-
--- what a handle resolves to in the heap with this tag and so many of s slots in use, by its generations and kinds
-unfoldable pub resolve_in : (tag slots s : ℕ) → List ℕ → ℕ → Result ℕ
-resolve_in tag slots s narrow h = resolve_by tag slots (live_in slots (run s s narrow)) (λ i. get_or (run s 0 narrow) i 0) h
-
--- both runs are there, and the slots in use lie in them
-pub record Runs (slots s : ℕ) (narrow : List ℕ) : Type 0 where
-  pub used : slots ≤ s
-  pub there : 2 * s ≤ length narrow
+use Rattle.handle.specs.declared.Slots.{Slots}
+use Rattle.alike.specs.Inner.ByTurns.{◌and_then◌}
+use Rattle.beside.specs.declared.Met.{Met}
+use Rattle.beside.specs.declared.Place.{Place}
+use Rattle.beside.specs.declared.Place.TheVariants.{Unresolved, Turn}
+unfoldable pub use Rattle.handle.specs.Columns.{resolve_in}
+pub use Rattle.handle.specs.Columns.{Runs}
 
 -- a handle by what it resolves to, as two numbers: whether it resolves, and the turn of the slot or the 64 bits
 abbrev pub rank_of : Result ℕ → ℕ
@@ -27,5 +22,21 @@ worth_in work h (ok o) = get_or work o 0 / 16777216
 worth_in work h (refused n) = h
 
 -- two handles, each by what it resolves to in its heap and by the heap's work
-unfoldable pub place_in : (R : ℕ → Result ℕ) (work : List ℕ) (R' : ℕ → Result ℕ) (work' : List ℕ) → ℕ → ℕ → Order
-place_in R work R' work' v w = numbers (rank_of (R v)) (rank_of (R' w)) and_then numbers (worth_in work v (R v)) (worth_in work' w (R' w))
+unfoldable pub place_in : (R : ℕ → Result ℕ) (work : List ℕ) (R' : ℕ → Result ℕ) (work' : List ℕ) → ℕ → ℕ → Ordering
+place_in R work R' work' v w = nat_cmp (rank_of (R v)) (rank_of (R' w)) and_then nat_cmp (worth_in work v (R v)) (worth_in work' w (R' w))
+
+-- ---- of heaps as they are lent
+
+abbrev pub slots_resolve : Slots → ℕ → Result ℕ
+slots_resolve x = resolve_in x.tag x.slots x.s x.narrow.now
+
+abbrev pub met_order : Met → Met → ℕ → ℕ → Ordering
+met_order x y = place_in (slots_resolve x.slots) x.turns.now (slots_resolve y.slots) y.turns.now
+
+-- the same two numbers as a value
+abbrev pub place_by : List ℕ → ℕ → Result ℕ → Place
+place_by work h (ok o) = Turn (get_or work o 0 / 16777216)
+place_by work h (refused n) = Unresolved h
+
+abbrev pub place_of : Met → ℕ → Place
+place_of x h = place_by x.turns.now h (slots_resolve x.slots h)

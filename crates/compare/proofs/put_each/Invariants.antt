@@ -1,10 +1,6 @@
 -- `compare::put_each` meets its contract.
-use Prim.Native.Nat.{◌-◌}
 use Rattle.compare.proofs.Turning.{Turning}
 use Rattle.compare.proofs.put_each.Given as goal
 
 abbrev pub invariant-loop-i : goal.invariant-loop-i
 invariant-loop-i l = Turning l.initial.work l.n l.work l.i
-
-abbrev pub decreases-loop-i : goal.decreases-loop-i
-decreases-loop-i l = l.n - l.i

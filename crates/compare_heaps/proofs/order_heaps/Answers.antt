@@ -1,40 +1,42 @@
 -- `compare_heaps::order_heaps` meets its contract.
-use Rattle.compare_heaps.proofs.Whole.{prefix-length}
+use mathlib.Core.Path.{◌∙◌}
 use native.Mathlib.Omega.{arith}
 use Rattle.ty.specs.View.{table_of}
 use Rattle.models.proofs.Heaps.{short-constants}
-use Rattle.compare_heaps.proofs.Whole.{whole-first, whole-second, whole-can, whole-found, mark-fit, mark-room, mark-long, mark-clear}
+use Rattle.compare_heaps.proofs.Whole.{whole-first, whole-second, whole-can, whole-found, mark-fit, mark-clear}
 use Rattle.compare_heaps.proofs.order_heaps.Goals as goal
 
-pub slice_bounds-first_met-end : goal.slice_bounds-first_met-end
-slice_bounds-first_met-end c = omega (arith, mark-room c.args.heap c.args.narrow.now c.args.wide.now c.args.pool.now c.args.marks.now c.args.work.now c.requires.can_mark)
+pub invariant_of-here : goal.invariant_of-here
+invariant_of-here c = record { runs = (mark-fit c.args.heap c.args.narrow.now c.args.wide.now c.args.pool.now c.args.marks.now c.args.work.now c.requires.can_mark).runs }
 
-pub slice_bounds-first_met-end-2 : goal.slice_bounds-first_met-end-2
-slice_bounds-first_met-end-2 c = mark-long c.args.heap c.args.narrow.now c.args.wide.now c.args.pool.now c.args.marks.now c.args.work.now c.requires.can_mark
+pub invariant_of-there : goal.invariant_of-there
+invariant_of-there c = record { runs = (mark-fit c.args.other c.args.other_narrow.now c.args.other_wide.now c.args.other_pool.now c.args.other_marks.now c.args.other_work.now c.requires.can_mark_2).runs }
 
-pub first_met-a-requires : goal.first_met-a-requires
-first_met-a-requires c = record { fit = mark-fit c.args.heap c.args.narrow.now c.args.wide.now c.args.pool.now c.args.marks.now c.args.work.now c.requires.can_mark; clear = mark-clear c.args.heap c.args.narrow.now c.args.wide.now c.args.pool.now c.args.marks.now c.args.work.now c.requires.can_mark }
+pub invariant_of-here-2 : goal.invariant_of-here-2
+invariant_of-here-2 c = record { fit = mark-fit c.args.heap c.args.narrow.now c.args.wide.now c.args.pool.now c.args.marks.now c.args.work.now c.requires.can_mark }
 
-pub returns-in_default : goal.returns-in_default
-returns-in_default c = whole-first (table_of c.args.types.now c.args.fields.now c.args.consts.now c.args.bytes.now) c.args.heap c.args.narrow.now c.args.wide.now c.args.pool.now c.args.other c.args.onarrow.now c.args.owide.now c.args.opool.now c.args.marks.now c.args.work.now c.args.omarks.now c.args.owork.now c.requires.can_mark c.requires.can_mark_2 c.args.roots.now c.args.oroots.now c.first_met-a.result c.first_met-a.new.work c.first_met-a.ensures c.in_default.is
-
-pub slice_bounds-first_met-end-3 : goal.slice_bounds-first_met-end-3
-slice_bounds-first_met-end-3 c = omega (arith, mark-room c.args.other c.args.onarrow.now c.args.owide.now c.args.opool.now c.args.omarks.now c.args.owork.now c.requires.can_mark_2)
-
-pub slice_bounds-first_met-end-4 : goal.slice_bounds-first_met-end-4
-slice_bounds-first_met-end-4 c = mark-long c.args.other c.args.onarrow.now c.args.owide.now c.args.opool.now c.args.omarks.now c.args.owork.now c.requires.can_mark_2
+pub invariant_of-there-2 : goal.invariant_of-there-2
+invariant_of-there-2 c = record { fit = mark-fit c.args.other c.args.other_narrow.now c.args.other_wide.now c.args.other_pool.now c.args.other_marks.now c.args.other_work.now c.requires.can_mark_2 }
 
 pub first_met-requires : goal.first_met-requires
-first_met-requires c = record { fit = mark-fit c.args.other c.args.onarrow.now c.args.owide.now c.args.opool.now c.args.omarks.now c.args.owork.now c.requires.can_mark_2; clear = mark-clear c.args.other c.args.onarrow.now c.args.owide.now c.args.opool.now c.args.omarks.now c.args.owork.now c.requires.can_mark_2 }
+first_met-requires c = mark-clear c.args.heap c.args.narrow.now c.args.wide.now c.args.pool.now c.args.marks.now c.args.work.now c.requires.can_mark
 
-pub compare_marked-requires : goal.compare_marked-requires
-compare_marked-requires c = let p = whole-can (table_of c.args.types.now c.args.fields.now c.args.consts.now c.args.bytes.now) c.args.heap c.args.narrow.now c.args.wide.now c.args.pool.now c.args.other c.args.onarrow.now c.args.owide.now c.args.opool.now c.args.marks.now c.args.work.now c.args.omarks.now c.args.owork.now c.requires.can_mark c.requires.can_mark_2 c.args.roots.now c.args.oroots.now c.first_met-a.result c.first_met-a.new.work c.first_met-a.ensures c.first_met.result c.first_met.new.work c.first_met.ensures _ c.in-Traced.is _ c.in-Traced-first_met.is in record { fit = p.0; queued = p.1.0; queued_2 = p.1.1 }
+pub first_met-second-requires : goal.first_met-second-requires
+first_met-second-requires c = mark-clear c.args.other c.args.other_narrow.now c.args.other_wide.now c.args.other_pool.now c.args.other_marks.now c.args.other_work.now c.requires.can_mark_2
 
-pub returns-in-Untraceable : goal.returns-in-Untraceable
-returns-in-Untraceable c = whole-second (table_of c.args.types.now c.args.fields.now c.args.consts.now c.args.bytes.now) c.args.heap c.args.narrow.now c.args.wide.now c.args.pool.now c.args.other c.args.onarrow.now c.args.owide.now c.args.opool.now c.args.marks.now c.args.work.now c.args.omarks.now c.args.owork.now c.requires.can_mark c.requires.can_mark_2 c.args.roots.now c.args.oroots.now c.first_met-a.result c.first_met-a.new.work c.first_met-a.ensures c.first_met.result c.first_met.new.work c.first_met.ensures c.in-Untraceable.is
+pub returns-in_err-n : goal.returns-in_err-n
+returns-in_err-n c = c.from_residual.ensures ∙ whole-first (table_of c.args.types.now c.args.fields.now c.args.consts.now c.args.bytes.now) c.args.heap c.args.narrow.now c.args.wide.now c.args.pool.now c.args.other c.args.other_narrow.now c.args.other_wide.now c.args.other_pool.now c.args.marks.now c.args.work.now c.args.other_marks.now c.args.other_work.now c.requires.can_mark c.requires.can_mark_2 c.args.roots.now c.args.other_roots.now c.first_met.result c.first_met.new.work c.first_met.ensures c.in_err-n.was
 
-pub shape_of-marks-in-Traced-first_met : goal.shape_of-marks-in-Traced-first_met
-shape_of-marks-in-Traced-first_met c = prefix-length c.args.heap.slots c.args.marks.now c.first_met-a.new.marks (mark-room c.args.heap c.args.narrow.now c.args.wide.now c.args.pool.now c.args.marks.now c.args.work.now c.requires.can_mark) c.first_met-a.auto.marks
+pub returns-in_err-m : goal.returns-in_err-m
+returns-in_err-m c = c.from_residual-in_err-m.ensures ∙ whole-second (table_of c.args.types.now c.args.fields.now c.args.consts.now c.args.bytes.now) c.args.heap c.args.narrow.now c.args.wide.now c.args.pool.now c.args.other c.args.other_narrow.now c.args.other_wide.now c.args.other_pool.now c.args.marks.now c.args.work.now c.args.other_marks.now c.args.other_work.now c.requires.can_mark c.requires.can_mark_2 c.args.roots.now c.args.other_roots.now c.first_met.result c.first_met.new.work c.first_met.ensures c.first_met-second.result c.first_met-second.new.work c.first_met-second.ensures c.in_err-m.was
 
-pub returns-in-Traced-first_met : goal.returns-in-Traced-first_met
-returns-in-Traced-first_met c = whole-found (table_of c.args.types.now c.args.fields.now c.args.consts.now c.args.bytes.now) c.args.heap c.args.narrow.now c.args.wide.now c.args.pool.now c.args.other c.args.onarrow.now c.args.owide.now c.args.opool.now c.args.marks.now c.args.work.now c.args.omarks.now c.args.owork.now c.requires.can_mark c.requires.can_mark_2 c.args.roots.now c.args.oroots.now c.first_met-a.result c.first_met-a.new.work c.first_met-a.ensures c.first_met.result c.first_met.new.work c.first_met.ensures _ c.in-Traced.is _ c.in-Traced-first_met.is (short-constants c.args.types.now c.args.fields.now c.args.consts.now c.args.bytes.now (omega (arith, c.well_formed))) (omega (arith, c.well_formed)) _ c.compare_marked.ensures
+pub compare_marked-requires-clause-queued : goal.compare_marked-requires-clause-queued
+compare_marked-requires-clause-queued c = (whole-can (table_of c.args.types.now c.args.fields.now c.args.consts.now c.args.bytes.now) c.args.heap c.args.narrow.now c.args.wide.now c.args.pool.now c.args.other c.args.other_narrow.now c.args.other_wide.now c.args.other_pool.now c.args.marks.now c.args.work.now c.args.other_marks.now c.args.other_work.now c.requires.can_mark c.requires.can_mark_2 c.args.roots.now c.args.other_roots.now c.first_met.result c.first_met.new.work c.first_met.ensures c.first_met-second.result c.first_met-second.new.work c.first_met-second.ensures _ c.in_ok-n.was _ c.in_ok-m.was).0
+
+pub compare_marked-requires-clause-queued_2 : goal.compare_marked-requires-clause-queued_2
+compare_marked-requires-clause-queued_2 c = (whole-can (table_of c.args.types.now c.args.fields.now c.args.consts.now c.args.bytes.now) c.args.heap c.args.narrow.now c.args.wide.now c.args.pool.now c.args.other c.args.other_narrow.now c.args.other_wide.now c.args.other_pool.now c.args.marks.now c.args.work.now c.args.other_marks.now c.args.other_work.now c.requires.can_mark c.requires.can_mark_2 c.args.roots.now c.args.other_roots.now c.first_met.result c.first_met.new.work c.first_met.ensures c.first_met-second.result c.first_met-second.new.work c.first_met-second.ensures _ c.in_ok-n.was _ c.in_ok-m.was).1
+
+pub returns : goal.returns
+returns c =
+    let short = short-constants c.args.types.now c.args.fields.now c.args.consts.now c.args.bytes.now (omega (arith, c.well_formed)) in
+    whole-found (table_of c.args.types.now c.args.fields.now c.args.consts.now c.args.bytes.now) c.args.heap c.args.narrow.now c.args.wide.now c.args.pool.now c.args.other c.args.other_narrow.now c.args.other_wide.now c.args.other_pool.now c.args.marks.now c.args.work.now c.args.other_marks.now c.args.other_work.now c.requires.can_mark c.requires.can_mark_2 c.args.roots.now c.args.other_roots.now c.first_met.result c.first_met.new.work c.first_met.ensures c.first_met-second.result c.first_met-second.new.work c.first_met-second.ensures _ c.in_ok-n.was _ c.in_ok-m.was short (omega (arith, c.well_formed)) _ c.compare_marked.ensures

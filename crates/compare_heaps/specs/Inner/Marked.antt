@@ -1,11 +1,12 @@
 -- What the words of a heap hold once it has been marked from its roots and the turns have been put: the objects in the order first met, and the turn of each.
-use Rattle.std.specs.Prelude.{◌≡◌, List, ℕ, ◌%◌, ◌≤◌, ◌<◌, length, get_or, replicate}
-use Rattle.trace.specs.declared.Answer.{Answer}
-use Rattle.trace.specs.declared.Answer.TheVariants.{Traced, Untraceable}
+use Rattle.std.specs.Prelude.{◌≡◌, List, ℕ, ◌%◌, ◌≤◌, ◌<◌, length, get_or, replicate, Option, Some, None}
+use Rattle.ty.specs.Types.{Table}
 use Rattle.alike.specs.Same.{Model, Traceable}
 use Rattle.alike.specs.Same.{Untraceable as Stops}
 use Rattle.alike.specs.Order.{met}
 use Rattle.compare.specs.Inner.Turns.{lows, Turned}
+use Rattle.saves.specs.Inner.Columns.{columns_model}
+use Rattle.compare_objects.specs.declared.side.Side.{Side}
 
 -- nothing is marked, and there is room for so many slots
 pub record Clear (slots : ℕ) (marks work : List ℕ) : Type 0 where
@@ -23,6 +24,10 @@ pub record MetIn (M : Model) (roots : List ℕ) (slots : ℕ) (work : List ℕ) 
   pub inside : (k : ℕ) → k < n → get_or work k 0 % 16777216 < slots
 
 -- or that something reached can't be traced
-abbrev pub Meets : Answer → Model → (roots : List ℕ) (slots : ℕ) (work : List ℕ) → Type 0
-Meets (Traced n) M roots slots work = MetIn M roots slots work n
-Meets Untraceable M roots slots work = Stops M roots
+abbrev pub Meets : Option ℕ → Model → (roots : List ℕ) (slots : ℕ) (work : List ℕ) → Type 0
+Meets (Some n) M roots slots work = MetIn M roots slots work n
+Meets None M roots slots work = Stops M roots
+
+-- what a heap's lent columns show
+abbrev pub side_model : Table → Side → Model
+side_model T x = columns_model T x.slots.tag x.slots.slots x.slots.s x.slots.narrow.now x.wide.now x.pool.now

@@ -1,35 +1,31 @@
 -- `compare_objects::compare_slots` meets its contract.
-use native.Mathlib.Omega.{arith}
-use mathlib.Core.Path.{refl}
-use Rattle.compare_objects.proofs.Slots.{head-rises, head-ends, slots-even, slot-traced, slots-unlike, slots-then}
+use mathlib.Core.Path.{◌≡◌, refl, sym, ◌∙◌}
+use Rattle.compare_objects.specs.contracts.side.HeadOrd.TheImpl.Laws.{total-law}
+use Rattle.compare_objects.specs.Inner.Sides.{head_order}
+use Rattle.compare_objects.proofs.Slots.{heads-met, slots-even, slot-traced, slots-unlike, slots-then}
 use Rattle.compare_objects.proofs.compare_slots.Goals as goal
+use Rattle.compare_objects.proofs.compare_slots.Goals.{After-cmp-heads}
 
-pub compare_heads-head-requires : goal.compare_heads-head-requires
-compare_heads-head-requires c = (head-rises _ _ _ _ _ c.requires.fit.0 _ c.requires.i_lt_slots.0 _ c.head_at-x.ensures, head-rises _ _ _ _ _ c.requires.fit.1 _ c.requires.i_lt_slots.1 _ c.head_at-y.ensures)
+-- the numbers of both
+heads : (c : After-cmp-heads) → c.cmp-heads.result ≡ head_order c.head_of-x.result c.head_of-y.result
+heads c = heads-met total-law (λ x y. refl) c.head_of-x.result c.head_of-y.result _ c.cmp-heads.ensures
 
-pub returns-then-head-ne0 : goal.returns-then-head-ne0
-returns-then-head-ne0 c = record { value = slots-unlike _ _ _ _ _ _ _ c.requires.fit.0 _ c.requires.i_lt_slots.0 _ c.head_at-x.ensures _ _ _ _ _ c.requires.fit.1 _ c.requires.i_lt_slots.1 _ c.head_at-y.ensures _ c.compare_heads-head.ensures c.if-head-ne0.true; work_unchanged = refl }
+pub returns-then-is_ne-clause-value : goal.returns-then-is_ne-clause-value
+returns-then-is_ne-clause-value c =
+    slots-unlike _ _ _ _ _ c.args.here.fit _ c.requires.in_use.0 _ _ _ _ _ c.args.there.fit _ c.requires.in_use.1 _ _ c.head_of-x.ensures c.head_of-y.ensures _
+    (heads (goal.at.returns-then-is_ne-clause-value c).After-cmp-heads) _ _ (sym c.is_ne.ensures ∙ c.if-is_ne.true)
 
-pub slice_bounds-compare_data-count : goal.slice_bounds-compare_data-count
-slice_bounds-compare_data-count c = omega (arith, head-rises _ _ _ _ _ c.requires.fit.0 _ c.requires.i_lt_slots.0 _ c.head_at-x.ensures)
+pub compare_data-requires-clause-even : goal.compare_data-requires-clause-even
+compare_data-requires-clause-even c =
+    slots-even _ _ _ _ _ c.args.here.fit _ c.requires.in_use.0 _ _ _ _ _ c.args.there.fit _ c.requires.in_use.1 _ _ c.head_of-x.ensures c.head_of-y.ensures _
+    (heads (goal.at.compare_data-requires-clause-even c).After-cmp-heads) _ _ c.data_of.ensures c.data_of-2.ensures (sym c.is_ne.ensures ∙ c.if-is_ne.false)
 
-pub slice_bounds-compare_data-start : goal.slice_bounds-compare_data-start
-slice_bounds-compare_data-start c = omega (arith, head-rises _ _ _ _ _ c.requires.fit.0 _ c.requires.i_lt_slots.0 _ c.head_at-x.ensures)
+pub compare_data-requires-clause-fact : goal.compare_data-requires-clause-fact
+compare_data-requires-clause-fact c =
+    slot-traced _ _ _ _ _ c.args.here.fit _ c.requires.in_use.0 _ _ _ _ _ c.args.there.fit _ c.requires.in_use.1 _ _ c.head_of-x.ensures c.head_of-y.ensures _
+    (heads (goal.at.compare_data-requires-clause-fact c).After-cmp-heads) _ _ c.data_of.ensures c.data_of-2.ensures _ c.requires.fact
 
-pub slice_bounds-compare_data-end : goal.slice_bounds-compare_data-end
-slice_bounds-compare_data-end c = omega (arith, head-ends _ _ _ _ _ c.requires.fit.0 _ c.requires.i_lt_slots.0 _ c.head_at-x.ensures)
-
-pub slice_bounds-compare_data-count-2 : goal.slice_bounds-compare_data-count-2
-slice_bounds-compare_data-count-2 c = omega (arith, head-rises _ _ _ _ _ c.requires.fit.1 _ c.requires.i_lt_slots.1 _ c.head_at-y.ensures)
-
-pub slice_bounds-compare_data-start-2 : goal.slice_bounds-compare_data-start-2
-slice_bounds-compare_data-start-2 c = omega (arith, head-rises _ _ _ _ _ c.requires.fit.1 _ c.requires.i_lt_slots.1 _ c.head_at-y.ensures)
-
-pub slice_bounds-compare_data-end-2 : goal.slice_bounds-compare_data-end-2
-slice_bounds-compare_data-end-2 c = omega (arith, head-ends _ _ _ _ _ c.requires.fit.1 _ c.requires.i_lt_slots.1 _ c.head_at-y.ensures)
-
-pub compare_data-requires : goal.compare_data-requires
-compare_data-requires c = record { runs = (c.requires.fit.0.runs, c.requires.fit.1.runs, slots-even _ _ _ _ _ c.requires.fit.0 _ c.requires.i_lt_slots.0 _ c.head_at-x.ensures _ _ _ _ _ c.requires.fit.1 _ c.requires.i_lt_slots.1 _ c.head_at-y.ensures _ c.compare_heads-head.ensures c.if-head-ne0.false); fact = slot-traced _ _ _ _ _ c.requires.fit.0 _ c.requires.i_lt_slots.0 _ c.head_at-x.ensures _ c.requires.fact }
-
-pub returns : goal.returns
-returns c = record { value = slots-then _ _ _ _ _ _ _ c.requires.fit.0 _ c.requires.i_lt_slots.0 _ c.head_at-x.ensures _ _ _ _ _ c.requires.fit.1 _ c.requires.i_lt_slots.1 _ c.head_at-y.ensures _ c.compare_heads-head.ensures c.if-head-ne0.false _ c.compare_data.ensures.value; work_unchanged = c.compare_data.ensures.work_unchanged }
+pub returns-clause-value : goal.returns-clause-value
+returns-clause-value c =
+    slots-then _ _ _ _ _ c.args.here.fit _ c.requires.in_use.0 _ _ _ _ _ c.args.there.fit _ c.requires.in_use.1 _ _ c.head_of-x.ensures c.head_of-y.ensures _
+    (heads (goal.at.returns-clause-value c).After-cmp-heads) _ _ _ _ c.data_of.ensures c.data_of-2.ensures (sym c.is_ne.ensures ∙ c.if-is_ne.false) _ c.compare_data.ensures.value

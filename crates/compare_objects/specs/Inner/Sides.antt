@@ -1,15 +1,18 @@
 -- Two objects side by side as code goes through them: the numbers of both, the bytes before start, then one trace of what the first shows with what the second shows beside it
 -- (models/specs/inner/Along). `place` compares the words at a handle place.
 use Rattle.std.specs.Prelude.{◌≡◌, List, ℕ, ◌-◌, ◌*◌, ◌%◌, ◌≤◌, ◌<◌, length, get_or, take, drop}
+use Rattle.std.specs.declared.cmp.Ordering.{Ordering}
+use Rattle.std.specs.declared.cmp.Ordering.TheVariants.{Equal}
+use Rattle.std.specs.Ordering.{nat_cmp}
 use Rattle.std.proofs.Math.Option.{none, some}
 use Rattle.word.specs.Run.{run}
 use Rattle.heap.specs.Packing.{start_of, data_at}
 use Rattle.ty.specs.Types.{Table}
 use Rattle.trace.specs.Places.{Places, shown_places}
-use Rattle.alike.specs.Order.{Order, Order.equal, order}
-use Rattle.alike.specs.Inner.ByTurns.{numbers, ◌and_then◌}
+use Rattle.alike.specs.Order.{order}
+use Rattle.alike.specs.Inner.ByTurns.{◌and_then◌}
 use Rattle.alike.specs.Inner.Beside.{beside_first, beside_all, beside_end}
-use Rattle.compare_objects.specs.declared.Head.{Head}
+use Rattle.compare_objects.specs.declared.side.Head.{Head}
 
 -- the numbers of slot i, by the runs
 unfoldable pub head_of : (S : ℕ) (narrow wide : List ℕ) → ℕ → Head
@@ -18,17 +21,16 @@ head_of S narrow wide i =
       kind = get_or (run S S narrow) i 0;
       t = get_or (run S (2 * S) narrow) i 0;
       start = get_or (run S 0 wide) i 0;
-      from = start_of (run S S wide) i;
-      to = get_or (run S S wide) i 0;
+      size = get_or (run S S wide) i 0 - start_of (run S S wide) i;
     }
 
 -- kind, type, start and length
-abbrev pub head_order : Head → Head → Order
-head_order x y = numbers x.kind y.kind and_then numbers x.t y.t and_then numbers x.start y.start and_then numbers (x.to - x.from) (y.to - y.from)
+abbrev pub head_order : Head → Head → Ordering
+head_order x y = nat_cmp x.kind y.kind and_then nat_cmp x.t y.t and_then nat_cmp x.start y.start and_then nat_cmp x.size y.size
 
 -- the data b and c of two objects that are visible from s on, along the places of the first
-unfoldable pub data_beside : (place : ℕ → ℕ → Order) (s : ℕ) (b c : List ℕ) → Places → Order
-data_beside place s b c none = equal
+unfoldable pub data_beside : (place : ℕ → ℕ → Ordering) (s : ℕ) (b c : List ℕ) → Places → Ordering
+data_beside place s b c none = Equal
 data_beside place s b c (some ps) = order (take s b) (take s c) and_then beside_end place (drop s b) (drop s c) (beside_all place (drop s b) (drop s c) beside_first ps)
 
 -- the places that slot i shows
@@ -37,7 +39,7 @@ places_in T S narrow wide pool i =
     shown_places T (get_or (run S S narrow) i 0) (get_or (run S (2 * S) narrow) i 0) (get_or (run S 0 wide) i 0) (data_at (run S S wide) pool i)
 
 -- slot i of the one heap and slot j of the other
-unfoldable pub slots_beside : Table → (place : ℕ → ℕ → Order) (S : ℕ) (narrow wide pool : List ℕ) (S' : ℕ) (narrow' wide' pool' : List ℕ) → ℕ → ℕ → Order
+unfoldable pub slots_beside : Table → (place : ℕ → ℕ → Ordering) (S : ℕ) (narrow wide pool : List ℕ) (S' : ℕ) (narrow' wide' pool' : List ℕ) → ℕ → ℕ → Ordering
 slots_beside T place S narrow wide pool S' narrow' wide' pool' i j =
     head_order (head_of S narrow wide i) (head_of S' narrow' wide' j)
     and_then data_beside place (get_or (run S 0 wide) i 0) (data_at (run S S wide) pool i) (data_at (run S' S' wide') pool' j) (places_in T S narrow wide pool i)

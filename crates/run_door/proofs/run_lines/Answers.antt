@@ -1,4 +1,4 @@
-use mathlib.Core.Path.{sym, ap, ◌∙◌}
+use mathlib.Core.Path.{refl, sym, ap, ◌∙◌}
 use mathlib.Core.Bool.{not}
 use Prim.Native.Nat.{ℕ, ◌/◌}
 use native.Mathlib.Omega.{arith}
@@ -34,7 +34,7 @@ pub shape_of-room-then-is_err : goal.shape_of-room-then-is_err
 shape_of-room-then-is_err c = c.do_line-done.auto.room ∙ c.loop-at.invariant.1.room
 
 pub returns-then-is_err : goal.returns-then-is_err
-returns-then-is_err c = run-stop _ _ _ _ _ c.loop-at.invariant.0 _ _ _ (stepped _ _ _ c.loop-at-test.true _ _ c.read_line-line.result c.read_line-line.ensures c.do_line-done.ensures c.next_after-at.ensures) (ap (λ (n : ℕ). n / 6) c.do_line-done.auto.narrow) c.do_line-done.auto.pool (sym c.is_err.ensures.value ∙ c.if-is_err.true)
+returns-then-is_err c = run-stop _ _ _ _ _ c.loop-at.invariant.0 _ _ _ (stepped _ _ _ c.loop-at-test.true _ _ c.read_line-line.result c.read_line-line.ensures c.do_line-done.ensures refl) (ap (λ (n : ℕ). n / 6) c.do_line-done.auto.narrow) c.do_line-done.auto.pool (sym c.is_err.ensures.value ∙ c.if-is_err.true)
 
 pub shape_of-narrow : goal.shape_of-narrow
 shape_of-narrow c = c.loop-at.invariant.1.narrow

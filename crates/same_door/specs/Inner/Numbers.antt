@@ -1,15 +1,20 @@
--- What a comparison tells: yes or no, and less, equal or greater, by the byte that it found.
-use Rattle.std.specs.Prelude.{eqb, if◌then◌else◌}
-use Rattle.refusal.specs.declared.Refusal.TheVariants.{Untraceable as CannotTrace}
+-- What a comparison tells: a number that is read off the order, or why there is none.
+use Rattle.std.specs.Prelude.{ℕ, List, ◌≡◌, Result, Ok, Err}
+use Rattle.std.specs.declared.cmp.Ordering.{Ordering}
+use Rattle.refusal.specs.Told.{told}
+use Rattle.refusal.specs.declared.Refusal.{Refusal}
 use Rattle.refusal.specs.Told.{Reply}
-use Rattle.std.specs.Prelude.{Ok, Err}
-use Rattle.compare_heaps.specs.declared.Compared.{Compared}
-use Rattle.compare_heaps.specs.declared.Compared.TheVariants.{Is, Untraceable}
+use Rattle.door.specs.HeapCalls.{asked_of}
+use Rattle.saves.specs.Saves.{Words, Save, comparing}
 
-abbrev pub same_reply : Compared → Reply
-same_reply Untraceable = Err CannotTrace
-same_reply (Is c) = Ok ((if eqb c 0 then 1 else 0), 0)
+abbrev pub reply_of : Result ℕ Refusal → Reply
+reply_of (Ok n) = Ok (n, 0)
+reply_of (Err why) = Err why
 
-abbrev pub order_reply : Compared → Reply
-order_reply Untraceable = Err CannotTrace
-order_reply (Is c) = Ok ((if eqb c 0 then 1 else (if eqb c 1 then 0 else 2)), 0)
+abbrev pub reply_by : (Ordering → ℕ) → Result Ordering Refusal → Reply
+reply_by number (Ok o) = Ok ((number o), 0)
+reply_by number (Err why) = Err why
+
+-- whatever number is read off, the call tells it, and leaves scratch so
+abbrev pub Compares : Words → Save → Save → Result Ordering Refusal → List (List ℕ) → Type 0
+Compares w s t found scratch = (number : Ordering → ℕ) → asked_of (told (reply_by number found)) scratch ≡ comparing number w s t

@@ -1,10 +1,10 @@
--- The run stands where it can stand, within the bytes that were read.
-use Rattle.std.proofs.Common.{◌≤◌, ◌-◌}
+-- The run stands where it can stand; each step takes some of what is left.
+use Rattle.std.proofs.Common.{length}
 use Rattle.shelves.specs.Inner.Steps.{Good}
 use Rattle.shelf.proofs.feed.Given as goal
 
-abbrev pub invariant-loop-used : goal.invariant-loop-used
-invariant-loop-used g l = Good l.s × (l.used ≤ l.n)
+abbrev pub invariant-loop-rest : goal.invariant-loop-rest
+invariant-loop-rest g l = Good l.shelf
 
-abbrev pub decreases-loop-used : goal.decreases-loop-used
-decreases-loop-used g l = l.n - l.used
+abbrev pub decreases-loop-rest : goal.decreases-loop-rest
+decreases-loop-rest g l = length l.rest

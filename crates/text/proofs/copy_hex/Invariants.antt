@@ -1,10 +1,6 @@
-use Prim.Native.Nat.{◌-◌}
 use Rattle.text.specs.Answer.{hex_at}
 use Rattle.text.proofs.Putting.{Copies}
 use Rattle.text.proofs.copy_hex.Given as goal
 
 abbrev pub invariant-loop-i : goal.invariant-loop-i
 invariant-loop-i l = Copies l.initial.out l.out l.to l.i (hex_at l.s l.at)
-
-abbrev pub decreases-loop-i : goal.decreases-loop-i
-decreases-loop-i l = l.count - l.i

@@ -1,52 +1,40 @@
-use Rattle.text.proofs.Getting.{hex-ended, hex-line, hex-short, hex-first, hex-second, hex-next}
+use Rattle.text.proofs.Getting.{byte-read, hex-ended, hex-line, hex-short, hex-first, hex-second, hex-next}
 use native.Mathlib.Omega.{arith}
-use mathlib.Core.Path.{refl, sym, ◌∙◌}
+use borrow.Author.Tests.{ltb-false}
+use mathlib.Core.Path.{sym, ◌∙◌}
 use Rattle.text.proofs.count_more.Goals as goal
+use Rattle.text.proofs.count_more.Goals.{then-not-is_hex_digit-via-then-not-is_hex_digit, then-not-is_hex_digit-via-else-not-is_hex_digit+then-not-is_hex_digit-2}
 
-pub loop-i-init : goal.loop-i-init
-loop-i-init c = (omega arith, refl)
-
-pub bounds-s-i : goal.bounds-s-i
-bounds-s-i c = omega arith
-
-pub overflow_add-result : goal.overflow_add-result
-overflow_add-result c = omega arith
+pub returns-in_err-a : goal.returns-in_err-a
+returns-in_err-a c = c.from_residual.ensures ∙ hex-ended c.args.s.now c.loop-a.n c.loop-a.i (ltb-false _ _ (sym c.in_err-a.ensures.lookup.0)) ∙ sym c.loop-a.invariant.1
 
 pub returns-then-a-eq10 : goal.returns-then-a-eq10
-returns-then-a-eq10 c = hex-line c.args.s.now c.loop-i.n c.loop-i.i c.loop-i-test.true c.if-a-eq10.true ∙ sym c.loop-i.invariant.1
+returns-then-a-eq10 c =
+    let a = byte-read _ _ _ c.in_ok-a.ensures.lookup.0 c.in_ok-a.ensures.lookup.1 in
+    hex-line c.args.s.now c.loop-a.n c.loop-a.i _ a.0 a.1 c.if-a-eq10.true ∙ sym c.loop-a.invariant.1
 
-pub overflow_add-k : goal.overflow_add-k
-overflow_add-k c = omega arith
+pub returns-in_err-b : goal.returns-in_err-b
+returns-in_err-b c =
+    let a = byte-read _ _ _ c.in_ok-a.ensures.lookup.0 c.in_ok-a.ensures.lookup.1 in
+    c.from_residual-in_err-b.ensures
+    ∙ hex-short c.args.s.now c.loop-a.n c.loop-a.i _ a.0 a.1 c.if-a-eq10.false (ltb-false _ _ (sym c.in_err-b.ensures.lookup.0)) ∙ sym c.loop-a.invariant.1
 
-pub returns-then-s-k : goal.returns-then-s-k
-returns-then-s-k c = hex-short c.args.s.now c.loop-i.n c.loop-i.i c.loop-i-test.true c.if-s-k.true c.if-a-eq10.false ∙ sym c.loop-i.invariant.1
+pub returns-then-not-is_hex_digit : goal.returns-then-not-is_hex_digit
+returns-then-not-is_hex_digit c =
+    let a = byte-read _ _ _ c.in_ok-a.ensures.lookup.0 c.in_ok-a.ensures.lookup.1 in
+    let b = byte-read _ _ _ c.in_ok-b.ensures.lookup.0 c.in_ok-b.ensures.lookup.1 in
+    elim c.then-not-is_hex_digit.branch [
+      | then-not-is_hex_digit-via-then-not-is_hex_digit w ↦
+          hex-first c.args.s.now c.loop-a.n c.loop-a.i _ a.0 a.1 c.if-a-eq10.false _ b.0 b.1 w.if-not-is_hex_digit.ensures ∙ sym c.loop-a.invariant.1
+      | then-not-is_hex_digit-via-else-not-is_hex_digit+then-not-is_hex_digit-2 w ↦
+          hex-second c.args.s.now c.loop-a.n c.loop-a.i _ a.0 a.1 c.if-a-eq10.false _ b.0 b.1 w.if-not-is_hex_digit.ensures w.if-not-is_hex_digit-2.ensures ∙ sym c.loop-a.invariant.1
+    ]
 
-pub hex_value-requires : goal.hex_value-requires
-hex_value-requires c = tt
-
-pub returns-then-hex_value-eq16 : goal.returns-then-hex_value-eq16
-returns-then-hex_value-eq16 c = hex-first c.args.s.now c.loop-i.n c.loop-i.i c.if-s-k.false c.if-a-eq10.false (sym c.hex_value.ensures ∙ c.if-hex_value-eq16.true) ∙ sym c.loop-i.invariant.1
-
-pub bounds-s-k : goal.bounds-s-k
-bounds-s-k c = omega arith
-
-pub hex_value-requires-in-loop-i : goal.hex_value-requires-in-loop-i
-hex_value-requires-in-loop-i c = tt
-
-pub returns-then-hex_value-eq16-2 : goal.returns-then-hex_value-eq16-2
-returns-then-hex_value-eq16-2 c = hex-second c.args.s.now c.loop-i.n c.loop-i.i c.if-s-k.false c.if-a-eq10.false (λ e. c.if-hex_value-eq16.false (c.hex_value.ensures ∙ e)) (sym c.hex_value-in-loop-i.ensures ∙ c.if-hex_value-eq16-2.true) ∙ sym c.loop-i.invariant.1
-
-pub overflow_add-i : goal.overflow_add-i
-overflow_add-i c = omega arith
-
-pub overflow_add-n : goal.overflow_add-n
-overflow_add-n c = omega arith
-
-pub loop-i-smaller : goal.loop-i-smaller
-loop-i-smaller c = omega arith
-
-pub loop-i-preserved : goal.loop-i-preserved
-loop-i-preserved c = (omega arith, c.loop-i.invariant.1 ∙ hex-next c.args.s.now c.loop-i.n c.loop-i.i c.if-s-k.false c.if-a-eq10.false (λ e. c.if-hex_value-eq16.false (c.hex_value.ensures ∙ e)) (λ e. c.if-hex_value-eq16-2.false (c.hex_value-in-loop-i.ensures ∙ e)))
-
-pub returns : goal.returns
-returns c = hex-ended c.args.s.now c.loop-i.n c.loop-i.i c.loop-i-test.false ∙ sym c.loop-i.invariant.1
+pub loop-a-preserved : goal.loop-a-preserved
+loop-a-preserved c =
+    let a = byte-read _ _ _ c.in_ok-a.ensures.lookup.0 c.in_ok-a.ensures.lookup.1 in
+    let b = byte-read _ _ _ c.in_ok-b.ensures.lookup.0 c.in_ok-b.ensures.lookup.1 in (
+      omega arith,
+      c.loop-a.invariant.1
+          ∙ hex-next c.args.s.now c.loop-a.n c.loop-a.i _ a.0 a.1 c.if-a-eq10.false _ b.0 b.1 c.if-not-is_hex_digit.ensures c.if-not-is_hex_digit-2.ensures,
+    )

@@ -1,4 +1,3 @@
--- `text::count_more` meets its contract.
 use Rattle.text.specs.Answer.{hex_more}
 use Rattle.text.specs.Text.{read_hex}
 use lib.ListN.{length, drop}
@@ -6,8 +5,8 @@ use mathlib.Core.Path.{◌≡◌}
 use Prim.Native.Nat.{◌-◌, ◌≤◌}
 use Rattle.text.proofs.count_more.Given as goal
 
-abbrev pub invariant-loop-i : goal.invariant-loop-i
-invariant-loop-i l = (l.n ≤ l.i) × (hex_more (length l.s) l.count (read_hex (drop l.first l.s)) ≡ hex_more (length l.s) l.n (read_hex (drop l.i l.s)))
+abbrev pub invariant-loop-a : goal.invariant-loop-a
+invariant-loop-a l = (l.n ≤ l.i) × (hex_more (length l.s) l.count (read_hex (drop l.first l.s)) ≡ hex_more (length l.s) l.n (read_hex (drop l.i l.s)))
 
-abbrev pub decreases-loop-i : goal.decreases-loop-i
-decreases-loop-i l = length l.s - l.i
+abbrev pub decreases-loop-a : goal.decreases-loop-a
+decreases-loop-a l = length l.s - l.i

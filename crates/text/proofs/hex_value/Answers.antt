@@ -1,24 +1,14 @@
-use Rattle.text.specs.Text.{hex_digit_of}
-use native.Mathlib.Omega.{arith}
-use borrow.Author.Tests.{le-leb, lt-leb}
+use Rattle.text.proofs.Getting.{hex-from-48, hex-from-97, hex-low-value, hex-high-value}
 use Rattle.text.proofs.hex_value.Goals as goal
 
-pub returns-then-b-lt48 : goal.returns-then-b-lt48
-unfolding hex_digit_of
-returns-then-b-lt48 c = rw (lt-leb 48 c.args.b c.if-b-lt48.true, lt-leb 97 c.args.b (omega arith))
+pub overflow_sub-result : goal.overflow_sub-result
+overflow_sub-result c = hex-from-48 c.args.b c.requires
+
+pub overflow_sub-result-else-b-le57 : goal.overflow_sub-result-else-b-le57
+overflow_sub-result-else-b-le57 c = hex-from-97 c.args.b c.requires c.if-b-le57.false
 
 pub returns-then-b-le57 : goal.returns-then-b-le57
-unfolding hex_digit_of
-returns-then-b-le57 c = rw (le-leb 48 c.args.b c.if-b-lt48.false, le-leb c.args.b 57 c.if-b-le57.true)
+returns-then-b-le57 c = hex-low-value c.args.b c.requires c.if-b-le57.true
 
-pub returns-then-b-lt97 : goal.returns-then-b-lt97
-unfolding hex_digit_of
-returns-then-b-lt97 c = rw (le-leb 48 c.args.b c.if-b-lt48.false, lt-leb c.args.b 57 c.if-b-le57.false, lt-leb 97 c.args.b c.if-b-lt97.true)
-
-pub returns-then-b-le102 : goal.returns-then-b-le102
-unfolding hex_digit_of
-returns-then-b-le102 c = rw (le-leb 48 c.args.b c.if-b-lt48.false, lt-leb c.args.b 57 c.if-b-le57.false, le-leb 97 c.args.b c.if-b-lt97.false, le-leb c.args.b 102 c.if-b-le102.true)
-
-pub returns : goal.returns
-unfolding hex_digit_of
-returns c = rw (le-leb 48 c.args.b c.if-b-lt48.false, lt-leb c.args.b 57 c.if-b-le57.false, le-leb 97 c.args.b c.if-b-lt97.false, lt-leb c.args.b 102 c.if-b-le102.false)
+pub returns-else-b-le57 : goal.returns-else-b-le57
+returns-else-b-le57 c = hex-high-value c.args.b c.requires c.if-b-le57.false

@@ -4,7 +4,7 @@ use borrow.Author.Rules.{rules}
 use Rattle.trace.proofs.hand.Goals as goal
 
 pub at_place-requires : goal.at_place-requires
-at_place-requires c = record { runs = search (rules, runs-beside); at_in_bounds = search (rules, runs-beside) }
+at_place-requires c = search (rules, runs-beside)
 
 pub returns-in-Words : goal.returns-in-Words
 returns-in-Words c = search hand_word

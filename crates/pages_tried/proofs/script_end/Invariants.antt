@@ -1,9 +1,0 @@
--- `pages_tried::script_end` meets its contract.
-use Prim.Native.Nat.{◌≤◌, ◌-◌}
-use Rattle.pages_tried.proofs.script_end.Given as goal
-
-abbrev pub invariant-loop-i : goal.invariant-loop-i
-invariant-loop-i l = (l.from ≤ l.i) × (l.i ≤ l.n)
-
-abbrev pub decreases-loop-i : goal.decreases-loop-i
-decreases-loop-i l = l.n - l.i

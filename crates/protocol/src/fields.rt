@@ -1,0 +1,253 @@
+// The fields of a line.
+ghost use Rattle.std.specs.Prelude.{◌<◌, IfOk};
+
+use crate::{Fault, find};
+use std::alloc::Global;
+
+/// The largest numbers of 8, 32 and 64 bits.
+pub const BYTE: u64 = 255;
+
+pub const HALF: u64 = 4294967295;
+
+pub const WORD: u64 = 18446744073709551615;
+
+/// The most bytes that a field spells.
+const MOST_BYTES: usize = 65536;
+
+/// The fields of a line that are left, one space between two of them. What stands after the last field that a command wants isn't looked at.
+#[derive(Clone, Copy)]
+pub struct Fields<'a> {
+    rest: &'a [u8],
+    alloc: Global,
+}
+
+// A whole field as a number of at most `most`.
+fn number(field: &[u8], most: u64) -> Result<u64, Fault> {
+    match text::get_decimal(field, 0, most) {
+        Some((x, end)) if end == field.len() => Ok(x),
+        _ => Err(Fault::Bad),
+    }
+}
+
+// The same as a number of 32 bits.
+fn half(field: &[u8], most: u64) -> Result<u32, Fault> {
+    u32::try_from(number(field, most)?).map_err(|_| Fault::Bad)
+}
+
+// A field's part before the first colon, and what follows it.
+fn split_colon(field: &[u8]) -> Option<(&[u8], &[u8])> {
+    let i = find(field, b':')?;
+    Some((&field[..i], &field[i + 1..]))
+}
+
+// An entry of one number, of two with a colon between them, and of a frame's map: OFFSET:KIND or OFFSET:KIND:TYPE, the kind of 8 bits.
+fn put_single(entry: &[u8], list: &mut Vec<u32>) -> Result<(), Fault> {
+    list.push(half(entry, HALF)?)?;
+    Ok(())
+}
+
+fn put_pair(entry: &[u8], list: &mut Vec<u32>) -> Result<(), Fault> {
+    let (a, b) = split_colon(entry).ok_or(Fault::Bad)?;
+    list.extend_from_slice(&[half(a, HALF)?, half(b, HALF)?])?;
+    Ok(())
+}
+
+fn put_slot(entry: &[u8], list: &mut Vec<u32>) -> Result<(), Fault> {
+    let (offset, rest) = split_colon(entry).ok_or(Fault::Bad)?;
+    let (kind, ty) = split_colon(rest).unwrap_or((rest, b"0"));
+    list.extend_from_slice(&[half(offset, HALF)?, half(kind, BYTE)?, half(ty, HALF)?])?;
+    Ok(())
+}
+
+// The value of a lowercase hexadecimal digit.
+fn digit(b: u8) -> Result<u8, Fault>
+    ensures { IfOk result (λ d. d < 16) }
+{
+    match b {
+        b'0'..=b'9' => Ok(b - b'0'),
+        b'a'..=b'f' => Ok(b - b'a' + 10),
+        _ => Err(Fault::Bad),
+    }
+}
+
+/// The bytes that a field spells in hexadecimal; `-` for none.
+pub fn read_hex(field: &[u8], alloc: Global) -> Result<Vec<u8>, Fault> {
+    let mut bytes = Vec::new(alloc);
+    if matches!(field, b"-") {
+        return Ok(bytes);
+    }
+    if field.is_empty() || 2 * MOST_BYTES < field.len() {
+        return Err(Fault::Bad);
+    }
+    for pair in field.chunks(2) {
+        let [high, low] = pair else {
+            return Err(Fault::Bad);
+        };
+        bytes.push(digit(*high)? * 16 + digit(*low)?)?;
+    }
+    Ok(bytes)
+}
+
+// A text's byte, where `;` stands for byte 10.
+fn unfolded(b: u8) -> u8 {
+    if b == b';' { b'\n' } else { b }
+}
+
+fn unfold(field: &[u8], alloc: Global) -> Result<Vec<u8>, Fault> {
+    Ok(field.iter().map(|b| unfolded(*b)).collect(alloc)?)
+}
+
+impl<'a> Fields<'a> {
+    pub fn new(line: &'a [u8], alloc: Global) -> Self {
+        Fields { rest: line, alloc }
+    }
+
+    /// Where what is read of them is kept.
+    pub fn alloc(&self) -> Global {
+        self.alloc
+    }
+
+    pub fn is_empty(&self) -> bool {
+        self.rest.is_empty()
+    }
+
+    /// The next field; an empty one where none is left.
+    pub fn next_field(&mut self) -> &'a [u8] {
+        let rest = self.rest;
+        let Some(end) = find(rest, b' ') else {
+            self.rest = &rest[rest.len()..];
+            return rest;
+        };
+        self.rest = &rest[end + 1..];
+        &rest[..end]
+    }
+
+    /// The same as a name; no text is an empty one.
+    pub fn name(&mut self) -> &'a str {
+        std::str::from_utf8(self.next_field()).unwrap_or("")
+    }
+
+    /// A number of at most `most`.
+    pub fn number(&mut self, most: u64) -> Result<u64, Fault> {
+        number(self.next_field(), most)
+    }
+
+    /// The same, where it counts what lies in memory.
+    pub fn count(&mut self, most: u64) -> Result<usize, Fault> {
+        Ok(self.number(most)? as usize)
+    }
+
+    /// A count that may be left out: then it is `most`.
+    pub fn count_or(&mut self, most: u64) -> Result<usize, Fault> {
+        if self.is_empty() {
+            return Ok(most as usize);
+        }
+        self.count(most)
+    }
+
+    /// A number of 8 bits.
+    pub fn byte(&mut self) -> Result<u8, Fault> {
+        u8::try_from(self.number(BYTE)?).map_err(|_| Fault::Bad)
+    }
+
+    /// A number of 32 bits.
+    pub fn half(&mut self) -> Result<u32, Fault> {
+        half(self.next_field(), HALF)
+    }
+
+    /// A slot, of 32 bits.
+    pub fn slot(&mut self) -> Result<usize, Fault> {
+        self.count(HALF)
+    }
+
+    /// A number of 64 bits.
+    pub fn word(&mut self) -> Result<u64, Fault> {
+        self.number(WORD)
+    }
+
+    /// A number with a sign, as the bits of a 64-bit word.
+    pub fn signed(&mut self) -> Result<u64, Fault> {
+        let field = self.next_field();
+        match field.strip_prefix(b"-") {
+            Some(digits) => Ok(number(digits, 9223372036854775808)?.wrapping_neg()),
+            None => number(field, 9223372036854775807),
+        }
+    }
+
+    /// Bytes in hexadecimal.
+    pub fn bytes(&mut self) -> Result<Vec<u8>, Fault> {
+        read_hex(self.next_field(), self.alloc)
+    }
+
+    /// A page, whose lines have `;` for byte 10.
+    pub fn page(&mut self) -> Result<Vec<u8>, Fault> {
+        unfold(self.next_field(), self.alloc)
+    }
+
+    /// A text of lines; `-` for one without lines.
+    pub fn script(&mut self) -> Result<Vec<u8>, Fault> {
+        match self.next_field() {
+            b"" => Err(Fault::Bad),
+            b"-" => Ok(Vec::new(self.alloc)),
+            field => unfold(field, self.alloc),
+        }
+    }
+
+    /// All that is left of the line, blanks too, as a text of lines.
+    pub fn text(&mut self) -> Result<Vec<u8>, Fault> {
+        unfold(self.rest, self.alloc)
+    }
+
+    /// Numbers of at most `most`, with commas; `-` for none. There are `room` of them at most.
+    pub fn words(&mut self, most: u64, room: usize) -> Result<Vec<u64>, Fault> {
+        let mut list = Vec::new(self.alloc);
+        let field = self.next_field();
+        if matches!(field, b"-") {
+            return Ok(list);
+        }
+        for entry in field.split(|b| *b == b',') {
+            if room <= list.len() {
+                return Err(Fault::Bad);
+            }
+            list.push(number(entry, most)?)?;
+        }
+        Ok(list)
+    }
+
+    // Entries, with commas, each put into the list by `put`; `-` for none. The list has `room` numbers at most.
+    fn entries<F: Fn(&[u8], &mut Vec<u32>) -> Result<(), Fault>>(
+        &mut self,
+        room: usize,
+        put: F,
+    ) -> Result<Vec<u32>, Fault>
+        requires { F.IsAlwaysCallable put }
+    {
+        let mut list = Vec::new(self.alloc);
+        let field = self.next_field();
+        if matches!(field, b"-") {
+            return Ok(list);
+        }
+        for entry in field.split(|b| *b == b',') {
+            put(entry, &mut list)?;
+            if room < list.len() {
+                return Err(Fault::Bad);
+            }
+        }
+        Ok(list)
+    }
+
+    /// Numbers of 32 bits.
+    pub fn halves(&mut self, room: usize) -> Result<Vec<u32>, Fault> {
+        self.entries(room, put_single)
+    }
+
+    /// Pairs of them.
+    pub fn pairs(&mut self, room: usize) -> Result<Vec<u32>, Fault> {
+        self.entries(room, put_pair)
+    }
+
+    /// A frame's map: what lies where in its memory.
+    pub fn frame_map(&mut self, room: usize) -> Result<Vec<u32>, Fault> {
+        self.entries(room, put_slot)
+    }
+}
