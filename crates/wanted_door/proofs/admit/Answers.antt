@@ -11,7 +11,7 @@ pub returns-then-not-rise : goal.returns-then-not-rise
 returns-then-not-rise c = no_pins (lent c.args.heap c.args.narrow.now c.args.wide.now c.args.pool.now) c.enter.ensures c.args.types.now c.args.fields.now c.args.consts.now c.args.bytes.now c.args.pins.now c.args.wanted.now c.in_ok-enter.was _ c.check_table.ensures c.if-not-check_table.false _ c.rise.ensures c.if-not-rise.true
 
 pub returns-then-not-rise-2 : goal.returns-then-not-rise-2
-returns-then-not-rise-2 c = no-wanted (lent c.args.heap c.args.narrow.now c.args.wide.now c.args.pool.now) c.enter.ensures c.args.types.now c.args.fields.now c.args.consts.now c.args.bytes.now c.args.pins.now c.args.wanted.now c.in_ok-enter.was _ c.check_table.ensures c.if-not-check_table.false _ c.rise.ensures c.if-not-rise.false _ c.rise.ensures c.if-not-rise-2.true
+returns-then-not-rise-2 c = no-wanted (lent c.args.heap c.args.narrow.now c.args.wide.now c.args.pool.now) c.enter.ensures c.args.types.now c.args.fields.now c.args.consts.now c.args.bytes.now c.args.pins.now c.args.wanted.now c.in_ok-enter.was _ c.check_table.ensures c.if-not-check_table.false _ c.rise.ensures c.if-not-rise.false _ c.rise-2.ensures c.if-not-rise-2.true
 
 pub returns-in_err-enter : goal.returns-in_err-enter
 returns-in_err-enter c =
@@ -19,4 +19,4 @@ returns-in_err-enter c =
     rw (p.1, p.2) (not_entered (lent c.args.heap c.args.narrow.now c.args.wide.now c.args.pool.now) c.enter.ensures c.args.types.now c.args.fields.now c.args.consts.now c.args.bytes.now c.args.pins.now c.args.wanted.now c.in_err-enter.was)
 
 pub returns : goal.returns
-returns c = all-entered (lent c.args.heap c.args.narrow.now c.args.wide.now c.args.pool.now) c.enter.ensures c.args.types.now c.args.fields.now c.args.consts.now c.args.bytes.now c.args.pins.now c.args.wanted.now c.in_ok-enter.was _ c.check_table.ensures c.if-not-check_table.false _ c.rise.ensures c.if-not-rise.false _ c.rise.ensures c.if-not-rise-2.false
+returns c = all-entered (lent c.args.heap c.args.narrow.now c.args.wide.now c.args.pool.now) c.enter.ensures c.args.types.now c.args.fields.now c.args.consts.now c.args.bytes.now c.args.pins.now c.args.wanted.now c.in_ok-enter.was _ c.check_table.ensures c.if-not-check_table.false _ c.rise.ensures c.if-not-rise.false _ c.rise-2.ensures c.if-not-rise-2.false
