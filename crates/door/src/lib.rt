@@ -16,14 +16,7 @@ pub struct Done {
     pub answer: Answer,
 }
 
-// What the tests before a call found.
-#[derive(Clone, Copy)]
-pub enum Entry {
-    Ready,
-    Not(Refusal),
-}
-
-// Is there scratch enough, and is the heap well formed? `marks` and `work` are scratch: zero afterwards, but as they were where they are too short.
+// Is there scratch enough, and is the heap well formed? The refusal of the first test that fails. `marks` and `work` are scratch: zero afterwards, but as they were where they are too short.
 pub fn enter(
     heap: Heap,
     narrow: &[u32],
@@ -31,21 +24,21 @@ pub fn enter(
     pool: &[u8],
     marks: &mut [u8],
     work: &mut [u64],
-) -> Entry
+) -> Result<(), Refusal>
     ensures { Entered (marks.old ∷ work.old ∷ [])
         (heap_tests marks.old work.old (lent heap narrow.now wide.now pool.now))
         result (marks.new ∷ work.new ∷ []) }
 {
     let slots = narrow.len() / 6;
     if marks.len() < slots {
-        return Entry::Not(Refusal::Scratch);
+        return Err(Refusal::Scratch);
     }
     if work.len() < slots {
-        return Entry::Not(Refusal::Scratch);
+        return Err(Refusal::Scratch);
     }
     work.fill(0);
     if heap_check::check(heap, narrow, wide, pool, marks) {
-        return Entry::Ready;
+        return Ok(());
     }
-    Entry::Not(Refusal::BrokenHeap)
+    Err(Refusal::BrokenHeap)
 }
