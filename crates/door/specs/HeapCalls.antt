@@ -34,6 +34,11 @@ unfoldable pub admitted : List Test → Entry
 admitted [] = ready
 admitted (t ∷ ts) = if t.holds then admitted ts else Err t.why
 
+-- what the tests found, of a call that then has a value in hand
+abbrev pub entry_of : {A : Type 0} → Outcomes A Refusal → Entry
+entry_of (Ok a) = ready
+entry_of (Err why) = Err why
+
 -- what follows a refusal, and what follows if there is none
 abbrev pub whether : {X : Type 0} → Entry → (Refusal → X) → X → X
 whether (Ok _) turned done = done

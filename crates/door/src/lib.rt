@@ -1,11 +1,13 @@
 // What every public call on a heap goes in by: scratch (18) and the heap (1) are tested first, each time.
 #![tactic(auto)]
 
-ghost use Rattle.std.specs.Prelude.{[], ◌∷◌};
+ghost use Rattle.std.specs.Prelude.{◌≡◌, [], ◌∷◌, IfOk};
 ghost use Rattle.heap.specs.Lent.{lent};
-ghost use Rattle.door.specs.HeapCalls.{Entered, heap_tests};
+ghost use Rattle.heap.specs.Seen.{seen};
+ghost use Rattle.door.specs.HeapCalls.{Entered, heap_tests, entry_of};
 
 use heap::Heap;
+use heap::view::View;
 use refusal::{Answer, Refusal};
 
 // The header after a call, and its answer in numbers.
@@ -41,4 +43,29 @@ pub fn enter(
         return Ok(());
     }
     Err(Refusal::BrokenHeap)
+}
+
+// The heap, to be read, after these tests.
+pub fn see<'a>(
+    heap: Heap,
+    narrow: &'a [u32],
+    wide: &'a [u64],
+    pool: &'a [u8],
+    marks: &mut [u8],
+    work: &mut [u64],
+) -> Result<View<'a>, Refusal>
+    ensures entered { Entered (marks.old ∷ work.old ∷ [])
+        (heap_tests marks.old work.old (lent heap narrow.now wide.now pool.now))
+        (entry_of result) (marks.new ∷ work.new ∷ []) }
+    ensures shows { IfOk result (λ v. seen v ≡ lent heap narrow.now wide.now pool.now) }
+{
+    match enter(heap, narrow, wide, pool, marks, work) {
+        Err(why) => Err(why),
+        Ok(()) => Ok(View {
+            heap,
+            narrow,
+            wide,
+            pool,
+        }),
+    }
 }

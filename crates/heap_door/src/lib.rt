@@ -12,8 +12,9 @@ ghost use Rattle.heap.specs.Calls.{resolve as resolved, edit as edited, write as
 ghost use Rattle.door.specs.HeapCalls.{asked, heap_ask, outcome, heap_call};
 ghost use Rattle.heap_door.specs.Sealing.{sealing};
 
-use door::{Done, enter};
+use door::{Done, enter, see};
 use heap::Heap;
+use heap::lent::Lent;
 use refusal::Answer;
 
 // ---- questions
@@ -128,9 +129,9 @@ pub fn yexwalu_live(
         ≡ heap_ask here nothing marks.old work.old
         (lent heap narrow.now wide.now pool.now) (λ h. ok (live_count h.slots)) }
 {
-    match enter(heap, narrow, wide, pool, marks, work) {
+    match see(heap, narrow, wide, pool, marks, work) {
         Err(why) => Answer::from(Err(why)),
-        Ok(()) => Answer::from(heap_edit::live(heap, narrow, wide, pool)),
+        Ok(view) => Answer::from(Ok((view.live(), 0))),
     }
 }
 
@@ -148,9 +149,9 @@ pub fn yexwalu_resolve(
         ≡ heap_ask here nothing marks.old work.old
         (lent heap narrow.now wide.now pool.now) (λ h. resolved h handle) }
 {
-    match enter(heap, narrow, wide, pool, marks, work) {
+    match see(heap, narrow, wide, pool, marks, work) {
         Err(why) => Answer::from(Err(why)),
-        Ok(()) => Answer::from(heap_edit::resolve(heap, narrow, wide, pool, handle)),
+        Ok(view) => Answer::from(heap_edit::resolve(view, handle)),
     }
 }
 
@@ -168,9 +169,9 @@ pub fn yexwalu_data(
         ≡ heap_ask (λ (p : Place). p.from) (λ (p : Place). p.size) marks.old work.old
         (lent heap narrow.now wide.now pool.now) (λ h. place_at h i) }
 {
-    match enter(heap, narrow, wide, pool, marks, work) {
+    match see(heap, narrow, wide, pool, marks, work) {
         Err(why) => Answer::from(Err(why)),
-        Ok(()) => Answer::from(heap_edit::data(heap, narrow, wide, pool, i)),
+        Ok(view) => Answer::from(view.data(i)),
     }
 }
 
@@ -188,9 +189,9 @@ pub fn yexwalu_kind(
         ≡ heap_ask (λ (k : Kind). k.kind) (λ (k : Kind). k.type) marks.old work.old
         (lent heap narrow.now wide.now pool.now) (λ h. kind_at h i) }
 {
-    match enter(heap, narrow, wide, pool, marks, work) {
+    match see(heap, narrow, wide, pool, marks, work) {
         Err(why) => Answer::from(Err(why)),
-        Ok(()) => Answer::from(heap_edit::kind(heap, narrow, wide, pool, i)),
+        Ok(view) => Answer::from(view.kind(i)),
     }
 }
 
@@ -208,9 +209,9 @@ pub fn yexwalu_stamp(
         ≡ heap_ask (λ (s : Stamp). s.generation) (λ (s : Stamp). s.writes) marks.old work.old
         (lent heap narrow.now wide.now pool.now) (λ h. stamp_at h i) }
 {
-    match enter(heap, narrow, wide, pool, marks, work) {
+    match see(heap, narrow, wide, pool, marks, work) {
         Err(why) => Answer::from(Err(why)),
-        Ok(()) => Answer::from(heap_edit::stamp(heap, narrow, wide, pool, i)),
+        Ok(view) => Answer::from(view.stamp(i)),
     }
 }
 
@@ -238,11 +239,15 @@ pub fn yexwalu_edit(
             answer: Answer::from(Err(why)),
         },
         Ok(()) => {
-            let done = heap_edit::edit(heap, narrow, wide, pool, handle, bytes, start);
-            let after = done.heap;
-            let reply = done.reply;
+            let mut lent = Lent {
+                heap,
+                narrow,
+                wide,
+                pool,
+            };
+            let reply = heap_edit::edit(&mut lent, handle, bytes, start);
             Done {
-                heap: after,
+                heap: lent.heap,
                 answer: Answer::from(reply),
             }
         }

@@ -8,10 +8,11 @@ ghost use Rattle.heap.specs.State.{bit};
 ghost use Rattle.heap.specs.Lent.{lent, stored, view};
 ghost use Rattle.heap.specs.WellFormed.{well_formed};
 ghost use Rattle.heap.specs.Calls.{gc_due, reclaim_due, has_quarantine, is_plain};
-ghost use Rattle.heap.specs.Calls.{edit as edited, write as written, reissue as reissued, seal as sealed_by, new as new_heap};
+ghost use Rattle.heap.specs.Calls.{resolve as resolved, edit as edited, write as written, reissue as reissued, seal as sealed_by, new as new_heap};
 ghost use Rattle.heap.specs.Columns.{CanPlace, PlacedIn};
 ghost use Rattle.heap.specs.Done.{Leaves, Tells};
 ghost use Rattle.heap.specs.Loans.{state, Replies};
+ghost use Rattle.heap.specs.Seen.{state as seen_state};
 ghost use Rattle.heap_edit.specs.Header.{OfHeader};
 ghost use Rattle.heap_edit.specs.Inner.Handles.{CanList, Listing, Listed, AllListed};
 
@@ -70,6 +71,16 @@ pub fn slots(heap: Heap) -> Reply
     ensures { OfHeader heap result (λ h. length h.slots) }
 {
     Ok((heap.slots as u64, 0))
+}
+
+// ---- What a view answers, as a reply
+
+// The slot that a handle leads to.
+pub fn resolve(view: View, x: u64) -> Reply
+    ensures { told result ≡ answered here nothing (resolved (seen_state view.entry) x) }
+{
+    let i = view.resolve(x)?;
+    Ok((i as u64, 0))
 }
 
 // ---- new
