@@ -8,13 +8,6 @@ ghost use Rattle.addresses.specs.Told.{told};
 
 use heap_calls::recycle::half;
 
-// The slot of an address.
-#[derive(Clone, Copy)]
-pub enum Slot {
-    At(u64),
-    Nowhere,
-}
-
 // Is the list one of pairs whose addresses rise strictly?
 pub fn rise(list: &[u64]) -> bool
     ensures { result ≡ paired list.now }
@@ -22,6 +15,7 @@ pub fn rise(list: &[u64]) -> bool
     if list.len() % 2 != 0 {
         return false;
     }
+    // Kept: the pairs lie flat, two words each.
     let mut at: usize = 2;
     while at < list.len() {
         if list[at] <= list[at - 2] {
@@ -33,7 +27,8 @@ pub fn rise(list: &[u64]) -> bool
 }
 
 // The slot that an address is listed with, by halves.
-pub fn find(list: &[u64], x: u64) -> Slot
+// Kept: `binary_search` is for the elements of a slice, and the pairs lie flat in a list of words, as the C interface has it.
+pub fn find(list: &[u64], x: u64) -> Option<u64>
     requires { paired list.now ≡ true }
     ensures { told result ≡ slot_of list.now x }
 {
@@ -43,11 +38,11 @@ pub fn find(list: &[u64], x: u64) -> Slot
         let mid = low + (high - low) / 2;
         let y = list[2 * mid];
         if y == x {
-            return Slot::At(list[2 * mid + 1]);
+            return Some(list[2 * mid + 1]);
         }
         let r = half(y < x, low, mid, high);
         low = r.low;
         high = r.high;
     }
-    Slot::Nowhere
+    None
 }

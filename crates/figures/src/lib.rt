@@ -19,12 +19,6 @@ pub struct Figures {
     pub largest: u64,
 }
 
-fn larger(a: u64, b: u64) -> u64
-    ensures { result ≡ max a b }
-{
-    if a < b { b } else { a }
-}
-
 impl Figures {
     pub fn none() -> Figures
         ensures { result ≡ no_figures }
@@ -44,7 +38,7 @@ impl Figures {
         Figures {
             objects: self.objects + other.objects,
             bytes: self.bytes + other.bytes,
-            largest: larger(self.largest, other.largest),
+            largest: self.largest.max(other.largest),
         }
     }
 
@@ -67,21 +61,13 @@ impl Figures {
     fn mean(self) -> u64
         ensures { result ≡ mean_of self }
     {
-        if self.objects == 0 {
-            0
-        } else {
-            self.bytes / self.objects
-        }
+        self.bytes.checked_div(self.objects).unwrap_or(0)
     }
 
     fn rest(self) -> u64
         ensures { result ≡ rest_of self }
     {
-        if self.objects == 0 {
-            0
-        } else {
-            self.bytes % self.objects
-        }
+        self.bytes.checked_rem(self.objects).unwrap_or(0)
     }
 }
 
@@ -94,12 +80,10 @@ fn count(heap: Heap, narrow: &[u32; 24576], wide: &[u64; 16384], pool: &[u8; 163
     let n = heap.slots;
     let mut figures = Figures::none();
     let mut from = 0;
-    let mut i = 0;
-    while i < n {
+    for i in 0..n {
         let end = wide[4096 + i];
         figures = figures.with_slot(narrow[4096 + i], end - from);
         from = end;
-        i += 1;
     }
     figures
 }
@@ -168,11 +152,11 @@ pub fn put_line(out: &mut [u8; 65536], at: usize, page: u64, answer: u64, f: Fig
     ensures puts { Puts out.old out.new at result (figures_line page answer f) }
     ensures upper_bound { (result ≤ at + 160) × (length out.old ≡ 65536) }
 {
-    let a = put_field(out, at, page, 44);
-    let b = put_field(out, a, answer, 44);
-    let c = put_field(out, b, f.objects, 44);
-    let d = put_field(out, c, f.bytes, 44);
-    let e = put_field(out, d, f.largest, 44);
-    let g = put_field(out, e, f.mean(), 44);
-    put_field(out, g, f.rest(), 10)
+    let a = put_field(out, at, page, b',');
+    let b = put_field(out, a, answer, b',');
+    let c = put_field(out, b, f.objects, b',');
+    let d = put_field(out, c, f.bytes, b',');
+    let e = put_field(out, d, f.largest, b',');
+    let g = put_field(out, e, f.mean(), b',');
+    put_field(out, g, f.rest(), b'\n')
 }

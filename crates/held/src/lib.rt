@@ -12,8 +12,8 @@ ghost use Rattle.heap_calls.specs.Objects.{size_of, start_of, handed_out};
 ghost use Rattle.object_door.specs.ObjectCalls.{allocating, recycling};
 ghost use Rattle.held.specs.Held.{head_in, in_place, Held};
 
-use heap::{Changed, Heap};
-use refusal::{Answer, Refusal};
+use heap::Heap;
+use refusal::Answer;
 
 // The header that lies in lent memory: the tag; since_gc, reclaim_at, live_bytes and epoch; the log; how many entries of the slots and of each list are in use.
 pub fn header(tag: &[u8; 1], numbers: &[u64; 4], log: &[u32; 16], lengths: &[u64; 5]) -> Heap
@@ -63,52 +63,6 @@ pub fn keep(
     ];
 }
 
-// Places the object `bytes[start..]`, where it is of a kind.
-fn alloc_from(
-    heap: Heap,
-    narrow: &mut [u32],
-    wide: &mut [u64],
-    pool: &mut [u8],
-    kind: u8,
-    ty: u32,
-    start: usize,
-    bytes: &[u8],
-) -> Changed
-    requires { well_formed (lent heap narrow.old wide.old pool.old) ≡ true }
-    ensures { Tells here nothing (lent heap narrow.old wide.old pool.old)
-        (lent result.heap narrow.new wide.new pool.new) result.reply
-        (allocating (length narrow.old / 6) (length pool.old) kind ty start bytes.now
-        (view (lent heap narrow.old wide.old pool.old))) }
-{
-    if object_door::is_kind(kind) {
-        return heap_calls::alloc_from(heap, narrow, wide, pool, kind, ty, start, bytes);
-    }
-    Changed {
-        heap: heap,
-        reply: Err(Refusal::Kind),
-    }
-}
-
-// Recycles, where the pins rise strictly.
-fn recycle(heap: Heap, narrow: &mut [u32], wide: &[u64], pool: &[u8], pins: &[u32]) -> Changed
-    requires { well_formed (lent heap narrow.old wide.now pool.now) ≡ true }
-    ensures { Tells nothing nothing (lent heap narrow.old wide.now pool.now)
-        (lent result.heap narrow.new wide.now pool.now) result.reply
-        (recycling pins.now (view (lent heap narrow.old wide.now pool.now))) }
-{
-    if heap_calls::recycle::rise(pins) {
-        let after = heap_calls::recycle::recycle(heap, narrow, wide, pool, pins);
-        return Changed {
-            heap: after,
-            reply: Ok((0, 0)),
-        };
-    }
-    Changed {
-        heap: heap,
-        reply: Err(Refusal::Pins),
-    }
-}
-
 // Places the object `bytes[start..]` of this kind and type. First: its handle.
 pub fn yexwalu_held_alloc_from(
     tag: &mut [u8; 1],
@@ -130,11 +84,9 @@ pub fn yexwalu_held_alloc_from(
         (allocating (length narrow.old / 6) (length pool.old) kind ty start bytes.now) }
 {
     let heap = header(tag, numbers, log, lengths);
-    let done = alloc_from(heap, narrow, wide, pool, kind, ty, start, bytes);
-    let after = done.heap;
-    let reply = done.reply;
-    keep(after, tag, numbers, log, lengths);
-    Answer::from(reply)
+    let done = object_door::alloc_from(heap, narrow, wide, pool, kind as u64, ty, start, bytes);
+    keep(done.heap, tag, numbers, log, lengths);
+    Answer::from(done.reply)
 }
 
 // Hands out the whole data of the object that the handle names; its slot goes into quarantine. First: its length; second: its start.
@@ -159,10 +111,8 @@ pub fn yexwalu_held_take(
 {
     let heap = header(tag, numbers, log, lengths);
     let done = heap_calls::take(heap, narrow, wide, pool, handle, out);
-    let after = done.heap;
-    let reply = done.reply;
-    keep(after, tag, numbers, log, lengths);
-    Answer::from(reply)
+    keep(done.heap, tag, numbers, log, lengths);
+    Answer::from(done.reply)
 }
 
 // Pinned slots stay in quarantine, in order; the others join the free list, or the retired list where they are worn out.
@@ -183,9 +133,7 @@ pub fn yexwalu_held_recycle(
         (recycling pins.now) }
 {
     let heap = header(tag, numbers, log, lengths);
-    let done = recycle(heap, narrow, wide, pool, pins);
-    let after = done.heap;
-    let reply = done.reply;
-    keep(after, tag, numbers, log, lengths);
-    Answer::from(reply)
+    let done = object_door::recycle(heap, narrow, wide, pool, pins);
+    keep(done.heap, tag, numbers, log, lengths);
+    Answer::from(done.reply)
 }

@@ -35,10 +35,8 @@ pub fn yexwalu_held_free(
 {
     let heap = held::header(tag, numbers, log, lengths);
     let done = heap_calls::free(heap, narrow, wide, pool, handle);
-    let after = done.heap;
-    let reply = done.reply;
-    held::keep(after, tag, numbers, log, lengths);
-    Answer::from(reply)
+    held::keep(done.heap, tag, numbers, log, lengths);
+    Answer::from(done.reply)
 }
 
 // New bytes and a new start for the object that the handle leads to. First: its slot.
@@ -92,10 +90,8 @@ pub fn yexwalu_held_reissue(
 {
     let heap = held::header(tag, numbers, log, lengths);
     let done = heap_edit::reissue(heap, narrow, wide, pool, i, grown);
-    let after = done.heap;
-    let reply = done.reply;
-    held::keep(after, tag, numbers, log, lengths);
-    Answer::from(reply)
+    held::keep(done.heap, tag, numbers, log, lengths);
+    Answer::from(done.reply)
 }
 
 // The seals become the handles of all live slots.

@@ -14,8 +14,7 @@ use Rattle.layout.proofs.LayLaws.{rest}
 use Rattle.trace.specs.Places.{handle_at}
 use Rattle.addresses.specs.Listed.{slot_of, slots_of}
 use Rattle.addresses.specs.Told.{told}
-use Rattle.addresses.specs.declared.Slot.{Slot}
-use Rattle.addresses.specs.declared.Slot.TheVariants.{At, Nowhere}
+use Rattle.std.specs.Prelude.{Option as MaybeSlot, Some, None}
 use Rattle.addresses.proofs.Listing.{slots-append}
 use Rattle.frame.specs.Frame.{Entry, entry, entries_of, first_word, entry_words, entries_words}
 use Rattle.frame.proofs.FrameLaws.{entries_next}
@@ -41,11 +40,11 @@ module _ (slots : ℕ) (marks work : List ℕ) (n i : ℕ) (c : Scratch slots ma
 
 -- ---- the slot of an address
 
-module _ (slots : ℕ) (list : List ℕ) (x : ℕ) (marks work : List ℕ) (n : ℕ) (c : Scratch slots marks work n) (r : Slot) (e : told r ≡ slot_of list x) where
-  pub address-nowhere : r ≡ Nowhere → Holds slots marks work n (pin_all (in_use slots) (state_of marks work n) (slot_of list x))
+module _ (slots : ℕ) (list : List ℕ) (x : ℕ) (marks work : List ℕ) (n : ℕ) (c : Scratch slots marks work n) (r : MaybeSlot ℕ) (e : told r ≡ slot_of list x) where
+  pub address-nowhere : r ≡ None → Holds slots marks work n (pin_all (in_use slots) (state_of marks work n) (slot_of list x))
   address-nowhere w = record { state = ap (pin_all (in_use slots) (state_of marks work n)) (sym (ap told w) ∙ e); scratch = c }
 
-  pub address-at : (i : ℕ) → r ≡ At i → (marks' work' : List ℕ) (n' : ℕ) → Holds slots marks' work' n' (pin_if (in_use slots i) (state_of marks work n) i)
+  pub address-at : (i : ℕ) → r ≡ Some i → (marks' work' : List ℕ) (n' : ℕ) → Holds slots marks' work' n' (pin_if (in_use slots i) (state_of marks work n) i)
       → Holds slots marks' work' n' (pin_all (in_use slots) (state_of marks work n) (slot_of list x))
   address-at i w marks' work' n' k = subst (λ (l : List ℕ). Holds slots marks' work' n' (pin_all (in_use slots) (state_of marks work n) l)) (sym (ap told w) ∙ e) k
 

@@ -7,8 +7,6 @@ ghost use Rattle.reach.specs.Marking.{pin_if, pin_all};
 ghost use Rattle.mark.specs.Scratch.{state_of, Scratch, Holds};
 ghost use Rattle.mark.specs.Joining.{in_use};
 
-use addresses::Slot;
-
 // A pinned slot is marked and queued if there is that slot. Its index is any number of 64 bits.
 fn hold(slots: usize, i: u64, marks: &mut [u8], work: &mut [u64], n: usize) -> usize
     requires slots_bound { slots ≤ 16777216 }
@@ -50,8 +48,8 @@ pub fn hold_address(
         (pin_all (in_use slots) (state_of marks.old work.old n) (slot_of addresses.now x)) }
 {
     match addresses::find(addresses, x) {
-        Slot::Nowhere => n,
-        Slot::At(i) => hold(slots, i, marks, work, n),
+        Some(i) => hold(slots, i, marks, work, n),
+        None => n,
     }
 }
 

@@ -2,16 +2,19 @@
 // `marks` and `work` are scratch.
 #![tactic(auto)]
 
-ghost use Rattle.std.specs.Prelude.{◌≡◌, [], ◌∷◌, ◌/◌, length};
+ghost use Rattle.std.specs.Prelude.{◌≡◌, true, [], ◌∷◌, ◌/◌, length};
 ghost use Rattle.refusal.specs.Told.{here, nothing};
-ghost use Rattle.heap.specs.Lent.{lent};
+ghost use Rattle.heap.specs.Lent.{lent, view};
+ghost use Rattle.heap.specs.WellFormed.{well_formed};
+ghost use Rattle.heap.specs.Done.{Tells};
 ghost use Rattle.heap.specs.Calls.{free as freed};
 ghost use Rattle.door.specs.HeapCalls.{Entered, outcome, heap_call};
-ghost use Rattle.object_door.specs.ObjectCalls.{is_kind, allocating, recycling, handed, take_call};
+ghost use Rattle.object_door.specs.ObjectCalls.{allocating, recycling, handed, take_call};
 ghost use Rattle.object_door.specs.Making.{no_header, new_tests, new_call};
 
 use door::{Done, enter};
-use heap::Heap;
+use heap::{Changed, Heap};
+use heap_calls::kind::ObjectKind;
 use refusal::{Answer, Refusal};
 
 // The header that a refusal returns: zeros, which no call takes for a heap.
@@ -34,13 +37,7 @@ fn no_heap() -> Heap
 }
 
 // Is there scratch enough, and are the lent sizes in range?
-fn enter_new(
-    narrow: &[u32],
-    wide: &[u64],
-    pool: &[u8],
-    marks: &mut [u8],
-    work: &mut [u64],
-) -> Result<(), Refusal>
+fn enter_new(narrow: &[u32], wide: &[u64], pool: &[u8], marks: &mut [u8], work: &mut [u64]) -> Result<(), Refusal>
     ensures { Entered (marks.old ∷ work.old ∷ [])
         (new_tests marks.old work.old narrow.now wide.now pool.now)
         result (marks.new ∷ work.new ∷ []) }
@@ -88,17 +85,49 @@ pub fn yexwalu_new(
     }
 }
 
-// Is `k` the kind of an object: Typed, Bytes or Handles?
-pub fn is_kind(k: u8) -> bool
-    ensures { result ≡ is_kind k }
+// Places the object `bytes[start..]` on a heap that is known to be well formed, where the number is a kind's.
+pub fn alloc_from(
+    heap: Heap,
+    narrow: &mut [u32],
+    wide: &mut [u64],
+    pool: &mut [u8],
+    kind: u64,
+    ty: u32,
+    start: usize,
+    bytes: &[u8],
+) -> Changed
+    requires { well_formed (lent heap narrow.old wide.old pool.old) ≡ true }
+    ensures { Tells here nothing (lent heap narrow.old wide.old pool.old)
+        (lent result.heap narrow.new wide.new pool.new) result.reply
+        (allocating (length narrow.old / 6) (length pool.old) kind ty start bytes.now
+        (view (lent heap narrow.old wide.old pool.old))) }
 {
-    if k < 1 {
-        return false;
+    match ObjectKind::try_from(kind) {
+        Ok(k) => heap_calls::alloc_from(heap, narrow, wide, pool, k, ty, start, bytes),
+        Err(why) => Changed {
+            heap: heap,
+            reply: Err(why),
+        },
     }
-    if 3 < k {
-        return false;
+}
+
+// Recycles on a heap that is known to be well formed, where the pins rise strictly.
+pub fn recycle(heap: Heap, narrow: &mut [u32], wide: &[u64], pool: &[u8], pins: &[u32]) -> Changed
+    requires { well_formed (lent heap narrow.old wide.now pool.now) ≡ true }
+    ensures { Tells nothing nothing (lent heap narrow.old wide.now pool.now)
+        (lent result.heap narrow.new wide.now pool.now) result.reply
+        (recycling pins.now (view (lent heap narrow.old wide.now pool.now))) }
+{
+    if heap_calls::recycle::rise(pins) {
+        return Changed {
+            heap: heap_calls::recycle::recycle(heap, narrow, wide, pool, pins),
+            reply: Ok((0, 0)),
+        };
     }
-    true
+    Changed {
+        heap: heap,
+        reply: Err(Refusal::Pins),
+    }
 }
 
 // Places the object `bytes[start..]` of this kind and type; the answer is its handle.
@@ -125,18 +154,10 @@ pub fn yexwalu_alloc_from(
             answer: Answer::from(Err(why)),
         },
         Ok(()) => {
-            if is_kind(kind) {
-                let done = heap_calls::alloc_from(heap, narrow, wide, pool, kind, ty, start, bytes);
-                let after = done.heap;
-                let reply = done.reply;
-                return Done {
-                    heap: after,
-                    answer: Answer::from(reply),
-                };
-            }
+            let done = alloc_from(heap, narrow, wide, pool, kind as u64, ty, start, bytes);
             Done {
-                heap: heap,
-                answer: Answer::from(Err(Refusal::Kind)),
+                heap: done.heap,
+                answer: Answer::from(done.reply),
             }
         }
     }
@@ -186,11 +207,9 @@ pub fn yexwalu_take(
         },
         Ok(()) => {
             let done = heap_calls::take(heap, narrow, wide, pool, handle, out);
-            let after = done.heap;
-            let reply = done.reply;
             Done {
-                heap: after,
-                answer: Answer::from(reply),
+                heap: done.heap,
+                answer: Answer::from(done.reply),
             }
         }
     }
@@ -218,11 +237,9 @@ pub fn yexwalu_free(
         },
         Ok(()) => {
             let done = heap_calls::free(heap, narrow, wide, pool, handle);
-            let after = done.heap;
-            let reply = done.reply;
             Done {
-                heap: after,
-                answer: Answer::from(reply),
+                heap: done.heap,
+                answer: Answer::from(done.reply),
             }
         }
     }
@@ -249,16 +266,10 @@ pub fn yexwalu_recycle(
             answer: Answer::from(Err(why)),
         },
         Ok(()) => {
-            if heap_calls::recycle::rise(pins) {
-                let after = heap_calls::recycle::recycle(heap, narrow, wide, pool, pins);
-                return Done {
-                    heap: after,
-                    answer: Answer::from(Ok((0, 0))),
-                };
-            }
+            let done = recycle(heap, narrow, wide, pool, pins);
             Done {
-                heap: heap,
-                answer: Answer::from(Err(Refusal::Pins)),
+                heap: done.heap,
+                answer: Answer::from(done.reply),
             }
         }
     }

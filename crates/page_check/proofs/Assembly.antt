@@ -1,9 +1,11 @@
 -- The whole of a page, part by part as the first pass reads it.
 use Prim.Native.Nat.{ℕ, suc, ◌-◌, ◌^◌, ◌≤◌, ◌<◌}
 use mathlib.Core.List.{List, [], ◌∷◌, ◌++◌, map}
-use mathlib.Core.Option.{Option, none, some}
+use mathlib.Core.Option as maybe
+use mathlib.Core.Option.{none, some}
 use mathlib.Core.Bool.{Bool, true, false, ◌&&◌}
 use mathlib.Core.Path.{◌≡◌, refl, sym, ap, ◌∙◌, subst}
+use Rattle.std.specs.Prelude.{Option, Some, None}
 use lib.Dec.{ltb}
 use lib.ListN.{length, drop, drop_of_length-le, length-map}
 use lib.Seq.{drop-cons}
@@ -19,20 +21,16 @@ use Rattle.heap.specs.WellFormed.{sound_slot, sound_seals, sound_reclaim}
 use Rattle.pages.specs.Form.{Form, form_of, slot_named, free_name, quarantine_name, sealed_name}
 use Rattle.pages.specs.Page.{Head, head_format, body_format, slot_format, out_of_column, slots_format, retired_format, page_format, read_page, state_of}
 use Rattle.pages.proofs.Laws.{slot-right, slots-wider, head-right}
-use Rattle.page_check.specs.Answer.{head_answer, slots_answer, indices_more, seals_more}
+use Rattle.page_check.specs.Answer.{head_answer, slots_answer, lines_of, values_of, indices_more, seals_more}
 use Rattle.page_check.specs.Partition.{values_at, ValuesParsed}
 use Rattle.page_check.specs.Parts.{numbers_of, heap_named, sections_of}
 use Rattle.page_check.specs.Sections.{heap_in, form_in, sound_but, Sectioned}
 use Rattle.page_check.specs.Filling.{SlotsParsed}
 use Rattle.page_check.proofs.Columned.{same-sound, same_size}
 use Rattle.page_check.proofs.Once.{slots-are, read_count}
+use Rattle.page_check.specs.declared.SlotLines.{SlotLines}
 use Rattle.page_check.specs.declared.HeadRead.{HeadRead}
-use Rattle.page_check.specs.declared.HeadLine.{HeadLine}
-use Rattle.page_check.specs.declared.HeadLine.TheVariants.{Head as Head-of, NoHead}
-use Rattle.page_check.specs.declared.Slots.{Slots}
-use Rattle.page_check.specs.declared.Slots.TheVariants.{Lines, NoSlots}
 use Rattle.page_check.specs.declared.Values.{Values}
-use Rattle.page_check.specs.declared.Values.TheVariants.{Good, NoValues}
 
 contradiction : ◌≡◌ {A = ℕ} 0 1 → ⊥
 contradiction z = omega arith
@@ -42,45 +40,46 @@ rest_of : {A : Type 0} {f : Format A} {good : A → Type 0} → Right f good →
     rest ≡ drop (length s - length rest) s
 rest_of {A} {f} r s k a rest e = suffix (f.print a) rest s k (r.back (drop k s) a rest e).1
 
-module _ (ret : Bool) (s : List ℕ) (k : ℕ) {r : HeadLine} (e : r ≡ head_answer ret (length s) ((head_format ret).read (drop k s))) where
-  pub head-found : (x : HeadRead) → r ≡ Head-of x →
+module _ (ret : Bool) (s : List ℕ) (k : ℕ) {r : Option HeadRead} (e : r ≡ head_answer ret (length s) ((head_format ret).read (drop k s))) where
+  pub head-found : (x : HeadRead) → r ≡ Some x →
       (x.retiring ≡ ret) × ((head_format ret).read (drop k s) ≡ give (numbers_of x) (drop x.next s)) × (x.next ≤ length s)
   head-found x f = go ((head_format ret).read (drop k s)) refl e
     where
-      go : (o : Option (Head × List ℕ)) → (head_format ret).read (drop k s) ≡ o → r ≡ head_answer ret (length s) o →
+      go : (o : maybe.Option (Head × List ℕ)) → (head_format ret).read (drop k s) ≡ o → r ≡ head_answer ret (length s) o →
           (x.retiring ≡ ret) × ((head_format ret).read (drop k s) ≡ give (numbers_of x) (drop x.next s)) × (x.next ≤ length s)
       go none q g = absurd (contradiction cc)
       go (some y) q g =
-          let v : head_answer ret (length s) (some y) ≡ Head-of x = sym g ∙ f in
+          let v : head_answer ret (length s) (some y) ≡ Some x = sym g ∙ f in
           let z : HeadRead = record { retiring = ret; tag = y.0.0; since_gc = y.0.1.0; reclaim_at = y.0.1.1.0; live_bytes = y.0.1.1.1.0; slots = y.0.1.1.1.1.0; free = y.0.1.1.1.1.1.0; quarantine = y.0.1.1.1.1.1.1.0; sealed = y.0.1.1.1.1.1.1.1.0; retired = y.0.1.1.1.1.1.1.1.1; next = length s - length y.1 } in
           let w : z ≡ x = cc in
           subst (λ (x : HeadRead). (x.retiring ≡ ret) × ((head_format ret).read (drop k s) ≡ give (numbers_of x) (drop x.next s)) × (x.next ≤ length s)) w
           (refl, q ∙ ap (give y.0) (rest_of (head-right ret) s k y.0 y.1 q), omega arith)
 
-  pub head-lost : r ≡ NoHead → (head_format ret).read (drop k s) ≡ none
+  pub head-lost : r ≡ None → (head_format ret).read (drop k s) ≡ none
   head-lost f = go ((head_format ret).read (drop k s)) refl e
     where
-      go : (o : Option (Head × List ℕ)) → (head_format ret).read (drop k s) ≡ o → r ≡ head_answer ret (length s) o → (head_format ret).read (drop k s) ≡ none
+      go : (o : maybe.Option (Head × List ℕ)) → (head_format ret).read (drop k s) ≡ o → r ≡ head_answer ret (length s) o → (head_format ret).read (drop k s) ≡ none
       go none q g = q
       go (some y) q g = absurd (contradiction cc)
 
-pub slots-found : (w : Bool) (s : List ℕ) (k cnt : ℕ) {r : Slots} (ok : Bool) (size : ℕ) (c : ℕ) → r ≡ slots_answer (length s) (read_all (slot_format w).read cnt (drop k s)) → r ≡ Lines ok size c →
-    (l : List Slot) × (read_all (slot_format w).read cnt (drop k s) ≡ give l (drop c s)) × (c ≤ length s) × (ok ≡ all sound_slot l) × (size ≡ data_size l)
+pub slots-found : (w : Bool) (s : List ℕ) (k cnt : ℕ) {r : Option SlotLines} (x : SlotLines) → r ≡ slots_answer (length s) (read_all (slot_format w).read cnt (drop k s)) → r ≡ Some x →
+    (l : List Slot) × (read_all (slot_format w).read cnt (drop k s) ≡ give l (drop x.next s)) × (x.next ≤ length s) × (x.sound ≡ all sound_slot l) × (x.size ≡ data_size l)
 unfolding times
-slots-found w s k cnt {r} ok size c e f = go (read_all (slot_format w).read cnt (drop k s)) refl e
+slots-found w s k cnt {r} x e f = go (read_all (slot_format w).read cnt (drop k s)) refl e
   where
-    go : (o : Option (List Slot × List ℕ)) → read_all (slot_format w).read cnt (drop k s) ≡ o → r ≡ slots_answer (length s) o →
-        (l : List Slot) × (read_all (slot_format w).read cnt (drop k s) ≡ give l (drop c s)) × (c ≤ length s) × (ok ≡ all sound_slot l) × (size ≡ data_size l)
+    go : (o : maybe.Option (List Slot × List ℕ)) → read_all (slot_format w).read cnt (drop k s) ≡ o → r ≡ slots_answer (length s) o →
+        (l : List Slot) × (read_all (slot_format w).read cnt (drop k s) ≡ give l (drop x.next s)) × (x.next ≤ length s) × (x.sound ≡ all sound_slot l) × (x.size ≡ data_size l)
     go none q g = absurd (contradiction cc)
     go (some y) q g =
-        let v : slots_answer (length s) (some y) ≡ Lines ok size c = sym g ∙ f in
-        let v1 : length s - length y.1 ≡ c = cc in
-        (y.0, q ∙ ap (give y.0) (rest_of (times-right cnt (slot-right w)) s k y.0 y.1 q ∙ ap (λ (m : ℕ). drop m s) v1), omega arith, cc, cc)
+        let v : slots_answer (length s) (some y) ≡ Some x = sym g ∙ f in
+        let z : lines_of (all sound_slot y.0) (data_size y.0) (length s - length y.1) ≡ x = cc in
+        let v1 : length s - length y.1 ≡ x.next = ap (λ (q : SlotLines). q.next) z in
+        (y.0, q ∙ ap (give y.0) (rest_of (times-right cnt (slot-right w)) s k y.0 y.1 q ∙ ap (λ (m : ℕ). drop m s) v1), omega arith, sym (ap (λ (q : SlotLines). q.sound) z), sym (ap (λ (q : SlotLines). q.size) z))
 
-pub slots-none : (w : Bool) (s : List ℕ) (k cnt : ℕ) {r : Slots} → r ≡ slots_answer (length s) (read_all (slot_format w).read cnt (drop k s)) → r ≡ NoSlots → read_all (slot_format w).read cnt (drop k s) ≡ none
+pub slots-none : (w : Bool) (s : List ℕ) (k cnt : ℕ) {r : Option SlotLines} → r ≡ slots_answer (length s) (read_all (slot_format w).read cnt (drop k s)) → r ≡ None → read_all (slot_format w).read cnt (drop k s) ≡ none
 slots-none w s k cnt {r} e f = go (read_all (slot_format w).read cnt (drop k s)) refl e
   where
-    go : (o : Option (List Slot × List ℕ)) → read_all (slot_format w).read cnt (drop k s) ≡ o → r ≡ slots_answer (length s) o → read_all (slot_format w).read cnt (drop k s) ≡ none
+    go : (o : maybe.Option (List Slot × List ℕ)) → read_all (slot_format w).read cnt (drop k s) ≡ o → r ≡ slots_answer (length s) o → read_all (slot_format w).read cnt (drop k s) ≡ none
     go none q g = q
     go (some y) q g = absurd (contradiction cc)
 
@@ -88,43 +87,45 @@ line-right : (width : ℕ) → Right (number width 10) (λ n. n < 2 ^ width)
 unfolding Rattle.text.specs.Text.digit_of
 line-right width = number-right width 10 refl
 
-pub indices-found : (s : List ℕ) (k cnt : ℕ) (n : ℕ) {r : Values} (ok : Bool) (c : ℕ) → r ≡ indices_more (length s) n true (read_all (number 32 10).read cnt (drop k s)) → r ≡ Good ok c →
-    (l : List ℕ) × (read_all (number 32 10).read cnt (drop k s) ≡ give l (drop c s)) × (c ≤ length s) × (ok ≡ all (λ i. ltb i n) l)
+pub indices-found : (s : List ℕ) (k cnt : ℕ) (n : ℕ) {r : Option Values} (x : Values) → r ≡ indices_more (length s) n true (read_all (number 32 10).read cnt (drop k s)) → r ≡ Some x →
+    (l : List ℕ) × (read_all (number 32 10).read cnt (drop k s) ≡ give l (drop x.next s)) × (x.next ≤ length s) × (x.sound ≡ all (λ i. ltb i n) l)
 unfolding times
-indices-found s k cnt n {r} ok c e f = go (read_all (number 32 10).read cnt (drop k s)) refl e
+indices-found s k cnt n {r} x e f = go (read_all (number 32 10).read cnt (drop k s)) refl e
   where
-    go : (o : Option (List ℕ × List ℕ)) → read_all (number 32 10).read cnt (drop k s) ≡ o → r ≡ indices_more (length s) n true o →
-        (l : List ℕ) × (read_all (number 32 10).read cnt (drop k s) ≡ give l (drop c s)) × (c ≤ length s) × (ok ≡ all (λ i. ltb i n) l)
+    go : (o : maybe.Option (List ℕ × List ℕ)) → read_all (number 32 10).read cnt (drop k s) ≡ o → r ≡ indices_more (length s) n true o →
+        (l : List ℕ) × (read_all (number 32 10).read cnt (drop k s) ≡ give l (drop x.next s)) × (x.next ≤ length s) × (x.sound ≡ all (λ i. ltb i n) l)
     go none q g = absurd (contradiction cc)
     go (some y) q g =
-        let v : indices_more (length s) n true (some y) ≡ Good ok c = sym g ∙ f in
-        let v1 : length s - length y.1 ≡ c = cc in
-        (y.0, q ∙ ap (give y.0) (rest_of (times-right cnt (line-right 32)) s k y.0 y.1 q ∙ ap (λ (m : ℕ). drop m s) v1), omega arith, cc)
+        let v : indices_more (length s) n true (some y) ≡ Some x = sym g ∙ f in
+        let z : values_of (all (λ i. ltb i n) y.0) (length s - length y.1) ≡ x = cc in
+        let v1 : length s - length y.1 ≡ x.next = ap (λ (q : Values). q.next) z in
+        (y.0, q ∙ ap (give y.0) (rest_of (times-right cnt (line-right 32)) s k y.0 y.1 q ∙ ap (λ (m : ℕ). drop m s) v1), omega arith, sym (ap (λ (q : Values). q.sound) z))
 
-pub indices-none : (s : List ℕ) (k cnt : ℕ) (n : ℕ) {r : Values} → r ≡ indices_more (length s) n true (read_all (number 32 10).read cnt (drop k s)) → r ≡ NoValues → read_all (number 32 10).read cnt (drop k s) ≡ none
+pub indices-none : (s : List ℕ) (k cnt : ℕ) (n : ℕ) {r : Option Values} → r ≡ indices_more (length s) n true (read_all (number 32 10).read cnt (drop k s)) → r ≡ None → read_all (number 32 10).read cnt (drop k s) ≡ none
 indices-none s k cnt n {r} e f = go (read_all (number 32 10).read cnt (drop k s)) refl e
   where
-    go : (o : Option (List ℕ × List ℕ)) → read_all (number 32 10).read cnt (drop k s) ≡ o → r ≡ indices_more (length s) n true o → read_all (number 32 10).read cnt (drop k s) ≡ none
+    go : (o : maybe.Option (List ℕ × List ℕ)) → read_all (number 32 10).read cnt (drop k s) ≡ o → r ≡ indices_more (length s) n true o → read_all (number 32 10).read cnt (drop k s) ≡ none
     go none q g = q
     go (some y) q g = absurd (contradiction cc)
 
-pub seals-found : (s : List ℕ) (k cnt : ℕ) (tag n : ℕ) {r : Values} (ok : Bool) (c : ℕ) → r ≡ seals_more (length s) tag n 0 true (read_all (number 64 10).read cnt (drop k s)) → r ≡ Good ok c →
-    (l : List ℕ) × (read_all (number 64 10).read cnt (drop k s) ≡ give l (drop c s)) × (c ≤ length s) × (ok ≡ sound_seals tag n 0 l)
+pub seals-found : (s : List ℕ) (k cnt : ℕ) (tag n : ℕ) {r : Option Values} (x : Values) → r ≡ seals_more (length s) tag n 0 true (read_all (number 64 10).read cnt (drop k s)) → r ≡ Some x →
+    (l : List ℕ) × (read_all (number 64 10).read cnt (drop k s) ≡ give l (drop x.next s)) × (x.next ≤ length s) × (x.sound ≡ sound_seals tag n 0 l)
 unfolding times
-seals-found s k cnt tag n {r} ok c e f = go (read_all (number 64 10).read cnt (drop k s)) refl e
+seals-found s k cnt tag n {r} x e f = go (read_all (number 64 10).read cnt (drop k s)) refl e
   where
-    go : (o : Option (List ℕ × List ℕ)) → read_all (number 64 10).read cnt (drop k s) ≡ o → r ≡ seals_more (length s) tag n 0 true o →
-        (l : List ℕ) × (read_all (number 64 10).read cnt (drop k s) ≡ give l (drop c s)) × (c ≤ length s) × (ok ≡ sound_seals tag n 0 l)
+    go : (o : maybe.Option (List ℕ × List ℕ)) → read_all (number 64 10).read cnt (drop k s) ≡ o → r ≡ seals_more (length s) tag n 0 true o →
+        (l : List ℕ) × (read_all (number 64 10).read cnt (drop k s) ≡ give l (drop x.next s)) × (x.next ≤ length s) × (x.sound ≡ sound_seals tag n 0 l)
     go none q g = absurd (contradiction cc)
     go (some y) q g =
-        let v : seals_more (length s) tag n 0 true (some y) ≡ Good ok c = sym g ∙ f in
-        let v1 : length s - length y.1 ≡ c = cc in
-        (y.0, q ∙ ap (give y.0) (rest_of (times-right cnt (line-right 64)) s k y.0 y.1 q ∙ ap (λ (m : ℕ). drop m s) v1), omega arith, cc)
+        let v : seals_more (length s) tag n 0 true (some y) ≡ Some x = sym g ∙ f in
+        let z : values_of (sound_seals tag n 0 y.0) (length s - length y.1) ≡ x = cc in
+        let v1 : length s - length y.1 ≡ x.next = ap (λ (q : Values). q.next) z in
+        (y.0, q ∙ ap (give y.0) (rest_of (times-right cnt (line-right 64)) s k y.0 y.1 q ∙ ap (λ (m : ℕ). drop m s) v1), omega arith, sym (ap (λ (q : Values). q.sound) z))
 
-pub seals-none : (s : List ℕ) (k cnt : ℕ) (tag n : ℕ) {r : Values} → r ≡ seals_more (length s) tag n 0 true (read_all (number 64 10).read cnt (drop k s)) → r ≡ NoValues → read_all (number 64 10).read cnt (drop k s) ≡ none
+pub seals-none : (s : List ℕ) (k cnt : ℕ) (tag n : ℕ) {r : Option Values} → r ≡ seals_more (length s) tag n 0 true (read_all (number 64 10).read cnt (drop k s)) → r ≡ None → read_all (number 64 10).read cnt (drop k s) ≡ none
 seals-none s k cnt tag n {r} e f = go (read_all (number 64 10).read cnt (drop k s)) refl e
   where
-    go : (o : Option (List ℕ × List ℕ)) → read_all (number 64 10).read cnt (drop k s) ≡ o → r ≡ seals_more (length s) tag n 0 true o → read_all (number 64 10).read cnt (drop k s) ≡ none
+    go : (o : maybe.Option (List ℕ × List ℕ)) → read_all (number 64 10).read cnt (drop k s) ≡ o → r ≡ seals_more (length s) tag n 0 true o → read_all (number 64 10).read cnt (drop k s) ≡ none
     go none q g = q
     go (some y) q g = absurd (contradiction cc)
 

@@ -16,13 +16,12 @@ use Rattle.pages.specs.Page.{Head, sealed_end, retired_count, head_format}
 use Rattle.page_check.proofs.Reading.{comma-found, comma-none}
 use Rattle.page_check.proofs.Lists.{value_found, value_none}
 use Rattle.page_check.specs.Answer.{head_answer}
-use Rattle.page_check.specs.declared.HeadLine.TheVariants.{Head as Head-of, NoHead}
 
 module _ (ret : Bool) (s : List ℕ) (at : ℕ) where
   abbrev read_head : maybe.Option (Head × List ℕ)
   read_head = (head_format ret).read (drop at s)
 
-  pub no-head : read_head ≡ none → NoHead ≡ head_answer ret (length s) read_head
+  pub no-head : read_head ≡ none → None ≡ head_answer ret (length s) read_head
   no-head e = rw e
 
   pub none_1 : (number 8 44).read (drop at s) ≡ none → read_head ≡ none
@@ -75,9 +74,9 @@ module _ (ret : Bool) (s : List ℕ) (at : ℕ) where
                   head-all v9 k9 e = rw (e1, e2, e3, e4, e5, e6, e7, e8, e)
 
 pub head-there : (ret : Bool) (s : List ℕ) (v1 v2 v3 v4 v5 v6 v7 v8 v9 k : ℕ) (o : maybe.Option (Head × List ℕ)) → o ≡ give {A = Head} (v1, (v2, (v3, (v4, (v5, (v6, (v7, (v8, v9)))))))) (drop k s) → k ≤ length s →
-    Head-of (record { retiring = ret; tag = v1; since_gc = v2; reclaim_at = v3; live_bytes = v4; slots = v5; free = v6; quarantine = v7; sealed = v8; retired = v9; next = k }) ≡ head_answer ret (length s) o
+    Some (record { retiring = ret; tag = v1; since_gc = v2; reclaim_at = v3; live_bytes = v4; slots = v5; free = v6; quarantine = v7; sealed = v8; retired = v9; next = k }) ≡ head_answer ret (length s) o
 head-there ret s v1 v2 v3 v4 v5 v6 v7 v8 v9 k o e h =
-    rw e (λ j. Head-of (record { retiring = ret; tag = v1; since_gc = v2; reclaim_at = v3; live_bytes = v4; slots = v5; free = v6; quarantine = v7; sealed = v8; retired = v9; next = (let w : k ≡ length s - length (drop k s) = omega (arith, length-drop k s) in w) j }))
+    rw e (λ j. Some (record { retiring = ret; tag = v1; since_gc = v2; reclaim_at = v3; live_bytes = v4; slots = v5; free = v6; quarantine = v7; sealed = v8; retired = v9; next = (let w : k ≡ length s - length (drop k s) = omega (arith, length-drop k s) in w) j }))
 
 -- the count of seals, and the byte after it
 pub end-found : (ret : Bool) (s : List ℕ) (at : ℕ) {r : Option (ℕ × ℕ)} {end : ℕ} (n k : ℕ) → end ≡ sealed_end ret → r ≡ value_answer (length s) (read_field (2 ^ 32 - 1) end (drop at s)) → r ≡ Some (n, k) →

@@ -14,7 +14,6 @@ use Rattle.pages.specs.Form.{names, slot_front, wide_writes, narrow_writes, plan
 use Rattle.pages.proofs.Laws.{writes-right, columns-right}
 use Rattle.page_check.specs.Parts.{NamesFound, NamesRead}
 use Rattle.page_check.specs.declared.SlotNames.{SlotNames}
-use Rattle.page_check.specs.declared.SlotNames.TheVariants.{Named, Unnamed}
 
 module _ (front c d s : List ℕ) (at : ℕ) {q : Option ℕ} (e : q ≡ literal_answer (length s) (read_literal front (drop at s))) where
   -- its front is not there
@@ -47,8 +46,8 @@ module _ (s : List ℕ) (at : ℕ) {q : Option (Bool × ℕ)} (e : q ≡ value_a
       column-found p b l = record { named = rw ((value-found writes-right s at w a e f).0, (value-found columns-right s a p b g l).0); inside = (value-found columns-right s a p b g l).1 }
 
 -- as the code has told it
-pub named-is : (s : List ℕ) (at : ℕ) (w p : Bool) (b : ℕ) {r : SlotNames} → NamesRead s at r → r ≡ Named w p b → NamesFound s at w p b
-named-is s at w p b n e = subst (NamesRead s at) e n
+pub named-is : (s : List ℕ) (at : ℕ) (x : SlotNames) {r : Option SlotNames} → NamesRead s at r → r ≡ Some x → NamesFound s at x.wide x.planar x.next
+named-is s at x n e = subst (NamesRead s at) e n
 
-pub named-not : (s : List ℕ) (at : ℕ) {r : SlotNames} → NamesRead s at r → r ≡ Unnamed → slot_named.read (drop at s) ≡ none
+pub named-not : (s : List ℕ) (at : ℕ) {r : Option SlotNames} → NamesRead s at r → r ≡ None → slot_named.read (drop at s) ≡ none
 named-not s at n e = subst (NamesRead s at) e n

@@ -5,6 +5,7 @@ use mathlib.Core.Option.{none, some}
 use mathlib.Core.Bool.{Bool, true, false, ◌&&◌}
 use mathlib.Core.Logic.{inr, ⊎_elim}
 use mathlib.Core.Path.{◌≡◌, refl, sym, ap, ◌∙◌, subst}
+use Rattle.std.specs.Prelude.{Option, Some, None}
 use lib.Dec.{ltb}
 use lib.ListN.{length, drop}
 use Rattle.word.specs.Lists.{all}
@@ -19,17 +20,13 @@ use Rattle.page_check.specs.Answer.{head_answer}
 use Rattle.page_check.specs.Parts.{numbers_of, heap_named, HeadFound, HeadSectioned, SlotsFound, SlotSectioned, ListFound, ListSectioned, RetiredFound, RetiredSectioned, sections_of}
 use Rattle.page_check.specs.Sections.{Sectioned}
 use Rattle.page_check.specs.declared.HeadRead.{HeadRead}
-use Rattle.page_check.specs.declared.HeadLine.{HeadLine}
-use Rattle.page_check.specs.declared.HeadLine.TheVariants.{Head as Head-of, NoHead}
 use Rattle.page_check.specs.declared.SlotSection.{SlotSection}
-use Rattle.page_check.specs.declared.SlotSection.TheVariants.{Found, Lost}
 use Rattle.page_check.specs.declared.ListSection.{ListSection}
-use Rattle.page_check.specs.declared.ListSection.TheVariants.{Listed, Unlisted}
 use Rattle.page_check.specs.declared.Sections.{Sections}
 use Rattle.page_check.proofs.Assembly.{head-found, head-lost, sectioned, page-none-1, page-none-2, page-none-3, page-none-4, page-none-5, page-none-6, page-none-7, page-none-8, page-none-9, page-none-10, page-none-11, page-long, page-whole}
 
-pub head-told : (ret : Bool) (s : List ℕ) (a : ℕ) (r : HeadLine) → r ≡ head_answer ret (length s) ((head_format ret).read (drop a s)) → heap_named.read (drop 0 s) ≡ give ret (drop a s) → HeadSectioned s r
-head-told ret s a (Head-of x) e n =
+pub head-told : (ret : Bool) (s : List ℕ) (a : ℕ) (r : Option HeadRead) → r ≡ head_answer ret (length s) ((head_format ret).read (drop a s)) → heap_named.read (drop 0 s) ≡ give ret (drop a s) → HeadSectioned s r
+head-told ret s a (Some x) e n =
     let f = head-found ret s a e x refl in
     record {
       begin = a;
@@ -37,7 +34,7 @@ head-told ret s a (Head-of x) e n =
       reads = ap (λ (b : Bool). (head_format b).read (drop a s)) f.0 ∙ f.1;
       inside = f.2;
     }
-head-told ret s a NoHead e n = inr (ret, a, n, head-lost ret s a e refl)
+head-told ret s a None e n = inr (ret, a, n, head-lost ret s a e refl)
 
 -- a page without the retired list counts none
 pub none-counted : (s : List ℕ) (x : HeadRead) → HeadFound s x → x.retiring ≡ false → x.retired ≡ 0
@@ -47,12 +44,12 @@ none-counted s x h e =
 
 -- the retired list, with its name or nothing at all
 module _ (s : List ℕ) (at count n : ℕ) where
-  pub retired-there : (ret : Bool) (r : ListSection) → ret ≡ true → ListSectioned 32 retired_name s at count (all (λ i. ltb i n)) r → RetiredSectioned ret s at count (all (λ i. ltb i n)) r
+  pub retired-there : (ret : Bool) (r : Option ListSection) → ret ≡ true → ListSectioned 32 retired_name s at count (all (λ i. ltb i n)) r → RetiredSectioned ret s at count (all (λ i. ltb i n)) r
   unfolding retired_format after_literal times
-  retired-there ret (Listed b ok next) e f =
-      let there : (retired_format true count).read (drop at s) ≡ give f.values (drop next s) = rw (f.named, f.reads) in
+  retired-there ret (Some x) e f =
+      let there : (retired_format true count).read (drop at s) ≡ give f.values (drop x.next s) = rw (f.named, f.reads) in
       record { begin_inside = f.begin_inside; values = f.values; part = ap (λ (r : Bool). (retired_format r count).read (drop at s)) e ∙ there; reads = f.reads; inside = f.inside; sound = f.sound }
-  retired-there ret Unlisted e f = ap (λ (r : Bool). (retired_format r count).read (drop at s)) e ∙ ⊎_elim (λ q. lost-name q) (λ w. lost-list w.0 w.1 w.2) f
+  retired-there ret None e f = ap (λ (r : Bool). (retired_format r count).read (drop at s)) e ∙ ⊎_elim (λ q. lost-name q) (λ w. lost-list w.0 w.1 w.2) f
     where
       lost-name : read_literal retired_name (drop at s) ≡ none → (retired_format true count).read (drop at s) ≡ none
       lost-name q = rw q
@@ -70,43 +67,42 @@ absent_none ret s at count right b ok next f e =
     let g : (retired_format false count).read (drop at s) ≡ give f.values (drop next s) = ap (λ (r : Bool). (retired_format r count).read (drop at s)) (sym e) ∙ f.part in
     sym (ap (λ (y : List ℕ × List ℕ). y.0) (some_inj g))
 
-pub list-is : (width : ℕ) (name s : List ℕ) (at count : ℕ) (right : List ℕ → Bool) (b : ℕ) (ok : Bool) (next : ℕ) {r : ListSection} →
-    ListSectioned width name s at count right r → r ≡ Listed b ok next → ListFound width name s at count right b ok next
-list-is width name s at count right b ok next p e = subst (ListSectioned width name s at count right) e p
+pub list-is : (width : ℕ) (name s : List ℕ) (at count : ℕ) (right : List ℕ → Bool) (x : ListSection) {r : Option ListSection} →
+    ListSectioned width name s at count right r → r ≡ Some x → ListFound width name s at count right x.begin x.sound x.next
+list-is width name s at count right x p e = subst (ListSectioned width name s at count right) e p
 
 module _ (s : List ℕ) where
-  pub head-is : (x : HeadRead) {r : HeadLine} → HeadSectioned s r → r ≡ Head-of x → HeadFound s x
+  pub head-is : (x : HeadRead) {r : Option HeadRead} → HeadSectioned s r → r ≡ Some x → HeadFound s x
   head-is x p e = subst (HeadSectioned s) e p
 
-  pub head-no : {r : HeadLine} → HeadSectioned s r → r ≡ NoHead → read_page s ≡ none
+  pub head-no : {r : Option HeadRead} → HeadSectioned s r → r ≡ None → read_page s ≡ none
   head-no p e = ⊎_elim (λ q. page-none-1 s q) (λ w. page-none-2 s w.0 w.1 w.2 w.3) (subst (HeadSectioned s) e p)
 
   module _ (x : HeadRead) (h : HeadFound s x) where
-    pub slots-is : (b : ℕ) (ok : Bool) (size next : ℕ) (wide planar : Bool) {r : SlotSection} → SlotSectioned s x.next x.slots r → r ≡ Found b ok size next wide planar →
-        SlotsFound s x.next x.slots b ok size next wide planar
-    slots-is b ok size next wide planar p e = subst (SlotSectioned s x.next x.slots) e p
+    pub slots-is : (k : SlotSection) {r : Option SlotSection} → SlotSectioned s x.next x.slots r → r ≡ Some k → SlotsFound s x.next x.slots k.begin k.sound k.size k.next k.wide k.planar
+    slots-is k p e = subst (SlotSectioned s x.next x.slots) e p
 
-    pub slots-no : {r : SlotSection} → SlotSectioned s x.next x.slots r → r ≡ Lost → read_page s ≡ none
+    pub slots-no : {r : Option SlotSection} → SlotSectioned s x.next x.slots r → r ≡ None → read_page s ≡ none
     slots-no p e =
         ⊎_elim (λ q. page-none-3 s x.retiring h.begin h.named x h.reads q) (λ w. page-none-4 s x.retiring h.begin h.named x h.reads w.0 w.1 w.2 w.3 w.4)
         (subst (SlotSectioned s x.next x.slots) e p)
 
     module _ (b : ℕ) (ok1 : Bool) (size c : ℕ) (wide planar : Bool) (k : SlotsFound s x.next x.slots b ok1 size c wide planar) where
-      pub free-no : {r : ListSection} → ListSectioned 32 free_name s c x.free (all (λ i. ltb i x.slots)) r → r ≡ Unlisted → read_page s ≡ none
+      pub free-no : {r : Option ListSection} → ListSectioned 32 free_name s c x.free (all (λ i. ltb i x.slots)) r → r ≡ None → read_page s ≡ none
       free-no p e =
           ⊎_elim (λ q. page-none-5 s x.retiring h.begin h.named x h.reads wide planar b k.named k.slots c k.reads q)
           (λ w. page-none-6 s x.retiring h.begin h.named x h.reads wide planar b k.named k.slots c k.reads w.0 w.1 w.2)
           (subst (ListSectioned 32 free_name s c x.free (all (λ i. ltb i x.slots))) e p)
 
       module _ (d : ℕ) (ok2 : Bool) (e : ℕ) (f : ListFound 32 free_name s c x.free (all (λ i. ltb i x.slots)) d ok2 e) where
-        pub quarantine-no : {r : ListSection} → ListSectioned 32 quarantine_name s e x.quarantine (all (λ i. ltb i x.slots)) r → r ≡ Unlisted → read_page s ≡ none
+        pub quarantine-no : {r : Option ListSection} → ListSectioned 32 quarantine_name s e x.quarantine (all (λ i. ltb i x.slots)) r → r ≡ None → read_page s ≡ none
         quarantine-no p y =
             ⊎_elim (λ q. page-none-7 s x.retiring h.begin h.named x h.reads wide planar b k.named k.slots c k.reads d f.named f.values e f.reads q)
             (λ w. page-none-8 s x.retiring h.begin h.named x h.reads wide planar b k.named k.slots c k.reads d f.named f.values e f.reads w.0 w.1 w.2)
             (subst (ListSectioned 32 quarantine_name s e x.quarantine (all (λ i. ltb i x.slots))) y p)
 
         module _ (g : ℕ) (ok3 : Bool) (i : ℕ) (l : ListFound 32 quarantine_name s e x.quarantine (all (λ i. ltb i x.slots)) g ok3 i) where
-          pub sealed-no : {r : ListSection} → ListSectioned 64 sealed_name s i x.sealed (sound_seals x.tag x.slots 0) r → r ≡ Unlisted → read_page s ≡ none
+          pub sealed-no : {r : Option ListSection} → ListSectioned 64 sealed_name s i x.sealed (sound_seals x.tag x.slots 0) r → r ≡ None → read_page s ≡ none
           sealed-no p y =
               ⊎_elim
               (λ q. page-none-9 s x.retiring h.begin h.named x h.reads wide planar b k.named k.slots c k.reads d f.named f.values e f.reads g l.named l.values i l.reads q)
@@ -114,7 +110,7 @@ module _ (s : List ℕ) where
               (subst (ListSectioned 64 sealed_name s i x.sealed (sound_seals x.tag x.slots 0)) y p)
 
           module _ (j : ℕ) (ok4 : Bool) (m : ℕ) (z : ListFound 64 sealed_name s i x.sealed (sound_seals x.tag x.slots 0) j ok4 m) where
-            pub retired-no : {r : ListSection} → RetiredSectioned x.retiring s m x.retired (all (λ i. ltb i x.slots)) r → r ≡ Unlisted → read_page s ≡ none
+            pub retired-no : {r : Option ListSection} → RetiredSectioned x.retiring s m x.retired (all (λ i. ltb i x.slots)) r → r ≡ None → read_page s ≡ none
             retired-no p y =
                 page-none-11 s x.retiring h.begin h.named x h.reads wide planar b k.named k.slots c k.reads d f.named f.values e f.reads g l.named l.values i l.reads j z.named z.values m z.reads
                 (subst (RetiredSectioned x.retiring s m x.retired (all (λ i. ltb i x.slots))) y p)
@@ -132,6 +128,6 @@ module _ (s : List ℕ) where
                   k.reads k.sound k.bytes f.reads f.sound l.reads l.sound z.reads z.sound a.reads a.sound (absent_none x.retiring s m x.retired _ n ok5 o a) t
                   k.begin_inside f.begin_inside l.begin_inside z.begin_inside a.begin_inside)
 
-pub retired-is : (ret : Bool) (s : List ℕ) (at count : ℕ) (right : List ℕ → Bool) (b : ℕ) (ok : Bool) (next : ℕ) {r : ListSection} →
-    RetiredSectioned ret s at count right r → r ≡ Listed b ok next → RetiredFound ret s at count right b ok next
-retired-is ret s at count right b ok next p e = subst (RetiredSectioned ret s at count right) e p
+pub retired-is : (ret : Bool) (s : List ℕ) (at count : ℕ) (right : List ℕ → Bool) (x : ListSection) {r : Option ListSection} →
+    RetiredSectioned ret s at count right r → r ≡ Some x → RetiredFound ret s at count right x.begin x.sound x.next
+retired-is ret s at count right x p e = subst (RetiredSectioned ret s at count right) e p

@@ -20,17 +20,14 @@ use Rattle.text.proofs.Getting.{answer-none, field_found, suffix}
 use Rattle.pages.proofs.Laws.{slot-right, slot-prints, Fields-good}
 use Rattle.pages.proofs.Writing.{slot-length-decimal}
 use Rattle.heap.specs.WellFormed.{sound_slot}
-use Rattle.page_check.specs.declared.SlotLine.{SlotLine}
 use Rattle.page_check.specs.declared.SlotRead.{SlotRead}
-use Rattle.page_check.specs.declared.Slots.{Slots}
-use Rattle.page_check.specs.declared.Slots.TheVariants.{Lines, NoSlots}
 use Rattle.heap.specs.State.{Slot, last_generation, data_of, data_size}
 use Rattle.heap.specs.Packing.{flat}
 use Rattle.pages.specs.Form.{writes_width}
 use Rattle.pages.specs.Page.{slot_format, fields_of}
 use Rattle.pages.specs.Columns.{slot}
-use Rattle.page_check.specs.Answer.{slot_answer, slots_answer, slots_more, sound_numbers}
-use Rattle.page_check.specs.declared.SlotLine.TheVariants.{Line, NoLine}
+use Rattle.page_check.specs.declared.SlotLines.{SlotLines}
+use Rattle.page_check.specs.Answer.{slot_answer, slots_answer, slots_more, lines_of, sound_numbers}
 
 -- a field that was read, as the format reads it
 pub comma-found : (s : List ℕ) (width at : ℕ) {r : Option (ℕ × ℕ)} (n k : ℕ) → r ≡ value_answer (length s) (read_field (2 ^ width - 1) 44 (drop at s)) → r ≡ Some (n, k) →
@@ -56,7 +53,7 @@ module _ (wide : Bool) (s : List ℕ) (at : ℕ) where
   abbrev read-slot : maybe.Option (Slot × List ℕ)
   read-slot = (slot_format wide).read (drop at s)
 
-  pub missing : read-slot ≡ none → NoLine ≡ slot_answer (length s) read-slot
+  pub missing : read-slot ≡ none → None ≡ slot_answer (length s) read-slot
   missing e = rw e
 
   pub none_1 : (number 32 44).read (drop at s) ≡ none → read-slot ≡ none
@@ -93,9 +90,9 @@ module _ (wide : Bool) (s : List ℕ) (at : ℕ) where
             slot-all bs f e = rw (e1, e2, e3, e4, e5, e)
 
 pub line-there : (s : List ℕ) (g k t p w n f : ℕ) (bs : List ℕ) (o : maybe.Option (Slot × List ℕ)) → o ≡ give (slot g k t p w bs) (drop f s) → length bs ≡ n → f ≤ length s →
-    Line (record { generation = g; kind = k; ty = t; start = p; writes = w; bytes = n; next = f }) ≡ slot_answer (length s) o
+    Some (record { generation = g; kind = k; ty = t; start = p; writes = w; bytes = n; next = f }) ≡ slot_answer (length s) o
 line-there s g k t p w n f bs o e l h =
-    rw e (λ i. Line (record { generation = g; kind = k; ty = t; start = p; writes = w; bytes = sym l i; next = (let v : f ≡ length s - length (drop f s) = omega (arith, length-drop f s) in v) i }))
+    rw e (λ i. Some (record { generation = g; kind = k; ty = t; start = p; writes = w; bytes = sym l i; next = (let v : f ≡ length s - length (drop f s) = omega (arith, length-drop f s) in v) i }))
 
 -- MANY LINES
 
@@ -105,7 +102,7 @@ data-cons y l = length-append y.bytes (flat (data_of l))
 
 pub slots-begin : (len : ℕ) (o : maybe.Option (List Slot × List ℕ)) → slots_answer len o ≡ slots_more len true 0 o
 slots-begin len none = refl
-slots-begin len (some r) = ap (λ (m : ℕ). Lines (all sound_slot r.0) m (len - length r.1)) (sym (zero-add (data_size r.0)))
+slots-begin len (some r) = ap (λ (m : ℕ). Some (lines_of (all sound_slot r.0) m (len - length r.1))) (sym (zero-add (data_size r.0)))
 
 module _ {A : Type 0} (r : Reader A) where
   pub all_none : (i count : ℕ) (t : List ℕ) → i < count → r t ≡ none → read_all r (count - i) t ≡ none
@@ -126,13 +123,13 @@ pub slots-step : (len : ℕ) (ok : Bool) (size : ℕ) (x : Slot) (o : maybe.Opti
 unfolding all
 slots-step len ok size x none = refl
 slots-step len ok size x (some r) = λ i.
-    Lines (sym (and_assoc ok (sound_slot x) (all sound_slot r.0)) i)
-    ((let v : size + data_size (x ∷ r.0) ≡ size + length x.bytes + data_size r.0 = omega (arith, data-cons x r.0) in v) i) (len - length r.1)
+    Some (lines_of (sym (and_assoc ok (sound_slot x) (all sound_slot r.0)) i)
+    ((let v : size + data_size (x ∷ r.0) ≡ size + length x.bytes + data_size r.0 = omega (arith, data-cons x r.0) in v) i) (len - length r.1))
 
-pub slots_end : (s : List ℕ) (ok : Bool) (size k : ℕ) (o : maybe.Option (List Slot × List ℕ)) → k ≤ length s → o ≡ give [] (drop k s) → Lines ok size k ≡ slots_more (length s) ok size o
+pub slots_end : (s : List ℕ) (ok : Bool) (size k : ℕ) (o : maybe.Option (List Slot × List ℕ)) → k ≤ length s → o ≡ give [] (drop k s) → Some (lines_of ok size k) ≡ slots_more (length s) ok size o
 unfolding flat all
 slots_end s ok size k o h e =
-    rw e (λ i. Lines (sym (and-true ok) i) ((let v : size ≡ size + 0 = omega arith in v) i) ((let v : k ≡ length s - length (drop k s) = omega (arith, length-drop k s) in v) i))
+    rw e (λ i. Some (lines_of (sym (and-true ok) i) ((let v : size ≡ size + 0 = omega arith in v) i) ((let v : k ≡ length s - length (drop k s) = omega (arith, length-drop k s) in v) i)))
 
 -- a line that the code has read
 pub record Found (w : Bool) (s : List ℕ) (k : ℕ) (x : SlotRead) : Type 0 where
@@ -163,7 +160,7 @@ sound-same : (sl : Slot) → sl.generation < 2 ^ 32 → sound_numbers sl.generat
 unfolding sound_numbers sound_slot
 sound-same sl h = rw (le-leb sl.generation last_generation (omega arith), and-true (leb sl.kind 3 && leb 1 sl.generation))
 
-pub line-found : (w : Bool) (s : List ℕ) (k : ℕ) {r : SlotLine} (x : SlotRead) → r ≡ slot_answer (length s) ((slot_format w).read (drop k s)) → r ≡ Line x → Found w s k x
+pub line-found : (w : Bool) (s : List ℕ) (k : ℕ) {r : Option SlotRead} (x : SlotRead) → r ≡ slot_answer (length s) ((slot_format w).read (drop k s)) → r ≡ Some x → Found w s k x
 line-found w s k {r} x e f = go ((slot_format w).read (drop k s)) refl e
   where
     go : (o : maybe.Option (Slot × List ℕ)) → (slot_format w).read (drop k s) ≡ o → r ≡ slot_answer (length s) o → Found w s k x
@@ -171,7 +168,7 @@ line-found w s k {r} x e f = go ((slot_format w).read (drop k s)) refl e
     go (some y) q g =
         let z : SlotRead =
         record { generation = y.0.generation; kind = y.0.kind; ty = y.0.type; start = y.0.start; writes = y.0.writes; bytes = length y.0.bytes; next = length s - length y.1 } in
-        let v : Line z ≡ Line x = sym g ∙ f in
+        let v : Some z ≡ Some x = sym g ∙ f in
         let q' : z ≡ x = cc in
         let t = found-rest w s k y.0 y.1 q in
         let within = ((slot-right w).back (drop k s) y.0 y.1 q).0 in
@@ -191,7 +188,7 @@ line-found w s k {r} x e f = go ((slot_format w).read (drop k s)) refl e
           sound = sound-same y.0 within.0;
         })
 
-pub line-lost : (w : Bool) (s : List ℕ) (k : ℕ) {r : SlotLine} → r ≡ slot_answer (length s) ((slot_format w).read (drop k s)) → r ≡ NoLine → (slot_format w).read (drop k s) ≡ none
+pub line-lost : (w : Bool) (s : List ℕ) (k : ℕ) {r : Option SlotRead} → r ≡ slot_answer (length s) ((slot_format w).read (drop k s)) → r ≡ None → (slot_format w).read (drop k s) ≡ none
 line-lost w s k {r} e f = go ((slot_format w).read (drop k s)) refl e
   where
     go : (o : maybe.Option (Slot × List ℕ)) → (slot_format w).read (drop k s) ≡ o → r ≡ slot_answer (length s) o → (slot_format w).read (drop k s) ≡ none
@@ -199,7 +196,7 @@ line-lost w s k {r} e f = go ((slot_format w).read (drop k s)) refl e
     go (some y) q g = absurd (let z : ◌≡◌ {A = ℕ} 0 1 = cc in omega arith)
 
 -- one line more
-pub slots_next : (w : Bool) (s : List ℕ) (ok : Bool) (size k i count : ℕ) (x : SlotRead) {now : Slots} {b d : Bool} → i < count → Found w s k x →
+pub slots_next : (w : Bool) (s : List ℕ) (ok : Bool) (size k i count : ℕ) (x : SlotRead) {now : Option SlotLines} {b d : Bool} → i < count → Found w s k x →
     now ≡ slots_more (length s) ok size (read_all (slot_format w).read (count - i) (drop k s)) →
     d ≡ sound_numbers x.generation x.kind x.ty x.start x.writes x.bytes → b ≡ (ok && d) →
     now ≡ slots_more (length s) b (size + x.bytes) (read_all (slot_format w).read (count - (i + 1)) (drop x.next s))
@@ -210,10 +207,10 @@ slots_next w s ok size k i count x {now} {b} {d} h f e g q =
     e ∙ ap (slots_more (length s) ok size) (all-some (slot_format w).read i count (drop k s) f.sl (drop x.next s) h f.reads)
     ∙ slots-step (length s) ok size f.sl o ∙ (λ j. slots_more (length s) (sym v j) (sym z j) o)
 
-pub slots-lost : (w : Bool) (s : List ℕ) (ok : Bool) (size k i count : ℕ) {now : Slots} → i < count → (slot_format w).read (drop k s) ≡ none →
-    now ≡ slots_more (length s) ok size (read_all (slot_format w).read (count - i) (drop k s)) → NoSlots ≡ now
+pub slots-lost : (w : Bool) (s : List ℕ) (ok : Bool) (size k i count : ℕ) {now : Option SlotLines} → i < count → (slot_format w).read (drop k s) ≡ none →
+    now ≡ slots_more (length s) ok size (read_all (slot_format w).read (count - i) (drop k s)) → None ≡ now
 slots-lost w s ok size k i count h l e = sym (e ∙ ap (slots_more (length s) ok size) (all_none (slot_format w).read i count (drop k s) h l))
 
-pub slots-done : (w : Bool) (s : List ℕ) (ok : Bool) (size k i count : ℕ) {now : Slots} → count ≤ i → k ≤ length s →
-    now ≡ slots_more (length s) ok size (read_all (slot_format w).read (count - i) (drop k s)) → Lines ok size k ≡ now
+pub slots-done : (w : Bool) (s : List ℕ) (ok : Bool) (size k i count : ℕ) {now : Option SlotLines} → count ≤ i → k ≤ length s →
+    now ≡ slots_more (length s) ok size (read_all (slot_format w).read (count - i) (drop k s)) → Some (lines_of ok size k) ≡ now
 slots-done w s ok size k i count h l e = slots_end s ok size k (read_all (slot_format w).read (count - i) (drop k s)) l (all_done (slot_format w).read i count (drop k s) h) ∙ sym e

@@ -4,6 +4,7 @@ use mathlib.Core.List.{List, [], ◌∷◌, ◌++◌}
 use mathlib.Core.Option.{none}
 use mathlib.Core.Bool.{Bool, true, false, not, ◌&&◌, ◌||◌}
 use mathlib.Core.Path.{◌≡◌, refl, sym, ap, ◌∙◌, subst}
+use Rattle.std.specs.Prelude.{Option, Some, None}
 use lib.Dec.{ltb, eqb}
 use lib.ListN.{length, get_or}
 use native.Mathlib.Omega.{arith}
@@ -23,8 +24,6 @@ use Rattle.heap.proofs.Counting.{times-append, times-member}
 use Rattle.heap.proofs.Testing.{parts-tested, all-times}
 use Rattle.page_check.specs.Partition.{expected, right, each}
 use Rattle.page_check.specs.Sections.{heap_in, form_in, brought_in, sound_but, listed, obeyed, parted, Sectioned, Parsing, verdict, Accepted}
-use Rattle.page_check.specs.declared.Parsed.{Parsed}
-use Rattle.page_check.specs.declared.Parsed.TheVariants.{Page, NotPage}
 use Rattle.page_check.specs.declared.Sections.{Sections}
 use Rattle.page_check.specs.declared.Rule.{Rule}
 use Rattle.page_check.specs.declared.Rule.TheVariants.{Once, Young, Worn}
@@ -222,8 +221,8 @@ unfolding verdict
 not-17 s t S P e = rw e
 
 -- the two answers of the parser
-pub is-page : (s : List ℕ) (x : Sections) {r : Parsed} → Parsing s r → r ≡ Page x → Sectioned s x
+pub is-page : (s : List ℕ) (x : Sections) {r : Option Sections} → Parsing s r → r ≡ Some x → Sectioned s x
 is-page s x p e = subst (Parsing s) e p
 
-pub is_none : (s : List ℕ) {r : Parsed} → Parsing s r → r ≡ NotPage → read_page s ≡ none
+pub is_none : (s : List ℕ) {r : Option Sections} → Parsing s r → r ≡ None → read_page s ≡ none
 is_none s p e = subst (Parsing s) e p

@@ -1,5 +1,5 @@
 -- The parts of a page, each with its name before it, as the first pass finds them.
-use Rattle.std.specs.Prelude.{ℕ, ◌≤◌, List, Bool, ◌⊎◌, ◌≡◌, length, drop}
+use Rattle.std.specs.Prelude.{ℕ, ◌≤◌, List, Bool, ◌⊎◌, ◌≡◌, length, drop, Option, Some, None}
 use Rattle.std.proofs.Math.Option.{none, some}
 use Rattle.word.specs.Lists.{all}
 use Rattle.text.specs.Text.{give, Reader, read_literal}
@@ -9,14 +9,9 @@ use Rattle.heap.specs.WellFormed.{sound_slot}
 use Rattle.pages.specs.Form.{heap_front, retired_too, no_retired, names, slot_named}
 use Rattle.pages.specs.Page.{Head, head_format, slot_format, retired_format}
 use Rattle.page_check.specs.declared.HeadRead.{HeadRead}
-use Rattle.page_check.specs.declared.HeadLine.{HeadLine}
-use Rattle.page_check.specs.declared.HeadLine.TheVariants.{Head as Head-of, NoHead}
 use Rattle.page_check.specs.declared.SlotNames.{SlotNames}
-use Rattle.page_check.specs.declared.SlotNames.TheVariants.{Named, Unnamed}
 use Rattle.page_check.specs.declared.SlotSection.{SlotSection}
-use Rattle.page_check.specs.declared.SlotSection.TheVariants.{Found, Lost}
 use Rattle.page_check.specs.declared.ListSection.{ListSection}
-use Rattle.page_check.specs.declared.ListSection.TheVariants.{Listed, Unlisted}
 use Rattle.page_check.specs.declared.Sections.{Sections}
 
 -- a part is not there: its name is not, or what is to follow it
@@ -37,9 +32,9 @@ pub record HeadFound (s : List ℕ) (x : HeadRead) : Type 0 where
   pub reads : (head_format x.retiring).read (drop begin s) ≡ give (numbers_of x) (drop x.next s)
   pub inside : x.next ≤ length s
 
-abbrev pub HeadSectioned : List ℕ → HeadLine → Type 0
-HeadSectioned s (Head-of x) = HeadFound s x
-HeadSectioned s NoHead =
+abbrev pub HeadSectioned : List ℕ → Option HeadRead → Type 0
+HeadSectioned s (Some x) = HeadFound s x
+HeadSectioned s None =
     (heap_named.read (drop 0 s) ≡ none)
     ⊎ ((r : Bool) × (b : ℕ) × (heap_named.read (drop 0 s) ≡ give r (drop b s)) × ((head_format r).read (drop b s) ≡ none))
 
@@ -48,9 +43,9 @@ pub record NamesFound (s : List ℕ) (at : ℕ) (wide planar : Bool) (begin : �
   pub named : slot_named.read (drop at s) ≡ give (wide, planar) (drop begin s)
   pub inside : begin ≤ length s
 
-abbrev pub NamesRead : (s : List ℕ) (at : ℕ) → SlotNames → Type 0
-NamesRead s at (Named wide planar begin) = NamesFound s at wide planar begin
-NamesRead s at Unnamed = slot_named.read (drop at s) ≡ none
+abbrev pub NamesRead : (s : List ℕ) (at : ℕ) → Option SlotNames → Type 0
+NamesRead s at (Some x) = NamesFound s at x.wide x.planar x.next
+NamesRead s at None = slot_named.read (drop at s) ≡ none
 
 pub record SlotsFound (s : List ℕ) (at count begin : ℕ) (ok : Bool) (size next : ℕ) (wide planar : Bool) : Type 0 where
   pub named : slot_named.read (drop at s) ≡ give (wide, planar) (drop begin s)
@@ -61,9 +56,9 @@ pub record SlotsFound (s : List ℕ) (at count begin : ℕ) (ok : Bool) (size ne
   pub sound : ok ≡ all sound_slot slots
   pub bytes : size ≡ data_size slots
 
-abbrev pub SlotSectioned : (s : List ℕ) (at count : ℕ) → SlotSection → Type 0
-SlotSectioned s at count (Found begin ok size next wide planar) = SlotsFound s at count begin ok size next wide planar
-SlotSectioned s at count Lost =
+abbrev pub SlotSectioned : (s : List ℕ) (at count : ℕ) → Option SlotSection → Type 0
+SlotSectioned s at count (Some x) = SlotsFound s at count x.begin x.sound x.size x.next x.wide x.planar
+SlotSectioned s at count None =
     (slot_named.read (drop at s) ≡ none)
     ⊎ ((w : Bool) × (p : Bool) × (b : ℕ) × (slot_named.read (drop at s) ≡ give (w, p) (drop b s)) × (read_all (slot_format w).read count (drop b s) ≡ none))
 
@@ -75,9 +70,9 @@ pub record ListFound (width : ℕ) (name s : List ℕ) (at count : ℕ) (right :
   pub inside : next ≤ length s
   pub sound : ok ≡ right values
 
-abbrev pub ListSectioned : (width : ℕ) (name s : List ℕ) (at count : ℕ) (right : List ℕ → Bool) → ListSection → Type 0
-ListSectioned width name s at count right (Listed begin ok next) = ListFound width name s at count right begin ok next
-ListSectioned width name s at count right Unlisted = Missing name (read_all (number width 10).read count) s at
+abbrev pub ListSectioned : (width : ℕ) (name s : List ℕ) (at count : ℕ) (right : List ℕ → Bool) → Option ListSection → Type 0
+ListSectioned width name s at count right (Some x) = ListFound width name s at count right x.begin x.sound x.next
+ListSectioned width name s at count right None = Missing name (read_all (number width 10).read count) s at
 
 -- the retired list, where the page has it; else there is nothing, and nothing is read
 pub record RetiredFound (retiring : Bool) (s : List ℕ) (at count : ℕ) (right : List ℕ → Bool) (begin : ℕ) (ok : Bool) (next : ℕ) : Type 0 where
@@ -88,9 +83,9 @@ pub record RetiredFound (retiring : Bool) (s : List ℕ) (at count : ℕ) (right
   pub inside : next ≤ length s
   pub sound : ok ≡ right values
 
-abbrev pub RetiredSectioned : (retiring : Bool) (s : List ℕ) (at count : ℕ) (right : List ℕ → Bool) → ListSection → Type 0
-RetiredSectioned retiring s at count right (Listed begin ok next) = RetiredFound retiring s at count right begin ok next
-RetiredSectioned retiring s at count right Unlisted = (retired_format retiring count).read (drop at s) ≡ none
+abbrev pub RetiredSectioned : (retiring : Bool) (s : List ℕ) (at count : ℕ) (right : List ℕ → Bool) → Option ListSection → Type 0
+RetiredSectioned retiring s at count right (Some x) = RetiredFound retiring s at count right x.begin x.sound x.next
+RetiredSectioned retiring s at count right None = (retired_format retiring count).read (drop at s) ≡ none
 
 abbrev pub sections_of : (wide planar : Bool) → HeadRead → (slots_at free_at quarantine_at sealed_at retired_at size : ℕ) (sound : Bool) → Sections
 sections_of wide planar x b d g j l size sound =

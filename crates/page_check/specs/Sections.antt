@@ -1,6 +1,10 @@
 -- What the first pass over a text finds (01, "Page").
 use Rattle.std.specs.Prelude.{ℕ, ◌≤◌, List, [], ◌++◌, map, Bool, true, false, ◌&&◌, ◌≡◌, ltb, length, if◌then◌else◌}
-use Rattle.std.proofs.Math.Option.{Option, none, some}
+use mathlib.Core.Option as maybe
+use mathlib.Core.Option.{none, some}
+use Rattle.std.specs.Prelude as code
+use Rattle.std.specs.Prelude.{Option, Some, None, Ok, Err}
+use Rattle.refusal.specs.declared.Refusal.{Refusal}
 use Rattle.word.specs.Lists.{all}
 use Rattle.heap.specs.State.{State, data_size}
 use Rattle.heap.specs.Calls.{new}
@@ -14,10 +18,6 @@ use Rattle.page_check.specs.Filling.{slots_at, SlotsParsed}
 use Rattle.page_check.specs.declared.Sections.{Sections}
 use Rattle.page_check.specs.declared.Rule.{Rule}
 use Rattle.page_check.specs.declared.Rule.TheVariants.{Once, Young, Worn}
-use Rattle.page_check.specs.declared.Parsed.{Parsed as Answer}
-use Rattle.page_check.specs.declared.Parsed.TheVariants.{Page, NotPage}
-use Rattle.page_check.specs.declared.Checked.{Checked}
-use Rattle.page_check.specs.declared.Checked.TheVariants as checked
 
 -- what a page says, before anything is moved; a text that is no page has no use for it
 unfoldable pub heap_in : List ℕ → State
@@ -87,13 +87,13 @@ pub record Sectioned (s : List ℕ) (x : Sections) : Type 0 where
   pub retired_inside : x.retired_at ≤ length s
 
 -- a text is a page with these sections, or it is none
-abbrev pub Parsing : List ℕ → Answer → Type 0
-Parsing s (Page x) = Sectioned s x
-Parsing s NotPage = read_page s ≡ none
+abbrev pub Parsing : List ℕ → Option Sections → Type 0
+Parsing s (Some x) = Sectioned s x
+Parsing s None = read_page s ≡ none
 
 -- what a text is refused for, in 01's order, or the heap that it brings: not a page 17, lent sizes out of range or a heap that is not sound 1, beyond the pool 6,
 -- beyond the lent slots 5
-unfoldable pub verdict : (sizes : Bool) (S P : ℕ) → Option (Form × State) → Result State
+unfoldable pub verdict : (sizes : Bool) (S P : ℕ) → maybe.Option (Form × State) → Result State
 verdict sizes S P none = refused 17
 verdict sizes S P (some p) =
     let h : State = brought p in
@@ -105,6 +105,6 @@ pub record Accepted (s : List ℕ) (v : Result State) (x : Sections) : Type 0 wh
   pub verdict : v ≡ ok (brought_in s)
   pub sections : Sectioned s x
 
-abbrev pub Checking : List ℕ → (verdict : Result State) → Checked → Type 0
-Checking s v (checked.Page x) = Accepted s v x
-Checking s v (checked.Not why) = v ≡ refused (number_of why)
+abbrev pub Checking : List ℕ → (verdict : Result State) → code.Result Sections Refusal → Type 0
+Checking s v (Ok x) = Accepted s v x
+Checking s v (Err why) = v ≡ refused (number_of why)

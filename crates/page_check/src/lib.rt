@@ -30,12 +30,6 @@ pub struct SlotRead {
     pub next: usize,
 }
 
-#[derive(Clone, Copy)]
-pub enum SlotLine {
-    Line(SlotRead),
-    NoLine,
-}
-
 // The largest write count: under the name `writes64` of 64 bits, under `writes` of 32.
 fn most_writes(wide: bool) -> u64
     ensures { result ≡ 2 ^ writes_width wide - 1 }
@@ -48,99 +42,62 @@ fn most_writes(wide: bool) -> u64
 }
 
 // Reads a slot's line from `at` on.
-pub fn get_slot(s: &[u8], at: usize, wide: bool) -> SlotLine
+pub fn get_slot(s: &[u8], at: usize, wide: bool) -> Option<SlotRead>
     ensures { result ≡ slot_answer (length s.now) ((slot_format wide).read (drop at s.now)) }
 {
     let most = most_writes(wide);
-    let Some((g, a)) = text::get_field(s, at, 4294967295, 44) else {
-        return SlotLine::NoLine;
-    };
-    let Some((k, b)) = text::get_field(s, a, 255, 44) else {
-        return SlotLine::NoLine;
-    };
-    let Some((t, c)) = text::get_field(s, b, 4294967295, 44) else {
-        return SlotLine::NoLine;
-    };
-    let Some((p, d)) = text::get_field(s, c, 18446744073709551615, 44) else {
-        return SlotLine::NoLine;
-    };
-    let Some((w, e)) = text::get_field(s, d, most, 44) else {
-        return SlotLine::NoLine;
-    };
-    let Some((n, f)) = text::count_hex(s, e) else {
-        return SlotLine::NoLine;
-    };
-    SlotLine::Line(SlotRead {
-        generation: g,
-        kind: k,
-        ty: t,
-        start: p,
-        writes: w,
-        bytes: n,
-        next: f,
+    let (generation, a) = text::get_field(s, at, 4294967295, b',')?;
+    let (kind, b) = text::get_field(s, a, 255, b',')?;
+    let (ty, c) = text::get_field(s, b, 4294967295, b',')?;
+    let (start, d) = text::get_field(s, c, 18446744073709551615, b',')?;
+    let (writes, e) = text::get_field(s, d, most, b',')?;
+    let (bytes, next) = text::count_hex(s, e)?;
+    Some(SlotRead {
+        generation,
+        kind,
+        ty,
+        start,
+        writes,
+        bytes,
+        next,
     })
-}
-
-pub fn both(a: bool, b: bool) -> bool
-    ensures { result ≡ (a && b) }
-{
-    if a { b } else { false }
 }
 
 // Is a slot's line sound by itself?
 fn sound(x: SlotRead) -> bool
     ensures { result ≡ sound_numbers x.generation x.kind x.ty x.start x.writes x.bytes }
 {
-    if 3 < x.kind {
-        return false;
-    }
-    if x.generation < 1 {
-        return false;
-    }
-    if x.kind == 1 {
-        return true;
-    }
-    if x.ty == 0 {
-        if x.kind == 0 {
-            if x.start == 0 {
-                if x.writes == 0 {
-                    return x.bytes == 0;
-                }
-                return false;
-            }
-            return false;
-        }
-        return true;
-    }
-    false
+    let dead = x.start == 0 && x.writes == 0 && x.bytes == 0;
+    x.kind <= 3 && 1 <= x.generation && (x.kind == 1 || x.ty == 0) && (0 < x.kind || dead)
 }
 
 // What the lines of slots say: whether each is sound by itself, how many bytes of data they have, and what comes after them.
 #[derive(Clone, Copy)]
-pub enum Slots {
-    Lines(bool, usize, usize),
-    NoSlots,
+pub struct SlotLines {
+    pub sound: bool,
+    pub size: usize,
+    pub next: usize,
 }
 
 // Reads the lines of `count` slots from `at` on.
-pub fn check_slots(s: &[u8], at: usize, count: usize, wide: bool) -> Slots
+pub fn check_slots(s: &[u8], at: usize, count: usize, wide: bool) -> Option<SlotLines>
     requires { at ≤ length s.now }
     ensures { result ≡ slots_answer (length s.now) (read_all (slot_format wide).read count (drop at s.now)) }
 {
     let mut ok = true;
     let mut size = 0;
     let mut k = at;
-    let mut i = 0;
-    while i < count {
-        let SlotLine::Line(x) = get_slot(s, k, wide) else {
-            return Slots::NoSlots;
-        };
-        ok = both(ok, sound(x));
-        size = size + x.bytes;
+    for i in 0..count {
+        let x = get_slot(s, k, wide)?;
+        ok &= sound(x);
+        size += x.bytes;
         k = x.next;
-        i += 1;
     }
-    Slots::Lines(ok, size, k)
+    Some(SlotLines {
+        sound: ok,
+        size,
+        next: k,
+    })
 }
 
 // Sets the bit of a slot, if it is among the `m` from `base` on. False: it is set already.
@@ -169,16 +126,14 @@ fn mark(s: &[u8], at: usize, count: usize, base: usize, m: usize, row: &mut [u64
     ensures { Marked row.old row.new base m (values_at 32 s.now at count) result }
 {
     let mut k = at;
-    let mut i = 0;
-    while i < count {
-        let Some((v, next)) = text::get_field(s, k, 4294967295, 10) else {
+    for i in 0..count {
+        let Some((v, next)) = text::get_field(s, k, 4294967295, b'\n') else {
             return false;
         };
-        if mark_one(row, base, m, v as usize) {} else {
+        if !mark_one(row, base, m, v as usize) {
             return false;
         }
         k = next;
-        i += 1;
     }
     true
 }
@@ -244,17 +199,15 @@ fn check_chunk(s: &[u8], at: usize, count: usize, rule: Rule, row: &[u64]) -> Ch
 {
     let mut ok = true;
     let mut k = at;
-    let mut i = 0;
-    while i < count {
-        let SlotLine::Line(x) = get_slot(s, k, true) else {
+    for i in 0..count {
+        let Some(x) = get_slot(s, k, true) else {
             return Chunk { ok: false, next: k };
         };
         let c = bit_of(row, i);
-        ok = both(ok, right_by(rule, x.generation, x.kind, c));
+        ok &= right_by(rule, x.generation, x.kind, c);
         k = x.next;
-        i += 1;
     }
-    Chunk { ok: ok, next: k }
+    Chunk { ok, next: k }
 }
 
 // Sets the bits of the slots in all three lists, as `mark` does.
@@ -264,10 +217,10 @@ fn mark_dead(s: &[u8], x: Sections, base: usize, m: usize, row: &mut [u64]) -> b
     ensures { Marked row.old row.new base m
         ((heap_in s.now).free ++ (heap_in s.now).quarantine ++ (heap_in s.now).retired) result }
 {
-    if mark(s, x.free_at, x.free, base, m, row) {} else {
+    if !mark(s, x.free_at, x.free, base, m, row) {
         return false;
     }
-    if mark(s, x.quarantine_at, x.quarantine, base, m, row) {} else {
+    if !mark(s, x.quarantine_at, x.quarantine, base, m, row) {
         return false;
     }
     mark(s, x.retired_at, x.retired, base, m, row)
@@ -308,7 +261,7 @@ fn check_run(
     ensures { RunChecked s.now rule (listed rule (heap_in s.now)) at m base result.ok result.next }
 {
     row.fill(0);
-    if mark_listed(s, x, rule, base, m, row) {} else {
+    if !mark_listed(s, x, rule, base, m, row) {
         return Chunk {
             ok: false,
             next: at,
@@ -336,7 +289,7 @@ fn check_rule(s: &[u8], x: Sections, rule: Rule, row: &mut [u64]) -> bool
     while base < x.slots {
         let m = run_of(row.len(), x.slots - base);
         let c = check_run(s, x, rule, k, m, base, row);
-        if c.ok {} else {
+        if !c.ok {
             return false;
         }
         k = c.next;
@@ -351,13 +304,13 @@ fn partition(s: &[u8], x: Sections, row: &mut [u64]) -> bool
     requires in_bounds { 1 ≤ length row.old }
     ensures { result ≡ parted (form_in s.now).retiring (heap_in s.now) }
 {
-    if check_rule(s, x, Rule::Once, row) {} else {
+    if !check_rule(s, x, Rule::Once, row) {
         return false;
     }
-    if x.retiring {} else {
+    if !x.retiring {
         return true;
     }
-    if check_rule(s, x, Rule::Young, row) {} else {
+    if !check_rule(s, x, Rule::Young, row) {
         return false;
     }
     check_rule(s, x, Rule::Worn, row)
@@ -365,29 +318,24 @@ fn partition(s: &[u8], x: Sections, row: &mut [u64]) -> bool
 
 // Whether the values of a list are as they are to be, and what comes after them.
 #[derive(Clone, Copy)]
-pub enum Values {
-    Good(bool, usize),
-    NoValues,
+pub struct Values {
+    pub sound: bool,
+    pub next: usize,
 }
 
 // Reads `count` slot indices from `at` on: are all below n?
-fn check_indices(s: &[u8], at: usize, count: usize, n: usize) -> Values
+fn check_indices(s: &[u8], at: usize, count: usize, n: usize) -> Option<Values>
     requires { at ≤ length s.now }
     ensures { result ≡ indices_more (length s.now) n true (read_all (number 32 10).read count (drop at s.now)) }
 {
     let mut ok = true;
     let mut k = at;
-    let mut i = 0;
-    while i < count {
-        let Some((v, next)) = text::get_field(s, k, 4294967295, 10) else {
-            return Values::NoValues;
-        };
-        let w = v as usize;
-        ok = both(ok, w < n);
+    for i in 0..count {
+        let (v, next) = text::get_field(s, k, 4294967295, b'\n')?;
+        ok &= (v as usize) < n;
         k = next;
-        i += 1;
     }
-    Values::Good(ok, k)
+    Some(Values { sound: ok, next: k })
 }
 
 fn slot_of(x: u64) -> usize
@@ -414,37 +362,24 @@ fn sound_seal(x: u64, tag: u64, n: usize, from: usize) -> bool
     ensures { result ≡ seal_test tag n from x }
 {
     let i = slot_of(x);
-    if tag_of(x) == tag {
-        if i < from {
-            return false;
-        }
-        if n <= i {
-            return false;
-        }
-        return aged(x);
-    }
-    false
+    tag_of(x) == tag && from <= i && i < n && aged(x)
 }
 
 // Reads `count` seals from `at` on: are they sound, slots rising?
-fn check_seals(s: &[u8], at: usize, count: usize, tag: u64, n: usize) -> Values
+fn check_seals(s: &[u8], at: usize, count: usize, tag: u64, n: usize) -> Option<Values>
     requires { at ≤ length s.now }
     ensures { result ≡ seals_more (length s.now) tag n 0 true (read_all (number 64 10).read count (drop at s.now)) }
 {
     let mut ok = true;
     let mut from = 0;
     let mut k = at;
-    let mut i = 0;
-    while i < count {
-        let Some((v, next)) = text::get_field(s, k, 18446744073709551615, 10) else {
-            return Values::NoValues;
-        };
-        ok = both(ok, sound_seal(v, tag, n, from));
+    for i in 0..count {
+        let (v, next) = text::get_field(s, k, 18446744073709551615, b'\n')?;
+        ok &= sound_seal(v, tag, n, from);
         from = slot_of(v) + 1;
         k = next;
-        i += 1;
     }
-    Values::Good(ok, k)
+    Some(Values { sound: ok, next: k })
 }
 
 // What the line of a heap's numbers says, with `retired` or without, and where the next line begins.
@@ -463,17 +398,11 @@ pub struct HeadRead {
     pub next: usize,
 }
 
-#[derive(Clone, Copy)]
-pub enum HeadLine {
-    Head(HeadRead),
-    NoHead,
-}
-
 // The byte after the count of seals: the line ends there, or goes on with the count of the retired.
 fn sealed_end(retiring: bool) -> u8
     ensures { result ≡ sealed_end retiring }
 {
-    if retiring { 44 } else { 10 }
+    if retiring { b',' } else { b'\n' }
 }
 
 // Reads the count of the retired, where the line has it.
@@ -482,55 +411,37 @@ fn retired_count(s: &[u8], at: usize, retiring: bool) -> Option<(u64, usize)>
     ensures { result ≡ value_answer (length s.now) ((retired_count retiring).read (drop at s.now)) }
 {
     if retiring {
-        return text::get_field(s, at, 4294967295, 10);
+        return text::get_field(s, at, 4294967295, b'\n');
     }
     Some((0, at))
 }
 
 // Reads the line of a heap's numbers from `at` on.
-pub fn get_head(s: &[u8], at: usize, retiring: bool) -> HeadLine
+pub fn get_head(s: &[u8], at: usize, retiring: bool) -> Option<HeadRead>
     ensures { result ≡ head_answer retiring (length s.now) ((head_format retiring).read (drop at s.now)) }
 {
     let end = sealed_end(retiring);
-    let Some((t, a)) = text::get_field(s, at, 255, 44) else {
-        return HeadLine::NoHead;
-    };
-    let Some((u, b)) = text::get_field(s, a, 18446744073709551615, 44) else {
-        return HeadLine::NoHead;
-    };
-    let Some((r, c)) = text::get_field(s, b, 18446744073709551615, 44) else {
-        return HeadLine::NoHead;
-    };
-    let Some((l, d)) = text::get_field(s, c, 18446744073709551615, 44) else {
-        return HeadLine::NoHead;
-    };
-    let Some((n, e)) = text::get_field(s, d, 4294967295, 44) else {
-        return HeadLine::NoHead;
-    };
-    let Some((f, g)) = text::get_field(s, e, 4294967295, 44) else {
-        return HeadLine::NoHead;
-    };
-    let Some((q, h)) = text::get_field(s, g, 4294967295, 44) else {
-        return HeadLine::NoHead;
-    };
-    let Some((z, i)) = text::get_field(s, h, 4294967295, end) else {
-        return HeadLine::NoHead;
-    };
-    let Some((w, j)) = retired_count(s, i, retiring) else {
-        return HeadLine::NoHead;
-    };
-    HeadLine::Head(HeadRead {
-        retiring: retiring,
-        tag: t,
-        since_gc: u,
-        reclaim_at: r,
-        live_bytes: l,
-        slots: n as usize,
-        free: f as usize,
-        quarantine: q as usize,
-        sealed: z as usize,
-        retired: w as usize,
-        next: j,
+    let (tag, a) = text::get_field(s, at, 255, b',')?;
+    let (since_gc, b) = text::get_field(s, a, 18446744073709551615, b',')?;
+    let (reclaim_at, c) = text::get_field(s, b, 18446744073709551615, b',')?;
+    let (live_bytes, d) = text::get_field(s, c, 18446744073709551615, b',')?;
+    let (slots, e) = text::get_field(s, d, 4294967295, b',')?;
+    let (free, f) = text::get_field(s, e, 4294967295, b',')?;
+    let (quarantine, g) = text::get_field(s, f, 4294967295, b',')?;
+    let (sealed, h) = text::get_field(s, g, 4294967295, end)?;
+    let (retired, next) = retired_count(s, h, retiring)?;
+    Some(HeadRead {
+        retiring,
+        tag,
+        since_gc,
+        reclaim_at,
+        live_bytes,
+        slots: slots as usize,
+        free: free as usize,
+        quarantine: quarantine as usize,
+        sealed: sealed as usize,
+        retired: retired as usize,
+        next,
     })
 }
 
@@ -545,12 +456,9 @@ fn sound_parts(
 ) -> bool
     ensures { result ≡ (slots && (free && quarantine && retired) && seals && sound_reclaim reclaim) }
 {
-    let dead = both(both(free, quarantine), retired);
-    let a = both(slots, dead);
-    let b = both(a, seals);
-    let c = both(reclaim % 2 == 0, 4096 <= reclaim);
-    let d = both(c, reclaim <= 33554432);
-    both(b, d)
+    let dead = free && quarantine && retired;
+    let bound = reclaim % 2 == 0 && 4096 <= reclaim && reclaim <= 33554432;
+    slots && dead && seals && bound
 }
 
 // What the first pass finds in a page: whether it has the retired list, which name its write counts have, planes or data, the heap's numbers, where the lines of its slots and lists begin,
@@ -578,12 +486,6 @@ pub struct Sections {
     pub sound: bool,
 }
 
-#[derive(Clone, Copy)]
-pub enum Parsed {
-    Page(Sections),
-    NotPage,
-}
-
 fn assembled(
     wide: bool,
     planar: bool,
@@ -600,8 +502,8 @@ fn assembled(
 {
     Sections {
         retiring: x.retiring,
-        wide: wide,
-        planar: planar,
+        wide,
+        planar,
         tag: x.tag,
         since_gc: x.since_gc,
         reclaim_at: x.reclaim_at,
@@ -611,13 +513,13 @@ fn assembled(
         quarantine: x.quarantine,
         sealed: x.sealed,
         retired: x.retired,
-        slots_at: slots_at,
-        free_at: free_at,
-        quarantine_at: quarantine_at,
-        sealed_at: sealed_at,
-        retired_at: retired_at,
-        size: size,
-        sound: sound,
+        slots_at,
+        free_at,
+        quarantine_at,
+        sealed_at,
+        retired_at,
+        size,
+        sound,
     }
 }
 
@@ -637,106 +539,115 @@ fn names_line(
 }
 
 // Reads the first two lines.
-fn head_section(s: &[u8]) -> HeadLine
+fn head_section(s: &[u8]) -> Option<HeadRead>
     ensures { HeadSectioned s.now result }
 {
-    let Some((retiring, a)) = names_line(
+    let (retiring, a) = names_line(
         s,
         0,
         b"tag,since_gc,reclaim_at,live_bytes,slots,free,quarantine,sealed",
         b",retired\n",
         b"\n",
-    ) else {
-        return HeadLine::NoHead;
-    };
+    )?;
     get_head(s, a, retiring)
 }
 
-// What the names line of the slots says: which name the write counts have, planes or data, and where the next line begins; or that it is none.
+// What the names line of the slots says: which name the write counts have, planes or data, and where the next line begins.
 #[derive(Clone, Copy)]
-pub enum SlotNames {
-    Named(bool, bool, usize),
-    Unnamed,
+pub struct SlotNames {
+    pub wide: bool,
+    pub planar: bool,
+    pub next: usize,
 }
 
 // Reads the names line of the slots from `at` on.
-fn slot_names(s: &[u8], at: usize) -> SlotNames
+fn slot_names(s: &[u8], at: usize) -> Option<SlotNames>
     requires { at ≤ length s.now }
     ensures { NamesRead s.now at result }
 {
-    let Some((wide, a)) = names_line(
+    let (wide, a) = names_line(
         s,
         at,
         b"generation,kind,type,start,",
         b"writes64,",
         b"writes,",
-    ) else {
-        return SlotNames::Unnamed;
-    };
-    let Some((planar, b)) = text::expect_either(s, a, b"planes\n", b"data\n") else {
-        return SlotNames::Unnamed;
-    };
-    SlotNames::Named(wide, planar, b)
+    )?;
+    let (planar, next) = text::expect_either(s, a, b"planes\n", b"data\n")?;
+    Some(SlotNames { wide, planar, next })
 }
 
-// The lines of slots after their names line: where they begin, then as `Slots`, then what the names line says.
+// The lines of slots after their names line: where they begin, then as `SlotLines`, then what the names line says.
 #[derive(Clone, Copy)]
-pub enum SlotSection {
-    Found(usize, bool, usize, usize, bool, bool),
-    Lost,
+pub struct SlotSection {
+    pub begin: usize,
+    pub sound: bool,
+    pub size: usize,
+    pub next: usize,
+    pub wide: bool,
+    pub planar: bool,
 }
 
 // Reads the names line of the slots, then `count` slots.
-fn slot_section(s: &[u8], at: usize, count: usize) -> SlotSection
+fn slot_section(s: &[u8], at: usize, count: usize) -> Option<SlotSection>
     requires { at ≤ length s.now }
     ensures { SlotSectioned s.now at count result }
 {
-    let SlotNames::Named(wide, planar, b) = slot_names(s, at) else {
-        return SlotSection::Lost;
-    };
-    let Slots::Lines(ok, size, next) = check_slots(s, b, count, wide) else {
-        return SlotSection::Lost;
-    };
-    SlotSection::Found(b, ok, size, next, wide, planar)
+    let names = slot_names(s, at)?;
+    let lines = check_slots(s, names.next, count, names.wide)?;
+    Some(SlotSection {
+        begin: names.next,
+        sound: lines.sound,
+        size: lines.size,
+        next: lines.next,
+        wide: names.wide,
+        planar: names.planar,
+    })
 }
 
 // The values of a list after its name: where they begin, then as `Values`.
 #[derive(Clone, Copy)]
-pub enum ListSection {
-    Listed(usize, bool, usize),
-    Unlisted,
+pub struct ListSection {
+    pub begin: usize,
+    pub sound: bool,
+    pub next: usize,
 }
 
 // Reads a list's name, then `count` slot indices: are all below n?
-fn index_section(s: &[u8], name: &[u8], at: usize, count: usize, n: usize) -> ListSection
+fn index_section(s: &[u8], name: &[u8], at: usize, count: usize, n: usize) -> Option<ListSection>
     requires { at ≤ length s.now }
     ensures { ListSectioned 32 name.now s.now at count (all (λ i. ltb i n)) result }
 {
-    let Some(b) = text::expect(s, at, name) else {
-        return ListSection::Unlisted;
-    };
-    let Values::Good(ok, next) = check_indices(s, b, count, n) else {
-        return ListSection::Unlisted;
-    };
-    ListSection::Listed(b, ok, next)
+    let begin = text::expect(s, at, name)?;
+    let values = check_indices(s, begin, count, n)?;
+    Some(ListSection {
+        begin,
+        sound: values.sound,
+        next: values.next,
+    })
 }
 
 // Reads the name of the seals, then `count` seals: are they sound, slots rising?
-fn seal_section(s: &[u8], at: usize, count: usize, tag: u64, n: usize) -> ListSection
+fn seal_section(s: &[u8], at: usize, count: usize, tag: u64, n: usize) -> Option<ListSection>
     requires { at ≤ length s.now }
     ensures { ListSectioned 64 sealed_name s.now at count (sound_seals tag n 0) result }
 {
-    let Some(b) = text::expect(s, at, b"sealed\n") else {
-        return ListSection::Unlisted;
-    };
-    let Values::Good(ok, next) = check_seals(s, b, count, tag, n) else {
-        return ListSection::Unlisted;
-    };
-    ListSection::Listed(b, ok, next)
+    let begin = text::expect(s, at, b"sealed\n")?;
+    let values = check_seals(s, begin, count, tag, n)?;
+    Some(ListSection {
+        begin,
+        sound: values.sound,
+        next: values.next,
+    })
 }
 
 // Reads the name of the retired, then `count` slot indices, where the page has them: are all below n?
-fn retired_section(s: &[u8], at: usize, retiring: bool, count: usize, n: usize) -> ListSection
+fn retired_section(
+    s: &[u8],
+    at: usize,
+    retiring: bool,
+    count: usize,
+    n: usize,
+) -> Option<ListSection>
     requires at_in_bounds { at ≤ length s.now }
     requires count_value { retiring ≡ false → count ≡ 0 }
     ensures { RetiredSectioned retiring s.now at count (all (λ i. ltb i n)) result }
@@ -744,70 +655,77 @@ fn retired_section(s: &[u8], at: usize, retiring: bool, count: usize, n: usize) 
     if retiring {
         return index_section(s, b"retired\n", at, count, n);
     }
-    ListSection::Listed(at, true, at)
+    Some(ListSection {
+        begin: at,
+        sound: true,
+        next: at,
+    })
 }
 
 // Is a text a page? Nothing but the text is looked at.
-pub fn parse_page(s: &[u8]) -> Parsed
+pub fn parse_page(s: &[u8]) -> Option<Sections>
     ensures { Parsing s.now result }
 {
-    let HeadLine::Head(x) = head_section(s) else {
-        return Parsed::NotPage;
-    };
-    let SlotSection::Found(b, ok1, size, c, wide, planar) = slot_section(s, x.next, x.slots) else {
-        return Parsed::NotPage;
-    };
-    let ListSection::Listed(d, ok2, e) = index_section(s, b"free\n", c, x.free, x.slots) else {
-        return Parsed::NotPage;
-    };
-    let ListSection::Listed(g, ok3, i) = index_section(s, b"quarantine\n", e, x.quarantine, x.slots)
-    else {
-        return Parsed::NotPage;
-    };
-    let ListSection::Listed(j, ok4, k) = seal_section(s, i, x.sealed, x.tag, x.slots) else {
-        return Parsed::NotPage;
-    };
-    let ListSection::Listed(l, ok5, m) = retired_section(s, k, x.retiring, x.retired, x.slots)
-    else {
-        return Parsed::NotPage;
-    };
-    if m < s.len() {
-        return Parsed::NotPage;
+    let x = head_section(s)?;
+    let slots = slot_section(s, x.next, x.slots)?;
+    let free = index_section(s, b"free\n", slots.next, x.free, x.slots)?;
+    let quarantine = index_section(s, b"quarantine\n", free.next, x.quarantine, x.slots)?;
+    let sealed = seal_section(s, quarantine.next, x.sealed, x.tag, x.slots)?;
+    let retired = retired_section(s, sealed.next, x.retiring, x.retired, x.slots)?;
+    if retired.next < s.len() {
+        return None;
     }
-    let sound = sound_parts(ok1, ok2, ok3, ok5, ok4, x.reclaim_at);
-    Parsed::Page(assembled(wide, planar, x, b, d, g, j, l, size, sound))
-}
-
-// What the first pass tells of a text: a page that can be read, or why it is refused.
-#[derive(Clone, Copy)]
-pub enum Checked {
-    Page(Sections),
-    Not(Refusal),
+    let sound = sound_parts(
+        slots.sound,
+        free.sound,
+        quarantine.sound,
+        retired.sound,
+        sealed.sound,
+        x.reclaim_at,
+    );
+    Some(assembled(
+        slots.wide,
+        slots.planar,
+        x,
+        slots.begin,
+        free.begin,
+        quarantine.begin,
+        sealed.begin,
+        retired.begin,
+        slots.size,
+        sound,
+    ))
 }
 
 // The first pass: is a text the page of a sound heap that fits into `lent` slots and `room` bytes? `sizes` says whether the lent sizes are in range.
-pub fn check_page(s: &[u8], sizes: bool, lent: usize, room: usize, work: &mut [u64]) -> Checked
+pub fn check_page(
+    s: &[u8],
+    sizes: bool,
+    lent: usize,
+    room: usize,
+    work: &mut [u64],
+) -> Result<Sections, Refusal>
     requires { sizes ≡ true → 1 ≤ length work.old }
     ensures checking { Checking s.now (verdict sizes lent room (read_page s.now)) result }
     ensures work_after { work.new ≡ replicate (length work.old) 0 }
 {
     work.fill(0);
-    let Parsed::Page(x) = parse_page(s) else {
-        return Checked::Not(Refusal::Page);
+    let Some(x) = parse_page(s) else {
+        return Err(Refusal::Page);
     };
-    if both(sizes, x.sound) {} else {
-        return Checked::Not(Refusal::BrokenHeap);
+    if !(sizes && x.sound) {
+        return Err(Refusal::BrokenHeap);
     }
     let once = partition(s, x, work);
     work.fill(0);
-    if once {} else {
-        return Checked::Not(Refusal::BrokenHeap);
+    if !once {
+        return Err(Refusal::BrokenHeap);
     }
     if room < x.size {
-        return Checked::Not(Refusal::NoRoom);
+        return Err(Refusal::NoRoom);
     }
     if lent < x.slots {
-        return Checked::Not(Refusal::Full);
+        return Err(Refusal::Full);
     }
-    Checked::Page(x)
+    Ok(x)
 }

@@ -2,6 +2,7 @@
 use Prim.Native.Nat.{ℕ, ◌+◌, ◌-◌, ◌*◌, ◌/◌, ◌^◌, ◌≤◌, ◌<◌}
 use mathlib.Core.List.{List, map}
 use mathlib.Core.Bool.{true}
+use Rattle.std.specs.Prelude.{Option, Some, None}
 use mathlib.Core.Path.{◌≡◌, refl, sym, ap, ◌∙◌}
 use lib.ListN.{length, take, drop, get_or, set, length-set}
 use lib.Seq.{take_all}
@@ -23,8 +24,6 @@ use Rattle.pages.proofs.Writing.{blank}
 use Rattle.page_check.specs.Filling.{slots_at, SlotsParsed}
 use Rattle.page_check.specs.Answer.{slot_answer}
 use Rattle.page_check.specs.declared.SlotRead.{SlotRead}
-use Rattle.page_check.specs.declared.SlotLine.{SlotLine}
-use Rattle.page_check.specs.declared.SlotLine.TheVariants.{Line, NoLine}
 use Rattle.page_check.proofs.Reading.{Found, line-found, line-lost}
 use Rattle.page_check.proofs.Filling.{read_next, read_some, read-end}
 use Rattle.page_reader.specs.Columns.{with_numbers, NumbersFilled}
@@ -101,12 +100,12 @@ module _ (s : List ℕ) (at count : ℕ) (narrow₀ wide₀ narrow wide : List �
       let e : take i slots ≡ slots = take_all i slots (read-end (slot_format true).read blank (drop k s) slots i count p.rest h p.left) in
       record { numbers = λ x pool. recount x narrow₀ narrow wide pool p.same ∙ p.numbers x pool ∙ ap (with_numbers (cut x S narrow₀ wide₀ pool)) e }
 
-  module _ (h : i < count) {r : SlotLine} (e : r ≡ slot_answer (length s) ((slot_format true).read (drop k s))) where
+  module _ (h : i < count) {r : Option SlotRead} (e : r ≡ slot_answer (length s) ((slot_format true).read (drop k s))) where
     -- while slots are left, the next line is there
-    pub filling-some : r ≡ NoLine → ⊥
+    pub filling-some : r ≡ None → ⊥
     filling-some f = read_some (slot_format true).read blank (drop k s) slots i count p.rest h p.left (line-lost true s k e f)
 
-    module _ (x : SlotRead) (f : r ≡ Line x) where
+    module _ (x : SlotRead) (f : r ≡ Some x) where
       abbrev found : Found true s k x
       found = line-found true s k x e f
 

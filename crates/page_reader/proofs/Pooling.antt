@@ -2,6 +2,7 @@
 use Prim.Native.Nat.{ℕ, ◌+◌, ◌-◌, ◌*◌, ◌≤◌, ◌<◌}
 use mathlib.Core.List.{List, [], ◌∷◌, ◌++◌, append_assoc, map, map-append}
 use mathlib.Core.Bool.{Bool, true, false}
+use Rattle.std.specs.Prelude.{Option, Some, None}
 use mathlib.Core.Path.{◌≡◌, refl, sym, ap, ◌∙◌}
 use lib.ListN.{length, take, drop, get_or, length-drop, length-append}
 use lib.Seq.{take_all, drop-append_seam, drop-drop}
@@ -23,8 +24,6 @@ use Rattle.pages.proofs.Writing.{blank, slot-parts}
 use Rattle.page_check.specs.Filling.{slots_at, SlotsParsed}
 use Rattle.page_check.specs.Answer.{slot_answer}
 use Rattle.page_check.specs.declared.SlotRead.{SlotRead}
-use Rattle.page_check.specs.declared.SlotLine.{SlotLine}
-use Rattle.page_check.specs.declared.SlotLine.TheVariants.{Line, NoLine}
 use Rattle.page_check.proofs.Columned.{same_size}
 use Rattle.page_check.proofs.Reading.{Found, line-found, line-lost}
 use Rattle.page_check.proofs.Filling.{read_next, read_some, read-end}
@@ -110,11 +109,11 @@ pooling-begin c s at count pool p h r = record {
 }
 
 module _ (c : Bool) (s : List ℕ) (at count : ℕ) (pool₀ pool : List ℕ) (k to i : ℕ) (p : Pooling c s at count pool₀ pool k to i) where
-  module _ (h : i < count) {r : SlotLine} (e : r ≡ slot_answer (length s) ((slot_format true).read (drop k s))) where
-    pub pooling-some : r ≡ NoLine → ⊥
+  module _ (h : i < count) {r : Option SlotRead} (e : r ≡ slot_answer (length s) ((slot_format true).read (drop k s))) where
+    pub pooling-some : r ≡ None → ⊥
     pooling-some f = read_some (slot_format true).read blank (drop k s) (slots_at s at count) i count p.rest h p.left (line-lost true s k e f)
 
-    module _ (x : SlotRead) (f : r ≡ Line x) where
+    module _ (x : SlotRead) (f : r ≡ Some x) where
       found : Found true s k x
       found = line-found true s k x e f
 

@@ -16,7 +16,7 @@ ghost use Rattle.page_reader.specs.Columns.{NumbersFilled, Below, PutIn, FreePar
 ghost use Rattle.page_reader.specs.Reading.{PageRead};
 
 use heap::{Changed, Heap};
-use page_check::{Checked, Sections, SlotLine};
+use page_check::Sections;
 
 // Puts the numbers of `count` slots, whose lines stand from `at` on, into their runs.
 fn fill_slots(s: &[u8], at: usize, count: usize, narrow: &mut [u32], wide: &mut [u64])
@@ -28,9 +28,8 @@ fn fill_slots(s: &[u8], at: usize, count: usize, narrow: &mut [u32], wide: &mut 
     let two = 2 * all;
     let mut k = at;
     let mut from = 0;
-    let mut i = 0;
-    while i < count {
-        let SlotLine::Line(x) = page_check::get_slot(s, k, true) else {
+    for i in 0..count {
+        let Some(x) = page_check::get_slot(s, k, true) else {
             return;
         };
         narrow[i] = x.generation as u32;
@@ -38,10 +37,9 @@ fn fill_slots(s: &[u8], at: usize, count: usize, narrow: &mut [u32], wide: &mut 
         narrow[two + i] = x.ty as u32;
         wide[i] = x.start;
         wide[two + i] = x.writes;
-        from = from + x.bytes;
+        from += x.bytes;
         wide[all + i] = from as u64;
         k = x.next;
-        i += 1;
     }
 }
 
@@ -52,7 +50,7 @@ fn fill_column(s: &[u8], at: usize, count: usize, planar: bool, pool: &mut [u8],
     ensures { Puts pool.old pool.new to result (from_column planar (hex_at s.now at)) }
 {
     let end = text::copy_hex(s, at, count, pool, to);
-    if planar {} else {
+    if !planar {
         return end;
     }
     planes::restore(s, at, &mut pool[to..end]);
@@ -67,15 +65,13 @@ fn fill_data(s: &[u8], at: usize, count: usize, planar: bool, pool: &mut [u8])
 {
     let mut k = at;
     let mut to = 0;
-    let mut i = 0;
-    while i < count {
-        let SlotLine::Line(x) = page_check::get_slot(s, k, true) else {
+    for i in 0..count {
+        let Some(x) = page_check::get_slot(s, k, true) else {
             return;
         };
         let from = x.next - 1 - x.bytes - x.bytes;
         to = fill_column(s, from, x.bytes, planar, pool, to);
         k = x.next;
-        i += 1;
     }
 }
 
@@ -86,14 +82,12 @@ fn fill_indices(s: &[u8], at: usize, count: usize, list: &mut [u32])
     ensures { list.new ≡ put_text list.old 0 (values_at 32 s.now at count) }
 {
     let mut k = at;
-    let mut i = 0;
-    while i < count {
-        let Some((v, next)) = text::get_field(s, k, 4294967295, 10) else {
+    for i in 0..count {
+        let Some((v, next)) = text::get_field(s, k, 4294967295, b'\n') else {
             return;
         };
         list[i] = v as u32;
         k = next;
-        i += 1;
     }
 }
 
@@ -104,14 +98,12 @@ fn fill_handles(s: &[u8], at: usize, count: usize, list: &mut [u64])
     ensures { list.new ≡ put_text list.old 0 (values_at 64 s.now at count) }
 {
     let mut k = at;
-    let mut i = 0;
-    while i < count {
-        let Some((v, next)) = text::get_field(s, k, 18446744073709551615, 10) else {
+    for i in 0..count {
+        let Some((v, next)) = text::get_field(s, k, 18446744073709551615, b'\n') else {
             return;
         };
         list[i] = v;
         k = next;
-        i += 1;
     }
 }
 
@@ -152,9 +144,8 @@ fn part_free(s: &[u8], at: usize, count: usize, narrow: &mut [u32]) -> Counts
     let mut f = 0;
     let mut r = 0;
     let mut k = at;
-    let mut i = 0;
-    while i < count {
-        let Some((v, next)) = text::get_field(s, k, 4294967295, 10) else {
+    for i in 0..count {
+        let Some((v, next)) = text::get_field(s, k, 4294967295, b'\n') else {
             return Counts {
                 free: 0,
                 retired: 0,
@@ -165,7 +156,6 @@ fn part_free(s: &[u8], at: usize, count: usize, narrow: &mut [u32]) -> Counts
         f = c.free;
         r = c.retired;
         k = next;
-        i += 1;
     }
     Counts {
         free: f,
@@ -244,16 +234,12 @@ fn bits_met(wide: bool) -> u64
 fn names_met(retiring: bool, planar: bool) -> u64
     ensures { result ≡ (if retiring then 1 else 0) + (if planar then 2 else 0) }
 {
-    if retiring {
-        if planar {
-            return 3;
-        }
-        return 1;
+    match (retiring, planar) {
+        (false, false) => 0,
+        (true, false) => 1,
+        (false, true) => 2,
+        (true, true) => 3,
     }
-    if planar {
-        return 2;
-    }
-    0
 }
 
 // Reads a page into lent memory, and answers which names it met. `work` has a word for each slot.
@@ -271,9 +257,8 @@ pub fn read(
     ensures work_after { work.new ≡ replicate (length work.old) 0 }
 {
     let sizes = heap::sizes_fit(narrow.len(), wide.len(), pool.len());
-    let found = page_check::check_page(s, sizes, narrow.len() / 6, pool.len(), work);
-    match found {
-        Checked::Page(x) => {
+    match page_check::check_page(s, sizes, narrow.len() / 6, pool.len(), work) {
+        Ok(x) => {
             let loaded = load(s, x, narrow, wide, pool);
             let bits = bits_met(x.wide);
             let names = names_met(x.retiring, x.planar);
@@ -282,8 +267,8 @@ pub fn read(
                 reply: Ok((bits, names)),
             }
         }
-        Checked::Not(why) => Changed {
-            heap: heap,
+        Err(why) => Changed {
+            heap,
             reply: Err(why),
         },
     }

@@ -30,11 +30,9 @@ fn indices_len(list: &[u32], count: usize) -> usize
     ensures upper_bound { result ≤ 11 * count }
 {
     let mut n = 0;
-    let mut i = 0;
-    while i < count {
+    for i in 0..count {
         let d = text::decimal_len(widened(list[i]));
         n = n + d + 1;
-        i += 1;
     }
     n
 }
@@ -45,11 +43,9 @@ fn handles_len(list: &[u64], count: usize) -> usize
     ensures upper_bound { result ≤ 21 * count }
 {
     let mut n = 0;
-    let mut i = 0;
-    while i < count {
+    for i in 0..count {
         let d = text::decimal_len(list[i]);
         n = n + d + 1;
-        i += 1;
     }
     n
 }
@@ -70,10 +66,8 @@ fn put_indices(out: &mut [u8], at: usize, list: &[u32], count: usize) -> usize
     ensures { Puts out.old out.new at result (flat_map value_line (take count list.now)) }
 {
     let mut k = at;
-    let mut i = 0;
-    while i < count {
+    for i in 0..count {
         k = put_number(out, k, widened(list[i]), 10);
-        i += 1;
     }
     k
 }
@@ -84,10 +78,8 @@ fn put_handles(out: &mut [u8], at: usize, list: &[u64], count: usize) -> usize
     ensures { Puts out.old out.new at result (flat_map value_line (take count list.now)) }
 {
     let mut k = at;
-    let mut i = 0;
-    while i < count {
+    for i in 0..count {
         k = put_number(out, k, list[i], 10);
-        i += 1;
     }
     k
 }
@@ -153,8 +145,7 @@ fn slots_len(heap: Heap, narrow: &[u32], wide: &[u64], pool: &[u8]) -> usize
     let two = 2 * s;
     let mut n = 0;
     let mut from = 0;
-    let mut i = 0;
-    while i < heap.slots {
+    for i in 0..heap.slots {
         let to = wide[s + i] as usize;
         let d = slot_len(
             narrow[i],
@@ -166,7 +157,6 @@ fn slots_len(heap: Heap, narrow: &[u32], wide: &[u64], pool: &[u8]) -> usize
         );
         n = n + d;
         from = to;
-        i += 1;
     }
     n
 }
@@ -190,8 +180,7 @@ fn put_slots(
     let two = 2 * s;
     let mut k = at;
     let mut from = 0;
-    let mut i = 0;
-    while i < heap.slots {
+    for i in 0..heap.slots {
         let to = wide[s + i] as usize;
         k = put_slot(
             out,
@@ -205,7 +194,6 @@ fn put_slots(
             planar,
         );
         from = to;
-        i += 1;
     }
     k
 }

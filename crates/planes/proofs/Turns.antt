@@ -1,5 +1,7 @@
 -- One law for each turn of the loops. Assumes nothing.
-use Rattle.std.proofs.Common.{◌≡◌, ℕ, zero, suc, ◌+◌, ◌-◌, ◌*◌, ◌/◌, ◌%◌, ◌^◌, ◌<◌, ◌≤◌, List, [], ◌∷◌, ◌++◌, length, get_or, take, drop, set, sym, refl, ap, ◌∙◌, ap₂, mul-le-mul_right, suc-mul, zero-mul, div-mul-le_self, add-one, arith, length-drop, length-set, take_all}
+use Rattle.std.specs.Int.{to_le_bytes}
+use borrow.Rule.Slice.PartMut.{put_mid}
+use Rattle.std.proofs.Common.{w64, ◌≡◌, ℕ, zero, suc, ◌+◌, ◌-◌, ◌*◌, ◌/◌, ◌%◌, ◌^◌, ◌<◌, ◌≤◌, List, [], ◌∷◌, ◌++◌, length, get_or, take, drop, set, sym, refl, ap, ◌∙◌, ap₂, mul-le-mul_right, suc-mul, zero-mul, div-mul-le_self, add-one, arith, length-drop, length-set, take_all}
 use lib.Arith.{digits_lt}
 use Rattle.word.specs.Le.{le, bytes}
 use Rattle.word.specs.Lists.{tabulate}
@@ -8,7 +10,7 @@ use Rattle.word.proofs.LeLaws.{length-bytes}
 use Rattle.word.proofs.PutLaws.{Filling, fill_start, fill-next, fill_stop}
 use Rattle.text.specs.Text.{hex}
 use Rattle.text.specs.Put.{Puts}
-use Rattle.text.proofs.Putting.{puts_none, puts-puts, puts-at, hex-append, puts-length}
+use Rattle.text.proofs.Putting.{puts_none, puts-puts, puts-at, hex-append, puts-length, put-mid-put}
 use Rattle.text.proofs.Laws.{hex-length}
 use Rattle.planes.specs.Planes.{count, less, plus, rows, planes, turned, summed, restored}
 use Rattle.planes.specs.Inner.Words.{word_at, before, plane_byte, plane}
@@ -23,38 +25,28 @@ pub before-word : (l : List ℕ) (i r : ℕ) → (i ≡ 0 → ⊥) → r ≡ le 
 before-word l zero r h e = absurd (h refl)
 before-word l (suc i) r h e = e ∙ ap (λ (x : ℕ). le (take 8 (drop (x * 8) l))) (let v : suc i - 1 ≡ i = omega arith in v)
 
-pub the-byte : (l : List ℕ) (i j w b d : ℕ) → d < 2 ^ 64 → b < 2 ^ 64 → w ≡ word_at 8 l i → b ≡ before 8 0 l i → (d + b) % 2 ^ 64 ≡ w → d / 2 ^ (8 * j) % 256 ≡ plane_byte 8 l j i
-the-byte l i j w b d hd hb ew eb e =
-    let s : d ≡ less 8 w b = less-is 8 w b d hd hb e in
-    rw (← byte_power j) (ap (λ (x : ℕ). x / 256 ^ j % 256) (s ∙ ap₂ (less 8) ew eb))
+pub the-byte : (l : List ℕ) (i j w b : ℕ) → w ≡ word_at 8 l i → b ≡ before 8 0 l i → (w + (2 ^ 64 - b)) % 2 ^ 64 / 2 ^ (8 * j) % 256 ≡ plane_byte 8 l j i
+the-byte l i j w b ew eb = rw (← byte_power j) (ap (λ (x : ℕ). x / 256 ^ j % 256) (ap₂ (less 8) ew eb))
 
--- a word's bytes, one after another
-bytes-more : (k v : ℕ) → bytes (suc k) v ≡ v % 256 ∷ bytes k (v / 256)
+-- a word's bytes, as `to_le_bytes` gives them
+same-cons : {x y : ℕ} {l m : List ℕ} → x ≡ y → l ≡ m → x ∷ l ≡ y ∷ m
+same-cons e f = ap₂ (λ (x : ℕ) (l : List ℕ). x ∷ l) e f
+
+pub le-bytes : (word : ℕ) → to_le_bytes w64 word ≡ bytes 8 word
 unfolding bytes
-bytes-more k v = refl
+le-bytes word =
+    same-cons refl
+    (same-cons (ap (λ (x : ℕ). x % 256) (let v : word / 256 ^ 1 ≡ word / 256 = omega arith in v))
+    (same-cons (ap (λ (x : ℕ). x % 256) (let v : word / 256 ^ 2 ≡ word / 256 / 256 = omega arith in v))
+    (same-cons (ap (λ (x : ℕ). x % 256) (let v : word / 256 ^ 3 ≡ word / 256 / 256 / 256 = omega arith in v))
+    (same-cons (ap (λ (x : ℕ). x % 256) (let v : word / 256 ^ 4 ≡ word / 256 / 256 / 256 / 256 = omega arith in v))
+    (same-cons (ap (λ (x : ℕ). x % 256) (let v : word / 256 ^ 5 ≡ word / 256 / 256 / 256 / 256 / 256 = omega arith in v))
+    (same-cons (ap (λ (x : ℕ). x % 256) (let v : word / 256 ^ 6 ≡ word / 256 / 256 / 256 / 256 / 256 / 256 = omega arith in v))
+    (same-cons (ap (λ (x : ℕ). x % 256) (let v : word / 256 ^ 7 ≡ word / 256 / 256 / 256 / 256 / 256 / 256 / 256 = omega arith in v)) refl)))))))
 
-pub record Storing (d₀ d : List ℕ) (at word v j : ℕ) : Type 0 where
-  pub within : j ≤ 8
-  pub size : length d ≡ length d₀
-  pub filling : Filling d₀ d at j (bytes 8 word) (bytes (8 - j) v)
-
-pub store-begin : (d : List ℕ) (at word : ℕ) → Storing d d at word word 0
-store-begin d at word = record { within = omega arith; size = refl; filling = fill_start d at (bytes 8 word) }
-
-pub store-next : {d₀ d : List ℕ} {at word v j : ℕ} → Storing d₀ d at word v j → j < 8 → at + 8 ≤ length d₀ → Storing d₀ (set d (at + j) (v % 256)) at word (v / 256) (j + 1)
-store-next {d₀} {d} {at} {word} {v} {j} s h room =
-    let e : 8 - j ≡ suc (8 - (j + 1)) = omega arith in
-    record {
-      within = omega arith;
-      size = length-set d (at + j) (v % 256) ∙ s.size;
-      filling = fill-next d₀ d at j (bytes 8 word) (bytes (8 - j) v) (v % 256) (bytes (8 - (j + 1)) (v / 256)) s.filling
-          (ap (λ (k : ℕ). bytes k v) e ∙ bytes-more (8 - (j + 1)) v) (omega (arith, length-bytes 8 word));
-    }
-
-pub store-stop : {d₀ d : List ℕ} {at word v j : ℕ} → Storing d₀ d at word v j → 8 ≤ j → d ≡ put d₀ at (bytes 8 word) 8
-store-stop {d₀} {d} {at} {word} {v} {j} s h =
-    let e : j ≡ 8 = omega (arith, s.within) in
-    s.filling.written ∙ ap (put d₀ at (bytes 8 word)) e
+pub word-stored : (d : List ℕ) {u : List ℕ} (at k word : ℕ) → k ≡ 8 → u ≡ to_le_bytes w64 word → put_mid at k d u ≡ put d at (bytes 8 word) 8
+word-stored d at k word f e =
+    put-mid-put d (bytes 8 word) at k (f ∙ sym (length-bytes 8 word)) (e ∙ le-bytes word) ∙ ap (put d at (bytes 8 word)) (length-bytes 8 word)
 
 -- a plane in hexadecimal
 pub record Planing (out₀ out : List ℕ) (at k n : ℕ) (l : List ℕ) (j i : ℕ) : Type 0 where

@@ -29,7 +29,7 @@ fn plane_byte(object: &[u8], j: usize, i: usize) -> u8
 {
     let w = word::get_le(object, i * 8, 8);
     let b = word_before(object, i);
-    let d = std::num::wrapping_sub_u64(w, b);
+    let d = w.wrapping_sub(b);
     let s = d >> (8 * j);
     (s % 256) as u8
 }
@@ -39,13 +39,10 @@ fn put_plane(out: &mut [u8], at: usize, object: &[u8], n: usize, j: usize) -> us
     requires { (n ≡ count 8 object.now) × (j < 8) × (at + 2 * n ≤ length out.old) }
     ensures { Puts out.old out.new at result (hex (plane 8 object.now j)) }
 {
-    let mut i = 0;
     let mut k = at;
-    while i < n {
+    for i in 0..n {
         let b = plane_byte(object, j, i);
-        let one = [b; 1];
-        k = text::put_hex(out, k, &one);
-        i += 1;
+        k = text::put_hex(out, k, &[b]);
     }
     k
 }
@@ -56,11 +53,9 @@ pub fn put_planes(out: &mut [u8], at: usize, object: &[u8]) -> usize
     ensures { Puts out.old out.new at result (hex (planes 8 object.now)) }
 {
     let n = object.len() / 8;
-    let mut j = 0;
     let mut k = at;
-    while j < 8 {
+    for j in 0..8 {
         k = put_plane(out, k, object, n, j);
-        j += 1;
     }
     let rest = n * 8;
     text::put_hex(out, k, &object[rest..])
@@ -73,11 +68,9 @@ fn scatter_plane(s: &[u8], at: usize, d: &mut [u8], n: usize, j: usize)
     requires scattering { Scattering 8 n (hex_at s.now at) d.old (j * n) }
     ensures { Scattering 8 n (hex_at s.now at) d.new (j * n + n) }
 {
-    let mut i = 0;
-    while i < n {
+    for i in 0..n {
         let b = text::hex_byte(s, at, j * n + i);
         d[i * 8 + j] = b;
-        i += 1;
     }
 }
 
@@ -87,10 +80,8 @@ fn scatter(s: &[u8], at: usize, d: &mut [u8], n: usize)
     requires n_in_bounds { (n * 8 ≤ length (hex_at s.now at)) × (d.old ≡ hex_at s.now at) }
     ensures { d.new ≡ turned n 8 (hex_at s.now at) }
 {
-    let mut j = 0;
-    while j < 8 {
+    for j in 0..8 {
         scatter_plane(s, at, d, n, j);
-        j += 1;
     }
 }
 
@@ -99,13 +90,7 @@ fn put_word(d: &mut [u8], at: usize, word: u64)
     requires { at + 8 ≤ length d.old }
     ensures { d.new ≡ put d.old at (bytes 8 word) 8 }
 {
-    let mut v = word;
-    let mut j = 0;
-    while j < 8 {
-        d[at + j] = (v % 256) as u8;
-        v = v / 256;
-        j += 1;
-    }
+    d[at..at + 8].copy_from_slice(&word.to_le_bytes());
 }
 
 // Sums up n words in place.
@@ -114,12 +99,10 @@ fn sum_up(d: &mut [u8], n: usize)
     ensures { d.new ≡ summed 8 0 n d.old }
 {
     let mut b = 0;
-    let mut i = 0;
-    while i < n {
+    for i in 0..n {
         let w = word::get_le(d, i * 8, 8);
-        b = std::num::wrapping_add_u64(w, b);
+        b = w.wrapping_add(b);
         put_word(d, i * 8, b);
-        i += 1;
     }
 }
 

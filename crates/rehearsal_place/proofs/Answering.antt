@@ -16,7 +16,7 @@ use Rattle.refusal.specs.declared.Answer.{Answer}
 use Rattle.refusal.specs.declared.Refusal.{Refusal}
 use Rattle.refusal.specs.declared.Refusal.TheVariants.{Kind}
 use Rattle.refusal.specs.Told.{Reply}
-use Rattle.std.specs.Prelude.{Ok, Err, is_err}
+use Rattle.std.specs.Prelude.{Result as Outcome, Ok, Err, is_err}
 use Rattle.refusal.proofs.Numbers.{told-once}
 use Rattle.heap.specs.State.{State, slot_at, live}
 use Rattle.heap.specs.Packing.{start_of}
@@ -30,8 +30,10 @@ use Rattle.heap.specs.Done.{Leaves, Tells}
 use Rattle.heap.proofs.Sound.{Sound}
 use Rattle.heap.proofs.Storing.{view-stored}
 use Rattle.heap.proofs.Testing.{formed-tested}
+use Rattle.heap_calls.specs.Kinds.{kind_number, kind_of}
+use Rattle.heap_calls.specs.declared.kind.ObjectKind.{ObjectKind}
 use Rattle.object_door.specs.ObjectCalls.{is_kind, allocating}
-use Rattle.object_door.proofs.Objects.{kind-low, kind-high, kind-good, of-kind, no_kind}
+use Rattle.object_door.proofs.Objects.{kind-good, found-kind, missing-kind, of-kind, no_kind}
 use Rattle.script.specs.Found.{DataThere}
 use Rattle.script.specs.declared.AllocLine.{AllocLine}
 use Rattle.script.proofs.Refusing.{Numbered, alloc-numbered}
@@ -136,14 +138,14 @@ module _ (l : Lent) (w : well_formed l ≡ true) (k t : ℕ) (low : 1 ≤ k) (hi
 
 -- ---- by kind
 
-module _ (l : Lent) (w : well_formed l ≡ true) (s : List ℕ) (a : AllocLine) where
-  pub place-low : a.kind < 1 → Tells here nothing l l (Err Kind) (allocating (slot_count l) (pool_size l) a.kind a.ty 0 (hex_at s a.from) (view l))
-  place-low h = no_kind l a.kind a.ty 0 (hex_at s a.from) (sym (kind-low a.kind h)) w
+module _ (l : Lent) (w : well_formed l ≡ true) (s : List ℕ) (a : AllocLine) {r : Outcome ObjectKind Refusal} (p : r ≡ kind_of a.kind) where
+  pub place-other : (why : Refusal) → r ≡ Err why → Tells here nothing l l (Err why) (allocating (slot_count l) (pool_size l) a.kind a.ty 0 (hex_at s a.from) (view l))
+  place-other why q =
+      let f = missing-kind a.kind why p q in
+      rw f.0 (no_kind l a.kind a.ty 0 (hex_at s a.from) f.1 w)
 
-  module _ (low : 1 ≤ a.kind) where
-    pub place-high : 3 < a.kind → Tells here nothing l l (Err Kind) (allocating (slot_count l) (pool_size l) a.kind a.ty 0 (hex_at s a.from) (view l))
-    place-high h = no_kind l a.kind a.ty 0 (hex_at s a.from) (sym (kind-high a.kind low h)) w
-
-    pub place-good : (l' : Lent) (reply : Reply) → a.kind ≤ 3 → PlaceDoes l l' reply a.kind a.ty (hex_at s a.from)
-        → Tells here nothing l l' reply (allocating (slot_count l) (pool_size l) a.kind a.ty 0 (hex_at s a.from) (view l))
-    place-good l' reply high d = of-kind l a.kind a.ty 0 (hex_at s a.from) l' reply (sym (kind-good a.kind low high)) d
+  pub place-good : (k : ObjectKind) → r ≡ Ok k → (l' : Lent) (reply : Reply) → PlaceDoes l l' reply (kind_number k) a.ty (hex_at s a.from)
+      → Tells here nothing l l' reply (allocating (slot_count l) (pool_size l) a.kind a.ty 0 (hex_at s a.from) (view l))
+  place-good k q l' reply d =
+      let f = found-kind a.kind k p q in
+      of-kind l a.kind a.ty 0 (hex_at s a.from) l' reply f.1 (rw f.0 at d)

@@ -8,12 +8,13 @@ ghost use Rattle.heap.specs.Lent.{lent, view};
 ghost use Rattle.heap.specs.WellFormed.{well_formed};
 ghost use Rattle.heap.specs.Done.{Tells};
 ghost use Rattle.refusal.specs.Told.{here, nothing};
+ghost use Rattle.heap_calls.specs.Kinds.{kind_number};
 ghost use Rattle.script.specs.Found.{DataThere};
 ghost use Rattle.object_door.specs.ObjectCalls.{allocating};
 ghost use Rattle.rehearsal_place.specs.Decoding.{Spelled, PlaceDoes};
 
 use heap::{Changed, Heap};
-use refusal::Refusal;
+use heap_calls::kind::ObjectKind;
 use script::AllocLine;
 
 // Places the object of kind `k` whose data the text spells: 6, then 5.
@@ -22,18 +23,17 @@ fn place_spelled(
     narrow: &mut [u32],
     wide: &mut [u64],
     pool: &mut [u8],
-    k: u8,
+    k: ObjectKind,
     t: u32,
     s: &[u8],
     from: usize,
     count: usize,
 ) -> Changed
     requires pool_value { well_formed (lent heap narrow.old wide.old pool.old) ≡ true }
-    requires le_k { (1 ≤ k) × (k ≤ 3) }
     requires spelled { Spelled s.now from count }
     ensures { PlaceDoes
         (lent heap narrow.old wide.old pool.old)
-        (lent result.heap narrow.new wide.new pool.new) result.reply k t (hex_at s.now from) }
+        (lent result.heap narrow.new wide.new pool.new) result.reply (kind_number k) t (hex_at s.now from) }
 {
     let done = heap_calls::alloc_from(heap, narrow, wide, pool, k, t, 0, &s[from..from + count]);
     let x = match done.reply {
@@ -65,19 +65,14 @@ pub fn place(
         (allocating (length narrow.old / 6) (length pool.old) a.kind a.ty 0 (hex_at s.now a.from)
         (view (lent heap narrow.old wide.old pool.old))) }
 {
-    let k = a.kind;
-    if k < 1 {
-        return Changed {
+    match ObjectKind::try_from(a.kind) {
+        Ok(k) => {
+            let ty = a.ty as u32;
+            place_spelled(heap, narrow, wide, pool, k, ty, s, a.from, a.count)
+        }
+        Err(why) => Changed {
             heap: heap,
-            reply: Err(Refusal::Kind),
-        };
+            reply: Err(why),
+        },
     }
-    if 3 < k {
-        return Changed {
-            heap: heap,
-            reply: Err(Refusal::Kind),
-        };
-    }
-    let ty = a.ty as u32;
-    place_spelled(heap, narrow, wide, pool, k as u8, ty, s, a.from, a.count)
 }

@@ -10,15 +10,18 @@ use Rattle.word.proofs.PutLaws.{mid-put}
 use Rattle.text.specs.Put.{Puts, put_text}
 use Rattle.text.specs.Answer.{hex_at}
 use Rattle.refusal.specs.Told.{here, nothing}
+use Rattle.refusal.specs.declared.Refusal.{Refusal}
 use Rattle.refusal.specs.declared.Refusal.TheVariants.{Kind, NoRoom}
 use Rattle.refusal.specs.Told.{Reply}
-use Rattle.std.specs.Prelude.{Err}
+use Rattle.std.specs.Prelude.{Result as Outcome, Ok, Err}
 use Rattle.heap.specs.Lent.{Lent, view, slot_count, pool_size}
 use Rattle.heap.specs.Calls.{refuse, alloc_from}
 use Rattle.heap.specs.Done.{Tells}
 use Rattle.heap_calls.proofs.Allocating.{alloc-none}
+use Rattle.heap_calls.specs.Kinds.{kind_number, kind_of}
+use Rattle.heap_calls.specs.declared.kind.ObjectKind.{ObjectKind}
 use Rattle.object_door.specs.ObjectCalls.{allocating}
-use Rattle.object_door.proofs.Objects.{refuses, kind-low, kind-high, kind-good, of-kind, no_kind}
+use Rattle.object_door.proofs.Objects.{refuses, found-kind, missing-kind, of-kind, no_kind}
 use Rattle.script.specs.Script.{doing}
 use Rattle.script.specs.Found.{DataThere, call_at}
 use Rattle.script.specs.declared.AllocLine.{AllocLine}
@@ -48,22 +51,21 @@ module _ (l : Lent) (room s : List ℕ) (a : AllocLine) (can : CanRun l room) wh
             d.says;
       }
 
-  pub placed-low : a.kind < 1 → LineEnds l l (Err Kind) (some (call_at s a))
-  placed-low h = ended l (Err Kind) (no_kind l a.kind a.ty 0 (hex_at s a.from) (sym (kind-low a.kind h)) can.formed)
+  pub placed-other : (why : Refusal) {r : Outcome ObjectKind Refusal} → r ≡ kind_of a.kind → r ≡ Err why → LineEnds l l (Err why) (some (call_at s a))
+  placed-other why p q =
+      let f = missing-kind a.kind why p q in
+      rw f.0 (ended l (Err Kind) (no_kind l a.kind a.ty 0 (hex_at s a.from) f.1 can.formed))
 
-  pub placed-high : 1 ≤ a.kind → 3 < a.kind → LineEnds l l (Err Kind) (some (call_at s a))
-  placed-high g h = ended l (Err Kind) (no_kind l a.kind a.ty 0 (hex_at s a.from) (sym (kind-high a.kind g h)) can.formed)
-
-  module _ (low : 1 ≤ a.kind) (high : a.kind ≤ 3) (there : DataThere s a) where
+  module _ (k : ObjectKind) {r : Outcome ObjectKind Refusal} (p : r ≡ kind_of a.kind) (q : r ≡ Ok k) (there : DataThere s a) where
     pub placed-none : pool_size l < a.count → LineEnds l l (Err NoRoom) (some (call_at s a))
     placed-none h =
         let e : alloc_from (slot_count l) (pool_size l) (view l) a.kind a.ty 0 (hex_at s a.from) ≡ refuse 6 (view l) =
         alloc-none (slot_count l) (pool_size l) (view l) a.kind a.ty 0 (hex_at s a.from) (omega (arith, there.counted)) in
         ended l (Err NoRoom)
-        (of-kind l a.kind a.ty 0 (hex_at s a.from) l (Err NoRoom) (sym (kind-good a.kind low high)) (rw e (refuses here nothing l can.formed)))
+        (of-kind l a.kind a.ty 0 (hex_at s a.from) l (Err NoRoom) (found-kind a.kind k p q).1 (rw e (refuses here nothing l can.formed)))
 
     pub placed-done : (l' : Lent) (reply : Reply) (bytes : List ℕ) → bytes ≡ hex_at s a.from
-        → Tells here nothing l l' reply (alloc_from (slot_count l) (pool_size l) (view l) a.kind a.ty 0 bytes)
+        → Tells here nothing l l' reply (alloc_from (slot_count l) (pool_size l) (view l) (kind_number k) a.ty 0 bytes)
         → LineEnds l l' reply (some (call_at s a))
     placed-done l' reply bytes e d =
-        ended l' reply (of-kind l a.kind a.ty 0 (hex_at s a.from) l' reply (sym (kind-good a.kind low high)) (rw (← e) d))
+        ended l' reply (of-kind l a.kind a.ty 0 (hex_at s a.from) l' reply (found-kind a.kind k p q).1 (rw (← e) (rw (found-kind a.kind k p q).0 at d)))

@@ -15,6 +15,7 @@ ghost use Rattle.run_door.specs.Inner.Steps.{LineEnds, CanRun};
 
 use door::{Done, enter};
 use heap::{Changed, Heap};
+use heap_calls::kind::ObjectKind;
 use refusal::{Answer, Refusal};
 use script::{AllocLine, Line, begins_call, next_after, read_line};
 
@@ -34,20 +35,16 @@ fn do_alloc(
         (lent heap narrow.old wide.old pool.old)
         (lent result.heap narrow.new wide.new pool.new) result.reply (some (call_at s.now a)) }
 {
-    let k = a.kind;
+    let kind = match ObjectKind::try_from(a.kind) {
+        Ok(kind) => kind,
+        Err(why) => {
+            return Changed {
+                heap: heap,
+                reply: Err(why),
+            };
+        }
+    };
     let count = a.count;
-    if k < 1 {
-        return Changed {
-            heap: heap,
-            reply: Err(Refusal::Kind),
-        };
-    }
-    if 3 < k {
-        return Changed {
-            heap: heap,
-            reply: Err(Refusal::Kind),
-        };
-    }
     if pool.len() < count {
         return Changed {
             heap: heap,
@@ -56,7 +53,7 @@ fn do_alloc(
     }
     text::copy_hex(s, a.from, count, room, 0);
     let ty = a.ty as u32;
-    heap_calls::alloc_from(heap, narrow, wide, pool, k as u8, ty, 0, &room[..count])
+    heap_calls::alloc_from(heap, narrow, wide, pool, kind, ty, 0, &room[..count])
 }
 
 // The call of a line that was read. A bad line is 17.

@@ -12,7 +12,7 @@ use Rattle.std.specs.Result.{MatchResult, IsOkAnd}
 use Rattle.std.specs.declared.cmp.Ordering.{Ordering}
 use Rattle.word.specs.Result.{Result, ok, refused}
 use Rattle.word.proofs.Bools.{and_both}
-use Rattle.refusal.specs.Told.{told, answered, nothing}
+use Rattle.refusal.specs.Told.{Reply, told, answered, nothing}
 use Rattle.refusal.specs.declared.Answer.{Answer}
 use Rattle.refusal.specs.declared.Refusal.{Refusal}
 use Rattle.refusal.specs.declared.Refusal.TheVariants.{TypeTable, Untraceable as CannotTrace}
@@ -30,7 +30,7 @@ use Rattle.saves.specs.Right.{RightSame, RightOrder}
 use Rattle.saves.proofs.Turning.{ordered, by_ordering}
 use Rattle.saves.proofs.Theorem.{rightly-same, rightly-ordered}
 use Rattle.same_door.specs.Inner.Both.{both_tests}
-use Rattle.same_door.specs.Inner.Numbers.{reply_of, reply_by, Compares}
+use Rattle.same_door.specs.Inner.Numbers.{reply_by, Compares}
 
 -- ---- the type table after the heaps
 
@@ -112,15 +112,15 @@ module _ (w : Words) (s t : Save) {e : Entry} {m' w' om' ow' : List ℕ} (x : En
 -- ---- the two calls
 
 -- a number read off the order
-abbrev pub Mapped : (Ordering → ℕ) → (found : Told Ordering Refusal) (mapped : Told ℕ Refusal) → Type 0
-Mapped number found mapped = MatchResult found (λ o. IsOkAnd mapped (λ n. n ≡ number o)) (λ why. mapped ≡ Err why)
+abbrev pub Mapped : (Ordering → ℕ) → (found : Told Ordering Refusal) (reply : Reply) → Type 0
+Mapped number found reply = MatchResult found (λ o. IsOkAnd reply (λ values. values ≡ (number o, 0))) (λ why. reply ≡ Err why)
 
-read-off : (number : Ordering → ℕ) (found : Told Ordering Refusal) (mapped : Told ℕ Refusal) → Mapped number found mapped → reply_of mapped ≡ reply_by number found
-read-off number (Ok o) (Ok n) e = ap (λ (k : ℕ). Ok (k, 0)) e
+read-off : (number : Ordering → ℕ) (found : Told Ordering Refusal) (reply : Reply) → Mapped number found reply → reply ≡ reply_by number found
+read-off number (Ok o) (Ok values) e = ap (λ (v : ℕ × ℕ). Ok v) e
 read-off number (Ok o) (Err why) e = absurd e
-read-off number (Err why) mapped e = ap reply_of e
+read-off number (Err why) reply e = e
 
-module _ (w : Words) (s t : Save) (found : Told Ordering Refusal) (scratch : List (List ℕ)) (k : Compares w s t found scratch) (mapped : Told ℕ Refusal) (r : Answer) (er : r ≡ told (reply_of mapped)) where
+module _ (w : Words) (s t : Save) (found : Told Ordering Refusal) (scratch : List (List ℕ)) (k : Compares w s t found scratch) (mapped : Reply) (r : Answer) (er : r ≡ told mapped) where
   reads : (number : Ordering → ℕ) → Mapped number found mapped → asked_of r scratch ≡ comparing number w s t
   reads number q = ap (λ (y : Answer). asked_of y scratch) (er ∙ ap told (read-off number found mapped q)) ∙ k number
 

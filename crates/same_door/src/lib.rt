@@ -5,10 +5,9 @@
 ghost use Rattle.std.specs.Prelude.{◌≡◌, ◌&&◌, [], ◌∷◌, ◌/◌, length, leb};
 ghost use Rattle.heap.specs.Lent.{lent};
 ghost use Rattle.door.specs.HeapCalls.{Entered, asked_of};
-ghost use Rattle.refusal.specs.Told.{told};
 ghost use Rattle.saves.specs.Saves.{save_of, words_of, save_tests, same_number, order_number, same_call, order_call};
 ghost use Rattle.saves.specs.Right.{RightSame, RightOrder};
-ghost use Rattle.same_door.specs.Inner.Numbers.{reply_of, Compares};
+ghost use Rattle.same_door.specs.Inner.Numbers.{Compares};
 ghost use Rattle.same_door.specs.Inner.Both.{both_tests};
 
 use heap::Heap;
@@ -197,30 +196,20 @@ fn compare_saves(
 }
 
 // What `same` tells: 1 yes, 0 no. Equal heaps are the same model.
-fn same_number(o: Ordering) -> u64
-    ensures { result ≡ same_number o }
+fn same_values(o: Ordering) -> (u64, u64)
+    ensures { result ≡ (same_number o, 0) }
 {
-    u64::from(o.is_eq())
+    (u64::from(o.is_eq()), 0)
 }
 
 // What `order` tells: 0 less, 1 equal, 2 greater.
-fn order_number(o: Ordering) -> u64
-    ensures { result ≡ order_number o }
+fn order_values(o: Ordering) -> (u64, u64)
+    ensures { result ≡ (order_number o, 0) }
 {
     match o {
-        Ordering::Less => 0,
-        Ordering::Equal => 1,
-        Ordering::Greater => 2,
-    }
-}
-
-// The answer of a call: the number that it tells of the order.
-fn reply_of(found: Result<u64, Refusal>) -> Answer
-    ensures { result ≡ told (reply_of found) }
-{
-    match found {
-        Ok(number) => Answer::from(Ok((number, 0))),
-        Err(why) => Answer::from(Err(why)),
+        Ordering::Less => (0, 0),
+        Ordering::Equal => (1, 0),
+        Ordering::Greater => (2, 0),
     }
 }
 
@@ -278,7 +267,7 @@ pub fn yexwalu_same(
         other_marks,
         other_work,
     );
-    reply_of(found.map(same_number))
+    Answer::from(found.map(same_values))
 }
 
 // Which of two heaps comes first: the shorter root list, then the roots as handle places, then the objects in the order first met. 18, 1, 10, 13. first: 0 less (the heap that is
@@ -335,5 +324,5 @@ pub fn yexwalu_order(
         other_marks,
         other_work,
     );
-    reply_of(found.map(order_number))
+    Answer::from(found.map(order_values))
 }

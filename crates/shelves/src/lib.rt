@@ -10,6 +10,7 @@ ghost use Rattle.shelves.specs.Inner.Steps.{GoodAt, Good, Begins, Reads, Takes, 
 use figures::{Figures, Shown};
 
 // Where a run stands in its input.
+// Kept: four states with names, none of them an absence or an error; `None` for the end would say less than `Over`.
 #[derive(Clone, Copy)]
 pub enum At {
     // A length line is due. So many digits of it were read, and they spell this number.
@@ -23,6 +24,7 @@ pub enum At {
 }
 
 // What some more input comes to.
+// Kept: three outcomes with names; as a ControlFlow over an Option the page that was passed over would be a `Break(None)`.
 #[derive(Clone, Copy)]
 pub enum Next {
     // No page has ended.
@@ -46,20 +48,11 @@ fn begun(n: usize) -> Next
     Next::Still(At::Page(n, 0))
 }
 
-fn wide_byte(b: u8) -> u64
-    ensures { result ≡ b }
-{
-    b as u64
-}
-
 // May a digit follow `k` digits that spell `n`? None follows a zero.
 fn may_follow(k: u64, n: u64) -> bool
     ensures { result ≡ (eqb k 0 || ltb 0 n) }
 {
-    if k == 0 {
-        return true;
-    }
-    0 < n
+    k == 0 || 0 < n
 }
 
 // One byte of a length line, after `k` digits that spell `n`.
@@ -67,25 +60,25 @@ fn take_byte(k: u64, n: u64, b: u8) -> Next
     requires { GoodAt (At.Line k n) }
     ensures { Reads k n b result }
 {
-    if b == 10 {
+    if b == b'\n' {
         if k == 0 {
             return Next::Still(At::Over);
         }
         return begun(n as usize);
     }
-    if b < 48 {
+    if b < b'0' {
         return Next::Still(At::Over);
     }
-    if 57 < b {
+    if b'9' < b {
         return Next::Still(At::Over);
     }
     if k == 18 {
         return Next::Still(At::Over);
     }
-    if may_follow(k, n) {} else {
+    if !may_follow(k, n) {
         return Next::Still(At::Over);
     }
-    Next::Still(At::Line(k + 1, n * 10 + wide_byte(b - 48)))
+    Next::Still(At::Line(k + 1, n * 10 + u64::from(b - b'0')))
 }
 
 // What was taken in, and how many bytes of the input that took.
@@ -95,29 +88,23 @@ pub struct Taken {
     pub used: usize,
 }
 
-fn least(a: usize, b: usize) -> usize
-    ensures { result ≡ min a b }
-{
-    if a < b { a } else { b }
-}
-
 // More bytes of a page of `n`, of which `have` are held.
 fn take_page(n: usize, have: usize, input: &[u8], held: &mut [u8; 32768]) -> Taken
     requires { GoodAt (At.Page n have) }
     ensures { Takes (At.Page n have) held.old input.now result.next result.used held.new }
 {
-    let used = least(n - have, input.len());
+    let used = (n - have).min(input.len());
     memory::copy(held, have, &input[..used]);
     let now = have + used;
     if now < n {
         return Taken {
             next: Next::Still(At::Page(n, now)),
-            used: used,
+            used,
         };
     }
     Taken {
         next: Next::Whole(n),
-        used: used,
+        used,
     }
 }
 
@@ -144,7 +131,7 @@ fn take_line(k: u64, n: u64, input: &[u8]) -> Taken
     requires { GoodAt (At.Line k n) }
     ensures { (held : List ℕ) → Takes (At.Line k n) held input.now result.next result.used held }
 {
-    if input.len() == 0 {
+    if input.is_empty() {
         return Taken {
             next: Next::Still(At::Line(k, n)),
             used: 0,
@@ -200,7 +187,7 @@ impl Shelf {
         let before = self.total;
         let pages = self.pages + 1;
         Shelf {
-            pages: pages,
+            pages,
             total: before.merged(figures),
             at: due(pages),
         }
@@ -210,13 +197,7 @@ impl Shelf {
     pub fn is_over(self) -> bool
         ensures { result ≡ is_over self.at }
     {
-        let at = self.at;
-        match at {
-            At::Line(_, _) => false,
-            At::Page(_, _) => false,
-            At::Passing(_) => false,
-            At::Over => true,
-        }
+        matches!(self.at, At::Over)
     }
 }
 
@@ -239,7 +220,7 @@ fn answer(shelf: Shelf, shown: Shown, used: usize, out: &mut [u8; 65536], to: us
     let end = figures::put_line(out, to, shelf.pages + 1, shown.answer, figures);
     Progress {
         shelf: shelf.after(figures),
-        used: used,
+        used,
         to: end,
     }
 }
@@ -260,20 +241,13 @@ fn step(
     requires { Good shelf × (to + 160 ≤ 65536) }
     ensures { Goes shelf held.old input.now out.old to result.shelf held.new out.new result.used result.to }
 {
-    let at = shelf.at;
-    let taken = take_in(at, input, held);
-    let next = taken.next;
-    match next {
+    let taken = take_in(shelf.at, input, held);
+    match taken.next {
         Next::Still(now) => {
-            let total = shelf.total;
             Progress {
-                shelf: Shelf {
-                    pages: shelf.pages,
-                    total: total,
-                    at: now,
-                },
+                shelf: Shelf { at: now, ..shelf },
                 used: taken.used,
-                to: to,
+                to,
             }
         }
         Next::Whole(n) => {
@@ -296,7 +270,7 @@ pub fn begin(out: &mut [u8; 65536]) -> Progress
             at: due(0),
         },
         used: 0,
-        to: to,
+        to,
     }
 }
 
@@ -320,11 +294,7 @@ pub fn go_on(
     let mut to = 0;
     while used < input.len() {
         if 65376 < to {
-            return Progress {
-                shelf: s,
-                used: used,
-                to: to,
-            };
+            return Progress { shelf: s, used, to };
         }
         let now = step(
             s,
@@ -342,11 +312,7 @@ pub fn go_on(
         used += now.used;
         to = now.to;
     }
-    Progress {
-        shelf: s,
-        used: used,
-        to: to,
-    }
+    Progress { shelf: s, used, to }
 }
 
 // Is a page begun or, where the input could not be read on, due?
@@ -355,8 +321,7 @@ fn is_cut_off(at: At, failed: bool) -> bool
 {
     match at {
         At::Line(_, _) => failed,
-        At::Page(_, _) => true,
-        At::Passing(_) => true,
+        At::Page(_, _) | At::Passing(_) => true,
         At::Over => false,
     }
 }
@@ -366,11 +331,9 @@ pub fn finish(shelf: Shelf, failed: bool, out: &mut [u8; 65536]) -> usize
     requires { Good shelf }
     ensures { Ends shelf failed out.new result }
 {
-    let total = shelf.total;
-    let at = shelf.at;
-    if is_cut_off(at, failed) {
+    if is_cut_off(shelf.at, failed) {
         let to = figures::put_line(out, 0, shelf.pages + 1, 17, Figures::none());
-        return figures::put_line(out, to, 0, 0, total);
+        return figures::put_line(out, to, 0, 0, shelf.total);
     }
-    figures::put_line(out, 0, 0, 0, total)
+    figures::put_line(out, 0, 0, 0, shelf.total)
 }

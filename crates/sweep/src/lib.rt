@@ -29,15 +29,13 @@ fn compact(n: usize, kind: &[u32], end: &mut [u64], pool: &mut [u8])
     requires { CanCompact n kind.now end.old pool.old }
     ensures { Compacted n kind.now end.old pool.old end.new pool.new }
 {
-    let mut i = 0;
     let mut from = 0;
     let mut to = 0;
-    while i < n {
+    for i in 0..n {
         let e = end[i] as usize;
         to = settle(kind[i], from, e, to, pool);
         end[i] = to as u64;
         from = e;
-        i += 1;
     }
     memory::fill(pool, to, from, 0);
 }
@@ -95,10 +93,8 @@ fn release_unmarked(
     let n = heap.slots;
     let s = narrow.len() / 6;
     let mut h = heap;
-    let mut i = 0;
-    while i < n {
+    for i in 0..n {
         h = visit(h, narrow, wide, s, i, marks[i]);
-        i += 1;
     }
     h
 }
@@ -120,14 +116,12 @@ fn live_size(n: usize, kind: &[u32], end: &[u64]) -> u64
     requires { CanSize n kind.now end.now }
     ensures { result ≡ sizes_in n kind.now end.now }
 {
-    let mut i = 0;
     let mut from = 0;
     let mut sum: u64 = 0;
-    while i < n {
+    for i in 0..n {
         let e = end[i] as usize;
         sum += size_one(kind[i], from, e);
         from = e;
-        i += 1;
     }
     sum
 }
@@ -150,11 +144,9 @@ fn all_stay(n: usize, kind: &[u32], marks: &[u8]) -> bool
     requires { (n ≤ length kind.now) × (n ≤ length marks.now) }
     ensures { result ≡ all_stay n kind.now marks.now }
 {
-    let mut i = 0;
     let mut seen: u8 = 0;
-    while i < n {
+    for i in 0..n {
         seen = seen | going(kind[i], marks[i]);
-        i += 1;
     }
     seen == 0
 }

@@ -15,9 +15,9 @@ use Rattle.table_check.specs.Verdict.{verdict}
 use Rattle.table_check.specs.Inner.Parsing.{table_of, Sectioned}
 use Rattle.table_check.specs.Inner.Admitting.{Admitted}
 use Rattle.table_check.specs.declared.Sections.{Sections}
-use Rattle.table_check.specs.declared.Checked.TheVariants.{Good, Not}
+use Rattle.std.specs.Prelude.{Ok, Err}
 
-pub admitted-17 : {s : List ℕ} → read_table s ≡ none → Admitted s (Not Page)
+pub admitted-17 : {s : List ℕ} → read_table s ≡ none → Admitted s (Err Page)
 unfolding verdict
 admitted-17 {s} e = record {
   table = λ x q. absurd (let z : ◌≡◌ {A = ℕ} 0 1 = cc in omega arith);
@@ -25,14 +25,14 @@ admitted-17 {s} e = record {
 }
 
 module _ {s : List ℕ} {x : Sections} (p : Sectioned s x) where
-  pub admitted-10 : good (table_of s) ≡ false → Admitted s (Not TypeTable)
+  pub admitted-10 : good (table_of s) ≡ false → Admitted s (Err TypeTable)
   unfolding verdict
   admitted-10 e = record {
     table = λ y q. absurd (let z : ◌≡◌ {A = ℕ} 0 1 = cc in omega arith);
     not = λ why q. subst (λ (w : Refusal). verdict (read_table s) ≡ refused (number_of w)) (let v : TypeTable ≡ why = cc in v) (rw (p.table, e));
   }
 
-  pub admitted : good (table_of s) ≡ true → Admitted s (Good x)
+  pub admitted : good (table_of s) ≡ true → Admitted s (Ok x)
   unfolding verdict
   admitted e = record {
     table = λ y q. subst (λ (z : Sections). Sectioned s z × (verdict (read_table s) ≡ ok (table_of s))) (let v : x ≡ y = cc in v) (p, rw (p.table, e));

@@ -5,6 +5,7 @@ use mathlib.Core.Bool.{Bool}
 use mathlib.Core.Option.{Option, none, some}
 use mathlib.Core.Logic.{◌⊎◌, ⊎_elim}
 use mathlib.Core.Path.{◌≡◌, refl, sym, ap, ◌∙◌, subst}
+use Rattle.std.specs.Prelude.{Some, None}
 use lib.ListN.{length, take, drop, length-append, length-take, length-drop, drop_of_length-le}
 use lib.Seq.{drop-cons, take-append-le, take-take, length-take-le, take_all}
 use native.Mathlib.Omega.{arith}
@@ -26,7 +27,6 @@ use Rattle.table_check.specs.Inner.Edges.{counts_of, CountsFound, BytesFound}
 use Rattle.table_check.specs.Inner.Parsing.{table_of, RowsStand, SectionedAs, Sectioned, HoldingAs, Holding, ParsedAs}
 use Rattle.table_check.specs.declared.CountsRead.{CountsRead}
 use Rattle.table_check.specs.declared.Sections.{Sections}
-use Rattle.table_check.specs.declared.Parsed.TheVariants.{Table, NotTable}
 
 section-reads : {names : List ℕ} {k most : ℕ} {s : List ℕ} {at count : ℕ} {before after : List ℕ} {to b size next : ℕ} (f : SectionFound names k most s at count before after to b size next) →
     (rows_format names count k most).read (drop at s) ≡ give f.rows.values (drop next s)
@@ -157,7 +157,7 @@ module _ (s : List ℕ) where
                   whole-front l xs =
                       ap (λ (m : ℕ). take m (put_text l 0 xs)) (sym (zero-add (length xs))) ∙ take_put l 0 xs (length xs) (omega arith) (omega arith) ∙ take_all (length xs) xs (omega arith)
 
-              pub parsed-there : ParsedAs s w w2 h h1 (Table sections)
+              pub parsed-there : ParsedAs s w w2 h h1 (Some sections)
               parsed-there = record {
                 found = λ x q.
                     subst (λ (z : Sections). Sectioned s z × Holding s w2 h1) (let v : sections ≡ x = cc in v)
@@ -165,7 +165,7 @@ module _ (s : List ℕ) where
                 lost = λ q. absurd (let z : ◌≡◌ {A = ℕ} 0 1 = cc in omega arith);
               }
 
-pub parsed-lost : {s w w' h h' : List ℕ} → read_table s ≡ none → ParsedAs s w w' h h' NotTable
+pub parsed-lost : {s w w' h h' : List ℕ} → read_table s ≡ none → ParsedAs s w w' h h' None
 parsed-lost e = record { found = λ x q. absurd (let z : ◌≡◌ {A = ℕ} 0 1 = cc in omega arith); lost = λ q. e }
 
 -- A TABLE'S BYTES COUNT BY THEIR NUMBER

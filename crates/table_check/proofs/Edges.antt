@@ -17,8 +17,7 @@ use Rattle.tables.specs.Table.{up_to, count_names, bytes_name, Counts, counts_fo
 use Rattle.tables.proofs.Laws.{up-to-right, num, last}
 use Rattle.table_check.specs.Inner.Edges.{counts_of, CountsFound, CountsGot, BytesFound, BytesGot}
 use Rattle.table_check.specs.declared.CountsRead.{CountsRead}
-use Rattle.table_check.specs.declared.CountsLine.TheVariants.{Counts as Counts-of, NoCounts}
-use Rattle.table_check.specs.declared.BytesLine.TheVariants.{Bytes as Bytes_of, NoBytes}
+use Rattle.table_check.specs.declared.BytesRead.{BytesRead}
 
 field_in : (s : List ℕ) (most end at : ℕ) → Right (up_to most end) (λ n. n ≤ most) → {r : Option (ℕ × ℕ)} (n k : ℕ) → r ≡ value_answer (length s) (read_field most end (drop at s)) → r ≡ Some (n, k) →
     (read_field most end (drop at s) ≡ give n (drop k s)) × (k ≤ length s) × (n ≤ most)
@@ -29,25 +28,25 @@ field_in s most end at right n k e f =
     (x.1 ∙ ap (give n) (suffix ((up_to most end).print n) x.0 s at b.1 ∙ ap (λ (m : ℕ). drop m s) (sym x.2)), omega (arith, x.2), b.0)
 
 module _ (s : List ℕ) where
-  no-counts : counts_format.read (drop 0 s) ≡ none → CountsGot s NoCounts
+  no-counts : counts_format.read (drop 0 s) ≡ none → CountsGot s None
   no-counts e = record { found = λ x q. absurd (let z : ◌≡◌ {A = ℕ} 0 1 = cc in omega arith); lost = λ q. e }
 
-  pub counts-nameless : read_literal count_names (drop 0 s) ≡ none → CountsGot s NoCounts
+  pub counts-nameless : read_literal count_names (drop 0 s) ≡ none → CountsGot s None
   unfolding counts_format after_literal
   counts-nameless e = no-counts (rw e)
 
   module _ (a : ℕ) (e0 : read_literal count_names (drop 0 s) ≡ some (drop a s)) where
-    pub counts-none-1 : {r : Option (ℕ × ℕ)} → r ≡ value_answer (length s) (read_field 4096 44 (drop a s)) → r ≡ None → CountsGot s NoCounts
+    pub counts-none-1 : {r : Option (ℕ × ℕ)} → r ≡ value_answer (length s) (read_field 4096 44 (drop a s)) → r ≡ None → CountsGot s None
     unfolding counts_format after_literal pair up_to
     counts-none-1 e f = no-counts (rw (e0, answer-none s (read_field 4096 44 (drop a s)) e f))
 
     module _ {r1 : Option (ℕ × ℕ)} (t b : ℕ) (e1 : r1 ≡ value_answer (length s) (read_field 4096 44 (drop a s))) (f1 : r1 ≡ Some (t, b)) where
-      pub counts-none-2 : {r : Option (ℕ × ℕ)} → r ≡ value_answer (length s) (read_field 16384 44 (drop b s)) → r ≡ None → CountsGot s NoCounts
+      pub counts-none-2 : {r : Option (ℕ × ℕ)} → r ≡ value_answer (length s) (read_field 16384 44 (drop b s)) → r ≡ None → CountsGot s None
       unfolding counts_format after_literal pair up_to
       counts-none-2 e f = no-counts (rw (e0, (field_in s 4096 44 a (num 4096) t b e1 f1).0, answer-none s (read_field 16384 44 (drop b s)) e f))
 
       module _ {r2 : Option (ℕ × ℕ)} (f d : ℕ) (e2 : r2 ≡ value_answer (length s) (read_field 16384 44 (drop b s))) (f2 : r2 ≡ Some (f, d)) where
-        pub counts-none-3 : {r : Option (ℕ × ℕ)} → r ≡ value_answer (length s) (read_field 4096 10 (drop d s)) → r ≡ None → CountsGot s NoCounts
+        pub counts-none-3 : {r : Option (ℕ × ℕ)} → r ≡ value_answer (length s) (read_field 4096 10 (drop d s)) → r ≡ None → CountsGot s None
         unfolding counts_format after_literal pair up_to
         counts-none-3 e g =
             no-counts (rw (e0, (field_in s 4096 44 a (num 4096) t b e1 f1).0, (field_in s 16384 44 b (num 16384) f d e2 f2).0, answer-none s (read_field 4096 10 (drop d s)) e g))
@@ -57,7 +56,7 @@ module _ (s : List ℕ) where
           unfolding counts_format after_literal pair up_to
           reads_all = rw (e0, (field_in s 4096 44 a (num 4096) t b e1 f1).0, (field_in s 16384 44 b (num 16384) f d e2 f2).0, (field_in s 4096 10 d (last 4096) c e e3 f3).0)
 
-          pub counts-there : CountsGot s (Counts-of (record { types = t; fields = f; consts = c; next = e }))
+          pub counts-there : CountsGot s (Some (record { types = t; fields = f; consts = c; next = e }))
           counts-there = record {
             found = λ x q.
                 let v : ◌≡◌ {A = CountsRead} (record { types = t; fields = f; consts = c; next = e }) x = cc in
@@ -79,15 +78,15 @@ unfolding hex_at
 hex-is s b bs rest e = rw (e, hex_at)
 
 module _ (s : List ℕ) (at : ℕ) where
-  no_bytes : (bytes_format.read (drop at s) ≡ none) ⊎ ((l : List ℕ) × (e : ℕ) × (e < length s) × (bytes_format.read (drop at s) ≡ give l (drop e s))) → BytesGot s at NoBytes
-  no_bytes w = record { found = λ b n q. absurd (let z : ◌≡◌ {A = ℕ} 0 1 = cc in omega arith); lost = λ q. w }
+  no_bytes : (bytes_format.read (drop at s) ≡ none) ⊎ ((l : List ℕ) × (e : ℕ) × (e < length s) × (bytes_format.read (drop at s) ≡ give l (drop e s))) → BytesGot s at None
+  no_bytes w = record { found = λ x q. absurd (let z : ◌≡◌ {A = ℕ} 0 1 = cc in omega arith); lost = λ q. w }
 
-  pub bytes-nameless : read_literal bytes_name (drop at s) ≡ none → BytesGot s at NoBytes
+  pub bytes-nameless : read_literal bytes_name (drop at s) ≡ none → BytesGot s at None
   unfolding bytes_format after_literal
   bytes-nameless e = no_bytes (inl (rw e))
 
   module _ (b : ℕ) (e0 : read_literal bytes_name (drop at s) ≡ some (drop b s)) where
-    pub bytes-none : {r : Option (ℕ × ℕ)} → r ≡ hex_answer (length s) (read_hex (drop b s)) → r ≡ None → BytesGot s at NoBytes
+    pub bytes-none : {r : Option (ℕ × ℕ)} → r ≡ hex_answer (length s) (read_hex (drop b s)) → r ≡ None → BytesGot s at None
     unfolding bytes_format after_literal bytes_line
     bytes-none e f = no_bytes (inl (rw (e0, hex-missing s b e f)))
 
@@ -96,10 +95,10 @@ module _ (s : List ℕ) (at : ℕ) where
       unfolding bytes_format after_literal bytes_line
       reads_bytes = rw (e0, (hex-found s b n e g f).1)
 
-      pub bytes-over : e < length s → BytesGot s at NoBytes
+      pub bytes-over : e < length s → BytesGot s at None
       bytes-over h = no_bytes (inr ((hex-found s b n e g f).0, e, h, reads_bytes))
 
-      pub bytes-there : length s ≤ e → BytesGot s at (Bytes_of b n)
+      pub bytes-there : length s ≤ e → BytesGot s at (Some (record { begin = b; count = n }))
       bytes-there h =
           let w = hex-found s b n e g f in
           let is : hex_at s b ≡ w.0 = hex-is s b w.0 (drop e s) w.1 in
@@ -111,7 +110,8 @@ module _ (s : List ℕ) (at : ℕ) where
             short = omega (arith, w.2, ap length back.1, length-append (hex w.0) (newline ∷ drop e s), hex-length w.0, length-drop b s);
           } in
           record {
-            found = λ b' m q.
-                subst (BytesFound s at b') (let v : n ≡ m = cc in v) (subst (λ (x : ℕ). BytesFound s at x n) (let v : b ≡ b' = cc in v) there);
+            found = λ x q.
+                let v : ◌≡◌ {A = BytesRead} (record { begin = b; count = n }) x = cc in
+                subst (λ (y : BytesRead). BytesFound s at y.begin y.count) v there;
             lost = λ q. absurd (let z : ◌≡◌ {A = ℕ} 0 1 = cc in omega arith);
           }

@@ -26,8 +26,7 @@ use Rattle.tables.proofs.Endings.{Gathering, gather-begin, gather-next, gather-l
 use Rattle.tables.proofs.Naming.{NameFound, name-found, name-long, name-part}
 use Rattle.tables.proofs.Rowing.{flat_append, flat-snoc}
 use Rattle.table_check.specs.declared.Rows.{Rows}
-use Rattle.table_check.specs.declared.Rows.TheVariants.{Lines, NoRows}
-use Rattle.table_check.specs.declared.Section.TheVariants.{Found, Lost}
+use Rattle.table_check.specs.declared.Section.{Section}
 use Rattle.table_check.specs.Inner.Found.{Listed, RowsGot, SectionFound, SectionGot}
 
 abbrev pub line_of : (numbers name : List ℕ) → Row
@@ -108,42 +107,41 @@ names-snoc rows ns name = flat-snoc (λ (r : Row). name_text r.1) rows (line_of 
 -- ANSWERS BY THEIR CASES
 
 module _ {k most : ℕ} {s : List ℕ} {at count : ℕ} where
-  pub rows-missing : (before after : List ℕ) (to : ℕ) → read_all (row_format k most).read count (drop at s) ≡ none → RowsGot k most s at count before after to NoRows
-  rows-missing before after to f = record { lines = λ size next e. absurd (let z : ◌≡◌ {A = ℕ} 0 1 = cc in omega arith); lost = λ e. f }
+  pub rows-missing : (before after : List ℕ) (to : ℕ) → read_all (row_format k most).read count (drop at s) ≡ none → RowsGot k most s at count before after to None
+  rows-missing before after to f = record { lines = λ r e. absurd (let z : ◌≡◌ {A = ℕ} 0 1 = cc in omega arith); lost = λ e. f }
 
   pub rows-there : {before after : List ℕ} {to size next : ℕ} → GotAll (row_format k most).read s at count (Listed before after to size) next →
-      RowsGot k most s at count before after to (Lines size next)
+      RowsGot k most s at count before after to (Some (record { names = size; next = next }))
   rows-there {before} {after} {to} {size} {next} g = record {
-    lines = λ m n e.
-        subst (GotAll (row_format k most).read s at count (Listed before after to m)) (let v : next ≡ n = cc in v)
-        (subst (λ (x : ℕ). GotAll (row_format k most).read s at count (Listed before after to x) next) (let v : size ≡ m = cc in v) g);
+    lines = λ r e.
+        let v : ◌≡◌ {A = Rows} (record { names = size; next = next }) r = cc in
+        subst (λ (y : Rows). GotAll (row_format k most).read s at count (Listed before after to y.names) y.next) v g;
     lost = λ e. absurd (let z : ◌≡◌ {A = ℕ} 0 1 = cc in omega arith);
   }
 
 -- a names line, then lines
 module _ {names : List ℕ} {k most : ℕ} {s : List ℕ} {at count : ℕ} where
-  pub section-nameless : (before after : List ℕ) (to : ℕ) → read_literal names (drop at s) ≡ none → SectionGot names k most s at count before after to Lost
+  pub section-nameless : (before after : List ℕ) (to : ℕ) → read_literal names (drop at s) ≡ none → SectionGot names k most s at count before after to None
   unfolding rows_format after_literal
   section-nameless before after to f = record {
-    found = λ b m n e. absurd (let z : ◌≡◌ {A = ℕ} 0 1 = cc in omega arith);
+    found = λ r e. absurd (let z : ◌≡◌ {A = ℕ} 0 1 = cc in omega arith);
     lost = λ e. rw f;
   }
 
   pub section-rowless : (before after : List ℕ) (to b : ℕ) → read_literal names (drop at s) ≡ some (drop b s) → read_all (row_format k most).read count (drop b s) ≡ none →
-      SectionGot names k most s at count before after to Lost
+      SectionGot names k most s at count before after to None
   unfolding rows_format after_literal times
   section-rowless before after to b q f = record {
-    found = λ b m n e. absurd (let z : ◌≡◌ {A = ℕ} 0 1 = cc in omega arith);
+    found = λ r e. absurd (let z : ◌≡◌ {A = ℕ} 0 1 = cc in omega arith);
     lost = λ e. rw (q, f);
   }
 
   pub section-there : {before after : List ℕ} {to b size next : ℕ} → SectionFound names k most s at count before after to b size next →
-      SectionGot names k most s at count before after to (Found b size next)
+      SectionGot names k most s at count before after to (Some (record { begin = b; names = size; next = next }))
   section-there {before} {after} {to} {b} {size} {next} g = record {
-    found = λ b' m n e.
-        subst (SectionFound names k most s at count before after to b' m) (let v : next ≡ n = cc in v)
-        (subst (λ (x : ℕ). SectionFound names k most s at count before after to b' x next) (let v : size ≡ m = cc in v)
-        (subst (λ (x : ℕ). SectionFound names k most s at count before after to x size next) (let v : b ≡ b' = cc in v) g));
+    found = λ r e.
+        let v : ◌≡◌ {A = Section} (record { begin = b; names = size; next = next }) r = cc in
+        subst (λ (y : Section). SectionFound names k most s at count before after to y.begin y.names y.next) v g;
     lost = λ e. absurd (let z : ◌≡◌ {A = ℕ} 0 1 = cc in omega arith);
   }
 
@@ -175,11 +173,11 @@ module _ (k most : ℕ) (s : List ℕ) (at count : ℕ) (out₀ : List ℕ) (to 
   pub lining-room : i < count → j + k ≤ length out
   lining-room h = omega (arith, g.room, g.same, g.start, row_in k i count h)
 
-  pub lining-numbers-lost : (out' : List ℕ) → i < count → read_all (read_field most 44) k (drop p s) ≡ none → RowsGot k most s at count out₀ out' to NoRows
+  pub lining-numbers-lost : (out' : List ℕ) → i < count → read_all (read_field most 44) k (drop p s) ≡ none → RowsGot k most s at count out₀ out' to None
   lining-numbers-lost out' h e = rows-missing out₀ out' to (gather-lost (row_format k most).read s at count p i g.gathered h (row-numbers-lost k most (drop p s) e))
 
   pub lining-name-lost : (out' : List ℕ) (a : ℕ) (ns : List ℕ) → i < count → read_all (read_field most 44) k (drop p s) ≡ give ns (drop a s) → read_name (drop a s) ≡ none →
-      RowsGot k most s at count out₀ out' to NoRows
+      RowsGot k most s at count out₀ out' to None
   lining-name-lost out' a ns h e f = rows-missing out₀ out' to (gather-lost (row_format k most).read s at count p i g.gathered h (row-name-lost k most (drop p s) (drop a s) ns e f))
 
   module _ (h : i < count) (a next : ℕ) (ns : List ℕ) (e : read_all (read_field most 44) k (drop p s) ≡ give ns (drop a s)) (l : a ≤ length s) (n : NameFound s a next) where
@@ -205,7 +203,7 @@ module _ (k most : ℕ) (s : List ℕ) (at count : ℕ) (out₀ : List ℕ) (to 
           );
     }
 
-  pub lining-end : count ≤ i → RowsGot k most s at count out₀ out to (Lines size p)
+  pub lining-end : count ≤ i → RowsGot k most s at count out₀ out to (Some (record { names = size; next = p }))
   lining-end h =
       let d = gather-done (row_format k most).read s at count p i g.gathered h in
       rows-there (record { values = d.values; reads = d.reads; inside = d.inside; long = d.long; holds = (d.holds.0.out, d.holds.1) })
@@ -255,9 +253,9 @@ module _ (most : ℕ) (s : List ℕ) (at count : ℕ) (out₀ : List ℕ) (to : 
       (two-length out j (get_or row' 0 0) (get_or row' 1 0))
 
 -- lines that are known to stand there were put
-pub rows-filled : (k most : ℕ) (s : List ℕ) (at count : ℕ) (before after : List ℕ) (to : ℕ) (x : Rows) (rows : List Row) (rest : List ℕ) → RowsGot k most s at count before after to x →
+pub rows-filled : (k most : ℕ) (s : List ℕ) (at count : ℕ) (before after : List ℕ) (to : ℕ) (x : Option Rows) (rows : List Row) (rest : List ℕ) → RowsGot k most s at count before after to x →
     read_all (row_format k most).read count (drop at s) ≡ give rows rest → after ≡ put_text before to (numbers_in rows)
-rows-filled k most s at count before after to (Lines size next) rows rest g e =
-    let l = g.lines size next refl in
+rows-filled k most s at count before after to (Some r) rows rest g e =
+    let l = g.lines r refl in
     l.holds.0 ∙ ap (λ (r : List Row). put_text before to (numbers_in r)) (ap (λ (z : List Row × List ℕ). z.0) (some_inj (sym l.reads ∙ e)))
-rows-filled k most s at count before after to NoRows rows rest g e = absurd (none-not-some (sym (g.lost refl) ∙ e))
+rows-filled k most s at count before after to None rows rest g e = absurd (none-not-some (sym (g.lost refl) ∙ e))

@@ -26,21 +26,19 @@ pub fn get_numbers(
     ensures { Got (read_field most 44) s.now at k (λ ns. out.new ≡ put_text out.old to ns) result }
 {
     let mut p = at;
-    let mut i = 0;
-    while i < k {
-        let (v, next) = text::get_field(s, p, most, 44)?;
+    for i in 0..k {
+        let (v, next) = text::get_field(s, p, most, b',')?;
         out[to + i] = v;
         p = next;
-        i += 1;
     }
     Some(p)
 }
 
 // How many bytes the names of lines take, and what comes after the lines.
 #[derive(Clone, Copy)]
-pub enum Rows {
-    Lines(usize, usize),
-    NoRows,
+pub struct Rows {
+    pub names: usize,
+    pub next: usize,
 }
 
 // Reads `count` lines of k numbers and a name from `at` on, the numbers into a list from `to` on.
@@ -52,31 +50,28 @@ pub fn get_rows(
     most: u64,
     out: &mut [u64],
     to: usize,
-) -> Rows
+) -> Option<Rows>
     requires { (at ≤ length s.now) × (to + k * count ≤ length out.old) }
     ensures { RowsGot k most s.now at count out.old out.new to result }
 {
     let mut p = at;
     let mut size = 0;
     let mut j = to;
-    let mut i = 0;
-    while i < count {
-        let Some(a) = get_numbers(s, p, k, most, out, j) else {
-            return Rows::NoRows;
-        };
-        let Some(next) = tables::get_name(s, a) else {
-            return Rows::NoRows;
-        };
-        size = size + (next - a);
+    for i in 0..count {
+        let a = get_numbers(s, p, k, most, out, j)?;
+        let next = tables::get_name(s, a)?;
+        size += next - a;
         p = next;
-        j = j + k;
-        i += 1;
+        j += k;
     }
-    Rows::Lines(size, p)
+    Some(Rows {
+        names: size,
+        next: p,
+    })
 }
 
 // The same for fields, of two numbers of 32 bits each.
-pub fn get_fields(s: &[u8], at: usize, count: usize, out: &mut [u32]) -> Rows
+pub fn get_fields(s: &[u8], at: usize, count: usize, out: &mut [u32]) -> Option<Rows>
     requires { (at ≤ length s.now) × (2 * count ≤ length out.old) }
     ensures { RowsGot 2 4294967295 s.now at count out.old out.new 0 result }
 {
@@ -84,29 +79,27 @@ pub fn get_fields(s: &[u8], at: usize, count: usize, out: &mut [u32]) -> Rows
     let mut p = at;
     let mut size = 0;
     let mut j = 0;
-    let mut i = 0;
-    while i < count {
-        let Some(a) = get_numbers(s, p, 2, 4294967295, &mut row, 0) else {
-            return Rows::NoRows;
-        };
-        let Some(next) = tables::get_name(s, a) else {
-            return Rows::NoRows;
-        };
+    for i in 0..count {
+        let a = get_numbers(s, p, 2, 4294967295, &mut row, 0)?;
+        let next = tables::get_name(s, a)?;
         out[j] = row[0] as u32;
         out[j + 1] = row[1] as u32;
-        size = size + (next - a);
+        size += next - a;
         p = next;
-        j = j + 2;
-        i += 1;
+        j += 2;
     }
-    Rows::Lines(size, p)
+    Some(Rows {
+        names: size,
+        next: p,
+    })
 }
 
 // The lines of a section after its names line: where they begin, then as `Rows`.
 #[derive(Clone, Copy)]
-pub enum Section {
-    Found(usize, usize, usize),
-    Lost,
+pub struct Section {
+    pub begin: usize,
+    pub names: usize,
+    pub next: usize,
 }
 
 // Reads a names line, then `count` lines of k numbers and a name, the numbers into a list from `to` on.
@@ -119,31 +112,37 @@ fn rows_section(
     most: u64,
     out: &mut [u64],
     to: usize,
-) -> Section
+) -> Option<Section>
     requires { (at ≤ length s.now) × (to + k * count ≤ length out.old) }
     ensures { SectionGot names.now k most s.now at count out.old out.new to result }
 {
-    let Some(b) = text::expect(s, at, names) else {
-        return Section::Lost;
-    };
-    let Rows::Lines(size, next) = get_rows(s, b, count, k, most, out, to) else {
-        return Section::Lost;
-    };
-    Section::Found(b, size, next)
+    let begin = text::expect(s, at, names)?;
+    let rows = get_rows(s, begin, count, k, most, out, to)?;
+    Some(Section {
+        begin,
+        names: rows.names,
+        next: rows.next,
+    })
 }
 
 // The same for fields.
-fn fields_section(s: &[u8], at: usize, names: &[u8], count: usize, out: &mut [u32]) -> Section
+fn fields_section(
+    s: &[u8],
+    at: usize,
+    names: &[u8],
+    count: usize,
+    out: &mut [u32],
+) -> Option<Section>
     requires { (at ≤ length s.now) × (2 * count ≤ length out.old) }
     ensures { SectionGot names.now 2 4294967295 s.now at count out.old out.new 0 result }
 {
-    let Some(b) = text::expect(s, at, names) else {
-        return Section::Lost;
-    };
-    let Rows::Lines(size, next) = get_fields(s, b, count, out) else {
-        return Section::Lost;
-    };
-    Section::Found(b, size, next)
+    let begin = text::expect(s, at, names)?;
+    let rows = get_fields(s, begin, count, out)?;
+    Some(Section {
+        begin,
+        names: rows.names,
+        next: rows.next,
+    })
 }
 
 // The counts of a table, and what comes after their line.
@@ -155,58 +154,40 @@ pub struct CountsRead {
     pub next: usize,
 }
 
-#[derive(Clone, Copy)]
-pub enum CountsLine {
-    Counts(CountsRead),
-    NoCounts,
-}
-
 // Reads the first two lines.
-fn get_counts(s: &[u8]) -> CountsLine
+fn get_counts(s: &[u8]) -> Option<CountsRead>
     ensures { CountsGot s.now result }
 {
-    let Some(a) = text::expect(s, 0, b"types,fields,constants\n") else {
-        return CountsLine::NoCounts;
-    };
-    let Some((t, b)) = text::get_field(s, a, 4096, 44) else {
-        return CountsLine::NoCounts;
-    };
-    let Some((f, d)) = text::get_field(s, b, 16384, 44) else {
-        return CountsLine::NoCounts;
-    };
-    let Some((c, e)) = text::get_field(s, d, 4096, 10) else {
-        return CountsLine::NoCounts;
-    };
-    CountsLine::Counts(CountsRead {
-        types: t as usize,
-        fields: f as usize,
-        consts: c as usize,
-        next: e,
+    let a = text::expect(s, 0, b"types,fields,constants\n")?;
+    let (types, b) = text::get_field(s, a, 4096, b',')?;
+    let (fields, c) = text::get_field(s, b, 16384, b',')?;
+    let (consts, next) = text::get_field(s, c, 4096, b'\n')?;
+    Some(CountsRead {
+        types: types as usize,
+        fields: fields as usize,
+        consts: consts as usize,
+        next,
     })
 }
 
 // Where the constants' bytes begin, and how many they are.
 #[derive(Clone, Copy)]
-pub enum BytesLine {
-    Bytes(usize, usize),
-    NoBytes,
+pub struct BytesRead {
+    pub begin: usize,
+    pub count: usize,
 }
 
 // Reads the name of the bytes, the bytes, and nothing more.
-fn bytes_section(s: &[u8], at: usize) -> BytesLine
+fn bytes_section(s: &[u8], at: usize) -> Option<BytesRead>
     requires { at ≤ length s.now }
     ensures { BytesGot s.now at result }
 {
-    let Some(b) = text::expect(s, at, b"bytes\n") else {
-        return BytesLine::NoBytes;
-    };
-    let Some((n, e)) = text::count_hex(s, b) else {
-        return BytesLine::NoBytes;
-    };
-    if e < s.len() {
-        return BytesLine::NoBytes;
+    let begin = text::expect(s, at, b"bytes\n")?;
+    let (count, end) = text::count_hex(s, begin)?;
+    if end < s.len() {
+        return None;
     }
-    BytesLine::Bytes(b, n)
+    Some(BytesRead { begin, count })
 }
 
 // What the first pass finds in a table's text: the counts, where the lines and the bytes begin, how many bytes there are and how many the names take.
@@ -225,21 +206,13 @@ pub struct Sections {
     pub const_names: usize,
 }
 
-#[derive(Clone, Copy)]
-pub enum Parsed {
-    Table(Sections),
-    NotTable,
-}
-
 // Is a text a table's? Its numbers go into scratch: those of types and, from 16,384 on, of constants into `words`, those of fields into `halves`.
-fn parse(s: &[u8], words: &mut [u64], halves: &mut [u32]) -> Parsed
+fn parse(s: &[u8], words: &mut [u64], halves: &mut [u32]) -> Option<Sections>
     requires { (28672 ≤ length words.old) × (32768 ≤ length halves.old) }
     ensures { ParsedAs s.now words.old words.new halves.old halves.new result }
 {
-    let CountsLine::Counts(n) = get_counts(s) else {
-        return Parsed::NotTable;
-    };
-    let Section::Found(b, size1, d) = rows_section(
+    let n = get_counts(s)?;
+    let types = rows_section(
         s,
         n.next,
         b"class,a,b,c,name\n",
@@ -248,45 +221,31 @@ fn parse(s: &[u8], words: &mut [u64], halves: &mut [u32]) -> Parsed
         18446744073709551615,
         words,
         0,
-    ) else {
-        return Parsed::NotTable;
-    };
-    let Section::Found(e, size2, f) = fields_section(
+    )?;
+    let fields = fields_section(s, types.next, b"type,constant,name\n", n.fields, halves)?;
+    let consts = rows_section(
         s,
-        d,
-        b"type,constant,name\n",
-        n.fields,
-        halves,
-    ) else {
-        return Parsed::NotTable;
-    };
-    let Section::Found(g, size3, h) = rows_section(
-        s,
-        f,
+        fields.next,
         b"plain,start,length,name\n",
         n.consts,
         3,
         18446744073709551615,
         words,
         16384,
-    ) else {
-        return Parsed::NotTable;
-    };
-    let BytesLine::Bytes(k, size) = bytes_section(s, h) else {
-        return Parsed::NotTable;
-    };
-    Parsed::Table(Sections {
+    )?;
+    let bytes = bytes_section(s, consts.next)?;
+    Some(Sections {
         types: n.types,
         fields: n.fields,
         consts: n.consts,
-        types_at: b,
-        fields_at: e,
-        consts_at: g,
-        bytes_at: k,
-        bytes: size,
-        type_names: size1,
-        field_names: size2,
-        const_names: size3,
+        types_at: types.begin,
+        fields_at: fields.begin,
+        consts_at: consts.begin,
+        bytes_at: bytes.begin,
+        bytes: bytes.count,
+        type_names: types.names,
+        field_names: fields.names,
+        const_names: consts.names,
     })
 }
 
@@ -303,29 +262,22 @@ fn table_good(s: &[u8], x: Sections, words: &[u64], halves: &[u32]) -> bool
     ty::check_table(&words[0..t], &halves[0..f], &words[16384..c], &s[0..n])
 }
 
-// What the first pass tells of a text: a table that can be read, or why it is refused.
-#[derive(Clone, Copy)]
-pub enum Checked {
-    Good(Sections),
-    Not(Refusal),
-}
-
 // Is a text that of a table which document 01 takes? Scratch holds its numbers afterwards.
-fn admit(s: &[u8], words: &mut [u64], halves: &mut [u32]) -> Checked
+fn admit(s: &[u8], words: &mut [u64], halves: &mut [u32]) -> Result<Sections, Refusal>
     requires { (28672 ≤ length words.old) × (32768 ≤ length halves.old) }
     ensures { Admitted s.now result }
 {
-    let Parsed::Table(x) = parse(s, words, halves) else {
-        return Checked::Not(Refusal::Page);
+    let Some(x) = parse(s, words, halves) else {
+        return Err(Refusal::Page);
     };
     if table_good(s, x, words, halves) {
-        return Checked::Good(x);
+        return Ok(x);
     }
-    Checked::Not(Refusal::TypeTable)
+    Err(Refusal::TypeTable)
 }
 
 // The first pass: the same, and scratch is zero afterwards.
-pub fn check(s: &[u8], words: &mut [u64], halves: &mut [u32]) -> Checked
+pub fn check(s: &[u8], words: &mut [u64], halves: &mut [u32]) -> Result<Sections, Refusal>
     requires { (28672 ≤ length words.old) × (32768 ≤ length halves.old) }
     ensures admitted { Admitted s.now result }
     ensures words_after { words.new ≡ replicate (length words.old) 0 }

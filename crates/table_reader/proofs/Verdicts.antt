@@ -26,8 +26,8 @@ use Rattle.table_reader.specs.Reading.{fits, enough, roomy, table_read, scratch_
 use Rattle.table_check.specs.Inner.Admitting.{Admitted}
 use Rattle.table_reader.specs.Inner.Testing.{room_for, told_of, Tested}
 use Rattle.table_check.specs.declared.Sections.{Sections}
-use Rattle.table_check.specs.declared.Checked.{Checked}
-use Rattle.table_check.specs.declared.Checked.TheVariants.{Good, Not}
+use Rattle.std.specs.Prelude as code
+use Rattle.std.specs.Prelude.{Ok, Err}
 use Rattle.table_reader.specs.declared.TableRead.{TableRead}
 use Rattle.table_check.proofs.Assembly.{numbers-length}
 
@@ -96,10 +96,10 @@ module _ (x : Sections) (t f c b n : ℕ) where
         leb-true (x.type_names + (x.field_names + x.const_names)) n p3.1,
       )
 
-pub fitted-some : (x : Sections) (t f c b n : ℕ) {r : Bool} → r ≡ room_for x t f c b n → r ≡ true → Good x ≡ (if room_for x t f c b n then Good x else Not ShortList)
+pub fitted-some : (x : Sections) (t f c b n : ℕ) {r : Bool} → r ≡ room_for x t f c b n → r ≡ true → Ok x ≡ (if room_for x t f c b n then Ok x else Err ShortList)
 fitted-some x t f c b n e h = rw (← e, h)
 
-pub fitted_none : (x : Sections) (t f c b n : ℕ) {r : Bool} → r ≡ room_for x t f c b n → r ≡ false → Not ShortList ≡ (if room_for x t f c b n then Good x else Not ShortList)
+pub fitted_none : (x : Sections) (t f c b n : ℕ) {r : Bool} → r ≡ room_for x t f c b n → r ≡ false → Err ShortList ≡ (if room_for x t f c b n then Ok x else Err ShortList)
 fitted_none x t f c b n e h = rw (← e, h)
 
 pub told_same : (x : Sections) (n : ℕ) {a : Answer} → a ≡ told (Ok (0, 0)) → n ≡ x.type_names + (x.field_names + x.const_names) →
@@ -145,7 +145,7 @@ module _ (s : List ℕ) (x : Sections) (p : Sectioned s x) where
 -- ALL TESTS
 
 module _ (s : List ℕ) (t f c b n : ℕ) (words halves : List ℕ) where
-  few : enough words halves ≡ false → Tested s t f c b n words halves words halves (Not Scratch)
+  few : enough words halves ≡ false → Tested s t f c b n words halves words halves (Err Scratch)
   unfolding table_read scratch_left
   few e = record {
     table = λ x q. absurd (let z : ◌≡◌ {A = ℕ} 0 1 = cc in omega arith);
@@ -153,16 +153,16 @@ module _ (s : List ℕ) (t f c b n : ℕ) (words halves : List ℕ) where
     scratch = rw e;
   }
 
-  pub few_words : length words < 28672 → Tested s t f c b n words halves words halves (Not Scratch)
+  pub few_words : length words < 28672 → Tested s t f c b n words halves words halves (Err Scratch)
   unfolding enough
   few_words h = few (rw (lt-leb 28672 (length words) h))
 
   module _ (h : 28672 ≤ length words) where
-    pub few-halves : length halves < 32768 → Tested s t f c b n words halves words halves (Not Scratch)
+    pub few-halves : length halves < 32768 → Tested s t f c b n words halves words halves (Err Scratch)
     unfolding enough
     few-halves g = few (rw (le-leb 28672 (length words) h, lt-leb 32768 (length halves) g))
 
-    module _ (g : 32768 ≤ length halves) {words' halves' : List ℕ} (zw : words' ≡ replicate (length words) 0) (zh : halves' ≡ replicate (length halves) 0) {r : Checked} (a : Admitted s r) where
+    module _ (g : 32768 ≤ length halves) {words' halves' : List ℕ} (zw : words' ≡ replicate (length words) 0) (zh : halves' ≡ replicate (length halves) 0) {r : code.Result Sections Refusal} (a : Admitted s r) where
       is-enough : enough words halves ≡ true
       unfolding enough
       is-enough = rw (le-leb 28672 (length words) h, le-leb 32768 (length halves) g)
@@ -171,7 +171,7 @@ module _ (s : List ℕ) (t f c b n : ℕ) (words halves : List ℕ) where
       unfolding scratch_left
       zeroed = (λ i. zw i ∷ zh i ∷ []) ∙ rw is-enough
 
-      pub tested-not : {why : Refusal} → r ≡ Not why → Tested s t f c b n words halves words' halves' (Not why)
+      pub tested-not : {why : Refusal} → r ≡ Err why → Tested s t f c b n words halves words' halves' (Err why)
       unfolding table_read roomy
       tested-not {why} e = record {
         table = λ x q. absurd (let z : ◌≡◌ {A = ℕ} 0 1 = cc in omega arith);
@@ -179,11 +179,11 @@ module _ (s : List ℕ) (t f c b n : ℕ) (words halves : List ℕ) where
         scratch = zeroed;
       }
 
-      module _ {x : Sections} (e : r ≡ Good x) where
+      module _ {x : Sections} (e : r ≡ Ok x) where
         pub tested-small : (x.types ≤ 4096) × (x.fields ≤ 16384) × (x.consts ≤ 4096)
         tested-small = let p = (a.table x e).0 in (p.types_most, p.fields_most, p.consts_most)
 
-        by-room : (y : Bool) → room_for x t f c b n ≡ y → {r' : Checked} → r' ≡ (if y then Good x else Not ShortList) → Tested s t f c b n words halves words' halves' r'
+        by-room : (y : Bool) → room_for x t f c b n ≡ y → {r' : code.Result Sections Refusal} → r' ≡ (if y then Ok x else Err ShortList) → Tested s t f c b n words halves words' halves' r'
         unfolding table_read roomy
         by-room true o q =
             subst (Tested s t f c b n words halves words' halves') (sym q)
@@ -204,14 +204,19 @@ module _ (s : List ℕ) (t f c b n : ℕ) (words halves : List ℕ) where
               scratch = zeroed;
             })
 
-        pub tested-fits : {r' : Checked} → r' ≡ (if room_for x t f c b n then Good x else Not ShortList) → Tested s t f c b n words halves words' halves' r'
+        pub tested-fits : {r' : code.Result Sections Refusal} → r' ≡ (if room_for x t f c b n then Ok x else Err ShortList) → Tested s t f c b n words halves words' halves' r'
         tested-fits q = by-room (room_for x t f c b n) refl q
+
+-- a refusal that `?` passes on is the same
+pub passed-on : (why : Refusal) (r : code.Result Sections Refusal) → code.IsErrAnd r (λ e. e ≡ why) → r ≡ Err why
+passed-on why (Ok x) h = absurd h
+passed-on why (Err e) h = ap Err h
 
 -- THE CALL
 
-module _ (types fields consts bytes names s words halves : List ℕ) {words' halves' : List ℕ} {r : Checked}
+module _ (types fields consts bytes names s words halves : List ℕ) {words' halves' : List ℕ} {r : code.Result Sections Refusal}
     (a : Tested s (length types) (length fields) (length consts) (length bytes) (length names) words halves words' halves' r) where
-  pub read-refused : {why : Refusal} {x : Answer} → r ≡ Not why → x ≡ told (Err why) →
+  pub read-refused : {why : Refusal} {x : Answer} → r ≡ Err why → x ≡ told (Err why) →
       outcome (record { answer = x; types = 0; fields = 0; consts = 0; bytes = 0; names = 0 }) (lists types fields consts bytes names) words' halves'
       ≡ reading (lists types fields consts bytes names) s words halves
   unfolding reading table_told lists_left
@@ -219,7 +224,7 @@ module _ (types fields consts bytes names s words halves : List ℕ) {words' hal
       (λ i. record { told = record { answer = t i; types = 0; fields = 0; consts = 0; bytes = 0; names = 0 }; lists = lists types fields consts bytes names; scratch = a.scratch i })
       ∙ rw (a.not why e)
 
-  pub read_done : {x : Sections} {d : TableRead} {types' fields' consts' bytes' names' : List ℕ} → r ≡ Good x → d ≡ told_of x → types' ≡ put_text types 0 (numbers_in (table_of s).types) →
+  pub read_done : {x : Sections} {d : TableRead} {types' fields' consts' bytes' names' : List ℕ} → r ≡ Ok x → d ≡ told_of x → types' ≡ put_text types 0 (numbers_in (table_of s).types) →
       fields' ≡ put_text fields 0 (numbers_in (table_of s).fields) → consts' ≡ put_text consts 0 (numbers_in (table_of s).constants) → bytes' ≡ put_text bytes 0 (hex_at s x.bytes_at) →
       names' ≡ put_text names 0 (all_names (table_of s)) → outcome d (lists types' fields' consts' bytes' names') words' halves' ≡ reading (lists types fields consts bytes names) s words halves
   unfolding reading lists_left

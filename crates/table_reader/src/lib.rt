@@ -6,13 +6,12 @@ ghost use Rattle.refusal.specs.declared.Refusal.TheVariants.{ShortList};
 ghost use Rattle.text.specs.Put.{put_text};
 ghost use Rattle.tables.specs.Lists.{numbers_in, names_in, all_names};
 ghost use Rattle.table_check.specs.Inner.Parsing.{table_of, Sectioned};
-ghost use Rattle.table_check.specs.declared.Checked.TheVariants.{Good, Not};
 ghost use Rattle.table_reader.specs.Inner.Ready.{rows_at, NamesReady};
 ghost use Rattle.table_reader.specs.Inner.Testing.{room_for, Tested, told_of};
 ghost use Rattle.table_reader.specs.Reading.{lists, outcome, reading};
 
 use refusal::{Answer, Refusal};
-use table_check::{Checked, Sections};
+use table_check::Sections;
 
 // Puts the names of `count` lines that stand from `at` on into a list from `to` on.
 fn fill_names(s: &[u8], at: usize, count: usize, k: usize, most: u64, names: &mut [u8], to: usize)
@@ -22,8 +21,7 @@ fn fill_names(s: &[u8], at: usize, count: usize, k: usize, most: u64, names: &mu
     let mut row = [0u64; 4];
     let mut p = at;
     let mut o = to;
-    let mut i = 0;
-    while i < count {
+    for i in 0..count {
         let Some(a) = table_check::get_numbers(s, p, k, most, &mut row, 0) else {
             return;
         };
@@ -32,7 +30,6 @@ fn fill_names(s: &[u8], at: usize, count: usize, k: usize, most: u64, names: &mu
         };
         o = text::put_literal(names, o, &s[a..next]);
         p = next;
-        i += 1;
     }
 }
 
@@ -71,14 +68,14 @@ fn fitted(
     consts: usize,
     bytes: usize,
     names: usize,
-) -> Checked
+) -> Result<Sections, Refusal>
     requires { (x.types ≤ 4096) × (x.fields ≤ 16384) × (x.consts ≤ 4096) }
-    ensures { result ≡ (if room_for x types fields consts bytes names then Good x else Not ShortList) }
+    ensures { result ≡ (if room_for x types fields consts bytes names then Ok x else Err ShortList) }
 {
     if room(x, types, fields, consts, bytes, names) {
-        return Checked::Good(x);
+        return Ok(x);
     }
-    Checked::Not(Refusal::ShortList)
+    Err(Refusal::ShortList)
 }
 
 // All tests in front, for lists of these lengths: 18, 17, 10, 7. Scratch is zero afterwards, but after 18 as it was.
@@ -91,19 +88,17 @@ fn tested(
     names: usize,
     words: &mut [u64],
     halves: &mut [u32],
-) -> Checked
+) -> Result<Sections, Refusal>
     ensures { Tested s.now types fields consts bytes names words.old halves.old words.new halves.new result }
 {
     if words.len() < 28672 {
-        return Checked::Not(Refusal::Scratch);
+        return Err(Refusal::Scratch);
     }
     if halves.len() < 32768 {
-        return Checked::Not(Refusal::Scratch);
+        return Err(Refusal::Scratch);
     }
-    match table_check::check(s, words, halves) {
-        Checked::Good(x) => fitted(x, types, fields, consts, bytes, names),
-        Checked::Not(why) => Checked::Not(why),
-    }
+    let x = table_check::check(s, words, halves)?;
+    fitted(x, types, fields, consts, bytes, names)
 }
 
 // Puts the numbers of a table that was found into lists.
@@ -158,7 +153,7 @@ fn told_of(x: Sections, names: usize) -> TableRead
         fields: 2 * x.fields,
         consts: 3 * x.consts,
         bytes: x.bytes,
-        names: names,
+        names,
     }
 }
 
@@ -187,13 +182,13 @@ pub fn read(
         halves,
     );
     match found {
-        Checked::Good(x) => {
+        Ok(x) => {
             load_numbers(s, x, types, fields, consts);
             text::copy_hex(s, x.bytes_at, x.bytes, bytes, 0);
             let n = load_names(s, x, names);
             told_of(x, n)
         }
-        Checked::Not(why) => TableRead {
+        Err(why) => TableRead {
             answer: Answer::from(Err(why)),
             types: 0,
             fields: 0,

@@ -2,7 +2,9 @@
 use Prim.Native.Nat.{ℕ, zero, suc, ◌+◌, ◌-◌, ◌*◌, ◌/◌, ◌%◌, ◌≤◌, ◌<◌}
 use mathlib.Core.List.{List, [], ◌∷◌, ◌++◌, append_assoc, flat_map}
 use mathlib.Core.Bool.{Bool, true, false}
-use mathlib.Core.Option.{Option, none, some}
+use mathlib.Core.Option as maybe
+use mathlib.Core.Option.{none, some}
+use Rattle.std.specs.Prelude.{Option, Some, None}
 use mathlib.Core.Path.{◌≡◌, refl, sym, ap, ◌∙◌, subst}
 use lib.Dec.{leb, eqb}
 use lib.ListN.{length, take, drop, set, length-append, length-drop, length-take, drop_of_length-le, take-append-drop}
@@ -30,35 +32,34 @@ use Rattle.tables.proofs.Rowing.{flat_append, digits-most}
 use Rattle.table_writer.specs.Parts.{NamesFound, NamesGot, named, rest_length, Ready}
 use Rattle.table_writer.specs.Writing.{table_in, writing, leaving, TableWritten}
 use Rattle.table_writer.specs.declared.NamesRead.{NamesRead}
-use Rattle.table_writer.specs.declared.NamesRead.TheVariants.{At, NotNames}
 use Rattle.table_writer.proofs.RowsPut.{names-are}
 
 -- THE NAMES
 
 module _ (names : List ℕ) (t f c : ℕ) where
-  no_names : ((names_format t f c).read names >>= λ r. whole r) ≡ none → NamesGot names t f c NotNames
-  no_names e = record { found = λ a b q. absurd (let z : ◌≡◌ {A = ℕ} 0 1 = cc in omega arith); lost = λ q. e }
+  no_names : ((names_format t f c).read names >>= λ r. whole r) ≡ none → NamesGot names t f c None
+  no_names e = record { found = λ r q. absurd (let z : ◌≡◌ {A = ℕ} 0 1 = cc in omega arith); lost = λ q. e }
 
-  pub names-lost-1 : read_all read_name t (drop 0 names) ≡ none → NamesGot names t f c NotNames
+  pub names-lost-1 : read_all read_name t (drop 0 names) ≡ none → NamesGot names t f c None
   unfolding names_format pair times name_format
   names-lost-1 e = no_names (rw e)
 
   module _ (a : ℕ) (x : GotAll read_name names 0 t (λ _. Unit) a) where
-    pub names-lost-2 : read_all read_name f (drop a names) ≡ none → NamesGot names t f c NotNames
+    pub names-lost-2 : read_all read_name f (drop a names) ≡ none → NamesGot names t f c None
     unfolding names_format pair times name_format
     names-lost-2 e = no_names (rw (x.reads, e))
 
     module _ (b : ℕ) (y : GotAll read_name names a f (λ _. Unit) b) where
-      pub names-lost-3 : read_all read_name c (drop b names) ≡ none → NamesGot names t f c NotNames
+      pub names-lost-3 : read_all read_name c (drop b names) ≡ none → NamesGot names t f c None
       unfolding names_format pair times name_format
       names-lost-3 e = no_names (rw (x.reads, y.reads, e))
 
       module _ (e : ℕ) (z : GotAll read_name names b c (λ _. Unit) e) where
-        pub names-over : e < length names → NamesGot names t f c NotNames
+        pub names-over : e < length names → NamesGot names t f c None
         unfolding names_format pair times name_format
         names-over h = no_names (rw (x.reads, y.reads, z.reads) (rw (drop-cons names e 0 h)))
 
-        pub names-there : length names ≤ e → NamesGot names t f c (At a b)
+        pub names-there : length names ≤ e → NamesGot names t f c (Some (record { fields_at = a; consts_at = b }))
         names-there h =
             let found : NamesFound names t f c a b = record {
               types = x.reads ∙ ap (λ (l : List (List ℕ)). give l (drop a names)) (sym (names-are names 0 t x.values (drop a names) x.reads));
@@ -73,9 +74,9 @@ module _ (names : List ℕ) (t f c : ℕ) where
               second = y.inside;
             } in
             record {
-              found = λ a' b' q.
-                  subst (NamesFound names t f c a') (let v : b ≡ b' = cc in v)
-                  (subst (λ (m : ℕ). NamesFound names t f c m b) (let v : a ≡ a' = cc in v) found);
+              found = λ r q.
+                  let v : ◌≡◌ {A = NamesRead} (record { fields_at = a; consts_at = b }) r = cc in
+                  subst (λ (y : NamesRead). NamesFound names t f c y.fields_at y.consts_at) v found;
               lost = λ q. absurd (let z : ◌≡◌ {A = ℕ} 0 1 = cc in omega arith);
             }
 
@@ -331,11 +332,11 @@ module _ (w f c b names : List ℕ) where
   unfolding named_in
   named_none e = go ((names_format (length w / 4) (length f / 2) (length c / 3)).read names) e
     where
-      go : (o : Option (Names × List ℕ)) → (o >>= λ r. whole r) ≡ none → (o >>= λ r. whole r >>= λ n. some (with_names w f c b n)) ≡ none
+      go : (o : maybe.Option (Names × List ℕ)) → (o >>= λ r. whole r) ≡ none → (o >>= λ r. whole r >>= λ n. some (with_names w f c b n)) ≡ none
       go none q = refl
       go (some r) q = rw q
 
-  pub written-17 : {x : NamesRead} (out : List ℕ) → NamesGot names (length w / 4) (length f / 2) (length c / 3) x → x ≡ NotNames → TableWritten (table_in w f c b names) out out (Err Page)
+  pub written-17 : {x : Option NamesRead} (out : List ℕ) → NamesGot names (length w / 4) (length f / 2) (length c / 3) x → x ≡ None → TableWritten (table_in w f c b names) out out (Err Page)
   unfolding table_in writing leaving
   written-17 out g e = rw (named_none (g.lost e), table_in) (record { answer = refl; out = refl })
 

@@ -1,7 +1,7 @@
 -- The parts of the writer's contracts.
 use Rattle.std.specs.Prelude.{ℕ, ◌+◌, ◌*◌, ◌/◌, ◌≤◌, ◌≡◌, length, drop}
 use mathlib.Core.List.{List, [], flat_map}
-use Rattle.std.proofs.Math.Option.{none}
+use mathlib.Core.Option.{none}
 use Rattle.text.specs.Text.{give, ◌>>=◌}
 use Rattle.text.specs.Format.{read_all}
 use Rattle.pages.specs.Page.{whole}
@@ -9,7 +9,7 @@ use Rattle.tables.specs.Table.{Named, read_name, field, counts_line, table_text}
 use Rattle.tables.specs.Lists.{names_format, with_names}
 use Rattle.tables.specs.Answer.{names_at}
 use Rattle.table_writer.specs.declared.NamesRead.{NamesRead}
-use Rattle.table_writer.specs.declared.NamesRead.TheVariants.{At, NotNames}
+use Rattle.std.specs.Prelude.{Option, Some, None}
 
 -- the names of t types stand from the front of `names`, of f fields from a on, of c constants from b on, and nothing more
 pub record NamesFound (names : List ℕ) (t f c a b : ℕ) : Type 0 where
@@ -22,9 +22,9 @@ pub record NamesFound (names : List ℕ) (t f c a b : ℕ) : Type 0 where
   pub first : a ≤ length names
   pub second : b ≤ length names
 
-pub record NamesGot (names : List ℕ) (t f c : ℕ) (x : NamesRead) : Type 0 where
-  pub found : (a b : ℕ) → x ≡ At a b → NamesFound names t f c a b
-  pub lost : x ≡ NotNames → ((names_format t f c).read names >>= λ r. whole r) ≡ none
+pub record NamesGot (names : List ℕ) (t f c : ℕ) (x : Option NamesRead) : Type 0 where
+  pub found : (r : NamesRead) → x ≡ Some r → NamesFound names t f c r.fields_at r.consts_at
+  pub lost : x ≡ None → ((names_format t f c).read names >>= λ r. whole r) ≡ none
 
 -- the table whose names were found
 abbrev pub named : (w f c b names : List ℕ) (x y : ℕ) → Named

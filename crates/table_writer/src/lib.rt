@@ -26,11 +26,9 @@ fn numbers_len(list: &[u64]) -> usize
     ensures upper_bound { result ≤ 21 * length list.now }
 {
     let mut n = 0;
-    let mut i = 0;
-    while i < list.len() {
+    for i in 0..list.len() {
         let d = text::decimal_len(list[i]);
         n = n + d + 1;
-        i += 1;
     }
     n
 }
@@ -41,11 +39,9 @@ fn halves_len(list: &[u32]) -> usize
     ensures upper_bound { result ≤ 21 * length list.now }
 {
     let mut n = 0;
-    let mut i = 0;
-    while i < list.len() {
+    for i in 0..list.len() {
         let d = text::decimal_len(widened(list[i]));
         n = n + d + 1;
-        i += 1;
     }
     n
 }
@@ -66,10 +62,8 @@ fn put_numbers(out: &mut [u8], at: usize, list: &[u64]) -> usize
     ensures { Puts out.old out.new at result (flat_map field list.now) }
 {
     let mut k = at;
-    let mut i = 0;
-    while i < list.len() {
+    for i in 0..list.len() {
         k = put_number(out, k, list[i]);
-        i += 1;
     }
     k
 }
@@ -90,8 +84,7 @@ fn put_rows(
     let mut o = at;
     let mut f = from;
     let mut j = 0;
-    let mut i = 0;
-    while i < count {
+    for i in 0..count {
         let Some(next) = tables::get_name(names, f) else {
             return o;
         };
@@ -100,7 +93,6 @@ fn put_rows(
         o = text::put_literal(out, a, &names[f..next]);
         f = next;
         j = e;
-        i += 1;
     }
     o
 }
@@ -120,8 +112,7 @@ fn put_fields(
     let mut o = at;
     let mut f = from;
     let mut j = 0;
-    let mut i = 0;
-    while i < count {
+    for i in 0..count {
         let Some(next) = tables::get_name(names, f) else {
             return o;
         };
@@ -130,34 +121,30 @@ fn put_fields(
         o = text::put_literal(out, a, &names[f..next]);
         f = next;
         j = j + 2;
-        i += 1;
     }
     o
 }
 
-// Where the names of fields and of constants begin; or that there are not as many names.
+// Where the names of fields and of constants begin.
 #[derive(Clone, Copy)]
-pub enum NamesRead {
-    At(usize, usize),
-    NotNames,
+pub struct NamesRead {
+    pub fields_at: usize,
+    pub consts_at: usize,
 }
 
-fn find_names(names: &[u8], t: usize, f: usize, c: usize) -> NamesRead
+fn find_names(names: &[u8], t: usize, f: usize, c: usize) -> Option<NamesRead>
     ensures { NamesGot names.now t f c result }
 {
-    let Some(a) = tables::skip_names(names, 0, t) else {
-        return NamesRead::NotNames;
-    };
-    let Some(b) = tables::skip_names(names, a, f) else {
-        return NamesRead::NotNames;
-    };
-    let Some(e) = tables::skip_names(names, b, c) else {
-        return NamesRead::NotNames;
-    };
-    if e < names.len() {
-        return NamesRead::NotNames;
+    let fields_at = tables::skip_names(names, 0, t)?;
+    let consts_at = tables::skip_names(names, fields_at, f)?;
+    let end = tables::skip_names(names, consts_at, c)?;
+    if end < names.len() {
+        return None;
     }
-    NamesRead::At(a, b)
+    Some(NamesRead {
+        fields_at,
+        consts_at,
+    })
 }
 
 // How long the line of the counts is.
@@ -262,17 +249,25 @@ pub fn write(
     ensures { TableWritten (table_in types.now fields.now consts.now bytes.now names.now)
         out.old out.new result }
 {
-    let found = find_names(names, types.len() / 4, fields.len() / 2, consts.len() / 3);
-    let NamesRead::At(a, b) = found else {
+    let Some(at) = find_names(names, types.len() / 4, fields.len() / 2, consts.len() / 3) else {
         return Err(Refusal::Page);
     };
-    if ty::check_table(types, fields, consts, bytes) {} else {
+    if !ty::check_table(types, fields, consts, bytes) {
         return Err(Refusal::TypeTable);
     }
     let rest = rest_len(types, fields, consts);
-    if room_for(out.len(), rest, names.len(), bytes.len()) {} else {
+    if !room_for(out.len(), rest, names.len(), bytes.len()) {
         return Err(Refusal::ShortList);
     }
-    let n = put_table(types, fields, consts, bytes, names, a, b, out);
+    let n = put_table(
+        types,
+        fields,
+        consts,
+        bytes,
+        names,
+        at.fields_at,
+        at.consts_at,
+        out,
+    );
     Ok((n as u64, 0))
 }

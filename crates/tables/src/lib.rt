@@ -10,8 +10,7 @@ ghost use Rattle.tables.specs.Answer.{ending, Got};
 pub fn get_name(s: &[u8], at: usize) -> Option<usize>
     ensures { result ≡ ending (length s.now) (read_name (drop at s.now)) }
 {
-    let mut i = at;
-    while i < s.len() {
+    for i in at..s.len() {
         let b = s[i];
         if b == 10 {
             return Some(i + 1);
@@ -22,7 +21,6 @@ pub fn get_name(s: &[u8], at: usize) -> Option<usize>
         if b == 44 {
             return None;
         }
-        i += 1;
     }
     None
 }

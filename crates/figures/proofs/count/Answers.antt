@@ -19,9 +19,6 @@ offset_bounds-wide-i c = omega (arith, place c.args.heap c.args.narrow.now c.arg
 pub bounds-wide-i : goal.bounds-wide-i
 bounds-wide-i c = omega (arith, place c.args.heap c.args.narrow.now c.args.wide.now c.args.pool.now c.requires c.loop-i.from c.loop-i.i c.loop-i.figures (c.loop-i.invariant c.args.heap refl c.requires) c.loop-i-test.true)
 
-pub overflow_add-i : goal.overflow_add-i
-overflow_add-i c = omega (arith, place c.args.heap c.args.narrow.now c.args.wide.now c.args.pool.now c.requires c.loop-i.from c.loop-i.i c.loop-i.figures (c.loop-i.invariant c.args.heap refl c.requires) c.loop-i-test.true)
-
 pub offset_bounds-narrow-i : goal.offset_bounds-narrow-i
 offset_bounds-narrow-i c = omega (arith, place c.args.heap c.args.narrow.now c.args.wide.now c.args.pool.now c.requires c.loop-i.from c.loop-i.i c.loop-i.figures (c.loop-i.invariant c.args.heap refl c.requires) c.loop-i-test.true)
 
@@ -33,12 +30,6 @@ overflow_sub-end c = starts c.args.heap c.args.narrow.now c.args.wide.now c.args
 
 pub with_slot-figures-requires : goal.with_slot-figures-requires
 with_slot-figures-requires c = let w = few c.args.heap c.args.narrow.now c.args.wide.now c.args.pool.now c.requires c.loop-i.from c.loop-i.i c.loop-i.figures (c.loop-i.invariant c.args.heap refl c.requires) c.loop-i-test.true in (omega (arith, w.0), omega (arith, w.1))
-
-pub overflow_add-i-in-loop-i : goal.overflow_add-i-in-loop-i
-overflow_add-i-in-loop-i c = omega (arith, place c.args.heap c.args.narrow.now c.args.wide.now c.args.pool.now c.requires c.loop-i.from c.loop-i.i c.loop-i.figures (c.loop-i.invariant c.args.heap refl c.requires) c.loop-i-test.true)
-
-pub loop-i-smaller : goal.loop-i-smaller
-loop-i-smaller c = omega (arith, c.loop-i-test.true)
 
 pub loop-i-preserved : goal.loop-i-preserved
 loop-i-preserved c = λ h e l. subst (Counted (view (lent h c.args.narrow.now c.args.wide.now c.args.pool.now)).slots _ _) (sym c.with_slot-figures.ensures)

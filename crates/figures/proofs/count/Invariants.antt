@@ -9,6 +9,3 @@ use Rattle.figures.proofs.count.Given as goal
 
 abbrev pub invariant-loop-i : goal.invariant-loop-i
 invariant-loop-i l = (h : Heap) → h.slots ≡ l.n → Lies (lent h l.narrow l.wide l.pool) → Counted (view (lent h l.narrow l.wide l.pool)).slots l.from l.i l.figures
-
-abbrev pub decreases-loop-i : goal.decreases-loop-i
-decreases-loop-i l = l.n - l.i

@@ -8,4 +8,4 @@ use Rattle.heap_calls.proofs.Allocating.{filled}
 use Rattle.heap_calls.proofs.fill.Goals as goal
 
 pub returns : goal.returns
-returns c = filled c.place.ensures (c.next_generation-g.ensures ∙ ap step (sym (first-get (length c.args.narrow.now / 6) c.args.narrow.now c.args.i c.requires.place.inside))) c.type_for.ensures c.pack.ensures
+returns c = filled (rw c.from.ensures at c.place.ensures) (c.next_generation-g.ensures ∙ ap step (sym (first-get (length c.args.narrow.now / 6) c.args.narrow.now c.args.i c.requires.place.inside))) c.type_for.ensures c.pack.ensures

@@ -3,6 +3,7 @@ use native.Mathlib.Omega.{arith}
 use lib.ListN.{length-set}
 use mathlib.Core.Path.{◌∙◌}
 use Rattle.heap_calls.proofs.Lending.{lengths, into-free-can, into-free-out}
+use Rattle.heap_calls.specs.Kinds.{kind_number}
 use Rattle.heap_calls.proofs.into_free.Goals as goal
 
 pub overflow_add-at : goal.overflow_add-at
@@ -21,10 +22,10 @@ pub bounds-narrow-at-2 : goal.bounds-narrow-at-2
 bounds-narrow-at-2 c = omega (arith, lengths c.args.heap c.args.narrow.now c.args.wide.now c.args.pool.now c.requires.can_alloc.formed, c.requires.free_nonzero)
 
 pub fill-h-requires : goal.fill-h-requires
-fill-h-requires c = into-free-can c.args.heap c.args.narrow.now c.args.wide.now c.args.pool.now c.args.k c.args.bytes.now c.requires.can_alloc c.requires.free_nonzero _ c.with_free-after.ensures
+fill-h-requires c = into-free-can c.args.heap c.args.narrow.now c.args.wide.now c.args.pool.now (kind_number c.args.k) c.args.bytes.now c.requires.can_alloc c.requires.free_nonzero _ c.with_free-after.ensures
 
 pub shape_of-narrow : goal.shape_of-narrow
 shape_of-narrow c = c.fill-h.auto.narrow ∙ simp length-set
 
 pub returns : goal.returns
-returns c = into-free-out c.args.heap c.args.narrow.now c.args.wide.now c.args.pool.now c.args.k c.args.bytes.now c.requires.can_alloc c.requires.free_nonzero _ c.with_free-after.ensures _ _ _ _ c.fill-h.ensures
+returns c = into-free-out c.args.heap c.args.narrow.now c.args.wide.now c.args.pool.now (kind_number c.args.k) c.args.bytes.now c.requires.can_alloc c.requires.free_nonzero _ c.with_free-after.ensures _ _ _ _ c.fill-h.ensures

@@ -7,32 +7,35 @@ use Rattle.heap_check.proofs.Looking.{no_more, holds}
 use Rattle.heap_check.proofs.Formed.{lent-header, lent-sizes, lent-marks, says-in}
 use Rattle.heap_check.proofs.checked.Goals as goal
 
-pub returns-else-header_ok : goal.returns-else-header_ok
-returns-else-header_ok c = no_more c.header_ok.ensures c.if-header_ok.false (λ y. y.header)
+pub returns-then-not-header_ok : goal.returns-then-not-header_ok
+returns-then-not-header_ok c = no_more c.header_ok.ensures c.if-not-header_ok.true (λ y. y.header)
 
-pub returns-else-sizes_ok : goal.returns-else-sizes_ok
-returns-else-sizes_ok c = no_more c.sizes_ok.ensures c.if-sizes_ok.false (λ y. y.sizes)
+pub returns-then-not-sizes_ok : goal.returns-then-not-sizes_ok
+returns-then-not-sizes_ok c = no_more c.sizes_ok.ensures c.if-not-sizes_ok.true (λ y. y.sizes)
 
-pub slice_bounds-runs_ok-end : goal.slice_bounds-runs_ok-end
-slice_bounds-runs_ok-end c = sym (length-take-le _ _ (omega arith))
+pub slice_bounds-of-end : goal.slice_bounds-of-end
+slice_bounds-of-end c = sym (length-take-le _ _ (omega arith))
 
-pub slice_bounds-runs_ok-end-4 : goal.slice_bounds-runs_ok-end-4
-slice_bounds-runs_ok-end-4 c = sym (length-take-le _ _ (omega (arith, holds c.sizes_ok.ensures c.if-sizes_ok.true)))
+pub slice_bounds-of-end-4 : goal.slice_bounds-of-end-4
+slice_bounds-of-end-4 c = sym (length-take-le _ _ (omega (arith, holds c.sizes_ok.ensures c.if-not-sizes_ok.false)))
 
-pub slice_bounds-runs_ok-end-5 : goal.slice_bounds-runs_ok-end-5
-slice_bounds-runs_ok-end-5 c = omega (arith, holds c.sizes_ok.ensures c.if-sizes_ok.true)
+pub slice_bounds-of-end-5 : goal.slice_bounds-of-end-5
+slice_bounds-of-end-5 c = omega (arith, holds c.sizes_ok.ensures c.if-not-sizes_ok.false)
 
-pub slice_bounds-runs_ok-end-6 : goal.slice_bounds-runs_ok-end-6
-slice_bounds-runs_ok-end-6 c = omega (arith, holds c.sizes_ok.ensures c.if-sizes_ok.true)
+pub slice_bounds-of-end-6 : goal.slice_bounds-of-end-6
+slice_bounds-of-end-6 c = omega (arith, holds c.sizes_ok.ensures c.if-not-sizes_ok.false)
 
-pub slice_bounds-runs_ok-end-9 : goal.slice_bounds-runs_ok-end-9
-slice_bounds-runs_ok-end-9 c = omega (arith, holds c.sizes_ok.ensures c.if-sizes_ok.true)
+pub slice_bounds-of-end-9 : goal.slice_bounds-of-end-9
+slice_bounds-of-end-9 c = omega (arith, holds c.sizes_ok.ensures c.if-not-sizes_ok.false)
 
 pub offset_bounds-narrow-five : goal.offset_bounds-narrow-five
-offset_bounds-narrow-five c = omega (arith, holds c.header_ok.ensures c.if-header_ok.true)
+offset_bounds-narrow-five c = omega (arith, holds c.header_ok.ensures c.if-not-header_ok.false)
+
+pub invariant_of-of : goal.invariant_of-of
+invariant_of-of c = record { sizes = lent-sizes c.args.heap c.args.narrow.now c.args.wide.now c.args.pool.now (holds c.header_ok.ensures c.if-not-header_ok.false) (holds c.sizes_ok.ensures c.if-not-sizes_ok.false) }
 
 pub runs_ok-requires : goal.runs_ok-requires
-runs_ok-requires c = record { header_ok = lent-header c.args.heap c.args.narrow.now c.args.wide.now c.args.pool.now (holds c.header_ok.ensures c.if-header_ok.true) (holds c.sizes_ok.ensures c.if-sizes_ok.true); equal_sizes = lent-sizes c.args.heap c.args.narrow.now c.args.wide.now c.args.pool.now (holds c.header_ok.ensures c.if-header_ok.true) (holds c.sizes_ok.ensures c.if-sizes_ok.true); generation_in_bounds = (lent-marks c.args.heap c.args.narrow.now c.args.wide.now c.args.pool.now (holds c.header_ok.ensures c.if-header_ok.true) (holds c.sizes_ok.ensures c.if-sizes_ok.true) (length c.args.marks.now) c.requires.0, c.requires.1) }
+runs_ok-requires c = record { header_ok = lent-header c.args.heap c.args.narrow.now c.args.wide.now c.args.pool.now (holds c.header_ok.ensures c.if-not-header_ok.false) (holds c.sizes_ok.ensures c.if-not-sizes_ok.false); generation_in_bounds = (lent-marks c.args.heap c.args.narrow.now c.args.wide.now c.args.pool.now (holds c.header_ok.ensures c.if-not-header_ok.false) (holds c.sizes_ok.ensures c.if-not-sizes_ok.false) (length c.args.marks.now) c.requires.0, c.requires.1) }
 
 pub returns : goal.returns
-returns c = says-in c.args.heap c.args.narrow.now c.args.wide.now c.args.pool.now (holds c.header_ok.ensures c.if-header_ok.true) (holds c.sizes_ok.ensures c.if-sizes_ok.true) _ c.runs_ok.ensures
+returns c = says-in c.args.heap c.args.narrow.now c.args.wide.now c.args.pool.now (holds c.header_ok.ensures c.if-not-header_ok.false) (holds c.sizes_ok.ensures c.if-not-sizes_ok.false) _ c.runs_ok.ensures

@@ -3,20 +3,20 @@ use native.Mathlib.Omega.{arith}
 use Rattle.heap_check.proofs.Looking.{says-yes, no_more, holds, entries-inside}
 use Rattle.heap_check.proofs.lists_ok.Goals as goal
 
-pub returns-else-partition_ok : goal.returns-else-partition_ok
-returns-else-partition_ok c = no_more c.partition_ok.ensures c.if-partition_ok.false (λ y. y.partition)
+pub returns-then-not-partition_ok : goal.returns-then-not-partition_ok
+returns-then-not-partition_ok c = no_more c.partition_ok.ensures c.if-not-partition_ok.true (λ y. y.partition)
 
 pub aged-requires : goal.aged-requires
-aged-requires c = entries-inside c.args.n _ c.args.kind.now c.args.free.now c.args.quarantine.now c.args.retired.now c.args.free.now (holds c.partition_ok.ensures c.if-partition_ok.true) c.requires.n_in_bounds_2 (λ i. omega arith)
+aged-requires c = entries-inside c.args.n _ c.args.kind.now c.args.free.now c.args.quarantine.now c.args.retired.now c.args.free.now (holds c.partition_ok.ensures c.if-not-partition_ok.false) c.requires.n_in_bounds_2 (λ i. omega arith)
 
-pub returns-else-aged : goal.returns-else-aged
-returns-else-aged c = no_more c.aged.ensures c.if-aged.false (λ y. y.young)
+pub returns-then-not-aged : goal.returns-then-not-aged
+returns-then-not-aged c = no_more c.aged.ensures c.if-not-aged.true (λ y. y.young)
 
 pub aged-requires-2 : goal.aged-requires-2
-aged-requires-2 c = entries-inside c.args.n _ c.args.kind.now c.args.free.now c.args.quarantine.now c.args.retired.now c.args.retired.now (holds c.partition_ok.ensures c.if-partition_ok.true) c.requires.n_in_bounds_2 (λ i. omega arith)
+aged-requires-2 c = entries-inside c.args.n _ c.args.kind.now c.args.free.now c.args.quarantine.now c.args.retired.now c.args.retired.now (holds c.partition_ok.ensures c.if-not-partition_ok.false) c.requires.n_in_bounds_2 (λ i. omega arith)
 
-pub returns-else-aged-2 : goal.returns-else-aged-2
-returns-else-aged-2 c = no_more c.aged-2.ensures c.if-aged-2.false (λ y. y.spent)
+pub returns-then-not-aged-2 : goal.returns-then-not-aged-2
+returns-then-not-aged-2 c = no_more c.aged-2.ensures c.if-not-aged-2.true (λ y. y.spent)
 
 pub returns : goal.returns
-returns c = says-yes (record { partition = holds c.partition_ok.ensures c.if-partition_ok.true; young = holds c.aged.ensures c.if-aged.true; spent = holds c.aged-2.ensures c.if-aged-2.true })
+returns c = says-yes (record { partition = holds c.partition_ok.ensures c.if-not-partition_ok.false; young = holds c.aged.ensures c.if-not-aged.false; spent = holds c.aged-2.ensures c.if-not-aged-2.false })

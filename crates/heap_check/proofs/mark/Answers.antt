@@ -2,11 +2,11 @@ use native.Mathlib.Omega.{arith}
 use Rattle.heap_check.proofs.Looking.{mark-first, mark-turn, mark-outside, mark-live, mark-twice, mark-end}
 use Rattle.heap_check.proofs.mark.Goals as goal
 
-pub loop-j-init : goal.loop-j-init
-loop-j-init c = mark-first _ _ _ _ c.requires.2
+pub loop-entry-init : goal.loop-entry-init
+loop-entry-init c = mark-first _ _ _ _ c.requires.2
 
 pub overflow_cast-x : goal.overflow_cast-x
-overflow_cast-x c = omega (arith, c.type_inv.list c.loop-j.j)
+overflow_cast-x c = omega (arith, c.type_inv.list c.loop-entry.entry-index)
 
 pub returns-then-x-n : goal.returns-then-x-n
 returns-then-x-n c = search mark-outside
@@ -17,8 +17,8 @@ returns-then-kind-x-ne0 c = search mark-live
 pub returns-then-marks-x-ne0 : goal.returns-then-marks-x-ne0
 returns-then-marks-x-ne0 c = search mark-twice
 
-pub loop-j-preserved : goal.loop-j-preserved
-loop-j-preserved c = search mark-turn
+pub loop-entry-preserved : goal.loop-entry-preserved
+loop-entry-preserved c = search mark-turn
 
 pub returns : goal.returns
 returns c = search mark-end

@@ -4,8 +4,5 @@ use Prim.Native.Nat.{◌-◌}
 use Rattle.heap_check.proofs.Looking.{Marking}
 use Rattle.heap_check.proofs.mark.Given as goal
 
-abbrev pub invariant-loop-j : goal.invariant-loop-j
-invariant-loop-j l = Marking l.n l.kind l.initial.marks l.marks l.list l.j
-
-abbrev pub decreases-loop-j : goal.decreases-loop-j
-decreases-loop-j l = length l.list - l.j
+abbrev pub invariant-loop-entry : goal.invariant-loop-entry
+invariant-loop-entry l = Marking l.n l.kind l.initial.marks l.marks l.list l.entry-index

@@ -4,8 +4,5 @@ use Prim.Native.Nat.{◌-◌}
 use Rattle.heap.proofs.Seals.{Sealing}
 use Rattle.heap_check.proofs.seals_ok.Given as goal
 
-abbrev pub invariant-loop-k : goal.invariant-loop-k
-invariant-loop-k l = Sealing l.tag l.n l.sealed l.k l.from
-
-abbrev pub decreases-loop-k : goal.decreases-loop-k
-decreases-loop-k l = length l.sealed - l.k
+abbrev pub invariant-loop-seal : goal.invariant-loop-seal
+invariant-loop-seal l = Sealing l.tag l.n l.sealed l.seal-index l.from

@@ -5,7 +5,7 @@ use lib.ListN.{get_or}
 use Rattle.heap.specs.Packing.{start_of}
 use Rattle.heap_check.specs.Checks.{SlotOk}
 use Rattle.heap.proofs.Packing.{start-next}
-use Rattle.heap_check.proofs.Looking.{says-no, says-yes, false-true, below-one-more, start_first}
+use Rattle.heap_check.proofs.Looking.{says-no, says_le, false-true, below-one-more, start_first}
 use borrow.Author.Rules.{rules}
 use Rattle.heap_check.proofs.slots_ok.Goals as goal
 
@@ -16,17 +16,14 @@ pub returns-then-e-at : goal.returns-then-e-at
 returns-then-e-at c = says-no (λ x. omega (arith, x.rising c.loop-i.i c.loop-i-test.true, c.loop-i.invariant.1, c.if-e-at.true))
 
 pub loop-i-preserved : goal.loop-i-preserved
-loop-i-preserved c = let one : SlotOk (get_or c.args.generation.now c.loop-i.i 0) (get_or c.args.kind.now c.loop-i.i 0) (get_or c.args.ty.now c.loop-i.i 0) (get_or c.args.start.now c.loop-i.i 0) (get_or c.args.writes.now c.loop-i.i 0) (get_or c.args.end.now c.loop-i.i 0 - start_of c.args.end.now c.loop-i.i) =
-    subst (λ (x : ℕ). SlotOk (get_or c.args.generation.now c.loop-i.i 0) (get_or c.args.kind.now c.loop-i.i 0) (get_or c.args.ty.now c.loop-i.i 0) (get_or c.args.start.now c.loop-i.i 0) (get_or c.args.writes.now c.loop-i.i 0) (get_or c.args.end.now c.loop-i.i 0 - x)) c.loop-i.invariant.1 (c.slot_ok.ensures.0 c.if-slot_ok.true) in
+loop-i-preserved c = let one : SlotOk (get_or c.args.of.generation.now c.loop-i.i 0) (get_or c.args.of.kind.now c.loop-i.i 0) (get_or c.args.of.ty.now c.loop-i.i 0) (get_or c.args.of.start.now c.loop-i.i 0) (get_or c.args.of.writes.now c.loop-i.i 0) (get_or c.args.of.end.now c.loop-i.i 0 - start_of c.args.of.end.now c.loop-i.i) =
+    subst (λ (x : ℕ). SlotOk (get_or c.args.of.generation.now c.loop-i.i 0) (get_or c.args.of.kind.now c.loop-i.i 0) (get_or c.args.of.ty.now c.loop-i.i 0) (get_or c.args.of.start.now c.loop-i.i 0) (get_or c.args.of.writes.now c.loop-i.i 0) (get_or c.args.of.end.now c.loop-i.i 0 - x)) c.loop-i.invariant.1 (c.slot_ok.ensures.0 c.if-not-slot_ok.false) in
     (search rules, start-next _ _, below-one-more _ _ c.loop-i.invariant.2 one, below-one-more _ _ c.loop-i.invariant.3 (omega (arith, c.loop-i.invariant.1, c.if-e-at.false)))
 
-pub returns-else-slot_ok : goal.returns-else-slot_ok
-returns-else-slot_ok c = says-no (λ x. false-true _ c.if-slot_ok.false (c.slot_ok.ensures.1 (subst (λ (y : ℕ). SlotOk (get_or c.args.generation.now c.loop-i.i 0) (get_or c.args.kind.now c.loop-i.i 0) (get_or c.args.ty.now c.loop-i.i 0) (get_or c.args.start.now c.loop-i.i 0) (get_or c.args.writes.now c.loop-i.i 0) (get_or c.args.end.now c.loop-i.i 0 - y)) (sym c.loop-i.invariant.1) (x.each c.loop-i.i c.loop-i-test.true))))
-
-pub returns-then-at-room : goal.returns-then-at-room
-returns-then-at-room c = let e : c.loop-i.i ≡ c.args.n = omega arith in
-    says-yes (record { each = λ j h. c.loop-i.invariant.2 j (omega arith); rising = λ j h. c.loop-i.invariant.3 j (omega arith); fits = omega (arith, c.loop-i.invariant.1, ap (start_of c.args.end.now) e, c.if-at-room.true) })
+pub returns-then-not-slot_ok : goal.returns-then-not-slot_ok
+returns-then-not-slot_ok c = says-no (λ x. false-true _ c.if-not-slot_ok.true (c.slot_ok.ensures.1 (subst (λ (y : ℕ). SlotOk (get_or c.args.of.generation.now c.loop-i.i 0) (get_or c.args.of.kind.now c.loop-i.i 0) (get_or c.args.of.ty.now c.loop-i.i 0) (get_or c.args.of.start.now c.loop-i.i 0) (get_or c.args.of.writes.now c.loop-i.i 0) (get_or c.args.of.end.now c.loop-i.i 0 - y)) (sym c.loop-i.invariant.1) (x.each c.loop-i.i c.loop-i-test.true))))
 
 pub returns : goal.returns
 returns c = let e : c.loop-i.i ≡ c.args.n = omega arith in
-    says-no (λ x. omega (arith, x.fits, c.loop-i.invariant.1, ap (start_of c.args.end.now) e, c.if-at-room.false))
+    says_le (λ h. record { each = λ j l. c.loop-i.invariant.2 j (omega arith); rising = λ j l. c.loop-i.invariant.3 j (omega arith); fits = omega (arith, c.loop-i.invariant.1, ap (start_of c.args.of.end.now) e) })
+    (λ x. omega (arith, x.fits, c.loop-i.invariant.1, ap (start_of c.args.of.end.now) e))

@@ -7,7 +7,4 @@ use Rattle.heap_check.specs.Checks.{SlotOk}
 use Rattle.heap_check.proofs.slots_ok.Given as goal
 
 abbrev pub invariant-loop-i : goal.invariant-loop-i
-invariant-loop-i l = (l.i ≤ l.n) × (l.at ≡ start_of l.end l.i) × ((j : ℕ) → j < l.i → SlotOk (get_or l.generation j 0) (get_or l.kind j 0) (get_or l.ty j 0) (get_or l.start j 0) (get_or l.writes j 0) (get_or l.end j 0 - start_of l.end j)) × ((j : ℕ) → j < l.i → start_of l.end j ≤ get_or l.end j 0)
-
-abbrev pub decreases-loop-i : goal.decreases-loop-i
-decreases-loop-i l = l.n - l.i
+invariant-loop-i l = (l.i ≤ l.n) × (l.at ≡ start_of l.of.end.now l.i) × ((j : ℕ) → j < l.i → SlotOk (get_or l.of.generation.now j 0) (get_or l.of.kind.now j 0) (get_or l.of.ty.now j 0) (get_or l.of.start.now j 0) (get_or l.of.writes.now j 0) (get_or l.of.end.now j 0 - start_of l.of.end.now j)) × ((j : ℕ) → j < l.i → start_of l.of.end.now j ≤ get_or l.of.end.now j 0)

@@ -27,26 +27,17 @@ returns-in_default c = absurd (read_some (slot_format true).read blank (drop c.l
 pub bit_of-c-requires : goal.bit_of-c-requires
 bit_of-c-requires c = tt
 
-pub right_by-requires : goal.right_by-requires
-right_by-requires c = bit-low c.args.row.now c.loop-i.i c.bit_of-c.ensures
-
-pub both-ok-requires : goal.both-ok-requires
-both-ok-requires c = tt
-
-pub overflow_add-i : goal.overflow_add-i
-overflow_add-i c = omega (arith, c.loop-i-test.true)
-
-pub loop-i-smaller : goal.loop-i-smaller
-loop-i-smaller c = omega (arith, c.loop-i-test.true)
+pub right_by-ok-requires : goal.right_by-ok-requires
+right_by-ok-requires c = bit-low c.args.row.now c.loop-i.i c.bit_of-c.ensures
 
 pub loop-i-preserved : goal.loop-i-preserved
 loop-i-preserved c = let l = slots_at c.args.s.now c.args.at c.args.count in
-    let f = line-found true c.args.s.now c.loop-i.k c.in-Line.x c.get_slot.ensures c.in-Line.is in
-    let n = read_next (slot_format true).read blank (drop c.loop-i.k c.args.s.now) (drop c.in-Line.x.next c.args.s.now) f.sl l c.loop-i.i c.args.count c.loop-i.invariant.3.0 c.loop-i-test.true c.loop-i.invariant.3.2 f.reads in (
+    let f = line-found true c.args.s.now c.loop-i.k c.in-Some.x c.get_slot.ensures c.in-Some.is in
+    let n = read_next (slot_format true).read blank (drop c.loop-i.k c.args.s.now) (drop c.in-Some.x.next c.args.s.now) f.sl l c.loop-i.i c.args.count c.loop-i.invariant.3.0 c.loop-i-test.true c.loop-i.invariant.3.2 f.reads in (
       omega (arith, c.loop-i-test.true),
       f.next,
-      agree-next c.args.rule l c.args.row.now c.loop-i.i c.loop-i.ok c.in-Line.x.generation c.in-Line.x.kind c.bit_of-c.result n.0 c.loop-i.invariant.2
-          (f.generation ∙ ap (λ (z : Slot). z.generation) n.1) (f.kind ∙ ap (λ (z : Slot). z.kind) n.1) c.bit_of-c.ensures c.right_by.ensures c.both-ok.ensures,
+      agree-next c.args.rule l c.args.row.now c.loop-i.i c.loop-i.ok c.in-Some.x.generation c.in-Some.x.kind c.bit_of-c.result n.0 c.loop-i.invariant.2
+          (f.generation ∙ ap (λ (z : Slot). z.generation) n.1) (f.kind ∙ ap (λ (z : Slot). z.kind) n.1) c.bit_of-c.ensures c.right_by-ok.ensures refl,
       (c.loop-i.invariant.3.0, c.loop-i.invariant.3.1, n.2),
     )
 

@@ -7,8 +7,8 @@ use Rattle.page_check.proofs.check_run.Goals as goal
 pub mark_listed-requires : goal.mark_listed-requires
 mark_listed-requires c = record { sectioned = c.requires.sectioned; m_bound = omega (arith, c.requires.at_in_bounds.1, c.fill.auto.self) }
 
-pub returns-else-mark_listed : goal.returns-else-mark_listed
-returns-else-mark_listed c = run-wrong c.args.s.now c.args.rule (listed c.args.rule (heap_in c.args.s.now)) c.args.at c.args.m c.args.base c.requires.slots_parsed (length c.args.row.now) (c.fill.ensures.after (λ y e. e)) c.mark_listed.ensures _ c.if-mark_listed.false
+pub returns-then-not-mark_listed : goal.returns-then-not-mark_listed
+returns-then-not-mark_listed c = run-wrong c.args.s.now c.args.rule (listed c.args.rule (heap_in c.args.s.now)) c.args.at c.args.m c.args.base c.requires.slots_parsed (length c.args.row.now) (c.fill.ensures.after (λ y e. e)) c.mark_listed.ensures _ c.if-not-mark_listed.true
 
 pub returns : goal.returns
-returns c = run-told c.args.s.now c.args.rule (listed c.args.rule (heap_in c.args.s.now)) c.args.at c.args.m c.args.base c.requires.slots_parsed (length c.args.row.now) (c.fill.ensures.after (λ y e. e)) c.mark_listed.ensures _ _ c.if-mark_listed.true c.check_chunk.ensures.ok_value c.check_chunk.ensures.s_value c.check_chunk.ensures.next_in_bounds
+returns c = run-told c.args.s.now c.args.rule (listed c.args.rule (heap_in c.args.s.now)) c.args.at c.args.m c.args.base c.requires.slots_parsed (length c.args.row.now) (c.fill.ensures.after (λ y e. e)) c.mark_listed.ensures _ _ c.if-not-mark_listed.false c.check_chunk.ensures.ok_value c.check_chunk.ensures.s_value c.check_chunk.ensures.next_in_bounds

@@ -1,3 +1,5 @@
+use mathlib.Core.Bool.{◌&&◌}
+use mathlib.Core.Path.{◌∙◌, refl}
 use Rattle.page_check.proofs.Lists.{value_found, value_none, seals-lost, seals-next, seals-done}
 use Rattle.page_check.specs.Answer.{seals_more}
 use Rattle.text.specs.Format.{read_all, number}
@@ -15,14 +17,11 @@ loop-i-init c = (omega arith, omega arith, ap (λ (m : ℕ). seals_more (length 
 pub get_field-requires : goal.get_field-requires
 get_field-requires c = tt
 
-pub returns-in_default : goal.returns-in_default
-returns-in_default c = seals-lost c.args.s.now c.args.tag c.args.n c.loop-i.from c.loop-i.ok c.loop-i.k c.loop-i.i c.args.count c.loop-i.invariant.2 c.loop-i-test.true (value_none c.args.s.now 64 c.loop-i.k c.get_field.ensures c.in_default.is)
+pub returns-in_err-v : goal.returns-in_err-v
+returns-in_err-v c = c.from_residual.ensures ∙ seals-lost c.args.s.now c.args.tag c.args.n c.loop-i.from c.loop-i.ok c.loop-i.k c.loop-i.i c.args.count c.loop-i.invariant.2 c.loop-i-test.true (value_none c.args.s.now 64 c.loop-i.k c.get_field.ensures c.in_err-v.was)
 
-pub sound_seal-requires : goal.sound_seal-requires
-sound_seal-requires c = tt
-
-pub both-ok-requires : goal.both-ok-requires
-both-ok-requires c = tt
+pub sound_seal-ok-requires : goal.sound_seal-ok-requires
+sound_seal-ok-requires c = tt
 
 pub slot_of-from-requires : goal.slot_of-from-requires
 slot_of-from-requires c = tt
@@ -30,14 +29,8 @@ slot_of-from-requires c = tt
 pub overflow_add-from : goal.overflow_add-from
 overflow_add-from c = omega (arith, c.slot_of-from.ensures.upper_bound)
 
-pub overflow_add-i : goal.overflow_add-i
-overflow_add-i c = omega (arith, c.loop-i-test.true)
-
-pub loop-i-smaller : goal.loop-i-smaller
-loop-i-smaller c = omega (arith, c.loop-i-test.true)
-
 pub loop-i-preserved : goal.loop-i-preserved
-loop-i-preserved c = (omega (arith, c.loop-i-test.true), (value_found c.args.s.now 64 c.loop-i.k c.in-Some.v c.in-Some.next c.get_field.ensures c.in-Some.is).1, seals-next c.args.s.now c.args.tag c.args.n c.loop-i.from c.loop-i.ok c.loop-i.k c.loop-i.i c.args.count c.loop-i.invariant.2 c.in-Some.v c.in-Some.next c.both-ok.result c.sound_seal.result c.slot_of-from.result c.loop-i-test.true (value_found c.args.s.now 64 c.loop-i.k c.in-Some.v c.in-Some.next c.get_field.ensures c.in-Some.is).0 c.sound_seal.ensures c.both-ok.ensures c.slot_of-from.ensures.value)
+loop-i-preserved c = (omega (arith, c.loop-i-test.true), (value_found c.args.s.now 64 c.loop-i.k c.in_ok-v.v c.in_ok-v.next c.get_field.ensures c.in_ok-v.was).1, seals-next c.args.s.now c.args.tag c.args.n c.loop-i.from c.loop-i.ok c.loop-i.k c.loop-i.i c.args.count c.loop-i.invariant.2 c.in_ok-v.v c.in_ok-v.next (c.loop-i.ok && c.sound_seal-ok.result) c.sound_seal-ok.result c.slot_of-from.result c.loop-i-test.true (value_found c.args.s.now 64 c.loop-i.k c.in_ok-v.v c.in_ok-v.next c.get_field.ensures c.in_ok-v.was).0 c.sound_seal-ok.ensures refl c.slot_of-from.ensures.value)
 
 pub returns : goal.returns
 returns c = seals-done c.args.s.now c.args.tag c.args.n c.loop-i.from c.loop-i.ok c.loop-i.k c.loop-i.i c.args.count c.loop-i.invariant.2 c.loop-i-test.false c.loop-i.invariant.1

@@ -1,3 +1,4 @@
+use mathlib.Core.Path.{refl}
 use Rattle.page_check.proofs.Reading.{slots-begin, slots-lost, slots_next, slots-done, line-found, line-lost}
 use native.Mathlib.Nat.{sub-zero}
 use mathlib.Core.Bool.{true}
@@ -16,26 +17,17 @@ loop-i-init c = (omega arith, omega arith, omega arith, slots-begin (length c.ar
 pub get_slot-requires : goal.get_slot-requires
 get_slot-requires c = tt
 
-pub returns-in_default : goal.returns-in_default
-returns-in_default c = slots-lost c.args.wide c.args.s.now c.loop-i.ok c.loop-i.size c.loop-i.k c.loop-i.i c.args.count c.loop-i-test.true (line-lost c.args.wide c.args.s.now c.loop-i.k c.get_slot.ensures c.in_default.is) c.loop-i.invariant.3
+pub returns-in_err-x : goal.returns-in_err-x
+returns-in_err-x c = c.from_residual.ensures ∙ slots-lost c.args.wide c.args.s.now c.loop-i.ok c.loop-i.size c.loop-i.k c.loop-i.i c.args.count c.loop-i-test.true (line-lost c.args.wide c.args.s.now c.loop-i.k c.get_slot.ensures c.in_err-x.was) c.loop-i.invariant.3
 
-pub sound-requires : goal.sound-requires
-sound-requires c = tt
-
-pub both-ok-requires : goal.both-ok-requires
-both-ok-requires c = tt
+pub sound-ok-requires : goal.sound-ok-requires
+sound-ok-requires c = tt
 
 pub overflow_add-size : goal.overflow_add-size
-overflow_add-size c = omega (arith, (line-found c.args.wide c.args.s.now c.loop-i.k c.in-Line.x c.get_slot.ensures c.in-Line.is).grows c.loop-i.invariant.1, (line-found c.args.wide c.args.s.now c.loop-i.k c.in-Line.x c.get_slot.ensures c.in-Line.is).next, c.loop-i.invariant.2)
-
-pub overflow_add-i : goal.overflow_add-i
-overflow_add-i c = omega (arith, c.loop-i-test.true)
-
-pub loop-i-smaller : goal.loop-i-smaller
-loop-i-smaller c = omega (arith, c.loop-i-test.true)
+overflow_add-size c = omega (arith, (line-found c.args.wide c.args.s.now c.loop-i.k c.in_ok-x.x c.get_slot.ensures c.in_ok-x.was).grows c.loop-i.invariant.1, (line-found c.args.wide c.args.s.now c.loop-i.k c.in_ok-x.x c.get_slot.ensures c.in_ok-x.was).next, c.loop-i.invariant.2)
 
 pub loop-i-preserved : goal.loop-i-preserved
-loop-i-preserved c = (omega (arith, c.loop-i-test.true), (line-found c.args.wide c.args.s.now c.loop-i.k c.in-Line.x c.get_slot.ensures c.in-Line.is).next, omega (arith, (line-found c.args.wide c.args.s.now c.loop-i.k c.in-Line.x c.get_slot.ensures c.in-Line.is).grows c.loop-i.invariant.1, c.loop-i.invariant.2), slots_next c.args.wide c.args.s.now c.loop-i.ok c.loop-i.size c.loop-i.k c.loop-i.i c.args.count c.in-Line.x c.loop-i-test.true (line-found c.args.wide c.args.s.now c.loop-i.k c.in-Line.x c.get_slot.ensures c.in-Line.is) c.loop-i.invariant.3 c.sound.ensures c.both-ok.ensures)
+loop-i-preserved c = (omega (arith, c.loop-i-test.true), (line-found c.args.wide c.args.s.now c.loop-i.k c.in_ok-x.x c.get_slot.ensures c.in_ok-x.was).next, omega (arith, (line-found c.args.wide c.args.s.now c.loop-i.k c.in_ok-x.x c.get_slot.ensures c.in_ok-x.was).grows c.loop-i.invariant.1, c.loop-i.invariant.2), slots_next c.args.wide c.args.s.now c.loop-i.ok c.loop-i.size c.loop-i.k c.loop-i.i c.args.count c.in_ok-x.x c.loop-i-test.true (line-found c.args.wide c.args.s.now c.loop-i.k c.in_ok-x.x c.get_slot.ensures c.in_ok-x.was) c.loop-i.invariant.3 c.sound-ok.ensures refl)
 
 pub returns : goal.returns
 returns c = slots-done c.args.wide c.args.s.now c.loop-i.ok c.loop-i.size c.loop-i.k c.loop-i.i c.args.count c.loop-i-test.false c.loop-i.invariant.1 c.loop-i.invariant.3

@@ -8,6 +8,3 @@ use Rattle.page_check.proofs.check_slots.Given as goal
 
 abbrev pub invariant-loop-i : goal.invariant-loop-i
 invariant-loop-i l = (l.i ≤ l.count) × (l.k ≤ length l.s) × (l.size ≤ l.k) × (slots_answer (length l.s) (read_all (slot_format l.wide).read l.count (drop l.at l.s)) ≡ slots_more (length l.s) l.ok l.size (read_all (slot_format l.wide).read (l.count - l.i) (drop l.k l.s)))
-
-abbrev pub decreases-loop-i : goal.decreases-loop-i
-decreases-loop-i l = l.count - l.i

@@ -12,10 +12,10 @@ use Rattle.page_check.proofs.head_section.Goals as goal
 pub names_line-requires : goal.names_line-requires
 names_line-requires c = omega arith
 
-pub returns-in_default : goal.returns-in_default
+pub returns-in_err-retiring : goal.returns-in_err-retiring
 unfolding heap_front retired_too no_retired ascii
-returns-in_default c = inl (answer-none c.args.s.now (heap_named.read (drop 0 c.args.s.now)) c.names_line.ensures c.in_default.is)
+returns-in_err-retiring c = rw c.from_residual.ensures (inl (answer-none c.args.s.now (heap_named.read (drop 0 c.args.s.now)) c.names_line.ensures c.in_err-retiring.was))
 
 pub returns : goal.returns
 unfolding heap_front retired_too no_retired ascii
-returns c = head-told c.in-Some.retiring c.args.s.now c.in-Some.a _ c.get_head.ensures (value-found heap-names-right c.args.s.now 0 c.in-Some.retiring c.in-Some.a c.names_line.ensures c.in-Some.is).0
+returns c = head-told c.in_ok-retiring.retiring c.args.s.now c.in_ok-retiring.a _ c.get_head.ensures (value-found heap-names-right c.args.s.now 0 c.in_ok-retiring.retiring c.in_ok-retiring.a c.names_line.ensures c.in_ok-retiring.was).0

@@ -24,26 +24,20 @@ returns-in_default c = let l = values_at 32 c.args.s.now c.args.at c.args.count 
 pub mark_one-requires : goal.mark_one-requires
 mark_one-requires c = omega (arith, c.requires.at_in_bounds.1, c.loop-i.invariant.2)
 
-pub shape_of-row-else-mark_one : goal.shape_of-row-else-mark_one
-shape_of-row-else-mark_one c = c.mark_one.auto.row ∙ c.loop-i.invariant.2
+pub shape_of-row-then-not-mark_one : goal.shape_of-row-then-not-mark_one
+shape_of-row-then-not-mark_one c = c.mark_one.auto.row ∙ c.loop-i.invariant.2
 
-pub returns-else-mark_one : goal.returns-else-mark_one
-returns-else-mark_one c = let l = values_at 32 c.args.s.now c.args.at c.args.count in
+pub returns-then-not-mark_one : goal.returns-then-not-mark_one
+returns-then-not-mark_one c = let l = values_at 32 c.args.s.now c.args.at c.args.count in
     let v = line-value c.args.s.now c.loop-i.k c.in-Some.v c.in-Some.next c.get_field.ensures c.in-Some.is in
     let n = next-value c.args.s.now c.loop-i.k c.loop-i.i c.args.count c.in-Some.v c.in-Some.next l c.loop-i.invariant.4.0 c.loop-i-test.true c.loop-i.invariant.4.1 v.0 in
-    mark-stop c.args.row.now c.loop-i.row c.mark_one.new.row c.args.base c.args.m c.in-Some.v c.loop-i.i l c.loop-i.invariant.3 c.mark_one.ensures n.inside n.value c.if-mark_one.false
-
-pub overflow_add-i : goal.overflow_add-i
-overflow_add-i c = omega (arith, c.loop-i-test.true)
-
-pub loop-i-smaller : goal.loop-i-smaller
-loop-i-smaller c = omega (arith, c.loop-i-test.true)
+    mark-stop c.args.row.now c.loop-i.row c.mark_one.new.row c.args.base c.args.m c.in-Some.v c.loop-i.i l c.loop-i.invariant.3 c.mark_one.ensures n.inside n.value c.if-not-mark_one.true
 
 pub loop-i-preserved : goal.loop-i-preserved
 loop-i-preserved c = let l = values_at 32 c.args.s.now c.args.at c.args.count in
     let v = line-value c.args.s.now c.loop-i.k c.in-Some.v c.in-Some.next c.get_field.ensures c.in-Some.is in
     let n = next-value c.args.s.now c.loop-i.k c.loop-i.i c.args.count c.in-Some.v c.in-Some.next l c.loop-i.invariant.4.0 c.loop-i-test.true c.loop-i.invariant.4.1 v.0 in
-    (omega (arith, c.loop-i-test.true), v.1, c.mark_one.auto.row ∙ c.loop-i.invariant.2, mark-next c.args.row.now c.loop-i.row c.mark_one.new.row c.args.base c.args.m c.in-Some.v c.loop-i.i l c.loop-i.invariant.3 c.mark_one.ensures n.inside n.value c.if-mark_one.true, (c.loop-i.invariant.4.0, n.left_over))
+    (omega (arith, c.loop-i-test.true), v.1, c.mark_one.auto.row ∙ c.loop-i.invariant.2, mark-next c.args.row.now c.loop-i.row c.mark_one.new.row c.args.base c.args.m c.in-Some.v c.loop-i.i l c.loop-i.invariant.3 c.mark_one.ensures n.inside n.value c.if-not-mark_one.false, (c.loop-i.invariant.4.0, n.left_over))
 
 pub shape_of-row : goal.shape_of-row
 shape_of-row c = c.loop-i.invariant.2

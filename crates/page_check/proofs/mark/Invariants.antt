@@ -10,6 +10,3 @@ use Rattle.page_check.proofs.mark.Given as goal
 
 abbrev pub invariant-loop-i : goal.invariant-loop-i
 invariant-loop-i l = (l.i ≤ l.count) × (l.k ≤ length l.s) × (length l.row ≡ length l.initial.row) × Marked l.initial.row l.row l.base l.m (take l.i (values_at 32 l.s l.at l.count)) true × ((rest : List ℕ) × (read_all (number 32 10).read (l.count - l.i) (drop l.k l.s) ≡ give (drop l.i (values_at 32 l.s l.at l.count)) rest))
-
-abbrev pub decreases-loop-i : goal.decreases-loop-i
-decreases-loop-i l = l.count - l.i

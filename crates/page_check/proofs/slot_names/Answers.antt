@@ -3,18 +3,18 @@ use Rattle.pages.specs.Form.{slot_front, wide_writes, narrow_writes, planes_name
 use Rattle.page_check.proofs.Names.{writes-lost, writes-inside, column-lost, column-found}
 use Rattle.page_check.proofs.slot_names.Goals as goal
 
-pub returns-in_default : goal.returns-in_default
+pub returns-in_err-wide : goal.returns-in_err-wide
 unfolding slot_front wide_writes narrow_writes planes_name data_name ascii
-returns-in_default c = writes-lost c.args.s.now c.args.at c.names_line.ensures c.in_default.is
+returns-in_err-wide c = rw c.from_residual.ensures (writes-lost c.args.s.now c.args.at c.names_line.ensures c.in_err-wide.was)
 
 pub expect_either-requires : goal.expect_either-requires
 unfolding slot_front wide_writes narrow_writes planes_name data_name ascii
-expect_either-requires c = writes-inside c.args.s.now c.args.at c.names_line.ensures c.in-Some.wide c.in-Some.a c.in-Some.is
+expect_either-requires c = writes-inside c.args.s.now c.args.at c.names_line.ensures c.in_ok-wide.wide c.in_ok-wide.a c.in_ok-wide.was
 
-pub returns-in_default-expect_either : goal.returns-in_default-expect_either
+pub returns-in_err-planar : goal.returns-in_err-planar
 unfolding slot_front wide_writes narrow_writes planes_name data_name ascii
-returns-in_default-expect_either c = column-lost c.args.s.now c.args.at c.names_line.ensures c.in-Some.wide c.in-Some.a c.in-Some.is c.expect_either.ensures c.in_default-expect_either.is
+returns-in_err-planar c = rw c.from_residual-in_err-planar.ensures (column-lost c.args.s.now c.args.at c.names_line.ensures c.in_ok-wide.wide c.in_ok-wide.a c.in_ok-wide.was c.expect_either.ensures c.in_err-planar.was)
 
 pub returns : goal.returns
 unfolding slot_front wide_writes narrow_writes planes_name data_name ascii
-returns c = column-found c.args.s.now c.args.at c.names_line.ensures c.in-Some.wide c.in-Some.a c.in-Some.is c.expect_either.ensures c.in-Some-expect_either.planar c.in-Some-expect_either.b c.in-Some-expect_either.is
+returns c = column-found c.args.s.now c.args.at c.names_line.ensures c.in_ok-wide.wide c.in_ok-wide.a c.in_ok-wide.was c.expect_either.ensures c.in_ok-planar.planar c.in_ok-planar.next c.in_ok-planar.was

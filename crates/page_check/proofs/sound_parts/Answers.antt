@@ -1,6 +1,8 @@
+use Rattle.std.proofs.Common.{arith}
+use Rattle.std.proofs.lemmas.Bool.Decides.{nat_tests}
 use Rattle.heap.specs.WellFormed.{sound_reclaim}
 use Rattle.page_check.proofs.sound_parts.Goals as goal
 
-pub returns : goal.returns
+pub returns-then-seals : goal.returns-then-seals
 unfolding sound_reclaim
-returns c = cc
+returns-then-seals c = grind (arith, nat_tests)

@@ -1,14 +1,12 @@
-use Rattle.page_check.proofs.Lines.{other-heap, falls, past-slots, seal-age}
+use Rattle.std.proofs.Common.{arith}
+use Rattle.std.proofs.lemmas.Bool.Decides.{nat_tests}
+use Rattle.page_check.specs.Answer.{seal_test}
 use Rattle.page_check.proofs.sound_seal.Goals as goal
 
-pub returns-then-i-from : goal.returns-then-i-from
-returns-then-i-from c = search falls
+pub returns-then-i-n : goal.returns-then-i-n
+unfolding seal_test
+returns-then-i-n c = grind (arith, nat_tests)
 
-pub returns-then-n-i : goal.returns-then-n-i
-returns-then-n-i c = search past-slots
-
-pub returns-then-tag_of-tag : goal.returns-then-tag_of-tag
-returns-then-tag_of-tag c = search seal-age
-
-pub returns : goal.returns
-returns c = search other-heap
+pub returns-else-i-n : goal.returns-else-i-n
+unfolding seal_test
+returns-else-i-n c = grind (arith, nat_tests)

@@ -23,9 +23,6 @@ overflow_sub-from-in-loop-i-2 c = search line-digits
 pub fill_column-to-requires : goal.fill_column-to-requires
 fill_column-to-requires c = record { hex_parsed = search data-there; count_value = (search data-size, search data-fits) }
 
-pub overflow_add-i : goal.overflow_add-i
-overflow_add-i c = omega (arith, c.loop-i-test.true, c.ranges)
-
 pub loop-i-preserved : goal.loop-i-preserved
 loop-i-preserved c = search pooling-next
 

@@ -4,6 +4,3 @@ use Rattle.page_reader.proofs.fill_data.Given as goal
 
 abbrev pub invariant-loop-i : goal.invariant-loop-i
 invariant-loop-i l = Pooling l.planar l.s l.at l.count l.initial.pool l.pool l.k l.to l.i
-
-abbrev pub decreases-loop-i : goal.decreases-loop-i
-decreases-loop-i l = l.count - l.i

@@ -4,6 +4,3 @@ use Rattle.page_reader.proofs.fill_indices.Given as goal
 
 abbrev pub invariant-loop-i : goal.invariant-loop-i
 invariant-loop-i l = Listing 32 l.s l.at l.count l.initial.list l.list l.k l.i
-
-abbrev pub decreases-loop-i : goal.decreases-loop-i
-decreases-loop-i l = l.count - l.i

@@ -19,7 +19,7 @@ pub returns-in_default : goal.returns-in_default
 returns-in_default c = absurd (filling-some _ _ _ _ _ _ _ _ _ _ c.loop-i.invariant c.loop-i-test.true c.get_slot.ensures c.in_default.is)
 
 pub overflow_cast-narrow : goal.overflow_cast-narrow
-overflow_cast-narrow c = omega (arith, generation-fits _ _ _ _ _ _ _ _ _ _ c.loop-i.invariant c.loop-i-test.true c.get_slot.ensures _ c.in-Line.is)
+overflow_cast-narrow c = omega (arith, generation-fits _ _ _ _ _ _ _ _ _ _ c.loop-i.invariant c.loop-i-test.true c.get_slot.ensures _ c.in-Some.is)
 
 pub offset_bounds-narrow-i : goal.offset_bounds-narrow-i
 offset_bounds-narrow-i c = omega (arith, c.loop-i-test.true, c.loop-i.invariant.room, c.loop-i.invariant.runs, c.well_formed, c.ranges)
@@ -28,7 +28,7 @@ pub bounds-narrow-i : goal.bounds-narrow-i
 bounds-narrow-i c = omega (arith, c.loop-i-test.true, c.loop-i.invariant.same, c.loop-i.invariant.same_wide, c.loop-i.invariant.room, c.loop-i.invariant.runs)
 
 pub overflow_cast-narrow-in-loop-i : goal.overflow_cast-narrow-in-loop-i
-overflow_cast-narrow-in-loop-i c = omega (arith, kind_fits _ _ _ _ _ _ _ _ _ _ c.loop-i.invariant c.loop-i-test.true c.get_slot.ensures _ c.in-Line.is)
+overflow_cast-narrow-in-loop-i c = omega (arith, kind_fits _ _ _ _ _ _ _ _ _ _ c.loop-i.invariant c.loop-i-test.true c.get_slot.ensures _ c.in-Some.is)
 
 pub overflow_add-narrow : goal.overflow_add-narrow
 overflow_add-narrow c = omega (arith, c.loop-i-test.true, c.loop-i.invariant.room, c.loop-i.invariant.runs, c.well_formed, c.ranges)
@@ -40,7 +40,7 @@ pub bounds-narrow-all : goal.bounds-narrow-all
 bounds-narrow-all c = simp length-set (omega (arith, c.loop-i-test.true, c.loop-i.invariant.same, c.loop-i.invariant.same_wide, c.loop-i.invariant.room, c.loop-i.invariant.runs))
 
 pub overflow_cast-narrow-in-loop-i-2 : goal.overflow_cast-narrow-in-loop-i-2
-overflow_cast-narrow-in-loop-i-2 c = omega (arith, type_fits _ _ _ _ _ _ _ _ _ _ c.loop-i.invariant c.loop-i-test.true c.get_slot.ensures _ c.in-Line.is)
+overflow_cast-narrow-in-loop-i-2 c = omega (arith, type_fits _ _ _ _ _ _ _ _ _ _ c.loop-i.invariant c.loop-i-test.true c.get_slot.ensures _ c.in-Some.is)
 
 pub overflow_add-narrow-in-loop-i : goal.overflow_add-narrow-in-loop-i
 overflow_add-narrow-in-loop-i c = omega (arith, c.loop-i-test.true, c.loop-i.invariant.room, c.loop-i.invariant.runs, c.well_formed, c.ranges)
@@ -67,7 +67,7 @@ pub bounds-wide-two : goal.bounds-wide-two
 bounds-wide-two c = simp length-set (omega (arith, c.loop-i-test.true, c.loop-i.invariant.same, c.loop-i.invariant.same_wide, c.loop-i.invariant.room, c.loop-i.invariant.runs))
 
 pub overflow_add-from : goal.overflow_add-from
-overflow_add-from c = omega (arith, size_fits _ _ _ _ _ _ _ _ _ _ c.loop-i.invariant c.loop-i-test.true c.get_slot.ensures _ c.in-Line.is, c.well_formed, c.ranges)
+overflow_add-from c = omega (arith, size_fits _ _ _ _ _ _ _ _ _ _ c.loop-i.invariant c.loop-i-test.true c.get_slot.ensures _ c.in-Some.is, c.well_formed, c.ranges)
 
 pub overflow_add-wide-in-loop-i : goal.overflow_add-wide-in-loop-i
 overflow_add-wide-in-loop-i c = omega (arith, c.loop-i-test.true, c.loop-i.invariant.room, c.loop-i.invariant.runs, c.well_formed, c.ranges)
@@ -78,14 +78,8 @@ offset_bounds-wide-all c = omega (arith, c.loop-i-test.true, c.loop-i.invariant.
 pub bounds-wide-all : goal.bounds-wide-all
 bounds-wide-all c = simp length-set (omega (arith, c.loop-i-test.true, c.loop-i.invariant.same, c.loop-i.invariant.same_wide, c.loop-i.invariant.room, c.loop-i.invariant.runs))
 
-pub overflow_add-i : goal.overflow_add-i
-overflow_add-i c = omega (arith, c.loop-i-test.true, c.ranges)
-
-pub loop-i-smaller : goal.loop-i-smaller
-loop-i-smaller c = omega (arith, c.loop-i-test.true)
-
 pub loop-i-preserved : goal.loop-i-preserved
-loop-i-preserved c = filling-next _ _ _ _ _ _ _ _ _ _ c.loop-i.invariant c.loop-i-test.true c.get_slot.ensures _ c.in-Line.is
+loop-i-preserved c = filling-next _ _ _ _ _ _ _ _ _ _ c.loop-i.invariant c.loop-i-test.true c.get_slot.ensures _ c.in-Some.is
 
 pub shape_of-narrow : goal.shape_of-narrow
 shape_of-narrow c = c.loop-i.invariant.same

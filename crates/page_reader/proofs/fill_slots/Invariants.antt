@@ -4,6 +4,3 @@ use Rattle.page_reader.proofs.fill_slots.Given as goal
 
 abbrev pub invariant-loop-i : goal.invariant-loop-i
 invariant-loop-i l = Filling l.s l.at l.count l.initial.narrow l.initial.wide l.narrow l.wide l.k l.from l.i
-
-abbrev pub decreases-loop-i : goal.decreases-loop-i
-decreases-loop-i l = l.count - l.i

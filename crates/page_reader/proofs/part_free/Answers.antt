@@ -24,12 +24,6 @@ overflow_cast-v c = omega (arith, parting-fits _ _ _ _ _ _ _ _ _ c.loop-i.invari
 pub put_free-c-requires : goal.put_free-c-requires
 put_free-c-requires c = (parting-free _ _ _ _ _ _ _ _ _ c.loop-i.invariant c.loop-i-test.true c.get_field.ensures _ _ c.in-Some.is, parting-retired _ _ _ _ _ _ _ _ _ c.loop-i.invariant c.loop-i-test.true c.get_field.ensures _ _ c.in-Some.is, omega (arith, c.loop-i.invariant.same))
 
-pub overflow_add-i : goal.overflow_add-i
-overflow_add-i c = omega (arith, c.loop-i-test.true)
-
-pub loop-i-smaller : goal.loop-i-smaller
-loop-i-smaller c = omega (arith, c.loop-i-test.true)
-
 pub loop-i-preserved : goal.loop-i-preserved
 loop-i-preserved c = parting-next _ _ _ _ _ _ _ _ _ c.loop-i.invariant c.loop-i-test.true c.get_field.ensures _ _ c.in-Some.is refl c.put_free-c.ensures
 

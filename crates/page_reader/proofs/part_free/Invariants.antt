@@ -4,6 +4,3 @@ use Rattle.page_reader.proofs.part_free.Given as goal
 
 abbrev pub invariant-loop-i : goal.invariant-loop-i
 invariant-loop-i l = Parting l.s l.at l.count l.initial.narrow l.narrow l.f l.r l.k l.i
-
-abbrev pub decreases-loop-i : goal.decreases-loop-i
-decreases-loop-i l = l.count - l.i

@@ -3,14 +3,14 @@ use Rattle.heap.specs.Lent.{lent}
 use Rattle.page_reader.proofs.Loaded.{in-range, sizes-some, is-page, roomy, read_done, read-refused}
 use Rattle.page_reader.proofs.read.Goals as goal
 
-pub check_page-found-requires : goal.check_page-found-requires
-check_page-found-requires c = λ e. sizes-some _ _ _ _ c.sizes_fit-sizes.ensures c.requires e
+pub check_page-requires : goal.check_page-requires
+check_page-requires c = λ e. sizes-some _ _ _ _ c.sizes_fit-sizes.ensures c.requires e
 
 pub load-loaded-requires : goal.load-loaded-requires
-load-loaded-requires c = let a = is-page _ _ _ c.check_page-found.ensures.checking c.in-Page.is in record { sectioned = a.sections; roomy = roomy _ _ _ _ _ c.sizes_fit-sizes.ensures a }
+load-loaded-requires c = let a = is-page _ _ _ c.check_page.ensures.checking c.in-Ok.is in record { sectioned = a.sections; roomy = roomy _ _ _ _ _ c.sizes_fit-sizes.ensures a }
 
-pub returns-in-Page : goal.returns-in-Page
-returns-in-Page c = record { page_read = read_done (lent c.args.heap c.args.narrow.now c.args.wide.now c.args.pool.now) _ (c.sizes_fit-sizes.ensures ∙ in-range c.args.heap c.args.narrow.now c.args.wide.now c.args.pool.now) _ _ (is-page _ _ _ c.check_page-found.ensures.checking c.in-Page.is) c.load-loaded.ensures _ _ c.bits_met-bits.ensures c.names_met-names.ensures; work_after = c.check_page-found.ensures.work_after }
+pub returns-in-Ok : goal.returns-in-Ok
+returns-in-Ok c = record { page_read = read_done (lent c.args.heap c.args.narrow.now c.args.wide.now c.args.pool.now) _ (c.sizes_fit-sizes.ensures ∙ in-range c.args.heap c.args.narrow.now c.args.wide.now c.args.pool.now) _ _ (is-page _ _ _ c.check_page.ensures.checking c.in-Ok.is) c.load-loaded.ensures _ _ c.bits_met-bits.ensures c.names_met-names.ensures; work_after = c.check_page.ensures.work_after }
 
-pub returns-in-Not : goal.returns-in-Not
-returns-in-Not c = record { page_read = read-refused (lent c.args.heap c.args.narrow.now c.args.wide.now c.args.pool.now) _ (c.sizes_fit-sizes.ensures ∙ in-range c.args.heap c.args.narrow.now c.args.wide.now c.args.pool.now) _ c.check_page-found.ensures.checking c.in-Not.is; work_after = c.check_page-found.ensures.work_after }
+pub returns-in-Err : goal.returns-in-Err
+returns-in-Err c = record { page_read = read-refused (lent c.args.heap c.args.narrow.now c.args.wide.now c.args.pool.now) _ (c.sizes_fit-sizes.ensures ∙ in-range c.args.heap c.args.narrow.now c.args.wide.now c.args.pool.now) _ c.check_page.ensures.checking c.in-Err.is; work_after = c.check_page.ensures.work_after }

@@ -27,12 +27,6 @@ overflow_add-n c = omega (arith, c.decimal_len-d.ensures, decimal-length 19 (get
 pub overflow_add-n-in-loop-i : goal.overflow_add-n-in-loop-i
 overflow_add-n-in-loop-i c = omega (arith, c.decimal_len-d.ensures, decimal-length 19 (get_or c.args.list.now c.loop-i.i 0) (omega (arith, c.type_inv.list c.loop-i.i)))
 
-pub overflow_add-i : goal.overflow_add-i
-overflow_add-i c = omega arith
-
-pub loop-i-smaller : goal.loop-i-smaller
-loop-i-smaller c = omega arith
-
 pub loop-i-preserved : goal.loop-i-preserved
 loop-i-preserved c = (omega arith, omega (arith, c.decimal_len-d.ensures, decimal-length 19 (get_or c.args.list.now c.loop-i.i 0) (omega (arith, c.type_inv.list c.loop-i.i)), flat-more-length value_line c.args.list.now c.loop-i.i 0 (omega arith), value-length (get_or c.args.list.now c.loop-i.i 0)), omega (arith, c.decimal_len-d.ensures, decimal-length 19 (get_or c.args.list.now c.loop-i.i 0) (omega (arith, c.type_inv.list c.loop-i.i))))
 

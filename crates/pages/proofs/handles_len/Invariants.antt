@@ -7,6 +7,3 @@ use Rattle.pages.proofs.handles_len.Given as goal
 
 abbrev pub invariant-loop-i : goal.invariant-loop-i
 invariant-loop-i l = (l.i ≤ l.count) × (l.n ≡ length (flat_map value_line (take l.i l.list))) × (l.n ≤ 21 * l.i)
-
-abbrev pub decreases-loop-i : goal.decreases-loop-i
-decreases-loop-i l = l.count - l.i

@@ -21,12 +21,6 @@ bounds-list-i c = omega arith
 pub put_number-k-requires : goal.put_number-k-requires
 put_number-k-requires c = omega (arith, c.loop-i.invariant.2.next, flat-room value_line c.args.list.now c.loop-i.i c.args.count 0 c.loop-i-test.true c.requires.count_in_bounds, ap length (value-is (get_or c.args.list.now c.loop-i.i 0)))
 
-pub overflow_add-i : goal.overflow_add-i
-overflow_add-i c = omega arith
-
-pub loop-i-smaller : goal.loop-i-smaller
-loop-i-smaller c = omega arith
-
 pub loop-i-preserved : goal.loop-i-preserved
 loop-i-preserved c = (omega arith, c.put_number-k.auto.out ∙ c.loop-i.invariant.1, puts-more value_line c.args.out.now c.loop-i.out c.put_number-k.new.out c.args.at c.loop-i.k c.put_number-k.result c.args.list.now c.loop-i.i 0 (omega arith) c.loop-i.invariant.2 (puts-at c.put_number-k.ensures refl (value-is (get_or c.args.list.now c.loop-i.i 0))) (omega arith))
 

@@ -69,12 +69,6 @@ slice_bounds-put_slot-end c = stays c.args.heap c.args.narrow.now c.args.wide.no
 pub put_slot-k-requires : goal.put_slot-k-requires
 put_slot-k-requires c = putting-room c.args.heap c.args.narrow.now c.args.wide.now c.args.pool.now c.requires.ready c.loop-i.i c.loop-i.from c.loop-i-test.true c.loop-i.invariant.starts c.loop-i.invariant c.requires.slots_in_bounds
 
-pub overflow_add-i : goal.overflow_add-i
-overflow_add-i c = omega (arith, c.loop-i-test.true)
-
-pub loop-i-smaller : goal.loop-i-smaller
-loop-i-smaller c = omega (arith, c.loop-i-test.true)
-
 pub loop-i-preserved : goal.loop-i-preserved
 loop-i-preserved c = putting-next c.args.heap c.args.narrow.now c.args.wide.now c.args.pool.now c.requires.ready c.loop-i.i c.loop-i.from c.loop-i-test.true c.loop-i.invariant.starts c.loop-i.invariant c.put_slot-k.ensures c.put_slot-k.auto.out (omega (arith, c.requires.slots_in_bounds))
 

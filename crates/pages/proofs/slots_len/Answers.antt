@@ -72,12 +72,6 @@ slot_len-d-requires c = omega (arith, part-size c.args.heap c.args.narrow.now c.
 pub overflow_add-n : goal.overflow_add-n
 overflow_add-n c = omega (arith, sum_fits c.args.heap c.args.narrow.now c.args.wide.now c.args.pool.now c.requires.ready c.loop-i.i c.loop-i.from c.loop-i-test.true c.loop-i.invariant.starts c.loop-i.invariant c.slot_len-d.ensures.upper_bound)
 
-pub overflow_add-i : goal.overflow_add-i
-overflow_add-i c = omega (arith, c.loop-i-test.true)
-
-pub loop-i-smaller : goal.loop-i-smaller
-loop-i-smaller c = omega (arith, c.loop-i-test.true)
-
 pub loop-i-preserved : goal.loop-i-preserved
 loop-i-preserved c = summed-next c.args.heap c.args.narrow.now c.args.wide.now c.args.pool.now c.requires.ready c.loop-i.i c.loop-i.from c.loop-i-test.true c.loop-i.invariant.starts c.loop-i.invariant c.slot_len-d.ensures.value c.slot_len-d.ensures.upper_bound
 

@@ -4,7 +4,4 @@ use Rattle.pages.proofs.Slots.{Summed}
 use Rattle.pages.proofs.slots_len.Given as goal
 
 abbrev pub invariant-loop-i : goal.invariant-loop-i
-invariant-loop-i l = Summed (lent l.heap l.narrow l.wide l.pool) l.n l.from l.i
-
-abbrev pub decreases-loop-i : goal.decreases-loop-i
-decreases-loop-i l = l.heap.slots - l.i
+invariant-loop-i l = Summed (lent l.fn.heap l.narrow l.wide l.pool) l.n l.from l.i

@@ -4,6 +4,3 @@ use Rattle.planes.proofs.put_plane.Given as goal
 
 abbrev pub invariant-loop-i : goal.invariant-loop-i
 invariant-loop-i l = Planing l.initial.out l.out l.at l.k l.n l.object l.j l.i
-
-abbrev pub decreases-loop-i : goal.decreases-loop-i
-decreases-loop-i l = l.n - l.i

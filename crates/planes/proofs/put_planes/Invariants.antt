@@ -4,6 +4,3 @@ use Rattle.planes.proofs.put_planes.Given as goal
 
 abbrev pub invariant-loop-j : goal.invariant-loop-j
 invariant-loop-j l = Column l.initial.out l.out l.at l.k l.n l.object l.j
-
-abbrev pub decreases-loop-j : goal.decreases-loop-j
-decreases-loop-j l = 8 - l.j

@@ -1,11 +1,6 @@
-use Rattle.planes.proofs.Turns.{store-begin, store-next, store-stop}
+use native.Mathlib.Omega.{arith}
+use Rattle.planes.proofs.Turns.{word-stored}
 use Rattle.planes.proofs.put_word.Goals as goal
 
-pub loop-j-init : goal.loop-j-init
-loop-j-init c = store-begin _ _ _
-
-pub loop-j-preserved : goal.loop-j-preserved
-loop-j-preserved c = search store-next
-
 pub returns : goal.returns
-returns c = search store-stop
+returns c = rw c.copy_from_slice.ensures.after (word-stored c.args.d.now c.args.at _ c.args.word (omega arith) c.to_le_bytes.ensures)

@@ -1,10 +1,6 @@
-use Rattle.std.proofs.Common.{◌-◌}
 use Rattle.text.specs.Answer.{hex_at}
 use Rattle.planes.proofs.Turns.{Scattered}
 use Rattle.planes.proofs.scatter.Given as goal
 
 abbrev pub invariant-loop-j : goal.invariant-loop-j
 invariant-loop-j l = Scattered l.n (hex_at l.s l.at) l.d l.j
-
-abbrev pub decreases-loop-j : goal.decreases-loop-j
-decreases-loop-j l = 8 - l.j

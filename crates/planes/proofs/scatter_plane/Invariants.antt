@@ -1,10 +1,6 @@
-use Rattle.std.proofs.Common.{◌-◌}
 use Rattle.text.specs.Answer.{hex_at}
 use Rattle.planes.proofs.Turns.{Placing}
 use Rattle.planes.proofs.scatter_plane.Given as goal
 
 abbrev pub invariant-loop-i : goal.invariant-loop-i
 invariant-loop-i l = Placing l.n (hex_at l.s l.at) l.d l.j l.i
-
-abbrev pub decreases-loop-i : goal.decreases-loop-i
-decreases-loop-i l = l.n - l.i

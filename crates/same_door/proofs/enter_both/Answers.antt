@@ -9,7 +9,7 @@ pub returns-then-not-is_enough-2 : goal.returns-then-not-is_enough-2
 returns-then-not-is_enough-2 c = search other-short
 
 pub returns-in-Err : goal.returns-in-Err
-returns-in-Err c = search first-broken
+returns-in-Err c = let marks = c.fill.ensures.after (λ y e. e) in let work = c.fill-in-Err.ensures.after (λ y e. e) in search first-broken
 
 pub returns-in-Ok : goal.returns-in-Ok
 returns-in-Ok c = search both-entered

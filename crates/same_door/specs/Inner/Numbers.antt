@@ -1,18 +1,13 @@
 -- What a comparison tells: a number that is read off the order, or why there is none.
 use Rattle.std.specs.Prelude.{ℕ, List, ◌≡◌, Result, Ok, Err}
 use Rattle.std.specs.declared.cmp.Ordering.{Ordering}
-use Rattle.refusal.specs.Told.{told}
+use Rattle.refusal.specs.Told.{Reply, told}
 use Rattle.refusal.specs.declared.Refusal.{Refusal}
-use Rattle.refusal.specs.Told.{Reply}
 use Rattle.door.specs.HeapCalls.{asked_of}
 use Rattle.saves.specs.Saves.{Words, Save, comparing}
 
-abbrev pub reply_of : Result ℕ Refusal → Reply
-reply_of (Ok n) = Ok (n, 0)
-reply_of (Err why) = Err why
-
 abbrev pub reply_by : (Ordering → ℕ) → Result Ordering Refusal → Reply
-reply_by number (Ok o) = Ok ((number o), 0)
+reply_by number (Ok o) = Ok (number o, 0)
 reply_by number (Err why) = Err why
 
 -- whatever number is read off, the call tells it, and leaves scratch so

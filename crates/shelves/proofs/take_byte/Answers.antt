@@ -26,8 +26,8 @@ returns-then-k-eq18 c = reads-long c.args.k c.args.n c.args.b c.if-b-lt48.false 
 pub may_follow-requires : goal.may_follow-requires
 may_follow-requires c = tt
 
-pub returns-else-may_follow : goal.returns-else-may_follow
-returns-else-may_follow c = reads-spare c.args.k c.args.n c.args.b c.if-b-lt48.false c.if-b-gt57.false c.requires.0 c.if-k-eq18.false (sym c.may_follow.ensures ∙ c.if-may_follow.false)
+pub returns-then-not-may_follow : goal.returns-then-not-may_follow
+returns-then-not-may_follow c = reads-spare c.args.k c.args.n c.args.b c.if-b-lt48.false c.if-b-gt57.false c.requires.0 c.if-k-eq18.false (sym c.may_follow.ensures ∙ c.if-not-may_follow.true)
 
 pub overflow_add-result : goal.overflow_add-result
 overflow_add-result c = omega (arith, c.requires.0)
@@ -35,11 +35,8 @@ overflow_add-result c = omega (arith, c.requires.0)
 pub overflow_mul-result : goal.overflow_mul-result
 overflow_mul-result c = omega (arith, room_for c.args.k c.args.n c.args.b c.if-b-lt48.false c.if-b-gt57.false c.requires.0 c.if-k-eq18.false c.requires.1)
 
-pub wide_byte-requires : goal.wide_byte-requires
-wide_byte-requires c = tt
-
 pub overflow_add-result-2 : goal.overflow_add-result-2
-overflow_add-result-2 c = omega (arith, room_for c.args.k c.args.n c.args.b c.if-b-lt48.false c.if-b-gt57.false c.requires.0 c.if-k-eq18.false c.requires.1, c.if-b-gt57.false, c.wide_byte.ensures)
+overflow_add-result-2 c = omega (arith, room_for c.args.k c.args.n c.args.b c.if-b-lt48.false c.if-b-gt57.false c.requires.0 c.if-k-eq18.false c.requires.1, c.if-b-gt57.false, c.from.ensures)
 
 pub returns : goal.returns
-returns c = reads-digit c.args.k c.args.n c.args.b c.if-b-lt48.false c.if-b-gt57.false c.requires.0 c.if-k-eq18.false c.requires.1 _ (ap (λ (x : ℕ). c.args.n * 10 + x) c.wide_byte.ensures) (sym c.may_follow.ensures ∙ c.if-may_follow.true)
+returns c = reads-digit c.args.k c.args.n c.args.b c.if-b-lt48.false c.if-b-gt57.false c.requires.0 c.if-k-eq18.false c.requires.1 _ (ap (λ (x : ℕ). c.args.n * 10 + x) c.from.ensures) (sym c.may_follow.ensures ∙ c.if-not-may_follow.false)

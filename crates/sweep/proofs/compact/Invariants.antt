@@ -5,6 +5,3 @@ use Rattle.sweep.proofs.compact.Given as goal
 
 abbrev pub invariant-loop-i : goal.invariant-loop-i
 invariant-loop-i l = Packing l.n l.kind l.initial.end l.initial.pool l.i l.from l.to l.end l.pool
-
-abbrev pub decreases-loop-i : goal.decreases-loop-i
-decreases-loop-i l = l.n - l.i

@@ -5,6 +5,3 @@ use Rattle.sweep.proofs.live_size.Given as goal
 
 abbrev pub invariant-loop-i : goal.invariant-loop-i
 invariant-loop-i l = Sizing l.n l.kind l.end l.i l.from l.sum
-
-abbrev pub decreases-loop-i : goal.decreases-loop-i
-decreases-loop-i l = l.n - l.i

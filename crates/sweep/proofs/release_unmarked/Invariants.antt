@@ -5,6 +5,3 @@ use Rattle.sweep.proofs.release_unmarked.Given as goal
 
 abbrev pub invariant-loop-i : goal.invariant-loop-i
 invariant-loop-i l = Releasing l.n l.marks l.initial.h l.initial.narrow l.initial.wide l.pool l.h l.narrow l.wide l.i
-
-abbrev pub decreases-loop-i : goal.decreases-loop-i
-decreases-loop-i l = l.n - l.i

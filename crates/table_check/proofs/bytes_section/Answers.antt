@@ -4,18 +4,18 @@ use Rattle.tables.specs.Table.{bytes_name}
 use Rattle.table_check.proofs.Edges.{bytes-nameless, bytes-none, bytes-over, bytes-there}
 use Rattle.table_check.proofs.bytes_section.Goals as goal
 
-pub returns-in_default : goal.returns-in_default
+pub returns-in_err-begin : goal.returns-in_err-begin
 unfolding bytes_name ascii
-returns-in_default c = bytes-nameless c.args.s.now c.args.at (literal-lost bytes_name c.args.s.now c.args.at c.expect.ensures c.in_default.is)
+returns-in_err-begin c = rw c.from_residual.ensures (bytes-nameless c.args.s.now c.args.at (literal-lost bytes_name c.args.s.now c.args.at c.expect.ensures c.in_err-begin.was))
 
-pub returns-in_default-count_hex : goal.returns-in_default-count_hex
+pub returns-in_err-count : goal.returns-in_err-count
 unfolding bytes_name ascii
-returns-in_default-count_hex c = bytes-none c.args.s.now c.args.at c.in-Some.b (literal-found bytes_name c.args.s.now c.args.at c.in-Some.b c.expect.ensures c.in-Some.is).0 c.count_hex.ensures c.in_default-count_hex.is
+returns-in_err-count c = rw c.from_residual-in_err-count.ensures (bytes-none c.args.s.now c.args.at c.in_ok-begin.begin (literal-found bytes_name c.args.s.now c.args.at c.in_ok-begin.begin c.expect.ensures c.in_ok-begin.was).0 c.count_hex.ensures c.in_err-count.was)
 
-pub returns-then-e-s : goal.returns-then-e-s
+pub returns-then-end-s : goal.returns-then-end-s
 unfolding bytes_name ascii
-returns-then-e-s c = bytes-over c.args.s.now c.args.at c.in-Some.b (literal-found bytes_name c.args.s.now c.args.at c.in-Some.b c.expect.ensures c.in-Some.is).0 _ _ c.count_hex.ensures c.in-Some-count_hex.is c.if-e-s.true
+returns-then-end-s c = bytes-over c.args.s.now c.args.at c.in_ok-begin.begin (literal-found bytes_name c.args.s.now c.args.at c.in_ok-begin.begin c.expect.ensures c.in_ok-begin.was).0 _ _ c.count_hex.ensures c.in_ok-count.was c.if-end-s.true
 
 pub returns : goal.returns
 unfolding bytes_name ascii
-returns c = bytes-there c.args.s.now c.args.at c.in-Some.b (literal-found bytes_name c.args.s.now c.args.at c.in-Some.b c.expect.ensures c.in-Some.is).0 _ _ c.count_hex.ensures c.in-Some-count_hex.is c.if-e-s.false
+returns c = bytes-there c.args.s.now c.args.at c.in_ok-begin.begin (literal-found bytes_name c.args.s.now c.args.at c.in_ok-begin.begin c.expect.ensures c.in_ok-begin.was).0 _ _ c.count_hex.ensures c.in_ok-count.was c.if-end-s.false

@@ -2,14 +2,14 @@ use Rattle.text.proofs.Getting.{literal-found, literal-lost}
 use Rattle.table_check.proofs.Lining.{section-nameless, section-rowless, section-there}
 use Rattle.table_check.proofs.fields_section.Goals as goal
 
-pub returns-in_default : goal.returns-in_default
-returns-in_default c = section-nameless _ _ _ (literal-lost c.args.names.now c.args.s.now c.args.at c.expect.ensures c.in_default.is)
+pub returns-in_err-begin : goal.returns-in_err-begin
+returns-in_err-begin c = rw c.from_residual.ensures (section-nameless _ _ _ (literal-lost c.args.names.now c.args.s.now c.args.at c.expect.ensures c.in_err-begin.was))
 
 pub get_fields-requires : goal.get_fields-requires
-get_fields-requires c = ((literal-found c.args.names.now c.args.s.now c.args.at c.in-Some.b c.expect.ensures c.in-Some.is).1, c.requires.1)
+get_fields-requires c = ((literal-found c.args.names.now c.args.s.now c.args.at c.in_ok-begin.begin c.expect.ensures c.in_ok-begin.was).1, c.requires.1)
 
-pub returns-in_default-get_fields : goal.returns-in_default-get_fields
-returns-in_default-get_fields c = section-rowless _ _ _ c.in-Some.b (literal-found c.args.names.now c.args.s.now c.args.at c.in-Some.b c.expect.ensures c.in-Some.is).0 (c.get_fields.ensures.lost c.in_default-get_fields.is)
+pub returns-in_err-rows : goal.returns-in_err-rows
+returns-in_err-rows c = rw c.from_residual-in_err-rows.ensures (section-rowless _ _ _ c.in_ok-begin.begin (literal-found c.args.names.now c.args.s.now c.args.at c.in_ok-begin.begin c.expect.ensures c.in_ok-begin.was).0 (c.get_fields.ensures.lost c.in_err-rows.was))
 
 pub returns : goal.returns
-returns c = section-there (record { named = (literal-found c.args.names.now c.args.s.now c.args.at c.in-Some.b c.expect.ensures c.in-Some.is).0; inside = (literal-found c.args.names.now c.args.s.now c.args.at c.in-Some.b c.expect.ensures c.in-Some.is).1; rows = c.get_fields.ensures.lines _ _ c.in-Lines.is })
+returns c = section-there (record { named = (literal-found c.args.names.now c.args.s.now c.args.at c.in_ok-begin.begin c.expect.ensures c.in_ok-begin.was).0; inside = (literal-found c.args.names.now c.args.s.now c.args.at c.in_ok-begin.begin c.expect.ensures c.in_ok-begin.was).1; rows = c.get_fields.ensures.lines _ c.in_ok-rows.was })

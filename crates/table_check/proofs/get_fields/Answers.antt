@@ -16,20 +16,20 @@ slice_bounds-get_numbers-end c = sym c.loop-i.invariant.0
 pub get_numbers-requires : goal.get_numbers-requires
 get_numbers-requires c = (c.loop-i.invariant.1.gathered.inside, omega (arith, c.loop-i.invariant.0))
 
-pub shape_of-out-in_default : goal.shape_of-out-in_default
-shape_of-out-in_default c = c.loop-i.invariant.1.same
+pub shape_of-out-in_err-a : goal.shape_of-out-in_err-a
+shape_of-out-in_err-a c = c.loop-i.invariant.1.same
 
-pub returns-in_default : goal.returns-in_default
-returns-in_default c = lining-numbers-lost _ _ _ _ _ _ _ _ _ _ _ _ c.loop-i.invariant.1 _ c.loop-i-test.true (c.get_numbers.ensures.lost c.in_default.is)
+pub returns-in_err-a : goal.returns-in_err-a
+returns-in_err-a c = rw c.from_residual.ensures (lining-numbers-lost _ _ _ _ _ _ _ _ _ _ _ _ c.loop-i.invariant.1 _ c.loop-i-test.true (c.get_numbers.ensures.lost c.in_err-a.was))
 
-pub shape_of-out-in_default-get_name : goal.shape_of-out-in_default-get_name
-shape_of-out-in_default-get_name c = c.loop-i.invariant.1.same
+pub shape_of-out-in_err-next : goal.shape_of-out-in_err-next
+shape_of-out-in_err-next c = c.loop-i.invariant.1.same
 
-pub returns-in_default-get_name : goal.returns-in_default-get_name
-returns-in_default-get_name c = let g = c.get_numbers.ensures.past _ c.in-Some.is in lining-name-lost _ _ _ _ _ _ _ _ _ _ _ _ c.loop-i.invariant.1 _ c.in-Some.a g.values c.loop-i-test.true g.reads (lost c.args.s.now (read_name (drop c.in-Some.a c.args.s.now)) c.get_name.ensures c.in_default-get_name.is)
+pub returns-in_err-next : goal.returns-in_err-next
+returns-in_err-next c = rw c.from_residual-in_err-next.ensures (let g = c.get_numbers.ensures.past _ c.in_ok-a.was in lining-name-lost _ _ _ _ _ _ _ _ _ _ _ _ c.loop-i.invariant.1 _ c.in_ok-a.a g.values c.loop-i-test.true g.reads (lost c.args.s.now (read_name (drop c.in_ok-a.a c.args.s.now)) c.get_name.ensures c.in_err-next.was))
 
 pub overflow_cast-out : goal.overflow_cast-out
-overflow_cast-out c = let g = c.get_numbers.ensures.past _ c.in-Some.is in record { fits = omega (arith, row_first c.loop-i.row _ g.values 4294967295 c.loop-i.invariant.0 g.holds (numbers-within 2 4294967295 _ g.values _ g.reads)) }
+overflow_cast-out c = let g = c.get_numbers.ensures.past _ c.in_ok-a.was in record { fits = omega (arith, row_first c.loop-i.row _ g.values 4294967295 c.loop-i.invariant.0 g.holds (numbers-within 2 4294967295 _ g.values _ g.reads)) }
 
 pub offset_bounds-out-j : goal.offset_bounds-out-j
 offset_bounds-out-j c = omega (arith, lining-room _ _ _ _ _ _ _ _ _ _ _ _ c.loop-i.invariant.1 c.loop-i-test.true)
@@ -38,7 +38,7 @@ pub bounds-out-j : goal.bounds-out-j
 bounds-out-j c = omega (arith, lining-room _ _ _ _ _ _ _ _ _ _ _ _ c.loop-i.invariant.1 c.loop-i-test.true)
 
 pub overflow_cast-out-in-loop-i : goal.overflow_cast-out-in-loop-i
-overflow_cast-out-in-loop-i c = let g = c.get_numbers.ensures.past _ c.in-Some.is in record { fits = omega (arith, row-second c.loop-i.row _ g.values 4294967295 c.loop-i.invariant.0 g.holds (numbers-within 2 4294967295 _ g.values _ g.reads)) }
+overflow_cast-out-in-loop-i c = let g = c.get_numbers.ensures.past _ c.in_ok-a.was in record { fits = omega (arith, row-second c.loop-i.row _ g.values 4294967295 c.loop-i.invariant.0 g.holds (numbers-within 2 4294967295 _ g.values _ g.reads)) }
 
 pub overflow_add-out : goal.overflow_add-out
 overflow_add-out c = omega (arith, lining-room _ _ _ _ _ _ _ _ _ _ _ _ c.loop-i.invariant.1 c.loop-i-test.true)
@@ -50,16 +50,16 @@ pub bounds-out-j-in-loop-i : goal.bounds-out-j-in-loop-i
 bounds-out-j-in-loop-i c = simp length-set (omega (arith, lining-room _ _ _ _ _ _ _ _ _ _ _ _ c.loop-i.invariant.1 c.loop-i-test.true))
 
 pub overflow_sub-size : goal.overflow_sub-size
-overflow_sub-size c = let g = c.get_numbers.ensures.past _ c.in-Some.is in let n = name-found c.args.s.now c.in-Some.a c.in-Some-get_name.next c.get_name.ensures c.in-Some-get_name.is in omega (arith, name-long c.args.s.now c.in-Some.a c.in-Some-get_name.next g.inside n)
+overflow_sub-size c = let g = c.get_numbers.ensures.past _ c.in_ok-a.was in let n = name-found c.args.s.now c.in_ok-a.a c.in_ok-next.next c.get_name.ensures c.in_ok-next.was in omega (arith, name-long c.args.s.now c.in_ok-a.a c.in_ok-next.next g.inside n)
 
 pub overflow_add-size : goal.overflow_add-size
-overflow_add-size c = let g = c.get_numbers.ensures.past _ c.in-Some.is in let n = name-found c.args.s.now c.in-Some.a c.in-Some-get_name.next c.get_name.ensures c.in-Some-get_name.is in omega (arith, name-long c.args.s.now c.in-Some.a c.in-Some-get_name.next g.inside n, c.loop-i.invariant.1.small, lining-on _ _ _ _ _ _ _ _ _ _ _ _ c.loop-i.invariant.1 c.loop-i-test.true c.in-Some.a c.in-Some-get_name.next g.values g.reads g.inside n, n.inside)
+overflow_add-size c = let g = c.get_numbers.ensures.past _ c.in_ok-a.was in let n = name-found c.args.s.now c.in_ok-a.a c.in_ok-next.next c.get_name.ensures c.in_ok-next.was in omega (arith, name-long c.args.s.now c.in_ok-a.a c.in_ok-next.next g.inside n, c.loop-i.invariant.1.small, lining-on _ _ _ _ _ _ _ _ _ _ _ _ c.loop-i.invariant.1 c.loop-i-test.true c.in_ok-a.a c.in_ok-next.next g.values g.reads g.inside n, n.inside)
 
 pub overflow_add-j : goal.overflow_add-j
 overflow_add-j c = omega (arith, lining-room _ _ _ _ _ _ _ _ _ _ _ _ c.loop-i.invariant.1 c.loop-i-test.true)
 
 pub loop-i-preserved : goal.loop-i-preserved
-loop-i-preserved c = let g = c.get_numbers.ensures.past _ c.in-Some.is in let n = name-found c.args.s.now c.in-Some.a c.in-Some-get_name.next c.get_name.ensures c.in-Some-get_name.is in (c.get_numbers.auto.out ∙ c.loop-i.invariant.0, lining-two _ _ _ _ _ _ _ _ _ _ _ c.loop-i.invariant.1 c.loop-i-test.true c.in-Some.a c.in-Some-get_name.next g.values g.reads g.inside n c.loop-i.row _ c.loop-i.invariant.0 g.holds)
+loop-i-preserved c = let g = c.get_numbers.ensures.past _ c.in_ok-a.was in let n = name-found c.args.s.now c.in_ok-a.a c.in_ok-next.next c.get_name.ensures c.in_ok-next.was in (c.get_numbers.auto.out ∙ c.loop-i.invariant.0, lining-two _ _ _ _ _ _ _ _ _ _ _ c.loop-i.invariant.1 c.loop-i-test.true c.in_ok-a.a c.in_ok-next.next g.values g.reads g.inside n c.loop-i.row _ c.loop-i.invariant.0 g.holds)
 
 pub shape_of-out : goal.shape_of-out
 shape_of-out c = c.loop-i.invariant.1.same

@@ -4,6 +4,3 @@ use Rattle.table_check.proofs.get_numbers.Given as goal
 
 abbrev pub invariant-loop-i : goal.invariant-loop-i
 invariant-loop-i l = Numbering l.s l.at l.k l.most l.initial.out l.to l.out l.p l.i
-
-abbrev pub decreases-loop-i : goal.decreases-loop-i
-decreases-loop-i l = l.k - l.i

@@ -4,6 +4,3 @@ use Rattle.table_check.proofs.get_rows.Given as goal
 
 abbrev pub invariant-loop-i : goal.invariant-loop-i
 invariant-loop-i l = Lining l.k l.most l.s l.at l.count l.initial.out l.to l.out l.p l.size l.j l.i
-
-abbrev pub decreases-loop-i : goal.decreases-loop-i
-decreases-loop-i l = l.count - l.i

@@ -7,9 +7,9 @@ use Rattle.tables.specs.Table.{read_table}
 use Rattle.table_check.specs.Verdict.{verdict}
 use Rattle.table_check.specs.Inner.Parsing.{table_of, Sectioned}
 use Rattle.table_check.specs.declared.Sections.{Sections}
-use Rattle.table_check.specs.declared.Checked.{Checked}
-use Rattle.table_check.specs.declared.Checked.TheVariants.{Good, Not}
+use Rattle.std.specs.Prelude as code
+use Rattle.std.specs.Prelude.{Ok, Err}
 
-pub record Admitted (s : List ℕ) (r : Checked) : Type 0 where
-  pub table : (x : Sections) → r ≡ Good x → Sectioned s x × (verdict (read_table s) ≡ ok (table_of s))
-  pub not : (why : Refusal) → r ≡ Not why → verdict (read_table s) ≡ refused (number_of why)
+pub record Admitted (s : List ℕ) (r : code.Result Sections Refusal) : Type 0 where
+  pub table : (x : Sections) → r ≡ Ok x → Sectioned s x × (verdict (read_table s) ≡ ok (table_of s))
+  pub not : (why : Refusal) → r ≡ Err why → verdict (read_table s) ≡ refused (number_of why)

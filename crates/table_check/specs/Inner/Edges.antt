@@ -1,14 +1,12 @@
 -- The first lines and the last ones of a table's text, as the first pass finds them.
-use Rattle.std.specs.Prelude.{ℕ, ◌≤◌, ◌<◌, List, [], ◌⊎◌, ◌≡◌, length, drop}
-use Rattle.std.proofs.Math.Option.{Option, none, some}
+use Rattle.std.specs.Prelude.{ℕ, ◌≤◌, ◌<◌, List, [], ◌⊎◌, ◌≡◌, length, drop, Option, Some, None}
+use mathlib.Core.Option as maybe
+use mathlib.Core.Option.{none, some}
 use Rattle.text.specs.Text.{give}
 use Rattle.text.specs.Answer.{hex_at, HexParsed}
 use Rattle.tables.specs.Table.{Counts, counts_format, bytes_format}
 use Rattle.table_check.specs.declared.CountsRead.{CountsRead}
-use Rattle.table_check.specs.declared.CountsLine.{CountsLine}
-use Rattle.table_check.specs.declared.CountsLine.TheVariants.{Counts as Counts-of, NoCounts}
-use Rattle.table_check.specs.declared.BytesLine.{BytesLine}
-use Rattle.table_check.specs.declared.BytesLine.TheVariants.{Bytes, NoBytes}
+use Rattle.table_check.specs.declared.BytesRead.{BytesRead}
 
 abbrev pub counts_of : CountsRead → Counts
 counts_of x = (x.types, (x.fields, x.consts))
@@ -20,9 +18,9 @@ pub record CountsFound (s : List ℕ) (x : CountsRead) : Type 0 where
   pub fields : x.fields ≤ 16384
   pub consts : x.consts ≤ 4096
 
-pub record CountsGot (s : List ℕ) (r : CountsLine) : Type 0 where
-  pub found : (x : CountsRead) → r ≡ Counts-of x → CountsFound s x
-  pub lost : r ≡ NoCounts → counts_format.read (drop 0 s) ≡ none
+pub record CountsGot (s : List ℕ) (r : Option CountsRead) : Type 0 where
+  pub found : (x : CountsRead) → r ≡ Some x → CountsFound s x
+  pub lost : r ≡ None → counts_format.read (drop 0 s) ≡ none
 
 pub record BytesFound (s : List ℕ) (at b n : ℕ) : Type 0 where
   pub reads : bytes_format.read (drop at s) ≡ give (hex_at s b) []
@@ -30,6 +28,6 @@ pub record BytesFound (s : List ℕ) (at b n : ℕ) : Type 0 where
   pub long : n ≡ length (hex_at s b)
   pub short : n ≤ length s
 
-pub record BytesGot (s : List ℕ) (at : ℕ) (r : BytesLine) : Type 0 where
-  pub found : (b n : ℕ) → r ≡ Bytes b n → BytesFound s at b n
-  pub lost : r ≡ NoBytes → (bytes_format.read (drop at s) ≡ none) ⊎ ((l : List ℕ) × (e : ℕ) × (e < length s) × (bytes_format.read (drop at s) ≡ give l (drop e s)))
+pub record BytesGot (s : List ℕ) (at : ℕ) (r : Option BytesRead) : Type 0 where
+  pub found : (x : BytesRead) → r ≡ Some x → BytesFound s at x.begin x.count
+  pub lost : r ≡ None → (bytes_format.read (drop at s) ≡ none) ⊎ ((l : List ℕ) × (e : ℕ) × (e < length s) × (bytes_format.read (drop at s) ≡ give l (drop e s)))

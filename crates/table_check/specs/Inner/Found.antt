@@ -1,6 +1,7 @@
 -- What the passes over a table's text find, by the cases of what the code answers.
-use Rattle.std.specs.Prelude.{ℕ, ◌+◌, ◌≤◌, List, [], ◌≡◌, length, drop}
-use Rattle.std.proofs.Math.Option.{Option, none, some}
+use Rattle.std.specs.Prelude.{ℕ, ◌+◌, ◌≤◌, List, [], ◌≡◌, length, drop, Option, Some, None}
+use mathlib.Core.Option as maybe
+use mathlib.Core.Option.{none, some}
 use Rattle.text.specs.Text.{give, read_literal}
 use Rattle.text.specs.Format.{read_all}
 use Rattle.text.specs.Put.{put_text}
@@ -8,18 +9,16 @@ use Rattle.tables.specs.Table.{Row, row_format, rows_format}
 use Rattle.tables.specs.Lists.{numbers_in, names_in}
 use Rattle.tables.specs.Answer.{GotAll}
 use Rattle.table_check.specs.declared.Rows.{Rows}
-use Rattle.table_check.specs.declared.Rows.TheVariants.{Lines, NoRows}
 use Rattle.table_check.specs.declared.Section.{Section}
-use Rattle.table_check.specs.declared.Section.TheVariants.{Found, Lost}
 
 -- the numbers of lines were put into a list from `to` on, and their names take `size` bytes
 abbrev pub Listed : (before after : List ℕ) (to size : ℕ) → List Row → Type 0
 Listed before after to size rows = (after ≡ put_text before to (numbers_in rows)) × (size ≡ length (names_in rows))
 
 -- `count` lines of k numbers each stand from `at` on, or not all of them do
-pub record RowsGot (k most : ℕ) (s : List ℕ) (at count : ℕ) (before after : List ℕ) (to : ℕ) (x : Rows) : Type 0 where
-  pub lines : (size next : ℕ) → x ≡ Lines size next → GotAll (row_format k most).read s at count (Listed before after to size) next
-  pub lost : x ≡ NoRows → read_all (row_format k most).read count (drop at s) ≡ none
+pub record RowsGot (k most : ℕ) (s : List ℕ) (at count : ℕ) (before after : List ℕ) (to : ℕ) (x : Option Rows) : Type 0 where
+  pub lines : (r : Rows) → x ≡ Some r → GotAll (row_format k most).read s at count (Listed before after to r.names) r.next
+  pub lost : x ≡ None → read_all (row_format k most).read count (drop at s) ≡ none
 
 -- a names line stands before them
 pub record SectionFound (names : List ℕ) (k most : ℕ) (s : List ℕ) (at count : ℕ) (before after : List ℕ) (to begin size next : ℕ) : Type 0 where
@@ -27,6 +26,6 @@ pub record SectionFound (names : List ℕ) (k most : ℕ) (s : List ℕ) (at cou
   pub inside : begin ≤ length s
   pub rows : GotAll (row_format k most).read s begin count (Listed before after to size) next
 
-pub record SectionGot (names : List ℕ) (k most : ℕ) (s : List ℕ) (at count : ℕ) (before after : List ℕ) (to : ℕ) (x : Section) : Type 0 where
-  pub found : (begin size next : ℕ) → x ≡ Found begin size next → SectionFound names k most s at count before after to begin size next
-  pub lost : x ≡ Lost → (rows_format names count k most).read (drop at s) ≡ none
+pub record SectionGot (names : List ℕ) (k most : ℕ) (s : List ℕ) (at count : ℕ) (before after : List ℕ) (to : ℕ) (x : Option Section) : Type 0 where
+  pub found : (r : Section) → x ≡ Some r → SectionFound names k most s at count before after to r.begin r.names r.next
+  pub lost : x ≡ None → (rows_format names count k most).read (drop at s) ≡ none

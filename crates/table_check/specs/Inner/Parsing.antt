@@ -1,6 +1,7 @@
 -- The whole of a table's text, as the first pass finds it.
-use Rattle.std.specs.Prelude.{ℕ, ◌≤◌, List, [], ◌≡◌, length, take, drop}
-use Rattle.std.proofs.Math.Option.{Option, none, some}
+use Rattle.std.specs.Prelude.{ℕ, ◌≤◌, List, [], ◌≡◌, length, take, drop, Option, Some, None}
+use mathlib.Core.Option as maybe
+use mathlib.Core.Option.{none, some}
 use Rattle.text.specs.Text.{give}
 use Rattle.text.specs.Format.{read_all}
 use Rattle.text.specs.Put.{put_text}
@@ -8,8 +9,6 @@ use Rattle.text.specs.Answer.{hex_at, HexParsed}
 use Rattle.tables.specs.Table.{Row, Named, row_format, read_table}
 use Rattle.tables.specs.Lists.{numbers_in, names_in}
 use Rattle.table_check.specs.declared.Sections.{Sections}
-use Rattle.table_check.specs.declared.Parsed.{Parsed}
-use Rattle.table_check.specs.declared.Parsed.TheVariants.{Table, NotTable}
 
 -- the table whose text a text is; a text that is none's has no use for it
 unfoldable pub table_of : List ℕ → Named
@@ -53,6 +52,6 @@ pub record HoldingAs (words halves : List ℕ) (d : Named) : Type 0 where
 abbrev pub Holding : (s words halves : List ℕ) → Type 0
 Holding s words halves = HoldingAs words halves (table_of s)
 
-pub record ParsedAs (s words words' halves halves' : List ℕ) (r : Parsed) : Type 0 where
-  pub found : (x : Sections) → r ≡ Table x → Sectioned s x × Holding s words' halves'
-  pub lost : r ≡ NotTable → read_table s ≡ none
+pub record ParsedAs (s words words' halves halves' : List ℕ) (r : Option Sections) : Type 0 where
+  pub found : (x : Sections) → r ≡ Some x → Sectioned s x × Holding s words' halves'
+  pub lost : r ≡ None → read_table s ≡ none

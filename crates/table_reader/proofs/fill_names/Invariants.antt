@@ -6,6 +6,3 @@ use Rattle.table_reader.proofs.fill_names.Given as goal
 
 abbrev pub invariant-loop-i : goal.invariant-loop-i
 invariant-loop-i l = (length l.row ≡ 4) × Naming l.k l.most l.s l.at l.count l.initial.names l.to l.names l.p l.o l.i
-
-abbrev pub decreases-loop-i : goal.decreases-loop-i
-decreases-loop-i l = l.count - l.i

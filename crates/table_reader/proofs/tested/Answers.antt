@@ -1,4 +1,4 @@
-use Rattle.table_reader.proofs.Verdicts.{few_words, few-halves, tested-small, tested-fits, tested-not}
+use Rattle.table_reader.proofs.Verdicts.{passed-on, few_words, few-halves, tested-small, tested-fits, tested-not}
 use Rattle.table_reader.proofs.tested.Goals as goal
 
 pub returns-then-words-lt28672 : goal.returns-then-words-lt28672
@@ -8,10 +8,10 @@ pub returns-then-halves-lt32768 : goal.returns-then-halves-lt32768
 returns-then-halves-lt32768 c = few-halves c.args.s.now c.args.types c.args.fields c.args.consts c.args.bytes c.args.names c.args.words.now c.args.halves.now c.if-words-lt28672.false c.if-halves-lt32768.true
 
 pub fitted-requires : goal.fitted-requires
-fitted-requires c = tested-small c.args.s.now c.args.types c.args.fields c.args.consts c.args.bytes c.args.names c.args.words.now c.args.halves.now c.if-words-lt28672.false c.if-halves-lt32768.false c.check.ensures.words_after c.check.ensures.halves_after c.check.ensures.admitted c.in-Good.is
+fitted-requires c = tested-small c.args.s.now c.args.types c.args.fields c.args.consts c.args.bytes c.args.names c.args.words.now c.args.halves.now c.if-words-lt28672.false c.if-halves-lt32768.false c.check.ensures.words_after c.check.ensures.halves_after c.check.ensures.admitted c.in_ok-x.was
 
-pub returns-in-Good : goal.returns-in-Good
-returns-in-Good c = tested-fits c.args.s.now c.args.types c.args.fields c.args.consts c.args.bytes c.args.names c.args.words.now c.args.halves.now c.if-words-lt28672.false c.if-halves-lt32768.false c.check.ensures.words_after c.check.ensures.halves_after c.check.ensures.admitted c.in-Good.is c.fitted.ensures
+pub returns : goal.returns
+returns c = tested-fits c.args.s.now c.args.types c.args.fields c.args.consts c.args.bytes c.args.names c.args.words.now c.args.halves.now c.if-words-lt28672.false c.if-halves-lt32768.false c.check.ensures.words_after c.check.ensures.halves_after c.check.ensures.admitted c.in_ok-x.was c.fitted.ensures
 
-pub returns-in-Not : goal.returns-in-Not
-returns-in-Not c = tested-not c.args.s.now c.args.types c.args.fields c.args.consts c.args.bytes c.args.names c.args.words.now c.args.halves.now c.if-words-lt28672.false c.if-halves-lt32768.false c.check.ensures.words_after c.check.ensures.halves_after c.check.ensures.admitted c.in-Not.is
+pub returns-in_err-x : goal.returns-in_err-x
+returns-in_err-x c = rw (passed-on _ _ c.from_residual.ensures.1) (tested-not c.args.s.now c.args.types c.args.fields c.args.consts c.args.bytes c.args.names c.args.words.now c.args.halves.now c.if-words-lt28672.false c.if-halves-lt32768.false c.check.ensures.words_after c.check.ensures.halves_after c.check.ensures.admitted c.in_err-x.was)

@@ -7,8 +7,8 @@ use Rattle.table_reader.specs.Reading.{table_read, scratch_left}
 use Rattle.table_check.specs.Inner.Parsing.{table_of, Sectioned}
 use Rattle.table_check.specs.declared.Sections.{Sections}
 use Rattle.table_reader.specs.declared.TableRead.{TableRead}
-use Rattle.table_check.specs.declared.Checked.{Checked}
-use Rattle.table_check.specs.declared.Checked.TheVariants.{Good, Not}
+use Rattle.std.specs.Prelude as code
+use Rattle.std.specs.Prelude.{Ok, Err}
 
 -- there is room for what was found
 unfoldable pub room_for : Sections → (types fields consts bytes names : ℕ) → Bool
@@ -25,7 +25,7 @@ told_of x = record {
   names = x.type_names + (x.field_names + x.const_names);
 }
 
-pub record Tested (s : List ℕ) (t f c b n : ℕ) (words halves words' halves' : List ℕ) (r : Checked) : Type 0 where
-  pub table : (x : Sections) → r ≡ Good x → Sectioned s x × (room_for x t f c b n ≡ true) × (table_read t f c b n s words halves ≡ ok (table_of s))
-  pub not : (why : Refusal) → r ≡ Not why → table_read t f c b n s words halves ≡ refused (number_of why)
+pub record Tested (s : List ℕ) (t f c b n : ℕ) (words halves words' halves' : List ℕ) (r : code.Result Sections Refusal) : Type 0 where
+  pub table : (x : Sections) → r ≡ Ok x → Sectioned s x × (room_for x t f c b n ≡ true) × (table_read t f c b n s words halves ≡ ok (table_of s))
+  pub not : (why : Refusal) → r ≡ Err why → table_read t f c b n s words halves ≡ refused (number_of why)
   pub scratch : words' ∷ halves' ∷ [] ≡ scratch_left words halves

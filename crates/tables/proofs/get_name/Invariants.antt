@@ -7,6 +7,3 @@ use Rattle.tables.proofs.get_name.Given as goal
 
 abbrev pub invariant-loop-i : goal.invariant-loop-i
 invariant-loop-i l = ending (length l.s) (read_name (drop l.at l.s)) ≡ ending (length l.s) (read_name (drop l.i l.s))
-
-abbrev pub decreases-loop-i : goal.decreases-loop-i
-decreases-loop-i l = length l.s - l.i

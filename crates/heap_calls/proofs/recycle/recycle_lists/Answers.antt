@@ -29,11 +29,11 @@ offset_bounds-narrow-x c = omega (arith, in_entry c.args.all c.args.f c.args.r c
 pub bounds-narrow-x : goal.bounds-narrow-x
 bounds-narrow-x c = omega (arith, in_entry c.args.all c.args.f c.args.r c.args.q (c.args.pins.now ++ marked_slots c.args.marks.now) c.args.narrow.now c.requires.q_bound.0 c.requires.q_bound.1 c.requires.q_bound.2 c.loop-j.invariant c.loop-j-test.true c.requires.entries, c.loop-j.invariant.beside.long, c.requires.q_bound)
 
-pub put_entry-c-requires : goal.put_entry-c-requires
-put_entry-c-requires c = omega (arith, c.loop-j.invariant, c.loop-j.invariant.beside.long, c.requires.q_bound)
+pub put-counts-requires : goal.put-counts-requires
+put-counts-requires c = omega (arith, c.loop-j.invariant, c.loop-j.invariant.beside.long, c.requires.q_bound)
 
 pub loop-j-preserved : goal.loop-j-preserved
-loop-j-preserved c = in-turn c.args.all c.args.f c.args.r c.args.q (c.args.pins.now ++ marked_slots c.args.marks.now) c.args.narrow.now c.requires.q_bound.0 c.requires.q_bound.1 c.requires.q_bound.2 c.loop-j.invariant c.loop-j-test.true c.requires.entries c.stays-held.ensures refl c.put_entry-c.ensures
+loop-j-preserved c = in-turn c.args.all c.args.f c.args.r c.args.q (c.args.pins.now ++ marked_slots c.args.marks.now) c.args.narrow.now c.requires.q_bound.0 c.requires.q_bound.1 c.requires.q_bound.2 c.loop-j.invariant c.loop-j-test.true c.requires.entries c.stays-held.ensures refl c.put-counts.ensures
 
 pub slice_bounds-fill-end : goal.slice_bounds-fill-end
 slice_bounds-fill-end c = omega (arith, c.loop-j.invariant, c.loop-j.invariant.beside.long, c.requires.q_bound)

@@ -2,8 +2,8 @@
 use Rattle.mark.proofs.Holding.{address-nowhere, address-at}
 use Rattle.mark.proofs.hold.hold_address.Goals as goal
 
-pub returns-in-Nowhere : goal.returns-in-Nowhere
-returns-in-Nowhere c = search address-nowhere
+pub returns-in-None : goal.returns-in-None
+returns-in-None c = search address-nowhere
 
-pub returns-in-At : goal.returns-in-At
-returns-in-At c = search address-at
+pub returns-in-Some : goal.returns-in-Some
+returns-in-Some c = search address-at

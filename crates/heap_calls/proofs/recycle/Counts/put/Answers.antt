@@ -1,5 +1,5 @@
--- `heap_calls::recycle::put_entry` meets its contract: by its two tests.
-use Rattle.heap_calls.proofs.recycle.put_entry.Goals as goal
+-- `heap_calls::recycle::Counts::put` meets its contract: by its two tests.
+use Rattle.heap_calls.proofs.recycle.Counts.put.Goals as goal
 
 pub returns-then-held : goal.returns-then-held
 returns-then-held c = record { free_count = simp c.if-held.true; retired_count = simp c.if-held.true; keep_count = simp c.if-held.true; lists = simp c.if-held.true }

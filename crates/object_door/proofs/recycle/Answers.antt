@@ -1,0 +1,13 @@
+-- `object_door::recycle` meets its contract.
+use mathlib.Core.Path.{sym, ◌∙◌}
+use Rattle.object_door.proofs.Objects.{of-pins, no_pins}
+use Rattle.object_door.proofs.recycle.Goals as goal
+
+pub recycle-requires : goal.recycle-requires
+recycle-requires c = record { pool_value = c.requires; pins_value = sym c.rise.ensures ∙ c.if-rise.true }
+
+pub returns-then-rise : goal.returns-then-rise
+returns-then-rise c = of-pins _ _ _ (sym c.rise.ensures ∙ c.if-rise.true) c.recycle.ensures
+
+pub returns : goal.returns
+returns c = no_pins _ _ (sym c.rise.ensures ∙ c.if-rise.false) c.requires
