@@ -11,7 +11,6 @@ ghost use Rattle.rehearsal_steps.specs.Steps.{after_drop, StoresInto, Dropped, s
 
 use heap::Heap;
 use heap::view::View;
-
 use rehearsal_lines::StoreLine;
 use rehearsal_names::{held_at, let_go};
 use rehearsal_steps::Going;

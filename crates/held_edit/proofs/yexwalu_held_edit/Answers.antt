@@ -16,5 +16,5 @@ pub returns : goal.returns
 returns c =
     let before : Lent = lent c.header-heap.result c.args.narrow.now c.args.wide.now c.args.pool.now in
     let done : Tells here nothing before (lent c.edit-reply.new.lent.heap c.narrow-1.given.0 c.wide-1.given.0 c.pool-1.given.0) c.edit-reply.result
-        (edit (length c.args.pool.now) (view before) c.args.handle c.args.bytes.now c.args.start) = record { leaves = search rules; says = c.edit-reply.ensures.tells.says } in
+    (edit (length c.args.pool.now) (view before) c.args.handle c.args.bytes.now c.args.start) = record { leaves = search rules; says = c.edit-reply.ensures.tells.says } in
     holds here nothing _ done c.from.ensures c.header-heap.ensures c.keep.ensures refl refl refl refl
