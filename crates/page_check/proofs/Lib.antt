@@ -1,4 +1,3 @@
-pub mod Lines
 pub mod Reading
 pub mod Counting
 pub mod Filling

@@ -78,18 +78,16 @@ pub fn yexwalu_read_page(
     ensures { outcome result.answer (lent result.heap narrow.new wide.new pool.new) marks.new work.new
         ≡ reading marks.old work.old (lent heap narrow.old wide.old pool.old) text.now }
 {
-    if scratch_fits(narrow, marks, work) {} else {
+    if !scratch_fits(narrow, marks, work) {
         return Done {
-            heap: heap,
+            heap,
             answer: Answer::from(Err(Refusal::Scratch)),
         };
     }
     marks.fill(0);
     let done = page_reader::read(heap, narrow, wide, pool, text, work);
-    let after = done.heap;
-    let reply = done.reply;
     Done {
-        heap: after,
-        answer: Answer::from(reply),
+        heap: done.heap,
+        answer: Answer::from(done.reply),
     }
 }

@@ -17,12 +17,6 @@ ghost use Rattle.pages.specs.Answer.{PageWritten};
 use heap::Heap;
 use refusal::{Refusal, Reply};
 
-fn widened(x: u32) -> u64
-    ensures { result ≡ x }
-{
-    x as u64
-}
-
 // How long the first `count` values of a list are, one a line.
 fn indices_len(list: &[u32], count: usize) -> usize
     requires { (count ≤ length list.now) × (count ≤ 16777216) }
@@ -31,7 +25,7 @@ fn indices_len(list: &[u32], count: usize) -> usize
 {
     let mut n = 0;
     for i in 0..count {
-        let d = text::decimal_len(widened(list[i]));
+        let d = text::decimal_len(u64::from(list[i]));
         n = n + d + 1;
     }
     n
@@ -67,7 +61,7 @@ fn put_indices(out: &mut [u8], at: usize, list: &[u32], count: usize) -> usize
 {
     let mut k = at;
     for i in 0..count {
-        k = put_number(out, k, widened(list[i]), 10);
+        k = put_number(out, k, u64::from(list[i]), b'\n');
     }
     k
 }
@@ -79,7 +73,7 @@ fn put_handles(out: &mut [u8], at: usize, list: &[u64], count: usize) -> usize
 {
     let mut k = at;
     for i in 0..count {
-        k = put_number(out, k, list[i], 10);
+        k = put_number(out, k, list[i], b'\n');
     }
     k
 }
@@ -124,13 +118,13 @@ fn put_slot(
     requires { at + length (slot_line planar (slot generation kind ty start writes bytes.now)) ≤ length out.old }
     ensures { Puts out.old out.new at result (slot_line planar (slot generation kind ty start writes bytes.now)) }
 {
-    let a = put_number(out, at, generation as u64, 44);
-    let b = put_number(out, a, kind as u64, 44);
-    let c = put_number(out, b, ty as u64, 44);
-    let d = put_number(out, c, start, 44);
-    let e = put_number(out, d, writes, 44);
+    let a = put_number(out, at, generation as u64, b',');
+    let b = put_number(out, a, kind as u64, b',');
+    let c = put_number(out, b, ty as u64, b',');
+    let d = put_number(out, c, start, b',');
+    let e = put_number(out, d, writes, b',');
     let f = put_column(out, e, bytes, planar);
-    out[f] = 10;
+    out[f] = b'\n';
     f + 1
 }
 
@@ -220,14 +214,14 @@ fn put_fields(out: &mut [u8], at: usize, h: Heap) -> usize
     ensures { Puts out.old out.new at result
         (head_fields h.tag h.since_gc h.reclaim_at h.live_bytes h.slots h.free h.quarantine h.sealed) }
 {
-    let a = put_number(out, at, h.tag as u64, 44);
-    let b = put_number(out, a, h.since_gc, 44);
-    let c = put_number(out, b, h.reclaim_at as u64, 44);
-    let d = put_number(out, c, h.live_bytes, 44);
-    let e = put_number(out, d, h.slots as u64, 44);
-    let f = put_number(out, e, h.free as u64, 44);
-    let g = put_number(out, f, h.quarantine as u64, 44);
-    put_number(out, g, h.sealed as u64, 44)
+    let a = put_number(out, at, h.tag as u64, b',');
+    let b = put_number(out, a, h.since_gc, b',');
+    let c = put_number(out, b, h.reclaim_at as u64, b',');
+    let d = put_number(out, c, h.live_bytes, b',');
+    let e = put_number(out, d, h.slots as u64, b',');
+    let f = put_number(out, e, h.free as u64, b',');
+    let g = put_number(out, f, h.quarantine as u64, b',');
+    put_number(out, g, h.sealed as u64, b',')
 }
 
 // How long the line of a heap's numbers is.
@@ -247,7 +241,7 @@ fn put_head(out: &mut [u8], at: usize, h: Heap) -> usize
         (numbers_line true h.tag h.since_gc h.reclaim_at h.live_bytes h.slots h.free h.quarantine h.sealed h.retired) }
 {
     let a = put_fields(out, at, h);
-    put_number(out, a, h.retired as u64, 10)
+    put_number(out, a, h.retired as u64, b'\n')
 }
 
 // Puts a name and then the first `count` values of a list.

@@ -18,15 +18,15 @@ use Rattle.heap.specs.Calls.{gc_due}
 use Rattle.rehearsal.specs.Runs.{Run, held_at, handles, swept, collecting, allocating, storing, dropping, does, unless}
 use Rattle.rehearsal.specs.OnHeap.{heaped, collects_heap}
 use Rattle.rehearsal.proofs.Holding.{unless-ended}
-use Rattle.rehearsal_lines.specs.Found.{alloc_at, store_of, step_in, DataIn}
+use Rattle.rehearsal_lines.specs.Found.{store_of, DataIn}
 use Rattle.rehearsal_lines.specs.declared.Line.{Line}
-use Rattle.rehearsal_lines.specs.declared.Line.TheVariants.{Alloc, Store, Drop, Bad}
+use Rattle.rehearsal_lines.specs.declared.Line.TheVariants.{Alloc}
 use Rattle.script.specs.declared.AllocLine.{AllocLine}
 use Rattle.rehearsal_lines.specs.declared.StoreLine.{StoreLine}
 use Rattle.rehearsal_names.specs.Names.{named, Names, LetGo}
 use Rattle.rehearsal_steps.specs.declared.Going.{Going}
 use Rattle.rehearsal_steps.specs.Going.{going_on, ended_by, InOrder, Goes}
-use Rattle.rehearsal_steps.specs.Steps.{no_types, Dropped, after_drop, collecting_in, allocating_in, storing_in, doing_in, line_does}
+use Rattle.rehearsal_steps.specs.Steps.{no_types, Dropped, after_drop, collecting_in, allocating_in, storing_in, doing_in}
 
 -- no type and no threshold matters to an allocation or a store
 alloc-any : (T : Table) (S P n t k : ℕ) (bs : List ℕ) (r : Run State) → allocating (heaped no_types S P) 0 t k bs r ≡ allocating (heaped T S P) n t k bs r
@@ -120,13 +120,9 @@ drop-header {S} {turn} {words} {words'} {g} {g'} d = ap (λ (x : Going). x.heap)
 
 -- ---- a line
 
-module _ (T : Table) (l : Lent) (words : List ℕ) (g : Going) (n : ℕ) {l₁ : Lent} {words' : List ℕ} {g₁ : Going} (s : List ℕ) where
-  -- the line that it is
-  pub as_line : (line : Line) (c : Step) → step_in s line ≡ some c → Goes l₁ words' g₁ (doing_in T l words g n c) → Goes l₁ words' g₁ (line_does T l words g n (step_in s line))
-  as_line line c e d = subst (λ (o : Option Step). Goes l₁ words' g₁ (line_does T l words g n o)) (sym e) d
+-- the line that it is
+pub as_line : (T : Table) (l : Lent) (words : List ℕ) (g : Going) (n : ℕ) {l₁ : Lent} {words' : List ℕ} {g₁ : Going} {c c' : Step} → c' ≡ c → Goes l₁ words' g₁ (doing_in T l words g n c) → Goes l₁ words' g₁ (doing_in T l words g n c')
+as_line T l words g n {l₁} {words'} {g₁} e d = subst (λ (x : Step). Goes l₁ words' g₁ (doing_in T l words g n x)) (sym e) d
 
 pub alloc-data : (s : List ℕ) (line : Line) (a : AllocLine) → line ≡ Alloc a → DataIn s line → DataThere s a
 alloc-data s line a e d = subst (DataIn s) e d
-
-pub bad-line : (T : Table) {l : Lent} {words : List ℕ} {g : Going} (n : ℕ) (s : List ℕ) (line : Line) → InOrder l words g → line ≡ Bad → Goes l words g (line_does T l words g n (step_in s line))
-bad-line T {l} {words} {g} n s line order e = subst (λ (x : Line). Goes l words g (line_does T l words g n (step_in s x))) (sym e) (record { order = order; is = refl })

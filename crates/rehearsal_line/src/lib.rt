@@ -7,7 +7,7 @@ ghost use Rattle.heap.specs.Lent.{lent};
 ghost use Rattle.script.specs.Found.{DataThere};
 ghost use Rattle.rehearsal_lines.specs.Found.{alloc_at, DataIn, step_in};
 ghost use Rattle.rehearsal_steps.specs.Going.{InOrder, Short, Cleared, Led, Goes};
-ghost use Rattle.rehearsal_steps.specs.Steps.{doing_in, line_does};
+ghost use Rattle.rehearsal_steps.specs.Steps.{doing_in};
 
 use rehearsal_lines::Line;
 use rehearsal_steps::{Going, allocate, collect_due};
@@ -73,7 +73,7 @@ pub fn do_line(
     requires data_in { DataIn s.now line }
     requires led { Led (table_of types.now fields.now consts.now bytes.now) (lent g.heap narrow.old wide.old pool.old) words.old g threshold }
     ensures goes { Goes (lent result.heap narrow.new wide.new pool.new) words.new result
-        (line_does (table_of types.now fields.now consts.now bytes.now)
+        (doing_in (table_of types.now fields.now consts.now bytes.now)
         (lent g.heap narrow.old wide.old pool.old) words.old g threshold (step_in s.now line)) }
     ensures marks_unchanged { (marks.new ≡ marks.old) × (work.new ≡ work.old) }
 {
@@ -83,7 +83,6 @@ pub fn do_line(
             work,
         ),
         Line::Store(a) => do_store(g, narrow, wide, pool, a, words),
-        Line::Drop(turn, _) => do_drop(g, narrow.len() / 6, turn, words),
-        Line::Bad => g,
+        Line::Drop(turn) => do_drop(g, narrow.len() / 6, turn, words),
     }
 }

@@ -6,8 +6,6 @@ use mathlib.Core.List.{List, [], ◌∷◌}
 use mathlib.Core.Option as maybe
 use mathlib.Core.Option.{none}
 use mathlib.Core.Path.{◌≡◌, refl, sym, ap, ◌∙◌, subst}
-use denote.Enum.Declared.{tag_of}
-use types.Run.{OneOf, miss}
 use lib.ListN.{length, drop, length-drop, drop_of_length-le}
 use Rattle.text.specs.Text.{give, ascii, comma, newline, digit_of, read_hex, read_literal, read_field}
 use Rattle.text.specs.Format.{number, bytes_line, pair}
@@ -17,10 +15,9 @@ use Rattle.text.proofs.Getting.{answer-none, field_found, hex-found, hex-missing
 use Rattle.script.specs.Script.{alloc_format}
 use Rattle.rehearsal.specs.Lines.{Line as Step, alloc, store, drop as drops, store_format, read_alloc, read_store, read_drop, read_line, is_text}
 use Rattle.rehearsal.proofs.Reading.{line-shorter, text-nothing, text-bad, text-more}
-use Rattle.rehearsal_lines.specs.Found.{Reads, AllocRead, LineRead, next_after}
+use Rattle.rehearsal_lines.specs.Found.{step_in, Reads, LineRead}
 use Rattle.rehearsal_lines.specs.declared.Line.{Line}
-use Rattle.rehearsal_lines.specs.declared.Line.TheVariants.{Alloc, Store, Drop, Bad}
-use Rattle.rehearsal_lines.specs.contracts.Line.{the_type as line-type}
+use Rattle.rehearsal_lines.specs.declared.Line.TheVariants.{Alloc, Store, Drop}
 
 no-comma : digit_of comma ≡ none
 unfolding digit_of
@@ -63,14 +60,15 @@ module _ (s : List ℕ) (at : ℕ) (r : Option (ℕ × ℕ)) (e : r ≡ value_an
       unfolding read_alloc alloc_format pair bytes_line
       no-data h = rw (type-read, kind-read, hex-missing s b e₃ h)
 
-      pub alloc-read : (n c : ℕ) → p ≡ Some (n, c) → AllocRead (read_alloc (drop at s)) s (record { ty = t; kind = k; from = b; count = n; next = c })
+      pub alloc-read : (n c : ℕ) → p ≡ Some (n, c) → Reads (read_alloc (drop at s)) s (Alloc (record { ty = t; kind = k; from = b; count = n })) c
       unfolding read_alloc alloc_format pair bytes_line
       alloc-read n c h =
           let x = hex-found s b n c e₃ h in
           let i : hex_at s b ≡ x.0 = hex-at s b x.0 (drop c s) x.1 in
           record {
-            reads = record { line = rw (type-read, kind-read, x.1) (ap (λ (bs : List ℕ). give (alloc t k bs) (drop c s)) (sym i)); inside = x.3 };
+            step = rw (type-read, kind-read, x.1) (ap (λ (bs : List ℕ). give (alloc t k bs) (drop c s)) (sym i));
             there = record { parsed = record { rest = drop c s; reads = x.1 ∙ ap (λ (bs : List ℕ). give bs (drop c s)) (sym i) }; counted = sym x.2 ∙ ap length (sym i); narrow = type-narrow };
+            inside = x.3;
           }
 
 -- ---- `store`: two turns, an offset
@@ -98,11 +96,11 @@ module _ (s : List ℕ) (at : ℕ) (r : Option (ℕ × ℕ)) (e : r ≡ value_an
       unfolding read_store store_format pair number
       no-offset h = rw (held-read, into-read, answer-none s (read_field 18446744073709551615 10 (drop b s)) e₃ h)
 
-      pub store-read : (o c : ℕ) → p ≡ Some (o, c) → Reads (read_store (drop at s)) s (store x y o) c
+      pub store-read : (o c : ℕ) → p ≡ Some (o, c) → Reads (read_store (drop at s)) s (Store (record { held = x; into = y; offset = o })) c
       unfolding read_store store_format pair number
       store-read o c h =
           let z = field_found s 64 10 b o c no-newline e₃ h in
-          record { line = rw (held-read, into-read, z.0); inside = z.1 }
+          record { step = rw (held-read, into-read, z.0); there = tt; inside = z.1 }
 
 -- ---- `drop`: a turn
 
@@ -111,11 +109,11 @@ module _ (s : List ℕ) (at : ℕ) (r : Option (ℕ × ℕ)) (e : r ≡ value_an
   unfolding read_drop number
   no-dropped f = rw (answer-none s (read_field 18446744073709551615 10 (drop at s)) e f)
 
-  pub drop-read : (x a : ℕ) → r ≡ Some (x, a) → Reads (read_drop (drop at s)) s (drops x) a
+  pub drop-read : (x a : ℕ) → r ≡ Some (x, a) → Reads (read_drop (drop at s)) s (Drop x) a
   unfolding read_drop number
   drop-read x a f =
       let z = field_found s 64 10 at x a no-newline e f in
-      record { line = rw z.0; inside = z.1 }
+      record { step = rw z.0; there = tt; inside = z.1 }
 
 -- ---- by name
 
@@ -129,17 +127,17 @@ abbrev drop_name : List ℕ
 drop_name = 100 ∷ 114 ∷ 111 ∷ 112 ∷ 44 ∷ []
 
 module _ (s : List ℕ) (at : ℕ) (r : Option ℕ) (e : r ≡ literal_answer (length s) (read_literal alloc_name (drop at s))) where
-  pub by-alloc : (a : ℕ) → r ≡ Some a → (l : Line) → LineRead (read_alloc (drop a s)) s l → LineRead (read_line (drop at s)) s l
+  pub by-alloc : (a : ℕ) → r ≡ Some a → (l : Option (Line × ℕ)) → LineRead (read_alloc (drop a s)) s l → LineRead (read_line (drop at s)) s l
   unfolding read_line ascii
   by-alloc a f l h = subst (λ (o : maybe.Option (Step × List ℕ)). LineRead o s l) (rw (literal-found alloc_name s at a e f).0) h
 
   module _ (f : r ≡ None) (r₂ : Option ℕ) (e₂ : r₂ ≡ literal_answer (length s) (read_literal store_name (drop at s))) where
-    pub by-store : (a : ℕ) → r₂ ≡ Some a → (l : Line) → LineRead (read_store (drop a s)) s l → LineRead (read_line (drop at s)) s l
+    pub by-store : (a : ℕ) → r₂ ≡ Some a → (l : Option (Line × ℕ)) → LineRead (read_store (drop a s)) s l → LineRead (read_line (drop at s)) s l
     unfolding read_line ascii
     by-store a g l h = subst (λ (o : maybe.Option (Step × List ℕ)). LineRead o s l) (rw (literal-lost alloc_name s at e f, (literal-found store_name s at a e₂ g).0)) h
 
     module _ (g : r₂ ≡ None) (r₃ : Option ℕ) (e₃ : r₃ ≡ literal_answer (length s) (read_literal drop_name (drop at s))) where
-      pub by-drop : (a : ℕ) → r₃ ≡ Some a → (l : Line) → LineRead (read_drop (drop a s)) s l → LineRead (read_line (drop at s)) s l
+      pub by-drop : (a : ℕ) → r₃ ≡ Some a → (l : Option (Line × ℕ)) → LineRead (read_drop (drop a s)) s l → LineRead (read_line (drop at s)) s l
       unfolding read_line ascii
       by-drop a h l k = subst (λ (o : maybe.Option (Step × List ℕ)). LineRead o s l) (rw (literal-lost alloc_name s at e f, literal-lost store_name s at e₂ g, (literal-found drop_name s at a e₃ h).0)) k
 
@@ -157,25 +155,18 @@ pub record Looked (s : List ℕ) (at : ℕ) : Type 0 where
 pub looked-first : (s : List ℕ) → Looked s 0
 looked-first s = record { inside = omega arith; left = refl }
 
--- a line that was read: its rest begins at next
-pub line_reads : (s : List ℕ) (at : ℕ) (l : Line) → LineRead (read_line (drop at s)) s l → OneOf (0 ∷ 1 ∷ 2 ∷ []) (tag_of line-type l) → (c : Step) × Reads (read_line (drop at s)) s c (next_after (length s) l)
-line_reads s at (Alloc a) h o = (_, h.reads)
-line_reads s at (Store a) h o = (_, h)
-line_reads s at (Drop x n) h o = (_, h)
-line_reads s at Bad h o = absurd (miss (0 ∷ 1 ∷ 2 ∷ []) 3 tt o)
+pub next-on : (s : List ℕ) (at : ℕ) {line : Line} {next : ℕ} → at ≤ length s → Reads (read_line (drop at s)) s line next → at < next
+next-on s at {line} {next} h r = omega (arith, line-shorter (drop at s) (drop next s) (step_in s line) r.step, length-drop at s, length-drop next s, r.inside)
 
-pub next-on : (s : List ℕ) (at : ℕ) {c : Step} {next : ℕ} → at ≤ length s → Reads (read_line (drop at s)) s c next → at < next
-next-on s at {c} {next} h r = omega (arith, line-shorter (drop at s) (drop next s) c r.line, length-drop at s, length-drop next s, r.inside)
+module _ {s : List ℕ} {at : ℕ} (now : Looked s at) (o : Option (Line × ℕ)) (h : LineRead (read_line (drop at s)) s o) where
+  pub looked-next : (line : Line) (next : ℕ) → o ≡ Some (line, next) → Looked s next × (at < next)
+  looked-next line next e =
+      let r : Reads (read_line (drop at s)) s line next = subst (λ (x : Option (Line × ℕ)). LineRead (read_line (drop at s)) s x) e h in
+      (record { inside = r.inside; left = sym (text-more (drop at s) (drop next s) (step_in s line) r.step) ∙ now.left }, next-on s at now.inside r)
 
-module _ {s : List ℕ} {at : ℕ} (now : Looked s at) where
-  pub looked-next : (l : Line) {next : ℕ} → LineRead (read_line (drop at s)) s l → OneOf (0 ∷ 1 ∷ 2 ∷ []) (tag_of line-type l) → next ≡ next_after (length s) l → Looked s next × (at < next)
-  looked-next l {next} h o e =
-      let p = line_reads s at l h o in
-      rw e (record { inside = p.1.inside; left = sym (text-more (drop at s) (drop (next_after (length s) l) s) p.0 p.1.line) ∙ now.left }, next-on s at now.inside p.1)
+  pub looked-bad : at < length s → o ≡ None → false ≡ is_text s
+  looked-bad less e =
+      sym (sym now.left ∙ text-bad (drop at s) (λ z. omega (arith, length-drop at s)) (subst (λ (x : Option (Line × ℕ)). LineRead (read_line (drop at s)) s x) e h))
 
-  pub looked-bad : (l : Line) → at < length s → LineRead (read_line (drop at s)) s l → l ≡ Bad → false ≡ is_text s
-  looked-bad l less h e =
-      sym (sym now.left ∙ text-bad (drop at s) (λ z. omega (arith, length-drop at s)) (subst (λ (x : Line). LineRead (read_line (drop at s)) s x) e h))
-
-  pub looked-all : length s ≤ at → true ≡ is_text s
-  looked-all h = sym (sym now.left ∙ text-nothing (drop at s) (omega (arith, length-drop at s)))
+pub looked-all : {s : List ℕ} {at : ℕ} → Looked s at → length s ≤ at → true ≡ is_text s
+looked-all {s} {at} now h = sym (sym now.left ∙ text-nothing (drop at s) (omega (arith, length-drop at s)))

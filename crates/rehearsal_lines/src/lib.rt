@@ -3,108 +3,73 @@
 
 ghost use Rattle.std.specs.Prelude.{◌≡◌, ◌≤◌, length, drop};
 ghost use Rattle.rehearsal.specs.Lines.{read_alloc, read_store, read_drop, read_line, is_text};
-ghost use Rattle.rehearsal_lines.specs.Found.{LineRead, next_after};
+ghost use Rattle.rehearsal_lines.specs.Found.{LineRead};
 
 use script::AllocLine;
 
-// A line `store`: the turns of what is stored and of what it is stored into, the offset, and where the next line begins.
+// A line `store`: the turns of what is stored and of what it is stored into, and the offset.
 #[derive(Clone, Copy)]
 pub struct StoreLine {
     pub held: u64,
     pub into: u64,
     pub offset: u64,
-    pub next: usize,
 }
 
-// A line, and where the next one begins.
 #[derive(Clone, Copy)]
 pub enum Line {
     Alloc(AllocLine),
     Store(StoreLine),
-    Drop(u64, usize),
-    Bad,
+    Drop(u64),
 }
 
-// The fields of an `alloc` line, from `at` on.
-fn read_alloc(s: &[u8], at: usize) -> Line
+// The fields of an `alloc` line, from `at` on, and where the next line begins.
+fn read_alloc(s: &[u8], at: usize) -> Option<(Line, usize)>
     ensures { LineRead (read_alloc (drop at s.now)) s.now result }
 {
-    let Some((t, a)) = text::get_field(s, at, 4294967295, 44) else {
-        return Line::Bad;
+    let (ty, a) = text::get_field(s, at, 4294967295, 44)?;
+    let (kind, from) = text::get_field(s, a, 255, 44)?;
+    let (count, next) = text::count_hex(s, from)?;
+    let line = AllocLine {
+        ty,
+        kind,
+        from,
+        count,
     };
-    let Some((k, b)) = text::get_field(s, a, 255, 44) else {
-        return Line::Bad;
-    };
-    let Some((n, c)) = text::count_hex(s, b) else {
-        return Line::Bad;
-    };
-    Line::Alloc(AllocLine {
-        ty: t,
-        kind: k,
-        from: b,
-        count: n,
-        next: c,
-    })
+    Some((Line::Alloc(line), next))
 }
 
 // The fields of a `store` line, from `at` on.
-fn read_store(s: &[u8], at: usize) -> Line
+fn read_store(s: &[u8], at: usize) -> Option<(Line, usize)>
     ensures { LineRead (read_store (drop at s.now)) s.now result }
 {
-    let Some((x, a)) = text::get_field(s, at, 18446744073709551615, 44) else {
-        return Line::Bad;
-    };
-    let Some((y, b)) = text::get_field(s, a, 18446744073709551615, 44) else {
-        return Line::Bad;
-    };
-    let Some((o, c)) = text::get_field(s, b, 18446744073709551615, 10) else {
-        return Line::Bad;
-    };
-    Line::Store(StoreLine {
-        held: x,
-        into: y,
-        offset: o,
-        next: c,
-    })
+    let (held, a) = text::get_field(s, at, 18446744073709551615, 44)?;
+    let (into, b) = text::get_field(s, a, 18446744073709551615, 44)?;
+    let (offset, next) = text::get_field(s, b, 18446744073709551615, 10)?;
+    let line = StoreLine { held, into, offset };
+    Some((Line::Store(line), next))
 }
 
 // The field of a `drop` line, from `at` on.
-fn read_drop(s: &[u8], at: usize) -> Line
+fn read_drop(s: &[u8], at: usize) -> Option<(Line, usize)>
     ensures { LineRead (read_drop (drop at s.now)) s.now result }
 {
-    let Some((x, a)) = text::get_field(s, at, 18446744073709551615, 10) else {
-        return Line::Bad;
-    };
-    Line::Drop(x, a)
+    let (turn, next) = text::get_field(s, at, 18446744073709551615, 10)?;
+    Some((Line::Drop(turn), next))
 }
 
-// The line that stands from `at` on.
-pub fn read_line(s: &[u8], at: usize) -> Line
+// The line that stands from `at` on, and where the next one begins.
+pub fn read_line(s: &[u8], at: usize) -> Option<(Line, usize)>
     requires { at ≤ length s.now }
     ensures { LineRead (read_line (drop at s.now)) s.now result }
 {
-    match text::expect(s, at, b"alloc,") {
-        Some(a) => read_alloc(s, a),
-        None => match text::expect(s, at, b"store,") {
-            Some(a) => read_store(s, a),
-            None => match text::expect(s, at, b"drop,") {
-                Some(a) => read_drop(s, a),
-                None => Line::Bad,
-            },
-        },
+    if let Some(a) = text::expect(s, at, b"alloc,") {
+        return read_alloc(s, a);
     }
-}
-
-// Where the line after this one begins; a bad line is the last.
-pub fn next_after(line: Line, end: usize) -> usize
-    ensures { result ≡ next_after end line }
-{
-    match line {
-        Line::Alloc(a) => a.next,
-        Line::Store(a) => a.next,
-        Line::Drop(_, next) => next,
-        Line::Bad => end,
+    if let Some(a) = text::expect(s, at, b"store,") {
+        return read_store(s, a);
     }
+    let a = text::expect(s, at, b"drop,")?;
+    read_drop(s, a)
 }
 
 // Is the whole text lines?
@@ -113,12 +78,10 @@ pub fn all_lines(s: &[u8]) -> bool
 {
     let mut at = 0;
     while at < s.len() {
-        let line = read_line(s, at);
-        let Line::Bad = line else {
-            at = next_after(line, s.len());
-            continue;
+        let Some((_, next)) = read_line(s, at) else {
+            return false;
         };
-        return false;
+        at = next;
     }
     true
 }

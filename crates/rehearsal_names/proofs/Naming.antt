@@ -16,7 +16,8 @@ use Rattle.word.proofs.RunLaws.{run-get, length_run, run-set, run-below}
 use Rattle.heap_calls.specs.Pins.{rising_from}
 use Rattle.rehearsal.specs.Runs.{Held as Name, held_at, without, handles}
 use Rattle.rehearsal_names.specs.Names.{name, entries, kept, entries_in, named, or_zero, Names, Gone, Absent, LetGo}
-use Rattle.rehearsal_names.specs.Moves.{index_in, turns_of}
+use Rattle.rehearsal_names.specs.Moves.{index_in, FoundAt, turns_of}
+use Rattle.std.specs.Prelude as found
 
 -- ---- entries
 
@@ -168,13 +169,22 @@ module _ {S n : ℕ} {words : List ℕ} (g : Names S n words) where
   pub front-rises : rising_from 1 (take n words) ≡ true
   front-rises = sym (ap (rising_from 1) (front n words)) ∙ g.rises
 
-  pub held_found : (turn : ℕ) {k : ℕ} → k ≡ index_in turn (take n words) → k < n → get_or words (S + k) 0 ≡ or_zero (held_at turn (named S n words))
-  held_found turn {k} e₀ less = let e : k ≡ index_in turn (run n 0 words) = e₀ ∙ ap (index_in turn) (sym (front n words)) in sym (found_at turn 1 (run n 0 words) (run n S words) same-long g.rises ∙ ap (λ (i : ℕ). get_or (run n S words) i 0) (sym e) ∙ run-get n S words k less)
+  module _ (turn : ℕ) (o : found.Option ℕ) (f : FoundAt turn (take n words) o) where
+    stands : {k : ℕ} → o ≡ found.Some k → (k ≡ index_in turn (run n 0 words)) × (k < n)
+    stands {k} e =
+        let w = subst (FoundAt turn (take n words)) e f in
+        (w.0 ∙ ap (index_in turn) (sym (front n words)), omega (arith, w.1, front-count))
 
-  pub held_none : (turn : ℕ) {k : ℕ} → k ≡ index_in turn (take n words) → n ≤ k → 0 ≡ or_zero (held_at turn (named S n words))
-  held_none turn {k} e₀ more =
-      let e : k ≡ index_in turn (run n 0 words) = e₀ ∙ ap (index_in turn) (sym (front n words)) in
-      sym (found_at turn 1 (run n 0 words) (run n S words) same-long g.rises ∙ get_or-eq_default (run n S words) 0 (omega (arith, handles-long)))
+    pub held_found : {k : ℕ} → o ≡ found.Some k → get_or words (S + k) 0 ≡ or_zero (held_at turn (named S n words))
+    held_found {k} q =
+        let e = stands q in
+        sym (found_at turn 1 (run n 0 words) (run n S words) same-long g.rises ∙ ap (λ (i : ℕ). get_or (run n S words) i 0) (sym e.0) ∙ run-get n S words k e.1)
+
+    pub held_none : o ≡ found.None → 0 ≡ or_zero (held_at turn (named S n words))
+    held_none q =
+        let w = subst (FoundAt turn (take n words)) q f in
+        sym (found_at turn 1 (run n 0 words) (run n S words) same-long g.rises
+        ∙ get_or-eq_default (run n S words) 0 (omega (arith, handles-long, front-count, w, ap (λ (ts : List ℕ). index_in turn ts) (front n words))))
 
   -- ---- let go
 
@@ -189,14 +199,14 @@ module _ {S n : ℕ} {words : List ℕ} (g : Names S n words) where
   pub absent : (turn : ℕ) → 0 ≡ or_zero (held_at turn (named S n words)) → Absent S n turn words words
   absent turn e = record { never = zero_or (held_at turn (named S n words)) (kept_real turn (entries_in S n words)) e; same = refl }
 
-  pub gone : (turn : ℕ) {k : ℕ} → k ≡ index_in turn (take n words) → k < n → (get_or words (S + k) 0 ≡ 0 → ⊥) → Gone S n turn words (set words (S + k) 0)
-  gone turn {k} e₀ less ne =
-      let e : k ≡ index_in turn (run n 0 words) = e₀ ∙ ap (index_in turn) (sym (front n words)) in
-      let value : get_or words (S + k) 0 ≡ or_zero (held_at turn (named S n words)) = held_found turn e₀ less in
+  pub gone : (turn : ℕ) (o : found.Option ℕ) (f : FoundAt turn (take n words) o) {k : ℕ} → o ≡ found.Some k → (get_or words (S + k) 0 ≡ 0 → ⊥) → Gone S n turn words (set words (S + k) 0)
+  gone turn o f {k} q ne =
+      let e = stands turn o f q in
+      let value : get_or words (S + k) 0 ≡ or_zero (held_at turn (named S n words)) = held_found turn o f q in
       let same : run n 0 (set words (S + k) 0) ≡ run n 0 words = run-below n 0 words (S + k) 0 (omega (arith, g.count)) in
       record {
         handle = or_zero (held_at turn (named S n words));
         was = some_or (held_at turn (named S n words)) (λ z. ne (value ∙ z));
-        left = (λ q. kept (entries (same q) ((run-set n S words k 0 less ∙ ap (λ (i : ℕ). set (run n S words) i 0) e) q))) ∙ dropped-at turn 1 (run n 0 words) (run n S words) same-long g.rises;
+        left = (λ r. kept (entries (same r) ((run-set n S words k 0 e.1 ∙ ap (λ (i : ℕ). set (run n S words) i 0) e.0) r))) ∙ dropped-at turn 1 (run n 0 words) (run n S words) same-long g.rises;
         turns = same;
       }

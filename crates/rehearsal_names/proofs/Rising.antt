@@ -8,13 +8,17 @@ use mathlib.Core.Path.{◌≡◌, refl, sym, ap, ◌∙◌}
 use lib.Dec.{eqb, leb}
 use lib.ListN.{length, get_or}
 use borrow.Author.Tests.{leb-true, le-leb, ne_eqb, eq-eqb}
-use Rattle.std.specs.Prelude.{if◌then◌else◌}
+use Rattle.std.specs.Prelude.{if◌then◌else◌, Result as Outcome, Ok, Err, MatchResult}
+use Rattle.std.specs.Prelude as found
+use Rattle.std.specs.Result.{result_ok}
+use Rattle.std.specs.Ordering.{nat_cmp}
+use Rattle.std.specs.List.Sorted.{IsBinarySearchResult}
+use Rattle.std.proofs.lemmas.List.Sorted.{searched}
 use Rattle.word.proofs.Bools.{and_both, both-and}
-use Rattle.heap_calls.specs.Pins.{rising_from, rising}
-use Rattle.heap_calls.proofs.Searching.{Between}
+use Rattle.heap_calls.specs.Pins.{rising_from}
 use Rattle.rehearsal.specs.Runs.{Held as Name}
 use Rattle.rehearsal_names.specs.Names.{kept}
-use Rattle.rehearsal_names.specs.Moves.{index_in, turns_of}
+use Rattle.rehearsal_names.specs.Moves.{index_in, FoundAt, turns_of}
 
 pub rising-lower : (lo lo' : ℕ) (xs : List ℕ) → lo ≤ lo' → rising_from lo' xs ≡ true → rising_from lo xs ≡ true
 unfolding rising_from
@@ -22,9 +26,6 @@ rising-lower lo lo' [] le h = refl
 rising-lower lo lo' (x ∷ xs) le h =
     let p = and_both (leb lo' x) (rising_from (suc x) xs) h in
     both-and (leb lo x) (rising_from (suc x) xs) (le-leb lo x (omega (arith, leb-true lo' x p.0))) p.1
-
-pub rising-zero : (xs : List ℕ) → rising_from 1 xs ≡ true → rising xs ≡ true
-rising-zero xs h = rising-lower 0 1 xs (omega arith) h
 
 pub rising-front : (lo : ℕ) (xs ys : List ℕ) → rising_from lo (xs ++ ys) ≡ true → rising_from lo xs ≡ true
 unfolding rising_from
@@ -77,11 +78,20 @@ unfolding index_in
 index-none x [] h = refl
 index-none x (y ∷ ys) h = rw (ne_eqb y x (h 0 (omega arith))) (ap suc (index-none x ys (λ k l. h (suc k) (omega arith))))
 
--- ---- the ways out of the search
+-- ---- what std's binary search finds
 
-pub find-found : (x : ℕ) (xs : List ℕ) → rising_from 1 xs ≡ true → (mid : ℕ) → mid < length xs → get_or xs mid 0 ≡ x → mid ≡ index_in x xs
-find-found x xs h mid l e = sym (sym (ap (λ (y : ℕ). index_in y xs) e) ∙ index_at 1 xs h mid l)
+rising-weakly : (lo : ℕ) (xs : List ℕ) → rising_from lo xs ≡ true → (i j : ℕ) → i ≤ j → j < length xs → get_or xs i 0 ≤ get_or xs j 0
+unfolding rising_from
+rising-weakly lo [] h i j le l = absurd (omega arith)
+rising-weakly lo (x ∷ xs) h zero zero le l = omega arith
+rising-weakly lo (x ∷ xs) h zero (suc j) le l = let p = and_both (leb lo x) (rising_from (suc x) xs) h in omega (arith, low-at (suc x) xs p.1 j (omega arith))
+rising-weakly lo (x ∷ xs) h (suc i) zero le l = absurd (omega arith)
+rising-weakly lo (x ∷ xs) h (suc i) (suc j) le l = rising-weakly (suc x) xs (and_both (leb lo x) (rising_from (suc x) xs) h).1 i j (omega arith) (omega arith)
 
-pub find_none : {x : ℕ} {xs : List ℕ} {low high : ℕ} → Between x xs low high → high ≤ low → length xs ≡ index_in x xs
-find_none {x} {xs} {low} b h =
-    sym (index-none x xs (λ k l e. elim (dec_lt k low) [ yes y ↦ omega (arith, b.below k y) | no y ↦ omega (arith, b.above k (omega arith) l) ]))
+pub found-at : (x : ℕ) (xs : List ℕ) → rising_from 1 xs ≡ true → (r : Outcome ℕ ℕ) → IsBinarySearchResult (λ y. nat_cmp y x) xs r → (o : found.Option ℕ) → o ≡ result_ok r → FoundAt x xs o
+found-at x xs h r found o e = rw e (go r (searched xs x r found (rising-weakly 1 xs h)))
+  where
+    go : (r : Outcome ℕ ℕ) → MatchResult r (λ i. (i < length xs) × (get_or xs i 0 ≡ x)) (λ i. (i ≤ length xs) × ((k : ℕ) → k < i → get_or xs k 0 < x) × ((k : ℕ) → i ≤ k → k < length xs → x < get_or xs k 0))
+        → FoundAt x xs (result_ok r)
+    go (Ok k) f = (sym (sym (ap (λ (y : ℕ). index_in y xs) f.1) ∙ index_at 1 xs h k f.0), f.0)
+    go (Err i) f = index-none x xs (λ k l e. elim (dec_lt k i) [ yes y ↦ omega (arith, f.1 k y) | no y ↦ omega (arith, f.2 k (omega arith) l) ])

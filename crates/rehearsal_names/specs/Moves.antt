@@ -1,5 +1,5 @@
 -- How entries are found and moved: what only inner functions' contracts cite.
-use Rattle.std.specs.Prelude.{ℕ, zero, suc, ◌+◌, ◌≤◌, ◌<◌, true, List, [], ◌∷◌, ◌++◌, map, ◌≡◌, eqb, length, get_or, set, if◌then◌else◌}
+use Rattle.std.specs.Prelude.{ℕ, zero, suc, ◌+◌, ◌≤◌, ◌<◌, true, List, [], ◌∷◌, ◌++◌, map, ◌≡◌, eqb, length, get_or, set, if◌then◌else◌, Option, Some, None}
 use Rattle.word.specs.Run.{run}
 use Rattle.heap_calls.specs.Pins.{rising_from}
 use Rattle.rehearsal.specs.Runs.{Held as Name, handles}
@@ -9,6 +9,11 @@ use Rattle.rehearsal_names.specs.Names.{named}
 unfoldable pub index_in : ℕ → List ℕ → ℕ
 index_in x [] = zero
 index_in x (y ∷ ys) = if eqb y x then zero else suc (index_in x ys)
+
+-- where x was found in a list, or that it stands nowhere
+abbrev pub FoundAt : ℕ → List ℕ → Option ℕ → Type 0
+FoundAt x xs (Some k) = (k ≡ index_in x xs) × (k < length xs)
+FoundAt x xs None = index_in x xs ≡ length xs
 
 abbrev pub turns_of : List Name → List ℕ
 turns_of = map (λ (e : Name). e.turn)

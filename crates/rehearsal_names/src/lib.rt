@@ -1,33 +1,20 @@
 // The names held in a rehearsal (request [12]) in lent words: turns in the first `s` words, handles in the next `s`, both in the order of turns. An entry that was
-// dropped has handle 0; such entries are squeezed out when there is no room for one more. Names are found by halves.
+// dropped has handle 0; such entries are squeezed out when there is no room for one more.
 #![tactic(auto)]
 
-ghost use Rattle.std.specs.Prelude.{◌≡◌, true};
+ghost use Rattle.std.specs.Prelude.{◌≡◌, ◌<◌, true, length, IfSome};
 ghost use Rattle.heap_calls.specs.Pins.{rising_from};
 ghost use Rattle.rehearsal.specs.Runs.{held_at};
 ghost use Rattle.rehearsal_names.specs.Names.{or_zero, named, Names, LetGo, CanHold, Held};
-ghost use Rattle.rehearsal_names.specs.Moves.{index_in, CanMove, moved_to, moved_words, InRoom, Squeezed, Roomy};
+ghost use Rattle.rehearsal_names.specs.Moves.{FoundAt, CanMove, moved_to, moved_words, InRoom, Squeezed, Roomy};
 
-use heap_calls::recycle::half;
-
-// Where `x` is among turns that rise; their number where it is not.
-fn find(turns: &[u64], x: u64) -> usize
+// Where `x` is among turns that rise.
+fn find(turns: &[u64], x: u64) -> Option<usize>
     requires { rising_from 1 turns.now ≡ true }
-    ensures { result ≡ index_in x turns.now }
+    ensures within { IfSome result (λ k. k < length turns.now) }
+    ensures found { FoundAt x turns.now result }
 {
-    let mut low = 0;
-    let mut high = turns.len();
-    while low < high {
-        let mid = low + (high - low) / 2;
-        let y = turns[mid];
-        if y == x {
-            return mid;
-        }
-        let r = half(y < x, low, mid, high);
-        low = r.low;
-        high = r.high;
-    }
-    turns.len()
+    turns.binary_search(&x).ok()
 }
 
 // The handle held under this turn; 0 where none is.
@@ -35,11 +22,10 @@ pub fn held_at(words: &[u64], s: usize, n: usize, turn: u64) -> u64
     requires { Names s n words.now }
     ensures { result ≡ or_zero (held_at turn (named s n words.now)) }
 {
-    let k = find(&words[..n], turn);
-    if k < n {
-        return words[s + k];
+    match find(&words[..n], turn) {
+        Some(k) => words[s + k],
+        None => 0,
     }
-    0
 }
 
 // Lets go of what is held under this turn; false where nothing is.
@@ -47,10 +33,9 @@ pub fn let_go(words: &mut [u64], s: usize, n: usize, turn: u64) -> bool
     requires { Names s n words.old }
     ensures { LetGo s n turn words.old words.new result }
 {
-    let k = find(&words[..n], turn);
-    if n <= k {
+    let Some(k) = find(&words[..n], turn) else {
         return false;
-    }
+    };
     if words[s + k] == 0 {
         return false;
     }
@@ -77,11 +62,9 @@ fn squeeze(words: &mut [u64], s: usize, n: usize) -> usize
     requires { InRoom s n words.old }
     ensures { Squeezed s n words.old result words.new }
 {
-    let mut i = 0;
     let mut j = 0;
-    while i < n {
+    for i in 0..n {
         j = squeeze_one(words, s, i, j);
-        i += 1;
     }
     j
 }

@@ -6,6 +6,7 @@ use mathlib.Core.List.{List, [], ◌∷◌, ◌++◌, append_assoc, append-nil}
 use mathlib.Core.Option.{Option, none, some}
 use mathlib.Core.Path.{◌≡◌, refl, sym, ap, ◌∙◌, subst}
 use lib.ListN.{length, drop, length-append, length-drop}
+use Rattle.std.specs.Prelude as found
 use Rattle.word.proofs.Bools.{true-false}
 use Rattle.text.specs.Text.{give, ◌>>=◌, ascii, line}
 use Rattle.text.proofs.Laws.{none-not-some, some_inj, bind-some}
@@ -17,12 +18,11 @@ use Rattle.rehearsal.specs.Runs.{Run, World, unless, does, after, starting}
 use Rattle.rehearsal.specs.OnHeap.{heaped, fresh}
 use Rattle.rehearsal.proofs.Reading.{line-back, read-nothing, read-bad, read_more}
 use Rattle.rehearsal.proofs.Holding.{after_one, after-ended, counted-after}
-use Rattle.rehearsal_lines.specs.Found.{Reads, LineRead, next_after, step_in, DataIn}
+use Rattle.rehearsal_lines.specs.Found.{Reads, LineRead, step_in}
 use Rattle.rehearsal_lines.specs.declared.Line.{Line}
-use Rattle.rehearsal_lines.specs.declared.Line.TheVariants.{Alloc, Store, Drop, Bad}
 use Rattle.rehearsal_steps.specs.declared.Going.{Going}
 use Rattle.rehearsal_steps.specs.Going.{going_on, InOrder, Short, Cleared, Led, Goes}
-use Rattle.rehearsal_steps.specs.Steps.{doing_in, line_does}
+use Rattle.rehearsal_steps.specs.Steps.{doing_in}
 use Rattle.rehearsal_line.proofs.Leading.{led-line}
 use Rattle.rehearsal_runs.specs.Runs.{or_none, lines_of, run_of, Begun}
 
@@ -76,24 +76,6 @@ long-line (alloc t k bs) = omega arith
 long-line (store a b o) = omega arith
 long-line (drops a) = omega arith
 
--- a line that was read, and what it is
-pub record Next (s : List ℕ) (at : ℕ) (line : Line) : Type 0 where
-  pub step : Step
-  pub is : step_in s line ≡ some step
-  pub reads : Reads (read_line (drop at s)) s step (next_after (length s) line)
-
-next-by : (s : List ℕ) (at : ℕ) (line : Line) → LineRead (read_line (drop at s)) s line → (line ≡ Bad → ⊥) → Next s at line
-next-by s at (Alloc a) h ne = record { step = _; is = refl; reads = h.reads }
-next-by s at (Store a) h ne = record { step = _; is = refl; reads = h }
-next-by s at (Drop x n) h ne = record { step = _; is = refl; reads = h }
-next-by s at Bad h ne = absurd (ne refl)
-
-pub line-data : (s : List ℕ) (at : ℕ) (line : Line) → LineRead (read_line (drop at s)) s line → DataIn s line
-line-data s at (Alloc a) h = h.there
-line-data s at (Store a) h = tt
-line-data s at (Drop x n) h = tt
-line-data s at Bad h = tt
-
 pub record Running (T : Table) (S P n : ℕ) (s : List ℕ) (l : Lent) (words : List ℕ) (g : Going) (at : ℕ) : Type 0 where
   pub order : InOrder l words g
   pub slots : slot_count l ≡ S
@@ -142,55 +124,47 @@ module _ {T : Table} {S P n : ℕ} {s : List ℕ} {l : Lent} {words : List ℕ} 
       let all : v.lines ≡ lines_of s = sym (append-nil v.lines) ∙ ap (λ (r : List Step). v.lines ++ r) (sym none_left) ∙ v.whole in
       record { order = v.order; is = v.there ∙ ap (run_of T S P n) all }
 
-  module _ (less : at < length s) (line : Line) (read : LineRead (read_line (drop at s)) s line) where
-    not-bad : line ≡ Bad → ⊥
-    not-bad e = none-not-some (sym (read-bad (drop at s) (λ z. omega (arith, length-drop at s)) (subst (λ (x : Line). LineRead (read_line (drop at s)) s x) e read)) ∙ v.left)
+  -- what is left is lines, so the next is one
+  pub not-bad : at < length s → (o : found.Option (Line × ℕ)) → LineRead (read_line (drop at s)) s o → o ≡ found.None → ⊥
+  not-bad less o read e =
+      none-not-some (sym (read-bad (drop at s) (λ z. omega (arith, length-drop at s)) (subst (λ (x : found.Option (Line × ℕ)). LineRead (read_line (drop at s)) s x) e read)) ∙ v.left)
 
-    next-line : Next s at line
-    next-line = next-by s at line read not-bad
-
+  module _ (line : Line) (next : ℕ) (reads : Reads (read_line (drop at s)) s line next) where
     abbrev c : Step
-    c = next-line.step
+    c = step_in s line
 
-    abbrev next : ℕ
-    next = next_after (length s) line
-
-    pub next-later : at + 2 ≤ next_after (length s) line
+    pub next-later : at + 2 ≤ next
     next-later =
-        let b = line-back (drop at s) c (drop next s) next-line.reads.line in
-        omega (arith, ap length b.1, length-append (line_text c) (drop next s), long-line c, length-drop at s, length-drop next s, next-line.reads.inside)
-
-    pub next-within : next_after (length s) line ≤ length s
-    next-within = next-line.reads.inside
+        let b = line-back (drop at s) c (drop next s) reads.step in
+        omega (arith, ap length b.1, length-append (line_text c) (drop next s), long-line c, length-drop at s, length-drop next s, reads.inside)
 
     rest-after : (more : List Step) × (read_lines (drop next s) ≡ some more) × (some (c ∷ more) ≡ some v.rest)
-    rest-after = bind-some (read_lines (drop next s)) (λ ls. some (c ∷ ls)) v.rest (sym (read_more (drop at s) (drop next s) c next-line.reads.line) ∙ v.left)
+    rest-after = bind-some (read_lines (drop next s)) (λ ls. some (c ∷ ls)) v.rest (sym (read_more (drop at s) (drop next s) c reads.step) ∙ v.left)
 
-    module _ {l' : Lent} {words' : List ℕ} {g' : Going} (went : Goes l' words' g' (line_does T l words g n (step_in s line))) (eS : slot_count l' ≡ slot_count l) (eP : pool_size l' ≡ pool_size l) where
+    module _ {l' : Lent} {words' : List ℕ} {g' : Going} (went : Goes l' words' g' (doing_in T l words g n (step_in s line))) (eS : slot_count l' ≡ slot_count l) (eP : pool_size l' ≡ pool_size l) where
       abbrev done : List Step
       done = v.lines ++ c ∷ []
 
       done-there : going_on l' words' g' ≡ run_of T S P n done
-      done-there =
-          went.is ∙ ap (line_does T l words g n) next-line.is ∙ sym (led-line v.order running-led c) ∙ (λ i. run_of T (v.slots i) (v.pool i) n done)
+      done-there = went.is ∙ sym (led-line v.order running-led c) ∙ (λ i. run_of T (v.slots i) (v.pool i) n done)
 
       all_there : done ++ rest-after.0 ≡ lines_of s
       all_there = append_assoc v.lines (c ∷ []) rest-after.0 ∙ ap (λ (r : List Step). v.lines ++ r) (some_inj rest-after.2) ∙ v.whole
 
-      pub running-next : {at' : ℕ} → at' ≡ next_after (length s) line → g'.answer ≡ 0 → Running T S P n s l' words' g' at'
-      running-next {at'} e alive =
+      pub running-next : g'.answer ≡ 0 → Running T S P n s l' words' g' next
+      running-next alive =
           record {
             order = went.order;
             slots = eS ∙ v.slots;
             pool = eP ∙ v.pool;
-            inside = omega (arith, e, next-within);
+            inside = reads.inside;
             lines = done;
             rest = rest-after.0;
-            left = ap (λ (k : ℕ). read_lines (drop k s)) e ∙ rest-after.1;
+            left = rest-after.1;
             whole = all_there;
             there = done-there;
             alive = alive;
-            few = omega (arith, e, next-later, v.few, length-append v.lines (c ∷ []));
+            few = omega (arith, next-later, v.few, length-append v.lines (c ∷ []));
           }
 
       pub running-stop : (g'.answer ≡ 0 → ⊥) → Goes l' words' g' (run_of T S P n (lines_of s))
@@ -202,3 +176,7 @@ module _ {T : Table} {S P n : ℕ} {s : List ℕ} {l : Lent} {words : List ℕ} 
                 ∙ sym (after-append (heaped T S P) n done rest-after.0 (starting (heaped T S P) n fresh))
                 ∙ ap (run_of T S P n) all_there;
           }
+
+-- what was read of a line
+pub reads-of : (s : List ℕ) (at : ℕ) (o : found.Option (Line × ℕ)) → LineRead (read_line (drop at s)) s o → {line : Line} {next : ℕ} → o ≡ found.Some (line, next) → Reads (read_line (drop at s)) s line next
+reads-of s at o h e = subst (λ (x : found.Option (Line × ℕ)). LineRead (read_line (drop at s)) s x) e h

@@ -12,7 +12,7 @@ ghost use Rattle.rehearsal_runs.specs.Runs.{Begun, LentRoom, CanPut, CanRehearse
 
 use heap::Heap;
 use rehearsal_line::do_line;
-use rehearsal_lines::{next_after, read_line};
+use rehearsal_lines::read_line;
 use rehearsal_steps::Going;
 
 // Runs the lines of `s` one by one, until one ends it.
@@ -43,13 +43,15 @@ fn run_lines(
     let mut r = g;
     let mut at = 0;
     while at < s.len() {
-        let line = read_line(s, at);
+        let Some((line, next)) = read_line(s, at) else {
+            unreachable!();
+        };
         r = do_line(
             types, fields, consts, bytes, r, narrow, wide, pool, s, line, threshold, words, marks,
             work,
         );
-        at = next_after(line, s.len());
-        if r.answer == 0 {} else {
+        at = next;
+        if r.answer != 0 {
             return r;
         }
     }

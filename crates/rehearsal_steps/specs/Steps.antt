@@ -1,6 +1,6 @@
 -- What the steps of a rehearsal ask and leave in lent memory.
 use Rattle.std.specs.Prelude.{ℕ, ◌≤◌, ◌<◌, Bool, true, false, List, [], ◌≡◌, length}
-use Rattle.std.proofs.Math.Option.{Option, none, some}
+use Rattle.std.proofs.Math.Option.{none, some}
 use Rattle.word.specs.Result.{ok}
 use Rattle.ty.specs.Types.{Table}
 use Rattle.heap.specs.State.{State}
@@ -62,8 +62,3 @@ pub record Dropped (S turn : ℕ) (words : List ℕ) (g : Going) (words' : List 
   pub went : Bool
   pub names : LetGo S g.held turn words words' went
   pub leaves : g' ≡ after_drop went g
-
--- what a line does; what is no line does nothing
-abbrev pub line_does : Table → (l : Lent) (words : List ℕ) (g : Going) (threshold : ℕ) → Option Line → Run State
-line_does T l words g n none = going_on l words g
-line_does T l words g n (some line) = doing_in T l words g n line

@@ -1,7 +1,7 @@
 // A rehearsal under way (request [12]) on a heap that is known to be well formed: its due collection and its allocation. A step costs what the heap's call costs.
 #![tactic(auto)]
 
-ghost use Rattle.std.specs.Prelude.{◌≡◌, ◌+◌, ◌/◌, ◌^◌, ◌<◌, max, length};
+ghost use Rattle.std.specs.Prelude.{◌≡◌, ◌+◌, ◌/◌, ◌^◌, ◌<◌, length};
 ghost use Rattle.text.specs.Answer.{hex_at};
 ghost use Rattle.ty.specs.View.{table_of};
 ghost use Rattle.heap.specs.Lent.{lent};
@@ -26,13 +26,6 @@ pub struct Going {
     pub collections: u64,
     pub highest: u64,
     pub answer: u64,
-}
-
-// The higher of two numbers.
-fn higher(a: u64, b: u64) -> u64
-    ensures { result ≡ max a b }
-{
-    if a < b { b } else { a }
 }
 
 // A due collection from the held handles: counted, or 13 ends it.
@@ -83,22 +76,15 @@ pub fn collect_due(
     if done.reply.is_err() {
         return Going {
             heap: after,
-            size: g.size,
-            held: g.held,
-            turns: g.turns,
-            collections: g.collections,
-            highest: g.highest,
             answer: 13,
-        }
-    };
+            ..g
+        };
+    }
     Going {
         heap: after,
         size: after.live_bytes,
-        held: g.held,
-        turns: g.turns,
         collections: g.collections + 1,
-        highest: g.highest,
-        answer: g.answer,
+        ..g
     }
 }
 
@@ -132,21 +118,16 @@ pub fn allocate(
         let size = g.size + (count + 32);
         return Going {
             heap: after,
-            size: size,
+            size,
             held: n,
             turns: turn,
-            collections: g.collections,
-            highest: higher(g.highest, size),
-            answer: g.answer,
+            highest: g.highest.max(size),
+            ..g
         };
     }
     Going {
         heap: after,
-        size: g.size,
-        held: g.held,
-        turns: g.turns,
-        collections: g.collections,
-        highest: g.highest,
         answer: told.number,
+        ..g
     }
 }

@@ -105,16 +105,7 @@ fn or_ended(went: bool, g: Going) -> Going
     if went {
         return g;
     }
-    let heap = g.heap;
-    Going {
-        heap: heap,
-        size: g.size,
-        held: g.held,
-        turns: g.turns,
-        collections: g.collections,
-        highest: g.highest,
-        answer: 9,
-    }
+    Going { answer: 9, ..g }
 }
 
 // A line `store`; 9 ends it where either is not held, or the handle would lie beyond the data.

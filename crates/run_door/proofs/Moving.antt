@@ -2,10 +2,11 @@
 use mathlib.Core.Path.{◌≡◌, refl, sym, ap, ◌∙◌, subst}
 use mathlib.Core.Bool.{true}
 use mathlib.Core.List.{List, []}
-use mathlib.Core.Option.{Option, some}
+use mathlib.Core.Option.{Option, none, some}
 use Prim.Native.Nat.{ℕ, ◌+◌, ◌≤◌, ◌<◌}
 use native.Mathlib.Omega.{arith}
 use lib.ListN.{length, get_or, drop, length-drop}
+use Rattle.std.specs.Prelude as found
 use Rattle.word.proofs.ListLaws.{drop-cons-one}
 use Rattle.text.specs.Text.{give}
 use Rattle.refusal.specs.Told.{nothing}
@@ -21,10 +22,10 @@ use Rattle.heap.proofs.Testing.{formed-tested}
 use Rattle.heap_calls.specs.Pins.{rising_from, rising}
 use Rattle.object_door.specs.ObjectCalls.{recycling}
 use Rattle.script.specs.Script.{Call, take, seal, recycle as recycles, read_call, doing, and_then, run_script}
-use Rattle.script.specs.Found.{call_at, DataThere, LineRead, call_in, next_after, DataIn}
+use Rattle.script.specs.Found.{call_at, DataThere, Reads, LineRead, call_in, DataIn}
 use Rattle.script.specs.declared.AllocLine.{AllocLine}
 use Rattle.script.specs.declared.Line.{Line}
-use Rattle.script.specs.declared.Line.TheVariants.{Alloc, Take, Seal, Recycle, Bad}
+use Rattle.script.specs.declared.Line.TheVariants.{Alloc, Take, Seal, Recycle}
 use Rattle.script.proofs.Scripts.{call-shorter, run_call, run-bad}
 use Rattle.script.proofs.Refusing.{free-numbered}
 use Rattle.run_door.specs.Inner.Steps.{end_of, CanRun, LineEnds}
@@ -34,13 +35,9 @@ pub no_pins : rising [] ≡ true
 unfolding rising_from
 no_pins = refl
 
--- the data of a line that was read
-pub line-data : (o : Option (Call × List ℕ)) (s : List ℕ) (r : Line) → LineRead o s r → DataIn s r
-line-data o s (Alloc a) h = h.there
-line-data o s (Take x n) h = tt
-line-data o s (Seal n) h = tt
-line-data o s (Recycle n) h = tt
-line-data o s Bad h = tt
+-- what was read of a line
+pub reads-of : {t : Option (Call × List ℕ)} {s : List ℕ} (o : found.Option (Line × ℕ)) → LineRead t s o → {line : Line} {next : ℕ} → o ≡ found.Some (line, next) → Reads t s line next
+reads-of {t} {s} o h e = subst (λ (x : found.Option (Line × ℕ)). LineRead t s x) e h
 
 -- ---- the call of a line
 
@@ -48,33 +45,30 @@ pub alloc-data : (s : List ℕ) (r : Line) (a : AllocLine) → DataIn s r → r 
 alloc-data s r a h e = subst (λ (x : Line). DataIn s x) e h
 
 module _ (l : Lent) (s : List ℕ) (r : Line) where
-  of-line : (line : Line) {l' : Lent} {reply : Reply} → r ≡ line → LineEnds l l' reply (call_in s line) → LineEnds l l' reply (call_in s r)
-  of-line line {l'} {reply} e d = subst (λ (x : Line). LineEnds l l' reply (call_in s x)) (sym e) d
+  of-line : (line : Line) {l' : Lent} {reply : Reply} → r ≡ line → LineEnds l l' reply (some (call_in s line)) → LineEnds l l' reply (some (call_in s r))
+  of-line line {l'} {reply} e d = subst (λ (x : Line). LineEnds l l' reply (some (call_in s x))) (sym e) d
 
-  pub does-bad : (room : List ℕ) → CanRun l room → r ≡ Bad → LineEnds l l (Err Page) (call_in s r)
-  does-bad room can e = of-line Bad e (record { leaves = record { lies = (formed-tested l can.formed).lies; formed = can.formed }; says = refl })
-
-  pub does-alloc : (l' : Lent) (a : AllocLine) (reply : Reply) → r ≡ Alloc a → LineEnds l l' reply (some (call_at s a)) → LineEnds l l' reply (call_in s r)
+  pub does-alloc : (l' : Lent) (a : AllocLine) (reply : Reply) → r ≡ Alloc a → LineEnds l l' reply (some (call_at s a)) → LineEnds l l' reply (some (call_in s r))
   does-alloc l' a reply e d = of-line (Alloc a) e d
 
-  pub does-take : (l' : Lent) (x next : ℕ) (reply : Reply) → r ≡ Take x next → Tells nothing nothing l l' reply (free (view l) x) → LineEnds l l' reply (call_in s r)
+  pub does-take : (l' : Lent) (x : ℕ) (reply : Reply) → r ≡ Take x → Tells nothing nothing l l' reply (free (view l) x) → LineEnds l l' reply (some (call_in s r))
   unfolding doing
-  does-take l' x next reply e d =
-      of-line (Take x next) e
+  does-take l' x reply e d =
+      of-line (Take x) e
       (record {
         leaves = d.leaves;
         says = ends_as nothing nothing reply (free (view l) x).answer (free-numbered (view l) x) d.says ∙ silent-unit (free (view l) x).answer;
       })
 
-  pub does-seal : (l' : Lent) (next : ℕ) → r ≡ Seal next → Leaves l l' (sealed (view l)) → LineEnds l l' (Ok (0, 0)) (call_in s r)
+  pub does-seal : (l' : Lent) → r ≡ Seal → Leaves l l' (sealed (view l)) → LineEnds l l' (Ok (0, 0)) (some (call_in s r))
   unfolding doing
-  does-seal l' next e d = of-line (Seal next) e (record { leaves = d; says = refl })
+  does-seal l' e d = of-line Seal e (record { leaves = d; says = refl })
 
-  pub does-recycle : (l' : Lent) (next : ℕ) (pins : List ℕ) → r ≡ Recycle next → pins ≡ [] → Leaves l l' (recycle (view l) pins) → LineEnds l l' (Ok (0, 0)) (call_in s r)
+  pub does-recycle : (l' : Lent) (pins : List ℕ) → r ≡ Recycle → pins ≡ [] → Leaves l l' (recycle (view l) pins) → LineEnds l l' (Ok (0, 0)) (some (call_in s r))
   unfolding doing recycling rising_from
-  does-recycle l' next pins e g d =
+  does-recycle l' pins e g d =
       let f : Leaves l l' (recycle (view l) []) = subst (λ (p : List ℕ). Leaves l l' (recycle (view l) p)) g d in
-      of-line (Recycle next) e (record { leaves = f; says = refl })
+      of-line Recycle e (record { leaves = f; says = refl })
 
 -- ---- after a line
 
@@ -104,15 +98,13 @@ module _ (l : Lent) (s : List ℕ) (at : ℕ) (k : at < length s) (l' : Lent) (r
       (omega (arith, call-shorter (drop at s) (drop next s) c e, length-drop at s, length-drop next s, inside))
       inside d.leaves d.says
 
-  went_on : (r : Line) → LineRead (read_call (drop at s)) s r → LineEnds l l' reply (call_in s r) → Stepping l l' s at reply (next_after (length s) r)
-  went_on (Alloc a) h d = by_call (call_at s a) a.next h.call h.inside d
-  went_on (Take x n) h d = by_call (take x) n h.call h.inside d
-  went_on (Seal n) h d = by_call seal n h.call h.inside d
-  went_on (Recycle n) h d = by_call recycles n h.call h.inside d
-  went_on Bad h d =
-      let b : run_script (slot_count l) (pool_size l) (drop at s) (view l) ≡ refuse 17 (view l) =
-      rw (drop-cons-one s at k) (run-bad (slot_count l) (pool_size l) (get_or s at 0) (drop (at + 1) s) (view l) (ap read_call (sym (drop-cons-one s at k)) ∙ h)) in
-      by_end (refuse 17 (view l)) (length s) b k (omega arith) d.leaves d.says
+  pub stepped : {line : Line} {next : ℕ} → Reads (read_call (drop at s)) s line next → LineEnds l l' reply (some (call_in s line)) → Stepping l l' s at reply next
+  stepped {line} {next} h d = by_call (call_in s line) next h.call h.inside d
 
-  pub stepped : (r : Line) {next : ℕ} → LineRead (read_call (drop at s)) s r → LineEnds l l' reply (call_in s r) → next ≡ next_after (length s) r → Stepping l l' s at reply next
-  stepped r h d e = subst (λ (n : ℕ). Stepping l l' s at reply n) (sym e) (went_on r h d)
+-- a line that is no call's
+pub bad-step : (l : Lent) (room s : List ℕ) (at : ℕ) → at < length s → CanRun l room → (o : found.Option (Line × ℕ)) → LineRead (read_call (drop at s)) s o → o ≡ found.None → Stepping l l s at (Err Page) (length s)
+bad-step l room s at k can o h e =
+    let lost : read_call (drop at s) ≡ none = subst (λ (x : found.Option (Line × ℕ)). LineRead (read_call (drop at s)) s x) e h in
+    let b : run_script (slot_count l) (pool_size l) (drop at s) (view l) ≡ refuse 17 (view l) =
+    rw (drop-cons-one s at k) (run-bad (slot_count l) (pool_size l) (get_or s at 0) (drop (at + 1) s) (view l) (ap read_call (sym (drop-cons-one s at k)) ∙ lost)) in
+    by_end l s at k l (Err Page) (refuse 17 (view l)) (length s) b k (omega arith) (record { lies = (formed-tested l can.formed).lies; formed = can.formed }) refl

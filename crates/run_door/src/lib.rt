@@ -17,7 +17,7 @@ use door::{Done, enter};
 use heap::{Changed, Heap};
 use heap_calls::kind::ObjectKind;
 use refusal::{Answer, Refusal};
-use script::{AllocLine, Line, begins_call, next_after, read_line};
+use script::{AllocLine, Line, begins_call, read_line};
 
 // The call of an `alloc` line: 8, then 6, then 5. Data longer than the pool is not decoded, so that the room is enough.
 fn do_alloc(
@@ -56,7 +56,7 @@ fn do_alloc(
     heap_calls::alloc_from(heap, narrow, wide, pool, kind, ty, 0, &room[..count])
 }
 
-// The call of a line that was read. A bad line is 17.
+// The call of a line that was read.
 fn do_line(
     heap: Heap,
     narrow: &mut [u32],
@@ -70,23 +70,19 @@ fn do_line(
     requires data_in { DataIn s.now line }
     ensures { LineEnds
         (lent heap narrow.old wide.old pool.old)
-        (lent result.heap narrow.new wide.new pool.new) result.reply (call_in s.now line) }
+        (lent result.heap narrow.new wide.new pool.new) result.reply (some (call_in s.now line)) }
 {
     match line {
-        Line::Bad => Changed {
-            heap: heap,
-            reply: Err(Refusal::Page),
-        },
         Line::Alloc(a) => do_alloc(heap, narrow, wide, pool, s, a, room),
-        Line::Take(x, _) => heap_calls::free(heap, narrow, wide, pool, x),
-        Line::Seal(_) => {
+        Line::Take(x) => heap_calls::free(heap, narrow, wide, pool, x),
+        Line::Seal => {
             let after = heap_edit::seal(heap, narrow, wide, pool);
             Changed {
                 heap: after,
                 reply: Ok((0, 0)),
             }
         }
-        Line::Recycle(_) => {
+        Line::Recycle => {
             let pins = [0u32; 0];
             let after = heap_calls::recycle::recycle(heap, narrow, wide, pool, &pins);
             Changed {
@@ -116,13 +112,18 @@ fn run_lines(
     let mut h = heap;
     let mut at = 0;
     while at < s.len() {
-        let line = read_line(s, at);
+        let Some((line, next)) = read_line(s, at) else {
+            return Changed {
+                heap: h,
+                reply: Err(Refusal::Page),
+            };
+        };
         let done = do_line(h, narrow, wide, pool, s, line, room);
         if done.reply.is_err() {
             return done;
         }
         h = done.heap;
-        at = next_after(line, s.len());
+        at = next;
     }
     Changed {
         heap: h,

@@ -5,19 +5,16 @@ use mathlib.Core.List.{List, [], ◌∷◌}
 use mathlib.Core.Option as maybe
 use mathlib.Core.Option.{none}
 use mathlib.Core.Path.{◌≡◌, refl, sym, ap, ◌∙◌, subst}
-use denote.Enum.Declared.{tag_of}
-use types.Run.{OneOf, miss}
 use lib.ListN.{length, drop}
 use Rattle.text.specs.Text.{give, ascii, comma, digit_of, read_hex, read_literal, read_field}
 use Rattle.text.specs.Format.{number, bytes_line, pair}
 use Rattle.text.specs.Answer.{value_answer, literal_answer, hex_answer, hex_at}
-use Rattle.std.specs.Prelude.{Option, Some, None}
+use Rattle.std.specs.Prelude.{Option, Some, None, is_some}
 use Rattle.text.proofs.Getting.{answer-none, field_found, hex-found, hex-missing, literal-found, literal-lost}
 use Rattle.script.specs.Script.{Call, alloc, take, seal, recycle, alloc_format, read_alloc, read_take, read_call, begins_call}
-use Rattle.script.specs.Found.{AllocRead, Reads, LineRead}
+use Rattle.script.specs.Found.{Reads, LineRead}
 use Rattle.script.specs.declared.Line.{Line}
-use Rattle.script.specs.declared.Line.TheVariants.{Alloc, Take, Seal, Recycle, Bad}
-use Rattle.script.specs.contracts.Line.{the_type as line-type}
+use Rattle.script.specs.declared.Line.TheVariants.{Alloc, Take, Seal, Recycle}
 use Rattle.script.proofs.Scripts.{begins-call, begins-bad}
 
 no-comma : digit_of comma ≡ none
@@ -57,7 +54,7 @@ module _ (s : List ℕ) (at : ℕ) (r : Option (ℕ × ℕ)) (e : r ≡ value_an
       unfolding read_alloc alloc_format pair bytes_line
       no-data h = rw (type-read, kind-read, hex-missing s b e₃ h)
 
-      pub alloc-read : (n c : ℕ) → p ≡ Some (n, c) → AllocRead (read_alloc (drop at s)) s (record { ty = t; kind = k; from = b; count = n; next = c })
+      pub alloc-read : (n c : ℕ) → p ≡ Some (n, c) → Reads (read_alloc (drop at s)) s (Alloc (record { ty = t; kind = k; from = b; count = n })) c
       unfolding read_alloc alloc_format pair bytes_line
       alloc-read n c h =
           let x = hex-found s b n c e₃ h in
@@ -89,11 +86,11 @@ module _ (s : List ℕ) (at : ℕ) (r : Option (ℕ × ℕ)) (e : r ≡ value_an
       unfolding read_take ascii
       no-zeros g = rw (handle-read, literal-lost (48 ∷ 44 ∷ 10 ∷ []) s a e₂ g)
 
-      pub take-read : (b : ℕ) → q ≡ Some b → Reads (read_take (drop at s)) s (take x) b
+      pub take-read : (b : ℕ) → q ≡ Some b → Reads (read_take (drop at s)) s (Take x) b
       unfolding read_take ascii
       take-read b g =
           let y = literal-found (48 ∷ 44 ∷ 10 ∷ []) s a b e₂ g in
-          record { call = rw (handle-read, y.0); inside = y.1 }
+          record { call = rw (handle-read, y.0); there = tt; inside = y.1 }
 
 -- ---- by name
 
@@ -110,28 +107,28 @@ abbrev recycle_line : List ℕ
 recycle_line = 114 ∷ 101 ∷ 99 ∷ 121 ∷ 99 ∷ 108 ∷ 101 ∷ 44 ∷ 48 ∷ 44 ∷ 48 ∷ 44 ∷ 10 ∷ []
 
 module _ (s : List ℕ) (at : ℕ) (r : Option ℕ) (e : r ≡ literal_answer (length s) (read_literal alloc_name (drop at s))) where
-  pub by-alloc : (a : ℕ) → r ≡ Some a → (l : Line) → LineRead (read_alloc (drop a s)) s l → LineRead (read_call (drop at s)) s l
+  pub by-alloc : (a : ℕ) → r ≡ Some a → (l : Option (Line × ℕ)) → LineRead (read_alloc (drop a s)) s l → LineRead (read_call (drop at s)) s l
   unfolding read_call ascii
   by-alloc a f l h = subst (λ (o : maybe.Option (Call × List ℕ)). LineRead o s l) (rw (literal-found alloc_name s at a e f).0) h
 
   module _ (f : r ≡ None) (r₂ : Option ℕ) (e₂ : r₂ ≡ literal_answer (length s) (read_literal take_name (drop at s))) where
-    pub by-take : (a : ℕ) → r₂ ≡ Some a → (l : Line) → LineRead (read_take (drop a s)) s l → LineRead (read_call (drop at s)) s l
+    pub by-take : (a : ℕ) → r₂ ≡ Some a → (l : Option (Line × ℕ)) → LineRead (read_take (drop a s)) s l → LineRead (read_call (drop at s)) s l
     unfolding read_call ascii
     by-take a g l h = subst (λ (o : maybe.Option (Call × List ℕ)). LineRead o s l) (rw (literal-lost alloc_name s at e f, (literal-found take_name s at a e₂ g).0)) h
 
     module _ (g : r₂ ≡ None) (r₃ : Option ℕ) (e₃ : r₃ ≡ literal_answer (length s) (read_literal seal_line (drop at s))) where
-      pub seal-read : (a : ℕ) → r₃ ≡ Some a → Reads (read_call (drop at s)) s seal a
+      pub seal-read : (a : ℕ) → r₃ ≡ Some a → Reads (read_call (drop at s)) s Seal a
       unfolding read_call ascii
       seal-read a h =
           let y = literal-found seal_line s at a e₃ h in
-          record { call = rw (literal-lost alloc_name s at e f, literal-lost take_name s at e₂ g, y.0); inside = y.1 }
+          record { call = rw (literal-lost alloc_name s at e f, literal-lost take_name s at e₂ g, y.0); there = tt; inside = y.1 }
 
       module _ (h : r₃ ≡ None) (r₄ : Option ℕ) (e₄ : r₄ ≡ literal_answer (length s) (read_literal recycle_line (drop at s))) where
-        pub recycle-read : (a : ℕ) → r₄ ≡ Some a → Reads (read_call (drop at s)) s recycle a
+        pub recycle-read : (a : ℕ) → r₄ ≡ Some a → Reads (read_call (drop at s)) s Recycle a
         unfolding read_call ascii
         recycle-read a i =
             let y = literal-found recycle_line s at a e₄ i in
-            record { call = rw (literal-lost alloc_name s at e f, literal-lost take_name s at e₂ g, literal-lost seal_line s at e₃ h, y.0); inside = y.1 }
+            record { call = rw (literal-lost alloc_name s at e f, literal-lost take_name s at e₂ g, literal-lost seal_line s at e₃ h, y.0); there = tt; inside = y.1 }
 
         pub no_name : r₄ ≡ None → read_call (drop at s) ≡ none
         unfolding read_call ascii
@@ -139,13 +136,6 @@ module _ (s : List ℕ) (at : ℕ) (r : Option ℕ) (e : r ≡ literal_answer (l
 
 -- ---- the first line
 
-module _ (s : List ℕ) where
-  pub first_read : (l : Line) → LineRead (read_call (drop 0 s)) s l → OneOf (0 ∷ 1 ∷ 2 ∷ 3 ∷ []) (tag_of line-type l) → true ≡ begins_call s
-  first_read (Alloc a) h o = begins-call s _ _ h.call
-  first_read (Take x n) h o = begins-call s _ _ h.call
-  first_read (Seal n) h o = begins-call s _ _ h.call
-  first_read (Recycle n) h o = begins-call s _ _ h.call
-  first_read Bad h o = absurd (miss (0 ∷ 1 ∷ 2 ∷ 3 ∷ []) 4 tt o)
-
-  pub first-missing : (l : Line) → LineRead (read_call (drop 0 s)) s l → l ≡ Bad → (length s ≡ 0 → ⊥) → false ≡ begins_call s
-  first-missing l h e k = begins-bad s k (subst (λ (x : Line). LineRead (read_call (drop 0 s)) s x) e h)
+pub first-begins : (s : List ℕ) (o : Option (Line × ℕ)) → LineRead (read_call (drop 0 s)) s o → (length s ≡ 0 → ⊥) → is_some o ≡ begins_call s
+first-begins s (Some r) h k = begins-call s _ _ h.call
+first-begins s None h k = begins-bad s k h

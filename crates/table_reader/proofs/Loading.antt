@@ -1,15 +1,15 @@
 -- A table that was found, put into lent lists. Assumes nothing.
-use Prim.Native.Nat.{ℕ, ◌+◌, ◌*◌, ◌≤◌}
+use Prim.Native.Nat.{ℕ, ◌+◌, ◌≤◌}
 use mathlib.Core.List.{List, ◌++◌}
-use mathlib.Core.Path.{◌≡◌, refl, sym, ap, ◌∙◌, subst}
-use lib.ListN.{length, drop}
+use mathlib.Core.Path.{◌≡◌, sym, ap, ◌∙◌}
+use lib.ListN.{length}
 use native.Mathlib.Omega.{arith}
 use native.Mathlib.Nat.{zero-add}
 use Rattle.word.proofs.PutLaws.{put-put, length-put}
 use Rattle.text.specs.Text.{give}
 use Rattle.text.specs.Put.{put_text}
-use Rattle.tables.specs.Table.{Row, Named, most64, most32}
-use Rattle.tables.specs.Lists.{numbers_in, names_in, all_names}
+use Rattle.tables.specs.Table.{Row, most64, most32}
+use Rattle.tables.specs.Lists.{names_in, all_names}
 use Rattle.table_reader.specs.Inner.Ready.{rows_at, NamesReady}
 use Rattle.table_check.specs.Inner.Parsing.{table_of, RowsStand, Sectioned}
 use Rattle.table_check.specs.declared.Sections.{Sections}

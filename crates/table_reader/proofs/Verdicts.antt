@@ -1,13 +1,12 @@
 -- Whether there is room, all tests, and the whole call. Assumes nothing.
-use Prim.Native.Nat.{ℕ, ◌+◌, ◌-◌, ◌*◌, ◌≤◌, ◌<◌}
+use Prim.Native.Nat.{ℕ, ◌+◌, ◌*◌, ◌≤◌, ◌<◌}
 use mathlib.Core.List.{List, [], ◌∷◌, ◌++◌}
 use mathlib.Core.Bool.{Bool, true, false, ◌&&◌}
-use mathlib.Core.Option.{none, some}
 use mathlib.Core.Path.{◌≡◌, refl, sym, ap, ◌∙◌, subst}
 use lib.Dec.{leb}
 use lib.ListN.{length, replicate, length-append}
 use native.Mathlib.Omega.{arith}
-use borrow.Author.Tests.{le-leb, lt-leb, leb-true, leb-false}
+use borrow.Author.Tests.{le-leb, lt-leb, leb-true}
 use Rattle.std.specs.Prelude.{if◌then◌else◌}
 use Rattle.word.specs.Result.{ok, refused}
 use Rattle.word.proofs.Bools.{and_both}
@@ -17,11 +16,9 @@ use Rattle.refusal.specs.Told.{number_of, refused_by, told}
 use Rattle.refusal.specs.declared.Answer.{Answer}
 use Rattle.std.specs.Prelude.{Ok, Err}
 use Rattle.refusal.specs.declared.Refusal.{Refusal}
-use Rattle.refusal.specs.declared.Refusal.TheVariants.{ShortList, TypeTable, Page, Scratch}
-use Rattle.tables.specs.Table.{read_table}
-use Rattle.tables.specs.Lists.{numbers_in, names_in, all_names, good}
+use Rattle.refusal.specs.declared.Refusal.TheVariants.{ShortList, Scratch}
+use Rattle.tables.specs.Lists.{numbers_in, names_in, all_names}
 use Rattle.table_check.specs.Inner.Parsing.{table_of, Sectioned}
-use Rattle.table_check.specs.Verdict.{verdict}
 use Rattle.table_reader.specs.Reading.{fits, enough, roomy, table_read, scratch_left, table_told, lists, lists_left, outcome, reading}
 use Rattle.table_check.specs.Inner.Admitting.{Admitted}
 use Rattle.table_reader.specs.Inner.Testing.{room_for, told_of, Tested}
@@ -34,53 +31,6 @@ use Rattle.table_check.proofs.Assembly.{numbers-length}
 -- ROOM
 
 module _ (x : Sections) (t f c b n : ℕ) where
-  pub room-1 : t < 4 * x.types → false ≡ room_for x t f c b n
-  unfolding room_for
-  room-1 h = rw (lt-leb (4 * x.types) t h)
-
-  module _ (h1 : 4 * x.types ≤ t) where
-    pub room-2 : f < 2 * x.fields → false ≡ room_for x t f c b n
-    unfolding room_for
-    room-2 h = rw (le-leb (4 * x.types) t h1, lt-leb (2 * x.fields) f h)
-
-    module _ (h2 : 2 * x.fields ≤ f) where
-      pub room-3 : c < 3 * x.consts → false ≡ room_for x t f c b n
-      unfolding room_for
-      room-3 h = rw (le-leb (4 * x.types) t h1, le-leb (2 * x.fields) f h2, lt-leb (3 * x.consts) c h)
-
-      module _ (h3 : 3 * x.consts ≤ c) where
-        pub room-4 : b < x.bytes → false ≡ room_for x t f c b n
-        unfolding room_for
-        room-4 h = rw (le-leb (4 * x.types) t h1, le-leb (2 * x.fields) f h2, le-leb (3 * x.consts) c h3, lt-leb x.bytes b h)
-
-        module _ (h4 : x.bytes ≤ b) where
-          pub room-5 : n < x.type_names → false ≡ room_for x t f c b n
-          unfolding room_for
-          room-5 h =
-              rw (le-leb (4 * x.types) t h1, le-leb (2 * x.fields) f h2, le-leb (3 * x.consts) c h3, le-leb x.bytes b h4)
-              (sym (lt-leb (x.type_names + (x.field_names + x.const_names)) n (omega arith)))
-
-          module _ (h5 : x.type_names ≤ n) where
-            pub room-6 : n - x.type_names < x.field_names → false ≡ room_for x t f c b n
-            unfolding room_for
-            room-6 h =
-                rw (le-leb (4 * x.types) t h1, le-leb (2 * x.fields) f h2, le-leb (3 * x.consts) c h3, le-leb x.bytes b h4)
-                (sym (lt-leb (x.type_names + (x.field_names + x.const_names)) n (omega arith)))
-
-            pub room-7 : x.field_names ≤ n - x.type_names → leb x.const_names (n - x.type_names - x.field_names) ≡ room_for x t f c b n
-            unfolding room_for
-            room-7 h =
-                rw (le-leb (4 * x.types) t h1, le-leb (2 * x.fields) f h2, le-leb (3 * x.consts) c h3, le-leb x.bytes b h4)
-                (go (leb x.const_names (n - x.type_names - x.field_names)) refl)
-              where
-                go : (y : Bool) → leb x.const_names (n - x.type_names - x.field_names) ≡ y → y ≡ leb (x.type_names + (x.field_names + x.const_names)) n
-                go true e =
-                    let k = leb-true x.const_names (n - x.type_names - x.field_names) e in
-                    sym (le-leb (x.type_names + (x.field_names + x.const_names)) n (omega arith))
-                go false e =
-                    let k = leb-false x.const_names (n - x.type_names - x.field_names) e in
-                    sym (lt-leb (x.type_names + (x.field_names + x.const_names)) n (omega arith))
-
   -- what there is room for
   pub has_room : room_for x t f c b n ≡ true → (4 * x.types ≤ t) × (2 * x.fields ≤ f) × (3 * x.consts ≤ c) × (x.bytes ≤ b) × (x.type_names + (x.field_names + x.const_names) ≤ n)
   unfolding room_for

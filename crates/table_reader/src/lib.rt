@@ -38,26 +38,12 @@ fn room(x: Sections, types: usize, fields: usize, consts: usize, bytes: usize, n
     requires { (x.types ≤ 4096) × (x.fields ≤ 16384) × (x.consts ≤ 4096) }
     ensures { result ≡ room_for x types fields consts bytes names }
 {
-    if types < 4 * x.types {
-        return false;
-    }
-    if fields < 2 * x.fields {
-        return false;
-    }
-    if consts < 3 * x.consts {
-        return false;
-    }
-    if bytes < x.bytes {
-        return false;
-    }
-    if names < x.type_names {
-        return false;
-    }
-    let left = names - x.type_names;
-    if left < x.field_names {
-        return false;
-    }
-    x.const_names <= left - x.field_names
+    let numbers = 4 * x.types <= types && 2 * x.fields <= fields && 3 * x.consts <= consts;
+    numbers
+        && x.bytes <= bytes
+        && x.type_names <= names
+        && x.field_names <= names - x.type_names
+        && x.const_names <= names - x.type_names - x.field_names
 }
 
 // A table that was found, if there is room for it: 7.

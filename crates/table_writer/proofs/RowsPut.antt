@@ -1,7 +1,7 @@
 -- Lines put one after another, each of k numbers and a name. Assumes nothing.
 use Prim.Native.Nat.{ℕ, suc, ◌+◌, ◌-◌, ◌*◌, ◌≤◌, ◌<◌}
 use mathlib.Core.List.{List, [], ◌∷◌, ◌++◌, flat_map}
-use mathlib.Core.Option.{none, some}
+use mathlib.Core.Option.{none}
 use mathlib.Core.Path.{◌≡◌, refl, sym, ap, ◌∙◌}
 use lib.ListN.{length, take, drop, get_or, length-append}
 use lib.Seq.{drop-cons}
@@ -11,11 +11,11 @@ use native.Mathlib.Nat.{mul-le-mul_left, mul-suc}
 use Rattle.text.specs.Text.{give}
 use Rattle.text.specs.Format.{read_all}
 use Rattle.text.specs.Put.{Puts}
-use Rattle.text.proofs.Laws.{none-not-some, some_inj}
+use Rattle.text.proofs.Laws.{none-not-some}
 use Rattle.text.proofs.Putting.{puts-puts, puts-at, puts_none}
-use Rattle.tables.specs.Table.{read_name, field, name_text, row_line}
+use Rattle.tables.specs.Table.{read_name, field, row_line}
 use Rattle.tables.specs.Lists.{rows_of}
-use Rattle.tables.specs.Answer.{GotAll, names_at, RowsReady}
+use Rattle.tables.specs.Answer.{names_at, RowsReady}
 use Rattle.tables.proofs.Endings.{Gathering, gather-begin, gather-next, gather-lost, gather-done, gather-prefix}
 use Rattle.tables.proofs.Naming.{NameFound, name-part}
 use Rattle.tables.proofs.Rowing.{rows_snoc, rows-room}

@@ -1,15 +1,15 @@
 -- Tables and the lent lists: the lists of a table hold it, and what lies in lists is within its bounds. Assumes nothing.
-use Prim.Native.Nat.{ℕ, zero, suc, ◌+◌, ◌-◌, ◌*◌, ◌/◌, ◌≤◌, ◌<◌}
-use mathlib.Core.List.{List, [], ◌∷◌, ◌++◌, append_assoc, append-nil, flat_map, map}
+use Prim.Native.Nat.{ℕ, zero, suc, ◌*◌, ◌/◌, ◌≤◌}
+use mathlib.Core.List.{List, [], ◌∷◌, ◌++◌, append-nil, flat_map, map}
 use mathlib.Core.Bool.{true}
-use mathlib.Core.Option.{Option, none, some}
+use mathlib.Core.Option.{Option, some}
 use mathlib.Core.Path.{◌≡◌, refl, sym, ap, ◌∙◌, subst}
-use lib.ListN.{length, take, drop, length-append, length-drop, take-append-drop}
+use lib.ListN.{length, take, drop, length-drop, take-append-drop}
 use lib.Seq.{take_at, drop_at, length-take-le}
 use native.Mathlib.Omega.{arith}
 use native.Mathlib.Nat.{mul-suc}
 use Rattle.text.specs.Text.{give, ◌>>=◌, Bytes}
-use Rattle.text.specs.Format.{Format, Right, pair, times, All}
+use Rattle.text.specs.Format.{Right, pair, times, All}
 use Rattle.text.proofs.Laws.{bind-some, some_inj, pair-right, times-right}
 use Rattle.pages.specs.Page.{whole}
 use Rattle.pages.proofs.Laws.{whole-some}

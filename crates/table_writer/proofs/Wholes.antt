@@ -1,24 +1,24 @@
 -- The whole of a table's text, part by part as the code writes it. Assumes nothing.
-use Prim.Native.Nat.{ℕ, zero, suc, ◌+◌, ◌-◌, ◌*◌, ◌/◌, ◌%◌, ◌≤◌, ◌<◌}
+use Prim.Native.Nat.{ℕ, suc, ◌+◌, ◌*◌, ◌/◌, ◌%◌, ◌≤◌, ◌<◌}
 use mathlib.Core.List.{List, [], ◌∷◌, ◌++◌, append_assoc, flat_map}
-use mathlib.Core.Bool.{Bool, true, false}
+use mathlib.Core.Bool.{true, false}
 use mathlib.Core.Option as maybe
 use mathlib.Core.Option.{none, some}
 use Rattle.std.specs.Prelude.{Option, Some, None}
 use mathlib.Core.Path.{◌≡◌, refl, sym, ap, ◌∙◌, subst}
 use lib.Dec.{leb, eqb}
-use lib.ListN.{length, take, drop, set, length-append, length-drop, length-take, drop_of_length-le, take-append-drop}
+use lib.ListN.{length, take, drop, set, length-append, length-drop, drop_of_length-le, take-append-drop}
 use lib.Seq.{drop-cons}
 use native.Mathlib.Omega.{arith}
 use native.Mathlib.Nat.{mul-suc, zero-add}
-use borrow.Author.Tests.{le-leb, lt-leb, leb-true, leb-false, eqb-true}
+use borrow.Author.Tests.{leb-true, eqb-true}
 use Rattle.text.specs.Text.{give, ◌>>=◌, decimal, hex, line, newline, comma}
 use Rattle.text.specs.Format.{read_all, pair, times}
 use Rattle.text.specs.Put.{Puts}
 use Rattle.text.proofs.Laws.{times-right, hex-length}
-use Rattle.text.proofs.Putting.{puts-puts, puts-byte, puts-at, puts-length}
+use Rattle.text.proofs.Putting.{puts-puts, puts-byte, puts-at}
 use Rattle.pages.specs.Page.{whole}
-use Rattle.tables.specs.Table.{Row, read_name, field, name_text, name_format, row_line, count_names, type_names, field_names, constant_names, bytes_name, counts_line, table_text}
+use Rattle.tables.specs.Table.{read_name, field, name_text, name_format, row_line, count_names, type_names, field_names, constant_names, bytes_name, counts_line, table_text}
 use Rattle.word.specs.Result.{ok}
 use Rattle.word.proofs.Bools.{and_both}
 use Rattle.ty.specs.Check.{all_of, table_good}
@@ -26,9 +26,9 @@ use Rattle.refusal.specs.Told.{told}
 use Rattle.refusal.specs.declared.Refusal.TheVariants.{ShortList, TypeTable, Page}
 use Rattle.std.specs.Prelude.{Ok, Err}
 use Rattle.tables.specs.Lists.{Names, names_format, rows_of, with_names, named_in}
-use Rattle.tables.specs.Answer.{GotAll, names_at, RowsReady}
+use Rattle.tables.specs.Answer.{GotAll, names_at}
 use Rattle.tables.proofs.Laws.{name-right}
-use Rattle.tables.proofs.Rowing.{flat_append, digits-most}
+use Rattle.tables.proofs.Rowing.{flat_append}
 use Rattle.table_writer.specs.Parts.{NamesFound, NamesGot, named, rest_length, Ready}
 use Rattle.table_writer.specs.Writing.{table_in, writing, leaving, TableWritten}
 use Rattle.table_writer.specs.declared.NamesRead.{NamesRead}
@@ -91,20 +91,6 @@ counts-length t f c =
       length-append (decimal f) (comma ∷ (decimal c ++ (newline ∷ []))),
       length-append (decimal c) (newline ∷ []),
     )
-
-module _ (room rest names bytes : ℕ) where
-  pub room-rest : room < rest → false ≡ leb (rest + names + 2 * bytes) room
-  room-rest h = sym (lt-leb (rest + names + 2 * bytes) room (omega arith))
-
-  pub room-names : rest ≤ room → room - rest < names → false ≡ leb (rest + names + 2 * bytes) room
-  room-names h l = sym (lt-leb (rest + names + 2 * bytes) room (omega arith))
-
-  pub room-bytes : rest ≤ room → names ≤ room - rest → leb bytes ((room - rest - names) / 2) ≡ leb (rest + names + 2 * bytes) room
-  room-bytes h l = go (leb bytes ((room - rest - names) / 2)) refl
-    where
-      go : (x : Bool) → leb bytes ((room - rest - names) / 2) ≡ x → x ≡ leb (rest + names + 2 * bytes) room
-      go true e = let k = leb-true bytes ((room - rest - names) / 2) e in sym (le-leb (rest + names + 2 * bytes) room (omega arith))
-      go false e = let k = leb-false bytes ((room - rest - names) / 2) e in sym (lt-leb (rest + names + 2 * bytes) room (omega arith))
 
 -- PARTS PUT
 

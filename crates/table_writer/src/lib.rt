@@ -13,12 +13,6 @@ ghost use Rattle.table_writer.specs.Writing.{table_in, TableWritten};
 
 use refusal::{Refusal, Reply};
 
-fn widened(x: u32) -> u64
-    ensures { result ≡ x }
-{
-    x as u64
-}
-
 // How many bytes numbers take, each with a comma after it.
 fn numbers_len(list: &[u64]) -> usize
     requires { length list.now ≤ 32768 }
@@ -40,7 +34,7 @@ fn halves_len(list: &[u32]) -> usize
 {
     let mut n = 0;
     for i in 0..list.len() {
-        let d = text::decimal_len(widened(list[i]));
+        let d = text::decimal_len(u64::from(list[i]));
         n = n + d + 1;
     }
     n
@@ -116,7 +110,7 @@ fn put_fields(
         let Some(next) = tables::get_name(names, f) else {
             return o;
         };
-        let row = [widened(list[j]), widened(list[j + 1])];
+        let row = [u64::from(list[j]), u64::from(list[j + 1])];
         let a = put_numbers(out, o, &row);
         o = text::put_literal(out, a, &names[f..next]);
         f = next;
@@ -174,15 +168,7 @@ fn rest_len(types: &[u64], fields: &[u32], consts: &[u64]) -> usize
 fn room_for(room: usize, rest: usize, names: usize, bytes: usize) -> bool
     ensures { result ≡ leb (rest + names + 2 * bytes) room }
 {
-    if room < rest {
-        return false;
-    }
-    let left = room - rest;
-    if left < names {
-        return false;
-    }
-    let last = left - names;
-    bytes <= last / 2
+    rest <= room && names <= room - rest && bytes <= (room - rest - names) / 2
 }
 
 // Puts the first two lines.
@@ -194,7 +180,7 @@ fn put_counts(out: &mut [u8], t: usize, f: usize, c: usize) -> usize
     let q = put_number(out, p, t as u64);
     let u = put_number(out, q, f as u64);
     let v = text::put_decimal(out, u, c as u64);
-    out[v] = 10;
+    out[v] = b'\n';
     v + 1
 }
 
@@ -205,7 +191,7 @@ fn put_bytes(out: &mut [u8], at: usize, bytes: &[u8]) -> usize
 {
     let p = text::put_literal(out, at, b"bytes\n");
     let q = text::put_hex(out, p, bytes);
-    out[q] = 10;
+    out[q] = b'\n';
     q + 1
 }
 

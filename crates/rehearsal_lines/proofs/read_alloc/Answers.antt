@@ -2,14 +2,21 @@
 use Rattle.rehearsal_lines.proofs.Finding.{no-type, no_kind, no-data, alloc-read}
 use Rattle.rehearsal_lines.proofs.read_alloc.Goals as goal
 
-pub returns-in_default : goal.returns-in_default
-returns-in_default c = let k2 = c.in_default.in_default-own.keys2 in search no-type
+pub returns-in_err-ty : goal.returns-in_err-ty
+returns-in_err-ty c = rw c.from_residual.ensures (no-type c.args.s.now c.args.at c.get_field.result c.get_field.ensures c.in_err-ty.was)
 
-pub returns-in_default-get_field : goal.returns-in_default-get_field
-returns-in_default-get_field c = let k2 = c.in_default-get_field.in_default-get_field-own.keys2 in search no_kind
+pub returns-in_err-kind : goal.returns-in_err-kind
+returns-in_err-kind c =
+    rw c.from_residual-in_err-kind.ensures
+    (no_kind c.args.s.now c.args.at c.get_field.result c.get_field.ensures c.in_ok-ty.ty c.in_ok-ty.a c.in_ok-ty.was c.get_field-2.result c.get_field-2.ensures c.in_err-kind.was)
 
-pub returns-in_default-count_hex : goal.returns-in_default-count_hex
-returns-in_default-count_hex c = let k2 = c.in_default-count_hex.in_default-count_hex-own.keys2 in search no-data
+pub returns-in_err-count : goal.returns-in_err-count
+returns-in_err-count c =
+    rw c.from_residual-in_err-count.ensures
+    (no-data c.args.s.now c.args.at c.get_field.result c.get_field.ensures c.in_ok-ty.ty c.in_ok-ty.a c.in_ok-ty.was c.get_field-2.result c.get_field-2.ensures
+    c.in_ok-kind.kind c.in_ok-kind.from c.in_ok-kind.was c.count_hex.result c.count_hex.ensures c.in_err-count.was)
 
 pub returns : goal.returns
-returns c = search alloc-read
+returns c =
+    alloc-read c.args.s.now c.args.at c.get_field.result c.get_field.ensures c.in_ok-ty.ty c.in_ok-ty.a c.in_ok-ty.was c.get_field-2.result c.get_field-2.ensures
+    c.in_ok-kind.kind c.in_ok-kind.from c.in_ok-kind.was c.count_hex.result c.count_hex.ensures c.in_ok-count.count c.in_ok-count.next c.in_ok-count.was

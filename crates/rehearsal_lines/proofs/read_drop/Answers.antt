@@ -2,8 +2,8 @@
 use Rattle.rehearsal_lines.proofs.Finding.{no-dropped, drop-read}
 use Rattle.rehearsal_lines.proofs.read_drop.Goals as goal
 
-pub returns-in_default : goal.returns-in_default
-returns-in_default c = let k2 = c.in_default.in_default-own.keys2 in search no-dropped
+pub returns-in_err-turn : goal.returns-in_err-turn
+returns-in_err-turn c = rw c.from_residual.ensures (no-dropped c.args.s.now c.args.at c.get_field.result c.get_field.ensures c.in_err-turn.was)
 
 pub returns : goal.returns
-returns c = search drop-read
+returns c = drop-read c.args.s.now c.args.at c.get_field.result c.get_field.ensures c.in_ok-turn.turn c.in_ok-turn.next c.in_ok-turn.was

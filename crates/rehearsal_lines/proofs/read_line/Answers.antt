@@ -3,13 +3,20 @@ use Rattle.rehearsal_lines.proofs.Finding.{by-alloc, by-store, by-drop, no_name}
 use Rattle.rehearsal_lines.proofs.read_line.Goals as goal
 
 pub returns-in-Some : goal.returns-in-Some
-returns-in-Some c = search by-alloc
+returns-in-Some c = by-alloc c.args.s.now c.args.at c.expect.result c.expect.ensures c.in-Some.a c.in-Some.is c.read_alloc.result c.read_alloc.ensures
 
 pub returns-in-Some-expect : goal.returns-in-Some-expect
-returns-in-Some-expect c = search by-store
+returns-in-Some-expect c =
+    by-store c.args.s.now c.args.at c.expect.result c.expect.ensures c.in_default.is c.expect-2.result c.expect-2.ensures
+    c.in-Some-expect.a c.in-Some-expect.is c.read_store.result c.read_store.ensures
 
-pub returns-in-Some-expect-2 : goal.returns-in-Some-expect-2
-returns-in-Some-expect-2 c = search by-drop
+pub returns-in_err-a : goal.returns-in_err-a
+returns-in_err-a c =
+    rw c.from_residual.ensures
+    (no_name c.args.s.now c.args.at c.expect.result c.expect.ensures c.in_default.is c.expect-2.result c.expect-2.ensures c.in_default-expect.is c.expect-3.result c.expect-3.ensures
+    c.in_err-a.was)
 
-pub returns-in-None-expect-2 : goal.returns-in-None-expect-2
-returns-in-None-expect-2 c = search no_name
+pub returns : goal.returns
+returns c =
+    by-drop c.args.s.now c.args.at c.expect.result c.expect.ensures c.in_default.is c.expect-2.result c.expect-2.ensures c.in_default-expect.is c.expect-3.result c.expect-3.ensures
+    c.in_ok-a.a c.in_ok-a.was c.read_drop.result c.read_drop.ensures

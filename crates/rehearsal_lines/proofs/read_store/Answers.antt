@@ -2,14 +2,21 @@
 use Rattle.rehearsal_lines.proofs.Finding.{no-held, no-into, no-offset, store-read}
 use Rattle.rehearsal_lines.proofs.read_store.Goals as goal
 
-pub returns-in_default : goal.returns-in_default
-returns-in_default c = let k2 = c.in_default.in_default-own.keys2 in search no-held
+pub returns-in_err-held : goal.returns-in_err-held
+returns-in_err-held c = rw c.from_residual.ensures (no-held c.args.s.now c.args.at c.get_field.result c.get_field.ensures c.in_err-held.was)
 
-pub returns-in_default-get_field : goal.returns-in_default-get_field
-returns-in_default-get_field c = let k2 = c.in_default-get_field.in_default-get_field-own.keys2 in search no-into
+pub returns-in_err-into : goal.returns-in_err-into
+returns-in_err-into c =
+    rw c.from_residual-in_err-into.ensures
+    (no-into c.args.s.now c.args.at c.get_field.result c.get_field.ensures c.in_ok-held.held c.in_ok-held.a c.in_ok-held.was c.get_field-2.result c.get_field-2.ensures c.in_err-into.was)
 
-pub returns-in_default-get_field-2 : goal.returns-in_default-get_field-2
-returns-in_default-get_field-2 c = let k2 = c.in_default-get_field-2.in_default-get_field-2-own.keys2 in search no-offset
+pub returns-in_err-offset : goal.returns-in_err-offset
+returns-in_err-offset c =
+    rw c.from_residual-in_err-offset.ensures
+    (no-offset c.args.s.now c.args.at c.get_field.result c.get_field.ensures c.in_ok-held.held c.in_ok-held.a c.in_ok-held.was c.get_field-2.result c.get_field-2.ensures
+    c.in_ok-into.into c.in_ok-into.b c.in_ok-into.was c.get_field-3.result c.get_field-3.ensures c.in_err-offset.was)
 
 pub returns : goal.returns
-returns c = search store-read
+returns c =
+    store-read c.args.s.now c.args.at c.get_field.result c.get_field.ensures c.in_ok-held.held c.in_ok-held.a c.in_ok-held.was c.get_field-2.result c.get_field-2.ensures
+    c.in_ok-into.into c.in_ok-into.b c.in_ok-into.was c.get_field-3.result c.get_field-3.ensures c.in_ok-offset.offset c.in_ok-offset.next c.in_ok-offset.was

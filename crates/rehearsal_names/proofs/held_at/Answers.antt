@@ -5,11 +5,11 @@ use Rattle.rehearsal_names.proofs.held_at.Goals as goal
 pub slice_bounds-find-end : goal.slice_bounds-find-end
 slice_bounds-find-end c = front-count c.requires
 
-pub find-k-requires : goal.find-k-requires
-find-k-requires c = front-rises c.requires
+pub find-requires : goal.find-requires
+find-requires c = front-rises c.requires
 
-pub returns-then-k-n : goal.returns-then-k-n
-returns-then-k-n c = held_found c.requires _ c.find-k.ensures c.if-k-n.true
+pub returns-in-Some : goal.returns-in-Some
+returns-in-Some c = held_found c.requires _ c.find.result c.find.ensures.found c.in-Some.is
 
-pub returns : goal.returns
-returns c = held_none c.requires _ c.find-k.ensures c.if-k-n.false
+pub returns-in-None : goal.returns-in-None
+returns-in-None c = held_none c.requires _ c.find.result c.find.ensures.found c.in-None.is

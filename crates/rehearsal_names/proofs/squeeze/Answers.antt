@@ -8,9 +8,6 @@ loop-i-init c = squeeze-begin c.requires
 pub squeeze_one-j-requires : goal.squeeze_one-j-requires
 squeeze_one-j-requires c = squeeze-can c.loop-i.invariant c.loop-i-test.true
 
-pub loop-i-smaller : goal.loop-i-smaller
-loop-i-smaller c = omega (arith, c.loop-i-test.true)
-
 pub loop-i-preserved : goal.loop-i-preserved
 loop-i-preserved c = squeeze-next c.loop-i.invariant c.loop-i-test.true c.squeeze_one-j.ensures.0 c.squeeze_one-j.ensures.1
 

@@ -1,10 +1,6 @@
 -- `rehearsal_names::squeeze` meets its contract.
-use Prim.Native.Nat.{◌-◌}
 use Rattle.rehearsal_names.proofs.Squeezing.{Squeezing}
 use Rattle.rehearsal_names.proofs.squeeze.Given as goal
 
 abbrev pub invariant-loop-i : goal.invariant-loop-i
 invariant-loop-i l = Squeezing l.s l.n l.initial.words l.words l.i l.j
-
-abbrev pub decreases-loop-i : goal.decreases-loop-i
-decreases-loop-i l = l.n - l.i

@@ -24,7 +24,7 @@ pub shape_of-narrow-then-told-eq0 : goal.shape_of-narrow-then-told-eq0
 shape_of-narrow-then-told-eq0 c = c.place-done.auto.narrow
 
 pub returns-then-told-eq0 : goal.returns-then-told-eq0
-returns-then-told-eq0 c = place-held c.requires.in_order _ _ _ c.place-done.ensures c.from-told.ensures (ap (λ (k : ℕ). k / 6) c.place-done.auto.narrow) c.requires.can_hold_more c.if-told-eq0.true refl c.requires.data_there.counted c.hold-n.auto.words c.hold-n.ensures c.higher.ensures
+returns-then-told-eq0 c = place-held c.requires.in_order _ _ _ c.place-done.ensures c.from-told.ensures (ap (λ (k : ℕ). k / 6) c.place-done.auto.narrow) c.requires.can_hold_more c.if-told-eq0.true refl c.requires.data_there.counted c.hold-n.auto.words c.hold-n.ensures c.max.ensures
 
 pub returns : goal.returns
 returns c = place-refused c.requires.in_order _ _ _ c.place-done.ensures c.from-told.ensures (ap (λ (k : ℕ). k / 6) c.place-done.auto.narrow) c.if-told-eq0.false

@@ -1,5 +1,3 @@
-use Prim.Native.Nat.{◌-◌}
-use lib.ListN.{length}
 use Rattle.tables.proofs.Rowing.{Measured}
 use Rattle.table_writer.proofs.halves_len.Given as goal
 

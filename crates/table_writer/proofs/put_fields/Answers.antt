@@ -36,7 +36,7 @@ pub bounds-list-j-in-loop-i : goal.bounds-list-j-in-loop-i
 bounds-list-j-in-loop-i c = let n = name-found c.args.names.now c.loop-i.f c.in-Some.next c.get_name.ensures c.in-Some.is in omega (arith, rows-put-in _ _ _ _ _ _ _ _ _ _ _ _ c.loop-i.invariant c.loop-i-test.true _ n)
 
 pub put_numbers-a-requires : goal.put_numbers-a-requires
-put_numbers-a-requires c = let n = name-found c.args.names.now c.loop-i.f c.in-Some.next c.get_name.ensures c.in-Some.is in omega (arith, rows-put-fits _ _ _ _ _ _ _ _ _ _ _ _ c.loop-i.invariant c.loop-i-test.true _ n, ap (λ (l : List ℕ). length (flat_map field l)) (two-as c.args.list.now c.loop-i.j _ _ (rows-put-in _ _ _ _ _ _ _ _ _ _ _ _ c.loop-i.invariant c.loop-i-test.true _ n) c.widened.ensures c.widened-in-loop-i.ensures))
+put_numbers-a-requires c = let n = name-found c.args.names.now c.loop-i.f c.in-Some.next c.get_name.ensures c.in-Some.is in omega (arith, rows-put-fits _ _ _ _ _ _ _ _ _ _ _ _ c.loop-i.invariant c.loop-i-test.true _ n, ap (λ (l : List ℕ). length (flat_map field l)) (two-as c.args.list.now c.loop-i.j _ _ (rows-put-in _ _ _ _ _ _ _ _ _ _ _ _ c.loop-i.invariant c.loop-i-test.true _ n) c.from.ensures c.from-in-loop-i.ensures))
 
 pub slice_bounds-put_literal-count : goal.slice_bounds-put_literal-count
 slice_bounds-put_literal-count c = let n = name-found c.args.names.now c.loop-i.f c.in-Some.next c.get_name.ensures c.in-Some.is in omega (arith, name-long _ _ _ c.loop-i.invariant.gathered.inside n)
@@ -48,13 +48,13 @@ pub slice_bounds-put_literal-end : goal.slice_bounds-put_literal-end
 slice_bounds-put_literal-end c = let n = name-found c.args.names.now c.loop-i.f c.in-Some.next c.get_name.ensures c.in-Some.is in n.inside
 
 pub put_literal-o-requires : goal.put_literal-o-requires
-put_literal-o-requires c = let n = name-found c.args.names.now c.loop-i.f c.in-Some.next c.get_name.ensures c.in-Some.is in omega (arith, rows-put-fits _ _ _ _ _ _ _ _ _ _ _ _ c.loop-i.invariant c.loop-i-test.true _ n, c.put_numbers-a.ensures.next, c.put_numbers-a.auto.out, ap (λ (l : List ℕ). length (flat_map field l)) (two-as c.args.list.now c.loop-i.j _ _ (rows-put-in _ _ _ _ _ _ _ _ _ _ _ _ c.loop-i.invariant c.loop-i-test.true _ n) c.widened.ensures c.widened-in-loop-i.ensures))
+put_literal-o-requires c = let n = name-found c.args.names.now c.loop-i.f c.in-Some.next c.get_name.ensures c.in-Some.is in omega (arith, rows-put-fits _ _ _ _ _ _ _ _ _ _ _ _ c.loop-i.invariant c.loop-i-test.true _ n, c.put_numbers-a.ensures.next, c.put_numbers-a.auto.out, ap (λ (l : List ℕ). length (flat_map field l)) (two-as c.args.list.now c.loop-i.j _ _ (rows-put-in _ _ _ _ _ _ _ _ _ _ _ _ c.loop-i.invariant c.loop-i-test.true _ n) c.from.ensures c.from-in-loop-i.ensures))
 
 pub overflow_add-j-in-loop-i : goal.overflow_add-j-in-loop-i
 overflow_add-j-in-loop-i c = let n = name-found c.args.names.now c.loop-i.f c.in-Some.next c.get_name.ensures c.in-Some.is in omega (arith, rows-put-in _ _ _ _ _ _ _ _ _ _ _ _ c.loop-i.invariant c.loop-i-test.true _ n)
 
 pub loop-i-preserved : goal.loop-i-preserved
-loop-i-preserved c = let n = name-found c.args.names.now c.loop-i.f c.in-Some.next c.get_name.ensures c.in-Some.is in rows-put-next _ _ _ _ _ _ _ _ _ _ _ _ c.loop-i.invariant c.loop-i-test.true _ n _ _ _ _ (c.put_literal-o.auto.out ∙ c.put_numbers-a.auto.out) (puts-at c.put_numbers-a.ensures refl (ap (flat_map field) (two-as c.args.list.now c.loop-i.j _ _ (rows-put-in _ _ _ _ _ _ _ _ _ _ _ _ c.loop-i.invariant c.loop-i-test.true _ n) c.widened.ensures c.widened-in-loop-i.ensures))) c.put_literal-o.ensures
+loop-i-preserved c = let n = name-found c.args.names.now c.loop-i.f c.in-Some.next c.get_name.ensures c.in-Some.is in rows-put-next _ _ _ _ _ _ _ _ _ _ _ _ c.loop-i.invariant c.loop-i-test.true _ n _ _ _ _ (c.put_literal-o.auto.out ∙ c.put_numbers-a.auto.out) (puts-at c.put_numbers-a.ensures refl (ap (flat_map field) (two-as c.args.list.now c.loop-i.j _ _ (rows-put-in _ _ _ _ _ _ _ _ _ _ _ _ c.loop-i.invariant c.loop-i-test.true _ n) c.from.ensures c.from-in-loop-i.ensures))) c.put_literal-o.ensures
 
 pub shape_of-out : goal.shape_of-out
 shape_of-out c = c.loop-i.invariant.same

@@ -1,4 +1,3 @@
-use Prim.Native.Nat.{◌-◌}
 use Rattle.table_writer.proofs.RowsPut.{RowsPut}
 use Rattle.table_writer.proofs.put_fields.Given as goal
 

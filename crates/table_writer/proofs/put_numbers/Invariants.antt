@@ -1,5 +1,3 @@
-use Prim.Native.Nat.{◌-◌}
-use lib.ListN.{length}
 use Rattle.tables.proofs.Rowing.{Numbered}
 use Rattle.table_writer.proofs.put_numbers.Given as goal
 
