@@ -86,6 +86,7 @@ pub fn resolve(view: View, x: u64) -> Reply
 // ---- new
 
 // An empty heap in lent memory of six and four runs: all of it is cleared.
+// Kept: no heap lies in this memory yet, so it is lent in parts.
 pub fn new(tag: u8, narrow: &mut [u32], wide: &mut [u64], pool: &mut [u8]) -> Heap
     requires narrow_len { length narrow.old ≡ 6 * (length narrow.old / 6) }
     requires wide_len { length wide.old ≡ 4 * (length narrow.old / 6) }
@@ -108,6 +109,7 @@ fn raised(w: u64) -> u64
 }
 
 // Slot `i` gets this start and these bytes, and one write more.
+// Kept: between these steps the heap isn't well formed, so they take its parts.
 fn replace(
     heap: Heap,
     narrow: &mut [u32],
@@ -161,6 +163,7 @@ fn raise(wide: &mut [u64], at: usize)
 }
 
 // Bytes put over the visible data of slot `i`, from the offset `at` in it. The write count rises too where a live slot shows nothing.
+// Kept: the C interface lends the narrow list read-only here, so a door can't make a `Lent`.
 pub fn write(
     heap: Heap,
     narrow: &[u32],
@@ -201,6 +204,7 @@ pub fn write(
 // ---- reissue
 
 // A new handle for the live slot `i`: 9 where no live one is there, then 20 where it is worn out.
+// Kept: the C interface lends the pool read-only here, so a door can't make a `Lent`.
 pub fn reissue(
     heap: Heap,
     narrow: &mut [u32],
@@ -287,6 +291,7 @@ fn list_all(heap: Heap, narrow: &[u32], sealed: &mut [u64]) -> usize
 }
 
 // The seals become the handles of all live slots.
+// Kept: the C interface lends all but the wide list read-only here, so a door can't make a `Lent`.
 pub fn seal(heap: Heap, narrow: &[u32], wide: &mut [u64], pool: &[u8]) -> Heap
     requires { well_formed (lent heap narrow.now wide.old pool.now) ≡ true }
     ensures { Leaves (lent heap narrow.now wide.old pool.now)
