@@ -28,8 +28,8 @@ use Rattle.roots.specs.Calls.{Lent as Code, function, right, need}
 use Rattle.collect.specs.Collect.{collecting, CanCollect}
 use Rattle.collect.specs.Safepoint.{at_safepoint, CanLook}
 use Rattle.door.specs.HeapCalls.{test, admitted, enough, heap_tests, zeros, Entered, outcome, outcome_of}
-use Rattle.door.specs.declared.Entry.{Entry}
-use Rattle.door.specs.declared.Entry.TheVariants.{Ready, Not}
+use Rattle.door.specs.HeapCalls.{Entry}
+use Rattle.door.specs.HeapCalls.{ready}
 use Rattle.door.proofs.Entering.{fails, passes, few-marks, few_words, is-enough, and-holds, and-fails, and-more, cleared-in, holding, call-refused, call-cleared, marks-zero, work-zero, rows-zero, zeros-again, zeros-room}
 use Rattle.collect_door.specs.Calls.{Given, table_in, collect_tests, tests, collect_call, Asked, table, frame, pinning, coded, roomy, row_tests, input_tests, joining, joined_call}
 use Rattle.collect_door.specs.Demand.{RightlyCollected, Demand}
@@ -38,22 +38,22 @@ use Rattle.collect_door.proofs.Theorem.{collect-rightly, demand}
 -- ---- collect
 
 module _ (l : Lent) {m w m' w' : List ℕ} {e : Entry} (s : Entered (m ∷ w ∷ []) (heap_tests m w l) e (m' ∷ w' ∷ [])) (types fields consts bytes pins : List ℕ) where
-  pub not_entered : {why : Refusal} → e ≡ Not why → Entered (m ∷ w ∷ []) (collect_tests types fields consts bytes pins m w l) (Not why) (m' ∷ w' ∷ [])
+  pub not_entered : {why : Refusal} → e ≡ Err why → Entered (m ∷ w ∷ []) (collect_tests types fields consts bytes pins m w l) (Err why) (m' ∷ w' ∷ [])
   not_entered i = and-more s (test (table_good types fields consts bytes) TypeTable ∷ test (rising pins) Pins ∷ []) i
 
-  module _ (i : e ≡ Ready) (g : Bool) (eg : g ≡ table_good types fields consts bytes) where
-    pub no_table : g ≡ false → Entered (m ∷ w ∷ []) (collect_tests types fields consts bytes pins m w l) (Not TypeTable) (m' ∷ w' ∷ [])
+  module _ (i : e ≡ ready) (g : Bool) (eg : g ≡ table_good types fields consts bytes) where
+    pub no_table : g ≡ false → Entered (m ∷ w ∷ []) (collect_tests types fields consts bytes pins m w l) (Err TypeTable) (m' ∷ w' ∷ [])
     no_table h = and-more (and-fails s {why = TypeTable} i (sym eg ∙ h) refl) (test (rising pins) Pins ∷ []) refl
 
     module _ (h : g ≡ true) (p : Bool) (ep : p ≡ rising pins) where
-      pub no_pins : p ≡ false → Entered (m ∷ w ∷ []) (collect_tests types fields consts bytes pins m w l) (Not Pins) (m' ∷ w' ∷ [])
+      pub no_pins : p ≡ false → Entered (m ∷ w ∷ []) (collect_tests types fields consts bytes pins m w l) (Err Pins) (m' ∷ w' ∷ [])
       no_pins k = and-fails (and-holds s TypeTable i (sym eg ∙ h)) {why = Pins} refl (sym ep ∙ k) refl
 
-      pub all-entered : p ≡ true → Entered (m ∷ w ∷ []) (collect_tests types fields consts bytes pins m w l) Ready (m' ∷ w' ∷ [])
+      pub all-entered : p ≡ true → Entered (m ∷ w ∷ []) (collect_tests types fields consts bytes pins m w l) ready (m' ∷ w' ∷ [])
       all-entered k = and-holds (and-holds s TypeTable i (sym eg ∙ h)) Pins refl (sym ep ∙ k)
 
 module _ (g : Given) (l : Lent) {m w m' w' : List ℕ} {e : Entry} (s : Entered (m ∷ w ∷ []) (tests g m w l) e (m' ∷ w' ∷ [])) where
-  pub can-collect : e ≡ Ready → CanCollect l g.pins m' w'
+  pub can-collect : e ≡ ready → CanCollect l g.pins m' w'
   unfolding enough
   can-collect i =
       let t = and_both (leb (slot_count l) (length m)) (leb (slot_count l) (length w)) (holding s 0 i) in
@@ -66,13 +66,13 @@ module _ (g : Given) (l : Lent) {m w m' w' : List ℕ} {e : Entry} (s : Entered 
         work_room = zeros-room w w' (slot_count l) (work-zero s i) t.1;
       }
 
-  pub collect-refused : {why : Refusal} {r : Answer} → e ≡ Not why → r ≡ told (Err why)
+  pub collect-refused : {why : Refusal} {r : Answer} → e ≡ Err why → r ≡ told (Err why)
       → (outcome r l m' w' ≡ collect_call g m w l) × RightlyCollected g m w l (outcome r l m' w')
   collect-refused {r = r} i t =
       let k : outcome r l m' w' ≡ collect_call g m w l = call-refused s nothing nothing (collecting (table_in g) g.roots g.pins) i t in
       (k, collect-rightly g m w l (outcome r l m' w') k)
 
-  pub collect-done : {m'' w'' : List ℕ} {l' : Lent} {reply : Reply} {r : Answer} → e ≡ Ready
+  pub collect-done : {m'' w'' : List ℕ} {l' : Lent} {reply : Reply} {r : Answer} → e ≡ ready
       → Tells nothing nothing l l' reply (collecting (table_in g) g.roots g.pins (view l)) → r ≡ told reply → (m'' ≡ m') × (w'' ≡ w')
       → (outcome r l' m'' w'' ≡ collect_call g m w l) × RightlyCollected g m w l (outcome r l' m'' w'')
   collect-done {m''} {w''} {l'} {r = r} i d t z =
@@ -85,16 +85,16 @@ pub by-leb : (b : Bool) (n k : ℕ) → (b ≡ true) ↔ (n ≤ k) → b ≡ leb
 by-leb b n k e = bool-ext b (leb n k) (λ h. le-leb n k (e.0 h)) (λ h. e.1 (leb-true n k h))
 
 module _ (n : ℕ) (m w r : List ℕ) (l : Lent) where
-  pub no-marks : length m < slot_count l → Entered (m ∷ w ∷ r ∷ []) (row_tests n m w r l) (Not Scratch) (m ∷ w ∷ r ∷ [])
+  pub no-marks : length m < slot_count l → Entered (m ∷ w ∷ r ∷ []) (row_tests n m w r l) (Err Scratch) (m ∷ w ∷ r ∷ [])
   unfolding roomy
   no-marks h = record { found = fails _ _ _ (simp (few-marks m w l h)); left = refl }
 
-  pub no_words : slot_count l ≤ length m → length w < slot_count l → Entered (m ∷ w ∷ r ∷ []) (row_tests n m w r l) (Not Scratch) (m ∷ w ∷ r ∷ [])
+  pub no_words : slot_count l ≤ length m → length w < slot_count l → Entered (m ∷ w ∷ r ∷ []) (row_tests n m w r l) (Err Scratch) (m ∷ w ∷ r ∷ [])
   unfolding roomy
   no_words h k = record { found = fails _ _ _ (simp (few_words m w l h k)); left = refl }
 
   module _ (h : slot_count l ≤ length m) (k : slot_count l ≤ length w) (q : Bool) (e : q ≡ leb n (length r)) where
-    pub no_rows : q ≡ false → Entered (m ∷ w ∷ r ∷ []) (row_tests n m w r l) (Not Scratch) (m ∷ w ∷ r ∷ [])
+    pub no_rows : q ≡ false → Entered (m ∷ w ∷ r ∷ []) (row_tests n m w r l) (Err Scratch) (m ∷ w ∷ r ∷ [])
     unfolding roomy
     no_rows j = record { found = fails _ _ _ (simp (is-enough m w l h k, sym e ∙ j)); left = refl }
 
@@ -106,34 +106,34 @@ module _ (n : ℕ) (m w r : List ℕ) (l : Lent) where
       unfolding roomy
       is-roomy = simp (is-enough m w l h k, sym e ∙ j)
 
-      pub not-formed : b ≡ false → Entered (m ∷ w ∷ r ∷ []) (row_tests n m w r l) (Not BrokenHeap) (m' ∷ w' ∷ r' ∷ [])
+      pub not-formed : b ≡ false → Entered (m ∷ w ∷ r ∷ []) (row_tests n m w r l) (Err BrokenHeap) (m' ∷ w' ∷ r' ∷ [])
       not-formed x = record { found = passes _ _ _ is-roomy (fails _ _ _ (sym f.0 ∙ x)); left = cleared }
 
-      pub is-formed : b ≡ true → Entered (m ∷ w ∷ r ∷ []) (row_tests n m w r l) Ready (m' ∷ w' ∷ r' ∷ [])
+      pub is-formed : b ≡ true → Entered (m ∷ w ∷ r ∷ []) (row_tests n m w r l) ready (m' ∷ w' ∷ r' ∷ [])
       unfolding admitted
       is-formed x =
           record { found = passes (roomy n m w r l) Scratch (test (well_formed l) BrokenHeap ∷ []) is-roomy (passes (well_formed l) BrokenHeap [] (sym f.0 ∙ x) refl); left = cleared }
 
 -- ---- the inputs
 
-none_left : Ready ≡ admitted []
+none_left : ready ≡ admitted []
 unfolding admitted
 none_left = refl
 
 module _ (types fields consts bytes : List ℕ) (c : Code) (values pins addresses : List ℕ) (g : Bool) (eg : g ≡ table_good types fields consts bytes) where
-  pub bad-table : g ≡ false → Not TypeTable ≡ admitted (input_tests types fields consts bytes c values pins addresses)
+  pub bad-table : g ≡ false → Err TypeTable ≡ admitted (input_tests types fields consts bytes c values pins addresses)
   bad-table h = fails _ _ _ (sym eg ∙ h)
 
   module _ (h : g ≡ true) (f : Bool) (ef : f ≡ right c) where
-    not-coded : coded c values ≡ false → Not Function ≡ admitted (input_tests types fields consts bytes c values pins addresses)
+    not-coded : coded c values ≡ false → Err Function ≡ admitted (input_tests types fields consts bytes c values pins addresses)
     not-coded n = passes _ _ _ (sym eg ∙ h) (fails _ _ _ n)
 
-    pub bad-code : f ≡ false → Not Function ≡ admitted (input_tests types fields consts bytes c values pins addresses)
+    pub bad-code : f ≡ false → Err Function ≡ admitted (input_tests types fields consts bytes c values pins addresses)
     unfolding coded
     bad-code k = not-coded (simp (sym ef ∙ k))
 
     module _ (k : f ≡ true) where
-      pub bad-values : (length values ≡ length c.classes → ⊥) → Not Function ≡ admitted (input_tests types fields consts bytes c values pins addresses)
+      pub bad-values : (length values ≡ length c.classes → ⊥) → Err Function ≡ admitted (input_tests types fields consts bytes c values pins addresses)
       unfolding coded
       bad-values n = not-coded (simp (sym ef ∙ k, ne_eqb (length values) (length c.classes) n))
 
@@ -142,23 +142,23 @@ module _ (types fields consts bytes : List ℕ) (c : Code) (values pins addresse
         unfolding coded
         is-coded = simp (sym ef ∙ k, eq-eqb (length values) (length c.classes) v)
 
-        pub bad-pins : p ≡ false → Not Pins ≡ admitted (input_tests types fields consts bytes c values pins addresses)
+        pub bad-pins : p ≡ false → Err Pins ≡ admitted (input_tests types fields consts bytes c values pins addresses)
         bad-pins n = passes _ _ _ (sym eg ∙ h) (passes _ _ _ is-coded (fails _ _ _ (sym ep ∙ n)))
 
         module _ (n : p ≡ true) (q : Bool) (eq : q ≡ paired addresses) where
-          pub bad-addresses : q ≡ false → Not Pins ≡ admitted (input_tests types fields consts bytes c values pins addresses)
+          pub bad-addresses : q ≡ false → Err Pins ≡ admitted (input_tests types fields consts bytes c values pins addresses)
           bad-addresses m = passes _ _ _ (sym eg ∙ h) (passes _ _ _ is-coded (passes _ _ _ (sym ep ∙ n) (fails _ _ _ (sym eq ∙ m))))
 
-          pub good-inputs : q ≡ true → Ready ≡ admitted (input_tests types fields consts bytes c values pins addresses)
+          pub good-inputs : q ≡ true → ready ≡ admitted (input_tests types fields consts bytes c values pins addresses)
           good-inputs m = passes _ _ _ (sym eg ∙ h) (passes _ _ _ is-coded (passes _ _ _ (sym ep ∙ n) (passes _ _ _ (sym eq ∙ m) none_left)))
 
 -- ---- all tests but the last
 
 module _ (n : ℕ) (l : Lent) {m w r m' w' r' : List ℕ} {e : Entry} (s : Entered (m ∷ w ∷ r ∷ []) (row_tests n m w r l) e (m' ∷ w' ∷ r' ∷ [])) (types fields consts bytes : List ℕ) (c : Code) (values pins addresses : List ℕ) where
-  pub rows-refused : {why : Refusal} → e ≡ Not why → Entered (m ∷ w ∷ r ∷ []) (row_tests n m w r l ++ input_tests types fields consts bytes c values pins addresses) (Not why) (m' ∷ w' ∷ r' ∷ [])
+  pub rows-refused : {why : Refusal} → e ≡ Err why → Entered (m ∷ w ∷ r ∷ []) (row_tests n m w r l ++ input_tests types fields consts bytes c values pins addresses) (Err why) (m' ∷ w' ∷ r' ∷ [])
   rows-refused i = and-more s (input_tests types fields consts bytes c values pins addresses) i
 
-  pub rows-entered : e ≡ Ready → (f : Entry) → f ≡ admitted (input_tests types fields consts bytes c values pins addresses)
+  pub rows-entered : e ≡ ready → (f : Entry) → f ≡ admitted (input_tests types fields consts bytes c values pins addresses)
       → Entered (m ∷ w ∷ r ∷ []) (row_tests n m w r l ++ input_tests types fields consts bytes c values pins addresses) f (m' ∷ w' ∷ r' ∷ [])
   unfolding admitted
   rows-entered i f q =
@@ -166,7 +166,7 @@ module _ (n : ℕ) (l : Lent) {m w r m' w' r' : List ℕ} {e : Entry} (s : Enter
       (go (table_good types fields consts bytes) (coded c values) (rising pins) (paired addresses))
     where
       go : (a b p q : Bool) → Entered (m ∷ w ∷ r ∷ []) (row_tests n m w r l ++ test a TypeTable ∷ test b Function ∷ test p Pins ∷ test q Pins ∷ [])
-          (if a then (if b then (if p then (if q then Ready else Not Pins) else Not Pins) else Not Function) else Not TypeTable) (m' ∷ w' ∷ r' ∷ [])
+          (if a then (if b then (if p then (if q then ready else Err Pins) else Err Pins) else Err Function) else Err TypeTable) (m' ∷ w' ∷ r' ∷ [])
       go false b p q = and-more (and-fails s {b = false} {why = TypeTable} i refl refl) (test b Function ∷ test p Pins ∷ test q Pins ∷ []) refl
       go true false p q = and-more (and-fails (and-holds s {b = true} TypeTable i refl) {b = false} {why = Function} refl refl refl) (test p Pins ∷ test q Pins ∷ []) refl
       go true true false q = and-more (and-fails (and-holds (and-holds s {b = true} TypeTable i refl) {b = true} Function refl refl) {b = false} {why = Pins} refl refl refl) (test q Pins ∷ []) refl
@@ -180,7 +180,7 @@ Admitted a l m w r m' w' r' e =
     Entered (m ∷ w ∷ r ∷ []) (row_tests (need a.code) m w r l ++ input_tests a.types a.fields a.consts a.bytes a.code a.values a.pins a.addresses) e (m' ∷ w' ∷ r' ∷ [])
 
 module _ (a : Asked) (l : Lent) (m w r m' w' r' : List ℕ) (e : Entry) (s : Admitted a l m w r m' w' r' e) where
-  pub can-join : e ≡ Ready → CanCollect l a.pins m' w' × (CanLook a.code a.values r' × (paired a.addresses ≡ true))
+  pub can-join : e ≡ ready → CanCollect l a.pins m' w' × (CanLook a.code a.values r' × (paired a.addresses ≡ true))
   unfolding roomy coded enough
   can-join i =
       let t = and_both (enough m w l) (leb (need a.code) (length r)) (holding s 0 i) in
@@ -205,7 +205,7 @@ module _ (a : Asked) (l : Lent) (m w r m' w' r' : List ℕ) (e : Entry) (s : Adm
         ),
       )
 
-  pub join-refused : (why : Refusal) (x : Answer) → e ≡ Not why → x ≡ told (Err why)
+  pub join-refused : (why : Refusal) (x : Answer) → e ≡ Err why → x ≡ told (Err why)
       → (outcome_of x l (m' ∷ w' ∷ r' ∷ []) ≡ joined_call a m w r l) × Demand a m w r l (outcome_of x l (m' ∷ w' ∷ r' ∷ []))
   join-refused why x i t =
       let k : outcome_of x l (m' ∷ w' ∷ r' ∷ []) ≡ joined_call a m w r l =
@@ -213,7 +213,7 @@ module _ (a : Asked) (l : Lent) (m w r m' w' r' : List ℕ) (e : Entry) (s : Adm
       (k, demand a m w r l (outcome_of x l (m' ∷ w' ∷ r' ∷ [])) k)
 
   -- a safepoint or none (16)
-  at-point : (b : Bool) → safepoint (function a.code) a.pc ≡ b → (l' : Lent) (reply : Reply) (x : Answer) → e ≡ Ready
+  at-point : (b : Bool) → safepoint (function a.code) a.pc ≡ b → (l' : Lent) (reply : Reply) (x : Answer) → e ≡ ready
       → Tells nothing nothing l l' reply (if b then joining a (view l) else refuse 16 (view l)) → x ≡ told reply
       → outcome_of x l' (m' ∷ w' ∷ r' ∷ []) ≡ joined_call a m w r l
   at-point true p l' reply x i d t = call-cleared (and-holds s NoMap i p) nothing nothing (joining a) refl d t (cleared-in s i)
@@ -222,7 +222,7 @@ module _ (a : Asked) (l : Lent) (m w r m' w' r' : List ℕ) (e : Entry) (s : Adm
       ap (λ (y : Lent). outcome_of x y (m' ∷ w' ∷ r' ∷ [])) back
       ∙ call-refused (and-fails s {why = NoMap} i p refl) nothing nothing (joining a) refl (t ∙ d.says)
 
-  pub join-done : (m'' w'' r'' : List ℕ) (l' : Lent) (reply : Reply) (x : Answer) → e ≡ Ready
+  pub join-done : (m'' w'' r'' : List ℕ) (l' : Lent) (reply : Reply) (x : Answer) → e ≡ ready
       → Tells nothing nothing l l' reply (at_safepoint (table a) (function a.code) a.pc a.values (frame a) (pinning a) (view l)) → x ≡ told reply
       → (m'' ≡ m') × (w'' ≡ w') × (r'' ≡ r')
       → (outcome_of x l' (m'' ∷ w'' ∷ r'' ∷ []) ≡ joined_call a m w r l) × Demand a m w r l (outcome_of x l' (m'' ∷ w'' ∷ r'' ∷ []))

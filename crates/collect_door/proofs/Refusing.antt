@@ -21,9 +21,9 @@ use Rattle.heap.specs.Calls.{Changed}
 use Rattle.heap.proofs.Testing.{formed-tested}
 use Rattle.collection.proofs.Answers.{not-both}
 use Rattle.door.specs.HeapCalls.{Test, admitted, zeros, scratch_after, Outcome, outcome_of, calling}
-use Rattle.door.specs.declared.Entry.{Entry}
-use Rattle.door.specs.declared.Entry.TheVariants.{Ready, Not}
-use Rattle.door.proofs.Entering.{apart, calling-not, calling-ready}
+use Rattle.door.specs.HeapCalls.{Entry}
+use Rattle.door.specs.HeapCalls.{ready}
+use Rattle.door.proofs.Entering.{apart, calling-not, calling-ready, same-why}
 use Rattle.collect_door.specs.Demand.{done, refusal, Refusals}
 
 abbrev code : Reply → ℕ
@@ -39,9 +39,6 @@ never_done why q =
 one : (a b : Refusal) → refusal a ≡ refusal b → a ≡ b
 one a b q = number-once a b (ap (λ (x : Answer). x.number) q)
 
-not-one : {a b : Refusal} → Not a ≡ Not b → a ≡ b
-not-one q = cc
-
 other : {X : Type 0} → Untraceable ≡ Scratch → X
 other q = let z : ◌≡◌ {A = ℕ} 13 18 = ap number_of q in absurd (omega arith)
 
@@ -54,28 +51,28 @@ same_heap e = ap (λ (x : Outcome). x.heap) e
 same-scratch : {a b : Outcome} → a ≡ b → a.scratch ≡ b.scratch
 same-scratch e = ap (λ (x : Outcome). x.scratch) e
 
-zero-after : (why : Refusal) (scratch : List (List ℕ)) → (why ≡ Scratch → ⊥) → scratch_after (Not why) scratch ≡ map zeros scratch
+zero-after : (why : Refusal) (scratch : List (List ℕ)) → (why ≡ Scratch → ⊥) → scratch_after (Err why) scratch ≡ map zeros scratch
 zero-after why scratch free = simp (ne_eqb (number_of why) 18 (λ q. free (number-once why Scratch q)))
 
 -- what a collection does to a heap that no test turns away: `stuck`, that it can't be traced
 pub record Two (tests : List Test) (l : Lent) (call : State → Changed Unit) (stuck : Type 0) : Type 0 where
-  pub formed : admitted tests ≡ Ready → well_formed l ≡ true
+  pub formed : admitted tests ≡ ready → well_formed l ≡ true
   pub two : ((call (view l)).answer ≡ refused 13) ⊎ ((call (view l)).answer ≡ ok tt)
-  pub traced : admitted tests ≡ Ready → ((call (view l)).answer ≡ refused 13) ↔ stuck
-  pub same : admitted tests ≡ Ready → (call (view l)).answer ≡ refused 13 → (call (view l)).heap ≡ view l
+  pub traced : admitted tests ≡ ready → ((call (view l)).answer ≡ refused 13) ↔ stuck
+  pub same : admitted tests ≡ ready → (call (view l)).answer ≡ refused 13 → (call (view l)).heap ≡ view l
 
 module _ (scratch : List (List ℕ)) (tests : List Test) (l : Lent) (call : State → Changed Unit) (stuck : Type 0) (c : Two tests l call stuck) (o : Outcome) (e : o ≡ calling nothing nothing scratch tests l call) where
   -- refused by a test, untraceable, or done
   by_call : {X : Type 0}
-      → ((why : Refusal) → admitted tests ≡ Not why → o ≡ outcome_of (refusal why) l (scratch_after (Not why) scratch) → X)
-      → (admitted tests ≡ Ready → (call (view l)).answer ≡ refused 13 → o ≡ outcome_of (refusal Untraceable) l (map zeros scratch) → X)
-      → (admitted tests ≡ Ready → (call (view l)).answer ≡ ok tt → o ≡ outcome_of done (stored (slot_count l) (pool_size l) (call (view l)).heap) (map zeros scratch) → X)
+      → ((why : Refusal) → admitted tests ≡ Err why → o ≡ outcome_of (refusal why) l (scratch_after (Err why) scratch) → X)
+      → (admitted tests ≡ ready → (call (view l)).answer ≡ refused 13 → o ≡ outcome_of (refusal Untraceable) l (map zeros scratch) → X)
+      → (admitted tests ≡ ready → (call (view l)).answer ≡ ok tt → o ≡ outcome_of done (stored (slot_count l) (pool_size l) (call (view l)).heap) (map zeros scratch) → X)
       → X
   by_call {X} early stopped passed = go (admitted tests) refl
     where
       go : (t : Entry) → admitted tests ≡ t → X
-      go (Not why) i = early why i (e ∙ calling-not nothing nothing scratch tests l call i)
-      go Ready i =
+      go (Err why) i = early why i (e ∙ calling-not nothing nothing scratch tests l call i)
+      go (Ok _) i =
           ⊎_elim
           (λ p.
           let back : stored (slot_count l) (pool_size l) (call (view l)).heap ≡ l = ap (stored (slot_count l) (pool_size l)) (c.same i p) ∙ sym (formed-tested l (c.formed i)).lies in
@@ -84,7 +81,7 @@ module _ (scratch : List (List ℕ)) (tests : List Test) (l : Lent) (call : Stat
           passed i p (e ∙ calling-ready nothing nothing scratch tests l call i ∙ (λ j. outcome_of (answered nothing nothing (p j)) (stored (slot_count l) (pool_size l) (call (view l)).heap) (map zeros scratch))))
           c.two
 
-  pub succeeded : o.answer ≡ done → (admitted tests ≡ Ready) × ((call (view l)).answer ≡ ok tt) × (o.heap ≡ stored (slot_count l) (pool_size l) (call (view l)).heap)
+  pub succeeded : o.answer ≡ done → (admitted tests ≡ ready) × ((call (view l)).answer ≡ ok tt) × (o.heap ≡ stored (slot_count l) (pool_size l) (call (view l)).heap)
   succeeded q =
       by_call
       (λ why i r. never_done why (sym q ∙ same_answer r))
@@ -99,7 +96,7 @@ module _ (scratch : List (List ℕ)) (tests : List Test) (l : Lent) (call : Stat
         unchanged = λ why q. by_call (λ w i r. same_heap r) (λ i p r. same_heap r) (λ i p r. never_done why (sym (same_answer r) ∙ q));
         scratch_kept = λ q.
             by_call
-            (λ why i r. same-scratch r ∙ ap (λ (x : Refusal). scratch_after (Not x) scratch) (one why Scratch (sym (same_answer r) ∙ q)))
+            (λ why i r. same-scratch r ∙ ap (λ (x : Refusal). scratch_after (Err x) scratch) (one why Scratch (sym (same_answer r) ∙ q)))
             (λ i p r. other (one Untraceable Scratch (sym (same_answer r) ∙ q)))
             (λ i p r. never_done Scratch (sym (same_answer r) ∙ q));
         scratch_zero = λ free.
@@ -109,16 +106,16 @@ module _ (scratch : List (List ℕ)) (tests : List Test) (l : Lent) (call : Stat
             (λ i p r. same-scratch r);
       }
     where
-      to : (why : Refusal) → o.answer ≡ refusal why → (admitted tests ≡ Not why) ⊎ ((why ≡ Untraceable) × (admitted tests ≡ Ready) × stuck)
+      to : (why : Refusal) → o.answer ≡ refusal why → (admitted tests ≡ Err why) ⊎ ((why ≡ Untraceable) × (admitted tests ≡ ready) × stuck)
       to why q =
           by_call
-          (λ w i r. inl (i ∙ ap (λ (x : Refusal). Not x) (one w why (sym (same_answer r) ∙ q))))
+          (λ w i r. inl (i ∙ ap (λ (x : Refusal). Err x) (one w why (sym (same_answer r) ∙ q))))
           (λ i p r. inr (one why Untraceable (sym q ∙ same_answer r), i, (c.traced i).0 p))
           (λ i p r. never_done why (sym (same_answer r) ∙ q))
 
-      from : (why : Refusal) → (admitted tests ≡ Not why) ⊎ ((why ≡ Untraceable) × (admitted tests ≡ Ready) × stuck) → o.answer ≡ refusal why
+      from : (why : Refusal) → (admitted tests ≡ Err why) ⊎ ((why ≡ Untraceable) × (admitted tests ≡ ready) × stuck) → o.answer ≡ refusal why
       from why x =
           by_call
-          (λ w i r. ⊎_elim (λ k. same_answer r ∙ ap refusal (not-one (sym i ∙ k))) (λ k. apart (sym i ∙ k.1)) x)
+          (λ w i r. ⊎_elim (λ k. same_answer r ∙ ap refusal (same-why (sym i ∙ k))) (λ k. apart (sym i ∙ k.1)) x)
           (λ i p r. ⊎_elim (λ k. apart (sym k ∙ i)) (λ k. same_answer r ∙ ap refusal (sym k.0)) x)
           (λ i p r. ⊎_elim (λ k. apart (sym k ∙ i)) (λ k. not-both (call (view l)).answer 13 p ((c.traced i).1 k.2)) x)

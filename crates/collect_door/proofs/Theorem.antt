@@ -30,7 +30,7 @@ use Rattle.collection.proofs.Demand.{collect-demand, collected-by, collected-sou
 use Rattle.collection.proofs.JoinedDemand.{joined-demand, joined_by, joined-answers, joined-sound}
 use Rattle.collect.specs.Collect.{collecting}
 use Rattle.door.specs.HeapCalls.{admitted, Outcome}
-use Rattle.door.specs.declared.Entry.TheVariants.{Ready}
+use Rattle.door.specs.HeapCalls.{ready}
 use Rattle.door.proofs.Entering.{all_hold}
 use Rattle.collect_door.specs.Calls.{Given, table_in, tests, collect_call, Asked, table, frame, pinning, coded, joined_tests, joining, joined_call}
 use Rattle.collect_door.specs.Demand.{done, Marks, Collected, objects_in, starts_in, RightlyCollected, StartsAt, Demand}
@@ -99,11 +99,11 @@ module _ (a : Asked) (marks work rows : List ℕ) (l : Lent) (o : Outcome) (e : 
   abbrev stuck : Type 0
   stuck = CannotTrace (table a) code a.pc a.values (frame a) (pinning a) (view l)
 
-  good : admitted (joined_tests a marks work rows l) ≡ Ready → valid code ≡ true
+  good : admitted (joined_tests a marks work rows l) ≡ ready → valid code ≡ true
   unfolding coded
   good i = valid-code a.code (and_both _ _ (all_hold (joined_tests a marks work rows l) 3 i)).0
 
-  joins : admitted (joined_tests a marks work rows l) ≡ Ready → Joins (table a) code a.pc a.values (frame a) (pinning a) (view l) (joining a (view l))
+  joins : admitted (joined_tests a marks work rows l) ≡ ready → Joins (table a) code a.pc a.values (frame a) (pinning a) (view l) (joining a (view l))
   joins i = joined-demand (table a) code a.pc (good i) (all_hold (joined_tests a marks work rows l) 6 i) a.values (frame a) (pinning a) (all_hold (joined_tests a marks work rows l) 5 i) (view l)
 
   two-joined : Two (joined_tests a marks work rows l) l (joining a) stuck
@@ -115,13 +115,13 @@ module _ (a : Asked) (marks work rows : List ℕ) (l : Lent) (o : Outcome) (e : 
         same = λ i. (joins i).unchanged;
       }
 
-  pub has_done : o.answer ≡ done → (admitted (joined_tests a marks work rows l) ≡ Ready) × ((joining a (view l)).answer ≡ ok tt) × (o.heap ≡ stored (slot_count l) (pool_size l) (joining a (view l)).heap)
+  pub has_done : o.answer ≡ done → (admitted (joined_tests a marks work rows l) ≡ ready) × ((joining a (view l)).answer ≡ ok tt) × (o.heap ≡ stored (slot_count l) (pool_size l) (joining a (view l)).heap)
   has_done = succeeded (marks ∷ work ∷ rows ∷ []) (joined_tests a marks work rows l) l (joining a) stuck two-joined o e
 
   has-begun : o.answer ≡ done → (handles : List ℕ) × (frame a ≡ some handles) × ((S : Starts) × StartsAt a l handles S)
   has-begun q = go (frame a) refl
     where
-      k : (admitted (joined_tests a marks work rows l) ≡ Ready) × ((joining a (view l)).answer ≡ ok tt) × (o.heap ≡ stored (slot_count l) (pool_size l) (joining a (view l)).heap)
+      k : (admitted (joined_tests a marks work rows l) ≡ ready) × ((joining a (view l)).answer ≡ ok tt) × (o.heap ≡ stored (slot_count l) (pool_size l) (joining a (view l)).heap)
       k = has_done q
 
       go : (f : Option (List ℕ)) → frame a ≡ f → (handles : List ℕ) × (frame a ≡ some handles) × ((S : Starts) × StartsAt a l handles S)

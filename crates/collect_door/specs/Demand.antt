@@ -17,7 +17,7 @@ use Rattle.collection.specs.Collected.{graph, starts}
 use Rattle.collection.specs.Demand.{Survived}
 use Rattle.collection.specs.JoinedDemand.{JoinedStarts, Untraceable as CannotTrace}
 use Rattle.door.specs.HeapCalls.{Test, admitted, zeros, Outcome}
-use Rattle.door.specs.declared.Entry.TheVariants.{Ready, Not}
+use Rattle.door.specs.HeapCalls.{ready}
 use Rattle.collect_door.specs.Calls.{Given, table_in, tests, Asked, table, frame, pinning, joined_tests}
 
 -- a success has no values
@@ -32,7 +32,7 @@ pub record Refusals (scratch : List (List ℕ)) (tests : List Test) (stuck : Typ
   -- it is done or refused
   pub answers : (o.answer ≡ done) ⊎ ((why : Refusal) × (o.answer ≡ refusal why))
   -- a refusal is given exactly when its test is the first to fail, and untraceable (13) exactly when none fails and it can't be traced
-  pub exactly : (why : Refusal) → (o.answer ≡ refusal why) ↔ ((admitted tests ≡ Not why) ⊎ ((why ≡ Untraceable) × (admitted tests ≡ Ready) × stuck))
+  pub exactly : (why : Refusal) → (o.answer ≡ refusal why) ↔ ((admitted tests ≡ Err why) ⊎ ((why ≡ Untraceable) × (admitted tests ≡ ready) × stuck))
   -- after a refusal every lent byte of the heap, and its header, is what it was
   pub unchanged : (why : Refusal) → o.answer ≡ refusal why → o.heap ≡ l
   -- scratch is zero after all but 18, and untouched then

@@ -7,7 +7,7 @@ ghost use Rattle.door.specs.HeapCalls.{Entered, admitted, outcome_of};
 ghost use Rattle.collect_door.specs.Calls.{row_tests, input_tests, joined_call};
 ghost use Rattle.collect_door.specs.Demand.{Demand};
 
-use door::{Done, Entry};
+use door::Done;
 use heap::Heap;
 use refusal::{Answer, Refusal};
 use roots::Code;
@@ -24,27 +24,27 @@ fn enter_rows(
     marks: &mut [u8],
     work: &mut [u64],
     rows: &mut [u64],
-) -> Entry
+) -> Result<(), Refusal>
     ensures { Entered (marks.old ∷ work.old ∷ rows.old ∷ [])
         (row_tests (need (code_lent code.now)) marks.old work.old rows.old (lent heap narrow.now wide.now pool.now))
         result (marks.new ∷ work.new ∷ rows.new ∷ []) }
 {
     let slots = narrow.len() / 6;
     if marks.len() < slots {
-        return Entry::Not(Refusal::Scratch);
+        return Err(Refusal::Scratch);
     }
     if work.len() < slots {
-        return Entry::Not(Refusal::Scratch);
+        return Err(Refusal::Scratch);
     }
     if !rows_fit(code, rows.len()) {
-        return Entry::Not(Refusal::Scratch);
+        return Err(Refusal::Scratch);
     }
     work.fill(0);
     rows.fill(0);
     if heap_check::check(heap, narrow, wide, pool, marks) {
-        return Entry::Ready;
+        return Ok(());
     }
-    Entry::Not(Refusal::BrokenHeap)
+    Err(Refusal::BrokenHeap)
 }
 
 // Are the type table, the function with its values, the pins and the list of addresses as they should be?
@@ -57,26 +57,26 @@ fn admit_inputs(
     values: &[u64],
     pins: &[u32],
     addresses: &[u64],
-) -> Entry
+) -> Result<(), Refusal>
     ensures { result ≡ admitted (input_tests types.now fields.now consts.now bytes.now
         (code_lent code.now) values.now pins.now addresses.now) }
 {
     if !(Table { types, fields, consts, bytes }).check_table() {
-        return Entry::Not(Refusal::TypeTable);
+        return Err(Refusal::TypeTable);
     }
     if !check_function(code) {
-        return Entry::Not(Refusal::Function);
+        return Err(Refusal::Function);
     }
     if values.len() != code.classes.len() {
-        return Entry::Not(Refusal::Function);
+        return Err(Refusal::Function);
     }
     if !heap_calls::recycle::rise(pins) {
-        return Entry::Not(Refusal::Pins);
+        return Err(Refusal::Pins);
     }
     if !addresses::rise(addresses) {
-        return Entry::Not(Refusal::Pins);
+        return Err(Refusal::Pins);
     }
-    Entry::Ready
+    Ok(())
 }
 
 // Do scratch, heap and all inputs let the collection look for the safepoint?
@@ -96,17 +96,15 @@ fn admit_joined(
     marks: &mut [u8],
     work: &mut [u64],
     rows: &mut [u64],
-) -> Entry
+) -> Result<(), Refusal>
     ensures { Entered (marks.old ∷ work.old ∷ rows.old ∷ [])
         (row_tests (need (code_lent code.now)) marks.old work.old rows.old (lent heap narrow.now wide.now pool.now)
         ++ input_tests types.now fields.now consts.now bytes.now
         (code_lent code.now) values.now pins.now addresses.now)
         result (marks.new ∷ work.new ∷ rows.new ∷ []) }
 {
-    match enter_rows(heap, narrow, wide, pool, code, marks, work, rows) {
-        Entry::Not(why) => Entry::Not(why),
-        Entry::Ready => admit_inputs(types, fields, consts, bytes, code, values, pins, addresses),
-    }
+    enter_rows(heap, narrow, wide, pool, code, marks, work, rows)?;
+    admit_inputs(types, fields, consts, bytes, code, values, pins, addresses)
 }
 
 // An object outlives the collection exactly if a chain leads to it from the pins, the seals, the handles of the frame or the values of the registers of class 4
@@ -180,11 +178,11 @@ pub fn yexwalu_collect_joined(
         types, fields, consts, bytes, heap, narrow, wide, pool, &code, values, pins, addresses,
         marks, work, rows,
     ) {
-        Entry::Not(why) => Done {
+        Err(why) => Done {
             heap: heap,
             answer: Answer::from(Err(why)),
         },
-        Entry::Ready => {
+        Ok(()) => {
             let done = collect::joined::collect_at(
                 types, fields, consts, bytes, heap, narrow, wide, pool, code, pc, values, map,
                 memory, pins, addresses, marks, work, rows,

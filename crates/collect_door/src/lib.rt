@@ -8,7 +8,7 @@ ghost use Rattle.door.specs.HeapCalls.{Entered, outcome};
 ghost use Rattle.collect_door.specs.Calls.{collect_tests, collect_call};
 ghost use Rattle.collect_door.specs.Demand.{RightlyCollected};
 
-use door::{Done, Entry};
+use door::Done;
 use heap::Heap;
 use refusal::{Answer, Refusal};
 use ty::Table;
@@ -28,24 +28,20 @@ fn admit(
     pins: &[u32],
     marks: &mut [u8],
     work: &mut [u64],
-) -> Entry
+) -> Result<(), Refusal>
     ensures { Entered (marks.old ∷ work.old ∷ [])
         (collect_tests types.now fields.now consts.now bytes.now pins.now marks.old work.old
         (lent heap narrow.now wide.now pool.now))
         result (marks.new ∷ work.new ∷ []) }
 {
-    match door::enter(heap, narrow, wide, pool, marks, work) {
-        Entry::Not(why) => Entry::Not(why),
-        Entry::Ready => {
-            if !(Table { types, fields, consts, bytes }).check_table() {
-                return Entry::Not(Refusal::TypeTable);
-            }
-            if !heap_calls::recycle::rise(pins) {
-                return Entry::Not(Refusal::Pins);
-            }
-            Entry::Ready
-        }
+    door::enter(heap, narrow, wide, pool, marks, work)?;
+    if !(Table { types, fields, consts, bytes }).check_table() {
+        return Err(Refusal::TypeTable);
     }
+    if !heap_calls::recycle::rise(pins) {
+        return Err(Refusal::Pins);
+    }
+    Ok(())
 }
 
 // Drops the objects to which no chain leads from a root, a seal or a pin. Where a reached object can't be traced nothing changes.
@@ -75,11 +71,11 @@ pub fn yexwalu_collect(
     match admit(
         types, fields, consts, bytes, heap, narrow, wide, pool, pins, marks, work,
     ) {
-        Entry::Not(why) => Done {
+        Err(why) => Done {
             heap: heap,
             answer: Answer::from(Err(why)),
         },
-        Entry::Ready => {
+        Ok(()) => {
             let done = collect::collect(
                 types, fields, consts, bytes, heap, narrow, wide, pool, roots, pins, marks, work,
             );

@@ -21,20 +21,28 @@ use Rattle.refusal.specs.declared.Answer.{Answer}
 use Rattle.refusal.specs.Told.{Reply}
 use Rattle.std.specs.Prelude.{Err}
 use Rattle.door.specs.HeapCalls.{Test, test, admitted, whether, enough, heap_tests, zeros, scratch_after, Entered, Outcome, outcome_of, calling, Asked, asked_of, asking}
-use Rattle.door.specs.declared.Entry.{Entry}
-use Rattle.door.specs.declared.Entry.TheVariants.{Ready, Not}
+use Rattle.door.specs.HeapCalls.{Entry, entry_of}
+use Rattle.std.specs.Prelude.{Result as Outcomes, Ok, IfOk}
+use Rattle.std.proofs.lemmas.Result.{IfOk-at_ok}
+use Rattle.heap.specs.Seen.{seen, state}
+use Rattle.heap.specs.declared.view.View.{View}
+use Rattle.door.specs.HeapCalls.{ready}
 
 -- ---- tests one by one
 
 abbrev code : Entry → ℕ
-code Ready = 0
-code (Not why) = 1
+code (Ok _) = 0
+code (Err why) = 1
 
-pub apart : {X : Type 0} {why : Refusal} → Not why ≡ Ready → X
+pub apart : {X : Type 0} {why : Refusal} → Err why ≡ ready → X
 apart q = let z : ◌≡◌ {A = ℕ} 1 0 = ap code q in absurd (omega arith)
 
+-- a refusal is one
+pub same-why : {a b : Refusal} → ◌≡◌ {A = Entry} (Err a) (Err b) → a ≡ b
+same-why q = cc
+
 module _ (b : Bool) (why : Refusal) (ts : List Test) where
-  pub fails : b ≡ false → Not why ≡ admitted (test b why ∷ ts)
+  pub fails : b ≡ false → Err why ≡ admitted (test b why ∷ ts)
   unfolding admitted
   fails e = simp e
 
@@ -43,31 +51,31 @@ module _ (b : Bool) (why : Refusal) (ts : List Test) where
   passes t e = e ∙ simp t
 
 -- where none fails, the first holds and none of the others fails
-pub passed : (b : Bool) (why : Refusal) (ts : List Test) → admitted (test b why ∷ ts) ≡ Ready → (b ≡ true) × (admitted ts ≡ Ready)
+pub passed : (b : Bool) (why : Refusal) (ts : List Test) → admitted (test b why ∷ ts) ≡ ready → (b ≡ true) × (admitted ts ≡ ready)
 unfolding admitted
 passed true why ts e = (refl, e)
 passed false why ts e = apart e
 
 -- none to come changes a refusal, and the first to come decides where there is none
-by_first : (b : Bool) (e f g : Entry) {why : Refusal} → Not why ≡ (if b then e else g) → (Not why ≡ e → Not why ≡ f) → Not why ≡ (if b then f else g)
+by_first : (b : Bool) (e f g : Entry) {why : Refusal} → Err why ≡ (if b then e else g) → (Err why ≡ e → Err why ≡ f) → Err why ≡ (if b then f else g)
 by_first true e f g i k = k i
 by_first false e f g i k = i
 
-more-refused : (ts us : List Test) {why : Refusal} → Not why ≡ admitted ts → Not why ≡ admitted (ts ++ us)
+more-refused : (ts us : List Test) {why : Refusal} → Err why ≡ admitted ts → Err why ≡ admitted (ts ++ us)
 unfolding admitted
 more-refused [] us e = apart e
-more-refused (t ∷ ts) us e = by_first t.holds (admitted ts) (admitted (ts ++ us)) (Not t.why) e (λ i. more-refused ts us i)
+more-refused (t ∷ ts) us e = by_first t.holds (admitted ts) (admitted (ts ++ us)) (Err t.why) e (λ i. more-refused ts us i)
 
-if-ready : (b : Bool) (e f g : Entry) (why : Refusal) → Ready ≡ (if b then e else Not why) → (Ready ≡ e → g ≡ f) → g ≡ (if b then f else Not why)
+if-ready : (b : Bool) (e f g : Entry) (why : Refusal) → ready ≡ (if b then e else Err why) → (ready ≡ e → g ≡ f) → g ≡ (if b then f else Err why)
 if-ready true e f g why i k = k i
 if-ready false e f g why i k = apart (sym i)
 
-more-ready : (ts us : List Test) → Ready ≡ admitted ts → admitted us ≡ admitted (ts ++ us)
+more-ready : (ts us : List Test) → ready ≡ admitted ts → admitted us ≡ admitted (ts ++ us)
 unfolding admitted
 more-ready [] us e = refl
 more-ready (t ∷ ts) us e = if-ready t.holds (admitted ts) (admitted (ts ++ us)) (admitted us) t.why e (λ i. more-ready ts us i)
 
-pub all_hold : (ts : List Test) (k : ℕ) → admitted ts ≡ Ready → (get_or ts k (test true Scratch)).holds ≡ true
+pub all_hold : (ts : List Test) (k : ℕ) → admitted ts ≡ ready → (get_or ts k (test true Scratch)).holds ≡ true
 all_hold [] k e = refl
 all_hold (t ∷ ts) zero e = (passed t.holds t.why ts e).0
 all_hold (t ∷ ts) (suc k) e = all_hold ts k (passed t.holds t.why ts e).1
@@ -76,21 +84,21 @@ all_hold (t ∷ ts) (suc k) e = all_hold ts k (passed t.holds t.why ts e).1
 
 module _ {A : Type 0} (first second : A → ℕ) (scratch : List (List ℕ)) (tests : List Test) (l : Lent) where
   module _ (call : State → Changed A) where
-    pub calling-not : {why : Refusal} → admitted tests ≡ Not why → calling first second scratch tests l call ≡ outcome_of (refused_by (number_of why)) l (scratch_after (Not why) scratch)
+    pub calling-not : {why : Refusal} → admitted tests ≡ Err why → calling first second scratch tests l call ≡ outcome_of (refused_by (number_of why)) l (scratch_after (Err why) scratch)
     unfolding calling
     calling-not e = simp e
 
-    pub calling-ready : admitted tests ≡ Ready
+    pub calling-ready : admitted tests ≡ ready
         → calling first second scratch tests l call ≡ outcome_of (answered first second (call (view l)).answer) (stored (slot_count l) (pool_size l) (call (view l)).heap) (map zeros scratch)
     unfolding calling
     calling-ready e = simp e
 
   module _ (question : State → Result A) where
-    pub asking-not : {why : Refusal} → admitted tests ≡ Not why → asking first second scratch tests l question ≡ asked_of (refused_by (number_of why)) (scratch_after (Not why) scratch)
+    pub asking-not : {why : Refusal} → admitted tests ≡ Err why → asking first second scratch tests l question ≡ asked_of (refused_by (number_of why)) (scratch_after (Err why) scratch)
     unfolding asking
     asking-not e = simp e
 
-    pub asking-ready : admitted tests ≡ Ready → asking first second scratch tests l question ≡ asked_of (answered first second (question (view l))) (map zeros scratch)
+    pub asking-ready : admitted tests ≡ ready → asking first second scratch tests l question ≡ asked_of (answered first second (question (view l))) (map zeros scratch)
     unfolding asking
     asking-ready e = simp e
 
@@ -109,20 +117,20 @@ module _ (m w : List ℕ) (l : Lent) where
   unfolding enough
   is-enough h k = simp (le-leb (slot_count l) (length m) h, le-leb (slot_count l) (length w) k)
 
-  pub no-marks : length m < slot_count l → Entered (m ∷ w ∷ []) (heap_tests m w l) (Not Scratch) (m ∷ w ∷ [])
+  pub no-marks : length m < slot_count l → Entered (m ∷ w ∷ []) (heap_tests m w l) (Err Scratch) (m ∷ w ∷ [])
   no-marks h = record { found = fails _ _ _ (few-marks h); left = refl }
 
-  pub no_words : slot_count l ≤ length m → length w < slot_count l → Entered (m ∷ w ∷ []) (heap_tests m w l) (Not Scratch) (m ∷ w ∷ [])
+  pub no_words : slot_count l ≤ length m → length w < slot_count l → Entered (m ∷ w ∷ []) (heap_tests m w l) (Err Scratch) (m ∷ w ∷ [])
   no_words h k = record { found = fails _ _ _ (few_words h k); left = refl }
 
   module _ (h : slot_count l ≤ length m) (k : slot_count l ≤ length w) (r : Bool) (m' w' : List ℕ) (f : (r ≡ well_formed l) × (m' ≡ zeros m)) (z : w' ≡ zeros w) where
     cleared : m' ∷ w' ∷ [] ≡ zeros m ∷ zeros w ∷ []
     cleared = λ j. f.1 j ∷ z j ∷ []
 
-    pub not-formed : r ≡ false → Entered (m ∷ w ∷ []) (heap_tests m w l) (Not BrokenHeap) (m' ∷ w' ∷ [])
+    pub not-formed : r ≡ false → Entered (m ∷ w ∷ []) (heap_tests m w l) (Err BrokenHeap) (m' ∷ w' ∷ [])
     not-formed b = record { found = passes _ _ _ (is-enough h k) (fails _ _ _ (sym f.0 ∙ b)); left = cleared }
 
-    pub is-formed : r ≡ true → Entered (m ∷ w ∷ []) (heap_tests m w l) Ready (m' ∷ w' ∷ [])
+    pub is-formed : r ≡ true → Entered (m ∷ w ∷ []) (heap_tests m w l) ready (m' ∷ w' ∷ [])
     unfolding admitted
     is-formed b = record { found = passes (enough m w l) Scratch (test (well_formed l) BrokenHeap ∷ []) (is-enough h k) (passes (well_formed l) BrokenHeap [] (sym f.0 ∙ b) refl); left = cleared }
 
@@ -130,63 +138,69 @@ module _ (m w : List ℕ) (l : Lent) where
 
 module _ {scratch scratch' : List (List ℕ)} {tests : List Test} {e : Entry} (s : Entered scratch tests e scratch') where
   -- one test more, and more tests
-  pub and-holds : {b : Bool} (why : Refusal) → e ≡ Ready → b ≡ true → Entered scratch (tests ++ test b why ∷ []) Ready scratch'
+  pub and-holds : {b : Bool} (why : Refusal) → e ≡ ready → b ≡ true → Entered scratch (tests ++ test b why ∷ []) ready scratch'
   unfolding admitted
   and-holds {b} why i t = record { found = passes b why [] t refl ∙ more-ready tests (test b why ∷ []) (sym i ∙ s.found); left = s.left ∙ ap (λ (x : Entry). scratch_after x scratch) i }
 
-  pub and-fails : {b : Bool} {why : Refusal} → e ≡ Ready → b ≡ false → eqb (number_of why) 18 ≡ false → Entered scratch (tests ++ test b why ∷ []) (Not why) scratch'
+  pub and-fails : {b : Bool} {why : Refusal} → e ≡ ready → b ≡ false → eqb (number_of why) 18 ≡ false → Entered scratch (tests ++ test b why ∷ []) (Err why) scratch'
   and-fails {b} {why} i f n = record { found = fails b why [] f ∙ more-ready tests (test b why ∷ []) (sym i ∙ s.found); left = s.left ∙ ap (λ (x : Entry). scratch_after x scratch) i ∙ simp n }
 
-  pub and-more : {why : Refusal} (more : List Test) → e ≡ Not why → Entered scratch (tests ++ more) (Not why) scratch'
+  pub and-more : {why : Refusal} (more : List Test) → e ≡ Err why → Entered scratch (tests ++ more) (Err why) scratch'
   and-more more i = record { found = more-refused tests more (sym i ∙ s.found); left = s.left ∙ ap (λ (x : Entry). scratch_after x scratch) i }
 
   -- where none failed, scratch is zero
-  pub cleared-in : e ≡ Ready → scratch' ≡ map zeros scratch
+  pub cleared-in : e ≡ ready → scratch' ≡ map zeros scratch
   cleared-in i = s.left ∙ ap (λ (x : Entry). scratch_after x scratch) i
 
   -- each test holds where none failed
-  pub holding : (k : ℕ) → e ≡ Ready → (get_or tests k (test true Scratch)).holds ≡ true
+  pub holding : (k : ℕ) → e ≡ ready → (get_or tests k (test true Scratch)).holds ≡ true
   holding k i = all_hold tests k (sym s.found ∙ i)
 
-  pub whether-not : {X : Type 0} {why : Refusal} (f : Refusal → X) (x : X) → e ≡ Not why → whether (admitted tests) f x ≡ f why
+  pub whether-not : {X : Type 0} {why : Refusal} (f : Refusal → X) (x : X) → e ≡ Err why → whether (admitted tests) f x ≡ f why
   whether-not f x i = ap (λ (y : Entry). whether y f x) (sym s.found ∙ i)
 
-  pub whether-ready : {X : Type 0} (f : Refusal → X) (x : X) → e ≡ Ready → whether (admitted tests) f x ≡ x
+  pub whether-ready : {X : Type 0} (f : Refusal → X) (x : X) → e ≡ ready → whether (admitted tests) f x ≡ x
   whether-ready f x i = ap (λ (y : Entry). whether y f x) (sym s.found ∙ i)
 
   module _ {A : Type 0} (first second : A → ℕ) where
     module _ {l : Lent} (call : State → Changed A) {r : Answer} where
-      pub call-refused : {why : Refusal} → e ≡ Not why → r ≡ told (Err why) → outcome_of r l scratch' ≡ calling first second scratch tests l call
+      pub call-refused : {why : Refusal} → e ≡ Err why → r ≡ told (Err why) → outcome_of r l scratch' ≡ calling first second scratch tests l call
       call-refused i t = (λ j. outcome_of (t j) l ((s.left ∙ ap (λ (x : Entry). scratch_after x scratch) i) j)) ∙ sym (calling-not first second scratch tests l call (sym s.found ∙ i))
 
       -- a call that leaves scratch zero
-      pub call-cleared : {l' : Lent} {reply : Reply} {scratch'' : List (List ℕ)} → e ≡ Ready → Tells first second l l' reply (call (view l)) → r ≡ told reply → scratch'' ≡ map zeros scratch
+      pub call-cleared : {l' : Lent} {reply : Reply} {scratch'' : List (List ℕ)} → e ≡ ready → Tells first second l l' reply (call (view l)) → r ≡ told reply → scratch'' ≡ map zeros scratch
           → outcome_of r l' scratch'' ≡ calling first second scratch tests l call
       call-cleared i d t z = (λ j. outcome_of ((t ∙ d.says) j) (d.leaves.lies j) (z j)) ∙ sym (calling-ready first second scratch tests l call (sym s.found ∙ i))
 
       -- a call that leaves scratch alone
-      pub call-ready : {l' : Lent} {reply : Reply} → e ≡ Ready → Tells first second l l' reply (call (view l)) → r ≡ told reply → outcome_of r l' scratch' ≡ calling first second scratch tests l call
+      pub call-ready : {l' : Lent} {reply : Reply} → e ≡ ready → Tells first second l l' reply (call (view l)) → r ≡ told reply → outcome_of r l' scratch' ≡ calling first second scratch tests l call
       call-ready i d t = call-cleared i d t (cleared-in i)
 
     module _ (l : Lent) (question : State → Result A) {r : Answer} where
-      pub ask-refused : {why : Refusal} → e ≡ Not why → r ≡ told (Err why) → asked_of r scratch' ≡ asking first second scratch tests l question
+      pub ask-refused : {why : Refusal} → e ≡ Err why → r ≡ told (Err why) → asked_of r scratch' ≡ asking first second scratch tests l question
       ask-refused i t = (λ j. asked_of (t j) ((s.left ∙ ap (λ (x : Entry). scratch_after x scratch) i) j)) ∙ sym (asking-not first second scratch tests l question (sym s.found ∙ i))
 
-      pub ask-ready : {a : Answer} → e ≡ Ready → a ≡ answered first second (question (view l)) → r ≡ a → asked_of r scratch' ≡ asking first second scratch tests l question
+      pub ask-ready : {a : Answer} → e ≡ ready → a ≡ answered first second (question (view l)) → r ≡ a → asked_of r scratch' ≡ asking first second scratch tests l question
       ask-ready i d t = (λ j. asked_of ((t ∙ d) j) (cleared-in i j)) ∙ sym (asking-ready first second scratch tests l question (sym s.found ∙ i))
 
+-- what a view answers, for a call
+pub ask-seen : (l : Lent) {scratch scratch' : List (List ℕ)} {tests : List Test} {x : Outcomes View Refusal} {v : View} → Entered scratch tests (entry_of x) scratch' → x ≡ Ok v → IfOk x (λ u. seen u ≡ l)
+    → {A : Type 0} (first second : A → ℕ) (question : State → Result A) {r a : Answer} → a ≡ answered first second (question (state v)) → r ≡ a → asked_of r scratch' ≡ asking first second scratch tests l question
+ask-seen l s i e first second question d t =
+    ask-ready s first second l question (ap entry_of i) (d ∙ ap (λ (k : Lent). answered first second (question (view k))) (IfOk-at_ok (λ (u : View). seen u ≡ l) i e)) t
+
 -- scratch list by list
-pub marks-zero : {m m' : List ℕ} {ss ss' : List (List ℕ)} {tests : List Test} {e : Entry} → Entered (m ∷ ss) tests e (m' ∷ ss') → e ≡ Ready → m' ≡ zeros m
+pub marks-zero : {m m' : List ℕ} {ss ss' : List (List ℕ)} {tests : List Test} {e : Entry} → Entered (m ∷ ss) tests e (m' ∷ ss') → e ≡ ready → m' ≡ zeros m
 marks-zero s i = ap (λ (x : List (List ℕ)). get_or x 0 []) (cleared-in s i)
 
-pub work-zero : {m m' w w' : List ℕ} {ss ss' : List (List ℕ)} {tests : List Test} {e : Entry} → Entered (m ∷ w ∷ ss) tests e (m' ∷ w' ∷ ss') → e ≡ Ready → w' ≡ zeros w
+pub work-zero : {m m' w w' : List ℕ} {ss ss' : List (List ℕ)} {tests : List Test} {e : Entry} → Entered (m ∷ w ∷ ss) tests e (m' ∷ w' ∷ ss') → e ≡ ready → w' ≡ zeros w
 work-zero s i = ap (λ (x : List (List ℕ)). get_or x 1 []) (cleared-in s i)
 
-pub rows-zero : {m m' w w' r r' : List ℕ} {ss ss' : List (List ℕ)} {tests : List Test} {e : Entry} → Entered (m ∷ w ∷ r ∷ ss) tests e (m' ∷ w' ∷ r' ∷ ss') → e ≡ Ready → r' ≡ zeros r
+pub rows-zero : {m m' w w' r r' : List ℕ} {ss ss' : List (List ℕ)} {tests : List Test} {e : Entry} → Entered (m ∷ w ∷ r ∷ ss) tests e (m' ∷ w' ∷ r' ∷ ss') → e ≡ ready → r' ≡ zeros r
 rows-zero s i = ap (λ (x : List (List ℕ)). get_or x 2 []) (cleared-in s i)
 
 -- where 18 and 1 come first and none failed, the heap is well formed
-pub entered : {scratch scratch' : List (List ℕ)} {b : Bool} {x y : Refusal} (l : Lent) {ts : List Test} {e : Entry} → Entered scratch (test b x ∷ test (well_formed l) y ∷ ts) e scratch' → e ≡ Ready → well_formed l ≡ true
+pub entered : {scratch scratch' : List (List ℕ)} {b : Bool} {x y : Refusal} (l : Lent) {ts : List Test} {e : Entry} → Entered scratch (test b x ∷ test (well_formed l) y ∷ ts) e scratch' → e ≡ ready → well_formed l ≡ true
 entered {b = b} {x = x} {y = y} l {ts = ts} s i = (passed (well_formed l) y ts (passed b x (test (well_formed l) y ∷ ts) (sym s.found ∙ i)).1).0
 
 -- ---- scratch that was made zero is zero, and as long as it was

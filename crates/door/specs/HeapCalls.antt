@@ -10,8 +10,7 @@ use Rattle.refusal.specs.Told.{number_of, refused_by, answered}
 use Rattle.refusal.specs.declared.Refusal.{Refusal}
 use Rattle.refusal.specs.declared.Refusal.TheVariants.{BrokenHeap, Scratch}
 use Rattle.refusal.specs.declared.Answer.{Answer}
-use Rattle.door.specs.declared.Entry.{Entry}
-use Rattle.door.specs.declared.Entry.TheVariants.{Ready, Not}
+use Rattle.std.specs.Prelude.{Result as Outcomes, Ok, Err}
 
 -- ---- tests
 
@@ -23,15 +22,27 @@ pub record Test : Type 0 where
 abbrev pub test : Bool → Refusal → Test
 test b r = record { holds = b; why = r }
 
+-- what the tests before a call found: none failed, or the refusal of the first that did
+abbrev pub Entry : Type 0
+Entry = Outcomes Unit Refusal
+
+abbrev pub ready : Entry
+ready = Ok tt
+
 -- the first test that fails, if one does
 unfoldable pub admitted : List Test → Entry
-admitted [] = Ready
-admitted (t ∷ ts) = if t.holds then admitted ts else Not t.why
+admitted [] = ready
+admitted (t ∷ ts) = if t.holds then admitted ts else Err t.why
+
+-- what the tests found, of a call that then has a value in hand
+abbrev pub entry_of : {A : Type 0} → Outcomes A Refusal → Entry
+entry_of (Ok a) = ready
+entry_of (Err why) = Err why
 
 -- what follows a refusal, and what follows if there is none
 abbrev pub whether : {X : Type 0} → Entry → (Refusal → X) → X → X
-whether Ready turned done = done
-whether (Not why) turned done = turned why
+whether (Ok _) turned done = done
+whether (Err why) turned done = turned why
 
 -- scratch: one byte and one word for each of S
 unfoldable pub enough : (marks work : List ℕ) → Lent → Bool
@@ -51,8 +62,8 @@ zeros xs = replicate (length xs) 0
 
 -- the lent scratch, list by list, after a call: as it was after 18, zero after every other answer
 abbrev pub scratch_after : Entry → List (List ℕ) → List (List ℕ)
-scratch_after Ready scratch = map zeros scratch
-scratch_after (Not why) scratch = if eqb (number_of why) 18 then scratch else map zeros scratch
+scratch_after (Ok _) scratch = map zeros scratch
+scratch_after (Err why) scratch = if eqb (number_of why) 18 then scratch else map zeros scratch
 
 -- what the tests found, and the scratch that they left
 pub record Entered (scratch : List (List ℕ)) (tests : List Test) (e : Entry) (scratch' : List (List ℕ)) : Type 0 where
@@ -77,7 +88,7 @@ outcome a l m w = outcome_of a l (m ∷ w ∷ [])
 unfoldable pub calling : {A : Type 0} → (first second : A → ℕ) → (scratch : List (List ℕ)) → List Test → Lent → (State → Changed A) → Outcome
 calling first second scratch tests l call =
     whether (admitted tests)
-    (λ why. outcome_of (refused_by (number_of why)) l (scratch_after (Not why) scratch))
+    (λ why. outcome_of (refused_by (number_of why)) l (scratch_after (Err why) scratch))
     (outcome_of (answered first second (call (view l)).answer) (stored (slot_count l) (pool_size l) (call (view l)).heap) (map zeros scratch))
 
 -- a call with no test of its own
@@ -100,7 +111,7 @@ asked a m w = asked_of a (m ∷ w ∷ [])
 unfoldable pub asking : {A : Type 0} → (first second : A → ℕ) → (scratch : List (List ℕ)) → List Test → Lent → (State → Result A) → Asked
 asking first second scratch tests l question =
     whether (admitted tests)
-    (λ why. asked_of (refused_by (number_of why)) (scratch_after (Not why) scratch))
+    (λ why. asked_of (refused_by (number_of why)) (scratch_after (Err why) scratch))
     (asked_of (answered first second (question (view l))) (map zeros scratch))
 
 abbrev pub heap_ask : {A : Type 0} → (first second : A → ℕ) → (marks work : List ℕ) → Lent → (State → Result A) → Asked

@@ -1,11 +1,13 @@
 // What every public call on a heap goes in by: scratch (18) and the heap (1) are tested first, each time.
 #![tactic(auto)]
 
-ghost use Rattle.std.specs.Prelude.{[], ◌∷◌};
+ghost use Rattle.std.specs.Prelude.{◌≡◌, [], ◌∷◌, IfOk};
 ghost use Rattle.heap.specs.Lent.{lent};
-ghost use Rattle.door.specs.HeapCalls.{Entered, heap_tests};
+ghost use Rattle.heap.specs.Seen.{seen};
+ghost use Rattle.door.specs.HeapCalls.{Entered, heap_tests, entry_of};
 
 use heap::Heap;
+use heap::view::View;
 use refusal::{Answer, Refusal};
 
 // The header after a call, and its answer in numbers.
@@ -16,14 +18,7 @@ pub struct Done {
     pub answer: Answer,
 }
 
-// What the tests before a call found.
-#[derive(Clone, Copy)]
-pub enum Entry {
-    Ready,
-    Not(Refusal),
-}
-
-// Is there scratch enough, and is the heap well formed? `marks` and `work` are scratch: zero afterwards, but as they were where they are too short.
+// Is there scratch enough, and is the heap well formed? The refusal of the first test that fails. `marks` and `work` are scratch: zero afterwards, but as they were where they are too short.
 pub fn enter(
     heap: Heap,
     narrow: &[u32],
@@ -31,21 +26,46 @@ pub fn enter(
     pool: &[u8],
     marks: &mut [u8],
     work: &mut [u64],
-) -> Entry
+) -> Result<(), Refusal>
     ensures { Entered (marks.old ∷ work.old ∷ [])
         (heap_tests marks.old work.old (lent heap narrow.now wide.now pool.now))
         result (marks.new ∷ work.new ∷ []) }
 {
     let slots = narrow.len() / 6;
     if marks.len() < slots {
-        return Entry::Not(Refusal::Scratch);
+        return Err(Refusal::Scratch);
     }
     if work.len() < slots {
-        return Entry::Not(Refusal::Scratch);
+        return Err(Refusal::Scratch);
     }
     work.fill(0);
     if heap_check::check(heap, narrow, wide, pool, marks) {
-        return Entry::Ready;
+        return Ok(());
     }
-    Entry::Not(Refusal::BrokenHeap)
+    Err(Refusal::BrokenHeap)
+}
+
+// The heap, to be read, after these tests.
+pub fn see<'a>(
+    heap: Heap,
+    narrow: &'a [u32],
+    wide: &'a [u64],
+    pool: &'a [u8],
+    marks: &mut [u8],
+    work: &mut [u64],
+) -> Result<View<'a>, Refusal>
+    ensures entered { Entered (marks.old ∷ work.old ∷ [])
+        (heap_tests marks.old work.old (lent heap narrow.now wide.now pool.now))
+        (entry_of result) (marks.new ∷ work.new ∷ []) }
+    ensures shows { IfOk result (λ v. seen v ≡ lent heap narrow.now wide.now pool.now) }
+{
+    match enter(heap, narrow, wide, pool, marks, work) {
+        Err(why) => Err(why),
+        Ok(()) => Ok(View {
+            heap,
+            narrow,
+            wide,
+            pool,
+        }),
+    }
 }

@@ -12,3 +12,6 @@ pub mod Runs
 pub mod Telling
 pub mod Sizes
 pub mod Recycled
+pub mod Columns
+pub mod Questions
+pub mod LiveSlots

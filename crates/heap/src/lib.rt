@@ -1,6 +1,10 @@
 // A heap in lent memory: its header, and how a slot and its data in the packed pool are replaced.
 #![tactic(auto)]
 
+pub mod asked;
+pub mod lent;
+pub mod view;
+
 ghost use Rattle.std.specs.Prelude.{◌≡◌, ◌*◌, ◌≤◌, length};
 ghost use Rattle.word.specs.Run.{run};
 ghost use Rattle.heap.specs.Packing.{start_of};

@@ -23,11 +23,11 @@ use Rattle.refusal.proofs.Numbers.{told-once}
 use Rattle.refusal.specs.declared.Answer.{Answer}
 use Rattle.refusal.specs.declared.Refusal.{Refusal}
 use Rattle.refusal.specs.declared.Refusal.TheVariants.{BrokenHeap, Scratch}
-use Rattle.heap_edit.proofs.Columns.{from_at}
+use Rattle.heap.proofs.Columns.{from_at}
 use Rattle.heap.proofs.Keeping.{live_inside}
 use Rattle.door.specs.HeapCalls.{test, admitted, enough, heap_tests, Asked, asked, heap_ask}
-use Rattle.door.specs.declared.Entry.{Entry}
-use Rattle.door.specs.declared.Entry.TheVariants.{Ready, Not}
+use Rattle.door.specs.HeapCalls.{Entry}
+use Rattle.door.specs.HeapCalls.{ready}
 use Rattle.door.proofs.Entering.{passed, asking-not, asking-ready}
 
 -- the bytes at a place, a refusal where there is none
@@ -109,8 +109,8 @@ data-visible {answer} m w m' w' l i e z = by_tests (admitted (heap_tests m w l))
     at (refused n) q t f = absurd (refused-some (view l) i n q (sym (ap (λ (a : Answer). a.number) t) ∙ z))
 
     by_tests : (x : Entry) → admitted (heap_tests m w l) ≡ x → visible_at (view l) i ≡ ok (take answer.second (drop answer.first l.pool))
-    by_tests (Not why) q =
+    by_tests (Err why) q =
         absurd (some_number why (sym (ap (λ (a : Asked). a.answer.number) (e ∙ asking-not _ _ _ _ l (λ h. place_at h i) q)) ∙ z))
-    by_tests Ready q =
+    by_tests (Ok _) q =
         at (place_at (view l) i) refl (ap (λ (a : Asked). a.answer) (e ∙ asking-ready _ _ _ _ l (λ h. place_at h i) q))
         (passed (well_formed l) BrokenHeap [] (passed (enough m w l) Scratch (test (well_formed l) BrokenHeap ∷ []) q).1).0

@@ -12,8 +12,9 @@ ghost use Rattle.heap.specs.Calls.{resolve as resolved, edit as edited, write as
 ghost use Rattle.door.specs.HeapCalls.{asked, heap_ask, outcome, heap_call};
 ghost use Rattle.heap_door.specs.Sealing.{sealing};
 
-use door::{Done, Entry, enter};
+use door::{Done, enter, see};
 use heap::Heap;
+use heap::lent::Lent;
 use refusal::Answer;
 
 // ---- questions
@@ -33,8 +34,8 @@ pub fn yexwalu_gc_due(
         (lent heap narrow.now wide.now pool.now) (λ h. ok (gc_due h threshold)) }
 {
     match enter(heap, narrow, wide, pool, marks, work) {
-        Entry::Not(why) => Answer::from(Err(why)),
-        Entry::Ready => Answer::from(heap_edit::gc_due(heap, threshold)),
+        Err(why) => Answer::from(Err(why)),
+        Ok(()) => Answer::from(heap_edit::gc_due(heap, threshold)),
     }
 }
 
@@ -52,8 +53,8 @@ pub fn yexwalu_reclaim_due(
         (lent heap narrow.now wide.now pool.now) (λ h. ok (reclaim_due h)) }
 {
     match enter(heap, narrow, wide, pool, marks, work) {
-        Entry::Not(why) => Answer::from(Err(why)),
-        Entry::Ready => Answer::from(heap_edit::reclaim_due(heap)),
+        Err(why) => Answer::from(Err(why)),
+        Ok(()) => Answer::from(heap_edit::reclaim_due(heap)),
     }
 }
 
@@ -71,8 +72,8 @@ pub fn yexwalu_has_quarantine(
         (lent heap narrow.now wide.now pool.now) (λ h. ok (has_quarantine h)) }
 {
     match enter(heap, narrow, wide, pool, marks, work) {
-        Entry::Not(why) => Answer::from(Err(why)),
-        Entry::Ready => Answer::from(heap_edit::has_quarantine(heap)),
+        Err(why) => Answer::from(Err(why)),
+        Ok(()) => Answer::from(heap_edit::has_quarantine(heap)),
     }
 }
 
@@ -91,8 +92,8 @@ pub fn yexwalu_is_plain(
         (lent heap narrow.now wide.now pool.now) (λ h. ok (is_plain h tag)) }
 {
     match enter(heap, narrow, wide, pool, marks, work) {
-        Entry::Not(why) => Answer::from(Err(why)),
-        Entry::Ready => Answer::from(heap_edit::is_plain(heap, tag)),
+        Err(why) => Answer::from(Err(why)),
+        Ok(()) => Answer::from(heap_edit::is_plain(heap, tag)),
     }
 }
 
@@ -110,8 +111,8 @@ pub fn yexwalu_slots(
         (lent heap narrow.now wide.now pool.now) (λ h. ok (length h.slots)) }
 {
     match enter(heap, narrow, wide, pool, marks, work) {
-        Entry::Not(why) => Answer::from(Err(why)),
-        Entry::Ready => Answer::from(heap_edit::slots(heap)),
+        Err(why) => Answer::from(Err(why)),
+        Ok(()) => Answer::from(heap_edit::slots(heap)),
     }
 }
 
@@ -128,9 +129,9 @@ pub fn yexwalu_live(
         ≡ heap_ask here nothing marks.old work.old
         (lent heap narrow.now wide.now pool.now) (λ h. ok (live_count h.slots)) }
 {
-    match enter(heap, narrow, wide, pool, marks, work) {
-        Entry::Not(why) => Answer::from(Err(why)),
-        Entry::Ready => Answer::from(heap_edit::live(heap, narrow, wide, pool)),
+    match see(heap, narrow, wide, pool, marks, work) {
+        Err(why) => Answer::from(Err(why)),
+        Ok(view) => Answer::from(Ok((view.live(), 0))),
     }
 }
 
@@ -148,9 +149,9 @@ pub fn yexwalu_resolve(
         ≡ heap_ask here nothing marks.old work.old
         (lent heap narrow.now wide.now pool.now) (λ h. resolved h handle) }
 {
-    match enter(heap, narrow, wide, pool, marks, work) {
-        Entry::Not(why) => Answer::from(Err(why)),
-        Entry::Ready => Answer::from(heap_edit::resolve(heap, narrow, wide, pool, handle)),
+    match see(heap, narrow, wide, pool, marks, work) {
+        Err(why) => Answer::from(Err(why)),
+        Ok(view) => Answer::from(heap_edit::resolve(view, handle)),
     }
 }
 
@@ -168,9 +169,9 @@ pub fn yexwalu_data(
         ≡ heap_ask (λ (p : Place). p.from) (λ (p : Place). p.size) marks.old work.old
         (lent heap narrow.now wide.now pool.now) (λ h. place_at h i) }
 {
-    match enter(heap, narrow, wide, pool, marks, work) {
-        Entry::Not(why) => Answer::from(Err(why)),
-        Entry::Ready => Answer::from(heap_edit::data(heap, narrow, wide, pool, i)),
+    match see(heap, narrow, wide, pool, marks, work) {
+        Err(why) => Answer::from(Err(why)),
+        Ok(view) => Answer::from(view.data(i)),
     }
 }
 
@@ -188,9 +189,9 @@ pub fn yexwalu_kind(
         ≡ heap_ask (λ (k : Kind). k.kind) (λ (k : Kind). k.type) marks.old work.old
         (lent heap narrow.now wide.now pool.now) (λ h. kind_at h i) }
 {
-    match enter(heap, narrow, wide, pool, marks, work) {
-        Entry::Not(why) => Answer::from(Err(why)),
-        Entry::Ready => Answer::from(heap_edit::kind(heap, narrow, wide, pool, i)),
+    match see(heap, narrow, wide, pool, marks, work) {
+        Err(why) => Answer::from(Err(why)),
+        Ok(view) => Answer::from(view.kind(i)),
     }
 }
 
@@ -208,9 +209,9 @@ pub fn yexwalu_stamp(
         ≡ heap_ask (λ (s : Stamp). s.generation) (λ (s : Stamp). s.writes) marks.old work.old
         (lent heap narrow.now wide.now pool.now) (λ h. stamp_at h i) }
 {
-    match enter(heap, narrow, wide, pool, marks, work) {
-        Entry::Not(why) => Answer::from(Err(why)),
-        Entry::Ready => Answer::from(heap_edit::stamp(heap, narrow, wide, pool, i)),
+    match see(heap, narrow, wide, pool, marks, work) {
+        Err(why) => Answer::from(Err(why)),
+        Ok(view) => Answer::from(view.stamp(i)),
     }
 }
 
@@ -233,16 +234,20 @@ pub fn yexwalu_edit(
         (λ h. edited (length pool.old) h handle bytes.now start) }
 {
     match enter(heap, narrow, wide, pool, marks, work) {
-        Entry::Not(why) => Done {
+        Err(why) => Done {
             heap: heap,
             answer: Answer::from(Err(why)),
         },
-        Entry::Ready => {
-            let done = heap_edit::edit(heap, narrow, wide, pool, handle, bytes, start);
-            let after = done.heap;
-            let reply = done.reply;
+        Ok(()) => {
+            let mut lent = Lent {
+                heap,
+                narrow,
+                wide,
+                pool,
+            };
+            let reply = heap_edit::edit(&mut lent, handle, bytes, start);
             Done {
-                heap: after,
+                heap: lent.heap,
                 answer: Answer::from(reply),
             }
         }
@@ -266,8 +271,8 @@ pub fn yexwalu_write(
         (λ h. written h i at bytes.now) }
 {
     match enter(heap, narrow, wide, pool, marks, work) {
-        Entry::Not(why) => Answer::from(Err(why)),
-        Entry::Ready => Answer::from(heap_edit::write(heap, narrow, wide, pool, i, at, bytes)),
+        Err(why) => Answer::from(Err(why)),
+        Ok(()) => Answer::from(heap_edit::write(heap, narrow, wide, pool, i, at, bytes)),
     }
 }
 
@@ -287,11 +292,11 @@ pub fn yexwalu_reissue(
         (λ h. reissued h i grown) }
 {
     match enter(heap, narrow, wide, pool, marks, work) {
-        Entry::Not(why) => Done {
+        Err(why) => Done {
             heap: heap,
             answer: Answer::from(Err(why)),
         },
-        Entry::Ready => {
+        Ok(()) => {
             let done = heap_edit::reissue(heap, narrow, wide, pool, i, grown);
             let after = done.heap;
             let reply = done.reply;
@@ -316,11 +321,11 @@ pub fn yexwalu_seal(
         ≡ heap_call nothing nothing marks.old work.old (lent heap narrow.now wide.old pool.now) sealing }
 {
     match enter(heap, narrow, wide, pool, marks, work) {
-        Entry::Not(why) => Done {
+        Err(why) => Done {
             heap: heap,
             answer: Answer::from(Err(why)),
         },
-        Entry::Ready => {
+        Ok(()) => {
             let after = heap_edit::seal(heap, narrow, wide, pool);
             Done {
                 heap: after,

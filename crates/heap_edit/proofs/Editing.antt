@@ -1,14 +1,10 @@
 -- `edit` by its ways out. Assumes nothing.
 use Rattle.std.proofs.Common.{◌≡◌, ℕ, ◌+◌, ◌-◌, ◌*◌, ◌/◌, ◌%◌, ◌^◌, ◌<◌, ◌≤◌, Bool, true, false, leb, List, [], ◌∷◌, length, get_or, sym, refl, ap, ◌∙◌, subst, arith, leb-false, leb-true}
-use types.Run.{OneOf, miss}
-use denote.Enum.Declared.{tag_of}
-use Rattle.word.specs.Result.{ok, refused}
+use Rattle.word.specs.Result.{Result, ok, refused}
 use Rattle.refusal.specs.Told.{number_of, here, nothing}
 use Rattle.refusal.specs.declared.Refusal.TheVariants.{NoRoom}
 use Rattle.refusal.specs.Told.{Reply}
 use Rattle.std.specs.Prelude.{Ok, Err}
-use Rattle.handle.specs.Handle.{told}
-use Rattle.std.specs.Prelude.{Result as Outcome}
 use Rattle.refusal.specs.declared.Refusal.{Refusal}
 use Rattle.heap.specs.State.{Slot, slot_at, data_size}
 use Rattle.heap.specs.Lent.{Lent, lent, stored, view, slot_count, pool_size}
@@ -23,21 +19,22 @@ use Rattle.heap.proofs.Changing.{log-lies}
 use Rattle.heap.proofs.Placing.{placed-lies}
 use Rattle.heap.proofs.Telling.{tells_is, tells-not}
 use Rattle.heap.proofs.Runs.{with-header}
-use Rattle.heap_edit.proofs.Columns.{formed, knows, Reads, reads}
+use Rattle.heap.proofs.Columns.{formed, knows, Reads, reads}
 use Rattle.heap_edit.proofs.Cases.{edit-unresolved, edit-full, edit-done}
 use Rattle.heap_edit.proofs.Soundness.{resolved_live, edit-sound}
 use Rattle.heap_edit.proofs.Replacing.{can-splice}
-use Rattle.heap_edit.proofs.Questions.{resolves}
-use Rattle.handle.specs.Handle.{resolve_by}
-use Rattle.handle.specs.Columns.{live_in}
 
 -- a slot placed with one write more
 pub placed-raised : {l l' : Lent} {i g k t s w w' : ℕ} {bytes : List ℕ} → PlacedIn l l' i g k t s w bytes → w ≡ w' → PlacedIn l l' i g k t s w' bytes
 placed-raised {l} {l'} {i} {g} {k} {t} {s} {w} {w'} {bytes} done e = subst (λ (v : ℕ). PlacedIn l l' i g k t s v bytes) e done
 
--- what `resolve` found in the heap that lies there
-pub found : (l : Lent) → well_formed l ≡ true → (x : ℕ) (r : Outcome ℕ Refusal) → told r ≡ resolve_by l.header.tag l.header.slots (live_in l.header.slots l.kind) (λ i. get_or l.generation i 0) x → told r ≡ resolve (view l) x
-found l w x r e = e ∙ resolves l w x
+-- what a view answered holds of what lies there
+pub there : (x : ℕ) (y : Result ℕ) {l₀ l : Lent} → l₀ ≡ l → y ≡ resolve (view l₀) x → y ≡ resolve (view l) x
+there x y e s = subst (λ (k : Lent). y ≡ resolve (view k) x) e s
+
+pub fit-there : (i n : ℕ) (z : Bool) {l₀ l : Lent} → l₀ ≡ l → z ≡ leb (data_size (view l₀).slots - length (slot_at (view l₀) i).bytes + n) (pool_size l₀)
+    → z ≡ leb (data_size (view l).slots - length (slot_at (view l) i).bytes + n) (pool_size l)
+fit-there i n z e q = subst (λ (k : Lent). z ≡ leb (data_size (view k).slots - length (slot_at (view k) i).bytes + n) (pool_size k)) e q
 
 module _ (l : Lent) (w : well_formed l ≡ true) (x : ℕ) (bytes : List ℕ) (first : ℕ) where
   edit-none : (n : ℕ) → edit (pool_size l) (view l) x bytes first ≡ refuse n (view l) → Does l l (refused n) (edit (pool_size l) (view l) x bytes first)
@@ -47,12 +44,12 @@ module _ (l : Lent) (w : well_formed l ≡ true) (x : ℕ) (bytes : List ℕ) (f
   edit-no n e = edit-none n (edit-unresolved (pool_size l) (view l) x bytes first n e)
 
   -- an answer of `resolve` that is no slot is that refusal of `edit`
-  pub edit-unfound : (r : Outcome ℕ Refusal) (why : Refusal) → told r ≡ resolve (view l) x → r ≡ Err why → Tells here nothing l l (Err why) (edit (pool_size l) (view l) x bytes first)
-  edit-unfound r why e k = tells-not here nothing (edit-no (number_of why) (sym e ∙ ap told k))
+  pub edit-unfound : (why : Refusal) → refused (number_of why) ≡ resolve (view l) x → Tells here nothing l l (Err why) (edit (pool_size l) (view l) x bytes first)
+  edit-unfound why e = tells-not here nothing (edit-no (number_of why) (sym e))
 
-  module _ {r : Outcome ℕ Refusal} {i : ℕ} (s : told r ≡ resolve (view l) x) (f : r ≡ Ok i) where
+  module _ {i : ℕ} (s : ok i ≡ resolve (view l) x) where
     at : resolve (view l) x ≡ ok i
-    at = sym s ∙ ap told f
+    at = sym s
 
     pub edit-inside : i < l.header.slots
     edit-inside = omega (arith, (knows l w).slot_count, live_inside (view l) i (resolved_live (view l) x i at))
@@ -96,8 +93,8 @@ module _ (l : Lent) (w : well_formed l ≡ true) (x : ℕ) (bytes : List ℕ) (f
             }
 
 -- at the lists that are lent
-module _ (h : Heap) (narrow wide pool : List ℕ) (w : well_formed (lent h narrow wide pool) ≡ true) (x : ℕ) (bytes : List ℕ) (first : ℕ) {r : Outcome ℕ Refusal} {i : ℕ}
-    (s : told r ≡ resolve (view (lent h narrow wide pool)) x) (f : r ≡ Ok i) {b : Bool}
+module _ (h : Heap) (narrow wide pool : List ℕ) (w : well_formed (lent h narrow wide pool) ≡ true) (x : ℕ) (bytes : List ℕ) (first : ℕ) {i : ℕ}
+    (s : ok i ≡ resolve (view (lent h narrow wide pool)) x) {b : Bool}
     (q : b ≡ leb (data_size (view (lent h narrow wide pool)).slots - length (slot_at (view (lent h narrow wide pool)) i).bytes + length bytes) (length pool)) (t : b ≡ true)
     {hd : Heap} (eh : hd ≡ set_changed h i) where
   pub edit-yes : (l' : Lent)
@@ -105,5 +102,5 @@ module _ (h : Heap) (narrow wide pool : List ℕ) (w : well_formed (lent h narro
       → Tells here nothing (lent h narrow wide pool) l' (Ok (i, 0)) (edit (length pool) (view (lent h narrow wide pool)) x bytes first)
   edit-yes l' done =
       let l : Lent = lent h narrow wide pool in
-      let v : Reads h narrow wide pool i = reads h narrow wide pool w i (edit-inside l w x bytes first s f) in
-      tells_is here nothing (edit-at l w x bytes first s f q t eh l' _ _ _ _ v.generation v.kind v.type (ap (λ (n : ℕ). (n + 1) % 2 ^ 64) v.writes) done)
+      let v : Reads h narrow wide pool i = reads h narrow wide pool w i (edit-inside l w x bytes first s) in
+      tells_is here nothing (edit-at l w x bytes first s q t eh l' _ _ _ _ v.generation v.kind v.type (ap (λ (n : ℕ). (n + 1) % 2 ^ 64) v.writes) done)

@@ -18,7 +18,7 @@ use Rattle.heap.proofs.Keeping.{leaves}
 use Rattle.heap.proofs.Changing.{charge-lies}
 use Rattle.heap.proofs.Telling.{tells_is}
 use Rattle.heap.proofs.Runs.{recount, set-generation, set-writes, with-header, with-generation, with-writes}
-use Rattle.heap_edit.proofs.Columns.{formed, knows, generation-is, kind-is, type-is, start_is, sizes, reads}
+use Rattle.heap.proofs.Columns.{formed, knows, generation-is, kind-is, type-is, start_is, sizes, reads}
 use Rattle.heap_edit.proofs.Cases.{reissue-dead, reissue-worn, reissue-done}
 use Rattle.heap_edit.proofs.Soundness.{reissue-sound}
 use Rattle.heap_edit.proofs.Replacing.{stays, slot-lies, same-data}

@@ -17,7 +17,7 @@ use Rattle.heap.proofs.Changing.{Lying, place-lies}
 use Rattle.heap.proofs.Placing.{lies-packed}
 use Rattle.heap.proofs.Keeping.{data-set}
 use Rattle.heap.proofs.Runs.{with-header}
-use Rattle.heap_edit.proofs.Columns.{formed, knows, data-upto}
+use Rattle.heap.proofs.Columns.{formed, knows, data-upto}
 
 -- ---- data changed in place
 

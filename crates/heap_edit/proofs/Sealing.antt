@@ -15,7 +15,7 @@ use Rattle.heap.proofs.Packing.{length-pad}
 use Rattle.heap.proofs.Keeping.{leaves}
 use Rattle.heap.proofs.Runs.{with-header, with-sealed}
 use Rattle.heap_edit.specs.Inner.Handles.{CanList, AllListed}
-use Rattle.heap_edit.proofs.Columns.{formed, sizes}
+use Rattle.heap.proofs.Columns.{formed, sizes}
 use Rattle.heap_edit.proofs.Soundness.{seal-sound}
 use Rattle.heap_edit.proofs.Listing.{few-handles}
 

@@ -16,7 +16,7 @@ use Rattle.heap.specs.Calls.{Changed, with_slot, rewritten, reissued, resolve, e
 use Rattle.heap.proofs.Sound.{SlotSound, Sound}
 use Rattle.heap.proofs.Seals.{seals-join}
 use Rattle.heap.proofs.Keeping.{live_inside, slot-sound, since-sound, epoch-sound, step-aged, step-most}
-use Rattle.heap_edit.proofs.Columns.{data-upto}
+use Rattle.heap.proofs.Columns.{data-upto}
 use Rattle.heap_edit.proofs.Cases.{edit-unresolved, edit-full, edit-done, write-dead, write-hidden, write-beyond, write_done, reissue-dead, reissue-worn, reissue-done}
 
 -- new seals

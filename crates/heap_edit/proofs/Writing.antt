@@ -7,7 +7,8 @@ use Rattle.word.proofs.Bools.{either}
 use Rattle.word.proofs.RunLaws.{run-get}
 use Rattle.refusal.specs.Told.{nothing}
 use Rattle.refusal.specs.declared.Refusal.TheVariants.{NothingThere}
-use Rattle.std.specs.Prelude.{Ok, Err}
+use Rattle.std.specs.Prelude.{Result as Outcome, Ok, Err, Option, Some, None}
+use Rattle.refusal.specs.declared.Refusal.{Refusal}
 use Rattle.heap.specs.Packing.{start_of}
 use Rattle.heap.specs.State.{State, slot_at, live, data_size}
 use Rattle.heap.specs.Lent.{Lent, lent, columns, stored, view, slot_count, pool_size}
@@ -18,24 +19,23 @@ use Rattle.heap.specs.declared.Heap.{Heap}
 use Rattle.heap.proofs.Keeping.{live_inside, leaves}
 use Rattle.heap.proofs.Telling.{tells_is, tells-not}
 use Rattle.heap.proofs.Runs.{set-writes}
-use Rattle.heap_edit.specs.Inner.Seen.{seen_at}
-use Rattle.heap_edit.specs.declared.Visible.TheVariants.{Dead, Hidden, Shown}
-use Rattle.heap_edit.proofs.Columns.{formed, knows, generation-is, kind-is, type-is, start_is, writes-is, from_is, data-upto, sizes}
+use Rattle.heap.specs.Seen.{seen_at}
+use Rattle.heap.proofs.Columns.{formed, knows, generation-is, kind-is, type-is, start_is, writes-is, from_is, data-upto, sizes}
 use Rattle.heap_edit.proofs.Cases.{write-dead, write-hidden, write-beyond, write_done}
 use Rattle.heap_edit.proofs.Soundness.{write-sound}
 use Rattle.heap_edit.proofs.Replacing.{stays, SlotData, slot-lies, same-data, written-data}
 
 -- ---- what is seen, and what it means
-seen_no : (h : State) (i : ℕ) → live (slot_at h i) ≡ false → seen_at h i ≡ Dead
+seen_no : (h : State) (i : ℕ) → live (slot_at h i) ≡ false → seen_at h i ≡ Err NothingThere
 unfolding seen_at
 seen_no h i d = simp d
 
-seen-not : (h : State) (i : ℕ) → live (slot_at h i) ≡ true → length (slot_at h i).bytes < (slot_at h i).start → seen_at h i ≡ Hidden
+seen-not : (h : State) (i : ℕ) → live (slot_at h i) ≡ true → length (slot_at h i).bytes < (slot_at h i).start → seen_at h i ≡ Ok None
 unfolding seen_at
 seen-not h i a b = simp (a, lt-ltb (length (slot_at h i).bytes) (slot_at h i).start b)
 
 seen-yes : (h : State) (i : ℕ) → live (slot_at h i) ≡ true → (slot_at h i).start ≤ length (slot_at h i).bytes
-    → seen_at h i ≡ Shown (data_size (take i h.slots) + (slot_at h i).start) (length (slot_at h i).bytes - (slot_at h i).start)
+    → seen_at h i ≡ Ok (Some (data_size (take i h.slots) + (slot_at h i).start, length (slot_at h i).bytes - (slot_at h i).start))
 unfolding seen_at
 seen-yes h i a b = simp (a, le-ltb (length (slot_at h i).bytes) (slot_at h i).start b)
 
@@ -47,9 +47,9 @@ pub record IsShown (h : State) (i from size : ℕ) : Type 0 where
 
 -- by what is seen
 by-seen : {X : Type 0} (h : State) (i : ℕ)
-    → (live (slot_at h i) ≡ false → seen_at h i ≡ Dead → X)
-    → (live (slot_at h i) ≡ true → length (slot_at h i).bytes < (slot_at h i).start → seen_at h i ≡ Hidden → X)
-    → (live (slot_at h i) ≡ true → (slot_at h i).start ≤ length (slot_at h i).bytes → seen_at h i ≡ Shown (data_size (take i h.slots) + (slot_at h i).start) (length (slot_at h i).bytes - (slot_at h i).start) → X) → X
+    → (live (slot_at h i) ≡ false → seen_at h i ≡ Err NothingThere → X)
+    → (live (slot_at h i) ≡ true → length (slot_at h i).bytes < (slot_at h i).start → seen_at h i ≡ Ok None → X)
+    → (live (slot_at h i) ≡ true → (slot_at h i).start ≤ length (slot_at h i).bytes → seen_at h i ≡ Ok (Some (data_size (take i h.slots) + (slot_at h i).start, length (slot_at h i).bytes - (slot_at h i).start)) → X) → X
 by-seen h i dead hidden shown =
     ⊎_elim
     (λ a. elim (dec_lt (length (slot_at h i).bytes) (slot_at h i).start) [ yes b ↦ hidden a b (seen-not h i a b) | no b ↦ let c : (slot_at h i).start ≤ length (slot_at h i).bytes = omega arith in shown a c (seen-yes h i a c) ])
@@ -59,18 +59,36 @@ by-seen h i dead hidden shown =
 never : {X : Type 0} → ◌≡◌ {A = ℕ} 0 1 → X
 never z = absurd (omega arith)
 
-pub is-dead : (h : State) (i : ℕ) → seen_at h i ≡ Dead → live (slot_at h i) ≡ false
-is-dead h i e = by-seen h i (λ d q. d) (λ a b q. never (cc)) (λ a b q. never (cc))
+-- what is shown once, parted
+first-of : Outcome (Option (ℕ × ℕ)) Refusal → ℕ
+first-of (Ok (Some p)) = p.0
+first-of (Ok None) = 0
+first-of (Err why) = 0
+
+second-of : Outcome (Option (ℕ × ℕ)) Refusal → ℕ
+second-of (Ok (Some p)) = p.1
+second-of (Ok None) = 0
+second-of (Err why) = 0
+
+both-shown : {a b c d : ℕ} → ◌≡◌ {A = Outcome (Option (ℕ × ℕ)) Refusal} (Ok (Some (a, b))) (Ok (Some (c, d))) → (a ≡ c) × (b ≡ d)
+unfolding first-of second-of
+both-shown e = (ap first-of e, ap second-of e)
+
+pub nothing-there : (h : State) (i : ℕ) (why : Refusal) → seen_at h i ≡ Err why → why ≡ NothingThere
+nothing-there h i why e = by-seen h i (λ d q. cc) (λ a b q. never (cc)) (λ a b q. never (cc))
+
+pub is-dead : (h : State) (i : ℕ) (why : Refusal) → seen_at h i ≡ Err why → live (slot_at h i) ≡ false
+is-dead h i why e = by-seen h i (λ d q. d) (λ a b q. never (cc)) (λ a b q. never (cc))
 
 pub record IsHidden (h : State) (i : ℕ) : Type 0 where
   pub alive : live (slot_at h i) ≡ true
   pub beyond : length (slot_at h i).bytes < (slot_at h i).start
 
-pub is_hidden : (h : State) (i : ℕ) → seen_at h i ≡ Hidden → IsHidden h i
+pub is_hidden : (h : State) (i : ℕ) → seen_at h i ≡ Ok None → IsHidden h i
 is_hidden h i e = by-seen h i (λ d q. never (cc)) (λ a b q. record { alive = a; beyond = b }) (λ a b q. never (cc))
 
-pub is-shown : (h : State) (i from size : ℕ) → seen_at h i ≡ Shown from size → IsShown h i from size
-is-shown h i from size e = by-seen h i (λ d q. never (cc)) (λ a b q. never (cc)) (λ a b q. record { alive = a; within = b; at = (cc); long = (cc) })
+pub is-shown : (h : State) (i from size : ℕ) → seen_at h i ≡ Ok (Some (from, size)) → IsShown h i from size
+is-shown h i from size e = by-seen h i (λ d q. never (cc)) (λ a b q. never (cc)) (λ a b q. let z = both-shown (sym q ∙ e) in record { alive = a; within = b; at = sym z.0; long = sym z.1 })
 
 -- ---- the call
 
@@ -89,8 +107,8 @@ module _ (l : Lent) (w : well_formed l ≡ true) (i at : ℕ) (bytes : List ℕ)
   untold : write (view l) i at bytes ≡ refuse 9 (view l) → Tells nothing nothing l l (Err NothingThere) (write (view l) i at bytes)
   untold e = subst (λ (c : Changed Unit). Tells nothing nothing l l (Err NothingThere) c) (sym e) (record { leaves = record { lies = (formed l w).lies; formed = w }; says = refl })
 
-  pub write-none : seen_at (view l) i ≡ Dead → Tells nothing nothing l l (Err NothingThere) (write (view l) i at bytes)
-  write-none e = untold (write-dead (view l) i at bytes (is-dead (view l) i e))
+  pub write-none : (why : Refusal) → seen_at (view l) i ≡ Err why → Tells nothing nothing l l (Err why) (write (view l) i at bytes)
+  write-none why e = rw (nothing-there (view l) i why e) (untold (write-dead (view l) i at bytes (is-dead (view l) i why e)))
 
   -- slot i with this data in the pool and one write more
   stands : (bytes' ps : List ℕ) → live (slot_at (view l) i) ≡ true → SlotData l i bytes' l.end ps → (ws : List ℕ) → ws ≡ set l.writes i ((get_or l.writes i 0 + 1) % 2 ^ 64)
@@ -119,17 +137,17 @@ module _ (l : Lent) (w : well_formed l ≡ true) (i at : ℕ) (bytes : List ℕ)
         says = ap (λ (c : Changed Unit). c.answer) (sym e);
       }
 
-  pub hidden-inside : seen_at (view l) i ≡ Hidden → i < l.header.slots
+  pub hidden-inside : seen_at (view l) i ≡ Ok None → i < l.header.slots
   hidden-inside e = in_use (is_hidden (view l) i e).alive
 
-  write-quiet : (ws : List ℕ) (l' : Lent) → seen_at (view l) i ≡ Hidden → ws ≡ set l.writes i ((get_or l.writes i 0 + 1) % 2 ^ 64) → l' ≡ after ws l.pool
+  write-quiet : (ws : List ℕ) (l' : Lent) → seen_at (view l) i ≡ Ok None → ws ≡ set l.writes i ((get_or l.writes i 0 + 1) % 2 ^ 64) → l' ≡ after ws l.pool
       → Tells nothing nothing l l' (Err NothingThere) (write (view l) i at bytes)
   write-quiet ws l' e q el =
       let h = is_hidden (view l) i e in
       tells-not nothing nothing (after_write _ _ (refused 9) (write-hidden (view l) i at bytes h.alive h.beyond)
       (el ∙ stands (slot_at (view l) i).bytes l.pool h.alive (same-data l w i (in_use h.alive)) ws q))
 
-  module _ {from size : ℕ} (e : seen_at (view l) i ≡ Shown from size) where
+  module _ {from size : ℕ} (e : seen_at (view l) i ≡ Ok (Some (from, size))) where
     shown : IsShown (view l) i from size
     shown = is-shown (view l) i from size e
 
@@ -173,9 +191,9 @@ module _ (h : Heap) (narrow wide pool : List ℕ) (w : well_formed (lent h narro
   lies : (ps : List ℕ) → lent h narrow wide' ps ≡ after l w i at bytes ws ps
   lies ps = ap (λ (x : List ℕ). lent h narrow x ps) e ∙ set-writes h S narrow wide ps i _ inside
 
-  pub write-hides : seen_at (view l) i ≡ Hidden → Tells nothing nothing l (lent h narrow wide' pool) (Err NothingThere) (write (view l) i at bytes)
+  pub write-hides : seen_at (view l) i ≡ Ok None → Tells nothing nothing l (lent h narrow wide' pool) (Err NothingThere) (write (view l) i at bytes)
   write-hides s = write-quiet l w i at bytes ws _ s raised (lies pool)
 
-  pub write-yes : {from size : ℕ} (ps : List ℕ) → seen_at (view l) i ≡ Shown from size → at + length bytes ≤ size → ps ≡ put pool (from + at) bytes (length bytes)
+  pub write-yes : {from size : ℕ} (ps : List ℕ) → seen_at (view l) i ≡ Ok (Some (from, size)) → at + length bytes ≤ size → ps ≡ put pool (from + at) bytes (length bytes)
       → Tells nothing nothing l (lent h narrow wide' ps) (Ok (0, 0)) (write (view l) i at bytes)
   write-yes ps s fits p = write-over l w i at bytes s ws ps _ fits raised p (lies ps)

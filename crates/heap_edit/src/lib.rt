@@ -4,17 +4,20 @@
 ghost use Rattle.std.specs.Prelude.{◌≡◌, ℕ, ◌+◌, ◌-◌, ◌*◌, ◌/◌, ◌%◌, ◌^◌, ◌<◌, true, List, length, nat_le, slice_index, slice_set};
 ghost use Rattle.word.specs.Result.{ok};
 ghost use Rattle.refusal.specs.Told.{told, answered, here, nothing};
-ghost use Rattle.heap.specs.State.{slot_at, data_size, bit};
+ghost use Rattle.heap.specs.State.{bit};
 ghost use Rattle.heap.specs.Lent.{lent, stored, view};
 ghost use Rattle.heap.specs.WellFormed.{well_formed};
-ghost use Rattle.heap.specs.Calls.{gc_due, reclaim_due, has_quarantine, is_plain, live_count, Place, place_at, Kind, kind_at, Stamp, stamp_at};
+ghost use Rattle.heap.specs.Calls.{gc_due, reclaim_due, has_quarantine, is_plain};
 ghost use Rattle.heap.specs.Calls.{resolve as resolved, edit as edited, write as written, reissue as reissued, seal as sealed_by, new as new_heap};
 ghost use Rattle.heap.specs.Columns.{CanPlace, PlacedIn};
 ghost use Rattle.heap.specs.Done.{Leaves, Tells};
+ghost use Rattle.heap.specs.Loans.{state, Replies};
+ghost use Rattle.heap.specs.Seen.{state as seen_state};
 ghost use Rattle.heap_edit.specs.Header.{OfHeader};
-ghost use Rattle.heap_edit.specs.Inner.Seen.{seen_at};
 ghost use Rattle.heap_edit.specs.Inner.Handles.{CanList, Listing, Listed, AllListed};
 
+use heap::lent::Lent;
+use heap::view::View;
 use heap::{Changed, Heap};
 use refusal::{Refusal, Reply};
 
@@ -70,116 +73,20 @@ pub fn slots(heap: Heap) -> Reply
     Ok((heap.slots as u64, 0))
 }
 
-// ---- What the slots answer
-
-// The number of live slots.
-pub fn live(heap: Heap, narrow: &[u32], wide: &[u64], pool: &[u8]) -> Reply
-    requires { well_formed (lent heap narrow.now wide.now pool.now) ≡ true }
-    ensures { told result ≡ answered here nothing (ok (live_count (view (lent heap narrow.now wide.now pool.now)).slots)) }
-{
-    let s = narrow.len() / 6;
-    let n = heap.slots;
-    let mut count = 0;
-    let mut i = 0;
-    while i < n {
-        if narrow[s + i] != 0 {
-            count += 1;
-        }
-        i += 1;
-    }
-    Ok((count, 0))
-}
+// ---- What a view answers, as a reply
 
 // The slot that a handle leads to.
-pub fn resolve(heap: Heap, narrow: &[u32], wide: &[u64], pool: &[u8], x: u64) -> Reply
-    requires { well_formed (lent heap narrow.now wide.now pool.now) ≡ true }
-    ensures { told result ≡ answered here nothing (resolved (view (lent heap narrow.now wide.now pool.now)) x) }
+pub fn resolve(view: View, x: u64) -> Reply
+    ensures { told result ≡ answered here nothing (resolved (seen_state view.entry) x) }
 {
-    let i = handle::resolve(heap.tag, heap.slots, narrow.len() / 6, narrow, x)?;
+    let i = view.resolve(x)?;
     Ok((i as u64, 0))
-}
-
-// What of a slot's data is visible.
-#[derive(Clone, Copy)]
-pub enum Visible {
-    // No live slot.
-    Dead,
-    // A live slot whose start is beyond its data.
-    Hidden,
-    // From where in the pool on, and how many bytes.
-    Shown(usize, usize),
-}
-
-// What of slot `i` is visible.
-fn seen(heap: Heap, narrow: &[u32], wide: &[u64], pool: &[u8], i: usize) -> Visible
-    requires { well_formed (lent heap narrow.now wide.now pool.now) ≡ true }
-    ensures { result ≡ seen_at (view (lent heap narrow.now wide.now pool.now)) i }
-{
-    if heap.slots <= i {
-        return Visible::Dead;
-    }
-    let s = narrow.len() / 6;
-    if narrow[s + i] == 0 {
-        return Visible::Dead;
-    }
-    let from = heap::start_of(wide, s, i);
-    let size = wide[s + i] as usize - from;
-    let first = wide[i] as usize;
-    if size < first {
-        return Visible::Hidden;
-    }
-    Visible::Shown(from + first, size - first)
-}
-
-// Where the visible data of slot `i` lies: from where in the pool on, and how many bytes.
-pub fn data(heap: Heap, narrow: &[u32], wide: &[u64], pool: &[u8], i: usize) -> Reply
-    requires { well_formed (lent heap narrow.now wide.now pool.now) ≡ true }
-    ensures { told result ≡ answered (λ (p : Place). p.from) (λ (p : Place). p.size)
-        (place_at (view (lent heap narrow.now wide.now pool.now)) i) }
-{
-    match seen(heap, narrow, wide, pool, i) {
-        Visible::Dead => Err(Refusal::NothingThere),
-        Visible::Hidden => Err(Refusal::NothingThere),
-        Visible::Shown(from, size) => Ok((from as u64, size as u64)),
-    }
-}
-
-// The kind and the type of slot `i`.
-pub fn kind(heap: Heap, narrow: &[u32], wide: &[u64], pool: &[u8], i: usize) -> Reply
-    requires { well_formed (lent heap narrow.now wide.now pool.now) ≡ true }
-    ensures { told result ≡ answered (λ (k : Kind). k.kind) (λ (k : Kind). k.type)
-        (kind_at (view (lent heap narrow.now wide.now pool.now)) i) }
-{
-    if heap.slots <= i {
-        return Err(Refusal::NothingThere);
-    }
-    let s = narrow.len() / 6;
-    let k = narrow[s + i];
-    if k == 0 {
-        return Err(Refusal::NothingThere);
-    }
-    Ok((k as u64, narrow[2 * s + i] as u64))
-}
-
-// The generation and the write count of slot `i`.
-pub fn stamp(heap: Heap, narrow: &[u32], wide: &[u64], pool: &[u8], i: usize) -> Reply
-    requires { well_formed (lent heap narrow.now wide.now pool.now) ≡ true }
-    ensures { told result ≡ answered (λ (s : Stamp). s.generation) (λ (s : Stamp). s.writes)
-        (stamp_at (view (lent heap narrow.now wide.now pool.now)) i) }
-{
-    if heap.slots <= i {
-        return Err(Refusal::NothingThere);
-    }
-    let s = narrow.len() / 6;
-    if narrow[s + i] == 0 {
-        return Err(Refusal::NothingThere);
-    }
-    Ok((narrow[i] as u64, wide[2 * s + i]))
 }
 
 // ---- new
 
 // An empty heap in lent memory of six and four runs: all of it is cleared.
+// Kept: no heap lies in this memory yet, so it is lent in parts.
 pub fn new(tag: u8, narrow: &mut [u32], wide: &mut [u64], pool: &mut [u8]) -> Heap
     requires narrow_len { length narrow.old ≡ 6 * (length narrow.old / 6) }
     requires wide_len { length wide.old ≡ 4 * (length narrow.old / 6) }
@@ -201,21 +108,8 @@ fn raised(w: u64) -> u64
     std::num::wrapping_add_u64(w, 1)
 }
 
-// Do `m` bytes fit in place of the data of slot `i`?
-fn fits(heap: Heap, narrow: &[u32], wide: &[u64], pool: &[u8], i: usize, m: usize) -> bool
-    requires pool_value { well_formed (lent heap narrow.now wide.now pool.now) ≡ true }
-    requires i_lt_slots { i < heap.slots }
-    ensures { result ≡ nat_le (data_size (view (lent heap narrow.now wide.now pool.now)).slots
-        - length (slot_at (view (lent heap narrow.now wide.now pool.now)) i).bytes + m) (length pool.now) }
-{
-    let s = narrow.len() / 6;
-    let from = heap::start_of(wide, s, i);
-    let used = heap::start_of(wide, s, heap.slots);
-    let size = wide[s + i] as usize - from;
-    m <= pool.len() - (used - size)
-}
-
 // Slot `i` gets this start and these bytes, and one write more.
+// Kept: between these steps the heap isn't well formed, so they take its parts.
 fn replace(
     heap: Heap,
     narrow: &mut [u32],
@@ -240,42 +134,22 @@ fn replace(
 }
 
 // New bytes and a new start for the object that a handle leads to.
-pub fn edit(
-    heap: Heap,
-    narrow: &mut [u32],
-    wide: &mut [u64],
-    pool: &mut [u8],
-    x: u64,
-    bytes: &[u8],
-    start: usize,
-) -> Changed
-    requires { well_formed (lent heap narrow.old wide.old pool.old) ≡ true }
-    ensures { Tells here nothing (lent heap narrow.old wide.old pool.old)
-        (lent result.heap narrow.new wide.new pool.new) result.reply
-        (edited (length pool.old) (view (lent heap narrow.old wide.old pool.old)) x bytes.now start) }
+pub fn edit(lent: &mut Lent, x: u64, bytes: &[u8], start: usize) -> Reply
+    ensures { Replies here nothing lent.old lent.new result (edited (length lent.old.pool.now) (state lent.old) x bytes.now start) }
 {
-    let index = match handle::resolve(heap.tag, heap.slots, narrow.len() / 6, narrow, x) {
-        Ok(index) => index,
-        Err(why) => {
-            return Changed {
-                heap: heap,
-                reply: Err(why),
-            };
-        }
-    };
+    let view = lent.view();
+    let index = view.resolve(x)?;
     let i = index as usize;
-    if fits(heap, narrow, wide, pool, i, bytes.len()) {} else {
-        return Changed {
-            heap: heap,
-            reply: Err(Refusal::NoRoom),
-        };
+    if !view.fits(i, bytes.len()) {
+        return Err(Refusal::NoRoom);
     }
-    let after = heap.changed(index);
+    let after = lent.heap.changed(index);
+    let narrow = &mut *lent.narrow;
+    let wide = &mut *lent.wide;
+    let pool = &mut *lent.pool;
     replace(after, narrow, wide, pool, i, start, bytes);
-    Changed {
-        heap: after,
-        reply: Ok((index as u64, 0)),
-    }
+    lent.heap = after;
+    Ok((index as u64, 0))
 }
 
 // ---- write
@@ -289,6 +163,7 @@ fn raise(wide: &mut [u64], at: usize)
 }
 
 // Bytes put over the visible data of slot `i`, from the offset `at` in it. The write count rises too where a live slot shows nothing.
+// Kept: the C interface lends the narrow list read-only here, so a door can't make a `Lent`.
 pub fn write(
     heap: Heap,
     narrow: &[u32],
@@ -304,29 +179,32 @@ pub fn write(
         (written (view (lent heap narrow.now wide.old pool.old)) i at bytes.now) }
 {
     let s = narrow.len() / 6;
-    match seen(heap, narrow, wide, pool, i) {
-        Visible::Dead => Err(Refusal::NothingThere),
-        Visible::Hidden => {
-            raise(wide, 2 * s + i);
-            Err(Refusal::NothingThere)
-        }
-        Visible::Shown(from, size) => {
-            if size < at {
-                return Err(Refusal::NothingThere);
-            }
-            if size - at < bytes.len() {
-                return Err(Refusal::NothingThere);
-            }
-            raise(wide, 2 * s + i);
-            memory::copy(pool, from + at, bytes);
-            Ok((0, 0))
-        }
+    let view = View {
+        heap,
+        narrow,
+        wide: &*wide,
+        pool: &*pool,
+    };
+    let visible = view.visible(i)?;
+    let Some((from, size)) = visible else {
+        raise(wide, 2 * s + i);
+        return Err(Refusal::NothingThere);
+    };
+    if size < at {
+        return Err(Refusal::NothingThere);
     }
+    if size - at < bytes.len() {
+        return Err(Refusal::NothingThere);
+    }
+    raise(wide, 2 * s + i);
+    memory::copy(pool, from + at, bytes);
+    Ok((0, 0))
 }
 
 // ---- reissue
 
 // A new handle for the live slot `i`: 9 where no live one is there, then 20 where it is worn out.
+// Kept: the C interface lends the pool read-only here, so a door can't make a `Lent`.
 pub fn reissue(
     heap: Heap,
     narrow: &mut [u32],
@@ -392,14 +270,10 @@ fn list_live(heap: Heap, narrow: &[u32], sealed: &mut [u64]) -> usize
         → Listed (view (lent heap narrow.now wide pool)).slots heap.tag sealed.old result sealed.new }
 {
     let s = narrow.len() / 6;
-    let n = heap.slots;
-    let tag = heap.tag;
     let mut count = 0;
-    let mut i = 0;
-    while i < n {
-        let x = handle::pack(tag, i as u32, narrow[i]);
+    for i in 0..heap.slots {
+        let x = handle::pack(heap.tag, i as u32, narrow[i]);
         count = list_one(narrow[s + i], x, count, sealed);
-        i += 1;
     }
     count
 }
@@ -417,6 +291,7 @@ fn list_all(heap: Heap, narrow: &[u32], sealed: &mut [u64]) -> usize
 }
 
 // The seals become the handles of all live slots.
+// Kept: the C interface lends all but the wide list read-only here, so a door can't make a `Lent`.
 pub fn seal(heap: Heap, narrow: &[u32], wide: &mut [u64], pool: &[u8]) -> Heap
     requires { well_formed (lent heap narrow.now wide.old pool.now) ≡ true }
     ensures { Leaves (lent heap narrow.now wide.old pool.now)

@@ -12,6 +12,8 @@ ghost use Rattle.heap.specs.Calls.{resolve as resolved, edit as edited, write as
 ghost use Rattle.heap_door.specs.Sealing.{sealing};
 ghost use Rattle.held.specs.Held.{in_place, Held};
 
+use heap::lent::Lent;
+use heap::view::View;
 use refusal::Answer;
 
 // Takes out the object that the handle names, as `yexwalu_held_take` does, without handing it out.
@@ -57,9 +59,15 @@ pub fn yexwalu_held_edit(
         (λ h. edited (length pool.old) h handle bytes.now start) }
 {
     let heap = held::header(tag, numbers, log, lengths);
-    let done = heap_edit::edit(heap, narrow, wide, pool, handle, bytes, start);
-    held::keep(done.heap, tag, numbers, log, lengths);
-    Answer::from(done.reply)
+    let mut lent = Lent {
+        heap,
+        narrow,
+        wide,
+        pool,
+    };
+    let reply = heap_edit::edit(&mut lent, handle, bytes, start);
+    held::keep(lent.heap, tag, numbers, log, lengths);
+    Answer::from(reply)
 }
 
 // A new handle for the live slot `i`. First: the handle.
@@ -147,7 +155,13 @@ pub fn yexwalu_held_resolve(
         (view (in_place tag.now numbers.now log.now lengths.now narrow.now wide.now pool.now)) handle) }
 {
     let heap = held::header(tag, numbers, log, lengths);
-    Answer::from(heap_edit::resolve(heap, narrow, wide, pool, handle))
+    let view = View {
+        heap,
+        narrow,
+        wide,
+        pool,
+    };
+    Answer::from(heap_edit::resolve(view, handle))
 }
 
 // Where the visible data of slot `i` lies. First: from where in the pool on; second: how many bytes.
@@ -166,7 +180,13 @@ pub fn yexwalu_held_data(
         (view (in_place tag.now numbers.now log.now lengths.now narrow.now wide.now pool.now)) i) }
 {
     let heap = held::header(tag, numbers, log, lengths);
-    Answer::from(heap_edit::data(heap, narrow, wide, pool, i))
+    let view = View {
+        heap,
+        narrow,
+        wide,
+        pool,
+    };
+    Answer::from(view.data(i))
 }
 
 // First: the kind of slot `i`; second: its type.
@@ -185,7 +205,13 @@ pub fn yexwalu_held_kind(
         (view (in_place tag.now numbers.now log.now lengths.now narrow.now wide.now pool.now)) i) }
 {
     let heap = held::header(tag, numbers, log, lengths);
-    Answer::from(heap_edit::kind(heap, narrow, wide, pool, i))
+    let view = View {
+        heap,
+        narrow,
+        wide,
+        pool,
+    };
+    Answer::from(view.kind(i))
 }
 
 // First: the generation of slot `i`; second: its write count.
@@ -204,7 +230,13 @@ pub fn yexwalu_held_stamp(
         (view (in_place tag.now numbers.now log.now lengths.now narrow.now wide.now pool.now)) i) }
 {
     let heap = held::header(tag, numbers, log, lengths);
-    Answer::from(heap_edit::stamp(heap, narrow, wide, pool, i))
+    let view = View {
+        heap,
+        narrow,
+        wide,
+        pool,
+    };
+    Answer::from(view.stamp(i))
 }
 
 // First: the number of live slots.
@@ -222,7 +254,13 @@ pub fn yexwalu_held_live(
         (view (in_place tag.now numbers.now log.now lengths.now narrow.now wide.now pool.now)).slots)) }
 {
     let heap = held::header(tag, numbers, log, lengths);
-    Answer::from(heap_edit::live(heap, narrow, wide, pool))
+    let view = View {
+        heap,
+        narrow,
+        wide,
+        pool,
+    };
+    Answer::from(Ok((view.live(), 0)))
 }
 
 // First: the number of slots, live and dead.

@@ -21,8 +21,10 @@ use Rattle.roots.specs.Calls.{function}
 use Rattle.collection.specs.Joined.{joined}
 use Rattle.collect.specs.Collect.{collecting}
 use Rattle.door.specs.HeapCalls.{Test, admitted, whether, heap_tests, zeros, scratch_after, Outcome, outcome_of, calling, asked_of, asking as replying}
-use Rattle.door.specs.declared.Entry.{Entry}
-use Rattle.door.specs.declared.Entry.TheVariants.{Ready, Not}
+use Rattle.door.specs.HeapCalls.{Entry}
+use Rattle.std.specs.Prelude.{Err}
+use Rattle.std.specs.Prelude.{Ok}
+use Rattle.door.specs.HeapCalls.{ready}
 use Rattle.object_door.specs.ObjectCalls.{allocating, recycling, take_call}
 use Rattle.heap_door.specs.Sealing.{sealing}
 use Rattle.collect_door.specs.Calls.{table_in, tests, Asked, table, frame, pinning, joined_tests, joining}
@@ -59,15 +61,15 @@ module _ {A : Type 0} (first second : A → ℕ) (scratch : List (List ℕ)) (te
   does-calling call d f same tell = go (admitted tests)
     where
       go : (e : Entry) → let cs : List Step = whether e (λ why. turned (number_of why) ∷ []) (d ∷ []) in
-          DoesBy l (whether e (λ why. outcome_of (refused_by (number_of why)) l (scratch_after (Not why) scratch))
+          DoesBy l (whether e (λ why. outcome_of (refused_by (number_of why)) l (scratch_after (Err why) scratch))
           (outcome_of (answered first second (call (view l)).answer) (stored (slot_count l) (pool_size l) (call (view l)).heap) (map zeros scratch))) cs
           (first_told (slot_count l) (pool_size l) cs (view l))
-      go Ready =
+      go (Ok _) =
           record {
             leaves = ap (λ (r : Changed Answer). stored (slot_count l) (pool_size l) r.heap) (sym same);
             tells = numbers_of f tell (call (view l)).answer ∙ ap (λ (r : Changed Answer). numbers r.answer) (sym same);
           }
-      go (Not why) = turned-away why (scratch_after (Not why) scratch)
+      go (Err why) = turned-away why (scratch_after (Err why) scratch)
 
 -- ---- the joined collection, questions
 
@@ -131,13 +133,13 @@ does-run scratch tests l wf text = go (admitted tests)
     P = pool_size l
 
     go : (e : Entry) → let cs : List Step = whether e (λ why. turned (number_of why) ∷ []) (line_steps (slot_count l) (pool_size l) (lines text) (view l)) in
-        DoesBy l (whether e (λ why. outcome_of (refused_by (number_of why)) l (scratch_after (Not why) scratch))
+        DoesBy l (whether e (λ why. outcome_of (refused_by (number_of why)) l (scratch_after (Err why) scratch))
         (outcome_of (answered nothing nothing (run_lines (slot_count l) (pool_size l) (lines text) (view l)).answer) (stored (slot_count l) (pool_size l) (run_lines (slot_count l) (pool_size l) (lines text) (view l)).heap) (map zeros scratch))) cs
         (refused_by (ending (slot_count l) (pool_size l) cs (view l)))
-    go Ready =
+    go (Ok _) =
         let r = run-lines (slot_count l) (pool_size l) (lines text) (view l) in
         record { leaves = ap (stored (slot_count l) (pool_size l)) r.leaves; tells = r.ends }
-    go (Not why) = let t = turned-away {A = Unit} nothing nothing scratch tests l wf why (scratch_after (Not why) scratch) in record { leaves = t.leaves; tells = unfold doing in refl }
+    go (Err why) = let t = turned-away {A = Unit} nothing nothing scratch tests l wf why (scratch_after (Err why) scratch) in record { leaves = t.leaves; tells = unfold doing in refl }
 
 -- ---- a question
 
@@ -152,23 +154,23 @@ does-asking scratch tests l wf answer = go (admitted tests)
     numbers-told (refused n) = refl
 
     go : (e : Entry) → let cs : List Step = whether e (λ why. turned (number_of why) ∷ []) (ask answer ∷ []) in
-        DoesBy l (leaving l (whether e (λ why. asked_of (refused_by (number_of why)) (scratch_after (Not why) scratch))
+        DoesBy l (leaving l (whether e (λ why. asked_of (refused_by (number_of why)) (scratch_after (Err why) scratch))
         (asked_of (answered (λ (t : Told). t.first) (λ (t : Told). t.second) (answer (view l))) (map zeros scratch)))) cs
         (first_told (slot_count l) (pool_size l) cs (view l))
-    go Ready = unfold doing in record { leaves = (formed-tested l wf).lies; tells = numbers-told (answer (view l)) }
-    go (Not why) = turned-away {A = Told} (λ (t : Told). t.first) (λ (t : Told). t.second) scratch tests l wf why (scratch_after (Not why) scratch)
+    go (Ok _) = unfold doing in record { leaves = (formed-tested l wf).lies; tells = numbers-told (answer (view l)) }
+    go (Err why) = turned-away {A = Told} (λ (t : Told). t.first) (λ (t : Told). t.second) scratch tests l wf why (scratch_after (Err why) scratch)
 
 pub questions-are-calls : QuestionsAreCalls
 unfolding replying
 questions-are-calls A first second s more l question' = go (admitted (heap_tests s.marks s.work l ++ more)) (question' (view l))
   where
     go : (e : Entry) (r : Result A)
-        → leaving l (whether e (λ why. asked_of (refused_by (number_of why)) (scratch_after (Not why) (s.marks ∷ s.work ∷ []))) (asked_of (answered first second r) (map zeros (s.marks ∷ s.work ∷ []))))
-        ≡ leaving l (whether e (λ why. asked_of (refused_by (number_of why)) (scratch_after (Not why) (s.marks ∷ s.work ∷ [])))
+        → leaving l (whether e (λ why. asked_of (refused_by (number_of why)) (scratch_after (Err why) (s.marks ∷ s.work ∷ []))) (asked_of (answered first second r) (map zeros (s.marks ∷ s.work ∷ []))))
+        ≡ leaving l (whether e (λ why. asked_of (refused_by (number_of why)) (scratch_after (Err why) (s.marks ∷ s.work ∷ [])))
         (asked_of (answered (λ (t : Told). t.first) (λ (t : Told). t.second) (told_by first second r)) (map zeros (s.marks ∷ s.work ∷ []))))
-    go Ready (ok a) = refl
-    go Ready (refused n) = refl
-    go (Not why) r = refl
+    go (Ok _) (ok a) = refl
+    go (Ok _) (refused n) = refl
+    go (Err why) r = refl
 
 -- ---- every call
 

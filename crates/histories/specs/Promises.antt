@@ -11,7 +11,7 @@ use Rattle.heap.specs.Calls.{live_count}
 use Rattle.heap_calls.specs.Objects.{size_of, start_of}
 use Rattle.collection.specs.Collected.{starts}
 use Rattle.door.specs.HeapCalls.{Test, admitted, heap_tests, asking}
-use Rattle.door.specs.declared.Entry.TheVariants.{Ready}
+use Rattle.door.specs.HeapCalls.{ready}
 use Rattle.collect_door.specs.Calls.{Asked}
 use Rattle.collect_door.specs.Demand.{StartsAt}
 use Rattle.object_door.specs.Making.{new_call}
@@ -70,7 +70,7 @@ CallsDoSteps = (s : Scratch) (c : Call) (l : Lent) → well_formed l ≡ true �
 -- the chains that a joined collection's unreached are counted by start where demand 3 says: at what walks over the code find
 abbrev pub JoinedChains : Type 0
 JoinedChains =
-    (s : Scratch) (a : Asked) (l : Lent) (handles : List ℕ) → admitted (tests_of s (collect_joined a) l) ≡ Ready → StartsAt a l handles (starts (view l) (joined_roots a handles) (joined_pins a))
+    (s : Scratch) (a : Asked) (l : Lent) (handles : List ℕ) → admitted (tests_of s (collect_joined a) l) ≡ ready → StartsAt a l handles (starts (view l) (joined_roots a handles) (joined_pins a))
 
 -- every question is one of these: its answer's numbers, read off its value by `first` and `second`, are what is told of it
 abbrev pub told_by : {A : Type 0} → (first second : A → ℕ) → Result A → Result Told

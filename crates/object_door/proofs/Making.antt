@@ -23,8 +23,8 @@ use Rattle.heap.specs.Done.{Tells}
 use Rattle.heap.specs.declared.Heap.{Heap}
 use Rattle.heap.proofs.Testing.{stored-formed}
 use Rattle.door.specs.HeapCalls.{test, admitted, zeros, Entered, outcome}
-use Rattle.door.specs.declared.Entry.{Entry}
-use Rattle.door.specs.declared.Entry.TheVariants.{Ready, Not}
+use Rattle.door.specs.HeapCalls.{Entry}
+use Rattle.door.specs.HeapCalls.{ready}
 use Rattle.door.proofs.Entering.{fails, passes, passed, few-marks, few_words, is-enough, call-refused, call-ready}
 use Rattle.heap.specs.Sizes.{sizes_fit}
 use Rattle.heap.proofs.Sizes.{Sizes, sizes-tested}
@@ -56,17 +56,17 @@ module _ (m w narrow wide pool : List ℕ) where
   abbrev l : Lent
   l = lent no_header narrow wide pool
 
-  pub new-no-marks : length m < length narrow / 6 → Entered (m ∷ w ∷ []) (new_tests m w narrow wide pool) (Not Scratch) (m ∷ w ∷ [])
+  pub new-no-marks : length m < length narrow / 6 → Entered (m ∷ w ∷ []) (new_tests m w narrow wide pool) (Err Scratch) (m ∷ w ∷ [])
   new-no-marks h = record { found = fails _ _ _ (few-marks m w l h); left = refl }
 
-  pub new-no-words : length narrow / 6 ≤ length m → length w < length narrow / 6 → Entered (m ∷ w ∷ []) (new_tests m w narrow wide pool) (Not Scratch) (m ∷ w ∷ [])
+  pub new-no-words : length narrow / 6 ≤ length m → length w < length narrow / 6 → Entered (m ∷ w ∷ []) (new_tests m w narrow wide pool) (Err Scratch) (m ∷ w ∷ [])
   new-no-words h k = record { found = fails _ _ _ (few_words m w l h k); left = refl }
 
   module _ (h : length narrow / 6 ≤ length m) (k : length narrow / 6 ≤ length w) (r : Bool) (m' w' : List ℕ) (f : r ≡ sizes_fit (length narrow) (length wide) (length pool)) (z : m' ≡ zeros m) (y : w' ≡ zeros w) where
-    pub new-no-sizes : r ≡ false → Entered (m ∷ w ∷ []) (new_tests m w narrow wide pool) (Not BrokenHeap) (m' ∷ w' ∷ [])
+    pub new-no-sizes : r ≡ false → Entered (m ∷ w ∷ []) (new_tests m w narrow wide pool) (Err BrokenHeap) (m' ∷ w' ∷ [])
     new-no-sizes b = record { found = passes _ _ _ (is-enough m w l h k) (fails _ _ _ (sym f ∙ b)); left = λ j. z j ∷ y j ∷ [] }
 
-    pub new-sizes : r ≡ true → Entered (m ∷ w ∷ []) (new_tests m w narrow wide pool) Ready (m' ∷ w' ∷ [])
+    pub new-sizes : r ≡ true → Entered (m ∷ w ∷ []) (new_tests m w narrow wide pool) ready (m' ∷ w' ∷ [])
     unfolding admitted
     new-sizes b =
         record {
@@ -77,14 +77,14 @@ module _ (m w narrow wide pool : List ℕ) where
 -- ---- the call
 
 module _ (m w narrow wide pool : List ℕ) {m' w' : List ℕ} {e : Entry} (s : Entered (m ∷ w ∷ []) (new_tests m w narrow wide pool) e (m' ∷ w' ∷ [])) (tag : ℕ) where
-  pub new-can : e ≡ Ready → Sizes (length narrow) (length wide) (length pool)
+  pub new-can : e ≡ ready → Sizes (length narrow) (length wide) (length pool)
   new-can i = sizes-tested _ _ _ (passed _ _ _ (passed _ _ _ (sym s.found ∙ i)).1).0
 
-  pub new-refused : {why : Refusal} {h : Heap} {r : Answer} → e ≡ Not why → h ≡ no_header → r ≡ told (Err why) → outcome r (lent h narrow wide pool) m' w' ≡ new_call m w narrow wide pool tag
+  pub new-refused : {why : Refusal} {h : Heap} {r : Answer} → e ≡ Err why → h ≡ no_header → r ≡ told (Err why) → outcome r (lent h narrow wide pool) m' w' ≡ new_call m w narrow wide pool tag
   new-refused {r = r} i eh t =
       (λ j. outcome r (lent (eh j) narrow wide pool) m' w') ∙ call-refused s nothing nothing (making tag) i t
 
-  pub new-ready : {l' : Lent} {r : Answer} → e ≡ Ready → l' ≡ stored (length narrow / 6) (length pool) (new tag) → r ≡ told (Ok (0, 0)) → outcome r l' m' w' ≡ new_call m w narrow wide pool tag
+  pub new-ready : {l' : Lent} {r : Answer} → e ≡ ready → l' ≡ stored (length narrow / 6) (length pool) (new tag) → r ≡ told (Ok (0, 0)) → outcome r l' m' w' ≡ new_call m w narrow wide pool tag
   new-ready {l'} i lies t =
       let d : Tells nothing nothing (lent no_header narrow wide pool) l' (Ok (0, 0)) (making tag (view (lent no_header narrow wide pool))) =
       record { leaves = record { lies = lies; formed = ap well_formed lies ∙ made-formed (length narrow) (length wide) (length pool) tag (new-can i) }; says = refl } in

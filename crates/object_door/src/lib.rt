@@ -12,7 +12,7 @@ ghost use Rattle.door.specs.HeapCalls.{Entered, outcome, heap_call};
 ghost use Rattle.object_door.specs.ObjectCalls.{allocating, recycling, handed, take_call};
 ghost use Rattle.object_door.specs.Making.{no_header, new_tests, new_call};
 
-use door::{Done, Entry, enter};
+use door::{Done, enter};
 use heap::{Changed, Heap};
 use heap_calls::kind::ObjectKind;
 use refusal::{Answer, Refusal};
@@ -37,24 +37,24 @@ fn no_heap() -> Heap
 }
 
 // Is there scratch enough, and are the lent sizes in range?
-fn enter_new(narrow: &[u32], wide: &[u64], pool: &[u8], marks: &mut [u8], work: &mut [u64]) -> Entry
+fn enter_new(narrow: &[u32], wide: &[u64], pool: &[u8], marks: &mut [u8], work: &mut [u64]) -> Result<(), Refusal>
     ensures { Entered (marks.old ∷ work.old ∷ [])
         (new_tests marks.old work.old narrow.now wide.now pool.now)
         result (marks.new ∷ work.new ∷ []) }
 {
     let slots = narrow.len() / 6;
     if marks.len() < slots {
-        return Entry::Not(Refusal::Scratch);
+        return Err(Refusal::Scratch);
     }
     if work.len() < slots {
-        return Entry::Not(Refusal::Scratch);
+        return Err(Refusal::Scratch);
     }
     marks.fill(0);
     work.fill(0);
     if heap::sizes_fit(narrow.len(), wide.len(), pool.len()) {
-        return Entry::Ready;
+        return Ok(());
     }
-    Entry::Not(Refusal::BrokenHeap)
+    Err(Refusal::BrokenHeap)
 }
 
 // An empty heap in lent memory: all of it is cleared.
@@ -71,11 +71,11 @@ pub fn yexwalu_new(
         ≡ new_call marks.old work.old narrow.old wide.old pool.old tag }
 {
     match enter_new(narrow, wide, pool, marks, work) {
-        Entry::Not(why) => Done {
+        Err(why) => Done {
             heap: no_heap(),
             answer: Answer::from(Err(why)),
         },
-        Entry::Ready => {
+        Ok(()) => {
             let after = heap_edit::new(tag, narrow, wide, pool);
             Done {
                 heap: after,
@@ -149,11 +149,11 @@ pub fn yexwalu_alloc_from(
         (allocating (length narrow.old / 6) (length pool.old) kind ty start bytes.now) }
 {
     match enter(heap, narrow, wide, pool, marks, work) {
-        Entry::Not(why) => Done {
+        Err(why) => Done {
             heap: heap,
             answer: Answer::from(Err(why)),
         },
-        Entry::Ready => {
+        Ok(()) => {
             let done = alloc_from(heap, narrow, wide, pool, kind as u64, ty, start, bytes);
             Done {
                 heap: done.heap,
@@ -201,11 +201,11 @@ pub fn yexwalu_take(
         handle out.old }
 {
     match enter(heap, narrow, wide, pool, marks, work) {
-        Entry::Not(why) => Done {
+        Err(why) => Done {
             heap: heap,
             answer: Answer::from(Err(why)),
         },
-        Entry::Ready => {
+        Ok(()) => {
             let done = heap_calls::take(heap, narrow, wide, pool, handle, out);
             Done {
                 heap: done.heap,
@@ -231,11 +231,11 @@ pub fn yexwalu_free(
         (λ h. freed h handle) }
 {
     match enter(heap, narrow, wide, pool, marks, work) {
-        Entry::Not(why) => Done {
+        Err(why) => Done {
             heap: heap,
             answer: Answer::from(Err(why)),
         },
-        Entry::Ready => {
+        Ok(()) => {
             let done = heap_calls::free(heap, narrow, wide, pool, handle);
             Done {
                 heap: done.heap,
@@ -261,11 +261,11 @@ pub fn yexwalu_recycle(
         (recycling pins.now) }
 {
     match enter(heap, narrow, wide, pool, marks, work) {
-        Entry::Not(why) => Done {
+        Err(why) => Done {
             heap: heap,
             answer: Answer::from(Err(why)),
         },
-        Entry::Ready => {
+        Ok(()) => {
             let done = recycle(heap, narrow, wide, pool, pins);
             Done {
                 heap: done.heap,

@@ -17,8 +17,8 @@ use Rattle.heap.specs.State.{State}
 use Rattle.heap.specs.Lent.{Lent, view, slot_count}
 use Rattle.heap.specs.WellFormed.{well_formed}
 use Rattle.door.specs.HeapCalls.{Entered, heap_tests, asked, enough, outcome, outcome_of, zeros}
-use Rattle.door.specs.declared.Entry.{Entry}
-use Rattle.door.specs.declared.Entry.TheVariants.{Ready, Not}
+use Rattle.door.specs.HeapCalls.{Entry}
+use Rattle.door.specs.HeapCalls.{ready}
 use Rattle.door.proofs.Entering.{ask-refused, ask-ready, whether-not, whether-ready, entered}
 use Rattle.pages.specs.Form.{written}
 use Rattle.pages.specs.Page.{page_text}
@@ -27,16 +27,16 @@ use Rattle.page_reader.specs.Reading.{read_into, PageRead}
 use Rattle.page_door.specs.Page.{writing, page_out, reading}
 
 module _ (l : Lent) {marks work marks' work' : List ℕ} {e : Entry} (s : Entered (marks ∷ work ∷ []) (heap_tests marks work l) e (marks' ∷ work' ∷ [])) (planar : Bool) (out : List ℕ) where
-  pub write-refused : {why : Refusal} {r : Answer} → e ≡ Not why → r ≡ told (Err why) → (asked r marks' work' ≡ writing marks work l planar out) × (out ≡ page_out marks work l planar out)
+  pub write-refused : {why : Refusal} {r : Answer} → e ≡ Err why → r ≡ told (Err why) → (asked r marks' work' ≡ writing marks work l planar out) × (out ≡ page_out marks work l planar out)
   write-refused i t =
       (ask-refused s here nothing l (λ h. text_answer (page_text (written planar) h) out) i t, sym (whether-not s (λ why. out) (text_out (page_text (written planar) (view l)) out) i))
 
-  pub write_done : {out' : List ℕ} {reply : Reply} {r : Answer} → e ≡ Ready → PageWritten out out' (page_text (written planar) (view l)) reply → r ≡ told reply →
+  pub write_done : {out' : List ℕ} {reply : Reply} {r : Answer} → e ≡ ready → PageWritten out out' (page_text (written planar) (view l)) reply → r ≡ told reply →
       (asked r marks' work' ≡ writing marks work l planar out) × (out' ≡ page_out marks work l planar out)
   write_done i p t =
       (ask-ready s here nothing l (λ h. text_answer (page_text (written planar) h) out) i p.answer t, p.out ∙ sym (whether-ready s (λ why. out) (text_out (page_text (written planar) (view l)) out) i))
 
-  pub write-formed : e ≡ Ready → well_formed l ≡ true
+  pub write-formed : e ≡ ready → well_formed l ≡ true
   write-formed i = entered l s i
 
 module _ (l : Lent) (text marks work : List ℕ) {b : Bool} (v : b ≡ (leb (slot_count l) (length marks) && leb (slot_count l) (length work))) where

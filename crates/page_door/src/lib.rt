@@ -6,7 +6,7 @@ ghost use Rattle.heap.specs.Lent.{lent};
 ghost use Rattle.door.specs.HeapCalls.{asked, outcome};
 ghost use Rattle.page_door.specs.Page.{measuring, writing, page_out, reading};
 
-use door::{Done, Entry};
+use door::Done;
 use heap::Heap;
 use refusal::{Answer, Refusal};
 
@@ -24,8 +24,8 @@ pub fn yexwalu_page_length(
         ≡ measuring marks.old work.old (lent heap narrow.now wide.now pool.now) planar }
 {
     match door::enter(heap, narrow, wide, pool, marks, work) {
-        Entry::Not(why) => Answer::from(Err(why)),
-        Entry::Ready => Answer::from(pages::measure(heap, narrow, wide, pool, planar)),
+        Err(why) => Answer::from(Err(why)),
+        Ok(()) => Answer::from(pages::measure(heap, narrow, wide, pool, planar)),
     }
 }
 
@@ -46,8 +46,8 @@ pub fn yexwalu_write_page(
         ≡ page_out marks.old work.old (lent heap narrow.now wide.now pool.now) planar out.old }
 {
     match door::enter(heap, narrow, wide, pool, marks, work) {
-        Entry::Not(why) => Answer::from(Err(why)),
-        Entry::Ready => Answer::from(pages::write(heap, narrow, wide, pool, planar, out)),
+        Err(why) => Answer::from(Err(why)),
+        Ok(()) => Answer::from(pages::write(heap, narrow, wide, pool, planar, out)),
     }
 }
 

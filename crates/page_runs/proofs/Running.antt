@@ -28,7 +28,8 @@ use Rattle.heap_calls.proofs.Allocating.{alloc-sound}
 use Rattle.heap_calls.specs.Pins.{rising_from}
 use Rattle.heap_edit.proofs.Soundness.{seal-sound, resolved_live}
 use Rattle.door.specs.HeapCalls.{Outcome, outcome_of, enough, admitted}
-use Rattle.door.specs.declared.Entry.TheVariants.{Ready, Not}
+use Rattle.std.specs.Prelude.{Err}
+use Rattle.door.specs.HeapCalls.{ready}
 use Rattle.door.proofs.Entering.{is-enough, calling-not, calling-ready}
 use Rattle.object_door.specs.ObjectCalls.{is_kind, allocating, recycling}
 use Rattle.script.specs.Script.{Call, alloc, take, seal, recycle, call_of, lines, is_call, first_is_call, begins_call, silent, doing, line_does, unless, run_lines, run_script}
@@ -165,11 +166,11 @@ module _ (l : Lent) (lies : Lies l) where
     scratch-there : (enough marks work l && leb P (length room)) ≡ true
     scratch-there = both-and (enough marks work l) (leb P (length room)) (is-enough marks work l (omega (arith, lies.slots)) (omega (arith, lies.slots))) (le-leb P (length room) (omega (arith, lies.pool)))
 
-    is-ready : begins_call script ≡ true → admitted (run_tests room marks work l script) ≡ Ready
+    is-ready : begins_call script ≡ true → admitted (run_tests room marks work l script) ≡ ready
     unfolding admitted
     is-ready e = rw (scratch-there, e, lies.formed)
 
-    is-bad : begins_call script ≡ false → admitted (run_tests room marks work l script) ≡ Not Page
+    is-bad : begins_call script ≡ false → admitted (run_tests room marks work l script) ≡ Err Page
     unfolding admitted
     is-bad e = rw (scratch-there, e)
 

@@ -22,8 +22,8 @@ use Rattle.refusal.specs.declared.Answer.{Answer}
 use Rattle.heap.specs.State.{State}
 use Rattle.heap.specs.Lent.{Lent, view}
 use Rattle.door.specs.HeapCalls.{Asked, asked, admitted, heap_tests, whether}
-use Rattle.door.specs.declared.Entry.{Entry}
-use Rattle.door.specs.declared.Entry.TheVariants.{Ready}
+use Rattle.door.specs.HeapCalls.{Entry}
+use Rattle.door.specs.HeapCalls.{ready}
 use Rattle.door.proofs.Entering.{is-enough, asking-ready}
 use Rattle.pages.specs.Form.{written}
 use Rattle.pages.specs.Page.{value_line, page_text}
@@ -65,7 +65,7 @@ module _ (l : Lent) (lies : Lies l) (words : Words l) (marks work out : List ℕ
   page-short : length text ≤ 14592
   page-short = omega (arith, page-fits false l lies.formed words, lies.slots, lies.pool)
 
-  page-ready : admitted (heap_tests marks work l) ≡ Ready
+  page-ready : admitted (heap_tests marks work l) ≡ ready
   unfolding admitted
   page-ready = rw (is-enough marks work l (omega (arith, lies.slots)) (omega (arith, lies.slots)), lies.formed)
 

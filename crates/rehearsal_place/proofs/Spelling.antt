@@ -23,7 +23,7 @@ use Rattle.heap.specs.declared.Heap.{Heap}
 use Rattle.heap.specs.Calls.{with_slot}
 use Rattle.heap.proofs.Sound.{Sound, SlotSound}
 use Rattle.heap.proofs.Keeping.{live_inside, slot-sound, leaves}
-use Rattle.heap_edit.proofs.Columns.{formed, knows, sizes, reads, generation-is, kind-is, type-is, start_is, writes-is, from_is, data-upto}
+use Rattle.heap.proofs.Columns.{formed, knows, sizes, reads, generation-is, kind-is, type-is, start_is, writes-is, from_is, data-upto}
 use Rattle.heap_edit.proofs.Replacing.{stays, SlotData, slot-lies, written-data}
 use Rattle.rehearsal_place.specs.Decoding.{Spelled, with_bytes, with_data, CanDecode, Decoded}
 

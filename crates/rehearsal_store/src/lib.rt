@@ -10,6 +10,7 @@ ghost use Rattle.rehearsal_steps.specs.Going.{InOrder, Whole, Goes};
 ghost use Rattle.rehearsal_steps.specs.Steps.{after_drop, StoresInto, Dropped, storing_in};
 
 use heap::Heap;
+use heap::view::View;
 use rehearsal_lines::StoreLine;
 use rehearsal_names::{held_at, let_go};
 use rehearsal_steps::Going;
@@ -52,7 +53,13 @@ fn store_into(
     ensures { StoresInto (lent heap narrow.now wide.old pool.old)
         (lent heap narrow.now wide.new pool.new) result x y offset }
 {
-    let i = match heap_edit::resolve(heap, narrow, wide, pool, y) {
+    let view = View {
+        heap,
+        narrow,
+        wide: &*wide,
+        pool: &*pool,
+    };
+    let i = match heap_edit::resolve(view, y) {
         Ok((i, _)) => i as usize,
         Err(_) => {
             return false;

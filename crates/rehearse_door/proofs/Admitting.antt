@@ -21,8 +21,8 @@ use Rattle.heap.specs.Sizes.{sizes_fit}
 use Rattle.heap.specs.declared.Heap.{Heap}
 use Rattle.heap.proofs.Sizes.{Sizes, sizes-tested}
 use Rattle.door.specs.HeapCalls.{Test, test, admitted, whether, zeros, scratch_after, Entered, outcome_of}
-use Rattle.door.specs.declared.Entry.{Entry}
-use Rattle.door.specs.declared.Entry.TheVariants.{Ready, Not}
+use Rattle.door.specs.HeapCalls.{Entry}
+use Rattle.door.specs.HeapCalls.{ready}
 use Rattle.door.proofs.Entering.{fails, passes, cleared-in, holding, whether-not, whether-ready}
 use Rattle.object_door.specs.ObjectCalls.{Handed, handed}
 use Rattle.rehearsal.specs.Lines.{is_text}
@@ -73,7 +73,7 @@ roomy-tested n o e = leb-true n (o / 80) e
 
 -- ---- the tests
 
-none_left : Ready ≡ admitted []
+none_left : ready ≡ admitted []
 unfolding admitted
 none_left = refl
 
@@ -84,15 +84,15 @@ module _ (g : Given) (narrow wide pool out : ℕ) (w m k : List ℕ) where
   abbrev tests : List Test
   tests = rehearse_tests g narrow wide pool out (length w) (length m) (length k)
 
-  pub few_words : length w / 2 < narrow / 6 → Entered (w ∷ m ∷ k ∷ []) tests (Not Scratch) (w ∷ m ∷ k ∷ [])
+  pub few_words : length w / 2 < narrow / 6 → Entered (w ∷ m ∷ k ∷ []) tests (Err Scratch) (w ∷ m ∷ k ∷ [])
   few_words h = record { found = fails _ _ _ (plenty-words S (length w) (length m) (length k) h); left = refl }
 
   module _ (a : narrow / 6 ≤ length w / 2) where
-    pub few-marks : length m < narrow / 6 → Entered (w ∷ m ∷ k ∷ []) tests (Not Scratch) (w ∷ m ∷ k ∷ [])
+    pub few-marks : length m < narrow / 6 → Entered (w ∷ m ∷ k ∷ []) tests (Err Scratch) (w ∷ m ∷ k ∷ [])
     few-marks h = record { found = fails _ _ _ (plenty-marks S (length w) (length m) (length k) a h); left = refl }
 
     module _ (b : narrow / 6 ≤ length m) where
-      pub few-work : length k < narrow / 6 → Entered (w ∷ m ∷ k ∷ []) tests (Not Scratch) (w ∷ m ∷ k ∷ [])
+      pub few-work : length k < narrow / 6 → Entered (w ∷ m ∷ k ∷ []) tests (Err Scratch) (w ∷ m ∷ k ∷ [])
       few-work h = record { found = fails _ _ _ (plenty-work S (length w) (length m) (length k) a b h); left = refl }
 
       module _ (c : narrow / 6 ≤ length k) {w' m' k' : List ℕ} (zw : w' ≡ replicate (length w) 0) (zm : m' ≡ replicate (length m) 0) (zk : k' ≡ replicate (length k) 0) where
@@ -103,22 +103,22 @@ module _ (g : Given) (narrow wide pool out : ℕ) (w m k : List ℕ) where
         enough = is-plenty S (length w) (length m) (length k) a b c
 
         module _ {t : Bool} (et : t ≡ is_text g.text) where
-          pub no_text : t ≡ false → Entered (w ∷ m ∷ k ∷ []) tests (Not Page) (w' ∷ m' ∷ k' ∷ [])
+          pub no_text : t ≡ false → Entered (w ∷ m ∷ k ∷ []) tests (Err Page) (w' ∷ m' ∷ k' ∷ [])
           no_text f = record { found = passes _ _ _ enough (fails _ _ _ (sym et ∙ f)); left = cleared }
 
           module _ (yt : t ≡ true) {z : Bool} (ez : z ≡ sizes_fit narrow wide pool) where
-            pub no-sizes : z ≡ false → Entered (w ∷ m ∷ k ∷ []) tests (Not BrokenHeap) (w' ∷ m' ∷ k' ∷ [])
+            pub no-sizes : z ≡ false → Entered (w ∷ m ∷ k ∷ []) tests (Err BrokenHeap) (w' ∷ m' ∷ k' ∷ [])
             no-sizes f = record { found = passes _ _ _ enough (passes _ _ _ (sym et ∙ yt) (fails _ _ _ (sym ez ∙ f))); left = cleared }
 
             module _ (yz : z ≡ true) {y : Bool} (ey : y ≡ table_good g.types g.fields g.consts g.bytes) where
-              pub no_table : y ≡ false → Entered (w ∷ m ∷ k ∷ []) tests (Not TypeTable) (w' ∷ m' ∷ k' ∷ [])
+              pub no_table : y ≡ false → Entered (w ∷ m ∷ k ∷ []) tests (Err TypeTable) (w' ∷ m' ∷ k' ∷ [])
               no_table f = record { found = passes _ _ _ enough (passes _ _ _ (sym et ∙ yt) (passes _ _ _ (sym ez ∙ yz) (fails _ _ _ (sym ey ∙ f)))); left = cleared }
 
               module _ (yy : y ≡ true) where
-                pub no_output : out / 80 < length g.thresholds → Entered (w ∷ m ∷ k ∷ []) tests (Not ShortList) (w' ∷ m' ∷ k' ∷ [])
+                pub no_output : out / 80 < length g.thresholds → Entered (w ∷ m ∷ k ∷ []) tests (Err ShortList) (w' ∷ m' ∷ k' ∷ [])
                 no_output h = record { found = passes _ _ _ enough (passes _ _ _ (sym et ∙ yt) (passes _ _ _ (sym ez ∙ yz) (passes _ _ _ (sym ey ∙ yy) (fails _ _ _ (not-roomy (length g.thresholds) out h))))); left = cleared }
 
-                pub all_there : length g.thresholds ≤ out / 80 → Entered (w ∷ m ∷ k ∷ []) tests Ready (w' ∷ m' ∷ k' ∷ [])
+                pub all_there : length g.thresholds ≤ out / 80 → Entered (w ∷ m ∷ k ∷ []) tests ready (w' ∷ m' ∷ k' ∷ [])
                 all_there h =
                     record {
                       found = passes _ _ _ enough (passes _ _ _ (sym et ∙ yt) (passes _ _ _ (sym ez ∙ yz) (passes _ _ _ (sym ey ∙ yy) (passes (roomy (length g.thresholds) out) ShortList [] (is-roomy (length g.thresholds) out h) none_left))));
@@ -132,7 +132,7 @@ module _ (g : Given) (h : Heap) (narrow wide pool out w m k : List ℕ) {w' m' k
   abbrev l : Lent
   l = lent h narrow wide pool
 
-  module _ (i : e ≡ Ready) where
+  module _ (i : e ≡ ready) where
     zero-words : w' ≡ zeros w
     zero-words = ap (λ (x : List (List ℕ)). get_or x 0 []) (cleared-in s i)
 
@@ -167,7 +167,7 @@ module _ (g : Given) (h : Heap) (narrow wide pool out w m k : List ℕ) {w' m' k
       unfolding rehearse_call
       rehearse-done =
           (λ j. handed (outcome_of ((t ∙ ap (λ (n : ℕ). told (Ok (n, 0))) d.long) j) (d.memory j) (ew j ∷ (em ∙ zero-marks) j ∷ (ek ∙ zero-work) j ∷ [])) (d.printed j))
-          ∙ sym (whether-ready s (λ why. handed (outcome_of (refused_by (number_of why)) l (scratch_after (Not why) (w ∷ m ∷ k ∷ []))) out)
+          ∙ sym (whether-ready s (λ why. handed (outcome_of (refused_by (number_of why)) l (scratch_after (Err why) (w ∷ m ∷ k ∷ []))) out)
           (handed (outcome_of (answered here nothing (ok (length (figures_by g (slot_count l) (pool_size l))))) (memory_after (table_in g) (slot_count l) (pool_size l) l g.thresholds (lines_of g.text)) (map zeros (w ∷ m ∷ k ∷ []))) (put_text out 0 (figures_by g (slot_count l) (pool_size l)))) i)
 
       pub plain_done : PlainLines g (length narrow) (length pool) answer out out'
@@ -175,12 +175,12 @@ module _ (g : Given) (h : Heap) (narrow wide pool out w m k : List ℕ) {w' m' k
           let r = can-rehearse.memory in
           d.printed ∙ ap (put_text out 0) (text-theorem (table_in g) tells right (length narrow / 6) (length pool) r.low r.high r.small g.thresholds (lines_of g.text))
 
-  module _ {why : Refusal} {answer : Answer} (i : e ≡ Not why) (t : answer ≡ told (Err why)) where
+  module _ {why : Refusal} {answer : Answer} (i : e ≡ Err why) (t : answer ≡ told (Err why)) where
     pub rehearse-refused : handed (outcome_of answer (lent h narrow wide pool) (w' ∷ m' ∷ k' ∷ [])) out ≡ rehearse_call g (lent h narrow wide pool) (length narrow) (length wide) out w m k
     unfolding rehearse_call
     rehearse-refused =
         (λ j. handed (outcome_of (t j) l ((s.left ∙ ap (λ (x : Entry). scratch_after x (w ∷ m ∷ k ∷ [])) i) j)) out)
-        ∙ sym (whether-not s (λ why. handed (outcome_of (refused_by (number_of why)) l (scratch_after (Not why) (w ∷ m ∷ k ∷ []))) out)
+        ∙ sym (whether-not s (λ why. handed (outcome_of (refused_by (number_of why)) l (scratch_after (Err why) (w ∷ m ∷ k ∷ []))) out)
         (handed (outcome_of (answered here nothing (ok (length (figures_by g (slot_count l) (pool_size l))))) (memory_after (table_in g) (slot_count l) (pool_size l) l g.thresholds (lines_of g.text)) (map zeros (w ∷ m ∷ k ∷ []))) (put_text out 0 (figures_by g (slot_count l) (pool_size l)))) i)
 
     -- a refusal is no success

@@ -11,7 +11,7 @@ use Rattle.ty.specs.Check.{table_good}
 use Rattle.heap.specs.Lent.{Lent, slot_count, pool_size}
 use Rattle.heap.specs.Sizes.{sizes_fit}
 use Rattle.door.specs.HeapCalls.{Test, test, admitted, whether, zeros, scratch_after, outcome_of}
-use Rattle.door.specs.declared.Entry.TheVariants.{Not}
+use Rattle.std.specs.Prelude.{Err}
 use Rattle.object_door.specs.ObjectCalls.{Handed, handed}
 use Rattle.rehearsal.specs.Lines.{is_text}
 use Rattle.rehearsal.specs.Runs.{figures_text}
@@ -56,7 +56,7 @@ rehearse_call g l narrow wide out words marks work =
     let lines : List ℕ = figures_by g (slot_count l) (pool_size l) in
     let scratch : List (List ℕ) = words ∷ marks ∷ work ∷ [] in
     whether (admitted (rehearse_tests g narrow wide (pool_size l) (length out) (length words) (length marks) (length work)))
-    (λ why. handed (outcome_of (refused_by (number_of why)) l (scratch_after (Not why) scratch)) out)
+    (λ why. handed (outcome_of (refused_by (number_of why)) l (scratch_after (Err why) scratch)) out)
     (handed (outcome_of (answered here nothing (ok (length lines))) (memory_after (table_in g) (slot_count l) (pool_size l) l g.thresholds (lines_of g.text)) (map zeros scratch)) (put_text out 0 lines))
 
 -- "Each line equals a plain machine of objects": after success the output is the machine's lines, whatever right way there is to tell what a collection keeps

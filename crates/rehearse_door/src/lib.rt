@@ -8,7 +8,7 @@ ghost use Rattle.door.specs.HeapCalls.{Entered, outcome_of};
 ghost use Rattle.object_door.specs.ObjectCalls.{handed};
 ghost use Rattle.rehearse_door.specs.Rehearse.{rehearse_tests, rehearse_call, PlainLines};
 
-use door::{Done, Entry};
+use door::Done;
 use heap::Heap;
 use refusal::{Answer, Refusal};
 use ty::Table;
@@ -28,7 +28,7 @@ fn admit(
     words: &mut [u64],
     marks: &mut [u8],
     work: &mut [u64],
-) -> Entry
+) -> Result<(), Refusal>
     ensures { Entered (words.old ∷ marks.old ∷ work.old ∷ [])
         (rehearse_tests
         (record { types = types.now; fields = fields.now; consts = consts.now; bytes = bytes.now; text = text.now; thresholds = thresholds.now })
@@ -38,30 +38,30 @@ fn admit(
 {
     let slots = narrow.len() / 6;
     if words.len() / 2 < slots {
-        return Entry::Not(Refusal::Scratch);
+        return Err(Refusal::Scratch);
     }
     if marks.len() < slots {
-        return Entry::Not(Refusal::Scratch);
+        return Err(Refusal::Scratch);
     }
     if work.len() < slots {
-        return Entry::Not(Refusal::Scratch);
+        return Err(Refusal::Scratch);
     }
     words.fill(0);
     marks.fill(0);
     work.fill(0);
     if rehearsal_lines::all_lines(text) {} else {
-        return Entry::Not(Refusal::Page);
+        return Err(Refusal::Page);
     }
     if heap::sizes_fit(narrow.len(), wide.len(), pool.len()) {} else {
-        return Entry::Not(Refusal::BrokenHeap);
+        return Err(Refusal::BrokenHeap);
     }
     if (Table { types, fields, consts, bytes }).check_table() {} else {
-        return Entry::Not(Refusal::TypeTable);
+        return Err(Refusal::TypeTable);
     }
     if out.len() / 80 < thresholds.len() {
-        return Entry::Not(Refusal::ShortList);
+        return Err(Refusal::ShortList);
     }
-    Entry::Ready
+    Ok(())
 }
 
 // For each threshold a new heap of tag 1 in the lent memory runs the lines of the text, and a line of figures is printed. The answer is the number of bytes printed; the
@@ -96,11 +96,11 @@ pub fn yexwalu_rehearse(
     match admit(
         types, fields, consts, bytes, narrow, wide, pool, text, thresholds, out, words, marks, work,
     ) {
-        Entry::Not(why) => Done {
+        Err(why) => Done {
             heap: heap,
             answer: Answer::from(Err(why)),
         },
-        Entry::Ready => {
+        Ok(()) => {
             let done = rehearsal_runs::rehearse_all(
                 types, fields, consts, bytes, heap, narrow, wide, pool, text, thresholds, out,
                 words, marks, work,

@@ -28,6 +28,7 @@ pub struct Counts {
 
 // The block that holds instruction pc, or the number of blocks, where b is that of pc + 1. From the last instruction to the first, a block is entered at its
 // last one: where b does not hold pc too, only a block that ends at pc + 1 can, and the chains of the blocks by their end have it.
+// Kept: a number for none, as the chains give it and as the next turn takes it.
 fn block_of(plan: &Plan, by_end: &BlockChains, b: usize, pc: usize) -> usize
     requires { Chains plan.now.code.blocks.now 1 plan.now.nb 0 by_end.now.heads by_end.now.links × (pc < 65536) × Found plan.now.code.blocks.now plan.now.nb (pc + 1) b }
     ensures { Found plan.now.code.blocks.now plan.now.nb pc result }

@@ -50,6 +50,7 @@ impl BlockChains {
     }
 
     // The first nonempty block whose word `word` is pc, or the number of blocks.
+    // Kept: a number for none, since it goes into the scratch as it is; an Option would be turned back at once.
     pub fn first_at(&self, plan: &Plan, word: usize, pc: usize) -> usize
         requires { (word < 2) × Chains plan.now.code.blocks.now word plan.now.nb 0 self.now.heads self.now.links }
         ensures { First (Keyed plan.now.code.blocks.now word pc) 0 plan.now.nb result }

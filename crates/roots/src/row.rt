@@ -45,6 +45,7 @@ fn set_all(row: &mut [u64], plan: &Plan, registers: &[u32])
 }
 
 // Those of the registers that take part are taken from the row.
+// Kept: apart from `set_all`, since each has a law of its own; one function with a flag is no plainer.
 fn clear_all(row: &mut [u64], plan: &Plan, registers: &[u32])
     requires { length plan.now.code.classes.now ≤ 64 * length row.old }
     ensures { (q : ℕ) → bit_in 64 row.new q ≡ not (asked (wanted plan.now.which) plan.now.code.classes.now q && has registers.now q) && bit_in 64 row.old q }

@@ -16,8 +16,9 @@ use Rattle.heap.specs.Lent.{Lent, view, slot_count, pool_size}
 use Rattle.heap.specs.WellFormed.{well_formed}
 use Rattle.heap.specs.Done.{Tells}
 use Rattle.door.specs.HeapCalls.{test, admitted, enough, heap_tests, zeros, scratch_after, Entered, outcome_of}
-use Rattle.door.specs.declared.Entry.{Entry}
-use Rattle.door.specs.declared.Entry.TheVariants.{Ready, Not}
+use Rattle.door.specs.HeapCalls.{Entry}
+use Rattle.std.specs.Prelude.{Err}
+use Rattle.door.specs.HeapCalls.{ready}
 use Rattle.door.proofs.Entering.{fails, passes, few-marks, few_words, is-enough, holding, cleared-in, call-cleared}
 use Rattle.script.specs.Script.{begins_call, run_script}
 use Rattle.run_door.specs.Run.{run_tests, run_call}
@@ -34,13 +35,13 @@ not-scratch true e xs i = ap (λ (x : Entry). scratch_after x xs) i
 not-scratch false e xs i = ap (λ (x : Entry). scratch_after x xs) i
 
 module _ (room m w : List ℕ) (l : Lent) (t : List ℕ) where
-  pub no_room : length room < pool_size l → Entered (room ∷ m ∷ w ∷ []) (run_tests room m w l t) (Not Scratch) (room ∷ m ∷ w ∷ [])
+  pub no_room : length room < pool_size l → Entered (room ∷ m ∷ w ∷ []) (run_tests room m w l t) (Err Scratch) (room ∷ m ∷ w ∷ [])
   no_room h = record { found = fails _ _ _ (and-false (enough m w l) (leb (pool_size l) (length room)) (lt-leb (pool_size l) (length room) h)); left = refl }
 
-  pub no-marks : length m < slot_count l → Entered (room ∷ m ∷ w ∷ []) (run_tests room m w l t) (Not Scratch) (room ∷ m ∷ w ∷ [])
+  pub no-marks : length m < slot_count l → Entered (room ∷ m ∷ w ∷ []) (run_tests room m w l t) (Err Scratch) (room ∷ m ∷ w ∷ [])
   no-marks h = record { found = fails _ _ _ (ap (λ (b : Bool). b && leb (pool_size l) (length room)) (few-marks m w l h)); left = refl }
 
-  pub no_words : slot_count l ≤ length m → length w < slot_count l → Entered (room ∷ m ∷ w ∷ []) (run_tests room m w l t) (Not Scratch) (room ∷ m ∷ w ∷ [])
+  pub no_words : slot_count l ≤ length m → length w < slot_count l → Entered (room ∷ m ∷ w ∷ []) (run_tests room m w l t) (Err Scratch) (room ∷ m ∷ w ∷ [])
   no_words h k = record { found = fails _ _ _ (ap (λ (b : Bool). b && leb (pool_size l) (length room)) (few_words m w l h k)); left = refl }
 
   all_there : pool_size l ≤ length room → slot_count l ≤ length m → slot_count l ≤ length w → (enough m w l && leb (pool_size l) (length room)) ≡ true
@@ -48,7 +49,7 @@ module _ (room m w : List ℕ) (l : Lent) (t : List ℕ) where
 
   module _ (h : pool_size l ≤ length room) (i : slot_count l ≤ length m) (k : slot_count l ≤ length w) {room' m' w' : List ℕ} (z : room' ≡ replicate (length room) 0) where
     pub bad-line : {b : Bool} → b ≡ begins_call t → b ≡ false → m' ≡ replicate (length m) 0 → w' ≡ replicate (length w) 0
-        → Entered (room ∷ m ∷ w ∷ []) (run_tests room m w l t) (Not Page) (room' ∷ m' ∷ w' ∷ [])
+        → Entered (room ∷ m ∷ w ∷ []) (run_tests room m w l t) (Err Page) (room' ∷ m' ∷ w' ∷ [])
     bad-line p q y x = record { found = passes _ _ _ (all_there h i k) (fails _ _ _ (sym p ∙ q)); left = λ j. z j ∷ y j ∷ x j ∷ [] }
 
     pub by-heap : {b : Bool} {e : Entry} → b ≡ begins_call t → b ≡ true → Entered (m ∷ w ∷ []) (heap_tests m w l) e (m' ∷ w' ∷ [])
@@ -59,7 +60,7 @@ module _ (room m w : List ℕ) (l : Lent) (t : List ℕ) where
         let a : room' ∷ m' ∷ w' ∷ [] ≡ zeros room ∷ zeros m ∷ zeros w ∷ [] = λ j. z j ∷ r j in
         record { found = passes _ _ _ (all_there h i k) (passes _ _ _ (sym p ∙ q) f); left = a ∙ sym (not-scratch (well_formed l) e (room ∷ m ∷ w ∷ []) f) }
 
-  module _ {room' m' w' : List ℕ} {e : Entry} (s : Entered (room ∷ m ∷ w ∷ []) (run_tests room m w l t) e (room' ∷ m' ∷ w' ∷ [])) (i : e ≡ Ready) where
+  module _ {room' m' w' : List ℕ} {e : Entry} (s : Entered (room ∷ m ∷ w ∷ []) (run_tests room m w l t) e (room' ∷ m' ∷ w' ∷ [])) (i : e ≡ ready) where
     pub run-ready : length room' ≡ length room → CanRun l room'
     run-ready k =
         let b : pool_size l ≤ length room = leb-true (pool_size l) (length room) (and_both (enough m w l) (leb (pool_size l) (length room)) (holding s 0 i)).1 in

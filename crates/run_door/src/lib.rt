@@ -13,7 +13,7 @@ ghost use Rattle.script.specs.Found.{DataThere, call_at, DataIn, call_in};
 ghost use Rattle.run_door.specs.Run.{run_tests, run_call};
 ghost use Rattle.run_door.specs.Inner.Steps.{LineEnds, CanRun};
 
-use door::{Done, Entry, enter};
+use door::{Done, enter};
 use heap::{Changed, Heap};
 use heap_calls::kind::ObjectKind;
 use refusal::{Answer, Refusal};
@@ -141,7 +141,7 @@ fn admit(
     room: &mut [u8],
     marks: &mut [u8],
     work: &mut [u64],
-) -> Entry
+) -> Result<(), Refusal>
     ensures { Entered (room.old ∷ marks.old ∷ work.old ∷ [])
         (run_tests room.old marks.old work.old
         (lent heap narrow.now wide.now pool.now) script.now)
@@ -149,13 +149,13 @@ fn admit(
 {
     let slots = narrow.len() / 6;
     if room.len() < pool.len() {
-        return Entry::Not(Refusal::Scratch);
+        return Err(Refusal::Scratch);
     }
     if marks.len() < slots {
-        return Entry::Not(Refusal::Scratch);
+        return Err(Refusal::Scratch);
     }
     if work.len() < slots {
-        return Entry::Not(Refusal::Scratch);
+        return Err(Refusal::Scratch);
     }
     room.fill(0);
     if begins_call(script) {
@@ -163,7 +163,7 @@ fn admit(
     }
     marks.fill(0);
     work.fill(0);
-    Entry::Not(Refusal::Page)
+    Err(Refusal::Page)
 }
 
 // Runs a script of calls, line by line. The run ends at the first line that is refused or is no call's (17), and that is its answer: what the lines before it did stays done.
@@ -186,11 +186,11 @@ pub fn yexwalu_run(
         (lent heap narrow.old wide.old pool.old) script.now }
 {
     match admit(heap, narrow, wide, pool, script, room, marks, work) {
-        Entry::Not(why) => Done {
+        Err(why) => Done {
             heap: heap,
             answer: Answer::from(Err(why)),
         },
-        Entry::Ready => {
+        Ok(()) => {
             let done = run_lines(heap, narrow, wide, pool, script, room);
             room.fill(0);
             let after = done.heap;

@@ -11,8 +11,10 @@ use Rattle.refusal.specs.declared.Refusal.TheVariants.{BrokenHeap, Scratch}
 use Rattle.heap.specs.Lent.{Lent, slot_count}
 use Rattle.heap.specs.WellFormed.{well_formed}
 use Rattle.door.specs.HeapCalls.{test, admitted, enough, heap_tests, zeros, scratch_after, Entered}
-use Rattle.door.specs.declared.Entry.{Entry}
-use Rattle.door.specs.declared.Entry.TheVariants.{Ready, Not}
+use Rattle.door.specs.HeapCalls.{Entry}
+use Rattle.std.specs.Prelude.{Err}
+use Rattle.std.specs.Prelude.{Ok}
+use Rattle.door.specs.HeapCalls.{ready}
 use Rattle.door.proofs.Entering.{fails, passes, apart}
 use Rattle.same_door.specs.Inner.Both.{both_tests}
 
@@ -27,7 +29,7 @@ module _ (l k : Lent) (m w om ow : List ℕ) where
   All e a b c d = Entered (m ∷ w ∷ om ∷ ow ∷ []) (both_tests m w om ow l k) e (a ∷ b ∷ c ∷ d ∷ [])
 
   module _ (b : Bool) (eb : b ≡ (leb (slot_count l) (length m) && leb (slot_count l) (length w))) where
-    pub first_short : b ≡ false → All (Not Scratch) m w om ow
+    pub first_short : b ≡ false → All (Err Scratch) m w om ow
     unfolding enough
     first_short h = record { found = fails _ _ _ (sym eb ∙ h); left = refl }
 
@@ -36,7 +38,7 @@ module _ (l k : Lent) (m w om ow : List ℕ) where
       unfolding enough
       enough-first = sym eb ∙ h
 
-      pub other-short : c ≡ false → All (Not Scratch) m w om ow
+      pub other-short : c ≡ false → All (Err Scratch) m w om ow
       unfolding enough
       other-short i = record { found = passes _ _ _ enough-first (fails _ _ _ (sym ec ∙ i)); left = refl }
 
@@ -50,27 +52,27 @@ module _ (l k : Lent) (m w om ow : List ℕ) where
         unfolding admitted
         by_form a b x e = simp e
 
-        broken-why : (x : Bool) {why : Refusal} → Not why ≡ admitted (test x BrokenHeap ∷ []) → (x ≡ false) × (why ≡ BrokenHeap)
+        broken-why : (x : Bool) {why : Refusal} → Err why ≡ admitted (test x BrokenHeap ∷ []) → (x ≡ false) × (why ≡ BrokenHeap)
         unfolding admitted
         broken-why true e = apart e
         broken-why false e = (refl, cc)
 
-        formed-is : (x : Bool) → Ready ≡ admitted (test x BrokenHeap ∷ []) → x ≡ true
+        formed-is : (x : Bool) → ready ≡ admitted (test x BrokenHeap ∷ []) → x ≡ true
         unfolding admitted
         formed-is true e = refl
         formed-is false e = apart (sym e)
 
         module _ {e : Entry} {m' w' : List ℕ} (s : Entered (m ∷ w ∷ []) (heap_tests m w l) e (m' ∷ w' ∷ [])) where
-          pub first-broken : {why : Refusal} → e ≡ Not why → {om' ow' : List ℕ} → om' ≡ zeros om → ow' ≡ zeros ow → All (Not why) m' w' om' ow'
+          pub first-broken : {why : Refusal} → e ≡ Err why → {om' ow' : List ℕ} → om' ≡ zeros om → ow' ≡ zeros ow → All (Err why) m' w' om' ow'
           first-broken {why} j {om'} {ow'} x y =
               let q = broken-why (well_formed l) (sym j ∙ s.found ∙ by_form m w l enough-first) in
-              let left : m' ∷ w' ∷ [] ≡ zeros m ∷ zeros w ∷ [] = s.left ∙ ap (λ (z : Entry). scratch_after z (m ∷ w ∷ [])) (j ∙ ap Not q.1) in
+              let left : m' ∷ w' ∷ [] ≡ zeros m ∷ zeros w ∷ [] = s.left ∙ ap (λ (z : Entry). scratch_after z (m ∷ w ∷ [])) (j ∙ ap Err q.1) in
               record {
-                found = ap Not q.1 ∙ passes _ _ _ enough-first (passes _ _ _ enough-other (fails _ _ _ q.0));
-                left = (λ t. lib.ListN.get_or (left t) 0 [] ∷ lib.ListN.get_or (left t) 1 [] ∷ x t ∷ y t ∷ []) ∙ sym (ap (λ (z : Refusal). scratch_after (Not z) (m ∷ w ∷ om ∷ ow ∷ [])) q.1);
+                found = ap Err q.1 ∙ passes _ _ _ enough-first (passes _ _ _ enough-other (fails _ _ _ q.0));
+                left = (λ t. lib.ListN.get_or (left t) 0 [] ∷ lib.ListN.get_or (left t) 1 [] ∷ x t ∷ y t ∷ []) ∙ sym (ap (λ (z : Refusal). scratch_after (Err z) (m ∷ w ∷ om ∷ ow ∷ [])) q.1);
               }
 
-          module _ (j : e ≡ Ready) {f : Entry} {om' ow' : List ℕ} (t : Entered (om ∷ ow ∷ []) (heap_tests om ow k) f (om' ∷ ow' ∷ [])) where
+          module _ (j : e ≡ ready) {f : Entry} {om' ow' : List ℕ} (t : Entered (om ∷ ow ∷ []) (heap_tests om ow k) f (om' ∷ ow' ∷ [])) where
             pub both-entered : All f m' w' om' ow'
             both-entered = go f refl
               where
@@ -87,8 +89,8 @@ module _ (l k : Lent) (m w om ow : List ℕ) where
                 join r = λ z. lib.ListN.get_or (left z) 0 [] ∷ lib.ListN.get_or (left z) 1 [] ∷ lib.ListN.get_or (r z) 0 [] ∷ lib.ListN.get_or (r z) 1 [] ∷ []
 
                 go : (x : Entry) → f ≡ x → All f m' w' om' ow'
-                go Ready i = record { found = found_all; left = join (t.left ∙ ap (λ (z : Entry). scratch_after z (om ∷ ow ∷ [])) i) ∙ sym (ap (λ (z : Entry). scratch_after z (m ∷ w ∷ om ∷ ow ∷ [])) i) }
-                go (Not why) i =
+                go (Ok _) i = record { found = found_all; left = join (t.left ∙ ap (λ (z : Entry). scratch_after z (om ∷ ow ∷ [])) i) ∙ sym (ap (λ (z : Entry). scratch_after z (m ∷ w ∷ om ∷ ow ∷ [])) i) }
+                go (Err why) i =
                     let q = broken-why (well_formed k) (sym i ∙ t.found ∙ by_form om ow k enough-other) in
-                    let u : f ≡ Not BrokenHeap = i ∙ ap Not q.1 in
+                    let u : f ≡ Err BrokenHeap = i ∙ ap Err q.1 in
                     record { found = found_all; left = join (t.left ∙ ap (λ (z : Entry). scratch_after z (om ∷ ow ∷ [])) u) ∙ sym (ap (λ (z : Entry). scratch_after z (m ∷ w ∷ om ∷ ow ∷ [])) u) }

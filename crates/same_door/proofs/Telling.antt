@@ -21,8 +21,8 @@ use Rattle.ty.specs.Check.{table_good}
 use Rattle.heap.specs.State.{State}
 use Rattle.heap.specs.Lent.{Lent, view, slot_count}
 use Rattle.door.specs.HeapCalls.{test, enough, zeros, Entered, asked_of}
-use Rattle.door.specs.declared.Entry.{Entry}
-use Rattle.door.specs.declared.Entry.TheVariants.{Ready, Not}
+use Rattle.door.specs.HeapCalls.{Entry}
+use Rattle.door.specs.HeapCalls.{ready}
 use Rattle.door.proofs.Entering.{and-holds, and-fails, and-more, holding, cleared-in, ask-refused, ask-ready, zeros-again, zeros-room}
 use Rattle.compare_heaps.specs.Compared.{compared_by, CanMark}
 use Rattle.saves.specs.Saves.{Words, table_in, Save, save_of, words_of, save_tests, scratch_of, ordering, same_number, order_number, comparing, same_call, order_call}
@@ -38,14 +38,14 @@ module _ (l k : Lent) {m w om ow m' w' om' ow' : List ℕ} {e : Entry} (s : Ente
   abbrev All : Entry → Type 0
   All x = Entered (m ∷ w ∷ om ∷ ow ∷ []) (save_tests (words_of types fields consts bytes) (save_of l [] m w) (save_of k [] om ow)) x (m' ∷ w' ∷ om' ∷ ow' ∷ [])
 
-  pub not_entered : {why : Refusal} → e ≡ Not why → All (Not why)
+  pub not_entered : {why : Refusal} → e ≡ Err why → All (Err why)
   not_entered i = and-more s (test (table_good types fields consts bytes) TypeTable ∷ []) i
 
-  module _ (i : e ≡ Ready) (g : Bool) (eg : g ≡ table_good types fields consts bytes) where
-    pub no_table : g ≡ false → All (Not TypeTable)
+  module _ (i : e ≡ ready) (g : Bool) (eg : g ≡ table_good types fields consts bytes) where
+    pub no_table : g ≡ false → All (Err TypeTable)
     no_table h = and-fails s {why = TypeTable} i (sym eg ∙ h) refl
 
-    pub all-entered : g ≡ true → All Ready
+    pub all-entered : g ≡ true → All ready
     all-entered h = and-holds s TypeTable i (sym eg ∙ h)
 
 -- ---- the number that is told
@@ -67,10 +67,10 @@ module _ (w : Words) (s t : Save) {e : Entry} {m' w' om' ow' : List ℕ} (x : En
   abbrev question : State → Result Ordering
   question h = ordering (table_in w) h (view t.heap) s.roots t.roots
 
-  part : e ≡ Ready → (k : ℕ) → get_or (m' ∷ w' ∷ om' ∷ ow' ∷ []) k [] ≡ get_or (zeros s.marks ∷ zeros s.work ∷ zeros t.marks ∷ zeros t.work ∷ []) k []
+  part : e ≡ ready → (k : ℕ) → get_or (m' ∷ w' ∷ om' ∷ ow' ∷ []) k [] ≡ get_or (zeros s.marks ∷ zeros s.work ∷ zeros t.marks ∷ zeros t.work ∷ []) k []
   part i k = ap (λ (l : List (List ℕ)). get_or l k []) (cleared-in x i)
 
-  pub can-first : e ≡ Ready → CanMark s.heap m' w'
+  pub can-first : e ≡ ready → CanMark s.heap m' w'
   unfolding enough
   can-first i =
       let b = and_both (leb (slot_count s.heap) (length s.marks)) (leb (slot_count s.heap) (length s.work)) (holding x 0 i) in
@@ -81,7 +81,7 @@ module _ (w : Words) (s t : Save) {e : Entry} {m' w' om' ow' : List ℕ} (x : En
         work_room = zeros-room s.work w' (slot_count s.heap) (part i 1) b.1;
       }
 
-  pub can-second : e ≡ Ready → CanMark t.heap om' ow'
+  pub can-second : e ≡ ready → CanMark t.heap om' ow'
   unfolding enough
   can-second i =
       let b = and_both (leb (slot_count t.heap) (length t.marks)) (leb (slot_count t.heap) (length t.work)) (holding x 1 i) in
@@ -92,10 +92,10 @@ module _ (w : Words) (s t : Save) {e : Entry} {m' w' om' ow' : List ℕ} (x : En
         work_room = zeros-room t.work ow' (slot_count t.heap) (part i 3) b.1;
       }
 
-  pub compares-refused : {why : Refusal} → e ≡ Not why → Compares w s t (Err why) (m' ∷ w' ∷ om' ∷ ow' ∷ [])
+  pub compares-refused : {why : Refusal} → e ≡ Err why → Compares w s t (Err why) (m' ∷ w' ∷ om' ∷ ow' ∷ [])
   compares-refused i = λ number. ask-refused x number nothing s.heap question i refl
 
-  pub compares-found : e ≡ Ready → (f : Option Ordering) → f ≡ compared_by (ordering (table_in w) (view s.heap) (view t.heap) s.roots t.roots)
+  pub compares-found : e ≡ ready → (f : Option Ordering) → f ≡ compared_by (ordering (table_in w) (view s.heap) (view t.heap) s.roots t.roots)
       → (a b c d : List ℕ) → length a ≡ length m' → length b ≡ length w' → length c ≡ length om' → length d ≡ length ow'
       → (a' b' c' d' : List ℕ) → a' ≡ zeros a → b' ≡ zeros b → c' ≡ zeros c → d' ≡ zeros d
       → (r : Told Ordering Refusal) → r ≡ ok_or f CannotTrace → Compares w s t r (a' ∷ b' ∷ c' ∷ d' ∷ [])

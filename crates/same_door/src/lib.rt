@@ -10,7 +10,6 @@ ghost use Rattle.saves.specs.Right.{RightSame, RightOrder};
 ghost use Rattle.same_door.specs.Inner.Numbers.{Compares};
 ghost use Rattle.same_door.specs.Inner.Both.{both_tests};
 
-use door::Entry;
 use heap::Heap;
 use refusal::{Answer, Refusal};
 use std::cmp::Ordering;
@@ -41,25 +40,25 @@ fn enter_both(
     work: &mut [u64],
     other_marks: &mut [u8],
     other_work: &mut [u64],
-) -> Entry
+) -> Result<(), Refusal>
     ensures { Entered (marks.old ∷ work.old ∷ other_marks.old ∷ other_work.old ∷ [])
         (both_tests marks.old work.old other_marks.old other_work.old
         (lent heap narrow.now wide.now pool.now) (lent other other_narrow.now other_wide.now other_pool.now))
         result (marks.new ∷ work.new ∷ other_marks.new ∷ other_work.new ∷ []) }
 {
     if !is_enough(narrow, marks, work) {
-        return Entry::Not(Refusal::Scratch);
+        return Err(Refusal::Scratch);
     }
     if !is_enough(other_narrow, other_marks, other_work) {
-        return Entry::Not(Refusal::Scratch);
+        return Err(Refusal::Scratch);
     }
     match door::enter(heap, narrow, wide, pool, marks, work) {
-        Entry::Not(why) => {
+        Err(why) => {
             other_marks.fill(0);
             other_work.fill(0);
-            Entry::Not(why)
+            Err(why)
         }
-        Entry::Ready => door::enter(
+        Ok(()) => door::enter(
             other,
             other_narrow,
             other_wide,
@@ -88,7 +87,7 @@ fn admit(
     work: &mut [u64],
     other_marks: &mut [u8],
     other_work: &mut [u64],
-) -> Entry
+) -> Result<(), Refusal>
     ensures { Entered (marks.old ∷ work.old ∷ other_marks.old ∷ other_work.old ∷ [])
         (save_tests
         (words_of types.now fields.now consts.now bytes.now)
@@ -110,12 +109,12 @@ fn admit(
         other_marks,
         other_work,
     ) {
-        Entry::Not(why) => Entry::Not(why),
-        Entry::Ready => {
+        Err(why) => Err(why),
+        Ok(()) => {
             if !(Table { types, fields, consts, bytes }).check_table() {
-                return Entry::Not(Refusal::TypeTable);
+                return Err(Refusal::TypeTable);
             }
-            Entry::Ready
+            Ok(())
         }
     }
 }
@@ -166,8 +165,8 @@ fn compare_saves(
         other_marks,
         other_work,
     ) {
-        Entry::Not(why) => Err(why),
-        Entry::Ready => {
+        Err(why) => Err(why),
+        Ok(()) => {
             let found = compare_heaps::order_heaps(
                 types,
                 fields,

@@ -19,9 +19,9 @@ use Rattle.heap.specs.State.{State}
 use Rattle.heap.specs.Lent.{view}
 use Rattle.heap.specs.WellFormed.{well_formed}
 use Rattle.door.specs.HeapCalls.{admitted, enough, Asked, asked_of}
-use Rattle.door.specs.declared.Entry.{Entry}
-use Rattle.door.specs.declared.Entry.TheVariants.{Ready, Not}
-use Rattle.door.proofs.Entering.{apart, asking-not, asking-ready}
+use Rattle.door.specs.HeapCalls.{Entry}
+use Rattle.door.specs.HeapCalls.{ready}
+use Rattle.door.proofs.Entering.{apart, asking-not, asking-ready, same-why}
 use Rattle.alike.specs.Same.{Untraceable}
 use Rattle.alike.proofs.FirstMet.{traced-or-not}
 use Rattle.saves.specs.Saves.{ordering, same_number, order_number, Save, Words, table_in, save_tests, scratch_of, comparing, same_call, order_call}
@@ -40,10 +40,7 @@ first e = ap (λ (x : Answer). x.first) e
 abbrev pub Early : Refusal → Type 0
 Early why = (number_of why ≡ 0 → ⊥) × (number_of why ≡ 13 → ⊥)
 
-same-why : {a b : Refusal} → Not a ≡ Not b → a ≡ b
-same-why q = cc
-
-is-early : (x why : Refusal) → Early x → Not x ≡ Not why → Early why
+is-early : (x why : Refusal) → Early x → ◌≡◌ {A = Entry} (Err x) (Err why) → Early why
 is-early x why p q = subst Early (same-why q) p
 
 of-scratch : Early Scratch
@@ -56,7 +53,7 @@ of-table : Early TypeTable
 of-table = (λ e. omega arith, λ e. omega arith)
 
 first-fails : (a b c d e : Bool) (why : Refusal)
-    → (if a then (if b then (if c then (if d then (if e then Ready else Not TypeTable) else Not BrokenHeap) else Not BrokenHeap) else Not Scratch) else Not Scratch) ≡ Not why → Early why
+    → (if a then (if b then (if c then (if d then (if e then ready else Err TypeTable) else Err BrokenHeap) else Err BrokenHeap) else Err Scratch) else Err Scratch) ≡ Err why → Early why
 first-fails false b c d e why q = is-early Scratch why of-scratch q
 first-fails true false c d e why q = is-early Scratch why of-scratch q
 first-fails true true false d e why q = is-early BrokenHeap why of-heap q
@@ -64,7 +61,7 @@ first-fails true true true false e why q = is-early BrokenHeap why of-heap q
 first-fails true true true true false why q = is-early TypeTable why of-table q
 first-fails true true true true true why q = apart (sym q)
 
-pub early : (w : Words) (s t : Save) (why : Refusal) → admitted (save_tests w s t) ≡ Not why → Early why
+pub early : (w : Words) (s t : Save) (why : Refusal) → admitted (save_tests w s t) ≡ Err why → Early why
 unfolding admitted
 early w s t why q =
     first-fails (enough s.marks s.work s.heap) (enough t.marks t.work t.heap) (well_formed s.heap) (well_formed t.heap) (table_good w.types w.fields w.consts w.bytes) why q
@@ -83,7 +80,7 @@ module _ (w : Words) (s t : Save) where
 
   module _ (numbered : Ordering → ℕ) (a : Answer) (scratch : List (List ℕ)) (e : asked_of a scratch ≡ comparing numbered w s t) where
     pub by_call : {X : Type 0}
-        → ((why : Refusal) → admitted (save_tests w s t) ≡ Not why → a ≡ told (Err why) → X)
+        → ((why : Refusal) → admitted (save_tests w s t) ≡ Err why → a ≡ told (Err why) → X)
         → (Admitted w s t → Untraceable (model_in w s) s.roots ⊎ Untraceable (model_in w t) t.roots → a ≡ told (Err CannotTrace) → X)
         → (Compared w s t → a ≡ told (Ok ((numbered order_in), 0)) → X)
         → X
@@ -96,8 +93,8 @@ module _ (w : Words) (s t : Save) where
         told_is i r q = ap (λ (x : Asked). x.answer) (e ∙ asking-ready numbered nothing (scratch_of s t) (save_tests w s t) s.heap question i) ∙ ap (answered numbered nothing) q
 
         go : (x : Entry) → admitted (save_tests w s t) ≡ x → X
-        go (Not why) i = turned why i (ap (λ (x : Asked). x.answer) (e ∙ asking-not numbered nothing (scratch_of s t) (save_tests w s t) s.heap question i))
-        go Ready i =
+        go (Err why) i = turned why i (ap (λ (x : Asked). x.answer) (e ∙ asking-not numbered nothing (scratch_of s t) (save_tests w s t) s.heap question i))
+        go (Ok _) i =
             by_ordering (table_in w) (view s.heap) (view t.heap) s.roots t.roots
             (λ u q. stop i u (told_is i (refused 13) q))
             (λ c d q. done (record { admits = i; first = c; second = d }) (told_is i (ok order_in) q))

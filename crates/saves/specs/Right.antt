@@ -6,7 +6,7 @@ use Rattle.refusal.specs.declared.Refusal.TheVariants.{Untraceable as CannotTrac
 use Rattle.std.specs.Prelude.{Ok, Err}
 use Rattle.heap.specs.Lent.{view}
 use Rattle.door.specs.HeapCalls.{admitted}
-use Rattle.door.specs.declared.Entry.TheVariants.{Ready}
+use Rattle.door.specs.HeapCalls.{ready}
 use Rattle.alike.specs.Same.{Model, Untraceable, Traceable, Same}
 use Rattle.models.specs.HeapModel.{heap_model}
 use Rattle.saves.specs.Saves.{Words, table_in, Save, save_tests, order_call}
@@ -18,7 +18,7 @@ model_in w s = heap_model (table_in w) (view s.heap)
 module _ (w : Words) (s t : Save) where
   -- no test fails
   abbrev pub Admitted : Type 0
-  Admitted = admitted (save_tests w s t) ≡ Ready
+  Admitted = admitted (save_tests w s t) ≡ ready
 
   -- no test fails and everything reached can be traced, in both
   pub record Compared : Type 0 where

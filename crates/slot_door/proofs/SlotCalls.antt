@@ -32,8 +32,8 @@ use Rattle.mark.specs.Graph.{Fit, shown_in}
 use Rattle.mark.proofs.Bridge.{slot-shown}
 use Rattle.mark.proofs.Formed.{formed-fit, formed-graph}
 use Rattle.door.specs.HeapCalls.{test, admitted, heap_tests, Entered, asked}
-use Rattle.door.specs.declared.Entry.{Entry}
-use Rattle.door.specs.declared.Entry.TheVariants.{Ready, Not}
+use Rattle.door.specs.HeapCalls.{Entry}
+use Rattle.door.specs.HeapCalls.{ready}
 use Rattle.door.proofs.Entering.{and-holds, and-fails, and-more, ask-refused, ask-ready, whether-not, whether-ready, entered}
 use Rattle.slot_door.specs.SlotHandles.{slot_handles, slot_tests, slot_call, slot_out}
 
@@ -84,28 +84,28 @@ module _ (h : Heap) (narrow wide pool : List ℕ) (wf : well_formed (lent h narr
 -- ---- the public call
 
 module _ (l : Lent) {m w m' w' : List ℕ} {e : Entry} (s : Entered (m ∷ w ∷ []) (heap_tests m w l) e (m' ∷ w' ∷ [])) (types fields consts bytes : List ℕ) where
-  pub not_entered : {why : Refusal} → e ≡ Not why → Entered (m ∷ w ∷ []) (slot_tests types fields consts bytes m w l) (Not why) (m' ∷ w' ∷ [])
+  pub not_entered : {why : Refusal} → e ≡ Err why → Entered (m ∷ w ∷ []) (slot_tests types fields consts bytes m w l) (Err why) (m' ∷ w' ∷ [])
   not_entered i = and-more s (test (table_good types fields consts bytes) TypeTable ∷ []) i
 
-  module _ (i : e ≡ Ready) (g : Bool) (eg : g ≡ table_good types fields consts bytes) where
-    pub no_table : g ≡ false → Entered (m ∷ w ∷ []) (slot_tests types fields consts bytes m w l) (Not TypeTable) (m' ∷ w' ∷ [])
+  module _ (i : e ≡ ready) (g : Bool) (eg : g ≡ table_good types fields consts bytes) where
+    pub no_table : g ≡ false → Entered (m ∷ w ∷ []) (slot_tests types fields consts bytes m w l) (Err TypeTable) (m' ∷ w' ∷ [])
     no_table h = and-fails s {why = TypeTable} i (sym eg ∙ h) refl
 
-    pub all-entered : g ≡ true → Entered (m ∷ w ∷ []) (slot_tests types fields consts bytes m w l) Ready (m' ∷ w' ∷ [])
+    pub all-entered : g ≡ true → Entered (m ∷ w ∷ []) (slot_tests types fields consts bytes m w l) ready (m' ∷ w' ∷ [])
     all-entered h = and-holds s TypeTable i (sym eg ∙ h)
 
 module _ (l : Lent) (types fields consts bytes : List ℕ) {m w m' w' : List ℕ} {e : Entry} (s : Entered (m ∷ w ∷ []) (slot_tests types fields consts bytes m w l) e (m' ∷ w' ∷ [])) (slot : ℕ) (out : List ℕ) where
   abbrev T : Table
   T = table_of types fields consts bytes
 
-  pub slot-refused : {why : Refusal} {r : Answer} → e ≡ Not why → r ≡ told (Err why) → (asked r m' w' ≡ slot_call types fields consts bytes m w l slot out) × (out ≡ slot_out types fields consts bytes m w l slot out)
+  pub slot-refused : {why : Refusal} {r : Answer} → e ≡ Err why → r ≡ told (Err why) → (asked r m' w' ≡ slot_call types fields consts bytes m w l slot out) × (out ≡ slot_out types fields consts bytes m w l slot out)
   slot-refused i t =
       (ask-refused s length nothing l (slot_handles T slot (length out)) i t, sym (whether-not s (λ why. out) (written_to out (slot_handles T slot (length out) (view l))) i))
 
-  pub slot-done : {out' : List ℕ} {reply : Reply} {r : Answer} → e ≡ Ready → Lists (slot_handles T slot (length out) (view l)) reply out out' → r ≡ told reply
+  pub slot-done : {out' : List ℕ} {reply : Reply} {r : Answer} → e ≡ ready → Lists (slot_handles T slot (length out) (view l)) reply out out' → r ≡ told reply
       → (asked r m' w' ≡ slot_call types fields consts bytes m w l slot out) × (out' ≡ slot_out types fields consts bytes m w l slot out)
   slot-done i p t =
       (ask-ready s length nothing l (slot_handles T slot (length out)) i p.answer t, p.written ∙ sym (whether-ready s (λ why. out) (written_to out (slot_handles T slot (length out) (view l))) i))
 
-  pub slot-formed : e ≡ Ready → well_formed l ≡ true
+  pub slot-formed : e ≡ ready → well_formed l ≡ true
   slot-formed i = entered l s i

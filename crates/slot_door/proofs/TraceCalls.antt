@@ -28,8 +28,8 @@ use Rattle.collection.specs.Shown.{shown}
 use Rattle.mark.specs.Graph.{shown_in}
 use Rattle.mark.proofs.Formed.{formed-fit}
 use Rattle.door.specs.HeapCalls.{Entered, asked, asked_of, scratch_after, zeros}
-use Rattle.door.specs.declared.Entry.{Entry}
-use Rattle.door.specs.declared.Entry.TheVariants.{Ready, Not}
+use Rattle.door.specs.HeapCalls.{Entry}
+use Rattle.door.specs.HeapCalls.{ready}
 use Rattle.door.proofs.Entering.{whether-not, whether-ready, cleared-in, entered}
 use Rattle.slot_door.specs.SlotHandles.{slot_tests}
 use Rattle.slot_door.specs.Traceable.{traced, fits_table, first_failing, misfit, misfit_told, trace_call}
@@ -139,15 +139,15 @@ module _ (h : Heap) (narrow wide pool : List ℕ) (T : Table) where
 -- ---- the public call
 
 module _ (l : Lent) (types fields consts bytes : List ℕ) {m w m' w' : List ℕ} {e : Entry} (s : Entered (m ∷ w ∷ []) (slot_tests types fields consts bytes m w l) e (m' ∷ w' ∷ [])) where
-  pub trace-refused : {why : Refusal} {r : Answer} → e ≡ Not why → r ≡ told (Err why) → asked r m' w' ≡ trace_call types fields consts bytes m w l
+  pub trace-refused : {why : Refusal} {r : Answer} → e ≡ Err why → r ≡ told (Err why) → asked r m' w' ≡ trace_call types fields consts bytes m w l
   trace-refused i t =
       (λ j. asked_of (t j) ((s.left ∙ ap (λ (x : Entry). scratch_after x (m ∷ w ∷ [])) i) j))
-      ∙ sym (whether-not s (λ why. asked_of (refused_by (number_of why)) (scratch_after (Not why) (m ∷ w ∷ []))) (asked_of (misfit_told (misfit (table_of types fields consts bytes) (view l))) (map zeros (m ∷ w ∷ []))) i)
+      ∙ sym (whether-not s (λ why. asked_of (refused_by (number_of why)) (scratch_after (Err why) (m ∷ w ∷ []))) (asked_of (misfit_told (misfit (table_of types fields consts bytes) (view l))) (map zeros (m ∷ w ∷ []))) i)
 
-  pub trace-done : {r : Answer} → e ≡ Ready → r ≡ misfit_told (misfit (table_of types fields consts bytes) (view l)) → asked r m' w' ≡ trace_call types fields consts bytes m w l
+  pub trace-done : {r : Answer} → e ≡ ready → r ≡ misfit_told (misfit (table_of types fields consts bytes) (view l)) → asked r m' w' ≡ trace_call types fields consts bytes m w l
   trace-done i t =
       (λ j. asked_of (t j) (cleared-in s i j))
-      ∙ sym (whether-ready s (λ why. asked_of (refused_by (number_of why)) (scratch_after (Not why) (m ∷ w ∷ []))) (asked_of (misfit_told (misfit (table_of types fields consts bytes) (view l))) (map zeros (m ∷ w ∷ []))) i)
+      ∙ sym (whether-ready s (λ why. asked_of (refused_by (number_of why)) (scratch_after (Err why) (m ∷ w ∷ []))) (asked_of (misfit_told (misfit (table_of types fields consts bytes) (view l))) (map zeros (m ∷ w ∷ []))) i)
 
-  pub trace-formed : e ≡ Ready → well_formed l ≡ true
+  pub trace-formed : e ≡ ready → well_formed l ≡ true
   trace-formed i = entered l s i

@@ -10,7 +10,7 @@ use Rattle.heap.specs.State.{State, slot_at}
 use Rattle.heap.specs.Lent.{Lent, view}
 use Rattle.collection.specs.Shown.{shown}
 use Rattle.door.specs.HeapCalls.{admitted, whether, scratch_after, zeros, Asked, asked_of}
-use Rattle.door.specs.declared.Entry.TheVariants.{Not}
+use Rattle.std.specs.Prelude.{Err}
 use Rattle.slot_door.specs.SlotHandles.{slot_tests}
 
 -- the handles can be traced
@@ -39,5 +39,5 @@ misfit_told (some i) = record { number = 13; first = i; second = 0 }
 abbrev pub trace_call : (w fs cs b marks work : List ℕ) → Lent → Asked
 trace_call w fs cs b marks work l =
     whether (admitted (slot_tests w fs cs b marks work l))
-    (λ why. asked_of (refused_by (number_of why)) (scratch_after (Not why) (marks ∷ work ∷ [])))
+    (λ why. asked_of (refused_by (number_of why)) (scratch_after (Err why) (marks ∷ work ∷ [])))
     (asked_of (misfit_told (misfit (table_of w fs cs b) (view l))) (map zeros (marks ∷ work ∷ [])))

@@ -13,7 +13,6 @@ ghost use Rattle.door.specs.HeapCalls.{Entered, asked};
 ghost use Rattle.slot_door.specs.SlotHandles.{slot_handles, slot_tests, slot_call, slot_out};
 ghost use Rattle.slot_door.specs.Traceable.{fits_table, misfit, misfit_told, trace_call};
 
-use door::Entry;
 use heap::Heap;
 use refusal::{Answer, Refusal, Reply};
 use trace::Sink;
@@ -31,21 +30,17 @@ fn admit(
     pool: &[u8],
     marks: &mut [u8],
     work: &mut [u64],
-) -> Entry
+) -> Result<(), Refusal>
     ensures { Entered (marks.old ∷ work.old ∷ [])
         (slot_tests types.now fields.now consts.now bytes.now marks.old work.old
         (lent heap narrow.now wide.now pool.now))
         result (marks.new ∷ work.new ∷ []) }
 {
-    match door::enter(heap, narrow, wide, pool, marks, work) {
-        Entry::Not(why) => Entry::Not(why),
-        Entry::Ready => {
-            if !(Table { types, fields, consts, bytes }).check_table() {
-                return Entry::Not(Refusal::TypeTable);
-            }
-            Entry::Ready
-        }
+    door::enter(heap, narrow, wide, pool, marks, work)?;
+    if !(Table { types, fields, consts, bytes }).check_table() {
+        return Err(Refusal::TypeTable);
     }
+    Ok(())
 }
 
 // The handles that an object of a kind and type shows, whose data is visible from start on, into the lent list. First they are only counted, so that a refusal
@@ -215,8 +210,8 @@ pub fn yexwalu_slot_handles(
     match admit(
         types, fields, consts, bytes, heap, narrow, wide, pool, marks, work,
     ) {
-        Entry::Not(why) => Answer::from(Err(why)),
-        Entry::Ready => Answer::from(list_slot(
+        Err(why) => Answer::from(Err(why)),
+        Ok(()) => Answer::from(list_slot(
             types, fields, consts, bytes, heap, narrow, wide, pool, slot, out,
         )),
     }
@@ -308,7 +303,7 @@ pub fn yexwalu_traceable(
     match admit(
         types, fields, consts, bytes, heap, narrow, wide, pool, marks, work,
     ) {
-        Entry::Not(why) => Answer::from(Err(why)),
-        Entry::Ready => first_misfit(types, fields, consts, bytes, heap, narrow, wide, pool),
+        Err(why) => Answer::from(Err(why)),
+        Ok(()) => first_misfit(types, fields, consts, bytes, heap, narrow, wide, pool),
     }
 }

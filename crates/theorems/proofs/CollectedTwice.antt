@@ -26,8 +26,9 @@ use Rattle.flow.specs.Function.{safepoint}
 use Rattle.roots.specs.Calls.{function, need}
 use Rattle.collection.proofs.Twice.{joined-twice}
 use Rattle.door.specs.HeapCalls.{Test, test, admitted, enough, zeros, Outcome, outcome_of, calling}
-use Rattle.door.specs.declared.Entry.{Entry}
-use Rattle.door.specs.declared.Entry.TheVariants.{Ready, Not}
+use Rattle.door.specs.HeapCalls.{Entry}
+use Rattle.std.specs.Prelude.{Err}
+use Rattle.door.specs.HeapCalls.{ready}
 use Rattle.door.proofs.Entering.{passes, all_hold, calling-ready}
 use Rattle.collect_door.specs.Calls.{Asked, table, frame, pinning, roomy, row_tests, input_tests, joined_tests, joining, joined_call}
 use Rattle.collect_door.specs.Demand.{done, Demand}
@@ -102,7 +103,7 @@ module _ (a : Asked) (s t : Scratch) (more : NoShorter s t) (l l' : Lent) (same 
       (ap (λ (n : ℕ). leb n (length t.work)) same ∙ longer (slot_count l) (length s.work) (length t.work) more.work c.1))
       (longer (need a.code) (length s.rows) (length t.rows) more.rows b.1)
 
-  still-admitted : admitted (joined_tests a s.marks s.work s.rows l) ≡ Ready → admitted (joined_tests a t.marks t.work t.rows l') ≡ Ready
+  still-admitted : admitted (joined_tests a s.marks s.work s.rows l) ≡ ready → admitted (joined_tests a t.marks t.work t.rows l') ≡ ready
   unfolding admitted
   still-admitted i =
       simp (
@@ -128,7 +129,7 @@ collected-twice a m s r m' s' e q t q₂ m'' t' more e₂ =
     let b = d.begins q in
     let c = d.collected q b.0 b.1 b.2.0 b.2.1 in
     let count : slot_count l' ≡ slot_count l = ap slot_count k.2 in
-    let i : admitted (joined_tests a t.marks t.work t.rows l') ≡ Ready = still-admitted a s t more l l' count c.formed k.0 in
+    let i : admitted (joined_tests a t.marks t.work t.rows l') ≡ ready = still-admitted a s t more l l' count c.formed k.0 in
     let v : view l' ≡ (joining a (view l)).heap = ap view k.2 ∙ view-stored (slot_count l) (pool_size l) (joining a (view l)).heap in
     let again : joining a (view l') ≡ joining a (view l) = ap (joining a) v ∙ joined-twice (table a) (function a.code) a.pc a.values (frame a) (pinning a) (view l) k.1 in
     let back : stored (slot_count l') (pool_size l') (view l') ≡ l' = sym (formed-tested l' c.formed).lies in

@@ -17,17 +17,18 @@ use Rattle.heap.specs.WellFormed.{well_formed}
 use Rattle.pages.specs.Form.{written}
 use Rattle.pages.specs.Page.{page_text}
 use Rattle.door.specs.HeapCalls.{Asked, enough, admitted, heap_tests}
-use Rattle.door.specs.declared.Entry.TheVariants.{Ready, Not}
+use Rattle.std.specs.Prelude.{Err}
+use Rattle.door.specs.HeapCalls.{ready}
 use Rattle.door.proofs.Entering.{is-enough, asking-not, asking-ready}
 use Rattle.theorems.specs.PageCalls.{done}
 use Rattle.theorems.specs.PageLength.{Measures, Both, TakesExactly, Alike, LengthTold, LengthExact, RefusedAlike}
 use Rattle.theorems.proofs.PageWriting.{no-scratch, not-formed, is-ready, not-zero, refused-by, fits-answer, fits_out, short-answer, short-out, put-start}
 
 module _ (l : Lent) {p : Bool} {marks work : List ℕ} {r : Answer} {marks' work' : List ℕ} (c : Measures l p marks work r marks' work') where
-  length-not : {why : Refusal} → admitted (heap_tests marks work l) ≡ Not why → r ≡ refused_by (number_of why)
+  length-not : {why : Refusal} → admitted (heap_tests marks work l) ≡ Err why → r ≡ refused_by (number_of why)
   length-not e = ap (λ (a : Asked). a.answer) (c.told ∙ asking-not here nothing (marks ∷ work ∷ []) (heap_tests marks work l) l (λ h. ok (length (page_text (written p) h))) e)
 
-  length-ready : admitted (heap_tests marks work l) ≡ Ready → r ≡ done (length (page_text (written p) (view l)))
+  length-ready : admitted (heap_tests marks work l) ≡ ready → r ≡ done (length (page_text (written p) (view l)))
   length-ready e = ap (λ (a : Asked). a.answer) (c.told ∙ asking-ready here nothing (marks ∷ work ∷ []) (heap_tests marks work l) l (λ h. ok (length (page_text (written p) h))) e)
 
 pub length-told : LengthTold
@@ -41,7 +42,7 @@ module _ (p : Bool) (l : Lent) (out : List ℕ) (n w : Answer) (out' : List ℕ)
   unfolding enough
   same-scratch a e = (λ i. leb (slot_count l) (t.same_marks i) && leb (slot_count l) (t.same_work i)) ∙ e
 
-  exact : admitted (heap_tests t.marks t.work l) ≡ Ready → admitted (heap_tests t.marks₂ t.work₂ l) ≡ Ready → TakesExactly n.first page out w out'
+  exact : admitted (heap_tests t.marks t.work l) ≡ ready → admitted (heap_tests t.marks₂ t.work₂ l) ≡ ready → TakesExactly n.first page out w out'
   exact e₁ e₂ =
       let size : length page ≡ n.first = sym (ap (λ (a : Answer). a.first) (length-ready l t.measures e₁)) in
       let answer : n.first ≤ length out → w ≡ done n.first = λ h. fits-answer l t.writes e₂ (omega arith) ∙ ap done size in

@@ -23,22 +23,23 @@ use Rattle.pages.specs.Form.{written}
 use Rattle.pages.specs.Page.{page_text}
 use Rattle.pages.specs.Answer.{text_answer, text_out}
 use Rattle.door.specs.HeapCalls.{Asked, enough, admitted, heap_tests, whether}
-use Rattle.door.specs.declared.Entry.{Entry}
-use Rattle.door.specs.declared.Entry.TheVariants.{Ready, Not}
+use Rattle.door.specs.HeapCalls.{Entry}
+use Rattle.std.specs.Prelude.{Err}
+use Rattle.door.specs.HeapCalls.{ready}
 use Rattle.door.proofs.Entering.{is-enough, asking-not, asking-ready}
 use Rattle.theorems.specs.PageCalls.{Writes, done, Scratch}
 
 -- 18, 1, or neither
 module _ (marks work : List ℕ) (l : Lent) where
-  pub no-scratch : enough marks work l ≡ false → admitted (heap_tests marks work l) ≡ Not ScratchShort
+  pub no-scratch : enough marks work l ≡ false → admitted (heap_tests marks work l) ≡ Err ScratchShort
   unfolding admitted
   no-scratch e = rw e
 
-  pub not-formed : enough marks work l ≡ true → well_formed l ≡ false → admitted (heap_tests marks work l) ≡ Not BrokenHeap
+  pub not-formed : enough marks work l ≡ true → well_formed l ≡ false → admitted (heap_tests marks work l) ≡ Err BrokenHeap
   unfolding admitted
   not-formed e f = rw (e, f)
 
-  pub is-ready : enough marks work l ≡ true → well_formed l ≡ true → admitted (heap_tests marks work l) ≡ Ready
+  pub is-ready : enough marks work l ≡ true → well_formed l ≡ true → admitted (heap_tests marks work l) ≡ ready
   unfolding admitted
   is-ready e f = rw (e, f)
 
@@ -49,10 +50,10 @@ module _ (l : Lent) {p : Bool} {out marks work : List ℕ} {r : Answer} {out' ma
   abbrev pub text : List ℕ
   text = page_text (written p) (view l)
 
-  pub refused-by : {why : Refusal} → admitted (heap_tests marks work l) ≡ Not why → r ≡ refused_by (number_of why)
+  pub refused-by : {why : Refusal} → admitted (heap_tests marks work l) ≡ Err why → r ≡ refused_by (number_of why)
   refused-by e = ap (λ (a : Asked). a.answer) (c.told ∙ asking-not here nothing (marks ∷ work ∷ []) (heap_tests marks work l) l (λ h. text_answer (page_text (written p) h) out) e)
 
-  module _ (e : admitted (heap_tests marks work l) ≡ Ready) where
+  module _ (e : admitted (heap_tests marks work l) ≡ ready) where
     answer-is : r ≡ answered here nothing (text_answer text out)
     answer-is = ap (λ (a : Asked). a.answer) (c.told ∙ asking-ready here nothing (marks ∷ work ∷ []) (heap_tests marks work l) l (λ h. text_answer (page_text (written p) h) out) e)
 
@@ -91,7 +92,7 @@ module _ (l : Lent) {p : Bool} {out marks work : List ℕ} {r : Answer} {out' ma
 
   -- what a well-formed heap is answered
   module _ (f : well_formed l ≡ true) (s : Scratch l marks work) where
-    ready : admitted (heap_tests marks work l) ≡ Ready
+    ready : admitted (heap_tests marks work l) ≡ ready
     ready = is-ready marks work l (is-enough marks work l s.marks s.work) f
 
     pub writes-page : length (page_text (written p) (view l)) ≤ length out → (r ≡ done (length (page_text (written p) (view l)))) × (out' ≡ put_text out 0 (page_text (written p) (view l)))

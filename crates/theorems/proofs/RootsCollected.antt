@@ -20,7 +20,7 @@ use Rattle.heap.proofs.Storing.{view-stored}
 use Rattle.collection.specs.Shown.{shown}
 use Rattle.collect.specs.Collect.{collecting}
 use Rattle.door.specs.HeapCalls.{admitted, enough, zeros, Outcome, outcome_of}
-use Rattle.door.specs.declared.Entry.TheVariants.{Ready}
+use Rattle.door.specs.HeapCalls.{ready}
 use Rattle.door.proofs.Entering.{all_hold, calling-ready}
 use Rattle.collect_door.specs.Calls.{table_in, tests}
 use Rattle.wanted.specs.Outcome.{handle_at, Outcome as Serves}
@@ -36,7 +36,7 @@ front out xs n e =
 
 -- the tests of `collect` pass where those of `roots_for` did
 passes : (g : Wanted) (a : Answer) (out' marks work marks₂ work₂ : List ℕ) (l : Lent) → length marks ≤ length marks₂ → length work ≤ length work₂
-    → admitted (wanted_tests g marks work l) ≡ Ready → admitted (tests (with_roots g a out') marks₂ work₂ l) ≡ Ready
+    → admitted (wanted_tests g marks work l) ≡ ready → admitted (tests (with_roots g a out') marks₂ work₂ l) ≡ ready
 unfolding admitted enough
 passes g a out' marks work marks₂ work₂ l m w i =
     let t = and_both (leb (slot_count l) (length marks)) (leb (slot_count l) (length work)) (all_hold (wanted_tests g marks work l) 0 i) in

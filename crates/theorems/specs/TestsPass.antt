@@ -3,7 +3,7 @@ use Rattle.std.specs.Prelude.{◌≡◌, List, [], ◌∷◌, ℕ, replicate}
 use Rattle.heap.specs.State.{State}
 use Rattle.heap.specs.Lent.{stored}
 use Rattle.door.specs.HeapCalls.{admitted}
-use Rattle.door.specs.declared.Entry.TheVariants.{Ready}
+use Rattle.door.specs.HeapCalls.{ready}
 use Rattle.collect_door.specs.Calls.{Asked, joined_tests}
 
 -- one Bytes object of two bytes
@@ -40,4 +40,4 @@ one_safepoint =
     }
 
 abbrev pub TestsPass : Type 0
-TestsPass = admitted (joined_tests one_safepoint (0 ∷ []) (0 ∷ []) [] (stored 1 2 one_object)) ≡ Ready
+TestsPass = admitted (joined_tests one_safepoint (0 ∷ []) (0 ∷ []) [] (stored 1 2 one_object)) ≡ ready

@@ -19,8 +19,8 @@ use Rattle.heap.specs.Lent.{Lent, view, slot_count}
 use Rattle.heap_calls.specs.Pins.{rising}
 use Rattle.trace.specs.Listing.{Lists, written_to}
 use Rattle.door.specs.HeapCalls.{test, enough, heap_tests, zeros, Entered, asked, asked_of}
-use Rattle.door.specs.declared.Entry.{Entry}
-use Rattle.door.specs.declared.Entry.TheVariants.{Ready, Not}
+use Rattle.door.specs.HeapCalls.{Entry}
+use Rattle.door.specs.HeapCalls.{ready}
 use Rattle.door.proofs.Entering.{and-holds, and-fails, and-more, holding, marks-zero, work-zero, ask-refused, ask-ready, whether-not, whether-ready, zeros-again, zeros-room}
 use Rattle.wanted_door.specs.Inner.Listing.{CanSearch}
 use Rattle.wanted_door.specs.RootsFor.{root_handles, Given, table_in, wanted_tests, tests, roots_call, roots_out, RightRoots}
@@ -29,22 +29,22 @@ use Rattle.wanted_door.proofs.Theorem.{rightly-found}
 -- ---- the ways out of `admit`
 
 module _ (l : Lent) {m w m' w' : List ℕ} {e : Entry} (s : Entered (m ∷ w ∷ []) (heap_tests m w l) e (m' ∷ w' ∷ [])) (types fields consts bytes pins wanted : List ℕ) where
-  pub not_entered : {why : Refusal} → e ≡ Not why → Entered (m ∷ w ∷ []) (wanted_tests types fields consts bytes pins wanted m w l) (Not why) (m' ∷ w' ∷ [])
+  pub not_entered : {why : Refusal} → e ≡ Err why → Entered (m ∷ w ∷ []) (wanted_tests types fields consts bytes pins wanted m w l) (Err why) (m' ∷ w' ∷ [])
   not_entered i = and-more s (test (table_good types fields consts bytes) TypeTable ∷ test (rising pins) Pins ∷ test (rising wanted) Pins ∷ []) i
 
-  module _ (i : e ≡ Ready) (g : Bool) (eg : g ≡ table_good types fields consts bytes) where
-    pub no_table : g ≡ false → Entered (m ∷ w ∷ []) (wanted_tests types fields consts bytes pins wanted m w l) (Not TypeTable) (m' ∷ w' ∷ [])
+  module _ (i : e ≡ ready) (g : Bool) (eg : g ≡ table_good types fields consts bytes) where
+    pub no_table : g ≡ false → Entered (m ∷ w ∷ []) (wanted_tests types fields consts bytes pins wanted m w l) (Err TypeTable) (m' ∷ w' ∷ [])
     no_table h = and-more (and-fails s {why = TypeTable} i (sym eg ∙ h) refl) (test (rising pins) Pins ∷ test (rising wanted) Pins ∷ []) refl
 
     module _ (h : g ≡ true) (p : Bool) (ep : p ≡ rising pins) where
-      pub no_pins : p ≡ false → Entered (m ∷ w ∷ []) (wanted_tests types fields consts bytes pins wanted m w l) (Not Pins) (m' ∷ w' ∷ [])
+      pub no_pins : p ≡ false → Entered (m ∷ w ∷ []) (wanted_tests types fields consts bytes pins wanted m w l) (Err Pins) (m' ∷ w' ∷ [])
       no_pins k = and-more (and-fails (and-holds s TypeTable i (sym eg ∙ h)) {why = Pins} refl (sym ep ∙ k) refl) (test (rising wanted) Pins ∷ []) refl
 
       module _ (k : p ≡ true) (q : Bool) (eq : q ≡ rising wanted) where
-        pub no-wanted : q ≡ false → Entered (m ∷ w ∷ []) (wanted_tests types fields consts bytes pins wanted m w l) (Not Pins) (m' ∷ w' ∷ [])
+        pub no-wanted : q ≡ false → Entered (m ∷ w ∷ []) (wanted_tests types fields consts bytes pins wanted m w l) (Err Pins) (m' ∷ w' ∷ [])
         no-wanted j = and-fails (and-holds (and-holds s TypeTable i (sym eg ∙ h)) Pins refl (sym ep ∙ k)) {why = Pins} refl (sym eq ∙ j) refl
 
-        pub all-entered : q ≡ true → Entered (m ∷ w ∷ []) (wanted_tests types fields consts bytes pins wanted m w l) Ready (m' ∷ w' ∷ [])
+        pub all-entered : q ≡ true → Entered (m ∷ w ∷ []) (wanted_tests types fields consts bytes pins wanted m w l) ready (m' ∷ w' ∷ [])
         all-entered j = and-holds (and-holds (and-holds s TypeTable i (sym eg ∙ h)) Pins refl (sym ep ∙ k)) Pins refl (sym eq ∙ j)
 
 -- ---- the public call
@@ -53,7 +53,7 @@ zeros-on : (m m' m'' m''' : List ℕ) → m' ≡ zeros m → length m'' ≡ leng
 zeros-on m m' m'' m''' a b c = c ∙ ap (λ (k : ℕ). replicate k 0) (b ∙ ap length a ∙ length-replicate (length m) 0)
 
 module _ (g : Given) (l : Lent) {m w m' w' : List ℕ} {e : Entry} (s : Entered (m ∷ w ∷ []) (tests g m w l) e (m' ∷ w' ∷ [])) where
-  pub can-search : e ≡ Ready → CanSearch l g.wanted m' w'
+  pub can-search : e ≡ ready → CanSearch l g.wanted m' w'
   unfolding enough
   can-search i =
       let t = and_both (leb (slot_count l) (length m)) (leb (slot_count l) (length w)) (holding s 0 i) in
@@ -67,14 +67,14 @@ module _ (g : Given) (l : Lent) {m w m' w' : List ℕ} {e : Entry} (s : Entered 
       }
 
   module _ (out : List ℕ) where
-    pub roots-refused : {why : Refusal} {r : Answer} → e ≡ Not why → r ≡ told (Err why)
+    pub roots-refused : {why : Refusal} {r : Answer} → e ≡ Err why → r ≡ told (Err why)
         → (asked r m' w' ≡ roots_call g m w l out) × ((out ≡ roots_out g m w l out) × RightRoots g m w l out r out)
     roots-refused {r = r} i t =
         let k : asked r m' w' ≡ roots_call g m w l out = ask-refused s length nothing l (root_handles (table_in g) g.pins g.wanted (length out)) i t in
         let o : out ≡ roots_out g m w l out = sym (whether-not s (λ why. out) (written_to out (root_handles (table_in g) g.pins g.wanted (length out) (view l))) i) in
         (k, (o, rightly-found g m w l out r (m' ∷ w' ∷ []) out k o))
 
-    pub roots-done : (m'' w'' m''' w''' out' : List ℕ) (reply : Reply) (r : Answer) → e ≡ Ready
+    pub roots-done : (m'' w'' m''' w''' out' : List ℕ) (reply : Reply) (r : Answer) → e ≡ ready
         → Lists (root_handles (table_in g) g.pins g.wanted (length out) (view l)) reply out out' → length m'' ≡ length m' → length w'' ≡ length w' → m''' ≡ zeros m'' → w''' ≡ zeros w'' → r ≡ told reply
         → (asked r m''' w''' ≡ roots_call g m w l out) × ((out' ≡ roots_out g m w l out) × RightRoots g m w l out r out')
     roots-done m'' w'' m''' w''' out' reply r i p a b x y t =

@@ -24,9 +24,9 @@ use Rattle.heap.proofs.Testing.{formed-tested}
 use Rattle.collection.specs.Shown.{shown}
 use Rattle.collection.specs.Collected.{graph, starts}
 use Rattle.door.specs.HeapCalls.{Test, admitted, whether, Asked, asked_of}
-use Rattle.door.specs.declared.Entry.{Entry}
-use Rattle.door.specs.declared.Entry.TheVariants.{Ready, Not}
-use Rattle.door.proofs.Entering.{apart, all_hold, asking-not, asking-ready}
+use Rattle.door.specs.HeapCalls.{Entry}
+use Rattle.door.specs.HeapCalls.{ready}
+use Rattle.door.proofs.Entering.{apart, all_hold, asking-not, asking-ready, same-why}
 use Rattle.wanted.specs.Wanted.{Rising}
 use Rattle.wanted.specs.Way.{roots_for}
 use Rattle.wanted.specs.Outcome.{handle_at}
@@ -41,15 +41,12 @@ abbrev Each : (Refusal → Type 0) → List Test → Type 0
 Each P [] = Unit {0}
 Each P (t ∷ ts) = P t.why × Each P ts
 
-same-why : {a b : Refusal} → Not a ≡ Not b → a ≡ b
-same-why q = cc
-
-first-why : (P : Refusal → Type 0) (b : Bool) (x why : Refusal) (e : Entry) → P x → (e ≡ Not why → P why) → (if b then e else Not x) ≡ Not why → P why
+first-why : (P : Refusal → Type 0) (b : Bool) (x why : Refusal) (e : Entry) → P x → (e ≡ Err why → P why) → (if b then e else Err x) ≡ Err why → P why
 first-why P true x why e p k q = k q
 first-why P false x why e p k q = subst P (same-why q) p
 
 -- the refusal is that of one of them
-among : (P : Refusal → Type 0) (ts : List Test) → Each P ts → (why : Refusal) → admitted ts ≡ Not why → P why
+among : (P : Refusal → Type 0) (ts : List Test) → Each P ts → (why : Refusal) → admitted ts ≡ Err why → P why
 unfolding admitted
 among P [] x why e = apart (sym e)
 among P (t ∷ ts) x why e = first-why P t.holds t.why why (admitted ts) x.0 (λ q. among P ts x.1 why q) e
@@ -84,16 +81,16 @@ module _ (g : Given) (marks work : List ℕ) (l : Lent) (out : List ℕ) (a : An
   abbrev question : State → Result (List ℕ)
   question = root_handles T g.pins W (length out)
 
-  early : (why : Refusal) → admitted (tests g marks work l) ≡ Not why → Early why
+  early : (why : Refusal) → admitted (tests g marks work l) ≡ Err why → Early why
   early why i = among Early (tests g marks work l) (is-early 18 (omega arith) (omega arith) (λ x. omega arith), (is-early 1 (omega arith) (omega arith) (λ x. omega arith), (is-early 10 (omega arith) (omega arith) (λ x. omega arith), (is-early 14 (omega arith) (omega arith) (λ x. omega arith), (is-early 14 (omega arith) (omega arith) (λ x. omega arith), tt))))) why i
 
-  sound : admitted (tests g marks work l) ≡ Ready → Sound (slot_count l) (pool_size l) h
+  sound : admitted (tests g marks work l) ≡ ready → Sound (slot_count l) (pool_size l) h
   sound i = (formed-tested l (all_hold (tests g marks work l) 1 i)).sound
 
-  up : admitted (tests g marks work l) ≡ Ready → Rising W
+  up : admitted (tests g marks work l) ≡ ready → Rising W
   up i = rises W (all_hold (tests g marks work l) 4 i)
 
-  told_is : admitted (tests g marks work l) ≡ Ready → (r : Result (List ℕ)) → question h ≡ r → (a ≡ answered length nothing r) × (out' ≡ written_to out r)
+  told_is : admitted (tests g marks work l) ≡ ready → (r : Result (List ℕ)) → question h ≡ r → (a ≡ answered length nothing r) × (out' ≡ written_to out r)
   told_is i r q = (
     ap (λ (x : Asked). x.answer) (e ∙ asking-ready length nothing (marks ∷ work ∷ []) (tests g marks work l) l question i) ∙ ap (answered length nothing) q,
     f ∙ ap (λ (x : Entry). whether x (λ why. out) (written_to out (question h))) i ∙ ap (written_to out) q,
@@ -101,15 +98,15 @@ module _ (g : Given) (marks work : List ℕ) (l : Lent) (out : List ℕ) (a : An
 
   -- refused by a test, no roots, too many for the list, or done
   by_call : {X : Type 0}
-      → ((why : Refusal) → admitted (tests g marks work l) ≡ Not why → a ≡ told (Err why) → X)
-      → (admitted (tests g marks work l) ≡ Ready → ((R : List ℕ) → Serving g l R → ⊥) → a ≡ told (Err NoRoots) → X)
-      → (admitted (tests g marks work l) ≡ Ready → (is : List ℕ) → Answering g l is → length out < length is → a ≡ told (Err ShortList) → X)
-      → (admitted (tests g marks work l) ≡ Ready → (is : List ℕ) → Answering g l is → length is ≤ length out → a ≡ told (Ok ((length is), 0)) → out' ≡ put out 0 (map (handle_at h) is) (length is) → X)
+      → ((why : Refusal) → admitted (tests g marks work l) ≡ Err why → a ≡ told (Err why) → X)
+      → (admitted (tests g marks work l) ≡ ready → ((R : List ℕ) → Serving g l R → ⊥) → a ≡ told (Err NoRoots) → X)
+      → (admitted (tests g marks work l) ≡ ready → (is : List ℕ) → Answering g l is → length out < length is → a ≡ told (Err ShortList) → X)
+      → (admitted (tests g marks work l) ≡ ready → (is : List ℕ) → Answering g l is → length is ≤ length out → a ≡ told (Ok ((length is), 0)) → out' ≡ put out 0 (map (handle_at h) is) (length is) → X)
       → X
   unfolding root_handles listed
   by_call {X} turned none short done = go (admitted (tests g marks work l)) refl
     where
-      roomy : admitted (tests g marks work l) ≡ Ready → (is : List ℕ) → rooted ≡ ok is → Dec (length out < length is) → X
+      roomy : admitted (tests g marks work l) ≡ ready → (is : List ℕ) → rooted ≡ ok is → Dec (length out < length is) → X
       roomy i is q (yes k) =
           let t = told_is i (refused 7) (ap (λ (x : Result (List ℕ)). listed h x (length out)) q ∙ ap (λ (b : Bool). if b then ok (map (handle_at h) is) else refused 7) (lt-leb (length is) (length out) k)) in
           short i is (best h (shown T h) g.pins W (slot_count l) (pool_size l) (sound i) (up i) is q) k t.0
@@ -120,8 +117,8 @@ module _ (g : Given) (marks work : List ℕ) (l : Lent) (out : List ℕ) (a : An
           (t.0 ∙ ap (λ (n : ℕ). told (Ok (n, 0))) (length-map is (handle_at h))) (t.1 ∙ ap (put out 0 (map (handle_at h) is)) (length-map is (handle_at h)))
 
       go : (t : Entry) → admitted (tests g marks work l) ≡ t → X
-      go (Not why) i = turned why i (ap (λ (x : Asked). x.answer) (e ∙ asking-not length nothing (marks ∷ work ∷ []) (tests g marks work l) l question i))
-      go Ready i =
+      go (Err why) i = turned why i (ap (λ (x : Asked). x.answer) (e ∙ asking-not length nothing (marks ∷ work ∷ []) (tests g marks work l) l question i))
+      go (Ok _) i =
           two-answers (graph h (shown T h)) (starts h [] g.pins) (length h.slots) W
           (λ is q. roomy i is q (dec_lt (length out) (length is)))
           (λ q. none i ((none-serves h (shown T h) g.pins W (slot_count l) (pool_size l) (sound i) (up i)).0 q) (told_is i (refused 21) (ap (λ (x : Result (List ℕ)). listed h x (length out)) q)).0)

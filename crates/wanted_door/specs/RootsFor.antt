@@ -17,7 +17,7 @@ use Rattle.heap_calls.specs.Pins.{rising}
 use Rattle.collection.specs.Shown.{shown}
 use Rattle.collection.specs.Collected.{graph, starts}
 use Rattle.door.specs.HeapCalls.{Test, test, admitted, whether, heap_tests, Asked, asking}
-use Rattle.door.specs.declared.Entry.TheVariants.{Ready}
+use Rattle.door.specs.HeapCalls.{ready}
 use Rattle.wanted.specs.Way.{roots_for}
 use Rattle.wanted.specs.Outcome.{handle_at, Outcome, Best}
 
@@ -70,9 +70,9 @@ module _ (g : Given) (marks work : List ℕ) (l : Lent) (out : List ℕ) where
   -- What is right of the answer a and of the list out' afterwards.
   pub record RightRoots (a : Answer) (out' : List ℕ) : Type 0 where
     -- 21 exactly when no test fails and no root list at all has the outcome
-    pub no_roots : (a ≡ told (Err NoRoots)) ↔ ((admitted (tests g marks work l) ≡ Ready) × ((R : List ℕ) → Serving g l R → ⊥))
+    pub no_roots : (a ≡ told (Err NoRoots)) ↔ ((admitted (tests g marks work l) ≡ ready) × ((R : List ℕ) → Serving g l R → ⊥))
     -- 7 exactly when no test fails, there is an answer, and it has more roots than there is room
-    pub too_short : (a ≡ told (Err ShortList)) ↔ ((admitted (tests g marks work l) ≡ Ready) × ((is : List ℕ) × Answering g l is × (length out < length is)))
+    pub too_short : (a ≡ told (Err ShortList)) ↔ ((admitted (tests g marks work l) ≡ ready) × ((is : List ℕ) × Answering g l is × (length out < length is)))
     -- otherwise the list holds the answer, and how many they are is told
     pub best : a.number ≡ 0
-        → (admitted (tests g marks work l) ≡ Ready) × ((is : List ℕ) × Answering g l is × (a ≡ told (Ok ((length is), 0))) × (out' ≡ put out 0 (map (handle_at (view l)) is) (length is)))
+        → (admitted (tests g marks work l) ≡ ready) × ((is : List ℕ) × Answering g l is × (a ≡ told (Ok ((length is), 0))) × (out' ≡ put out 0 (map (handle_at (view l)) is) (length is)))

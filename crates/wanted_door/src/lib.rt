@@ -13,7 +13,6 @@ ghost use Rattle.wanted.specs.Way.{those};
 ghost use Rattle.wanted_door.specs.Inner.Listing.{CanName, CanSearch, named_in};
 ghost use Rattle.wanted_door.specs.RootsFor.{root_handles, wanted_tests, roots_call, roots_out, RightRoots};
 
-use door::Entry;
 use heap::Heap;
 use refusal::{Answer, Refusal, Reply};
 use ty::Table;
@@ -35,27 +34,23 @@ fn admit(
     wanted: &[u32],
     marks: &mut [u8],
     work: &mut [u64],
-) -> Entry
+) -> Result<(), Refusal>
     ensures { Entered (marks.old ∷ work.old ∷ [])
         (wanted_tests types.now fields.now consts.now bytes.now pins.now wanted.now
         marks.old work.old (lent heap narrow.now wide.now pool.now))
         result (marks.new ∷ work.new ∷ []) }
 {
-    match door::enter(heap, narrow, wide, pool, marks, work) {
-        Entry::Not(why) => Entry::Not(why),
-        Entry::Ready => {
-            if !(Table { types, fields, consts, bytes }).check_table() {
-                return Entry::Not(Refusal::TypeTable);
-            }
-            if !heap_calls::recycle::rise(pins) {
-                return Entry::Not(Refusal::Pins);
-            }
-            if !heap_calls::recycle::rise(wanted) {
-                return Entry::Not(Refusal::Pins);
-            }
-            Entry::Ready
-        }
+    door::enter(heap, narrow, wide, pool, marks, work)?;
+    if !(Table { types, fields, consts, bytes }).check_table() {
+        return Err(Refusal::TypeTable);
     }
+    if !heap_calls::recycle::rise(pins) {
+        return Err(Refusal::Pins);
+    }
+    if !heap_calls::recycle::rise(wanted) {
+        return Err(Refusal::Pins);
+    }
+    Ok(())
 }
 
 // The handles of the slots that are noted as roots go to the lent list, or it is too short (7).
@@ -152,8 +147,8 @@ pub fn yexwalu_roots_for(
     match admit(
         types, fields, consts, bytes, heap, narrow, wide, pool, pins, wanted, marks, work,
     ) {
-        Entry::Not(why) => Answer::from(Err(why)),
-        Entry::Ready => {
+        Err(why) => Answer::from(Err(why)),
+        Ok(()) => {
             let reply = list_roots(
                 types, fields, consts, bytes, heap, narrow, wide, pool, pins, wanted, out, marks,
                 work,

@@ -1,13 +1,13 @@
 -- `heap_door::yexwalu_live` meets its contract.
-use Rattle.heap.specs.Lent.{lent}
-use Rattle.door.proofs.Entering.{entered, ask-refused, ask-ready}
+use Rattle.std.proofs.Common.{ℕ, ap}
+use Rattle.word.specs.Result.{ok}
+use Rattle.refusal.specs.Told.{answered, here, nothing}
+use Rattle.door.specs.HeapCalls.{entry_of}
+use Rattle.door.proofs.Entering.{ask-refused, ask-seen}
 use Rattle.heap_door.proofs.yexwalu_live.Goals as goal
 
-pub live-requires : goal.live-requires
-live-requires c = entered ((lent c.args.heap c.args.narrow.now c.args.wide.now c.args.pool.now)) c.enter.ensures c.in-Ready.is
+pub returns-in-Err : goal.returns-in-Err
+returns-in-Err c = ask-refused c.see.ensures.entered _ _ _ _ (ap entry_of c.in-Err.is) c.from.ensures
 
-pub returns-in-Not : goal.returns-in-Not
-returns-in-Not c = ask-refused c.enter.ensures _ _ _ _ c.in-Not.is c.from.ensures
-
-pub returns-in-Ready : goal.returns-in-Ready
-returns-in-Ready c = ask-ready c.enter.ensures _ _ _ _ c.in-Ready.is c.live.ensures c.from-in-Ready.ensures
+pub returns-in-Ok : goal.returns-in-Ok
+returns-in-Ok c = ask-seen _ c.see.ensures.entered c.in-Ok.is c.see.ensures.shows _ _ _ (ap (λ (n : ℕ). answered here nothing (ok n)) c.live.ensures) c.from-in-Ok.ensures

@@ -13,10 +13,10 @@ sealed-told : (l l' : Lent) → Leaves l l' (seal (view l)) → Tells nothing no
 sealed-told l l' k = record { leaves = k; says = refl }
 
 pub seal-after-requires : goal.seal-after-requires
-seal-after-requires c = entered ((lent c.args.heap c.args.narrow.now c.args.wide.now c.args.pool.now)) c.enter.ensures c.in-Ready.is
+seal-after-requires c = entered ((lent c.args.heap c.args.narrow.now c.args.wide.now c.args.pool.now)) c.enter.ensures c.in-Ok.is
 
-pub returns-in-Not : goal.returns-in-Not
-returns-in-Not c = call-refused c.enter.ensures _ _ _ c.in-Not.is c.from.ensures
+pub returns-in-Err : goal.returns-in-Err
+returns-in-Err c = call-refused c.enter.ensures _ _ _ c.in-Err.is c.from.ensures
 
-pub returns-in-Ready : goal.returns-in-Ready
-returns-in-Ready c = call-ready c.enter.ensures _ _ _ c.in-Ready.is (sealed-told _ _ c.seal-after.ensures) c.from-in-Ready.ensures
+pub returns-in-Ok : goal.returns-in-Ok
+returns-in-Ok c = call-ready c.enter.ensures _ _ _ c.in-Ok.is (sealed-told _ _ c.seal-after.ensures) c.from-in-Ok.ensures

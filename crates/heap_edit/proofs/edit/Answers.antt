@@ -1,28 +1,27 @@
 -- `heap_edit::edit` meets its contract.
-use Rattle.std.proofs.Common.{arith}
-use Rattle.heap.specs.Lent.{lent}
-use Rattle.heap_edit.proofs.Columns.{Sizes, sizes}
-use Rattle.heap_edit.proofs.Editing.{found, edit-unfound, edit-inside, edit-not, edit-can, edit-yes}
+use Rattle.std.proofs.Common.{refl, arith}
+use Rattle.std.proofs.lemmas.Result.{err_from_is_err_and}
+use Rattle.heap.specs.Seen.{seen}
+use Rattle.heap.specs.Loans.{lies}
+use Rattle.heap_edit.proofs.Editing.{there, fit-there, edit-unfound, edit-inside, edit-not, edit-can, edit-yes}
 use Rattle.heap_edit.proofs.edit.Goals as goal
-use Rattle.heap_edit.proofs.edit.Goals.{Start}
 
-K : (c : Start) → Sizes c.args.heap c.args.narrow.now c.args.wide.now c.args.pool.now
-K c = sizes c.args.heap c.args.narrow.now c.args.wide.now c.args.pool.now c.requires
-
-pub resolve-requires : goal.resolve-requires
-resolve-requires c = omega (arith, K (goal.at.resolve-requires c).Start)
-
-pub returns-in-Err : goal.returns-in-Err
-returns-in-Err c = edit-unfound ((lent c.args.heap c.args.narrow.now c.args.wide.now c.args.pool.now)) c.requires c.args.x c.args.bytes.now c.args.start c.resolve.result _ (found ((lent c.args.heap c.args.narrow.now c.args.wide.now c.args.pool.now)) c.requires _ c.resolve.result c.resolve.ensures) c.in-Err.is
+pub returns-in_err-index : goal.returns-in_err-index
+returns-in_err-index c =
+    let p = err_from_is_err_and c.from_residual.result c.from_residual.ensures.1 in
+    rw (p.1, p.2) (record { loans = record { narrow = refl; wide = refl; pool = refl }; tells = edit-unfound (lies c.args.lent.now) c.args.lent.now.formed c.args.x c.args.bytes.now c.args.start _ (there _ _ c.view-view.ensures c.in_err-index.ensures) })
 
 pub fits-requires : goal.fits-requires
-fits-requires c = record { pool_value = c.requires; i_lt_slots = edit-inside ((lent c.args.heap c.args.narrow.now c.args.wide.now c.args.pool.now)) c.requires c.args.x c.args.bytes.now c.args.start (found ((lent c.args.heap c.args.narrow.now c.args.wide.now c.args.pool.now)) c.requires _ c.resolve.result c.resolve.ensures) c.in-Ok.is }
+fits-requires c = edit-inside (seen c.view-view.result) c.view-view.result.formed c.args.x c.args.bytes.now c.args.start c.in_ok-index.ensures
 
-pub returns-else-fits : goal.returns-else-fits
-returns-else-fits c = edit-not ((lent c.args.heap c.args.narrow.now c.args.wide.now c.args.pool.now)) c.requires c.args.x c.args.bytes.now c.args.start (found ((lent c.args.heap c.args.narrow.now c.args.wide.now c.args.pool.now)) c.requires _ c.resolve.result c.resolve.ensures) c.in-Ok.is c.fits.ensures c.if-fits.false
+pub returns-then-not-fits : goal.returns-then-not-fits
+returns-then-not-fits c = record { loans = record { narrow = refl; wide = refl; pool = refl }; tells = edit-not (lies c.args.lent.now) c.args.lent.now.formed c.args.x c.args.bytes.now c.args.start (there _ _ c.view-view.ensures c.in_ok-index.ensures) (fit-there _ _ _ c.view-view.ensures c.fits.ensures) c.if-not-fits.true }
 
 pub replace-requires : goal.replace-requires
-replace-requires c = edit-can ((lent c.args.heap c.args.narrow.now c.args.wide.now c.args.pool.now)) c.requires c.args.x c.args.bytes.now c.args.start (found ((lent c.args.heap c.args.narrow.now c.args.wide.now c.args.pool.now)) c.requires _ c.resolve.result c.resolve.ensures) c.in-Ok.is c.fits.ensures c.if-fits.true c.changed-after.ensures
+replace-requires c = edit-can (lies c.args.lent.now) c.args.lent.now.formed c.args.x c.args.bytes.now c.args.start (there _ _ c.view-view.ensures c.in_ok-index.ensures) (fit-there _ _ _ c.view-view.ensures c.fits.ensures) c.if-not-fits.false c.changed-after.ensures
 
 pub returns : goal.returns
-returns c = edit-yes c.args.heap c.args.narrow.now c.args.wide.now c.args.pool.now c.requires c.args.x c.args.bytes.now c.args.start (found ((lent c.args.heap c.args.narrow.now c.args.wide.now c.args.pool.now)) c.requires _ c.resolve.result c.resolve.ensures) c.in-Ok.is c.fits.ensures c.if-fits.true c.changed-after.ensures _ c.replace.ensures
+returns c = record { loans = record { narrow = refl; wide = refl; pool = refl }; tells = edit-yes c.args.lent.now.heap c.args.lent.now.narrow.now c.args.lent.now.wide.now c.args.lent.now.pool.now c.args.lent.now.formed c.args.x c.args.bytes.now c.args.start (there _ _ c.view-view.ensures c.in_ok-index.ensures) (fit-there _ _ _ c.view-view.ensures c.fits.ensures) c.if-not-fits.false c.changed-after.ensures _ c.replace.ensures }
+
+pub invariant_of-lent : goal.invariant_of-lent
+invariant_of-lent c = record { formed = (edit-yes c.args.lent.now.heap c.args.lent.now.narrow.now c.args.lent.now.wide.now c.args.lent.now.pool.now c.args.lent.now.formed c.args.x c.args.bytes.now c.args.start (there _ _ c.view-view.ensures c.in_ok-index.ensures) (fit-there _ _ _ c.view-view.ensures c.fits.ensures) c.if-not-fits.false c.changed-after.ensures _ c.replace.ensures).leaves.formed }

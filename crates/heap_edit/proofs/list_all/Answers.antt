@@ -1,6 +1,6 @@
 -- `heap_edit::list_all` meets its contract.
 use Rattle.std.proofs.Common.{refl, arith}
-use Rattle.heap_edit.proofs.Columns.{sizes}
+use Rattle.heap.proofs.Columns.{sizes}
 use Rattle.heap_edit.proofs.Listing.{all_listed}
 use Rattle.heap_edit.proofs.list_all.Goals as goal
 

@@ -1,9 +1,10 @@
+-- `heap_edit::list_live` meets its contract.
 use Rattle.std.proofs.Common.{refl, arith, rules}
 use Rattle.heap_edit.proofs.Listing.{list-first, list-turn, list-end, one_more}
 use Rattle.heap_edit.proofs.list_live.Goals as goal
 
 pub loop-i-init : goal.loop-i-init
-loop-i-init c = (omega arith, omega arith, refl, λ h wide pool e w. list-first _ _ _)
+loop-i-init c = (omega arith, refl, λ wide pool w. list-first _ _ _)
 
 pub overflow_cast-i : goal.overflow_cast-i
 overflow_cast-i c = omega arith
@@ -29,19 +30,12 @@ bounds-narrow-s c = omega arith
 pub list_one-count-requires : goal.list_one-count-requires
 list_one-count-requires c = omega arith
 
-pub overflow_add-i : goal.overflow_add-i
-overflow_add-i c = omega arith
-
-pub loop-i-smaller : goal.loop-i-smaller
-loop-i-smaller c = omega arith
-
 pub loop-i-preserved : goal.loop-i-preserved
 loop-i-preserved c = (
-  omega arith,
   omega (arith, one_more _ _ _ _ _ _ c.list_one-count.ensures, c.loop-i.invariant),
   search rules,
-  λ h wide pool e w. list-turn h c.args.narrow.now wide pool w (c.loop-i.invariant.3 h wide pool e w) (omega arith) (omega arith) c.pack-x.ensures c.list_one-count.ensures,
+  λ wide pool w. list-turn c.args.heap c.args.narrow.now wide pool w (c.loop-i.invariant.2 wide pool w) (omega arith) (omega arith) c.pack-x.ensures c.list_one-count.ensures,
 )
 
 pub returns : goal.returns
-returns c = λ wide pool w. list-end c.args.heap c.args.narrow.now wide pool w (c.loop-i.invariant.3 c.args.heap wide pool refl w) (omega arith)
+returns c = λ wide pool w. list-end c.args.heap c.args.narrow.now wide pool w (c.loop-i.invariant.2 wide pool w) (omega arith)

@@ -1,7 +1,7 @@
 -- `heap_edit::reissue` meets its contract.
 use Rattle.std.proofs.Common.{arith}
 use Rattle.heap.specs.Lent.{lent}
-use Rattle.heap_edit.proofs.Columns.{Sizes, sizes}
+use Rattle.heap.proofs.Columns.{Sizes, sizes}
 use Rattle.heap_edit.proofs.Reissuing.{reissue-outside, reissue-of-dead, reissue-of-worn, reissue-yes}
 use Rattle.heap_edit.proofs.reissue.Goals as goal
 use Rattle.heap_edit.proofs.reissue.Goals.{Start}

@@ -1,6 +1,6 @@
 -- `heap_edit::seal` meets its contract.
 use Rattle.std.proofs.Common.{arith}
-use Rattle.heap_edit.proofs.Columns.{Sizes, sizes}
+use Rattle.heap.proofs.Columns.{Sizes, sizes}
 use Rattle.heap_edit.proofs.Sealing.{can-list, sealed-out}
 use Rattle.heap_edit.proofs.seal.Goals as goal
 use Rattle.heap_edit.proofs.seal.Goals.{Start}

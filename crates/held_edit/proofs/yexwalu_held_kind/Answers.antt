@@ -5,8 +5,8 @@ use Rattle.held.proofs.Holding.{formed}
 use Rattle.held_edit.proofs.Asking.{asks}
 use Rattle.held_edit.proofs.yexwalu_held_kind.Goals as goal
 
-pub kind-requires : goal.kind-requires
-kind-requires c = formed c.requires c.header-heap.ensures refl refl
+pub invariant_of-view : goal.invariant_of-view
+invariant_of-view c = record { formed = formed c.requires c.header-heap.ensures refl refl }
 
 pub returns : goal.returns
 returns c = asks (λ (k : Kind). k.kind) (λ (k : Kind). k.type) (λ s. kind_at s c.args.i) c.kind.ensures c.from.ensures c.header-heap.ensures refl refl

@@ -5,10 +5,10 @@ use Rattle.door.proofs.Entering.{entered, call-refused, call-ready}
 use Rattle.object_door.proofs.yexwalu_recycle.Goals as goal
 
 pub recycle-done-requires : goal.recycle-done-requires
-recycle-done-requires c = entered ((lent c.args.heap c.args.narrow.now c.args.wide.now c.args.pool.now)) c.enter.ensures c.in-Ready.is
+recycle-done-requires c = entered ((lent c.args.heap c.args.narrow.now c.args.wide.now c.args.pool.now)) c.enter.ensures c.in-Ok.is
 
-pub returns-in-Not : goal.returns-in-Not
-returns-in-Not c = call-refused c.enter.ensures nothing nothing _ c.in-Not.is c.from.ensures
+pub returns-in-Err : goal.returns-in-Err
+returns-in-Err c = call-refused c.enter.ensures nothing nothing _ c.in-Err.is c.from.ensures
 
-pub returns-in-Ready : goal.returns-in-Ready
-returns-in-Ready c = call-ready c.enter.ensures nothing nothing _ c.in-Ready.is c.recycle-done.ensures c.from-in-Ready.ensures
+pub returns-in-Ok : goal.returns-in-Ok
+returns-in-Ok c = call-ready c.enter.ensures nothing nothing _ c.in-Ok.is c.recycle-done.ensures c.from-in-Ok.ensures

@@ -5,10 +5,10 @@ use Rattle.object_door.proofs.Objects.{take-refused, take-ready}
 use Rattle.object_door.proofs.yexwalu_take.Goals as goal
 
 pub take-done-requires : goal.take-done-requires
-take-done-requires c = (entered ((lent c.args.heap c.args.narrow.now c.args.wide.now c.args.pool.now)) c.enter.ensures c.in-Ready.is)
+take-done-requires c = (entered ((lent c.args.heap c.args.narrow.now c.args.wide.now c.args.pool.now)) c.enter.ensures c.in-Ok.is)
 
-pub returns-in-Not : goal.returns-in-Not
-returns-in-Not c = take-refused c.enter.ensures c.args.handle c.args.out.now c.in-Not.is c.from.ensures
+pub returns-in-Err : goal.returns-in-Err
+returns-in-Err c = take-refused c.enter.ensures c.args.handle c.args.out.now c.in-Err.is c.from.ensures
 
-pub returns-in-Ready : goal.returns-in-Ready
-returns-in-Ready c = take-ready c.enter.ensures c.args.handle c.args.out.now c.in-Ready.is c.take-done.ensures c.from-in-Ready.ensures
+pub returns-in-Ok : goal.returns-in-Ok
+returns-in-Ok c = take-ready c.enter.ensures c.args.handle c.args.out.now c.in-Ok.is c.take-done.ensures c.from-in-Ok.ensures

@@ -5,6 +5,9 @@ use Rattle.heap.specs.Lent.{lent}
 use Rattle.rehearsal_store.proofs.Stored.{store-unresolved, store-refused, store-done}
 use Rattle.rehearsal_store.proofs.store_into.Goals as goal
 
+pub invariant_of-view : goal.invariant_of-view
+invariant_of-view c = record { formed = c.requires.pool_value }
+
 pub returns-in-Err : goal.returns-in-Err
 returns-in-Err c = store-unresolved ((lent c.args.heap c.args.narrow.now c.args.wide.now c.args.pool.now)) c.requires.pool_value c.requires.whole _ _ _ c.resolve.result (ap is_err c.in-Err.is) c.resolve.ensures
 

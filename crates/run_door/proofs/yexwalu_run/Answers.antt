@@ -9,10 +9,10 @@ use Rattle.run_door.proofs.Admitting.{run-ready, run-done}
 use Rattle.run_door.proofs.yexwalu_run.Goals as goal
 
 pub run_lines-done-requires : goal.run_lines-done-requires
-run_lines-done-requires c = run-ready _ _ _ ((lent c.args.heap c.args.narrow.now c.args.wide.now c.args.pool.now)) _ c.admit.ensures c.in-Ready.is c.admit.auto.room
+run_lines-done-requires c = run-ready _ _ _ ((lent c.args.heap c.args.narrow.now c.args.wide.now c.args.pool.now)) _ c.admit.ensures c.in-Ok.is c.admit.auto.room
 
-pub returns-in-Not : goal.returns-in-Not
-returns-in-Not c = call-refused c.admit.ensures nothing nothing _ c.in-Not.is c.from.ensures
+pub returns-in-Err : goal.returns-in-Err
+returns-in-Err c = call-refused c.admit.ensures nothing nothing _ c.in-Err.is c.from.ensures
 
-pub returns-in-Ready : goal.returns-in-Ready
-returns-in-Ready c = run-done _ _ _ ((lent c.args.heap c.args.narrow.now c.args.wide.now c.args.pool.now)) _ c.admit.ensures c.in-Ready.is c.run_lines-done.ensures c.from-in-Ready.ensures ((c.fill.ensures.after (λ y e. e)) ∙ ap (λ (n : ℕ). replicate n 0) (c.run_lines-done.auto.room ∙ c.admit.auto.room))
+pub returns-in-Ok : goal.returns-in-Ok
+returns-in-Ok c = run-done _ _ _ ((lent c.args.heap c.args.narrow.now c.args.wide.now c.args.pool.now)) _ c.admit.ensures c.in-Ok.is c.run_lines-done.ensures c.from-in-Ok.ensures ((c.fill.ensures.after (λ y e. e)) ∙ ap (λ (n : ℕ). replicate n 0) (c.run_lines-done.auto.room ∙ c.admit.auto.room))

@@ -8,8 +8,8 @@ returns-then-not-is_enough c = search first_short
 pub returns-then-not-is_enough-2 : goal.returns-then-not-is_enough-2
 returns-then-not-is_enough-2 c = search other-short
 
-pub returns-in-Not : goal.returns-in-Not
-returns-in-Not c = let marks = c.fill.ensures.after (λ y e. e) in let work = c.fill-in-Not.ensures.after (λ y e. e) in search first-broken
+pub returns-in-Err : goal.returns-in-Err
+returns-in-Err c = let marks = c.fill.ensures.after (λ y e. e) in let work = c.fill-in-Err.ensures.after (λ y e. e) in search first-broken
 
-pub returns-in-Ready : goal.returns-in-Ready
-returns-in-Ready c = search both-entered
+pub returns-in-Ok : goal.returns-in-Ok
+returns-in-Ok c = search both-entered

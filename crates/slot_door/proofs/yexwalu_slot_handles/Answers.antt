@@ -4,10 +4,10 @@ use Rattle.slot_door.proofs.SlotCalls.{slot-refused, slot-done, slot-formed}
 use Rattle.slot_door.proofs.yexwalu_slot_handles.Goals as goal
 
 pub list_slot-requires : goal.list_slot-requires
-list_slot-requires c = slot-formed (lent c.args.heap c.args.narrow.now c.args.wide.now c.args.pool.now) c.args.types.now c.args.fields.now c.args.consts.now c.args.bytes.now c.admit.ensures c.args.slot c.args.out.now c.in-Ready.is
+list_slot-requires c = slot-formed (lent c.args.heap c.args.narrow.now c.args.wide.now c.args.pool.now) c.args.types.now c.args.fields.now c.args.consts.now c.args.bytes.now c.admit.ensures c.args.slot c.args.out.now c.in-Ok.is
 
-pub returns-in-Not : goal.returns-in-Not
-returns-in-Not c = let p = slot-refused (lent c.args.heap c.args.narrow.now c.args.wide.now c.args.pool.now) c.args.types.now c.args.fields.now c.args.consts.now c.args.bytes.now c.admit.ensures c.args.slot c.args.out.now c.in-Not.is c.from.ensures in record { work_after = p.0; out_after = p.1 }
+pub returns-in-Err : goal.returns-in-Err
+returns-in-Err c = let p = slot-refused (lent c.args.heap c.args.narrow.now c.args.wide.now c.args.pool.now) c.args.types.now c.args.fields.now c.args.consts.now c.args.bytes.now c.admit.ensures c.args.slot c.args.out.now c.in-Err.is c.from.ensures in record { work_after = p.0; out_after = p.1 }
 
-pub returns-in-Ready : goal.returns-in-Ready
-returns-in-Ready c = let p = slot-done (lent c.args.heap c.args.narrow.now c.args.wide.now c.args.pool.now) c.args.types.now c.args.fields.now c.args.consts.now c.args.bytes.now c.admit.ensures c.args.slot c.args.out.now c.in-Ready.is c.list_slot.ensures c.from-in-Ready.ensures in record { work_after = p.0; out_after = p.1 }
+pub returns-in-Ok : goal.returns-in-Ok
+returns-in-Ok c = let p = slot-done (lent c.args.heap c.args.narrow.now c.args.wide.now c.args.pool.now) c.args.types.now c.args.fields.now c.args.consts.now c.args.bytes.now c.admit.ensures c.args.slot c.args.out.now c.in-Ok.is c.list_slot.ensures c.from-in-Ok.ensures in record { work_after = p.0; out_after = p.1 }

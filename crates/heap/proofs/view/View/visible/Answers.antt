@@ -1,0 +1,58 @@
+-- `View::visible` meets its contract.
+use Rattle.std.proofs.Common.{◌<◌, ◌∙◌, arith}
+use Rattle.heap.specs.Lent.{lent, view}
+use Rattle.heap.proofs.Columns.{Sizes, Reads, sizes, reads}
+use Rattle.heap.proofs.Questions.{none-beyond, lifeless, alive, seen_none, seen-hidden, seen-shown}
+use Rattle.heap.proofs.view.View.visible.Goals as goal
+use Rattle.heap.proofs.view.View.visible.Goals.{Start}
+
+K : (c : Start) → Sizes c.args.self.heap c.args.self.narrow.now c.args.self.wide.now c.args.self.pool.now
+K c = sizes c.args.self.heap c.args.self.narrow.now c.args.self.wide.now c.args.self.pool.now c.args.self.formed
+
+R : (c : Start) → c.args.i < c.args.self.heap.slots → Reads c.args.self.heap c.args.self.narrow.now c.args.self.wide.now c.args.self.pool.now c.args.i
+R c b = reads c.args.self.heap c.args.self.narrow.now c.args.self.wide.now c.args.self.pool.now c.args.self.formed c.args.i b
+
+pub returns-then-heap-i : goal.returns-then-heap-i
+returns-then-heap-i c = seen_none (view ((lent c.args.self.heap c.args.self.narrow.now c.args.self.wide.now c.args.self.pool.now))) _ (none-beyond ((lent c.args.self.heap c.args.self.narrow.now c.args.self.wide.now c.args.self.pool.now)) c.args.self.formed _ c.if-heap-i.true)
+
+pub overflow_add-s : goal.overflow_add-s
+overflow_add-s c = omega (arith, K (goal.at.overflow_add-s c).Start)
+
+pub offset_bounds-narrow-s : goal.offset_bounds-narrow-s
+offset_bounds-narrow-s c = omega (arith, K (goal.at.offset_bounds-narrow-s c).Start)
+
+pub bounds-narrow-s : goal.bounds-narrow-s
+bounds-narrow-s c = omega (arith, K (goal.at.bounds-narrow-s c).Start)
+
+pub returns-then-narrow-s-eq0 : goal.returns-then-narrow-s-eq0
+returns-then-narrow-s-eq0 c = seen_none (view ((lent c.args.self.heap c.args.self.narrow.now c.args.self.wide.now c.args.self.pool.now))) _ (lifeless (view ((lent c.args.self.heap c.args.self.narrow.now c.args.self.wide.now c.args.self.pool.now))) _ (R (goal.at.returns-then-narrow-s-eq0 c).Start (omega arith)).kind c.if-narrow-s-eq0.true)
+
+pub start_of-from-requires : goal.start_of-from-requires
+start_of-from-requires c = omega (arith, K (goal.at.start_of-from-requires c).Start)
+
+pub overflow_add-size : goal.overflow_add-size
+overflow_add-size c = omega (arith, K (goal.at.overflow_add-size c).Start)
+
+pub offset_bounds-wide-s : goal.offset_bounds-wide-s
+offset_bounds-wide-s c = omega (arith, K (goal.at.offset_bounds-wide-s c).Start)
+
+pub bounds-wide-s : goal.bounds-wide-s
+bounds-wide-s c = omega (arith, K (goal.at.bounds-wide-s c).Start)
+
+pub overflow_sub-size : goal.overflow_sub-size
+overflow_sub-size c = omega (arith, c.start_of-from.ensures, R (goal.at.overflow_sub-size c).Start (omega arith))
+
+pub offset_bounds-wide-i : goal.offset_bounds-wide-i
+offset_bounds-wide-i c = omega (arith, K (goal.at.offset_bounds-wide-i c).Start)
+
+pub bounds-wide-i : goal.bounds-wide-i
+bounds-wide-i c = omega (arith, K (goal.at.bounds-wide-i c).Start)
+
+pub returns-then-size-first : goal.returns-then-size-first
+returns-then-size-first c = let b = R (goal.at.returns-then-size-first c).Start (omega arith) in seen-hidden (view ((lent c.args.self.heap c.args.self.narrow.now c.args.self.wide.now c.args.self.pool.now))) _ c.if-size-first.true (alive (view ((lent c.args.self.heap c.args.self.narrow.now c.args.self.wide.now c.args.self.pool.now))) _ b.kind c.if-narrow-s-eq0.false) b.start (omega (arith, c.start_of-from.ensures, b))
+
+pub overflow_add-result : goal.overflow_add-result
+overflow_add-result c = omega (arith, c.start_of-from.ensures, c.if-size-first.false, K (goal.at.overflow_add-result c).Start, R (goal.at.overflow_add-result c).Start (omega arith))
+
+pub returns : goal.returns
+returns c = let b = R (goal.at.returns c).Start (omega arith) in seen-shown (view ((lent c.args.self.heap c.args.self.narrow.now c.args.self.wide.now c.args.self.pool.now))) _ c.if-size-first.false (alive (view ((lent c.args.self.heap c.args.self.narrow.now c.args.self.wide.now c.args.self.pool.now))) _ b.kind c.if-narrow-s-eq0.false) b.start (omega (arith, c.start_of-from.ensures, b)) (c.start_of-from.ensures ∙ b.from)
