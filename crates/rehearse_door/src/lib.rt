@@ -55,7 +55,14 @@ fn admit(
     if heap::sizes_fit(narrow.len(), wide.len(), pool.len()) {} else {
         return Err(Refusal::BrokenHeap);
     }
-    if (Table { types, fields, consts, bytes }).check_table() {} else {
+    if (Table {
+        types,
+        fields,
+        consts,
+        bytes,
+    })
+    .check_table()
+    {} else {
         return Err(Refusal::TypeTable);
     }
     if out.len() / 80 < thresholds.len() {
