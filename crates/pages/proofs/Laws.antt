@@ -1,5 +1,5 @@
 -- The laws of the page.
-use Prim.Native.Nat.{ℕ, ◌+◌, ◌-◌, ◌^◌, ◌≤◌, ◌<◌}
+use Prim.Native.Nat.{ℕ, ◌^◌, ◌≤◌, ◌<◌}
 use mathlib.Core.Bool.{Bool, true, false, not}
 use mathlib.Core.List.{List, [], ◌∷◌, ◌++◌, append_assoc, append-nil, map, flat_map}
 use mathlib.Core.Option.{none, some}
@@ -13,9 +13,8 @@ use Rattle.text.proofs.Laws.{none-not-some, bind-some, some_inj, number-right, b
 use Rattle.heap.specs.State.{Slot, State, slot_at, worn}
 use Rattle.std.specs.Prelude.{if◌then◌else◌}
 use Rattle.word.specs.Lists.{filter}
-use Rattle.planes.specs.Planes.{planes, restored}
 use Rattle.planes.proofs.Laws.{bytes-planes, bytes-restored, restored-planes, planes-restored}
-use Rattle.pages.specs.Form.{Form, form_of, written, writes_width, column, from_column, heap_front, retired_too, no_retired, heap_names, slot_front, wide_writes, narrow_writes, planes_name, data_name, slot_names, slot_named, names, free_name, quarantine_name, sealed_name, retired_name}
+use Rattle.pages.specs.Form.{Form, form_of, written, writes_width, heap_front, retired_too, no_retired, heap_names, slot_front, wide_writes, narrow_writes, planes_name, data_name, slot_names, slot_named, names, free_name, quarantine_name, sealed_name, retired_name}
 use Rattle.pages.specs.Page.{slot_line, value_line, numbers_line, heap_line, retired_part, page_text, SlotWithin, RetiredWithin, Within, Unsaved, Fields, slot_of, fields_of, slot_format, with_bytes, in_column, out_of_column, slots_format, Counts, Head, sealed_end, retired_count, head_format, retired_format, Body, body_format, Parts, page_format, state_of, read_of, counts_of, head_of, body_of, saved, whole, read_page, moved}
 
 no-comma : digit_of comma ≡ none

@@ -1,6 +1,6 @@
 -- The heap that a page without `retired` brings is sound exactly if what the page says was well formed before request [7]: its worn-out free slots are moved first, and the heap is judged
 -- afterwards. Assumes nothing.
-use Prim.Native.Nat.{ℕ, ◌+◌}
+use Prim.Native.Nat.{ℕ}
 use mathlib.Core.Bool.{Bool, true, false, not, ◌&&◌}
 use mathlib.Core.List.{List, [], ◌∷◌, ◌++◌}
 use mathlib.Core.Path.{◌≡◌, refl, sym, ap, ◌∙◌}
@@ -8,11 +8,11 @@ use native.Mathlib.Omega.{arith}
 use lib.ListN.{length}
 use lib.Dec.{eqb, ltb}
 use Rattle.std.specs.Prelude.{if◌then◌else◌}
-use Rattle.word.specs.Lists.{all, all_below, filter}
+use Rattle.word.specs.Lists.{all, filter}
 use Rattle.word.proofs.Bools.{and-true, and-false}
 use Rattle.word.proofs.ListLaws.{all_append, below-same}
-use Rattle.heap.specs.State.{State, slot_at, worn, times}
-use Rattle.heap.specs.WellFormed.{sound_slot, places, partitioned, retired_rightly, sound_seals, sound_reclaim, sound}
+use Rattle.heap.specs.State.{State, slot_at, worn}
+use Rattle.heap.specs.WellFormed.{sound_slot, places, partitioned, retired_rightly, sound}
 use Rattle.heap.proofs.Counting.{times-append}
 use Rattle.heap.proofs.Recycled.{times-filter}
 use Rattle.pages.specs.Page.{moved, sound_before}

@@ -14,7 +14,7 @@ use Rattle.heap.proofs.Sound.{WellFormed}
 use Rattle.heap.proofs.Testing.{formed-tested}
 use Rattle.heap.proofs.Counting.{all_slots}
 use Rattle.heap.proofs.Seals.{seals-few}
-use Rattle.heap.proofs.Packing.{length-pad, length-ends, flat-split, start-of, end_of}
+use Rattle.heap.proofs.Packing.{flat-split, start-of, end_of}
 use Rattle.pages.specs.Columns.{Ready}
 
 -- the data of the slots lies in order, inside the pool

@@ -1,15 +1,15 @@
 -- What the writer's loops add line by line.
-use Prim.Native.Nat.{ℕ, zero, suc, ◌+◌, ◌-◌, ◌*◌, ◌≤◌, ◌<◌}
+use Prim.Native.Nat.{ℕ, zero, suc, ◌+◌, ◌*◌, ◌≤◌, ◌<◌}
 use mathlib.Core.List.{List, [], ◌∷◌, ◌++◌, append_assoc, append-nil, flat_map}
 use mathlib.Core.Bool.{Bool, true, false}
 use mathlib.Core.Path.{◌≡◌, refl, sym, ap, ◌∙◌}
-use lib.ListN.{length, take, drop, get_or, set, length-append}
+use lib.ListN.{length, take, get_or, set, length-append}
 use lib.Seq.{take-suc, take_all}
 use native.Mathlib.Omega.{arith}
 use native.Mathlib.Numerals.{add-one}
 use Rattle.text.specs.Text.{decimal, hex, line}
 use Rattle.word.proofs.ListLaws.{length-tabulate, get_d_tabulate}
-use Rattle.text.specs.Put.{put_text, Puts}
+use Rattle.text.specs.Put.{Puts}
 use Rattle.text.proofs.Laws.{hex-length}
 use Rattle.text.proofs.Putting.{puts-puts, puts-byte, puts-length, puts-at}
 use Rattle.heap.specs.State.{Slot}
@@ -210,3 +210,7 @@ module _ (t s r l n f q z : ℕ) where
 
     pub puts-line-of-numbers : {a b c : List ℕ} {at j k : ℕ} → Puts a b at j (head_fields t s r l n f q z) → Puts b c j k (field w 10) → at ≤ length a → Puts a c at k (numbers_line true t s r l n f q z w)
     puts-line-of-numbers p p' h = puts-at (puts-puts p p' h) refl line-parts
+
+-- the line of a listed value, as the code has read it
+pub listed-line : {A : Type 0} (number : A → ℕ) (l : List A) (i : ℕ) (x : A) (n : ℕ) → x ≡ get_or l i x → n ≡ number x → value_line n ≡ value_line (number (get_or l i x))
+listed-line number l i x n e f = ap value_line (f ∙ ap number e)

@@ -17,29 +17,39 @@ ghost use Rattle.pages.specs.Answer.{PageWritten};
 use heap::Heap;
 use refusal::{Refusal, Reply};
 
-// How long the first `count` values of a list are, one a line.
-fn indices_len(list: &[u32], count: usize) -> usize
-    requires { (count ≤ length list.now) × (count ≤ 16777216) }
-    ensures value { result ≡ length (flat_map value_line (take count list.now)) }
-    ensures upper_bound { result ≤ 11 * count }
-{
-    let mut n = 0;
-    for i in 0..count {
-        let d = text::decimal_len(u64::from(list[i]));
-        n = n + d + 1;
-    }
-    n
+// What stands in a list of a page, and is written as a number: a slot index, or a handle.
+pub trait Listed: Copy {
+    ghost number: { Self → ℕ };
+
+    fn number(self) -> u64
+        ensures { result ≡ number self };
 }
 
-fn handles_len(list: &[u64], count: usize) -> usize
+impl Listed for u32 {
+    ghost number = { λ x. x };
+
+    fn number(self) -> u64 {
+        u64::from(self)
+    }
+}
+
+impl Listed for u64 {
+    ghost number = { λ x. x };
+
+    fn number(self) -> u64 {
+        self
+    }
+}
+
+// How long the first `count` values of a list are, one a line.
+fn values_len<T: Listed>(list: &[T], count: usize) -> usize
     requires { (count ≤ length list.now) × (count ≤ 16777216) }
-    ensures value { result ≡ length (flat_map value_line (take count list.now)) }
+    ensures value { result ≡ length (flat_map (λ x. value_line (T.number x)) (take count list.now)) }
     ensures upper_bound { result ≤ 21 * count }
 {
     let mut n = 0;
     for i in 0..count {
-        let d = text::decimal_len(list[i]);
-        n = n + d + 1;
+        n += text::decimal_len(list[i].number()) + 1;
     }
     n
 }
@@ -54,26 +64,15 @@ pub fn put_number(out: &mut [u8], at: usize, n: u64, end: u8) -> usize
     k + 1
 }
 
-fn put_indices(out: &mut [u8], at: usize, list: &[u32], count: usize) -> usize
+// Puts the first `count` values of a list from `at` on, one a line.
+fn put_values<T: Listed>(out: &mut [u8], at: usize, list: &[T], count: usize) -> usize
     requires count_in_bounds { count ≤ length list.now }
-    requires list_in_bounds { at + length (flat_map value_line (take count list.now)) ≤ length out.old }
-    ensures { Puts out.old out.new at result (flat_map value_line (take count list.now)) }
+    requires list_in_bounds { at + length (flat_map (λ x. value_line (T.number x)) (take count list.now)) ≤ length out.old }
+    ensures { Puts out.old out.new at result (flat_map (λ x. value_line (T.number x)) (take count list.now)) }
 {
     let mut k = at;
     for i in 0..count {
-        k = put_number(out, k, u64::from(list[i]), b'\n');
-    }
-    k
-}
-
-fn put_handles(out: &mut [u8], at: usize, list: &[u64], count: usize) -> usize
-    requires count_in_bounds { count ≤ length list.now }
-    requires list_in_bounds { at + length (flat_map value_line (take count list.now)) ≤ length out.old }
-    ensures { Puts out.old out.new at result (flat_map value_line (take count list.now)) }
-{
-    let mut k = at;
-    for i in 0..count {
-        k = put_number(out, k, list[i], b'\n');
+        k = put_number(out, k, list[i].number(), b'\n');
     }
     k
 }
@@ -245,22 +244,13 @@ fn put_head(out: &mut [u8], at: usize, h: Heap) -> usize
 }
 
 // Puts a name and then the first `count` values of a list.
-fn put_indices_after(out: &mut [u8], at: usize, name: &[u8], list: &[u32], count: usize) -> usize
+fn put_list<T: Listed>(out: &mut [u8], at: usize, name: &[u8], list: &[T], count: usize) -> usize
     requires count_in_bounds { count ≤ length list.now }
-    requires list_in_bounds { at + length (name.now ++ flat_map value_line (take count list.now)) ≤ length out.old }
-    ensures { Puts out.old out.new at result (name.now ++ flat_map value_line (take count list.now)) }
+    requires list_in_bounds { at + length (name.now ++ flat_map (λ x. value_line (T.number x)) (take count list.now)) ≤ length out.old }
+    ensures { Puts out.old out.new at result (name.now ++ flat_map (λ x. value_line (T.number x)) (take count list.now)) }
 {
     let k = text::put_literal(out, at, name);
-    put_indices(out, k, list, count)
-}
-
-fn put_handles_after(out: &mut [u8], at: usize, name: &[u8], list: &[u64], count: usize) -> usize
-    requires count_in_bounds { count ≤ length list.now }
-    requires list_in_bounds { at + length (name.now ++ flat_map value_line (take count list.now)) ≤ length out.old }
-    ensures { Puts out.old out.new at result (name.now ++ flat_map value_line (take count list.now)) }
-{
-    let k = text::put_literal(out, at, name);
-    put_handles(out, k, list, count)
+    put_values(out, k, list, count)
 }
 
 // Puts the names line of the slots from `at` on.
@@ -295,10 +285,10 @@ fn page_len(heap: Heap, narrow: &[u32], wide: &[u64], pool: &[u8], planar: bool)
     let six = 6 * s;
     let a = head_len(heap);
     let b = slots_len(heap, narrow, wide, pool);
-    let c = indices_len(&narrow[three..four], heap.free);
-    let d = indices_len(&narrow[four..five], heap.quarantine);
-    let e = handles_len(&wide[three..four], heap.sealed);
-    let f = indices_len(&narrow[five..six], heap.retired);
+    let c = values_len(&narrow[three..four], heap.free);
+    let d = values_len(&narrow[four..five], heap.quarantine);
+    let e = values_len(&wide[three..four], heap.sealed);
+    let f = values_len(&narrow[five..six], heap.retired);
     let g = names_len(planar);
     g + a + b + c + d + e + f
 }
@@ -341,15 +331,15 @@ pub fn write(
     let four = 4 * s;
     let five = 5 * s;
     let six = 6 * s;
-    let e = put_indices_after(out, d, b"free\n", &narrow[three..four], heap.free);
-    let f = put_indices_after(
+    let e = put_list(out, d, b"free\n", &narrow[three..four], heap.free);
+    let f = put_list(
         out,
         e,
         b"quarantine\n",
         &narrow[four..five],
         heap.quarantine,
     );
-    let g = put_handles_after(out, f, b"sealed\n", &wide[three..four], heap.sealed);
-    let k = put_indices_after(out, g, b"retired\n", &narrow[five..six], heap.retired);
+    let g = put_list(out, f, b"sealed\n", &wide[three..four], heap.sealed);
+    let k = put_list(out, g, b"retired\n", &narrow[five..six], heap.retired);
     Ok((k as u64, 0))
 }

@@ -11,32 +11,19 @@ ghost use Rattle.tables.specs.Answer.{names_at, RowsReady};
 ghost use Rattle.table_writer.specs.Parts.{NamesGot, named, rest_length, Ready};
 ghost use Rattle.table_writer.specs.Writing.{table_in, TableWritten};
 
+use pages::Listed;
 use refusal::{Refusal, Reply};
 use ty::Table;
 
-// How many bytes numbers take, each with a comma after it.
-fn numbers_len(list: &[u64]) -> usize
+// How many bytes the values of a list take as numbers, each with a comma after it.
+fn numbers_len<T: Listed>(list: &[T]) -> usize
     requires { length list.now ≤ 32768 }
-    ensures value { result ≡ length (flat_map field list.now) }
+    ensures value { result ≡ length (flat_map (λ x. field (T.number x)) list.now) }
     ensures upper_bound { result ≤ 21 * length list.now }
 {
     let mut n = 0;
     for i in 0..list.len() {
-        let d = text::decimal_len(list[i]);
-        n = n + d + 1;
-    }
-    n
-}
-
-fn halves_len(list: &[u32]) -> usize
-    requires { length list.now ≤ 32768 }
-    ensures value { result ≡ length (flat_map field list.now) }
-    ensures upper_bound { result ≤ 21 * length list.now }
-{
-    let mut n = 0;
-    for i in 0..list.len() {
-        let d = text::decimal_len(u64::from(list[i]));
-        n = n + d + 1;
+        n += text::decimal_len(list[i].number()) + 1;
     }
     n
 }
@@ -47,7 +34,7 @@ fn put_number(out: &mut [u8], at: usize, n: u64) -> usize
     ensures { Puts out.old out.new at result (field n) }
 {
     let k = text::put_decimal(out, at, n);
-    out[k] = 44;
+    out[k] = b',';
     k + 1
 }
 
@@ -160,7 +147,7 @@ fn rest_len(types: &[u64], fields: &[u32], consts: &[u64]) -> usize
 {
     let x = counts_len(types.len() / 4, fields.len() / 2, consts.len() / 3);
     let t = numbers_len(types);
-    let f = halves_len(fields);
+    let f = numbers_len(fields);
     let c = numbers_len(consts);
     90 + x + t + f + c
 }

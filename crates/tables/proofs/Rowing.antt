@@ -40,29 +40,37 @@ puts-field {a} {b} {at} {k} n p h =
 pub digits-most : (x d : ℕ) → d ≡ length (decimal x) → x < 18446744073709551616 → d ≤ 20
 digits-most x d e h = omega (arith, e, decimal-length 19 x (omega arith))
 
--- the bytes of the first i numbers
-pub record Measured (list : List ℕ) (n i : ℕ) : Type 0 where
+-- the bytes of the first i values of a list, each written as a number
+pub record Measured {A : Type 0} (number : A → ℕ) (list : List A) (n i : ℕ) : Type 0 where
   pub low : i ≤ length list
   pub small : length list ≤ 32768
-  pub sum : n ≡ length (flat_map field (take i list))
+  pub sum : n ≡ length (flat_map (λ x. field (number x)) (take i list))
   pub most : n ≤ 21 * i
 
-pub measured-begin : (list : List ℕ) → length list ≤ 32768 → Measured list 0 0
+pub measured-begin : {A : Type 0} (number : A → ℕ) (list : List A) → length list ≤ 32768 → Measured number list 0 0
 unfolding flat_map
-measured-begin list h = record { low = omega arith; small = h; sum = refl; most = omega arith }
+measured-begin number list h = record { low = omega arith; small = h; sum = refl; most = omega arith }
 
-pub measured-next : (list : List ℕ) (n i d : ℕ) → Measured list n i → i < length list → d ≡ length (decimal (get_or list i 0)) → get_or list i 0 < 18446744073709551616 →
-    Measured list (n + d + 1) (i + 1)
-measured-next list n i d m h e b = record {
+pub measured-next : {A : Type 0} (number : A → ℕ) (list : List A) (n i d v : ℕ) (x : A) → Measured number list n i → i < length list → x ≡ get_or list i x → v ≡ number x → d ≡ length (decimal v) →
+    v < 18446744073709551616 → Measured number list (n + (d + 1)) (i + 1)
+measured-next number list n i d v x m h e f g b = record {
   low = omega arith;
   small = m.small;
-  sum = omega (arith, m.sum, e, field-length (get_or list i 0), flat-more-length field list i 0 h);
-  most = omega (arith, m.most, digits-most (get_or list i 0) d e b);
+  sum =
+      omega (
+        arith,
+        m.sum,
+        g,
+        field-length v,
+        ap (λ (w : ℕ). length (field w)) (f ∙ ap number e),
+        flat-more-length (λ y. field (number y)) list i x h,
+      );
+  most = omega (arith, m.most, digits-most v d g b);
 }
 
-pub measured-end : (list : List ℕ) (n i : ℕ) → Measured list n i → length list ≤ i → (n ≡ length (flat_map field list)) × (n ≤ 21 * length list)
-measured-end list n i m h =
-    (m.sum ∙ ap (λ (l : List ℕ). length (flat_map field l)) (take_all i list h), omega (arith, m.most, m.low))
+pub measured-end : {A : Type 0} (number : A → ℕ) (list : List A) (n i : ℕ) → Measured number list n i → length list ≤ i → (n ≡ length (flat_map (λ x. field (number x)) list)) × (n ≤ 21 * length list)
+measured-end {A} number list n i m h =
+    (m.sum ∙ ap (λ (l : List A). length (flat_map (λ x. field (number x)) l)) (take_all i list h), omega (arith, m.most, m.low))
 
 -- NUMBERS PUT
 

@@ -1,4 +1,3 @@
-use Prim.Native.Nat.{◌-◌}
 use Rattle.heap.specs.Lent.{lent}
 use Rattle.pages.proofs.Slots.{Putting}
 use Rattle.pages.proofs.put_slots.Given as goal

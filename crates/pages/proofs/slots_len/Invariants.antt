@@ -1,4 +1,3 @@
-use Prim.Native.Nat.{◌-◌}
 use Rattle.heap.specs.Lent.{lent}
 use Rattle.pages.proofs.Slots.{Summed}
 use Rattle.pages.proofs.slots_len.Given as goal

@@ -35,37 +35,37 @@ put_slots-d-requires c = record { ready = ready c.requires; narrow_in_bounds = w
 pub offset_bounds-narrow-three : goal.offset_bounds-narrow-three
 offset_bounds-narrow-three c = omega (arith, (formed-tested _ c.requires).sound.slot-range.1)
 
-pub put_indices_after-e-requires : goal.put_indices_after-e-requires
+pub put_list-e-requires : goal.put_list-e-requires
 unfolding heap_names heap_front retired_too free_name quarantine_name sealed_name retired_name ascii
-put_indices_after-e-requires c = record { count_in_bounds = free_in c.args.heap c.args.narrow.now c.args.wide.now c.args.pool.now (ready c.requires); list_in_bounds = omega (arith, page-size c.args.heap c.args.narrow.now c.args.wide.now c.args.pool.now (ready c.requires) c.args.planar, c.page_len-n.ensures, c.if-out-n.false, c.put_literal-a.ensures.next, c.put_literal-a.auto.out, c.put_head-b.ensures.next, c.put_head-b.auto.out, c.put_slot_names-c.ensures.next, c.put_slot_names-c.auto.out, c.put_slots-d.ensures.next, c.put_slots-d.auto.out) }
+put_list-e-requires c = record { count_in_bounds = free_in c.args.heap c.args.narrow.now c.args.wide.now c.args.pool.now (ready c.requires); list_in_bounds = omega (arith, page-size c.args.heap c.args.narrow.now c.args.wide.now c.args.pool.now (ready c.requires) c.args.planar, c.page_len-n.ensures, c.if-out-n.false, c.put_literal-a.ensures.next, c.put_literal-a.auto.out, c.put_head-b.ensures.next, c.put_head-b.auto.out, c.put_slot_names-c.ensures.next, c.put_slot_names-c.auto.out, c.put_slots-d.ensures.next, c.put_slots-d.auto.out) }
 
 pub offset_bounds-narrow-four : goal.offset_bounds-narrow-four
 offset_bounds-narrow-four c = omega (arith, (formed-tested _ c.requires).sound.slot-range.1)
 
-pub put_indices_after-f-requires : goal.put_indices_after-f-requires
+pub put_list-f-requires : goal.put_list-f-requires
 unfolding heap_names heap_front retired_too free_name quarantine_name sealed_name retired_name ascii
-put_indices_after-f-requires c = record { count_in_bounds = quarantine-in c.args.heap c.args.narrow.now c.args.wide.now c.args.pool.now (ready c.requires); list_in_bounds = omega (arith, page-size c.args.heap c.args.narrow.now c.args.wide.now c.args.pool.now (ready c.requires) c.args.planar, c.page_len-n.ensures, c.if-out-n.false, c.put_literal-a.ensures.next, c.put_literal-a.auto.out, c.put_head-b.ensures.next, c.put_head-b.auto.out, c.put_slot_names-c.ensures.next, c.put_slot_names-c.auto.out, c.put_slots-d.ensures.next, c.put_slots-d.auto.out, c.put_indices_after-e.ensures.next, c.put_indices_after-e.auto.out) }
+put_list-f-requires c = record { count_in_bounds = quarantine-in c.args.heap c.args.narrow.now c.args.wide.now c.args.pool.now (ready c.requires); list_in_bounds = omega (arith, page-size c.args.heap c.args.narrow.now c.args.wide.now c.args.pool.now (ready c.requires) c.args.planar, c.page_len-n.ensures, c.if-out-n.false, c.put_literal-a.ensures.next, c.put_literal-a.auto.out, c.put_head-b.ensures.next, c.put_head-b.auto.out, c.put_slot_names-c.ensures.next, c.put_slot_names-c.auto.out, c.put_slots-d.ensures.next, c.put_slots-d.auto.out, c.put_list-e.ensures.next, c.put_list-e.auto.out) }
 
 pub offset_bounds-wide-three : goal.offset_bounds-wide-three
 offset_bounds-wide-three c = omega (arith, (formed-tested _ c.requires).sound.slot-range.1)
 
-pub slice_bounds-put_handles_after-end-2 : goal.slice_bounds-put_handles_after-end-2
-slice_bounds-put_handles_after-end-2 c = omega (arith, wide_room c.args.heap c.args.narrow.now c.args.wide.now c.args.pool.now (formed-tested _ c.requires))
+pub slice_bounds-put_list-end-6 : goal.slice_bounds-put_list-end-6
+slice_bounds-put_list-end-6 c = omega (arith, wide_room c.args.heap c.args.narrow.now c.args.wide.now c.args.pool.now (formed-tested _ c.requires))
 
-pub put_handles_after-g-requires : goal.put_handles_after-g-requires
+pub put_list-g-requires : goal.put_list-g-requires
 unfolding heap_names heap_front retired_too free_name quarantine_name sealed_name retired_name ascii
-put_handles_after-g-requires c = record { count_in_bounds = sealed-in c.args.heap c.args.narrow.now c.args.wide.now c.args.pool.now (ready c.requires); list_in_bounds = omega (arith, page-size c.args.heap c.args.narrow.now c.args.wide.now c.args.pool.now (ready c.requires) c.args.planar, c.page_len-n.ensures, c.if-out-n.false, c.put_literal-a.ensures.next, c.put_literal-a.auto.out, c.put_head-b.ensures.next, c.put_head-b.auto.out, c.put_slot_names-c.ensures.next, c.put_slot_names-c.auto.out, c.put_slots-d.ensures.next, c.put_slots-d.auto.out, c.put_indices_after-e.ensures.next, c.put_indices_after-e.auto.out, c.put_indices_after-f.ensures.next, c.put_indices_after-f.auto.out) }
+put_list-g-requires c = record { count_in_bounds = sealed-in c.args.heap c.args.narrow.now c.args.wide.now c.args.pool.now (ready c.requires); list_in_bounds = omega (arith, page-size c.args.heap c.args.narrow.now c.args.wide.now c.args.pool.now (ready c.requires) c.args.planar, c.page_len-n.ensures, c.if-out-n.false, c.put_literal-a.ensures.next, c.put_literal-a.auto.out, c.put_head-b.ensures.next, c.put_head-b.auto.out, c.put_slot_names-c.ensures.next, c.put_slot_names-c.auto.out, c.put_slots-d.ensures.next, c.put_slots-d.auto.out, c.put_list-e.ensures.next, c.put_list-e.auto.out, c.put_list-f.ensures.next, c.put_list-f.auto.out) }
 
 pub offset_bounds-narrow-five : goal.offset_bounds-narrow-five
 offset_bounds-narrow-five c = omega (arith, (formed-tested _ c.requires).sound.slot-range.1)
 
-pub put_indices_after-k-requires : goal.put_indices_after-k-requires
+pub put_list-k-requires : goal.put_list-k-requires
 unfolding heap_names heap_front retired_too free_name quarantine_name sealed_name retired_name ascii
-put_indices_after-k-requires c = record { count_in_bounds = retired-in c.args.heap c.args.narrow.now c.args.wide.now c.args.pool.now (ready c.requires); list_in_bounds = omega (arith, page-size c.args.heap c.args.narrow.now c.args.wide.now c.args.pool.now (ready c.requires) c.args.planar, c.page_len-n.ensures, c.if-out-n.false, c.put_literal-a.ensures.next, c.put_literal-a.auto.out, c.put_head-b.ensures.next, c.put_head-b.auto.out, c.put_slot_names-c.ensures.next, c.put_slot_names-c.auto.out, c.put_slots-d.ensures.next, c.put_slots-d.auto.out, c.put_indices_after-e.ensures.next, c.put_indices_after-e.auto.out, c.put_indices_after-f.ensures.next, c.put_indices_after-f.auto.out, c.put_handles_after-g.ensures.next, c.put_handles_after-g.auto.out) }
+put_list-k-requires c = record { count_in_bounds = retired-in c.args.heap c.args.narrow.now c.args.wide.now c.args.pool.now (ready c.requires); list_in_bounds = omega (arith, page-size c.args.heap c.args.narrow.now c.args.wide.now c.args.pool.now (ready c.requires) c.args.planar, c.page_len-n.ensures, c.if-out-n.false, c.put_literal-a.ensures.next, c.put_literal-a.auto.out, c.put_head-b.ensures.next, c.put_head-b.auto.out, c.put_slot_names-c.ensures.next, c.put_slot_names-c.auto.out, c.put_slots-d.ensures.next, c.put_slots-d.auto.out, c.put_list-e.ensures.next, c.put_list-e.auto.out, c.put_list-f.ensures.next, c.put_list-f.auto.out, c.put_list-g.ensures.next, c.put_list-g.auto.out) }
 
 pub shape_of-out : goal.shape_of-out
-shape_of-out c = c.put_indices_after-k.auto.out ∙ c.put_handles_after-g.auto.out ∙ c.put_indices_after-f.auto.out ∙ c.put_indices_after-e.auto.out ∙ c.put_slots-d.auto.out ∙ c.put_slot_names-c.auto.out ∙ c.put_head-b.auto.out ∙ c.put_literal-a.auto.out
+shape_of-out c = c.put_list-k.auto.out ∙ c.put_list-g.auto.out ∙ c.put_list-f.auto.out ∙ c.put_list-e.auto.out ∙ c.put_slots-d.auto.out ∙ c.put_slot_names-c.auto.out ∙ c.put_head-b.auto.out ∙ c.put_literal-a.auto.out
 
 pub returns : goal.returns
 unfolding heap_names heap_front retired_too free_name quarantine_name sealed_name retired_name ascii
-returns c = wrote (puts-page c.args.heap c.args.narrow.now c.args.wide.now c.args.pool.now (ready c.requires) c.args.planar c.put_literal-a.ensures c.put_head-b.ensures c.put_slot_names-c.ensures c.put_slots-d.ensures c.put_indices_after-e.ensures c.put_indices_after-f.ensures c.put_handles_after-g.ensures c.put_indices_after-k.ensures (omega arith)) (omega (arith, c.page_len-n.ensures, c.if-out-n.false))
+returns c = wrote (puts-page c.args.heap c.args.narrow.now c.args.wide.now c.args.pool.now (ready c.requires) c.args.planar c.put_literal-a.ensures c.put_head-b.ensures c.put_slot_names-c.ensures c.put_slots-d.ensures c.put_list-e.ensures c.put_list-f.ensures c.put_list-g.ensures c.put_list-k.ensures (omega arith)) (omega (arith, c.page_len-n.ensures, c.if-out-n.false))

@@ -1,0 +1,10 @@
+use Rattle.pages.specs.Page.{value_line}
+use Rattle.text.specs.Put.{Puts}
+use lib.ListN.{length, take}
+use mathlib.Core.List.{flat_map}
+use mathlib.Core.Path.{◌≡◌}
+use Prim.Native.Nat.{◌≤◌}
+use Rattle.pages.proofs.put_values.Given as goal
+
+abbrev pub invariant-loop-i : goal.invariant-loop-i
+invariant-loop-i g l = (l.i ≤ l.count) × (length l.out ≡ length l.initial.out) × Puts l.initial.out l.out l.at l.k (flat_map (λ x. value_line (g.T.Listed.number x)) (take l.i l.list))
