@@ -114,8 +114,7 @@ fn trace_entries(
         let of = map[at + 1];
         let t = map[at + 2] as u64;
         m = trace_entry(
-            table, tag, slots, s, narrow, want, offset, of, t, memory, sink,
-            marks, to, m,
+            table, tag, slots, s, narrow, want, offset, of, t, memory, sink, marks, to, m,
         )?;
         at += 3;
     }

@@ -75,12 +75,17 @@ pub fn yexwalu_held_layout(
         (layout_call (table_of types.now fields.now consts.now bytes.now) t desc.now (length out.old))
         (offsets_of (table_of types.now fields.now consts.now bytes.now) t desc.now) out.old }
 {
-    laid_out(layout::lay_out(&Table {
+    laid_out(layout::lay_out(
+        &Table {
             types,
             fields,
             consts,
             bytes,
-        }, t, desc, out))
+        },
+        t,
+        desc,
+        out,
+    ))
 }
 
 // Whether values of type t can hold handles: 1 or 0.
@@ -115,12 +120,17 @@ pub fn yexwalu_held_object_handles(
     ensures written { out.new ≡ written_to out.old
         (listing (object_handles (table_of types.now fields.now consts.now bytes.now) t «data».now) (length out.old)) }
 {
-    Answer::from(trace::list_object(&Table {
+    Answer::from(trace::list_object(
+        &Table {
             types,
             fields,
             consts,
             bytes,
-        }, t, data, out))
+        },
+        t,
+        data,
+        out,
+    ))
 }
 
 // The handles of a value of type t that needs no descriptor. First: how many.
@@ -138,10 +148,15 @@ pub fn yexwalu_held_value_handles(
     ensures written { out.new ≡ written_to out.old
         (listing (value_handles (table_of types.now fields.now consts.now bytes.now) t «data».now) (length out.old)) }
 {
-    Answer::from(trace::list_value(&Table {
+    Answer::from(trace::list_value(
+        &Table {
             types,
             fields,
             consts,
             bytes,
-        }, t, data, out))
+        },
+        t,
+        data,
+        out,
+    ))
 }

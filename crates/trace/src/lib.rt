@@ -16,7 +16,7 @@ ghost use Rattle.trace.specs.Listing.{listing, Lists};
 use beside::Met;
 use handle::Slots;
 use refusal::{Refusal, Reply};
-use ty::{Entry, Table, NO_CONST};
+use ty::{Entry, NO_CONST, Table};
 
 // Where handles go: they are counted, up to one more than a limit; written to the list `to`; or resolved, and what they lead to is marked in `marks` and queued
 // in `to`, each object once.
@@ -418,8 +418,8 @@ fn trace_each(
             return None;
         }
         m = trace_in(
-            table, tag, slots, s, narrow, t, desc, left, holds, data, p,
-            goal, marks, to, m, onarrow, other, owork,
+            table, tag, slots, s, narrow, t, desc, left, holds, data, p, goal, marks, to, m,
+            onarrow, other, owork,
         )?;
         p = step(data, p, stride);
         k -= 1;
@@ -459,8 +459,8 @@ fn trace_elems(
 {
     let Some((first, len)) = fields_at(table, t, left, holds) else {
         return trace_each(
-            table, tag, slots, s, narrow, t, desc, left, holds, data, at,
-            stride, count, goal, marks, to, n, onarrow, other, owork,
+            table, tag, slots, s, narrow, t, desc, left, holds, data, at, stride, count, goal,
+            marks, to, n, onarrow, other, owork,
         );
     };
     trace_records(
@@ -520,8 +520,8 @@ fn trace_parts(
 {
     if c == NO_CONST {
         return trace_elems(
-            table, tag, slots, s, narrow, t, desc, left, holds, data, at,
-            stride, count, goal, marks, to, n, onarrow, other, owork,
+            table, tag, slots, s, narrow, t, desc, left, holds, data, at, stride, count, goal,
+            marks, to, n, onarrow, other, owork,
         );
     }
     if count == 0 {
@@ -567,14 +567,7 @@ fn place_after(off: u64, size: u64, align: u64, used: usize) -> Option<Placed>
 }
 
 // Where a field lies that comes after off. A scalar needs no part of the descriptor, so that none is made for it.
-fn place_field(
-    table: &Table,
-    t: u64,
-    c: u64,
-    desc: &[u8],
-    used: usize,
-    off: u64,
-) -> Option<Placed>
+fn place_field(table: &Table, t: u64, c: u64, desc: &[u8], used: usize, off: u64) -> Option<Placed>
     requires { used ≤ length desc.now }
     ensures { result ≡ field_at (part_laid table.now t c (drop used desc.now) 64) off }
 {
@@ -781,8 +774,8 @@ fn trace_records(
             return None;
         }
         m = trace_record(
-            table, tag, slots, s, narrow, first, len, desc, left, data, o,
-            goal, marks, to, m, onarrow, other, owork,
+            table, tag, slots, s, narrow, first, len, desc, left, data, o, goal, marks, to, m,
+            onarrow, other, owork,
         )?;
         o = step(data, o, stride);
         k -= 1;
@@ -984,8 +977,7 @@ fn trace_visible(
 {
     if of == 1 {
         return trace_whole(
-            table, tag, slots, s, narrow, t, data, goal, marks, to, n,
-            onarrow, other, owork,
+            table, tag, slots, s, narrow, t, data, goal, marks, to, n, onarrow, other, owork,
         );
     }
     if of == 3 {
@@ -1200,12 +1192,7 @@ pub fn trace_beside(
 }
 
 // The handles of a value, into the lent list. First they are only counted, so that a refusal leaves the list as it was.
-pub fn list_value(
-    table: &Table,
-    t: u64,
-    data: &[u8],
-    out: &mut [u64],
-) -> Reply
+pub fn list_value(table: &Table, t: u64, data: &[u8], out: &mut [u64]) -> Reply
     ensures { Lists
         (listing (value_handles (lent table.now) t «data».now) (length out.old))
         result out.old out.new }
@@ -1250,12 +1237,7 @@ pub fn list_value(
 }
 
 // The handles of an object's visible data, into the lent list. First they are only counted, so that a refusal leaves the list as it was.
-pub fn list_object(
-    table: &Table,
-    t: u64,
-    data: &[u8],
-    out: &mut [u64],
-) -> Reply
+pub fn list_object(table: &Table, t: u64, data: &[u8], out: &mut [u64]) -> Reply
     ensures { Lists
         (listing (object_handles (lent table.now) t «data».now) (length out.old))
         result out.old out.new }

@@ -110,7 +110,7 @@ pub trace_in-returns-in-Record : goal.trace_in-returns-in-Record
 trace_in-returns-in-Record t c = in-record c.args.table.now _ _ _ _ _ _ _ c.if-left-eq0.false _ c.requires.0 c.if-not-holds.false _ (sym c.ty_at.ensures ∙ c.in_ok-e.was) _ _ c.in-Record.is (omega (arith, c.well_formed)) c.requires.1 _ c.trace_records.result c.trace_records.new.marks c.trace_records.new.to c.trace_records.ensures
 
 pub trace_in-returns-in-Access : goal.trace_in-returns-in-Access
-trace_in-returns-in-Access t c = 
+trace_in-returns-in-Access t c =
     ⊎_elim
     (λ a. in-access c.args.table.now _ _ _ _ _ _ _ c.if-left-eq0.false _ c.requires.0 c.if-not-holds.false _ (sym c.ty_at.ensures ∙ c.in_ok-e.was) a c.trace_word.result c.trace_word.new.marks c.trace_word.new.to c.trace_word.ensures)
     (λ a. in-protected c.args.table.now _ _ _ _ _ _ _ c.if-left-eq0.false _ c.requires.0 c.if-not-holds.false _ (sym c.ty_at.ensures ∙ c.in_ok-e.was) a c.trace_word.result c.trace_word.new.marks c.trace_word.new.to c.trace_word.ensures)

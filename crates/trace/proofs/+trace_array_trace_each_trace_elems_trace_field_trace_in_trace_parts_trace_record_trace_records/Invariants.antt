@@ -56,7 +56,6 @@ invariant-trace_record-loop-i l = (l.used ≤ length l.desc)
     ≡ handing_at (aim l.goal (resolve_in l.tag l.slots l.s l.narrow) l.onarrow l.other l.owork) l.«data» (raw_of l.initial.marks l.initial.to l.n) (record_places l.table (length l.«data») l.first l.count l.desc l.left l.at))
     × (length l.marks ≡ length l.initial.marks) × (length l.to ≡ length l.initial.to)
 
-
 abbrev pub invariant-trace_records-loop-k : goal.invariant-trace_records-loop-k
 invariant-trace_records-loop-k l = (handing_at (aim l.goal (resolve_in l.tag l.slots l.s l.narrow) l.onarrow l.other l.owork) l.«data» (raw_of l.marks l.to l.m) (records_places l.table (length l.«data») l.first l.len l.desc l.left l.stride l.k l.o)
     ≡ handing_at (aim l.goal (resolve_in l.tag l.slots l.s l.narrow) l.onarrow l.other l.owork) l.«data» (raw_of l.initial.marks l.initial.to l.n) (records_places l.table (length l.«data») l.first l.len l.desc l.left l.stride l.count l.at))
