@@ -61,7 +61,14 @@ fn admit_inputs(
     ensures { result ≡ admitted (input_tests types.now fields.now consts.now bytes.now
         (code_lent code.now) values.now pins.now addresses.now) }
 {
-    if !(Table { types, fields, consts, bytes }).check_table() {
+    if !(Table {
+        types,
+        fields,
+        consts,
+        bytes,
+    })
+    .check_table()
+    {
         return Err(Refusal::TypeTable);
     }
     if !check_function(code) {

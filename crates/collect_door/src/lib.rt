@@ -35,7 +35,14 @@ fn admit(
         result (marks.new ∷ work.new ∷ []) }
 {
     door::enter(heap, narrow, wide, pool, marks, work)?;
-    if !(Table { types, fields, consts, bytes }).check_table() {
+    if !(Table {
+        types,
+        fields,
+        consts,
+        bytes,
+    })
+    .check_table()
+    {
         return Err(Refusal::TypeTable);
     }
     if !heap_calls::recycle::rise(pins) {

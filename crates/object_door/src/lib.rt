@@ -37,7 +37,13 @@ fn no_heap() -> Heap
 }
 
 // Is there scratch enough, and are the lent sizes in range?
-fn enter_new(narrow: &[u32], wide: &[u64], pool: &[u8], marks: &mut [u8], work: &mut [u64]) -> Result<(), Refusal>
+fn enter_new(
+    narrow: &[u32],
+    wide: &[u64],
+    pool: &[u8],
+    marks: &mut [u8],
+    work: &mut [u64],
+) -> Result<(), Refusal>
     ensures { Entered (marks.old ∷ work.old ∷ [])
         (new_tests marks.old work.old narrow.now wide.now pool.now)
         result (marks.new ∷ work.new ∷ []) }

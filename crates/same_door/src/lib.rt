@@ -111,7 +111,14 @@ fn admit(
     ) {
         Err(why) => Err(why),
         Ok(()) => {
-            if !(Table { types, fields, consts, bytes }).check_table() {
+            if !(Table {
+                types,
+                fields,
+                consts,
+                bytes,
+            })
+            .check_table()
+            {
                 return Err(Refusal::TypeTable);
             }
             Ok(())

@@ -232,7 +232,8 @@ pub fn write(
         consts,
         bytes,
     })
-    .check_table() {
+    .check_table()
+    {
         return Err(Refusal::TypeTable);
     }
     let rest = rest_len(types, fields, consts);

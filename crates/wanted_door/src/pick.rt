@@ -13,7 +13,6 @@ ghost use Rattle.wanted.specs.Search as search;
 ghost use Rattle.wanted.specs.Search.{meeting, upward, downward, firstly, secondly, notes_of, searched};
 ghost use Rattle.wanted_door.specs.Inner.Picking.{going_of, Goes, notes_if, Inside, Room, Clear};
 
-
 // Is there an object in slot `w`?
 fn is_live(slots: usize, s: usize, narrow: &[u32], w: u32) -> bool
     requires { Runs slots s narrow.now }

@@ -9,8 +9,8 @@ ghost use Rattle.yexwalu.specs.Table.{on_table};
 ghost use Rattle.yexwalu.specs.Handles.{HandlesCall, RootsCall};
 
 use refusal::{Answer, Refusal};
-use ty::Table;
 pub use slot_door::{yexwalu_slot_handles as slot_handles, yexwalu_traceable as traceable};
+use ty::Table;
 pub use yexwalu_object_handles as object_handles;
 pub use yexwalu_slot_roots as slot_roots;
 pub use yexwalu_value_handles as value_handles;
@@ -36,15 +36,21 @@ pub fn yexwalu_object_handles(
         consts,
         bytes,
     })
-    .check_table() {
+    .check_table()
+    {
         return Answer::from(Err(Refusal::TypeTable));
     }
-    let reply = trace::list_object(&Table {
+    let reply = trace::list_object(
+        &Table {
             types,
             fields,
             consts,
             bytes,
-        }, t, data, out);
+        },
+        t,
+        data,
+        out,
+    );
     Answer::from(reply)
 }
 
@@ -69,15 +75,21 @@ pub fn yexwalu_value_handles(
         consts,
         bytes,
     })
-    .check_table() {
+    .check_table()
+    {
         return Answer::from(Err(Refusal::TypeTable));
     }
-    let reply = trace::list_value(&Table {
+    let reply = trace::list_value(
+        &Table {
             types,
             fields,
             consts,
             bytes,
-        }, t, data, out);
+        },
+        t,
+        data,
+        out,
+    );
     Answer::from(reply)
 }
 
@@ -105,7 +117,8 @@ pub fn yexwalu_slot_roots(
         consts,
         bytes,
     })
-    .check_table() {
+    .check_table()
+    {
         return Answer::from(Err(Refusal::TypeTable));
     }
     let reply = frame::list_roots(
@@ -114,7 +127,11 @@ pub fn yexwalu_slot_roots(
             fields,
             consts,
             bytes,
-        }, map, memory, handles, addresses,
+        },
+        map,
+        memory,
+        handles,
+        addresses,
     );
     Answer::from(reply)
 }

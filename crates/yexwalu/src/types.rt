@@ -73,15 +73,27 @@ pub fn yexwalu_layout(
         (offsets_of (table_of types.now fields.now consts.now bytes.now) t desc.now)
         out.old }
 {
-    if !(Table { types, fields, consts, bytes }).check_table() {
+    if !(Table {
+        types,
+        fields,
+        consts,
+        bytes,
+    })
+    .check_table()
+    {
         return not_laid(Refusal::TypeTable);
     }
-    laid_out(layout::lay_out(&Table {
+    laid_out(layout::lay_out(
+        &Table {
             types,
             fields,
             consts,
             bytes,
-        }, t, desc, out))
+        },
+        t,
+        desc,
+        out,
+    ))
 }
 
 // `yexwalu_layout` under its short name. An import can't rename it so, since a crate is called `layout`.
@@ -120,7 +132,8 @@ pub fn yexwalu_desc_size(
         consts,
         bytes,
     })
-    .check_table() {
+    .check_table()
+    {
         return Answer::from(Err(Refusal::TypeTable));
     }
     let table = Table {
@@ -151,7 +164,8 @@ pub fn yexwalu_has_handles(
         consts,
         bytes,
     })
-    .check_table() {
+    .check_table()
+    {
         return Answer::from(Err(Refusal::TypeTable));
     }
     if (Table {
