@@ -92,14 +92,14 @@ module _ (l : Lent) {p : Bool} {out marks work : List ℕ} {r : Answer} {out' ma
 
   -- what a well-formed heap is answered
   module _ (f : well_formed l ≡ true) (s : Scratch l marks work) where
-    ready : admitted (heap_tests marks work l) ≡ ready
-    ready = is-ready marks work l (is-enough marks work l s.marks s.work) f
+    admits : admitted (heap_tests marks work l) ≡ ready
+    admits = is-ready marks work l (is-enough marks work l s.marks s.work) f
 
     pub writes-page : length (page_text (written p) (view l)) ≤ length out → (r ≡ done (length (page_text (written p) (view l)))) × (out' ≡ put_text out 0 (page_text (written p) (view l)))
-    writes-page h = (fits-answer ready h, fits_out ready h)
+    writes-page h = (fits-answer admits h, fits_out admits h)
 
     pub writes-none : length out < length (page_text (written p) (view l)) → (r ≡ refused_by 7) × (out' ≡ out)
-    writes-none h = (short-answer ready h, short-out ready h)
+    writes-none h = (short-answer admits h, short-out admits h)
 
 pub put-start : (out t : List ℕ) → put_text out 0 t ≡ t ++ drop (length t) out
 put-start out t = put_all out 0 t ∙ ap (λ (n : ℕ). t ++ drop n out) (zero-add (length t))
