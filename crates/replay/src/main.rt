@@ -1,7 +1,7 @@
 // Runs a script of calls from standard input through the front door, one answer a line.
 #![tactic(auto)]
 
-use replay_lines::{LONGEST, Session};
+use replay_lines::{LONGEST, State};
 use std::alloc::Global;
 use std::io;
 use std::io::BufRead;
@@ -20,7 +20,7 @@ fn read_line(reader: &mut impl BufRead, alloc: Global) -> io::Result<Option<Vec<
 
 fn main(rt: HostRuntime) -> io::Result<()> {
     let mut reader = rt.reader();
-    let mut session = Session::new(rt.alloc())?;
+    let mut state = State::new(rt.alloc())?;
     for _ in 0..u64::MAX {
         let Some(line) = read_line(&mut reader, rt.alloc())? else {
             return Ok(());
@@ -28,7 +28,7 @@ fn main(rt: HostRuntime) -> io::Result<()> {
         if LONGEST <= line.len() {
             println!(rt; "bad")?;
         } else {
-            session.answer(&rt, &line)?;
+            state.answer(&rt, &line)?;
         }
     }
     Ok(())

@@ -17,7 +17,7 @@ pub const LONGEST: usize = 262144;
 
 /// What is kept from line to line: the current heap and the other one, the type table and the function.
 #[derive(Drop)]
-pub struct Session {
+pub struct State {
     alloc: Global,
     kept: Kept,
     other: Kept,
@@ -30,9 +30,9 @@ fn is_silent(line: &[u8]) -> bool {
     matches!(line, [] | [b'#', ..])
 }
 
-impl Session {
-    pub fn new(alloc: Global) -> Result<Session, AllocError> {
-        Ok(Session {
+impl State {
+    pub fn new(alloc: Global) -> Result<State, AllocError> {
+        Ok(State {
             alloc,
             kept: Kept::new(alloc, MOST_SLOTS as usize, MOST_POOL as usize)?,
             other: Kept::new(alloc, 64, 4096)?,
