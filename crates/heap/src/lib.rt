@@ -2,8 +2,8 @@
 #![tactic(auto)]
 
 pub mod asked;
-pub mod lent;
 pub mod view;
+pub mod view_mut;
 
 ghost use Rattle.std.specs.Prelude.{◌≡◌, ◌*◌, ◌≤◌, length};
 ghost use Rattle.word.specs.Run.{run};

@@ -14,7 +14,7 @@ ghost use Rattle.heap_door.specs.Sealing.{sealing};
 
 use door::{Done, enter, see};
 use heap::Heap;
-use heap::lent::Lent;
+use heap::view_mut::ViewMut;
 use refusal::Answer;
 
 // ---- questions
@@ -239,7 +239,7 @@ pub fn yexwalu_edit(
             answer: Answer::from(Err(why)),
         },
         Ok(()) => {
-            let mut lent = Lent {
+            let mut lent = ViewMut {
                 heap,
                 narrow,
                 wide,

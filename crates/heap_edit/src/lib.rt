@@ -16,8 +16,8 @@ ghost use Rattle.heap.specs.Seen.{state as seen_state};
 ghost use Rattle.heap_edit.specs.Header.{OfHeader};
 ghost use Rattle.heap_edit.specs.Inner.Handles.{CanList, Listing, Listed, AllListed};
 
-use heap::lent::Lent;
 use heap::view::View;
+use heap::view_mut::ViewMut;
 use heap::{Changed, Heap};
 use refusal::{Refusal, Reply};
 
@@ -134,7 +134,7 @@ fn replace(
 }
 
 // New bytes and a new start for the object that a handle leads to.
-pub fn edit(lent: &mut Lent, x: u64, bytes: &[u8], start: usize) -> Reply
+pub fn edit(lent: &mut ViewMut, x: u64, bytes: &[u8], start: usize) -> Reply
     ensures { Replies here nothing lent.old lent.new result (edited (length lent.old.pool.now) (state lent.old) x bytes.now start) }
 {
     let view = lent.view();
@@ -163,7 +163,7 @@ fn raise(wide: &mut [u64], at: usize)
 }
 
 // Bytes put over the visible data of slot `i`, from the offset `at` in it. The write count rises too where a live slot shows nothing.
-// Kept: the C interface lends the narrow list read-only here, so a door can't make a `Lent`.
+// Kept: the C interface lends the narrow list read-only here, so a door can't make a `ViewMut`.
 pub fn write(
     heap: Heap,
     narrow: &[u32],
@@ -204,7 +204,7 @@ pub fn write(
 // ---- reissue
 
 // A new handle for the live slot `i`: 9 where no live one is there, then 20 where it is worn out.
-// Kept: the C interface lends the pool read-only here, so a door can't make a `Lent`.
+// Kept: the C interface lends the pool read-only here, so a door can't make a `ViewMut`.
 pub fn reissue(
     heap: Heap,
     narrow: &mut [u32],
@@ -291,7 +291,7 @@ fn list_all(heap: Heap, narrow: &[u32], sealed: &mut [u64]) -> usize
 }
 
 // The seals become the handles of all live slots.
-// Kept: the C interface lends all but the wide list read-only here, so a door can't make a `Lent`.
+// Kept: the C interface lends all but the wide list read-only here, so a door can't make a `ViewMut`.
 pub fn seal(heap: Heap, narrow: &[u32], wide: &mut [u64], pool: &[u8]) -> Heap
     requires { well_formed (lent heap narrow.now wide.old pool.now) ≡ true }
     ensures { Leaves (lent heap narrow.now wide.old pool.now)

@@ -12,8 +12,8 @@ ghost use Rattle.heap.specs.Calls.{resolve as resolved, edit as edited, write as
 ghost use Rattle.heap_door.specs.Sealing.{sealing};
 ghost use Rattle.held.specs.Held.{in_place, Held};
 
-use heap::lent::Lent;
 use heap::view::View;
+use heap::view_mut::ViewMut;
 use refusal::Answer;
 
 // Takes out the object that the handle names, as `yexwalu_held_take` does, without handing it out.
@@ -59,7 +59,7 @@ pub fn yexwalu_held_edit(
         (λ h. edited (length pool.old) h handle bytes.now start) }
 {
     let heap = held::header(tag, numbers, log, lengths);
-    let mut lent = Lent {
+    let mut lent = ViewMut {
         heap,
         narrow,
         wide,

@@ -8,7 +8,7 @@ use crate::view::View;
 
 // A heap's header and the memory that it lies in, lent to be changed.
 #[derive(Drop)]
-pub struct Lent<'a> {
+pub struct ViewMut<'a> {
     pub heap: Heap,
     pub narrow: &'a mut [u32],
     pub wide: &'a mut [u64],
@@ -16,7 +16,7 @@ pub struct Lent<'a> {
     pub ghost formed: { well_formed (lent heap narrow.now wide.now pool.now) ≡ true },
 }
 
-impl Lent<'_> {
+impl ViewMut<'_> {
     ghost use Rattle.heap.specs.Seen.{seen};
     ghost use Rattle.heap.specs.Loans.{lies};
 
