@@ -3,44 +3,38 @@
 
 ghost use Rattle.std.specs.Prelude.{◌≡◌, ◌%◌, length};
 ghost use Rattle.ty.specs.View.{lent};
-ghost use Rattle.trace.specs.Emit.{raw_of, into, resolve_in, Runs, emit_all, emitting, told};
+ghost use Rattle.trace.specs.Emit.{raw_of, into, slots_resolve, emit_all, emitting, told};
 ghost use Rattle.frame.specs.Frame.{entry, entries_of, first_word, entry_roots, entries_roots, frame_roots, frame_handles, frame_addresses};
 ghost use Rattle.frame.specs.Listing.{roots_listing, Frames};
 
+use handle::Slots;
 use refusal::{Refusal, Reply};
 use trace::Sink;
 use ty::Table;
 
 // The word at the start of bytes, if there are eight.
 fn first_word(
-    tag: u8,
-    slots: usize,
-    s: usize,
-    narrow: &[u32],
+    here: Slots,
     data: &[u8],
     sink: Sink,
     marks: &mut [u8],
     to: &mut [u64],
     n: usize,
 ) -> usize
-    requires { Runs slots s narrow.now }
     ensures { raw_of marks.new to.new result ≡
-        emit_all (into sink (resolve_in tag slots s narrow.now)) (raw_of marks.old to.old n) (first_word «data».now) }
+        emit_all (into sink (slots_resolve here.entry)) (raw_of marks.old to.old n) (first_word «data».now) }
 {
     if data.len() < 8 {
         return n;
     }
     let h = word::get_le(data, 0, 8);
-    trace::emit(tag, slots, s, narrow, sink, marks, to, n, h)
+    trace::emit(here, sink, marks, to, n, h)
 }
 
 // What one entry of a frame map gives of a kind: 0 handles, 1 addresses.
 fn trace_entry(
     table: &Table,
-    tag: u8,
-    slots: usize,
-    s: usize,
-    narrow: &[u32],
+    here: Slots,
     want: u32,
     offset: usize,
     of: u32,
@@ -51,9 +45,8 @@ fn trace_entry(
     to: &mut [u64],
     n: usize,
 ) -> Option<usize>
-    requires { Runs slots s narrow.now }
     ensures { told result marks.new to.new ≡
-        emitting (into sink (resolve_in tag slots s narrow.now)) (raw_of marks.old to.old n)
+        emitting (into sink (slots_resolve here.entry)) (raw_of marks.old to.old n)
         (entry_roots (lent table.now) want memory.now (entry offset of t)) }
 {
     if memory.len() < offset {
@@ -61,19 +54,7 @@ fn trace_entry(
     }
     if of == 2 {
         if want == 0 {
-            return trace::trace_value(
-                table,
-                tag,
-                slots,
-                s,
-                narrow,
-                t,
-                &memory[offset..],
-                sink,
-                marks,
-                to,
-                n,
-            );
+            return trace::trace_value(table, here, t, &memory[offset..], sink, marks, to, n);
         }
         return Some(n);
     }
@@ -81,7 +62,7 @@ fn trace_entry(
         return None;
     }
     if of == want {
-        let m = first_word(tag, slots, s, narrow, &memory[offset..], sink, marks, to, n);
+        let m = first_word(here, &memory[offset..], sink, marks, to, n);
         return Some(m);
     }
     Some(n)
@@ -90,10 +71,7 @@ fn trace_entry(
 // What all entries give of a kind.
 fn trace_entries(
     table: &Table,
-    tag: u8,
-    slots: usize,
-    s: usize,
-    narrow: &[u32],
+    here: Slots,
     want: u32,
     map: &[u32],
     memory: &[u8],
@@ -102,9 +80,9 @@ fn trace_entries(
     to: &mut [u64],
     n: usize,
 ) -> Option<usize>
-    requires { (length map.now % 3 ≡ 0) × Runs slots s narrow.now }
+    requires { (length map.now % 3 ≡ 0) }
     ensures { told result marks.new to.new ≡
-        emitting (into sink (resolve_in tag slots s narrow.now)) (raw_of marks.old to.old n)
+        emitting (into sink (slots_resolve here.entry)) (raw_of marks.old to.old n)
         (entries_roots (lent table.now) want memory.now (entries_of map.now)) }
 {
     let mut at: usize = 0;
@@ -113,9 +91,7 @@ fn trace_entries(
         let offset = map[at] as usize;
         let of = map[at + 1];
         let t = map[at + 2] as u64;
-        m = trace_entry(
-            table, tag, slots, s, narrow, want, offset, of, t, memory, sink, marks, to, m,
-        )?;
+        m = trace_entry(table, here, want, offset, of, t, memory, sink, marks, to, m)?;
         at += 3;
     }
     Some(m)
@@ -124,10 +100,7 @@ fn trace_entries(
 // What a frame gives of a kind: 0 handles, 1 addresses. A map whose last entry is cut short fails.
 pub fn trace_frame(
     table: &Table,
-    tag: u8,
-    slots: usize,
-    s: usize,
-    narrow: &[u32],
+    here: Slots,
     want: u32,
     map: &[u32],
     memory: &[u8],
@@ -136,17 +109,14 @@ pub fn trace_frame(
     to: &mut [u64],
     n: usize,
 ) -> Option<usize>
-    requires { Runs slots s narrow.now }
     ensures { told result marks.new to.new ≡
-        emitting (into sink (resolve_in tag slots s narrow.now)) (raw_of marks.old to.old n)
+        emitting (into sink (slots_resolve here.entry)) (raw_of marks.old to.old n)
         (frame_roots (lent table.now) want map.now memory.now) }
 {
     if map.len() % 3 != 0 {
         return None;
     }
-    trace_entries(
-        table, tag, slots, s, narrow, want, map, memory, sink, marks, to, n,
-    )
+    trace_entries(table, here, want, map, memory, sink, marks, to, n)
 }
 
 // The handles and the addresses of a frame, into the lent lists. First both are only counted, so that a refusal leaves the lists as they were.
@@ -164,16 +134,19 @@ pub fn list_roots(
         handles.old addresses.old handles.new addresses.new }
 {
     let narrow = [0u32; 1];
+    let none = Slots {
+        tag: 0,
+        slots: 0,
+        s: 0,
+        narrow: &narrow,
+    };
     let mut marks = [0u8; 1];
     let mut unused = [0u64; 1];
     let lh = handles.len();
     let la = addresses.len();
     let a = trace_frame(
         table,
-        0,
-        0,
-        0,
-        &narrow,
+        none,
         0,
         map,
         memory,
@@ -187,10 +160,7 @@ pub fn list_roots(
     };
     let b = trace_frame(
         table,
-        0,
-        0,
-        0,
-        &narrow,
+        none,
         1,
         map,
         memory,
@@ -210,10 +180,7 @@ pub fn list_roots(
     }
     trace_frame(
         table,
-        0,
-        0,
-        0,
-        &narrow,
+        none,
         0,
         map,
         memory,
@@ -224,10 +191,7 @@ pub fn list_roots(
     );
     trace_frame(
         table,
-        0,
-        0,
-        0,
-        &narrow,
+        none,
         1,
         map,
         memory,

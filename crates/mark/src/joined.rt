@@ -15,6 +15,7 @@ ghost use Rattle.mark.specs.Joining.{in_use, taking, value_of, row_values, CanHo
 
 use crate::Outcome;
 use crate::hold::{hold_address, hold_all, hold_frame};
+use handle::Slots;
 use heap::Heap;
 use trace::Sink;
 use ty::Table;
@@ -49,7 +50,13 @@ fn push_at(
     }
     let v = values[q];
     if want == 4 {
-        return trace::emit(tag, slots, s, narrow, Sink::Work, marks, work, n, v);
+        let here = Slots {
+            tag,
+            slots,
+            s,
+            narrow,
+        };
+        return trace::emit(here, Sink::Work, marks, work, n, v);
     }
     hold_address(slots, addresses, v, marks, work, n)
 }
@@ -181,6 +188,12 @@ fn mark_frame(
         (addresses_in (table_of types.now fields.now consts.now bytes.now) map.now memory.now
         ++ row_values 2 classes.now row.now values.now))) }
 {
+    let here = Slots {
+        tag,
+        slots,
+        s,
+        narrow,
+    };
     let r = frame::trace_frame(
         &Table {
             types,
@@ -188,10 +201,7 @@ fn mark_frame(
             consts,
             bytes,
         },
-        tag,
-        slots,
-        s,
-        narrow,
+        here,
         0,
         map,
         memory,

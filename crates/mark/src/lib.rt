@@ -14,6 +14,7 @@ ghost use Rattle.mark.specs.Graph.{leads_to, shown_in, graph_in, Fit};
 ghost use Rattle.mark.specs.Scratch.{state_of, Scratch, Holds, following, Traces, Noted, NotedBy, seeded_from};
 ghost use Rattle.mark.specs.Told.{told, marks_in, heap_marks, Ready};
 
+use handle::Slots;
 use heap::Heap;
 use trace::Sink;
 use ty::Table;
@@ -45,9 +46,15 @@ pub fn push_all(
         (follow_all (leads_to tag slots s narrow.now) (state_of marks.old work.old n) list.now) }
     ensures noted { Noted work.old work.new }
 {
+    let here = Slots {
+        tag,
+        slots,
+        s,
+        narrow,
+    };
     let mut count = n;
     for h in list {
-        count = trace::emit(tag, slots, s, narrow, Sink::Work, marks, work, count, *h);
+        count = trace::emit(here, Sink::Work, marks, work, count, *h);
     }
     count
 }
@@ -156,6 +163,12 @@ fn trace_at(
     let kind = narrow[s + i];
     let t = narrow[2 * s + i] as u64;
     let start = wide[i] as usize;
+    let here = Slots {
+        tag,
+        slots,
+        s,
+        narrow,
+    };
     trace::trace_slot(
         &Table {
             types,
@@ -163,10 +176,7 @@ fn trace_at(
             consts,
             bytes,
         },
-        tag,
-        slots,
-        s,
-        narrow,
+        here,
         kind,
         t,
         start,

@@ -13,6 +13,7 @@ ghost use Rattle.door.specs.HeapCalls.{Entered, asked};
 ghost use Rattle.slot_door.specs.SlotHandles.{slot_handles, slot_tests, slot_call, slot_out};
 ghost use Rattle.slot_door.specs.Traceable.{fits_table, misfit, misfit_told, trace_call};
 
+use handle::Slots;
 use heap::Heap;
 use refusal::{Answer, Refusal, Reply};
 use trace::Sink;
@@ -68,6 +69,12 @@ fn list_shown(
         result out.old out.new }
 {
     let narrow = [0u32; 1];
+    let none = Slots {
+        tag: 0,
+        slots: 0,
+        s: 0,
+        narrow: &narrow,
+    };
     let mut marks = [0u8; 1];
     let mut unused = [0u64; 1];
     let limit = out.len();
@@ -78,10 +85,7 @@ fn list_shown(
             consts,
             bytes,
         },
-        0,
-        0,
-        0,
-        &narrow,
+        none,
         kind,
         t,
         start,
@@ -104,10 +108,7 @@ fn list_shown(
             consts,
             bytes,
         },
-        0,
-        0,
-        0,
-        &narrow,
+        none,
         kind,
         t,
         start,

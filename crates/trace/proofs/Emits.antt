@@ -15,9 +15,7 @@ use types.Run.{OneOf, miss}
 use denote.Enum.Declared.{tag_of}
 use Rattle.std.specs.Prelude.{None, Some, if◌then◌else◌}
 use Rattle.word.specs.Result.{Result, ok, refused}
-use Rattle.word.specs.Run.{run}
-use Rattle.handle.specs.Handle.{resolve_by, told as resolved}
-use Rattle.handle.specs.Columns.{live_in}
+use Rattle.handle.specs.Handle.{told as resolved}
 use Rattle.std.specs.Prelude.{Result as Outcome, Ok, Err}
 use Rattle.refusal.specs.declared.Refusal.{Refusal}
 use Rattle.trace.specs.Places.{Places, only_if, both, many, turns, handle_at, words_at}
@@ -70,15 +68,15 @@ module _ (ms to : List ℕ) (n h : ℕ) (R : ℕ → Result ℕ) (k : Sink) wher
   unfolding emitted emitted_by
   list_full e l = rw (e, le-ltb n (length to) l) refl
 
-module _ (ms to : List ℕ) (n h tag slots c : ℕ) (narrow : List ℕ) (k : Sink) (e : k ≡ Work) (x : Outcome ℕ Refusal) (ex : resolved x ≡ resolve_by tag slots (live_in slots (run c c narrow)) (λ i. get_or (run c 0 narrow) i 0) h) where
-  work-by : emitted (into k (resolve_in tag slots c narrow)) (raw_of ms to n) h ≡ queued_if (raw_of ms to n) (resolved x)
-  unfolding emitted emitted_by resolve_in
+module _ (ms to : List ℕ) (n h : ℕ) (R : ℕ → Result ℕ) (k : Sink) (e : k ≡ Work) (x : Outcome ℕ Refusal) (ex : resolved x ≡ R h) where
+  work-by : emitted (into k R) (raw_of ms to n) h ≡ queued_if (raw_of ms to n) (resolved x)
+  unfolding emitted emitted_by
   work-by = rw (e, ← ex) refl
 
-  pub work_none : (why : Refusal) → x ≡ Err why → raw_of ms to n ≡ emitted (into k (resolve_in tag slots c narrow)) (raw_of ms to n) h
+  pub work_none : (why : Refusal) → x ≡ Err why → raw_of ms to n ≡ emitted (into k R) (raw_of ms to n) h
   work_none why o = sym (work-by ∙ ap (λ (y : Outcome ℕ Refusal). queued_if (raw_of ms to n) (resolved y)) o)
 
-  pub work-at : (i : ℕ) → x ≡ Ok i → (t : Raw) → t ≡ queued (raw_of ms to n) i → t ≡ emitted (into k (resolve_in tag slots c narrow)) (raw_of ms to n) h
+  pub work-at : (i : ℕ) → x ≡ Ok i → (t : Raw) → t ≡ queued (raw_of ms to n) i → t ≡ emitted (into k R) (raw_of ms to n) h
   work-at i o t q = q ∙ sym (work-by ∙ ap (λ (y : Outcome ℕ Refusal). queued_if (raw_of ms to n) (resolved y)) o)
 
 -- ---- turns

@@ -3,6 +3,8 @@
 use Rattle.std.specs.Prelude.{ℕ, ◌+◌, ◌-◌, ◌%◌, ◌^◌, min, ◌≡◌, List, [], ◌∷◌, length, get_or, set, ltb, eqb, Option as Maybe, Some, None, if◌then◌else◌}
 use Rattle.std.proofs.Math.Option.{Option, none, some}
 use Rattle.word.specs.Result.{Result, ok, refused}
+use Rattle.handle.specs.declared.Slots.{Slots}
+use Rattle.beside.specs.declared.Met.{Met}
 use Rattle.beside.specs.Inner.Ranks.{place_in}
 use Rattle.beside.specs.Inner.Found.{found_at}
 use Rattle.trace.specs.Places.{Places, handle_at, words_at}
@@ -11,7 +13,7 @@ use Rattle.trace.specs.declared.Sink.TheVariants.{Check, List as ToList, Work}
 use Rattle.trace.specs.declared.Goal.{Goal}
 use Rattle.trace.specs.declared.Goal.TheVariants.{Words, Beside}
 unfoldable pub use Rattle.beside.specs.Inner.Ranks.{resolve_in}
-pub use Rattle.beside.specs.Inner.Ranks.{Runs}
+pub use Rattle.beside.specs.Inner.Ranks.{Runs, slots_resolve}
 
 -- the marks, the words and how many words are in use
 pub record Raw : Type 0 where
@@ -76,6 +78,10 @@ pub record Aim : Type 0 where
 
 abbrev pub aim : Goal → (ℕ → Result ℕ) → List ℕ → List ℕ → List ℕ → Aim
 aim goal resolve columns other turns = record { goal = goal; resolve = resolve; columns = columns; other = other; turns = turns }
+
+-- the goal of a comparison with an object of a heap whose objects have been met, whose visible data are these bytes
+abbrev pub beside_aim : Slots → Met → List ℕ → Aim
+beside_aim x y other = aim (Beside y.slots.tag y.slots.slots y.slots.s) (slots_resolve x) y.slots.narrow.now other y.turns.now
 
 -- the runs of a heap are there; the data beside is as long; and the runs of the heap beside are there, where there is one
 pub record Ready (slots s : ℕ) (narrow : List ℕ) (goal : Goal) (v columns other : List ℕ) : Type 0 where

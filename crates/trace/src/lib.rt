@@ -10,7 +10,8 @@ ghost use Rattle.ty.specs.Walks.{has_handles};
 ghost use Rattle.layout.specs.Lent.{part_laid};
 ghost use Rattle.trace.specs.Places.{handle_at, only_if, turns, object_places, handles_places, kind_places, shown_places, value_handles, object_handles, handles_of};
 ghost use Rattle.trace.specs.Walk.{Stepped, Looked, part_leaf, placed_after, field_at, type_places, below_places, elem_places, parts_places, array_places, record_places, records_places};
-ghost use Rattle.trace.specs.Emit.{emit_all, raw_of, into, resolve_in, Runs, queued, emitted, emitting, Ready, aim, handed, handed_all, handing_at, told};
+ghost use Rattle.trace.specs.Emit.{emit_all, raw_of, into, queued, emitted, emitting, Ready, aim, beside_aim, handed, handed_all, handing_at, told};
+ghost use Rattle.beside.specs.Inner.Ranks.{slots_resolve};
 ghost use Rattle.trace.specs.Listing.{listing, Lists};
 
 use beside::Met;
@@ -73,20 +74,9 @@ pub fn queue(marks: &mut [u8], to: &mut [u64], n: usize, i: u32) -> usize
 }
 
 // One handle goes to the sink.
-pub fn emit(
-    tag: u8,
-    slots: usize,
-    s: usize,
-    narrow: &[u32],
-    sink: Sink,
-    marks: &mut [u8],
-    to: &mut [u64],
-    n: usize,
-    h: u64,
-) -> usize
-    requires { Runs slots s narrow.now }
+pub fn emit(here: Slots, sink: Sink, marks: &mut [u8], to: &mut [u64], n: usize, h: u64) -> usize
     ensures { raw_of marks.new to.new result ≡
-        emitted (into sink (resolve_in tag slots s narrow.now)) (raw_of marks.old to.old n) h }
+        emitted (into sink (slots_resolve here.entry)) (raw_of marks.old to.old n) h }
 {
     match sink {
         Sink::Check(limit) => {
@@ -106,7 +96,7 @@ pub fn emit(
             to.len() + 1
         }
         Sink::Work => {
-            match handle::resolve(tag, slots, s, narrow, h) {
+            match here.resolve(h) {
                 Ok(i) => queue(marks, to, n, i),
                 Err(_) => n,
             }
@@ -116,10 +106,7 @@ pub fn emit(
 
 // The eight bytes at a place, to the goal.
 fn hand(
-    tag: u8,
-    slots: usize,
-    s: usize,
-    narrow: &[u32],
+    here: Slots,
     data: &[u8],
     at: usize,
     goal: Goal,
@@ -130,28 +117,23 @@ fn hand(
     other: &[u8],
     owork: &[u64],
 ) -> usize
-    requires { (at + 8 ≤ length «data».now) × Ready slots s narrow.now goal «data».now onarrow.now other.now }
+    requires { (at + 8 ≤ length «data».now) × Ready here.slots here.s here.narrow.now goal «data».now onarrow.now other.now }
     ensures { raw_of marks.new to.new result ≡
-        handed (aim goal (resolve_in tag slots s narrow.now) onarrow.now other.now owork.now)
+        handed (aim goal (slots_resolve here.entry) onarrow.now other.now owork.now)
         «data».now (raw_of marks.old to.old n) at }
 {
     match goal {
         Goal::Words(sink) => {
             let h = word::get_le(data, at, 8);
-            emit(tag, slots, s, narrow, sink, marks, to, n, h)
+            emit(here, sink, marks, to, n, h)
         }
         Goal::Beside {
             tag: t,
             slots: k,
             s: c,
         } => {
-            let here = Met {
-                slots: Slots {
-                    tag,
-                    slots,
-                    s,
-                    narrow,
-                },
+            let met = Met {
+                slots: here,
                 turns: to,
             };
             let there = Met {
@@ -163,17 +145,14 @@ fn hand(
                 },
                 turns: owork,
             };
-            beside::at_place(here, data, there, other, at, marks, n)
+            beside::at_place(met, data, there, other, at, marks, n)
         }
     }
 }
 
 // An access value: eight bytes.
 fn trace_word(
-    tag: u8,
-    slots: usize,
-    s: usize,
-    narrow: &[u32],
+    here: Slots,
     data: &[u8],
     at: usize,
     goal: Goal,
@@ -184,28 +163,23 @@ fn trace_word(
     other: &[u8],
     owork: &[u64],
 ) -> Option<usize>
-    requires { (at ≤ length «data».now) × Ready slots s narrow.now goal «data».now onarrow.now other.now }
+    requires { (at ≤ length «data».now) × Ready here.slots here.s here.narrow.now goal «data».now onarrow.now other.now }
     ensures { told result marks.new to.new ≡
-        handing_at (aim goal (resolve_in tag slots s narrow.now) onarrow.now other.now owork.now)
+        handing_at (aim goal (slots_resolve here.entry) onarrow.now other.now owork.now)
         «data».now (raw_of marks.old to.old n)
         (only_if (leb (at + 8) (length «data».now)) (some (at ∷ []))) }
 {
     if data.len() - at < 8 {
         return None;
     }
-    Some(hand(
-        tag, slots, s, narrow, data, at, goal, marks, to, n, onarrow, other, owork,
-    ))
+    Some(hand(here, data, at, goal, marks, to, n, onarrow, other, owork))
 }
 
 // The handles of a value of type t under a descriptor, from byte `at` of the data on. The caller has asked whether the type holds handles.
 #[cycle(trace_array_trace_each_trace_elems_trace_field_trace_in_trace_parts_trace_record_trace_records)]
 fn trace_in(
     table: &Table,
-    tag: u8,
-    slots: usize,
-    s: usize,
-    narrow: &[u32],
+    here: Slots,
     t: u64,
     desc: &[u8],
     left: u64,
@@ -220,9 +194,9 @@ fn trace_in(
     other: &[u8],
     owork: &[u64],
 ) -> Option<usize>
-    requires { (holds ≡ has_handles (lent table.now).types t) × (at ≤ length «data».now) × Ready slots s narrow.now goal «data».now onarrow.now other.now }
+    requires { (holds ≡ has_handles (lent table.now).types t) × (at ≤ length «data».now) × Ready here.slots here.s here.narrow.now goal «data».now onarrow.now other.now }
     ensures { told result marks.new to.new ≡
-        handing_at (aim goal (resolve_in tag slots s narrow.now) onarrow.now other.now owork.now)
+        handing_at (aim goal (slots_resolve here.entry) onarrow.now other.now owork.now)
         «data».now (raw_of marks.old to.old n)
         (type_places table.now (length «data».now) t desc.now left at) }
 {
@@ -240,10 +214,7 @@ fn trace_in(
             dims,
         } => trace_array(
             table,
-            tag,
-            slots,
-            s,
-            narrow,
+            here,
             t,
             elem,
             c,
@@ -262,10 +233,7 @@ fn trace_in(
         ),
         Entry::Record { first, count } => trace_records(
             table,
-            tag,
-            slots,
-            s,
-            narrow,
+            here,
             first,
             count,
             desc,
@@ -283,7 +251,7 @@ fn trace_in(
             owork,
         ),
         Entry::Access | Entry::Protected => trace_word(
-            tag, slots, s, narrow, data, at, goal, marks, to, n, onarrow, other, owork,
+            here, data, at, goal, marks, to, n, onarrow, other, owork,
         ),
         _ => Some(n),
     }
@@ -300,10 +268,7 @@ fn turns_of(stride: u64, count: u64) -> u64
 #[cycle(trace_array_trace_each_trace_elems_trace_field_trace_in_trace_parts_trace_record_trace_records)]
 fn trace_array(
     table: &Table,
-    tag: u8,
-    slots: usize,
-    s: usize,
-    narrow: &[u32],
+    here: Slots,
     t: u64,
     elem: u64,
     c: u64,
@@ -320,9 +285,9 @@ fn trace_array(
     other: &[u8],
     owork: &[u64],
 ) -> Option<usize>
-    requires { Ready slots s narrow.now goal «data».now onarrow.now other.now }
+    requires { Ready here.slots here.s here.narrow.now goal «data».now onarrow.now other.now }
     ensures { told result marks.new to.new ≡
-        handing_at (aim goal (resolve_in tag slots s narrow.now) onarrow.now other.now owork.now)
+        handing_at (aim goal (slots_resolve here.entry) onarrow.now other.now owork.now)
         «data».now (raw_of marks.old to.old n)
         (array_places table.now (length «data».now) t elem c dims desc.now left at) }
 {
@@ -334,10 +299,7 @@ fn trace_array(
     let holds = table.has_handles(elem);
     trace_parts(
         table,
-        tag,
-        slots,
-        s,
-        narrow,
+        here,
         elem,
         c,
         &desc[skip..],
@@ -384,10 +346,7 @@ fn fields_at(table: &Table, t: u64, left: u64, holds: bool) -> Option<(usize, us
 #[cycle(trace_array_trace_each_trace_elems_trace_field_trace_in_trace_parts_trace_record_trace_records)]
 fn trace_each(
     table: &Table,
-    tag: u8,
-    slots: usize,
-    s: usize,
-    narrow: &[u32],
+    here: Slots,
     t: u64,
     desc: &[u8],
     left: u64,
@@ -404,9 +363,9 @@ fn trace_each(
     other: &[u8],
     owork: &[u64],
 ) -> Option<usize>
-    requires { (holds ≡ has_handles (lent table.now).types t) × Ready slots s narrow.now goal «data».now onarrow.now other.now }
+    requires { (holds ≡ has_handles (lent table.now).types t) × Ready here.slots here.s here.narrow.now goal «data».now onarrow.now other.now }
     ensures { told result marks.new to.new ≡
-        handing_at (aim goal (resolve_in tag slots s narrow.now) onarrow.now other.now owork.now)
+        handing_at (aim goal (slots_resolve here.entry) onarrow.now other.now owork.now)
         «data».now (raw_of marks.old to.old n)
         (elem_places table.now (length «data».now) t desc.now left stride count at) }
 {
@@ -418,8 +377,7 @@ fn trace_each(
             return None;
         }
         m = trace_in(
-            table, tag, slots, s, narrow, t, desc, left, holds, data, p, goal, marks, to, m,
-            onarrow, other, owork,
+            table, here, t, desc, left, holds, data, p, goal, marks, to, m, onarrow, other, owork,
         )?;
         p = step(data, p, stride);
         k -= 1;
@@ -431,10 +389,7 @@ fn trace_each(
 #[cycle(trace_array_trace_each_trace_elems_trace_field_trace_in_trace_parts_trace_record_trace_records)]
 fn trace_elems(
     table: &Table,
-    tag: u8,
-    slots: usize,
-    s: usize,
-    narrow: &[u32],
+    here: Slots,
     t: u64,
     desc: &[u8],
     left: u64,
@@ -451,24 +406,21 @@ fn trace_elems(
     other: &[u8],
     owork: &[u64],
 ) -> Option<usize>
-    requires { (holds ≡ has_handles (lent table.now).types t) × Ready slots s narrow.now goal «data».now onarrow.now other.now }
+    requires { (holds ≡ has_handles (lent table.now).types t) × Ready here.slots here.s here.narrow.now goal «data».now onarrow.now other.now }
     ensures { told result marks.new to.new ≡
-        handing_at (aim goal (resolve_in tag slots s narrow.now) onarrow.now other.now owork.now)
+        handing_at (aim goal (slots_resolve here.entry) onarrow.now other.now owork.now)
         «data».now (raw_of marks.old to.old n)
         (elem_places table.now (length «data».now) t desc.now left stride count at) }
 {
     let Some((first, len)) = fields_at(table, t, left, holds) else {
         return trace_each(
-            table, tag, slots, s, narrow, t, desc, left, holds, data, at, stride, count, goal,
-            marks, to, n, onarrow, other, owork,
+            table, here, t, desc, left, holds, data, at, stride, count, goal, marks, to, n,
+            onarrow, other, owork,
         );
     };
     trace_records(
         table,
-        tag,
-        slots,
-        s,
-        narrow,
+        here,
         first,
         len,
         desc,
@@ -491,10 +443,7 @@ fn trace_elems(
 #[cycle(trace_array_trace_each_trace_elems_trace_field_trace_in_trace_parts_trace_record_trace_records)]
 fn trace_parts(
     table: &Table,
-    tag: u8,
-    slots: usize,
-    s: usize,
-    narrow: &[u32],
+    here: Slots,
     t: u64,
     c: u64,
     desc: &[u8],
@@ -512,16 +461,16 @@ fn trace_parts(
     other: &[u8],
     owork: &[u64],
 ) -> Option<usize>
-    requires { (holds ≡ has_handles (lent table.now).types t) × Ready slots s narrow.now goal «data».now onarrow.now other.now }
+    requires { (holds ≡ has_handles (lent table.now).types t) × Ready here.slots here.s here.narrow.now goal «data».now onarrow.now other.now }
     ensures { told result marks.new to.new ≡
-        handing_at (aim goal (resolve_in tag slots s narrow.now) onarrow.now other.now owork.now)
+        handing_at (aim goal (slots_resolve here.entry) onarrow.now other.now owork.now)
         «data».now (raw_of marks.old to.old n)
         (parts_places table.now (length «data».now) t c desc.now left stride count at) }
 {
     if c == NO_CONST {
         return trace_elems(
-            table, tag, slots, s, narrow, t, desc, left, holds, data, at, stride, count, goal,
-            marks, to, n, onarrow, other, owork,
+            table, here, t, desc, left, holds, data, at, stride, count, goal, marks, to, n,
+            onarrow, other, owork,
         );
     }
     if count == 0 {
@@ -530,10 +479,7 @@ fn trace_parts(
     let (a, e) = table.part_at(c)?;
     trace_elems(
         table,
-        tag,
-        slots,
-        s,
-        narrow,
+        here,
         t,
         &table.bytes[a..e],
         left,
@@ -601,10 +547,7 @@ fn leaf_at(table: &Table, t: u64, c: u64) -> Leaf
 #[cycle(trace_array_trace_each_trace_elems_trace_field_trace_in_trace_parts_trace_record_trace_records)]
 fn trace_field(
     table: &Table,
-    tag: u8,
-    slots: usize,
-    s: usize,
-    narrow: &[u32],
+    here: Slots,
     t: u64,
     c: u64,
     desc: &[u8],
@@ -620,9 +563,9 @@ fn trace_field(
     other: &[u8],
     owork: &[u64],
 ) -> Option<usize>
-    requires { (used ≤ length desc.now) × (at ≤ length «data».now) × Ready slots s narrow.now goal «data».now onarrow.now other.now }
+    requires { (used ≤ length desc.now) × (at ≤ length «data».now) × Ready here.slots here.s here.narrow.now goal «data».now onarrow.now other.now }
     ensures { told result marks.new to.new ≡
-        handing_at (aim goal (resolve_in tag slots s narrow.now) onarrow.now other.now owork.now)
+        handing_at (aim goal (slots_resolve here.entry) onarrow.now other.now owork.now)
         «data».now (raw_of marks.old to.old n)
         (below_places table.now (length «data».now) t c (drop used desc.now) left at) }
 {
@@ -632,17 +575,12 @@ fn trace_field(
     let l = leaf_at(table, t, c);
     match l {
         Leaf::Free => Some(n),
-        Leaf::Own => trace_word(
-            tag, slots, s, narrow, data, at, goal, marks, to, n, onarrow, other, owork,
-        ),
+        Leaf::Own => trace_word(here, data, at, goal, marks, to, n, onarrow, other, owork),
         Leaf::Deep => {
             let holds = table.has_handles(t);
             trace_parts(
                 table,
-                tag,
-                slots,
-                s,
-                narrow,
+                here,
                 t,
                 c,
                 &desc[used..],
@@ -668,10 +606,7 @@ fn trace_field(
 #[cycle(trace_array_trace_each_trace_elems_trace_field_trace_in_trace_parts_trace_record_trace_records)]
 fn trace_record(
     table: &Table,
-    tag: u8,
-    slots: usize,
-    s: usize,
-    narrow: &[u32],
+    here: Slots,
     first: usize,
     count: usize,
     desc: &[u8],
@@ -686,9 +621,9 @@ fn trace_record(
     other: &[u8],
     owork: &[u64],
 ) -> Option<usize>
-    requires { (first + count ≤ length table.now.fields.now / 2) × (at ≤ length «data».now) × Ready slots s narrow.now goal «data».now onarrow.now other.now }
+    requires { (first + count ≤ length table.now.fields.now / 2) × (at ≤ length «data».now) × Ready here.slots here.s here.narrow.now goal «data».now onarrow.now other.now }
     ensures { told result marks.new to.new ≡
-        handing_at (aim goal (resolve_in tag slots s narrow.now) onarrow.now other.now owork.now)
+        handing_at (aim goal (slots_resolve here.entry) onarrow.now other.now owork.now)
         «data».now (raw_of marks.old to.old n)
         (record_places table.now (length «data».now) first count desc.now left at) }
 {
@@ -707,10 +642,7 @@ fn trace_record(
         }
         m = trace_field(
             table,
-            tag,
-            slots,
-            s,
-            narrow,
+            here,
             t,
             c,
             desc,
@@ -740,10 +672,7 @@ fn trace_record(
 #[cycle(trace_array_trace_each_trace_elems_trace_field_trace_in_trace_parts_trace_record_trace_records)]
 fn trace_records(
     table: &Table,
-    tag: u8,
-    slots: usize,
-    s: usize,
-    narrow: &[u32],
+    here: Slots,
     first: usize,
     len: usize,
     desc: &[u8],
@@ -760,9 +689,9 @@ fn trace_records(
     other: &[u8],
     owork: &[u64],
 ) -> Option<usize>
-    requires { (first + len ≤ length table.now.fields.now / 2) × Ready slots s narrow.now goal «data».now onarrow.now other.now }
+    requires { (first + len ≤ length table.now.fields.now / 2) × Ready here.slots here.s here.narrow.now goal «data».now onarrow.now other.now }
     ensures { told result marks.new to.new ≡
-        handing_at (aim goal (resolve_in tag slots s narrow.now) onarrow.now other.now owork.now)
+        handing_at (aim goal (slots_resolve here.entry) onarrow.now other.now owork.now)
         «data».now (raw_of marks.old to.old n)
         (records_places table.now (length «data».now) first len desc.now left stride count at) }
 {
@@ -774,8 +703,7 @@ fn trace_records(
             return None;
         }
         m = trace_record(
-            table, tag, slots, s, narrow, first, len, desc, left, data, o, goal, marks, to, m,
-            onarrow, other, owork,
+            table, here, first, len, desc, left, data, o, goal, marks, to, m, onarrow, other, owork,
         )?;
         o = step(data, o, stride);
         k -= 1;
@@ -786,10 +714,7 @@ fn trace_records(
 // The handles of a value of a type that needs no descriptor.
 pub fn trace_value(
     table: &Table,
-    tag: u8,
-    slots: usize,
-    s: usize,
-    narrow: &[u32],
+    here: Slots,
     t: u64,
     data: &[u8],
     sink: Sink,
@@ -797,18 +722,14 @@ pub fn trace_value(
     to: &mut [u64],
     n: usize,
 ) -> Option<usize>
-    requires { Runs slots s narrow.now }
     ensures { told result marks.new to.new ≡
-        emitting (into sink (resolve_in tag slots s narrow.now)) (raw_of marks.old to.old n)
+        emitting (into sink (slots_resolve here.entry)) (raw_of marks.old to.old n)
         (value_handles (lent table.now) t «data».now) }
 {
     let holds = table.has_handles(t);
     trace_in(
         table,
-        tag,
-        slots,
-        s,
-        narrow,
+        here,
         t,
         &data[..0],
         65,
@@ -819,7 +740,7 @@ pub fn trace_value(
         marks,
         to,
         n,
-        narrow,
+        here.narrow,
         data,
         table.types,
     )
@@ -828,10 +749,7 @@ pub fn trace_value(
 // The handles of an object's visible data: its descriptor, then its value.
 fn trace_whole(
     table: &Table,
-    tag: u8,
-    slots: usize,
-    s: usize,
-    narrow: &[u32],
+    here: Slots,
     t: u64,
     data: &[u8],
     goal: Goal,
@@ -842,9 +760,9 @@ fn trace_whole(
     other: &[u8],
     owork: &[u64],
 ) -> Option<usize>
-    requires { Ready slots s narrow.now goal «data».now onarrow.now other.now }
+    requires { Ready here.slots here.s here.narrow.now goal «data».now onarrow.now other.now }
     ensures { told result marks.new to.new ≡
-        handing_at (aim goal (resolve_in tag slots s narrow.now) onarrow.now other.now owork.now)
+        handing_at (aim goal (slots_resolve here.entry) onarrow.now other.now owork.now)
         «data».now (raw_of marks.old to.old n)
         (object_places (lent table.now) t «data».now) }
 {
@@ -858,10 +776,7 @@ fn trace_whole(
     }
     trace_in(
         table,
-        tag,
-        slots,
-        s,
-        narrow,
+        here,
         t,
         &data[..k],
         65,
@@ -881,10 +796,7 @@ fn trace_whole(
 // The same for a sink.
 pub fn trace_object(
     table: &Table,
-    tag: u8,
-    slots: usize,
-    s: usize,
-    narrow: &[u32],
+    here: Slots,
     t: u64,
     data: &[u8],
     sink: Sink,
@@ -892,24 +804,20 @@ pub fn trace_object(
     to: &mut [u64],
     n: usize,
 ) -> Option<usize>
-    requires { Runs slots s narrow.now }
     ensures { told result marks.new to.new ≡
-        emitting (into sink (resolve_in tag slots s narrow.now)) (raw_of marks.old to.old n)
+        emitting (into sink (slots_resolve here.entry)) (raw_of marks.old to.old n)
         (object_handles (lent table.now) t «data».now) }
 {
     trace_whole(
         table,
-        tag,
-        slots,
-        s,
-        narrow,
+        here,
         t,
         data,
         Goal::Words(sink),
         marks,
         to,
         n,
-        narrow,
+        here.narrow,
         data,
         table.types,
     )
@@ -917,10 +825,7 @@ pub fn trace_object(
 
 // The handles of a Handles object's visible data: at 24, 32, .. while eight bytes fit.
 fn hand_handles(
-    tag: u8,
-    slots: usize,
-    s: usize,
-    narrow: &[u32],
+    here: Slots,
     data: &[u8],
     goal: Goal,
     marks: &mut [u8],
@@ -930,9 +835,9 @@ fn hand_handles(
     other: &[u8],
     owork: &[u64],
 ) -> usize
-    requires { Ready slots s narrow.now goal «data».now onarrow.now other.now }
+    requires { Ready here.slots here.s here.narrow.now goal «data».now onarrow.now other.now }
     ensures { raw_of marks.new to.new result ≡
-        handed_all (aim goal (resolve_in tag slots s narrow.now) onarrow.now other.now owork.now)
+        handed_all (aim goal (slots_resolve here.entry) onarrow.now other.now owork.now)
         «data».now (raw_of marks.old to.old n)
         (handles_places (length «data».now)) }
 {
@@ -943,9 +848,7 @@ fn hand_handles(
     let mut at: usize = 24;
     let mut m = n;
     while at <= last {
-        m = hand(
-            tag, slots, s, narrow, data, at, goal, marks, to, m, onarrow, other, owork,
-        );
+        m = hand(here, data, at, goal, marks, to, m, onarrow, other, owork);
         at += 8;
     }
     m
@@ -954,10 +857,7 @@ fn hand_handles(
 // The handles of visible data by the kind of its slot.
 fn trace_visible(
     table: &Table,
-    tag: u8,
-    slots: usize,
-    s: usize,
-    narrow: &[u32],
+    here: Slots,
     of: u32,
     t: u64,
     data: &[u8],
@@ -969,21 +869,19 @@ fn trace_visible(
     other: &[u8],
     owork: &[u64],
 ) -> Option<usize>
-    requires { Ready slots s narrow.now goal «data».now onarrow.now other.now }
+    requires { Ready here.slots here.s here.narrow.now goal «data».now onarrow.now other.now }
     ensures { told result marks.new to.new ≡
-        handing_at (aim goal (resolve_in tag slots s narrow.now) onarrow.now other.now owork.now)
+        handing_at (aim goal (slots_resolve here.entry) onarrow.now other.now owork.now)
         «data».now (raw_of marks.old to.old n)
         (kind_places (lent table.now) of t «data».now) }
 {
     if of == 1 {
         return trace_whole(
-            table, tag, slots, s, narrow, t, data, goal, marks, to, n, onarrow, other, owork,
+            table, here, t, data, goal, marks, to, n, onarrow, other, owork,
         );
     }
     if of == 3 {
-        let m = hand_handles(
-            tag, slots, s, narrow, data, goal, marks, to, n, onarrow, other, owork,
-        );
+        let m = hand_handles(here, data, goal, marks, to, n, onarrow, other, owork);
         return Some(m);
     }
     Some(n)
@@ -992,10 +890,7 @@ fn trace_visible(
 // The handles that a slot of a heap shows: bytes before start are never traced. Places are counted from start, in the data beside too.
 fn trace_shown(
     table: &Table,
-    tag: u8,
-    slots: usize,
-    s: usize,
-    narrow: &[u32],
+    here: Slots,
     of: u32,
     t: u64,
     start: usize,
@@ -1008,9 +903,9 @@ fn trace_shown(
     other: &[u8],
     owork: &[u64],
 ) -> Option<usize>
-    requires { Ready slots s narrow.now goal «data».now onarrow.now other.now }
+    requires { Ready here.slots here.s here.narrow.now goal «data».now onarrow.now other.now }
     ensures { told result marks.new to.new ≡
-        handing_at (aim goal (resolve_in tag slots s narrow.now) onarrow.now (drop start other.now) owork.now)
+        handing_at (aim goal (slots_resolve here.entry) onarrow.now (drop start other.now) owork.now)
         (drop start «data».now) (raw_of marks.old to.old n)
         (shown_places (lent table.now) of t start «data».now) }
 {
@@ -1019,10 +914,7 @@ fn trace_shown(
     }
     trace_visible(
         table,
-        tag,
-        slots,
-        s,
-        narrow,
+        here,
         of,
         t,
         &data[start..],
@@ -1039,19 +931,15 @@ fn trace_shown(
 // The handles of a Handles object's visible data to a sink: at 24, 32, .. while eight bytes fit. It stands beside hand_handles, whose goal and other object a collection would pass on for nothing:
 // with them a collection of small objects took twice the time.
 pub fn trace_handles(
-    tag: u8,
-    slots: usize,
-    s: usize,
-    narrow: &[u32],
+    here: Slots,
     data: &[u8],
     sink: Sink,
     marks: &mut [u8],
     to: &mut [u64],
     n: usize,
 ) -> usize
-    requires { Runs slots s narrow.now }
     ensures { raw_of marks.new to.new result ≡
-        emit_all (into sink (resolve_in tag slots s narrow.now)) (raw_of marks.old to.old n)
+        emit_all (into sink (slots_resolve here.entry)) (raw_of marks.old to.old n)
         (map (handle_at «data».now) (handles_places (length «data».now))) }
 {
     if data.len() < 32 {
@@ -1062,7 +950,7 @@ pub fn trace_handles(
     let mut m = n;
     while at <= last {
         let h = word::get_le(data, at, 8);
-        m = emit(tag, slots, s, narrow, sink, marks, to, m, h);
+        m = emit(here, sink, marks, to, m, h);
         at += 8;
     }
     m
@@ -1071,10 +959,7 @@ pub fn trace_handles(
 // The handles that a Typed slot shows. It stands apart so that other slots, which need no types, are traced without a call.
 fn trace_typed(
     table: &Table,
-    tag: u8,
-    slots: usize,
-    s: usize,
-    narrow: &[u32],
+    here: Slots,
     t: u64,
     start: usize,
     data: &[u8],
@@ -1083,33 +968,18 @@ fn trace_typed(
     to: &mut [u64],
     n: usize,
 ) -> Option<usize>
-    requires { (start ≤ length «data».now) × Runs slots s narrow.now }
+    requires { (start ≤ length «data».now) }
     ensures { told result marks.new to.new ≡
-        emitting (into sink (resolve_in tag slots s narrow.now)) (raw_of marks.old to.old n)
+        emitting (into sink (slots_resolve here.entry)) (raw_of marks.old to.old n)
         (handles_of (lent table.now) 1 t start «data».now) }
 {
-    trace_object(
-        table,
-        tag,
-        slots,
-        s,
-        narrow,
-        t,
-        &data[start..],
-        sink,
-        marks,
-        to,
-        n,
-    )
+    trace_object(table, here, t, &data[start..], sink, marks, to, n)
 }
 
 // The handles that a slot of a heap shows, to a sink: bytes before start are never traced.
 pub fn trace_slot(
     table: &Table,
-    tag: u8,
-    slots: usize,
-    s: usize,
-    narrow: &[u32],
+    here: Slots,
     of: u32,
     t: u64,
     start: usize,
@@ -1119,21 +989,18 @@ pub fn trace_slot(
     to: &mut [u64],
     n: usize,
 ) -> Option<usize>
-    requires { Runs slots s narrow.now }
     ensures { told result marks.new to.new ≡
-        emitting (into sink (resolve_in tag slots s narrow.now)) (raw_of marks.old to.old n)
+        emitting (into sink (slots_resolve here.entry)) (raw_of marks.old to.old n)
         (handles_of (lent table.now) of t start «data».now) }
 {
     if data.len() < start {
         return Some(n);
     }
     if of == 1 {
-        return trace_typed(
-            table, tag, slots, s, narrow, t, start, data, sink, marks, to, n,
-        );
+        return trace_typed(table, here, t, start, data, sink, marks, to, n);
     }
     if of == 3 {
-        let m = trace_handles(tag, slots, s, narrow, &data[start..], sink, marks, to, n);
+        let m = trace_handles(here, &data[start..], sink, marks, to, n);
         return Some(m);
     }
     Some(n)
@@ -1143,51 +1010,41 @@ pub fn trace_slot(
 // are behind, counted from start. `work` has the turns of this heap and is left as it is.
 pub fn trace_beside(
     table: &Table,
-    tag: u8,
-    slots: usize,
-    s: usize,
-    narrow: &[u32],
+    here: Slots,
     of: u32,
     t: u64,
     start: usize,
     data: &[u8],
-    otag: u8,
-    oslots: usize,
-    os: usize,
-    onarrow: &[u32],
+    there: Met,
     other: &[u8],
-    owork: &[u64],
     found: &mut [u8],
     work: &mut [u64],
     n: usize,
 ) -> Option<usize>
-    requires { Runs slots s narrow.now × Runs oslots os onarrow.now × (length «data».now ≡ length other.now) }
+    requires { length «data».now ≡ length other.now }
     ensures { told result found.new work.new ≡
-        handing_at (aim (Goal.Beside otag oslots os) (resolve_in tag slots s narrow.now) onarrow.now (drop start other.now) owork.now)
+        handing_at (beside_aim here.entry there.entry (drop start other.now))
         (drop start «data».now) (raw_of found.old work.old n)
         (shown_places (lent table.now) of t start «data».now) }
 {
     trace_shown(
         table,
-        tag,
-        slots,
-        s,
-        narrow,
+        here,
         of,
         t,
         start,
         data,
         Goal::Beside {
-            tag: otag,
-            slots: oslots,
-            s: os,
+            tag: there.slots.tag,
+            slots: there.slots.slots,
+            s: there.slots.s,
         },
         found,
         work,
         n,
-        onarrow,
+        there.slots.narrow,
         other,
-        owork,
+        there.turns,
     )
 }
 
@@ -1198,15 +1055,18 @@ pub fn list_value(table: &Table, t: u64, data: &[u8], out: &mut [u64]) -> Reply
         result out.old out.new }
 {
     let narrow = [0u32; 1];
+    let none = Slots {
+        tag: 0,
+        slots: 0,
+        s: 0,
+        narrow: &narrow,
+    };
     let mut marks = [0u8; 1];
     let mut unused = [0u64; 1];
     let limit = out.len();
     let c = trace_value(
         table,
-        0,
-        0,
-        0,
-        &narrow,
+        none,
         t,
         data,
         Sink::Check(limit),
@@ -1220,19 +1080,7 @@ pub fn list_value(table: &Table, t: u64, data: &[u8], out: &mut [u64]) -> Reply
     if limit < n {
         return Err(Refusal::ShortList);
     }
-    trace_value(
-        table,
-        0,
-        0,
-        0,
-        &narrow,
-        t,
-        data,
-        Sink::List,
-        &mut marks,
-        out,
-        0,
-    );
+    trace_value(table, none, t, data, Sink::List, &mut marks, out, 0);
     Ok((n as u64, 0))
 }
 
@@ -1243,15 +1091,18 @@ pub fn list_object(table: &Table, t: u64, data: &[u8], out: &mut [u64]) -> Reply
         result out.old out.new }
 {
     let narrow = [0u32; 1];
+    let none = Slots {
+        tag: 0,
+        slots: 0,
+        s: 0,
+        narrow: &narrow,
+    };
     let mut marks = [0u8; 1];
     let mut unused = [0u64; 1];
     let limit = out.len();
     let c = trace_object(
         table,
-        0,
-        0,
-        0,
-        &narrow,
+        none,
         t,
         data,
         Sink::Check(limit),
@@ -1265,18 +1116,6 @@ pub fn list_object(table: &Table, t: u64, data: &[u8], out: &mut [u64]) -> Reply
     if limit < n {
         return Err(Refusal::ShortList);
     }
-    trace_object(
-        table,
-        0,
-        0,
-        0,
-        &narrow,
-        t,
-        data,
-        Sink::List,
-        &mut marks,
-        out,
-        0,
-    );
+    trace_object(table, none, t, data, Sink::List, &mut marks, out, 0);
     Ok((n as u64, 0))
 }

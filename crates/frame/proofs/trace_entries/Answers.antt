@@ -24,7 +24,7 @@ pub offset_bounds-map-at-in-loop-at : goal.offset_bounds-map-at-in-loop-at
 offset_bounds-map-at-in-loop-at c = omega arith
 
 pub bounds-map-at-in-loop-at : goal.bounds-map-at-in-loop-at
-bounds-map-at-in-loop-at c = omega (arith, c.loop-at-test.true, c.loop-at.invariant.0, c.loop-at.invariant.1, c.requires.0)
+bounds-map-at-in-loop-at c = omega (arith, c.loop-at-test.true, c.loop-at.invariant.0, c.loop-at.invariant.1, c.requires)
 
 pub overflow_add-t : goal.overflow_add-t
 overflow_add-t c = omega (arith, c.loop-at-test.true, c.well_formed)
@@ -33,22 +33,22 @@ pub offset_bounds-map-at-in-loop-at-2 : goal.offset_bounds-map-at-in-loop-at-2
 offset_bounds-map-at-in-loop-at-2 c = omega arith
 
 pub bounds-map-at-in-loop-at-2 : goal.bounds-map-at-in-loop-at-2
-bounds-map-at-in-loop-at-2 c = omega (arith, c.loop-at-test.true, c.loop-at.invariant.0, c.loop-at.invariant.1, c.requires.0)
+bounds-map-at-in-loop-at-2 c = omega (arith, c.loop-at-test.true, c.loop-at.invariant.0, c.loop-at.invariant.1, c.requires)
 
 pub overflow_cast-t : goal.overflow_cast-t
 overflow_cast-t c = omega (arith, c.type_inv.map (c.loop-at.at + 2))
 
 pub returns-in_err-m : goal.returns-in_err-m
-returns-in_err-m c = rw c.from_residual.ensures (entries-fail _ _ _ _ _ _ _ _ _ _ c.loop-at.invariant.2 c.loop-at-test.true c.requires.0 c.loop-at.invariant.1 c.trace_entry.result c.trace_entry.new.marks c.trace_entry.new.to c.trace_entry.ensures c.in_err-m.was)
+returns-in_err-m c = rw c.from_residual.ensures (entries-fail _ _ _ _ _ _ _ _ _ _ c.loop-at.invariant.2 c.loop-at-test.true c.requires c.loop-at.invariant.1 c.trace_entry.result c.trace_entry.new.marks c.trace_entry.new.to c.trace_entry.ensures c.in_err-m.was)
 
 pub overflow_add-at : goal.overflow_add-at
-overflow_add-at c = omega (arith, c.loop-at-test.true, c.loop-at.invariant.0, c.loop-at.invariant.1, c.requires.0, c.well_formed)
+overflow_add-at c = omega (arith, c.loop-at-test.true, c.loop-at.invariant.0, c.loop-at.invariant.1, c.requires, c.well_formed)
 
 pub loop-at-smaller : goal.loop-at-smaller
-loop-at-smaller c = omega (arith, c.loop-at-test.true, c.loop-at.invariant.0, c.loop-at.invariant.1, c.requires.0)
+loop-at-smaller c = omega (arith, c.loop-at-test.true, c.loop-at.invariant.0, c.loop-at.invariant.1, c.requires)
 
 pub loop-at-preserved : goal.loop-at-preserved
-loop-at-preserved c = (omega (arith, c.loop-at-test.true, c.loop-at.invariant.0, c.loop-at.invariant.1, c.requires.0), omega (arith, c.loop-at-test.true, c.loop-at.invariant.0, c.loop-at.invariant.1, c.requires.0), entries-more _ _ _ _ _ _ _ _ _ _ c.loop-at.invariant.2 c.loop-at-test.true c.requires.0 c.loop-at.invariant.1 c.trace_entry.result c.trace_entry.new.marks c.trace_entry.new.to c.trace_entry.ensures _ c.in_ok-m.was, search rules, search rules)
+loop-at-preserved c = (omega (arith, c.loop-at-test.true, c.loop-at.invariant.0, c.loop-at.invariant.1, c.requires), omega (arith, c.loop-at-test.true, c.loop-at.invariant.0, c.loop-at.invariant.1, c.requires), entries-more _ _ _ _ _ _ _ _ _ _ c.loop-at.invariant.2 c.loop-at-test.true c.requires c.loop-at.invariant.1 c.trace_entry.result c.trace_entry.new.marks c.trace_entry.new.to c.trace_entry.ensures _ c.in_ok-m.was, search rules, search rules)
 
 pub returns : goal.returns
 returns c = search entries-end

@@ -1,21 +1,22 @@
 use Prim.Native.Nat.{◌+◌, ◌*◌}
 use Rattle.trace.proofs.Emits.{turns_left}
 use lib.ListN.{length}
-use Rattle.trace.specs.Emit.{raw_of, aim, resolve_in, handing_at}
+use Rattle.trace.specs.Emit.{raw_of, aim, handing_at}
 use Rattle.trace.specs.Walk.{elem_places}
 use mathlib.Core.Path.{◌≡◌}
 use lib.ListN.{length}
 use Rattle.ty.specs.View.{lent, fields_from}
-use Rattle.trace.specs.Emit.{raw_of, aim, resolve_in, handing_at}
+use Rattle.trace.specs.Emit.{raw_of, aim, handing_at}
 use Rattle.trace.specs.Walk.{walk, record_places}
 use Rattle.trace.specs.Places.{places_at}
 use Prim.Native.Nat.{◌+◌, ◌-◌, ◌*◌, ◌≤◌}
 use mathlib.Core.Path.{◌≡◌}
 use Rattle.trace.proofs.Emits.{turns_left}
 use lib.ListN.{length}
-use Rattle.trace.specs.Emit.{raw_of, aim, resolve_in, handing_at}
+use Rattle.trace.specs.Emit.{raw_of, aim, handing_at}
 use Rattle.trace.specs.Walk.{records_places}
 use mathlib.Core.Path.{◌≡◌}
+use Rattle.beside.specs.Inner.Ranks.{slots_resolve}
 use Rattle.trace.proofs.+trace_array_trace_each_trace_elems_trace_field_trace_in_trace_parts_trace_record_trace_records.Given as goal
 
 abbrev pub decreases-trace_array : goal.decreases-trace_array
@@ -43,8 +44,8 @@ abbrev pub decreases-trace_records : goal.decreases-trace_records
 decreases-trace_records l = 7 * l.left + 6
 
 abbrev pub invariant-trace_each-loop-k : goal.invariant-trace_each-loop-k
-invariant-trace_each-loop-k l = (handing_at (aim l.goal (resolve_in l.tag l.slots l.s l.narrow) l.onarrow l.other l.owork) l.«data» (raw_of l.marks l.to l.m) (elem_places l.table (length l.«data») l.t l.desc l.left l.stride l.k l.p)
-    ≡ handing_at (aim l.goal (resolve_in l.tag l.slots l.s l.narrow) l.onarrow l.other l.owork) l.«data» (raw_of l.initial.marks l.initial.to l.n) (elem_places l.table (length l.«data») l.t l.desc l.left l.stride l.count l.at))
+invariant-trace_each-loop-k l = (handing_at (aim l.goal (slots_resolve l.here) l.onarrow l.other l.owork) l.«data» (raw_of l.marks l.to l.m) (elem_places l.table (length l.«data») l.t l.desc l.left l.stride l.k l.p)
+    ≡ handing_at (aim l.goal (slots_resolve l.here) l.onarrow l.other l.owork) l.«data» (raw_of l.initial.marks l.initial.to l.n) (elem_places l.table (length l.«data») l.t l.desc l.left l.stride l.count l.at))
     × (length l.marks ≡ length l.initial.marks) × (length l.to ≡ length l.initial.to)
 
 abbrev pub decreases-trace_each-loop-k : goal.decreases-trace_each-loop-k
@@ -52,13 +53,13 @@ decreases-trace_each-loop-k l = turns_left (length l.«data») l.stride l.k l.p
 
 abbrev pub invariant-trace_record-loop-i : goal.invariant-trace_record-loop-i
 invariant-trace_record-loop-i l = (l.used ≤ length l.desc)
-    × (handing_at (aim l.goal (resolve_in l.tag l.slots l.s l.narrow) l.onarrow l.other l.owork) l.«data» (raw_of l.marks l.to l.m) (walk (lent l.table) (places_at (lent l.table) (length l.«data») l.left) (length l.«data») l.at (fields_from l.table.fields.now (l.first + l.i) (l.count - l.i)) l.desc l.off l.align l.used)
-    ≡ handing_at (aim l.goal (resolve_in l.tag l.slots l.s l.narrow) l.onarrow l.other l.owork) l.«data» (raw_of l.initial.marks l.initial.to l.n) (record_places l.table (length l.«data») l.first l.count l.desc l.left l.at))
+    × (handing_at (aim l.goal (slots_resolve l.here) l.onarrow l.other l.owork) l.«data» (raw_of l.marks l.to l.m) (walk (lent l.table) (places_at (lent l.table) (length l.«data») l.left) (length l.«data») l.at (fields_from l.table.fields.now (l.first + l.i) (l.count - l.i)) l.desc l.off l.align l.used)
+    ≡ handing_at (aim l.goal (slots_resolve l.here) l.onarrow l.other l.owork) l.«data» (raw_of l.initial.marks l.initial.to l.n) (record_places l.table (length l.«data») l.first l.count l.desc l.left l.at))
     × (length l.marks ≡ length l.initial.marks) × (length l.to ≡ length l.initial.to)
 
 abbrev pub invariant-trace_records-loop-k : goal.invariant-trace_records-loop-k
-invariant-trace_records-loop-k l = (handing_at (aim l.goal (resolve_in l.tag l.slots l.s l.narrow) l.onarrow l.other l.owork) l.«data» (raw_of l.marks l.to l.m) (records_places l.table (length l.«data») l.first l.len l.desc l.left l.stride l.k l.o)
-    ≡ handing_at (aim l.goal (resolve_in l.tag l.slots l.s l.narrow) l.onarrow l.other l.owork) l.«data» (raw_of l.initial.marks l.initial.to l.n) (records_places l.table (length l.«data») l.first l.len l.desc l.left l.stride l.count l.at))
+invariant-trace_records-loop-k l = (handing_at (aim l.goal (slots_resolve l.here) l.onarrow l.other l.owork) l.«data» (raw_of l.marks l.to l.m) (records_places l.table (length l.«data») l.first l.len l.desc l.left l.stride l.k l.o)
+    ≡ handing_at (aim l.goal (slots_resolve l.here) l.onarrow l.other l.owork) l.«data» (raw_of l.initial.marks l.initial.to l.n) (records_places l.table (length l.«data») l.first l.len l.desc l.left l.stride l.count l.at))
     × (length l.marks ≡ length l.initial.marks) × (length l.to ≡ length l.initial.to)
 
 abbrev pub decreases-trace_records-loop-k : goal.decreases-trace_records-loop-k
