@@ -24,7 +24,7 @@ use Rattle.flow.proofs.Lists.{passing-same}
 use Rattle.roots.specs.View.{view as function_in}
 use Rattle.roots.specs.Calls.{Lent, function, right, need}
 use Rattle.roots.specs.Columns.{wanted, seen, cell, In}
-use Rattle.roots.specs.Plans.{lent, all_seen, out_row}
+use Rattle.roots.specs.Plans.{planned, all_seen, out_row}
 use Rattle.roots.specs.declared.Tracked.{Tracked}
 use Rattle.roots.specs.declared.Tracked.TheVariants.{References}
 use Rattle.roots.specs.declared.Plan.{Plan}
@@ -90,16 +90,16 @@ module _ (f : Lent) (pc : ℕ) (rows : List ℕ) (good : right f ≡ true) (room
               ∙ ap (λ (u : ℕ). passing (live_before (track is_reference (function f)) (holder (track is_reference (function f)).blocks pc 0) pc) 0 u) (sym (ap length classes-are));
         }
 
--- the same of a plan that asks for references
-pub plan-found : (p : Plan) → p.which ≡ References → (pc : ℕ) (rows : List ℕ) → need (lent p.code) ≤ length rows → (b : ℕ) → b < p.nb → In p.code.blocks.now b pc
-    → safepoint (function (lent p.code)) pc ≡ true → (rows' : List ℕ) → length rows' ≡ length rows
-    → ((q : ℕ) → q < 64 * p.words → cell rows' (out_row p) q ≡ live_before (all_seen p) b pc q) → RootRow (lent p.code) pc rows rows' true
-plan-found p w pc rows room b h at e rows' n c =
-    look-found (lent p.code) pc rows p.passed room b (omega (arith, p.counted)) at e rows' n
-    (subst (λ (t : Tracked). (q : ℕ) → q < 64 * row_words (lent p.code) → cell rows' (row_start (lent p.code)) q
-    ≡ live_before (seen (wanted t) p.code.kinds.now p.code.ends.now p.code.refs.now p.code.blocks.now p.code.classes.now) b pc q) w
-    (subst (λ (k : ℕ). (q : ℕ) → q < 64 * row_words (lent p.code) → cell rows' (k * (3 * row_words (lent p.code))) q ≡ live_before (all_seen p) b pc q) p.counted
-    (subst (λ (k : ℕ). (q : ℕ) → q < 64 * k → cell rows' (p.nb * (3 * k)) q ≡ live_before (all_seen p) b pc q) p.covered c)))
+-- the same of a plan that asks for references, in rows of as few words as hold the bits
+pub plan-found : (p : Plan) → p.flow.registers.which ≡ References → p.flow.words ≡ row_words (planned p) → (pc : ℕ) (rows : List ℕ) → need (planned p) ≤ length rows
+    → (b : ℕ) → b < p.flow.blocks.count → In p.flow.blocks.bounds.now b pc → safepoint (function (planned p)) pc ≡ true → (rows' : List ℕ) → length rows' ≡ length rows
+    → ((q : ℕ) → q < 64 * p.flow.words → cell rows' (out_row p.flow) q ≡ live_before (all_seen p) b pc q) → RootRow (planned p) pc rows rows' true
+plan-found p w least pc rows room b h at e rows' n c =
+    look-found (planned p) pc rows p.passed room b (omega (arith, p.flow.counted)) at e rows' n
+    (subst (λ (t : Tracked). (q : ℕ) → q < 64 * row_words (planned p) → cell rows' (row_start (planned p)) q
+    ≡ live_before (seen (wanted t) p.flow.kinds.now p.flow.registers.ends.now p.flow.registers.refs.now p.flow.blocks.bounds.now p.flow.registers.classes.now) b pc q) w
+    (subst (λ (k : ℕ). (q : ℕ) → q < 64 * row_words (planned p) → cell rows' (k * (3 * row_words (planned p))) q ≡ live_before (all_seen p) b pc q) p.flow.counted
+    (subst (λ (k : ℕ). (q : ℕ) → q < 64 * k → cell rows' (p.flow.blocks.count * (3 * k)) q ≡ live_before (all_seen p) b pc q) least c)))
 
 -- ---- the collection
 

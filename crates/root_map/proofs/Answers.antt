@@ -14,8 +14,7 @@ use Rattle.refusal.specs.Told.{answered, refused_by}
 use Rattle.refusal.specs.declared.Answer.{Answer}
 use Rattle.roots.specs.Calls.{Lent, function, right, need, after, scratch_after, registers_at}
 use Rattle.roots.specs.Columns.{wanted}
-use Rattle.roots.specs.Plans.{lent}
-use Rattle.roots.specs.declared.Code.{Code}
+use Rattle.roots.specs.Plans.{planned}
 use Rattle.roots.specs.declared.Tracked.{Tracked}
 use Rattle.roots.specs.declared.Plan.{Plan}
 use Rattle.roots.proofs.Forms.{code-count, formed-parts}
@@ -117,8 +116,8 @@ module _ (l : Lent) (t : ℕ → Bool) where
             }
 
 -- a plan of what was asked
-pub asked-map : (p : Plan) (code : Code) (which : Tracked) → p.code ≡ code → p.which ≡ which → (pcs bounds regs rows pcs' bounds' regs' rows' : List ℕ) (r : Answer)
-    → LiveRefsCall (lent p.code) (wanted p.which) pcs bounds regs rows pcs' bounds' regs' rows' r → LiveRefsCall (lent code) (wanted which) pcs bounds regs rows pcs' bounds' regs' rows' r
-asked-map p code which e w pcs bounds regs rows pcs' bounds' regs' rows' r h =
-    subst (λ (k : Code). LiveRefsCall (lent k) (wanted which) pcs bounds regs rows pcs' bounds' regs' rows' r) e
-    (subst (λ (t : Tracked). LiveRefsCall (lent p.code) (wanted t) pcs bounds regs rows pcs' bounds' regs' rows' r) w h)
+pub asked-map : (p : Plan) (l : Lent) (which : Tracked) → planned p ≡ l → p.flow.registers.which ≡ which → (pcs bounds regs rows pcs' bounds' regs' rows' : List ℕ) (r : Answer)
+    → LiveRefsCall (planned p) (wanted p.flow.registers.which) pcs bounds regs rows pcs' bounds' regs' rows' r → LiveRefsCall l (wanted which) pcs bounds regs rows pcs' bounds' regs' rows' r
+asked-map p l which e w pcs bounds regs rows pcs' bounds' regs' rows' r h =
+    subst (λ (k : Lent). LiveRefsCall k (wanted which) pcs bounds regs rows pcs' bounds' regs' rows' r) e
+    (subst (λ (t : Tracked). LiveRefsCall (planned p) (wanted t) pcs bounds regs rows pcs' bounds' regs' rows' r) w h)

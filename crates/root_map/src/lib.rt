@@ -9,7 +9,6 @@ ghost use Rattle.refusal.specs.Told.{told};
 ghost use Rattle.root_map.specs.Calls.{LiveRefsCall};
 ghost use Rattle.roots.specs.Columns.{wanted, cell, Outside, Fixed, Found, In, Chains};
 ghost use Rattle.roots.specs.Plans.{lent, all_seen, out_row, Room};
-ghost use Rattle.root_map.specs.Columns.{row_at};
 ghost use Rattle.root_map.specs.Plans.{StandingAt, PointedAt, CountedAt, FitsAt, WrittenAt};
 
 use refusal::{Refusal, Reply};
@@ -17,7 +16,7 @@ use roots::chains::{BlockChains, NO_BLOCK};
 use roots::check::{check_function, rows_fit};
 use roots::fixpoint::{analyse, back_at, gather};
 use roots::row::wide;
-use roots::{Code, Plan, Tracked};
+use roots::{Code, Flow, Plan, Tracked};
 
 // How many safepoints, and registers live at them, there are.
 #[derive(Clone, Copy)]
@@ -26,88 +25,108 @@ pub struct Counts {
     pub registers: usize,
 }
 
+// A plan and the chains of its blocks by their end, for a walk from the last instruction to the first.
+#[derive(Clone, Copy)]
+struct Walk<'a> {
+    plan: Plan<'a>,
+    by_end: &'a BlockChains,
+    ghost chained: { Chains plan.flow.blocks.bounds.now 1 plan.flow.blocks.count 0 by_end.now.heads by_end.now.links },
+    ghost narrow: { plan.flow.words ≤ 256 },
+}
+
 // The block that holds instruction pc, or the number of blocks, where b is that of pc + 1. From the last instruction to the first, a block is entered at its
 // last one: where b does not hold pc too, only a block that ends at pc + 1 can, and the chains of the blocks by their end have it.
 // Kept: a number for none, as the chains give it and as the next turn takes it.
-fn block_of(plan: &Plan, by_end: &BlockChains, b: usize, pc: usize) -> usize
-    requires { Chains plan.now.code.blocks.now 1 plan.now.nb 0 by_end.now.heads by_end.now.links × (pc < 65536) × Found plan.now.code.blocks.now plan.now.nb (pc + 1) b }
-    ensures { Found plan.now.code.blocks.now plan.now.nb pc result }
+fn block_of(walk: &Walk, b: usize, pc: usize) -> usize
+    requires { (pc < 65536) × Found walk.now.plan.flow.blocks.bounds.now walk.now.plan.flow.blocks.count (pc + 1) b }
+    ensures { Found walk.now.plan.flow.blocks.bounds.now walk.now.plan.flow.blocks.count pc result }
 {
-    let Plan { code, nb, .. } = *plan;
-    if b < nb {
-        let st = wide(code.blocks[2 * b]);
+    let blocks = walk.plan.flow.blocks;
+    if b < blocks.count {
+        let st = wide(blocks.bounds[2 * b]);
         if st <= pc {
             return b;
         }
     }
-    by_end.first_at(plan, 1, pc + 1)
+    walk.by_end.first_at(&blocks, 1, pc + 1)
 }
 
 // The row after the blocks' becomes the registers that are live before instruction pc of block b. Where q is before the block's end, the row is that before
 // q, and the walk goes on from there.
 fn block_row(s: &mut [u64], plan: &Plan, b: usize, q: usize, pc: usize)
-    requires nb_value { Room plan.now s.old × (b < plan.now.nb) × In plan.now.code.blocks.now b pc × (pc < q) }
-    requires fixed { Fixed (all_seen plan.now) plan.now.code.blocks.now s.old plan.now.words plan.now.nb }
+    requires nb_value { Room plan.now.flow s.old × (b < plan.now.flow.blocks.count) × In plan.now.flow.blocks.bounds.now b pc × (pc < q) }
+    requires fixed { Fixed (all_seen plan.now) plan.now.flow.blocks.bounds.now s.old plan.now.flow.words plan.now.flow.blocks.count }
     requires standing { StandingAt plan.now s.old b q }
-    ensures { Outside s.old s.new (out_row plan.now) plan.now.words × ((r : ℕ) → r < 64 * plan.now.words → cell s.new (out_row plan.now) r
+    ensures { Outside s.old s.new (out_row plan.now.flow) plan.now.flow.words × ((r : ℕ) → r < 64 * plan.now.flow.words → cell s.new (out_row plan.now.flow) r
         ≡ live_before (all_seen plan.now) b pc r) }
 {
-    let at = plan.nb * (3 * plan.words);
-    let e = wide(plan.code.blocks[2 * b + 1]);
+    let Flow {
+        registers,
+        blocks,
+        words,
+        ..
+    } = plan.flow;
+    let at = blocks.count * (3 * words);
+    let e = wide(blocks.bounds[2 * b + 1]);
     if q < e {
-        back_at(s, plan, at, pc, q);
+        back_at(s, &registers, at, words, pc, q);
         return;
     }
-    gather(s, plan, b);
-    back_at(s, plan, at, pc, e);
+    gather(s, &plan.flow, b);
+    back_at(s, &registers, at, words, pc, e);
 }
 
 // Whether instruction pc, which block b holds if b is a block, is a safepoint inside a block. Then the row after the blocks' becomes the registers that are
 // live before it.
 fn point_row(s: &mut [u64], plan: &Plan, b: usize, q: usize, pc: usize) -> bool
-    requires nb_value { Room plan.now s.old × (pc < length plan.now.code.kinds.now) × (pc < q) × Found plan.now.code.blocks.now plan.now.nb pc b }
-    requires fixed { Fixed (all_seen plan.now) plan.now.code.blocks.now s.old plan.now.words plan.now.nb }
+    requires nb_value { Room plan.now.flow s.old × (pc < length plan.now.flow.kinds.now) × (pc < q) × Found plan.now.flow.blocks.bounds.now plan.now.flow.blocks.count pc b }
+    requires fixed { Fixed (all_seen plan.now) plan.now.flow.blocks.bounds.now s.old plan.now.flow.words plan.now.flow.blocks.count }
     requires standing { StandingAt plan.now s.old b q }
     ensures { PointedAt plan.now s.old s.new b pc result }
 {
-    let Plan { code, nb, .. } = *plan;
-    let kinds = code.kinds;
+    let Flow { kinds, blocks, .. } = plan.flow;
     if kinds[pc] != 1 {
         return false;
     }
-    if nb <= b {
+    if blocks.count <= b {
         return false;
     }
     block_row(s, plan, b, q, pc);
     true
 }
 
-// How many registers the row at `at` has.
-fn count_at(s: &[u64], at: usize, words: usize) -> usize
-    requires { (at + words ≤ length s.now) × (words ≤ 256) }
-    ensures { (result ≡ length (listed 64 (row_at s.now at words))) × (result ≤ 16384) }
+// How many registers a row has.
+fn count_row(row: &[u64]) -> usize
+    requires { length row.now ≤ 256 }
+    ensures { (result ≡ length (listed 64 row.now)) × (result ≤ 16384) }
 {
-    let past = at + words;
-    rows::count(&s[at..past])
+    rows::count(row)
 }
 
 // Counts the map, the last instruction first.
-fn count_map(s: &mut [u64], plan: &Plan, by_end: &BlockChains) -> Counts
-    requires nb_value { Room plan.now s.old × Chains plan.now.code.blocks.now 1 plan.now.nb 0 by_end.now.heads by_end.now.links }
-    requires fixed { Fixed (all_seen plan.now) plan.now.code.blocks.now s.old plan.now.words plan.now.nb }
-    ensures { CountedAt plan.now s.old s.new (length plan.now.code.kinds.now) result.points result.registers }
+fn count_map(s: &mut [u64], walk: &Walk) -> Counts
+    requires room { Room walk.now.plan.flow s.old }
+    requires fixed { Fixed (all_seen walk.now.plan) walk.now.plan.flow.blocks.bounds.now s.old walk.now.plan.flow.words walk.now.plan.flow.blocks.count }
+    ensures { CountedAt walk.now.plan s.old s.new (length walk.now.plan.flow.kinds.now) result.points result.registers }
 {
-    let at = plan.nb * (3 * plan.words);
+    let Flow {
+        kinds,
+        blocks,
+        words,
+        ..
+    } = walk.plan.flow;
+    let at = blocks.count * (3 * words);
+    let past = at + words;
     let mut points: usize = 0;
     let mut registers: usize = 0;
-    let mut b = plan.nb;
-    let mut q = plan.code.kinds.len();
-    for pc in (0..plan.code.kinds.len()).rev() {
-        b = block_of(plan, by_end, b, pc);
-        if point_row(s, plan, b, q, pc) {
+    let mut b = blocks.count;
+    let mut q = kinds.len();
+    for pc in (0..kinds.len()).rev() {
+        b = block_of(walk, b, pc);
+        if point_row(s, &walk.plan, b, q, pc) {
             q = pc;
             points += 1;
-            registers += count_at(s, at, plan.words);
+            registers += count_row(&s[at..past]);
         }
     }
     Counts { points, registers }
@@ -126,11 +145,9 @@ fn short(points: usize, registers: usize, pcs: usize, bounds: usize, regs: usize
     regs < registers
 }
 
-// Writes one safepoint: its place, where its registers end, and its registers, those of the row at `at`. Where they begin.
+// Writes one safepoint: its place, where its registers end, and its registers, those of the row. Where they begin.
 fn write_point(
-    s: &[u64],
-    at: usize,
-    words: usize,
+    row: &[u64],
     pc: usize,
     pcs: &mut [u32],
     bounds: &mut [u32],
@@ -138,47 +155,53 @@ fn write_point(
     k: usize,
     to: usize,
 ) -> usize
-    requires words_in_bounds { (at + words ≤ length s.now) × (words ≤ 256) × (pc < 65536) × (k < length pcs.old) × (k < length bounds.old) × (to ≤ 1073741824) }
-    requires words_len_bound { (length (listed 64 (row_at s.now at words)) ≤ to) × (to ≤ length regs.old) }
-    ensures { (to ≡ result + length (listed 64 (row_at s.now at words)))
+    requires words_in_bounds { (length row.now ≤ 256) × (pc < 65536) × (k < length pcs.old) × (k < length bounds.old) × (to ≤ 1073741824) }
+    requires words_len_bound { (length (listed 64 row.now) ≤ to) × (to ≤ length regs.old) }
+    ensures { (to ≡ result + length (listed 64 row.now))
         × (pcs.new ≡ set pcs.old k pc) × (bounds.new ≡ set bounds.old k to)
-        × (regs.new ≡ put regs.old result (listed 64 (row_at s.now at words)) (length (listed 64 (row_at s.now at words)))) }
+        × (regs.new ≡ put regs.old result (listed 64 row.now) (length (listed 64 row.now))) }
 {
-    let n = count_at(s, at, words);
+    let n = count_row(row);
     let from = to - n;
-    let past = at + words;
-    rows::list_row(&s[at..past], &mut regs[from..to]);
+    rows::list_row(row, &mut regs[from..to]);
     pcs[k] = pc as u32;
     bounds[k] = to as u32;
     from
 }
 
 // Writes the map, of so many safepoints and registers, the last instruction first.
+// Kept: three lists side by side, as the C interface lends them; the contract says of each what it has.
 fn write_map(
     s: &mut [u64],
-    plan: &Plan,
-    by_end: &BlockChains,
+    walk: &Walk,
     pcs: &mut [u32],
     bounds: &mut [u32],
     regs: &mut [u32],
     counts: Counts,
 )
-    requires nb_value { Room plan.now s.old × Chains plan.now.code.blocks.now 1 plan.now.nb 0 by_end.now.heads by_end.now.links }
-    requires fixed { Fixed (all_seen plan.now) plan.now.code.blocks.now s.old plan.now.words plan.now.nb }
-    requires fits { FitsAt plan.now pcs.old bounds.old regs.old counts.points counts.registers }
-    ensures { WrittenAt plan.now s.old s.new pcs.old pcs.new bounds.old bounds.new regs.old regs.new (length plan.now.code.kinds.now) }
+    requires room { Room walk.now.plan.flow s.old }
+    requires fixed { Fixed (all_seen walk.now.plan) walk.now.plan.flow.blocks.bounds.now s.old walk.now.plan.flow.words walk.now.plan.flow.blocks.count }
+    requires fits { FitsAt walk.now.plan pcs.old bounds.old regs.old counts.points counts.registers }
+    ensures { WrittenAt walk.now.plan s.old s.new pcs.old pcs.new bounds.old bounds.new regs.old regs.new (length walk.now.plan.flow.kinds.now) }
 {
-    let at = plan.nb * (3 * plan.words);
+    let Flow {
+        kinds,
+        blocks,
+        words,
+        ..
+    } = walk.plan.flow;
+    let at = blocks.count * (3 * words);
+    let past = at + words;
     let mut k = counts.points;
     let mut to = counts.registers;
-    let mut b = plan.nb;
-    let mut q = plan.code.kinds.len();
-    for pc in (0..plan.code.kinds.len()).rev() {
-        b = block_of(plan, by_end, b, pc);
-        if point_row(s, plan, b, q, pc) {
+    let mut b = blocks.count;
+    let mut q = kinds.len();
+    for pc in (0..kinds.len()).rev() {
+        b = block_of(walk, b, pc);
+        if point_row(s, &walk.plan, b, q, pc) {
             q = pc;
             k -= 1;
-            to = write_point(s, at, plan.words, pc, pcs, bounds, regs, k, to);
+            to = write_point(&s[at..past], pc, pcs, bounds, regs, k, to);
         }
     }
 }
@@ -206,15 +229,19 @@ pub fn live_refs(
         heads: [NO_BLOCK; 4096],
         links: [NO_BLOCK; 4096],
     };
-    by_end.chain(&plan, 1);
+    by_end.chain(&plan.flow.blocks, 1);
     analyse(s, &plan);
-    let counts = count_map(s, &plan, &by_end);
+    let walk = Walk {
+        plan,
+        by_end: &by_end,
+    };
+    let counts = count_map(s, &walk);
     let Counts { points, registers } = counts;
     if short(points, registers, pcs.len(), bounds.len(), regs.len()) {
         s.fill(0);
         return Err(Refusal::ShortList);
     }
-    write_map(s, &plan, &by_end, pcs, bounds, regs, counts);
+    write_map(s, &walk, pcs, bounds, regs, counts);
     s.fill(0);
     Ok((points as u64, registers as u64))
 }

@@ -9,9 +9,9 @@ use lib.ListN.{length, get_or}
 use Rattle.flow.specs.Function.{safepoint}
 use Rattle.flow.specs.Dataflow.{holder}
 use Rattle.refusal.specs.declared.Answer.{Answer}
-use Rattle.roots.specs.Calls.{need, function, LiveAtCall}
+use Rattle.roots.specs.Calls.{Lent, need, function, LiveAtCall}
 use Rattle.roots.specs.Columns.{wanted, Found, In}
-use Rattle.roots.specs.Plans.{lent, all_seen, Room}
+use Rattle.roots.specs.Plans.{lent, planned, all_seen, Room}
 use Rattle.roots.specs.declared.Code.{Code}
 use Rattle.roots.specs.declared.Tracked.{Tracked}
 use Rattle.roots.specs.declared.Plan.{Plan}
@@ -24,43 +24,46 @@ needs code n words len r a b e =
     subst (λ (w : ℕ). (r ≡ true) ↔ ((3 * (length code.blocks.now / 2) + 2) * w ≤ len)) b (subst (λ (k : ℕ). (r ≡ true) ↔ ((3 * k + 2) * words ≤ len)) a e)
 
 -- what is needed for the function of a plan, where the test came out true
-pub asked-room : (p : Plan) (code : Code) → p.code ≡ code → (len : ℕ) (r : Bool) → (r ≡ true) ↔ (need (lent code) ≤ len) → r ≡ true → need (lent p.code) ≤ len
-asked-room p code e len r t h = subst (λ (k : Code). need (lent k) ≤ len) (sym e) (t.0 h)
+pub asked-room : (p : Plan) (l : Lent) → planned p ≡ l → (len : ℕ) (r : Bool) → (r ≡ true) ↔ (need l ≤ len) → r ≡ true → need (planned p) ≤ len
+asked-room p l e len r t h = subst (λ (k : Lent). need k ≤ len) (sym e) (t.0 h)
 
 -- a plan of what was asked
-pub asked-plan : (p : Plan) (code : Code) (which : Tracked) → p.code ≡ code → p.which ≡ which → (pc : ℕ) (regs rows regs' rows' : List ℕ) (r : Answer)
-    → LiveAtCall (lent p.code) (wanted p.which) pc regs rows regs' rows' r → LiveAtCall (lent code) (wanted which) pc regs rows regs' rows' r
-asked-plan p code which e w pc regs rows regs' rows' r h =
-    subst (λ (k : Code). LiveAtCall (lent k) (wanted which) pc regs rows regs' rows' r) e (subst (λ (t : Tracked). LiveAtCall (lent p.code) (wanted t) pc regs rows regs' rows' r) w h)
+pub asked-plan : (p : Plan) (l : Lent) (which : Tracked) → planned p ≡ l → p.flow.registers.which ≡ which → (pc : ℕ) (regs rows regs' rows' : List ℕ) (r : Answer)
+    → LiveAtCall (planned p) (wanted p.flow.registers.which) pc regs rows regs' rows' r → LiveAtCall l (wanted which) pc regs rows regs' rows' r
+asked-plan p l which e w pc regs rows regs' rows' r h =
+    subst (λ (k : Lent). LiveAtCall k (wanted which) pc regs rows regs' rows' r) e
+    (subst (λ (t : Tracked). LiveAtCall (planned p) (wanted t) pc regs rows regs' rows' r) w h)
 
 module _ (p : Plan) where
-  -- what is needed is room for the rows
-  pub need-rows : (s : List ℕ) → need (lent p.code) ≤ length s → Room p s
-  need-rows s h =
-      let e = need-is p.nb p.words in
-      let k : (3 * p.nb + 2) * p.words ≤ length s =
-      subst (λ (n : ℕ). (3 * n + 2) * p.words ≤ length s) (sym p.counted) (subst (λ (w : ℕ). (3 * (length p.code.blocks.now / 2) + 2) * w ≤ length s) (sym p.covered) h) in
-      omega arith
+  -- where a row has as few words as hold its bits
+  module _ (least : p.flow.words ≡ (length p.flow.registers.classes.now + 63) / 64) where
+    -- what is needed is room for the rows
+    pub need-rows : (s : List ℕ) → need (planned p) ≤ length s → Room p.flow s
+    need-rows s h =
+        let e = need-is p.flow.blocks.count p.flow.words in
+        let k : (3 * p.flow.blocks.count + 2) * p.flow.words ≤ length s =
+        subst (λ (n : ℕ). (3 * n + 2) * p.flow.words ≤ length s) (sym p.flow.counted) (subst (λ (w : ℕ). (3 * (length p.flow.blocks.bounds.now / 2) + 2) * w ≤ length s) (sym least) h) in
+        omega arith
 
-  pub few-words : p.words ≤ 256
-  few-words = omega (arith, (formed-fit _ _ _ _ _ p.passed).class-count, p.covered)
+    pub few-words : p.flow.words ≤ 256
+    few-words = omega (arith, (formed-fit _ _ _ _ _ p.passed).class-count, least)
 
   module _ (pc : ℕ) where
-    pub outside-blocks : Found p.code.blocks.now p.nb pc p.nb → safepoint (function (lent p.code)) pc ≡ false
-    outside-blocks f = not-held _ _ _ _ _ p.passed pc {r = p.nb} (subst (λ (n : ℕ). Found p.code.blocks.now n pc p.nb) p.counted f) (omega (arith, p.counted))
+    pub outside-blocks : Found p.flow.blocks.bounds.now p.flow.blocks.count pc p.flow.blocks.count → safepoint (function (planned p)) pc ≡ false
+    outside-blocks f = not-held _ _ _ _ _ p.passed pc {r = p.flow.blocks.count} (subst (λ (n : ℕ). Found p.flow.blocks.bounds.now n pc p.flow.blocks.count) p.flow.counted f) (omega (arith, p.flow.counted))
 
-    module _ (b : ℕ) (known : b < p.nb) (at : In p.code.blocks.now b pc) where
-      below : b < length p.code.blocks.now / 2
-      below = omega (arith, p.counted)
+    module _ (b : ℕ) (known : b < p.flow.blocks.count) (at : In p.flow.blocks.bounds.now b pc) where
+      below : b < length p.flow.blocks.bounds.now / 2
+      below = omega (arith, p.flow.counted)
 
-      pub in-code : pc < length p.code.kinds.now
+      pub in-code : pc < length p.flow.kinds.now
       in-code = in_code _ _ _ _ _ p.passed pc b below at.0 at.1
 
-      pub at-safepoint : get_or p.code.kinds.now pc 0 ≡ 1 → safepoint (function (lent p.code)) pc ≡ true
+      pub at-safepoint : get_or p.flow.kinds.now pc 0 ≡ 1 → safepoint (function (planned p)) pc ≡ true
       at-safepoint e = is-safepoint _ _ _ _ _ p.passed pc (found-held _ _ _ _ _ p.passed pc b below at.0 at.1) in-code e
 
-      pub at-another : (get_or p.code.kinds.now pc 0 ≡ 1 → ⊥) → safepoint (function (lent p.code)) pc ≡ false
+      pub at-another : (get_or p.flow.kinds.now pc 0 ≡ 1 → ⊥) → safepoint (function (planned p)) pc ≡ false
       at-another n = not-safepoint _ _ _ _ _ p.passed pc in-code n
 
       pub held-by : holder (all_seen p).blocks pc 0 ≡ b
-      held-by = seen-holder (wanted p.which) _ _ _ _ _ pc b (found-holder _ _ _ _ _ p.passed pc b below at.0 at.1)
+      held-by = seen-holder (wanted p.flow.registers.which) _ _ _ _ _ pc b (found-holder _ _ _ _ _ p.passed pc b below at.0 at.1)

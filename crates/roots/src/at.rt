@@ -6,22 +6,22 @@ ghost use Rattle.flow.specs.Dataflow.{live_before};
 ghost use Rattle.refusal.specs.Told.{told, answered, here, nothing};
 ghost use Rattle.roots.specs.Calls.{LiveAtCall, function};
 ghost use Rattle.roots.specs.Columns.{wanted, cell, Found};
-ghost use Rattle.roots.specs.Plans.{lent, all_seen, out_row, Room};
+ghost use Rattle.roots.specs.Plans.{lent, planned, all_seen, out_row, Room};
 
 use crate::check::{check_function, rows_fit};
 use crate::fixpoint::{analyse, back_at, gather};
 use crate::row::wide;
-use crate::{Code, Plan, Tracked};
+use crate::{Blocks, Code, Flow, Plan, Tracked};
 use refusal::{Refusal, Reply};
 
 // The block that holds instruction pc.
-pub fn find_block(plan: &Plan, pc: usize) -> Option<usize>
-    ensures found { Found plan.now.code.blocks.now plan.now.nb pc (unwrap_or result plan.now.nb) }
-    ensures inside { IfSome result (λ b. b < plan.now.nb) }
+pub fn find_block(blocks: &Blocks, pc: usize) -> Option<usize>
+    ensures found { Found blocks.now.bounds.now blocks.now.count pc (unwrap_or result blocks.now.count) }
+    ensures inside { IfSome result (λ b. b < blocks.now.count) }
 {
-    for b in 0..plan.nb {
-        let st = wide(plan.code.blocks[2 * b]);
-        let e = wide(plan.code.blocks[2 * b + 1]);
+    for b in 0..blocks.count {
+        let st = wide(blocks.bounds[2 * b]);
+        let e = wide(blocks.bounds[2 * b + 1]);
         if st <= pc && pc < e {
             return Some(b);
         }
@@ -31,12 +31,12 @@ pub fn find_block(plan: &Plan, pc: usize) -> Option<usize>
 
 // The block that holds the safepoint pc. None: pc is no safepoint inside a block.
 pub fn safepoint_block(plan: &Plan, pc: usize) -> Option<usize>
-    ensures safepoint { is_some result ≡ safepoint (function (lent plan.now.code)) pc }
-    ensures inside { IfSome result (λ b. b < plan.now.nb) }
-    ensures holds { IfSome result (λ b. (get_or plan.now.code.blocks.now (2 * b) 0 ≤ pc) × (pc < get_or plan.now.code.blocks.now (2 * b + 1) 0)) }
+    ensures safepoint { is_some result ≡ safepoint (function (planned plan.now)) pc }
+    ensures inside { IfSome result (λ b. b < plan.now.flow.blocks.count) }
+    ensures holds { IfSome result (λ b. (get_or plan.now.flow.blocks.bounds.now (2 * b) 0 ≤ pc) × (pc < get_or plan.now.flow.blocks.bounds.now (2 * b + 1) 0)) }
 {
-    let b = find_block(plan, pc)?;
-    if plan.code.kinds[pc] == 1 {
+    let b = find_block(&plan.flow.blocks, pc)?;
+    if plan.flow.kinds[pc] == 1 {
         Some(b)
     } else {
         None
@@ -45,14 +45,20 @@ pub fn safepoint_block(plan: &Plan, pc: usize) -> Option<usize>
 
 // The row after the blocks' becomes the registers that are live before instruction pc of block b.
 pub fn live_row(s: &mut [u64], plan: &Plan, b: usize, pc: usize)
-    requires nb_value { (b < plan.now.nb) × Room plan.now s.old }
-    requires b_bound { (get_or plan.now.code.blocks.now (2 * b) 0 ≤ pc) × (pc < get_or plan.now.code.blocks.now (2 * b + 1) 0) }
-    ensures { (length s.new ≡ length s.old) × ((q : ℕ) → q < 64 * plan.now.words → cell s.new (out_row plan.now) q ≡ live_before (all_seen plan.now) b pc q) }
+    requires nb_value { (b < plan.now.flow.blocks.count) × Room plan.now.flow s.old }
+    requires b_bound { (get_or plan.now.flow.blocks.bounds.now (2 * b) 0 ≤ pc) × (pc < get_or plan.now.flow.blocks.bounds.now (2 * b + 1) 0) }
+    ensures { (length s.new ≡ length s.old) × ((q : ℕ) → q < 64 * plan.now.flow.words → cell s.new (out_row plan.now.flow) q ≡ live_before (all_seen plan.now) b pc q) }
 {
+    let Flow {
+        registers,
+        blocks,
+        words,
+        ..
+    } = plan.flow;
     analyse(s, plan);
-    gather(s, plan, b);
-    let e = wide(plan.code.blocks[2 * b + 1]);
-    back_at(s, plan, plan.nb * (3 * plan.words), pc, e);
+    gather(s, &plan.flow, b);
+    let e = wide(blocks.bounds[2 * b + 1]);
+    back_at(s, &registers, blocks.count * (3 * words), words, pc, e);
 }
 
 // The registers of the row at `at` are listed, if they fit, and the scratch becomes zero.
@@ -88,5 +94,6 @@ pub fn live_at(code: Code, which: Tracked, pc: usize, regs: &mut [u32], rows: &m
         return Err(Refusal::NoMap);
     };
     live_row(rows, &plan, b, pc);
-    list_at(rows, plan.nb * (3 * plan.words), plan.words, regs)
+    let Flow { blocks, words, .. } = plan.flow;
+    list_at(rows, blocks.count * (3 * words), words, regs)
 }

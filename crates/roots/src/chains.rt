@@ -3,7 +3,7 @@
 ghost use Rattle.std.specs.Prelude.{◌≡◌, ◌+◌, ◌*◌, ◌/◌, ◌≤◌, ◌<◌, length};
 ghost use Rattle.roots.specs.Columns.{First, Keyed, Chains};
 
-use crate::Plan;
+use crate::Blocks;
 use crate::row::wide;
 
 // The end of a chain. Its two bytes are equal, so that an array of it is filled as bytes are, in half the time.
@@ -25,43 +25,44 @@ fn short(x: u16) -> usize
 
 impl BlockChains {
     // Block b becomes the first of its chain, unless it is empty.
-    fn hang(&mut self, plan: &Plan, word: usize, b: usize)
-        requires { (plan.now.nb ≤ 4096) × (word < 2) × (b < plan.now.nb) × Chains plan.now.code.blocks.now word plan.now.nb (b + 1) self.old.heads self.old.links }
-        ensures { Chains plan.now.code.blocks.now word plan.now.nb b self.new.heads self.new.links }
+    fn hang(&mut self, blocks: &Blocks, word: usize, b: usize)
+        requires { (blocks.now.count ≤ 4096) × (word < 2) × (b < blocks.now.count) × Chains blocks.now.bounds.now word blocks.now.count (b + 1) self.old.heads self.old.links }
+        ensures { Chains blocks.now.bounds.now word blocks.now.count b self.new.heads self.new.links }
     {
-        let st = wide(plan.code.blocks[2 * b]);
-        let e = wide(plan.code.blocks[2 * b + 1]);
+        let st = wide(blocks.bounds[2 * b]);
+        let e = wide(blocks.bounds[2 * b + 1]);
         if e <= st {
             return;
         }
-        let k = wide(plan.code.blocks[2 * b + word]) % 4096;
+        let k = wide(blocks.bounds[2 * b + word]) % 4096;
         self.links[b] = self.heads[k];
         self.heads[k] = b as u16;
     }
 
     // The chains of all blocks.
-    pub fn chain(&mut self, plan: &Plan, word: usize)
-        requires { (plan.now.nb ≤ 4096) × (word < 2) × Chains plan.now.code.blocks.now word plan.now.nb plan.now.nb self.old.heads self.old.links }
-        ensures { Chains plan.now.code.blocks.now word plan.now.nb 0 self.new.heads self.new.links }
+    pub fn chain(&mut self, blocks: &Blocks, word: usize)
+        requires { (blocks.now.count ≤ 4096) × (word < 2) × Chains blocks.now.bounds.now word blocks.now.count blocks.now.count self.old.heads self.old.links }
+        ensures { Chains blocks.now.bounds.now word blocks.now.count 0 self.new.heads self.new.links }
     {
-        for b in (0..plan.nb).rev() {
-            self.hang(plan, word, b);
+        for b in (0..blocks.count).rev() {
+            self.hang(blocks, word, b);
         }
     }
 
     // The first nonempty block whose word `word` is pc, or the number of blocks.
     // Kept: a number for none, since it goes into the scratch as it is; an Option would be turned back at once.
-    pub fn first_at(&self, plan: &Plan, word: usize, pc: usize) -> usize
-        requires { (word < 2) × Chains plan.now.code.blocks.now word plan.now.nb 0 self.now.heads self.now.links }
-        ensures { First (Keyed plan.now.code.blocks.now word pc) 0 plan.now.nb result }
+    pub fn first_at(&self, blocks: &Blocks, word: usize, pc: usize) -> usize
+        requires { (word < 2) × Chains blocks.now.bounds.now word blocks.now.count 0 self.now.heads self.now.links }
+        ensures { First (Keyed blocks.now.bounds.now word pc) 0 blocks.now.count result }
     {
         let mut c = short(self.heads[pc % 4096]);
-        while c < plan.nb {
-            if wide(plan.code.blocks[2 * c + word]) == pc {
+        // Kept: a `while`, since it follows a chain of links and counts no index.
+        while c < blocks.count {
+            if wide(blocks.bounds[2 * c + word]) == pc {
                 return c;
             }
             c = short(self.links[c]);
         }
-        plan.nb
+        blocks.count
     }
 }

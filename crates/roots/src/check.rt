@@ -68,6 +68,7 @@ fn blocks_apart(blocks: &[u32], nb: usize) -> bool
     requires { (nb ≡ length blocks.now / 2) × Inside blocks.now 65536 }
     ensures { (result ≡ true) ↔ Separate blocks.now }
 {
+    // Kept: an array, since libraries have no heap; it has a bit for each instruction that a function may have.
     let mut marks = [0u64; 1024];
     for b in 0..nb {
         let st = wide(blocks[2 * b]);

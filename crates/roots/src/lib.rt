@@ -3,6 +3,7 @@
 
 ghost use Rattle.std.specs.Prelude.{◌≡◌, true, ◌+◌, ◌*◌, ◌/◌, ◌≤◌, length};
 ghost use Rattle.roots.specs.View.{formed};
+ghost use Rattle.roots.specs.Columns.{Lists, Columns};
 
 pub mod at;
 pub mod chains;
@@ -45,31 +46,78 @@ impl Code<'_> {
     }
 }
 
-// A function that passed its test, what is asked of it, and the shape of the scratch: rows for so many blocks, each of so many words.
+// The registers that instructions write and read, each in a list of `refs` that `ends` bounds, and which of them are asked for.
+#[derive(Clone, Copy)]
+pub struct Registers<'a> {
+    pub ends: &'a [u32],
+    pub refs: &'a [u32],
+    pub classes: &'a [u8],
+    pub which: Tracked,
+    pub ghost lists: { Lists ends.now refs.now },
+}
+
+// So many blocks, each of two words: where it starts and where it ends.
+#[derive(Clone, Copy)]
+pub struct Blocks<'a> {
+    pub bounds: &'a [u32],
+    pub count: usize,
+    pub ghost within: { count * 2 ≤ length bounds.now },
+}
+
+// What the dataflow goes over, all blocks of a function, and the shape of its scratch: rows of so many words for each block.
+#[derive(Clone, Copy)]
+pub struct Flow<'a> {
+    pub kinds: &'a [u8],
+    pub registers: Registers<'a>,
+    pub blocks: Blocks<'a>,
+    pub words: usize,
+    pub ghost columns: { Columns kinds.now registers.ends.now registers.refs.now blocks.bounds.now },
+    pub ghost counted: { blocks.count ≡ length blocks.bounds.now / 2 },
+}
+
+// The same of a function that passed its test, with rows that have a bit for each register.
 #[derive(Clone, Copy)]
 pub struct Plan<'a> {
-    pub code: Code<'a>,
-    pub which: Tracked,
-    pub nb: usize,
-    pub words: usize,
-    pub ghost passed: { formed code.kinds.now code.ends.now code.refs.now code.blocks.now code.classes.now ≡ true },
-    pub ghost counted: { nb ≡ length code.blocks.now / 2 },
-    pub ghost covered: { words ≡ (length code.classes.now + 63) / 64 },
+    pub flow: Flow<'a>,
+    pub ghost passed: { formed flow.kinds.now flow.registers.ends.now flow.registers.refs.now flow.blocks.bounds.now flow.registers.classes.now ≡ true },
+    pub ghost covered: { length flow.registers.classes.now ≤ 64 * flow.words },
 }
 
 impl<'a> Plan<'a> {
+    ghost use Rattle.roots.specs.Plans.{lent, planned};
+
+    // Each row has as few words as hold its bits.
     pub fn new(code: Code<'a>, which: Tracked) -> Plan<'a>
         requires { formed code.kinds.now code.ends.now code.refs.now code.blocks.now code.classes.now ≡ true }
-        ensures code { result.code ≡ code.entry }
-        ensures which { result.which ≡ which }
+        ensures code { planned result ≡ lent code.entry }
+        ensures which { result.flow.registers.which ≡ which }
+        ensures words { result.flow.words ≡ (length result.flow.registers.classes.now + 63) / 64 }
     {
-        let nb = code.block_count();
+        let count = code.block_count();
         let words = code.words();
-        Plan {
-            code,
+        let Code {
+            kinds,
+            ends,
+            refs,
+            blocks,
+            classes,
+        } = code;
+        let registers = Registers {
+            ends,
+            refs,
+            classes,
             which,
-            nb,
+        };
+        let blocks = Blocks {
+            bounds: blocks,
+            count,
+        };
+        let flow = Flow {
+            kinds,
+            registers,
+            blocks,
             words,
-        }
+        };
+        Plan { flow }
     }
 }

@@ -1,4 +1,5 @@
 // One row of registers: the steps back over the instructions of a block.
+// Kept: a row is a part of the scratch that is lent on, so that it has room for all registers is a clause of each step.
 ghost use Rattle.std.specs.Prelude.{◌≡◌, Bool, true, false, not, ◌&&◌, ◌||◌, List, ℕ, ◌+◌, ◌-◌, ◌*◌, ◌≤◌, ◌<◌, length};
 ghost use Rattle.std.proofs.Math.Seq.{slice};
 ghost use Rattle.rows.specs.Row.{bit_in};
@@ -8,7 +9,7 @@ ghost use Rattle.roots.specs.View.{start_of};
 ghost use Rattle.roots.specs.Columns.{wanted};
 ghost use Rattle.roots.specs.Plans.{part_seen};
 
-use crate::{Plan, Tracked};
+use crate::{Registers, Tracked};
 
 // A number of 32 bits as an index.
 pub fn wide(x: u32) -> usize
@@ -17,42 +18,42 @@ pub fn wide(x: u32) -> usize
     x as usize
 }
 
-// Whether the function has register r, of a class that is asked for.
-pub fn takes_part(plan: &Plan, r: usize) -> bool
-    ensures { result ≡ asked (wanted plan.now.which) plan.now.code.classes.now r }
+// Whether a function with these classes has register r, of a class that is asked for.
+pub fn takes_part(classes: &[u8], which: Tracked, r: usize) -> bool
+    ensures { result ≡ asked (wanted which) classes.now r }
 {
-    let Some(&class) = plan.code.classes.get(r) else {
+    let Some(&class) = classes.get(r) else {
         return false;
     };
-    match plan.which {
+    match which {
         Tracked::References => class == 2 || class == 4,
         Tracked::Handles => class == 4,
         Tracked::All => true,
     }
 }
 
-// Those of the registers that take part are added to the row.
-fn set_all(row: &mut [u64], plan: &Plan, registers: &[u32])
-    requires { length plan.now.code.classes.now ≤ 64 * length row.old }
-    ensures { (q : ℕ) → bit_in 64 row.new q ≡ (asked (wanted plan.now.which) plan.now.code.classes.now q && has registers.now q) || bit_in 64 row.old q }
+// Those of the list that take part are added to the row.
+fn set_all(row: &mut [u64], registers: &Registers, list: &[u32])
+    requires { length registers.now.classes.now ≤ 64 * length row.old }
+    ensures { (q : ℕ) → bit_in 64 row.new q ≡ (asked (wanted registers.now.which) registers.now.classes.now q && has list.now q) || bit_in 64 row.old q }
 {
-    for register in registers {
+    for register in list {
         let r = wide(*register);
-        if takes_part(plan, r) {
+        if takes_part(registers.classes, registers.which, r) {
             rows::set_bit(row, r);
         }
     }
 }
 
-// Those of the registers that take part are taken from the row.
+// Those of the list that take part are taken from the row.
 // Kept: apart from `set_all`, since each has a law of its own; one function with a flag is no plainer.
-fn clear_all(row: &mut [u64], plan: &Plan, registers: &[u32])
-    requires { length plan.now.code.classes.now ≤ 64 * length row.old }
-    ensures { (q : ℕ) → bit_in 64 row.new q ≡ not (asked (wanted plan.now.which) plan.now.code.classes.now q && has registers.now q) && bit_in 64 row.old q }
+fn clear_all(row: &mut [u64], registers: &Registers, list: &[u32])
+    requires { length registers.now.classes.now ≤ 64 * length row.old }
+    ensures { (q : ℕ) → bit_in 64 row.new q ≡ not (asked (wanted registers.now.which) registers.now.classes.now q && has list.now q) && bit_in 64 row.old q }
 {
-    for register in registers {
+    for register in list {
         let r = wide(*register);
-        if takes_part(plan, r) {
+        if takes_part(registers.classes, registers.which, r) {
             rows::clear_bit(row, r);
         }
     }
@@ -67,41 +68,41 @@ pub fn list_start(ends: &[u32], k: usize) -> usize
 }
 
 // The row goes back over instruction p, from what is live after it to what is live before it.
-pub fn step_back(row: &mut [u64], plan: &Plan, p: usize)
-    requires { (3 * p + 2 < length plan.now.code.ends.now) × (length plan.now.code.classes.now ≤ 64 * length row.old) }
+pub fn step_back(row: &mut [u64], registers: &Registers, p: usize)
+    requires { (3 * p + 2 < length registers.now.ends.now) × (length registers.now.classes.now ≤ 64 * length row.old) }
     ensures { (ks bs : List ℕ) (q : ℕ) → bit_in 64 row.new q
-        ≡ turn (reads (part_seen plan.now ks bs) p q)
-        (writes (part_seen plan.now ks bs) p q) (bit_in 64 row.old q) }
+        ≡ turn (reads (part_seen registers.now ks bs) p q)
+        (writes (part_seen registers.now ks bs) p q) (bit_in 64 row.old q) }
 {
     let k = 3 * p;
-    let a = list_start(plan.code.ends, k);
-    let m = wide(plan.code.ends[k]);
-    let e = wide(plan.code.ends[k + 1]);
-    clear_all(row, plan, &plan.code.refs[a..m]);
-    set_all(row, plan, &plan.code.refs[m..e]);
+    let a = list_start(registers.ends, k);
+    let m = wide(registers.ends[k]);
+    let e = wide(registers.ends[k + 1]);
+    clear_all(row, registers, &registers.refs[a..m]);
+    set_all(row, registers, &registers.refs[m..e]);
 }
 
 // The row goes back over the instructions from..to.
-pub fn back_row(row: &mut [u64], plan: &Plan, from: usize, to: usize)
-    requires { (from ≤ to) × (3 * to ≤ length plan.now.code.ends.now) × (length plan.now.code.classes.now ≤ 64 * length row.old) }
+pub fn back_row(row: &mut [u64], registers: &Registers, from: usize, to: usize)
+    requires { (from ≤ to) × (3 * to ≤ length registers.now.ends.now) × (length registers.now.classes.now ≤ 64 * length row.old) }
     ensures { (ks bs : List ℕ) (q : ℕ) → bit_in 64 row.new q
-        ≡ back (part_seen plan.now ks bs) q from (to - from) (bit_in 64 row.old q) }
+        ≡ back (part_seen registers.now ks bs) q from (to - from) (bit_in 64 row.old q) }
 {
     for p in (from..to).rev() {
-        step_back(row, plan, p);
+        step_back(row, registers, p);
     }
 }
 
 // The registers that the instructions from..to write are added to the row.
-pub fn kill_row(row: &mut [u64], plan: &Plan, from: usize, to: usize)
-    requires { (from ≤ to) × (3 * to ≤ length plan.now.code.ends.now) × (length plan.now.code.classes.now ≤ 64 * length row.old) }
+pub fn kill_row(row: &mut [u64], registers: &Registers, from: usize, to: usize)
+    requires { (from ≤ to) × (3 * to ≤ length registers.now.ends.now) × (length registers.now.classes.now ≤ 64 * length row.old) }
     ensures { (ks bs : List ℕ) (q : ℕ) → bit_in 64 row.new q
-        ≡ killed (part_seen plan.now ks bs) q from (to - from) || bit_in 64 row.old q }
+        ≡ killed (part_seen registers.now ks bs) q from (to - from) || bit_in 64 row.old q }
 {
     for p in (from..to).rev() {
         let k = 3 * p;
-        let a = list_start(plan.code.ends, k);
-        let m = wide(plan.code.ends[k]);
-        set_all(row, plan, &plan.code.refs[a..m]);
+        let a = list_start(registers.ends, k);
+        let m = wide(registers.ends[k]);
+        set_all(row, registers, &registers.refs[a..m]);
     }
 }

@@ -1,33 +1,34 @@
 use native.Mathlib.Omega.{arith}
 use Rattle.roots.proofs.Checks.{formed-fit}
-use Rattle.roots.proofs.Asking.{few-words}
+use Rattle.roots.specs.Plans.{out_row}
+use Rattle.roots.proofs.Scratch.{mid-length}
 use Rattle.root_map.proofs.Pointing.{fixed_out}
 use Rattle.root_map.proofs.Maps.{back_one, found-next, placed-next, counting-none, counting-yes, counting-no, counting-end}
 use Rattle.root_map.proofs.count_map.Goals as goal
 
 pub loop-pc-init : goal.loop-pc-init
-loop-pc-init c = counting-none _ _ _ _ _ _ _ _ c.args.plan.now.passed c.args.plan.now.counted _
+loop-pc-init c = counting-none _ _ _ _ _ _ _ _ c.args.walk.now.plan.passed c.args.walk.now.plan.flow.counted _
 
 pub block_of-b-requires : goal.block_of-b-requires
-block_of-b-requires c = (c.requires.nb_value.1, omega (arith, (formed-fit _ _ _ _ _ c.args.plan.now.passed).code-count, c.loop-pc.invariant.going.high, c.loop-pc-test.true), found-next _ _ _ _ _ _ _ _ _ c.loop-pc.invariant.going.placed (back_one _ c.loop-pc-test.true))
+block_of-b-requires c = (omega (arith, (formed-fit _ _ _ _ _ c.args.walk.now.plan.passed).code-count, c.loop-pc.invariant.going.high, c.loop-pc-test.true), found-next _ _ _ _ _ _ _ _ _ c.loop-pc.invariant.going.placed (back_one _ c.loop-pc-test.true))
 
 pub point_row-requires : goal.point_row-requires
-point_row-requires c = record { nb_value = (omega (arith, c.requires.nb_value.0, c.loop-pc.invariant.going.frame.kept), omega (arith, c.loop-pc.invariant.going.high, c.loop-pc-test.true), omega (arith, c.loop-pc.invariant.going.placed.below, c.loop-pc-test.true), c.block_of-b.ensures); fixed = fixed_out c.requires.fixed c.loop-pc.invariant.going.frame; standing = (placed-next _ _ _ _ _ _ _ _ c.args.plan.now.passed c.args.plan.now.counted c.loop-pc.invariant.going.placed (back_one _ c.loop-pc-test.true) c.block_of-b.ensures).standing }
+point_row-requires c = record { nb_value = (omega (arith, c.requires.room, c.loop-pc.invariant.going.frame.kept), omega (arith, c.loop-pc.invariant.going.high, c.loop-pc-test.true), omega (arith, c.loop-pc.invariant.going.placed.below, c.loop-pc-test.true), c.block_of-b.ensures); fixed = fixed_out c.requires.fixed c.loop-pc.invariant.going.frame; standing = (placed-next _ _ _ _ _ _ _ _ c.args.walk.now.plan.passed c.args.walk.now.plan.flow.counted c.loop-pc.invariant.going.placed (back_one _ c.loop-pc-test.true) c.block_of-b.ensures).standing }
 
 pub overflow_add-points : goal.overflow_add-points
-overflow_add-points c = omega (arith, c.loop-pc.invariant.few.0, (formed-fit _ _ _ _ _ c.args.plan.now.passed).code-count)
+overflow_add-points c = omega (arith, c.loop-pc.invariant.few.0, (formed-fit _ _ _ _ _ c.args.walk.now.plan.passed).code-count)
 
-pub count_at-registers-requires : goal.count_at-registers-requires
-count_at-registers-requires c = (omega (arith, c.requires.nb_value.0, c.loop-pc.invariant.going.frame.kept, c.point_row.ensures.frame.kept), (few-words c.args.plan.now))
+pub count_row-registers-requires : goal.count_row-registers-requires
+count_row-registers-requires c = omega (arith, mid-length (out_row c.args.walk.now.plan.flow) c.args.walk.now.plan.flow.words c.point_row.new.s (omega (arith, c.requires.room, c.loop-pc.invariant.going.frame.kept, c.point_row.ensures.frame.kept)), c.args.walk.now.narrow)
 
 pub overflow_add-registers : goal.overflow_add-registers
-overflow_add-registers c = omega (arith, c.loop-pc.invariant.few.1, (formed-fit _ _ _ _ _ c.args.plan.now.passed).code-count, c.count_at-registers.ensures.1)
+overflow_add-registers c = omega (arith, c.loop-pc.invariant.few.1, (formed-fit _ _ _ _ _ c.args.walk.now.plan.passed).code-count, c.count_row-registers.ensures.1)
 
 pub loop-pc-preserved-then-point_row : goal.loop-pc-preserved-then-point_row
-loop-pc-preserved-then-point_row c = counting-yes _ _ _ _ _ _ _ _ c.loop-pc.invariant (back_one _ c.loop-pc-test.true) c.point_row.ensures c.if-point_row.true (placed-next _ _ _ _ _ _ _ _ c.args.plan.now.passed c.args.plan.now.counted c.loop-pc.invariant.going.placed (back_one _ c.loop-pc-test.true) c.block_of-b.ensures) _ c.count_at-registers.ensures.0 c.count_at-registers.ensures.1
+loop-pc-preserved-then-point_row c = counting-yes _ _ _ _ _ _ _ _ c.loop-pc.invariant (back_one _ c.loop-pc-test.true) c.point_row.ensures c.if-point_row.true (placed-next _ _ _ _ _ _ _ _ c.args.walk.now.plan.passed c.args.walk.now.plan.flow.counted c.loop-pc.invariant.going.placed (back_one _ c.loop-pc-test.true) c.block_of-b.ensures) _ c.count_row-registers.ensures.0 c.count_row-registers.ensures.1
 
 pub loop-pc-preserved : goal.loop-pc-preserved
-loop-pc-preserved c = counting-no _ _ _ _ _ _ _ _ c.loop-pc.invariant (back_one _ c.loop-pc-test.true) c.point_row.ensures c.if-point_row.false (placed-next _ _ _ _ _ _ _ _ c.args.plan.now.passed c.args.plan.now.counted c.loop-pc.invariant.going.placed (back_one _ c.loop-pc-test.true) c.block_of-b.ensures)
+loop-pc-preserved c = counting-no _ _ _ _ _ _ _ _ c.loop-pc.invariant (back_one _ c.loop-pc-test.true) c.point_row.ensures c.if-point_row.false (placed-next _ _ _ _ _ _ _ _ c.args.walk.now.plan.passed c.args.walk.now.plan.flow.counted c.loop-pc.invariant.going.placed (back_one _ c.loop-pc-test.true) c.block_of-b.ensures)
 
 pub shape_of-s : goal.shape_of-s
 shape_of-s c = c.loop-pc.invariant.going.frame.kept

@@ -3,4 +3,4 @@ use Rattle.roots.proofs.Answers.{Seeks}
 use Rattle.roots.proofs.at.find_block.Given as goal
 
 abbrev pub invariant-loop-b : goal.invariant-loop-b
-invariant-loop-b l = Seeks l.plan.code.blocks.now l.plan.nb l.pc l.b
+invariant-loop-b l = Seeks l.blocks.bounds.now l.blocks.count l.pc l.b

@@ -6,7 +6,7 @@ use lib.ListN.{replicate, take, drop}
 use Rattle.rows.specs.Row.{listed}
 use Rattle.flow.specs.Dataflow.{live_row}
 use Rattle.roots.specs.Columns.{wanted}
-use Rattle.roots.specs.Plans.{lent, all_seen, out_row}
+use Rattle.roots.specs.Plans.{lent, planned, all_seen, out_row}
 use Rattle.roots.proofs.Checks.{refuted, above}
 use Rattle.roots.proofs.Answers.{row_listed, at-scratch, at-function, at-no-map, at_listed}
 use Rattle.roots.proofs.Asking.{asked-room, few-words, asked-plan, need-rows, held-by}
@@ -26,28 +26,28 @@ pub returns-in_default : goal.returns-in_default
 returns-in_default c =
     let p = c.new-plan.result in
     asked-plan p _ _ c.new-plan.ensures.code c.new-plan.ensures.which _ _ _ _ _ _
-    (at-no-map (lent p.code) (wanted p.which) c.args.pc _ _ (asked-room c.new-plan.result c.args.code c.new-plan.ensures.code _ _ c.rows_fit.ensures c.if-not-rows_fit.false) _ (c.fill-in_default.ensures.after (λ y e. e)) p.passed (sym c.in_default.ensures.safepoint))
+    (at-no-map (planned p) (wanted p.flow.registers.which) c.args.pc _ _ (asked-room c.new-plan.result (lent c.args.code) c.new-plan.ensures.code _ _ c.rows_fit.ensures c.if-not-rows_fit.false) _ (c.fill-in_default.ensures.after (λ y e. e)) p.passed (sym c.in_default.ensures.safepoint))
 
 pub live_row-requires : goal.live_row-requires
 live_row-requires c = record {
-  nb_value = (c.in-Some.ensures.inside, need-rows c.new-plan.result c.args.rows.now (asked-room c.new-plan.result c.args.code c.new-plan.ensures.code _ _ c.rows_fit.ensures c.if-not-rows_fit.false));
+  nb_value = (c.in-Some.ensures.inside, need-rows c.new-plan.result c.new-plan.ensures.words c.args.rows.now (asked-room c.new-plan.result (lent c.args.code) c.new-plan.ensures.code _ _ c.rows_fit.ensures c.if-not-rows_fit.false));
   b_bound = c.in-Some.ensures.holds;
 }
 
 pub list_at-requires : goal.list_at-requires
 list_at-requires c =
-    let h = need-rows c.new-plan.result c.args.rows.now (asked-room c.new-plan.result c.args.code c.new-plan.ensures.code _ _ c.rows_fit.ensures c.if-not-rows_fit.false) in
-    (omega (arith, h, c.live_row.ensures.0), few-words c.new-plan.result)
+    let h = need-rows c.new-plan.result c.new-plan.ensures.words c.args.rows.now (asked-room c.new-plan.result (lent c.args.code) c.new-plan.ensures.code _ _ c.rows_fit.ensures c.if-not-rows_fit.false) in
+    (omega (arith, h, c.live_row.ensures.0), few-words c.new-plan.result c.new-plan.ensures.words)
 
 pub returns : goal.returns
 returns c =
     let p = c.new-plan.result in
-    let room = asked-room c.new-plan.result c.args.code c.new-plan.ensures.code _ _ c.rows_fit.ensures c.if-not-rows_fit.false in
-    let h = need-rows p c.args.rows.now room in
+    let room = asked-room c.new-plan.result (lent c.args.code) c.new-plan.ensures.code _ _ c.rows_fit.ensures c.if-not-rows_fit.false in
+    let h = need-rows p c.new-plan.ensures.words c.args.rows.now room in
     asked-plan p _ _ c.new-plan.ensures.code c.new-plan.ensures.which _ _ _ _ _ _
-    (at_listed (lent p.code) (wanted p.which) c.args.pc c.args.regs.now c.args.rows.now room c.list_at.new.s (c.list_at.ensures.2 ∙ ap (λ (u : ℕ). replicate u 0) c.live_row.ensures.0) p.passed
+    (at_listed (planned p) (wanted p.flow.registers.which) c.args.pc c.args.regs.now c.args.rows.now room c.list_at.new.s (c.list_at.ensures.2 ∙ ap (λ (u : ℕ). replicate u 0) c.live_row.ensures.0) p.passed
     (sym c.in-Some.ensures.safepoint) _ _ _
-    (subst (λ (w : ℕ). listed 64 (take ((out_row p + p.words) - out_row p) (drop (out_row p) c.live_row.new.s)) ≡ live_row (w * 64) (all_seen p) c.args.pc) p.covered
-    (row_listed (all_seen p) c.live_row.new.s (out_row p) p.words c.in-Some.b c.args.pc (omega (arith, h, c.live_row.ensures.0)) c.live_row.ensures.1
+    (subst (λ (w : ℕ). listed 64 (take ((out_row p.flow + p.flow.words) - out_row p.flow) (drop (out_row p.flow) c.live_row.new.s)) ≡ live_row (w * 64) (all_seen p) c.args.pc) c.new-plan.ensures.words
+    (row_listed (all_seen p) c.live_row.new.s (out_row p.flow) p.flow.words c.in-Some.b c.args.pc (omega (arith, h, c.live_row.ensures.0)) c.live_row.ensures.1
     (held-by p c.args.pc c.in-Some.b c.in-Some.ensures.inside c.in-Some.ensures.holds)))
     c.list_at.ensures.0 c.list_at.ensures.1)

@@ -5,9 +5,18 @@ use Prim.Native.Nat.{ℕ, ◌*◌, ◌≤◌}
 use lib.ListN.{length}
 use Rattle.roots.specs.Columns.{wanted, seen}
 use Rattle.roots.proofs.Scratch.{end-view}
-use Rattle.roots.proofs.Plans.{block-inside}
+use Rattle.roots.proofs.Plans.{few-blocks, block-inside}
 use Rattle.roots.proofs.Answers.{live-row-cells}
 use Rattle.roots.proofs.at.live_row.Goals as goal
+
+pub overflow_mul-b : goal.overflow_mul-b
+overflow_mul-b c = omega (arith, c.requires.nb_value.0, few-blocks c.args.plan.now)
+
+pub overflow_add-b : goal.overflow_add-b
+overflow_add-b c = omega (arith, c.requires.nb_value.0, few-blocks c.args.plan.now)
+
+pub offset_bounds-blocks-b : goal.offset_bounds-blocks-b
+offset_bounds-blocks-b c = omega (arith, c.requires.nb_value.0, few-blocks c.args.plan.now)
 
 pub analyse-requires : goal.analyse-requires
 analyse-requires c = record { nb_value = c.requires.nb_value.1 }
@@ -20,10 +29,11 @@ back_at-requires c = record {
   words_in_bounds = omega (arith, c.requires.nb_value.1, c.analyse.ensures.0, c.gather.ensures.0.kept);
   from_le_to = (
     omega (arith, c.requires.b_bound.1, c.wide-e.ensures),
-    subst (λ (u : ℕ). 3 * u ≤ length c.args.plan.now.code.ends.now) (sym c.wide-e.ensures)
+    subst (λ (u : ℕ). 3 * u ≤ length c.args.plan.now.flow.registers.ends.now) (sym c.wide-e.ensures)
         (block-inside c.args.plan.now c.args.b c.requires.nb_value.0 (omega (arith, c.requires.b_bound.0, c.requires.b_bound.1))),
+    c.args.plan.now.covered,
   );
 }
 
 pub returns : goal.returns
-returns c = (c.back_at.ensures.0.kept ∙ c.gather.ensures.0.kept ∙ c.analyse.ensures.0, live-row-cells (seen (wanted c.args.plan.now.which) c.args.plan.now.code.kinds.now c.args.plan.now.code.ends.now c.args.plan.now.code.refs.now c.args.plan.now.code.blocks.now c.args.plan.now.code.classes.now) c.args.plan.now.code.blocks.now c.analyse.new.s c.gather.new.s c.back_at.new.s c.args.plan.now.words c.args.plan.now.nb c.args.b c.args.pc c.wide-e.result c.analyse.ensures.1 (c.wide-e.ensures ∙ sym (end-view (wanted c.args.plan.now.which) c.args.plan.now.code.kinds.now c.args.plan.now.code.ends.now c.args.plan.now.code.refs.now c.args.plan.now.code.blocks.now c.args.plan.now.code.classes.now c.args.b (omega (arith, c.args.plan.now.counted, c.requires.nb_value.0)))) (c.gather.ensures.1 (wanted c.args.plan.now.which) c.args.plan.now.code.classes.now) (c.back_at.ensures.1 c.args.plan.now.code.kinds.now c.args.plan.now.code.blocks.now))
+returns c = (c.back_at.ensures.0.kept ∙ c.gather.ensures.0.kept ∙ c.analyse.ensures.0, live-row-cells (seen (wanted c.args.plan.now.flow.registers.which) c.args.plan.now.flow.kinds.now c.args.plan.now.flow.registers.ends.now c.args.plan.now.flow.registers.refs.now c.args.plan.now.flow.blocks.bounds.now c.args.plan.now.flow.registers.classes.now) c.args.plan.now.flow.blocks.bounds.now c.analyse.new.s c.gather.new.s c.back_at.new.s c.args.plan.now.flow.words c.args.plan.now.flow.blocks.count c.args.b c.args.pc c.wide-e.result c.analyse.ensures.1 (c.wide-e.ensures ∙ sym (end-view (wanted c.args.plan.now.flow.registers.which) c.args.plan.now.flow.kinds.now c.args.plan.now.flow.registers.ends.now c.args.plan.now.flow.registers.refs.now c.args.plan.now.flow.blocks.bounds.now c.args.plan.now.flow.registers.classes.now c.args.b (omega (arith, c.args.plan.now.flow.counted, c.requires.nb_value.0)))) (c.gather.ensures.1 (wanted c.args.plan.now.flow.registers.which) c.args.plan.now.flow.registers.classes.now) (c.back_at.ensures.1 c.args.plan.now.flow.kinds.now c.args.plan.now.flow.blocks.bounds.now))

@@ -16,4 +16,4 @@ pub solve-requires : goal.solve-requires
 solve-requires c = record { nb_value = (omega (arith, c.requires.nb_value, c.build.ensures.kept, c.fill.auto.self), c.build.ensures.linked) }
 
 pub returns : goal.returns
-returns c = (c.solve.ensures.kept ∙ c.build.ensures.kept ∙ c.fill.auto.self, solved-fixed (wanted c.args.plan.now.which) c.args.plan.now.code.classes.now c.solve.ensures (c.build.ensures.rows c.args.plan.now.code.kinds.now) (seen-disjoint c.args.plan.now.code.kinds.now c.args.plan.now.code.ends.now c.args.plan.now.code.refs.now c.args.plan.now.code.blocks.now c.args.plan.now.code.classes.now (wanted c.args.plan.now.which) c.args.plan.now.passed) (seen-count c.args.plan.now.code.kinds.now c.args.plan.now.code.ends.now c.args.plan.now.code.refs.now c.args.plan.now.code.blocks.now c.args.plan.now.code.classes.now (wanted c.args.plan.now.which) ∙ sym c.args.plan.now.counted))
+returns c = (c.solve.ensures.kept ∙ c.build.ensures.kept ∙ c.fill.auto.self, solved-fixed (wanted c.args.plan.now.flow.registers.which) c.args.plan.now.flow.registers.classes.now c.solve.ensures (c.build.ensures.rows c.args.plan.now.flow.kinds.now) (seen-disjoint c.args.plan.now.flow.kinds.now c.args.plan.now.flow.registers.ends.now c.args.plan.now.flow.registers.refs.now c.args.plan.now.flow.blocks.bounds.now c.args.plan.now.flow.registers.classes.now (wanted c.args.plan.now.flow.registers.which) c.args.plan.now.passed) (seen-count c.args.plan.now.flow.kinds.now c.args.plan.now.flow.registers.ends.now c.args.plan.now.flow.registers.refs.now c.args.plan.now.flow.blocks.bounds.now c.args.plan.now.flow.registers.classes.now (wanted c.args.plan.now.flow.registers.which) ∙ sym c.args.plan.now.flow.counted))

@@ -11,5 +11,5 @@ leave-requires c = record { nb_value = (c.requires.nb_value.0, omega (arith, c.r
 pub returns : goal.returns
 returns c = (
   outside_trans c.clear_row.ensures.0 c.leave.ensures.0,
-  λ t cs q h. gathered c.leave.new.s c.args.plan.now.nb c.args.plan.now.words (seen t c.args.plan.now.code.kinds.now c.args.plan.now.code.ends.now c.args.plan.now.code.refs.now c.args.plan.now.code.blocks.now cs) c.args.b c.clear_row.ensures.0 q h (c.clear_row.ensures.1 q h) (c.leave.ensures.1 t cs q h),
+  λ t cs q h. gathered c.leave.new.s c.args.flow.now.blocks.count c.args.flow.now.words (seen t c.args.flow.now.kinds.now c.args.flow.now.registers.ends.now c.args.flow.now.registers.refs.now c.args.flow.now.blocks.bounds.now cs) c.args.b c.clear_row.ensures.0 q h (c.clear_row.ensures.1 q h) (c.leave.ensures.1 t cs q h),
 )

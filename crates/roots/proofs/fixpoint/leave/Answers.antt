@@ -8,7 +8,7 @@ use Rattle.roots.specs.Columns.{cell, live_at}
 use Rattle.roots.proofs.Turns.{next_fits}
 use Rattle.roots.proofs.Scratch.{outside_refl, block-fits, leave_none, leave-targets, leave-stop, leave-next, last-inside, joined-one, joined-none}
 use Rattle.roots.proofs.Passes.{linked-next}
-use Rattle.roots.proofs.Plans.{columns-of, part-slice}
+use Rattle.roots.proofs.Plans.{part-slice}
 use Rattle.roots.proofs.fixpoint.leave.Goals as goal
 use Rattle.roots.proofs.fixpoint.leave.Goals.{then-k-ge2+else-k-le4+else-k-le6, else-k-ge2}
 
@@ -16,73 +16,73 @@ pub returns-then-words-eq0 : goal.returns-then-words-eq0
 returns-then-words-eq0 c = (outside_refl _ _ _, λ t cs q h. absurd (omega (arith, c.if-words-eq0.true)))
 
 pub returns-then-e-st : goal.returns-then-e-st
-returns-then-e-st c = (outside_refl _ _ _, λ t cs q h. sym (ap (λ (x : Bool). x || cell c.args.s.now (c.args.plan.now.nb * (3 * c.args.plan.now.words)) q) (leave_none (columns-of c.args.plan.now) t cs c.args.plan.now.nb c.args.b c.wide-st.result c.wide-e.result c.args.plan.now.counted c.requires.nb_value.0 c.wide-st.ensures c.wide-e.ensures (live_at c.args.s.now c.args.plan.now.words c.args.plan.now.nb q) c.if-e-st.true)))
+returns-then-e-st c = (outside_refl _ _ _, λ t cs q h. sym (ap (λ (x : Bool). x || cell c.args.s.now (c.args.flow.now.blocks.count * (3 * c.args.flow.now.words)) q) (leave_none c.args.flow.now.columns t cs c.args.flow.now.blocks.count c.args.b c.wide-st.result c.wide-e.result c.args.flow.now.counted c.requires.nb_value.0 c.wide-st.ensures c.wide-e.ensures (live_at c.args.s.now c.args.flow.now.words c.args.flow.now.blocks.count q) c.if-e-st.true)))
 
-pub bounds-code-e : goal.bounds-code-e
-bounds-code-e c = omega (arith, last-inside (columns-of c.args.plan.now) c.args.plan.now.nb c.args.b c.wide-st.result c.wide-e.result c.args.plan.now.counted c.requires.nb_value.0 c.wide-st.ensures c.wide-e.ensures c.if-e-st.false)
+pub bounds-kinds-e : goal.bounds-kinds-e
+bounds-kinds-e c = omega (arith, last-inside c.args.flow.now.columns c.args.flow.now.blocks.count c.args.b c.wide-st.result c.wide-e.result c.args.flow.now.counted c.requires.nb_value.0 c.wide-st.ensures c.wide-e.ensures c.if-e-st.false)
 
 pub overflow_mul-j : goal.overflow_mul-j
-overflow_mul-j c = omega (arith, last-inside (columns-of c.args.plan.now) c.args.plan.now.nb c.args.b c.wide-st.result c.wide-e.result c.args.plan.now.counted c.requires.nb_value.0 c.wide-st.ensures c.wide-e.ensures c.if-e-st.false, (columns-of c.args.plan.now).three)
+overflow_mul-j c = omega (arith, last-inside c.args.flow.now.columns c.args.flow.now.blocks.count c.args.b c.wide-st.result c.wide-e.result c.args.flow.now.counted c.requires.nb_value.0 c.wide-st.ensures c.wide-e.ensures c.if-e-st.false, c.args.flow.now.columns.three)
 
 pub overflow_add-j : goal.overflow_add-j
-overflow_add-j c = omega (arith, last-inside (columns-of c.args.plan.now) c.args.plan.now.nb c.args.b c.wide-st.result c.wide-e.result c.args.plan.now.counted c.requires.nb_value.0 c.wide-st.ensures c.wide-e.ensures c.if-e-st.false, (columns-of c.args.plan.now).three)
+overflow_add-j c = omega (arith, last-inside c.args.flow.now.columns c.args.flow.now.blocks.count c.args.b c.wide-st.result c.wide-e.result c.args.flow.now.counted c.requires.nb_value.0 c.wide-st.ensures c.wide-e.ensures c.if-e-st.false, c.args.flow.now.columns.three)
 
-pub offset_bounds-code-j : goal.offset_bounds-code-j
-offset_bounds-code-j c = omega (arith, last-inside (columns-of c.args.plan.now) c.args.plan.now.nb c.args.b c.wide-st.result c.wide-e.result c.args.plan.now.counted c.requires.nb_value.0 c.wide-st.ensures c.wide-e.ensures c.if-e-st.false, (columns-of c.args.plan.now).three)
+pub offset_bounds-registers-j : goal.offset_bounds-registers-j
+offset_bounds-registers-j c = omega (arith, last-inside c.args.flow.now.columns c.args.flow.now.blocks.count c.args.b c.wide-st.result c.wide-e.result c.args.flow.now.counted c.requires.nb_value.0 c.wide-st.ensures c.wide-e.ensures c.if-e-st.false, c.args.flow.now.columns.three)
 
-pub bounds-code-j : goal.bounds-code-j
-bounds-code-j c = omega (arith, last-inside (columns-of c.args.plan.now) c.args.plan.now.nb c.args.b c.wide-st.result c.wide-e.result c.args.plan.now.counted c.requires.nb_value.0 c.wide-st.ensures c.wide-e.ensures c.if-e-st.false, (columns-of c.args.plan.now).three)
+pub bounds-registers-j : goal.bounds-registers-j
+bounds-registers-j c = omega (arith, last-inside c.args.flow.now.columns c.args.flow.now.blocks.count c.args.b c.wide-st.result c.wide-e.result c.args.flow.now.counted c.requires.nb_value.0 c.wide-st.ensures c.wide-e.ensures c.if-e-st.false, c.args.flow.now.columns.three)
 
 pub overflow_add-j-then-k-le4 : goal.overflow_add-j-then-k-le4
-overflow_add-j-then-k-le4 c = omega (arith, last-inside (columns-of c.args.plan.now) c.args.plan.now.nb c.args.b c.wide-st.result c.wide-e.result c.args.plan.now.counted c.requires.nb_value.0 c.wide-st.ensures c.wide-e.ensures c.if-e-st.false, (columns-of c.args.plan.now).three)
+overflow_add-j-then-k-le4 c = omega (arith, last-inside c.args.flow.now.columns c.args.flow.now.blocks.count c.args.b c.wide-st.result c.wide-e.result c.args.flow.now.counted c.requires.nb_value.0 c.wide-st.ensures c.wide-e.ensures c.if-e-st.false, c.args.flow.now.columns.three)
 
-pub offset_bounds-code-j-then-k-le4 : goal.offset_bounds-code-j-then-k-le4
-offset_bounds-code-j-then-k-le4 c = omega (arith, last-inside (columns-of c.args.plan.now) c.args.plan.now.nb c.args.b c.wide-st.result c.wide-e.result c.args.plan.now.counted c.requires.nb_value.0 c.wide-st.ensures c.wide-e.ensures c.if-e-st.false, (columns-of c.args.plan.now).three)
+pub offset_bounds-registers-j-then-k-le4 : goal.offset_bounds-registers-j-then-k-le4
+offset_bounds-registers-j-then-k-le4 c = omega (arith, last-inside c.args.flow.now.columns c.args.flow.now.blocks.count c.args.b c.wide-st.result c.wide-e.result c.args.flow.now.counted c.requires.nb_value.0 c.wide-st.ensures c.wide-e.ensures c.if-e-st.false, c.args.flow.now.columns.three)
 
-pub bounds-code-j-then-k-le4 : goal.bounds-code-j-then-k-le4
-bounds-code-j-then-k-le4 c = omega (arith, last-inside (columns-of c.args.plan.now) c.args.plan.now.nb c.args.b c.wide-st.result c.wide-e.result c.args.plan.now.counted c.requires.nb_value.0 c.wide-st.ensures c.wide-e.ensures c.if-e-st.false, (columns-of c.args.plan.now).three)
+pub bounds-registers-j-then-k-le4 : goal.bounds-registers-j-then-k-le4
+bounds-registers-j-then-k-le4 c = omega (arith, last-inside c.args.flow.now.columns c.args.flow.now.blocks.count c.args.b c.wide-st.result c.wide-e.result c.args.flow.now.counted c.requires.nb_value.0 c.wide-st.ensures c.wide-e.ensures c.if-e-st.false, c.args.flow.now.columns.three)
 
-pub offset_bounds-code-from : goal.offset_bounds-code-from
-offset_bounds-code-from c = let h = next_fits (columns-of c.args.plan.now).lists (3 * (c.wide-e.result - 1) + 1) _ _ (omega (arith, last-inside (columns-of c.args.plan.now) c.args.plan.now.nb c.args.b c.wide-st.result c.wide-e.result c.args.plan.now.counted c.requires.nb_value.0 c.wide-st.ensures c.wide-e.ensures c.if-e-st.false, (columns-of c.args.plan.now).three)) c.wide-from.ensures c.wide-to.ensures in omega (arith, h.0, h.1)
+pub offset_bounds-registers-from : goal.offset_bounds-registers-from
+offset_bounds-registers-from c = let h = next_fits c.args.flow.now.columns.lists (3 * (c.wide-e.result - 1) + 1) _ _ (omega (arith, last-inside c.args.flow.now.columns c.args.flow.now.blocks.count c.args.b c.wide-st.result c.wide-e.result c.args.flow.now.counted c.requires.nb_value.0 c.wide-st.ensures c.wide-e.ensures c.if-e-st.false, c.args.flow.now.columns.three)) c.wide-from.ensures c.wide-to.ensures in omega (arith, h.0, h.1)
 
 pub slice_bounds-join_targets-count : goal.slice_bounds-join_targets-count
-slice_bounds-join_targets-count c = (next_fits (columns-of c.args.plan.now).lists (3 * (c.wide-e.result - 1) + 1) _ _ (omega (arith, last-inside (columns-of c.args.plan.now) c.args.plan.now.nb c.args.b c.wide-st.result c.wide-e.result c.args.plan.now.counted c.requires.nb_value.0 c.wide-st.ensures c.wide-e.ensures c.if-e-st.false, (columns-of c.args.plan.now).three)) c.wide-from.ensures c.wide-to.ensures).0
+slice_bounds-join_targets-count c = (next_fits c.args.flow.now.columns.lists (3 * (c.wide-e.result - 1) + 1) _ _ (omega (arith, last-inside c.args.flow.now.columns c.args.flow.now.blocks.count c.args.b c.wide-st.result c.wide-e.result c.args.flow.now.counted c.requires.nb_value.0 c.wide-st.ensures c.wide-e.ensures c.if-e-st.false, c.args.flow.now.columns.three)) c.wide-from.ensures c.wide-to.ensures).0
 
 pub slice_bounds-join_targets-start : goal.slice_bounds-join_targets-start
-slice_bounds-join_targets-start c = (next_fits (columns-of c.args.plan.now).lists (3 * (c.wide-e.result - 1) + 1) _ _ (omega (arith, last-inside (columns-of c.args.plan.now) c.args.plan.now.nb c.args.b c.wide-st.result c.wide-e.result c.args.plan.now.counted c.requires.nb_value.0 c.wide-st.ensures c.wide-e.ensures c.if-e-st.false, (columns-of c.args.plan.now).three)) c.wide-from.ensures c.wide-to.ensures).0
+slice_bounds-join_targets-start c = (next_fits c.args.flow.now.columns.lists (3 * (c.wide-e.result - 1) + 1) _ _ (omega (arith, last-inside c.args.flow.now.columns c.args.flow.now.blocks.count c.args.b c.wide-st.result c.wide-e.result c.args.flow.now.counted c.requires.nb_value.0 c.wide-st.ensures c.wide-e.ensures c.if-e-st.false, c.args.flow.now.columns.three)) c.wide-from.ensures c.wide-to.ensures).0
 
 pub slice_bounds-join_targets-end : goal.slice_bounds-join_targets-end
-slice_bounds-join_targets-end c = (next_fits (columns-of c.args.plan.now).lists (3 * (c.wide-e.result - 1) + 1) _ _ (omega (arith, last-inside (columns-of c.args.plan.now) c.args.plan.now.nb c.args.b c.wide-st.result c.wide-e.result c.args.plan.now.counted c.requires.nb_value.0 c.wide-st.ensures c.wide-e.ensures c.if-e-st.false, (columns-of c.args.plan.now).three)) c.wide-from.ensures c.wide-to.ensures).1
+slice_bounds-join_targets-end c = (next_fits c.args.flow.now.columns.lists (3 * (c.wide-e.result - 1) + 1) _ _ (omega (arith, last-inside c.args.flow.now.columns c.args.flow.now.blocks.count c.args.b c.wide-st.result c.wide-e.result c.args.flow.now.counted c.requires.nb_value.0 c.wide-st.ensures c.wide-e.ensures c.if-e-st.false, c.args.flow.now.columns.three)) c.wide-from.ensures c.wide-to.ensures).1
 
 pub returns-then-k-le4 : goal.returns-then-k-le4
-returns-then-k-le4 c = let f = next_fits (columns-of c.args.plan.now).lists (3 * (c.wide-e.result - 1) + 1) _ _ (omega (arith, last-inside (columns-of c.args.plan.now) c.args.plan.now.nb c.args.b c.wide-st.result c.wide-e.result c.args.plan.now.counted c.requires.nb_value.0 c.wide-st.ensures c.wide-e.ensures c.if-e-st.false, (columns-of c.args.plan.now).three)) c.wide-from.ensures c.wide-to.ensures in (c.join_targets.ensures.0, λ t cs q h. (rw (part-slice c.wide-from.result c.wide-to.result c.args.plan.now.code.refs.now f.0) at (c.join_targets.ensures.1 q h)) ∙ sym (ap (λ (x : Bool). x || cell c.args.s.now (c.args.plan.now.nb * (3 * c.args.plan.now.words)) q) (leave-targets (columns-of c.args.plan.now) t cs c.args.plan.now.nb c.args.b c.wide-st.result c.wide-e.result c.args.plan.now.counted c.requires.nb_value.0 c.wide-st.ensures c.wide-e.ensures (live_at c.args.s.now c.args.plan.now.words c.args.plan.now.nb q) c.if-e-st.false c.if-k-ge2.true c.if-k-le4.true _ _ c.wide-from.ensures c.wide-to.ensures)))
+returns-then-k-le4 c = let f = next_fits c.args.flow.now.columns.lists (3 * (c.wide-e.result - 1) + 1) _ _ (omega (arith, last-inside c.args.flow.now.columns c.args.flow.now.blocks.count c.args.b c.wide-st.result c.wide-e.result c.args.flow.now.counted c.requires.nb_value.0 c.wide-st.ensures c.wide-e.ensures c.if-e-st.false, c.args.flow.now.columns.three)) c.wide-from.ensures c.wide-to.ensures in (c.join_targets.ensures.0, λ t cs q h. (rw (part-slice c.wide-from.result c.wide-to.result c.args.flow.now.registers.refs.now f.0) at (c.join_targets.ensures.1 q h)) ∙ sym (ap (λ (x : Bool). x || cell c.args.s.now (c.args.flow.now.blocks.count * (3 * c.args.flow.now.words)) q) (leave-targets c.args.flow.now.columns t cs c.args.flow.now.blocks.count c.args.b c.wide-st.result c.wide-e.result c.args.flow.now.counted c.requires.nb_value.0 c.wide-st.ensures c.wide-e.ensures (live_at c.args.s.now c.args.flow.now.words c.args.flow.now.blocks.count q) c.if-e-st.false c.if-k-ge2.true c.if-k-le4.true _ _ c.wide-from.ensures c.wide-to.ensures)))
 
 pub returns-then-k-le6 : goal.returns-then-k-le6
-returns-then-k-le6 c = (outside_refl _ _ _, λ t cs q h. sym (ap (λ (x : Bool). x || cell c.args.s.now (c.args.plan.now.nb * (3 * c.args.plan.now.words)) q) (leave-stop (columns-of c.args.plan.now) t cs c.args.plan.now.nb c.args.b c.wide-st.result c.wide-e.result c.args.plan.now.counted c.requires.nb_value.0 c.wide-st.ensures c.wide-e.ensures (live_at c.args.s.now c.args.plan.now.words c.args.plan.now.nb q) c.if-e-st.false c.if-k-le4.false c.if-k-le6.true)))
+returns-then-k-le6 c = (outside_refl _ _ _, λ t cs q h. sym (ap (λ (x : Bool). x || cell c.args.s.now (c.args.flow.now.blocks.count * (3 * c.args.flow.now.words)) q) (leave-stop c.args.flow.now.columns t cs c.args.flow.now.blocks.count c.args.b c.wide-st.result c.wide-e.result c.args.flow.now.counted c.requires.nb_value.0 c.wide-st.ensures c.wide-e.ensures (live_at c.args.s.now c.args.flow.now.words c.args.flow.now.blocks.count q) c.if-e-st.false c.if-k-le4.false c.if-k-le6.true)))
 
 pub overflow_mul-b-3 : goal.overflow_mul-b-3
-overflow_mul-b-3 c = omega (arith, block-fits c.args.b c.args.plan.now.nb (3 * c.args.plan.now.words) c.requires.nb_value.0)
+overflow_mul-b-3 c = omega (arith, block-fits c.args.b c.args.flow.now.blocks.count (3 * c.args.flow.now.words) c.requires.nb_value.0)
 
 pub overflow_mul-words : goal.overflow_mul-words
-overflow_mul-words c = omega (arith, block-fits c.args.b c.args.plan.now.nb (3 * c.args.plan.now.words) c.requires.nb_value.0)
+overflow_mul-words c = omega (arith, block-fits c.args.b c.args.flow.now.blocks.count (3 * c.args.flow.now.words) c.requires.nb_value.0)
 
 pub overflow_add-b-2 : goal.overflow_add-b-2
-overflow_add-b-2 c = omega (arith, block-fits c.args.b c.args.plan.now.nb (3 * c.args.plan.now.words) c.requires.nb_value.0)
+overflow_add-b-2 c = omega (arith, block-fits c.args.b c.args.flow.now.blocks.count (3 * c.args.flow.now.words) c.requires.nb_value.0)
 
 pub offset_bounds-s-b : goal.offset_bounds-s-b
-offset_bounds-s-b c = omega (arith, block-fits c.args.b c.args.plan.now.nb (3 * c.args.plan.now.words) c.requires.nb_value.0, c.requires.nb_value.1)
+offset_bounds-s-b c = omega (arith, block-fits c.args.b c.args.flow.now.blocks.count (3 * c.args.flow.now.words) c.requires.nb_value.0, c.requires.nb_value.1)
 
 pub bounds-s-b : goal.bounds-s-b
-bounds-s-b c = omega (arith, block-fits c.args.b c.args.plan.now.nb (3 * c.args.plan.now.words) c.requires.nb_value.0, c.requires.nb_value.1, c.if-words-eq0.false)
+bounds-s-b c = omega (arith, block-fits c.args.b c.args.flow.now.blocks.count (3 * c.args.flow.now.words) c.requires.nb_value.0, c.requires.nb_value.1, c.if-words-eq0.false)
 
 pub overflow_mul-t : goal.overflow_mul-t
-overflow_mul-t c = omega (arith, block-fits c.index-t.result c.args.plan.now.nb (3 * c.args.plan.now.words) c.if-t-nb.true)
+overflow_mul-t c = omega (arith, block-fits c.index-t.result c.args.flow.now.blocks.count (3 * c.args.flow.now.words) c.if-t-nb.true)
 
 pub join-requires : goal.join-requires
-join-requires c = (omega (arith, block-fits c.index-t.result c.args.plan.now.nb (3 * c.args.plan.now.words) c.if-t-nb.true), omega (arith, c.requires.nb_value.1))
+join-requires c = (omega (arith, block-fits c.index-t.result c.args.flow.now.blocks.count (3 * c.args.flow.now.words) c.if-t-nb.true), omega (arith, c.requires.nb_value.1))
 
 pub returns-then-t-nb : goal.returns-then-t-nb
-returns-then-t-nb c = (c.join.ensures.0, λ t cs q h. c.join.ensures.1 q h ∙ sym (ap (λ (x : Bool). x || cell c.args.s.now (c.args.plan.now.nb * (3 * c.args.plan.now.words)) q) (leave-next (columns-of c.args.plan.now) t cs c.args.plan.now.nb c.args.b c.wide-st.result c.wide-e.result c.args.plan.now.counted c.requires.nb_value.0 c.wide-st.ensures c.wide-e.ensures (live_at c.args.s.now c.args.plan.now.words c.args.plan.now.nb q) c.if-e-st.false (elim c.if-k-ge2.branch [ then-k-ge2+else-k-le4+else-k-le6 w ↦ inr w.if-k-le6.false | else-k-ge2 w ↦ inl w.if-k-ge2.false ]) c.index-t.result (linked-next (c.requires.nb_value.2 (omega (arith, c.if-words-eq0.false))) c.args.b _ _ _ c.requires.nb_value.0 c.wide-st.ensures c.wide-e.ensures c.if-e-st.false c.index-t.ensures) ∙ joined-one c.args.s.now c.args.plan.now.words c.args.plan.now.nb q c.index-t.result c.if-t-nb.true)))
+returns-then-t-nb c = (c.join.ensures.0, λ t cs q h. c.join.ensures.1 q h ∙ sym (ap (λ (x : Bool). x || cell c.args.s.now (c.args.flow.now.blocks.count * (3 * c.args.flow.now.words)) q) (leave-next c.args.flow.now.columns t cs c.args.flow.now.blocks.count c.args.b c.wide-st.result c.wide-e.result c.args.flow.now.counted c.requires.nb_value.0 c.wide-st.ensures c.wide-e.ensures (live_at c.args.s.now c.args.flow.now.words c.args.flow.now.blocks.count q) c.if-e-st.false (elim c.if-k-ge2.branch [ then-k-ge2+else-k-le4+else-k-le6 w ↦ inr w.if-k-le6.false | else-k-ge2 w ↦ inl w.if-k-ge2.false ]) c.index-t.result (linked-next (c.requires.nb_value.2 (omega (arith, c.if-words-eq0.false))) c.args.b _ _ _ c.requires.nb_value.0 c.wide-st.ensures c.wide-e.ensures c.if-e-st.false c.index-t.ensures) ∙ joined-one c.args.s.now c.args.flow.now.words c.args.flow.now.blocks.count q c.index-t.result c.if-t-nb.true)))
 
 pub returns-else-t-nb : goal.returns-else-t-nb
-returns-else-t-nb c = (outside_refl _ _ _, λ t cs q h. sym (ap (λ (x : Bool). x || cell c.args.s.now (c.args.plan.now.nb * (3 * c.args.plan.now.words)) q) (leave-next (columns-of c.args.plan.now) t cs c.args.plan.now.nb c.args.b c.wide-st.result c.wide-e.result c.args.plan.now.counted c.requires.nb_value.0 c.wide-st.ensures c.wide-e.ensures (live_at c.args.s.now c.args.plan.now.words c.args.plan.now.nb q) c.if-e-st.false (elim c.if-k-ge2.branch [ then-k-ge2+else-k-le4+else-k-le6 w ↦ inr w.if-k-le6.false | else-k-ge2 w ↦ inl w.if-k-ge2.false ]) c.index-t.result (linked-next (c.requires.nb_value.2 (omega (arith, c.if-words-eq0.false))) c.args.b _ _ _ c.requires.nb_value.0 c.wide-st.ensures c.wide-e.ensures c.if-e-st.false c.index-t.ensures) ∙ joined-none (live_at c.args.s.now c.args.plan.now.words c.args.plan.now.nb q) c.args.plan.now.nb c.index-t.result c.if-t-nb.false)))
+returns-else-t-nb c = (outside_refl _ _ _, λ t cs q h. sym (ap (λ (x : Bool). x || cell c.args.s.now (c.args.flow.now.blocks.count * (3 * c.args.flow.now.words)) q) (leave-next c.args.flow.now.columns t cs c.args.flow.now.blocks.count c.args.b c.wide-st.result c.wide-e.result c.args.flow.now.counted c.requires.nb_value.0 c.wide-st.ensures c.wide-e.ensures (live_at c.args.s.now c.args.flow.now.words c.args.flow.now.blocks.count q) c.if-e-st.false (elim c.if-k-ge2.branch [ then-k-ge2+else-k-le4+else-k-le6 w ↦ inr w.if-k-le6.false | else-k-ge2 w ↦ inl w.if-k-ge2.false ]) c.index-t.result (linked-next (c.requires.nb_value.2 (omega (arith, c.if-words-eq0.false))) c.args.b _ _ _ c.requires.nb_value.0 c.wide-st.ensures c.wide-e.ensures c.if-e-st.false c.index-t.ensures) ∙ joined-none (live_at c.args.s.now c.args.flow.now.words c.args.flow.now.blocks.count q) c.args.flow.now.blocks.count c.index-t.result c.if-t-nb.false)))

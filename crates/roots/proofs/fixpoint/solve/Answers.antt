@@ -19,7 +19,7 @@ pub returns-then-not-more : goal.returns-then-not-more
 returns-then-not-more c = solving-end c.loop-more.invariant c.pass-more.ensures c.if-not-more.true
 
 pub loop-more-smaller : goal.loop-more-smaller
-loop-more-smaller c = omega (arith, c.pass-more.ensures.more c.if-not-more.false, listed_le 64 (take (c.args.plan.now.nb * (3 * c.args.plan.now.words)) c.pass-more.new.s), length-take (c.args.plan.now.nb * (3 * c.args.plan.now.words)) c.pass-more.new.s)
+loop-more-smaller c = omega (arith, c.pass-more.ensures.more c.if-not-more.false, listed_le 64 (take (c.args.flow.now.blocks.count * (3 * c.args.flow.now.words)) c.pass-more.new.s), length-take (c.args.flow.now.blocks.count * (3 * c.args.flow.now.words)) c.pass-more.new.s)
 
 pub loop-more-preserved : goal.loop-more-preserved
 loop-more-preserved c = solving-on c.loop-more.invariant c.pass-more.ensures

@@ -5,7 +5,7 @@ use Rattle.roots.proofs.Passes.{Solving}
 use Rattle.roots.proofs.fixpoint.solve.Given as goal
 
 abbrev pub invariant-loop-more : goal.invariant-loop-more
-invariant-loop-more l = Solving l.plan.code.kinds.now l.plan.code.ends.now l.plan.code.refs.now l.plan.code.blocks.now l.initial.s l.s l.plan.nb l.plan.words
+invariant-loop-more l = Solving l.flow.kinds.now l.flow.registers.ends.now l.flow.registers.refs.now l.flow.blocks.bounds.now l.initial.s l.s l.flow.blocks.count l.flow.words
 
 abbrev pub decreases-loop-more : goal.decreases-loop-more
-decreases-loop-more l = l.plan.nb * (3 * l.plan.words) * 64 - set_bits (l.plan.nb * (3 * l.plan.words)) l.s
+decreases-loop-more l = l.flow.blocks.count * (3 * l.flow.words) * 64 - set_bits (l.flow.blocks.count * (3 * l.flow.words)) l.s

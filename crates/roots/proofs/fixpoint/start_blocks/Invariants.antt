@@ -4,4 +4,4 @@ use Rattle.roots.proofs.Builds.{Builds}
 use Rattle.roots.proofs.fixpoint.start_blocks.Given as goal
 
 abbrev pub invariant-loop-b : goal.invariant-loop-b
-invariant-loop-b l = Builds (wanted l.plan.which) l.plan.code.ends.now l.plan.code.refs.now l.plan.code.blocks.now l.plan.code.classes.now l.initial.s l.s l.plan.nb l.plan.words l.b
+invariant-loop-b l = Builds (wanted l.plan.flow.registers.which) l.plan.flow.registers.ends.now l.plan.flow.registers.refs.now l.plan.flow.blocks.bounds.now l.plan.flow.registers.classes.now l.initial.s l.s l.plan.flow.blocks.count l.plan.flow.words l.b

@@ -5,7 +5,7 @@ use Prim.Native.Nat.{ℕ, ◌-◌, ◌*◌, ◌≤◌, ◌<◌}
 use lib.ListN.{length, get_or}
 use Rattle.roots.specs.View.{start_of}
 use Rattle.roots.specs.Columns.{Lists}
-use Rattle.roots.proofs.Plans.{lists-of-plan, part-slice}
+use Rattle.roots.proofs.Plans.{part-slice}
 use Rattle.roots.proofs.Turns.{kills-on, kills-none, kills-end, list-fits}
 use Rattle.roots.proofs.row.kill_row.Goals as goal
 
@@ -16,22 +16,22 @@ written ends refs l p a m h ea em = list-fits l (3 * p) a m h ea em
 pub loop-p-init : goal.loop-p-init
 loop-p-init c = kills-none _ _ _ _ _ _ _ c.requires.0
 
-pub offset_bounds-plan-a : goal.offset_bounds-plan-a
-offset_bounds-plan-a c = let w = written _ _ (lists-of-plan c.args.plan.now) (c.loop-p.p - 1) _ _ (omega arith) c.list_start-a.ensures c.wide-m.ensures in omega (arith, w.0, w.1)
+pub offset_bounds-registers-a : goal.offset_bounds-registers-a
+offset_bounds-registers-a c = let w = written _ _ c.args.registers.now.lists (c.loop-p.p - 1) _ _ (omega arith) c.list_start-a.ensures c.wide-m.ensures in omega (arith, w.0, w.1)
 
 pub slice_bounds-set_all-count : goal.slice_bounds-set_all-count
-slice_bounds-set_all-count c = (written _ _ (lists-of-plan c.args.plan.now) (c.loop-p.p - 1) _ _ (omega arith) c.list_start-a.ensures c.wide-m.ensures).0
+slice_bounds-set_all-count c = (written _ _ c.args.registers.now.lists (c.loop-p.p - 1) _ _ (omega arith) c.list_start-a.ensures c.wide-m.ensures).0
 
 pub slice_bounds-set_all-start : goal.slice_bounds-set_all-start
-slice_bounds-set_all-start c = (written _ _ (lists-of-plan c.args.plan.now) (c.loop-p.p - 1) _ _ (omega arith) c.list_start-a.ensures c.wide-m.ensures).0
+slice_bounds-set_all-start c = (written _ _ c.args.registers.now.lists (c.loop-p.p - 1) _ _ (omega arith) c.list_start-a.ensures c.wide-m.ensures).0
 
 pub slice_bounds-set_all-end : goal.slice_bounds-set_all-end
-slice_bounds-set_all-end c = (written _ _ (lists-of-plan c.args.plan.now) (c.loop-p.p - 1) _ _ (omega arith) c.list_start-a.ensures c.wide-m.ensures).1
+slice_bounds-set_all-end c = (written _ _ c.args.registers.now.lists (c.loop-p.p - 1) _ _ (omega arith) c.list_start-a.ensures c.wide-m.ensures).1
 
 pub loop-p-preserved : goal.loop-p-preserved
 loop-p-preserved c =
-    let refs = c.args.plan.now.code.refs.now in
-    let w = written _ refs (lists-of-plan c.args.plan.now) (c.loop-p.p - 1) _ _ (omega arith) c.list_start-a.ensures c.wide-m.ensures in
+    let refs = c.args.registers.now.refs.now in
+    let w = written _ refs c.args.registers.now.lists (c.loop-p.p - 1) _ _ (omega arith) c.list_start-a.ensures c.wide-m.ensures in
     kills-on c.loop-p.invariant c.loop-p-test.true c.requires.1 _ _ _ c.list_start-a.ensures c.wide-m.ensures c.set_all.auto.row
     (λ q. rw (part-slice c.list_start-a.result c.wide-m.result refs w.0) at (c.set_all.ensures q))
 

@@ -14,7 +14,7 @@ pub loop-register-init : goal.loop-register-init
 loop-register-init c = record { kept = refl; low = omega arith; high = omega arith; bits = λ q. refl }
 
 pub set_bit-requires : goal.set_bit-requires
-set_bit-requires c = omega (arith, asked-known (wanted c.args.plan.now.which) c.args.plan.now.code.classes.now c.wide-r.result (sym c.takes_part.ensures ∙ c.if-takes_part.true))
+set_bit-requires c = omega (arith, asked-known (wanted c.args.registers.now.which) c.args.registers.now.classes.now c.wide-r.result (sym c.takes_part.ensures ∙ c.if-takes_part.true))
 
 pub loop-register-preserved : goal.loop-register-preserved
 loop-register-preserved c = elim c.if-takes_part.branch [
@@ -24,4 +24,4 @@ loop-register-preserved c = elim c.if-takes_part.branch [
 ]
 
 pub returns : goal.returns
-returns c = λ q. rw (slice-all c.args.registers.now) at (sets_end c.loop-register.invariant c.loop-register-test.false q)
+returns c = λ q. rw (slice-all c.args.list.now) at (sets_end c.loop-register.invariant c.loop-register-test.false q)

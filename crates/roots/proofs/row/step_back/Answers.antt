@@ -6,7 +6,7 @@ use Prim.Native.Nat.{ℕ, ◌+◌, ◌*◌, ◌≤◌, ◌<◌}
 use lib.ListN.{length, get_or}
 use Rattle.roots.specs.View.{start_of}
 use Rattle.roots.specs.Columns.{Lists}
-use Rattle.roots.proofs.Plans.{lists-of-plan, part-slice}
+use Rattle.roots.proofs.Plans.{part-slice}
 use Rattle.roots.proofs.Turns.{stepped-back, list-fits, next_fits}
 use Rattle.roots.proofs.row.step_back.Goals as goal
 
@@ -17,32 +17,32 @@ written ends refs l p a m h ea em = list-fits l (3 * p) a m (omega arith) ea em
 read : (ends refs : List ℕ) → Lists ends refs → (p m e : ℕ) → 3 * p + 2 < length ends → m ≡ get_or ends (3 * p) 0 → e ≡ get_or ends (3 * p + 1) 0 → (m ≤ e) × (e ≤ length refs)
 read ends refs l p m e h em ee = next_fits l (3 * p) m e (omega arith) em ee
 
-pub offset_bounds-plan-a : goal.offset_bounds-plan-a
-offset_bounds-plan-a c = let w = written _ _ (lists-of-plan c.args.plan.now) c.args.p _ _ c.requires.0 c.list_start-a.ensures c.wide-m.ensures in omega (arith, w.0, w.1)
+pub offset_bounds-registers-a : goal.offset_bounds-registers-a
+offset_bounds-registers-a c = let w = written _ _ c.args.registers.now.lists c.args.p _ _ c.requires.0 c.list_start-a.ensures c.wide-m.ensures in omega (arith, w.0, w.1)
 
 pub slice_bounds-clear_all-count : goal.slice_bounds-clear_all-count
-slice_bounds-clear_all-count c = (written _ _ (lists-of-plan c.args.plan.now) c.args.p _ _ c.requires.0 c.list_start-a.ensures c.wide-m.ensures).0
+slice_bounds-clear_all-count c = (written _ _ c.args.registers.now.lists c.args.p _ _ c.requires.0 c.list_start-a.ensures c.wide-m.ensures).0
 
 pub slice_bounds-clear_all-start : goal.slice_bounds-clear_all-start
-slice_bounds-clear_all-start c = (written _ _ (lists-of-plan c.args.plan.now) c.args.p _ _ c.requires.0 c.list_start-a.ensures c.wide-m.ensures).0
+slice_bounds-clear_all-start c = (written _ _ c.args.registers.now.lists c.args.p _ _ c.requires.0 c.list_start-a.ensures c.wide-m.ensures).0
 
 pub slice_bounds-clear_all-end : goal.slice_bounds-clear_all-end
-slice_bounds-clear_all-end c = (written _ _ (lists-of-plan c.args.plan.now) c.args.p _ _ c.requires.0 c.list_start-a.ensures c.wide-m.ensures).1
+slice_bounds-clear_all-end c = (written _ _ c.args.registers.now.lists c.args.p _ _ c.requires.0 c.list_start-a.ensures c.wide-m.ensures).1
 
 pub slice_bounds-set_all-count : goal.slice_bounds-set_all-count
-slice_bounds-set_all-count c = (read _ _ (lists-of-plan c.args.plan.now) c.args.p _ _ c.requires.0 c.wide-m.ensures c.wide-e.ensures).0
+slice_bounds-set_all-count c = (read _ _ c.args.registers.now.lists c.args.p _ _ c.requires.0 c.wide-m.ensures c.wide-e.ensures).0
 
 pub slice_bounds-set_all-start : goal.slice_bounds-set_all-start
-slice_bounds-set_all-start c = (read _ _ (lists-of-plan c.args.plan.now) c.args.p _ _ c.requires.0 c.wide-m.ensures c.wide-e.ensures).0
+slice_bounds-set_all-start c = (read _ _ c.args.registers.now.lists c.args.p _ _ c.requires.0 c.wide-m.ensures c.wide-e.ensures).0
 
 pub slice_bounds-set_all-end : goal.slice_bounds-set_all-end
-slice_bounds-set_all-end c = (read _ _ (lists-of-plan c.args.plan.now) c.args.p _ _ c.requires.0 c.wide-m.ensures c.wide-e.ensures).1
+slice_bounds-set_all-end c = (read _ _ c.args.registers.now.lists c.args.p _ _ c.requires.0 c.wide-m.ensures c.wide-e.ensures).1
 
 pub returns : goal.returns
 returns c =
-    let refs = c.args.plan.now.code.refs.now in
-    let w = written _ refs (lists-of-plan c.args.plan.now) c.args.p _ _ c.requires.0 c.list_start-a.ensures c.wide-m.ensures in
-    let r = read _ refs (lists-of-plan c.args.plan.now) c.args.p _ _ c.requires.0 c.wide-m.ensures c.wide-e.ensures in
+    let refs = c.args.registers.now.refs.now in
+    let w = written _ refs c.args.registers.now.lists c.args.p _ _ c.requires.0 c.list_start-a.ensures c.wide-m.ensures in
+    let r = read _ refs c.args.registers.now.lists c.args.p _ _ c.requires.0 c.wide-m.ensures c.wide-e.ensures in
     stepped-back _ _ _ _ _ _ _ _ _ _ _ c.requires.0 c.list_start-a.ensures c.wide-m.ensures c.wide-e.ensures
     (λ q. rw (part-slice c.list_start-a.result c.wide-m.result refs w.0) at (c.clear_all.ensures q))
     (λ q. rw (part-slice c.wide-m.result c.wide-e.result refs r.0) at (c.set_all.ensures q))

@@ -4,7 +4,7 @@ use Rattle.roots.proofs.Chaining.{Chase}
 use Rattle.roots.proofs.chains.BlockChains.first_at.Given as goal
 
 abbrev pub invariant-loop-c : goal.invariant-loop-c
-invariant-loop-c l = Chase l.plan.code.blocks.now l.word l.plan.nb l.pc l.c
+invariant-loop-c l = Chase l.blocks.bounds.now l.word l.blocks.count l.pc l.c
 
 abbrev pub decreases-loop-c : goal.decreases-loop-c
-decreases-loop-c l = l.plan.nb - l.c
+decreases-loop-c l = l.blocks.count - l.c
