@@ -21,65 +21,66 @@ use Rattle.ty.specs.View.{table_of}
 use Rattle.ty.specs.Check.{table_good}
 use Rattle.heap.specs.Packing.{start_of}
 use Rattle.heap.specs.State.{slot_at, live}
-use Rattle.heap.specs.declared.Heap.{Heap}
-use Rattle.heap.specs.Lent.{Lent, lent, view}
-use Rattle.heap.specs.WellFormed.{well_formed}
+use Rattle.heap.specs.Lent.{Lent, view}
+use Rattle.heap.specs.Seen.{seen, state}
+use Rattle.heap.specs.declared.view.View.{View}
 use Rattle.trace.specs.Places.{handles_of}
 use Rattle.trace.specs.Listing.{listing, Lists, written_to}
 use Rattle.reach.specs.Reach.{Graph}
 use Rattle.collection.specs.Shown.{shown}
-use Rattle.mark.specs.Graph.{Fit, shown_in}
+use Rattle.collection.specs.Collected.{graph}
+use Rattle.mark.specs.Graph.{Fit, graph_in}
 use Rattle.mark.proofs.Bridge.{slot-shown}
 use Rattle.mark.proofs.Formed.{formed-fit, formed-graph}
 use Rattle.door.specs.HeapCalls.{test, admitted, heap_tests, Entered, asked}
 use Rattle.door.specs.HeapCalls.{Entry}
 use Rattle.door.specs.HeapCalls.{ready}
-use Rattle.door.proofs.Entering.{and-holds, and-fails, and-more, ask-refused, ask-ready, whether-not, whether-ready, entered}
+use Rattle.door.proofs.Entering.{and-holds, and-fails, and-more, ask-refused, ask-ready, whether-not, whether-ready}
 use Rattle.slot_door.specs.SlotHandles.{slot_handles, slot_tests, slot_call, slot_out}
 
--- ---- a slot in use
+-- ---- a slot of a heap that is lent to be read
 
-pub at_listed : (slots S : ℕ) (narrow wide pool : List ℕ) (fit : Fit slots S narrow wide pool) (i : ℕ) (h : i < slots) (a : ℕ) (ea : a ≡ start_of (run S S wide) i) (T : Table) (r : Reply) (out out' : List ℕ)
-    → Lists (listing (handles_of T (get_or narrow (S + i) 0) (get_or narrow (2 * S + i) 0) (get_or wide i 0) (take (get_or wide (S + i) 0 - a) (drop a pool))) (length out)) r out out'
-    → Lists (listing (shown_in T S narrow wide pool i) (length out)) r out out'
-at_listed slots S narrow wide pool fit i h a ea T r out out' l =
-    subst (λ o. Lists (listing o (length out)) r out out') (slot-shown slots S narrow wide pool fit i h a ea T) l
+pub fit-of : (v : View) → Fit v.heap.slots (length v.narrow.now / 6) v.narrow.now v.wide.now v.pool.now
+fit-of v = formed-fit v.heap v.narrow.now v.wide.now v.pool.now v.formed
 
--- ---- a slot of a checked heap
-
-module _ (h : Heap) (narrow wide pool : List ℕ) (wf : well_formed (lent h narrow wide pool) ≡ true) (T : Table) (i : ℕ) where
+module _ (v : View) (T : Table) (i : ℕ) where
   abbrev S : ℕ
-  S = length narrow / 6
+  S = length v.narrow.now / 6
 
-  abbrev l : Lent
-  l = lent h narrow wide pool
+  graphs : graph_in T v.heap.tag v.heap.slots S v.narrow.now v.wide.now v.pool.now ≡ graph (state v) (shown T (state v))
+  graphs = formed-graph v.heap v.narrow.now v.wide.now v.pool.now v.formed T
 
-  live-is : live_in h.slots (run S S narrow) i ≡ live (slot_at (view l) i)
-  live-is = ap (λ (G : Graph). G.live i) (formed-graph h narrow wide pool wf T)
+  live-is : live_in v.heap.slots (run S S v.narrow.now) i ≡ live (slot_at (state v) i)
+  live-is = ap (λ (G : Graph). G.live i) graphs
 
-  pub shown-is : shown_in T (length narrow / 6) narrow wide pool i ≡ shown T (view (lent h narrow wide pool)) i
-  shown-is = ap (λ (G : Graph). G.handles i) (formed-graph h narrow wide pool wf T)
+  -- a slot in use
+  pub at_listed : (h : i < v.heap.slots) (a : ℕ) (ea : a ≡ start_of (run (length v.narrow.now / 6) (length v.narrow.now / 6) v.wide.now) i) (r : Reply) (out out' : List ℕ)
+      → Lists (listing (handles_of T (get_or v.narrow.now (length v.narrow.now / 6 + i) 0) (get_or v.narrow.now (2 * (length v.narrow.now / 6) + i) 0) (get_or v.wide.now i 0)
+      (take (get_or v.wide.now (length v.narrow.now / 6 + i) 0 - a) (drop a v.pool.now))) (length out)) r out out'
+      → Lists (listing (shown T (state v) i) (length out)) r out out'
+  at_listed h a ea r out out' l =
+      subst (λ o. Lists (listing o (length out)) r out out')
+      (slot-shown v.heap.slots S v.narrow.now v.wide.now v.pool.now (fit-of v) i h a ea T ∙ ap (λ (G : Graph). G.handles i) graphs) l
 
   module _ (out : List ℕ) where
-    none-there : live (slot_at (view l) i) ≡ false → Lists (slot_handles T i (length out) (view l)) (Err NothingThere) out out
+    none-there : live (slot_at (state v) i) ≡ false → Lists (slot_handles T i (length out) (state v)) (Err NothingThere) out out
     unfolding slot_handles
     none-there e = record { answer = rw e refl; written = rw e refl }
 
-    pub slot-missing : h.slots ≤ i → Lists (slot_handles T i (length out) (view (lent h narrow wide pool))) (Err NothingThere) out out
-    slot-missing b = none-there (sym live-is ∙ live-beyond h.slots (run S S narrow) i b)
+    pub slot-missing : v.heap.slots ≤ i → Lists (slot_handles T i (length out) (state v)) (Err NothingThere) out out
+    slot-missing b = none-there (sym live-is ∙ live-beyond v.heap.slots (run S S v.narrow.now) i b)
 
-    module _ (b : i < h.slots) where
-      kind-is : get_or (run S S narrow) i 0 ≡ get_or narrow (length narrow / 6 + i) 0
-      kind-is = run-get S S narrow i (omega (arith, (formed-fit h narrow wide pool wf).runs.used))
+    module _ (b : i < v.heap.slots) where
+      kind-is : get_or (run S S v.narrow.now) i 0 ≡ get_or v.narrow.now (length v.narrow.now / 6 + i) 0
+      kind-is = run-get S S v.narrow.now i (omega (arith, (fit-of v).runs.used))
 
-      pub slot-dead : get_or narrow (length narrow / 6 + i) 0 ≡ 0 → Lists (slot_handles T i (length out) (view (lent h narrow wide pool))) (Err NothingThere) out out
-      slot-dead z = none-there (sym live-is ∙ live-not h.slots (run S S narrow) i (kind-is ∙ z))
+      pub slot-dead : get_or v.narrow.now (length v.narrow.now / 6 + i) 0 ≡ 0 → Lists (slot_handles T i (length out) (state v)) (Err NothingThere) out out
+      slot-dead z = none-there (sym live-is ∙ live-not v.heap.slots (run S S v.narrow.now) i (kind-is ∙ z))
 
-      pub slot-listed : (get_or narrow (length narrow / 6 + i) 0 ≡ 0 → ⊥) → (r : Reply) (out' : List ℕ) → Lists (listing (shown_in T (length narrow / 6) narrow wide pool i) (length out)) r out out'
-          → Lists (slot_handles T i (length out) (view (lent h narrow wide pool))) r out out'
+      pub slot-listed : (get_or v.narrow.now (length v.narrow.now / 6 + i) 0 ≡ 0 → ⊥) → (r : Reply) (out' : List ℕ) → Lists (listing (shown T (state v) i) (length out)) r out out'
+          → Lists (slot_handles T i (length out) (state v)) r out out'
       unfolding slot_handles
-      slot-listed n r out' s =
-          rw (sym live-is ∙ live-there h.slots (run S S narrow) i b (λ z. n (sym kind-is ∙ z))) (subst (λ o. Lists (listing o (length out)) r out out') shown-is s)
+      slot-listed n r out' s = rw (sym live-is ∙ live-there v.heap.slots (run S S v.narrow.now) i b (λ z. n (sym kind-is ∙ z))) s
 
 -- ---- the public call
 
@@ -102,10 +103,8 @@ module _ (l : Lent) (types fields consts bytes : List ℕ) {m w m' w' : List ℕ
   slot-refused i t =
       (ask-refused s length nothing l (slot_handles T slot (length out)) i t, sym (whether-not s (λ why. out) (written_to out (slot_handles T slot (length out) (view l))) i))
 
-  pub slot-done : {out' : List ℕ} {reply : Reply} {r : Answer} → e ≡ ready → Lists (slot_handles T slot (length out) (view l)) reply out out' → r ≡ told reply
+  pub slot-done : (v : View) → seen v ≡ l → {out' : List ℕ} {reply : Reply} {r : Answer} → e ≡ ready → Lists (slot_handles T slot (length out) (state v)) reply out out' → r ≡ told reply
       → (asked r m' w' ≡ slot_call types fields consts bytes m w l slot out) × (out' ≡ slot_out types fields consts bytes m w l slot out)
-  slot-done i p t =
+  slot-done v q {out'} {reply} i p' t =
+      let p : Lists (slot_handles T slot (length out) (view l)) reply out out' = subst (λ (k : Lent). Lists (slot_handles T slot (length out) (view k)) reply out out') q p' in
       (ask-ready s length nothing l (slot_handles T slot (length out)) i p.answer t, p.written ∙ sym (whether-ready s (λ why. out) (written_to out (slot_handles T slot (length out) (view l))) i))
-
-  pub slot-formed : e ≡ ready → well_formed l ≡ true
-  slot-formed i = entered l s i

@@ -1,7 +1,7 @@
 -- The ways out of `traceable`. Assumes nothing.
 use Prim.Native.Nat.{ℕ, zero, suc, ◌+◌, ◌-◌, ◌*◌, ◌/◌, ◌≤◌, ◌<◌}
 use mathlib.Core.Path.{◌≡◌, refl, sym, ap, ◌∙◌, subst}
-use mathlib.Core.Bool.{Bool, true, false, not, ◌&&◌}
+use mathlib.Core.Bool.{Bool, true, false, ◌&&◌}
 use mathlib.Core.List.{List, [], ◌∷◌, map}
 use mathlib.Core.Option.{Option, none, some}
 use native.Mathlib.Omega.{arith}
@@ -14,81 +14,98 @@ use Rattle.word.proofs.RunLaws.{run-get}
 use Rattle.refusal.specs.Told.{number_of, refused_by, told, answered, nothing}
 use Rattle.refusal.specs.declared.Answer.{Answer}
 use Rattle.refusal.specs.declared.Refusal.{Refusal}
+use Rattle.refusal.specs.declared.Refusal.TheVariants.{Untraceable}
+use Rattle.refusal.proofs.Numbers.{told-once}
 use Rattle.refusal.specs.Told.{Reply}
-use Rattle.std.specs.Prelude.{Err}
+use Rattle.std.specs.Prelude.{Ok, Err, if◌then◌else◌}
+use Rattle.std.specs.Prelude.{Option as Outcome}
+use Rattle.word.specs.Result.{ok, refused}
 use Rattle.ty.specs.Types.{Table}
-use Rattle.ty.specs.View.{table_of}
+use Rattle.ty.specs.View.{table_of, lent as table_in}
+use Rattle.ty.specs.declared.Table.{Table as Columns}
 use Rattle.ty.proofs.CountLaws.{length_types}
 use Rattle.heap.specs.State.{Slot, no_slot, slot_at}
-use Rattle.heap.specs.declared.Heap.{Heap}
-use Rattle.heap.specs.Lent.{Lent, lent, slot_in, view}
-use Rattle.heap.specs.WellFormed.{well_formed}
+use Rattle.heap.specs.Lent.{Lent, slot_in, view}
+use Rattle.heap.specs.Seen.{seen, state}
+use Rattle.heap.specs.declared.view.View.{View}
 use Rattle.trace.specs.Listing.{listing, Lists}
 use Rattle.collection.specs.Shown.{shown}
-use Rattle.mark.specs.Graph.{shown_in}
-use Rattle.mark.proofs.Formed.{formed-fit}
 use Rattle.door.specs.HeapCalls.{Entered, asked, asked_of, scratch_after, zeros}
 use Rattle.door.specs.HeapCalls.{Entry}
 use Rattle.door.specs.HeapCalls.{ready}
-use Rattle.door.proofs.Entering.{whether-not, whether-ready, cleared-in, entered}
+use Rattle.door.proofs.Entering.{whether-not, whether-ready, cleared-in}
 use Rattle.slot_door.specs.SlotHandles.{slot_tests}
 use Rattle.slot_door.specs.Traceable.{traced, fits_table, first_failing, misfit, misfit_told, trace_call}
-use Rattle.slot_door.proofs.SlotCalls.{shown-is}
+use Rattle.slot_door.specs.Inner.Misfit.{misfit_in}
+use Rattle.slot_door.proofs.SlotCalls.{fit-of}
 
 -- ---- a slot
 
--- what is told of a list of handles says whether there is one
-listed-traced : (o : Option (List ℕ)) (room : ℕ) {a : Answer} → a ≡ answered length nothing (listing o room) → not (eqb a.number 13) ≡ traced o
+-- what a list of handles is refused by says whether they can be traced
+listed-yes : (o : Option (List ℕ)) (room : ℕ) (r : Reply) → told r ≡ answered length nothing (listing o room) → (r ≡ Err Untraceable → ⊥) → true ≡ traced o
 unfolding listing
-listed-traced none room e = ap (λ (x : Answer). not (eqb x.number 13)) e
-listed-traced (some hs) room e = ap (λ (x : Answer). not (eqb x.number 13)) e ∙ go (leb (length hs) room) refl
+listed-yes none room r e n = absurd (n (told-once r (Err Untraceable) e))
+listed-yes (some hs) room r e n = refl
+
+listed-no : (o : Option (List ℕ)) (room : ℕ) → told (Err Untraceable) ≡ answered length nothing (listing o room) → false ≡ traced o
+unfolding listing
+listed-no none room e = refl
+listed-no (some hs) room e = go (leb (length hs) room) refl
   where
-    go : (b : Bool) → leb (length hs) room ≡ b → not (eqb (answered length nothing (listing (some hs) room)).number 13) ≡ true
-    go true q = rw q
-    go false q = rw q
+    go : (b : Bool) → leb (length hs) room ≡ b → false ≡ true
+    go true q = let z : ◌≡◌ {A = ℕ} 13 0 = ap (λ (a : Answer). a.number) (e ∙ ap (λ (x : Bool). answered length nothing (if x then ok hs else refused 7)) q) in absurd (omega arith)
+    go false q = let z : ◌≡◌ {A = ℕ} 13 7 = ap (λ (a : Answer). a.number) (e ∙ ap (λ (x : Bool). answered length nothing (if x then ok hs else refused 7)) q) in absurd (omega arith)
 
-module _ (h : Heap) (narrow wide pool : List ℕ) (wf : well_formed (lent h narrow wide pool) ≡ true) (types fields consts bytes : List ℕ) (i : ℕ) (b : i < h.slots) where
+pub not-refused : {r : Reply} {p : ℕ × ℕ} → r ≡ Ok p → r ≡ Err Untraceable → ⊥
+not-refused i e = let z : ◌≡◌ {A = ℕ} 0 1 = cc in omega arith
+
+same-reply : {a b : Refusal} → ◌≡◌ {A = Reply} (Err a) (Err b) → a ≡ b
+same-reply q = cc
+
+pub other-refused : {r : Reply} {why : Refusal} → r ≡ Err why → (why ≡ Untraceable → ⊥) → r ≡ Err Untraceable → ⊥
+other-refused {why = why} i f e = f (same-reply (sym i ∙ e))
+
+module _ (v : View) (U : Columns) (i : ℕ) (b : i < v.heap.slots) where
   abbrev S : ℕ
-  S = length narrow / 6
-
-  abbrev l : Lent
-  l = lent h narrow wide pool
+  S = length v.narrow.now / 6
 
   abbrev T : Table
-  T = table_of types fields consts bytes
+  T = table_in U
 
-  slot_is : slot_at (view l) i ≡ slot_in l i
+  slot_is : slot_at (state v) i ≡ slot_in (seen v) i
   unfolding view
-  slot_is = get_d_tabulate h.slots (slot_in l) i no_slot b
+  slot_is = get_d_tabulate v.heap.slots (slot_in (seen v)) i no_slot b
 
-  kind-is : (slot_at (view l) i).kind ≡ get_or narrow (length narrow / 6 + i) 0
+  kind-is : (slot_at (state v) i).kind ≡ get_or v.narrow.now (length v.narrow.now / 6 + i) 0
   unfolding slot_in
-  kind-is = ap (λ (x : Slot). x.kind) slot_is ∙ run-get S S narrow i (omega (arith, (formed-fit h narrow wide pool wf).runs.used))
+  kind-is = ap (λ (x : Slot). x.kind) slot_is ∙ run-get S S v.narrow.now i (omega (arith, (fit-of v).runs.used))
 
-  type-is : (slot_at (view l) i).type ≡ get_or narrow (2 * (length narrow / 6) + i) 0
+  type-is : (slot_at (state v) i).type ≡ get_or v.narrow.now (2 * (length v.narrow.now / 6) + i) 0
   unfolding slot_in
-  type-is = ap (λ (x : Slot). x.type) slot_is ∙ run-get S (2 * S) narrow i (omega (arith, (formed-fit h narrow wide pool wf).runs.used))
+  type-is = ap (λ (x : Slot). x.type) slot_is ∙ run-get S (2 * S) v.narrow.now i (omega (arith, (fit-of v).runs.used))
 
-  pub other_fits : (get_or narrow (length narrow / 6 + i) 0 ≡ 1 → ⊥) → true ≡ fits_table (table_of types fields consts bytes) (view (lent h narrow wide pool)) i
+  pub other_fits : (get_or v.narrow.now (length v.narrow.now / 6 + i) 0 ≡ 1 → ⊥) → true ≡ fits_table (table_in U) (state v) i
   unfolding fits_table
-  other_fits n = rw (ne_eqb (slot_at (view l) i).kind 1 (λ z. n (sym kind-is ∙ z)))
+  other_fits n = rw (ne_eqb (slot_at (state v) i).kind 1 (λ z. n (sym kind-is ∙ z)))
 
-  module _ (k : get_or narrow (length narrow / 6 + i) 0 ≡ 1) where
-    typed : eqb (slot_at (view l) i).kind 1 ≡ true
-    typed = eq-eqb (slot_at (view l) i).kind 1 (kind-is ∙ k)
+  module _ (k : get_or v.narrow.now (length v.narrow.now / 6 + i) 0 ≡ 1) where
+    typed : eqb (slot_at (state v) i).kind 1 ≡ true
+    typed = eq-eqb (slot_at (state v) i).kind 1 (kind-is ∙ k)
 
-    pub no-type : length types / 4 ≤ get_or narrow (2 * (length narrow / 6) + i) 0 → false ≡ fits_table (table_of types fields consts bytes) (view (lent h narrow wide pool)) i
+    pub no-type : length U.types.now / 4 ≤ get_or v.narrow.now (2 * (length v.narrow.now / 6) + i) 0 → false ≡ fits_table (table_in U) (state v) i
     unfolding fits_table
-    no-type n = rw (typed, le-ltb (slot_at (view l) i).type (length T.types) (omega (arith, type-is, length_types types fields)))
+    no-type n = rw (typed, le-ltb (slot_at (state v) i).type (length T.types) (omega (arith, type-is, length_types U.types.now U.fields.now)))
 
-    pub is-traced : get_or narrow (2 * (length narrow / 6) + i) 0 < length types / 4 → {r : Reply} {out out' : List ℕ} {a : Answer} →
-        Lists (listing (shown_in (table_of types fields consts bytes) (length narrow / 6) narrow wide pool i) (length out)) r out out' → a ≡ told r →
-        not (eqb a.number 13) ≡ fits_table (table_of types fields consts bytes) (view (lent h narrow wide pool)) i
-    unfolding fits_table
-    is-traced n {r} {out} p t =
-        rw (typed, lt-ltb (slot_at (view l) i).type (length T.types) (omega (arith, type-is, length_types types fields)))
-        (listed-traced (shown T (view l) i) (length out)
-        (t ∙ p.answer ∙ ap (λ (o : Option (List ℕ)). answered length nothing (listing o (length out))) (shown-is h narrow wide pool wf T i)))
+    module _ (n : get_or v.narrow.now (2 * (length v.narrow.now / 6) + i) 0 < length U.types.now / 4) where
+      by-trace : traced (shown (table_in U) (state v) i) ≡ fits_table (table_in U) (state v) i
+      unfolding fits_table
+      by-trace = rw (typed, lt-ltb (slot_at (state v) i).type (length T.types) (omega (arith, type-is, length_types U.types.now U.fields.now))) refl
+
+      pub is-traced : {r : Reply} {out out' : List ℕ} → Lists (listing (shown (table_in U) (state v) i) (length out)) r out out' → (r ≡ Err Untraceable → ⊥) → true ≡ fits_table (table_in U) (state v) i
+      is-traced {r} {out} p f = listed-yes (shown T (state v) i) (length out) r p.answer f ∙ by-trace
+
+      pub not-traced : {r : Reply} {out out' : List ℕ} → Lists (listing (shown (table_in U) (state v) i) (length out)) r out out' → r ≡ Err Untraceable → false ≡ fits_table (table_in U) (state v) i
+      not-traced {r} {out} p e = listed-no (shown T (state v) i) (length out) (sym (ap told e) ∙ p.answer) ∙ by-trace
 
 -- ---- the first of n that fails
 
@@ -119,22 +136,22 @@ module _ (test : ℕ → Bool) (n i : ℕ) (p : Passed test n i) where
   unfolding first_failing
   passed-all h = p.rest ∙ ap (λ (m : ℕ). first_failing test m i) (let z : n - i ≡ 0 = omega arith in z)
 
--- ---- a checked heap
+-- ---- a heap that is lent to be read
 
-module _ (h : Heap) (narrow wide pool : List ℕ) (T : Table) where
-  slots-are : length (view (lent h narrow wide pool)).slots ≡ h.slots
+module _ (v : View) (T : Table) where
+  slots-are : length (state v).slots ≡ v.heap.slots
   unfolding view
-  slots-are = length-tabulate h.slots (slot_in (lent h narrow wide pool))
+  slots-are = length-tabulate v.heap.slots (slot_in (seen v))
 
-  misfit-is : misfit T (view (lent h narrow wide pool)) ≡ first_failing (fits_table T (view (lent h narrow wide pool))) h.slots 0
-  misfit-is = ap (λ (n : ℕ). first_failing (fits_table T (view (lent h narrow wide pool))) n 0) slots-are
+  misfit-is : misfit T (state v) ≡ first_failing (fits_table T (state v)) v.heap.slots 0
+  misfit-is = ap (λ (n : ℕ). first_failing (fits_table T (state v)) n 0) slots-are
 
-  module _ (i : ℕ) (p : Passed (fits_table T (view (lent h narrow wide pool))) h.slots i) where
-    pub told-misfit : i < h.slots → {x : Bool} → x ≡ fits_table T (view (lent h narrow wide pool)) i → x ≡ false → record { number = 13; first = i; second = 0 } ≡ misfit_told (misfit T (view (lent h narrow wide pool)))
-    told-misfit b e f = sym (ap misfit_told (misfit-is ∙ passed-not (fits_table T (view (lent h narrow wide pool))) h.slots i p b (sym f ∙ e)))
+  module _ (i : ℕ) (p : Passed (fits_table T (state v)) v.heap.slots i) where
+    pub found-misfit : i < v.heap.slots → {x : Bool} → x ≡ fits_table T (state v) i → x ≡ false → some i ≡ misfit T (state v)
+    found-misfit b e f = sym (misfit-is ∙ passed-not (fits_table T (state v)) v.heap.slots i p b (sym f ∙ e))
 
-    pub told_none : h.slots ≤ i → record { number = 0; first = 0; second = 0 } ≡ misfit_told (misfit T (view (lent h narrow wide pool)))
-    told_none b = sym (ap misfit_told (misfit-is ∙ passed-all (fits_table T (view (lent h narrow wide pool))) h.slots i p b))
+    pub found_none : v.heap.slots ≤ i → none ≡ misfit T (state v)
+    found_none b = sym (misfit-is ∙ passed-all (fits_table T (state v)) v.heap.slots i p b)
 
 -- ---- the public call
 
@@ -144,10 +161,9 @@ module _ (l : Lent) (types fields consts bytes : List ℕ) {m w m' w' : List ℕ
       (λ j. asked_of (t j) ((s.left ∙ ap (λ (x : Entry). scratch_after x (m ∷ w ∷ [])) i) j))
       ∙ sym (whether-not s (λ why. asked_of (refused_by (number_of why)) (scratch_after (Err why) (m ∷ w ∷ []))) (asked_of (misfit_told (misfit (table_of types fields consts bytes) (view l))) (map zeros (m ∷ w ∷ []))) i)
 
-  pub trace-done : {r : Answer} → e ≡ ready → r ≡ misfit_told (misfit (table_of types fields consts bytes) (view l)) → asked r m' w' ≡ trace_call types fields consts bytes m w l
-  trace-done i t =
-      (λ j. asked_of (t j) (cleared-in s i j))
+  pub trace-done : (v : View) → seen v ≡ l → (o : Outcome ℕ) {r : Answer} → e ≡ ready → misfit_in o ≡ misfit (table_of types fields consts bytes) (state v) → r ≡ misfit_told (misfit_in o)
+      → asked r m' w' ≡ trace_call types fields consts bytes m w l
+  trace-done v q o i f t =
+      let z : misfit_in o ≡ misfit (table_of types fields consts bytes) (view l) = f ∙ ap (λ (k : Lent). misfit (table_of types fields consts bytes) (view k)) q in
+      (λ j. asked_of ((t ∙ ap misfit_told z) j) (cleared-in s i j))
       ∙ sym (whether-ready s (λ why. asked_of (refused_by (number_of why)) (scratch_after (Err why) (m ∷ w ∷ []))) (asked_of (misfit_told (misfit (table_of types fields consts bytes) (view l))) (map zeros (m ∷ w ∷ []))) i)
-
-  pub trace-formed : e ≡ ready → well_formed l ≡ true
-  trace-formed i = entered l s i

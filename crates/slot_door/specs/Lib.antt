@@ -1,3 +1,4 @@
 -- The definitions that the public contracts cite.
 pub mod SlotHandles
 pub mod Traceable
+pub mod Inner

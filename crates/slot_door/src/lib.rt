@@ -2,53 +2,46 @@
 // and whether heap and table fit together (18, 1, 10, 13).
 #![tactic(auto)]
 
-ghost use Rattle.std.specs.Prelude.{◌≡◌, true, [], ◌∷◌, ◌<◌, length};
-ghost use Rattle.ty.specs.View.{table_of};
+ghost use Rattle.std.specs.Prelude.{◌≡◌, [], ◌∷◌, ◌<◌, length, IfOk};
+ghost use Rattle.ty.specs.View.{table_of, lent as table_in};
 ghost use Rattle.trace.specs.Places.{handles_of};
 ghost use Rattle.trace.specs.Listing.{listing, Lists};
-ghost use Rattle.heap.specs.Lent.{lent, view};
-ghost use Rattle.heap.specs.WellFormed.{well_formed};
-ghost use Rattle.mark.specs.Graph.{Fit, shown_in};
-ghost use Rattle.door.specs.HeapCalls.{Entered, asked};
+ghost use Rattle.heap.specs.Lent.{lent};
+ghost use Rattle.heap.specs.Seen.{seen, state};
+ghost use Rattle.collection.specs.Shown.{shown};
+ghost use Rattle.door.specs.HeapCalls.{Entered, entry_of, asked};
 ghost use Rattle.slot_door.specs.SlotHandles.{slot_handles, slot_tests, slot_call, slot_out};
-ghost use Rattle.slot_door.specs.Traceable.{fits_table, misfit, misfit_told, trace_call};
+ghost use Rattle.slot_door.specs.Traceable.{fits_table, misfit, trace_call};
+ghost use Rattle.slot_door.specs.Inner.Misfit.{misfit_in};
 
 use handle::Slots;
 use heap::Heap;
+use heap::view::View;
 use refusal::{Answer, Refusal, Reply};
 use trace::Sink;
 use ty::Table;
 
-// Do scratch, heap and type table let the handles of a slot be listed?
-fn admit(
-    types: &[u64],
-    fields: &[u32],
-    consts: &[u64],
-    bytes: &[u8],
+// Do scratch, heap and type table let the handles of a slot be listed? Then the heap, to be read.
+fn admit<'a>(
+    table: &Table,
     heap: Heap,
-    narrow: &[u32],
-    wide: &[u64],
-    pool: &[u8],
+    narrow: &'a [u32],
+    wide: &'a [u64],
+    pool: &'a [u8],
     marks: &mut [u8],
     work: &mut [u64],
-) -> Result<(), Refusal>
-    ensures { Entered (marks.old ∷ work.old ∷ [])
-        (slot_tests types.now fields.now consts.now bytes.now marks.old work.old
-        (lent heap narrow.now wide.now pool.now))
-        result (marks.new ∷ work.new ∷ []) }
+) -> Result<View<'a>, Refusal>
+    ensures entered { Entered (marks.old ∷ work.old ∷ [])
+        (slot_tests table.now.types.now table.now.fields.now table.now.consts.now table.now.bytes.now
+        marks.old work.old (lent heap narrow.now wide.now pool.now))
+        (entry_of result) (marks.new ∷ work.new ∷ []) }
+    ensures shows { IfOk result (λ v. seen v ≡ lent heap narrow.now wide.now pool.now) }
 {
-    door::enter(heap, narrow, wide, pool, marks, work)?;
-    if !(Table {
-        types,
-        fields,
-        consts,
-        bytes,
-    })
-    .check_table()
-    {
+    let view = door::see(heap, narrow, wide, pool, marks, work)?;
+    if !table.check_table() {
         return Err(Refusal::TypeTable);
     }
-    Ok(())
+    Ok(view)
 }
 
 // The handles that an object of a kind and type shows, whose data is visible from start on, into the lent list. First they are only counted, so that a refusal
@@ -122,36 +115,27 @@ fn list_shown(
 }
 
 // The handles that slot i shows, which is in use: 13, 7.
-fn list_at(
-    types: &[u64],
-    fields: &[u32],
-    consts: &[u64],
-    bytes: &[u8],
-    slots: usize,
-    s: usize,
-    narrow: &[u32],
-    wide: &[u64],
-    pool: &[u8],
-    i: usize,
-    out: &mut [u64],
-) -> Reply
-    requires fit { Fit slots s narrow.now wide.now pool.now }
-    requires i_lt_slots { i < slots }
-    ensures { Lists
-        (listing (shown_in (table_of types.now fields.now consts.now bytes.now) s narrow.now wide.now pool.now i)
-        (length out.old))
-        result out.old out.new }
+fn list_at(table: &Table, view: View, i: usize, out: &mut [u64]) -> Reply
+    requires { i < view.heap.slots }
+    ensures { Lists (listing (shown (table_in table.now) (state view.entry) i) (length out.old)) result out.old out.new }
 {
+    let View {
+        heap: _,
+        narrow,
+        wide,
+        pool,
+    } = view;
+    let s = narrow.len() / 6;
     let a = heap::start_of(wide, s, i);
     let e = wide[s + i] as usize;
     let kind = narrow[s + i];
     let t = narrow[2 * s + i] as u64;
     let start = wide[i] as usize;
     list_shown(
-        types,
-        fields,
-        consts,
-        bytes,
+        table.types,
+        table.fields,
+        table.consts,
+        table.bytes,
         kind,
         t,
         start,
@@ -160,40 +144,29 @@ fn list_at(
     )
 }
 
-// The handles that slot i of a checked heap shows: 9, 13, 7.
-fn list_slot(
-    types: &[u64],
-    fields: &[u32],
-    consts: &[u64],
-    bytes: &[u8],
-    heap: Heap,
-    narrow: &[u32],
-    wide: &[u64],
-    pool: &[u8],
-    i: usize,
-    out: &mut [u64],
-) -> Reply
-    requires { well_formed (lent heap narrow.now wide.now pool.now) ≡ true }
-    ensures { Lists
-        (slot_handles (table_of types.now fields.now consts.now bytes.now) i (length out.old)
-        (view (lent heap narrow.now wide.now pool.now)))
-        result out.old out.new }
+// The handles that slot i shows: 9, 13, 7.
+fn list_slot(table: &Table, view: View, i: usize, out: &mut [u64]) -> Reply
+    ensures { Lists (slot_handles (table_in table.now) i (length out.old) (state view.entry)) result out.old out.new }
 {
-    let slots = heap.slots;
+    let View {
+        heap,
+        narrow,
+        wide: _,
+        pool: _,
+    } = view;
     let s = narrow.len() / 6;
-    if slots <= i {
+    if heap.slots <= i {
         return Err(Refusal::NothingThere);
     }
     if narrow[s + i] == 0 {
         return Err(Refusal::NothingThere);
     }
-    list_at(
-        types, fields, consts, bytes, slots, s, narrow, wide, pool, i, out,
-    )
+    list_at(table, view, i, out)
 }
 
 // The handles that a live slot shows, in the order in which it is traced: an object of kind Typed by its type, of kind Handles by offset, of kind Bytes none. One with nothing
 // visible shows none. They go to the lent list from its front on. 18, 1, 10, 9, 13, 7. first: how many.
+// Kept: the C interface.
 pub fn yexwalu_slot_handles(
     types: &[u64],
     fields: &[u32],
@@ -215,83 +188,60 @@ pub fn yexwalu_slot_handles(
         ≡ slot_out types.now fields.now consts.now bytes.now marks.old work.old
         (lent heap narrow.now wide.now pool.now) slot out.old }
 {
-    match admit(
-        types, fields, consts, bytes, heap, narrow, wide, pool, marks, work,
-    ) {
+    let table = Table {
+        types,
+        fields,
+        consts,
+        bytes,
+    };
+    match admit(&table, heap, narrow, wide, pool, marks, work) {
         Err(why) => Answer::from(Err(why)),
-        Ok(()) => Answer::from(list_slot(
-            types, fields, consts, bytes, heap, narrow, wide, pool, slot, out,
-        )),
+        Ok(view) => Answer::from(list_slot(&table, view, slot, out)),
     }
 }
 
-// Is slot i of a checked heap, which is in use, dead or not of kind Typed, or else of a type of the table and such that its handles can be traced?
-fn fits_table(
-    types: &[u64],
-    fields: &[u32],
-    consts: &[u64],
-    bytes: &[u8],
-    heap: Heap,
-    narrow: &[u32],
-    wide: &[u64],
-    pool: &[u8],
-    i: usize,
-) -> bool
-    requires pool_value { well_formed (lent heap narrow.now wide.now pool.now) ≡ true }
-    requires i_lt_slots { i < heap.slots }
-    ensures { result ≡ fits_table (table_of types.now fields.now consts.now bytes.now)
-        (view (lent heap narrow.now wide.now pool.now)) i }
+// Is slot i dead or not of kind Typed, or else of a type of the table and such that its handles can be traced?
+fn fits_table(table: &Table, view: View, i: usize) -> bool
+    requires { i < view.heap.slots }
+    ensures { result ≡ fits_table (table_in table.now) (state view.entry) i }
 {
+    let View {
+        heap: _,
+        narrow,
+        wide: _,
+        pool: _,
+    } = view;
     let s = narrow.len() / 6;
-    if narrow[s + i] == 1 {} else {
+    if narrow[s + i] != 1 {
         return true;
     }
     let t = narrow[2 * s + i] as usize;
-    if types.len() / 4 <= t {
+    if table.types.len() / 4 <= t {
         return false;
     }
-    let mut none = [0u64; 1];
-    let listed = list_at(
-        types, fields, consts, bytes, heap.slots, s, narrow, wide, pool, i, &mut none,
-    );
-    let a = Answer::from(listed);
-    a.number != 13
+    let Err(why) = list_at(table, view, i, &mut []) else {
+        return true;
+    };
+    match why {
+        Refusal::Untraceable => false,
+        _ => true,
+    }
 }
 
-// The first slot of a checked heap that does not fit a type table: 13, or 0 where all fit.
-fn first_misfit(
-    types: &[u64],
-    fields: &[u32],
-    consts: &[u64],
-    bytes: &[u8],
-    heap: Heap,
-    narrow: &[u32],
-    wide: &[u64],
-    pool: &[u8],
-) -> Answer
-    requires { well_formed (lent heap narrow.now wide.now pool.now) ≡ true }
-    ensures { result ≡ misfit_told (misfit (table_of types.now fields.now consts.now bytes.now)
-        (view (lent heap narrow.now wide.now pool.now))) }
+// The first slot that does not fit the type table.
+fn first_misfit(table: &Table, view: View) -> Option<usize>
+    ensures { misfit_in result ≡ misfit (table_in table.now) (state view.entry) }
 {
-    let mut i = 0;
-    while i < heap.slots {
-        if fits_table(types, fields, consts, bytes, heap, narrow, wide, pool, i) {} else {
-            return Answer {
-                number: 13,
-                first: i as u64,
-                second: 0,
-            };
+    for i in 0..view.heap.slots {
+        if !fits_table(table, view, i) {
+            return Some(i);
         }
-        i += 1;
     }
-    Answer {
-        number: 0,
-        first: 0,
-        second: 0,
-    }
+    None
 }
 
 // Do a heap and a type table fit together: has every object of kind Typed a type of the table, and can its handles be traced? 18, 1, 10, 13. After 13, first: the first slot that does not fit.
+// Kept: the C interface.
 pub fn yexwalu_traceable(
     types: &[u64],
     fields: &[u32],
@@ -308,10 +258,20 @@ pub fn yexwalu_traceable(
         ≡ trace_call types.now fields.now consts.now bytes.now marks.old work.old
         (lent heap narrow.now wide.now pool.now) }
 {
-    match admit(
-        types, fields, consts, bytes, heap, narrow, wide, pool, marks, work,
-    ) {
+    let table = Table {
+        types,
+        fields,
+        consts,
+        bytes,
+    };
+    match admit(&table, heap, narrow, wide, pool, marks, work) {
         Err(why) => Answer::from(Err(why)),
-        Ok(()) => first_misfit(types, fields, consts, bytes, heap, narrow, wide, pool),
+        Ok(view) => match first_misfit(&table, view) {
+            None => Answer::from(Ok((0, 0))),
+            Some(i) => Answer {
+                first: i as u64,
+                ..Answer::from(Err(Refusal::Untraceable))
+            },
+        },
     }
 }

@@ -1,16 +1,18 @@
 -- `slot_door::admit` meets its contract.
+use Rattle.std.proofs.Common.{ap}
 use Rattle.std.proofs.lemmas.Result.{err_from_is_err_and}
 use Rattle.heap.specs.Lent.{lent}
+use Rattle.door.specs.HeapCalls.{entry_of}
 use Rattle.slot_door.proofs.SlotCalls.{not_entered, no_table, all-entered}
 use Rattle.slot_door.proofs.admit.Goals as goal
 
-pub returns-then-not-check_table : goal.returns-then-not-check_table
-returns-then-not-check_table c = no_table (lent c.args.heap c.args.narrow.now c.args.wide.now c.args.pool.now) c.enter.ensures c.args.types.now c.args.fields.now c.args.consts.now c.args.bytes.now c.in_ok-enter.was _ c.check_table.ensures c.if-not-check_table.true
+pub returns-then-not-check_table-clause-entered : goal.returns-then-not-check_table-clause-entered
+returns-then-not-check_table-clause-entered c = no_table (lent c.args.heap c.args.narrow.now c.args.wide.now c.args.pool.now) c.see.ensures.entered c.args.table.now.types.now c.args.table.now.fields.now c.args.table.now.consts.now c.args.table.now.bytes.now (ap entry_of c.in_ok-view.was) _ c.check_table.ensures c.if-not-check_table.true
 
-pub returns-in_err-enter : goal.returns-in_err-enter
-returns-in_err-enter c =
+pub returns-in_err-view-clause-entered : goal.returns-in_err-view-clause-entered
+returns-in_err-view-clause-entered c =
     let p = err_from_is_err_and c.from_residual.result c.from_residual.ensures.1 in
-    rw (p.1, p.2) (not_entered (lent c.args.heap c.args.narrow.now c.args.wide.now c.args.pool.now) c.enter.ensures c.args.types.now c.args.fields.now c.args.consts.now c.args.bytes.now c.in_err-enter.was)
+    rw (p.1, p.2) (not_entered (lent c.args.heap c.args.narrow.now c.args.wide.now c.args.pool.now) c.see.ensures.entered c.args.table.now.types.now c.args.table.now.fields.now c.args.table.now.consts.now c.args.table.now.bytes.now (ap entry_of c.in_err-view.was))
 
-pub returns : goal.returns
-returns c = all-entered (lent c.args.heap c.args.narrow.now c.args.wide.now c.args.pool.now) c.enter.ensures c.args.types.now c.args.fields.now c.args.consts.now c.args.bytes.now c.in_ok-enter.was _ c.check_table.ensures c.if-not-check_table.false
+pub returns-clause-entered : goal.returns-clause-entered
+returns-clause-entered c = all-entered (lent c.args.heap c.args.narrow.now c.args.wide.now c.args.pool.now) c.see.ensures.entered c.args.table.now.types.now c.args.table.now.fields.now c.args.table.now.consts.now c.args.table.now.bytes.now (ap entry_of c.in_ok-view.was) _ c.check_table.ensures c.if-not-check_table.false

@@ -1,20 +1,18 @@
+-- `slot_door::first_misfit` meets its contract.
+use Rattle.ty.specs.View.{lent}
+use Rattle.slot_door.proofs.TraceCalls.{passed-begin, passed-next, found-misfit, found_none}
 use mathlib.Core.Path.{sym, ◌∙◌}
-use Rattle.ty.specs.View.{table_of}
-use Rattle.slot_door.specs.Traceable.{fits_table}
-use Rattle.slot_door.proofs.TraceCalls.{passed-begin, passed-next, told-misfit, told_none}
+use native.Mathlib.Omega.{arith}
 use Rattle.slot_door.proofs.first_misfit.Goals as goal
 
 pub loop-i-init : goal.loop-i-init
 loop-i-init c = passed-begin _ _
 
-pub fits_table-requires : goal.fits_table-requires
-fits_table-requires c = record { pool_value = c.requires; i_lt_slots = c.loop-i-test.true }
-
-pub returns-else-fits_table : goal.returns-else-fits_table
-returns-else-fits_table c = told-misfit c.args.heap c.args.narrow.now c.args.wide.now c.args.pool.now (table_of c.args.types.now c.args.fields.now c.args.consts.now c.args.bytes.now) c.loop-i.i c.loop-i.invariant c.loop-i-test.true c.fits_table.ensures c.if-fits_table.false
+pub returns-then-not-fits_table : goal.returns-then-not-fits_table
+returns-then-not-fits_table c = found-misfit c.args.view (lent c.args.table.now) c.loop-i.i c.loop-i.invariant (omega arith) c.fits_table.ensures c.if-not-fits_table.true
 
 pub loop-i-preserved : goal.loop-i-preserved
-loop-i-preserved c = passed-next _ _ _ c.loop-i.invariant c.loop-i-test.true (sym c.if-fits_table.true ∙ c.fits_table.ensures)
+loop-i-preserved c = passed-next _ _ _ c.loop-i.invariant (omega arith) (sym c.if-not-fits_table.false ∙ c.fits_table.ensures)
 
 pub returns : goal.returns
-returns c = told_none c.args.heap c.args.narrow.now c.args.wide.now c.args.pool.now (table_of c.args.types.now c.args.fields.now c.args.consts.now c.args.bytes.now) c.loop-i.i c.loop-i.invariant c.loop-i-test.false
+returns c = found_none c.args.view (lent c.args.table.now) c.loop-i.i c.loop-i.invariant (omega arith)

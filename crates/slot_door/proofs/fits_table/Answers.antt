@@ -1,40 +1,40 @@
 -- `slot_door::fits_table` meets its contract.
-use Prim.Native.Nat.{◌+◌, ◌*◌, ◌/◌}
-use lib.ListN.{length}
+use mathlib.Core.Path.{ap, ◌∙◌}
+use Rattle.std.specs.Prelude.{Err}
 use native.Mathlib.Omega.{arith}
-use Rattle.mark.proofs.Formed.{formed-fit}
-use Rattle.slot_door.proofs.TraceCalls.{other_fits, no-type, is-traced}
+use Rattle.slot_door.proofs.SlotCalls.{fit-of}
+use Rattle.slot_door.proofs.TraceCalls.{other_fits, no-type, not-refused, other-refused, is-traced, not-traced}
 use Rattle.slot_door.proofs.fits_table.Goals as goal
 
 pub overflow_add-s : goal.overflow_add-s
-overflow_add-s c = omega (arith, (formed-fit c.args.heap c.args.narrow.now c.args.wide.now c.args.pool.now c.requires.pool_value).runs.used, (formed-fit c.args.heap c.args.narrow.now c.args.wide.now c.args.pool.now c.requires.pool_value).types, c.requires.i_lt_slots)
+overflow_add-s c = omega (arith, (fit-of c.args.view).runs.used, (fit-of c.args.view).types, c.requires)
 
 pub offset_bounds-narrow-s : goal.offset_bounds-narrow-s
-offset_bounds-narrow-s c = omega (arith, (formed-fit c.args.heap c.args.narrow.now c.args.wide.now c.args.pool.now c.requires.pool_value).runs.used, (formed-fit c.args.heap c.args.narrow.now c.args.wide.now c.args.pool.now c.requires.pool_value).types, c.requires.i_lt_slots)
+offset_bounds-narrow-s c = omega (arith, (fit-of c.args.view).runs.used, (fit-of c.args.view).types, c.requires)
 
 pub bounds-narrow-s : goal.bounds-narrow-s
-bounds-narrow-s c = omega (arith, (formed-fit c.args.heap c.args.narrow.now c.args.wide.now c.args.pool.now c.requires.pool_value).runs.used, (formed-fit c.args.heap c.args.narrow.now c.args.wide.now c.args.pool.now c.requires.pool_value).types, c.requires.i_lt_slots)
+bounds-narrow-s c = omega (arith, (fit-of c.args.view).runs.used, (fit-of c.args.view).types, c.requires)
 
-pub returns-else-narrow-s-eq1 : goal.returns-else-narrow-s-eq1
-returns-else-narrow-s-eq1 c = other_fits c.args.heap c.args.narrow.now c.args.wide.now c.args.pool.now c.requires.pool_value c.args.types.now c.args.fields.now c.args.consts.now c.args.bytes.now c.args.i c.requires.i_lt_slots c.if-narrow-s-eq1.false
+pub returns-then-narrow-s-ne1 : goal.returns-then-narrow-s-ne1
+returns-then-narrow-s-ne1 c = other_fits c.args.view c.args.table.now c.args.i c.requires c.if-narrow-s-ne1.true
 
 pub overflow_add-t : goal.overflow_add-t
-overflow_add-t c = omega (arith, (formed-fit c.args.heap c.args.narrow.now c.args.wide.now c.args.pool.now c.requires.pool_value).runs.used, (formed-fit c.args.heap c.args.narrow.now c.args.wide.now c.args.pool.now c.requires.pool_value).types, c.requires.i_lt_slots)
+overflow_add-t c = omega (arith, (fit-of c.args.view).runs.used, (fit-of c.args.view).types, c.requires)
 
 pub offset_bounds-narrow-s-2 : goal.offset_bounds-narrow-s-2
-offset_bounds-narrow-s-2 c = omega (arith, (formed-fit c.args.heap c.args.narrow.now c.args.wide.now c.args.pool.now c.requires.pool_value).runs.used, (formed-fit c.args.heap c.args.narrow.now c.args.wide.now c.args.pool.now c.requires.pool_value).types, c.requires.i_lt_slots)
+offset_bounds-narrow-s-2 c = omega (arith, (fit-of c.args.view).runs.used, (fit-of c.args.view).types, c.requires)
 
 pub bounds-narrow-s-2 : goal.bounds-narrow-s-2
-bounds-narrow-s-2 c = omega (arith, (formed-fit c.args.heap c.args.narrow.now c.args.wide.now c.args.pool.now c.requires.pool_value).runs.used, (formed-fit c.args.heap c.args.narrow.now c.args.wide.now c.args.pool.now c.requires.pool_value).types, c.requires.i_lt_slots)
+bounds-narrow-s-2 c = omega (arith, (fit-of c.args.view).runs.used, (fit-of c.args.view).types, c.requires)
 
-pub overflow_cast-t : goal.overflow_cast-t
-overflow_cast-t c = omega (arith, c.type_inv.narrow (2 * (length c.args.narrow.now / 6) + c.args.i))
+pub returns-then-table-t : goal.returns-then-table-t
+returns-then-table-t c = no-type c.args.view c.args.table.now c.args.i c.requires c.if-narrow-s-ne1.false c.if-table-t.true
 
-pub returns-then-types-t : goal.returns-then-types-t
-returns-then-types-t c = no-type c.args.heap c.args.narrow.now c.args.wide.now c.args.pool.now c.requires.pool_value c.args.types.now c.args.fields.now c.args.consts.now c.args.bytes.now c.args.i c.requires.i_lt_slots c.if-narrow-s-eq1.true c.if-types-t.true
+pub returns-in_default : goal.returns-in_default
+returns-in_default c = is-traced c.args.view c.args.table.now c.args.i c.requires c.if-narrow-s-ne1.false c.if-table-t.false c.list_at.ensures (not-refused c.in_default.is)
 
-pub list_at-listed-requires : goal.list_at-listed-requires
-list_at-listed-requires c = record { fit = formed-fit c.args.heap c.args.narrow.now c.args.wide.now c.args.pool.now c.requires.pool_value; i_lt_slots = c.requires.i_lt_slots }
+pub returns-in-Untraceable : goal.returns-in-Untraceable
+returns-in-Untraceable c = not-traced c.args.view c.args.table.now c.args.i c.requires c.if-narrow-s-ne1.false c.if-table-t.false c.list_at.ensures (c.in-Err.is ∙ ap Err c.in-Untraceable.is)
 
-pub returns : goal.returns
-returns c = is-traced c.args.heap c.args.narrow.now c.args.wide.now c.args.pool.now c.requires.pool_value c.args.types.now c.args.fields.now c.args.consts.now c.args.bytes.now c.args.i c.requires.i_lt_slots c.if-narrow-s-eq1.true c.if-types-t.false c.list_at-listed.ensures c.from-a.ensures
+pub returns-in_default-2 : goal.returns-in_default-2
+returns-in_default-2 c = is-traced c.args.view c.args.table.now c.args.i c.requires c.if-narrow-s-ne1.false c.if-table-t.false c.list_at.ensures (other-refused c.in-Err.is c.in_default.not-Untraceable)
