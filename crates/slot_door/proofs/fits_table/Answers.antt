@@ -36,5 +36,5 @@ returns-in_default c = is-traced c.args.view c.args.table.now c.args.i c.require
 pub returns-in-Untraceable : goal.returns-in-Untraceable
 returns-in-Untraceable c = not-traced c.args.view c.args.table.now c.args.i c.requires c.if-narrow-s-ne1.false c.if-table-t.false c.list_at.ensures (c.in-Err.is ∙ ap Err c.in-Untraceable.is)
 
-pub returns-in_default-2 : goal.returns-in_default-2
-returns-in_default-2 c = is-traced c.args.view c.args.table.now c.args.i c.requires c.if-narrow-s-ne1.false c.if-table-t.false c.list_at.ensures (other-refused c.in-Err.is c.in_default.not-Untraceable)
+pub returns-in_default-why : goal.returns-in_default-why
+returns-in_default-why c = is-traced c.args.view c.args.table.now c.args.i c.requires c.if-narrow-s-ne1.false c.if-table-t.false c.list_at.ensures (other-refused c.in-Err.is c.in_default-why.not-Untraceable)

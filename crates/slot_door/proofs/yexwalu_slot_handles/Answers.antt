@@ -13,5 +13,5 @@ returns-in-Err c = let p = slot-refused (lent c.args.heap c.args.narrow.now c.ar
 pub returns-in-Ok : goal.returns-in-Ok
 returns-in-Ok c =
     let s = IfOk-at_ok (λ v. seen v ≡ lent c.args.heap c.args.narrow.now c.args.wide.now c.args.pool.now) c.in-Ok.is c.admit.ensures.shows in
-    let p = slot-done (lent c.args.heap c.args.narrow.now c.args.wide.now c.args.pool.now) c.args.types.now c.args.fields.now c.args.consts.now c.args.bytes.now c.admit.ensures.entered c.args.slot c.args.out.now _ s (ap entry_of c.in-Ok.is) c.list_slot.ensures c.from-in-Ok.ensures in
+    let p = slot-done (lent c.args.heap c.args.narrow.now c.args.wide.now c.args.pool.now) c.args.types.now c.args.fields.now c.args.consts.now c.args.bytes.now c.admit.ensures.entered c.args.slot c.args.out.now c.in-Ok.view s (ap entry_of c.in-Ok.is) c.list_slot.ensures c.from-in-Ok.ensures in
     record { work_after = p.0; out_after = p.1 }
