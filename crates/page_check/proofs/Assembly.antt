@@ -22,15 +22,17 @@ use Rattle.pages.specs.Form.{Form, form_of, slot_named, free_name, quarantine_na
 use Rattle.pages.specs.Page.{Head, head_format, body_format, slot_format, out_of_column, slots_format, retired_format, page_format, read_page, state_of}
 use Rattle.pages.proofs.Laws.{slot-right, slots-wider, head-right}
 use Rattle.page_check.specs.Answer.{head_answer, slots_answer, lines_of, values_of, indices_more, seals_more}
-use Rattle.page_check.specs.Partition.{values_at, ValuesParsed}
-use Rattle.page_check.specs.Parts.{numbers_of, heap_named, sections_of}
+use Rattle.page_check.specs.Partition.{values_at, past_values, ValuesParsed}
+use Rattle.page_check.specs.Parts.{numbers_of, heap_named, sections_of, ListRead, ListSectioned}
 use Rattle.page_check.specs.Sections.{heap_in, form_in, sound_but, Sectioned}
 use Rattle.page_check.specs.Filling.{SlotsParsed}
 use Rattle.page_check.proofs.Columned.{same-sound, same_size}
-use Rattle.page_check.proofs.Once.{slots-are, read_count}
+use Rattle.page_check.proofs.Once.{slots-are, past-slots-are, read_count}
 use Rattle.page_check.specs.declared.SlotLines.{SlotLines}
 use Rattle.page_check.specs.declared.HeadRead.{HeadRead}
 use Rattle.page_check.specs.declared.Values.{Values}
+use Rattle.page_check.specs.declared.ListSection.{ListSection}
+use mathlib.Core.Logic.{inl, inr, ⊎_elim}
 
 contradiction : ◌≡◌ {A = ℕ} 0 1 → ⊥
 contradiction z = omega arith
@@ -129,6 +131,16 @@ seals-none s k cnt tag n {r} e f = go (read_all (number 64 10).read cnt (drop k 
     go none q g = q
     go (some y) q g = absurd (contradiction cc)
 
+-- a list after its name, whichever way its values are read
+pub list-sectioned : (P : ℕ → Option Values → Type 0) (width : ℕ) (name s : List ℕ) (at count : ℕ) (right : List ℕ → Bool) (r : Option ListSection) → ListRead P name s at r →
+    ((b : ℕ) (x : Values) → P b (Some x) → (l : List ℕ) × (read_all (number width 10).read count (drop b s) ≡ give l (drop x.next s)) × (x.next ≤ length s) × (x.sound ≡ right l)) →
+    ((b : ℕ) → P b None → read_all (number width 10).read count (drop b s) ≡ none) → ListSectioned width name s at count right r
+unfolding ListRead
+list-sectioned P width name s at count right (Some x) f found lost =
+    let q = found x.begin (values_of x.sound x.next) f.2 in
+    record { named = f.0; begin_inside = f.1; values = q.0; reads = q.1; inside = q.2; sound = q.3 }
+list-sectioned P width name s at count right None f found lost = ⊎_elim (λ e. inl e) (λ w. inr (w.0, w.1, lost w.0 w.2)) f
+
 module _ (s : List ℕ) where
   pub page-none-1 : heap_named.read (drop 0 s) ≡ none → read_page s ≡ none
   unfolding read_page page_format after_literal pair body_format slots_format mapped times
@@ -203,15 +215,19 @@ module _ (width : ℕ) (s : List ℕ) (k m : ℕ) (l u : List ℕ) (e : read_all
   unfolding values_at
   values-are = rw (e, values_at)
 
+  past-values-are : past_values width s k m ≡ u
+  unfolding past_values
+  past-values-are = rw (e, past_values)
+
   pub values-parsed : ValuesParsed width s k m
-  values-parsed = record { rest = u; reads = e ∙ ap (λ (x : List ℕ). give x u) (sym values-are) }
+  values-parsed = record { reads = e ∙ (λ i. give (sym values-are i) (sym past-values-are i)) }
 
   pub values-count : length l ≡ m
   unfolding times
   values-count = ((times-right m (line-right width)).back (drop k s) l u e).0.1
 
 pub slots-parsed : (s : List ℕ) (k m : ℕ) (l : List Slot) (u : List ℕ) → read_all (slot_format true).read m (drop k s) ≡ give l u → SlotsParsed s k m
-slots-parsed s k m l u e = record { rest = u; reads = e ∙ ap (λ (x : List Slot). give x u) (sym (slots-are s k m l u e)) }
+slots-parsed s k m l u e = record { reads = e ∙ (λ i. give (sym (slots-are s k m l u e) i) (sym (past-slots-are s k m l u e) i)) }
 
 pub heap_is : (s : List ℕ) (f : Form) (h : State) → read_page s ≡ some (f, h) → heap_in s ≡ h
 unfolding heap_in

@@ -2,6 +2,7 @@
 use Prim.Native.Nat.{ℕ, zero, suc, ◌+◌, ◌-◌, ◌/◌, ◌%◌, ◌≤◌, ◌<◌}
 use mathlib.Core.List.{List, [], ◌∷◌, ◌++◌}
 use mathlib.Core.Option.{some}
+use Rattle.std.specs.Prelude.{Option, Some, None, MatchOption}
 use mathlib.Core.Bool.{Bool, true, false, ◌&&◌}
 use mathlib.Core.Path.{◌≡◌, refl, sym, ap, ◌∙◌, subst}
 use lib.Dec.{ltb}
@@ -23,7 +24,7 @@ use Rattle.pages.specs.Page.{slot_format}
 use Rattle.heap.specs.State as wf
 use Rattle.pages.proofs.Laws.{slot-right}
 use Rattle.page_check.specs.Partition.{values_at, marked, Marked, expected, right, agree, each}
-use Rattle.page_check.specs.Filling.{slots_at, SlotsParsed, RunChecked}
+use Rattle.page_check.specs.Filling.{slots_at, past_slots, SlotsParsed, RunChecked}
 use Rattle.page_check.proofs.Columned.{same-each}
 use Rattle.page_check.specs.Sections.{heap_in, listed, obeyed, Sectioned}
 use Rattle.page_check.specs.declared.Sections.{Sections}
@@ -34,13 +35,6 @@ use Rattle.page_check.proofs.Counting.{mark-told, mark-both, mark-spoilt}
 zero_row : (n j : ℕ) → marked (replicate n 0) j ≡ 0
 unfolding bit_in
 zero_row n j = ap (λ (x : ℕ). bit (word.bit x (j % 64))) (get_or-zeros n (j / 64)) ∙ ap bit (bit-of-zero (j % 64))
-
-pub bit-low : (row : List ℕ) (i : ℕ) {n : ℕ} → n ≡ marked row i → n ≤ 1
-bit-low row i {n} e = go (bit_in 64 row i) e
-  where
-    go : (b : Bool) → n ≡ bit b → n ≤ 1
-    go true q = omega arith
-    go false q = omega arith
 
 low : (k : ℕ) → expected k ≤ 1
 low k = go (ltb 0 k) refl
@@ -115,6 +109,10 @@ pub slots-are : (s : List ℕ) (k m : ℕ) (l : List Slot) (u : List ℕ) → re
 unfolding slots_at
 slots-are s k m l u e = rw (e, slots_at)
 
+pub past-slots-are : (s : List ℕ) (k m : ℕ) (l : List Slot) (u : List ℕ) → read_all (slot_format true).read m (drop k s) ≡ give l u → past_slots s k m ≡ u
+unfolding past_slots
+past-slots-are s k m l u e = rw (e, past_slots)
+
 -- one chunk of the slots that are left
 pub record Part (s : List ℕ) (k m base n : ℕ) (l : List Slot) (rest : List ℕ) : Type 0 where
   pub parsed : SlotsParsed s k m
@@ -135,7 +133,7 @@ part s k m base n l rest h e =
     go u f g =
         let a : slots_at s k m ≡ take m (drop base l) = slots-are s k m (take m (drop base l)) u f in
         record {
-          parsed = record { rest = u; reads = f ∙ ap (λ (x : List Slot). give x u) (sym a) };
+          parsed = record { reads = f ∙ (λ i. give (sym a i) (sym (past-slots-are s k m (take m (drop base l)) u f) i)) };
           slots = a;
           count = read_count m (drop k s) (take m (drop base l)) u f;
           after = λ next q.
@@ -193,31 +191,27 @@ module _ (s : List ℕ) (x : Sections) (q : Sectioned s x) (base m : ℕ) {rule 
 
 module _ (s : List ℕ) (rule : Rule) (dead : List ℕ) (k m base : ℕ) (p : SlotsParsed s k m) (n : ℕ) {z a : List ℕ} {t : Bool} (e : z ≡ replicate n 0) (f : Marked z a base m dead t) where
   run_length : length (slots_at s k m) ≡ m
-  run_length = read_count m (drop k s) (slots_at s k m) p.rest p.reads
+  run_length = read_count m (drop k s) (slots_at s k m) (past_slots s k m) p.reads
 
   zero-at : (j : ℕ) → marked z j ≡ 0
   zero-at j = ap (λ (r : List ℕ). marked r j) e ∙ zero_row n j
 
-  pub run-wrong : (next : ℕ) → t ≡ false → RunChecked s rule dead k m base false next
-  run-wrong next w =
+  pub run-wrong : t ≡ false → each rule dead (slots_at s k m) base ≡ false
+  run-wrong w =
       let d = f.twice w in
-      record {
-        told = sym (twice-wrong rule dead (slots_at s k m) base d.0 (omega (arith, run_length, d.1)) (omega (arith, d.2, zero-at d.0)));
-        after = λ e. absurd (true-false (sym e));
-        inside = λ e. absurd (true-false (sym e));
-      }
+      twice-wrong rule dead (slots_at s k m) base d.0 (omega (arith, run_length, d.1)) (omega (arith, d.2, zero-at d.0))
 
-  pub run-told : (ok : Bool) (next : ℕ) → t ≡ true → ok ≡ agree rule (slots_at s k m) a 0 →
-      read_all (slot_format true).read m (drop k s) ≡ give (slots_at s k m) (drop next s) → next ≤ length s → RunChecked s rule dead k m base ok next
-  run-told ok next v y r l =
-      record {
-        told =
-            y
-            ∙ agrees rule dead a m base (λ j h. omega (arith, f.once v j h, zero-at j)) (slots_at s k m) 0 (omega (arith, run_length))
-            ∙ ap (each rule dead (slots_at s k m)) (add-zero base);
-        after = λ e. r;
-        inside = λ e. l;
-      }
+  run-same : t ≡ true → agree rule (slots_at s k m) a 0 ≡ each rule dead (slots_at s k m) base
+  run-same v =
+      agrees rule dead a m base (λ j h. omega (arith, f.once v j h, zero-at j)) (slots_at s k m) 0 (omega (arith, run_length))
+      ∙ ap (each rule dead (slots_at s k m)) (add-zero base)
+
+  pub run-told : (r : Option ℕ) → t ≡ true →
+      MatchOption r (agree rule (slots_at s k m) a 0 ≡ false)
+          (λ next. (agree rule (slots_at s k m) a 0 ≡ true) × (read_all (slot_format true).read m (drop k s) ≡ give (slots_at s k m) (drop next s)) × (next ≤ length s)) →
+      MatchOption r (each rule dead (slots_at s k m) base ≡ false) (λ next. RunChecked s rule dead k m base true next)
+  run-told (Some next) v q = record { told = sym q.0 ∙ run-same v; after = λ e. q.1; inside = λ e. q.2 }
+  run-told None v q = sym (run-same v) ∙ q
 
 -- RUN AFTER RUN
 
@@ -241,7 +235,7 @@ left-whole s x rule q =
       same =
           ap (λ (l : List Slot). each rule (listed rule (heap_in s)) l 0) (sym q.slots_are)
           ∙ same-each x.planar rule (listed rule (heap_in s)) (lines s x) 0;
-      rest = q.slots.rest;
+      rest = past_slots s x.slots_at x.slots;
       reads = ap (λ (n : ℕ). read_all (slot_format true).read n (drop x.slots_at s)) (sub-zero x.slots) ∙ q.slots.reads;
     }
 
@@ -252,31 +246,30 @@ module _ (s : List ℕ) (x : Sections) (rule : Rule) (k m base : ℕ) (p : Left 
   pub run-parsed : SlotsParsed s k m
   run-parsed = run-part.parsed
 
-  module _ {ok : Bool} {next : ℕ} (c : RunChecked s rule (listed rule (heap_in s)) k m base ok next) where
-    run-splits : obeyed rule (heap_in s) ≡ (ok && each rule (listed rule (heap_in s)) (drop (base + m) (lines s x)) (base + m))
-    run-splits =
-        let l : List Slot = lines s x in
-        let d : List ℕ = listed rule (heap_in s) in
-        let chunk : List Slot = take m (drop base l) in
-        p.same ∙ ap (λ (y : List Slot). each rule d y base) (sym (take-append-drop m (drop base l))) ∙ each_append rule d chunk (drop m (drop base l)) base
-        ∙ ap (λ (y : List Slot). each rule d chunk base && each rule d y (base + length chunk)) (drop-drop m base l)
-        ∙ ap (λ (y : ℕ). each rule d chunk base && each rule d (drop (base + m) l) (base + y)) run-part.count
-        ∙ ap (λ (b : Bool). b && each rule d (drop (base + m) l) (base + m)) (ap (λ (z : List Slot). each rule d z base) (sym run-part.slots) ∙ sym c.told)
+  run-splits : obeyed rule (heap_in s) ≡ (each rule (listed rule (heap_in s)) (slots_at s k m) base && each rule (listed rule (heap_in s)) (drop (base + m) (lines s x)) (base + m))
+  run-splits =
+      let l : List Slot = lines s x in
+      let d : List ℕ = listed rule (heap_in s) in
+      let chunk : List Slot = take m (drop base l) in
+      p.same ∙ ap (λ (y : List Slot). each rule d y base) (sym (take-append-drop m (drop base l))) ∙ each_append rule d chunk (drop m (drop base l)) base
+      ∙ ap (λ (y : List Slot). each rule d chunk base && each rule d y (base + length chunk)) (drop-drop m base l)
+      ∙ ap (λ (y : ℕ). each rule d chunk base && each rule d (drop (base + m) l) (base + y)) run-part.count
+      ∙ ap (λ (b : Bool). b && each rule d (drop (base + m) l) (base + m)) (ap (λ (z : List Slot). each rule d z base) (sym run-part.slots))
 
-    pub left-wrong : ok ≡ false → false ≡ obeyed rule (heap_in s)
-    left-wrong e = sym (run-splits ∙ ap (λ (b : Bool). b && each rule (listed rule (heap_in s)) (drop (base + m) (lines s x)) (base + m)) e)
+  pub left-wrong : each rule (listed rule (heap_in s)) (slots_at s k m) base ≡ false → false ≡ obeyed rule (heap_in s)
+  left-wrong e = sym (run-splits ∙ ap (λ (b : Bool). b && each rule (listed rule (heap_in s)) (drop (base + m) (lines s x)) (base + m)) e)
 
-    pub left-next : ok ≡ true → Left s x rule next (base + m)
-    left-next e =
-        record {
-          below = h;
-          inside = c.inside e;
-          same = run-splits ∙ ap (λ (b : Bool). b && each rule (listed rule (heap_in s)) (drop (base + m) (lines s x)) (base + m)) e;
-          rest = p.rest;
-          reads = run-part.after next (c.after e);
-        }
+  pub left-next : {next : ℕ} → RunChecked s rule (listed rule (heap_in s)) k m base true next → Left s x rule next (base + m)
+  left-next {next} c =
+      record {
+        below = h;
+        inside = c.inside refl;
+        same = run-splits ∙ ap (λ (b : Bool). b && each rule (listed rule (heap_in s)) (drop (base + m) (lines s x)) (base + m)) (sym c.told);
+        rest = p.rest;
+        reads = run-part.after next (c.after refl);
+      }
 
 pub left-none : (s : List ℕ) (x : Sections) (rule : Rule) (k base : ℕ) → Sectioned s x → Left s x rule k base → x.slots ≤ base → true ≡ obeyed rule (heap_in s)
 unfolding each
 left-none s x rule k base q p h =
-    sym (p.same ∙ ap (λ (l : List Slot). each rule (listed rule (heap_in s)) l base) (drop_of_length-le (lines s x) {i = base} (omega (arith, read_count x.slots (drop x.slots_at s) (lines s x) q.slots.rest q.slots.reads))))
+    sym (p.same ∙ ap (λ (l : List Slot). each rule (listed rule (heap_in s)) l base) (drop_of_length-le (lines s x) {i = base} (omega (arith, read_count x.slots (drop x.slots_at s) (lines s x) (past_slots s x.slots_at x.slots) q.slots.reads))))

@@ -12,10 +12,13 @@ use Rattle.page_check.specs.declared.Rule.{Rule}
 unfoldable pub slots_at : List ℕ → (at count : ℕ) → List Slot
 slots_at s at count = elim (read_all (slot_format true).read count (drop at s)) [ none ↦ [] | some r ↦ r.0 ]
 
+-- and what follows them
+unfoldable pub past_slots : List ℕ → (at count : ℕ) → List ℕ
+past_slots s at count = elim (read_all (slot_format true).read count (drop at s)) [ none ↦ [] | some r ↦ r.1 ]
+
 -- they do stand there
 pub record SlotsParsed (s : List ℕ) (at count : ℕ) : Type 0 where
-  pub rest : List ℕ
-  pub reads : read_all (slot_format true).read count (drop at s) ≡ give (slots_at s at count) rest
+  pub reads : read_all (slot_format true).read count (drop at s) ≡ give (slots_at s at count) (past_slots s at count)
 
 -- `count` slots from `base` on, whose lines stand from `at` on: are they right by a rule, against a list? If so, the next line stands at `next`.
 pub record RunChecked (s : List ℕ) (rule : Rule) (listed : List ℕ) (at count base : ℕ) (ok : Bool) (next : ℕ) : Type 0 where

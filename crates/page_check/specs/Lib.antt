@@ -3,3 +3,4 @@ pub mod Partition
 pub mod Answer
 pub mod Sections
 pub mod Parts
+pub mod Accepting

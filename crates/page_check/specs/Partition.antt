@@ -12,10 +12,13 @@ use Rattle.page_check.specs.declared.Rule.TheVariants.{Once, Young, Worn}
 unfoldable pub values_at : (width : ℕ) → List ℕ → (at count : ℕ) → List ℕ
 values_at width s at count = elim (read_all (number width 10).read count (drop at s)) [ none ↦ [] | some r ↦ r.0 ]
 
+-- and what follows them
+unfoldable pub past_values : (width : ℕ) → List ℕ → (at count : ℕ) → List ℕ
+past_values width s at count = elim (read_all (number width 10).read count (drop at s)) [ none ↦ [] | some r ↦ r.1 ]
+
 -- they do stand there
 pub record ValuesParsed (width : ℕ) (s : List ℕ) (at count : ℕ) : Type 0 where
-  pub rest : List ℕ
-  pub reads : read_all (number width 10).read count (drop at s) ≡ give (values_at width s at count) rest
+  pub reads : read_all (number width 10).read count (drop at s) ≡ give (values_at width s at count) (past_values width s at count)
 
 -- how often the slot of a bit was met: 1 where it is set
 abbrev pub marked : (row : List ℕ) → ℕ → ℕ

@@ -9,6 +9,8 @@ use Rattle.heap.specs.WellFormed.{sound_slot}
 use Rattle.pages.specs.Form.{heap_front, retired_too, no_retired, names, slot_named}
 use Rattle.pages.specs.Page.{Head, head_format, slot_format, retired_format}
 use Rattle.page_check.specs.declared.HeadRead.{HeadRead}
+use Rattle.page_check.specs.Answer.{values_of}
+use Rattle.page_check.specs.declared.Values.{Values}
 use Rattle.page_check.specs.declared.SlotNames.{SlotNames}
 use Rattle.page_check.specs.declared.SlotSection.{SlotSection}
 use Rattle.page_check.specs.declared.ListSection.{ListSection}
@@ -69,6 +71,13 @@ pub record ListFound (width : ℕ) (name s : List ℕ) (at count : ℕ) (right :
   pub reads : read_all (number width 10).read count (drop begin s) ≡ give values (drop next s)
   pub inside : next ≤ length s
   pub sound : ok ≡ right values
+
+-- a list's name stands there, and P tells where its values begin and what reading them answers; or it does not, or P tells that they are not there
+unfoldable pub ListRead : (P : ℕ → Option Values → Type 0) (name s : List ℕ) (at : ℕ) → Option ListSection → Type 0
+ListRead P name s at (Some x) =
+    (read_literal name (drop at s) ≡ some (drop x.begin s)) × (x.begin ≤ length s) × P x.begin (Some (values_of x.sound x.next))
+ListRead P name s at None =
+    (read_literal name (drop at s) ≡ none) ⊎ ((b : ℕ) × (read_literal name (drop at s) ≡ some (drop b s)) × P b None)
 
 abbrev pub ListSectioned : (width : ℕ) (name s : List ℕ) (at count : ℕ) (right : List ℕ → Bool) → Option ListSection → Type 0
 ListSectioned width name s at count right (Some x) = ListFound width name s at count right x.begin x.sound x.next

@@ -2,14 +2,11 @@
 use Rattle.std.specs.Prelude.{ℕ, ◌≤◌, List, [], ◌++◌, map, Bool, true, false, ◌&&◌, ◌≡◌, ltb, length, if◌then◌else◌}
 use mathlib.Core.Option as maybe
 use mathlib.Core.Option.{none, some}
-use Rattle.std.specs.Prelude as code
-use Rattle.std.specs.Prelude.{Option, Some, None, Ok, Err}
-use Rattle.refusal.specs.declared.Refusal.{Refusal}
+use Rattle.std.specs.Prelude.{Option, Some, None}
 use Rattle.word.specs.Lists.{all}
 use Rattle.heap.specs.State.{State, data_size}
 use Rattle.heap.specs.Calls.{new}
 use Rattle.word.specs.Result.{Result, ok, refused}
-use Rattle.refusal.specs.Told.{number_of}
 use Rattle.heap.specs.WellFormed.{sound_slot, sound_seals, sound_reclaim, sound}
 use Rattle.pages.specs.Form.{Form, written}
 use Rattle.pages.specs.Page.{out_of_column, read_page, brought}
@@ -104,7 +101,3 @@ verdict sizes S P (some p) =
 pub record Accepted (s : List ℕ) (v : Result State) (x : Sections) : Type 0 where
   pub verdict : v ≡ ok (brought_in s)
   pub sections : Sectioned s x
-
-abbrev pub Checking : List ℕ → (verdict : Result State) → code.Result Sections Refusal → Type 0
-Checking s v (Ok x) = Accepted s v x
-Checking s v (Err why) = v ≡ refused (number_of why)

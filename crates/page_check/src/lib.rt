@@ -1,21 +1,26 @@
 // The first pass over a page: what stands in the text, without touching the lent heap.
 #![tactic(auto)]
 
-ghost use Rattle.std.specs.Prelude.{◌≡◌, List, [], ◌∷◌, ◌++◌, ℕ, ◌+◌, ◌-◌, ◌*◌, ◌^◌, ◌≤◌, ◌<◌, length, take, drop, replicate, ◌&&◌, eqb, leb, ltb, ◌%◌, true, false};
+ghost use Rattle.std.specs.Prelude.{◌≡◌, List, [], ◌∷◌, ◌++◌, ℕ, ◌+◌, ◌-◌, ◌*◌, ◌^◌, ◌≤◌, ◌<◌, length, take, drop, replicate, ◌&&◌, eqb, leb, ltb, ◌%◌, true, false, MatchOption};
 ghost use Rattle.text.specs.Text.{give};
 ghost use Rattle.text.specs.Answer.{value_answer};
 ghost use Rattle.pages.specs.Form.{writes_width, names, sealed_name};
 ghost use Rattle.pages.specs.Page.{slot_format, sealed_end, retired_count, head_format, read_page};
 ghost use Rattle.text.specs.Format.{read_all, number};
-ghost use Rattle.page_check.specs.Partition.{values_at, ValuesParsed, marked, Marked, expected, right, agree};
-ghost use Rattle.page_check.specs.Filling.{slots_at, SlotsParsed, RunChecked};
+ghost use Rattle.page_check.specs.Partition.{values_at, ValuesParsed, Marked, right, agree};
+ghost use Rattle.page_check.specs.Filling.{slots_at, SlotsParsed};
 ghost use Rattle.page_check.specs.Answer.{slot_answer, slots_answer, sound_numbers, indices_more, seals_more, seal_test, head_answer};
+ghost use Rattle.heap.specs.State.{bit};
 ghost use Rattle.handle.specs.Handle.{tag_of, index_of, generation_of};
 ghost use Rattle.heap.specs.WellFormed.{sound_seals, sound_reclaim};
-ghost use Rattle.page_check.specs.Sections.{heap_in, form_in, listed, obeyed, parted, Sectioned, Parsing, verdict, Checking};
-ghost use Rattle.page_check.specs.Parts.{sections_of, HeadSectioned, NamesRead, SlotSectioned, ListSectioned, RetiredSectioned};
+ghost use Rattle.page_check.specs.Sections.{Parsing, verdict};
+ghost use Rattle.page_check.specs.Accepting.{Checking};
+ghost use Rattle.page_check.specs.Parts.{sections_of, HeadSectioned, NamesRead, SlotSectioned, ListRead, ListSectioned, RetiredSectioned};
 ghost use Rattle.word.specs.Lists.{all};
 
+pub mod page;
+
+use page::Page;
 use refusal::Refusal;
 
 // What a slot's line says: its numbers, how many bytes of data, and where the next line begins.
@@ -72,6 +77,7 @@ fn sound(x: SlotRead) -> bool
 }
 
 // What the lines of slots say: whether each is sound by itself, how many bytes of data they have, and what comes after them.
+// Kept: the flag and the place both always stand: an unsound value is read over, since that a text is no page is told before that its heap is broken.
 #[derive(Clone, Copy)]
 pub struct SlotLines {
     pub sound: bool,
@@ -138,18 +144,6 @@ fn mark(s: &[u8], at: usize, count: usize, base: usize, m: usize, row: &mut [u64
     true
 }
 
-fn bit_of(row: &[u64], i: usize) -> u8
-    ensures { result ≡ marked row.now i }
-{
-    if rows::test_bit(row, i) { 1 } else { 0 }
-}
-
-fn expected_of(kind: u64) -> u8
-    ensures { result ≡ expected kind }
-{
-    if 0 < kind { 0 } else { 1 }
-}
-
 // What a pass over the lines of the slots asks of the lists: that each slot is in exactly one place, that no free slot is worn out, or that each retired one is.
 #[derive(Clone, Copy)]
 pub enum Rule {
@@ -158,116 +152,35 @@ pub enum Rule {
     Worn,
 }
 
-// Is a slot right by a rule, if it stands `n` times in the lists that the rule asks about?
-fn right_by(rule: Rule, generation: u64, kind: u64, n: u8) -> bool
-    requires { n ≤ 1 }
-    ensures { result ≡ right rule generation kind n }
+// Is a slot right by a rule, if it stands in the lists that the rule asks about, or not?
+fn right_by(rule: Rule, generation: u64, kind: u64, met: bool) -> bool
+    ensures { result ≡ right rule generation kind (bit met) }
 {
     match rule {
-        Rule::Once => {
-            let e = expected_of(kind);
-            return n == e;
-        }
-        Rule::Young => {
-            if n == 0 {
-                return true;
-            }
-            return generation != 4294967295;
-        }
-        Rule::Worn => {
-            if n == 0 {
-                return true;
-            }
-            return generation == 4294967295;
-        }
+        Rule::Once => met == (kind == 0),
+        Rule::Young => !met || generation != 4294967295,
+        Rule::Worn => !met || generation == 4294967295,
     }
 }
 
-// Whether bits are what the lines of `count` slots ask for, and what comes after the lines.
-#[derive(Clone, Copy)]
-pub struct Chunk {
-    pub ok: bool,
-    pub next: usize,
-}
-
-fn check_chunk(s: &[u8], at: usize, count: usize, rule: Rule, row: &[u64]) -> Chunk
+// Are bits what the lines of `count` slots, from `at` on, ask for? If so, where the next line begins.
+fn check_chunk(s: &[u8], at: usize, count: usize, rule: Rule, row: &[u64]) -> Option<usize>
     requires slots_parsed { SlotsParsed s.now at count }
     requires at_in_bounds { at ≤ length s.now }
-    ensures ok_value { result.ok ≡ agree rule (slots_at s.now at count) row.now 0 }
-    ensures s_value { read_all (slot_format true).read count (drop at s.now) ≡ give (slots_at s.now at count) (drop result.next s.now) }
-    ensures next_in_bounds { result.next ≤ length s.now }
+    ensures { MatchOption result (agree rule (slots_at s.now at count) row.now 0 ≡ false)
+        (λ next. (agree rule (slots_at s.now at count) row.now 0 ≡ true)
+            × (read_all (slot_format true).read count (drop at s.now) ≡ give (slots_at s.now at count) (drop next s.now)) × (next ≤ length s.now)) }
 {
-    let mut ok = true;
     let mut k = at;
     for i in 0..count {
-        let Some(x) = get_slot(s, k, true) else {
-            return Chunk { ok: false, next: k };
-        };
-        let c = bit_of(row, i);
-        ok &= right_by(rule, x.generation, x.kind, c);
+        let x = get_slot(s, k, true)?;
+        let met = rows::test_bit(row, i);
+        if !right_by(rule, x.generation, x.kind, met) {
+            return None;
+        }
         k = x.next;
     }
-    Chunk { ok, next: k }
-}
-
-// Sets the bits of the slots in all three lists, as `mark` does.
-fn mark_dead(s: &[u8], x: Sections, base: usize, m: usize, row: &mut [u64]) -> bool
-    requires sectioned { Sectioned s.now x }
-    requires m_bound { m ≤ 64 * length row.old }
-    ensures { Marked row.old row.new base m
-        ((heap_in s.now).free ++ (heap_in s.now).quarantine ++ (heap_in s.now).retired) result }
-{
-    if !mark(s, x.free_at, x.free, base, m, row) {
-        return false;
-    }
-    if !mark(s, x.quarantine_at, x.quarantine, base, m, row) {
-        return false;
-    }
-    mark(s, x.retired_at, x.retired, base, m, row)
-}
-
-// Sets the bits of the slots in the lists that a rule asks about.
-fn mark_listed(s: &[u8], x: Sections, rule: Rule, base: usize, m: usize, row: &mut [u64]) -> bool
-    requires sectioned { Sectioned s.now x }
-    requires m_bound { m ≤ 64 * length row.old }
-    ensures { Marked row.old row.new base m (listed rule (heap_in s.now)) result }
-{
-    match rule {
-        Rule::Once => {
-            return mark_dead(s, x, base, m, row);
-        }
-        Rule::Young => {
-            return mark(s, x.free_at, x.free, base, m, row);
-        }
-        Rule::Worn => {
-            return mark(s, x.retired_at, x.retired, base, m, row);
-        }
-    }
-}
-
-// Are the `m` slots from `base` on, whose lines stand from `at` on, right by a rule?
-fn check_run(
-    s: &[u8],
-    x: Sections,
-    rule: Rule,
-    at: usize,
-    m: usize,
-    base: usize,
-    row: &mut [u64],
-) -> Chunk
-    requires sectioned { Sectioned s.now x }
-    requires slots_parsed { SlotsParsed s.now at m }
-    requires at_in_bounds { (at ≤ length s.now) × (m ≤ 64 * length row.old) }
-    ensures { RunChecked s.now rule (listed rule (heap_in s.now)) at m base result.ok result.next }
-{
-    row.fill(0);
-    if !mark_listed(s, x, rule, base, m, row) {
-        return Chunk {
-            ok: false,
-            next: at,
-        };
-    }
-    check_chunk(s, at, m, rule, row)
+    Some(k)
 }
 
 // How many of the slots that are left go into one run: one a bit.
@@ -278,45 +191,8 @@ fn run_of(words: usize, left: usize) -> usize
     if left / 64 < words { left } else { 64 * words }
 }
 
-// Are the slots of a page right by a rule? The lines of the slots are read once, the lists once a run: one run where the lent words have a bit for each slot.
-fn check_rule(s: &[u8], x: Sections, rule: Rule, row: &mut [u64]) -> bool
-    requires sectioned { Sectioned s.now x }
-    requires in_bounds { 1 ≤ length row.old }
-    ensures { result ≡ obeyed rule (heap_in s.now) }
-{
-    let mut k = x.slots_at;
-    let mut base = 0;
-    while base < x.slots {
-        let m = run_of(row.len(), x.slots - base);
-        let c = check_run(s, x, rule, k, m, base, row);
-        if !c.ok {
-            return false;
-        }
-        k = c.next;
-        base += m;
-    }
-    true
-}
-
-// Is each slot of a page in exactly one place: live, or once in one of the lists? And, in a page with `retired`, is no free slot worn out and each retired one?
-fn partition(s: &[u8], x: Sections, row: &mut [u64]) -> bool
-    requires sectioned { Sectioned s.now x }
-    requires in_bounds { 1 ≤ length row.old }
-    ensures { result ≡ parted (form_in s.now).retiring (heap_in s.now) }
-{
-    if !check_rule(s, x, Rule::Once, row) {
-        return false;
-    }
-    if !x.retiring {
-        return true;
-    }
-    if !check_rule(s, x, Rule::Young, row) {
-        return false;
-    }
-    check_rule(s, x, Rule::Worn, row)
-}
-
 // Whether the values of a list are as they are to be, and what comes after them.
+// Kept: both always stand, as in SlotLines.
 #[derive(Clone, Copy)]
 pub struct Values {
     pub sound: bool,
@@ -487,23 +363,28 @@ pub struct Sections {
 }
 
 fn assembled(
-    wide: bool,
-    planar: bool,
     x: HeadRead,
-    slots_at: usize,
-    free_at: usize,
-    quarantine_at: usize,
-    sealed_at: usize,
-    retired_at: usize,
-    size: usize,
-    sound: bool,
+    slots: SlotSection,
+    free: ListSection,
+    quarantine: ListSection,
+    sealed: ListSection,
+    retired: ListSection,
 ) -> Sections
-    ensures { result ≡ sections_of wide planar x slots_at free_at quarantine_at sealed_at retired_at size sound }
+    ensures { result ≡ sections_of slots.wide slots.planar x slots.begin free.begin quarantine.begin sealed.begin retired.begin slots.size
+        (slots.sound && (free.sound && quarantine.sound && retired.sound) && sealed.sound && sound_reclaim x.reclaim_at) }
 {
+    let sound = sound_parts(
+        slots.sound,
+        free.sound,
+        quarantine.sound,
+        retired.sound,
+        sealed.sound,
+        x.reclaim_at,
+    );
     Sections {
         retiring: x.retiring,
-        wide,
-        planar,
+        wide: slots.wide,
+        planar: slots.planar,
         tag: x.tag,
         since_gc: x.since_gc,
         reclaim_at: x.reclaim_at,
@@ -513,12 +394,12 @@ fn assembled(
         quarantine: x.quarantine,
         sealed: x.sealed,
         retired: x.retired,
-        slots_at,
-        free_at,
-        quarantine_at,
-        sealed_at,
-        retired_at,
-        size,
+        slots_at: slots.begin,
+        free_at: free.begin,
+        quarantine_at: quarantine.begin,
+        sealed_at: sealed.begin,
+        retired_at: retired.begin,
+        size: slots.size,
         sound,
     }
 }
@@ -605,6 +486,7 @@ fn slot_section(s: &[u8], at: usize, count: usize) -> Option<SlotSection>
 }
 
 // The values of a list after its name: where they begin, then as `Values`.
+// Kept: the flag and the places all always stand, as in SlotLines.
 #[derive(Clone, Copy)]
 pub struct ListSection {
     pub begin: usize,
@@ -612,18 +494,27 @@ pub struct ListSection {
     pub next: usize,
 }
 
+// Reads a list's name, then its values in the way that is passed.
+fn list_section<F: FnOnce(usize) -> Option<Values>>(s: &[u8], name: &[u8], at: usize, values: F) -> Option<ListSection>
+    requires at_in_bounds { at ≤ length s.now }
+    requires callable { (b : ℕ) → b ≤ length s.now → F.pre values b }
+    ensures { ListRead (F.post values) name.now s.now at result }
+{
+    let begin = text::expect(s, at, name)?;
+    let found = values(begin)?;
+    Some(ListSection {
+        begin,
+        sound: found.sound,
+        next: found.next,
+    })
+}
+
 // Reads a list's name, then `count` slot indices: are all below n?
 fn index_section(s: &[u8], name: &[u8], at: usize, count: usize, n: usize) -> Option<ListSection>
     requires { at ≤ length s.now }
     ensures { ListSectioned 32 name.now s.now at count (all (λ i. ltb i n)) result }
 {
-    let begin = text::expect(s, at, name)?;
-    let values = check_indices(s, begin, count, n)?;
-    Some(ListSection {
-        begin,
-        sound: values.sound,
-        next: values.next,
-    })
+    list_section(s, name, at, |begin| check_indices(s, begin, count, n))
 }
 
 // Reads the name of the seals, then `count` seals: are they sound, slots rising?
@@ -631,13 +522,7 @@ fn seal_section(s: &[u8], at: usize, count: usize, tag: u64, n: usize) -> Option
     requires { at ≤ length s.now }
     ensures { ListSectioned 64 sealed_name s.now at count (sound_seals tag n 0) result }
 {
-    let begin = text::expect(s, at, b"sealed\n")?;
-    let values = check_seals(s, begin, count, tag, n)?;
-    Some(ListSection {
-        begin,
-        sound: values.sound,
-        next: values.next,
-    })
+    list_section(s, b"sealed\n", at, |begin| check_seals(s, begin, count, tag, n))
 }
 
 // Reads the name of the retired, then `count` slot indices, where the page has them: are all below n?
@@ -675,36 +560,17 @@ pub fn parse_page(s: &[u8]) -> Option<Sections>
     if retired.next < s.len() {
         return None;
     }
-    let sound = sound_parts(
-        slots.sound,
-        free.sound,
-        quarantine.sound,
-        retired.sound,
-        sealed.sound,
-        x.reclaim_at,
-    );
-    Some(assembled(
-        slots.wide,
-        slots.planar,
-        x,
-        slots.begin,
-        free.begin,
-        quarantine.begin,
-        sealed.begin,
-        retired.begin,
-        slots.size,
-        sound,
-    ))
+    Some(assembled(x, slots, free, quarantine, sealed, retired))
 }
 
 // The first pass: is a text the page of a sound heap that fits into `lent` slots and `room` bytes? `sizes` says whether the lent sizes are in range.
-pub fn check_page(
-    s: &[u8],
+pub fn check_page<'a>(
+    s: &'a [u8],
     sizes: bool,
     lent: usize,
     room: usize,
     work: &mut [u64],
-) -> Result<Sections, Refusal>
+) -> Result<Page<'a>, Refusal>
     requires { sizes ≡ true → 1 ≤ length work.old }
     ensures checking { Checking s.now (verdict sizes lent room (read_page s.now)) result }
     ensures work_after { work.new ≡ replicate (length work.old) 0 }
@@ -716,7 +582,11 @@ pub fn check_page(
     if !(sizes && x.sound) {
         return Err(Refusal::BrokenHeap);
     }
-    let once = partition(s, x, work);
+    let page = Page {
+        text: s,
+        sections: x,
+    };
+    let once = page.partition(work);
     work.fill(0);
     if !once {
         return Err(Refusal::BrokenHeap);
@@ -727,5 +597,5 @@ pub fn check_page(
     if lent < x.slots {
         return Err(Refusal::Full);
     }
-    Ok(x)
+    Ok(page)
 }

@@ -13,7 +13,7 @@ use Rattle.text.specs.Answer.{value_answer}
 use Rattle.text.specs.Put.{put_text}
 use Rattle.std.specs.Prelude.{Option, Some, None}
 use Rattle.text.proofs.Putting.{put-nothing}
-use Rattle.page_check.specs.Partition.{values_at, ValuesParsed}
+use Rattle.page_check.specs.Partition.{values_at, past_values, ValuesParsed}
 use Rattle.page_check.proofs.Lists.{value_found, value_none}
 use Rattle.page_check.proofs.Filling.{read_next, read_some, read-end}
 use Rattle.page_reader.proofs.Filled.{col-next}
@@ -36,7 +36,7 @@ listing-begin width s at count list p h r = record {
   room = r;
   same = refl;
   written = sym (put-nothing list 0);
-  rest = p.rest;
+  rest = past_values width s at count;
   left = ap (λ (n : ℕ). read_all (number width 10).read n (drop at s)) (sub-zero count) ∙ p.reads;
 }
 

@@ -21,7 +21,7 @@ use Rattle.heap.specs.declared.Heap.{Heap}
 use Rattle.heap.proofs.Runs.{recount, with-generation, with-kind, with-type, with-end, with-writes, set-generation, set-kind, set-type, set-start, set-end, set-writes}
 use Rattle.pages.specs.Page.{slot_format}
 use Rattle.pages.proofs.Writing.{blank}
-use Rattle.page_check.specs.Filling.{slots_at, SlotsParsed}
+use Rattle.page_check.specs.Filling.{slots_at, past_slots, SlotsParsed}
 use Rattle.page_check.specs.Answer.{slot_answer}
 use Rattle.page_check.specs.declared.SlotRead.{SlotRead}
 use Rattle.page_check.proofs.Reading.{Found, line-found, line-lost}
@@ -84,7 +84,7 @@ filling-begin s at count narrow wide p h r q = record {
   numbers = λ x pool. (let l : Lent = cut x (length narrow / 6) narrow wide pool in
       λ j. columns x (length narrow / 6) (sym (put-nothing l.generation 0) j) (sym (put-nothing l.kind 0) j) (sym (put-nothing l.type 0) j) (sym (put-nothing l.start 0) j)
       (sym (put-nothing l.end 0) j) (sym (put-nothing l.writes 0) j) pool l.free l.quarantine l.sealed l.retired l.over);
-  rest = p.rest;
+  rest = past_slots s at count;
   left = ap (λ (n : ℕ). read_all (slot_format true).read n (drop at s)) (sub-zero count) ∙ p.reads;
 }
 

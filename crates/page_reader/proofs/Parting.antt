@@ -24,7 +24,7 @@ use Rattle.heap.specs.Lent.{Lent, columns, cut, lent}
 use Rattle.heap.specs.declared.Heap.{Heap}
 use Rattle.heap.proofs.Recycled.{filter-total, filter-append}
 use Rattle.heap.proofs.Runs.{recount, with-free, with-retired, set-free, set-retired}
-use Rattle.page_check.specs.Partition.{values_at, ValuesParsed}
+use Rattle.page_check.specs.Partition.{values_at, past_values, ValuesParsed}
 use Rattle.page_check.proofs.Lists.{value_found, value_none}
 use Rattle.page_check.proofs.Filling.{read_next, read_some, read-end}
 use Rattle.page_reader.specs.Columns.{worn_in, stay_free, retire, with_parted, Below, PutIn, ages, FreeParted}
@@ -57,7 +57,7 @@ parting-begin s at count narrow p h r b = record {
   total = refl;
   parted = λ x wide pool. (let l : Lent = cut x (length narrow / 6) narrow wide pool in
       λ j. columns x (length narrow / 6) l.generation l.kind l.type l.start l.end l.writes pool (sym (put-nothing l.free 0) j) l.quarantine l.sealed (sym (put-nothing l.retired 0) j) l.over);
-  rest = p.rest;
+  rest = past_values 32 s at count;
   left = ap (λ (n : ℕ). read_all (number 32 10).read n (drop at s)) (sub-zero count) ∙ p.reads;
 }
 

@@ -21,7 +21,7 @@ use Rattle.pages.specs.Page.{slot_format, out_of_column}
 use Rattle.pages.specs.Columns.{slot, field}
 use Rattle.pages.proofs.Laws.{slot-right, slot-prints}
 use Rattle.pages.proofs.Writing.{blank, slot-parts}
-use Rattle.page_check.specs.Filling.{slots_at, SlotsParsed}
+use Rattle.page_check.specs.Filling.{slots_at, past_slots, SlotsParsed}
 use Rattle.page_check.specs.Answer.{slot_answer}
 use Rattle.page_check.specs.declared.SlotRead.{SlotRead}
 use Rattle.page_check.proofs.Columned.{same_size}
@@ -104,7 +104,7 @@ pooling-begin c s at count pool p h r = record {
   room = r;
   same = refl;
   put = puts_none pool 0 (omega arith);
-  rest = p.rest;
+  rest = past_slots s at count;
   left = ap (λ (n : ℕ). read_all (slot_format true).read n (drop at s)) (sub-zero count) ∙ p.reads;
 }
 

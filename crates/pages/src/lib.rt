@@ -1,7 +1,7 @@
 // The page: a heap as text, in the form that is written.
 #![tactic(auto)]
 
-ghost use Rattle.std.specs.Prelude.{◌≡◌, ℕ, ◌+◌, ◌-◌, ◌*◌, ◌/◌, ◌≤◌, ◌<◌, length, take, drop, true, false};
+ghost use Rattle.std.specs.Prelude.{◌≡◌, ℕ, ◌+◌, ◌-◌, ◌*◌, ◌/◌, ◌^◌, ◌≤◌, ◌<◌, length, map, take, drop, true, false};
 ghost use mathlib.Core.List.{List, [], ◌∷◌, ◌++◌, flat_map};
 ghost use Rattle.text.specs.Text.{decimal, hex};
 ghost use Rattle.text.specs.Put.{Puts};
@@ -14,31 +14,73 @@ ghost use Rattle.word.specs.Result.{ok};
 ghost use Rattle.refusal.specs.Told.{told, answered, here, nothing};
 ghost use Rattle.pages.specs.Answer.{PageWritten};
 
+ghost use Rattle.std.proofs.lemmas.List.{map-id};
+ghost use mathlib.Core.Path.{sym};
+
 use heap::Heap;
 use refusal::{Refusal, Reply};
 
-// What stands in a list of a page, and is written as a number: a slot index, or a handle.
+// What stands in a list and is written as a number, one of so many bits: a slot index, or a handle.
 pub trait Listed: Copy {
     ghost number: { Self → ℕ };
 
+    // The numbers of a list.
+    ghost numbers: { List Self → List ℕ };
+
+    ghost width: { ℕ };
+
     fn number(self) -> u64
         ensures { result ≡ number self };
+
+    // The largest number of so many bits.
+    fn most() -> u64
+        ensures { result ≡ 2 ^ width - 1 };
+
+    fn of(n: u64) -> Self
+        requires { n < 2 ^ width }
+        ensures { number result ≡ n };
+
+    ghost mapped: { (l : List Self) → numbers l ≡ map number l };
 }
 
 impl Listed for u32 {
     ghost number = { λ x. x };
+    ghost numbers = { λ l. l };
+    ghost width = { 32 };
 
     fn number(self) -> u64 {
         u64::from(self)
     }
+
+    fn most() -> u64 {
+        4294967295
+    }
+
+    fn of(n: u64) -> u32 {
+        n as u32
+    }
+
+    ghost mapped = { λ l. sym (map-id l) };
 }
 
 impl Listed for u64 {
     ghost number = { λ x. x };
+    ghost numbers = { λ l. l };
+    ghost width = { 64 };
 
     fn number(self) -> u64 {
         self
     }
+
+    fn most() -> u64 {
+        18446744073709551615
+    }
+
+    fn of(n: u64) -> u64 {
+        n
+    }
+
+    ghost mapped = { λ l. sym (map-id l) };
 }
 
 // How long the first `count` values of a list are, one a line.

@@ -1,5 +1,5 @@
 use mathlib.Core.Bool.{◌&&◌}
-use mathlib.Core.Path.{◌≡◌, sym, ap, ◌∙◌}
+use mathlib.Core.Path.{◌≡◌, refl, sym, ap, ◌∙◌}
 use Prim.Native.Nat.{ℕ}
 use lib.ListN.{replicate}
 use native.Mathlib.Omega.{arith}
@@ -20,6 +20,9 @@ returns-then-not-x c =
     ] in
     record { checking = sizes-1 _ _ (is-page _ _ c.parse_page.ensures c.in-Some.is) _ _ c.args.sizes both c.if-not-x.true; work_after = search rules }
 
+pub invariant_of-page : goal.invariant_of-page
+invariant_of-page c = record { sectioned = is-page _ _ c.parse_page.ensures c.in-Some.is }
+
 pub partition-once-requires : goal.partition-once-requires
 partition-once-requires c =
     let both : c.if-sizes.value ≡ (c.args.sizes && c.in-Some.x.sound) =
@@ -27,7 +30,7 @@ partition-once-requires c =
       | then-sizes w ↦ w.value-is ∙ (λ i. sym w.if-sizes.true i && c.in-Some.x.sound)
       | else-sizes w ↦ w.value-is ∙ w.if-sizes.false ∙ (λ i. sym w.if-sizes.false i && c.in-Some.x.sound)
     ] in
-    record { sectioned = is-page _ _ c.parse_page.ensures c.in-Some.is; in_bounds = omega (arith, c.requires (sizes-on _ _ both c.if-not-x.false), c.fill.auto.self) }
+    omega (arith, c.requires (sizes-on _ _ both c.if-not-x.false), c.fill.auto.self)
 
 pub returns-then-not-once : goal.returns-then-not-once
 returns-then-not-once c =
@@ -69,4 +72,4 @@ returns c =
       | then-sizes w ↦ w.value-is ∙ (λ i. sym w.if-sizes.true i && c.in-Some.x.sound)
       | else-sizes w ↦ w.value-is ∙ w.if-sizes.false ∙ (λ i. sym w.if-sizes.false i && c.in-Some.x.sound)
     ] in
-    let p = is-page _ _ c.parse_page.ensures c.in-Some.is in record { checking = accepted _ _ p _ _ c.args.sizes both c.if-not-x.false (sound-is _ _ p c.args.sizes both c.if-not-x.false c.partition-once.ensures) c.if-not-once.false c.if-room-x.false c.if-lent-x.false; work_after = (c.fill-2.ensures.after (λ y e. e)) ∙ ap (λ (m : ℕ). replicate m 0) (c.partition-once.auto.row ∙ c.fill.auto.self) }
+    let p = is-page _ _ c.parse_page.ensures c.in-Some.is in record { checking = (refl, accepted _ _ p _ _ c.args.sizes both c.if-not-x.false (sound-is _ _ p c.args.sizes both c.if-not-x.false c.partition-once.ensures) c.if-not-once.false c.if-room-x.false c.if-lent-x.false); work_after = (c.fill-2.ensures.after (λ y e. e)) ∙ ap (λ (m : ℕ). replicate m 0) (c.partition-once.auto.row ∙ c.fill.auto.self) }

@@ -9,7 +9,7 @@ use Prim.Native.Nat.{ℕ}
 use Rattle.page_check.proofs.mark.Goals as goal
 
 pub loop-i-init : goal.loop-i-init
-loop-i-init c = (omega arith, c.requires.at_in_bounds.0, refl, mark-nothing c.args.row.now c.args.base c.args.m, (c.requires.values_parsed.rest, ap (λ (m : ℕ). read_all (number 32 10).read m (drop c.args.at c.args.s.now)) (sub-zero c.args.count) ∙ c.requires.values_parsed.reads))
+loop-i-init c = (omega arith, c.requires.at_in_bounds.0, refl, mark-nothing c.args.row.now c.args.base c.args.m, (_, ap (λ (m : ℕ). read_all (number 32 10).read m (drop c.args.at c.args.s.now)) (sub-zero c.args.count) ∙ c.requires.values_parsed.reads))
 
 pub get_field-requires : goal.get_field-requires
 get_field-requires c = tt

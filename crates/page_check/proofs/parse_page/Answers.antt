@@ -1,4 +1,5 @@
 use lib.Dec.{ltb}
+use mathlib.Core.Path.{refl}
 use Rattle.word.specs.Lists.{all}
 use Rattle.text.specs.Text.{ascii}
 use Rattle.heap.specs.WellFormed.{sound_seals}
@@ -97,4 +98,4 @@ returns c = let h = head-is c.args.s.now c.in_ok-x.x c.head_section.ensures c.in
     let q = list-is 32 quarantine_name c.args.s.now c.in_ok-free.free.next c.in_ok-x.x.quarantine (all (λ i. ltb i c.in_ok-x.x.slots)) c.in_ok-quarantine.quarantine c.index_section-2.ensures c.in_ok-quarantine.was in
     let z = list-is 64 sealed_name c.args.s.now c.in_ok-quarantine.quarantine.next c.in_ok-x.x.sealed (sound_seals c.in_ok-x.x.tag c.in_ok-x.x.slots 0) c.in_ok-sealed.sealed c.seal_section.ensures c.in_ok-sealed.was in
     let a = retired-is c.in_ok-x.x.retiring c.args.s.now c.in_ok-sealed.sealed.next c.in_ok-x.x.retired (all (λ i. ltb i c.in_ok-x.x.slots)) c.in_ok-retired.retired c.retired_section.ensures c.in_ok-retired.was in
-    found_all c.args.s.now c.in_ok-x.x h c.in_ok-slots.slots.begin c.in_ok-slots.slots.sound c.in_ok-slots.slots.size c.in_ok-slots.slots.next c.in_ok-slots.slots.wide c.in_ok-slots.slots.planar k c.in_ok-free.free.begin c.in_ok-free.free.sound c.in_ok-free.free.next f c.in_ok-quarantine.quarantine.begin c.in_ok-quarantine.quarantine.sound c.in_ok-quarantine.quarantine.next q c.in_ok-sealed.sealed.begin c.in_ok-sealed.sealed.sound c.in_ok-sealed.sealed.next z c.in_ok-retired.retired.begin c.in_ok-retired.retired.sound c.in_ok-retired.retired.next a c.if-retired-s.false _ c.sound_parts-sound.ensures c.assembled.ensures
+    found_all c.args.s.now c.in_ok-x.x h c.in_ok-slots.slots.begin c.in_ok-slots.slots.sound c.in_ok-slots.slots.size c.in_ok-slots.slots.next c.in_ok-slots.slots.wide c.in_ok-slots.slots.planar k c.in_ok-free.free.begin c.in_ok-free.free.sound c.in_ok-free.free.next f c.in_ok-quarantine.quarantine.begin c.in_ok-quarantine.quarantine.sound c.in_ok-quarantine.quarantine.next q c.in_ok-sealed.sealed.begin c.in_ok-sealed.sealed.sound c.in_ok-sealed.sealed.next z c.in_ok-retired.retired.begin c.in_ok-retired.retired.sound c.in_ok-retired.retired.next a c.if-retired-s.false _ refl c.assembled.ensures

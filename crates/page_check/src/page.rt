@@ -1,0 +1,109 @@
+// A text that is a page, with what the first pass found in it: is each of its slots where it belongs?
+ghost use Rattle.std.specs.Prelude.{◌≡◌, ◌*◌, ◌≤◌, ◌++◌, length, true, false, MatchOption};
+ghost use Rattle.page_check.specs.Partition.{Marked, each};
+ghost use Rattle.page_check.specs.Filling.{slots_at, SlotsParsed, RunChecked};
+ghost use Rattle.page_check.specs.Sections.{heap_in, form_in, listed, obeyed, parted, Sectioned};
+
+use crate::{Rule, Sections};
+
+#[derive(Clone, Copy)]
+pub struct Page<'a> {
+    pub text: &'a [u8],
+    pub sections: Sections,
+    pub ghost sectioned: { Sectioned text.now sections },
+}
+
+impl Page<'_> {
+    // Sets the bits of the slots in all three lists, as `mark` does.
+    fn mark_dead(self, base: usize, m: usize, row: &mut [u64]) -> bool
+        requires { m ≤ 64 * length row.old }
+        ensures { Marked row.old row.new base m
+            ((heap_in self.entry.text.now).free ++ (heap_in self.entry.text.now).quarantine ++ (heap_in self.entry.text.now).retired) result }
+    {
+        let Page {
+            text: s,
+            sections: x,
+        } = self;
+        if !crate::mark(s, x.free_at, x.free, base, m, row) {
+            return false;
+        }
+        if !crate::mark(s, x.quarantine_at, x.quarantine, base, m, row) {
+            return false;
+        }
+        crate::mark(s, x.retired_at, x.retired, base, m, row)
+    }
+
+    // Sets the bits of the slots in the lists that a rule asks about.
+    fn mark_listed(self, rule: Rule, base: usize, m: usize, row: &mut [u64]) -> bool
+        requires { m ≤ 64 * length row.old }
+        ensures { Marked row.old row.new base m (listed rule (heap_in self.entry.text.now)) result }
+    {
+        let Page {
+            text: s,
+            sections: x,
+        } = self;
+        match rule {
+            Rule::Once => {
+                return self.mark_dead(base, m, row);
+            }
+            Rule::Young => {
+                return crate::mark(s, x.free_at, x.free, base, m, row);
+            }
+            Rule::Worn => {
+                return crate::mark(s, x.retired_at, x.retired, base, m, row);
+            }
+        }
+    }
+
+    // Are the `m` slots from `base` on, whose lines stand from `at` on, right by a rule? If so, where the next line begins.
+    fn check_run(self, rule: Rule, at: usize, m: usize, base: usize, row: &mut [u64]) -> Option<usize>
+        requires slots_parsed { SlotsParsed self.text.now at m }
+        requires at_in_bounds { (at ≤ length self.text.now) × (m ≤ 64 * length row.old) }
+        ensures { MatchOption result
+            (each rule (listed rule (heap_in self.entry.text.now)) (slots_at self.entry.text.now at m) base ≡ false)
+            (λ next. RunChecked self.entry.text.now rule (listed rule (heap_in self.entry.text.now)) at m base true next) }
+    {
+        row.fill(0);
+        if !self.mark_listed(rule, base, m, row) {
+            return None;
+        }
+        crate::check_chunk(self.text, at, m, rule, row)
+    }
+
+    // Are the slots of a page right by a rule? The lines of the slots are read once, the lists once a run: one run where the lent words have a bit for each slot.
+    fn check_rule(self, rule: Rule, row: &mut [u64]) -> bool
+        requires { 1 ≤ length row.old }
+        ensures { result ≡ obeyed rule (heap_in self.entry.text.now) }
+    {
+        let slots = self.sections.slots;
+        let mut k = self.sections.slots_at;
+        let mut base = 0;
+        // Kept: the last run is shorter than the others, so `step_by` would need the same sums, and a step that is not 0 where there are no slots.
+        while base < slots {
+            let m = crate::run_of(row.len(), slots - base);
+            let Some(next) = self.check_run(rule, k, m, base, row) else {
+                return false;
+            };
+            k = next;
+            base += m;
+        }
+        true
+    }
+
+    // Is each slot of a page in exactly one place: live, or once in one of the lists? And, in a page with `retired`, is no free slot worn out and each retired one?
+    pub fn partition(self, row: &mut [u64]) -> bool
+        requires { 1 ≤ length row.old }
+        ensures { result ≡ parted (form_in self.entry.text.now).retiring (heap_in self.entry.text.now) }
+    {
+        if !self.check_rule(Rule::Once, row) {
+            return false;
+        }
+        if !self.sections.retiring {
+            return true;
+        }
+        if !self.check_rule(Rule::Young, row) {
+            return false;
+        }
+        self.check_rule(Rule::Worn, row)
+    }
+}
