@@ -34,7 +34,9 @@ use Rattle.pages.proofs.Bound.{parts, dead-length, sealed-length}
 use Rattle.page_check.proofs.Columned.{same_size}
 use Rattle.page_check.specs.Filling.{slots_at}
 use Rattle.page_check.specs.Partition.{values_at}
-use Rattle.page_check.specs.Sections.{heap_in, form_in, brought_in, Sectioned, Accepted, Checking, verdict}
+use Rattle.page_check.specs.Sections.{heap_in, form_in, brought_in, Sectioned, Accepted, verdict}
+use Rattle.page_check.specs.Accepting.{Checking}
+use Rattle.page_check.specs.declared.page.Page.{Page}
 use Rattle.page_check.specs.declared.Sections.{Sections}
 use Rattle.std.specs.Prelude as code
 use Rattle.std.specs.Prelude.{Ok, Err}
@@ -261,8 +263,8 @@ few-numbers t S P (some p) n e = go (t && sound (brought p)) refl (ltb P (data_s
     go true ea false eb true ed u = let q : ◌≡◌ {A = Result State} (refused 5) (refused n) = rw (ea, eb, ed) at u in let z : 5 ≡ n = cc in omega arith
     go true ea false eb false ed u = let q : ◌≡◌ {A = Result State} (ok (brought p)) (refused n) = rw (ea, eb, ed) at u in absurd (not-ok n (sym q))
 
-pub is-page : (s : List ℕ) (v : Result State) (x : Sections) {r : code.Result Sections Refusal} → Checking s v r → r ≡ Ok x → Accepted s v x
-is-page s v x c e = subst (Checking s v) e c
+pub is-page : (s : List ℕ) (v : Result State) (p : Page) {r : code.Result Page Refusal} → Checking s v r → r ≡ Ok p → (p.text.now ≡ s) × Accepted s v p.sections
+is-page s v p c e = subst (Checking s v) e c
 
 same-sealed : (b : Bool) (h : State) → ((moved b h).sealed ≡ h.sealed) × (length (moved b h).slots ≡ length h.slots) × (data_size (moved b h).slots ≡ data_size h.slots)
 same-sealed true h = (refl, refl, refl)
@@ -307,7 +309,7 @@ module _ (l : Lent) (s : List ℕ) {r : Bool} (v : r ≡ in_range l) where
       let n : names ≡ (if (form_in s).retiring then 1 else 0) + (if (form_in s).planar then 2 else 0) = en ∙ (λ i. (if c.retiring i then 1 else 0) + (if c.planar i then 2 else 0)) in
       record { lent = rw w e; answer = rw w (λ i. told (Ok ((b i), (n i)))) }
 
-  pub read-refused : {c : code.Result Sections Refusal} (why : Refusal) → Checking s (verdict r (slot_count l) (pool_size l) (read_page s)) c → c ≡ Err why → PageRead l l s (Err why)
+  pub read-refused : {c : code.Result Page Refusal} (why : Refusal) → Checking s (verdict r (slot_count l) (pool_size l) (read_page s)) c → c ≡ Err why → PageRead l l s (Err why)
   unfolding read_into
   read-refused {c} why k e =
       let b : verdict r (slot_count l) (pool_size l) (read_page s) ≡ refused (number_of why) = subst (Checking s (verdict r (slot_count l) (pool_size l) (read_page s))) e k in

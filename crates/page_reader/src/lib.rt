@@ -11,12 +11,13 @@ ghost use Rattle.heap.specs.Packing.{flat};
 ghost use Rattle.page_check.specs.Partition.{values_at, ValuesParsed};
 ghost use Rattle.page_check.specs.Filling.{slots_at, SlotsParsed};
 ghost use Rattle.heap.specs.Lent.{lent, header_of, stored};
-ghost use Rattle.page_check.specs.Sections.{heap_in, brought_in, Sectioned};
+ghost use Rattle.page_check.specs.Sections.{heap_in, brought_in};
 ghost use Rattle.page_reader.specs.Columns.{NumbersFilled, Below, PutIn, FreeParted, ListsFilled, Roomy};
 ghost use Rattle.page_reader.specs.Reading.{PageRead};
 
 use heap::{Changed, Heap};
-use page_check::Sections;
+use page_check::page::Page;
+use pages::Listed;
 
 // Puts the numbers of `count` slots, whose lines stand from `at` on, into their runs.
 fn fill_slots(s: &[u8], at: usize, count: usize, narrow: &mut [u32], wide: &mut [u64])
@@ -75,34 +76,19 @@ fn fill_data(s: &[u8], at: usize, count: usize, planar: bool, pool: &mut [u8])
     }
 }
 
-// Puts the `count` slot indices that stand from `at` on into a list.
-fn fill_indices(s: &[u8], at: usize, count: usize, list: &mut [u32])
-    requires values_parsed { ValuesParsed 32 s.now at count }
+// Puts the `count` values that stand from `at` on into a list: slot indices, or handles.
+fn fill_values<T: Listed>(s: &[u8], at: usize, count: usize, list: &mut [T])
+    requires values_parsed { ValuesParsed T.width s.now at count }
     requires at_in_bounds { (at ≤ length s.now) × (count ≤ length list.old) }
-    ensures { list.new ≡ put_text list.old 0 (values_at 32 s.now at count) }
+    ensures { T.numbers list.new ≡ put_text (T.numbers list.old) 0 (values_at T.width s.now at count) }
 {
+    let most = T::most();
     let mut k = at;
     for i in 0..count {
-        let Some((v, next)) = text::get_field(s, k, 4294967295, b'\n') else {
+        let Some((v, next)) = text::get_field(s, k, most, b'\n') else {
             return;
         };
-        list[i] = v as u32;
-        k = next;
-    }
-}
-
-// Puts the `count` handles that stand from `at` on into a list.
-fn fill_handles(s: &[u8], at: usize, count: usize, list: &mut [u64])
-    requires values_parsed { ValuesParsed 64 s.now at count }
-    requires at_in_bounds { (at ≤ length s.now) × (count ≤ length list.old) }
-    ensures { list.new ≡ put_text list.old 0 (values_at 64 s.now at count) }
-{
-    let mut k = at;
-    for i in 0..count {
-        let Some((v, next)) = text::get_field(s, k, 18446744073709551615, b'\n') else {
-            return;
-        };
-        list[i] = v;
+        list[i] = T::of(v);
         k = next;
     }
 }
@@ -164,31 +150,34 @@ fn part_free(s: &[u8], at: usize, count: usize, narrow: &mut [u32]) -> Counts
 }
 
 // Puts the other lists of a page into their runs. A page without the retired list has no retired slots of its own.
-fn fill_lists(s: &[u8], x: Sections, narrow: &mut [u32], wide: &mut [u64])
-    requires sectioned { Sectioned s.now x }
-    requires s_in_bounds { (length (heap_in s.now).quarantine ≤ length narrow.old / 6) × (length (heap_in s.now).retired ≤ length narrow.old / 6) }
-    requires s_in_bounds_2 { (length (heap_in s.now).sealed ≤ length narrow.old / 6) × (4 * (length narrow.old / 6) ≤ length wide.old) }
+fn fill_lists(page: Page, narrow: &mut [u32], wide: &mut [u64])
+    requires in_bounds { (length (heap_in page.text.now).quarantine ≤ length narrow.old / 6) × (length (heap_in page.text.now).retired ≤ length narrow.old / 6) }
+    requires in_bounds_2 { (length (heap_in page.text.now).sealed ≤ length narrow.old / 6) × (4 * (length narrow.old / 6) ≤ length wide.old) }
     ensures { ListsFilled narrow.old wide.old narrow.new wide.new
-        (heap_in s.now).quarantine (heap_in s.now).retired (heap_in s.now).sealed }
+        (heap_in page.entry.text.now).quarantine (heap_in page.entry.text.now).retired (heap_in page.entry.text.now).sealed }
 {
+    let Page {
+        text: s,
+        sections: x,
+    } = page;
     let all = narrow.len() / 6;
     let three = 3 * all;
     let four = 4 * all;
     let five = 5 * all;
     let six = 6 * all;
-    fill_indices(s, x.quarantine_at, x.quarantine, &mut narrow[four..five]);
-    fill_indices(s, x.retired_at, x.retired, &mut narrow[five..six]);
-    fill_handles(s, x.sealed_at, x.sealed, &mut wide[three..four]);
+    fill_values(s, x.quarantine_at, x.quarantine, &mut narrow[four..five]);
+    fill_values(s, x.retired_at, x.retired, &mut narrow[five..six]);
+    fill_values(s, x.sealed_at, x.sealed, &mut wide[three..four]);
 }
 
 // The header of the heap that a page brings, with so many free slots and so many moved from there to the retired: epoch and log read as 0.
-fn header(s: &[u8], x: Sections, free: usize, moved: usize) -> Heap
-    requires sectioned { Sectioned s.now x }
-    requires free_value { free ≡ length (brought_in s.now).free }
-    requires s_value { moved + length (heap_in s.now).retired ≡ length (brought_in s.now).retired }
-    requires s_bound { moved + length (heap_in s.now).retired < 2 ^ 32 }
-    ensures { result ≡ header_of (brought_in s.now) }
+fn header(page: Page, free: usize, moved: usize) -> Heap
+    requires free_value { free ≡ length (brought_in page.text.now).free }
+    requires s_value { moved + length (heap_in page.text.now).retired ≡ length (brought_in page.text.now).retired }
+    requires s_bound { moved + length (heap_in page.text.now).retired < 2 ^ 32 }
+    ensures { result ≡ header_of (brought_in page.entry.text.now) }
 {
+    let x = page.sections;
     Heap {
         tag: x.tag as u8,
         since_gc: x.since_gc,
@@ -205,22 +194,23 @@ fn header(s: &[u8], x: Sections, free: usize, moved: usize) -> Heap
 }
 
 // Fills the lent heap from a page that was accepted, and answers its header.
-fn load(s: &[u8], x: Sections, narrow: &mut [u32], wide: &mut [u64], pool: &mut [u8]) -> Heap
-    requires sectioned { Sectioned s.now x }
-    requires roomy { Roomy (length narrow.old) (length wide.old) (length pool.old) x.retiring (heap_in s.now) }
+fn load(page: Page, narrow: &mut [u32], wide: &mut [u64], pool: &mut [u8]) -> Heap
+    requires { Roomy (length narrow.old) (length wide.old) (length pool.old) page.sections.retiring (heap_in page.text.now) }
     ensures { lent result narrow.new wide.new pool.new
-        ≡ stored (length narrow.old / 6) (length pool.old) (brought_in s.now) }
+        ≡ stored (length narrow.old / 6) (length pool.old) (brought_in page.entry.text.now) }
 {
+    let Page {
+        text: s,
+        sections: x,
+    } = page;
     narrow.fill(0);
     wide.fill(0);
     pool.fill(0);
     fill_slots(s, x.slots_at, x.slots, narrow, wide);
     fill_data(s, x.slots_at, x.slots, x.planar, pool);
     let c = part_free(s, x.free_at, x.free, narrow);
-    let free = c.free;
-    let moved = c.retired;
-    fill_lists(s, x, narrow, wide);
-    header(s, x, free, moved)
+    fill_lists(page, narrow, wide);
+    header(page, c.free, c.retired)
 }
 
 // How many bits a write count has, under the name that was met.
@@ -258,10 +248,10 @@ pub fn read(
 {
     let sizes = heap::sizes_fit(narrow.len(), wide.len(), pool.len());
     match page_check::check_page(s, sizes, narrow.len() / 6, pool.len(), work) {
-        Ok(x) => {
-            let loaded = load(s, x, narrow, wide, pool);
-            let bits = bits_met(x.wide);
-            let names = names_met(x.retiring, x.planar);
+        Ok(page) => {
+            let loaded = load(page, narrow, wide, pool);
+            let bits = bits_met(page.sections.wide);
+            let names = names_met(page.sections.retiring, page.sections.planar);
             Changed {
                 heap: loaded,
                 reply: Ok((bits, names)),

@@ -8,4 +8,4 @@ pub overflow_add-result : goal.overflow_add-result
 overflow_add-result c = search sum_fits
 
 pub returns : goal.returns
-returns c = header_is _ _ c.requires.sectioned _ _ c.requires.free_value c.requires.s_value
+returns c = header_is _ _ c.args.page.sectioned _ _ c.requires.free_value c.requires.s_value
