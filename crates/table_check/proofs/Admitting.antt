@@ -14,7 +14,7 @@ use Rattle.tables.specs.Lists.{good}
 use Rattle.table_check.specs.Verdict.{verdict}
 use Rattle.table_check.specs.Inner.Parsing.{table_of, Sectioned}
 use Rattle.table_check.specs.Inner.Admitting.{Admitted}
-use Rattle.table_check.specs.declared.Sections.{Sections}
+use Rattle.table_check.specs.declared.found.Sections.{Sections}
 use Rattle.std.specs.Prelude.{Ok, Err}
 
 pub admitted-17 : {s : List ℕ} → read_table s ≡ none → Admitted s (Err Page)

@@ -26,7 +26,7 @@ use Rattle.table_check.specs.Inner.Found.{Listed, SectionFound}
 use Rattle.table_check.specs.Inner.Edges.{counts_of, CountsFound, BytesFound}
 use Rattle.table_check.specs.Inner.Parsing.{table_of, RowsStand, SectionedAs, Sectioned, HoldingAs, Holding, ParsedAs}
 use Rattle.table_check.specs.declared.CountsRead.{CountsRead}
-use Rattle.table_check.specs.declared.Sections.{Sections}
+use Rattle.table_check.specs.declared.found.Sections.{Sections}
 
 section-reads : {names : List ℕ} {k most : ℕ} {s : List ℕ} {at count : ℕ} {before after : List ℕ} {to b size next : ℕ} (f : SectionFound names k most s at count before after to b size next) →
     (rows_format names count k most).read (drop at s) ≡ give f.rows.values (drop next s)
@@ -74,12 +74,12 @@ module _ (s : List ℕ) where
           table-lost-5 x = ⊎_elim bytes-lost (λ y. bytes_left y.0 y.1 y.2 y.3) x
 
           -- FOUND
-          module _ {k size : ℕ} (y : BytesFound s i k size) where
+          module _ {k size : ℕ} (y : BytesFound s i k size) (few : (n.types ≤ 4096) × (n.fields ≤ 16384) × (n.consts ≤ 4096)) where
             abbrev found : Named
             found = record { types = t.rows.values; fields = u.rows.values; constants = v.rows.values; bytes = hex_at s k }
 
             abbrev sections : Sections
-            sections = record { types = n.types; fields = n.fields; consts = n.consts; types_at = b; fields_at = e; consts_at = g; bytes_at = k; bytes = size; type_names = size1; field_names = size2; const_names = size3 }
+            sections = record { types = n.types; fields = n.fields; consts = n.consts; types_at = b; fields_at = e; consts_at = g; bytes_at = k; bytes = size; type_names = size1; field_names = size2; const_names = size3; few = few }
 
             reads-table : read_table s ≡ some found
             unfolding read_table table_format pair

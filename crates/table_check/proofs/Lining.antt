@@ -1,5 +1,5 @@
 -- Lines of a table, read number by number and name by name. Assumes nothing.
-use Prim.Native.Nat.{ℕ, zero, suc, ◌+◌, ◌-◌, ◌*◌, ◌≤◌, ◌<◌}
+use Prim.Native.Nat.{ℕ, zero, suc, ◌+◌, ◌-◌, ◌*◌, ◌^◌, ◌≤◌, ◌<◌}
 use mathlib.Core.List.{List, [], ◌∷◌, ◌++◌, append_assoc, append-nil, flat_map}
 use mathlib.Core.Option as maybe
 use mathlib.Core.Option.{none, some}
@@ -7,6 +7,7 @@ use mathlib.Core.Path.{◌≡◌, refl, sym, ap, ◌∙◌, subst}
 use lib.ListN.{length, take, drop, get_or, set, length-append, length-drop, length-set}
 use lib.Seq.{drop-cons}
 use native.Mathlib.Omega.{arith}
+use Rattle.std.proofs.lemmas.Nat.{pow_pos}
 use native.Mathlib.Numerals.{add-one}
 use native.Mathlib.Nat.{mul-le-mul_left, mul-suc}
 use Rattle.word.proofs.PutLaws.{put_whole}
@@ -41,6 +42,12 @@ number-found s most at n k e f =
     let x = answer-some s (read_field most 44 (drop at s)) n k e f in
     let b = (num most).back (drop at s) n x.0 x.1 in
     (x.1 ∙ ap (give n) (suffix ((up_to most 44).print n) x.0 s at b.1 ∙ ap (λ (m : ℕ). drop m s) (sym x.2)), omega (arith, x.2))
+
+pub numbering-fits : (s : List ℕ) (at width n k : ℕ) {r : Option (ℕ × ℕ)} → r ≡ Some (n, k) → r ≡ value_answer (length s) (read_field (2 ^ width - 1) 44 (drop at s)) → n < 2 ^ width
+unfolding up_to
+numbering-fits s at width n k f e =
+    let b : n ≤ 2 ^ width - 1 = ((num (2 ^ width - 1)).back (drop at s) n (drop k s) (number-found s (2 ^ width - 1) at n k e f).0).0 in
+    omega (arith, b, pow_pos width)
 
 -- NUMBERS
 
@@ -207,50 +214,6 @@ module _ (k most : ℕ) (s : List ℕ) (at count : ℕ) (out₀ : List ℕ) (to 
   lining-end h =
       let d = gather-done (row_format k most).read s at count p i g.gathered h in
       rows-there (record { values = d.values; reads = d.reads; inside = d.inside; long = d.long; holds = (d.holds.0.out, d.holds.1) })
-
--- TWO NUMBERS IN A ROW OF TWO
-
-two-elements : (ns : List ℕ) → length ns ≡ 2 → ns ≡ get_or ns 0 0 ∷ get_or ns 1 0 ∷ []
-two-elements [] e = absurd (omega arith)
-two-elements (x ∷ []) e = absurd (omega arith)
-two-elements (x ∷ y ∷ []) e = refl
-two-elements (x ∷ y ∷ z ∷ l) e = absurd (omega arith)
-
-two-within : (most : ℕ) (ns : List ℕ) → length ns ≡ 2 → All (λ n. n ≤ most) ns → (get_or ns 0 0 ≤ most) × (get_or ns 1 0 ≤ most)
-two-within most [] e a = absurd (omega arith)
-two-within most (x ∷ []) e a = absurd (omega arith)
-two-within most (x ∷ y ∷ l) e a = (a.0, a.1.0)
-
-module _ (row row' ns : List ℕ) (most : ℕ) (h : length row ≡ 2) (e : row' ≡ put_text row 0 ns) (w : All (λ n. n ≤ most) ns × (length ns ≡ 2)) where
-  row_is : row' ≡ ns
-  row_is = e ∙ put_whole row ns (length ns) (h ∙ sym w.1) refl
-
-  pub row_first : get_or row' 0 0 ≤ most
-  row_first = omega (arith, ap (λ (l : List ℕ). get_or l 0 0) row_is, (two-within most ns w.1 w.0).0)
-
-  pub row-second : get_or row' 1 0 ≤ most
-  row-second = omega (arith, ap (λ (l : List ℕ). get_or l 1 0) row_is, (two-within most ns w.1 w.0).1)
-
-  row-both : get_or row' 0 0 ∷ get_or row' 1 0 ∷ [] ≡ ns
-  row-both = ap (λ (l : List ℕ). get_or l 0 0 ∷ get_or l 1 0 ∷ []) row_is ∙ sym (two-elements ns w.1)
-
-two-sets : (out : List ℕ) (j x y : ℕ) → j + 2 ≤ length out → set (set out j x) (j + 1) y ≡ put_text out j (x ∷ y ∷ [])
-two-sets out j x y h =
-    (puts-puts (puts-byte out j x (omega arith)) (puts-byte (set out j x) (j + 1) y (rw (length-set out j x) (omega arith))) (omega arith)).out
-
-two-length : (out : List ℕ) (j x y : ℕ) → length (set (set out j x) (j + 1) y) ≡ length out
-two-length out j x y = length-set (set out j x) (j + 1) y ∙ length-set out j x
-
--- a line of two numbers, put one by one
-module _ (most : ℕ) (s : List ℕ) (at count : ℕ) (out₀ : List ℕ) (to : ℕ) (out : List ℕ) (p size j i : ℕ) (g : Lining 2 most s at count out₀ to out p size j i) where
-  pub lining-two : i < count → (a next : ℕ) (ns : List ℕ) → read_all (read_field most 44) 2 (drop p s) ≡ give ns (drop a s) → a ≤ length s → NameFound s a next →
-      (row row' : List ℕ) → length row ≡ 2 → row' ≡ put_text row 0 ns →
-      Lining 2 most s at count out₀ to (set (set out j (get_or row' 0 0)) (j + 1) (get_or row' 1 0)) next (size + (next - a)) (j + 2) (i + 1)
-  lining-two h a next ns e l n row row' hr er =
-      let w = numbers-within 2 most (drop p s) ns (drop a s) e in
-      lining-next 2 most s at count out₀ to out p size j i g h a next ns e l n (set (set out j (get_or row' 0 0)) (j + 1) (get_or row' 1 0))
-      (two-sets out j (get_or row' 0 0) (get_or row' 1 0) (lining-room 2 most s at count out₀ to out p size j i g h) ∙ ap (put_text out j) (row-both row row' ns most hr er w))
-      (two-length out j (get_or row' 0 0) (get_or row' 1 0))
 
 -- lines that are known to stand there were put
 pub rows-filled : (k most : ℕ) (s : List ℕ) (at count : ℕ) (before after : List ℕ) (to : ℕ) (x : Option Rows) (rows : List Row) (rest : List ℕ) → RowsGot k most s at count before after to x →

@@ -1,7 +1,7 @@
 // The first pass over a type table's text: what it is refused for, and where its parts stand.
 #![tactic(auto)]
 
-ghost use Rattle.std.specs.Prelude.{◌≡◌, List, [], ◌∷◌, ◌++◌, ℕ, ◌+◌, ◌-◌, ◌*◌, ◌/◌, ◌≤◌, ◌<◌, length, take, drop, replicate};
+ghost use Rattle.std.specs.Prelude.{◌≡◌, List, [], ◌∷◌, ◌++◌, ℕ, ◌+◌, ◌-◌, ◌*◌, ◌/◌, ◌^◌, ◌≤◌, ◌<◌, length, take, drop, replicate};
 ghost use Rattle.text.specs.Text.{read_field};
 ghost use Rattle.text.specs.Put.{put_text};
 ghost use Rattle.tables.specs.Answer.{Got};
@@ -11,25 +11,29 @@ ghost use Rattle.table_check.specs.Inner.Edges.{CountsGot, BytesGot};
 ghost use Rattle.table_check.specs.Inner.Parsing.{table_of, Sectioned, Holding, ParsedAs};
 ghost use Rattle.table_check.specs.Inner.Admitting.{Admitted};
 
+pub mod found;
+
+use found::Sections;
+use pages::Listed;
 use refusal::Refusal;
 use ty::Table;
 
 // Reads k numbers, each with a comma after it, from `at` on into a list from `to` on.
-pub fn get_numbers(
+pub fn get_numbers<T: Listed>(
     s: &[u8],
     at: usize,
     k: usize,
-    most: u64,
-    out: &mut [u64],
+    out: &mut [T],
     to: usize,
 ) -> Option<usize>
     requires { (at ≤ length s.now) × (to + k ≤ length out.old) }
-    ensures { Got (read_field most 44) s.now at k (λ ns. out.new ≡ put_text out.old to ns) result }
+    ensures { Got (read_field (2 ^ T.width - 1) 44) s.now at k (λ ns. T.numbers out.new ≡ put_text (T.numbers out.old) to ns) result }
 {
+    let most = T::most();
     let mut p = at;
     for i in 0..k {
         let (v, next) = text::get_field(s, p, most, b',')?;
-        out[to + i] = v;
+        out[to + i] = T::of(v);
         p = next;
     }
     Some(p)
@@ -43,51 +47,26 @@ pub struct Rows {
 }
 
 // Reads `count` lines of k numbers and a name from `at` on, the numbers into a list from `to` on.
-pub fn get_rows(
+pub fn get_rows<T: Listed>(
     s: &[u8],
     at: usize,
     count: usize,
     k: usize,
-    most: u64,
-    out: &mut [u64],
+    out: &mut [T],
     to: usize,
 ) -> Option<Rows>
     requires { (at ≤ length s.now) × (to + k * count ≤ length out.old) }
-    ensures { RowsGot k most s.now at count out.old out.new to result }
+    ensures { RowsGot k (2 ^ T.width - 1) s.now at count (T.numbers out.old) (T.numbers out.new) to result }
 {
     let mut p = at;
     let mut size = 0;
     let mut j = to;
     for i in 0..count {
-        let a = get_numbers(s, p, k, most, out, j)?;
+        let a = get_numbers(s, p, k, out, j)?;
         let next = tables::get_name(s, a)?;
         size += next - a;
         p = next;
         j += k;
-    }
-    Some(Rows {
-        names: size,
-        next: p,
-    })
-}
-
-// The same for fields, of two numbers of 32 bits each.
-pub fn get_fields(s: &[u8], at: usize, count: usize, out: &mut [u32]) -> Option<Rows>
-    requires { (at ≤ length s.now) × (2 * count ≤ length out.old) }
-    ensures { RowsGot 2 4294967295 s.now at count out.old out.new 0 result }
-{
-    let mut row = [0u64; 2];
-    let mut p = at;
-    let mut size = 0;
-    let mut j = 0;
-    for i in 0..count {
-        let a = get_numbers(s, p, 2, 4294967295, &mut row, 0)?;
-        let next = tables::get_name(s, a)?;
-        out[j] = row[0] as u32;
-        out[j + 1] = row[1] as u32;
-        size += next - a;
-        p = next;
-        j += 2;
     }
     Some(Rows {
         names: size,
@@ -104,41 +83,20 @@ pub struct Section {
 }
 
 // Reads a names line, then `count` lines of k numbers and a name, the numbers into a list from `to` on.
-fn rows_section(
+fn rows_section<T: Listed>(
     s: &[u8],
     at: usize,
     names: &[u8],
     count: usize,
     k: usize,
-    most: u64,
-    out: &mut [u64],
+    out: &mut [T],
     to: usize,
 ) -> Option<Section>
     requires { (at ≤ length s.now) × (to + k * count ≤ length out.old) }
-    ensures { SectionGot names.now k most s.now at count out.old out.new to result }
+    ensures { SectionGot names.now k (2 ^ T.width - 1) s.now at count (T.numbers out.old) (T.numbers out.new) to result }
 {
     let begin = text::expect(s, at, names)?;
-    let rows = get_rows(s, begin, count, k, most, out, to)?;
-    Some(Section {
-        begin,
-        names: rows.names,
-        next: rows.next,
-    })
-}
-
-// The same for fields.
-fn fields_section(
-    s: &[u8],
-    at: usize,
-    names: &[u8],
-    count: usize,
-    out: &mut [u32],
-) -> Option<Section>
-    requires { (at ≤ length s.now) × (2 * count ≤ length out.old) }
-    ensures { SectionGot names.now 2 4294967295 s.now at count out.old out.new 0 result }
-{
-    let begin = text::expect(s, at, names)?;
-    let rows = get_fields(s, begin, count, out)?;
+    let rows = get_rows(s, begin, count, k, out, to)?;
     Some(Section {
         begin,
         names: rows.names,
@@ -191,46 +149,20 @@ fn bytes_section(s: &[u8], at: usize) -> Option<BytesRead>
     Some(BytesRead { begin, count })
 }
 
-// What the first pass finds in a table's text: the counts, where the lines and the bytes begin, how many bytes there are and how many the names take.
-#[derive(Clone, Copy)]
-pub struct Sections {
-    pub types: usize,
-    pub fields: usize,
-    pub consts: usize,
-    pub types_at: usize,
-    pub fields_at: usize,
-    pub consts_at: usize,
-    pub bytes_at: usize,
-    pub bytes: usize,
-    pub type_names: usize,
-    pub field_names: usize,
-    pub const_names: usize,
-}
-
 // Is a text a table's? Its numbers go into scratch: those of types and, from 16,384 on, of constants into `words`, those of fields into `halves`.
 fn parse(s: &[u8], words: &mut [u64], halves: &mut [u32]) -> Option<Sections>
     requires { (28672 ≤ length words.old) × (32768 ≤ length halves.old) }
     ensures { ParsedAs s.now words.old words.new halves.old halves.new result }
 {
     let n = get_counts(s)?;
-    let types = rows_section(
-        s,
-        n.next,
-        b"class,a,b,c,name\n",
-        n.types,
-        4,
-        18446744073709551615,
-        words,
-        0,
-    )?;
-    let fields = fields_section(s, types.next, b"type,constant,name\n", n.fields, halves)?;
+    let types = rows_section(s, n.next, b"class,a,b,c,name\n", n.types, 4, words, 0)?;
+    let fields = rows_section(s, types.next, b"type,constant,name\n", n.fields, 2, halves, 0)?;
     let consts = rows_section(
         s,
         fields.next,
         b"plain,start,length,name\n",
         n.consts,
         3,
-        18446744073709551615,
         words,
         16384,
     )?;

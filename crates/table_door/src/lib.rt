@@ -8,6 +8,7 @@ ghost use Rattle.table_reader.specs.Reading.{lists, outcome, reading};
 
 use refusal::Answer;
 use table_reader::TableRead;
+use ty::Table;
 
 // Writes a type table and its names as text to `out`: 17, 10, 7. The answer is the text's length. `names` has a line of plain text for each type, then for each
 // field, then for each constant.
@@ -24,7 +25,13 @@ pub fn yexwalu_write_table(
     ensures out_after { out.new
         ≡ leaving (table_in types.now fields.now consts.now bytes.now names.now) out.old }
 {
-    Answer::from(table_writer::write(types, fields, consts, bytes, names, out))
+    let table = Table {
+        types,
+        fields,
+        consts,
+        bytes,
+    };
+    Answer::from(table_writer::write(&table, names, out))
 }
 
 // Reads the text of a type table into the fronts of lent lists: 18, 17, 10, 7. The answer says how much of each list the table takes; past that, and after a refusal, the lists are

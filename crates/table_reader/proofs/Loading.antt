@@ -12,18 +12,17 @@ use Rattle.tables.specs.Table.{Row, most64, most32}
 use Rattle.tables.specs.Lists.{names_in, all_names}
 use Rattle.table_reader.specs.Inner.Ready.{rows_at, NamesReady}
 use Rattle.table_check.specs.Inner.Parsing.{table_of, RowsStand, Sectioned}
-use Rattle.table_check.specs.declared.Sections.{Sections}
+use Rattle.table_check.specs.declared.found.Sections.{Sections}
 use Rattle.table_reader.proofs.Naming.{rows_are}
 
 -- lines that stand there have names that can be put
-pub names-ready : (k most : ℕ) (s : List ℕ) (at count : ℕ) (rows : List Row) (to room : ℕ) → RowsStand k most s at count rows → k ≤ 4 → to + length (names_in rows) ≤ room → NamesReady k most s at count to room
-names-ready k most s at count rows to room st h l =
+pub names-ready : (k most : ℕ) (s : List ℕ) (at count : ℕ) (rows : List Row) (to room : ℕ) → RowsStand k most s at count rows → to + length (names_in rows) ≤ room → NamesReady k most s at count to room
+names-ready k most s at count rows to room st l =
     let is : rows_at k most s at count ≡ rows = rows_are k most s at count rows st.rest st.reads in
     record {
       rest = st.rest;
       reads = st.reads ∙ ap (λ (r : List Row). give r st.rest) (sym is);
       inside = st.inside;
-      few = h;
       fits = omega (arith, ap (λ (r : List Row). length (names_in r)) is);
     }
 

@@ -22,7 +22,7 @@ use Rattle.table_check.specs.Inner.Parsing.{table_of, Sectioned}
 use Rattle.table_reader.specs.Reading.{fits, enough, roomy, table_read, scratch_left, table_told, lists, lists_left, outcome, reading}
 use Rattle.table_check.specs.Inner.Admitting.{Admitted}
 use Rattle.table_reader.specs.Inner.Testing.{room_for, told_of, Tested}
-use Rattle.table_check.specs.declared.Sections.{Sections}
+use Rattle.table_check.specs.declared.found.Sections.{Sections}
 use Rattle.std.specs.Prelude as code
 use Rattle.std.specs.Prelude.{Ok, Err}
 use Rattle.table_reader.specs.declared.TableRead.{TableRead}
@@ -130,9 +130,6 @@ module _ (s : List ℕ) (t f c b n : ℕ) (words halves : List ℕ) where
       }
 
       module _ {x : Sections} (e : r ≡ Ok x) where
-        pub tested-small : (x.types ≤ 4096) × (x.fields ≤ 16384) × (x.consts ≤ 4096)
-        tested-small = let p = (a.table x e).0 in (p.types_most, p.fields_most, p.consts_most)
-
         by-room : (y : Bool) → room_for x t f c b n ≡ y → {r' : code.Result Sections Refusal} → r' ≡ (if y then Ok x else Err ShortList) → Tested s t f c b n words halves words' halves' r'
         unfolding table_read roomy
         by-room true o q =

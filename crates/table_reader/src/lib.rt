@@ -3,7 +3,9 @@
 
 ghost use Rattle.std.specs.Prelude.{◌≡◌, List, [], ◌∷◌, ◌++◌, ℕ, ◌+◌, ◌-◌, ◌*◌, ◌/◌, ◌≤◌, ◌<◌, length, take, drop, if◌then◌else◌};
 ghost use Rattle.refusal.specs.declared.Refusal.TheVariants.{ShortList};
+ghost use Rattle.text.specs.Text.{read_field};
 ghost use Rattle.text.specs.Put.{put_text};
+ghost use Rattle.tables.specs.Answer.{Got};
 ghost use Rattle.tables.specs.Lists.{numbers_in, names_in, all_names};
 ghost use Rattle.table_check.specs.Inner.Parsing.{table_of, Sectioned};
 ghost use Rattle.table_reader.specs.Inner.Ready.{rows_at, NamesReady};
@@ -11,18 +13,29 @@ ghost use Rattle.table_reader.specs.Inner.Testing.{room_for, Tested, told_of};
 ghost use Rattle.table_reader.specs.Reading.{lists, outcome, reading};
 
 use refusal::{Answer, Refusal};
-use table_check::Sections;
+use table_check::found::Sections;
+
+// Where k numbers end, each with a comma after it, from `at` on.
+fn skip_numbers(s: &[u8], at: usize, k: usize, most: u64) -> Option<usize>
+    requires { at ≤ length s.now }
+    ensures { Got (read_field most 44) s.now at k (λ _. Unit) result }
+{
+    let mut p = at;
+    for _ in 0..k {
+        (_, p) = text::get_field(s, p, most, b',')?;
+    }
+    Some(p)
+}
 
 // Puts the names of `count` lines that stand from `at` on into a list from `to` on.
 fn fill_names(s: &[u8], at: usize, count: usize, k: usize, most: u64, names: &mut [u8], to: usize)
     requires { NamesReady k most s.now at count to (length names.old) }
     ensures { names.new ≡ put_text names.old to (names_in (rows_at k most s.now at count)) }
 {
-    let mut row = [0u64; 4];
     let mut p = at;
     let mut o = to;
     for i in 0..count {
-        let Some(a) = table_check::get_numbers(s, p, k, most, &mut row, 0) else {
+        let Some(a) = skip_numbers(s, p, k, most) else {
             return;
         };
         let Some(next) = tables::get_name(s, a) else {
@@ -33,49 +46,41 @@ fn fill_names(s: &[u8], at: usize, count: usize, k: usize, most: u64, names: &mu
     }
 }
 
-// Is there room for a table that was found in lists of these lengths?
-fn room(x: Sections, types: usize, fields: usize, consts: usize, bytes: usize, names: usize) -> bool
-    requires { (x.types ≤ 4096) × (x.fields ≤ 16384) × (x.consts ≤ 4096) }
-    ensures { result ≡ room_for x types fields consts bytes names }
-{
-    let numbers = 4 * x.types <= types && 2 * x.fields <= fields && 3 * x.consts <= consts;
-    numbers
-        && x.bytes <= bytes
-        && x.type_names <= names
-        && x.field_names <= names - x.type_names
-        && x.const_names <= names - x.type_names - x.field_names
-}
-
-// A table that was found, if there is room for it: 7.
-fn fitted(
-    x: Sections,
+// How much of each list there is for a table.
+#[derive(Clone, Copy)]
+struct Room {
     types: usize,
     fields: usize,
     consts: usize,
     bytes: usize,
     names: usize,
-) -> Result<Sections, Refusal>
-    requires { (x.types ≤ 4096) × (x.fields ≤ 16384) × (x.consts ≤ 4096) }
-    ensures { result ≡ (if room_for x types fields consts bytes names then Ok x else Err ShortList) }
+}
+
+// Is there room for a table that was found?
+fn fits(x: Sections, room: Room) -> bool
+    ensures { result ≡ room_for x room.types room.fields room.consts room.bytes room.names }
 {
-    if room(x, types, fields, consts, bytes, names) {
+    let numbers = 4 * x.types <= room.types && 2 * x.fields <= room.fields && 3 * x.consts <= room.consts;
+    numbers
+        && x.bytes <= room.bytes
+        && x.type_names <= room.names
+        && x.field_names <= room.names - x.type_names
+        && x.const_names <= room.names - x.type_names - x.field_names
+}
+
+// A table that was found, if there is room for it: 7.
+fn fitted(x: Sections, room: Room) -> Result<Sections, Refusal>
+    ensures { result ≡ (if room_for x room.types room.fields room.consts room.bytes room.names then Ok x else Err ShortList) }
+{
+    if fits(x, room) {
         return Ok(x);
     }
     Err(Refusal::ShortList)
 }
 
-// All tests in front, for lists of these lengths: 18, 17, 10, 7. Scratch is zero afterwards, but after 18 as it was.
-fn tested(
-    s: &[u8],
-    types: usize,
-    fields: usize,
-    consts: usize,
-    bytes: usize,
-    names: usize,
-    words: &mut [u64],
-    halves: &mut [u32],
-) -> Result<Sections, Refusal>
-    ensures { Tested s.now types fields consts bytes names words.old halves.old words.new halves.new result }
+// All tests in front: 18, 17, 10, 7. Scratch is zero afterwards, but after 18 as it was.
+fn tested(s: &[u8], room: Room, words: &mut [u64], halves: &mut [u32]) -> Result<Sections, Refusal>
+    ensures { Tested s.now room.types room.fields room.consts room.bytes room.names words.old halves.old words.new halves.new result }
 {
     if words.len() < 28672 {
         return Err(Refusal::Scratch);
@@ -84,7 +89,7 @@ fn tested(
         return Err(Refusal::Scratch);
     }
     let x = table_check::check(s, words, halves)?;
-    fitted(x, types, fields, consts, bytes, names)
+    fitted(x, room)
 }
 
 // Puts the numbers of a table that was found into lists.
@@ -95,9 +100,9 @@ fn load_numbers(s: &[u8], x: Sections, types: &mut [u64], fields: &mut [u32], co
     ensures fields_after { fields.new ≡ put_text fields.old 0 (numbers_in (table_of s.now).fields) }
     ensures consts_after { consts.new ≡ put_text consts.old 0 (numbers_in (table_of s.now).constants) }
 {
-    table_check::get_rows(s, x.types_at, x.types, 4, 18446744073709551615, types, 0);
-    table_check::get_fields(s, x.fields_at, x.fields, fields);
-    table_check::get_rows(s, x.consts_at, x.consts, 3, 18446744073709551615, consts, 0);
+    table_check::get_rows(s, x.types_at, x.types, 4, types, 0);
+    table_check::get_rows(s, x.fields_at, x.fields, 2, fields, 0);
+    table_check::get_rows(s, x.consts_at, x.consts, 3, consts, 0);
 }
 
 // Puts its names into a list, and answers how many bytes they take.
@@ -129,8 +134,7 @@ pub struct TableRead {
 }
 
 fn told_of(x: Sections, names: usize) -> TableRead
-    requires types_bound { (x.types ≤ 4096) × (x.fields ≤ 16384) × (x.consts ≤ 4096) }
-    requires names_value { names ≡ x.type_names + (x.field_names + x.const_names) }
+    requires { names ≡ x.type_names + (x.field_names + x.const_names) }
     ensures { result ≡ told_of x }
 {
     TableRead {
@@ -157,17 +161,14 @@ pub fn read(
     ensures { outcome result (lists types.new fields.new consts.new bytes.new names.new) words.new halves.new
         ≡ reading (lists types.old fields.old consts.old bytes.old names.old) s.now words.old halves.old }
 {
-    let found = tested(
-        s,
-        types.len(),
-        fields.len(),
-        consts.len(),
-        bytes.len(),
-        names.len(),
-        words,
-        halves,
-    );
-    match found {
+    let room = Room {
+        types: types.len(),
+        fields: fields.len(),
+        consts: consts.len(),
+        bytes: bytes.len(),
+        names: names.len(),
+    };
+    match tested(s, room, words, halves) {
         Ok(x) => {
             load_numbers(s, x, types, fields, consts);
             text::copy_hex(s, x.bytes_at, x.bytes, bytes, 0);

@@ -100,12 +100,3 @@ module _ (k : ℕ) (list names : List ℕ) (from count : ℕ) (out₀ : List ℕ
           gather-next read_name names from count f i p.gathered (λ ns. Puts out₀ out₂ at b (flat_map row_line (rows_of k list ns))) n.name next h n.reads n.inside
           (puts-at (puts-puts p.gathered.holds (puts-puts q r (omega (arith, rows-put-fits))) (omega (arith, p.ready.fits))) refl (sym more));
     }
-
--- two numbers of a list
-pub two-of : (list : List ℕ) (j : ℕ) → j + 2 ≤ length list → take (j + 2 - j) (drop j list) ≡ get_or list j 0 ∷ get_or list (j + 1) 0 ∷ []
-two-of list j h =
-    ap (λ (m : ℕ). take m (drop j list)) (let v : j + 2 - j ≡ 2 = omega arith in v)
-    ∙ ap (take 2) (drop-cons list j 0 (omega arith) ∙ ap (λ (t : List ℕ). get_or list j 0 ∷ t) (ap (λ (m : ℕ). drop m list) (sym (add-one j)) ∙ drop-cons list (j + 1) 0 (omega arith)))
-
-pub two-as : (list : List ℕ) (j x y : ℕ) → j + 2 ≤ length list → x ≡ get_or list j 0 → y ≡ get_or list (j + 1) 0 → x ∷ y ∷ [] ≡ take (j + 2 - j) (drop j list)
-two-as list j x y h e f = (λ i. e i ∷ f i ∷ []) ∙ sym (two-of list j h)

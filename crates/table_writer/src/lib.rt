@@ -39,29 +39,29 @@ fn put_number(out: &mut [u8], at: usize, n: u64) -> usize
 }
 
 // Puts numbers, each with a comma after it, from `at` on.
-fn put_numbers(out: &mut [u8], at: usize, list: &[u64]) -> usize
-    requires { at + length (flat_map field list.now) ≤ length out.old }
-    ensures { Puts out.old out.new at result (flat_map field list.now) }
+fn put_numbers<T: Listed>(out: &mut [u8], at: usize, list: &[T]) -> usize
+    requires { at + length (flat_map field (T.numbers list.now)) ≤ length out.old }
+    ensures { Puts out.old out.new at result (flat_map field (T.numbers list.now)) }
 {
     let mut k = at;
     for i in 0..list.len() {
-        k = put_number(out, k, list[i]);
+        k = put_number(out, k, list[i].number());
     }
     k
 }
 
 // Puts `count` lines from `at` on: of each k numbers of a list, and a name that stands in `names` from `from` on.
-fn put_rows(
+fn put_rows<T: Listed>(
     out: &mut [u8],
     at: usize,
-    list: &[u64],
+    list: &[T],
     k: usize,
     names: &[u8],
     from: usize,
     count: usize,
 ) -> usize
-    requires { RowsReady k list.now names.now from count at (length out.old) }
-    ensures { Puts out.old out.new at result (flat_map row_line (rows_of k list.now (names_at names.now from count))) }
+    requires { RowsReady k (T.numbers list.now) names.now from count at (length out.old) }
+    ensures { Puts out.old out.new at result (flat_map row_line (rows_of k (T.numbers list.now) (names_at names.now from count))) }
 {
     let mut o = at;
     let mut f = from;
@@ -75,34 +75,6 @@ fn put_rows(
         o = text::put_literal(out, a, &names[f..next]);
         f = next;
         j = e;
-    }
-    o
-}
-
-// The same for fields, of two numbers each.
-fn put_fields(
-    out: &mut [u8],
-    at: usize,
-    list: &[u32],
-    names: &[u8],
-    from: usize,
-    count: usize,
-) -> usize
-    requires { RowsReady 2 list.now names.now from count at (length out.old) }
-    ensures { Puts out.old out.new at result (flat_map row_line (rows_of 2 list.now (names_at names.now from count))) }
-{
-    let mut o = at;
-    let mut f = from;
-    let mut j = 0;
-    for i in 0..count {
-        let Some(next) = tables::get_name(names, f) else {
-            return o;
-        };
-        let row = [u64::from(list[j]), u64::from(list[j + 1])];
-        let a = put_numbers(out, o, &row);
-        o = text::put_literal(out, a, &names[f..next]);
-        f = next;
-        j = j + 2;
     }
     o
 }
@@ -141,10 +113,16 @@ fn counts_len(t: usize, f: usize, c: usize) -> usize
 }
 
 // How long a table's text is without the names and the constants' bytes.
-fn rest_len(types: &[u64], fields: &[u32], consts: &[u64]) -> usize
-    requires { (length types.now ≤ 32768) × (length fields.now ≤ 32768) × (length consts.now ≤ 32768) }
-    ensures { result ≡ rest_length types.now fields.now consts.now }
+fn rest_len(table: &Table) -> usize
+    requires { (length table.now.types.now ≤ 32768) × (length table.now.fields.now ≤ 32768) × (length table.now.consts.now ≤ 32768) }
+    ensures { result ≡ rest_length table.now.types.now table.now.fields.now table.now.consts.now }
 {
+    let Table {
+        types,
+        fields,
+        consts,
+        bytes: _,
+    } = *table;
     let x = counts_len(types.len() / 4, fields.len() / 2, consts.len() / 3);
     let t = numbers_len(types);
     let f = numbers_len(fields);
@@ -183,21 +161,22 @@ fn put_bytes(out: &mut [u8], at: usize, bytes: &[u8]) -> usize
     q + 1
 }
 
-// Writes a table's text, whose names of fields begin at `a` and of constants at `b`, to `out`, and answers its length.
-fn put_table(
-    types: &[u64],
-    fields: &[u32],
-    consts: &[u64],
-    bytes: &[u8],
-    names: &[u8],
-    a: usize,
-    b: usize,
-    out: &mut [u8],
-) -> usize
-    requires { Ready types.now fields.now consts.now bytes.now names.now a b (length out.old) }
+// Writes a table's text to `out`, and answers its length.
+fn put_table(table: &Table, names: &[u8], begin: NamesRead, out: &mut [u8]) -> usize
+    requires { Ready table.now.types.now table.now.fields.now table.now.consts.now table.now.bytes.now names.now begin.fields_at begin.consts_at (length out.old) }
     ensures { Puts out.old out.new 0 result
-        (table_text (named types.now fields.now consts.now bytes.now names.now a b)) }
+        (table_text (named table.now.types.now table.now.fields.now table.now.consts.now table.now.bytes.now names.now begin.fields_at begin.consts_at)) }
 {
+    let Table {
+        types,
+        fields,
+        consts,
+        bytes,
+    } = *table;
+    let NamesRead {
+        fields_at: a,
+        consts_at: b,
+    } = begin;
     let t = types.len() / 4;
     let f = fields.len() / 2;
     let c = consts.len() / 3;
@@ -205,50 +184,30 @@ fn put_table(
     let q = text::put_literal(out, p, b"class,a,b,c,name\n");
     let u = put_rows(out, q, types, 4, names, 0, t);
     let v = text::put_literal(out, u, b"type,constant,name\n");
-    let x = put_fields(out, v, fields, names, a, f);
+    let x = put_rows(out, v, fields, 2, names, a, f);
     let y = text::put_literal(out, x, b"plain,start,length,name\n");
     let z = put_rows(out, y, consts, 3, names, b, c);
     put_bytes(out, z, bytes)
 }
 
 // Writes a type table and its names as text to `out`, and answers the text's length, or why it is refused.
-pub fn write(
-    types: &[u64],
-    fields: &[u32],
-    consts: &[u64],
-    bytes: &[u8],
-    names: &[u8],
-    out: &mut [u8],
-) -> Reply
-    ensures { TableWritten (table_in types.now fields.now consts.now bytes.now names.now)
+pub fn write(table: &Table, names: &[u8], out: &mut [u8]) -> Reply
+    ensures { TableWritten (table_in table.now.types.now table.now.fields.now table.now.consts.now table.now.bytes.now names.now)
         out.old out.new result }
 {
-    let Some(at) = find_names(names, types.len() / 4, fields.len() / 2, consts.len() / 3) else {
+    let types = table.types.len() / 4;
+    let fields = table.fields.len() / 2;
+    let consts = table.consts.len() / 3;
+    let Some(begin) = find_names(names, types, fields, consts) else {
         return Err(Refusal::Page);
     };
-    if !(Table {
-        types,
-        fields,
-        consts,
-        bytes,
-    })
-    .check_table()
-    {
+    if !table.check_table() {
         return Err(Refusal::TypeTable);
     }
-    let rest = rest_len(types, fields, consts);
-    if !room_for(out.len(), rest, names.len(), bytes.len()) {
+    let rest = rest_len(table);
+    if !room_for(out.len(), rest, names.len(), table.bytes.len()) {
         return Err(Refusal::ShortList);
     }
-    let n = put_table(
-        types,
-        fields,
-        consts,
-        bytes,
-        names,
-        at.fields_at,
-        at.consts_at,
-        out,
-    );
+    let n = put_table(table, names, begin, out);
     Ok((n as u64, 0))
 }

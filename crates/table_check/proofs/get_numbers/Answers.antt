@@ -1,30 +1,32 @@
 use native.Mathlib.Omega.{arith}
-use Rattle.table_check.proofs.Lining.{numbering-begin, numbering-lost, numbering-next, numbering-end}
+use Prim.Native.Nat.{◌+◌}
+use mathlib.Core.Path.{sym, ◌∙◌}
+use Rattle.pages.proofs.Numbers.{numbers-length, numbers-set}
+use Rattle.table_check.proofs.Lining.{numbering-begin, numbering-lost, numbering-next, numbering-end, numbering-fits}
 use Rattle.table_check.proofs.get_numbers.Goals as goal
 
 pub loop-i-init : goal.loop-i-init
-loop-i-init c = numbering-begin _ _ _ _ _ _ c.requires.0 c.requires.1
+loop-i-init g c = numbering-begin _ _ _ _ _ _ c.requires.0 (omega (arith, c.requires.1, numbers-length g.T.Listed.number g.T.Listed.numbers g.met.T.Listed.mapped c.args.out.now))
 
 pub shape_of-out-in_err-v : goal.shape_of-out-in_err-v
-shape_of-out-in_err-v c = c.loop-i.invariant.same
+shape_of-out-in_err-v g c = sym (numbers-length g.T.Listed.number g.T.Listed.numbers g.met.T.Listed.mapped c.loop-i.out) ∙ c.loop-i.invariant.same ∙ numbers-length g.T.Listed.number g.T.Listed.numbers g.met.T.Listed.mapped c.args.out.now
 
 pub returns-in_err-v : goal.returns-in_err-v
-returns-in_err-v c = rw c.from_residual.ensures (numbering-lost _ _ _ _ _ _ _ _ _ c.loop-i.invariant _ c.loop-i-test.true c.get_field.ensures c.in_err-v.was)
+returns-in_err-v g c = rw c.from_residual.ensures (numbering-lost _ _ _ _ _ _ _ _ _ c.loop-i.invariant _ c.loop-i-test.true (rw c.most-most.ensures at c.get_field.ensures) c.in_err-v.was)
 
-pub overflow_add-out : goal.overflow_add-out
-overflow_add-out c = omega (arith, c.loop-i.invariant.room, c.loop-i.invariant.same, c.loop-i-test.true)
-
-pub offset_bounds-out-to : goal.offset_bounds-out-to
-offset_bounds-out-to c = omega (arith, c.loop-i.invariant.room, c.loop-i.invariant.same, c.loop-i-test.true)
+pub of-requires : goal.of-requires
+of-requires g c = numbering-fits c.args.s.now c.loop-i.p g.T.Listed.width c.in_ok-v.v c.in_ok-v.next c.in_ok-v.was (rw c.most-most.ensures at c.get_field.ensures)
 
 pub bounds-out-to : goal.bounds-out-to
-bounds-out-to c = omega (arith, c.loop-i.invariant.room, c.loop-i.invariant.same, c.loop-i-test.true)
+bounds-out-to g c = omega (arith, c.loop-i.invariant.room, c.loop-i.invariant.same, c.loop-i-test.true, numbers-length g.T.Listed.number g.T.Listed.numbers g.met.T.Listed.mapped c.loop-i.out)
 
 pub loop-i-preserved : goal.loop-i-preserved
-loop-i-preserved c = numbering-next _ _ _ _ _ _ _ _ _ c.loop-i.invariant _ _ c.loop-i-test.true c.get_field.ensures c.in_ok-v.was
+loop-i-preserved g c =
+    rw (numbers-set g.T.Listed.number g.T.Listed.numbers g.met.T.Listed.mapped c.loop-i.out (c.args.to + c.loop-i.i) c.of.result c.in_ok-v.v c.of.ensures)
+    (numbering-next _ _ _ _ _ _ _ _ _ c.loop-i.invariant _ _ c.loop-i-test.true (rw c.most-most.ensures at c.get_field.ensures) c.in_ok-v.was)
 
 pub shape_of-out : goal.shape_of-out
-shape_of-out c = c.loop-i.invariant.same
+shape_of-out g c = sym (numbers-length g.T.Listed.number g.T.Listed.numbers g.met.T.Listed.mapped c.loop-i.out) ∙ c.loop-i.invariant.same ∙ numbers-length g.T.Listed.number g.T.Listed.numbers g.met.T.Listed.mapped c.args.out.now
 
 pub returns : goal.returns
-returns c = numbering-end _ _ _ _ _ _ _ _ _ c.loop-i.invariant c.loop-i-test.false
+returns g c = numbering-end _ _ _ _ _ _ _ _ _ c.loop-i.invariant c.loop-i-test.false

@@ -15,30 +15,33 @@ pub returns-in_err-types : goal.returns-in_err-types
 unfolding type_names field_names constant_names ascii
 returns-in_err-types c = rw c.from_residual-in_err-types.ensures (parsed-lost (table-lost-2 c.args.s.now c.in_ok-n.n (c.get_counts.ensures.found c.in_ok-n.n c.in_ok-n.was) (c.rows_section.ensures.lost c.in_err-types.was)))
 
-pub fields_section-requires : goal.fields_section-requires
-fields_section-requires c = ((c.rows_section.ensures.found _ c.in_ok-types.was).rows.inside, omega (arith, (c.get_counts.ensures.found c.in_ok-n.n c.in_ok-n.was).fields, c.requires.1))
+pub rows_section-requires-2 : goal.rows_section-requires-2
+rows_section-requires-2 c = ((c.rows_section.ensures.found _ c.in_ok-types.was).rows.inside, omega (arith, (c.get_counts.ensures.found c.in_ok-n.n c.in_ok-n.was).fields, c.requires.1))
 
 pub returns-in_err-fields : goal.returns-in_err-fields
 unfolding type_names field_names constant_names ascii
-returns-in_err-fields c = rw c.from_residual-in_err-fields.ensures (parsed-lost (table-lost-3 c.args.s.now c.in_ok-n.n (c.get_counts.ensures.found c.in_ok-n.n c.in_ok-n.was) (c.rows_section.ensures.found _ c.in_ok-types.was) (c.fields_section.ensures.lost c.in_err-fields.was)))
+returns-in_err-fields c = rw c.from_residual-in_err-fields.ensures (parsed-lost (table-lost-3 c.args.s.now c.in_ok-n.n (c.get_counts.ensures.found c.in_ok-n.n c.in_ok-n.was) (c.rows_section.ensures.found _ c.in_ok-types.was) (c.rows_section-2.ensures.lost c.in_err-fields.was)))
 
-pub rows_section-requires-2 : goal.rows_section-requires-2
-rows_section-requires-2 c = ((c.fields_section.ensures.found _ c.in_ok-fields.was).rows.inside, omega (arith, (c.get_counts.ensures.found c.in_ok-n.n c.in_ok-n.was).consts, c.requires.0, c.rows_section.auto.out))
+pub rows_section-requires-3 : goal.rows_section-requires-3
+rows_section-requires-3 c = ((c.rows_section-2.ensures.found _ c.in_ok-fields.was).rows.inside, omega (arith, (c.get_counts.ensures.found c.in_ok-n.n c.in_ok-n.was).consts, c.requires.0, c.rows_section.auto.out))
 
 pub returns-in_err-consts : goal.returns-in_err-consts
 unfolding type_names field_names constant_names ascii
-returns-in_err-consts c = rw c.from_residual-in_err-consts.ensures (parsed-lost (table-lost-4 c.args.s.now c.in_ok-n.n (c.get_counts.ensures.found c.in_ok-n.n c.in_ok-n.was) (c.rows_section.ensures.found _ c.in_ok-types.was) (c.fields_section.ensures.found _ c.in_ok-fields.was) (c.rows_section-2.ensures.lost c.in_err-consts.was)))
+returns-in_err-consts c = rw c.from_residual-in_err-consts.ensures (parsed-lost (table-lost-4 c.args.s.now c.in_ok-n.n (c.get_counts.ensures.found c.in_ok-n.n c.in_ok-n.was) (c.rows_section.ensures.found _ c.in_ok-types.was) (c.rows_section-2.ensures.found _ c.in_ok-fields.was) (c.rows_section-3.ensures.lost c.in_err-consts.was)))
 
 pub bytes_section-requires : goal.bytes_section-requires
-bytes_section-requires c = (c.rows_section-2.ensures.found _ c.in_ok-consts.was).rows.inside
+bytes_section-requires c = (c.rows_section-3.ensures.found _ c.in_ok-consts.was).rows.inside
 
 pub returns-in_err-bytes : goal.returns-in_err-bytes
 unfolding type_names field_names constant_names ascii
-returns-in_err-bytes c = rw c.from_residual-in_err-bytes.ensures (parsed-lost (table-lost-5 c.args.s.now c.in_ok-n.n (c.get_counts.ensures.found c.in_ok-n.n c.in_ok-n.was) (c.rows_section.ensures.found _ c.in_ok-types.was) (c.fields_section.ensures.found _ c.in_ok-fields.was) (c.rows_section-2.ensures.found _ c.in_ok-consts.was) (c.bytes_section.ensures.lost c.in_err-bytes.was)))
+returns-in_err-bytes c = rw c.from_residual-in_err-bytes.ensures (parsed-lost (table-lost-5 c.args.s.now c.in_ok-n.n (c.get_counts.ensures.found c.in_ok-n.n c.in_ok-n.was) (c.rows_section.ensures.found _ c.in_ok-types.was) (c.rows_section-2.ensures.found _ c.in_ok-fields.was) (c.rows_section-3.ensures.found _ c.in_ok-consts.was) (c.bytes_section.ensures.lost c.in_err-bytes.was)))
+
+pub invariant_of-result : goal.invariant_of-result
+invariant_of-result c = let n = c.get_counts.ensures.found c.in_ok-n.n c.in_ok-n.was in record { few = (n.types, n.fields, n.consts) }
 
 pub shape_of-words : goal.shape_of-words
-shape_of-words c = c.rows_section-2.auto.out ∙ c.rows_section.auto.out
+shape_of-words c = c.rows_section-3.auto.out ∙ c.rows_section.auto.out
 
 pub returns : goal.returns
 unfolding type_names field_names constant_names ascii
-returns c = parsed-there c.args.s.now c.in_ok-n.n (c.get_counts.ensures.found c.in_ok-n.n c.in_ok-n.was) (c.rows_section.ensures.found _ c.in_ok-types.was) (c.fields_section.ensures.found _ c.in_ok-fields.was) (c.rows_section-2.ensures.found _ c.in_ok-consts.was) (c.bytes_section.ensures.found _ c.in_ok-bytes.was) c.requires.0 c.requires.1
+returns c = parsed-there c.args.s.now c.in_ok-n.n (c.get_counts.ensures.found c.in_ok-n.n c.in_ok-n.was) (c.rows_section.ensures.found _ c.in_ok-types.was) (c.rows_section-2.ensures.found _ c.in_ok-fields.was) (c.rows_section-3.ensures.found _ c.in_ok-consts.was) (c.bytes_section.ensures.found _ c.in_ok-bytes.was) _ c.requires.0 c.requires.1

@@ -6,7 +6,7 @@ use Rattle.refusal.specs.declared.Refusal.{Refusal}
 use Rattle.tables.specs.Table.{read_table}
 use Rattle.table_check.specs.Verdict.{verdict}
 use Rattle.table_check.specs.Inner.Parsing.{table_of, Sectioned}
-use Rattle.table_check.specs.declared.Sections.{Sections}
+use Rattle.table_check.specs.declared.found.Sections.{Sections}
 use Rattle.std.specs.Prelude as code
 use Rattle.std.specs.Prelude.{Ok, Err}
 

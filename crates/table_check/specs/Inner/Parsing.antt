@@ -8,7 +8,7 @@ use Rattle.text.specs.Put.{put_text}
 use Rattle.text.specs.Answer.{hex_at, HexParsed}
 use Rattle.tables.specs.Table.{Row, Named, row_format, read_table}
 use Rattle.tables.specs.Lists.{numbers_in, names_in}
-use Rattle.table_check.specs.declared.Sections.{Sections}
+use Rattle.table_check.specs.declared.found.Sections.{Sections}
 
 -- the table whose text a text is; a text that is none's has no use for it
 unfoldable pub table_of : List ℕ → Named

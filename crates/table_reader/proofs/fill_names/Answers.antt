@@ -1,4 +1,4 @@
-use mathlib.Core.Path.{refl, sym, ◌∙◌}
+use mathlib.Core.Path.{sym, ◌∙◌}
 use native.Mathlib.Omega.{arith}
 use lib.ListN.{drop}
 use Rattle.tables.specs.Table.{read_name}
@@ -8,43 +8,40 @@ use Rattle.table_reader.proofs.Naming.{naming-begin, naming-numbers-some, naming
 use Rattle.table_reader.proofs.fill_names.Goals as goal
 
 pub loop-i-init : goal.loop-i-init
-loop-i-init c = (refl, naming-begin _ _ _ _ _ _ _ c.requires)
+loop-i-init c = naming-begin _ _ _ _ _ _ _ c.requires
 
-pub slice_bounds-get_numbers-end : goal.slice_bounds-get_numbers-end
-slice_bounds-get_numbers-end c = sym c.loop-i.invariant.0
-
-pub get_numbers-requires : goal.get_numbers-requires
-get_numbers-requires c = (c.loop-i.invariant.1.gathered.inside, omega (arith, c.loop-i.invariant.0, c.loop-i.invariant.1.ready.few))
+pub skip_numbers-requires : goal.skip_numbers-requires
+skip_numbers-requires c = c.loop-i.invariant.gathered.inside
 
 pub shape_of-names-in_default : goal.shape_of-names-in_default
-shape_of-names-in_default c = absurd (naming-numbers-some _ _ _ _ _ _ _ _ _ _ _ c.loop-i.invariant.1 c.loop-i-test.true (c.get_numbers.ensures.lost c.in_default.is))
+shape_of-names-in_default c = absurd (naming-numbers-some _ _ _ _ _ _ _ _ _ _ _ c.loop-i.invariant c.loop-i-test.true (c.skip_numbers.ensures.lost c.in_default.is))
 
 pub returns-in_default : goal.returns-in_default
-returns-in_default c = absurd (naming-numbers-some _ _ _ _ _ _ _ _ _ _ _ c.loop-i.invariant.1 c.loop-i-test.true (c.get_numbers.ensures.lost c.in_default.is))
+returns-in_default c = absurd (naming-numbers-some _ _ _ _ _ _ _ _ _ _ _ c.loop-i.invariant c.loop-i-test.true (c.skip_numbers.ensures.lost c.in_default.is))
 
 pub shape_of-names-in_default-get_name : goal.shape_of-names-in_default-get_name
-shape_of-names-in_default-get_name c = let g = c.get_numbers.ensures.past _ c.in-Some.is in absurd (naming-name-some _ _ _ _ _ _ _ _ _ _ _ c.loop-i.invariant.1 c.in-Some.a g.values c.loop-i-test.true g.reads (lost c.args.s.now (read_name (drop c.in-Some.a c.args.s.now)) c.get_name.ensures c.in_default-get_name.is))
+shape_of-names-in_default-get_name c = let g = c.skip_numbers.ensures.past _ c.in-Some.is in absurd (naming-name-some _ _ _ _ _ _ _ _ _ _ _ c.loop-i.invariant c.in-Some.a g.values c.loop-i-test.true g.reads (lost c.args.s.now (read_name (drop c.in-Some.a c.args.s.now)) c.get_name.ensures c.in_default-get_name.is))
 
 pub returns-in_default-get_name : goal.returns-in_default-get_name
-returns-in_default-get_name c = let g = c.get_numbers.ensures.past _ c.in-Some.is in absurd (naming-name-some _ _ _ _ _ _ _ _ _ _ _ c.loop-i.invariant.1 c.in-Some.a g.values c.loop-i-test.true g.reads (lost c.args.s.now (read_name (drop c.in-Some.a c.args.s.now)) c.get_name.ensures c.in_default-get_name.is))
+returns-in_default-get_name c = let g = c.skip_numbers.ensures.past _ c.in-Some.is in absurd (naming-name-some _ _ _ _ _ _ _ _ _ _ _ c.loop-i.invariant c.in-Some.a g.values c.loop-i-test.true g.reads (lost c.args.s.now (read_name (drop c.in-Some.a c.args.s.now)) c.get_name.ensures c.in_default-get_name.is))
 
 pub slice_bounds-put_literal-count : goal.slice_bounds-put_literal-count
-slice_bounds-put_literal-count c = let g = c.get_numbers.ensures.past _ c.in-Some.is in let n = name-found c.args.s.now c.in-Some.a c.in-Some-get_name.next c.get_name.ensures c.in-Some-get_name.is in omega (arith, name-long c.args.s.now c.in-Some.a c.in-Some-get_name.next g.inside n)
+slice_bounds-put_literal-count c = let g = c.skip_numbers.ensures.past _ c.in-Some.is in let n = name-found c.args.s.now c.in-Some.a c.in-Some-get_name.next c.get_name.ensures c.in-Some-get_name.is in omega (arith, name-long c.args.s.now c.in-Some.a c.in-Some-get_name.next g.inside n)
 
 pub slice_bounds-put_literal-start : goal.slice_bounds-put_literal-start
-slice_bounds-put_literal-start c = let g = c.get_numbers.ensures.past _ c.in-Some.is in let n = name-found c.args.s.now c.in-Some.a c.in-Some-get_name.next c.get_name.ensures c.in-Some-get_name.is in omega (arith, name-long c.args.s.now c.in-Some.a c.in-Some-get_name.next g.inside n)
+slice_bounds-put_literal-start c = let g = c.skip_numbers.ensures.past _ c.in-Some.is in let n = name-found c.args.s.now c.in-Some.a c.in-Some-get_name.next c.get_name.ensures c.in-Some-get_name.is in omega (arith, name-long c.args.s.now c.in-Some.a c.in-Some-get_name.next g.inside n)
 
 pub slice_bounds-put_literal-end : goal.slice_bounds-put_literal-end
 slice_bounds-put_literal-end c = let n = name-found c.args.s.now c.in-Some.a c.in-Some-get_name.next c.get_name.ensures c.in-Some-get_name.is in n.inside
 
 pub put_literal-o-requires : goal.put_literal-o-requires
-put_literal-o-requires c = let g = c.get_numbers.ensures.past _ c.in-Some.is in let n = name-found c.args.s.now c.in-Some.a c.in-Some-get_name.next c.get_name.ensures c.in-Some-get_name.is in naming-room _ _ _ _ _ _ _ _ _ _ _ c.loop-i.invariant.1 c.loop-i-test.true c.in-Some.a c.in-Some-get_name.next g.values g.reads g.inside n
+put_literal-o-requires c = let g = c.skip_numbers.ensures.past _ c.in-Some.is in let n = name-found c.args.s.now c.in-Some.a c.in-Some-get_name.next c.get_name.ensures c.in-Some-get_name.is in naming-room _ _ _ _ _ _ _ _ _ _ _ c.loop-i.invariant c.loop-i-test.true c.in-Some.a c.in-Some-get_name.next g.values g.reads g.inside n
 
 pub loop-i-preserved : goal.loop-i-preserved
-loop-i-preserved c = let g = c.get_numbers.ensures.past _ c.in-Some.is in let n = name-found c.args.s.now c.in-Some.a c.in-Some-get_name.next c.get_name.ensures c.in-Some-get_name.is in (c.get_numbers.auto.out ∙ c.loop-i.invariant.0, naming-next _ _ _ _ _ _ _ _ _ _ _ c.loop-i.invariant.1 c.loop-i-test.true c.in-Some.a c.in-Some-get_name.next g.values g.reads g.inside n _ _ c.put_literal-o.auto.out c.put_literal-o.ensures)
+loop-i-preserved c = let g = c.skip_numbers.ensures.past _ c.in-Some.is in let n = name-found c.args.s.now c.in-Some.a c.in-Some-get_name.next c.get_name.ensures c.in-Some-get_name.is in naming-next _ _ _ _ _ _ _ _ _ _ _ c.loop-i.invariant c.loop-i-test.true c.in-Some.a c.in-Some-get_name.next g.values g.reads g.inside n _ _ c.put_literal-o.auto.out c.put_literal-o.ensures
 
 pub shape_of-names : goal.shape_of-names
-shape_of-names c = c.loop-i.invariant.1.same
+shape_of-names c = c.loop-i.invariant.same
 
 pub returns : goal.returns
-returns c = naming-end _ _ _ _ _ _ _ _ _ _ _ c.loop-i.invariant.1 c.loop-i-test.false
+returns c = naming-end _ _ _ _ _ _ _ _ _ _ _ c.loop-i.invariant c.loop-i-test.false

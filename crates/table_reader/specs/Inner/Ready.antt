@@ -15,5 +15,4 @@ pub record NamesReady (k most : ℕ) (s : List ℕ) (at count to room : ℕ) : T
   pub rest : List ℕ
   pub reads : read_all (row_format k most).read count (drop at s) ≡ give (rows_at k most s at count) rest
   pub inside : at ≤ length s
-  pub few : k ≤ 4
   pub fits : to + length (names_in (rows_at k most s at count)) ≤ room

@@ -5,7 +5,7 @@ use Rattle.refusal.specs.Told.{number_of, refused_by}
 use Rattle.refusal.specs.declared.Refusal.{Refusal}
 use Rattle.table_reader.specs.Reading.{table_read, scratch_left}
 use Rattle.table_check.specs.Inner.Parsing.{table_of, Sectioned}
-use Rattle.table_check.specs.declared.Sections.{Sections}
+use Rattle.table_check.specs.declared.found.Sections.{Sections}
 use Rattle.table_reader.specs.declared.TableRead.{TableRead}
 use Rattle.std.specs.Prelude as code
 use Rattle.std.specs.Prelude.{Ok, Err}
