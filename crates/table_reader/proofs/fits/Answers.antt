@@ -3,10 +3,10 @@ use Rattle.std.proofs.lemmas.Bool.Decides.{nat_tests}
 use Rattle.table_reader.specs.Inner.Testing.{room_for}
 use Rattle.table_reader.proofs.fits.Goals as goal
 
-pub returns-then-x-room-2 : goal.returns-then-x-room-2
+pub returns-then-x-room-5 : goal.returns-then-x-room-5
 unfolding room_for
-returns-then-x-room-2 c = grind (arith, nat_tests)
+returns-then-x-room-5 c = grind (arith, nat_tests)
 
-pub returns-else-x-room-2 : goal.returns-else-x-room-2
+pub returns-else-x-room-5 : goal.returns-else-x-room-5
 unfolding room_for
-returns-else-x-room-2 c = grind (arith, nat_tests)
+returns-else-x-room-5 c = grind (arith, nat_tests)

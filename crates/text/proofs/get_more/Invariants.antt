@@ -1,11 +1,8 @@
-use Prim.Native.Nat.{◌-◌, ◌≤◌}
+use Prim.Native.Nat.{◌≤◌}
 use Rattle.text.specs.Text.{scan}
 use lib.ListN.{length, drop}
 use mathlib.Core.Path.{◌≡◌}
 use Rattle.text.proofs.get_more.Given as goal
 
-abbrev pub invariant-loop-d : goal.invariant-loop-d
-invariant-loop-d l = (l.n ≤ l.most) × (l.i ≤ length l.s) × (scan l.first (drop l.start l.s) ≡ scan l.n (drop l.i l.s))
-
-abbrev pub decreases-loop-d : goal.decreases-loop-d
-decreases-loop-d l = length l.s - l.i
+abbrev pub invariant-loop-i : goal.invariant-loop-i
+invariant-loop-i l = (l.n ≤ l.most) × (l.i ≤ length l.s) × (scan l.first (drop l.start l.s) ≡ scan l.n (drop l.i l.s))
