@@ -208,7 +208,7 @@ module _ (s : List ℕ) (rule : Rule) (dead : List ℕ) (k m base : ℕ) (p : Sl
 
   pub run-told : (r : Option ℕ) → t ≡ true →
       MatchOption r (agree rule (slots_at s k m) a 0 ≡ false)
-          (λ next. (agree rule (slots_at s k m) a 0 ≡ true) × (read_all (slot_format true).read m (drop k s) ≡ give (slots_at s k m) (drop next s)) × (next ≤ length s)) →
+      (λ next. (agree rule (slots_at s k m) a 0 ≡ true) × (read_all (slot_format true).read m (drop k s) ≡ give (slots_at s k m) (drop next s)) × (next ≤ length s)) →
       MatchOption r (each rule dead (slots_at s k m) base ≡ false) (λ next. RunChecked s rule dead k m base true next)
   run-told (Some next) v q = record { told = sym q.0 ∙ run-same v; after = λ e. q.1; inside = λ e. q.2 }
   run-told None v q = sym (run-same v) ∙ q

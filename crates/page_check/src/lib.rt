@@ -169,7 +169,7 @@ fn check_chunk(s: &[u8], at: usize, count: usize, rule: Rule, row: &[u64]) -> Op
     requires at_in_bounds { at ≤ length s.now }
     ensures { MatchOption result (agree rule (slots_at s.now at count) row.now 0 ≡ false)
         (λ next. (agree rule (slots_at s.now at count) row.now 0 ≡ true)
-            × (read_all (slot_format true).read count (drop at s.now) ≡ give (slots_at s.now at count) (drop next s.now)) × (next ≤ length s.now)) }
+        × (read_all (slot_format true).read count (drop at s.now) ≡ give (slots_at s.now at count) (drop next s.now)) × (next ≤ length s.now)) }
 {
     let mut k = at;
     for i in 0..count {
@@ -495,7 +495,12 @@ pub struct ListSection {
 }
 
 // Reads a list's name, then its values in the way that is passed.
-fn list_section<F: FnOnce(usize) -> Option<Values>>(s: &[u8], name: &[u8], at: usize, values: F) -> Option<ListSection>
+fn list_section<F: FnOnce(usize) -> Option<Values>>(
+    s: &[u8],
+    name: &[u8],
+    at: usize,
+    values: F,
+) -> Option<ListSection>
     requires at_in_bounds { at ≤ length s.now }
     requires callable { (b : ℕ) → b ≤ length s.now → F.pre values b }
     ensures { ListRead (F.post values) name.now s.now at result }
@@ -522,7 +527,12 @@ fn seal_section(s: &[u8], at: usize, count: usize, tag: u64, n: usize) -> Option
     requires { at ≤ length s.now }
     ensures { ListSectioned 64 sealed_name s.now at count (sound_seals tag n 0) result }
 {
-    list_section(s, b"sealed\n", at, |begin| check_seals(s, begin, count, tag, n))
+    list_section(
+        s,
+        b"sealed\n",
+        at,
+        |begin| check_seals(s, begin, count, tag, n),
+    )
 }
 
 // Reads the name of the retired, then `count` slot indices, where the page has them: are all below n?

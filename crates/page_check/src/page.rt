@@ -56,7 +56,14 @@ impl Page<'_> {
     }
 
     // Are the `m` slots from `base` on, whose lines stand from `at` on, right by a rule? If so, where the next line begins.
-    fn check_run(self, rule: Rule, at: usize, m: usize, base: usize, row: &mut [u64]) -> Option<usize>
+    fn check_run(
+        self,
+        rule: Rule,
+        at: usize,
+        m: usize,
+        base: usize,
+        row: &mut [u64],
+    ) -> Option<usize>
         requires slots_parsed { SlotsParsed self.text.now at m }
         requires at_in_bounds { (at ≤ length self.text.now) × (m ≤ 64 * length row.old) }
         ensures { MatchOption result

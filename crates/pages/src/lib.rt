@@ -13,7 +13,6 @@ ghost use Rattle.heap.specs.WellFormed.{well_formed};
 ghost use Rattle.word.specs.Result.{ok};
 ghost use Rattle.refusal.specs.Told.{told, answered, here, nothing};
 ghost use Rattle.pages.specs.Answer.{PageWritten};
-
 ghost use Rattle.std.proofs.lemmas.List.{map-id};
 ghost use mathlib.Core.Path.{sym};
 
@@ -45,7 +44,9 @@ pub trait Listed: Copy {
 
 impl Listed for u32 {
     ghost number = { λ x. x };
+
     ghost numbers = { λ l. l };
+
     ghost width = { 32 };
 
     fn number(self) -> u64 {
@@ -65,7 +66,9 @@ impl Listed for u32 {
 
 impl Listed for u64 {
     ghost number = { λ x. x };
+
     ghost numbers = { λ l. l };
+
     ghost width = { 64 };
 
     fn number(self) -> u64 {

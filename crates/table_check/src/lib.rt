@@ -156,7 +156,15 @@ fn parse(s: &[u8], words: &mut [u64], halves: &mut [u32]) -> Option<Sections>
 {
     let n = get_counts(s)?;
     let types = rows_section(s, n.next, b"class,a,b,c,name\n", n.types, 4, words, 0)?;
-    let fields = rows_section(s, types.next, b"type,constant,name\n", n.fields, 2, halves, 0)?;
+    let fields = rows_section(
+        s,
+        types.next,
+        b"type,constant,name\n",
+        n.fields,
+        2,
+        halves,
+        0,
+    )?;
     let consts = rows_section(
         s,
         fields.next,

@@ -60,7 +60,9 @@ struct Room {
 fn fits(x: Sections, room: Room) -> bool
     ensures { result ≡ room_for x room.types room.fields room.consts room.bytes room.names }
 {
-    let numbers = 4 * x.types <= room.types && 2 * x.fields <= room.fields && 3 * x.consts <= room.consts;
+    let numbers = 4 * x.types <= room.types
+        && 2 * x.fields <= room.fields
+        && 3 * x.consts <= room.consts;
     numbers
         && x.bytes <= room.bytes
         && x.type_names <= room.names

@@ -25,7 +25,7 @@ returns-then-not-right_by c = let l = slots_at c.args.s.now c.args.at c.args.cou
     let f = line-found true c.args.s.now c.loop-i.k c.in_ok-x.x c.get_slot.ensures c.in_ok-x.was in
     let n = read_next (slot_format true).read blank (drop c.loop-i.k c.args.s.now) (drop c.in_ok-x.x.next c.args.s.now) f.sl l c.loop-i.i c.args.count c.loop-i.invariant.3.0 c.loop-i-test.true c.loop-i.invariant.3.2 f.reads in
     agree-next c.args.rule l c.args.row.now c.loop-i.i true c.in_ok-x.x.generation c.in_ok-x.x.kind (bit c.test_bit-met.result) n.0 c.loop-i.invariant.2
-        (f.generation ∙ ap (λ (z : Slot). z.generation) n.1) (f.kind ∙ ap (λ (z : Slot). z.kind) n.1) (ap bit c.test_bit-met.ensures) c.right_by.ensures (sym c.if-not-right_by.true)
+    (f.generation ∙ ap (λ (z : Slot). z.generation) n.1) (f.kind ∙ ap (λ (z : Slot). z.kind) n.1) (ap bit c.test_bit-met.ensures) c.right_by.ensures (sym c.if-not-right_by.true)
 
 pub loop-i-preserved : goal.loop-i-preserved
 loop-i-preserved c = let l = slots_at c.args.s.now c.args.at c.args.count in
