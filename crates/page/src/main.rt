@@ -3,59 +3,23 @@
 // printed; and that what was printed could not be written.
 #![tactic(auto)]
 
-ghost use Rattle.std.specs.Prelude.{◌≤◌, length};
-ghost use Rattle.heap.specs.Lent.{lent};
-ghost use Rattle.page_runs.specs.Inner.Steps.{Good};
-
-use page_runs::Run;
+use page_runs::Running;
 use std::env::FillError;
 use std::io;
 use std::io::Read;
 use std::rt::Env;
 
-// How many bytes stand in the buffer after those that are held and those that the input has next; and whether these could not be read.
-fn read_on(reader: &mut impl Read, buf: &mut [u8], held: usize) -> (usize, bool)
-    requires { held ≤ length buf.old }
-    ensures { result.0 ≤ length buf.old }
-{
-    match reader.read(&mut buf[held..]) {
-        Ok(n) => (held + n, false),
-        Err(_) => (held, true),
-    }
-}
-
-#[derive(Clone, Copy)]
-struct Ended {
-    run: Run,
-    failed: bool,
-}
-
 // Goes through the input as it comes, until it has ended or the run is over.
-fn serve(
-    reader: &mut impl Read,
-    run: Run,
-    narrow: &mut [u32; 384],
-    wide: &mut [u64; 256],
-    pool: &mut [u8; 4096],
-    buf: &mut [u8; 65536],
-    room: &mut [u8; 4096],
-    marks: &mut [u8; 64],
-    work: &mut [u64; 64],
-) -> Ended
-    requires { Good run (lent run.heap narrow.old wide.old pool.old) }
-    ensures { Good result.run (lent result.run.heap narrow.new wide.new pool.new) }
-{
-    let mut end = Ended { run, failed: false };
+fn serve(reader: &mut impl Read, running: &mut Running, buf: &mut [u8; 65536]) -> io::Result<()> {
     for _ in 0..u64::MAX {
-        let held = end.run.held;
-        let (n, failed) = read_on(reader, buf, held);
-        let run = page_runs::go_on(end.run, narrow, wide, pool, buf, n, room, marks, work);
-        end = Ended { run, failed };
-        if n == held || run.is_over() {
+        let held = running.run.held;
+        let n = reader.read(&mut buf[held..])?;
+        running.go_on(buf, held + n);
+        if n == 0 || running.run.is_over() {
             break;
         }
     }
-    end
+    Ok(())
 }
 
 // Says a line on standard error. Where that can't be done, nothing is lost that was asked for.
@@ -85,43 +49,16 @@ fn is_word_given(rt: &impl Env) -> bool {
     !matches!(rt.arg(1, &mut []), Err(FillError::NotPresent))
 }
 
+// Kept: the program asks for no memory, so that it can't run out of it.
 fn main(rt: HostRuntime) -> io::Result<()> {
     if is_word_given(&rt) {
         say_form(&rt);
     }
-    let mut reader = rt.stdin();
-    let mut narrow = [0u32; 384];
-    let mut wide = [0u64; 256];
-    let mut pool = [0u8; 4096];
-    let mut room = [0u8; 4096];
-    let mut marks = [0u8; 64];
-    let mut work = [0u64; 64];
+    let mut running = Running::begin();
     let mut buf = [0u8; 65536];
     let mut out = [0u8; 14592];
-    let start = page_runs::begin(&mut narrow, &mut wide, &mut pool, &mut marks, &mut work);
-    let end = serve(
-        &mut reader,
-        start,
-        &mut narrow,
-        &mut wide,
-        &mut pool,
-        &mut buf,
-        &mut room,
-        &mut marks,
-        &mut work,
-    );
-    let n = page_runs::finish(
-        end.run,
-        &mut narrow,
-        &mut wide,
-        &mut pool,
-        &buf,
-        end.failed,
-        &mut out,
-        &mut room,
-        &mut marks,
-        &mut work,
-    );
+    let read = serve(&mut rt.stdin(), &mut running, &mut buf);
+    let n = running.finish(&buf, read.is_err(), &mut out);
     let text = &out[..n];
     if matches!(text, b"17\n") {
         say_form(&rt);

@@ -2,7 +2,6 @@
 use Prim.Native.Nat.{ℕ, ◌+◌, ◌-◌, ◌≤◌, ◌<◌}
 use mathlib.Core.Bool.{Bool, true, false}
 use mathlib.Core.List.{List, [], ◌∷◌, ◌++◌, append_assoc}
-use mathlib.Core.Option.{none, some}
 use mathlib.Core.Path.{◌≡◌, refl, sym, ap, ◌∙◌, subst}
 use native.Mathlib.Omega.{arith}
 use native.Mathlib.Nat.{zero-add}
@@ -13,19 +12,19 @@ use Rattle.word.specs.Result.{Result, ok, refused}
 use Rattle.word.proofs.PutLaws.{take_put, length-put}
 use Rattle.text.specs.Text.{newline}
 use Rattle.heap.specs.State.{State}
-use Rattle.heap.specs.Calls.{Changed, refuse}
-use Rattle.heap.specs.Lent.{Lent, view}
-use Rattle.heap.specs.declared.Heap.{Heap}
+use Rattle.heap.specs.Calls.{Changed, refuse, done}
+use Rattle.heap.specs.Lent.{Lent, lent, view}
+use Rattle.std.specs.Prelude.{Option, Some, None}
+use Rattle.std.specs.Prelude.{Result as Outcome, Ok, Err}
 use Rattle.pages.specs.Page.{value_line}
 use Rattle.script.specs.Script.{unless, and_then, run_script}
 use Rattle.script.proofs.Scripts.{run-parts}
 use Rattle.page_runs.specs.declared.At.{At}
 use Rattle.page_runs.specs.declared.At.TheVariants.{Names, Lines, Over}
 use Rattle.page_runs.specs.declared.Run.{Run}
-use Rattle.page_runs.specs.declared.Kept.{Kept}
 use Rattle.page_runs.specs.Printed.{shown_by, shown}
-use Rattle.page_runs.specs.Inner.Steps.{text_left, Lies, Short, Good, Goes, Ran, Cut, Keeps}
-use Rattle.page_runs.specs.Inner.Long.{Open, Shortens}
+use Rattle.page_runs.specs.Inner.Steps.{text_left, Lies, Good, Goes, Ran, Says, Cut, over_with}
+use Rattle.page_runs.specs.Inner.Long.{Open, Bad, Alike, Shortens}
 
 -- ---- held
 
@@ -43,8 +42,8 @@ module _ (b : List ℕ) (from end : ℕ) (low : from ≤ end) (high : end ≤ 65
   moved_length = ap length moved ∙ length-put b 0 (drop from b) (end - from) (omega arith) (omega (arith, length-drop from b)) ∙ size
 
   -- there is room to read on
-  pub keeps-short : end - from < 65536 → Keeps text b₁ (record { at = Lines; held = end - from })
-  keeps-short h = record { room = h; short = tt; same = λ failed s rest. ap (λ (t : List ℕ). text_left Lines failed s (t ++ rest)) (sym held-text) }
+  pub keeps-short : end - from < 65536 → Shortens text b₁ (Some (end - from))
+  keeps-short h = (h, λ rest s. ap (λ (t : List ℕ). run_script 64 4096 (t ++ rest) s) (sym held-text))
 
   module _ (full : 65536 ≤ end - from) where
     all-text : text ≡ b₁
@@ -53,24 +52,8 @@ module _ (b : List ℕ) (from end : ℕ) (low : from ≤ end) (high : end ≤ 65
     pub all-open : Open text → Open b₁
     all-open o = subst Open all-text o
 
-    module _ (b₂ : List ℕ) (r : ℕ) (s : Shortens b₁ b₂ r) where
-      pub keeps-bad : r ≡ 0 → Keeps text b₂ (record { at = Over 17; held = 0 })
-      unfolding text_left shown
-      keeps-bad z =
-          record {
-            room = omega arith;
-            short = tt;
-            same = λ failed h rest. ap (λ (t : List ℕ). shown failed (run_script 64 4096 (t ++ rest) h)) all-text ∙ ap (shown failed) (s.bad z rest h);
-          }
-
-      pub keeps-less : (r ≡ 0 → ⊥) → Keeps text b₂ (record { at = Lines; held = r })
-      unfolding text_left
-      keeps-less n =
-          record {
-            room = s.room;
-            short = tt;
-            same = λ failed h rest. ap (λ (t : List ℕ). shown failed (run_script 64 4096 (t ++ rest) h)) all-text ∙ ap (shown failed) (s.alike n rest h);
-          }
+    pub keeps-full : (b₂ : List ℕ) (r : Option ℕ) → Shortens b₁ b₂ r → Shortens text b₂ r
+    keeps-full b₂ r s = subst (λ (t : List ℕ). Shortens t b₂ r) (sym all-text) s
 
 -- ---- run
 
@@ -79,31 +62,52 @@ after-refused : (failed : Bool) (c : Changed Unit) (n : ℕ) (f : State → Chan
 unfolding shown
 after-refused failed c n f e = rw e
 
-module _ (l : Lent) (t : List ℕ) (r : ℕ) (c : Cut t r) (l' : Lent) (number : ℕ) (ran : Ran l l' (take r t) number) where
-  parted : (rest : List ℕ) → run_script 64 4096 (t ++ rest) (view l) ≡ and_then (run_script 64 4096 (take r t) (view l)) (run_script 64 4096 (drop r t ++ rest))
+-- a run that stands elsewhere, on the heap that lies there
+pub stands : {at : At} {l : Lent} {t b : List ℕ} (n v p : List ℕ) {q r : Run} → q ≡ r → Goes at l t r (lent r.heap n v p) b → Goes at l t q (lent q.heap n v p) b
+stands {at} {l} {t} {b} n v p e g = subst (λ (x : Run). Goes at l t x (lent x.heap n v p) b) (sym e) g
+
+module _ (l : Lent) (t : List ℕ) (k : ℕ) (c : Cut t k) {r₀ r₁ : Run} (n v p : List ℕ) {answer : Outcome Unit ℕ} (ran : Ran r₀ l (take k t) r₁ (lent r₁.heap n v p) answer) where
+  parted : (rest : List ℕ) → run_script 64 4096 (t ++ rest) (view l) ≡ and_then (run_script 64 4096 (take k t) (view l)) (run_script 64 4096 (drop k t ++ rest))
   parted rest =
-      ap (λ (x : List ℕ). run_script 64 4096 x (view l)) (ap (λ (x : List ℕ). x ++ rest) (sym (take-append-drop r t)) ∙ append_assoc (take r t) (drop r t) rest)
-      ∙ run-parts 64 4096 (take r t) (drop r t ++ rest) (view l) c.lines
+      ap (λ (x : List ℕ). run_script 64 4096 x (view l)) (ap (λ (x : List ℕ). x ++ rest) (sym (take-append-drop k t)) ∙ append_assoc (take k t) (drop k t) rest)
+      ∙ run-parts 64 4096 (take k t) (drop k t ++ rest) (view l) c.lines
 
   -- a refusal ends the run
-  pub goes-refused : (h : Heap) (b : List ℕ) → (number ≡ 0 → ⊥) → Goes Lines l t (record { heap = h; at = Over number; held = 0 }) l' b
+  pub goes-refused : (b : List ℕ) (number : ℕ) (q : Run) → answer ≡ Err number → q ≡ over_with r₁ number → Goes Lines l t q (lent q.heap n v p) b
   unfolding text_left
-  goes-refused h b n =
-      record {
-        good = record { heap = ran.heap; short = tt; room = omega arith };
-        same = λ failed rest. ap (shown failed) (parted rest) ∙ after-refused failed (run_script 64 4096 (take r t) (view l)) number (run_script 64 4096 (drop r t ++ rest)) (ran.refused n);
-      }
+  goes-refused b number q f e =
+      let says : Says l (lent r₁.heap n v p) (take k t) (Err number) = subst (Says l (lent r₁.heap n v p) (take k t)) f ran.says in
+      stands n v p e
+      (record {
+        good = record { heap = ran.heap; short = λ e. absurd (let z : ◌≡◌ {A = ℕ} 0 1 = cc in omega arith); room = omega arith };
+        same = λ failed rest. ap (shown failed) (parted rest) ∙ after-refused failed (run_script 64 4096 (take k t) (view l)) number (run_script 64 4096 (drop k t ++ rest)) says;
+      })
 
-  -- what is left is held
-  pub goes-held : (h : Heap) (b : List ℕ) (k : Kept) → number ≡ 0 → Keeps (drop r t) b k → Goes Lines l t (record { heap = h; at = k.at; held = k.held }) l' b
-  unfolding text_left
-  goes-held h b k z kept =
-      record {
-        good = record { heap = ran.heap; short = kept.short; room = kept.room };
-        same = λ failed rest.
-            ap (shown failed) (parted rest ∙ ap (λ (x : Changed Unit). and_then x (run_script 64 4096 (drop r t ++ rest))) (ran.done z))
-            ∙ kept.same failed (view l') rest;
-      }
+  module _ (f : answer ≡ Ok tt) where
+    done-there : run_script 64 4096 (take k t) (view l) ≡ done tt (view (lent r₁.heap n v p))
+    done-there = subst (Says l (lent r₁.heap n v p) (take k t)) f ran.says
+
+    there : (failed : Bool) (rest : List ℕ) → shown failed (run_script 64 4096 (t ++ rest) (view l)) ≡ shown failed (run_script 64 4096 (drop k t ++ rest) (view (lent r₁.heap n v p)))
+    there failed rest = ap (shown failed) (parted rest ∙ ap (λ (x : Changed Unit). and_then x (run_script 64 4096 (drop k t ++ rest))) done-there)
+
+    -- what is left is no call's line
+    pub goes-bad : (b : List ℕ) (q : Run) → Bad (drop k t) → q ≡ over_with r₁ 17 → Goes Lines l t q (lent q.heap n v p) b
+    unfolding text_left shown
+    goes-bad b q bad e =
+        stands n v p e
+        (record {
+          good = record { heap = ran.heap; short = λ e. absurd (let z : ◌≡◌ {A = ℕ} 0 1 = cc in omega arith); room = omega arith };
+          same = λ failed rest. there failed rest ∙ ap (shown failed) (bad rest (view (lent r₁.heap n v p)));
+        })
+
+    -- what is left is held
+    pub goes-held : (b : List ℕ) (m : ℕ) → m < 65536 → Alike (drop k t) (take m b) → Goes Lines l t (record { heap = r₁.heap; at = Lines; held = m }) (lent r₁.heap n v p) b
+    unfolding text_left
+    goes-held b m h alike =
+        record {
+          good = record { heap = ran.heap; short = λ e. absurd (let z : ◌≡◌ {A = ℕ} 0 1 = cc in omega arith); room = h };
+          same = λ failed rest. there failed rest ∙ ap (shown failed) (alike rest (view (lent r₁.heap n v p)));
+        }
 
 -- a text that goes on inside another
 pub part_of : (b : List ℕ) (from r end : ℕ) → from + r ≤ end → end ≤ length b → take (end - (from + r)) (drop (from + r) b) ≡ drop r (take (end - from) (drop from b))
@@ -139,15 +143,20 @@ module _ (b : List ℕ) (from end r : ℕ) (size : length b ≡ 65536) (low : fr
       ∙ sym (ap (λ (m : ℕ). take r (take m (drop from b))) e ∙ ap (take r) (take-add r (end - (from + r)) (drop from b))
       ∙ take_at (take r (drop from b)) (take (end - (from + r)) (drop r (drop from b))) r n)
 
-  module _ {l l' : Lent} {number : ℕ} (ran : Ran l l' (take (from + r - from) (drop from b)) number) (h : Heap) where
-    ran-lines : Ran l l' (take r (take (end - from) (drop from b))) number
-    ran-lines = subst (λ (t : List ℕ). Ran l l' t number) as-lines ran
+  module _ {l : Lent} {r₀ r₁ : Run} (n v p : List ℕ) {answer : Outcome Unit ℕ} (ran : Ran r₀ l (take (from + r - from) (drop from b)) r₁ (lent r₁.heap n v p) answer) where
+    ran-lines : Ran r₀ l (take r (take (end - from) (drop from b))) r₁ (lent r₁.heap n v p) answer
+    ran-lines = subst (λ (t : List ℕ). Ran r₀ l t r₁ (lent r₁.heap n v p) answer) as-lines ran
 
-    pub lines-refused : (number ≡ 0 → ⊥) → Goes Lines l (take (end - from) (drop from b)) (record { heap = h; at = Over number; held = 0 }) l' b
-    lines-refused n = goes-refused l (take (end - from) (drop from b)) r c l' number ran-lines h b n
+    part-is : take (end - (from + r)) (drop (from + r) b) ≡ drop r (take (end - from) (drop from b))
+    part-is = part_of b from r end lines-inside (omega arith)
 
-    pub lines-held : (b' : List ℕ) (k : Kept) → number ≡ 0 → Keeps (take (end - (from + r)) (drop (from + r) b)) b' k
-        → Goes Lines l (take (end - from) (drop from b)) (record { heap = h; at = k.at; held = k.held }) l' b'
-    lines-held b' k z kept =
-        goes-held l (take (end - from) (drop from b)) r c l' number ran-lines h b' k z
-        (subst (λ (t : List ℕ). Keeps t b' k) (part_of b from r end lines-inside (omega arith)) kept)
+    pub lines-refused : (number : ℕ) (q : Run) → answer ≡ Err number → q ≡ over_with r₁ number → Goes Lines l (take (end - from) (drop from b)) q (lent q.heap n v p) b
+    lines-refused number q f e = goes-refused l (take (end - from) (drop from b)) r c n v p ran-lines b number q f e
+
+    module _ (f : answer ≡ Ok tt) (b' : List ℕ) where
+      pub lines-bad : (q : Run) → Bad (take (end - (from + r)) (drop (from + r) b)) → q ≡ over_with r₁ 17 → Goes Lines l (take (end - from) (drop from b)) q (lent q.heap n v p) b'
+      lines-bad q bad e = goes-bad l (take (end - from) (drop from b)) r c n v p ran-lines f b' q (subst Bad part-is bad) e
+
+      pub lines-held : (m : ℕ) → Shortens (take (end - (from + r)) (drop (from + r) b)) b' (Some m)
+          → Goes Lines l (take (end - from) (drop from b)) (record { heap = r₁.heap; at = Lines; held = m }) (lent r₁.heap n v p) b'
+      lines-held m s = goes-held l (take (end - from) (drop from b)) r c n v p ran-lines f b' m s.0 (subst (λ (x : List ℕ). Alike x (take m b')) part-is s.1)

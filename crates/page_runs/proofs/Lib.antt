@@ -4,7 +4,7 @@ pub mod Long
 pub mod Heading
 pub mod Holding
 pub mod Starting
-pub mod Running
+pub mod Scripted
 pub mod Telling
 pub mod Going
 pub mod Prints

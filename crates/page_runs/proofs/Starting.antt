@@ -10,7 +10,7 @@ use lib.ListN.{length, take, drop}
 use lib.Seq.{take-add, length-take-le, drop_at}
 use Rattle.text.specs.Text.{ascii, read_literal}
 use Rattle.text.specs.Answer.{literal_answer}
-use Rattle.std.specs.Prelude.{Option, Some, None}
+use Rattle.std.specs.Prelude.{Option, Some, None, is_some}
 use Rattle.text.proofs.Laws.{literal-back}
 use Rattle.refusal.specs.declared.Answer.{Answer}
 use Rattle.heap.specs.State.{data_of}
@@ -29,8 +29,9 @@ use Rattle.page_runs.specs.declared.At.{At}
 use Rattle.page_runs.specs.declared.At.TheVariants.{Names, Lines, Over}
 use Rattle.page_runs.specs.declared.Run.{Run}
 use Rattle.page_runs.specs.Printed.{names_line, after_names, printed}
-use Rattle.page_runs.specs.Inner.Steps.{text_left, Lies, Good, Begun, Goes, is_there}
+use Rattle.page_runs.specs.Inner.Steps.{text_left, Lies, Good, Begun, Goes, is_there, over_with}
 use Rattle.page_runs.proofs.Naming.{literal-on, literal-never}
+use Rattle.page_runs.proofs.Holding.{stands}
 
 -- ---- a new heap
 
@@ -49,7 +50,7 @@ module _ (m w n v p : List ℕ) (lm : length m ≡ 64) (lw : length w ≡ 64) (l
   sizes-there : sizes_fit (length n) (length v) (length p) ≡ true
   sizes-there = (λ j. sizes_fit (ln j) (lv j) (lp j)) ∙ fits-there
 
-  pub begun-is : (a : Answer) (l : Lent) (m' w' : List ℕ) (h : Heap) → outcome a l m' w' ≡ new_call m w n v p 1 → Begun (record { heap = h; at = Names; held = 0 }) l
+  begun-is : (a : Answer) (l : Lent) (m' w' : List ℕ) (h : Heap) → outcome a l m' w' ≡ new_call m w n v p 1 → Begun (record { heap = h; at = Names; held = 0 }) l
   unfolding printed text_left stored
   begun-is a l m' w' h e =
       let made = new-made m w n v p 1 enough-there sizes-there in
@@ -63,29 +64,29 @@ module _ (m w n v p : List ℕ) (lm : length m ≡ 64) (lw : length w ≡ 64) (l
             slots = ap slot_count at ∙ omega arith;
             pool = ap pool_size at ∙ ap (λ (k : ℕ). pool_size (stored (length n / 6) k (new 1))) lp ∙ new-pool (length n / 6);
           };
-          short = omega arith;
+          short = λ e. omega arith;
           room = omega arith;
         };
         none = refl;
         same = λ failed input. ap (after_names failed (read_literal names_line input)) (sym f.1 ∙ ap view is);
       }
 
+module _ (m w n v p m' w' : List ℕ) (a : Answer) (l : Lent) (h : Heap) (e : outcome a l m' w' ≡ new_call m w n v p 1)
+    (lm : length m ≡ 64) (lw : length w ≡ 64) (ln : length n ≡ 384) (lv : length v ≡ 256) (lp : length p ≡ 4096) where
+  pub begun-there : Begun (record { heap = h; at = Names; held = 0 }) l
+  begun-there = begun-is m w n v p lm lw ln lv lp a l m' w' h e
+
+  pub begun-good : Good (record { heap = h; at = Names; held = 0 }) l
+  begun-good = begun-there.good
+
 -- ---- the names line
 
-module _ (s : List ℕ) (r : Option ℕ) (e : r ≡ literal_answer (length s) (read_literal names_line s)) where
-  pub is-named : (k : ℕ) → r ≡ Some k → true ≡ is_there (read_literal names_line s)
-  is-named k f = go (read_literal names_line s) e
-    where
-      go : (o : maybe.Option (List ℕ)) → r ≡ literal_answer (length s) o → true ≡ is_there o
-      go none g = absurd (let z : ◌≡◌ {A = ℕ} 0 1 = cc in omega arith)
-      go (some t) g = refl
-
-  pub not_named : r ≡ None → false ≡ is_there (read_literal names_line s)
-  not_named f = go (read_literal names_line s) e
-    where
-      go : (o : maybe.Option (List ℕ)) → r ≡ literal_answer (length s) o → false ≡ is_there o
-      go none g = refl
-      go (some t) g = absurd (let z : ◌≡◌ {A = ℕ} 0 1 = cc in omega arith)
+pub named-told : (s : List ℕ) (r : Option ℕ) → r ≡ literal_answer (length s) (read_literal names_line s) → is_some r ≡ is_there (read_literal names_line s)
+named-told s r e = go (read_literal names_line s) e
+  where
+    go : (o : maybe.Option (List ℕ)) → r ≡ literal_answer (length s) o → is_some r ≡ is_there o
+    go none g = ap is_some g
+    go (some t) g = ap is_some g
 
 pub names-length : length names_line ≡ 23
 unfolding names_line ascii
@@ -115,40 +116,46 @@ after_line b n h k =
     let e : n ≡ 23 + (n - 23) = omega arith in
     sym (ap (λ (m : ℕ). drop 23 (take m b)) e ∙ ap (drop 23) (take-add 23 (n - 23) b) ∙ drop_at (take 23 b) (take (n - 23) (drop 23 b)) 23 (length-take-le 23 b (omega arith)))
 
-gone : (o : maybe.Option (List ℕ)) → false ≡ is_there o → o ≡ none
+gone : (o : maybe.Option (List ℕ)) → is_there o ≡ false → o ≡ none
 gone none f = refl
 gone (some x) f = absurd (let z : ◌≡◌ {A = ℕ} 0 1 = cc in omega arith)
 
 goes_at : {at at' : At} {l l' : Lent} {t : List ℕ} {r : Run} {b : List ℕ} → at ≡ at' → Goes at' l t r l' b → Goes at l t r l' b
 goes_at {at} {at'} {l} {l'} {t} {r} {b} e g = subst (λ (x : At). Goes x l t r l' b) (sym e) g
 
-module _ {l : Lent} (lies : Lies l) (b : List ℕ) (n : ℕ) (h : Heap) (at : At) where
+-- `q` is where the run stands after it
+module _ (b : List ℕ) (n : ℕ) (r q : Run) (s v p : List ℕ) (lies : Lies (lent r.heap s v p)) where
   -- nothing more is looked at
-  pub way-over : (k : ℕ) → at ≡ Over k → Goes at l (take n b) (record { heap = h; at = Over k; held = 0 }) l b
+  pub way-over : (k : ℕ) → r.at ≡ Over k → q ≡ over_with r k → Goes r.at (lent r.heap s v p) (take n b) q (lent q.heap s v p) b
   unfolding text_left
-  way-over k e = goes_at e (record { good = record { heap = lies; short = tt; room = omega arith }; same = λ failed rest. refl })
+  way-over k e f = goes_at e (stands {at = Over k} {l = lent r.heap s v p} {t = take n b} {b = b} s v p f (record { good = record { heap = lies; short = λ e. absurd (let z : ◌≡◌ {A = ℕ} 0 1 = cc in omega arith); room = omega arith }; same = λ failed rest. refl }))
 
   -- the names line is not there whole
-  pub way-waiting : at ≡ Names → n < 23 → Goes at l (take n b) (record { heap = h; at = Names; held = n }) l b
-  way-waiting e k = goes_at e (record { good = record { heap = lies; short = k; room = omega arith }; same = λ failed rest. refl })
+  pub way-waiting : r.at ≡ Names → n < 23 → Goes r.at (lent r.heap s v p) (take n b) (record { heap = r.heap; at = r.at; held = n }) (lent r.heap s v p) b
+  way-waiting e k =
+      goes_at e
+      (subst (λ (a : At). Goes Names (lent r.heap s v p) (take n b) (record { heap = r.heap; at = a; held = n }) (lent r.heap s v p) b) (sym e)
+      (record { good = record { heap = lies; short = λ e. k; room = omega arith }; same = λ failed rest. refl }))
 
   module _ (long : 23 ≤ n) (inside : n ≤ 65536) (size : length b ≡ 65536) where
     -- another line
-    pub way-unnamed : at ≡ Names → false ≡ is_there (read_literal names_line (take n b)) → Goes at l (take n b) (record { heap = h; at = Over 17; held = 0 }) l b
+    pub way-unnamed : r.at ≡ Names → is_there (read_literal names_line (take n b)) ≡ false → q ≡ over_with r 17 → Goes r.at (lent r.heap s v p) (take n b) q (lent q.heap s v p) b
     unfolding text_left
-    way-unnamed e f =
+    way-unnamed e f g =
         goes_at e
+        (stands {at = Names} {l = lent r.heap s v p} {t = take n b} {b = b} s v p g
         (record {
-          good = record { heap = lies; short = tt; room = omega arith };
+          good = record { heap = lies; short = λ e. absurd (let z : ◌≡◌ {A = ℕ} 0 1 = cc in omega arith); room = omega arith };
           same = λ failed rest.
-              ap (λ (o : maybe.Option (List ℕ)). after_names failed o (view l))
+              ap (λ (o : maybe.Option (List ℕ)). after_names failed o (view (lent r.heap s v p)))
               (literal-never names_line (take n b) rest (omega (arith, names-length, length-take-le n b (omega arith))) (gone (read_literal names_line (take n b)) f));
-        })
+        }))
 
-    -- what follows the names line is run
-    pub way-named : {r : Run} {l' : Lent} {b' : List ℕ} → at ≡ Names → true ≡ is_there (read_literal names_line (take n b)) → Goes Lines l (take (n - 23) (drop 23 b)) r l' b' → Goes at l (take n b) r l' b'
-    way-named {r} {l'} {b'} e f g =
-        goes_at e (goes-named {t = take n b} f (subst (λ (t : List ℕ). Goes Lines l t r l' b') (after_line b n long (omega arith)) g))
+-- what follows the names line is run
+pub way-named : {l : Lent} (b : List ℕ) (n : ℕ) {at : At} {r : Run} {l' : Lent} {b' : List ℕ} → 23 ≤ n → n ≤ 65536 → length b ≡ 65536 → at ≡ Names
+    → is_there (read_literal names_line (take n b)) ≡ true → Goes Lines l (take (n - 23) (drop 23 b)) r l' b' → Goes at l (take n b) r l' b'
+way-named {l} b n {at} {r} {l'} {b'} long inside size e f g =
+    goes_at e (goes-named {t = take n b} (sym f) (subst (λ (t : List ℕ). Goes Lines l t r l' b') (after_line b n long (omega arith)) g))
 
 -- all of it is lines
 pub way-lines : {l : Lent} (b : List ℕ) (n : ℕ) {at : At} {r : Run} {l' : Lent} {b' : List ℕ} → at ≡ Lines → Goes Lines l (take (n - 0) (drop 0 b)) r l' b' → Goes at l (take n b) r l' b'

@@ -11,7 +11,9 @@ use lib.Dec.{leb}
 use lib.Seq.{take_all}
 use borrow.Author.Tests.{le-leb}
 use Rattle.std.specs.Prelude.{if◌then◌else◌}
+use Rattle.std.specs.Prelude.{Result as Outcome, Ok, Err}
 use Rattle.word.specs.Result.{Result, ok, refused}
+use Rattle.heap.specs.Calls.{done}
 use Rattle.word.proofs.PutLaws.{take_put}
 use Rattle.text.specs.Text.{newline, decimal, line}
 use Rattle.text.specs.Put.{put_text, Puts}
@@ -34,8 +36,9 @@ use Rattle.widths.proofs.Widths.{page-fits}
 use Rattle.script.specs.Script.{run_script}
 use Rattle.page_runs.specs.declared.At.{At}
 use Rattle.page_runs.specs.declared.At.TheVariants.{Names, Lines, Over}
+use Rattle.page_runs.specs.declared.Run.{Run}
 use Rattle.page_runs.specs.Printed.{names_line, shown_by, shown, after_names}
-use Rattle.page_runs.specs.Inner.Steps.{text_left, Lies, Short, Ran, Ends}
+use Rattle.page_runs.specs.Inner.Steps.{text_left, Lies, Short, Ran, Says, Ends}
 use Rattle.page_runs.proofs.Naming.{literal-short}
 use Rattle.page_runs.proofs.Starting.{names-length}
 
@@ -89,27 +92,30 @@ module _ (failed : Bool) (h : State) {out : List ℕ} {r : ℕ} (at : At) (t : L
   pub ends-names : (n : ℕ) → at ≡ Names → Short at n → Ends (value_line 17) out r → Ends (text_left at failed h (take n t)) out r
   unfolding text_left
   ends-names n e s d =
-      let k : n < 23 = subst (λ (x : At). Short x n) e s in
+      let k : n < 23 = s e in
       subst (λ (x : At). Ends (text_left x failed h (take n t)) out r) (sym e)
       (subst (λ (o : Option (List ℕ)). Ends (after_names failed o h) out r) (sym (literal-short names_line (take n t) (omega (arith, names-length, length-take n t)))) d)
 
-module _ {l l' : Lent} (b : List ℕ) (n : ℕ) {number : ℕ} (was : Ran l l' (take (n - 0) (drop 0 b)) number) where
-  ran : Ran l l' (take n b) number
-  ran = subst (λ (k : ℕ). Ran l l' (take k b) number) (let z : n - 0 ≡ n = omega arith in z) was
+module _ {l l' : Lent} (b : List ℕ) {r₀ r₁ : Run} {answer : Outcome Unit ℕ} (ran : Ran r₀ l (take r₀.held b) r₁ l' answer) where
+  done-there : answer ≡ Ok tt → run_script 64 4096 (take r₀.held b) (view l) ≡ done tt (view l')
+  done-there f = subst (Says l l' (take r₀.held b)) f ran.says
 
-  module _ (failed : Bool) {out : List ℕ} {r : ℕ} (at : At) (e : at ≡ Lines) where
-    lines_left : {u : List ℕ} → shown failed (run_script 64 4096 (take n b) (view l)) ≡ u → Ends u out r → Ends (text_left at failed (view l) (take n b)) out r
+  module _ (failed : Bool) {out : List ℕ} {to : ℕ} (e : r₀.at ≡ Lines) where
+    lines_left : {u : List ℕ} → shown failed (run_script 64 4096 (take r₀.held b) (view l)) ≡ u → Ends u out to → Ends (text_left r₀.at failed (view l) (take r₀.held b)) out to
     unfolding text_left
-    lines_left q d = subst (λ (x : At). Ends (text_left x failed (view l) (take n b)) out r) (sym e) (subst (λ (u : List ℕ). Ends u out r) (sym q) d)
+    lines_left q d = subst (λ (x : At). Ends (text_left x failed (view l) (take r₀.held b)) out to) (sym e) (subst (λ (u : List ℕ). Ends u out to) (sym q) d)
 
-    pub ends-refused : (number ≡ 0 → ⊥) → Ends (value_line number) out r → Ends (text_left at failed (view l) (take n b)) out r
+    pub ends-refused : (number : ℕ) → answer ≡ Err number → Ends (value_line number) out to → Ends (text_left r₀.at failed (view l) (take r₀.held b)) out to
     unfolding shown
-    ends-refused m d = lines_left (ap (λ (x : Result Unit). shown_by failed x (run_script 64 4096 (take n b) (view l)).heap) (ran.refused m)) d
+    ends-refused number f d =
+        let says : Says l l' (take r₀.held b) (Err number) = subst (Says l l' (take r₀.held b)) f ran.says in
+        lines_left (ap (λ (x : Result Unit). shown_by failed x (run_script 64 4096 (take r₀.held b) (view l)).heap) says) d
 
-    pub ends-failed : number ≡ 0 → failed ≡ true → Ends (value_line 17) out r → Ends (text_left at failed (view l) (take n b)) out r
-    unfolding shown
-    ends-failed z f d = lines_left (ap (shown failed) (ran.done z) ∙ ap (λ (y : Bool). if y then value_line 17 else page_text (written false) (view l')) f) d
+    module _ (f : answer ≡ Ok tt) where
+      pub ends-failed : failed ≡ true → Ends (value_line 17) out to → Ends (text_left r₀.at failed (view l) (take r₀.held b)) out to
+      unfolding shown
+      ends-failed g d = lines_left (ap (shown failed) (done-there f) ∙ ap (λ (y : Bool). if y then value_line 17 else page_text (written false) (view l')) g) d
 
-    pub ends-page : number ≡ 0 → failed ≡ false → Ends (page_text (written false) (view l')) out r → Ends (text_left at failed (view l) (take n b)) out r
-    unfolding shown
-    ends-page z f d = lines_left (ap (shown failed) (ran.done z) ∙ ap (λ (y : Bool). if y then value_line 17 else page_text (written false) (view l')) f) d
+      pub ends-page : failed ≡ false → Ends (page_text (written false) (view l')) out to → Ends (text_left r₀.at failed (view l) (take r₀.held b)) out to
+      unfolding shown
+      ends-page g d = lines_left (ap (shown failed) (done-there f) ∙ ap (λ (y : Bool). if y then value_line 17 else page_text (written false) (view l')) g) d

@@ -1,3 +1,4 @@
 -- What only the contracts of inner functions cite.
 pub mod Steps
 pub mod Long
+pub mod Held

@@ -3,19 +3,24 @@
 // is the text that `printed` gives for the whole input. `print_all` does so for an input that is there at once.
 #![tactic(auto)]
 
-ghost use Rattle.std.specs.Prelude.{◌≡◌, ◌-◌, ◌≤◌, min, length, take, drop, false};
-ghost use Rattle.word.specs.Lists.{all};
+ghost use Rattle.std.specs.Prelude.{◌≡◌, ◌-◌, ◌≤◌, take, drop, false, IsTrue, ◌↔◌};
 ghost use Rattle.text.specs.Text.{read_literal};
-ghost use Rattle.heap.specs.Lent.{lent, view};
+ghost use Rattle.heap.specs.Lent.{view};
 ghost use Rattle.pages.specs.Page.{value_line, page_text};
 ghost use Rattle.pages.specs.Form.{written};
 ghost use Rattle.page_runs.specs.Printed.{names_line, printed};
-ghost use Rattle.page_runs.specs.Inner.Steps.{text_left, Lies, Good, Begun, Goes, Ends, Ran, Cut, Keeps, is_there, is_over};
-ghost use Rattle.page_runs.specs.Inner.Long.{Open, HeadFound, is_hex, Shortens};
+ghost use Rattle.page_runs.specs.Inner.Steps.{text_left, Begun, Goes, Ends, Ran, Cut, is_there, is_over, over_with};
+ghost use Rattle.page_runs.specs.Inner.Held.{lies};
+ghost use Rattle.page_runs.specs.Inner.Long.{Open, HeadFound, AllHex, Shortens};
 
 use heap::Heap;
 
+mod running;
+
+pub use running::Running;
+
 // Where a run stands: the names line is due, lines are run, or it is over and prints this number.
+// Kept: the number of a refusal as the call of the front door answers it, which is printed as it is.
 #[derive(Clone, Copy)]
 pub enum At {
     Names,
@@ -36,11 +41,17 @@ impl Run {
     pub fn is_over(self) -> bool
         ensures { result ≡ is_over self.at }
     {
-        let at = self.at;
-        match at {
-            At::Names => false,
-            At::Lines => false,
-            At::Over(_) => true,
+        matches!(self.at, At::Over(_))
+    }
+
+    // At its end, where it prints this number.
+    fn over(self, number: u64) -> Run
+        ensures { result ≡ over_with self number }
+    {
+        Run {
+            at: At::Over(number),
+            held: 0,
+            ..self
         }
     }
 }
@@ -49,265 +60,62 @@ impl Run {
 fn whole(s: &[u8]) -> usize
     ensures { Cut s.now result }
 {
-    let mut i = s.len();
-    while 0 < i {
-        if s[i - 1] == 10 {
-            return i;
-        }
-        i -= 1;
+    match s.iter().rposition(|b| *b == b'\n') {
+        Some(i) => i + 1,
+        None => 0,
     }
-    0
 }
 
-// The same of the bytes from `from` up to `end`.
-fn ready(s: &[u8], from: usize, end: usize) -> usize
-    requires { (from ≤ end) × (end ≤ length s.now) }
-    ensures { Cut (take (end - from) (drop from s.now)) result }
-{
-    whole(&s[from..end])
-}
-
-// Where the data of a line starts that begins like an `alloc` line, or 0.
-fn data_start(s: &[u8]) -> usize
+// Where the data of a line starts that begins like an `alloc` line.
+fn data_start(s: &[u8]) -> Option<usize>
     ensures { HeadFound s.now result }
 {
-    let Some(a) = text::expect(s, 0, b"alloc,") else {
-        return 0;
-    };
-    let Some((_, b)) = text::get_field(s, a, 4294967295, 44) else {
-        return 0;
-    };
-    let Some((_, c)) = text::get_field(s, b, 255, 44) else {
-        return 0;
-    };
-    c
+    let a = text::expect(s, 0, b"alloc,")?;
+    let (_, b) = text::get_field(s, a, 4294967295, 44)?;
+    let (_, c) = text::get_field(s, b, 255, 44)?;
+    Some(c)
 }
 
-fn is_hex(b: u8) -> bool
-    ensures { result ≡ is_hex b }
+// Is there nothing but hexadecimal digits?
+fn all_hex(s: &[u8]) -> bool
+    ensures { IsTrue result ↔ AllHex s.now }
 {
-    if b < 48 {
-        return false;
-    }
-    if b <= 57 {
-        return true;
-    }
-    if b < 97 {
-        return false;
-    }
-    b <= 102
-}
-
-// Is there nothing but hexadecimal digits from `from` on?
-fn all_hex(s: &[u8], from: usize) -> bool
-    ensures { result ≡ all is_hex (drop from s.now) }
-{
-    let mut i = from;
-    while i < s.len() {
-        if is_hex(s[i]) {} else {
-            return false;
-        }
-        i += 1;
-    }
-    true
+    s.iter().all(|b| matches!(*b, b'0'..=b'9' | b'a'..=b'f'))
 }
 
 // How many bytes stand for a line that fills the buffer and goes on. More data than the pool takes is refused whatever it is, so that of an `alloc` line 4,097 bytes of data
-// are enough, and the last digit where the number of digits is odd. 0: it is no call's line, whatever follows.
-fn shorten(buf: &mut [u8; 65536]) -> usize
+// are enough, and the last digit where the number of digits is odd. None: it is no call's line, whatever follows.
+fn shorten(buf: &mut [u8; 65536]) -> Option<usize>
     requires { Open buf.old }
     ensures { Shortens buf.old buf.new result }
 {
-    let from = data_start(buf);
-    if from == 0 {
-        return 0;
-    }
-    if all_hex(buf, from) {} else {
-        return 0;
+    let from = data_start(buf)?;
+    if !all_hex(&buf[from..]) {
+        return None;
     }
     let odd = (65536 - from) % 2;
     memory::move_within(buf, 65536 - odd, from + 8194, odd);
-    from + 8194 + odd
-}
-
-// What a script came to: 0, or the number of its refusal.
-#[derive(Clone, Copy)]
-struct After {
-    heap: Heap,
-    number: u64,
-}
-
-// Runs the lines of a script, the bytes of `s` from `from` up to `to`, until one is refused.
-fn run_part(
-    heap: Heap,
-    narrow: &mut [u32; 384],
-    wide: &mut [u64; 256],
-    pool: &mut [u8; 4096],
-    s: &[u8],
-    from: usize,
-    to: usize,
-    room: &mut [u8; 4096],
-    marks: &mut [u8; 64],
-    work: &mut [u64; 64],
-) -> After
-    requires lies { Lies (lent heap narrow.old wide.old pool.old) }
-    requires from_le_to { (from ≤ to) × (to ≤ length s.now) }
-    ensures { Ran (lent heap narrow.old wide.old pool.old)
-        (lent result.heap narrow.new wide.new pool.new) (take (to - from) (drop from s.now)) result.number }
-{
-    let done = run_door::yexwalu_run(heap, narrow, wide, pool, &s[from..to], room, marks, work);
-    let answer = done.answer;
-    let after = done.heap;
-    After {
-        heap: after,
-        number: answer.number,
-    }
-}
-
-// Where a run stands, and how many bytes are held at the start of the buffer.
-#[derive(Clone, Copy)]
-struct Kept {
-    at: At,
-    held: usize,
+    Some(from + 8194 + odd)
 }
 
 // Holds the bytes from `from` up to `end`, where no line ends, at the start of the buffer; those of a line that fills it are shortened, so that there is room to read on.
-fn keep(buf: &mut [u8; 65536], from: usize, end: usize) -> Kept
+fn keep(buf: &mut [u8; 65536], from: usize, end: usize) -> Option<usize>
     requires { (from ≤ end) × (end ≤ 65536) × Open (take (end - from) (drop from buf.old)) }
-    ensures { Keeps (take (end - from) (drop from buf.old)) buf.new result }
+    ensures { Shortens (take (end - from) (drop from buf.old)) buf.new result }
 {
     let n = end - from;
     memory::move_within(buf, from, 0, n);
     if n < 65536 {
-        return Kept {
-            at: At::Lines,
-            held: n,
-        };
+        return Some(n);
     }
-    let kept = shorten(buf);
-    if kept == 0 {
-        return Kept {
-            at: At::Over(17),
-            held: 0,
-        };
-    }
-    Kept {
-        at: At::Lines,
-        held: kept,
-    }
+    shorten(buf)
 }
 
-// Runs the whole lines of the bytes from `from` up to `end`, and holds what is left.
-fn run_lines(
-    heap: Heap,
-    narrow: &mut [u32; 384],
-    wide: &mut [u64; 256],
-    pool: &mut [u8; 4096],
-    buf: &mut [u8; 65536],
-    from: usize,
-    end: usize,
-    room: &mut [u8; 4096],
-    marks: &mut [u8; 64],
-    work: &mut [u64; 64],
-) -> Run
-    requires lies { Lies (lent heap narrow.old wide.old pool.old) }
-    requires from_le_end { (from ≤ end) × (end ≤ 65536) }
-    ensures { Goes At.Lines (lent heap narrow.old wide.old pool.old) (take (end - from) (drop from buf.old))
-        result (lent result.heap narrow.new wide.new pool.new) buf.new }
+// Does the text begin with the names line?
+fn named(s: &[u8]) -> bool
+    ensures { result ≡ is_there (read_literal names_line s.now) }
 {
-    let to = from + ready(buf, from, end);
-    let after = run_part(heap, narrow, wide, pool, buf, from, to, room, marks, work);
-    let h = after.heap;
-    let number = after.number;
-    if number != 0 {
-        return Run {
-            heap: h,
-            at: At::Over(number),
-            held: 0,
-        };
-    }
-    let kept = keep(buf, to, end);
-    let at = kept.at;
-    Run {
-        heap: h,
-        at: at,
-        held: kept.held,
-    }
-}
-
-// Do the first `n` bytes begin with the names line?
-fn named(s: &[u8], n: usize) -> bool
-    requires { n ≤ length s.now }
-    ensures { result ≡ is_there (read_literal names_line (take n s.now)) }
-{
-    match text::expect(&s[..n], 0, b"call,number,kind,bytes\n") {
-        Some(_) => true,
-        None => false,
-    }
-}
-
-// A new heap in lent memory, and a run at its start.
-pub fn begin(
-    narrow: &mut [u32; 384],
-    wide: &mut [u64; 256],
-    pool: &mut [u8; 4096],
-    marks: &mut [u8; 64],
-    work: &mut [u64; 64],
-) -> Run
-    ensures { Begun result (lent result.heap narrow.new wide.new pool.new) }
-{
-    let made = object_door::yexwalu_new(1, narrow, wide, pool, marks, work);
-    let heap = made.heap;
-    Run {
-        heap: heap,
-        at: At::Names,
-        held: 0,
-    }
-}
-
-// Goes on with the first `n` bytes of the buffer: those that were held, and those that were read after them.
-pub fn go_on(
-    run: Run,
-    narrow: &mut [u32; 384],
-    wide: &mut [u64; 256],
-    pool: &mut [u8; 4096],
-    buf: &mut [u8; 65536],
-    n: usize,
-    room: &mut [u8; 4096],
-    marks: &mut [u8; 64],
-    work: &mut [u64; 64],
-) -> Run
-    requires { Good run (lent run.heap narrow.old wide.old pool.old) × (n ≤ 65536) }
-    ensures { Goes run.at (lent run.heap narrow.old wide.old pool.old) (take n buf.old)
-        result (lent result.heap narrow.new wide.new pool.new) buf.new }
-{
-    let heap = run.heap;
-    let at = run.at;
-    match at {
-        At::Over(number) => Run {
-            heap: heap,
-            at: At::Over(number),
-            held: 0,
-        },
-        At::Lines => run_lines(heap, narrow, wide, pool, buf, 0, n, room, marks, work),
-        At::Names => {
-            if n < 23 {
-                return Run {
-                    heap: heap,
-                    at: At::Names,
-                    held: n,
-                };
-            }
-            if named(buf, n) {} else {
-                return Run {
-                    heap: heap,
-                    at: At::Over(17),
-                    held: 0,
-                };
-            }
-            run_lines(heap, narrow, wide, pool, buf, 23, n, room, marks, work)
-        }
-    }
+    text::expect(s, 0, b"call,number,kind,bytes\n").is_some()
 }
 
 // The number of a refusal, alone.
@@ -318,91 +126,167 @@ fn put_number(out: &mut [u8; 14592], number: u64) -> usize
     text::put_literal(out, k, b"\n")
 }
 
-// The page of a heap.
-fn put_page(
-    heap: Heap,
-    narrow: &[u32; 384],
-    wide: &[u64; 256],
-    pool: &[u8; 4096],
-    out: &mut [u8; 14592],
-    marks: &mut [u8; 64],
-    work: &mut [u64; 64],
-) -> usize
-    requires { Lies (lent heap narrow.now wide.now pool.now) }
-    ensures { Ends (page_text (written false) (view (lent heap narrow.now wide.now pool.now))) out.new result }
-{
-    widths::words(heap, narrow, wide, pool);
-    let written = page_door::yexwalu_write_page(heap, narrow, wide, pool, false, out, marks, work);
-    written.first as usize
-}
+impl Running {
+    // A new heap, and a run at its start.
+    // Kept: a library has memory of fixed size, a rule of the project.
+    pub fn begin() -> Running
+        ensures { Begun result.run (lies result) }
+    {
+        let mut narrow = [0u32; 384];
+        let mut wide = [0u64; 256];
+        let mut pool = [0u8; 4096];
+        let mut marks = [0u8; 64];
+        let mut work = [0u64; 64];
+        let made = object_door::yexwalu_new(
+            1,
+            &mut narrow,
+            &mut wide,
+            &mut pool,
+            &mut marks,
+            &mut work,
+        );
+        Running {
+            run: Run {
+                heap: made.heap,
+                at: At::Names,
+                held: 0,
+            },
+            narrow,
+            wide,
+            pool,
+            room: [0u8; 4096],
+            marks,
+            work,
+        }
+    }
 
-// The end of the input, or of what could be read of it: all that is printed, and how long it is. What is held is a line that lacks its end, and is run as it is.
-pub fn finish(
-    run: Run,
-    narrow: &mut [u32; 384],
-    wide: &mut [u64; 256],
-    pool: &mut [u8; 4096],
-    buf: &[u8; 65536],
-    failed: bool,
-    out: &mut [u8; 14592],
-    room: &mut [u8; 4096],
-    marks: &mut [u8; 64],
-    work: &mut [u64; 64],
-) -> usize
-    requires { Good run (lent run.heap narrow.old wide.old pool.old) }
-    ensures { Ends (text_left run.at failed (view (lent run.heap narrow.old wide.old pool.old)) (take run.held buf.now))
-        out.new result }
-{
-    let heap = run.heap;
-    let at = run.at;
-    let n = run.held;
-    match at {
-        At::Over(number) => put_number(out, number),
-        At::Names => put_number(out, 17),
-        At::Lines => {
-            let after = run_part(heap, narrow, wide, pool, buf, 0, n, room, marks, work);
-            let h = after.heap;
-            if after.number != 0 {
-                return put_number(out, after.number);
+    // Runs the lines of a script until one is refused; the number of its refusal.
+    fn run_part(&mut self, script: &[u8]) -> Result<(), u64>
+        ensures { Ran self.old.run (lies self.old) script.now self.new.run (lies self.new) result }
+    {
+        let narrow = &mut self.narrow;
+        let wide = &mut self.wide;
+        let pool = &mut self.pool;
+        let room = &mut self.room;
+        let marks = &mut self.marks;
+        let work = &mut self.work;
+        let done = run_door::yexwalu_run(
+            self.run.heap,
+            narrow,
+            wide,
+            pool,
+            script,
+            room,
+            marks,
+            work,
+        );
+        self.run.heap = done.heap;
+        let number = done.answer.number;
+        if number != 0 {
+            return Err(number);
+        }
+        Ok(())
+    }
+
+    // Runs the whole lines of the bytes from `from` up to `end`, and holds what is left.
+    fn run_lines(&mut self, buf: &mut [u8; 65536], from: usize, end: usize)
+        requires { (from ≤ end) × (end ≤ 65536) }
+        ensures { Goes At.Lines (lies self.old) (take (end - from) (drop from buf.old))
+            self.new.run (lies self.new) buf.new }
+    {
+        let to = from + whole(&buf[from..end]);
+        if let Err(number) = self.run_part(&buf[from..to]) {
+            self.run = self.run.over(number);
+            return;
+        }
+        let Some(held) = keep(buf, to, end) else {
+            self.run = self.run.over(17);
+            return;
+        };
+        self.run = Run {
+            at: At::Lines,
+            held,
+            ..self.run
+        };
+    }
+
+    // Goes on with the first `n` bytes of the buffer: those that were held, and those that were read after them.
+    pub fn go_on(&mut self, buf: &mut [u8; 65536], n: usize)
+        requires { n ≤ 65536 }
+        ensures { Goes self.old.run.at (lies self.old) (take n buf.old)
+            self.new.run (lies self.new) buf.new }
+    {
+        match self.run.at {
+            At::Over(number) => {
+                self.run = self.run.over(number);
             }
-            if failed {
-                return put_number(out, 17);
+            At::Lines => self.run_lines(buf, 0, n),
+            At::Names => {
+                if n < 23 {
+                    self.run.held = n;
+                    return;
+                }
+                if !named(&buf[..n]) {
+                    self.run = self.run.over(17);
+                    return;
+                }
+                self.run_lines(buf, 23, n);
             }
-            put_page(h, narrow, wide, pool, out, marks, work)
+        }
+    }
+
+    // The page of the heap.
+    fn put_page(&mut self, out: &mut [u8; 14592]) -> usize
+        ensures { Ends (page_text (written false) (view (lies self.old))) out.new result }
+    {
+        let narrow = &self.narrow;
+        let wide = &self.wide;
+        let pool = &self.pool;
+        let marks = &mut self.marks;
+        let work = &mut self.work;
+        let heap = self.run.heap;
+        widths::words(heap, narrow, wide, pool);
+        let written = page_door::yexwalu_write_page(
+            heap, narrow, wide, pool, false, out, marks, work,
+        );
+        written.first as usize
+    }
+
+    // The end of the input, or of what could be read of it: all that is printed, and how long it is. What is held is a line that lacks its end, and is run as it is.
+    pub fn finish(&mut self, buf: &[u8; 65536], failed: bool, out: &mut [u8; 14592]) -> usize
+        ensures { Ends (text_left self.old.run.at failed (view (lies self.old)) (take self.old.run.held buf.now))
+            out.new result }
+    {
+        match self.run.at {
+            At::Over(number) => put_number(out, number),
+            At::Names => put_number(out, 17),
+            At::Lines => {
+                if let Err(number) = self.run_part(&buf[..self.run.held]) {
+                    return put_number(out, number);
+                }
+                if failed {
+                    return put_number(out, 17);
+                }
+                self.put_page(out)
+            }
         }
     }
 }
 
-fn least(a: usize, b: usize) -> usize
-    ensures { result ≡ min a b }
-{
-    if a < b { a } else { b }
-}
-
 // ALL THAT IS PRINTED for an input, in parts that the buffer takes. `failed`: the input could not be read to its end.
-pub fn print_all(
-    input: &[u8],
-    failed: bool,
-    narrow: &mut [u32; 384],
-    wide: &mut [u64; 256],
-    pool: &mut [u8; 4096],
-    buf: &mut [u8; 65536],
-    out: &mut [u8; 14592],
-    room: &mut [u8; 4096],
-    marks: &mut [u8; 64],
-    work: &mut [u64; 64],
-) -> usize
+pub fn print_all(input: &[u8], failed: bool, out: &mut [u8; 14592]) -> usize
     ensures { Ends (printed failed input.now) out.new result }
 {
-    let mut run = begin(narrow, wide, pool, marks, work);
-    let mut used = 0;
-    while used < input.len() {
-        let held = run.held;
-        let more = least(input.len() - used, 65536 - held);
-        let next = used + more;
-        memory::copy(buf, held, &input[used..next]);
-        run = go_on(run, narrow, wide, pool, buf, held + more, room, marks, work);
-        used = next;
+    let mut running = Running::begin();
+    let mut buf = [0u8; 65536];
+    let mut rest = input;
+    // Kept: how much a turn takes is what the run leaves room for, so that no iterator gives the parts.
+    while !rest.is_empty() {
+        let held = running.run.held;
+        let more = rest.len().min(65536 - held);
+        memory::copy(&mut buf, held, &rest[..more]);
+        running.go_on(&mut buf, held + more);
+        rest = &rest[more..];
     }
-    finish(run, narrow, wide, pool, buf, failed, out, room, marks, work)
+    running.finish(&buf, failed, out)
 }

@@ -20,28 +20,11 @@ fn unfold(alloc: Global, folded: &[u8]) -> Result<Vec<u8>, AllocError> {
 }
 
 // What is printed for an input.
+// Kept: a page has at most as many bytes, and `print_all` asks for that size by its type.
 fn show(rt: &impl Print, input: &[u8], failed: bool) -> io::Result<()> {
-    let mut narrow = [0u32; 384];
-    let mut wide = [0u64; 256];
-    let mut pool = [0u8; 4096];
-    let mut room = [0u8; 4096];
-    let mut marks = [0u8; 64];
-    let mut work = [0u64; 64];
-    let mut buf = [0u8; 65536];
     let mut out = [0u8; 14592];
-    let n = page_runs::print_all(
-        input,
-        failed,
-        &mut narrow,
-        &mut wide,
-        &mut pool,
-        &mut buf,
-        &mut out,
-        &mut room,
-        &mut marks,
-        &mut work,
-    );
-    rt.write_all(out.get(..n).unwrap_or(&[]))
+    let n = page_runs::print_all(input, failed, &mut out);
+    rt.write_all(&out[..n])
 }
 
 fn main(rt: HostRuntime) -> io::Result<()> {

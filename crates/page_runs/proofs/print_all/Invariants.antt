@@ -1,12 +1,11 @@
--- `page_runs::print_all` meets its contract. The invariant: what is left to be printed is what is printed for all of the input.
-use Prim.Native.Nat.{◌-◌}
+-- The invariant: what is left to be printed is what is printed for all of the input.
 use lib.ListN.{length}
-use Rattle.heap.specs.Lent.{lent}
+use Rattle.page_runs.specs.Inner.Held.{lies}
 use Rattle.page_runs.proofs.Going.{Going}
 use Rattle.page_runs.proofs.print_all.Given as goal
 
-abbrev pub invariant-loop-used : goal.invariant-loop-used
-invariant-loop-used l = Going l.input l.run (lent l.run.heap l.narrow l.wide l.pool) l.buf l.used
+abbrev pub invariant-loop-rest : goal.invariant-loop-rest
+invariant-loop-rest l = Going l.input l.running.run (lies l.running) l.buf l.rest
 
-abbrev pub decreases-loop-used : goal.decreases-loop-used
-decreases-loop-used l = length l.input - l.used
+abbrev pub decreases-loop-rest : goal.decreases-loop-rest
+decreases-loop-rest l = length l.rest

@@ -1,5 +1,6 @@
 -- A line that is longer than the buffer: all that it needs to be answered.
-use Rattle.std.specs.Prelude.{ℕ, ◌^◌, ◌≤◌, ◌<◌, Bool, ◌&&◌, ◌||◌, List, ◌++◌, ◌≡◌, leb, length, take, get_or}
+use Rattle.std.specs.Prelude.{ℕ, ◌^◌, ◌≤◌, ◌<◌, Bool, true, ◌&&◌, ◌||◌, List, ◌++◌, ◌≡◌, leb, length, take, get_or}
+use Rattle.std.specs.Prelude.{Option as Maybe, Some, None}
 use Rattle.std.proofs.Math.Option.{Option, none}
 use Rattle.text.specs.Text.{◌>>=◌, ascii, newline, comma, read_literal}
 use Rattle.text.specs.Format.{number}
@@ -29,13 +30,16 @@ pub record DataFrom (t : List ℕ) (r : ℕ) : Type 0 where
   pub short : r ≤ 21
   pub inside : r ≤ length t
 
--- 0: it does not begin like an `alloc` line
-pub record HeadFound (t : List ℕ) (r : ℕ) : Type 0 where
-  pub none : r ≡ 0 → read_head t ≡ none
-  pub some : (r ≡ 0 → ⊥) → DataFrom t r
+-- where the data begins; None: it does not begin like an `alloc` line
+abbrev pub HeadFound : (t : List ℕ) → Maybe ℕ → Type 0
+HeadFound t (Some r) = DataFrom t r
+HeadFound t None = read_head t ≡ none
 
 abbrev pub is_hex : ℕ → Bool
 is_hex b = (leb 48 b && leb b 57) || (leb 97 b && leb b 102)
+
+abbrev pub AllHex : List ℕ → Type 0
+AllHex t = (i : ℕ) → i < length t → is_hex (get_or t i 0) ≡ true
 
 -- whatever follows, the line is no call's
 abbrev pub Bad : List ℕ → Type 0
@@ -45,8 +49,7 @@ Bad t = (rest : List ℕ) (h : State) → run_script 64 4096 (t ++ rest) h ≡ r
 abbrev pub Alike : (t u : List ℕ) → Type 0
 Alike t u = (rest : List ℕ) (h : State) → run_script 64 4096 (t ++ rest) h ≡ run_script 64 4096 (u ++ rest) h
 
--- the first r bytes of b' stand for all of b; 0: it is no call's line
-pub record Shortens (b b' : List ℕ) (r : ℕ) : Type 0 where
-  pub room : r < 65536
-  pub bad : r ≡ 0 → Bad b
-  pub alike : (r ≡ 0 → ⊥) → Alike b (take r b')
+-- the first r bytes of b' stand for all of b; None: it is no call's line
+abbrev pub Shortens : (b b' : List ℕ) → Maybe ℕ → Type 0
+Shortens b b' (Some r) = (r < 65536) × Alike b (take r b')
+Shortens b b' None = Bad b

@@ -1,5 +1,6 @@
 -- What is left to be printed, by where a run stands; the contracts of its steps say that a step leaves it as it is.
 use Rattle.std.specs.Prelude.{ℕ, ◌≤◌, ◌<◌, Bool, true, false, List, ◌++◌, ◌≡◌, length, take, get_or}
+use Rattle.std.specs.Prelude.{Result as Outcome, Ok, Err}
 use Rattle.std.proofs.Math.Option.{Option, none, some}
 use Rattle.word.specs.Result.{refused}
 use Rattle.text.specs.Text.{newline, read_literal}
@@ -12,7 +13,6 @@ use Rattle.script.specs.Script.{ends_line, run_script}
 use Rattle.page_runs.specs.declared.At.{At}
 use Rattle.page_runs.specs.declared.At.TheVariants.{Names, Lines, Over}
 use Rattle.page_runs.specs.declared.Run.{Run}
-use Rattle.page_runs.specs.declared.Kept.{Kept}
 use Rattle.page_runs.specs.Printed.{names_line, shown, after_names, printed}
 
 -- what is left to be printed: h the heap, `rest` the input that is held and that which is not yet read
@@ -29,9 +29,7 @@ pub record Lies (l : Lent) : Type 0 where
 
 -- fewer bytes are held than the names line has, while it is due
 abbrev pub Short : At → ℕ → Type 0
-Short Names n = n < 23
-Short Lines n = Unit
-Short (Over k) n = Unit
+Short at n = at ≡ Names → n < 23
 
 -- a run stands where it can stand, and has room to read on
 pub record Good (r : Run) (l : Lent) : Type 0 where
@@ -55,23 +53,23 @@ pub record Ends (text out : List ℕ) (to : ℕ) : Type 0 where
   pub room : to ≤ 14592
   pub same : take to out ≡ text
 
--- a script was run: 0, and the heap that it leaves, or the number of its refusal
-pub record Ran (l l' : Lent) (script : List ℕ) (number : ℕ) : Type 0 where
+-- the heap that a script leaves, or the number of its refusal
+abbrev pub Says : (l l' : Lent) (script : List ℕ) → Outcome Unit ℕ → Type 0
+Says l l' script (Ok u) = run_script 64 4096 script (view l) ≡ done tt (view l')
+Says l l' script (Err n) = (run_script 64 4096 script (view l)).answer ≡ refused n
+
+-- a script was run, and the run stands where it stood
+pub record Ran (r : Run) (l : Lent) (script : List ℕ) (r' : Run) (l' : Lent) (answer : Outcome Unit ℕ) : Type 0 where
   pub heap : Lies l'
-  pub done : number ≡ 0 → run_script 64 4096 script (view l) ≡ done tt (view l')
-  pub refused : (number ≡ 0 → ⊥) → (run_script 64 4096 script (view l)).answer ≡ refused number
+  pub at : r'.at ≡ r.at
+  pub held : r'.held ≡ r.held
+  pub says : Says l l' script answer
 
 -- the first r bytes are whole lines, and no line ends after them
 pub record Cut (t : List ℕ) (r : ℕ) : Type 0 where
   pub inside : r ≤ length t
   pub lines : ends_line (take r t) ≡ true
   pub later : (j : ℕ) → r ≤ j → j < length t → get_or t j 0 ≡ newline → ⊥
-
--- what is held of a text stands at the start of `buf`
-pub record Keeps (text buf : List ℕ) (k : Kept) : Type 0 where
-  pub room : k.held < 65536
-  pub short : Short k.at k.held
-  pub same : (failed : Bool) (h : State) (rest : List ℕ) → text_left Lines failed h (text ++ rest) ≡ text_left k.at failed h (take k.held buf ++ rest)
 
 abbrev pub is_there : Option (List ℕ) → Bool
 is_there none = false
@@ -81,3 +79,7 @@ abbrev pub is_over : At → Bool
 is_over Names = false
 is_over Lines = false
 is_over (Over n) = true
+
+-- a run at its end
+abbrev pub over_with : Run → ℕ → Run
+over_with r n = record { heap = r.heap; at = Over n; held = 0 }

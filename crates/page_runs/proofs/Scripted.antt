@@ -28,14 +28,15 @@ use Rattle.heap_calls.proofs.Allocating.{alloc-sound}
 use Rattle.heap_calls.specs.Pins.{rising_from}
 use Rattle.heap_edit.proofs.Soundness.{seal-sound, resolved_live}
 use Rattle.door.specs.HeapCalls.{Outcome, outcome_of, enough, admitted}
-use Rattle.std.specs.Prelude.{Err}
+use Rattle.std.specs.Prelude.{Ok, Err}
 use Rattle.door.specs.HeapCalls.{ready}
 use Rattle.door.proofs.Entering.{is-enough, calling-not, calling-ready}
 use Rattle.object_door.specs.ObjectCalls.{is_kind, allocating, recycling}
 use Rattle.script.specs.Script.{Call, alloc, take, seal, recycle, call_of, lines, is_call, first_is_call, begins_call, silent, doing, line_does, unless, run_lines, run_script}
 use Rattle.script.proofs.Refusing.{Numbered, alloc-numbered, free-numbered}
 use Rattle.run_door.specs.Run.{run_tests, run_call}
-use Rattle.page_runs.specs.Inner.Steps.{Lies, Ran}
+use Rattle.page_runs.specs.declared.Run.{Run}
+use Rattle.page_runs.specs.Inner.Steps.{Lies, Good, Ran}
 
 -- ---- a call keeps the heap sound, and is not refused with 0
 
@@ -126,6 +127,12 @@ module _ (S P : ℕ) where
 
 -- ---- through the front door
 
+-- a script was run: 0, and the heap that it leaves, or the number of its refusal
+pub record Told (l l' : Lent) (script : List ℕ) (number : ℕ) : Type 0 where
+  pub heap : Lies l'
+  pub done : number ≡ 0 → run_script 64 4096 script (view l) ≡ done tt (view l')
+  pub refused : (number ≡ 0 → ⊥) → (run_script 64 4096 script (view l)).answer ≡ refused number
+
 stored-count : (S P : ℕ) (h : State) → slot_count (stored S P h) ≡ S
 unfolding stored
 stored-count S P h = refl
@@ -145,10 +152,10 @@ module _ (l : Lent) (lies : Lies l) where
 
   -- what a script answers and leaves
   by_answer : (r : Changed Unit) (a : Answer) (l' : Lent) → Lies l' → view l' ≡ r.heap → Numbered r.answer → a ≡ answered nothing nothing r.answer → (script : List ℕ)
-      → run_script 64 4096 script (view l) ≡ r → Ran l l' script a.number
+      → run_script 64 4096 script (view l) ≡ r → Told l l' script a.number
   by_answer r a l' there v n e script is = go r.answer refl n e
     where
-      go : (x : Result Unit) → r.answer ≡ x → Numbered x → a ≡ answered nothing nothing x → Ran l l' script a.number
+      go : (x : Result Unit) → r.answer ≡ x → Numbered x → a ≡ answered nothing nothing x → Told l l' script a.number
       go (ok u) f m g =
           let z : a.number ≡ 0 = ap (λ (y : Answer). y.number) g in
           record { heap = there; done = λ _. is ∙ (λ j. record { answer = f j; heap = sym v j }); refused = λ k. absurd (k z) }
@@ -177,10 +184,10 @@ module _ (l : Lent) (lies : Lies l) where
     sized : run_script 64 4096 script (view l) ≡ run_script S P script (view l)
     sized = λ j. run_script (sym lies.slots j) (sym lies.pool j) script (view l)
 
-    pub ran-is : (a : Answer) (l' : Lent) (left : List (List ℕ)) → outcome_of a l' left ≡ run_call room marks work l script → Ran l l' script a.number
+    pub ran-is : (a : Answer) (l' : Lent) (left : List (List ℕ)) → outcome_of a l' left ≡ run_call room marks work l script → Told l l' script a.number
     ran-is a l' left e = go (begins_call script) refl
       where
-        go : (b : Bool) → begins_call script ≡ b → Ran l l' script a.number
+        go : (b : Bool) → begins_call script ≡ b → Told l l' script a.number
         go true f =
             let q = e ∙ calling-ready nothing nothing (room ∷ marks ∷ work ∷ []) (run_tests room marks work l script) l (run_script S P script) (is-ready f) in
             let r : Changed Unit = run_script S P script (view l) in
@@ -192,3 +199,20 @@ module _ (l : Lent) (lies : Lies l) where
             let at : l ≡ l' = sym (ap (λ (o : Outcome). o.heap) q) in
             let n : a ≡ refused_by 17 = ap (λ (o : Outcome). o.answer) q in
             by_answer (refuse 17 (view l)) a l' (subst Lies at lies) (ap view (sym at)) (omega arith) n script (sized ∙ run-first S P script (view l) f)
+
+-- the same of a run, which stands where it stood
+module _ {l l' : Lent} {script : List ℕ} {number : ℕ} (t : Told l l' script number) {r r' : Run} (at : r'.at ≡ r.at) (held : r'.held ≡ r.held) where
+  pub ran-refused : (number ≡ 0 → ⊥) → Ran r l script r' l' (Err number)
+  ran-refused n = record { heap = t.heap; at = at; held = held; says = t.refused n }
+
+  pub ran-done : number ≡ 0 → Ran r l script r' l' (Ok tt)
+  ran-done z = record { heap = t.heap; at = at; held = held; says = t.done z }
+
+-- it stands where it can stand
+pub still-good : {l l' : Lent} {script : List ℕ} {number : ℕ} {r r' : Run} → Told l l' script number → r'.at ≡ r.at → r'.held ≡ r.held → Good r l → Good r' l'
+still-good {r = r} {r' = r'} t at held g =
+    record {
+      heap = t.heap;
+      short = λ e. omega (arith, g.short (sym at ∙ e), held);
+      room = omega (arith, g.room);
+    }
