@@ -15,3 +15,4 @@ pub mod Recycled
 pub mod Columns
 pub mod Questions
 pub mod LiveSlots
+pub mod Headers

@@ -3,6 +3,7 @@ ghost use Rattle.std.specs.Prelude.{◌≡◌, ◌+◌, ◌-◌, ◌<◌, length
 ghost use Rattle.refusal.specs.Told.{told, answered};
 ghost use Rattle.handle.specs.Handle.{told as found};
 ghost use Rattle.heap.specs.State.{slot_at, live as alive, data_size};
+ghost use Rattle.heap.specs.Calls.{gc_due, reclaim_due, has_quarantine, is_plain};
 ghost use Rattle.heap.specs.Calls.{live_count, Place, place_at, Kind, kind_at, Stamp, stamp_at, resolve as resolved};
 ghost use Rattle.heap.specs.Seen.{state, seen_at};
 
@@ -74,10 +75,9 @@ impl<'a> View<'a> {
     pub fn data(self, i: usize) -> Reply
         ensures { told result ≡ answered (λ (p : Place). p.from) (λ (p : Place). p.size) (place_at (state self.entry) i) }
     {
-        match self.visible(i) {
-            Err(why) => Err(why),
-            Ok(None) => Err(Refusal::NothingThere),
-            Ok(Some((from, size))) => Ok((from as u64, size as u64)),
+        match self.visible(i)? {
+            None => Err(Refusal::NothingThere),
+            Some((from, size)) => Ok((from as u64, size as u64)),
         }
     }
 
@@ -120,6 +120,20 @@ impl<'a> View<'a> {
             return Err(Refusal::NothingThere);
         }
         Ok((narrow[i] as u64, wide[2 * s + i]))
+    }
+
+    // How many bytes of the pool no data takes.
+    pub fn room(self) -> usize
+        ensures { result ≡ length self.entry.pool.now - data_size (state self.entry).slots }
+    {
+        let View {
+            heap,
+            narrow,
+            wide,
+            pool,
+        } = self;
+        let s = narrow.len() / 6;
+        pool.len() - crate::start_of(wide, s, heap.slots)
     }
 
     // Do `m` bytes fit in place of the data of slot `i`?
@@ -170,5 +184,39 @@ impl<'a> View<'a> {
             pool: _,
         } = self;
         wide[i as usize]
+    }
+    // Is a collection due: more since the last one than the threshold, and than what outlived it?
+    pub fn gc_due(self, threshold: u64) -> bool
+        ensures { result ≡ gc_due (state self.entry) threshold }
+    {
+        threshold.max(self.heap.live_bytes) < self.heap.since_gc
+    }
+
+    // Are there so many slots in quarantine that they should be recycled?
+    pub fn reclaim_due(self) -> bool
+        ensures { result ≡ reclaim_due (state self.entry) }
+    {
+        self.heap.reclaim_at <= self.heap.quarantine
+    }
+
+    // Is a slot in quarantine?
+    pub fn has_quarantine(self) -> bool
+        ensures { result ≡ has_quarantine (state self.entry) }
+    {
+        0 < self.heap.quarantine
+    }
+
+    // Is it the heap of this tag, with nothing sealed?
+    pub fn is_plain(self, tag: u8) -> bool
+        ensures { result ≡ is_plain (state self.entry) tag }
+    {
+        self.heap.tag == tag && self.heap.sealed == 0
+    }
+
+    // The number of slots, live and dead.
+    pub fn slots(self) -> u64
+        ensures { result ≡ length (state self.entry).slots }
+    {
+        self.heap.slots as u64
     }
 }

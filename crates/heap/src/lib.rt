@@ -194,6 +194,17 @@ pub fn splice(end: &mut [u64], pool: &mut [u8], n: usize, i: usize, new: &[u8])
     memory::shift(end, i, n, (b - a) as u64, m as u64);
 }
 
+// What a slot is to hold: its numbers and its data.
+#[derive(Clone, Copy)]
+pub struct Contents<'a> {
+    pub generation: u32,
+    pub kind: u32,
+    pub ty: u32,
+    pub start: u64,
+    pub writes: u64,
+    pub bytes: &'a [u8],
+}
+
 // Slot `i` gets these numbers and this data.
 pub fn place(
     heap: Heap,
@@ -201,23 +212,19 @@ pub fn place(
     wide: &mut [u64],
     pool: &mut [u8],
     i: usize,
-    g: u32,
-    k: u32,
-    t: u32,
-    start: u64,
-    w: u64,
-    bytes: &[u8],
+    new: Contents,
 )
-    requires { CanPlace (lent heap narrow.old wide.old pool.old) i bytes.now }
-    ensures { PlacedIn (lent heap narrow.old wide.old pool.old) (lent heap narrow.new wide.new pool.new) i g k t start w bytes.now }
+    requires { CanPlace (lent heap narrow.old wide.old pool.old) i new.bytes.now }
+    ensures { PlacedIn (lent heap narrow.old wide.old pool.old) (lent heap narrow.new wide.new pool.new) i
+        new.entry.generation new.entry.kind new.entry.ty new.entry.start new.entry.writes new.entry.bytes.now }
 {
     let s = narrow.len() / 6;
     let two = 2 * s;
     let n = heap.slots;
-    narrow[i] = g;
-    narrow[s + i] = k;
-    narrow[two + i] = t;
-    wide[i] = start;
-    wide[two + i] = w;
-    splice(&mut wide[s..two], pool, n, i, bytes);
+    narrow[i] = new.generation;
+    narrow[s + i] = new.kind;
+    narrow[two + i] = new.ty;
+    wide[i] = new.start;
+    wide[two + i] = new.writes;
+    splice(&mut wide[s..two], pool, n, i, new.bytes);
 }

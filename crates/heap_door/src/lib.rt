@@ -15,6 +15,7 @@ ghost use Rattle.heap_door.specs.Sealing.{sealing};
 use door::{Done, enter, see};
 use heap::Heap;
 use heap::view_mut::ViewMut;
+use heap_edit::yes;
 use refusal::Answer;
 
 // ---- questions
@@ -33,9 +34,9 @@ pub fn yexwalu_gc_due(
         ≡ heap_ask bit nothing marks.old work.old
         (lent heap narrow.now wide.now pool.now) (λ h. ok (gc_due h threshold)) }
 {
-    match enter(heap, narrow, wide, pool, marks, work) {
+    match see(heap, narrow, wide, pool, marks, work) {
         Err(why) => Answer::from(Err(why)),
-        Ok(()) => Answer::from(heap_edit::gc_due(heap, threshold)),
+        Ok(view) => Answer::from(yes(view.gc_due(threshold))),
     }
 }
 
@@ -52,9 +53,9 @@ pub fn yexwalu_reclaim_due(
         ≡ heap_ask bit nothing marks.old work.old
         (lent heap narrow.now wide.now pool.now) (λ h. ok (reclaim_due h)) }
 {
-    match enter(heap, narrow, wide, pool, marks, work) {
+    match see(heap, narrow, wide, pool, marks, work) {
         Err(why) => Answer::from(Err(why)),
-        Ok(()) => Answer::from(heap_edit::reclaim_due(heap)),
+        Ok(view) => Answer::from(yes(view.reclaim_due())),
     }
 }
 
@@ -71,9 +72,9 @@ pub fn yexwalu_has_quarantine(
         ≡ heap_ask bit nothing marks.old work.old
         (lent heap narrow.now wide.now pool.now) (λ h. ok (has_quarantine h)) }
 {
-    match enter(heap, narrow, wide, pool, marks, work) {
+    match see(heap, narrow, wide, pool, marks, work) {
         Err(why) => Answer::from(Err(why)),
-        Ok(()) => Answer::from(heap_edit::has_quarantine(heap)),
+        Ok(view) => Answer::from(yes(view.has_quarantine())),
     }
 }
 
@@ -91,9 +92,9 @@ pub fn yexwalu_is_plain(
         ≡ heap_ask bit nothing marks.old work.old
         (lent heap narrow.now wide.now pool.now) (λ h. ok (is_plain h tag)) }
 {
-    match enter(heap, narrow, wide, pool, marks, work) {
+    match see(heap, narrow, wide, pool, marks, work) {
         Err(why) => Answer::from(Err(why)),
-        Ok(()) => Answer::from(heap_edit::is_plain(heap, tag)),
+        Ok(view) => Answer::from(yes(view.is_plain(tag))),
     }
 }
 
@@ -110,9 +111,9 @@ pub fn yexwalu_slots(
         ≡ heap_ask here nothing marks.old work.old
         (lent heap narrow.now wide.now pool.now) (λ h. ok (length h.slots)) }
 {
-    match enter(heap, narrow, wide, pool, marks, work) {
+    match see(heap, narrow, wide, pool, marks, work) {
         Err(why) => Answer::from(Err(why)),
-        Ok(()) => Answer::from(heap_edit::slots(heap)),
+        Ok(view) => Answer::from(Ok((view.slots(), 0))),
     }
 }
 

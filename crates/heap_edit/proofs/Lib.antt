@@ -1,4 +1,3 @@
-pub mod Questions
 pub mod Cases
 pub mod Soundness
 pub mod Replacing

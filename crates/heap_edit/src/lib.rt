@@ -7,73 +7,26 @@ ghost use Rattle.refusal.specs.Told.{told, answered, here, nothing};
 ghost use Rattle.heap.specs.State.{bit};
 ghost use Rattle.heap.specs.Lent.{lent, stored, view};
 ghost use Rattle.heap.specs.WellFormed.{well_formed};
-ghost use Rattle.heap.specs.Calls.{gc_due, reclaim_due, has_quarantine, is_plain};
 ghost use Rattle.heap.specs.Calls.{resolve as resolved, edit as edited, write as written, reissue as reissued, seal as sealed_by, new as new_heap};
 ghost use Rattle.heap.specs.Columns.{CanPlace, PlacedIn};
 ghost use Rattle.heap.specs.Done.{Leaves, Tells};
 ghost use Rattle.heap.specs.Loans.{state, Replies};
 ghost use Rattle.heap.specs.Seen.{state as seen_state};
-ghost use Rattle.heap_edit.specs.Header.{OfHeader};
 ghost use Rattle.heap_edit.specs.Inner.Handles.{CanList, Listing, Listed, AllListed};
 
 use heap::view::View;
 use heap::view_mut::ViewMut;
-use heap::{Changed, Heap};
+use heap::{Changed, Contents, Heap};
 use refusal::{Refusal, Reply};
 
-// ---- What the header alone answers
+// ---- Answers as replies
 
 // Yes or no, as a reply.
-fn yes(b: bool) -> Reply
+pub fn yes(b: bool) -> Reply
     ensures { told result ≡ answered bit nothing (ok b) }
 {
-    if b {
-        return Ok((1, 0));
-    }
-    Ok((0, 0))
+    Ok((u64::from(b), 0))
 }
-
-// Is a collection due: more since the last one than the threshold, and than what outlived it?
-pub fn gc_due(heap: Heap, threshold: u64) -> Reply
-    ensures { OfHeader heap result (λ h. bit (gc_due h threshold)) }
-{
-    if heap.since_gc <= threshold {
-        return yes(false);
-    }
-    yes(heap.live_bytes < heap.since_gc)
-}
-
-// Are there so many slots in quarantine that they should be recycled?
-pub fn reclaim_due(heap: Heap) -> Reply
-    ensures { OfHeader heap result (λ h. bit (reclaim_due h)) }
-{
-    yes(heap.reclaim_at <= heap.quarantine)
-}
-
-pub fn has_quarantine(heap: Heap) -> Reply
-    ensures { OfHeader heap result (λ h. bit (has_quarantine h)) }
-{
-    yes(0 < heap.quarantine)
-}
-
-// Is it the heap of this tag, with nothing sealed?
-pub fn is_plain(heap: Heap, tag: u8) -> Reply
-    ensures { OfHeader heap result (λ h. bit (is_plain h tag)) }
-{
-    if heap.tag != tag {
-        return yes(false);
-    }
-    yes(heap.sealed == 0)
-}
-
-// The number of slots, live and dead.
-pub fn slots(heap: Heap) -> Reply
-    ensures { OfHeader heap result (λ h. length h.slots) }
-{
-    Ok((heap.slots as u64, 0))
-}
-
-// ---- What a view answers, as a reply
 
 // The slot that a handle leads to.
 pub fn resolve(view: View, x: u64) -> Reply
@@ -126,11 +79,15 @@ fn replace(
         start ((slice_index wide.old (2 * (length narrow.old / 6) + i) + 1) % 2 ^ 64) bytes.now }
 {
     let s = narrow.len() / 6;
-    let g = narrow[i];
-    let k = narrow[s + i];
-    let t = narrow[2 * s + i];
-    let w = raised(wide[2 * s + i]);
-    heap::place(heap, narrow, wide, pool, i, g, k, t, start as u64, w, bytes);
+    let new = Contents {
+        generation: narrow[i],
+        kind: narrow[s + i],
+        ty: narrow[2 * s + i],
+        start: start as u64,
+        writes: raised(wide[2 * s + i]),
+        bytes,
+    };
+    heap::place(heap, narrow, wide, pool, i, new);
 }
 
 // New bytes and a new start for the object that a handle leads to.

@@ -14,6 +14,7 @@ ghost use Rattle.held.specs.Held.{in_place, Held};
 
 use heap::view::View;
 use heap::view_mut::ViewMut;
+use heap_edit::yes;
 use refusal::Answer;
 
 // Takes out the object that the handle names, as `yexwalu_held_take` does, without handing it out.
@@ -278,7 +279,13 @@ pub fn yexwalu_held_slots(
         (view (in_place tag.now numbers.now log.now lengths.now narrow.now wide.now pool.now)).slots)) }
 {
     let heap = held::header(tag, numbers, log, lengths);
-    Answer::from(heap_edit::slots(heap))
+    let view = View {
+        heap,
+        narrow,
+        wide,
+        pool,
+    };
+    Answer::from(Ok((view.slots(), 0)))
 }
 
 // Is a collection due? First: 1 for yes, 0 for no.
@@ -297,7 +304,13 @@ pub fn yexwalu_held_gc_due(
         (view (in_place tag.now numbers.now log.now lengths.now narrow.now wide.now pool.now)) threshold)) }
 {
     let heap = held::header(tag, numbers, log, lengths);
-    Answer::from(heap_edit::gc_due(heap, threshold))
+    let view = View {
+        heap,
+        narrow,
+        wide,
+        pool,
+    };
+    Answer::from(yes(view.gc_due(threshold)))
 }
 
 // Should the slots in quarantine be recycled? First: 1 for yes, 0 for no.
@@ -315,7 +328,13 @@ pub fn yexwalu_held_reclaim_due(
         (view (in_place tag.now numbers.now log.now lengths.now narrow.now wide.now pool.now)))) }
 {
     let heap = held::header(tag, numbers, log, lengths);
-    Answer::from(heap_edit::reclaim_due(heap))
+    let view = View {
+        heap,
+        narrow,
+        wide,
+        pool,
+    };
+    Answer::from(yes(view.reclaim_due()))
 }
 
 // Is a slot in quarantine? First: 1 for yes, 0 for no.
@@ -333,7 +352,13 @@ pub fn yexwalu_held_has_quarantine(
         (view (in_place tag.now numbers.now log.now lengths.now narrow.now wide.now pool.now)))) }
 {
     let heap = held::header(tag, numbers, log, lengths);
-    Answer::from(heap_edit::has_quarantine(heap))
+    let view = View {
+        heap,
+        narrow,
+        wide,
+        pool,
+    };
+    Answer::from(yes(view.has_quarantine()))
 }
 
 // Is it the heap of this tag, with nothing sealed? First: 1 for yes, 0 for no.
@@ -352,5 +377,11 @@ pub fn yexwalu_held_is_plain(
         (view (in_place tag.now numbers.now log.now lengths.now narrow.now wide.now pool.now)) wanted)) }
 {
     let heap = held::header(tag, numbers, log, lengths);
-    Answer::from(heap_edit::is_plain(heap, wanted))
+    let view = View {
+        heap,
+        narrow,
+        wide,
+        pool,
+    };
+    Answer::from(yes(view.is_plain(wanted)))
 }

@@ -26,7 +26,6 @@ use Rattle.heap.specs.declared.Heap.{Heap}
 use Rattle.heap.proofs.Storing.{view-stored}
 use Rattle.heap.proofs.Testing.{formed-tested}
 use Rattle.heap_calls.specs.Pins.{rising_from, rising}
-use Rattle.heap_edit.specs.Header.{OfHeader}
 use Rattle.reach.specs.Marking.{State as Marks, marking}
 use Rattle.collection.specs.Swept.{live_size, swept}
 use Rattle.collection.specs.Shown.{shown}
@@ -42,16 +41,6 @@ use Rattle.rehearsal_steps.specs.Going.{going_on, ended_by, InOrder, Short, Clea
 use Rattle.rehearsal_steps.specs.Steps.{collecting_in}
 use Rattle.rehearsal_place.proofs.Answering.{apart}
 use Rattle.rehearsal_steps.proofs.Rooting.{collected-kept}
-
--- ---- whether it is due
-
-due-bit : (b : Bool) → bit b ≡ 0 → b ≡ false
-due-bit true e = absurd (omega arith)
-due-bit false e = refl
-
-not-due-bit : (b : Bool) → (bit b ≡ 0 → ⊥) → b ≡ true
-not-due-bit true e = refl
-not-due-bit false e = absurd (e refl)
 
 -- ---- what a collection leaves
 
@@ -108,12 +97,9 @@ module _ (T : Table) (l : Lent) (words : List ℕ) (g : Going) (n : ℕ) (order 
   abbrev r : Run State
   r = going_on l words g
 
-  due-says : (reply : Reply) {due : Answer} → OfHeader l.header reply (λ h. bit (gc_due h n)) → due ≡ told reply → due.first ≡ bit (gc_due (view l) n)
-  due-says reply q e = ap (λ (a : Answer). a.first) (e ∙ q l refl order.formed)
-
-  pub not-due : (reply : Reply) {due : Answer} → OfHeader l.header reply (λ h. bit (gc_due h n)) → due ≡ told reply → due.first ≡ 0 → Goes l words g (collecting_in T l words g n)
+  pub not-due : {due : Bool} → due ≡ gc_due (view l) n → due ≡ false → Goes l words g (collecting_in T l words g n)
   unfolding collecting heaped
-  not-due reply q e z = record { order = order; is = sym (ap (λ (b : Bool). if b then swept_run G n r (collects_heap T (handles r.held) (view l)) else r) (due-bit (gc_due (view l) n) (sym (due-says reply q e) ∙ z))) }
+  not-due e z = record { order = order; is = sym (ap (λ (b : Bool). if b then swept_run G n r (collects_heap T (handles r.held) (view l)) else r) (sym e ∙ z)) }
 
   -- ---- from the handles of all entries
 
@@ -137,7 +123,7 @@ module _ (T : Table) (l : Lent) (words : List ℕ) (g : Going) (n : ℕ) (order 
 
   -- ---- the ways out
 
-  module _ (reply₀ : Reply) {due : Answer} (asked : OfHeader l.header reply₀ (λ h. bit (gc_due h n))) (eq : due ≡ told reply₀) (is-due : due.first ≡ 0 → ⊥)
+  module _ {due : Bool} (asked : due ≡ gc_due (view l) n) (is-due : due ≡ true)
       (e : ℕ) (q : e ≡ slot_count l + g.held) {l₁ : Lent} (reply : Reply) (d : Tells nothing nothing l l₁ reply (collect_call T (take (e - slot_count l) (drop (slot_count l) words)) [] (view l)))
       (eS : slot_count l₁ ≡ slot_count l) where
     abbrev c : Changed Unit
@@ -149,7 +135,7 @@ module _ (T : Table) (l : Lent) (words : List ℕ) (g : Going) (n : ℕ) (order 
     swept-run : collecting_in T l words g n ≡ swept_run (heaped T (slot_count l) (pool_size l)) n (going_on l words g) (left c)
     unfolding collecting heaped collects_heap
     swept-run =
-        ap (λ (b : Bool). if b then swept_run G n r (collects_heap T (handles r.held) (view l)) else r) (not-due-bit (gc_due (view l) n) (λ z. is-due (due-says reply₀ asked eq ∙ z)))
+        ap (λ (b : Bool). if b then swept_run G n r (collects_heap T (handles r.held) (view l)) else r) (sym asked ∙ is-due)
         ∙ ap (λ (x : Changed Unit). swept_run G n r (left x)) (sym (call-is e q))
 
     pub sweep-refused : is_err reply ≡ true → Goes l₁ words (ended_by g l₁.header 13) (collecting_in T l words g n)

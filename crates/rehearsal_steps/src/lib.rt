@@ -10,6 +10,7 @@ ghost use Rattle.rehearsal_steps.specs.Going.{InOrder, Short, Cleared, Goes};
 ghost use Rattle.rehearsal_steps.specs.Steps.{CanHoldMore, collecting_in, allocating_in};
 
 use heap::Heap;
+use heap::view::View;
 use refusal::Answer;
 use rehearsal_names::hold;
 use rehearsal_place::place;
@@ -51,8 +52,13 @@ pub fn collect_due(
         (lent g.heap narrow.old wide.old pool.old) words.now g threshold) }
     ensures marks_unchanged { (marks.new ≡ marks.old) × (work.new ≡ work.old) }
 {
-    let due = Answer::from(heap_edit::gc_due(g.heap, threshold));
-    if due.first == 0 {
+    let view = View {
+        heap: g.heap,
+        narrow: &*narrow,
+        wide: &*wide,
+        pool: &*pool,
+    };
+    if !view.gc_due(threshold) {
         return g;
     }
     let s = narrow.len() / 6;

@@ -10,19 +10,19 @@ pub bounds-narrow-two : goal.bounds-narrow-two
 bounds-narrow-two c = simp length-set (omega arith)
 
 pub bounds-wide-i : goal.bounds-wide-i
-bounds-wide-i c = omega (arith, place-room c.args.heap c.args.narrow.now c.args.wide.now c.args.pool.now c.args.i c.args.bytes.now c.requires)
+bounds-wide-i c = omega (arith, place-room c.args.heap c.args.narrow.now c.args.wide.now c.args.pool.now c.args.i c.args.new.bytes.now c.requires)
 
 pub bounds-wide-two : goal.bounds-wide-two
-bounds-wide-two c = simp length-set (omega (arith, place-room c.args.heap c.args.narrow.now c.args.wide.now c.args.pool.now c.args.i c.args.bytes.now c.requires))
+bounds-wide-two c = simp length-set (omega (arith, place-room c.args.heap c.args.narrow.now c.args.wide.now c.args.pool.now c.args.i c.args.new.bytes.now c.requires))
 
 pub slice_bounds-splice-end : goal.slice_bounds-splice-end
-slice_bounds-splice-end c = simp length-set (omega (arith, place-room c.args.heap c.args.narrow.now c.args.wide.now c.args.pool.now c.args.i c.args.bytes.now c.requires))
+slice_bounds-splice-end c = simp length-set (omega (arith, place-room c.args.heap c.args.narrow.now c.args.wide.now c.args.pool.now c.args.i c.args.new.bytes.now c.requires))
 
 pub splice-requires : goal.splice-requires
-splice-requires c = place-can c.args.heap c.args.narrow.now c.args.wide.now c.args.pool.now c.args.i c.args.bytes.now c.requires c.args.g c.args.k c.args.t c.args.start c.args.w
+splice-requires c = place-can c.args.heap c.args.narrow.now c.args.wide.now c.args.pool.now c.args.i c.args.new.bytes.now c.requires c.args.new.generation c.args.new.kind c.args.new.ty c.args.new.start c.args.new.writes
 
 pub shape_of-wide : goal.shape_of-wide
-shape_of-wide c = place_same c.args.heap c.args.narrow.now c.args.wide.now c.args.pool.now c.args.i c.args.bytes.now c.requires c.args.g c.args.k c.args.t c.args.start c.args.w c.splice.new.end c.splice.auto.end
+shape_of-wide c = place_same c.args.heap c.args.narrow.now c.args.wide.now c.args.pool.now c.args.i c.args.new.bytes.now c.requires c.args.new.generation c.args.new.kind c.args.new.ty c.args.new.start c.args.new.writes c.splice.new.end c.splice.auto.end
 
 pub returns : goal.returns
-returns c = place-done c.args.heap c.args.narrow.now c.args.wide.now c.args.pool.now c.args.i c.args.bytes.now c.requires c.args.g c.args.k c.args.t c.args.start c.args.w _ _ c.splice.auto.end c.splice.ensures
+returns c = place-done c.args.heap c.args.narrow.now c.args.wide.now c.args.pool.now c.args.i c.args.new.bytes.now c.requires c.args.new.generation c.args.new.kind c.args.new.ty c.args.new.start c.args.new.writes _ _ c.splice.auto.end c.splice.ensures

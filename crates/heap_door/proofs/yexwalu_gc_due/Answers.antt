@@ -1,11 +1,14 @@
 -- `heap_door::yexwalu_gc_due` meets its contract.
-use mathlib.Core.Path.{refl}
-use Rattle.heap.specs.Lent.{lent}
-use Rattle.door.proofs.Entering.{entered, ask-refused, ask-ready}
+use Rattle.std.proofs.Common.{Bool, ap, ◌∙◌}
+use Rattle.word.specs.Result.{ok}
+use Rattle.refusal.specs.Told.{answered, nothing}
+use Rattle.heap.specs.State.{bit}
+use Rattle.door.specs.HeapCalls.{entry_of}
+use Rattle.door.proofs.Entering.{ask-refused, ask-seen}
 use Rattle.heap_door.proofs.yexwalu_gc_due.Goals as goal
 
 pub returns-in-Err : goal.returns-in-Err
-returns-in-Err c = ask-refused c.enter.ensures _ _ _ _ c.in-Err.is c.from.ensures
+returns-in-Err c = ask-refused c.see.ensures.entered _ _ _ _ (ap entry_of c.in-Err.is) c.from.ensures
 
 pub returns-in-Ok : goal.returns-in-Ok
-returns-in-Ok c = ask-ready c.enter.ensures _ _ _ _ c.in-Ok.is (c.gc_due.ensures ((lent c.args.heap c.args.narrow.now c.args.wide.now c.args.pool.now)) refl (entered ((lent c.args.heap c.args.narrow.now c.args.wide.now c.args.pool.now)) c.enter.ensures c.in-Ok.is)) c.from-in-Ok.ensures
+returns-in-Ok c = ask-seen _ c.see.ensures.entered c.in-Ok.is c.see.ensures.shows _ _ _ (c.yes.ensures ∙ ap (λ (b : Bool). answered bit nothing (ok b)) c.gc_due.ensures) c.from-in-Ok.ensures

@@ -8,4 +8,4 @@ pub bounds-wide-s : goal.bounds-wide-s
 bounds-wide-s c = omega (arith, place-room c.args.heap c.args.narrow.now c.args.wide.now c.args.pool.now c.args.i c.args.bytes.now c.requires, c.requires.inside)
 
 pub returns : goal.returns
-returns c = placed-raised c.place.ensures c.raised-w.ensures
+returns c = placed-raised c.place.ensures c.raised.ensures
