@@ -16,3 +16,4 @@ pub mod Columns
 pub mod Questions
 pub mod LiveSlots
 pub mod Headers
+pub mod Carrying

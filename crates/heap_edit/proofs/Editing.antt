@@ -28,14 +28,6 @@ use Rattle.heap_edit.proofs.Replacing.{can-splice}
 pub placed-raised : {l l' : Lent} {i g k t s w w' : ℕ} {bytes : List ℕ} → PlacedIn l l' i g k t s w bytes → w ≡ w' → PlacedIn l l' i g k t s w' bytes
 placed-raised {l} {l'} {i} {g} {k} {t} {s} {w} {w'} {bytes} done e = subst (λ (v : ℕ). PlacedIn l l' i g k t s v bytes) e done
 
--- what a view answered holds of what lies there
-pub there : (x : ℕ) (y : Result ℕ) {l₀ l : Lent} → l₀ ≡ l → y ≡ resolve (view l₀) x → y ≡ resolve (view l) x
-there x y e s = subst (λ (k : Lent). y ≡ resolve (view k) x) e s
-
-pub fit-there : (i n : ℕ) (z : Bool) {l₀ l : Lent} → l₀ ≡ l → z ≡ leb (data_size (view l₀).slots - length (slot_at (view l₀) i).bytes + n) (pool_size l₀)
-    → z ≡ leb (data_size (view l).slots - length (slot_at (view l) i).bytes + n) (pool_size l)
-fit-there i n z e q = subst (λ (k : Lent). z ≡ leb (data_size (view k).slots - length (slot_at (view k) i).bytes + n) (pool_size k)) e q
-
 module _ (l : Lent) (w : well_formed l ≡ true) (x : ℕ) (bytes : List ℕ) (first : ℕ) where
   edit-none : (n : ℕ) → edit (pool_size l) (view l) x bytes first ≡ refuse n (view l) → Does l l (refused n) (edit (pool_size l) (view l) x bytes first)
   edit-none n e = subst (λ (c : Changed ℕ). Does l l (refused n) c) (sym e) (record { leaves = record { lies = (formed l w).lies; formed = w }; says = refl })

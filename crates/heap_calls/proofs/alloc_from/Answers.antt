@@ -1,32 +1,29 @@
 -- `heap_calls::alloc_from` meets its contract: by its four ways out.
-use native.Mathlib.Omega.{arith}
-use Rattle.heap.specs.Lent.{lent}
-use Rattle.heap_calls.proofs.Allocating.{K, used-are, none-does, alloc-can, free-does, grow-does, full-does}
-use Rattle.heap_calls.proofs.Lending.{lengths}
+use Rattle.std.proofs.Common.{refl}
+use Rattle.heap.specs.Loans.{lies}
+use Rattle.heap.proofs.Carrying.{room-there}
+use Rattle.heap_calls.proofs.Allocating.{none-does, alloc-can, free-does, grow-does, full-does}
 use Rattle.heap_calls.specs.Kinds.{kind_number}
 use Rattle.heap_calls.proofs.KindLaws.{kind-low, kind-high}
 use Rattle.heap_calls.proofs.alloc_from.Goals as goal
 
-pub start_of-used-requires : goal.start_of-used-requires
-start_of-used-requires c = omega (arith, lengths c.args.heap c.args.narrow.now c.args.wide.now c.args.pool.now c.requires)
-
-pub overflow_sub-pool : goal.overflow_sub-pool
-overflow_sub-pool c = omega (arith, K ((lent c.args.heap c.args.narrow.now c.args.wide.now c.args.pool.now)) c.requires, used-are ((lent c.args.heap c.args.narrow.now c.args.wide.now c.args.pool.now)) c.requires, c.start_of-used.ensures)
-
-pub returns-then-pool-used : goal.returns-then-pool-used
-returns-then-pool-used c = none-does ((lent c.args.heap c.args.narrow.now c.args.wide.now c.args.pool.now)) (kind_number c.args.k) c.args.t c.args.s _ _ c.requires c.start_of-used.ensures c.if-pool-used.true
+pub returns-then-room-bytes : goal.returns-then-room-bytes
+returns-then-room-bytes c = record { loans = record { narrow = refl; wide = refl; pool = refl }; tells = none-does (lies c.args.lent.now) (kind_number c.args.k) c.args.t c.args.s _ _ c.args.lent.now.formed (room-there _ c.view.ensures c.room.ensures) c.if-room-bytes.true }
 
 pub into_free-requires : goal.into_free-requires
-into_free-requires c = record { can_alloc = alloc-can ((lent c.args.heap c.args.narrow.now c.args.wide.now c.args.pool.now)) (kind_number c.args.k) c.args.t c.args.s _ _ c.requires c.start_of-used.ensures _ (kind-low c.args.k) (kind-high c.args.k) c.if-pool-used.false c.charged-paid.ensures; free_nonzero = rw c.charged-paid.ensures c.if-heap-gt0.true }
+into_free-requires c = record { can_alloc = alloc-can (lies c.args.lent.now) (kind_number c.args.k) c.args.t c.args.s _ _ c.args.lent.now.formed (room-there _ c.view.ensures c.room.ensures) _ (kind-low c.args.k) (kind-high c.args.k) c.if-room-bytes.false c.charged-lent.ensures; free_nonzero = c.if-lent-gt0.true }
 
-pub returns-then-heap-gt0 : goal.returns-then-heap-gt0
-returns-then-heap-gt0 c = free-does ((lent c.args.heap c.args.narrow.now c.args.wide.now c.args.pool.now)) (kind_number c.args.k) c.args.t c.args.s _ _ c.requires c.start_of-used.ensures _ (kind-low c.args.k) (kind-high c.args.k) c.if-pool-used.false c.charged-paid.ensures _ _ c.if-heap-gt0.true c.into_free.ensures
+pub returns-then-lent-gt0 : goal.returns-then-lent-gt0
+returns-then-lent-gt0 c = record { loans = record { narrow = c.into_free.ensures.loans.narrow; wide = c.into_free.ensures.loans.wide; pool = c.into_free.ensures.loans.pool }; tells = free-does (lies c.args.lent.now) (kind_number c.args.k) c.args.t c.args.s _ _ c.args.lent.now.formed (room-there _ c.view.ensures c.room.ensures) _ (kind-low c.args.k) (kind-high c.args.k) c.if-room-bytes.false c.charged-lent.ensures _ _ c.if-lent-gt0.true c.into_free.ensures.tells }
 
 pub into_new-requires : goal.into_new-requires
-into_new-requires c = record { can_alloc = alloc-can ((lent c.args.heap c.args.narrow.now c.args.wide.now c.args.pool.now)) (kind_number c.args.k) c.args.t c.args.s _ _ c.requires c.start_of-used.ensures _ (kind-low c.args.k) (kind-high c.args.k) c.if-pool-used.false c.charged-paid.ensures; slots_in_bounds = rw c.charged-paid.ensures c.if-n-all.true }
+into_new-requires c = record { can_alloc = alloc-can (lies c.args.lent.now) (kind_number c.args.k) c.args.t c.args.s _ _ c.args.lent.now.formed (room-there _ c.view.ensures c.room.ensures) _ (kind-low c.args.k) (kind-high c.args.k) c.if-room-bytes.false c.charged-lent.ensures; slots_in_bounds = c.if-lent.true }
 
-pub returns-then-n-all : goal.returns-then-n-all
-returns-then-n-all c = grow-does ((lent c.args.heap c.args.narrow.now c.args.wide.now c.args.pool.now)) (kind_number c.args.k) c.args.t c.args.s _ _ c.requires c.start_of-used.ensures _ (kind-low c.args.k) (kind-high c.args.k) c.if-pool-used.false c.charged-paid.ensures c.if-heap-gt0.false _ _ c.if-n-all.true c.into_new.ensures
+pub returns-then-lent : goal.returns-then-lent
+returns-then-lent c = record { loans = record { narrow = c.into_new.ensures.loans.narrow; wide = c.into_new.ensures.loans.wide; pool = c.into_new.ensures.loans.pool }; tells = grow-does (lies c.args.lent.now) (kind_number c.args.k) c.args.t c.args.s _ _ c.args.lent.now.formed (room-there _ c.view.ensures c.room.ensures) _ (kind-low c.args.k) (kind-high c.args.k) c.if-room-bytes.false c.charged-lent.ensures c.if-lent-gt0.false _ _ c.if-lent.true c.into_new.ensures.tells }
 
 pub returns : goal.returns
-returns c = full-does ((lent c.args.heap c.args.narrow.now c.args.wide.now c.args.pool.now)) (kind_number c.args.k) c.args.t c.args.s _ _ c.requires c.start_of-used.ensures _ (kind-low c.args.k) (kind-high c.args.k) c.if-pool-used.false c.charged-paid.ensures c.if-heap-gt0.false c.if-n-all.false
+returns c = record { loans = record { narrow = refl; wide = refl; pool = refl }; tells = full-does (lies c.args.lent.now) (kind_number c.args.k) c.args.t c.args.s _ _ c.args.lent.now.formed (room-there _ c.view.ensures c.room.ensures) _ (kind-low c.args.k) (kind-high c.args.k) c.if-room-bytes.false c.charged-lent.ensures c.if-lent-gt0.false c.if-lent.false }
+
+pub invariant_of-lent : goal.invariant_of-lent
+invariant_of-lent c = record { formed = (alloc-can (lies c.args.lent.now) (kind_number c.args.k) c.args.t c.args.s _ _ c.args.lent.now.formed (room-there _ c.view.ensures c.room.ensures) _ (kind-low c.args.k) (kind-high c.args.k) c.if-room-bytes.false c.charged-lent.ensures).formed }

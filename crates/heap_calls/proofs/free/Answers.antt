@@ -1,20 +1,18 @@
 -- `heap_calls::free` meets its contract: by what the handle resolves to.
-use native.Mathlib.Omega.{arith}
-use Rattle.heap.specs.Lent.{lent}
-use mathlib.Core.Path.{sym, ap, ◌∙◌}
-use Rattle.handle.specs.Handle.{told}
-use Rattle.heap_calls.proofs.Taking.{resolved-as, resolved-can, free-unfound, free-at}
-use Rattle.heap_calls.proofs.Lending.{lengths}
+use Rattle.std.proofs.Common.{refl}
+use Rattle.std.proofs.lemmas.Result.{err_from_is_err_and}
+use Rattle.heap.specs.Loans.{lies}
+use Rattle.heap.proofs.Carrying.{resolved-there}
+use Rattle.heap_calls.proofs.Taking.{resolved-alive, free-unfound, free-at}
 use Rattle.heap_calls.proofs.free.Goals as goal
 
-pub resolve-requires : goal.resolve-requires
-resolve-requires c = omega (arith, lengths c.args.heap c.args.narrow.now c.args.wide.now c.args.pool.now c.requires)
-
-pub returns-in-Err : goal.returns-in-Err
-returns-in-Err c = free-unfound ((lent c.args.heap c.args.narrow.now c.args.wide.now c.args.pool.now)) c.requires c.args.x c.resolve.result _ (resolved-as ((lent c.args.heap c.args.narrow.now c.args.wide.now c.args.pool.now)) c.requires c.args.x c.resolve.result c.resolve.ensures) c.in-Err.is
+pub returns-in_err-i : goal.returns-in_err-i
+returns-in_err-i c =
+    let p = err_from_is_err_and c.from_residual.result c.from_residual.ensures.1 in
+    rw (p.1, p.2) (record { loans = record { narrow = refl; wide = refl; pool = refl }; tells = free-unfound (lies c.args.lent.now) c.args.lent.now.formed c.args.x _ (resolved-there _ _ c.view.ensures c.in_err-i.ensures) })
 
 pub put_away-requires : goal.put_away-requires
-put_away-requires c = resolved-can ((lent c.args.heap c.args.narrow.now c.args.wide.now c.args.pool.now)) c.requires c.args.x _ (ap told (sym c.in-Ok.is) ∙ (resolved-as ((lent c.args.heap c.args.narrow.now c.args.wide.now c.args.pool.now)) c.requires c.args.x c.resolve.result c.resolve.ensures))
+put_away-requires c = resolved-alive (lies c.args.lent.now) c.args.lent.now.formed c.args.x _ (resolved-there _ _ c.view.ensures c.in_ok-i.ensures)
 
-pub returns-in-Ok : goal.returns-in-Ok
-returns-in-Ok c = free-at ((lent c.args.heap c.args.narrow.now c.args.wide.now c.args.pool.now)) c.requires c.args.x _ _ (ap told (sym c.in-Ok.is) ∙ (resolved-as ((lent c.args.heap c.args.narrow.now c.args.wide.now c.args.pool.now)) c.requires c.args.x c.resolve.result c.resolve.ensures)) c.put_away.ensures
+pub returns : goal.returns
+returns c = record { loans = c.put_away.ensures.loans; tells = free-at (lies c.args.lent.now) c.args.lent.now.formed c.args.x _ _ (resolved-there _ _ c.view.ensures c.in_ok-i.ensures) c.put_away.ensures.leaves }

@@ -1,20 +1,18 @@
 -- `heap_calls::take` meets its contract: by what the handle resolves to.
-use native.Mathlib.Omega.{arith}
-use Rattle.heap.specs.Lent.{lent}
-use mathlib.Core.Path.{sym, ap, ◌∙◌}
-use Rattle.handle.specs.Handle.{told}
-use Rattle.heap_calls.proofs.Taking.{resolved-as, resolved-can, take-unfound, take_at}
-use Rattle.heap_calls.proofs.Lending.{lengths}
+use Rattle.std.proofs.Common.{refl}
+use Rattle.std.proofs.lemmas.Result.{err_from_is_err_and}
+use Rattle.heap.specs.Loans.{lies}
+use Rattle.heap.proofs.Carrying.{resolved-there}
+use Rattle.heap_calls.proofs.Taking.{resolved-alive, take-unfound, take_at}
 use Rattle.heap_calls.proofs.take.Goals as goal
 
-pub resolve-requires : goal.resolve-requires
-resolve-requires c = omega (arith, lengths c.args.heap c.args.narrow.now c.args.wide.now c.args.pool.now c.requires)
-
-pub returns-in-Err : goal.returns-in-Err
-returns-in-Err c = take-unfound ((lent c.args.heap c.args.narrow.now c.args.wide.now c.args.pool.now)) c.requires c.args.x c.resolve.result _ c.args.out.now (resolved-as ((lent c.args.heap c.args.narrow.now c.args.wide.now c.args.pool.now)) c.requires c.args.x c.resolve.result c.resolve.ensures) c.in-Err.is
+pub returns-in_err-i : goal.returns-in_err-i
+returns-in_err-i c =
+    let p = err_from_is_err_and c.from_residual.result c.from_residual.ensures.1 in
+    rw (p.1, p.2) (record { loans = record { narrow = refl; wide = refl; pool = refl }; does = take-unfound (lies c.args.lent.now) c.args.lent.now.formed c.args.x _ c.args.out.now (resolved-there _ _ c.view.ensures c.in_err-i.ensures) })
 
 pub take_slot-requires : goal.take_slot-requires
-take_slot-requires c = resolved-can ((lent c.args.heap c.args.narrow.now c.args.wide.now c.args.pool.now)) c.requires c.args.x _ (ap told (sym c.in-Ok.is) ∙ (resolved-as ((lent c.args.heap c.args.narrow.now c.args.wide.now c.args.pool.now)) c.requires c.args.x c.resolve.result c.resolve.ensures))
+take_slot-requires c = resolved-alive (lies c.args.lent.now) c.args.lent.now.formed c.args.x _ (resolved-there _ _ c.view.ensures c.in_ok-i.ensures)
 
-pub returns-in-Ok : goal.returns-in-Ok
-returns-in-Ok c = take_at ((lent c.args.heap c.args.narrow.now c.args.wide.now c.args.pool.now)) c.requires c.args.x _ _ _ _ _ (ap told (sym c.in-Ok.is) ∙ (resolved-as ((lent c.args.heap c.args.narrow.now c.args.wide.now c.args.pool.now)) c.requires c.args.x c.resolve.result c.resolve.ensures)) c.take_slot.ensures
+pub returns : goal.returns
+returns c = record { loans = c.take_slot.ensures.loans; does = take_at (lies c.args.lent.now) c.args.lent.now.formed c.args.x _ _ _ _ _ (resolved-there _ _ c.view.ensures c.in_ok-i.ensures) c.take_slot.ensures.does }

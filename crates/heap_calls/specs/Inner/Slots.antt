@@ -1,14 +1,16 @@
 -- What the parts of the calls that place and remove objects ask and leave.
 use Rattle.std.specs.Prelude.{◌≡◌, true, List, ℕ, ◌+◌, ◌≤◌, ◌<◌, ◌^◌, length, get_or, ltb, if◌then◌else◌}
-use Rattle.refusal.specs.Told.{told, answered, here, nothing}
+use Rattle.refusal.specs.Told.{told, answered}
 use Rattle.refusal.specs.Told.{Reply}
 use Rattle.handle.specs.Handle.{packed}
-use Rattle.heap.specs.State.{State, slot_at, live, data_size, with_free}
+use Rattle.heap.specs.State.{State, slot_at, data_size, with_free}
 use Rattle.heap.specs.Lent.{Lent, view, pool_size}
 use Rattle.heap.specs.WellFormed.{well_formed}
 use Rattle.heap.specs.Calls.{Changed, refuse, Object, step, type_for, placed, grown, last, but_last, take_slot}
 use Rattle.heap.specs.Columns.{CanPlace, PlacedIn}
-use Rattle.heap.specs.Done.{Leaves, Tells}
+use Rattle.heap.specs.Done.{Leaves}
+use Rattle.heap.specs.Loans.{lies, SameLoans}
+use Rattle.heap.specs.declared.view_mut.ViewMut.{ViewMut}
 use Rattle.heap_calls.specs.Objects.{size_of, start_of, handed_out}
 
 -- ---- alloc
@@ -31,24 +33,13 @@ pub record FilledIn (l l' : Lent) (i k t s : ℕ) (bytes : List ℕ) (r : ℕ) :
   pub handle : r ≡ packed l.header.tag i (step (get_or l.generation i 0))
 
 -- the object in the free list's last slot, and in a new slot
-abbrev pub IntoFree : (l l' : Lent) → Reply → (kind type start : ℕ) → List ℕ → Type 0
-IntoFree l l' reply kind type start bytes =
-    Tells here nothing l l' reply (placed (with_free (view l) (but_last (view l).free)) (last (view l).free) kind type start bytes)
+abbrev pub in_free : State → (kind type start : ℕ) → List ℕ → Changed ℕ
+in_free h kind type start bytes = placed (with_free h (but_last h.free)) (last h.free) kind type start bytes
 
-abbrev pub IntoNew : (l l' : Lent) → Reply → (kind type start : ℕ) → List ℕ → Type 0
-IntoNew l l' reply kind type start bytes =
-    Tells here nothing l l' reply (placed (grown (view l)) (length (view l).slots) kind type start bytes)
+abbrev pub in_new : State → (kind type start : ℕ) → List ℕ → Changed ℕ
+in_new h kind type start bytes = placed (grown h) (length h.slots) kind type start bytes
 
--- ---- take, free
-
--- slot i of a well formed heap is live
-pub record CanTake (l : Lent) (i : ℕ) : Type 0 where
-  pub formed : well_formed l ≡ true
-  pub alive : live (slot_at (view l) i) ≡ true
-
--- the slot in quarantine
-abbrev pub PutAway : (l l' : Lent) → ℕ → Type 0
-PutAway l l' i = Leaves l l' (take_slot (view l) i).heap
+-- ---- take
 
 -- the object of slot i, if the output has room for it
 abbrev pub take_room : (room : ℕ) → State → ℕ → Changed Object
@@ -59,3 +50,8 @@ pub record TakeSlotDoes (l l' : Lent) (reply : Reply) (i : ℕ) (out out' : List
   pub leaves : Leaves l l' (take_room (length out) (view l) i).heap
   pub says : told reply ≡ answered size_of start_of (take_room (length out) (view l) i).answer
   pub wrote : out' ≡ handed_out out (take_room (length out) (view l) i).answer
+
+-- the same, in the memory that is lent
+pub record TakesSlot (l l' : ViewMut) (reply : Reply) (i : ℕ) (out out' : List ℕ) : Type 0 where
+  pub loans : SameLoans l l'
+  pub does : TakeSlotDoes (lies l) (lies l') reply i out out'
