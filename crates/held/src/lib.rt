@@ -13,6 +13,7 @@ ghost use Rattle.object_door.specs.ObjectCalls.{allocating, recycling};
 ghost use Rattle.held.specs.Held.{head_in, in_place, Held};
 
 use heap::Heap;
+use heap::view_mut::ViewMut;
 use refusal::Answer;
 
 // The header that lies in lent memory: the tag; since_gc, reclaim_at, live_bytes and epoch; the log; how many entries of the slots and of each list are in use.
@@ -84,9 +85,15 @@ pub fn yexwalu_held_alloc_from(
         (allocating (length narrow.old / 6) (length pool.old) kind ty start bytes.now) }
 {
     let heap = header(tag, numbers, log, lengths);
-    let done = object_door::alloc_from(heap, narrow, wide, pool, kind as u64, ty, start, bytes);
-    keep(done.heap, tag, numbers, log, lengths);
-    Answer::from(done.reply)
+    let mut lent = ViewMut {
+        heap,
+        narrow,
+        wide,
+        pool,
+    };
+    let reply = object_door::alloc_from(&mut lent, kind as u64, ty, start, bytes);
+    keep(lent.heap, tag, numbers, log, lengths);
+    Answer::from(reply)
 }
 
 // Hands out the whole data of the object that the handle names; its slot goes into quarantine. First: its length; second: its start.
@@ -110,9 +117,15 @@ pub fn yexwalu_held_take(
         (view (in_place tag.old numbers.old log.old lengths.old narrow.old wide.old pool.old)) handle).answer }
 {
     let heap = header(tag, numbers, log, lengths);
-    let done = heap_calls::take(heap, narrow, wide, pool, handle, out);
-    keep(done.heap, tag, numbers, log, lengths);
-    Answer::from(done.reply)
+    let mut lent = ViewMut {
+        heap,
+        narrow,
+        wide,
+        pool,
+    };
+    let reply = heap_calls::take(&mut lent, handle, out);
+    keep(lent.heap, tag, numbers, log, lengths);
+    Answer::from(reply)
 }
 
 // Pinned slots stay in quarantine, in order; the others join the free list, or the retired list where they are worn out.

@@ -35,9 +35,15 @@ pub fn yexwalu_held_free(
         (λ h. freed h handle) }
 {
     let heap = held::header(tag, numbers, log, lengths);
-    let done = heap_calls::free(heap, narrow, wide, pool, handle);
-    held::keep(done.heap, tag, numbers, log, lengths);
-    Answer::from(done.reply)
+    let mut lent = ViewMut {
+        heap,
+        narrow,
+        wide,
+        pool,
+    };
+    let reply = heap_calls::free(&mut lent, handle);
+    held::keep(lent.heap, tag, numbers, log, lengths);
+    Answer::from(reply)
 }
 
 // New bytes and a new start for the object that the handle leads to. First: its slot.

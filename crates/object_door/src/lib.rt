@@ -7,15 +7,17 @@ ghost use Rattle.refusal.specs.Told.{here, nothing};
 ghost use Rattle.heap.specs.Lent.{lent, view};
 ghost use Rattle.heap.specs.WellFormed.{well_formed};
 ghost use Rattle.heap.specs.Done.{Tells};
+ghost use Rattle.heap.specs.Loans.{state, Replies};
 ghost use Rattle.heap.specs.Calls.{free as freed};
 ghost use Rattle.door.specs.HeapCalls.{Entered, outcome, heap_call};
 ghost use Rattle.object_door.specs.ObjectCalls.{allocating, recycling, handed, take_call};
 ghost use Rattle.object_door.specs.Making.{no_header, new_tests, new_call};
 
 use door::{Done, enter};
+use heap::view_mut::ViewMut;
 use heap::{Changed, Heap};
 use heap_calls::kind::ObjectKind;
-use refusal::{Answer, Refusal};
+use refusal::{Answer, Refusal, Reply};
 
 // The header that a refusal returns: zeros, which no call takes for a heap.
 fn no_heap() -> Heap
@@ -92,32 +94,16 @@ pub fn yexwalu_new(
 }
 
 // Places the object `bytes[start..]` on a heap that is known to be well formed, where the number is a kind's.
-pub fn alloc_from(
-    heap: Heap,
-    narrow: &mut [u32],
-    wide: &mut [u64],
-    pool: &mut [u8],
-    kind: u64,
-    ty: u32,
-    start: usize,
-    bytes: &[u8],
-) -> Changed
-    requires { well_formed (lent heap narrow.old wide.old pool.old) ≡ true }
-    ensures { Tells here nothing (lent heap narrow.old wide.old pool.old)
-        (lent result.heap narrow.new wide.new pool.new) result.reply
-        (allocating (length narrow.old / 6) (length pool.old) kind ty start bytes.now
-        (view (lent heap narrow.old wide.old pool.old))) }
+pub fn alloc_from(lent: &mut ViewMut, kind: u64, ty: u32, start: usize, bytes: &[u8]) -> Reply
+    ensures { Replies here nothing lent.old lent.new result
+        (allocating (length lent.old.narrow.now / 6) (length lent.old.pool.now) kind ty start bytes.now (state lent.old)) }
 {
-    match ObjectKind::try_from(kind) {
-        Ok(k) => heap_calls::alloc_from(heap, narrow, wide, pool, k, ty, start, bytes),
-        Err(why) => Changed {
-            heap: heap,
-            reply: Err(why),
-        },
-    }
+    let k = ObjectKind::try_from(kind)?;
+    heap_calls::alloc_from(lent, k, ty, start, bytes)
 }
 
 // Recycles on a heap that is known to be well formed, where the pins rise strictly.
+// Kept: the C interface lends all but the narrow list read-only here, so a door can't make a `ViewMut`.
 pub fn recycle(heap: Heap, narrow: &mut [u32], wide: &[u64], pool: &[u8], pins: &[u32]) -> Changed
     requires { well_formed (lent heap narrow.old wide.now pool.now) ≡ true }
     ensures { Tells nothing nothing (lent heap narrow.old wide.now pool.now)
@@ -160,10 +146,16 @@ pub fn yexwalu_alloc_from(
             answer: Answer::from(Err(why)),
         },
         Ok(()) => {
-            let done = alloc_from(heap, narrow, wide, pool, kind as u64, ty, start, bytes);
+            let mut lent = ViewMut {
+                heap,
+                narrow,
+                wide,
+                pool,
+            };
+            let reply = alloc_from(&mut lent, kind as u64, ty, start, bytes);
             Done {
-                heap: done.heap,
-                answer: Answer::from(done.reply),
+                heap: lent.heap,
+                answer: Answer::from(reply),
             }
         }
     }
@@ -212,10 +204,16 @@ pub fn yexwalu_take(
             answer: Answer::from(Err(why)),
         },
         Ok(()) => {
-            let done = heap_calls::take(heap, narrow, wide, pool, handle, out);
+            let mut lent = ViewMut {
+                heap,
+                narrow,
+                wide,
+                pool,
+            };
+            let reply = heap_calls::take(&mut lent, handle, out);
             Done {
-                heap: done.heap,
-                answer: Answer::from(done.reply),
+                heap: lent.heap,
+                answer: Answer::from(reply),
             }
         }
     }
@@ -242,10 +240,16 @@ pub fn yexwalu_free(
             answer: Answer::from(Err(why)),
         },
         Ok(()) => {
-            let done = heap_calls::free(heap, narrow, wide, pool, handle);
+            let mut lent = ViewMut {
+                heap,
+                narrow,
+                wide,
+                pool,
+            };
+            let reply = heap_calls::free(&mut lent, handle);
             Done {
-                heap: done.heap,
-                answer: Answer::from(done.reply),
+                heap: lent.heap,
+                answer: Answer::from(reply),
             }
         }
     }
