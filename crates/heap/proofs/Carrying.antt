@@ -1,9 +1,12 @@
--- What a view answered holds of what lies there. Assumes nothing.
+-- What a view answered holds of what lies there, and the sizes of the memory after a call. Assumes nothing.
 use Rattle.std.proofs.Common.{◌≡◌, ℕ, ◌+◌, ◌-◌, Bool, true, leb, List, length, sym, subst}
 use Rattle.word.specs.Result.{Result}
-use Rattle.heap.specs.State.{slot_at, live, data_size}
-use Rattle.heap.specs.Lent.{Lent, view, pool_size}
+use Rattle.heap.specs.State.{State, slot_at, live, data_size}
+use Rattle.heap.specs.Lent.{Lent, view, slot_count, pool_size}
 use Rattle.heap.specs.Calls.{resolve}
+use Rattle.heap.specs.Done.{Leaves}
+use Rattle.heap.proofs.Sound.{Sound}
+use Rattle.heap.proofs.Placing.{count-is, pool-long}
 
 pub resolved-there : (x : ℕ) (y : Result ℕ) {l₀ l : Lent} → l₀ ≡ l → y ≡ resolve (view l₀) x → y ≡ resolve (view l) x
 resolved-there x y e s = subst (λ (k : Lent). y ≡ resolve (view k) x) e s
@@ -24,3 +27,9 @@ bytes-there i b e q = subst (λ (k : Lent). b ≡ (slot_at (view k) i).bytes) e 
 
 pub start-there : (i n : ℕ) {l₀ l : Lent} → l₀ ≡ l → n ≡ (slot_at (view l₀) i).start → n ≡ (slot_at (view l) i).start
 start-there i n e q = subst (λ (k : Lent). n ≡ (slot_at (view k) i).start) e q
+
+-- ---- what a call leaves lies in as much memory
+
+pub kept-sizes : (l l' : Lent) (h : State) → Leaves l l' h → Sound (slot_count l) (pool_size l) h → (slot_count l' ≡ slot_count l) × (pool_size l' ≡ pool_size l)
+kept-sizes l l' h d s =
+    (count-is (slot_count l) (pool_size l) h l' d.lies s.slots-fit s.data-fit, pool-long (slot_count l) (pool_size l) h l' d.lies s.slots-fit s.data-fit)

@@ -30,6 +30,8 @@ use Rattle.heap.specs.Done.{Leaves, Tells}
 use Rattle.heap.proofs.Sound.{Sound}
 use Rattle.heap.proofs.Storing.{view-stored}
 use Rattle.heap.proofs.Testing.{formed-tested}
+use Rattle.heap.proofs.Carrying.{kept-sizes}
+use Rattle.heap_calls.proofs.Allocating.{alloc-sound}
 use Rattle.heap_calls.specs.Kinds.{kind_number, kind_of}
 use Rattle.heap_calls.specs.declared.kind.ObjectKind.{ObjectKind}
 use Rattle.object_door.specs.ObjectCalls.{is_kind, allocating}
@@ -122,12 +124,13 @@ module _ (l : Lent) (w : well_formed l ≡ true) (k t : ℕ) (low : 1 ≤ k) (hi
     spelled-fits {i} e ea = decode-room h₁ n₁ w₁ p₁ s from count i (spelled-can e) ea
 
     pub spelled-done : {i at r : ℕ} {p₂ : List ℕ} → i ≡ index_of x → at ≡ start_of (run (length n₁ / 6) (length n₁ / 6) w₁) i → Puts p₁ p₂ at r (hex_at s from)
-        → length n₁ / 6 ≡ slot_count l → length p₁ ≡ pool_size l → PlaceDoes l (lent h₁ n₁ w₁ p₂) reply k t (hex_at s from)
-    spelled-done {i} {at} {r} {p₂} e ea put S P =
+        → PlaceDoes l (lent h₁ n₁ w₁ p₂) reply k t (hex_at s from)
+    spelled-done {i} {at} {r} {p₂} e ea put =
+        let sizes = kept-sizes l l₁ first.heap d.leaves (alloc-sound (slot_count l) (pool_size l) (view l) k t 0 part (formed-tested l w).sound low high) in
         let left : Decoded l₁ (lent h₁ n₁ w₁ p₂) (hex_at s from) i = decode-done h₁ n₁ w₁ p₁ s from count i (spelled-can e) ea put in
         record {
           leaves = record {
-            lies = left.lies ∙ (λ q. stored (S q) (P q) (with_data (seen q) (e q) (hex_at s from))) ∙ ap (stored (slot_count l) (pool_size l)) (sym instead.heap);
+            lies = left.lies ∙ (λ q. stored (sizes.0 q) (sizes.1 q) (with_data (seen q) (e q) (hex_at s from))) ∙ ap (stored (slot_count l) (pool_size l)) (sym instead.heap);
             formed = left.formed;
           };
           says = says-ok ∙ ap (answered here nothing) (sym instead.answer);

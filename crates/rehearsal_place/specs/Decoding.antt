@@ -8,6 +8,8 @@ use Rattle.heap.specs.Lent.{Lent, view, slot_count, pool_size}
 use Rattle.heap.specs.WellFormed.{well_formed}
 use Rattle.heap.specs.Calls.{alloc_from, with_slot}
 use Rattle.heap.specs.Done.{Leaves, Tells}
+use Rattle.heap.specs.Loans.{lies, state, Replies}
+use Rattle.heap.specs.declared.view_mut.ViewMut.{ViewMut}
 
 -- so many bytes are spelled from `from` on
 pub record Spelled (s : List ℕ) (from count : ℕ) : Type 0 where
@@ -33,3 +35,7 @@ Decoded l l' bytes i = Leaves l l' (with_data (view l) i bytes)
 
 abbrev pub PlaceDoes : (l l' : Lent) → Reply → (kind type : ℕ) → List ℕ → Type 0
 PlaceDoes l l' reply kind type bytes = Tells here nothing l l' reply (alloc_from (slot_count l) (pool_size l) (view l) kind type 0 bytes)
+
+-- the same, in the memory that is lent
+abbrev pub PlacesSpelled : (l l' : ViewMut) → Reply → (kind type : ℕ) → List ℕ → Type 0
+PlacesSpelled l l' reply kind type bytes = Replies here nothing l l' reply (alloc_from (slot_count (lies l)) (pool_size (lies l)) (state l) kind type 0 bytes)

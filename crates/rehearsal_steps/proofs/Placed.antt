@@ -21,8 +21,10 @@ use Rattle.heap.specs.Done.{Leaves, Tells}
 use Rattle.heap.proofs.Storing.{view-stored}
 use Rattle.heap.proofs.Sound.{Sound}
 use Rattle.heap.proofs.Testing.{formed-tested}
+use Rattle.heap.proofs.Carrying.{kept-sizes}
 use Rattle.heap_calls.specs.Pins.{rising_from}
 use Rattle.object_door.specs.ObjectCalls.{allocating as alloc_call}
+use Rattle.object_door.proofs.Objects.{allocating-sound}
 use Rattle.script.proofs.Refusing.{Numbered, alloc-numbered}
 use Rattle.collection.specs.Swept.{live_size}
 use Rattle.rehearsal.specs.Runs.{Run, placed, allocating}
@@ -50,7 +52,7 @@ small-sum {l} order =
     omega (arith, order.sum, live-most (view l).slots, s.slots-fit, s.slot-range.1, s.data-fit, s.pool-range)
 
 module _ {l : Lent} {words : List ℕ} {g : Going} (order : InOrder l words g) (t k : ℕ) (bs : List ℕ) {l₁ : Lent} {reply : Reply} {a : Answer}
-    (d : Tells here nothing l l₁ reply (alloc_call (slot_count l) (pool_size l) k t 0 bs (view l))) (q : a ≡ told reply) (eS : slot_count l₁ ≡ slot_count l) where
+    (d : Tells here nothing l l₁ reply (alloc_call (slot_count l) (pool_size l) k t 0 bs (view l))) (q : a ≡ told reply) where
   abbrev c : Changed ℕ
   c = alloc_call (slot_count l) (pool_size l) k t 0 bs (view l)
 
@@ -59,6 +61,9 @@ module _ {l : Lent} {words : List ℕ} {g : Going} (order : InOrder l words g) (
 
   sound : Sound (slot_count l) (pool_size l) (view l)
   sound = (formed-tested l order.formed).sound
+
+  eS : slot_count l₁ ≡ slot_count l
+  eS = (kept-sizes l l₁ c.heap d.leaves (allocating-sound (slot_count l) (pool_size l) (view l) k t 0 bs sound)).0
 
   sums : Sums (view l) bs c
   sums = alloc-sums (slot_count l) (pool_size l) (view l) sound k t bs

@@ -11,6 +11,7 @@ ghost use Rattle.rehearsal_steps.specs.Steps.{CanHoldMore, collecting_in, alloca
 
 use heap::Heap;
 use heap::view::View;
+use heap::view_mut::ViewMut;
 use refusal::Answer;
 use rehearsal_names::hold;
 use rehearsal_place::place;
@@ -114,9 +115,14 @@ pub fn allocate(
 {
     let all = narrow.len() / 6;
     let count = a.count as u64;
-    let done = place(g.heap, narrow, wide, pool, s, a);
-    let after = done.heap;
-    let reply = done.reply;
+    let mut lent = ViewMut {
+        heap: g.heap,
+        narrow,
+        wide,
+        pool,
+    };
+    let reply = place(&mut lent, s, a);
+    let after = lent.heap;
     let told = Answer::from(reply);
     if told.number == 0 {
         let turn = g.turns + 1;

@@ -22,7 +22,7 @@ use Rattle.door.specs.HeapCalls.{ready}
 use Rattle.door.proofs.Entering.{fails, passes, few-marks, few_words, is-enough, holding, cleared-in, call-cleared}
 use Rattle.script.specs.Script.{begins_call, run_script}
 use Rattle.run_door.specs.Run.{run_tests, run_call}
-use Rattle.run_door.specs.Inner.Steps.{CanRun}
+use Rattle.run_door.proofs.Answering.{CanRun}
 
 and-false : (a b : Bool) → b ≡ false → (a && b) ≡ false
 and-false true b e = e

@@ -1,7 +1,8 @@
 -- What a reply says of a line's call. Assumes nothing.
 use mathlib.Core.Path.{◌≡◌, refl, ap}
-use mathlib.Core.List.{[], ◌∷◌}
-use Prim.Native.Nat.{ℕ}
+use mathlib.Core.List.{List, [], ◌∷◌}
+use lib.ListN.{length}
+use Prim.Native.Nat.{ℕ, ◌≤◌}
 use native.Mathlib.Omega.{arith}
 use denote.Enum.Declared.{tag_of}
 use types.Run.{OneOf, miss}
@@ -12,12 +13,18 @@ use Rattle.refusal.specs.declared.Refusal.{Refusal}
 use Rattle.refusal.specs.Told.{Reply}
 use Rattle.std.specs.Prelude.{true, Ok, Err, is_err, IsOk}
 use Rattle.refusal.proofs.Numbers.{told-once}
-use Rattle.heap.specs.Lent.{Lent}
+use Rattle.heap.specs.Lent.{Lent, pool_size}
+use Rattle.heap.specs.WellFormed.{well_formed}
 use Rattle.heap.specs.Calls.{Changed}
 use Rattle.heap.specs.Done.{Does, Tells}
 use Rattle.script.specs.Script.{silent}
 use Rattle.script.proofs.Refusing.{Numbered}
 use Rattle.run_door.specs.Inner.Steps.{end_of}
+
+-- a heap that is well formed, with room for the data of any object
+pub record CanRun (l : Lent) (lent-room : List ℕ) : Type 0 where
+  pub formed : well_formed l ≡ true
+  pub room : pool_size l ≤ length lent-room
 
 abbrev code : Reply → ℕ
 code (Ok (a, b)) = 0

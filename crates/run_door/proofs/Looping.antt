@@ -16,26 +16,18 @@ use Rattle.heap.specs.Lent.{Lent, view, stored, slot_count, pool_size}
 use Rattle.heap.specs.WellFormed.{well_formed}
 use Rattle.heap.specs.Calls.{Changed}
 use Rattle.heap.specs.Done.{Does, Tells}
+use Rattle.heap.specs.Loans.{SameLoans}
+use Rattle.heap.specs.declared.view_mut.ViewMut.{ViewMut}
 use Rattle.heap.proofs.Testing.{formed-tested}
 use Rattle.heap.proofs.Telling.{tells_is}
 use Rattle.script.specs.Script.{and_then, run_script}
 use Rattle.script.proofs.Scripts.{run-nothing}
-use Rattle.run_door.specs.Inner.Steps.{end_of, CanRun}
+use Rattle.run_door.specs.Inner.Steps.{end_of}
 use Rattle.run_door.proofs.Moving.{Stepping}
-use Rattle.run_door.proofs.Answering.{is-done, tells-why}
+use Rattle.run_door.proofs.Answering.{CanRun, is-done, tells-why}
 
--- lists of the same lengths
-pub record Sizes (narrow₀ narrow₁ wide₀ wide₁ pool₀ pool₁ room₀ room₁ : List ℕ) : Type 0 where
-  pub narrow : length narrow₁ ≡ length narrow₀
-  pub wide : length wide₁ ≡ length wide₀
-  pub pool : length pool₁ ≡ length pool₀
-  pub room : length room₁ ≡ length room₀
-
-pub same : (n w p r : List ℕ) → Sizes n n w w p p r r
-same n w p r = record { narrow = refl; wide = refl; pool = refl; room = refl }
-
-pub on : {n₀ n n' w₀ w w' p₀ p p' r₀ r r' : List ℕ} → Sizes n n' w w' p p' r r' → Sizes n₀ n w₀ w p₀ p r₀ r → Sizes n₀ n' w₀ w' p₀ p' r₀ r'
-on a b = record { narrow = a.narrow ∙ b.narrow; wide = a.wide ∙ b.wide; pool = a.pool ∙ b.pool; room = a.room ∙ b.room }
+pub then-same : {a b c : ViewMut} → SameLoans a b → SameLoans b c → SameLoans a c
+then-same p q = record { narrow = q.narrow ∙ p.narrow; wide = q.wide ∙ p.wide; pool = q.pool ∙ p.pool }
 
 pub record Running (l₀ l : Lent) (room₁ s : List ℕ) (at : ℕ) : Type 0 where
   pub formed : well_formed l ≡ true

@@ -9,27 +9,35 @@ use lib.ListN.{length, get_or, drop, length-drop}
 use Rattle.std.specs.Prelude as found
 use Rattle.word.proofs.ListLaws.{drop-cons-one}
 use Rattle.text.specs.Text.{give}
+use Rattle.word.specs.Result.{Result, ok, refused}
 use Rattle.refusal.specs.Told.{nothing}
 use Rattle.refusal.specs.declared.Refusal.TheVariants.{Page}
 use Rattle.refusal.specs.Told.{Reply}
 use Rattle.std.specs.Prelude.{Ok, Err}
+use Rattle.heap.specs.State.{State}
 use Rattle.heap.specs.Lent.{Lent, view, slot_count, pool_size}
-use Rattle.heap.specs.Calls.{Changed, refuse, free, recycle, seal as sealed}
+use Rattle.heap.specs.Calls.{Changed, refuse, on_slot, resolve, take_slot, free, recycle, seal as sealed}
 use Rattle.heap.specs.WellFormed.{well_formed}
 use Rattle.heap.specs.Done.{Leaves, Tells}
 use Rattle.heap.proofs.Storing.{view-stored}
+use Rattle.heap.proofs.Sound.{Sound}
+use Rattle.heap.proofs.Keeping.{take-sound}
+use Rattle.heap.proofs.Recycled.{recycle-sound}
+use Rattle.heap.proofs.Carrying.{kept-sizes}
 use Rattle.heap.proofs.Testing.{formed-tested}
 use Rattle.heap_calls.specs.Pins.{rising_from, rising}
+use Rattle.heap_edit.proofs.Soundness.{resolved_live, seal-sound}
 use Rattle.object_door.specs.ObjectCalls.{recycling}
-use Rattle.script.specs.Script.{Call, take, seal, recycle as recycles, read_call, doing, and_then, run_script}
+use Rattle.object_door.proofs.Objects.{allocating-sound}
+use Rattle.script.specs.Script.{Call, alloc, take, seal, recycle as recycles, line_does, read_call, doing, and_then, run_script}
 use Rattle.script.specs.Found.{call_at, DataThere, Reads, LineRead, call_in, DataIn}
 use Rattle.script.specs.declared.AllocLine.{AllocLine}
 use Rattle.script.specs.declared.Line.{Line}
 use Rattle.script.specs.declared.Line.TheVariants.{Alloc, Take, Seal, Recycle}
 use Rattle.script.proofs.Scripts.{call-shorter, run_call, run-bad}
 use Rattle.script.proofs.Refusing.{free-numbered}
-use Rattle.run_door.specs.Inner.Steps.{end_of, CanRun, LineEnds}
-use Rattle.run_door.proofs.Answering.{ends_as, silent-unit}
+use Rattle.run_door.specs.Inner.Steps.{end_of, LineEnds}
+use Rattle.run_door.proofs.Answering.{CanRun, ends_as, silent-unit}
 
 pub no_pins : rising [] ≡ true
 unfolding rising_from
@@ -69,6 +77,30 @@ module _ (l : Lent) (s : List ℕ) (r : Line) where
   does-recycle l' pins e g d =
       let f : Leaves l l' (recycle (view l) []) = subst (λ (p : List ℕ). Leaves l l' (recycle (view l) p)) g d in
       of-line Recycle e (record { leaves = f; says = refl })
+
+-- ---- a line's call keeps a heap sound, and so what it leaves lies in as much memory
+
+abbrev freeing : State → Result ℕ → Changed Unit
+freeing h r = on_slot h r (λ i. record { answer = ok tt; heap = (take_slot h i).heap })
+
+free-sound : (S P : ℕ) (h : State) (x : ℕ) → Sound S P h → Sound S P (free h x).heap
+unfolding free
+free-sound S P h x fine = by_slot (resolve h x) refl
+  where
+    by_slot : (r : Result ℕ) → resolve h x ≡ r → Sound S P (freeing h r).heap
+    by_slot (ok i) e = take-sound S P h i fine (resolved_live h x i e)
+    by_slot (refused n) e = fine
+
+line-sound : (S P : ℕ) (c : Option Call) (h : State) → Sound S P h → Sound S P (line_does S P c h).heap
+unfolding doing recycling rising_from
+line-sound S P none h fine = fine
+line-sound S P (some (alloc t k bs)) h fine = allocating-sound S P h k t 0 bs fine
+line-sound S P (some (take x)) h fine = free-sound S P h x fine
+line-sound S P (some seal) h fine = seal-sound S P h fine
+line-sound S P (some recycles) h fine = recycle-sound S P h [] fine
+
+pub line-sizes : {l l' : Lent} {reply : Reply} {c : Option Call} → well_formed l ≡ true → LineEnds l l' reply c → (slot_count l' ≡ slot_count l) × (pool_size l' ≡ pool_size l)
+line-sizes {l} {l'} {c = c} w d = kept-sizes l l' _ d.leaves (line-sound (slot_count l) (pool_size l) c (view l) (formed-tested l w).sound)
 
 -- ---- after a line
 

@@ -26,8 +26,8 @@ use Rattle.script.specs.Script.{doing}
 use Rattle.script.specs.Found.{DataThere, call_at}
 use Rattle.script.specs.declared.AllocLine.{AllocLine}
 use Rattle.script.proofs.Refusing.{alloc-numbered}
-use Rattle.run_door.specs.Inner.Steps.{CanRun, LineEnds}
-use Rattle.run_door.proofs.Answering.{ends_as}
+use Rattle.run_door.specs.Inner.Steps.{LineEnds}
+use Rattle.run_door.proofs.Answering.{CanRun, ends_as}
 
 -- the part of the room that has the data
 pub part_count : (l : Lent) (room room' : List ℕ) (count : ℕ) → CanRun l room → count ≤ pool_size l → length room' ≡ length room → count ≡ length (take count room')

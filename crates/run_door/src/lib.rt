@@ -2,133 +2,98 @@
 // until one is refused or bad.
 #![tactic(auto)]
 
-ghost use Rattle.std.specs.Prelude.{[], ◌∷◌, ◌≡◌, ◌/◌, length};
+ghost use Rattle.std.specs.Prelude.{[], ◌∷◌, ◌≡◌, ◌≤◌, ◌/◌, length};
 ghost use Rattle.std.proofs.Math.Option.{some};
-ghost use Rattle.heap.specs.Lent.{lent, view};
-ghost use Rattle.heap.specs.Done.{Tells};
+ghost use Rattle.heap.specs.Lent.{lent};
+ghost use Rattle.heap.specs.Loans.{state, Becomes, Replies};
+ghost use Rattle.heap.specs.Calls.{seal as sealed, recycle as recycled};
 ghost use Rattle.refusal.specs.Told.{nothing};
 ghost use Rattle.door.specs.HeapCalls.{Entered, outcome_of};
 ghost use Rattle.script.specs.Script.{run_script};
 ghost use Rattle.script.specs.Found.{DataThere, call_at, DataIn, call_in};
 ghost use Rattle.run_door.specs.Run.{run_tests, run_call};
-ghost use Rattle.run_door.specs.Inner.Steps.{LineEnds, CanRun};
+ghost use Rattle.run_door.specs.Inner.Steps.{Ends};
 
 use door::{Done, enter};
-use heap::{Changed, Heap};
+use heap::Heap;
+use heap::view_mut::ViewMut;
 use heap_calls::kind::ObjectKind;
-use refusal::{Answer, Refusal};
+use refusal::{Answer, Refusal, Reply};
 use script::{AllocLine, Line, begins_call, read_line};
 
 // The call of an `alloc` line: 8, then 6, then 5. Data longer than the pool is not decoded, so that the room is enough.
-fn do_alloc(
-    heap: Heap,
-    narrow: &mut [u32],
-    wide: &mut [u64],
-    pool: &mut [u8],
-    s: &[u8],
-    a: AllocLine,
-    room: &mut [u8],
-) -> Changed
-    requires can_run { CanRun (lent heap narrow.old wide.old pool.old) room.old }
+fn do_alloc(lent: &mut ViewMut, s: &[u8], a: AllocLine, room: &mut [u8]) -> Reply
+    requires can_run { length lent.old.pool.now ≤ length room.old }
     requires data_there { DataThere s.now a }
-    ensures { LineEnds
-        (lent heap narrow.old wide.old pool.old)
-        (lent result.heap narrow.new wide.new pool.new) result.reply (some (call_at s.now a)) }
+    ensures { Ends lent.old lent.new result (some (call_at s.now a)) }
 {
-    let kind = match ObjectKind::try_from(a.kind) {
-        Ok(kind) => kind,
-        Err(why) => {
-            return Changed {
-                heap: heap,
-                reply: Err(why),
-            };
-        }
-    };
+    let kind = ObjectKind::try_from(a.kind)?;
     let count = a.count;
-    if pool.len() < count {
-        return Changed {
-            heap: heap,
-            reply: Err(Refusal::NoRoom),
-        };
+    if lent.pool.len() < count {
+        return Err(Refusal::NoRoom);
     }
     text::copy_hex(s, a.from, count, room, 0);
     let ty = a.ty as u32;
-    heap_calls::alloc_from(heap, narrow, wide, pool, kind, ty, 0, &room[..count])
+    heap_calls::alloc_from(lent, kind, ty, 0, &room[..count])
+}
+
+// The seals become the handles of all live slots.
+fn seal(lent: &mut ViewMut)
+    ensures { Becomes lent.old lent.new (sealed (state lent.old)) }
+{
+    let narrow = &mut *lent.narrow;
+    let wide = &mut *lent.wide;
+    let pool = &mut *lent.pool;
+    lent.heap = heap_edit::seal(lent.heap, narrow, wide, pool);
+}
+
+// All slots in quarantine become free, or retire where they are worn out.
+fn recycle(lent: &mut ViewMut)
+    ensures { Becomes lent.old lent.new (recycled (state lent.old) []) }
+{
+    let narrow = &mut *lent.narrow;
+    let wide = &mut *lent.wide;
+    let pool = &mut *lent.pool;
+    lent.heap = heap_calls::recycle::recycle(lent.heap, narrow, wide, pool, &[]);
 }
 
 // The call of a line that was read.
-fn do_line(
-    heap: Heap,
-    narrow: &mut [u32],
-    wide: &mut [u64],
-    pool: &mut [u8],
-    s: &[u8],
-    line: Line,
-    room: &mut [u8],
-) -> Changed
-    requires can_run { CanRun (lent heap narrow.old wide.old pool.old) room.old }
+// Kept: each line is another call with arguments of its own, so a closure would say no more than its arm.
+fn do_line(lent: &mut ViewMut, s: &[u8], line: Line, room: &mut [u8]) -> Reply
+    requires can_run { length lent.old.pool.now ≤ length room.old }
     requires data_in { DataIn s.now line }
-    ensures { LineEnds
-        (lent heap narrow.old wide.old pool.old)
-        (lent result.heap narrow.new wide.new pool.new) result.reply (some (call_in s.now line)) }
+    ensures { Ends lent.old lent.new result (some (call_in s.now line)) }
 {
     match line {
-        Line::Alloc(a) => do_alloc(heap, narrow, wide, pool, s, a, room),
-        Line::Take(x) => heap_calls::free(heap, narrow, wide, pool, x),
+        Line::Alloc(a) => do_alloc(lent, s, a, room),
+        Line::Take(x) => heap_calls::free(lent, x),
         Line::Seal => {
-            let after = heap_edit::seal(heap, narrow, wide, pool);
-            Changed {
-                heap: after,
-                reply: Ok((0, 0)),
-            }
+            seal(lent);
+            Ok((0, 0))
         }
         Line::Recycle => {
-            let pins = [0u32; 0];
-            let after = heap_calls::recycle::recycle(heap, narrow, wide, pool, &pins);
-            Changed {
-                heap: after,
-                reply: Ok((0, 0)),
-            }
+            recycle(lent);
+            Ok((0, 0))
         }
     }
 }
 
 // Runs the lines of `s` one by one, until one is refused or bad.
-fn run_lines(
-    heap: Heap,
-    narrow: &mut [u32],
-    wide: &mut [u64],
-    pool: &mut [u8],
-    s: &[u8],
-    room: &mut [u8],
-) -> Changed
-    requires { CanRun (lent heap narrow.old wide.old pool.old) room.old }
-    ensures { Tells nothing nothing
-        (lent heap narrow.old wide.old pool.old)
-        (lent result.heap narrow.new wide.new pool.new) result.reply
-        (run_script (length narrow.old / 6) (length pool.old) s.now
-        (view (lent heap narrow.old wide.old pool.old))) }
+fn run_lines(lent: &mut ViewMut, s: &[u8], room: &mut [u8]) -> Reply
+    requires { length lent.old.pool.now ≤ length room.old }
+    ensures { Replies nothing nothing lent.old lent.new result
+        (run_script (length lent.old.narrow.now / 6) (length lent.old.pool.now) s.now (state lent.old)) }
 {
-    let mut h = heap;
     let mut at = 0;
+    // Kept: no index is counted, a line tells where the next begins.
     while at < s.len() {
         let Some((line, next)) = read_line(s, at) else {
-            return Changed {
-                heap: h,
-                reply: Err(Refusal::Page),
-            };
+            return Err(Refusal::Page);
         };
-        let done = do_line(h, narrow, wide, pool, s, line, room);
-        if done.reply.is_err() {
-            return done;
-        }
-        h = done.heap;
+        do_line(lent, s, line, room)?;
         at = next;
     }
-    Changed {
-        heap: h,
-        reply: Ok((0, 0)),
-    }
+    Ok((0, 0))
 }
 
 // The tests before a script is run: scratch (18), the first line (17), the heap (1).
@@ -191,10 +156,15 @@ pub fn yexwalu_run(
             answer: Answer::from(Err(why)),
         },
         Ok(()) => {
-            let done = run_lines(heap, narrow, wide, pool, script, room);
+            let mut lent = ViewMut {
+                heap,
+                narrow,
+                wide,
+                pool,
+            };
+            let reply = run_lines(&mut lent, script, room);
+            let after = lent.heap;
             room.fill(0);
-            let after = done.heap;
-            let reply = done.reply;
             Done {
                 heap: after,
                 answer: Answer::from(reply),

@@ -1,13 +1,17 @@
 -- `rehearsal_place::place` meets its contract.
-use Rattle.heap.specs.Lent.{lent}
+use Rattle.std.proofs.Common.{refl}
+use Rattle.std.proofs.lemmas.Result.{err_from_is_err_and}
+use Rattle.heap.specs.Loans.{lies}
 use Rattle.rehearsal_place.proofs.Answering.{data-spelled, place-other, place-good}
 use Rattle.rehearsal_place.proofs.place.Goals as goal
 
-pub returns-in-Err : goal.returns-in-Err
-returns-in-Err c = place-other ((lent c.args.heap c.args.narrow.now c.args.wide.now c.args.pool.now)) c.requires.pool_value _ c.args.a c.try_from.ensures c.in-Err.why c.in-Err.is
+pub returns-in_err-k : goal.returns-in_err-k
+returns-in_err-k c =
+    let p = err_from_is_err_and c.from_residual.result c.from_residual.ensures.1 in
+    rw (p.1, p.2) (record { loans = record { narrow = refl; wide = refl; pool = refl }; tells = place-other (lies c.args.lent.now) c.args.lent.now.formed _ c.args.a c.try_from.ensures _ c.in_err-k.was })
 
 pub place_spelled-requires : goal.place_spelled-requires
-place_spelled-requires c = record { pool_value = c.requires.pool_value; spelled = data-spelled _ c.args.a c.requires.data_there }
+place_spelled-requires c = data-spelled _ c.args.a c.requires
 
-pub returns-in-Ok : goal.returns-in-Ok
-returns-in-Ok c = place-good ((lent c.args.heap c.args.narrow.now c.args.wide.now c.args.pool.now)) c.requires.pool_value _ c.args.a c.try_from.ensures c.in-Ok.k c.in-Ok.is _ _ c.place_spelled.ensures
+pub returns : goal.returns
+returns c = record { loans = c.place_spelled.ensures.loans; tells = place-good (lies c.args.lent.now) c.args.lent.now.formed _ c.args.a c.try_from.ensures c.in_ok-k.k c.in_ok-k.was _ _ c.place_spelled.ensures.tells }

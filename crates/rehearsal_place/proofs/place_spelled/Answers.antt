@@ -1,9 +1,8 @@
 -- `rehearsal_place::place_spelled` meets its contract.
 use native.Mathlib.Omega.{arith}
-use mathlib.Core.Path.{ap}
-use Rattle.std.specs.Prelude.{is_err}
-use Prim.Native.Nat.{ℕ, ◌/◌}
-use Rattle.heap.specs.Lent.{lent}
+use Rattle.std.proofs.Common.{refl}
+use Rattle.std.proofs.lemmas.Result.{err_from_is_err_and}
+use Rattle.heap.specs.Loans.{lies}
 use Rattle.rehearsal_place.proofs.Spelling.{spelled-room}
 use Rattle.rehearsal_place.proofs.Answering.{spelled-refused, spelled-start, spelled-fits, spelled-done}
 use Rattle.heap_calls.specs.Kinds.{kind_number}
@@ -11,19 +10,24 @@ use Rattle.heap_calls.proofs.KindLaws.{kind-low, kind-high}
 use Rattle.rehearsal_place.proofs.place_spelled.Goals as goal
 
 pub overflow_add-from : goal.overflow_add-from
-overflow_add-from c = omega (arith, spelled-room c.requires.spelled)
+overflow_add-from c = omega (arith, spelled-room c.requires)
 
 pub slice_bounds-alloc_from-end : goal.slice_bounds-alloc_from-end
-slice_bounds-alloc_from-end c = omega (arith, spelled-room c.requires.spelled)
+slice_bounds-alloc_from-end c = omega (arith, spelled-room c.requires)
 
-pub returns-in-Err : goal.returns-in-Err
-returns-in-Err c = spelled-refused ((lent c.args.heap c.args.narrow.now c.args.wide.now c.args.pool.now)) c.requires.pool_value (kind_number c.args.k) _ (kind-low c.args.k) (kind-high c.args.k) _ _ _ c.requires.spelled c.alloc_from-done.result.heap c.alloc_from-done.new.narrow c.alloc_from-done.new.wide c.alloc_from-done.new.pool _ c.alloc_from-done.ensures (ap is_err c.in-Err.is)
+pub returns-in_err-placed : goal.returns-in_err-placed
+returns-in_err-placed c =
+    let p = err_from_is_err_and c.from_residual.result c.from_residual.ensures.1 in
+    rw (p.1, p.2) (record { loans = c.in_err-placed.ensures.loans; tells = spelled-refused (lies c.args.lent.now) c.args.lent.now.formed (kind_number c.args.k) _ (kind-low c.args.k) (kind-high c.args.k) _ _ _ c.requires c.alloc_from-placed.new.lent.heap c.alloc_from-placed.new.lent.narrow.now c.alloc_from-placed.new.lent.wide.now c.alloc_from-placed.new.lent.pool.now _ c.in_err-placed.ensures.tells refl })
 
 pub start_of-to-requires : goal.start_of-to-requires
-start_of-to-requires c = spelled-start ((lent c.args.heap c.args.narrow.now c.args.wide.now c.args.pool.now)) c.requires.pool_value (kind_number c.args.k) _ (kind-low c.args.k) (kind-high c.args.k) _ _ _ c.requires.spelled c.alloc_from-done.result.heap c.alloc_from-done.new.narrow c.alloc_from-done.new.wide c.alloc_from-done.new.pool _ c.alloc_from-done.ensures _ _ c.in-Ok.is c.index_of-i.ensures
+start_of-to-requires c = spelled-start (lies c.args.lent.now) c.args.lent.now.formed (kind_number c.args.k) _ (kind-low c.args.k) (kind-high c.args.k) _ _ _ c.requires c.alloc_from-placed.new.lent.heap c.alloc_from-placed.new.lent.narrow.now c.alloc_from-placed.new.lent.wide.now c.alloc_from-placed.new.lent.pool.now _ c.in_ok-placed.ensures.tells _ _ refl c.index_of-i.ensures
 
 pub copy_hex-requires : goal.copy_hex-requires
-copy_hex-requires c = record { hex_parsed = c.requires.spelled.parsed; count_value = (c.requires.spelled.counted, spelled-fits ((lent c.args.heap c.args.narrow.now c.args.wide.now c.args.pool.now)) c.requires.pool_value (kind_number c.args.k) _ (kind-low c.args.k) (kind-high c.args.k) _ _ _ c.requires.spelled c.alloc_from-done.result.heap c.alloc_from-done.new.narrow c.alloc_from-done.new.wide c.alloc_from-done.new.pool _ c.alloc_from-done.ensures _ _ c.in-Ok.is c.index_of-i.ensures c.start_of-to.ensures) }
+copy_hex-requires c = record { hex_parsed = c.requires.parsed; count_value = (c.requires.counted, spelled-fits (lies c.args.lent.now) c.args.lent.now.formed (kind_number c.args.k) _ (kind-low c.args.k) (kind-high c.args.k) _ _ _ c.requires c.alloc_from-placed.new.lent.heap c.alloc_from-placed.new.lent.narrow.now c.alloc_from-placed.new.lent.wide.now c.alloc_from-placed.new.lent.pool.now _ c.in_ok-placed.ensures.tells _ _ refl c.index_of-i.ensures c.start_of-to.ensures) }
 
 pub returns : goal.returns
-returns c = spelled-done ((lent c.args.heap c.args.narrow.now c.args.wide.now c.args.pool.now)) c.requires.pool_value (kind_number c.args.k) _ (kind-low c.args.k) (kind-high c.args.k) _ _ _ c.requires.spelled c.alloc_from-done.result.heap c.alloc_from-done.new.narrow c.alloc_from-done.new.wide c.alloc_from-done.new.pool _ c.alloc_from-done.ensures _ _ c.in-Ok.is c.index_of-i.ensures c.start_of-to.ensures c.copy_hex.ensures (ap (λ (n : ℕ). n / 6) c.alloc_from-done.auto.narrow) c.alloc_from-done.auto.pool
+returns c = record { loans = record { narrow = c.in_ok-placed.ensures.loans.narrow; wide = c.in_ok-placed.ensures.loans.wide; pool = c.in_ok-placed.ensures.loans.pool }; tells = spelled-done (lies c.args.lent.now) c.args.lent.now.formed (kind_number c.args.k) _ (kind-low c.args.k) (kind-high c.args.k) _ _ _ c.requires c.alloc_from-placed.new.lent.heap c.alloc_from-placed.new.lent.narrow.now c.alloc_from-placed.new.lent.wide.now c.alloc_from-placed.new.lent.pool.now _ c.in_ok-placed.ensures.tells _ _ refl c.index_of-i.ensures c.start_of-to.ensures c.copy_hex.ensures }
+
+pub invariant_of-lent : goal.invariant_of-lent
+invariant_of-lent c = record { formed = (spelled-done (lies c.args.lent.now) c.args.lent.now.formed (kind_number c.args.k) _ (kind-low c.args.k) (kind-high c.args.k) _ _ _ c.requires c.alloc_from-placed.new.lent.heap c.alloc_from-placed.new.lent.narrow.now c.alloc_from-placed.new.lent.wide.now c.alloc_from-placed.new.lent.pool.now _ c.in_ok-placed.ensures.tells _ _ refl c.index_of-i.ensures c.start_of-to.ensures c.copy_hex.ensures).leaves.formed }

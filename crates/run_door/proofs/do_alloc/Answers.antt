@@ -1,22 +1,23 @@
 -- `run_door::do_alloc` meets its contract.
-use Rattle.heap.specs.Lent.{lent}
+use Rattle.std.proofs.Common.{refl}
+use Rattle.std.proofs.lemmas.Result.{err_from_is_err_and}
+use Rattle.heap.specs.Loans.{lies}
 use Rattle.run_door.proofs.Placing.{part_count, decoded, placed-other, placed-none, placed-done}
 use Rattle.run_door.proofs.do_alloc.Goals as goal
 
-pub returns-in-Err : goal.returns-in-Err
-returns-in-Err c = placed-other ((lent c.args.heap c.args.narrow.now c.args.wide.now c.args.pool.now)) _ _ c.args.a c.requires.can_run c.in-Err.why c.try_from.ensures c.in-Err.is
+pub returns-in_err-kind : goal.returns-in_err-kind
+returns-in_err-kind c =
+    let p = err_from_is_err_and c.from_residual.result c.from_residual.ensures.1 in
+    rw (p.1, p.2) (record { loans = record { narrow = refl; wide = refl; pool = refl }; does = placed-other (lies c.args.lent.now) _ _ c.args.a (record { formed = c.args.lent.now.formed; room = c.requires.can_run }) _ c.try_from.ensures c.in_err-kind.was })
 
-pub returns-then-pool-count : goal.returns-then-pool-count
-returns-then-pool-count c = placed-none ((lent c.args.heap c.args.narrow.now c.args.wide.now c.args.pool.now)) _ _ c.args.a c.requires.can_run c.in-Ok.kind c.try_from.ensures c.in-Ok.is c.requires.data_there c.if-pool-count.true
+pub returns-then-lent-count : goal.returns-then-lent-count
+returns-then-lent-count c = record { loans = record { narrow = refl; wide = refl; pool = refl }; does = placed-none (lies c.args.lent.now) _ _ c.args.a (record { formed = c.args.lent.now.formed; room = c.requires.can_run }) c.in_ok-kind.kind c.try_from.ensures c.in_ok-kind.was c.requires.data_there c.if-lent-count.true }
 
 pub slice_bounds-alloc_from-end-2 : goal.slice_bounds-alloc_from-end-2
-slice_bounds-alloc_from-end-2 c = part_count ((lent c.args.heap c.args.narrow.now c.args.wide.now c.args.pool.now)) _ _ _ c.requires.can_run c.if-pool-count.false c.copy_hex.auto.out
-
-pub alloc_from-requires : goal.alloc_from-requires
-alloc_from-requires c = c.requires.can_run.formed
+slice_bounds-alloc_from-end-2 c = part_count (lies c.args.lent.now) _ _ _ (record { formed = c.args.lent.now.formed; room = c.requires.can_run }) c.if-lent-count.false c.copy_hex.auto.out
 
 pub shape_of-room : goal.shape_of-room
 shape_of-room c = c.copy_hex.auto.out
 
 pub returns : goal.returns
-returns c = placed-done ((lent c.args.heap c.args.narrow.now c.args.wide.now c.args.pool.now)) _ _ c.args.a c.requires.can_run c.in-Ok.kind c.try_from.ensures c.in-Ok.is c.requires.data_there _ _ _ (decoded _ _ _ _ _ _ c.copy_hex.ensures c.requires.data_there.counted) c.alloc_from.ensures
+returns c = record { loans = c.alloc_from.ensures.loans; does = placed-done (lies c.args.lent.now) _ _ c.args.a (record { formed = c.args.lent.now.formed; room = c.requires.can_run }) c.in_ok-kind.kind c.try_from.ensures c.in_ok-kind.was c.requires.data_there _ _ _ (decoded _ _ _ _ _ _ c.copy_hex.ensures c.requires.data_there.counted) c.alloc_from.ensures.tells }

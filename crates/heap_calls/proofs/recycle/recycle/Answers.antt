@@ -1,9 +1,9 @@
 -- `heap_calls::recycle::recycle` meets its contract: the lists, and the four numbers of the header.
 use native.Mathlib.Omega.{arith}
 use mathlib.Core.Path.{subst}
-use mathlib.Core.List.{List, ◌++◌}
+use mathlib.Core.List.{List, [], ◌++◌}
 use Prim.Native.Nat.{ℕ, ◌/◌}
-use lib.ListN.{length, take}
+use lib.ListN.{length}
 use Rattle.heap.specs.Lent.{lent}
 use Rattle.heap_calls.specs.Pins.{marked_slots}
 use Rattle.heap_calls.specs.Inner.Recycled.{RecycledAt}
@@ -15,9 +15,9 @@ use Rattle.heap_calls.proofs.recycle.recycle.Goals.{Start}
 
 -- no slot is marked: the pins alone are kept
 plain : (c : Start) (f r q : ℕ) (narrow' : List ℕ)
-    → RecycledAt (length c.args.narrow.now / 6) c.args.heap.free c.args.heap.retired c.args.heap.quarantine (c.args.pins.now ++ marked_slots (take 0 c.args.pool.now)) c.args.narrow.now f r q narrow'
+    → RecycledAt (length c.args.narrow.now / 6) c.args.heap.free c.args.heap.retired c.args.heap.quarantine (c.args.pins.now ++ marked_slots []) c.args.narrow.now f r q narrow'
     → RecycledAt (length c.args.narrow.now / 6) c.args.heap.free c.args.heap.retired c.args.heap.quarantine c.args.pins.now c.args.narrow.now f r q narrow'
-plain c f r q narrow' z = subst (λ (p : List ℕ). RecycledAt (length c.args.narrow.now / 6) c.args.heap.free c.args.heap.retired c.args.heap.quarantine p c.args.narrow.now f r q narrow') (none-marked c.args.pins.now c.args.pool.now) z
+plain c f r q narrow' z = subst (λ (p : List ℕ). RecycledAt (length c.args.narrow.now / 6) c.args.heap.free c.args.heap.retired c.args.heap.quarantine p c.args.narrow.now f r q narrow') (none-marked c.args.pins.now []) z
 
 pub recycle_lists-c-requires : goal.recycle_lists-c-requires
 recycle_lists-c-requires c = let can = lists-can ((lent c.args.heap c.args.narrow.now c.args.wide.now c.args.pool.now)) c.requires.pool_value in record { q_bound = (can.free, can.retired, omega arith); entries = entries-are c.args.heap c.args.narrow.now c.args.wide.now c.args.pool.now can.entries (omega (arith, can.free)); pins_value = c.requires.pins_value }

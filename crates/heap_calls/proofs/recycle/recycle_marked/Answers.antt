@@ -1,6 +1,6 @@
 -- `heap_calls::recycle::recycle_marked` meets its contract: the lists, and the four numbers of the header.
 use native.Mathlib.Omega.{arith}
-use mathlib.Core.List.{◌∷◌, []}
+use mathlib.Core.List.{[]}
 use Rattle.heap.specs.Lent.{lent}
 use Rattle.heap_calls.proofs.Recycling.{lists-can}
 use Rattle.heap_calls.proofs.Going.{entries-are, kept-few, recycled-leaves}
@@ -8,7 +8,7 @@ use Rattle.heap_calls.proofs.Marked.{no_pins}
 use Rattle.heap_calls.proofs.recycle.recycle_marked.Goals as goal
 
 pub recycle_lists-c-requires : goal.recycle_lists-c-requires
-recycle_lists-c-requires c = let can = lists-can ((lent c.args.heap c.args.narrow.now c.args.wide.now c.args.pool.now)) c.requires in record { q_bound = (can.free, can.retired, omega arith); entries = entries-are c.args.heap c.args.narrow.now c.args.wide.now c.args.pool.now can.entries (omega (arith, can.free)); pins_value = no_pins (0 ∷ []) }
+recycle_lists-c-requires c = let can = lists-can ((lent c.args.heap c.args.narrow.now c.args.wide.now c.args.pool.now)) c.requires in record { q_bound = (can.free, can.retired, omega arith); entries = entries-are c.args.heap c.args.narrow.now c.args.wide.now c.args.pool.now can.entries (omega (arith, can.free)); pins_value = no_pins [] }
 
 pub reclaim_after-requires : goal.reclaim_after-requires
 reclaim_after-requires c = omega (arith, (lists-can ((lent c.args.heap c.args.narrow.now c.args.wide.now c.args.pool.now)) c.requires).few, kept-few _ _ _ _ _ _ _ _ _ _ c.recycle_lists-c.ensures)
