@@ -12,31 +12,30 @@ use Rattle.beside.specs.Inner.Ranks.{place_in}
 use Rattle.beside.specs.Inner.Found.{codes_of}
 use Rattle.beside.proofs.Codings.{beside-found}
 use Rattle.trace.specs.Places.{Places}
-use Rattle.trace.specs.Emit.{Answer, Raw, raw_of, resolve_in, aim, handed_by, handed, handed_all, handing_at, told}
-use Rattle.trace.specs.declared.Goal.TheVariants.{Beside as Goal-as-Beside}
+use Rattle.trace.specs.Emit.{Answer, Raw, raw_of, compared, handed, handed_all, handing_at, told}
 use Rattle.trace.proofs.Emits.{ok-inj}
 
-module _ (tag slots c : ℕ) (R : ℕ → Result ℕ) (on other ow v work : List ℕ) where
-  -- how two handles compare: R and the turns in `work` for the one heap, the columns and the turns of the other
+module _ (R R' : ℕ → Result ℕ) (ow other v work : List ℕ) where
+  -- how two handles compare: R and the turns in `work` for the one heap, R' and the turns of the other
   abbrev pub place_beside : ℕ → ℕ → Ordering
-  place_beside = place_in R work (resolve_in tag slots c on) ow
+  place_beside = place_in R work R' ow
 
   abbrev pub beside_raw : Beside → Raw
   beside_raw x = raw_of (codes_of x) work x.done
 
-  pub beside-one : (x : Beside) (a : ℕ) → handed (aim (Goal-as-Beside tag slots c) R on other ow) v (beside_raw x) a ≡ beside_raw (beside_at place_beside v other x a)
-  unfolding handed handed_by
+  pub beside-one : (x : Beside) (a : ℕ) → handed (compared R R' ow other) v (beside_raw x) a ≡ beside_raw (beside_at place_beside v other x a)
+  unfolding handed
   beside-one x a = ap (λ (f : List ℕ). raw_of f work (beside_at place_beside v other x a).done) (beside-found place_beside v other x a)
 
-  pub beside-all : (x : Beside) (ps : List ℕ) → handed_all (aim (Goal-as-Beside tag slots c) R on other ow) v (beside_raw x) ps ≡ beside_raw (beside_all place_beside v other x ps)
+  pub beside-all : (x : Beside) (ps : List ℕ) → handed_all (compared R R' ow other) v (beside_raw x) ps ≡ beside_raw (beside_all place_beside v other x ps)
   unfolding handed_all
   beside-all x [] = refl
   beside-all x (a ∷ ps) =
-      ap (λ (r : Raw). handed_all (aim (Goal-as-Beside tag slots c) R on other ow) v r ps) (beside-one x a)
+      ap (λ (r : Raw). handed_all (compared R R' ow other) v r ps) (beside-one x a)
       ∙ beside-all (beside_at place_beside v other x a) ps
 
   -- from nothing found on
-  module _ (o : Places) (r : Answer) (found work' : List ℕ) (er : told r found work' ≡ handing_at (aim (Goal-as-Beside tag slots c) R on other ow) v (raw_of (0 ∷ 0 ∷ []) work 0) o) where
+  module _ (o : Places) (r : Answer) (found work' : List ℕ) (er : told r found work' ≡ handing_at (compared R R' ow other) v (raw_of (0 ∷ 0 ∷ []) work 0) o) where
     pub beside-told : (ps : List ℕ) → o ≡ some ps → (n : ℕ) → r ≡ Some n → raw_of found work' n ≡ beside_raw (beside_all place_beside v other beside_first ps)
     unfolding handing_at
     beside-told ps e n t = ok-inj (rw (e, t) at er) ∙ beside-all beside_first ps
@@ -45,7 +44,7 @@ module _ (tag slots c : ℕ) (R : ℕ → Result ℕ) (on other ow v work : List
     unfolding handing_at
     beside_none t = by o (rw t at er)
       where
-        by : (q : Places) → refused 13 ≡ handing_at (aim (Goal-as-Beside tag slots c) R on other ow) v (raw_of (0 ∷ 0 ∷ []) work 0) q → q ≡ none
+        by : (q : Places) → refused 13 ≡ handing_at (compared R R' ow other) v (raw_of (0 ∷ 0 ∷ []) work 0) q → q ≡ none
         by none e = refl
         by (some ps) e = let x : ◌≡◌ {A = ℕ} 0 1 = cc in absurd (omega arith)
 

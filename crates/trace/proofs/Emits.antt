@@ -8,8 +8,7 @@ use mathlib.Core.List.{List, [], ◌∷◌, ◌++◌, map}
 use lib.ListN.{length, get_or, set}
 use lib.Dec.{leb, eqb}
 use borrow.Author.Tests.{lt-ltb, le-ltb, le-leb, lt-leb, eq-eqb, ne_eqb}
-use native.Mathlib.Decide.{dec_le, ℕ_discrete}
-use native.Mathlib.Nat.{add-div_right, div-eq_of_lt}
+use native.Mathlib.Decide.{dec_le}
 use native.Mathlib.Omega.{arith}
 use types.Run.{OneOf, miss}
 use denote.Enum.Declared.{tag_of}
@@ -20,9 +19,10 @@ use Rattle.std.specs.Prelude.{Result as Outcome, Ok, Err}
 use Rattle.refusal.specs.declared.Refusal.{Refusal}
 use Rattle.trace.specs.Places.{Places, only_if, both, many, turns, handle_at, words_at}
 use Rattle.trace.specs.Walk.{Stepped}
+use Rattle.beside.specs.declared.Met.{Met}
 use Rattle.beside.specs.Inner.Ranks.{place_in}
 use Rattle.beside.specs.Inner.Found.{found_at}
-use Rattle.trace.specs.Emit.{Answer, Raw, raw_of, Into, into, resolve_in, over, queued, queued_if, emitted_by, emitted, emit_all, emitting, Ready, Runs, Aim, aim, handed_by, handed, handed_all, handing_at, told}
+use Rattle.trace.specs.Emit.{Answer, Raw, raw_of, Into, into, slots_resolve, over, queued, queued_if, emitted_by, emitted, emit_all, emitting, Aim, words_to, aim, other_of, handed, handed_all, handing_at, told}
 use Rattle.trace.specs.declared.Sink.{Sink}
 use Rattle.trace.specs.declared.Sink.TheVariants.{Check, List as ToList, Work}
 use Rattle.trace.specs.declared.Goal.{Goal}
@@ -92,18 +92,17 @@ turns-all st n e = rw (ne_eqb st 0 e) refl
 
 -- ---- a place
 
-pub runs-beside : (slots s : ℕ) (narrow : List ℕ) (g : Goal) (v on other : List ℕ) → Ready slots s narrow g v on other → (t n c : ℕ) → g ≡ Beside t n c → Runs n c on
-runs-beside slots s narrow g v on other r t n c e = r.beside t n c e
+pub hand-even : (v : List ℕ) (g : Goal) (x : Met) (o : _) → g ≡ Beside x o → length (other_of g v) ≡ length v → length v ≡ length o.now
+hand-even v g x o e l = sym l ∙ ap (λ (y : Goal). length (other_of y v)) e
 
-module _ (R : ℕ → Result ℕ) (on other ow v : List ℕ) (g : Goal) (at : ℕ) where
-  pub hand_word : (sink : Sink) → g ≡ Words sink → (s : Raw) (h : ℕ) → h ≡ handle_at v at → (t : Raw) → t ≡ emitted (into sink R) s h → t ≡ handed (aim g R on other ow) v s at
-  unfolding handed handed_by
+module _ (R : ℕ → Result ℕ) (v : List ℕ) (g : Goal) (at : ℕ) where
+  pub hand_word : (sink : Sink) → g ≡ Words sink → (s : Raw) (h : ℕ) → h ≡ handle_at v at → (t : Raw) → t ≡ emitted (into sink R) s h → t ≡ handed (aim g R) v s at
+  unfolding handed
   hand_word sink e s h w t q = rw e (q ∙ ap (emitted (into sink R) s) w)
 
-  pub hand-beside : (tag slots c : ℕ) → g ≡ Beside tag slots c → (ms to : List ℕ) (n m : ℕ) → m ≡ at + 8 → (ms' : List ℕ) → ms' ≡ found_at (place_in R to (resolve_in tag slots c on) ow) v other ms n at
-      → raw_of ms' to m ≡ handed (aim g R on other ow) v (raw_of ms to n) at
-  unfolding handed handed_by
-  hand-beside tag slots c e ms to n m em ms' q = rw (e, em, q) refl
+  pub hand-beside : (x : Met) (o : _) → g ≡ Beside x o → (ms to : List ℕ) (n m : ℕ) → m ≡ at + 8 → (ms' : List ℕ) → ms' ≡ found_at (place_in R to (slots_resolve x.slots) x.turns.now) v o.now ms n at → raw_of ms' to m ≡ handed (aim g R) v (raw_of ms to n) at
+  unfolding handed
+  hand-beside x o e ms to n m em ms' q = rw (e, em, q) refl
 
 module _ (k : Aim) (v : List ℕ) (s : Raw) (at : ℕ) (le : at ≤ length v) where
   pub word-short : length v - at < 8 → refused 13 ≡ handing_at k v s (only_if (leb (at + 8) (length v)) (some (at ∷ [])))
@@ -160,13 +159,13 @@ unfolding handing_at handed_all
 emit-nil k v s o e = rw e refl
 
 -- for a sink the places are the words there
-module _ (sink : Sink) (R : ℕ → Result ℕ) (on other ow v : List ℕ) where
-  words-all : (s : Raw) (ps : List ℕ) → handed_all (aim (Words sink) R on other ow) v s ps ≡ emit_all (into sink R) s (map (handle_at v) ps)
-  unfolding handed_all handed handed_by emit_all
+module _ (k : Into) (v : List ℕ) where
+  words-all : (s : Raw) (ps : List ℕ) → handed_all (words_to k) v s ps ≡ emit_all k s (map (handle_at v) ps)
+  unfolding handed_all handed emit_all
   words-all s [] = refl
-  words-all s (p ∷ ps) = words-all (emitted (into sink R) s (handle_at v p)) ps
+  words-all s (p ∷ ps) = words-all (emitted k s (handle_at v p)) ps
 
-  pub words-at : (s : Raw) (o : Places) → handing_at (aim (Words sink) R on other ow) v s o ≡ emitting (into sink R) s (words_at v o)
+  pub words-at : (s : Raw) (o : Places) → handing_at (words_to k) v s o ≡ emitting k s (words_at v o)
   unfolding handing_at emitting words_at
   words-at s none = refl
   words-at s (some ps) = ap {B = Result Raw} ok (words-all s ps)
@@ -241,50 +240,28 @@ pub many-one : (end : ℕ) (f : ℕ → Places) (st at : ℕ) → at ≤ end →
 unfolding many
 many-one end f st at h = ap (λ (x : Bool). only_if x (both (f at) (some []))) (le-leb at end h) ∙ both-nil (f at)
 
--- The turns that are left at byte o of len: one for each stride that begins within the data, however many elements there are; of elements that take no
--- room, as many as are left.
-abbrev pub turns_left : ℕ → ℕ → ℕ → ℕ → ℕ
-turns_left len st c o = if◌then◌else◌ (eqb st 0) c ((len + st - o) / st)
+-- the turn at element i of n, which lies at o. G is what all of them leave, of which the invariant says that it is what those left leave.
+pub elems-first : (k : Aim) (v : List ℕ) (s : Raw) (f : ℕ → Places) (st n o : ℕ) → handing_at k v s (many (length v) f st (n - 0) o) ≡ handing_at k v s (many (length v) f st n o)
+elems-first k v s f st n o = let z : n - 0 ≡ n = omega arith in ap (λ (c : ℕ). handing_at k v s (many (length v) f st c o)) z
 
-strides-fall : (len st o r : ℕ) → 0 < st → o ≤ len → Stepped len (o + st) r → (len + st - r) / st < (len + st - o) / st
-strides-fall len st o r p l s = by (dec_le (o + st) len)
-  where
-    more : (len + st - o) / st ≡ (len - o) / st + 1
-    more = let e : len + st - o ≡ len - o + st = omega arith in ap (λ (n : ℕ). n / st) e ∙ add-div_right (len - o) p
+module _ (k : Aim) (v : List ℕ) (f : ℕ → Places) (st n i o m : ℕ) (ms to : List ℕ) (G : Result Raw) (inv : handing_at k v (raw_of ms to m) (many (length v) f st (n - i) o) ≡ G) where
+  pub elems-end : n ≤ i → ok (raw_of ms to m) ≡ G
+  elems-end h = emit-nil k v (raw_of ms to m) _ (many-end (length v) f st (n - i) o (omega arith)) ∙ inv
 
-    by : Dec (o + st ≤ len) → (len + st - r) / st < (len + st - o) / st
-    by (yes a) =
-        let e : r ≡ o + st = s.within a in
-        let f : len + st - r ≡ len - o = omega arith in
-        let g : (len + st - r) / st ≡ (len - o) / st = ap (λ (n : ℕ). n / st) f in
-        omega (arith, more)
-    by (no a) =
-        let e : len < r = s.beyond (omega arith) in
-        let g : (len + st - r) / st ≡ 0 = div-eq_of_lt (omega arith) in
-        omega (arith, more)
+  pub elems-beyond : i < n → length v < o → refused 13 ≡ G
+  elems-beyond h l = emit-none k v (raw_of ms to m) _ (many-beyond (length v) f st (n - i) o (omega arith) l) ∙ inv
 
-pub turns-fall : (len st c o r : ℕ) → 0 < c → o ≤ len → Stepped len (o + st) r → turns_left len st (c - 1) r < turns_left len st c o
-turns-fall len st c o r h l s = by (ℕ_discrete st 0)
-  where
-    by : Dec (st ≡ 0) → turns_left len st (c - 1) r < turns_left len st c o
-    by (yes e) = rw (eq-eqb st 0 e) (omega arith)
-    by (no e) = rw (ne_eqb st 0 e) (strides-fall len st o r (omega arith) l s)
+  module _ (h : i < n) (l : o ≤ length v) (r : Answer) (ms' to' : List ℕ) (er : told r ms' to' ≡ handing_at k v (raw_of ms to m) (f o)) where
+    turn : handing_at k v (raw_of ms to m) (both (f o) (many (length v) f st (n - i - 1) (o + st))) ≡ G
+    turn = ap (handing_at k v (raw_of ms to m)) (sym (many-cons (length v) f st (n - i) o (omega arith) l)) ∙ inv
 
--- the turn at an element: c are left, the first at o. G is what all of them leave, of which the invariant says that it is what those left leave.
-module _ (k : Aim) (v : List ℕ) (f : ℕ → Places) (st c o m : ℕ) (ms to : List ℕ) (G : Result Raw) (inv : handing_at k v (raw_of ms to m) (many (length v) f st c o) ≡ G) where
-  pub elems-end : c ≤ 0 → ok (raw_of ms to m) ≡ G
-  elems-end h = emit-nil k v (raw_of ms to m) _ (many-end (length v) f st c o h) ∙ inv
-
-  pub elems-beyond : 0 < c → length v < o → refused 13 ≡ G
-  elems-beyond h l = emit-none k v (raw_of ms to m) _ (many-beyond (length v) f st c o h l) ∙ inv
-
-  module _ (h : 0 < c) (l : o ≤ length v) (r : Answer) (ms' to' : List ℕ) (er : told r ms' to' ≡ handing_at k v (raw_of ms to m) (f o)) where
     pub elems-fail : r ≡ None → refused 13 ≡ G
-    elems-fail e = then-none k v (raw_of ms to m) (f o) _ (told-untraceable r ms' to' _ er e) ∙ ap (handing_at k v (raw_of ms to m)) (sym (many-cons (length v) f st c o h l)) ∙ inv
+    elems-fail e = then-none k v (raw_of ms to m) (f o) _ (told-untraceable r ms' to' _ er e) ∙ turn
 
-    pub elems-next : (m' : ℕ) → r ≡ Some m' → (o' : ℕ) → Stepped (length v) (o + st) o' → handing_at k v (raw_of ms' to' m') (many (length v) f st (c - 1) o') ≡ G
+    pub elems-next : (m' : ℕ) → r ≡ Some m' → (o' : ℕ) → Stepped (length v) (o + st) o' → handing_at k v (raw_of ms' to' m') (many (length v) f st (n - (i + 1)) o') ≡ G
     elems-next m' e o' s =
-        ap (handing_at k v (raw_of ms' to' m')) (sym (many-two (length v) f st (c - 1) (o + st) o' s))
+        let z : n - (i + 1) ≡ n - i - 1 = omega arith in
+        ap (handing_at k v (raw_of ms' to' m')) (sym (many-two (length v) f st (n - (i + 1)) (o + st) o' s))
+        ∙ ap (λ (c : ℕ). handing_at k v (raw_of ms' to' m') (many (length v) f st c (o + st))) z
         ∙ then_some k v (raw_of ms to m) (raw_of ms' to' m') (f o) _ (told-traced r ms' to' _ m' er e)
-        ∙ ap (handing_at k v (raw_of ms to m)) (sym (many-cons (length v) f st c o h l))
-        ∙ inv
+        ∙ turn

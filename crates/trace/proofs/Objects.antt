@@ -17,33 +17,19 @@ use Rattle.ty.specs.declared.Table.{Table as Lent}
 use Rattle.ty.specs.View.{lent, table_of, types_of}
 use Rattle.layout.proofs.LayLaws.{rest}
 use Rattle.trace.specs.Places.{Places, places_at, object_places, rising, handles_places, kind_places, shown_places, words_at, value_handles, object_handles, handles_of}
-use Rattle.trace.specs.Emit.{Answer, Raw, into, Runs, emitting, Ready, Aim, aim, handed, handed_all, handing_at, told}
-use Rattle.trace.specs.declared.Sink.{Sink}
-use Rattle.trace.specs.declared.Goal.{Goal}
-use Rattle.trace.specs.declared.Goal.TheVariants.{Words, Beside}
+use Rattle.trace.specs.Emit.{Answer, Raw, Into, emitting, Aim, words_to, compared, handed, handed_all, handing_at, told}
 use Rattle.trace.proofs.Emits.{emit-none, emit-nil, words-at}
 
--- ---- what a trace for a sink needs, and what is left of it for a part of the data
+-- ---- a part of the data, and as much of the data beside
 
-pub ready_words : (slots s : ℕ) (narrow : List ℕ) (sink : Sink) (v columns : List ℕ) → Runs slots s narrow → Ready slots s narrow (Words sink) v columns v
-ready_words slots s narrow sink v columns r = record { runs = r; even = refl; beside = λ t n c e. let z : ◌≡◌ {A = ℕ} 0 1 = cc in absurd (omega arith) }
-
-pub ready-beside : (slots s : ℕ) (narrow v columns other : List ℕ) (t n c : ℕ) → Runs slots s narrow → Runs n c columns → length v ≡ length other → Ready slots s narrow (Beside t n c) v columns other
-ready-beside slots s narrow v columns other t n c r q e = record { runs = r; even = e; beside = λ t' n' c' i. let x : n ≡ n' = cc in let y : c ≡ c' = cc in rw (← x, ← y) q }
-
-pub ready-rest : (slots s : ℕ) (narrow : List ℕ) (goal : Goal) (v columns other : List ℕ) → Ready slots s narrow goal v columns other → (start : ℕ) → Ready slots s narrow goal (take (length v - start) (drop start v)) columns (take (length other - start) (drop start other))
-ready-rest slots s narrow goal v columns other r start =
-    record {
-      runs = r.runs;
-      even = ap length (rest start v) ∙ length-drop start v ∙ ap (λ (n : ℕ). n - start) r.even ∙ sym (length-drop start other) ∙ sym (ap length (rest start other));
-      beside = r.beside;
-    }
+pub rest-even : (start : ℕ) (v other : List ℕ) → length v ≡ length other → length (take (length other - start) (drop start other)) ≡ length (take (length v - start) (drop start v))
+rest-even start v other e = ap length (rest start other) ∙ length-drop start other ∙ ap (λ (n : ℕ). n - start) (sym e) ∙ sym (length-drop start v) ∙ sym (ap length (rest start v))
 
 -- ---- a value
 
-pub value-whole : (T : Table) (t : ℕ) (v : List ℕ) (sink : Sink) (R : ℕ → Result ℕ) (on other ow : List ℕ) (s : Raw) (r : Answer) (ms to : List ℕ) → told r ms to ≡ handing_at (aim (Words sink) R on other ow) v s (places_at T (length v) 65 t [] 0) → told r ms to ≡ emitting (into sink R) s (value_handles T t v)
+pub value-whole : (T : Table) (t : ℕ) (v : List ℕ) (k : Into) (s : Raw) (r : Answer) (ms to : List ℕ) → told r ms to ≡ handing_at (words_to k) v s (places_at T (length v) 65 t [] 0) → told r ms to ≡ emitting k s (value_handles T t v)
 unfolding value_handles
-value-whole T t v sink R on other ow s r ms to er = er ∙ words-at sink R on other ow v s (places_at T (length v) 65 t [] 0)
+value-whole T t v k s r ms to er = er ∙ words-at k v s (places_at T (length v) 65 t [] 0)
 
 -- ---- an object
 
@@ -65,9 +51,9 @@ module _ (T : Lent) (t : ℕ) (v : List ℕ) (k : Aim) (s : Raw) (x : Bool) (ex 
     unfolding object_places
     object-whole n h l r ms to er = rw (← ex, o, ← ez, h, le-leb n (length v) l) er
 
-pub object-words : (T : Table) (t : ℕ) (v : List ℕ) (sink : Sink) (R : ℕ → Result ℕ) (on other ow : List ℕ) (s : Raw) (r : Answer) (ms to : List ℕ) → told r ms to ≡ handing_at (aim (Words sink) R on other ow) v s (object_places T t v) → told r ms to ≡ emitting (into sink R) s (object_handles T t v)
+pub object-words : (T : Table) (t : ℕ) (v : List ℕ) (k : Into) (s : Raw) (r : Answer) (ms to : List ℕ) → told r ms to ≡ handing_at (words_to k) v s (object_places T t v) → told r ms to ≡ emitting k s (object_handles T t v)
 unfolding object_handles
-object-words T t v sink R on other ow s r ms to er = er ∙ words-at sink R on other ow v s (object_places T t v)
+object-words T t v k s r ms to er = er ∙ words-at k v s (object_places T t v)
 
 -- ---- a Handles object: the places from `at` on are still to come
 
@@ -114,29 +100,16 @@ module _ (T : Table) (kind t : ℕ) (v : List ℕ) (k : Aim) (s : Raw) where
 
 -- ---- a slot
 
-module _ (T : Table) (kind t start : ℕ) (v : List ℕ) (g : Goal) (R : ℕ → Result ℕ) (on other ow : List ℕ) (s : Raw) where
-  pub shown-hidden : length v < start → ok s ≡ handing_at (aim g R on (drop start other) ow) (drop start v) s (shown_places T kind t start v)
+module _ (T : Table) (kind t start : ℕ) (v : List ℕ) (s : Raw) where
+  pub shown-hidden : (k : Aim) → length v < start → ok s ≡ handing_at k (drop start v) s (shown_places T kind t start v)
   unfolding shown_places
-  shown-hidden h = emit-nil (aim g R on (drop start other) ow) (drop start v) s _ (rw (lt-leb start (length v) h) refl)
+  shown-hidden k h = emit-nil k (drop start v) s _ (rw (lt-leb start (length v) h) refl)
 
-  pub shown_rest : start ≤ length v → (r : Answer) (ms to : List ℕ)
-      → told r ms to ≡ handing_at (aim g R on (take (length other - start) (drop start other)) ow) (take (length v - start) (drop start v)) s (kind_places T kind t (take (length v - start) (drop start v)))
-      → told r ms to ≡ handing_at (aim g R on (drop start other) ow) (drop start v) s (shown_places T kind t start v)
+  pub shown_rest : (R R' : ℕ → Result ℕ) (turns other : List ℕ) → start ≤ length v → (r : Answer) (ms to : List ℕ)
+      → told r ms to ≡ handing_at (compared R R' turns (take (length other - start) (drop start other))) (take (length v - start) (drop start v)) s (kind_places T kind t (take (length v - start) (drop start v)))
+      → told r ms to ≡ handing_at (compared R R' turns (drop start other)) (drop start v) s (shown_places T kind t start v)
   unfolding shown_places
-  shown_rest l r ms to er =
+  shown_rest R R' turns other l r ms to er =
       rw (le-leb start (length v) l) (er
-      ∙ ap (λ (x : List ℕ). handing_at (aim g R on x ow) (take (length v - start) (drop start v)) s (kind_places T kind t (take (length v - start) (drop start v)))) (rest start other)
-      ∙ ap (λ (x : List ℕ). handing_at (aim g R on (drop start other) ow) x s (kind_places T kind t x)) (rest start v))
-
-if-words : (v : List ℕ) (b : Bool) (o : Places) → words_at v (if b then o else some []) ≡ (if b then words_at v o else some [])
-unfolding words_at
-if-words v true o = refl
-if-words v false o = refl
-
-pub slot-words : (T : Table) (kind t start : ℕ) (v : List ℕ) (sink : Sink) (R : ℕ → Result ℕ) (on other ow : List ℕ) (s : Raw) (r : Answer) (ms to : List ℕ)
-    → told r ms to ≡ handing_at (aim (Words sink) R on (drop start other) ow) (drop start v) s (shown_places T kind t start v)
-    → told r ms to ≡ emitting (into sink R) s (handles_of T kind t start v)
-unfolding handles_of shown_places
-slot-words T kind t start v sink R on other ow s r ms to er =
-    er ∙ words-at sink R on (drop start other) ow (drop start v) s (if leb start (length v) then kind_places T kind t (drop start v) else some [])
-    ∙ ap (emitting (into sink R) s) (if-words (drop start v) (leb start (length v)) (kind_places T kind t (drop start v)))
+      ∙ ap (λ (x : List ℕ). handing_at (compared R R' turns x) (take (length v - start) (drop start v)) s (kind_places T kind t (take (length v - start) (drop start v)))) (rest start other)
+      ∙ ap (λ (x : List ℕ). handing_at (compared R R' turns (drop start other)) x s (kind_places T kind t x)) (rest start v))

@@ -27,12 +27,12 @@ use Rattle.ty.proofs.WalkLaws.{fields-first, fields-last, fields-next}
 use Rattle.layout.proofs.LayLaws.{rest, below-scalar, in_array as lay-array, in-record as lay-record}
 use Rattle.trace.specs.Places.{Places, Below, only_if, both, many, turns, if_laid, if_bytes, part_places, places_by, places_at}
 use Rattle.trace.specs.Walk.{leaf_of, part_leaf, placed_after, field_at, if_placed, walk, Looked}
-use Rattle.trace.specs.declared.Leaf.{Leaf}
-use Rattle.trace.specs.declared.Leaf.TheVariants.{Own, Free, Deep}
+use Rattle.trace.specs.declared.tracer.Leaf.{Leaf}
+use Rattle.trace.specs.declared.tracer.Leaf.TheVariants.{Own, Free, Deep}
 use Rattle.word.specs.Result.{Result, ok, refused}
 use Rattle.std.proofs.lemmas.Bool.{false≢true}
 use Rattle.trace.specs.Emit.{Answer, Raw, raw_of, Aim, handing_at, told}
-use Rattle.trace.specs.declared.Placed.{Placed}
+use Rattle.trace.specs.declared.tracer.Placed.{Placed}
 use Rattle.trace.proofs.Emits.{then_some, then-none, emit-none, emit-nil, told-traced, told-untraceable, many-end, many-ext, many-none, many-one}
 use Rattle.trace.proofs.Walks.{walk_is}
 

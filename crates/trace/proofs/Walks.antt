@@ -17,7 +17,7 @@ use Rattle.refusal.specs.declared.Refusal.TheVariants.{Malformed, TooLarge}
 use Rattle.layout.specs.declared.Layout.{Layout}
 use Rattle.trace.specs.Places.{Places, Below, only_if, both, if_laid, part_places, field_desc, field_places}
 use Rattle.trace.specs.Walk.{placed_after, field_at, if_placed, walk}
-use Rattle.trace.specs.declared.Placed.{Placed}
+use Rattle.trace.specs.declared.tracer.Placed.{Placed}
 use Rattle.trace.proofs.DescLaws.{used-is}
 
 both-none : (x : Places) → both x none ≡ none

@@ -68,35 +68,28 @@ unfoldable pub emitting : Into → Raw → Option (List ℕ) → Result Raw
 emitting k s none = refused 13
 emitting k s (some hs) = ok (emit_all k s hs)
 
--- a goal, what handles resolve to for it, and the columns, the data and the words of the heap beside: one thing to the laws of tracing
-pub record Aim : Type 0 where
-  pub goal : Goal
-  pub resolve : ℕ → Result ℕ
-  pub columns : List ℕ
-  pub other : List ℕ
-  pub turns : List ℕ
+-- where the places of an object go: their words to a sink; or the handles there, which resolve to R in their heap, beside those of the bytes `other`, which resolve to R' in a heap
+-- with these turns
+pub data Aim : Type 0 where
+  words_to : Into → Aim
+  compared : (R R' : ℕ → Result ℕ) (turns other : List ℕ) → Aim
 
-abbrev pub aim : Goal → (ℕ → Result ℕ) → List ℕ → List ℕ → List ℕ → Aim
-aim goal resolve columns other turns = record { goal = goal; resolve = resolve; columns = columns; other = other; turns = turns }
+abbrev pub aim : Goal → (ℕ → Result ℕ) → Aim
+aim (Words sink) R = words_to (into sink R)
+aim (Beside x other) R = compared R (slots_resolve x.slots) x.turns.now other.now
 
--- the goal of a comparison with an object of a heap whose objects have been met, whose visible data are these bytes
 abbrev pub beside_aim : Slots → Met → List ℕ → Aim
-beside_aim x y other = aim (Beside y.slots.tag y.slots.slots y.slots.s) (slots_resolve x) y.slots.narrow.now other y.turns.now
+beside_aim x y other = compared (slots_resolve x) (slots_resolve y.slots) y.turns.now other
 
--- the runs of a heap are there; the data beside is as long; and the runs of the heap beside are there, where there is one
-pub record Ready (slots s : ℕ) (narrow : List ℕ) (goal : Goal) (v columns other : List ℕ) : Type 0 where
-  pub runs : Runs slots s narrow
-  pub even : length v ≡ length other
-  pub beside : (t n c : ℕ) → goal ≡ Beside t n c → Runs n c columns
+-- the bytes that those of an object are set beside, where there are any: the data beside is as long
+abbrev pub other_of : Goal → List ℕ → List ℕ
+other_of (Words sink) v = v
+other_of (Beside x other) v = other.now
 
 -- A place of the data v. For a sink it is the word there. Beside another object the first two marks are what is found so far, and the count is how many bytes are behind.
-unfoldable pub handed_by : Goal → (ℕ → Result ℕ) → (columns other turns v : List ℕ) → Raw → ℕ → Raw
-handed_by (Words sink) R columns other turns v s a = emitted (into sink R) s (handle_at v a)
-handed_by (Beside tag slots c) R columns other turns v s a =
-    raw_of (found_at (place_in R s.words (resolve_in tag slots c columns) turns) v other s.marks s.count a) s.words (a + 8)
-
 unfoldable pub handed : Aim → List ℕ → Raw → ℕ → Raw
-handed k v s a = handed_by k.goal k.resolve k.columns k.other k.turns v s a
+handed (words_to k) v s a = emitted k s (handle_at v a)
+handed (compared R R' turns other) v s a = raw_of (found_at (place_in R s.words R' turns) v other s.marks s.count a) s.words (a + 8)
 
 -- places, one after the other
 unfoldable pub handed_all : Aim → List ℕ → Raw → List ℕ → Raw

@@ -3,3 +3,4 @@ pub mod Places
 pub mod Walk
 pub mod Emit
 pub mod Listing
+pub mod Traced

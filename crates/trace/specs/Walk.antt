@@ -8,9 +8,9 @@ use Rattle.ty.specs.declared.Table.{Table as Lent}
 use Rattle.ty.specs.declared.Entry.TheVariants.{Record}
 use Rattle.layout.specs.Layout.{Lay, under, used_by, end_of, array_of, layout_at}
 use Rattle.trace.specs.Places.{Places, Below, only_if, both, many, turns, if_laid, part_places, places_at}
-use Rattle.trace.specs.declared.Placed.{Placed}
-use Rattle.trace.specs.declared.Leaf.{Leaf}
-use Rattle.trace.specs.declared.Leaf.TheVariants.{Own, Free, Deep}
+use Rattle.trace.specs.declared.tracer.Placed.{Placed}
+use Rattle.trace.specs.declared.tracer.Leaf.{Leaf}
+use Rattle.trace.specs.declared.tracer.Leaf.TheVariants.{Own, Free, Deep}
 
 -- what a value of a type is to a tracer: a handle itself, free of handles, or something to look into
 unfoldable pub leaf_of : Ty → Leaf

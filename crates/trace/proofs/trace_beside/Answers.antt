@@ -1,6 +1,12 @@
 -- `trace::trace_beside` meets its contract.
-use Rattle.trace.proofs.Objects.{ready-beside}
+use Rattle.trace.proofs.Objects.{rest-even, shown-hidden, shown_rest}
 use Rattle.trace.proofs.trace_beside.Goals as goal
 
-pub trace_shown-requires : goal.trace_shown-requires
-trace_shown-requires c = ready-beside _ _ _ _ _ _ _ _ _ c.args.here.runs c.args.there.slots.runs c.requires
+pub returns-then-data-start : goal.returns-then-data-start
+returns-then-data-start c = shown-hidden _ _ _ _ _ _ _ c.if-data-start.true
+
+pub invariant_of-tracer : goal.invariant_of-tracer
+invariant_of-tracer c = record { even = rest-even _ _ _ c.requires }
+
+pub returns : goal.returns
+returns c = shown_rest _ _ _ _ _ _ _ _ _ _ c.if-data-start.false _ _ _ c.trace_visible.ensures

@@ -1,7 +1,7 @@
--- `trace::place_field` meets its contract.
+-- `trace::tracer::place_field` meets its contract.
 use mathlib.Core.Path.{sym, ◌∙◌}
 use Rattle.trace.proofs.TraceLaws.{place-scalar, place_none, place-laid}
-use Rattle.trace.proofs.place_field.Goals as goal
+use Rattle.trace.proofs.tracer.place_field.Goals as goal
 
 pub returns-in-Some : goal.returns-in-Some
 returns-in-Some c = place-scalar c.args.table.now _ _ c.args.used c.args.desc.now _ _ (sym c.scalar_bytes.ensures ∙ c.in-Some.is) _ c.place_after.ensures

@@ -1,6 +1,6 @@
--- `trace::trace_visible` meets its contract.
+-- `trace::tracer::Tracer::trace_visible` meets its contract.
 use Rattle.trace.proofs.Objects.{kind-typed, kind-handles, kind-bytes}
-use Rattle.trace.proofs.trace_visible.Goals as goal
+use Rattle.trace.proofs.tracer.Tracer.trace_visible.Goals as goal
 
 pub returns-then-of-eq1 : goal.returns-then-of-eq1
 returns-then-of-eq1 c = search kind-typed

@@ -1,8 +1,8 @@
--- `trace::fields_at` meets its contract.
+-- `trace::tracer::fields_at` meets its contract.
 use mathlib.Core.Path.{sym, ◌∙◌}
 use Rattle.ty.proofs.Rows.{row-is}
 use Rattle.trace.proofs.TraceLaws.{looked-not}
-use Rattle.trace.proofs.fields_at.Goals as goal
+use Rattle.trace.proofs.tracer.fields_at.Goals as goal
 
 pub returns-then-left-eq0 : goal.returns-then-left-eq0
 returns-then-left-eq0 c = looked-not _ _ _ _

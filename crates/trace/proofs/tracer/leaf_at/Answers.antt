@@ -1,8 +1,8 @@
--- `trace::leaf_at` meets its contract.
+-- `trace::tracer::leaf_at` meets its contract.
 use mathlib.Core.Path.{sym, ◌∙◌}
 use mathlib.Core.Logic.{⊎_elim}
 use Rattle.trace.proofs.TraceLaws.{leaf-const, leaf-missing, leaf-array, leaf-record, leaf-access, leaf-protected, leaf-other}
-use Rattle.trace.proofs.leaf_at.Goals as goal
+use Rattle.trace.proofs.tracer.leaf_at.Goals as goal
 
 pub returns-then-c-ne-NO_CONST : goal.returns-then-c-ne-NO_CONST
 returns-then-c-ne-NO_CONST c = leaf-const _ _ _ c.if-c-ne-NO_CONST.true

@@ -1,7 +1,7 @@
--- `trace::place_after` meets its contract.
+-- `trace::tracer::place_after` meets its contract.
 use mathlib.Core.Path.{◌∙◌}
 use Rattle.trace.proofs.TraceLaws.{place-over, place-past, place-some}
-use Rattle.trace.proofs.place_after.Goals as goal
+use Rattle.trace.proofs.tracer.place_after.Goals as goal
 
 pub returns-in_err-offset : goal.returns-in_err-offset
 returns-in_err-offset c = c.from_residual.ensures ∙ place-over _ _ _ _ _ c.align_up.ensures c.in_err-offset.was

@@ -1,7 +1,7 @@
--- `trace::turns_of` meets its contract.
+-- `trace::tracer::turns_of` meets its contract.
 use mathlib.Core.Path.{refl}
 use borrow.Author.Tests.{eq-eqb, ne_eqb}
-use Rattle.trace.proofs.turns_of.Goals as goal
+use Rattle.trace.proofs.tracer.turns_of.Goals as goal
 
 pub returns-then-stride-eq0 : goal.returns-then-stride-eq0
 returns-then-stride-eq0 c = rw (eq-eqb _ _ c.if-stride-eq0.true) c.min.ensures
