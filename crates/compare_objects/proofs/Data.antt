@@ -12,8 +12,7 @@ use Rattle.std.specs.declared.cmp.Ordering.{Ordering}
 use Rattle.word.specs.Result.{Result}
 use Rattle.ty.specs.Types.{Table}
 use Rattle.trace.specs.Places.{Places, shown_places}
-use Rattle.trace.specs.Emit.{Answer, Raw, raw_of, resolve_in, aim, handing_at, told}
-use Rattle.trace.specs.declared.Goal.TheVariants.{Beside as Goal-as-Beside}
+use Rattle.trace.specs.Emit.{Answer, Raw, raw_of, compared, handing_at, told}
 use Rattle.trace.proofs.BesideLaws.{beside-told, beside_none}
 use Rattle.alike.specs.Order.{order}
 use Rattle.alike.specs.Inner.ByTurns.{◌and_then◌}
@@ -59,14 +58,14 @@ module _ (s f : ℕ) (b : List ℕ) (e : f ≡ min s (length b)) where
 
 -- ---- what one trace found
 
-module _ (T : Table) (kind t start : ℕ) (b c work : List ℕ) (otag oslots os : ℕ) (R : ℕ → Result ℕ) (onarrow owork : List ℕ) (r : Answer) (found work' : List ℕ)
-    (er : told r found work' ≡ handing_at (aim (Goal-as-Beside otag oslots os) R onarrow (drop start c) owork) (drop start b) (raw_of (0 ∷ 0 ∷ []) work 0) (shown_places T kind t start b))
+module _ (T : Table) (kind t start : ℕ) (b c work : List ℕ) (R R' : ℕ → Result ℕ) (owork : List ℕ) (r : Answer) (found work' : List ℕ)
+    (er : told r found work' ≡ handing_at (compared R R' owork (drop start c)) (drop start b) (raw_of (0 ∷ 0 ∷ []) work 0) (shown_places T kind t start b))
     (can : shown_places T kind t start b ≡ none → ⊥) where
   abbrev place : ℕ → ℕ → Ordering
-  place = place_in R work (resolve_in otag oslots os onarrow) owork
+  place = place_in R work R' owork
 
   pub data-traced : {X : Type 0} → r ≡ None → X
-  data-traced e = absurd (can (beside_none otag oslots os R onarrow (drop start c) owork (drop start b) work (shown_places T kind t start b) r found work' er e))
+  data-traced e = absurd (can (beside_none R R' owork (drop start c) (drop start b) work (shown_places T kind t start b) r found work' er e))
 
   module _ (done : ℕ) (ed : r ≡ Some done) where
     -- by the places that there are
@@ -81,7 +80,7 @@ module _ (T : Table) (kind t start : ℕ) (b c work : List ℕ) (otag oslots os 
     along ps = beside_all place (drop start b) (drop start c) beside_first ps
 
     raw-is : (ps : List ℕ) → shown_places T kind t start b ≡ some ps → raw_of found work' done ≡ raw_of (codes_of (along ps)) work (along ps).done
-    raw-is ps e = beside-told otag oslots os R onarrow (drop start c) owork (drop start b) work (shown_places T kind t start b) r found work' er ps e done ed
+    raw-is ps e = beside-told R R' owork (drop start c) (drop start b) work (shown_places T kind t start b) r found work' er ps e done ed
 
     pub data-kept : work' ≡ work
     data-kept = by-places (λ ps e. ap (λ (x : Raw). x.words) (raw-is ps e))

@@ -24,7 +24,7 @@ use Rattle.refusal.specs.declared.Refusal.TheVariants.{Malformed, TooLarge}
 use Rattle.layout.specs.declared.Layout.{Layout}
 use Rattle.trace.specs.Places.{Places, Below, only_if, both, many, turns, if_laid, if_bytes, part_places, field_places, places_by, places_at, object_places, rising, handles_places, kind_places, handle_at, words_at, handles_of}
 use Rattle.trace.specs.Walk.{if_placed, walk}
-use Rattle.trace.specs.declared.Placed.{Placed}
+use Rattle.trace.specs.declared.tracer.Placed.{Placed}
 use Rattle.trace.proofs.Walks.{walk_is}
 use Rattle.places.specs.StrideZero.{ShortConstants}
 use Rattle.places.specs.PlacesRise.{Apart, PlacesRise, HandlesRise}
