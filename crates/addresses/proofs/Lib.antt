@@ -1,3 +1,3 @@
 -- What the proofs of the functions and other crates use.
-pub mod Pairs
+pub mod Rising
 pub mod Listing

@@ -14,7 +14,7 @@ use Rattle.heap_calls.specs.Pins.{rising_from}
 use Rattle.reach.specs.Reach.{◌∈◌}
 use Rattle.reach.proofs.Grown.{∈-left, ∈-right, ∈-cases}
 use Rattle.addresses.specs.Listed.{addresses_of, paired, Listed, slot_of, slots_of}
-use Rattle.addresses.proofs.Pairs.{rises-in}
+use Rattle.addresses.proofs.Rising.{rises-in}
 
 -- a listed address is not below the first that is allowed
 listed-low : (from : ℕ) (list : List ℕ) (a i : ℕ) → rising_from from (addresses_of list) ≡ true → Listed list a i → from ≤ a

@@ -15,34 +15,40 @@ pub fn rise(list: &[u64]) -> bool
     if list.len() % 2 != 0 {
         return false;
     }
-    // Kept: the pairs lie flat, two words each.
-    let mut at: usize = 2;
-    while at < list.len() {
-        if list[at] <= list[at - 2] {
+    for i in 1..list.len() / 2 {
+        if list[2 * i] <= list[2 * i - 2] {
             return false;
         }
-        at += 2;
     }
     true
 }
 
-// The slot that an address is listed with, by halves.
-// Kept: `binary_search` is for the elements of a slice, and the pairs lie flat in a list of words, as the C interface has it.
-pub fn find(list: &[u64], x: u64) -> Option<u64>
-    requires { paired list.now ≡ true }
-    ensures { told result ≡ slot_of list.now x }
-{
-    let mut low: usize = 0;
-    let mut high = list.len() / 2;
-    while low < high {
-        let mid = low + (high - low) / 2;
-        let y = list[2 * mid];
-        if y == x {
-            return Some(list[2 * mid + 1]);
+// A list of pairs whose addresses rise strictly.
+#[derive(Clone, Copy)]
+pub struct Pairs<'a> {
+    pub list: &'a [u64],
+    pub ghost paired: { paired list.now ≡ true },
+}
+
+impl Pairs<'_> {
+    // The slot that an address is listed with, by halves.
+    // Kept: `binary_search` is for the elements of a slice, and the pairs lie flat in a list of words, as the C interface has it.
+    pub fn find(self, x: u64) -> Option<u64>
+        ensures { told result ≡ slot_of self.entry.list.now x }
+    {
+        let Pairs { list } = self;
+        let mut low: usize = 0;
+        let mut high = list.len() / 2;
+        while low < high {
+            let mid = low + (high - low) / 2;
+            let y = list[2 * mid];
+            if y == x {
+                return Some(list[2 * mid + 1]);
+            }
+            let r = half(y < x, low, mid, high);
+            low = r.low;
+            high = r.high;
         }
-        let r = half(y < x, low, mid, high);
-        low = r.low;
-        high = r.high;
+        None
     }
-    None
 }

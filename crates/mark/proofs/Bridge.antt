@@ -183,6 +183,24 @@ seed-done R L slots s roots sealed pins m₁ w₁ n₁ m₂ w₂ n₂ m₃ w₃ 
 
 -- ---- the handles of a slot
 
+-- what the numbers and the data of a slot show is what the runs show
+module _ (slots S : ℕ) (narrow wide pool : List ℕ) (fit : Fit slots S narrow wide pool) (i : ℕ) (h : i < slots) (d : List ℕ) (ed : d ≡ data_at (run S S wide) pool i) (T : Table) where
+  pub shown_same : handles_of T (get_or narrow (S + i) 0) (get_or narrow (2 * S + i) 0) (get_or wide i 0) d ≡ shown_in T S narrow wide pool i
+  unfolding shown_in
+  shown_same =
+      let inside : i < S = omega (arith, fit.runs.used) in
+      λ j. handles_of T (sym (run-get S S narrow i inside) j) (sym (run-get S (2 * S) narrow i inside) j) (sym (first-get S wide i inside) j) (ed j)
+
+  module _ (tag : ℕ) (marks words : List ℕ) (c : ℕ) (s : Scratch slots marks words c) (r : Answer) (marks' words' : List ℕ)
+      (e : told r marks' words' ≡ emitting (into Work (resolve_in tag slots S narrow)) (raw_of marks words c) (handles_of T (get_or narrow (S + i) 0) (get_or narrow (2 * S + i) 0) (get_or wide i 0) d)) where
+    pub shown-traces : Traces r slots marks' words' (following (leads_to tag slots S narrow) (state_of marks words c) (shown_in T S narrow wide pool i))
+    shown-traces =
+        traces slots (resolve_in tag slots S narrow) (resolves-in tag slots S narrow) r _ marks words c marks' words' s
+        (e ∙ ap (emitting (into Work (resolve_in tag slots S narrow)) (raw_of marks words c)) shown_same)
+
+    pub shown-noted : NotedBy r words words'
+    shown-noted = trace-noted slots s.few (resolve_in tag slots S narrow) (resolves-in tag slots S narrow) r _ marks words c marks' words' e
+
 module _ (slots S : ℕ) (narrow wide pool : List ℕ) (fit : Fit slots S narrow wide pool) (i : ℕ) (h : i < slots) where
   end-at : get_or (run S S wide) i 0 ≡ get_or wide (S + i) 0
   end-at = run-get S S wide i (omega (arith, fit.runs.used))
@@ -194,23 +212,10 @@ module _ (slots S : ℕ) (narrow wide pool : List ℕ) (fit : Fit slots S narrow
     pub slot-ends : get_or wide (S + i) 0 ≤ length pool
     slot-ends = omega (arith, fit.pooled i h, end-at)
 
+    pub slot-data : take (get_or wide (S + i) 0 - a) (drop a pool) ≡ data_at (run S S wide) pool i
+    unfolding data_at
+    slot-data = λ j. take (sym end-at j - ea j) (drop (ea j) pool)
+
     module _ (T : Table) where
-      -- what the slot's numbers and data show is what the runs show
       pub slot-shown : handles_of T (get_or narrow (S + i) 0) (get_or narrow (2 * S + i) 0) (get_or wide i 0) (take (get_or wide (S + i) 0 - a) (drop a pool)) ≡ shown_in T S narrow wide pool i
-      unfolding shown_in data_at
-      slot-shown =
-          let inside : i < S = omega (arith, fit.runs.used) in
-          λ j. handles_of T (sym (run-get S S narrow i inside) j) (sym (run-get S (2 * S) narrow i inside) j) (sym (first-get S wide i inside) j) (take (sym end-at j - ea j) (drop (ea j) pool))
-
-      module _ (tag : ℕ) (marks words : List ℕ) (c : ℕ) (s : Scratch slots marks words c) where
-        pub slot-traces : (r : Answer) (marks' words' : List ℕ)
-            → told r marks' words' ≡ emitting (into Work (resolve_in tag slots S narrow)) (raw_of marks words c) (handles_of T (get_or narrow (S + i) 0) (get_or narrow (2 * S + i) 0) (get_or wide i 0) (take (get_or wide (S + i) 0 - a) (drop a pool)))
-            → Traces r slots marks' words' (following (leads_to tag slots S narrow) (state_of marks words c) (shown_in T S narrow wide pool i))
-        slot-traces r marks' words' e =
-            traces slots (resolve_in tag slots S narrow) (resolves-in tag slots S narrow) r _ marks words c marks' words' s
-            (e ∙ ap (emitting (into Work (resolve_in tag slots S narrow)) (raw_of marks words c)) slot-shown)
-
-        pub slot-noted : (r : Answer) (marks' words' : List ℕ)
-            → told r marks' words' ≡ emitting (into Work (resolve_in tag slots S narrow)) (raw_of marks words c) (handles_of T (get_or narrow (S + i) 0) (get_or narrow (2 * S + i) 0) (get_or wide i 0) (take (get_or wide (S + i) 0 - a) (drop a pool)))
-            → NotedBy r words words'
-        slot-noted r marks' words' e = trace-noted slots s.few (resolve_in tag slots S narrow) (resolves-in tag slots S narrow) r _ marks words c marks' words' e
+      slot-shown = shown_same slots S narrow wide pool fit i h (take (get_or wide (S + i) 0 - a) (drop a pool)) slot-data T

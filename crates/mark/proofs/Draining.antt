@@ -13,6 +13,7 @@ use native.Mathlib.Numerals.{add-one}
 use native.Mathlib.Omega.{arith}
 use Rattle.trace.specs.Emit.{Answer}
 use Rattle.std.specs.Prelude.{Some, None}
+use Rattle.word.specs.Result.{ok, refused}
 use Rattle.word.proofs.ListLaws.{take-zeros}
 use Rattle.reach.specs.Reach.{Graph}
 use Rattle.reach.specs.Marking.{State, follow_all, drained, marking, or_done, or_stuck}
@@ -179,13 +180,13 @@ module _ (slots : ℕ) (marks work : List ℕ) (ready : Ready slots marks work) 
     at : (x : Answer) → r ≡ x → Traces x slots marks' work' answer
     at x e = subst (λ (o : Option State). Traces x slots marks' work' o) as-marking (subst (λ (y : Answer). Traces y slots marks' work' start) e t)
 
-    pub whole-stuck : r ≡ None → none ≡ marks_in (length marks) (marking G (starts_of roots sealed pins) slots)
+    pub whole-stuck : r ≡ None → refused 13 ≡ marks_in (length marks) (marking G (starts_of roots sealed pins) slots)
     whole-stuck e = sym (ap (marks_in (length marks)) (at None e))
 
-    pub whole-marked : (n : ℕ) → r ≡ Some n → some (marks' ++ drop slots marks) ≡ marks_in (length marks) (marking G (starts_of roots sealed pins) slots)
+    pub whole-marked : (n : ℕ) → r ≡ Some n → ok (marks' ++ drop slots marks) ≡ marks_in (length marks) (marking G (starts_of roots sealed pins) slots)
     unfolding pad
     whole-marked n e =
         let a = at (Some n) e in
         let rest : drop slots marks ≡ replicate (length marks - length marks') 0 =
         ap (drop slots) ready.clear ∙ drop-replicate slots (length marks) 0 ∙ ap (λ (k : ℕ). replicate (length marks - k) 0) (sym a.1.size) in
-        ap (λ (l : List ℕ). some (marks' ++ l)) rest ∙ sym (ap (marks_in (length marks)) a.0)
+        ap (λ (l : List ℕ). ok (marks' ++ l)) rest ∙ sym (ap (marks_in (length marks)) a.0)

@@ -1,6 +1,7 @@
 -- What a marking answers: the marks, or that a reached object can't be traced.
-use Rattle.std.specs.Prelude.{ℕ, ◌≤◌, ◌≡◌, List, ◌++◌, length, replicate}
+use Rattle.std.specs.Prelude.{ℕ, ◌≤◌, ◌≡◌, List, ◌++◌, length, replicate, Result as Outcome, Ok, Err}
 use Rattle.std.proofs.Math.Option.{Option, none, some}
+use Rattle.word.specs.Result.{Result, ok, refused}
 use Rattle.heap.specs.Packing.{pad}
 use Rattle.heap.specs.State.{State as Heap}
 use Rattle.reach.specs.Reach.{Starts}
@@ -8,18 +9,18 @@ use Rattle.reach.specs.Marking.{State, marking}
 use Rattle.ty.specs.Types.{Table}
 use Rattle.collection.specs.Collected.{graph, starts}
 use Rattle.collection.specs.Shown.{shown}
-use Rattle.mark.specs.declared.Outcome.{Outcome}
-use Rattle.mark.specs.declared.Outcome.TheVariants.{Marked, Untraceable}
+use Rattle.refusal.specs.declared.Refusal.{Refusal}
+use Rattle.refusal.specs.Told.{number_of}
 
 -- the answer, with the marks as they are then
-abbrev pub told : Outcome → List ℕ → Option (List ℕ)
-told Marked marks = some marks
-told Untraceable marks = none
+abbrev pub told : Outcome Unit Refusal → List ℕ → Result (List ℕ)
+told (Ok u) marks = ok marks
+told (Err why) marks = refused (number_of why)
 
--- the marks of a marking in L bytes, zeros after them
-abbrev pub marks_in : (L : ℕ) → Option State → Option (List ℕ)
-marks_in L none = none
-marks_in L (some s) = some (pad L s.marks)
+-- the marks of a marking in L bytes, zeros after them: 13 where a reached object can't be traced
+abbrev pub marks_in : (L : ℕ) → Option State → Result (List ℕ)
+marks_in L none = refused 13
+marks_in L (some s) = ok (pad L s.marks)
 
 -- the marking of a heap: chains start at the roots, the seals and the pins
 abbrev pub heap_marks : Table → Heap → (roots pins : List ℕ) → Option State

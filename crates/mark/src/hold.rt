@@ -1,16 +1,17 @@
 // Pinned slots of a joined collection, by the pins that are given and by addresses. A pinned slot is marked and queued whether it holds an object or not: a dead slot
 // shows no handles, and its mark says to the recycling that it stays in quarantine. So no list of the pins is made.
-ghost use Rattle.std.specs.Prelude.{◌≡◌, true, ◌≤◌};
-ghost use Rattle.addresses.specs.Listed.{paired, slot_of, slots_of};
+ghost use Rattle.addresses.specs.Listed.{slot_of, slots_of};
 ghost use Rattle.frame.specs.Frame.{entry, entries_of, first_word, entry_words, entries_words};
 ghost use Rattle.reach.specs.Marking.{pin_if, pin_all};
 ghost use Rattle.mark.specs.Scratch.{state_of, Scratch, Holds};
 ghost use Rattle.mark.specs.Joining.{in_use};
 
+use crate::registers::Frame;
+use addresses::Pairs;
+
 // A pinned slot is marked and queued if there is that slot. Its index is any number of 64 bits.
 fn hold(slots: usize, i: u64, marks: &mut [u8], work: &mut [u64], n: usize) -> usize
-    requires slots_bound { slots ≤ 16777216 }
-    requires scratch { Scratch slots marks.old work.old n }
+    requires { Scratch slots marks.old work.old n }
     ensures { Holds slots marks.new work.new result (pin_if (in_use slots i) (state_of marks.old work.old n) i) }
 {
     let most = slots as u64;
@@ -22,8 +23,7 @@ fn hold(slots: usize, i: u64, marks: &mut [u8], work: &mut [u64], n: usize) -> u
 
 // Each pin of a list.
 pub fn hold_all(slots: usize, pins: &[u32], marks: &mut [u8], work: &mut [u64], n: usize) -> usize
-    requires slots_bound { slots ≤ 16777216 }
-    requires scratch { Scratch slots marks.old work.old n }
+    requires { Scratch slots marks.old work.old n }
     ensures { Holds slots marks.new work.new result (pin_all (in_use slots) (state_of marks.old work.old n) pins.now) }
 {
     let mut count = n;
@@ -36,18 +36,17 @@ pub fn hold_all(slots: usize, pins: &[u32], marks: &mut [u8], work: &mut [u64], 
 // The slot that an address is listed with.
 pub fn hold_address(
     slots: usize,
-    addresses: &[u64],
+    pairs: Pairs,
     x: u64,
     marks: &mut [u8],
     work: &mut [u64],
     n: usize,
 ) -> usize
-    requires slots_bound { (slots ≤ 16777216) × (paired addresses.now ≡ true) }
-    requires scratch { Scratch slots marks.old work.old n }
+    requires { Scratch slots marks.old work.old n }
     ensures { Holds slots marks.new work.new result
-        (pin_all (in_use slots) (state_of marks.old work.old n) (slot_of addresses.now x)) }
+        (pin_all (in_use slots) (state_of marks.old work.old n) (slot_of pairs.entry.list.now x)) }
 {
-    match addresses::find(addresses, x) {
+    match pairs.find(x) {
         Some(i) => hold(slots, i, marks, work, n),
         None => n,
     }
@@ -56,28 +55,27 @@ pub fn hold_address(
 // The word at the start of bytes, if there are eight, is an address.
 fn hold_word(
     slots: usize,
-    addresses: &[u64],
+    pairs: Pairs,
     data: &[u8],
     marks: &mut [u8],
     work: &mut [u64],
     n: usize,
 ) -> usize
-    requires slots_bound { (slots ≤ 16777216) × (paired addresses.now ≡ true) }
-    requires scratch { Scratch slots marks.old work.old n }
+    requires { Scratch slots marks.old work.old n }
     ensures { Holds slots marks.new work.new result
-        (pin_all (in_use slots) (state_of marks.old work.old n) (slots_of addresses.now (first_word «data».now))) }
+        (pin_all (in_use slots) (state_of marks.old work.old n) (slots_of pairs.entry.list.now (first_word «data».now))) }
 {
     if data.len() < 8 {
         return n;
     }
     let x = word::get_le(data, 0, 8);
-    hold_address(slots, addresses, x, marks, work, n)
+    hold_address(slots, pairs, x, marks, work, n)
 }
 
 // The address of one entry of a frame map: of kind 1.
 fn hold_entry(
     slots: usize,
-    addresses: &[u64],
+    pairs: Pairs,
     offset: usize,
     of: u32,
     memory: &[u8],
@@ -85,10 +83,9 @@ fn hold_entry(
     work: &mut [u64],
     n: usize,
 ) -> usize
-    requires slots_bound { (slots ≤ 16777216) × (paired addresses.now ≡ true) }
-    requires scratch { Scratch slots marks.old work.old n }
+    requires { Scratch slots marks.old work.old n }
     ensures { Holds slots marks.new work.new result
-        (pin_all (in_use slots) (state_of marks.old work.old n) (slots_of addresses.now (entry_words memory.now (entry offset of 0)))) }
+        (pin_all (in_use slots) (state_of marks.old work.old n) (slots_of pairs.entry.list.now (entry_words memory.now (entry offset of 0)))) }
 {
     if of != 1 {
         return n;
@@ -96,30 +93,30 @@ fn hold_entry(
     if memory.len() < offset {
         return n;
     }
-    hold_word(slots, addresses, &memory[offset..], marks, work, n)
+    hold_word(slots, pairs, &memory[offset..], marks, work, n)
 }
 
 // The addresses of all entries.
 pub fn hold_frame(
     slots: usize,
-    addresses: &[u64],
-    map: &[u32],
-    memory: &[u8],
+    pairs: Pairs,
+    frame: Frame,
     marks: &mut [u8],
     work: &mut [u64],
     n: usize,
 ) -> usize
-    requires slots_bound { (slots ≤ 16777216) × (paired addresses.now ≡ true) }
-    requires scratch { Scratch slots marks.old work.old n }
+    requires { Scratch slots marks.old work.old n }
     ensures { Holds slots marks.new work.new result
-        (pin_all (in_use slots) (state_of marks.old work.old n) (slots_of addresses.now (entries_words memory.now (entries_of map.now)))) }
+        (pin_all (in_use slots) (state_of marks.old work.old n)
+        (slots_of pairs.entry.list.now (entries_words frame.entry.memory.now (entries_of frame.entry.map.now)))) }
 {
+    let Frame { map, memory } = frame;
     let whole = map.len() / 3;
     let mut count = n;
     for k in 0..whole {
         let offset = map[3 * k] as usize;
         let of = map[3 * k + 1];
-        count = hold_entry(slots, addresses, offset, of, memory, marks, work, count);
+        count = hold_entry(slots, pairs, offset, of, memory, marks, work, count);
     }
     count
 }

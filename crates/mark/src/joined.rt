@@ -1,47 +1,49 @@
 // The marking of a joined collection: chains start at the frame's handles and at the values of the registers of a bit row, beside the seals, the pins and the slots
 // of the addresses that the frame and the registers have.
-ghost use Rattle.std.specs.Prelude.{◌≡◌, true, ◌++◌, ◌+◌, ◌/◌, length};
-ghost use Rattle.heap.specs.Lent.{lent, view};
-ghost use Rattle.heap.specs.WellFormed.{well_formed};
-ghost use Rattle.ty.specs.View.{table_of};
+ghost use Rattle.std.specs.Prelude.{◌≡◌, ◌++◌, ◌+◌, ◌/◌, length};
+ghost use Rattle.heap.specs.Seen.{state};
+ghost use Rattle.ty.specs.View.{lent};
 ghost use Rattle.rows.specs.Row.{listed};
-ghost use Rattle.trace.specs.Emit.{Runs};
-ghost use Rattle.frame.specs.Frame.{entries_of, frame_handles, addresses_in, entries_words};
+ghost use Rattle.frame.specs.Frame.{entries_of, entries_words};
 ghost use Rattle.addresses.specs.Listed.{slots_of};
-ghost use Rattle.mark.specs.Graph.{leads_to, held_in, Fit};
+ghost use Rattle.mark.specs.Objects.{leads, held_of};
 ghost use Rattle.mark.specs.Scratch.{state_of, Scratch, Holds, Traces, seeded_from};
 ghost use Rattle.mark.specs.Told.{told, marks_in, Ready};
-ghost use Rattle.mark.specs.Joining.{in_use, taking, value_of, row_values, CanHold, Ordered, joined_from, joined_marks};
+ghost use Rattle.mark.specs.Joining.{in_use, taking, value_of, joined_from, joined_marks};
+ghost use Rattle.mark.specs.Safepoints.{live_values, handles_in, pinned_in};
 
-use crate::Outcome;
 use crate::hold::{hold_address, hold_all, hold_frame};
+use crate::objects::{Objects, seals};
+use addresses::Pairs;
 use handle::Slots;
-use heap::Heap;
+use heap::view::View;
+use refusal::Refusal;
 use trace::Sink;
 use ty::Table;
+
+pub use crate::registers::{Frame, Registers};
 
 // The value of register q is taken, if there is that register and it is of the class that is wanted: a handle (class 4) is followed, an address (class 2) is looked up
 // and its slot pinned.
 fn push_at(
-    tag: u8,
-    slots: usize,
-    s: usize,
-    narrow: &[u32],
-    addresses: &[u64],
+    here: Slots,
+    pairs: Pairs,
     want: u8,
-    classes: &[u8],
-    values: &[u64],
+    registers: Registers,
     q: usize,
     marks: &mut [u8],
     work: &mut [u64],
     n: usize,
 ) -> usize
-    requires runs { Runs slots s narrow.now }
-    requires can_hold { CanHold slots addresses.now classes.now values.now }
-    requires scratch { Scratch slots marks.old work.old n }
-    ensures { Holds slots marks.new work.new result (taking want (leads_to tag slots s narrow.now) slots addresses.now
-        (state_of marks.old work.old n) (value_of want classes.now values.now q)) }
+    requires { Scratch here.slots marks.old work.old n }
+    ensures { Holds here.entry.slots marks.new work.new result (taking want (leads here.entry) here.entry.slots pairs.entry.list.now
+        (state_of marks.old work.old n) (value_of want registers.entry.classes.now registers.entry.values.now q)) }
 {
+    let Registers {
+        classes,
+        row: _,
+        values,
+    } = registers;
     if values.len() <= q {
         return n;
     }
@@ -50,15 +52,19 @@ fn push_at(
     }
     let v = values[q];
     if want == 4 {
-        let here = Slots {
-            tag,
-            slots,
-            s,
-            narrow,
-        };
-        return trace::emit(here, Sink::Work, marks, work, n, v);
+        return trace::emit(
+            here.tag,
+            here.slots,
+            here.s,
+            here.narrow,
+            Sink::Work,
+            marks,
+            work,
+            n,
+            v,
+        );
     }
-    hold_address(slots, addresses, v, marks, work, n)
+    hold_address(here.slots, pairs, v, marks, work, n)
 }
 
 // The length of the queue after a row, and in how many turns the row was gone through.
@@ -71,32 +77,32 @@ pub struct Pushed {
 // The value of each register of the row and of the class that is wanted is taken: one value a register. A turn passes one word of the row or takes the lowest set
 // bit of one, by its trailing zeros.
 pub fn push_row(
-    tag: u8,
-    slots: usize,
-    s: usize,
-    narrow: &[u32],
-    addresses: &[u64],
+    here: Slots,
+    pairs: Pairs,
     want: u8,
-    classes: &[u8],
-    row: &[u64],
-    values: &[u64],
+    registers: Registers,
     marks: &mut [u8],
     work: &mut [u64],
     n: usize,
 ) -> Pushed
-    requires runs { Runs slots s narrow.now }
-    requires can_hold { CanHold slots addresses.now classes.now values.now }
-    requires scratch { Scratch slots marks.old work.old n }
-    ensures followed { Holds slots marks.new work.new result.count
-        (taking want (leads_to tag slots s narrow.now) slots addresses.now (state_of marks.old work.old n)
-        (row_values want classes.now row.now values.now)) }
-    ensures turns { length row.now ≡ (length values.now + 63) / 64 → result.turns ≡ length row.now + length (listed 64 row.now) }
+    requires { Scratch here.slots marks.old work.old n }
+    ensures followed { Holds here.entry.slots marks.new work.new result.count
+        (taking want (leads here.entry) here.entry.slots pairs.entry.list.now (state_of marks.old work.old n)
+        (live_values want registers.entry)) }
+    ensures turns { length registers.entry.row.now ≡ (length registers.entry.values.now + 63) / 64
+        → result.turns ≡ length registers.entry.row.now + length (listed 64 registers.entry.row.now) }
 {
+    let Registers {
+        classes: _,
+        row,
+        values,
+    } = registers;
     let words = (values.len() + 63) / 64;
     let mut count = n;
     let mut turns: usize = 0;
     let mut i: usize = 0;
     let mut rest = rows::word_at(row, 0);
+    // Kept: a turn does not always pass a word of the row, and the number of turns is promised.
     while i < words {
         turns += 1;
         if rest == 0 {
@@ -105,9 +111,7 @@ pub fn push_row(
             continue;
         }
         let q = 64 * i + u64::trailing_zeros(rest) as usize;
-        count = push_at(
-            tag, slots, s, narrow, addresses, want, classes, values, q, marks, work, count,
-        );
+        count = push_at(here, pairs, want, registers, q, marks, work, count);
         rest = rest & (rest - 1);
     }
     Pushed { count, turns }
@@ -115,96 +119,60 @@ pub fn push_row(
 
 // What the live registers and the seals lead to, the pins, and the slots of the addresses that the frame and the live registers have, are marked and queued.
 fn seed_joined(
-    tag: u8,
-    slots: usize,
-    s: usize,
-    narrow: &[u32],
-    classes: &[u8],
-    row: &[u64],
-    values: &[u64],
-    map: &[u32],
-    memory: &[u8],
+    here: Slots,
+    registers: Registers,
+    frame: Frame,
     sealed: &[u64],
     pins: &[u32],
-    addresses: &[u64],
+    pairs: Pairs,
     marks: &mut [u8],
     work: &mut [u64],
     n: usize,
 ) -> usize
-    requires runs { Runs slots s narrow.now }
-    requires can_hold { CanHold slots addresses.now classes.now values.now }
-    requires scratch { Scratch slots marks.old work.old n }
-    ensures { Holds slots marks.new work.new result
-        (seeded_from (leads_to tag slots s narrow.now) (in_use slots) (state_of marks.old work.old n)
-        (row_values 4 classes.now row.now values.now) sealed.now
-        (pins.now ++ slots_of addresses.now
-        (entries_words memory.now (entries_of map.now) ++ row_values 2 classes.now row.now values.now))) }
+    requires { Scratch here.slots marks.old work.old n }
+    ensures { Holds here.entry.slots marks.new work.new result
+        (seeded_from (leads here.entry) (in_use here.entry.slots) (state_of marks.old work.old n)
+        (live_values 4 registers.entry) sealed.now
+        (pins.now ++ slots_of pairs.entry.list.now
+        (entries_words frame.entry.memory.now (entries_of frame.entry.map.now) ++ live_values 2 registers.entry))) }
 {
-    let a = push_row(
-        tag, slots, s, narrow, addresses, 4, classes, row, values, marks, work, n,
-    )
-    .count;
-    let b = crate::push_all(tag, slots, s, narrow, sealed, marks, work, a);
-    let c = hold_all(slots, pins, marks, work, b);
-    let d = hold_frame(slots, addresses, map, memory, marks, work, c);
-    push_row(
-        tag, slots, s, narrow, addresses, 2, classes, row, values, marks, work, d,
-    )
-    .count
+    let a = push_row(here, pairs, 4, registers, marks, work, n).count;
+    let b = crate::push_all(here, sealed, marks, work, a);
+    let c = hold_all(here.slots, pins, marks, work, b);
+    let d = hold_frame(here.slots, pairs, frame, marks, work, c);
+    push_row(here, pairs, 2, registers, marks, work, d).count
 }
 
 // All that is reached from the frame, the registers, the seals and the pins is marked, and so are pinned slots without an object, unless the frame map fails.
 fn mark_frame(
-    types: &[u64],
-    fields: &[u32],
-    consts: &[u64],
-    bytes: &[u8],
-    tag: u8,
-    slots: usize,
-    s: usize,
-    narrow: &[u32],
-    wide: &[u64],
-    pool: &[u8],
-    classes: &[u8],
-    row: &[u64],
-    values: &[u64],
-    map: &[u32],
-    memory: &[u8],
+    table: &Table,
+    objects: Objects,
+    registers: Registers,
+    frame: Frame,
     sealed: &[u64],
     pins: &[u32],
-    addresses: &[u64],
+    pairs: Pairs,
     marks: &mut [u8],
     work: &mut [u64],
 ) -> Option<usize>
-    requires fit { Fit slots s narrow.now wide.now pool.now }
-    requires can_hold { CanHold slots addresses.now classes.now values.now }
-    requires scratch { Scratch slots marks.old work.old 0 }
-    ensures { Traces result slots marks.new work.new (joined_from
-        (held_in (table_of types.now fields.now consts.now bytes.now) tag slots s narrow.now wide.now pool.now)
-        slots (state_of marks.old work.old 0)
-        (frame_handles (table_of types.now fields.now consts.now bytes.now) map.now memory.now)
-        (row_values 4 classes.now row.now values.now) sealed.now
-        (pins.now ++ slots_of addresses.now
-        (addresses_in (table_of types.now fields.now consts.now bytes.now) map.now memory.now
-        ++ row_values 2 classes.now row.now values.now))) }
+    requires { Scratch objects.slots.slots marks.old work.old 0 }
+    ensures { Traces result objects.entry.slots.slots marks.new work.new (joined_from
+        (held_of (lent table.now) objects.entry)
+        objects.entry.slots.slots (state_of marks.old work.old 0)
+        (handles_in (lent table.now) frame.entry)
+        (live_values 4 registers.entry) sealed.now
+        (pinned_in (lent table.now) registers.entry frame.entry pins.now pairs.entry)) }
 {
-    let here = Slots {
-        tag,
-        slots,
-        s,
-        narrow,
-    };
+    let here = objects.slots;
     let r = frame::trace_frame(
-        &Table {
-            types,
-            fields,
-            consts,
-            bytes,
-        },
-        here,
+        table,
+        here.tag,
+        here.slots,
+        here.s,
+        here.narrow,
         0,
-        map,
-        memory,
+        frame.map,
+        frame.memory,
         Sink::Work,
         marks,
         work,
@@ -213,74 +181,44 @@ fn mark_frame(
     let Some(n) = r else {
         return None;
     };
-    let m = seed_joined(
-        tag, slots, s, narrow, classes, row, values, map, memory, sealed, pins, addresses, marks,
-        work, n,
-    );
-    crate::drain(
-        types, fields, consts, bytes, tag, slots, s, narrow, wide, pool, marks, work, m, 0,
-    )
+    let m = seed_joined(here, registers, frame, sealed, pins, pairs, marks, work, n);
+    crate::drain(table, objects, marks, work, m, 0)
 }
 
 // The marking of a well formed heap. The scratch is zero, for more slots than there are: the first of the marks are lent.
 pub fn mark_joined(
-    types: &[u64],
-    fields: &[u32],
-    consts: &[u64],
-    bytes: &[u8],
-    heap: Heap,
-    narrow: &[u32],
-    wide: &[u64],
-    pool: &[u8],
-    classes: &[u8],
-    row: &[u64],
-    values: &[u64],
-    map: &[u32],
-    memory: &[u8],
+    table: &Table,
+    view: View,
+    registers: Registers,
+    frame: Frame,
     pins: &[u32],
-    addresses: &[u64],
+    pairs: Pairs,
     marks: &mut [u8],
     work: &mut [u64],
-) -> Outcome
-    requires pool_value { well_formed (lent heap narrow.now wide.now pool.now) ≡ true }
-    requires ready { Ready heap.slots marks.old work.old }
-    requires ordered { Ordered addresses.now classes.now values.now }
+) -> Result<(), Refusal>
+    requires { Ready view.heap.slots marks.old work.old }
     ensures { told result marks.new ≡ marks_in (length marks.old)
-        (joined_marks (table_of types.now fields.now consts.now bytes.now)
-        (view (lent heap narrow.now wide.now pool.now))
-        (frame_handles (table_of types.now fields.now consts.now bytes.now) map.now memory.now)
-        (row_values 4 classes.now row.now values.now)
-        (pins.now ++ slots_of addresses.now
-        (addresses_in (table_of types.now fields.now consts.now bytes.now) map.now memory.now
-        ++ row_values 2 classes.now row.now values.now))) }
+        (joined_marks (lent table.now) (state view.entry)
+        (handles_in (lent table.now) frame.entry)
+        (live_values 4 registers.entry)
+        (pinned_in (lent table.now) registers.entry frame.entry pins.now pairs.entry)) }
 {
-    let s = narrow.len() / 6;
-    let a = 3 * s;
-    let e = a + heap.sealed;
+    let n = view.heap.slots;
+    let objects = Objects::of(view);
+    let sealed = seals(view);
     let r = mark_frame(
-        types,
-        fields,
-        consts,
-        bytes,
-        heap.tag,
-        heap.slots,
-        s,
-        narrow,
-        wide,
-        pool,
-        classes,
-        row,
-        values,
-        map,
-        memory,
-        &wide[a..e],
+        table,
+        objects,
+        registers,
+        frame,
+        sealed,
         pins,
-        addresses,
-        &mut marks[..heap.slots],
+        pairs,
+        &mut marks[..n],
         work,
     );
     let Some(_) = r else {
-        return Outcome::Untraceable;
+        return Err(Refusal::Untraceable);
     };
-    Outcome::Marked
+    Ok(())
 }

@@ -2,79 +2,71 @@
 // the handles, beside the layouts that tracing works out.
 #![tactic(auto)]
 
-ghost use Rattle.std.specs.Prelude.{◌≡◌, true, ◌-◌, ◌<◌, length};
-ghost use Rattle.word.specs.Run.{run};
-ghost use Rattle.handle.specs.Columns.{live_in};
-ghost use Rattle.heap.specs.Lent.{lent, view};
-ghost use Rattle.heap.specs.WellFormed.{well_formed};
-ghost use Rattle.ty.specs.View.{table_of};
-ghost use Rattle.trace.specs.Emit.{Runs};
+ghost use Rattle.std.specs.Prelude.{◌≡◌, ◌-◌, ◌<◌, length};
+ghost use Rattle.heap.specs.Seen.{state};
+ghost use Rattle.ty.specs.View.{lent};
 ghost use Rattle.reach.specs.Marking.{follow_all, pin_if, pin_all, drained};
-ghost use Rattle.mark.specs.Graph.{leads_to, shown_in, graph_in, Fit};
+ghost use Rattle.mark.specs.Graph.{shown_in};
+ghost use Rattle.mark.specs.Objects.{leads, lives, graph_of};
 ghost use Rattle.mark.specs.Scratch.{state_of, Scratch, Holds, following, Traces, Noted, NotedBy, seeded_from};
 ghost use Rattle.mark.specs.Told.{told, marks_in, heap_marks, Ready};
 
 use handle::Slots;
-use heap::Heap;
+use heap::view::View;
+use refusal::Refusal;
 use trace::Sink;
 use ty::Table;
 
 pub mod hold; // what is pinned, by pins and by addresses
 pub mod joined; // the marking of a joined collection
+mod objects; // what of a heap is traced
+mod registers; // what a joined collection gets of a safepoint
 
-// All that is reached is marked, or a reached object can't be traced.
-#[derive(Clone, Copy)]
-pub enum Outcome {
-    Marked,
-    Untraceable,
-}
+pub use objects::{Objects, seals};
 
 // What each handle of a list leads to is marked and queued.
 pub fn push_all(
-    tag: u8,
-    slots: usize,
-    s: usize,
-    narrow: &[u32],
+    here: Slots,
     list: &[u64],
     marks: &mut [u8],
     work: &mut [u64],
     n: usize,
 ) -> usize
-    requires runs { Runs slots s narrow.now }
-    requires scratch { Scratch slots marks.old work.old n }
-    ensures holds { Holds slots marks.new work.new result
-        (follow_all (leads_to tag slots s narrow.now) (state_of marks.old work.old n) list.now) }
+    requires { Scratch here.slots marks.old work.old n }
+    ensures holds { Holds here.entry.slots marks.new work.new result
+        (follow_all (leads here.entry) (state_of marks.old work.old n) list.now) }
     ensures noted { Noted work.old work.new }
 {
-    let here = Slots {
-        tag,
-        slots,
-        s,
-        narrow,
-    };
     let mut count = n;
     for h in list {
-        count = trace::emit(here, Sink::Work, marks, work, count, *h);
+        count = trace::emit(
+            here.tag,
+            here.slots,
+            here.s,
+            here.narrow,
+            Sink::Work,
+            marks,
+            work,
+            count,
+            *h,
+        );
     }
     count
 }
 
 // A pinned slot is marked and queued if it is live.
-fn pin(
-    slots: usize,
-    s: usize,
-    narrow: &[u32],
-    i: u32,
-    marks: &mut [u8],
-    work: &mut [u64],
-    n: usize,
-) -> usize
-    requires runs { Runs slots s narrow.now }
-    requires scratch { Scratch slots marks.old work.old n }
-    ensures holds { Holds slots marks.new work.new result
-        (pin_if (live_in slots (run s s narrow.now) i) (state_of marks.old work.old n) i) }
+fn pin(here: Slots, i: u32, marks: &mut [u8], work: &mut [u64], n: usize) -> usize
+    requires { Scratch here.slots marks.old work.old n }
+    ensures holds { Holds here.entry.slots marks.new work.new result
+        (pin_if (lives here.entry i) (state_of marks.old work.old n) i) }
     ensures noted { Noted work.old work.new }
 {
+    let Slots {
+        tag: _,
+        slots,
+        s,
+        narrow,
+    } = here;
     let j = i as usize;
     if slots <= j {
         return n;
@@ -86,34 +78,22 @@ fn pin(
 }
 
 // Each pin of a list.
-pub fn pin_all(
-    slots: usize,
-    s: usize,
-    narrow: &[u32],
-    pins: &[u32],
-    marks: &mut [u8],
-    work: &mut [u64],
-    n: usize,
-) -> usize
-    requires runs { Runs slots s narrow.now }
-    requires scratch { Scratch slots marks.old work.old n }
-    ensures holds { Holds slots marks.new work.new result
-        (pin_all (live_in slots (run s s narrow.now)) (state_of marks.old work.old n) pins.now) }
+pub fn pin_all(here: Slots, pins: &[u32], marks: &mut [u8], work: &mut [u64], n: usize) -> usize
+    requires { Scratch here.slots marks.old work.old n }
+    ensures holds { Holds here.entry.slots marks.new work.new result
+        (pin_all (lives here.entry) (state_of marks.old work.old n) pins.now) }
     ensures noted { Noted work.old work.new }
 {
     let mut count = n;
     for i in pins {
-        count = pin(slots, s, narrow, *i, marks, work, count);
+        count = pin(here, *i, marks, work, count);
     }
     count
 }
 
 // What the roots, the seals and the pins lead to is marked and queued.
 pub fn seed(
-    tag: u8,
-    slots: usize,
-    s: usize,
-    narrow: &[u32],
+    here: Slots,
     roots: &[u64],
     sealed: &[u64],
     pins: &[u32],
@@ -121,66 +101,53 @@ pub fn seed(
     work: &mut [u64],
     n: usize,
 ) -> usize
-    requires runs { Runs slots s narrow.now }
-    requires scratch { Scratch slots marks.old work.old n }
-    ensures holds { Holds slots marks.new work.new result
-        (seeded_from (leads_to tag slots s narrow.now) (live_in slots (run s s narrow.now))
+    requires { Scratch here.slots marks.old work.old n }
+    ensures holds { Holds here.entry.slots marks.new work.new result
+        (seeded_from (leads here.entry) (lives here.entry)
         (state_of marks.old work.old n) roots.now sealed.now pins.now) }
     ensures noted { Noted work.old work.new }
 {
-    let a = push_all(tag, slots, s, narrow, roots, marks, work, n);
-    let b = push_all(tag, slots, s, narrow, sealed, marks, work, a);
-    pin_all(slots, s, narrow, pins, marks, work, b)
+    let a = push_all(here, roots, marks, work, n);
+    let b = push_all(here, sealed, marks, work, a);
+    pin_all(here, pins, marks, work, b)
 }
 
 // What each handle that slot `i` shows leads to is marked and queued.
 fn trace_at(
-    types: &[u64],
-    fields: &[u32],
-    consts: &[u64],
-    bytes: &[u8],
-    tag: u8,
-    slots: usize,
-    s: usize,
-    narrow: &[u32],
-    wide: &[u64],
-    pool: &[u8],
+    table: &Table,
+    objects: Objects,
     i: usize,
     marks: &mut [u8],
     work: &mut [u64],
     n: usize,
 ) -> Option<usize>
-    requires fit { Fit slots s narrow.now wide.now pool.now }
-    requires scratch { Scratch slots marks.old work.old n }
-    requires i_lt_slots { i < slots }
-    ensures traces { Traces result slots marks.new work.new
-        (following (leads_to tag slots s narrow.now) (state_of marks.old work.old n)
-        (shown_in (table_of types.now fields.now consts.now bytes.now) s narrow.now wide.now pool.now i)) }
+    requires scratch { Scratch objects.slots.slots marks.old work.old n }
+    requires i_lt_slots { i < objects.slots.slots }
+    ensures traces { Traces result objects.entry.slots.slots marks.new work.new
+        (following (leads objects.entry.slots) (state_of marks.old work.old n)
+        (shown_in (lent table.now) objects.entry.slots.s objects.entry.slots.narrow.now objects.entry.wide.now objects.entry.pool.now i)) }
     ensures noted_by { NotedBy result work.old work.new }
 {
-    let a = heap::start_of(wide, s, i);
-    let e = wide[s + i] as usize;
-    let kind = narrow[s + i];
-    let t = narrow[2 * s + i] as u64;
-    let start = wide[i] as usize;
-    let here = Slots {
+    let Slots {
         tag,
         slots,
         s,
         narrow,
-    };
+    } = objects.slots;
+    let kind = narrow[s + i];
+    let t = narrow[2 * s + i] as u64;
+    let start = objects.wide[i] as usize;
+    let data = objects.data_of(i);
     trace::trace_slot(
-        &Table {
-            types,
-            fields,
-            consts,
-            bytes,
-        },
-        here,
+        table,
+        tag,
+        slots,
+        s,
+        narrow,
         kind,
         t,
         start,
-        &pool[a..e],
+        data,
         Sink::Work,
         marks,
         work,
@@ -190,39 +157,25 @@ fn trace_at(
 
 // The queue is gone through from its object at `from` on: those before it are traced.
 pub fn drain(
-    types: &[u64],
-    fields: &[u32],
-    consts: &[u64],
-    bytes: &[u8],
-    tag: u8,
-    slots: usize,
-    s: usize,
-    narrow: &[u32],
-    wide: &[u64],
-    pool: &[u8],
+    table: &Table,
+    objects: Objects,
     marks: &mut [u8],
     work: &mut [u64],
     n: usize,
     from: usize,
 ) -> Option<usize>
-    requires fit { Fit slots s narrow.now wide.now pool.now }
-    requires scratch { Scratch slots marks.old work.old n }
-    ensures traces { Traces result slots marks.new work.new (drained
-        (graph_in (table_of types.now fields.now consts.now bytes.now) tag slots s narrow.now wide.now pool.now)
-        (slots - from) (state_of marks.old work.old n) from) }
+    requires { Scratch objects.slots.slots marks.old work.old n }
+    ensures traces { Traces result objects.entry.slots.slots marks.new work.new (drained
+        (graph_of (lent table.now) objects.entry)
+        (objects.entry.slots.slots - from) (state_of marks.old work.old n) from) }
     ensures noted_by { NotedBy result work.old work.new }
 {
     let mut count = n;
     let mut next = from;
+    // Kept: the queue grows while it is gone through.
     while next < count {
         let i = (work[next] % 4294967296) as usize;
-        let r = trace_at(
-            types, fields, consts, bytes, tag, slots, s, narrow, wide, pool, i, marks, work, count,
-        );
-        let Some(m) = r else {
-            return None;
-        };
-        count = m;
+        count = trace_at(table, objects, i, marks, work, count)?;
         next += 1;
     }
     Some(count)
@@ -230,16 +183,8 @@ pub fn drain(
 
 // All that is reached from what is queued, the roots, the seals and the pins is marked.
 pub fn mark_from(
-    types: &[u64],
-    fields: &[u32],
-    consts: &[u64],
-    bytes: &[u8],
-    tag: u8,
-    slots: usize,
-    s: usize,
-    narrow: &[u32],
-    wide: &[u64],
-    pool: &[u8],
+    table: &Table,
+    objects: Objects,
     roots: &[u64],
     sealed: &[u64],
     pins: &[u32],
@@ -247,64 +192,37 @@ pub fn mark_from(
     work: &mut [u64],
     n: usize,
 ) -> Option<usize>
-    requires fit { Fit slots s narrow.now wide.now pool.now }
-    requires scratch { Scratch slots marks.old work.old n }
-    ensures traces { Traces result slots marks.new work.new (drained
-        (graph_in (table_of types.now fields.now consts.now bytes.now) tag slots s narrow.now wide.now pool.now)
-        slots (seeded_from (leads_to tag slots s narrow.now) (live_in slots (run s s narrow.now))
+    requires { Scratch objects.slots.slots marks.old work.old n }
+    ensures traces { Traces result objects.entry.slots.slots marks.new work.new (drained
+        (graph_of (lent table.now) objects.entry)
+        objects.entry.slots.slots (seeded_from (leads objects.entry.slots) (lives objects.entry.slots)
         (state_of marks.old work.old n) roots.now sealed.now pins.now) 0) }
     ensures noted_by { NotedBy result work.old work.new }
 {
-    let m = seed(tag, slots, s, narrow, roots, sealed, pins, marks, work, n);
-    drain(
-        types, fields, consts, bytes, tag, slots, s, narrow, wide, pool, marks, work, m, 0,
-    )
+    let m = seed(objects.slots, roots, sealed, pins, marks, work, n);
+    drain(table, objects, marks, work, m, 0)
 }
 
-// The marking of a well formed heap. The scratch is zero, for more slots than there are: the first of the marks are lent.
+// The marking of a well formed heap: all that is reached is marked, or a reached object can't be traced. The scratch is zero, for more slots than there are: the first
+// of the marks are lent.
 pub fn mark(
-    types: &[u64],
-    fields: &[u32],
-    consts: &[u64],
-    bytes: &[u8],
-    heap: Heap,
-    narrow: &[u32],
-    wide: &[u64],
-    pool: &[u8],
+    table: &Table,
+    view: View,
     roots: &[u64],
     pins: &[u32],
     marks: &mut [u8],
     work: &mut [u64],
-) -> Outcome
-    requires pool_value { well_formed (lent heap narrow.now wide.now pool.now) ≡ true }
-    requires ready { Ready heap.slots marks.old work.old }
+) -> Result<(), Refusal>
+    requires { Ready view.heap.slots marks.old work.old }
     ensures { told result marks.new ≡ marks_in (length marks.old)
-        (heap_marks (table_of types.now fields.now consts.now bytes.now)
-        (view (lent heap narrow.now wide.now pool.now)) roots.now pins.now) }
+        (heap_marks (lent table.now) (state view.entry) roots.now pins.now) }
 {
-    let s = narrow.len() / 6;
-    let a = 3 * s;
-    let e = a + heap.sealed;
-    let r = mark_from(
-        types,
-        fields,
-        consts,
-        bytes,
-        heap.tag,
-        heap.slots,
-        s,
-        narrow,
-        wide,
-        pool,
-        roots,
-        &wide[a..e],
-        pins,
-        &mut marks[..heap.slots],
-        work,
-        0,
-    );
+    let n = view.heap.slots;
+    let objects = Objects::of(view);
+    let sealed = seals(view);
+    let r = mark_from(table, objects, roots, sealed, pins, &mut marks[..n], work, 0);
     let Some(_) = r else {
-        return Outcome::Untraceable;
+        return Err(Refusal::Untraceable);
     };
-    Outcome::Marked
+    Ok(())
 }

@@ -7,4 +7,4 @@ use Rattle.mark.proofs.Bridge.{Pins}
 use Rattle.mark.proofs.pin_all.Given as goal
 
 abbrev pub invariant-loop-i : goal.invariant-loop-i
-invariant-loop-i l = Pins l.slots l.s l.narrow l.pins l.initial.marks l.initial.work (pin_all (live_in l.slots (run l.s l.s l.narrow)) (state_of l.initial.marks l.initial.work l.n) l.pins) l.marks l.work l.count l.i-index × Noted l.initial.work l.work
+invariant-loop-i l = Pins l.here.slots l.here.s l.here.narrow.now l.pins l.initial.marks l.initial.work (pin_all (live_in l.here.slots (run l.here.s l.here.s l.here.narrow.now)) (state_of l.initial.marks l.initial.work l.n) l.pins) l.marks l.work l.count l.i-index × Noted l.initial.work l.work

@@ -8,4 +8,4 @@ use Rattle.mark.proofs.Holding.{HoldsFrame}
 use Rattle.mark.proofs.hold.hold_frame.Given as goal
 
 abbrev pub invariant-loop-k : goal.invariant-loop-k
-invariant-loop-k l = HoldsFrame l.slots l.addresses l.map l.memory l.initial.marks l.initial.work (pin_all (in_use l.slots) (state_of l.initial.marks l.initial.work l.n) (slots_of l.addresses (entries_words l.memory (entries_of l.map)))) l.marks l.work l.count l.k
+invariant-loop-k l = HoldsFrame l.slots l.pairs.list.now l.map l.memory l.initial.marks l.initial.work (pin_all (in_use l.slots) (state_of l.initial.marks l.initial.work l.n) (slots_of l.pairs.list.now (entries_words l.memory (entries_of l.map)))) l.marks l.work l.count l.k

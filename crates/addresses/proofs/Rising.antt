@@ -40,12 +40,11 @@ drop-two (a ∷ b ∷ l) (suc n) h =
 
 -- ---- the loop that asks whether they rise
 
--- all rise exactly if those from index `at` on do, above the one before them
-pub record Rises (list : List ℕ) (at : ℕ) : Type 0 where
-  pub even : at % 2 ≡ 0
-  pub far : 2 ≤ at
+-- all rise exactly if those from pair `i` on do, above the one before them
+pub record Rises (list : List ℕ) (i : ℕ) : Type 0 where
+  pub far : 1 ≤ i
   pub whole : length list % 2 ≡ 0
-  pub left : rising_from (suc (get_or list (at - 2) 0)) (addresses_of (drop at list)) ≡ paired list
+  pub left : rising_from (suc (get_or list (2 * i - 2) 0)) (addresses_of (drop (2 * i) list)) ≡ paired list
 
 pub rise-odd : (list : List ℕ) → (length list % 2 ≡ 0 → ⊥) → false ≡ paired list
 unfolding paired
@@ -61,33 +60,39 @@ first-rises [] = refl
 first-rises (a ∷ []) = refl
 first-rises (a ∷ i ∷ rest) = sym (ap (λ (b : Bool). b && rising_from (suc a) (addresses_of rest)) (le-leb 0 a (omega arith)))
 
-pub rise-first : (list : List ℕ) → length list % 2 ≡ 0 → Rises list 2
-rise-first list h = record { even = refl; far = omega arith; whole = h; left = first-rises list ∙ even-paired list h }
+pub rise-first : (list : List ℕ) → length list % 2 ≡ 0 → Rises list 1
+rise-first list h = record { far = omega arith; whole = h; left = first-rises list ∙ even-paired list h }
 
-module _ {list : List ℕ} {at : ℕ} (s : Rises list at) where
-  at_next : at < length list → (leb (suc (get_or list (at - 2) 0)) (get_or list at 0) && rising_from (suc (get_or list at 0)) (addresses_of (drop (at + 2) list))) ≡ paired list
+module _ {list : List ℕ} {i : ℕ} (s : Rises list i) where
+  at_next : i < length list / 2 → (leb (suc (get_or list (2 * i - 2) 0)) (get_or list (2 * i) 0) && rising_from (suc (get_or list (2 * i) 0)) (addresses_of (drop (2 * i + 2) list))) ≡ paired list
   unfolding rising_from
-  at_next h = sym (ap (rising_from (suc (get_or list (at - 2) 0))) (drop-two list at (omega (arith, s.even, s.whole)))) ∙ s.left
+  at_next h = sym (ap (rising_from (suc (get_or list (2 * i - 2) 0))) (drop-two list (2 * i) (omega (arith, s.whole)))) ∙ s.left
 
-  pub rise-low : at < length list → get_or list at 0 ≤ get_or list (at - 2) 0 → false ≡ paired list
+  pub rise-low : i < length list / 2 → get_or list (2 * i) 0 ≤ get_or list (2 * i - 2) 0 → false ≡ paired list
   rise-low h low =
-      sym (ap (λ (b : Bool). b && rising_from (suc (get_or list at 0)) (addresses_of (drop (at + 2) list))) (lt-leb (suc (get_or list (at - 2) 0)) (get_or list at 0) (omega arith))) ∙ at_next h
+      sym (ap (λ (b : Bool). b && rising_from (suc (get_or list (2 * i) 0)) (addresses_of (drop (2 * i + 2) list))) (lt-leb (suc (get_or list (2 * i - 2) 0)) (get_or list (2 * i) 0) (omega arith))) ∙ at_next h
 
-  pub rise-next : at < length list → get_or list (at - 2) 0 < get_or list at 0 → Rises list (at + 2)
+  pub rise-next : i < length list / 2 → get_or list (2 * i - 2) 0 < get_or list (2 * i) 0 → Rises list (i + 1)
   rise-next h high =
       record {
-        even = omega (arith, s.even);
         far = omega arith;
         whole = s.whole;
         left =
-            ap (λ (k : ℕ). rising_from (suc (get_or list k 0)) (addresses_of (drop (at + 2) list))) (let e : (at + 2) - 2 ≡ at = omega arith in e)
-            ∙ sym (ap (λ (b : Bool). b && rising_from (suc (get_or list at 0)) (addresses_of (drop (at + 2) list))) (le-leb (suc (get_or list (at - 2) 0)) (get_or list at 0) (omega arith)))
+            (λ j. rising_from (suc (get_or list (back j) 0)) (addresses_of (drop (on j) list)))
+            ∙ sym (ap (λ (b : Bool). b && rising_from (suc (get_or list (2 * i) 0)) (addresses_of (drop (2 * i + 2) list))) (le-leb (suc (get_or list (2 * i - 2) 0)) (get_or list (2 * i) 0) (omega arith)))
             ∙ at_next h;
       }
+    where
+      back : 2 * (i + 1) - 2 ≡ 2 * i
+      back = omega arith
 
-  pub rise-end : length list ≤ at → true ≡ paired list
+      on : 2 * (i + 1) ≡ 2 * i + 2
+      on = omega arith
+
+  pub rise-end : length list / 2 ≤ i → true ≡ paired list
   unfolding rising_from addresses_of
-  rise-end h = sym (ap (λ (l : List ℕ). rising_from (suc (get_or list (at - 2) 0)) (addresses_of l)) (drop_of_length-le list h)) ∙ s.left
+  rise-end h =
+      sym (ap (λ (l : List ℕ). rising_from (suc (get_or list (2 * i - 2) 0)) (addresses_of l)) (drop_of_length-le list {i = 2 * i} (let e : length list ≤ 2 * i = omega (arith, s.whole) in e))) ∙ s.left
 
 -- ---- the search
 
