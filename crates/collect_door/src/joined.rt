@@ -7,8 +7,11 @@ ghost use Rattle.door.specs.HeapCalls.{Entered, admitted, outcome_of};
 ghost use Rattle.collect_door.specs.Calls.{row_tests, input_tests, joined_call};
 ghost use Rattle.collect_door.specs.Demand.{Demand};
 
+use addresses::Pairs;
+use collect::joined::{Safepoint, collect_at};
 use door::Done;
 use heap::Heap;
+use heap::view_mut::ViewMut;
 use refusal::{Answer, Refusal};
 use roots::Code;
 use roots::check::{check_function, rows_fit};
@@ -49,26 +52,16 @@ fn enter_rows(
 
 // Are the type table, the function with its values, the pins and the list of addresses as they should be?
 fn admit_inputs(
-    types: &[u64],
-    fields: &[u32],
-    consts: &[u64],
-    bytes: &[u8],
+    table: &Table,
     code: &Code,
     values: &[u64],
     pins: &[u32],
     addresses: &[u64],
 ) -> Result<(), Refusal>
-    ensures { result ≡ admitted (input_tests types.now fields.now consts.now bytes.now
+    ensures { result ≡ admitted (input_tests table.now.types.now table.now.fields.now table.now.consts.now table.now.bytes.now
         (code_lent code.now) values.now pins.now addresses.now) }
 {
-    if !(Table {
-        types,
-        fields,
-        consts,
-        bytes,
-    })
-    .check_table()
-    {
+    if !table.check_table() {
         return Err(Refusal::TypeTable);
     }
     if !check_function(code) {
@@ -87,11 +80,9 @@ fn admit_inputs(
 }
 
 // Do scratch, heap and all inputs let the collection look for the safepoint?
+// Kept: of a heap that isn't tested yet, and of inputs that aren't, the C interface lends each part by itself.
 fn admit_joined(
-    types: &[u64],
-    fields: &[u32],
-    consts: &[u64],
-    bytes: &[u8],
+    table: &Table,
     heap: Heap,
     narrow: &[u32],
     wide: &[u64],
@@ -106,17 +97,18 @@ fn admit_joined(
 ) -> Result<(), Refusal>
     ensures { Entered (marks.old ∷ work.old ∷ rows.old ∷ [])
         (row_tests (need (code_lent code.now)) marks.old work.old rows.old (lent heap narrow.now wide.now pool.now)
-        ++ input_tests types.now fields.now consts.now bytes.now
+        ++ input_tests table.now.types.now table.now.fields.now table.now.consts.now table.now.bytes.now
         (code_lent code.now) values.now pins.now addresses.now)
         result (marks.new ∷ work.new ∷ rows.new ∷ []) }
 {
     enter_rows(heap, narrow, wide, pool, code, marks, work, rows)?;
-    admit_inputs(types, fields, consts, bytes, code, values, pins, addresses)
+    admit_inputs(table, code, values, pins, addresses)
 }
 
 // An object outlives the collection exactly if a chain leads to it from the pins, the seals, the handles of the frame or the values of the registers of class 4
 // that are live at the safepoint pc. `addresses` are pairs of an address and a slot index, addresses strictly rising: an address that the frame has, or a register of
 // class 2 that is live there, pins the slot that it is listed with.
+// Kept: the C interface lends each part by itself.
 pub fn yexwalu_collect_joined(
     types: &[u64],
     fields: &[u32],
@@ -181,23 +173,36 @@ pub fn yexwalu_collect_joined(
         blocks,
         classes,
     };
+    let table = Table {
+        types,
+        fields,
+        consts,
+        bytes,
+    };
     match admit_joined(
-        types, fields, consts, bytes, heap, narrow, wide, pool, &code, values, pins, addresses,
-        marks, work, rows,
+        &table, heap, narrow, wide, pool, &code, values, pins, addresses, marks, work, rows,
     ) {
         Err(why) => Done {
             heap: heap,
             answer: Answer::from(Err(why)),
         },
         Ok(()) => {
-            let done = collect::joined::collect_at(
-                types, fields, consts, bytes, heap, narrow, wide, pool, code, pc, values, map,
-                memory, pins, addresses, marks, work, rows,
-            );
-            let after = done.heap;
-            let reply = done.reply;
+            let at = Safepoint {
+                pc,
+                values,
+                map,
+                memory,
+            };
+            let pairs = Pairs { list: addresses };
+            let mut lent = ViewMut {
+                heap,
+                narrow,
+                wide,
+                pool,
+            };
+            let reply = collect_at(&table, &mut lent, code, at, pins, pairs, marks, work, rows);
             Done {
-                heap: after,
+                heap: lent.heap,
                 answer: Answer::from(reply),
             }
         }

@@ -10,6 +10,7 @@ ghost use Rattle.collect_door.specs.Demand.{RightlyCollected};
 
 use door::Done;
 use heap::Heap;
+use heap::view_mut::ViewMut;
 use refusal::{Answer, Refusal};
 use ty::Table;
 
@@ -17,10 +18,7 @@ pub mod joined; // at a safepoint, from the frame and the live registers
 
 // Do scratch, heap, type table and pins let a collection begin?
 fn admit(
-    types: &[u64],
-    fields: &[u32],
-    consts: &[u64],
-    bytes: &[u8],
+    table: &Table,
     heap: Heap,
     narrow: &[u32],
     wide: &[u64],
@@ -30,19 +28,12 @@ fn admit(
     work: &mut [u64],
 ) -> Result<(), Refusal>
     ensures { Entered (marks.old ∷ work.old ∷ [])
-        (collect_tests types.now fields.now consts.now bytes.now pins.now marks.old work.old
+        (collect_tests table.now.types.now table.now.fields.now table.now.consts.now table.now.bytes.now pins.now marks.old work.old
         (lent heap narrow.now wide.now pool.now))
         result (marks.new ∷ work.new ∷ []) }
 {
     door::enter(heap, narrow, wide, pool, marks, work)?;
-    if !(Table {
-        types,
-        fields,
-        consts,
-        bytes,
-    })
-    .check_table()
-    {
+    if !table.check_table() {
         return Err(Refusal::TypeTable);
     }
     if !heap_calls::recycle::rise(pins) {
@@ -52,6 +43,7 @@ fn admit(
 }
 
 // Drops the objects to which no chain leads from a root, a seal or a pin. Where a reached object can't be traced nothing changes.
+// Kept: the C interface lends each part by itself.
 pub fn yexwalu_collect(
     types: &[u64],
     fields: &[u32],
@@ -75,21 +67,27 @@ pub fn yexwalu_collect(
         marks.old work.old (lent heap narrow.old wide.old pool.old)
         (outcome result.answer (lent result.heap narrow.new wide.new pool.new) marks.new work.new) }
 {
-    match admit(
-        types, fields, consts, bytes, heap, narrow, wide, pool, pins, marks, work,
-    ) {
+    let table = Table {
+        types,
+        fields,
+        consts,
+        bytes,
+    };
+    match admit(&table, heap, narrow, wide, pool, pins, marks, work) {
         Err(why) => Done {
             heap: heap,
             answer: Answer::from(Err(why)),
         },
         Ok(()) => {
-            let done = collect::collect(
-                types, fields, consts, bytes, heap, narrow, wide, pool, roots, pins, marks, work,
-            );
-            let after = done.heap;
-            let reply = done.reply;
+            let mut lent = ViewMut {
+                heap,
+                narrow,
+                wide,
+                pool,
+            };
+            let reply = collect::collect(&table, &mut lent, roots, pins, marks, work);
             Done {
-                heap: after,
+                heap: lent.heap,
                 answer: Answer::from(reply),
             }
         }

@@ -3,6 +3,8 @@ ghost use Rattle.ty.specs.View.{table_of};
 ghost use Rattle.compare_heaps.specs.Inner.Marked.{Clear, Meets, side_model};
 
 use compare_objects::Side;
+use mark::Objects;
+use ty::Table;
 
 // The objects that the roots reach in a heap, in the order first met, go to the lower part of the words of work, and the turn of each to the upper part of its slot's word. None where
 // something reached can't be traced.
@@ -21,18 +23,21 @@ pub fn first_met(
         (side_model (table_of types.now fields.now consts.now bytes.now) heap.entry)
         roots.now heap.entry.slots.slots work.new }
 {
-    let slots = heap.slots;
-    let r = mark::mark_from(
+    let table = Table {
         types,
         fields,
         consts,
         bytes,
-        slots.tag,
-        slots.slots,
-        slots.s,
-        slots.narrow,
-        heap.wide,
-        heap.pool,
+    };
+    let slots = heap.slots;
+    let objects = Objects {
+        slots,
+        wide: heap.wide,
+        pool: heap.pool,
+    };
+    let r = mark::mark_from(
+        &table,
+        objects,
         roots,
         &roots[..0],
         &slots.narrow[..0],

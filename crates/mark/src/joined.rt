@@ -14,14 +14,13 @@ ghost use Rattle.mark.specs.Safepoints.{live_values, handles_in, pinned_in};
 
 use crate::hold::{hold_address, hold_all, hold_frame};
 use crate::objects::{Objects, seals};
+pub use crate::registers::{Frame, Registers};
 use addresses::Pairs;
 use handle::Slots;
 use heap::view::View;
 use refusal::Refusal;
 use trace::Sink;
 use ty::Table;
-
-pub use crate::registers::{Frame, Registers};
 
 // The value of register q is taken, if there is that register and it is of the class that is wanted: a handle (class 4) is followed, an address (class 2) is looked up
 // and its slot pinned.

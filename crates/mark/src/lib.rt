@@ -25,13 +25,7 @@ mod registers; // what a joined collection gets of a safepoint
 pub use objects::{Objects, seals};
 
 // What each handle of a list leads to is marked and queued.
-pub fn push_all(
-    here: Slots,
-    list: &[u64],
-    marks: &mut [u8],
-    work: &mut [u64],
-    n: usize,
-) -> usize
+pub fn push_all(here: Slots, list: &[u64], marks: &mut [u8], work: &mut [u64], n: usize) -> usize
     requires { Scratch here.slots marks.old work.old n }
     ensures holds { Holds here.entry.slots marks.new work.new result
         (follow_all (leads here.entry) (state_of marks.old work.old n) list.now) }
@@ -220,7 +214,16 @@ pub fn mark(
     let n = view.heap.slots;
     let objects = Objects::of(view);
     let sealed = seals(view);
-    let r = mark_from(table, objects, roots, sealed, pins, &mut marks[..n], work, 0);
+    let r = mark_from(
+        table,
+        objects,
+        roots,
+        sealed,
+        pins,
+        &mut marks[..n],
+        work,
+        0,
+    );
     let Some(_) = r else {
         return Err(Refusal::Untraceable);
     };

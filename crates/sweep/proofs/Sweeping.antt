@@ -19,6 +19,8 @@ use Rattle.heap.specs.Calls.{released, recycle}
 use Rattle.heap.specs.Lent.{Lent, columns, column, cut, lent, stored, view, header_of, slot_count, pool_size}
 use Rattle.heap.specs.Header.{set_since, set_live}
 use Rattle.heap.specs.Done.{Leaves}
+use Rattle.heap.specs.Loans.{lies}
+use Rattle.heap.specs.declared.view_mut.ViewMut.{ViewMut}
 use Rattle.heap.specs.declared.Heap.{Heap}
 use Rattle.heap.proofs.Sound.{Sound, WellFormed}
 use Rattle.heap.proofs.Changing.{column-size, Known, known}
@@ -292,3 +294,8 @@ sweep-leaves {l} {l₁} {l₂} {marks} pins can first second =
     let bytes : pool_size l₁ ≡ pool_size l = ap pool_size first.lies ∙ pool-stored (slot_count l) (pool_size l) d s.data-fit in
     let heap : view l₁ ≡ d = ap view first.lies ∙ view-stored (slot_count l) (pool_size l) d in
     record { lies = second.lies ∙ (λ j. stored (slots j) (bytes j) (recycle (heap j) pins)); formed = second.formed }
+
+-- ---- a heap that is lent to be changed
+
+pub sweepable : (v : ViewMut) (marks : List ℕ) → slot_count (lies v) ≤ length marks → CanSweep (lies v) marks
+sweepable v marks h = record { formed = v.formed; marked = h }

@@ -4,13 +4,15 @@
 
 ghost use Rattle.std.specs.Prelude.{◌≡◌, true, [], ◌≤◌, ◌/◌, length};
 ghost use Rattle.heap.specs.State.{bit};
-ghost use Rattle.heap.specs.Lent.{lent, cut, view};
+ghost use Rattle.heap.specs.Lent.{lent, cut, view, slot_count};
 ghost use Rattle.heap.specs.Done.{Leaves};
+ghost use Rattle.heap.specs.Loans.{lies, state, Becomes};
 ghost use Rattle.heap_calls.specs.Pins.{rising, marked_slots};
 ghost use Rattle.collection.specs.Swept.{all_dropped, drop_unmarked, swept};
 ghost use Rattle.sweep.specs.Columns.{CanCompact, Compacted, CanSettle, Settled, columns_of, released_in, visited_in, CanRelease, CanVisit, CanSize, sizes_in, one_size, is_going, all_stay, CanSweep};
 
 use heap::Heap;
+use heap::view_mut::ViewMut;
 
 // The data from `from` to `e` comes to stand from `to` on, unless the kind `k` is 0; where the next goes.
 fn settle(k: u32, from: usize, e: usize, to: usize, pool: &mut [u8]) -> usize
@@ -195,35 +197,26 @@ fn drop_unmarked(
 }
 
 // The sweep of a collection: what is not marked is dropped, what is left is counted, and the quarantine is recycled.
-pub fn sweep(
-    heap: Heap,
-    narrow: &mut [u32],
-    wide: &mut [u64],
-    pool: &mut [u8],
-    marks: &[u8],
-    pins: &[u32],
-) -> Heap
-    requires can_sweep { CanSweep (lent heap narrow.old wide.old pool.old) marks.now }
+pub fn sweep(lent: &mut ViewMut, marks: &[u8], pins: &[u32])
+    requires room { slot_count (lies lent.old) ≤ length marks.now }
     requires pins_value { rising pins.now ≡ true }
-    ensures { Leaves (lent heap narrow.old wide.old pool.old) (lent result narrow.new wide.new pool.new)
-        (swept (view (lent heap narrow.old wide.old pool.old)) marks.now pins.now) }
+    ensures { Becomes lent.old lent.new (swept (state lent.old) marks.now pins.now) }
 {
-    let h = drop_unmarked(heap, narrow, wide, pool, marks);
-    heap_calls::recycle::recycle(h, narrow, wide, pool, pins)
+    let narrow = &mut *lent.narrow;
+    let wide = &mut *lent.wide;
+    let pool = &mut *lent.pool;
+    let h = drop_unmarked(lent.heap, narrow, wide, pool, marks);
+    lent.heap = heap_calls::recycle::recycle(h, narrow, wide, pool, pins);
 }
 
 // The same with the marked slots as pins: a quarantined slot stays if it is marked.
-pub fn sweep_marked(
-    heap: Heap,
-    narrow: &mut [u32],
-    wide: &mut [u64],
-    pool: &mut [u8],
-    marks: &[u8],
-) -> Heap
-    requires { CanSweep (lent heap narrow.old wide.old pool.old) marks.now }
-    ensures { Leaves (lent heap narrow.old wide.old pool.old) (lent result narrow.new wide.new pool.new)
-        (swept (view (lent heap narrow.old wide.old pool.old)) marks.now (marked_slots marks.now)) }
+pub fn sweep_marked(lent: &mut ViewMut, marks: &[u8])
+    requires { slot_count (lies lent.old) ≤ length marks.now }
+    ensures { Becomes lent.old lent.new (swept (state lent.old) marks.now (marked_slots marks.now)) }
 {
-    let h = drop_unmarked(heap, narrow, wide, pool, marks);
-    heap_calls::recycle::recycle_marked(h, narrow, wide, pool, marks)
+    let narrow = &mut *lent.narrow;
+    let wide = &mut *lent.wide;
+    let pool = &mut *lent.pool;
+    let h = drop_unmarked(lent.heap, narrow, wide, pool, marks);
+    lent.heap = heap_calls::recycle::recycle_marked(h, narrow, wide, pool, marks);
 }

@@ -13,6 +13,10 @@ ghost use Rattle.wanted.specs.Search as search;
 ghost use Rattle.wanted.specs.Search.{meeting, upward, downward, firstly, secondly, notes_of, searched};
 ghost use Rattle.wanted_door.specs.Inner.Picking.{going_of, Goes, notes_if, Inside, Room, Clear};
 
+use handle::Slots;
+use mark::Objects;
+use ty::Table;
+
 // Is there an object in slot `w`?
 fn is_live(slots: usize, s: usize, narrow: &[u32], w: u32) -> bool
     requires { Runs slots s narrow.now }
@@ -26,17 +30,17 @@ fn is_live(slots: usize, s: usize, narrow: &[u32], w: u32) -> bool
 }
 
 // Unless slot `w` is marked, it and what it leads to are marked, and `note` is noted of it.
-fn meet(
-    types: &[u64],
-    fields: &[u32],
-    consts: &[u64],
-    bytes: &[u8],
+fn meet<'a>(
+    types: &'a [u64],
+    fields: &'a [u32],
+    consts: &'a [u64],
+    bytes: &'a [u8],
     tag: u8,
     slots: usize,
     s: usize,
-    narrow: &[u32],
-    wide: &[u64],
-    pool: &[u8],
+    narrow: &'a [u32],
+    wide: &'a [u64],
+    pool: &'a [u8],
     w: u32,
     note: u32,
     marks: &mut [u8],
@@ -55,9 +59,24 @@ fn meet(
         return Some(n);
     }
     let m = trace::queue(marks, work, n, w);
-    let r = mark::drain(
-        types, fields, consts, bytes, tag, slots, s, narrow, wide, pool, marks, work, m, n,
-    );
+    let table = Table {
+        types,
+        fields,
+        consts,
+        bytes,
+    };
+    let here = Slots {
+        tag,
+        slots,
+        s,
+        narrow,
+    };
+    let objects = Objects {
+        slots: here,
+        wide,
+        pool,
+    };
+    let r = mark::drain(&table, objects, marks, work, m, n);
     let Some(c) = r else {
         return None;
     };
@@ -182,17 +201,17 @@ fn choose(
 }
 
 // Can just the wanted slots be kept? What seals, pins and they lead to can be traced, and is not more than they. 1 is noted of the candidates.
-fn can_keep(
-    types: &[u64],
-    fields: &[u32],
-    consts: &[u64],
-    bytes: &[u8],
+fn can_keep<'a>(
+    types: &'a [u64],
+    fields: &'a [u32],
+    consts: &'a [u64],
+    bytes: &'a [u8],
     tag: u8,
     slots: usize,
     s: usize,
-    narrow: &[u32],
-    wide: &[u64],
-    pool: &[u8],
+    narrow: &'a [u32],
+    wide: &'a [u64],
+    pool: &'a [u8],
     sealed: &[u64],
     pins: &[u32],
     wanted: &[u32],
@@ -206,24 +225,24 @@ fn can_keep(
         (starts_of [] sealed.now pins.now) slots wanted.now (map high work.old)) }
     ensures inside { result ≡ true → Inside wanted.now slots }
 {
-    let r = mark::mark_from(
+    let table = Table {
         types,
         fields,
         consts,
         bytes,
+    };
+    let here = Slots {
         tag,
         slots,
         s,
         narrow,
+    };
+    let objects = Objects {
+        slots: here,
         wide,
         pool,
-        &sealed[..0],
-        sealed,
-        pins,
-        marks,
-        work,
-        0,
-    );
+    };
+    let r = mark::mark_from(&table, objects, &sealed[..0], sealed, pins, marks, work, 0);
     let Some(b) = r else {
         return false;
     };
@@ -237,17 +256,17 @@ fn can_keep(
 }
 
 // Of the candidates those are roots that no later root leads to: 2 is noted of them.
-fn choose_roots(
-    types: &[u64],
-    fields: &[u32],
-    consts: &[u64],
-    bytes: &[u8],
+fn choose_roots<'a>(
+    types: &'a [u64],
+    fields: &'a [u32],
+    consts: &'a [u64],
+    bytes: &'a [u8],
     tag: u8,
     slots: usize,
     s: usize,
-    narrow: &[u32],
-    wide: &[u64],
-    pool: &[u8],
+    narrow: &'a [u32],
+    wide: &'a [u64],
+    pool: &'a [u8],
     sealed: &[u64],
     pins: &[u32],
     wanted: &[u32],
@@ -262,24 +281,24 @@ fn choose_roots(
         (starts_of [] sealed.now pins.now) slots wanted.now (map high work.old)) }
 {
     marks.fill(0);
-    let r = mark::mark_from(
+    let table = Table {
         types,
         fields,
         consts,
         bytes,
+    };
+    let here = Slots {
         tag,
         slots,
         s,
         narrow,
+    };
+    let objects = Objects {
+        slots: here,
         wide,
         pool,
-        &sealed[..0],
-        sealed,
-        pins,
-        marks,
-        work,
-        0,
-    );
+    };
+    let r = mark::mark_from(&table, objects, &sealed[..0], sealed, pins, marks, work, 0);
     let Some(b) = r else {
         return false;
     };

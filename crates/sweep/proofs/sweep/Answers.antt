@@ -1,6 +1,13 @@
 -- `sweep::sweep` meets its contract.
-use Rattle.sweep.proofs.Sweeping.{sweep-leaves}
+use mathlib.Core.Path.{refl}
+use Rattle.sweep.proofs.Sweeping.{sweepable, sweep-leaves}
 use Rattle.sweep.proofs.sweep.Goals as goal
 
+pub drop_unmarked-h-requires : goal.drop_unmarked-h-requires
+drop_unmarked-h-requires c = sweepable c.args.lent.now c.args.marks.now c.requires.room
+
 pub returns : goal.returns
-returns c = sweep-leaves _ c.requires.can_sweep c.drop_unmarked-h.ensures c.recycle.ensures
+returns c = record { loans = record { narrow = refl; wide = refl; pool = refl }; leaves = sweep-leaves _ (sweepable c.args.lent.now c.args.marks.now c.requires.room) c.drop_unmarked-h.ensures c.recycle-lent.ensures }
+
+pub invariant_of-lent : goal.invariant_of-lent
+invariant_of-lent c = record { formed = c.recycle-lent.ensures.formed }

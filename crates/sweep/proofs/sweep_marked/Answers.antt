@@ -1,6 +1,13 @@
 -- `sweep::sweep_marked` meets its contract.
-use Rattle.sweep.proofs.Sweeping.{sweep-leaves}
+use mathlib.Core.Path.{refl}
+use Rattle.sweep.proofs.Sweeping.{sweepable, sweep-leaves}
 use Rattle.sweep.proofs.sweep_marked.Goals as goal
 
+pub drop_unmarked-h-requires : goal.drop_unmarked-h-requires
+drop_unmarked-h-requires c = sweepable c.args.lent.now c.args.marks.now c.requires
+
 pub returns : goal.returns
-returns c = sweep-leaves _ c.requires c.drop_unmarked-h.ensures c.recycle_marked.ensures
+returns c = record { loans = record { narrow = refl; wide = refl; pool = refl }; leaves = sweep-leaves _ (sweepable c.args.lent.now c.args.marks.now c.requires) c.drop_unmarked-h.ensures c.recycle_marked-lent.ensures }
+
+pub invariant_of-lent : goal.invariant_of-lent
+invariant_of-lent c = record { formed = c.recycle_marked-lent.ensures.formed }

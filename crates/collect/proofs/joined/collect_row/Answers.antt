@@ -1,24 +1,38 @@
 -- `collect::joined::collect_row` meets its contract.
-use mathlib.Core.Path.{◌∙◌}
-use mathlib.Core.List.{◌++◌}
-use Rattle.ty.specs.View.{table_of}
-use Rattle.frame.specs.Frame.{frame_handles, addresses_in}
-use Rattle.addresses.specs.Listed.{slots_of}
-use Rattle.mark.specs.Joining.{row_values}
-use Rattle.collect.proofs.Collecting.{collect-ready, collect-sweeps, marks-again, work-again, joined-done}
+use mathlib.Core.Path.{◌∙◌, sym, subst, ◌≡◌}
+use lib.ListN.{length}
+use Rattle.heap.specs.Lent.{Lent, view}
+use Rattle.heap.specs.Loans.{lies}
+use Rattle.ty.specs.View.{lent}
+use Rattle.mark.specs.Joining.{joined_marks}
+use Rattle.mark.specs.Safepoints.{live_values, handles_in, pinned_in}
+use Rattle.mark.specs.Told.{told, marks_in, Ready}
+use Rattle.collect.proofs.Collecting.{collect-ready, collect-room, marks-again, work-again, joined-done}
 use Rattle.collect.proofs.joined.collect_row.Goals as goal
 
-pub mark_joined-r-requires : goal.mark_joined-r-requires
-mark_joined-r-requires c = record { pool_value = c.requires.can_collect.formed; ready = collect-ready _ _ _ _ c.requires.can_collect; ordered = c.requires.ordered }
+pub mark_joined-marked-requires : goal.mark_joined-marked-requires
+mark_joined-marked-requires c = subst (λ (l : Lent). Ready l.header.slots c.args.marks.now c.args.work.now) (sym c.view.ensures) (collect-ready _ _ _ _ c.requires)
 
 pub finish_marked-requires : goal.finish_marked-requires
-finish_marked-requires c = collect-sweeps _ _ _ _ c.requires.can_collect _ c.mark_joined-r.auto.marks
+finish_marked-requires c = collect-room _ _ _ _ c.requires _ c.mark_joined-marked.auto.marks
 
 pub shape_of-marks : goal.shape_of-marks
-shape_of-marks c = c.finish_marked.auto.marks ∙ c.mark_joined-r.auto.marks
+shape_of-marks c = c.finish_marked.auto.marks ∙ c.mark_joined-marked.auto.marks
 
 pub shape_of-work : goal.shape_of-work
-shape_of-work c = c.finish_marked.auto.work ∙ c.mark_joined-r.auto.work
+shape_of-work c = c.finish_marked.auto.work ∙ c.mark_joined-marked.auto.work
 
 pub returns : goal.returns
-returns c = let t = table_of c.args.types.now c.args.fields.now c.args.consts.now c.args.bytes.now in record { tells = joined-done _ _ _ _ c.requires.can_collect t c.mark_joined-r.result c.mark_joined-r.new.marks c.mark_joined-r.auto.marks _ c.finish_marked.result.reply c.finish_marked.ensures.tells (frame_handles t c.args.map.now c.args.memory.now) (row_values 4 c.args.classes.now c.args.row.now c.args.values.now) (c.args.pins.now ++ slots_of c.args.addresses.now (addresses_in t c.args.map.now c.args.memory.now ++ row_values 2 c.args.classes.now c.args.row.now c.args.values.now)) c.mark_joined-r.ensures; marks_unchanged = (marks-again _ _ _ _ c.requires.can_collect c.mark_joined-r.new.marks _ c.mark_joined-r.auto.marks c.finish_marked.ensures.marks_after.0, work-again _ _ _ _ c.requires.can_collect c.mark_joined-r.new.work _ c.mark_joined-r.auto.work c.finish_marked.ensures.marks_after.1) }
+returns c =
+    let t = lent c.args.table.now in
+    let handles = handles_in t c.args.frame in
+    let values = live_values 4 c.args.registers in
+    let pinned = pinned_in t c.args.registers c.args.frame c.args.pins.now c.args.pairs in
+    let marked = subst (λ (l : Lent). told c.mark_joined-marked.result c.mark_joined-marked.new.marks ≡ marks_in (length c.args.marks.now) (joined_marks t (view l) handles values pinned)) c.view.ensures c.mark_joined-marked.ensures in
+    record {
+      replies = record {
+        loans = c.finish_marked.ensures.replies.loans;
+        tells = joined-done (lies c.args.lent.now) _ _ _ c.requires t c.mark_joined-marked.result c.mark_joined-marked.new.marks c.mark_joined-marked.auto.marks _ c.finish_marked.result c.finish_marked.ensures.replies.tells handles values pinned marked;
+      };
+      marks_unchanged = (marks-again _ _ _ _ c.requires c.mark_joined-marked.new.marks _ c.mark_joined-marked.auto.marks c.finish_marked.ensures.marks_after.0, work-again _ _ _ _ c.requires c.mark_joined-marked.new.work _ c.mark_joined-marked.auto.work c.finish_marked.ensures.marks_after.1);
+    }

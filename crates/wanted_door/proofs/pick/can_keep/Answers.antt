@@ -8,7 +8,7 @@ use Rattle.wanted_door.proofs.Searches.{clear-scratch, begun-scratch, keep-stuck
 use Rattle.wanted_door.proofs.pick.can_keep.Goals as goal
 
 pub mark_from-r-requires : goal.mark_from-r-requires
-mark_from-r-requires c = record { fit = c.requires.fit; scratch = clear-scratch _ _ _ c.requires.clear }
+mark_from-r-requires c = clear-scratch _ _ _ c.requires.clear
 
 pub returns-in_default : goal.returns-in_default
 returns-in_default c = record { work_after = keep-stuck (graph_in (table_of c.args.types.now c.args.fields.now c.args.consts.now c.args.bytes.now) c.args.tag c.args.slots c.args.s c.args.narrow.now c.args.wide.now c.args.pool.now) c.args.slots c.args.sealed.now c.args.pins.now c.args.marks.now c.args.work.now c.requires.clear c.mark_from-r.result c.mark_from-r.new.marks c.mark_from-r.new.work c.mark_from-r.ensures.traces c.mark_from-r.ensures.noted_by c.args.wanted.now c.in_default.is; inside = λ e. absurd (true-false (sym e)) }

@@ -10,7 +10,7 @@ pub returns-then-marks-i-ne0 : goal.returns-then-marks-i-ne0
 returns-then-marks-i-ne0 c = met-old _ _ _ _ _ _ _ c.requires.scratch c.if-marks-i-ne0.true
 
 pub drain-r-requires : goal.drain-r-requires
-drain-r-requires c = record { fit = c.requires.fit; scratch = met-scratch _ _ _ _ _ c.requires.scratch c.requires.w_lt_slots _ _ _ c.queue-m.ensures }
+drain-r-requires c = met-scratch _ _ _ _ _ c.requires.scratch c.requires.w_lt_slots _ _ _ c.queue-m.ensures
 
 pub returns-in_default : goal.returns-in_default
 returns-in_default c = met-stuck _ _ _ _ _ _ _ c.requires.scratch c.requires.w_lt_slots c.if-marks-i-ne0.false _ _ _ c.queue-m.ensures _ _ _ c.drain-r.ensures.traces c.drain-r.ensures.noted_by c.in_default.is
