@@ -51,17 +51,7 @@ fn push_at(
     }
     let v = values[q];
     if want == 4 {
-        return trace::emit(
-            here.tag,
-            here.slots,
-            here.s,
-            here.narrow,
-            Sink::Work,
-            marks,
-            work,
-            n,
-            v,
-        );
+        return trace::emit(here, Sink::Work, marks, work, n, v);
     }
     hold_address(here.slots, pairs, v, marks, work, n)
 }
@@ -165,10 +155,7 @@ fn mark_frame(
     let here = objects.slots;
     let r = frame::trace_frame(
         table,
-        here.tag,
-        here.slots,
-        here.s,
-        here.narrow,
+        here,
         0,
         frame.map,
         frame.memory,

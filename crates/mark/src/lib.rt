@@ -33,17 +33,7 @@ pub fn push_all(here: Slots, list: &[u64], marks: &mut [u8], work: &mut [u64], n
 {
     let mut count = n;
     for h in list {
-        count = trace::emit(
-            here.tag,
-            here.slots,
-            here.s,
-            here.narrow,
-            Sink::Work,
-            marks,
-            work,
-            count,
-            *h,
-        );
+        count = trace::emit(here, Sink::Work, marks, work, count, *h);
     }
     count
 }
@@ -122,22 +112,20 @@ fn trace_at(
         (shown_in (lent table.now) objects.entry.slots.s objects.entry.slots.narrow.now objects.entry.wide.now objects.entry.pool.now i)) }
     ensures noted_by { NotedBy result work.old work.new }
 {
+    let here = objects.slots;
     let Slots {
-        tag,
-        slots,
+        tag: _,
+        slots: _,
         s,
         narrow,
-    } = objects.slots;
+    } = here;
     let kind = narrow[s + i];
     let t = narrow[2 * s + i] as u64;
     let start = objects.wide[i] as usize;
     let data = objects.data_of(i);
     trace::trace_slot(
         table,
-        tag,
-        slots,
-        s,
-        narrow,
+        here,
         kind,
         t,
         start,
