@@ -23,7 +23,7 @@ use Rattle.heap.specs.WellFormed.{well_formed}
 use Rattle.heap.specs.Calls.{Changed, gc_due}
 use Rattle.heap.specs.Done.{Leaves, Tells}
 use Rattle.heap.specs.declared.Heap.{Heap}
-use Rattle.heap.proofs.Storing.{view-stored}
+use Rattle.heap.proofs.Storing.{view-stored, slots-stored}
 use Rattle.heap.proofs.Testing.{formed-tested}
 use Rattle.heap_calls.specs.Pins.{rising_from, rising}
 use Rattle.reach.specs.Marking.{State as Marks, marking}
@@ -124,8 +124,10 @@ module _ (T : Table) (l : Lent) (words : List ℕ) (g : Going) (n : ℕ) (order 
   -- ---- the ways out
 
   module _ {due : Bool} (asked : due ≡ gc_due (view l) n) (is-due : due ≡ true)
-      (e : ℕ) (q : e ≡ slot_count l + g.held) {l₁ : Lent} (reply : Reply) (d : Tells nothing nothing l l₁ reply (collect_call T (take (e - slot_count l) (drop (slot_count l) words)) [] (view l)))
-      (eS : slot_count l₁ ≡ slot_count l) where
+      (e : ℕ) (q : e ≡ slot_count l + g.held) {l₁ : Lent} (reply : Reply) (d : Tells nothing nothing l l₁ reply (collect_call T (take (e - slot_count l) (drop (slot_count l) words)) [] (view l))) where
+    eS : slot_count l₁ ≡ slot_count l
+    eS = ap slot_count d.leaves.lies ∙ slots-stored (slot_count l) (pool_size l) (collect_call T (take (e - slot_count l) (drop (slot_count l) words)) [] (view l)).heap
+
     abbrev c : Changed Unit
     c = collect_call T (take (e - slot_count l) (drop (slot_count l) words)) [] (view l)
 

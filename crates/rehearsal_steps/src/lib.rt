@@ -16,6 +16,7 @@ use refusal::Answer;
 use rehearsal_names::hold;
 use rehearsal_place::place;
 use script::AllocLine;
+use ty::Table;
 
 // A rehearsal under way: its heap, the sum of length plus 32 over live objects, how many entries of names are in use, and what is counted. An answer other than 0 has
 // ended it.
@@ -65,22 +66,21 @@ pub fn collect_due(
     let s = narrow.len() / 6;
     let e = s + g.held;
     let pins = [0u32; 0];
-    let done = collect::collect(
+    let table = Table {
         types,
         fields,
         consts,
         bytes,
-        g.heap,
+    };
+    let mut lent = ViewMut {
+        heap: g.heap,
         narrow,
         wide,
         pool,
-        &words[s..e],
-        &pins,
-        marks,
-        work,
-    );
-    let after = done.heap;
-    if done.reply.is_err() {
+    };
+    let reply = collect::collect(&table, &mut lent, &words[s..e], &pins, marks, work);
+    let after = lent.heap;
+    if reply.is_err() {
         return Going {
             heap: after,
             answer: 13,
