@@ -59,13 +59,11 @@ pub fn see<'a>(
         (entry_of result) (marks.new ∷ work.new ∷ []) }
     ensures shows { IfOk result (λ v. seen v ≡ lent heap narrow.now wide.now pool.now) }
 {
-    match enter(heap, narrow, wide, pool, marks, work) {
-        Err(why) => Err(why),
-        Ok(()) => Ok(View {
-            heap,
-            narrow,
-            wide,
-            pool,
-        }),
-    }
+    enter(heap, narrow, wide, pool, marks, work)?;
+    Ok(View {
+        heap,
+        narrow,
+        wide,
+        pool,
+    })
 }
