@@ -22,7 +22,7 @@ use Rattle.refusal.specs.Told.{Reply}
 use Rattle.std.specs.Prelude.{Err}
 use Rattle.door.specs.HeapCalls.{Test, test, admitted, whether, enough, heap_tests, zeros, scratch_after, Entered, Outcome, outcome_of, calling, Asked, asked_of, asking}
 use Rattle.door.specs.HeapCalls.{Entry, entry_of}
-use Rattle.std.specs.Prelude.{Result as Outcomes, Ok, IfOk}
+use Rattle.std.specs.Prelude.{Result as Outcomes, Ok, IfOk, MatchResult}
 use Rattle.std.proofs.lemmas.Result.{IfOk-at_ok}
 use Rattle.heap.specs.Seen.{seen, state}
 use Rattle.heap.specs.declared.view.View.{View}
@@ -188,6 +188,13 @@ pub ask-seen : (l : Lent) {scratch scratch' : List (List ℕ)} {tests : List Tes
     → {A : Type 0} (first second : A → ℕ) (question : State → Result A) {r a : Answer} → a ≡ answered first second (question (state v)) → r ≡ a → asked_of r scratch' ≡ asking first second scratch tests l question
 ask-seen l s i e first second question d t =
     ask-ready s first second l question (ap entry_of i) (d ∙ ap (λ (k : Lent). answered first second (question (view k))) (IfOk-at_ok (λ (u : View). seen u ≡ l) i e)) t
+
+-- what a question that is asked of the view answers, for a call
+pub ask-through : (l : Lent) {scratch scratch' : List (List ℕ)} {tests : List Test} (x : Outcomes View Refusal) (y : Reply) (Q : View → Type 0) {r : Answer}
+    → Entered scratch tests (entry_of x) scratch' → IfOk x (λ u. seen u ≡ l) → MatchResult x Q (λ e. y ≡ Err e) → {A : Type 0} (first second : A → ℕ) (question : State → Result A)
+    → ((v : View) → Q v → told y ≡ answered first second (question (state v))) → r ≡ told y → asked_of r scratch' ≡ asking first second scratch tests l question
+ask-through l (Ok v) y Q s i m first second question d t = ask-ready s first second l question refl (d v m ∙ ap (λ (k : Lent). answered first second (question (view k))) i) t
+ask-through l (Err why) y Q s i m first second question d t = ask-refused s first second l question refl (t ∙ ap told m)
 
 -- scratch list by list
 pub marks-zero : {m m' : List ℕ} {ss ss' : List (List ℕ)} {tests : List Test} {e : Entry} → Entered (m ∷ ss) tests e (m' ∷ ss') → e ≡ ready → m' ≡ zeros m

@@ -34,10 +34,9 @@ pub fn yexwalu_gc_due(
         ≡ heap_ask bit nothing marks.old work.old
         (lent heap narrow.now wide.now pool.now) (λ h. ok (gc_due h threshold)) }
 {
-    match see(heap, narrow, wide, pool, marks, work) {
-        Err(why) => Answer::from(Err(why)),
-        Ok(view) => Answer::from(yes(view.gc_due(threshold))),
-    }
+    Answer::from(see(heap, narrow, wide, pool, marks, work).and_then(|view| yes(view.gc_due(
+        threshold,
+    ))))
 }
 
 // Are there so many slots in quarantine that they should be recycled? First: 1 for yes, 0 for no.
@@ -53,10 +52,9 @@ pub fn yexwalu_reclaim_due(
         ≡ heap_ask bit nothing marks.old work.old
         (lent heap narrow.now wide.now pool.now) (λ h. ok (reclaim_due h)) }
 {
-    match see(heap, narrow, wide, pool, marks, work) {
-        Err(why) => Answer::from(Err(why)),
-        Ok(view) => Answer::from(yes(view.reclaim_due())),
-    }
+    Answer::from(see(heap, narrow, wide, pool, marks, work).and_then(|view| yes(
+        view.reclaim_due(),
+    )))
 }
 
 // Is a slot in quarantine? First: 1 for yes, 0 for no.
@@ -72,10 +70,9 @@ pub fn yexwalu_has_quarantine(
         ≡ heap_ask bit nothing marks.old work.old
         (lent heap narrow.now wide.now pool.now) (λ h. ok (has_quarantine h)) }
 {
-    match see(heap, narrow, wide, pool, marks, work) {
-        Err(why) => Answer::from(Err(why)),
-        Ok(view) => Answer::from(yes(view.has_quarantine())),
-    }
+    Answer::from(see(heap, narrow, wide, pool, marks, work).and_then(|view| yes(
+        view.has_quarantine(),
+    )))
 }
 
 // Is it the heap of this tag, with nothing sealed? First: 1 for yes, 0 for no.
@@ -92,10 +89,9 @@ pub fn yexwalu_is_plain(
         ≡ heap_ask bit nothing marks.old work.old
         (lent heap narrow.now wide.now pool.now) (λ h. ok (is_plain h tag)) }
 {
-    match see(heap, narrow, wide, pool, marks, work) {
-        Err(why) => Answer::from(Err(why)),
-        Ok(view) => Answer::from(yes(view.is_plain(tag))),
-    }
+    Answer::from(see(heap, narrow, wide, pool, marks, work).and_then(|view| yes(view.is_plain(
+        tag,
+    ))))
 }
 
 // First: the number of slots, live and dead.
@@ -111,10 +107,7 @@ pub fn yexwalu_slots(
         ≡ heap_ask here nothing marks.old work.old
         (lent heap narrow.now wide.now pool.now) (λ h. ok (length h.slots)) }
 {
-    match see(heap, narrow, wide, pool, marks, work) {
-        Err(why) => Answer::from(Err(why)),
-        Ok(view) => Answer::from(Ok((view.slots(), 0))),
-    }
+    Answer::from(see(heap, narrow, wide, pool, marks, work).map(|view| (view.slots(), 0)))
 }
 
 // First: the number of live slots.
@@ -130,10 +123,7 @@ pub fn yexwalu_live(
         ≡ heap_ask here nothing marks.old work.old
         (lent heap narrow.now wide.now pool.now) (λ h. ok (live_count h.slots)) }
 {
-    match see(heap, narrow, wide, pool, marks, work) {
-        Err(why) => Answer::from(Err(why)),
-        Ok(view) => Answer::from(Ok((view.live(), 0))),
-    }
+    Answer::from(see(heap, narrow, wide, pool, marks, work).map(|view| (view.live(), 0)))
 }
 
 // First: the slot that a handle leads to.
@@ -150,10 +140,9 @@ pub fn yexwalu_resolve(
         ≡ heap_ask here nothing marks.old work.old
         (lent heap narrow.now wide.now pool.now) (λ h. resolved h handle) }
 {
-    match see(heap, narrow, wide, pool, marks, work) {
-        Err(why) => Answer::from(Err(why)),
-        Ok(view) => Answer::from(heap_edit::resolve(view, handle)),
-    }
+    Answer::from(see(heap, narrow, wide, pool, marks, work).and_then(|view| heap_edit::resolve(
+        view, handle,
+    )))
 }
 
 // Where the visible data of slot `i` lies. First: from where in the pool on; second: how many bytes.
@@ -170,10 +159,7 @@ pub fn yexwalu_data(
         ≡ heap_ask (λ (p : Place). p.from) (λ (p : Place). p.size) marks.old work.old
         (lent heap narrow.now wide.now pool.now) (λ h. place_at h i) }
 {
-    match see(heap, narrow, wide, pool, marks, work) {
-        Err(why) => Answer::from(Err(why)),
-        Ok(view) => Answer::from(view.data(i)),
-    }
+    Answer::from(see(heap, narrow, wide, pool, marks, work).and_then(|view| view.data(i)))
 }
 
 // First: the kind of slot `i`; second: its type.
@@ -190,10 +176,7 @@ pub fn yexwalu_kind(
         ≡ heap_ask (λ (k : Kind). k.kind) (λ (k : Kind). k.type) marks.old work.old
         (lent heap narrow.now wide.now pool.now) (λ h. kind_at h i) }
 {
-    match see(heap, narrow, wide, pool, marks, work) {
-        Err(why) => Answer::from(Err(why)),
-        Ok(view) => Answer::from(view.kind(i)),
-    }
+    Answer::from(see(heap, narrow, wide, pool, marks, work).and_then(|view| view.kind(i)))
 }
 
 // First: the generation of slot `i`; second: its write count.
@@ -210,10 +193,7 @@ pub fn yexwalu_stamp(
         ≡ heap_ask (λ (s : Stamp). s.generation) (λ (s : Stamp). s.writes) marks.old work.old
         (lent heap narrow.now wide.now pool.now) (λ h. stamp_at h i) }
 {
-    match see(heap, narrow, wide, pool, marks, work) {
-        Err(why) => Answer::from(Err(why)),
-        Ok(view) => Answer::from(view.stamp(i)),
-    }
+    Answer::from(see(heap, narrow, wide, pool, marks, work).and_then(|view| view.stamp(i)))
 }
 
 // ---- changes in place

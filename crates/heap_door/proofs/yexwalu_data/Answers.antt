@@ -1,11 +1,7 @@
 -- `heap_door::yexwalu_data` meets its contract.
-use Rattle.std.proofs.Common.{ap}
-use Rattle.door.specs.HeapCalls.{entry_of}
-use Rattle.door.proofs.Entering.{ask-refused, ask-seen}
+use Rattle.std.proofs.Common.{rules}
+use Rattle.door.proofs.Entering.{ask-through}
 use Rattle.heap_door.proofs.yexwalu_data.Goals as goal
 
-pub returns-in-Err : goal.returns-in-Err
-returns-in-Err c = ask-refused c.see.ensures.entered _ _ _ _ (ap entry_of c.in-Err.is) c.from.ensures
-
-pub returns-in-Ok : goal.returns-in-Ok
-returns-in-Ok c = ask-seen _ c.see.ensures.entered c.in-Ok.is c.see.ensures.shows _ _ _ c.data.ensures c.from-in-Ok.ensures
+pub returns : goal.returns
+returns c = ask-through _ c.see.result c.and_then.result _ c.see.ensures.entered c.see.ensures.shows c.and_then.ensures _ _ _ (λ v p. search rules) c.from.ensures

@@ -1,14 +1,7 @@
 -- `heap_door::yexwalu_gc_due` meets its contract.
-use Rattle.std.proofs.Common.{Bool, ap, ◌∙◌}
-use Rattle.word.specs.Result.{ok}
-use Rattle.refusal.specs.Told.{answered, nothing}
-use Rattle.heap.specs.State.{bit}
-use Rattle.door.specs.HeapCalls.{entry_of}
-use Rattle.door.proofs.Entering.{ask-refused, ask-seen}
+use Rattle.std.proofs.Common.{rules}
+use Rattle.door.proofs.Entering.{ask-through}
 use Rattle.heap_door.proofs.yexwalu_gc_due.Goals as goal
 
-pub returns-in-Err : goal.returns-in-Err
-returns-in-Err c = ask-refused c.see.ensures.entered _ _ _ _ (ap entry_of c.in-Err.is) c.from.ensures
-
-pub returns-in-Ok : goal.returns-in-Ok
-returns-in-Ok c = ask-seen _ c.see.ensures.entered c.in-Ok.is c.see.ensures.shows _ _ _ (c.yes.ensures ∙ ap (λ (b : Bool). answered bit nothing (ok b)) c.gc_due.ensures) c.from-in-Ok.ensures
+pub returns : goal.returns
+returns c = ask-through _ c.see.result c.and_then.result _ c.see.ensures.entered c.see.ensures.shows c.and_then.ensures _ _ _ (λ v p. search rules) c.from.ensures
