@@ -21,12 +21,17 @@ use Rattle.page_reader.specs.Reading.{bits_met, names_met, in_range, Left, left,
 use Rattle.page_reader.proofs.Loaded.{in-range, passed, few-numbers}
 use Rattle.page_door.specs.Page.{reading}
 use Rattle.figures.specs.declared.Figures.{Figures}
-use Rattle.figures.specs.declared.Shown.{Shown}
+use Rattle.std.specs.Prelude.{Result as Answered, Ok, Err, IfOk}
 use Rattle.figures.specs.Figures.{no_figures, figures_of, page_figures}
-use Rattle.figures.specs.Inner.Counting.{shown_as, Lies, Small}
+use Rattle.figures.specs.Inner.Counting.{shown_as, line_of, Lies, Small}
 
 pub small-none : Small no_figures
 small-none = record { objects = omega arith; bytes = omega arith }
+
+-- what is shown is within a page's heap
+pub small-line : (r : Answered Figures ℕ) → IfOk r Small → Small (line_of r).1
+small-line (Ok f) s = s
+small-line (Err n) s = small-none
 
 -- what was read: a heap that lies in lent memory now, or a refusal
 data Was (v : Result State) (a : Answer) (l' : Lent) : Type 0 where
@@ -79,13 +84,13 @@ module _ (h : Heap) (narrow wide pool marks work text : List ℕ) (n : length na
           turned i e (ap (λ (y : Answer). y.number) answer-is ∙ ap (λ (y : Result State). (answered bits_met names_met (left l (form_in text) y).answer).number) e)
 
   -- a refusal
-  pub show-refused : (a.number ≡ 0 → ⊥) → ◌≡◌ {A = Shown} (record { answer = a.number; figures = no_figures }) (shown_as (page_figures text))
+  pub show-refused : (a.number ≡ 0 → ⊥) → ◌≡◌ {A = Answered Figures ℕ} (Err a.number) (shown_as (page_figures text))
   unfolding page_figures
   show-refused z = go was
     where
-      go : Was v a l' → ◌≡◌ {A = Shown} (record { answer = a.number; figures = no_figures }) (shown_as (page_figures text))
+      go : Was v a l' → ◌≡◌ {A = Answered Figures ℕ} (Err a.number) (shown_as (page_figures text))
       go (taken s e y r) = absurd (z y)
-      go (turned i e y) = rw e (λ j. record { answer = y j; figures = no_figures })
+      go (turned i e y) = rw e (ap Err y)
 
   module _ (z : a.number ≡ 0) where
     lies-as : (s : State) → v ≡ ok s → l' ≡ stored 4096 16384 s → (view l' ≡ s) × Lies l'
@@ -108,10 +113,10 @@ module _ (h : Heap) (narrow wide pool marks work text : List ℕ) (n : length na
         go (taken s e y r) = (lies-as s e r).1
         go (turned i e y) = absurd (omega (arith, few-numbers true 4096 16384 (read_page text) i e))
 
-    pub show-done : (f : Figures) → f ≡ figures_of (view l').slots → ◌≡◌ {A = Shown} (record { answer = 0; figures = f }) (shown_as (page_figures text))
+    pub show-done : (f : Figures) → f ≡ figures_of (view l').slots → ◌≡◌ {A = Answered Figures ℕ} (Ok f) (shown_as (page_figures text))
     unfolding page_figures
     show-done f g = go was
       where
-        go : Was v a l' → ◌≡◌ {A = Shown} (record { answer = 0; figures = f }) (shown_as (page_figures text))
-        go (taken s e y r) = rw e (λ j. record { answer = 0; figures = (g ∙ ap (λ (x : State). figures_of x.slots) (lies-as s e r).0) j })
+        go : Was v a l' → ◌≡◌ {A = Answered Figures ℕ} (Ok f) (shown_as (page_figures text))
+        go (taken s e y r) = rw e (ap Ok (g ∙ ap (λ (x : State). figures_of x.slots) (lies-as s e r).0))
         go (turned i e y) = absurd (omega (arith, few-numbers true 4096 16384 (read_page text) i e))

@@ -1,7 +1,7 @@
 // Figures of a page: how many objects it has, the bytes of their data and the largest of them; and the line that is printed of it.
 #![tactic(auto)]
 
-ghost use Rattle.std.specs.Prelude.{◌≡◌, [], ◌∷◌, ◌++◌, ◌+◌, ◌^◌, ◌≤◌, ◌<◌, max, ltb, length, take, if◌then◌else◌};
+ghost use Rattle.std.specs.Prelude.{◌≡◌, [], ◌∷◌, ◌++◌, ◌+◌, ◌^◌, ◌≤◌, ◌<◌, max, ltb, length, if◌then◌else◌, IfOk};
 ghost use Rattle.word.specs.Result.{refused};
 ghost use Rattle.text.specs.Text.{decimal};
 ghost use Rattle.text.specs.Put.{Puts};
@@ -58,6 +58,7 @@ impl Figures {
         }
     }
 
+    // Kept: mean and rest are of one shape, a word of std each; a function that took which would say no less.
     fn mean(self) -> u64
         ensures { result ≡ mean_of self }
     {
@@ -88,52 +89,43 @@ fn count(heap: Heap, narrow: &[u32; 24576], wide: &[u64; 16384], pool: &[u8; 163
     figures
 }
 
-// What a page shows: its answer, and its figures; zeros after a refusal.
-#[derive(Clone, Copy)]
-pub struct Shown {
-    pub answer: u64,
-    pub figures: Figures,
+// What a page shows that is not looked at, or that is no page: 17.
+pub fn no_page() -> Result<Figures, u64>
+    ensures { result ≡ shown_as (refused 17) }
+{
+    Err(17)
 }
 
-// A page that is not looked at, or that is no page: 17.
-pub fn no_page() -> Shown
-    ensures value { result ≡ shown_as (refused 17) }
-    ensures small { Small result.figures }
-{
-    Shown {
-        answer: 17,
-        figures: Figures::none(),
-    }
+// The memory that a page is read into, and the scratch of the call. What it holds from page to page means nothing.
+#[derive(Drop)]
+pub struct Memory {
+    pub narrow: [u32; 24576],
+    pub wide: [u64; 16384],
+    pub pool: [u8; 16384],
+    pub marks: [u8; 4096],
+    pub work: [u64; 4096],
 }
 
-// Reads a page, the first `n` bytes of `held`, into the lent heap, whatever that held before, and counts its objects.
-pub fn show(
-    held: &[u8],
-    n: usize,
-    narrow: &mut [u32; 24576],
-    wide: &mut [u64; 16384],
-    pool: &mut [u8; 16384],
-    marks: &mut [u8; 4096],
-    work: &mut [u64; 4096],
-) -> Shown
-    requires { n ≤ length held.now }
-    ensures value { result ≡ shown_as (page_figures (take n held.now)) }
-    ensures small { Small result.figures }
-{
-    let text = &held[..n];
-    let done = page_door::yexwalu_read_page(Heap::new(0), narrow, wide, pool, text, marks, work);
-    let answer = done.answer;
-    let number = answer.number;
-    if number != 0 {
-        return Shown {
-            answer: number,
-            figures: Figures::none(),
-        };
-    }
-    let heap = done.heap;
-    Shown {
-        answer: 0,
-        figures: count(heap, narrow, wide, pool),
+impl Memory {
+    // Reads a page, whatever the memory held before, and counts its objects; the number of its refusal where it can't be read.
+    pub fn show(&mut self, text: &[u8]) -> Result<Figures, u64>
+        ensures value { result ≡ shown_as (page_figures text.now) }
+        ensures small { IfOk result Small }
+    {
+        let done = page_door::yexwalu_read_page(
+            Heap::new(0),
+            &mut self.narrow,
+            &mut self.wide,
+            &mut self.pool,
+            text,
+            &mut self.marks,
+            &mut self.work,
+        );
+        let number = done.answer.number;
+        if number != 0 {
+            return Err(number);
+        }
+        Ok(count(done.heap, &self.narrow, &self.wide, &self.pool))
     }
 }
 

@@ -11,7 +11,7 @@ use Rattle.std.specs.Prelude.{if◌then◌else◌}
 use Rattle.word.specs.Result.{Result, refused}
 use Rattle.word.proofs.Bools.{positive}
 use Rattle.figures.specs.declared.Figures.{Figures}
-use Rattle.figures.specs.declared.Shown.{Shown}
+use Rattle.std.specs.Prelude.{Result as Outcome}
 use Rattle.figures.specs.Figures.{page_figures}
 use Rattle.figures.specs.Inner.Counting.{shown_as}
 use Rattle.shelves.specs.declared.At.{At}
@@ -34,13 +34,18 @@ module _ (s : Shelf) (good : Good s) (held input out held' : List ℕ) (used to 
       ap (λ (rs : List (Result Figures)). take to out ++ printed (s.pages + 1) s.total rs)
       (t.same (999999 - s.pages) failed rest ∙ ap (λ (y : Next). left_next (999999 - s.pages) failed held' y (drop used input ++ rest)) e)
 
+  pub good-still : (at : At) → next ≡ Still at → Good (record { pages = s.pages; total = s.total; at = at })
+  good-still at e =
+      let u : Takes s.at held input (Still at) used held' = subst (λ (x : Next). Takes s.at held input x used held') e t in
+      record { at = u.good; pages = omega (arith, good.pages, u.most); objects = good.objects; bytes = good.bytes }
+
   -- no page has ended
   pub goes-still : (at : At) → next ≡ Still at → to ≤ 65536 → Goes s held input out to (record { pages = s.pages; total = s.total; at = at }) held' out used to
   unfolding text_left left_next
   goes-still at e l =
       let u : Takes s.at held input (Still at) used held' = subst (λ (x : Next). Takes s.at held input x used held') e t in
       record {
-        good = record { at = u.good; pages = omega (arith, good.pages, u.most); objects = good.objects; bytes = good.bytes };
+        good = good-still at e;
         inside = t.inside;
         some = t.some;
         room = l;
@@ -53,33 +58,32 @@ module _ (s : Shelf) (good : Good s) (held input out held' : List ℕ) (used to 
   pub whole-small : (n : ℕ) → next ≡ Whole n → n ≤ 32768
   whole-small n e = subst GoodNext e t.good
 
-  module _ {sh : Shown} {s' : Shelf} {out' : List ℕ} {to' : ℕ} (a : Answers s sh out to s' out' to') where
-    goes-answer : (x : Next) → next ≡ x → (used' : ℕ) → used' ≡ used →
+  module _ {sh : Outcome Figures ℕ} {s' : Shelf} {out' : List ℕ} {to' : ℕ} (a : Answers s sh out to s' out' to') where
+    goes-answer : (x : Next) → next ≡ x →
         ((failed : Bool) (rest : List ℕ) → take to out ++ printed (s.pages + 1) s.total (left_next (999999 - s.pages) failed held' x rest) ≡ take to' out' ++ text_left s' failed held' rest) →
-        Goes s held input out to s' held' out' used' to'
-    goes-answer x e used' v same =
-        subst (λ (u : ℕ). Goes s held input out to s' held' out' u to') (sym v)
-        (record {
+        Goes s held input out to s' held' out' used to'
+    goes-answer x e same =
+        record {
           good = a.good;
           inside = t.inside;
           some = t.some;
           room = a.room;
           same = λ failed rest. left_as x e failed rest ∙ same failed (drop used input ++ rest);
-        })
+        }
 
     -- a page is whole
-    pub goes-whole : (n : ℕ) → next ≡ Whole n → sh ≡ shown_as (page_figures (take n held')) → (used' : ℕ) → used' ≡ used → Goes s held input out to s' held' out' used' to'
+    pub goes-whole : (n : ℕ) → next ≡ Whole n → sh ≡ shown_as (page_figures (take n held')) → Goes s held input out to s' held' out' used to'
     unfolding left_next
-    goes-whole n e z used' v =
+    goes-whole n e z =
         let u : Takes s.at held input (Whole n) used held' = subst (λ (x : Next). Takes s.at held input x used held') e t in
         let r : Result Figures = shown (whole (take n held')) in
         let y : sh ≡ shown_as r = z ∙ ap shown_as (shown-page n held' u.good) in
-        goes-answer (Whole n) e used' v (λ failed rest. a.same r y failed held' rest)
+        goes-answer (Whole n) e (λ failed rest. a.same r y failed held' rest)
 
     -- a longer page was passed over
-    pub goes-passed : next ≡ Passed → sh ≡ shown_as (refused 17) → (used' : ℕ) → used' ≡ used → Goes s held input out to s' held' out' used' to'
+    pub goes-passed : next ≡ Passed → sh ≡ shown_as (refused 17) → Goes s held input out to s' held' out' used to'
     unfolding left_next
-    goes-passed e z used' v = goes-answer Passed e used' v (λ failed rest. a.same (refused 17) z failed held' rest)
+    goes-passed e z = goes-answer Passed e (λ failed rest. a.same (refused 17) z failed held' rest)
 
 -- a part of the input that runs to its end
 pub rest_of : (l : List ℕ) (a : ℕ) → take (length l - a) (drop a l) ≡ drop a l

@@ -15,9 +15,9 @@ use Rattle.text.specs.Text.{ascii}
 use Rattle.text.specs.Put.{put_text, Puts}
 use Rattle.text.proofs.Putting.{puts-puts, puts-at}
 use Rattle.figures.specs.declared.Figures.{Figures}
-use Rattle.figures.specs.declared.Shown.{Shown}
+use Rattle.std.specs.Prelude.{Result as Outcome}
 use Rattle.figures.specs.Figures.{no_figures, merge, total, figures_line}
-use Rattle.figures.specs.Inner.Counting.{Small, shown_as}
+use Rattle.figures.specs.Inner.Counting.{Small, shown_as, line_of}
 use Rattle.figures.proofs.Totals.{merge_none, none-merge, merge-assoc}
 use Rattle.shelves.specs.declared.At.{At}
 use Rattle.shelves.specs.declared.At.TheVariants.{Line, Page as InPage, Passing, Over}
@@ -28,20 +28,20 @@ use Rattle.shelves.proofs.Taking.{bytes-short, over-short}
 
 -- one page more: a refused one adds zeros
 total-shown : (t : Figures) (r : Result Figures) (rs : List (Result Figures)) →
-    merge t (total (accepted (r ∷ rs))) ≡ merge (merge t (shown_as r).figures) (total (accepted rs))
+    merge t (total (accepted (r ∷ rs))) ≡ merge (merge t (line_of (shown_as r)).1) (total (accepted rs))
 total-shown t (ok f) rs = sym (merge-assoc t f (total (accepted rs)))
 total-shown t (refused n) rs = ap (λ (x : Figures). merge x (total (accepted rs))) (sym (merge_none t))
 
-line-shown : (k : ℕ) (r : Result Figures) → answer_line k r ≡ figures_line k (shown_as r).answer (shown_as r).figures
+line-shown : (k : ℕ) (r : Result Figures) → answer_line k r ≡ figures_line k (line_of (shown_as r)).0 (line_of (shown_as r)).1
 unfolding answer_line
 line-shown k (ok f) = refl
 line-shown k (refused n) = refl
 
 -- the first line, and the others
-print-on : (k : ℕ) (t : Figures) (r : Result Figures) (rs : List (Result Figures)) → printed k t (r ∷ rs) ≡ answer_line k r ++ printed (k + 1) (merge t (shown_as r).figures) rs
+print-on : (k : ℕ) (t : Figures) (r : Result Figures) (rs : List (Result Figures)) → printed k t (r ∷ rs) ≡ answer_line k r ++ printed (k + 1) (merge t (line_of (shown_as r)).1) rs
 unfolding printed answer_lines
 print-on k t r rs =
-    let u : Figures = merge (merge t (shown_as r).figures) (total (accepted rs)) in
+    let u : Figures = merge (merge t (line_of (shown_as r)).1) (total (accepted rs)) in
     ap (λ (x : Figures). (answer_line k r ++ answer_lines (suc k) rs) ++ figures_line 0 0 x) (total-shown t r rs)
     ∙ append_assoc (answer_line k r) (answer_lines (suc k) rs) (figures_line 0 0 u)
     ∙ ap (λ (m : ℕ). answer_line k r ++ (answer_lines m rs ++ figures_line 0 0 u)) (sym (add-one k))
@@ -78,20 +78,21 @@ module _ (s : Shelf) (f : Figures) (s' : Shelf) (a : After s f s') where
       ∙ ap (λ (x : List (Result Figures)). printed (s.pages + 1 + 1) (merge s.total f) x) (a.at.same failed held rest)
       ∙ (λ j. printed (sym a.pages j + 1) (sym a.total j) (left_at (999999 - sym a.pages j) failed held s'.at rest))
 
-pub answered : (s : Shelf) (sh : Shown) (out out' : List ℕ) (from to : ℕ) (s' : Shelf) → from ≤ length out → to ≤ 65536 →
-    Puts out out' from to (figures_line (s.pages + 1) sh.answer sh.figures) → After s sh.figures s' → Answers s sh out from s' out' to
-answered s sh out out' from to s' h l p a =
+pub answered : (s : Shelf) (sh : Outcome Figures ℕ) (n : ℕ) (f : Figures) → (n, f) ≡ line_of sh → (out out' : List ℕ) (from to : ℕ) (s' : Shelf) → from ≤ length out → to ≤ 65536 →
+    Puts out out' from to (figures_line (s.pages + 1) n f) → After s f s' → Answers s sh out from s' out' to
+answered s sh n f is out out' from to s' h l p a =
     record {
       good = a.good;
       room = l;
       same = λ r e failed held rest.
           let k : ℕ = s.pages + 1 in
           let rs : List (Result Figures) = answers_in (999999 - s.pages) failed rest in
-          let line : List ℕ = figures_line k sh.answer sh.figures in
-          let same_line : answer_line k r ≡ line = line-shown k r ∙ (λ j. figures_line k (sym e j).answer (sym e j).figures) in
+          let line : List ℕ = figures_line k n f in
+          let q : line_of (shown_as r) ≡ (n, f) = sym (is ∙ ap line_of e) in
+          let same_line : answer_line k r ≡ line = line-shown k r ∙ ap (λ (x : ℕ × Figures). figures_line k x.0 x.1) q in
           ap (λ (x : List ℕ). take from out ++ x) (print-on k s.total r rs)
-          ∙ (λ j. take from out ++ (same_line j ++ printed (k + 1) (merge s.total (sym e j).figures) rs))
-          ∙ ap (λ (x : List ℕ). take from out ++ (line ++ x)) (text-next s sh.figures s' a failed held rest)
+          ∙ (λ j. take from out ++ (same_line j ++ printed (k + 1) (merge s.total (q j).1) rs))
+          ∙ ap (λ (x : List ℕ). take from out ++ (line ++ x)) (text-next s f s' a failed held rest)
           ∙ sym (append_assoc (take from out) line (text_left s' failed held rest))
           ∙ ap (λ (x : List ℕ). x ++ text_left s' failed held rest) (sym (puts-take p h));
     }

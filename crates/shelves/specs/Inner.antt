@@ -1,2 +1,3 @@
 -- What only the contracts of inner functions cite.
 pub mod Steps
+pub mod Props

@@ -1,13 +1,16 @@
 // Figures for a whole shelf: what each page of an input shows, and the totals over all that are accepted. A run goes through the input as it comes: `begin`, `go_on` with each
-// part of it, `finish`. Their contracts say that what they print is, put together, the text that `shelfText` gives for the whole input. The heap and its scratch are lent for
-// the pages to be read into, and what they hold afterwards means nothing.
+// part of it, `finish`. Their contracts say that what they print is, put together, the text that `shelf_text` gives for the whole input.
 #![tactic(auto)]
 
 ghost use Rattle.std.specs.Prelude.{◌≡◌, ◌||◌, List, ℕ, ◌+◌, ◌*◌, ◌≤◌, min, eqb, ltb};
-ghost use Rattle.figures.specs.Inner.Counting.{Small};
+ghost use Rattle.figures.specs.Inner.Counting.{line_of, Small};
 ghost use Rattle.shelves.specs.Inner.Steps.{GoodAt, Good, Begins, Reads, Takes, Due, After, Answers, Goes, Begun, Ends, is_over, is_cut_off};
 
-use figures::{Figures, Shown};
+use figures::{Figures, Memory};
+
+mod reading;
+
+pub use reading::Reading;
 
 // Where a run stands in its input.
 // Kept: four states with names, none of them an absence or an error; `None` for the end would say less than `Over`.
@@ -144,6 +147,7 @@ fn take_line(k: u64, n: u64, input: &[u8]) -> Taken
 }
 
 // Takes in one byte of a length line, or as much of a page as there is.
+// Kept: where the run stands says what is due, and each step needs other numbers of it; closures would have to be chosen by the same match.
 fn take_in(at: At, input: &[u8], held: &mut [u8; 32768]) -> Taken
     requires { GoodAt at }
     ensures { Takes at held.old input.now result.next result.used held.new }
@@ -201,118 +205,30 @@ impl Shelf {
     }
 }
 
-// Where a run stands after a step, how many bytes of the input it took, and where in the output it ended.
-#[derive(Clone, Copy)]
-pub struct Progress {
-    pub shelf: Shelf,
-    pub used: usize,
-    pub to: usize,
-}
-
-// A page has ended: its line, and the totals with it.
-fn answer(shelf: Shelf, shown: Shown, used: usize, out: &mut [u8; 65536], to: usize) -> Progress
-    requires pages_bound { (shelf.pages ≤ 999999) × (shelf.total.objects ≤ 4096 * shelf.pages) × (shelf.total.bytes ≤ 16384 * shelf.pages) × Small shown.figures }
-    requires to_bound { to + 160 ≤ 65536 }
-    ensures answers { Answers shelf shown out.old to result.shelf out.new result.to }
-    ensures used_value { result.used ≡ used }
+// The number and the figures that a page's line shows: zeros after a refusal.
+fn line_of(shown: Result<Figures, u64>) -> (u64, Figures)
+    ensures { result ≡ line_of shown }
 {
-    let figures = shown.figures;
-    let end = figures::put_line(out, to, shelf.pages + 1, shown.answer, figures);
-    Progress {
-        shelf: shelf.after(figures),
-        used,
-        to: end,
+    match shown {
+        Ok(figures) => (0, figures),
+        Err(number) => (number, Figures::none()),
     }
 }
 
-// Takes in some input, and puts the line of a page that has ended.
-fn step(
+// A page has ended: its line, and the totals with it; and where in the output the line ends.
+fn answer(
     shelf: Shelf,
-    input: &[u8],
-    held: &mut [u8; 32768],
-    narrow: &mut [u32; 24576],
-    wide: &mut [u64; 16384],
-    pool: &mut [u8; 16384],
+    shown: Result<Figures, u64>,
     out: &mut [u8; 65536],
     to: usize,
-    marks: &mut [u8; 4096],
-    work: &mut [u64; 4096],
-) -> Progress
-    requires { Good shelf × (to + 160 ≤ 65536) }
-    ensures { Goes shelf held.old input.now out.old to result.shelf held.new out.new result.used result.to }
+) -> (Shelf, usize)
+    requires pages_bound { (shelf.pages ≤ 999999) × (shelf.total.objects ≤ 4096 * shelf.pages) × (shelf.total.bytes ≤ 16384 * shelf.pages) × Small (line_of shown).1 }
+    requires to_bound { to + 160 ≤ 65536 }
+    ensures { Answers shelf shown out.old to result.0 out.new result.1 }
 {
-    let taken = take_in(shelf.at, input, held);
-    match taken.next {
-        Next::Still(now) => {
-            Progress {
-                shelf: Shelf { at: now, ..shelf },
-                used: taken.used,
-                to,
-            }
-        }
-        Next::Whole(n) => {
-            let shown = figures::show(held, n, narrow, wide, pool, marks, work);
-            answer(shelf, shown, taken.used, out, to)
-        }
-        Next::Passed => answer(shelf, figures::no_page(), taken.used, out, to),
-    }
-}
-
-// The names line, and a run at its start.
-pub fn begin(out: &mut [u8; 65536]) -> Progress
-    ensures { Begun result.shelf out.new result.to }
-{
-    let to = text::put_literal(out, 0, b"page,answer,objects,bytes,largest,mean,rest\n");
-    Progress {
-        shelf: Shelf {
-            pages: 0,
-            total: Figures::none(),
-            at: due(0),
-        },
-        used: 0,
-        to,
-    }
-}
-
-// Goes through the next bytes of the input, until all are taken in or the output has no room for one more line.
-pub fn go_on(
-    shelf: Shelf,
-    input: &[u8],
-    held: &mut [u8; 32768],
-    narrow: &mut [u32; 24576],
-    wide: &mut [u64; 16384],
-    pool: &mut [u8; 16384],
-    out: &mut [u8; 65536],
-    marks: &mut [u8; 4096],
-    work: &mut [u64; 4096],
-) -> Progress
-    requires { Good shelf }
-    ensures { Goes shelf held.old input.now out.old 0 result.shelf held.new out.new result.used result.to }
-{
-    let mut s = shelf;
-    let mut used = 0;
-    let mut to = 0;
-    while used < input.len() {
-        if 65376 < to {
-            return Progress { shelf: s, used, to };
-        }
-        let now = step(
-            s,
-            &input[used..],
-            held,
-            narrow,
-            wide,
-            pool,
-            out,
-            to,
-            marks,
-            work,
-        );
-        s = now.shelf;
-        used += now.used;
-        to = now.to;
-    }
-    Progress { shelf: s, used, to }
+    let (number, figures) = line_of(shown);
+    let end = figures::put_line(out, to, shelf.pages + 1, number, figures);
+    (shelf.after(figures), end)
 }
 
 // Is a page begun or, where the input could not be read on, due?
@@ -326,14 +242,99 @@ fn is_cut_off(at: At, failed: bool) -> bool
     }
 }
 
-// The line of a page that was cut off, if there is one, and the last line.
-pub fn finish(shelf: Shelf, failed: bool, out: &mut [u8; 65536]) -> usize
-    requires { Good shelf }
-    ensures { Ends shelf failed out.new result }
+// How many bytes of the input a step took, and where in the output it ended.
+#[derive(Clone, Copy)]
+pub struct Progress {
+    pub used: usize,
+    pub to: usize,
+}
+
+// Takes in some input, and puts the line of a page that has ended.
+fn step(
+    shelf: Shelf,
+    held: &mut [u8; 32768],
+    memory: &mut Memory,
+    input: &[u8],
+    out: &mut [u8; 65536],
+    to: usize,
+) -> (Shelf, Progress)
+    requires { Good shelf × (to + 160 ≤ 65536) }
+    ensures { Goes shelf held.old input.now out.old to result.0 held.new out.new result.1.used result.1.to }
 {
-    if is_cut_off(shelf.at, failed) {
-        let to = figures::put_line(out, 0, shelf.pages + 1, 17, Figures::none());
-        return figures::put_line(out, to, 0, 0, shelf.total);
+    let taken = take_in(shelf.at, input, held);
+    let used = taken.used;
+    match taken.next {
+        Next::Still(at) => (Shelf { at, ..shelf }, Progress { used, to }),
+        Next::Whole(n) => {
+            let shown = memory.show(&held[..n]);
+            let (after, to) = answer(shelf, shown, out, to);
+            (after, Progress { used, to })
+        }
+        Next::Passed => {
+            let (after, to) = answer(shelf, figures::no_page(), out, to);
+            (after, Progress { used, to })
+        }
     }
-    figures::put_line(out, 0, 0, 0, shelf.total)
+}
+
+impl Reading {
+    // The names line, and a run at its start; and where in the output the line ends.
+    // Kept: a library has memory of fixed size, a rule of the project.
+    pub fn begin(out: &mut [u8; 65536]) -> (Reading, usize)
+        ensures { Begun result.0.shelf out.new result.1 }
+    {
+        let to = text::put_literal(out, 0, b"page,answer,objects,bytes,largest,mean,rest\n");
+        let shelf = Shelf {
+            pages: 0,
+            total: Figures::none(),
+            at: due(0),
+        };
+        let memory = Memory {
+            narrow: [0; 24576],
+            wide: [0; 16384],
+            pool: [0; 16384],
+            marks: [0; 4096],
+            work: [0; 4096],
+        };
+        let reading = Reading {
+            shelf,
+            held: [0; 32768],
+            memory,
+        };
+        (reading, to)
+    }
+
+    // Goes through the next bytes of the input, until all are taken in or the output has no room for one more line.
+    pub fn go_on(&mut self, input: &[u8], out: &mut [u8; 65536]) -> Progress
+        ensures { Goes self.old.shelf self.old.held input.now out.old 0
+            self.new.shelf self.new.held out.new result.used result.to }
+    {
+        let mut used = 0;
+        let mut to = 0;
+        // Kept: how much a turn takes is what the run makes of it, so that no iterator gives the parts.
+        while used < input.len() {
+            if 65376 < to {
+                return Progress { used, to };
+            }
+            let held = &mut self.held;
+            let memory = &mut self.memory;
+            let (shelf, now) = step(self.shelf, held, memory, &input[used..], out, to);
+            self.shelf = shelf;
+            used += now.used;
+            to = now.to;
+        }
+        Progress { used, to }
+    }
+
+    // The line of a page that was cut off, if there is one, and the last line.
+    pub fn finish(&self, failed: bool, out: &mut [u8; 65536]) -> usize
+        ensures { Ends self.now.shelf failed out.new result }
+    {
+        let shelf = self.shelf;
+        if is_cut_off(shelf.at, failed) {
+            let to = figures::put_line(out, 0, shelf.pages + 1, 17, Figures::none());
+            return figures::put_line(out, to, 0, 0, shelf.total);
+        }
+        figures::put_line(out, 0, 0, 0, shelf.total)
+    }
 }

@@ -16,7 +16,7 @@ use Rattle.text.specs.Format.{All}
 use Rattle.text.proofs.Laws.{decimal-length}
 use Rattle.figures.specs.declared.Figures.{Figures}
 use Rattle.figures.specs.Figures.{no_figures, merge, total, figures_line}
-use Rattle.figures.specs.Inner.Counting.{shown_as}
+use Rattle.figures.specs.Inner.Counting.{shown_as, line_of}
 use Rattle.figures.proofs.Totals.{none-merge, merge-assoc, merge-comm, total-append}
 use Rattle.shelves.specs.declared.At.{At}
 use Rattle.shelves.specs.declared.At.TheVariants.{Over}
@@ -87,12 +87,12 @@ total-shelf failed ps t h m = ap total_of (pages-of failed 1000000 ps t h m) ∙
 
 -- ---- another order
 
-first-total : (r : Result Figures) (rs : List (Result Figures)) → total (accepted (r ∷ rs)) ≡ merge (shown_as r).figures (total (accepted rs))
+first-total : (r : Result Figures) (rs : List (Result Figures)) → total (accepted (r ∷ rs)) ≡ merge (line_of (shown_as r)).1 (total (accepted rs))
 first-total (ok f) rs = refl
 first-total (refused n) rs = sym (none-merge (total (accepted rs)))
 
 abbrev figures_at : List ℕ → Figures
-figures_at p = (shown_as (shown (whole p))).figures
+figures_at p = (line_of (shown_as (shown (whole p)))).1
 
 total_first : (p : List ℕ) (ps : List (List ℕ)) → total_of (map whole (p ∷ ps)) ≡ merge (figures_at p) (total_of (map whole ps))
 total_first p ps = first-total (shown (whole p)) (map shown (map whole ps))

@@ -1,10 +1,10 @@
--- What a heap must be for its objects to be counted, and a page's answer in numbers.
+-- What a heap must be for its objects to be counted, and a page's answer as it lies in the code.
 use Rattle.std.specs.Prelude.{ℕ, ◌≤◌, List, ◌≡◌, length}
+use Rattle.std.specs.Prelude.{Result as Outcome, Ok, Err}
 use Rattle.word.specs.Result.{Result, ok, refused}
 use Rattle.heap.specs.State.{data_size}
 use Rattle.heap.specs.Lent.{Lent, stored, view}
 use Rattle.figures.specs.declared.Figures.{Figures}
-use Rattle.figures.specs.declared.Shown.{Shown}
 use Rattle.figures.specs.Figures.{no_figures}
 
 -- one object of n bytes
@@ -22,6 +22,11 @@ pub record Small (f : Figures) : Type 0 where
   pub objects : f.objects ≤ 4096
   pub bytes : f.bytes ≤ 16384
 
-abbrev pub shown_as : Result Figures → Shown
-shown_as (ok f) = record { answer = 0; figures = f }
-shown_as (refused n) = record { answer = n; figures = no_figures }
+abbrev pub shown_as : Result Figures → Outcome Figures ℕ
+shown_as (ok f) = Ok f
+shown_as (refused n) = Err n
+
+-- the number and the figures that a line shows: zeros after a refusal
+abbrev pub line_of : Outcome Figures ℕ → ℕ × Figures
+line_of (Ok f) = (0, f)
+line_of (Err n) = (n, no_figures)

@@ -8,7 +8,7 @@ use Rattle.shelves.specs.declared.Next.{Next}
 use Rattle.shelves.specs.declared.Next.TheVariants.{Still, Whole, Passed}
 use Rattle.shelves.specs.declared.Shelf.{Shelf}
 use Rattle.figures.specs.Figures.{merge, total, figures_line}
-use Rattle.figures.specs.declared.Shown.{Shown}
+use Rattle.std.specs.Prelude.{Result as Outcome}
 use Rattle.shelves.specs.Shelf.{length_line, whole, by_bytes, by_line, pages_in, shown, answers_in, answer_lines, accepted, shelf_text}
 use Rattle.figures.specs.Inner.Counting.{shown_as}
 
@@ -102,7 +102,7 @@ pub record After (s : Shelf) (f : Figures) (s' : Shelf) : Type 0 where
   pub at : Due (s.pages + 1) s'.at
 
 -- a page was answered: its line stands in `out` from `from` up to `to`
-pub record Answers (s : Shelf) (sh : Shown) (out : List ℕ) (from : ℕ) (s' : Shelf) (out' : List ℕ) (to : ℕ) : Type 0 where
+pub record Answers (s : Shelf) (sh : Outcome Figures ℕ) (out : List ℕ) (from : ℕ) (s' : Shelf) (out' : List ℕ) (to : ℕ) : Type 0 where
   pub good : Good s'
   pub room : to ≤ 65536
   pub same : (r : Result Figures) → sh ≡ shown_as r → (failed : Bool) (held rest : List ℕ) →
