@@ -15,10 +15,10 @@ use Rattle.alike.specs.Inner.ByTurns.{◌and_then◌}
 use Rattle.compare.specs.Inner.Turns.{lows}
 use Rattle.compare.proofs.Turning.{lows-length, lows-at}
 use Rattle.compare.proofs.Going.{Goes, goes_first, goes-next, goes-unlike, goes_over, goes-ended, first-decides, second-decides}
-use Rattle.compare_objects.specs.declared.side.Side.{Side}
+use Rattle.mark.specs.declared.objects.Objects.{Objects}
 use Rattle.compare_objects.specs.Inner.Lent.{shown_by, sides_order, QueuedIn}
 
-module _ (T : Table) (x : Side) (n : ℕ) (y : Side) (turns : List ℕ) (m : ℕ) where
+module _ (T : Table) (x : Objects) (n : ℕ) (y : Objects) (turns : List ℕ) (m : ℕ) where
   -- two slots, with the turns of the one in `work`
   abbrev pub pair_order : List ℕ → ℕ → ℕ → Ordering
   pair_order work = sides_order T x work y turns

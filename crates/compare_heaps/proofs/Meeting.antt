@@ -8,6 +8,7 @@ use lib.Seq.{ext_get_or}
 use native.Mathlib.Omega.{arith}
 use Rattle.trace.specs.Emit.{Answer}
 use Rattle.std.specs.Prelude.{Some, None}
+use Rattle.std.specs.Prelude.{Option as Option'}
 use Rattle.word.specs.Run.{run}
 use Rattle.handle.specs.Columns.{live_in}
 use Rattle.ty.specs.Types.{Table}
@@ -30,10 +31,14 @@ use Rattle.compare.proofs.Turning.{lows-length, lows-at}
 use Rattle.saves.specs.Inner.Columns.{columns_model}
 use Rattle.saves.proofs.FromMarks.{columns-slots, marks-traced, marks-untraced}
 use Rattle.compare_objects.specs.Inner.Sides.{places_in, Queued}
-use Rattle.compare_heaps.specs.Inner.Marked.{Clear, MetIn}
+use Rattle.compare_heaps.specs.Inner.Marked.{Clear, MetIn, Meets}
 
 pub clear-scratch : (slots : ℕ) (marks work : List ℕ) → Clear slots marks work → Scratch slots marks work 0
 clear-scratch slots marks work c = scratch-start slots marks work c.few c.clear c.room
+
+-- what stops the marking stops the meeting
+pub stopped : {r : Option' ℕ} (M : Model) (roots work : List ℕ) (slots : ℕ) → r ≡ None → Stops M roots → Meets r M roots slots work
+stopped M roots work slots e x = subst (λ (y : Option' ℕ). Meets y M roots slots work) (sym e) x
 
 -- an object that can be traced has places
 pub object-places : (T : Table) (k t s : ℕ) (b : List ℕ) (x : Object) → object_of T k t s b ≡ some x → (ps : List ℕ) × (shown_places T k t s b ≡ some ps)

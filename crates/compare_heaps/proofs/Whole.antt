@@ -18,6 +18,8 @@ use Rattle.word.proofs.ListLaws.{take-zeros}
 use Rattle.heap.specs.Packing.{start_of, data_at}
 use Rattle.heap.specs.declared.Heap.{Heap}
 use Rattle.heap.specs.Lent.{lent, view}
+use Rattle.heap.specs.Seen.{seen, state}
+use Rattle.heap.specs.declared.view.View.{View}
 use Rattle.ty.specs.Types.{Table}
 use Rattle.places.specs.StrideZero.{ShortConstants}
 use Rattle.trace.specs.Places.{Places}
@@ -25,6 +27,8 @@ use Rattle.reach.specs.Reach.{◌∈◌}
 use Rattle.reach.proofs.Grown.{∈-index}
 use Rattle.collection.specs.Collected.{found}
 use Rattle.mark.specs.Graph.{Fit}
+use Rattle.mark.specs.Objects.{Laid, laid, laid_in}
+use Rattle.mark.specs.declared.objects.Objects.{Objects}
 use Rattle.mark.proofs.Formed.{formed-fit, formed-few}
 use Rattle.mark.proofs.Inside.{resolves-in}
 use Rattle.alike.specs.Same.{Model}
@@ -32,7 +36,7 @@ use Rattle.alike.specs.Order.{order, met, resolves, worth, places_code}
 use Rattle.alike.specs.Inner.ByTurns.{◌and_then◌, place_order, slot_order, objects_order, by_turns}
 use Rattle.alike.specs.Inner.Beside.{beside_first, beside_all, beside_end}
 use Rattle.alike.proofs.Turns.{then-assoc, then-after, places-cons}
-use Rattle.beside.specs.Inner.Ranks.{resolve_in, rank_of, worth_in, place_in}
+use Rattle.beside.specs.Inner.Ranks.{resolve_in, slots_resolve, rank_of, worth_in, place_in}
 use Rattle.models.specs.Inner.Along.{visible_in_one_go}
 use Rattle.models.proofs.Heaps.{data-short}
 use Rattle.models.proofs.Visible.{slots-visible}
@@ -43,7 +47,8 @@ use Rattle.saves.specs.Inner.Columns.{columns_model}
 use Rattle.saves.proofs.TwoLent.{lent-first, lent-second, lent-turns}
 use Rattle.compare_heaps.specs.Compared.{compared_by, CanMark}
 use Rattle.compare_objects.specs.Inner.Sides.{head_of, data_beside, places_in, slots_beside, Queued}
-use Rattle.compare_heaps.specs.Inner.Marked.{Clear, MetIn, Meets}
+use Rattle.compare_objects.specs.Inner.Lent.{sides_order, QueuedIn}
+use Rattle.compare_heaps.specs.Inner.Marked.{Clear, MetIn, Meets, side_model}
 use Rattle.compare_heaps.proofs.Meeting.{reached-places, met-queued}
 
 -- ---- lists
@@ -217,28 +222,72 @@ module _ (T : Table) (h : Heap) (narrow wide pool : List ℕ) (k : Heap) (narrow
             (formed-fit h narrow wide pool c.formed) (formed-fit k narrow' wide' pool' d.formed) first-met second-met small short))
             ∙ ap compared_by (sym (lent-turns T h narrow wide pool c.formed k narrow' wide' pool' d.formed rs ss first-met.traced second-met.traced))
 
--- ---- scratch of a checked heap
+-- ---- two heaps that are lent to be read, and what of them is gone through
 
-module _ (h : Heap) (narrow wide pool marks work : List ℕ) (c : CanMark (lent h narrow wide pool) marks work) where
-  slots-fit : h.slots ≤ length narrow / 6
-  slots-fit = (formed-fit h narrow wide pool c.formed).runs.used
+module _ (T : Table) (v u : View) (x y : Objects) (ex : laid x ≡ laid_in v) (ey : laid y ≡ laid_in u)
+    (marks work marks' work' : List ℕ) (c : CanMark (seen v) marks work) (d : CanMark (seen u) marks' work') (rs ss : List ℕ) where
+  abbrev Met : Option ℕ → (roots work : List ℕ) → Laid → Type 0
+  Met r roots work z = Meets r (columns_model T z.tag z.slots z.S z.narrow z.wide z.pool) roots z.slots work
 
-  pub mark-fit : Fit h.slots (length narrow / 6) narrow wide pool
-  mark-fit = formed-fit h narrow wide pool c.formed
+  abbrev Queue : (work : List ℕ) (n : ℕ) → Laid → Type 0
+  Queue work n z = Queued T z.slots z.S z.narrow z.wide z.pool work n
 
-  pub mark-room : h.slots ≤ length marks
-  mark-room = omega (arith, slots-fit, c.marks_room)
+  module _ (r : Option ℕ) (w : List ℕ) (mx : Meets r (side_model T x) rs x.slots.slots w) where
+    here : Met r rs w (laid_in v)
+    here = subst (Met r rs w) ex mx
 
-  pub mark-long : h.slots ≡ length (take h.slots marks)
-  mark-long = sym (length-take-le h.slots marks mark-room)
+    pub both-first : r ≡ None → None ≡ compared_by (ordering T (state v) (state u) rs ss)
+    both-first e = whole-first T v.heap v.narrow.now v.wide.now v.pool.now u.heap u.narrow.now u.wide.now u.pool.now marks work marks' work' c d rs ss r w here e
 
-  pub mark-clear : Clear h.slots (take h.slots marks) work
-  mark-clear =
-      record {
-        few = formed-few h narrow wide pool c.formed;
-        clear = ap (take h.slots) c.clear ∙ take-zeros h.slots (length marks) mark-room;
-        room = omega (arith, slots-fit, c.work_room);
-      }
+    module _ (q : Option ℕ) (w' : List ℕ) (my : Meets q (side_model T y) ss y.slots.slots w') where
+      there : Met q ss w' (laid_in u)
+      there = subst (Met q ss w') ey my
+
+      pub both-second : q ≡ None → None ≡ compared_by (ordering T (state v) (state u) rs ss)
+      both-second e = whole-second T v.heap v.narrow.now v.wide.now v.pool.now u.heap u.narrow.now u.wide.now u.pool.now marks work marks' work' c d rs ss r w here q w' there e
+
+      module _ (n : ℕ) (en : r ≡ Some n) (m : ℕ) (em : q ≡ Some m) where
+        pub both-can : QueuedIn T x w n × QueuedIn T y w' m
+        both-can =
+            let z = whole-can T v.heap v.narrow.now v.wide.now v.pool.now u.heap u.narrow.now u.wide.now u.pool.now marks work marks' work' c d rs ss r w here q w' there n en m em in
+            (subst (Queue w n) (sym ex) z.0, subst (Queue w' m) (sym ey) z.1)
+
+        pub both-found : ShortConstants T → length v.pool.now < 2 ^ 64 → (o : Ordering)
+            → o ≡ ((nat_cmp (length rs) (length ss) and_then slice_cmp (place_in (slots_resolve x.slots) w (slots_resolve y.slots) w') rs ss)
+            and_then slice_cmp (sides_order T x w y w') (lows n w) (lows m w'))
+            → Some o ≡ compared_by (ordering T (state v) (state u) rs ss)
+        both-found small short o e =
+            whole-found T v.heap v.narrow.now v.wide.now v.pool.now u.heap u.narrow.now u.wide.now u.pool.now marks work marks' work' c d rs ss r w here q w' there n en m em small short o
+            (e ∙ (λ j. total (ex j) (ey j)))
+          where
+            place : Laid → Laid → ℕ → ℕ → Ordering
+            place a b = place_in (resolve_in a.tag a.slots a.S a.narrow) w (resolve_in b.tag b.slots b.S b.narrow) w'
+
+            total : Laid → Laid → Ordering
+            total a b = (nat_cmp (length rs) (length ss) and_then slice_cmp (place a b) rs ss)
+                and_then slice_cmp (slots_beside T (place a b) a.S a.narrow a.wide a.pool b.S b.narrow b.wide b.pool) (lows n w) (lows m w')
+
+-- ---- scratch for a heap
+
+module _ (v : View) (marks work : List ℕ) (c : CanMark (seen v) marks work) where
+  fit : Fit v.heap.slots (length v.narrow.now / 6) v.narrow.now v.wide.now v.pool.now
+  fit = formed-fit v.heap v.narrow.now v.wide.now v.pool.now v.formed
+
+  pub mark-room : v.heap.slots ≤ length marks
+  mark-room = omega (arith, fit.runs.used, c.marks_room)
+
+  pub mark-long : v.heap.slots ≡ length (take v.heap.slots marks)
+  mark-long = sym (length-take-le v.heap.slots marks mark-room)
+
+  -- for what of it is gone through
+  pub mark-clear : (x : Objects) → laid x ≡ laid_in v → Clear x.slots.slots (take v.heap.slots marks) work
+  mark-clear x e =
+      subst (λ (z : Laid). Clear z.slots (take v.heap.slots marks) work) (sym e)
+      (record {
+        few = formed-few v.heap v.narrow.now v.wide.now v.pool.now v.formed;
+        clear = ap (take v.heap.slots) c.clear ∙ take-zeros v.heap.slots (length marks) mark-room;
+        room = omega (arith, fit.runs.used, c.work_room);
+      })
 
 -- the marks whose first part was lent
 pub prefix-length : (n : ℕ) (m m' : List ℕ) → n ≤ length m → length m' ≡ length (take n m) → length (m' ++ drop n m) ≡ length m

@@ -5,8 +5,8 @@
 ghost use Rattle.std.specs.Prelude.{◌≡◌, length};
 ghost use Rattle.std.specs.Ordering.{nat_cmp};
 ghost use Rattle.std.specs.Cmp.Lexicographic.{slice_cmp};
-ghost use Rattle.heap.specs.Lent.{lent, view};
-ghost use Rattle.ty.specs.View.{table_of};
+ghost use Rattle.heap.specs.Seen.{seen, state};
+ghost use Rattle.ty.specs.View.{lent};
 ghost use Rattle.alike.specs.Inner.ByTurns.{◌and_then◌};
 ghost use Rattle.beside.specs.Inner.Ranks.{slots_resolve, place_in};
 ghost use Rattle.compare.specs.Inner.Turns.{lows};
@@ -15,31 +15,44 @@ ghost use Rattle.compare_heaps.specs.Compared.{compared_by, CanMark};
 ghost use Rattle.compare_objects.specs.Inner.Lent.{sides_order, QueuedIn};
 
 use beside::Met;
-use compare_objects::Side;
-use handle::Slots;
-use heap::Heap;
+use heap::view::View;
+use mark::Objects;
 use std::cmp::Ordering;
+use ty::Table;
 
 mod meet; // what the roots of a heap reach, in the order first met
 
-// The objects of both heaps in the order first met, n of the one and m of the other.
+// A heap, and the roots from which it is compared.
+#[derive(Clone, Copy)]
+pub struct Rooted<'a> {
+    pub view: View<'a>,
+    pub roots: &'a [u64],
+}
+
+// A heap's objects, the roots, and how many objects these reach.
+#[derive(Clone, Copy)]
+struct Reached<'a> {
+    objects: Objects<'a>,
+    roots: &'a [u64],
+    count: usize,
+}
+
+// Kept: the order of two heaps' memory, not of two values, so it is no Ord.
+// The objects of both heaps in the order first met.
 fn compare_met(
-    types: &[u64],
-    fields: &[u32],
-    consts: &[u64],
-    bytes: &[u8],
-    here: Side,
+    table: &Table,
+    here: Reached,
     work: &mut [u64],
-    n: usize,
-    there: Side,
+    there: Reached,
     turns: &[u64],
-    m: usize,
 ) -> Ordering
-    requires queued { QueuedIn (table_of types.now fields.now consts.now bytes.now) here work.old n }
-    requires queued_2 { QueuedIn (table_of types.now fields.now consts.now bytes.now) there turns.now m }
-    ensures { result ≡ slice_cmp (sides_order (table_of types.now fields.now consts.now bytes.now) here.entry work.old there.entry turns.now)
-        (lows n work.old) (lows m turns.now) }
+    requires queued { QueuedIn (lent table.now) here.objects work.old here.count }
+    requires queued_2 { QueuedIn (lent table.now) there.objects turns.now there.count }
+    ensures { result ≡ slice_cmp (sides_order (lent table.now) here.entry.objects work.old there.entry.objects turns.now)
+        (lows here.entry.count work.old) (lows there.entry.count turns.now) }
 {
+    let n = here.count;
+    let m = there.count;
     for k in 0..n {
         if m <= k {
             return Ordering::Greater;
@@ -47,7 +60,13 @@ fn compare_met(
         let i = (work[k] % 16777216) as usize;
         let j = (turns[k] % 16777216) as usize;
         let found = compare_objects::compare_slots(
-            types, fields, consts, bytes, here, work, i, there, turns, j,
+            table,
+            here.objects,
+            work,
+            i,
+            there.objects,
+            turns,
+            j,
         );
         if found.is_ne() {
             return found;
@@ -56,125 +75,71 @@ fn compare_met(
     n.cmp(&m)
 }
 
-// Roots, then objects, of two heaps in which n and m objects were met.
+// Kept: as for the objects.
+// Roots, then objects, of two heaps.
 fn compare_marked(
-    types: &[u64],
-    fields: &[u32],
-    consts: &[u64],
-    bytes: &[u8],
-    here: Side,
-    roots: &[u64],
+    table: &Table,
+    here: Reached,
     work: &mut [u64],
-    n: usize,
-    there: Side,
-    other_roots: &[u64],
+    there: Reached,
     turns: &[u64],
-    m: usize,
 ) -> Ordering
-    requires queued { QueuedIn (table_of types.now fields.now consts.now bytes.now) here work.old n }
-    requires queued_2 { QueuedIn (table_of types.now fields.now consts.now bytes.now) there turns.now m }
-    ensures { result ≡ ((nat_cmp (length roots.now) (length other_roots.now) and_then slice_cmp
-        (place_in (slots_resolve here.entry.slots) work.old (slots_resolve there.entry.slots) turns.now)
-        roots.now other_roots.now) and_then slice_cmp
-        (sides_order (table_of types.now fields.now consts.now bytes.now) here.entry work.old there.entry turns.now)
-        (lows n work.old) (lows m turns.now)) }
+    requires queued { QueuedIn (lent table.now) here.objects work.old here.count }
+    requires queued_2 { QueuedIn (lent table.now) there.objects turns.now there.count }
+    ensures { result ≡ ((nat_cmp (length here.entry.roots.now) (length there.entry.roots.now) and_then slice_cmp
+        (place_in (slots_resolve here.entry.objects.slots) work.old (slots_resolve there.entry.objects.slots) turns.now)
+        here.entry.roots.now there.entry.roots.now) and_then slice_cmp
+        (sides_order (lent table.now) here.entry.objects work.old there.entry.objects turns.now)
+        (lows here.entry.count work.old) (lows there.entry.count turns.now)) }
 {
     let a = Met {
-        slots: here.slots,
+        slots: here.objects.slots,
         turns: work,
     };
     let b = Met {
-        slots: there.slots,
+        slots: there.objects.slots,
         turns,
     };
-    let found = compare::compare_roots(a, roots, b, other_roots);
+    let found = compare::compare_roots(a, here.roots, b, there.roots);
     if found.is_ne() {
         return found;
     }
-    compare_met(types, fields, consts, bytes, here, work, n, there, turns, m)
+    compare_met(table, here, work, there, turns)
 }
 
+// Kept: as for the objects.
 // The order of two well formed heaps, each with roots of its own; none where something reached in either can't be traced. The scratch is zero, for more slots than there are: the first of
 // the marks are lent.
-pub fn order_heaps<'a, 'b>(
-    types: &[u64],
-    fields: &[u32],
-    consts: &[u64],
-    bytes: &[u8],
-    heap: Heap,
-    narrow: &'a [u32],
-    wide: &'a [u64],
-    pool: &'a [u8],
-    other: Heap,
-    other_narrow: &'b [u32],
-    other_wide: &'b [u64],
-    other_pool: &'b [u8],
-    roots: &[u64],
-    other_roots: &[u64],
+pub fn order_heaps(
+    table: &Table,
+    here: Rooted,
+    there: Rooted,
     marks: &mut [u8],
     work: &mut [u64],
     other_marks: &mut [u8],
     other_work: &mut [u64],
 ) -> Option<Ordering>
-    requires can_mark { CanMark (lent heap narrow.now wide.now pool.now) marks.old work.old }
-    requires can_mark_2 { CanMark (lent other other_narrow.now other_wide.now other_pool.now) other_marks.old other_work.old }
-    ensures { result ≡ compared_by (ordering (table_of types.now fields.now consts.now bytes.now)
-        (view (lent heap narrow.now wide.now pool.now)) (view (lent other other_narrow.now other_wide.now other_pool.now))
-        roots.now other_roots.now) }
+    requires can_mark { CanMark (seen here.view) marks.old work.old }
+    requires can_mark_2 { CanMark (seen there.view) other_marks.old other_work.old }
+    ensures { result ≡ compared_by (ordering (lent table.now) (state here.entry.view) (state there.entry.view)
+        here.entry.roots.now there.entry.roots.now) }
 {
-    let here = Side {
-        slots: Slots {
-            tag: heap.tag,
-            slots: heap.slots,
-            s: narrow.len() / 6,
-            narrow,
-        },
-        wide,
-        pool,
-    };
-    let there = Side {
-        slots: Slots {
-            tag: other.tag,
-            slots: other.slots,
-            s: other_narrow.len() / 6,
-            narrow: other_narrow,
-        },
-        wide: other_wide,
-        pool: other_pool,
-    };
-    let n = meet::first_met(
-        types,
-        fields,
-        consts,
-        bytes,
-        here,
-        roots,
-        &mut marks[..heap.slots],
-        work,
-    )?;
-    let second = meet::first_met(
-        types,
-        fields,
-        consts,
-        bytes,
-        there,
-        other_roots,
-        &mut other_marks[..other.slots],
-        other_work,
-    );
+    let first = Objects::of(here.view);
+    let other = Objects::of(there.view);
+    let a = here.view.heap.slots;
+    let b = there.view.heap.slots;
+    let n = meet::first_met(table, first, here.roots, &mut marks[..a], work)?;
+    let second = meet::first_met(table, other, there.roots, &mut other_marks[..b], other_work);
     let m = second?;
-    Some(compare_marked(
-        types,
-        fields,
-        consts,
-        bytes,
-        here,
-        roots,
-        work,
-        n,
-        there,
-        other_roots,
-        other_work,
-        m,
-    ))
+    let reached = Reached {
+        objects: first,
+        roots: here.roots,
+        count: n,
+    };
+    let other_reached = Reached {
+        objects: other,
+        roots: there.roots,
+        count: m,
+    };
+    Some(compare_marked(table, reached, work, other_reached, other_work))
 }

@@ -20,7 +20,7 @@ use Rattle.trace.specs.Places.{shown_places}
 use Rattle.mark.specs.Graph.{Fit}
 use Rattle.alike.specs.Inner.ByTurns.{◌and_then◌}
 use Rattle.compare.proofs.Going.{first-decides, second-decides, is-equal}
-use Rattle.compare_objects.specs.declared.side.Head.{Head}
+use Rattle.compare_objects.specs.declared.head.Head.{Head}
 use Rattle.compare_objects.specs.Inner.Sides.{head_of, head_order, data_beside, places_in, slots_beside}
 
 -- ---- one slot
@@ -42,14 +42,6 @@ module _ (slots S : ℕ) (narrow wide pool : List ℕ) (fit : Fit slots S narrow
     head_read =
         let l : i < S = omega (arith, fit.runs.used) in
         λ j. record { kind = sym (run-get S S narrow i l) j; t = sym (run-get S (2 * S) narrow i l) j; start = sym (first-get S wide i l) j; size = sym end-is j - ea j }
-
-    -- the data that is lent
-    pub data_read : take (get_or wide (S + i) 0 - a) (drop a pool) ≡ data_at (run S S wide) pool i
-    unfolding data_at
-    data_read = λ j. take (sym end-is j - ea j) (drop (ea j) pool)
-
-  pub head-ends : get_or wide (S + i) 0 ≤ length pool
-  head-ends = omega (arith, fit.pooled i h, end-is)
 
   -- it is as long as the numbers say
   pub data-size : length (data_at (run S S wide) pool i) ≡ (head_of S narrow wide i).size

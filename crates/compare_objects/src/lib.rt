@@ -3,7 +3,7 @@
 
 ghost use Rattle.std.specs.Prelude.{◌≡◌, ◌<◌, length};
 ghost use Rattle.std.proofs.Math.Option.{none};
-ghost use Rattle.ty.specs.View.{table_of};
+ghost use Rattle.ty.specs.View.{lent};
 ghost use Rattle.trace.specs.Places.{shown_places};
 ghost use Rattle.beside.specs.Inner.Ranks.{slots_resolve, place_in};
 ghost use Rattle.compare_objects.specs.Inner.Sides.{data_beside};
@@ -11,19 +11,18 @@ ghost use Rattle.compare_objects.specs.Inner.Lent.{shown_by, sides_order};
 
 use beside::Met;
 use handle::Slots;
+use mark::Objects;
 use std::cmp::Ordering;
 use ty::Table;
 
-mod side; // one of the two heaps
+mod head; // kind, type, start and length
 
-pub use side::{Head, Side};
+pub use head::Head;
 
+// Kept: the order of two heaps' memory, not of two values, so it is no Ord.
 // The data of two objects whose numbers are those of x: one trace of the first with the second's bytes beside it. Bytes before start are among those outside.
 fn compare_data(
-    types: &[u64],
-    fields: &[u32],
-    consts: &[u64],
-    bytes: &[u8],
+    table: &Table,
     x: Head,
     here: Slots,
     work: &mut [u64],
@@ -32,33 +31,19 @@ fn compare_data(
     other: &[u8],
 ) -> Ordering
     requires even { length «data».now ≡ length other.now }
-    requires fact { shown_places (table_of types.now fields.now consts.now bytes.now) x.kind x.t x.start «data».now ≡ none → ⊥ }
+    requires fact { shown_places (lent table.now) x.kind x.t x.start «data».now ≡ none → ⊥ }
     ensures value { result ≡ data_beside
         (place_in (slots_resolve here.entry) work.old (slots_resolve there.entry.slots) there.entry.turns.now)
         x.start «data».now other.now
-        (shown_places (table_of types.now fields.now consts.now bytes.now) x.kind x.t x.start «data».now) }
+        (shown_places (lent table.now) x.kind x.t x.start «data».now) }
     ensures work_unchanged { work.new ≡ work.old }
 {
     let start = x.start as usize;
     let from = start.min(data.len());
+    // Kept: what a trace finds beside goes to its two first marks, which it takes as a slice.
     let mut found = [0u8; 2];
     let r = trace::trace_beside(
-        &Table {
-            types,
-            fields,
-            consts,
-            bytes,
-        },
-        here,
-        x.kind,
-        x.t as u64,
-        start,
-        data,
-        there,
-        other,
-        &mut found,
-        work,
-        0,
+        table, here, x.kind, x.t as u64, start, data, there, other, &mut found, work, 0,
     );
     let Some(done) = r else {
         return Ordering::Equal;
@@ -71,25 +56,23 @@ fn compare_data(
 }
 
 // The objects of two slots, i in the one heap and j in the other. `work` has the turns of the one and is left as it is.
+// Kept: as for the data.
 pub fn compare_slots(
-    types: &[u64],
-    fields: &[u32],
-    consts: &[u64],
-    bytes: &[u8],
-    here: Side,
+    table: &Table,
+    here: Objects,
     work: &mut [u64],
     i: usize,
-    there: Side,
+    there: Objects,
     turns: &[u64],
     j: usize,
 ) -> Ordering
     requires in_use { (i < here.slots.slots) × (j < there.slots.slots) }
-    requires fact { shown_by (table_of types.now fields.now consts.now bytes.now) here i ≡ none → ⊥ }
-    ensures value { result ≡ sides_order (table_of types.now fields.now consts.now bytes.now) here.entry work.old there.entry turns.now i j }
+    requires fact { shown_by (lent table.now) here i ≡ none → ⊥ }
+    ensures value { result ≡ sides_order (lent table.now) here.entry work.old there.entry turns.now i j }
     ensures work_unchanged { work.new ≡ work.old }
 {
-    let x = here.head_of(i);
-    let y = there.head_of(j);
+    let x = Head::of(here, i);
+    let y = Head::of(there, j);
     let heads = x.cmp(&y);
     if heads.is_ne() {
         return heads;
@@ -99,10 +82,7 @@ pub fn compare_slots(
         turns,
     };
     compare_data(
-        types,
-        fields,
-        consts,
-        bytes,
+        table,
         x,
         here.slots,
         work,

@@ -1,16 +1,15 @@
 -- The ways out of the tests on two heaps. Assumes nothing.
-use mathlib.Core.Path.{◌≡◌, refl, sym, ap, ◌∙◌}
+use mathlib.Core.Path.{◌≡◌, refl, sym, ap, ◌∙◌, subst}
 use mathlib.Core.Bool.{Bool, true, false, ◌&&◌}
 use mathlib.Core.List.{List, [], ◌∷◌}
-use Prim.Native.Nat.{ℕ, ◌≤◌, ◌<◌}
+use Prim.Native.Nat.{ℕ}
 use lib.ListN.{length}
 use lib.Dec.{leb}
-use borrow.Author.Tests.{lt-leb, le-leb}
 use Rattle.refusal.specs.declared.Refusal.{Refusal}
 use Rattle.refusal.specs.declared.Refusal.TheVariants.{BrokenHeap, Scratch}
 use Rattle.heap.specs.Lent.{Lent, slot_count}
 use Rattle.heap.specs.WellFormed.{well_formed}
-use Rattle.door.specs.HeapCalls.{test, admitted, enough, heap_tests, zeros, scratch_after, Entered}
+use Rattle.door.specs.HeapCalls.{Test, test, admitted, enough, heap_tests, zeros, scratch_after, Entered}
 use Rattle.door.specs.HeapCalls.{Entry}
 use Rattle.std.specs.Prelude.{Err}
 use Rattle.std.specs.Prelude.{Ok}
@@ -18,11 +17,9 @@ use Rattle.door.specs.HeapCalls.{ready}
 use Rattle.door.proofs.Entering.{fails, passes, apart}
 use Rattle.same_door.specs.Inner.Both.{both_tests}
 
-pub few-marks : (s m w : ℕ) → m < s → false ≡ (leb s m && leb s w)
-few-marks s m w h = sym (simp (lt-leb s m h))
-
-pub marks_then : (s m w : ℕ) → s ≤ m → leb s w ≡ (leb s m && leb s w)
-marks_then s m w h = sym (simp (le-leb s m h))
+-- what was found is what is told of it
+pub found-as : {scratch scratch' : List (List ℕ)} {tests : List Test} {e f : Entry} → Entered scratch tests e scratch' → e ≡ f → Entered scratch tests f scratch'
+found-as {scratch} {scratch'} {tests} s i = subst (λ (x : Entry). Entered scratch tests x scratch') i s
 
 module _ (l k : Lent) (m w om ow : List ℕ) where
   abbrev All : Entry → (a b c d : List ℕ) → Type 0

@@ -1,2 +1,3 @@
 pub mod Both
 pub mod Numbers
+pub mod Given

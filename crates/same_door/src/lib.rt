@@ -2,205 +2,121 @@
 // first, in document 01's order and of both heaps each time: scratch (18), the heap (1); then the type table (10), then whether all that is reached can be traced (13).
 #![tactic(auto)]
 
-ghost use Rattle.std.specs.Prelude.{◌≡◌, ◌&&◌, [], ◌∷◌, ◌/◌, length, leb};
+ghost use Rattle.std.specs.Prelude.{◌≡◌, ◌&&◌, [], ◌∷◌, ◌/◌, length, leb, IfOk};
 ghost use Rattle.heap.specs.Lent.{lent};
-ghost use Rattle.door.specs.HeapCalls.{Entered, asked_of};
+ghost use Rattle.heap.specs.Seen.{seen};
+ghost use Rattle.door.specs.HeapCalls.{Entered, entry_of, asked_of};
 ghost use Rattle.saves.specs.Saves.{save_of, words_of, save_tests, same_number, order_number, same_call, order_call};
 ghost use Rattle.saves.specs.Right.{RightSame, RightOrder};
 ghost use Rattle.same_door.specs.Inner.Numbers.{Compares};
 ghost use Rattle.same_door.specs.Inner.Both.{both_tests};
+ghost use Rattle.same_door.specs.Inner.Given.{memory_of, words_in, given_save};
 
+use compare_heaps::Rooted;
+use given::Given;
 use heap::Heap;
+use heap::view::View;
 use refusal::{Answer, Refusal};
 use std::cmp::Ordering;
 use ty::Table;
 
-// Is there a byte and a word for each lent slot?
-fn is_enough(narrow: &[u32], marks: &[u8], work: &[u64]) -> bool
-    ensures { result ≡ (leb (length narrow.now / 6) (length marks.now) && leb (length narrow.now / 6) (length work.now)) }
-{
-    let slots = narrow.len() / 6;
-    if marks.len() < slots {
-        return false;
-    }
-    slots <= work.len()
-}
+mod given; // one of the two heaps, as it is lent
 
-// Is there scratch enough for two heaps, and are both well formed? Scratch of both is zero afterwards, but as it was where that of either is too short.
-fn enter_both(
-    heap: Heap,
-    narrow: &[u32],
-    wide: &[u64],
-    pool: &[u8],
-    other: Heap,
-    other_narrow: &[u32],
-    other_wide: &[u64],
-    other_pool: &[u8],
+// Is there scratch enough for two heaps, and are both well formed? Then both, to be read. Scratch of both is zero afterwards, but as it was where that of either is too short.
+fn enter_both<'a, 'b>(
+    given: Given<'a>,
+    other: Given<'b>,
     marks: &mut [u8],
     work: &mut [u64],
     other_marks: &mut [u8],
     other_work: &mut [u64],
-) -> Result<(), Refusal>
-    ensures { Entered (marks.old ∷ work.old ∷ other_marks.old ∷ other_work.old ∷ [])
-        (both_tests marks.old work.old other_marks.old other_work.old
-        (lent heap narrow.now wide.now pool.now) (lent other other_narrow.now other_wide.now other_pool.now))
-        result (marks.new ∷ work.new ∷ other_marks.new ∷ other_work.new ∷ []) }
+) -> Result<(View<'a>, View<'b>), Refusal>
+    ensures entered { Entered (marks.old ∷ work.old ∷ other_marks.old ∷ other_work.old ∷ [])
+        (both_tests marks.old work.old other_marks.old other_work.old (memory_of given.entry) (memory_of other.entry))
+        (entry_of result) (marks.new ∷ work.new ∷ other_marks.new ∷ other_work.new ∷ []) }
+    ensures shows { IfOk result (λ v. (seen v.0 ≡ memory_of given.entry) × (seen v.1 ≡ memory_of other.entry)) }
 {
-    if !is_enough(narrow, marks, work) {
+    if !given.is_enough(marks, work) {
         return Err(Refusal::Scratch);
     }
-    if !is_enough(other_narrow, other_marks, other_work) {
+    if !other.is_enough(other_marks, other_work) {
         return Err(Refusal::Scratch);
     }
-    match door::enter(heap, narrow, wide, pool, marks, work) {
+    match given.see(marks, work) {
         Err(why) => {
             other_marks.fill(0);
             other_work.fill(0);
             Err(why)
         }
-        Ok(()) => door::enter(
-            other,
-            other_narrow,
-            other_wide,
-            other_pool,
-            other_marks,
-            other_work,
-        ),
-    }
-}
-
-// Do scratch, heaps and type table let two heaps be compared?
-fn admit(
-    types: &[u64],
-    fields: &[u32],
-    consts: &[u64],
-    bytes: &[u8],
-    heap: Heap,
-    narrow: &[u32],
-    wide: &[u64],
-    pool: &[u8],
-    other: Heap,
-    other_narrow: &[u32],
-    other_wide: &[u64],
-    other_pool: &[u8],
-    marks: &mut [u8],
-    work: &mut [u64],
-    other_marks: &mut [u8],
-    other_work: &mut [u64],
-) -> Result<(), Refusal>
-    ensures { Entered (marks.old ∷ work.old ∷ other_marks.old ∷ other_work.old ∷ [])
-        (save_tests
-        (words_of types.now fields.now consts.now bytes.now)
-        (save_of (lent heap narrow.now wide.now pool.now) [] marks.old work.old)
-        (save_of (lent other other_narrow.now other_wide.now other_pool.now) [] other_marks.old other_work.old))
-        result (marks.new ∷ work.new ∷ other_marks.new ∷ other_work.new ∷ []) }
-{
-    match enter_both(
-        heap,
-        narrow,
-        wide,
-        pool,
-        other,
-        other_narrow,
-        other_wide,
-        other_pool,
-        marks,
-        work,
-        other_marks,
-        other_work,
-    ) {
-        Err(why) => Err(why),
-        Ok(()) => {
-            if !(Table {
-                types,
-                fields,
-                consts,
-                bytes,
-            })
-            .check_table()
-            {
-                return Err(Refusal::TypeTable);
-            }
-            Ok(())
+        Ok(view) => {
+            let second = other.see(other_marks, other_work)?;
+            Ok((view, second))
         }
     }
 }
 
+// Do scratch, heaps and type table let two heaps be compared? Then both, to be read.
+fn admit<'a, 'b>(
+    table: &Table,
+    given: Given<'a>,
+    other: Given<'b>,
+    marks: &mut [u8],
+    work: &mut [u64],
+    other_marks: &mut [u8],
+    other_work: &mut [u64],
+) -> Result<(View<'a>, View<'b>), Refusal>
+    ensures entered { Entered (marks.old ∷ work.old ∷ other_marks.old ∷ other_work.old ∷ [])
+        (save_tests (words_in table.now)
+        (save_of (memory_of given.entry) [] marks.old work.old)
+        (save_of (memory_of other.entry) [] other_marks.old other_work.old))
+        (entry_of result) (marks.new ∷ work.new ∷ other_marks.new ∷ other_work.new ∷ []) }
+    ensures shows { IfOk result (λ v. (seen v.0 ≡ memory_of given.entry) × (seen v.1 ≡ memory_of other.entry)) }
+{
+    let views = enter_both(given, other, marks, work, other_marks, other_work)?;
+    if !table.check_table() {
+        return Err(Refusal::TypeTable);
+    }
+    Ok(views)
+}
+
 // The order of two heaps, or why there is none. All scratch is zero afterwards, but as it was where that of either is too short.
 fn compare_saves(
-    types: &[u64],
-    fields: &[u32],
-    consts: &[u64],
-    bytes: &[u8],
-    heap: Heap,
-    narrow: &[u32],
-    wide: &[u64],
-    pool: &[u8],
-    other: Heap,
-    other_narrow: &[u32],
-    other_wide: &[u64],
-    other_pool: &[u8],
-    roots: &[u64],
-    other_roots: &[u64],
+    table: &Table,
+    given: Given,
+    other: Given,
     marks: &mut [u8],
     work: &mut [u64],
     other_marks: &mut [u8],
     other_work: &mut [u64],
 ) -> Result<Ordering, Refusal>
-    ensures { Compares
-        (words_of types.now fields.now consts.now bytes.now)
-        (save_of (lent heap narrow.now wide.now pool.now) roots.now marks.old work.old)
-        (save_of (lent other other_narrow.now other_wide.now other_pool.now)
-        other_roots.now other_marks.old other_work.old)
+    ensures { Compares (words_in table.now)
+        (given_save given.entry marks.old work.old)
+        (given_save other.entry other_marks.old other_work.old)
         result (marks.new ∷ work.new ∷ other_marks.new ∷ other_work.new ∷ []) }
 {
-    match admit(
-        types,
-        fields,
-        consts,
-        bytes,
-        heap,
-        narrow,
-        wide,
-        pool,
-        other,
-        other_narrow,
-        other_wide,
-        other_pool,
+    let views = admit(table, given, other, marks, work, other_marks, other_work)?;
+    let here = Rooted {
+        view: views.0,
+        roots: given.roots,
+    };
+    let there = Rooted {
+        view: views.1,
+        roots: other.roots,
+    };
+    let found = compare_heaps::order_heaps(
+        table,
+        here,
+        there,
         marks,
         work,
         other_marks,
         other_work,
-    ) {
-        Err(why) => Err(why),
-        Ok(()) => {
-            let found = compare_heaps::order_heaps(
-                types,
-                fields,
-                consts,
-                bytes,
-                heap,
-                narrow,
-                wide,
-                pool,
-                other,
-                other_narrow,
-                other_wide,
-                other_pool,
-                roots,
-                other_roots,
-                marks,
-                work,
-                other_marks,
-                other_work,
-            );
-            marks.fill(0);
-            work.fill(0);
-            other_marks.fill(0);
-            other_work.fill(0);
-            found.ok_or(Refusal::Untraceable)
-        }
-    }
+    );
+    marks.fill(0);
+    work.fill(0);
+    other_marks.fill(0);
+    other_work.fill(0);
+    found.ok_or(Refusal::Untraceable)
 }
 
 // What `same` tells: 1 yes, 0 no. Equal heaps are the same model.
@@ -223,6 +139,7 @@ fn order_values(o: Ordering) -> (u64, u64)
 
 // Are two heaps the same model: can the objects that the roots reach in the one be paired with those in the other, the roots in order, each pair of one kind, type, start and length, with the
 // same bytes outside the handle places, and handles that lead to paired objects or are the same bits and resolve in neither? 18, 1, 10, 13. first: 1 yes, 0 no.
+// Kept: the C interface.
 pub fn yexwalu_same(
     types: &[u64],
     fields: &[u32],
@@ -255,31 +172,33 @@ pub fn yexwalu_same(
         (save_of (lent other other_narrow.now other_wide.now other_pool.now)
         other_roots.now other_marks.old other_work.old) result }
 {
-    let found = compare_saves(
+    let table = Table {
         types,
         fields,
         consts,
         bytes,
+    };
+    let given = Given {
         heap,
         narrow,
         wide,
         pool,
-        other,
-        other_narrow,
-        other_wide,
-        other_pool,
         roots,
-        other_roots,
-        marks,
-        work,
-        other_marks,
-        other_work,
-    );
+    };
+    let second = Given {
+        heap: other,
+        narrow: other_narrow,
+        wide: other_wide,
+        pool: other_pool,
+        roots: other_roots,
+    };
+    let found = compare_saves(&table, given, second, marks, work, other_marks, other_work);
     Answer::from(found.map(same_values))
 }
 
 // Which of two heaps comes first: the shorter root list, then the roots as handle places, then the objects in the order first met. 18, 1, 10, 13. first: 0 less (the heap that is
 // named first), 1 equal, 2 greater. Equal means that `same` says yes.
+// Kept: the C interface.
 pub fn yexwalu_order(
     types: &[u64],
     fields: &[u32],
@@ -312,25 +231,26 @@ pub fn yexwalu_order(
         (save_of (lent other other_narrow.now other_wide.now other_pool.now)
         other_roots.now other_marks.old other_work.old) result }
 {
-    let found = compare_saves(
+    let table = Table {
         types,
         fields,
         consts,
         bytes,
+    };
+    let given = Given {
         heap,
         narrow,
         wide,
         pool,
-        other,
-        other_narrow,
-        other_wide,
-        other_pool,
         roots,
-        other_roots,
-        marks,
-        work,
-        other_marks,
-        other_work,
-    );
+    };
+    let second = Given {
+        heap: other,
+        narrow: other_narrow,
+        wide: other_wide,
+        pool: other_pool,
+        roots: other_roots,
+    };
+    let found = compare_saves(&table, given, second, marks, work, other_marks, other_work);
     Answer::from(found.map(order_values))
 }

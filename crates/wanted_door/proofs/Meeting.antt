@@ -78,6 +78,10 @@ module _ (marks work : List ℕ) (n w v : ℕ) where
 
 -- ---- the ways out of `meet`
 
+-- what stops a step stops the going
+pub stopped : {r : Answer} (slots : ℕ) (marks work : List ℕ) {o : Option Going} → r ≡ None → o ≡ none → Goes r slots marks work o
+stopped slots marks work {o} e n = subst (λ (x : Answer). Goes x slots marks work o) (sym e) n
+
 pub met-scratch : (slots w : ℕ) (marks work : List ℕ) (n : ℕ) → Scratch slots marks work n → w < slots → (m₁ w₁ : List ℕ) (c₁ : ℕ) → raw_of m₁ w₁ c₁ ≡ queued (raw_of marks work n) w → Scratch slots m₁ w₁ c₁
 met-scratch slots w marks work n s l m₁ w₁ c₁ e = (queue-met slots marks work n w m₁ w₁ c₁ s l e).scratch
 

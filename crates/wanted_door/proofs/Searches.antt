@@ -9,6 +9,7 @@ use lib.Dec.{eqb}
 use native.Mathlib.Omega.{arith}
 use Rattle.trace.specs.Emit.{Answer}
 use Rattle.std.specs.Prelude.{Some, None, if◌then◌else◌}
+use Rattle.std.specs.Prelude.{is_some}
 use Rattle.reach.specs.Reach.{Graph}
 use Rattle.reach.specs.Marking.{State, drained, marking}
 use Rattle.mark.specs.Scratch.{high, state_of, Scratch, Traces, NotedBy, seeded_from}
@@ -93,11 +94,18 @@ module _ (G : Graph) (slots : ℕ) (sealed pins marks work : List ℕ) (c : Clea
         second : (o : Option Going) → downward G slots W (length W) (going_of m₁ w₁ b) ≡ o → notes_of (secondly G (starts_of [] sealed pins) slots W (map high work)) ≡ notes_of o
         second o i = ap (λ (p : Option Going). notes_of (and_then p (downward G slots W (length W)))) (begun b e) ∙ ap notes_of i
 
-        pub choose-none : q ≡ None → none ≡ notes_of (secondly G (starts_of [] sealed pins) slots W (map high work))
+        choose-none : q ≡ None → none ≡ notes_of (secondly G (starts_of [] sealed pins) slots W (map high work))
         choose-none i = sym (second none (down-at None i))
 
-        pub choose-done : (n : ℕ) → q ≡ Some n → some (map high w₂) ≡ notes_of (secondly G (starts_of [] sealed pins) slots W (map high work))
+        choose-done : (n : ℕ) → q ≡ Some n → some (map high w₂) ≡ notes_of (secondly G (starts_of [] sealed pins) slots W (map high work))
         choose-done n i = sym (second (some (going_of m₂ w₂ n)) (down-at (Some n) i).0)
+
+        pub choose-ended : notes_if (is_some q) w₂ ≡ notes_of (secondly G (starts_of [] sealed pins) slots W (map high work))
+        choose-ended = by q refl
+          where
+            by : (x : Answer) → q ≡ x → notes_if (is_some x) w₂ ≡ notes_of (secondly G (starts_of [] sealed pins) slots W (map high work))
+            by None i = choose-none i
+            by (Some n) i = choose-done n i
 
 -- ---- both
 

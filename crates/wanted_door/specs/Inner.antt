@@ -1,2 +1,3 @@
 pub mod Picking
 pub mod Listing
+pub mod Searching

@@ -2,11 +2,12 @@
 // the heap (1), the type table (10), pins and wanted slots (14); then 21 where no roots do it, and 7. `marks` and `work` are scratch.
 #![tactic(auto)]
 
-ghost use Rattle.std.specs.Prelude.{◌≡◌, [], ◌∷◌, map, length};
-ghost use Rattle.ty.specs.View.{table_of};
-ghost use Rattle.heap.specs.Lent.{lent, view};
+ghost use Rattle.std.specs.Prelude.{◌≡◌, [], ◌∷◌, map, length, IfOk};
+ghost use Rattle.ty.specs.View.{lent as table_in};
+ghost use Rattle.heap.specs.Lent.{lent};
+ghost use Rattle.heap.specs.Seen.{seen, state};
 ghost use Rattle.trace.specs.Listing.{Lists};
-ghost use Rattle.door.specs.HeapCalls.{Entered, asked};
+ghost use Rattle.door.specs.HeapCalls.{Entered, entry_of, asked};
 ghost use Rattle.mark.specs.Scratch.{high};
 ghost use Rattle.wanted.specs.Search.{noted};
 ghost use Rattle.wanted.specs.Way.{those};
@@ -14,41 +15,35 @@ ghost use Rattle.wanted_door.specs.Inner.Listing.{CanName, CanSearch, named_in};
 ghost use Rattle.wanted_door.specs.RootsFor.{root_handles, wanted_tests, roots_call, roots_out, RightRoots};
 
 use heap::Heap;
+use heap::view::View;
+use mark::{Objects, seals};
+use pick::Search;
 use refusal::{Answer, Refusal, Reply};
 use ty::Table;
 
 mod list; // the roots that were picked, counted and written
 mod pick; // the two goings through the wanted slots
 
-// Do scratch, heap, type table, pins and wanted slots let the search begin?
-fn admit(
-    types: &[u64],
-    fields: &[u32],
-    consts: &[u64],
-    bytes: &[u8],
+// Do scratch, heap, type table, pins and wanted slots let the search begin? Then the heap, to be read.
+fn admit<'a>(
+    table: &Table,
     heap: Heap,
-    narrow: &[u32],
-    wide: &[u64],
-    pool: &[u8],
+    narrow: &'a [u32],
+    wide: &'a [u64],
+    pool: &'a [u8],
     pins: &[u32],
     wanted: &[u32],
     marks: &mut [u8],
     work: &mut [u64],
-) -> Result<(), Refusal>
-    ensures { Entered (marks.old ∷ work.old ∷ [])
-        (wanted_tests types.now fields.now consts.now bytes.now pins.now wanted.now
+) -> Result<View<'a>, Refusal>
+    ensures entered { Entered (marks.old ∷ work.old ∷ [])
+        (wanted_tests table.now.types.now table.now.fields.now table.now.consts.now table.now.bytes.now pins.now wanted.now
         marks.old work.old (lent heap narrow.now wide.now pool.now))
-        result (marks.new ∷ work.new ∷ []) }
+        (entry_of result) (marks.new ∷ work.new ∷ []) }
+    ensures shows { IfOk result (λ v. seen v ≡ lent heap narrow.now wide.now pool.now) }
 {
-    door::enter(heap, narrow, wide, pool, marks, work)?;
-    if !(Table {
-        types,
-        fields,
-        consts,
-        bytes,
-    })
-    .check_table()
-    {
+    let view = door::see(heap, narrow, wide, pool, marks, work)?;
+    if !table.check_table() {
         return Err(Refusal::TypeTable);
     }
     if !heap_calls::recycle::rise(pins) {
@@ -57,7 +52,7 @@ fn admit(
     if !heap_calls::recycle::rise(wanted) {
         return Err(Refusal::Pins);
     }
-    Ok(())
+    Ok(view)
 }
 
 // The handles of the slots that are noted as roots go to the lent list, or it is too short (7).
@@ -75,55 +70,37 @@ fn name_roots(tag: u8, narrow: &[u32], wanted: &[u32], work: &[u64], out: &mut [
     Ok((n as u64, 0))
 }
 
-// The roots of a checked heap that keep just the wanted slots: 21, 7.
+// The roots of a heap that keep just the wanted slots: 21, 7.
 fn list_roots(
-    types: &[u64],
-    fields: &[u32],
-    consts: &[u64],
-    bytes: &[u8],
-    heap: Heap,
-    narrow: &[u32],
-    wide: &[u64],
-    pool: &[u8],
+    table: &Table,
+    view: View,
     pins: &[u32],
     wanted: &[u32],
     out: &mut [u64],
     marks: &mut [u8],
     work: &mut [u64],
 ) -> Reply
-    requires { CanSearch (lent heap narrow.now wide.now pool.now) wanted.now marks.old work.old }
+    requires { CanSearch (seen view) wanted.now marks.old work.old }
     ensures { Lists
-        (root_handles (table_of types.now fields.now consts.now bytes.now) pins.now wanted.now (length out.old)
-        (view (lent heap narrow.now wide.now pool.now)))
+        (root_handles (table_in table.now) pins.now wanted.now (length out.old) (state view.entry))
         result out.old out.new }
 {
-    let s = narrow.len() / 6;
-    let a = 3 * s;
-    let e = a + heap.sealed;
-    if !pick::pick_roots(
-        types,
-        fields,
-        consts,
-        bytes,
-        heap.tag,
-        heap.slots,
-        s,
-        narrow,
-        wide,
-        pool,
-        &wide[a..e],
+    let search = Search {
+        table: *table,
+        objects: Objects::of(view),
+        sealed: seals(view),
         pins,
         wanted,
-        &mut marks[..heap.slots],
-        work,
-    ) {
+    };
+    if !search.pick_roots(&mut marks[..view.heap.slots], work) {
         return Err(Refusal::NoRoots);
     }
-    name_roots(heap.tag, narrow, wanted, work, out)
+    name_roots(view.heap.tag, view.narrow, wanted, work, out)
 }
 
 // The fewest roots with which `collect`, with these pins, keeps just the wanted slots and drops the others; of several lists as short the one with the smaller slot at
 // the first place where they differ. Their handles go to the lent list, rising by slot, from its front on. 18, 1, 10, 14, 21, 7. first: how many.
+// Kept: the C interface.
 pub fn yexwalu_roots_for(
     types: &[u64],
     fields: &[u32],
@@ -151,15 +128,16 @@ pub fn yexwalu_roots_for(
         (record { types = types.now; fields = fields.now; consts = consts.now; bytes = bytes.now; pins = pins.now; wanted = wanted.now })
         marks.old work.old (lent heap narrow.now wide.now pool.now) out.old result out.new }
 {
-    match admit(
-        types, fields, consts, bytes, heap, narrow, wide, pool, pins, wanted, marks, work,
-    ) {
+    let table = Table {
+        types,
+        fields,
+        consts,
+        bytes,
+    };
+    match admit(&table, heap, narrow, wide, pool, pins, wanted, marks, work) {
         Err(why) => Answer::from(Err(why)),
-        Ok(()) => {
-            let reply = list_roots(
-                types, fields, consts, bytes, heap, narrow, wide, pool, pins, wanted, out, marks,
-                work,
-            );
+        Ok(view) => {
+            let reply = list_roots(&table, view, pins, wanted, out, marks, work);
             marks.fill(0);
             work.fill(0);
             Answer::from(reply)

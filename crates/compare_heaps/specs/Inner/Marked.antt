@@ -6,7 +6,7 @@ use Rattle.alike.specs.Same.{Untraceable as Stops}
 use Rattle.alike.specs.Order.{met}
 use Rattle.compare.specs.Inner.Turns.{lows, Turned}
 use Rattle.saves.specs.Inner.Columns.{columns_model}
-use Rattle.compare_objects.specs.declared.side.Side.{Side}
+use Rattle.mark.specs.declared.objects.Objects.{Objects}
 
 -- nothing is marked, and there is room for so many slots
 pub record Clear (slots : ℕ) (marks work : List ℕ) : Type 0 where
@@ -29,5 +29,5 @@ Meets (Some n) M roots slots work = MetIn M roots slots work n
 Meets None M roots slots work = Stops M roots
 
 -- what a heap's lent columns show
-abbrev pub side_model : Table → Side → Model
+abbrev pub side_model : Table → Objects → Model
 side_model T x = columns_model T x.slots.tag x.slots.slots x.slots.s x.slots.narrow.now x.wide.now x.pool.now

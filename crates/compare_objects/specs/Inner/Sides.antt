@@ -12,7 +12,7 @@ use Rattle.trace.specs.Places.{Places, shown_places}
 use Rattle.alike.specs.Order.{order}
 use Rattle.alike.specs.Inner.ByTurns.{◌and_then◌}
 use Rattle.alike.specs.Inner.Beside.{beside_first, beside_all, beside_end}
-use Rattle.compare_objects.specs.declared.side.Head.{Head}
+use Rattle.compare_objects.specs.declared.head.Head.{Head}
 
 -- the numbers of slot i, by the runs
 unfoldable pub head_of : (S : ℕ) (narrow wide : List ℕ) → ℕ → Head

@@ -1,13 +1,18 @@
 -- `same_door::admit` meets its contract.
-use Rattle.heap.specs.Lent.{lent}
+use Rattle.std.proofs.Common.{ap}
+use Rattle.std.proofs.lemmas.Result.{err_from_is_err_and}
+use Rattle.door.specs.HeapCalls.{entry_of}
+use Rattle.same_door.specs.Inner.Given.{memory_of}
 use Rattle.same_door.proofs.Telling.{not_entered, no_table, all-entered}
 use Rattle.same_door.proofs.admit.Goals as goal
 
-pub returns-then-not-check_table : goal.returns-then-not-check_table
-returns-then-not-check_table c = no_table (lent c.args.heap c.args.narrow.now c.args.wide.now c.args.pool.now) (lent c.args.other c.args.other_narrow.now c.args.other_wide.now c.args.other_pool.now) c.enter_both.ensures c.args.types.now c.args.fields.now c.args.consts.now c.args.bytes.now c.in-Ok.is _ c.check_table.ensures c.if-not-check_table.true
+pub returns-then-not-check_table-clause-entered : goal.returns-then-not-check_table-clause-entered
+returns-then-not-check_table-clause-entered c = no_table (memory_of c.args.given) (memory_of c.args.other) c.enter_both.ensures.entered c.args.table.now.types.now c.args.table.now.fields.now c.args.table.now.consts.now c.args.table.now.bytes.now (ap entry_of c.in_ok-views.was) _ c.check_table.ensures c.if-not-check_table.true
 
-pub returns-in-Err : goal.returns-in-Err
-returns-in-Err c = not_entered (lent c.args.heap c.args.narrow.now c.args.wide.now c.args.pool.now) (lent c.args.other c.args.other_narrow.now c.args.other_wide.now c.args.other_pool.now) c.enter_both.ensures c.args.types.now c.args.fields.now c.args.consts.now c.args.bytes.now c.in-Err.is
+pub returns-in_err-views-clause-entered : goal.returns-in_err-views-clause-entered
+returns-in_err-views-clause-entered c =
+    let p = err_from_is_err_and c.from_residual.result c.from_residual.ensures.1 in
+    rw (p.1, p.2) (not_entered (memory_of c.args.given) (memory_of c.args.other) c.enter_both.ensures.entered c.args.table.now.types.now c.args.table.now.fields.now c.args.table.now.consts.now c.args.table.now.bytes.now (ap entry_of c.in_err-views.was))
 
-pub returns-else-not-check_table : goal.returns-else-not-check_table
-returns-else-not-check_table c = all-entered (lent c.args.heap c.args.narrow.now c.args.wide.now c.args.pool.now) (lent c.args.other c.args.other_narrow.now c.args.other_wide.now c.args.other_pool.now) c.enter_both.ensures c.args.types.now c.args.fields.now c.args.consts.now c.args.bytes.now c.in-Ok.is _ c.check_table.ensures c.if-not-check_table.false
+pub returns-clause-entered : goal.returns-clause-entered
+returns-clause-entered c = all-entered (memory_of c.args.given) (memory_of c.args.other) c.enter_both.ensures.entered c.args.table.now.types.now c.args.table.now.fields.now c.args.table.now.consts.now c.args.table.now.bytes.now (ap entry_of c.in_ok-views.was) _ c.check_table.ensures c.if-not-check_table.false

@@ -1,36 +1,40 @@
 -- `same_door::compare_saves` meets its contract.
-use Rattle.heap.specs.Lent.{lent}
-use Rattle.saves.specs.Saves.{words_of, save_of}
+use Rattle.std.proofs.Common.{◌≡◌, ap, sym, ◌∙◌}
+use mathlib.Core.Path.{subst}
+use Rattle.std.proofs.lemmas.Result.{err_from_is_err_and, IfOk-at_ok}
+use Rattle.heap.specs.Lent.{Lent, view}
+use Rattle.heap.specs.Seen.{seen}
+use Rattle.ty.specs.View.{lent}
+use Rattle.door.specs.HeapCalls.{entry_of}
+use Rattle.saves.specs.Saves.{ordering}
+use Rattle.compare_heaps.specs.Compared.{compared_by, CanMark}
+use Rattle.same_door.specs.Inner.Given.{memory_of, words_in, given_save}
 use Rattle.same_door.proofs.Telling.{can-first, can-second, compares-refused, compares-found}
 use Rattle.same_door.proofs.compare_saves.Goals as goal
+use Rattle.same_door.proofs.compare_saves.Goals.{In_ok-views}
+
+-- what was lent is what is shown
+both : (c : In_ok-views) → (seen c.in_ok-views.views.0 ≡ memory_of c.args.given) × (seen c.in_ok-views.views.1 ≡ memory_of c.args.other)
+both c = IfOk-at_ok (λ v. (seen v.0 ≡ memory_of c.args.given) × (seen v.1 ≡ memory_of c.args.other)) c.in_ok-views.was c.admit.ensures.shows
 
 pub order_heaps-found-requires-clause-can_mark : goal.order_heaps-found-requires-clause-can_mark
 order_heaps-found-requires-clause-can_mark c =
-    can-first (words_of c.args.types.now c.args.fields.now c.args.consts.now c.args.bytes.now)
-    (save_of (lent c.args.heap c.args.narrow.now c.args.wide.now c.args.pool.now) c.args.roots.now c.args.marks.now c.args.work.now)
-    (save_of (lent c.args.other c.args.other_narrow.now c.args.other_wide.now c.args.other_pool.now) c.args.other_roots.now c.args.other_marks.now c.args.other_work.now)
-    c.admit.ensures c.in-Ok.is
+    subst (λ (l : Lent). CanMark l c.admit.new.marks c.admit.new.work) (sym (both (goal.at.order_heaps-found-requires-clause-can_mark c).In_ok-views).0) (can-first (words_in c.args.table.now) (given_save c.args.given c.args.marks.now c.args.work.now) (given_save c.args.other c.args.other_marks.now c.args.other_work.now) c.admit.ensures.entered (ap entry_of c.in_ok-views.was))
 
 pub order_heaps-found-requires-clause-can_mark_2 : goal.order_heaps-found-requires-clause-can_mark_2
 order_heaps-found-requires-clause-can_mark_2 c =
-    can-second (words_of c.args.types.now c.args.fields.now c.args.consts.now c.args.bytes.now)
-    (save_of (lent c.args.heap c.args.narrow.now c.args.wide.now c.args.pool.now) c.args.roots.now c.args.marks.now c.args.work.now)
-    (save_of (lent c.args.other c.args.other_narrow.now c.args.other_wide.now c.args.other_pool.now) c.args.other_roots.now c.args.other_marks.now c.args.other_work.now)
-    c.admit.ensures c.in-Ok.is
+    subst (λ (l : Lent). CanMark l c.admit.new.other_marks c.admit.new.other_work) (sym (both (goal.at.order_heaps-found-requires-clause-can_mark_2 c).In_ok-views).1) (can-second (words_in c.args.table.now) (given_save c.args.given c.args.marks.now c.args.work.now) (given_save c.args.other c.args.other_marks.now c.args.other_work.now) c.admit.ensures.entered (ap entry_of c.in_ok-views.was))
 
-pub returns-in-Err : goal.returns-in-Err
-returns-in-Err c =
-    compares-refused (words_of c.args.types.now c.args.fields.now c.args.consts.now c.args.bytes.now)
-    (save_of (lent c.args.heap c.args.narrow.now c.args.wide.now c.args.pool.now) c.args.roots.now c.args.marks.now c.args.work.now)
-    (save_of (lent c.args.other c.args.other_narrow.now c.args.other_wide.now c.args.other_pool.now) c.args.other_roots.now c.args.other_marks.now c.args.other_work.now)
-    c.admit.ensures c.in-Err.is
+pub returns-in_err-views : goal.returns-in_err-views
+returns-in_err-views c =
+    let p = err_from_is_err_and c.from_residual.result c.from_residual.ensures.1 in
+    rw (p.1, p.2) (compares-refused (words_in c.args.table.now) (given_save c.args.given c.args.marks.now c.args.work.now) (given_save c.args.other c.args.other_marks.now c.args.other_work.now) c.admit.ensures.entered (ap entry_of c.in_err-views.was))
 
-pub returns-in-Ok : goal.returns-in-Ok
-returns-in-Ok c =
-    compares-found (words_of c.args.types.now c.args.fields.now c.args.consts.now c.args.bytes.now)
-    (save_of (lent c.args.heap c.args.narrow.now c.args.wide.now c.args.pool.now) c.args.roots.now c.args.marks.now c.args.work.now)
-    (save_of (lent c.args.other c.args.other_narrow.now c.args.other_wide.now c.args.other_pool.now) c.args.other_roots.now c.args.other_marks.now c.args.other_work.now)
-    c.admit.ensures c.in-Ok.is _ c.order_heaps-found.ensures
+pub returns : goal.returns
+returns c =
+    let b = both (goal.at.returns c).In_ok-views in
+    compares-found (words_in c.args.table.now) (given_save c.args.given c.args.marks.now c.args.work.now) (given_save c.args.other c.args.other_marks.now c.args.other_work.now) c.admit.ensures.entered (ap entry_of c.in_ok-views.was) _
+    (c.order_heaps-found.ensures ∙ (λ j. compared_by (ordering (lent c.args.table.now) (view (b.0 j)) (view (b.1 j)) c.args.given.roots.now c.args.other.roots.now)))
     c.order_heaps-found.new.marks c.order_heaps-found.new.work c.order_heaps-found.new.other_marks c.order_heaps-found.new.other_work
     c.order_heaps-found.auto.marks c.order_heaps-found.auto.work c.order_heaps-found.auto.other_marks c.order_heaps-found.auto.other_work
-    _ _ _ _ (c.fill.ensures.after (λ y e. e)) (c.fill-in-Ok.ensures.after (λ y e. e)) (c.fill-in-Ok-2.ensures.after (λ y e. e)) (c.fill-in-Ok-3.ensures.after (λ y e. e)) _ c.ok_or.ensures.value
+    _ _ _ _ (c.fill.ensures.after (λ y e. e)) (c.fill-2.ensures.after (λ y e. e)) (c.fill-3.ensures.after (λ y e. e)) (c.fill-4.ensures.after (λ y e. e)) _ c.ok_or.ensures.value

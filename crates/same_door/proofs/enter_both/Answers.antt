@@ -1,15 +1,31 @@
 -- `same_door::enter_both` meets its contract.
-use Rattle.same_door.proofs.Entering.{first_short, other-short, first-broken, both-entered}
+use Rattle.std.proofs.Common.{◌≡◌, ap}
+use Rattle.std.proofs.lemmas.Result.{err_from_is_err_and, IfOk-at_ok}
+use Rattle.heap.specs.Seen.{seen}
+use Rattle.door.specs.HeapCalls.{entry_of}
+use Rattle.same_door.specs.Inner.Given.{memory_of}
+use Rattle.same_door.proofs.Entering.{found-as, first_short, other-short, first-broken, both-entered}
 use Rattle.same_door.proofs.enter_both.Goals as goal
 
-pub returns-then-not-is_enough : goal.returns-then-not-is_enough
-returns-then-not-is_enough c = search first_short
+pub returns-then-not-is_enough-clause-entered : goal.returns-then-not-is_enough-clause-entered
+returns-then-not-is_enough-clause-entered c = first_short (memory_of c.args.given) (memory_of c.args.other) c.args.marks.now c.args.work.now c.args.other_marks.now c.args.other_work.now _ c.is_enough.ensures c.if-not-is_enough.true
 
-pub returns-then-not-is_enough-2 : goal.returns-then-not-is_enough-2
-returns-then-not-is_enough-2 c = search other-short
+pub returns-then-not-is_enough-2-clause-entered : goal.returns-then-not-is_enough-2-clause-entered
+returns-then-not-is_enough-2-clause-entered c = other-short (memory_of c.args.given) (memory_of c.args.other) c.args.marks.now c.args.work.now c.args.other_marks.now c.args.other_work.now _ c.is_enough.ensures c.if-not-is_enough.false _ c.is_enough-2.ensures c.if-not-is_enough-2.true
 
-pub returns-in-Err : goal.returns-in-Err
-returns-in-Err c = let marks = c.fill.ensures.after (λ y e. e) in let work = c.fill-in-Err.ensures.after (λ y e. e) in search first-broken
+pub returns-in-Err-clause-entered : goal.returns-in-Err-clause-entered
+returns-in-Err-clause-entered c = first-broken (memory_of c.args.given) (memory_of c.args.other) c.args.marks.now c.args.work.now c.args.other_marks.now c.args.other_work.now _ c.is_enough.ensures c.if-not-is_enough.false _ c.is_enough-2.ensures c.if-not-is_enough-2.false c.see.ensures.entered (ap entry_of c.in-Err.is) (c.fill.ensures.after (λ y e. e)) (c.fill-in-Err.ensures.after (λ y e. e))
 
-pub returns-in-Ok : goal.returns-in-Ok
-returns-in-Ok c = search both-entered
+pub returns-in_err-second-in-Ok-clause-entered : goal.returns-in_err-second-in-Ok-clause-entered
+returns-in_err-second-in-Ok-clause-entered c =
+    let p = err_from_is_err_and c.from_residual.result c.from_residual.ensures.1 in
+    rw (p.1, p.2) (found-as (both-entered (memory_of c.args.given) (memory_of c.args.other) c.args.marks.now c.args.work.now c.args.other_marks.now c.args.other_work.now _ c.is_enough.ensures c.if-not-is_enough.false _ c.is_enough-2.ensures c.if-not-is_enough-2.false c.see.ensures.entered (ap entry_of c.in-Ok.is) c.see-in-Ok.ensures.entered) (ap entry_of c.in_err-second-in-Ok.was))
+
+pub returns-in_ok-second-in-Ok : goal.returns-in_ok-second-in-Ok
+returns-in_ok-second-in-Ok c = record {
+  entered = found-as (both-entered (memory_of c.args.given) (memory_of c.args.other) c.args.marks.now c.args.work.now c.args.other_marks.now c.args.other_work.now _ c.is_enough.ensures c.if-not-is_enough.false _ c.is_enough-2.ensures c.if-not-is_enough-2.false c.see.ensures.entered (ap entry_of c.in-Ok.is) c.see-in-Ok.ensures.entered) (ap entry_of c.in_ok-second-in-Ok.was);
+  shows = (
+    IfOk-at_ok (λ v. seen v ≡ memory_of c.args.given) c.in-Ok.is c.see.ensures.shows,
+    IfOk-at_ok (λ v. seen v ≡ memory_of c.args.other) c.in_ok-second-in-Ok.was c.see-in-Ok.ensures.shows,
+  );
+}

@@ -1,0 +1,47 @@
+// One of two heaps that are compared, as it is lent.
+ghost use Rattle.std.specs.Prelude.{◌≡◌};
+
+use heap::Heap;
+use heap::view::View;
+use refusal::Refusal;
+
+// A heap's header, the memory that it lies in, and the roots from which it is compared.
+#[derive(Clone, Copy)]
+pub struct Given<'a> {
+    pub heap: Heap,
+    pub narrow: &'a [u32],
+    pub wide: &'a [u64],
+    pub pool: &'a [u8],
+    pub roots: &'a [u64],
+}
+
+impl<'a> Given<'a> {
+    ghost use Rattle.std.specs.Prelude.{◌&&◌, [], ◌∷◌, ◌/◌, length, leb, IfOk};
+    ghost use Rattle.heap.specs.Seen.{seen};
+    ghost use Rattle.door.specs.HeapCalls.{Entered, heap_tests, entry_of};
+    ghost use Rattle.same_door.specs.Inner.Given.{memory_of};
+
+    // Is there a byte and a word for each lent slot?
+    pub fn is_enough(self, marks: &[u8], work: &[u64]) -> bool
+        ensures { result ≡ (leb (length self.entry.narrow.now / 6) (length marks.now) && leb (length self.entry.narrow.now / 6) (length work.now)) }
+    {
+        let slots = self.narrow.len() / 6;
+        slots <= marks.len() && slots <= work.len()
+    }
+
+    // The heap, to be read, where scratch is enough and it is well formed.
+    pub fn see(self, marks: &mut [u8], work: &mut [u64]) -> Result<View<'a>, Refusal>
+        ensures entered { Entered (marks.old ∷ work.old ∷ []) (heap_tests marks.old work.old (memory_of self.entry))
+            (entry_of result) (marks.new ∷ work.new ∷ []) }
+        ensures shows { IfOk result (λ v. seen v ≡ memory_of self.entry) }
+    {
+        let Given {
+            heap,
+            narrow,
+            wide,
+            pool,
+            roots: _,
+        } = self;
+        door::see(heap, narrow, wide, pool, marks, work)
+    }
+}

@@ -1,0 +1,22 @@
+-- `wanted_door::pick::Search::can_keep` meets its contract.
+use mathlib.Core.Path.{sym}
+use Rattle.word.proofs.Bools.{true-false}
+use Rattle.wanted_door.specs.Inner.Searching.{graph, slots}
+use Rattle.wanted_door.proofs.Meeting.{live_below}
+use Rattle.wanted_door.proofs.Searches.{clear-scratch, begun-scratch, keep-stuck, keep-none, keep-tested, keep-inside}
+use Rattle.wanted_door.proofs.pick.Search.can_keep.Goals as goal
+
+pub mark_from-r-requires : goal.mark_from-r-requires
+mark_from-r-requires c = clear-scratch _ _ _ c.requires
+
+pub returns-in_default : goal.returns-in_default
+returns-in_default c = record { work_after = keep-stuck (graph c.args.self) (slots c.args.self) c.args.self.sealed.now c.args.self.pins.now c.args.marks.now c.args.work.now c.requires c.mark_from-r.result c.mark_from-r.new.marks c.mark_from-r.new.work c.mark_from-r.ensures.traces c.mark_from-r.ensures.noted_by c.args.self.wanted.now c.in_default.is; inside = λ e. absurd (true-false (sym e)) }
+
+pub candidates-q-requires : goal.candidates-q-requires
+candidates-q-requires c = begun-scratch (graph c.args.self) (slots c.args.self) c.args.self.sealed.now c.args.self.pins.now c.args.marks.now c.args.work.now c.requires c.mark_from-r.result c.mark_from-r.new.marks c.mark_from-r.new.work c.mark_from-r.ensures.traces c.mark_from-r.ensures.noted_by _ c.in-Some.is
+
+pub returns-in_default-q : goal.returns-in_default-q
+returns-in_default-q c = record { work_after = keep-none (graph c.args.self) (slots c.args.self) c.args.self.sealed.now c.args.self.pins.now c.args.marks.now c.args.work.now c.requires c.mark_from-r.result c.mark_from-r.new.marks c.mark_from-r.new.work c.mark_from-r.ensures.traces c.mark_from-r.ensures.noted_by c.args.self.wanted.now _ c.in-Some.is c.candidates-q.result c.candidates-q.new.marks c.candidates-q.new.work c.candidates-q.ensures c.in_default-q.is; inside = λ e. absurd (true-false (sym e)) }
+
+pub returns : goal.returns
+returns c = record { work_after = keep-tested (graph c.args.self) (slots c.args.self) c.args.self.sealed.now c.args.self.pins.now c.args.marks.now c.args.work.now c.requires c.mark_from-r.result c.mark_from-r.new.marks c.mark_from-r.new.work c.mark_from-r.ensures.traces c.mark_from-r.ensures.noted_by c.args.self.wanted.now _ c.in-Some.is c.candidates-q.result c.candidates-q.new.marks c.candidates-q.new.work c.candidates-q.ensures _ c.in-Some-q.is; inside = λ e. keep-inside (graph c.args.self) (slots c.args.self) c.args.self.sealed.now c.args.self.pins.now c.args.marks.now c.args.work.now c.requires c.mark_from-r.result c.mark_from-r.new.marks c.mark_from-r.new.work c.mark_from-r.ensures.traces c.mark_from-r.ensures.noted_by c.args.self.wanted.now _ c.in-Some.is c.candidates-q.result c.candidates-q.new.marks c.candidates-q.new.work c.candidates-q.ensures (λ i l. live_below _ _ i l) _ c.in-Some-q.is }
