@@ -1,5 +1,5 @@
 -- The ways out of a frame's trace, one law for each. Assumes nothing.
-use Prim.Native.Nat.{ℕ, suc, ◌+◌, ◌-◌, ◌%◌, ◌≤◌, ◌<◌}
+use Prim.Native.Nat.{ℕ, suc, ◌+◌, ◌-◌, ◌*◌, ◌/◌, ◌%◌, ◌≤◌, ◌<◌}
 use mathlib.Core.Path.{◌≡◌, refl, sym, ap, ◌∙◌}
 use mathlib.Core.List.{List, [], ◌∷◌}
 use lib.ListN.{length, take, drop, get_or, drop_of_length-le}
@@ -58,7 +58,7 @@ module _ (T : Table) (want off kind t : ℕ) (m : List ℕ) (k : Into) (s : Raw)
         unfolding entry_roots emitting emit_all
         entry-none w = rw (le-leb off (length m) l, ne_eqb kind 2 n2, le-leb kind 1 h, ne_eqb kind want w) refl
 
--- ---- trace_entries: the entries from word `at` on are still to come. G is what all of them leave.
+-- ---- trace_entries: the entries from the i-th on are still to come. G is what all of them leave.
 
 pub entries_next : (map : List ℕ) (at : ℕ) → at + 2 < length map
     → entries_of (drop at map) ≡ entry (get_or map at 0) (get_or map (at + 1) 0) (get_or map (at + 2) 0) ∷ entries_of (drop (at + 3) map)
@@ -80,20 +80,20 @@ pub entries-last : (map : List ℕ) (at : ℕ) → length map ≤ at → entries
 unfolding entries_of
 entries-last map at h = rw (drop_of_length-le map {i = at} h) refl
 
-module _ (T : Table) (want : ℕ) (m map : List ℕ) (at : ℕ) (k : Into) (ms to : List ℕ) (n : ℕ) (G : Result Raw) (inv : emitting k (raw_of ms to n) (entries_roots T want m (entries_of (drop at map))) ≡ G) where
-  pub entries-end : length map ≤ at → ok (raw_of ms to n) ≡ G
+module _ (T : Table) (want : ℕ) (m map : List ℕ) (i : ℕ) (k : Into) (ms to : List ℕ) (n : ℕ) (G : Result Raw) (inv : emitting k (raw_of ms to n) (entries_roots T want m (entries_of (drop (3 * i) map))) ≡ G) where
+  pub entries-end : length map % 3 ≡ 0 → length map / 3 ≤ i → ok (raw_of ms to n) ≡ G
   unfolding entries_roots emitting emit_all
-  entries-end h = rw (entries-last map at h) at inv
+  entries-end whole h = rw (entries-last map (3 * i) (omega arith)) at inv
 
-  module _ (inside : at < length map) (whole : length map % 3 ≡ 0) (start : at % 3 ≡ 0) (r : Answer) (ms' to' : List ℕ) (er : told r ms' to' ≡ emitting k (raw_of ms to n) (entry_roots T want m (entry (get_or map at 0) (get_or map (at + 1) 0) (get_or map (at + 2) 0)))) where
-    turn : entries_roots T want m (entries_of (drop at map)) ≡ both (entry_roots T want m (entry (get_or map at 0) (get_or map (at + 1) 0) (get_or map (at + 2) 0))) (entries_roots T want m (entries_of (drop (at + 3) map)))
+  module _ (inside : i < length map / 3) (r : Answer) (ms' to' : List ℕ) (er : told r ms' to' ≡ emitting k (raw_of ms to n) (entry_roots T want m (entry (get_or map (3 * i) 0) (get_or map (3 * i + 1) 0) (get_or map (3 * i + 2) 0)))) where
+    turn : entries_roots T want m (entries_of (drop (3 * i) map)) ≡ both (entry_roots T want m (entry (get_or map (3 * i) 0) (get_or map (3 * i + 1) 0) (get_or map (3 * i + 2) 0))) (entries_roots T want m (entries_of (drop (3 * (i + 1)) map)))
     unfolding entries_roots
-    turn = rw (entries_next map at (omega arith)) refl
+    turn = let z : 3 * (i + 1) ≡ 3 * i + 3 = omega arith in rw (entries_next map (3 * i) (omega arith), z) refl
 
     pub entries-fail : r ≡ None → refused 13 ≡ G
     entries-fail e = fail-words k (raw_of ms to n) _ _ (told-untraceable r ms' to' _ er e) ∙ ap (emitting k (raw_of ms to n)) (sym turn) ∙ inv
 
-    pub entries-more : (q : ℕ) → r ≡ Some q → emitting k (raw_of ms' to' q) (entries_roots T want m (entries_of (drop (at + 3) map))) ≡ G
+    pub entries-more : (q : ℕ) → r ≡ Some q → emitting k (raw_of ms' to' q) (entries_roots T want m (entries_of (drop (3 * (i + 1)) map))) ≡ G
     entries-more q e = then-words k (raw_of ms to n) (raw_of ms' to' q) _ _ (told-traced r ms' to' _ q er e) ∙ ap (emitting k (raw_of ms to n)) (sym turn) ∙ inv
 
 -- ---- trace_frame

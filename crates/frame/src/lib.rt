@@ -85,14 +85,13 @@ fn trace_entries(
         emitting (into sink (slots_resolve here.entry)) (raw_of marks.old to.old n)
         (entries_roots (lent table.now) want memory.now (entries_of map.now)) }
 {
-    let mut at: usize = 0;
     let mut m = n;
-    while at < map.len() {
-        let offset = map[at] as usize;
-        let of = map[at + 1];
-        let t = map[at + 2] as u64;
+    for i in 0..map.len() / 3 {
+        let k = 3 * i;
+        let offset = map[k] as usize;
+        let of = map[k + 1];
+        let t = map[k + 2] as u64;
         m = trace_entry(table, here, want, offset, of, t, memory, sink, marks, to, m)?;
-        at += 3;
     }
     Some(m)
 }

@@ -160,7 +160,7 @@ emit-nil k v s o e = rw e refl
 
 -- for a sink the places are the words there
 module _ (k : Into) (v : List ℕ) where
-  words-all : (s : Raw) (ps : List ℕ) → handed_all (words_to k) v s ps ≡ emit_all k s (map (handle_at v) ps)
+  pub words-all : (s : Raw) (ps : List ℕ) → handed_all (words_to k) v s ps ≡ emit_all k s (map (handle_at v) ps)
   unfolding handed_all handed emit_all
   words-all s [] = refl
   words-all s (p ∷ ps) = words-all (emitted k s (handle_at v p)) ps

@@ -1,5 +1,5 @@
 -- The ways out of a trace of a value, an object and a slot of a heap, one law for each. Assumes nothing.
-use Prim.Native.Nat.{ℕ, suc, ◌+◌, ◌-◌, ◌/◌, ◌≤◌, ◌<◌}
+use Prim.Native.Nat.{ℕ, suc, ◌+◌, ◌-◌, ◌*◌, ◌/◌, ◌≤◌, ◌<◌}
 use mathlib.Core.Path.{◌≡◌, refl, sym, ap, ◌∙◌}
 use mathlib.Core.Bool.{Bool, true, false, not}
 use mathlib.Core.Option.{some}
@@ -55,32 +55,25 @@ pub object-words : (T : Table) (t : ℕ) (v : List ℕ) (k : Into) (s : Raw) (r 
 unfolding object_handles
 object-words T t v k s r ms to er = er ∙ words-at k v s (object_places T t v)
 
--- ---- a Handles object: the places from `at` on are still to come
+-- ---- a Handles object of c handles: those from the i-th on are still to come
 
-pub rest-none : (len at : ℕ) → len - at < 8 → rising ((len - at) / 8) at ≡ []
-unfolding rising
-rest-none len at h = let z : (len - at) / 8 ≡ 0 = omega arith in rw z refl
-
-pub rest-next : (len at : ℕ) → 8 ≤ len - at → rising ((len - at) / 8) at ≡ at ∷ rising ((len - (at + 8)) / 8) (at + 8)
-unfolding rising
-rest-next len at h = let z : (len - at) / 8 ≡ suc ((len - (at + 8)) / 8) = omega arith in rw z refl
-
-pub handles-first : (k : Aim) (v : List ℕ) (s : Raw) → handed_all k v s (rising ((length v - 24) / 8) 24) ≡ handed_all k v s (handles_places (length v))
+pub handles-first : (k : Aim) (v : List ℕ) (s : Raw) (c : ℕ) → c ≡ (length v - 24) / 8 → handed_all k v s (rising (c - 0) (24 + 8 * 0)) ≡ handed_all k v s (handles_places (length v))
 unfolding handles_places
-handles-first k v s = refl
+handles-first k v s c e = let z : c - 0 ≡ (length v - 24) / 8 = omega arith in ap (λ (n : ℕ). handed_all k v s (rising n 24)) z
 
-pub handles-few : (k : Aim) (v : List ℕ) (s : Raw) → length v < 32 → s ≡ handed_all k v s (handles_places (length v))
-unfolding handles_places handed_all
-handles-few k v s h = rw (rest-none (length v) 24 (omega arith)) refl
+module _ (k : Aim) (v : List ℕ) (c i : ℕ) (s G : Raw) (inv : handed_all k v s (rising (c - i) (24 + 8 * i)) ≡ G) where
+  pub handles-end : c ≤ i → s ≡ G
+  unfolding rising handed_all
+  handles-end h = let z : c - i ≡ 0 = omega arith in rw z at inv
 
-module _ (k : Aim) (v : List ℕ) (at : ℕ) (s G : Raw) (inv : handed_all k v s (rising ((length v - at) / 8) at) ≡ G) (last : ℕ) (e : last + 8 ≡ length v) where
-  pub handles-end : last < at → s ≡ G
-  unfolding handed_all
-  handles-end h = rw (rest-none (length v) at (omega arith)) at inv
-
-  pub handles-next : at ≤ last → (t : Raw) → t ≡ handed k v s at → handed_all k v t (rising ((length v - (at + 8)) / 8) (at + 8)) ≡ G
-  unfolding handed_all
-  handles-next l t et = ap (λ (u : Raw). handed_all k v u (rising ((length v - (at + 8)) / 8) (at + 8))) et ∙ (rw (rest-next (length v) at (omega arith)) at inv)
+  pub handles-next : i < c → (t : Raw) → t ≡ handed k v s (24 + 8 * i) → handed_all k v t (rising (c - (i + 1)) (24 + 8 * (i + 1))) ≡ G
+  unfolding rising handed_all
+  handles-next l t et =
+      let z : c - i ≡ suc (c - (i + 1)) = omega arith in
+      let y : 24 + 8 * (i + 1) ≡ 24 + 8 * i + 8 = omega arith in
+      ap (λ (u : Raw). handed_all k v u (rising (c - (i + 1)) (24 + 8 * (i + 1)))) et
+      ∙ ap (λ (a : ℕ). handed_all k v (handed k v s (24 + 8 * i)) (rising (c - (i + 1)) a)) y
+      ∙ (rw z at inv)
 
 -- ---- visible data by its kind
 

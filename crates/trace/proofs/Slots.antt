@@ -9,24 +9,8 @@ use native.Mathlib.Omega.{arith}
 use Rattle.word.specs.Result.{Result, ok, refused}
 use Rattle.ty.specs.Types.{Table}
 use Rattle.layout.proofs.LayLaws.{rest}
-use Rattle.trace.specs.Places.{places_at, object_places, rising, handles_places, kind_places, handle_at, words_at, value_handles, object_handles, handles_of}
+use Rattle.trace.specs.Places.{places_at, object_places, handles_places, kind_places, handle_at, words_at, value_handles, object_handles, handles_of}
 use Rattle.trace.specs.Emit.{Answer, Raw, Into, emitted, emit_all, emitting, handing_at, told}
-use Rattle.trace.proofs.Objects.{rest-none, rest-next}
-
--- ---- a Handles object: the places from `at` on are still to come
-
-pub words-first : (k : Into) (v : List ℕ) (s : Raw) → emit_all k s (map (handle_at v) (rising ((length v - 24) / 8) 24)) ≡ emit_all k s (map (handle_at v) (handles_places (length v)))
-unfolding handles_places
-words-first k v s = refl
-
-module _ (k : Into) (v : List ℕ) (at : ℕ) (s G : Raw) (inv : emit_all k s (map (handle_at v) (rising ((length v - at) / 8) at)) ≡ G) where
-  pub words-end : length v - at < 8 → s ≡ G
-  unfolding emit_all
-  words-end h = rw (rest-none (length v) at h) at inv
-
-  pub words-next : 8 ≤ length v - at → (h : ℕ) → h ≡ handle_at v at → (t : Raw) → t ≡ emitted k s h → emit_all k t (map (handle_at v) (rising ((length v - (at + 8)) / 8) (at + 8))) ≡ G
-  unfolding emit_all
-  words-next l h eh t et = ap (λ (u : Raw). emit_all k u (map (handle_at v) (rising ((length v - (at + 8)) / 8) (at + 8)))) (et ∙ ap (emitted k s) eh) ∙ (rw (rest-next (length v) at l) at inv)
 
 -- ---- a slot
 

@@ -147,16 +147,11 @@ pub fn trace_handles(
         emit_all (into sink (slots_resolve here.entry)) (raw_of marks.old to.old n)
         (map (handle_at «data».now) (handles_places (length «data».now))) }
 {
-    if data.len() < 32 {
-        return n;
-    }
-    let last = data.len() - 8;
-    let mut at: usize = 24;
+    let count = data.len().saturating_sub(24) / 8;
     let mut m = n;
-    while at <= last {
-        let h = word::get_le(data, at, 8);
+    for i in 0..count {
+        let h = word::get_le(data, 24 + 8 * i, 8);
         m = emit(here, sink, marks, to, m, h);
-        at += 8;
     }
     m
 }

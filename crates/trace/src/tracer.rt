@@ -470,15 +470,10 @@ impl Tracer<'_, '_, '_> {
             handed_all (aimed self.now) self.now.object.now (raw_of marks.old to.old n)
             (handles_places (length self.now.object.now)) }
     {
-        if self.object.len() < 32 {
-            return n;
-        }
-        let last = self.object.len() - 8;
-        let mut at: usize = 24;
+        let count = self.object.len().saturating_sub(24) / 8;
         let mut m = n;
-        while at <= last {
-            m = self.hand(at, marks, to, m);
-            at += 8;
+        for i in 0..count {
+            m = self.hand(24 + 8 * i, marks, to, m);
         }
         m
     }

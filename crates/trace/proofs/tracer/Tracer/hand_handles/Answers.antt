@@ -1,29 +1,15 @@
-use mathlib.Core.Path.{refl}
 use native.Mathlib.Omega.{arith}
-use Rattle.trace.proofs.Objects.{handles-first, handles-few, handles-end, handles-next}
-use borrow.Author.Rules.{rules}
+use Rattle.trace.proofs.Objects.{handles-first, handles-end, handles-next}
 use Rattle.trace.proofs.tracer.Tracer.hand_handles.Goals as goal
 
-pub returns-then-self-lt32 : goal.returns-then-self-lt32
-returns-then-self-lt32 c = search handles-few
-
-pub overflow_sub-last : goal.overflow_sub-last
-overflow_sub-last c = omega arith
-
-pub loop-at-init : goal.loop-at-init
-loop-at-init c = (handles-first _ _ _, refl, refl, omega arith)
+pub loop-i-init : goal.loop-i-init
+loop-i-init c = let e = c.saturating_sub-count.ensures in (handles-first _ _ _ _ (omega arith), omega arith)
 
 pub hand-m-requires : goal.hand-m-requires
-hand-m-requires c = omega arith
+hand-m-requires c = omega (arith, c.loop-i-test.true, c.loop-i.invariant.1)
 
-pub overflow_add-at : goal.overflow_add-at
-overflow_add-at c = omega arith
-
-pub loop-at-smaller : goal.loop-at-smaller
-loop-at-smaller c = omega arith
-
-pub loop-at-preserved : goal.loop-at-preserved
-loop-at-preserved c = (search handles-next, search rules, search rules, omega arith)
+pub loop-i-preserved : goal.loop-i-preserved
+loop-i-preserved c = (handles-next _ _ _ _ _ _ c.loop-i.invariant.0 c.loop-i-test.true _ c.hand-m.ensures, c.loop-i.invariant.1)
 
 pub returns : goal.returns
-returns c = search handles-end
+returns c = handles-end _ _ _ _ _ _ c.loop-i.invariant.0 c.loop-i-test.false
