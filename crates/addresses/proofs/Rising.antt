@@ -1,4 +1,4 @@
--- Pairs of an address and a slot: the loop that asks whether they rise, and the search by halves. Assumes nothing.
+-- Pairs of an address and a slot: the loop that asks whether they rise, and what a search by their addresses finds. Assumes nothing.
 use mathlib.Core.Path.{◌≡◌, refl, sym, ap, ◌∙◌, subst}
 use mathlib.Core.Bool.{Bool, true, false, ◌&&◌}
 use mathlib.Core.List.{List, [], ◌∷◌}
@@ -6,29 +6,21 @@ use Prim.Native.Nat.{ℕ, zero, suc, ◌+◌, ◌*◌, ◌/◌, ◌%◌, ◌-◌
 use native.Mathlib.Omega.{arith}
 use native.Mathlib.Decide.{dec_lt}
 use lib.ListN.{length, get_or, drop, drop_of_length-le}
-use lib.Dec.{leb, ltb, eqb}
+use lib.Dec.{leb, eqb}
 use borrow.Author.Tests.{le-leb, lt-leb, leb-true, eq-eqb, ne_eqb}
 use Rattle.std.specs.Prelude.{if◌then◌else◌}
-use Rattle.word.proofs.Bools.{and_both}
+use Rattle.word.proofs.Bools.{and_both, both-and}
 use Rattle.heap_calls.specs.Pins.{rising_from, rising}
-use Rattle.heap_calls.specs.Inner.Recycled.{Half}
-use Rattle.heap_calls.proofs.Searching.{Between, between-all, between-half}
+use Rattle.std.specs.Prelude.{Result, Ok, Err}
+use Rattle.std.specs.Simd.{first_chunks}
+use Rattle.std.specs.List.Sorted.{IsSearchInRange, IsBinarySearchResult, IsNonDecreasingBy}
+use Rattle.std.specs.Ordering.{nat_cmp, ordering_index}
+use Rattle.std.proofs.lemmas.Cmp.{ranked}
+use Rattle.std.proofs.lemmas.List.Sorted.{IsNonDecreasingBy-from_default}
+use Rattle.std.proofs.lemmas.Bool.Decides.{nat_tests}
 use Rattle.addresses.specs.Listed.{addresses_of, paired, slot_of}
 
 -- ---- the addresses by their places
-
-pub addresses-length : (list : List ℕ) → length (addresses_of list) ≡ length list / 2
-unfolding addresses_of
-addresses-length [] = refl
-addresses-length (a ∷ []) = refl
-addresses-length (a ∷ i ∷ rest) = let e = addresses-length rest in omega arith
-
-pub addresses-at : (list : List ℕ) (k : ℕ) → k < length list / 2 → get_or (addresses_of list) k 0 ≡ get_or list (2 * k) 0
-unfolding addresses_of
-addresses-at [] k h = absurd (omega arith)
-addresses-at (a ∷ []) k h = absurd (omega arith)
-addresses-at (a ∷ i ∷ rest) zero h = refl
-addresses-at (a ∷ i ∷ rest) (suc k) h = addresses-at rest k (omega arith) ∙ ap (λ (n : ℕ). get_or (a ∷ i ∷ rest) n 0) (let e : suc (suc (2 * k)) ≡ 2 * suc k = omega arith in e)
 
 drop-two : (list : List ℕ) (n : ℕ) → n + 1 < length list → addresses_of (drop n list) ≡ get_or list n 0 ∷ addresses_of (drop (n + 2) list)
 unfolding addresses_of
@@ -137,30 +129,70 @@ slot-nowhere (a ∷ i ∷ rest) x h =
     slot-nowhere rest x (λ k l e. h (suc k) (omega arith) (ap (λ (n : ℕ). get_or (a ∷ i ∷ rest) n 0) (let u : 2 * suc k ≡ suc (suc (2 * k)) = omega arith in u) ∙ e))
     ∙ sym (ap (λ (t : Bool). if t then (i ∷ []) else slot_of rest x) (ne_eqb a x (h zero (omega arith))))
 
--- x is not among the addresses below `low`, nor from `high` on
-pub record Within (x : ℕ) (list : List ℕ) (low high : ℕ) : Type 0 where
-  pub between : Between x (addresses_of list) low high
-  pub few : high ≤ length list / 2
+-- the addresses rise
+pairs-order : (from : ℕ) (list : List ℕ) → rising_from from (addresses_of list) ≡ true → (j k : ℕ) → j ≤ k → k < length list / 2 → get_or list (2 * j) 0 ≤ get_or list (2 * k) 0
+unfolding rising_from addresses_of
+pairs-order from [] r j k l h = absurd (omega arith)
+pairs-order from (a ∷ []) r j k l h = absurd (omega arith)
+pairs-order from (a ∷ i ∷ rest) r zero k l h =
+    let b = and_both (leb from a) (rising_from (suc a) (addresses_of rest)) r in
+    low-address a (a ∷ i ∷ rest) (both-and (leb a a) (rising_from (suc a) (addresses_of rest)) (le-leb a a (omega arith)) b.1) k h
+pairs-order from (a ∷ i ∷ rest) r (suc j) zero l h = absurd (omega arith)
+pairs-order from (a ∷ i ∷ rest) r (suc j) (suc k) l h =
+    let b = and_both (leb from a) (rising_from (suc a) (addresses_of rest)) r in
+    let u : suc (suc (2 * j)) ≡ 2 * suc j = omega arith in
+    let v : suc (suc (2 * k)) ≡ 2 * suc k = omega arith in
+    let e = pairs-order (suc a) rest b.1 j k (omega arith) (omega arith) in
+    omega (arith, ap (λ (n : ℕ). get_or (a ∷ i ∷ rest) n 0) u, ap (λ (n : ℕ). get_or (a ∷ i ∷ rest) n 0) v)
 
-pub within_all : (x : ℕ) (list : List ℕ) → Within x list 0 (length list / 2)
-within_all x list =
-    record { between = subst (λ (n : ℕ). Between x (addresses_of list) 0 n) (addresses-length list) (between-all x (addresses_of list)); few = omega arith }
+-- ---- the list as chunks of two
 
-module _ {x : ℕ} {list : List ℕ} {low high : ℕ} (s : Within x list low high) where
-  pub within-found : paired list ≡ true → (mid : ℕ) → mid < high → get_or list (2 * mid) 0 ≡ x → get_or list (2 * mid + 1) 0 ∷ [] ≡ slot_of list x
-  within-found p mid h e = slot-there 0 list x (rises-in list p) mid (omega (arith, s.few)) e
+abbrev chunks : List ℕ → List (List ℕ)
+chunks list = first_chunks 2 (length list / 2) list
 
-  pub within_none : high ≤ low → [] ≡ slot_of list x
-  within_none h =
-      slot-nowhere list x (λ k l e. elim (dec_lt k low) [
-        | yes y ↦ omega (arith, s.between.below k y, addresses-at list k l)
-        | no y ↦ omega (arith, s.between.above k (omega arith) (omega (arith, addresses-length list)), addresses-at list k l)
+chunk-part : (list : List ℕ) (m k : ℕ) (d : List ℕ) → m ≤ length list / 2 → k < m → (h : ℕ) → h < 2 → get_or (get_or (first_chunks 2 m list) k d) h 0 ≡ get_or list (2 * k + h) 0
+chunk-part list zero k d n l h b = absurd (omega arith)
+chunk-part [] (suc m) k d n l h b = absurd (omega arith)
+chunk-part (a ∷ []) (suc m) k d n l h b = absurd (omega arith)
+chunk-part (a ∷ i ∷ rest) (suc m) zero d n l zero b = refl
+chunk-part (a ∷ i ∷ rest) (suc m) zero d n l (suc zero) b = refl
+chunk-part (a ∷ i ∷ rest) (suc m) zero d n l (suc (suc h)) b = absurd (omega arith)
+chunk-part (a ∷ i ∷ rest) (suc m) (suc k) d n l h b =
+    chunk-part rest m k d (omega arith) (omega arith) h b ∙ ap (λ (x : ℕ). get_or (a ∷ i ∷ rest) x 0) (let u : suc (suc (2 * k + h)) ≡ 2 * suc k + h = omega arith in u)
+
+chunks-length : (list : List ℕ) (m : ℕ) → length (first_chunks 2 m list) ≡ m
+chunks-length list zero = refl
+chunks-length list (suc m) = ap suc (chunks-length (drop 2 list) m)
+
+pub pair-inside : (n : ℕ) (r : Result ℕ ℕ) → IsSearchInRange r n → (i : ℕ) → r ≡ Ok i → i < n
+pair-inside n r b i e = subst (λ (x : Result ℕ ℕ). IsSearchInRange x n) e b
+
+module _ (list : List ℕ) (x : ℕ) (p : paired list ≡ true) (ps : List (List ℕ)) (es : ps ≡ first_chunks 2 (length list / 2) list)
+    (r : Result ℕ ℕ) (bound : IsSearchInRange r (length ps)) (by_key : IsBinarySearchResult (λ y. nat_cmp (get_or y 0 0) x) ps r) where
+  many : length ps ≡ length list / 2
+  many = ap length es ∙ chunks-length list (length list / 2)
+
+  key-at : (k : ℕ) (d : List ℕ) → k < length list / 2 → get_or (get_or ps k d) 0 0 ≡ get_or list (2 * k) 0
+  key-at k d h =
+      ap (λ (l : List (List ℕ)). get_or (get_or l k d) 0 0) es ∙ chunk-part list (length list / 2) k d (omega arith) h 0 (omega arith) ∙ ap (λ (n : ℕ). get_or list n 0) (let u : 2 * k + 0 ≡ 2 * k = omega arith in u)
+
+  comparisons-rise : IsNonDecreasingBy (λ (y : List ℕ). ordering_index (nat_cmp (get_or y 0 0) x)) ps
+  comparisons-rise = IsNonDecreasingBy-from_default (λ (y : List ℕ). ordering_index (nat_cmp (get_or y 0 0) x)) ps [] (λ i j le in_range.
+      let keys : get_or (get_or ps i []) 0 0 ≤ get_or (get_or ps j []) 0 0 = omega (arith, many, key-at i [] (omega (arith, many)), key-at j [] (omega (arith, many)), pairs-order 0 list (rises-in list p) i j le (omega (arith, many))) in
+      grind (arith, nat_tests))
+
+  pub pair-found : (i : ℕ) → r ≡ Ok i → (d : List ℕ) → get_or (get_or ps i d) 1 0 ∷ [] ≡ slot_of list x
+  pair-found i e d =
+      let l : i < length list / 2 = omega (arith, many, pair-inside (length ps) r bound i e) in
+      let at = subst (λ (o : Result ℕ ℕ). IsBinarySearchResult (λ y. nat_cmp (get_or y 0 0) x) ps o) e by_key in
+      let k : get_or list (2 * i) 0 ≡ x = sym (key-at i [] l) ∙ ranked (get_or (get_or ps i []) 0 0) x _ (sym (at [])) in
+      let s : get_or (get_or ps i d) 1 0 ≡ get_or list (2 * i + 1) 0 = ap (λ (c : List (List ℕ)). get_or (get_or c i d) 1 0) es ∙ chunk-part list (length list / 2) i d (omega arith) l 1 (omega arith) in
+      ap (λ (n : ℕ). n ∷ []) s ∙ slot-there 0 list x (rises-in list p) i l k
+
+  pub pair-missed : (i : ℕ) → r ≡ Err i → [] ≡ slot_of list x
+  pair-missed i e =
+      let parted = subst (λ (o : Result ℕ ℕ). IsBinarySearchResult (λ y. nat_cmp (get_or y 0 0) x) ps o) e by_key in
+      slot-nowhere list x (λ k l w. elim (dec_lt k i) [
+        | yes y ↦ omega (arith, key-at k [] l, ranked (get_or (get_or ps k []) 0 0) x _ (sym ((parted comparisons-rise).0 k [] (omega (arith, many)) y)))
+        | no y ↦ omega (arith, key-at k [] l, ranked (get_or (get_or ps k []) 0 0) x _ (sym ((parted comparisons-rise).1 k [] (omega arith) (omega (arith, many)))))
       ])
-
-  pub within-half : {mid low' high' : ℕ} → paired list ≡ true → low ≤ mid → mid < high → (get_or list (2 * mid) 0 ≡ x → ⊥) → Half (ltb (get_or list (2 * mid) 0) x) low mid high low' high'
-      → Within x list low' high'
-  within-half {mid} {low'} {high'} p l h ne half =
-      let e : get_or (addresses_of list) mid 0 ≡ get_or list (2 * mid) 0 = addresses-at list mid (omega (arith, s.few)) in
-      let b : Between x (addresses_of list) low' high' =
-      between-half s.between (rises-in list p) l h (λ q. ne (sym e ∙ q)) (subst (λ (y : ℕ). Half (ltb y x) low mid high low' high') (sym e) half) in
-      record { between = b; few = omega (arith, b.within, addresses-length list) }

@@ -6,8 +6,6 @@ ghost use Rattle.std.specs.Prelude.{◌≡◌, true};
 ghost use Rattle.addresses.specs.Listed.{paired, slot_of};
 ghost use Rattle.addresses.specs.Told.{told};
 
-use heap_calls::recycle::half;
-
 // Is the list one of pairs whose addresses rise strictly?
 pub fn rise(list: &[u64]) -> bool
     ensures { result ≡ paired list.now }
@@ -31,24 +29,14 @@ pub struct Pairs<'a> {
 }
 
 impl Pairs<'_> {
-    // The slot that an address is listed with, by halves.
-    // Kept: `binary_search` is for the elements of a slice, and the pairs lie flat in a list of words, as the C interface has it.
+    // The slot that an address is listed with.
     pub fn find(self, x: u64) -> Option<u64>
         ensures { told result ≡ slot_of self.entry.list.now x }
     {
-        let Pairs { list } = self;
-        let mut low: usize = 0;
-        let mut high = list.len() / 2;
-        while low < high {
-            let mid = low + (high - low) / 2;
-            let y = list[2 * mid];
-            if y == x {
-                return Some(list[2 * mid + 1]);
-            }
-            let r = half(y < x, low, mid, high);
-            low = r.low;
-            high = r.high;
+        let (pairs, _) = self.list.as_chunks::<2>();
+        match pairs.binary_search_by_key(&x, |pair| pair[0]) {
+            Ok(i) => Some(pairs[i][1]),
+            Err(_) => None,
         }
-        None
     }
 }

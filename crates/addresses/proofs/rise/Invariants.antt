@@ -1,5 +1,4 @@
 -- `addresses::rise` meets its contract. The invariant: all rise exactly if those left do, above the one before them.
-use Prim.Native.Nat.{◌*◌}
 use Rattle.addresses.proofs.Rising.{Rises}
 use Rattle.addresses.proofs.rise.Given as goal
 

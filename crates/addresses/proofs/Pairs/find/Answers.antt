@@ -1,19 +1,18 @@
-use native.Mathlib.Omega.{arith}
-use Rattle.heap_calls.proofs.Searching.{half-less}
-use Rattle.addresses.proofs.Rising.{within_all, within-found, within_none, within-half}
+-- `addresses::Pairs::find` meets its contract.
+use Rattle.std.proofs.Common.{rules, get_or}
+use Rattle.std.proofs.lemmas.List.Sorted.{answers_always}
+use Rattle.addresses.proofs.Rising.{pair-found, pair-missed, pair-inside}
 use Rattle.addresses.proofs.Pairs.find.Goals as goal
 
-pub loop-low-init : goal.loop-low-init
-loop-low-init c = within_all _ _
+pub bounds-pairs-i : goal.bounds-pairs-i
+bounds-pairs-i c = pair-inside _ _ c.binary_search_by_key.ensures.bound _ c.in-Ok.is
 
-pub returns-then-y-x : goal.returns-then-y-x
-returns-then-y-x c = within-found c.loop-low.invariant c.args.self.paired _ (omega (arith, c.loop-low.invariant)) c.if-y-x.true
+pub returns-in-Ok : goal.returns-in-Ok
+returns-in-Ok c =
+    let by_key = c.binary_search_by_key.ensures.position (λ pair. get_or pair 0 0) (answers_always _ _ _ (λ f a r g called. search rules)) in
+    pair-found c.args.self.list.now c.args.x c.args.self.paired _ c.as_chunks.ensures.front _ c.binary_search_by_key.ensures.bound by_key _ c.in-Ok.is _
 
-pub loop-low-smaller : goal.loop-low-smaller
-loop-low-smaller c = half-less c.half-r.ensures (omega (arith, c.loop-low.invariant)) (omega (arith, c.loop-low.invariant))
-
-pub loop-low-preserved : goal.loop-low-preserved
-loop-low-preserved c = within-half c.loop-low.invariant c.args.self.paired (omega (arith, c.loop-low.invariant)) (omega (arith, c.loop-low.invariant)) c.if-y-x.false c.half-r.ensures
-
-pub returns : goal.returns
-returns c = search within_none
+pub returns-in-Err : goal.returns-in-Err
+returns-in-Err c =
+    let by_key = c.binary_search_by_key.ensures.position (λ pair. get_or pair 0 0) (answers_always _ _ _ (λ f a r g called. search rules)) in
+    pair-missed c.args.self.list.now c.args.x c.args.self.paired _ c.as_chunks.ensures.front _ c.binary_search_by_key.ensures.bound by_key _ c.in-Err.is
