@@ -3,7 +3,7 @@
 
 ghost use Rattle.std.specs.Prelude.{◌≡◌, List, [], ◌∷◌, ◌++◌, map, ℕ, ◌+◌, ◌-◌, ◌*◌, ◌/◌, ◌^◌, ◌≤◌, ◌<◌, length, take, drop, replicate, if◌then◌else◌};
 ghost use Rattle.text.specs.Put.{put_text, Puts};
-ghost use Rattle.text.specs.Answer.{hex_at, HexParsed};
+ghost use Rattle.text.specs.Answer.{hex_at};
 ghost use Rattle.pages.specs.Form.{writes_width, from_column};
 ghost use Rattle.pages.specs.Page.{out_of_column};
 ghost use Rattle.heap.specs.State.{data_of, data_size};
@@ -18,6 +18,7 @@ ghost use Rattle.page_reader.specs.Reading.{PageRead};
 use heap::{Changed, Heap};
 use page_check::page::Page;
 use pages::Listed;
+use text::hex::Hex;
 
 // Puts the numbers of `count` slots, whose lines stand from `at` on, into their runs.
 fn fill_slots(s: &[u8], at: usize, count: usize, narrow: &mut [u32], wide: &mut [u64])
@@ -44,17 +45,16 @@ fn fill_slots(s: &[u8], at: usize, count: usize, narrow: &mut [u32], wide: &mut 
     }
 }
 
-// Puts an object's bytes, whose column a text spells from `at` on, into the pool from `to` on, and answers where they end. Planes are restored in place.
-fn fill_column(s: &[u8], at: usize, count: usize, planar: bool, pool: &mut [u8], to: usize) -> usize
-    requires hex_parsed { HexParsed s.now at }
-    requires count_value { (count ≡ length (hex_at s.now at)) × (to + count ≤ length pool.old) }
-    ensures { Puts pool.old pool.new to result (from_column planar (hex_at s.now at)) }
+// Puts an object's bytes, whose column a text spells, into the pool from `to` on, and answers where they end. Planes are restored in place.
+fn fill_column(hex: Hex, planar: bool, pool: &mut [u8], to: usize) -> usize
+    requires { to + hex.count ≤ length pool.old }
+    ensures { Puts pool.old pool.new to result (from_column planar (hex_at hex.entry.text.now hex.entry.at)) }
 {
-    let end = text::copy_hex(s, at, count, pool, to);
+    let end = hex.copy(pool, to);
     if !planar {
         return end;
     }
-    planes::restore(s, at, &mut pool[to..end]);
+    planes::restore(hex, &mut pool[to..end]);
     end
 }
 
@@ -70,8 +70,12 @@ fn fill_data(s: &[u8], at: usize, count: usize, planar: bool, pool: &mut [u8])
         let Some(x) = page_check::get_slot(s, k, true) else {
             return;
         };
-        let from = x.next - 1 - x.bytes - x.bytes;
-        to = fill_column(s, from, x.bytes, planar, pool, to);
+        let hex = Hex {
+            text: s,
+            at: x.next - 1 - x.bytes - x.bytes,
+            count: x.bytes,
+        };
+        to = fill_column(hex, planar, pool, to);
         k = x.next;
     }
 }

@@ -5,11 +5,13 @@ ghost use Rattle.std.specs.Prelude.{◌≡◌, ℕ, ◌+◌, ◌-◌, ◌*◌, �
 ghost use Rattle.word.specs.Le.{le, bytes};
 ghost use Rattle.word.specs.Put.{put};
 ghost use Rattle.text.specs.Text.{hex};
-ghost use Rattle.text.specs.Answer.{hex_at, HexParsed};
+ghost use Rattle.text.specs.Answer.{hex_at};
 ghost use Rattle.text.specs.Put.{Puts};
 ghost use Rattle.planes.specs.Planes.{count, planes, turned, summed, restored};
 ghost use Rattle.planes.specs.Inner.Words.{word_at, before, difference, plane_byte, plane};
 ghost use Rattle.planes.specs.Inner.Steps.{Scattering};
+
+use text::hex::Hex;
 
 // The word before word i, 0 before the first.
 fn word_before(object: &[u8], i: usize) -> u64
@@ -62,26 +64,24 @@ pub fn put_planes(out: &mut [u8], at: usize, object: &[u8]) -> usize
 }
 
 // Puts plane j of the column that a text spells into its places.
-fn scatter_plane(s: &[u8], at: usize, d: &mut [u8], n: usize, j: usize)
-    requires hex_parsed { HexParsed s.now at }
-    requires n_in_bounds { (n * 8 ≤ length (hex_at s.now at)) × (j * n + n ≤ length (hex_at s.now at)) × (j < 8) }
-    requires scattering { Scattering 8 n (hex_at s.now at) d.old (j * n) }
-    ensures { Scattering 8 n (hex_at s.now at) d.new (j * n + n) }
+fn scatter_plane(hex: Hex, d: &mut [u8], n: usize, j: usize)
+    requires n_in_bounds { (n * 8 ≤ length (hex_at hex.text.now hex.at)) × (j * n + n ≤ length (hex_at hex.text.now hex.at)) × (j < 8) }
+    requires scattering { Scattering 8 n (hex_at hex.text.now hex.at) d.old (j * n) }
+    ensures { Scattering 8 n (hex_at hex.entry.text.now hex.entry.at) d.new (j * n + n) }
 {
     for i in 0..n {
-        let b = text::hex_byte(s, at, j * n + i);
+        let b = hex.byte(j * n + i);
         d[i * 8 + j] = b;
     }
 }
 
 // Puts all planes into their places.
-fn scatter(s: &[u8], at: usize, d: &mut [u8], n: usize)
-    requires hex_parsed { HexParsed s.now at }
-    requires n_in_bounds { (n * 8 ≤ length (hex_at s.now at)) × (d.old ≡ hex_at s.now at) }
-    ensures { d.new ≡ turned n 8 (hex_at s.now at) }
+fn scatter(hex: Hex, d: &mut [u8], n: usize)
+    requires { (n * 8 ≤ length (hex_at hex.text.now hex.at)) × (d.old ≡ hex_at hex.text.now hex.at) }
+    ensures { d.new ≡ turned n 8 (hex_at hex.entry.text.now hex.entry.at) }
 {
     for j in 0..8 {
-        scatter_plane(s, at, d, n, j);
+        scatter_plane(hex, d, n, j);
     }
 }
 
@@ -107,12 +107,11 @@ fn sum_up(d: &mut [u8], n: usize)
 }
 
 // Restores the object whose column a text spells and lies in d.
-pub fn restore(s: &[u8], at: usize, d: &mut [u8])
-    requires hex_parsed { HexParsed s.now at }
-    requires d_value { d.old ≡ hex_at s.now at }
-    ensures { d.new ≡ restored 8 (hex_at s.now at) }
+pub fn restore(hex: Hex, d: &mut [u8])
+    requires { d.old ≡ hex_at hex.text.now hex.at }
+    ensures { d.new ≡ restored 8 (hex_at hex.entry.text.now hex.entry.at) }
 {
     let n = d.len() / 8;
-    scatter(s, at, d, n);
+    scatter(hex, d, n);
     sum_up(d, n);
 }

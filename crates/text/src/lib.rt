@@ -1,13 +1,17 @@
 // Text as bytes: decimal numbers without spare zeros, lowercase hexadecimal, literals.
 #![tactic(auto)]
 
-ghost use Rattle.std.specs.Prelude.{◌≡◌, ℕ, ◌+◌, ◌-◌, ◌/◌, ◌≤◌, ◌<◌, length, take, drop, get_or, true, MatchOption, MatchBool};
+ghost use Rattle.std.specs.Prelude.{◌≡◌, ℕ, ◌+◌, ◌-◌, ◌/◌, ◌≤◌, ◌<◌, length, take, drop, true, MatchOption, MatchBool};
 ghost use Rattle.text.specs.Text.{decimal, hex, hex_digit, Stops, scan, capped, read_decimal, read_literal, hex_digit_of, read_hex, read_field};
 ghost use Rattle.text.specs.Answer.{value_answer, literal_answer, hex_answer, hex_more, DigitAt};
 ghost use Rattle.text.specs.Format.{either};
 ghost use Rattle.text.specs.Put.{Puts};
 ghost use Rattle.std.proofs.Math.Option.{none, some};
 ghost use Rattle.text.specs.Answer.{hex_at, HexParsed, HexDigit, HexDigits, HexRun};
+
+pub mod hex;
+
+use hex::Hex;
 
 // How many digits a number has.
 pub fn decimal_len(n: u64) -> usize
@@ -211,24 +215,12 @@ pub fn get_field(s: &[u8], at: usize, most: u64, end: u8) -> Option<(u64, usize)
     }
 }
 
-// Byte i of those that a text spells in hexadecimal from `at` on.
-pub fn hex_byte(s: &[u8], at: usize, i: usize) -> u8
-    requires hex_parsed { HexParsed s.now at }
-    requires i_in_bounds { i < length (hex_at s.now at) }
-    ensures { result ≡ get_or (hex_at s.now at) i 0 }
-{
-    let k = at + 2 * i;
-    16 * hex_value(s[k]) + hex_value(s[k + 1])
-}
-
 // Puts the `count` bytes that a text spells in hexadecimal from `at` on into `out` from `to` on, and answers where they end.
 pub fn copy_hex(s: &[u8], at: usize, count: usize, out: &mut [u8], to: usize) -> usize
     requires hex_parsed { HexParsed s.now at }
     requires count_value { (count ≡ length (hex_at s.now at)) × (to + count ≤ length out.old) }
     ensures { Puts out.old out.new to result (hex_at s.now at) }
 {
-    for i in 0..count {
-        out[to + i] = hex_byte(s, at, i);
-    }
-    to + count
+    let hex = Hex { text: s, at, count };
+    hex.copy(out, to)
 }

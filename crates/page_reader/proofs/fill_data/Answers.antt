@@ -1,3 +1,4 @@
+use Rattle.text.proofs.Copying.{unlost}
 use native.Mathlib.Omega.{arith}
 use Rattle.page_reader.proofs.Pooling.{pooling-begin, pooling-some, line-end, line-data, line-digits, data-there, data-size, data-fits, pooling-next, pooling-end}
 use Rattle.page_reader.proofs.fill_data.Goals as goal
@@ -11,17 +12,20 @@ shape_of-pool-in_default c = absurd (search pooling-some)
 pub returns-in_default : goal.returns-in_default
 returns-in_default c = absurd (search pooling-some)
 
-pub overflow_sub-from : goal.overflow_sub-from
-overflow_sub-from c = search line-end
+pub overflow_sub-hex : goal.overflow_sub-hex
+overflow_sub-hex c = search line-end
 
-pub overflow_sub-from-in-loop-i : goal.overflow_sub-from-in-loop-i
-overflow_sub-from-in-loop-i c = search line-data
+pub overflow_sub-hex-in-loop-i : goal.overflow_sub-hex-in-loop-i
+overflow_sub-hex-in-loop-i c = search line-data
 
-pub overflow_sub-from-in-loop-i-2 : goal.overflow_sub-from-in-loop-i-2
-overflow_sub-from-in-loop-i-2 c = search line-digits
+pub overflow_sub-hex-in-loop-i-2 : goal.overflow_sub-hex-in-loop-i-2
+overflow_sub-hex-in-loop-i-2 c = search line-digits
+
+pub invariant_of-hex : goal.invariant_of-hex
+invariant_of-hex c = record { spelled = (unlost _ _ (search data-there), search data-size) }
 
 pub fill_column-to-requires : goal.fill_column-to-requires
-fill_column-to-requires c = record { hex_parsed = search data-there; count_value = (search data-size, search data-fits) }
+fill_column-to-requires c = search data-fits
 
 pub loop-i-preserved : goal.loop-i-preserved
 loop-i-preserved c = search pooling-next

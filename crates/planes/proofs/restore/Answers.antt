@@ -3,7 +3,7 @@ use Rattle.std.proofs.Common.{rules}
 use Rattle.planes.proofs.restore.Goals as goal
 
 pub scatter-requires : goal.scatter-requires
-scatter-requires c = record { hex_parsed = search (rules, scatter-room); n_in_bounds = search (rules, scatter-room) }
+scatter-requires c = search (rules, scatter-room)
 
 pub returns : goal.returns
 returns c = search both

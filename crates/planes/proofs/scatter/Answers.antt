@@ -6,7 +6,7 @@ pub loop-j-init : goal.loop-j-init
 loop-j-init c = search scattered-begin
 
 pub scatter_plane-requires : goal.scatter_plane-requires
-scatter_plane-requires c = record { hex_parsed = search (rules, place-room); n_in_bounds = search (rules, place-room); scattering = search (rules, place-room) }
+scatter_plane-requires c = record { n_in_bounds = search (rules, place-room); scattering = search (rules, place-room) }
 
 pub loop-j-preserved : goal.loop-j-preserved
 loop-j-preserved c = search scattered-next

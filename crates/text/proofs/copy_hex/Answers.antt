@@ -1,15 +1,5 @@
-use mathlib.Core.Path.{refl, ap, sym}
-use Prim.Native.Nat.{ℕ, ◌+◌}
-use mathlib.Core.Path.{◌≡◌}
-use native.Mathlib.Omega.{arith}
-use Rattle.text.proofs.Putting.{copies-begin, copies-next, copies-stop, puts-at}
+use Rattle.text.proofs.Copying.{unlost}
 use Rattle.text.proofs.copy_hex.Goals as goal
 
-pub loop-i-init : goal.loop-i-init
-loop-i-init c = search copies-begin
-
-pub loop-i-preserved : goal.loop-i-preserved
-loop-i-preserved c = search copies-next
-
-pub returns : goal.returns
-returns c = puts-at (copies-stop c.args.count c.loop-i.invariant c.loop-i-test.false c.requires.count_value.0) (let v : c.args.to + c.loop-i.i ≡ c.args.to + c.args.count = omega arith in v) refl
+pub invariant_of-hex : goal.invariant_of-hex
+invariant_of-hex c = record { spelled = (unlost _ _ c.requires.hex_parsed, c.requires.count_value.0) }
