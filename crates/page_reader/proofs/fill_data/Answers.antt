@@ -1,3 +1,4 @@
+use Prim.Native.Nat.{◌-◌}
 use Rattle.text.proofs.Copying.{unlost}
 use native.Mathlib.Omega.{arith}
 use Rattle.page_reader.proofs.Pooling.{pooling-begin, pooling-some, line-end, line-data, line-digits, data-there, data-size, data-fits, pooling-next, pooling-end}
@@ -22,7 +23,7 @@ pub overflow_sub-hex-in-loop-i-2 : goal.overflow_sub-hex-in-loop-i-2
 overflow_sub-hex-in-loop-i-2 c = search line-digits
 
 pub invariant_of-hex : goal.invariant_of-hex
-invariant_of-hex c = record { spelled = (unlost _ _ (search data-there), search data-size) }
+invariant_of-hex c = record { spelled = (unlost c.args.s.now (c.in-Some.x.next - 1 - c.in-Some.x.bytes - c.in-Some.x.bytes) (search data-there), search data-size) }
 
 pub fill_column-to-requires : goal.fill_column-to-requires
 fill_column-to-requires c = search data-fits
