@@ -153,7 +153,7 @@ fn mark_frame(
         (pinned_in (lent table.now) registers.entry frame.entry pins.now pairs.entry)) }
 {
     let here = objects.slots;
-    let r = frame::trace_frame(
+    let n = frame::trace_frame(
         table,
         here,
         0,
@@ -163,10 +163,7 @@ fn mark_frame(
         marks,
         work,
         0,
-    );
-    let Some(n) = r else {
-        return None;
-    };
+    )?;
     let m = seed_joined(here, registers, frame, sealed, pins, pairs, marks, work, n);
     crate::drain(table, objects, marks, work, m, 0)
 }

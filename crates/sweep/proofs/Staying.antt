@@ -15,44 +15,22 @@ use Rattle.word.proofs.Bools.{and_both, and-false}
 use Rattle.heap.specs.State.{bit}
 use Rattle.sweep.specs.Columns.{is_going, all_stay}
 
--- the ways out of `going`
-pub goes-dead : (k m : ℕ) → k ≡ 0 → 0 ≡ bit (is_going k m)
-goes-dead k m e = ap (λ (b : Bool). bit (b && eqb m 0)) (sym (le-ltb 0 k (omega arith)))
-
-pub goes-marked : (k m : ℕ) → (m ≡ 0 → ⊥) → 0 ≡ bit (is_going k m)
-goes-marked k m ne = ap bit (sym (ap (λ (b : Bool). ltb 0 k && b) (ne_eqb m 0 ne) ∙ and-false (ltb 0 k)))
-
-pub goes-now : (k m : ℕ) → (k ≡ 0 → ⊥) → m ≡ 0 → 1 ≡ bit (is_going k m)
-goes-now k m ne e =
-    let some : 0 < k = omega (arith, ne) in
-    let a : ltb 0 k ≡ true = lt-ltb 0 k some in
-    let b : eqb m 0 ≡ true = eq-eqb m 0 e in
-    sym (λ j. bit (a j && b j))
-
--- the loop: nothing was seen exactly if the slots passed stay
-pub record Staying (n : ℕ) (ks ms : List ℕ) (i seen : ℕ) : Type 0 where
+-- the loop: all that were looked at stay
+pub record Staying (n : ℕ) (ks ms : List ℕ) (i : ℕ) (all : Bool) : Type 0 where
   pub few : i ≤ n
-  pub each : eqb seen 0 ≡ all_stay i ks ms
+  pub each : all ≡ all_stay i ks ms
 
-pub staying-first : (n : ℕ) (ks ms : List ℕ) → Staying n ks ms 0 0
+pub staying-first : (n : ℕ) (ks ms : List ℕ) → Staying n ks ms 0 true
 unfolding all_stay
 staying-first n ks ms = record { few = omega arith; each = refl }
 
-no-bit : (b : Bool) → eqb (bit b) 0 ≡ not b
-no-bit true = refl
-no-bit false = refl
-
-pub staying-next : {n : ℕ} {ks ms : List ℕ} {i seen r : ℕ} → Staying n ks ms i seen → i < n → r ≡ bit (is_going (get_or ks i 0) (get_or ms i 0)) → Staying n ks ms (i + 1) (bit_or seen r)
+pub staying-next : {n : ℕ} {ks ms : List ℕ} {i : ℕ} {all r : Bool} → Staying n ks ms i all → i < n → r ≡ is_going (get_or ks i 0) (get_or ms i 0) → Staying n ks ms (i + 1) (all && not r)
 unfolding all_stay
-staying-next {n} {ks} {ms} {i} {seen} {r} v less e =
-    let one : eqb r 0 ≡ not (is_going (get_or ks i 0) (get_or ms i 0)) = ap (λ (x : ℕ). eqb x 0) e ∙ no-bit (is_going (get_or ks i 0) (get_or ms i 0)) in
-    record {
-      few = omega arith;
-      each = sym (or-eqb seen r) ∙ (λ j. v.each j && one j) ∙ ap (λ (k : ℕ). all_stay k ks ms) (sym (add-one i));
-    }
+staying-next {n} {ks} {ms} {i} {all} {r} v less e =
+    record { few = omega arith; each = (λ j. v.each j && not (e j)) ∙ ap (λ (k : ℕ). all_stay k ks ms) (sym (add-one i)) }
 
-pub staying-last : {n : ℕ} {ks ms : List ℕ} {i seen : ℕ} → Staying n ks ms i seen → n ≤ i → eqb seen 0 ≡ all_stay n ks ms
-staying-last {n} {ks} {ms} {i} {seen} v all = v.each ∙ ap (λ (k : ℕ). all_stay k ks ms) (omega (arith, v.few))
+pub staying-last : {n : ℕ} {ks ms : List ℕ} {i : ℕ} {all : Bool} → Staying n ks ms i all → n ≤ i → all ≡ all_stay n ks ms
+staying-last {n} {ks} {ms} {i} {all} v h = v.each ∙ ap (λ (k : ℕ). all_stay k ks ms) (omega (arith, v.few))
 
 -- then none of them goes
 pub stays_at : (n : ℕ) (ks ms : List ℕ) → all_stay n ks ms ≡ true → (i : ℕ) → i < n → is_going (get_or ks i 0) (get_or ms i 0) ≡ false

@@ -3,7 +3,6 @@
 #![tactic(auto)]
 
 ghost use Rattle.std.specs.Prelude.{◌≡◌, true, [], ◌≤◌, ◌/◌, length};
-ghost use Rattle.heap.specs.State.{bit};
 ghost use Rattle.heap.specs.Lent.{lent, cut, view, slot_count};
 ghost use Rattle.heap.specs.Done.{Leaves};
 ghost use Rattle.heap.specs.Loans.{lies, state, Becomes};
@@ -128,17 +127,11 @@ fn live_size(n: usize, kind: &[u32], end: &[u64]) -> u64
     sum
 }
 
-// 1 for a live slot of kind `k` whose mark `m` is 0: it goes. 0 for any other.
-fn going(k: u32, m: u8) -> u8
-    ensures { result ≡ bit (is_going k m) }
+// Does a slot of kind `k` whose mark is `m` go? It is live and not marked.
+fn going(k: u32, m: u8) -> bool
+    ensures { result ≡ is_going k m }
 {
-    if k == 0 {
-        return 0;
-    }
-    if m == 0 {
-        return 1;
-    }
-    0
+    0 < k && m == 0
 }
 
 // Is each of the first `n` slots dead or marked? All are looked at, so that the compiler takes many at a time.
@@ -146,11 +139,11 @@ fn all_stay(n: usize, kind: &[u32], marks: &[u8]) -> bool
     requires { (n ≤ length kind.now) × (n ≤ length marks.now) }
     ensures { result ≡ all_stay n kind.now marks.now }
 {
-    let mut seen: u8 = 0;
+    let mut all = true;
     for i in 0..n {
-        seen = seen | going(kind[i], marks[i]);
+        all &= !going(kind[i], marks[i]);
     }
-    seen == 0
+    all
 }
 
 // What is not marked is dropped, and what is left is counted, where something goes.

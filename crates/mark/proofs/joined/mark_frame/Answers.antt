@@ -10,17 +10,20 @@ use Rattle.mark.specs.Safepoints.{live_values, handles_in, pinned_in}
 use Rattle.mark.proofs.FrameMarks.{frame-scratch, frame-stuck, frame-marked}
 use Rattle.mark.proofs.joined.mark_frame.Goals as goal
 
-pub returns-in_default : goal.returns-in_default
-returns-in_default c = let k2 = c.in_default.in_default-own.keys2 in search frame-stuck
+pub returns-in_err-n : goal.returns-in_err-n
+returns-in_err-n c =
+    let T = lent c.args.table.now in
+    let x = c.args.objects in
+    rw c.from_residual.ensures (frame-stuck T x.slots.tag x.slots.slots x.slots.s x.slots.narrow.now x.wide.now x.pool.now c.args.marks.now c.args.work.now c.requires (handles_in T c.args.frame) (live_values 4 c.args.registers) c.args.sealed.now (pinned_in T c.args.registers c.args.frame c.args.pins.now c.args.pairs) _ _ _ c.trace_frame.ensures c.in_err-n.was)
 
 pub seed_joined-m-requires : goal.seed_joined-m-requires
-seed_joined-m-requires c = frame-scratch _ _ _ _ _ _ c.requires _ _ _ _ c.trace_frame-r.ensures _ c.in-Some.is
+seed_joined-m-requires c = frame-scratch _ _ _ _ _ _ c.requires _ _ _ _ c.trace_frame.ensures _ c.in_ok-n.was
 
 pub drain-requires : goal.drain-requires
 drain-requires c = c.seed_joined-m.ensures.scratch
 
 pub shape_of-marks : goal.shape_of-marks
-shape_of-marks c = c.drain.auto.marks ∙ c.seed_joined-m.auto.marks ∙ c.trace_frame-r.auto.marks
+shape_of-marks c = c.drain.auto.marks ∙ c.seed_joined-m.auto.marks ∙ c.trace_frame.auto.marks
 
 pub returns : goal.returns
 returns c =
@@ -28,4 +31,4 @@ returns c =
     let x = c.args.objects in
     let after : List ℕ → List ℕ = λ (w : List ℕ). c.args.pins.now ++ slots_of c.args.pairs.list.now (w ++ live_values 2 c.args.registers) in
     let words = entries_words c.args.frame.memory.now (entries_of c.args.frame.map.now) in
-    frame-marked T x.slots.tag x.slots.slots x.slots.s x.slots.narrow.now x.wide.now x.pool.now c.args.marks.now c.args.work.now c.requires (handles_in T c.args.frame) (live_values 4 c.args.registers) c.args.sealed.now (pinned_in T c.args.registers c.args.frame c.args.pins.now c.args.pairs) _ _ _ c.trace_frame-r.ensures _ c.in-Some.is (after words) (λ hs e. ap after (sym (frame-words T c.args.frame.map.now c.args.frame.memory.now hs e))) _ _ _ c.seed_joined-m.ensures c.drain.result c.drain.new.marks c.drain.new.work c.drain.ensures.traces
+    frame-marked T x.slots.tag x.slots.slots x.slots.s x.slots.narrow.now x.wide.now x.pool.now c.args.marks.now c.args.work.now c.requires (handles_in T c.args.frame) (live_values 4 c.args.registers) c.args.sealed.now (pinned_in T c.args.registers c.args.frame c.args.pins.now c.args.pairs) _ _ _ c.trace_frame.ensures _ c.in_ok-n.was (after words) (λ hs e. ap after (sym (frame-words T c.args.frame.map.now c.args.frame.memory.now hs e))) _ _ _ c.seed_joined-m.ensures c.drain.result c.drain.new.marks c.drain.new.work c.drain.ensures.traces
