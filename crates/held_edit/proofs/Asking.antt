@@ -9,14 +9,15 @@ use Rattle.heap.specs.State.{State}
 use Rattle.heap.specs.Lent.{Lent, view}
 use Rattle.heap.specs.Calls.{seal}
 use Rattle.heap.specs.Done.{Leaves, Tells}
-use Rattle.heap.specs.declared.Heap.{Heap}
+use Rattle.heap.specs.Seen.{seen, state}
+use Rattle.heap.specs.declared.view.View.{View}
 use Rattle.heap_door.specs.Sealing.{sealing}
-use Rattle.held.proofs.Holding.{headed, same}
 
 -- a seal tells nothing
 pub sealed-tells : {k k' : Lent} → Leaves k k' (seal (view k)) → Tells nothing nothing k k' (Ok (0, 0)) (sealing (view k))
 sealed-tells d = record { leaves = d; says = refl }
 
-module _ {A : Type 0} (first second : A → ℕ) (question : State → Result A) {h g : Heap} {k l : Lent} {x r : Answer} where
-  pub asks : x ≡ answered first second (question (view k)) → r ≡ x → h ≡ g → headed h k ≡ k → headed g k ≡ l → r ≡ answered first second (question (view l))
-  asks d e q a b = e ∙ (d ∙ ap (λ (z : Lent). answered first second (question (view z))) (same q a b))
+-- a view of it answers for the heap that lies there
+pub asks : {A : Type 0} (first second : A → ℕ) (question : State → Result A) (v : View) {l : Lent} {x r : Answer} → seen v ≡ l
+    → x ≡ answered first second (question (state v)) → r ≡ x → r ≡ answered first second (question (view l))
+asks first second question v s d e = e ∙ (d ∙ ap (λ (k : Lent). answered first second (question (view k))) s)

@@ -6,6 +6,7 @@ ghost use Rattle.word.specs.Result.{ok};
 ghost use Rattle.refusal.specs.Told.{answered, here, nothing};
 ghost use Rattle.heap.specs.State.{bit};
 ghost use Rattle.heap.specs.Lent.{view};
+ghost use Rattle.heap.specs.Seen.{seen};
 ghost use Rattle.heap.specs.WellFormed.{well_formed};
 ghost use Rattle.heap.specs.Calls.{gc_due, reclaim_due, has_quarantine, is_plain, live_count, Place, place_at, Kind, kind_at, Stamp, stamp_at};
 ghost use Rattle.heap.specs.Calls.{resolve as resolved, edit as edited, write as written, reissue as reissued, free as freed};
@@ -16,6 +17,27 @@ use heap::view::View;
 use heap::view_mut::ViewMut;
 use heap_edit::yes;
 use refusal::Answer;
+
+// The heap, to be read.
+fn see<'a>(
+    tag: &[u8; 1],
+    numbers: &[u64; 4],
+    log: &[u32; 16],
+    lengths: &[u64; 5],
+    narrow: &'a [u32],
+    wide: &'a [u64],
+    pool: &'a [u8],
+) -> View<'a>
+    requires { well_formed (in_place tag.now numbers.now log.now lengths.now narrow.now wide.now pool.now) ≡ true }
+    ensures { seen result ≡ in_place tag.now numbers.now log.now lengths.now narrow.now wide.now pool.now }
+{
+    View {
+        heap: held::header(tag, numbers, log, lengths),
+        narrow,
+        wide,
+        pool,
+    }
+}
 
 // Takes out the object that the handle names, as `yexwalu_held_take` does, without handing it out.
 pub fn yexwalu_held_free(
@@ -161,13 +183,7 @@ pub fn yexwalu_held_resolve(
     ensures { result ≡ answered here nothing (resolved
         (view (in_place tag.now numbers.now log.now lengths.now narrow.now wide.now pool.now)) handle) }
 {
-    let heap = held::header(tag, numbers, log, lengths);
-    let view = View {
-        heap,
-        narrow,
-        wide,
-        pool,
-    };
+    let view = see(tag, numbers, log, lengths, narrow, wide, pool);
     Answer::from(heap_edit::resolve(view, handle))
 }
 
@@ -186,13 +202,7 @@ pub fn yexwalu_held_data(
     ensures { result ≡ answered (λ (p : Place). p.from) (λ (p : Place). p.size) (place_at
         (view (in_place tag.now numbers.now log.now lengths.now narrow.now wide.now pool.now)) i) }
 {
-    let heap = held::header(tag, numbers, log, lengths);
-    let view = View {
-        heap,
-        narrow,
-        wide,
-        pool,
-    };
+    let view = see(tag, numbers, log, lengths, narrow, wide, pool);
     Answer::from(view.data(i))
 }
 
@@ -211,13 +221,7 @@ pub fn yexwalu_held_kind(
     ensures { result ≡ answered (λ (k : Kind). k.kind) (λ (k : Kind). k.type) (kind_at
         (view (in_place tag.now numbers.now log.now lengths.now narrow.now wide.now pool.now)) i) }
 {
-    let heap = held::header(tag, numbers, log, lengths);
-    let view = View {
-        heap,
-        narrow,
-        wide,
-        pool,
-    };
+    let view = see(tag, numbers, log, lengths, narrow, wide, pool);
     Answer::from(view.kind(i))
 }
 
@@ -236,13 +240,7 @@ pub fn yexwalu_held_stamp(
     ensures { result ≡ answered (λ (s : Stamp). s.generation) (λ (s : Stamp). s.writes) (stamp_at
         (view (in_place tag.now numbers.now log.now lengths.now narrow.now wide.now pool.now)) i) }
 {
-    let heap = held::header(tag, numbers, log, lengths);
-    let view = View {
-        heap,
-        narrow,
-        wide,
-        pool,
-    };
+    let view = see(tag, numbers, log, lengths, narrow, wide, pool);
     Answer::from(view.stamp(i))
 }
 
@@ -260,13 +258,7 @@ pub fn yexwalu_held_live(
     ensures { result ≡ answered here nothing (ok (live_count
         (view (in_place tag.now numbers.now log.now lengths.now narrow.now wide.now pool.now)).slots)) }
 {
-    let heap = held::header(tag, numbers, log, lengths);
-    let view = View {
-        heap,
-        narrow,
-        wide,
-        pool,
-    };
+    let view = see(tag, numbers, log, lengths, narrow, wide, pool);
     Answer::from(Ok((view.live(), 0)))
 }
 
@@ -284,13 +276,7 @@ pub fn yexwalu_held_slots(
     ensures { result ≡ answered here nothing (ok (length
         (view (in_place tag.now numbers.now log.now lengths.now narrow.now wide.now pool.now)).slots)) }
 {
-    let heap = held::header(tag, numbers, log, lengths);
-    let view = View {
-        heap,
-        narrow,
-        wide,
-        pool,
-    };
+    let view = see(tag, numbers, log, lengths, narrow, wide, pool);
     Answer::from(Ok((view.slots(), 0)))
 }
 
@@ -309,13 +295,7 @@ pub fn yexwalu_held_gc_due(
     ensures { result ≡ answered bit nothing (ok (gc_due
         (view (in_place tag.now numbers.now log.now lengths.now narrow.now wide.now pool.now)) threshold)) }
 {
-    let heap = held::header(tag, numbers, log, lengths);
-    let view = View {
-        heap,
-        narrow,
-        wide,
-        pool,
-    };
+    let view = see(tag, numbers, log, lengths, narrow, wide, pool);
     Answer::from(yes(view.gc_due(threshold)))
 }
 
@@ -333,13 +313,7 @@ pub fn yexwalu_held_reclaim_due(
     ensures { result ≡ answered bit nothing (ok (reclaim_due
         (view (in_place tag.now numbers.now log.now lengths.now narrow.now wide.now pool.now)))) }
 {
-    let heap = held::header(tag, numbers, log, lengths);
-    let view = View {
-        heap,
-        narrow,
-        wide,
-        pool,
-    };
+    let view = see(tag, numbers, log, lengths, narrow, wide, pool);
     Answer::from(yes(view.reclaim_due()))
 }
 
@@ -357,13 +331,7 @@ pub fn yexwalu_held_has_quarantine(
     ensures { result ≡ answered bit nothing (ok (has_quarantine
         (view (in_place tag.now numbers.now log.now lengths.now narrow.now wide.now pool.now)))) }
 {
-    let heap = held::header(tag, numbers, log, lengths);
-    let view = View {
-        heap,
-        narrow,
-        wide,
-        pool,
-    };
+    let view = see(tag, numbers, log, lengths, narrow, wide, pool);
     Answer::from(yes(view.has_quarantine()))
 }
 
@@ -382,12 +350,6 @@ pub fn yexwalu_held_is_plain(
     ensures { result ≡ answered bit nothing (ok (is_plain
         (view (in_place tag.now numbers.now log.now lengths.now narrow.now wide.now pool.now)) wanted)) }
 {
-    let heap = held::header(tag, numbers, log, lengths);
-    let view = View {
-        heap,
-        narrow,
-        wide,
-        pool,
-    };
+    let view = see(tag, numbers, log, lengths, narrow, wide, pool);
     Answer::from(yes(view.is_plain(wanted)))
 }

@@ -1,15 +1,11 @@
 -- `held_edit::yexwalu_held_reclaim_due` meets its contract.
-use Rattle.std.proofs.Common.{Bool, refl, ap, ◌∙◌}
+use Rattle.std.proofs.Common.{Bool, ap, ◌∙◌}
 use Rattle.word.specs.Result.{ok}
 use Rattle.refusal.specs.Told.{answered, nothing}
 use Rattle.heap.specs.State.{bit}
 use Rattle.heap.specs.Calls.{reclaim_due}
-use Rattle.held.proofs.Holding.{formed}
 use Rattle.held_edit.proofs.Asking.{asks}
 use Rattle.held_edit.proofs.yexwalu_held_reclaim_due.Goals as goal
 
-pub invariant_of-view : goal.invariant_of-view
-invariant_of-view c = record { formed = formed c.requires c.header-heap.ensures refl refl }
-
 pub returns : goal.returns
-returns c = asks bit nothing (λ s. ok (reclaim_due s)) (c.yes.ensures ∙ ap (λ (b : Bool). answered bit nothing (ok b)) c.reclaim_due.ensures) c.from.ensures c.header-heap.ensures refl refl
+returns c = asks bit nothing (λ s. ok (reclaim_due s)) c.see-view.result c.see-view.ensures (c.yes.ensures ∙ ap (λ (b : Bool). answered bit nothing (ok b)) c.reclaim_due.ensures) c.from.ensures
