@@ -279,11 +279,9 @@ pub fn yexwalu_reissue(
         },
         Ok(()) => {
             let done = heap_edit::reissue(heap, narrow, wide, pool, i, grown);
-            let after = done.heap;
-            let reply = done.reply;
             Done {
-                heap: after,
-                answer: Answer::from(reply),
+                heap: done.heap,
+                answer: Answer::from(done.reply),
             }
         }
     }

@@ -16,6 +16,7 @@ ghost use Rattle.object_door.specs.Making.{no_header, new_tests, new_call};
 use door::{Done, enter};
 use heap::view_mut::ViewMut;
 use heap::{Changed, Heap};
+use heap_calls::NewObject;
 use heap_calls::kind::ObjectKind;
 use refusal::{Answer, Refusal, Reply};
 
@@ -98,8 +99,14 @@ pub fn alloc_from(lent: &mut ViewMut, kind: u64, ty: u32, start: usize, bytes: &
     ensures { Replies here nothing lent.old lent.new result
         (allocating (length lent.old.narrow.now / 6) (length lent.old.pool.now) kind ty start bytes.now (state lent.old)) }
 {
-    let k = ObjectKind::try_from(kind)?;
-    heap_calls::alloc_from(lent, k, ty, start, bytes)
+    let kind = ObjectKind::try_from(kind)?;
+    let new = NewObject {
+        kind,
+        ty,
+        start,
+        bytes,
+    };
+    heap_calls::alloc_from(lent, new)
 }
 
 // Recycles on a heap that is known to be well formed, where the pins rise strictly.

@@ -12,6 +12,7 @@ ghost use Rattle.object_door.specs.ObjectCalls.{allocating};
 ghost use Rattle.rehearsal_place.specs.Decoding.{Spelled, PlacesSpelled};
 
 use heap::view_mut::ViewMut;
+use heap_calls::NewObject;
 use heap_calls::kind::ObjectKind;
 use refusal::Reply;
 use script::AllocLine;
@@ -28,7 +29,13 @@ fn place_spelled(
     requires { Spelled s.now from count }
     ensures { PlacesSpelled lent.old lent.new result (kind_number k) t (hex_at s.now from) }
 {
-    let placed = heap_calls::alloc_from(lent, k, t, 0, &s[from..from + count])?;
+    let new = NewObject {
+        kind: k,
+        ty: t,
+        start: 0,
+        bytes: &s[from..from + count],
+    };
+    let placed = heap_calls::alloc_from(lent, new)?;
     let i = handle::index_of(placed.0) as usize;
     let narrow = &mut *lent.narrow;
     let wide = &mut *lent.wide;

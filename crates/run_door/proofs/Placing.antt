@@ -29,10 +29,6 @@ use Rattle.script.proofs.Refusing.{alloc-numbered}
 use Rattle.run_door.specs.Inner.Steps.{LineEnds}
 use Rattle.run_door.proofs.Answering.{CanRun, ends_as}
 
--- the part of the room that has the data
-pub part_count : (l : Lent) (room room' : List ℕ) (count : ℕ) → CanRun l room → count ≤ pool_size l → length room' ≡ length room → count ≡ length (take count room')
-part_count l room room' count can h e = sym (length-take-le count room' (omega (arith, can.room)))
-
 -- the data is decoded
 pub decoded : (room room' s : List ℕ) (r from count : ℕ) → Puts room room' 0 r (hex_at s from) → count ≡ length (hex_at s from) → take count room' ≡ hex_at s from
 decoded room room' s r from count p e =

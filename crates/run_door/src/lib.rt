@@ -17,6 +17,7 @@ ghost use Rattle.run_door.specs.Inner.Steps.{Ends};
 use door::{Done, enter};
 use heap::Heap;
 use heap::view_mut::ViewMut;
+use heap_calls::NewObject;
 use heap_calls::kind::ObjectKind;
 use refusal::{Answer, Refusal, Reply};
 use script::{AllocLine, Line, begins_call, read_line};
@@ -33,8 +34,13 @@ fn do_alloc(lent: &mut ViewMut, s: &[u8], a: AllocLine, room: &mut [u8]) -> Repl
         return Err(Refusal::NoRoom);
     }
     text::copy_hex(s, a.from, count, room, 0);
-    let ty = a.ty as u32;
-    heap_calls::alloc_from(lent, kind, ty, 0, &room[..count])
+    let new = NewObject {
+        kind,
+        ty: a.ty as u32,
+        start: 0,
+        bytes: &room[..count],
+    };
+    heap_calls::alloc_from(lent, new)
 }
 
 // The seals become the handles of all live slots.

@@ -7,23 +7,23 @@ use Rattle.heap_calls.specs.Kinds.{kind_number}
 use Rattle.heap_calls.proofs.KindLaws.{kind-low, kind-high}
 use Rattle.heap_calls.proofs.alloc_from.Goals as goal
 
-pub returns-then-room-bytes : goal.returns-then-room-bytes
-returns-then-room-bytes c = record { loans = record { narrow = refl; wide = refl; pool = refl }; tells = none-does (lies c.args.lent.now) (kind_number c.args.k) c.args.t c.args.s _ _ c.args.lent.now.formed (room-there _ c.view.ensures c.room.ensures) c.if-room-bytes.true }
+pub returns-then-room-new : goal.returns-then-room-new
+returns-then-room-new c = record { loans = record { narrow = refl; wide = refl; pool = refl }; tells = none-does (lies c.args.lent.now) (kind_number c.args.new.kind) c.args.new.ty c.args.new.start _ _ c.args.lent.now.formed (room-there _ c.view.ensures c.room.ensures) c.if-room-new.true }
 
 pub into_free-requires : goal.into_free-requires
-into_free-requires c = record { can_alloc = alloc-can (lies c.args.lent.now) (kind_number c.args.k) c.args.t c.args.s _ _ c.args.lent.now.formed (room-there _ c.view.ensures c.room.ensures) _ (kind-low c.args.k) (kind-high c.args.k) c.if-room-bytes.false c.charged-lent.ensures; free_nonzero = c.if-lent-gt0.true }
+into_free-requires c = record { can_alloc = alloc-can (lies c.args.lent.now) (kind_number c.args.new.kind) c.args.new.ty c.args.new.start _ _ c.args.lent.now.formed (room-there _ c.view.ensures c.room.ensures) _ (kind-low c.args.new.kind) (kind-high c.args.new.kind) c.if-room-new.false c.charged-lent.ensures; free_nonzero = c.if-lent-gt0.true }
 
 pub returns-then-lent-gt0 : goal.returns-then-lent-gt0
-returns-then-lent-gt0 c = record { loans = record { narrow = c.into_free.ensures.loans.narrow; wide = c.into_free.ensures.loans.wide; pool = c.into_free.ensures.loans.pool }; tells = free-does (lies c.args.lent.now) (kind_number c.args.k) c.args.t c.args.s _ _ c.args.lent.now.formed (room-there _ c.view.ensures c.room.ensures) _ (kind-low c.args.k) (kind-high c.args.k) c.if-room-bytes.false c.charged-lent.ensures _ _ c.if-lent-gt0.true c.into_free.ensures.tells }
+returns-then-lent-gt0 c = record { loans = record { narrow = c.into_free.ensures.loans.narrow; wide = c.into_free.ensures.loans.wide; pool = c.into_free.ensures.loans.pool }; tells = free-does (lies c.args.lent.now) (kind_number c.args.new.kind) c.args.new.ty c.args.new.start _ _ c.args.lent.now.formed (room-there _ c.view.ensures c.room.ensures) _ (kind-low c.args.new.kind) (kind-high c.args.new.kind) c.if-room-new.false c.charged-lent.ensures _ _ c.if-lent-gt0.true c.into_free.ensures.tells }
 
 pub into_new-requires : goal.into_new-requires
-into_new-requires c = record { can_alloc = alloc-can (lies c.args.lent.now) (kind_number c.args.k) c.args.t c.args.s _ _ c.args.lent.now.formed (room-there _ c.view.ensures c.room.ensures) _ (kind-low c.args.k) (kind-high c.args.k) c.if-room-bytes.false c.charged-lent.ensures; slots_in_bounds = c.if-lent.true }
+into_new-requires c = record { can_alloc = alloc-can (lies c.args.lent.now) (kind_number c.args.new.kind) c.args.new.ty c.args.new.start _ _ c.args.lent.now.formed (room-there _ c.view.ensures c.room.ensures) _ (kind-low c.args.new.kind) (kind-high c.args.new.kind) c.if-room-new.false c.charged-lent.ensures; slots_in_bounds = c.if-lent.true }
 
 pub returns-then-lent : goal.returns-then-lent
-returns-then-lent c = record { loans = record { narrow = c.into_new.ensures.loans.narrow; wide = c.into_new.ensures.loans.wide; pool = c.into_new.ensures.loans.pool }; tells = grow-does (lies c.args.lent.now) (kind_number c.args.k) c.args.t c.args.s _ _ c.args.lent.now.formed (room-there _ c.view.ensures c.room.ensures) _ (kind-low c.args.k) (kind-high c.args.k) c.if-room-bytes.false c.charged-lent.ensures c.if-lent-gt0.false _ _ c.if-lent.true c.into_new.ensures.tells }
+returns-then-lent c = record { loans = record { narrow = c.into_new.ensures.loans.narrow; wide = c.into_new.ensures.loans.wide; pool = c.into_new.ensures.loans.pool }; tells = grow-does (lies c.args.lent.now) (kind_number c.args.new.kind) c.args.new.ty c.args.new.start _ _ c.args.lent.now.formed (room-there _ c.view.ensures c.room.ensures) _ (kind-low c.args.new.kind) (kind-high c.args.new.kind) c.if-room-new.false c.charged-lent.ensures c.if-lent-gt0.false _ _ c.if-lent.true c.into_new.ensures.tells }
 
 pub returns : goal.returns
-returns c = record { loans = record { narrow = refl; wide = refl; pool = refl }; tells = full-does (lies c.args.lent.now) (kind_number c.args.k) c.args.t c.args.s _ _ c.args.lent.now.formed (room-there _ c.view.ensures c.room.ensures) _ (kind-low c.args.k) (kind-high c.args.k) c.if-room-bytes.false c.charged-lent.ensures c.if-lent-gt0.false c.if-lent.false }
+returns c = record { loans = record { narrow = refl; wide = refl; pool = refl }; tells = full-does (lies c.args.lent.now) (kind_number c.args.new.kind) c.args.new.ty c.args.new.start _ _ c.args.lent.now.formed (room-there _ c.view.ensures c.room.ensures) _ (kind-low c.args.new.kind) (kind-high c.args.new.kind) c.if-room-new.false c.charged-lent.ensures c.if-lent-gt0.false c.if-lent.false }
 
 pub invariant_of-lent : goal.invariant_of-lent
-invariant_of-lent c = record { formed = (alloc-can (lies c.args.lent.now) (kind_number c.args.k) c.args.t c.args.s _ _ c.args.lent.now.formed (room-there _ c.view.ensures c.room.ensures) _ (kind-low c.args.k) (kind-high c.args.k) c.if-room-bytes.false c.charged-lent.ensures).formed }
+invariant_of-lent c = record { formed = (alloc-can (lies c.args.lent.now) (kind_number c.args.new.kind) c.args.new.ty c.args.new.start _ _ c.args.lent.now.formed (room-there _ c.view.ensures c.room.ensures) _ (kind-low c.args.new.kind) (kind-high c.args.new.kind) c.if-room-new.false c.charged-lent.ensures).formed }

@@ -21,10 +21,10 @@ pub bounds-narrow-at-2 : goal.bounds-narrow-at-2
 bounds-narrow-at-2 c = omega (arith, lengths c.args.lent.now.heap c.args.lent.now.narrow.now c.args.lent.now.wide.now c.args.lent.now.pool.now c.requires.can_alloc.formed, c.requires.free_nonzero)
 
 pub fill-h-requires : goal.fill-h-requires
-fill-h-requires c = into-free-can c.args.lent.now.heap c.args.lent.now.narrow.now c.args.lent.now.wide.now c.args.lent.now.pool.now (kind_number c.args.k) c.args.bytes.now c.requires.can_alloc c.requires.free_nonzero _ c.with_free-after.ensures
+fill-h-requires c = into-free-can c.args.lent.now.heap c.args.lent.now.narrow.now c.args.lent.now.wide.now c.args.lent.now.pool.now (kind_number c.args.new.kind) c.args.new.bytes.now c.requires.can_alloc c.requires.free_nonzero _ c.with_free-after.ensures
 
 pub returns : goal.returns
-returns c = record { loans = record { narrow = refl; wide = refl; pool = refl }; tells = into-free-out c.args.lent.now.heap c.args.lent.now.narrow.now c.args.lent.now.wide.now c.args.lent.now.pool.now (kind_number c.args.k) c.args.bytes.now c.requires.can_alloc c.requires.free_nonzero _ c.with_free-after.ensures _ _ _ _ c.fill-h.ensures }
+returns c = record { loans = record { narrow = refl; wide = refl; pool = refl }; tells = into-free-out c.args.lent.now.heap c.args.lent.now.narrow.now c.args.lent.now.wide.now c.args.lent.now.pool.now (kind_number c.args.new.kind) c.args.new.bytes.now c.requires.can_alloc c.requires.free_nonzero _ c.with_free-after.ensures _ _ _ _ c.fill-h.ensures }
 
 pub invariant_of-lent : goal.invariant_of-lent
-invariant_of-lent c = record { formed = (into-free-out c.args.lent.now.heap c.args.lent.now.narrow.now c.args.lent.now.wide.now c.args.lent.now.pool.now (kind_number c.args.k) c.args.bytes.now c.requires.can_alloc c.requires.free_nonzero _ c.with_free-after.ensures _ _ _ _ c.fill-h.ensures).leaves.formed }
+invariant_of-lent c = record { formed = (into-free-out c.args.lent.now.heap c.args.lent.now.narrow.now c.args.lent.now.wide.now c.args.lent.now.pool.now (kind_number c.args.new.kind) c.args.new.bytes.now c.requires.can_alloc c.requires.free_nonzero _ c.with_free-after.ensures _ _ _ _ c.fill-h.ensures).leaves.formed }

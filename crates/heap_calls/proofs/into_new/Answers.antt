@@ -15,10 +15,10 @@ pub overflow_cast-n : goal.overflow_cast-n
 overflow_cast-n c = omega (arith, lengths c.args.lent.now.heap c.args.lent.now.narrow.now c.args.lent.now.wide.now c.args.lent.now.pool.now c.requires.can_alloc.formed, c.requires.slots_in_bounds)
 
 pub fill-h-requires : goal.fill-h-requires
-fill-h-requires c = into-new-can c.args.lent.now.heap c.args.lent.now.narrow.now c.args.lent.now.wide.now c.args.lent.now.pool.now (kind_number c.args.k) c.args.bytes.now c.requires.can_alloc c.requires.slots_in_bounds _ c.start_of-used.ensures _ c.with_slots-after.ensures
+fill-h-requires c = into-new-can c.args.lent.now.heap c.args.lent.now.narrow.now c.args.lent.now.wide.now c.args.lent.now.pool.now (kind_number c.args.new.kind) c.args.new.bytes.now c.requires.can_alloc c.requires.slots_in_bounds _ c.start_of-used.ensures _ c.with_slots-after.ensures
 
 pub returns : goal.returns
-returns c = record { loans = record { narrow = refl; wide = refl; pool = refl }; tells = into-new-out c.args.lent.now.heap c.args.lent.now.narrow.now c.args.lent.now.wide.now c.args.lent.now.pool.now (kind_number c.args.k) c.args.bytes.now c.requires.can_alloc c.requires.slots_in_bounds _ c.start_of-used.ensures _ c.with_slots-after.ensures _ _ _ _ c.fill-h.ensures }
+returns c = record { loans = record { narrow = refl; wide = refl; pool = refl }; tells = into-new-out c.args.lent.now.heap c.args.lent.now.narrow.now c.args.lent.now.wide.now c.args.lent.now.pool.now (kind_number c.args.new.kind) c.args.new.bytes.now c.requires.can_alloc c.requires.slots_in_bounds _ c.start_of-used.ensures _ c.with_slots-after.ensures _ _ _ _ c.fill-h.ensures }
 
 pub invariant_of-lent : goal.invariant_of-lent
-invariant_of-lent c = record { formed = (into-new-out c.args.lent.now.heap c.args.lent.now.narrow.now c.args.lent.now.wide.now c.args.lent.now.pool.now (kind_number c.args.k) c.args.bytes.now c.requires.can_alloc c.requires.slots_in_bounds _ c.start_of-used.ensures _ c.with_slots-after.ensures _ _ _ _ c.fill-h.ensures).leaves.formed }
+invariant_of-lent c = record { formed = (into-new-out c.args.lent.now.heap c.args.lent.now.narrow.now c.args.lent.now.wide.now c.args.lent.now.pool.now (kind_number c.args.new.kind) c.args.new.bytes.now c.requires.can_alloc c.requires.slots_in_bounds _ c.start_of-used.ensures _ c.with_slots-after.ensures _ _ _ _ c.fill-h.ensures).leaves.formed }

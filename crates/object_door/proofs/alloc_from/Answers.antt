@@ -5,13 +5,13 @@ use Rattle.heap.specs.Loans.{lies}
 use Rattle.object_door.proofs.Objects.{found-kind, missing-kind, of-kind, no_kind}
 use Rattle.object_door.proofs.alloc_from.Goals as goal
 
-pub returns-in_err-k : goal.returns-in_err-k
-returns-in_err-k c =
+pub returns-in_err-kind : goal.returns-in_err-kind
+returns-in_err-kind c =
     let p = err_from_is_err_and c.from_residual.result c.from_residual.ensures.1 in
-    let f = missing-kind c.args.kind _ c.try_from.ensures c.in_err-k.was in
+    let f = missing-kind c.args.kind _ c.try_from.ensures c.in_err-kind.was in
     rw (p.1, p.2, f.0) (record { loans = record { narrow = refl; wide = refl; pool = refl }; tells = no_kind (lies c.args.lent.now) c.args.kind c.args.ty c.args.start c.args.bytes.now f.1 c.args.lent.now.formed })
 
 pub returns : goal.returns
 returns c =
-    let f = found-kind c.args.kind c.in_ok-k.k c.try_from.ensures c.in_ok-k.was in
+    let f = found-kind c.args.kind c.in_ok-kind.kind c.try_from.ensures c.in_ok-kind.was in
     record { loans = c.alloc_from.ensures.loans; tells = of-kind (lies c.args.lent.now) c.args.kind c.args.ty c.args.start c.args.bytes.now _ _ f.1 (rw f.0 at c.alloc_from.ensures.tells) }

@@ -9,11 +9,11 @@ use Rattle.heap_calls.specs.Kinds.{kind_number}
 use Rattle.heap_calls.proofs.KindLaws.{kind-low, kind-high}
 use Rattle.rehearsal_place.proofs.place_spelled.Goals as goal
 
-pub overflow_add-from : goal.overflow_add-from
-overflow_add-from c = omega (arith, spelled-room c.requires)
+pub overflow_add-new : goal.overflow_add-new
+overflow_add-new c = omega (arith, spelled-room c.requires)
 
-pub slice_bounds-alloc_from-end : goal.slice_bounds-alloc_from-end
-slice_bounds-alloc_from-end c = omega (arith, spelled-room c.requires)
+pub slice_bounds-new-end : goal.slice_bounds-new-end
+slice_bounds-new-end c = omega (arith, spelled-room c.requires)
 
 pub returns-in_err-placed : goal.returns-in_err-placed
 returns-in_err-placed c =

@@ -1,8 +1,8 @@
 -- `run_door::do_alloc` meets its contract.
-use Rattle.std.proofs.Common.{refl}
+use Rattle.std.proofs.Common.{refl, arith}
 use Rattle.std.proofs.lemmas.Result.{err_from_is_err_and}
 use Rattle.heap.specs.Loans.{lies}
-use Rattle.run_door.proofs.Placing.{part_count, decoded, placed-other, placed-none, placed-done}
+use Rattle.run_door.proofs.Placing.{decoded, placed-other, placed-none, placed-done}
 use Rattle.run_door.proofs.do_alloc.Goals as goal
 
 pub returns-in_err-kind : goal.returns-in_err-kind
@@ -13,8 +13,8 @@ returns-in_err-kind c =
 pub returns-then-lent-count : goal.returns-then-lent-count
 returns-then-lent-count c = record { loans = record { narrow = refl; wide = refl; pool = refl }; does = placed-none (lies c.args.lent.now) _ _ c.args.a (record { formed = c.args.lent.now.formed; room = c.requires.can_run }) c.in_ok-kind.kind c.try_from.ensures c.in_ok-kind.was c.requires.data_there c.if-lent-count.true }
 
-pub slice_bounds-alloc_from-end-2 : goal.slice_bounds-alloc_from-end-2
-slice_bounds-alloc_from-end-2 c = part_count (lies c.args.lent.now) _ _ _ (record { formed = c.args.lent.now.formed; room = c.requires.can_run }) c.if-lent-count.false c.copy_hex.auto.out
+pub slice_bounds-new-end : goal.slice_bounds-new-end
+slice_bounds-new-end c = omega (arith, c.requires.can_run, c.if-lent-count.false, c.copy_hex.auto.out)
 
 pub shape_of-room : goal.shape_of-room
 shape_of-room c = c.copy_hex.auto.out
