@@ -189,34 +189,34 @@ impl<'a> View<'a> {
     pub fn gc_due(self, threshold: u64) -> bool
         ensures { result ≡ gc_due (state self.entry) threshold }
     {
-        threshold.max(self.heap.live_bytes) < self.heap.since_gc
+        self.heap.gc_due(threshold)
     }
 
     // Are there so many slots in quarantine that they should be recycled?
     pub fn reclaim_due(self) -> bool
         ensures { result ≡ reclaim_due (state self.entry) }
     {
-        self.heap.reclaim_at <= self.heap.quarantine
+        self.heap.reclaim_due()
     }
 
     // Is a slot in quarantine?
     pub fn has_quarantine(self) -> bool
         ensures { result ≡ has_quarantine (state self.entry) }
     {
-        0 < self.heap.quarantine
+        self.heap.has_quarantine()
     }
 
     // Is it the heap of this tag, with nothing sealed?
     pub fn is_plain(self, tag: u8) -> bool
         ensures { result ≡ is_plain (state self.entry) tag }
     {
-        self.heap.tag == tag && self.heap.sealed == 0
+        self.heap.is_plain(tag)
     }
 
     // The number of slots, live and dead.
     pub fn slots(self) -> u64
         ensures { result ≡ length (state self.entry).slots }
     {
-        self.heap.slots as u64
+        self.heap.slot_count()
     }
 }

@@ -8,7 +8,8 @@ pub mod view_mut;
 ghost use Rattle.std.specs.Prelude.{◌≡◌, ◌*◌, ◌≤◌, length};
 ghost use Rattle.word.specs.Run.{run};
 ghost use Rattle.heap.specs.Packing.{start_of};
-ghost use Rattle.heap.specs.Calls.{new as new_heap};
+ghost use Rattle.heap.specs.Calls.{new as new_heap, gc_due, reclaim_due, has_quarantine, is_plain};
+ghost use Rattle.heap.specs.Asked.{OfHeader};
 ghost use Rattle.heap.specs.Lent.{header_of, lent};
 ghost use Rattle.heap.specs.Header.{set_charged, set_changed, set_since, set_reclaim, set_live, set_slots, set_free, set_quarantine, set_retired, set_sealed};
 ghost use Rattle.heap.specs.Sizes.{sizes_fit};
@@ -51,6 +52,41 @@ impl Heap {
             retired: 0,
             sealed: 0,
         }
+    }
+
+    // Is a collection due: more since the last one than the threshold, and than what outlived it?
+    pub fn gc_due(self, threshold: u64) -> bool
+        ensures { OfHeader self result (λ h. gc_due h threshold) }
+    {
+        threshold.max(self.live_bytes) < self.since_gc
+    }
+
+    // Are there so many slots in quarantine that they should be recycled?
+    pub fn reclaim_due(self) -> bool
+        ensures { OfHeader self result (λ h. reclaim_due h) }
+    {
+        self.reclaim_at <= self.quarantine
+    }
+
+    // Is a slot in quarantine?
+    pub fn has_quarantine(self) -> bool
+        ensures { OfHeader self result (λ h. has_quarantine h) }
+    {
+        0 < self.quarantine
+    }
+
+    // Is it the heap of this tag, with nothing sealed?
+    pub fn is_plain(self, tag: u8) -> bool
+        ensures { OfHeader self result (λ h. is_plain h tag) }
+    {
+        self.tag == tag && self.sealed == 0
+    }
+
+    // The number of slots, live and dead.
+    pub fn slot_count(self) -> u64
+        ensures { OfHeader self result (λ h. length h.slots) }
+    {
+        self.slots as u64
     }
 
     // `n` more bytes since the last collection, saturating.

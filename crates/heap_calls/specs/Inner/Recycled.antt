@@ -6,11 +6,6 @@ use Rattle.word.specs.Lists.{filter}
 use Rattle.heap.specs.State.{last_generation}
 use Rattle.heap.specs.Calls.{member}
 
--- the range above mid, or below it
-pub record Half (up : Bool) (low mid high low' high' : ℕ) : Type 0 where
-  pub lower : low' ≡ if up then (mid + 1) else low
-  pub upper : high' ≡ if up then high else mid
-
 -- slot i is worn out, by the generations of all slots
 abbrev pub worn_in : (generations : List ℕ) → ℕ → Bool
 worn_in gs i = eqb (get_or gs i 0) last_generation

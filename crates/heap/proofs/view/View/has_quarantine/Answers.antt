@@ -1,7 +1,7 @@
 -- `View::has_quarantine` meets its contract.
+use Rattle.std.proofs.Common.{refl}
 use Rattle.heap.specs.Seen.{seen}
-use Rattle.heap.proofs.Headers.{quarantine-says}
 use Rattle.heap.proofs.view.View.has_quarantine.Goals as goal
 
 pub returns : goal.returns
-returns c = quarantine-says (seen c.args.self) c.args.self.formed
+returns c = c.has_quarantine.ensures (seen c.args.self) refl c.args.self.formed

@@ -1,7 +1,7 @@
 -- `View::reclaim_due` meets its contract.
+use Rattle.std.proofs.Common.{refl}
 use Rattle.heap.specs.Seen.{seen}
-use Rattle.heap.proofs.Headers.{reclaim-says}
 use Rattle.heap.proofs.view.View.reclaim_due.Goals as goal
 
 pub returns : goal.returns
-returns c = reclaim-says (seen c.args.self) c.args.self.formed
+returns c = c.reclaim_due.ensures (seen c.args.self) refl c.args.self.formed

@@ -1,7 +1,7 @@
 -- `View::slots` meets its contract.
+use Rattle.std.proofs.Common.{refl}
 use Rattle.heap.specs.Seen.{seen}
-use Rattle.heap.proofs.Headers.{slots-say}
 use Rattle.heap.proofs.view.View.slots.Goals as goal
 
 pub returns : goal.returns
-returns c = slots-say (seen c.args.self) c.args.self.formed
+returns c = c.slot_count.ensures (seen c.args.self) refl c.args.self.formed
