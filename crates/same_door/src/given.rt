@@ -22,7 +22,7 @@ impl<'a> Given<'a> {
     ghost use Rattle.same_door.specs.Inner.Given.{memory_of};
 
     // Is there a byte and a word for each lent slot?
-    pub fn is_enough(self, marks: &[u8], work: &[u64]) -> bool
+    pub(crate) fn is_enough(self, marks: &[u8], work: &[u64]) -> bool
         ensures { result ≡ (leb (length self.entry.narrow.now / 6) (length marks.now) && leb (length self.entry.narrow.now / 6) (length work.now)) }
     {
         let slots = self.narrow.len() / 6;
@@ -30,7 +30,7 @@ impl<'a> Given<'a> {
     }
 
     // The heap, to be read, where scratch is enough and it is well formed.
-    pub fn see(self, marks: &mut [u8], work: &mut [u64]) -> Result<View<'a>, Refusal>
+    pub(crate) fn see(self, marks: &mut [u8], work: &mut [u64]) -> Result<View<'a>, Refusal>
         ensures entered { Entered (marks.old ∷ work.old ∷ []) (heap_tests marks.old work.old (memory_of self.entry))
             (entry_of result) (marks.new ∷ work.new ∷ []) }
         ensures shows { IfOk result (λ v. seen v ≡ memory_of self.entry) }

@@ -3,9 +3,10 @@ use Prim.Native.Nat.{ℕ, zero, suc, ◌+◌, ◌-◌, ◌≤◌, ◌<◌}
 use mathlib.Core.Path.{◌≡◌, refl, sym, ap, ◌∙◌, subst}
 use mathlib.Core.Bool.{Bool, true, false}
 use mathlib.Core.Option.{Option, none, some}
-use mathlib.Core.List.{List, [], ◌∷◌}
+use mathlib.Core.List.{List, [], ◌∷◌, reverse}
 use lib.ListN.{length, get_or, drop, drop_of_length-le}
 use native.Mathlib.Omega.{arith}
+use Rattle.std.proofs.lemmas.List.{get_or-reverse, get_or_default, length-reverse}
 use Rattle.trace.specs.Emit.{Answer}
 use Rattle.std.specs.Prelude.{Some, None}
 use Rattle.word.proofs.ListLaws.{drop-cons-one}
@@ -72,6 +73,12 @@ module _ (G : Graph) (slots : ℕ) (W marks₀ work₀ : List ℕ) (total : Opti
 
 -- ---- falling
 
+-- the item that comes after y others, from the end on
+pub from-end : (W : List ℕ) (y x : ℕ) → y < length (reverse W) → x ≡ get_or (reverse W) y x → (y < length W) × (x ≡ get_or W (length W - y - 1) 0)
+from-end W y x h e =
+    let l : y < length W = omega (arith, length-reverse W) in
+    (l, e ∙ get_or-reverse W y x l ∙ get_or_default W (length W - 1 - y) x 0 (omega arith) ∙ ap (λ (k : ℕ). get_or W k 0) (let z : length W - 1 - y ≡ length W - y - 1 = omega arith in z))
+
 pub record Downward (G : Graph) (slots : ℕ) (W marks₀ work₀ : List ℕ) (total : Option Going) (marks work : List ℕ) (count k : ℕ) : Type 0 where
   pub scratch : Scratch slots marks work count
   pub same : downward G slots W k (going_of marks work count) ≡ total
@@ -79,9 +86,9 @@ pub record Downward (G : Graph) (slots : ℕ) (W marks₀ work₀ : List ℕ) (t
   pub long : length marks ≡ length marks₀
   pub words : length work ≡ length work₀
 
-pub down-first : (G : Graph) (slots : ℕ) (W marks work : List ℕ) (n : ℕ) → Scratch slots marks work n
-    → Downward G slots W marks work (downward G slots W (length W) (going_of marks work n)) marks work n (length W)
-down-first G slots W marks work n s = record { scratch = s; same = refl; within = omega arith; long = refl; words = refl }
+pub down-first : (G : Graph) (slots : ℕ) (W marks work : List ℕ) (n : ℕ) → Scratch slots marks work n → (k : ℕ) → k ≡ length W
+    → Downward G slots W marks work (downward G slots W (length W) (going_of marks work n)) marks work n k
+down-first G slots W marks work n s k e = record { scratch = s; same = ap (λ (j : ℕ). downward G slots W j (going_of marks work n)) e; within = omega arith; long = refl; words = refl }
 
 downward-turn : (G : Graph) (slots : ℕ) (W : List ℕ) (k : ℕ) (g : Going) → 0 < k → downward G slots W k g ≡ and_then (again G slots (get_or W (k - 1) 0) g) (downward G slots W (k - 1))
 unfolding downward
@@ -109,11 +116,11 @@ module _ (G : Graph) (slots : ℕ) (W marks₀ work₀ : List ℕ) (total : Opti
     pub down-stuck : r ≡ None → total ≡ none
     down-stuck q = fall ∙ ap (λ (o : Option Going). and_then o (downward G slots W (k - 1))) (fallen None q)
 
-    pub down-next : (m : ℕ) → r ≡ Some m → length marks' ≡ length marks → length work' ≡ length work → Downward G slots W marks₀ work₀ total marks' work' m (k - 1)
-    down-next m q a b =
+    pub down-next : (m : ℕ) → r ≡ Some m → length marks' ≡ length marks → length work' ≡ length work → (j : ℕ) → j ≡ k - 1 → Downward G slots W marks₀ work₀ total marks' work' m j
+    down-next m q a b j e =
         record {
           scratch = (fallen (Some m) q).1;
-          same = sym (fall ∙ ap (λ (o : Option Going). and_then o (downward G slots W (k - 1))) (fallen (Some m) q).0);
+          same = ap (λ (i : ℕ). downward G slots W i (going_of marks' work' m)) e ∙ sym (fall ∙ ap (λ (o : Option Going). and_then o (downward G slots W (k - 1))) (fallen (Some m) q).0);
           within = omega (arith, u.within);
           long = a ∙ u.long;
           words = b ∙ u.words;

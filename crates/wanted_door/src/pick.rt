@@ -96,8 +96,8 @@ impl Search<'_> {
             (downward (graph self.entry) (slots self.entry) self.entry.wanted.now (length self.entry.wanted.now) (going_of marks.old work.old n)) }
     {
         let mut count = n;
-        for k in (0..self.wanted.len()).rev() {
-            count = self.again(self.wanted[k], marks, work, count)?;
+        for w in self.wanted.iter().rev() {
+            count = self.again(*w, marks, work, count)?;
         }
         Some(count)
     }
