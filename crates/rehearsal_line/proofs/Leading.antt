@@ -8,6 +8,7 @@ use mathlib.Core.Path.{◌≡◌, refl, sym, ap, ◌∙◌, subst}
 use lib.Dec.{eqb}
 use lib.ListN.{length, length-append}
 use borrow.Author.Tests.{eq-eqb}
+use Rattle.std.specs.Prelude.{None}
 use Rattle.word.specs.Result.{Result, ok}
 use Rattle.ty.specs.Types.{Table}
 use Rattle.heap.specs.State.{State, slot_at, bit, times}
@@ -23,7 +24,7 @@ use Rattle.rehearsal.specs.OnHeap.{heaped, fresh}
 use Rattle.rehearsal.proofs.Holding.{held-few, led-good, led-real, after_one, unless-open}
 use Rattle.rehearsal_names.specs.Names.{name, named}
 use Rattle.rehearsal_steps.specs.declared.Going.{Going}
-use Rattle.rehearsal_steps.specs.Going.{going_on, InOrder, Whole, Led, Goes}
+use Rattle.rehearsal_steps.specs.Going.{ended, going_on, InOrder, Whole, Led, Goes}
 use Rattle.rehearsal_steps.specs.Steps.{CanHoldMore, collecting_in, doing_in}
 
 -- an allocation that succeeds holds one name more
@@ -57,14 +58,14 @@ module _ {T : Table} {l : Lent} {words : List ℕ} {g : Going} {n : ℕ} (order 
   led-line line =
       after_one (heaped T (slot_count l) (pool_size l)) n led.lines line first
       ∙ ap (λ (r : Run State). unless (heaped T (slot_count l) (pool_size l)) n r (does (heaped T (slot_count l) (pool_size l)) n line)) (sym led.there)
-      ∙ unless-open (heaped T (slot_count l) (pool_size l)) n (going_on l words g) (does (heaped T (slot_count l) (pool_size l)) n line) led.alive
+      ∙ unless-open (heaped T (slot_count l) (pool_size l)) n (going_on l words g) (does (heaped T (slot_count l) (pool_size l)) n line) (ap ended led.alive)
 
-  module _ {l₁ : Lent} {g₁ : Going} (went : Goes l₁ words g₁ (collecting_in T l words g n)) (alive : g₁.answer ≡ 0) (eS : slot_count l₁ ≡ slot_count l) (eP : pool_size l₁ ≡ pool_size l) (t k : ℕ) (bs : List ℕ) where
+  module _ {l₁ : Lent} {g₁ : Going} (went : Goes l₁ words g₁ (collecting_in T l words g n)) (alive : g₁.answer ≡ None) (eS : slot_count l₁ ≡ slot_count l) (eP : pool_size l₁ ≡ pool_size l) (t k : ℕ) (bs : List ℕ) where
     pub led-alloc : doing_in T l words g n (alloc t k bs) ≡ allocating (heaped T (slot_count l) (pool_size l)) n t k bs (going_on l₁ words g₁)
     unfolding does
     led-alloc =
         ap (λ (r : Run State). unless (heaped T (slot_count l) (pool_size l)) n r (allocating (heaped T (slot_count l) (pool_size l)) n t k bs)) (sym went.is)
-        ∙ unless-open (heaped T (slot_count l) (pool_size l)) n (going_on l₁ words g₁) (allocating (heaped T (slot_count l) (pool_size l)) n t k bs) alive
+        ∙ unless-open (heaped T (slot_count l) (pool_size l)) n (going_on l₁ words g₁) (allocating (heaped T (slot_count l) (pool_size l)) n t k bs) (ap ended alive)
 
     held_then : (x : ℕ) → (alloc_call (slot_count l) (pool_size l) k t 0 bs (view l₁)).answer ≡ ok x
         → (after (heaped T (slot_count l) (pool_size l)) n (led.lines ++ alloc t k bs ∷ []) (starting (heaped T (slot_count l) (pool_size l)) n fresh)).held

@@ -13,7 +13,9 @@ use Rattle.heap.specs.Lent.{Lent, view, slot_count, pool_size}
 use Rattle.heap_calls.specs.Pins.{rising_from}
 use Rattle.script.specs.Found.{DataThere}
 use Rattle.rehearsal.specs.Lines.{Line as Step, alloc, store, drop}
-use Rattle.std.specs.Prelude.{if◌then◌else◌}
+use Rattle.std.specs.Prelude.{if◌then◌else◌, is_some}
+use Rattle.refusal.specs.declared.Refusal.TheVariants.{NothingThere}
+use Rattle.rehearsal_steps.proofs.Placed.{not-ended}
 use Rattle.heap.specs.Calls.{gc_due}
 use Rattle.rehearsal.specs.Runs.{Run, held_at, handles, swept, collecting, allocating, storing, dropping, does, unless}
 use Rattle.rehearsal.specs.OnHeap.{heaped, collects_heap}
@@ -25,7 +27,7 @@ use Rattle.script.specs.declared.AllocLine.{AllocLine}
 use Rattle.rehearsal_lines.specs.declared.StoreLine.{StoreLine}
 use Rattle.rehearsal_names.specs.Names.{named, Names, LetGo}
 use Rattle.rehearsal_steps.specs.declared.Going.{Going}
-use Rattle.rehearsal_steps.specs.Going.{going_on, ended_by, InOrder, Goes}
+use Rattle.rehearsal_steps.specs.Going.{ended, going_on, ended_by, InOrder, Goes}
 use Rattle.rehearsal_steps.specs.Steps.{no_types, Dropped, after_drop, collecting_in, allocating_in, storing_in, doing_in}
 
 -- no type and no threshold matters to an allocation or a store
@@ -49,12 +51,12 @@ module _ (T : Table) (l : Lent) {words : List ℕ} (g : Going) (n : ℕ) {l₁ :
   pub same-turns : g₁.turns ≡ g.turns
   same-turns = ap (λ (r : Run State). r.turns) went.is ∙ collecting-turns T (slot_count l) (pool_size l) n (going_on l words g)
 
-  pub alloc-ends : (g₁.answer ≡ 0 → ⊥) → Goes l₁ words g₁ (doing_in T l words g n (alloc t k bs))
+  pub alloc-ends : is_some g₁.answer ≡ true → Goes l₁ words g₁ (doing_in T l words g n (alloc t k bs))
   unfolding does
   alloc-ends ne =
       record {
         order = went.order;
-        is = went.is ∙ sym (unless-ended (heaped T (slot_count l) (pool_size l)) n (collecting_in T l words g n) (allocating (heaped T (slot_count l) (pool_size l)) n t k bs) (λ z. ne (ap (λ (r : Run State). r.answer) went.is ∙ z)));
+        is = went.is ∙ sym (unless-ended (heaped T (slot_count l) (pool_size l)) n (collecting_in T l words g n) (allocating (heaped T (slot_count l) (pool_size l)) n t k bs) (λ z. not-ended g₁.answer ne (ap (λ (r : Run State). r.answer) went.is ∙ z)));
       }
 
   pub alloc_goes : doing_in T l words g n (alloc t k bs) ≡ allocating (heaped T (slot_count l) (pool_size l)) n t k bs (going_on l₁ words g₁) → slot_count l₁ ≡ slot_count l → pool_size l₁ ≡ pool_size l
@@ -94,13 +96,13 @@ module _ (T : Table) {l : Lent} {words : List ℕ} {g : Going} (n : ℕ) (order 
           rises = ap (λ (ts : List ℕ). rising_from 1 (ts ++ (g.turns + 1) ∷ [])) d.turns ∙ order.rises;
           sum = order.sum;
         };
-        is = (λ i. record { world = view l; held = d.left i; turns = g.turns; collections = g.collections; highest = g.highest; answer = g.answer })
+        is = (λ i. record { world = view l; held = d.left i; turns = g.turns; collections = g.collections; highest = g.highest; answer = ended g.answer })
             ∙ ap (λ (x : Option ℕ). dropping (heaped T (slot_count l) (pool_size l)) n (going_on l words g) x turn) (sym d.was);
       }
   dropped-by turn {words'} false long d e =
       record {
-        order = subst (λ (ws : List ℕ). InOrder l ws (ended_by g g.heap 9)) (sym d.same) (record { formed = order.formed; room = order.room; count = order.count; rises = order.rises; sum = order.sum });
-        is = ap (λ (ws : List ℕ). going_on l ws (ended_by g g.heap 9)) d.same ∙ ap (λ (x : Option ℕ). dropping (heaped T (slot_count l) (pool_size l)) n (going_on l words g) x turn) (sym d.never);
+        order = subst (λ (ws : List ℕ). InOrder l ws (ended_by g g.heap NothingThere)) (sym d.same) (record { formed = order.formed; room = order.room; count = order.count; rises = order.rises; sum = order.sum });
+        is = ap (λ (ws : List ℕ). going_on l ws (ended_by g g.heap NothingThere)) d.same ∙ ap (λ (x : Option ℕ). dropping (heaped T (slot_count l) (pool_size l)) n (going_on l words g) x turn) (sym d.never);
       }
 
   pub drop-line : (turn : ℕ) {S : ℕ} {words' : List ℕ} {g' : Going} {l₁ : Lent} → S ≡ slot_count l → length words' ≡ length words → Dropped S turn words g words' g' → l.header ≡ g.heap → l₁ ≡ l

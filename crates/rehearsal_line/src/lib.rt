@@ -2,7 +2,7 @@
 #![tactic(auto)]
 
 ghost use Rattle.std.specs.Prelude.{◌≡◌, ◌/◌, length};
-ghost use Rattle.ty.specs.View.{table_of};
+ghost use Rattle.ty.specs.View.{lent as tabled};
 ghost use Rattle.heap.specs.Lent.{lent};
 ghost use Rattle.script.specs.Found.{DataThere};
 ghost use Rattle.rehearsal_lines.specs.Found.{alloc_at, DataIn, step_in};
@@ -13,20 +13,24 @@ use rehearsal_lines::Line;
 use rehearsal_steps::{Going, allocate, collect_due};
 use rehearsal_store::{do_drop, do_store};
 use script::AllocLine;
+use ty::Table;
+
+// What a rehearsal goes by: the type table, the text that its lines stand in, and the threshold of its collections.
+#[derive(Clone, Copy)]
+pub struct Plan<'a> {
+    pub table: Table<'a>,
+    pub text: &'a [u8],
+    pub threshold: u64,
+}
 
 // A line `alloc`: a due collection comes before anything of the allocation is looked at.
 fn do_alloc(
-    types: &[u64],
-    fields: &[u32],
-    consts: &[u64],
-    bytes: &[u8],
+    plan: &Plan,
+    a: AllocLine,
     g: Going,
     narrow: &mut [u32],
     wide: &mut [u64],
     pool: &mut [u8],
-    s: &[u8],
-    a: AllocLine,
-    threshold: u64,
     words: &mut [u64],
     marks: &mut [u8],
     work: &mut [u64],
@@ -34,35 +38,38 @@ fn do_alloc(
     requires in_order { InOrder (lent g.heap narrow.old wide.old pool.old) words.old g }
     requires cleared { Cleared (length narrow.old / 6) marks.old work.old }
     requires short { Short g }
-    requires data_there { DataThere s.now a }
-    requires led { Led (table_of types.now fields.now consts.now bytes.now) (lent g.heap narrow.old wide.old pool.old) words.old g threshold }
+    requires data_there { DataThere plan.now.text.now a }
+    requires led { Led (tabled plan.now.table) (lent g.heap narrow.old wide.old pool.old) words.old g plan.now.threshold }
     ensures goes { Goes (lent result.heap narrow.new wide.new pool.new) words.new result
-        (doing_in (table_of types.now fields.now consts.now bytes.now)
-        (lent g.heap narrow.old wide.old pool.old) words.old g threshold (alloc_at s.now a)) }
+        (doing_in (tabled plan.now.table)
+        (lent g.heap narrow.old wide.old pool.old) words.old g plan.now.threshold (alloc_at plan.now.text.now a)) }
     ensures marks_unchanged { (marks.new ≡ marks.old) × (work.new ≡ work.old) }
 {
     let r = collect_due(
-        types, fields, consts, bytes, g, narrow, wide, pool, threshold, words, marks, work,
+        &plan.table,
+        g,
+        narrow,
+        wide,
+        pool,
+        plan.threshold,
+        words,
+        marks,
+        work,
     );
-    if r.answer == 0 {
-        return allocate(r, narrow, wide, pool, s, a, words);
+    if r.answer.is_some() {
+        return r;
     }
-    r
+    allocate(r, narrow, wide, pool, plan.text, a, words)
 }
 
-// A line of a rehearsal that no answer has ended.
+// A line of a rehearsal that no refusal has ended.
 pub fn do_line(
-    types: &[u64],
-    fields: &[u32],
-    consts: &[u64],
-    bytes: &[u8],
+    plan: &Plan,
+    line: Line,
     g: Going,
     narrow: &mut [u32],
     wide: &mut [u64],
     pool: &mut [u8],
-    s: &[u8],
-    line: Line,
-    threshold: u64,
     words: &mut [u64],
     marks: &mut [u8],
     work: &mut [u64],
@@ -70,18 +77,16 @@ pub fn do_line(
     requires in_order { InOrder (lent g.heap narrow.old wide.old pool.old) words.old g }
     requires cleared { Cleared (length narrow.old / 6) marks.old work.old }
     requires short { Short g }
-    requires data_in { DataIn s.now line }
-    requires led { Led (table_of types.now fields.now consts.now bytes.now) (lent g.heap narrow.old wide.old pool.old) words.old g threshold }
+    requires data_in { DataIn plan.now.text.now line }
+    requires led { Led (tabled plan.now.table) (lent g.heap narrow.old wide.old pool.old) words.old g plan.now.threshold }
     ensures goes { Goes (lent result.heap narrow.new wide.new pool.new) words.new result
-        (doing_in (table_of types.now fields.now consts.now bytes.now)
-        (lent g.heap narrow.old wide.old pool.old) words.old g threshold (step_in s.now line)) }
+        (doing_in (tabled plan.now.table)
+        (lent g.heap narrow.old wide.old pool.old) words.old g plan.now.threshold (step_in plan.now.text.now line)) }
     ensures marks_unchanged { (marks.new ≡ marks.old) × (work.new ≡ work.old) }
 {
+    // Kept: the line says what is done, and each step needs other parts of the rehearsal; closures would have to be chosen by the same match.
     match line {
-        Line::Alloc(a) => do_alloc(
-            types, fields, consts, bytes, g, narrow, wide, pool, s, a, threshold, words, marks,
-            work,
-        ),
+        Line::Alloc(a) => do_alloc(plan, a, g, narrow, wide, pool, words, marks, work),
         Line::Store(a) => do_store(g, narrow, wide, pool, a, words),
         Line::Drop(turn) => do_drop(g, narrow.len() / 6, turn, words),
     }

@@ -2,13 +2,14 @@
 use Prim.Native.Nat.{ℕ, ◌+◌, ◌≤◌}
 use native.Mathlib.Omega.{arith}
 use mathlib.Core.List.{List, [], ◌∷◌, ◌++◌, append_assoc}
-use mathlib.Core.Path.{◌≡◌, refl, ap}
+use mathlib.Core.Path.{◌≡◌, refl, ap, subst}
 use lib.ListN.{length, length-append}
 use Rattle.text.specs.Text.{decimal, line}
 use Rattle.text.specs.Put.{Puts}
 use Rattle.text.proofs.Putting.{puts-puts, puts-at, puts-length}
 use Rattle.rehearsal.specs.Runs.{Figures, figures_line}
 use Rattle.rehearsal_steps.specs.declared.Going.{Going}
+use Rattle.rehearsal_steps.specs.Going.{ended}
 use Rattle.rehearsal_runs.specs.Runs.{figures_in, CanPut}
 
 abbrev pub field : (n end : ℕ) → List ℕ
@@ -26,7 +27,7 @@ unfolding figures_line line
 line-long f = simp length-append (omega arith)
 
 module _ {a : List ℕ} {at : ℕ} (n : ℕ) (g : Going) (can : CanPut a at n g) where
-  long : at + (length (decimal n) + length (decimal g.collections) + length (decimal g.highest) + length (decimal g.size) + length (decimal g.answer) + 5) ≤ length a
+  long : at + (length (decimal n) + length (decimal g.collections) + length (decimal g.highest) + length (decimal g.size) + length (decimal (ended g.answer)) + 5) ≤ length a
   long = omega (arith, can.room, line-long (figures_in n g))
 
   pub room-1 : at + length (field n 44) ≤ length a
@@ -57,10 +58,12 @@ module _ {a : List ℕ} {at : ℕ} (n : ℕ) (g : Going) (can : CanPut a at n g)
           b4-long : length b4 ≡ length b3
           b4-long = puts-length p4 room-4
 
-          pub room-5 : k4 + length (field g.answer 10) ≤ length b4
-          room-5 = omega (arith, long, b1-long, b2-long, b3-long, b4-long, p1.next, p2.next, p3.next, p4.next, field-long n 44, field-long g.collections 44, field-long g.highest 44, field-long g.size 44, field-long g.answer 10)
+          module _ {answer : ℕ} (ea : answer ≡ ended g.answer) where
+            pub room-5 : k4 + length (field answer 10) ≤ length b4
+            room-5 = omega (arith, long, b1-long, b2-long, b3-long, b4-long, p1.next, p2.next, p3.next, p4.next, field-long n 44, field-long g.collections 44, field-long g.highest 44, field-long g.size 44, field-long answer 10, ap (λ (m : ℕ). length (decimal m)) ea)
 
-          pub puts-line : {b5 : List ℕ} {k5 : ℕ} → Puts b4 b5 k4 k5 (field g.answer 10) → Puts a b5 at k5 (figures_line (figures_in n g))
-          puts-line p5 =
-              let h : at ≤ length a = omega (arith, long) in
-              puts-at (puts-puts (puts-puts (puts-puts (puts-puts p1 p2 h) p3 h) p4 h) p5 h) refl (line-parts (figures_in n g))
+            pub puts-line : {b5 : List ℕ} {k5 : ℕ} → Puts b4 b5 k4 k5 (field answer 10) → Puts a b5 at k5 (figures_line (figures_in n g))
+            puts-line {b5} {k5} p5 =
+                let h : at ≤ length a = omega (arith, long) in
+                let q5 : Puts b4 b5 k4 k5 (field (ended g.answer) 10) = subst (λ (m : ℕ). Puts b4 b5 k4 k5 (field m 10)) ea p5 in
+                puts-at (puts-puts (puts-puts (puts-puts (puts-puts p1 p2 h) p3 h) p4 h) q5 h) refl (line-parts (figures_in n g))

@@ -6,6 +6,7 @@ use mathlib.Core.List.{List, [], ◌∷◌, ◌++◌, append_assoc, append-nil}
 use mathlib.Core.Option.{some}
 use mathlib.Core.Path.{◌≡◌, refl, sym, ap, ◌∙◌, subst}
 use lib.ListN.{length, get_or, drop, length-append, length-drop, drop_of_length-le}
+use Rattle.std.specs.Prelude.{None}
 use Rattle.word.specs.Run.{run}
 use Rattle.word.proofs.ListLaws.{drop-cons-one}
 use Rattle.text.specs.Text.{decimal}
@@ -31,7 +32,7 @@ use Rattle.rehearsal.proofs.Relation.{Good, stands-new}
 use Rattle.rehearsal_runs.proofs.Printing.{line-long}
 use Rattle.rehearsal_names.specs.Names.{entries, kept, named}
 use Rattle.rehearsal_steps.specs.declared.Going.{Going}
-use Rattle.rehearsal_steps.specs.Going.{going_on, InOrder, Goes}
+use Rattle.rehearsal_steps.specs.Going.{ended, going_on, InOrder, Goes}
 use Rattle.rehearsal_runs.specs.Runs.{lines_of, run_of, Begun, LentRoom, figures_in, CanPut, memory_after, Rehearses}
 use Rattle.rehearsal_runs.proofs.Running.{Sizes as Same}
 
@@ -39,7 +40,7 @@ use Rattle.rehearsal_runs.proofs.Running.{Sizes as Same}
 
 -- nothing held, nothing counted
 abbrev pub at_start : Lent → Going
-at_start l = record { heap = l.header; size = 0; held = 0; turns = 0; collections = 0; highest = 0; answer = 0 }
+at_start l = record { heap = l.header; size = 0; held = 0; turns = 0; collections = 0; highest = 0; answer = None }
 
 no-sum : live_size (new 1).slots ≡ 0
 unfolding new live_size
@@ -113,7 +114,7 @@ module _ (T : Table) {S P : ℕ} (n : ℕ) {l : Lent} {words : List ℕ} {g : Go
       let b = decimal-length 19 g.collections (omega arith) in
       let c = decimal-length 9 g.highest (omega (arith, r.highest, ap (λ (x : Run State). x.highest) went.is)) in
       let d = decimal-length 9 g.size (omega (arith, went.order.sum, live-most (view l).slots, f.slots-fit, f.slot-range.1, f.data-fit, f.pool-range)) in
-      let e = decimal-length 1 g.answer (omega (arith, r.answer, ap (λ (x : Run State). x.answer) went.is)) in
+      let e = decimal-length 1 (ended g.answer) (omega (arith, r.answer, ap (λ (x : Run State). x.answer) went.is)) in
       omega (arith, line-long (figures_in n g), a, b, c, d, e)
 
 -- ---- one threshold after another

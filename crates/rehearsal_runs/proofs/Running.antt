@@ -23,6 +23,7 @@ use Rattle.rehearsal_lines.specs.declared.Line.{Line}
 use Rattle.rehearsal_steps.specs.declared.Going.{Going}
 use Rattle.rehearsal_steps.specs.Going.{going_on, InOrder, Short, Cleared, Led, Goes}
 use Rattle.rehearsal_steps.specs.Steps.{doing_in}
+use Rattle.rehearsal_steps.proofs.Placed.{not-ended}
 use Rattle.rehearsal_line.proofs.Leading.{led-line}
 use Rattle.rehearsal_runs.specs.Runs.{or_none, lines_of, run_of, Begun}
 
@@ -86,7 +87,7 @@ pub record Running (T : Table) (S P n : ℕ) (s : List ℕ) (l : Lent) (words : 
   pub left : read_lines (drop at s) ≡ some rest
   pub whole : lines ++ rest ≡ lines_of s
   pub there : going_on l words g ≡ run_of T S P n lines
-  pub alive : g.answer ≡ 0
+  pub alive : g.answer ≡ found.None
   pub few : 2 * length lines ≤ at
 
 pub running-first : {T : Table} {n : ℕ} {s : List ℕ} {l : Lent} {words : List ℕ} {g : Going} → InOrder l words g → Begun T l words g n → is_text s ≡ true → Running T (slot_count l) (pool_size l) n s l words g 0
@@ -151,7 +152,7 @@ module _ {T : Table} {S P n : ℕ} {s : List ℕ} {l : Lent} {words : List ℕ} 
       all_there : done ++ rest-after.0 ≡ lines_of s
       all_there = append_assoc v.lines (c ∷ []) rest-after.0 ∙ ap (λ (r : List Step). v.lines ++ r) (some_inj rest-after.2) ∙ v.whole
 
-      pub running-next : g'.answer ≡ 0 → Running T S P n s l' words' g' next
+      pub running-next : g'.answer ≡ found.None → Running T S P n s l' words' g' next
       running-next alive =
           record {
             order = went.order;
@@ -167,12 +168,12 @@ module _ {T : Table} {S P n : ℕ} {s : List ℕ} {l : Lent} {words : List ℕ} 
             few = omega (arith, next-later, v.few, length-append v.lines (c ∷ []));
           }
 
-      pub running-stop : (g'.answer ≡ 0 → ⊥) → Goes l' words' g' (run_of T S P n (lines_of s))
+      pub running-stop : found.is_some g'.answer ≡ true → Goes l' words' g' (run_of T S P n (lines_of s))
       running-stop ne =
           record {
             order = went.order;
             is = done-there
-                ∙ sym (after-ended (heaped T S P) n rest-after.0 (run_of T S P n done) (λ z. ne (ap (λ (r : Run State). r.answer) done-there ∙ z)))
+                ∙ sym (after-ended (heaped T S P) n rest-after.0 (run_of T S P n done) (λ z. not-ended g'.answer ne (ap (λ (r : Run State). r.answer) done-there ∙ z)))
                 ∙ sym (after-append (heaped T S P) n done rest-after.0 (starting (heaped T S P) n fresh))
                 ∙ ap (run_of T S P n) all_there;
           }

@@ -1,5 +1,6 @@
 -- Rehearsals in lent memory, one threshold after another.
 use Rattle.std.specs.Prelude.{ℕ, ◌+◌, ◌*◌, ◌/◌, ◌^◌, ◌≤◌, ◌<◌, true, List, [], ◌∷◌, ◌≡◌, length}
+use Rattle.std.specs.Prelude.{None}
 use Rattle.std.proofs.Math.Option.{Option, none, some}
 use Rattle.text.specs.Put.{put_text}
 use Rattle.text.specs.Text.{decimal}
@@ -10,7 +11,7 @@ use Rattle.rehearsal.specs.Lines.{Line, read_lines, is_text}
 use Rattle.rehearsal.specs.Runs.{Run, after, starting, Figures, figures_line, figures_text}
 use Rattle.rehearsal.specs.OnHeap.{heaped, fresh}
 use Rattle.rehearsal_steps.specs.declared.Going.{Going}
-use Rattle.rehearsal_steps.specs.Going.{going_on, Cleared}
+use Rattle.rehearsal_steps.specs.Going.{ended, going_on, Cleared}
 
 -- the lines of a text; none where it is no text of lines
 abbrev pub or_none : Option (List Line) → List Line
@@ -27,7 +28,7 @@ run_of T S P n ls = after (heaped T S P) n ls (starting (heaped T S P) n fresh)
 -- at the start of it
 pub record Begun (T : Table) (l : Lent) (words : List ℕ) (g : Going) (threshold : ℕ) : Type 0 where
   pub there : going_on l words g ≡ starting (heaped T (slot_count l) (pool_size l)) threshold fresh
-  pub alive : g.answer ≡ 0
+  pub alive : g.answer ≡ None
 
 -- lent memory for a heap of S slots, and two words for each
 pub record LentRoom (narrow wide pool words : List ℕ) : Type 0 where
@@ -39,7 +40,7 @@ pub record LentRoom (narrow wide pool words : List ℕ) : Type 0 where
   pub names : length narrow / 6 + length narrow / 6 ≤ length words
 
 abbrev pub figures_in : (threshold : ℕ) → Going → Figures
-figures_in n g = record { threshold = n; collections = g.collections; highest = g.highest; last = g.size; answer = g.answer }
+figures_in n g = record { threshold = n; collections = g.collections; highest = g.highest; last = g.size; answer = ended g.answer }
 
 pub record CanPut (out : List ℕ) (at threshold : ℕ) (g : Going) : Type 0 where
   pub room : at + length (figures_line (figures_in threshold g)) ≤ length out

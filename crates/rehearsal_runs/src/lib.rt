@@ -3,82 +3,80 @@
 
 ghost use Rattle.std.specs.Prelude.{◌≡◌, true, [], ◌∷◌, ◌++◌, ◌+◌, ◌/◌, ◌≤◌, length};
 ghost use Rattle.text.specs.Put.{Puts};
-ghost use Rattle.ty.specs.View.{table_of};
+ghost use Rattle.ty.specs.View.{lent as tabled};
 ghost use Rattle.heap.specs.Lent.{lent};
 ghost use Rattle.rehearsal.specs.Lines.{is_text};
 ghost use Rattle.rehearsal.specs.Runs.{figures_line};
-ghost use Rattle.rehearsal_steps.specs.Going.{InOrder, Cleared, Goes};
+ghost use Rattle.rehearsal_steps.specs.Going.{ended, InOrder, Cleared, Goes};
 ghost use Rattle.rehearsal_runs.specs.Runs.{Begun, LentRoom, CanPut, CanRehearse, lines_of, run_of, figures_in, Rehearses};
 
 use heap::Heap;
-use rehearsal_line::do_line;
+use refusal::Refusal;
+use rehearsal_line::{Plan, do_line};
 use rehearsal_lines::read_line;
 use rehearsal_steps::Going;
+use ty::Table;
 
-// Runs the lines of `s` one by one, until one ends it.
+// What is rehearsed: the type table, the text of the lines, and the thresholds.
+#[derive(Clone, Copy)]
+pub struct Rehearsal<'a> {
+    pub table: Table<'a>,
+    pub text: &'a [u8],
+    pub thresholds: &'a [u64],
+}
+
+// Runs the lines of the text one by one, until one ends it.
 fn run_lines(
-    types: &[u64],
-    fields: &[u32],
-    consts: &[u64],
-    bytes: &[u8],
+    plan: &Plan,
     g: Going,
     narrow: &mut [u32],
     wide: &mut [u64],
     pool: &mut [u8],
-    s: &[u8],
-    threshold: u64,
     words: &mut [u64],
     marks: &mut [u8],
     work: &mut [u64],
 ) -> Going
     requires in_order { InOrder (lent g.heap narrow.old wide.old pool.old) words.old g }
     requires cleared { Cleared (length narrow.old / 6) marks.old work.old }
-    requires begun { Begun (table_of types.now fields.now consts.now bytes.now) (lent g.heap narrow.old wide.old pool.old) words.old g threshold }
-    requires s_value { is_text s.now ≡ true }
+    requires begun { Begun (tabled plan.now.table) (lent g.heap narrow.old wide.old pool.old) words.old g plan.now.threshold }
+    requires s_value { is_text plan.now.text.now ≡ true }
     ensures goes { Goes (lent result.heap narrow.new wide.new pool.new) words.new result
-        (run_of (table_of types.now fields.now consts.now bytes.now)
-        (length narrow.old / 6) (length pool.old) threshold (lines_of s.now)) }
+        (run_of (tabled plan.now.table)
+        (length narrow.old / 6) (length pool.old) plan.now.threshold (lines_of plan.now.text.now)) }
     ensures marks_unchanged { (marks.new ≡ marks.old) × (work.new ≡ work.old) }
 {
     let mut r = g;
     let mut at = 0;
-    while at < s.len() {
-        let Some((line, next)) = read_line(s, at) else {
+    // Kept: the reader says where the next line begins, so that no iterator gives the lines.
+    while at < plan.text.len() {
+        let Some((line, next)) = read_line(plan.text, at) else {
             unreachable!();
         };
-        r = do_line(
-            types, fields, consts, bytes, r, narrow, wide, pool, s, line, threshold, words, marks,
-            work,
-        );
+        r = do_line(plan, line, r, narrow, wide, pool, words, marks, work);
         at = next;
-        if r.answer != 0 {
+        if r.answer.is_some() {
             return r;
         }
     }
     r
 }
 
-// Runs the lines of `s` from a new heap of tag 1.
+// Runs the lines of the text from a new heap of tag 1.
 fn rehearse_one(
-    types: &[u64],
-    fields: &[u32],
-    consts: &[u64],
-    bytes: &[u8],
+    plan: &Plan,
     narrow: &mut [u32],
     wide: &mut [u64],
     pool: &mut [u8],
-    s: &[u8],
-    threshold: u64,
     words: &mut [u64],
     marks: &mut [u8],
     work: &mut [u64],
 ) -> Going
     requires lent_room { LentRoom narrow.old wide.old pool.old words.old }
     requires cleared { Cleared (length narrow.old / 6) marks.old work.old }
-    requires s_value { is_text s.now ≡ true }
+    requires s_value { is_text plan.now.text.now ≡ true }
     ensures goes { Goes (lent result.heap narrow.new wide.new pool.new) words.new result
-        (run_of (table_of types.now fields.now consts.now bytes.now)
-        (length narrow.old / 6) (length pool.old) threshold (lines_of s.now)) }
+        (run_of (tabled plan.now.table)
+        (length narrow.old / 6) (length pool.old) plan.now.threshold (lines_of plan.now.text.now)) }
     ensures marks_unchanged { (marks.new ≡ marks.old) × (work.new ≡ work.old) }
 {
     let heap = heap_edit::new(1, narrow, wide, pool);
@@ -89,11 +87,19 @@ fn rehearse_one(
         turns: 0,
         collections: 0,
         highest: 0,
-        answer: 0,
+        answer: None,
     };
-    run_lines(
-        types, fields, consts, bytes, g, narrow, wide, pool, s, threshold, words, marks, work,
-    )
+    run_lines(plan, g, narrow, wide, pool, words, marks, work)
+}
+
+// The number of what has ended a rehearsal, 0 where nothing has.
+fn number(answer: Option<Refusal>) -> u64
+    ensures { result ≡ ended answer }
+{
+    match answer {
+        None => 0,
+        Some(why) => u64::from(why),
+    }
 }
 
 // Puts the line of a rehearsal from `at` on, and answers where it ends.
@@ -105,7 +111,7 @@ fn put_figures(out: &mut [u8], at: usize, threshold: u64, g: Going) -> usize
     let b = pages::put_number(out, a, g.collections, 44);
     let c = pages::put_number(out, b, g.highest, 44);
     let d = pages::put_number(out, c, g.size, 44);
-    pages::put_number(out, d, g.answer, 10)
+    pages::put_number(out, d, number(g.answer), 10)
 }
 
 // The header of the last rehearsal's heap, and how many bytes were printed.
@@ -115,40 +121,35 @@ pub struct Rehearsed {
     pub written: usize,
 }
 
-// Rehearses the lines of `s` for each threshold, and prints a line each.
+// Rehearses the lines of the text for each threshold, and prints a line each.
 pub fn rehearse_all(
-    types: &[u64],
-    fields: &[u32],
-    consts: &[u64],
-    bytes: &[u8],
+    what: &Rehearsal,
     heap: Heap,
     narrow: &mut [u32],
     wide: &mut [u64],
     pool: &mut [u8],
-    s: &[u8],
-    thresholds: &[u64],
     out: &mut [u8],
     words: &mut [u64],
     marks: &mut [u8],
     work: &mut [u64],
 ) -> Rehearsed
-    requires { CanRehearse narrow.old wide.old pool.old words.old marks.old work.old s.now thresholds.now out.old }
-    ensures rehearses { Rehearses (table_of types.now fields.now consts.now bytes.now)
-        (lent heap narrow.old wide.old pool.old) s.now thresholds.now out.old
+    requires { CanRehearse narrow.old wide.old pool.old words.old marks.old work.old what.now.text.now what.now.thresholds.now out.old }
+    ensures rehearses { Rehearses (tabled what.now.table)
+        (lent heap narrow.old wide.old pool.old) what.now.text.now what.now.thresholds.now out.old
         (lent result.heap narrow.new wide.new pool.new) out.new result.written }
     ensures marks_unchanged { (marks.new ≡ marks.old) × (work.new ≡ work.old) }
 {
     let mut h = heap;
     let mut at = 0;
-    let mut i = 0;
-    while i < thresholds.len() {
-        let n = thresholds[i];
-        let g = rehearse_one(
-            types, fields, consts, bytes, narrow, wide, pool, s, n, words, marks, work,
-        );
+    for threshold in what.thresholds {
+        let plan = Plan {
+            table: what.table,
+            text: what.text,
+            threshold: *threshold,
+        };
+        let g = rehearse_one(&plan, narrow, wide, pool, words, marks, work);
         h = g.heap;
-        at = put_figures(out, at, n, g);
-        i += 1;
+        at = put_figures(out, at, *threshold, g);
     }
     Rehearsed {
         heap: h,

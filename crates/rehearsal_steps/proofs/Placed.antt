@@ -9,8 +9,9 @@ use lib.ListN.{length}
 use Rattle.word.specs.Result.{Result, ok, refused}
 use Rattle.word.specs.Run.{run}
 use Rattle.text.specs.Answer.{hex_at}
-use Rattle.refusal.specs.Told.{told, answered, here, nothing}
-use Rattle.refusal.specs.declared.Answer.{Answer}
+use Rattle.std.specs.Prelude.{Option, Some, None, Ok, Err, is_some}
+use Rattle.refusal.specs.Told.{number_of, told, here, nothing}
+use Rattle.refusal.specs.declared.Refusal.{Refusal}
 use Rattle.refusal.specs.Told.{Reply}
 use Rattle.heap.specs.Packing.{flat}
 use Rattle.heap.specs.State.{State, data_of}
@@ -25,25 +26,26 @@ use Rattle.heap.proofs.Carrying.{kept-sizes}
 use Rattle.heap_calls.specs.Pins.{rising_from}
 use Rattle.object_door.specs.ObjectCalls.{allocating as alloc_call}
 use Rattle.object_door.proofs.Objects.{allocating-sound}
-use Rattle.script.proofs.Refusing.{Numbered, alloc-numbered}
+use Rattle.script.proofs.Refusing.{alloc-numbered}
+use Rattle.rehearsal_place.proofs.Answering.{apart, is_ok, is-refused}
 use Rattle.collection.specs.Swept.{live_size}
 use Rattle.rehearsal.specs.Runs.{Run, placed, allocating}
 use Rattle.rehearsal.specs.OnHeap.{heaped}
 use Rattle.rehearsal.proofs.Bound.{live-most}
 use Rattle.rehearsal_names.specs.Names.{name, named, CanHold, Held}
 use Rattle.rehearsal_steps.specs.declared.Going.{Going}
-use Rattle.rehearsal_steps.specs.Going.{going_on, ended_by, InOrder, Short, Goes}
+use Rattle.rehearsal_steps.specs.Going.{ended, going_on, ended_by, InOrder, Goes}
 use Rattle.rehearsal_steps.specs.Steps.{no_types, CanHoldMore, allocating_in}
 use Rattle.rehearsal_steps.proofs.Sums.{Sums, alloc-sums}
 
--- an answer in numbers, and the answer
-says-handle : {a : Answer} (r : Result ℕ) → Numbered r → a ≡ answered here nothing r → a.number ≡ 0 → r ≡ ok a.first
-says-handle (ok x) n e z = ap ok (sym (ap (λ (b : Answer). b.first) e))
-says-handle (refused k) n e z = let w : k ≡ 0 = sym (ap (λ (b : Answer). b.number) e) ∙ z in absurd (omega arith)
+-- what has ended it, and its number
+pub not-ended : {X : Type 0} (o : Option Refusal) → is_some o ≡ true → ended o ≡ 0 → X
+not-ended None e z = absurd (let w : ◌≡◌ {A = ℕ} 0 1 = cc in omega arith)
+not-ended (Some why) e z = apart why z
 
-says-why : {a : Answer} (r : Result ℕ) → a ≡ answered here nothing r → (a.number ≡ 0 → ⊥) → r ≡ refused a.number
-says-why (ok x) e ne = absurd (ne (ap (λ (b : Answer). b.number) e))
-says-why (refused k) e ne = ap refused (sym (ap (λ (b : Answer). b.number) e))
+pub still-open : (o : Option Refusal) → is_some o ≡ false → o ≡ None
+still-open None e = refl
+still-open (Some why) e = absurd (let w : ◌≡◌ {A = ℕ} 0 1 = cc in omega arith)
 
 -- the sum of a heap that fits
 pub small-sum : {l : Lent} {words : List ℕ} {g : Going} → InOrder l words g → g.size < 2 ^ 32
@@ -51,8 +53,8 @@ small-sum {l} order =
     let s = (formed-tested l order.formed).sound in
     omega (arith, order.sum, live-most (view l).slots, s.slots-fit, s.slot-range.1, s.data-fit, s.pool-range)
 
-module _ {l : Lent} {words : List ℕ} {g : Going} (order : InOrder l words g) (t k : ℕ) (bs : List ℕ) {l₁ : Lent} {reply : Reply} {a : Answer}
-    (d : Tells here nothing l l₁ reply (alloc_call (slot_count l) (pool_size l) k t 0 bs (view l))) (q : a ≡ told reply) where
+module _ {l : Lent} {words : List ℕ} {g : Going} (order : InOrder l words g) (t k : ℕ) (bs : List ℕ) {l₁ : Lent} {reply : Reply}
+    (d : Tells here nothing l l₁ reply (alloc_call (slot_count l) (pool_size l) k t 0 bs (view l))) where
   abbrev c : Changed ℕ
   c = alloc_call (slot_count l) (pool_size l) k t 0 bs (view l)
 
@@ -74,44 +76,44 @@ module _ {l : Lent} {words : List ℕ} {g : Going} (order : InOrder l words g) (
 
   -- ---- refused
 
-  pub place-refused : (a.number ≡ 0 → ⊥) → Goes l₁ words (ended_by g l₁.header a.number) (allocating_in l words g t k bs)
-  place-refused ne =
-      let why : c.answer ≡ refused a.number = says-why c.answer (q ∙ d.says) ne in
+  pub place-refused : (why : Refusal) → reply ≡ Err why → Goes l₁ words (ended_by g l₁.header why) (allocating_in l words g t k bs)
+  place-refused why f =
+      let is-why : c.answer ≡ refused (number_of why) = is-refused why c.answer (sym (ap told f) ∙ d.says) in
       record {
         order = record {
           formed = d.leaves.formed;
           room = omega (arith, order.room, eS);
           count = omega (arith, order.count, eS);
           rises = order.rises;
-          sum = order.sum ∙ sym (sums.1 a.number why) ∙ ap (λ (h : State). live_size h.slots) (sym seen);
+          sum = order.sum ∙ sym (sums.1 (number_of why) is-why) ∙ ap (λ (h : State). live_size h.slots) (sym seen);
         };
-        is = (λ i. record { world = seen i; held = named (eS i) g.held words; turns = g.turns; collections = g.collections; highest = g.highest; answer = a.number })
-            ∙ ap (λ (x : Result ℕ). placed (heaped no_types (slot_count l) (pool_size l)) 0 (going_on l words g) x c.heap) (sym why) ∙ sym allocated-run;
+        is = (λ i. record { world = seen i; held = named (eS i) g.held words; turns = g.turns; collections = g.collections; highest = g.highest; answer = number_of why })
+            ∙ ap (λ (x : Result ℕ). placed (heaped no_types (slot_count l) (pool_size l)) 0 (going_on l words g) x c.heap) (sym is-why) ∙ sym allocated-run;
       }
 
   -- ---- placed and held
 
-  module _ (more : CanHoldMore l words g t k bs) (z : a.number ≡ 0) where
-    is-handle : c.answer ≡ ok a.first
-    is-handle = says-handle c.answer (alloc-numbered (slot_count l) (pool_size l) k t 0 bs (view l)) (q ∙ d.says) z
+  module _ (more : CanHoldMore l words g t k bs) {x y : ℕ} (z : reply ≡ Ok (x, y)) where
+    is-handle : c.answer ≡ ok x
+    is-handle = is_ok c.answer (alloc-numbered (slot_count l) (pool_size l) k t 0 bs (view l)) (sym (ap told z) ∙ d.says)
 
-    pub can-hold : {S : ℕ} → S ≡ slot_count l → CanHold S g.held (g.turns + 1) a.first words
+    pub can-hold : {S : ℕ} → S ≡ slot_count l → CanHold S g.held (g.turns + 1) x words
     can-hold {S} e =
-        subst (λ (s : ℕ). CanHold s g.held (g.turns + 1) a.first words) (sym e)
-        (record { room = order.room; count = order.count; rises = order.rises; few = more.few a.first is-handle; real = more.real a.first is-handle })
+        subst (λ (s : ℕ). CanHold s g.held (g.turns + 1) x words) (sym e)
+        (record { room = order.room; count = order.count; rises = order.rises; few = more.few x is-handle; real = more.real x is-handle })
 
     pub sum_room : {count : ℕ} → count ≡ length bs → g.size + (count + 32) < 2 ^ 64
     sum_room {count} e =
         let f = (formed-tested l₁ d.leaves.formed).sound in
-        omega (arith, e, order.sum, sums.0 a.first is-handle, ap (λ (h : State). live_size h.slots) seen, live-most (view l₁).slots, f.slots-fit, f.slot-range.1, f.data-fit, f.pool-range)
+        omega (arith, e, order.sum, sums.0 x is-handle, ap (λ (h : State). live_size h.slots) seen, live-most (view l₁).slots, f.slots-fit, f.slot-range.1, f.data-fit, f.pool-range)
 
-    pub place-held : {S count n' top : ℕ} {words' : List ℕ} → S ≡ slot_count l → count ≡ length bs → length words' ≡ length words → Held S g.held (g.turns + 1) a.first words n' words' → top ≡ max g.highest (g.size + (count + 32))
+    pub place-held : {S count n' top : ℕ} {words' : List ℕ} → S ≡ slot_count l → count ≡ length bs → length words' ≡ length words → Held S g.held (g.turns + 1) x words n' words' → top ≡ max g.highest (g.size + (count + 32))
         → Goes l₁ words' (record { heap = l₁.header; size = g.size + (count + 32); held = n'; turns = g.turns + 1; collections = g.collections; highest = top; answer = g.answer }) (allocating_in l words g t k bs)
     unfolding heaped
     place-held {S} {count} {n'} {top} {words'} e f long h₀ et =
-        let h : Held (slot_count l) g.held (g.turns + 1) a.first words n' words' = subst (λ (s : ℕ). Held s g.held (g.turns + 1) a.first words n' words') e h₀ in
+        let h : Held (slot_count l) g.held (g.turns + 1) x words n' words' = subst (λ (s : ℕ). Held s g.held (g.turns + 1) x words n' words') e h₀ in
         let sum : g.size + (count + 32) ≡ live_size (view l₁).slots =
-        (λ i. order.sum i + (f i + 32)) ∙ sym (sums.0 a.first is-handle) ∙ ap (λ (x : State). live_size x.slots) (sym seen) in
+        (λ i. order.sum i + (f i + 32)) ∙ sym (sums.0 x is-handle) ∙ ap (λ (h' : State). live_size h'.slots) (sym seen) in
         record {
           order = record {
             formed = d.leaves.formed;
@@ -125,10 +127,10 @@ module _ {l : Lent} {words : List ℕ} {g : Going} (order : InOrder l words g) (
             held = (ap (λ (s : ℕ). named s n' words') eS ∙ h.names) i;
             turns = g.turns + 1;
             collections = g.collections;
-            highest = (et ∙ ap (max g.highest) (sum ∙ ap (λ (x : State). live_size x.slots) seen)) i;
-            answer = g.answer;
+            highest = (et ∙ ap (max g.highest) (sum ∙ ap (λ (h' : State). live_size h'.slots) seen)) i;
+            answer = ended g.answer;
           }) ∙ held-run;
         }
       where
-        held-run : placed (heaped no_types (slot_count l) (pool_size l)) 0 (going_on l words g) (ok a.first) c.heap ≡ allocating_in l words g t k bs
-        held-run = ap (λ (x : Result ℕ). placed (heaped no_types (slot_count l) (pool_size l)) 0 (going_on l words g) x c.heap) (sym is-handle) ∙ sym allocated-run
+        held-run : placed (heaped no_types (slot_count l) (pool_size l)) 0 (going_on l words g) (ok x) c.heap ≡ allocating_in l words g t k bs
+        held-run = ap (λ (v : Result ℕ). placed (heaped no_types (slot_count l) (pool_size l)) 0 (going_on l words g) v c.heap) (sym is-handle) ∙ sym allocated-run

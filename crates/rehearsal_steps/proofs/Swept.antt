@@ -14,6 +14,7 @@ use Rattle.word.specs.Run.{run}
 use Rattle.word.proofs.RunLaws.{run-part, length_run}
 use Rattle.refusal.specs.Told.{number_of, told, answered, here, nothing}
 use Rattle.refusal.specs.declared.Answer.{Answer}
+use Rattle.refusal.specs.declared.Refusal.TheVariants.{Untraceable}
 use Rattle.refusal.specs.Told.{Reply}
 use Rattle.std.specs.Prelude.{Ok, Err, is_err, IsOk}
 use Rattle.ty.specs.Types.{Table}
@@ -37,7 +38,7 @@ use Rattle.rehearsal.specs.OnHeap.{heaped, collects_heap, left}
 use Rattle.rehearsal_names.specs.Names.{entries_in, named}
 use Rattle.rehearsal_names.proofs.Naming.{entries-handles}
 use Rattle.rehearsal_steps.specs.declared.Going.{Going}
-use Rattle.rehearsal_steps.specs.Going.{going_on, ended_by, InOrder, Short, Cleared, Goes}
+use Rattle.rehearsal_steps.specs.Going.{ended, going_on, ended_by, InOrder, Cleared, Goes}
 use Rattle.rehearsal_steps.specs.Steps.{collecting_in}
 use Rattle.rehearsal_place.proofs.Answering.{apart}
 use Rattle.rehearsal_steps.proofs.Rooting.{collected-kept}
@@ -140,7 +141,7 @@ module _ (T : Table) (l : Lent) (words : List ℕ) (g : Going) (n : ℕ) (order 
         ap (λ (b : Bool). if b then swept_run G n r (collects_heap T (handles r.held) (view l)) else r) (sym asked ∙ is-due)
         ∙ ap (λ (x : Changed Unit). swept_run G n r (left x)) (sym (call-is e q))
 
-    pub sweep-refused : is_err reply ≡ true → Goes l₁ words (ended_by g l₁.header 13) (collecting_in T l words g n)
+    pub sweep-refused : is_err reply ≡ true → Goes l₁ words (ended_by g l₁.header Untraceable) (collecting_in T l words g n)
     sweep-refused o =
         let no : (k : ℕ) × (c.answer ≡ refused k) = says-refused reply o c.answer d.says in
         let w = (leaves-it e q).0 no.0 no.1 in
@@ -169,6 +170,6 @@ module _ (T : Table) (l : Lent) (words : List ℕ) (g : Going) (n : ℕ) (order 
             rises = order.rises;
             sum = live-shown l₁ ∙ ap (λ (h : State). h.live_bytes) seen ∙ w.1 ∙ ap (λ (h : State). live_size h.slots) (sym seen);
           };
-          is = (λ i. record { world = seen i; held = named (eS i) g.held words; turns = g.turns; collections = g.collections + 1; highest = g.highest; answer = g.answer })
+          is = (λ i. record { world = seen i; held = named (eS i) g.held words; turns = g.turns; collections = g.collections + 1; highest = g.highest; answer = ended g.answer })
               ∙ ap (swept_run (heaped T (slot_count l) (pool_size l)) n (going_on l words g)) (sym w.0) ∙ sym swept-run;
         }

@@ -1,6 +1,9 @@
 -- A rehearsal under way in lent memory, and what it stands for.
 use Rattle.std.specs.Prelude.{ℕ, ◌+◌, ◌^◌, ◌≤◌, ◌<◌, true, List, [], ◌∷◌, ◌++◌, ◌≡◌, length, replicate}
+use Rattle.std.specs.Prelude.{Option, Some, None}
 use Rattle.word.specs.Run.{run}
+use Rattle.refusal.specs.Told.{number_of}
+use Rattle.refusal.specs.declared.Refusal.{Refusal}
 use Rattle.ty.specs.Types.{Table}
 use Rattle.heap.specs.State.{State, slot_at}
 use Rattle.heap.specs.Lent.{Lent, view, slot_count, pool_size}
@@ -14,6 +17,11 @@ use Rattle.rehearsal.specs.OnHeap.{heaped, fresh}
 use Rattle.rehearsal_names.specs.Names.{named}
 use Rattle.rehearsal_steps.specs.declared.Going.{Going}
 
+-- the number of what has ended it, 0 where nothing has
+abbrev pub ended : Option Refusal → ℕ
+ended None = 0
+ended (Some why) = number_of why
+
 -- the run that the header, lent memory and names show
 abbrev pub going_on : Lent → (words : List ℕ) → Going → Run State
 going_on l words g =
@@ -23,11 +31,11 @@ going_on l words g =
       turns = g.turns;
       collections = g.collections;
       highest = g.highest;
-      answer = g.answer;
+      answer = ended g.answer;
     }
 
-abbrev pub ended_by : Going → Heap → ℕ → Going
-ended_by g h n = record { heap = h; size = g.size; held = g.held; turns = g.turns; collections = g.collections; highest = g.highest; answer = n }
+abbrev pub ended_by : Going → Heap → Refusal → Going
+ended_by g h why = record { heap = h; size = g.size; held = g.held; turns = g.turns; collections = g.collections; highest = g.highest; answer = Some why }
 
 -- a well formed heap, two words for each of S, names that rise by turn up to the next one, the sum of live lengths plus 32 each
 pub record InOrder (l : Lent) (words : List ℕ) (g : Going) : Type 0 where
@@ -57,7 +65,7 @@ Whole h = (i : ℕ) → (slot_at h i).start ≡ 0
 pub record Led (T : Table) (l : Lent) (words : List ℕ) (g : Going) (threshold : ℕ) : Type 0 where
   pub lines : List Line
   pub there : going_on l words g ≡ after (heaped T (slot_count l) (pool_size l)) threshold lines (starting (heaped T (slot_count l) (pool_size l)) threshold fresh)
-  pub alive : g.answer ≡ 0
+  pub alive : g.answer ≡ None
 
 -- it stands for the run r
 pub record Goes (l : Lent) (words : List ℕ) (g : Going) (r : Run State) : Type 0 where

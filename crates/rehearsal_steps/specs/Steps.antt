@@ -2,6 +2,7 @@
 use Rattle.std.specs.Prelude.{ℕ, ◌≤◌, ◌<◌, Bool, true, false, List, [], ◌≡◌, length}
 use Rattle.std.proofs.Math.Option.{none, some}
 use Rattle.word.specs.Result.{ok}
+use Rattle.refusal.specs.declared.Refusal.TheVariants.{NothingThere}
 use Rattle.ty.specs.Types.{Table}
 use Rattle.heap.specs.State.{State}
 use Rattle.heap.specs.Lent.{Lent, view, slot_count, pool_size}
@@ -56,7 +57,7 @@ StoresInto l l' false x y o = (stores_heap x y o (view l) ≡ none) × (l' ≡ l
 -- let go, or ended by 9 and nothing changed
 abbrev pub after_drop : Bool → Going → Going
 after_drop true g = g
-after_drop false g = ended_by g g.heap 9
+after_drop false g = ended_by g g.heap NothingThere
 
 pub record Dropped (S turn : ℕ) (words : List ℕ) (g : Going) (words' : List ℕ) (g' : Going) : Type 0 where
   pub went : Bool

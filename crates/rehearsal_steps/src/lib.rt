@@ -3,7 +3,7 @@
 
 ghost use Rattle.std.specs.Prelude.{◌≡◌, ◌+◌, ◌/◌, ◌^◌, ◌<◌, length};
 ghost use Rattle.text.specs.Answer.{hex_at};
-ghost use Rattle.ty.specs.View.{table_of};
+ghost use Rattle.ty.specs.View.{lent as tabled};
 ghost use Rattle.heap.specs.Lent.{lent};
 ghost use Rattle.script.specs.Found.{DataThere};
 ghost use Rattle.rehearsal_steps.specs.Going.{InOrder, Short, Cleared, Goes};
@@ -12,14 +12,14 @@ ghost use Rattle.rehearsal_steps.specs.Steps.{CanHoldMore, collecting_in, alloca
 use heap::Heap;
 use heap::view::View;
 use heap::view_mut::ViewMut;
-use refusal::Answer;
+use refusal::Refusal;
 use rehearsal_names::hold;
 use rehearsal_place::place;
 use script::AllocLine;
 use ty::Table;
 
-// A rehearsal under way: its heap, the sum of length plus 32 over live objects, how many entries of names are in use, and what is counted. An answer other than 0 has
-// ended it.
+// A rehearsal under way: its heap, the sum of length plus 32 over live objects, how many entries of names are in use, and what is counted. A refusal
+// has ended it.
 #[derive(Clone, Copy)]
 pub struct Going {
     pub heap: Heap,
@@ -28,15 +28,12 @@ pub struct Going {
     pub turns: u64,
     pub collections: u64,
     pub highest: u64,
-    pub answer: u64,
+    pub answer: Option<Refusal>,
 }
 
 // A due collection from the held handles: counted, or 13 ends it.
 pub fn collect_due(
-    types: &[u64],
-    fields: &[u32],
-    consts: &[u64],
-    bytes: &[u8],
+    table: &Table,
     g: Going,
     narrow: &mut [u32],
     wide: &mut [u64],
@@ -50,8 +47,7 @@ pub fn collect_due(
     requires cleared { Cleared (length narrow.old / 6) marks.old work.old }
     requires short { Short g }
     ensures goes { Goes (lent result.heap narrow.new wide.new pool.new) words.now result
-        (collecting_in (table_of types.now fields.now consts.now bytes.now)
-        (lent g.heap narrow.old wide.old pool.old) words.now g threshold) }
+        (collecting_in (tabled table.now) (lent g.heap narrow.old wide.old pool.old) words.now g threshold) }
     ensures marks_unchanged { (marks.new ≡ marks.old) × (work.new ≡ work.old) }
 {
     let view = View {
@@ -65,25 +61,18 @@ pub fn collect_due(
     }
     let s = narrow.len() / 6;
     let e = s + g.held;
-    let pins = [0u32; 0];
-    let table = Table {
-        types,
-        fields,
-        consts,
-        bytes,
-    };
     let mut lent = ViewMut {
         heap: g.heap,
         narrow,
         wide,
         pool,
     };
-    let reply = collect::collect(&table, &mut lent, &words[s..e], &pins, marks, work);
+    let reply = collect::collect(table, &mut lent, &words[s..e], &[], marks, work);
     let after = lent.heap;
     if reply.is_err() {
         return Going {
             heap: after,
-            answer: 13,
+            answer: Some(Refusal::Untraceable),
             ..g
         };
     }
@@ -123,23 +112,24 @@ pub fn allocate(
     };
     let reply = place(&mut lent, s, a);
     let after = lent.heap;
-    let told = Answer::from(reply);
-    if told.number == 0 {
-        let turn = g.turns + 1;
-        let n = hold(words, all, g.held, turn, told.first);
-        let size = g.size + (count + 32);
-        return Going {
+    match reply {
+        Err(why) => Going {
             heap: after,
-            size,
-            held: n,
-            turns: turn,
-            highest: g.highest.max(size),
+            answer: Some(why),
             ..g
-        };
-    }
-    Going {
-        heap: after,
-        answer: told.number,
-        ..g
+        },
+        Ok((handle, _)) => {
+            let turn = g.turns + 1;
+            let n = hold(words, all, g.held, turn, handle);
+            let size = g.size + (count + 32);
+            Going {
+                heap: after,
+                size,
+                held: n,
+                turns: turn,
+                highest: g.highest.max(size),
+                ..g
+            }
+        }
     }
 }

@@ -16,8 +16,9 @@ use Rattle.word.specs.Run.{run}
 use Rattle.word.proofs.PutLaws.{length-put}
 use Rattle.refusal.specs.Told.{number_of, told, answered, here, nothing}
 use Rattle.refusal.specs.declared.Answer.{Answer}
+use Rattle.refusal.specs.declared.Refusal.TheVariants.{NothingThere}
 use Rattle.refusal.specs.Told.{Reply}
-use Rattle.std.specs.Prelude.{Ok, Err, is_err, IsOk}
+use Rattle.std.specs.Prelude.{Ok, Err, is_err, is_ok, IsOk}
 use Rattle.heap.specs.State.{Slot, State, no_slot, slot_at, live}
 use Rattle.heap.specs.Lent.{Lent, lent, stored, view, slot_count, pool_size}
 use Rattle.heap.specs.WellFormed.{well_formed}
@@ -35,10 +36,10 @@ use Rattle.rehearsal.specs.OnHeap.{heaped, stores_heap, left}
 use Rattle.rehearsal_names.specs.Names.{entries_in, named, or_zero, Names, LetGo}
 use Rattle.rehearsal_names.proofs.Naming.{kept_real}
 use Rattle.rehearsal_names.proofs.Rising.{rising-front}
-use Rattle.rehearsal_place.proofs.Answering.{is_ok, is-refused}
+use Rattle.rehearsal_place.proofs.Answering.{is_ok as handle-is, is-refused}
 use Rattle.script.proofs.Refusing.{Numbered, free-numbered}
 use Rattle.rehearsal_steps.specs.declared.Going.{Going}
-use Rattle.rehearsal_steps.specs.Going.{going_on, ended_by, InOrder, Whole, Goes}
+use Rattle.rehearsal_steps.specs.Going.{ended, going_on, ended_by, InOrder, Whole, Goes}
 use Rattle.rehearsal_steps.specs.Steps.{no_types, StoresInto, after_drop, Dropped, storing_in}
 use Rattle.rehearsal_steps.proofs.Sums.{size_same}
 use Rattle.rehearsal_steps.proofs.Swept.{same_number, not_done, was-done, says-refused, says-ok}
@@ -69,7 +70,7 @@ module _ (l : Lent) (w : well_formed l ≡ true) (whole : Whole (view l)) (x y a
 
   module _ {i j : ℕ} {reply : Reply} (f : reply ≡ Ok (i, j)) (e : told reply ≡ answered here nothing (resolve (view l) y)) where
     resolved : resolve (view l) y ≡ ok i
-    resolved = is_ok (resolve (view l) y) (resolve-numbered (view l) y) (sym (ap told f) ∙ e)
+    resolved = handle-is (resolve (view l) y) (resolve-numbered (view l) y) (sym (ap told f) ∙ e)
 
     alive : live (slot_at (view l) i) ≡ true
     alive = resolved_live (view l) y i resolved
@@ -92,17 +93,25 @@ module _ (l : Lent) (w : well_formed l ≡ true) (whole : Whole (view l)) (x y a
       d₁ : Tells nothing nothing l l₁ r (write (view l) i at (bytes_of 8 x))
       d₁ = subst (λ (bs : List ℕ). Tells nothing nothing l l₁ r (write (view l) i at bs)) eb d
 
-      pub store-refused : is_err r ≡ true → StoresInto l l₁ false x y at
+      store-refused : is_err r ≡ true → StoresInto l l₁ false x y at
       store-refused o =
           let no = says-refused r o (write (view l) i at (bytes_of 8 x)).answer d₁.says in
           let v = outcome.0 no.0 no.1 in
           (stores-is ∙ v.0, d₁.leaves.lies ∙ ap (stored (slot_count l) (pool_size l)) v.1.0 ∙ sym (formed-tested l w).lies)
 
-      pub store-done : IsOk r → StoresInto l l₁ true x y at
+      store-done : IsOk r → StoresInto l l₁ true x y at
       store-done o =
           let yes-ok : (write (view l) i at (bytes_of 8 x)).answer ≡ ok tt = says-ok r o (write (view l) i at (bytes_of 8 x)).answer d₁.says (λ k q. omega (arith, (outcome.0 k q).1.1)) in
           let v = outcome.1 yes-ok in
           record { heap = (write (view l) i at (bytes_of 8 x)).heap; stores = stores-is ∙ v.0; leaves = d₁.leaves; sum = v.1 }
+
+      -- either of the two, by the reply
+      pub stored-or-not : {b : Bool} → b ≡ is_ok r → StoresInto l l₁ b x y at
+      stored-or-not {b} o = subst (λ (v : Bool). StoresInto l l₁ v x y at) (sym o) (go r refl)
+        where
+          go : (v : Reply) → r ≡ v → StoresInto l l₁ (is_ok v) x y at
+          go (Ok p) q = store-done (ap is_ok q)
+          go (Err why) q = store-refused (ap is_err q)
 
 -- ---- the line
 
@@ -117,11 +126,11 @@ module _ {l : Lent} {words : List ℕ} {g : Going} (order : InOrder l words g) (
   names-there = record { room = order.room; count = order.count; rises = rising-front 1 (run g.held 0 words) ((g.turns + 1) ∷ []) order.rises }
 
   -- what ends it leaves what was there
-  ended-there : {l₁ : Lent} → l₁ ≡ l → InOrder l₁ words (ended_by g g.heap 9)
-  ended-there e = subst (λ (m : Lent). InOrder m words (ended_by g g.heap 9)) (sym e) (record { formed = order.formed; room = order.room; count = order.count; rises = order.rises; sum = order.sum })
+  ended-there : {l₁ : Lent} → l₁ ≡ l → InOrder l₁ words (ended_by g g.heap NothingThere)
+  ended-there e = subst (λ (m : Lent). InOrder m words (ended_by g g.heap NothingThere)) (sym e) (record { formed = order.formed; room = order.room; count = order.count; rises = order.rises; sum = order.sum })
 
-  ended_is : {l₁ : Lent} → l₁ ≡ l → storing_in l words g a b o ≡ ends (heaped no_types (slot_count l) (pool_size l)) 0 9 (going_on l words g) → Goes l₁ words (ended_by g g.heap 9) (storing_in l words g a b o)
-  ended_is {l₁} e q = record { order = ended-there e; is = ap (λ (m : Lent). going_on m words (ended_by g g.heap 9)) e ∙ sym q }
+  ended_is : {l₁ : Lent} → l₁ ≡ l → storing_in l words g a b o ≡ ends (heaped no_types (slot_count l) (pool_size l)) 0 9 (going_on l words g) → Goes l₁ words (ended_by g g.heap NothingThere) (storing_in l words g a b o)
+  ended_is {l₁} e q = record { order = ended-there e; is = ap (λ (m : Lent). going_on m words (ended_by g g.heap NothingThere)) e ∙ sym q }
 
   none_of : (x : Option ℕ) {v : ℕ} → v ≡ or_zero x → v ≡ 0 → ((y : ℕ) → x ≡ some y → 1 ≤ y) → x ≡ none
   none_of none e z f = refl
@@ -135,11 +144,11 @@ module _ {l : Lent} {words : List ℕ} {g : Going} (order : InOrder l words g) (
   real turn y e = kept_real turn (entries_in (slot_count l) g.held words) y e
 
   module _ {x : ℕ} (ex : x ≡ or_zero (held_at a (named (slot_count l) g.held words))) where
-    pub first-missing : x ≡ 0 → Goes l words (ended_by g g.heap 9) (storing_in l words g a b o)
+    pub first-missing : x ≡ 0 → Goes l words (ended_by g g.heap NothingThere) (storing_in l words g a b o)
     first-missing z = ended_is refl (ap (λ (p : Option ℕ). storing (heaped no_types (slot_count l) (pool_size l)) 0 (going_on l words g) p (names b) o) (none_of (names a) ex z (real a)))
 
     module _ (nx : x ≡ 0 → ⊥) {y : ℕ} (ey : y ≡ or_zero (held_at b (named (slot_count l) g.held words))) where
-      pub second-missing : y ≡ 0 → Goes l words (ended_by g g.heap 9) (storing_in l words g a b o)
+      pub second-missing : y ≡ 0 → Goes l words (ended_by g g.heap NothingThere) (storing_in l words g a b o)
       second-missing z =
           ended_is refl (λ i. storing (heaped no_types (slot_count l) (pool_size l)) 0 (going_on l words g) (some_of (names a) ex nx i) (none_of (names b) ey z (real b) i) o)
 
@@ -148,7 +157,7 @@ module _ {l : Lent} {words : List ℕ} {g : Going} (order : InOrder l words g) (
         unfolding heaped
         stored-run = λ i. storing (heaped no_types (slot_count l) (pool_size l)) 0 (going_on l words g) (some_of (names a) ex nx i) (some_of (names b) ey ny i) o
 
-        store-ends : {l₁ : Lent} → StoresInto l l₁ false x y o → Goes l₁ words (ended_by g g.heap 9) (storing_in l words g a b o)
+        store-ends : {l₁ : Lent} → StoresInto l l₁ false x y o → Goes l₁ words (ended_by g g.heap NothingThere) (storing_in l words g a b o)
         store-ends {l₁} d = ended_is d.1 (stored-run ∙ ap (wrote (heaped no_types (slot_count l) (pool_size l)) 0 (going_on l words g)) d.0)
 
         store_goes : {l₁ : Lent} → StoresInto l l₁ true x y o → slot_count l₁ ≡ slot_count l → Goes l₁ words g (storing_in l words g a b o)
@@ -162,7 +171,7 @@ module _ {l : Lent} {words : List ℕ} {g : Going} (order : InOrder l words g) (
                 rises = order.rises;
                 sum = order.sum ∙ sym d.sum ∙ ap (λ (h : State). live_size h.slots) (sym seen);
               };
-              is = (λ i. record { world = seen i; held = named (eS i) g.held words; turns = g.turns; collections = g.collections; highest = g.highest; answer = g.answer })
+              is = (λ i. record { world = seen i; held = named (eS i) g.held words; turns = g.turns; collections = g.collections; highest = g.highest; answer = ended g.answer })
                   ∙ ap (wrote (heaped no_types (slot_count l) (pool_size l)) 0 (going_on l words g)) (sym d.stores) ∙ sym stored-run;
             }
 
@@ -183,5 +192,5 @@ goes_same narrow wide pool {words} g went {x} {r} e d =
 pub dropped-so : {S turn : ℕ} {words words' : List ℕ} {g g' : Going} (went : Bool) → LetGo S g.held turn words words' went → g' ≡ after_drop went g → Dropped S turn words g words' g'
 dropped-so went d e = record { went = went; names = d; leaves = e }
 
-pub ended_so : (g : Going) (went : Bool) → went ≡ false → ended_by g g.heap 9 ≡ after_drop went g
+pub ended_so : (g : Going) (went : Bool) → went ≡ false → ended_by g g.heap NothingThere ≡ after_drop went g
 ended_so g went e = ap (λ (b : Bool). after_drop b g) (sym e)

@@ -2,7 +2,6 @@
 #![tactic(auto)]
 
 ghost use Rattle.std.specs.Prelude.{◌≡◌, true};
-ghost use Rattle.word.specs.Le.{bytes as bytes_of};
 ghost use Rattle.heap.specs.Lent.{lent, view};
 ghost use Rattle.heap.specs.WellFormed.{well_formed};
 ghost use Rattle.rehearsal_names.specs.Names.{Names};
@@ -11,32 +10,10 @@ ghost use Rattle.rehearsal_steps.specs.Steps.{after_drop, StoresInto, Dropped, s
 
 use heap::Heap;
 use heap::view::View;
+use refusal::Refusal;
 use rehearsal_lines::StoreLine;
 use rehearsal_names::{held_at, let_go};
 use rehearsal_steps::Going;
-
-// The eight bytes of a handle, lowest first.
-fn le_bytes(x: u64) -> [u8; 8]
-    ensures { result ≡ bytes_of 8 x }
-{
-    let b = x / 256;
-    let c = b / 256;
-    let d = c / 256;
-    let e = d / 256;
-    let f = e / 256;
-    let g = f / 256;
-    let h = g / 256;
-    [
-        (x % 256) as u8,
-        (b % 256) as u8,
-        (c % 256) as u8,
-        (d % 256) as u8,
-        (e % 256) as u8,
-        (f % 256) as u8,
-        (g % 256) as u8,
-        (h % 256) as u8,
-    ]
-}
 
 // The handle `x` is stored into the object of `y`, at an offset in its data; false where there is no room for it there.
 fn store_into(
@@ -59,17 +36,20 @@ fn store_into(
         wide: &*wide,
         pool: &*pool,
     };
-    let i = match heap_edit::resolve(view, y) {
-        Ok((i, _)) => i as usize,
-        Err(_) => {
-            return false;
-        }
+    let Ok((i, _)) = heap_edit::resolve(view, y) else {
+        return false;
     };
-    let bytes = le_bytes(x);
-    match heap_edit::write(heap, narrow, wide, pool, i, offset as usize, &bytes) {
-        Ok(_) => true,
-        Err(_) => false,
-    }
+    let bytes = x.to_le_bytes();
+    heap_edit::write(
+        heap,
+        narrow,
+        wide,
+        pool,
+        i as usize,
+        offset as usize,
+        &bytes,
+    )
+    .is_ok()
 }
 
 // Stores what is held under the turn `a.held` into what is held under `a.into`; false where either is not held, or the handle would lie beyond the data.
@@ -105,7 +85,10 @@ fn or_ended(went: bool, g: Going) -> Going
     if went {
         return g;
     }
-    Going { answer: 9, ..g }
+    Going {
+        answer: Some(Refusal::NothingThere),
+        ..g
+    }
 }
 
 // A line `store`; 9 ends it where either is not held, or the handle would lie beyond the data.

@@ -6,32 +6,27 @@ ghost use Rattle.std.specs.Prelude.{◌≡◌, [], ◌∷◌, length};
 ghost use Rattle.heap.specs.Lent.{lent};
 ghost use Rattle.door.specs.HeapCalls.{Entered, outcome_of};
 ghost use Rattle.object_door.specs.ObjectCalls.{handed};
-ghost use Rattle.rehearse_door.specs.Rehearse.{rehearse_tests, rehearse_call, PlainLines};
+ghost use Rattle.rehearse_door.specs.Rehearse.{given, rehearse_tests, rehearse_call, PlainLines};
 
 use door::Done;
 use heap::Heap;
 use refusal::{Answer, Refusal};
+use rehearsal_runs::{Rehearsal, rehearse_all};
 use ty::Table;
 
 // Do scratch, text, lent sizes, type table and output let it begin?
 fn admit(
-    types: &[u64],
-    fields: &[u32],
-    consts: &[u64],
-    bytes: &[u8],
+    what: &Rehearsal,
     narrow: &[u32],
     wide: &[u64],
     pool: &[u8],
-    text: &[u8],
-    thresholds: &[u64],
     out: &[u8],
     words: &mut [u64],
     marks: &mut [u8],
     work: &mut [u64],
 ) -> Result<(), Refusal>
     ensures { Entered (words.old ∷ marks.old ∷ work.old ∷ [])
-        (rehearse_tests
-        (record { types = types.now; fields = fields.now; consts = consts.now; bytes = bytes.now; text = text.now; thresholds = thresholds.now })
+        (rehearse_tests (given what.now)
         (length narrow.now) (length wide.now) (length pool.now) (length out.now)
         (length words.old) (length marks.old) (length work.old))
         result (words.new ∷ marks.new ∷ work.new ∷ []) }
@@ -49,23 +44,16 @@ fn admit(
     words.fill(0);
     marks.fill(0);
     work.fill(0);
-    if rehearsal_lines::all_lines(text) {} else {
+    if !rehearsal_lines::all_lines(what.text) {
         return Err(Refusal::Page);
     }
-    if heap::sizes_fit(narrow.len(), wide.len(), pool.len()) {} else {
+    if !heap::sizes_fit(narrow.len(), wide.len(), pool.len()) {
         return Err(Refusal::BrokenHeap);
     }
-    if (Table {
-        types,
-        fields,
-        consts,
-        bytes,
-    })
-    .check_table()
-    {} else {
+    if !what.table.check_table() {
         return Err(Refusal::TypeTable);
     }
-    if out.len() / 80 < thresholds.len() {
+    if out.len() / 80 < what.thresholds.len() {
         return Err(Refusal::ShortList);
     }
     Ok(())
@@ -100,18 +88,23 @@ pub fn yexwalu_rehearse(
         (record { types = types.now; fields = fields.now; consts = consts.now; bytes = bytes.now; text = text.now; thresholds = thresholds.now })
         (length narrow.old) (length pool.old) result.answer out.old out.new }
 {
-    match admit(
-        types, fields, consts, bytes, narrow, wide, pool, text, thresholds, out, words, marks, work,
-    ) {
+    let what = Rehearsal {
+        table: Table {
+            types,
+            fields,
+            consts,
+            bytes,
+        },
+        text,
+        thresholds,
+    };
+    match admit(&what, narrow, wide, pool, out, words, marks, work) {
         Err(why) => Done {
             heap: heap,
             answer: Answer::from(Err(why)),
         },
         Ok(()) => {
-            let done = rehearsal_runs::rehearse_all(
-                types, fields, consts, bytes, heap, narrow, wide, pool, text, thresholds, out,
-                words, marks, work,
-            );
+            let done = rehearse_all(&what, heap, narrow, wide, pool, out, words, marks, work);
             words.fill(0);
             let after = done.heap;
             let written = done.written as u64;

@@ -1,6 +1,6 @@
 -- `rehearsal_line::do_line` meets its contract.
 use Rattle.heap.specs.Lent.{lent}
-use Rattle.ty.specs.View.{table_of}
+use Rattle.ty.specs.View.{lent as tabled}
 use mathlib.Core.Path.{refl, ap}
 use Rattle.heap.specs.declared.Heap.{Heap}
 use Rattle.rehearsal_lines.specs.Found.{step_in}
@@ -19,10 +19,10 @@ pub do_drop-requires : goal.do_drop-requires
 do_drop-requires c = names-there c.requires.in_order 0 0 0
 
 pub returns-in-Alloc : goal.returns-in-Alloc
-returns-in-Alloc c = record { goes = as_line ((table_of c.args.types.now c.args.fields.now c.args.consts.now c.args.bytes.now)) ((lent c.args.g.heap c.args.narrow.now c.args.wide.now c.args.pool.now)) c.args.words.now c.args.g c.args.threshold (ap (step_in c.args.s.now) c.in-Alloc.is) c.do_alloc.ensures.goes; marks_unchanged = c.do_alloc.ensures.marks_unchanged }
+returns-in-Alloc c = record { goes = as_line (tabled c.args.plan.now.table) ((lent c.args.g.heap c.args.narrow.now c.args.wide.now c.args.pool.now)) c.args.words.now c.args.g c.args.plan.now.threshold (ap (step_in c.args.plan.now.text.now) c.in-Alloc.is) c.do_alloc.ensures.goes; marks_unchanged = c.do_alloc.ensures.marks_unchanged }
 
 pub returns-in-Store : goal.returns-in-Store
-returns-in-Store c = record { goes = as_line ((table_of c.args.types.now c.args.fields.now c.args.consts.now c.args.bytes.now)) ((lent c.args.g.heap c.args.narrow.now c.args.wide.now c.args.pool.now)) c.args.words.now c.args.g c.args.threshold (ap (step_in c.args.s.now) c.in-Store.is) (store_line ((table_of c.args.types.now c.args.fields.now c.args.consts.now c.args.bytes.now)) ((lent c.args.g.heap c.args.narrow.now c.args.wide.now c.args.pool.now)) c.args.words.now c.args.g c.args.threshold _ _ _ c.do_store.ensures); marks_unchanged = (refl, refl) }
+returns-in-Store c = record { goes = as_line (tabled c.args.plan.now.table) ((lent c.args.g.heap c.args.narrow.now c.args.wide.now c.args.pool.now)) c.args.words.now c.args.g c.args.plan.now.threshold (ap (step_in c.args.plan.now.text.now) c.in-Store.is) (store_line (tabled c.args.plan.now.table) ((lent c.args.g.heap c.args.narrow.now c.args.wide.now c.args.pool.now)) c.args.words.now c.args.g c.args.plan.now.threshold _ _ _ c.do_store.ensures); marks_unchanged = (refl, refl) }
 
 pub returns-in-Drop : goal.returns-in-Drop
-returns-in-Drop c = record { goes = as_line ((table_of c.args.types.now c.args.fields.now c.args.consts.now c.args.bytes.now)) ((lent c.args.g.heap c.args.narrow.now c.args.wide.now c.args.pool.now)) c.args.words.now c.args.g c.args.threshold (ap (step_in c.args.s.now) c.in-Drop.is) (drop-line ((table_of c.args.types.now c.args.fields.now c.args.consts.now c.args.bytes.now)) c.args.threshold c.requires.in_order _ refl c.do_drop.auto.words c.do_drop.ensures refl (ap (λ (h : Heap). lent h c.args.narrow.now c.args.wide.now c.args.pool.now) (drop-header c.do_drop.ensures))); marks_unchanged = (refl, refl) }
+returns-in-Drop c = record { goes = as_line (tabled c.args.plan.now.table) ((lent c.args.g.heap c.args.narrow.now c.args.wide.now c.args.pool.now)) c.args.words.now c.args.g c.args.plan.now.threshold (ap (step_in c.args.plan.now.text.now) c.in-Drop.is) (drop-line (tabled c.args.plan.now.table) c.args.plan.now.threshold c.requires.in_order _ refl c.do_drop.auto.words c.do_drop.ensures refl (ap (λ (h : Heap). lent h c.args.narrow.now c.args.wide.now c.args.pool.now) (drop-header c.do_drop.ensures))); marks_unchanged = (refl, refl) }

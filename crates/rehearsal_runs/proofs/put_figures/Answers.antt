@@ -15,7 +15,7 @@ pub put_number-d-requires : goal.put_number-d-requires
 put_number-d-requires c = room-4 _ _ c.requires c.put_number-a.ensures c.put_number-b.ensures c.put_number-c.ensures
 
 pub put_number-requires : goal.put_number-requires
-put_number-requires c = room-5 _ _ c.requires c.put_number-a.ensures c.put_number-b.ensures c.put_number-c.ensures c.put_number-d.ensures
+put_number-requires c = room-5 _ _ c.requires c.put_number-a.ensures c.put_number-b.ensures c.put_number-c.ensures c.put_number-d.ensures c.number.ensures
 
 pub returns : goal.returns
-returns c = puts-line _ _ c.requires c.put_number-a.ensures c.put_number-b.ensures c.put_number-c.ensures c.put_number-d.ensures c.put_number.ensures
+returns c = puts-line _ _ c.requires c.put_number-a.ensures c.put_number-b.ensures c.put_number-c.ensures c.put_number-d.ensures c.number.ensures c.put_number.ensures

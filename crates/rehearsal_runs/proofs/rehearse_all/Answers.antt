@@ -3,49 +3,43 @@ use native.Mathlib.Omega.{arith}
 use mathlib.Core.Path.{ap, ◌∙◌}
 use Prim.Native.Nat.{ℕ, ◌/◌}
 use lib.ListN.{length, get_or}
-use Rattle.ty.specs.View.{table_of}
+use Rattle.ty.specs.View.{lent as tabled}
 use Rattle.rehearsal_runs.proofs.Running.{same, on, still-clear, goes-sizes}
 use Rattle.rehearsal_runs.proofs.Repeating.{room-same, repeat-first, repeat-long, repeat-put, repeat-next, repeat-end}
 use Rattle.rehearsal_runs.proofs.rehearse_all.Goals as goal
 
-pub loop-i-init : goal.loop-i-init
-loop-i-init c = (repeat-first c.requires.room, same _ _ _ _ _ _)
+pub loop-threshold-init : goal.loop-threshold-init
+loop-threshold-init c = (repeat-first c.requires.room, same _ _ _ _ _ _)
 
 pub rehearse_one-g-requires : goal.rehearse_one-g-requires
-rehearse_one-g-requires c = record { lent_room = room-same c.requires.memory c.loop-i.invariant.1; cleared = still-clear c.requires.clear c.loop-i.invariant.1; s_value = c.requires.text }
+rehearse_one-g-requires c = record { lent_room = room-same c.requires.memory c.loop-threshold.invariant.1; cleared = still-clear c.requires.clear c.loop-threshold.invariant.1; s_value = c.requires.text }
 
 pub put_figures-at-requires : goal.put_figures-at-requires
-put_figures-at-requires c = repeat-put c.loop-i.invariant.0 c.loop-i-test.true (goes-sizes (table_of c.args.types.now c.args.fields.now c.args.consts.now c.args.bytes.now) (get_or c.args.thresholds.now _ 0) (lines_of c.args.s.now) (ap (λ (j : ℕ). j / 6) c.loop-i.invariant.1.narrow) c.loop-i.invariant.1.pool c.rehearse_one-g.ensures.goes) (ap (λ (j : ℕ). j / 6) (c.rehearse_one-g.auto.narrow ∙ c.loop-i.invariant.1.narrow)) (c.rehearse_one-g.auto.pool ∙ c.loop-i.invariant.1.pool) (c.type_inv.thresholds _).fits (omega arith)
+put_figures-at-requires c = repeat-put c.loop-threshold.invariant.0 c.loop-threshold-test.true (goes-sizes (tabled c.args.what.now.table) (get_or c.args.what.now.thresholds.now _ 0) (lines_of c.args.what.now.text.now) (ap (λ (j : ℕ). j / 6) c.loop-threshold.invariant.1.narrow) c.loop-threshold.invariant.1.pool c.rehearse_one-g.ensures.goes) (ap (λ (j : ℕ). j / 6) (c.rehearse_one-g.auto.narrow ∙ c.loop-threshold.invariant.1.narrow)) (c.rehearse_one-g.auto.pool ∙ c.loop-threshold.invariant.1.pool) (omega arith) (omega arith)
 
-pub overflow_add-i : goal.overflow_add-i
-overflow_add-i c = omega (arith, c.loop-i-test.true)
-
-pub loop-i-smaller : goal.loop-i-smaller
-loop-i-smaller c = omega (arith, c.loop-i-test.true)
-
-pub loop-i-preserved : goal.loop-i-preserved
-loop-i-preserved c = (repeat-next c.loop-i.invariant.0 c.loop-i-test.true (goes-sizes (table_of c.args.types.now c.args.fields.now c.args.consts.now c.args.bytes.now) (get_or c.args.thresholds.now _ 0) (lines_of c.args.s.now) (ap (λ (j : ℕ). j / 6) c.loop-i.invariant.1.narrow) c.loop-i.invariant.1.pool c.rehearse_one-g.ensures.goes) (ap (λ (j : ℕ). j / 6) (c.rehearse_one-g.auto.narrow ∙ c.loop-i.invariant.1.narrow)) (c.rehearse_one-g.auto.pool ∙ c.loop-i.invariant.1.pool) (c.type_inv.thresholds _).fits (omega arith) c.put_figures-at.ensures, on (record { narrow = c.rehearse_one-g.auto.narrow; wide = c.rehearse_one-g.auto.wide; pool = c.rehearse_one-g.auto.pool; words = c.rehearse_one-g.auto.words; marks = c.rehearse_one-g.ensures.marks_unchanged.0; work = c.rehearse_one-g.ensures.marks_unchanged.1 }) c.loop-i.invariant.1)
+pub loop-threshold-preserved : goal.loop-threshold-preserved
+loop-threshold-preserved c = (repeat-next c.loop-threshold.invariant.0 c.loop-threshold-test.true (goes-sizes (tabled c.args.what.now.table) (get_or c.args.what.now.thresholds.now _ 0) (lines_of c.args.what.now.text.now) (ap (λ (j : ℕ). j / 6) c.loop-threshold.invariant.1.narrow) c.loop-threshold.invariant.1.pool c.rehearse_one-g.ensures.goes) (ap (λ (j : ℕ). j / 6) (c.rehearse_one-g.auto.narrow ∙ c.loop-threshold.invariant.1.narrow)) (c.rehearse_one-g.auto.pool ∙ c.loop-threshold.invariant.1.pool) (omega arith) (omega arith) c.put_figures-at.ensures, on (record { narrow = c.rehearse_one-g.auto.narrow; wide = c.rehearse_one-g.auto.wide; pool = c.rehearse_one-g.auto.pool; words = c.rehearse_one-g.auto.words; marks = c.rehearse_one-g.ensures.marks_unchanged.0; work = c.rehearse_one-g.ensures.marks_unchanged.1 }) c.loop-threshold.invariant.1)
 
 pub shape_of-narrow : goal.shape_of-narrow
-shape_of-narrow c = c.loop-i.invariant.1.narrow
+shape_of-narrow c = c.loop-threshold.invariant.1.narrow
 
 pub shape_of-wide : goal.shape_of-wide
-shape_of-wide c = c.loop-i.invariant.1.wide
+shape_of-wide c = c.loop-threshold.invariant.1.wide
 
 pub shape_of-pool : goal.shape_of-pool
-shape_of-pool c = c.loop-i.invariant.1.pool
+shape_of-pool c = c.loop-threshold.invariant.1.pool
 
 pub shape_of-out : goal.shape_of-out
-shape_of-out c = repeat-long c.loop-i.invariant.0
+shape_of-out c = repeat-long c.loop-threshold.invariant.0
 
 pub shape_of-words : goal.shape_of-words
-shape_of-words c = c.loop-i.invariant.1.words
+shape_of-words c = c.loop-threshold.invariant.1.words
 
 pub shape_of-marks : goal.shape_of-marks
-shape_of-marks c = ap length c.loop-i.invariant.1.marks
+shape_of-marks c = ap length c.loop-threshold.invariant.1.marks
 
 pub shape_of-work : goal.shape_of-work
-shape_of-work c = ap length c.loop-i.invariant.1.work
+shape_of-work c = ap length c.loop-threshold.invariant.1.work
 
 pub returns : goal.returns
-returns c = record { rehearses = repeat-end c.loop-i.invariant.0 c.loop-i-test.false; marks_unchanged = (c.loop-i.invariant.1.marks, c.loop-i.invariant.1.work) }
+returns c = record { rehearses = repeat-end c.loop-threshold.invariant.0 c.loop-threshold-test.false; marks_unchanged = (c.loop-threshold.invariant.1.marks, c.loop-threshold.invariant.1.work) }

@@ -1,5 +1,5 @@
 -- `rehearsal_runs::rehearse_one` meets its contract.
-use Rattle.ty.specs.View.{table_of}
+use Rattle.ty.specs.View.{lent as tabled}
 use native.Mathlib.Omega.{arith}
 use mathlib.Core.Path.{ap, ◌∙◌}
 use Prim.Native.Nat.{ℕ, ◌/◌}
@@ -17,4 +17,4 @@ pub shape_of-narrow : goal.shape_of-narrow
 shape_of-narrow c = c.run_lines.auto.narrow ∙ c.new-heap.auto.narrow
 
 pub returns : goal.returns
-returns c = record { goes = goes-sizes (table_of c.args.types.now c.args.fields.now c.args.consts.now c.args.bytes.now) _ _ (ap (λ (j : ℕ). j / 6) c.new-heap.auto.narrow) c.new-heap.auto.pool c.run_lines.ensures.goes; marks_unchanged = c.run_lines.ensures.marks_unchanged }
+returns c = record { goes = goes-sizes (tabled c.args.plan.now.table) _ _ (ap (λ (j : ℕ). j / 6) c.new-heap.auto.narrow) c.new-heap.auto.pool c.run_lines.ensures.goes; marks_unchanged = c.run_lines.ensures.marks_unchanged }

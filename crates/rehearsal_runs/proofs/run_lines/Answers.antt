@@ -1,5 +1,6 @@
 use native.Mathlib.Omega.{arith}
-use mathlib.Core.Path.{ap, ◌∙◌}
+use mathlib.Core.Path.{sym, ap, ◌∙◌}
+use Rattle.rehearsal_steps.proofs.Placed.{still-open}
 use Prim.Native.Nat.{ℕ, ◌/◌}
 use lib.ListN.{length}
 use Rattle.rehearsal_runs.proofs.Running.{same, on, still-clear, running-first, running-led, running-short, next-later, running-next, running-stop, running-end, reads-of, not-bad}
@@ -15,34 +16,34 @@ pub unreachable-requires : goal.unreachable-requires
 unreachable-requires c = not-bad c.loop-at.invariant.0 c.loop-at-test.true c.read_line.result c.read_line.ensures c.in_default.is
 
 pub do_line-r-requires : goal.do_line-r-requires
-do_line-r-requires c = record { in_order = c.loop-at.invariant.0.order; cleared = still-clear c.requires.cleared c.loop-at.invariant.1; short = running-short c.loop-at.invariant.0 (omega (arith, c.loop-at.invariant.0.inside)); data_in = (reads-of c.args.s.now c.loop-at.at c.read_line.result c.read_line.ensures c.in-Some.is).there; led = running-led c.loop-at.invariant.0 }
+do_line-r-requires c = record { in_order = c.loop-at.invariant.0.order; cleared = still-clear c.requires.cleared c.loop-at.invariant.1; short = running-short c.loop-at.invariant.0 (omega (arith, c.loop-at.invariant.0.inside)); data_in = (reads-of c.args.plan.now.text.now c.loop-at.at c.read_line.result c.read_line.ensures c.in-Some.is).there; led = running-led c.loop-at.invariant.0 }
 
 pub loop-at-smaller : goal.loop-at-smaller
-loop-at-smaller c = let reads = (reads-of c.args.s.now c.loop-at.at c.read_line.result c.read_line.ensures c.in-Some.is) in omega (arith, next-later c.loop-at.invariant.0 c.in-Some.line c.in-Some.next reads, reads.inside)
+loop-at-smaller c = let reads = (reads-of c.args.plan.now.text.now c.loop-at.at c.read_line.result c.read_line.ensures c.in-Some.is) in omega (arith, next-later c.loop-at.invariant.0 c.in-Some.line c.in-Some.next reads, reads.inside)
 
 pub loop-at-preserved : goal.loop-at-preserved
-loop-at-preserved c = (running-next c.loop-at.invariant.0 c.in-Some.line c.in-Some.next (reads-of c.args.s.now c.loop-at.at c.read_line.result c.read_line.ensures c.in-Some.is) c.do_line-r.ensures.goes (ap (λ (j : ℕ). j / 6) c.do_line-r.auto.narrow) c.do_line-r.auto.pool c.if-r-ne0.false, on (record { narrow = c.do_line-r.auto.narrow; wide = c.do_line-r.auto.wide; pool = c.do_line-r.auto.pool; words = c.do_line-r.auto.words; marks = c.do_line-r.ensures.marks_unchanged.0; work = c.do_line-r.ensures.marks_unchanged.1 }) c.loop-at.invariant.1)
+loop-at-preserved c = (running-next c.loop-at.invariant.0 c.in-Some.line c.in-Some.next (reads-of c.args.plan.now.text.now c.loop-at.at c.read_line.result c.read_line.ensures c.in-Some.is) c.do_line-r.ensures.goes (ap (λ (j : ℕ). j / 6) c.do_line-r.auto.narrow) c.do_line-r.auto.pool (still-open _ (sym c.is_some.ensures ∙ c.if-is_some.false)), on (record { narrow = c.do_line-r.auto.narrow; wide = c.do_line-r.auto.wide; pool = c.do_line-r.auto.pool; words = c.do_line-r.auto.words; marks = c.do_line-r.ensures.marks_unchanged.0; work = c.do_line-r.ensures.marks_unchanged.1 }) c.loop-at.invariant.1)
 
-pub shape_of-narrow-then-r-ne0 : goal.shape_of-narrow-then-r-ne0
-shape_of-narrow-then-r-ne0 c = c.do_line-r.auto.narrow ∙ c.loop-at.invariant.1.narrow
+pub shape_of-narrow-then-is_some : goal.shape_of-narrow-then-is_some
+shape_of-narrow-then-is_some c = c.do_line-r.auto.narrow ∙ c.loop-at.invariant.1.narrow
 
-pub shape_of-wide-then-r-ne0 : goal.shape_of-wide-then-r-ne0
-shape_of-wide-then-r-ne0 c = c.do_line-r.auto.wide ∙ c.loop-at.invariant.1.wide
+pub shape_of-wide-then-is_some : goal.shape_of-wide-then-is_some
+shape_of-wide-then-is_some c = c.do_line-r.auto.wide ∙ c.loop-at.invariant.1.wide
 
-pub shape_of-pool-then-r-ne0 : goal.shape_of-pool-then-r-ne0
-shape_of-pool-then-r-ne0 c = c.do_line-r.auto.pool ∙ c.loop-at.invariant.1.pool
+pub shape_of-pool-then-is_some : goal.shape_of-pool-then-is_some
+shape_of-pool-then-is_some c = c.do_line-r.auto.pool ∙ c.loop-at.invariant.1.pool
 
-pub shape_of-words-then-r-ne0 : goal.shape_of-words-then-r-ne0
-shape_of-words-then-r-ne0 c = c.do_line-r.auto.words ∙ c.loop-at.invariant.1.words
+pub shape_of-words-then-is_some : goal.shape_of-words-then-is_some
+shape_of-words-then-is_some c = c.do_line-r.auto.words ∙ c.loop-at.invariant.1.words
 
-pub shape_of-marks-then-r-ne0 : goal.shape_of-marks-then-r-ne0
-shape_of-marks-then-r-ne0 c = ap length (c.do_line-r.ensures.marks_unchanged.0 ∙ c.loop-at.invariant.1.marks)
+pub shape_of-marks-then-is_some : goal.shape_of-marks-then-is_some
+shape_of-marks-then-is_some c = ap length (c.do_line-r.ensures.marks_unchanged.0 ∙ c.loop-at.invariant.1.marks)
 
-pub shape_of-work-then-r-ne0 : goal.shape_of-work-then-r-ne0
-shape_of-work-then-r-ne0 c = ap length (c.do_line-r.ensures.marks_unchanged.1 ∙ c.loop-at.invariant.1.work)
+pub shape_of-work-then-is_some : goal.shape_of-work-then-is_some
+shape_of-work-then-is_some c = ap length (c.do_line-r.ensures.marks_unchanged.1 ∙ c.loop-at.invariant.1.work)
 
-pub returns-then-r-ne0 : goal.returns-then-r-ne0
-returns-then-r-ne0 c = record { goes = running-stop c.loop-at.invariant.0 c.in-Some.line c.in-Some.next (reads-of c.args.s.now c.loop-at.at c.read_line.result c.read_line.ensures c.in-Some.is) c.do_line-r.ensures.goes (ap (λ (j : ℕ). j / 6) c.do_line-r.auto.narrow) c.do_line-r.auto.pool c.if-r-ne0.true; marks_unchanged = (c.do_line-r.ensures.marks_unchanged.0 ∙ c.loop-at.invariant.1.marks, c.do_line-r.ensures.marks_unchanged.1 ∙ c.loop-at.invariant.1.work) }
+pub returns-then-is_some : goal.returns-then-is_some
+returns-then-is_some c = record { goes = running-stop c.loop-at.invariant.0 c.in-Some.line c.in-Some.next (reads-of c.args.plan.now.text.now c.loop-at.at c.read_line.result c.read_line.ensures c.in-Some.is) c.do_line-r.ensures.goes (ap (λ (j : ℕ). j / 6) c.do_line-r.auto.narrow) c.do_line-r.auto.pool (sym c.is_some.ensures ∙ c.if-is_some.true); marks_unchanged = (c.do_line-r.ensures.marks_unchanged.0 ∙ c.loop-at.invariant.1.marks, c.do_line-r.ensures.marks_unchanged.1 ∙ c.loop-at.invariant.1.work) }
 
 pub shape_of-narrow : goal.shape_of-narrow
 shape_of-narrow c = c.loop-at.invariant.1.narrow

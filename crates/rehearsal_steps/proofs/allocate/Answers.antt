@@ -21,26 +21,26 @@ pub overflow_add-turn : goal.overflow_add-turn
 overflow_add-turn c = omega (arith, c.requires.turns_bound)
 
 pub hold-n-requires : goal.hold-n-requires
-hold-n-requires c = can-hold c.requires.in_order _ _ _ c.place-reply.ensures.tells c.from-told.ensures c.requires.can_hold_more c.if-told-eq0.true refl
+hold-n-requires c = can-hold c.requires.in_order _ _ _ c.place-reply.ensures.tells c.requires.can_hold_more c.in-Ok.is refl
 
 pub overflow_add-size : goal.overflow_add-size
-overflow_add-size c = omega (arith, sum_room c.requires.in_order _ _ _ c.place-reply.ensures.tells c.from-told.ensures c.requires.can_hold_more c.if-told-eq0.true c.requires.data_there.counted)
+overflow_add-size c = omega (arith, sum_room c.requires.in_order _ _ _ c.place-reply.ensures.tells c.requires.can_hold_more c.in-Ok.is c.requires.data_there.counted)
 
-pub overflow_add-size-then-told-eq0 : goal.overflow_add-size-then-told-eq0
-overflow_add-size-then-told-eq0 c = omega (arith, sum_room c.requires.in_order _ _ _ c.place-reply.ensures.tells c.from-told.ensures c.requires.can_hold_more c.if-told-eq0.true c.requires.data_there.counted)
+pub overflow_add-size-in-Ok : goal.overflow_add-size-in-Ok
+overflow_add-size-in-Ok c = omega (arith, sum_room c.requires.in_order _ _ _ c.place-reply.ensures.tells c.requires.can_hold_more c.in-Ok.is c.requires.data_there.counted)
 
-pub returns-then-told-eq0 : goal.returns-then-told-eq0
-returns-then-told-eq0 c =
+pub returns-in-Ok : goal.returns-in-Ok
+returns-in-Ok c =
     let before : Lent = lent c.args.g.heap c.args.narrow.now c.args.wide.now c.args.pool.now in
     let done : Tells here nothing before (lent c.place-reply.new.lent.heap c.narrow-1.given.0 c.wide-1.given.0 c.pool-1.given.0) c.place-reply.result
     (allocating (length c.args.narrow.now / 6) (length c.args.pool.now) c.args.a.kind c.args.a.ty 0 (hex_at c.args.s.now c.args.a.from) (view before)) =
     record { leaves = search rules; says = c.place-reply.ensures.tells.says } in
-    place-held c.requires.in_order _ _ _ done c.from-told.ensures c.requires.can_hold_more c.if-told-eq0.true refl c.requires.data_there.counted c.hold-n.auto.words c.hold-n.ensures c.max.ensures
+    place-held c.requires.in_order _ _ _ done c.requires.can_hold_more c.in-Ok.is refl c.requires.data_there.counted c.hold-n.auto.words c.hold-n.ensures c.max.ensures
 
-pub returns : goal.returns
-returns c =
+pub returns-in-Err : goal.returns-in-Err
+returns-in-Err c =
     let before : Lent = lent c.args.g.heap c.args.narrow.now c.args.wide.now c.args.pool.now in
     let done : Tells here nothing before (lent c.place-reply.new.lent.heap c.narrow-1.given.0 c.wide-1.given.0 c.pool-1.given.0) c.place-reply.result
     (allocating (length c.args.narrow.now / 6) (length c.args.pool.now) c.args.a.kind c.args.a.ty 0 (hex_at c.args.s.now c.args.a.from) (view before)) =
     record { leaves = search rules; says = c.place-reply.ensures.tells.says } in
-    place-refused c.requires.in_order _ _ _ done c.from-told.ensures c.if-told-eq0.false
+    place-refused c.requires.in_order _ _ _ done c.in-Err.why c.in-Err.is
