@@ -2,7 +2,7 @@
 use Prim.Native.Nat.{ℕ, ◌≤◌, ◌<◌}
 use mathlib.Core.Bool.{Bool, true, false, ◌&&◌}
 use mathlib.Core.List.{List, [], ◌∷◌}
-use mathlib.Core.Path.{◌≡◌, refl, sym, ap, ◌∙◌}
+use mathlib.Core.Path.{◌≡◌, refl, sym, ap, subst, ◌∙◌}
 use lib.Dec.{leb}
 use lib.ListN.{length}
 use Rattle.word.proofs.Bools.{and_both}
@@ -12,14 +12,16 @@ use Rattle.refusal.specs.declared.Answer.{Answer}
 use Rattle.refusal.specs.declared.Refusal.{Refusal}
 use Rattle.refusal.specs.declared.Refusal.TheVariants.{Scratch}
 use Rattle.refusal.specs.Told.{Reply}
-use Rattle.std.specs.Prelude.{Err}
+use Rattle.std.specs.Prelude.{Result as Outcomes, Ok, Err, IfOk}
+use Rattle.std.proofs.lemmas.Result.{IfOk-at_ok}
+use Rattle.heap.specs.Seen.{seen, state}
+use Rattle.heap.specs.declared.view.View.{View}
 use Rattle.heap.specs.State.{State}
 use Rattle.heap.specs.Lent.{Lent, view, slot_count}
-use Rattle.heap.specs.WellFormed.{well_formed}
 use Rattle.door.specs.HeapCalls.{Entered, heap_tests, asked, enough, outcome, outcome_of, zeros}
-use Rattle.door.specs.HeapCalls.{Entry}
+use Rattle.door.specs.HeapCalls.{Entry, entry_of}
 use Rattle.door.specs.HeapCalls.{ready}
-use Rattle.door.proofs.Entering.{ask-refused, ask-ready, whether-not, whether-ready, entered}
+use Rattle.door.proofs.Entering.{ask-refused, ask-ready, whether-not, whether-ready}
 use Rattle.pages.specs.Form.{written}
 use Rattle.pages.specs.Page.{page_text}
 use Rattle.pages.specs.Answer.{PageWritten, text_answer, text_out}
@@ -36,8 +38,12 @@ module _ (l : Lent) {marks work marks' work' : List ℕ} {e : Entry} (s : Entere
   write_done i p t =
       (ask-ready s here nothing l (λ h. text_answer (page_text (written planar) h) out) i p.answer t, p.out ∙ sym (whether-ready s (λ why. out) (text_out (page_text (written planar) (view l)) out) i))
 
-  pub write-formed : e ≡ ready → well_formed l ≡ true
-  write-formed i = entered l s i
+-- the page of the heap that is shown
+pub write-seen : (l : Lent) {marks work marks' work' : List ℕ} {x : Outcomes View Refusal} (s : Entered (marks ∷ work ∷ []) (heap_tests marks work l) (entry_of x) (marks' ∷ work' ∷ [])) (planar : Bool) (out : List ℕ) →
+    IfOk x (λ v. seen v ≡ l) → {v : View} → x ≡ Ok v → {out' : List ℕ} {reply : Reply} {r : Answer} → PageWritten out out' (page_text (written planar) (state v)) reply → r ≡ told reply →
+    (asked r marks' work' ≡ writing marks work l planar out) × (out' ≡ page_out marks work l planar out)
+write-seen l s planar out sh {v} i {out'} {reply} p t =
+    write_done l s planar out (ap entry_of i) (subst (λ (k : Lent). PageWritten out out' (page_text (written planar) (view k)) reply) (IfOk-at_ok (λ (u : View). seen u ≡ l) i sh) p) t
 
 module _ (l : Lent) (text marks work : List ℕ) {b : Bool} (v : b ≡ (leb (slot_count l) (length marks) && leb (slot_count l) (length work))) where
   is-enough : b ≡ enough marks work l

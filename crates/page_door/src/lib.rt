@@ -23,10 +23,9 @@ pub fn yexwalu_page_length(
     ensures { asked result marks.new work.new
         ≡ measuring marks.old work.old (lent heap narrow.now wide.now pool.now) planar }
 {
-    match door::enter(heap, narrow, wide, pool, marks, work) {
-        Err(why) => Answer::from(Err(why)),
-        Ok(()) => Answer::from(pages::measure(heap, narrow, wide, pool, planar)),
-    }
+    Answer::from(door::see(heap, narrow, wide, pool, marks, work).and_then(|view| pages::measure(
+        view, planar,
+    )))
 }
 
 // Writes a heap's page to `out`, with byte planes or data: 18, 1, 7. The answer is its length.
@@ -45,9 +44,9 @@ pub fn yexwalu_write_page(
     ensures out_after { out.new
         ≡ page_out marks.old work.old (lent heap narrow.now wide.now pool.now) planar out.old }
 {
-    match door::enter(heap, narrow, wide, pool, marks, work) {
+    match door::see(heap, narrow, wide, pool, marks, work) {
         Err(why) => Answer::from(Err(why)),
-        Ok(()) => Answer::from(pages::write(heap, narrow, wide, pool, planar, out)),
+        Ok(view) => Answer::from(pages::write(view, planar, out)),
     }
 }
 

@@ -1,6 +1,6 @@
 -- The page of the heap that lies in lent memory, part by part as the writer puts it.
 use Prim.Native.Nat.{ℕ, ◌+◌, ◌-◌, ◌*◌, ◌/◌, ◌≤◌, ◌<◌}
-use mathlib.Core.List.{List, ◌++◌, append_assoc, flat_map}
+use mathlib.Core.List.{List, [], ◌++◌, append_assoc, append-nil, flat_map}
 use mathlib.Core.Bool.{Bool, true, false}
 use mathlib.Core.Path.{◌≡◌, refl, sym, ap, ◌∙◌}
 use lib.ListN.{length, take, drop, length-append}
@@ -95,6 +95,12 @@ module _ (h : Heap) (narrow wide pool : List ℕ) (r : Ready (lent h narrow wide
         ++ (quarantine_name ++ flat_map value_line (take h.quarantine q)) ++ (sealed_name ++ flat_map value_line (take h.sealed z)) ++ (retired_name ++ flat_map value_line (take h.retired w)) ≡ page_text (written p) (view heap)
     unfolding page_text view retired_part
     page-parts = rw (head-is, slots-are, f-is, q-is, z-is, w-is) (simp append_assoc)
+
+    -- part after part
+    pub page-split :
+        heap_names (written p) ++ (numbers h ++ (slot_names (written p) ++ (slot_lines ++ ((free_name ++ flat_map value_line (take h.free f))
+        ++ ((quarantine_name ++ flat_map value_line (take h.quarantine q)) ++ ((sealed_name ++ flat_map value_line (take h.sealed z)) ++ ((retired_name ++ flat_map value_line (take h.retired w)) ++ []))))))) ≡ page_text (written p) (view heap)
+    page-split = (simp (append_assoc, append-nil)) ∙ page-parts
 
     pub page-size :
         length (page_text (written p) (view heap)) ≡

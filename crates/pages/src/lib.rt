@@ -5,19 +5,21 @@ ghost use Rattle.std.specs.Prelude.{◌≡◌, ℕ, ◌+◌, ◌-◌, ◌*◌, �
 ghost use mathlib.Core.List.{List, [], ◌∷◌, ◌++◌, flat_map};
 ghost use Rattle.text.specs.Text.{decimal, hex};
 ghost use Rattle.text.specs.Put.{Puts};
+ghost use Rattle.text.specs.Wrote.{Wrote};
+ghost use Rattle.heap.specs.Seen.{seen, state};
 ghost use Rattle.pages.specs.Form.{written, column, heap_names, slot_names, free_name, quarantine_name, sealed_name, retired_name};
 ghost use Rattle.pages.specs.Page.{value_line, slot_line, numbers_line, page_text};
-ghost use Rattle.pages.specs.Columns.{slot, slots_in, head_fields, Ready};
-ghost use Rattle.heap.specs.Lent.{lent, view};
-ghost use Rattle.heap.specs.WellFormed.{well_formed};
+ghost use Rattle.pages.specs.Columns.{slot, slots_in, head_fields};
 ghost use Rattle.word.specs.Result.{ok};
 ghost use Rattle.refusal.specs.Told.{told, answered, here, nothing};
 ghost use Rattle.pages.specs.Answer.{PageWritten};
 ghost use Rattle.std.proofs.lemmas.List.{map-id};
 ghost use mathlib.Core.Path.{sym};
 
-use heap::Heap;
+use heap::view::View;
+use heap::{Contents, Heap};
 use refusal::{Refusal, Reply};
+use text::out::Out;
 
 // What stands in a list and is written as a number, one of so many bits: a slot index, or a handle.
 pub trait Listed: Copy {
@@ -104,136 +106,120 @@ pub fn put_number(out: &mut [u8], at: usize, n: u64, end: u8) -> usize
     requires { at + length (decimal n ++ (end ∷ [])) ≤ length out.old }
     ensures { Puts out.old out.new at result (decimal n ++ (end ∷ [])) }
 {
-    let k = text::put_decimal(out, at, n);
-    out[k] = end;
-    k + 1
+    let mut page = Out { page: out, at };
+    page.value(n, end);
+    page.at
 }
 
-// Puts the first `count` values of a list from `at` on, one a line.
-fn put_values<T: Listed>(out: &mut [u8], at: usize, list: &[T], count: usize) -> usize
+// Puts the first `count` values of a list, one a line.
+fn put_values<T: Listed>(out: &mut Out, list: &[T], count: usize)
     requires count_in_bounds { count ≤ length list.now }
-    requires list_in_bounds { at + length (flat_map (λ x. value_line (T.number x)) (take count list.now)) ≤ length out.old }
-    ensures { Puts out.old out.new at result (flat_map (λ x. value_line (T.number x)) (take count list.now)) }
+    requires list_in_bounds { out.old.at + length (flat_map (λ x. value_line (T.number x)) (take count list.now)) ≤ length out.old.page.now }
+    ensures { Wrote out.old out.new (flat_map (λ x. value_line (T.number x)) (take count list.now)) }
 {
-    let mut k = at;
     for i in 0..count {
-        k = put_number(out, k, list[i].number(), b'\n');
+        out.value(list[i].number(), b'\n');
     }
-    k
 }
 
 // How long a slot's line is.
-fn slot_len(generation: u32, kind: u32, ty: u32, start: u64, writes: u64, bytes: &[u8]) -> usize
-    requires { length bytes.now ≤ 1073741824 }
-    ensures value { result ≡ length (slot_line false (slot generation kind ty start writes bytes.now)) }
-    ensures upper_bound { result ≤ 76 + 2 * length bytes.now }
+fn slot_len(x: Contents) -> usize
+    requires { length x.bytes.now ≤ 1073741824 }
+    ensures value { result ≡ length (slot_line false (slot x.entry.generation x.entry.kind x.entry.ty x.entry.start x.entry.writes x.entry.bytes.now)) }
+    ensures upper_bound { result ≤ 76 + 2 * length x.entry.bytes.now }
 {
-    let a = text::decimal_len(generation as u64);
-    let b = text::decimal_len(kind as u64);
-    let c = text::decimal_len(ty as u64);
-    let d = text::decimal_len(start);
-    let e = text::decimal_len(writes);
-    a + b + c + d + e + 2 * bytes.len() + 6
+    let a = text::decimal_len(x.generation as u64);
+    let b = text::decimal_len(x.kind as u64);
+    let c = text::decimal_len(x.ty as u64);
+    let d = text::decimal_len(x.start);
+    let e = text::decimal_len(x.writes);
+    a + b + c + d + e + 2 * x.bytes.len() + 6
 }
 
-// Puts an object's column in hexadecimal from `at` on: its byte planes, or its bytes as they are.
-fn put_column(out: &mut [u8], at: usize, bytes: &[u8], planar: bool) -> usize
-    requires { at + 2 * length bytes.now ≤ length out.old }
-    ensures { Puts out.old out.new at result (hex (column planar bytes.now)) }
+// Puts an object's column in hexadecimal: its byte planes, or its bytes as they are.
+fn put_column(out: &mut Out, bytes: &[u8], planar: bool)
+    requires { out.old.at + 2 * length bytes.now ≤ length out.old.page.now }
+    ensures { Wrote out.old out.new (hex (column planar bytes.now)) }
 {
     if planar {
-        return planes::put_planes(out, at, bytes);
+        out.at = planes::put_planes(out.page, out.at, bytes);
+        return;
     }
-    text::put_hex(out, at, bytes)
+    out.hex(bytes);
 }
 
-// Puts a slot's line from `at` on.
-fn put_slot(
-    out: &mut [u8],
-    at: usize,
-    generation: u32,
-    kind: u32,
-    ty: u32,
-    start: u64,
-    writes: u64,
-    bytes: &[u8],
-    planar: bool,
-) -> usize
-    requires { at + length (slot_line planar (slot generation kind ty start writes bytes.now)) ≤ length out.old }
-    ensures { Puts out.old out.new at result (slot_line planar (slot generation kind ty start writes bytes.now)) }
+// Puts a slot's line.
+fn put_slot(out: &mut Out, x: Contents, planar: bool)
+    requires { out.old.at + length (slot_line planar (slot x.generation x.kind x.ty x.start x.writes x.bytes.now)) ≤ length out.old.page.now }
+    ensures { Wrote out.old out.new (slot_line planar (slot x.entry.generation x.entry.kind x.entry.ty x.entry.start x.entry.writes x.entry.bytes.now)) }
 {
-    let a = put_number(out, at, generation as u64, b',');
-    let b = put_number(out, a, kind as u64, b',');
-    let c = put_number(out, b, ty as u64, b',');
-    let d = put_number(out, c, start, b',');
-    let e = put_number(out, d, writes, b',');
-    let f = put_column(out, e, bytes, planar);
-    out[f] = b'\n';
-    f + 1
+    out.value(x.generation as u64, b',');
+    out.value(x.kind as u64, b',');
+    out.value(x.ty as u64, b',');
+    out.value(x.start, b',');
+    out.value(x.writes, b',');
+    put_column(out, x.bytes, planar);
+    out.byte(b'\n');
 }
 
 // How long the lines of the slots are; with planes as with data.
-fn slots_len(heap: Heap, narrow: &[u32], wide: &[u64], pool: &[u8]) -> usize
-    requires ready { Ready (lent heap narrow.now wide.now pool.now) }
-    requires narrow_in_bounds { 4 * (length narrow.now / 6) ≤ length wide.now }
-    ensures value { result ≡ length (flat_map (slot_line false) (slots_in (lent heap narrow.now wide.now pool.now) heap.slots)) }
-    ensures upper_bound { result ≤ 76 * heap.slots + 2 * length pool.now }
+fn slots_len(view: View) -> usize
+    ensures value { result ≡ length (flat_map (slot_line false) (slots_in (seen view.entry) view.entry.heap.slots)) }
+    ensures upper_bound { result ≤ 76 * view.entry.heap.slots + 2 * length view.entry.pool.now }
 {
+    let View {
+        heap,
+        narrow,
+        wide,
+        pool,
+    } = view;
     let s = narrow.len() / 6;
     let two = 2 * s;
     let mut n = 0;
     let mut from = 0;
     for i in 0..heap.slots {
         let to = wide[s + i] as usize;
-        let d = slot_len(
-            narrow[i],
-            narrow[s + i],
-            narrow[two + i],
-            wide[i],
-            wide[two + i],
-            &pool[from..to],
-        );
+        let d = slot_len(Contents {
+            generation: narrow[i],
+            kind: narrow[s + i],
+            ty: narrow[two + i],
+            start: wide[i],
+            writes: wide[two + i],
+            bytes: &pool[from..to],
+        });
         n = n + d;
         from = to;
     }
     n
 }
 
-// Puts the lines of the slots from `at` on.
-fn put_slots(
-    heap: Heap,
-    narrow: &[u32],
-    wide: &[u64],
-    pool: &[u8],
-    planar: bool,
-    out: &mut [u8],
-    at: usize,
-) -> usize
-    requires ready { Ready (lent heap narrow.now wide.now pool.now) }
-    requires narrow_in_bounds { 4 * (length narrow.now / 6) ≤ length wide.now }
-    requires slots_in_bounds { at + length (flat_map (slot_line planar) (slots_in (lent heap narrow.now wide.now pool.now) heap.slots)) ≤ length out.old }
-    ensures { Puts out.old out.new at result (flat_map (slot_line planar) (slots_in (lent heap narrow.now wide.now pool.now) heap.slots)) }
+// Puts the lines of the slots.
+fn put_slots(view: View, planar: bool, out: &mut Out)
+    requires { out.old.at + length (flat_map (slot_line planar) (slots_in (seen view) view.heap.slots)) ≤ length out.old.page.now }
+    ensures { Wrote out.old out.new (flat_map (slot_line planar) (slots_in (seen view.entry) view.entry.heap.slots)) }
 {
+    let View {
+        heap,
+        narrow,
+        wide,
+        pool,
+    } = view;
     let s = narrow.len() / 6;
     let two = 2 * s;
-    let mut k = at;
     let mut from = 0;
     for i in 0..heap.slots {
         let to = wide[s + i] as usize;
-        k = put_slot(
-            out,
-            k,
-            narrow[i],
-            narrow[s + i],
-            narrow[two + i],
-            wide[i],
-            wide[two + i],
-            &pool[from..to],
-            planar,
-        );
+        let x = Contents {
+            generation: narrow[i],
+            kind: narrow[s + i],
+            ty: narrow[two + i],
+            start: wide[i],
+            writes: wide[two + i],
+            bytes: &pool[from..to],
+        };
+        put_slot(out, x, planar);
         from = to;
     }
-    k
 }
 
 // How long the heap's numbers are but for the last, with the comma after each.
@@ -252,20 +238,19 @@ fn fields_len(h: Heap) -> usize
     a + b + c + d + e + f + g + z + 8
 }
 
-// Puts the heap's numbers but for the last from `at` on, a comma after each.
-fn put_fields(out: &mut [u8], at: usize, h: Heap) -> usize
-    requires { at + length (head_fields h.tag h.since_gc h.reclaim_at h.live_bytes h.slots h.free h.quarantine h.sealed) ≤ length out.old }
-    ensures { Puts out.old out.new at result
-        (head_fields h.tag h.since_gc h.reclaim_at h.live_bytes h.slots h.free h.quarantine h.sealed) }
+// Puts the heap's numbers but for the last, a comma after each.
+fn put_fields(out: &mut Out, h: Heap)
+    requires { out.old.at + length (head_fields h.tag h.since_gc h.reclaim_at h.live_bytes h.slots h.free h.quarantine h.sealed) ≤ length out.old.page.now }
+    ensures { Wrote out.old out.new (head_fields h.tag h.since_gc h.reclaim_at h.live_bytes h.slots h.free h.quarantine h.sealed) }
 {
-    let a = put_number(out, at, h.tag as u64, b',');
-    let b = put_number(out, a, h.since_gc, b',');
-    let c = put_number(out, b, h.reclaim_at as u64, b',');
-    let d = put_number(out, c, h.live_bytes, b',');
-    let e = put_number(out, d, h.slots as u64, b',');
-    let f = put_number(out, e, h.free as u64, b',');
-    let g = put_number(out, f, h.quarantine as u64, b',');
-    put_number(out, g, h.sealed as u64, b',')
+    out.value(h.tag as u64, b',');
+    out.value(h.since_gc, b',');
+    out.value(h.reclaim_at as u64, b',');
+    out.value(h.live_bytes, b',');
+    out.value(h.slots as u64, b',');
+    out.value(h.free as u64, b',');
+    out.value(h.quarantine as u64, b',');
+    out.value(h.sealed as u64, b',');
 }
 
 // How long the line of a heap's numbers is.
@@ -278,35 +263,35 @@ fn head_len(h: Heap) -> usize
     a + b + 1
 }
 
-// Puts the line of a heap's numbers from `at` on.
-fn put_head(out: &mut [u8], at: usize, h: Heap) -> usize
-    requires { at + length (numbers_line true h.tag h.since_gc h.reclaim_at h.live_bytes h.slots h.free h.quarantine h.sealed h.retired) ≤ length out.old }
-    ensures { Puts out.old out.new at result
-        (numbers_line true h.tag h.since_gc h.reclaim_at h.live_bytes h.slots h.free h.quarantine h.sealed h.retired) }
+// Puts the line of a heap's numbers.
+fn put_head(out: &mut Out, h: Heap)
+    requires { out.old.at + length (numbers_line true h.tag h.since_gc h.reclaim_at h.live_bytes h.slots h.free h.quarantine h.sealed h.retired) ≤ length out.old.page.now }
+    ensures { Wrote out.old out.new (numbers_line true h.tag h.since_gc h.reclaim_at h.live_bytes h.slots h.free h.quarantine h.sealed h.retired) }
 {
-    let a = put_fields(out, at, h);
-    put_number(out, a, h.retired as u64, b'\n')
+    put_fields(out, h);
+    out.value(h.retired as u64, b'\n');
 }
 
 // Puts a name and then the first `count` values of a list.
-fn put_list<T: Listed>(out: &mut [u8], at: usize, name: &[u8], list: &[T], count: usize) -> usize
+fn put_list<T: Listed>(out: &mut Out, name: &[u8], list: &[T], count: usize)
     requires count_in_bounds { count ≤ length list.now }
-    requires list_in_bounds { at + length (name.now ++ flat_map (λ x. value_line (T.number x)) (take count list.now)) ≤ length out.old }
-    ensures { Puts out.old out.new at result (name.now ++ flat_map (λ x. value_line (T.number x)) (take count list.now)) }
+    requires list_in_bounds { out.old.at + length (name.now ++ flat_map (λ x. value_line (T.number x)) (take count list.now)) ≤ length out.old.page.now }
+    ensures { Wrote out.old out.new (name.now ++ flat_map (λ x. value_line (T.number x)) (take count list.now)) }
 {
-    let k = text::put_literal(out, at, name);
-    put_values(out, k, list, count)
+    out.literal(name);
+    put_values(out, list, count);
 }
 
-// Puts the names line of the slots from `at` on.
-fn put_slot_names(out: &mut [u8], at: usize, planar: bool) -> usize
-    requires { at + length (slot_names (written planar)) ≤ length out.old }
-    ensures { Puts out.old out.new at result (slot_names (written planar)) }
+// Puts the names line of the slots.
+fn put_slot_names(out: &mut Out, planar: bool)
+    requires { out.old.at + length (slot_names (written planar)) ≤ length out.old.page.now }
+    ensures { Wrote out.old out.new (slot_names (written planar)) }
 {
     if planar {
-        return text::put_literal(out, at, b"generation,kind,type,start,writes64,planes\n");
+        out.literal(b"generation,kind,type,start,writes64,planes\n");
+        return;
     }
-    text::put_literal(out, at, b"generation,kind,type,start,writes64,data\n")
+    out.literal(b"generation,kind,type,start,writes64,data\n");
 }
 
 // How long the names of a page are.
@@ -318,18 +303,22 @@ fn names_len(planar: bool) -> usize
 }
 
 // How long a heap's page is.
-fn page_len(heap: Heap, narrow: &[u32], wide: &[u64], pool: &[u8], planar: bool) -> usize
-    requires ready { Ready (lent heap narrow.now wide.now pool.now) }
-    requires narrow_in_bounds { 4 * (length narrow.now / 6) ≤ length wide.now }
-    ensures { result ≡ length (page_text (written planar) (view (lent heap narrow.now wide.now pool.now))) }
+fn page_len(view: View, planar: bool) -> usize
+    ensures { result ≡ length (page_text (written planar) (state view.entry)) }
 {
+    let View {
+        heap,
+        narrow,
+        wide,
+        pool: _,
+    } = view;
     let s = narrow.len() / 6;
     let three = 3 * s;
     let four = 4 * s;
     let five = 5 * s;
     let six = 6 * s;
     let a = head_len(heap);
-    let b = slots_len(heap, narrow, wide, pool);
+    let b = slots_len(view);
     let c = values_len(&narrow[three..four], heap.free);
     let d = values_len(&narrow[four..five], heap.quarantine);
     let e = values_len(&wide[three..four], heap.sealed);
@@ -339,52 +328,48 @@ fn page_len(heap: Heap, narrow: &[u32], wide: &[u64], pool: &[u8], planar: bool)
 }
 
 // Answers how many bytes a heap's page has, and writes none.
-pub fn measure(heap: Heap, narrow: &[u32], wide: &[u64], pool: &[u8], planar: bool) -> Reply
-    requires { well_formed (lent heap narrow.now wide.now pool.now) ≡ true }
-    ensures { told result ≡ answered here nothing (ok (length (page_text (written planar) (view (lent heap narrow.now wide.now pool.now))))) }
+pub fn measure(view: View, planar: bool) -> Reply
+    ensures { told result ≡ answered here nothing (ok (length (page_text (written planar) (state view.entry)))) }
 {
-    let n = page_len(heap, narrow, wide, pool, planar);
+    let n = page_len(view, planar);
     Ok((n as u64, 0))
 }
 
-// Writes a heap's page to `out`, and answers its length; an output that is too short stays as it was.
-pub fn write(
-    heap: Heap,
-    narrow: &[u32],
-    wide: &[u64],
-    pool: &[u8],
-    planar: bool,
-    out: &mut [u8],
-) -> Reply
-    requires { well_formed (lent heap narrow.now wide.now pool.now) ≡ true }
-    ensures { PageWritten out.old out.new (page_text (written planar) (view (lent heap narrow.now wide.now pool.now))) result }
+// Puts a heap's page.
+fn put_page(view: View, planar: bool, out: &mut Out)
+    requires { out.old.at + length (page_text (written planar) (state view)) ≤ length out.old.page.now }
+    ensures { Wrote out.old out.new (page_text (written planar) (state view.entry)) }
 {
-    let n = page_len(heap, narrow, wide, pool, planar);
-    if out.len() < n {
-        return Err(Refusal::ShortList);
-    }
-    let a = text::put_literal(
-        out,
-        0,
-        b"tag,since_gc,reclaim_at,live_bytes,slots,free,quarantine,sealed,retired\n",
-    );
-    let b = put_head(out, a, heap);
-    let c = put_slot_names(out, b, planar);
-    let d = put_slots(heap, narrow, wide, pool, planar, out, c);
+    let View {
+        heap,
+        narrow,
+        wide,
+        pool: _,
+    } = view;
     let s = narrow.len() / 6;
     let three = 3 * s;
     let four = 4 * s;
     let five = 5 * s;
     let six = 6 * s;
-    let e = put_list(out, d, b"free\n", &narrow[three..four], heap.free);
-    let f = put_list(
-        out,
-        e,
-        b"quarantine\n",
-        &narrow[four..five],
-        heap.quarantine,
-    );
-    let g = put_list(out, f, b"sealed\n", &wide[three..four], heap.sealed);
-    let k = put_list(out, g, b"retired\n", &narrow[five..six], heap.retired);
-    Ok((k as u64, 0))
+    out.literal(b"tag,since_gc,reclaim_at,live_bytes,slots,free,quarantine,sealed,retired\n");
+    put_head(out, heap);
+    put_slot_names(out, planar);
+    put_slots(view, planar, out);
+    put_list(out, b"free\n", &narrow[three..four], heap.free);
+    put_list(out, b"quarantine\n", &narrow[four..five], heap.quarantine);
+    put_list(out, b"sealed\n", &wide[three..four], heap.sealed);
+    put_list(out, b"retired\n", &narrow[five..six], heap.retired);
+}
+
+// Writes a heap's page to `out`, and answers its length; an output that is too short stays as it was.
+pub fn write(view: View, planar: bool, out: &mut [u8]) -> Reply
+    ensures { PageWritten out.old out.new (page_text (written planar) (state view.entry)) result }
+{
+    let n = page_len(view, planar);
+    if out.len() < n {
+        return Err(Refusal::ShortList);
+    }
+    let mut page = Out { page: out, at: 0 };
+    put_page(view, planar, &mut page);
+    Ok((page.at as u64, 0))
 }

@@ -43,11 +43,11 @@ number-found s most at n k e f =
     let b = (num most).back (drop at s) n x.0 x.1 in
     (x.1 ∙ ap (give n) (suffix ((up_to most 44).print n) x.0 s at b.1 ∙ ap (λ (m : ℕ). drop m s) (sym x.2)), omega (arith, x.2))
 
-pub numbering-fits : (s : List ℕ) (at width n k : ℕ) {r : Option (ℕ × ℕ)} → r ≡ Some (n, k) → r ≡ value_answer (length s) (read_field (2 ^ width - 1) 44 (drop at s)) → n < 2 ^ width
+pub numbering-fits : (s : List ℕ) (at most width : ℕ) → most ≤ 2 ^ width - 1 → (n k : ℕ) {r : Option (ℕ × ℕ)} → r ≡ Some (n, k) → r ≡ value_answer (length s) (read_field most 44 (drop at s)) → n < 2 ^ width
 unfolding up_to
-numbering-fits s at width n k f e =
-    let b : n ≤ 2 ^ width - 1 = ((num (2 ^ width - 1)).back (drop at s) n (drop k s) (number-found s (2 ^ width - 1) at n k e f).0).0 in
-    omega (arith, b, pow_pos width)
+numbering-fits s at most width h n k f e =
+    let b : n ≤ most = ((num most).back (drop at s) n (drop k s) (number-found s most at n k e f).0).0 in
+    omega (arith, b, h, pow_pos width)
 
 -- NUMBERS
 

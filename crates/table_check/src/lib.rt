@@ -18,18 +18,19 @@ use pages::Listed;
 use refusal::Refusal;
 use ty::Table;
 
-// Reads k numbers, each with a comma after it, from `at` on into a list from `to` on.
+// Reads k numbers of at most `most`, each with a comma after it, from `at` on into a list from `to` on.
 pub fn get_numbers<T: Listed>(
     s: &[u8],
     at: usize,
     k: usize,
+    most: u64,
     out: &mut [T],
     to: usize,
 ) -> Option<usize>
-    requires { (at ≤ length s.now) × (to + k ≤ length out.old) }
-    ensures { Got (read_field (2 ^ T.width - 1) 44) s.now at k (λ ns. T.numbers out.new ≡ put_text (T.numbers out.old) to ns) result }
+    requires most_bound { most ≤ 2 ^ T.width - 1 }
+    requires in_bounds { (at ≤ length s.now) × (to + k ≤ length out.old) }
+    ensures { Got (read_field most 44) s.now at k (λ ns. T.numbers out.new ≡ put_text (T.numbers out.old) to ns) result }
 {
-    let most = T::most();
     let mut p = at;
     for i in 0..k {
         let (v, next) = text::get_field(s, p, most, b',')?;
@@ -46,23 +47,25 @@ pub struct Rows {
     pub next: usize,
 }
 
-// Reads `count` lines of k numbers and a name from `at` on, the numbers into a list from `to` on.
+// Reads `count` lines of k numbers of at most `most` and a name from `at` on, the numbers into a list from `to` on.
 pub fn get_rows<T: Listed>(
     s: &[u8],
     at: usize,
     count: usize,
     k: usize,
+    most: u64,
     out: &mut [T],
     to: usize,
 ) -> Option<Rows>
-    requires { (at ≤ length s.now) × (to + k * count ≤ length out.old) }
-    ensures { RowsGot k (2 ^ T.width - 1) s.now at count (T.numbers out.old) (T.numbers out.new) to result }
+    requires most_bound { most ≤ 2 ^ T.width - 1 }
+    requires in_bounds { (at ≤ length s.now) × (to + k * count ≤ length out.old) }
+    ensures { RowsGot k most s.now at count (T.numbers out.old) (T.numbers out.new) to result }
 {
     let mut p = at;
     let mut size = 0;
     let mut j = to;
     for i in 0..count {
-        let a = get_numbers(s, p, k, out, j)?;
+        let a = get_numbers(s, p, k, most, out, j)?;
         let next = tables::get_name(s, a)?;
         size += next - a;
         p = next;
@@ -96,7 +99,8 @@ fn rows_section<T: Listed>(
     ensures { SectionGot names.now k (2 ^ T.width - 1) s.now at count (T.numbers out.old) (T.numbers out.new) to result }
 {
     let begin = text::expect(s, at, names)?;
-    let rows = get_rows(s, begin, count, k, out, to)?;
+    let most = T::most();
+    let rows = get_rows(s, begin, count, k, most, out, to)?;
     Some(Section {
         begin,
         names: rows.names,

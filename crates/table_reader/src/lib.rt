@@ -95,6 +95,7 @@ fn tested(s: &[u8], room: Room, words: &mut [u64], halves: &mut [u32]) -> Result
 }
 
 // Puts the numbers of a table that was found into lists.
+// Kept: three functions ask for `Sectioned`: it has what follows each section in the text, so it is no fact for a ghost field.
 fn load_numbers(s: &[u8], x: Sections, types: &mut [u64], fields: &mut [u32], consts: &mut [u64])
     requires sectioned { Sectioned s.now x }
     requires types_in_bounds { (4 * x.types ≤ length types.old) × (2 * x.fields ≤ length fields.old) × (3 * x.consts ≤ length consts.old) }
@@ -102,9 +103,9 @@ fn load_numbers(s: &[u8], x: Sections, types: &mut [u64], fields: &mut [u32], co
     ensures fields_after { fields.new ≡ put_text fields.old 0 (numbers_in (table_of s.now).fields) }
     ensures consts_after { consts.new ≡ put_text consts.old 0 (numbers_in (table_of s.now).constants) }
 {
-    table_check::get_rows(s, x.types_at, x.types, 4, types, 0);
-    table_check::get_rows(s, x.fields_at, x.fields, 2, fields, 0);
-    table_check::get_rows(s, x.consts_at, x.consts, 3, consts, 0);
+    table_check::get_rows(s, x.types_at, x.types, 4, 18446744073709551615, types, 0);
+    table_check::get_rows(s, x.fields_at, x.fields, 2, 4294967295, fields, 0);
+    table_check::get_rows(s, x.consts_at, x.consts, 3, 18446744073709551615, consts, 0);
 }
 
 // Puts its names into a list, and answers how many bytes they take.

@@ -3,7 +3,7 @@
 
 ghost use Rattle.std.specs.Prelude.{◌≡◌, ℕ, ◌+◌, ◌-◌, ◌*◌, ◌/◌, ◌≤◌, ◌<◌, length, take, drop, leb};
 ghost use mathlib.Core.List.{List, [], ◌∷◌, ◌++◌, flat_map};
-ghost use Rattle.text.specs.Put.{Puts};
+ghost use Rattle.text.specs.Wrote.{Wrote};
 ghost use Rattle.text.specs.Text.{decimal, hex};
 ghost use Rattle.tables.specs.Table.{field, row_line, counts_line, count_names, bytes_name, table_text};
 ghost use Rattle.tables.specs.Lists.{rows_of};
@@ -13,6 +13,7 @@ ghost use Rattle.table_writer.specs.Writing.{table_in, TableWritten};
 
 use pages::Listed;
 use refusal::{Refusal, Reply};
+use text::out::Out;
 use ty::Table;
 
 // How many bytes the values of a list take as numbers, each with a comma after it.
@@ -28,55 +29,33 @@ fn numbers_len<T: Listed>(list: &[T]) -> usize
     n
 }
 
-// Puts a number and a comma from `at` on.
-fn put_number(out: &mut [u8], at: usize, n: u64) -> usize
-    requires { at + length (field n) ≤ length out.old }
-    ensures { Puts out.old out.new at result (field n) }
+// Puts numbers, each with a comma after it.
+fn put_numbers<T: Listed>(out: &mut Out, list: &[T])
+    requires { out.old.at + length (flat_map field (T.numbers list.now)) ≤ length out.old.page.now }
+    ensures { Wrote out.old out.new (flat_map field (T.numbers list.now)) }
 {
-    let k = text::put_decimal(out, at, n);
-    out[k] = b',';
-    k + 1
-}
-
-// Puts numbers, each with a comma after it, from `at` on.
-fn put_numbers<T: Listed>(out: &mut [u8], at: usize, list: &[T]) -> usize
-    requires { at + length (flat_map field (T.numbers list.now)) ≤ length out.old }
-    ensures { Puts out.old out.new at result (flat_map field (T.numbers list.now)) }
-{
-    let mut k = at;
     for i in 0..list.len() {
-        k = put_number(out, k, list[i].number());
+        out.value(list[i].number(), b',');
     }
-    k
 }
 
-// Puts `count` lines from `at` on: of each k numbers of a list, and a name that stands in `names` from `from` on.
-fn put_rows<T: Listed>(
-    out: &mut [u8],
-    at: usize,
-    list: &[T],
-    k: usize,
-    names: &[u8],
-    from: usize,
-    count: usize,
-) -> usize
-    requires { RowsReady k (T.numbers list.now) names.now from count at (length out.old) }
-    ensures { Puts out.old out.new at result (flat_map row_line (rows_of k (T.numbers list.now) (names_at names.now from count))) }
+// Puts `count` lines: of each k numbers of a list, and a name that stands in `names` from `from` on.
+fn put_rows<T: Listed>(out: &mut Out, list: &[T], k: usize, names: &[u8], from: usize, count: usize)
+    requires { RowsReady k (T.numbers list.now) names.now from count out.old.at (length out.old.page.now) }
+    ensures { Wrote out.old out.new (flat_map row_line (rows_of k (T.numbers list.now) (names_at names.now from count))) }
 {
-    let mut o = at;
     let mut f = from;
     let mut j = 0;
     for i in 0..count {
         let Some(next) = tables::get_name(names, f) else {
-            return o;
+            return;
         };
         let e = j + k;
-        let a = put_numbers(out, o, &list[j..e]);
-        o = text::put_literal(out, a, &names[f..next]);
+        put_numbers(out, &list[j..e]);
+        out.literal(&names[f..next]);
         f = next;
         j = e;
     }
-    o
 }
 
 // Where the names of fields and of constants begin.
@@ -138,33 +117,32 @@ fn room_for(room: usize, rest: usize, names: usize, bytes: usize) -> bool
 }
 
 // Puts the first two lines.
-fn put_counts(out: &mut [u8], t: usize, f: usize, c: usize) -> usize
-    requires { length (count_names ++ counts_line t f c) ≤ length out.old }
-    ensures { Puts out.old out.new 0 result (count_names ++ counts_line t f c) }
+fn put_counts(out: &mut Out, t: usize, f: usize, c: usize)
+    requires { out.old.at + length (count_names ++ counts_line t f c) ≤ length out.old.page.now }
+    ensures { Wrote out.old out.new (count_names ++ counts_line t f c) }
 {
-    let p = text::put_literal(out, 0, b"types,fields,constants\n");
-    let q = put_number(out, p, t as u64);
-    let u = put_number(out, q, f as u64);
-    let v = text::put_decimal(out, u, c as u64);
-    out[v] = b'\n';
-    v + 1
+    out.literal(b"types,fields,constants\n");
+    out.value(t as u64, b',');
+    out.value(f as u64, b',');
+    out.decimal(c as u64);
+    out.byte(b'\n');
 }
 
 // Puts the constants' bytes after their name.
-fn put_bytes(out: &mut [u8], at: usize, bytes: &[u8]) -> usize
-    requires { at + length (bytes_name ++ (hex bytes.now ++ (10 ∷ []))) ≤ length out.old }
-    ensures { Puts out.old out.new at result (bytes_name ++ (hex bytes.now ++ (10 ∷ []))) }
+fn put_bytes(out: &mut Out, bytes: &[u8])
+    requires { out.old.at + length (bytes_name ++ (hex bytes.now ++ (10 ∷ []))) ≤ length out.old.page.now }
+    ensures { Wrote out.old out.new (bytes_name ++ (hex bytes.now ++ (10 ∷ []))) }
 {
-    let p = text::put_literal(out, at, b"bytes\n");
-    let q = text::put_hex(out, p, bytes);
-    out[q] = b'\n';
-    q + 1
+    out.literal(b"bytes\n");
+    out.hex(bytes);
+    out.byte(b'\n');
 }
 
-// Writes a table's text to `out`, and answers its length.
-fn put_table(table: &Table, names: &[u8], begin: NamesRead, out: &mut [u8]) -> usize
-    requires { Ready table.now.types.now table.now.fields.now table.now.consts.now table.now.bytes.now names.now begin.fields_at begin.consts_at (length out.old) }
-    ensures { Puts out.old out.new 0 result
+// Writes a table's text from the front of a page on.
+fn put_table(table: &Table, names: &[u8], begin: NamesRead, out: &mut Out)
+    requires at_value { out.old.at ≡ 0 }
+    requires ready { Ready table.now.types.now table.now.fields.now table.now.consts.now table.now.bytes.now names.now begin.fields_at begin.consts_at (length out.old.page.now) }
+    ensures { Wrote out.old out.new
         (table_text (named table.now.types.now table.now.fields.now table.now.consts.now table.now.bytes.now names.now begin.fields_at begin.consts_at)) }
 {
     let Table {
@@ -180,14 +158,14 @@ fn put_table(table: &Table, names: &[u8], begin: NamesRead, out: &mut [u8]) -> u
     let t = types.len() / 4;
     let f = fields.len() / 2;
     let c = consts.len() / 3;
-    let p = put_counts(out, t, f, c);
-    let q = text::put_literal(out, p, b"class,a,b,c,name\n");
-    let u = put_rows(out, q, types, 4, names, 0, t);
-    let v = text::put_literal(out, u, b"type,constant,name\n");
-    let x = put_rows(out, v, fields, 2, names, a, f);
-    let y = text::put_literal(out, x, b"plain,start,length,name\n");
-    let z = put_rows(out, y, consts, 3, names, b, c);
-    put_bytes(out, z, bytes)
+    put_counts(out, t, f, c);
+    out.literal(b"class,a,b,c,name\n");
+    put_rows(out, types, 4, names, 0, t);
+    out.literal(b"type,constant,name\n");
+    put_rows(out, fields, 2, names, a, f);
+    out.literal(b"plain,start,length,name\n");
+    put_rows(out, consts, 3, names, b, c);
+    put_bytes(out, bytes);
 }
 
 // Writes a type table and its names as text to `out`, and answers the text's length, or why it is refused.
@@ -208,6 +186,7 @@ pub fn write(table: &Table, names: &[u8], out: &mut [u8]) -> Reply
     if !room_for(out.len(), rest, names.len(), table.bytes.len()) {
         return Err(Refusal::ShortList);
     }
-    let n = put_table(table, names, begin, out);
-    Ok((n as u64, 0))
+    let mut page = Out { page: out, at: 0 };
+    put_table(table, names, begin, &mut page);
+    Ok((page.at as u64, 0))
 }

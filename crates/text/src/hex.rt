@@ -20,13 +20,7 @@ impl Hex<'_> {
         requires { i < self.count }
         ensures { result ≡ get_or (hex_at self.entry.text.now self.entry.at) i 0 }
     {
-        let Hex {
-            text: s,
-            at,
-            count: _,
-        } = self;
-        let k = at + 2 * i;
-        16 * crate::hex_value(s[k]) + crate::hex_value(s[k + 1])
+        crate::hex_byte(self.text, self.at, i)
     }
 
     // Puts the bytes into `out` from `to` on, and answers where they end.

@@ -1,7 +1,7 @@
 // Text as bytes: decimal numbers without spare zeros, lowercase hexadecimal, literals.
 #![tactic(auto)]
 
-ghost use Rattle.std.specs.Prelude.{◌≡◌, ℕ, ◌+◌, ◌-◌, ◌/◌, ◌≤◌, ◌<◌, length, take, drop, true, MatchOption, MatchBool};
+ghost use Rattle.std.specs.Prelude.{◌≡◌, ℕ, ◌+◌, ◌-◌, ◌/◌, ◌≤◌, ◌<◌, length, take, drop, get_or, true, MatchOption, MatchBool};
 ghost use Rattle.text.specs.Text.{decimal, hex, hex_digit, Stops, scan, capped, read_decimal, read_literal, hex_digit_of, read_hex, read_field};
 ghost use Rattle.text.specs.Answer.{value_answer, literal_answer, hex_answer, hex_more, DigitAt};
 ghost use Rattle.text.specs.Format.{either};
@@ -10,6 +10,7 @@ ghost use Rattle.std.proofs.Math.Option.{none, some};
 ghost use Rattle.text.specs.Answer.{hex_at, HexParsed, HexDigit, HexDigits, HexRun};
 
 pub mod hex;
+pub mod out;
 
 use hex::Hex;
 
@@ -111,6 +112,7 @@ pub fn put_hex(out: &mut [u8], at: usize, bytes: &[u8]) -> usize
 }
 
 // Where a literal ends that stands in a text from `at` on.
+// Kept: what is read from a place on is told of the text from there, `drop at s`, and so is what is left; a cursor that held both would be built and taken apart at each step, and its contracts would say the same.
 pub fn expect(s: &[u8], at: usize, literal: &[u8]) -> Option<usize>
     requires { at ≤ length s.now }
     ensures { result ≡ literal_answer (length s.now) (read_literal literal.now (drop at s.now)) }
@@ -213,6 +215,16 @@ pub fn get_field(s: &[u8], at: usize, most: u64, end: u8) -> Option<(u64, usize)
     } else {
         None
     }
+}
+
+// Byte i of those that a text spells in hexadecimal from `at` on.
+pub fn hex_byte(s: &[u8], at: usize, i: usize) -> u8
+    requires hex_parsed { HexParsed s.now at }
+    requires i_in_bounds { i < length (hex_at s.now at) }
+    ensures { result ≡ get_or (hex_at s.now at) i 0 }
+{
+    let k = at + 2 * i;
+    16 * hex_value(s[k]) + hex_value(s[k + 1])
 }
 
 // Puts the `count` bytes that a text spells in hexadecimal from `at` on into `out` from `to` on, and answers where they end.

@@ -1,13 +1,7 @@
 -- `page_door::yexwalu_page_length` meets its contract.
-use Rattle.heap.specs.Lent.{lent}
-use Rattle.door.proofs.Entering.{entered, ask-refused, ask-ready}
+use Rattle.std.proofs.Common.{rules}
+use Rattle.door.proofs.Entering.{ask-through}
 use Rattle.page_door.proofs.yexwalu_page_length.Goals as goal
 
-pub measure-requires : goal.measure-requires
-measure-requires c = entered ((lent c.args.heap c.args.narrow.now c.args.wide.now c.args.pool.now)) c.enter.ensures c.in-Ok.is
-
-pub returns-in-Err : goal.returns-in-Err
-returns-in-Err c = ask-refused c.enter.ensures _ _ _ _ c.in-Err.is c.from.ensures
-
-pub returns-in-Ok : goal.returns-in-Ok
-returns-in-Ok c = ask-ready c.enter.ensures _ _ _ _ c.in-Ok.is c.measure.ensures c.from-in-Ok.ensures
+pub returns : goal.returns
+returns c = ask-through _ c.see.result c.and_then.result _ c.see.ensures.entered c.see.ensures.shows c.and_then.ensures _ _ _ (λ v p. search rules) c.from.ensures

@@ -1,34 +1,33 @@
-use Rattle.pages.proofs.Writing.{head-length, puts-head}
-use native.Mathlib.Omega.{arith}
+use mathlib.Core.List.{[], ◌∷◌, ◌++◌, append_assoc, append-nil}
 use mathlib.Core.Path.{◌∙◌}
+use Rattle.pages.specs.Columns.{field, head_fields}
+use Rattle.pages.proofs.Writing.{head-parts}
+use Rattle.text.proofs.Wrote.{writes-begin, writes-room, writes-more, writes-end}
 use Rattle.pages.proofs.put_fields.Goals as goal
 
-pub put_number-a-requires : goal.put_number-a-requires
-put_number-a-requires c = omega (arith, head-length c.args.h.tag c.args.h.since_gc c.args.h.reclaim_at c.args.h.live_bytes c.args.h.slots c.args.h.free c.args.h.quarantine c.args.h.sealed, c.requires)
+pub value-requires : goal.value-requires
+value-requires c = writes-room (field c.args.h.tag 44) ((field c.args.h.since_gc 44) ++ ((field c.args.h.reclaim_at 44) ++ ((field c.args.h.live_bytes 44) ++ ((field c.args.h.slots 44) ++ ((field c.args.h.free 44) ++ ((field c.args.h.quarantine 44) ++ ((field c.args.h.sealed 44) ++ []))))))) (writes-begin c.args.out.now (head_fields c.args.h.tag c.args.h.since_gc c.args.h.reclaim_at c.args.h.live_bytes c.args.h.slots c.args.h.free c.args.h.quarantine c.args.h.sealed) ((field c.args.h.tag 44) ++ ((field c.args.h.since_gc 44) ++ ((field c.args.h.reclaim_at 44) ++ ((field c.args.h.live_bytes 44) ++ ((field c.args.h.slots 44) ++ ((field c.args.h.free 44) ++ ((field c.args.h.quarantine 44) ++ ((field c.args.h.sealed 44) ++ [])))))))) ((simp (append_assoc, append-nil)) ∙ head-parts c.args.h.tag c.args.h.since_gc c.args.h.reclaim_at c.args.h.live_bytes c.args.h.slots c.args.h.free c.args.h.quarantine c.args.h.sealed) c.requires)
 
-pub put_number-b-requires : goal.put_number-b-requires
-put_number-b-requires c = omega (arith, head-length c.args.h.tag c.args.h.since_gc c.args.h.reclaim_at c.args.h.live_bytes c.args.h.slots c.args.h.free c.args.h.quarantine c.args.h.sealed, c.requires, c.put_number-a.ensures.next, c.put_number-a.auto.out)
+pub value-requires-2 : goal.value-requires-2
+value-requires-2 c = writes-room (field c.args.h.since_gc 44) ((field c.args.h.reclaim_at 44) ++ ((field c.args.h.live_bytes 44) ++ ((field c.args.h.slots 44) ++ ((field c.args.h.free 44) ++ ((field c.args.h.quarantine 44) ++ ((field c.args.h.sealed 44) ++ [])))))) (writes-more (field c.args.h.tag 44) ((field c.args.h.since_gc 44) ++ ((field c.args.h.reclaim_at 44) ++ ((field c.args.h.live_bytes 44) ++ ((field c.args.h.slots 44) ++ ((field c.args.h.free 44) ++ ((field c.args.h.quarantine 44) ++ ((field c.args.h.sealed 44) ++ []))))))) (writes-begin c.args.out.now (head_fields c.args.h.tag c.args.h.since_gc c.args.h.reclaim_at c.args.h.live_bytes c.args.h.slots c.args.h.free c.args.h.quarantine c.args.h.sealed) ((field c.args.h.tag 44) ++ ((field c.args.h.since_gc 44) ++ ((field c.args.h.reclaim_at 44) ++ ((field c.args.h.live_bytes 44) ++ ((field c.args.h.slots 44) ++ ((field c.args.h.free 44) ++ ((field c.args.h.quarantine 44) ++ ((field c.args.h.sealed 44) ++ [])))))))) ((simp (append_assoc, append-nil)) ∙ head-parts c.args.h.tag c.args.h.since_gc c.args.h.reclaim_at c.args.h.live_bytes c.args.h.slots c.args.h.free c.args.h.quarantine c.args.h.sealed) c.requires) c.value.ensures)
 
-pub put_number-c-requires : goal.put_number-c-requires
-put_number-c-requires c = omega (arith, head-length c.args.h.tag c.args.h.since_gc c.args.h.reclaim_at c.args.h.live_bytes c.args.h.slots c.args.h.free c.args.h.quarantine c.args.h.sealed, c.requires, c.put_number-a.ensures.next, c.put_number-a.auto.out, c.put_number-b.ensures.next, c.put_number-b.auto.out)
+pub value-requires-3 : goal.value-requires-3
+value-requires-3 c = writes-room (field c.args.h.reclaim_at 44) ((field c.args.h.live_bytes 44) ++ ((field c.args.h.slots 44) ++ ((field c.args.h.free 44) ++ ((field c.args.h.quarantine 44) ++ ((field c.args.h.sealed 44) ++ []))))) (writes-more (field c.args.h.since_gc 44) ((field c.args.h.reclaim_at 44) ++ ((field c.args.h.live_bytes 44) ++ ((field c.args.h.slots 44) ++ ((field c.args.h.free 44) ++ ((field c.args.h.quarantine 44) ++ ((field c.args.h.sealed 44) ++ [])))))) (writes-more (field c.args.h.tag 44) ((field c.args.h.since_gc 44) ++ ((field c.args.h.reclaim_at 44) ++ ((field c.args.h.live_bytes 44) ++ ((field c.args.h.slots 44) ++ ((field c.args.h.free 44) ++ ((field c.args.h.quarantine 44) ++ ((field c.args.h.sealed 44) ++ []))))))) (writes-begin c.args.out.now (head_fields c.args.h.tag c.args.h.since_gc c.args.h.reclaim_at c.args.h.live_bytes c.args.h.slots c.args.h.free c.args.h.quarantine c.args.h.sealed) ((field c.args.h.tag 44) ++ ((field c.args.h.since_gc 44) ++ ((field c.args.h.reclaim_at 44) ++ ((field c.args.h.live_bytes 44) ++ ((field c.args.h.slots 44) ++ ((field c.args.h.free 44) ++ ((field c.args.h.quarantine 44) ++ ((field c.args.h.sealed 44) ++ [])))))))) ((simp (append_assoc, append-nil)) ∙ head-parts c.args.h.tag c.args.h.since_gc c.args.h.reclaim_at c.args.h.live_bytes c.args.h.slots c.args.h.free c.args.h.quarantine c.args.h.sealed) c.requires) c.value.ensures) c.value-2.ensures)
 
-pub put_number-d-requires : goal.put_number-d-requires
-put_number-d-requires c = omega (arith, head-length c.args.h.tag c.args.h.since_gc c.args.h.reclaim_at c.args.h.live_bytes c.args.h.slots c.args.h.free c.args.h.quarantine c.args.h.sealed, c.requires, c.put_number-a.ensures.next, c.put_number-a.auto.out, c.put_number-b.ensures.next, c.put_number-b.auto.out, c.put_number-c.ensures.next, c.put_number-c.auto.out)
+pub value-requires-4 : goal.value-requires-4
+value-requires-4 c = writes-room (field c.args.h.live_bytes 44) ((field c.args.h.slots 44) ++ ((field c.args.h.free 44) ++ ((field c.args.h.quarantine 44) ++ ((field c.args.h.sealed 44) ++ [])))) (writes-more (field c.args.h.reclaim_at 44) ((field c.args.h.live_bytes 44) ++ ((field c.args.h.slots 44) ++ ((field c.args.h.free 44) ++ ((field c.args.h.quarantine 44) ++ ((field c.args.h.sealed 44) ++ []))))) (writes-more (field c.args.h.since_gc 44) ((field c.args.h.reclaim_at 44) ++ ((field c.args.h.live_bytes 44) ++ ((field c.args.h.slots 44) ++ ((field c.args.h.free 44) ++ ((field c.args.h.quarantine 44) ++ ((field c.args.h.sealed 44) ++ [])))))) (writes-more (field c.args.h.tag 44) ((field c.args.h.since_gc 44) ++ ((field c.args.h.reclaim_at 44) ++ ((field c.args.h.live_bytes 44) ++ ((field c.args.h.slots 44) ++ ((field c.args.h.free 44) ++ ((field c.args.h.quarantine 44) ++ ((field c.args.h.sealed 44) ++ []))))))) (writes-begin c.args.out.now (head_fields c.args.h.tag c.args.h.since_gc c.args.h.reclaim_at c.args.h.live_bytes c.args.h.slots c.args.h.free c.args.h.quarantine c.args.h.sealed) ((field c.args.h.tag 44) ++ ((field c.args.h.since_gc 44) ++ ((field c.args.h.reclaim_at 44) ++ ((field c.args.h.live_bytes 44) ++ ((field c.args.h.slots 44) ++ ((field c.args.h.free 44) ++ ((field c.args.h.quarantine 44) ++ ((field c.args.h.sealed 44) ++ [])))))))) ((simp (append_assoc, append-nil)) ∙ head-parts c.args.h.tag c.args.h.since_gc c.args.h.reclaim_at c.args.h.live_bytes c.args.h.slots c.args.h.free c.args.h.quarantine c.args.h.sealed) c.requires) c.value.ensures) c.value-2.ensures) c.value-3.ensures)
 
-pub put_number-e-requires : goal.put_number-e-requires
-put_number-e-requires c = omega (arith, head-length c.args.h.tag c.args.h.since_gc c.args.h.reclaim_at c.args.h.live_bytes c.args.h.slots c.args.h.free c.args.h.quarantine c.args.h.sealed, c.requires, c.put_number-a.ensures.next, c.put_number-a.auto.out, c.put_number-b.ensures.next, c.put_number-b.auto.out, c.put_number-c.ensures.next, c.put_number-c.auto.out, c.put_number-d.ensures.next, c.put_number-d.auto.out)
+pub value-requires-5 : goal.value-requires-5
+value-requires-5 c = writes-room (field c.args.h.slots 44) ((field c.args.h.free 44) ++ ((field c.args.h.quarantine 44) ++ ((field c.args.h.sealed 44) ++ []))) (writes-more (field c.args.h.live_bytes 44) ((field c.args.h.slots 44) ++ ((field c.args.h.free 44) ++ ((field c.args.h.quarantine 44) ++ ((field c.args.h.sealed 44) ++ [])))) (writes-more (field c.args.h.reclaim_at 44) ((field c.args.h.live_bytes 44) ++ ((field c.args.h.slots 44) ++ ((field c.args.h.free 44) ++ ((field c.args.h.quarantine 44) ++ ((field c.args.h.sealed 44) ++ []))))) (writes-more (field c.args.h.since_gc 44) ((field c.args.h.reclaim_at 44) ++ ((field c.args.h.live_bytes 44) ++ ((field c.args.h.slots 44) ++ ((field c.args.h.free 44) ++ ((field c.args.h.quarantine 44) ++ ((field c.args.h.sealed 44) ++ [])))))) (writes-more (field c.args.h.tag 44) ((field c.args.h.since_gc 44) ++ ((field c.args.h.reclaim_at 44) ++ ((field c.args.h.live_bytes 44) ++ ((field c.args.h.slots 44) ++ ((field c.args.h.free 44) ++ ((field c.args.h.quarantine 44) ++ ((field c.args.h.sealed 44) ++ []))))))) (writes-begin c.args.out.now (head_fields c.args.h.tag c.args.h.since_gc c.args.h.reclaim_at c.args.h.live_bytes c.args.h.slots c.args.h.free c.args.h.quarantine c.args.h.sealed) ((field c.args.h.tag 44) ++ ((field c.args.h.since_gc 44) ++ ((field c.args.h.reclaim_at 44) ++ ((field c.args.h.live_bytes 44) ++ ((field c.args.h.slots 44) ++ ((field c.args.h.free 44) ++ ((field c.args.h.quarantine 44) ++ ((field c.args.h.sealed 44) ++ [])))))))) ((simp (append_assoc, append-nil)) ∙ head-parts c.args.h.tag c.args.h.since_gc c.args.h.reclaim_at c.args.h.live_bytes c.args.h.slots c.args.h.free c.args.h.quarantine c.args.h.sealed) c.requires) c.value.ensures) c.value-2.ensures) c.value-3.ensures) c.value-4.ensures)
 
-pub put_number-f-requires : goal.put_number-f-requires
-put_number-f-requires c = omega (arith, head-length c.args.h.tag c.args.h.since_gc c.args.h.reclaim_at c.args.h.live_bytes c.args.h.slots c.args.h.free c.args.h.quarantine c.args.h.sealed, c.requires, c.put_number-a.ensures.next, c.put_number-a.auto.out, c.put_number-b.ensures.next, c.put_number-b.auto.out, c.put_number-c.ensures.next, c.put_number-c.auto.out, c.put_number-d.ensures.next, c.put_number-d.auto.out, c.put_number-e.ensures.next, c.put_number-e.auto.out)
+pub value-requires-6 : goal.value-requires-6
+value-requires-6 c = writes-room (field c.args.h.free 44) ((field c.args.h.quarantine 44) ++ ((field c.args.h.sealed 44) ++ [])) (writes-more (field c.args.h.slots 44) ((field c.args.h.free 44) ++ ((field c.args.h.quarantine 44) ++ ((field c.args.h.sealed 44) ++ []))) (writes-more (field c.args.h.live_bytes 44) ((field c.args.h.slots 44) ++ ((field c.args.h.free 44) ++ ((field c.args.h.quarantine 44) ++ ((field c.args.h.sealed 44) ++ [])))) (writes-more (field c.args.h.reclaim_at 44) ((field c.args.h.live_bytes 44) ++ ((field c.args.h.slots 44) ++ ((field c.args.h.free 44) ++ ((field c.args.h.quarantine 44) ++ ((field c.args.h.sealed 44) ++ []))))) (writes-more (field c.args.h.since_gc 44) ((field c.args.h.reclaim_at 44) ++ ((field c.args.h.live_bytes 44) ++ ((field c.args.h.slots 44) ++ ((field c.args.h.free 44) ++ ((field c.args.h.quarantine 44) ++ ((field c.args.h.sealed 44) ++ [])))))) (writes-more (field c.args.h.tag 44) ((field c.args.h.since_gc 44) ++ ((field c.args.h.reclaim_at 44) ++ ((field c.args.h.live_bytes 44) ++ ((field c.args.h.slots 44) ++ ((field c.args.h.free 44) ++ ((field c.args.h.quarantine 44) ++ ((field c.args.h.sealed 44) ++ []))))))) (writes-begin c.args.out.now (head_fields c.args.h.tag c.args.h.since_gc c.args.h.reclaim_at c.args.h.live_bytes c.args.h.slots c.args.h.free c.args.h.quarantine c.args.h.sealed) ((field c.args.h.tag 44) ++ ((field c.args.h.since_gc 44) ++ ((field c.args.h.reclaim_at 44) ++ ((field c.args.h.live_bytes 44) ++ ((field c.args.h.slots 44) ++ ((field c.args.h.free 44) ++ ((field c.args.h.quarantine 44) ++ ((field c.args.h.sealed 44) ++ [])))))))) ((simp (append_assoc, append-nil)) ∙ head-parts c.args.h.tag c.args.h.since_gc c.args.h.reclaim_at c.args.h.live_bytes c.args.h.slots c.args.h.free c.args.h.quarantine c.args.h.sealed) c.requires) c.value.ensures) c.value-2.ensures) c.value-3.ensures) c.value-4.ensures) c.value-5.ensures)
 
-pub put_number-g-requires : goal.put_number-g-requires
-put_number-g-requires c = omega (arith, head-length c.args.h.tag c.args.h.since_gc c.args.h.reclaim_at c.args.h.live_bytes c.args.h.slots c.args.h.free c.args.h.quarantine c.args.h.sealed, c.requires, c.put_number-a.ensures.next, c.put_number-a.auto.out, c.put_number-b.ensures.next, c.put_number-b.auto.out, c.put_number-c.ensures.next, c.put_number-c.auto.out, c.put_number-d.ensures.next, c.put_number-d.auto.out, c.put_number-e.ensures.next, c.put_number-e.auto.out, c.put_number-f.ensures.next, c.put_number-f.auto.out)
+pub value-requires-7 : goal.value-requires-7
+value-requires-7 c = writes-room (field c.args.h.quarantine 44) ((field c.args.h.sealed 44) ++ []) (writes-more (field c.args.h.free 44) ((field c.args.h.quarantine 44) ++ ((field c.args.h.sealed 44) ++ [])) (writes-more (field c.args.h.slots 44) ((field c.args.h.free 44) ++ ((field c.args.h.quarantine 44) ++ ((field c.args.h.sealed 44) ++ []))) (writes-more (field c.args.h.live_bytes 44) ((field c.args.h.slots 44) ++ ((field c.args.h.free 44) ++ ((field c.args.h.quarantine 44) ++ ((field c.args.h.sealed 44) ++ [])))) (writes-more (field c.args.h.reclaim_at 44) ((field c.args.h.live_bytes 44) ++ ((field c.args.h.slots 44) ++ ((field c.args.h.free 44) ++ ((field c.args.h.quarantine 44) ++ ((field c.args.h.sealed 44) ++ []))))) (writes-more (field c.args.h.since_gc 44) ((field c.args.h.reclaim_at 44) ++ ((field c.args.h.live_bytes 44) ++ ((field c.args.h.slots 44) ++ ((field c.args.h.free 44) ++ ((field c.args.h.quarantine 44) ++ ((field c.args.h.sealed 44) ++ [])))))) (writes-more (field c.args.h.tag 44) ((field c.args.h.since_gc 44) ++ ((field c.args.h.reclaim_at 44) ++ ((field c.args.h.live_bytes 44) ++ ((field c.args.h.slots 44) ++ ((field c.args.h.free 44) ++ ((field c.args.h.quarantine 44) ++ ((field c.args.h.sealed 44) ++ []))))))) (writes-begin c.args.out.now (head_fields c.args.h.tag c.args.h.since_gc c.args.h.reclaim_at c.args.h.live_bytes c.args.h.slots c.args.h.free c.args.h.quarantine c.args.h.sealed) ((field c.args.h.tag 44) ++ ((field c.args.h.since_gc 44) ++ ((field c.args.h.reclaim_at 44) ++ ((field c.args.h.live_bytes 44) ++ ((field c.args.h.slots 44) ++ ((field c.args.h.free 44) ++ ((field c.args.h.quarantine 44) ++ ((field c.args.h.sealed 44) ++ [])))))))) ((simp (append_assoc, append-nil)) ∙ head-parts c.args.h.tag c.args.h.since_gc c.args.h.reclaim_at c.args.h.live_bytes c.args.h.slots c.args.h.free c.args.h.quarantine c.args.h.sealed) c.requires) c.value.ensures) c.value-2.ensures) c.value-3.ensures) c.value-4.ensures) c.value-5.ensures) c.value-6.ensures)
 
-pub put_number-requires : goal.put_number-requires
-put_number-requires c = omega (arith, head-length c.args.h.tag c.args.h.since_gc c.args.h.reclaim_at c.args.h.live_bytes c.args.h.slots c.args.h.free c.args.h.quarantine c.args.h.sealed, c.requires, c.put_number-a.ensures.next, c.put_number-a.auto.out, c.put_number-b.ensures.next, c.put_number-b.auto.out, c.put_number-c.ensures.next, c.put_number-c.auto.out, c.put_number-d.ensures.next, c.put_number-d.auto.out, c.put_number-e.ensures.next, c.put_number-e.auto.out, c.put_number-f.ensures.next, c.put_number-f.auto.out, c.put_number-g.ensures.next, c.put_number-g.auto.out)
-
-pub shape_of-out : goal.shape_of-out
-shape_of-out c = c.put_number.auto.out ∙ c.put_number-g.auto.out ∙ c.put_number-f.auto.out ∙ c.put_number-e.auto.out ∙ c.put_number-d.auto.out ∙ c.put_number-c.auto.out ∙ c.put_number-b.auto.out ∙ c.put_number-a.auto.out
+pub value-requires-8 : goal.value-requires-8
+value-requires-8 c = writes-room (field c.args.h.sealed 44) [] (writes-more (field c.args.h.quarantine 44) ((field c.args.h.sealed 44) ++ []) (writes-more (field c.args.h.free 44) ((field c.args.h.quarantine 44) ++ ((field c.args.h.sealed 44) ++ [])) (writes-more (field c.args.h.slots 44) ((field c.args.h.free 44) ++ ((field c.args.h.quarantine 44) ++ ((field c.args.h.sealed 44) ++ []))) (writes-more (field c.args.h.live_bytes 44) ((field c.args.h.slots 44) ++ ((field c.args.h.free 44) ++ ((field c.args.h.quarantine 44) ++ ((field c.args.h.sealed 44) ++ [])))) (writes-more (field c.args.h.reclaim_at 44) ((field c.args.h.live_bytes 44) ++ ((field c.args.h.slots 44) ++ ((field c.args.h.free 44) ++ ((field c.args.h.quarantine 44) ++ ((field c.args.h.sealed 44) ++ []))))) (writes-more (field c.args.h.since_gc 44) ((field c.args.h.reclaim_at 44) ++ ((field c.args.h.live_bytes 44) ++ ((field c.args.h.slots 44) ++ ((field c.args.h.free 44) ++ ((field c.args.h.quarantine 44) ++ ((field c.args.h.sealed 44) ++ [])))))) (writes-more (field c.args.h.tag 44) ((field c.args.h.since_gc 44) ++ ((field c.args.h.reclaim_at 44) ++ ((field c.args.h.live_bytes 44) ++ ((field c.args.h.slots 44) ++ ((field c.args.h.free 44) ++ ((field c.args.h.quarantine 44) ++ ((field c.args.h.sealed 44) ++ []))))))) (writes-begin c.args.out.now (head_fields c.args.h.tag c.args.h.since_gc c.args.h.reclaim_at c.args.h.live_bytes c.args.h.slots c.args.h.free c.args.h.quarantine c.args.h.sealed) ((field c.args.h.tag 44) ++ ((field c.args.h.since_gc 44) ++ ((field c.args.h.reclaim_at 44) ++ ((field c.args.h.live_bytes 44) ++ ((field c.args.h.slots 44) ++ ((field c.args.h.free 44) ++ ((field c.args.h.quarantine 44) ++ ((field c.args.h.sealed 44) ++ [])))))))) ((simp (append_assoc, append-nil)) ∙ head-parts c.args.h.tag c.args.h.since_gc c.args.h.reclaim_at c.args.h.live_bytes c.args.h.slots c.args.h.free c.args.h.quarantine c.args.h.sealed) c.requires) c.value.ensures) c.value-2.ensures) c.value-3.ensures) c.value-4.ensures) c.value-5.ensures) c.value-6.ensures) c.value-7.ensures)
 
 pub returns : goal.returns
-returns c = puts-head c.args.h.tag c.args.h.since_gc c.args.h.reclaim_at c.args.h.live_bytes c.args.h.slots c.args.h.free c.args.h.quarantine c.args.h.sealed c.put_number-a.ensures c.put_number-b.ensures c.put_number-c.ensures c.put_number-d.ensures c.put_number-e.ensures c.put_number-f.ensures c.put_number-g.ensures c.put_number.ensures (omega (arith, c.requires))
+returns c = writes-end [] (head_fields c.args.h.tag c.args.h.since_gc c.args.h.reclaim_at c.args.h.live_bytes c.args.h.slots c.args.h.free c.args.h.quarantine c.args.h.sealed) (writes-more (field c.args.h.sealed 44) [] (writes-more (field c.args.h.quarantine 44) ((field c.args.h.sealed 44) ++ []) (writes-more (field c.args.h.free 44) ((field c.args.h.quarantine 44) ++ ((field c.args.h.sealed 44) ++ [])) (writes-more (field c.args.h.slots 44) ((field c.args.h.free 44) ++ ((field c.args.h.quarantine 44) ++ ((field c.args.h.sealed 44) ++ []))) (writes-more (field c.args.h.live_bytes 44) ((field c.args.h.slots 44) ++ ((field c.args.h.free 44) ++ ((field c.args.h.quarantine 44) ++ ((field c.args.h.sealed 44) ++ [])))) (writes-more (field c.args.h.reclaim_at 44) ((field c.args.h.live_bytes 44) ++ ((field c.args.h.slots 44) ++ ((field c.args.h.free 44) ++ ((field c.args.h.quarantine 44) ++ ((field c.args.h.sealed 44) ++ []))))) (writes-more (field c.args.h.since_gc 44) ((field c.args.h.reclaim_at 44) ++ ((field c.args.h.live_bytes 44) ++ ((field c.args.h.slots 44) ++ ((field c.args.h.free 44) ++ ((field c.args.h.quarantine 44) ++ ((field c.args.h.sealed 44) ++ [])))))) (writes-more (field c.args.h.tag 44) ((field c.args.h.since_gc 44) ++ ((field c.args.h.reclaim_at 44) ++ ((field c.args.h.live_bytes 44) ++ ((field c.args.h.slots 44) ++ ((field c.args.h.free 44) ++ ((field c.args.h.quarantine 44) ++ ((field c.args.h.sealed 44) ++ []))))))) (writes-begin c.args.out.now (head_fields c.args.h.tag c.args.h.since_gc c.args.h.reclaim_at c.args.h.live_bytes c.args.h.slots c.args.h.free c.args.h.quarantine c.args.h.sealed) ((field c.args.h.tag 44) ++ ((field c.args.h.since_gc 44) ++ ((field c.args.h.reclaim_at 44) ++ ((field c.args.h.live_bytes 44) ++ ((field c.args.h.slots 44) ++ ((field c.args.h.free 44) ++ ((field c.args.h.quarantine 44) ++ ((field c.args.h.sealed 44) ++ [])))))))) ((simp (append_assoc, append-nil)) ∙ head-parts c.args.h.tag c.args.h.since_gc c.args.h.reclaim_at c.args.h.live_bytes c.args.h.slots c.args.h.free c.args.h.quarantine c.args.h.sealed) c.requires) c.value.ensures) c.value-2.ensures) c.value-3.ensures) c.value-4.ensures) c.value-5.ensures) c.value-6.ensures) c.value-7.ensures) c.value-8.ensures) (head-parts c.args.h.tag c.args.h.since_gc c.args.h.reclaim_at c.args.h.live_bytes c.args.h.slots c.args.h.free c.args.h.quarantine c.args.h.sealed)

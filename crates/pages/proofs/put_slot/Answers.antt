@@ -1,35 +1,34 @@
-use Rattle.pages.proofs.Writing.{column-hex, slot-length, puts-slot}
-use lib.ListN.{length-set}
-use native.Mathlib.Omega.{arith}
+use mathlib.Core.List.{[], ◌∷◌, ◌++◌, append_assoc, append-nil}
 use mathlib.Core.Path.{◌∙◌}
+use native.Mathlib.Omega.{arith}
+use Rattle.text.specs.Text.{hex}
+use Rattle.pages.specs.Form.{column}
+use Rattle.pages.specs.Page.{slot_line}
+use Rattle.pages.specs.Columns.{slot, field}
+use Rattle.pages.proofs.Writing.{column-hex, slot-parts}
+use Rattle.text.proofs.Wrote.{writes-begin, writes-room, writes-more, writes-end}
 use Rattle.pages.proofs.put_slot.Goals as goal
 
-pub put_number-a-requires : goal.put_number-a-requires
-put_number-a-requires c = omega (arith, slot-length c.args.planar c.args.generation c.args.kind c.args.ty c.args.start c.args.writes c.args.bytes.now, c.requires)
+pub value-requires : goal.value-requires
+value-requires c = writes-room (field c.args.x.generation 44) ((field c.args.x.kind 44) ++ ((field c.args.x.ty 44) ++ ((field c.args.x.start 44) ++ ((field c.args.x.writes 44) ++ ((hex (column c.args.planar c.args.x.bytes.now)) ++ ((10 ∷ []) ++ [])))))) (writes-begin c.args.out.now (slot_line c.args.planar (slot c.args.x.generation c.args.x.kind c.args.x.ty c.args.x.start c.args.x.writes c.args.x.bytes.now)) ((field c.args.x.generation 44) ++ ((field c.args.x.kind 44) ++ ((field c.args.x.ty 44) ++ ((field c.args.x.start 44) ++ ((field c.args.x.writes 44) ++ ((hex (column c.args.planar c.args.x.bytes.now)) ++ ((10 ∷ []) ++ []))))))) ((simp (append_assoc, append-nil)) ∙ slot-parts c.args.planar c.args.x.generation c.args.x.kind c.args.x.ty c.args.x.start c.args.x.writes c.args.x.bytes.now) c.requires)
 
-pub put_number-b-requires : goal.put_number-b-requires
-put_number-b-requires c = omega (arith, slot-length c.args.planar c.args.generation c.args.kind c.args.ty c.args.start c.args.writes c.args.bytes.now, c.requires, c.put_number-a.ensures.next, c.put_number-a.auto.out)
+pub value-requires-2 : goal.value-requires-2
+value-requires-2 c = writes-room (field c.args.x.kind 44) ((field c.args.x.ty 44) ++ ((field c.args.x.start 44) ++ ((field c.args.x.writes 44) ++ ((hex (column c.args.planar c.args.x.bytes.now)) ++ ((10 ∷ []) ++ []))))) (writes-more (field c.args.x.generation 44) ((field c.args.x.kind 44) ++ ((field c.args.x.ty 44) ++ ((field c.args.x.start 44) ++ ((field c.args.x.writes 44) ++ ((hex (column c.args.planar c.args.x.bytes.now)) ++ ((10 ∷ []) ++ [])))))) (writes-begin c.args.out.now (slot_line c.args.planar (slot c.args.x.generation c.args.x.kind c.args.x.ty c.args.x.start c.args.x.writes c.args.x.bytes.now)) ((field c.args.x.generation 44) ++ ((field c.args.x.kind 44) ++ ((field c.args.x.ty 44) ++ ((field c.args.x.start 44) ++ ((field c.args.x.writes 44) ++ ((hex (column c.args.planar c.args.x.bytes.now)) ++ ((10 ∷ []) ++ []))))))) ((simp (append_assoc, append-nil)) ∙ slot-parts c.args.planar c.args.x.generation c.args.x.kind c.args.x.ty c.args.x.start c.args.x.writes c.args.x.bytes.now) c.requires) c.value.ensures)
 
-pub put_number-c-requires : goal.put_number-c-requires
-put_number-c-requires c = omega (arith, slot-length c.args.planar c.args.generation c.args.kind c.args.ty c.args.start c.args.writes c.args.bytes.now, c.requires, c.put_number-a.ensures.next, c.put_number-a.auto.out, c.put_number-b.ensures.next, c.put_number-b.auto.out)
+pub value-requires-3 : goal.value-requires-3
+value-requires-3 c = writes-room (field c.args.x.ty 44) ((field c.args.x.start 44) ++ ((field c.args.x.writes 44) ++ ((hex (column c.args.planar c.args.x.bytes.now)) ++ ((10 ∷ []) ++ [])))) (writes-more (field c.args.x.kind 44) ((field c.args.x.ty 44) ++ ((field c.args.x.start 44) ++ ((field c.args.x.writes 44) ++ ((hex (column c.args.planar c.args.x.bytes.now)) ++ ((10 ∷ []) ++ []))))) (writes-more (field c.args.x.generation 44) ((field c.args.x.kind 44) ++ ((field c.args.x.ty 44) ++ ((field c.args.x.start 44) ++ ((field c.args.x.writes 44) ++ ((hex (column c.args.planar c.args.x.bytes.now)) ++ ((10 ∷ []) ++ [])))))) (writes-begin c.args.out.now (slot_line c.args.planar (slot c.args.x.generation c.args.x.kind c.args.x.ty c.args.x.start c.args.x.writes c.args.x.bytes.now)) ((field c.args.x.generation 44) ++ ((field c.args.x.kind 44) ++ ((field c.args.x.ty 44) ++ ((field c.args.x.start 44) ++ ((field c.args.x.writes 44) ++ ((hex (column c.args.planar c.args.x.bytes.now)) ++ ((10 ∷ []) ++ []))))))) ((simp (append_assoc, append-nil)) ∙ slot-parts c.args.planar c.args.x.generation c.args.x.kind c.args.x.ty c.args.x.start c.args.x.writes c.args.x.bytes.now) c.requires) c.value.ensures) c.value-2.ensures)
 
-pub put_number-d-requires : goal.put_number-d-requires
-put_number-d-requires c = omega (arith, slot-length c.args.planar c.args.generation c.args.kind c.args.ty c.args.start c.args.writes c.args.bytes.now, c.requires, c.put_number-a.ensures.next, c.put_number-a.auto.out, c.put_number-b.ensures.next, c.put_number-b.auto.out, c.put_number-c.ensures.next, c.put_number-c.auto.out)
+pub value-requires-4 : goal.value-requires-4
+value-requires-4 c = writes-room (field c.args.x.start 44) ((field c.args.x.writes 44) ++ ((hex (column c.args.planar c.args.x.bytes.now)) ++ ((10 ∷ []) ++ []))) (writes-more (field c.args.x.ty 44) ((field c.args.x.start 44) ++ ((field c.args.x.writes 44) ++ ((hex (column c.args.planar c.args.x.bytes.now)) ++ ((10 ∷ []) ++ [])))) (writes-more (field c.args.x.kind 44) ((field c.args.x.ty 44) ++ ((field c.args.x.start 44) ++ ((field c.args.x.writes 44) ++ ((hex (column c.args.planar c.args.x.bytes.now)) ++ ((10 ∷ []) ++ []))))) (writes-more (field c.args.x.generation 44) ((field c.args.x.kind 44) ++ ((field c.args.x.ty 44) ++ ((field c.args.x.start 44) ++ ((field c.args.x.writes 44) ++ ((hex (column c.args.planar c.args.x.bytes.now)) ++ ((10 ∷ []) ++ [])))))) (writes-begin c.args.out.now (slot_line c.args.planar (slot c.args.x.generation c.args.x.kind c.args.x.ty c.args.x.start c.args.x.writes c.args.x.bytes.now)) ((field c.args.x.generation 44) ++ ((field c.args.x.kind 44) ++ ((field c.args.x.ty 44) ++ ((field c.args.x.start 44) ++ ((field c.args.x.writes 44) ++ ((hex (column c.args.planar c.args.x.bytes.now)) ++ ((10 ∷ []) ++ []))))))) ((simp (append_assoc, append-nil)) ∙ slot-parts c.args.planar c.args.x.generation c.args.x.kind c.args.x.ty c.args.x.start c.args.x.writes c.args.x.bytes.now) c.requires) c.value.ensures) c.value-2.ensures) c.value-3.ensures)
 
-pub put_number-e-requires : goal.put_number-e-requires
-put_number-e-requires c = omega (arith, slot-length c.args.planar c.args.generation c.args.kind c.args.ty c.args.start c.args.writes c.args.bytes.now, c.requires, c.put_number-a.ensures.next, c.put_number-a.auto.out, c.put_number-b.ensures.next, c.put_number-b.auto.out, c.put_number-c.ensures.next, c.put_number-c.auto.out, c.put_number-d.ensures.next, c.put_number-d.auto.out)
+pub value-requires-5 : goal.value-requires-5
+value-requires-5 c = writes-room (field c.args.x.writes 44) ((hex (column c.args.planar c.args.x.bytes.now)) ++ ((10 ∷ []) ++ [])) (writes-more (field c.args.x.start 44) ((field c.args.x.writes 44) ++ ((hex (column c.args.planar c.args.x.bytes.now)) ++ ((10 ∷ []) ++ []))) (writes-more (field c.args.x.ty 44) ((field c.args.x.start 44) ++ ((field c.args.x.writes 44) ++ ((hex (column c.args.planar c.args.x.bytes.now)) ++ ((10 ∷ []) ++ [])))) (writes-more (field c.args.x.kind 44) ((field c.args.x.ty 44) ++ ((field c.args.x.start 44) ++ ((field c.args.x.writes 44) ++ ((hex (column c.args.planar c.args.x.bytes.now)) ++ ((10 ∷ []) ++ []))))) (writes-more (field c.args.x.generation 44) ((field c.args.x.kind 44) ++ ((field c.args.x.ty 44) ++ ((field c.args.x.start 44) ++ ((field c.args.x.writes 44) ++ ((hex (column c.args.planar c.args.x.bytes.now)) ++ ((10 ∷ []) ++ [])))))) (writes-begin c.args.out.now (slot_line c.args.planar (slot c.args.x.generation c.args.x.kind c.args.x.ty c.args.x.start c.args.x.writes c.args.x.bytes.now)) ((field c.args.x.generation 44) ++ ((field c.args.x.kind 44) ++ ((field c.args.x.ty 44) ++ ((field c.args.x.start 44) ++ ((field c.args.x.writes 44) ++ ((hex (column c.args.planar c.args.x.bytes.now)) ++ ((10 ∷ []) ++ []))))))) ((simp (append_assoc, append-nil)) ∙ slot-parts c.args.planar c.args.x.generation c.args.x.kind c.args.x.ty c.args.x.start c.args.x.writes c.args.x.bytes.now) c.requires) c.value.ensures) c.value-2.ensures) c.value-3.ensures) c.value-4.ensures)
 
-pub put_column-f-requires : goal.put_column-f-requires
-put_column-f-requires c = omega (arith, column-hex c.args.planar c.args.bytes.now, slot-length c.args.planar c.args.generation c.args.kind c.args.ty c.args.start c.args.writes c.args.bytes.now, c.requires, c.put_number-a.ensures.next, c.put_number-a.auto.out, c.put_number-b.ensures.next, c.put_number-b.auto.out, c.put_number-c.ensures.next, c.put_number-c.auto.out, c.put_number-d.ensures.next, c.put_number-d.auto.out, c.put_number-e.ensures.next, c.put_number-e.auto.out)
+pub put_column-requires : goal.put_column-requires
+put_column-requires c = omega (arith, column-hex c.args.planar c.args.x.bytes.now, writes-room (hex (column c.args.planar c.args.x.bytes.now)) ((10 ∷ []) ++ []) (writes-more (field c.args.x.writes 44) ((hex (column c.args.planar c.args.x.bytes.now)) ++ ((10 ∷ []) ++ [])) (writes-more (field c.args.x.start 44) ((field c.args.x.writes 44) ++ ((hex (column c.args.planar c.args.x.bytes.now)) ++ ((10 ∷ []) ++ []))) (writes-more (field c.args.x.ty 44) ((field c.args.x.start 44) ++ ((field c.args.x.writes 44) ++ ((hex (column c.args.planar c.args.x.bytes.now)) ++ ((10 ∷ []) ++ [])))) (writes-more (field c.args.x.kind 44) ((field c.args.x.ty 44) ++ ((field c.args.x.start 44) ++ ((field c.args.x.writes 44) ++ ((hex (column c.args.planar c.args.x.bytes.now)) ++ ((10 ∷ []) ++ []))))) (writes-more (field c.args.x.generation 44) ((field c.args.x.kind 44) ++ ((field c.args.x.ty 44) ++ ((field c.args.x.start 44) ++ ((field c.args.x.writes 44) ++ ((hex (column c.args.planar c.args.x.bytes.now)) ++ ((10 ∷ []) ++ [])))))) (writes-begin c.args.out.now (slot_line c.args.planar (slot c.args.x.generation c.args.x.kind c.args.x.ty c.args.x.start c.args.x.writes c.args.x.bytes.now)) ((field c.args.x.generation 44) ++ ((field c.args.x.kind 44) ++ ((field c.args.x.ty 44) ++ ((field c.args.x.start 44) ++ ((field c.args.x.writes 44) ++ ((hex (column c.args.planar c.args.x.bytes.now)) ++ ((10 ∷ []) ++ []))))))) ((simp (append_assoc, append-nil)) ∙ slot-parts c.args.planar c.args.x.generation c.args.x.kind c.args.x.ty c.args.x.start c.args.x.writes c.args.x.bytes.now) c.requires) c.value.ensures) c.value-2.ensures) c.value-3.ensures) c.value-4.ensures) c.value-5.ensures))
 
-pub bounds-out-f : goal.bounds-out-f
-bounds-out-f c = omega (arith, slot-length c.args.planar c.args.generation c.args.kind c.args.ty c.args.start c.args.writes c.args.bytes.now, c.requires, c.put_number-a.ensures.next, c.put_number-a.auto.out, c.put_number-b.ensures.next, c.put_number-b.auto.out, c.put_number-c.ensures.next, c.put_number-c.auto.out, c.put_number-d.ensures.next, c.put_number-d.auto.out, c.put_number-e.ensures.next, c.put_number-e.auto.out, c.put_column-f.ensures.next, c.put_column-f.auto.out)
-
-pub overflow_add-result : goal.overflow_add-result
-overflow_add-result c = omega (arith, slot-length c.args.planar c.args.generation c.args.kind c.args.ty c.args.start c.args.writes c.args.bytes.now, c.requires, c.put_number-a.ensures.next, c.put_number-a.auto.out, c.put_number-b.ensures.next, c.put_number-b.auto.out, c.put_number-c.ensures.next, c.put_number-c.auto.out, c.put_number-d.ensures.next, c.put_number-d.auto.out, c.put_number-e.ensures.next, c.put_number-e.auto.out, c.put_column-f.ensures.next, c.put_column-f.auto.out)
-
-pub shape_of-out : goal.shape_of-out
-shape_of-out c = simp length-set (c.put_column-f.auto.out ∙ c.put_number-e.auto.out ∙ c.put_number-d.auto.out ∙ c.put_number-c.auto.out ∙ c.put_number-b.auto.out ∙ c.put_number-a.auto.out)
+pub byte-requires : goal.byte-requires
+byte-requires c = writes-room (10 ∷ []) [] (writes-more (hex (column c.args.planar c.args.x.bytes.now)) ((10 ∷ []) ++ []) (writes-more (field c.args.x.writes 44) ((hex (column c.args.planar c.args.x.bytes.now)) ++ ((10 ∷ []) ++ [])) (writes-more (field c.args.x.start 44) ((field c.args.x.writes 44) ++ ((hex (column c.args.planar c.args.x.bytes.now)) ++ ((10 ∷ []) ++ []))) (writes-more (field c.args.x.ty 44) ((field c.args.x.start 44) ++ ((field c.args.x.writes 44) ++ ((hex (column c.args.planar c.args.x.bytes.now)) ++ ((10 ∷ []) ++ [])))) (writes-more (field c.args.x.kind 44) ((field c.args.x.ty 44) ++ ((field c.args.x.start 44) ++ ((field c.args.x.writes 44) ++ ((hex (column c.args.planar c.args.x.bytes.now)) ++ ((10 ∷ []) ++ []))))) (writes-more (field c.args.x.generation 44) ((field c.args.x.kind 44) ++ ((field c.args.x.ty 44) ++ ((field c.args.x.start 44) ++ ((field c.args.x.writes 44) ++ ((hex (column c.args.planar c.args.x.bytes.now)) ++ ((10 ∷ []) ++ [])))))) (writes-begin c.args.out.now (slot_line c.args.planar (slot c.args.x.generation c.args.x.kind c.args.x.ty c.args.x.start c.args.x.writes c.args.x.bytes.now)) ((field c.args.x.generation 44) ++ ((field c.args.x.kind 44) ++ ((field c.args.x.ty 44) ++ ((field c.args.x.start 44) ++ ((field c.args.x.writes 44) ++ ((hex (column c.args.planar c.args.x.bytes.now)) ++ ((10 ∷ []) ++ []))))))) ((simp (append_assoc, append-nil)) ∙ slot-parts c.args.planar c.args.x.generation c.args.x.kind c.args.x.ty c.args.x.start c.args.x.writes c.args.x.bytes.now) c.requires) c.value.ensures) c.value-2.ensures) c.value-3.ensures) c.value-4.ensures) c.value-5.ensures) c.put_column.ensures)
 
 pub returns : goal.returns
-returns c = puts-slot c.args.planar c.args.generation c.args.kind c.args.ty c.args.start c.args.writes c.args.bytes.now c.put_number-a.ensures c.put_number-b.ensures c.put_number-c.ensures c.put_number-d.ensures c.put_number-e.ensures c.put_column-f.ensures (omega (arith, slot-length c.args.planar c.args.generation c.args.kind c.args.ty c.args.start c.args.writes c.args.bytes.now, c.requires)) (omega (arith, slot-length c.args.planar c.args.generation c.args.kind c.args.ty c.args.start c.args.writes c.args.bytes.now, c.requires, c.put_number-a.ensures.next, c.put_number-a.auto.out, c.put_number-b.ensures.next, c.put_number-b.auto.out, c.put_number-c.ensures.next, c.put_number-c.auto.out, c.put_number-d.ensures.next, c.put_number-d.auto.out, c.put_number-e.ensures.next, c.put_number-e.auto.out, c.put_column-f.ensures.next, c.put_column-f.auto.out))
+returns c = writes-end [] (slot_line c.args.planar (slot c.args.x.generation c.args.x.kind c.args.x.ty c.args.x.start c.args.x.writes c.args.x.bytes.now)) (writes-more (10 ∷ []) [] (writes-more (hex (column c.args.planar c.args.x.bytes.now)) ((10 ∷ []) ++ []) (writes-more (field c.args.x.writes 44) ((hex (column c.args.planar c.args.x.bytes.now)) ++ ((10 ∷ []) ++ [])) (writes-more (field c.args.x.start 44) ((field c.args.x.writes 44) ++ ((hex (column c.args.planar c.args.x.bytes.now)) ++ ((10 ∷ []) ++ []))) (writes-more (field c.args.x.ty 44) ((field c.args.x.start 44) ++ ((field c.args.x.writes 44) ++ ((hex (column c.args.planar c.args.x.bytes.now)) ++ ((10 ∷ []) ++ [])))) (writes-more (field c.args.x.kind 44) ((field c.args.x.ty 44) ++ ((field c.args.x.start 44) ++ ((field c.args.x.writes 44) ++ ((hex (column c.args.planar c.args.x.bytes.now)) ++ ((10 ∷ []) ++ []))))) (writes-more (field c.args.x.generation 44) ((field c.args.x.kind 44) ++ ((field c.args.x.ty 44) ++ ((field c.args.x.start 44) ++ ((field c.args.x.writes 44) ++ ((hex (column c.args.planar c.args.x.bytes.now)) ++ ((10 ∷ []) ++ [])))))) (writes-begin c.args.out.now (slot_line c.args.planar (slot c.args.x.generation c.args.x.kind c.args.x.ty c.args.x.start c.args.x.writes c.args.x.bytes.now)) ((field c.args.x.generation 44) ++ ((field c.args.x.kind 44) ++ ((field c.args.x.ty 44) ++ ((field c.args.x.start 44) ++ ((field c.args.x.writes 44) ++ ((hex (column c.args.planar c.args.x.bytes.now)) ++ ((10 ∷ []) ++ []))))))) ((simp (append_assoc, append-nil)) ∙ slot-parts c.args.planar c.args.x.generation c.args.x.kind c.args.x.ty c.args.x.start c.args.x.writes c.args.x.bytes.now) c.requires) c.value.ensures) c.value-2.ensures) c.value-3.ensures) c.value-4.ensures) c.value-5.ensures) c.put_column.ensures) c.byte.ensures) (slot-parts c.args.planar c.args.x.generation c.args.x.kind c.args.x.ty c.args.x.start c.args.x.writes c.args.x.bytes.now)

@@ -7,18 +7,18 @@ use Rattle.text.proofs.Putting.{puts-at}
 use Rattle.pages.specs.Form.{written, slot_front, wide_writes, planes_name, data_name, slot_names}
 use Rattle.pages.proofs.put_slot_names.Goals as goal
 
-pub put_literal-requires : goal.put_literal-requires
+pub literal-requires : goal.literal-requires
 unfolding slot_names slot_front wide_writes planes_name data_name ascii
-put_literal-requires c = omega (arith, c.requires, ap (λ (p : Bool). length (slot_names (written p))) c.if-planar.true)
+literal-requires c = omega (arith, c.requires, ap (λ (p : Bool). length (slot_names (written p))) c.if-planar.true)
 
 pub returns-then-planar : goal.returns-then-planar
 unfolding slot_names slot_front wide_writes planes_name data_name ascii
-returns-then-planar c = puts-at c.put_literal.ensures refl (ap (λ (p : Bool). slot_names (written p)) (sym c.if-planar.true))
+returns-then-planar c = record { loan = c.literal.ensures.loan; puts = puts-at c.literal.ensures.puts refl (ap (λ (p : Bool). slot_names (written p)) (sym c.if-planar.true)) }
 
-pub put_literal-requires-2 : goal.put_literal-requires-2
+pub literal-requires-2 : goal.literal-requires-2
 unfolding slot_names slot_front wide_writes planes_name data_name ascii
-put_literal-requires-2 c = omega (arith, c.requires, ap (λ (p : Bool). length (slot_names (written p))) c.if-planar.false)
+literal-requires-2 c = omega (arith, c.requires, ap (λ (p : Bool). length (slot_names (written p))) c.if-planar.false)
 
 pub returns : goal.returns
 unfolding slot_names slot_front wide_writes planes_name data_name ascii
-returns c = puts-at c.put_literal-2.ensures refl (ap (λ (p : Bool). slot_names (written p)) (sym c.if-planar.false))
+returns c = record { loan = c.literal-2.ensures.loan; puts = puts-at c.literal-2.ensures.puts refl (ap (λ (p : Bool). slot_names (written p)) (sym c.if-planar.false)) }

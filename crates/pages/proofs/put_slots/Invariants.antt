@@ -1,6 +1,7 @@
-use Rattle.heap.specs.Lent.{lent}
+use Rattle.heap.specs.Seen.{seen}
 use Rattle.pages.proofs.Slots.{Putting}
+use mathlib.Core.Path.{◌≡◌}
 use Rattle.pages.proofs.put_slots.Given as goal
 
 abbrev pub invariant-loop-i : goal.invariant-loop-i
-invariant-loop-i l = Putting l.planar (lent l.fn.heap l.narrow l.wide l.pool) l.initial.out l.out l.at l.k l.from l.i
+invariant-loop-i l = Putting l.planar (seen l.fn.view) l.initial.out.page.now l.out.page.now l.initial.out.at l.out.at l.from l.i × (l.out.page.ghost_name ≡ l.initial.out.page.ghost_name)

@@ -7,4 +7,7 @@ use Prim.Native.Nat.{◌≤◌}
 use Rattle.pages.proofs.put_values.Given as goal
 
 abbrev pub invariant-loop-i : goal.invariant-loop-i
-invariant-loop-i g l = (l.i ≤ l.count) × (length l.out ≡ length l.initial.out) × Puts l.initial.out l.out l.at l.k (flat_map (λ x. value_line (g.T.Listed.number x)) (take l.i l.list))
+invariant-loop-i g l =
+    (l.i ≤ l.count) × (length l.out.page.now ≡ length l.initial.out.page.now)
+    × Puts l.initial.out.page.now l.out.page.now l.initial.out.at l.out.at (flat_map (λ x. value_line (g.T.Listed.number x)) (take l.i l.list))
+    × (l.out.page.ghost_name ≡ l.initial.out.page.ghost_name)

@@ -6,16 +6,16 @@ use Rattle.table_check.proofs.Lining.{numbering-begin, numbering-lost, numbering
 use Rattle.table_check.proofs.get_numbers.Goals as goal
 
 pub loop-i-init : goal.loop-i-init
-loop-i-init g c = numbering-begin _ _ _ _ _ _ c.requires.0 (omega (arith, c.requires.1, numbers-length g.T.Listed.number g.T.Listed.numbers g.met.T.Listed.mapped c.args.out.now))
+loop-i-init g c = numbering-begin _ _ _ _ _ _ c.requires.in_bounds.0 (omega (arith, c.requires.in_bounds.1, numbers-length g.T.Listed.number g.T.Listed.numbers g.met.T.Listed.mapped c.args.out.now))
 
 pub shape_of-out-in_err-v : goal.shape_of-out-in_err-v
 shape_of-out-in_err-v g c = sym (numbers-length g.T.Listed.number g.T.Listed.numbers g.met.T.Listed.mapped c.loop-i.out) ∙ c.loop-i.invariant.same ∙ numbers-length g.T.Listed.number g.T.Listed.numbers g.met.T.Listed.mapped c.args.out.now
 
 pub returns-in_err-v : goal.returns-in_err-v
-returns-in_err-v g c = rw c.from_residual.ensures (numbering-lost _ _ _ _ _ _ _ _ _ c.loop-i.invariant _ c.loop-i-test.true (rw c.most-most.ensures at c.get_field.ensures) c.in_err-v.was)
+returns-in_err-v g c = rw c.from_residual.ensures (numbering-lost _ _ _ _ _ _ _ _ _ c.loop-i.invariant _ c.loop-i-test.true c.get_field.ensures c.in_err-v.was)
 
 pub of-requires : goal.of-requires
-of-requires g c = numbering-fits c.args.s.now c.loop-i.p g.T.Listed.width c.in_ok-v.v c.in_ok-v.next c.in_ok-v.was (rw c.most-most.ensures at c.get_field.ensures)
+of-requires g c = numbering-fits c.args.s.now c.loop-i.p c.args.most g.T.Listed.width c.requires.most_bound c.in_ok-v.v c.in_ok-v.next c.in_ok-v.was c.get_field.ensures
 
 pub bounds-out-to : goal.bounds-out-to
 bounds-out-to g c = omega (arith, c.loop-i.invariant.room, c.loop-i.invariant.same, c.loop-i-test.true, numbers-length g.T.Listed.number g.T.Listed.numbers g.met.T.Listed.mapped c.loop-i.out)
@@ -23,7 +23,7 @@ bounds-out-to g c = omega (arith, c.loop-i.invariant.room, c.loop-i.invariant.sa
 pub loop-i-preserved : goal.loop-i-preserved
 loop-i-preserved g c =
     rw (numbers-set g.T.Listed.number g.T.Listed.numbers g.met.T.Listed.mapped c.loop-i.out (c.args.to + c.loop-i.i) c.of.result c.in_ok-v.v c.of.ensures)
-    (numbering-next _ _ _ _ _ _ _ _ _ c.loop-i.invariant _ _ c.loop-i-test.true (rw c.most-most.ensures at c.get_field.ensures) c.in_ok-v.was)
+    (numbering-next _ _ _ _ _ _ _ _ _ c.loop-i.invariant _ _ c.loop-i-test.true c.get_field.ensures c.in_ok-v.was)
 
 pub shape_of-out : goal.shape_of-out
 shape_of-out g c = sym (numbers-length g.T.Listed.number g.T.Listed.numbers g.met.T.Listed.mapped c.loop-i.out) ∙ c.loop-i.invariant.same ∙ numbers-length g.T.Listed.number g.T.Listed.numbers g.met.T.Listed.mapped c.args.out.now

@@ -9,10 +9,10 @@ use Rattle.table_check.proofs.Lining.{lining-begin, lining-room, lining-numbers-
 use Rattle.table_check.proofs.get_rows.Goals as goal
 
 pub loop-i-init : goal.loop-i-init
-loop-i-init g c = lining-begin _ _ _ _ _ _ _ c.requires.0 (omega (arith, c.requires.1, numbers-length g.T.Listed.number g.T.Listed.numbers g.met.T.Listed.mapped c.args.out.now))
+loop-i-init g c = lining-begin _ _ _ _ _ _ _ c.requires.in_bounds.0 (omega (arith, c.requires.in_bounds.1, numbers-length g.T.Listed.number g.T.Listed.numbers g.met.T.Listed.mapped c.args.out.now))
 
 pub get_numbers-requires : goal.get_numbers-requires
-get_numbers-requires g c = (c.loop-i.invariant.gathered.inside, omega (arith, lining-room _ _ _ _ _ _ _ _ _ _ _ _ c.loop-i.invariant c.loop-i-test.true, numbers-length g.T.Listed.number g.T.Listed.numbers g.met.T.Listed.mapped c.loop-i.out))
+get_numbers-requires g c = record { most_bound = c.requires.most_bound; in_bounds = (c.loop-i.invariant.gathered.inside, omega (arith, lining-room _ _ _ _ _ _ _ _ _ _ _ _ c.loop-i.invariant c.loop-i-test.true, numbers-length g.T.Listed.number g.T.Listed.numbers g.met.T.Listed.mapped c.loop-i.out)) }
 
 pub shape_of-out-in_err-a : goal.shape_of-out-in_err-a
 shape_of-out-in_err-a g c = c.get_numbers.auto.out ∙ (sym (numbers-length g.T.Listed.number g.T.Listed.numbers g.met.T.Listed.mapped c.loop-i.out) ∙ c.loop-i.invariant.same ∙ numbers-length g.T.Listed.number g.T.Listed.numbers g.met.T.Listed.mapped c.args.out.now)

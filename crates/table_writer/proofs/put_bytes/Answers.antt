@@ -1,30 +1,22 @@
-use native.Mathlib.Omega.{arith}
-use mathlib.Core.Path.{◌∙◌}
-use lib.ListN.{length-set}
-use Rattle.text.specs.Text.{ascii}
+use mathlib.Core.List.{[], ◌∷◌, ◌++◌, append_assoc}
+use mathlib.Core.Path.{refl}
+use Rattle.text.specs.Text.{hex, ascii}
 use Rattle.tables.specs.Table.{bytes_name}
-use Rattle.table_writer.proofs.Wholes.{tail-length, puts-tail}
+use Rattle.text.proofs.Wrote.{writes-begin, writes-room, writes-more, writes-end}
 use Rattle.table_writer.proofs.put_bytes.Goals as goal
 
-pub put_literal-p-requires : goal.put_literal-p-requires
+pub literal-requires : goal.literal-requires
 unfolding bytes_name ascii
-put_literal-p-requires c = omega (arith, tail-length c.args.bytes.now, c.requires)
+literal-requires c = writes-room bytes_name ((hex c.args.bytes.now) ++ ((10 ∷ []) ++ [])) (writes-begin c.args.out.now (bytes_name ++ (hex c.args.bytes.now ++ (10 ∷ []))) (bytes_name ++ ((hex c.args.bytes.now) ++ ((10 ∷ []) ++ []))) refl c.requires)
 
-pub put_hex-q-requires : goal.put_hex-q-requires
+pub hex-requires : goal.hex-requires
 unfolding bytes_name ascii
-put_hex-q-requires c = omega (arith, tail-length c.args.bytes.now, c.requires, c.put_literal-p.ensures.next, c.put_literal-p.auto.out)
+hex-requires c = writes-room (hex c.args.bytes.now) ((10 ∷ []) ++ []) (writes-more bytes_name ((hex c.args.bytes.now) ++ ((10 ∷ []) ++ [])) (writes-begin c.args.out.now (bytes_name ++ (hex c.args.bytes.now ++ (10 ∷ []))) (bytes_name ++ ((hex c.args.bytes.now) ++ ((10 ∷ []) ++ []))) refl c.requires) c.literal.ensures)
 
-pub bounds-out-q : goal.bounds-out-q
+pub byte-requires : goal.byte-requires
 unfolding bytes_name ascii
-bounds-out-q c = omega (arith, tail-length c.args.bytes.now, c.requires, c.put_literal-p.ensures.next, c.put_literal-p.auto.out, c.put_hex-q.ensures.next, c.put_hex-q.auto.out)
-
-pub overflow_add-result : goal.overflow_add-result
-unfolding bytes_name ascii
-overflow_add-result c = omega (arith, tail-length c.args.bytes.now, c.requires, c.put_literal-p.ensures.next, c.put_literal-p.auto.out, c.put_hex-q.ensures.next, c.put_hex-q.auto.out)
-
-pub shape_of-out : goal.shape_of-out
-shape_of-out c = simp length-set ((c.put_hex-q.auto.out ∙ c.put_literal-p.auto.out))
+byte-requires c = writes-room (10 ∷ []) [] (writes-more (hex c.args.bytes.now) ((10 ∷ []) ++ []) (writes-more bytes_name ((hex c.args.bytes.now) ++ ((10 ∷ []) ++ [])) (writes-begin c.args.out.now (bytes_name ++ (hex c.args.bytes.now ++ (10 ∷ []))) (bytes_name ++ ((hex c.args.bytes.now) ++ ((10 ∷ []) ++ []))) refl c.requires) c.literal.ensures) c.hex.ensures)
 
 pub returns : goal.returns
 unfolding bytes_name ascii
-returns c = puts-tail c.args.bytes.now c.put_literal-p.ensures c.put_hex-q.ensures c.put_literal-p.auto.out (c.put_hex-q.auto.out ∙ c.put_literal-p.auto.out) c.requires
+returns c = writes-end [] (bytes_name ++ (hex c.args.bytes.now ++ (10 ∷ []))) (writes-more (10 ∷ []) [] (writes-more (hex c.args.bytes.now) ((10 ∷ []) ++ []) (writes-more bytes_name ((hex c.args.bytes.now) ++ ((10 ∷ []) ++ [])) (writes-begin c.args.out.now (bytes_name ++ (hex c.args.bytes.now ++ (10 ∷ []))) (bytes_name ++ ((hex c.args.bytes.now) ++ ((10 ∷ []) ++ []))) refl c.requires) c.literal.ensures) c.hex.ensures) c.byte.ensures) (append_assoc bytes_name (hex c.args.bytes.now) (10 ∷ []))

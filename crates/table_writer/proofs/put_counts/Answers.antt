@@ -1,38 +1,32 @@
-use native.Mathlib.Omega.{arith}
-use mathlib.Core.Path.{◌∙◌}
-use lib.ListN.{length-set}
-use Rattle.text.specs.Text.{ascii}
-use Rattle.tables.specs.Table.{count_names}
-use Rattle.table_writer.proofs.Wholes.{head-length, puts-head}
+use Prim.Native.Nat.{ℕ}
+use mathlib.Core.List.{List, [], ◌∷◌, ◌++◌, append_assoc}
+use mathlib.Core.Path.{ap, ◌∙◌}
+use Rattle.text.specs.Text.{decimal, ascii}
+use Rattle.tables.specs.Table.{field, count_names, counts_line}
+use Rattle.table_writer.proofs.Wholes.{counts-parts}
+use Rattle.text.proofs.Wrote.{writes-begin, writes-room, writes-more, writes-end}
 use Rattle.table_writer.proofs.put_counts.Goals as goal
 
-pub put_literal-p-requires : goal.put_literal-p-requires
-unfolding count_names ascii
-put_literal-p-requires c = omega (arith, head-length c.args.t c.args.f c.args.c, c.requires)
+pub literal-requires : goal.literal-requires
+unfolding count_names ascii field
+literal-requires c = writes-room count_names ((field c.args.t) ++ ((field c.args.f) ++ ((decimal c.args.c) ++ ((10 ∷ []) ++ [])))) (writes-begin c.args.out.now (count_names ++ counts_line c.args.t c.args.f c.args.c) (count_names ++ ((field c.args.t) ++ ((field c.args.f) ++ ((decimal c.args.c) ++ ((10 ∷ []) ++ []))))) (ap (λ (l : List ℕ). count_names ++ l) (counts-parts c.args.t c.args.f c.args.c)) c.requires)
 
-pub put_number-q-requires : goal.put_number-q-requires
-unfolding count_names ascii
-put_number-q-requires c = omega (arith, head-length c.args.t c.args.f c.args.c, c.requires, c.put_literal-p.ensures.next, c.put_literal-p.auto.out)
+pub value-requires : goal.value-requires
+unfolding count_names ascii field
+value-requires c = writes-room (field c.args.t) ((field c.args.f) ++ ((decimal c.args.c) ++ ((10 ∷ []) ++ []))) (writes-more count_names ((field c.args.t) ++ ((field c.args.f) ++ ((decimal c.args.c) ++ ((10 ∷ []) ++ [])))) (writes-begin c.args.out.now (count_names ++ counts_line c.args.t c.args.f c.args.c) (count_names ++ ((field c.args.t) ++ ((field c.args.f) ++ ((decimal c.args.c) ++ ((10 ∷ []) ++ []))))) (ap (λ (l : List ℕ). count_names ++ l) (counts-parts c.args.t c.args.f c.args.c)) c.requires) c.literal.ensures)
 
-pub put_number-u-requires : goal.put_number-u-requires
-unfolding count_names ascii
-put_number-u-requires c = omega (arith, head-length c.args.t c.args.f c.args.c, c.requires, c.put_literal-p.ensures.next, c.put_literal-p.auto.out, c.put_number-q.ensures.next, c.put_number-q.auto.out)
+pub value-requires-2 : goal.value-requires-2
+unfolding count_names ascii field
+value-requires-2 c = writes-room (field c.args.f) ((decimal c.args.c) ++ ((10 ∷ []) ++ [])) (writes-more (field c.args.t) ((field c.args.f) ++ ((decimal c.args.c) ++ ((10 ∷ []) ++ []))) (writes-more count_names ((field c.args.t) ++ ((field c.args.f) ++ ((decimal c.args.c) ++ ((10 ∷ []) ++ [])))) (writes-begin c.args.out.now (count_names ++ counts_line c.args.t c.args.f c.args.c) (count_names ++ ((field c.args.t) ++ ((field c.args.f) ++ ((decimal c.args.c) ++ ((10 ∷ []) ++ []))))) (ap (λ (l : List ℕ). count_names ++ l) (counts-parts c.args.t c.args.f c.args.c)) c.requires) c.literal.ensures) c.value.ensures)
 
-pub put_decimal-v-requires : goal.put_decimal-v-requires
-unfolding count_names ascii
-put_decimal-v-requires c = omega (arith, head-length c.args.t c.args.f c.args.c, c.requires, c.put_literal-p.ensures.next, c.put_literal-p.auto.out, c.put_number-q.ensures.next, c.put_number-q.auto.out, c.put_number-u.ensures.next, c.put_number-u.auto.out)
+pub decimal-requires : goal.decimal-requires
+unfolding count_names ascii field
+decimal-requires c = writes-room (decimal c.args.c) ((10 ∷ []) ++ []) (writes-more (field c.args.f) ((decimal c.args.c) ++ ((10 ∷ []) ++ [])) (writes-more (field c.args.t) ((field c.args.f) ++ ((decimal c.args.c) ++ ((10 ∷ []) ++ []))) (writes-more count_names ((field c.args.t) ++ ((field c.args.f) ++ ((decimal c.args.c) ++ ((10 ∷ []) ++ [])))) (writes-begin c.args.out.now (count_names ++ counts_line c.args.t c.args.f c.args.c) (count_names ++ ((field c.args.t) ++ ((field c.args.f) ++ ((decimal c.args.c) ++ ((10 ∷ []) ++ []))))) (ap (λ (l : List ℕ). count_names ++ l) (counts-parts c.args.t c.args.f c.args.c)) c.requires) c.literal.ensures) c.value.ensures) c.value-2.ensures)
 
-pub bounds-out-v : goal.bounds-out-v
-unfolding count_names ascii
-bounds-out-v c = omega (arith, head-length c.args.t c.args.f c.args.c, c.requires, c.put_literal-p.ensures.next, c.put_literal-p.auto.out, c.put_number-q.ensures.next, c.put_number-q.auto.out, c.put_number-u.ensures.next, c.put_number-u.auto.out, c.put_decimal-v.ensures.next, c.put_decimal-v.auto.out)
-
-pub overflow_add-result : goal.overflow_add-result
-unfolding count_names ascii
-overflow_add-result c = omega (arith, head-length c.args.t c.args.f c.args.c, c.requires, c.put_literal-p.ensures.next, c.put_literal-p.auto.out, c.put_number-q.ensures.next, c.put_number-q.auto.out, c.put_number-u.ensures.next, c.put_number-u.auto.out, c.put_decimal-v.ensures.next, c.put_decimal-v.auto.out)
-
-pub shape_of-out : goal.shape_of-out
-shape_of-out c = simp length-set ((c.put_decimal-v.auto.out ∙ (c.put_number-u.auto.out ∙ (c.put_number-q.auto.out ∙ c.put_literal-p.auto.out))))
+pub byte-requires : goal.byte-requires
+unfolding count_names ascii field
+byte-requires c = writes-room (10 ∷ []) [] (writes-more (decimal c.args.c) ((10 ∷ []) ++ []) (writes-more (field c.args.f) ((decimal c.args.c) ++ ((10 ∷ []) ++ [])) (writes-more (field c.args.t) ((field c.args.f) ++ ((decimal c.args.c) ++ ((10 ∷ []) ++ []))) (writes-more count_names ((field c.args.t) ++ ((field c.args.f) ++ ((decimal c.args.c) ++ ((10 ∷ []) ++ [])))) (writes-begin c.args.out.now (count_names ++ counts_line c.args.t c.args.f c.args.c) (count_names ++ ((field c.args.t) ++ ((field c.args.f) ++ ((decimal c.args.c) ++ ((10 ∷ []) ++ []))))) (ap (λ (l : List ℕ). count_names ++ l) (counts-parts c.args.t c.args.f c.args.c)) c.requires) c.literal.ensures) c.value.ensures) c.value-2.ensures) c.decimal.ensures)
 
 pub returns : goal.returns
-unfolding count_names ascii
-returns c = puts-head c.args.t c.args.f c.args.c c.put_literal-p.ensures c.put_number-q.ensures c.put_number-u.ensures c.put_decimal-v.ensures c.put_literal-p.auto.out (c.put_number-q.auto.out ∙ c.put_literal-p.auto.out) (c.put_number-u.auto.out ∙ (c.put_number-q.auto.out ∙ c.put_literal-p.auto.out)) (c.put_decimal-v.auto.out ∙ (c.put_number-u.auto.out ∙ (c.put_number-q.auto.out ∙ c.put_literal-p.auto.out))) c.requires
+unfolding count_names ascii field
+returns c = writes-end [] (count_names ++ counts_line c.args.t c.args.f c.args.c) (writes-more (10 ∷ []) [] (writes-more (decimal c.args.c) ((10 ∷ []) ++ []) (writes-more (field c.args.f) ((decimal c.args.c) ++ ((10 ∷ []) ++ [])) (writes-more (field c.args.t) ((field c.args.f) ++ ((decimal c.args.c) ++ ((10 ∷ []) ++ []))) (writes-more count_names ((field c.args.t) ++ ((field c.args.f) ++ ((decimal c.args.c) ++ ((10 ∷ []) ++ [])))) (writes-begin c.args.out.now (count_names ++ counts_line c.args.t c.args.f c.args.c) (count_names ++ ((field c.args.t) ++ ((field c.args.f) ++ ((decimal c.args.c) ++ ((10 ∷ []) ++ []))))) (ap (λ (l : List ℕ). count_names ++ l) (counts-parts c.args.t c.args.f c.args.c)) c.requires) c.literal.ensures) c.value.ensures) c.value-2.ensures) c.decimal.ensures) c.byte.ensures) ((simp append_assoc) ∙ (ap (λ (l : List ℕ). count_names ++ l) (counts-parts c.args.t c.args.f c.args.c)))

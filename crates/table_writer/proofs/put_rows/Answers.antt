@@ -1,6 +1,7 @@
 use Prim.Native.Nat.{ℕ, ◌+◌, ◌-◌}
 use mathlib.Core.List.{List, flat_map}
-use mathlib.Core.Path.{ap, sym, ◌∙◌}
+use Rattle.text.proofs.Wrote.{wrote-length}
+use mathlib.Core.Path.{refl, ap, sym, ◌∙◌}
 use Rattle.tables.specs.Table.{field}
 use Rattle.pages.proofs.Numbers.{numbers-length, numbers-part}
 use native.Mathlib.Omega.{arith}
@@ -12,19 +13,16 @@ use Rattle.table_writer.proofs.RowsPut.{rows-put-begin, rows-put-some, rows-put-
 use Rattle.table_writer.proofs.put_rows.Goals as goal
 
 pub loop-i-init : goal.loop-i-init
-loop-i-init g c = rows-put-begin _ _ _ _ _ _ _ c.requires
-
-pub shape_of-out-in_default : goal.shape_of-out-in_default
-shape_of-out-in_default g c = absurd (rows-put-some _ _ _ _ _ _ _ _ _ _ _ _ c.loop-i.invariant c.loop-i-test.true (lost c.args.names.now (read_name (drop c.loop-i.f c.args.names.now)) c.get_name.ensures c.in_default.is))
+loop-i-init g c = (rows-put-begin _ _ _ _ _ _ _ c.requires, refl)
 
 pub returns-in_default : goal.returns-in_default
-returns-in_default g c = absurd (rows-put-some _ _ _ _ _ _ _ _ _ _ _ _ c.loop-i.invariant c.loop-i-test.true (lost c.args.names.now (read_name (drop c.loop-i.f c.args.names.now)) c.get_name.ensures c.in_default.is))
+returns-in_default g c = absurd (rows-put-some _ _ _ _ _ _ _ _ _ _ _ _ c.loop-i.invariant.0 c.loop-i-test.true (lost c.args.names.now (read_name (drop c.loop-i.f c.args.names.now)) c.get_name.ensures c.in_default.is))
 
 pub overflow_add-e : goal.overflow_add-e
-overflow_add-e g c = let n = name-found c.args.names.now c.loop-i.f c.in-Some.next c.get_name.ensures c.in-Some.is in omega (arith, rows-put-in _ _ _ _ _ _ _ _ _ _ _ _ c.loop-i.invariant c.loop-i-test.true _ n, numbers-length g.T.Listed.number g.T.Listed.numbers g.met.T.Listed.mapped c.args.list.now)
+overflow_add-e g c = let n = name-found c.args.names.now c.loop-i.f c.in-Some.next c.get_name.ensures c.in-Some.is in omega (arith, rows-put-in _ _ _ _ _ _ _ _ _ _ _ _ c.loop-i.invariant.0 c.loop-i-test.true _ n, numbers-length g.T.Listed.number g.T.Listed.numbers g.met.T.Listed.mapped c.args.list.now)
 
 pub offset_bounds-list-j : goal.offset_bounds-list-j
-offset_bounds-list-j g c = let n = name-found c.args.names.now c.loop-i.f c.in-Some.next c.get_name.ensures c.in-Some.is in omega (arith, rows-put-in _ _ _ _ _ _ _ _ _ _ _ _ c.loop-i.invariant c.loop-i-test.true _ n, numbers-length g.T.Listed.number g.T.Listed.numbers g.met.T.Listed.mapped c.args.list.now)
+offset_bounds-list-j g c = let n = name-found c.args.names.now c.loop-i.f c.in-Some.next c.get_name.ensures c.in-Some.is in omega (arith, rows-put-in _ _ _ _ _ _ _ _ _ _ _ _ c.loop-i.invariant.0 c.loop-i-test.true _ n, numbers-length g.T.Listed.number g.T.Listed.numbers g.met.T.Listed.mapped c.args.list.now)
 
 pub slice_bounds-put_numbers-count : goal.slice_bounds-put_numbers-count
 slice_bounds-put_numbers-count g c = omega arith
@@ -33,28 +31,25 @@ pub slice_bounds-put_numbers-start : goal.slice_bounds-put_numbers-start
 slice_bounds-put_numbers-start g c = omega arith
 
 pub slice_bounds-put_numbers-end : goal.slice_bounds-put_numbers-end
-slice_bounds-put_numbers-end g c = let n = name-found c.args.names.now c.loop-i.f c.in-Some.next c.get_name.ensures c.in-Some.is in omega (arith, rows-put-in _ _ _ _ _ _ _ _ _ _ _ _ c.loop-i.invariant c.loop-i-test.true _ n, numbers-length g.T.Listed.number g.T.Listed.numbers g.met.T.Listed.mapped c.args.list.now)
+slice_bounds-put_numbers-end g c = let n = name-found c.args.names.now c.loop-i.f c.in-Some.next c.get_name.ensures c.in-Some.is in omega (arith, rows-put-in _ _ _ _ _ _ _ _ _ _ _ _ c.loop-i.invariant.0 c.loop-i-test.true _ n, numbers-length g.T.Listed.number g.T.Listed.numbers g.met.T.Listed.mapped c.args.list.now)
 
-pub put_numbers-a-requires : goal.put_numbers-a-requires
-put_numbers-a-requires g c = rw (numbers-part g.T.Listed.number g.T.Listed.numbers g.met.T.Listed.mapped c.args.list.now (c.loop-i.j + c.args.k - c.loop-i.j) c.loop-i.j) (let n = name-found c.args.names.now c.loop-i.f c.in-Some.next c.get_name.ensures c.in-Some.is in omega (arith, rows-put-fits _ _ _ _ _ _ _ _ _ _ _ _ c.loop-i.invariant c.loop-i-test.true _ n))
+pub put_numbers-requires : goal.put_numbers-requires
+put_numbers-requires g c = rw (numbers-part g.T.Listed.number g.T.Listed.numbers g.met.T.Listed.mapped c.args.list.now (c.loop-i.j + c.args.k - c.loop-i.j) c.loop-i.j) (let n = name-found c.args.names.now c.loop-i.f c.in-Some.next c.get_name.ensures c.in-Some.is in omega (arith, rows-put-fits _ _ _ _ _ _ _ _ _ _ _ _ c.loop-i.invariant.0 c.loop-i-test.true _ n))
 
-pub slice_bounds-put_literal-count : goal.slice_bounds-put_literal-count
-slice_bounds-put_literal-count g c = let n = name-found c.args.names.now c.loop-i.f c.in-Some.next c.get_name.ensures c.in-Some.is in omega (arith, name-long _ _ _ c.loop-i.invariant.gathered.inside n)
+pub slice_bounds-literal-count : goal.slice_bounds-literal-count
+slice_bounds-literal-count g c = let n = name-found c.args.names.now c.loop-i.f c.in-Some.next c.get_name.ensures c.in-Some.is in omega (arith, name-long _ _ _ c.loop-i.invariant.0.gathered.inside n)
 
-pub slice_bounds-put_literal-start : goal.slice_bounds-put_literal-start
-slice_bounds-put_literal-start g c = let n = name-found c.args.names.now c.loop-i.f c.in-Some.next c.get_name.ensures c.in-Some.is in omega (arith, name-long _ _ _ c.loop-i.invariant.gathered.inside n)
+pub slice_bounds-literal-start : goal.slice_bounds-literal-start
+slice_bounds-literal-start g c = let n = name-found c.args.names.now c.loop-i.f c.in-Some.next c.get_name.ensures c.in-Some.is in omega (arith, name-long _ _ _ c.loop-i.invariant.0.gathered.inside n)
 
-pub slice_bounds-put_literal-end : goal.slice_bounds-put_literal-end
-slice_bounds-put_literal-end g c = let n = name-found c.args.names.now c.loop-i.f c.in-Some.next c.get_name.ensures c.in-Some.is in n.inside
+pub slice_bounds-literal-end : goal.slice_bounds-literal-end
+slice_bounds-literal-end g c = let n = name-found c.args.names.now c.loop-i.f c.in-Some.next c.get_name.ensures c.in-Some.is in n.inside
 
-pub put_literal-o-requires : goal.put_literal-o-requires
-put_literal-o-requires g c = let n = name-found c.args.names.now c.loop-i.f c.in-Some.next c.get_name.ensures c.in-Some.is in omega (arith, rows-put-fits _ _ _ _ _ _ _ _ _ _ _ _ c.loop-i.invariant c.loop-i-test.true _ n, c.put_numbers-a.ensures.next, c.put_numbers-a.auto.out, ap (λ (l : List ℕ). length (flat_map field l)) (numbers-part g.T.Listed.number g.T.Listed.numbers g.met.T.Listed.mapped c.args.list.now (c.loop-i.j + c.args.k - c.loop-i.j) c.loop-i.j))
+pub literal-requires : goal.literal-requires
+literal-requires g c = let n = name-found c.args.names.now c.loop-i.f c.in-Some.next c.get_name.ensures c.in-Some.is in omega (arith, rows-put-fits _ _ _ _ _ _ _ _ _ _ _ _ c.loop-i.invariant.0 c.loop-i-test.true _ n, c.put_numbers.ensures.puts.next, wrote-length c.put_numbers.ensures (rw (numbers-part g.T.Listed.number g.T.Listed.numbers g.met.T.Listed.mapped c.args.list.now (c.loop-i.j + c.args.k - c.loop-i.j) c.loop-i.j) (let n = name-found c.args.names.now c.loop-i.f c.in-Some.next c.get_name.ensures c.in-Some.is in omega (arith, rows-put-fits _ _ _ _ _ _ _ _ _ _ _ _ c.loop-i.invariant.0 c.loop-i-test.true _ n))), ap (λ (l : List ℕ). length (flat_map field l)) (numbers-part g.T.Listed.number g.T.Listed.numbers g.met.T.Listed.mapped c.args.list.now (c.loop-i.j + c.args.k - c.loop-i.j) c.loop-i.j))
 
 pub loop-i-preserved : goal.loop-i-preserved
-loop-i-preserved g c = let n = name-found c.args.names.now c.loop-i.f c.in-Some.next c.get_name.ensures c.in-Some.is in rows-put-next _ _ _ _ _ _ _ _ _ _ _ _ c.loop-i.invariant c.loop-i-test.true _ n _ _ _ _ (c.put_literal-o.auto.out ∙ c.put_numbers-a.auto.out) (rw (← numbers-part g.T.Listed.number g.T.Listed.numbers g.met.T.Listed.mapped c.args.list.now (c.loop-i.j + c.args.k - c.loop-i.j) c.loop-i.j) c.put_numbers-a.ensures) c.put_literal-o.ensures
-
-pub shape_of-out : goal.shape_of-out
-shape_of-out g c = c.loop-i.invariant.same
+loop-i-preserved g c = let n = name-found c.args.names.now c.loop-i.f c.in-Some.next c.get_name.ensures c.in-Some.is in (rows-put-next _ _ _ _ _ _ _ _ _ _ _ _ c.loop-i.invariant.0 c.loop-i-test.true _ n _ _ _ _ (wrote-length c.literal.ensures (let n = name-found c.args.names.now c.loop-i.f c.in-Some.next c.get_name.ensures c.in-Some.is in omega (arith, rows-put-fits _ _ _ _ _ _ _ _ _ _ _ _ c.loop-i.invariant.0 c.loop-i-test.true _ n, c.put_numbers.ensures.puts.next, wrote-length c.put_numbers.ensures (rw (numbers-part g.T.Listed.number g.T.Listed.numbers g.met.T.Listed.mapped c.args.list.now (c.loop-i.j + c.args.k - c.loop-i.j) c.loop-i.j) (let n = name-found c.args.names.now c.loop-i.f c.in-Some.next c.get_name.ensures c.in-Some.is in omega (arith, rows-put-fits _ _ _ _ _ _ _ _ _ _ _ _ c.loop-i.invariant.0 c.loop-i-test.true _ n))), ap (λ (l : List ℕ). length (flat_map field l)) (numbers-part g.T.Listed.number g.T.Listed.numbers g.met.T.Listed.mapped c.args.list.now (c.loop-i.j + c.args.k - c.loop-i.j) c.loop-i.j))) ∙ wrote-length c.put_numbers.ensures (rw (numbers-part g.T.Listed.number g.T.Listed.numbers g.met.T.Listed.mapped c.args.list.now (c.loop-i.j + c.args.k - c.loop-i.j) c.loop-i.j) (let n = name-found c.args.names.now c.loop-i.f c.in-Some.next c.get_name.ensures c.in-Some.is in omega (arith, rows-put-fits _ _ _ _ _ _ _ _ _ _ _ _ c.loop-i.invariant.0 c.loop-i-test.true _ n)))) (rw (← numbers-part g.T.Listed.number g.T.Listed.numbers g.met.T.Listed.mapped c.args.list.now (c.loop-i.j + c.args.k - c.loop-i.j) c.loop-i.j) c.put_numbers.ensures.puts) c.literal.ensures.puts, c.literal.ensures.loan ∙ c.put_numbers.ensures.loan ∙ c.loop-i.invariant.1)
 
 pub returns : goal.returns
-returns g c = rows-put-end _ _ _ _ _ _ _ _ _ _ _ _ c.loop-i.invariant c.loop-i-test.false
+returns g c = record { loan = c.loop-i.invariant.1; puts = rows-put-end _ _ _ _ _ _ _ _ _ _ _ _ c.loop-i.invariant.0 c.loop-i-test.false }

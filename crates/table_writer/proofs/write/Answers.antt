@@ -1,4 +1,4 @@
-use mathlib.Core.Path.{sym, ◌∙◌}
+use mathlib.Core.Path.{refl, sym, ◌∙◌}
 use Rattle.table_writer.proofs.Wholes.{lengths-small, written-17, written-10, written-7, ready, written}
 use Rattle.table_writer.proofs.write.Goals as goal
 
@@ -14,8 +14,8 @@ rest_len-rest-requires c = lengths-small _ _ _ _ (sym c.check_table.ensures ∙ 
 pub returns-then-not-room_for : goal.returns-then-not-room_for
 returns-then-not-room_for c = written-7 _ _ _ _ _ _ _ (c.find_names.ensures.found _ c.in-Some.is) (sym c.check_table.ensures ∙ c.if-not-check_table.false) _ _ c.rest_len-rest.ensures (sym c.room_for.ensures ∙ c.if-not-room_for.true)
 
-pub put_table-n-requires : goal.put_table-n-requires
-put_table-n-requires c = ready _ _ _ _ _ _ _ (c.find_names.ensures.found _ c.in-Some.is) (sym c.check_table.ensures ∙ c.if-not-check_table.false) _ _ c.rest_len-rest.ensures (sym c.room_for.ensures ∙ c.if-not-room_for.false)
+pub put_table-requires : goal.put_table-requires
+put_table-requires c = record { at_value = refl; ready = ready _ _ _ _ _ _ _ (c.find_names.ensures.found _ c.in-Some.is) (sym c.check_table.ensures ∙ c.if-not-check_table.false) _ _ c.rest_len-rest.ensures (sym c.room_for.ensures ∙ c.if-not-room_for.false) }
 
 pub returns : goal.returns
-returns c = written _ _ _ _ _ _ _ (c.find_names.ensures.found _ c.in-Some.is) (sym c.check_table.ensures ∙ c.if-not-check_table.false) _ _ _ _ c.rest_len-rest.ensures (sym c.room_for.ensures ∙ c.if-not-room_for.false) c.put_table-n.ensures
+returns c = rw (c.out-1.given.1.1 (sym c.put_table.ensures.loan)) (written _ _ _ _ _ _ _ (c.find_names.ensures.found _ c.in-Some.is) (sym c.check_table.ensures ∙ c.if-not-check_table.false) _ _ _ _ c.rest_len-rest.ensures (sym c.room_for.ensures ∙ c.if-not-room_for.false) c.put_table.ensures.puts)

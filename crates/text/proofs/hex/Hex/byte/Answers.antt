@@ -1,33 +1,6 @@
 use native.Mathlib.Omega.{arith}
-use Rattle.text.proofs.Copying.{parsed, inside, from-digits, high-digit, low-digit, hex-value-small}
+use Rattle.text.proofs.Copying.{parsed}
 use Rattle.text.proofs.hex.Hex.byte.Goals as goal
 
-pub overflow_mul-k : goal.overflow_mul-k
-overflow_mul-k c = omega (arith, inside c.args.self.text.now c.args.self.at (parsed _ _ c.args.self.spelled.0) c.args.i (omega (arith, c.requires, c.args.self.spelled.1)))
-
-pub overflow_add-k : goal.overflow_add-k
-overflow_add-k c = omega (arith, inside c.args.self.text.now c.args.self.at (parsed _ _ c.args.self.spelled.0) c.args.i (omega (arith, c.requires, c.args.self.spelled.1)))
-
-pub bounds-s-k : goal.bounds-s-k
-bounds-s-k c = omega (arith, inside c.args.self.text.now c.args.self.at (parsed _ _ c.args.self.spelled.0) c.args.i (omega (arith, c.requires, c.args.self.spelled.1)))
-
-pub hex_value-requires : goal.hex_value-requires
-hex_value-requires c = high-digit c.args.self.text.now c.args.self.at (parsed _ _ c.args.self.spelled.0) c.args.i (omega (arith, c.requires, c.args.self.spelled.1))
-
-pub overflow_mul-result : goal.overflow_mul-result
-overflow_mul-result c = omega (arith, hex-value-small c.args.self.text.now c.args.self.at c.args.i c.hex_value.result (parsed _ _ c.args.self.spelled.0) (omega (arith, c.requires, c.args.self.spelled.1)) c.hex_value.ensures)
-
-pub overflow_add-k-2 : goal.overflow_add-k-2
-overflow_add-k-2 c = omega (arith, inside c.args.self.text.now c.args.self.at (parsed _ _ c.args.self.spelled.0) c.args.i (omega (arith, c.requires, c.args.self.spelled.1)))
-
-pub bounds-s-k-2 : goal.bounds-s-k-2
-bounds-s-k-2 c = omega (arith, inside c.args.self.text.now c.args.self.at (parsed _ _ c.args.self.spelled.0) c.args.i (omega (arith, c.requires, c.args.self.spelled.1)))
-
-pub hex_value-requires-2 : goal.hex_value-requires-2
-hex_value-requires-2 c = low-digit c.args.self.text.now c.args.self.at (parsed _ _ c.args.self.spelled.0) c.args.i (omega (arith, c.requires, c.args.self.spelled.1))
-
-pub overflow_add-result : goal.overflow_add-result
-overflow_add-result c = omega (arith, (from-digits c.args.self.text.now c.args.self.at c.args.i _ _ (parsed _ _ c.args.self.spelled.0) (omega (arith, c.requires, c.args.self.spelled.1)) c.hex_value.ensures c.hex_value-2.ensures).whole)
-
-pub returns : goal.returns
-returns c = (from-digits c.args.self.text.now c.args.self.at c.args.i _ _ (parsed _ _ c.args.self.spelled.0) (omega (arith, c.requires, c.args.self.spelled.1)) c.hex_value.ensures c.hex_value-2.ensures).value
+pub hex_byte-requires : goal.hex_byte-requires
+hex_byte-requires c = record { hex_parsed = parsed _ _ c.args.self.spelled.0; i_in_bounds = omega (arith, c.requires, c.args.self.spelled.1) }
