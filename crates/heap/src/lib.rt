@@ -19,7 +19,7 @@ use refusal::Reply;
 
 // The numbers of a heap, and how many entries of the slots and of each list are in use.
 #[repr(C)]
-#[derive(Clone, Copy)]
+#[derive(Clone, Copy, Default)]
 pub struct Heap {
     pub tag: u8,
     pub since_gc: u64,

@@ -11,7 +11,7 @@ ghost use Rattle.heap.specs.Loans.{state, Replies};
 ghost use Rattle.heap.specs.Calls.{free as freed};
 ghost use Rattle.door.specs.HeapCalls.{Entered, outcome, heap_call};
 ghost use Rattle.object_door.specs.ObjectCalls.{allocating, recycling, handed, take_call};
-ghost use Rattle.object_door.specs.Making.{no_header, new_tests, new_call};
+ghost use Rattle.object_door.specs.Making.{new_tests, new_call};
 
 use door::{Done, enter};
 use heap::view_mut::ViewMut;
@@ -19,25 +19,6 @@ use heap::{Changed, Heap};
 use heap_calls::NewObject;
 use heap_calls::kind::ObjectKind;
 use refusal::{Answer, Refusal, Reply};
-
-// The header that a refusal returns: zeros, which no call takes for a heap.
-fn no_heap() -> Heap
-    ensures { result ≡ no_header }
-{
-    Heap {
-        tag: 0,
-        since_gc: 0,
-        reclaim_at: 0,
-        live_bytes: 0,
-        epoch: 0,
-        log: [0; 16],
-        slots: 0,
-        free: 0,
-        quarantine: 0,
-        retired: 0,
-        sealed: 0,
-    }
-}
 
 // Is there scratch enough, and are the lent sizes in range?
 fn enter_new(
@@ -66,7 +47,7 @@ fn enter_new(
     Err(Refusal::BrokenHeap)
 }
 
-// An empty heap in lent memory: all of it is cleared.
+// An empty heap in lent memory: all of it is cleared. A refusal returns zeros, which no call takes for a heap.
 pub fn yexwalu_new(
     tag: u8,
     narrow: &mut [u32],
@@ -81,7 +62,7 @@ pub fn yexwalu_new(
 {
     match enter_new(narrow, wide, pool, marks, work) {
         Err(why) => Done {
-            heap: no_heap(),
+            heap: Heap::default(),
             answer: Answer::from(Err(why)),
         },
         Ok(()) => {
