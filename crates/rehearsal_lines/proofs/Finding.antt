@@ -13,6 +13,8 @@ use Rattle.text.specs.Answer.{value_answer, literal_answer, hex_answer, hex_at}
 use Rattle.std.specs.Prelude.{Option, Some, None}
 use Rattle.text.proofs.Getting.{answer-none, field_found, hex-found, hex-missing, literal-found, literal-lost}
 use Rattle.script.specs.Script.{alloc_format}
+use Rattle.script.specs.Found.{AllocReads}
+use Rattle.script.specs.declared.AllocLine.{AllocLine}
 use Rattle.rehearsal.specs.Lines.{Line as Step, alloc, store, drop as drops, store_format, read_alloc, read_store, read_drop, read_line, is_text}
 use Rattle.rehearsal.proofs.Reading.{line-shorter, text-nothing, text-bad, text-more}
 use Rattle.rehearsal_lines.specs.Found.{step_in, Reads, LineRead}
@@ -27,49 +29,15 @@ no-newline : digit_of newline ≡ none
 unfolding digit_of
 no-newline = refl
 
-hex-at : (s : List ℕ) (b : ℕ) (bs rest : List ℕ) → read_hex (drop b s) ≡ give bs rest → hex_at s b ≡ bs
-unfolding hex_at
-hex-at s b bs rest e = rw (hex_at, e)
+-- ---- `alloc`: the line of its fields
 
--- ---- `alloc`: type, kind, data
+pub alloc-lost : (t : List ℕ) → alloc_format.read t ≡ none → read_alloc t ≡ none
+unfolding read_alloc
+alloc-lost t e = rw e
 
-module _ (s : List ℕ) (at : ℕ) (r : Option (ℕ × ℕ)) (e : r ≡ value_answer (length s) (read_field 4294967295 44 (drop at s))) where
-  pub no-type : r ≡ None → read_alloc (drop at s) ≡ none
-  unfolding read_alloc alloc_format pair number
-  no-type f = rw (answer-none s (read_field 4294967295 44 (drop at s)) e f)
-
-  module _ (t a : ℕ) (f : r ≡ Some (t, a)) (q : Option (ℕ × ℕ)) (e₂ : q ≡ value_answer (length s) (read_field 255 44 (drop a s))) where
-    type-read : (number 32 comma).read (drop at s) ≡ give t (drop a s)
-    unfolding number
-    type-read = (field_found s 32 44 at t a no-comma e f).0
-
-    type-narrow : t < 2 ^ 32
-    unfolding number
-    type-narrow = (field_found s 32 44 at t a no-comma e f).2
-
-    pub no_kind : q ≡ None → read_alloc (drop at s) ≡ none
-    unfolding read_alloc alloc_format pair number
-    no_kind g = rw (type-read, answer-none s (read_field 255 44 (drop a s)) e₂ g)
-
-    module _ (k b : ℕ) (g : q ≡ Some (k, b)) (p : Option (ℕ × ℕ)) (e₃ : p ≡ hex_answer (length s) (read_hex (drop b s))) where
-      kind-read : (number 8 comma).read (drop a s) ≡ give k (drop b s)
-      unfolding number
-      kind-read = (field_found s 8 44 a k b no-comma e₂ g).0
-
-      pub no-data : p ≡ None → read_alloc (drop at s) ≡ none
-      unfolding read_alloc alloc_format pair bytes_line
-      no-data h = rw (type-read, kind-read, hex-missing s b e₃ h)
-
-      pub alloc-read : (n c : ℕ) → p ≡ Some (n, c) → Reads (read_alloc (drop at s)) s (Alloc (record { ty = t; kind = k; from = b; count = n })) c
-      unfolding read_alloc alloc_format pair bytes_line
-      alloc-read n c h =
-          let x = hex-found s b n c e₃ h in
-          let i : hex_at s b ≡ x.0 = hex-at s b x.0 (drop c s) x.1 in
-          record {
-            step = rw (type-read, kind-read, x.1) (ap (λ (bs : List ℕ). give (alloc t k bs) (drop c s)) (sym i));
-            there = record { parsed = record { rest = drop c s; reads = x.1 ∙ ap (λ (bs : List ℕ). give bs (drop c s)) (sym i) }; counted = sym x.2 ∙ ap length (sym i); narrow = type-narrow };
-            inside = x.3;
-          }
+pub alloc-line : (t s : List ℕ) (a : AllocLine) (next : ℕ) → AllocReads (alloc_format.read t) s a next → Reads (read_alloc t) s (Alloc a) next
+unfolding read_alloc
+alloc-line t s a next d = record { step = rw d.fields; there = d.there; inside = d.inside }
 
 -- ---- `store`: two turns, an offset
 

@@ -2,7 +2,7 @@
 #![tactic(auto)]
 
 ghost use Rattle.std.specs.Prelude.{◌≡◌, ◌≤◌, length, drop};
-ghost use Rattle.rehearsal.specs.Lines.{read_alloc, read_store, read_drop, read_line, is_text};
+ghost use Rattle.rehearsal.specs.Lines.{read_store, read_drop, read_line, is_text};
 ghost use Rattle.rehearsal_lines.specs.Found.{LineRead};
 
 use script::AllocLine;
@@ -20,22 +20,6 @@ pub enum Line {
     Alloc(AllocLine),
     Store(StoreLine),
     Drop(u64),
-}
-
-// The fields of an `alloc` line, from `at` on, and where the next line begins.
-fn read_alloc(s: &[u8], at: usize) -> Option<(Line, usize)>
-    ensures { LineRead (read_alloc (drop at s.now)) s.now result }
-{
-    let (ty, a) = text::get_field(s, at, 4294967295, 44)?;
-    let (kind, from) = text::get_field(s, a, 255, 44)?;
-    let (count, next) = text::count_hex(s, from)?;
-    let line = AllocLine {
-        ty,
-        kind,
-        from,
-        count,
-    };
-    Some((Line::Alloc(line), next))
 }
 
 // The fields of a `store` line, from `at` on.
@@ -63,7 +47,8 @@ pub fn read_line(s: &[u8], at: usize) -> Option<(Line, usize)>
     ensures { LineRead (read_line (drop at s.now)) s.now result }
 {
     if let Some(a) = text::expect(s, at, b"alloc,") {
-        return read_alloc(s, a);
+        let (line, next) = script::read_alloc(s, a)?;
+        return Some((Line::Alloc(line), next));
     }
     if let Some(a) = text::expect(s, at, b"store,") {
         return read_store(s, a);

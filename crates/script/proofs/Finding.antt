@@ -12,7 +12,8 @@ use Rattle.text.specs.Answer.{value_answer, literal_answer, hex_answer, hex_at}
 use Rattle.std.specs.Prelude.{Option, Some, None, is_some}
 use Rattle.text.proofs.Getting.{answer-none, field_found, hex-found, hex-missing, literal-found, literal-lost}
 use Rattle.script.specs.Script.{Call, alloc, take, seal, recycle, alloc_format, read_alloc, read_take, read_call, begins_call}
-use Rattle.script.specs.Found.{Reads, LineRead}
+use Rattle.script.specs.Found.{AllocReads, Reads, LineRead}
+use Rattle.script.specs.declared.AllocLine.{AllocLine}
 use Rattle.script.specs.declared.Line.{Line}
 use Rattle.script.specs.declared.Line.TheVariants.{Alloc, Take, Seal, Recycle}
 use Rattle.script.proofs.Scripts.{begins-call, begins-bad}
@@ -28,8 +29,8 @@ hex-at s b bs rest e = rw (hex_at, e)
 -- ---- `alloc`: type, kind, data
 
 module _ (s : List ℕ) (at : ℕ) (r : Option (ℕ × ℕ)) (e : r ≡ value_answer (length s) (read_field 4294967295 44 (drop at s))) where
-  pub no-type : r ≡ None → read_alloc (drop at s) ≡ none
-  unfolding read_alloc alloc_format pair number
+  pub no-type : r ≡ None → alloc_format.read (drop at s) ≡ none
+  unfolding alloc_format pair number
   no-type f = rw (answer-none s (read_field 4294967295 44 (drop at s)) e f)
 
   module _ (t a : ℕ) (f : r ≡ Some (t, a)) (q : Option (ℕ × ℕ)) (e₂ : q ≡ value_answer (length s) (read_field 255 44 (drop a s))) where
@@ -41,8 +42,8 @@ module _ (s : List ℕ) (at : ℕ) (r : Option (ℕ × ℕ)) (e : r ≡ value_an
     unfolding number
     type-narrow = (field_found s 32 44 at t a no-comma e f).2
 
-    pub no_kind : q ≡ None → read_alloc (drop at s) ≡ none
-    unfolding read_alloc alloc_format pair number
+    pub no_kind : q ≡ None → alloc_format.read (drop at s) ≡ none
+    unfolding alloc_format pair number
     no_kind g = rw (type-read, answer-none s (read_field 255 44 (drop a s)) e₂ g)
 
     module _ (k b : ℕ) (g : q ≡ Some (k, b)) (p : Option (ℕ × ℕ)) (e₃ : p ≡ hex_answer (length s) (read_hex (drop b s))) where
@@ -50,20 +51,29 @@ module _ (s : List ℕ) (at : ℕ) (r : Option (ℕ × ℕ)) (e : r ≡ value_an
       unfolding number
       kind-read = (field_found s 8 44 a k b no-comma e₂ g).0
 
-      pub no-data : p ≡ None → read_alloc (drop at s) ≡ none
-      unfolding read_alloc alloc_format pair bytes_line
+      pub no-data : p ≡ None → alloc_format.read (drop at s) ≡ none
+      unfolding alloc_format pair bytes_line
       no-data h = rw (type-read, kind-read, hex-missing s b e₃ h)
 
-      pub alloc-read : (n c : ℕ) → p ≡ Some (n, c) → Reads (read_alloc (drop at s)) s (Alloc (record { ty = t; kind = k; from = b; count = n })) c
-      unfolding read_alloc alloc_format pair bytes_line
+      pub alloc-read : (n c : ℕ) → p ≡ Some (n, c) → AllocReads (alloc_format.read (drop at s)) s (record { ty = t; kind = k; from = b; count = n }) c
+      unfolding alloc_format pair bytes_line
       alloc-read n c h =
           let x = hex-found s b n c e₃ h in
           let i : hex_at s b ≡ x.0 = hex-at s b x.0 (drop c s) x.1 in
           record {
-            call = rw (type-read, kind-read, x.1) (ap (λ (bs : List ℕ). give (alloc t k bs) (drop c s)) (sym i));
+            fields = rw (type-read, kind-read, x.1) (ap (λ (bs : List ℕ). give (t, (k, bs)) (drop c s)) (sym i));
             there = record { parsed = record { rest = drop c s; reads = x.1 ∙ ap (λ (bs : List ℕ). give bs (drop c s)) (sym i) }; counted = sym x.2 ∙ ap length (sym i); narrow = type-narrow };
             inside = x.3;
           }
+
+-- the line of the fields
+pub alloc-lost : (t : List ℕ) → alloc_format.read t ≡ none → read_alloc t ≡ none
+unfolding read_alloc
+alloc-lost t e = rw e
+
+pub alloc-line : (t s : List ℕ) (a : AllocLine) (next : ℕ) → AllocReads (alloc_format.read t) s a next → Reads (read_alloc t) s (Alloc a) next
+unfolding read_alloc
+alloc-line t s a next d = record { call = rw d.fields; there = d.there; inside = d.inside }
 
 -- ---- `take`: handle, and fields that it does not use
 

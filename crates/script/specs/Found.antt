@@ -15,6 +15,16 @@ pub record DataThere (s : List ℕ) (a : AllocLine) : Type 0 where
   pub counted : a.count ≡ length (hex_at s a.from)
   pub narrow : a.ty < 2 ^ 32
 
+-- what was read: the fields of an `alloc` line, with its data in the text, and the rest of the text begins at `next`
+pub record AllocReads (o : maybe.Option ((ℕ × (ℕ × List ℕ)) × List ℕ)) (s : List ℕ) (a : AllocLine) (next : ℕ) : Type 0 where
+  pub fields : o ≡ give (a.ty, (a.kind, hex_at s a.from)) (drop next s)
+  pub there : DataThere s a
+  pub inside : next ≤ length s
+
+abbrev pub AllocRead : maybe.Option ((ℕ × (ℕ × List ℕ)) × List ℕ) → List ℕ → Option (AllocLine × ℕ) → Type 0
+AllocRead o s (Some r) = AllocReads o s r.0 r.1
+AllocRead o s None = o ≡ none
+
 abbrev pub call_at : List ℕ → AllocLine → Call
 call_at s a = alloc a.ty a.kind (hex_at s a.from)
 

@@ -2,8 +2,8 @@
 #![tactic(auto)]
 
 ghost use Rattle.std.specs.Prelude.{◌≡◌, ◌≤◌, length, drop};
-ghost use Rattle.script.specs.Script.{read_alloc, read_take, read_call, begins_call};
-ghost use Rattle.script.specs.Found.{LineRead};
+ghost use Rattle.script.specs.Script.{alloc_format, read_take, read_call, begins_call};
+ghost use Rattle.script.specs.Found.{LineRead, AllocRead};
 
 // A line `alloc`: type, kind, and data that stands in hexadecimal from `from` on.
 #[derive(Clone, Copy)]
@@ -24,8 +24,8 @@ pub enum Line {
 }
 
 // The fields of an `alloc` line, from `at` on, and where the next line begins.
-fn read_alloc(s: &[u8], at: usize) -> Option<(Line, usize)>
-    ensures { LineRead (read_alloc (drop at s.now)) s.now result }
+pub fn read_alloc(s: &[u8], at: usize) -> Option<(AllocLine, usize)>
+    ensures { AllocRead (alloc_format.read (drop at s.now)) s.now result }
 {
     let (ty, a) = text::get_field(s, at, 4294967295, 44)?;
     let (kind, from) = text::get_field(s, a, 255, 44)?;
@@ -36,7 +36,7 @@ fn read_alloc(s: &[u8], at: usize) -> Option<(Line, usize)>
         from,
         count,
     };
-    Some((Line::Alloc(line), next))
+    Some((line, next))
 }
 
 // The fields of a `take` line, from `at` on.
@@ -54,7 +54,8 @@ pub fn read_line(s: &[u8], at: usize) -> Option<(Line, usize)>
     ensures { LineRead (read_call (drop at s.now)) s.now result }
 {
     if let Some(a) = text::expect(s, at, b"alloc,") {
-        return read_alloc(s, a);
+        let (line, next) = read_alloc(s, a)?;
+        return Some((Line::Alloc(line), next));
     }
     if let Some(a) = text::expect(s, at, b"take,") {
         return read_take(s, a);

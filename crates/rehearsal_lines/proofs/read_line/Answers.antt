@@ -1,9 +1,16 @@
 -- `rehearsal_lines::read_line` meets its contract.
-use Rattle.rehearsal_lines.proofs.Finding.{by-alloc, by-store, by-drop, no_name}
+use Rattle.std.specs.Prelude.{Some, None}
+use Rattle.rehearsal_lines.specs.declared.Line.TheVariants.{Alloc}
+use Rattle.rehearsal_lines.proofs.Finding.{alloc-lost, alloc-line, by-alloc, by-store, by-drop, no_name}
 use Rattle.rehearsal_lines.proofs.read_line.Goals as goal
 
+pub returns-in_err-line : goal.returns-in_err-line
+returns-in_err-line c =
+    rw c.from_residual.ensures (by-alloc c.args.s.now c.args.at c.expect.result c.expect.ensures c.in-Some.a c.in-Some.is None (alloc-lost _ c.in_err-line.ensures))
+
 pub returns-in-Some : goal.returns-in-Some
-returns-in-Some c = by-alloc c.args.s.now c.args.at c.expect.result c.expect.ensures c.in-Some.a c.in-Some.is c.read_alloc.result c.read_alloc.ensures
+returns-in-Some c =
+    by-alloc c.args.s.now c.args.at c.expect.result c.expect.ensures c.in-Some.a c.in-Some.is (Some (Alloc c.in_ok-line.line, c.in_ok-line.next)) (alloc-line _ _ _ _ c.in_ok-line.ensures)
 
 pub returns-in-Some-expect : goal.returns-in-Some-expect
 returns-in-Some-expect c =
@@ -12,7 +19,7 @@ returns-in-Some-expect c =
 
 pub returns-in_err-a : goal.returns-in_err-a
 returns-in_err-a c =
-    rw c.from_residual.ensures
+    rw c.from_residual-in_err-a.ensures
     (no_name c.args.s.now c.args.at c.expect.result c.expect.ensures c.in_default.is c.expect-2.result c.expect-2.ensures c.in_default-expect.is c.expect-3.result c.expect-3.ensures
     c.in_err-a.was)
 
