@@ -129,8 +129,7 @@ pub fn order_heaps(
     let a = here.view.heap.slots;
     let b = there.view.heap.slots;
     let n = meet::first_met(table, first, here.roots, &mut marks[..a], work)?;
-    let second = meet::first_met(table, other, there.roots, &mut other_marks[..b], other_work);
-    let m = second?;
+    let m = meet::first_met(table, other, there.roots, &mut other_marks[..b], other_work)?;
     let reached = Reached {
         objects: first,
         roots: here.roots,

@@ -3,7 +3,7 @@
 #![tactic(auto)]
 
 ghost use Rattle.std.specs.Prelude.{◌≡◌, [], ◌∷◌, ◌<◌, length, IfOk};
-ghost use Rattle.ty.specs.View.{table_of, lent as table_in};
+ghost use Rattle.ty.specs.View.{lent as table_in};
 ghost use Rattle.trace.specs.Places.{handles_of};
 ghost use Rattle.trace.specs.Listing.{listing, Lists};
 ghost use Rattle.heap.specs.Lent.{lent};
@@ -46,46 +46,28 @@ fn admit<'a>(
 
 // The handles that an object of a kind and type shows, whose data is visible from start on, into the lent list. First they are only counted, so that a refusal
 // leaves the list as it was.
-fn list_shown(
-    types: &[u64],
-    fields: &[u32],
-    consts: &[u64],
-    bytes: &[u8],
-    kind: u32,
-    t: u64,
-    start: usize,
-    data: &[u8],
-    out: &mut [u64],
-) -> Reply
+fn list_shown(table: &Table, kind: u32, t: u64, start: usize, data: &[u8], out: &mut [u64]) -> Reply
     ensures { Lists
-        (listing (handles_of (table_of types.now fields.now consts.now bytes.now) kind t start «data».now) (length out.old))
+        (listing (handles_of (table_in table.now) kind t start «data».now) (length out.old))
         result out.old out.new }
 {
-    let narrow = [0u32; 1];
     let none = Slots {
         tag: 0,
         slots: 0,
         s: 0,
-        narrow: &narrow,
+        narrow: &[],
     };
-    let mut marks = [0u8; 1];
-    let mut unused = [0u64; 1];
     let limit = out.len();
     let c = trace::trace_slot(
-        &Table {
-            types,
-            fields,
-            consts,
-            bytes,
-        },
+        table,
         none,
         kind,
         t,
         start,
         data,
         Sink::Check(limit),
-        &mut marks,
-        &mut unused,
+        &mut [],
+        &mut [],
         0,
     );
     let Some(n) = c else {
@@ -95,19 +77,14 @@ fn list_shown(
         return Err(Refusal::ShortList);
     }
     trace::trace_slot(
-        &Table {
-            types,
-            fields,
-            consts,
-            bytes,
-        },
+        table,
         none,
         kind,
         t,
         start,
         data,
         Sink::List,
-        &mut marks,
+        &mut [],
         out,
         0,
     );
@@ -131,17 +108,7 @@ fn list_at(table: &Table, view: View, i: usize, out: &mut [u64]) -> Reply
     let kind = narrow[s + i];
     let t = narrow[2 * s + i] as u64;
     let start = wide[i] as usize;
-    list_shown(
-        table.types,
-        table.fields,
-        table.consts,
-        table.bytes,
-        kind,
-        t,
-        start,
-        &pool[a..e],
-        out,
-    )
+    list_shown(table, kind, t, start, &pool[a..e], out)
 }
 
 // The handles that slot i shows: 9, 13, 7.
