@@ -8,7 +8,7 @@ use Rattle.ty.specs.Types.{Table}
 use Rattle.reach.specs.Reach.{Graph}
 use Rattle.reach.specs.Marking.{State, follow_all, pin_all, drained, marking}
 use Rattle.mark.specs.Scratch.{seeded_from}
-use Rattle.addresses.specs.Listed.{paired, slots_of}
+use Rattle.addresses.specs.Listed.{slots_of}
 use Rattle.collection.specs.Shown.{shown}
 use Rattle.collection.specs.Collected.{starts}
 use Rattle.collection.specs.Held.{held_graph}
@@ -29,16 +29,6 @@ value_of class classes values q = if ltb q (length values) then (if eqb (get_or 
 -- the values of the registers of this class whose bit is set
 abbrev pub row_values : (class : ℕ) (classes row values : List ℕ) → List ℕ
 row_values class classes row values = values_of values (of_class class classes (passing (bit_in 64 row) 0 (length values)))
-
--- addresses that rise in pairs, and one value a register
-pub record Ordered (addresses classes values : List ℕ) : Type 0 where
-  pub paired : paired addresses ≡ true
-  pub valued : length classes ≡ length values
-
--- and few enough slots for indices of 32 bits
-pub record CanHold (slots : ℕ) (addresses classes values : List ℕ) : Type 0 where
-  pub few : slots ≤ 16777216
-  pub ordered : Ordered addresses classes values
 
 -- the marking from a state: the frame's handles, other roots, the seals, the pins. None where the frame map fails or a reached object can't be traced
 abbrev pub joined_from : Graph → (slots : ℕ) → State → (frame : Option (List ℕ)) (values sealed pins : List ℕ) → Option State

