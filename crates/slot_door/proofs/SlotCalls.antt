@@ -5,9 +5,8 @@ use mathlib.Core.Bool.{Bool, true, false}
 use mathlib.Core.List.{List, [], ◌∷◌}
 use native.Mathlib.Omega.{arith}
 use lib.ListN.{length, get_or, take, drop}
-use Rattle.word.specs.Result.{Result, refused}
 use Rattle.word.specs.Run.{run}
-use Rattle.word.proofs.RunLaws.{run-get}
+use Rattle.word.proofs.RunLaws.{run-get, first-get}
 use Rattle.refusal.specs.Told.{told, nothing}
 use Rattle.refusal.specs.declared.Answer.{Answer}
 use Rattle.refusal.specs.declared.Refusal.{Refusal}
@@ -19,7 +18,7 @@ use Rattle.handle.proofs.ResolveLaws.{live-beyond, live-not, live-there}
 use Rattle.ty.specs.Types.{Table}
 use Rattle.ty.specs.View.{table_of}
 use Rattle.ty.specs.Check.{table_good}
-use Rattle.heap.specs.Packing.{start_of}
+use Rattle.heap.specs.Packing.{data_at}
 use Rattle.heap.specs.State.{slot_at, live}
 use Rattle.heap.specs.Lent.{Lent, view}
 use Rattle.heap.specs.Seen.{seen, state}
@@ -29,14 +28,26 @@ use Rattle.trace.specs.Listing.{listing, Lists, written_to}
 use Rattle.reach.specs.Reach.{Graph}
 use Rattle.collection.specs.Shown.{shown}
 use Rattle.collection.specs.Collected.{graph}
-use Rattle.mark.specs.Graph.{Fit, graph_in}
-use Rattle.mark.proofs.Bridge.{slot-shown}
+use Rattle.mark.specs.Graph.{Fit, graph_in, shown_in}
+use Rattle.mark.specs.Objects.{Laid, laid, laid_in}
+use Rattle.mark.specs.declared.objects.Objects.{Objects}
 use Rattle.mark.proofs.Formed.{formed-fit, formed-graph}
-use Rattle.door.specs.HeapCalls.{test, admitted, heap_tests, Entered, asked}
+use Rattle.door.specs.HeapCalls.{test, heap_tests, Entered, asked}
 use Rattle.door.specs.HeapCalls.{Entry}
 use Rattle.door.specs.HeapCalls.{ready}
 use Rattle.door.proofs.Entering.{and-holds, and-fails, and-more, ask-refused, ask-ready, whether-not, whether-ready}
+use Rattle.slot_door.specs.Inner.Objects.{shown_of}
 use Rattle.slot_door.specs.SlotHandles.{slot_handles, slot_tests, slot_call, slot_out}
+
+-- ---- a slot in use
+
+-- what its numbers and its data show
+pub shown-at : (T : Table) (x : Objects) (i : ℕ) → i < x.slots.slots → (d : List ℕ) → d ≡ data_at (run x.slots.s x.slots.s x.wide.now) x.pool.now i
+    → handles_of T (get_or x.slots.narrow.now (x.slots.s + i) 0) (get_or x.slots.narrow.now (2 * x.slots.s + i) 0) (get_or x.wide.now i 0) d ≡ shown_of T x i
+unfolding shown_in
+shown-at T x i h d e =
+    let l : i < x.slots.s = omega (arith, x.fit.runs.used) in
+    λ j. handles_of T (sym (run-get x.slots.s x.slots.s x.slots.narrow.now i l) j) (sym (run-get x.slots.s (2 * x.slots.s) x.slots.narrow.now i l) j) (sym (first-get x.slots.s x.wide.now i l) j) (e j)
 
 -- ---- a slot of a heap that is lent to be read
 
@@ -53,14 +64,10 @@ module _ (v : View) (T : Table) (i : ℕ) where
   live-is : live_in v.heap.slots (run S S v.narrow.now) i ≡ live (slot_at (state v) i)
   live-is = ap (λ (G : Graph). G.live i) graphs
 
-  -- a slot in use
-  pub at_listed : (h : i < v.heap.slots) (a : ℕ) (ea : a ≡ start_of (run (length v.narrow.now / 6) (length v.narrow.now / 6) v.wide.now) i) (r : Reply) (out out' : List ℕ)
-      → Lists (listing (handles_of T (get_or v.narrow.now (length v.narrow.now / 6 + i) 0) (get_or v.narrow.now (2 * (length v.narrow.now / 6) + i) 0) (get_or v.wide.now i 0)
-      (take (get_or v.wide.now (length v.narrow.now / 6 + i) 0 - a) (drop a v.pool.now))) (length out)) r out out'
-      → Lists (listing (shown T (state v) i) (length out)) r out out'
-  at_listed h a ea r out out' l =
-      subst (λ o. Lists (listing o (length out)) r out out')
-      (slot-shown v.heap.slots S v.narrow.now v.wide.now v.pool.now (fit-of v) i h a ea T ∙ ap (λ (G : Graph). G.handles i) graphs) l
+  -- what is listed of the objects that are gone through is listed of the heap
+  pub at_listed : (x : Objects) → laid x ≡ laid_in v → (r : Reply) (out out' : List ℕ) → Lists (listing (shown_of T x i) (length out)) r out out' → Lists (listing (shown T (state v) i) (length out)) r out out'
+  at_listed x e r out out' l =
+      subst (λ o. Lists (listing o (length out)) r out out') (ap (λ (d : Laid). shown_in T d.S d.narrow d.wide d.pool i) e ∙ ap (λ (G : Graph). G.handles i) graphs) l
 
   module _ (out : List ℕ) where
     none-there : live (slot_at (state v) i) ≡ false → Lists (slot_handles T i (length out) (state v)) (Err NothingThere) out out

@@ -1,1 +1,2 @@
 pub mod Misfit
+pub mod Objects

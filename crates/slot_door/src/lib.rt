@@ -8,15 +8,16 @@ ghost use Rattle.trace.specs.Places.{handles_of};
 ghost use Rattle.trace.specs.Listing.{listing, Lists};
 ghost use Rattle.heap.specs.Lent.{lent};
 ghost use Rattle.heap.specs.Seen.{seen, state};
-ghost use Rattle.collection.specs.Shown.{shown};
 ghost use Rattle.door.specs.HeapCalls.{Entered, entry_of, asked};
 ghost use Rattle.slot_door.specs.SlotHandles.{slot_handles, slot_tests, slot_call, slot_out};
 ghost use Rattle.slot_door.specs.Traceable.{fits_table, misfit, trace_call};
 ghost use Rattle.slot_door.specs.Inner.Misfit.{misfit_in};
+ghost use Rattle.slot_door.specs.Inner.Objects.{shown_of};
 
 use handle::Slots;
 use heap::Heap;
 use heap::view::View;
+use mark::Objects;
 use refusal::{Answer, Refusal, Reply};
 use trace::Sink;
 use ty::Table;
@@ -92,23 +93,15 @@ fn list_shown(table: &Table, kind: u32, t: u64, start: usize, data: &[u8], out: 
 }
 
 // The handles that slot i shows, which is in use: 13, 7.
-fn list_at(table: &Table, view: View, i: usize, out: &mut [u64]) -> Reply
-    requires { i < view.heap.slots }
-    ensures { Lists (listing (shown (table_in table.now) (state view.entry) i) (length out.old)) result out.old out.new }
+fn list_at(table: &Table, objects: Objects, i: usize, out: &mut [u64]) -> Reply
+    requires { i < objects.slots.slots }
+    ensures { Lists (listing (shown_of (table_in table.now) objects.entry i) (length out.old)) result out.old out.new }
 {
-    let View {
-        heap: _,
-        narrow,
-        wide,
-        pool,
-    } = view;
-    let s = narrow.len() / 6;
-    let a = heap::start_of(wide, s, i);
-    let e = wide[s + i] as usize;
+    let Slots { s, narrow, .. } = objects.slots;
     let kind = narrow[s + i];
     let t = narrow[2 * s + i] as u64;
-    let start = wide[i] as usize;
-    list_shown(table, kind, t, start, &pool[a..e], out)
+    let start = objects.wide[i] as usize;
+    list_shown(table, kind, t, start, objects.data_of(i), out)
 }
 
 // The handles that slot i shows: 9, 13, 7.
@@ -128,7 +121,7 @@ fn list_slot(table: &Table, view: View, i: usize, out: &mut [u64]) -> Reply
     if narrow[s + i] == 0 {
         return Err(Refusal::NothingThere);
     }
-    list_at(table, view, i, out)
+    list_at(table, Objects::of(view), i, out)
 }
 
 // The handles that a live slot shows, in the order in which it is traced: an object of kind Typed by its type, of kind Handles by offset, of kind Bytes none. One with nothing
@@ -186,7 +179,7 @@ fn fits_table(table: &Table, view: View, i: usize) -> bool
     if table.types.len() / 4 <= t {
         return false;
     }
-    let Err(why) = list_at(table, view, i, &mut []) else {
+    let Err(why) = list_at(table, Objects::of(view), i, &mut []) else {
         return true;
     };
     match why {

@@ -1,6 +1,10 @@
 -- `slot_door::list_slot` meets its contract.
+use mathlib.Core.Path.{sym, subst}
+use Prim.Native.Nat.{◌<◌}
+use Rattle.ty.specs.View.{lent}
+use Rattle.mark.specs.Objects.{Laid}
 use native.Mathlib.Omega.{arith}
-use Rattle.slot_door.proofs.SlotCalls.{fit-of, slot-missing, slot-dead, slot-listed}
+use Rattle.slot_door.proofs.SlotCalls.{fit-of, at_listed, slot-missing, slot-dead, slot-listed}
 use Rattle.slot_door.proofs.list_slot.Goals as goal
 
 pub returns-then-heap-i : goal.returns-then-heap-i
@@ -18,5 +22,8 @@ bounds-narrow-s c = omega (arith, (fit-of c.args.view).runs.used)
 pub returns-then-narrow-s-eq0 : goal.returns-then-narrow-s-eq0
 returns-then-narrow-s-eq0 c = slot-dead c.args.view _ _ _ c.if-heap-i.false c.if-narrow-s-eq0.true
 
+pub list_at-requires : goal.list_at-requires
+list_at-requires c = subst (λ (d : Laid). c.args.i < d.slots) (sym c.of.ensures) c.if-heap-i.false
+
 pub returns : goal.returns
-returns c = slot-listed c.args.view _ _ _ c.if-heap-i.false c.if-narrow-s-eq0.false _ _ c.list_at.ensures
+returns c = slot-listed c.args.view _ _ _ c.if-heap-i.false c.if-narrow-s-eq0.false _ _ (at_listed c.args.view (lent c.args.table.now) c.args.i c.of.result c.of.ensures _ _ _ c.list_at.ensures)
