@@ -97,8 +97,3 @@ module _ (narrow wide : List ℕ) (q r z ys₁ ys₂ ys₃ : List ℕ) where
             ∙ (let l : Lent = cut h S narrow wide pool in
             λ j. columns h S l.generation l.kind l.type l.start l.end l.writes pool l.free (q-is j) (z-is j) (r-is j) l.over);
       }
-
-  pub lists-same : length ys₁ ≡ length (take (5 * (length narrow / 6) - 4 * (length narrow / 6)) (drop (4 * (length narrow / 6)) narrow)) →
-      length ys₂ ≡ length (take (6 * (length narrow / 6) - 5 * (length narrow / 6)) (drop (5 * (length narrow / 6)) (put_mid (4 * (length narrow / 6)) (5 * (length narrow / 6) - 4 * (length narrow / 6)) narrow ys₁))) →
-      length (put_mid (5 * (length narrow / 6)) (6 * (length narrow / 6) - 5 * (length narrow / 6)) (put_mid (4 * (length narrow / 6)) (5 * (length narrow / 6) - 4 * (length narrow / 6)) narrow ys₁) ys₂) ≡ length narrow
-  lists-same n₁ n₂ = same_len_mid (5 * S) (6 * S - 5 * S) narrow₁ ys₂ n₂ ∙ same_len_mid (4 * S) (5 * S - 4 * S) narrow ys₁ n₁

@@ -130,13 +130,6 @@ module _ (h : Heap) (narrow wide pool : List ℕ) (r : Ready (lent h narrow wide
           names-sum,
         )
 
-    pub puts-page : {a b1 b2 b3 b4 b5 b6 b7 b8 : List ℕ} {at k1 k2 k3 k4 k5 k6 k7 k8 : ℕ} →
-        Puts a b1 at k1 (heap_names (written p)) → Puts b1 b2 k1 k2 (numbers h) → Puts b2 b3 k2 k3 (slot_names (written p)) → Puts b3 b4 k3 k4 slot_lines →
-        Puts b4 b5 k4 k5 (free_name ++ flat_map value_line (take h.free f)) → Puts b5 b6 k5 k6 (quarantine_name ++ flat_map value_line (take h.quarantine q)) →
-        Puts b6 b7 k6 k7 (sealed_name ++ flat_map value_line (take h.sealed z)) → Puts b7 b8 k7 k8 (retired_name ++ flat_map value_line (take h.retired w)) → at ≤ length a → Puts a b8 at k8 (page_text (written p) (view heap))
-    puts-page p1 p2 p3 p4 p5 p6 p7 p8 l =
-        puts-at (puts-puts (puts-puts (puts-puts (puts-puts (puts-puts (puts-puts (puts-puts p1 p2 l) p3 l) p4 l) p5 l) p6 l) p7 l) p8 l) refl page-parts
-
 pub wrote : {a b t : List ℕ} {k : ℕ} → Puts a b 0 k t → length t ≤ length a → PageWritten a b t (Ok (k, 0))
 wrote {a} {b} {t} {k} p h =
     record {

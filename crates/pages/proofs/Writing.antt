@@ -69,13 +69,6 @@ value-is n = refl
 pub value-length : (n : ℕ) → length (value_line n) ≡ length (decimal n) + 1
 value-length n = ap length (sym (value-is n)) ∙ length-append (decimal n) (10 ∷ [])
 
-pub puts-number : {a b : List ℕ} {at k : ℕ} (n e : ℕ) → Puts a b at k (decimal n) → at + length (decimal n ++ (e ∷ [])) ≤ length a →
-    Puts a (set b k e) at (k + 1) (decimal n ++ (e ∷ []))
-puts-number {a} {b} {at} {k} n e p h =
-    let l = length-append (decimal n) (e ∷ []) in
-    let m : length b ≡ length a = puts-length p (omega arith) in
-    puts-puts p (puts-byte b k e (omega (arith, p.next))) (omega arith)
-
 -- planes take as many bytes as data
 pub column-length : (p : Bool) (bs : List ℕ) → length (column p bs) ≡ length bs
 column-length true bs = length-planes 8 bs
@@ -121,12 +114,6 @@ unfolding flat_map
 same_lines p [] = refl
 same_lines p (s ∷ l) =
     rw (length-append (slot_line p s) (flat_map (slot_line p) l), length-append (slot_line false s) (flat_map (slot_line false) l), same_line p s, same_lines p l)
-
-module _ {a b1 b2 b3 b4 b5 b6 : List ℕ} {at k1 k2 k3 k4 k5 k6 : ℕ} (p : Bool) (g k t s w : ℕ) (bs : List ℕ) where
-  pub puts-slot : Puts a b1 at k1 (field g 44) → Puts b1 b2 k1 k2 (field k 44) → Puts b2 b3 k2 k3 (field t 44) → Puts b3 b4 k3 k4 (field s 44) → Puts b4 b5 k4 k5 (field w 44) →
-      Puts b5 b6 k5 k6 (hex (column p bs)) → at ≤ length a → k6 < length b6 → Puts a (set b6 k6 10) at (k6 + 1) (slot_line p (slot g k t s w bs))
-  puts-slot p1 p2 p3 p4 p5 p6 h l =
-      puts-at (puts-puts (puts-puts (puts-puts (puts-puts (puts-puts (puts-puts p1 p2 h) p3 h) p4 h) p5 h) p6 h) (puts-byte b6 k6 10 l) h) refl (slot-parts p g k t s w bs)
 
 -- SLOTS IN COLUMNS
 
@@ -189,13 +176,6 @@ module _ (t s r l n f q z : ℕ) where
         length-append (decimal z) (44 ∷ []),
       )
 
-  pub puts-head : {a b1 b2 b3 b4 b5 b6 b7 b8 : List ℕ} {at k1 k2 k3 k4 k5 k6 k7 k8 : ℕ} →
-      Puts a b1 at k1 (field t 44) → Puts b1 b2 k1 k2 (field s 44) → Puts b2 b3 k2 k3 (field r 44) → Puts b3 b4 k3 k4 (field l 44) →
-      Puts b4 b5 k4 k5 (field n 44) → Puts b5 b6 k5 k6 (field f 44) → Puts b6 b7 k6 k7 (field q 44) → Puts b7 b8 k7 k8 (field z 44) → at ≤ length a →
-      Puts a b8 at k8 (head_fields t s r l n f q z)
-  puts-head p1 p2 p3 p4 p5 p6 p7 p8 h =
-      puts-at (puts-puts (puts-puts (puts-puts (puts-puts (puts-puts (puts-puts (puts-puts p1 p2 h) p3 h) p4 h) p5 h) p6 h) p7 h) p8 h) refl head-parts
-
   -- the whole line: the count of the retired slots is the last
   module _ (w : ℕ) where
     pub line-parts : head_fields t s r l n f q z ++ field w 10 ≡ numbers_line true t s r l n f q z w
@@ -207,9 +187,6 @@ module _ (t s r l n f q z : ℕ) where
 
     pub line-length-decimal : length (numbers_line true t s r l n f q z w) ≡ length (head_fields t s r l n f q z) + length (decimal w) + 1
     line-length-decimal = line-length ∙ omega (arith, length-append (decimal w) (10 ∷ []))
-
-    pub puts-line-of-numbers : {a b c : List ℕ} {at j k : ℕ} → Puts a b at j (head_fields t s r l n f q z) → Puts b c j k (field w 10) → at ≤ length a → Puts a c at k (numbers_line true t s r l n f q z w)
-    puts-line-of-numbers p p' h = puts-at (puts-puts p p' h) refl line-parts
 
 -- the line of a listed value, as the code has read it
 pub listed-line : {A : Type 0} (number : A → ℕ) (l : List A) (i : ℕ) (x : A) (n : ℕ) → x ≡ get_or l i x → n ≡ number x → value_line n ≡ value_line (number (get_or l i x))

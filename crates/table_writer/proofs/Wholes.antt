@@ -221,53 +221,6 @@ module _ (w f c b names : List ℕ) (x y : ℕ) (n : NamesFound names (length w 
           names-length names y (length c / 3) (names_at names y (length c / 3)) [] n.constants,
         ))
 
-  module _ {o0 o1 o2 o3 o4 o5 o6 o7 o8 : List ℕ} {k1 k2 k3 k4 k5 k6 k7 k8 : ℕ} where
-    -- the parts put one after another
-    pub puts-table : Puts o0 o1 0 k1 head → Puts o1 o2 k1 k2 type_names → Puts o2 o3 k2 k3 rows1 → Puts o3 o4 k3 k4 field_names → Puts o4 o5 k4 k5 rows2 → Puts o5 o6 k5 k6 constant_names →
-        Puts o6 o7 k6 k7 rows3 → Puts o7 o8 k7 k8 tail → k1 ≤ length o1 → k2 ≤ length o2 → k3 ≤ length o3 → k4 ≤ length o4 → k5 ≤ length o5 → k6 ≤ length o6 →
-        Puts o0 o8 0 k8 (table_text (named w f c b names x y))
-    puts-table a1 a2 a3 a4 a5 a6 a7 a8 h1 h2 h3 h4 h5 h6 =
-        puts-at (puts-puts a1 (puts-puts a2 (puts-puts a3 (puts-puts a4 (puts-puts a5 (puts-puts a6 (puts-puts a7 a8 h6) h5) h4) h3) h2) h1) (omega arith)) refl table-parts
-
--- THE FIRST LINES AND THE LAST
-
-pub head-length : (t f c : ℕ) → length (count_names ++ counts_line t f c) ≡ 23 + length (field t) + length (field f) + length (decimal c) + 1
-head-length t f c =
-    omega (
-      arith,
-      length-append count_names (counts_line t f c),
-      count-names-length,
-      ap length (counts-parts t f c),
-      length-append (field t) (field f ++ (decimal c ++ (10 ∷ []))),
-      length-append (field f) (decimal c ++ (10 ∷ [])),
-      length-append (decimal c) (10 ∷ []),
-    )
-
-pub puts-head : {o0 o1 o2 o3 o4 : List ℕ} {p q u v : ℕ} (t f c : ℕ) → Puts o0 o1 0 p count_names → Puts o1 o2 p q (field t) → Puts o2 o3 q u (field f) → Puts o3 o4 u v (decimal c) →
-    length o1 ≡ length o0 → length o2 ≡ length o0 → length o3 ≡ length o0 → length o4 ≡ length o0 → length (count_names ++ counts_line t f c) ≤ length o0 →
-    Puts o0 (set o4 v 10) 0 (v + 1) (count_names ++ counts_line t f c)
-puts-head {o0} {o1} {o2} {o3} {o4} {p} {q} {u} {v} t f c a b d e l1 l2 l3 l4 h =
-    let len = head-length t f c in
-    let na = a.next in
-    let nb = b.next in
-    let nd = d.next in
-    let ne = e.next in
-    let w : Puts o4 (set o4 v 10) v (v + 1) (10 ∷ []) = puts-byte o4 v 10 (omega (arith, count-names-length)) in
-    puts-at (puts-puts a (puts-puts b (puts-puts d (puts-puts e w (omega (arith, count-names-length))) (omega (arith, count-names-length))) (omega (arith, count-names-length))) (omega arith)) refl
-    (ap (λ (z : List ℕ). count_names ++ z) (counts-parts t f c))
-
-pub tail-length : (b : List ℕ) → length (bytes_name ++ (hex b ++ (10 ∷ []))) ≡ 6 + length (hex b) + 1
-tail-length b = omega (arith, length-append bytes_name (hex b ++ (10 ∷ [])), bytes-name-length, length-append (hex b) (10 ∷ []))
-
-pub puts-tail : {o0 o1 o2 : List ℕ} {at p q : ℕ} (b : List ℕ) → Puts o0 o1 at p bytes_name → Puts o1 o2 p q (hex b) → length o1 ≡ length o0 → length o2 ≡ length o0 →
-    at + length (bytes_name ++ (hex b ++ (10 ∷ []))) ≤ length o0 → Puts o0 (set o2 q 10) at (q + 1) (bytes_name ++ (hex b ++ (10 ∷ [])))
-puts-tail {o0} {o1} {o2} {at} {p} {q} b x y l1 l2 h =
-    let len = tail-length b in
-    let nx = x.next in
-    let ny = y.next in
-    let w : Puts o2 (set o2 q 10) q (q + 1) (10 ∷ []) = puts-byte o2 q 10 (omega (arith, bytes-name-length)) in
-    puts-puts x (puts-puts y w (omega (arith, bytes-name-length))) (omega arith)
-
 -- A TABLE THAT 01 TAKES HAS WHOLE ROWS
 
 module _ (w f c b : List ℕ) (good : table_good w f c b ≡ true) where

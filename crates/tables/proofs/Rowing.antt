@@ -28,13 +28,6 @@ pub field-length : (n : ℕ) → length (field n) ≡ length (decimal n) + 1
 unfolding field
 field-length n = length-append (decimal n) (comma ∷ [])
 
-pub puts-field : {a b : List ℕ} {at k : ℕ} (n : ℕ) → Puts a b at k (decimal n) → at + length (field n) ≤ length a → Puts a (set b k 44) at (k + 1) (field n)
-unfolding field
-puts-field {a} {b} {at} {k} n p h =
-    let l = length-append (decimal n) (comma ∷ []) in
-    let m : length b ≡ length a = puts-length p (omega arith) in
-    puts-puts p (puts-byte b k 44 (omega (arith, p.next))) (omega arith)
-
 -- HOW LONG NUMBERS ARE
 
 pub digits-most : (x d : ℕ) → d ≡ length (decimal x) → x < 18446744073709551616 → d ≤ 20

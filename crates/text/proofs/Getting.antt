@@ -308,9 +308,6 @@ pub record Looking (s : List ℕ) (at j : ℕ) (all : Bool) : Type 0 where
   pub few : j ≤ 32
   pub each : all ≡ true → (k : ℕ) → k < j → HexDigit (get_or s (at + k) 0)
 
-pub looking-first : (s : List ℕ) (at : ℕ) → at + 32 ≤ length s → Looking s at 0 true
-looking-first s at room = record { room = room; few = omega arith; each = λ z k h. absurd (omega arith) }
-
 pub looking-next : {s : List ℕ} {at j : ℕ} {all r : Bool} → Looking s at j all → j < 32 → (r ≡ true → HexDigit (get_or s (at + j) 0)) → Looking s at (j + 1) (all && r)
 looking-next {s} {at} {j} {all} {r} v less d =
     record {

@@ -22,6 +22,7 @@ pub fn decimal_len(n: u64) -> usize
 }
 
 // Puts a number in decimal from `at` on, and answers where it ends.
+// Kept: std's `write!` into a slice answers an `io::Error`; here the room is asked for before, and no call fails.
 pub fn put_decimal(out: &mut [u8], at: usize, n: u64) -> usize
     requires { at + length (decimal n) ≤ length out.old }
     ensures { Puts out.old out.new at result (decimal n) }
