@@ -19,7 +19,7 @@ ghost use mathlib.Core.Path.{sym};
 use heap::view::View;
 use heap::{Contents, Heap};
 use refusal::{Refusal, Reply};
-use text::out::Out;
+use text::output::Out;
 
 // What stands in a list and is written as a number, one of so many bits: a slot index, or a handle.
 pub trait Listed: Copy {

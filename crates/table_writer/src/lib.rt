@@ -13,7 +13,7 @@ ghost use Rattle.table_writer.specs.Writing.{table_in, TableWritten};
 
 use pages::Listed;
 use refusal::{Refusal, Reply};
-use text::out::Out;
+use text::output::Out;
 use ty::Table;
 
 // How many bytes the values of a list take as numbers, each with a comma after it.

@@ -7,7 +7,7 @@ use native.Mathlib.Omega.{arith}
 use Rattle.text.specs.Put.{Puts}
 use Rattle.text.proofs.Putting.{puts-puts, puts-byte, puts-at, puts_none, puts-length}
 use Rattle.text.specs.Wrote.{Wrote}
-use Rattle.text.specs.declared.out.Out.{Out}
+use Rattle.text.specs.declared.output.Out.{Out}
 
 -- x is written, and there is room for the rest
 pub record Writes (o o' : Out) (x rest : List ℕ) : Type 0 where

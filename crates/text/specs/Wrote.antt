@@ -1,7 +1,7 @@
 -- What a step leaves of a page that is written.
 use Rattle.std.specs.Prelude.{ℕ, List, ◌≡◌}
 use Rattle.text.specs.Put.{Puts}
-use Rattle.text.specs.declared.out.Out.{Out}
+use Rattle.text.specs.declared.output.Out.{Out}
 
 -- the same page, with `text` written after what was
 pub record Wrote (o o' : Out) (text : List ℕ) : Type 0 where

@@ -10,7 +10,7 @@ ghost use Rattle.std.proofs.Math.Option.{none, some};
 ghost use Rattle.text.specs.Answer.{hex_at, HexParsed, HexDigit, HexDigits, HexRun};
 
 pub mod hex;
-pub mod out;
+pub mod output;
 
 use hex::Hex;
 
