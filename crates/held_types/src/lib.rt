@@ -3,8 +3,8 @@
 #![tactic(auto)]
 
 ghost use Rattle.std.specs.Prelude.{◌≡◌, length, if◌then◌else◌};
-ghost use Rattle.word.specs.Result.{ok, refused};
-ghost use Rattle.refusal.specs.Told.{number_of, answered, here, nothing};
+ghost use Rattle.word.specs.Result.{ok};
+ghost use Rattle.refusal.specs.Told.{answered, here, nothing};
 ghost use Rattle.ty.specs.View.{types_of, table_of};
 ghost use Rattle.ty.specs.Walks.{has_handles};
 ghost use Rattle.layout.specs.Offsets.{told, offsets_of, layout_call, written_by};
@@ -28,34 +28,30 @@ pub struct Laying {
     pub offsets: u64,
 }
 
-fn not_laid(why: Refusal) -> Laying
-    ensures { result ≡ laid (refused (number_of why)) }
-{
-    Laying {
-        number: u64::from(why),
-        size: 0,
-        align: 0,
-        stride: 0,
-        count: 0,
-        used: 0,
-        offsets: 0,
-    }
-}
+impl From<Result<(layout::Layout, usize), Refusal>> for Laying {
+    ghost from_gives = { λ answer laying. laying ≡ laid (told answer) };
 
-fn laid_out(a: Result<(layout::Layout, usize), Refusal>) -> Laying
-    ensures { result ≡ laid (told a) }
-{
-    match a {
-        Ok((l, offsets)) => Laying {
-            number: 0,
-            size: l.size,
-            align: l.align,
-            stride: l.stride,
-            count: l.count,
-            used: l.used as u64,
-            offsets: offsets as u64,
-        },
-        Err(why) => not_laid(why),
+    fn from(answer: Result<(layout::Layout, usize), Refusal>) -> Laying {
+        match answer {
+            Ok((l, offsets)) => Laying {
+                number: 0,
+                size: l.size,
+                align: l.align,
+                stride: l.stride,
+                count: l.count,
+                used: l.used as u64,
+                offsets: offsets as u64,
+            },
+            Err(why) => Laying {
+                number: u64::from(why),
+                size: 0,
+                align: 0,
+                stride: 0,
+                count: 0,
+                used: 0,
+                offsets: 0,
+            },
+        }
     }
 }
 
@@ -75,34 +71,26 @@ pub fn yexwalu_held_layout(
         (layout_call (table_of types.now fields.now consts.now bytes.now) t desc.now (length out.old))
         (offsets_of (table_of types.now fields.now consts.now bytes.now) t desc.now) out.old }
 {
-    laid_out(layout::lay_out(
-        &Table {
-            types,
-            fields,
-            consts,
-            bytes,
-        },
-        t,
-        desc,
-        out,
-    ))
+    let table = Table {
+        types,
+        fields,
+        consts,
+        bytes,
+    };
+    Laying::from(layout::lay_out(&table, t, desc, out))
 }
 
 // Whether values of type t can hold handles: 1 or 0.
 pub fn yexwalu_held_has_handles(types: &[u64], fields: &[u32], t: u64) -> Answer
     ensures { result ≡ answered here nothing (ok (if has_handles (types_of types.now fields.now) t then 1 else 0)) }
 {
-    if (Table {
+    let table = Table {
         types,
         fields,
         consts: &[],
         bytes: &[],
-    })
-    .has_handles(t)
-    {
-        return Answer::from(Ok((1, 0)));
-    }
-    Answer::from(Ok((0, 0)))
+    };
+    Answer::from(Ok((u64::from(table.has_handles(t)), 0)))
 }
 
 // The handles of an object's visible data, which is of type t: its descriptor, then its value. They go to the lent list from its front on. First: how many.
@@ -120,20 +108,17 @@ pub fn yexwalu_held_object_handles(
     ensures written { out.new ≡ written_to out.old
         (listing (object_handles (table_of types.now fields.now consts.now bytes.now) t «data».now) (length out.old)) }
 {
-    Answer::from(trace::list_object(
-        &Table {
-            types,
-            fields,
-            consts,
-            bytes,
-        },
-        t,
-        data,
-        out,
-    ))
+    let table = Table {
+        types,
+        fields,
+        consts,
+        bytes,
+    };
+    Answer::from(trace::list_object(&table, t, data, out))
 }
 
 // The handles of a value of type t that needs no descriptor. First: how many.
+// Kept: the C interface has a call for objects and one for values.
 pub fn yexwalu_held_value_handles(
     types: &[u64],
     fields: &[u32],
@@ -148,15 +133,11 @@ pub fn yexwalu_held_value_handles(
     ensures written { out.new ≡ written_to out.old
         (listing (value_handles (table_of types.now fields.now consts.now bytes.now) t «data».now) (length out.old)) }
 {
-    Answer::from(trace::list_value(
-        &Table {
-            types,
-            fields,
-            consts,
-            bytes,
-        },
-        t,
-        data,
-        out,
-    ))
+    let table = Table {
+        types,
+        fields,
+        consts,
+        bytes,
+    };
+    Answer::from(trace::list_value(&table, t, data, out))
 }
