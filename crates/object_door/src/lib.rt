@@ -18,6 +18,7 @@ use heap::view_mut::ViewMut;
 use heap::{Changed, Heap};
 use heap_calls::NewObject;
 use heap_calls::kind::ObjectKind;
+use heap_calls::pinned::Pins;
 use refusal::{Answer, Refusal, Reply};
 
 // Is there scratch enough, and are the lent sizes in range?
@@ -99,6 +100,7 @@ pub fn recycle(heap: Heap, narrow: &mut [u32], wide: &[u64], pool: &[u8], pins: 
         (recycling pins.now (view (lent heap narrow.old wide.now pool.now))) }
 {
     if heap_calls::recycle::rise(pins) {
+        let pins = Pins { list: pins };
         return Changed {
             heap: heap_calls::recycle::recycle(heap, narrow, wide, pool, pins),
             reply: Ok((0, 0)),

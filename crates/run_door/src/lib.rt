@@ -19,6 +19,7 @@ use heap::Heap;
 use heap::view_mut::ViewMut;
 use heap_calls::NewObject;
 use heap_calls::kind::ObjectKind;
+use heap_calls::pinned::Pins;
 use refusal::{Answer, Refusal, Reply};
 use script::{AllocLine, Line, begins_call, read_line};
 
@@ -60,7 +61,8 @@ fn recycle(lent: &mut ViewMut)
     let narrow = &mut *lent.narrow;
     let wide = &mut *lent.wide;
     let pool = &mut *lent.pool;
-    lent.heap = heap_calls::recycle::recycle(lent.heap, narrow, wide, pool, &[]);
+    let none = Pins { list: &[] };
+    lent.heap = heap_calls::recycle::recycle(lent.heap, narrow, wide, pool, none);
 }
 
 // The call of a line that was read.

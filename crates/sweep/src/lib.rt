@@ -13,6 +13,7 @@ ghost use Rattle.sweep.specs.Columns.{CanCompact, Compacted, CanSettle, Settled,
 
 use heap::Heap;
 use heap::view_mut::ViewMut;
+use heap_calls::pinned::Pins;
 
 // The n bytes from `from` on come to stand from `to` on, which is not above: the lowest first, so that none is overwritten before it is read. Bytes that stay are not
 // touched.
@@ -215,6 +216,7 @@ pub fn sweep(lent: &mut ViewMut, marks: &[u8], pins: &[u32])
     let wide = &mut *lent.wide;
     let pool = &mut *lent.pool;
     let h = drop_unmarked(lent.heap, narrow, wide, pool, marks);
+    let pins = Pins { list: pins };
     lent.heap = heap_calls::recycle::recycle(h, narrow, wide, pool, pins);
 }
 

@@ -3,8 +3,8 @@ use mathlib.Core.Path.{sym, ◌∙◌}
 use Rattle.object_door.proofs.Objects.{of-pins, no_pins}
 use Rattle.object_door.proofs.recycle.Goals as goal
 
-pub recycle-requires : goal.recycle-requires
-recycle-requires c = record { pool_value = c.requires; pins_value = sym c.rise.ensures ∙ c.if-rise.true }
+pub invariant_of-pins : goal.invariant_of-pins
+invariant_of-pins c = record { rises = sym c.rise.ensures ∙ c.if-rise.true }
 
 pub returns-then-rise : goal.returns-then-rise
 returns-then-rise c = of-pins _ _ _ (sym c.rise.ensures ∙ c.if-rise.true) c.recycle.ensures

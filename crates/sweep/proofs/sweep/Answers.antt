@@ -11,3 +11,6 @@ returns c = record { loans = record { narrow = refl; wide = refl; pool = refl };
 
 pub invariant_of-lent : goal.invariant_of-lent
 invariant_of-lent c = record { formed = c.recycle-lent.ensures.formed }
+
+pub invariant_of-pins : goal.invariant_of-pins
+invariant_of-pins c = record { rises = c.requires.pins_value }

@@ -6,7 +6,7 @@ use Rattle.heap_calls.proofs.Going.{in-first, in_entry, in-turn, in-fill, in-sam
 use Rattle.heap_calls.proofs.recycle.recycle_lists.Goals as goal
 
 pub loop-j-init : goal.loop-j-init
-loop-j-init c = in-first c.args.all c.args.f c.args.r c.args.q (c.args.pins.now ++ marked_slots c.args.marks.now) c.args.narrow.now c.requires.q_bound.0 c.requires.q_bound.1 c.requires.q_bound.2
+loop-j-init c = in-first c.args.all c.args.f c.args.r c.args.q (c.args.pins.list.now ++ marked_slots c.args.marks.now) c.args.narrow.now c.requires.q_bound.0 c.requires.q_bound.1 c.requires.q_bound.2
 
 pub overflow_add-x : goal.overflow_add-x
 overflow_add-x c = omega (arith, c.loop-j.invariant, c.loop-j.invariant.beside.long, c.requires.q_bound)
@@ -17,32 +17,29 @@ offset_bounds-narrow-four c = omega (arith, c.loop-j.invariant, c.loop-j.invaria
 pub bounds-narrow-four : goal.bounds-narrow-four
 bounds-narrow-four c = omega (arith, c.loop-j.invariant, c.loop-j.invariant.beside.long, c.requires.q_bound)
 
-pub stays-held-requires : goal.stays-held-requires
-stays-held-requires c = c.requires.pins_value
-
 pub overflow_cast-worn : goal.overflow_cast-worn
-overflow_cast-worn c = omega (arith, in_entry c.args.all c.args.f c.args.r c.args.q (c.args.pins.now ++ marked_slots c.args.marks.now) c.args.narrow.now c.requires.q_bound.0 c.requires.q_bound.1 c.requires.q_bound.2 c.loop-j.invariant c.loop-j-test.true c.requires.entries, c.loop-j.invariant.beside.long, c.requires.q_bound)
+overflow_cast-worn c = omega (arith, in_entry c.args.all c.args.f c.args.r c.args.q (c.args.pins.list.now ++ marked_slots c.args.marks.now) c.args.narrow.now c.requires.q_bound.0 c.requires.q_bound.1 c.requires.q_bound.2 c.loop-j.invariant c.loop-j-test.true c.requires.entries, c.loop-j.invariant.beside.long, c.requires.q_bound)
 
 pub offset_bounds-narrow-x : goal.offset_bounds-narrow-x
-offset_bounds-narrow-x c = omega (arith, in_entry c.args.all c.args.f c.args.r c.args.q (c.args.pins.now ++ marked_slots c.args.marks.now) c.args.narrow.now c.requires.q_bound.0 c.requires.q_bound.1 c.requires.q_bound.2 c.loop-j.invariant c.loop-j-test.true c.requires.entries, c.loop-j.invariant.beside.long, c.requires.q_bound)
+offset_bounds-narrow-x c = omega (arith, in_entry c.args.all c.args.f c.args.r c.args.q (c.args.pins.list.now ++ marked_slots c.args.marks.now) c.args.narrow.now c.requires.q_bound.0 c.requires.q_bound.1 c.requires.q_bound.2 c.loop-j.invariant c.loop-j-test.true c.requires.entries, c.loop-j.invariant.beside.long, c.requires.q_bound)
 
 pub bounds-narrow-x : goal.bounds-narrow-x
-bounds-narrow-x c = omega (arith, in_entry c.args.all c.args.f c.args.r c.args.q (c.args.pins.now ++ marked_slots c.args.marks.now) c.args.narrow.now c.requires.q_bound.0 c.requires.q_bound.1 c.requires.q_bound.2 c.loop-j.invariant c.loop-j-test.true c.requires.entries, c.loop-j.invariant.beside.long, c.requires.q_bound)
+bounds-narrow-x c = omega (arith, in_entry c.args.all c.args.f c.args.r c.args.q (c.args.pins.list.now ++ marked_slots c.args.marks.now) c.args.narrow.now c.requires.q_bound.0 c.requires.q_bound.1 c.requires.q_bound.2 c.loop-j.invariant c.loop-j-test.true c.requires.entries, c.loop-j.invariant.beside.long, c.requires.q_bound)
 
 pub put-counts-requires : goal.put-counts-requires
 put-counts-requires c = omega (arith, c.loop-j.invariant, c.loop-j.invariant.beside.long, c.requires.q_bound)
 
 pub loop-j-preserved : goal.loop-j-preserved
-loop-j-preserved c = in-turn c.args.all c.args.f c.args.r c.args.q (c.args.pins.now ++ marked_slots c.args.marks.now) c.args.narrow.now c.requires.q_bound.0 c.requires.q_bound.1 c.requires.q_bound.2 c.loop-j.invariant c.loop-j-test.true c.requires.entries c.stays-held.ensures refl c.put-counts.ensures
+loop-j-preserved c = in-turn c.args.all c.args.f c.args.r c.args.q (c.args.pins.list.now ++ marked_slots c.args.marks.now) c.args.narrow.now c.requires.q_bound.0 c.requires.q_bound.1 c.requires.q_bound.2 c.loop-j.invariant c.loop-j-test.true c.requires.entries c.stays-held.ensures refl c.put-counts.ensures
 
 pub slice_bounds-fill-end : goal.slice_bounds-fill-end
 slice_bounds-fill-end c = omega (arith, c.loop-j.invariant, c.loop-j.invariant.beside.long, c.requires.q_bound)
 
 pub fill-requires : goal.fill-requires
-fill-requires c = in-fill c.args.all c.args.f c.args.r c.args.q (c.args.pins.now ++ marked_slots c.args.marks.now) c.args.narrow.now c.requires.q_bound.0 c.requires.q_bound.1 c.requires.q_bound.2 c.loop-j.invariant
+fill-requires c = in-fill c.args.all c.args.f c.args.r c.args.q (c.args.pins.list.now ++ marked_slots c.args.marks.now) c.args.narrow.now c.requires.q_bound.0 c.requires.q_bound.1 c.requires.q_bound.2 c.loop-j.invariant
 
 pub shape_of-narrow : goal.shape_of-narrow
-shape_of-narrow c = in-same c.args.all c.args.f c.args.r c.args.q (c.args.pins.now ++ marked_slots c.args.marks.now) c.args.narrow.now c.requires.q_bound.0 c.requires.q_bound.1 c.requires.q_bound.2 c.loop-j.invariant c.fill.new.dst c.fill.auto.dst
+shape_of-narrow c = in-same c.args.all c.args.f c.args.r c.args.q (c.args.pins.list.now ++ marked_slots c.args.marks.now) c.args.narrow.now c.requires.q_bound.0 c.requires.q_bound.1 c.requires.q_bound.2 c.loop-j.invariant c.fill.new.dst c.fill.auto.dst
 
 pub returns : goal.returns
-returns c = in-last c.args.all c.args.f c.args.r c.args.q (c.args.pins.now ++ marked_slots c.args.marks.now) c.args.narrow.now c.requires.q_bound.0 c.requires.q_bound.1 c.requires.q_bound.2 c.loop-j.invariant c.fill.new.dst c.fill.auto.dst c.loop-j-test.false c.fill.ensures
+returns c = in-last c.args.all c.args.f c.args.r c.args.q (c.args.pins.list.now ++ marked_slots c.args.marks.now) c.args.narrow.now c.requires.q_bound.0 c.requires.q_bound.1 c.requires.q_bound.2 c.loop-j.invariant c.fill.new.dst c.fill.auto.dst c.loop-j-test.false c.fill.ensures

@@ -5,4 +5,4 @@ use Rattle.heap_calls.proofs.Going.{GoingIn}
 use Rattle.heap_calls.proofs.recycle.recycle_lists.Given as goal
 
 abbrev pub invariant-loop-j : goal.invariant-loop-j
-invariant-loop-j l = GoingIn l.all l.f l.r l.q (l.pins ++ marked_slots l.marks) l.initial.narrow l.counts.free l.counts.retired l.counts.keep l.j l.narrow
+invariant-loop-j l = GoingIn l.all l.f l.r l.q (l.pins.list.now ++ marked_slots l.marks) l.initial.narrow l.counts.free l.counts.retired l.counts.keep l.j l.narrow

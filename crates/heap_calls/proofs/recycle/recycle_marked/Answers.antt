@@ -8,10 +8,13 @@ use Rattle.heap_calls.proofs.Marked.{no_pins}
 use Rattle.heap_calls.proofs.recycle.recycle_marked.Goals as goal
 
 pub recycle_lists-c-requires : goal.recycle_lists-c-requires
-recycle_lists-c-requires c = let can = lists-can ((lent c.args.heap c.args.narrow.now c.args.wide.now c.args.pool.now)) c.requires in record { q_bound = (can.free, can.retired, omega arith); entries = entries-are c.args.heap c.args.narrow.now c.args.wide.now c.args.pool.now can.entries (omega (arith, can.free)); pins_value = no_pins [] }
+recycle_lists-c-requires c = let can = lists-can ((lent c.args.heap c.args.narrow.now c.args.wide.now c.args.pool.now)) c.requires in record { q_bound = (can.free, can.retired, omega arith); entries = entries-are c.args.heap c.args.narrow.now c.args.wide.now c.args.pool.now can.entries (omega (arith, can.free)) }
 
 pub reclaim_after-requires : goal.reclaim_after-requires
 reclaim_after-requires c = omega (arith, (lists-can ((lent c.args.heap c.args.narrow.now c.args.wide.now c.args.pool.now)) c.requires).few, kept-few _ _ _ _ _ _ _ _ _ _ c.recycle_lists-c.ensures)
 
 pub returns : goal.returns
 returns c = recycled-leaves c.args.heap c.args.narrow.now c.args.wide.now c.args.pool.now c.requires _ _ _ _ _ _ _ _ _ _ c.recycle_lists-c.ensures c.with_free.ensures c.with_retired.ensures c.with_quarantine.ensures c.with_reclaim.ensures c.reclaim_after.ensures
+
+pub invariant_of-recycle_lists : goal.invariant_of-recycle_lists
+invariant_of-recycle_lists c = record { rises = no_pins [] }

@@ -2,8 +2,8 @@
 use Rattle.heap_calls.proofs.Marked.{stays-pinned, stays-marked}
 use Rattle.heap_calls.proofs.recycle.stays.Goals as goal
 
-pub returns-then-pinned : goal.returns-then-pinned
-returns-then-pinned c = search stays-pinned
+pub returns-then-hold : goal.returns-then-hold
+returns-then-hold c = search stays-pinned
 
 pub returns : goal.returns
 returns c = search stays-marked
