@@ -216,6 +216,7 @@ pub fn begins(end: &[u64], i: usize) -> usize
 }
 
 // The data of slot `i` of `n` becomes `new`; what lies after it moves up or down. The last slot's data moves no other byte.
+// Kept: `end` is a whole run of the wide list, of which n places are in use, and its contract speaks of the run.
 pub fn splice(end: &mut [u64], pool: &mut [u8], n: usize, i: usize, new: &[u8])
     requires { CanSplice n i end.old pool.old new.now }
     ensures { Spliced n i end.old pool.old new.now end.new pool.new }

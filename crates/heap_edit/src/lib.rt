@@ -209,6 +209,7 @@ pub fn reissue(
 // ---- seal
 
 // One more handle after the first `count` of the output, for a live slot.
+// Kept: the seals stand in a run of the wide list, which a library can't grow, so their count comes with them.
 fn list_one(kind: u32, x: u64, count: usize, sealed: &mut [u64]) -> usize
     requires { count < length sealed.old }
     ensures { Listing kind x count sealed.old result sealed.new }

@@ -65,6 +65,7 @@ pub fn keep(
 }
 
 // Places the object `bytes[start..]` of this kind and type. First: its handle.
+// Kept: the C interface lends the header and the heap in parts, and what a call here requires is said of these.
 pub fn yexwalu_held_alloc_from(
     tag: &mut [u8; 1],
     numbers: &mut [u64; 4],

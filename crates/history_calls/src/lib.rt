@@ -13,6 +13,7 @@ use door::Done;
 use heap::Heap;
 use refusal::Answer;
 
+// Kept: it has the parameters of the C interface's call, whose contract it is to show.
 pub fn alloc_from(
     heap: Heap,
     narrow: &mut [u32],
@@ -160,6 +161,7 @@ pub fn seal(
     heap_door::yexwalu_seal(heap, narrow, wide, pool, marks, work)
 }
 
+// Kept: it has the parameters of the C interface's call, whose contract it is to show.
 pub fn collect(
     types: &[u64],
     fields: &[u32],
@@ -184,6 +186,7 @@ pub fn collect(
     )
 }
 
+// Kept: it has the parameters of the C interface's call, whose contract it is to show.
 pub fn collect_joined(
     types: &[u64],
     fields: &[u32],

@@ -113,6 +113,7 @@ pub fn recycle(heap: Heap, narrow: &mut [u32], wide: &[u64], pool: &[u8], pins: 
 }
 
 // Places the object `bytes[start..]` of this kind and type; the answer is its handle.
+// Kept: the C interface lends the heap in parts, so an export takes them.
 pub fn yexwalu_alloc_from(
     heap: Heap,
     narrow: &mut [u32],

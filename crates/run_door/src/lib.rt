@@ -24,6 +24,7 @@ use refusal::{Answer, Refusal, Reply};
 use script::{AllocLine, Line, begins_call, read_line};
 
 // The call of an `alloc` line: 8, then 6, then 5. Data longer than the pool is not decoded, so that the room is enough.
+// Kept: the room is lent beside the heap, and a struct of both would be taken apart in each of the three functions that need it.
 fn do_alloc(lent: &mut ViewMut, s: &[u8], a: AllocLine, room: &mut [u8]) -> Reply
     requires can_run { length lent.old.pool.now ≤ length room.old }
     requires data_there { DataThere s.now a }
