@@ -2,8 +2,8 @@
 use Prim.Native.Nat.{ℕ, ◌-◌, ◌*◌, ◌/◌, ◌^◌, ◌≤◌, ◌<◌}
 use mathlib.Core.Path.{◌≡◌, refl, sym, ap, ◌∙◌, subst, fun_ext}
 use mathlib.Core.Logic.{inl, inr}
-use mathlib.Core.List.{List, [], ◌∷◌, ◌++◌}
-use lib.ListN.{length, get_or, take, drop, length-drop, length-append}
+use mathlib.Core.List.{List, [], ◌∷◌}
+use lib.ListN.{length, get_or, take, drop, length-drop}
 use lib.Seq.{length-take-le}
 use native.Mathlib.Omega.{arith}
 use Rattle.std.specs.Prelude.{Option, Some, None}
@@ -276,9 +276,6 @@ module _ (v : View) (marks work : List ℕ) (c : CanMark (seen v) marks work) wh
   pub mark-room : v.heap.slots ≤ length marks
   mark-room = omega (arith, fit.runs.used, c.marks_room)
 
-  pub mark-long : v.heap.slots ≡ length (take v.heap.slots marks)
-  mark-long = sym (length-take-le v.heap.slots marks mark-room)
-
   -- for what of it is gone through
   pub mark-clear : (x : Objects) → laid x ≡ laid_in v → Clear x.slots.slots (take v.heap.slots marks) work
   mark-clear x e =
@@ -288,7 +285,3 @@ module _ (v : View) (marks work : List ℕ) (c : CanMark (seen v) marks work) wh
         clear = ap (take v.heap.slots) c.clear ∙ take-zeros v.heap.slots (length marks) mark-room;
         room = omega (arith, fit.runs.used, c.work_room);
       })
-
--- the marks whose first part was lent
-pub prefix-length : (n : ℕ) (m m' : List ℕ) → n ≤ length m → length m' ≡ length (take n m) → length (m' ++ drop n m) ≡ length m
-prefix-length n m m' h e = omega (arith, length-append m' (drop n m), length-drop n m, length-take-le n m h)
