@@ -10,6 +10,7 @@ use crate::registers::Frame;
 use addresses::Pairs;
 
 // A pinned slot is marked and queued if there is that slot. Its index is any number of 64 bits.
+// Kept: marks, work and n stay three here and below, as in `push_all`.
 fn hold(slots: usize, i: u64, marks: &mut [u8], work: &mut [u64], n: usize) -> usize
     requires { Scratch slots marks.old work.old n }
     ensures { Holds slots marks.new work.new result (pin_if (in_use slots i) (state_of marks.old work.old n) i) }

@@ -25,6 +25,7 @@ mod registers; // what a joined collection gets of a safepoint
 pub use objects::{Objects, seals};
 
 // What each handle of a list leads to is marked and queued.
+// Kept: marks, work and n stay three here and below, as the tracer takes them; a struct that knew `Scratch` would need its slots to be equal to `here`'s at each call.
 pub fn push_all(here: Slots, list: &[u64], marks: &mut [u8], work: &mut [u64], n: usize) -> usize
     requires { Scratch here.slots marks.old work.old n }
     ensures holds { Holds here.entry.slots marks.new work.new result
@@ -154,7 +155,7 @@ pub fn drain(
 {
     let mut count = n;
     let mut next = from;
-    // Kept: the queue grows while it is gone through.
+    // Kept: the queue grows while it is gone through, so no range or slice of it is there before.
     while next < count {
         let i = (work[next] % 4294967296) as usize;
         count = trace_at(table, objects, i, marks, work, count)?;

@@ -11,9 +11,6 @@ trace_at-requires c = record { scratch = c.loop-next.invariant.scratch; i_lt_slo
 pub returns-in_err-count : goal.returns-in_err-count
 returns-in_err-count c = rw c.from_residual.ensures (record { traces = drains-stuck _ _ _ _ _ _ _ _ _ _ _ _ _ _ c.loop-next.invariant c.loop-next-test.true _ _ _ c.trace_at.ensures.traces c.in_err-count.was; noted_by = tt })
 
-pub overflow_add-next : goal.overflow_add-next
-overflow_add-next c = omega (arith, queue-slots _ _ _ _ c.loop-next.invariant.scratch, c.loop-next-test.true)
-
 pub loop-next-smaller : goal.loop-next-smaller
 loop-next-smaller c = omega (arith, queue-slots _ _ _ _ c.loop-next.invariant.scratch, c.loop-next-test.true)
 

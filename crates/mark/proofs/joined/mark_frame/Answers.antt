@@ -19,12 +19,6 @@ returns-in_err-n c =
 pub seed_joined-m-requires : goal.seed_joined-m-requires
 seed_joined-m-requires c = frame-scratch _ _ _ _ _ _ c.requires _ _ _ _ c.trace_frame.ensures _ c.in_ok-n.was
 
-pub drain-requires : goal.drain-requires
-drain-requires c = c.seed_joined-m.ensures.scratch
-
-pub shape_of-marks : goal.shape_of-marks
-shape_of-marks c = c.drain.auto.marks ∙ c.seed_joined-m.auto.marks ∙ c.trace_frame.auto.marks
-
 pub returns : goal.returns
 returns c =
     let T = lent c.args.table.now in

@@ -6,20 +6,5 @@ use Rattle.mark.specs.Safepoints.{live_values}
 use Rattle.mark.proofs.FrameMarks.{joined-seeds}
 use Rattle.mark.proofs.joined.seed_joined.Goals as goal
 
-pub hold_all-c-requires : goal.hold_all-c-requires
-hold_all-c-requires c = c.push_all-b.ensures.holds.scratch
-
-pub hold_frame-d-requires : goal.hold_frame-d-requires
-hold_frame-d-requires c = c.hold_all-c.ensures.scratch
-
-pub push_row-requires : goal.push_row-requires
-push_row-requires c = c.hold_frame-d.ensures.scratch
-
-pub shape_of-marks : goal.shape_of-marks
-shape_of-marks c = c.push_row.auto.marks ∙ c.hold_frame-d.auto.marks ∙ c.hold_all-c.auto.marks ∙ c.push_all-b.auto.marks ∙ c.push_row-a.auto.marks
-
-pub shape_of-work : goal.shape_of-work
-shape_of-work c = c.push_row.auto.work ∙ c.hold_frame-d.auto.work ∙ c.hold_all-c.auto.work ∙ c.push_all-b.auto.work ∙ c.push_row-a.auto.work
-
 pub returns : goal.returns
 returns c = joined-seeds (leads c.args.here) c.args.here.slots c.args.pairs.list.now (live_values 4 c.args.registers) c.args.sealed.now c.args.pins.now (entries_words c.args.frame.memory.now (entries_of c.args.frame.map.now)) (live_values 2 c.args.registers) _ _ _ _ _ _ _ _ _ _ _ _ _ _ _ _ c.push_row-a.ensures.followed c.push_all-b.ensures.holds c.hold_all-c.ensures c.hold_frame-d.ensures c.push_row.ensures.followed
