@@ -14,12 +14,6 @@ mark-marked-requires c = subst (λ (l : Lent). Ready l.header.slots c.args.marks
 pub finish-requires : goal.finish-requires
 finish-requires c = record { room = collect-room _ _ _ _ c.requires _ c.mark-marked.auto.marks; pins_value = c.requires.rises }
 
-pub shape_of-marks : goal.shape_of-marks
-shape_of-marks c = c.finish.auto.marks ∙ c.mark-marked.auto.marks
-
-pub shape_of-work : goal.shape_of-work
-shape_of-work c = c.finish.auto.work ∙ c.mark-marked.auto.work
-
 pub returns : goal.returns
 returns c =
     let t = lent c.args.table.now in

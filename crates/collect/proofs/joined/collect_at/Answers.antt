@@ -36,18 +36,6 @@ slice_bounds-registers-end c = rw (c.words-words.ensures, c.block_count.ensures)
 pub invariant_of-registers : goal.invariant_of-registers
 invariant_of-registers c = record { valued = sym c.requires.can_look.valued }
 
-pub collect_row-r-requires : goal.collect_row-r-requires
-collect_row-r-requires c = c.requires.can_collect
-
-pub shape_of-marks : goal.shape_of-marks
-shape_of-marks c = c.collect_row-r.auto.marks
-
-pub shape_of-work : goal.shape_of-work
-shape_of-work c = c.collect_row-r.auto.work
-
-pub shape_of-rows : goal.shape_of-rows
-shape_of-rows c = c.fill.auto.self ∙ c.root_row.auto.rows
-
 pub returns : goal.returns
 returns c =
     let x = c.args.at in

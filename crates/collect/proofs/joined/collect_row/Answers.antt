@@ -16,12 +16,6 @@ mark_joined-marked-requires c = subst (λ (l : Lent). Ready l.header.slots c.arg
 pub finish_marked-requires : goal.finish_marked-requires
 finish_marked-requires c = collect-room _ _ _ _ c.requires _ c.mark_joined-marked.auto.marks
 
-pub shape_of-marks : goal.shape_of-marks
-shape_of-marks c = c.finish_marked.auto.marks ∙ c.mark_joined-marked.auto.marks
-
-pub shape_of-work : goal.shape_of-work
-shape_of-work c = c.finish_marked.auto.work ∙ c.mark_joined-marked.auto.work
-
 pub returns : goal.returns
 returns c =
     let t = lent c.args.table.now in
