@@ -130,13 +130,6 @@ module _ (b : List ℕ) (n : ℕ) (r q : Run) (s v p : List ℕ) (lies : Lies (l
   unfolding text_left
   way-over k e f = goes_at e (stands {at = Over k} {l = lent r.heap s v p} {t = take n b} {b = b} s v p f (record { good = record { heap = lies; short = λ e. absurd (let z : ◌≡◌ {A = ℕ} 0 1 = cc in omega arith); room = omega arith }; same = λ failed rest. refl }))
 
-  -- the names line is not there whole
-  pub way-waiting : r.at ≡ Names → n < 23 → Goes r.at (lent r.heap s v p) (take n b) (record { heap = r.heap; at = r.at; held = n }) (lent r.heap s v p) b
-  way-waiting e k =
-      goes_at e
-      (subst (λ (a : At). Goes Names (lent r.heap s v p) (take n b) (record { heap = r.heap; at = a; held = n }) (lent r.heap s v p) b) (sym e)
-      (record { good = record { heap = lies; short = λ e. k; room = omega arith }; same = λ failed rest. refl }))
-
   module _ (long : 23 ≤ n) (inside : n ≤ 65536) (size : length b ≡ 65536) where
     -- another line
     pub way-unnamed : r.at ≡ Names → is_there (read_literal names_line (take n b)) ≡ false → q ≡ over_with r 17 → Goes r.at (lent r.heap s v p) (take n b) q (lent q.heap s v p) b
@@ -157,6 +150,3 @@ pub way-named : {l : Lent} (b : List ℕ) (n : ℕ) {at : At} {r : Run} {l' : Le
 way-named {l} b n {at} {r} {l'} {b'} long inside size e f g =
     goes_at e (goes-named {t = take n b} (sym f) (subst (λ (t : List ℕ). Goes Lines l t r l' b') (after_line b n long (omega arith)) g))
 
--- all of it is lines
-pub way-lines : {l : Lent} (b : List ℕ) (n : ℕ) {at : At} {r : Run} {l' : Lent} {b' : List ℕ} → at ≡ Lines → Goes Lines l (take (n - 0) (drop 0 b)) r l' b' → Goes at l (take n b) r l' b'
-way-lines {l} b n {at} {r} {l'} {b'} e g = goes_at e (subst (λ (k : ℕ). Goes Lines l (take k b) r l' b') (let z : n - 0 ≡ n = omega arith in z) g)

@@ -274,6 +274,7 @@ impl Running {
 }
 
 // ALL THAT IS PRINTED for an input, in parts that the buffer takes. `failed`: the input could not be read to its end.
+// Kept: a buffer of fixed size, as the library has no heap.
 pub fn print_all(input: &[u8], failed: bool, out: &mut [u8; 14592]) -> usize
     ensures { Ends (printed failed input.now) out.new result }
 {

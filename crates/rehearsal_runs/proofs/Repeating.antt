@@ -172,10 +172,6 @@ module _ {T : Table} {l₀ : Lent} {s ns out₀ : List ℕ} {l : Lent} {out : Li
     pub repeat-put : get_or ns i 0 < 2 ^ 64 → g.collections < 2 ^ 64 → CanPut out at (get_or ns i 0) g
     repeat-put word count = record { room = omega (arith, line-short word count, repeat-long, v.printed.next, v.short, v.room) }
 
-    -- so many lines are in so many bytes
-    pub repeat-least : {out' : List ℕ} {at' : ℕ} → Puts out out' at at' (figures_line (figures_in (get_or ns i 0) g)) → 2 * (i + 1) ≤ at'
-    repeat-least p = omega (arith, p.next, v.printed.next, v.least, line-long (figures_in (get_or ns i 0) g))
-
     next-left : drop i ns ≡ get_or ns i 0 ∷ drop (i + 1) ns
     next-left = drop-cons-one ns i less
 

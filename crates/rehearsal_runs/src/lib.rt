@@ -62,6 +62,7 @@ fn run_lines(
 }
 
 // Runs the lines of the text from a new heap of tag 1.
+// Kept: the heap's lists by themselves, here and in each line; the heap is made in memory where none lies, and each step needs that the lists keep their lengths.
 fn rehearse_one(
     plan: &Plan,
     narrow: &mut [u32],

@@ -47,12 +47,6 @@ pub still-open : (o : Option Refusal) → is_some o ≡ false → o ≡ None
 still-open None e = refl
 still-open (Some why) e = absurd (let w : ◌≡◌ {A = ℕ} 0 1 = cc in omega arith)
 
--- the sum of a heap that fits
-pub small-sum : {l : Lent} {words : List ℕ} {g : Going} → InOrder l words g → g.size < 2 ^ 32
-small-sum {l} order =
-    let s = (formed-tested l order.formed).sound in
-    omega (arith, order.sum, live-most (view l).slots, s.slots-fit, s.slot-range.1, s.data-fit, s.pool-range)
-
 module _ {l : Lent} {words : List ℕ} {g : Going} (order : InOrder l words g) (t k : ℕ) (bs : List ℕ) {l₁ : Lent} {reply : Reply}
     (d : Tells here nothing l l₁ reply (alloc_call (slot_count l) (pool_size l) k t 0 bs (view l))) where
   abbrev c : Changed ℕ

@@ -32,6 +32,7 @@ pub struct Going {
 }
 
 // A due collection from the held handles: counted, or 13 ends it.
+// Kept: `InOrder` in `requires`; in a struct with the words and the counts, of what a call on a `ViewMut` made of its lists leaves only the lengths are known.
 pub fn collect_due(
     table: &Table,
     g: Going,

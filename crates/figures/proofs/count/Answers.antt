@@ -4,9 +4,6 @@ use Rattle.heap.specs.Lent.{lent, view}
 use Rattle.figures.proofs.Counting.{Counted, counted-first, place, starts, few, counted-more, counted-all}
 use Rattle.figures.proofs.count.Goals as goal
 
-pub none-figures-requires : goal.none-figures-requires
-none-figures-requires c = tt
-
 pub loop-i-init : goal.loop-i-init
 loop-i-init c = λ h e l. subst (Counted (view (lent h c.args.narrow.now c.args.wide.now c.args.pool.now)).slots 0 0) (sym c.none-figures.ensures) (counted-first _)
 

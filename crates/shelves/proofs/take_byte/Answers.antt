@@ -8,9 +8,6 @@ use Rattle.shelves.proofs.take_byte.Goals as goal
 pub returns-then-k-eq0 : goal.returns-then-k-eq0
 returns-then-k-eq0 c = reads_none c.args.k c.args.n c.args.b c.if-b-eq10.true c.if-k-eq0.true
 
-pub begun-requires : goal.begun-requires
-begun-requires c = tt
-
 pub returns-then-b-eq10 : goal.returns-then-b-eq10
 returns-then-b-eq10 c = reads_end c.args.k c.args.n c.args.b _ c.if-b-eq10.true c.if-k-eq0.false c.begun.ensures
 
@@ -23,14 +20,8 @@ returns-then-b-gt57 c = reads-high c.args.k c.args.n c.args.b c.if-b-gt57.true
 pub returns-then-k-eq18 : goal.returns-then-k-eq18
 returns-then-k-eq18 c = reads-long c.args.k c.args.n c.args.b c.if-b-lt48.false c.if-b-gt57.false c.if-k-eq18.true
 
-pub may_follow-requires : goal.may_follow-requires
-may_follow-requires c = tt
-
 pub returns-then-not-may_follow : goal.returns-then-not-may_follow
 returns-then-not-may_follow c = reads-spare c.args.k c.args.n c.args.b c.if-b-lt48.false c.if-b-gt57.false c.requires.0 c.if-k-eq18.false (sym c.may_follow.ensures ∙ c.if-not-may_follow.true)
-
-pub overflow_add-result : goal.overflow_add-result
-overflow_add-result c = omega (arith, c.requires.0)
 
 pub overflow_mul-result : goal.overflow_mul-result
 overflow_mul-result c = omega (arith, room_for c.args.k c.args.n c.args.b c.if-b-lt48.false c.if-b-gt57.false c.requires.0 c.if-k-eq18.false c.requires.1)
