@@ -1,5 +1,4 @@
 use native.Mathlib.Omega.{arith}
-use Rattle.wanted.specs.Search.{noted}
 use Rattle.wanted_door.proofs.Roots.{write-first, write-long, write-passed, write-room, write-taken, write-end}
 use Rattle.wanted_door.proofs.list.write_roots.Goals as goal
 use Rattle.wanted_door.proofs.list.write_roots.Goals.{then-is_root, else-is_root}

@@ -1,5 +1,4 @@
 use mathlib.Core.Path.{sym, ◌∙◌}
-use native.Mathlib.Omega.{arith}
 use Rattle.wanted_door.proofs.Meeting.{live_below, stopped}
 use Rattle.wanted_door.proofs.Goings.{up_first, up-dead, up-stuck, up_next, up-end}
 use Rattle.wanted_door.proofs.pick.Search.candidates.Goals as goal
