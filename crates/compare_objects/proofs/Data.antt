@@ -16,7 +16,7 @@ use Rattle.trace.specs.Emit.{Answer, Raw, raw_of, compared, handing_at, told}
 use Rattle.trace.proofs.BesideLaws.{beside-told, beside_none}
 use Rattle.alike.specs.Order.{order}
 use Rattle.alike.specs.Inner.ByTurns.{◌and_then◌}
-use Rattle.alike.specs.Inner.Beside.{Beside, beside_first, beside_all, beside_end}
+use Rattle.alike.specs.Inner.Beside.{Beside, beside_first, beside_all}
 use Rattle.beside.specs.Inner.Codes.{order_of}
 use Rattle.beside.specs.Inner.Ranks.{place_in}
 use Rattle.beside.specs.Inner.Found.{codes_of}
