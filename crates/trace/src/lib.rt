@@ -7,15 +7,16 @@ ghost use Rattle.ty.specs.View.{lent};
 ghost use Rattle.trace.specs.Places.{handle_at, handles_places, shown_places, value_handles, object_handles, handles_of};
 ghost use Rattle.trace.specs.Emit.{emit_all, raw_of, into, queued, emitted, emitting, beside_aim, handing_at, told};
 ghost use Rattle.beside.specs.Inner.Ranks.{slots_resolve};
-ghost use Rattle.trace.specs.Listing.{listing, Lists};
 
 use beside::Met;
 use handle::Slots;
-use refusal::{Refusal, Reply};
 use tracer::Tracer;
 use ty::Table;
 
+pub mod list; // calls that list handles
 mod tracer; // what finds the places of one object
+
+pub use list::{list_object, list_slot, list_value};
 
 // Where handles go: they are counted, up to one more than a limit; written to the list `to`; or resolved, and what they lead to is marked in `marks` and queued
 // in `to`, each object once.
@@ -237,76 +238,4 @@ pub fn trace_beside(
         goal: Goal::Beside(there, &other[start..]),
     };
     tracer.trace_visible(of, t, found, work, n)
-}
-
-// The handles of a value, into the lent list. First they are only counted, so that a refusal leaves the list as it was.
-pub fn list_value(table: &Table, t: u64, data: &[u8], out: &mut [u64]) -> Reply
-    ensures { Lists
-        (listing (value_handles (lent table.now) t «data».now) (length out.old))
-        result out.old out.new }
-{
-    let narrow = [0u32; 1];
-    let none = Slots {
-        tag: 0,
-        slots: 0,
-        s: 0,
-        narrow: &narrow,
-    };
-    let mut marks = [0u8; 1];
-    let mut unused = [0u64; 1];
-    let limit = out.len();
-    let c = trace_value(
-        table,
-        none,
-        t,
-        data,
-        Sink::Check(limit),
-        &mut marks,
-        &mut unused,
-        0,
-    );
-    let Some(n) = c else {
-        return Err(Refusal::Untraceable);
-    };
-    if limit < n {
-        return Err(Refusal::ShortList);
-    }
-    trace_value(table, none, t, data, Sink::List, &mut marks, out, 0);
-    Ok((n as u64, 0))
-}
-
-// The handles of an object's visible data, into the lent list. First they are only counted, so that a refusal leaves the list as it was.
-pub fn list_object(table: &Table, t: u64, data: &[u8], out: &mut [u64]) -> Reply
-    ensures { Lists
-        (listing (object_handles (lent table.now) t «data».now) (length out.old))
-        result out.old out.new }
-{
-    let narrow = [0u32; 1];
-    let none = Slots {
-        tag: 0,
-        slots: 0,
-        s: 0,
-        narrow: &narrow,
-    };
-    let mut marks = [0u8; 1];
-    let mut unused = [0u64; 1];
-    let limit = out.len();
-    let c = trace_object(
-        table,
-        none,
-        t,
-        data,
-        Sink::Check(limit),
-        &mut marks,
-        &mut unused,
-        0,
-    );
-    let Some(n) = c else {
-        return Err(Refusal::Untraceable);
-    };
-    if limit < n {
-        return Err(Refusal::ShortList);
-    }
-    trace_object(table, none, t, data, Sink::List, &mut marks, out, 0);
-    Ok((n as u64, 0))
 }
