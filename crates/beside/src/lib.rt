@@ -24,24 +24,24 @@ pub enum Place {
     Turn(u64),
 }
 
-impl Met<'_, '_> {
-    // The turn of slot i: the upper bits of its word.
-    pub fn turn_of(self, i: u32) -> u64
-        ensures { result ≡ get_or self.entry.turns.now i 0 / 16777216 }
-    {
-        let j = i as usize;
-        if self.turns.len() <= j {
-            return 0;
-        }
-        self.turns[j] / 16777216
+// The turn of slot i: the upper bits of its word.
+pub fn turn_of(turns: &[u64], i: u32) -> u64
+    ensures { result ≡ get_or turns.now i 0 / 16777216 }
+{
+    let j = i as usize;
+    if turns.len() <= j {
+        return 0;
     }
+    turns[j] / 16777216
+}
 
+impl Met<'_, '_> {
     // What the handle h is compared by.
     pub fn place_of(self, h: u64) -> Place
         ensures { result ≡ place_of self.entry h }
     {
         match self.slots.resolve(h) {
-            Ok(i) => Place::Turn(self.turn_of(i)),
+            Ok(i) => Place::Turn(turn_of(self.turns, i)),
             Err(_) => Place::Unresolved(h),
         }
     }
@@ -67,6 +67,7 @@ pub fn compare_bytes(data: &[u8], other: &[u8], from: usize, to: usize) -> Order
 }
 
 // An order as a byte of lent scratch, which is 0 as long as all is equal.
+// Kept: the scratch that is lent for what is found is bytes (at_place), so that an order goes in and out of it as a number.
 pub fn byte_of(o: Ordering) -> u8
     ensures { result ≡ code o }
 {
@@ -89,6 +90,7 @@ pub fn order_of(byte: u8) -> Ordering
 }
 
 // The first that is not equal decides: what is found so far, as a byte, then the bytes from..to.
+// Kept: one function for this and then_handles would take what is compared as a closure, and be longer than both.
 fn then_bytes(found: u8, data: &[u8], other: &[u8], from: usize, to: usize) -> u8
     requires { (to ≤ length «data».now) × (to ≤ length other.now) }
     ensures { result ≡ then_code found (order (take (to - from) (drop from «data».now)) (take (to - from) (drop from other.now))) }

@@ -31,14 +31,20 @@ fn first_word(
     trace::emit(here, sink, marks, to, n, h)
 }
 
+// An entry of a frame map: where it lies in the memory, its kind, and its type if it is composite.
+#[derive(Clone, Copy)]
+struct Entry {
+    offset: usize,
+    of: u32,
+    t: u64,
+}
+
 // What one entry of a frame map gives of a kind: 0 handles, 1 addresses.
 fn trace_entry(
     table: &Table,
     here: Slots,
     want: u32,
-    offset: usize,
-    of: u32,
-    t: u64,
+    e: Entry,
     memory: &[u8],
     sink: Sink,
     marks: &mut [u8],
@@ -47,8 +53,9 @@ fn trace_entry(
 ) -> Option<usize>
     ensures { told result marks.new to.new ≡
         emitting (into sink (slots_resolve here.entry)) (raw_of marks.old to.old n)
-        (entry_roots (lent table.now) want memory.now (entry offset of t)) }
+        (entry_roots (lent table.now) want memory.now (entry e.offset e.of e.t)) }
 {
+    let Entry { offset, of, t } = e;
     if memory.len() < offset {
         return None;
     }
@@ -88,10 +95,12 @@ fn trace_entries(
     let mut m = n;
     for i in 0..map.len() / 3 {
         let k = 3 * i;
-        let offset = map[k] as usize;
-        let of = map[k + 1];
-        let t = map[k + 2] as u64;
-        m = trace_entry(table, here, want, offset, of, t, memory, sink, marks, to, m)?;
+        let e = Entry {
+            offset: map[k] as usize,
+            of: map[k + 1],
+            t: map[k + 2] as u64,
+        };
+        m = trace_entry(table, here, want, e, memory, sink, marks, to, m)?;
     }
     Some(m)
 }
@@ -132,15 +141,12 @@ pub fn list_roots(
         (length handles.old) (length addresses.old)) result
         handles.old addresses.old handles.new addresses.new }
 {
-    let narrow = [0u32; 1];
     let none = Slots {
         tag: 0,
         slots: 0,
         s: 0,
-        narrow: &narrow,
+        narrow: &[],
     };
-    let mut marks = [0u8; 1];
-    let mut unused = [0u64; 1];
     let lh = handles.len();
     let la = addresses.len();
     let a = trace_frame(
@@ -150,8 +156,8 @@ pub fn list_roots(
         map,
         memory,
         Sink::Check(lh),
-        &mut marks,
-        &mut unused,
+        &mut [],
+        &mut [],
         0,
     );
     let Some(nh) = a else {
@@ -164,8 +170,8 @@ pub fn list_roots(
         map,
         memory,
         Sink::Check(la),
-        &mut marks,
-        &mut unused,
+        &mut [],
+        &mut [],
         0,
     );
     let Some(na) = b else {
@@ -177,17 +183,7 @@ pub fn list_roots(
     if la < na {
         return Err(Refusal::ShortList);
     }
-    trace_frame(
-        table,
-        none,
-        0,
-        map,
-        memory,
-        Sink::List,
-        &mut marks,
-        handles,
-        0,
-    );
+    trace_frame(table, none, 0, map, memory, Sink::List, &mut [], handles, 0);
     trace_frame(
         table,
         none,
@@ -195,7 +191,7 @@ pub fn list_roots(
         map,
         memory,
         Sink::List,
-        &mut marks,
+        &mut [],
         addresses,
         0,
     );

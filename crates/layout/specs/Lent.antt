@@ -45,7 +45,7 @@ pub record ScalarRow (T : Table) (t places i n : ℕ) : Type 0 where
 abbrev pub ScalarRecord : Table → ℕ → ℕ → Option (ℕ × ℕ) → Type 0
 ScalarRecord T t places r = (i n : ℕ) → r ≡ Some (i, n) → ScalarRow T t places i n
 
--- the layout and the offsets of n fields from i on, whatever the constants and the descriptor: those of any table with the same types and fields
+-- the layout and the offsets of n fields from i on, whatever the descriptor
 pub record ScalarsLaid (T : Table) (i n : ℕ) (out out' : List ℕ) (l : Layout) : Type 0 where
   pub answer : (d : List ℕ) → told (Ok (l, n)) ≡ listed_in (record_in T i n d 64) n (length out)
   pub written : (d : List ℕ) → out' ≡ written_by (told (Ok (l, n))) (offsets_in T i n d) out

@@ -4,7 +4,6 @@
 
 ghost use Rattle.std.specs.Prelude.{◌≡◌, [], ◌∷◌, ◌<◌, length, IfOk};
 ghost use Rattle.ty.specs.View.{lent as table_in};
-ghost use Rattle.trace.specs.Places.{handles_of};
 ghost use Rattle.trace.specs.Listing.{listing, Lists};
 ghost use Rattle.heap.specs.Lent.{lent};
 ghost use Rattle.heap.specs.Seen.{seen, state};
@@ -19,7 +18,6 @@ use heap::Heap;
 use heap::view::View;
 use mark::Objects;
 use refusal::{Answer, Refusal, Reply};
-use trace::Sink;
 use ty::Table;
 
 // Do scratch, heap and type table let the handles of a slot be listed? Then the heap, to be read.
@@ -45,53 +43,6 @@ fn admit<'a>(
     Ok(view)
 }
 
-// The handles that an object of a kind and type shows, whose data is visible from start on, into the lent list. First they are only counted, so that a refusal
-// leaves the list as it was.
-fn list_shown(table: &Table, kind: u32, t: u64, start: usize, data: &[u8], out: &mut [u64]) -> Reply
-    ensures { Lists
-        (listing (handles_of (table_in table.now) kind t start «data».now) (length out.old))
-        result out.old out.new }
-{
-    let none = Slots {
-        tag: 0,
-        slots: 0,
-        s: 0,
-        narrow: &[],
-    };
-    let limit = out.len();
-    let c = trace::trace_slot(
-        table,
-        none,
-        kind,
-        t,
-        start,
-        data,
-        Sink::Check(limit),
-        &mut [],
-        &mut [],
-        0,
-    );
-    let Some(n) = c else {
-        return Err(Refusal::Untraceable);
-    };
-    if limit < n {
-        return Err(Refusal::ShortList);
-    }
-    trace::trace_slot(
-        table,
-        none,
-        kind,
-        t,
-        start,
-        data,
-        Sink::List,
-        &mut [],
-        out,
-        0,
-    );
-    Ok((n as u64, 0))
-}
-
 // The handles that slot i shows, which is in use: 13, 7.
 fn list_at(table: &Table, objects: Objects, i: usize, out: &mut [u64]) -> Reply
     requires { i < objects.slots.slots }
@@ -101,7 +52,7 @@ fn list_at(table: &Table, objects: Objects, i: usize, out: &mut [u64]) -> Reply
     let kind = narrow[s + i];
     let t = narrow[2 * s + i] as u64;
     let start = objects.wide[i] as usize;
-    list_shown(table, kind, t, start, objects.data_of(i), out)
+    trace::list_slot(table, kind, t, start, objects.data_of(i), out)
 }
 
 // The handles that slot i shows: 9, 13, 7.

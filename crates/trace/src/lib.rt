@@ -56,6 +56,7 @@ pub fn queue(marks: &mut [u8], to: &mut [u64], n: usize, i: u32) -> usize
 }
 
 // One handle goes to the sink.
+// Kept: the marks, the words and their count are three parameters: of a struct of parts lent to be changed each contract would also have to say that it holds the same loans.
 pub fn emit(here: Slots, sink: Sink, marks: &mut [u8], to: &mut [u64], n: usize, h: u64) -> usize
     ensures { raw_of marks.new to.new result ≡
         emitted (into sink (slots_resolve here.entry)) (raw_of marks.old to.old n) h }
@@ -178,6 +179,7 @@ fn trace_typed(
 }
 
 // The handles that a slot of a heap shows, to a sink: bytes before start are never traced.
+// Kept: kind, type and start are read from the slot's columns for this call alone, so that a struct of them would be made and taken apart at once.
 pub fn trace_slot(
     table: &Table,
     here: Slots,
@@ -209,6 +211,7 @@ pub fn trace_slot(
 
 // A slot's object beside one of another heap, whose data is as long: what is found of the bytes outside the handle places and of the handles there, and how many bytes
 // are behind, counted from start. `work` has the turns of this heap and is left as it is.
+// Kept: kind, type and start as trace_slot takes them.
 pub fn trace_beside(
     table: &Table,
     here: Slots,

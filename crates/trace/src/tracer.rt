@@ -200,6 +200,7 @@ impl Tracer<'_, '_, '_> {
     }
 
     // An array by its layout. Whether its elements hold handles is asked once.
+    // Kept: a type, its descriptor and the levels left are other ones at each step down, so that a struct of them would be put together anew for each call.
     #[cycle(trace_array_trace_each_trace_elems_trace_field_trace_in_trace_parts_trace_record_trace_records)]
     fn trace_array(
         &self,
@@ -241,6 +242,7 @@ impl Tracer<'_, '_, '_> {
 
     // The handles in count elements of one type under one descriptor, the first at byte `at`. Each turn passes a stride's bytes of the data, so that a walk ends within
     // its length whatever the count.
+    // Kept: a type, its descriptor and the levels left are other ones at each step down, so that a struct of them would be put together anew for each call.
     #[cycle(trace_array_trace_each_trace_elems_trace_field_trace_in_trace_parts_trace_record_trace_records)]
     fn trace_each(
         &self,
@@ -273,6 +275,7 @@ impl Tracer<'_, '_, '_> {
     }
 
     // The same, and records without asking again for each what they are.
+    // Kept: a type, its descriptor and the levels left are other ones at each step down, so that a struct of them would be put together anew for each call.
     #[cycle(trace_array_trace_each_trace_elems_trace_field_trace_in_trace_parts_trace_record_trace_records)]
     fn trace_elems(
         &self,
@@ -299,6 +302,7 @@ impl Tracer<'_, '_, '_> {
     }
 
     // Elements, or a field as one of them: under the rest of the descriptor, or under their own constant, which is looked up once for all of them.
+    // Kept: a type, its descriptor and the levels left are other ones at each step down, so that a struct of them would be put together anew for each call.
     #[cycle(trace_array_trace_each_trace_elems_trace_field_trace_in_trace_parts_trace_record_trace_records)]
     fn trace_parts(
         &self,
@@ -341,6 +345,7 @@ impl Tracer<'_, '_, '_> {
     }
 
     // A field: a handle or a scalar without looking further, anything else as one element would be.
+    // Kept: a type, its descriptor and the levels left are other ones at each step down, so that a struct of them would be put together anew for each call.
     #[cycle(trace_array_trace_each_trace_elems_trace_field_trace_in_trace_parts_trace_record_trace_records)]
     fn trace_field(
         &self,
@@ -416,6 +421,7 @@ impl Tracer<'_, '_, '_> {
     }
 
     // The handles in count records of one type, as trace_each finds those in elements. A type is looked up once for all of them, where trace_in would look it up for each.
+    // Kept: a type, its descriptor and the levels left are other ones at each step down, so that a struct of them would be put together anew for each call.
     #[cycle(trace_array_trace_each_trace_elems_trace_field_trace_in_trace_parts_trace_record_trace_records)]
     fn trace_records(
         &self,
@@ -465,6 +471,7 @@ impl Tracer<'_, '_, '_> {
     }
 
     // The handles of a Handles object's visible data: at 24, 32, .. while eight bytes fit.
+    // Kept: trace_handles stands beside it, so that a collection makes no tracer for such an object.
     fn hand_handles(&self, marks: &mut [u8], to: &mut [u64], n: usize) -> usize
         ensures { raw_of marks.new to.new result ≡
             handed_all (aimed self.now) self.now.object.now (raw_of marks.old to.old n)

@@ -55,18 +55,12 @@ pub fn sum(a: u64, b: u64) -> Option<u64>
     a.checked_add(b)
 }
 
-fn at_least_one(a: u64) -> u64
-    ensures { result ≡ Prim.Native.Nat.max a 1 }
-{
-    if a == 0 { 1 } else { a }
-}
-
 // The first multiple of a, or of 1 where a is 0, from x on.
 #[tactic(auto, using(crate::proofs::Laws::word_from_aligned))]
 fn rounded(x: u64, a: u64) -> Option<u64>
     ensures { result ≡ word_of (round_up x a) }
 {
-    word::align_up(x, at_least_one(a))
+    word::align_up(x, a.max(1))
 }
 
 // The same. The alignments of scalars are written out, because a known one needs no division.
@@ -537,6 +531,7 @@ impl<'a> Table<'a> {
         requires { (length self.now.types.now / 4 ≤ 4096) × (length self.now.fields.now / 2 ≤ 16384) }
         ensures { result ≡ all_below (small_at (types_of self.now.types.now self.now.fields.now)) (length self.now.types.now / 4) }
     {
+        // Kept: libraries have no heap, so that the scratch has the largest sizes.
         let mut counts = [0u32; 4096];
         let mut other = [0u32; 4096];
         let mut sums = [0u32; 16384];
@@ -594,6 +589,7 @@ impl<'a> Table<'a> {
         requires { (length self.now.types.now / 4 ≤ N) × (N ≤ 4096) × (length self.now.fields.now / 2 ≤ 16384) }
         ensures { result ≡ all_below (small_at (types_of self.now.types.now self.now.fields.now)) (length self.now.types.now / 4) }
     {
+        // Kept: libraries have no heap, so that the scratch is an array.
         let mut counts = [0u32; N];
         self.unfolds_in_order(&mut counts) || self.unfolds_exactly()
     }

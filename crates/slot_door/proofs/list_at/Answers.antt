@@ -8,5 +8,5 @@ use Rattle.slot_door.proofs.list_at.Goals as goal
 
 pub returns : goal.returns
 returns c =
-    subst (λ o. Lists (listing o (length c.args.out.now)) c.list_shown.result c.args.out.now c.list_shown.new.out)
-    (shown-at (lent c.args.table.now) c.args.objects c.args.i c.requires _ c.data_of.ensures) c.list_shown.ensures
+    subst (λ o. Lists (listing o (length c.args.out.now)) c.list_slot.result c.args.out.now c.list_slot.new.out)
+    (shown-at (lent c.args.table.now) c.args.objects c.args.i c.requires _ c.data_of.ensures) c.list_slot.ensures
