@@ -102,6 +102,7 @@ fn values_len<T: Listed>(list: &[T], count: usize) -> usize
 }
 
 // Puts a number and the byte after it from `at` on.
+// Kept: the printers of other crates thread a place through a lent text; it is one call of the writer.
 pub fn put_number(out: &mut [u8], at: usize, n: u64, end: u8) -> usize
     requires { at + length (decimal n ++ (end ∷ [])) ≤ length out.old }
     ensures { Puts out.old out.new at result (decimal n ++ (end ∷ [])) }
