@@ -8,7 +8,7 @@ ghost use Rattle.pages.specs.Form.{writes_width, names, sealed_name};
 ghost use Rattle.pages.specs.Page.{slot_format, sealed_end, retired_count, head_format, read_page};
 ghost use Rattle.text.specs.Format.{read_all, number};
 ghost use Rattle.page_check.specs.Partition.{values_at, ValuesParsed, Marked, right, agree};
-ghost use Rattle.page_check.specs.Filling.{slots_at, SlotsParsed};
+ghost use Rattle.page_check.specs.Filling.{slots_at};
 ghost use Rattle.page_check.specs.Answer.{slot_answer, slots_answer, sound_numbers, indices_more, seals_more, seal_test, head_answer};
 ghost use Rattle.heap.specs.State.{bit};
 ghost use Rattle.handle.specs.Handle.{tag_of, index_of, generation_of};
@@ -18,8 +18,10 @@ ghost use Rattle.page_check.specs.Accepting.{Checking};
 ghost use Rattle.page_check.specs.Parts.{sections_of, HeadSectioned, NamesRead, SlotSectioned, ListRead, ListSectioned, RetiredSectioned};
 ghost use Rattle.word.specs.Lists.{all};
 
+pub mod lines;
 pub mod page;
 
+use lines::Lines;
 use page::Page;
 use refusal::Refusal;
 
@@ -163,14 +165,15 @@ fn right_by(rule: Rule, generation: u64, kind: u64, met: bool) -> bool
     }
 }
 
-// Are bits what the lines of `count` slots, from `at` on, ask for? If so, where the next line begins.
-fn check_chunk(s: &[u8], at: usize, count: usize, rule: Rule, row: &[u64]) -> Option<usize>
-    requires slots_parsed { SlotsParsed s.now at count }
-    requires at_in_bounds { at ≤ length s.now }
-    ensures { MatchOption result (agree rule (slots_at s.now at count) row.now 0 ≡ false)
-        (λ next. (agree rule (slots_at s.now at count) row.now 0 ≡ true)
-        × (read_all (slot_format true).read count (drop at s.now) ≡ give (slots_at s.now at count) (drop next s.now)) × (next ≤ length s.now)) }
+// Are bits what the lines of slots ask for? If so, where the next line begins.
+fn check_chunk(lines: Lines, rule: Rule, row: &[u64]) -> Option<usize>
+    ensures { MatchOption result (agree rule (slots_at lines.entry.text.now lines.entry.at lines.entry.count) row.now 0 ≡ false)
+        (λ next. (agree rule (slots_at lines.entry.text.now lines.entry.at lines.entry.count) row.now 0 ≡ true)
+        × (read_all (slot_format true).read lines.entry.count (drop lines.entry.at lines.entry.text.now)
+        ≡ give (slots_at lines.entry.text.now lines.entry.at lines.entry.count) (drop next lines.entry.text.now))
+        × (next ≤ length lines.entry.text.now)) }
 {
+    let Lines { text: s, at, count } = lines;
     let mut k = at;
     for i in 0..count {
         let x = get_slot(s, k, true)?;

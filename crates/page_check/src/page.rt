@@ -4,6 +4,7 @@ ghost use Rattle.page_check.specs.Partition.{Marked, each};
 ghost use Rattle.page_check.specs.Filling.{slots_at, SlotsParsed, RunChecked};
 ghost use Rattle.page_check.specs.Sections.{heap_in, form_in, listed, obeyed, parted, Sectioned};
 
+use crate::lines::Lines;
 use crate::{Rule, Sections};
 
 #[derive(Clone, Copy)]
@@ -74,7 +75,12 @@ impl Page<'_> {
         if !self.mark_listed(rule, base, m, row) {
             return None;
         }
-        crate::check_chunk(self.text, at, m, rule, row)
+        let lines = Lines {
+            text: self.text,
+            at,
+            count: m,
+        };
+        crate::check_chunk(lines, rule, row)
     }
 
     // Are the slots of a page right by a rule? The lines of the slots are read once, the lists once a run: one run where the lent words have a bit for each slot.

@@ -9,23 +9,24 @@ ghost use Rattle.pages.specs.Page.{out_of_column};
 ghost use Rattle.heap.specs.State.{data_of, data_size};
 ghost use Rattle.heap.specs.Packing.{flat};
 ghost use Rattle.page_check.specs.Partition.{values_at, ValuesParsed};
-ghost use Rattle.page_check.specs.Filling.{slots_at, SlotsParsed};
+ghost use Rattle.page_check.specs.Filling.{slots_at};
 ghost use Rattle.heap.specs.Lent.{lent, header_of, stored};
 ghost use Rattle.page_check.specs.Sections.{heap_in, brought_in};
 ghost use Rattle.page_reader.specs.Columns.{NumbersFilled, Below, PutIn, FreeParted, ListsFilled, Roomy};
 ghost use Rattle.page_reader.specs.Reading.{PageRead};
 
 use heap::{Changed, Heap};
+use page_check::lines::Lines;
 use page_check::page::Page;
 use pages::Listed;
 use text::hex::Hex;
 
-// Puts the numbers of `count` slots, whose lines stand from `at` on, into their runs.
-fn fill_slots(s: &[u8], at: usize, count: usize, narrow: &mut [u32], wide: &mut [u64])
-    requires slots_parsed { SlotsParsed s.now at count }
-    requires at_in_bounds { (at ≤ length s.now) × (count ≤ length narrow.old / 6) × (4 * (length narrow.old / 6) ≤ length wide.old) }
-    ensures { NumbersFilled narrow.old wide.old narrow.new wide.new (slots_at s.now at count) }
+// Puts the numbers of slots into their runs.
+fn fill_slots(lines: Lines, narrow: &mut [u32], wide: &mut [u64])
+    requires { (lines.count ≤ length narrow.old / 6) × (4 * (length narrow.old / 6) ≤ length wide.old) }
+    ensures { NumbersFilled narrow.old wide.old narrow.new wide.new (slots_at lines.entry.text.now lines.entry.at lines.entry.count) }
 {
+    let Lines { text: s, at, count } = lines;
     let all = narrow.len() / 6;
     let two = 2 * all;
     let mut k = at;
@@ -58,12 +59,12 @@ fn fill_column(hex: Hex, planar: bool, pool: &mut [u8], to: usize) -> usize
     end
 }
 
-// Puts the data of `count` slots, whose lines stand from `at` on, into the pool, one after the other.
-fn fill_data(s: &[u8], at: usize, count: usize, planar: bool, pool: &mut [u8])
-    requires slots_parsed { SlotsParsed s.now at count }
-    requires at_in_bounds { (at ≤ length s.now) × (data_size (slots_at s.now at count) ≤ length pool.old) }
-    ensures { pool.new ≡ put_text pool.old 0 (flat (data_of (map (out_of_column planar) (slots_at s.now at count)))) }
+// Puts the data of slots into the pool, one after the other.
+fn fill_data(lines: Lines, planar: bool, pool: &mut [u8])
+    requires { data_size (slots_at lines.text.now lines.at lines.count) ≤ length pool.old }
+    ensures { pool.new ≡ put_text pool.old 0 (flat (data_of (map (out_of_column planar) (slots_at lines.entry.text.now lines.entry.at lines.entry.count)))) }
 {
+    let Lines { text: s, at, count } = lines;
     let mut k = at;
     let mut to = 0;
     for i in 0..count {
@@ -210,8 +211,13 @@ fn load(page: Page, narrow: &mut [u32], wide: &mut [u64], pool: &mut [u8]) -> He
     narrow.fill(0);
     wide.fill(0);
     pool.fill(0);
-    fill_slots(s, x.slots_at, x.slots, narrow, wide);
-    fill_data(s, x.slots_at, x.slots, x.planar, pool);
+    let lines = Lines {
+        text: s,
+        at: x.slots_at,
+        count: x.slots,
+    };
+    fill_slots(lines, narrow, wide);
+    fill_data(lines, x.planar, pool);
     let c = part_free(s, x.free_at, x.free, narrow);
     fill_lists(page, narrow, wide);
     header(page, c.free, c.retired)

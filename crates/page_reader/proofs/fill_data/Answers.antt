@@ -23,7 +23,7 @@ pub overflow_sub-hex-in-loop-i-2 : goal.overflow_sub-hex-in-loop-i-2
 overflow_sub-hex-in-loop-i-2 c = search line-digits
 
 pub invariant_of-hex : goal.invariant_of-hex
-invariant_of-hex c = record { spelled = (unlost c.args.s.now (c.in-Some.x.next - 1 - c.in-Some.x.bytes - c.in-Some.x.bytes) (search data-there), search data-size) }
+invariant_of-hex c = record { spelled = (unlost c.args.lines.text.now (c.in-Some.x.next - 1 - c.in-Some.x.bytes - c.in-Some.x.bytes) (search data-there), search data-size) }
 
 pub fill_column-to-requires : goal.fill_column-to-requires
 fill_column-to-requires c = search data-fits

@@ -7,7 +7,7 @@ pub overflow_mul-two : goal.overflow_mul-two
 overflow_mul-two c = omega arith
 
 pub loop-i-init : goal.loop-i-init
-loop-i-init c = filling-begin _ _ _ _ _ c.requires.slots_parsed c.requires.at_in_bounds.0 c.requires.at_in_bounds.1 c.requires.at_in_bounds.2
+loop-i-init c = filling-begin _ _ _ _ _ c.args.lines.parsed c.args.lines.inside c.requires.0 c.requires.1
 
 pub shape_of-narrow-in_default : goal.shape_of-narrow-in_default
 shape_of-narrow-in_default c = absurd (filling-some _ _ _ _ _ _ _ _ _ _ c.loop-i.invariant c.loop-i-test.true c.get_slot.ensures c.in_default.is)

@@ -3,4 +3,4 @@ use Rattle.page_reader.proofs.Numbers.{Filling}
 use Rattle.page_reader.proofs.fill_slots.Given as goal
 
 abbrev pub invariant-loop-i : goal.invariant-loop-i
-invariant-loop-i l = Filling l.s l.at l.count l.initial.narrow l.initial.wide l.narrow l.wide l.k l.from l.i
+invariant-loop-i l = Filling l.fn.lines.text.now l.fn.lines.at l.fn.lines.count l.initial.narrow l.initial.wide l.narrow l.wide l.k l.from l.i

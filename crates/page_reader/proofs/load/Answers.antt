@@ -3,11 +3,14 @@ use mathlib.Core.Path.{◌∙◌}
 use Rattle.page_reader.proofs.Loaded.{loaded, room-data, free_room, free-inside, header-free, header-retired, header-small}
 use Rattle.page_reader.proofs.load.Goals as goal
 
+pub invariant_of-lines : goal.invariant_of-lines
+invariant_of-lines c = record { parsed = c.args.page.sectioned.slots; inside = c.args.page.sectioned.slots_inside }
+
 pub fill_slots-requires : goal.fill_slots-requires
-fill_slots-requires c = record { slots_parsed = c.args.page.sectioned.slots; at_in_bounds = (c.args.page.sectioned.slots_inside, omega (arith, c.args.page.sectioned.slot_count, c.requires.slots, c.fill.auto.self, c.fill-2.auto.self, c.requires.narrow_size, c.requires.wide_size), omega (arith, c.fill.auto.self, c.fill-2.auto.self, c.requires.narrow_size, c.requires.wide_size)) }
+fill_slots-requires c = (omega (arith, c.args.page.sectioned.slot_count, c.requires.slots, c.fill.auto.self, c.fill-2.auto.self, c.requires.narrow_size, c.requires.wide_size), omega (arith, c.fill.auto.self, c.fill-2.auto.self, c.requires.narrow_size, c.requires.wide_size))
 
 pub fill_data-requires : goal.fill_data-requires
-fill_data-requires c = record { slots_parsed = c.args.page.sectioned.slots; at_in_bounds = (c.args.page.sectioned.slots_inside, omega (arith, room-data _ _ c.args.narrow.now c.args.wide.now c.args.pool.now c.args.page.sectioned c.requires, c.fill-3.auto.self)) }
+fill_data-requires c = omega (arith, room-data _ _ c.args.narrow.now c.args.wide.now c.args.pool.now c.args.page.sectioned c.requires, c.fill-3.auto.self)
 
 pub part_free-c-requires : goal.part_free-c-requires
 part_free-c-requires c = let n = c.fill_slots.auto.narrow ∙ c.fill.auto.self in record { values_parsed = c.args.page.sectioned.free; at_in_bounds = (c.args.page.sectioned.free_inside, free_room _ _ c.args.narrow.now c.args.wide.now c.args.pool.now c.args.page.sectioned c.requires n); below = free-inside _ _ c.args.narrow.now c.args.wide.now c.args.pool.now c.args.page.sectioned c.requires n }

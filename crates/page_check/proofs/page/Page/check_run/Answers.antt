@@ -11,5 +11,8 @@ mark_listed-requires c = omega (arith, c.requires.at_in_bounds.1, c.fill.auto.se
 pub returns-then-not-mark_listed : goal.returns-then-not-mark_listed
 returns-then-not-mark_listed c = run-wrong c.args.self.text.now c.args.rule (listed c.args.rule (heap_in c.args.self.text.now)) c.args.at c.args.m c.args.base c.requires.slots_parsed (length c.args.row.now) (c.fill.ensures.after (λ y e. e)) c.mark_listed.ensures c.if-not-mark_listed.true
 
+pub invariant_of-lines : goal.invariant_of-lines
+invariant_of-lines c = record { parsed = c.requires.slots_parsed; inside = c.requires.at_in_bounds.0 }
+
 pub returns : goal.returns
 returns c = run-told c.args.self.text.now c.args.rule (listed c.args.rule (heap_in c.args.self.text.now)) c.args.at c.args.m c.args.base c.requires.slots_parsed (length c.args.row.now) (c.fill.ensures.after (λ y e. e)) c.mark_listed.ensures _ c.if-not-mark_listed.false c.check_chunk.ensures
