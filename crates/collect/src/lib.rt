@@ -2,15 +2,15 @@
 // traced.
 #![tactic(auto)]
 
-ghost use Rattle.std.specs.Prelude.{◌≡◌, true, ◌≤◌, length, replicate};
+ghost use Rattle.std.specs.Prelude.{◌≡◌, ◌≤◌, length, replicate};
 ghost use Rattle.refusal.specs.Told.{nothing};
 ghost use Rattle.heap.specs.Lent.{slot_count};
 ghost use Rattle.heap.specs.Loans.{lies, state, Replies};
-ghost use Rattle.heap_calls.specs.Pins.{rising};
 ghost use Rattle.ty.specs.View.{lent as table_lent};
 ghost use Rattle.collect.specs.Collect.{collecting, finished, CanCollect};
 
 use heap::view_mut::ViewMut;
+use heap_calls::pinned::Pins;
 use refusal::{Refusal, Reply};
 use ty::Table;
 
@@ -20,13 +20,13 @@ pub mod joined; // at a safepoint, from the frame and the live registers
 pub fn finish(
     marked: Result<(), Refusal>,
     lent: &mut ViewMut,
-    pins: &[u32],
+    pins: Pins,
     marks: &mut [u8],
     work: &mut [u64],
 ) -> Reply
-    requires room { slot_count (lies lent.old) ≤ length marks.old }
-    requires pins_value { rising pins.now ≡ true }
-    ensures replies { Replies nothing nothing lent.old lent.new result (finished marked marks.old pins.now (state lent.old)) }
+    requires { slot_count (lies lent.old) ≤ length marks.old }
+    ensures replies { Replies nothing nothing lent.old lent.new result
+        (finished marked marks.old pins.entry.list.now (state lent.old)) }
     ensures marks_after { (marks.new ≡ replicate (length marks.old) 0) × (work.new ≡ replicate (length work.old) 0) }
 {
     work.fill(0);
@@ -58,5 +58,5 @@ pub fn collect(
     ensures marks_unchanged { (marks.new ≡ marks.old) × (work.new ≡ work.old) }
 {
     let marked = mark::mark(table, lent.view(), roots, pins, marks, work);
-    finish(marked, lent, pins, marks, work)
+    finish(marked, lent, Pins { list: pins }, marks, work)
 }

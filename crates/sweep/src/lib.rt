@@ -2,12 +2,12 @@
 // quarantine is recycled. Linear in the slots and the pool, `recycle` apart, which looks each quarantined slot up among the pins by halves.
 #![tactic(auto)]
 
-ghost use Rattle.std.specs.Prelude.{◌≡◌, true, [], ◌≤◌, ◌+◌, ◌/◌, drop, length};
+ghost use Rattle.std.specs.Prelude.{◌≡◌, [], ◌≤◌, ◌+◌, ◌/◌, drop, length};
 ghost use Rattle.word.specs.Put.{put};
 ghost use Rattle.heap.specs.Lent.{lent, cut, view, slot_count};
 ghost use Rattle.heap.specs.Done.{Leaves};
 ghost use Rattle.heap.specs.Loans.{lies, state, Becomes};
-ghost use Rattle.heap_calls.specs.Pins.{rising, marked_slots};
+ghost use Rattle.heap_calls.specs.Pins.{marked_slots};
 ghost use Rattle.collection.specs.Swept.{all_dropped, drop_unmarked, swept};
 ghost use Rattle.sweep.specs.Columns.{CanCompact, Compacted, CanSettle, Settled, columns_of, released_in, visited_in, CanRelease, CanVisit, CanSize, sizes_in, one_size, is_going, all_stay, CanSweep};
 
@@ -207,16 +207,14 @@ fn drop_unmarked(
 }
 
 // The sweep of a collection: what is not marked is dropped, what is left is counted, and the quarantine is recycled.
-pub fn sweep(lent: &mut ViewMut, marks: &[u8], pins: &[u32])
-    requires room { slot_count (lies lent.old) ≤ length marks.now }
-    requires pins_value { rising pins.now ≡ true }
-    ensures { Becomes lent.old lent.new (swept (state lent.old) marks.now pins.now) }
+pub fn sweep(lent: &mut ViewMut, marks: &[u8], pins: Pins)
+    requires { slot_count (lies lent.old) ≤ length marks.now }
+    ensures { Becomes lent.old lent.new (swept (state lent.old) marks.now pins.entry.list.now) }
 {
     let narrow = &mut *lent.narrow;
     let wide = &mut *lent.wide;
     let pool = &mut *lent.pool;
     let h = drop_unmarked(lent.heap, narrow, wide, pool, marks);
-    let pins = Pins { list: pins };
     lent.heap = heap_calls::recycle::recycle(h, narrow, wide, pool, pins);
 }
 

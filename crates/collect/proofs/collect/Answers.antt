@@ -11,8 +11,11 @@ use Rattle.collect.proofs.collect.Goals as goal
 pub mark-marked-requires : goal.mark-marked-requires
 mark-marked-requires c = subst (λ (l : Lent). Ready l.header.slots c.args.marks.now c.args.work.now) (sym c.view.ensures) (collect-ready _ _ _ _ c.requires)
 
+pub invariant_of-finish : goal.invariant_of-finish
+invariant_of-finish c = record { rises = c.requires.rises }
+
 pub finish-requires : goal.finish-requires
-finish-requires c = record { room = collect-room _ _ _ _ c.requires _ c.mark-marked.auto.marks; pins_value = c.requires.rises }
+finish-requires c = collect-room _ _ _ _ c.requires _ c.mark-marked.auto.marks
 
 pub returns : goal.returns
 returns c =

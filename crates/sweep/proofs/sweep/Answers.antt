@@ -4,13 +4,10 @@ use Rattle.sweep.proofs.Sweeping.{sweepable, sweep-leaves}
 use Rattle.sweep.proofs.sweep.Goals as goal
 
 pub drop_unmarked-h-requires : goal.drop_unmarked-h-requires
-drop_unmarked-h-requires c = sweepable c.args.lent.now c.args.marks.now c.requires.room
+drop_unmarked-h-requires c = sweepable c.args.lent.now c.args.marks.now c.requires
 
 pub returns : goal.returns
-returns c = record { loans = record { narrow = refl; wide = refl; pool = refl }; leaves = sweep-leaves _ (sweepable c.args.lent.now c.args.marks.now c.requires.room) c.drop_unmarked-h.ensures c.recycle-lent.ensures }
+returns c = record { loans = record { narrow = refl; wide = refl; pool = refl }; leaves = sweep-leaves _ (sweepable c.args.lent.now c.args.marks.now c.requires) c.drop_unmarked-h.ensures c.recycle-lent.ensures }
 
 pub invariant_of-lent : goal.invariant_of-lent
 invariant_of-lent c = record { formed = c.recycle-lent.ensures.formed }
-
-pub invariant_of-pins : goal.invariant_of-pins
-invariant_of-pins c = record { rises = c.requires.pins_value }
