@@ -1,5 +1,8 @@
 // The fields of a line.
-ghost use Rattle.std.specs.Prelude.{◌<◌, IfOk};
+ghost use Rattle.std.specs.Prelude.{◌≡◌, ◌↔◌, ◌⊎◌, true, ◌*◌, ◌<◌, ◌≤◌, ◌^◌, ◌-◌, [], length, map, IfOk};
+ghost use Rattle.std.specs.List.{All};
+ghost use Rattle.std.specs.Str.{IsUtf8};
+ghost use Rattle.protocol.specs.Lines.{field_of, rest_of, decimal_of, given_or, unfolded, or_bad};
 
 use crate::{Fault, find};
 use std::alloc::Global;
@@ -22,7 +25,9 @@ pub struct Fields<'a> {
 }
 
 // A whole field as a number of at most `most`.
-fn number(field: &[u8], most: u64) -> Result<u64, Fault> {
+fn number(field: &[u8], most: u64) -> Result<u64, Fault>
+    ensures { result ≡ or_bad (decimal_of most field.now) }
+{
     match text::get_decimal(field, 0, most) {
         Some((x, end)) if end == field.len() => Ok(x),
         _ => Err(Fault::Bad),
@@ -30,8 +35,12 @@ fn number(field: &[u8], most: u64) -> Result<u64, Fault> {
 }
 
 // The same as a number of 32 bits.
-fn half(field: &[u8], most: u64) -> Result<u32, Fault> {
-    u32::try_from(number(field, most)?).map_err(|_| Fault::Bad)
+fn half(field: &[u8], most: u64) -> Result<u32, Fault>
+    requires { most < 2 ^ 32 }
+    ensures { result ≡ or_bad (decimal_of most field.now) }
+{
+    let x = number(field, most)?;
+    Ok(x as u32)
 }
 
 // A field's part before the first colon, and what follows it.
@@ -71,7 +80,7 @@ fn digit(b: u8) -> Result<u8, Fault>
 }
 
 /// The bytes that a field spells in hexadecimal; `-` for none.
-pub fn read_hex(field: &[u8], alloc: Global) -> Result<Vec<u8>, Fault> {
+pub(crate) fn read_hex(field: &[u8], alloc: Global) -> Result<Vec<u8>, Fault> {
     let mut bytes = Vec::new(alloc);
     if matches!(field, b"-") {
         return Ok(bytes);
@@ -89,30 +98,44 @@ pub fn read_hex(field: &[u8], alloc: Global) -> Result<Vec<u8>, Fault> {
 }
 
 // A text's byte, where `;` stands for byte 10.
-fn unfolded(b: u8) -> u8 {
+fn unfolded(b: u8) -> u8
+    ensures { result ≡ unfolded b }
+{
     if b == b';' { b'\n' } else { b }
 }
 
-fn unfold(field: &[u8], alloc: Global) -> Result<Vec<u8>, Fault> {
+fn unfold(field: &[u8], alloc: Global) -> Result<Vec<u8>, Fault>
+    ensures { IfOk result (λ v. v.items ≡ map unfolded field.now) }
+{
     Ok(field.iter().map(|b| unfolded(*b)).collect(alloc)?)
 }
 
 impl<'a> Fields<'a> {
-    pub fn new(line: &'a [u8], alloc: Global) -> Self {
+    pub fn new(line: &'a [u8], alloc: Global) -> Self
+        ensures line { result.rest.now ≡ line.entry.now }
+        ensures alloc { result.alloc ≡ alloc }
+    {
         Fields { rest: line, alloc }
     }
 
     /// Where what is read of them is kept.
-    pub fn alloc(&self) -> Global {
+    pub fn alloc(&self) -> Global
+        ensures { result ≡ self.now.alloc }
+    {
         self.alloc
     }
 
-    pub fn is_empty(&self) -> bool {
+    pub fn is_empty(&self) -> bool
+        ensures { (result ≡ true) ↔ (length self.now.rest.now ≡ 0) }
+    {
         self.rest.is_empty()
     }
 
     /// The next field; an empty one where none is left.
-    pub fn next_field(&mut self) -> &'a [u8] {
+    pub fn next_field(&mut self) -> &'a [u8]
+        ensures field { result.now ≡ field_of self.old.rest.now }
+        ensures rest { self.new.rest.now ≡ rest_of self.old.rest.now }
+    {
         let rest = self.rest;
         let Some(end) = find(rest, b' ') else {
             self.rest = &rest[rest.len()..];
@@ -123,22 +146,35 @@ impl<'a> Fields<'a> {
     }
 
     /// The same as a name; no text is an empty one.
-    pub fn name(&mut self) -> &'a str {
+    pub fn name(&mut self) -> &'a str
+        ensures value { (IsUtf8 (field_of self.old.rest.now) → result.now ≡ field_of self.old.rest.now) × (¬ (IsUtf8 (field_of self.old.rest.now)) → result.now ≡ []) }
+        ensures rest { self.new.rest.now ≡ rest_of self.old.rest.now }
+    {
         std::str::from_utf8(self.next_field()).unwrap_or("")
     }
 
     /// A number of at most `most`.
-    pub fn number(&mut self, most: u64) -> Result<u64, Fault> {
+    pub fn number(&mut self, most: u64) -> Result<u64, Fault>
+        ensures value { result ≡ or_bad (decimal_of most (field_of self.old.rest.now)) }
+        ensures rest { self.new.rest.now ≡ rest_of self.old.rest.now }
+    {
         number(self.next_field(), most)
     }
 
     /// The same, where it counts what lies in memory.
-    pub fn count(&mut self, most: u64) -> Result<usize, Fault> {
-        Ok(self.number(most)? as usize)
+    pub fn count(&mut self, most: u64) -> Result<usize, Fault>
+        ensures value { result ≡ or_bad (decimal_of most (field_of self.old.rest.now)) }
+        ensures rest { self.new.rest.now ≡ rest_of self.old.rest.now }
+    {
+        let x = self.number(most)?;
+        Ok(x as usize)
     }
 
     /// A count that may be left out: then it is `most`.
-    pub fn count_or(&mut self, most: u64) -> Result<usize, Fault> {
+    pub fn count_or(&mut self, most: u64) -> Result<usize, Fault>
+        ensures value { result ≡ or_bad (given_or most self.old.rest.now) }
+        ensures rest { self.new.rest.now ≡ rest_of self.old.rest.now }
+    {
         if self.is_empty() {
             return Ok(most as usize);
         }
@@ -146,27 +182,42 @@ impl<'a> Fields<'a> {
     }
 
     /// A number of 8 bits.
-    pub fn byte(&mut self) -> Result<u8, Fault> {
-        u8::try_from(self.number(BYTE)?).map_err(|_| Fault::Bad)
+    pub fn byte(&mut self) -> Result<u8, Fault>
+        ensures value { result ≡ or_bad (decimal_of (2 ^ 8 - 1) (field_of self.old.rest.now)) }
+        ensures rest { self.new.rest.now ≡ rest_of self.old.rest.now }
+    {
+        let x = self.number(BYTE)?;
+        Ok(x as u8)
     }
 
     /// A number of 32 bits.
-    pub fn half(&mut self) -> Result<u32, Fault> {
+    pub fn half(&mut self) -> Result<u32, Fault>
+        ensures value { result ≡ or_bad (decimal_of (2 ^ 32 - 1) (field_of self.old.rest.now)) }
+        ensures rest { self.new.rest.now ≡ rest_of self.old.rest.now }
+    {
         half(self.next_field(), HALF)
     }
 
     /// A slot, of 32 bits.
-    pub fn slot(&mut self) -> Result<usize, Fault> {
+    pub fn slot(&mut self) -> Result<usize, Fault>
+        ensures value { result ≡ or_bad (decimal_of (2 ^ 32 - 1) (field_of self.old.rest.now)) }
+        ensures rest { self.new.rest.now ≡ rest_of self.old.rest.now }
+    {
         self.count(HALF)
     }
 
     /// A number of 64 bits.
-    pub fn word(&mut self) -> Result<u64, Fault> {
+    pub fn word(&mut self) -> Result<u64, Fault>
+        ensures value { result ≡ or_bad (decimal_of (2 ^ 64 - 1) (field_of self.old.rest.now)) }
+        ensures rest { self.new.rest.now ≡ rest_of self.old.rest.now }
+    {
         self.number(WORD)
     }
 
     /// A number with a sign, as the bits of a 64-bit word.
-    pub fn signed(&mut self) -> Result<u64, Fault> {
+    pub fn signed(&mut self) -> Result<u64, Fault>
+        ensures rest { self.new.rest.now ≡ rest_of self.old.rest.now }
+    {
         let field = self.next_field();
         match field.strip_prefix(b"-") {
             Some(digits) => Ok(number(digits, 9223372036854775808)?.wrapping_neg()),
@@ -175,17 +226,25 @@ impl<'a> Fields<'a> {
     }
 
     /// Bytes in hexadecimal.
-    pub fn bytes(&mut self) -> Result<Vec<u8>, Fault> {
+    pub fn bytes(&mut self) -> Result<Vec<u8>, Fault>
+        ensures rest { self.new.rest.now ≡ rest_of self.old.rest.now }
+    {
         read_hex(self.next_field(), self.alloc)
     }
 
     /// A page, whose lines have `;` for byte 10.
-    pub fn page(&mut self) -> Result<Vec<u8>, Fault> {
+    pub fn page(&mut self) -> Result<Vec<u8>, Fault>
+        ensures value { IfOk result (λ v. v.items ≡ map unfolded (field_of self.old.rest.now)) }
+        ensures rest { self.new.rest.now ≡ rest_of self.old.rest.now }
+    {
         unfold(self.next_field(), self.alloc)
     }
 
     /// A text of lines; `-` for one without lines.
-    pub fn script(&mut self) -> Result<Vec<u8>, Fault> {
+    pub fn script(&mut self) -> Result<Vec<u8>, Fault>
+        ensures value { IfOk result (λ v. (v.items ≡ []) ⊎ (v.items ≡ map unfolded (field_of self.old.rest.now))) }
+        ensures rest { self.new.rest.now ≡ rest_of self.old.rest.now }
+    {
         match self.next_field() {
             b"" => Err(Fault::Bad),
             b"-" => Ok(Vec::new(self.alloc)),
@@ -194,12 +253,19 @@ impl<'a> Fields<'a> {
     }
 
     /// All that is left of the line, blanks too, as a text of lines.
-    pub fn text(&mut self) -> Result<Vec<u8>, Fault> {
+    pub fn text(&mut self) -> Result<Vec<u8>, Fault>
+        ensures value { IfOk result (λ v. v.items ≡ map unfolded self.old.rest.now) }
+        ensures rest { self.new.rest.now ≡ self.old.rest.now }
+    {
         unfold(self.rest, self.alloc)
     }
 
     /// Numbers of at most `most`, with commas; `-` for none. There are `room` of them at most.
-    pub fn words(&mut self, most: u64, room: usize) -> Result<Vec<u64>, Fault> {
+    pub fn words(&mut self, most: u64, room: usize) -> Result<Vec<u64>, Fault>
+        ensures room { IfOk result (λ v. length v.items ≤ room) }
+        ensures each { IfOk result (λ v. All (λ x. x ≤ most) v.items) }
+        ensures rest { self.new.rest.now ≡ rest_of self.old.rest.now }
+    {
         let mut list = Vec::new(self.alloc);
         let field = self.next_field();
         if matches!(field, b"-") {
@@ -221,6 +287,7 @@ impl<'a> Fields<'a> {
         put: F,
     ) -> Result<Vec<u32>, Fault>
         requires { F.IsAlwaysCallable put }
+        ensures rest { self.new.rest.now ≡ rest_of self.old.rest.now }
     {
         let mut list = Vec::new(self.alloc);
         let field = self.next_field();
@@ -237,17 +304,23 @@ impl<'a> Fields<'a> {
     }
 
     /// Numbers of 32 bits.
-    pub fn halves(&mut self, room: usize) -> Result<Vec<u32>, Fault> {
+    pub fn halves(&mut self, room: usize) -> Result<Vec<u32>, Fault>
+        ensures rest { self.new.rest.now ≡ rest_of self.old.rest.now }
+    {
         self.entries(room, put_single)
     }
 
     /// Pairs of them.
-    pub fn pairs(&mut self, room: usize) -> Result<Vec<u32>, Fault> {
+    pub fn pairs(&mut self, room: usize) -> Result<Vec<u32>, Fault>
+        ensures rest { self.new.rest.now ≡ rest_of self.old.rest.now }
+    {
         self.entries(room, put_pair)
     }
 
     /// A frame's map: what lies where in its memory.
-    pub fn frame_map(&mut self, room: usize) -> Result<Vec<u32>, Fault> {
+    pub fn frame_map(&mut self, room: usize) -> Result<Vec<u32>, Fault>
+        ensures rest { self.new.rest.now ≡ rest_of self.old.rest.now }
+    {
         self.entries(room, put_slot)
     }
 }

@@ -1,4 +1,6 @@
 // Answers, each written to standard output.
+ghost use Rattle.std.specs.Prelude.{◌≡◌, take, OnOk, Ok};
+
 use refusal::Answer;
 use std::fmt::{self, Display};
 use std::io;
@@ -37,7 +39,9 @@ impl<'a> Display for Hex<'a> {
 }
 
 /// The first `count` entries of a list, as many as there are.
-pub fn front<T>(s: &[T], count: u64) -> &[T] {
+pub fn front<T>(s: &[T], count: u64) -> &[T]
+    ensures { result.now ≡ take count s.now }
+{
     s.get(..count as usize).unwrap_or(s)
 }
 
@@ -48,6 +52,7 @@ pub fn put_told<F: FnOnce(u64, u64) -> io::Result<()>>(
     put: F,
 ) -> io::Result<()>
     requires { F.IsAlwaysCallable put }
+    ensures { OnOk result (a.number ≡ 0 → F.post put a.first a.second (Ok tt)) }
 {
     print!(rt; "{}", a.number)?;
     if a.number == 0 {

@@ -1,0 +1,20 @@
+-- `protocol::fields::Fields::next_field` meets its contract.
+use native.Mathlib.Omega.{arith}
+use mathlib.Core.Path.{◌≡◌, refl, sym, ap, ◌∙◌}
+use mathlib.Core.List.{List, []}
+use Prim.Native.Nat.{ℕ, ◌+◌, ◌-◌}
+use lib.ListN.{length, take, drop}
+use Rattle.protocol.proofs.Parting.{parted-nowhere, parted-at, rest-front, rest-from}
+use Rattle.protocol.proofs.fields.Fields.next_field.Goals as goal
+
+pub returns-in_default-clause-field : goal.returns-in_default-clause-field
+returns-in_default-clause-field c = sym (parted-nowhere 32 _ (λ k l. c.in_default.ensures.none refl k 0 l)).0
+
+pub returns-in_default-clause-rest : goal.returns-in_default-clause-rest
+returns-in_default-clause-rest c = rest-front c.args.self.now.rest.now _ refl ∙ sym (parted-nowhere 32 _ (λ k l. c.in_default.ensures.none refl k 0 l)).1
+
+pub returns-clause-field : goal.returns-clause-field
+returns-clause-field c = sym (parted-at 32 _ c.in-Some.end c.in-Some.ensures.within c.in-Some.ensures.found c.in-Some.ensures.before).0
+
+pub returns-clause-rest : goal.returns-clause-rest
+returns-clause-rest c = rest-from c.args.self.now.rest.now (c.in-Some.end + 1) ∙ sym (parted-at 32 _ c.in-Some.end c.in-Some.ensures.within c.in-Some.ensures.found c.in-Some.ensures.before).1

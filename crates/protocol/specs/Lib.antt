@@ -1,0 +1,2 @@
+-- What the lines of a script say (Lines).
+pub mod Lines
