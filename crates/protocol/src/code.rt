@@ -1,4 +1,7 @@
 // The function, which grows line by line.
+ghost use Rattle.std.specs.Prelude.{◌≡◌, [], IfErr};
+ghost use Rattle.protocol.specs.declared.Fault.TheVariants.{Bad};
+
 use crate::fields::{BYTE, Fields};
 use crate::{Fault, NoCommand};
 use std::alloc::Global;
@@ -53,8 +56,13 @@ fn place(x: usize) -> Result<u32, Fault> {
 }
 
 impl Function {
+    ghost use Rattle.protocol.specs.Kept.{SameFunction};
+
     /// A function without registers, blocks and instructions.
-    pub fn new(alloc: Global) -> Function {
+    pub fn new(alloc: Global) -> Function
+        ensures calls { (result.kinds.items ≡ []) × (result.ends.items ≡ []) × (result.refs.items ≡ []) }
+        ensures rest { (result.blocks.items ≡ []) × (result.classes.items ≡ []) }
+    {
         Function {
             kinds: Vec::new(alloc),
             ends: Vec::new(alloc),
@@ -79,7 +87,9 @@ impl Function {
     }
 
     // An instruction more: its kind, registers written, registers read and targets.
-    fn add(&mut self, line: &mut Fields) -> Result<(), Fault> {
+    fn add(&mut self, line: &mut Fields) -> Result<(), Fault>
+        ensures { IfErr result (λ e. e ≡ Bad → SameFunction self.old self.new) }
+    {
         if MOST_KINDS <= self.kinds.len() {
             return Err(Fault::Bad);
         }
@@ -103,12 +113,9 @@ impl Function {
     }
 
     /// Runs a line that makes the function. One that can't be read, or that finds no room, leaves it as it was.
-    pub fn run(
-        &mut self,
-        rt: &impl Print,
-        command: Command,
-        line: &mut Fields,
-    ) -> Result<(), Fault> {
+    pub fn run(&mut self, rt: &impl Print, command: Command, line: &mut Fields) -> Result<(), Fault>
+        ensures refused { IfErr result (λ e. e ≡ Bad → SameFunction self.old self.new) }
+    {
         match command {
             Command::Function => *self = Function::read(line)?,
             Command::Instruction => self.add(line)?,

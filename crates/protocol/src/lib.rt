@@ -3,6 +3,7 @@
 #![tactic(auto)]
 
 ghost use Rattle.std.specs.Prelude.{◌≡◌, ℕ, ◌<◌, ◌≢◌, length, slice_index, All, IsNone, IfSome};
+ghost use Rattle.protocol.specs.declared.Fault.TheVariants.{Bad, Io};
 
 pub mod code;
 pub mod fields;
@@ -21,18 +22,24 @@ pub enum Fault {
 }
 
 impl From<io::Error> for Fault {
+    ghost from_gives = { λ e fault. fault ≡ Io e };
+
     fn from(e: io::Error) -> Fault {
         Fault::Io(e)
     }
 }
 
 impl From<AllocError> for Fault {
+    ghost from_gives = { λ e fault. fault ≢ Bad };
+
     fn from(e: AllocError) -> Fault {
         Fault::Io(io::Error::from(e))
     }
 }
 
 impl<T: Drop> From<AllocFailed<T>> for Fault {
+    ghost from_gives = { λ e fault. fault ≢ Bad };
+
     fn from(e: AllocFailed<T>) -> Fault {
         Fault::from(AllocError::from(e))
     }

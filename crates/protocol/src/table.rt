@@ -1,4 +1,7 @@
 // The type table, which grows line by line.
+ghost use Rattle.std.specs.Prelude.{◌≡◌, [], IfErr};
+ghost use Rattle.protocol.specs.declared.Fault.TheVariants.{Bad};
+
 use crate::fields::{Fields, HALF, read_hex};
 use crate::{Fault, NoCommand};
 use std::alloc::Global;
@@ -44,8 +47,12 @@ impl FromStr for Command {
 }
 
 impl Table {
+    ghost use Rattle.protocol.specs.Kept.{SameTable};
+
     /// A table without types.
-    pub fn new(alloc: Global) -> Table {
+    pub fn new(alloc: Global) -> Table
+        ensures { (result.types.items ≡ []) × (result.fields.items ≡ []) × (result.consts.items ≡ []) × (result.bytes.items ≡ []) }
+    {
         Table {
             types: Vec::new(alloc),
             fields: Vec::new(alloc),
@@ -76,7 +83,9 @@ impl Table {
     }
 
     // A type more: its number.
-    fn add_type(&mut self, line: &mut Fields) -> Result<usize, Fault> {
+    fn add_type(&mut self, line: &mut Fields) -> Result<usize, Fault>
+        ensures { IfErr result (λ e. e ≡ Bad → SameTable self.old self.new) }
+    {
         let (row, fields) = self.read_row(line)?;
         let at = self.types.len();
         if MOST_TYPES <= at {
@@ -88,7 +97,9 @@ impl Table {
     }
 
     // A constant more, of plain bytes or not: its number.
-    fn add_const(&mut self, line: &mut Fields) -> Result<usize, Fault> {
+    fn add_const(&mut self, line: &mut Fields) -> Result<usize, Fault>
+        ensures { IfErr result (λ e. e ≡ Bad → SameTable self.old self.new) }
+    {
         let at = self.consts.len();
         let from = self.bytes.len();
         let (plain, bytes) = match line.next_field() {
@@ -105,12 +116,9 @@ impl Table {
     }
 
     /// Runs a line that makes the table. One that can't be read, or that finds no room, leaves it as it was.
-    pub fn run(
-        &mut self,
-        rt: &impl Print,
-        command: Command,
-        line: &mut Fields,
-    ) -> Result<(), Fault> {
+    pub fn run(&mut self, rt: &impl Print, command: Command, line: &mut Fields) -> Result<(), Fault>
+        ensures refused { IfErr result (λ e. e ≡ Bad → SameTable self.old self.new) }
+    {
         match command {
             Command::Table => {
                 *self = Table::new(line.alloc());

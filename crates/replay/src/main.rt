@@ -4,16 +4,18 @@
 use replay_lines::{LONGEST, State};
 use std::alloc::Global;
 use std::io;
-use std::io::BufRead;
+use std::io::{BufRead, Read};
 
-// Reads a line without its end; none where the input has ended.
+// Reads a line without its end; none where the input has ended. Of one that is too long the first `LONGEST` bytes are kept, and the rest is passed over.
 fn read_line(reader: &mut impl BufRead, alloc: Global) -> io::Result<Option<Vec<u8>>> {
     let mut line = Vec::new(alloc);
-    if reader.read_until(b'\n', &mut line)? == 0 {
+    if reader.by_ref().take(LONGEST as u64).read_until(b'\n', &mut line)? == 0 {
         return Ok(None);
     }
     if let Some(b'\n') = line.last() {
         line.pop();
+    } else if LONGEST <= line.len() {
+        reader.skip_until(b'\n')?;
     }
     Ok(Some(line))
 }
