@@ -38,6 +38,7 @@ fn is_sevens(h: Heap) -> bool {
     h.tag == 7 && numbers && h.log.iter().all(|x| *x == 7) && counts
 }
 
+// Kept: a number and a flag that both always stand, since a refusal that changes something is what is looked for.
 // What a text is answered, and whether header and memory are the same afterwards.
 #[derive(Clone, Copy)]
 struct Seen {
@@ -57,6 +58,7 @@ impl Seen {
 }
 
 fn read_page(text: &[u8]) -> Seen {
+    // Kept: arrays of a fixed size, which the title of this program names.
     let mut narrow = [7u32; 48];
     let mut wide = [7u64; 32];
     let mut pool = [7u8; 8];

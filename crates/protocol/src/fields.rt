@@ -79,8 +79,8 @@ fn digit(b: u8) -> Result<u8, Fault>
     }
 }
 
-/// The bytes that a field spells in hexadecimal; `-` for none.
-pub(crate) fn read_hex(field: &[u8], alloc: Global) -> Result<Vec<u8>, Fault> {
+// The bytes that a field spells in hexadecimal; `-` for none.
+fn read_hex(field: &[u8], alloc: Global) -> Result<Vec<u8>, Fault> {
     let mut bytes = Vec::new(alloc);
     if matches!(field, b"-") {
         return Ok(bytes);

@@ -2,7 +2,7 @@
 ghost use Rattle.std.specs.Prelude.{◌≡◌, [], IfErr};
 ghost use Rattle.protocol.specs.declared.Fault.TheVariants.{Bad};
 
-use crate::fields::{Fields, HALF, read_hex};
+use crate::fields::{Fields, HALF};
 use crate::{Fault, NoCommand};
 use std::alloc::Global;
 use std::str::FromStr;
@@ -104,7 +104,7 @@ impl Table {
         let from = self.bytes.len();
         let (plain, bytes) = match line.next_field() {
             b"other" => (0, Vec::new(line.alloc())),
-            field => (1, read_hex(field, line.alloc())?),
+            field => (1, Fields::new(field, line.alloc()).bytes()?),
         };
         if MOST_CONSTS <= at || MOST_BYTES.saturating_sub(from) < bytes.len() {
             return Err(Fault::Bad);

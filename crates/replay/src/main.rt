@@ -9,7 +9,12 @@ use std::io::{BufRead, Read};
 // Reads a line without its end; none where the input has ended. Of one that is too long the first `LONGEST` bytes are kept, and the rest is passed over.
 fn read_line(reader: &mut impl BufRead, alloc: Global) -> io::Result<Option<Vec<u8>>> {
     let mut line = Vec::new(alloc);
-    if reader.by_ref().take(LONGEST as u64).read_until(b'\n', &mut line)? == 0 {
+    if reader
+        .by_ref()
+        .take(LONGEST as u64)
+        .read_until(b'\n', &mut line)?
+        == 0
+    {
         return Ok(None);
     }
     if let Some(b'\n') = line.last() {
@@ -22,7 +27,8 @@ fn read_line(reader: &mut impl BufRead, alloc: Global) -> io::Result<Option<Vec<
 
 fn main(rt: HostRuntime) -> io::Result<()> {
     let mut reader = rt.reader();
-    let mut state = State::new(rt.alloc())?;
+    let mut state = State::new(rt.alloc());
+    state.begin()?;
     for _ in 0..u64::MAX {
         let Some(line) = read_line(&mut reader, rt.alloc())? else {
             return Ok(());

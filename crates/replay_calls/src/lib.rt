@@ -1,7 +1,12 @@
 // The commands of the program `replay` that ask a heap; and the heap that is kept, for each crate of commands on a heap.
 #![tactic(auto)]
 
+ghost use Rattle.std.specs.Prelude.{◌≡◌, [], length, replicate, IfOk};
+ghost use Rattle.heap.specs.Lent.{header_of};
+ghost use Rattle.heap.specs.Calls.{new as new_heap};
+
 use heap::Heap;
+use refusal::Answer;
 use std::alloc::{AllocError, Global};
 
 pub mod ask;
@@ -21,18 +26,33 @@ pub struct Kept {
 }
 
 impl Kept {
-    /// A heap of tag 1, in memory that is zero.
-    pub fn new(alloc: Global, slots: usize, pool: usize) -> Result<Kept, AllocError> {
-        Ok(Kept {
+    /// A heap of tag 1 without slots and data.
+    pub fn empty(alloc: Global) -> Kept
+        ensures lists { (result.narrow.items ≡ []) × (result.wide.items ≡ []) × (result.pool.items ≡ []) }
+        ensures header { result.heap ≡ header_of (new_heap 1) }
+    {
+        Kept {
             heap: Heap::new(1),
-            narrow: vec![in alloc; 0; slots.saturating_mul(6)]?,
-            wide: vec![in alloc; 0; slots.saturating_mul(4)]?,
-            pool: vec![in alloc; 0; pool]?,
-        })
+            narrow: Vec::new(alloc),
+            wide: Vec::new(alloc),
+            pool: Vec::new(alloc),
+        }
+    }
+
+    /// A heap of tag 1, in memory that is zero.
+    pub fn new(alloc: Global, slots: usize, pool: usize) -> Result<Kept, AllocError>
+        ensures { IfOk result (λ kept. length kept.pool.items ≡ pool) }
+    {
+        let mut kept = Kept::empty(alloc);
+        kept.narrow = vec![in alloc; 0; slots.saturating_mul(6)]?;
+        kept.wide = vec![in alloc; 0; slots.saturating_mul(4)]?;
+        kept.pool = vec![in alloc; 0; pool]?;
+        Ok(kept)
     }
 }
 
 /// What a call is lent as scratch. It holds 7 everywhere, since no call may rely on what it finds there.
+// Kept: arrays, here and where a call of the front door is lent room for its answer: they last for one call, and a `Vec` would only add a way to fail.
 #[derive(Clone, Copy)]
 pub struct Scratch {
     pub marks: [u8; 8192],
@@ -40,10 +60,32 @@ pub struct Scratch {
 }
 
 impl Scratch {
-    pub fn new() -> Scratch {
+    pub fn new() -> Scratch
+        ensures { (result.marks ≡ replicate 8192 7) × (result.work ≡ replicate 8192 7) }
+    {
         Scratch {
             marks: [7; 8192],
             work: [7; 8192],
         }
+    }
+}
+
+impl Kept {
+    /// What a call answers that is lent the heap and scratch.
+    pub(crate) fn ask<F: FnOnce(Heap, &[u32], &[u64], &[u8], &mut [u8], &mut [u64]) -> Answer>(
+        &self,
+        call: F,
+    ) -> Answer
+        requires { F.IsAlwaysCallable call }
+    {
+        let mut s = Scratch::new();
+        call(
+            self.heap,
+            &self.narrow,
+            &self.wide,
+            &self.pool,
+            &mut s.marks,
+            &mut s.work,
+        )
     }
 }

@@ -2,6 +2,7 @@
 #![tactic(auto)]
 
 use door::Done;
+use heap::Heap;
 use protocol::fields::Fields;
 use protocol::write::{Hex, front, put_answer, put_told};
 use protocol::{Fault, NoCommand};
@@ -53,13 +54,27 @@ impl FromStr for Change {
     }
 }
 
-// The answer of a call, whose header is the heap's from now on.
-fn settle(kept: &mut Kept, done: Done) -> Answer {
+// The answer of a call that is lent the heap and scratch, and whose header is the heap's from now on.
+fn settle<F: FnOnce(Heap, &mut [u32], &mut [u64], &mut [u8], &mut [u8], &mut [u64]) -> Done>(
+    kept: &mut Kept,
+    call: F,
+) -> Answer
+    requires { F.IsAlwaysCallable call }
+{
+    let mut s = Scratch::new();
+    let done = call(
+        kept.heap,
+        &mut kept.narrow,
+        &mut kept.wide,
+        &mut kept.pool,
+        &mut s.marks,
+        &mut s.work,
+    );
     kept.heap = done.heap;
     done.answer
 }
 
-// The same of a call that makes a heap in memory of its own: one that is refused leaves the heap that was there.
+// The answer of a call that makes a heap in memory of its own: one that is refused leaves the heap that was there.
 fn settle_new(kept: &mut Kept, mut new: Kept, done: Done) -> Answer {
     if done.answer.number == 0 {
         new.heap = done.heap;
@@ -128,20 +143,11 @@ fn alloc(line: &mut Fields, kept: &mut Kept) -> Result<Answer, Fault> {
 }
 
 fn place(kept: &mut Kept, kind: u8, ty: u32, start: usize, bytes: &[u8]) -> Answer {
-    let mut s = Scratch::new();
-    let done = heaps::alloc_from(
-        kept.heap,
-        &mut kept.narrow,
-        &mut kept.wide,
-        &mut kept.pool,
-        kind,
-        ty,
-        start,
-        bytes,
-        &mut s.marks,
-        &mut s.work,
-    );
-    settle(kept, done)
+    settle(kept, |heap, narrow, wide, pool, marks, work| {
+        heaps::alloc_from(
+            heap, narrow, wide, pool, kind, ty, start, bytes, marks, work,
+        )
+    })
 }
 
 // So many empty objects of kind 2, one after the other: the last answer, if there is one.
@@ -158,19 +164,9 @@ fn edit(line: &mut Fields, kept: &mut Kept) -> Result<Answer, Fault> {
     let handle = line.word()?;
     let bytes = line.bytes()?;
     let start = line.word()? as usize;
-    let mut s = Scratch::new();
-    let done = heaps::edit(
-        kept.heap,
-        &mut kept.narrow,
-        &mut kept.wide,
-        &mut kept.pool,
-        handle,
-        &bytes,
-        start,
-        &mut s.marks,
-        &mut s.work,
-    );
-    Ok(settle(kept, done))
+    Ok(settle(kept, |heap, narrow, wide, pool, marks, work| {
+        heaps::edit(heap, narrow, wide, pool, handle, &bytes, start, marks, work)
+    }))
 }
 
 // Slot, offset and bytes.
@@ -196,95 +192,46 @@ fn write(line: &mut Fields, kept: &mut Kept) -> Result<Answer, Fault> {
 fn reissue(line: &mut Fields, kept: &mut Kept) -> Result<Answer, Fault> {
     let slot = line.slot()?;
     let grown = line.word()?;
-    let mut s = Scratch::new();
-    let done = heaps::reissue(
-        kept.heap,
-        &mut kept.narrow,
-        &mut kept.wide,
-        &kept.pool,
-        slot,
-        grown,
-        &mut s.marks,
-        &mut s.work,
-    );
-    Ok(settle(kept, done))
+    Ok(settle(kept, |heap, narrow, wide, pool, marks, work| {
+        heaps::reissue(heap, narrow, wide, pool, slot, grown, marks, work)
+    }))
 }
 
 // The bytes of an object that is taken out go to `room`.
 fn take(kept: &mut Kept, handle: u64, room: &mut [u8]) -> Answer {
-    let mut s = Scratch::new();
-    let done = heaps::take(
-        kept.heap,
-        &mut kept.narrow,
-        &mut kept.wide,
-        &mut kept.pool,
-        handle,
-        room,
-        &mut s.marks,
-        &mut s.work,
-    );
-    settle(kept, done)
+    settle(kept, |heap, narrow, wide, pool, marks, work| {
+        heaps::take(heap, narrow, wide, pool, handle, room, marks, work)
+    })
 }
 
 fn free(line: &mut Fields, kept: &mut Kept) -> Result<Answer, Fault> {
     let handle = line.word()?;
-    let mut s = Scratch::new();
-    let done = heaps::free(
-        kept.heap,
-        &mut kept.narrow,
-        &mut kept.wide,
-        &mut kept.pool,
-        handle,
-        &mut s.marks,
-        &mut s.work,
-    );
-    Ok(settle(kept, done))
+    Ok(settle(kept, |heap, narrow, wide, pool, marks, work| {
+        heaps::free(heap, narrow, wide, pool, handle, marks, work)
+    }))
 }
 
 fn recycle(line: &mut Fields, kept: &mut Kept) -> Result<Answer, Fault> {
     let pins = line.halves(MOST_LISTED)?;
-    let mut s = Scratch::new();
-    let done = heaps::recycle(
-        kept.heap,
-        &mut kept.narrow,
-        &kept.wide,
-        &kept.pool,
-        &pins,
-        &mut s.marks,
-        &mut s.work,
-    );
-    Ok(settle(kept, done))
+    Ok(settle(kept, |heap, narrow, wide, pool, marks, work| {
+        heaps::recycle(heap, narrow, wide, pool, &pins, marks, work)
+    }))
 }
 
 fn seal(kept: &mut Kept) -> Answer {
-    let mut s = Scratch::new();
-    let done = heaps::seal(
-        kept.heap,
-        &kept.narrow,
-        &mut kept.wide,
-        &kept.pool,
-        &mut s.marks,
-        &mut s.work,
-    );
-    settle(kept, done)
+    settle(kept, |heap, narrow, wide, pool, marks, work| {
+        heaps::seal(heap, narrow, wide, pool, marks, work)
+    })
 }
 
 // A script, with `room` as long as the longest pool.
 fn run(line: &mut Fields, kept: &mut Kept) -> Result<Answer, Fault> {
     let text = line.script()?;
+    // Kept: an array, here and below: room of one call; a `Vec` would only add a way to fail.
     let mut room = [0u8; 65536];
-    let mut s = Scratch::new();
-    let done = heaps::run(
-        kept.heap,
-        &mut kept.narrow,
-        &mut kept.wide,
-        &mut kept.pool,
-        &text,
-        &mut room,
-        &mut s.marks,
-        &mut s.work,
-    );
-    Ok(settle(kept, done))
+    Ok(settle(kept, |heap, narrow, wide, pool, marks, work| {
+        heaps::run(heap, narrow, wide, pool, &text, &mut room, marks, work)
+    }))
 }
 
 // The last of so many answers.
@@ -315,6 +262,7 @@ fn put_form(rt: &impl Print, a: Answer) -> io::Result<()> {
 }
 
 /// Runs a line that changes the heap.
+// Kept: a `match` on the command, since each has fields of its own to read.
 pub fn answer(
     rt: &impl Print,
     change: Change,

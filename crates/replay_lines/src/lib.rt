@@ -1,6 +1,8 @@
 // A line of the script of the program `replay`, run on what it is about: it goes by its first word to a group of commands.
 #![tactic(auto)]
 
+ghost use Rattle.std.specs.Prelude.{◌≡◌, true, [], length, IfOk};
+
 use protocol::Fault;
 use protocol::code::{self, Function};
 use protocol::fields::Fields;
@@ -26,19 +28,34 @@ pub struct State {
 }
 
 // Is the line empty, or a comment? It has no answer.
-fn is_silent(line: &[u8]) -> bool {
+fn is_silent(line: &[u8]) -> bool
+    ensures { length line.now ≡ 0 → result ≡ true }
+{
     matches!(line, [] | [b'#', ..])
 }
 
 impl State {
-    pub fn new(alloc: Global) -> Result<State, AllocError> {
-        Ok(State {
+    /// Both heaps have no slots and no data yet.
+    pub fn new(alloc: Global) -> State
+        ensures heaps { (result.kept.narrow.items ≡ []) × (result.kept.pool.items ≡ []) × (result.other.narrow.items ≡ []) × (result.other.pool.items ≡ []) }
+        ensures rest { (result.table.types.items ≡ []) × (result.code.kinds.items ≡ []) }
+    {
+        State {
             alloc,
-            kept: Kept::new(alloc, MOST_SLOTS as usize, MOST_POOL as usize)?,
-            other: Kept::new(alloc, 64, 4096)?,
+            kept: Kept::empty(alloc),
+            other: Kept::empty(alloc),
             table: Table::new(alloc),
             code: Function::new(alloc),
-        })
+        }
+    }
+
+    /// Takes memory for both heaps, before the first line. They hold nothing.
+    pub fn begin(&mut self) -> Result<(), AllocError>
+        ensures { IfOk result (λ u. (length self.new.kept.pool.items ≡ 65536) × (length self.new.other.pool.items ≡ 4096)) }
+    {
+        self.kept = Kept::new(self.alloc, MOST_SLOTS as usize, MOST_POOL as usize)?;
+        self.other = Kept::new(self.alloc, 64, 4096)?;
+        Ok(())
     }
 
     // A line that asks the heap, or changes it.
@@ -66,6 +83,7 @@ impl State {
     }
 
     // A line of any command.
+    // Kept: a test for each group of commands in turn, since each has a type of its own.
     fn run(&mut self, rt: &impl Print, name: &str, line: &mut Fields) -> Result<(), Fault> {
         if let Ok(command) = name.parse::<table::Command>() {
             return self.table.run(rt, command, line);
@@ -98,8 +116,10 @@ impl State {
         self.run_on_heap(rt, name, line)
     }
 
-    /// Answers a line. One that can't be read is `bad`.
-    pub fn answer(&mut self, rt: &impl Print, line: &[u8]) -> io::Result<()> {
+    /// Answers a line. One that can't be read is `bad`, and an empty one changes nothing.
+    pub fn answer(&mut self, rt: &impl Print, line: &[u8]) -> io::Result<()>
+        ensures { length line.now ≡ 0 → self.new ≡ self.old }
+    {
         if is_silent(line) {
             return Ok(());
         }

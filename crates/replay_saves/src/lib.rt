@@ -51,6 +51,7 @@ impl Roots {
     }
 }
 
+// Kept: apart from `order`: of a closure over the calls of the front door the type alone would name their eighteen parameters.
 fn same(kept: &Kept, other: &Kept, t: &Table, roots: &Roots) -> Answer {
     let mut s = Scratch::new();
     let mut z = Scratch::new();
@@ -110,6 +111,7 @@ fn put_order(rt: &impl Print, a: Answer) -> io::Result<()> {
     })
 }
 
+// Kept: a `match` on the command, since each has fields of its own to read.
 /// Runs a line.
 pub fn answer(
     rt: &impl Print,

@@ -47,6 +47,7 @@ fn put_size(rt: &impl Print, a: Answer) -> io::Result<()> {
 
 // The layout by a descriptor, and the offsets of a record's fields.
 fn show_layout(rt: &impl Print, t: &Table, ty: u64, desc: &[u8]) -> io::Result<()> {
+    // Kept: an array, here and below: room of one call; a `Vec` would only add a way to fail.
     let mut offsets = [0u64; 16384];
     let a = yexwalu::types::layout(
         &t.types,
@@ -68,24 +69,24 @@ fn show_layout(rt: &impl Print, t: &Table, ty: u64, desc: &[u8]) -> io::Result<(
 }
 
 // The handles of an object or a value.
-fn put_handles(rt: &impl Print, a: Answer, out: &[u64]) -> io::Result<()> {
-    put_told(rt, a, |count, _| print!(rt; " {}", List(front(out, count))))
-}
-
-fn show_object(rt: &impl Print, t: &Table, ty: u64, bytes: &[u8]) -> io::Result<()> {
+fn show_handles<F: FnOnce(&[u64], &[u32], &[u64], &[u8], u64, &[u8], &mut [u64]) -> Answer>(
+    rt: &impl Print,
+    t: &Table,
+    ty: u64,
+    bytes: &[u8],
+    list: F,
+) -> io::Result<()>
+    requires { F.IsAlwaysCallable list }
+{
     let mut out = [0u64; 16384];
-    let a = handles::object_handles(
+    let a = list(
         &t.types, &t.fields, &t.consts, &t.bytes, ty, bytes, &mut out,
     );
-    put_handles(rt, a, &out)
-}
-
-fn show_value(rt: &impl Print, t: &Table, ty: u64, bytes: &[u8]) -> io::Result<()> {
-    let mut out = [0u64; 16384];
-    let a = handles::value_handles(
-        &t.types, &t.fields, &t.consts, &t.bytes, ty, bytes, &mut out,
-    );
-    put_handles(rt, a, &out)
+    put_told(
+        rt,
+        a,
+        |count, _| print!(rt; " {}", List(front(&out, count))),
+    )
 }
 
 // The handles and addresses of a frame. An entry of the map gives one address at most.
@@ -111,6 +112,7 @@ fn show_roots(rt: &impl Print, t: &Table, map: &[u32], memory: &[u8]) -> io::Res
     })
 }
 
+// Kept: a `match` on the question, since each has fields of its own to read.
 /// Answers a question: of a type, with a descriptor, an object or a value in bytes; of a frame, with its map and its memory.
 pub fn answer(
     rt: &impl Print,
@@ -130,8 +132,14 @@ pub fn answer(
             put_answer(rt, a, 1)?;
         }
         Question::Layout => show_layout(rt, t, line.number(HALF)?, &line.bytes()?)?,
-        Question::ObjectHandles => show_object(rt, t, line.number(HALF)?, &line.bytes()?)?,
-        Question::ValueHandles => show_value(rt, t, line.number(HALF)?, &line.bytes()?)?,
+        Question::ObjectHandles => {
+            let ty = line.number(HALF)?;
+            show_handles(rt, t, ty, &line.bytes()?, handles::object_handles)?;
+        },
+        Question::ValueHandles => {
+            let ty = line.number(HALF)?;
+            show_handles(rt, t, ty, &line.bytes()?, handles::value_handles)?;
+        },
         Question::SlotRoots => show_roots(rt, t, &line.frame_map(MOST_MAP)?, &line.bytes()?)?,
     }
     Ok(())

@@ -47,6 +47,7 @@ pub fn back_at(
 }
 
 // The row at `at`, lent on to be written, gets the registers that the instructions from..to write.
+// Kept: apart from `back_at`, since each has a law of its own.
 fn kill_at(s: &mut [u64], registers: &Registers, at: usize, words: usize, from: usize, to: usize)
     requires words_in_bounds { at + words ≤ length s.old }
     requires from_le_to { (from ≤ to) × (3 * to ≤ length registers.now.ends.now) × (length registers.now.classes.now ≤ 64 * words) }
