@@ -1,5 +1,5 @@
 -- What a line of a script says: fields with one space between two of them, numbers, and texts that stand on one line.
-use Rattle.std.specs.Prelude.{Bool, List, [], ◌∷◌, ℕ, eqb, ◌==◌, map, if◌then◌else◌, Option, Some, None, length}
+use Rattle.std.specs.Prelude.{List, [], ◌∷◌, ℕ, eqb, ◌==◌, if◌then◌else◌, Option, Some, None, length}
 use mathlib.Core.Option as maybe
 use mathlib.Core.Option.{none, some}
 use Rattle.std.specs.Prelude.{Result, Ok, Err}

@@ -1,6 +1,4 @@
 -- `protocol::fields::number` meets its contract.
-use mathlib.Core.Path.{◌∙◌, ap}
-use Rattle.std.specs.Prelude.{Some}
 use Rattle.protocol.proofs.Parting.{number-whole, number-part, number-none}
 use Rattle.protocol.proofs.fields.number.Goals as goal
 

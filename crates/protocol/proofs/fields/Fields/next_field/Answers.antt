@@ -1,9 +1,6 @@
 -- `protocol::fields::Fields::next_field` meets its contract.
-use native.Mathlib.Omega.{arith}
-use mathlib.Core.Path.{◌≡◌, refl, sym, ap, ◌∙◌}
-use mathlib.Core.List.{List, []}
-use Prim.Native.Nat.{ℕ, ◌+◌, ◌-◌}
-use lib.ListN.{length, take, drop}
+use mathlib.Core.Path.{refl, sym, ◌∙◌}
+use Prim.Native.Nat.{◌+◌}
 use Rattle.protocol.proofs.Parting.{parted-nowhere, parted-at, rest-front, rest-from}
 use Rattle.protocol.proofs.fields.Fields.next_field.Goals as goal
 
