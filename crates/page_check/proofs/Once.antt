@@ -12,14 +12,14 @@ use native.Mathlib.Omega.{arith}
 use native.Mathlib.Nat.{zero-add, add-zero, sub-zero}
 use borrow.Author.Tests.{ne_eqb}
 use Rattle.word.specs.Bit as word
-use Rattle.word.proofs.Bools.{true-false, and-false, and_assoc}
+use Rattle.word.proofs.Bools.{and-false, and_assoc}
 use Rattle.word.proofs.BitLaws.{bit-of-zero}
 use Rattle.word.proofs.ListLaws.{get_or-zeros}
 use Rattle.rows.specs.Row.{bit_in}
 use Rattle.text.specs.Text.{give, Reader, ◌>>=◌}
 use Rattle.text.specs.Format.{read_all, times}
 use Rattle.text.proofs.Laws.{bind-some, some_inj, times-right}
-use Rattle.heap.specs.State.{Slot, State, bit}
+use Rattle.heap.specs.State.{Slot, bit}
 use Rattle.pages.specs.Page.{slot_format}
 use Rattle.heap.specs.State as wf
 use Rattle.pages.proofs.Laws.{slot-right}

@@ -1,8 +1,8 @@
 -- From what the inner calls ensure to the page's calls. Assumes nothing.
-use Prim.Native.Nat.{ℕ, ◌≤◌, ◌<◌}
+use Prim.Native.Nat.{ℕ, ◌≤◌}
 use mathlib.Core.Bool.{Bool, true, false, ◌&&◌}
 use mathlib.Core.List.{List, [], ◌∷◌}
-use mathlib.Core.Path.{◌≡◌, refl, sym, ap, subst, ◌∙◌}
+use mathlib.Core.Path.{◌≡◌, sym, ap, subst, ◌∙◌}
 use lib.Dec.{leb}
 use lib.ListN.{length}
 use Rattle.word.proofs.Bools.{and_both}
@@ -16,16 +16,15 @@ use Rattle.std.specs.Prelude.{Result as Outcomes, Ok, Err, IfOk}
 use Rattle.std.proofs.lemmas.Result.{IfOk-at_ok}
 use Rattle.heap.specs.Seen.{seen, state}
 use Rattle.heap.specs.declared.view.View.{View}
-use Rattle.heap.specs.State.{State}
 use Rattle.heap.specs.Lent.{Lent, view, slot_count}
-use Rattle.door.specs.HeapCalls.{Entered, heap_tests, asked, enough, outcome, outcome_of, zeros}
+use Rattle.door.specs.HeapCalls.{Entered, heap_tests, asked, enough, outcome, zeros}
 use Rattle.door.specs.HeapCalls.{Entry, entry_of}
 use Rattle.door.specs.HeapCalls.{ready}
 use Rattle.door.proofs.Entering.{ask-refused, ask-ready, whether-not, whether-ready}
 use Rattle.pages.specs.Form.{written}
 use Rattle.pages.specs.Page.{page_text}
 use Rattle.pages.specs.Answer.{PageWritten, text_answer, text_out}
-use Rattle.page_reader.specs.Reading.{read_into, PageRead}
+use Rattle.page_reader.specs.Reading.{PageRead}
 use Rattle.page_door.specs.Page.{writing, page_out, reading}
 
 module _ (l : Lent) {marks work marks' work' : List ℕ} {e : Entry} (s : Entered (marks ∷ work ∷ []) (heap_tests marks work l) e (marks' ∷ work' ∷ [])) (planar : Bool) (out : List ℕ) where

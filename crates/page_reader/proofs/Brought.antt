@@ -1,10 +1,10 @@
 -- The heap that a page brings, from its lists: its free list parted, then its retired list. Assumes nothing.
-use Prim.Native.Nat.{ℕ, ◌+◌, ◌*◌, ◌/◌, ◌≤◌, ◌<◌}
-use mathlib.Core.Bool.{Bool, true, false, not, ◌&&◌}
-use mathlib.Core.List.{List, [], ◌∷◌, ◌++◌, map, append-nil}
+use Prim.Native.Nat.{ℕ, ◌+◌, ◌≤◌}
+use mathlib.Core.Bool.{Bool, true, false, not}
+use mathlib.Core.List.{List, [], ◌∷◌, ◌++◌, map}
 use mathlib.Core.Path.{◌≡◌, refl, sym, ap, ◌∙◌}
 use lib.Dec.{eqb, ltb}
-use lib.ListN.{length, get_or, replicate, length-map, length-append, get_or-map, get_or-eq_default}
+use lib.ListN.{length, get_or, length-map, length-append, get_or-map, get_or-eq_default}
 use native.Mathlib.Omega.{arith}
 use native.Mathlib.Decide.{dec_lt}
 use borrow.Author.Tests.{ltb-true, not-true}
@@ -16,11 +16,10 @@ use Rattle.text.specs.Put.{put_text}
 use Rattle.text.proofs.Putting.{put-nothing}
 use Rattle.heap.specs.State.{Slot, State, no_slot, slot_at, last_generation, worn}
 use Rattle.heap.specs.Packing.{pad}
-use Rattle.heap.specs.WellFormed.{places, partitioned, retired_rightly, sound}
+use Rattle.heap.specs.WellFormed.{places, partitioned, retired_rightly}
 use Rattle.heap.proofs.Packing.{get_or-pad}
 use Rattle.heap.proofs.Storing.{get_or-pad-past}
 use Rattle.pages.specs.Page.{moved}
-use Rattle.pages.proofs.Bound.{parts}
 use Rattle.pages.proofs.Moving.{same-partition}
 use Rattle.page_reader.specs.Columns.{worn_in, stay_free, retire, Below}
 

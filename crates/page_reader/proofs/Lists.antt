@@ -1,17 +1,17 @@
 -- The quarantine, the retired and the seals of a page, put into their runs. Assumes nothing.
 use Prim.Native.Nat.{ℕ, ◌+◌, ◌-◌, ◌*◌, ◌/◌, ◌≤◌}
 use mathlib.Core.List.{List, ◌++◌}
-use mathlib.Core.Path.{◌≡◌, refl, sym, ap, ◌∙◌, subst}
+use mathlib.Core.Path.{◌≡◌, refl, ap, ◌∙◌}
 use lib.ListN.{length, take, drop}
 use native.Mathlib.Omega.{arith}
 use borrow.Rule.Slice.PartMut.{put_mid, same_len_mid}
 use Rattle.word.specs.Run.{run}
 use Rattle.word.proofs.RunLaws.{run-part, length_run, lent-run, lent-above, lent_below, lent-past}
 use Rattle.text.specs.Put.{put_text}
-use Rattle.heap.specs.Lent.{Lent, columns, cut, lent}
+use Rattle.heap.specs.Lent.{Lent, columns, cut}
 use Rattle.heap.specs.declared.Heap.{Heap}
 use Rattle.heap.proofs.Runs.{recount, with-quarantine, with-retired, with-sealed}
-use Rattle.page_reader.specs.Columns.{with_lists, ListsFilled}
+use Rattle.page_reader.specs.Columns.{ListsFilled}
 
 -- a run lent and returned
 module _ (h : Heap) (S : ℕ) (narrow wide pool ys : List ℕ) (long : length ys ≡ S) where

@@ -1,5 +1,5 @@
 -- The whole heap as the second pass leaves it, and what a call of the reader answers. Assumes nothing.
-use Prim.Native.Nat.{ℕ, zero, suc, ◌+◌, ◌-◌, ◌*◌, ◌/◌, ◌^◌, ◌≤◌, ◌<◌}
+use Prim.Native.Nat.{ℕ, ◌+◌, ◌-◌, ◌*◌, ◌/◌, ◌^◌, ◌≤◌, ◌<◌}
 use mathlib.Core.List.{List, [], ◌∷◌, ◌++◌, map}
 use mathlib.Core.Bool.{Bool, true, false, not, ◌&&◌}
 use mathlib.Core.Option.{Option, none, some}
@@ -21,12 +21,11 @@ use Rattle.word.specs.Lists.{all}
 use Rattle.word.proofs.ListLaws.{take-zeros}
 use Rattle.heap.specs.State.{Slot, State, slot_at, worn, data_of, data_size}
 use Rattle.heap.specs.Packing.{pad, flat, ends}
-use Rattle.heap.specs.Lent.{Lent, columns, cut, lent, header_of, stored, column, slot_count, pool_size}
+use Rattle.heap.specs.Lent.{Lent, columns, cut, lent, header_of, stored, slot_count, pool_size}
 use Rattle.heap.specs.WellFormed.{sound}
 use Rattle.heap.specs.declared.Heap.{Heap}
 use Rattle.heap.proofs.Packing.{drop-replicate}
 use Rattle.heap.proofs.Recycled.{filter-total}
-use Rattle.heap.proofs.Runs.{recount}
 use Rattle.pages.specs.Form.{Form, writes_width}
 use Rattle.pages.specs.Page.{out_of_column, read_page, moved, brought}
 use Rattle.pages.proofs.Writing.{back-length}
@@ -43,7 +42,7 @@ use Rattle.std.specs.Prelude.{Ok, Err}
 use Rattle.page_reader.specs.Columns.{worn_in, stay_free, retire, ages, Below, with_numbers, with_parted, with_lists, NumbersFilled, FreeParted, ListsFilled, Roomy}
 use Rattle.page_reader.specs.Reading.{in_range, read_into, PageRead}
 use Rattle.heap.specs.Sizes.{sizes_fit}
-use Rattle.heap.proofs.Sizes.{Sizes, sizes-tested}
+use Rattle.heap.proofs.Sizes.{sizes-tested}
 use Rattle.page_reader.proofs.Loading.{padded}
 use Rattle.page_reader.proofs.Brought.{brought-free, brought-retired, retired_count, said-parted, free-below, free-young}
 

@@ -14,9 +14,9 @@ use Rattle.text.specs.Text.{give}
 use Rattle.text.specs.Format.{read_all}
 use Rattle.text.specs.Put.{put_text}
 use Rattle.text.proofs.Putting.{put-nothing}
-use Rattle.heap.specs.State.{Slot, data_of, data_size}
+use Rattle.heap.specs.State.{Slot, data_size}
 use Rattle.heap.specs.Packing.{flat, ends}
-use Rattle.heap.specs.Lent.{Lent, columns, cut, lent}
+use Rattle.heap.specs.Lent.{Lent, columns, cut}
 use Rattle.heap.specs.declared.Heap.{Heap}
 use Rattle.heap.proofs.Runs.{recount, with-generation, with-kind, with-type, with-end, with-writes, set-generation, set-kind, set-type, set-start, set-end, set-writes}
 use Rattle.pages.specs.Page.{slot_format}

@@ -2,10 +2,10 @@
 use Prim.Native.Nat.{ℕ, ◌+◌, ◌-◌, ◌*◌, ◌/◌, ◌^◌, ◌≤◌, ◌<◌}
 use mathlib.Core.Bool.{Bool, true, false, not}
 use mathlib.Core.List.{List, [], ◌∷◌, ◌++◌, append-nil}
-use mathlib.Core.Path.{◌≡◌, refl, sym, ap, ◌∙◌, subst}
+use mathlib.Core.Path.{◌≡◌, refl, sym, ap, ◌∙◌}
 use lib.Dec.{eqb}
-use lib.ListN.{length, take, drop, get_or, set, length-set, length-append}
-use lib.Seq.{take-suc, take_all, length-take-le}
+use lib.ListN.{length, take, drop, get_or, length-set, length-append}
+use lib.Seq.{take-suc, take_all}
 use native.Mathlib.Omega.{arith}
 use native.Mathlib.Nat.{sub-zero}
 use native.Mathlib.Numerals.{add-one}
@@ -20,10 +20,10 @@ use Rattle.text.specs.Put.{put_text}
 use Rattle.std.specs.Prelude.{Option, Some, None}
 use Rattle.text.proofs.Putting.{put-nothing}
 use Rattle.heap.specs.State.{last_generation}
-use Rattle.heap.specs.Lent.{Lent, columns, cut, lent}
+use Rattle.heap.specs.Lent.{Lent, columns, cut}
 use Rattle.heap.specs.declared.Heap.{Heap}
-use Rattle.heap.proofs.Recycled.{filter-total, filter-append}
-use Rattle.heap.proofs.Runs.{recount, with-free, with-retired, set-free, set-retired}
+use Rattle.heap.proofs.Recycled.{filter-append}
+use Rattle.heap.proofs.Runs.{recount, set-free, set-retired}
 use Rattle.page_check.specs.Partition.{values_at, past_values, ValuesParsed}
 use Rattle.page_check.proofs.Lists.{value_found, value_none}
 use Rattle.page_check.proofs.Filling.{read_next, read_some, read-end}

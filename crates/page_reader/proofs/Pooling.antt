@@ -18,7 +18,7 @@ use Rattle.heap.specs.State.{Slot, data_of, data_size}
 use Rattle.heap.specs.Packing.{flat}
 use Rattle.pages.specs.Form.{from_column}
 use Rattle.pages.specs.Page.{slot_format, out_of_column}
-use Rattle.pages.specs.Columns.{slot, field}
+use Rattle.pages.specs.Columns.{field}
 use Rattle.pages.proofs.Laws.{slot-right, slot-prints}
 use Rattle.pages.proofs.Writing.{blank, slot-parts}
 use Rattle.page_check.specs.Filling.{slots_at, past_slots, SlotsParsed}

@@ -7,7 +7,6 @@ use lib.ListN.{length, take, drop}
 use lib.Seq.{take_at, drop-drop, length-take-le}
 use native.Mathlib.Omega.{arith}
 use borrow.Rule.Slice.PartMut.{put_mid}
-use Rattle.word.specs.Put.{put}
 use Rattle.word.proofs.PutLaws.{drop-put, mid-put, put_all}
 use lib.Seq.{take_all}
 use Rattle.planes.specs.Planes.{restored}

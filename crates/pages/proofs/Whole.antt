@@ -9,7 +9,6 @@ use native.Mathlib.Omega.{arith}
 use native.Mathlib.Nat.{zero-add}
 use borrow.Author.Tests.{le-leb, lt-leb}
 use Rattle.text.specs.Put.{Puts}
-use Rattle.text.proofs.Putting.{puts-puts, puts-at}
 use Rattle.pages.specs.Form.{written, heap_names, slot_names, free_name, quarantine_name, sealed_name, retired_name}
 use Rattle.pages.specs.Page.{value_line, slot_line, numbers_line, heap_line, retired_part, page_text}
 use Rattle.heap.specs.Lent.{Lent, lent, view}

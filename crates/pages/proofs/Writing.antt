@@ -3,7 +3,7 @@ use Prim.Native.Nat.{ℕ, zero, suc, ◌+◌, ◌*◌, ◌≤◌, ◌<◌}
 use mathlib.Core.List.{List, [], ◌∷◌, ◌++◌, append_assoc, append-nil, flat_map}
 use mathlib.Core.Bool.{Bool, true, false}
 use mathlib.Core.Path.{◌≡◌, refl, sym, ap, ◌∙◌}
-use lib.ListN.{length, take, get_or, set, length-append}
+use lib.ListN.{length, take, get_or, length-append}
 use lib.Seq.{take-suc, take_all}
 use native.Mathlib.Omega.{arith}
 use native.Mathlib.Numerals.{add-one}
@@ -11,7 +11,7 @@ use Rattle.text.specs.Text.{decimal, hex, line}
 use Rattle.word.proofs.ListLaws.{length-tabulate, get_d_tabulate}
 use Rattle.text.specs.Put.{Puts}
 use Rattle.text.proofs.Laws.{hex-length}
-use Rattle.text.proofs.Putting.{puts-puts, puts-byte, puts-length, puts-at}
+use Rattle.text.proofs.Putting.{puts-puts, puts-at}
 use Rattle.heap.specs.State.{Slot}
 use Rattle.planes.specs.Planes.{planes}
 use Rattle.planes.proofs.Laws.{length-planes, length-restored}

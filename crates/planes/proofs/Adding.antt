@@ -1,5 +1,5 @@
 -- Little-endian words of bytes; words each less the one before, and sums of words. Assumes nothing.
-use Rattle.std.proofs.Common.{◌≡◌, ℕ, zero, suc, ◌+◌, ◌-◌, ◌*◌, ◌/◌, ◌%◌, ◌^◌, ◌<◌, ◌≤◌, List, [], ◌∷◌, ◌++◌, length, get_or, take, drop, sym, refl, ap, ◌∙◌, ap₂, append_assoc, mod-lt, mod-eq_of_lt, suc-mul, mul_comm, pow-suc, zero-mul, div-one, arith, length-append, length-drop, take-append-drop, length-take-le, drop-drop, take_at, get_or-append-add, drop_at, pow-add}
+use Rattle.std.proofs.Common.{◌≡◌, ℕ, zero, suc, ◌+◌, ◌-◌, ◌*◌, ◌/◌, ◌%◌, ◌^◌, ◌<◌, ◌≤◌, List, [], ◌∷◌, ◌++◌, length, get_or, take, drop, sym, refl, ap, ◌∙◌, ap₂, mod-lt, mod-eq_of_lt, suc-mul, mul_comm, pow-suc, zero-mul, div-one, arith, length-append, length-drop, take-append-drop, length-take-le, drop-drop, take_at, get_or-append-add, drop_at, pow-add}
 use native.Mathlib.Nat.{add-mod_right, mod-add-mod, div-div-eq-div-mul}
 use lib.ListN.{get_or-append}
 use Rattle.text.specs.Text.{Bytes}

@@ -1,11 +1,10 @@
 -- THE LAWS OF BYTE PLANES, for words of any width. Assumes nothing.
-use Rattle.std.proofs.Common.{◌≡◌, ℕ, zero, suc, ◌+◌, ◌-◌, ◌*◌, ◌/◌, ◌%◌, ◌^◌, ◌<◌, ◌≤◌, List, [], ◌∷◌, ◌++◌, length, get_or, take, drop, sym, refl, ap, ◌∙◌, ap₂, append_assoc, append-nil, mod-lt, mul_comm, div-lt_iff_lt-mul, mul-zero, div-add-mod', div-mul-le_self, arith, length-append, get_or-drop}
+use Rattle.std.proofs.Common.{◌≡◌, ℕ, zero, suc, ◌+◌, ◌-◌, ◌*◌, ◌/◌, ◌%◌, ◌<◌, ◌≤◌, List, [], ◌∷◌, ◌++◌, length, get_or, drop, sym, refl, ap, ◌∙◌, ap₂, mod-lt, mul_comm, div-lt_iff_lt-mul, mul-zero, div-add-mod', div-mul-le_self, arith, get_or-drop}
 use Rattle.text.specs.Text.{Bytes}
 use Rattle.word.specs.Lists.{tabulate}
-use Rattle.word.proofs.ListLaws.{length-tabulate, get_d_tabulate}
 use Rattle.planes.specs.Planes.{count, lessened, summed, rows, every, turned, planes, restored}
-use Rattle.planes.specs.Inner.Words.{word_at, before, difference, plane_byte, plane}
-use Rattle.planes.proofs.Turning.{byte_at, rows_snoc, turned-at, turned-past, length-turned, turned-back, bytes-turned}
+use Rattle.planes.specs.Inner.Words.{plane_byte, plane}
+use Rattle.planes.proofs.Turning.{turned-at, turned-past, length-turned, turned-back, bytes-turned}
 use Rattle.planes.proofs.Adding.{power, length-lessened, length-summed, bytes-lessened, bytes-summed, summed-lessened, lessened-summed, lessened-at, lessened-rest}
 
 pub room : (k : ℕ) (l : List ℕ) → count k l * k ≤ length l

@@ -1,16 +1,15 @@
 -- The loops that go back from a column: plane bytes put into their places, then running sums in place. Assumes nothing.
-use Rattle.std.proofs.Common.{◌≡◌, ℕ, zero, suc, ◌+◌, ◌-◌, ◌*◌, ◌/◌, ◌%◌, ◌^◌, ◌<◌, ◌≤◌, List, [], ◌∷◌, ◌++◌, length, get_or, take, drop, set, sym, refl, ap, ◌∙◌, ap₂, append_assoc, mul-le-mul_right, suc-mul, mul_comm, zero-mul, arith, length-set, take-append-drop, take_all, get_or-set_other, get_or-set_same, drop-drop}
+use Rattle.std.proofs.Common.{◌≡◌, ℕ, zero, suc, ◌+◌, ◌-◌, ◌*◌, ◌/◌, ◌%◌, ◌<◌, ◌≤◌, List, [], ◌++◌, length, get_or, take, drop, set, sym, refl, ap, ◌∙◌, ap₂, append_assoc, mul-le-mul_right, suc-mul, zero-mul, arith, length-set, take-append-drop, take_all, get_or-set_other, get_or-set_same, drop-drop}
 use native.Mathlib.Decide.{dec_lt}
 use lib.Arith.{digits_lt, digits_div, digits_mod}
-use lib.Seq.{take-length, drop-length}
-use Rattle.word.specs.Le.{le, bytes}
+use Rattle.word.specs.Le.{bytes}
 use Rattle.word.specs.Put.{put}
 use Rattle.word.proofs.LeLaws.{length-bytes}
 use Rattle.word.proofs.PutLaws.{length-put, take_put, drop-put}
 use Rattle.planes.specs.Planes.{count, plus, summed, turned, restored}
 use Rattle.planes.specs.Inner.Words.{word_at}
 use Rattle.planes.specs.Inner.Steps.{Scattering, Summing}
-use Rattle.planes.proofs.Turning.{turned-is, length-turned}
+use Rattle.planes.proofs.Turning.{turned-is}
 use Rattle.planes.proofs.Adding.{power, fits}
 
 -- two places of one number are the same place

@@ -1,13 +1,11 @@
 -- One law for each turn of the loops. Assumes nothing.
 use Rattle.std.specs.Int.{to_le_bytes}
 use borrow.Rule.Slice.PartMut.{put_mid}
-use Rattle.std.proofs.Common.{w64, ◌≡◌, ℕ, zero, suc, ◌+◌, ◌-◌, ◌*◌, ◌/◌, ◌%◌, ◌^◌, ◌<◌, ◌≤◌, List, [], ◌∷◌, ◌++◌, length, get_or, take, drop, set, sym, refl, ap, ◌∙◌, ap₂, mul-le-mul_right, suc-mul, zero-mul, div-mul-le_self, add-one, arith, length-drop, length-set, take_all}
-use lib.Arith.{digits_lt}
+use Rattle.std.proofs.Common.{w64, ◌≡◌, ℕ, zero, suc, ◌+◌, ◌-◌, ◌*◌, ◌/◌, ◌%◌, ◌^◌, ◌<◌, ◌≤◌, List, [], ◌∷◌, ◌++◌, length, get_or, take, drop, set, sym, refl, ap, ◌∙◌, ap₂, mul-le-mul_right, suc-mul, zero-mul, div-mul-le_self, add-one, arith, length-drop, take_all}
 use Rattle.word.specs.Le.{le, bytes}
 use Rattle.word.specs.Lists.{tabulate}
 use Rattle.word.specs.Put.{put}
 use Rattle.word.proofs.LeLaws.{length-bytes}
-use Rattle.word.proofs.PutLaws.{Filling, fill_start, fill-next, fill_stop}
 use Rattle.text.specs.Text.{hex}
 use Rattle.text.specs.Put.{Puts}
 use Rattle.text.proofs.Putting.{puts_none, puts-puts, puts-at, hex-append, puts-length, put-mid-put}
@@ -15,11 +13,11 @@ use Rattle.text.proofs.Laws.{hex-length}
 use Rattle.planes.specs.Planes.{count, less, plus, rows, planes, turned, summed, restored}
 use Rattle.planes.specs.Inner.Words.{word_at, before, plane_byte, plane}
 use Rattle.planes.specs.Inner.Steps.{Scattering, Summing}
-use Rattle.planes.proofs.Turning.{rows_snoc, length-turned}
+use Rattle.planes.proofs.Turning.{rows_snoc}
 use Rattle.planes.proofs.Laws.{planes-parts, tabulate-snoc}
-use Rattle.planes.proofs.Stepping.{scatter-begin, scatter-next, scatter-stop, sum-begin, sum-next, sum-stop, restored-in-place}
+use Rattle.planes.proofs.Stepping.{scatter-begin, scatter-next, scatter-stop, sum-next, sum-stop, restored-in-place}
 use Rattle.word.proofs.ListLaws.{length-tabulate}
-use Rattle.planes.proofs.Adding.{less-is, byte_power}
+use Rattle.planes.proofs.Adding.{byte_power}
 
 pub before-word : (l : List ℕ) (i r : ℕ) → (i ≡ 0 → ⊥) → r ≡ le (take 8 (drop ((i - 1) * 8) l)) → r ≡ before 8 0 l i
 before-word l zero r h e = absurd (h refl)

@@ -5,25 +5,22 @@ use mathlib.Core.Bool.{Bool, true, false, true≢false, ◌&&◌}
 use mathlib.Core.Option as maybe
 use mathlib.Core.Option.{none, some}
 use mathlib.Core.Path.{◌≡◌, refl, sym, ap, ◌∙◌, subst}
-use lib.Bits.{bit_or}
 use lib.Dec.{leb, ltb, eqb}
 use lib.Pointwise.{pointwise}
-use Rattle.std.specs.List.{starts_with, slice_range}
+use Rattle.std.specs.List.{starts_with}
 use lib.ListN.{length, take, drop, get_or, length-drop, drop_of_length-le}
-use lib.Seq.{drop-cons, drop-drop, drop-append_seam, take_all, length-take-le, get_or-take, get_or-drop}
+use lib.Seq.{drop-drop, drop-append_seam, take_all, length-take-le, get_or-take, get_or-drop}
 use native.Mathlib.Decide.{ℕ_discrete}
 use native.Mathlib.Omega.{arith}
-use native.Mathlib.Numerals.{add-one}
 use native.Mathlib.Nat.{zero-add}
-use borrow.Author.Tests.{le-leb, lt-leb, not-true, not-false, eq-eqb, ne_eqb, leb-true, leb-false, ltb-true, eqb-true}
+use borrow.Author.Tests.{le-leb, lt-leb, eq-eqb, ne_eqb, leb-true, leb-false, ltb-true}
 use Rattle.std.proofs.lemmas.List.{get_or_read}
-use Rattle.word.proofs.BitLaws.{or-none}
 use Rattle.word.proofs.ListLaws.{drop-cons-one}
 use Rattle.text.specs.Text.{◌>>=◌, give, decimal, hex, newline, Bytes, digit_of, Stops, ends, scan, capped, after, read_decimal, read_literal, hex_digit_of, byte_of, read_hex, read_field}
 use Rattle.text.specs.Format.{Format, Right, either, number}
 use Rattle.std.specs.Prelude.{Option, Some, None, MatchOption, MatchBool, is_some}
 use Rattle.text.specs.Answer.{value_answer, literal_answer, value_answer, hex_answer, hex_more, HexDigit, HexDigits, HexRun, DigitAt}
-use Rattle.text.proofs.Laws.{none-not-some, digit-of-digit, digit-of-some, ends-stops, scan-some, scan-stops, scan-grows, read-digit, hex-digit-back, decimal-back, number-right, hex-back, literal-back}
+use Rattle.text.proofs.Laws.{none-not-some, ends-stops, scan-some, scan-stops, scan-grows, read-digit, decimal-back, number-right, hex-back, literal-back}
 
 pub low : (b : ℕ) → b < 48 → digit_of b ≡ none
 unfolding digit_of

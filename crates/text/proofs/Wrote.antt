@@ -1,11 +1,11 @@
 -- Texts written one after another. Assumes nothing.
 use Prim.Native.Nat.{ℕ, ◌+◌, ◌≤◌}
-use mathlib.Core.List.{List, [], ◌∷◌, ◌++◌, append_assoc, append-nil}
-use mathlib.Core.Path.{◌≡◌, refl, sym, ap, ◌∙◌, subst}
+use mathlib.Core.List.{List, [], ◌++◌}
+use mathlib.Core.Path.{◌≡◌, refl, ap, ◌∙◌}
 use lib.ListN.{length, length-append}
 use native.Mathlib.Omega.{arith}
 use Rattle.text.specs.Put.{Puts}
-use Rattle.text.proofs.Putting.{puts-puts, puts-byte, puts-at, puts_none, puts-length}
+use Rattle.text.proofs.Putting.{puts-puts, puts-at, puts_none, puts-length}
 use Rattle.text.specs.Wrote.{Wrote}
 use Rattle.text.specs.declared.output.Out.{Out}
 

@@ -1,6 +1,5 @@
 use Prim.Native.Nat.{◌-◌}
 use Rattle.text.proofs.Copying.{unlost}
-use native.Mathlib.Omega.{arith}
 use Rattle.page_reader.proofs.Pooling.{pooling-begin, pooling-some, line-end, line-data, line-digits, data-there, data-size, data-fits, pooling-next, pooling-end}
 use Rattle.page_reader.proofs.fill_data.Goals as goal
 

@@ -1,7 +1,7 @@
 use native.Mathlib.Omega.{arith}
-use mathlib.Core.Path.{sym, subst, ◌∙◌}
+use mathlib.Core.Path.{sym, ◌∙◌}
 use Rattle.pages.proofs.Numbers.{numbers-length, numbers-set}
-use Rattle.page_reader.proofs.Listing.{Listing, listing-begin, listing-some, listing-fits, listing-next, listing-end}
+use Rattle.page_reader.proofs.Listing.{listing-begin, listing-some, listing-fits, listing-next, listing-end}
 use Rattle.page_reader.proofs.fill_values.Goals as goal
 
 pub loop-i-init : goal.loop-i-init

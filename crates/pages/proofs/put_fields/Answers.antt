@@ -1,4 +1,4 @@
-use mathlib.Core.List.{[], ◌∷◌, ◌++◌, append_assoc, append-nil}
+use mathlib.Core.List.{[], ◌++◌, append_assoc, append-nil}
 use mathlib.Core.Path.{◌∙◌}
 use Rattle.pages.specs.Columns.{field, head_fields}
 use Rattle.pages.proofs.Writing.{head-parts}

@@ -1,5 +1,5 @@
 use mathlib.Core.Bool.{true}
-use mathlib.Core.List.{[], ◌∷◌, ◌++◌, append-nil}
+use mathlib.Core.List.{[], ◌++◌, append-nil}
 use mathlib.Core.Path.{◌∙◌}
 use Rattle.pages.specs.Page.{numbers_line}
 use Rattle.pages.specs.Columns.{field, head_fields}

@@ -1,5 +1,5 @@
 use Prim.Native.Nat.{ℕ}
-use mathlib.Core.List.{List, [], ◌∷◌, ◌++◌, append-nil, flat_map}
+use mathlib.Core.List.{List, [], ◌++◌, append-nil, flat_map}
 use mathlib.Core.Path.{refl, ap}
 use lib.ListN.{take}
 use Rattle.pages.specs.Page.{value_line}

@@ -1,6 +1,5 @@
 use Prim.Native.Nat.{ℕ, ◌-◌, ◌*◌, ◌/◌}
-use mathlib.Core.List.{List, [], ◌++◌, flat_map}
-use mathlib.Core.Path.{sym}
+use mathlib.Core.List.{[], ◌++◌, flat_map}
 use lib.ListN.{length, take, drop}
 use native.Mathlib.Omega.{arith}
 use Rattle.text.specs.Text.{ascii}

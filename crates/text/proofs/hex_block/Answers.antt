@@ -1,7 +1,5 @@
 use native.Mathlib.Omega.{arith}
-use lib.ListN.{length-drop}
-use lib.Seq.{length-take-le}
-use Rattle.text.proofs.Getting.{looking-on, looking-last}
+use Rattle.text.proofs.Getting.{looking-on}
 use Rattle.text.proofs.hex_block.Goals as goal
 
 pub loop-b-preserved : goal.loop-b-preserved

@@ -1,5 +1,4 @@
 use native.Mathlib.Omega.{arith}
-use mathlib.Core.Path.{sym}
 use lib.ListN.{length}
 use Rattle.page_check.specs.Sections.{heap_in, listed}
 use Rattle.page_check.proofs.Once.{run-wrong, run-told}
