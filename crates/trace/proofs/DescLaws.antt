@@ -6,16 +6,15 @@ use Prim.Native.Nat.{ℕ, zero, suc, ◌+◌, ◌*◌, ◌^◌, ◌≤◌, ◌<�
 use native.Mathlib.Omega.{arith}
 use lib.ListN.{length, drop, length-drop}
 use lib.Dec.{eqb}
-use borrow.Author.Tests.{lt-ltb}
 use Rattle.ty.specs.Types.{Ty, Ty.missing, Ty.int, Ty.physical, Ty.enum, Ty.real, Ty.array, Ty.fields, Ty.access, Ty.file, Ty.protected, Field, Field.field, Table, type_at, const_at, none}
 use Rattle.std.specs.Prelude.{Result, Option, Some, None, Ok, Err, unwrap_or, if◌then◌else◌}
 use Rattle.ty.proofs.Laws.{word-is}
 use Rattle.ty.specs.Words.{word_of, on_word, round_up, Word}
 use Rattle.ty.specs.Scalars.{scalar_size, elem_size, logic_leaf}
-use Rattle.layout.specs.Layout.{Lay, Dims, dims_of, on_ok, on_bytes, under, used_by, array_laid, array_of, end_of, placed, record_of, scalar_laid, layout_by, layout_at}
+use Rattle.layout.specs.Layout.{Lay, dims_of, on_ok, on_bytes, under, used_by, array_laid, array_of, end_of, placed, record_of, scalar_laid, layout_by, layout_at}
 use Rattle.ty.specs.Walks.{desc_array, desc_fields, desc_by, desc_at, desc_size}
 use Rattle.refusal.specs.declared.Refusal.{Refusal}
-use Rattle.refusal.specs.declared.Refusal.TheVariants.{Malformed, TooLarge}
+use Rattle.refusal.specs.declared.Refusal.TheVariants.{TooLarge}
 use Rattle.layout.specs.declared.Layout.{Layout}
 use Rattle.layout.proofs.Within.{used-within, dims-within}
 

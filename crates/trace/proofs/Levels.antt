@@ -15,7 +15,7 @@ use Rattle.layout.specs.Layout.{Lay, on_ok, on_bytes, dims_of, under, used_by, p
 use Rattle.ty.specs.Walks.{has_handles}
 use Rattle.layout.specs.Offsets.{offsets_of}
 use Rattle.refusal.specs.declared.Refusal.{Refusal}
-use Rattle.refusal.specs.declared.Refusal.TheVariants.{Malformed, TooLarge}
+use Rattle.refusal.specs.declared.Refusal.TheVariants.{TooLarge}
 use Rattle.layout.specs.declared.Layout.{Layout}
 use Rattle.trace.specs.Places.{Places, Below, only_if, both, turns, if_laid, if_bytes, part_places, field_desc, field_places, places_by, places_at}
 use Rattle.trace.proofs.DescLaws.{used-is-at}

@@ -1,22 +1,20 @@
 -- The ways out of a trace of a value, an object and a slot of a heap, one law for each. Assumes nothing.
 use Prim.Native.Nat.{ℕ, suc, ◌+◌, ◌-◌, ◌*◌, ◌/◌, ◌≤◌, ◌<◌}
 use mathlib.Core.Path.{◌≡◌, refl, sym, ap, ◌∙◌}
-use mathlib.Core.Bool.{Bool, true, false, not}
-use mathlib.Core.Option.{some}
-use mathlib.Core.List.{List, [], ◌∷◌}
+use mathlib.Core.Bool.{Bool, true, false}
+use mathlib.Core.List.{List, []}
 use lib.ListN.{length, take, drop, length-drop}
-use lib.Dec.{leb}
-use borrow.Author.Tests.{le-leb, lt-leb, eq-eqb, ne_eqb, not-true, not-false}
+use borrow.Author.Tests.{le-leb, lt-leb, eq-eqb, ne_eqb}
 use native.Mathlib.Omega.{arith}
 use Rattle.ty.specs.Words.{Word}
 use Rattle.word.specs.Result.{Result, ok, refused}
-use Rattle.std.specs.Prelude.{if◌then◌else◌, Some, None}
+use Rattle.std.specs.Prelude.{Some, None}
 use Rattle.ty.specs.Types.{Table}
 use Rattle.ty.specs.Walks.{desc_size, has_handles}
 use Rattle.ty.specs.declared.Table.{Table as Lent}
-use Rattle.ty.specs.View.{lent, table_of, types_of}
+use Rattle.ty.specs.View.{lent, types_of}
 use Rattle.layout.proofs.LayLaws.{rest}
-use Rattle.trace.specs.Places.{Places, places_at, object_places, rising, handles_places, kind_places, shown_places, words_at, value_handles, object_handles, handles_of}
+use Rattle.trace.specs.Places.{places_at, object_places, rising, handles_places, kind_places, shown_places, value_handles, object_handles}
 use Rattle.trace.specs.Emit.{Answer, Raw, Into, emitting, Aim, words_to, compared, handed, handed_all, handing_at, told}
 use Rattle.trace.proofs.Emits.{emit-none, emit-nil, words-at}
 

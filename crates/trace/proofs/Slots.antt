@@ -1,16 +1,14 @@
 -- The ways out of a trace of a slot of a heap to a sink, one law for each. Assumes nothing.
-use Prim.Native.Nat.{ℕ, ◌+◌, ◌-◌, ◌/◌, ◌≤◌, ◌<◌}
+use Prim.Native.Nat.{ℕ, ◌-◌, ◌≤◌, ◌<◌}
 use mathlib.Core.Path.{◌≡◌, refl, ap, ◌∙◌}
-use mathlib.Core.Bool.{Bool, true, false, not}
-use mathlib.Core.List.{List, [], ◌∷◌, map}
+use mathlib.Core.List.{List, map}
 use lib.ListN.{length, take, drop}
-use borrow.Author.Tests.{le-leb, lt-leb, eq-eqb, ne_eqb, not-true, not-false}
-use native.Mathlib.Omega.{arith}
-use Rattle.word.specs.Result.{Result, ok, refused}
+use borrow.Author.Tests.{le-leb, lt-leb, eq-eqb, ne_eqb}
+use Rattle.word.specs.Result.{Result, ok}
 use Rattle.ty.specs.Types.{Table}
 use Rattle.layout.proofs.LayLaws.{rest}
-use Rattle.trace.specs.Places.{places_at, object_places, handles_places, kind_places, handle_at, words_at, value_handles, object_handles, handles_of}
-use Rattle.trace.specs.Emit.{Answer, Raw, Into, emitted, emit_all, emitting, handing_at, told}
+use Rattle.trace.specs.Places.{object_places, handles_places, kind_places, handle_at, words_at, object_handles, handles_of}
+use Rattle.trace.specs.Emit.{Answer, Raw, Into, emit_all, emitting, told}
 
 -- ---- a slot
 

@@ -12,11 +12,10 @@ use Rattle.ty.specs.Types.{Field, Field.field, Table}
 use Rattle.ty.specs.Words.{word_of, on_word, round_up, Word}
 use Rattle.layout.specs.Layout.{Lay, on_ok, under, used_by, placed, record_of, layout_at}
 use Rattle.layout.specs.Offsets.{if_laid as offsets_if, offsets_from}
-use Rattle.refusal.specs.declared.Refusal.{Refusal}
-use Rattle.refusal.specs.declared.Refusal.TheVariants.{Malformed, TooLarge}
+use Rattle.refusal.specs.declared.Refusal.TheVariants.{TooLarge}
 use Rattle.layout.specs.declared.Layout.{Layout}
 use Rattle.trace.specs.Places.{Places, Below, only_if, both, if_laid, part_places, field_desc, field_places}
-use Rattle.trace.specs.Walk.{placed_after, field_at, if_placed, walk}
+use Rattle.trace.specs.Walk.{field_at, if_placed, walk}
 use Rattle.trace.specs.declared.tracer.Placed.{Placed}
 use Rattle.trace.proofs.DescLaws.{used-is}
 

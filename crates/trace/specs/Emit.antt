@@ -1,6 +1,6 @@
 -- Where traced handles go: counted, written to a list, marked and queued by a collection, or compared with those of an object beside. Named by inner contracts: Places.antt says which
 -- handles there are.
-use Rattle.std.specs.Prelude.{ℕ, ◌+◌, ◌-◌, ◌%◌, ◌^◌, min, ◌≡◌, List, [], ◌∷◌, length, get_or, set, ltb, eqb, Option as Maybe, Some, None, if◌then◌else◌}
+use Rattle.std.specs.Prelude.{ℕ, ◌+◌, ◌-◌, ◌%◌, ◌^◌, min, List, [], ◌∷◌, length, get_or, set, ltb, eqb, Option as Maybe, Some, None, if◌then◌else◌}
 use Rattle.std.proofs.Math.Option.{Option, none, some}
 use Rattle.word.specs.Result.{Result, ok, refused}
 use Rattle.handle.specs.declared.Slots.{Slots}

@@ -1,5 +1,4 @@
 -- `trace::tracer::fields_at` meets its contract.
-use mathlib.Core.Path.{sym, ◌∙◌}
 use Rattle.ty.proofs.Rows.{row-is}
 use Rattle.trace.proofs.TraceLaws.{looked-not}
 use Rattle.trace.proofs.tracer.fields_at.Goals as goal
