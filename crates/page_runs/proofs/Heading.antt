@@ -1,6 +1,6 @@
 -- What the code finds of a long line: one law for each way out. Assumes nothing.
 use Prim.Native.Nat.{ℕ, zero, suc, ◌+◌, ◌-◌, ◌*◌, ◌/◌, ◌%◌, ◌^◌, ◌≤◌, ◌<◌}
-use mathlib.Core.Bool.{Bool, true, false, ◌&&◌}
+use mathlib.Core.Bool.{Bool, true, false}
 use mathlib.Core.List.{List, [], ◌∷◌, ◌++◌, append_assoc}
 use mathlib.Core.Option.{none, some}
 use mathlib.Core.Path.{◌≡◌, refl, sym, ap, ◌∙◌, subst}
@@ -11,15 +11,15 @@ use Rattle.word.proofs.Bools.{and_both}
 use Rattle.word.specs.Lists.{all}
 use Rattle.word.specs.Put.{put}
 use Rattle.word.proofs.PutLaws.{take_put}
-use Rattle.text.specs.Text.{give, ascii, comma, decimal, digit_of, read_literal, read_field}
+use Rattle.text.specs.Text.{give, ascii, comma, digit_of, read_literal, read_field}
 use Rattle.text.specs.Format.{number}
 use Rattle.text.specs.Answer.{value_answer, literal_answer}
 use Rattle.std.specs.Prelude.{◌↔◌, Option, Some, None}
-use Rattle.text.proofs.Laws.{decimal-length, literal-back, number-right}
+use Rattle.text.proofs.Laws.{literal-back, number-right}
 use Rattle.text.proofs.Getting.{answer-none, field_found, literal-found, literal-lost}
 use Rattle.script.specs.Script.{run_script}
 use Rattle.page_runs.specs.Inner.Long.{Open, head_of, read_head, DataFrom, HeadFound, is_hex, AllHex, Shortens}
-use Rattle.page_runs.proofs.Long.{head-length, head-short, bad-head, bad-data, less-alike}
+use Rattle.page_runs.proofs.Long.{head-short, bad-head, bad-data, less-alike}
 
 -- ---- the beginning of the line
 

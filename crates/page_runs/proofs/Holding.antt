@@ -1,29 +1,28 @@
 -- What is held of the input, and lines that were run: what is left to be printed stays the same. Assumes nothing.
 use Prim.Native.Nat.{ℕ, ◌+◌, ◌-◌, ◌≤◌, ◌<◌}
-use mathlib.Core.Bool.{Bool, true, false}
-use mathlib.Core.List.{List, [], ◌∷◌, ◌++◌, append_assoc}
-use mathlib.Core.Path.{◌≡◌, refl, sym, ap, ◌∙◌, subst}
+use mathlib.Core.Bool.{Bool}
+use mathlib.Core.List.{List, ◌++◌, append_assoc}
+use mathlib.Core.Path.{◌≡◌, sym, ap, ◌∙◌, subst}
 use native.Mathlib.Omega.{arith}
 use native.Mathlib.Nat.{zero-add}
-use lib.ListN.{length, take, drop, get_or, length-take, length-drop, take-append-drop}
+use lib.ListN.{length, take, drop, length-drop, take-append-drop}
 use lib.Seq.{take_all, length-take-le, take-add, take_at, drop_at, drop-drop, get_or-drop}
 use Rattle.word.specs.Put.{put}
-use Rattle.word.specs.Result.{Result, ok, refused}
+use Rattle.word.specs.Result.{refused}
 use Rattle.word.proofs.PutLaws.{take_put, length-put}
-use Rattle.text.specs.Text.{newline}
 use Rattle.heap.specs.State.{State}
-use Rattle.heap.specs.Calls.{Changed, refuse, done}
+use Rattle.heap.specs.Calls.{Changed, done}
 use Rattle.heap.specs.Lent.{Lent, lent, view}
-use Rattle.std.specs.Prelude.{Option, Some, None}
+use Rattle.std.specs.Prelude.{Option, Some}
 use Rattle.std.specs.Prelude.{Result as Outcome, Ok, Err}
 use Rattle.pages.specs.Page.{value_line}
-use Rattle.script.specs.Script.{unless, and_then, run_script}
+use Rattle.script.specs.Script.{and_then, run_script}
 use Rattle.script.proofs.Scripts.{run-parts}
 use Rattle.page_runs.specs.declared.At.{At}
-use Rattle.page_runs.specs.declared.At.TheVariants.{Names, Lines, Over}
+use Rattle.page_runs.specs.declared.At.TheVariants.{Lines}
 use Rattle.page_runs.specs.declared.Run.{Run}
-use Rattle.page_runs.specs.Printed.{shown_by, shown}
-use Rattle.page_runs.specs.Inner.Steps.{text_left, Lies, Good, Goes, Ran, Says, Cut, over_with}
+use Rattle.page_runs.specs.Printed.{shown}
+use Rattle.page_runs.specs.Inner.Steps.{text_left, Goes, Ran, Says, Cut, over_with}
 use Rattle.page_runs.specs.Inner.Long.{Open, Bad, Alike, Shortens}
 
 -- ---- held

@@ -3,20 +3,18 @@ use Prim.Native.Nat.{ℕ, zero, suc, ◌+◌, ◌-◌, ◌*◌, ◌/◌, ◌%◌
 use mathlib.Core.Bool.{Bool, true, false, ◌&&◌, ◌||◌}
 use mathlib.Core.List.{List, [], ◌∷◌, ◌++◌, append_assoc}
 use mathlib.Core.Option.{Option, none, some}
-use mathlib.Core.Path.{◌≡◌, refl, sym, ap, ◌∙◌, subst}
+use mathlib.Core.Path.{◌≡◌, refl, sym, ap, ◌∙◌}
 use native.Mathlib.Omega.{arith}
-use lib.Dec.{eqb, leb}
-use lib.ListN.{length, take, drop, get_or, length-append, length-take, length-drop, take-append-drop, get_or-append}
-use lib.Seq.{take_at, drop_at, take-add, take-append-le, take-append_seam, get_or-drop}
+use lib.Dec.{leb}
+use lib.ListN.{length, take, drop, get_or, length-append, length-drop, take-append-drop, get_or-append}
+use lib.Seq.{take-append-le, take-append_seam, get_or-drop}
 use borrow.Author.Tests.{ne_eqb}
 use Rattle.std.specs.Prelude.{if◌then◌else◌}
 use Rattle.word.specs.Lists.{all}
-use Rattle.word.specs.Put.{put}
-use Rattle.word.proofs.Bools.{and_both, or_cases}
-use Rattle.word.proofs.PutLaws.{take_put}
-use Rattle.text.specs.Text.{give, ◌>>=◌, ascii, newline, comma, decimal, digits, line, digit_of, hex_digit, hex_digit_of, byte_of, hex, Bytes, read_hex, read_literal}
+use Rattle.word.proofs.Bools.{and_both}
+use Rattle.text.specs.Text.{give, ◌>>=◌, ascii, newline, comma, decimal, digits, line, digit_of, hex_digit, hex_digit_of, byte_of, hex, Bytes, read_hex}
 use Rattle.text.specs.Format.{All, number, bytes_line, pair}
-use Rattle.text.proofs.Laws.{none-not-some, decimal-length, byte-forth, hex-digit-above, hex-digit-back, literal-forth, literal-back, number-right}
+use Rattle.text.proofs.Laws.{none-not-some, decimal-length, byte-forth, hex-digit-above, hex-digit-back, literal-forth, number-right}
 use Rattle.heap.specs.State.{State}
 use Rattle.heap.specs.Calls.{Changed, refuse}
 use Rattle.heap_calls.proofs.Allocating.{alloc-none}
@@ -24,7 +22,7 @@ use Rattle.object_door.specs.ObjectCalls.{is_kind, allocating}
 use Rattle.script.specs.Script.{Call, alloc, take as takes, seal, recycle, Within, call_line, alloc_format, read_alloc, read_call, doing, and_then, run_script}
 use Rattle.script.proofs.Reading.{call_back}
 use Rattle.script.proofs.Scripts.{run_call, run-bad}
-use Rattle.page_runs.specs.Inner.Long.{Open, head_of, read_head, DataFrom, HeadFound, is_hex, Bad, Alike}
+use Rattle.page_runs.specs.Inner.Long.{Open, head_of, read_head, DataFrom, is_hex, Bad, Alike}
 
 no-comma : digit_of comma ≡ none
 unfolding digit_of

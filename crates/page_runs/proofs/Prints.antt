@@ -1,14 +1,13 @@
 -- A RUN PRINTS what is defined for its whole input. Assumes nothing.
 use Prim.Native.Nat.{ℕ}
 use mathlib.Core.Bool.{Bool}
-use mathlib.Core.List.{List, [], ◌++◌, append_assoc, append-nil}
+use mathlib.Core.List.{List, ◌++◌, append_assoc, append-nil}
 use mathlib.Core.Path.{◌≡◌, sym, ap, ◌∙◌}
 use lib.ListN.{take}
 use Rattle.heap.specs.Lent.{Lent, view}
 use Rattle.page_runs.specs.declared.At.{At}
 use Rattle.page_runs.specs.declared.At.TheVariants.{Over}
 use Rattle.page_runs.specs.declared.Run.{Run}
-use Rattle.page_runs.specs.Printed.{printed}
 use Rattle.page_runs.specs.Runs.{Runs, ended, over, goes, RunPrints}
 use Rattle.page_runs.specs.Inner.Steps.{text_left}
 

@@ -1,5 +1,5 @@
 -- A run of the program `page`, step by step, and that it prints what is defined for its whole input.
-use Rattle.std.specs.Prelude.{ℕ, ◌+◌, Bool, List, [], ◌++◌, ◌≡◌, length, take}
+use Rattle.std.specs.Prelude.{ℕ, Bool, List, [], ◌++◌, ◌≡◌, take}
 use Rattle.heap.specs.Lent.{Lent, view}
 use Rattle.page_runs.specs.declared.At.TheVariants.{Over}
 use Rattle.page_runs.specs.declared.Run.{Run}
