@@ -1,5 +1,5 @@
 -- `collect::collect` meets its contract.
-use mathlib.Core.Path.{◌∙◌, sym, subst, ◌≡◌}
+use mathlib.Core.Path.{sym, subst, ◌≡◌}
 use lib.ListN.{length}
 use Rattle.heap.specs.Lent.{Lent, view}
 use Rattle.heap.specs.Loans.{lies}

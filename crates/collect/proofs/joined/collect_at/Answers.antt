@@ -1,5 +1,5 @@
 -- `collect::joined::collect_at` meets its contract.
-use mathlib.Core.Path.{refl, sym, ◌∙◌}
+use mathlib.Core.Path.{refl, sym}
 use Rattle.ty.specs.View.{lent as table_lent}
 use Rattle.frame.specs.Frame.{frame_handles, addresses_in}
 use Rattle.roots.specs.Plans.{lent}
