@@ -9,7 +9,7 @@ use Rattle.ty.specs.Types.{Ty, Ty.missing, Ty.int, Ty.physical, Ty.enum, Ty.real
 use Rattle.ty.specs.Words.{word_of, on_word, round_up, Word}
 use Rattle.layout.specs.Layout.{Lay, on_ok, under, used_by, placed, record_of, layout_by, layout_at, layout_of}
 use Rattle.layout.specs.Offsets.{if_laid, offsets_from, offsets_of, fields_of}
-use Rattle.refusal.specs.declared.Refusal.TheVariants.{Malformed, TooLarge}
+use Rattle.refusal.specs.declared.Refusal.TheVariants.{TooLarge}
 use Rattle.layout.specs.declared.Layout.{Layout}
 
 module _ (r : Layout) where

@@ -1,11 +1,11 @@
 -- The cases of a layout, one law for each way out of the code. Assumes nothing.
 use mathlib.Core.Path.{◌≡◌, refl, sym, ap, ◌∙◌}
-use mathlib.Core.List.{List, [], ◌∷◌}
+use mathlib.Core.List.{List}
 use mathlib.Core.Bool.{Bool, true, false}
 use Prim.Native.Nat.{ℕ, suc, ◌+◌, ◌-◌, ◌*◌, ◌/◌, ◌^◌, ◌≤◌, ◌<◌, max}
 use native.Mathlib.Omega.{arith}
 use lib.ListN.{length, take, drop, get_or, length-drop}
-use lib.Dec.{eqb, leb}
+use lib.Dec.{eqb}
 use borrow.Author.Tests.{eq-eqb, ne_eqb}
 use Rattle.std.specs.Prelude.{Option, Some, None, Ok, Err, unwrap_or, if◌then◌else◌}
 use Rattle.refusal.specs.declared.Refusal.{Refusal}
@@ -13,14 +13,14 @@ use Rattle.refusal.specs.declared.Refusal.TheVariants.{Malformed, TooLarge}
 use Rattle.ty.specs.Types.{Ty, Ty.missing, Ty.int, Ty.physical, Ty.enum, Ty.real, Ty.array, Ty.fields, Ty.access, Ty.file, Ty.protected, type_at, Const, Const.plain, Const.other, Table, const_at, none}
 use Rattle.ty.specs.Words.{Word}
 use Rattle.ty.specs.Scalars.{scalar_size, elem_size, logic_leaf}
-use Rattle.ty.specs.View.{read_ty, read_entry, entry_at, fields_from, part_at, read_part, types_of, consts_of, table_of, lent, bare}
+use Rattle.ty.specs.View.{read_ty, read_entry, entry_at, fields_from, part_at, read_part, types_of, consts_of, lent, bare}
 use Rattle.ty.specs.declared.Entry.{Entry}
 use Rattle.ty.specs.declared.Entry.TheVariants.{Int, Physical, Enum, Real, Array, Record, Access, File, Protected}
 use Rattle.ty.specs.declared.Table.{Table as Lent}
 use Rattle.ty.proofs.Lookup.{type-at, const-at}
 use Rattle.ty.proofs.Ranges.{elem-bare}
 use Rattle.ty.proofs.WalkLaws.{fields-first, fields-last, fields-next}
-use Rattle.layout.specs.Layout.{Lay, Dims, dims_of, on_ok, on_bytes, under, used_by, array_laid, array_of, end_of, placed, record_of, scalar_laid, scalar_layout, layout_by, layout_at}
+use Rattle.layout.specs.Layout.{Lay, Dims, dims_of, on_bytes, under, used_by, array_laid, array_of, end_of, placed, record_of, scalar_laid, scalar_layout, layout_by, layout_at}
 use Rattle.layout.specs.Lent.{scalar_part}
 use Rattle.layout.specs.declared.Layout.{Layout}
 use lib.Seq.{take_all}

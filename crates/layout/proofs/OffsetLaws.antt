@@ -1,5 +1,5 @@
 -- Laws of a record's offsets: a turn over the fields, and what the call for a layout answers. Assumes nothing.
-use mathlib.Core.Path.{◌≡◌, refl, sym, ap, ◌∙◌}
+use mathlib.Core.Path.{◌≡◌, refl, ap, ◌∙◌}
 use mathlib.Core.List.{List, [], ◌∷◌}
 use Prim.Native.Nat.{ℕ, zero, suc, ◌+◌, ◌-◌, ◌*◌, ◌/◌, ◌≤◌, ◌<◌}
 use native.Mathlib.Nat.{zero-add}
@@ -8,7 +8,6 @@ use lib.ListN.{length, take, drop, get_or, set}
 use borrow.Author.Tests.{lt-leb, le-leb}
 use Rattle.std.specs.Prelude.{Option, Some, None, Ok, Err}
 use Rattle.word.specs.Put.{put}
-use Rattle.word.specs.Result.{refused}
 use Rattle.word.proofs.PutLaws.{put-none, Filling, fill_start, fill-next, fill_stop, fill-length}
 use Rattle.refusal.specs.declared.Refusal.{Refusal}
 use Rattle.refusal.specs.declared.Refusal.TheVariants.{ShortList}

@@ -1,11 +1,9 @@
 -- Laws of the crate's definitions, over plain numbers. Assumes nothing.
-use mathlib.Core.Path.{◌≡◌, refl, sym, ap, ◌∙◌}
-use mathlib.Core.Bool.{Bool, true, false}
-use Prim.Native.Nat.{ℕ, ◌+◌, ◌-◌, ◌*◌, ◌^◌, ◌≤◌, ◌<◌, max}
+use mathlib.Core.Path.{◌≡◌, sym, ap, ◌∙◌}
+use Prim.Native.Nat.{ℕ, ◌+◌, ◌-◌, ◌^◌, ◌≤◌, ◌<◌, max}
 use native.Mathlib.Omega.{arith}
-use lib.Dec.{ltb}
 use borrow.Author.Tests.{lt-ltb, le-ltb, le-leb, lt-leb}
-use Rattle.std.specs.Prelude.{Option, Some, None, SomeIff, if◌then◌else◌}
+use Rattle.std.specs.Prelude.{Option, Some, None, SomeIff}
 use Rattle.word.specs.Num.{align_up, aligned_at}
 use Rattle.ty.specs.Words.{Word, word_at, word_of}
 use Rattle.ty.specs.View.{entry_of}

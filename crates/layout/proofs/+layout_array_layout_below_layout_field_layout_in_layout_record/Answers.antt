@@ -1,9 +1,9 @@
-use mathlib.Core.Path.{refl, sym, ◌∙◌}
+use mathlib.Core.Path.{sym, ◌∙◌}
 use native.Mathlib.Omega.{arith}
 use Rattle.layout.proofs.LayLaws.{array-stop, array-none, array-some, dims-fit}
 use Rattle.layout.proofs.LayLaws.{below-zero, below_rest, below-nowhere, below-const, below-scalar}
 use Rattle.layout.proofs.LayLaws.{in_missing, in_array, in-record, in-scalar}
-use Rattle.layout.proofs.LayLaws.{record-last, record-none, record-over, record-more, record-first, rest-used}
+use Rattle.layout.proofs.LayLaws.{record-last, record-none, record-over, record-more, rest-used}
 use Rattle.layout.proofs.Stops.{stops, hands_on}
 use Rattle.ty.proofs.Ranges.{record-within, part-start, part_end}
 use Rattle.layout.proofs.+layout_array_layout_below_layout_field_layout_in_layout_record.Goals as goal

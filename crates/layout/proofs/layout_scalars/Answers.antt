@@ -1,7 +1,6 @@
 use mathlib.Core.Path.{refl, sym, ◌∙◌}
-use Prim.Native.Nat.{◌≤◌}
 use native.Mathlib.Omega.{arith}
-use Rattle.layout.proofs.ScalarLaws.{scalar-small, placing-start, placing-same, placing-place, placing-next, placing-end}
+use Rattle.layout.proofs.ScalarLaws.{scalar-small, placing-start, placing-next, placing-end}
 use Rattle.layout.proofs.layout_scalars.Goals as goal
 
 pub loop-i-init : goal.loop-i-init

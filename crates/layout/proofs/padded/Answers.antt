@@ -1,5 +1,4 @@
 -- `layout::padded` meets its contract: so small a sum never passes 64 bits.
-use mathlib.Core.Path.{refl, sym, ◌∙◌}
 use Rattle.layout.proofs.ScalarLaws.{padded-is, padded_some}
 use Rattle.layout.proofs.padded.Goals as goal
 

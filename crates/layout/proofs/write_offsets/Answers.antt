@@ -1,6 +1,6 @@
 use native.Mathlib.Omega.{arith}
 use Rattle.layout.proofs.LayLaws.{rest-used}
-use Rattle.layout.proofs.OffsetLaws.{writing_start, writing-same, writing-place, writing-stop, writing-next, off-last, off-none, off-align, off-size, off-more}
+use Rattle.layout.proofs.OffsetLaws.{writing_start, writing-stop, writing-next, off-last, off-none, off-align, off-size, off-more}
 use Rattle.layout.proofs.write_offsets.Goals as goal
 
 pub loop-i-init : goal.loop-i-init
