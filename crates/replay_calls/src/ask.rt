@@ -1,5 +1,6 @@
 // The questions to a heap.
-use crate::Kept;
+use crate::{Kept, Scratch};
+use heap::Heap;
 use protocol::fields::Fields;
 use protocol::write::{Hex, List, front, put_answer, put_page, put_told};
 use protocol::{Fault, NoCommand};
@@ -58,6 +59,26 @@ fn read_planar(line: &mut Fields) -> Result<bool, Fault> {
     }
 }
 
+impl Kept {
+    // What a call answers that is lent the heap and scratch.
+    fn ask<F: FnOnce(Heap, &[u32], &[u64], &[u8], &mut [u8], &mut [u64]) -> Answer>(
+        &self,
+        call: F,
+    ) -> Answer
+        requires { F.IsAlwaysCallable call }
+    {
+        let mut s = Scratch::new();
+        call(
+            self.heap,
+            &self.narrow,
+            &self.wide,
+            &self.pool,
+            &mut s.marks,
+            &mut s.work,
+        )
+    }
+}
+
 // The slots and the live ones as one answer.
 fn put_counts(rt: &impl Print, kept: &Kept) -> io::Result<()> {
     let slots = kept.ask(heaps::slots);
@@ -73,7 +94,6 @@ fn put_counts(rt: &impl Print, kept: &Kept) -> io::Result<()> {
 
 // The page, on one line.
 fn show_page(rt: &impl Print, kept: &Kept, planar: bool) -> io::Result<()> {
-    // Kept: an array: room of one call; a `Vec` would only add a way to fail.
     let mut text = [0u8; 262144];
     let a = kept.ask(|heap, narrow, wide, pool, marks, work| {
         page::write_page(heap, narrow, wide, pool, planar, &mut text, marks, work)

@@ -6,7 +6,6 @@ ghost use Rattle.heap.specs.Lent.{header_of};
 ghost use Rattle.heap.specs.Calls.{new as new_heap};
 
 use heap::Heap;
-use refusal::Answer;
 use std::alloc::{AllocError, Global};
 
 pub mod ask;
@@ -67,25 +66,5 @@ impl Scratch {
             marks: [7; 8192],
             work: [7; 8192],
         }
-    }
-}
-
-impl Kept {
-    /// What a call answers that is lent the heap and scratch.
-    pub(crate) fn ask<F: FnOnce(Heap, &[u32], &[u64], &[u8], &mut [u8], &mut [u64]) -> Answer>(
-        &self,
-        call: F,
-    ) -> Answer
-        requires { F.IsAlwaysCallable call }
-    {
-        let mut s = Scratch::new();
-        call(
-            self.heap,
-            &self.narrow,
-            &self.wide,
-            &self.pool,
-            &mut s.marks,
-            &mut s.work,
-        )
     }
 }
