@@ -16,7 +16,7 @@ use Rattle.ty.proofs.Sizes.{exact}
 use Rattle.layout.specs.Offsets.{Values, told, layout_call, written_by}
 use Rattle.yexwalu.specs.Table.{on_table}
 use Rattle.yexwalu.specs.Types.{laid, layout_called, sized, size_called, handles_called}
-use Rattle.yexwalu.specs.declared.types.LayoutAnswer.{LayoutAnswer}
+use Rattle.held_types.specs.declared.Laying.{Laying as LayoutAnswer}
 use Rattle.yexwalu.proofs.TableCalls.{table-bad, table-good}
 
 sized-some : (x : Option ℕ) (n : ℕ) → x ≡ Some n → sized x ≡ ok n

@@ -5,12 +5,12 @@ use Rattle.ty.specs.Walks.{desc_bytes, has_handles}
 use Rattle.ty.specs.View.{types_of, table_of}
 use Rattle.layout.specs.Offsets.{Values, layout_call}
 use Rattle.yexwalu.specs.Table.{on_table}
-use Rattle.yexwalu.specs.declared.types.LayoutAnswer.{LayoutAnswer}
+use Rattle.held_types.specs.Laid as layings
+use Rattle.held_types.specs.declared.Laying.{Laying}
 
 -- a layout in numbers, zeros after a refusal
-abbrev pub laid : Result Values → LayoutAnswer
-laid (ok v) = record { number = 0; size = v.size; align = v.align; stride = v.stride; count = v.count; used = v.used; offsets = v.offsets }
-laid (refused n) = record { number = n; size = 0; align = 0; stride = 0; count = 0; used = 0; offsets = 0 }
+abbrev pub laid : Result Values → Laying
+laid r = layings.laid r
 
 -- w, fs, cs, b: the table's types, fields, constants and their bytes; d: the descriptor
 abbrev pub layout_called : (w fs cs b : List ℕ) (t : ℕ) (d : List ℕ) (places : ℕ) → Result Values

@@ -30,31 +30,20 @@ pub fn yexwalu_object_handles(
         (length out.old)))
         out.old out.new result }
 {
-    if !(Table {
+    let table = Table {
         types,
         fields,
         consts,
         bytes,
-    })
-    .check_table()
-    {
+    };
+    if !table.check_table() {
         return Answer::from(Err(Refusal::TypeTable));
     }
-    let reply = trace::list_object(
-        &Table {
-            types,
-            fields,
-            consts,
-            bytes,
-        },
-        t,
-        data,
-        out,
-    );
-    Answer::from(reply)
+    Answer::from(trace::list_object(&table, t, data, out))
 }
 
 // The handles of a value of type t that needs no descriptor. first: how many.
+// Kept: the C interface has a call for objects and one for values.
 pub fn yexwalu_value_handles(
     types: &[u64],
     fields: &[u32],
@@ -69,28 +58,16 @@ pub fn yexwalu_value_handles(
         (length out.old)))
         out.old out.new result }
 {
-    if !(Table {
+    let table = Table {
         types,
         fields,
         consts,
         bytes,
-    })
-    .check_table()
-    {
+    };
+    if !table.check_table() {
         return Answer::from(Err(Refusal::TypeTable));
     }
-    let reply = trace::list_value(
-        &Table {
-            types,
-            fields,
-            consts,
-            bytes,
-        },
-        t,
-        data,
-        out,
-    );
-    Answer::from(reply)
+    Answer::from(trace::list_value(&table, t, data, out))
 }
 
 // The handles and the addresses of a frame's memory by its map, three words an entry (offset, kind, type), each into a lent list of its own. first: how many
@@ -111,27 +88,14 @@ pub fn yexwalu_slot_roots(
         (length handles.old) (length addresses.old)))
         handles.old addresses.old handles.new addresses.new result }
 {
-    if !(Table {
+    let table = Table {
         types,
         fields,
         consts,
         bytes,
-    })
-    .check_table()
-    {
+    };
+    if !table.check_table() {
         return Answer::from(Err(Refusal::TypeTable));
     }
-    let reply = frame::list_roots(
-        &Table {
-            types,
-            fields,
-            consts,
-            bytes,
-        },
-        map,
-        memory,
-        handles,
-        addresses,
-    );
-    Answer::from(reply)
+    Answer::from(frame::list_roots(&table, map, memory, handles, addresses))
 }

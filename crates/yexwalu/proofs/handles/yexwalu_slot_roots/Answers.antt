@@ -6,4 +6,4 @@ pub returns-then-not-check_table : goal.returns-then-not-check_table
 returns-then-not-check_table c = roots-refused _ _ _ _ c.check_table.ensures c.if-not-check_table.true c.from.ensures _ _ _
 
 pub returns : goal.returns
-returns c = roots-passed _ _ _ _ c.check_table.ensures c.if-not-check_table.false c.from-2.ensures c.list_roots-reply.ensures
+returns c = roots-passed _ _ _ _ c.check_table.ensures c.if-not-check_table.false c.from-2.ensures c.list_roots.ensures

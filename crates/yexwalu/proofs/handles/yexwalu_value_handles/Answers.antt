@@ -6,4 +6,4 @@ pub returns-then-not-check_table : goal.returns-then-not-check_table
 returns-then-not-check_table c = list-refused _ _ _ _ c.check_table.ensures c.if-not-check_table.true c.from.ensures _ _
 
 pub returns : goal.returns
-returns c = list-passed _ _ _ _ c.check_table.ensures c.if-not-check_table.false c.from-2.ensures c.list_value-reply.ensures
+returns c = list-passed _ _ _ _ c.check_table.ensures c.if-not-check_table.false c.from-2.ensures c.list_value.ensures
