@@ -149,4 +149,3 @@ pub way-named : {l : Lent} (b : List ℕ) (n : ℕ) {at : At} {r : Run} {l' : Le
     → is_there (read_literal names_line (take n b)) ≡ true → Goes Lines l (take (n - 23) (drop 23 b)) r l' b' → Goes at l (take n b) r l' b'
 way-named {l} b n {at} {r} {l'} {b'} long inside size e f g =
     goes_at e (goes-named {t = take n b} (sym f) (subst (λ (t : List ℕ). Goes Lines l t r l' b') (after_line b n long (omega arith)) g))
-
