@@ -109,6 +109,7 @@ pub fn check_slots(s: &[u8], at: usize, count: usize, wide: bool) -> Option<Slot
 }
 
 // Sets the bit of a slot, if it is among the `m` from `base` on. False: it is set already.
+// Kept: base, m and row are one run of slots; the row is lent to be changed, and of a struct that holds the loan each contract would also have to say that it is the same.
 fn mark_one(row: &mut [u64], base: usize, m: usize, v: usize) -> bool
     requires { m ≤ 64 * length row.old }
     ensures { Marked row.old row.new base m (v ∷ []) result }
@@ -461,6 +462,7 @@ fn slot_names(s: &[u8], at: usize) -> Option<SlotNames>
 }
 
 // The lines of slots after their names line: where they begin, then as `SlotLines`, then what the names line says.
+// Kept: the flag and the places all always stand, as in SlotLines.
 #[derive(Clone, Copy)]
 pub struct SlotSection {
     pub begin: usize,

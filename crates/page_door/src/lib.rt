@@ -29,6 +29,7 @@ pub fn yexwalu_page_length(
 }
 
 // Writes a heap's page to `out`, with byte planes or data: 18, 1, 7. The answer is its length.
+// Kept: an `and_then` would take what is lent to be changed into a closure, and its clause on what lies there afterwards would be the closure's.
 pub fn yexwalu_write_page(
     heap: Heap,
     narrow: &[u32],

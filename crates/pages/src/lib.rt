@@ -89,6 +89,7 @@ impl Listed for u64 {
 }
 
 // How long the first `count` values of a list are, one a line.
+// Kept: a heap lends S places of which `count` are in use, and the page's text is told of the first `count` of them.
 fn values_len<T: Listed>(list: &[T], count: usize) -> usize
     requires { (count ≤ length list.now) × (count ≤ 16777216) }
     ensures value { result ≡ length (flat_map (λ x. value_line (T.number x)) (take count list.now)) }
@@ -102,7 +103,7 @@ fn values_len<T: Listed>(list: &[T], count: usize) -> usize
 }
 
 // Puts a number and the byte after it from `at` on.
-// Kept: the printers of other crates thread a place through a lent text; it is one call of the writer.
+// Kept: the printers of other crates put into a buffer from a place on and answer where it ends, as text's `put_decimal` does; it is one call of the writer.
 pub fn put_number(out: &mut [u8], at: usize, n: u64, end: u8) -> usize
     requires { at + length (decimal n ++ (end ∷ [])) ≤ length out.old }
     ensures { Puts out.old out.new at result (decimal n ++ (end ∷ [])) }
