@@ -79,6 +79,7 @@ pub fn byte_of(o: Ordering) -> u8
 }
 
 // The order that a byte of lent scratch stands for.
+// Kept: as for byte_of.
 pub fn order_of(byte: u8) -> Ordering
     ensures { result ≡ order_of byte }
 {
@@ -90,7 +91,7 @@ pub fn order_of(byte: u8) -> Ordering
 }
 
 // The first that is not equal decides: what is found so far, as a byte, then the bytes from..to.
-// Kept: one function for this and then_handles would take what is compared as a closure, and be longer than both.
+// Kept: std's `then_with` would make 2 of a byte above 2, which is to stay; one function for this and then_handles would take what is compared as a closure and need a contract of its own.
 fn then_bytes(found: u8, data: &[u8], other: &[u8], from: usize, to: usize) -> u8
     requires { (to ≤ length «data».now) × (to ≤ length other.now) }
     ensures { result ≡ then_code found (order (take (to - from) (drop from «data».now)) (take (to - from) (drop from other.now))) }

@@ -139,6 +139,7 @@ impl Tracer<'_, '_, '_> {
     }
 
     // An access value: eight bytes.
+    // Kept: `at` is another byte at each step, so that it lies in the object is a clause of each.
     fn trace_word(&self, at: usize, marks: &mut [u8], to: &mut [u64], n: usize) -> Option<usize>
         requires { at ≤ length self.now.object.now }
         ensures { told result marks.new to.new ≡
@@ -242,7 +243,7 @@ impl Tracer<'_, '_, '_> {
 
     // The handles in count elements of one type under one descriptor, the first at byte `at`. Each turn passes a stride's bytes of the data, so that a walk ends within
     // its length whatever the count.
-    // Kept: a type, its descriptor and the levels left are other ones at each step down, so that a struct of them would be put together anew for each call.
+    // Kept: as trace_parts takes them.
     #[cycle(trace_array_trace_each_trace_elems_trace_field_trace_in_trace_parts_trace_record_trace_records)]
     fn trace_each(
         &self,
@@ -275,7 +276,7 @@ impl Tracer<'_, '_, '_> {
     }
 
     // The same, and records without asking again for each what they are.
-    // Kept: a type, its descriptor and the levels left are other ones at each step down, so that a struct of them would be put together anew for each call.
+    // Kept: as trace_parts takes them.
     #[cycle(trace_array_trace_each_trace_elems_trace_field_trace_in_trace_parts_trace_record_trace_records)]
     fn trace_elems(
         &self,
@@ -302,7 +303,7 @@ impl Tracer<'_, '_, '_> {
     }
 
     // Elements, or a field as one of them: under the rest of the descriptor, or under their own constant, which is looked up once for all of them.
-    // Kept: a type, its descriptor and the levels left are other ones at each step down, so that a struct of them would be put together anew for each call.
+    // Kept: what elements have in common goes on to trace_elems and trace_each as it is; a struct of it would be made anew for each field that is looked into, and the contracts would tell of its parts one by one as they do now.
     #[cycle(trace_array_trace_each_trace_elems_trace_field_trace_in_trace_parts_trace_record_trace_records)]
     fn trace_parts(
         &self,

@@ -26,6 +26,7 @@ pub struct Table<'a> {
 pub const NO_CONST: u64 = 4294967295;
 
 // A row of the table. Int's bounds are 64-bit words in two's complement; a Record has its first field and how many.
+// Kept: a record has its first field and how many, as its row has them; the contracts tell of places in the table, which a slice of its fields would not know.
 #[derive(Clone, Copy)]
 pub enum Entry {
     Int { lo: u64, hi: u64 },
@@ -487,6 +488,7 @@ impl<'a> Table<'a> {
     }
 
     // The counts of all types, one level more, by way of the fields' sums.
+    // Kept: check_table tests the sizes, and the steps of its last test take them as clauses; a table that knew them would be made for these alone.
     fn unfold_level(&self, counts: &[u32], sums: &mut [u32], next: &mut [u32])
         requires { (length sums.old ≡ length self.now.fields.now / 2) × (length self.now.fields.now / 2 ≤ 16384) × Capped counts.now }
         ensures { next.new ≡ next_counts (types_of self.now.types.now self.now.fields.now) counts.now (length next.old) }
