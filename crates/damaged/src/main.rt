@@ -28,6 +28,7 @@ fn sevens() -> Heap {
     }
 }
 
+// Kept: only this program compares headers; an equality derived for the library's `Heap` would stand there for a test alone.
 fn is_sevens(h: Heap) -> bool {
     let numbers = h.since_gc == 7 && h.reclaim_at == 7 && h.live_bytes == 7 && h.epoch == 7;
     let counts = h.slots == 7

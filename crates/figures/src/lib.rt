@@ -90,6 +90,7 @@ fn count(heap: Heap, narrow: &[u32; 24576], wide: &[u64; 16384], pool: &[u8; 163
 }
 
 // What a page shows that is not looked at, or that is no page: 17.
+// Kept: the number of a refusal as the call of the front door answers it, which is printed as it is.
 pub fn no_page() -> Result<Figures, u64>
     ensures { result ≡ shown_as (refused 17) }
 {
@@ -97,6 +98,7 @@ pub fn no_page() -> Result<Figures, u64>
 }
 
 // The memory that a page is read into, and the scratch of the call. What it holds from page to page means nothing.
+// Kept: a library has memory of fixed size, a rule of the project.
 #[derive(Drop)]
 pub struct Memory {
     pub narrow: [u32; 24576],
@@ -139,6 +141,7 @@ fn put_field(out: &mut [u8; 65536], at: usize, n: u64, end: u8) -> usize
 }
 
 // Puts the line of a page, or the last line, from `at` on.
+// Kept: it answers the place where the line ends, which the next line begins at; a writer would be made and taken apart for each line.
 pub fn put_line(out: &mut [u8; 65536], at: usize, page: u64, answer: u64, f: Figures) -> usize
     requires { at + 160 ≤ 65536 }
     ensures puts { Puts out.old out.new at result (figures_line page answer f) }

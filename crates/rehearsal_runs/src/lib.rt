@@ -47,7 +47,7 @@ fn run_lines(
 {
     let mut r = g;
     let mut at = 0;
-    // Kept: the reader says where the next line begins, so that no iterator gives the lines.
+    // Kept: the reader tells where the next line begins; `split_inclusive` would look for each line's end first, and the clauses tell of the text from a place on.
     while at < plan.text.len() {
         let Some((line, next)) = read_line(plan.text, at) else {
             unreachable!();
@@ -104,6 +104,7 @@ fn number(answer: Option<Refusal>) -> u64
 }
 
 // Puts the line of a rehearsal from `at` on, and answers where it ends.
+// Kept: it answers the place where the line ends, which the next line begins at; a writer would be made and taken apart for each line.
 fn put_figures(out: &mut [u8], at: usize, threshold: u64, g: Going) -> usize
     requires { CanPut out.old at threshold g }
     ensures { Puts out.old out.new at result (figures_line (figures_in threshold g)) }

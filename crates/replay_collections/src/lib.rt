@@ -93,6 +93,7 @@ fn collect(kept: &mut Kept, t: &Table, roots: &[u64], pins: &[u32]) -> Done {
 // The joined collection.
 fn collect_joined(kept: &mut Kept, t: &Table, code: &Function, at: &Safepoint) -> Done {
     let mut s = Scratch::new();
+    // Kept: an array, scratch of one call; a `Vec` would only add a way to fail.
     let mut rows = [7u64; 131072];
     heaps::collect_joined(
         &t.types,

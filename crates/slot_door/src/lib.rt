@@ -44,6 +44,7 @@ fn admit<'a>(
 }
 
 // The handles that slot i shows, which is in use: 13, 7.
+// Kept: three columns are read as mark's trace_at reads them; a method that answers them would be longer than the reading.
 fn list_at(table: &Table, objects: Objects, i: usize, out: &mut [u64]) -> Reply
     requires { i < objects.slots.slots }
     ensures { Lists (listing (shown_of (table_in table.now) objects.entry i) (length out.old)) result out.old out.new }
@@ -77,7 +78,7 @@ fn list_slot(table: &Table, view: View, i: usize, out: &mut [u64]) -> Reply
 
 // The handles that a live slot shows, in the order in which it is traced: an object of kind Typed by its type, of kind Handles by offset, of kind Bytes none. One with nothing
 // visible shows none. They go to the lent list from its front on. 18, 1, 10, 9, 13, 7. first: how many.
-// Kept: the C interface.
+// Kept: the C interface lends each part by itself.
 pub fn yexwalu_slot_handles(
     types: &[u64],
     fields: &[u32],
@@ -105,6 +106,7 @@ pub fn yexwalu_slot_handles(
         consts,
         bytes,
     };
+    // Kept: an `and_then` would take what is lent to be changed into a closure, and its clause on what lies there afterwards would be the closure's.
     match admit(&table, heap, narrow, wide, pool, marks, work) {
         Err(why) => Answer::from(Err(why)),
         Ok(view) => Answer::from(list_slot(&table, view, slot, out)),
@@ -152,7 +154,7 @@ fn first_misfit(table: &Table, view: View) -> Option<usize>
 }
 
 // Do a heap and a type table fit together: has every object of kind Typed a type of the table, and can its handles be traced? 18, 1, 10, 13. After 13, first: the first slot that does not fit.
-// Kept: the C interface.
+// Kept: the C interface lends each part by itself.
 pub fn yexwalu_traceable(
     types: &[u64],
     fields: &[u32],
@@ -175,6 +177,7 @@ pub fn yexwalu_traceable(
         consts,
         bytes,
     };
+    // Kept: after a refusal of its own the answer has a slot too, which no `Result` that an `and_then` answers could hold.
     match admit(&table, heap, narrow, wide, pool, marks, work) {
         Err(why) => Answer::from(Err(why)),
         Ok(view) => match first_misfit(&table, view) {

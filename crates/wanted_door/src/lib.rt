@@ -100,7 +100,7 @@ fn list_roots(
 
 // The fewest roots with which `collect`, with these pins, keeps just the wanted slots and drops the others; of several lists as short the one with the smaller slot at
 // the first place where they differ. Their handles go to the lent list, rising by slot, from its front on. 18, 1, 10, 14, 21, 7. first: how many.
-// Kept: the C interface.
+// Kept: the C interface lends each part by itself.
 pub fn yexwalu_roots_for(
     types: &[u64],
     fields: &[u32],
@@ -134,6 +134,7 @@ pub fn yexwalu_roots_for(
         consts,
         bytes,
     };
+    // Kept: an `and_then` would take what is lent to be changed into a closure, and its clause on what lies there afterwards would be the closure's.
     match admit(&table, heap, narrow, wide, pool, pins, wanted, marks, work) {
         Err(why) => Answer::from(Err(why)),
         Ok(view) => {

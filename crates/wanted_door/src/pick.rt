@@ -15,6 +15,7 @@ pub struct Search<'a> {
     pub wanted: &'a [u32],
 }
 
+// Kept: marks, work and n stay three, as in mark's `push_all`.
 impl Search<'_> {
     ghost use Rattle.std.specs.Prelude.{◌≡◌, true, map, ◌<◌, length};
     ghost use Rattle.mark.specs.Objects.{lives};
