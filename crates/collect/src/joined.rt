@@ -32,7 +32,7 @@ pub struct Safepoint<'a> {
 
 // What follows a marking that marks pinned slots too: the objects without a mark are dropped and the quarantined slots without one become free, unless an object can't
 // be traced. The scratch is zero afterwards.
-// Kept: beside `finish` it sweeps by other pins; a sweep handed over as a closure on the lent heap would have to say its contract again in the clauses of both.
+// Kept: beside `finish` it takes the marks for pins; one function would take an Option of pins, and each clause would tell the two cases apart.
 fn finish_marked(
     marked: Result<(), Refusal>,
     lent: &mut ViewMut,

@@ -108,6 +108,7 @@ impl Heap {
         self
     }
 
+    // Kept: eight setters, here and below; they differ in the field, for which there is no parameter, and a chain of them reads as the steps of a call.
     pub fn with_since(mut self, n: u64) -> Heap
         ensures { result ≡ set_since self n }
     {
@@ -196,6 +197,7 @@ pub fn sizes_fit(narrow: usize, wide: usize, pool: usize) -> bool
 }
 
 // Where the data of slot `i` starts in the pool, by the ends in the second run of `s`.
+// Kept: apart from `begins`: it is asked of the whole wide list, so that no run is cut for one number.
 pub fn start_of(wide: &[u64], s: usize, i: usize) -> usize
     requires { (i ≤ s) × (2 * s ≤ length wide.now) }
     ensures { result ≡ start_of (run s s wide.now) i }
@@ -243,6 +245,7 @@ pub struct Contents<'a> {
 }
 
 // Slot `i` gets these numbers and this data.
+// Kept: most steps that call it have changed a list before, so that the heap isn't well formed yet, and it takes its parts.
 pub fn place(
     heap: Heap,
     narrow: &mut [u32],

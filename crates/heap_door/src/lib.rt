@@ -236,6 +236,7 @@ pub fn yexwalu_edit(
 }
 
 // Bytes put over the visible data of slot `i`, from the offset `at` in it. The header stays as it is.
+// Kept: an `and_then` would take what is lent to be changed into a closure, and its clause on what lies there afterwards would be the closure's.
 pub fn yexwalu_write(
     heap: Heap,
     narrow: &[u32],

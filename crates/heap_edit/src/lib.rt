@@ -62,7 +62,7 @@ fn raised(w: u64) -> u64
 }
 
 // Slot `i` gets this start and these bytes, and one write more.
-// Kept: between these steps the heap isn't well formed, so they take its parts.
+// Kept: it is `heap::place` with the numbers that stand there, so it takes the parts that `place` takes.
 fn replace(
     heap: Heap,
     narrow: &mut [u32],

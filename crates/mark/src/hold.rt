@@ -23,6 +23,7 @@ fn hold(slots: usize, i: u64, marks: &mut [u8], work: &mut [u64], n: usize) -> u
 }
 
 // Each pin of a list.
+// Kept: apart from `pin_all`, since a dead slot is held too, so that the number of slots is all that it takes.
 pub fn hold_all(slots: usize, pins: &[u32], marks: &mut [u8], work: &mut [u64], n: usize) -> usize
     requires { Scratch slots marks.old work.old n }
     ensures { Holds slots marks.new work.new result (pin_all (in_use slots) (state_of marks.old work.old n) pins.now) }

@@ -24,6 +24,7 @@ use ty::Table;
 
 // The value of register q is taken, if there is that register and it is of the class that is wanted: a handle (class 4) is followed, an address (class 2) is looked up
 // and its slot pinned.
+// Kept: what is wanted is a class as the lent list has it, since a register's class is compared with it.
 fn push_at(
     here: Slots,
     pairs: Pairs,

@@ -114,6 +114,7 @@ pub fn recycle(heap: Heap, narrow: &mut [u32], wide: &[u64], pool: &[u8], pins: 
 
 // Places the object `bytes[start..]` of this kind and type; the answer is its handle.
 // Kept: the C interface lends the heap in parts, so an export takes them.
+// Kept: what the calls of this shape share is a test and two structs; one function for them would take the call as a closure on the lent heap and say its contract again.
 pub fn yexwalu_alloc_from(
     heap: Heap,
     narrow: &mut [u32],

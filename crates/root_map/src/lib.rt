@@ -53,6 +53,7 @@ fn block_of(walk: &Walk, b: usize, pc: usize) -> usize
 
 // The row after the blocks' becomes the registers that are live before instruction pc of block b. Where q is before the block's end, the row is that before
 // q, and the walk goes on from there.
+// Kept: the scratch goes beside the plan, as in roots' fixpoint.rt.
 fn block_row(s: &mut [u64], plan: &Plan, b: usize, q: usize, pc: usize)
     requires nb_value { Room plan.now.flow s.old × (b < plan.now.flow.blocks.count) × In plan.now.flow.blocks.bounds.now b pc × (pc < q) }
     requires fixed { Fixed (all_seen plan.now) plan.now.flow.blocks.bounds.now s.old plan.now.flow.words plan.now.flow.blocks.count }

@@ -10,6 +10,7 @@ use crate::row::wide;
 pub const NO_BLOCK: u16 = u16::MAX;
 
 // The first block of each chain, and the one after each block.
+// Kept: arrays of the largest sizes and chains of indices in them, since libraries have no heap.
 #[derive(Drop)]
 pub struct BlockChains {
     pub heads: [u16; 4096],
@@ -25,6 +26,7 @@ fn short(x: u16) -> usize
 
 impl BlockChains {
     // Block b becomes the first of its chain, unless it is empty.
+    // Kept: `word` is 0 or 1, the place of a block's start or end in its two words, and is added to an index.
     fn hang(&mut self, blocks: &Blocks, word: usize, b: usize)
         requires { (blocks.now.count ≤ 4096) × (word < 2) × (b < blocks.now.count) × Chains blocks.now.bounds.now word blocks.now.count (b + 1) self.old.heads self.old.links }
         ensures { Chains blocks.now.bounds.now word blocks.now.count b self.new.heads self.new.links }

@@ -1,5 +1,5 @@
 // One row of registers: the steps back over the instructions of a block.
-// Kept: a row is a part of the scratch that is lent on, so that it has room for all registers is a clause of each step.
+// Kept: a row is a part of the scratch that is lent on, so that it has room for all registers is a clause of each step, and so is the range of instructions, which is another one for each block.
 ghost use Rattle.std.specs.Prelude.{◌≡◌, Bool, true, false, not, ◌&&◌, ◌||◌, List, ℕ, ◌+◌, ◌-◌, ◌*◌, ◌≤◌, ◌<◌, length};
 ghost use Rattle.std.proofs.Math.Seq.{slice};
 ghost use Rattle.rows.specs.Row.{bit_in};
@@ -94,6 +94,7 @@ pub fn back_row(row: &mut [u64], registers: &Registers, from: usize, to: usize)
 }
 
 // The registers that the instructions from..to write are added to the row.
+// Kept: apart from `back_row`, since each has a law of its own.
 pub fn kill_row(row: &mut [u64], registers: &Registers, from: usize, to: usize)
     requires { (from ≤ to) × (3 * to ≤ length registers.now.ends.now) × (length registers.now.classes.now ≤ 64 * length row.old) }
     ensures { (ks bs : List ℕ) (q : ℕ) → bit_in 64 row.new q

@@ -24,7 +24,7 @@ use refusal::{Answer, Refusal, Reply};
 use script::{AllocLine, Line, begins_call, read_line};
 
 // The call of an `alloc` line: 8, then 6, then 5. Data longer than the pool is not decoded, so that the room is enough.
-// Kept: the room is lent beside the heap, and a struct of both would be taken apart in each of the three functions that need it.
+// Kept: the room is lent beside the heap; a struct of both would be taken apart for each line that needs the heap alone, as all but this one do.
 fn do_alloc(lent: &mut ViewMut, s: &[u8], a: AllocLine, room: &mut [u8]) -> Reply
     requires can_run { length lent.old.pool.now ≤ length room.old }
     requires data_there { DataThere s.now a }
@@ -94,7 +94,7 @@ fn run_lines(lent: &mut ViewMut, s: &[u8], room: &mut [u8]) -> Reply
         (run_script (length lent.old.narrow.now / 6) (length lent.old.pool.now) s.now (state lent.old)) }
 {
     let mut at = 0;
-    // Kept: no index is counted, a line tells where the next begins.
+    // Kept: the reader tells where the next line begins; `split_inclusive` would look for each line's end first, and the clauses tell of the text from a place on.
     while at < s.len() {
         let Some((line, next)) = read_line(s, at) else {
             return Err(Refusal::Page);

@@ -6,6 +6,7 @@ ghost use Rattle.script.specs.Script.{alloc_format, read_take, read_call, begins
 ghost use Rattle.script.specs.Found.{LineRead, AllocRead};
 
 // A line `alloc`: type, kind, and data that stands in hexadecimal from `from` on.
+// Kept: a line tells places in a text that goes beside it, since the calls that lines stand for are told of the text; with the text in it (`text::hex::Hex`) they would be told of each line's own.
 #[derive(Clone, Copy)]
 pub struct AllocLine {
     pub ty: u64,

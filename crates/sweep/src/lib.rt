@@ -43,6 +43,7 @@ fn settle(k: u32, from: usize, e: usize, to: usize, pool: &mut [u8]) -> usize
 }
 
 // The data of the first `n` slots packed again without those whose kind is 0, and zeros after it: one pass.
+// Kept: n slots of a column are in use; a heap lends the whole column, and the contract tells of it.
 fn compact(n: usize, kind: &[u32], end: &mut [u64], pool: &mut [u8])
     requires { CanCompact n kind.now end.old pool.old }
     ensures { Compacted n kind.now end.old pool.old end.new pool.new }
@@ -219,6 +220,7 @@ pub fn sweep(lent: &mut ViewMut, marks: &[u8], pins: Pins)
 }
 
 // The same with the marked slots as pins: a quarantined slot stays if it is marked.
+// Kept: apart from `sweep`; one function would take pins and marks of which one is always empty, and its clause would tell of both joined.
 pub fn sweep_marked(lent: &mut ViewMut, marks: &[u8])
     requires { slot_count (lies lent.old) ≤ length marks.now }
     ensures { Becomes lent.old lent.new (swept (state lent.old) marks.now (marked_slots marks.now)) }
