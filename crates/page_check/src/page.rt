@@ -45,15 +45,9 @@ impl Page<'_> {
             sections: x,
         } = self;
         match rule {
-            Rule::Once => {
-                return self.mark_dead(base, m, row);
-            }
-            Rule::Young => {
-                return crate::mark(s, x.free_at, x.free, base, m, row);
-            }
-            Rule::Worn => {
-                return crate::mark(s, x.retired_at, x.retired, base, m, row);
-            }
+            Rule::Once => self.mark_dead(base, m, row),
+            Rule::Young => crate::mark(s, x.free_at, x.free, base, m, row),
+            Rule::Worn => crate::mark(s, x.retired_at, x.retired, base, m, row),
         }
     }
 
