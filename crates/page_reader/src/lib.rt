@@ -105,22 +105,24 @@ pub struct Counts {
     pub retired: usize,
 }
 
-// A slot of the free list goes to its end, or where it is worn out to the end of the retired list.
-fn put_free(worn: bool, v: u32, all: usize, f: usize, r: usize, narrow: &mut [u32]) -> Counts
-    requires { (f < all) × (r < all) × (6 * all ≤ length narrow.old) }
-    ensures { PutIn worn v all f r narrow.old result.free result.retired narrow.new }
-{
-    if worn {
-        narrow[5 * all + r] = v;
-        return Counts {
-            free: f,
-            retired: r + 1,
-        };
-    }
-    narrow[3 * all + f] = v;
-    Counts {
-        free: f + 1,
-        retired: r,
+impl Counts {
+    // A slot of the free list goes to its end, or where it is worn out to the end of the retired list.
+    fn put(self, worn: bool, v: u32, all: usize, narrow: &mut [u32]) -> Counts
+        requires { (self.free < all) × (self.retired < all) × (6 * all ≤ length narrow.old) }
+        ensures { PutIn worn v all self.free self.retired narrow.old result.free result.retired narrow.new }
+    {
+        if worn {
+            narrow[5 * all + self.retired] = v;
+            return Counts {
+                retired: self.retired + 1,
+                ..self
+            };
+        }
+        narrow[3 * all + self.free] = v;
+        Counts {
+            free: self.free + 1,
+            ..self
+        }
     }
 }
 
@@ -132,26 +134,20 @@ fn part_free(s: &[u8], at: usize, count: usize, narrow: &mut [u32]) -> Counts
     ensures { FreeParted narrow.old narrow.new (values_at 32 s.now at count) result.free result.retired }
 {
     let all = narrow.len() / 6;
-    let mut f = 0;
-    let mut r = 0;
+    let mut counts = Counts {
+        free: 0,
+        retired: 0,
+    };
     let mut k = at;
     for i in 0..count {
         let Some((v, next)) = text::get_field(s, k, 4294967295, b'\n') else {
-            return Counts {
-                free: 0,
-                retired: 0,
-            };
+            return counts;
         };
         let worn = narrow[v as usize] == u32::MAX;
-        let c = put_free(worn, v as u32, all, f, r, narrow);
-        f = c.free;
-        r = c.retired;
+        counts = counts.put(worn, v as u32, all, narrow);
         k = next;
     }
-    Counts {
-        free: f,
-        retired: r,
-    }
+    counts
 }
 
 // Puts the other lists of a page into their runs. A page without the retired list has no retired slots of its own.

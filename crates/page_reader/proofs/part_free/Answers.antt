@@ -21,11 +21,11 @@ bounds-narrow-v c = parting-inside _ _ _ _ _ _ _ _ _ c.loop-i.invariant c.loop-i
 pub overflow_cast-v : goal.overflow_cast-v
 overflow_cast-v c = omega (arith, parting-fits _ _ _ _ _ _ _ _ _ c.loop-i.invariant c.loop-i-test.true c.get_field.ensures _ _ c.in-Some.is)
 
-pub put_free-c-requires : goal.put_free-c-requires
-put_free-c-requires c = (parting-free _ _ _ _ _ _ _ _ _ c.loop-i.invariant c.loop-i-test.true c.get_field.ensures _ _ c.in-Some.is, parting-retired _ _ _ _ _ _ _ _ _ c.loop-i.invariant c.loop-i-test.true c.get_field.ensures _ _ c.in-Some.is, omega (arith, c.loop-i.invariant.same))
+pub put-counts-requires : goal.put-counts-requires
+put-counts-requires c = (parting-free _ _ _ _ _ _ _ _ _ c.loop-i.invariant c.loop-i-test.true c.get_field.ensures _ _ c.in-Some.is, parting-retired _ _ _ _ _ _ _ _ _ c.loop-i.invariant c.loop-i-test.true c.get_field.ensures _ _ c.in-Some.is, omega (arith, c.loop-i.invariant.same))
 
 pub loop-i-preserved : goal.loop-i-preserved
-loop-i-preserved c = parting-next _ _ _ _ _ _ _ _ _ c.loop-i.invariant c.loop-i-test.true c.get_field.ensures _ _ c.in-Some.is refl c.put_free-c.ensures
+loop-i-preserved c = parting-next _ _ _ _ _ _ _ _ _ c.loop-i.invariant c.loop-i-test.true c.get_field.ensures _ _ c.in-Some.is refl c.put-counts.ensures
 
 pub shape_of-narrow : goal.shape_of-narrow
 shape_of-narrow c = c.loop-i.invariant.same
