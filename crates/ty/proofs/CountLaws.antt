@@ -2,7 +2,7 @@
 -- Assumes nothing.
 use mathlib.Core.Path.{◌≡◌, refl, sym, ap, subst, ◌∙◌}
 use mathlib.Core.List.{List, [], ◌∷◌}
-use mathlib.Core.Bool.{Bool, true, ◌&&◌}
+use mathlib.Core.Bool.{Bool, true, false, ◌&&◌}
 use mathlib.Core.Logic.{⊎_elim}
 use Prim.Native.Nat.{ℕ, zero, suc, ◌+◌, ◌-◌, ◌*◌, ◌/◌, ◌≤◌, ◌<◌, min}
 use native.Mathlib.Nat.{min-eq_left, min-eq_right, min-le_right, le_of_lt}
@@ -10,16 +10,17 @@ use native.Mathlib.Omega.{arith}
 use lib.Dec.{leb}
 use lib.ListN.{length, get_or, set, replicate, get_or-eq_default}
 use lib.Seq.{ext_get_or}
-use borrow.Author.Tests.{lt-leb, le-leb}
-use Rattle.std.specs.Prelude.{Some, None}
+use borrow.Author.Tests.{lt-leb, le-leb, leb-true}
+use Rattle.std.specs.Prelude.{◌↔◌, Some, None}
+use Rattle.std.proofs.lemmas.Bool.{false≢true}
 use Rattle.word.specs.Lists.{all_below, tabulate}
-use Rattle.word.proofs.ListLaws.{below-same, length-tabulate, get_d_tabulate, tabulate-past, tabulate-same}
+use Rattle.word.proofs.ListLaws.{at-below, below_at, below-same, length-tabulate, get_d_tabulate, tabulate-past, tabulate-same}
 use Rattle.word.proofs.InPlace.{Mapped, mapped-none, mapped-more}
 use Rattle.ty.specs.Types.{Ty, Ty.missing, Ty.int, Ty.physical, Ty.enum, Ty.real, Ty.array, Ty.fields, Ty.access, Ty.file, Ty.protected, Field, Field.field, type_at}
 use Rattle.ty.specs.Walks.{unfold_fields, unfold_by, unfold_at}
 use Rattle.ty.specs.View.{read_entry, read_ty, entry_at, fields_from, types_of}
 use Rattle.ty.specs.Check.{small_at}
-use Rattle.ty.specs.Counts.{count_in, Capped, field_sum, field_sums, next_count, next_counts, counts_at, small_in}
+use Rattle.ty.specs.Counts.{count_in, Capped, field_sum, field_sums, next_count, next_counts, counts_at, small_in, Small}
 use Rattle.ty.specs.declared.Entry.{Entry}
 use Rattle.ty.specs.declared.Entry.TheVariants.{Int, Physical, Enum, Real, Array, Record, Access, File, Protected}
 use Rattle.ty.proofs.Lookup.{le-or-lt, type-at}
@@ -321,6 +322,15 @@ all-counted ts n l e =
     ap (λ (x : List ℕ). leb (get_or x i 0) 65536) e
     ∙ ap (λ (x : ℕ). leb x 65536) (get_d_tabulate n (λ t. min (unfold_at ts 65 t) 65537) i 0 h)
     ∙ small-cap (unfold_at ts 65 i))
+
+-- an answer to whether all are small
+pub small-told : (l : List ℕ) (r : Bool) → ((r ≡ true) ↔ Small l) → r ≡ all_below (small_in l) (length l)
+small-told l true h = sym (at-below (small_in l) (length l) (λ i k. le-leb (get_or l i 0) 65536 (h.0 refl i k)))
+small-told l false h = go (all_below (small_in l) (length l)) refl
+  where
+    go : (x : Bool) → all_below (small_in l) (length l) ≡ x → false ≡ x
+    go true e = absurd (false≢true (h.1 (λ i k. leb-true (get_or l i 0) 65536 (below_at (small_in l) (length l) e i k))))
+    go false e = refl
 
 pub all-within : (ts : List Ty) (n : ℕ) → ((t : ℕ) → t < n → unfold_at ts 65 t ≤ 65536) → all_below (small_at ts) n ≡ true
 unfolding all_below small_at

@@ -1,6 +1,6 @@
 -- What the check of the unfolding keeps in its scratch: the counts of all types at a number of levels, at most 65,537 each, and the sums of the fields'
 -- counts. Named by inner contracts only; Check.antt says what is right.
-use Rattle.std.specs.Prelude.{ℕ, suc, ◌+◌, ◌/◌, ◌≤◌, min, ◌≡◌, List, Bool, leb, length, get_or, replicate}
+use Rattle.std.specs.Prelude.{ℕ, suc, ◌+◌, ◌/◌, ◌≤◌, ◌<◌, min, ◌≡◌, List, Bool, leb, length, get_or, replicate}
 use Rattle.word.specs.Lists.{tabulate}
 use Rattle.ty.specs.Types.{Ty, type_at}
 use Rattle.ty.specs.Walks.{unfold_fields, unfold_by, unfold_at}
@@ -33,6 +33,10 @@ counts_at ts n levels = tabulate n (λ t. min (unfold_at ts levels t) 65537)
 
 abbrev pub small_in : List ℕ → ℕ → Bool
 small_in counts i = leb (get_or counts i 0) 65536
+
+-- all are within the bound
+abbrev pub Small : List ℕ → Type 0
+Small counts = (i : ℕ) → i < length counts → get_or counts i 0 ≤ 65536
 
 -- scratch of the right lengths
 pub record Fitting (w fs counts other sums : List ℕ) : Type 0 where

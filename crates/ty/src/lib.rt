@@ -1,7 +1,7 @@
 // The type table of a saved run: its rows read as types, its check, and what a type says without a descriptor. A port of ty.rs.
 #![tactic(auto)]
 
-ghost use Rattle.std.specs.Prelude.{◌≡◌, ◌∷◌, true, length, get_or};
+ghost use Rattle.std.specs.Prelude.{◌≡◌, ◌↔◌, ◌∷◌, true, length, get_or};
 ghost use Prim.Native.Nat.{ℕ, suc, ◌+◌, ◌-◌, ◌*◌, ◌/◌, ◌≤◌, ◌<◌, ◌^◌, max, min};
 ghost use Rattle.ty.specs.Types.{type_at};
 ghost use Rattle.ty.specs.Words.{word_of, rank, round_up};
@@ -10,7 +10,7 @@ ghost use Rattle.ty.specs.Walks.{desc_array, desc_fields, desc_at, desc_size, an
 ghost use Rattle.word.specs.Lists.{all_below};
 ghost use Rattle.ty.specs.Check.{good_type, good_type_at, good_const, good_const_at, small_at, table_good};
 ghost use Rattle.ty.specs.Bounds.{bound_in, bound_fields, bound_by};
-ghost use Rattle.ty.specs.Counts.{count_in, Capped, Fitting, Scratch, field_sums, next_count, next_counts, counts_at, small_in};
+ghost use Rattle.ty.specs.Counts.{count_in, Capped, Fitting, Scratch, Small, field_sums, next_count, next_counts, counts_at};
 ghost use Rattle.ty.specs.View.{entry_at, entry_of, fields_of, part_at, fields_from, types_of, bare};
 
 // A type table as it is lent: four words a type, two a field, three a constant, and the constants' plain bytes.
@@ -374,14 +374,9 @@ fn sum_before(sums: &[u32], n: usize) -> u32
 
 // Whether every count is within the bound.
 fn all_small(counts: &[u32]) -> bool
-    ensures { result ≡ all_below (small_in counts.now) (length counts.now) }
+    ensures { (result ≡ true) ↔ Small counts.now }
 {
-    for i in 0..counts.len() {
-        if 65536 < counts[i] {
-            return false;
-        }
-    }
-    true
+    counts.iter().all(|count| *count <= 65536)
 }
 
 // The bound of type t among those of the first i of n types: 1 where it is missing, 65,537 where it comes later.

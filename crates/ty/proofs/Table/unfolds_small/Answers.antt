@@ -2,11 +2,11 @@
 use mathlib.Core.Path.{ap, ◌∙◌}
 use Prim.Native.Nat.{ℕ}
 use lib.ListN.{replicate}
-use Rattle.ty.proofs.CountLaws.{all-counted}
+use Rattle.ty.proofs.CountLaws.{all-counted, small-told}
 use Rattle.ty.proofs.Table.unfolds_small.Goals as goal
 
 pub unfold_levels-requires : goal.unfold_levels-requires
 unfold_levels-requires c = record { fits = record { types = c.requires.types; fields = c.requires.fields; first = c.fill.auto.self ∙ c.requires.first; second = c.requires.second; third = c.requires.third }; start = c.fill.ensures.after (λ y e. e) ∙ ap (λ (n : ℕ). replicate n 1) c.requires.first }
 
 pub returns : goal.returns
-returns c = c.all_small.ensures ∙ all-counted _ _ _ c.unfold_levels.ensures
+returns c = small-told _ _ c.all_small.ensures ∙ all-counted _ _ _ c.unfold_levels.ensures
