@@ -81,9 +81,7 @@ fn place_field(table: &Table, t: u64, c: u64, desc: &[u8], used: usize, off: u64
     if let Some(n) = layout::scalar_bytes(table, t, c) {
         return place_after(off, n, n, 0);
     }
-    let Ok(l) = layout::layout_below(table, t, c, &desc[used..], 64) else {
-        return None;
-    };
+    let l = layout::layout_below(table, t, c, &desc[used..], 64).ok()?;
     place_after(off, l.size, l.align, l.used)
 }
 
@@ -220,9 +218,7 @@ impl Tracer<'_, '_, '_> {
             handing_at (aimed self.now) self.now.object.now (raw_of marks.old to.old n)
             (array_places self.now.table (length self.now.object.now) t elem c dims desc.now left at) }
     {
-        let Ok(l) = layout::layout_array(&self.table, t, elem, c, dims, desc, 64) else {
-            return None;
-        };
+        let l = layout::layout_array(&self.table, t, elem, c, dims, desc, 64).ok()?;
         let skip = 24 * (dims as usize);
         let k = turns_of(l.stride, l.count);
         let holds = self.table.has_handles(elem);
@@ -415,9 +411,7 @@ impl Tracer<'_, '_, '_> {
             align = align.max(l.align);
             used += layout::used_by(c, l.used);
         }
-        if layout::record_end(off, align, used).is_err() {
-            return None;
-        }
+        layout::record_end(off, align, used).ok()?;
         Some(m)
     }
 
