@@ -17,13 +17,6 @@ pub struct BlockChains {
     pub links: [u16; 4096],
 }
 
-// A number of 16 bits as an index.
-fn short(x: u16) -> usize
-    ensures { result ≡ x }
-{
-    x as usize
-}
-
 impl BlockChains {
     // Block b becomes the first of its chain, unless it is empty.
     // Kept: `word` is 0 or 1, the place of a block's start or end in its two words, and is added to an index.
@@ -57,13 +50,13 @@ impl BlockChains {
         requires { (word < 2) × Chains blocks.now.bounds.now word blocks.now.count 0 self.now.heads self.now.links }
         ensures { First (Keyed blocks.now.bounds.now word pc) 0 blocks.now.count result }
     {
-        let mut c = short(self.heads[pc % 4096]);
+        let mut c = self.heads[pc % 4096] as usize;
         // Kept: a `while`, since it follows a chain of links and counts no index.
         while c < blocks.count {
             if wide(blocks.bounds[2 * c + word]) == pc {
                 return c;
             }
-            c = short(self.links[c]);
+            c = self.links[c] as usize;
         }
         blocks.count
     }

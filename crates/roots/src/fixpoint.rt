@@ -12,13 +12,6 @@ use crate::row::{back_row, kill_row, wide};
 use crate::{Flow, Plan, Registers};
 use rows::Step;
 
-// A number of 64 bits as an index.
-fn index(x: u64) -> usize
-    ensures { result ≡ x }
-{
-    x as usize
-}
-
 // The row at `at` becomes zero.
 fn clear_row(s: &mut [u64], at: usize, words: usize)
     requires { at + words ≤ length s.old }
@@ -124,7 +117,7 @@ fn leave(s: &mut [u64], flow: &Flow, b: usize)
             return;
         }
     }
-    let t = index(s[b * stride + 2 * words]);
+    let t = s[b * stride + 2 * words] as usize;
     if t < nb {
         join(s, at, t * stride, words);
     }
@@ -175,13 +168,7 @@ fn solve(s: &mut [u64], flow: &Flow)
     requires nb_value { Room flow.now s.old × Linked flow.now.blocks.bounds.now s.old flow.now.words flow.now.blocks.count }
     ensures { Solved flow.now.kinds.now flow.now.registers.ends.now flow.now.registers.refs.now flow.now.blocks.bounds.now s.old s.new flow.now.blocks.count flow.now.words }
 {
-    // Kept: a `loop`, since it ends where a pass changes nothing and counts no index.
-    loop {
-        let more = pass(s, flow);
-        if !more {
-            return;
-        }
-    }
+    while pass(s, flow) {}
 }
 
 // The rows of block b, in words that are zero: gen, kill, and the block that it falls through to.

@@ -1,12 +1,12 @@
 -- `roots::fixpoint::leave` meets its contract.
 use native.Mathlib.Omega.{arith}
-use mathlib.Core.Path.{sym, ◌∙◌, ap}
+use mathlib.Core.Path.{refl, sym, ◌∙◌, ap}
 use mathlib.Core.Logic.{inl, inr}
 use mathlib.Core.Bool.{Bool, ◌||◌}
 use Prim.Native.Nat.{◌+◌, ◌-◌, ◌*◌}
 use Rattle.roots.specs.Columns.{cell, live_at}
 use Rattle.roots.proofs.Turns.{next_fits}
-use Rattle.roots.proofs.Scratch.{outside_refl, block-fits, leave_none, leave-targets, leave-stop, leave-next, last-inside, joined-one, joined-none}
+use Rattle.roots.proofs.Scratch.{outside_refl, leave_none, leave-targets, leave-stop, leave-next, last-inside, joined-one, joined-none}
 use Rattle.roots.proofs.Passes.{linked-next}
 use Rattle.roots.proofs.Plans.{part-slice}
 use Rattle.roots.proofs.fixpoint.leave.Goals as goal
@@ -60,29 +60,8 @@ returns-then-k-le4 c = let f = next_fits c.args.flow.now.columns.lists (3 * (c.w
 pub returns-then-k-le6 : goal.returns-then-k-le6
 returns-then-k-le6 c = (outside_refl _ _ _, λ t cs q h. sym (ap (λ (x : Bool). x || cell c.args.s.now (c.args.flow.now.blocks.count * (3 * c.args.flow.now.words)) q) (leave-stop c.args.flow.now.columns t cs c.args.flow.now.blocks.count c.args.b c.wide-st.result c.wide-e.result c.args.flow.now.counted c.requires.nb_value.0 c.wide-st.ensures c.wide-e.ensures (live_at c.args.s.now c.args.flow.now.words c.args.flow.now.blocks.count q) c.if-e-st.false c.if-k-le4.false c.if-k-le6.true)))
 
-pub overflow_mul-b-3 : goal.overflow_mul-b-3
-overflow_mul-b-3 c = omega (arith, block-fits c.args.b c.args.flow.now.blocks.count (3 * c.args.flow.now.words) c.requires.nb_value.0)
-
-pub overflow_mul-words : goal.overflow_mul-words
-overflow_mul-words c = omega (arith, block-fits c.args.b c.args.flow.now.blocks.count (3 * c.args.flow.now.words) c.requires.nb_value.0)
-
-pub overflow_add-b-2 : goal.overflow_add-b-2
-overflow_add-b-2 c = omega (arith, block-fits c.args.b c.args.flow.now.blocks.count (3 * c.args.flow.now.words) c.requires.nb_value.0)
-
-pub offset_bounds-s-b : goal.offset_bounds-s-b
-offset_bounds-s-b c = omega (arith, block-fits c.args.b c.args.flow.now.blocks.count (3 * c.args.flow.now.words) c.requires.nb_value.0, c.requires.nb_value.1)
-
-pub bounds-s-b : goal.bounds-s-b
-bounds-s-b c = omega (arith, block-fits c.args.b c.args.flow.now.blocks.count (3 * c.args.flow.now.words) c.requires.nb_value.0, c.requires.nb_value.1, c.if-words-eq0.false)
-
-pub overflow_mul-t : goal.overflow_mul-t
-overflow_mul-t c = omega (arith, block-fits c.index-t.result c.args.flow.now.blocks.count (3 * c.args.flow.now.words) c.if-t-nb.true)
-
-pub join-requires : goal.join-requires
-join-requires c = (omega (arith, block-fits c.index-t.result c.args.flow.now.blocks.count (3 * c.args.flow.now.words) c.if-t-nb.true), omega (arith, c.requires.nb_value.1))
-
 pub returns-then-t-nb : goal.returns-then-t-nb
-returns-then-t-nb c = (c.join.ensures.0, λ t cs q h. c.join.ensures.1 q h ∙ sym (ap (λ (x : Bool). x || cell c.args.s.now (c.args.flow.now.blocks.count * (3 * c.args.flow.now.words)) q) (leave-next c.args.flow.now.columns t cs c.args.flow.now.blocks.count c.args.b c.wide-st.result c.wide-e.result c.args.flow.now.counted c.requires.nb_value.0 c.wide-st.ensures c.wide-e.ensures (live_at c.args.s.now c.args.flow.now.words c.args.flow.now.blocks.count q) c.if-e-st.false (elim c.if-k-ge2.branch [ then-k-ge2+else-k-le4+else-k-le6 w ↦ inr w.if-k-le6.false | else-k-ge2 w ↦ inl w.if-k-ge2.false ]) c.index-t.result (linked-next (c.requires.nb_value.2 (omega (arith, c.if-words-eq0.false))) c.args.b _ _ _ c.requires.nb_value.0 c.wide-st.ensures c.wide-e.ensures c.if-e-st.false c.index-t.ensures) ∙ joined-one c.args.s.now c.args.flow.now.words c.args.flow.now.blocks.count q c.index-t.result c.if-t-nb.true)))
+returns-then-t-nb c = (c.join.ensures.0, λ t cs q h. c.join.ensures.1 q h ∙ sym (ap (λ (x : Bool). x || cell c.args.s.now (c.args.flow.now.blocks.count * (3 * c.args.flow.now.words)) q) (leave-next c.args.flow.now.columns t cs c.args.flow.now.blocks.count c.args.b c.wide-st.result c.wide-e.result c.args.flow.now.counted c.requires.nb_value.0 c.wide-st.ensures c.wide-e.ensures (live_at c.args.s.now c.args.flow.now.words c.args.flow.now.blocks.count q) c.if-e-st.false (elim c.if-k-ge2.branch [ then-k-ge2+else-k-le4+else-k-le6 w ↦ inr w.if-k-le6.false | else-k-ge2 w ↦ inl w.if-k-ge2.false ]) _ (linked-next (c.requires.nb_value.2 (omega (arith, c.if-words-eq0.false))) c.args.b _ _ _ c.requires.nb_value.0 c.wide-st.ensures c.wide-e.ensures c.if-e-st.false refl) ∙ joined-one c.args.s.now c.args.flow.now.words c.args.flow.now.blocks.count q _ c.if-t-nb.true)))
 
 pub returns-else-t-nb : goal.returns-else-t-nb
-returns-else-t-nb c = (outside_refl _ _ _, λ t cs q h. sym (ap (λ (x : Bool). x || cell c.args.s.now (c.args.flow.now.blocks.count * (3 * c.args.flow.now.words)) q) (leave-next c.args.flow.now.columns t cs c.args.flow.now.blocks.count c.args.b c.wide-st.result c.wide-e.result c.args.flow.now.counted c.requires.nb_value.0 c.wide-st.ensures c.wide-e.ensures (live_at c.args.s.now c.args.flow.now.words c.args.flow.now.blocks.count q) c.if-e-st.false (elim c.if-k-ge2.branch [ then-k-ge2+else-k-le4+else-k-le6 w ↦ inr w.if-k-le6.false | else-k-ge2 w ↦ inl w.if-k-ge2.false ]) c.index-t.result (linked-next (c.requires.nb_value.2 (omega (arith, c.if-words-eq0.false))) c.args.b _ _ _ c.requires.nb_value.0 c.wide-st.ensures c.wide-e.ensures c.if-e-st.false c.index-t.ensures) ∙ joined-none (live_at c.args.s.now c.args.flow.now.words c.args.flow.now.blocks.count q) c.args.flow.now.blocks.count c.index-t.result c.if-t-nb.false)))
+returns-else-t-nb c = (outside_refl _ _ _, λ t cs q h. sym (ap (λ (x : Bool). x || cell c.args.s.now (c.args.flow.now.blocks.count * (3 * c.args.flow.now.words)) q) (leave-next c.args.flow.now.columns t cs c.args.flow.now.blocks.count c.args.b c.wide-st.result c.wide-e.result c.args.flow.now.counted c.requires.nb_value.0 c.wide-st.ensures c.wide-e.ensures (live_at c.args.s.now c.args.flow.now.words c.args.flow.now.blocks.count q) c.if-e-st.false (elim c.if-k-ge2.branch [ then-k-ge2+else-k-le4+else-k-le6 w ↦ inr w.if-k-le6.false | else-k-ge2 w ↦ inl w.if-k-ge2.false ]) _ (linked-next (c.requires.nb_value.2 (omega (arith, c.if-words-eq0.false))) c.args.b _ _ _ c.requires.nb_value.0 c.wide-st.ensures c.wide-e.ensures c.if-e-st.false refl) ∙ joined-none (live_at c.args.s.now c.args.flow.now.words c.args.flow.now.blocks.count q) c.args.flow.now.blocks.count _ c.if-t-nb.false)))

@@ -4,8 +4,8 @@ use Rattle.roots.specs.Columns.{set_bits}
 use Rattle.roots.proofs.Passes.{Solving}
 use Rattle.roots.proofs.fixpoint.solve.Given as goal
 
-abbrev pub invariant-loop-more : goal.invariant-loop-more
-invariant-loop-more l = Solving l.flow.kinds.now l.flow.registers.ends.now l.flow.registers.refs.now l.flow.blocks.bounds.now l.initial.s l.s l.flow.blocks.count l.flow.words
+abbrev pub invariant-loop : goal.invariant-loop
+invariant-loop l = Solving l.flow.kinds.now l.flow.registers.ends.now l.flow.registers.refs.now l.flow.blocks.bounds.now l.initial.s l.s l.flow.blocks.count l.flow.words
 
-abbrev pub decreases-loop-more : goal.decreases-loop-more
-decreases-loop-more l = l.flow.blocks.count * (3 * l.flow.words) * 64 - set_bits (l.flow.blocks.count * (3 * l.flow.words)) l.s
+abbrev pub decreases-loop : goal.decreases-loop
+decreases-loop l = l.flow.blocks.count * (3 * l.flow.words) * 64 - set_bits (l.flow.blocks.count * (3 * l.flow.words)) l.s

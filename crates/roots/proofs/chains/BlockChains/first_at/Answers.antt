@@ -1,18 +1,19 @@
 use native.Mathlib.Omega.{arith}
+use mathlib.Core.Path.{refl}
 use Rattle.roots.proofs.Chaining.{chase-begin, chase-further, chase-on, chase-found, chase-end}
 use Rattle.roots.proofs.chains.BlockChains.first_at.Goals as goal
 
 pub loop-c-init : goal.loop-c-init
-loop-c-init c = chase-begin c.requires.1 _ _ c.short-c.ensures
+loop-c-init c = chase-begin c.requires.1 _ _ refl
 
 pub returns-then-wide-pc : goal.returns-then-wide-pc
 returns-then-wide-pc c = chase-found c.loop-c.invariant c.loop-c-test.true _ c.wide.ensures c.if-wide-pc.true
 
 pub loop-c-smaller : goal.loop-c-smaller
-loop-c-smaller c = omega (arith, chase-further c.loop-c.invariant c.requires.1 c.loop-c-test.true _ c.short-c-in-loop-c.ensures, c.loop-c-test.true)
+loop-c-smaller c = omega (arith, chase-further c.loop-c.invariant c.requires.1 c.loop-c-test.true _ refl, c.loop-c-test.true)
 
 pub loop-c-preserved : goal.loop-c-preserved
-loop-c-preserved c = chase-on c.loop-c.invariant c.requires.1 c.loop-c-test.true _ _ c.wide.ensures c.if-wide-pc.false c.short-c-in-loop-c.ensures
+loop-c-preserved c = chase-on c.loop-c.invariant c.requires.1 c.loop-c-test.true _ _ c.wide.ensures c.if-wide-pc.false refl
 
 pub returns : goal.returns
 returns c = chase-end c.loop-c.invariant c.loop-c-test.false
