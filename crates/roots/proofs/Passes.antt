@@ -181,19 +181,6 @@ pub record Solving (ks ends refs bs s₀ s : List ℕ) (nb W : ℕ) : Type 0 whe
   pub linked : Linked bs s W nb
   pub rows : (t : ℕ → Bool) (cs : List ℕ) → Rows (seen t ks ends refs bs cs) s₀ W nb → Rows (seen t ks ends refs bs cs) s W nb
 
-module _ {ks ends refs bs s₀ s s' : List ℕ} {nb W : ℕ} {changed : Bool} (inv : Solving ks ends refs bs s₀ s nb W) (p : Pass ks ends refs bs s s' nb W 0 changed) where
-  pub solving-on : Solving ks ends refs bs s₀ s' nb W
-  solving-on = record { kept = p.kept ∙ inv.kept; linked = p.linked; rows = λ t cs r. p.rows t cs (inv.rows t cs r) }
-
-  pub solving-end : changed ≡ false → Solved ks ends refs bs s₀ s' nb W
-  solving-end e =
-      record {
-        kept = p.kept ∙ inv.kept;
-        linked = p.linked;
-        rows = λ t cs r. p.rows t cs (inv.rows t cs r);
-        closed = λ t cs q r h b k x. p.closed e t cs q b (inv.rows t cs r) h (omega arith) k x;
-      }
-
 -- the live-in rows at the end are the least fixpoint
 pub solved-fixed : {ks ends refs bs s₀ s : List ℕ} {nb W : ℕ} (t : ℕ → Bool) (cs : List ℕ) → Solved ks ends refs bs s₀ s nb W → Rows (seen t ks ends refs bs cs) s₀ W nb
     → Disjoint (seen t ks ends refs bs cs) → length (seen t ks ends refs bs cs).blocks ≡ nb → Fixed (seen t ks ends refs bs cs) bs s W nb
