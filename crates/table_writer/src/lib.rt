@@ -23,8 +23,8 @@ fn numbers_len<T: Listed>(list: &[T]) -> usize
     ensures upper_bound { result ≤ 21 * length list.now }
 {
     let mut n = 0;
-    for i in 0..list.len() {
-        n += text::decimal_len(list[i].number()) + 1;
+    for x in list {
+        n += text::decimal_len(x.number()) + 1;
     }
     n
 }
@@ -34,8 +34,8 @@ fn put_numbers<T: Listed>(out: &mut Out, list: &[T])
     requires { out.old.at + length (flat_map field (T.numbers list.now)) ≤ length out.old.page.now }
     ensures { Wrote out.old out.new (flat_map field (T.numbers list.now)) }
 {
-    for i in 0..list.len() {
-        out.value(list[i].number(), b',');
+    for x in list {
+        out.value(x.number(), b',');
     }
 }
 
