@@ -1,6 +1,4 @@
 -- `memory::move_within` meets its contract.
-use Rattle.std.proofs.Common.{arith, ◌+◌, ◌-◌, ◌≡◌, ◌∙◌, ap, ℕ, drop}
-use Rattle.word.specs.Put.{put}
 use Rattle.memory.proofs.Turns.{put-stays, moved}
 use Rattle.memory.proofs.move_within.Goals as goal
 
