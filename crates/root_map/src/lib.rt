@@ -15,7 +15,6 @@ use refusal::{Refusal, Reply};
 use roots::chains::{BlockChains, NO_BLOCK};
 use roots::check::{check_function, rows_fit};
 use roots::fixpoint::{analyse, back_at, gather};
-use roots::row::wide;
 use roots::{Code, Flow, Plan, Tracked};
 
 // How many safepoints, and registers live at them, there are.
@@ -43,7 +42,7 @@ fn block_of(walk: &Walk, b: usize, pc: usize) -> usize
 {
     let blocks = walk.plan.flow.blocks;
     if b < blocks.count {
-        let st = wide(blocks.bounds[2 * b]);
+        let st = blocks.bounds[2 * b] as usize;
         if st <= pc {
             return b;
         }
@@ -68,7 +67,7 @@ fn block_row(s: &mut [u64], plan: &Plan, b: usize, q: usize, pc: usize)
         ..
     } = plan.flow;
     let at = blocks.count * (3 * words);
-    let e = wide(blocks.bounds[2 * b + 1]);
+    let e = blocks.bounds[2 * b + 1] as usize;
     if q < e {
         back_at(s, &registers, at, words, pc, q);
         return;

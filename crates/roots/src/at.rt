@@ -10,7 +10,6 @@ ghost use Rattle.roots.specs.Plans.{lent, planned, all_seen, out_row, Room};
 
 use crate::check::{check_function, rows_fit};
 use crate::fixpoint::{analyse, back_at, gather};
-use crate::row::wide;
 use crate::{Blocks, Code, Flow, Plan, Tracked};
 use refusal::{Refusal, Reply};
 
@@ -20,8 +19,8 @@ pub fn find_block(blocks: &Blocks, pc: usize) -> Option<usize>
     ensures inside { IfSome result (λ b. b < blocks.now.count) }
 {
     for b in 0..blocks.count {
-        let st = wide(blocks.bounds[2 * b]);
-        let e = wide(blocks.bounds[2 * b + 1]);
+        let st = blocks.bounds[2 * b] as usize;
+        let e = blocks.bounds[2 * b + 1] as usize;
         if st <= pc && pc < e {
             return Some(b);
         }
@@ -58,7 +57,7 @@ pub fn live_row(s: &mut [u64], plan: &Plan, b: usize, pc: usize)
     } = plan.flow;
     analyse(s, plan);
     gather(s, &plan.flow, b);
-    let e = wide(blocks.bounds[2 * b + 1]);
+    let e = blocks.bounds[2 * b + 1] as usize;
     back_at(s, &registers, blocks.count * (3 * words), words, pc, e);
 }
 

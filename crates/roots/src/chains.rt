@@ -4,7 +4,6 @@ ghost use Rattle.std.specs.Prelude.{◌≡◌, ◌+◌, ◌*◌, ◌/◌, ◌≤
 ghost use Rattle.roots.specs.Columns.{First, Keyed, Chains};
 
 use crate::Blocks;
-use crate::row::wide;
 
 // The end of a chain. Its two bytes are equal, so that an array of it is filled as bytes are, in half the time.
 pub const NO_BLOCK: u16 = u16::MAX;
@@ -24,12 +23,12 @@ impl BlockChains {
         requires { (blocks.now.count ≤ 4096) × (word < 2) × (b < blocks.now.count) × Chains blocks.now.bounds.now word blocks.now.count (b + 1) self.old.heads self.old.links }
         ensures { Chains blocks.now.bounds.now word blocks.now.count b self.new.heads self.new.links }
     {
-        let st = wide(blocks.bounds[2 * b]);
-        let e = wide(blocks.bounds[2 * b + 1]);
+        let st = blocks.bounds[2 * b] as usize;
+        let e = blocks.bounds[2 * b + 1] as usize;
         if e <= st {
             return;
         }
-        let k = wide(blocks.bounds[2 * b + word]) % 4096;
+        let k = blocks.bounds[2 * b + word] as usize % 4096;
         self.links[b] = self.heads[k];
         self.heads[k] = b as u16;
     }
@@ -53,7 +52,7 @@ impl BlockChains {
         let mut c = self.heads[pc % 4096] as usize;
         // Kept: a `while`, since it follows a chain of links and counts no index.
         while c < blocks.count {
-            if wide(blocks.bounds[2 * c + word]) == pc {
+            if blocks.bounds[2 * c + word] as usize == pc {
                 return c;
             }
             c = self.links[c] as usize;

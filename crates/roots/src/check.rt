@@ -6,7 +6,7 @@ ghost use Rattle.roots.specs.Plans.{lent};
 ghost use Rattle.roots.specs.Columns.{Lists, Separate, AtMost, Inside, Marked};
 
 use crate::Code;
-use crate::row::{list_start, wide};
+use crate::row::list_start;
 
 // Whether every byte is at most limit.
 fn all_at_most(bytes: &[u8], limit: u8) -> bool
@@ -21,7 +21,7 @@ fn lists_fit(ends: &[u32], refs: &[u32]) -> bool
 {
     for k in 0..ends.len() {
         let a = list_start(ends, k);
-        let m = wide(ends[k]);
+        let m = ends[k] as usize;
         if m < a {
             return false;
         }
@@ -38,8 +38,8 @@ fn blocks_inside(blocks: &[u32], nb: usize, count: usize) -> bool
     ensures { (result ≡ true) ↔ Inside blocks.now count }
 {
     for b in 0..nb {
-        let st = wide(blocks[2 * b]);
-        let e = wide(blocks[2 * b + 1]);
+        let st = blocks[2 * b] as usize;
+        let e = blocks[2 * b + 1] as usize;
         if st < e {
             if count < e {
                 return false;
@@ -71,8 +71,8 @@ fn blocks_apart(blocks: &[u32], nb: usize) -> bool
     // Kept: an array, since libraries have no heap; it has a bit for each instruction that a function may have.
     let mut marks = [0u64; 1024];
     for b in 0..nb {
-        let st = wide(blocks[2 * b]);
-        let e = wide(blocks[2 * b + 1]);
+        let st = blocks[2 * b] as usize;
+        let e = blocks[2 * b + 1] as usize;
         if !mark_block(&mut marks, st, e) {
             return false;
         }

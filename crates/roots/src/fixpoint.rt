@@ -8,7 +8,7 @@ ghost use Rattle.roots.specs.Columns.{wanted, Outside, cell, live_at, Linked, Ch
 ghost use Rattle.roots.specs.Plans.{part_seen, all_seen, tested, out_row, Room};
 
 use crate::chains::{BlockChains, NO_BLOCK};
-use crate::row::{back_row, kill_row, wide};
+use crate::row::{back_row, kill_row};
 use crate::{Flow, Plan, Registers};
 use rows::Step;
 
@@ -72,7 +72,7 @@ fn join_targets(s: &mut [u64], flow: &Flow, targets: &[u32])
     let stride = 3 * words;
     let out = nb * stride;
     for target in targets {
-        let t = wide(*target);
+        let t = *target as usize;
         if t < nb {
             join(s, out, t * stride, words);
         }
@@ -99,8 +99,8 @@ fn leave(s: &mut [u64], flow: &Flow, b: usize)
     }
     let stride = 3 * words;
     let at = nb * stride;
-    let st = wide(blocks.bounds[2 * b]);
-    let e = wide(blocks.bounds[2 * b + 1]);
+    let st = blocks.bounds[2 * b] as usize;
+    let e = blocks.bounds[2 * b + 1] as usize;
     if e <= st {
         return;
     }
@@ -108,8 +108,8 @@ fn leave(s: &mut [u64], flow: &Flow, b: usize)
     if 2 <= k {
         if k <= 4 {
             let j = 3 * (e - 1) + 1;
-            let from = wide(registers.ends[j]);
-            let to = wide(registers.ends[j + 1]);
+            let from = registers.ends[j] as usize;
+            let to = registers.ends[j + 1] as usize;
             join_targets(s, flow, &registers.refs[from..to]);
             return;
         }
@@ -183,8 +183,8 @@ fn start_block(s: &mut [u64], plan: &Plan, b: usize, starts: &BlockChains)
         words,
         ..
     } = plan.flow;
-    let st = wide(blocks.bounds[2 * b]);
-    let e = wide(blocks.bounds[2 * b + 1]);
+    let st = blocks.bounds[2 * b] as usize;
+    let e = blocks.bounds[2 * b + 1] as usize;
     if e <= st {
         return;
     }

@@ -11,13 +11,6 @@ ghost use Rattle.roots.specs.Plans.{part_seen};
 
 use crate::{Registers, Tracked};
 
-// A number of 32 bits as an index.
-pub fn wide(x: u32) -> usize
-    ensures { result ≡ x }
-{
-    x as usize
-}
-
 // Whether a function with these classes has register r, of a class that is asked for.
 pub fn takes_part(classes: &[u8], which: Tracked, r: usize) -> bool
     ensures { result ≡ asked (wanted which) classes.now r }
@@ -38,7 +31,7 @@ fn set_all(row: &mut [u64], registers: &Registers, list: &[u32])
     ensures { (q : ℕ) → bit_in 64 row.new q ≡ (asked (wanted registers.now.which) registers.now.classes.now q && has list.now q) || bit_in 64 row.old q }
 {
     for register in list {
-        let r = wide(*register);
+        let r = *register as usize;
         if takes_part(registers.classes, registers.which, r) {
             rows::set_bit(row, r);
         }
@@ -52,7 +45,7 @@ fn clear_all(row: &mut [u64], registers: &Registers, list: &[u32])
     ensures { (q : ℕ) → bit_in 64 row.new q ≡ not (asked (wanted registers.now.which) registers.now.classes.now q && has list.now q) && bit_in 64 row.old q }
 {
     for register in list {
-        let r = wide(*register);
+        let r = *register as usize;
         if takes_part(registers.classes, registers.which, r) {
             rows::clear_bit(row, r);
         }
@@ -64,7 +57,7 @@ pub fn list_start(ends: &[u32], k: usize) -> usize
     requires { k < length ends.now }
     ensures { result ≡ start_of ends.now k }
 {
-    if k == 0 { 0 } else { wide(ends[k - 1]) }
+    if k == 0 { 0 } else { ends[k - 1] as usize }
 }
 
 // The row goes back over instruction p, from what is live after it to what is live before it.
@@ -76,8 +69,8 @@ pub fn step_back(row: &mut [u64], registers: &Registers, p: usize)
 {
     let k = 3 * p;
     let a = list_start(registers.ends, k);
-    let m = wide(registers.ends[k]);
-    let e = wide(registers.ends[k + 1]);
+    let m = registers.ends[k] as usize;
+    let e = registers.ends[k + 1] as usize;
     clear_all(row, registers, &registers.refs[a..m]);
     set_all(row, registers, &registers.refs[m..e]);
 }
@@ -103,7 +96,7 @@ pub fn kill_row(row: &mut [u64], registers: &Registers, from: usize, to: usize)
     for p in (from..to).rev() {
         let k = 3 * p;
         let a = list_start(registers.ends, k);
-        let m = wide(registers.ends[k]);
+        let m = registers.ends[k] as usize;
         set_all(row, registers, &registers.refs[a..m]);
     }
 }

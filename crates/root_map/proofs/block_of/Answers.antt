@@ -1,4 +1,5 @@
 -- `root_map::block_of` meets its contract.
+use mathlib.Core.Path.{refl}
 use native.Mathlib.Omega.{arith}
 use Rattle.roots.proofs.Checks.{formed-fit}
 use Rattle.root_map.proofs.Pointing.{found-on, found-last}
@@ -6,7 +7,7 @@ use Rattle.root_map.proofs.block_of.Goals as goal
 use Rattle.root_map.proofs.block_of.Goals.{then-b-blocks+else-st-pc, else-b-blocks}
 
 pub returns-then-st-pc : goal.returns-then-st-pc
-returns-then-st-pc c = found-on ((formed-fit _ _ _ _ _ c.args.walk.now.plan.passed).apart) c.args.walk.now.plan.flow.counted c.requires.1 c.if-b-blocks.true _ c.wide-st.ensures (omega (arith, c.if-st-pc.true))
+returns-then-st-pc c = found-on ((formed-fit _ _ _ _ _ c.args.walk.now.plan.passed).apart) c.args.walk.now.plan.flow.counted c.requires.1 c.if-b-blocks.true _ refl (omega (arith, c.if-st-pc.true))
 
 pub returns : goal.returns
-returns c = found-last ((formed-fit _ _ _ _ _ c.args.walk.now.plan.passed).apart) c.args.walk.now.plan.flow.counted c.requires.1 _ (elim c.if-b-blocks.branch [ then-b-blocks+else-st-pc w ↦ λ k. omega (arith, w.wide-st.ensures, w.if-st-pc.false) | else-b-blocks w ↦ λ k. absurd (omega (arith, w.if-b-blocks.false)) ]) c.first_at.ensures
+returns c = found-last ((formed-fit _ _ _ _ _ c.args.walk.now.plan.passed).apart) c.args.walk.now.plan.flow.counted c.requires.1 _ (elim c.if-b-blocks.branch [ then-b-blocks+else-st-pc w ↦ λ k. omega (arith, w.if-st-pc.false) | else-b-blocks w ↦ λ k. absurd (omega (arith, w.if-b-blocks.false)) ]) c.first_at.ensures

@@ -1,4 +1,5 @@
 -- `root_map::block_row` meets its contract.
+use mathlib.Core.Path.{refl}
 use native.Mathlib.Omega.{arith}
 use Rattle.roots.specs.Columns.{wanted}
 use Rattle.roots.proofs.Forms.{ends-inside}
@@ -7,26 +8,26 @@ use Rattle.roots.proofs.Scratch.{outside_trans}
 use Rattle.root_map.proofs.Pointing.{row_on, row_in}
 use Rattle.root_map.proofs.block_row.Goals as goal
 
-pub overflow_mul-b : goal.overflow_mul-b
-overflow_mul-b c = omega (arith, c.requires.nb_value.1, few-blocks c.args.plan.now)
+pub overflow_mul-e : goal.overflow_mul-e
+overflow_mul-e c = omega (arith, c.requires.nb_value.1, few-blocks c.args.plan.now)
 
-pub overflow_add-b : goal.overflow_add-b
-overflow_add-b c = omega (arith, c.requires.nb_value.1, few-blocks c.args.plan.now)
+pub overflow_add-e : goal.overflow_add-e
+overflow_add-e c = omega (arith, c.requires.nb_value.1, few-blocks c.args.plan.now)
 
 pub offset_bounds-blocks-b : goal.offset_bounds-blocks-b
 offset_bounds-blocks-b c = omega (arith, c.requires.nb_value.1, few-blocks c.args.plan.now)
 
 pub back_at-requires : goal.back_at-requires
-back_at-requires c = let inside = ends-inside _ _ _ _ _ c.args.plan.now.passed c.args.plan.now.flow.blocks.count c.args.plan.now.flow.counted c.args.b c.requires.nb_value.1 (omega (arith, c.requires.nb_value.2)) in record { words_in_bounds = omega (arith, c.requires.nb_value.0); from_le_to = (omega (arith, c.requires.nb_value.3), omega (arith, inside, c.wide-e.ensures, c.if-q-e.true), c.args.plan.now.covered) }
+back_at-requires c = let inside = ends-inside _ _ _ _ _ c.args.plan.now.passed c.args.plan.now.flow.blocks.count c.args.plan.now.flow.counted c.args.b c.requires.nb_value.1 (omega (arith, c.requires.nb_value.2)) in record { words_in_bounds = omega (arith, c.requires.nb_value.0); from_le_to = (omega (arith, c.requires.nb_value.3), omega (arith, inside, c.if-q-e.true), c.args.plan.now.covered) }
 
 pub returns-then-q-e : goal.returns-then-q-e
-returns-then-q-e c = (c.back_at.ensures.0, row_on (wanted c.args.plan.now.flow.registers.which) _ _ _ _ _ _ _ c.args.plan.now.passed c.args.plan.now.flow.counted _ _ _ _ _ c.requires.nb_value.1 c.wide-e.ensures _ c.requires.nb_value.3 c.if-q-e.true c.requires.standing (c.back_at.ensures.1 c.args.plan.now.flow.kinds.now c.args.plan.now.flow.blocks.bounds.now))
+returns-then-q-e c = (c.back_at.ensures.0, row_on (wanted c.args.plan.now.flow.registers.which) _ _ _ _ _ _ _ c.args.plan.now.passed c.args.plan.now.flow.counted _ _ _ _ _ c.requires.nb_value.1 refl _ c.requires.nb_value.3 c.if-q-e.true c.requires.standing (c.back_at.ensures.1 c.args.plan.now.flow.kinds.now c.args.plan.now.flow.blocks.bounds.now))
 
 pub gather-requires : goal.gather-requires
 gather-requires c = record { nb_value = (c.requires.nb_value.1, c.requires.nb_value.0, λ h. c.requires.fixed.linked h) }
 
 pub back_at-requires-2 : goal.back_at-requires-2
-back_at-requires-2 c = let inside = ends-inside _ _ _ _ _ c.args.plan.now.passed c.args.plan.now.flow.blocks.count c.args.plan.now.flow.counted c.args.b c.requires.nb_value.1 (omega (arith, c.requires.nb_value.2)) in record { words_in_bounds = omega (arith, c.requires.nb_value.0, c.gather.ensures.0.kept); from_le_to = (omega (arith, c.wide-e.ensures, c.requires.nb_value.2), omega (arith, inside, c.wide-e.ensures), c.args.plan.now.covered) }
+back_at-requires-2 c = let inside = ends-inside _ _ _ _ _ c.args.plan.now.passed c.args.plan.now.flow.blocks.count c.args.plan.now.flow.counted c.args.b c.requires.nb_value.1 (omega (arith, c.requires.nb_value.2)) in record { words_in_bounds = omega (arith, c.requires.nb_value.0, c.gather.ensures.0.kept); from_le_to = (omega (arith, c.requires.nb_value.2), omega (arith, inside), c.args.plan.now.covered) }
 
 pub returns : goal.returns
-returns c = (outside_trans c.gather.ensures.0 c.back_at-2.ensures.0, row_in (wanted c.args.plan.now.flow.registers.which) _ _ _ _ _ _ _ c.args.plan.now.passed c.args.plan.now.flow.counted _ _ _ _ _ c.requires.nb_value.1 c.wide-e.ensures _ c.requires.fixed (c.gather.ensures.1 (wanted c.args.plan.now.flow.registers.which) c.args.plan.now.flow.registers.classes.now) (c.back_at-2.ensures.1 c.args.plan.now.flow.kinds.now c.args.plan.now.flow.blocks.bounds.now))
+returns c = (outside_trans c.gather.ensures.0 c.back_at-2.ensures.0, row_in (wanted c.args.plan.now.flow.registers.which) _ _ _ _ _ _ _ c.args.plan.now.passed c.args.plan.now.flow.counted _ _ _ _ _ c.requires.nb_value.1 refl _ c.requires.fixed (c.gather.ensures.1 (wanted c.args.plan.now.flow.registers.which) c.args.plan.now.flow.registers.classes.now) (c.back_at-2.ensures.1 c.args.plan.now.flow.kinds.now c.args.plan.now.flow.blocks.bounds.now))

@@ -1,6 +1,6 @@
 -- `roots::at::live_row` meets its contract.
 use native.Mathlib.Omega.{arith}
-use mathlib.Core.Path.{sym, ◌∙◌, subst}
+use mathlib.Core.Path.{refl, sym, ◌∙◌, subst}
 use Prim.Native.Nat.{ℕ, ◌*◌, ◌≤◌}
 use lib.ListN.{length}
 use Rattle.roots.specs.Columns.{wanted, seen}
@@ -9,11 +9,11 @@ use Rattle.roots.proofs.Plans.{few-blocks, block-inside}
 use Rattle.roots.proofs.Answers.{live-row-cells}
 use Rattle.roots.proofs.at.live_row.Goals as goal
 
-pub overflow_mul-b : goal.overflow_mul-b
-overflow_mul-b c = omega (arith, c.requires.nb_value.0, few-blocks c.args.plan.now)
+pub overflow_mul-e : goal.overflow_mul-e
+overflow_mul-e c = omega (arith, c.requires.nb_value.0, few-blocks c.args.plan.now)
 
-pub overflow_add-b : goal.overflow_add-b
-overflow_add-b c = omega (arith, c.requires.nb_value.0, few-blocks c.args.plan.now)
+pub overflow_add-e : goal.overflow_add-e
+overflow_add-e c = omega (arith, c.requires.nb_value.0, few-blocks c.args.plan.now)
 
 pub offset_bounds-blocks-b : goal.offset_bounds-blocks-b
 offset_bounds-blocks-b c = omega (arith, c.requires.nb_value.0, few-blocks c.args.plan.now)
@@ -28,12 +28,12 @@ pub back_at-requires : goal.back_at-requires
 back_at-requires c = record {
   words_in_bounds = omega (arith, c.requires.nb_value.1, c.analyse.ensures.0, c.gather.ensures.0.kept);
   from_le_to = (
-    omega (arith, c.requires.b_bound.1, c.wide-e.ensures),
-    subst (λ (u : ℕ). 3 * u ≤ length c.args.plan.now.flow.registers.ends.now) (sym c.wide-e.ensures)
+    omega (arith, c.requires.b_bound.1),
+    subst (λ (u : ℕ). 3 * u ≤ length c.args.plan.now.flow.registers.ends.now) refl
         (block-inside c.args.plan.now c.args.b c.requires.nb_value.0 (omega (arith, c.requires.b_bound.0, c.requires.b_bound.1))),
     c.args.plan.now.covered,
   );
 }
 
 pub returns : goal.returns
-returns c = (c.back_at.ensures.0.kept ∙ c.gather.ensures.0.kept ∙ c.analyse.ensures.0, live-row-cells (seen (wanted c.args.plan.now.flow.registers.which) c.args.plan.now.flow.kinds.now c.args.plan.now.flow.registers.ends.now c.args.plan.now.flow.registers.refs.now c.args.plan.now.flow.blocks.bounds.now c.args.plan.now.flow.registers.classes.now) c.args.plan.now.flow.blocks.bounds.now c.analyse.new.s c.gather.new.s c.back_at.new.s c.args.plan.now.flow.words c.args.plan.now.flow.blocks.count c.args.b c.args.pc c.wide-e.result c.analyse.ensures.1 (c.wide-e.ensures ∙ sym (end-view (wanted c.args.plan.now.flow.registers.which) c.args.plan.now.flow.kinds.now c.args.plan.now.flow.registers.ends.now c.args.plan.now.flow.registers.refs.now c.args.plan.now.flow.blocks.bounds.now c.args.plan.now.flow.registers.classes.now c.args.b (omega (arith, c.args.plan.now.flow.counted, c.requires.nb_value.0)))) (c.gather.ensures.1 (wanted c.args.plan.now.flow.registers.which) c.args.plan.now.flow.registers.classes.now) (c.back_at.ensures.1 c.args.plan.now.flow.kinds.now c.args.plan.now.flow.blocks.bounds.now))
+returns c = (c.back_at.ensures.0.kept ∙ c.gather.ensures.0.kept ∙ c.analyse.ensures.0, live-row-cells (seen (wanted c.args.plan.now.flow.registers.which) c.args.plan.now.flow.kinds.now c.args.plan.now.flow.registers.ends.now c.args.plan.now.flow.registers.refs.now c.args.plan.now.flow.blocks.bounds.now c.args.plan.now.flow.registers.classes.now) c.args.plan.now.flow.blocks.bounds.now c.analyse.new.s c.gather.new.s c.back_at.new.s c.args.plan.now.flow.words c.args.plan.now.flow.blocks.count c.args.b c.args.pc _ c.analyse.ensures.1 (refl ∙ sym (end-view (wanted c.args.plan.now.flow.registers.which) c.args.plan.now.flow.kinds.now c.args.plan.now.flow.registers.ends.now c.args.plan.now.flow.registers.refs.now c.args.plan.now.flow.blocks.bounds.now c.args.plan.now.flow.registers.classes.now c.args.b (omega (arith, c.args.plan.now.flow.counted, c.requires.nb_value.0)))) (c.gather.ensures.1 (wanted c.args.plan.now.flow.registers.which) c.args.plan.now.flow.registers.classes.now) (c.back_at.ensures.1 c.args.plan.now.flow.kinds.now c.args.plan.now.flow.blocks.bounds.now))

@@ -17,13 +17,13 @@ pub slice_bounds-mark_block-end : goal.slice_bounds-mark_block-end
 slice_bounds-mark_block-end c = sym c.loop-b.invariant.len
 
 pub mark_block-requires : goal.mark_block-requires
-mark_block-requires c = λ h. omega (arith, c.loop-b.invariant.len, c.wide-e.ensures, c.requires.1 c.loop-b.b (omega (arith, c.requires.0, c.loop-b-test.true)) (omega (arith, c.wide-st.ensures, c.wide-e.ensures)))
+mark_block-requires c = λ h. omega (arith, c.loop-b.invariant.len, c.requires.1 c.loop-b.b (omega (arith, c.requires.0, c.loop-b-test.true)) (omega arith))
 
 pub returns-then-not-mark_block : goal.returns-then-not-mark_block
-returns-then-not-mark_block c = fails (held-met c.loop-b.invariant _ _ _ c.requires.0 c.loop-b-test.true c.wide-st.ensures c.wide-e.ensures (marked-is c.if-not-mark_block.true c.mark_block.ensures))
+returns-then-not-mark_block c = fails (held-met c.loop-b.invariant _ _ _ c.requires.0 c.loop-b-test.true refl refl (marked-is c.if-not-mark_block.true c.mark_block.ensures))
 
 pub loop-b-preserved : goal.loop-b-preserved
-loop-b-preserved c = held_on c.loop-b.invariant _ _ _ c.loop-b-test.true c.wide-st.ensures c.wide-e.ensures c.mark_block.auto.marks (marked-is c.if-not-mark_block.false c.mark_block.ensures)
+loop-b-preserved c = held_on c.loop-b.invariant _ _ _ c.loop-b-test.true refl refl c.mark_block.auto.marks (marked-is c.if-not-mark_block.false c.mark_block.ensures)
 
 pub returns : goal.returns
 returns c = holds (held-end c.loop-b.invariant c.requires.0 c.loop-b-test.false)

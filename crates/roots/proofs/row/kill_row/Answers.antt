@@ -1,5 +1,5 @@
 use native.Mathlib.Omega.{arith}
-use mathlib.Core.Path.{◌≡◌}
+use mathlib.Core.Path.{refl, ◌≡◌}
 use mathlib.Core.List.{List}
 use Prim.Native.Nat.{ℕ, ◌-◌, ◌*◌, ◌≤◌, ◌<◌}
 use lib.ListN.{length, get_or}
@@ -17,23 +17,23 @@ pub loop-p-init : goal.loop-p-init
 loop-p-init c = kills-none _ _ _ _ _ _ _ c.requires.0
 
 pub offset_bounds-registers-a : goal.offset_bounds-registers-a
-offset_bounds-registers-a c = let w = written _ _ c.args.registers.now.lists (c.loop-p.p - 1) _ _ (omega arith) c.list_start-a.ensures c.wide-m.ensures in omega (arith, w.0, w.1)
+offset_bounds-registers-a c = let w = written _ _ c.args.registers.now.lists (c.loop-p.p - 1) _ _ (omega arith) c.list_start-a.ensures refl in omega (arith, w.0, w.1)
 
 pub slice_bounds-set_all-count : goal.slice_bounds-set_all-count
-slice_bounds-set_all-count c = (written _ _ c.args.registers.now.lists (c.loop-p.p - 1) _ _ (omega arith) c.list_start-a.ensures c.wide-m.ensures).0
+slice_bounds-set_all-count c = (written _ _ c.args.registers.now.lists (c.loop-p.p - 1) _ _ (omega arith) c.list_start-a.ensures refl).0
 
 pub slice_bounds-set_all-start : goal.slice_bounds-set_all-start
-slice_bounds-set_all-start c = (written _ _ c.args.registers.now.lists (c.loop-p.p - 1) _ _ (omega arith) c.list_start-a.ensures c.wide-m.ensures).0
+slice_bounds-set_all-start c = (written _ _ c.args.registers.now.lists (c.loop-p.p - 1) _ _ (omega arith) c.list_start-a.ensures refl).0
 
 pub slice_bounds-set_all-end : goal.slice_bounds-set_all-end
-slice_bounds-set_all-end c = (written _ _ c.args.registers.now.lists (c.loop-p.p - 1) _ _ (omega arith) c.list_start-a.ensures c.wide-m.ensures).1
+slice_bounds-set_all-end c = (written _ _ c.args.registers.now.lists (c.loop-p.p - 1) _ _ (omega arith) c.list_start-a.ensures refl).1
 
 pub loop-p-preserved : goal.loop-p-preserved
 loop-p-preserved c =
     let refs = c.args.registers.now.refs.now in
-    let w = written _ refs c.args.registers.now.lists (c.loop-p.p - 1) _ _ (omega arith) c.list_start-a.ensures c.wide-m.ensures in
-    kills-on c.loop-p.invariant c.loop-p-test.true c.requires.1 _ _ _ c.list_start-a.ensures c.wide-m.ensures c.set_all.auto.row
-    (λ q. rw (part-slice c.list_start-a.result c.wide-m.result refs w.0) at (c.set_all.ensures q))
+    let w = written _ refs c.args.registers.now.lists (c.loop-p.p - 1) _ _ (omega arith) c.list_start-a.ensures refl in
+    kills-on c.loop-p.invariant c.loop-p-test.true c.requires.1 _ _ _ c.list_start-a.ensures refl c.set_all.auto.row
+    (λ q. rw (part-slice c.list_start-a.result _ refs w.0) at (c.set_all.ensures q))
 
 pub shape_of-row : goal.shape_of-row
 shape_of-row c = c.loop-p.invariant.kept

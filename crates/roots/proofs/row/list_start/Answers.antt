@@ -1,5 +1,5 @@
 -- `roots::row::list_start` meets its contract.
-use mathlib.Core.Path.{sym, ◌∙◌, ap}
+use mathlib.Core.Path.{refl, sym, ◌∙◌, ap}
 use Rattle.roots.specs.View.{start_of}
 use Rattle.roots.proofs.Turns.{start-pred}
 use Rattle.roots.proofs.row.list_start.Goals as goal
@@ -8,4 +8,4 @@ pub returns-then-k-eq0 : goal.returns-then-k-eq0
 returns-then-k-eq0 c = sym (ap (start_of c.args.ends.now) c.if-k-eq0.true)
 
 pub returns-else-k-eq0 : goal.returns-else-k-eq0
-returns-else-k-eq0 c = c.wide.ensures ∙ sym (start-pred _ _ c.if-k-eq0.false)
+returns-else-k-eq0 c = refl ∙ sym (start-pred _ _ c.if-k-eq0.false)

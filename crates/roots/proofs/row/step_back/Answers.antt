@@ -1,6 +1,6 @@
 -- `roots::row::step_back` meets its contract.
 use native.Mathlib.Omega.{arith}
-use mathlib.Core.Path.{◌≡◌}
+use mathlib.Core.Path.{refl, ◌≡◌}
 use mathlib.Core.List.{List}
 use Prim.Native.Nat.{ℕ, ◌+◌, ◌*◌, ◌≤◌, ◌<◌}
 use lib.ListN.{length, get_or}
@@ -18,31 +18,31 @@ read : (ends refs : List ℕ) → Lists ends refs → (p m e : ℕ) → 3 * p + 
 read ends refs l p m e h em ee = next_fits l (3 * p) m e (omega arith) em ee
 
 pub offset_bounds-registers-a : goal.offset_bounds-registers-a
-offset_bounds-registers-a c = let w = written _ _ c.args.registers.now.lists c.args.p _ _ c.requires.0 c.list_start-a.ensures c.wide-m.ensures in omega (arith, w.0, w.1)
+offset_bounds-registers-a c = let w = written _ _ c.args.registers.now.lists c.args.p _ _ c.requires.0 c.list_start-a.ensures refl in omega (arith, w.0, w.1)
 
 pub slice_bounds-clear_all-count : goal.slice_bounds-clear_all-count
-slice_bounds-clear_all-count c = (written _ _ c.args.registers.now.lists c.args.p _ _ c.requires.0 c.list_start-a.ensures c.wide-m.ensures).0
+slice_bounds-clear_all-count c = (written _ _ c.args.registers.now.lists c.args.p _ _ c.requires.0 c.list_start-a.ensures refl).0
 
 pub slice_bounds-clear_all-start : goal.slice_bounds-clear_all-start
-slice_bounds-clear_all-start c = (written _ _ c.args.registers.now.lists c.args.p _ _ c.requires.0 c.list_start-a.ensures c.wide-m.ensures).0
+slice_bounds-clear_all-start c = (written _ _ c.args.registers.now.lists c.args.p _ _ c.requires.0 c.list_start-a.ensures refl).0
 
 pub slice_bounds-clear_all-end : goal.slice_bounds-clear_all-end
-slice_bounds-clear_all-end c = (written _ _ c.args.registers.now.lists c.args.p _ _ c.requires.0 c.list_start-a.ensures c.wide-m.ensures).1
+slice_bounds-clear_all-end c = (written _ _ c.args.registers.now.lists c.args.p _ _ c.requires.0 c.list_start-a.ensures refl).1
 
 pub slice_bounds-set_all-count : goal.slice_bounds-set_all-count
-slice_bounds-set_all-count c = (read _ _ c.args.registers.now.lists c.args.p _ _ c.requires.0 c.wide-m.ensures c.wide-e.ensures).0
+slice_bounds-set_all-count c = (read _ _ c.args.registers.now.lists c.args.p _ _ c.requires.0 refl refl).0
 
 pub slice_bounds-set_all-start : goal.slice_bounds-set_all-start
-slice_bounds-set_all-start c = (read _ _ c.args.registers.now.lists c.args.p _ _ c.requires.0 c.wide-m.ensures c.wide-e.ensures).0
+slice_bounds-set_all-start c = (read _ _ c.args.registers.now.lists c.args.p _ _ c.requires.0 refl refl).0
 
 pub slice_bounds-set_all-end : goal.slice_bounds-set_all-end
-slice_bounds-set_all-end c = (read _ _ c.args.registers.now.lists c.args.p _ _ c.requires.0 c.wide-m.ensures c.wide-e.ensures).1
+slice_bounds-set_all-end c = (read _ _ c.args.registers.now.lists c.args.p _ _ c.requires.0 refl refl).1
 
 pub returns : goal.returns
 returns c =
     let refs = c.args.registers.now.refs.now in
-    let w = written _ refs c.args.registers.now.lists c.args.p _ _ c.requires.0 c.list_start-a.ensures c.wide-m.ensures in
-    let r = read _ refs c.args.registers.now.lists c.args.p _ _ c.requires.0 c.wide-m.ensures c.wide-e.ensures in
-    stepped-back _ _ _ _ _ _ _ _ _ _ _ c.requires.0 c.list_start-a.ensures c.wide-m.ensures c.wide-e.ensures
-    (λ q. rw (part-slice c.list_start-a.result c.wide-m.result refs w.0) at (c.clear_all.ensures q))
-    (λ q. rw (part-slice c.wide-m.result c.wide-e.result refs r.0) at (c.set_all.ensures q))
+    let w = written _ refs c.args.registers.now.lists c.args.p _ _ c.requires.0 c.list_start-a.ensures refl in
+    let r = read _ refs c.args.registers.now.lists c.args.p _ _ c.requires.0 refl refl in
+    stepped-back _ _ _ _ _ _ _ _ _ _ _ c.requires.0 c.list_start-a.ensures refl refl
+    (λ q. rw (part-slice c.list_start-a.result _ refs w.0) at (c.clear_all.ensures q))
+    (λ q. rw (part-slice _ _ refs r.0) at (c.set_all.ensures q))

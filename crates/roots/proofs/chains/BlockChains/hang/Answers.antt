@@ -5,7 +5,7 @@ use Rattle.roots.proofs.Chaining.{chains-empty, chains-hang}
 use Rattle.roots.proofs.chains.BlockChains.hang.Goals as goal
 
 pub returns-then-e-st : goal.returns-then-e-st
-returns-then-e-st c = chains-empty c.requires.3 c.requires.2 _ _ c.wide-st.ensures c.wide-e.ensures (omega (arith, c.if-e-st.true))
+returns-then-e-st c = chains-empty c.requires.3 c.requires.2 _ _ refl refl (omega (arith, c.if-e-st.true))
 
 pub returns : goal.returns
-returns c = chains-hang c.requires.3 c.requires.2 _ _ c.wide-st.ensures c.wide-e.ensures _ _ c.wide-k.ensures refl (omega (arith, c.if-e-st.false))
+returns c = chains-hang c.requires.3 c.requires.2 _ _ refl refl _ _ refl refl (omega (arith, c.if-e-st.false))
