@@ -15,7 +15,7 @@ use Rattle.word.proofs.Bools.{and_both}
 use Rattle.word.proofs.RunLaws.{run-get, length_run, run-set, run-below}
 use Rattle.heap_calls.specs.Pins.{rising_from}
 use Rattle.rehearsal.specs.Runs.{Held as Name, held_at, without, handles}
-use Rattle.rehearsal_names.specs.Names.{name, entries, kept, entries_in, named, or_zero, Names, Gone, Absent, LetGo}
+use Rattle.rehearsal_names.specs.Names.{name, entries, kept, entries_in, named, answer_of, Names, Gone, Absent, LetGo}
 use Rattle.rehearsal_names.specs.Moves.{index_in, FoundAt, turns_of}
 use Rattle.std.specs.Prelude as found
 
@@ -81,6 +81,10 @@ not-below n lo (t ∷ ts) (x ∷ xs) less h =
         × (without n (if b then kept (entries ts xs) else (name t x ∷ kept (entries ts xs))) ≡ (if b then kept (entries ts xs) else (name t x ∷ kept (entries ts xs))))
     go true e ih = ih
     go false e ih = rw e (ih.0, ap (λ (l : List Name). name t x ∷ l) ih.1)
+
+abbrev or_zero : Option ℕ → ℕ
+or_zero none = 0
+or_zero (some x) = x
 
 abbrev Finds : (n : ℕ) (ts xs : List ℕ) → Type 0
 Finds n ts xs = or_zero (held_at n (kept (entries ts xs))) ≡ get_or xs (index_in n ts) 0
@@ -198,6 +202,16 @@ module _ {S n : ℕ} {words : List ℕ} (g : Names S n words) where
 
   pub absent : (turn : ℕ) → 0 ≡ or_zero (held_at turn (named S n words)) → Absent S n turn words words
   absent turn e = record { never = zero_or (held_at turn (named S n words)) (kept_real turn (entries_in S n words)) e; same = refl }
+
+  pub never_held : (turn : ℕ) → 0 ≡ or_zero (held_at turn (named S n words)) → found.None ≡ answer_of (held_at turn (named S n words))
+  never_held turn e = sym (ap answer_of (zero_or (held_at turn (named S n words)) (kept_real turn (entries_in S n words)) e))
+
+  pub is_held : (turn x : ℕ) → x ≡ or_zero (held_at turn (named S n words)) → (x ≡ 0 → ⊥) → found.Some x ≡ answer_of (held_at turn (named S n words))
+  is_held turn x e ne = go (held_at turn (named S n words)) e
+    where
+      go : (o : Option ℕ) → x ≡ or_zero o → found.Some x ≡ answer_of o
+      go none e = absurd (ne e)
+      go (some y) e = ap found.Some e
 
   pub gone : (turn : ℕ) (o : found.Option ℕ) (f : FoundAt turn (take n words) o) {k : ℕ} → o ≡ found.Some k → (get_or words (S + k) 0 ≡ 0 → ⊥) → Gone S n turn words (set words (S + k) 0)
   gone turn o f {k} q ne =

@@ -4,6 +4,7 @@ use Rattle.std.proofs.Math.Option.{Option, none, some}
 use Rattle.word.specs.Run.{run}
 use Rattle.heap_calls.specs.Pins.{rising_from}
 use Rattle.rehearsal.specs.Runs.{Held as Name, held_at, without}
+use Rattle.std.specs.Prelude as code
 
 abbrev pub name : (turn handle : ℕ) → Name
 name t x = record { turn = t; handle = x }
@@ -26,9 +27,10 @@ entries_in S n words = entries (run n 0 words) (run n S words)
 abbrev pub named : (S n : ℕ) → (words : List ℕ) → List Name
 named S n words = kept (entries_in S n words)
 
-abbrev pub or_zero : Option ℕ → ℕ
-or_zero none = 0
-or_zero (some x) = x
+-- an option as the code answers it
+abbrev pub answer_of : Option ℕ → code.Option ℕ
+answer_of none = code.None
+answer_of (some x) = code.Some x
 
 -- n entries in two words for each of S, rising by turn from 1
 pub record Names (S n : ℕ) (words : List ℕ) : Type 0 where

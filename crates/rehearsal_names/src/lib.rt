@@ -5,7 +5,7 @@
 ghost use Rattle.std.specs.Prelude.{◌≡◌, ◌<◌, true, length, IfSome};
 ghost use Rattle.heap_calls.specs.Pins.{rising_from};
 ghost use Rattle.rehearsal.specs.Runs.{held_at};
-ghost use Rattle.rehearsal_names.specs.Names.{or_zero, named, Names, LetGo, CanHold, Held};
+ghost use Rattle.rehearsal_names.specs.Names.{answer_of, named, Names, LetGo, CanHold, Held};
 ghost use Rattle.rehearsal_names.specs.Moves.{FoundAt, CanMove, moved_to, moved_words, InRoom, Squeezed, Roomy};
 
 // Where `x` is among turns that rise.
@@ -17,15 +17,17 @@ fn find(turns: &[u64], x: u64) -> Option<usize>
     turns.binary_search(&x).ok()
 }
 
-// The handle held under this turn; 0 where none is.
-pub fn held_at(words: &[u64], s: usize, n: usize, turn: u64) -> u64
+// The handle held under this turn.
+pub fn held_at(words: &[u64], s: usize, n: usize, turn: u64) -> Option<u64>
     requires { Names s n words.now }
-    ensures { result ≡ or_zero (held_at turn (named s n words.now)) }
+    ensures { result ≡ answer_of (held_at turn (named s n words.now)) }
 {
-    match find(&words[..n], turn) {
-        Some(k) => words[s + k],
-        None => 0,
+    let k = find(&words[..n], turn)?;
+    let handle = words[s + k];
+    if handle == 0 {
+        return None;
     }
+    Some(handle)
 }
 
 // Lets go of what is held under this turn; false where nothing is.

@@ -18,7 +18,8 @@ use Rattle.refusal.specs.Told.{number_of, told, answered, here, nothing}
 use Rattle.refusal.specs.declared.Answer.{Answer}
 use Rattle.refusal.specs.declared.Refusal.TheVariants.{NothingThere}
 use Rattle.refusal.specs.Told.{Reply}
-use Rattle.std.specs.Prelude.{Ok, Err, is_err, is_ok, IsOk}
+use Rattle.std.specs.Prelude.{Ok, Err, is_err, is_ok, IsOk, is_some}
+use Rattle.std.specs.Prelude as code
 use Rattle.heap.specs.State.{Slot, State, no_slot, slot_at, live}
 use Rattle.heap.specs.Lent.{Lent, lent, stored, view, slot_count, pool_size}
 use Rattle.heap.specs.WellFormed.{well_formed}
@@ -33,8 +34,7 @@ use Rattle.heap_edit.proofs.Cases.{write-beyond, write_done}
 use Rattle.collection.specs.Swept.{live_size}
 use Rattle.rehearsal.specs.Runs.{Run, held_at, storing, wrote, ends}
 use Rattle.rehearsal.specs.OnHeap.{heaped, stores_heap, left}
-use Rattle.rehearsal_names.specs.Names.{entries_in, named, or_zero, Names, LetGo}
-use Rattle.rehearsal_names.proofs.Naming.{kept_real}
+use Rattle.rehearsal_names.specs.Names.{named, answer_of, Names, LetGo}
 use Rattle.rehearsal_names.proofs.Rising.{rising-front}
 use Rattle.rehearsal_place.proofs.Answering.{is_ok as handle-is, is-refused}
 use Rattle.script.proofs.Refusing.{Numbered, free-numbered}
@@ -132,30 +132,31 @@ module _ {l : Lent} {words : List ℕ} {g : Going} (order : InOrder l words g) (
   ended_is : {l₁ : Lent} → l₁ ≡ l → storing_in l words g a b o ≡ ends (heaped no_types (slot_count l) (pool_size l)) 0 9 (going_on l words g) → Goes l₁ words (ended_by g g.heap NothingThere) (storing_in l words g a b o)
   ended_is {l₁} e q = record { order = ended-there e; is = ap (λ (m : Lent). going_on m words (ended_by g g.heap NothingThere)) e ∙ sym q }
 
-  none_of : (x : Option ℕ) {v : ℕ} → v ≡ or_zero x → v ≡ 0 → ((y : ℕ) → x ≡ some y → 1 ≤ y) → x ≡ none
-  none_of none e z f = refl
-  none_of (some y) e z f = absurd (omega (arith, f y refl))
+  none_of : (x : Option ℕ) {r : code.Option ℕ} → r ≡ answer_of x → r ≡ code.None → x ≡ none
+  none_of none e z = refl
+  none_of (some y) e z = cc (ap is_some (sym e ∙ z))
 
-  some_of : (x : Option ℕ) {v : ℕ} → v ≡ or_zero x → (v ≡ 0 → ⊥) → x ≡ some v
-  some_of none e ne = absurd (ne e)
-  some_of (some y) e ne = ap some (sym e)
+  abbrev value_of : code.Option ℕ → ℕ
+  value_of code.None = 0
+  value_of (code.Some x) = x
 
-  real : (turn y : ℕ) → names turn ≡ some y → 1 ≤ y
-  real turn y e = kept_real turn (entries_in (slot_count l) g.held words) y e
+  some_of : (x : Option ℕ) {r : code.Option ℕ} {v : ℕ} → r ≡ answer_of x → r ≡ code.Some v → x ≡ some v
+  some_of none e z = cc (ap is_some (sym e ∙ z))
+  some_of (some y) e z = ap some (ap value_of (sym e ∙ z))
 
-  module _ {x : ℕ} (ex : x ≡ or_zero (held_at a (named (slot_count l) g.held words))) where
-    pub first-missing : x ≡ 0 → Goes l words (ended_by g g.heap NothingThere) (storing_in l words g a b o)
-    first-missing z = ended_is refl (ap (λ (p : Option ℕ). storing (heaped no_types (slot_count l) (pool_size l)) 0 (going_on l words g) p (names b) o) (none_of (names a) ex z (real a)))
+  module _ {r₁ : code.Option ℕ} (e₁ : r₁ ≡ answer_of (held_at a (named (slot_count l) g.held words))) where
+    pub first-missing : r₁ ≡ code.None → Goes l words (ended_by g g.heap NothingThere) (storing_in l words g a b o)
+    first-missing z = ended_is refl (ap (λ (p : Option ℕ). storing (heaped no_types (slot_count l) (pool_size l)) 0 (going_on l words g) p (names b) o) (none_of (names a) e₁ z))
 
-    module _ (nx : x ≡ 0 → ⊥) {y : ℕ} (ey : y ≡ or_zero (held_at b (named (slot_count l) g.held words))) where
-      pub second-missing : y ≡ 0 → Goes l words (ended_by g g.heap NothingThere) (storing_in l words g a b o)
+    module _ {x : ℕ} (ex : r₁ ≡ code.Some x) {r₂ : code.Option ℕ} (e₂ : r₂ ≡ answer_of (held_at b (named (slot_count l) g.held words))) where
+      pub second-missing : r₂ ≡ code.None → Goes l words (ended_by g g.heap NothingThere) (storing_in l words g a b o)
       second-missing z =
-          ended_is refl (λ i. storing (heaped no_types (slot_count l) (pool_size l)) 0 (going_on l words g) (some_of (names a) ex nx i) (none_of (names b) ey z (real b) i) o)
+          ended_is refl (λ i. storing (heaped no_types (slot_count l) (pool_size l)) 0 (going_on l words g) (some_of (names a) e₁ ex i) (none_of (names b) e₂ z i) o)
 
-      module _ (ny : y ≡ 0 → ⊥) where
+      module _ {y : ℕ} (ey : r₂ ≡ code.Some y) where
         stored-run : storing_in l words g a b o ≡ wrote (heaped no_types (slot_count l) (pool_size l)) 0 (going_on l words g) (stores_heap x y o (view l))
         unfolding heaped
-        stored-run = λ i. storing (heaped no_types (slot_count l) (pool_size l)) 0 (going_on l words g) (some_of (names a) ex nx i) (some_of (names b) ey ny i) o
+        stored-run = λ i. storing (heaped no_types (slot_count l) (pool_size l)) 0 (going_on l words g) (some_of (names a) e₁ ex i) (some_of (names b) e₂ ey i) o
 
         store-ends : {l₁ : Lent} → StoresInto l l₁ false x y o → Goes l₁ words (ended_by g g.heap NothingThere) (storing_in l words g a b o)
         store-ends {l₁} d = ended_is d.1 (stored-run ∙ ap (wrote (heaped no_types (slot_count l) (pool_size l)) 0 (going_on l words g)) d.0)

@@ -68,14 +68,12 @@ fn try_store(
         (storing_in (lent g.heap narrow.now wide.old pool.old) words.now g a.held a.into a.offset) }
 {
     let all = narrow.len() / 6;
-    let x = held_at(words, all, g.held, a.held);
-    if x == 0 {
+    let Some(x) = held_at(words, all, g.held, a.held) else {
         return false;
-    }
-    let y = held_at(words, all, g.held, a.into);
-    if y == 0 {
+    };
+    let Some(y) = held_at(words, all, g.held, a.into) else {
         return false;
-    }
+    };
     store_into(g.heap, narrow, wide, pool, x, y, a.offset)
 }
 

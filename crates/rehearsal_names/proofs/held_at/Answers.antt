@@ -1,5 +1,6 @@
 -- `rehearsal_names::held_at` meets its contract.
-use Rattle.rehearsal_names.proofs.Naming.{front-count, front-rises, held_found, held_none}
+use mathlib.Core.Path.{sym, ◌∙◌}
+use Rattle.rehearsal_names.proofs.Naming.{front-count, front-rises, held_found, held_none, never_held, is_held}
 use Rattle.rehearsal_names.proofs.held_at.Goals as goal
 
 pub slice_bounds-find-end : goal.slice_bounds-find-end
@@ -8,8 +9,11 @@ slice_bounds-find-end c = front-count c.requires
 pub find-requires : goal.find-requires
 find-requires c = front-rises c.requires
 
-pub returns-in-Some : goal.returns-in-Some
-returns-in-Some c = held_found c.requires _ c.find.result c.find.ensures.found c.in-Some.is
+pub returns-in_err-k : goal.returns-in_err-k
+returns-in_err-k c = c.from_residual.ensures ∙ never_held c.requires _ (held_none c.requires _ c.find.result c.find.ensures.found c.in_err-k.was)
 
-pub returns-in-None : goal.returns-in-None
-returns-in-None c = held_none c.requires _ c.find.result c.find.ensures.found c.in-None.is
+pub returns-then-handle-eq0 : goal.returns-then-handle-eq0
+returns-then-handle-eq0 c = never_held c.requires _ (sym c.if-handle-eq0.true ∙ held_found c.requires _ c.find.result c.find.ensures.found c.in_ok-k.was)
+
+pub returns : goal.returns
+returns c = is_held c.requires _ _ (held_found c.requires _ c.find.result c.find.ensures.found c.in_ok-k.was) c.if-handle-eq0.false

@@ -3,17 +3,17 @@ use mathlib.Core.Path.{refl}
 use Rattle.rehearsal_store.proofs.Stored.{names-there, first-missing, second-missing, store-either}
 use Rattle.rehearsal_store.proofs.try_store.Goals as goal
 
-pub held_at-x-requires : goal.held_at-x-requires
-held_at-x-requires c = names-there c.requires.in_order 0 0 0
+pub held_at-requires : goal.held_at-requires
+held_at-requires c = names-there c.requires.in_order 0 0 0
 
-pub returns-then-x-eq0 : goal.returns-then-x-eq0
-returns-then-x-eq0 c = first-missing c.requires.in_order _ _ _ c.held_at-x.ensures c.if-x-eq0.true
+pub returns-in_default : goal.returns-in_default
+returns-in_default c = first-missing c.requires.in_order _ _ _ c.held_at.ensures c.in_default.is
 
-pub held_at-y-requires : goal.held_at-y-requires
-held_at-y-requires c = names-there c.requires.in_order 0 0 0
+pub held_at-requires-2 : goal.held_at-requires-2
+held_at-requires-2 c = names-there c.requires.in_order 0 0 0
 
-pub returns-then-y-eq0 : goal.returns-then-y-eq0
-returns-then-y-eq0 c = second-missing c.requires.in_order _ _ _ c.held_at-x.ensures c.if-x-eq0.false c.held_at-y.ensures c.if-y-eq0.true
+pub returns-in_default-held_at : goal.returns-in_default-held_at
+returns-in_default-held_at c = second-missing c.requires.in_order _ _ _ c.held_at.ensures c.in-Some.is c.held_at-2.ensures c.in_default-held_at.is
 
 pub store_into-requires : goal.store_into-requires
 store_into-requires c = record { pool_value = c.requires.in_order.formed; whole = c.requires.whole }
@@ -25,4 +25,4 @@ pub shape_of-pool : goal.shape_of-pool
 shape_of-pool c = c.store_into.auto.pool
 
 pub returns : goal.returns
-returns c = store-either c.requires.in_order _ _ _ c.held_at-x.ensures c.if-x-eq0.false c.held_at-y.ensures c.if-y-eq0.false c.store_into.result c.store_into.ensures refl
+returns c = store-either c.requires.in_order _ _ _ c.held_at.ensures c.in-Some.is c.held_at-2.ensures c.in-Some-held_at.is c.store_into.result c.store_into.ensures refl
