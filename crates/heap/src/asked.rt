@@ -36,6 +36,7 @@ impl<'a> View<'a> {
         } = self;
         let s = narrow.len() / 6;
         let mut count = 0;
+        // Kept: with `filter` and `count` the proof stays open at `returns`, which needs an induction that joins the column of kinds with the slots as a list.
         for i in 0..heap.slots {
             if narrow[s + i] != 0 {
                 count += 1;
