@@ -1,11 +1,13 @@
--- The two loops that list the roots. Assumes nothing.
-use Prim.Native.Nat.{ℕ, ◌+◌, ◌≤◌, ◌<◌}
+-- The roots counted, and the loop that lists them. Assumes nothing.
+use Prim.Native.Nat.{ℕ, suc, ◌+◌, ◌≤◌, ◌<◌}
 use mathlib.Core.Path.{◌≡◌, refl, sym, ap, ◌∙◌, subst}
 use mathlib.Core.Bool.{Bool, true, false}
 use mathlib.Core.List.{List, [], ◌∷◌}
 use lib.ListN.{length, get_or, drop, set, length-map, drop_of_length-le}
 use native.Mathlib.Nat.{zero-add}
 use native.Mathlib.Omega.{arith}
+use Rattle.std.specs.Prelude.{cond, if◌then◌else◌}
+use Rattle.std.specs.List.{filter}
 use Rattle.word.specs.Put.{put}
 use Rattle.word.proofs.PutLaws.{Filling, fill_start, fill-next, fill_stop, fill-length}
 use Rattle.word.proofs.ListLaws.{drop-cons-one}
@@ -39,6 +41,16 @@ module _ (t : ℕ → Bool) (W : List ℕ) (k : ℕ) where
 
 -- ---- counted
 
+-- std's filter keeps the same
+pub those-length : (t : ℕ → Bool) (W : List ℕ) → length (filter t W) ≡ length (those t W)
+unfolding those
+those-length t [] = refl
+those-length t (w ∷ ws) = go (t w) (those-length t ws)
+  where
+    go : (b : Bool) → length (filter t ws) ≡ length (those t ws) → length (cond b (w ∷ filter t ws) (filter t ws)) ≡ length (if b then w ∷ those t ws else those t ws)
+    go true e = ap suc e
+    go false e = e
+
 pub record Counts (t : ℕ → Bool) (W : List ℕ) (n k : ℕ) : Type 0 where
   pub rest : n + length (those t (drop k W)) ≡ length (those t W)
   pub low : n ≤ k
@@ -53,9 +65,6 @@ module _ (t : ℕ → Bool) (W : List ℕ) (n k : ℕ) (c : Counts t W n k) wher
 
   pub count-taken : k < length W → (b : Bool) → b ≡ t (get_or W k 0) → b ≡ true → Counts t W (n + 1) (k + 1)
   count-taken h b e f = record { rest = omega (arith, c.rest, ap length (taken t W k h (sym e ∙ f))); low = omega (arith, c.low); within = omega arith }
-
-  pub count-end : length W ≤ k → n ≡ length (those t W)
-  count-end h = omega (arith, c.rest, ap length (over t W k h))
 
 -- ---- written
 

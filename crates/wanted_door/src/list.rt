@@ -20,13 +20,7 @@ pub fn count_roots(wanted: &[u32], work: &[u64]) -> usize
     requires { Inside wanted.now (length work.now) }
     ensures { result ≡ length (those (noted 2 (map high work.now)) wanted.now) }
 {
-    let mut n = 0;
-    for w in wanted {
-        if is_root(work, *w) {
-            n += 1;
-        }
-    }
-    n
+    wanted.iter().filter(|w| is_root(work, **w)).count()
 }
 
 // The handles of the roots go to the lent list from its front on.

@@ -1,22 +1,27 @@
+-- `wanted_door::list::count_roots` meets its contract.
 use native.Mathlib.Omega.{arith}
-use Rattle.wanted_door.proofs.Roots.{count-first, count-passed, count-taken, count-end}
+use mathlib.Core.Path.{ap, ◌∙◌}
+use Rattle.std.proofs.Common.{rules}
+use Rattle.std.proofs.lemmas.Iterator.{YieldsList-from_slice}
+use Rattle.std.proofs.lemmas.Iterator.Consumers.{YieldsList-from_filter, count_from_yields_List}
+use Rattle.std.proofs.lemmas.Iterator.Adapters.{serves_from_places}
+use Rattle.std.proofs.lemmas.List.{get_or_default}
+use Rattle.std.specs.Prelude.{◌<◌, map, length}
+use Rattle.mark.specs.Scratch.{high}
+use Rattle.wanted.specs.Search.{noted}
+use Rattle.wanted_door.proofs.Roots.{those-length}
 use Rattle.wanted_door.proofs.list.count_roots.Goals as goal
-use Rattle.wanted_door.proofs.list.count_roots.Goals.{then-is_root, else-is_root}
 
-pub loop-w-init : goal.loop-w-init
-loop-w-init c = count-first _ _
-
-pub is_root-requires : goal.is_root-requires
-is_root-requires c = c.requires _ c.loop-w-test.true
-
-pub overflow_add-n : goal.overflow_add-n
-overflow_add-n c = omega (arith, c.loop-w.invariant.low, c.loop-w-test.true, c.well_formed)
-
-pub loop-w-preserved : goal.loop-w-preserved
-loop-w-preserved c = elim c.if-is_root.branch [
-  | then-is_root b ↦ rw b.n-is (count-taken _ _ _ _ c.loop-w.invariant c.loop-w-test.true _ c.is_root.ensures b.if-is_root.true)
-  | else-is_root b ↦ rw b.n-is (count-passed _ _ _ _ c.loop-w.invariant c.loop-w-test.true _ c.is_root.ensures b.if-is_root.false)
-]
+pub count-requires-clause-can : goal.count-requires-clause-can
+count-requires-clause-can c = (
+  tt,
+  tt,
+  serves_from_places (YieldsList-from_slice c.args.wanted.now cc) (λ x q r. search rules) (λ x k h e.
+      let inside : x.now < length c.filter.result.p.0.now = omega (arith, c.requires k h, e ∙ get_or_default c.args.wanted.now k x.now 0 h, ap (λ p. length p.0.now) c.filter.ensures.closure) in
+      search (rules, inside)),
+)
 
 pub returns : goal.returns
-returns c = count-end _ _ _ _ c.loop-w.invariant c.loop-w-test.false
+returns c =
+    count_from_yields_List _ _ c.count.ensures.ran (YieldsList-from_filter _ (noted 2 (map high c.args.work.now)) (YieldsList-from_slice c.args.wanted.now cc) c.filter.ensures.closure (λ x b q k. search rules))
+    ∙ those-length (noted 2 (map high c.args.work.now)) c.args.wanted.now
