@@ -1,6 +1,6 @@
 -- Every public call on a heap begins with tests: what follows from what they found. Assumes nothing.
 use mathlib.Core.Path.{◌≡◌, refl, sym, ap, ◌∙◌}
-use mathlib.Core.Bool.{Bool, true, false}
+use mathlib.Core.Bool.{Bool, true, false, ◌&&◌}
 use mathlib.Core.List.{List, [], ◌∷◌, ◌++◌, map}
 use Prim.Native.Nat.{ℕ, zero, suc, ◌≤◌, ◌<◌}
 use native.Mathlib.Omega.{arith}
@@ -117,22 +117,24 @@ module _ (m w : List ℕ) (l : Lent) where
   unfolding enough
   is-enough h k = simp (le-leb (slot_count l) (length m) h, le-leb (slot_count l) (length w) k)
 
-  pub no-marks : length m < slot_count l → Entered (m ∷ w ∷ []) (heap_tests m w l) (Err Scratch) (m ∷ w ∷ [])
-  no-marks h = record { found = fails _ _ _ (few-marks h); left = refl }
+  module _ {b : Bool} (v : b ≡ (leb (slot_count l) (length m) && leb (slot_count l) (length w))) where
+    fits-is : b ≡ enough m w l
+    unfolding enough
+    fits-is = v
 
-  pub no_words : slot_count l ≤ length m → length w < slot_count l → Entered (m ∷ w ∷ []) (heap_tests m w l) (Err Scratch) (m ∷ w ∷ [])
-  no_words h k = record { found = fails _ _ _ (few_words h k); left = refl }
+    pub no-scratch : b ≡ false → Entered (m ∷ w ∷ []) (heap_tests m w l) (Err Scratch) (m ∷ w ∷ [])
+    no-scratch e = record { found = fails _ _ _ (sym fits-is ∙ e); left = refl }
 
-  module _ (h : slot_count l ≤ length m) (k : slot_count l ≤ length w) (r : Bool) (m' w' : List ℕ) (f : (r ≡ well_formed l) × (m' ≡ zeros m)) (z : w' ≡ zeros w) where
-    cleared : m' ∷ w' ∷ [] ≡ zeros m ∷ zeros w ∷ []
-    cleared = λ j. f.1 j ∷ z j ∷ []
+    module _ (t : b ≡ true) (r : Bool) (m' w' : List ℕ) (f : (r ≡ well_formed l) × (m' ≡ zeros m)) (z : w' ≡ zeros w) where
+      cleared : m' ∷ w' ∷ [] ≡ zeros m ∷ zeros w ∷ []
+      cleared = λ j. f.1 j ∷ z j ∷ []
 
-    pub not-formed : r ≡ false → Entered (m ∷ w ∷ []) (heap_tests m w l) (Err BrokenHeap) (m' ∷ w' ∷ [])
-    not-formed b = record { found = passes _ _ _ (is-enough h k) (fails _ _ _ (sym f.0 ∙ b)); left = cleared }
+      pub not-formed : r ≡ false → Entered (m ∷ w ∷ []) (heap_tests m w l) (Err BrokenHeap) (m' ∷ w' ∷ [])
+      not-formed e = record { found = passes _ _ _ (sym fits-is ∙ t) (fails _ _ _ (sym f.0 ∙ e)); left = cleared }
 
-    pub is-formed : r ≡ true → Entered (m ∷ w ∷ []) (heap_tests m w l) ready (m' ∷ w' ∷ [])
-    unfolding admitted
-    is-formed b = record { found = passes (enough m w l) Scratch (test (well_formed l) BrokenHeap ∷ []) (is-enough h k) (passes (well_formed l) BrokenHeap [] (sym f.0 ∙ b) refl); left = cleared }
+      pub is-formed : r ≡ true → Entered (m ∷ w ∷ []) (heap_tests m w l) ready (m' ∷ w' ∷ [])
+      unfolding admitted
+      is-formed e = record { found = passes (enough m w l) Scratch (test (well_formed l) BrokenHeap ∷ []) (sym fits-is ∙ t) (passes (well_formed l) BrokenHeap [] (sym f.0 ∙ e) refl); left = cleared }
 
 -- ---- what the tests found, for a call
 

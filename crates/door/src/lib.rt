@@ -1,7 +1,7 @@
 // What every public call on a heap goes in by: scratch (18) and the heap (1) are tested first, each time.
 #![tactic(auto)]
 
-ghost use Rattle.std.specs.Prelude.{◌≡◌, [], ◌∷◌, IfOk};
+ghost use Rattle.std.specs.Prelude.{◌≡◌, [], ◌∷◌, ◌&&◌, ◌/◌, length, leb, IfOk};
 ghost use Rattle.heap.specs.Lent.{lent};
 ghost use Rattle.heap.specs.Seen.{seen};
 ghost use Rattle.door.specs.HeapCalls.{Entered, heap_tests, entry_of};
@@ -18,6 +18,14 @@ pub struct Done {
     pub answer: Answer,
 }
 
+// Is there a byte and a word for each of the lent slots?
+pub fn scratch_fits(narrow: &[u32], marks: &[u8], work: &[u64]) -> bool
+    ensures { result ≡ (leb (length narrow.now / 6) (length marks.now) && leb (length narrow.now / 6) (length work.now)) }
+{
+    let slots = narrow.len() / 6;
+    slots <= marks.len() && slots <= work.len()
+}
+
 // Is there scratch enough, and is the heap well formed? The refusal of the first test that fails. `marks` and `work` are scratch: zero afterwards, but as they were where they are too short.
 pub fn enter(
     heap: Heap,
@@ -31,11 +39,7 @@ pub fn enter(
         (heap_tests marks.old work.old (lent heap narrow.now wide.now pool.now))
         result (marks.new ∷ work.new ∷ []) }
 {
-    let slots = narrow.len() / 6;
-    if marks.len() < slots {
-        return Err(Refusal::Scratch);
-    }
-    if work.len() < slots {
+    if !scratch_fits(narrow, marks, work) {
         return Err(Refusal::Scratch);
     }
     work.fill(0);

@@ -1,7 +1,7 @@
 // The public calls of the page (01, "Page"): a heap as text, both ways, and how long that text is.
 #![tactic(auto)]
 
-ghost use Rattle.std.specs.Prelude.{◌≡◌, ◌&&◌, ◌/◌, leb, length};
+ghost use Rattle.std.specs.Prelude.{◌≡◌};
 ghost use Rattle.heap.specs.Lent.{lent};
 ghost use Rattle.door.specs.HeapCalls.{asked, outcome};
 ghost use Rattle.page_door.specs.Page.{measuring, writing, page_out, reading};
@@ -51,19 +51,6 @@ pub fn yexwalu_write_page(
     }
 }
 
-// Is there a byte and a word for each of the lent slots?
-fn scratch_fits(narrow: &[u32], marks: &[u8], work: &[u64]) -> bool
-    ensures { result
-        ≡ (leb (length narrow.now / 6) (length marks.now) && leb (length narrow.now / 6) (length work.now)) }
-{
-    let slots = narrow.len() / 6;
-    if marks.len() < slots {
-        false
-    } else {
-        slots <= work.len()
-    }
-}
-
 // Reads a page into lent memory: 18, 17, 1, 6, 5. What the lent heap held before isn't looked at. The answer tells the form that was met: first the bits of a write count, 64 or 32;
 // second 1 for `retired`, 2 for `planes`, 3 for both, 0 for neither.
 pub fn yexwalu_read_page(
@@ -78,7 +65,7 @@ pub fn yexwalu_read_page(
     ensures { outcome result.answer (lent result.heap narrow.new wide.new pool.new) marks.new work.new
         ≡ reading marks.old work.old (lent heap narrow.old wide.old pool.old) text.now }
 {
-    if !scratch_fits(narrow, marks, work) {
+    if !door::scratch_fits(narrow, marks, work) {
         return Done {
             heap,
             answer: Answer::from(Err(Refusal::Scratch)),

@@ -16,18 +16,10 @@ pub struct Given<'a> {
 }
 
 impl<'a> Given<'a> {
-    ghost use Rattle.std.specs.Prelude.{◌&&◌, [], ◌∷◌, ◌/◌, length, leb, IfOk};
+    ghost use Rattle.std.specs.Prelude.{[], ◌∷◌, IfOk};
     ghost use Rattle.heap.specs.Seen.{seen};
     ghost use Rattle.door.specs.HeapCalls.{Entered, heap_tests, entry_of};
     ghost use Rattle.same_door.specs.Inner.Given.{memory_of};
-
-    // Is there a byte and a word for each lent slot?
-    pub(crate) fn is_enough(self, marks: &[u8], work: &[u64]) -> bool
-        ensures { result ≡ (leb (length self.entry.narrow.now / 6) (length marks.now) && leb (length self.entry.narrow.now / 6) (length work.now)) }
-    {
-        let slots = self.narrow.len() / 6;
-        slots <= marks.len() && slots <= work.len()
-    }
 
     // The heap, to be read, where scratch is enough and it is well formed.
     pub(crate) fn see(self, marks: &mut [u8], work: &mut [u64]) -> Result<View<'a>, Refusal>

@@ -37,10 +37,10 @@ fn enter_both<'a, 'b>(
         (entry_of result) (marks.new ∷ work.new ∷ other_marks.new ∷ other_work.new ∷ []) }
     ensures shows { IfOk result (λ v. (seen v.0 ≡ memory_of given.entry) × (seen v.1 ≡ memory_of other.entry)) }
 {
-    if !given.is_enough(marks, work) {
+    if !door::scratch_fits(given.narrow, marks, work) {
         return Err(Refusal::Scratch);
     }
-    if !other.is_enough(other_marks, other_work) {
+    if !door::scratch_fits(other.narrow, other_marks, other_work) {
         return Err(Refusal::Scratch);
     }
     match given.see(marks, work) {
