@@ -1,13 +1,14 @@
 -- The ways out of the calls about types. Assumes nothing.
 use mathlib.Core.Path.{◌≡◌, refl, sym, ap, ◌∙◌}
 use mathlib.Core.Bool.{Bool, true, false}
+use mir.Val.{bool_byte}
 use mathlib.Core.List.{List}
 use native.Mathlib.Omega.{arith}
 use Prim.Native.Nat.{ℕ}
 use Rattle.ty.specs.Words.{Word}
-use Rattle.std.specs.Prelude.{Option, Some, None, if◌then◌else◌}
+use Rattle.std.specs.Prelude.{Option, Some, None, Ok, if◌then◌else◌}
 use Rattle.word.specs.Result.{Result, ok, refused}
-use Rattle.refusal.specs.Told.{answered, refused_by, here, nothing}
+use Rattle.refusal.specs.Told.{told as told_reply, answered, refused_by, here, nothing}
 use Rattle.refusal.specs.declared.Answer.{Answer}
 use Rattle.ty.specs.Check.{table_good}
 use Rattle.ty.specs.Walks.{desc_size, desc_bytes, has_handles}
@@ -17,6 +18,7 @@ use Rattle.layout.specs.Offsets.{Values, told, layout_call, written_by}
 use Rattle.yexwalu.specs.Table.{on_table}
 use Rattle.yexwalu.specs.Types.{laid, layout_called, sized, size_called, handles_called}
 use Rattle.held_types.specs.declared.Laying.{Laying as LayoutAnswer}
+use Rattle.held_types.proofs.Telling.{yes-no}
 use Rattle.yexwalu.proofs.TableCalls.{table-bad, table-good}
 
 sized-some : (x : Option ℕ) (n : ℕ) → x ≡ Some n → sized x ≡ ok n
@@ -45,11 +47,8 @@ module _ (w fs cs b : List ℕ) (t : ℕ) {g : Bool} (eg : g ≡ table_good w fs
   pub size_none : {x : Word} {r : Answer} → g ≡ true → x ≡ desc_size (types_of w fs) t → x ≡ None → r ≡ refused_by 11 → r ≡ answered here nothing (size_called w fs cs b t)
   size_none h e q a = answer-passed h (sized-none (desc_bytes (types_of w fs) t) (size_exact h e q)) a
 
-  pub handles-yes : {x : Bool} {r : Answer} → g ≡ true → x ≡ has_handles (types_of w fs) t → x ≡ true → r ≡ answered here nothing (ok 1) → r ≡ answered here nothing (handles_called w fs cs b t)
-  handles-yes h e q a = answer-passed h (ap (λ (u : Bool). ok (if u then 1 else 0)) (sym e ∙ q)) a
-
-  pub handles-no : {x : Bool} {r : Answer} → g ≡ true → x ≡ has_handles (types_of w fs) t → x ≡ false → r ≡ answered here nothing (ok 0) → r ≡ answered here nothing (handles_called w fs cs b t)
-  handles-no h e q a = answer-passed h (ap (λ (u : Bool). ok (if u then 1 else 0)) (sym e ∙ q)) a
+  pub handles-told : {x : Bool} {n : ℕ} {r : Answer} → g ≡ true → x ≡ has_handles (types_of w fs) t → n ≡ bool_byte x → r ≡ told_reply (Ok (n, 0)) → r ≡ answered here nothing (handles_called w fs cs b t)
+  handles-told h e q a = answer-passed h refl (yes-no e q a)
 
   -- ---- a layout, and the lent list after the call
 

@@ -107,8 +107,5 @@ pub fn yexwalu_has_handles(
     if !table.check_table() {
         return Answer::from(Err(Refusal::TypeTable));
     }
-    if table.has_handles(t) {
-        return Answer::from(Ok((1, 0)));
-    }
-    Answer::from(Ok((0, 0)))
+    Answer::from(Ok((u64::from(table.has_handles(t)), 0)))
 }
