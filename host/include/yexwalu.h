@@ -626,7 +626,7 @@ yexwalu_answer yexwalu_order(
 /*
  * Runs a script of calls, one a line, on a heap that is checked once: `alloc,TYPE,KIND,HEX`, `take,HANDLE,0,`, `seal,0,0,` and `recycle,0,0,`, each with byte 10
  * at its end. The first line that is refused, or is no such line (17), ends it; what the lines before it did stays. `room` is scratch besides, at least as long as the
- * pool. 18, 1, then 17, or 8, 6, 5 of an alloc and 2, 3, 19, 4 of a take.
+ * pool. 18, then 17 for the first line, 1, and of each line in turn 17, or 8, 6, 5 of an alloc and 2, 3, 19, 4 of a take.
  */
 yexwalu_done yexwalu_run(
     yexwalu_header heap,

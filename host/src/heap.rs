@@ -770,7 +770,8 @@ impl Heap {
     }
 
     /// Runs a script of calls, one a line: `alloc,TYPE,KIND,HEX`, `take,HANDLE,0,`, `seal,0,0,` and `recycle,0,0,`, each with byte 10 at its end. The heap is checked once, so this is the way to do
-    /// many calls. The first line that is refused, or is no such line (17), ends it; what the lines before it did stays.
+    /// many calls. The first line that is refused, or is no such line (17), ends it; what the lines before it did stays. On a broken heap
+    /// a first line that is no such line is 17, and all else is 1.
     ///
     /// ```
     /// use yexwalu::{Heap, Refusal};

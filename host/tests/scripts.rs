@@ -99,3 +99,26 @@ fn a_bad_line_is_17() {
     assert_eq!(heap.run(b""), Ok(()));
     assert!(heap == before);
 }
+
+// A run is its lines one after the other, and the heap is checked once: a first line that is no call's comes before the heap, every other line after it.
+#[test]
+fn on_a_broken_heap_a_bad_first_line_is_17_and_all_else_1() {
+    let (header, mut memory, _) = sample(8, 64).0.into_parts();
+    memory.pool[63] = 1;
+    let scripts: [(&[u8], Refusal); 8] = [
+        (b"nothing\n", Refusal::Page),
+        (b"seal,0,0,", Refusal::Page),
+        (b"take,1,1,\nseal,0,0,\n", Refusal::Page),
+        (b"seal,0,0,\n", Refusal::BrokenHeap),
+        (b"seal,0,0,\nnothing\n", Refusal::BrokenHeap),
+        (b"alloc,0,4,\n", Refusal::BrokenHeap),
+        (b"take,0,0,\n", Refusal::BrokenHeap),
+        (b"", Refusal::BrokenHeap),
+    ];
+    for (script, why) in scripts {
+        let mut heap = Heap::from_parts(header, memory.clone(), Scratch::zeros(8));
+        assert_eq!(heap.run(script), Err(why), "{}", String::from_utf8_lossy(script));
+        let (after, left, scratch) = heap.into_parts();
+        assert!(after == header && left == memory && scratch == Scratch::zeros(8), "{}", String::from_utf8_lossy(script));
+    }
+}
