@@ -1,1 +1,2 @@
 mod Telling
+pub mod Once

@@ -1,3 +1,4 @@
 pub mod Naming
 pub mod Loading
 pub mod Verdicts
+pub mod Once
