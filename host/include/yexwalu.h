@@ -4,7 +4,7 @@
  * Each call is proved to do what its contract says, in the crate that has it (crates/heap_door, object_door, collect_door, wanted_door, page_door, table_door, slot_door, run_door,
  * rehearse_door, same_door and yexwalu), for all values of its parameters. What a caller owes is what C always asks: a pointer leads to as many elements as the length after it says, is aligned and not null (also
  * where the length is 0), memory that a call may write is lent to no other parameter of it, and a bool is 0 or 1. Calls allocate nothing, keep no pointer, have no
- * state of their own. The most stack that was seen is 135 KB, and the frames add up to 234 KB (measured before slot_handles, the list of addresses, roots_for, rehearse, same and order).
+ * state of their own. A call takes at most 128 KB of stack (YEXWALU_STACK_KB): measured by host/c/stack.c, not proved.
  *
  * An answer has document 01's number, 0 for success, and up to two values, zeros after a refusal but 13 of traceable. A refusal changes nothing, but 5 in alloc and
  * alloc_from (since_gc), 9 in a write to a live slot with nothing visible (its write count), run, whose lines before the refused one keep their effect, and
@@ -67,6 +67,11 @@ enum {
     YEXWALU_LESS = 0,
     YEXWALU_EQUAL = 1,
     YEXWALU_GREATER = 2
+};
+
+/* How much stack a call takes at most, in KB: what a thread that makes calls has left at least. */
+enum {
+    YEXWALU_STACK_KB = 128
 };
 
 /* How many runs of one entry a slot `narrow` and `wide` have. */
