@@ -1,18 +1,21 @@
 -- Pairs of an address and a slot: the loop that asks whether they rise, and what a search by their addresses finds. Assumes nothing.
 use mathlib.Core.Path.{◌≡◌, refl, sym, ap, ◌∙◌, subst}
-use mathlib.Core.Bool.{Bool, true, false, ◌&&◌}
+use mathlib.Core.Bool.{Bool, true, false, ◌&&◌, false≢true}
 use mathlib.Core.List.{List, [], ◌∷◌}
-use Prim.Native.Nat.{ℕ, zero, suc, ◌+◌, ◌*◌, ◌/◌, ◌%◌, ◌-◌, ◌≤◌, ◌<◌}
+use Prim.Native.Nat.{ℕ, zero, suc, ◌+◌, ◌*◌, ◌/◌, ◌%◌, ◌≤◌, ◌<◌}
 use native.Mathlib.Omega.{arith}
 use native.Mathlib.Decide.{dec_lt}
-use lib.ListN.{length, get_or, drop, drop_of_length-le}
+use lib.ListN.{length, get_or, drop}
 use lib.Dec.{leb, eqb}
-use borrow.Author.Tests.{le-leb, lt-leb, leb-true, eq-eqb, ne_eqb}
+use borrow.Author.Tests.{le-leb, leb-true, eq-eqb, ne_eqb}
 use Rattle.std.specs.Prelude.{if◌then◌else◌}
-use Rattle.word.proofs.Bools.{and_both, both-and}
+use Rattle.word.proofs.Bools.{and_both, both-and, bool-ext}
 use Rattle.heap_calls.specs.Pins.{rising_from, rising}
 use Rattle.std.specs.Prelude.{Result, Ok, Err}
+use Rattle.std.specs.Bool.{nat_eq, nat_lt}
+use Rattle.std.specs.List.{IsAllAdjacentAnswer}
 use Rattle.std.specs.Simd.{first_chunks}
+use Rattle.word.proofs.ChunkLaws.{pair-parts}
 use Rattle.std.specs.List.Sorted.{IsSearchInRange, IsBinarySearchResult, IsNonDecreasingBy}
 use Rattle.std.specs.Ordering.{nat_cmp, ordering_index}
 use Rattle.std.proofs.lemmas.Cmp.{ranked}
@@ -30,61 +33,31 @@ drop-two (a ∷ b ∷ l) zero h = refl
 drop-two (a ∷ b ∷ l) (suc n) h =
     drop-two (b ∷ l) n (omega arith) ∙ ap (λ (k : ℕ). get_or (b ∷ l) n 0 ∷ addresses_of (drop k (a ∷ b ∷ l))) (let e : suc (n + 2) ≡ suc n + 2 = omega arith in e)
 
--- ---- the loop that asks whether they rise
+-- ---- whether they rise
 
--- all rise exactly if those from pair `i` on do, above the one before them
-pub record Rises (list : List ℕ) (i : ℕ) : Type 0 where
-  pub far : 1 ≤ i
-  pub whole : length list % 2 ≡ 0
-  pub left : rising_from (suc (get_or list (2 * i - 2) 0)) (addresses_of (drop (2 * i) list)) ≡ paired list
+-- they rise if each is below the next
+rising-pairs : (from : ℕ) (list : List ℕ) → (0 < length list / 2 → from ≤ get_or list 0 0) → ((k : ℕ) → k + 1 < length list / 2 → get_or list (2 * k) 0 < get_or list (2 * (k + 1)) 0)
+    → rising_from from (addresses_of list) ≡ true
+unfolding rising_from addresses_of
+rising-pairs from [] first next = refl
+rising-pairs from (a ∷ []) first next = refl
+rising-pairs from (a ∷ i ∷ rest) first next =
+    both-and (leb from a) (rising_from (suc a) (addresses_of rest)) (le-leb from a (first (omega arith)))
+    (rising-pairs (suc a) rest (λ h. next 0 (omega arith)) (λ k h.
+    let u : suc (suc (2 * k)) ≡ 2 * suc k = omega arith in
+    let v : suc (suc (2 * (k + 1))) ≡ 2 * (suc k + 1) = omega arith in
+    omega (arith, next (suc k) (omega arith), ap (λ (n : ℕ). get_or (a ∷ i ∷ rest) n 0) u, ap (λ (n : ℕ). get_or (a ∷ i ∷ rest) n 0) v)))
 
-pub rise-odd : (list : List ℕ) → (length list % 2 ≡ 0 → ⊥) → false ≡ paired list
+whole : (n : ℕ) → nat_eq n 0 ≡ true → n ≡ 0
+whole n e = grind (arith, nat_tests)
+
+pub rise-odd : (list : List ℕ) (n : ℕ) → n ≡ length list % 2 → nat_eq n 0 ≡ false → false ≡ paired list
 unfolding paired
-rise-odd list h = sym (ap (λ (b : Bool). b && rising (addresses_of list)) (ne_eqb (length list % 2) 0 h))
+rise-odd list n l e = sym (ap (λ (b : Bool). b && rising (addresses_of list)) (ne_eqb (length list % 2) 0 (λ z. grind (arith, nat_tests))))
 
 even-paired : (list : List ℕ) → length list % 2 ≡ 0 → rising (addresses_of list) ≡ paired list
 unfolding paired
 even-paired list h = sym (ap (λ (b : Bool). b && rising (addresses_of list)) (eq-eqb (length list % 2) 0 h))
-
-first-rises : (l : List ℕ) → rising_from (suc (get_or l (2 - 2) 0)) (addresses_of (drop 2 l)) ≡ rising (addresses_of l)
-unfolding rising_from addresses_of
-first-rises [] = refl
-first-rises (a ∷ []) = refl
-first-rises (a ∷ i ∷ rest) = sym (ap (λ (b : Bool). b && rising_from (suc a) (addresses_of rest)) (le-leb 0 a (omega arith)))
-
-pub rise-first : (list : List ℕ) → length list % 2 ≡ 0 → Rises list 1
-rise-first list h = record { far = omega arith; whole = h; left = first-rises list ∙ even-paired list h }
-
-module _ {list : List ℕ} {i : ℕ} (s : Rises list i) where
-  at_next : i < length list / 2 → (leb (suc (get_or list (2 * i - 2) 0)) (get_or list (2 * i) 0) && rising_from (suc (get_or list (2 * i) 0)) (addresses_of (drop (2 * i + 2) list))) ≡ paired list
-  unfolding rising_from
-  at_next h = sym (ap (rising_from (suc (get_or list (2 * i - 2) 0))) (drop-two list (2 * i) (omega (arith, s.whole)))) ∙ s.left
-
-  pub rise-low : i < length list / 2 → get_or list (2 * i) 0 ≤ get_or list (2 * i - 2) 0 → false ≡ paired list
-  rise-low h low =
-      sym (ap (λ (b : Bool). b && rising_from (suc (get_or list (2 * i) 0)) (addresses_of (drop (2 * i + 2) list))) (lt-leb (suc (get_or list (2 * i - 2) 0)) (get_or list (2 * i) 0) (omega arith))) ∙ at_next h
-
-  pub rise-next : i < length list / 2 → get_or list (2 * i - 2) 0 < get_or list (2 * i) 0 → Rises list (i + 1)
-  rise-next h high =
-      record {
-        far = omega arith;
-        whole = s.whole;
-        left =
-            (λ j. rising_from (suc (get_or list (back j) 0)) (addresses_of (drop (on j) list)))
-            ∙ sym (ap (λ (b : Bool). b && rising_from (suc (get_or list (2 * i) 0)) (addresses_of (drop (2 * i + 2) list))) (le-leb (suc (get_or list (2 * i - 2) 0)) (get_or list (2 * i) 0) (omega arith)))
-            ∙ at_next h;
-      }
-    where
-      back : 2 * (i + 1) - 2 ≡ 2 * i
-      back = omega arith
-
-      on : 2 * (i + 1) ≡ 2 * i + 2
-      on = omega arith
-
-  pub rise-end : length list / 2 ≤ i → true ≡ paired list
-  unfolding rising_from addresses_of
-  rise-end h =
-      sym (ap (λ (l : List ℕ). rising_from (suc (get_or list (2 * i - 2) 0)) (addresses_of l)) (drop_of_length-le list {i = 2 * i} (let e : length list ≤ 2 * i = omega (arith, s.whole) in e))) ∙ s.left
 
 -- ---- the search
 
@@ -145,36 +118,44 @@ pairs-order from (a ∷ i ∷ rest) r (suc j) (suc k) l h =
     let e = pairs-order (suc a) rest b.1 j k (omega arith) (omega arith) in
     omega (arith, ap (λ (n : ℕ). get_or (a ∷ i ∷ rest) n 0) u, ap (λ (n : ℕ). get_or (a ∷ i ∷ rest) n 0) v)
 
--- ---- the list as chunks of two
+-- each is below the next
+pairs-rise : (from : ℕ) (list : List ℕ) → rising_from from (addresses_of list) ≡ true → (k : ℕ) → k + 1 < length list / 2 → get_or list (2 * k) 0 < get_or list (2 * (k + 1)) 0
+unfolding rising_from addresses_of
+pairs-rise from [] r k h = absurd (omega arith)
+pairs-rise from (a ∷ []) r k h = absurd (omega arith)
+pairs-rise from (a ∷ i ∷ rest) r zero h = low-address (suc a) rest (and_both (leb from a) (rising_from (suc a) (addresses_of rest)) r).1 0 (omega arith)
+pairs-rise from (a ∷ i ∷ rest) r (suc k) h =
+    let u : suc (suc (2 * k)) ≡ 2 * suc k = omega arith in
+    let v : suc (suc (2 * (k + 1))) ≡ 2 * (suc k + 1) = omega arith in
+    omega (arith, pairs-rise (suc a) rest (and_both (leb from a) (rising_from (suc a) (addresses_of rest)) r).1 k (omega arith), ap (λ (n : ℕ). get_or (a ∷ i ∷ rest) n 0) u, ap (λ (n : ℕ). get_or (a ∷ i ∷ rest) n 0) v)
 
-abbrev chunks : List ℕ → List (List ℕ)
-chunks list = first_chunks 2 (length list / 2) list
+below : (x y : ℕ) → true ≡ nat_lt x y → x < y
+below x y e = grind (arith, nat_tests)
 
-chunk-part : (list : List ℕ) (m k : ℕ) (d : List ℕ) → m ≤ length list / 2 → k < m → (h : ℕ) → h < 2 → get_or (get_or (first_chunks 2 m list) k d) h 0 ≡ get_or list (2 * k + h) 0
-chunk-part list zero k d n l h b = absurd (omega arith)
-chunk-part [] (suc m) k d n l h b = absurd (omega arith)
-chunk-part (a ∷ []) (suc m) k d n l h b = absurd (omega arith)
-chunk-part (a ∷ i ∷ rest) (suc m) zero d n l zero b = refl
-chunk-part (a ∷ i ∷ rest) (suc m) zero d n l (suc zero) b = refl
-chunk-part (a ∷ i ∷ rest) (suc m) zero d n l (suc (suc h)) b = absurd (omega arith)
-chunk-part (a ∷ i ∷ rest) (suc m) (suc k) d n l h b =
-    chunk-part rest m k d (omega arith) (omega arith) h b ∙ ap (λ (x : ℕ). get_or (a ∷ i ∷ rest) x 0) (let u : suc (suc (2 * k + h)) ≡ 2 * suc k + h = omega arith in u)
+not-below : (x y : ℕ) → false ≡ nat_lt x y → y ≤ x
+not-below x y e = grind (arith, nat_tests)
 
-chunks-length : (list : List ℕ) (m : ℕ) → length (first_chunks 2 m list) ≡ m
-chunks-length list zero = refl
-chunks-length list (suc m) = ap suc (chunks-length (drop 2 list) m)
+-- ---- the list as rows of two
+
+-- what the comparison of neighbours answers is whether the list is one of pairs that rise
+module _ (list : List ℕ) (ps : List (List ℕ)) (es : ps ≡ first_chunks 2 (length list / 2) list) (many : length ps ≡ length list / 2) where
+  key : (k : ℕ) (d : List ℕ) → k < length list / 2 → get_or (get_or ps k d) 0 0 ≡ get_or list (2 * k) 0
+  key k d h = (pair-parts list ps es k d h).0
+
+  neighbours : (r : Bool) → IsAllAdjacentAnswer (λ a b t. t ≡ nat_lt (get_or a 0 0) (get_or b 0 0)) ps r → r ≡ rising (addresses_of list)
+  neighbours true h = sym (rising-pairs 0 list (λ l. omega arith) (λ k l. let t : true ≡ nat_lt (get_or (get_or ps k []) 0 0) (get_or (get_or ps (k + 1) []) 0 0) = h k [] (omega (arith, many)) in omega (arith, key k [] (omega arith), key (k + 1) [] l, below _ _ t)))
+  neighbours false (k, l, h) = bool-ext false (rising (addresses_of list)) (λ e. absurd (false≢true e)) (λ e. let t : false ≡ nat_lt (get_or (get_or ps k []) 0 0) (get_or (get_or ps (k + 1) []) 0 0) = h [] in absurd (omega (arith, key k [] (omega (arith, many)), key (k + 1) [] (omega (arith, many)), not-below _ _ t, pairs-rise 0 list e k (omega (arith, many)))))
+
+  pub rise-told : (n : ℕ) → n ≡ length list % 2 → nat_eq n 0 ≡ true → (r : Bool) → IsAllAdjacentAnswer (λ a b t. t ≡ nat_lt (get_or a 0 0) (get_or b 0 0)) ps r → r ≡ paired list
+  rise-told n l e r h = neighbours r h ∙ even-paired list (sym l ∙ whole n e)
 
 pub pair-inside : (n : ℕ) (r : Result ℕ ℕ) → IsSearchInRange r n → (i : ℕ) → r ≡ Ok i → i < n
 pair-inside n r b i e = subst (λ (x : Result ℕ ℕ). IsSearchInRange x n) e b
 
-module _ (list : List ℕ) (x : ℕ) (p : paired list ≡ true) (ps : List (List ℕ)) (es : ps ≡ first_chunks 2 (length list / 2) list)
+module _ (list : List ℕ) (x : ℕ) (p : paired list ≡ true) (ps : List (List ℕ)) (es : ps ≡ first_chunks 2 (length list / 2) list) (many : length ps ≡ length list / 2)
     (r : Result ℕ ℕ) (bound : IsSearchInRange r (length ps)) (by_key : IsBinarySearchResult (λ y. nat_cmp (get_or y 0 0) x) ps r) where
-  many : length ps ≡ length list / 2
-  many = ap length es ∙ chunks-length list (length list / 2)
-
   key-at : (k : ℕ) (d : List ℕ) → k < length list / 2 → get_or (get_or ps k d) 0 0 ≡ get_or list (2 * k) 0
-  key-at k d h =
-      ap (λ (l : List (List ℕ)). get_or (get_or l k d) 0 0) es ∙ chunk-part list (length list / 2) k d (omega arith) h 0 (omega arith) ∙ ap (λ (n : ℕ). get_or list n 0) (let u : 2 * k + 0 ≡ 2 * k = omega arith in u)
+  key-at k d h = (pair-parts list ps es k d h).0
 
   comparisons-rise : IsNonDecreasingBy (λ (y : List ℕ). ordering_index (nat_cmp (get_or y 0 0) x)) ps
   comparisons-rise = IsNonDecreasingBy-from_default (λ (y : List ℕ). ordering_index (nat_cmp (get_or y 0 0) x)) ps [] (λ i j le in_range.
@@ -186,8 +167,7 @@ module _ (list : List ℕ) (x : ℕ) (p : paired list ≡ true) (ps : List (List
       let l : i < length list / 2 = omega (arith, many, pair-inside (length ps) r bound i e) in
       let at = subst (λ (o : Result ℕ ℕ). IsBinarySearchResult (λ y. nat_cmp (get_or y 0 0) x) ps o) e by_key in
       let k : get_or list (2 * i) 0 ≡ x = sym (key-at i [] l) ∙ ranked (get_or (get_or ps i []) 0 0) x _ (sym (at [])) in
-      let s : get_or (get_or ps i d) 1 0 ≡ get_or list (2 * i + 1) 0 = ap (λ (c : List (List ℕ)). get_or (get_or c i d) 1 0) es ∙ chunk-part list (length list / 2) i d (omega arith) l 1 (omega arith) in
-      ap (λ (n : ℕ). n ∷ []) s ∙ slot-there 0 list x (rises-in list p) i l k
+      ap (λ (n : ℕ). n ∷ []) (pair-parts list ps es i d l).1 ∙ slot-there 0 list x (rises-in list p) i l k
 
   pub pair-missed : (i : ℕ) → r ≡ Err i → [] ≡ slot_of list x
   pair-missed i e =

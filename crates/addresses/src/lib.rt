@@ -10,15 +10,8 @@ ghost use Rattle.addresses.specs.Told.{told};
 pub fn rise(list: &[u64]) -> bool
     ensures { result ≡ paired list.now }
 {
-    if list.len() % 2 != 0 {
-        return false;
-    }
-    for i in 1..list.len() / 2 {
-        if list[2 * i] <= list[2 * i - 2] {
-            return false;
-        }
-    }
-    true
+    let (pairs, rest) = list.as_chunks::<2>();
+    rest.is_empty() && pairs.is_sorted_by(|a, b| a[0] < b[0])
 }
 
 // A list of pairs whose addresses rise strictly.

@@ -14,6 +14,8 @@ use Rattle.layout.proofs.LayLaws.{rest}
 use Rattle.trace.specs.Places.{both, handle_at, value_handles}
 use Rattle.trace.specs.Emit.{Answer, Raw, raw_of, Into, emitted, emit_all, emitting, told}
 use Rattle.trace.proofs.Emits.{then-words, fail-words, told-traced, told-untraceable}
+use Rattle.std.specs.Simd.{first_chunks}
+use Rattle.word.proofs.ChunkLaws.{row-part}
 use Rattle.frame.specs.Frame.{entry, entries_of, first_word, entry_roots, entries_roots, frame_roots}
 
 -- ---- first_word
@@ -85,16 +87,23 @@ module _ (T : Table) (want : ℕ) (m map : List ℕ) (i : ℕ) (k : Into) (ms to
   unfolding entries_roots emitting emit_all
   entries-end whole h = rw (entries-last map (3 * i) (omega arith)) at inv
 
-  module _ (inside : i < length map / 3) (r : Answer) (ms' to' : List ℕ) (er : told r ms' to' ≡ emitting k (raw_of ms to n) (entry_roots T want m (entry (get_or map (3 * i) 0) (get_or map (3 * i + 1) 0) (get_or map (3 * i + 2) 0)))) where
+  module _ (rows : List (List ℕ)) (parts : rows ≡ first_chunks 3 (length map / 3) map) (many : length rows ≡ length map / 3) (inside : i < length rows) (r : Answer) (ms' to' : List ℕ)
+      (er : told r ms' to' ≡ emitting k (raw_of ms to n) (entry_roots T want m (entry (get_or (get_or rows i []) 0 0) (get_or (get_or rows i []) 1 0) (get_or (get_or rows i []) 2 0)))) where
+    part : (h j : ℕ) → h < 3 → 3 * i + h ≡ j → get_or (get_or rows i []) h 0 ≡ get_or map j 0
+    part h j a b = row-part 3 (length map / 3) map rows parts i h j [] (omega (arith, inside, many)) a b
+
+    step : told r ms' to' ≡ emitting k (raw_of ms to n) (entry_roots T want m (entry (get_or map (3 * i) 0) (get_or map (3 * i + 1) 0) (get_or map (3 * i + 2) 0)))
+    step = er ∙ (λ j. emitting k (raw_of ms to n) (entry_roots T want m (entry (part 0 (3 * i) (omega arith) (omega arith) j) (part 1 (3 * i + 1) (omega arith) (omega arith) j) (part 2 (3 * i + 2) (omega arith) (omega arith) j))))
+
     turn : entries_roots T want m (entries_of (drop (3 * i) map)) ≡ both (entry_roots T want m (entry (get_or map (3 * i) 0) (get_or map (3 * i + 1) 0) (get_or map (3 * i + 2) 0))) (entries_roots T want m (entries_of (drop (3 * (i + 1)) map)))
     unfolding entries_roots
-    turn = let z : 3 * (i + 1) ≡ 3 * i + 3 = omega arith in rw (entries_next map (3 * i) (omega arith), z) refl
+    turn = let z : 3 * (i + 1) ≡ 3 * i + 3 = omega arith in rw (entries_next map (3 * i) (omega (arith, inside, many)), z) refl
 
     pub entries-fail : r ≡ None → refused 13 ≡ G
-    entries-fail e = fail-words k (raw_of ms to n) _ _ (told-untraceable r ms' to' _ er e) ∙ ap (emitting k (raw_of ms to n)) (sym turn) ∙ inv
+    entries-fail e = fail-words k (raw_of ms to n) _ _ (told-untraceable r ms' to' _ step e) ∙ ap (emitting k (raw_of ms to n)) (sym turn) ∙ inv
 
     pub entries-more : (q : ℕ) → r ≡ Some q → emitting k (raw_of ms' to' q) (entries_roots T want m (entries_of (drop (3 * (i + 1)) map))) ≡ G
-    entries-more q e = then-words k (raw_of ms to n) (raw_of ms' to' q) _ _ (told-traced r ms' to' _ q er e) ∙ ap (emitting k (raw_of ms to n)) (sym turn) ∙ inv
+    entries-more q e = then-words k (raw_of ms to n) (raw_of ms' to' q) _ _ (told-traced r ms' to' _ q step e) ∙ ap (emitting k (raw_of ms to n)) (sym turn) ∙ inv
 
 -- ---- trace_frame
 

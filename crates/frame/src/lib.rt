@@ -94,12 +94,12 @@ fn trace_entries(
         (entries_roots (lent table.now) want memory.now (entries_of map.now)) }
 {
     let mut m = n;
-    for i in 0..map.len() / 3 {
-        let k = 3 * i;
+    let (entries, _) = map.as_chunks::<3>();
+    for &[offset, of, t] in entries {
         let e = Entry {
-            offset: map[k] as usize,
-            of: map[k + 1],
-            t: map[k + 2] as u64,
+            offset: offset as usize,
+            of,
+            t: t as u64,
         };
         m = trace_entry(table, here, want, e, memory, sink, marks, to, m)?;
     }

@@ -197,16 +197,11 @@ pub fn sizes_fit(narrow: usize, wide: usize, pool: usize) -> bool
 }
 
 // Where the data of slot `i` starts in the pool, by the ends in the second run of `s`.
-// Kept: apart from `begins`: it is asked of the whole wide list, so that no run is cut for one number.
 pub fn start_of(wide: &[u64], s: usize, i: usize) -> usize
     requires { (i ≤ s) × (2 * s ≤ length wide.now) }
     ensures { result ≡ start_of (run s s wide.now) i }
 {
-    if i == 0 {
-        0
-    } else {
-        wide[s + (i - 1)] as usize
-    }
+    begins(&wide[s..2 * s], i)
 }
 
 // Where the data of slot `i` starts, by the ends.

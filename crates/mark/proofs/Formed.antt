@@ -31,7 +31,7 @@ use Rattle.ty.specs.Types.{Table}
 use Rattle.trace.specs.Places.{handles_of}
 use Rattle.trace.specs.Emit.{resolve_in}
 use Rattle.reach.specs.Marking.{marking}
-use Rattle.collection.specs.Collected.{found, graph, starts}
+use Rattle.collection.specs.Collected.{found, graph}
 use Rattle.collection.specs.Shown.{shown}
 use Rattle.mark.specs.Graph.{shown_in, graph_in, held_in, leads_to, Fit}
 use Rattle.mark.specs.Told.{starts_of, heap_marks}

@@ -1,11 +1,11 @@
 -- Slots that are held: pins, and the slots of addresses. Assumes nothing.
-use Prim.Native.Nat.{ℕ, zero, suc, ◌+◌, ◌-◌, ◌*◌, ◌/◌, ◌≤◌, ◌<◌}
+use Prim.Native.Nat.{ℕ, ◌+◌, ◌-◌, ◌*◌, ◌/◌, ◌≤◌, ◌<◌}
 use mathlib.Core.Path.{◌≡◌, refl, sym, ap, ◌∙◌, subst}
 use mathlib.Core.Bool.{Bool, true, false}
 use mathlib.Core.Option.{Option}
 use mathlib.Core.List.{List, [], ◌∷◌, ◌++◌, append-nil}
 use lib.ListN.{length, get_or, take, drop, length-drop, drop_of_length-le}
-use lib.Dec.{ltb, eqb, leb}
+use lib.Dec.{eqb}
 use borrow.Author.Tests.{lt-ltb, le-ltb, le-leb, lt-leb, eq-eqb, ne_eqb}
 use native.Mathlib.Omega.{arith}
 use Rattle.std.specs.Prelude.{if◌then◌else◌}
@@ -16,6 +16,8 @@ use Rattle.addresses.specs.Listed.{slot_of, slots_of}
 use Rattle.addresses.specs.Told.{told}
 use Rattle.std.specs.Prelude.{Option as MaybeSlot, Some, None}
 use Rattle.addresses.proofs.Listing.{slots-append}
+use Rattle.std.specs.Simd.{first_chunks}
+use Rattle.word.proofs.ChunkLaws.{row-part}
 use Rattle.frame.specs.Frame.{Entry, entry, entries_of, first_word, entry_words, entries_words}
 use Rattle.frame.proofs.FrameLaws.{entries_next}
 use Rattle.reach.specs.Marking.{State, visit, follow_all, pin_if, pin_all}
@@ -126,19 +128,23 @@ unfolding slots_of entries_words
 none_left list m l h = ap (λ (es : List Entry). slots_of list (entries_words m es)) (entries-short l h)
 
 module _ (slots : ℕ) (list map m marks₀ work₀ : List ℕ) (total : State) (marks work : List ℕ) (count k : ℕ) (p : HoldsFrame slots list map m marks₀ work₀ total marks work count k) where
-  pub frame-next : k < length map / 3 → (marks' work' : List ℕ) (count' : ℕ)
-      → Holds slots marks' work' count' (pin_all (in_use slots) (state_of marks work count) (slots_of list (entry_words m (entry (get_or map (3 * k) 0) (get_or map (3 * k + 1) 0) 0))))
+  pub frame-next : (rows : List (List ℕ)) → rows ≡ first_chunks 3 (length map / 3) map → length rows ≡ length map / 3 → k < length rows → (marks' work' : List ℕ) (count' : ℕ)
+      → Holds slots marks' work' count' (pin_all (in_use slots) (state_of marks work count) (slots_of list (entry_words m (entry (get_or (get_or rows k []) 0 0) (get_or (get_or rows k []) 1 0) 0))))
       → length marks' ≡ length marks → length work' ≡ length work → HoldsFrame slots list map m marks₀ work₀ total marks' work' count' (k + 1)
-  frame-next h marks' work' count' e a b =
+  frame-next rows front many h marks' work' count' e a b =
       pushing-part _ slots marks₀ work₀ total marks work count _ p (pins-append (in_use slots)) (slots_of list (entry_words m (entry (get_or map (3 * k) 0) (get_or map (3 * k + 1) 0) 0)))
-      (slots_of list (entries_words m (entries_of (drop (3 * (k + 1)) map)))) marks' work' count' parts e a b
+      (slots_of list (entries_words m (entries_of (drop (3 * (k + 1)) map)))) marks' work' count' parts
+      (subst (λ (w : Entry). Holds slots marks' work' count' (pin_all (in_use slots) (state_of marks work count) (slots_of list (entry_words m w)))) (λ j. entry (part 0 (3 * k) (omega arith) (omega arith) j) (part 1 (3 * k + 1) (omega arith) (omega arith) j) 0) e) a b
     where
+      part : (i j : ℕ) → i < 3 → 3 * k + i ≡ j → get_or (get_or rows k []) i 0 ≡ get_or map j 0
+      part i j c d = row-part 3 (length map / 3) map rows front k i j [] (omega (arith, h, many)) c d
+
       parts : slots_of list (entries_words m (entries_of (drop (3 * k) map)))
           ≡ slots_of list (entry_words m (entry (get_or map (3 * k) 0) (get_or map (3 * k + 1) 0) 0)) ++ slots_of list (entries_words m (entries_of (drop (3 * (k + 1)) map)))
-      parts = ap (slots_of list) (words-next m map k h) ∙ slots-append list (entry_words m (entry (get_or map (3 * k) 0) (get_or map (3 * k + 1) 0) 0)) (entries_words m (entries_of (drop (3 * (k + 1)) map)))
+      parts = ap (slots_of list) (words-next m map k (omega (arith, h, many))) ∙ slots-append list (entry_words m (entry (get_or map (3 * k) 0) (get_or map (3 * k + 1) 0) 0)) (entries_words m (entries_of (drop (3 * (k + 1)) map)))
 
-  pub frame-end : length map / 3 ≤ k → Holds slots marks work count total
-  frame-end h =
+  pub frame-end : (many : ℕ) → many ≡ length map / 3 → many ≤ k → Holds slots marks work count total
+  frame-end many n h =
       pushing-end _ slots marks₀ work₀ total marks work count _ p (λ s. refl) (none_left list m (drop (3 * k) map) (omega (arith, length-drop (3 * k) map)))
 
 -- ---- values of registers: followed or looked up

@@ -6,7 +6,7 @@ use mathlib.Core.Bool.{Bool, true, false}
 use mathlib.Core.List.{List, [], ◌∷◌, ◌++◌, append-nil}
 use lib.Bits.{bit_and}
 use lib.Count.{count_trailing_zeros}
-use lib.Dec.{ltb, eqb}
+use lib.Dec.{eqb}
 use lib.ListN.{length, get_or}
 use native.Mathlib.Decide.{dec_lt}
 use native.Mathlib.Omega.{arith}
@@ -21,7 +21,7 @@ use Rattle.rows.proofs.Below.{below, below_in, below_out, below_none, below-list
 use Rattle.trace.specs.Emit.{raw_of, into, resolve_in, emitted}
 use Rattle.trace.specs.declared.Sink.TheVariants.{Work}
 use Rattle.addresses.specs.Listed.{slot_of, slots_of}
-use Rattle.reach.specs.Marking.{State, follow_all, pin_all}
+use Rattle.reach.specs.Marking.{State, pin_all}
 use Rattle.mark.specs.Graph.{leads_to}
 use Rattle.mark.specs.Scratch.{state_of, Scratch, Holds}
 use Rattle.mark.proofs.States.{Pushing, pushing-part, pushing-end}

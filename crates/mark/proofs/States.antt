@@ -1,10 +1,10 @@
 -- The scratch as a state: one object met, and a list of handles or pins taken in turn. Room in the queue comes by counting the marks. Assumes nothing.
-use Prim.Native.Nat.{ℕ, suc, ◌+◌, ◌-◌, ◌%◌, ◌/◌, ◌^◌, ◌≤◌, ◌<◌}
+use Prim.Native.Nat.{ℕ, suc, ◌+◌, ◌^◌, ◌≤◌, ◌<◌}
 use mathlib.Core.Path.{◌≡◌, refl, sym, ap, ◌∙◌, subst}
 use mathlib.Core.Logic.{⊎_elim}
 use mathlib.Core.List.{List, [], ◌∷◌, ◌++◌, map, map-append}
-use lib.ListN.{length, get_or, take, drop, set, length-set, replicate, length-replicate}
-use lib.Seq.{drop-cons, take-suc-set, get_or-set_same, get_or-set_other}
+use lib.ListN.{length, get_or, take, set, length-set, replicate, length-replicate}
+use lib.Seq.{take-suc-set, get_or-set_same, get_or-set_other}
 use borrow.Author.Tests.{eq-eqb, ne_eqb}
 use native.Mathlib.Numerals.{add-one}
 use native.Mathlib.Decide.{ℕ_discrete}

@@ -1,5 +1,5 @@
 -- The marking of a joined collection as its inner contracts say it: from the frame's handles, the values of a row's registers, and what pins.
-use Rattle.std.specs.Prelude.{◌≡◌, Bool, true, List, [], ◌∷◌, ◌++◌, ℕ, ◌≤◌, length, get_or, ltb, eqb, if◌then◌else◌}
+use Rattle.std.specs.Prelude.{Bool, List, [], ◌∷◌, ◌++◌, ℕ, length, get_or, ltb, eqb, if◌then◌else◌}
 use Rattle.std.proofs.Math.Option.{Option, none, some}
 use Rattle.word.specs.Ones.{passing}
 use Rattle.rows.specs.Row.{bit_in}

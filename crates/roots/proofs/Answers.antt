@@ -1,16 +1,21 @@
 -- From the steps' contracts to the answers of the calls: one law for each way out. Assumes nothing.
 use mathlib.Core.Path.{◌≡◌, refl, sym, ap, ap₂, ◌∙◌, fun_ext}
 use mathlib.Core.Logic.{◌⊎◌, inl, inr}
-use mathlib.Core.Bool.{Bool, true, false, not, ◌&&◌}
-use mathlib.Core.List.{List}
+use mathlib.Core.Bool.{Bool, true, false, not, ◌&&◌, true≢false}
+use mathlib.Core.List.{List, []}
 use Prim.Native.Nat.{ℕ, ◌+◌, ◌-◌, ◌*◌, ◌/◌, ◌≤◌, ◌<◌}
 use native.Mathlib.Omega.{arith}
 use native.Mathlib.Nat.{add-mul, mul_assoc, mul_comm}
 use lib.ListN.{length, get_or, take, drop, replicate, length-take, length-drop}
 use lib.Dec.{ltb}
 use borrow.Author.Tests.{lt-ltb, le-ltb, eq-eqb, ne_eqb}
-use borrow.Author.Count.{below_more}
-use Rattle.std.specs.Prelude.{if◌then◌else◌}
+use Rattle.std.specs.Prelude.{if◌then◌else◌, Option, Some, None, unwrap_or}
+use Rattle.std.specs.Bool.{nat_le, nat_lt}
+use Rattle.std.specs.List.{AllWithin, HoldsAt}
+use Rattle.std.specs.Option.{MatchOption}
+use Rattle.std.specs.Simd.{first_chunks}
+use Rattle.std.proofs.lemmas.Bool.Decides.{nat_tests}
+use Rattle.std.proofs.lemmas.List.{get_or-take}
 use Rattle.word.specs.Result.{Result, ok, refused}
 use Rattle.word.specs.Put.{put}
 use Rattle.word.specs.Ones.{passing}
@@ -20,7 +25,8 @@ use Rattle.rows.specs.Row.{bit_in, part, listed}
 use Rattle.rows.specs.Listing.{listing, listed_into}
 use Rattle.flow.specs.Function.{Function, Block, Instruction, LiveList, holds, inst, start, end, safepoint}
 use Rattle.flow.specs.Dataflow.{back, out, live_before, holder, live_row, track}
-use Rattle.word.proofs.Bools.{either, both-and}
+use Rattle.word.proofs.Bools.{either, and_both, both-and}
+use Rattle.word.proofs.ChunkLaws.{pair-parts}
 use Rattle.flow.proofs.Lists.{passing-same, some_at, at_some}
 use Rattle.flow.proofs.Validity.{held, holder-is, holds_parts, parts-holds, safepoint-held, row_list, map-unique}
 use Rattle.roots.specs.View.{view, formed}
@@ -172,22 +178,35 @@ module _ (l : Lent) (t : ℕ → Bool) where
 
 -- ---- the block of an instruction
 
-pub record Seeks (bs : List ℕ) (nb pc b : ℕ) : Type 0 where
-  pub high : b ≤ nb
-  pub none : (t : ℕ) → t < b → get_or bs (2 * t) 0 ≤ pc → pc < get_or bs (2 * t + 1) 0 → ⊥
+-- a row of two: a block that holds instruction pc
+abbrev pub holds_pc : ℕ → List ℕ → Bool
+holds_pc pc row = nat_le (get_or row 0 0) pc && nat_lt pc (get_or row 1 0)
 
-pub seeks-none : (bs : List ℕ) (nb pc : ℕ) → Seeks bs nb pc 0
-seeks-none bs nb pc = record { high = omega arith; none = λ t h. absurd (omega arith) }
+pc-inside : (st e pc : ℕ) → true ≡ (nat_le st pc && nat_lt pc e) → (st ≤ pc) × (pc < e)
+pc-inside st e pc h = let p = and_both (nat_le st pc) (nat_lt pc e) (sym h) in let low = p.0 in let high = p.1 in (grind (arith, nat_tests), grind (arith, nat_tests))
 
-module _ {bs : List ℕ} {nb pc b : ℕ} (inv : Seeks bs nb pc b) where
-  pub seeks-on : b < nb → (get_or bs (2 * b) 0 ≤ pc → pc < get_or bs (2 * b + 1) 0 → ⊥) → Seeks bs nb pc (b + 1)
-  seeks-on h z = record { high = omega arith; none = below_more (λ (t : ℕ). get_or bs (2 * t) 0 ≤ pc → pc < get_or bs (2 * t + 1) 0 → ⊥) b inv.none z }
+pc-outside : (st e pc : ℕ) → false ≡ (nat_le st pc && nat_lt pc e) → st ≤ pc → pc < e → ⊥
+pc-outside st e pc h l m = let low : nat_le st pc ≡ true = grind (arith, nat_tests) in let high : nat_lt pc e ≡ true = grind (arith, nat_tests) in true≢false (sym (both-and (nat_le st pc) (nat_lt pc e) low high) ∙ sym h)
 
-  pub seeks-found : b < nb → (st e : ℕ) → st ≡ get_or bs (2 * b) 0 → e ≡ get_or bs (2 * b + 1) 0 → st ≤ pc → pc < e → Found bs nb pc b
-  seeks-found h st e est ee l m = record { here = λ k. (omega arith, omega arith); none = λ k. absurd (omega arith) }
+module _ (bs : List ℕ) (nb pc : ℕ) (room : nb * 2 ≤ length bs) (rows : List (List ℕ)) (front : rows ≡ first_chunks 2 (length bs / 2) bs) (many : length rows ≡ length bs / 2) where
+  parts : (b : ℕ) → b < nb → (get_or (get_or (take nb rows) b []) 0 0 ≡ get_or bs (2 * b) 0) × (get_or (get_or (take nb rows) b []) 1 0 ≡ get_or bs (2 * b + 1) 0)
+  parts b h =
+      let p = pair-parts bs rows front b [] (omega arith) in
+      let t = get_or-take nb rows b [] h in
+      (ap (λ (row : List ℕ). get_or row 0 0) t ∙ p.0, ap (λ (row : List ℕ). get_or row 1 0) t ∙ p.1)
 
-  pub seeks-end : nb ≤ b → Found bs nb pc nb
-  seeks-end h = record { here = λ k. absurd (omega arith); none = λ k t l. inv.none t (omega arith) }
+  pub block-found : (r : Option ℕ) → MatchOption r (AllWithin (λ row. false ≡ holds_pc pc row) (take nb rows) 0 (length (take nb rows)))
+      (λ i. (i < length (take nb rows)) × HoldsAt (λ row. true ≡ holds_pc pc row) (take nb rows) i × AllWithin (λ row. false ≡ holds_pc pc row) (take nb rows) 0 i) → Found bs nb pc (unwrap_or r nb)
+  block-found None h = record {
+    here = λ k. absurd (omega arith);
+    none = λ k b l m w. let p = parts b l in let no : false ≡ holds_pc pc (get_or (take nb rows) b []) = h b [] (omega arith) (omega (arith, many, length-take nb rows)) in
+        pc-outside (get_or (get_or (take nb rows) b []) 0 0) (get_or (get_or (take nb rows) b []) 1 0) pc no (omega (arith, p.0)) (omega (arith, p.1));
+  }
+  block-found (Some b) h =
+      let l : b < nb = omega (arith, h.0, many, length-take nb rows) in
+      let p = parts b l in
+      let yes = pc-inside (get_or (get_or (take nb rows) b []) 0 0) (get_or (get_or (take nb rows) b []) 1 0) pc (h.1 []) in
+      record { here = λ k. (omega (arith, p.0, yes.0), omega (arith, p.1, yes.1)); none = λ k. absurd (omega arith) }
 
 pub seen-holder : (t : ℕ → Bool) (kinds ends refs bs classes : List ℕ) (pc b : ℕ) → holder (view kinds ends refs bs classes).blocks pc 0 ≡ b → holder (seen t kinds ends refs bs classes).blocks pc 0 ≡ b
 unfolding track

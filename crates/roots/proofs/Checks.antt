@@ -1,20 +1,24 @@
 -- Tests over every index, and what they say together: the test of the lent columns. Assumes nothing.
 use mathlib.Core.Path.{◌≡◌, refl, sym, ap, ◌∙◌}
-use mathlib.Core.Logic.{◌↔◌}
-use mathlib.Core.Bool.{Bool, true, false, true≢false, false≢true}
-use mathlib.Core.List.{List}
+use mathlib.Core.Logic.{◌↔◌, ⊎_elim}
+use mathlib.Core.Bool.{Bool, true, false, ◌||◌, true≢false, false≢true}
+use mathlib.Core.List.{List, []}
 use Prim.Native.Nat.{ℕ, ◌+◌, ◌*◌, ◌/◌, ◌%◌, ◌≤◌, ◌<◌}
 use native.Mathlib.Omega.{arith}
 use native.Mathlib.Decide.{dec_lt, dec_le}
-use native.Mathlib.Nat.{div-lt_iff_lt-mul, mul-zero}
 use lib.ListN.{length, get_or, get_or-eq_default}
 use lib.Dec.{leb}
 use borrow.Author.Count.{below_more}
 use borrow.Author.Tests.{leb-true, le-leb}
 use Rattle.flow.specs.Function.{Block, Instruction, apart}
-use Rattle.word.proofs.Bools.{bool-ext}
-use Rattle.word.proofs.ListLaws.{all-at, at_all, get_d_tabulate}
-use Rattle.word.specs.Lists.{all}
+use Rattle.std.specs.Bool.{nat_le}
+use Rattle.std.specs.List.{list_all}
+use Rattle.std.specs.Simd.{first_chunks}
+use Rattle.std.proofs.lemmas.Bool.Decides.{nat_tests}
+use Rattle.word.proofs.Bools.{bool-ext, or_cases, or_left, or_right}
+use Rattle.word.specs.Lists.{all, all_below}
+use Rattle.word.proofs.ListLaws.{all-at, at_all, get_d_tabulate, below_at, at-below}
+use Rattle.word.proofs.ChunkLaws.{every-at, pair-parts}
 use Rattle.flow.proofs.Validity.{apart-one, one_apart}
 use Rattle.roots.specs.View.{start_of, inst_at, view, formed}
 use Rattle.roots.specs.Columns.{Lists, In, Separate, AtMost, Inside}
@@ -47,8 +51,30 @@ module _ {P : ℕ → Type 0} {n i : ℕ} (inv : Upto P n i) where
 abbrev pub Fine : List ℕ → List ℕ → ℕ → Type 0
 Fine ends refs k = (start_of ends k ≤ get_or ends k 0) × (get_or ends k 0 ≤ length refs)
 
-abbrev pub Ends : List ℕ → ℕ → ℕ → Type 0
-Ends bs count b = get_or bs (2 * b) 0 < get_or bs (2 * b + 1) 0 → get_or bs (2 * b + 1) 0 ≤ count
+-- a row of two: a block that is empty or ends within the code
+abbrev pub ends_inside : ℕ → List ℕ → Bool
+ends_inside count row = nat_le (get_or row 1 0) (get_or row 0 0) || nat_le (get_or row 1 0) count
+
+ends-told : (st e count : ℕ) → (nat_le e st || nat_le e count) ≡ true → st < e → e ≤ count
+ends-told st e count t l = ⊎_elim (λ w. grind (arith, nat_tests)) (λ w. grind (arith, nat_tests)) (or_cases (nat_le e st) (nat_le e count) t)
+
+told-ends : (st e count : ℕ) → (st < e → e ≤ count) → (nat_le e st || nat_le e count) ≡ true
+told-ends st e count f = elim (dec_le e st) [
+  | yes l ↦ or_left (nat_le e st) (nat_le e count) (grind (arith, nat_tests))
+  | no n ↦ or_right (nat_le e st) (nat_le e count) (let l : e ≤ count = f (omega arith) in grind (arith, nat_tests))
+]
+
+pub inside-told : (bs : List ℕ) (count : ℕ) (rows : List (List ℕ)) → rows ≡ first_chunks 2 (length bs / 2) bs → length rows ≡ length bs / 2 → (r : Bool) → r ≡ list_all (ends_inside count) rows → (r ≡ true) ↔ Inside bs count
+inside-told bs count rows front many r told = (
+  λ t b l m. ends-told (get_or bs (2 * b) 0) (get_or bs (2 * b + 1) 0) count (below_at at (length bs / 2) (sym same ∙ sym told ∙ t) b l) m,
+  λ v. told ∙ same ∙ at-below at (length bs / 2) (λ b l. told-ends (get_or bs (2 * b) 0) (get_or bs (2 * b + 1) 0) count (v b l)),
+)
+  where
+    at : ℕ → Bool
+    at b = nat_le (get_or bs (2 * b + 1) 0) (get_or bs (2 * b) 0) || nat_le (get_or bs (2 * b + 1) 0) count
+
+    same : list_all (ends_inside count) rows ≡ all_below at (length bs / 2)
+    same = every-at (ends_inside count) [] rows at (λ b l. let p = pair-parts bs rows front b [] (omega arith) in λ i. nat_le (p.1 i) (p.0 i) || nat_le (p.1 i) count) ∙ ap (all_below at) many
 
 abbrev pub ClearBelow : List ℕ → ℕ → Type 0
 ClearBelow bs a = (b p : ℕ) → b < a → In bs a p → In bs b p → ⊥
@@ -68,19 +94,6 @@ apart_of bs nb size f = record { one = λ a b p ka kb h i j k. go a b p (omega a
 pub clear-below : (bs : List ℕ) (nb a : ℕ) → nb ≡ length bs / 2 → a < nb → Separate bs → ClearBelow bs a
 clear-below bs nb a size ka sep b p l x y =
     let e : a ≡ b = sep.one a b p (omega arith) (omega arith) x.0 x.1 y.0 y.1 in omega arith
-
-pub enough-none : (len rows words : ℕ) → words ≡ 0 → rows * words ≤ len
-enough-none len rows words e = let z : rows * words ≡ 0 = ap (λ (u : ℕ). rows * u) e ∙ mul-zero rows in omega arith
-
-pub enough-not : (len rows words : ℕ) → (words ≡ 0 → ⊥) → len / words < rows → rows * words ≤ len → ⊥
-enough-not len rows words ne h l = let m = (div-lt_iff_lt-mul {k = words} {x = len} {y = rows} (omega arith)).0 h in omega (arith, m)
-
-pub enough-yes : (len rows words : ℕ) → (words ≡ 0 → ⊥) → rows ≤ len / words → rows * words ≤ len
-enough-yes len rows words ne h = go (dec_le (rows * words) len)
-  where
-    go : Dec (rows * words ≤ len) → rows * words ≤ len
-    go (yes l) = l
-    go (no l) = let m : len / words < rows = (div-lt_iff_lt-mul {k = words} {x = len} {y = rows} (omega arith)).1 (omega arith) in absurd (omega (arith, m))
 
 pub above : (a b : ℕ) → (a ≤ b → ⊥) → b < a
 above a b h = omega arith

@@ -8,7 +8,7 @@ use native.Mathlib.Numerals.{add-one}
 use lib.ListN.{length, get_or}
 use lib.Seq.{slice, slice-cons, slice_empty}
 use lib.Dec.{eqb, ltb}
-use borrow.Author.Tests.{eqb-true, eq-eqb, ne_eqb, lt-ltb, le-ltb, ltb-true}
+use borrow.Author.Tests.{eqb-true, eq-eqb, lt-ltb, ltb-true}
 use Rattle.rows.specs.Row.{bit_in}
 use Rattle.flow.specs.Function.{Function, Instruction, has, inst, reads, writes}
 use Rattle.flow.specs.Dataflow.{turn, back, killed, asked, only}
@@ -19,14 +19,11 @@ use Rattle.flow.proofs.Tracking.{inst-track, reads-track, writes-track}
 use Rattle.roots.specs.View.{start_of, list_at, inst_at, view}
 use Rattle.roots.specs.Columns.{wanted, seen, Lists}
 use Rattle.roots.specs.declared.Tracked.{Tracked}
-use Rattle.roots.specs.declared.Tracked.TheVariants.{References, Handles, All}
+use Rattle.roots.specs.declared.Tracked.TheVariants.{References}
 
 -- a register that takes part is one that the function has
 pub asked-known : (t : ℕ → Bool) (cs : List ℕ) (r : ℕ) → asked t cs r ≡ true → r < length cs
 asked-known t cs r h = ltb-true r (length cs) (and_both (ltb r (length cs)) (t (get_or cs r 0)) h).0
-
-pub asked-past : (t : ℕ → Bool) (cs : List ℕ) (r : ℕ) → length cs ≤ r → false ≡ asked t cs r
-asked-past t cs r h = sym (ap (λ (u : Bool). u && t (get_or cs r 0)) (le-ltb r (length cs) h))
 
 pub asked-class : (t : ℕ → Bool) (cs : List ℕ) (r : ℕ) (x : Bool) → r < length cs → x ≡ t (get_or cs r 0) → x ≡ asked t cs r
 asked-class t cs r x h e = e ∙ sym (ap (λ (u : Bool). u && t (get_or cs r 0)) (lt-ltb r (length cs) h))
@@ -289,12 +286,3 @@ next_fits {ends} {refs} ok k m e h em ee =
 
 pub want-pointer : (w : Tracked) (k : ℕ) → w ≡ References → k ≡ 2 → true ≡ wanted w k
 want-pointer w k e h = sym (ap (λ (x : Tracked). wanted x k) e ∙ ap (λ (x : Bool). x || eqb k 4) (eq-eqb k 2 h))
-
-pub want-other : (w : Tracked) (k : ℕ) → w ≡ References → (k ≡ 2 → ⊥) → eqb k 4 ≡ wanted w k
-want-other w k e h = sym (ap (λ (x : Tracked). wanted x k) e ∙ ap (λ (x : Bool). x || eqb k 4) (ne_eqb k 2 h))
-
-pub want-handle : (w : Tracked) (k : ℕ) → w ≡ Handles → eqb k 4 ≡ wanted w k
-want-handle w k e = sym (ap (λ (x : Tracked). wanted x k) e)
-
-pub want-all : (w : Tracked) (k : ℕ) → w ≡ All → true ≡ wanted w k
-want-all w k e = sym (ap (λ (x : Tracked). wanted x k) e)

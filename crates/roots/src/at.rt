@@ -1,5 +1,5 @@
 // The registers that are live before one safepoint.
-ghost use Rattle.std.specs.Prelude.{◌≡◌, Bool, true, false, ◌⊎◌, List, ℕ, ◌+◌, ◌-◌, ◌*◌, ◌/◌, ◌≤◌, ◌<◌, length, get_or, take, drop, replicate, is_some, unwrap_or, IfSome};
+ghost use Rattle.std.specs.Prelude.{◌≡◌, ℕ, ◌+◌, ◌-◌, ◌*◌, ◌≤◌, ◌<◌, length, get_or, take, drop, replicate, is_some, unwrap_or, IfSome};
 ghost use Rattle.rows.specs.Listing.{listing, listed_into};
 ghost use Rattle.flow.specs.Function.{safepoint};
 ghost use Rattle.flow.specs.Dataflow.{live_before};
@@ -18,14 +18,10 @@ pub fn find_block(blocks: &Blocks, pc: usize) -> Option<usize>
     ensures found { Found blocks.now.bounds.now blocks.now.count pc (unwrap_or result blocks.now.count) }
     ensures inside { IfSome result (λ b. b < blocks.now.count) }
 {
-    for b in 0..blocks.count {
-        let st = blocks.bounds[2 * b] as usize;
-        let e = blocks.bounds[2 * b + 1] as usize;
-        if st <= pc && pc < e {
-            return Some(b);
-        }
-    }
-    None
+    let (rows, _) = blocks.bounds.as_chunks::<2>();
+    rows[..blocks.count]
+        .iter()
+        .position(|&[start, end]| start as usize <= pc && pc < end as usize)
 }
 
 // The block that holds the safepoint pc. None: pc is no safepoint inside a block.

@@ -1,5 +1,5 @@
 // The test of a lent function: number 15 otherwise.
-ghost use Rattle.std.specs.Prelude.{◌≡◌, Bool, true, false, ◌↔◌, ◌*◌, ◌/◌, ◌≤◌, ◌<◌, length};
+ghost use Rattle.std.specs.Prelude.{◌≡◌, true, false, ◌↔◌, ◌*◌, ◌/◌, ◌≤◌, ◌<◌, length};
 ghost use Rattle.roots.specs.View.{formed};
 ghost use Rattle.roots.specs.Calls.{need};
 ghost use Rattle.roots.specs.Plans.{lent};
@@ -33,20 +33,12 @@ fn lists_fit(ends: &[u32], refs: &[u32]) -> bool
 }
 
 // Whether the nonempty blocks end within the code.
-fn blocks_inside(blocks: &[u32], nb: usize, count: usize) -> bool
-    requires { nb ≡ length blocks.now / 2 }
+fn blocks_inside(blocks: &[u32], count: usize) -> bool
     ensures { (result ≡ true) ↔ Inside blocks.now count }
 {
-    for b in 0..nb {
-        let st = blocks[2 * b] as usize;
-        let e = blocks[2 * b + 1] as usize;
-        if st < e {
-            if count < e {
-                return false;
-            }
-        }
-    }
-    true
+    let (rows, _) = blocks.as_chunks::<2>();
+    rows.iter()
+        .all(|&[start, end]| start >= end || end as usize <= count)
 }
 
 // Marks the instructions from..to, one bit each. Whether none of them was marked before; where one was, the marking ends.
@@ -64,16 +56,15 @@ fn mark_block(marks: &mut [u64], from: usize, to: usize) -> bool
 }
 
 // Whether no two blocks share an instruction: each instruction is marked at most once.
-fn blocks_apart(blocks: &[u32], nb: usize) -> bool
-    requires { (nb ≡ length blocks.now / 2) × Inside blocks.now 65536 }
+fn blocks_apart(blocks: &[u32]) -> bool
+    requires { Inside blocks.now 65536 }
     ensures { (result ≡ true) ↔ Separate blocks.now }
 {
     // Kept: an array, since libraries have no heap; it has a bit for each instruction that a function may have.
     let mut marks = [0u64; 1024];
-    for b in 0..nb {
-        let st = blocks[2 * b] as usize;
-        let e = blocks[2 * b + 1] as usize;
-        if !mark_block(&mut marks, st, e) {
+    let (rows, _) = blocks.as_chunks::<2>();
+    for &[start, end] in rows {
+        if !mark_block(&mut marks, start as usize, end as usize) {
             return false;
         }
     }
@@ -116,10 +107,10 @@ pub fn check_function(code: &Code) -> bool
     if !all_at_most(classes, 4) {
         return false;
     }
-    if !blocks_inside(blocks, nb, kinds.len()) {
+    if !blocks_inside(blocks, kinds.len()) {
         return false;
     }
-    blocks_apart(blocks, nb)
+    blocks_apart(blocks)
 }
 
 // Whether rows of so many words fit.

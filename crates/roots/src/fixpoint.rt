@@ -1,7 +1,7 @@
 // The rows of all blocks in one scratch: gen and kill, the live-out of a block, and the passes to the least fixpoint.
 // Kept: the scratch goes beside the `Flow` or `Plan`, with `Room` and `b < count` as clauses. Of a `&mut` in a struct of both, a caller would know no more than
 // the length after a step that lends a part of it on.
-ghost use Rattle.std.specs.Prelude.{◌≡◌, Bool, true, false, ◌||◌, List, ℕ, ◌+◌, ◌-◌, ◌*◌, ◌/◌, ◌≤◌, ◌<◌, length, get_or};
+ghost use Rattle.std.specs.Prelude.{◌≡◌, Bool, true, false, ◌||◌, List, ℕ, ◌+◌, ◌-◌, ◌*◌, ◌≤◌, ◌<◌, length, get_or};
 ghost use Rattle.flow.specs.Function.{existing};
 ghost use Rattle.flow.specs.Dataflow.{back, killed, any_of, out};
 ghost use Rattle.roots.specs.Columns.{wanted, Outside, cell, live_at, Linked, Chains, Begun, Built, Pass, Solved, Fixed};

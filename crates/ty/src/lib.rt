@@ -2,7 +2,7 @@
 #![tactic(auto)]
 
 ghost use Rattle.std.specs.Prelude.{◌≡◌, ◌↔◌, ◌∷◌, true, length, get_or};
-ghost use Prim.Native.Nat.{ℕ, suc, ◌+◌, ◌-◌, ◌*◌, ◌/◌, ◌≤◌, ◌<◌, ◌^◌, max, min};
+ghost use Prim.Native.Nat.{◌+◌, ◌-◌, ◌*◌, ◌/◌, ◌≤◌, ◌<◌, max, min};
 ghost use Rattle.ty.specs.Types.{type_at};
 ghost use Rattle.ty.specs.Words.{word_of, rank, round_up};
 ghost use Rattle.ty.specs.Scalars.{scalar_size, elem_size, logic_leaf};
@@ -417,39 +417,17 @@ impl<'a> Table<'a> {
         ensures { result ≡ all_below (good_type_at self.now.types.now (length self.now.fields.now / 2)) (length self.now.types.now / 4) }
     {
         let nf = self.fields.len() / 2;
-        let n = self.types.len() / 4;
-        for i in 0..n {
-            let at = 4 * i;
-            if !type_good(
-                nf,
-                self.types[at],
-                self.types[at + 1],
-                self.types[at + 2],
-                self.types[at + 3],
-            ) {
-                return false;
-            }
-        }
-        true
+        let (rows, _) = self.types.as_chunks::<4>();
+        rows.iter()
+            .all(|&[class, a, b, c]| type_good(nf, class, a, b, c))
     }
 
     fn consts_good(&self) -> bool
         ensures { result ≡ all_below (good_const_at self.now.consts.now (length self.now.bytes.now)) (length self.now.consts.now / 3) }
     {
         let nb = self.bytes.len();
-        let n = self.consts.len() / 3;
-        for i in 0..n {
-            let at = 3 * i;
-            if !const_good(
-                nb,
-                self.consts[at],
-                self.consts[at + 1],
-                self.consts[at + 2],
-            ) {
-                return false;
-            }
-        }
-        true
+        let (rows, _) = self.consts.as_chunks::<3>();
+        rows.iter().all(|&[flag, a, n]| const_good(nb, flag, a, n))
     }
 
     // The count of type t, one level more than the counts.

@@ -7,6 +7,6 @@ use Rattle.trace.specs.Emit.{raw_of, into, slots_resolve, emitting}
 use Rattle.frame.specs.Frame.{entries_of, entries_roots}
 use Rattle.frame.proofs.trace_entries.Given as goal
 
-abbrev pub invariant-loop-i : goal.invariant-loop-i
-invariant-loop-i l = emitting (into l.sink (slots_resolve l.here)) (raw_of l.marks l.to l.m) (entries_roots (lent l.table) l.want l.memory (entries_of (drop (3 * l.i) l.map)))
+abbrev pub invariant-loop-offset : goal.invariant-loop-offset
+invariant-loop-offset l = emitting (into l.sink (slots_resolve l.here)) (raw_of l.marks l.to l.m) (entries_roots (lent l.table) l.want l.memory (entries_of (drop (3 * l.offset-index) l.map)))
     ≡ emitting (into l.sink (slots_resolve l.here)) (raw_of l.initial.marks l.initial.to l.n) (entries_roots (lent l.table) l.want l.memory (entries_of l.map))

@@ -1,11 +1,12 @@
--- `heap::start_of` meets its contract, by its test.
-use Rattle.std.proofs.Common.{sym, ◌∙◌, arith}
-use Rattle.word.proofs.RunLaws.{run-get}
-use Rattle.heap.proofs.Packing.{start-zero, start-one}
+-- `heap::start_of` meets its contract: the run that it cuts is the ends.
+use mathlib.Core.Path.{◌≡◌, ap, ◌∙◌}
+use Prim.Native.Nat.{ℕ, ◌*◌, ◌-◌}
+use lib.ListN.{take, drop}
+use native.Mathlib.Omega.{arith}
+use Rattle.word.specs.Run.{run}
+use Rattle.heap.specs.Packing.{start_of}
 use Rattle.heap.proofs.start_of.Goals as goal
 
-pub returns-then-i-eq0 : goal.returns-then-i-eq0
-returns-then-i-eq0 c = start-zero _ _ c.if-i-eq0.true
-
-pub returns-else-i-eq0 : goal.returns-else-i-eq0
-returns-else-i-eq0 c = sym (run-get _ _ _ _ (omega arith)) ∙ start-one _ _ c.if-i-eq0.false
+pub returns : goal.returns
+unfolding run
+returns c = c.begins.ensures ∙ ap (λ (n : ℕ). start_of (take n (drop c.args.s c.args.wide.now)) c.args.i) (let e : 2 * c.args.s - c.args.s ≡ c.args.s = omega arith in e)

@@ -10,9 +10,9 @@ bounds-pairs-i c = pair-inside _ _ c.binary_search_by_key.ensures.bound _ c.in-O
 pub returns-in-Ok : goal.returns-in-Ok
 returns-in-Ok c =
     let by_key = c.binary_search_by_key.ensures.position (λ pair. get_or pair 0 0) (answers_always _ _ _ (λ f a r g called. search rules)) in
-    pair-found c.args.self.list.now c.args.x c.args.self.paired _ c.as_chunks.ensures.front _ c.binary_search_by_key.ensures.bound by_key _ c.in-Ok.is _
+    pair-found c.args.self.list.now c.args.x c.args.self.paired _ c.as_chunks.ensures.front c.as_chunks.ensures.front_len _ c.binary_search_by_key.ensures.bound by_key _ c.in-Ok.is _
 
 pub returns-in-Err : goal.returns-in-Err
 returns-in-Err c =
     let by_key = c.binary_search_by_key.ensures.position (λ pair. get_or pair 0 0) (answers_always _ _ _ (λ f a r g called. search rules)) in
-    pair-missed c.args.self.list.now c.args.x c.args.self.paired _ c.as_chunks.ensures.front _ c.binary_search_by_key.ensures.bound by_key _ c.in-Err.is
+    pair-missed c.args.self.list.now c.args.x c.args.self.paired _ c.as_chunks.ensures.front c.as_chunks.ensures.front_len _ c.binary_search_by_key.ensures.bound by_key _ c.in-Err.is

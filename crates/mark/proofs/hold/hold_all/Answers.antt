@@ -1,5 +1,4 @@
 use mathlib.Core.Path.{refl}
-use native.Mathlib.Omega.{arith}
 use Rattle.mark.proofs.Holding.{held_next, held-end}
 use Rattle.mark.proofs.hold.hold_all.Goals as goal
 

@@ -1,6 +1,6 @@
 -- `mark::joined::mark_frame` meets its contract.
 use Prim.Native.Nat.{ℕ}
-use mathlib.Core.Path.{sym, ap, ◌∙◌}
+use mathlib.Core.Path.{sym, ap}
 use mathlib.Core.List.{List, ◌++◌}
 use Rattle.ty.specs.View.{lent}
 use Rattle.frame.specs.Frame.{entries_of, entries_words}

@@ -1,20 +1,12 @@
-use mathlib.Core.Path.{refl}
-use native.Mathlib.Omega.{arith}
-use Rattle.roots.proofs.Answers.{seeks-none, seeks-on, seeks-found, seeks-end}
+-- `roots::at::find_block` meets its contract.
+use mathlib.Core.Bool.{true, false}
+use mathlib.Core.Path.{◌≡◌}
+use Rattle.std.proofs.Common.{rules}
+use Rattle.std.proofs.lemmas.Iterator.{YieldsList-from_slice, IsFirst-from_position}
+use Rattle.roots.proofs.Answers.{holds_pc, block-found}
 use Rattle.roots.proofs.at.find_block.Goals as goal
-use Rattle.roots.proofs.at.find_block.Goals.{else-st-pc-via-then-st-pc+else-pc-e, else-st-pc-via-else-st-pc}
-
-pub loop-b-init : goal.loop-b-init
-loop-b-init c = seeks-none _ _ _
-
-pub returns-then-pc-e-clause-found : goal.returns-then-pc-e-clause-found
-returns-then-pc-e-clause-found c = seeks-found c.loop-b.invariant c.loop-b-test.true _ _ refl refl c.if-st-pc.true c.if-pc-e.true
-
-pub loop-b-preserved : goal.loop-b-preserved
-loop-b-preserved c = seeks-on c.loop-b.invariant c.loop-b-test.true (λ l m. elim c.else-st-pc.branch [
-  | else-st-pc-via-then-st-pc+else-pc-e w ↦ omega (arith, w.if-pc-e.false)
-  | else-st-pc-via-else-st-pc w ↦ omega (arith, w.if-st-pc.false)
-])
 
 pub returns-clause-found : goal.returns-clause-found
-returns-clause-found c = seeks-end c.loop-b.invariant c.loop-b-test.false
+returns-clause-found c =
+    block-found _ _ _ c.args.blocks.now.within _ c.as_chunks.ensures.front c.as_chunks.ensures.front_len _
+    (IsFirst-from_position _ _ _ (λ row. true ≡ holds_pc c.args.pc row) (λ row. false ≡ holds_pc c.args.pc row) c.position.ensures.ran (YieldsList-from_slice _ c.iter.ensures.rest) (λ x q called. search rules) (λ x q called. search rules))

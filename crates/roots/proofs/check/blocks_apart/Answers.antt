@@ -1,29 +1,28 @@
 use native.Mathlib.Omega.{arith}
-use mathlib.Core.Path.{refl, sym}
+use mathlib.Core.Path.{refl}
+use mathlib.Core.List.{[]}
+use Rattle.word.proofs.ChunkLaws.{pair-parts}
 use Rattle.roots.proofs.Checks.{holds, fails}
 use Rattle.roots.proofs.Marks.{marked-is, held_none, held_on, held-end, held-met}
 use Rattle.roots.proofs.check.blocks_apart.Goals as goal
 
-pub loop-b-init : goal.loop-b-init
-loop-b-init c = held_none _ _ _ 1024 refl refl
-
-pub bounds-blocks-b : goal.bounds-blocks-b
-bounds-blocks-b c = omega (arith, c.requires.0)
-
-pub bounds-blocks-b-in-loop-b : goal.bounds-blocks-b-in-loop-b
-bounds-blocks-b-in-loop-b c = omega (arith, c.requires.0)
-
-pub slice_bounds-mark_block-end : goal.slice_bounds-mark_block-end
-slice_bounds-mark_block-end c = sym c.loop-b.invariant.len
+pub loop-start-init : goal.loop-start-init
+loop-start-init c = held_none _ _ _ 1024 refl refl
 
 pub mark_block-requires : goal.mark_block-requires
-mark_block-requires c = λ h. omega (arith, c.loop-b.invariant.len, c.requires.1 c.loop-b.b (omega (arith, c.requires.0, c.loop-b-test.true)) (omega arith))
+mark_block-requires c =
+    let p = pair-parts _ _ c.as_chunks.ensures.front c.loop-start.start-index [] (omega (arith, c.as_chunks.ensures.front_len, c.loop-start-test.true)) in
+    λ h. omega (arith, c.loop-start.invariant.len, p.0, p.1, c.requires c.loop-start.start-index (omega (arith, c.as_chunks.ensures.front_len, c.loop-start-test.true)) (omega arith))
 
 pub returns-then-not-mark_block : goal.returns-then-not-mark_block
-returns-then-not-mark_block c = fails (held-met c.loop-b.invariant _ _ _ c.requires.0 c.loop-b-test.true refl refl (marked-is c.if-not-mark_block.true c.mark_block.ensures))
+returns-then-not-mark_block c =
+    let p = pair-parts _ _ c.as_chunks.ensures.front c.loop-start.start-index [] (omega (arith, c.as_chunks.ensures.front_len, c.loop-start-test.true)) in
+    fails (held-met c.loop-start.invariant _ _ _ refl (omega (arith, c.as_chunks.ensures.front_len, c.loop-start-test.true)) p.0 p.1 (marked-is c.if-not-mark_block.true c.mark_block.ensures))
 
-pub loop-b-preserved : goal.loop-b-preserved
-loop-b-preserved c = held_on c.loop-b.invariant _ _ _ c.loop-b-test.true refl refl c.mark_block.auto.marks (marked-is c.if-not-mark_block.false c.mark_block.ensures)
+pub loop-start-preserved : goal.loop-start-preserved
+loop-start-preserved c =
+    let p = pair-parts _ _ c.as_chunks.ensures.front c.loop-start.start-index [] (omega (arith, c.as_chunks.ensures.front_len, c.loop-start-test.true)) in
+    held_on c.loop-start.invariant _ _ _ (omega (arith, c.as_chunks.ensures.front_len, c.loop-start-test.true)) p.0 p.1 c.mark_block.auto.marks (marked-is c.if-not-mark_block.false c.mark_block.ensures)
 
 pub returns : goal.returns
-returns c = holds (held-end c.loop-b.invariant c.requires.0 c.loop-b-test.false)
+returns c = holds (held-end c.loop-start.invariant refl (omega (arith, c.as_chunks.ensures.front_len, c.loop-start-test.false)))

@@ -31,7 +31,7 @@ pub returns-then-not-blocks_inside : goal.returns-then-not-blocks_inside
 returns-then-not-blocks_inside c = is-formed c.args.code.now.kinds.now c.args.code.now.ends.now c.args.code.now.refs.now c.args.code.now.blocks.now c.args.code.now.classes.now _ (fails (λ v. refuted _ c.blocks_inside.ensures c.if-not-blocks_inside.true v.inside))
 
 pub blocks_apart-requires : goal.blocks_apart-requires
-blocks_apart-requires c = (c.block_count-nb.ensures, λ b k l. omega (arith, c.blocks_inside.ensures.0 c.if-not-blocks_inside.false b k l, c.if-kinds-gt65536.false))
+blocks_apart-requires c = λ b k l. omega (arith, c.blocks_inside.ensures.0 c.if-not-blocks_inside.false b k l, c.if-kinds-gt65536.false)
 
 pub returns : goal.returns
 returns c = is-formed c.args.code.now.kinds.now c.args.code.now.ends.now c.args.code.now.refs.now c.args.code.now.blocks.now c.args.code.now.classes.now _ (

@@ -1,18 +1,14 @@
-use mathlib.Core.Path.{◌∙◌, sym}
-use Rattle.ty.specs.Check.{good_const_at}
-use Rattle.ty.proofs.CheckLaws.{all_start, all-next, all-false, all_end}
+-- `ty::Table::consts_good` meets its contract.
+use mathlib.Core.Path.{◌∙◌}
+use lib.ListN.{length, get_or}
+use Rattle.std.proofs.Common.{rules}
+use Rattle.std.proofs.lemmas.Iterator.{YieldsList-from_slice}
+use Rattle.std.proofs.lemmas.Iterator.Search.{all_from_yields_List}
+use Rattle.ty.specs.Check.{good_const}
+use Rattle.ty.proofs.CheckLaws.{consts-passed}
 use Rattle.ty.proofs.Table.consts_good.Goals as goal
 
-pub loop-i-init : goal.loop-i-init
-loop-i-init c = all_start _
-
-pub returns-then-not-const_good : goal.returns-then-not-const_good
-unfolding good_const_at
-returns-then-not-const_good c = all-false _ _ _ c.loop-i-test.true (sym c.const_good.ensures ∙ c.if-not-const_good.true)
-
-pub loop-i-preserved : goal.loop-i-preserved
-unfolding good_const_at
-loop-i-preserved c = all-next _ _ c.loop-i.invariant (sym c.const_good.ensures ∙ c.if-not-const_good.false)
-
 pub returns : goal.returns
-returns c = all_end _ _ _ c.loop-i.auto.i-end c.loop-i-test.false c.loop-i.invariant
+returns c =
+    all_from_yields_List (λ r. good_const (length c.args.self.now.bytes.now) (get_or r 0 0) (get_or r 1 0) (get_or r 2 0)) _ _ c.all.result c.all.ensures.ran (YieldsList-from_slice _ c.iter.ensures.rest) (λ x b q called. search rules)
+    ∙ consts-passed _ _ _ c.as_chunks.ensures.front c.as_chunks.ensures.front_len
