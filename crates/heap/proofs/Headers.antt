@@ -1,5 +1,5 @@
 -- What the header of a well formed heap says of the heap. Assumes nothing.
-use Rattle.std.proofs.Common.{◌≡◌, ℕ, max, true, eqb, ltb, leb, length, sym, refl, ap, ◌∙◌, eq-eqb, ne_eqb}
+use Rattle.std.proofs.Common.{◌≡◌, ℕ, max, true, eqb, ltb, leb, length, sym, ap, ◌∙◌, eq-eqb, ne_eqb}
 use Rattle.heap.specs.Lent.{Lent, view, header_of}
 use Rattle.heap.specs.WellFormed.{well_formed}
 use Rattle.heap.specs.Calls.{gc_due, reclaim_due, has_quarantine, is_plain}

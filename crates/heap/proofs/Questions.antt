@@ -4,7 +4,7 @@ use native.Mathlib.Decide.{dec_lt, ℕ_discrete}
 use lib.ListN.{get_or-eq_default, length-map, get_or-map}
 use borrow.Author.Tests.{lt-leb}
 use Rattle.word.proofs.Bools.{positive}
-use Rattle.refusal.specs.Told.{Reply, refused_by, told, answered}
+use Rattle.refusal.specs.Told.{refused_by, told, answered}
 use Rattle.refusal.specs.declared.Answer.{Answer}
 use Rattle.refusal.specs.declared.Refusal.{Refusal}
 use Rattle.refusal.specs.declared.Refusal.TheVariants.{NothingThere}

@@ -1,5 +1,5 @@
 -- What the test of the lent lengths says. Assumes nothing.
-use Rattle.std.proofs.Common.{◌≡◌, ℕ, ◌*◌, ◌/◌, ◌≤◌, Bool, true, false, ◌&&◌, eqb, leb, ◌⊎◌, sym, refl, inl, inr, eq-eqb, eqb-true, le-leb, leb-true}
+use Rattle.std.proofs.Common.{◌≡◌, ℕ, ◌*◌, ◌/◌, ◌≤◌, true, false, ◌&&◌, eqb, leb, ◌⊎◌, sym, refl, inl, inr, eq-eqb, eqb-true, le-leb, leb-true}
 use Rattle.word.proofs.Bools.{and_both, either}
 use Rattle.heap.specs.Sizes.{sizes_fit}
 

@@ -1,5 +1,5 @@
 -- A call that succeeds, and one that is refused. Assumes nothing.
-use Rattle.std.proofs.Common.{◌≡◌, ℕ, ap}
+use Rattle.std.proofs.Common.{ℕ, ap}
 use Rattle.word.specs.Result.{ok, refused}
 use Rattle.refusal.specs.Told.{number_of, answered}
 use Rattle.refusal.specs.declared.Refusal.{Refusal}

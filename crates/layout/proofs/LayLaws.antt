@@ -36,9 +36,6 @@ rest-used T n e c a d l el v o u' eu h =
     let k = used-within T n e c (drop a d) v (ap (under T (layout_at T n) e c) (sym (rest a d)) ∙ sym el ∙ o) in
     omega (arith, length-drop a d)
 
-pub rest-word : (T : Table) (n e c a : ℕ) (d : List ℕ) (l : Lay) → l ≡ under T (layout_at T n) e c (take (length d - a) (drop a d)) → (v : Layout) → l ≡ Ok v → (u' : ℕ) → u' ≡ used_by c v.used → a ≤ length d → length d < 2 ^ 64 → a + u' < 2 ^ 64
-rest-word T n e c a d l el v o u' eu h g = let k = rest-used T n e c a d l el v o u' eu h in omega arith
-
 -- the dimensions that were counted
 module _ (k : ℕ) (d : List ℕ) (n : ℕ) (x : Dims) (ex : x ≡ dims_of k d n) (m : ℕ) (h : x ≡ Ok m) where
   pub dims-fit : 24 * k ≤ length d

@@ -27,9 +27,6 @@ use Rattle.layout.proofs.OffsetLaws.{Writing, writing_start, writing-same, writi
 
 -- ---- scalar_fields
 
-pub scalars-none : (T : Lent) (i : ℕ) → ScalarFields T i 0
-scalars-none T i j h = absurd (omega arith)
-
 module _ (T : Lent) (i n : ℕ) where
   last : (j : ℕ) (y : Bool) → leb (j + 1) n ≡ y → j < n + 1 → ScalarFields T i n → IsSome (scalar_part T (get_or T.fields.now (2 * (i + n)) 0) (get_or T.fields.now (2 * (i + n) + 1) 0)) → IsSome (scalar_part T (get_or T.fields.now (2 * (i + j)) 0) (get_or T.fields.now (2 * (i + j) + 1) 0))
   last j true q l g h = g j (omega (arith, leb-true (j + 1) n q))

@@ -47,21 +47,6 @@ heap-one-table T g h =
 
 -- ---- data and constants are short, as `slot_apart` asks
 
--- the data of a well formed heap lies in its pool
-pub heap-short : (S P : ℕ) (h : State) → Sound S P h → (i : ℕ) → length (slot_at h i).bytes ≤ 1073741824
-heap-short S P h s i = go (dec_lt i (length h.slots))
-  where
-    go : Dec (i < length h.slots) → length (slot_at h i).bytes ≤ 1073741824
-    go (yes l) =
-        let n : length (data_of h.slots) ≡ length h.slots = length-map h.slots (λ (x : Slot). x.bytes) in
-        let d : get_or (data_of h.slots) i [] ≡ (slot_at h i).bytes = get_or-map (λ (x : Slot). x.bytes) h.slots i no_slot in
-        let f = ap length (flat-split (data_of h.slots) i (omega arith)) in
-        let a = length-append (flat (take i (data_of h.slots))) (get_or (data_of h.slots) i [] ++ flat (drop (suc i) (data_of h.slots))) in
-        let b = length-append (get_or (data_of h.slots) i []) (flat (drop (suc i) (data_of h.slots))) in
-        let e = ap length d in
-        omega (arith, s.data-fit, s.pool-range)
-    go (no l) = let e : (slot_at h i).bytes ≡ [] = ap (λ (x : Slot). x.bytes) (get_or-eq_default h.slots no_slot (omega arith)) in let z = ap length e in omega arith
-
 -- what lies in a lent pool is no longer than it
 pub data-short : (ends pool : List ℕ) (i : ℕ) → length pool < 2 ^ 64 → length (data_at ends pool i) < 2 ^ 64
 unfolding data_at

@@ -1,6 +1,4 @@
 -- `heap_check::aged` meets its contract. The invariant: the slots passed have such generations.
-use lib.ListN.{length}
-use Prim.Native.Nat.{◌-◌}
 use Rattle.heap_check.proofs.Looking.{Ageing}
 use Rattle.heap_check.proofs.aged.Given as goal
 

@@ -1,5 +1,4 @@
 -- `heap_check::covered` meets its contract. The invariant: all is so exactly if the slots passed are live or marked.
-use Prim.Native.Nat.{◌-◌}
 use Rattle.heap_check.proofs.Looking.{Covering}
 use Rattle.heap_check.proofs.covered.Given as goal
 

@@ -1,6 +1,4 @@
 -- `heap_check::mark` meets its contract. The invariant: the entries passed are marked, each once.
-use lib.ListN.{length}
-use Prim.Native.Nat.{◌-◌}
 use Rattle.heap_check.proofs.Looking.{Marking}
 use Rattle.heap_check.proofs.mark.Given as goal
 

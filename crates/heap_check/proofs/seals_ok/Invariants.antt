@@ -1,6 +1,4 @@
 -- `heap_check::seals_ok` meets its contract. The invariant: all seals are sound exactly if those left are.
-use lib.ListN.{length}
-use Prim.Native.Nat.{◌-◌}
 use Rattle.heap.proofs.Seals.{Sealing}
 use Rattle.heap_check.proofs.seals_ok.Given as goal
 

@@ -1,5 +1,5 @@
 -- `View::kind` meets its contract.
-use Rattle.std.proofs.Common.{◌+◌, ◌*◌, ◌/◌, ◌<◌, length, arith}
+use Rattle.std.proofs.Common.{◌<◌, arith}
 use Rattle.heap.specs.Lent.{lent, view}
 use Rattle.heap.proofs.Columns.{Sizes, Reads, sizes, reads}
 use Rattle.heap.proofs.Questions.{none-beyond, lifeless, no_kind, its-kind}

@@ -2,7 +2,7 @@
 use Rattle.std.proofs.Common.{arith}
 use Rattle.heap.specs.Seen.{seen}
 use Rattle.heap.proofs.Questions.{within}
-use Rattle.heap.proofs.Columns.{Sizes, Reads, sizes, reads}
+use Rattle.heap.proofs.Columns.{sizes, reads}
 use Rattle.heap.proofs.view.View.start.Goals as goal
 
 pub bounds-wide-i : goal.bounds-wide-i
