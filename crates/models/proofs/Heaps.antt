@@ -1,19 +1,16 @@
 -- A heap under a type table fulfils what the comparison of two saves asks for, and shows what a collection traces. Assumes nothing.
-use Prim.Native.Nat.{ℕ, suc, ◌-◌, ◌^◌, ◌≤◌, ◌<◌}
+use Prim.Native.Nat.{ℕ, ◌-◌, ◌^◌, ◌<◌}
 use mathlib.Core.Path.{◌≡◌, refl, sym, ap, ◌∙◌}
-use mathlib.Core.List.{List, [], ◌++◌}
-use lib.ListN.{length, get_or, take, drop, length-append, length-map, length-take, length-drop, get_or-map, get_or-eq_default}
-use native.Mathlib.Decide.{dec_lt}
+use mathlib.Core.List.{List}
+use lib.ListN.{length, get_or, take, drop, length-take, length-drop}
 use native.Mathlib.Omega.{arith}
 use Rattle.std.specs.Prelude.{Option, Some, None}
 use Rattle.ty.specs.Types.{Const.plain, Table}
 use Rattle.ty.specs.View.{part_at, read_part, table_of}
 use Rattle.ty.proofs.Lookup.{const-at}
-use Rattle.heap.specs.Packing.{flat, start_of, data_at}
-use Rattle.heap.specs.State.{Slot, State, no_slot, slot_at, data_of}
+use Rattle.heap.specs.Packing.{start_of, data_at}
+use Rattle.heap.specs.State.{State, slot_at}
 use Rattle.heap.specs.Calls.{resolve}
-use Rattle.heap.proofs.Sound.{Sound}
-use Rattle.heap.proofs.Packing.{flat-split}
 use Rattle.places.specs.StrideZero.{ShortConstants}
 use Rattle.collection.specs.Collected.{found}
 use Rattle.collection.specs.Shown.{shown as shown_in}
