@@ -120,8 +120,18 @@ macro_rules! runs {
 }
 
 impl Memory {
-    /// Zeros for so many slots and bytes of data.
+    /// Zeros for so many slots and bytes of data. More of either than a heap can have ([`Heap::MAX_SLOTS`], [`Heap::MAX_POOL`]) gives no memory at all: every call refuses that (1), and nothing is asked for that may not be there.
+    ///
+    /// ```
+    /// use yexwalu::{Heap, Memory, Refusal, Scratch};
+    /// assert_eq!(Memory::zeros(64, 4096).slots(), 64);
+    /// let none = Memory::zeros(1 << 63, 0);
+    /// assert_eq!(none, Memory::zeros(0, 0));
+    /// assert_eq!(Heap::new_in(1, none, Scratch::zeros(64)).map_err(|e| e.0), Err(Refusal::BrokenHeap));
+    /// ```
     pub fn zeros(slots: usize, pool: usize) -> Memory {
+        let good = slots <= Heap::MAX_SLOTS && pool <= Heap::MAX_POOL;
+        let (slots, pool) = if good { (slots, pool) } else { (0, 0) };
         Memory {
             narrow: vec![0; 6 * slots],
             wide: vec![0; 4 * slots],
@@ -168,8 +178,9 @@ pub struct Scratch {
 }
 
 impl Scratch {
-    /// Scratch for so many slots.
+    /// Scratch for so many slots. More than a heap can have ([`Heap::MAX_SLOTS`]) gives as much as the largest heap needs.
     pub fn zeros(slots: usize) -> Scratch {
+        let slots = slots.min(Heap::MAX_SLOTS);
         Scratch {
             marks: vec![0; slots],
             work: vec![0; slots],
@@ -346,11 +357,11 @@ impl Heap {
     /// The most bytes of data that a heap can have.
     pub const MAX_POOL: usize = 1_073_741_824;
 
-    // New memory for a heap. Sizes out of range are refused (1), and so is no memory at all: what can't be a heap is not asked for, since it may not be there.
+    // New memory for a heap; none for sizes out of range.
     pub(crate) fn memory_for(slots: usize, pool: usize) -> (Memory, Scratch) {
-        let good = slots <= Heap::MAX_SLOTS && pool <= Heap::MAX_POOL;
-        let (slots, pool) = if good { (slots, pool) } else { (0, 0) };
-        (Memory::zeros(slots, pool), Scratch::zeros(slots))
+        let memory = Memory::zeros(slots, pool);
+        let scratch = Scratch::zeros(memory.slots());
+        (memory, scratch)
     }
 
     /// An empty heap of this tag with room for so many objects (1 to `MAX_SLOTS`) and so many bytes of data (at most `MAX_POOL`); other sizes are refused (1).

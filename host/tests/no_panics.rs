@@ -171,6 +171,25 @@ fn calls(random: &mut Random, heap: &mut Heap, told: &mut Answers) {
     }
 }
 
+// Sizes that no heap has give no memory, and no more scratch than a heap needs: nothing is asked for that may not be there.
+#[test]
+fn memory_of_any_size() {
+    for (slots, pool) in [(1 << 63, 0), (usize::MAX, 0), (usize::MAX / 6 + 1, 64), (Heap::MAX_SLOTS + 1, 64), (8, Heap::MAX_POOL + 1), (8, usize::MAX), (usize::MAX, usize::MAX)] {
+        let memory = Memory::zeros(slots, pool);
+        assert!(memory.slots() == 0 && memory.narrow.is_empty() && memory.wide.is_empty() && memory.pool.is_empty());
+        let (why, again, _) = Heap::new_in(1, memory.clone(), Scratch::zeros(8)).unwrap_err();
+        assert!(why == Refusal::BrokenHeap && again == memory);
+        let heap = Heap::from_parts(Header::default(), memory, Scratch::zeros(8));
+        assert_eq!(heap.view().err(), Some(Refusal::BrokenHeap));
+        assert_eq!(Heap::new(1, slots, pool).err(), Some(Refusal::BrokenHeap));
+        assert_eq!(Heap::read_page(slots, pool, b"").err(), Some(Refusal::Page));
+    }
+    for slots in [1 << 63, usize::MAX, Heap::MAX_SLOTS + 1] {
+        let scratch = Scratch::zeros(slots);
+        assert!(scratch.marks.len() == Heap::MAX_SLOTS && scratch.work.len() == Heap::MAX_SLOTS);
+    }
+}
+
 #[test]
 fn whatever_is_given() {
     let mut told = Answers::default();
