@@ -18,8 +18,8 @@ fn main() -> Result<(), Refusal> {
         first = heap.alloc(Kind::Typed(node), &value)?;
     }
 
-    // one check of the heap, then all of it
-    let view = heap.view()?;
+    // one check of the heap and one of the table, then all objects
+    let (view, types) = (heap.view()?, types.checked()?);
     for object in view {
         let leads: Vec<String> = object.handles(&types)?.iter().map(|h| view.resolve(*h).map_or_else(|why| why.to_string(), |o| format!("slot {}", o.slot()))).collect();
         println!("slot {}: {} bytes, leads to {leads:?}", object.slot(), object.bytes().len());

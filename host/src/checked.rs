@@ -3,8 +3,49 @@ use crate::held;
 use crate::{Handle, Layout, Refusal, TypeId, TypeTable};
 use std::ops::Deref;
 
+mod sealed {
+    use crate::{Handle, Refusal, TypeId};
+
+    /// What is asked of a table for one object of many.
+    pub trait Traces {
+        fn trace(&self, ty: TypeId, data: &[u8]) -> Result<Vec<Handle>, Refusal>;
+    }
+}
+
+/// A type table by which objects are traced one by one: a [`CheckedTable`], in the time of the object's type, or a [`TypeTable`], which is checked as a whole for each object. Both say the same. No other type has it.
+///
+/// ```
+/// use yexwalu::{AnyTable, Heap, Kind, Refusal, TypeTable};
+/// fn count(heap: &Heap, types: &impl AnyTable) -> Result<usize, Refusal> {
+///     heap.view()?.objects().map(|object| Ok(object.handles(types)?.len())).sum()
+/// }
+/// let mut table = TypeTable::new();
+/// let access = table.access();
+/// let mut heap = Heap::new(1, 64, 4096)?;
+/// heap.alloc(Kind::Typed(access), &[0; 8])?;
+/// assert_eq!((count(&heap, &table)?, count(&heap, &table.checked()?)?), (1, 1));
+/// # Ok::<(), Refusal>(())
+/// ```
+pub trait AnyTable: sealed::Traces {}
+
+impl AnyTable for TypeTable {}
+
+impl AnyTable for CheckedTable {}
+
+impl sealed::Traces for TypeTable {
+    fn trace(&self, ty: TypeId, data: &[u8]) -> Result<Vec<Handle>, Refusal> {
+        self.object_handles(ty, data)
+    }
+}
+
+impl sealed::Traces for CheckedTable {
+    fn trace(&self, ty: TypeId, data: &[u8]) -> Result<Vec<Handle>, Refusal> {
+        self.object_handles(ty, data)
+    }
+}
+
 /// A type table that was checked once, and that nobody can change: [`TypeTable::checked`] makes it. Its layouts and traces answer what those of the table do, in the time of the type that is asked for, where the table's
-/// own calls look at the whole table each time. It stands wherever a `&TypeTable` does.
+/// own calls look at the whole table each time. It stands wherever a `&TypeTable` does. [`ObjectRef::handles`](crate::ObjectRef::handles), which is asked of many objects, goes by either ([`AnyTable`]): take this one there.
 ///
 /// ```
 /// use yexwalu::{Refusal, TypeTable};

@@ -36,7 +36,7 @@ mod slot;
 mod types;
 mod view;
 
-pub use checked::CheckedTable;
+pub use checked::{AnyTable, CheckedTable};
 pub use ffi::Header;
 pub use function::{Class, Function, InstKind, Wanted};
 pub use handle::Handle;

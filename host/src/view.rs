@@ -1,4 +1,4 @@
-use crate::{Handle, Header, Heap, Kind, Refusal, Slot, Stamp, TypeTable};
+use crate::{AnyTable, Handle, Header, Heap, Kind, Refusal, Slot, Stamp};
 use std::iter::FusedIterator;
 
 /// A heap that was checked once, for reading many of its objects. One call checks it, where it is not known ([`Heap::view`]), and as long as the view is there the heap
@@ -213,7 +213,8 @@ impl<'a> ObjectRef<'a> {
     }
 
     /// The handles that it shows, in the order in which they are traced, as by [`Heap::slot_handles`]: an object of a type by that type, one of handles by offset, one of bytes none. The table is
-    /// looked at for an object of a type alone: where it is not in order (10), or the object can't be traced by it (13), the answer is a refusal.
+    /// looked at for an object of a type alone: where it is not in order (10), or the object can't be traced by it (13), the answer is a refusal. For many objects take a
+    /// [`CheckedTable`](crate::CheckedTable): a [`TypeTable`](crate::TypeTable) is checked as a whole for each object of a type.
     ///
     /// ```
     /// use yexwalu::{Heap, Kind, Refusal, TypeTable};
@@ -222,14 +223,14 @@ impl<'a> ObjectRef<'a> {
     /// let mut heap = Heap::new(1, 64, 4096)?;
     /// let kept = heap.alloc(Kind::Bytes, b"kept")?;
     /// let root = heap.alloc(Kind::Typed(access), &kept.0.to_le_bytes())?;
-    /// let view = heap.view()?;
+    /// let (view, table) = (heap.view()?, table.checked()?);
     /// let shown = view.resolve(root)?.handles(&table)?;
     /// assert_eq!(view.resolve(shown[0])?.data(), Some(&b"kept"[..]));
     /// # Ok::<(), Refusal>(())
     /// ```
-    pub fn handles(&self, types: &TypeTable) -> Result<Vec<Handle>, Refusal> {
+    pub fn handles(&self, types: &(impl AnyTable + ?Sized)) -> Result<Vec<Handle>, Refusal> {
         match (self.kind(), self.data()) {
-            (Kind::Typed(ty), Some(data)) => types.object_handles(ty, data),
+            (Kind::Typed(ty), Some(data)) => types.trace(ty, data),
             (Kind::Handles, Some(data)) => Ok(data.get(24..).unwrap_or(&[]).chunks_exact(8).map(word).collect()),
             _ => Ok(Vec::new()),
         }

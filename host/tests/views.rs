@@ -1,7 +1,7 @@
 //! A view says of every slot and every handle what the calls say, and all objects of a large heap are read with one check.
 mod common;
 use common::{sample, Random};
-use yexwalu::{Handle, Header, Heap, Kind, Memory, Refusal, Scratch, Slot, TypeTable};
+use yexwalu::{CheckedTable, Handle, Header, Heap, Kind, Memory, Refusal, Scratch, Slot, TypeTable};
 
 // A table with handles in it, and objects that fit it or not.
 fn table() -> TypeTable {
@@ -46,7 +46,7 @@ fn any_heap(random: &mut Random) -> (Heap, Vec<Handle>) {
 }
 
 // Every slot, one past them, and the last there can be.
-fn compare(heap: &Heap, handles: &[Handle], table: &TypeTable) -> usize {
+fn compare(heap: &Heap, handles: &[Handle], table: &TypeTable, checked: &CheckedTable) -> usize {
     let view = heap.view().unwrap();
     let slots = heap.slots().unwrap() as u32;
     let mut live = 0;
@@ -61,6 +61,7 @@ fn compare(heap: &Heap, handles: &[Handle], table: &TypeTable) -> usize {
         assert_eq!(Ok(object.stamp()), heap.stamp(slot));
         assert_eq!(object.data().ok_or(Refusal::NothingThere), heap.data(slot));
         assert_eq!(object.handles(table), heap.slot_handles(table, slot));
+        assert_eq!(object.handles(checked), object.handles(table));
         assert_eq!(heap.resolve(object.handle()), Ok(Slot(slot)));
         let taken = heap.clone().take(object.handle()).unwrap();
         assert_eq!((object.bytes(), object.start()), (&taken.bytes[..], taken.start as u64));
@@ -84,22 +85,24 @@ fn compare(heap: &Heap, handles: &[Handle], table: &TypeTable) -> usize {
 #[test]
 fn a_view_says_what_the_calls_say() {
     let (table, mut live) = (table(), 0);
+    let checked = table.clone().checked().unwrap();
     let mut refusals = [0u32; 21];
     for seed in 1..=400 {
         let (heap, handles) = any_heap(&mut Random::new(seed));
-        live += compare(&heap, &handles, &table);
+        live += compare(&heap, &handles, &table, &checked);
         for handle in handles {
             refusals[heap.resolve(handle).map_or_else(|why| why.number() as usize, |_| 0)] += 1;
         }
     }
     let (heap, handles) = sample(8, 64);
-    compare(&heap, &handles, &table);
+    compare(&heap, &handles, &table, &checked);
     assert!(live > 1000 && [0, 2, 4].iter().all(|n| refusals[*n] > 100), "{live} {refusals:?}");
 }
 
 #[test]
 fn an_object_is_traced_as_its_slot_is() {
     let table = table();
+    let checked = table.clone().checked().unwrap();
     let mut bad = table.clone();
     bad.types[0] = 9;
     let mut heap = Heap::new(1, 8, 400).unwrap();
@@ -111,6 +114,7 @@ fn an_object_is_traced_as_its_slot_is() {
     assert_eq!(lists, [Ok(2), Err(Refusal::Untraceable), Err(Refusal::Untraceable), Ok(0), Ok(2), Ok(0)]);
     for object in view {
         assert_eq!(object.handles(&table), heap.slot_handles(&table, object.slot()));
+        assert_eq!(object.handles(&checked), object.handles(&table));
         // a table that is not in order refuses the call on every slot; an object without a type, or with nothing visible, needs no table
         assert_eq!(heap.slot_handles(&bad, object.slot()), Err(Refusal::TypeTable));
         let asks = matches!(object.kind(), Kind::Typed(_)) && object.data().is_some();
@@ -142,4 +146,24 @@ fn all_objects_of_a_large_heap() {
     let spent = begin.elapsed();
     assert_eq!((view.objects().count(), bytes), (count, 2 * count));
     println!("{count} objects in {spent:?}");
+}
+
+// One check of the table for all: 64,000 objects by a table of 4,003 types, where a check for each would look at 256 million rows.
+#[test]
+fn all_objects_of_a_type_by_a_large_table() {
+    let mut table = TypeTable::new();
+    for _ in 0..4002 {
+        table.real();
+    }
+    let access = table.access();
+    let checked = table.clone().checked().unwrap();
+    let count = 64_000;
+    let script = format!("alloc,{access},1,0700000000000000\n").repeat(count);
+    let mut heap = Heap::new(1, count, 8 * count).unwrap();
+    heap.run(script.as_bytes()).unwrap();
+    let view = heap.view().unwrap();
+    let begin = std::time::Instant::now();
+    assert!(view.objects().all(|o| o.handles(&checked).unwrap() == [Handle(7)]));
+    println!("{count} objects by {} types in {:?}", table.types.len() / 4, begin.elapsed());
+    assert!(view.objects().step_by(1000).all(|o| o.handles(&table) == o.handles(&checked)));
 }

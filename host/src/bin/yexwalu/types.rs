@@ -1,10 +1,11 @@
 //! The type table that objects are shown by, where one is given.
-use yexwalu::{Handle, Kind, ObjectRef, Refusal, TypeId, TypeTable};
+use yexwalu::{CheckedTable, Handle, Kind, ObjectRef, Refusal, TypeId, TypeTable};
 
 /// A type table and the names of its types.
 #[derive(Default)]
 pub struct Types {
-    table: Option<TypeTable>,
+    // checked once for all objects
+    table: Option<CheckedTable>,
     names: Vec<String>,
 }
 
@@ -15,13 +16,13 @@ impl Types {
         let types = names.split(|b| *b == b'\n').take(table.types.len() / 4);
         Ok(Types {
             names: types.map(|name| String::from_utf8_lossy(name).into_owned()).collect(),
-            table: Some(table),
+            table: Some(table.checked()?),
         })
     }
 
     /// The table, where one was given.
     pub fn table(&self) -> Option<&TypeTable> {
-        self.table.as_ref()
+        self.table.as_deref()
     }
 
     /// The handles that an object shows. Those of an object of a type are found by the table alone.
