@@ -14,7 +14,7 @@ mod same;
 use std::hint::black_box;
 use std::ops::Range;
 use yavs_ir::{Block, BlockId, Field, Func, Inst, Ops, Program, Reg, RegTy, Ty, TyId};
-use yexwalu::{Class, Column, Direction, Function, Handle, Heap, InstKind, Kind, Memory, TypeTable, Wanted, descriptor};
+use yexwalu::{Class, Column, Direction, Function, Handle, Heap, InstKind, Kind, Memory, Slot, TypeTable, Wanted, descriptor};
 
 const SIZES: [usize; 4] = [1_000, 10_000, 100_000, 1_000_000];
 const OBJECTS: [usize; 3] = [16, 1024, 16384];
@@ -391,7 +391,7 @@ fn joined(table: &mut Table, n: usize) {
 fn roots_found(table: &mut Table, shape: &str, n: usize, count: usize, edges: impl Fn(usize) -> Range<usize>) {
     let (port, mut rust, _) = graph(n, edges);
     let (types, prog) = (TypeTable::new(), Program::default());
-    let wanted: Vec<u32> = (0..n as u32).collect();
+    let wanted: Vec<Slot> = (0..n as u32).map(Slot).collect();
     let mut out = vec![0; n];
     let a = time(|| assert_eq!(port.roots_for_into(&types, &[], &wanted, &mut out), Ok(count)));
     let b = time(|| assert!(rust.collect(&prog, &out[..count], &[])));

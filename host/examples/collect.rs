@@ -1,7 +1,7 @@
 //! Drops what nothing leads to: a ring that is lost goes, a ring that a root leads to stays, and an object that is pinned stays as well.
 //!
 //!     cargo run --example collect
-use yexwalu::{Handle, Heap, Kind, Refusal, Slot, TypeTable};
+use yexwalu::{Handle, Heap, Kind, Refusal, TypeTable};
 
 // Two objects that lead to each other.
 fn ring(heap: &mut Heap) -> Result<[Handle; 2], Refusal> {
@@ -16,7 +16,7 @@ fn main() -> Result<(), Refusal> {
     let mut heap = Heap::new(1, 64, 4096)?;
     let (kept, lost) = (ring(&mut heap)?, ring(&mut heap)?);
     let pinned = heap.alloc(Kind::Bytes, b"an address leads here")?;
-    let Slot(pin) = heap.resolve(pinned)?;
+    let pin = heap.resolve(pinned)?;
     println!("{} objects; is a collection due past 100 bytes? {}", heap.live()?, heap.gc_due(100)?);
 
     heap.collect(&TypeTable::new(), &[kept[0]], &[pin])?;

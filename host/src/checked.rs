@@ -56,9 +56,18 @@ impl sealed::Traces for CheckedTable {
 /// assert_eq!(table.layout(record, &[])?.offsets, [0, 8, 16]);
 /// assert!(table.has_handles(record));
 /// // a class that there is not
-/// let bad = TypeTable { types: vec![9, 0, 0, 0], ..TypeTable::new() };
+/// let mut bad = TypeTable::new();
+/// bad.types = vec![9, 0, 0, 0];
 /// assert_eq!(bad.checked(), Err(Refusal::TypeTable));
 /// # Ok::<(), Refusal>(())
+/// ```
+///
+/// What was checked stays as it is: nobody can write there.
+///
+/// ```compile_fail,E0596
+/// # use yexwalu::TypeTable;
+/// let mut table = TypeTable::new().checked().unwrap();
+/// table.types.clear();
 /// ```
 #[derive(Clone, Debug, PartialEq, Eq)]
 pub struct CheckedTable(TypeTable);

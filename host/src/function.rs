@@ -69,6 +69,7 @@ pub enum Wanted {
 /// # Ok::<(), Refusal>(())
 /// ```
 #[derive(Clone, Debug, Default, PartialEq, Eq)]
+#[non_exhaustive]
 pub struct Function {
     /// One an instruction: a number of `InstKind`.
     pub kinds: Vec<u8>,

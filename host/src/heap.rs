@@ -168,8 +168,9 @@ impl Memory {
     }
 }
 
-/// Scratch, which says nothing about the heap. All of it is zero after every call that was lent enough.
+/// Scratch, which says nothing about the heap. All of it is zero after every call that was lent enough. It may get more lists.
 #[derive(Clone, Debug, PartialEq, Eq)]
+#[non_exhaustive]
 pub struct Scratch {
     /// One byte a slot, or more.
     pub marks: Vec<u8>,
@@ -346,8 +347,8 @@ macro_rules! change_known {
 }
 
 // Addresses with their slots as one list.
-fn listed(addresses: &[(u64, u64)]) -> Vec<u64> {
-    addresses.iter().flat_map(|(address, slot)| [*address, *slot]).collect()
+fn listed(addresses: &[(u64, Slot)]) -> Vec<u64> {
+    addresses.iter().flat_map(|(address, slot)| [*address, (*slot).into()]).collect()
 }
 
 impl Heap {
@@ -408,12 +409,32 @@ impl Heap {
         (self.header, self.memory, self.scratch.into_inner())
     }
 
-    /// The heap's numbers.
+    /// The heap's numbers. They are changed by calls alone:
+    ///
+    /// ```compile_fail,E0594
+    /// # use yexwalu::Heap;
+    /// let mut heap = Heap::new(1, 64, 4096).unwrap();
+    /// heap.header().slots = 7;
+    /// ```
     pub fn header(&self) -> &Header {
         &self.header
     }
 
-    /// The memory that it lies in.
+    /// The memory that it lies in. It is lent to be read alone, so that a heap that was checked once stays one. This is refused:
+    ///
+    /// ```compile_fail,E0596
+    /// # use yexwalu::Heap;
+    /// let mut heap = Heap::new(1, 64, 4096).unwrap();
+    /// heap.memory().pool.clear();
+    /// ```
+    ///
+    /// and so is this, as the field is private:
+    ///
+    /// ```compile_fail,E0616
+    /// # use yexwalu::Heap;
+    /// let mut heap = Heap::new(1, 64, 4096).unwrap();
+    /// heap.memory.pool.clear();
+    /// ```
     pub fn memory(&self) -> &Memory {
         &self.memory
     }
@@ -530,21 +551,21 @@ impl Heap {
     /// instead, and never leaves them.
     ///
     /// ```
-    /// use yexwalu::{Heap, Kind, Refusal};
+    /// use yexwalu::{Heap, Kind, Refusal, Slot};
     /// let mut heap = Heap::new(1, 64, 4096)?;
     /// let hall = heap.alloc(Kind::Bytes, b"AB")?;
     /// heap.free(hall)?;
-    /// heap.recycle(&[0])?;
+    /// heap.recycle(&[Slot(0)])?;
     /// assert!(heap.has_quarantine()?);
     /// heap.recycle(&[])?;
     /// // the slot is given out again, under another handle
     /// assert_eq!(heap.alloc(Kind::Bytes, b"CD")?.index(), hall.index());
-    /// assert_eq!(heap.recycle(&[2, 1]), Err(Refusal::Pins));
+    /// assert_eq!(heap.recycle(&[Slot(2), Slot(1)]), Err(Refusal::Pins));
     /// # Ok::<(), Refusal>(())
     /// ```
     #[inline]
-    pub fn recycle(&mut self, pins: &[u32]) -> Result<(), Refusal> {
-        let told = change_known!(self, yexwalu_held_recycle(pins.as_ptr(), pins.len()), change!(&mut self.memory, self.scratch.get_mut(), yexwalu_recycle(self.header)(pins.as_ptr(), pins.len())));
+    pub fn recycle(&mut self, pins: &[Slot]) -> Result<(), Refusal> {
+        let told = change_known!(self, yexwalu_held_recycle(pins.as_ptr().cast(), pins.len()), change!(&mut self.memory, self.scratch.get_mut(), yexwalu_recycle(self.header)(pins.as_ptr().cast(), pins.len())));
         told.map(|_| ())
     }
 
@@ -627,13 +648,13 @@ impl Heap {
     /// assert_eq!(heap.resolve(lost), Err(Refusal::Stale));
     /// # Ok::<(), Refusal>(())
     /// ```
-    pub fn collect(&mut self, types: &TypeTable, roots: &[Handle], pins: &[u32]) -> Result<(), Refusal> {
+    pub fn collect(&mut self, types: &TypeTable, roots: &[Handle], pins: &[Slot]) -> Result<(), Refusal> {
         // a handle is its number: `repr(transparent)`
         let numbers: *const u64 = roots.as_ptr().cast();
         let done = change!(&mut self.memory, self.scratch.get_mut(), yexwalu_collect(
             types.types.as_ptr(), types.types.len(), types.fields.as_ptr(), types.fields.len(),
             types.consts.as_ptr(), types.consts.len(), types.bytes.as_ptr(), types.bytes.len(), self.header)
-            (numbers, roots.len(), pins.as_ptr(), pins.len()));
+            (numbers, roots.len(), pins.as_ptr().cast(), pins.len()));
         self.done(done).map(|_| ())
     }
 
@@ -648,11 +669,12 @@ impl Heap {
     /// let held = heap.alloc(Kind::Bytes, b"held")?;
     /// let root = heap.alloc(Kind::Typed(access), &held.0.to_le_bytes())?;
     /// heap.alloc(Kind::Bytes, b"other")?;
-    /// assert_eq!(heap.roots_for(&table, &[], &[0, 1])?, [root]);
-    /// assert_eq!(heap.roots_for(&table, &[], &[1]), Err(Refusal::NoRoots));
+    /// let (held, root_slot) = (heap.resolve(held)?, heap.resolve(root)?);
+    /// assert_eq!(heap.roots_for(&table, &[], &[held, root_slot])?, [root]);
+    /// assert_eq!(heap.roots_for(&table, &[], &[root_slot]), Err(Refusal::NoRoots));
     /// # Ok::<(), Refusal>(())
     /// ```
-    pub fn roots_for(&self, types: &TypeTable, pins: &[u32], wanted: &[u32]) -> Result<Vec<Handle>, Refusal> {
+    pub fn roots_for(&self, types: &TypeTable, pins: &[Slot], wanted: &[Slot]) -> Result<Vec<Handle>, Refusal> {
         let mut out = vec![0; wanted.len()];
         let n = self.roots_for_into(types, pins, wanted, &mut out)?;
         out.truncate(n);
@@ -660,11 +682,11 @@ impl Heap {
     }
 
     /// As `roots_for`, with the handles written to the front of a lent list (7). The answer is how many.
-    pub fn roots_for_into(&self, types: &TypeTable, pins: &[u32], wanted: &[u32], out: &mut [u64]) -> Result<usize, Refusal> {
+    pub fn roots_for_into(&self, types: &TypeTable, pins: &[Slot], wanted: &[Slot], out: &mut [u64]) -> Result<usize, Refusal> {
         let answer = ask!(self, yexwalu_roots_for(
             types.types.as_ptr(), types.types.len(), types.fields.as_ptr(), types.fields.len(),
             types.consts.as_ptr(), types.consts.len(), types.bytes.as_ptr(), types.bytes.len())
-            (pins.as_ptr(), pins.len(), wanted.as_ptr(), wanted.len(), out.as_mut_ptr(), out.len()));
+            (pins.as_ptr().cast(), pins.len(), wanted.as_ptr().cast(), wanted.len(), out.as_mut_ptr(), out.len()));
         Ok(Heap::pair(answer)?.0 as usize)
     }
 
@@ -715,8 +737,8 @@ impl Heap {
     }
 
     /// As `collect`, from a stopped function: the roots are the registers of class `Handle` that are live at the safepoint `pc`, by the values given, and the handles of its frame.
-    /// `addresses` are addresses with the slots that they lie in, addresses strictly rising (14): one that the frame has, or a register of class `Ptr` that is live at `pc`, pins its slot as a pin does. Any
-    /// slot index is taken; one of no slot has no effect. Besides what refuses `collect` it is refused where the function is not in order or there is not one value a register (15), where `pc` is no safepoint of a block (16), and where the frame can't be traced (13).
+    /// `addresses` are addresses with the slots that they lie in, addresses strictly rising (14): one that the frame has, or a register of class `Ptr` that is live at `pc`, pins its slot as a pin does. One
+    /// of no slot has no effect. Besides what refuses `collect` it is refused where the function is not in order or there is not one value a register (15), where `pc` is no safepoint of a block (16), and where the frame can't be traced (13).
     ///
     /// ```
     /// use yexwalu::{Class, FrameSlot, Function, Heap, InstKind, Kind, Refusal, TypeTable};
@@ -732,8 +754,8 @@ impl Heap {
     /// assert_eq!(heap.resolve(values[done as usize]), Err(Refusal::Stale));
     /// // an address that the frame has keeps the object that it is listed with
     /// let held = heap.alloc(Kind::Bytes, b"held")?;
-    /// let frame = 0x7f40_u64.to_le_bytes();
-    /// heap.collect_joined(&TypeTable::new(), &f, call, &[values[0].0, 0], &[FrameSlot::address(0)], &frame, &[], &[(0x7f40, u64::from(held.index()))])?;
+    /// let (frame, slot) = (0x7f40_u64.to_le_bytes(), heap.resolve(held)?);
+    /// heap.collect_joined(&TypeTable::new(), &f, call, &[values[0].0, 0], &[FrameSlot::address(0)], &frame, &[], &[(0x7f40, slot)])?;
     /// assert!(heap.resolve(held).is_ok());
     /// # Ok::<(), Refusal>(())
     /// ```
@@ -746,15 +768,15 @@ impl Heap {
         values: &[u64],
         map: &[FrameSlot],
         frame: &[u8],
-        pins: &[u32],
-        addresses: &[(u64, u64)],
+        pins: &[Slot],
+        addresses: &[(u64, Slot)],
     ) -> Result<(), Refusal> {
         let function = function.within_counts();
         self.collect_joined_with(types, &function, pc, values, map, frame, pins, &listed(addresses), &mut vec![0; function.scratch_words()])
     }
 
     /// As `collect_joined`, with lent scratch for the live map: `Function::scratch_words` at least (18). The addresses are lent as one list: address, slot index, address, slot index, and so on (14
-    /// where it is not in pairs).
+    /// where it is not in pairs). Any index is taken.
     #[allow(clippy::too_many_arguments)]
     pub fn collect_joined_with(
         &mut self,
@@ -764,7 +786,7 @@ impl Heap {
         values: &[u64],
         map: &[FrameSlot],
         frame: &[u8],
-        pins: &[u32],
+        pins: &[Slot],
         addresses: &[u64],
         rows: &mut [u64],
     ) -> Result<(), Refusal> {
@@ -775,7 +797,7 @@ impl Heap {
             types.consts.as_ptr(), types.consts.len(), types.bytes.as_ptr(), types.bytes.len(), self.header)
             (f.kinds.as_ptr(), f.kinds.len(), f.ends.as_ptr(), f.ends.len(), f.refs.as_ptr(), f.refs.len(), f.blocks.as_ptr(), f.blocks.len(),
             f.classes.as_ptr(), f.classes.len(), pc as usize, values.as_ptr(), values.len(), map.as_ptr(), map.len(),
-            frame.as_ptr(), frame.len(), pins.as_ptr(), pins.len(), addresses.as_ptr(), addresses.len())
+            frame.as_ptr(), frame.len(), pins.as_ptr().cast(), pins.len(), addresses.as_ptr(), addresses.len())
             (rows.as_mut_ptr(), rows.len()));
         self.done(done).map(|_| ())
     }
@@ -970,15 +992,16 @@ impl Heap {
     /// # Ok::<(), Refusal>(())
     /// ```
     pub fn slot_handles(&self, types: &TypeTable, slot: impl Into<Slot>) -> Result<Vec<Handle>, Refusal> {
-        let slot = slot.into().at();
-        let mut out = vec![0; self.size_of(slot) / 8];
+        let slot = slot.into();
+        let mut out = vec![0; self.size_of(slot.at()) / 8];
         let n = self.slot_handles_into(types, slot, &mut out)?;
         out.truncate(n);
         Ok(out.into_iter().map(Handle).collect())
     }
 
     /// As `slot_handles`, with the handles written to the front of a lent list (7). The answer is how many.
-    pub fn slot_handles_into(&self, types: &TypeTable, slot: usize, out: &mut [u64]) -> Result<usize, Refusal> {
+    pub fn slot_handles_into(&self, types: &TypeTable, slot: impl Into<Slot>, out: &mut [u64]) -> Result<usize, Refusal> {
+        let slot = slot.into().at();
         let answer = ask!(self, yexwalu_slot_handles(
             types.types.as_ptr(), types.types.len(), types.fields.as_ptr(), types.fields.len(),
             types.consts.as_ptr(), types.consts.len(), types.bytes.as_ptr(), types.bytes.len())

@@ -45,7 +45,7 @@ pub use place::{page_stops, Place};
 pub use refusal::Refusal;
 pub use slot::Slot;
 pub use types::{descriptor, ConstId, Direction, FrameSlot, Layout, TypeId, TypeTable, NO_CONSTANT};
-pub use view::{ObjectRef, Objects, View};
+pub use view::{Handles, ObjectRef, Objects, View};
 
 // Answers have 64 bits, and so have sizes where the archive is compiled for: none is cut.
 const _: () = assert!(usize::BITS == 64);

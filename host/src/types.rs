@@ -29,6 +29,7 @@ pub const NO_CONSTANT: ConstId = u32::MAX;
 /// # Ok::<(), Refusal>(())
 /// ```
 #[derive(Clone, Debug, Default, PartialEq, Eq)]
+#[non_exhaustive]
 pub struct TypeTable {
     /// Four words a type: its class, then what the class has. 0 Int: lo, hi; 1 Physical; 2 Enum: literals, logic; 3 Real; 4 Array: element's type, its constant or `NO_CONSTANT`, dimensions; 5 Record:
     /// first field, number of fields; 6 Access; 7 File; 8 Protected. Words that are left over are not looked at.
@@ -41,7 +42,7 @@ pub struct TypeTable {
     pub bytes: Vec<u8>,
 }
 
-/// Which way an array's index goes.
+/// Which way an array's index goes. VHDL has these two, so a host may match on both.
 #[derive(Clone, Copy, Debug, PartialEq, Eq, Hash)]
 pub enum Direction {
     /// Rising.
@@ -100,7 +101,13 @@ impl ffi::RawLayout {
 }
 
 /// One entry of a frame map.
+///
+/// ```
+/// use yexwalu::FrameSlot;
+/// assert_eq!(FrameSlot::new(8, 2, 3), FrameSlot::composite(8, 3));
+/// ```
 #[derive(Clone, Copy, Debug, PartialEq, Eq, Hash)]
+#[non_exhaustive]
 pub struct FrameSlot {
     /// Where it lies in the frame's memory.
     pub offset: u32,
@@ -111,6 +118,11 @@ pub struct FrameSlot {
 }
 
 impl FrameSlot {
+    /// An entry by its numbers, as a run has them.
+    pub fn new(offset: u32, kind: u32, ty: TypeId) -> FrameSlot {
+        FrameSlot { offset, kind, ty }
+    }
+
     /// A handle at this offset.
     pub fn handle(offset: u32) -> FrameSlot {
         FrameSlot { offset, kind: 0, ty: 0 }

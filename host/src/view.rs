@@ -1,5 +1,7 @@
 use crate::{AnyTable, Handle, Header, Heap, Kind, Refusal, Slot, Stamp};
 use std::iter::FusedIterator;
+use std::slice::ChunksExact;
+use std::vec::IntoIter;
 
 /// A heap that was checked once, for reading many of its objects. One call checks it, where it is not known ([`Heap::view`]), and as long as the view is there the heap
 /// can't be changed. So all objects of a large heap are read in one pass.
@@ -17,6 +19,16 @@ use std::iter::FusedIterator;
 ///     assert_eq!((object.slot().0, object.data()), (1, Some(&b"second"[..])));
 /// }
 /// # Ok::<(), Refusal>(())
+/// ```
+///
+/// As long as a view is used, no call changes the heap:
+///
+/// ```compile_fail,E0502
+/// # use yexwalu::{Heap, Kind};
+/// let mut heap = Heap::new(1, 64, 4096).unwrap();
+/// let view = heap.view().unwrap();
+/// heap.seal().unwrap();
+/// assert_eq!(view.objects().count(), 0);
 /// ```
 #[derive(Clone, Copy, Debug)]
 pub struct View<'a> {
@@ -229,13 +241,64 @@ impl<'a> ObjectRef<'a> {
     /// # Ok::<(), Refusal>(())
     /// ```
     pub fn handles(&self, types: &(impl AnyTable + ?Sized)) -> Result<Vec<Handle>, Refusal> {
-        match (self.kind(), self.data()) {
-            (Kind::Typed(ty), Some(data)) => types.trace(ty, data),
-            (Kind::Handles, Some(data)) => Ok(data.get(24..).unwrap_or(&[]).chunks_exact(8).map(word).collect()),
-            _ => Ok(Vec::new()),
+        self.iter_handles(types).map(Iterator::collect)
+    }
+
+    /// The same handles one after another. Those of an object of handles are read where they lie, with no list of them made.
+    ///
+    /// ```
+    /// use yexwalu::{Handle, Heap, Kind, Refusal, TypeTable};
+    /// let mut heap = Heap::new(1, 64, 4096)?;
+    /// let list = [0, 0, 0, 7, 8u64].map(u64::to_le_bytes).concat();
+    /// heap.alloc(Kind::Handles, &list)?;
+    /// let types = TypeTable::new();
+    /// for object in heap.view()? {
+    ///     assert!(object.iter_handles(&types)?.eq([Handle(7), Handle(8)]));
+    /// }
+    /// # Ok::<(), Refusal>(())
+    /// ```
+    pub fn iter_handles(&self, types: &(impl AnyTable + ?Sized)) -> Result<Handles<'a>, Refusal> {
+        Ok(Handles(match (self.kind(), self.data()) {
+            (Kind::Typed(ty), Some(data)) => Shown::Listed(types.trace(ty, data)?.into_iter()),
+            (Kind::Handles, Some(data)) => Shown::Lying(data.get(24..).unwrap_or(&[]).chunks_exact(8)),
+            _ => Shown::Lying([].chunks_exact(8)),
+        }))
+    }
+}
+
+/// The handles that an object shows, in the order in which they are traced: [`ObjectRef::iter_handles`] has them.
+#[derive(Clone, Debug)]
+pub struct Handles<'a>(Shown<'a>);
+
+#[derive(Clone, Debug)]
+enum Shown<'a> {
+    // eight bytes each, in the object
+    Lying(ChunksExact<'a, u8>),
+    // as a trace has listed them
+    Listed(IntoIter<Handle>),
+}
+
+impl Iterator for Handles<'_> {
+    type Item = Handle;
+
+    fn next(&mut self) -> Option<Handle> {
+        match &mut self.0 {
+            Shown::Lying(words) => words.next().map(word),
+            Shown::Listed(list) => list.next(),
+        }
+    }
+
+    fn size_hint(&self) -> (usize, Option<usize>) {
+        match &self.0 {
+            Shown::Lying(words) => words.size_hint(),
+            Shown::Listed(list) => list.size_hint(),
         }
     }
 }
+
+impl ExactSizeIterator for Handles<'_> {}
+
+impl FusedIterator for Handles<'_> {}
 
 // The handle in eight bytes, lowest first.
 fn word(bytes: &[u8]) -> Handle {

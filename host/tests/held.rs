@@ -1,15 +1,15 @@
 //! Calls on a heap that is known to be well formed against the checked ones, side by side: each random call is made on a heap that is known, and on the same one put together anew from its parts, which is checked. Answers,
 //! headers and every byte are the same. So too for a table that was checked once.
 mod common;
-use common::{sample, Random};
+use common::{sample, scratch, Random};
 use std::collections::BTreeSet;
-use yexwalu::{descriptor, Direction, Handle, Heap, Kind, Refusal, Scratch, TypeTable};
+use yexwalu::{descriptor, Direction, Handle, Heap, Kind, Refusal, Scratch, Slot, TypeTable};
 
 // The same heap, of which nothing is known; its scratch is dirty, so that a check is seen by its being clean.
 fn unknown(heap: &Heap) -> Heap {
     let (header, memory, _) = heap.clone().into_parts();
     let slots = memory.slots();
-    Heap::from_parts(header, memory, Scratch { marks: vec![3; slots], work: vec![5; slots] })
+    Heap::from_parts(header, memory, scratch(vec![3; slots], vec![5; slots]))
 }
 
 // One call, drawn by random numbers, on a heap; what it answers, as text, and the refusal.
@@ -21,7 +21,7 @@ struct Call {
     number: u64,
     bytes: Vec<u8>,
     room: usize,
-    pins: Vec<u32>,
+    pins: Vec<Slot>,
 }
 
 fn told<T: std::fmt::Debug>(answer: Result<T, Refusal>) -> (String, u64) {
@@ -68,7 +68,7 @@ fn draw(random: &mut Random, heap: &Heap, handles: &[Handle]) -> Call {
         _ if handles.is_empty() => Handle(1 << 56 | 1),
         _ => handles[random.below(handles.len() as u64) as usize],
     };
-    let mut pins: Vec<u32> = (0..random.below(4)).map(|_| random.below(slots + 3) as u32).collect();
+    let mut pins: Vec<Slot> = (0..random.below(4)).map(|_| Slot(random.below(slots + 3) as u32)).collect();
     if random.below(3) > 0 {
         pins.sort_unstable();
         pins.dedup();

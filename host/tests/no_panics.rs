@@ -1,7 +1,7 @@
 //! No method panics, whatever it is given: parts that are no heap, tables and functions out of order, numbers of every size.
 mod common;
 use common::{sample, Random};
-use yexwalu::{descriptor, page_stops, Class, Column, Direction, FrameSlot, Function, Handle, Header, Heap, InstKind, Kind, Memory, Refusal, Scratch, TypeTable, Wanted};
+use yexwalu::{descriptor, page_stops, Class, Column, Direction, FrameSlot, Function, Handle, Header, Heap, InstKind, Kind, Memory, Refusal, Scratch, Slot, TypeTable, Wanted};
 
 // A number that is small, near the end of a width, or any.
 fn number(random: &mut Random) -> u64 {
@@ -16,6 +16,10 @@ fn number(random: &mut Random) -> u64 {
 fn words<T: TryFrom<u64>>(random: &mut Random, most: u64) -> Vec<T> {
     let n = random.below(most + 1);
     (0..n).filter_map(|_| T::try_from(number(random)).ok()).collect()
+}
+
+fn slots(random: &mut Random) -> Vec<Slot> {
+    words::<u32>(random, 3).into_iter().map(Slot).collect()
 }
 
 fn any_header(random: &mut Random) -> Header {
@@ -94,7 +98,7 @@ fn any_function(random: &mut Random) -> Function {
 }
 
 fn any_map(random: &mut Random) -> Vec<FrameSlot> {
-    (0..random.below(4)).map(|_| FrameSlot { offset: number(random) as u32, kind: random.below(4) as u32, ty: number(random) as u32 }).collect()
+    (0..random.below(4)).map(|_| FrameSlot::new(number(random) as u32, random.below(4) as u32, number(random) as u32)).collect()
 }
 
 // Each answer is counted by its number.
@@ -110,7 +114,7 @@ impl Answers {
 
 fn calls(random: &mut Random, heap: &mut Heap, told: &mut Answers) {
     let (handle, slot, ty) = (Handle(number(random)), number(random) as u32, number(random) as u32);
-    let (bytes, pins, roots) = (random.bytes(40), words::<u32>(random, 3), words::<u64>(random, 3).into_iter().map(Handle).collect::<Vec<_>>());
+    let (bytes, pins, roots) = (random.bytes(40), slots(random), words::<u64>(random, 3).into_iter().map(Handle).collect::<Vec<_>>());
     let (table, function, map) = (any_table(random), any_function(random), any_map(random));
     match random.below(31) {
         0 => drop(told.take(heap.alloc(Kind::Typed(ty), &bytes))),
@@ -131,8 +135,9 @@ fn calls(random: &mut Random, heap: &mut Heap, told: &mut Answers) {
         15 => drop(told.take(heap.collect(&table, &roots, &pins))),
         16 => {
             let (pc, values) = (random.below(9) as u32, words::<u64>(random, 4));
-            let addresses: Vec<(u64, u64)> = words::<u64>(random, 3).into_iter().map(|a| (a, a)).collect();
+            let addresses: Vec<(u64, Slot)> = words::<u64>(random, 3).into_iter().map(|a| (a, Slot(a as u32))).collect();
             told.take(heap.collect_joined(&table, &function, pc, &values, &map, &bytes, &pins, &addresses));
+            told.take(heap.collect_joined_with(&table, &function, pc, &values, &map, &bytes, &pins, &words::<u64>(random, 4), &mut [0; 9]));
         }
         17 => {
             for object in told.take(heap.view()).into_iter().flatten() {
@@ -152,7 +157,7 @@ fn calls(random: &mut Random, heap: &mut Heap, told: &mut Answers) {
         22 => drop(told.take(table.object_handles(ty, &bytes)).zip(told.take(table.value_handles(ty, &bytes)))),
         23 => drop(told.take(table.slot_roots(&map, &bytes))),
         24 => drop(told.take(function.live_at(slot, Wanted::All)).zip(told.take(function.live_refs(Wanted::References)))),
-        25 => drop(told.take(heap.roots_for(&table, &pins, &words::<u32>(random, 3)))),
+        25 => drop(told.take(heap.roots_for(&table, &pins, &slots(random)))),
         26 => drop(told.take(heap.misfit(&table))),
         27 => {
             let names = if random.below(2) == 0 { table.no_names() } else { bytes.clone() };

@@ -1,8 +1,8 @@
 //! Lent lengths one short of each size, for every list, scratch and output of every call, and other refusals: 18, 1, 2, 3, 19, 4, 7, 8, 5, 6, 9, 20, 10, 13, 14, 15. After each, what was lent is as
 //! it was.
 mod common;
-use common::sample;
-use yexwalu::{Column, descriptor, ffi, Class, Direction, FrameSlot, Function, Handle, Header, Heap, InstKind, Kind, Memory, Refusal, Scratch, TypeTable, Wanted};
+use common::{sample, scratch};
+use yexwalu::{Column, descriptor, ffi, Class, Direction, FrameSlot, Function, Handle, Header, Heap, InstKind, Kind, Memory, Refusal, Scratch, Slot, TypeTable, Wanted};
 
 type Call = (&'static str, fn(&mut Heap) -> Result<(), Refusal>);
 
@@ -12,7 +12,7 @@ const CALLS: [Call; 33] = [
     ("alloc_from", |h| h.alloc_from(Kind::Bytes, 0, b"x").map(drop)),
     ("take", |h| h.take_into(Handle(7 << 56 | 2 << 32 | 1), &mut [0; 64]).map(drop)),
     ("free", |h| h.free(Handle(7 << 56 | 2 << 32 | 1))),
-    ("recycle", |h| h.recycle(&[1])),
+    ("recycle", |h| h.recycle(&[Slot(1)])),
     ("edit", |h| h.edit(Handle(7 << 56 | 2 << 32 | 1), b"new", 1).map(drop)),
     ("write", |h| h.write(2, 0, b"w")),
     ("reissue", |h| h.reissue(2, 5).map(drop)),
@@ -33,8 +33,8 @@ const CALLS: [Call; 33] = [
     ("page_length", |h| h.page_length_with(Column::Planes).map(drop)),
     ("write_page", |h| h.write_page_into(&mut [0; 4096]).map(drop)),
     ("write_page", |h| h.write_page_with(Column::Planes, &mut [0; 4096]).map(drop)),
-    ("collect", |h| h.collect(&plain(), &[Handle(7 << 56 | 2 << 32 | 1)], &[1])),
-    ("collect_joined", |h| h.collect_joined(&plain(), &stopped(), 1, &[7 << 56 | 2 << 32 | 1, 0], &[], &[], &[1], &[])),
+    ("collect", |h| h.collect(&plain(), &[Handle(7 << 56 | 2 << 32 | 1)], &[Slot(1)])),
+    ("collect_joined", |h| h.collect_joined(&plain(), &stopped(), 1, &[7 << 56 | 2 << 32 | 1, 0], &[], &[], &[Slot(1)], &[])),
     ("same", |h| h.same(&plain(), &[Handle(7 << 56 | 2 << 32 | 1)], &sample(8, 64).0, &[]).map(drop)),
     ("same", |h| sample(8, 64).0.same(&plain(), &[], h, &[Handle(7 << 56 | 2 << 32 | 1)]).map(drop)),
     ("order", |h| h.order(&plain(), &[Handle(7 << 56 | 2 << 32 | 1)], &sample(8, 64).0, &[]).map(drop)),
@@ -77,10 +77,7 @@ fn refused(name: &str, call: fn(&mut Heap) -> Result<(), Refusal>, heap: &Heap, 
 }
 
 fn dirty(slots: usize) -> Scratch {
-    Scratch {
-        marks: vec![0xa5; slots],
-        work: vec![0xa5a5; slots],
-    }
+    scratch(vec![0xa5; slots], vec![0xa5a5; slots])
 }
 
 #[test]
@@ -97,10 +94,7 @@ fn every_call_succeeds_on_the_sample_and_clears_scratch() {
 fn scratch_one_short_is_18() {
     let (header, memory, _) = sample(8, 64).0.into_parts();
     for (marks, work) in [(7, 8), (8, 7), (0, 8), (8, 0)] {
-        let scratch = Scratch {
-            marks: vec![1; marks],
-            work: vec![2; work],
-        };
+        let scratch = scratch(vec![1; marks], vec![2; work]);
         for (name, call) in CALLS {
             refused(name, call, &Heap::from_parts(header, memory.clone(), scratch.clone()), Refusal::Scratch);
         }
@@ -335,17 +329,17 @@ fn the_handles_of_a_slot() {
         let told: Vec<u64> = heap.slot_handles(&table, slot as u32).unwrap().into_iter().map(|h| h.0).collect();
         assert_eq!(told, *wanted, "slot {slot}");
         let mut out = vec![77; wanted.len() + 2];
-        assert_eq!(heap.slot_handles_into(&table, slot, &mut out), Ok(wanted.len()));
+        assert_eq!(heap.slot_handles_into(&table, slot as u32, &mut out), Ok(wanted.len()));
         assert!(out[..wanted.len()] == **wanted && out[wanted.len()..] == [77; 2]);
         if !wanted.is_empty() {
             let mut out = vec![77; wanted.len() - 1];
-            assert_eq!(heap.slot_handles_into(&table, slot, &mut out), Err(Refusal::ShortList));
+            assert_eq!(heap.slot_handles_into(&table, slot as u32, &mut out), Err(Refusal::ShortList));
             assert!(out.iter().all(|x| *x == 77));
         }
     }
     // 9 before 13 before 7
     let mut out = [77; 1];
-    for slot in [7, 8, 9, usize::MAX] {
+    for slot in [7, 8, 9, u32::MAX] {
         assert_eq!(heap.slot_handles_into(&table, slot, &mut out), Err(Refusal::NothingThere));
     }
     assert_eq!(heap.slot_handles_into(&table, 6, &mut out[..0]), Err(Refusal::Untraceable));
@@ -397,8 +391,8 @@ fn alloc_refuses_kind_room_and_slots() {
 fn pins_rise_and_slots_are_there() {
     let (mut heap, _) = sample(8, 64);
     let before = heap.clone();
-    assert_eq!(heap.recycle(&[1, 1]), Err(Refusal::Pins));
-    assert_eq!(heap.recycle(&[2, 1]), Err(Refusal::Pins));
+    assert_eq!(heap.recycle(&[Slot(1), Slot(1)]), Err(Refusal::Pins));
+    assert_eq!(heap.recycle(&[Slot(2), Slot(1)]), Err(Refusal::Pins));
     assert_eq!(heap.reissue(5, 0), Err(Refusal::NothingThere));
     // no slot there; one that is free, one in quarantine
     assert_eq!(heap.reissue(0, 0), Err(Refusal::NothingThere));
@@ -409,7 +403,7 @@ fn pins_rise_and_slots_are_there() {
     // live, nothing visible: 9, and the write count rises
     assert_eq!(heap.write(3, 0, b""), Err(Refusal::NothingThere));
     assert_eq!(heap.stamp(3).unwrap().writes, 1);
-    assert_eq!(heap.recycle(&[0, 1, 4_000_000_000]), Ok(()));
+    assert_eq!(heap.recycle(&[0, 1, 4_000_000_000].map(Slot)), Ok(()));
     assert_eq!(heap.header().quarantine, 1);
 }
 
@@ -448,7 +442,7 @@ fn worn_out_slots_retire() {
         heap.free(h).unwrap();
     }
     assert_eq!(heap.memory().generation()[..3], [u32::MAX, u32::MAX, 2]);
-    heap.recycle(&[1]).unwrap();
+    heap.recycle(&[Slot(1)]).unwrap();
     let counts = |h: &Heap| (h.header().free, h.header().quarantine, h.header().retired);
     assert_eq!(counts(&heap), (1, 1, 1));
     heap.recycle(&[]).unwrap();
@@ -553,7 +547,7 @@ fn frames_and_their_outputs() {
     assert_eq!(table.slot_roots(&map, &memory[..39]).unwrap().1, [2]);
     assert_eq!(table.slot_roots(&map[..3], &memory[..31]), Err(Refusal::Untraceable));
     assert_eq!(table.slot_roots(&map, &memory[..31]), Err(Refusal::Untraceable));
-    assert_eq!(table.slot_roots(&[FrameSlot { offset: 0, kind: 3, ty: 0 }], &memory), Err(Refusal::Untraceable));
+    assert_eq!(table.slot_roots(&[FrameSlot::new(0, 3, 0)], &memory), Err(Refusal::Untraceable));
 
     // a map whose last entry is cut short
     let map = [0u32, 0, 0, 8, 1, 0];
@@ -649,11 +643,11 @@ fn addresses_pin_as_pins_do() {
     let frame: Vec<u8> = [1_u64, 3, 5, 9].iter().flat_map(|w| w.to_le_bytes()).collect();
     let map: Vec<FrameSlot> = (0..4).map(|i| FrameSlot::address(8 * i)).collect();
     // 1 lies in slot 1, 2 is in neither, 3 in the quarantined slot 2, 5 in slot 1 + 2^32, 6 in neither, live register's value in slot 6, an unlisted one
-    let list = [(1, 1), (2, 3), (3, 2), (5, 1 << 32 | 3), (6, 4), (live, 6), (lost, 5)];
+    let list = [[1, 1], [2, 3], [3, 2], [5, 1 << 32 | 3], [6, 4], [live, 6], [lost, 5]].concat();
     let mut by_address = made();
-    by_address.collect_joined(&plain(), &f, 1, &[0, live], &map, &frame, &[7], &list).unwrap();
+    by_address.collect_joined_with(&plain(), &f, 1, &[0, live], &map, &frame, &[Slot(7)], &list, &mut vec![0; f.scratch_words()]).unwrap();
     let mut by_pin = made();
-    by_pin.collect_joined(&plain(), &f, 1, &[0, live], &map, &frame, &[1, 2, 6, 7], &[]).unwrap();
+    by_pin.collect_joined(&plain(), &f, 1, &[0, live], &map, &frame, &[1, 2, 6, 7].map(Slot), &[]).unwrap();
     assert!(by_address == by_pin);
     assert_eq!((by_pin.live().unwrap(), by_pin.has_quarantine().unwrap()), (2, true));
     let mut none = made();
@@ -694,7 +688,7 @@ fn a_function_past_the_counts_is_15() {
     assert_eq!(f.live_refs(Wanted::All), Err(Refusal::Function));
     assert_eq!(f.live_at_into(1, Wanted::All, &mut [], &mut [0; 64]), Err(Refusal::Scratch));
     let (heap, _) = sample(8, 64);
-    let joined = |heap: &Heap, table: &TypeTable| heap.clone().collect_joined(table, &f, 1, &[], &[], &[], &[2, 1], &[]);
+    let joined = |heap: &Heap, table: &TypeTable| heap.clone().collect_joined(table, &f, 1, &[], &[], &[], &[Slot(2), Slot(1)], &[]);
     assert_eq!(joined(&heap, &plain()), Err(Refusal::Function));
     // what comes first is still told first
     assert_eq!(joined(&heap, &cut_tables()[0]), Err(Refusal::TypeTable));

@@ -1,7 +1,7 @@
 //! Two saves beside each other. `same` is held against a search through all pairings of the objects that the roots lead to, `order` against lists of numbers that are compared from the front; both are written here from the
 //! words of the request, and know nothing of each other. Heaps are small, of every kind of object, under slots and generations of every sort.
 mod common;
-use common::Random;
+use common::{scratch, Random};
 use std::cmp::Ordering;
 use std::collections::BTreeSet;
 use yexwalu::{descriptor, Column, Direction, Handle, Heap, Refusal, Scratch, TypeTable};
@@ -871,7 +871,7 @@ fn refusals_come_in_their_order() {
     let with = |short: usize, odd: usize| {
         let (mut header, memory, _) = good.clone().into_parts();
         header.reclaim_at += odd;
-        let scratch = Scratch { marks: vec![7; memory.slots()], work: vec![7; memory.slots() - short] };
+        let scratch = scratch(vec![7; memory.slots()], vec![7; memory.slots() - short]);
         Heap::from_parts(header, memory, scratch)
     };
     let mut bad_table = table();
@@ -905,7 +905,7 @@ fn scratch_says_nothing() {
     let dirty = |heap: &Heap, word: u64| {
         let (header, memory, _) = heap.clone().into_parts();
         let slots = memory.slots() + 3;
-        Heap::from_parts(header, memory, Scratch { marks: vec![word as u8; slots], work: vec![word; slots] })
+        Heap::from_parts(header, memory, scratch(vec![word as u8; slots], vec![word; slots]))
     };
     for word in [1, 2, 0xff_ffff, 1 << 24, 1 << 47, u64::MAX] {
         let at = Places::any(&whole, &mut random);

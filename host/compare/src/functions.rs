@@ -127,8 +127,9 @@ fn random_joined_collections_answer_as_the_rust() {
             let (map, memory) = frame(&mut random, &table, &mut |r| any(r, &handles, slots));
             let (pc, pins) = (place_in(&mut random, &f), pins(&mut random, slots));
             let addresses = addresses(&mut random, &values, &memory, slots);
-            let here = told(heap.collect_joined(&table, &f, pc, &values, &map, &memory, &pins, &addresses), |()| String::new());
             let listed: Vec<u64> = addresses.iter().flat_map(|(a, i)| [*a, *i]).collect();
+            let answer = heap.collect_joined_with(&table, &f, pc, &values, &map, &memory, &pins, &listed, &mut vec![0; f.scratch_words()]);
+            let here = told(answer, |()| String::new());
             oracle.agrees(&format!("joined {pc} {} {} {} {} {}", list(&values), entries(&map), hex(&memory), list(&pins), list(&listed)), &here, &place);
             same(&mut oracle, &heap, &place);
         }

@@ -2,7 +2,7 @@
 use crate::common::Random;
 use crate::tables::same;
 use crate::{hex, list, seeds, told, Oracle};
-use yexwalu::{Handle, Heap, Kind, TypeTable};
+use yexwalu::{Handle, Heap, Kind, Slot, TypeTable};
 
 struct Run {
     table: TypeTable,
@@ -71,7 +71,7 @@ impl Run {
                 (format!("reissue {i} {grown}"), told(answer, |h| h.to_string()))
             }
             10 | 11 => {
-                let mut pins: Vec<u32> = (0..self.random.below(4)).map(|_| self.random.below(40) as u32).collect();
+                let mut pins: Vec<Slot> = (0..self.random.below(4)).map(|_| Slot(self.random.below(40) as u32)).collect();
                 pins.sort();
                 pins.dedup();
                 (format!("recycle {}", list(&pins)), told(self.heap.recycle(&pins), |()| String::new()))
@@ -101,7 +101,7 @@ impl Run {
             }
             17 | 18 => {
                 let roots: Vec<Handle> = (0..self.random.below(5)).map(|_| self.handle()).collect();
-                let mut pins: Vec<u32> = (0..self.random.below(3)).map(|_| self.random.below(40) as u32).collect();
+                let mut pins: Vec<Slot> = (0..self.random.below(3)).map(|_| Slot(self.random.below(40) as u32)).collect();
                 pins.sort();
                 pins.dedup();
                 let answer = self.heap.collect(&self.table, &roots, &pins);
@@ -222,7 +222,7 @@ fn a_large_quarantine_answers_as_the_rust() {
     oracle.set("new 9 4301");
     assert!(!reclaim(&mut oracle, &mut heap, 4300, 4095));
     assert!(reclaim(&mut oracle, &mut heap, 1, 1));
-    let pins: Vec<u32> = (0..2100).collect();
+    let pins: Vec<Slot> = (0..2100).map(Slot).collect();
     oracle.agrees(&format!("recycle {}", list(&pins)), &told(heap.recycle(&pins), |()| String::new()), "2100 pinned");
     // twice what was kept
     assert!(!reclaim(&mut oracle, &mut heap, 1995, 2099));

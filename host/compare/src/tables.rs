@@ -1,7 +1,7 @@
 //! Random type tables, descriptors and values.
 use crate::common::{narrow, without_retired, Random};
 use crate::{hex, list, seeds, told, Oracle};
-use yexwalu::{descriptor, ConstId, Direction, FrameSlot, Handle, Heap, Kind, Refusal, TypeTable, NO_CONSTANT};
+use yexwalu::{descriptor, ConstId, Direction, FrameSlot, Handle, Heap, Kind, Refusal, Slot, TypeTable, NO_CONSTANT};
 
 const NO: u64 = NO_CONSTANT as u64;
 const ENDS: [i64; 8] = [0, 100, -(1 << 31), (1 << 31) - 1, -(1 << 31) - 1, 1 << 31, i64::MIN, i64::MAX];
@@ -224,13 +224,12 @@ pub fn frame(random: &mut Random, table: &TypeTable, word: &mut impl FnMut(&mut 
     let mut memory: Vec<u8> = (0..random.below(12)).flat_map(|_| word(random).to_le_bytes()).collect();
     cut(random, &mut memory);
     let map = (0..random.below(5))
-        .map(|_| FrameSlot {
-            offset: match random.below(8) {
+        .map(|_| {
+            let offset = match random.below(8) {
                 0 => random.below(memory.len() as u64 + 3) as u32,
                 _ => 8 * random.below(memory.len() as u64 / 8 + 1) as u32,
-            },
-            kind: random.below(3) as u32,
-            ty: type_of(random, table),
+            };
+            FrameSlot::new(offset, random.below(3) as u32, type_of(random, table))
         })
         .collect();
     (map, memory)
@@ -345,8 +344,8 @@ pub fn any(random: &mut Random, handles: &[Handle], slots: usize) -> u64 {
 }
 
 /// Slot indices, strictly rising.
-pub fn pins(random: &mut Random, slots: usize) -> Vec<u32> {
-    let mut pins: Vec<u32> = (0..random.below(3)).map(|_| random.below(slots as u64 + 2) as u32).collect();
+pub fn pins(random: &mut Random, slots: usize) -> Vec<Slot> {
+    let mut pins: Vec<Slot> = (0..random.below(3)).map(|_| Slot(random.below(slots as u64 + 2) as u32)).collect();
     pins.sort();
     pins.dedup();
     pins

@@ -1,6 +1,6 @@
 //! What several tests need.
 #![allow(dead_code)]
-use yexwalu::{Handle, Heap, Kind};
+use yexwalu::{Handle, Heap, Kind, Scratch};
 
 /// Numbers that look random, the same in every run.
 pub struct Random(u64);
@@ -25,6 +25,13 @@ impl Random {
         let n = self.below(most + 1);
         (0..n).map(|_| self.word() as u8).collect()
     }
+}
+
+/// Scratch of these lists.
+pub fn scratch(marks: Vec<u8>, work: Vec<u64>) -> Scratch {
+    let mut scratch = Scratch::zeros(0);
+    (scratch.marks, scratch.work) = (marks, work);
+    scratch
 }
 
 /// A heap with live, free and quarantined slots and seals.
