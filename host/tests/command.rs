@@ -1,7 +1,7 @@
 //! The command `yexwalu`, run as a person runs it: what it prints, where, and its exit status.
 mod common;
 use common::sample;
-use std::io::Write;
+use std::io::{self, Write};
 use std::path::PathBuf;
 use std::process::{Command, Stdio};
 use std::{fs, process};
@@ -634,12 +634,73 @@ fn bad_usage_is_2() {
     assert!(ran.status == 2 && ran.out.is_empty() && ran.err.starts_with("yexwalu: "), "{}", ran.err);
 }
 
+// After `--` each word is a file, whatever it begins with; `-` is standard input still.
 #[test]
-fn who_stops_reading_is_no_error() {
-    let page = odd_heap();
-    let mut child = Command::new(env!("CARGO_BIN_EXE_yexwalu")).args(["show", "-"]).stdin(Stdio::piped()).stdout(Stdio::piped()).stderr(Stdio::piped()).spawn().unwrap();
+fn names_that_begin_with_a_dash() {
+    let folder = PathBuf::from(file("dashes", b"")).with_extension("folder");
+    fs::create_dir_all(&folder).unwrap();
+    fs::copy(samples("bytes.page"), folder.join("-old.page")).unwrap();
+    let here = |words: &[&str]| {
+        let done = Command::new(env!("CARGO_BIN_EXE_yexwalu")).args(words).current_dir(&folder).stdin(fs::File::open(samples("17-cut.page")).unwrap()).output().unwrap();
+        (done.status.code().unwrap(), String::from_utf8(done.stdout).unwrap(), String::from_utf8(done.stderr).unwrap())
+    };
+    assert_eq!(here(&["check", "--", "-old.page"]), says(0, "-old.page: accepted: writes64, data, retired\n"));
+    assert_eq!(here(&["check", "./-old.page", "--", "-old.page"]), says(0, "./-old.page: accepted: writes64, data, retired\n-old.page: accepted: writes64, data, retired\n"));
+    assert_eq!(here(&["length", "--planes", "--", "-old.page"]), here(&["length", "--planes", "./-old.page"]));
+    assert_eq!(here(&["convert", "--planes", "-o", "-new.page", "--", "-old.page"]), says(0, ""));
+    assert_eq!(here(&["check", "--", "-new.page"]), says(0, "-new.page: accepted: writes64, planes, retired\n"));
+    let (status, out, _) = here(&["check", "--", "-"]);
+    assert!(status == 1 && out.starts_with("standard input: 17 page"), "{out}");
+    // what stands behind is no option
+    for word in ["--help", "-h", "--dot", "--", "--none"] {
+        let (status, out, err) = here(&["show", "--", word]);
+        assert!(status == 2 && out.is_empty() && err.starts_with(&format!("yexwalu: {word}: ")), "{word}: {err}");
+    }
+    let usage = |why: &str| (2, String::new(), format!("yexwalu: {why}\nyexwalu --help says more.\n"));
+    assert_eq!(here(&["check", "-old.page"]), usage("check has no option -old.page"));
+    assert_eq!(here(&["check", "--"]), usage("check takes files"));
+    assert_eq!(here(&["--", "check", "-old.page"]), usage("no command --"));
+    fs::remove_dir_all(folder).unwrap();
+}
+
+// The status of a command whose readers have gone away before it says anything.
+fn unheard(words: &[&str], input: &[u8], nobody_listens: bool) -> (Option<i32>, String) {
+    let mut child = Command::new(env!("CARGO_BIN_EXE_yexwalu")).args(words).stdin(Stdio::piped()).stdout(Stdio::piped()).stderr(Stdio::piped()).spawn().unwrap();
     drop(child.stdout.take());
-    child.stdin.take().unwrap().write_all(&page).unwrap();
-    let done = child.wait_with_output().unwrap();
-    assert_eq!((done.status.code(), done.stderr), (Some(0), Vec::new()));
+    let err = child.stderr.take().filter(|_| !nobody_listens);
+    // a command that does not read its input closes it
+    let _ = child.stdin.take().unwrap().write_all(input);
+    let text = err.map(|err| io::read_to_string(err).unwrap()).unwrap_or_default();
+    (child.wait().unwrap().code(), text)
+}
+
+#[test]
+fn who_stops_reading_changes_no_answer() {
+    let (good, bad, table) = (samples("handles.page"), samples("17-cut.page"), samples("record.table"));
+    let all = |words: &[&str], status| {
+        assert_eq!(unheard(words, &odd_heap(), false), (Some(status), String::new()), "{words:?}");
+        assert_eq!(unheard(words, &odd_heap(), true), (Some(status), String::new()), "{words:?}");
+    };
+    all(&["show", "-"], 0);
+    all(&["show", "--dot", "-"], 0);
+    all(&["show", "--types", &table, "-"], 0);
+    all(&["length", &good], 0);
+    all(&["convert", "--data", &good], 0);
+    all(&["--help"], 0);
+    all(&["--version"], 0);
+    all(&["check", &good], 0);
+    all(&["check", &bad], 1);
+    all(&["shelf", &good], 0);
+    all(&["shelf", &bad, &good], 1);
+    all(&["same", &good, &good], 0);
+    all(&["same", "--roots", "72057594037927937", "--roots-b", "72057598332895233", &good, &good], 1);
+    // more than is kept before it is written: what comes after it is still looked at
+    let many = [&["check"][..], &vec![good.as_str(); 400], &[bad.as_str()]].concat();
+    all(&many, 1);
+    let many = [&["shelf"][..], &vec![good.as_str(); 1000], &[bad.as_str()]].concat();
+    all(&many, 1);
+    // what is said on standard error alone
+    for (words, status) in [(&["show", &bad][..], 1), (&["length", &bad], 1), (&["show", "--types", &bad, &good], 1), (&["same", &bad, &bad], 1), (&["check", "none"], 2), (&["check"], 2), (&["look"], 2), (&["convert", "--data", "-o", &good, &good], 2)] {
+        assert_eq!(unheard(words, b"", true), (Some(status), String::new()), "{words:?}");
+    }
 }

@@ -1,5 +1,7 @@
 //! What goes along with the crate: one version everywhere, a README that shows what the command says, and a list of what is measured that is true.
 use std::fs;
+use std::io::Write;
+use std::process::{Command, Stdio};
 
 fn text(path: &str) -> String {
     fs::read_to_string(format!("{}/{path}", env!("CARGO_MANIFEST_DIR"))).unwrap()
@@ -10,15 +12,24 @@ fn the_pkg_config_file_has_the_crates_version() {
     assert!(text("yexwalu.pc").contains(&format!("\nVersion: {}\n", env!("CARGO_PKG_VERSION"))));
 }
 
+// What the command says at the top of the repository, by its words and what it reads.
+fn ran(input: Vec<u8>, command: &str) -> Vec<u8> {
+    let top = format!("{}/..", env!("CARGO_MANIFEST_DIR"));
+    let mut child = Command::new(env!("CARGO_BIN_EXE_yexwalu")).args(command.split(' ')).current_dir(top).stdin(Stdio::piped()).stdout(Stdio::piped()).stderr(Stdio::null()).spawn().unwrap();
+    // a command that does not read its input closes it
+    let _ = child.stdin.take().unwrap().write_all(&input);
+    child.wait_with_output().unwrap().stdout
+}
+
 #[test]
 fn the_readme_shows_what_the_command_says() {
     let readme = text("README.md");
     let transcript = readme.split_once("    $ yexwalu ").unwrap().1.split("\n\n").next().unwrap();
     for step in transcript.split("    $ yexwalu ") {
         let (command, answer) = step.split_once('\n').unwrap();
-        let words: Vec<&str> = command.split(' ').collect();
-        let ran = std::process::Command::new(env!("CARGO_BIN_EXE_yexwalu")).args(&words).current_dir(format!("{}/..", env!("CARGO_MANIFEST_DIR"))).output().unwrap();
-        let shown: String = String::from_utf8(ran.stdout).unwrap().lines().map(|l| format!("    {l}\n")).collect();
+        // each command reads what the one before it says
+        let said = command.split(" | yexwalu ").fold(Vec::new(), ran);
+        let shown: String = String::from_utf8(said).unwrap().lines().map(|l| format!("    {l}\n")).collect();
         assert_eq!(shown.trim_end(), format!("{answer}\n").trim_end(), "{command}");
     }
 }

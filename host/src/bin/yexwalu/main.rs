@@ -30,7 +30,8 @@ Questions about pages: the heaps of saved VHDL runs as text (docs/FORMAT.md).
     yexwalu same --roots H,H.. --roots-b H,H.. FILE FILE    from these handles on, of the first page and of the second
     yexwalu --help, --version
 
-FILE is a page; - is standard input. Answers go to standard output, errors to standard error.
+FILE is a page; - is standard input. After -- each word is a FILE, also one that begins with -: yexwalu check -- -old.page
+Answers go to standard output, errors to standard error.
 Exit status: 0 yes, and done; 1 refused, and different; 2 bad usage, or a file that can't be read or written.
 
 check says `accepted` and the page's form, or the number and the word of the refusal:
@@ -72,6 +73,21 @@ type Out<'a> = BufWriter<io::StdoutLock<'a>>;
 // The heap of a page and the page's form, as the proved reader has them.
 type Opened = Result<(Heap, Form), Refusal>;
 
+// A line on standard error. Where nobody listens the answer stays what it is.
+macro_rules! say {
+    ($($words:tt)*) => {
+        drop(writeln!(io::stderr(), $($words)*))
+    };
+}
+
+// What was written for a reader. One who went away has seen enough: that is no error, and the exit status stays that of the answer.
+fn heard(written: io::Result<()>) -> io::Result<()> {
+    match written {
+        Err(why) if why.kind() == ErrorKind::BrokenPipe => Ok(()),
+        written => written,
+    }
+}
+
 fn refusal(why: Refusal) -> String {
     format!("{} {}", why.number(), why.word())
 }
@@ -84,7 +100,7 @@ fn opened(name: &OsStr) -> Option<(Text, Opened)> {
             Some((text, heap))
         }
         Err(why) => {
-            eprintln!("yexwalu: {}: {why}", input::shown(name));
+            say!("yexwalu: {}: {why}", input::shown(name));
             None
         }
     }
@@ -94,7 +110,7 @@ fn opened(name: &OsStr) -> Option<(Text, Opened)> {
 fn heap_of(name: &OsStr) -> Result<Heap, u8> {
     let (text, opened) = opened(name).ok_or(USAGE)?;
     opened.map(|(heap, _)| heap).map_err(|why| {
-        eprintln!("yexwalu: {}", verdict(name, &text, Err(why)));
+        say!("yexwalu: {}", verdict(name, &text, Err(why)));
         NO
     })
 }
@@ -122,7 +138,7 @@ fn check(files: &[&OsStr], out: &mut Out) -> io::Result<u8> {
         if answer.is_err() {
             status = status.max(NO);
         }
-        writeln!(out, "{}", verdict(name, &text, answer))?;
+        heard(writeln!(out, "{}", verdict(name, &text, answer)))?;
     }
     Ok(status)
 }
@@ -162,7 +178,7 @@ fn figures(heap: &Heap) -> Result<Figures, Refusal> {
 
 fn shelf(files: &[&OsStr], out: &mut Out) -> io::Result<u8> {
     let (mut status, mut all) = (0, Figures::default());
-    writeln!(out, "page,answer,objects,bytes,largest,mean,rest")?;
+    heard(writeln!(out, "page,answer,objects,bytes,largest,mean,rest"))?;
     for (name, page) in files.iter().zip(1..) {
         let answer = match opened(name) {
             Some((_, opened)) => opened.and_then(|(heap, _)| figures(&heap)),
@@ -174,22 +190,22 @@ fn shelf(files: &[&OsStr], out: &mut Out) -> io::Result<u8> {
         match answer {
             Ok(figures) => {
                 all = all.and(figures);
-                writeln!(out, "{}", figures.line(page, 0))?;
+                heard(writeln!(out, "{}", figures.line(page, 0)))?;
             }
             Err(why) => {
                 status = status.max(NO);
-                writeln!(out, "{}", Figures::default().line(page, why.number()))?;
+                heard(writeln!(out, "{}", Figures::default().line(page, why.number())))?;
             }
         }
     }
-    writeln!(out, "{}", all.line(0, 0))?;
+    heard(writeln!(out, "{}", all.line(0, 0)))?;
     Ok(status)
 }
 
 // Asks something of the heap of a file. What can't be read or is refused is said here: the exit status is the error. A heap that was just opened refuses nothing that is asked of it.
 fn asked<T>(name: &OsStr, ask: impl FnOnce(&Heap) -> Result<T, Refusal>) -> Result<T, u8> {
     ask(&heap_of(name)?).map_err(|why| {
-        eprintln!("yexwalu: {}: {}", input::shown(name), refusal(why));
+        say!("yexwalu: {}: {}", input::shown(name), refusal(why));
         NO
     })
 }
@@ -197,7 +213,7 @@ fn asked<T>(name: &OsStr, ask: impl FnOnce(&Heap) -> Result<T, Refusal>) -> Resu
 // The exit status of a command that has printed its answer, or could not.
 fn ended(printed: Result<io::Result<()>, u8>) -> io::Result<u8> {
     match printed {
-        Ok(done) => done.map(|()| 0),
+        Ok(done) => heard(done).map(|()| 0),
         Err(status) => Ok(status),
     }
 }
@@ -207,7 +223,7 @@ fn types_of(name: Option<&OsStr>) -> Result<Types, u8> {
     let Some(name) = name else {
         return Ok(Types::default());
     };
-    let say = |why: String| eprintln!("yexwalu: {}: {why}", input::shown(name));
+    let say = |why: String| say!("yexwalu: {}: {why}", input::shown(name));
     let text = Text::read(name).map_err(|why| {
         say(why.to_string());
         USAGE
@@ -237,7 +253,7 @@ fn created(name: &OsStr, bytes: &[u8]) -> Result<(), u8> {
     written.map_err(|why| {
         // the system's words have a number of their own in them, which is none of the refusals
         let why = if why.kind() == ErrorKind::AlreadyExists { "is there already, and stays as it is".into() } else { why.to_string() };
-        eprintln!("yexwalu: {}: {why}", input::shown(name));
+        say!("yexwalu: {}: {why}", input::shown(name));
         USAGE
     })
 }
@@ -257,11 +273,11 @@ fn side_of(name: &OsStr, given: Option<&[Handle]>, option: &str) -> Result<same:
     match same::roots(&heap, given) {
         Ok(Some(roots)) => Ok((heap, roots)),
         Ok(None) => {
-            eprintln!("yexwalu: {}: nothing is sealed in it, so its roots are to be given: {option} H,H..\nyexwalu --help says more.", input::shown(name));
+            say!("yexwalu: {}: nothing is sealed in it, so its roots are to be given: {option} H,H..\nyexwalu --help says more.", input::shown(name));
             Err(USAGE)
         }
         Err(why) => {
-            eprintln!("yexwalu: {}: {}", input::shown(name), refusal(why));
+            say!("yexwalu: {}: {}", input::shown(name), refusal(why));
             Err(NO)
         }
     }
@@ -277,11 +293,11 @@ fn same(names: [&OsStr; 2], roots: &[Option<Vec<Handle>>; 2], table: Option<&OsS
         (types, a, b) => return Ok([types.err(), a.err(), b.err()].into_iter().flatten().max().unwrap_or(NO)),
     };
     match same::verdict(&types, &a, &b) {
-        Ok(word) => writeln!(out, "{word}").map(|()| if word == "same" { 0 } else { NO }),
+        Ok(word) => heard(writeln!(out, "{word}")).map(|()| if word == "same" { 0 } else { NO }),
         Err(why) => {
             let hint = if table.is_none() { ": an object that is reached can't be traced; its types are given by --types TABLE" } else { ": an object that is reached can't be traced by this table" };
             for (name, _) in names.iter().zip([&a, &b]).filter(|(_, side)| same::refuses(&types, side)) {
-                eprintln!("yexwalu: {}: {}{}", input::shown(name), refusal(why), if why == Refusal::Untraceable { hint } else { "" });
+                say!("yexwalu: {}: {}{}", input::shown(name), refusal(why), if why == Refusal::Untraceable { hint } else { "" });
             }
             Ok(NO)
         }
@@ -289,7 +305,7 @@ fn same(names: [&OsStr; 2], roots: &[Option<Vec<Handle>>; 2], table: Option<&OsS
 }
 
 fn usage(why: &str) -> io::Result<u8> {
-    eprintln!("yexwalu: {why}\nyexwalu --help says more.");
+    say!("yexwalu: {why}\nyexwalu --help says more.");
     Ok(USAGE)
 }
 
@@ -321,6 +337,7 @@ impl<'a> Options<'a> {
                     options.roots[usize::from(option == "--roots-b")] = Some(list.ok_or(format!("{option} takes handles: decimals with commas between them"))?);
                 }
                 ("convert", "-o") => options.to = Some(words.next().ok_or("-o takes a file")?),
+                (_, "--") => options.files.extend(words.by_ref()),
                 (_, option) if option.starts_with('-') && option != "-" => return Err(format!("{command} has no option {option}")),
                 _ => options.files.push(word),
             }
@@ -340,8 +357,8 @@ fn command(words: &[OsString], out: &mut Out) -> io::Result<u8> {
     let Some((name, rest)) = words.split_first() else {
         return usage("no command");
     };
-    if words.iter().any(|w| w == "--help" || w == "-h") || name == "help" {
-        write!(out, "{HELP}")?;
+    if words.iter().take_while(|w| *w != "--").any(|w| w == "--help" || w == "-h") || name == "help" {
+        heard(write!(out, "{HELP}"))?;
         return Ok(0);
     }
     let name = name.to_string_lossy();
@@ -351,7 +368,7 @@ fn command(words: &[OsString], out: &mut Out) -> io::Result<u8> {
     };
     let files = &options.files;
     match (name.as_ref(), options.column) {
-        ("--version" | "-V", _) => writeln!(out, "yexwalu {}", env!("CARGO_PKG_VERSION")).map(|()| 0),
+        ("--version" | "-V", _) => heard(writeln!(out, "yexwalu {}", env!("CARGO_PKG_VERSION"))).map(|()| 0),
         ("check" | "shelf", _) if files.is_empty() => usage(&format!("{name} takes files")),
         ("show" | "length" | "convert", _) if files.len() != 1 => usage(&format!("{name} takes one file")),
         ("same", _) if files.len() != 2 => usage("same takes two files"),
@@ -370,13 +387,11 @@ fn command(words: &[OsString], out: &mut Out) -> io::Result<u8> {
 fn main() -> ExitCode {
     let words: Vec<OsString> = std::env::args_os().skip(1).collect();
     let mut out = BufWriter::new(io::stdout().lock());
-    let status = command(&words, &mut out).and_then(|status| out.flush().map(|()| status));
+    let status = command(&words, &mut out).and_then(|status| heard(out.flush()).map(|()| status));
     match status {
         Ok(status) => ExitCode::from(status),
-        // who reads has seen enough
-        Err(why) if why.kind() == ErrorKind::BrokenPipe => ExitCode::SUCCESS,
         Err(why) => {
-            eprintln!("yexwalu: standard output: {why}");
+            say!("yexwalu: standard output: {why}");
             ExitCode::from(USAGE)
         }
     }
