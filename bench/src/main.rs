@@ -1,5 +1,5 @@
 //! Times the port and the Rust that it ports on the same inputs, after seeing that both answer the same, and prints a table. Each figure is processor time, the median of five rounds; a
-//! round repeats the work for at least 20 ms. Words on the command line pick rows, as in `cargo run --release -- layout collect`.
+//! round repeats the work for at least 20 ms. Words on the command line pick rows, as in `cargo run --release -- layout collect`. A row that has a target says `missed` where it misses it.
 #![allow(dead_code)]
 
 include!(concat!(env!("OUT_DIR"), "/mods.rs"));
@@ -11,13 +11,15 @@ use stand_ins::{exec, reflect, state};
 mod page;
 mod rehearse;
 mod same;
+mod typed;
 use std::hint::black_box;
 use std::ops::Range;
-use yavs_ir::{Block, BlockId, Field, Func, Inst, Ops, Program, Reg, RegTy, Ty, TyId};
-use yexwalu::{Class, Column, Direction, Function, Handle, Heap, InstKind, Kind, Memory, Slot, TypeTable, Wanted, descriptor};
+use yavs_ir::{Block, BlockId, Func, Inst, Ops, Program, Reg, RegTy};
+use yexwalu::{Class, Column, Function, Handle, Heap, InstKind, Kind, Memory, Slot, TypeTable, Wanted};
 
 const SIZES: [usize; 4] = [1_000, 10_000, 100_000, 1_000_000];
 const OBJECTS: [usize; 3] = [16, 1024, 16384];
+const TYPES: [usize; 4] = [3, 103, 1003, 4003];
 
 #[repr(C)]
 struct Timespec {
@@ -75,22 +77,56 @@ fn time_on<T>(mut make: impl FnMut() -> T, mut work: impl FnMut(&mut T)) -> f64 
     rounds[2]
 }
 
+// What a row's ratio may be at most. The targets are those that docs/PERFORMANCE.md lists; a row that has none stands there for scale.
+type Target = Option<f64>;
+const TURN: Target = Some(2.0);
+const AS_FAST: Target = Some(1.0);
+const WRITING: Target = Some(0.2);
+const NONE: Target = None;
+
+// Time that grows by so much more than the size, and than the Rust's time, is no longer taken for linear: what grows is the cache that is missed, up to there.
+const LINEAR: f64 = 1.25;
+
 // The rows of the table, and what was measured for the size before.
 #[derive(Default)]
 struct Table {
     last: Option<(String, [f64; 3])>,
+    // with a target, and of these missed
+    aimed: u32,
+    missed: u32,
 }
 
 impl Table {
-    fn row(&mut self, what: &str, size: usize, port: f64, rust: f64) {
+    fn row(&mut self, what: &str, size: usize, target: Target, port: f64, rust: f64) {
         let figures = [size as f64, port, rust];
-        let grown = match &self.last {
-            Some((same, before)) if same == what => (0..3).map(|i| format!("{:.1}", figures[i] / before[i])).collect::<Vec<_>>().join(" | "),
-            _ => " | | ".into(),
+        let mut missed = false;
+        let (name, grown) = match &self.last {
+            Some((same, before)) if same == what => {
+                let [size, port, rust] = [0, 1, 2].map(|i| figures[i] / before[i]);
+                let more = target.is_some() && port > LINEAR * size.max(rust);
+                missed |= more;
+                ("", format!("{size:.1} | {port:.1}{} | {rust:.1}", if more { " missed" } else { "" }))
+            }
+            _ => (what, " | | ".into()),
         };
-        println!("| {what} | {size} | {port:.0} | {rust:.0} | {:.2} | {grown} |", port / rust);
+        // as it is printed
+        let ratio = (100.0 * port / rust).round() / 100.0;
+        let over = target.is_some_and(|most| ratio > most);
+        missed |= over;
+        let aim = target.map(|most| format!("{most:.1}{}", if over { " missed" } else { "" })).unwrap_or_default();
+        println!("| {name} | {} | {} | {} | {ratio:.2} | {aim} | {grown} |", grouped(size as f64), grouped(port), grouped(rust));
+        self.aimed += u32::from(target.is_some());
+        self.missed += u32::from(missed);
         self.last = Some((what.into(), figures));
     }
+}
+
+// A whole number with a comma after each third digit from the right.
+fn grouped(figure: f64) -> String {
+    let digits = format!("{figure:.0}");
+    let mut groups: Vec<String> = digits.as_bytes().rchunks(3).map(|group| group.iter().copied().map(char::from).collect()).collect();
+    groups.reverse();
+    groups.join(",")
 }
 
 // A heap of so many slots whose first ones hold these bytes.
@@ -130,7 +166,7 @@ fn churn(table: &mut Table, slots: usize, how: &str) {
             port.recycle(&[]).unwrap();
         });
         assert!(port.live().unwrap() == slots / 2 && rust.live() == slots / 2);
-        return table.row("alloc, take, recycle (ns a turn), by slots", slots, a, b);
+        return table.row("alloc, take, recycle (ns a turn), by slots", slots, TURN, a, b);
     }
     if how == "checked_churn" {
         let mut on = Some(port);
@@ -141,7 +177,7 @@ fn churn(table: &mut Table, slots: usize, how: &str) {
             on = Some(unknown(heap, |heap| heap.recycle(&[]).unwrap()).0);
         });
         assert!(on.unwrap().live().unwrap() == slots / 2 && rust.live() == slots / 2);
-        return table.row("alloc, take, recycle, checked each time (ns a turn), by slots", slots, a, b);
+        return table.row("alloc, take, recycle, checked each time (ns a turn), by slots", slots, NONE, a, b);
     }
     // placing and taking each step the slot's generation
     let turn = |i: u32| format!("alloc,0,2,{}\ntake,{},0,\nrecycle,0,0,\n", "07".repeat(32), heap::pack(1, slots as u32 / 2, 2 * i + 1));
@@ -149,7 +185,7 @@ fn churn(table: &mut Table, slots: usize, how: &str) {
     let mut room = vec![0; port.memory().pool.len()];
     let copy = time(|| drop(black_box(port.clone())));
     let a = time(|| port.clone().run_with(text.as_bytes(), &mut room).unwrap());
-    table.row("alloc, take, recycle in a script (ns a turn), by slots", slots, (a - copy) / 1000.0, b);
+    table.row("alloc, take, recycle in a script (ns a turn), by slots", slots, NONE, (a - copy) / 1000.0, b);
 }
 
 // The kind and the data of every object, half of the slots holding 32 bytes: one check and one pass.
@@ -169,82 +205,7 @@ fn reading(table: &mut Table, slots: usize) {
     let b = time(|| {
         black_box(there());
     });
-    table.row("all objects by a view (ns), by slots", slots, a, b);
-}
-
-fn field(ty: u32) -> Field {
-    Field { name: String::new(), ty: TyId(ty), desc: None }
-}
-
-// A record of so many fields, by turns a byte, a real and a handle, in a table with so many other types. By a table that was checked once, or is checked each time.
-fn layouts(rows: &mut Table, what: &str, size: usize, fields: usize, more: usize, once: bool) {
-    let mut table = TypeTable::new();
-    let mut prog = Program::default();
-    let (byte, real, access) = (table.enumeration(4, 0), table.real(), table.access());
-    let letters = ["a", "b", "c", "d"].map(String::from).to_vec();
-    for ty in [Ty::Enum { lits: letters, logic: None }, Ty::Real, Ty::Access { target: TyId(0) }] {
-        prog.types.push(ty);
-    }
-    let of = |i: usize| [byte, real, access][i % 3];
-    let record = table.record(&(0..fields).map(|i| (of(i), None)).collect::<Vec<_>>());
-    prog.types.push(Ty::Record { fields: (0..fields).map(|i| field(of(i))).collect() });
-    for _ in 0..more {
-        table.real();
-        prog.types.push(Ty::Real);
-    }
-    let (here, (there, _)) = (table.layout(record, &[]).unwrap(), Ty::layout(&prog.types, &prog.consts, TyId(record), &[]).unwrap());
-    assert!(here.size == there.size && here.align == there.align && here.offsets[..] == there.offsets[..]);
-    let b = time(|| {
-        black_box(Ty::layout(&prog.types, &prog.consts, TyId(record), &[]).unwrap());
-    });
-    let a = if once {
-        let table = table.checked().unwrap();
-        assert_eq!(table.layout(record, &[]).unwrap(), here);
-        time(|| {
-            black_box(table.layout(record, &[]).unwrap());
-        })
-    } else {
-        time(|| {
-            black_box(table.layout(record, &[]).unwrap());
-        })
-    };
-    rows.row(what, size, a, b);
-}
-
-// An array of so many records of two handles and a real. By a table that was checked once, or is checked each time.
-fn objects(rows: &mut Table, count: usize, once: bool) {
-    let mut table = TypeTable::new();
-    let mut prog = Program::default();
-    let (access, real) = (table.access(), table.real());
-    let record = table.record(&[(access, None), (access, None), (real, None)]);
-    let array = table.array(record, None, 1);
-    prog.types.push(Ty::Access { target: TyId(0) });
-    prog.types.push(Ty::Real);
-    prog.types.push(Ty::Record { fields: [access, access, real].iter().map(|t| field(*t)).collect() });
-    prog.types.push(Ty::Array { elem: TyId(record), elem_desc: None, dims: 1 });
-    let mut data = descriptor(&[(1, count as i64, Direction::To)]);
-    data.extend((0..3 * count as u64).flat_map(|x| (x + 1).to_le_bytes()));
-    let mut out = vec![0; 2 * count];
-    let mut there = Vec::new();
-    assert!(heap::object_handles(&prog, TyId(array), &data, &mut there));
-    assert!(table.object_handles_into(array, &data, &mut out) == Ok(2 * count) && out == there);
-    let a = if once {
-        let table = table.checked().unwrap();
-        assert!(table.object_handles_into(array, &data, &mut out) == Ok(2 * count) && out == there);
-        time(|| {
-            black_box(table.object_handles_into(array, &data, &mut out).unwrap());
-        })
-    } else {
-        time(|| {
-            black_box(table.object_handles_into(array, &data, &mut out).unwrap());
-        })
-    };
-    let b = time(|| {
-        let mut out = Vec::with_capacity(2 * count);
-        assert!(heap::object_handles(&prog, TyId(array), &data, &mut out));
-        black_box(out);
-    });
-    rows.row(if once { "object_handles, table checked once (ns), by elements" } else { "object_handles (ns), by elements" }, count, a, b);
+    table.row("all objects by a view (ns), by slots", slots, NONE, a, b);
 }
 
 // So many blocks in a row, each of a write, a safepoint, a read and a conditional branch back and on.
@@ -288,7 +249,7 @@ fn live(table: &mut Table, what: &str, size: usize, blocks: usize, registers: us
     let b = time(|| {
         black_box(roots::live_refs(&prog, &rust, false));
     });
-    table.row(what, size, a, b);
+    table.row(what, size, AS_FAST, a, b);
 }
 
 // A page of so many objects of 64 bytes, written and read by the port and by plain Rust.
@@ -307,11 +268,11 @@ fn pages(table: &mut Table, objects: usize, read: bool, column: Column) {
         let a = time(|| {
             heap.read_page_over(black_box(&text)).unwrap();
         });
-        table.row(&format!("read_{name} (ns), by bytes"), text.len(), a, b);
+        table.row(&format!("read_{name} (ns), by bytes"), text.len(), AS_FAST, a, b);
     } else {
         let b = time(|| page::write(black_box(&heap), planar, &mut plain.0));
         let a = time(|| assert!(black_box(&heap).write_page_with(column, &mut out).is_ok()));
-        table.row(&format!("write_{name} (ns), by bytes"), text.len(), a, b);
+        table.row(&format!("write_{name} (ns), by bytes"), text.len(), WRITING, a, b);
     }
 }
 
@@ -320,7 +281,7 @@ fn copies(table: &mut Table, objects: usize) {
     let text = heap_with(objects, objects, &[7; 64]).write_page().unwrap();
     let mut out = vec![0; text.len()];
     let copy = time(|| black_box(&mut out).copy_from_slice(black_box(&text)));
-    table.row("memcpy of a page (ns), by bytes", text.len(), copy, copy);
+    table.row("memcpy of a page (ns), by bytes", text.len(), NONE, copy, copy);
 }
 
 // Objects of handles, all reached from the first, so that each collection does the same work again: the two heaps, and the handle of the first.
@@ -354,7 +315,7 @@ fn collections(table: &mut Table, shape: &str, n: usize, edges: impl Fn(usize) -
     let a = time(|| port.collect(&types, &[Handle(first)], &[]).unwrap());
     let b = time(|| assert!(rust.collect(&prog, &[first], &[])));
     assert!(port.live().unwrap() == n && rust.live() == n);
-    table.row(&format!("collect, {shape} (ns), by slots"), n, a, b);
+    table.row(&format!("collect, {shape} (ns), by slots"), n, AS_FAST, a, b);
 }
 
 // A chain over every second object: the others go, and the data of those that stay moves together. Each turn collects a fresh copy.
@@ -366,7 +327,7 @@ fn dropping(table: &mut Table, n: usize) {
     let (mut here, mut there) = (port, rust);
     assert!(here.collect(&types, &[Handle(first)], &[]).is_ok() && there.collect(&prog, &[first], &[]));
     assert!(here.live().unwrap() == n.div_ceil(2) && there.live() == n.div_ceil(2));
-    table.row("collect, half of a chain goes (ns), by slots", n, a, b);
+    table.row("collect, half of a chain goes (ns), by slots", n, AS_FAST, a, b);
 }
 
 // A ring that a live register leads to, collected at a safepoint of a function of 64 blocks; the Rust's calls put together.
@@ -384,7 +345,7 @@ fn joined(table: &mut Table, n: usize) {
         assert!(heap::slot_roots(&prog, &[], &[], &mut refs) && rust.collect(&prog, &refs.handles, &[]));
     });
     assert!(port.live().unwrap() == n && rust.live() == n);
-    table.row("collect_joined, ring (ns), by slots", n, a, b);
+    table.row("collect_joined, ring (ns), by slots", n, AS_FAST, a, b);
 }
 
 // All slots are wanted. The Rust has no such call: beside it stands the Rust's collection with the roots that were found, which marks the same objects once.
@@ -396,7 +357,7 @@ fn roots_found(table: &mut Table, shape: &str, n: usize, count: usize, edges: im
     let a = time(|| assert_eq!(port.roots_for_into(&types, &[], &wanted, &mut out), Ok(count)));
     let b = time(|| assert!(rust.collect(&prog, &out[..count], &[])));
     assert!(rust.live() == n);
-    table.row(&format!("roots_for, {shape} (ns), by slots"), n, a, b);
+    table.row(&format!("roots_for, {shape} (ns), by slots"), n, NONE, a, b);
 }
 
 // Two saves of one model, the second with other slot numbers. The Rust has no such call: beside it stands `bench/src/same.rs` over the Rust's heaps.
@@ -406,7 +367,7 @@ fn saves(table: &mut Table, shape: &str, n: usize, slot: impl Fn(usize) -> usize
     let types = TypeTable::new();
     let a = time(|| assert_eq!(port.same(&types, &[Handle(first)], &port_too, &[Handle(second)]), Ok(true)));
     let b = time(|| assert!(same::same(&rust, &[first], &rust_too, &[second])));
-    table.row(&format!("same, {shape} (ns), by slots"), n, a, b);
+    table.row(&format!("same, {shape} (ns), by slots"), n, NONE, a, b);
 }
 
 // Lines of a rehearsal, of which 1,000 objects are held, for four thresholds: the time of one line for one threshold.
@@ -419,10 +380,10 @@ fn rehearsals(table: &mut Table, lines: usize) {
     let there = || thresholds.iter().map(|t| rehearse::run(&steps, *t)).collect::<String>();
     assert_eq!(String::from_utf8(here()).unwrap(), there());
     let turns = (lines * thresholds.len()) as f64;
-    table.row("rehearse, four thresholds (ns a line), by lines", lines, time(|| drop(black_box(here()))) / turns, time(|| drop(black_box(there()))) / turns);
+    table.row("rehearse, four thresholds (ns a line), by lines", lines, NONE, time(|| drop(black_box(here()))) / turns, time(|| drop(black_box(there()))) / turns);
 }
 
-const ROWS: [&str; 21] = ["churn", "checked_churn", "script", "view", "layout", "checked_layout", "many_types", "object_handles", "checked_handles", "live_refs", "sparse_rows", "collect", "joined", "roots_for", "same", "rehearse", "write_page", "read_page", "write_planes", "read_planes", "memcpy"];
+const ROWS: [&str; 25] = ["churn", "checked_churn", "script", "view", "view_handles", "layout", "checked_layout", "many_types", "nested", "object_handles", "checked_handles", "typed_handles", "empty_parts", "live_refs", "sparse_rows", "collect", "joined", "roots_for", "same", "rehearse", "write_page", "read_page", "write_planes", "read_planes", "memcpy"];
 
 fn main() {
     let words: Vec<String> = std::env::args().skip(1).collect();
@@ -432,19 +393,26 @@ fn main() {
     }
     let picked = |row: &str| words.is_empty() || words.iter().any(|w| w == row);
     let mut table = Table::default();
-    println!("| Work | Size | Port | Rust | Port / Rust | Size grows | Port grows | Rust grows |\n|---|---|---|---|---|---|---|---|");
+    println!("| Work | Size | Port (ns) | Rust (ns) | Port / Rust | Target | Size grows | Port grows | Rust grows |\n|---|---|---|---|---|---|---|---|---|");
     for row in ROWS.into_iter().filter(|r| picked(r)) {
         match row {
             "churn" | "checked_churn" | "script" => [16, 256, 4096, 65536].iter().for_each(|n| churn(&mut table, *n, row)),
             "view" => [256, 4096, 65536].iter().for_each(|n| reading(&mut table, *n)),
-            "layout" => [3, 30, 300].iter().for_each(|n| layouts(&mut table, "layout of a record, table checked once (ns), by fields", *n, *n, 0, true)),
-            "checked_layout" => [3, 30, 300].iter().for_each(|n| layouts(&mut table, "layout of a record (ns), by fields", *n, *n, 0, false)),
+            "view_handles" => [256, 4096, 65536].iter().for_each(|n| typed::viewed(&mut table, *n, 4003)),
+            "layout" => [3, 30, 300].iter().for_each(|n| typed::layouts(&mut table, "layout of a record, table checked once (ns), by fields", *n, *n, 0, true)),
+            "checked_layout" => [3, 30, 300].iter().for_each(|n| typed::layouts(&mut table, "layout of a record (ns), by fields", *n, *n, 0, false)),
             "many_types" => {
-                [3, 103, 1003, 4003].iter().for_each(|n| layouts(&mut table, "layout of three fields, table checked once (ns), by other types", *n, 3, n - 3, true));
-                [3, 103, 1003, 4003].iter().for_each(|n| layouts(&mut table, "layout of three fields (ns), by other types", *n, 3, n - 3, false));
+                TYPES.iter().for_each(|n| typed::layouts(&mut table, "layout of three fields, table checked once (ns), by other types", *n, 3, n - 3, true));
+                TYPES.iter().for_each(|n| typed::layouts(&mut table, "layout of three fields (ns), by other types", *n, 3, n - 3, false));
             }
-            "object_handles" => [10, 1000, 100_000].iter().for_each(|n| objects(&mut table, *n, true)),
-            "checked_handles" => [10, 1000, 100_000].iter().for_each(|n| objects(&mut table, *n, false)),
+            "nested" => typed::nested(&mut table),
+            "object_handles" => [10, 1000, 100_000].iter().for_each(|n| typed::objects(&mut table, *n, true)),
+            "checked_handles" => [10, 1000, 100_000].iter().for_each(|n| typed::objects(&mut table, *n, false)),
+            "typed_handles" => {
+                TYPES.iter().for_each(|n| typed::by_types(&mut table, *n, true));
+                TYPES.iter().for_each(|n| typed::by_types(&mut table, *n, false));
+            }
+            "empty_parts" => typed::empty_parts(&mut table),
             "live_refs" => [(4, 8), (64, 64), (1024, 256), (4096, 1024)].iter().for_each(|(b, r)| live(&mut table, "live_refs (ns), by blocks", *b, *b, *r)),
             "sparse_rows" => [64, 1024, 16384].iter().for_each(|r| live(&mut table, "live_refs of 64 blocks (ns), by registers", *r, 64, *r)),
             "collect" => {
@@ -471,5 +439,5 @@ fn main() {
             "write_planes" | "read_planes" => OBJECTS.iter().for_each(|n| pages(&mut table, *n, row == "read_planes", Column::Planes)),
             _ => OBJECTS.iter().for_each(|n| pages(&mut table, *n, row == "read_page", Column::Data)),
         }
-    }
+    }    eprintln!("{} of {} rows with a target miss it", table.missed, table.aimed);
 }
