@@ -491,7 +491,8 @@ fn same_says_all_that_is_wrong() {
 // The proved program, where it is built: the same lines for the same pages.
 #[test]
 fn shelf_prints_what_the_proved_program_prints() {
-    let program = PathBuf::from(env!("CARGO_MANIFEST_DIR")).join("../crates/shelf/out/shelf");
+    let top = std::env::var_os("YEXWALU_PROGRAMS").filter(|top| !top.is_empty()).map_or(PathBuf::from(env!("CARGO_MANIFEST_DIR")).join(".."), PathBuf::from);
+    let program = top.join("crates/shelf/out/shelf");
     if !program.is_file() {
         println!("{} is not built: not compared", program.display());
         return;
