@@ -6,8 +6,10 @@
 //! collection goes by both. A call that is not done says why by a [`Refusal`]: the number that document 01, "The access heap of a saved run", gives it. Numbers in parentheses are these.
 //!
 //! [`Heap::write_page`] saves a heap as a page of text, [`Heap::open`] opens one; [`Heap::page_with`] writes the objects in byte planes, which often pack better. [`TypeTable::write_text`] saves the table beside it, and [`Heap::misfit`]
-//! tells whether the two fit together. A heap is checked when it is read, not call by call: [`Heap`] says which calls check it again. [`Heap::view`] reads many objects, [`Heap::run`] makes many calls from a text. [`Heap::collect`] drops what no root leads to, and
+//! tells whether the two fit together. A heap is checked when it is read, not call by call: [`Heap`] says which calls check it again. [`Heap::view`] reads many objects, their handles by a table that is checked once ([`CheckedTable`]), [`Heap::run`] makes many calls from a text. [`Heap::collect`] drops what no root leads to, and
 //! [`Heap::roots_for`] tells which roots keep just the objects that are wanted. [`Heap::same`] tells whether two heaps hold the same model under whatever slot numbers, and [`Heap::order`] which comes first. The folder `examples` makes, saves, opens, collects and compares heaps; the command `yexwalu` answers questions about pages, and writes them in the form of today.
+//!
+//! Cases and fields may be added to most types here ([`Handle`], [`Slot`] and [`Direction`] stay as they are), so a host makes them by functions and matches with a last `_`. What a version changed stands in docs/CHANGES.md of the repository, what is proved and what is not in host/README.md. The terms are those of the MIT licence, as LICENSE has them.
 //!
 //! ```
 //! use yexwalu::{Heap, Kind, Refusal};

@@ -1,4 +1,4 @@
-//! What goes along with the crate: one version everywhere, a README that shows what the command says, and a list of what is measured that is true.
+//! What goes along with the crate: one version everywhere, its licence, a README that shows what the command says, and a list of what is measured that is true.
 use std::fs;
 use std::io::Write;
 use std::process::{Command, Stdio};
@@ -8,8 +8,27 @@ fn text(path: &str) -> String {
 }
 
 #[test]
-fn the_pkg_config_file_has_the_crates_version() {
-    assert!(text("yexwalu.pc").contains(&format!("\nVersion: {}\n", env!("CARGO_PKG_VERSION"))));
+fn there_is_one_version() {
+    let version = env!("CARGO_PKG_VERSION");
+    assert!(text("yexwalu.pc").contains(&format!("\nVersion: {version}\n")));
+    for manifest in ["compare/Cargo.toml", "../bench/Cargo.toml"] {
+        assert!(text(manifest).contains(&format!("\nversion = \"{version}\"\n")), "{manifest}");
+    }
+    // changes stand under versions, newest first
+    let changes = text("../docs/CHANGES.md");
+    let versions: Vec<&str> = changes.lines().filter_map(|line| line.strip_prefix("## ")).collect();
+    assert_eq!(versions[0], version);
+    let numbers: Vec<Vec<u32>> = versions.iter().map(|v| v.split('.').map(|n| n.parse().unwrap()).collect()).collect();
+    assert!(numbers.windows(2).all(|pair| pair[0] > pair[1]), "{versions:?}");
+}
+
+#[test]
+fn the_licence_is_there() {
+    let (manifest, licence) = (text("Cargo.toml"), text("../LICENSE"));
+    assert!(manifest.contains("\nlicense = \"MIT\"\n") && licence.starts_with("MIT License\n\nCopyright (c) "));
+    // the same words as those of the Rust that is ported
+    let terms = licence.split_once("\n\nPermission ").unwrap().1;
+    assert!(text("../NOTICE").ends_with(terms));
 }
 
 // What the command says at the top of the repository, by its words and what it reads.
