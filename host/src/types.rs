@@ -296,7 +296,10 @@ impl TypeTable {
             match call(&mut out) {
                 Err(Refusal::ShortList) => room = 2 * room + 1,
                 Err(why) => return Err(why),
-                Ok(n) => return Ok(out[..n].iter().map(|x| Handle(*x)).collect()),
+                Ok(n) => {
+                    out.truncate(n);
+                    return Ok(out.into_iter().map(Handle).collect());
+                }
             }
         }
     }
