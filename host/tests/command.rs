@@ -660,7 +660,7 @@ fn names_that_begin_with_a_dash() {
     let usage = |why: &str| (2, String::new(), format!("yexwalu: {why}\nyexwalu --help says more.\n"));
     assert_eq!(here(&["check", "-old.page"]), usage("check has no option -old.page"));
     assert_eq!(here(&["check", "--"]), usage("check takes files"));
-    assert_eq!(here(&["--", "check", "-old.page"]), usage("no command --"));
+    assert_eq!(here(&["--", "check", "./-old.page"]), usage("no command --"));
     fs::remove_dir_all(folder).unwrap();
 }
 
