@@ -1,21 +1,21 @@
 -- What the code's readers say of a line: one law for each way out. Assumes nothing.
-use Prim.Native.Nat.{ℕ, ◌≤◌, ◌<◌, ◌^◌}
+use Prim.Native.Nat.{ℕ, ◌≤◌, ◌<◌}
 use native.Mathlib.Omega.{arith}
-use mathlib.Core.Bool.{Bool, true, false}
+use mathlib.Core.Bool.{true, false}
 use mathlib.Core.List.{List, [], ◌∷◌}
 use mathlib.Core.Option as maybe
 use mathlib.Core.Option.{none}
-use mathlib.Core.Path.{◌≡◌, refl, sym, ap, ◌∙◌, subst}
-use lib.ListN.{length, drop, length-drop, drop_of_length-le}
-use Rattle.text.specs.Text.{give, ascii, comma, newline, digit_of, read_hex, read_literal, read_field}
-use Rattle.text.specs.Format.{number, bytes_line, pair}
-use Rattle.text.specs.Answer.{value_answer, literal_answer, hex_answer, hex_at}
+use mathlib.Core.Path.{◌≡◌, refl, sym, ◌∙◌, subst}
+use lib.ListN.{length, drop, length-drop}
+use Rattle.text.specs.Text.{give, ascii, comma, newline, digit_of, read_literal, read_field}
+use Rattle.text.specs.Format.{number, pair}
+use Rattle.text.specs.Answer.{value_answer, literal_answer}
 use Rattle.std.specs.Prelude.{Option, Some, None}
-use Rattle.text.proofs.Getting.{answer-none, field_found, hex-found, hex-missing, literal-found, literal-lost}
+use Rattle.text.proofs.Getting.{answer-none, field_found, literal-found, literal-lost}
 use Rattle.script.specs.Script.{alloc_format}
 use Rattle.script.specs.Found.{AllocReads}
 use Rattle.script.specs.declared.AllocLine.{AllocLine}
-use Rattle.rehearsal.specs.Lines.{Line as Step, alloc, store, drop as drops, store_format, read_alloc, read_store, read_drop, read_line, is_text}
+use Rattle.rehearsal.specs.Lines.{Line as Step, store_format, read_alloc, read_store, read_drop, read_line, is_text}
 use Rattle.rehearsal.proofs.Reading.{line-shorter, text-nothing, text-bad, text-more}
 use Rattle.rehearsal_lines.specs.Found.{step_in, Reads, LineRead}
 use Rattle.rehearsal_lines.specs.declared.Line.{Line}

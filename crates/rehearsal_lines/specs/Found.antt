@@ -1,5 +1,5 @@
 -- What the code finds in a line of a rehearsal.
-use Rattle.std.specs.Prelude.{ℕ, ◌≤◌, ◌<◌, ◌^◌, List, ◌≡◌, length, drop as skip, Option, Some, None}
+use Rattle.std.specs.Prelude.{ℕ, ◌≤◌, List, ◌≡◌, length, drop as skip, Option, Some, None}
 use Rattle.std.proofs.Math.Option as maybe
 use Rattle.std.proofs.Math.Option.{none}
 use Rattle.text.specs.Text.{give}

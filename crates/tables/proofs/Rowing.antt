@@ -2,7 +2,7 @@
 use Prim.Native.Nat.{ℕ, suc, ◌+◌, ◌*◌, ◌≤◌, ◌<◌}
 use mathlib.Core.List.{List, [], ◌∷◌, ◌++◌, append_assoc, append-nil, flat_map}
 use mathlib.Core.Path.{◌≡◌, refl, sym, ap, ◌∙◌}
-use lib.ListN.{length, take, drop, get_or, set, length-append}
+use lib.ListN.{length, take, drop, get_or, length-append}
 use lib.Seq.{drop-drop, take_all, take-length}
 use native.Mathlib.Omega.{arith}
 use native.Mathlib.Nat.{mul-suc}
@@ -10,7 +10,7 @@ use Rattle.text.specs.Text.{decimal, comma}
 use Rattle.text.specs.Format.{All}
 use Rattle.text.specs.Put.{Puts}
 use Rattle.text.proofs.Laws.{decimal-length}
-use Rattle.text.proofs.Putting.{puts-puts, puts-byte, puts-length, puts-at, puts_none}
+use Rattle.text.proofs.Putting.{puts-at, puts_none}
 use Rattle.pages.proofs.Writing.{flat-more-length, flat-room, puts-more}
 use Rattle.tables.specs.Table.{Row, RowWithin, field, name_text, row_line}
 use Rattle.tables.specs.Lists.{rows_of, numbers_in}

@@ -1,8 +1,7 @@
 // A type table as text: definitions and laws, and the names in it.
 #![tactic(auto)]
 
-ghost use Rattle.std.specs.Prelude.{◌≡◌, ℕ, ◌+◌, ◌-◌, ◌*◌, ◌/◌, ◌≤◌, ◌<◌, length, take, drop};
-ghost use mathlib.Core.List.{List, [], ◌∷◌, ◌++◌, flat_map};
+ghost use Rattle.std.specs.Prelude.{◌≡◌, ◌+◌, ◌-◌, ◌≤◌, ◌<◌, length, drop};
 ghost use Rattle.tables.specs.Table.{read_name};
 ghost use Rattle.tables.specs.Answer.{ending, Got};
 
