@@ -1,35 +1,61 @@
 -- The line of a page, field after field. Assumes nothing.
-use Prim.Native.Nat.{ℕ, ◌+◌, ◌^◌, ◌≤◌, ◌<◌}
-use mathlib.Core.List.{List, [], ◌∷◌, ◌++◌, append_assoc, map}
-use mathlib.Core.Path.{◌≡◌, refl, sym, ap, ◌∙◌}
+use Prim.Native.Nat.{ℕ, ◌+◌, ◌*◌, ◌≤◌, ◌<◌}
+use mathlib.Core.List.{List, [], ◌∷◌, ◌++◌, append_assoc}
+use mathlib.Core.Path.{◌≡◌, refl, ◌∙◌}
 use native.Mathlib.Omega.{arith}
 use lib.ListN.{length, length-append}
 use Rattle.text.specs.Text.{decimal, line}
-use Rattle.text.specs.Put.{Puts}
+use Rattle.text.specs.Wrote.{Wrote}
+use Rattle.text.specs.declared.output.Out.{Out}
 use Rattle.text.proofs.Laws.{decimal-length}
-use Rattle.text.proofs.Putting.{puts-puts, puts-at}
+use Rattle.text.proofs.Putting.{puts-puts, puts-at, puts_none, puts-length}
 use Rattle.figures.specs.declared.Figures.{Figures}
 use Rattle.figures.specs.Figures.{mean_of, rest_of, figures_line}
 
+abbrev pub field : (n end : ℕ) → List ℕ
+field n end = decimal n ++ (end ∷ [])
+
 -- a number of 64 bits has at most 20 digits
-pub field-length : (n end : ℕ) → n < 18446744073709551616 → length (decimal n ++ (end ∷ [])) ≤ 21
+field-length : (n end : ℕ) → n < 18446744073709551616 → length (field n end) ≤ 21
 field-length n end h = omega (arith, length-append (decimal n) (end ∷ []), decimal-length 19 n (omega arith))
 
-pub field-ends : {a b : List ℕ} {at r : ℕ} (n end : ℕ) → Puts a b at r (decimal n ++ (end ∷ [])) → n < 18446744073709551616 → r ≤ at + 21
-field-ends n end p h = omega (arith, p.next, field-length n end h)
+-- x is written, which is k fields, in a page that has room for a line
+pub record Fields (o o' : Out) (k : ℕ) (x : List ℕ) : Type 0 where
+  pub wrote : Wrote o o' x
+  pub far : length x ≤ 21 * k
+  pub same : length o'.page.now ≡ length o.page.now
+  pub room : o.at + 160 ≤ length o.page.now
 
-abbrev field : (n end : ℕ) → List ℕ
-field n end = decimal n ++ (end ∷ [])
+pub none-yet : (o : Out) → o.at + 160 ≤ length o.page.now → Fields o o 0 []
+none-yet o h = record { wrote = record { loan = refl; puts = puts_none o.page.now o.at (omega arith) }; far = omega arith; same = refl; room = h }
+
+module _ {o o' : Out} {k : ℕ} {x : List ℕ} (n end : ℕ) (h : n < 18446744073709551616) (f : Fields o o' k x) (l : k < 7) where
+  pub room-for : o'.at + length (field n end) ≤ length o'.page.now
+  room-for = omega (arith, f.wrote.puts.next, f.far, f.same, f.room, field-length n end h)
+
+  pub one-more : {o'' : Out} → Wrote o' o'' (field n end) → Fields o o'' (k + 1) (x ++ field n end)
+  one-more w =
+      record {
+        wrote = record { loan = w.loan ∙ f.wrote.loan; puts = puts-puts f.wrote.puts w.puts (omega (arith, f.room)) };
+        far = omega (arith, length-append x (field n end), f.far, field-length n end h);
+        same = puts-length w.puts room-for ∙ f.same;
+        room = f.room;
+      }
 
 line-parts : (page answer : ℕ) (f : Figures) →
     field page 44 ++ field answer 44 ++ field f.objects 44 ++ field f.bytes 44 ++ field f.largest 44 ++ field (mean_of f) 44 ++ field (rest_of f) 10 ≡ figures_line page answer f
 unfolding figures_line line
 line-parts page answer f = simp append_assoc
 
-module _ {a b1 b2 b3 b4 b5 b6 b7 : List ℕ} {at k1 k2 k3 k4 k5 k6 k7 mean rest : ℕ} (page answer : ℕ) (f : Figures) where
-  pub puts-line : Puts a b1 at k1 (field page 44) → Puts b1 b2 k1 k2 (field answer 44) → Puts b2 b3 k2 k3 (field f.objects 44) → Puts b3 b4 k3 k4 (field f.bytes 44) →
-      Puts b4 b5 k4 k5 (field f.largest 44) → Puts b5 b6 k5 k6 (field mean 44) → Puts b6 b7 k6 k7 (field rest 10) → mean ≡ mean_of f → rest ≡ rest_of f → at ≤ length a →
-      Puts a b7 at k7 (figures_line page answer f)
-  puts-line p1 p2 p3 p4 p5 p6 p7 m r h =
-      puts-at (puts-puts (puts-puts (puts-puts (puts-puts (puts-puts (puts-puts p1 p2 h) p3 h) p4 h) p5 h) (puts-at p6 refl (ap (λ (n : ℕ). field n 44) m)) h) (puts-at p7 refl (ap (λ (n : ℕ). field n 10) r)) h)
-      refl (line-parts page answer f)
+pub is-line : {o o' : Out} (page answer : ℕ) (f : Figures) {mean rest : ℕ} → mean ≡ mean_of f → rest ≡ rest_of f →
+    Wrote o o' (field page 44 ++ field answer 44 ++ field f.objects 44 ++ field f.bytes 44 ++ field f.largest 44 ++ field mean 44 ++ field rest 10) → Wrote o o' (figures_line page answer f)
+is-line page answer f m r w =
+    record {
+      loan = w.loan;
+      puts =
+          puts-at w.puts refl
+          ((λ j. field page 44 ++ field answer 44 ++ field f.objects 44 ++ field f.bytes 44 ++ field f.largest 44 ++ field (m j) 44 ++ field (r j) 10) ∙ line-parts page answer f);
+    }
+
+pub line-room : {o o' : Out} {k : ℕ} {x : List ℕ} → Fields o o' k x → k ≤ 7 → (o'.at ≤ o.at + 160) × (length o'.page.now ≡ length o.page.now)
+line-room f l = (omega (arith, f.wrote.puts.next, f.far), f.same)

@@ -1,15 +1,15 @@
 // Figures of a page: how many objects it has, the bytes of their data and the largest of them; and the line that is printed of it.
 #![tactic(auto)]
 
-ghost use Rattle.std.specs.Prelude.{◌≡◌, [], ◌∷◌, ◌++◌, ◌+◌, ◌^◌, ◌≤◌, ◌<◌, max, ltb, length, if◌then◌else◌, IfOk};
+ghost use Rattle.std.specs.Prelude.{◌≡◌, ◌+◌, ◌^◌, ◌≤◌, ◌<◌, max, ltb, length, if◌then◌else◌, IfOk};
 ghost use Rattle.word.specs.Result.{refused};
-ghost use Rattle.text.specs.Text.{decimal};
-ghost use Rattle.text.specs.Put.{Puts};
+ghost use Rattle.text.specs.Wrote.{Wrote};
 ghost use Rattle.heap.specs.Lent.{lent, view};
 ghost use Rattle.figures.specs.Figures.{no_figures, merge, figures_of, mean_of, rest_of, page_figures, figures_line};
 ghost use Rattle.figures.specs.Inner.Counting.{one, shown_as, Lies, Small};
 
 use heap::Heap;
+use text::output::Out;
 
 // How many objects, the bytes of their data, and the most that one of them has.
 #[derive(Clone, Copy)]
@@ -131,27 +131,17 @@ impl Memory {
     }
 }
 
-// Puts a number and the byte after it from `at` on.
-fn put_field(out: &mut [u8; 65536], at: usize, n: u64, end: u8) -> usize
-    requires { at + 21 ≤ 65536 }
-    ensures puts { Puts out.old out.new at result (decimal n ++ (end ∷ [])) }
-    ensures upper_bound { (result ≤ at + 21) × (length out.old ≡ 65536) }
+// Puts the line of a page, or the last line.
+pub fn put_line(out: &mut Out, page: u64, answer: u64, f: Figures)
+    requires { out.old.at + 160 ≤ length out.old.page.now }
+    ensures wrote { Wrote out.old out.new (figures_line page answer f) }
+    ensures upper_bound { (out.new.at ≤ out.old.at + 160) × (length out.new.page.now ≡ length out.old.page.now) }
 {
-    pages::put_number(out, at, n, end)
-}
-
-// Puts the line of a page, or the last line, from `at` on.
-// Kept: it answers the place where the line ends, which the next line begins at; a writer would be made and taken apart for each line.
-pub fn put_line(out: &mut [u8; 65536], at: usize, page: u64, answer: u64, f: Figures) -> usize
-    requires { at + 160 ≤ 65536 }
-    ensures puts { Puts out.old out.new at result (figures_line page answer f) }
-    ensures upper_bound { (result ≤ at + 160) × (length out.old ≡ 65536) }
-{
-    let a = put_field(out, at, page, b',');
-    let b = put_field(out, a, answer, b',');
-    let c = put_field(out, b, f.objects, b',');
-    let d = put_field(out, c, f.bytes, b',');
-    let e = put_field(out, d, f.largest, b',');
-    let g = put_field(out, e, f.mean(), b',');
-    put_field(out, g, f.rest(), b'\n')
+    out.value(page, b',');
+    out.value(answer, b',');
+    out.value(f.objects, b',');
+    out.value(f.bytes, b',');
+    out.value(f.largest, b',');
+    out.value(f.mean(), b',');
+    out.value(f.rest(), b'\n');
 }

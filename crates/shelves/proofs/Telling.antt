@@ -2,7 +2,7 @@
 use Prim.Native.Nat.{ℕ, suc, ◌+◌, ◌-◌, ◌*◌, ◌≤◌, ◌<◌}
 use mathlib.Core.Bool.{Bool, true, false}
 use mathlib.Core.List.{List, [], ◌∷◌, ◌++◌, append_assoc, append-nil, map}
-use mathlib.Core.Path.{◌≡◌, refl, sym, ap, ◌∙◌}
+use mathlib.Core.Path.{◌≡◌, refl, sym, ap, ◌∙◌, subst}
 use native.Mathlib.Omega.{arith}
 use native.Mathlib.Numerals.{add-one}
 use native.Mathlib.Nat.{le_refl}
@@ -13,6 +13,8 @@ use Rattle.word.specs.Result.{Result, ok, refused}
 use Rattle.word.proofs.PutLaws.{take_put}
 use Rattle.text.specs.Text.{ascii}
 use Rattle.text.specs.Put.{put_text, Puts}
+use Rattle.text.specs.Wrote.{Wrote}
+use Rattle.text.specs.declared.output.Out.{Out}
 use Rattle.text.proofs.Putting.{puts-puts, puts-at}
 use Rattle.figures.specs.declared.Figures.{Figures}
 use Rattle.std.specs.Prelude.{Result as Outcome}
@@ -50,6 +52,14 @@ print-on k t r rs =
 pub puts-take : {a b : List ℕ} {at r : ℕ} {t : List ℕ} → Puts a b at r t → at ≤ length a → take r b ≡ take at a ++ t
 puts-take {a} {b} {at} {r} {t} p h =
     (λ j. take (p.next j) (p.out j)) ∙ take_put a at t (length t) h (le_refl (length t)) ∙ ap (λ (x : List ℕ). take at a ++ x) (take-length t)
+
+-- a page that is written on is the one that was there
+pub written-on : {a b o : Out} {t : List ℕ} → a ≡ b → Wrote a o t → Wrote b o t
+written-on {o = o} {t = t} e w = subst (λ (x : Out). Wrote x o t) e w
+
+-- where a line more ends, after no more than one
+pub ends-near : {a b : Out} {n : ℕ} → a ≡ b → n ≤ a.at + 160 → b.at ≤ 160 → n ≤ 65536
+ends-near e l m = omega (arith, l, m, ap (λ (x : Out). x.at) e)
 
 -- ---- a page was answered
 

@@ -2,11 +2,12 @@
 // part of it, `finish`. Their contracts say that what they print is, put together, the text that `shelf_text` gives for the whole input.
 #![tactic(auto)]
 
-ghost use Rattle.std.specs.Prelude.{◌≡◌, ◌||◌, List, ℕ, ◌+◌, ◌*◌, ◌≤◌, min, eqb, ltb};
+ghost use Rattle.std.specs.Prelude.{◌≡◌, ◌||◌, List, ℕ, ◌+◌, ◌*◌, ◌≤◌, length, min, eqb, ltb};
 ghost use Rattle.figures.specs.Inner.Counting.{line_of, Small};
-ghost use Rattle.shelves.specs.Inner.Steps.{GoodAt, Good, Begins, Reads, Takes, Due, After, Answers, Goes, Begun, Ends, is_over, is_cut_off};
+ghost use Rattle.shelves.specs.Inner.Steps.{GoodAt, Good, Begins, Reads, Takes, Due, After, Answers, Goes, SamePage, Begun, Ends, is_over, is_cut_off};
 
 use figures::{Figures, Memory};
+use text::output::Out;
 
 mod reading;
 
@@ -215,20 +216,16 @@ fn line_of(shown: Result<Figures, u64>) -> (u64, Figures)
     }
 }
 
-// A page has ended: its line, and the totals with it; and where in the output the line ends.
-fn answer(
-    shelf: Shelf,
-    shown: Result<Figures, u64>,
-    out: &mut [u8; 65536],
-    to: usize,
-) -> (Shelf, usize)
+// A page has ended: its line, and the totals with it.
+fn answer(shelf: Shelf, shown: Result<Figures, u64>, out: &mut Out) -> Shelf
     requires pages_bound { (shelf.pages ≤ 999999) × (shelf.total.objects ≤ 4096 * shelf.pages) × (shelf.total.bytes ≤ 16384 * shelf.pages) × Small (line_of shown).1 }
-    requires to_bound { to + 160 ≤ 65536 }
-    ensures { Answers shelf shown out.old to result.0 out.new result.1 }
+    requires room { (out.old.at + 160 ≤ 65536) × (length out.old.page.now ≡ 65536) }
+    ensures answers { Answers shelf shown out.old.page.now out.old.at result out.new.page.now out.new.at }
+    ensures same_page { SamePage out.old out.new }
 {
     let (number, figures) = line_of(shown);
-    let end = figures::put_line(out, to, shelf.pages + 1, number, figures);
-    (shelf.after(figures), end)
+    figures::put_line(out, shelf.pages + 1, number, figures);
+    shelf.after(figures)
 }
 
 // Is a page begun or, where the input could not be read on, due?
@@ -242,39 +239,35 @@ fn is_cut_off(at: At, failed: bool) -> bool
     }
 }
 
-// How many bytes of the input a step took, and where in the output it ended.
-#[derive(Clone, Copy)]
-pub struct Progress {
-    pub used: usize,
-    pub to: usize,
-}
-
-// Takes in some input, and puts the line of a page that has ended.
+// Takes in some input, and puts the line of a page that has ended. The second is how many bytes that took.
 fn step(
     shelf: Shelf,
     held: &mut [u8; 32768],
     memory: &mut Memory,
     input: &[u8],
-    out: &mut [u8; 65536],
-    to: usize,
-) -> (Shelf, Progress)
-    requires { Good shelf × (to + 160 ≤ 65536) }
-    ensures { Goes shelf held.old input.now out.old to result.0 held.new out.new result.1.used result.1.to }
+    out: &mut Out,
+) -> (Shelf, usize)
+    requires { Good shelf × (out.old.at + 160 ≤ 65536) × (length out.old.page.now ≡ 65536) }
+    ensures goes { Goes shelf held.old input.now out.old.page.now out.old.at result.0 held.new out.new.page.now result.1 out.new.at }
+    ensures same_page { SamePage out.old out.new }
 {
     let taken = take_in(shelf.at, input, held);
     let used = taken.used;
     match taken.next {
-        Next::Still(at) => (Shelf { at, ..shelf }, Progress { used, to }),
+        Next::Still(at) => (Shelf { at, ..shelf }, used),
         Next::Whole(n) => {
             let shown = memory.show(&held[..n]);
-            let (after, to) = answer(shelf, shown, out, to);
-            (after, Progress { used, to })
+            (answer(shelf, shown, out), used)
         }
-        Next::Passed => {
-            let (after, to) = answer(shelf, figures::no_page(), out, to);
-            (after, Progress { used, to })
-        }
+        Next::Passed => (answer(shelf, figures::no_page(), out), used),
     }
+}
+
+// How many bytes of the input were taken in, and where in the output the lines end.
+#[derive(Clone, Copy)]
+pub struct Progress {
+    pub used: usize,
+    pub to: usize,
 }
 
 impl Reading {
@@ -309,21 +302,20 @@ impl Reading {
         ensures { Goes self.old.shelf self.old.held input.now out.old 0
             self.new.shelf self.new.held out.new result.used result.to }
     {
+        let mut page = Out { page: out, at: 0 };
         let mut used = 0;
-        let mut to = 0;
         // Kept: how much a turn takes is what the run makes of it, so that no iterator gives the parts.
         while used < input.len() {
-            if 65376 < to {
-                return Progress { used, to };
+            if 65376 < page.at {
+                return Progress { used, to: page.at };
             }
             let held = &mut self.held;
             let memory = &mut self.memory;
-            let (shelf, now) = step(self.shelf, held, memory, &input[used..], out, to);
+            let (shelf, taken) = step(self.shelf, held, memory, &input[used..], &mut page);
             self.shelf = shelf;
-            used += now.used;
-            to = now.to;
+            used += taken;
         }
-        Progress { used, to }
+        Progress { used, to: page.at }
     }
 
     // The line of a page that was cut off, if there is one, and the last line.
@@ -331,10 +323,11 @@ impl Reading {
         ensures { Ends self.now.shelf failed out.new result }
     {
         let shelf = self.shelf;
+        let mut page = Out { page: out, at: 0 };
         if is_cut_off(shelf.at, failed) {
-            let to = figures::put_line(out, 0, shelf.pages + 1, 17, Figures::none());
-            return figures::put_line(out, to, 0, 0, shelf.total);
+            figures::put_line(&mut page, shelf.pages + 1, 17, Figures::none());
         }
-        figures::put_line(out, 0, 0, 0, shelf.total)
+        figures::put_line(&mut page, 0, 0, shelf.total);
+        page.at
     }
 }

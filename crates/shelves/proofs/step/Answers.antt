@@ -9,17 +9,29 @@ use Rattle.shelves.proofs.step.Goals as goal
 pub take_in-taken-requires : goal.take_in-taken-requires
 take_in-taken-requires c = c.requires.0.at
 
-pub answer-to-requires : goal.answer-to-requires
-answer-to-requires c = record { pages_bound = (before_last c.args.shelf c.requires.0 c.args.held.now c.args.input.now c.args.out.now _ _ c.args.to c.take_in-taken.ensures (Whole c.in-Whole.n) c.in-Whole.is refl, c.requires.0.objects, c.requires.0.bytes, small-line _ c.show-shown.ensures.small); to_bound = c.requires.1 }
+pub answer-requires : goal.answer-requires
+answer-requires c = record { pages_bound = (before_last c.args.shelf c.requires.0 c.args.held.now c.args.input.now c.args.out.now.page.now _ _ c.args.out.now.at c.take_in-taken.ensures (Whole c.in-Whole.n) c.in-Whole.is refl, c.requires.0.objects, c.requires.0.bytes, small-line _ c.show-shown.ensures.small); room = (c.requires.1, c.requires.2) }
 
-pub answer-to-requires-in-Passed : goal.answer-to-requires-in-Passed
-answer-to-requires-in-Passed c = record { pages_bound = (before_last c.args.shelf c.requires.0 c.args.held.now c.args.input.now c.args.out.now _ _ c.args.to c.take_in-taken.ensures Passed c.in-Passed.is refl, c.requires.0.objects, c.requires.0.bytes, subst (λ r. Small (line_of r).1) (sym c.no_page.ensures) small-none); to_bound = c.requires.1 }
+pub answer-requires-in-Passed : goal.answer-requires-in-Passed
+answer-requires-in-Passed c = record { pages_bound = (before_last c.args.shelf c.requires.0 c.args.held.now c.args.input.now c.args.out.now.page.now _ _ c.args.out.now.at c.take_in-taken.ensures Passed c.in-Passed.is refl, c.requires.0.objects, c.requires.0.bytes, subst (λ r. Small (line_of r).1) (sym c.no_page.ensures) small-none); room = (c.requires.1, c.requires.2) }
 
 pub returns-in-Still : goal.returns-in-Still
-returns-in-Still c = goes-still c.args.shelf c.requires.0 c.args.held.now c.args.input.now c.args.out.now _ _ c.args.to c.take_in-taken.ensures c.in-Still.at c.in-Still.is (omega (arith, c.requires.1))
+returns-in-Still c =
+    record {
+      goes = goes-still c.args.shelf c.requires.0 c.args.held.now c.args.input.now c.args.out.now.page.now _ _ c.args.out.now.at c.take_in-taken.ensures c.in-Still.at c.in-Still.is (omega (arith, c.requires.1));
+      same_page = record { loan = refl; size = refl };
+    }
 
 pub returns-in-Whole : goal.returns-in-Whole
-returns-in-Whole c = goes-whole c.args.shelf c.requires.0 c.args.held.now c.args.input.now c.args.out.now _ _ c.args.to c.take_in-taken.ensures c.answer-to.ensures c.in-Whole.n c.in-Whole.is c.show-shown.ensures.value
+returns-in-Whole c =
+    record {
+      goes = goes-whole c.args.shelf c.requires.0 c.args.held.now c.args.input.now c.args.out.now.page.now _ _ c.args.out.now.at c.take_in-taken.ensures c.answer.ensures.answers c.in-Whole.n c.in-Whole.is c.show-shown.ensures.value;
+      same_page = c.answer.ensures.same_page;
+    }
 
 pub returns-in-Passed : goal.returns-in-Passed
-returns-in-Passed c = goes-passed c.args.shelf c.requires.0 c.args.held.now c.args.input.now c.args.out.now _ _ c.args.to c.take_in-taken.ensures c.answer-to-in-Passed.ensures c.in-Passed.is c.no_page.ensures
+returns-in-Passed c =
+    record {
+      goes = goes-passed c.args.shelf c.requires.0 c.args.held.now c.args.input.now c.args.out.now.page.now _ _ c.args.out.now.at c.take_in-taken.ensures c.answer-in-Passed.ensures.answers c.in-Passed.is c.no_page.ensures;
+      same_page = c.answer-in-Passed.ensures.same_page;
+    }

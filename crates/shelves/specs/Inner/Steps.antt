@@ -1,6 +1,7 @@
 -- What is left to be printed, by where a run stands; the contracts of its steps say that a step leaves it as it is, but for what it printed.
 use Rattle.std.specs.Prelude.{ℕ, ◌+◌, ◌-◌, ◌*◌, ◌^◌, ◌≤◌, ◌<◌, Bool, true, false, List, [], ◌∷◌, ◌++◌, map, ◌≡◌, ltb, length, take, drop, if◌then◌else◌}
 use Rattle.word.specs.Result.{Result, refused}
+use Rattle.text.specs.declared.output.Out.{Out}
 use Rattle.figures.specs.declared.Figures.{Figures}
 use Rattle.shelves.specs.declared.At.{At}
 use Rattle.shelves.specs.declared.At.TheVariants.{Line, Page as InPage, Passing, Over}
@@ -107,6 +108,11 @@ pub record Answers (s : Shelf) (sh : Outcome Figures ℕ) (out : List ℕ) (from
   pub room : to ≤ 65536
   pub same : (r : Result Figures) → sh ≡ shown_as r → (failed : Bool) (held rest : List ℕ) →
       take from out ++ printed (s.pages + 1) s.total (r ∷ answers_in (999999 - s.pages) failed rest) ≡ take to out' ++ text_left s' failed held rest
+
+-- the same page, written further
+pub record SamePage (o o' : Out) : Type 0 where
+  pub loan : o'.page.ghost_name ≡ o.page.ghost_name
+  pub size : length o'.page.now ≡ length o.page.now
 
 -- some input was taken in, and what was printed stands in `out` from `from` up to `to`
 pub record Goes (s : Shelf) (held input out : List ℕ) (from : ℕ) (s' : Shelf) (held' out' : List ℕ) (used to : ℕ) : Type 0 where
