@@ -1,8 +1,8 @@
 // The rehearsal of one threshold after another (request [12]), each from a new heap, and the line that is printed of each.
 #![tactic(auto)]
 
-ghost use Rattle.std.specs.Prelude.{◌≡◌, true, [], ◌∷◌, ◌++◌, ◌+◌, ◌/◌, ◌≤◌, length};
-ghost use Rattle.text.specs.Put.{Puts};
+ghost use Rattle.std.specs.Prelude.{◌≡◌, true, ◌/◌, length};
+ghost use Rattle.text.specs.Wrote.{Wrote};
 ghost use Rattle.ty.specs.View.{lent as tabled};
 ghost use Rattle.heap.specs.Lent.{lent};
 ghost use Rattle.rehearsal.specs.Lines.{is_text};
@@ -15,6 +15,7 @@ use refusal::Refusal;
 use rehearsal_line::{Plan, do_line};
 use rehearsal_lines::read_line;
 use rehearsal_steps::Going;
+use text::output::Out;
 use ty::Table;
 
 // What is rehearsed: the type table, the text of the lines, and the thresholds.
@@ -103,17 +104,17 @@ fn number(answer: Option<Refusal>) -> u64
     }
 }
 
-// Puts the line of a rehearsal from `at` on, and answers where it ends.
-// Kept: it answers the place where the line ends, which the next line begins at; a writer would be made and taken apart for each line.
-fn put_figures(out: &mut [u8], at: usize, threshold: u64, g: Going) -> usize
-    requires { CanPut out.old at threshold g }
-    ensures { Puts out.old out.new at result (figures_line (figures_in threshold g)) }
+// Puts the line of a rehearsal.
+fn put_figures(out: &mut Out, threshold: u64, g: Going)
+    requires { CanPut out.old.page.now out.old.at threshold g }
+    ensures { Wrote out.old out.new (figures_line (figures_in threshold g)) }
 {
-    let a = pages::put_number(out, at, threshold, 44);
-    let b = pages::put_number(out, a, g.collections, 44);
-    let c = pages::put_number(out, b, g.highest, 44);
-    let d = pages::put_number(out, c, g.size, 44);
-    pages::put_number(out, d, number(g.answer), 10)
+    let answer = number(g.answer);
+    out.value(threshold, b',');
+    out.value(g.collections, b',');
+    out.value(g.highest, b',');
+    out.value(g.size, b',');
+    out.value(answer, b'\n');
 }
 
 // The header of the last rehearsal's heap, and how many bytes were printed.
@@ -142,7 +143,7 @@ pub fn rehearse_all(
     ensures marks_unchanged { (marks.new ≡ marks.old) × (work.new ≡ work.old) }
 {
     let mut h = heap;
-    let mut at = 0;
+    let mut page = Out { page: out, at: 0 };
     for threshold in what.thresholds {
         let plan = Plan {
             table: what.table,
@@ -151,10 +152,10 @@ pub fn rehearse_all(
         };
         let g = rehearse_one(&plan, narrow, wide, pool, words, marks, work);
         h = g.heap;
-        at = put_figures(out, at, *threshold, g);
+        put_figures(&mut page, *threshold, g);
     }
     Rehearsed {
         heap: h,
-        written: at,
+        written: page.at,
     }
 }

@@ -1,21 +1,50 @@
 -- `rehearsal_runs::put_figures` meets its contract, field after field.
-use Rattle.rehearsal_runs.proofs.Printing.{room-1, room-2, room-3, room-4, room-5, puts-line}
+use mathlib.Core.List.{[], ◌++◌}
+use Rattle.text.proofs.Wrote.{writes-room, writes-more}
+use Rattle.rehearsal_runs.proofs.Printing.{field, begins, ends}
 use Rattle.rehearsal_runs.proofs.put_figures.Goals as goal
 
-pub put_number-a-requires : goal.put_number-a-requires
-put_number-a-requires c = room-1 _ _ c.requires
+pub value-requires : goal.value-requires
+value-requires c =
+    let start = begins c.args.threshold c.args.g c.number-answer.ensures c.args.out.now c.requires in
+    writes-room (field c.args.threshold 44) ((field c.args.g.collections 44) ++ ((field c.args.g.highest 44) ++ ((field c.args.g.size 44) ++ ((field c.number-answer.result 10) ++ [])))) start
 
-pub put_number-b-requires : goal.put_number-b-requires
-put_number-b-requires c = room-2 _ _ c.requires c.put_number-a.ensures
+pub value-requires-2 : goal.value-requires-2
+value-requires-2 c =
+    let start = begins c.args.threshold c.args.g c.number-answer.ensures c.args.out.now c.requires in
+    let threshold = writes-more (field c.args.threshold 44) ((field c.args.g.collections 44) ++ ((field c.args.g.highest 44) ++ ((field c.args.g.size 44) ++ ((field c.number-answer.result 10) ++ [])))) start c.value.ensures in
+    writes-room (field c.args.g.collections 44) ((field c.args.g.highest 44) ++ ((field c.args.g.size 44) ++ ((field c.number-answer.result 10) ++ []))) threshold
 
-pub put_number-c-requires : goal.put_number-c-requires
-put_number-c-requires c = room-3 _ _ c.requires c.put_number-a.ensures c.put_number-b.ensures
+pub value-requires-3 : goal.value-requires-3
+value-requires-3 c =
+    let start = begins c.args.threshold c.args.g c.number-answer.ensures c.args.out.now c.requires in
+    let threshold = writes-more (field c.args.threshold 44) ((field c.args.g.collections 44) ++ ((field c.args.g.highest 44) ++ ((field c.args.g.size 44) ++ ((field c.number-answer.result 10) ++ [])))) start c.value.ensures in
+    let collections = writes-more (field c.args.g.collections 44) ((field c.args.g.highest 44) ++ ((field c.args.g.size 44) ++ ((field c.number-answer.result 10) ++ []))) threshold c.value-2.ensures in
+    writes-room (field c.args.g.highest 44) ((field c.args.g.size 44) ++ ((field c.number-answer.result 10) ++ [])) collections
 
-pub put_number-d-requires : goal.put_number-d-requires
-put_number-d-requires c = room-4 _ _ c.requires c.put_number-a.ensures c.put_number-b.ensures c.put_number-c.ensures
+pub value-requires-4 : goal.value-requires-4
+value-requires-4 c =
+    let start = begins c.args.threshold c.args.g c.number-answer.ensures c.args.out.now c.requires in
+    let threshold = writes-more (field c.args.threshold 44) ((field c.args.g.collections 44) ++ ((field c.args.g.highest 44) ++ ((field c.args.g.size 44) ++ ((field c.number-answer.result 10) ++ [])))) start c.value.ensures in
+    let collections = writes-more (field c.args.g.collections 44) ((field c.args.g.highest 44) ++ ((field c.args.g.size 44) ++ ((field c.number-answer.result 10) ++ []))) threshold c.value-2.ensures in
+    let highest = writes-more (field c.args.g.highest 44) ((field c.args.g.size 44) ++ ((field c.number-answer.result 10) ++ [])) collections c.value-3.ensures in
+    writes-room (field c.args.g.size 44) ((field c.number-answer.result 10) ++ []) highest
 
-pub put_number-requires : goal.put_number-requires
-put_number-requires c = room-5 _ _ c.requires c.put_number-a.ensures c.put_number-b.ensures c.put_number-c.ensures c.put_number-d.ensures c.number.ensures
+pub value-requires-5 : goal.value-requires-5
+value-requires-5 c =
+    let start = begins c.args.threshold c.args.g c.number-answer.ensures c.args.out.now c.requires in
+    let threshold = writes-more (field c.args.threshold 44) ((field c.args.g.collections 44) ++ ((field c.args.g.highest 44) ++ ((field c.args.g.size 44) ++ ((field c.number-answer.result 10) ++ [])))) start c.value.ensures in
+    let collections = writes-more (field c.args.g.collections 44) ((field c.args.g.highest 44) ++ ((field c.args.g.size 44) ++ ((field c.number-answer.result 10) ++ []))) threshold c.value-2.ensures in
+    let highest = writes-more (field c.args.g.highest 44) ((field c.args.g.size 44) ++ ((field c.number-answer.result 10) ++ [])) collections c.value-3.ensures in
+    let size = writes-more (field c.args.g.size 44) ((field c.number-answer.result 10) ++ []) highest c.value-4.ensures in
+    writes-room (field c.number-answer.result 10) [] size
 
 pub returns : goal.returns
-returns c = puts-line _ _ c.requires c.put_number-a.ensures c.put_number-b.ensures c.put_number-c.ensures c.put_number-d.ensures c.number.ensures c.put_number.ensures
+returns c =
+    let start = begins c.args.threshold c.args.g c.number-answer.ensures c.args.out.now c.requires in
+    let threshold = writes-more (field c.args.threshold 44) ((field c.args.g.collections 44) ++ ((field c.args.g.highest 44) ++ ((field c.args.g.size 44) ++ ((field c.number-answer.result 10) ++ [])))) start c.value.ensures in
+    let collections = writes-more (field c.args.g.collections 44) ((field c.args.g.highest 44) ++ ((field c.args.g.size 44) ++ ((field c.number-answer.result 10) ++ []))) threshold c.value-2.ensures in
+    let highest = writes-more (field c.args.g.highest 44) ((field c.args.g.size 44) ++ ((field c.number-answer.result 10) ++ [])) collections c.value-3.ensures in
+    let size = writes-more (field c.args.g.size 44) ((field c.number-answer.result 10) ++ []) highest c.value-4.ensures in
+    let answer = writes-more (field c.number-answer.result 10) [] size c.value-5.ensures in
+    ends c.args.threshold c.args.g c.number-answer.ensures answer
