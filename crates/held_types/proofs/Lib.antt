@@ -1,2 +1,3 @@
-mod Telling
+-- What the proofs of crate yexwalu cite too.
+pub mod Telling
 pub mod Once

@@ -6,7 +6,7 @@ use mathlib.Core.List.{List}
 use native.Mathlib.Omega.{arith}
 use Prim.Native.Nat.{ℕ}
 use Rattle.ty.specs.Words.{Word}
-use Rattle.std.specs.Prelude.{Option, Some, None, Ok, if◌then◌else◌}
+use Rattle.std.specs.Prelude.{Option, Some, None, Ok}
 use Rattle.word.specs.Result.{Result, ok, refused}
 use Rattle.refusal.specs.Told.{told as told_reply, answered, refused_by, here, nothing}
 use Rattle.refusal.specs.declared.Answer.{Answer}
@@ -18,6 +18,7 @@ use Rattle.layout.specs.Offsets.{Values, told, layout_call, written_by}
 use Rattle.yexwalu.specs.Table.{on_table}
 use Rattle.yexwalu.specs.Types.{laid, layout_called, sized, size_called, handles_called}
 use Rattle.held_types.specs.declared.Laying.{Laying as LayoutAnswer}
+use Rattle.held_types.proofs.Telling.{yes-no}
 use Rattle.yexwalu.proofs.TableCalls.{table-bad, table-good}
 
 sized-some : (x : Option ℕ) (n : ℕ) → x ≡ Some n → sized x ≡ ok n
@@ -27,11 +28,6 @@ sized-some (Some m) n e = let q : m ≡ n = cc in ap ok q
 sized-none : (x : Option ℕ) → x ≡ None → sized x ≡ refused 11
 sized-none None e = refl
 sized-none (Some m) e = let z : ◌≡◌ {A = ℕ} 0 1 = cc in absurd (omega arith)
-
--- b in numbers
-in-numbers : (b : Bool) → bool_byte b ≡ (if b then 1 else 0)
-in-numbers true = refl
-in-numbers false = refl
 
 module _ (w fs cs b : List ℕ) (t : ℕ) {g : Bool} (eg : g ≡ table_good w fs cs b) where
   -- refused: whatever the call is
@@ -52,7 +48,7 @@ module _ (w fs cs b : List ℕ) (t : ℕ) {g : Bool} (eg : g ≡ table_good w fs
   size_none h e q a = answer-passed h (sized-none (desc_bytes (types_of w fs) t) (size_exact h e q)) a
 
   pub handles-told : {x : Bool} {n : ℕ} {r : Answer} → g ≡ true → x ≡ has_handles (types_of w fs) t → n ≡ bool_byte x → r ≡ told_reply (Ok (n, 0)) → r ≡ answered here nothing (handles_called w fs cs b t)
-  handles-told {x} h e q a = answer-passed h refl (a ∙ ap (λ (n : ℕ). told_reply (Ok (n, 0))) (q ∙ (in-numbers x ∙ ap (λ (u : Bool). if u then 1 else 0) e)))
+  handles-told h e q a = answer-passed h refl (yes-no e q a)
 
   -- ---- a layout, and the lent list after the call
 
