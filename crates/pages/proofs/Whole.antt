@@ -69,6 +69,19 @@ module _ (h : Heap) (narrow wide pool : List ℕ) (r : Ready (lent h narrow wide
   pub retired-in : h.retired ≤ length (take (6 * (length narrow / 6) - 5 * (length narrow / 6)) (drop (5 * (length narrow / 6)) narrow))
   retired-in = omega (arith, r.retired, ap length w-is)
 
+  -- as many of each as are in use
+  pub free-count : length (take h.free (take (4 * (length narrow / 6) - 3 * (length narrow / 6)) (drop (3 * (length narrow / 6)) narrow))) ≡ h.free
+  free-count = length-take-le h.free f free_in
+
+  pub quarantine-count : length (take h.quarantine (take (5 * (length narrow / 6) - 4 * (length narrow / 6)) (drop (4 * (length narrow / 6)) narrow))) ≡ h.quarantine
+  quarantine-count = length-take-le h.quarantine q quarantine-in
+
+  pub sealed-count : length (take h.sealed (take (4 * (length narrow / 6) - 3 * (length narrow / 6)) (drop (3 * (length narrow / 6)) wide))) ≡ h.sealed
+  sealed-count = length-take-le h.sealed z sealed-in
+
+  pub retired-count : length (take h.retired (take (6 * (length narrow / 6) - 5 * (length narrow / 6)) (drop (5 * (length narrow / 6)) narrow))) ≡ h.retired
+  retired-count = length-take-le h.retired w retired-in
+
   slots-are : (view heap).slots ≡ slots_in heap h.slots
   unfolding view
   slots-are = refl

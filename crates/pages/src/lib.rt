@@ -1,10 +1,9 @@
 // The page: a heap as text, in the form that is written.
 #![tactic(auto)]
 
-ghost use Rattle.std.specs.Prelude.{◌≡◌, ℕ, ◌+◌, ◌-◌, ◌*◌, ◌/◌, ◌^◌, ◌≤◌, ◌<◌, length, map, take, drop, true, false};
-ghost use mathlib.Core.List.{List, [], ◌∷◌, ◌++◌, flat_map};
-ghost use Rattle.text.specs.Text.{decimal, hex};
-ghost use Rattle.text.specs.Put.{Puts};
+ghost use Rattle.std.specs.Prelude.{◌≡◌, ℕ, ◌+◌, ◌-◌, ◌*◌, ◌/◌, ◌^◌, ◌≤◌, ◌<◌, length, map, true, false};
+ghost use mathlib.Core.List.{List, ◌++◌, flat_map};
+ghost use Rattle.text.specs.Text.{hex};
 ghost use Rattle.text.specs.Wrote.{Wrote};
 ghost use Rattle.heap.specs.Seen.{seen, state};
 ghost use Rattle.pages.specs.Form.{written, column, heap_names, slot_names, free_name, quarantine_name, sealed_name, retired_name};
@@ -88,39 +87,26 @@ impl Listed for u64 {
     ghost mapped = { λ l. sym (map-id l) };
 }
 
-// How long the first `count` values of a list are, one a line.
-// Kept: a heap lends S places of which `count` are in use, and the page's text is told of the first `count` of them.
-fn values_len<T: Listed>(list: &[T], count: usize) -> usize
-    requires { (count ≤ length list.now) × (count ≤ 16777216) }
-    ensures value { result ≡ length (flat_map (λ x. value_line (T.number x)) (take count list.now)) }
-    ensures upper_bound { result ≤ 21 * count }
+// How long the values of a list are, one a line.
+fn values_len<T: Listed>(list: &[T]) -> usize
+    requires { length list.now ≤ 16777216 }
+    ensures value { result ≡ length (flat_map (λ x. value_line (T.number x)) list.now) }
+    ensures upper_bound { result ≤ 21 * length list.now }
 {
     let mut n = 0;
-    for i in 0..count {
-        n += text::decimal_len(list[i].number()) + 1;
+    for x in list {
+        n += text::decimal_len(x.number()) + 1;
     }
     n
 }
 
-// Puts a number and the byte after it from `at` on.
-// Kept: the printers of other crates put into a buffer from a place on and answer where it ends, as text's `put_decimal` does; it is one call of the writer.
-pub fn put_number(out: &mut [u8], at: usize, n: u64, end: u8) -> usize
-    requires { at + length (decimal n ++ (end ∷ [])) ≤ length out.old }
-    ensures { Puts out.old out.new at result (decimal n ++ (end ∷ [])) }
+// Puts the values of a list, one a line.
+fn put_values<T: Listed>(out: &mut Out, list: &[T])
+    requires { out.old.at + length (flat_map (λ x. value_line (T.number x)) list.now) ≤ length out.old.page.now }
+    ensures { Wrote out.old out.new (flat_map (λ x. value_line (T.number x)) list.now) }
 {
-    let mut page = Out { page: out, at };
-    page.value(n, end);
-    page.at
-}
-
-// Puts the first `count` values of a list, one a line.
-fn put_values<T: Listed>(out: &mut Out, list: &[T], count: usize)
-    requires count_in_bounds { count ≤ length list.now }
-    requires list_in_bounds { out.old.at + length (flat_map (λ x. value_line (T.number x)) (take count list.now)) ≤ length out.old.page.now }
-    ensures { Wrote out.old out.new (flat_map (λ x. value_line (T.number x)) (take count list.now)) }
-{
-    for i in 0..count {
-        out.value(list[i].number(), b'\n');
+    for x in list {
+        out.value(x.number(), b'\n');
     }
 }
 
@@ -274,14 +260,13 @@ fn put_head(out: &mut Out, h: Heap)
     out.value(h.retired as u64, b'\n');
 }
 
-// Puts a name and then the first `count` values of a list.
-fn put_list<T: Listed>(out: &mut Out, name: &[u8], list: &[T], count: usize)
-    requires count_in_bounds { count ≤ length list.now }
-    requires list_in_bounds { out.old.at + length (name.now ++ flat_map (λ x. value_line (T.number x)) (take count list.now)) ≤ length out.old.page.now }
-    ensures { Wrote out.old out.new (name.now ++ flat_map (λ x. value_line (T.number x)) (take count list.now)) }
+// Puts a name and then the values of a list.
+fn put_list<T: Listed>(out: &mut Out, name: &[u8], list: &[T])
+    requires { out.old.at + length (name.now ++ flat_map (λ x. value_line (T.number x)) list.now) ≤ length out.old.page.now }
+    ensures { Wrote out.old out.new (name.now ++ flat_map (λ x. value_line (T.number x)) list.now) }
 {
     out.literal(name);
-    put_values(out, list, count);
+    put_values(out, list);
 }
 
 // Puts the names line of the slots.
@@ -321,10 +306,10 @@ fn page_len(view: View, planar: bool) -> usize
     let six = 6 * s;
     let a = head_len(heap);
     let b = slots_len(view);
-    let c = values_len(&narrow[three..four], heap.free);
-    let d = values_len(&narrow[four..five], heap.quarantine);
-    let e = values_len(&wide[three..four], heap.sealed);
-    let f = values_len(&narrow[five..six], heap.retired);
+    let c = values_len(&narrow[three..four][..heap.free]);
+    let d = values_len(&narrow[four..five][..heap.quarantine]);
+    let e = values_len(&wide[three..four][..heap.sealed]);
+    let f = values_len(&narrow[five..six][..heap.retired]);
     let g = names_len(planar);
     g + a + b + c + d + e + f
 }
@@ -357,10 +342,10 @@ fn put_page(view: View, planar: bool, out: &mut Out)
     put_head(out, heap);
     put_slot_names(out, planar);
     put_slots(view, planar, out);
-    put_list(out, b"free\n", &narrow[three..four], heap.free);
-    put_list(out, b"quarantine\n", &narrow[four..five], heap.quarantine);
-    put_list(out, b"sealed\n", &wide[three..four], heap.sealed);
-    put_list(out, b"retired\n", &narrow[five..six], heap.retired);
+    put_list(out, b"free\n", &narrow[three..four][..heap.free]);
+    put_list(out, b"quarantine\n", &narrow[four..five][..heap.quarantine]);
+    put_list(out, b"sealed\n", &wide[three..four][..heap.sealed]);
+    put_list(out, b"retired\n", &narrow[five..six][..heap.retired]);
 }
 
 // Writes a heap's page to `out`, and answers its length; an output that is too short stays as it was.

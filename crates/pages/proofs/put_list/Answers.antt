@@ -7,10 +7,10 @@ use Rattle.text.proofs.Wrote.{writes-begin, writes-room, writes-more, writes-end
 use Rattle.pages.proofs.put_list.Goals as goal
 
 pub literal-requires : goal.literal-requires
-literal-requires g c = writes-room c.args.name.now ((flat_map (λ x. value_line (g.T.Listed.number x)) (take c.args.count c.args.list.now)) ++ []) (writes-begin c.args.out.now (c.args.name.now ++ (flat_map (λ x. value_line (g.T.Listed.number x)) (take c.args.count c.args.list.now))) (c.args.name.now ++ ((flat_map (λ x. value_line (g.T.Listed.number x)) (take c.args.count c.args.list.now)) ++ [])) (ap (λ (l : List ℕ). c.args.name.now ++ l) (append-nil (flat_map (λ x. value_line (g.T.Listed.number x)) (take c.args.count c.args.list.now)))) c.requires.list_in_bounds)
+literal-requires g c = writes-room c.args.name.now ((flat_map (λ x. value_line (g.T.Listed.number x)) c.args.list.now) ++ []) (writes-begin c.args.out.now (c.args.name.now ++ (flat_map (λ x. value_line (g.T.Listed.number x)) c.args.list.now)) (c.args.name.now ++ ((flat_map (λ x. value_line (g.T.Listed.number x)) c.args.list.now) ++ [])) (ap (λ (l : List ℕ). c.args.name.now ++ l) (append-nil (flat_map (λ x. value_line (g.T.Listed.number x)) c.args.list.now))) c.requires)
 
 pub put_values-requires : goal.put_values-requires
-put_values-requires g c = record { count_in_bounds = c.requires.count_in_bounds; list_in_bounds = writes-room (flat_map (λ x. value_line (g.T.Listed.number x)) (take c.args.count c.args.list.now)) [] (writes-more c.args.name.now ((flat_map (λ x. value_line (g.T.Listed.number x)) (take c.args.count c.args.list.now)) ++ []) (writes-begin c.args.out.now (c.args.name.now ++ (flat_map (λ x. value_line (g.T.Listed.number x)) (take c.args.count c.args.list.now))) (c.args.name.now ++ ((flat_map (λ x. value_line (g.T.Listed.number x)) (take c.args.count c.args.list.now)) ++ [])) (ap (λ (l : List ℕ). c.args.name.now ++ l) (append-nil (flat_map (λ x. value_line (g.T.Listed.number x)) (take c.args.count c.args.list.now)))) c.requires.list_in_bounds) c.literal.ensures) }
+put_values-requires g c = writes-room (flat_map (λ x. value_line (g.T.Listed.number x)) c.args.list.now) [] (writes-more c.args.name.now ((flat_map (λ x. value_line (g.T.Listed.number x)) c.args.list.now) ++ []) (writes-begin c.args.out.now (c.args.name.now ++ (flat_map (λ x. value_line (g.T.Listed.number x)) c.args.list.now)) (c.args.name.now ++ ((flat_map (λ x. value_line (g.T.Listed.number x)) c.args.list.now) ++ [])) (ap (λ (l : List ℕ). c.args.name.now ++ l) (append-nil (flat_map (λ x. value_line (g.T.Listed.number x)) c.args.list.now))) c.requires) c.literal.ensures)
 
 pub returns : goal.returns
-returns g c = writes-end [] (c.args.name.now ++ (flat_map (λ x. value_line (g.T.Listed.number x)) (take c.args.count c.args.list.now))) (writes-more (flat_map (λ x. value_line (g.T.Listed.number x)) (take c.args.count c.args.list.now)) [] (writes-more c.args.name.now ((flat_map (λ x. value_line (g.T.Listed.number x)) (take c.args.count c.args.list.now)) ++ []) (writes-begin c.args.out.now (c.args.name.now ++ (flat_map (λ x. value_line (g.T.Listed.number x)) (take c.args.count c.args.list.now))) (c.args.name.now ++ ((flat_map (λ x. value_line (g.T.Listed.number x)) (take c.args.count c.args.list.now)) ++ [])) (ap (λ (l : List ℕ). c.args.name.now ++ l) (append-nil (flat_map (λ x. value_line (g.T.Listed.number x)) (take c.args.count c.args.list.now)))) c.requires.list_in_bounds) c.literal.ensures) c.put_values.ensures) refl
+returns g c = writes-end [] (c.args.name.now ++ (flat_map (λ x. value_line (g.T.Listed.number x)) c.args.list.now)) (writes-more (flat_map (λ x. value_line (g.T.Listed.number x)) c.args.list.now) [] (writes-more c.args.name.now ((flat_map (λ x. value_line (g.T.Listed.number x)) c.args.list.now) ++ []) (writes-begin c.args.out.now (c.args.name.now ++ (flat_map (λ x. value_line (g.T.Listed.number x)) c.args.list.now)) (c.args.name.now ++ ((flat_map (λ x. value_line (g.T.Listed.number x)) c.args.list.now) ++ [])) (ap (λ (l : List ℕ). c.args.name.now ++ l) (append-nil (flat_map (λ x. value_line (g.T.Listed.number x)) c.args.list.now))) c.requires) c.literal.ensures) c.put_values.ensures) refl

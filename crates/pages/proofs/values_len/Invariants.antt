@@ -5,5 +5,5 @@ use mathlib.Core.Path.{◌≡◌}
 use Prim.Native.Nat.{◌≤◌, ◌*◌}
 use Rattle.pages.proofs.values_len.Given as goal
 
-abbrev pub invariant-loop-i : goal.invariant-loop-i
-invariant-loop-i g l = (l.i ≤ l.count) × (l.n ≡ length (flat_map (λ x. value_line (g.T.Listed.number x)) (take l.i l.list))) × (l.n ≤ 21 * l.i)
+abbrev pub invariant-loop-x : goal.invariant-loop-x
+invariant-loop-x g l = (l.x-index ≤ length l.list) × (l.n ≡ length (flat_map (λ x. value_line (g.T.Listed.number x)) (take l.x-index l.list))) × (l.n ≤ 21 * l.x-index)
