@@ -236,7 +236,7 @@ pub fn yexwalu_edit(
 }
 
 // Bytes put over the visible data of slot `i`, from the offset `at` in it. The header stays as it is.
-// Kept: an `and_then` would take what is lent to be changed into a closure, and its clause on what lies there afterwards would be the closure's.
+// Kept: tried with `and_then`. Where the tests refuse, the closure isn't called, and std's clause doesn't say that what it took to change is then as it was; `?` needs a private function of the same parameters and clauses.
 pub fn yexwalu_write(
     heap: Heap,
     narrow: &[u32],

@@ -134,7 +134,7 @@ pub fn yexwalu_roots_for(
         consts,
         bytes,
     };
-    // Kept: an `and_then` would take what is lent to be changed into a closure, and its clause on what lies there afterwards would be the closure's.
+    // Kept: `and_then` was tried in heap_door's `yexwalu_write`. Where the tests refuse, the closure isn't called, and std's clause doesn't say that what it took to change is then as it was; `?` needs a private function of the same parameters and clauses.
     match admit(&table, heap, narrow, wide, pool, pins, wanted, marks, work) {
         Err(why) => Answer::from(Err(why)),
         Ok(view) => {
