@@ -15,7 +15,7 @@ mod typed;
 use std::hint::black_box;
 use std::ops::Range;
 use yavs_ir::{Block, BlockId, Func, Inst, Ops, Program, Reg, RegTy};
-use yexwalu::{Class, Column, Function, Handle, Heap, InstKind, Kind, Memory, Slot, TypeTable, Wanted};
+use yexwalu::{Class, Column, Function, Handle, Heap, InstKind, Kind, Memory, Refusal, Slot, TypeTable, Wanted};
 
 const SIZES: [usize; 4] = [1_000, 10_000, 100_000, 1_000_000];
 const OBJECTS: [usize; 3] = [16, 1024, 16384];
@@ -276,6 +276,19 @@ fn pages(table: &mut Table, objects: usize, read: bool, column: Column) {
     }
 }
 
+// A page of a million dead slots, all of them free, into memory for `lent` slots: where they are too few that is full (5), which is told when each slot is seen to stand in the list once, by a bit a slot in so many words. The
+// Rust reads the text into memory for all slots each time, and looks for nothing.
+fn short(table: &mut Table, lent: usize) {
+    let n = 1_000_000;
+    let free: String = (0..n).map(|i| format!("{i}\n")).collect();
+    let text = page::of(n, &"1,0,0,0,0,\n".repeat(n)).replacen(&format!(",{n},0,"), &format!(",{n},{n},"), 1).replacen("\nfree\n", &format!("\nfree\n{free}"), 1);
+    let (mut heap, mut plain) = (Heap::new(1, lent, 0).unwrap(), Memory::zeros(n, 0));
+    let why = (lent < n).then_some(Refusal::Full);
+    let b = time(|| assert!(page::read(black_box(text.as_bytes()), false, &mut plain).is_some()));
+    let a = time(|| assert_eq!(heap.read_page_over(black_box(text.as_bytes())).err(), why));
+    table.row("read_page of 1,000,000 dead slots (ns), by slots lent", lent, NONE, a, b);
+}
+
 // A copy of the bytes of the same page, for scale.
 fn copies(table: &mut Table, objects: usize) {
     let text = heap_with(objects, objects, &[7; 64]).write_page().unwrap();
@@ -383,7 +396,7 @@ fn rehearsals(table: &mut Table, lines: usize) {
     table.row("rehearse, four thresholds (ns a line), by lines", lines, NONE, time(|| drop(black_box(here()))) / turns, time(|| drop(black_box(there()))) / turns);
 }
 
-const ROWS: [&str; 25] = ["churn", "checked_churn", "script", "view", "view_handles", "layout", "checked_layout", "many_types", "nested", "object_handles", "checked_handles", "typed_handles", "empty_parts", "live_refs", "sparse_rows", "collect", "joined", "roots_for", "same", "rehearse", "write_page", "read_page", "write_planes", "read_planes", "memcpy"];
+const ROWS: [&str; 26] = ["churn", "checked_churn", "script", "view", "view_handles", "layout", "checked_layout", "many_types", "nested", "object_handles", "checked_handles", "typed_handles", "empty_parts", "live_refs", "sparse_rows", "collect", "joined", "roots_for", "same", "rehearse", "write_page", "read_page", "read_page_short", "write_planes", "read_planes", "memcpy"];
 
 fn main() {
     let words: Vec<String> = std::env::args().skip(1).collect();
@@ -435,6 +448,7 @@ fn main() {
                 SIZES.iter().for_each(|n| saves(&mut table, "tree, slots scattered", *n, |i| (i * 7919 + 13) % n, |i| (2 * i + 1).min(*n)..(2 * i + 3).min(*n)));
             }
             "rehearse" => [1_000, 10_000, 100_000].iter().for_each(|n| rehearsals(&mut table, *n)),
+            "read_page_short" => [1_000_000, 16_384, 64].iter().for_each(|n| short(&mut table, *n)),
             "memcpy" => OBJECTS.iter().for_each(|n| copies(&mut table, *n)),
             "write_planes" | "read_planes" => OBJECTS.iter().for_each(|n| pages(&mut table, *n, row == "read_planes", Column::Planes)),
             _ => OBJECTS.iter().for_each(|n| pages(&mut table, *n, row == "read_page", Column::Data)),
