@@ -11,6 +11,7 @@ use Rattle.refusal.specs.Told.{nothing}
 use Rattle.refusal.specs.declared.Refusal.{Refusal}
 use Rattle.refusal.specs.Told.{Reply, number_of}
 use Rattle.std.specs.Prelude.{Result, Ok, Err}
+use Rattle.std.specs.Result.{IsErrAnd}
 use Rattle.word.specs.Result.{Result as Answer, ok, refused}
 use Rattle.heap.specs.Packing.{pad}
 use Rattle.heap.specs.State.{State}
@@ -41,9 +42,10 @@ use Rattle.collect.specs.Collect.{collecting, finished, CanCollect}
 -- ---- what follows a marking
 
 module _ (l : Lent) (marks pins : List ℕ) (r : Result Unit Refusal) where
-  pub finish-stuck : well_formed l ≡ true → (why : Refusal) → r ≡ Err why → Tells nothing nothing l l (Err why) (finished r marks pins (view l))
-  finish-stuck f why e =
-      subst (λ (x : Result Unit Refusal). Tells nothing nothing l l (Err why) (finished x marks pins (view l))) (sym e)
+  pub finish-stuck : well_formed l ≡ true → (why : Refusal) → r ≡ Err why → (reply : Reply) → IsErrAnd reply (λ x. x ≡ why) → Tells nothing nothing l l reply (finished r marks pins (view l))
+  finish-stuck f why e (Ok v) h = absurd h
+  finish-stuck f why e (Err x) h =
+      subst (λ (y : Result Unit Refusal). Tells nothing nothing l l (Err x) (finished y marks pins (view l))) (sym (e ∙ ap Err (sym h)))
       (record { leaves = record { lies = (formed-tested l f).lies; formed = f }; says = refl })
 
   pub finish-done : (u : Unit) → r ≡ Ok u → (l' : Lent) → Leaves l l' (swept (view l) marks pins) → Tells nothing nothing l l' (Ok (0, 0)) (finished r marks pins (view l))

@@ -1,20 +1,20 @@
 // The joined collection at a safepoint: the registers that are live there are worked out, then the heap is collected from them and the frame.
-ghost use Rattle.std.specs.Prelude.{◌≡◌, true, ◌≤◌, length, replicate};
+ghost use Rattle.std.specs.Prelude.{◌≡◌, true, ◌≤◌, length};
 ghost use Rattle.refusal.specs.Told.{nothing};
-ghost use Rattle.heap.specs.Lent.{slot_count};
 ghost use Rattle.heap.specs.Loans.{lies, state, Replies};
-ghost use Rattle.heap_calls.specs.Pins.{marked_slots};
 ghost use Rattle.ty.specs.View.{lent as table_lent};
 ghost use Rattle.frame.specs.Frame.{frame_handles, addresses_in};
 ghost use Rattle.roots.specs.Calls.{function, right, need};
 ghost use Rattle.roots.specs.Plans.{lent as lent_code};
 ghost use Rattle.mark.specs.Safepoints.{live_values, handles_in, pinned_in};
 ghost use Rattle.collection.specs.Joined.{joined_by};
-ghost use Rattle.collect.specs.Collect.{finished, CanCollect};
+ghost use Rattle.collect.specs.Collect.{CanCollect};
 ghost use Rattle.collect.specs.Safepoint.{at_safepoint, CanLook, RootRow};
 
+use crate::finish;
 use addresses::Pairs;
 use heap::view_mut::ViewMut;
+use heap_calls::pinned::Marks;
 use mark::joined::{Frame, Registers};
 use refusal::{Refusal, Reply};
 use roots::at::{live_row, safepoint_block};
@@ -28,34 +28,6 @@ pub struct Safepoint<'a> {
     pub values: &'a [u64],
     pub map: &'a [u32],
     pub memory: &'a [u8],
-}
-
-// What follows a marking that marks pinned slots too: the objects without a mark are dropped and the quarantined slots without one become free, unless an object can't
-// be traced. The scratch is zero afterwards.
-// Kept: beside `finish` it takes the marks for pins; one function would take an Option of pins, and each clause would tell the two cases apart.
-fn finish_marked(
-    marked: Result<(), Refusal>,
-    lent: &mut ViewMut,
-    marks: &mut [u8],
-    work: &mut [u64],
-) -> Reply
-    requires { slot_count (lies lent.old) ≤ length marks.old }
-    ensures replies { Replies nothing nothing lent.old lent.new result
-        (finished marked marks.old (marked_slots marks.old) (state lent.old)) }
-    ensures marks_after { (marks.new ≡ replicate (length marks.old) 0) × (work.new ≡ replicate (length work.old) 0) }
-{
-    work.fill(0);
-    match marked {
-        Err(why) => {
-            marks.fill(0);
-            Err(why)
-        }
-        Ok(()) => {
-            sweep::sweep_marked(lent, marks);
-            marks.fill(0);
-            Ok((0, 0))
-        }
-    }
 }
 
 // Roots are the values of the row's registers of class 4, one value a register, and the frame's handles; pinned are the pins and the slots of the addresses that the
@@ -89,7 +61,10 @@ fn collect_row(
         marks,
         work,
     );
-    finish_marked(marked, lent, marks, work)
+    let reply = finish(marked, lent, marks, Marks { list: marks });
+    marks.fill(0);
+    work.fill(0);
+    reply
 }
 
 // The registers of classes 2 and 4 that are live before the safepoint pc become a row of the scratch. False: pc is no safepoint inside a block.

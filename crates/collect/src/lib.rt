@@ -2,7 +2,7 @@
 // traced.
 #![tactic(auto)]
 
-ghost use Rattle.std.specs.Prelude.{◌≡◌, ◌≤◌, length, replicate};
+ghost use Rattle.std.specs.Prelude.{◌≡◌, ◌≤◌, length};
 ghost use Rattle.refusal.specs.Told.{nothing};
 ghost use Rattle.heap.specs.Lent.{slot_count};
 ghost use Rattle.heap.specs.Loans.{lies, state, Replies};
@@ -10,37 +10,26 @@ ghost use Rattle.ty.specs.View.{lent as table_lent};
 ghost use Rattle.collect.specs.Collect.{collecting, finished, CanCollect};
 
 use heap::view_mut::ViewMut;
-use heap_calls::pinned::Pins;
+use heap_calls::pinned::{Pinned, Pins};
 use refusal::{Refusal, Reply};
 use ty::Table;
 
 pub mod joined; // at a safepoint, from the frame and the live registers
 
-// What follows a marking: the objects without a mark are dropped, unless one can't be traced. The scratch is zero afterwards.
-pub fn finish(
+// What follows a marking: the objects without a mark are dropped, and the quarantined slots that are not pinned become free, unless an object can't be traced.
+pub fn finish<P: Pinned>(
     marked: Result<(), Refusal>,
     lent: &mut ViewMut,
-    pins: Pins,
-    marks: &mut [u8],
-    work: &mut [u64],
+    marks: &[u8],
+    pins: P,
 ) -> Reply
-    requires { slot_count (lies lent.old) ≤ length marks.old }
-    ensures replies { Replies nothing nothing lent.old lent.new result
-        (finished marked marks.old pins.entry.list.now (state lent.old)) }
-    ensures marks_after { (marks.new ≡ replicate (length marks.old) 0) × (work.new ≡ replicate (length work.old) 0) }
+    requires { slot_count (lies lent.old) ≤ length marks.now }
+    ensures { Replies nothing nothing lent.old lent.new result
+        (finished marked marks.now (P.slots pins) (state lent.old)) }
 {
-    work.fill(0);
-    match marked {
-        Err(why) => {
-            marks.fill(0);
-            Err(why)
-        }
-        Ok(()) => {
-            sweep::sweep(lent, marks, pins);
-            marks.fill(0);
-            Ok((0, 0))
-        }
-    }
+    marked?;
+    sweep::sweep(lent, marks, pins);
+    Ok((0, 0))
 }
 
 // The objects that are not reached from a root, a seal or a pin are dropped. The scratch is zero before and after.
@@ -59,5 +48,8 @@ pub fn collect(
     ensures marks_unchanged { (marks.new ≡ marks.old) × (work.new ≡ work.old) }
 {
     let marked = mark::mark(table, lent.view(), roots, pins, marks, work);
-    finish(marked, lent, Pins { list: pins }, marks, work)
+    let reply = finish(marked, lent, marks, Pins { list: pins });
+    marks.fill(0);
+    work.fill(0);
+    reply
 }

@@ -1,18 +1,17 @@
 -- The slots that are marked, as pins. Assumes nothing.
 use mathlib.Core.Path.{◌≡◌, refl, sym, ap, ◌∙◌}
-use mathlib.Core.Bool.{Bool, true, false, not, ◌||◌}
-use mathlib.Core.List.{List, [], ◌∷◌, ◌++◌, append-nil}
+use mathlib.Core.Bool.{Bool, true, false, not}
+use mathlib.Core.List.{List}
 use Prim.Native.Nat.{ℕ, zero, suc, ◌+◌, ◌≤◌, ◌<◌}
 use native.Mathlib.Omega.{arith}
 use native.Mathlib.Decide.{ℕ_discrete}
-use lib.ListN.{length, get_or, take}
+use lib.ListN.{length, get_or}
 use lib.Dec.{eqb, ltb}
-use borrow.Author.Tests.{eq-eqb, ne_eqb, eqb-true, lt-ltb, le-ltb, ltb-true}
+use borrow.Author.Tests.{eq-eqb, ne_eqb, le-ltb}
 use Rattle.word.specs.Ones.{keep, passing}
 use Rattle.heap.specs.State.{bit, times}
 use Rattle.heap.specs.Calls.{member}
-use Rattle.heap.proofs.Counting.{times-append}
-use Rattle.heap_calls.specs.Pins.{rising_from, rising, marked_slots}
+use Rattle.heap_calls.specs.Pins.{marked_slots}
 
 -- x is passed once if it lies in the range and passes, else never
 
@@ -60,29 +59,3 @@ module _ (x : ℕ) (marks : List ℕ) where
   unfolding marked_slots
   mark-there h =
       sym (ap (ltb 0) (times-in (λ i. not (eqb (get_or marks i 0) 0)) 0 (length marks) x (omega arith) (omega arith)) ∙ bit-positive (not (eqb (get_or marks x 0) 0)))
-
--- ---- pinned or marked
-
-member-append : (x : ℕ) (a b : List ℕ) → member x (a ++ b) ≡ (member x a || member x b)
-member-append x a b = ap (ltb 0) (times-append x a b) ∙ either (times x a) (times x b)
-  where
-    either : (m n : ℕ) → ltb 0 (m + n) ≡ (ltb 0 m || ltb 0 n)
-    either zero n = ap (ltb 0) (let e : 0 + n ≡ n = omega arith in e)
-    either (suc m) n = lt-ltb 0 (suc m + n) (omega arith) ∙ sym (ap (λ (t : Bool). t || ltb 0 n) (lt-ltb 0 (suc m) (omega arith)))
-
-module _ (x : ℕ) (pins marks : List ℕ) (p : Bool) (ep : p ≡ member x pins) where
-  pub stays-pinned : p ≡ true → true ≡ member x (pins ++ marked_slots marks)
-  stays-pinned e = sym (member-append x pins (marked_slots marks) ∙ ap (λ (t : Bool). t || member x (marked_slots marks)) (sym ep ∙ e))
-
-  pub stays-marked : p ≡ false → (m : Bool) → m ≡ member x (marked_slots marks) → m ≡ member x (pins ++ marked_slots marks)
-  stays-marked e m em = em ∙ sym (member-append x pins (marked_slots marks) ∙ ap (λ (t : Bool). t || member x (marked_slots marks)) (sym ep ∙ e))
-
--- ---- no pins, no marks at all
-
-pub no_pins : (xs : List ℕ) → rising (take 0 xs) ≡ true
-unfolding rising_from
-no_pins xs = refl
-
-pub none-marked : (pins bytes : List ℕ) → pins ++ marked_slots (take 0 bytes) ≡ pins
-unfolding marked_slots passing
-none-marked pins bytes = append-nil pins

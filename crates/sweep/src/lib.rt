@@ -7,13 +7,12 @@ ghost use Rattle.word.specs.Put.{put};
 ghost use Rattle.heap.specs.Lent.{lent, cut, view, slot_count};
 ghost use Rattle.heap.specs.Done.{Leaves};
 ghost use Rattle.heap.specs.Loans.{lies, state, Becomes};
-ghost use Rattle.heap_calls.specs.Pins.{marked_slots};
 ghost use Rattle.collection.specs.Swept.{all_dropped, drop_unmarked, swept};
 ghost use Rattle.sweep.specs.Columns.{CanCompact, Compacted, CanSettle, Settled, columns_of, released_in, visited_in, CanRelease, CanVisit, CanSize, sizes_in, one_size, is_going, all_stay, CanSweep};
 
 use heap::Heap;
 use heap::view_mut::ViewMut;
-use heap_calls::pinned::Pins;
+use heap_calls::pinned::Pinned;
 
 // The n bytes from `from` on come to stand from `to` on, which is not above: the lowest first, so that none is overwritten before it is read. Bytes that stay are not
 // touched.
@@ -207,27 +206,15 @@ fn drop_unmarked(
     drop_some(heap, narrow, wide, pool, marks)
 }
 
-// The sweep of a collection: what is not marked is dropped, what is left is counted, and the quarantine is recycled.
-pub fn sweep(lent: &mut ViewMut, marks: &[u8], pins: Pins)
+// The sweep of a collection: what is not marked is dropped, what is left is counted, and the quarantine is recycled. Where the marks are the pins, a quarantined slot
+// stays if it is marked.
+pub fn sweep<P: Pinned>(lent: &mut ViewMut, marks: &[u8], pins: P)
     requires { slot_count (lies lent.old) ≤ length marks.now }
-    ensures { Becomes lent.old lent.new (swept (state lent.old) marks.now pins.entry.list.now) }
+    ensures { Becomes lent.old lent.new (swept (state lent.old) marks.now (P.slots pins)) }
 {
     let narrow = &mut *lent.narrow;
     let wide = &mut *lent.wide;
     let pool = &mut *lent.pool;
     let h = drop_unmarked(lent.heap, narrow, wide, pool, marks);
     lent.heap = heap_calls::recycle::recycle(h, narrow, wide, pool, pins);
-}
-
-// The same with the marked slots as pins: a quarantined slot stays if it is marked.
-// Kept: apart from `sweep`; one function would take pins and marks of which one is always empty, and its clause would tell of both joined.
-pub fn sweep_marked(lent: &mut ViewMut, marks: &[u8])
-    requires { slot_count (lies lent.old) ≤ length marks.now }
-    ensures { Becomes lent.old lent.new (swept (state lent.old) marks.now (marked_slots marks.now)) }
-{
-    let narrow = &mut *lent.narrow;
-    let wide = &mut *lent.wide;
-    let pool = &mut *lent.pool;
-    let h = drop_unmarked(lent.heap, narrow, wide, pool, marks);
-    lent.heap = heap_calls::recycle::recycle_marked(h, narrow, wide, pool, marks);
 }

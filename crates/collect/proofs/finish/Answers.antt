@@ -4,8 +4,8 @@ use Rattle.heap.specs.Loans.{lies}
 use Rattle.collect.proofs.Collecting.{finish-stuck, finish-done}
 use Rattle.collect.proofs.finish.Goals as goal
 
-pub returns-in-Err : goal.returns-in-Err
-returns-in-Err c = record { replies = record { loans = record { narrow = refl; wide = refl; pool = refl }; tells = finish-stuck (lies c.args.lent.now) c.args.marks.now c.args.pins.list.now c.args.marked c.args.lent.now.formed _ c.in-Err.is }; marks_after = ((c.fill-in-Err.ensures.after (λ y e. e)), (c.fill.ensures.after (λ y e. e))) }
+pub returns-in_err-marked : goal.returns-in_err-marked
+returns-in_err-marked g c = record { loans = record { narrow = refl; wide = refl; pool = refl }; tells = finish-stuck (lies c.args.lent.now) c.args.marks.now (g.P.Pinned.slots c.args.pins) c.args.marked c.args.lent.now.formed _ c.in_err-marked.was _ c.from_residual.ensures.1 }
 
-pub returns-in-Ok : goal.returns-in-Ok
-returns-in-Ok c = record { replies = record { loans = c.sweep.ensures.loans; tells = finish-done (lies c.args.lent.now) c.args.marks.now c.args.pins.list.now c.args.marked _ c.in-Ok.is _ c.sweep.ensures.leaves }; marks_after = ((c.fill-in-Ok.ensures.after (λ y e. e)), (c.fill.ensures.after (λ y e. e))) }
+pub returns : goal.returns
+returns g c = record { loans = c.sweep.ensures.loans; tells = finish-done (lies c.args.lent.now) c.args.marks.now (g.P.Pinned.slots c.args.pins) c.args.marked _ c.in_ok-marked.was _ c.sweep.ensures.leaves }

@@ -4,10 +4,10 @@ use Rattle.sweep.proofs.Sweeping.{sweepable, sweep-leaves}
 use Rattle.sweep.proofs.sweep.Goals as goal
 
 pub drop_unmarked-h-requires : goal.drop_unmarked-h-requires
-drop_unmarked-h-requires c = sweepable c.args.lent.now c.args.marks.now c.requires
+drop_unmarked-h-requires g c = sweepable c.args.lent.now c.args.marks.now c.requires
 
 pub returns : goal.returns
-returns c = record { loans = record { narrow = refl; wide = refl; pool = refl }; leaves = sweep-leaves _ (sweepable c.args.lent.now c.args.marks.now c.requires) c.drop_unmarked-h.ensures c.recycle-lent.ensures }
+returns g c = record { loans = record { narrow = refl; wide = refl; pool = refl }; leaves = sweep-leaves _ (sweepable c.args.lent.now c.args.marks.now c.requires) c.drop_unmarked-h.ensures c.recycle-lent.ensures }
 
 pub invariant_of-lent : goal.invariant_of-lent
-invariant_of-lent c = record { formed = c.recycle-lent.ensures.formed }
+invariant_of-lent g c = record { formed = c.recycle-lent.ensures.formed }
