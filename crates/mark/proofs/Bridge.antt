@@ -27,7 +27,9 @@ use Rattle.reach.specs.Marking.{State, visit, visit_maybe, follow, follow_all, p
 use Rattle.collection.specs.Collected.{found}
 use Rattle.mark.specs.Scratch.{low, high, state_of, Scratch, Holds, following, Traces, Noted, NotedBy, seeded_from}
 use Rattle.mark.specs.Graph.{leads_to, shown_in, Fit}
-use Rattle.mark.proofs.States.{high-over, unmarked-room, meet-marked, meet-new, Pushing, pushing-next, pushing-end}
+use Rattle.mark.specs.declared.queue.Queue.{Queue}
+use Rattle.mark.specs.Queues.{state, SameLoans, Becomes}
+use Rattle.mark.proofs.States.{high-over, unmarked-room, meet-marked, meet-new, then-same, Pushing, pushing-next, pushing-end}
 use Rattle.mark.proofs.Inside.{resolves-in}
 
 abbrev pub HoldsRaw : ℕ → Raw → State → Type 0
@@ -126,45 +128,39 @@ module _ (n : ℕ) (few : n ≤ 16777216) where
 
 -- ---- a list of handles, and of pins, taken in turn
 
-abbrev pub Pushes : (tag slots S : ℕ) (narrow list marks₀ work₀ : List ℕ) (total : State) (marks work : List ℕ) (count k : ℕ) → Type 0
-Pushes tag slots S narrow list marks₀ work₀ total marks work count k =
-    Pushing (follow_all (leads_to tag slots S narrow)) slots marks₀ work₀ total marks work count (drop k list)
+abbrev pub Pushes : (tag slots S : ℕ) (narrow list : List ℕ) (q₀ : Queue) (total : State) (q : Queue) (k : ℕ) → Type 0
+Pushes tag slots S narrow list q₀ total q k = Pushing (follow_all (leads_to tag slots S narrow)) slots q₀ total q (drop k list)
 
-module _ (tag slots S : ℕ) (narrow list marks₀ work₀ : List ℕ) (total : State) (marks work : List ℕ) (count k : ℕ) (p : Pushes tag slots S narrow list marks₀ work₀ total marks work count k) where
-  pub pushes-next : k < length list → (marks' work' : List ℕ) (count' : ℕ) → raw_of marks' work' count' ≡ emitted (into Work (resolve_in tag slots S narrow)) (raw_of marks work count) (get_or list k 0)
-      → length marks' ≡ length marks → length work' ≡ length work → Pushes tag slots S narrow list marks₀ work₀ total marks' work' count' (k + 1)
-  pushes-next h marks' work' count' e a b =
-      pushing-next _ slots marks₀ work₀ total marks work count (drop k list) p (follow (leads_to tag slots S narrow)) (λ s x r. refl) (get_or list k 0) (drop (k + 1) list) marks' work' count' (drop-cons-one list k h)
-      (emit-met slots (resolve_in tag slots S narrow) (resolves-in tag slots S narrow) marks work count (get_or list k 0) marks' work' count' p.scratch e) a b
+module _ (tag slots S : ℕ) (narrow list : List ℕ) (q₀ : Queue) (total : State) (q : Queue) (k : ℕ) (p : Pushes tag slots S narrow list q₀ total q k) where
+  pub pushes-next : k < length list → (q' : Queue) → SameLoans q q' → raw_of q'.marks.now q'.work.now q'.n ≡ emitted (into Work (resolve_in tag slots S narrow)) (raw_of q.marks.now q.work.now q.n) (get_or list k 0)
+      → Pushes tag slots S narrow list q₀ total q' (k + 1)
+  pushes-next h q' l e =
+      pushing-next _ slots q₀ total q (drop k list) p (follow (leads_to tag slots S narrow)) (λ s x r. refl) (get_or list k 0) (drop (k + 1) list) q' (drop-cons-one list k h)
+      (record {
+        loans = l;
+        holds = emit-met slots (resolve_in tag slots S narrow) (resolves-in tag slots S narrow) q.marks.now q.work.now q.n (get_or list k 0) _ _ _ p.scratch e;
+        noted = emit-noted slots p.scratch.few (resolve_in tag slots S narrow) (resolves-in tag slots S narrow) (get_or list k 0) q.marks.now q.work.now q.n _ _ _ e;
+      })
 
-  pub pushes-end : length list ≤ k → Holds slots marks work count total
-  pushes-end h = pushing-end _ slots marks₀ work₀ total marks work count (drop k list) p (λ s. refl) (drop_of_length-le list h)
+  pub pushes-end : length list ≤ k → Becomes slots q₀ q total
+  pushes-end h = pushing-end _ slots q₀ total q (drop k list) p (λ s. refl) (drop_of_length-le list h)
 
-abbrev pub Pins : (slots S : ℕ) (narrow list marks₀ work₀ : List ℕ) (total : State) (marks work : List ℕ) (count k : ℕ) → Type 0
-Pins slots S narrow list marks₀ work₀ total marks work count k = Pushing (pin_all (live_in slots (run S S narrow))) slots marks₀ work₀ total marks work count (drop k list)
+abbrev pub Pins : (slots S : ℕ) (narrow list : List ℕ) (q₀ : Queue) (total : State) (q : Queue) (k : ℕ) → Type 0
+Pins slots S narrow list q₀ total q k = Pushing (pin_all (live_in slots (run S S narrow))) slots q₀ total q (drop k list)
 
-module _ (slots S : ℕ) (narrow list marks₀ work₀ : List ℕ) (total : State) (marks work : List ℕ) (count k : ℕ) (p : Pins slots S narrow list marks₀ work₀ total marks work count k) where
-  pub pins-next : k < length list → (marks' work' : List ℕ) (count' : ℕ) → Holds slots marks' work' count' (pin_if (live_in slots (run S S narrow) (get_or list k 0)) (state_of marks work count) (get_or list k 0))
-      → length marks' ≡ length marks → length work' ≡ length work → Pins slots S narrow list marks₀ work₀ total marks' work' count' (k + 1)
-  pins-next h marks' work' count' e a b =
-      pushing-next _ slots marks₀ work₀ total marks work count (drop k list) p (λ s i. pin_if (live_in slots (run S S narrow) i) s i) (λ s x r. refl) (get_or list k 0) (drop (k + 1) list) marks' work' count' (drop-cons-one list k h) e a b
+module _ (slots S : ℕ) (narrow list : List ℕ) (q₀ : Queue) (total : State) (q : Queue) (k : ℕ) (p : Pins slots S narrow list q₀ total q k) where
+  pub pins-next : k < length list → (q' : Queue) → Becomes slots q q' (pin_if (live_in slots (run S S narrow) (get_or list k 0)) (state q) (get_or list k 0)) → Pins slots S narrow list q₀ total q' (k + 1)
+  pins-next h q' b =
+      pushing-next _ slots q₀ total q (drop k list) p (λ s i. pin_if (live_in slots (run S S narrow) i) s i) (λ s x r. refl) (get_or list k 0) (drop (k + 1) list) q' (drop-cons-one list k h) b
 
-  pub pins-end : length list ≤ k → Holds slots marks work count total
-  pins-end h = pushing-end _ slots marks₀ work₀ total marks work count (drop k list) p (λ s. refl) (drop_of_length-le list h)
+  pub pins-end : length list ≤ k → Becomes slots q₀ q total
+  pins-end h = pushing-end _ slots q₀ total q (drop k list) p (λ s. refl) (drop_of_length-le list h)
 
--- what is noted stays in both loops
-
-pub pushes-noted : (tag slots S : ℕ) (narrow list marks₀ work₀ : List ℕ) (total : State) (marks work : List ℕ) (count k : ℕ) → Pushes tag slots S narrow list marks₀ work₀ total marks work count k → Noted work₀ work
-    → (marks' work' : List ℕ) (count' : ℕ) → raw_of marks' work' count' ≡ emitted (into Work (resolve_in tag slots S narrow)) (raw_of marks work count) (get_or list k 0) → Noted work₀ work'
-pushes-noted tag slots S narrow list marks₀ work₀ total marks work count k p f marks' work' count' e =
-    emit-noted slots p.scratch.few (resolve_in tag slots S narrow) (resolves-in tag slots S narrow) (get_or list k 0) marks work count marks' work' count' e ∙ f
+-- what is noted stays
 
 -- as the contract of `queue` says it
 pub pin-noted : (slots : ℕ) (marks words : List ℕ) (c i : ℕ) (marks' words' : List ℕ) (c' : ℕ) → Scratch slots marks words c → i < slots → raw_of marks' words' c' ≡ queued (raw_of marks words c) i → Noted words words'
 pin-noted slots marks words c i marks' words' c' s l e = ap (λ (r : Raw). map high r.words) e ∙ queue-noted slots s.few marks words c i l
-
-pub noted-on : (a b c : List ℕ) → Noted b c → Noted a b → Noted a c
-noted-on a b c f g = f ∙ g
 
 -- ---- the starts
 
@@ -172,13 +168,17 @@ pub follows-append : (R : ℕ → Option ℕ) (s : State) (a b : List ℕ) → f
 follows-append R s [] b = refl
 follows-append R s (h ∷ a) b = follows-append R (follow R s h) a b
 
-pub seed-done : (R : ℕ → Option ℕ) (L : ℕ → Bool) (slots : ℕ) (s : State) (roots sealed pins m₁ w₁ : List ℕ) (n₁ : ℕ) (m₂ w₂ : List ℕ) (n₂ : ℕ) (m₃ w₃ : List ℕ) (n₃ : ℕ)
-    → Holds slots m₁ w₁ n₁ (follow_all R s roots) → Holds slots m₂ w₂ n₂ (follow_all R (state_of m₁ w₁ n₁) sealed) → Holds slots m₃ w₃ n₃ (pin_all L (state_of m₂ w₂ n₂) pins)
-    → Holds slots m₃ w₃ n₃ (seeded_from R L s roots sealed pins)
-seed-done R L slots s roots sealed pins m₁ w₁ n₁ m₂ w₂ n₂ m₃ w₃ n₃ a b c =
+pub seed-done : (R : ℕ → Option ℕ) (L : ℕ → Bool) (slots : ℕ) (q q₁ q₂ q₃ : Queue) (roots sealed pins : List ℕ)
+    → Becomes slots q q₁ (follow_all R (state q) roots) → Becomes slots q₁ q₂ (follow_all R (state q₁) sealed) → Becomes slots q₂ q₃ (pin_all L (state q₂) pins)
+    → Becomes slots q q₃ (seeded_from R L (state q) roots sealed pins)
+seed-done R L slots q q₁ q₂ q₃ roots sealed pins a b c =
     record {
-      scratch = c.scratch;
-      state = c.state ∙ ap (λ (t : State). pin_all L t pins) (b.state ∙ ap (λ (t : State). follow_all R t sealed) a.state ∙ sym (follows-append R s roots sealed));
+      loans = then-same (then-same a.loans b.loans) c.loans;
+      holds = record {
+        scratch = c.holds.scratch;
+        state = c.holds.state ∙ ap (λ (t : State). pin_all L t pins) (b.holds.state ∙ ap (λ (t : State). follow_all R t sealed) a.holds.state ∙ sym (follows-append R (state q) roots sealed));
+      };
+      noted = c.noted ∙ b.noted ∙ a.noted;
     }
 
 -- ---- the handles of a slot

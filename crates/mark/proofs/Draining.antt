@@ -12,7 +12,7 @@ use native.Mathlib.Nat.{sub-zero}
 use native.Mathlib.Numerals.{add-one}
 use native.Mathlib.Omega.{arith}
 use Rattle.trace.specs.Emit.{Answer}
-use Rattle.std.specs.Prelude.{Some, None}
+use Rattle.std.specs.Prelude.{Option as Maybe, Some, None}
 use Rattle.word.specs.Result.{ok, refused}
 use Rattle.word.proofs.ListLaws.{take-zeros}
 use Rattle.reach.specs.Reach.{Graph}
@@ -23,7 +23,9 @@ use Rattle.ty.specs.Types.{Table}
 use Rattle.mark.specs.Graph.{leads_to, shown_in, graph_in}
 use Rattle.mark.specs.Scratch.{low, state_of, Noted, NotedBy, Scratch, Holds, following, Traces, seeded_from}
 use Rattle.mark.specs.Told.{marks_in, starts_of, Ready}
-use Rattle.mark.proofs.States.{scratch-start}
+use Rattle.mark.specs.declared.queue.Queue.{Queue}
+use Rattle.mark.specs.Queues.{state, IsReady, SameLoans, Becomes, counted, Reaches}
+use Rattle.mark.proofs.States.{scratch-start, same-again, then-same}
 use Rattle.reach.proofs.Grown.{∈-get_or, good-room}
 
 -- ---- the function's clauses
@@ -43,13 +45,12 @@ drained-next G f s k hs h e = rw (lt-ltb k (length s.queue) h, e)
 
 -- ---- the loop
 
-pub record Draining (G : Graph) (slots : ℕ) (marks₀ work₀ : List ℕ) (total : Option State) (marks work : List ℕ) (count next : ℕ) : Type 0 where
-  pub scratch : Scratch slots marks work count
+pub record Draining (G : Graph) (slots : ℕ) (q₀ : Queue) (total : Option State) (q : Queue) (next : ℕ) : Type 0 where
+  pub loans : SameLoans q₀ q
+  pub scratch : IsReady slots q
   -- what is left, from the state that is there, gives what all gives from the state at the start
-  pub same : drained G (slots - next) (state_of marks work count) next ≡ total
-  pub long : length marks ≡ length marks₀
-  pub words : length work ≡ length work₀
-  pub noted : Noted work₀ work
+  pub same : drained G (slots - next) (state q) next ≡ total
+  pub noted : Noted q₀.work.now q.work.now
 
 module _ (slots : ℕ) (marks work : List ℕ) (count : ℕ) (s : Scratch slots marks work count) where
   pub queue-length : length (map low (take count work)) ≡ count
@@ -65,19 +66,28 @@ module _ (slots : ℕ) (marks work : List ℕ) (count : ℕ) (s : Scratch slots 
   queue-below k h =
       subst (λ (i : ℕ). i < slots) (queue-at k h) (s.good.within (get_or (map low (take count work)) k 0) (∈-get_or (map low (take count work)) k (omega (arith, queue-length))))
 
-module _ (G : Graph) (slots : ℕ) (marks₀ work₀ : List ℕ) (total : Option State) (marks work : List ℕ) (count next : ℕ) (d : Draining G slots marks₀ work₀ total marks work count next) where
+module _ (G : Graph) (slots : ℕ) (q₀ : Queue) (total : Option State) (q : Queue) (next : ℕ) (d : Draining G slots q₀ total q next) where
+  abbrev marks : List ℕ
+  marks = q.marks.now
+
+  abbrev work : List ℕ
+  work = q.work.now
+
+  abbrev count : ℕ
+  count = q.n
+
   pub draining-end : count ≤ next → total ≡ some (state_of marks work count)
-  draining-end h = sym d.same ∙ drained-end G (slots - next) (state_of marks work count) next (omega (arith, queue-length slots marks work count d.scratch))
+  draining-end h = sym d.same ∙ drained-end G (slots - next) (state_of marks work count) next (omega (arith, queue-length slots q.marks.now q.work.now q.n d.scratch))
 
   module _ (h : next < count) where
     inside : next < length (map low (take count work))
-    inside = omega (arith, queue-length slots marks work count d.scratch)
+    inside = omega (arith, queue-length slots q.marks.now q.work.now q.n d.scratch)
 
     fuel : slots - next ≡ suc (slots - suc next)
-    fuel = omega (arith, queue-slots slots marks work count d.scratch)
+    fuel = omega (arith, queue-slots slots q.marks.now q.work.now q.n d.scratch)
 
     at-queue : (o : Option (List ℕ)) → G.handles (low (get_or work next 0)) ≡ o → G.handles (get_or (map low (take count work)) next 0) ≡ o
-    at-queue o e = ap G.handles (queue-at slots marks work count d.scratch next h) ∙ e
+    at-queue o e = ap G.handles (queue-at slots q.marks.now q.work.now q.n d.scratch next h) ∙ e
 
     pub draining-stuck : following G.resolve (state_of marks work count) (G.handles (low (get_or work next 0))) ≡ none → total ≡ none
     draining-stuck e = go (G.handles (low (get_or work next 0))) refl e
@@ -86,54 +96,79 @@ module _ (G : Graph) (slots : ℕ) (marks₀ work₀ : List ℕ) (total : Option
         go none w e' = sym d.same ∙ ap (λ (f : ℕ). drained G f (state_of marks work count) next) fuel ∙ drained-stuck G (slots - suc next) (state_of marks work count) next inside (at-queue none w)
         go (some hs) w e' = let x : ◌≡◌ {A = ℕ} 0 1 = cc in absurd (omega arith)
 
-    pub draining-next : (marks' work' : List ℕ) (count' : ℕ) → (following G.resolve (state_of marks work count) (G.handles (low (get_or work next 0))) ≡ some (state_of marks' work' count')) → Scratch slots marks' work' count' → Noted work work' → length marks' ≡ length marks → length work' ≡ length work
-        → Draining G slots marks₀ work₀ total marks' work' count' (next + 1)
-    draining-next marks' work' count' e r f a b = go (G.handles (low (get_or work next 0))) refl e
+    pub draining-next : (q' : Queue) → following G.resolve (state q) (G.handles (low (get_or q.work.now next 0))) ≡ some (state q') → IsReady slots q' → Noted q.work.now q'.work.now → SameLoans q q'
+        → Draining G slots q₀ total q' (next + 1)
+    draining-next q' e r f l = go (G.handles (low (get_or work next 0))) refl e
       where
         inj : (x y : State) → some x ≡ some y → x ≡ y
         inj x y w = cc
 
-        go : (o : Option (List ℕ)) → G.handles (low (get_or work next 0)) ≡ o → following G.resolve (state_of marks work count) o ≡ some (state_of marks' work' count') → Draining G slots marks₀ work₀ total marks' work' count' (next + 1)
+        go : (o : Option (List ℕ)) → G.handles (low (get_or work next 0)) ≡ o → following G.resolve (state q) o ≡ some (state q') → Draining G slots q₀ total q' (next + 1)
         go none w e' = let x : ◌≡◌ {A = ℕ} 0 1 = cc in absurd (omega arith)
         go (some hs) w e' =
-            let q : follow_all G.resolve (state_of marks work count) hs ≡ state_of marks' work' count' = inj _ _ e' in
+            let s : follow_all G.resolve (state q) hs ≡ state q' = inj _ _ e' in
             record {
+              loans = then-same d.loans l;
               scratch = r;
               same =
-                  ap (λ (k : ℕ). drained G (slots - k) (state_of marks' work' count') k) (add-one next)
-                  ∙ sym (ap (λ (t : State). drained G (slots - suc next) t (suc next)) q)
-                  ∙ sym (drained-next G (slots - suc next) (state_of marks work count) next hs inside (at-queue (some hs) w))
-                  ∙ sym (ap (λ (f : ℕ). drained G f (state_of marks work count) next) fuel)
+                  ap (λ (k : ℕ). drained G (slots - k) (state q') k) (add-one next)
+                  ∙ sym (ap (λ (t : State). drained G (slots - suc next) t (suc next)) s)
+                  ∙ sym (drained-next G (slots - suc next) (state q) next hs inside (at-queue (some hs) w))
+                  ∙ sym (ap (λ (f : ℕ). drained G f (state q) next) fuel)
                   ∙ d.same;
-              long = a ∙ d.long;
-              words = b ∙ d.words;
               noted = f ∙ d.noted;
             }
 
-pub draining-start : (G : Graph) (slots : ℕ) (marks work : List ℕ) (n from : ℕ) → Scratch slots marks work n
-    → Draining G slots marks work (drained G (slots - from) (state_of marks work n) from) marks work n from
-draining-start G slots marks work n from s = record { scratch = s; same = refl; long = refl; words = refl; noted = refl }
+pub draining-start : (G : Graph) (slots : ℕ) (q : Queue) (from : ℕ) → IsReady slots q → Draining G slots q (drained G (slots - from) (state q) from) q from
+draining-start G slots q from s = record { loans = same-again q; scratch = s; same = refl; noted = refl }
+
+-- ---- what a trace answers
+
+module _ (slots : ℕ) (q q' : Queue) (o : Option State) (l : SameLoans q q') (r : Answer) (t : Traces r slots q'.marks.now q'.work.now o) (f : NotedBy r q.work.now q'.work.now) where
+  pub trace-reaches : r ≡ Some q'.n → (u : Unit) → Reaches slots q q' (Some u) o
+  trace-reaches e u =
+      record {
+        loans = l;
+        traces = subst (λ (x : Answer). Traces x slots q'.marks.now q'.work.now o) e t;
+        noted = subst (λ (x : Answer). NotedBy x q.work.now q'.work.now) e f;
+      }
+
+  pub trace-stops : r ≡ None → (x : Maybe Unit) → x ≡ None → Reaches slots q q' x o
+  trace-stops e x z =
+      subst (λ (y : Maybe Unit). Reaches slots q q' y o) (sym z)
+      (record { loans = l; traces = subst (λ (y : Answer). Traces y slots q'.marks.now q'.work.now o) e t; noted = tt })
+
+module _ (slots : ℕ) (q q' : Queue) (r : Maybe Unit) (o : Option State) (t : Reaches slots q q' r o) where
+  pub reached : (u : Unit) → r ≡ Some u → Traces (Some q'.n) slots q'.marks.now q'.work.now o
+  reached u e = subst (λ (x : Maybe Unit). Traces (counted x q') slots q'.marks.now q'.work.now o) e t.traces
+
+  pub stuck : r ≡ None → Traces None slots q'.marks.now q'.work.now o
+  stuck e = subst (λ (x : Maybe Unit). Traces (counted x q') slots q'.marks.now q'.work.now o) e t.traces
 
 -- ---- the loop over the columns' graph, with what `trace_at` ensures
 
-abbrev pub Drains : Table → (tag slots S : ℕ) (narrow wide pool marks₀ work₀ : List ℕ) (total : Option State) (marks work : List ℕ) (count next : ℕ) → Type 0
-Drains T tag slots S narrow wide pool marks₀ work₀ total marks work count next = Draining (graph_in T tag slots S narrow wide pool) slots marks₀ work₀ total marks work count next
+abbrev pub Drains : Table → (tag slots S : ℕ) (narrow wide pool : List ℕ) (q₀ : Queue) (total : Option State) (q : Queue) (next : ℕ) → Type 0
+Drains T tag slots S narrow wide pool q₀ total q next = Draining (graph_in T tag slots S narrow wide pool) slots q₀ total q next
 
-module _ (T : Table) (tag slots S : ℕ) (narrow wide pool marks₀ work₀ : List ℕ) (total : Option State) (marks work : List ℕ) (count next : ℕ) (d : Drains T tag slots S narrow wide pool marks₀ work₀ total marks work count next) where
-  pub drains-end : count ≤ next → total ≡ some (state_of marks work count)
-  drains-end h = draining-end (graph_in T tag slots S narrow wide pool) slots marks₀ work₀ total marks work count next d h
+module _ (T : Table) (tag slots S : ℕ) (narrow wide pool : List ℕ) (q₀ : Queue) (total : Option State) (q : Queue) (next : ℕ) (d : Drains T tag slots S narrow wide pool q₀ total q next) where
+  pub drains-end : q.n ≤ next → total ≡ some (state q)
+  drains-end h = draining-end (graph_in T tag slots S narrow wide pool) slots q₀ total q next d h
 
-  module _ (h : next < count) where
-    module _ (r : Answer) (marks' work' : List ℕ) (t : Traces r slots marks' work' (following (leads_to tag slots S narrow) (state_of marks work count) (shown_in T S narrow wide pool (low (get_or work next 0))))) where
-      pub drains-stuck : r ≡ None → total ≡ none
-      drains-stuck e =
-          draining-stuck (graph_in T tag slots S narrow wide pool) slots marks₀ work₀ total marks work count next d h
-          (subst (λ (x : Answer). Traces x slots marks' work' (following (leads_to tag slots S narrow) (state_of marks work count) (shown_in T S narrow wide pool (low (get_or work next 0))))) e t)
+  abbrev shown : Option State
+  shown = following (leads_to tag slots S narrow) (state q) (shown_in T S narrow wide pool (low (get_or q.work.now next 0)))
 
-      pub drains-next : (m : ℕ) → r ≡ Some m → NotedBy r work work' → length marks' ≡ length marks → length work' ≡ length work → Drains T tag slots S narrow wide pool marks₀ work₀ total marks' work' m (next + 1)
-      drains-next m e f a b =
-          let q = subst (λ (x : Answer). Traces x slots marks' work' (following (leads_to tag slots S narrow) (state_of marks work count) (shown_in T S narrow wide pool (low (get_or work next 0))))) e t in
-          draining-next (graph_in T tag slots S narrow wide pool) slots marks₀ work₀ total marks work count next d h marks' work' m q.0 q.1 (subst (λ (x : Answer). NotedBy x work work') e f) a b
+  module _ (h : next < q.n) (r : Maybe Unit) (q' : Queue) (t : Reaches slots q q' r (following (leads_to tag slots S narrow) (state q) (shown_in T S narrow wide pool (low (get_or q.work.now next 0))))) where
+    pub drains-stuck : r ≡ None → total ≡ none
+    drains-stuck e =
+        draining-stuck (graph_in T tag slots S narrow wide pool) slots q₀ total q next d h (subst (λ (x : Maybe Unit). Traces (counted x q') slots q'.marks.now q'.work.now shown) e t.traces)
+
+    pub drains-next : (u : Unit) → r ≡ Some u → Drains T tag slots S narrow wide pool q₀ total q' (next + 1)
+    drains-next u e =
+        let s = subst (λ (x : Maybe Unit). Traces (counted x q') slots q'.marks.now q'.work.now shown) e t.traces in
+        draining-next (graph_in T tag slots S narrow wide pool) slots q₀ total q next d h q' s.0 s.1 (subst (λ (x : Maybe Unit). NotedBy (counted x q') q.work.now q'.work.now) e t.noted) t.loans
+
+    pub drains-stop : r ≡ None → (x : Maybe Unit) → x ≡ None → Reaches slots q₀ q' x total
+    drains-stop e x z = subst (λ (y : Maybe Unit). Reaches slots q₀ q' y total) (sym z) (record { loans = then-same d.loans t.loans; traces = drains-stuck e; noted = tt })
 
 -- the walk through the queue does not ask which slots are live
 pub drained-live : (G : Graph) (L : ℕ → Bool) (f : ℕ) (s : State) (k : ℕ) → drained G f s k ≡ drained (record { live = L; resolve = G.resolve; handles = G.handles }) f s k
@@ -145,14 +180,17 @@ drained-live G L (suc f) s k =
 
 -- ---- the whole
 
-pub from-done : (G : Graph) (slots : ℕ) (marks work : List ℕ) (n : ℕ) (s : State) → Holds slots marks work n s → (r : Answer) (marks' work' : List ℕ) → Traces r slots marks' work' (drained G (slots - 0) (state_of marks work n) 0)
-    → Traces r slots marks' work' (drained G slots s 0)
-from-done G slots marks work n s h r marks' work' t =
-    subst (λ (f : ℕ). Traces r slots marks' work' (drained G f s 0)) (sub-zero slots) (subst (λ (x : State). Traces r slots marks' work' (drained G (slots - 0) x 0)) h.state t)
-
-pub from-noted : (a b c : List ℕ) (r : Answer) → Noted a b → NotedBy r b c → NotedBy r a c
-from-noted a b c (Some n) f g = g ∙ f
-from-noted a b c None f g = tt
+pub from-done : (G : Graph) (slots : ℕ) (q q₁ q₂ : Queue) (s : State) → Becomes slots q q₁ s → (r : Maybe Unit) → Reaches slots q₁ q₂ r (drained G (slots - 0) (state q₁) 0) → Reaches slots q q₂ r (drained G slots s 0)
+from-done G slots q q₁ q₂ s h r t =
+    record {
+      loans = then-same h.loans t.loans;
+      traces = subst (λ (f : ℕ). Traces (counted r q₂) slots q₂.marks.now q₂.work.now (drained G f s 0)) (sub-zero slots) (subst (λ (x : State). Traces (counted r q₂) slots q₂.marks.now q₂.work.now (drained G (slots - 0) x 0)) h.holds.state t.traces);
+      noted = from-noted q.work.now q₁.work.now q₂.work.now (counted r q₂) h.noted t.noted;
+    }
+  where
+    from-noted : (a b c : List ℕ) (x : Answer) → Noted a b → NotedBy x b c → NotedBy x a c
+    from-noted a b c (Some n) f g = g ∙ f
+    from-noted a b c None f g = tt
 
 module _ (slots : ℕ) (marks work : List ℕ) (ready : Ready slots marks work) where
   pub first-clear : take slots marks ≡ replicate slots 0

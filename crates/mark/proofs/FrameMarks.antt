@@ -18,6 +18,9 @@ use Rattle.mark.proofs.Inside.{resolves-in}
 use Rattle.mark.specs.Joining.{in_use, taking, joined_from}
 use Rattle.addresses.specs.Listed.{slots_of}
 use Rattle.addresses.proofs.Listing.{slots-append}
+use Rattle.mark.specs.declared.queue.Queue.{Queue}
+use Rattle.mark.specs.Queues.{state, Becomes}
+use Rattle.mark.proofs.States.{then-same}
 use Rattle.mark.proofs.Draining.{drained-live}
 use Rattle.mark.proofs.Holding.{pins-append}
 
@@ -76,18 +79,22 @@ module _ (T : Table) (tag slots S : ℕ) (narrow wide pool : List ℕ) (marks wo
 
 -- ---- the seeds, step by step
 
-pub joined-seeds : (R : ℕ → Option ℕ) (slots : ℕ) (list values sealed pins words values₂ : List ℕ) (s : State) (m₁ w₁ : List ℕ) (n₁ : ℕ) (m₂ w₂ : List ℕ) (n₂ : ℕ) (m₃ w₃ : List ℕ) (n₃ : ℕ) (m₄ w₄ : List ℕ) (n₄ : ℕ) (m₅ w₅ : List ℕ) (n₅ : ℕ)
-    → Holds slots m₁ w₁ n₁ (taking 4 R slots list s values) → Holds slots m₂ w₂ n₂ (follow_all R (state_of m₁ w₁ n₁) sealed) → Holds slots m₃ w₃ n₃ (pin_all (in_use slots) (state_of m₂ w₂ n₂) pins)
-    → Holds slots m₄ w₄ n₄ (pin_all (in_use slots) (state_of m₃ w₃ n₃) (slots_of list words)) → Holds slots m₅ w₅ n₅ (taking 2 R slots list (state_of m₄ w₄ n₄) values₂)
-    → Holds slots m₅ w₅ n₅ (seeded_from R (in_use slots) s values sealed (pins ++ slots_of list (words ++ values₂)))
+pub joined-seeds : (R : ℕ → Option ℕ) (slots : ℕ) (list values sealed pins words values₂ : List ℕ) (q q₁ q₂ q₃ q₄ q₅ : Queue)
+    → Becomes slots q q₁ (taking 4 R slots list (state q) values) → Becomes slots q₁ q₂ (follow_all R (state q₁) sealed) → Becomes slots q₂ q₃ (pin_all (in_use slots) (state q₂) pins)
+    → Becomes slots q₃ q₄ (pin_all (in_use slots) (state q₃) (slots_of list words)) → Becomes slots q₄ q₅ (taking 2 R slots list (state q₄) values₂)
+    → Becomes slots q q₅ (seeded_from R (in_use slots) (state q) values sealed (pins ++ slots_of list (words ++ values₂)))
 unfolding taking
-joined-seeds R slots list values sealed pins words values₂ s m₁ w₁ n₁ m₂ w₂ n₂ m₃ w₃ n₃ m₄ w₄ n₄ m₅ w₅ n₅ a b c d e =
+joined-seeds R slots list values sealed pins words values₂ q q₁ q₂ q₃ q₄ q₅ a b c d e =
     record {
-      scratch = e.scratch;
-      state =
-          e.state
-          ∙ ap (λ (t : State). pin_all (in_use slots) t (slots_of list values₂)) (d.state ∙ ap (λ (t : State). pin_all (in_use slots) t (slots_of list words)) (c.state ∙ ap (λ (t : State). pin_all (in_use slots) t pins) (b.state ∙ ap (λ (t : State). follow_all R t sealed) a.state ∙ sym (follows-append R s values sealed))))
-          ∙ sym (pins-append (in_use slots) (pin_all (in_use slots) (follow_all R s (values ++ sealed)) pins) (slots_of list words) (slots_of list values₂))
-          ∙ sym (pins-append (in_use slots) (follow_all R s (values ++ sealed)) pins (slots_of list words ++ slots_of list values₂))
-          ∙ ap (λ (l : List ℕ). pin_all (in_use slots) (follow_all R s (values ++ sealed)) (pins ++ l)) (sym (slots-append list words values₂));
+      loans = then-same (then-same (then-same (then-same a.loans b.loans) c.loans) d.loans) e.loans;
+      holds = record {
+        scratch = e.holds.scratch;
+        state =
+            e.holds.state
+            ∙ ap (λ (t : State). pin_all (in_use slots) t (slots_of list values₂)) (d.holds.state ∙ ap (λ (t : State). pin_all (in_use slots) t (slots_of list words)) (c.holds.state ∙ ap (λ (t : State). pin_all (in_use slots) t pins) (b.holds.state ∙ ap (λ (t : State). follow_all R t sealed) a.holds.state ∙ sym (follows-append R (state q) values sealed))))
+            ∙ sym (pins-append (in_use slots) (pin_all (in_use slots) (follow_all R (state q) (values ++ sealed)) pins) (slots_of list words) (slots_of list values₂))
+            ∙ sym (pins-append (in_use slots) (follow_all R (state q) (values ++ sealed)) pins (slots_of list words ++ slots_of list values₂))
+            ∙ ap (λ (l : List ℕ). pin_all (in_use slots) (follow_all R (state q) (values ++ sealed)) (pins ++ l)) (sym (slots-append list words values₂));
+      };
+      noted = e.noted ∙ d.noted ∙ c.noted ∙ b.noted ∙ a.noted;
     }

@@ -1,11 +1,11 @@
 -- Slots that are held: pins, and the slots of addresses. Assumes nothing.
-use Prim.Native.Nat.{ℕ, ◌+◌, ◌-◌, ◌*◌, ◌/◌, ◌≤◌, ◌<◌}
+use Prim.Native.Nat.{ℕ, zero, suc, ◌+◌, ◌-◌, ◌*◌, ◌/◌, ◌≤◌, ◌<◌}
 use mathlib.Core.Path.{◌≡◌, refl, sym, ap, ◌∙◌, subst}
 use mathlib.Core.Bool.{Bool, true, false}
 use mathlib.Core.Option.{Option}
 use mathlib.Core.List.{List, [], ◌∷◌, ◌++◌, append-nil}
 use lib.ListN.{length, get_or, take, drop, length-drop, drop_of_length-le}
-use lib.Dec.{eqb}
+use lib.Dec.{ltb, eqb, leb}
 use borrow.Author.Tests.{lt-ltb, le-ltb, le-leb, lt-leb, eq-eqb, ne_eqb}
 use native.Mathlib.Omega.{arith}
 use Rattle.std.specs.Prelude.{if◌then◌else◌}
@@ -16,13 +16,13 @@ use Rattle.addresses.specs.Listed.{slot_of, slots_of}
 use Rattle.addresses.specs.Told.{told}
 use Rattle.std.specs.Prelude.{Option as MaybeSlot, Some, None}
 use Rattle.addresses.proofs.Listing.{slots-append}
-use Rattle.std.specs.Simd.{first_chunks}
-use Rattle.word.proofs.ChunkLaws.{row-part}
 use Rattle.frame.specs.Frame.{Entry, entry, entries_of, first_word, entry_words, entries_words}
 use Rattle.frame.proofs.FrameLaws.{entries_next}
 use Rattle.reach.specs.Marking.{State, visit, follow_all, pin_if, pin_all}
 use Rattle.mark.specs.Scratch.{state_of, Scratch, Holds}
 use Rattle.mark.specs.Joining.{in_use, taking}
+use Rattle.mark.specs.declared.queue.Queue.{Queue}
+use Rattle.mark.specs.Queues.{state, Becomes}
 use Rattle.mark.proofs.Bridge.{follows-append}
 use Rattle.mark.proofs.States.{Pushing, pushing-next, pushing-part, pushing-end}
 
@@ -87,27 +87,21 @@ module _ (slots : ℕ) (list : List ℕ) (off kind : ℕ) (m marks work : List �
 
 -- ---- pins one after the other
 
-abbrev pub HoldsAll : (slots : ℕ) (list marks₀ work₀ : List ℕ) (total : State) (marks work : List ℕ) (count k : ℕ) → Type 0
-HoldsAll slots list marks₀ work₀ total marks work count k = Pushing (pin_all (in_use slots)) slots marks₀ work₀ total marks work count (drop k list)
+abbrev pub HoldsAll : (slots : ℕ) (list : List ℕ) (q₀ : Queue) (total : State) (q : Queue) (k : ℕ) → Type 0
+HoldsAll slots list q₀ total q k = Pushing (pin_all (in_use slots)) slots q₀ total q (drop k list)
 
-module _ (slots : ℕ) (list marks₀ work₀ : List ℕ) (total : State) (marks work : List ℕ) (count k : ℕ) (p : HoldsAll slots list marks₀ work₀ total marks work count k) where
-  pub held_next : k < length list → (marks' work' : List ℕ) (count' : ℕ) → Holds slots marks' work' count' (pin_if (in_use slots (get_or list k 0)) (state_of marks work count) (get_or list k 0))
-      → length marks' ≡ length marks → length work' ≡ length work → HoldsAll slots list marks₀ work₀ total marks' work' count' (k + 1)
-  held_next h marks' work' count' e a b =
-      pushing-next _ slots marks₀ work₀ total marks work count (drop k list) p (λ s i. pin_if (in_use slots i) s i) (λ s x r. refl) (get_or list k 0) (drop (k + 1) list) marks' work' count' (drop-cons-one list k h) e a b
+module _ (slots : ℕ) (list : List ℕ) (q₀ : Queue) (total : State) (q : Queue) (k : ℕ) (p : HoldsAll slots list q₀ total q k) where
+  pub held_next : k < length list → (q' : Queue) → Becomes slots q q' (pin_if (in_use slots (get_or list k 0)) (state q) (get_or list k 0)) → HoldsAll slots list q₀ total q' (k + 1)
+  held_next h q' b =
+      pushing-next _ slots q₀ total q (drop k list) p (λ s i. pin_if (in_use slots i) s i) (λ s x r. refl) (get_or list k 0) (drop (k + 1) list) q' (drop-cons-one list k h) b
 
-  pub held-end : length list ≤ k → Holds slots marks work count total
-  held-end h = pushing-end _ slots marks₀ work₀ total marks work count (drop k list) p (λ s. refl) (drop_of_length-le list h)
+  pub held-end : length list ≤ k → Becomes slots q₀ q total
+  held-end h = pushing-end _ slots q₀ total q (drop k list) p (λ s. refl) (drop_of_length-le list h)
 
 -- ---- the entries of a frame map one after the other
 
-abbrev pub HoldsFrame : (slots : ℕ) (list map m marks₀ work₀ : List ℕ) (total : State) (marks work : List ℕ) (count k : ℕ) → Type 0
-HoldsFrame slots list map m marks₀ work₀ total marks work count k =
-    Pushing (pin_all (in_use slots)) slots marks₀ work₀ total marks work count (slots_of list (entries_words m (entries_of (drop (3 * k) map))))
-
-pub frame-first : (slots : ℕ) (list map m marks work : List ℕ) (n : ℕ) → Scratch slots marks work n
-    → HoldsFrame slots list map m marks work (pin_all (in_use slots) (state_of marks work n) (slots_of list (entries_words m (entries_of map)))) marks work n 0
-frame-first slots list map m marks work n s = record { scratch = s; same = refl; long = refl; words = refl }
+abbrev pub HoldsFrame : (slots : ℕ) (list map m : List ℕ) (q₀ : Queue) (total : State) (q : Queue) (k : ℕ) → Type 0
+HoldsFrame slots list map m q₀ total q k = Pushing (pin_all (in_use slots)) slots q₀ total q (slots_of list (entries_words m (entries_of (drop (3 * k) map))))
 
 entries-short : (l : List ℕ) → length l < 3 → entries_of l ≡ []
 unfolding entries_of
@@ -127,25 +121,21 @@ none_left : (list m : List ℕ) (l : List ℕ) → length l < 3 → slots_of lis
 unfolding slots_of entries_words
 none_left list m l h = ap (λ (es : List Entry). slots_of list (entries_words m es)) (entries-short l h)
 
-module _ (slots : ℕ) (list map m marks₀ work₀ : List ℕ) (total : State) (marks work : List ℕ) (count k : ℕ) (p : HoldsFrame slots list map m marks₀ work₀ total marks work count k) where
-  pub frame-next : (rows : List (List ℕ)) → rows ≡ first_chunks 3 (length map / 3) map → length rows ≡ length map / 3 → k < length rows → (marks' work' : List ℕ) (count' : ℕ)
-      → Holds slots marks' work' count' (pin_all (in_use slots) (state_of marks work count) (slots_of list (entry_words m (entry (get_or (get_or rows k []) 0 0) (get_or (get_or rows k []) 1 0) 0))))
-      → length marks' ≡ length marks → length work' ≡ length work → HoldsFrame slots list map m marks₀ work₀ total marks' work' count' (k + 1)
-  frame-next rows front many h marks' work' count' e a b =
-      pushing-part _ slots marks₀ work₀ total marks work count _ p (pins-append (in_use slots)) (slots_of list (entry_words m (entry (get_or map (3 * k) 0) (get_or map (3 * k + 1) 0) 0)))
-      (slots_of list (entries_words m (entries_of (drop (3 * (k + 1)) map)))) marks' work' count' parts
-      (subst (λ (w : Entry). Holds slots marks' work' count' (pin_all (in_use slots) (state_of marks work count) (slots_of list (entry_words m w)))) (λ j. entry (part 0 (3 * k) (omega arith) (omega arith) j) (part 1 (3 * k + 1) (omega arith) (omega arith) j) 0) e) a b
+module _ (slots : ℕ) (list map m : List ℕ) (q₀ : Queue) (total : State) (q : Queue) (k : ℕ) (p : HoldsFrame slots list map m q₀ total q k) where
+  pub frame-next : k < length map / 3 → (q' : Queue)
+      → Becomes slots q q' (pin_all (in_use slots) (state q) (slots_of list (entry_words m (entry (get_or map (3 * k) 0) (get_or map (3 * k + 1) 0) 0))))
+      → HoldsFrame slots list map m q₀ total q' (k + 1)
+  frame-next h q' b =
+      pushing-part _ slots q₀ total q _ p (pins-append (in_use slots)) (slots_of list (entry_words m (entry (get_or map (3 * k) 0) (get_or map (3 * k + 1) 0) 0)))
+      (slots_of list (entries_words m (entries_of (drop (3 * (k + 1)) map)))) q' parts b
     where
-      part : (i j : ℕ) → i < 3 → 3 * k + i ≡ j → get_or (get_or rows k []) i 0 ≡ get_or map j 0
-      part i j c d = row-part 3 (length map / 3) map rows front k i j [] (omega (arith, h, many)) c d
-
       parts : slots_of list (entries_words m (entries_of (drop (3 * k) map)))
           ≡ slots_of list (entry_words m (entry (get_or map (3 * k) 0) (get_or map (3 * k + 1) 0) 0)) ++ slots_of list (entries_words m (entries_of (drop (3 * (k + 1)) map)))
-      parts = ap (slots_of list) (words-next m map k (omega (arith, h, many))) ∙ slots-append list (entry_words m (entry (get_or map (3 * k) 0) (get_or map (3 * k + 1) 0) 0)) (entries_words m (entries_of (drop (3 * (k + 1)) map)))
+      parts = ap (slots_of list) (words-next m map k h) ∙ slots-append list (entry_words m (entry (get_or map (3 * k) 0) (get_or map (3 * k + 1) 0) 0)) (entries_words m (entries_of (drop (3 * (k + 1)) map)))
 
-  pub frame-end : (many : ℕ) → many ≡ length map / 3 → many ≤ k → Holds slots marks work count total
-  frame-end many n h =
-      pushing-end _ slots marks₀ work₀ total marks work count _ p (λ s. refl) (none_left list m (drop (3 * k) map) (omega (arith, length-drop (3 * k) map)))
+  pub frame-end : length map / 3 ≤ k → Becomes slots q₀ q total
+  frame-end h =
+      pushing-end _ slots q₀ total q _ p (λ s. refl) (none_left list m (drop (3 * k) map) (omega (arith, length-drop (3 * k) map)))
 
 -- ---- values of registers: followed or looked up
 

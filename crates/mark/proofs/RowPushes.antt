@@ -24,7 +24,9 @@ use Rattle.addresses.specs.Listed.{slot_of, slots_of}
 use Rattle.reach.specs.Marking.{State, pin_all}
 use Rattle.mark.specs.Graph.{leads_to}
 use Rattle.mark.specs.Scratch.{state_of, Scratch, Holds}
-use Rattle.mark.proofs.States.{Pushing, pushing-part, pushing-end}
+use Rattle.mark.specs.declared.queue.Queue.{Queue}
+use Rattle.mark.specs.Queues.{state, IsReady, Becomes}
+use Rattle.mark.proofs.States.{same-again, Pushing, pushing-part, pushing-end}
 use Rattle.mark.proofs.Holding.{taking-none, taking-append}
 use Rattle.mark.proofs.Bridge.{emit-met}
 use Rattle.mark.proofs.Inside.{resolves-in}
@@ -92,21 +94,21 @@ value-first class classes values v rests =
     by true = refl
     by false = refl
 
-pub record RowPushes (tag slots S : ℕ) (narrow list : List ℕ) (class : ℕ) (classes row values marks₀ work₀ : List ℕ) (total : State) (marks work : List ℕ) (count turns i rest : ℕ) : Type 0 where
-  pub pushing : Pushing (taking class (leads_to tag slots S narrow) slots list) slots marks₀ work₀ total marks work count (values_left class classes row values i rest)
+pub record RowPushes (tag slots S : ℕ) (narrow list : List ℕ) (class : ℕ) (classes row values : List ℕ) (q₀ : Queue) (total : State) (qs : Queue) (turns i rest : ℕ) : Type 0 where
+  pub pushing : Pushing (taking class (leads_to tag slots S narrow) slots list) slots q₀ total qs (values_left class classes row values i rest)
   pub turned : turns + bits_left row values i rest ≡ i + length (passing (bit_in 64 row) 0 (bits_of values))
   pub inside : i ≤ words_of values
   pub word : rest < 2 ^ 64
 
-pub row_first : (tag slots S : ℕ) (narrow list : List ℕ) (class : ℕ) (classes row values marks work : List ℕ) (n rest : ℕ) → Scratch slots marks work n → rest ≡ get_or row 0 0 → rest < 2 ^ 64
-    → RowPushes tag slots S narrow list class classes row values marks work (taking class (leads_to tag slots S narrow) slots list (state_of marks work n) (row_values class classes row values)) marks work n 0 0 rest
-row_first tag slots S narrow list class classes row values marks work n rest s e w =
+pub row_first : (tag slots S : ℕ) (narrow list : List ℕ) (class : ℕ) (classes row values : List ℕ) (q : Queue) (rest : ℕ) → IsReady slots q → rest ≡ get_or row 0 0 → rest < 2 ^ 64
+    → RowPushes tag slots S narrow list class classes row values q (taking class (leads_to tag slots S narrow) slots list (state q) (row_values class classes row values)) q 0 0 rest
+row_first tag slots S narrow list class classes row values q rest s e w =
     record {
       pushing = record {
+        loans = same-again q;
         scratch = s;
-        same = ap (λ (l : List ℕ). taking class (leads_to tag slots S narrow) slots list (state_of marks work n) (values_of values (of_class class classes l))) (all (length values));
-        long = refl;
-        words = refl;
+        same = ap (λ (l : List ℕ). taking class (leads_to tag slots S narrow) slots list (state q) (values_of values (of_class class classes l))) (all (length values));
+        noted = refl;
       };
       turned = omega (arith, ap length (all (bits_of values)));
       inside = omega arith;
@@ -116,8 +118,8 @@ row_first tag slots S narrow list class classes row values marks work n rest s e
     all : (m : ℕ) → below m (leftover 64 row 0 rest) ≡ passing (bit_in 64 row) 0 m
     all m = ap (below m) (all_left 64 row rest e) ∙ below-listed row m
 
-module _ (tag slots S : ℕ) (narrow list : List ℕ) (class : ℕ) (classes row values marks₀ work₀ : List ℕ) (total : State) (marks work : List ℕ) (count turns i rest : ℕ)
-    (p : RowPushes tag slots S narrow list class classes row values marks₀ work₀ total marks work count turns i rest) where
+module _ (tag slots S : ℕ) (narrow list : List ℕ) (class : ℕ) (classes row values : List ℕ) (q₀ : Queue) (total : State) (qs : Queue) (turns i rest : ℕ)
+    (p : RowPushes tag slots S narrow list class classes row values q₀ total qs turns i rest) where
   -- turns and bits are few
   pub few_turns : turns ≤ words_of values + bits_of values
   few_turns = omega (arith, p.turned, p.inside, passing-most (bit_in 64 row) 0 (bits_of values))
@@ -130,13 +132,13 @@ module _ (tag slots S : ℕ) (narrow list : List ℕ) (class : ℕ) (classes row
     pub pass-left : bits_left row values (i + 1) next ≡ bits_left row values i rest
     pass-left = ap length (same_left (bits_of values))
 
-    pub row-pass : i < words_of values → next < 2 ^ 64 → RowPushes tag slots S narrow list class classes row values marks₀ work₀ total marks work count (turns + 1) (i + 1) next
+    pub row-pass : i < words_of values → next < 2 ^ 64 → RowPushes tag slots S narrow list class classes row values q₀ total qs (turns + 1) (i + 1) next
     row-pass h w = record {
       pushing = record {
+        loans = p.pushing.loans;
         scratch = p.pushing.scratch;
-        same = ap (λ (l : List ℕ). taking class (leads_to tag slots S narrow) slots list (state_of marks work count) (values_of values (of_class class classes l))) (same_left (length values)) ∙ p.pushing.same;
-        long = p.pushing.long;
-        words = p.pushing.words;
+        same = ap (λ (l : List ℕ). taking class (leads_to tag slots S narrow) slots list (state qs) (values_of values (of_class class classes l))) (same_left (length values)) ∙ p.pushing.same;
+        noted = p.pushing.noted;
       };
       turned = omega (arith, p.turned, pass-left);
       inside = omega arith;
@@ -160,14 +162,13 @@ module _ (tag slots S : ℕ) (narrow list : List ℕ) (class : ℕ) (classes row
     pub take_left : bits_left row values i rest ≡ 1 + bits_left row values i (bit_and rest (rest - 1))
     take_left = omega (arith, ap length (ap (below (bits_of values)) lowest ∙ below_in (bits_of values) q (leftover 64 row i (bit_and rest (rest - 1))) inside-words))
 
-    pub row-take : (v : ℕ) → v ≡ 64 * i + count_trailing_zeros 64 rest → (marks' work' : List ℕ) (count' : ℕ)
-        → Holds slots marks' work' count' (taking class (leads_to tag slots S narrow) slots list (state_of marks work count) (value_of class classes values v))
-        → length marks' ≡ length marks → length work' ≡ length work
-        → RowPushes tag slots S narrow list class classes row values marks₀ work₀ total marks' work' count' (turns + 1) i (bit_and rest (rest - 1))
-    row-take v e marks' work' count' met a b = record {
+    pub row-take : (v : ℕ) → v ≡ 64 * i + count_trailing_zeros 64 rest → (q' : Queue)
+        → Becomes slots qs q' (taking class (leads_to tag slots S narrow) slots list (state qs) (value_of class classes values v))
+        → RowPushes tag slots S narrow list class classes row values q₀ total q' (turns + 1) i (bit_and rest (rest - 1))
+    row-take v e q' met = record {
       pushing =
-          pushing-part _ slots marks₀ work₀ total marks work count (values_left class classes row values i rest) p.pushing (taking-append class (leads_to tag slots S narrow) slots list)
-          (value_of class classes values v) (values_left class classes row values i (bit_and rest (rest - 1))) marks' work' count' first met a b;
+          pushing-part _ slots q₀ total qs (values_left class classes row values i rest) p.pushing (taking-append class (leads_to tag slots S narrow) slots list)
+          (value_of class classes values v) (values_left class classes row values i (bit_and rest (rest - 1))) q' first met;
       turned = omega (arith, p.turned, take_left);
       inside = p.inside;
       word = less-word 64 rest pos p.word;
@@ -180,10 +181,10 @@ module _ (tag slots S : ℕ) (narrow list : List ℕ) (class : ℕ) (classes row
 
   -- at the end
   module _ (h : words_of values ≤ i) where
-    pub row-end : Holds slots marks work count total
+    pub row-end : Becomes slots q₀ qs total
     unfolding values_of
     row-end =
-        pushing-end _ slots marks₀ work₀ total marks work count (values_left class classes row values i rest) p.pushing (taking-none class (leads_to tag slots S narrow) slots list)
+        pushing-end _ slots q₀ total qs (values_left class classes row values i rest) p.pushing (taking-none class (leads_to tag slots S narrow) slots list)
         (ap (λ (l : List ℕ). values_of values (of_class class classes l)) (below_none (length values) 64 row i rest (omega arith)))
 
     pub row-turns : length row ≡ words_of values → turns ≡ length row + length (listed 64 row)

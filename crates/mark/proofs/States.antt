@@ -16,7 +16,9 @@ use Rattle.handle.proofs.ResolveLaws.{live-beyond, live-not, live-there}
 use Rattle.reach.specs.Marking.{State, Good, visit, pin_if}
 use Rattle.reach.proofs.Grown.{sum-set, sum-le, visit-grown, good-nothing}
 use Rattle.trace.specs.Emit.{over}
-use Rattle.mark.specs.Scratch.{low, high, state_of, Holds, Scratch}
+use Rattle.mark.specs.Scratch.{low, high, state_of, Holds, Scratch, Noted}
+use Rattle.mark.specs.declared.queue.Queue.{Queue}
+use Rattle.mark.specs.Queues.{state, IsReady, SameLoans, Becomes}
 
 -- an unmarked slot leaves room in the queue
 pub unmarked-room : (n : ℕ) (s : State) → Good n s → (i : ℕ) → i < n → get_or s.marks i 0 ≡ 0 → length s.queue < n
@@ -76,38 +78,46 @@ scratch-start slots marks work few e h =
 
 -- ---- a list taken in turn
 
--- handles or pins are taken in turn: the rest, from the state that is there, gives what all gives from the state at the start
-pub record Pushing (F : State → List ℕ → State) (slots : ℕ) (marks₀ work₀ : List ℕ) (total : State) (marks work : List ℕ) (count : ℕ) (rest : List ℕ) : Type 0 where
-  pub scratch : Scratch slots marks work count
-  pub same : F (state_of marks work count) rest ≡ total
-  pub long : length marks ≡ length marks₀
-  pub words : length work ≡ length work₀
+pub same-again : (q : Queue) → SameLoans q q
+same-again q = record { marks = refl; work = refl }
 
-module _ (F : State → List ℕ → State) (slots : ℕ) (marks₀ work₀ : List ℕ) (total : State) (marks work : List ℕ) (count : ℕ) (l : List ℕ) (p : Pushing F slots marks₀ work₀ total marks work count l) where
+pub then-same : {q q' q'' : Queue} → SameLoans q q' → SameLoans q' q'' → SameLoans q q''
+then-same a b = record { marks = b.marks ∙ a.marks; work = b.work ∙ a.work }
+
+-- handles or pins are taken in turn: the rest, from the state that is there, gives what all gives from the state at the start
+pub record Pushing (F : State → List ℕ → State) (slots : ℕ) (q₀ : Queue) (total : State) (q : Queue) (rest : List ℕ) : Type 0 where
+  pub loans : SameLoans q₀ q
+  pub scratch : IsReady slots q
+  pub same : F (state q) rest ≡ total
+  pub noted : Noted q₀.work.now q.work.now
+
+pub pushing-start : (F : State → List ℕ → State) (slots : ℕ) (q : Queue) (l : List ℕ) → IsReady slots q → Pushing F slots q (F (state q) l) q l
+pushing-start F slots q l r = record { loans = same-again q; scratch = r; same = refl; noted = refl }
+
+module _ (F : State → List ℕ → State) (slots : ℕ) (q₀ : Queue) (total : State) (q : Queue) (l : List ℕ) (p : Pushing F slots q₀ total q l) where
   pub pushing-next : (g : State → ℕ → State) → ((s : State) (h : ℕ) (rest : List ℕ) → F s (h ∷ rest) ≡ F (g s h) rest)
-      → (h : ℕ) (rest marks' work' : List ℕ) (count' : ℕ) → l ≡ h ∷ rest → Holds slots marks' work' count' (g (state_of marks work count) h) → length marks' ≡ length marks → length work' ≡ length work
-      → Pushing F slots marks₀ work₀ total marks' work' count' rest
-  pushing-next g c h rest marks' work' count' e k a b =
+      → (h : ℕ) (rest : List ℕ) (q' : Queue) → l ≡ h ∷ rest → Becomes slots q q' (g (state q) h) → Pushing F slots q₀ total q' rest
+  pushing-next g c h rest q' e k =
       record {
-        scratch = k.scratch;
-        same = ap (λ (u : State). F u rest) k.state ∙ sym (c (state_of marks work count) h rest) ∙ sym (ap (F (state_of marks work count)) e) ∙ p.same;
-        long = a ∙ p.long;
-        words = b ∙ p.words;
+        loans = then-same p.loans k.loans;
+        scratch = k.holds.scratch;
+        same = ap (λ (u : State). F u rest) k.holds.state ∙ sym (c (state q) h rest) ∙ sym (ap (F (state q)) e) ∙ p.same;
+        noted = k.noted ∙ p.noted;
       }
 
   -- several at once
-  pub pushing-part : ((s : State) (a b : List ℕ) → F s (a ++ b) ≡ F (F s a) b) → (a rest marks' work' : List ℕ) (count' : ℕ) → l ≡ a ++ rest
-      → Holds slots marks' work' count' (F (state_of marks work count) a) → length marks' ≡ length marks → length work' ≡ length work → Pushing F slots marks₀ work₀ total marks' work' count' rest
-  pushing-part c a rest marks' work' count' e k x y =
+  pub pushing-part : ((s : State) (a b : List ℕ) → F s (a ++ b) ≡ F (F s a) b) → (a rest : List ℕ) (q' : Queue) → l ≡ a ++ rest
+      → Becomes slots q q' (F (state q) a) → Pushing F slots q₀ total q' rest
+  pushing-part c a rest q' e k =
       record {
-        scratch = k.scratch;
-        same = ap (λ (u : State). F u rest) k.state ∙ sym (c (state_of marks work count) a rest) ∙ sym (ap (F (state_of marks work count)) e) ∙ p.same;
-        long = x ∙ p.long;
-        words = y ∙ p.words;
+        loans = then-same p.loans k.loans;
+        scratch = k.holds.scratch;
+        same = ap (λ (u : State). F u rest) k.holds.state ∙ sym (c (state q) a rest) ∙ sym (ap (F (state q)) e) ∙ p.same;
+        noted = k.noted ∙ p.noted;
       }
 
-  pub pushing-end : ((s : State) → F s [] ≡ s) → l ≡ [] → Holds slots marks work count total
-  pushing-end c e = record { state = sym (c (state_of marks work count)) ∙ sym (ap (F (state_of marks work count)) e) ∙ p.same; scratch = p.scratch }
+  pub pushing-end : ((s : State) → F s [] ≡ s) → l ≡ [] → Becomes slots q₀ q total
+  pushing-end c e = record { loans = p.loans; holds = record { state = sym (c (state q)) ∙ sym (ap (F (state q)) e) ∙ p.same; scratch = p.scratch }; noted = p.noted }
 
 -- ---- a pin
 

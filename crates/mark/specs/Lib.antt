@@ -4,3 +4,4 @@ pub mod Told
 pub mod Joining
 pub mod Objects
 pub mod Safepoints
+pub mod Queues

@@ -3,129 +3,88 @@
 ghost use Rattle.addresses.specs.Listed.{slot_of, slots_of};
 ghost use Rattle.frame.specs.Frame.{entry, entries_of, first_word, entry_words, entries_words};
 ghost use Rattle.reach.specs.Marking.{pin_if, pin_all};
-ghost use Rattle.mark.specs.Scratch.{state_of, Scratch, Holds};
+ghost use Rattle.mark.specs.Queues.{state, IsReady, Becomes};
 ghost use Rattle.mark.specs.Joining.{in_use};
 
+use crate::queue::Queue;
 use crate::registers::Frame;
 use addresses::Pairs;
 
-// A pinned slot is marked and queued if there is that slot. Its index is any number of 64 bits.
-// Kept: marks, work and n stay three here and below, as in `push_all`.
-fn hold(slots: usize, i: u64, marks: &mut [u8], work: &mut [u64], n: usize) -> usize
-    requires { Scratch slots marks.old work.old n }
-    ensures { Holds slots marks.new work.new result (pin_if (in_use slots i) (state_of marks.old work.old n) i) }
-{
-    let most = slots as u64;
-    if most <= i {
-        return n;
+impl Queue<'_> {
+    // A pinned slot is marked and queued if there is that slot. Its index is any number of 64 bits.
+    fn hold(&mut self, slots: usize, i: u64)
+        requires { IsReady slots self.old }
+        ensures { Becomes slots self.old self.new (pin_if (in_use slots i) (state self.old) i) }
+    {
+        let most = slots as u64;
+        if most <= i {
+            return;
+        }
+        self.n = trace::queue(self.marks, self.work, self.n, i as u32);
     }
-    trace::queue(marks, work, n, i as u32)
-}
 
-// Each pin of a list.
-// Kept: apart from `pin_all`, since a dead slot is held too, so that the number of slots is all that it takes.
-pub fn hold_all(slots: usize, pins: &[u32], marks: &mut [u8], work: &mut [u64], n: usize) -> usize
-    requires { Scratch slots marks.old work.old n }
-    ensures { Holds slots marks.new work.new result (pin_all (in_use slots) (state_of marks.old work.old n) pins.now) }
-{
-    let mut count = n;
-    for i in pins {
-        count = hold(slots, *i as u64, marks, work, count);
+    // Each pin of a list.
+    // Kept: apart from `pin_all`, since a dead slot is held too, so that the number of slots is all that it takes.
+    pub fn hold_all(&mut self, slots: usize, pins: &[u32])
+        requires { IsReady slots self.old }
+        ensures { Becomes slots self.old self.new (pin_all (in_use slots) (state self.old) pins.now) }
+    {
+        for i in pins {
+            self.hold(slots, *i as u64);
+        }
     }
-    count
-}
 
-// The slot that an address is listed with.
-pub fn hold_address(
-    slots: usize,
-    pairs: Pairs,
-    x: u64,
-    marks: &mut [u8],
-    work: &mut [u64],
-    n: usize,
-) -> usize
-    requires { Scratch slots marks.old work.old n }
-    ensures { Holds slots marks.new work.new result
-        (pin_all (in_use slots) (state_of marks.old work.old n) (slot_of pairs.entry.list.now x)) }
-{
-    match pairs.find(x) {
-        Some(i) => hold(slots, i, marks, work, n),
-        None => n,
+    // The slot that an address is listed with.
+    pub fn hold_address(&mut self, slots: usize, pairs: Pairs, x: u64)
+        requires { IsReady slots self.old }
+        ensures { Becomes slots self.old self.new (pin_all (in_use slots) (state self.old) (slot_of pairs.entry.list.now x)) }
+    {
+        match pairs.find(x) {
+            Some(i) => self.hold(slots, i),
+            None => (),
+        }
     }
-}
 
-// The word at the start of bytes, if there are eight, is an address.
-fn hold_word(
-    slots: usize,
-    pairs: Pairs,
-    data: &[u8],
-    marks: &mut [u8],
-    work: &mut [u64],
-    n: usize,
-) -> usize
-    requires { Scratch slots marks.old work.old n }
-    ensures { Holds slots marks.new work.new result
-        (pin_all (in_use slots) (state_of marks.old work.old n) (slots_of pairs.entry.list.now (first_word «data».now))) }
-{
-    if data.len() < 8 {
-        return n;
+    // The word at the start of bytes, if there are eight, is an address.
+    fn hold_word(&mut self, slots: usize, pairs: Pairs, data: &[u8])
+        requires { IsReady slots self.old }
+        ensures { Becomes slots self.old self.new
+            (pin_all (in_use slots) (state self.old) (slots_of pairs.entry.list.now (first_word «data».now))) }
+    {
+        if data.len() < 8 {
+            return;
+        }
+        let x = word::get_le(data, 0, 8);
+        self.hold_address(slots, pairs, x);
     }
-    let x = word::get_le(data, 0, 8);
-    hold_address(slots, pairs, x, marks, work, n)
-}
 
-// The address of one entry of a frame map: of kind 1.
-fn hold_entry(
-    slots: usize,
-    pairs: Pairs,
-    offset: usize,
-    of: u32,
-    memory: &[u8],
-    marks: &mut [u8],
-    work: &mut [u64],
-    n: usize,
-) -> usize
-    requires { Scratch slots marks.old work.old n }
-    ensures { Holds slots marks.new work.new result
-        (pin_all (in_use slots) (state_of marks.old work.old n) (slots_of pairs.entry.list.now (entry_words memory.now (entry offset of 0)))) }
-{
-    if of != 1 {
-        return n;
+    // The address of one entry of a frame map: of kind 1.
+    fn hold_entry(&mut self, slots: usize, pairs: Pairs, offset: usize, of: u32, memory: &[u8])
+        requires { IsReady slots self.old }
+        ensures { Becomes slots self.old self.new
+            (pin_all (in_use slots) (state self.old) (slots_of pairs.entry.list.now (entry_words memory.now (entry offset of 0)))) }
+    {
+        if of != 1 {
+            return;
+        }
+        if memory.len() < offset {
+            return;
+        }
+        self.hold_word(slots, pairs, &memory[offset..]);
     }
-    if memory.len() < offset {
-        return n;
-    }
-    hold_word(slots, pairs, &memory[offset..], marks, work, n)
-}
 
-// The addresses of all entries.
-pub fn hold_frame(
-    slots: usize,
-    pairs: Pairs,
-    frame: Frame,
-    marks: &mut [u8],
-    work: &mut [u64],
-    n: usize,
-) -> usize
-    requires { Scratch slots marks.old work.old n }
-    ensures { Holds slots marks.new work.new result
-        (pin_all (in_use slots) (state_of marks.old work.old n)
-        (slots_of pairs.entry.list.now (entries_words frame.entry.memory.now (entries_of frame.entry.map.now)))) }
-{
-    let Frame { map, memory } = frame;
-    let mut count = n;
-    let (entries, _) = map.as_chunks::<3>();
-    for &[offset, of, _] in entries {
-        count = hold_entry(
-            slots,
-            pairs,
-            offset as usize,
-            of,
-            memory,
-            marks,
-            work,
-            count,
-        );
+    // The addresses of all entries.
+    pub fn hold_frame(&mut self, slots: usize, pairs: Pairs, frame: Frame)
+        requires { IsReady slots self.old }
+        ensures { Becomes slots self.old self.new (pin_all (in_use slots) (state self.old)
+            (slots_of pairs.entry.list.now (entries_words frame.entry.memory.now (entries_of frame.entry.map.now)))) }
+    {
+        let Frame { map, memory } = frame;
+        let whole = map.len() / 3;
+        for k in 0..whole {
+            let offset = map[3 * k] as usize;
+            let of = map[3 * k + 1];
+            self.hold_entry(slots, pairs, offset, of, memory);
+        }
     }
-    count
 }

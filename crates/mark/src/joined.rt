@@ -1,19 +1,20 @@
 // The marking of a joined collection: chains start at the frame's handles and at the values of the registers of a bit row, beside the seals, the pins and the slots
 // of the addresses that the frame and the registers have.
 ghost use Rattle.std.specs.Prelude.{◌≡◌, ◌++◌, ◌+◌, ◌/◌, length};
-ghost use Rattle.heap.specs.Seen.{state};
+ghost use Rattle.heap.specs.Seen.{state as heap_state};
 ghost use Rattle.ty.specs.View.{lent};
 ghost use Rattle.rows.specs.Row.{listed};
 ghost use Rattle.frame.specs.Frame.{entries_of, entries_words};
 ghost use Rattle.addresses.specs.Listed.{slots_of};
 ghost use Rattle.mark.specs.Objects.{leads, held_of};
-ghost use Rattle.mark.specs.Scratch.{state_of, Scratch, Holds, Traces, seeded_from};
+ghost use Rattle.mark.specs.Scratch.{state_of, Scratch, Traces, seeded_from};
+ghost use Rattle.mark.specs.Queues.{state, IsReady, Becomes};
 ghost use Rattle.mark.specs.Told.{told, marks_in, Ready};
 ghost use Rattle.mark.specs.Joining.{in_use, taking, value_of, joined_from, joined_marks};
 ghost use Rattle.mark.specs.Safepoints.{live_values, handles_in, pinned_in};
 
-use crate::hold::{hold_address, hold_all, hold_frame};
 use crate::objects::{Objects, seals};
+use crate::queue::Queue;
 pub use crate::registers::{Frame, Registers};
 use addresses::Pairs;
 use handle::Slots;
@@ -22,118 +23,95 @@ use refusal::Refusal;
 use trace::Sink;
 use ty::Table;
 
-// The value of register q is taken, if there is that register and it is of the class that is wanted: a handle (class 4) is followed, an address (class 2) is looked up
-// and its slot pinned.
-// Kept: what is wanted is a class as the lent list has it, since a register's class is compared with it.
-fn push_at(
-    here: Slots,
-    pairs: Pairs,
-    want: u8,
-    registers: Registers,
-    q: usize,
-    marks: &mut [u8],
-    work: &mut [u64],
-    n: usize,
-) -> usize
-    requires { Scratch here.slots marks.old work.old n }
-    ensures { Holds here.entry.slots marks.new work.new result (taking want (leads here.entry) here.entry.slots pairs.entry.list.now
-        (state_of marks.old work.old n) (value_of want registers.entry.classes.now registers.entry.values.now q)) }
-{
-    let Registers {
-        classes,
-        row: _,
-        values,
-    } = registers;
-    if values.len() <= q {
-        return n;
-    }
-    if classes[q] != want {
-        return n;
-    }
-    let v = values[q];
-    if want == 4 {
-        return trace::emit(here, Sink::Work, marks, work, n, v);
-    }
-    hold_address(here.slots, pairs, v, marks, work, n)
-}
-
-// The length of the queue after a row, and in how many turns the row was gone through.
-#[derive(Clone, Copy)]
-pub struct Pushed {
-    pub count: usize,
-    pub turns: usize,
-}
-
-// The value of each register of the row and of the class that is wanted is taken: one value a register. A turn passes one word of the row or takes the lowest set
-// bit of one, by its trailing zeros.
-pub fn push_row(
-    here: Slots,
-    pairs: Pairs,
-    want: u8,
-    registers: Registers,
-    marks: &mut [u8],
-    work: &mut [u64],
-    n: usize,
-) -> Pushed
-    requires { Scratch here.slots marks.old work.old n }
-    ensures followed { Holds here.entry.slots marks.new work.new result.count
-        (taking want (leads here.entry) here.entry.slots pairs.entry.list.now (state_of marks.old work.old n)
-        (live_values want registers.entry)) }
-    ensures turns { length registers.entry.row.now ≡ (length registers.entry.values.now + 63) / 64
-        → result.turns ≡ length registers.entry.row.now + length (listed 64 registers.entry.row.now) }
-{
-    let Registers {
-        classes: _,
-        row,
-        values,
-    } = registers;
-    let words = (values.len() + 63) / 64;
-    let mut count = n;
-    let mut turns: usize = 0;
-    let mut i: usize = 0;
-    let mut rest = rows::word_at(row, 0);
-    // Kept: a turn does not always pass a word of the row, and the number of turns is promised.
-    while i < words {
-        turns += 1;
-        if rest == 0 {
-            i += 1;
-            rest = rows::word_at(row, i);
-            continue;
+impl Queue<'_> {
+    // The value of register q is taken, if there is that register and it is of the class that is wanted: a handle (class 4) is followed, an address (class 2) is looked
+    // up and its slot pinned.
+    // Kept: what is wanted is a class as the lent list has it, since a register's class is compared with it.
+    fn push_at(&mut self, here: Slots, pairs: Pairs, want: u8, registers: Registers, q: usize)
+        requires { IsReady here.slots self.old }
+        ensures { Becomes here.entry.slots self.old self.new (taking want (leads here.entry) here.entry.slots pairs.entry.list.now
+            (state self.old) (value_of want registers.entry.classes.now registers.entry.values.now q)) }
+    {
+        let Registers {
+            classes,
+            row: _,
+            values,
+        } = registers;
+        if values.len() <= q {
+            return;
         }
-        let q = 64 * i + u64::trailing_zeros(rest) as usize;
-        count = push_at(here, pairs, want, registers, q, marks, work, count);
-        rest = rest & (rest - 1);
+        if classes[q] != want {
+            return;
+        }
+        let v = values[q];
+        if want == 4 {
+            self.n = trace::emit(here, Sink::Work, self.marks, self.work, self.n, v);
+            return;
+        }
+        self.hold_address(here.slots, pairs, v);
     }
-    Pushed { count, turns }
-}
 
-// What the live registers and the seals lead to, the pins, and the slots of the addresses that the frame and the live registers have, are marked and queued.
-fn seed_joined(
-    here: Slots,
-    registers: Registers,
-    frame: Frame,
-    sealed: &[u64],
-    pins: &[u32],
-    pairs: Pairs,
-    marks: &mut [u8],
-    work: &mut [u64],
-    n: usize,
-) -> usize
-    requires { Scratch here.slots marks.old work.old n }
-    ensures { Holds here.entry.slots marks.new work.new result
-        (seeded_from (leads here.entry) (in_use here.entry.slots) (state_of marks.old work.old n)
-        (live_values 4 registers.entry) sealed.now
-        (pins.now ++ slots_of pairs.entry.list.now
-        (entries_words frame.entry.memory.now (entries_of frame.entry.map.now) ++ live_values 2 registers.entry))) }
-{
-    let a = push_row(here, pairs, 4, registers, marks, work, n).count;
-    let b = crate::push_all(here, sealed, marks, work, a);
-    let c = hold_all(here.slots, pins, marks, work, b);
-    let d = hold_frame(here.slots, pairs, frame, marks, work, c);
-    push_row(here, pairs, 2, registers, marks, work, d).count
+    // The value of each register of the row and of the class that is wanted is taken: one value a register; in how many turns. A turn passes one word of the row or
+    // takes the lowest set bit of one, by its trailing zeros.
+    pub fn push_row(&mut self, here: Slots, pairs: Pairs, want: u8, registers: Registers) -> usize
+        requires { IsReady here.slots self.old }
+        ensures followed { Becomes here.entry.slots self.old self.new
+            (taking want (leads here.entry) here.entry.slots pairs.entry.list.now (state self.old)
+            (live_values want registers.entry)) }
+        ensures turns { length registers.entry.row.now ≡ (length registers.entry.values.now + 63) / 64
+            → result ≡ length registers.entry.row.now + length (listed 64 registers.entry.row.now) }
+    {
+        let Registers {
+            classes: _,
+            row,
+            values,
+        } = registers;
+        let words = (values.len() + 63) / 64;
+        let mut turns: usize = 0;
+        let mut i: usize = 0;
+        let mut rest = rows::word_at(row, 0);
+        // Kept: a turn does not always pass a word of the row, and the number of turns is promised.
+        while i < words {
+            turns += 1;
+            if rest == 0 {
+                i += 1;
+                rest = rows::word_at(row, i);
+                continue;
+            }
+            let q = 64 * i + u64::trailing_zeros(rest) as usize;
+            self.push_at(here, pairs, want, registers, q);
+            rest = rest & (rest - 1);
+        }
+        turns
+    }
+
+    // What the live registers and the seals lead to, the pins, and the slots of the addresses that the frame and the live registers have, are marked and queued.
+    fn seed_joined(
+        &mut self,
+        here: Slots,
+        registers: Registers,
+        frame: Frame,
+        sealed: &[u64],
+        pins: &[u32],
+        pairs: Pairs,
+    )
+        requires { IsReady here.slots self.old }
+        ensures { Becomes here.entry.slots self.old self.new
+            (seeded_from (leads here.entry) (in_use here.entry.slots) (state self.old)
+            (live_values 4 registers.entry) sealed.now
+            (pins.now ++ slots_of pairs.entry.list.now
+            (entries_words frame.entry.memory.now (entries_of frame.entry.map.now) ++ live_values 2 registers.entry))) }
+    {
+        self.push_row(here, pairs, 4, registers);
+        self.push_all(here, sealed);
+        self.hold_all(here.slots, pins);
+        self.hold_frame(here.slots, pairs, frame);
+        self.push_row(here, pairs, 2, registers);
+    }
 }
 
 // All that is reached from the frame, the registers, the seals and the pins is marked, and so are pinned slots without an object, unless the frame map fails.
+// Kept: marks and work come apart, as in `mark_from`.
 fn mark_frame(
     table: &Table,
     objects: Objects,
@@ -165,8 +143,10 @@ fn mark_frame(
         work,
         0,
     )?;
-    let m = seed_joined(here, registers, frame, sealed, pins, pairs, marks, work, n);
-    crate::drain(table, objects, marks, work, m, 0)
+    let mut queue = Queue { marks, work, n };
+    queue.seed_joined(here, registers, frame, sealed, pins, pairs);
+    queue.drain(table, objects, 0)?;
+    Some(queue.n)
 }
 
 // The marking of a well formed heap. The scratch is zero, for more slots than there are: the first of the marks are lent.
@@ -182,7 +162,7 @@ pub fn mark_joined(
 ) -> Result<(), Refusal>
     requires { Ready view.heap.slots marks.old work.old }
     ensures { told result marks.new ≡ marks_in (length marks.old)
-        (joined_marks (lent table.now) (state view.entry)
+        (joined_marks (lent table.now) (heap_state view.entry)
         (handles_in (lent table.now) frame.entry)
         (live_values 4 registers.entry)
         (pinned_in (lent table.now) registers.entry frame.entry pins.now pairs.entry)) }

@@ -1,9 +1,0 @@
--- `mark::joined::seed_joined` meets its contract: step by step.
-use Rattle.frame.specs.Frame.{entries_of, entries_words}
-use Rattle.mark.specs.Objects.{leads}
-use Rattle.mark.specs.Safepoints.{live_values}
-use Rattle.mark.proofs.FrameMarks.{joined-seeds}
-use Rattle.mark.proofs.joined.seed_joined.Goals as goal
-
-pub returns : goal.returns
-returns c = joined-seeds (leads c.args.here) c.args.here.slots c.args.pairs.list.now (live_values 4 c.args.registers) c.args.sealed.now c.args.pins.now (entries_words c.args.frame.memory.now (entries_of c.args.frame.map.now)) (live_values 2 c.args.registers) _ _ _ _ _ _ _ _ _ _ _ _ _ _ _ _ c.push_row-a.ensures.followed c.push_all-b.ensures.holds c.hold_all-c.ensures c.hold_frame-d.ensures c.push_row.ensures.followed

@@ -1,0 +1,14 @@
+-- `mark::queue::Queue::drain` meets its contract.
+use Prim.Native.Nat.{◌-◌}
+use Rattle.ty.specs.View.{lent}
+use Rattle.reach.specs.Marking.{drained}
+use Rattle.mark.specs.Objects.{graph_of}
+use Rattle.mark.specs.Queues.{state}
+use Rattle.mark.proofs.Draining.{Draining}
+use Rattle.mark.proofs.queue.Queue.drain.Given as goal
+
+abbrev pub invariant-loop-next : goal.invariant-loop-next
+invariant-loop-next l = Draining (graph_of (lent l.table) l.objects) l.objects.slots.slots l.fn.self (drained (graph_of (lent l.table) l.objects) (l.objects.slots.slots - l.from) (state l.fn.self) l.from) l.self l.next
+
+abbrev pub decreases-loop-next : goal.decreases-loop-next
+decreases-loop-next l = l.objects.slots.slots - l.next

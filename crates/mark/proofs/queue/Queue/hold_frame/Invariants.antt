@@ -1,0 +1,11 @@
+-- `mark::queue::Queue::hold_frame` meets its contract.
+use Rattle.addresses.specs.Listed.{slots_of}
+use Rattle.frame.specs.Frame.{entries_of, entries_words}
+use Rattle.reach.specs.Marking.{pin_all}
+use Rattle.mark.specs.Queues.{state}
+use Rattle.mark.specs.Joining.{in_use}
+use Rattle.mark.proofs.Holding.{HoldsFrame}
+use Rattle.mark.proofs.queue.Queue.hold_frame.Given as goal
+
+abbrev pub invariant-loop-k : goal.invariant-loop-k
+invariant-loop-k l = HoldsFrame l.slots l.pairs.list.now l.map l.memory l.fn.self (pin_all (in_use l.slots) (state l.fn.self) (slots_of l.pairs.list.now (entries_words l.memory (entries_of l.map)))) l.self l.k

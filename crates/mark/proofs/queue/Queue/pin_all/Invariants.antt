@@ -1,0 +1,9 @@
+-- `Queue::pin_all` meets its contract.
+use Rattle.reach.specs.Marking.{pin_all}
+use Rattle.mark.specs.Objects.{lives}
+use Rattle.mark.specs.Queues.{state}
+use Rattle.mark.proofs.Bridge.{Pins}
+use Rattle.mark.proofs.queue.Queue.pin_all.Given as goal
+
+abbrev pub invariant-loop-i : goal.invariant-loop-i
+invariant-loop-i l = Pins l.here.slots l.here.s l.here.narrow.now l.pins l.fn.self (pin_all (lives l.here) (state l.fn.self) l.pins) l.self l.i-index

@@ -1,0 +1,9 @@
+-- `Queue::push_all` meets its contract.
+use Rattle.reach.specs.Marking.{follow_all}
+use Rattle.mark.specs.Objects.{leads}
+use Rattle.mark.specs.Queues.{state}
+use Rattle.mark.proofs.Bridge.{Pushes}
+use Rattle.mark.proofs.queue.Queue.push_all.Given as goal
+
+abbrev pub invariant-loop-h : goal.invariant-loop-h
+invariant-loop-h l = Pushes l.here.tag l.here.slots l.here.s l.here.narrow.now l.list l.fn.self (follow_all (leads l.here) (state l.fn.self) l.list) l.self l.h-index
