@@ -7,24 +7,24 @@ use mathlib.Core.List.{List, [], ◌∷◌, reverse}
 use lib.ListN.{length, get_or, drop, drop_of_length-le}
 use native.Mathlib.Omega.{arith}
 use Rattle.std.proofs.lemmas.List.{get_or-reverse, get_or_default, length-reverse}
-use Rattle.trace.specs.Emit.{Answer}
-use Rattle.std.specs.Prelude.{Some, None}
+use Rattle.std.specs.Prelude.{Option as Maybe, Some, None}
 use Rattle.word.proofs.ListLaws.{drop-cons-one}
 use Rattle.reach.specs.Reach.{Graph}
-use Rattle.mark.specs.Scratch.{Scratch}
+use Rattle.mark.specs.declared.queue.Queue.{Queue}
+use Rattle.mark.specs.Queues.{IsReady, SameLoans, counted}
+use Rattle.mark.proofs.States.{same-again, then-same}
 use Rattle.wanted.specs.Search.{Going, and_then, meeting, upward, again, downward}
-use Rattle.wanted_door.specs.Inner.Picking.{going_of, Goes}
+use Rattle.wanted_door.specs.Inner.Picking.{going_in, Goes, GoesTo}
 
 -- ---- rising
 
-pub record Upward (G : Graph) (slots : ℕ) (W marks₀ work₀ : List ℕ) (total : Option Going) (marks work : List ℕ) (count k : ℕ) : Type 0 where
-  pub scratch : Scratch slots marks work count
-  pub same : upward G slots (drop k W) (going_of marks work count) ≡ total
-  pub long : length marks ≡ length marks₀
-  pub words : length work ≡ length work₀
+pub record Upward (G : Graph) (slots : ℕ) (W : List ℕ) (q₀ : Queue) (total : Option Going) (q : Queue) (k : ℕ) : Type 0 where
+  pub loans : SameLoans q₀ q
+  pub scratch : IsReady slots q
+  pub same : upward G slots (drop k W) (going_in q) ≡ total
 
-pub up_first : (G : Graph) (slots : ℕ) (W marks work : List ℕ) (n : ℕ) → Scratch slots marks work n → Upward G slots W marks work (upward G slots W (going_of marks work n)) marks work n 0
-up_first G slots W marks work n s = record { scratch = s; same = refl; long = refl; words = refl }
+pub up_first : (G : Graph) (slots : ℕ) (W : List ℕ) (q : Queue) → IsReady slots q → Upward G slots W q (upward G slots W (going_in q)) q 0
+up_first G slots W q s = record { loans = same-again q; scratch = s; same = refl }
 
 upward-live : (G : Graph) (slots w : ℕ) (ws : List ℕ) (g : Going) → G.live w ≡ true → upward G slots (w ∷ ws) g ≡ and_then (meeting G slots 1 w g) (upward G slots ws)
 unfolding upward
@@ -38,37 +38,41 @@ upward-none : (G : Graph) (slots : ℕ) (g : Going) → upward G slots [] g ≡ 
 unfolding upward
 upward-none G slots g = refl
 
-module _ (G : Graph) (slots : ℕ) (W marks₀ work₀ : List ℕ) (total : Option Going) (marks work : List ℕ) (count k : ℕ) (u : Upward G slots W marks₀ work₀ total marks work count k) where
-  pub up-end : length W ≤ k → Goes (Some count) slots marks work total
-  up-end h = (
-    sym u.same ∙ ap (λ (l : List ℕ). upward G slots l (going_of marks work count)) (drop_of_length-le W h) ∙ upward-none G slots (going_of marks work count),
-    u.scratch,
-  )
+module _ (G : Graph) (slots : ℕ) (W : List ℕ) (q₀ : Queue) (total : Option Going) (q : Queue) (k : ℕ) (u : Upward G slots W q₀ total q k) where
+  pub up-end : length W ≤ k → GoesTo slots q₀ q (Some tt) total
+  up-end h = record {
+    loans = u.loans;
+    goes = (
+      sym u.same ∙ ap (λ (l : List ℕ). upward G slots l (going_in q)) (drop_of_length-le W h) ∙ upward-none G slots (going_in q),
+      u.scratch,
+    );
+  }
 
   module _ (h : k < length W) where
-    front : upward G slots (get_or W k 0 ∷ drop (k + 1) W) (going_of marks work count) ≡ total
-    front = sym (ap (λ (l : List ℕ). upward G slots l (going_of marks work count)) (drop-cons-one W k h)) ∙ u.same
+    front : upward G slots (get_or W k 0 ∷ drop (k + 1) W) (going_in q) ≡ total
+    front = sym (ap (λ (l : List ℕ). upward G slots l (going_in q)) (drop-cons-one W k h)) ∙ u.same
 
-    pub up-dead : (live : Bool) → live ≡ G.live (get_or W k 0) → live ≡ false → total ≡ none
-    up-dead live e d = sym front ∙ upward-dead G slots (get_or W k 0) (drop (k + 1) W) (going_of marks work count) (sym e ∙ d)
+    pub up-dead : (live : Bool) → live ≡ G.live (get_or W k 0) → live ≡ false → GoesTo slots q₀ q None total
+    up-dead live e d = record { loans = u.loans; goes = sym front ∙ upward-dead G slots (get_or W k 0) (drop (k + 1) W) (going_in q) (sym e ∙ d) }
 
-    module _ (live : Bool) (e : live ≡ G.live (get_or W k 0)) (d : live ≡ true) (r : Answer) (marks' work' : List ℕ) (g : Goes r slots marks' work' (meeting G slots 1 (get_or W k 0) (going_of marks work count))) where
-      at : (x : Answer) → r ≡ x → Goes x slots marks' work' (meeting G slots 1 (get_or W k 0) (going_of marks work count))
-      at x q = subst (λ (y : Answer). Goes y slots marks' work' (meeting G slots 1 (get_or W k 0) (going_of marks work count))) q g
+    module _ (live : Bool) (e : live ≡ G.live (get_or W k 0)) (d : live ≡ true) (r : Maybe Unit) (q' : Queue) (g : GoesTo slots q q' r (meeting G slots 1 (get_or W k 0) (going_in q))) where
+      at : (x : Maybe Unit) → r ≡ x → Goes (counted x q') slots q'.marks.now q'.work.now (meeting G slots 1 (get_or W k 0) (going_in q))
+      at x i = subst (λ (y : Maybe Unit). Goes (counted y q') slots q'.marks.now q'.work.now (meeting G slots 1 (get_or W k 0) (going_in q))) i g.goes
 
-      turn : total ≡ and_then (meeting G slots 1 (get_or W k 0) (going_of marks work count)) (upward G slots (drop (k + 1) W))
-      turn = sym front ∙ upward-live G slots (get_or W k 0) (drop (k + 1) W) (going_of marks work count) (sym e ∙ d)
+      turn : total ≡ and_then (meeting G slots 1 (get_or W k 0) (going_in q)) (upward G slots (drop (k + 1) W))
+      turn = sym front ∙ upward-live G slots (get_or W k 0) (drop (k + 1) W) (going_in q) (sym e ∙ d)
 
-      pub up-stuck : r ≡ None → total ≡ none
-      up-stuck q = turn ∙ ap (λ (o : Option Going). and_then o (upward G slots (drop (k + 1) W))) (at None q)
+      pub up-stuck : r ≡ None → (x : Maybe Unit) → x ≡ None → GoesTo slots q₀ q' x total
+      up-stuck i x n =
+          subst (λ (y : Maybe Unit). GoesTo slots q₀ q' y total) (sym n)
+          (record { loans = then-same u.loans g.loans; goes = turn ∙ ap (λ (o : Option Going). and_then o (upward G slots (drop (k + 1) W))) (at None i) })
 
-      pub up_next : (m : ℕ) → r ≡ Some m → length marks' ≡ length marks → length work' ≡ length work → Upward G slots W marks₀ work₀ total marks' work' m (k + 1)
-      up_next m q a b =
+      pub up_next : (v : Unit) → r ≡ Some v → Upward G slots W q₀ total q' (k + 1)
+      up_next v i =
           record {
-            scratch = (at (Some m) q).1;
-            same = sym (turn ∙ ap (λ (o : Option Going). and_then o (upward G slots (drop (k + 1) W))) (at (Some m) q).0);
-            long = a ∙ u.long;
-            words = b ∙ u.words;
+            loans = then-same u.loans g.loans;
+            scratch = (at (Some v) i).1;
+            same = sym (turn ∙ ap (λ (o : Option Going). and_then o (upward G slots (drop (k + 1) W))) (at (Some v) i).0);
           }
 
 -- ---- falling
@@ -79,16 +83,14 @@ from-end W y x h e =
     let l : y < length W = omega (arith, length-reverse W) in
     (l, e ∙ get_or-reverse W y x l ∙ get_or_default W (length W - 1 - y) x 0 (omega arith) ∙ ap (λ (k : ℕ). get_or W k 0) (let z : length W - 1 - y ≡ length W - y - 1 = omega arith in z))
 
-pub record Downward (G : Graph) (slots : ℕ) (W marks₀ work₀ : List ℕ) (total : Option Going) (marks work : List ℕ) (count k : ℕ) : Type 0 where
-  pub scratch : Scratch slots marks work count
-  pub same : downward G slots W k (going_of marks work count) ≡ total
+pub record Downward (G : Graph) (slots : ℕ) (W : List ℕ) (q₀ : Queue) (total : Option Going) (q : Queue) (k : ℕ) : Type 0 where
+  pub loans : SameLoans q₀ q
+  pub scratch : IsReady slots q
+  pub same : downward G slots W k (going_in q) ≡ total
   pub within : k ≤ length W
-  pub long : length marks ≡ length marks₀
-  pub words : length work ≡ length work₀
 
-pub down-first : (G : Graph) (slots : ℕ) (W marks work : List ℕ) (n : ℕ) → Scratch slots marks work n → (k : ℕ) → k ≡ length W
-    → Downward G slots W marks work (downward G slots W (length W) (going_of marks work n)) marks work n k
-down-first G slots W marks work n s k e = record { scratch = s; same = ap (λ (j : ℕ). downward G slots W j (going_of marks work n)) e; within = omega arith; long = refl; words = refl }
+pub down-first : (G : Graph) (slots : ℕ) (W : List ℕ) (q : Queue) → IsReady slots q → (k : ℕ) → k ≡ length W → Downward G slots W q (downward G slots W (length W) (going_in q)) q k
+down-first G slots W q s k e = record { loans = same-again q; scratch = s; same = ap (λ (j : ℕ). downward G slots W j (going_in q)) e; within = omega arith }
 
 downward-turn : (G : Graph) (slots : ℕ) (W : List ℕ) (k : ℕ) (g : Going) → 0 < k → downward G slots W k g ≡ and_then (again G slots (get_or W (k - 1) 0) g) (downward G slots W (k - 1))
 unfolding downward
@@ -102,26 +104,27 @@ unfolding downward
 downward-none G slots W zero g h = refl
 downward-none G slots W (suc j) g h = absurd (omega arith)
 
-module _ (G : Graph) (slots : ℕ) (W marks₀ work₀ : List ℕ) (total : Option Going) (marks work : List ℕ) (count k : ℕ) (u : Downward G slots W marks₀ work₀ total marks work count k) where
-  pub down-end : k ≤ 0 → Goes (Some count) slots marks work total
-  down-end h = (sym u.same ∙ downward-none G slots W k (going_of marks work count) h, u.scratch)
+module _ (G : Graph) (slots : ℕ) (W : List ℕ) (q₀ : Queue) (total : Option Going) (q : Queue) (k : ℕ) (u : Downward G slots W q₀ total q k) where
+  pub down-end : k ≤ 0 → GoesTo slots q₀ q (Some tt) total
+  down-end h = record { loans = u.loans; goes = (sym u.same ∙ downward-none G slots W k (going_in q) h, u.scratch) }
 
-  module _ (h : 0 < k) (r : Answer) (marks' work' : List ℕ) (g : Goes r slots marks' work' (again G slots (get_or W (k - 1) 0) (going_of marks work count))) where
-    fallen : (x : Answer) → r ≡ x → Goes x slots marks' work' (again G slots (get_or W (k - 1) 0) (going_of marks work count))
-    fallen x q = subst (λ (y : Answer). Goes y slots marks' work' (again G slots (get_or W (k - 1) 0) (going_of marks work count))) q g
+  module _ (h : 0 < k) (r : Maybe Unit) (q' : Queue) (g : GoesTo slots q q' r (again G slots (get_or W (k - 1) 0) (going_in q))) where
+    fallen : (x : Maybe Unit) → r ≡ x → Goes (counted x q') slots q'.marks.now q'.work.now (again G slots (get_or W (k - 1) 0) (going_in q))
+    fallen x i = subst (λ (y : Maybe Unit). Goes (counted y q') slots q'.marks.now q'.work.now (again G slots (get_or W (k - 1) 0) (going_in q))) i g.goes
 
-    fall : total ≡ and_then (again G slots (get_or W (k - 1) 0) (going_of marks work count)) (downward G slots W (k - 1))
-    fall = sym u.same ∙ downward-turn G slots W k (going_of marks work count) h
+    fall : total ≡ and_then (again G slots (get_or W (k - 1) 0) (going_in q)) (downward G slots W (k - 1))
+    fall = sym u.same ∙ downward-turn G slots W k (going_in q) h
 
-    pub down-stuck : r ≡ None → total ≡ none
-    down-stuck q = fall ∙ ap (λ (o : Option Going). and_then o (downward G slots W (k - 1))) (fallen None q)
+    pub down-stuck : r ≡ None → (x : Maybe Unit) → x ≡ None → GoesTo slots q₀ q' x total
+    down-stuck i x n =
+        subst (λ (y : Maybe Unit). GoesTo slots q₀ q' y total) (sym n)
+        (record { loans = then-same u.loans g.loans; goes = fall ∙ ap (λ (o : Option Going). and_then o (downward G slots W (k - 1))) (fallen None i) })
 
-    pub down-next : (m : ℕ) → r ≡ Some m → length marks' ≡ length marks → length work' ≡ length work → (j : ℕ) → j ≡ k - 1 → Downward G slots W marks₀ work₀ total marks' work' m j
-    down-next m q a b j e =
+    pub down-next : (v : Unit) → r ≡ Some v → (j : ℕ) → j ≡ k - 1 → Downward G slots W q₀ total q' j
+    down-next v i j e =
         record {
-          scratch = (fallen (Some m) q).1;
-          same = ap (λ (i : ℕ). downward G slots W i (going_of marks' work' m)) e ∙ sym (fall ∙ ap (λ (o : Option Going). and_then o (downward G slots W (k - 1))) (fallen (Some m) q).0);
+          loans = then-same u.loans g.loans;
+          scratch = (fallen (Some v) i).1;
+          same = ap (λ (l : ℕ). downward G slots W l (going_in q')) e ∙ sym (fall ∙ ap (λ (o : Option Going). and_then o (downward G slots W (k - 1))) (fallen (Some v) i).0);
           within = omega (arith, u.within);
-          long = a ∙ u.long;
-          words = b ∙ u.words;
         }

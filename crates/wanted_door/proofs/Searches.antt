@@ -8,17 +8,23 @@ use lib.ListN.{length, get_or, replicate, length-replicate}
 use lib.Dec.{eqb}
 use native.Mathlib.Omega.{arith}
 use Rattle.trace.specs.Emit.{Answer}
-use Rattle.std.specs.Prelude.{Some, None, if◌then◌else◌}
+use Rattle.std.specs.Prelude.{Option as Maybe, Some, None, if◌then◌else◌}
 use Rattle.std.specs.Prelude.{is_some}
 use Rattle.reach.specs.Reach.{Graph}
 use Rattle.reach.specs.Marking.{State, drained, marking}
 use Rattle.mark.specs.Scratch.{high, state_of, Scratch, Traces, NotedBy, seeded_from}
+use Rattle.mark.specs.declared.queue.Queue.{Queue}
+use Rattle.mark.specs.Queues.{counted}
 use Rattle.mark.specs.Told.{starts_of}
 use Rattle.mark.proofs.States.{scratch-start}
 use Rattle.mark.proofs.Draining.{queue-length}
 use Rattle.wanted.specs.Search.{Going, going, noting, and_then, upward, downward, as_many, firstly, secondly, notes_of, searched_by, searched}
 use Rattle.wanted.proofs.Searching.{upward-live}
 use Rattle.wanted_door.specs.Inner.Picking.{going_of, Goes, notes_if, Inside, Room, Clear}
+
+pub counted-some : (r : Maybe Unit) (q : Queue) → is_some (counted r q) ≡ is_some r
+counted-some (Some u) q = refl
+counted-some None q = refl
 
 pub clear-scratch : (slots : ℕ) (marks work : List ℕ) → Clear slots marks work → Scratch slots marks work 0
 clear-scratch slots marks work c = scratch-start slots marks work c.room.few c.clear c.room.words

@@ -3,6 +3,7 @@
 // candidate, 2 of a root.
 use handle::Slots;
 use mark::Objects;
+use mark::queue::Queue;
 use ty::Table;
 
 // What is gone through: the type table, the objects of a heap, what is held without a root, and the slots that are wanted.
@@ -15,14 +16,14 @@ pub struct Search<'a> {
     pub wanted: &'a [u32],
 }
 
-// Kept: marks, work and n stay three, as in mark's `push_all`.
 impl Search<'_> {
     ghost use Rattle.std.specs.Prelude.{◌≡◌, true, map, ◌<◌, length};
     ghost use Rattle.mark.specs.Objects.{lives};
-    ghost use Rattle.mark.specs.Scratch.{high, Scratch};
+    ghost use Rattle.mark.specs.Scratch.{high};
     ghost use Rattle.wanted.specs.Search as search;
     ghost use Rattle.wanted.specs.Search.{meeting, upward, downward, firstly, secondly, notes_of, searched};
-    ghost use Rattle.wanted_door.specs.Inner.Picking.{going_of, Goes, notes_if, Inside, Room, Clear};
+    ghost use Rattle.mark.specs.Queues.{IsReady};
+    ghost use Rattle.wanted_door.specs.Inner.Picking.{going_in, GoesTo, notes_if, Inside, Room, Clear};
     ghost use Rattle.wanted_door.specs.Inner.Searching.{graph, held, slots};
 
     // Is there an object in slot `w`?
@@ -43,64 +44,63 @@ impl Search<'_> {
     }
 
     // Unless slot `w` is marked, it and what it leads to are marked, and `note` is noted of it.
-    fn meet(self, w: u32, note: u32, marks: &mut [u8], work: &mut [u64], n: usize) -> Option<usize>
-        requires scratch { Scratch (slots self) marks.old work.old n }
+    fn meet(self, queue: &mut Queue, w: u32, note: u32) -> Option<()>
+        requires ready { IsReady (slots self) queue.old }
         requires w_lt_slots { w < slots self }
-        ensures { Goes result (slots self.entry) marks.new work.new
-            (meeting (graph self.entry) (slots self.entry) note w (going_of marks.old work.old n)) }
+        ensures { GoesTo (slots self.entry) queue.old queue.new result
+            (meeting (graph self.entry) (slots self.entry) note w (going_in queue.old)) }
     {
         let i = w as usize;
-        if marks[i] != 0 {
-            return Some(n);
+        if queue.marks[i] != 0 {
+            return Some(());
         }
-        let m = trace::queue(marks, work, n, w);
-        let count = mark::drain(&self.table, self.objects, marks, work, m, n)?;
-        work[i] = work[i] % 4294967296 + (note as u64) * 4294967296;
-        Some(count)
+        let from = queue.n;
+        queue.n = trace::queue(queue.marks, queue.work, from, w);
+        queue.drain(&self.table, self.objects, from)?;
+        queue.work[i] = queue.work[i] % 4294967296 + (note as u64) * 4294967296;
+        Some(())
     }
 
     // The wanted slots, rising: each that is not marked yet is a candidate. None: one is no object, or leads to what can't be traced.
-    fn candidates(self, marks: &mut [u8], work: &mut [u64], n: usize) -> Option<usize>
-        requires { Scratch (slots self) marks.old work.old n }
-        ensures { Goes result (slots self.entry) marks.new work.new
-            (upward (graph self.entry) (slots self.entry) self.entry.wanted.now (going_of marks.old work.old n)) }
+    fn candidates(self, queue: &mut Queue) -> Option<()>
+        requires { IsReady (slots self) queue.old }
+        ensures { GoesTo (slots self.entry) queue.old queue.new result
+            (upward (graph self.entry) (slots self.entry) self.entry.wanted.now (going_in queue.old)) }
     {
-        let mut count = n;
         for w in self.wanted {
             if !self.is_live(*w) {
                 return None;
             }
-            count = self.meet(*w, 1, marks, work, count)?;
+            self.meet(queue, *w, 1)?;
         }
-        Some(count)
+        Some(())
     }
 
     // A candidate is met once more; another slot is passed over.
-    fn again(self, w: u32, marks: &mut [u8], work: &mut [u64], n: usize) -> Option<usize>
-        requires scratch { Scratch (slots self) marks.old work.old n }
+    fn again(self, queue: &mut Queue, w: u32) -> Option<()>
+        requires ready { IsReady (slots self) queue.old }
         requires w_lt_slots { w < slots self }
-        ensures { Goes result (slots self.entry) marks.new work.new
-            (search.again (graph self.entry) (slots self.entry) w (going_of marks.old work.old n)) }
+        ensures { GoesTo (slots self.entry) queue.old queue.new result
+            (search.again (graph self.entry) (slots self.entry) w (going_in queue.old)) }
     {
         let i = w as usize;
-        if work[i] / 4294967296 != 1 {
-            return Some(n);
+        if queue.work[i] / 4294967296 != 1 {
+            return Some(());
         }
-        self.meet(w, 2, marks, work, n)
+        self.meet(queue, w, 2)
     }
 
     // The candidates, falling: each that is not marked yet is a root.
-    fn choose(self, marks: &mut [u8], work: &mut [u64], n: usize) -> Option<usize>
-        requires scratch { Scratch (slots self) marks.old work.old n }
+    fn choose(self, queue: &mut Queue) -> Option<()>
+        requires ready { IsReady (slots self) queue.old }
         requires inside { Inside self.wanted.now (slots self) }
-        ensures { Goes result (slots self.entry) marks.new work.new
-            (downward (graph self.entry) (slots self.entry) self.entry.wanted.now (length self.entry.wanted.now) (going_of marks.old work.old n)) }
+        ensures { GoesTo (slots self.entry) queue.old queue.new result
+            (downward (graph self.entry) (slots self.entry) self.entry.wanted.now (length self.entry.wanted.now) (going_in queue.old)) }
     {
-        let mut count = n;
         for w in self.wanted.iter().rev() {
-            count = self.again(*w, marks, work, count)?;
+            self.again(queue, *w)?;
         }
-        Some(count)
+        Some(())
     }
 
     // Can just the wanted slots be kept? What seals, pins and they lead to can be traced, and is not more than they. 1 is noted of the candidates.
@@ -112,14 +112,15 @@ impl Search<'_> {
     {
         let Search { sealed, pins, .. } = self;
         let r = mark::mark_from(&self.table, self.objects, &[], sealed, pins, marks, work, 0);
-        let Some(b) = r else {
+        let Some(n) = r else {
             return false;
         };
-        let q = self.candidates(marks, work, b);
-        let Some(n) = q else {
+        let mut queue = Queue { marks, work, n };
+        let q = self.candidates(&mut queue);
+        let Some(_) = q else {
             return false;
         };
-        n == self.wanted.len()
+        queue.n == self.wanted.len()
     }
 
     // Of the candidates those are roots that no later root leads to: 2 is noted of them.
@@ -132,10 +133,11 @@ impl Search<'_> {
         let Search { sealed, pins, .. } = self;
         marks.fill(0);
         let r = mark::mark_from(&self.table, self.objects, &[], sealed, pins, marks, work, 0);
-        let Some(b) = r else {
+        let Some(n) = r else {
             return false;
         };
-        self.choose(marks, work, b).is_some()
+        let mut queue = Queue { marks, work, n };
+        self.choose(&mut queue).is_some()
     }
 
     // Can just the wanted slots be kept? Then 2 is noted of those that are to be roots.

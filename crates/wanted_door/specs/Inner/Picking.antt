@@ -1,8 +1,10 @@
 -- What the inner functions of the search for roots say of marks and work: the marking as crate `mark` has it, the notes in the upper halves of the words.
 use Rattle.trace.specs.Emit.{Answer}
-use Rattle.std.specs.Prelude.{Some, None, ◌≡◌, Bool, true, false, List, map, ℕ, ◌≤◌, ◌<◌, length, get_or, replicate}
+use Rattle.std.specs.Prelude.{Option as Maybe, Some, None, ◌≡◌, Bool, true, false, List, map, ℕ, ◌≤◌, ◌<◌, length, get_or, replicate}
 use Rattle.std.proofs.Math.Option.{Option, none, some}
 use Rattle.mark.specs.Scratch.{high, state_of, Scratch}
+use Rattle.mark.specs.declared.queue.Queue.{Queue}
+use Rattle.mark.specs.Queues.{SameLoans, counted}
 use Rattle.wanted.specs.Search.{Going, going}
 
 -- the marking and the notes that marks and work hold
@@ -13,6 +15,14 @@ going_of marks work n = going (state_of marks work n) (map high work)
 abbrev pub Goes : Answer → (slots : ℕ) (marks work : List ℕ) → Option Going → Type 0
 Goes (Some n) slots marks work o = (o ≡ some (going_of marks work n)) × Scratch slots marks work n
 Goes None slots marks work o = o ≡ none
+
+-- the same of a queue, and of a step with it
+abbrev pub going_in : Queue → Going
+going_in q = going_of q.marks.now q.work.now q.n
+
+pub record GoesTo (slots : ℕ) (q q' : Queue) (result : Maybe Unit) (o : Option Going) : Type 0 where
+  pub loans : SameLoans q q'
+  pub goes : Goes (counted result q') slots q'.marks.now q'.work.now o
 
 -- the notes, if they were made
 abbrev pub notes_if : Bool → (work : List ℕ) → Option (List ℕ)

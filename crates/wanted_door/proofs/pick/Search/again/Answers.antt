@@ -1,10 +1,11 @@
 -- `wanted_door::pick::Search::again` meets its contract.
+use Rattle.mark.proofs.States.{same-again}
 use Rattle.wanted_door.specs.Inner.Searching.{graph, slots}
 use Rattle.wanted_door.proofs.Meeting.{again-passed, again-met}
 use Rattle.wanted_door.proofs.pick.Search.again.Goals as goal
 
-pub returns-then-work-i-ne1 : goal.returns-then-work-i-ne1
-returns-then-work-i-ne1 c = again-passed _ _ _ _ _ _ c.requires.scratch c.if-work-i-ne1.true
+pub returns-then-queue-i-ne1 : goal.returns-then-queue-i-ne1
+returns-then-queue-i-ne1 c = record { loans = same-again c.args.queue.now; goes = again-passed _ _ _ _ _ _ c.requires.ready c.if-queue-i-ne1.true }
 
 pub returns : goal.returns
-returns c = again-met (graph c.args.self) (slots c.args.self) c.args.w c.args.marks.now c.args.work.now c.args.n c.if-work-i-ne1.false c.meet.result c.meet.new.marks c.meet.new.work c.meet.ensures
+returns c = record { loans = c.meet.ensures.loans; goes = again-met (graph c.args.self) (slots c.args.self) c.args.w c.args.queue.now.marks.now c.args.queue.now.work.now c.args.queue.now.n c.if-queue-i-ne1.false _ _ _ c.meet.ensures.goes }

@@ -8,46 +8,33 @@ use Rattle.std.proofs.lemmas.List.{length-reverse}
 use Rattle.std.proofs.lemmas.Iterator.Adapters.{YieldsList-from_rev_slice}
 use Rattle.std.proofs.lemmas.Iterator.Consumers.{YieldsList-turn, YieldsList-end}
 use Rattle.wanted.specs.Search as search
-use Rattle.wanted_door.specs.Inner.Picking.{going_of, Goes}
+use Rattle.wanted_door.specs.Inner.Picking.{going_in, GoesTo}
 use Rattle.wanted_door.specs.Inner.Searching.{graph, slots}
-use Rattle.wanted_door.proofs.Meeting.{stopped}
 use Rattle.wanted_door.proofs.Goings.{down-first, down-stuck, down-next, down-end, from-end}
 use Rattle.wanted_door.proofs.pick.Search.choose.Goals as goal
 
 pub loop-w-init : goal.loop-w-init
-loop-w-init c = down-first _ _ _ _ _ _ c.requires.scratch _ (omega arith)
+loop-w-init c = down-first _ _ _ _ c.requires.ready _ (omega arith)
 
 pub again-requires : goal.again-requires
 again-requires c =
     let t = YieldsList-turn (YieldsList-from_rev_slice c.args.self.wanted.now cc) c.loop-w.yielded _ c.loop-w.yielded_by _ _ c.in-Some.w c.in-Some.is c.next.ensures.steps in
     let i = from-end c.args.self.wanted.now (length c.loop-w.yielded) c.in-Some.w.now t.0 t.1 in
-    record { scratch = c.loop-w.invariant.scratch; w_lt_slots = rw i.1 (c.requires.inside (length c.args.self.wanted.now - length c.loop-w.yielded - 1) (omega (arith, i.0))) }
+    record { ready = c.loop-w.invariant.scratch; w_lt_slots = rw i.1 (c.requires.inside (length c.args.self.wanted.now - length c.loop-w.yielded - 1) (omega (arith, i.0))) }
 
-pub shape_of-marks-in_err-count : goal.shape_of-marks-in_err-count
-shape_of-marks-in_err-count c = c.again.auto.marks ∙ c.loop-w.invariant.long
-
-pub shape_of-work-in_err-count : goal.shape_of-work-in_err-count
-shape_of-work-in_err-count c = c.again.auto.work ∙ c.loop-w.invariant.words
-
-pub returns-in_err-count : goal.returns-in_err-count
-returns-in_err-count c =
+pub returns-in_err-again : goal.returns-in_err-again
+returns-in_err-again c =
     let t = YieldsList-turn (YieldsList-from_rev_slice c.args.self.wanted.now cc) c.loop-w.yielded _ c.loop-w.yielded_by _ _ c.in-Some.w c.in-Some.is c.next.ensures.steps in
     let i = from-end c.args.self.wanted.now (length c.loop-w.yielded) c.in-Some.w.now t.0 t.1 in
-    stopped _ _ _ c.from_residual.ensures (down-stuck _ _ _ _ _ _ _ _ _ _ c.loop-w.invariant (omega (arith, i.0)) _ _ _ (subst (λ (v : ℕ). Goes c.again.result (slots c.args.self) c.again.new.marks c.again.new.work (search.again (graph c.args.self) (slots c.args.self) v (going_of c.loop-w.marks c.loop-w.work c.loop-w.count))) i.1 c.again.ensures) c.in_err-count.was)
+    down-stuck _ _ _ _ _ _ _ c.loop-w.invariant (omega (arith, i.0)) _ _ (subst (λ (v : ℕ). GoesTo (slots c.args.self) c.loop-w.queue c.again.new.queue c.again.result (search.again (graph c.args.self) (slots c.args.self) v (going_in c.loop-w.queue))) i.1 c.again.ensures) c.in_err-again.was _ c.from_residual.ensures
 
 pub loop-w-preserved : goal.loop-w-preserved
 loop-w-preserved c =
     let t = YieldsList-turn (YieldsList-from_rev_slice c.args.self.wanted.now cc) c.loop-w.yielded _ c.loop-w.yielded_by _ _ c.in-Some.w c.in-Some.is c.next.ensures.steps in
     let i = from-end c.args.self.wanted.now (length c.loop-w.yielded) c.in-Some.w.now t.0 t.1 in
-    down-next _ _ _ _ _ _ _ _ _ _ c.loop-w.invariant (omega (arith, i.0)) _ _ _ (subst (λ (v : ℕ). Goes c.again.result (slots c.args.self) c.again.new.marks c.again.new.work (search.again (graph c.args.self) (slots c.args.self) v (going_of c.loop-w.marks c.loop-w.work c.loop-w.count))) i.1 c.again.ensures) _ c.in_ok-count.was c.again.auto.marks c.again.auto.work _ (omega (arith, length-append c.loop-w.yielded (c.in-Some.w ∷ [])))
-
-pub shape_of-marks : goal.shape_of-marks
-shape_of-marks c = c.loop-w.invariant.long
-
-pub shape_of-work : goal.shape_of-work
-shape_of-work c = c.loop-w.invariant.words
+    down-next _ _ _ _ _ _ _ c.loop-w.invariant (omega (arith, i.0)) _ _ (subst (λ (v : ℕ). GoesTo (slots c.args.self) c.loop-w.queue c.again.new.queue c.again.result (search.again (graph c.args.self) (slots c.args.self) v (going_in c.loop-w.queue))) i.1 c.again.ensures) _ c.in_ok-again.was _ (omega (arith, length-append c.loop-w.yielded (c.in-Some.w ∷ [])))
 
 pub returns : goal.returns
 returns c =
     let t = YieldsList-end (YieldsList-from_rev_slice c.args.self.wanted.now cc) c.loop-w.yielded _ c.loop-w.yielded_by _ _ c.in-None.is c.next.ensures.steps in
-    down-end _ _ _ _ _ _ _ _ _ _ c.loop-w.invariant (omega (arith, t.1, length-reverse c.args.self.wanted.now))
+    down-end _ _ _ _ _ _ _ c.loop-w.invariant (omega (arith, t.1, length-reverse c.args.self.wanted.now))

@@ -2,10 +2,10 @@
 use Prim.Native.Nat.{◌-◌}
 use lib.ListN.{length}
 use Rattle.wanted.specs.Search.{downward}
-use Rattle.wanted_door.specs.Inner.Picking.{going_of}
+use Rattle.wanted_door.specs.Inner.Picking.{going_in}
 use Rattle.wanted_door.specs.Inner.Searching.{graph, slots}
 use Rattle.wanted_door.proofs.Goings.{Downward}
 use Rattle.wanted_door.proofs.pick.Search.choose.Given as goal
 
 abbrev pub invariant-loop-w : goal.invariant-loop-w
-invariant-loop-w l = Downward (graph l.fn.self) (slots l.fn.self) l.fn.self.wanted.now l.initial.marks l.initial.work (downward (graph l.fn.self) (slots l.fn.self) l.fn.self.wanted.now (length l.fn.self.wanted.now) (going_of l.initial.marks l.initial.work l.n)) l.marks l.work l.count (length l.fn.self.wanted.now - length l.yielded)
+invariant-loop-w l = Downward (graph l.fn.self) (slots l.fn.self) l.fn.self.wanted.now l.initial.queue (downward (graph l.fn.self) (slots l.fn.self) l.fn.self.wanted.now (length l.fn.self.wanted.now) (going_in l.initial.queue)) l.queue (length l.fn.self.wanted.now - length l.yielded)

@@ -1,9 +1,10 @@
 -- `wanted_door::pick::Search::choose_roots` meets its contract.
-use mathlib.Core.Path.{ap, ◌∙◌}
+use mathlib.Core.Path.{sym, ap, ◌∙◌}
+use Rattle.mark.specs.Queues.{counted}
 use mathlib.Core.Bool.{Bool}
 use Rattle.wanted_door.specs.Inner.Picking.{notes_if}
 use Rattle.wanted_door.specs.Inner.Searching.{graph, slots}
-use Rattle.wanted_door.proofs.Searches.{clear-scratch, cleared, begun-scratch, choose-stuck, choose-ended}
+use Rattle.wanted_door.proofs.Searches.{counted-some, clear-scratch, cleared, begun-scratch, choose-stuck, choose-ended}
 use Rattle.wanted_door.proofs.pick.Search.choose_roots.Goals as goal
 
 pub mark_from-r-requires : goal.mark_from-r-requires
@@ -13,7 +14,7 @@ pub returns-in_default : goal.returns-in_default
 returns-in_default c = choose-stuck (graph c.args.self) (slots c.args.self) c.args.self.sealed.now c.args.self.pins.now c.fill.new.self c.args.work.now (cleared _ c.args.marks.now _ _ c.requires.room (c.fill.ensures.after (λ y e. e))) c.mark_from-r.result c.mark_from-r.new.marks c.mark_from-r.new.work c.mark_from-r.ensures.traces c.mark_from-r.ensures.noted_by c.args.self.wanted.now c.in_default.is
 
 pub choose-requires : goal.choose-requires
-choose-requires c = record { scratch = begun-scratch (graph c.args.self) (slots c.args.self) c.args.self.sealed.now c.args.self.pins.now c.fill.new.self c.args.work.now (cleared _ c.args.marks.now _ _ c.requires.room (c.fill.ensures.after (λ y e. e))) c.mark_from-r.result c.mark_from-r.new.marks c.mark_from-r.new.work c.mark_from-r.ensures.traces c.mark_from-r.ensures.noted_by _ c.in-Some.is; inside = c.requires.inside }
+choose-requires c = record { ready = begun-scratch (graph c.args.self) (slots c.args.self) c.args.self.sealed.now c.args.self.pins.now c.fill.new.self c.args.work.now (cleared _ c.args.marks.now _ _ c.requires.room (c.fill.ensures.after (λ y e. e))) c.mark_from-r.result c.mark_from-r.new.marks c.mark_from-r.new.work c.mark_from-r.ensures.traces c.mark_from-r.ensures.noted_by _ c.in-Some.is; inside = c.requires.inside }
 
 pub returns : goal.returns
-returns c = ap (λ (b : Bool). notes_if b c.choose.new.work) c.is_some.ensures ∙ choose-ended (graph c.args.self) (slots c.args.self) c.args.self.sealed.now c.args.self.pins.now c.fill.new.self c.args.work.now (cleared _ c.args.marks.now _ _ c.requires.room (c.fill.ensures.after (λ y e. e))) c.mark_from-r.result c.mark_from-r.new.marks c.mark_from-r.new.work c.mark_from-r.ensures.traces c.mark_from-r.ensures.noted_by c.args.self.wanted.now _ c.in-Some.is c.choose.result c.choose.new.marks c.choose.new.work c.choose.ensures
+returns c = rw (c.work-2-1.given.1.1 (sym c.choose.ensures.loans.work)) (ap (λ (b : Bool). notes_if b c.choose.new.queue.work.now) (c.is_some.ensures ∙ sym (counted-some c.choose.result c.choose.new.queue)) ∙ choose-ended (graph c.args.self) (slots c.args.self) c.args.self.sealed.now c.args.self.pins.now c.fill.new.self c.args.work.now (cleared _ c.args.marks.now _ _ c.requires.room (c.fill.ensures.after (λ y e. e))) c.mark_from-r.result c.mark_from-r.new.marks c.mark_from-r.new.work c.mark_from-r.ensures.traces c.mark_from-r.ensures.noted_by c.args.self.wanted.now _ c.in-Some.is (counted c.choose.result c.choose.new.queue) c.choose.new.queue.marks.now c.choose.new.queue.work.now c.choose.ensures.goes)
