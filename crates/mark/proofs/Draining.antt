@@ -21,7 +21,7 @@ use Rattle.heap.specs.Packing.{pad}
 use Rattle.heap.proofs.Packing.{drop-replicate}
 use Rattle.ty.specs.Types.{Table}
 use Rattle.mark.specs.Graph.{leads_to, shown_in, graph_in}
-use Rattle.mark.specs.Scratch.{low, state_of, Noted, NotedBy, Scratch, Holds, following, Traces, seeded_from}
+use Rattle.mark.specs.Scratch.{low, state_of, Noted, NotedBy, Scratch, following, Traces, seeded_from}
 use Rattle.mark.specs.Told.{marks_in, starts_of, Ready}
 use Rattle.mark.specs.declared.queue.Queue.{Queue}
 use Rattle.mark.specs.Queues.{state, IsReady, SameLoans, Becomes, counted, Reaches}

@@ -1,5 +1,4 @@
 -- `mark::queue::Queue::seed_joined` meets its contract: step by step.
-use mathlib.Core.Path.{◌∙◌}
 use Rattle.frame.specs.Frame.{entries_of, entries_words}
 use Rattle.mark.specs.Objects.{leads}
 use Rattle.mark.specs.Safepoints.{live_values}

@@ -1,6 +1,6 @@
 -- `wanted_door::pick::Search::choose` meets its contract.
 use Prim.Native.Nat.{ℕ, ◌-◌}
-use mathlib.Core.Path.{subst, ◌∙◌}
+use mathlib.Core.Path.{subst}
 use mathlib.Core.List.{[], ◌∷◌}
 use lib.ListN.{length, length-append}
 use native.Mathlib.Omega.{arith}
