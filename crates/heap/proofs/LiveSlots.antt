@@ -1,35 +1,38 @@
--- The live slots counted, one a turn. Assumes nothing.
-use Rattle.std.proofs.Common.{◌≡◌, ℕ, ◌+◌, ◌/◌, ◌<◌, ◌≤◌, true, List, length, get_or, drop, sym, ap, ◌∙◌, add-one, arith, drop_of_length-le, drop-cons}
-use Rattle.heap.specs.State.{State, no_slot, slot_at, live, bit}
+-- The live slots counted: those of the kinds in use that are not 0. Assumes nothing.
+use Rattle.std.proofs.Common.{◌≡◌, ℕ, ◌+◌, ◌-◌, ◌/◌, Bool, true, false, not, List, [], ◌∷◌, length, take, drop, sym, refl, ap, ◌∙◌, arith, eqb, ltb, eq-eqb, ne_eqb, lt-ltb, le-ltb, take-take}
+use mathlib.Core.List.{map}
+use lib.ListN.{length-map}
+use native.Mathlib.Decide.{ℕ_discrete}
+use Rattle.std.specs.Prelude.{cond}
+use Rattle.std.specs.List.{filter}
+use Rattle.word.specs.Run.{run}
+use Rattle.heap.specs.State.{Slot, State, bit}
 use Rattle.heap.specs.Calls.{live_count}
 use Rattle.heap.specs.Lent.{lent, view}
+use Rattle.heap.specs.Packing.{pad}
 use Rattle.heap.specs.WellFormed.{well_formed}
 use Rattle.heap.specs.declared.Heap.{Heap}
-use Rattle.heap.proofs.Columns.{sizes, reads}
-use Rattle.heap.proofs.Questions.{alive, lifeless}
+use Rattle.heap.proofs.Packing.{take-pad}
+use Rattle.heap.proofs.Columns.{sizes, knows}
 
--- the live slots from i on are still to be counted
-pub record Counting (h : State) (count i : ℕ) : Type 0 where
-  pub left : count + live_count (drop i h.slots) ≡ live_count h.slots
+abbrev pub in_use : ℕ → Bool
+in_use k = not (eqb k 0)
 
-pub count-first : (h : State) → Counting h 0 0
-count-first h = record { left = omega arith }
+live-kind : (k : ℕ) → in_use k ≡ ltb 0 k
+live-kind k = elim (ℕ_discrete k 0) [
+  | yes e ↦ ap not (eq-eqb k 0 e) ∙ sym (le-ltb 0 k (omega arith))
+  | no n ↦ ap not (ne_eqb k 0 n) ∙ sym (lt-ltb 0 k (omega arith))
+]
 
-next-count : (h : State) (i : ℕ) → i < length h.slots → live_count (drop i h.slots) ≡ bit (live (slot_at h i)) + live_count (drop (i + 1) h.slots)
+kinds-counted : (slots : List Slot) → length (filter in_use (map (λ (s : Slot). s.kind) slots)) ≡ live_count slots
 unfolding live_count
-next-count h i b = ap live_count (drop-cons h.slots i no_slot b) ∙ ap (λ (k : ℕ). bit (live (slot_at h i)) + live_count (drop k h.slots)) (sym (add-one i))
-
-pub count-live : {h : State} {count i k : ℕ} → Counting h count i → i < length h.slots → k ≡ (slot_at h i).kind → (k ≡ 0 → ⊥) → Counting h (count + 1) (i + 1)
-count-live {h} {count} {i} c b e n = record { left = omega (arith, c.left, next-count h i b, ap bit (alive h i e n)) }
-
-pub count-dead : {h : State} {count i k : ℕ} → Counting h count i → i < length h.slots → k ≡ (slot_at h i).kind → k ≡ 0 → Counting h count (i + 1)
-count-dead {h} {count} {i} c b e z = record { left = omega (arith, c.left, next-count h i b, ap bit (lifeless h i e z)) }
-
-pub count-last : (h : State) (count i : ℕ) → Counting h count i → length h.slots ≤ i → count ≡ live_count h.slots
-unfolding live_count
-count-last h count i c b = omega (arith, c.left, ap live_count (drop_of_length-le h.slots {i = i} b))
-
--- ---- a turn, at the lists that are lent
+kinds-counted [] = refl
+kinds-counted (s ∷ ss) =
+    go (in_use s.kind) (filter in_use (map (λ (x : Slot). x.kind) ss)) (live_count ss) (kinds-counted ss) ∙ ap (λ (b : Bool). bit b + live_count ss) (live-kind s.kind)
+  where
+    go : (b : Bool) (l : List ℕ) (n : ℕ) → length l ≡ n → length (cond b (s.kind ∷ l) l) ≡ bit b + n
+    go true l n e = omega (arith, e)
+    go false l n e = omega (arith, e)
 
 module _ (h : Heap) (narrow wide pool : List ℕ) (w : well_formed (lent h narrow wide pool) ≡ true) where
   abbrev S : ℕ
@@ -38,14 +41,18 @@ module _ (h : Heap) (narrow wide pool : List ℕ) (w : well_formed (lent h narro
   abbrev st : State
   st = view (lent h narrow wide pool)
 
-  within : (i : ℕ) → i < h.slots → i < length st.slots
-  within i b = omega (arith, sizes h narrow wide pool w)
+  kinds-are : take h.slots (drop S narrow) ≡ map (λ (s : Slot). s.kind) st.slots
+  unfolding run
+  kinds-are =
+      let k = knows (lent h narrow wide pool) w in
+      let z = sizes h narrow wide pool w in
+      sym (take-take h.slots S (drop S narrow) z.in_use)
+      ∙ ap (take h.slots) k.kind
+      ∙ ap (λ (n : ℕ). take n (pad S (map (λ (s : Slot). s.kind) st.slots))) (let e : h.slots ≡ length (map (λ (s : Slot). s.kind) st.slots) = omega (arith, z, length-map st.slots (λ (s : Slot). s.kind)) in e)
+      ∙ take-pad S (map (λ (s : Slot). s.kind) st.slots)
 
-  pub count-one : {count i : ℕ} → Counting st count i → i < h.slots → (get_or narrow (S + i) 0 ≡ 0 → ⊥) → Counting st (count + 1) (i + 1)
-  count-one {count} {i} c b n = count-live c (within i b) (reads h narrow wide pool w i b).kind n
-
-  pub count_none : {count i : ℕ} → Counting st count i → i < h.slots → get_or narrow (S + i) 0 ≡ 0 → Counting st count (i + 1)
-  count_none {count} {i} c b z = count-dead c (within i b) (reads h narrow wide pool w i b).kind z
-
-  pub count-end : {count i : ℕ} → Counting st count i → h.slots ≤ i → count ≡ live_count st.slots
-  count-end {count} {i} c b = count-last st count i c (omega (arith, sizes h narrow wide pool w))
+  pub live-counted : length (filter in_use (take (S + h.slots - S) (drop S narrow))) ≡ live_count st.slots
+  live-counted =
+      ap (λ (n : ℕ). length (filter in_use (take n (drop S narrow)))) (let e : S + h.slots - S ≡ h.slots = omega arith in e)
+      ∙ ap (λ (l : List ℕ). length (filter in_use l)) kinds-are
+      ∙ kinds-counted st.slots

@@ -35,14 +35,9 @@ impl<'a> View<'a> {
             pool: _,
         } = self;
         let s = narrow.len() / 6;
-        let mut count = 0;
-        // Kept: with `filter` and `count` the proof stays open at `returns`, which needs an induction that joins the column of kinds with the slots as a list.
-        for i in 0..heap.slots {
-            if narrow[s + i] != 0 {
-                count += 1;
-            }
-        }
-        count
+        let end = s + heap.slots;
+        let kinds = &narrow[s..end];
+        kinds.iter().filter(|kind| **kind != 0).count() as u64
     }
 
     // Where the visible data of slot `i` lies, from where in the pool on and how many bytes: none of it where the start of a live slot is beyond

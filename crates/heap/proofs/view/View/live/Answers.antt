@@ -1,31 +1,18 @@
 -- `View::live` meets its contract.
-use Rattle.std.proofs.Common.{arith}
+use Rattle.std.proofs.Common.{rules, arith, ◌∙◌, ◌+◌, ◌-◌, ◌/◌, length, take, drop}
+use Rattle.std.proofs.lemmas.Iterator.{YieldsList-from_slice}
+use Rattle.std.proofs.lemmas.Iterator.Consumers.{YieldsList-from_filter, count_from_yields_List}
 use Rattle.heap.proofs.Columns.{sizes}
-use Rattle.heap.proofs.LiveSlots.{count-first, count-one, count_none, count-end}
+use Rattle.heap.proofs.LiveSlots.{in_use, live-counted}
 use Rattle.heap.proofs.view.View.live.Goals as goal
-use Rattle.heap.proofs.view.View.live.Goals.{then-narrow-s-ne0, else-narrow-s-ne0}
 
-pub loop-i-init : goal.loop-i-init
-loop-i-init c = (omega arith, count-first _)
+pub overflow_add-end : goal.overflow_add-end
+overflow_add-end c = omega (arith, sizes c.args.self.heap c.args.self.narrow.now c.args.self.wide.now c.args.self.pool.now c.args.self.formed)
 
-pub overflow_add-s : goal.overflow_add-s
-overflow_add-s c = omega (arith, sizes c.args.self.heap c.args.self.narrow.now c.args.self.wide.now c.args.self.pool.now c.args.self.formed)
-
-pub offset_bounds-narrow-s : goal.offset_bounds-narrow-s
-offset_bounds-narrow-s c = omega (arith, sizes c.args.self.heap c.args.self.narrow.now c.args.self.wide.now c.args.self.pool.now c.args.self.formed)
-
-pub bounds-narrow-s : goal.bounds-narrow-s
-bounds-narrow-s c = omega (arith, sizes c.args.self.heap c.args.self.narrow.now c.args.self.wide.now c.args.self.pool.now c.args.self.formed)
-
-pub overflow_add-count : goal.overflow_add-count
-overflow_add-count c = omega arith
-
-pub loop-i-preserved : goal.loop-i-preserved
-loop-i-preserved c =
-    elim c.if-narrow-s-ne0.branch [
-      | then-narrow-s-ne0 y ↦ (omega (arith, y, c.loop-i.invariant), rw y.count-is (count-one c.args.self.heap c.args.self.narrow.now c.args.self.wide.now c.args.self.pool.now c.args.self.formed c.loop-i.invariant.1 (omega arith) y.if-narrow-s-ne0.true))
-      | else-narrow-s-ne0 y ↦ (omega (arith, y, c.loop-i.invariant), rw y.count-is (count_none c.args.self.heap c.args.self.narrow.now c.args.self.wide.now c.args.self.pool.now c.args.self.formed c.loop-i.invariant.1 (omega arith) y.if-narrow-s-ne0.false))
-    ]
+pub slice_bounds-kinds-end : goal.slice_bounds-kinds-end
+slice_bounds-kinds-end c = omega (arith, sizes c.args.self.heap c.args.self.narrow.now c.args.self.wide.now c.args.self.pool.now c.args.self.formed)
 
 pub returns : goal.returns
-returns c = count-end c.args.self.heap c.args.self.narrow.now c.args.self.wide.now c.args.self.pool.now c.args.self.formed c.loop-i.invariant.1 (omega arith)
+returns c =
+    count_from_yields_List _ _ c.count.ensures.ran (YieldsList-from_filter _ in_use (YieldsList-from_slice (take (length c.args.self.narrow.now / 6 + c.args.self.heap.slots - length c.args.self.narrow.now / 6) (drop (length c.args.self.narrow.now / 6) c.args.self.narrow.now)) cc) c.filter.ensures.closure (λ x b q k. search rules))
+    ∙ live-counted c.args.self.heap c.args.self.narrow.now c.args.self.wide.now c.args.self.pool.now c.args.self.formed
