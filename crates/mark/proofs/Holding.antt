@@ -16,6 +16,8 @@ use Rattle.addresses.specs.Listed.{slot_of, slots_of}
 use Rattle.addresses.specs.Told.{told}
 use Rattle.std.specs.Prelude.{Option as MaybeSlot, Some, None}
 use Rattle.addresses.proofs.Listing.{slots-append}
+use Rattle.std.specs.Simd.{first_chunks}
+use Rattle.word.proofs.ChunkLaws.{row-part}
 use Rattle.frame.specs.Frame.{Entry, entry, entries_of, first_word, entry_words, entries_words}
 use Rattle.frame.proofs.FrameLaws.{entries_next}
 use Rattle.reach.specs.Marking.{State, visit, follow_all, pin_if, pin_all}
@@ -122,19 +124,23 @@ unfolding slots_of entries_words
 none_left list m l h = ap (λ (es : List Entry). slots_of list (entries_words m es)) (entries-short l h)
 
 module _ (slots : ℕ) (list map m : List ℕ) (q₀ : Queue) (total : State) (q : Queue) (k : ℕ) (p : HoldsFrame slots list map m q₀ total q k) where
-  pub frame-next : k < length map / 3 → (q' : Queue)
-      → Becomes slots q q' (pin_all (in_use slots) (state q) (slots_of list (entry_words m (entry (get_or map (3 * k) 0) (get_or map (3 * k + 1) 0) 0))))
+  pub frame-next : (rows : List (List ℕ)) → rows ≡ first_chunks 3 (length map / 3) map → length rows ≡ length map / 3 → k < length rows → (q' : Queue)
+      → Becomes slots q q' (pin_all (in_use slots) (state q) (slots_of list (entry_words m (entry (get_or (get_or rows k []) 0 0) (get_or (get_or rows k []) 1 0) 0))))
       → HoldsFrame slots list map m q₀ total q' (k + 1)
-  frame-next h q' b =
+  frame-next rows front many h q' b =
       pushing-part _ slots q₀ total q _ p (pins-append (in_use slots)) (slots_of list (entry_words m (entry (get_or map (3 * k) 0) (get_or map (3 * k + 1) 0) 0)))
-      (slots_of list (entries_words m (entries_of (drop (3 * (k + 1)) map)))) q' parts b
+      (slots_of list (entries_words m (entries_of (drop (3 * (k + 1)) map)))) q' parts
+      (subst (λ (w : Entry). Becomes slots q q' (pin_all (in_use slots) (state q) (slots_of list (entry_words m w)))) (λ j. entry (part 0 (3 * k) (omega arith) (omega arith) j) (part 1 (3 * k + 1) (omega arith) (omega arith) j) 0) b)
     where
+      part : (i j : ℕ) → i < 3 → 3 * k + i ≡ j → get_or (get_or rows k []) i 0 ≡ get_or map j 0
+      part i j c d = row-part 3 (length map / 3) map rows front k i j [] (omega (arith, h, many)) c d
+
       parts : slots_of list (entries_words m (entries_of (drop (3 * k) map)))
           ≡ slots_of list (entry_words m (entry (get_or map (3 * k) 0) (get_or map (3 * k + 1) 0) 0)) ++ slots_of list (entries_words m (entries_of (drop (3 * (k + 1)) map)))
-      parts = ap (slots_of list) (words-next m map k h) ∙ slots-append list (entry_words m (entry (get_or map (3 * k) 0) (get_or map (3 * k + 1) 0) 0)) (entries_words m (entries_of (drop (3 * (k + 1)) map)))
+      parts = ap (slots_of list) (words-next m map k (omega (arith, h, many))) ∙ slots-append list (entry_words m (entry (get_or map (3 * k) 0) (get_or map (3 * k + 1) 0) 0)) (entries_words m (entries_of (drop (3 * (k + 1)) map)))
 
-  pub frame-end : length map / 3 ≤ k → Becomes slots q₀ q total
-  frame-end h =
+  pub frame-end : (many : ℕ) → many ≡ length map / 3 → many ≤ k → Becomes slots q₀ q total
+  frame-end many n h =
       pushing-end _ slots q₀ total q _ p (λ s. refl) (none_left list m (drop (3 * k) map) (omega (arith, length-drop (3 * k) map)))
 
 -- ---- values of registers: followed or looked up

@@ -80,11 +80,9 @@ impl Queue<'_> {
             (slots_of pairs.entry.list.now (entries_words frame.entry.memory.now (entries_of frame.entry.map.now)))) }
     {
         let Frame { map, memory } = frame;
-        let whole = map.len() / 3;
-        for k in 0..whole {
-            let offset = map[3 * k] as usize;
-            let of = map[3 * k + 1];
-            self.hold_entry(slots, pairs, offset, of, memory);
+        let (entries, _) = map.as_chunks::<3>();
+        for &[offset, of, _] in entries {
+            self.hold_entry(slots, pairs, offset as usize, of, memory);
         }
     }
 }

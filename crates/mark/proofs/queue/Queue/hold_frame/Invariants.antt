@@ -7,5 +7,5 @@ use Rattle.mark.specs.Joining.{in_use}
 use Rattle.mark.proofs.Holding.{HoldsFrame}
 use Rattle.mark.proofs.queue.Queue.hold_frame.Given as goal
 
-abbrev pub invariant-loop-k : goal.invariant-loop-k
-invariant-loop-k l = HoldsFrame l.slots l.pairs.list.now l.map l.memory l.fn.self (pin_all (in_use l.slots) (state l.fn.self) (slots_of l.pairs.list.now (entries_words l.memory (entries_of l.map)))) l.self l.k
+abbrev pub invariant-loop-offset : goal.invariant-loop-offset
+invariant-loop-offset l = HoldsFrame l.slots l.pairs.list.now l.frame.map.now l.memory l.fn.self (pin_all (in_use l.slots) (state l.fn.self) (slots_of l.pairs.list.now (entries_words l.memory (entries_of l.frame.map.now)))) l.self l.offset-index
