@@ -1,8 +1,10 @@
-// The fields of a line.
-ghost use Rattle.std.specs.Prelude.{◌≡◌, ◌↔◌, ◌⊎◌, true, ◌*◌, ◌<◌, ◌≤◌, ◌^◌, ◌-◌, [], length, map, IfOk};
+// The fields of a line. The clause `value` of a function says which value the field spells (specs/Lines.antt), and `refused` when it is `Bad`: memory that runs out is another fault.
+ghost use Rattle.std.specs.Prelude.{◌≡◌, ◌≢◌, ◌↔◌, ℕ, List, Option, Some, None, true, false, ◌*◌, ◌<◌, ◌≤◌, ◌^◌, ◌-◌, ◌∷◌, [], length, map, IfOk, IfErr, IfSome, MatchOption, if◌then◌else◌};
 ghost use Rattle.std.specs.List.{All};
 ghost use Rattle.std.specs.Str.{IsUtf8};
-ghost use Rattle.protocol.specs.Lines.{field_of, rest_of, decimal_of, given_or, unfolded, or_bad};
+ghost use Rattle.text.specs.Text.{hex_digit_of};
+ghost use Rattle.protocol.specs.declared.Fault.TheVariants.{Bad};
+ghost use Rattle.protocol.specs.Lines.{field_of, rest_of, decimal_of, given_or, unfolded, or_bad, signed_of, dashed, script_of, found, bytes_of, joined, parts, rest_parts, cut, list_of, single_of, pair_of, typed, slot_of};
 
 use crate::{Fault, find};
 use std::alloc::Global;
@@ -43,34 +45,95 @@ fn half(field: &[u8], most: u64) -> Result<u32, Fault>
     Ok(x as u32)
 }
 
-// A field's part before the first colon, and what follows it.
-fn split_colon(field: &[u8]) -> Option<(&[u8], &[u8])> {
-    let i = find(field, b':')?;
-    Some((&field[..i], &field[i + 1..]))
+// Is it `-` alone?
+fn is_dash(field: &[u8]) -> bool
+    ensures { result ≡ dashed field.now }
+{
+    field == b"-".as_slice()
 }
 
-// An entry of one number, of two with a colon between them, and of a frame's map: OFFSET:KIND or OFFSET:KIND:TYPE, the kind of 8 bits.
-fn put_single(entry: &[u8], list: &mut Vec<u32>) -> Result<(), Fault> {
-    list.push(half(entry, HALF)?)?;
-    Ok(())
+// The part of a text before the first `b`, and what follows it.
+fn split_once(text: &[u8], b: u8) -> Option<(&[u8], &[u8])>
+    ensures value { MatchOption result (cut b text.now ≡ None) (λ p. cut b text.now ≡ Some (p.0.now, p.1.now)) }
+    ensures parts { MatchOption result (parts b text.now ≡ text.now ∷ []) (λ p. parts b text.now ≡ p.0.now ∷ parts b p.1.now) }
+    ensures shorter { IfSome result (λ p. length p.1.now < length text.now) }
+{
+    let i = find(text, b)?;
+    Some((&text[..i], &text[i + 1..]))
 }
 
-fn put_pair(entry: &[u8], list: &mut Vec<u32>) -> Result<(), Fault> {
-    let (a, b) = split_colon(entry).ok_or(Fault::Bad)?;
-    list.extend_from_slice(&[half(a, HALF)?, half(b, HALF)?])?;
-    Ok(())
+// The first entry of a list with commas, and the others.
+// Kept: a loop over std's `split` learns how many parts there are and that none has a comma, not which they are; so entries are taken off one by one.
+fn first_entry(list: &[u8]) -> (&[u8], Option<&[u8]>)
+    ensures entries { parts 44 list.now ≡ result.0.now ∷ rest_parts result.1 }
+    ensures shorter { IfSome result.1 (λ rest. length rest.now < length list.now) }
+{
+    match split_once(list, b',') {
+        Some((entry, rest)) => (entry, Some(rest)),
+        None => (list, None),
+    }
 }
 
-fn put_slot(entry: &[u8], list: &mut Vec<u32>) -> Result<(), Fault> {
-    let (offset, rest) = split_colon(entry).ok_or(Fault::Bad)?;
-    let (kind, ty) = split_colon(rest).unwrap_or((rest, b"0"));
-    list.extend_from_slice(&[half(offset, HALF)?, half(kind, BYTE)?, half(ty, HALF)?])?;
-    Ok(())
+// KIND or KIND:TYPE; the type is 0 where none is said.
+fn kind_and_type(text: &[u8]) -> (&[u8], &[u8])
+    ensures { typed text.now (cut 58 text.now) ≡ (result.0.now, result.1.now) }
+{
+    split_once(text, b':').unwrap_or((text, b"0"))
+}
+
+// What an entry of a list spells: some numbers.
+trait Entry {
+    ghost numbers: { List ℕ → Option (List ℕ) };
+
+    // Puts them behind the list's.
+    fn put(entry: &[u8], list: &mut Vec<u32>) -> Result<(), Fault>
+        ensures value { IfOk result (λ u. joined (Some list.old.items) (numbers entry.now) ≡ Some list.new.items) }
+        ensures refused { IfErr result (λ e. e ≡ Bad → numbers entry.now ≡ None) };
+}
+
+// A number of 32 bits.
+struct Single;
+
+// Two of them with a colon between them.
+struct Pair;
+
+// Of a frame's map: OFFSET:KIND or OFFSET:KIND:TYPE, the kind of 8 bits.
+struct Slot;
+
+impl Entry for Single {
+    ghost numbers = { single_of (2 ^ 32 - 1) };
+
+    fn put(entry: &[u8], list: &mut Vec<u32>) -> Result<(), Fault> {
+        list.push(half(entry, HALF)?)?;
+        Ok(())
+    }
+}
+
+impl Entry for Pair {
+    ghost numbers = { pair_of };
+
+    fn put(entry: &[u8], list: &mut Vec<u32>) -> Result<(), Fault> {
+        let (a, b) = split_once(entry, b':').ok_or(Fault::Bad)?;
+        list.extend_from_slice(&[half(a, HALF)?, half(b, HALF)?])?;
+        Ok(())
+    }
+}
+
+impl Entry for Slot {
+    ghost numbers = { slot_of };
+
+    fn put(entry: &[u8], list: &mut Vec<u32>) -> Result<(), Fault> {
+        let (offset, rest) = split_once(entry, b':').ok_or(Fault::Bad)?;
+        let (kind, ty) = kind_and_type(rest);
+        list.extend_from_slice(&[half(offset, HALF)?, half(kind, BYTE)?, half(ty, HALF)?])?;
+        Ok(())
+    }
 }
 
 // The value of a lowercase hexadecimal digit.
 fn digit(b: u8) -> Result<u8, Fault>
-    ensures { IfOk result (λ d. d < 16) }
+    ensures value { result ≡ or_bad (found (hex_digit_of b)) }
+    ensures small { IfOk result (λ d. d < 16) }
 {
     match b {
         b'0'..=b'9' => Ok(b - b'0'),
@@ -80,19 +143,24 @@ fn digit(b: u8) -> Result<u8, Fault>
 }
 
 // The bytes that a field spells in hexadecimal; `-` for none.
-fn read_hex(field: &[u8], alloc: Global) -> Result<Vec<u8>, Fault> {
+fn read_hex(field: &[u8], alloc: Global) -> Result<Vec<u8>, Fault>
+    ensures value { IfOk result (λ v. bytes_of field.now ≡ Some v.items) }
+    ensures refused { IfErr result (λ e. e ≡ Bad → bytes_of field.now ≡ None) }
+{
     let mut bytes = Vec::new(alloc);
-    if matches!(field, b"-") {
+    if is_dash(field) {
         return Ok(bytes);
     }
     if field.is_empty() || 2 * MOST_BYTES < field.len() {
         return Err(Fault::Bad);
     }
-    for pair in field.chunks(2) {
-        let [high, low] = pair else {
-            return Err(Fault::Bad);
-        };
+    let mut left = field;
+    while let [high, low, rest @ ..] = left {
         bytes.push(digit(*high)? * 16 + digit(*low)?)?;
+        left = rest;
+    }
+    if !left.is_empty() {
+        return Err(Fault::Bad);
     }
     Ok(bytes)
 }
@@ -105,7 +173,8 @@ fn unfolded(b: u8) -> u8
 }
 
 fn unfold(field: &[u8], alloc: Global) -> Result<Vec<u8>, Fault>
-    ensures { IfOk result (λ v. v.items ≡ map unfolded field.now) }
+    ensures value { IfOk result (λ v. v.items ≡ map unfolded field.now) }
+    ensures refused { IfErr result (λ e. e ≢ Bad) }
 {
     Ok(field.iter().map(|b| unfolded(*b)).collect(alloc)?)
 }
@@ -216,6 +285,7 @@ impl<'a> Fields<'a> {
 
     /// A number with a sign, as the bits of a 64-bit word.
     pub fn signed(&mut self) -> Result<u64, Fault>
+        ensures value { result ≡ or_bad (signed_of (field_of self.old.rest.now)) }
         ensures rest { self.new.rest.now ≡ rest_of self.old.rest.now }
     {
         let field = self.next_field();
@@ -227,6 +297,8 @@ impl<'a> Fields<'a> {
 
     /// Bytes in hexadecimal.
     pub fn bytes(&mut self) -> Result<Vec<u8>, Fault>
+        ensures value { IfOk result (λ v. bytes_of (field_of self.old.rest.now) ≡ Some v.items) }
+        ensures refused { IfErr result (λ e. e ≡ Bad → bytes_of (field_of self.old.rest.now) ≡ None) }
         ensures rest { self.new.rest.now ≡ rest_of self.old.rest.now }
     {
         read_hex(self.next_field(), self.alloc)
@@ -235,6 +307,7 @@ impl<'a> Fields<'a> {
     /// A page, whose lines have `;` for byte 10.
     pub fn page(&mut self) -> Result<Vec<u8>, Fault>
         ensures value { IfOk result (λ v. v.items ≡ map unfolded (field_of self.old.rest.now)) }
+        ensures refused { IfErr result (λ e. e ≢ Bad) }
         ensures rest { self.new.rest.now ≡ rest_of self.old.rest.now }
     {
         unfold(self.next_field(), self.alloc)
@@ -242,19 +315,25 @@ impl<'a> Fields<'a> {
 
     /// A text of lines; `-` for one without lines.
     pub fn script(&mut self) -> Result<Vec<u8>, Fault>
-        ensures value { IfOk result (λ v. (v.items ≡ []) ⊎ (v.items ≡ map unfolded (field_of self.old.rest.now))) }
+        ensures some { IfOk result (λ v. length (field_of self.old.rest.now) ≢ 0) }
+        ensures value { IfOk result (λ v. v.items ≡ script_of (field_of self.old.rest.now)) }
+        ensures refused { IfErr result (λ e. (e ≡ Bad) ↔ (length (field_of self.old.rest.now) ≡ 0)) }
         ensures rest { self.new.rest.now ≡ rest_of self.old.rest.now }
     {
-        match self.next_field() {
-            b"" => Err(Fault::Bad),
-            b"-" => Ok(Vec::new(self.alloc)),
-            field => unfold(field, self.alloc),
+        let field = self.next_field();
+        if field.is_empty() {
+            return Err(Fault::Bad);
         }
+        if is_dash(field) {
+            return Ok(Vec::new(self.alloc));
+        }
+        unfold(field, self.alloc)
     }
 
     /// All that is left of the line, blanks too, as a text of lines.
     pub fn text(&mut self) -> Result<Vec<u8>, Fault>
         ensures value { IfOk result (λ v. v.items ≡ map unfolded self.old.rest.now) }
+        ensures refused { IfErr result (λ e. e ≢ Bad) }
         ensures rest { self.new.rest.now ≡ self.old.rest.now }
     {
         unfold(self.rest, self.alloc)
@@ -264,63 +343,74 @@ impl<'a> Fields<'a> {
     pub fn words(&mut self, most: u64, room: usize) -> Result<Vec<u64>, Fault>
         ensures room { IfOk result (λ v. length v.items ≤ room) }
         ensures each { IfOk result (λ v. All (λ x. x ≤ most) v.items) }
+        ensures value { IfOk result (λ v. list_of (single_of most) room (field_of self.old.rest.now) ≡ Some v.items) }
+        ensures refused { IfErr result (λ e. e ≡ Bad → list_of (single_of most) room (field_of self.old.rest.now) ≡ None) }
         ensures rest { self.new.rest.now ≡ rest_of self.old.rest.now }
     {
         let mut list = Vec::new(self.alloc);
         let field = self.next_field();
-        if matches!(field, b"-") {
+        if is_dash(field) {
             return Ok(list);
         }
-        for entry in field.split(|b| *b == b',') {
+        let mut left = Some(field);
+        while let Some(entries) = left {
+            let (entry, rest) = first_entry(entries);
             if room <= list.len() {
                 return Err(Fault::Bad);
             }
             list.push(number(entry, most)?)?;
+            left = rest;
         }
         Ok(list)
     }
 
-    // Entries, with commas, each put into the list by `put`; `-` for none. The list has `room` numbers at most.
-    fn entries<F: Fn(&[u8], &mut Vec<u32>) -> Result<(), Fault>>(
-        &mut self,
-        room: usize,
-        put: F,
-    ) -> Result<Vec<u32>, Fault>
-        requires { F.IsAlwaysCallable put }
+    // Entries, with commas; `-` for none. The list has `room` numbers at most.
+    fn entries<E: Entry>(&mut self, room: usize) -> Result<Vec<u32>, Fault>
+        ensures value { IfOk result (λ v. list_of E.numbers room (field_of self.old.rest.now) ≡ Some v.items) }
+        ensures refused { IfErr result (λ e. e ≡ Bad → list_of E.numbers room (field_of self.old.rest.now) ≡ None) }
         ensures rest { self.new.rest.now ≡ rest_of self.old.rest.now }
     {
         let mut list = Vec::new(self.alloc);
         let field = self.next_field();
-        if matches!(field, b"-") {
+        if is_dash(field) {
             return Ok(list);
         }
-        for entry in field.split(|b| *b == b',') {
-            put(entry, &mut list)?;
+        let mut left = Some(field);
+        while let Some(entries) = left {
+            let (entry, rest) = first_entry(entries);
+            E::put(entry, &mut list)?;
             if room < list.len() {
                 return Err(Fault::Bad);
             }
+            left = rest;
         }
         Ok(list)
     }
 
     /// Numbers of 32 bits.
     pub fn halves(&mut self, room: usize) -> Result<Vec<u32>, Fault>
+        ensures value { IfOk result (λ v. list_of (single_of (2 ^ 32 - 1)) room (field_of self.old.rest.now) ≡ Some v.items) }
+        ensures refused { IfErr result (λ e. e ≡ Bad → list_of (single_of (2 ^ 32 - 1)) room (field_of self.old.rest.now) ≡ None) }
         ensures rest { self.new.rest.now ≡ rest_of self.old.rest.now }
     {
-        self.entries(room, put_single)
+        self.entries::<Single>(room)
     }
 
     /// Pairs of them.
     pub fn pairs(&mut self, room: usize) -> Result<Vec<u32>, Fault>
+        ensures value { IfOk result (λ v. list_of pair_of room (field_of self.old.rest.now) ≡ Some v.items) }
+        ensures refused { IfErr result (λ e. e ≡ Bad → list_of pair_of room (field_of self.old.rest.now) ≡ None) }
         ensures rest { self.new.rest.now ≡ rest_of self.old.rest.now }
     {
-        self.entries(room, put_pair)
+        self.entries::<Pair>(room)
     }
 
     /// A frame's map: what lies where in its memory.
     pub fn frame_map(&mut self, room: usize) -> Result<Vec<u32>, Fault>
+        ensures value { IfOk result (λ v. list_of slot_of room (field_of self.old.rest.now) ≡ Some v.items) }
+        ensures refused { IfErr result (λ e. e ≡ Bad → list_of slot_of room (field_of self.old.rest.now) ≡ None) }
         ensures rest { self.new.rest.now ≡ rest_of self.old.rest.now }
     {
-        self.entries(room, put_slot)
+        self.entries::<Slot>(room)
     }
 }

@@ -1,5 +1,6 @@
 // Answers, each written to standard output.
-ghost use Rattle.std.specs.Prelude.{◌≡◌, take, OnOk, Ok};
+ghost use Rattle.std.specs.Prelude.{◌≡◌, map, take, OnOk, Ok};
+ghost use Rattle.protocol.specs.Lines.{folded};
 
 use refusal::Answer;
 use std::fmt::{self, Display};
@@ -71,12 +72,16 @@ pub fn put_answer(rt: &impl Print, a: Answer, values: usize) -> io::Result<()> {
 }
 
 // A page's byte, with `;` for byte 10.
-fn folded(b: u8) -> u8 {
+fn folded(b: u8) -> u8
+    ensures { result ≡ folded b }
+{
     if b == b'\n' { b';' } else { b }
 }
 
-/// A space, then the first `length` bytes of a page on one line. The page's bytes are changed.
-pub fn put_page(rt: &impl Print, page: &mut [u8], length: u64) -> io::Result<()> {
+/// A space, then the first `length` bytes of a page on one line. The page's bytes are changed, and the clause says to which; what is written no clause can name.
+pub fn put_page(rt: &impl Print, page: &mut [u8], length: u64) -> io::Result<()>
+    ensures { page.new ≡ map folded page.old }
+{
     for b in page.iter_mut() {
         *b = folded(*b);
     }

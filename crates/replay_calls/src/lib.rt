@@ -51,7 +51,8 @@ impl Kept {
 }
 
 /// What a call is lent as scratch. It holds 7 everywhere, since no call may rely on what it finds there.
-// Kept: arrays, here and where a call of the front door is lent room for its answer: they last for one call, and a `Vec` would only add a way to fail.
+// Kept: arrays, here and where a call of the front door is lent room for its answer: they last for one call and never change their length. With `vec![in alloc; 7; 8192]?` in their place
+// `new`, `ask` and all that go through them, 24 calls in the crates of commands, would answer a `Result` for memory that can't run out now.
 #[derive(Clone, Copy)]
 pub struct Scratch {
     pub marks: [u8; 8192],

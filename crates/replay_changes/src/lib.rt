@@ -1,6 +1,9 @@
 // The commands of the program `replay` that change a heap.
 #![tactic(auto)]
 
+ghost use Rattle.std.specs.Prelude.{◌≡◌, IfErr};
+ghost use Rattle.protocol.specs.declared.Fault.TheVariants.{Bad};
+
 use door::Done;
 use heap::Heap;
 use protocol::fields::Fields;
@@ -87,7 +90,9 @@ fn settle_new(kept: &mut Kept, mut new: Kept, done: Done) -> Answer {
 const MOST_LISTED: usize = 65536;
 
 // Tag, slots and pool.
-fn make(line: &mut Fields, kept: &mut Kept) -> Result<Answer, Fault> {
+fn make(line: &mut Fields, kept: &mut Kept) -> Result<Answer, Fault>
+    ensures { IfErr result (λ e. e ≡ Bad → kept.new ≡ kept.old) }
+{
     let tag = line.byte()?;
     let slots = line.count(MOST_SLOTS)?;
     let pool = line.count_or(MOST_POOL)?;
@@ -105,7 +110,9 @@ fn make(line: &mut Fields, kept: &mut Kept) -> Result<Answer, Fault> {
 }
 
 // Slots, a page, and the pool.
-fn load(line: &mut Fields, kept: &mut Kept) -> Result<Answer, Fault> {
+fn load(line: &mut Fields, kept: &mut Kept) -> Result<Answer, Fault>
+    ensures { IfErr result (λ e. e ≡ Bad → kept.new ≡ kept.old) }
+{
     let slots = line.count(MOST_SLOTS)?;
     let text = line.page()?;
     let pool = line.count_or(MOST_POOL)?;
@@ -124,7 +131,9 @@ fn load(line: &mut Fields, kept: &mut Kept) -> Result<Answer, Fault> {
 }
 
 // The epoch and a log of 16 slots, which stand in the header.
-fn set_epoch(line: &mut Fields, kept: &mut Kept) -> Result<(), Fault> {
+fn set_epoch(line: &mut Fields, kept: &mut Kept) -> Result<(), Fault>
+    ensures { IfErr result (λ e. e ≡ Bad → kept.new ≡ kept.old) }
+{
     let epoch = line.word()?;
     let slots = line.halves(MOST_LISTED)?;
     let log = <[u32; 16]>::try_from(slots.as_slice()).map_err(|_| Fault::Bad)?;
@@ -134,7 +143,9 @@ fn set_epoch(line: &mut Fields, kept: &mut Kept) -> Result<(), Fault> {
 }
 
 // Kind, type, start and bytes.
-fn alloc(line: &mut Fields, kept: &mut Kept) -> Result<Answer, Fault> {
+fn alloc(line: &mut Fields, kept: &mut Kept) -> Result<Answer, Fault>
+    ensures { IfErr result (λ e. e ≡ Bad → kept.new ≡ kept.old) }
+{
     let kind = line.byte()?;
     let ty = line.half()?;
     let start = line.word()? as usize;
@@ -151,7 +162,9 @@ fn place(kept: &mut Kept, kind: u8, ty: u32, start: usize, bytes: &[u8]) -> Answ
 }
 
 // So many empty objects of kind 2, one after the other: the last answer, if there is one.
-fn fill(line: &mut Fields, kept: &mut Kept) -> Result<Option<Answer>, Fault> {
+fn fill(line: &mut Fields, kept: &mut Kept) -> Result<Option<Answer>, Fault>
+    ensures { IfErr result (λ e. e ≡ Bad → kept.new ≡ kept.old) }
+{
     let mut last = None;
     for _ in 0..line.word()? {
         last = Some(place(kept, 2, 0, 0, b""));
@@ -160,7 +173,9 @@ fn fill(line: &mut Fields, kept: &mut Kept) -> Result<Option<Answer>, Fault> {
 }
 
 // Handle, bytes and start.
-fn edit(line: &mut Fields, kept: &mut Kept) -> Result<Answer, Fault> {
+fn edit(line: &mut Fields, kept: &mut Kept) -> Result<Answer, Fault>
+    ensures { IfErr result (λ e. e ≡ Bad → kept.new ≡ kept.old) }
+{
     let handle = line.word()?;
     let bytes = line.bytes()?;
     let start = line.word()? as usize;
@@ -170,7 +185,9 @@ fn edit(line: &mut Fields, kept: &mut Kept) -> Result<Answer, Fault> {
 }
 
 // Slot, offset and bytes.
-fn write(line: &mut Fields, kept: &mut Kept) -> Result<Answer, Fault> {
+fn write(line: &mut Fields, kept: &mut Kept) -> Result<Answer, Fault>
+    ensures { IfErr result (λ e. e ≡ Bad → kept.new ≡ kept.old) }
+{
     let slot = line.slot()?;
     let offset = line.word()? as usize;
     let bytes = line.bytes()?;
@@ -189,7 +206,9 @@ fn write(line: &mut Fields, kept: &mut Kept) -> Result<Answer, Fault> {
 }
 
 // A slot and a number.
-fn reissue(line: &mut Fields, kept: &mut Kept) -> Result<Answer, Fault> {
+fn reissue(line: &mut Fields, kept: &mut Kept) -> Result<Answer, Fault>
+    ensures { IfErr result (λ e. e ≡ Bad → kept.new ≡ kept.old) }
+{
     let slot = line.slot()?;
     let grown = line.word()?;
     Ok(settle(kept, |heap, narrow, wide, pool, marks, work| {
@@ -204,14 +223,18 @@ fn take(kept: &mut Kept, handle: u64, room: &mut [u8]) -> Answer {
     })
 }
 
-fn free(line: &mut Fields, kept: &mut Kept) -> Result<Answer, Fault> {
+fn free(line: &mut Fields, kept: &mut Kept) -> Result<Answer, Fault>
+    ensures { IfErr result (λ e. e ≡ Bad → kept.new ≡ kept.old) }
+{
     let handle = line.word()?;
     Ok(settle(kept, |heap, narrow, wide, pool, marks, work| {
         heaps::free(heap, narrow, wide, pool, handle, marks, work)
     }))
 }
 
-fn recycle(line: &mut Fields, kept: &mut Kept) -> Result<Answer, Fault> {
+fn recycle(line: &mut Fields, kept: &mut Kept) -> Result<Answer, Fault>
+    ensures { IfErr result (λ e. e ≡ Bad → kept.new ≡ kept.old) }
+{
     let pins = line.halves(MOST_LISTED)?;
     Ok(settle(kept, |heap, narrow, wide, pool, marks, work| {
         heaps::recycle(heap, narrow, wide, pool, &pins, marks, work)
@@ -225,7 +248,9 @@ fn seal(kept: &mut Kept) -> Answer {
 }
 
 // A script, with `room` as long as the longest pool.
-fn run(line: &mut Fields, kept: &mut Kept) -> Result<Answer, Fault> {
+fn run(line: &mut Fields, kept: &mut Kept) -> Result<Answer, Fault>
+    ensures { IfErr result (λ e. e ≡ Bad → kept.new ≡ kept.old) }
+{
     let text = line.script()?;
     // Kept: an array, here and below: room of one call; a `Vec` would only add a way to fail.
     let mut room = [0u8; 65536];
@@ -261,14 +286,16 @@ fn put_form(rt: &impl Print, a: Answer) -> io::Result<()> {
     })
 }
 
-/// Runs a line that changes the heap.
+/// Runs a line that changes the heap. One that can't be read leaves it as it is.
 // Kept: a `match` on the command, since each has fields of its own to read.
 pub fn answer(
     rt: &impl Print,
     change: Change,
     line: &mut Fields,
     kept: &mut Kept,
-) -> Result<(), Fault> {
+) -> Result<(), Fault>
+    ensures { IfErr result (λ e. e ≡ Bad → kept.new ≡ kept.old) }
+{
     match change {
         Change::New => put_answer(rt, make(line, kept)?, 0)?,
         Change::Load => put_answer(rt, load(line, kept)?, 0)?,

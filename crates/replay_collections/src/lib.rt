@@ -1,6 +1,9 @@
 // The commands of the program `replay` that collect: from roots, or at a safepoint of the function.
 #![tactic(auto)]
 
+ghost use Rattle.std.specs.Prelude.{◌≡◌, IfErr};
+ghost use Rattle.protocol.specs.declared.Fault.TheVariants.{Bad};
+
 use door::Done;
 use protocol::code::Function;
 use protocol::fields::{Fields, HALF, WORD};
@@ -121,7 +124,7 @@ fn collect_joined(kept: &mut Kept, t: &Table, code: &Function, at: &Safepoint) -
     )
 }
 
-/// Runs a line.
+/// Runs a line. One that can't be read leaves the heap as it is.
 pub fn answer(
     rt: &impl Print,
     collection: Collection,
@@ -129,7 +132,9 @@ pub fn answer(
     kept: &mut Kept,
     t: &Table,
     code: &Function,
-) -> Result<(), Fault> {
+) -> Result<(), Fault>
+    ensures { IfErr result (λ e. e ≡ Bad → kept.new ≡ kept.old) }
+{
     let done = match collection {
         Collection::Plain => {
             let roots = line.words(WORD, MOST_ROOTS)?;

@@ -1,6 +1,9 @@
 // The commands of the program `replay` on two heaps, the current one and the other: they change places, or they are compared.
 #![tactic(auto)]
 
+ghost use Rattle.std.specs.Prelude.{◌≡◌, ◌≢◌};
+ghost use Rattle.replay_saves.specs.declared.Command.TheVariants.{Swap};
+
 use protocol::fields::{Fields, WORD};
 use protocol::table::Table;
 use protocol::write::{put_answer, put_told};
@@ -51,7 +54,8 @@ impl Roots {
     }
 }
 
-// Kept: apart from `order`: of a closure over the calls of the front door the type alone would name their eighteen parameters.
+// Kept: apart from `order`: a bound such as `FnOnce(..) -> Answer` of more than twelve arguments is refused, and the two calls have eighteen; closures over one struct of all that is lent
+// would each write out the eighteen again.
 fn same(kept: &Kept, other: &Kept, t: &Table, roots: &Roots) -> Answer {
     let mut s = Scratch::new();
     let mut z = Scratch::new();
@@ -112,7 +116,7 @@ fn put_order(rt: &impl Print, a: Answer) -> io::Result<()> {
 }
 
 // Kept: a `match` on the command, since each has fields of its own to read.
-/// Runs a line.
+/// Runs a line. One that compares the heaps leaves both as they are.
 pub fn answer(
     rt: &impl Print,
     command: Command,
@@ -120,7 +124,10 @@ pub fn answer(
     kept: &mut Kept,
     other: &mut Kept,
     t: &Table,
-) -> Result<(), Fault> {
+) -> Result<(), Fault>
+    ensures swapped { command ≡ Swap → (kept.new ≡ other.old) × (other.new ≡ kept.old) }
+    ensures compared { command ≢ Swap → (kept.new ≡ kept.old) × (other.new ≡ other.old) }
+{
     match command {
         Command::Swap => {
             mem::swap(kept, other);

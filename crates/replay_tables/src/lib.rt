@@ -1,6 +1,10 @@
 // The commands of the program `replay` on a type table's text: a text that is read becomes the type table; the type table is written with the names that a line has.
 #![tactic(auto)]
 
+ghost use Rattle.std.specs.Prelude.{◌≡◌, ◌≢◌, IfErr};
+ghost use Rattle.protocol.specs.declared.Fault.TheVariants.{Bad};
+ghost use Rattle.replay_tables.specs.declared.Command.TheVariants.{Write};
+
 use protocol::fields::Fields;
 use protocol::table::{MOST_BYTES, MOST_CONSTS, MOST_FIELDS, MOST_TYPES, Table};
 use protocol::write::{put_page, put_told};
@@ -57,7 +61,9 @@ fn call(t: &mut Table, text: &[u8]) -> TableRead {
 }
 
 // Reads a text, and tells how much of each list the table takes. A refusal leaves the table that there was.
-fn read(rt: &impl Print, line: &mut Fields, table: &mut Table) -> Result<(), Fault> {
+fn read(rt: &impl Print, line: &mut Fields, table: &mut Table) -> Result<(), Fault>
+    ensures { IfErr result (λ e. e ≢ Bad) }
+{
     let text = line.text()?;
     let mut new = longest(line.alloc())?;
     let r = call(&mut new, &text);
@@ -84,13 +90,16 @@ fn write(rt: &impl Print, names: &[u8], t: &Table) -> io::Result<()> {
     put_told(rt, a, |length, _| put_page(rt, &mut out, length))
 }
 
-/// Runs a line. What follows the command is the text, or the names.
+/// Runs a line. What follows the command is the text, or the names: it can always be read. To write the table leaves it as it is.
 pub fn answer(
     rt: &impl Print,
     command: Command,
     line: &mut Fields,
     table: &mut Table,
-) -> Result<(), Fault> {
+) -> Result<(), Fault>
+    ensures written { command ≡ Write → table.new ≡ table.old }
+    ensures taken { IfErr result (λ e. e ≢ Bad) }
+{
     match command {
         Command::Read => read(rt, line, table)?,
         Command::Write => write(rt, &line.text()?, table)?,
