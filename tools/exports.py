@@ -32,6 +32,9 @@ FILES = [
     ("held_objects", "held/src/lib.rt"),
     ("held_changes", "held_edit/src/lib.rt"),
     ("held_tables", "held_types/src/lib.rt"),
+    ("held_collections", "held_collect/src/lib.rt"),
+    ("held_collections_joined", "held_collect/src/joined.rt"),
+    ("held_readings", "held_reads/src/lib.rt"),
 ]
 WORDS = "requires ensures result record old new now entry exit λ if then else true false u8 u32 u64 usize bool mut".split()
 

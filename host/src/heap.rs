@@ -190,7 +190,7 @@ impl Scratch {
 }
 
 /// A heap of objects, in memory of its own. Nobody else can write there, and every call is proved to leave a heap, so what `new` or `read_page` made is known to be one and is not checked again: a call takes the time of
-/// what it does. Parts that a host put together (`from_parts`) are checked by the first call on them. The collections, `run`, `roots_for`, `slot_handles`, `misfit` and the pages check the whole heap each time, in time in
+/// what it does. Parts that a host put together (`from_parts`) are checked by the first call on them. `run`, `roots_for`, `same`, `order` and `misfit` check the whole heap each time, in time in
 /// proportion to slots and pool.
 ///
 /// Every call can be refused because scratch is short (18) or the memory holds no heap (1); both cannot happen to a heap that was made by `new`, `read_page` or `open` and is changed by calls alone. What else
@@ -306,11 +306,15 @@ macro_rules! change {
 // A call that reads a heap: without the check where the heap is known.
 macro_rules! ask_known {
     ($heap:ident, $held:ident, $checked:ident ($($given:expr),*)) => {
+        ask_known!($heap, $held, $checked () ($($given),*))
+    };
+    ($heap:ident, $held:ident, $checked:ident ($($before:expr),*) ($($given:expr),*)) => {
         if $heap.known.get() {
             let (p, m) = (Parts::read(&$heap.header), &$heap.memory);
-            // SAFETY: the heap is known to be well formed (`held`). Pointers lead to as many elements as said, and the call only reads what they lead to.
+            // SAFETY: the heap is known to be well formed (`held`). Pointers lead to as many elements as said, and the call only reads what they lead to, but the outputs given, which are borrowed mutably.
             Heap::pair(unsafe {
                 held::$held(
+                    $($before,)*
                     p.tag, p.numbers, p.log, p.lengths,
                     m.narrow.as_ptr() as *mut u32, m.narrow.len(),
                     m.wide.as_ptr() as *mut u64, m.wide.len(),
@@ -319,7 +323,7 @@ macro_rules! ask_known {
                 )
             })
         } else {
-            $heap.told(ask!($heap, $checked ($($given),*)))
+            $heap.told(ask!($heap, $checked ($($before),*) ($($given),*)))
         }
     };
 }
@@ -327,11 +331,15 @@ macro_rules! ask_known {
 // A call that may change a heap: the first given is done where the heap is known, the second where it is not.
 macro_rules! change_known {
     ($heap:ident, $held:ident ($($given:expr),*), $checked:expr) => {
+        change_known!($heap, $held () ($($given),*), $checked)
+    };
+    ($heap:ident, $held:ident ($($before:expr),*) ($($given:expr),*), $checked:expr) => {
         if $heap.known.get() {
             let (p, m) = (Parts::of(&mut $heap.header), &mut $heap.memory);
-            // SAFETY: the heap is known to be well formed (`held`), and the call leaves it so. Pointers lead to as many elements as said, and header, memory and the outputs given are borrowed mutably, so none is lent twice.
+            // SAFETY: the heap is known to be well formed (`held`), and the call leaves it so. Pointers lead to as many elements as said, and header, memory, scratch and the outputs given are borrowed mutably, so none is lent twice.
             Heap::pair(unsafe {
                 held::$held(
+                    $($before,)*
                     p.tag, p.numbers, p.log, p.lengths,
                     m.narrow.as_mut_ptr(), m.narrow.len(),
                     m.wide.as_mut_ptr(), m.wide.len(),
@@ -651,11 +659,16 @@ impl Heap {
     pub fn collect(&mut self, types: &TypeTable, roots: &[Handle], pins: &[Slot]) -> Result<(), Refusal> {
         // a handle is its number: `repr(transparent)`
         let numbers: *const u64 = roots.as_ptr().cast();
-        let done = change!(&mut self.memory, self.scratch.get_mut(), yexwalu_collect(
+        let s = self.scratch.get_mut();
+        let told = change_known!(self, yexwalu_held_collect(
+            types.types.as_ptr(), types.types.len(), types.fields.as_ptr(), types.fields.len(),
+            types.consts.as_ptr(), types.consts.len(), types.bytes.as_ptr(), types.bytes.len())
+            (numbers, roots.len(), pins.as_ptr().cast(), pins.len(), s.marks.as_mut_ptr(), s.marks.len(), s.work.as_mut_ptr(), s.work.len()),
+            change!(&mut self.memory, s, yexwalu_collect(
             types.types.as_ptr(), types.types.len(), types.fields.as_ptr(), types.fields.len(),
             types.consts.as_ptr(), types.consts.len(), types.bytes.as_ptr(), types.bytes.len(), self.header)
-            (numbers, roots.len(), pins.as_ptr().cast(), pins.len()));
-        self.done(done).map(|_| ())
+            (numbers, roots.len(), pins.as_ptr().cast(), pins.len())));
+        told.map(|_| ())
     }
 
     /// The roots with which `collect`, with these pins, keeps just the objects of the wanted slots and drops the others: the fewest, rising by slot, and of several lists as short the one with the
@@ -791,15 +804,22 @@ impl Heap {
         rows: &mut [u64],
     ) -> Result<(), Refusal> {
         let map = FrameSlot::words(map);
-        let f = function;
-        let done = change!(&mut self.memory, self.scratch.get_mut(), yexwalu_collect_joined(
+        let (f, s) = (function, self.scratch.get_mut());
+        let told = change_known!(self, yexwalu_held_collect_joined(
+            types.types.as_ptr(), types.types.len(), types.fields.as_ptr(), types.fields.len(),
+            types.consts.as_ptr(), types.consts.len(), types.bytes.as_ptr(), types.bytes.len())
+            (f.kinds.as_ptr(), f.kinds.len(), f.ends.as_ptr(), f.ends.len(), f.refs.as_ptr(), f.refs.len(), f.blocks.as_ptr(), f.blocks.len(),
+            f.classes.as_ptr(), f.classes.len(), pc as usize, values.as_ptr(), values.len(), map.as_ptr(), map.len(),
+            frame.as_ptr(), frame.len(), pins.as_ptr().cast(), pins.len(), addresses.as_ptr(), addresses.len(),
+            s.marks.as_mut_ptr(), s.marks.len(), s.work.as_mut_ptr(), s.work.len(), rows.as_mut_ptr(), rows.len()),
+            change!(&mut self.memory, s, yexwalu_collect_joined(
             types.types.as_ptr(), types.types.len(), types.fields.as_ptr(), types.fields.len(),
             types.consts.as_ptr(), types.consts.len(), types.bytes.as_ptr(), types.bytes.len(), self.header)
             (f.kinds.as_ptr(), f.kinds.len(), f.ends.as_ptr(), f.ends.len(), f.refs.as_ptr(), f.refs.len(), f.blocks.as_ptr(), f.blocks.len(),
             f.classes.as_ptr(), f.classes.len(), pc as usize, values.as_ptr(), values.len(), map.as_ptr(), map.len(),
             frame.as_ptr(), frame.len(), pins.as_ptr().cast(), pins.len(), addresses.as_ptr(), addresses.len())
-            (rows.as_mut_ptr(), rows.len()));
-        self.done(done).map(|_| ())
+            (rows.as_mut_ptr(), rows.len())));
+        told.map(|_| ())
     }
 
     /// Runs a script of calls, one a line: `alloc,TYPE,KIND,HEX`, `take,HANDLE,0,`, `seal,0,0,` and `recycle,0,0,`, each with byte 10 at its end. The heap is checked once, so this is the way to do
@@ -1002,11 +1022,11 @@ impl Heap {
     /// As `slot_handles`, with the handles written to the front of a lent list (7). The answer is how many.
     pub fn slot_handles_into(&self, types: &TypeTable, slot: impl Into<Slot>, out: &mut [u64]) -> Result<usize, Refusal> {
         let slot = slot.into().at();
-        let answer = ask!(self, yexwalu_slot_handles(
+        let told = ask_known!(self, yexwalu_held_slot_handles, yexwalu_slot_handles(
             types.types.as_ptr(), types.types.len(), types.fields.as_ptr(), types.fields.len(),
             types.consts.as_ptr(), types.consts.len(), types.bytes.as_ptr(), types.bytes.len())
             (slot, out.as_mut_ptr(), out.len()));
-        Ok(Heap::pair(answer)?.0 as usize)
+        Ok(told?.0 as usize)
     }
 
     /// The first slot that does not fit the type table: an object of kind Typed whose type the table has not, or whose handles can't be traced. `None` where all fit, so that page and table can be kept
@@ -1087,7 +1107,7 @@ impl Heap {
 
     /// The same of a page with this column. With planes it has two bytes more, those of the longer name.
     pub fn page_length_with(&self, column: Column) -> Result<usize, Refusal> {
-        Ok(Heap::pair(ask!(self, yexwalu_page_length(column == Column::Planes)))?.0 as usize)
+        Ok(ask_known!(self, yexwalu_held_page_length, yexwalu_page_length(column == Column::Planes))?.0 as usize)
     }
 
     /// As `write_page`, with the text written to the front of a lent output. The answer is the number of bytes, which is `page_length`. An output of so many bytes is enough; a shorter one is refused (7).
@@ -1097,8 +1117,8 @@ impl Heap {
 
     /// The same with this column; the answer is `page_length_with`.
     pub fn write_page_with(&self, column: Column, out: &mut [u8]) -> Result<usize, Refusal> {
-        let answer = ask!(self, yexwalu_write_page(column == Column::Planes, out.as_mut_ptr(), out.len()));
-        Ok(Heap::pair(answer)?.0 as usize)
+        let told = ask_known!(self, yexwalu_held_write_page, yexwalu_write_page(column == Column::Planes, out.as_mut_ptr(), out.len()));
+        Ok(told?.0 as usize)
     }
 
     /// The heap of a page, in new memory for so many objects and bytes of data, as `new` takes them. It is refused where the text is no page (17), what it shows is no heap or the sizes are out

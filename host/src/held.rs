@@ -8,7 +8,7 @@
 //! - `Heap` has header and memory in private fields. It hands out `&Header` and `&Memory`, which have no cells in them, never `&mut`; `into_parts` ends the heap. So only calls write there.
 //! - `Heap::known` is set where a checked call was answered with 0 in that memory (`new`, `read_page`, or any call on parts that were put together): `yexwalu_new` and `yexwalu_read_page` leave a heap that is
 //!   well formed where they answer 0 (`new-formed` in crates/object_door/proofs/Made.antt, `ReadFormed` in crates/theorems/specs), and any other call says 1 unless it was. Nothing else sets it.
-//! - While it is set, every call leaves the heap well formed, also one that is refused: those here by their contracts (`Held`, crates/held/specs), the checked ones by `CallsDoSteps` in
+//! - While it is set, every call leaves the heap well formed, also one that is refused: those here by their contracts (`Held`, crates/held/specs; `formed` in crates/held_collect), the checked ones by `CallsDoSteps` in
 //!   crates/histories/specs; a page that is not read leaves what was there.
 //!
 //! The calls on a type table have no `requires`: on every table they answer what their contracts say, which is what the public calls do where the table is in order. `CheckedTable` has such a one in a private field.
@@ -95,6 +95,33 @@ held_calls! {
     yexwalu_held_reclaim_due();
     yexwalu_held_has_quarantine();
     yexwalu_held_is_plain(wanted: u8);
+    yexwalu_held_page_length(planar: bool);
+    yexwalu_held_write_page(planar: bool, out: *mut u8, out_len: usize);
+}
+
+macro_rules! held_traced_calls {
+    ($($name:ident ( $($given:ident : $g:ty),* );)*) => {
+        extern "C" {
+            $(pub fn $name(
+                types: *const u64, types_len: usize,
+                fields: *const u32, fields_len: usize,
+                consts: *const u64, consts_len: usize,
+                bytes: *const u8, bytes_len: usize,
+                tag: *mut u8, numbers: *mut u64, log: *mut u32, lengths: *mut u64,
+                narrow: *mut u32, narrow_len: usize,
+                wide: *mut u64, wide_len: usize,
+                pool: *mut u8, pool_len: usize,
+                $($given: $g),*
+            ) -> Answer;)*
+        }
+    };
+}
+
+// These ask about the type table each time, and the collections about their other inputs too.
+held_traced_calls! {
+    yexwalu_held_collect(roots: *const u64, roots_len: usize, pins: *const u32, pins_len: usize, marks: *mut u8, marks_len: usize, work: *mut u64, work_len: usize);
+    yexwalu_held_collect_joined(kinds: *const u8, kinds_len: usize, ends: *const u32, ends_len: usize, refs: *const u32, refs_len: usize, blocks: *const u32, blocks_len: usize, classes: *const u8, classes_len: usize, pc: usize, values: *const u64, values_len: usize, map: *const u32, map_len: usize, memory: *const u8, memory_len: usize, pins: *const u32, pins_len: usize, addresses: *const u64, addresses_len: usize, marks: *mut u8, marks_len: usize, work: *mut u64, work_len: usize, rows: *mut u64, rows_len: usize);
+    yexwalu_held_slot_handles(slot: usize, out: *mut u64, out_len: usize);
 }
 
 macro_rules! held_table_calls {

@@ -171,7 +171,7 @@ fn declared(answer: &str, parameters: &str) -> Vec<String> {
     types
 }
 
-// Of `held`: its two macros write what all calls on a heap, and on a table, begin with.
+// Of `held`: its three macros write what all calls on a heap, on a heap and a table, and on a table begin with.
 fn in_held() -> Signatures {
     let source = text("host/src/held.rs");
     let mut all = Signatures::new();

@@ -1,7 +1,7 @@
 -- What the tests of the public collections find, and what follows for the calls. Assumes nothing.
-use mathlib.Core.Path.{◌≡◌, refl, sym, ap, ◌∙◌, subst}
+use mathlib.Core.Path.{◌≡◌, refl, sym, ap, ◌∙◌}
 use mathlib.Core.Bool.{Bool, true, false}
-use mathlib.Core.List.{List, [], ◌∷◌, ◌++◌}
+use mathlib.Core.List.{List, [], ◌∷◌, ◌++◌, map}
 use mathlib.Core.Logic.{◌↔◌}
 use Prim.Native.Nat.{ℕ, ◌≤◌, ◌<◌}
 use lib.ListN.{length}
@@ -27,30 +27,54 @@ use Rattle.flow.specs.Function.{safepoint}
 use Rattle.roots.specs.Calls.{Lent as Code, function, right, need}
 use Rattle.collect.specs.Collect.{collecting, CanCollect}
 use Rattle.collect.specs.Safepoint.{at_safepoint, CanLook}
-use Rattle.door.specs.HeapCalls.{test, admitted, enough, heap_tests, zeros, Entered, outcome, outcome_of}
+use Rattle.door.specs.HeapCalls.{Test, test, admitted, enough, zeros, scratch_after, Entered, outcome, outcome_of}
 use Rattle.door.specs.HeapCalls.{Entry}
 use Rattle.door.specs.HeapCalls.{ready}
-use Rattle.door.proofs.Entering.{fails, passes, few-marks, few_words, is-enough, and-holds, and-fails, and-more, cleared-in, holding, call-refused, call-cleared, marks-zero, work-zero, rows-zero, zeros-again, zeros-room}
-use Rattle.collect_door.specs.Calls.{Given, table_in, collect_tests, tests, collect_call, Asked, table, frame, pinning, coded, roomy, row_tests, input_tests, joining, joined_call}
+use Rattle.door.proofs.Entering.{fails, passes, passed, few-marks, few_words, is-enough, and-holds, and-fails, and-more, cleared-in, holding, call-refused, call-cleared, marks-zero, work-zero, rows-zero, zeros-again, zeros-room}
+use Rattle.collect_door.specs.Calls.{Given, table_in, given_tests, tests, collect_call, Asked, table, frame, pinning, coded, roomy, row_tests, input_tests, joining, joined_call}
 use Rattle.collect_door.specs.Demand.{RightlyCollected, Demand}
 use Rattle.collect_door.proofs.Theorem.{collect-rightly, demand}
 
--- ---- collect
+-- ---- collect: the type table and the pins
 
-module _ (l : Lent) {m w m' w' : List ℕ} {e : Entry} (s : Entered (m ∷ w ∷ []) (heap_tests m w l) e (m' ∷ w' ∷ [])) (types fields consts bytes pins : List ℕ) where
-  pub not_entered : {why : Refusal} → e ≡ Err why → Entered (m ∷ w ∷ []) (collect_tests types fields consts bytes pins m w l) (Err why) (m' ∷ w' ∷ [])
-  not_entered i = and-more s (test (table_good types fields consts bytes) TypeTable ∷ test (rising pins) Pins ∷ []) i
+none_left : ready ≡ admitted []
+unfolding admitted
+none_left = refl
 
-  module _ (i : e ≡ ready) (g : Bool) (eg : g ≡ table_good types fields consts bytes) where
-    pub no_table : g ≡ false → Entered (m ∷ w ∷ []) (collect_tests types fields consts bytes pins m w l) (Err TypeTable) (m' ∷ w' ∷ [])
-    no_table h = and-more (and-fails s {why = TypeTable} i (sym eg ∙ h) refl) (test (rising pins) Pins ∷ []) refl
+module _ (types fields consts bytes pins : List ℕ) where
+  module _ (g : Bool) (eg : g ≡ table_good types fields consts bytes) where
+    pub no_table : g ≡ false → Err TypeTable ≡ admitted (given_tests types fields consts bytes pins)
+    no_table h = fails _ _ _ (sym eg ∙ h)
 
     module _ (h : g ≡ true) (p : Bool) (ep : p ≡ rising pins) where
-      pub no_pins : p ≡ false → Entered (m ∷ w ∷ []) (collect_tests types fields consts bytes pins m w l) (Err Pins) (m' ∷ w' ∷ [])
-      no_pins k = and-fails (and-holds s TypeTable i (sym eg ∙ h)) {why = Pins} refl (sym ep ∙ k) refl
+      pub no_pins : p ≡ false → Err Pins ≡ admitted (given_tests types fields consts bytes pins)
+      no_pins k = passes _ _ _ (sym eg ∙ h) (fails _ _ _ (sym ep ∙ k))
 
-      pub all-entered : p ≡ true → Entered (m ∷ w ∷ []) (collect_tests types fields consts bytes pins m w l) ready (m' ∷ w' ∷ [])
-      all-entered k = and-holds (and-holds s TypeTable i (sym eg ∙ h)) Pins refl (sym ep ∙ k)
+      pub good-given : p ≡ true → ready ≡ admitted (given_tests types fields consts bytes pins)
+      good-given k = passes _ _ _ (sym eg ∙ h) (passes _ _ _ (sym ep ∙ k) none_left)
+
+-- where none of the first tests fails, the others decide
+later : (ts us : List Test) → ready ≡ admitted ts → admitted us ≡ admitted (ts ++ us)
+later [] us e = refl
+later (t ∷ ts) us e = let p = passed t.holds t.why ts (sym e) in passes t.holds t.why (ts ++ us) p.0 (later ts us (sym p.1))
+
+-- after other tests
+module _ {scratch scratch' : List (List ℕ)} {ts : List Test} {e : Entry} (s : Entered scratch ts e scratch') (types fields consts bytes pins : List ℕ) where
+  pub given-not : {why : Refusal} → e ≡ Err why → Entered scratch (ts ++ given_tests types fields consts bytes pins) (Err why) scratch'
+  given-not i = and-more s (given_tests types fields consts bytes pins) i
+
+  given-zero : (a p : Bool) → map zeros scratch ≡ scratch_after (if a then (if p then ready else Err Pins) else Err TypeTable) scratch
+  given-zero false p = refl
+  given-zero true false = refl
+  given-zero true true = refl
+
+  pub given-entered : e ≡ ready → (f : Entry) → f ≡ admitted (given_tests types fields consts bytes pins) → Entered scratch (ts ++ given_tests types fields consts bytes pins) f scratch'
+  unfolding admitted
+  given-entered i f q =
+      record {
+        found = q ∙ later ts (given_tests types fields consts bytes pins) (sym i ∙ s.found);
+        left = cleared-in s i ∙ (given-zero (table_good types fields consts bytes) (rising pins) ∙ ap (λ (x : Entry). scratch_after x scratch) (sym q));
+      }
 
 module _ (g : Given) (l : Lent) {m w m' w' : List ℕ} {e : Entry} (s : Entered (m ∷ w ∷ []) (tests g m w l) e (m' ∷ w' ∷ [])) where
   pub can-collect : e ≡ ready → CanCollect l g.pins m' w'
@@ -116,10 +140,6 @@ module _ (n : ℕ) (m w r : List ℕ) (l : Lent) where
 
 -- ---- the inputs
 
-none_left : ready ≡ admitted []
-unfolding admitted
-none_left = refl
-
 module _ (types fields consts bytes : List ℕ) (c : Code) (values pins addresses : List ℕ) (g : Bool) (eg : g ≡ table_good types fields consts bytes) where
   pub bad-table : g ≡ false → Err TypeTable ≡ admitted (input_tests types fields consts bytes c values pins addresses)
   bad-table h = fails _ _ _ (sym eg ∙ h)
@@ -152,26 +172,27 @@ module _ (types fields consts bytes : List ℕ) (c : Code) (values pins addresse
           pub good-inputs : q ≡ true → ready ≡ admitted (input_tests types fields consts bytes c values pins addresses)
           good-inputs m = passes _ _ _ (sym eg ∙ h) (passes _ _ _ is-coded (passes _ _ _ (sym ep ∙ n) (passes _ _ _ (sym eq ∙ m) none_left)))
 
--- ---- all tests but the last
+-- ---- all tests but the last: the inputs after other tests
 
-module _ (n : ℕ) (l : Lent) {m w r m' w' r' : List ℕ} {e : Entry} (s : Entered (m ∷ w ∷ r ∷ []) (row_tests n m w r l) e (m' ∷ w' ∷ r' ∷ [])) (types fields consts bytes : List ℕ) (c : Code) (values pins addresses : List ℕ) where
-  pub rows-refused : {why : Refusal} → e ≡ Err why → Entered (m ∷ w ∷ r ∷ []) (row_tests n m w r l ++ input_tests types fields consts bytes c values pins addresses) (Err why) (m' ∷ w' ∷ r' ∷ [])
-  rows-refused i = and-more s (input_tests types fields consts bytes c values pins addresses) i
+module _ {scratch scratch' : List (List ℕ)} {ts : List Test} {e : Entry} (s : Entered scratch ts e scratch') (types fields consts bytes : List ℕ) (c : Code) (values pins addresses : List ℕ) where
+  pub inputs-not : {why : Refusal} → e ≡ Err why → Entered scratch (ts ++ input_tests types fields consts bytes c values pins addresses) (Err why) scratch'
+  inputs-not i = and-more s (input_tests types fields consts bytes c values pins addresses) i
 
-  pub rows-entered : e ≡ ready → (f : Entry) → f ≡ admitted (input_tests types fields consts bytes c values pins addresses)
-      → Entered (m ∷ w ∷ r ∷ []) (row_tests n m w r l ++ input_tests types fields consts bytes c values pins addresses) f (m' ∷ w' ∷ r' ∷ [])
+  inputs-zero : (a b p q : Bool) → map zeros scratch ≡ scratch_after (if a then (if b then (if p then (if q then ready else Err Pins) else Err Pins) else Err Function) else Err TypeTable) scratch
+  inputs-zero false b p q = refl
+  inputs-zero true false p q = refl
+  inputs-zero true true false q = refl
+  inputs-zero true true true false = refl
+  inputs-zero true true true true = refl
+
+  pub inputs-entered : e ≡ ready → (f : Entry) → f ≡ admitted (input_tests types fields consts bytes c values pins addresses)
+      → Entered scratch (ts ++ input_tests types fields consts bytes c values pins addresses) f scratch'
   unfolding admitted
-  rows-entered i f q =
-      subst (λ (x : Entry). Entered (m ∷ w ∷ r ∷ []) (row_tests n m w r l ++ input_tests types fields consts bytes c values pins addresses) x (m' ∷ w' ∷ r' ∷ [])) (sym q)
-      (go (table_good types fields consts bytes) (coded c values) (rising pins) (paired addresses))
-    where
-      go : (a b p q : Bool) → Entered (m ∷ w ∷ r ∷ []) (row_tests n m w r l ++ test a TypeTable ∷ test b Function ∷ test p Pins ∷ test q Pins ∷ [])
-          (if a then (if b then (if p then (if q then ready else Err Pins) else Err Pins) else Err Function) else Err TypeTable) (m' ∷ w' ∷ r' ∷ [])
-      go false b p q = and-more (and-fails s {b = false} {why = TypeTable} i refl refl) (test b Function ∷ test p Pins ∷ test q Pins ∷ []) refl
-      go true false p q = and-more (and-fails (and-holds s {b = true} TypeTable i refl) {b = false} {why = Function} refl refl refl) (test p Pins ∷ test q Pins ∷ []) refl
-      go true true false q = and-more (and-fails (and-holds (and-holds s {b = true} TypeTable i refl) {b = true} Function refl refl) {b = false} {why = Pins} refl refl refl) (test q Pins ∷ []) refl
-      go true true true false = and-fails (and-holds (and-holds (and-holds s {b = true} TypeTable i refl) {b = true} Function refl refl) {b = true} Pins refl refl) {b = false} {why = Pins} refl refl refl
-      go true true true true = and-holds (and-holds (and-holds (and-holds s {b = true} TypeTable i refl) {b = true} Function refl refl) {b = true} Pins refl refl) {b = true} Pins refl refl
+  inputs-entered i f q =
+      record {
+        found = q ∙ later ts (input_tests types fields consts bytes c values pins addresses) (sym i ∙ s.found);
+        left = cleared-in s i ∙ (inputs-zero (table_good types fields consts bytes) (coded c values) (rising pins) (paired addresses) ∙ ap (λ (x : Entry). scratch_after x scratch) (sym q));
+      }
 
 -- ---- the joined call
 

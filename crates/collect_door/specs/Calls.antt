@@ -34,9 +34,13 @@ pub record Given : Type 0 where
 abbrev pub table_in : Given → Table
 table_in g = table_of g.types g.fields g.consts g.bytes
 
--- scratch, the heap, the type table, pins that rise strictly: those beyond the slots or on dead slots are no refusal
+-- the type table, pins that rise strictly: those beyond the slots or on dead slots are no refusal
+abbrev pub given_tests : (types fields consts bytes pins : List ℕ) → List Test
+given_tests types fields consts bytes pins = test (table_good types fields consts bytes) TypeTable ∷ test (rising pins) Pins ∷ []
+
+-- scratch and the heap, then these
 abbrev pub collect_tests : (types fields consts bytes pins marks work : List ℕ) → Lent → List Test
-collect_tests types fields consts bytes pins marks work l = heap_tests marks work l ++ test (table_good types fields consts bytes) TypeTable ∷ test (rising pins) Pins ∷ []
+collect_tests types fields consts bytes pins marks work l = heap_tests marks work l ++ given_tests types fields consts bytes pins
 
 abbrev pub tests : Given → (marks work : List ℕ) → Lent → List Test
 tests g marks work l = collect_tests g.types g.fields g.consts g.bytes g.pins marks work l

@@ -51,7 +51,7 @@ fn enter_rows(
 }
 
 // Are the type table, the function with its values, the pins and the list of addresses as they should be?
-fn admit_inputs(
+pub fn admit_inputs(
     table: &Table,
     code: &Code,
     values: &[u64],

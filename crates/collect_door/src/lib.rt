@@ -4,8 +4,8 @@
 
 ghost use Rattle.std.specs.Prelude.{◌≡◌, [], ◌∷◌};
 ghost use Rattle.heap.specs.Lent.{lent};
-ghost use Rattle.door.specs.HeapCalls.{Entered, outcome};
-ghost use Rattle.collect_door.specs.Calls.{collect_tests, collect_call};
+ghost use Rattle.door.specs.HeapCalls.{Entered, admitted, outcome};
+ghost use Rattle.collect_door.specs.Calls.{given_tests, collect_tests, collect_call};
 ghost use Rattle.collect_door.specs.Demand.{RightlyCollected};
 
 use door::Done;
@@ -15,6 +15,19 @@ use refusal::{Answer, Refusal};
 use ty::Table;
 
 pub mod joined; // at a safepoint, from the frame and the live registers
+
+// Are the type table and the pins as they should be?
+pub fn admit_given(table: &Table, pins: &[u32]) -> Result<(), Refusal>
+    ensures { result ≡ admitted (given_tests table.now.types.now table.now.fields.now table.now.consts.now table.now.bytes.now pins.now) }
+{
+    if !table.check_table() {
+        return Err(Refusal::TypeTable);
+    }
+    if !heap_calls::recycle::rise(pins) {
+        return Err(Refusal::Pins);
+    }
+    Ok(())
+}
 
 // Do scratch, heap, type table and pins let a collection begin?
 fn admit(
@@ -33,13 +46,7 @@ fn admit(
         result (marks.new ∷ work.new ∷ []) }
 {
     door::enter(heap, narrow, wide, pool, marks, work)?;
-    if !table.check_table() {
-        return Err(Refusal::TypeTable);
-    }
-    if !heap_calls::recycle::rise(pins) {
-        return Err(Refusal::Pins);
-    }
-    Ok(())
+    admit_given(table, pins)
 }
 
 // Drops the objects to which no chain leads from a root, a seal or a pin. Where a reached object can't be traced nothing changes.

@@ -29,7 +29,7 @@ formed f q a b = ap well_formed (same q a b) ∙ f
 
 module _ {h g h' g' : Heap} {k l k' l' : Lent} where
   -- what holds of the headers by value holds of those in place
-  moved : (P : Lent → Lent → Type 0) → P k k' → h ≡ g → h' ≡ g' → headed h k ≡ k → headed g k ≡ l → headed h' k' ≡ k' → headed g' k' ≡ l' → P l l'
+  pub moved : (P : Lent → Lent → Type 0) → P k k' → h ≡ g → h' ≡ g' → headed h k ≡ k → headed g k ≡ l → headed h' k' ≡ k' → headed g' k' ≡ l' → P l l'
   moved P d q q' a b a' b' = subst (λ (z : Lent). P z l') (same q a b) (subst (λ (z : Lent). P k z) (same q' a' b') d)
 
   pub holds : {A : Type 0} (first second : A → ℕ) (call : State → Changed A) {y : Reply} {r : Answer} → Tells first second k k' y (call (view k)) → r ≡ told y

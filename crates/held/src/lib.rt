@@ -5,6 +5,7 @@
 ghost use Rattle.std.specs.Prelude.{◌≡◌, true, ◌/◌, length};
 ghost use Rattle.refusal.specs.Told.{told, answered, here, nothing};
 ghost use Rattle.heap.specs.Lent.{lent, view};
+ghost use Rattle.heap.specs.Seen.{seen};
 ghost use Rattle.heap.specs.WellFormed.{well_formed};
 ghost use Rattle.heap.specs.Calls.{take_into};
 ghost use Rattle.heap.specs.Done.{Tells};
@@ -13,6 +14,7 @@ ghost use Rattle.object_door.specs.ObjectCalls.{allocating, recycling};
 ghost use Rattle.held.specs.Held.{head_in, in_place, Held};
 
 use heap::Heap;
+use heap::view::View;
 use heap::view_mut::ViewMut;
 use refusal::Answer;
 
@@ -33,6 +35,27 @@ pub fn header(tag: &[u8; 1], numbers: &[u64; 4], log: &[u32; 16], lengths: &[u64
         quarantine: lengths[2] as usize,
         retired: lengths[3] as usize,
         sealed: lengths[4] as usize,
+    }
+}
+
+// The heap, to be read.
+pub fn see<'a>(
+    tag: &[u8; 1],
+    numbers: &[u64; 4],
+    log: &[u32; 16],
+    lengths: &[u64; 5],
+    narrow: &'a [u32],
+    wide: &'a [u64],
+    pool: &'a [u8],
+) -> View<'a>
+    requires { well_formed (in_place tag.now numbers.now log.now lengths.now narrow.now wide.now pool.now) ≡ true }
+    ensures { seen result ≡ in_place tag.now numbers.now log.now lengths.now narrow.now wide.now pool.now }
+{
+    View {
+        heap: header(tag, numbers, log, lengths),
+        narrow,
+        wide,
+        pool,
     }
 }
 

@@ -6,38 +6,16 @@ ghost use Rattle.word.specs.Result.{ok};
 ghost use Rattle.refusal.specs.Told.{answered, here, nothing};
 ghost use Rattle.heap.specs.State.{bit};
 ghost use Rattle.heap.specs.Lent.{view};
-ghost use Rattle.heap.specs.Seen.{seen};
 ghost use Rattle.heap.specs.WellFormed.{well_formed};
 ghost use Rattle.heap.specs.Calls.{gc_due, reclaim_due, has_quarantine, is_plain, live_count, Place, place_at, Kind, kind_at, Stamp, stamp_at};
 ghost use Rattle.heap.specs.Calls.{resolve as resolved, edit as edited, write as written, reissue as reissued, free as freed};
 ghost use Rattle.heap_door.specs.Sealing.{sealing};
 ghost use Rattle.held.specs.Held.{in_place, Held};
 
-use heap::view::View;
 use heap::view_mut::ViewMut;
 use heap_edit::yes;
+use held::see;
 use refusal::Answer;
-
-// The heap, to be read.
-fn see<'a>(
-    tag: &[u8; 1],
-    numbers: &[u64; 4],
-    log: &[u32; 16],
-    lengths: &[u64; 5],
-    narrow: &'a [u32],
-    wide: &'a [u64],
-    pool: &'a [u8],
-) -> View<'a>
-    requires { well_formed (in_place tag.now numbers.now log.now lengths.now narrow.now wide.now pool.now) ≡ true }
-    ensures { seen result ≡ in_place tag.now numbers.now log.now lengths.now narrow.now wide.now pool.now }
-{
-    View {
-        heap: held::header(tag, numbers, log, lengths),
-        narrow,
-        wide,
-        pool,
-    }
-}
 
 // Takes out the object that the handle names, as `yexwalu_held_take` does, without handing it out.
 // Kept: the C interface lends the header and the heap in parts, and what a call here requires is said of these.

@@ -57,7 +57,7 @@ fn list_at(table: &Table, objects: Objects, i: usize, out: &mut [u64]) -> Reply
 }
 
 // The handles that slot i shows: 9, 13, 7.
-fn list_slot(table: &Table, view: View, i: usize, out: &mut [u64]) -> Reply
+pub fn list_slot(table: &Table, view: View, i: usize, out: &mut [u64]) -> Reply
     ensures { Lists (slot_handles (table_in table.now) i (length out.old) (state view.entry)) result out.old out.new }
 {
     let View {

@@ -1,9 +1,9 @@
--- `held_edit::see` meets its contract.
+-- `held::see` meets its contract.
 use Rattle.std.proofs.Common.{refl, ap}
 use Rattle.heap.specs.declared.Heap.{Heap}
 use Rattle.heap.specs.Lent.{lent}
 use Rattle.held.proofs.Holding.{formed}
-use Rattle.held_edit.proofs.see.Goals as goal
+use Rattle.held.proofs.see.Goals as goal
 
 pub invariant_of-result : goal.invariant_of-result
 invariant_of-result c = record { formed = formed c.requires c.header.ensures refl refl }

@@ -1,0 +1,92 @@
+// The collections on a heap that is known to be well formed, as in `held`: each answers and leaves what the public call of its name does, without the test of the heap (1), and the heap is well formed again.
+// Its inputs are tested each time: scratch (18), the type table (10), the function (15), the pins and the list of addresses (14), the safepoint (16).
+#![tactic(auto)]
+
+ghost use Rattle.std.specs.Prelude.{◌≡◌, true, [], ◌∷◌, ◌/◌, length};
+ghost use Rattle.heap.specs.WellFormed.{well_formed};
+ghost use Rattle.door.specs.HeapCalls.{Entered, outcome};
+ghost use Rattle.collect_door.specs.Calls.{given_tests, collect_call};
+ghost use Rattle.collect_door.specs.Demand.{RightlyCollected};
+ghost use Rattle.held.specs.Held.{in_place};
+ghost use Rattle.held_collect.specs.Inner.Scratch.{fits};
+
+use heap::view_mut::ViewMut;
+use refusal::{Answer, Refusal};
+use ty::Table;
+
+pub mod joined; // at a safepoint, from the frame and the live registers
+
+// Do scratch, type table and pins let a collection begin? Then scratch is zero.
+fn admit(
+    table: &Table,
+    narrow: &[u32],
+    pins: &[u32],
+    marks: &mut [u8],
+    work: &mut [u64],
+) -> Result<(), Refusal>
+    ensures { Entered (marks.old ∷ work.old ∷ [])
+        (fits (length narrow.now / 6) marks.old work.old
+        ∷ given_tests table.now.types.now table.now.fields.now table.now.consts.now table.now.bytes.now pins.now)
+        result (marks.new ∷ work.new ∷ []) }
+{
+    if !door::scratch_fits(narrow, marks, work) {
+        return Err(Refusal::Scratch);
+    }
+    marks.fill(0);
+    work.fill(0);
+    collect_door::admit_given(table, pins)
+}
+
+// Drops the objects to which no chain leads from a root, a seal or a pin. Where a reached object can't be traced nothing changes.
+// Kept: the C interface lends the header and the heap in parts, and what a call here requires is said of these.
+pub fn yexwalu_held_collect(
+    types: &[u64],
+    fields: &[u32],
+    consts: &[u64],
+    bytes: &[u8],
+    tag: &mut [u8; 1],
+    numbers: &mut [u64; 4],
+    log: &mut [u32; 16],
+    lengths: &mut [u64; 5],
+    narrow: &mut [u32],
+    wide: &mut [u64],
+    pool: &mut [u8],
+    roots: &[u64],
+    pins: &[u32],
+    marks: &mut [u8],
+    work: &mut [u64],
+) -> Answer
+    requires { well_formed (in_place tag.old numbers.old log.old lengths.old narrow.old wide.old pool.old) ≡ true }
+    ensures work_after { outcome result (in_place tag.new numbers.new log.new lengths.new narrow.new wide.new pool.new)
+        marks.new work.new
+        ≡ collect_call
+        (record { types = types.now; fields = fields.now; consts = consts.now; bytes = bytes.now; roots = roots.now; pins = pins.now })
+        marks.old work.old (in_place tag.old numbers.old log.old lengths.old narrow.old wide.old pool.old) }
+    ensures rightly_collected { RightlyCollected
+        (record { types = types.now; fields = fields.now; consts = consts.now; bytes = bytes.now; roots = roots.now; pins = pins.now })
+        marks.old work.old (in_place tag.old numbers.old log.old lengths.old narrow.old wide.old pool.old)
+        (outcome result (in_place tag.new numbers.new log.new lengths.new narrow.new wide.new pool.new) marks.new work.new) }
+    ensures formed { well_formed (in_place tag.new numbers.new log.new lengths.new narrow.new wide.new pool.new) ≡ true }
+{
+    let table = Table {
+        types,
+        fields,
+        consts,
+        bytes,
+    };
+    match admit(&table, narrow, pins, marks, work) {
+        Err(why) => Answer::from(Err(why)),
+        Ok(()) => {
+            let heap = held::header(tag, numbers, log, lengths);
+            let mut lent = ViewMut {
+                heap,
+                narrow,
+                wide,
+                pool,
+            };
+            let reply = collect::collect(&table, &mut lent, roots, pins, marks, work);
+            held::keep(lent.heap, tag, numbers, log, lengths);
+            Answer::from(reply)
+        }
+    }
+}

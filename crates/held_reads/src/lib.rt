@@ -1,0 +1,97 @@
+// What a heap that is known to be well formed is read for, as in `held`: the handles that a slot shows, and its page. The header is lent to be read. No scratch: the public calls use theirs for the test of the heap (1) alone.
+#![tactic(auto)]
+
+ghost use Rattle.std.specs.Prelude.{◌≡◌, true, [], length};
+ghost use Rattle.word.specs.Result.{ok};
+ghost use Rattle.refusal.specs.Told.{answered, here, nothing};
+ghost use Rattle.heap.specs.Lent.{view};
+ghost use Rattle.heap.specs.WellFormed.{well_formed};
+ghost use Rattle.door.specs.HeapCalls.{asked_of};
+ghost use Rattle.pages.specs.Form.{written};
+ghost use Rattle.pages.specs.Page.{page_text};
+ghost use Rattle.pages.specs.Answer.{text_answer, text_out};
+ghost use Rattle.held.specs.Held.{in_place};
+ghost use Rattle.held_reads.specs.Slot.{slot_call, slot_out};
+
+use held::see;
+use refusal::{Answer, Refusal};
+use ty::Table;
+
+// The handles that a live slot shows, in the order in which it is traced; they go to the lent list from its front on. 10, 9, 13, 7. First: how many.
+// Kept: the C interface lends the header and the heap in parts, and what a call here requires is said of these.
+pub fn yexwalu_held_slot_handles(
+    types: &[u64],
+    fields: &[u32],
+    consts: &[u64],
+    bytes: &[u8],
+    tag: &[u8; 1],
+    numbers: &[u64; 4],
+    log: &[u32; 16],
+    lengths: &[u64; 5],
+    narrow: &[u32],
+    wide: &[u64],
+    pool: &[u8],
+    slot: usize,
+    out: &mut [u64],
+) -> Answer
+    requires { well_formed (in_place tag.now numbers.now log.now lengths.now narrow.now wide.now pool.now) ≡ true }
+    ensures answer { asked_of result [] ≡ slot_call types.now fields.now consts.now bytes.now
+        (in_place tag.now numbers.now log.now lengths.now narrow.now wide.now pool.now) slot out.old }
+    ensures out_after { out.new ≡ slot_out types.now fields.now consts.now bytes.now
+        (in_place tag.now numbers.now log.now lengths.now narrow.now wide.now pool.now) slot out.old }
+{
+    let table = Table {
+        types,
+        fields,
+        consts,
+        bytes,
+    };
+    if !table.check_table() {
+        return Answer::from(Err(Refusal::TypeTable));
+    }
+    let view = see(tag, numbers, log, lengths, narrow, wide, pool);
+    Answer::from(slot_door::list_slot(&table, view, slot, out))
+}
+
+// First: how many bytes the heap's page has, with byte planes or data.
+// Kept: the C interface lends the header and the heap in parts, and what a call here requires is said of these.
+pub fn yexwalu_held_page_length(
+    tag: &[u8; 1],
+    numbers: &[u64; 4],
+    log: &[u32; 16],
+    lengths: &[u64; 5],
+    narrow: &[u32],
+    wide: &[u64],
+    pool: &[u8],
+    planar: bool,
+) -> Answer
+    requires { well_formed (in_place tag.now numbers.now log.now lengths.now narrow.now wide.now pool.now) ≡ true }
+    ensures { result ≡ answered here nothing (ok (length (page_text (written planar)
+        (view (in_place tag.now numbers.now log.now lengths.now narrow.now wide.now pool.now))))) }
+{
+    let view = see(tag, numbers, log, lengths, narrow, wide, pool);
+    Answer::from(pages::measure(view, planar))
+}
+
+// Writes the heap's page to `out`, with byte planes or data: 7. First: its length.
+// Kept: the C interface lends the header and the heap in parts, and what a call here requires is said of these.
+pub fn yexwalu_held_write_page(
+    tag: &[u8; 1],
+    numbers: &[u64; 4],
+    log: &[u32; 16],
+    lengths: &[u64; 5],
+    narrow: &[u32],
+    wide: &[u64],
+    pool: &[u8],
+    planar: bool,
+    out: &mut [u8],
+) -> Answer
+    requires { well_formed (in_place tag.now numbers.now log.now lengths.now narrow.now wide.now pool.now) ≡ true }
+    ensures answer { result ≡ answered here nothing (text_answer (page_text (written planar)
+        (view (in_place tag.now numbers.now log.now lengths.now narrow.now wide.now pool.now))) out.old) }
+    ensures out_after { out.new ≡ text_out (page_text (written planar)
+        (view (in_place tag.now numbers.now log.now lengths.now narrow.now wide.now pool.now))) out.old }
+{
+    let view = see(tag, numbers, log, lengths, narrow, wide, pool);
+    Answer::from(pages::write(view, planar, out))
+}

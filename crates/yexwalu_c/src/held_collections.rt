@@ -1,0 +1,45 @@
+// For C: the calls of held_collect.
+ghost use Rattle.std.specs.Prelude.{◌≡◌, true};
+ghost use Rattle.heap.specs.WellFormed.{well_formed};
+ghost use Rattle.door.specs.HeapCalls.{outcome};
+ghost use Rattle.collect_door.specs.Calls.{collect_call};
+ghost use Rattle.collect_door.specs.Demand.{RightlyCollected};
+ghost use Rattle.held.specs.Held.{in_place};
+
+use refusal::Answer;
+
+#[unsafe(no_mangle)]
+pub extern "C" fn yexwalu_held_collect(
+    types: &[u64],
+    fields: &[u32],
+    consts: &[u64],
+    bytes: &[u8],
+    tag: &mut [u8; 1],
+    numbers: &mut [u64; 4],
+    log: &mut [u32; 16],
+    lengths: &mut [u64; 5],
+    narrow: &mut [u32],
+    wide: &mut [u64],
+    pool: &mut [u8],
+    roots: &[u64],
+    pins: &[u32],
+    marks: &mut [u8],
+    work: &mut [u64],
+) -> Answer
+    requires { well_formed (in_place tag.old numbers.old log.old lengths.old narrow.old wide.old pool.old) ≡ true }
+    ensures work_after { outcome result (in_place tag.new numbers.new log.new lengths.new narrow.new wide.new pool.new)
+        marks.new work.new
+        ≡ collect_call
+        (record { types = types.now; fields = fields.now; consts = consts.now; bytes = bytes.now; roots = roots.now; pins = pins.now })
+        marks.old work.old (in_place tag.old numbers.old log.old lengths.old narrow.old wide.old pool.old) }
+    ensures rightly_collected { RightlyCollected
+        (record { types = types.now; fields = fields.now; consts = consts.now; bytes = bytes.now; roots = roots.now; pins = pins.now })
+        marks.old work.old (in_place tag.old numbers.old log.old lengths.old narrow.old wide.old pool.old)
+        (outcome result (in_place tag.new numbers.new log.new lengths.new narrow.new wide.new pool.new) marks.new work.new) }
+    ensures formed { well_formed (in_place tag.new numbers.new log.new lengths.new narrow.new wide.new pool.new) ≡ true }
+{
+    held_collect::yexwalu_held_collect(
+        types, fields, consts, bytes, tag, numbers, log, lengths, narrow, wide, pool, roots, pins,
+        marks, work,
+    )
+}

@@ -1,0 +1,80 @@
+// For C: the calls of held_reads.
+ghost use Rattle.std.specs.Prelude.{◌≡◌, true, [], length};
+ghost use Rattle.word.specs.Result.{ok};
+ghost use Rattle.refusal.specs.Told.{answered, here, nothing};
+ghost use Rattle.heap.specs.Lent.{view};
+ghost use Rattle.heap.specs.WellFormed.{well_formed};
+ghost use Rattle.door.specs.HeapCalls.{asked_of};
+ghost use Rattle.pages.specs.Form.{written};
+ghost use Rattle.pages.specs.Page.{page_text};
+ghost use Rattle.pages.specs.Answer.{text_answer, text_out};
+ghost use Rattle.held.specs.Held.{in_place};
+ghost use Rattle.held_reads.specs.Slot.{slot_call, slot_out};
+
+use refusal::Answer;
+
+#[unsafe(no_mangle)]
+pub extern "C" fn yexwalu_held_slot_handles(
+    types: &[u64],
+    fields: &[u32],
+    consts: &[u64],
+    bytes: &[u8],
+    tag: &[u8; 1],
+    numbers: &[u64; 4],
+    log: &[u32; 16],
+    lengths: &[u64; 5],
+    narrow: &[u32],
+    wide: &[u64],
+    pool: &[u8],
+    slot: usize,
+    out: &mut [u64],
+) -> Answer
+    requires { well_formed (in_place tag.now numbers.now log.now lengths.now narrow.now wide.now pool.now) ≡ true }
+    ensures answer { asked_of result [] ≡ slot_call types.now fields.now consts.now bytes.now
+        (in_place tag.now numbers.now log.now lengths.now narrow.now wide.now pool.now) slot out.old }
+    ensures out_after { out.new ≡ slot_out types.now fields.now consts.now bytes.now
+        (in_place tag.now numbers.now log.now lengths.now narrow.now wide.now pool.now) slot out.old }
+{
+    held_reads::yexwalu_held_slot_handles(
+        types, fields, consts, bytes, tag, numbers, log, lengths, narrow, wide, pool, slot, out,
+    )
+}
+
+#[unsafe(no_mangle)]
+pub extern "C" fn yexwalu_held_page_length(
+    tag: &[u8; 1],
+    numbers: &[u64; 4],
+    log: &[u32; 16],
+    lengths: &[u64; 5],
+    narrow: &[u32],
+    wide: &[u64],
+    pool: &[u8],
+    planar: bool,
+) -> Answer
+    requires { well_formed (in_place tag.now numbers.now log.now lengths.now narrow.now wide.now pool.now) ≡ true }
+    ensures { result ≡ answered here nothing (ok (length (page_text (written planar)
+        (view (in_place tag.now numbers.now log.now lengths.now narrow.now wide.now pool.now))))) }
+{
+    held_reads::yexwalu_held_page_length(tag, numbers, log, lengths, narrow, wide, pool, planar)
+}
+
+#[unsafe(no_mangle)]
+pub extern "C" fn yexwalu_held_write_page(
+    tag: &[u8; 1],
+    numbers: &[u64; 4],
+    log: &[u32; 16],
+    lengths: &[u64; 5],
+    narrow: &[u32],
+    wide: &[u64],
+    pool: &[u8],
+    planar: bool,
+    out: &mut [u8],
+) -> Answer
+    requires { well_formed (in_place tag.now numbers.now log.now lengths.now narrow.now wide.now pool.now) ≡ true }
+    ensures answer { result ≡ answered here nothing (text_answer (page_text (written planar)
+        (view (in_place tag.now numbers.now log.now lengths.now narrow.now wide.now pool.now))) out.old) }
+    ensures out_after { out.new ≡ text_out (page_text (written planar)
+        (view (in_place tag.now numbers.now log.now lengths.now narrow.now wide.now pool.now))) out.old }
+{
+    held_reads::yexwalu_held_write_page(tag, numbers, log, lengths, narrow, wide, pool, planar, out)
+}
