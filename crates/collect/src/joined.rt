@@ -11,7 +11,7 @@ ghost use Rattle.collection.specs.Joined.{joined_by};
 ghost use Rattle.collect.specs.Collect.{CanCollect};
 ghost use Rattle.collect.specs.Safepoint.{at_safepoint, CanLook, RootRow};
 
-use crate::finish;
+use crate::sweep_after;
 use addresses::Pairs;
 use heap::view_mut::ViewMut;
 use heap_calls::pinned::Marks;
@@ -61,7 +61,7 @@ fn collect_row(
         marks,
         work,
     );
-    let reply = finish(marked, lent, marks, Marks { list: marks });
+    let reply = sweep_after(marked, lent, marks, Marks { list: marks });
     marks.fill(0);
     work.fill(0);
     reply

@@ -17,7 +17,7 @@ use ty::Table;
 pub mod joined; // at a safepoint, from the frame and the live registers
 
 // What follows a marking: the objects without a mark are dropped, and the quarantined slots that are not pinned become free, unless an object can't be traced.
-pub fn finish<P: Pinned>(
+fn sweep_after<P: Pinned>(
     marked: Result<(), Refusal>,
     lent: &mut ViewMut,
     marks: &[u8],
@@ -48,7 +48,7 @@ pub fn collect(
     ensures marks_unchanged { (marks.new ≡ marks.old) × (work.new ≡ work.old) }
 {
     let marked = mark::mark(table, lent.view(), roots, pins, marks, work);
-    let reply = finish(marked, lent, marks, Pins { list: pins });
+    let reply = sweep_after(marked, lent, marks, Pins { list: pins });
     marks.fill(0);
     work.fill(0);
     reply

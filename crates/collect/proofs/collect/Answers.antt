@@ -11,11 +11,11 @@ use Rattle.collect.proofs.collect.Goals as goal
 pub mark-marked-requires : goal.mark-marked-requires
 mark-marked-requires c = subst (λ (l : Lent). Ready l.header.slots c.args.marks.now c.args.work.now) (sym c.view.ensures) (collect-ready _ _ _ _ c.requires)
 
-pub invariant_of-finish : goal.invariant_of-finish
-invariant_of-finish c = record { rises = c.requires.rises }
+pub invariant_of-sweep_after : goal.invariant_of-sweep_after
+invariant_of-sweep_after c = record { rises = c.requires.rises }
 
-pub finish-reply-requires : goal.finish-reply-requires
-finish-reply-requires c = collect-room _ _ _ _ c.requires _ c.mark-marked.auto.marks
+pub sweep_after-reply-requires : goal.sweep_after-reply-requires
+sweep_after-reply-requires c = collect-room _ _ _ _ c.requires _ c.mark-marked.auto.marks
 
 pub returns : goal.returns
 returns c =
@@ -23,8 +23,8 @@ returns c =
     let marked = subst (λ (l : Lent). told c.mark-marked.result c.mark-marked.new.marks ≡ marks_in (length c.args.marks.now) (heap_marks t (view l) c.args.roots.now c.args.pins.now)) c.view.ensures c.mark-marked.ensures in
     record {
       replies = record {
-        loans = c.finish-reply.ensures.loans;
-        tells = collect-done (lies c.args.lent.now) _ _ _ c.requires t c.mark-marked.result c.mark-marked.new.marks _ c.finish-reply.result c.finish-reply.ensures.tells c.args.roots.now marked;
+        loans = c.sweep_after-reply.ensures.loans;
+        tells = collect-done (lies c.args.lent.now) _ _ _ c.requires t c.mark-marked.result c.mark-marked.new.marks _ c.sweep_after-reply.result c.sweep_after-reply.ensures.tells c.args.roots.now marked;
       };
       marks_unchanged = (marks-again _ _ _ _ c.requires c.mark-marked.new.marks _ c.mark-marked.auto.marks (c.fill.ensures.after (λ y e. e)), work-again _ _ _ _ c.requires c.mark-marked.new.work _ c.mark-marked.auto.work (c.fill-2.ensures.after (λ y e. e)));
     }

@@ -13,8 +13,8 @@ use Rattle.collect.proofs.joined.collect_row.Goals as goal
 pub mark_joined-marked-requires : goal.mark_joined-marked-requires
 mark_joined-marked-requires c = subst (λ (l : Lent). Ready l.header.slots c.args.marks.now c.args.work.now) (sym c.view.ensures) (collect-ready _ _ _ _ c.requires)
 
-pub finish-reply-requires : goal.finish-reply-requires
-finish-reply-requires c = collect-room _ _ _ _ c.requires _ c.mark_joined-marked.auto.marks
+pub sweep_after-reply-requires : goal.sweep_after-reply-requires
+sweep_after-reply-requires c = collect-room _ _ _ _ c.requires _ c.mark_joined-marked.auto.marks
 
 pub returns : goal.returns
 returns c =
@@ -25,8 +25,8 @@ returns c =
     let marked = subst (λ (l : Lent). told c.mark_joined-marked.result c.mark_joined-marked.new.marks ≡ marks_in (length c.args.marks.now) (joined_marks t (view l) handles values pinned)) c.view.ensures c.mark_joined-marked.ensures in
     record {
       replies = record {
-        loans = c.finish-reply.ensures.loans;
-        tells = joined-done (lies c.args.lent.now) _ _ _ c.requires t c.mark_joined-marked.result c.mark_joined-marked.new.marks c.mark_joined-marked.auto.marks _ c.finish-reply.result c.finish-reply.ensures.tells handles values pinned marked;
+        loans = c.sweep_after-reply.ensures.loans;
+        tells = joined-done (lies c.args.lent.now) _ _ _ c.requires t c.mark_joined-marked.result c.mark_joined-marked.new.marks c.mark_joined-marked.auto.marks _ c.sweep_after-reply.result c.sweep_after-reply.ensures.tells handles values pinned marked;
       };
       marks_unchanged = (marks-again _ _ _ _ c.requires c.mark_joined-marked.new.marks _ c.mark_joined-marked.auto.marks (c.fill.ensures.after (λ y e. e)), work-again _ _ _ _ c.requires c.mark_joined-marked.new.work _ c.mark_joined-marked.auto.work (c.fill-2.ensures.after (λ y e. e)));
     }
