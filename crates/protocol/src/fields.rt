@@ -155,6 +155,7 @@ fn read_hex(field: &[u8], alloc: Global) -> Result<Vec<u8>, Fault>
         return Err(Fault::Bad);
     }
     let mut left = field;
+    // Kept: a slice pattern takes two digits off at a time, and no index is counted.
     while let [high, low, rest @ ..] = left {
         bytes.push(digit(*high)? * 16 + digit(*low)?)?;
         left = rest;

@@ -56,7 +56,7 @@ pub fn queue(marks: &mut [u8], to: &mut [u64], n: usize, i: u32) -> usize
 }
 
 // One handle goes to the sink.
-// Kept: the marks, the words and their count are three parameters: of a struct of parts lent to be changed each contract would also have to say that it holds the same loans.
+// Kept: the marks, the words and their count are three parameters, here and in the tracer: each sink means another thing by them (a limit that is counted up to, a list, a queue, what was found beside), so that a struct's names would be true of one sink alone. What a marking means by them is `mark::queue::Queue`.
 pub fn emit(here: Slots, sink: Sink, marks: &mut [u8], to: &mut [u64], n: usize, h: u64) -> usize
     ensures { raw_of marks.new to.new result ≡
         emitted (into sink (slots_resolve here.entry)) (raw_of marks.old to.old n) h }

@@ -12,26 +12,26 @@ returns-then-all-gt16777216 c = says-no (λ x. omega (arith, x))
 pub returns-then-room-gt1073741824 : goal.returns-then-room-gt1073741824
 returns-then-room-gt1073741824 c = says-no (λ x. omega (arith, x))
 
-pub returns-then-h-slots : goal.returns-then-h-slots
-returns-then-h-slots c = says-no (λ x. omega (arith, x))
+pub returns-then-slots-all : goal.returns-then-slots-all
+returns-then-slots-all c = says-no (λ x. omega (arith, x))
 
-pub returns-then-h-free : goal.returns-then-h-free
-returns-then-h-free c = says-no (λ x. omega (arith, x))
+pub returns-then-free-all : goal.returns-then-free-all
+returns-then-free-all c = says-no (λ x. omega (arith, x))
 
-pub returns-then-h-quarantine : goal.returns-then-h-quarantine
-returns-then-h-quarantine c = says-no (λ x. omega (arith, x))
+pub returns-then-quarantine-all : goal.returns-then-quarantine-all
+returns-then-quarantine-all c = says-no (λ x. omega (arith, x))
 
-pub returns-then-h-sealed : goal.returns-then-h-sealed
-returns-then-h-sealed c = says-no (λ x. omega (arith, x))
+pub returns-then-sealed-all : goal.returns-then-sealed-all
+returns-then-sealed-all c = says-no (λ x. omega (arith, x))
 
-pub returns-then-h-retired : goal.returns-then-h-retired
-returns-then-h-retired c = says-no (λ x. omega (arith, x))
+pub returns-then-retired-all : goal.returns-then-retired-all
+returns-then-retired-all c = says-no (λ x. omega (arith, x))
 
-pub returns-then-h-reclaim_at-lt : goal.returns-then-h-reclaim_at-lt
-returns-then-h-reclaim_at-lt c = says-no (λ x. omega (arith, x))
+pub returns-then-reclaim-lt4096 : goal.returns-then-reclaim-lt4096
+returns-then-reclaim-lt4096 c = says-no (λ x. omega (arith, x))
 
-pub returns-then-h-reclaim_at-gt : goal.returns-then-h-reclaim_at-gt
-returns-then-h-reclaim_at-gt c = says-no (λ x. omega (arith, x))
+pub returns-then-reclaim-gt33554432 : goal.returns-then-reclaim-gt33554432
+returns-then-reclaim-gt33554432 c = says-no (λ x. omega (arith, x))
 
-pub returns-then-h-reclaim_at-ne : goal.returns-then-h-reclaim_at-ne
-returns-then-h-reclaim_at-ne c = says-no (λ x. omega (arith, x))
+pub returns-then-reclaim-ne0 : goal.returns-then-reclaim-ne0
+returns-then-reclaim-ne0 c = says-no (λ x. omega (arith, x))
