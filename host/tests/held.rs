@@ -61,7 +61,7 @@ fn make(heap: &mut Heap, c: &Call) -> (String, u64) {
         30 => told(heap.slot_handles(&accesses(c.room), c.slot)),
         31 => {
             let mut out = vec![9; c.pins.len()];
-            let (text, why) = told(heap.slot_handles_into(&accesses(c.room), c.slot as usize, &mut out));
+            let (text, why) = told(heap.slot_handles_into(&accesses(c.room), c.slot, &mut out));
             (format!("{text} {out:?}"), why)
         }
         32 => told(heap.page_length_with(column(c))),
@@ -100,7 +100,7 @@ fn joined(heap: &mut Heap, c: &Call) -> (String, u64) {
     let pc = if c.room == 5 { call + 1 } else { call };
     let values = [c.handle.0, 0x7f40];
     let values = if c.room == 7 { &values[..1] } else { &values[..] };
-    let addresses = [(0x7f40, u64::from(c.slot)), (0x7f48 - 16 * u64::from(c.room == 9), 1)];
+    let addresses = [(0x7f40, Slot(c.slot)), (0x7f48 - 16 * u64::from(c.room == 9), Slot(1))];
     let frame = [c.bytes.clone(), vec![0; 8]].concat();
     told(heap.collect_joined(&accesses(c.room), &f, pc, values, &[FrameSlot::address(0)], &frame, &c.pins, &addresses))
 }
