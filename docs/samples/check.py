@@ -236,7 +236,7 @@ def layouts(replay, turns):
 
 
 def documents():
-    """The examples of FORMAT.md, with four blanks before each line, and their digests."""
+    """The examples of FORMAT.md, with four blanks before each line, and their digests; and the copies in the bag, of which make.py --deposit writes new ones."""
     wrong, text = 0, open(os.path.join(here, "..", "FORMAT.md")).read()
     for name in ("bytes.page", "handles.page", "planes.page", "record.table", "record.page", "logic.table", "logic.page"):
         data = open(os.path.join(here, name), "rb").read()
@@ -244,6 +244,10 @@ def documents():
         if block not in text or f"{hashlib.sha256(data).hexdigest()}  {name}" not in text:
             wrong += 1
             print("not in FORMAT.md:", name)
+    for name, path in (("FORMAT.md", "../FORMAT.md"), ("reader.py", "reader.py"), ("heap-1.page", "record.page"), ("types.table", "record.table")):
+        if open(os.path.join(here, "deposit/data", name), "rb").read() != open(os.path.join(here, path), "rb").read():
+            wrong += 1
+            print("not as it is in the bag:", path)
     return wrong
 
 

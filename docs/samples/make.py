@@ -1,5 +1,6 @@
 #!/usr/bin/env python3
 """make.py REPLAY: writes the samples of this folder again, with the built program `replay` (`rt run` in crates/replay makes it: crates/replay/out/replay). Run it when the form of the page changes.
+make.py --deposit: writes the bag deposit/ alone, from the samples that are there. Run it when docs/FORMAT.md or reader.py changes, of which the bag has a copy.
 
 Good pages are what `replay` answers to `page` after a script of calls. Refused ones are good ones with one thing changed. Tables are written by `table` below."""
 import hashlib
@@ -56,6 +57,51 @@ def document(files):
         old = open(os.path.join(here, name), "rb").read()
         text = text.replace(block(old), block(files[name])).replace(hashlib.sha256(old).hexdigest() + "  " + name, hashlib.sha256(files[name]).hexdigest() + "  " + name)
     open(path, "w").write(text)
+
+
+# What a deposit says of itself (FORMAT.md, section 1).
+ABOUT = """Model: the chain of two records of FORMAT.md, section 13. It was made by hand as a sample and stands for a run's model; no simulation was run for it.
+Engine: yavs, commit 1476c939e3, whose heap.rs and ty.rs a page and a type table follow.
+
+heap-1.page: the heap of the process `mixer`, tag 1. Form: yexwalu page with `writes64`, `data` and `retired` (FORMAT.md, section 14).
+types.table: the types of all pages of this bag. Form: yexwalu type table, the first form.
+FORMAT.md: what the texts mean.
+reader.py: a reader of both, Python 3 with its standard library: reader.py page heap-1.page types.table
+
+No heap was shared, so there is no page of tag 2.
+
+Depositor: the authors of Yexwalu, in whose repository this bag is a sample.
+Terms: the MIT License, Copyright (c) 2026 the Yexwalu authors; its text is LICENSE of that repository. NOTICE there has the terms of yavs, MIT too.
+"""
+
+
+def deposit(files):
+    """A whole deposit, as a bag of RFC 8493."""
+    inside = {"heap-1.page": files["record.page"], "types.table": files["record.table"], "about.txt": ABOUT.encode()}
+    for name, path in (("FORMAT.md", "../FORMAT.md"), ("reader.py", "reader.py")):
+        inside[name] = open(os.path.join(here, path), "rb").read()
+    manifest = "".join(f"{hashlib.sha256(inside[n]).hexdigest()}  data/{n}\n" for n in sorted(inside))
+    files.update({"deposit/data/" + n: text for n, text in inside.items()})
+    files["deposit/bagit.txt"] = b"BagIt-Version: 1.0\nTag-File-Character-Encoding: UTF-8\n"
+    files["deposit/manifest-sha256.txt"] = manifest.encode()
+
+
+def write(files):
+    for name, text in files.items():
+        os.makedirs(os.path.dirname(os.path.join(here, name)) or here, exist_ok=True)
+        with open(os.path.join(here, name), "wb") as out:
+            out.write(text)
+    with open(os.path.join(here, "SHA256SUMS"), "w") as out:
+        out.write("".join(f"{hashlib.sha256(files[n]).hexdigest()}  {n}\n" for n in sorted(files)))
+    print(len(files), "files")
+
+
+def bag_alone():
+    """The bag, of the samples that are there; their digests stay."""
+    names = [line[66:-1] for line in open(os.path.join(here, "SHA256SUMS")) if not line[66:].startswith("deposit/")]
+    files = {n: open(os.path.join(here, n), "rb").read() for n in names}
+    deposit(files)
+    write(files)
 
 
 def main(replay):
@@ -131,24 +177,12 @@ def main(replay):
     files["10-constant.table"] = files["logic.table"].replace(b"\n1,0,24,", b"\n1,1,24,")
     files["10-unfolding.table"] = table([(5, 0, 2, 0, "ring")], [(0, NO, "left"), (0, NO, "right")])
 
-    # a whole deposit, as a bag of RFC 8493
-    about = "Form: yexwalu page with `writes64` and `retired`, and yexwalu type table, the forms of docs/FORMAT.md of this repository.\nheap-1.page: the heap of the process `mixer`, tag 1. types.table: the types of all pages.\n"
-    files["deposit/data/heap-1.page"], files["deposit/data/types.table"], files["deposit/data/about.txt"] = files["record.page"], record, about.encode()
-    files["deposit/bagit.txt"] = b"BagIt-Version: 1.0\nTag-File-Character-Encoding: UTF-8\n"
-    inside = sorted(n for n in files if n.startswith("deposit/data/"))
-    files["deposit/manifest-sha256.txt"] = "".join(f"{hashlib.sha256(files[n]).hexdigest()}  {n[8:]}\n" for n in inside).encode()
-
     document(files)
-    for name, text in files.items():
-        os.makedirs(os.path.dirname(os.path.join(here, name)) or here, exist_ok=True)
-        with open(os.path.join(here, name), "wb") as out:
-            out.write(text)
-    with open(os.path.join(here, "SHA256SUMS"), "w") as out:
-        out.write("".join(f"{hashlib.sha256(files[n]).hexdigest()}  {n}\n" for n in sorted(files)))
-    print(len(files), "files")
+    deposit(files)
+    write(files)
 
 
 if __name__ == "__main__":
     if len(sys.argv) != 2:
         sys.exit(__doc__)
-    main(sys.argv[1])
+    bag_alone() if sys.argv[1] == "--deposit" else main(sys.argv[1])
