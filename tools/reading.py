@@ -15,6 +15,8 @@ import sys
 
 PAGE = "docs/READING.md"
 IMPORTS = ("use ", "pub use ", "pub mod ", "mod ")
+# Calls that requests brought: the page says apart what the others rest on.
+REQUESTED = "rehearse roots_for same order read_table write_table slot_handles traceable".split()
 TOKEN = re.compile(r"[^\s(){}\[\],;]+")
 
 
@@ -149,8 +151,8 @@ class Book:
     def code_lines(self, nodes):
         return sum(self.code[n[1:]] for n in nodes if n[0] == "code")
 
-    def contracts(self):
-        """What the clauses of the public calls name."""
+    def contracts(self, without=()):
+        """What the clauses of the public calls name, but of these."""
         out = set()
         for path, text in self.sources.items():
             # the exports have the clauses of the calls
@@ -158,8 +160,9 @@ class Book:
                 scope = {}
                 for line in re.findall(r"^ghost use ([^;]+);", text, re.M):
                     scope.update(brought(line))
-                for call in re.findall(r"^pub fn yexwalu_\w+(.*?)^\{", text, re.M | re.S):
-                    out |= self.named(call, scope, {})
+                for name, call in re.findall(r"^pub fn yexwalu_(\w+)(.*?)^\{", text, re.M | re.S):
+                    if name not in without:
+                        out |= self.named(call, scope, {})
         return out
 
     def statement(self, cell, before):
@@ -197,7 +200,7 @@ def main():
         return 0
     rows = read(PAGE).split("\n")
     wrong, out, listed, here, total, crates = [], [], set(), set(), 0, []
-    needed = book.rests(book.contracts())
+    needed, base = book.rests(book.contracts()), book.rests(book.contracts(REQUESTED))
     for row in rows:
         cells = [c.strip() for c in row.strip().strip("|").split("|")]
         if row.startswith("| ") and len(cells) == 5 and cells[3].endswith(".antt"):
@@ -213,6 +216,7 @@ def main():
         elif re.match(r"[\d,]+ lines in \d+ files", row):
             row = re.sub(r"^[\d,]+ lines in \d+ files", f"{total:,} lines in {len(here)} files", row)
             row = re.sub(r"rest on [\d,]+ lines of specs/ and [\d,]+", f"rest on {book.lines(needed):,} lines of specs/ and {book.code_lines(needed):,}", row)
+            row = re.sub(r"without them: [\d,]+", f"without them: {book.lines(base):,}", row)
             listed, here, total = listed | here, set(), 0
         out.append(row)
     for node in sorted(needed):
