@@ -1,16 +1,21 @@
 #!/usr/bin/env python3
-"""Reads each crates/NAME/must-fail/*.edit, and says where an edit no longer fits the file that it changes.
+"""Reads each edit of crates/NAME/must-fail and crates/NAME/wrong, and says where one no longer fits the file that it changes.
 
 usage: python3 tools/edits.py [--show] [NAME..]        at the top of the repository
+       python3 tools/edits.py --try [NAME..]           has `rt must-fail` try the edits of wrong/, in a copy of the repository
 
+The gate tries those of must-fail/. Those of wrong/ take a crate that is proved slowly, or show what another edit shows: they are tried outside it.
 Applies the pairs of an edit in turn to a copy of the text, as `rt` does. Told are: a file that is missing or outside src/, specs/ and proofs/,
 an `old:` that does not stand or stands more than once, a `new:` that is the same text, an edit with no pair, and a pair cut in half.
 `--show` prints each line that an edit makes, with its place. Whether the check refuses an edit is for `rt must-fail` to say. Ends with status 1 if
-anything is told.
+anything is told, or an edit that is tried is not refused.
 """
 import glob
 import os
+import shutil
+import subprocess
 import sys
+import tempfile
 
 
 def steps_of(path):
@@ -70,11 +75,24 @@ def told(path, show):
     return wrong
 
 
+def tried(names):
+    """Has rt try the edits of wrong/, and returns its status. Only a copy is changed."""
+    names = [it for it in names or sorted(os.listdir("crates")) if os.path.isdir(f"crates/{it}/wrong")]
+    with tempfile.TemporaryDirectory(prefix="edits-") as room:
+        shutil.copytree("crates", f"{room}/crates", ignore=shutil.ignore_patterns("must-fail", "out"))
+        shutil.copy("crates.txt", room)
+        for name in names:
+            os.rename(f"{room}/crates/{name}/wrong", f"{room}/crates/{name}/must-fail")
+        return subprocess.run(["rt", "must-fail", *names], cwd=room).returncode if names else 0
+
+
 def main():
     words = sys.argv[1:]
     show = "--show" in words
-    names = [it for it in words if it != "--show"]
-    paths = sorted(glob.glob("crates/*/must-fail/*.edit"))
+    names = [it for it in words if not it.startswith("--")]
+    if "--try" in words:
+        return tried(names)
+    paths = sorted(glob.glob("crates/*/must-fail/*.edit") + glob.glob("crates/*/wrong/*.edit"))
     if names:
         paths = [it for it in paths if it.split("/")[1] in names]
     bad = 0

@@ -1,3 +1,2 @@
--- What the lines of a script say (Lines), and what a line leaves of a type table and a function (Kept).
+-- What the lines of a script say.
 pub mod Lines
-pub mod Kept

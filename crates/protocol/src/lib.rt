@@ -1,13 +1,10 @@
-// A script of calls as text, for the program `replay`: the fields of a line, answers, and the type table and the function that lines make. Nothing here calls the front
-// door.
+// A script of calls as text, for the program `replay`: the fields of a line, and answers. Nothing here calls the front door.
 #![tactic(auto)]
 
 ghost use Rattle.std.specs.Prelude.{◌≡◌, ℕ, ◌<◌, ◌≢◌, length, slice_index, All, IsNone, IfSome};
 ghost use Rattle.protocol.specs.declared.Fault.TheVariants.{Bad, Io};
 
-pub mod code;
 pub mod fields;
-pub mod table;
 pub mod write;
 
 use std::alloc::{AllocError, AllocFailed};

@@ -1,71 +1,180 @@
-// The commands of the program `replay` that ask a heap; and the heap that is kept, for each crate of commands on a heap.
+// The commands of the program `replay` that ask a heap.
 #![tactic(auto)]
 
-ghost use Rattle.std.specs.Prelude.{◌≡◌, [], length, replicate, IfOk};
-ghost use Rattle.heap.specs.Lent.{header_of};
-ghost use Rattle.heap.specs.Calls.{new as new_heap};
-
 use heap::Heap;
-use std::alloc::{AllocError, Global};
+use protocol::fields::Fields;
+use protocol::write::{Hex, List, front, put_answer, put_page, put_told};
+use protocol::{Fault, NoCommand};
+use refusal::Answer;
+use replay_kept::{Kept, Scratch};
+use std::io;
+use std::str::FromStr;
+use yexwalu::{heaps, page};
 
-pub mod ask;
-
-/// The most slots and bytes of a heap.
-pub const MOST_SLOTS: u64 = 8192;
-
-pub const MOST_POOL: u64 = 65536;
-
-/// A heap: its header, six numbers of 32 bits and four of 64 bits a slot, and its data.
-#[derive(Drop)]
-pub struct Kept {
-    pub heap: Heap,
-    pub narrow: Vec<u32>,
-    pub wide: Vec<u64>,
-    pub pool: Vec<u8>,
+#[derive(Clone, Copy, Debug, PartialEq, Eq)]
+pub enum Question {
+    GcDue,
+    ReclaimDue,
+    HasQuarantine,
+    IsPlain,
+    Resolve,
+    Data,
+    Kind,
+    Stamp,
+    Slots,
+    Page,
+    PageLength,
+    Epoch,
 }
 
-impl Kept {
-    /// A heap of tag 1 without slots and data.
-    pub fn empty(alloc: Global) -> Kept
-        ensures lists { (result.narrow.items ≡ []) × (result.wide.items ≡ []) × (result.pool.items ≡ []) }
-        ensures header { result.heap ≡ header_of (new_heap 1) }
-    {
-        Kept {
-            heap: Heap::new(1),
-            narrow: Vec::new(alloc),
-            wide: Vec::new(alloc),
-            pool: Vec::new(alloc),
+impl FromStr for Question {
+    type Err = NoCommand;
+
+    fn from_str(name: &str) -> Result<Question, NoCommand> {
+        match name {
+            "gcdue" => Ok(Question::GcDue),
+            "reclaimdue" => Ok(Question::ReclaimDue),
+            "hasquarantine" => Ok(Question::HasQuarantine),
+            "isplain" => Ok(Question::IsPlain),
+            "resolve" => Ok(Question::Resolve),
+            "data" => Ok(Question::Data),
+            "kind" => Ok(Question::Kind),
+            "stamp" => Ok(Question::Stamp),
+            "slots" => Ok(Question::Slots),
+            "page" => Ok(Question::Page),
+            "pagelen" => Ok(Question::PageLength),
+            "epoch" => Ok(Question::Epoch),
+            _ => Err(NoCommand),
         }
     }
+}
 
-    /// A heap of tag 1, in memory that is zero.
-    pub fn new(alloc: Global, slots: usize, pool: usize) -> Result<Kept, AllocError>
-        ensures { IfOk result (λ kept. length kept.pool.items ≡ pool) }
-    {
-        let mut kept = Kept::empty(alloc);
-        kept.narrow = vec![in alloc; 0; slots.saturating_mul(6)]?;
-        kept.wide = vec![in alloc; 0; slots.saturating_mul(4)]?;
-        kept.pool = vec![in alloc; 0; pool]?;
-        Ok(kept)
+// Has a page planes? Data also where nothing is said.
+fn read_planar(line: &mut Fields) -> Result<bool, Fault> {
+    if line.is_empty() {
+        return Ok(false);
+    }
+    match line.name() {
+        "data" => Ok(false),
+        "planes" => Ok(true),
+        _ => Err(Fault::Bad),
     }
 }
 
-/// What a call is lent as scratch. It holds 7 everywhere, since no call may rely on what it finds there.
-// Kept: arrays, here and where a call of the front door is lent room for its answer: they last for one call and never change their length. With `vec![in alloc; 7; 8192]?` in their place
-// `new`, `ask` and all that go through them, 24 calls in the crates of commands, would answer a `Result` for memory that can't run out now.
-#[derive(Clone, Copy)]
-pub struct Scratch {
-    pub marks: [u8; 8192],
-    pub work: [u64; 8192],
+// What a call answers that is lent the heap and scratch.
+fn ask<F: FnOnce(Heap, &[u32], &[u64], &[u8], &mut [u8], &mut [u64]) -> Answer>(
+    kept: &Kept,
+    call: F,
+) -> Answer
+    requires { F.IsAlwaysCallable call }
+{
+    let mut s = Scratch::new();
+    call(
+        kept.heap,
+        &kept.narrow,
+        &kept.wide,
+        &kept.pool,
+        &mut s.marks,
+        &mut s.work,
+    )
 }
 
-impl Scratch {
-    pub fn new() -> Scratch
-        ensures { (result.marks ≡ replicate 8192 7) × (result.work ≡ replicate 8192 7) }
-    {
-        Scratch {
-            marks: [7; 8192],
-            work: [7; 8192],
-        }
+// The slots and the live ones as one answer.
+fn put_counts(rt: &impl Print, kept: &Kept) -> io::Result<()> {
+    let slots = ask(kept, heaps::slots);
+    if slots.number != 0 {
+        return put_answer(rt, slots, 0);
     }
+    put_told(
+        rt,
+        ask(kept, heaps::live),
+        |live, _| print!(rt; " {} {live}", slots.first),
+    )
+}
+
+// The page, on one line.
+fn show_page(rt: &impl Print, kept: &Kept, planar: bool) -> io::Result<()> {
+    let mut text = [0u8; 262144];
+    let a = ask(kept, |heap, narrow, wide, pool, marks, work| {
+        page::write_page(heap, narrow, wide, pool, planar, &mut text, marks, work)
+    });
+    put_told(rt, a, |length, _| put_page(rt, &mut text, length))
+}
+
+// Visible data, which lies in the pool.
+fn show_data(rt: &impl Print, kept: &Kept, i: usize) -> io::Result<()> {
+    let a = ask(kept, |heap, narrow, wide, pool, marks, work| {
+        heaps::data(heap, narrow, wide, pool, i, marks, work)
+    });
+    put_told(rt, a, |from, length| {
+        let rest = kept.pool.get(from as usize..).unwrap_or(&[]);
+        print!(rt; " {}", Hex(front(rest, length)))
+    })
+}
+
+// The epoch and the log, which stand in the header.
+fn show_epoch(rt: &impl Print, kept: &Kept) -> io::Result<()> {
+    println!(rt; "0 {} {}", kept.heap.epoch, List(&kept.heap.log))
+}
+
+// The same calls, each with what a line has.
+fn gc_due(kept: &Kept, threshold: u64) -> Answer {
+    ask(kept, |heap, narrow, wide, pool, marks, work| {
+        heaps::gc_due(heap, narrow, wide, pool, threshold, marks, work)
+    })
+}
+
+fn is_plain(kept: &Kept, tag: u8) -> Answer {
+    ask(kept, |heap, narrow, wide, pool, marks, work| {
+        heaps::is_plain(heap, narrow, wide, pool, tag, marks, work)
+    })
+}
+
+fn resolve(kept: &Kept, handle: u64) -> Answer {
+    ask(kept, |heap, narrow, wide, pool, marks, work| {
+        heaps::resolve(heap, narrow, wide, pool, handle, marks, work)
+    })
+}
+
+fn kind(kept: &Kept, i: usize) -> Answer {
+    ask(kept, |heap, narrow, wide, pool, marks, work| {
+        heaps::kind(heap, narrow, wide, pool, i, marks, work)
+    })
+}
+
+fn stamp(kept: &Kept, i: usize) -> Answer {
+    ask(kept, |heap, narrow, wide, pool, marks, work| {
+        heaps::stamp(heap, narrow, wide, pool, i, marks, work)
+    })
+}
+
+fn page_length(kept: &Kept, planar: bool) -> Answer {
+    ask(kept, |heap, narrow, wide, pool, marks, work| {
+        page::page_length(heap, narrow, wide, pool, planar, marks, work)
+    })
+}
+
+/// Answers a question.
+// Kept: a `match` on the question, since each has fields of its own to read.
+pub fn answer(
+    rt: &impl Print,
+    question: Question,
+    line: &mut Fields,
+    kept: &Kept,
+) -> Result<(), Fault> {
+    match question {
+        Question::GcDue => put_answer(rt, gc_due(kept, line.word()?), 1)?,
+        Question::ReclaimDue => put_answer(rt, ask(kept, heaps::reclaim_due), 1)?,
+        Question::HasQuarantine => put_answer(rt, ask(kept, heaps::has_quarantine), 1)?,
+        Question::IsPlain => put_answer(rt, is_plain(kept, line.byte()?), 1)?,
+        Question::Resolve => put_answer(rt, resolve(kept, line.word()?), 1)?,
+        Question::Data => show_data(rt, kept, line.slot()?)?,
+        Question::Kind => put_answer(rt, kind(kept, line.slot()?), 2)?,
+        Question::Stamp => put_answer(rt, stamp(kept, line.slot()?), 2)?,
+        Question::Slots => put_counts(rt, kept)?,
+        Question::Page => show_page(rt, kept, read_planar(line)?)?,
+        Question::PageLength => put_answer(rt, page_length(kept, read_planar(line)?), 1)?,
+        Question::Epoch => show_epoch(rt, kept)?,
+    }
+    Ok(())
 }

@@ -1,4 +1,4 @@
-// The commands of the program `replay` that change a heap.
+// The commands of the program `replay` that change the heap that is kept.
 #![tactic(auto)]
 
 ghost use Rattle.std.specs.Prelude.{◌≡◌, IfErr};
@@ -10,16 +10,13 @@ use protocol::fields::Fields;
 use protocol::write::{Hex, front, put_answer, put_told};
 use protocol::{Fault, NoCommand};
 use refusal::Answer;
-use replay_calls::{Kept, MOST_POOL, MOST_SLOTS, Scratch};
+use replay_kept::{Kept, Scratch};
 use std::io;
 use std::str::FromStr;
 use yexwalu::heaps;
 
 #[derive(Clone, Copy, Debug, PartialEq, Eq)]
 pub enum Change {
-    New,
-    Load,
-    SetEpoch,
     Alloc,
     Fill,
     Edit,
@@ -30,7 +27,6 @@ pub enum Change {
     Recycle,
     Seal,
     Run,
-    Read,
 }
 
 impl FromStr for Change {
@@ -38,9 +34,6 @@ impl FromStr for Change {
 
     fn from_str(name: &str) -> Result<Change, NoCommand> {
         match name {
-            "new" => Ok(Change::New),
-            "load" => Ok(Change::Load),
-            "setepoch" => Ok(Change::SetEpoch),
             "alloc" => Ok(Change::Alloc),
             "fill" => Ok(Change::Fill),
             "edit" => Ok(Change::Edit),
@@ -51,7 +44,6 @@ impl FromStr for Change {
             "recycle" => Ok(Change::Recycle),
             "seal" => Ok(Change::Seal),
             "run" => Ok(Change::Run),
-            "read" => Ok(Change::Read),
             _ => Err(NoCommand),
         }
     }
@@ -77,70 +69,8 @@ fn settle<F: FnOnce(Heap, &mut [u32], &mut [u64], &mut [u8], &mut [u8], &mut [u6
     done.answer
 }
 
-// The answer of a call that makes a heap in memory of its own: one that is refused leaves the heap that was there.
-fn settle_new(kept: &mut Kept, mut new: Kept, done: Done) -> Answer {
-    if done.answer.number == 0 {
-        new.heap = done.heap;
-        *kept = new;
-    }
-    done.answer
-}
-
 // The most numbers of a list of slots.
 const MOST_LISTED: usize = 65536;
-
-// Tag, slots and pool.
-fn make(line: &mut Fields, kept: &mut Kept) -> Result<Answer, Fault>
-    ensures { IfErr result (λ e. e ≡ Bad → kept.new ≡ kept.old) }
-{
-    let tag = line.byte()?;
-    let slots = line.count(MOST_SLOTS)?;
-    let pool = line.count_or(MOST_POOL)?;
-    let mut new = Kept::new(line.alloc(), slots, pool)?;
-    let mut s = Scratch::new();
-    let done = heaps::new(
-        tag,
-        &mut new.narrow,
-        &mut new.wide,
-        &mut new.pool,
-        &mut s.marks,
-        &mut s.work,
-    );
-    Ok(settle_new(kept, new, done))
-}
-
-// Slots, a page, and the pool.
-fn load(line: &mut Fields, kept: &mut Kept) -> Result<Answer, Fault>
-    ensures { IfErr result (λ e. e ≡ Bad → kept.new ≡ kept.old) }
-{
-    let slots = line.count(MOST_SLOTS)?;
-    let text = line.page()?;
-    let pool = line.count_or(MOST_POOL)?;
-    let mut new = Kept::new(line.alloc(), slots, pool)?;
-    let mut s = Scratch::new();
-    let done = yexwalu::page::read_page(
-        kept.heap,
-        &mut new.narrow,
-        &mut new.wide,
-        &mut new.pool,
-        &text,
-        &mut s.marks,
-        &mut s.work,
-    );
-    Ok(settle_new(kept, new, done))
-}
-
-// The epoch and a log of 16 slots, which stand in the header.
-fn set_epoch(line: &mut Fields, kept: &mut Kept) -> Result<(), Fault>
-    ensures { IfErr result (λ e. e ≡ Bad → kept.new ≡ kept.old) }
-{
-    let epoch = line.word()?;
-    let slots = line.halves(MOST_LISTED)?;
-    let log = <[u32; 16]>::try_from(slots.as_slice()).map_err(|_| Fault::Bad)?;
-    kept.heap.epoch = epoch;
-    kept.heap.log = log;
-    Ok(())
-}
 
 // Kind, type, start and bytes.
 fn alloc(line: &mut Fields, kept: &mut Kept) -> Result<Answer, Fault>
@@ -278,14 +208,6 @@ fn show_taken(rt: &impl Print, kept: &mut Kept, handle: u64) -> io::Result<()> {
     )
 }
 
-// A page that was read: how many bits its write counts have, 1 with `retired` and 0 without, and its column.
-fn put_form(rt: &impl Print, a: Answer) -> io::Result<()> {
-    put_told(rt, a, |bits, form| {
-        let column = if form < 2 { "data" } else { "planes" };
-        print!(rt; " {bits} {} {column}", form % 2)
-    })
-}
-
 /// Runs a line that changes the heap. One that can't be read leaves it as it is.
 // Kept: a `match` on the command, since each has fields of its own to read.
 pub fn answer(
@@ -297,13 +219,6 @@ pub fn answer(
     ensures { IfErr result (λ e. e ≡ Bad → kept.new ≡ kept.old) }
 {
     match change {
-        Change::New => put_answer(rt, make(line, kept)?, 0)?,
-        Change::Load => put_answer(rt, load(line, kept)?, 0)?,
-        Change::Read => put_form(rt, load(line, kept)?)?,
-        Change::SetEpoch => {
-            set_epoch(line, kept)?;
-            println!(rt; "0")?;
-        }
         Change::Alloc => put_answer(rt, alloc(line, kept)?, 1)?,
         Change::Fill => put_filled(rt, fill(line, kept)?)?,
         Change::Edit => put_answer(rt, edit(line, kept)?, 1)?,

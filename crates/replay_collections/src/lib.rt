@@ -5,12 +5,12 @@ ghost use Rattle.std.specs.Prelude.{◌≡◌, IfErr};
 ghost use Rattle.protocol.specs.declared.Fault.TheVariants.{Bad};
 
 use door::Done;
-use protocol::code::Function;
 use protocol::fields::{Fields, HALF, WORD};
-use protocol::table::Table;
 use protocol::write::put_answer;
 use protocol::{Fault, NoCommand};
-use replay_calls::{Kept, Scratch};
+use replay_kept::code::Function;
+use replay_kept::table::Table;
+use replay_kept::{Kept, Scratch};
 use std::str::FromStr;
 use yexwalu::heaps;
 

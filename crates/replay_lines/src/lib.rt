@@ -4,13 +4,12 @@
 ghost use Rattle.std.specs.Prelude.{◌≡◌, true, [], length, IfOk};
 
 use protocol::Fault;
-use protocol::code::{self, Function};
 use protocol::fields::Fields;
-use protocol::table::{self, Table};
-use replay_calls::{Kept, MOST_POOL, MOST_SLOTS, ask};
 use replay_changes::Change;
 use replay_collections::Collection;
-use replay_types::{live, types};
+use replay_kept::code::{self, Function};
+use replay_kept::table::{self, Table};
+use replay_kept::{Kept, MOST_POOL, MOST_SLOTS};
 use std::alloc::{AllocError, Global};
 use std::io;
 
@@ -60,11 +59,14 @@ impl State {
 
     // A line that asks the heap, or changes it.
     fn run_on_heap(&mut self, rt: &impl Print, name: &str, line: &mut Fields) -> Result<(), Fault> {
+        if let Ok(command) = name.parse::<replay_heaps::Command>() {
+            return replay_heaps::answer(rt, command, line, &mut self.kept);
+        }
         if let Ok(change) = name.parse::<Change>() {
             return replay_changes::answer(rt, change, line, &mut self.kept);
         }
-        if let Ok(question) = name.parse::<ask::Question>() {
-            return ask::answer(rt, question, line, &self.kept);
+        if let Ok(question) = name.parse::<replay_calls::Question>() {
+            return replay_calls::answer(rt, question, line, &self.kept);
         }
         if let Ok(collection) = name.parse::<Collection>() {
             return replay_collections::answer(
@@ -97,11 +99,11 @@ impl State {
         if name == replay_rehearsals::NAME {
             return replay_rehearsals::answer(rt, line, &self.table);
         }
-        if let Ok(question) = name.parse::<types::Question>() {
-            return types::answer(rt, question, line, &self.table);
+        if let Ok(question) = name.parse::<replay_types::Question>() {
+            return replay_types::answer(rt, question, line, &self.table);
         }
-        if let Ok(question) = name.parse::<live::Question>() {
-            return live::answer(rt, question, line, &self.code);
+        if let Ok(question) = name.parse::<replay_live::Question>() {
+            return replay_live::answer(rt, question, line, &self.code);
         }
         if let Ok(command) = name.parse::<replay_saves::Command>() {
             return replay_saves::answer(

@@ -3,10 +3,10 @@
 
 use protocol::Fault;
 use protocol::fields::{Fields, WORD};
-use protocol::table::Table;
 use protocol::write::{put_page, put_told};
 use refusal::Answer;
-use replay_calls::Kept;
+use replay_kept::Kept;
+use replay_kept::table::Table;
 use yexwalu::heaps;
 
 /// The name of the command.

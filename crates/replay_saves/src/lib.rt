@@ -5,11 +5,11 @@ ghost use Rattle.std.specs.Prelude.{◌≡◌, ◌≢◌};
 ghost use Rattle.replay_saves.specs.declared.Command.TheVariants.{Swap};
 
 use protocol::fields::{Fields, WORD};
-use protocol::table::Table;
 use protocol::write::{put_answer, put_told};
 use protocol::{Fault, NoCommand};
 use refusal::Answer;
-use replay_calls::{Kept, Scratch};
+use replay_kept::table::Table;
+use replay_kept::{Kept, Scratch};
 use std::str::FromStr;
 use std::{io, mem};
 use yexwalu::heaps;

@@ -6,9 +6,9 @@ ghost use Rattle.protocol.specs.declared.Fault.TheVariants.{Bad};
 ghost use Rattle.replay_tables.specs.declared.Command.TheVariants.{Write};
 
 use protocol::fields::Fields;
-use protocol::table::{MOST_BYTES, MOST_CONSTS, MOST_FIELDS, MOST_TYPES, Table};
 use protocol::write::{put_page, put_told};
 use protocol::{Fault, NoCommand};
+use replay_kept::table::{MOST_BYTES, MOST_CONSTS, MOST_FIELDS, MOST_TYPES, Table};
 use std::alloc::{AllocError, Global};
 use std::io;
 use std::str::FromStr;

@@ -2,11 +2,11 @@
 #![tactic(auto)]
 
 use protocol::fields::Fields;
-use protocol::table::Table;
 use protocol::write::{List, front, put_told};
 use protocol::{Fault, NoCommand};
 use refusal::Answer;
-use replay_calls::{Kept, Scratch};
+use replay_kept::table::Table;
+use replay_kept::{Kept, Scratch};
 use std::io;
 use std::str::FromStr;
 use yexwalu::{handles, heaps};

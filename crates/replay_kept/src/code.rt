@@ -2,8 +2,8 @@
 ghost use Rattle.std.specs.Prelude.{◌≡◌, [], IfErr};
 ghost use Rattle.protocol.specs.declared.Fault.TheVariants.{Bad};
 
-use crate::fields::{BYTE, Fields};
-use crate::{Fault, NoCommand};
+use protocol::fields::{BYTE, Fields};
+use protocol::{Fault, NoCommand};
 use std::alloc::Global;
 use std::str::FromStr;
 
@@ -56,7 +56,7 @@ fn place(x: usize) -> Result<u32, Fault> {
 }
 
 impl Function {
-    ghost use Rattle.protocol.specs.Kept.{SameFunction};
+    ghost use Rattle.replay_kept.specs.Kept.{SameFunction};
 
     /// A function without registers, blocks and instructions.
     pub fn new(alloc: Global) -> Function

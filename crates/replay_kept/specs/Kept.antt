@@ -1,7 +1,7 @@
 -- A type table and a function that a line left as they were.
 use Rattle.std.specs.Prelude.{◌≡◌}
-use Rattle.protocol.specs.declared.table.Table.{Table}
-use Rattle.protocol.specs.declared.code.Function.{Function}
+use Rattle.replay_kept.specs.declared.table.Table.{Table}
+use Rattle.replay_kept.specs.declared.code.Function.{Function}
 
 pub record SameTable (t t' : Table) : Type 0 where
   pub types : t'.types.items ≡ t.types.items

@@ -2,8 +2,8 @@
 ghost use Rattle.std.specs.Prelude.{◌≡◌, [], IfErr};
 ghost use Rattle.protocol.specs.declared.Fault.TheVariants.{Bad};
 
-use crate::fields::{Fields, HALF};
-use crate::{Fault, NoCommand};
+use protocol::fields::{Fields, HALF};
+use protocol::{Fault, NoCommand};
 use std::alloc::Global;
 use std::str::FromStr;
 
@@ -47,7 +47,7 @@ impl FromStr for Command {
 }
 
 impl Table {
-    ghost use Rattle.protocol.specs.Kept.{SameTable};
+    ghost use Rattle.replay_kept.specs.Kept.{SameTable};
 
     /// A table without types.
     pub fn new(alloc: Global) -> Table

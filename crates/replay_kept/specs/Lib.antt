@@ -1,0 +1,2 @@
+-- What a line leaves of a type table and a function.
+pub mod Kept

@@ -1,0 +1,72 @@
+// What the program `replay` keeps from line to line: a heap, the type table and the function that lines make; and the scratch that a call is lent.
+#![tactic(auto)]
+
+ghost use Rattle.std.specs.Prelude.{◌≡◌, [], length, replicate, IfOk};
+ghost use Rattle.heap.specs.Lent.{header_of};
+ghost use Rattle.heap.specs.Calls.{new as new_heap};
+
+use heap::Heap;
+use std::alloc::{AllocError, Global};
+
+pub mod code;
+pub mod table;
+
+/// The most slots and bytes of a heap.
+pub const MOST_SLOTS: u64 = 8192;
+
+pub const MOST_POOL: u64 = 65536;
+
+/// A heap: its header, six numbers of 32 bits and four of 64 bits a slot, and its data.
+#[derive(Drop)]
+pub struct Kept {
+    pub heap: Heap,
+    pub narrow: Vec<u32>,
+    pub wide: Vec<u64>,
+    pub pool: Vec<u8>,
+}
+
+impl Kept {
+    /// A heap of tag 1 without slots and data.
+    pub fn empty(alloc: Global) -> Kept
+        ensures lists { (result.narrow.items ≡ []) × (result.wide.items ≡ []) × (result.pool.items ≡ []) }
+        ensures header { result.heap ≡ header_of (new_heap 1) }
+    {
+        Kept {
+            heap: Heap::new(1),
+            narrow: Vec::new(alloc),
+            wide: Vec::new(alloc),
+            pool: Vec::new(alloc),
+        }
+    }
+
+    /// A heap of tag 1, in memory that is zero.
+    pub fn new(alloc: Global, slots: usize, pool: usize) -> Result<Kept, AllocError>
+        ensures { IfOk result (λ kept. length kept.pool.items ≡ pool) }
+    {
+        let mut kept = Kept::empty(alloc);
+        kept.narrow = vec![in alloc; 0; slots.saturating_mul(6)]?;
+        kept.wide = vec![in alloc; 0; slots.saturating_mul(4)]?;
+        kept.pool = vec![in alloc; 0; pool]?;
+        Ok(kept)
+    }
+}
+
+/// What a call is lent as scratch. It holds 7 everywhere, since no call may rely on what it finds there.
+// Kept: arrays, here and where a call of the front door is lent room for its answer: they last for one call and never change their length. With `vec![in alloc; 7; 8192]?` in their place
+// `new`, `ask` and all that go through them, 24 calls in the crates of commands, would answer a `Result` for memory that can't run out now.
+#[derive(Clone, Copy)]
+pub struct Scratch {
+    pub marks: [u8; 8192],
+    pub work: [u64; 8192],
+}
+
+impl Scratch {
+    pub fn new() -> Scratch
+        ensures { (result.marks ≡ replicate 8192 7) × (result.work ≡ replicate 8192 7) }
+    {
+        Scratch {
+            marks: [7; 8192],
+            work: [7; 8192],
+        }
+    }
+}
