@@ -145,7 +145,7 @@ fn mark_frame(
     )?;
     let mut queue = Queue { marks, work, n };
     queue.seed_joined(here, registers, frame, sealed, pins, pairs);
-    queue.drain(table, objects, 0)?;
+    queue.drain(table, &objects, 0)?;
     Some(queue.n)
 }
 

@@ -29,12 +29,12 @@ pub use objects::{Objects, seals};
 
 impl Queue<'_> {
     // What each handle that slot `i` shows leads to is marked and queued.
-    fn trace_at(&mut self, table: &Table, objects: Objects, i: usize) -> Option<()>
-        requires ready { IsReady objects.slots.slots self.old }
-        requires i_lt_slots { i < objects.slots.slots }
-        ensures { Reaches objects.entry.slots.slots self.old self.new result
-            (following (leads objects.entry.slots) (state self.old)
-            (shown_in (lent table.now) objects.entry.slots.s objects.entry.slots.narrow.now objects.entry.wide.now objects.entry.pool.now i)) }
+    fn trace_at(&mut self, table: &Table, objects: &Objects, i: usize) -> Option<()>
+        requires ready { IsReady objects.now.slots.slots self.old }
+        requires i_lt_slots { i < objects.now.slots.slots }
+        ensures { Reaches objects.now.slots.slots self.old self.new result
+            (following (leads objects.now.slots) (state self.old)
+            (shown_in (lent table.now) objects.now.slots.s objects.now.slots.narrow.now objects.now.wide.now objects.now.pool.now i)) }
     {
         let here = objects.slots;
         let Slots {
@@ -63,10 +63,10 @@ impl Queue<'_> {
     }
 
     // The queue is gone through from its object at `from` on: those before it are traced.
-    pub fn drain(&mut self, table: &Table, objects: Objects, from: usize) -> Option<()>
-        requires { IsReady objects.slots.slots self.old }
-        ensures { Reaches objects.entry.slots.slots self.old self.new result
-            (drained (graph_of (lent table.now) objects.entry) (objects.entry.slots.slots - from) (state self.old) from) }
+    pub fn drain(&mut self, table: &Table, objects: &Objects, from: usize) -> Option<()>
+        requires { IsReady objects.now.slots.slots self.old }
+        ensures { Reaches objects.now.slots.slots self.old self.new result
+            (drained (graph_of (lent table.now) objects.now) (objects.now.slots.slots - from) (state self.old) from) }
     {
         let mut next = from;
         // Kept: the queue grows while it is gone through, so no range or slice of it is there before.
@@ -100,7 +100,7 @@ pub fn mark_from(
 {
     let mut queue = Queue { marks, work, n };
     queue.seed(objects.slots, roots, sealed, pins);
-    queue.drain(table, objects, 0)?;
+    queue.drain(table, &objects, 0)?;
     Some(queue.n)
 }
 

@@ -27,8 +27,8 @@ impl Search<'_> {
     ghost use Rattle.wanted_door.specs.Inner.Searching.{graph, held, slots};
 
     // Is there an object in slot `w`?
-    fn is_live(self, w: u32) -> bool
-        ensures { result ≡ lives self.entry.objects.slots w }
+    fn is_live(&self, w: u32) -> bool
+        ensures { result ≡ lives self.now.objects.slots w }
     {
         let Slots {
             slots,
@@ -44,11 +44,11 @@ impl Search<'_> {
     }
 
     // Unless slot `w` is marked, it and what it leads to are marked, and `note` is noted of it.
-    fn meet(self, queue: &mut Queue, w: u32, note: u32) -> Option<()>
-        requires ready { IsReady (slots self) queue.old }
-        requires w_lt_slots { w < slots self }
-        ensures { GoesTo (slots self.entry) queue.old queue.new result
-            (meeting (graph self.entry) (slots self.entry) note w (going_in queue.old)) }
+    fn meet(&self, queue: &mut Queue, w: u32, note: u32) -> Option<()>
+        requires ready { IsReady (slots self.now) queue.old }
+        requires w_lt_slots { w < slots self.now }
+        ensures { GoesTo (slots self.now) queue.old queue.new result
+            (meeting (graph self.now) (slots self.now) note w (going_in queue.old)) }
     {
         let i = w as usize;
         if queue.marks[i] != 0 {
@@ -56,16 +56,16 @@ impl Search<'_> {
         }
         let from = queue.n;
         queue.n = trace::queue(queue.marks, queue.work, from, w);
-        queue.drain(&self.table, self.objects, from)?;
+        queue.drain(&self.table, &self.objects, from)?;
         queue.work[i] = queue.work[i] % 4294967296 + (note as u64) * 4294967296;
         Some(())
     }
 
     // The wanted slots, rising: each that is not marked yet is a candidate. None: one is no object, or leads to what can't be traced.
-    fn candidates(self, queue: &mut Queue) -> Option<()>
-        requires { IsReady (slots self) queue.old }
-        ensures { GoesTo (slots self.entry) queue.old queue.new result
-            (upward (graph self.entry) (slots self.entry) self.entry.wanted.now (going_in queue.old)) }
+    fn candidates(&self, queue: &mut Queue) -> Option<()>
+        requires { IsReady (slots self.now) queue.old }
+        ensures { GoesTo (slots self.now) queue.old queue.new result
+            (upward (graph self.now) (slots self.now) self.now.wanted.now (going_in queue.old)) }
     {
         for w in self.wanted {
             if !self.is_live(*w) {
@@ -77,11 +77,11 @@ impl Search<'_> {
     }
 
     // A candidate is met once more; another slot is passed over.
-    fn again(self, queue: &mut Queue, w: u32) -> Option<()>
-        requires ready { IsReady (slots self) queue.old }
-        requires w_lt_slots { w < slots self }
-        ensures { GoesTo (slots self.entry) queue.old queue.new result
-            (search.again (graph self.entry) (slots self.entry) w (going_in queue.old)) }
+    fn again(&self, queue: &mut Queue, w: u32) -> Option<()>
+        requires ready { IsReady (slots self.now) queue.old }
+        requires w_lt_slots { w < slots self.now }
+        ensures { GoesTo (slots self.now) queue.old queue.new result
+            (search.again (graph self.now) (slots self.now) w (going_in queue.old)) }
     {
         let i = w as usize;
         if queue.work[i] / 4294967296 != 1 {
@@ -91,11 +91,11 @@ impl Search<'_> {
     }
 
     // The candidates, falling: each that is not marked yet is a root.
-    fn choose(self, queue: &mut Queue) -> Option<()>
-        requires ready { IsReady (slots self) queue.old }
-        requires inside { Inside self.wanted.now (slots self) }
-        ensures { GoesTo (slots self.entry) queue.old queue.new result
-            (downward (graph self.entry) (slots self.entry) self.entry.wanted.now (length self.entry.wanted.now) (going_in queue.old)) }
+    fn choose(&self, queue: &mut Queue) -> Option<()>
+        requires ready { IsReady (slots self.now) queue.old }
+        requires inside { Inside self.now.wanted.now (slots self.now) }
+        ensures { GoesTo (slots self.now) queue.old queue.new result
+            (downward (graph self.now) (slots self.now) self.now.wanted.now (length self.now.wanted.now) (going_in queue.old)) }
     {
         for w in self.wanted.iter().rev() {
             self.again(queue, *w)?;
@@ -104,13 +104,13 @@ impl Search<'_> {
     }
 
     // Can just the wanted slots be kept? What seals, pins and they lead to can be traced, and is not more than they. 1 is noted of the candidates.
-    fn can_keep(self, marks: &mut [u8], work: &mut [u64]) -> bool
-        requires { Clear (slots self) marks.old work.old }
+    fn can_keep(&self, marks: &mut [u8], work: &mut [u64]) -> bool
+        requires { Clear (slots self.now) marks.old work.old }
         ensures work_after { notes_if result work.new
-            ≡ notes_of (firstly (graph self.entry) (held self.entry) (slots self.entry) self.entry.wanted.now (map high work.old)) }
-        ensures inside { result ≡ true → Inside self.entry.wanted.now (slots self.entry) }
+            ≡ notes_of (firstly (graph self.now) (held self.now) (slots self.now) self.now.wanted.now (map high work.old)) }
+        ensures inside { result ≡ true → Inside self.now.wanted.now (slots self.now) }
     {
-        let Search { sealed, pins, .. } = self;
+        let Search { sealed, pins, .. } = *self;
         let r = mark::mark_from(&self.table, self.objects, &[], sealed, pins, marks, work, 0);
         let Some(n) = r else {
             return false;
@@ -124,13 +124,13 @@ impl Search<'_> {
     }
 
     // Of the candidates those are roots that no later root leads to: 2 is noted of them.
-    fn choose_roots(self, marks: &mut [u8], work: &mut [u64]) -> bool
-        requires room { Room (slots self) marks.old work.old }
-        requires inside { Inside self.wanted.now (slots self) }
+    fn choose_roots(&self, marks: &mut [u8], work: &mut [u64]) -> bool
+        requires room { Room (slots self.now) marks.old work.old }
+        requires inside { Inside self.now.wanted.now (slots self.now) }
         ensures { notes_if result work.new
-            ≡ notes_of (secondly (graph self.entry) (held self.entry) (slots self.entry) self.entry.wanted.now (map high work.old)) }
+            ≡ notes_of (secondly (graph self.now) (held self.now) (slots self.now) self.now.wanted.now (map high work.old)) }
     {
-        let Search { sealed, pins, .. } = self;
+        let Search { sealed, pins, .. } = *self;
         marks.fill(0);
         let r = mark::mark_from(&self.table, self.objects, &[], sealed, pins, marks, work, 0);
         let Some(n) = r else {
@@ -141,11 +141,11 @@ impl Search<'_> {
     }
 
     // Can just the wanted slots be kept? Then 2 is noted of those that are to be roots.
-    pub fn pick_roots(self, marks: &mut [u8], work: &mut [u64]) -> bool
-        requires { Clear (slots self) marks.old work.old }
+    pub fn pick_roots(&self, marks: &mut [u8], work: &mut [u64]) -> bool
+        requires { Clear (slots self.now) marks.old work.old }
         ensures work_after { notes_if result work.new
-            ≡ searched (graph self.entry) (held self.entry) (slots self.entry) self.entry.wanted.now (map high work.old) }
-        ensures inside { result ≡ true → Inside self.entry.wanted.now (slots self.entry) }
+            ≡ searched (graph self.now) (held self.now) (slots self.now) self.now.wanted.now (map high work.old) }
+        ensures inside { result ≡ true → Inside self.now.wanted.now (slots self.now) }
     {
         if !self.can_keep(marks, work) {
             return false;

@@ -6,4 +6,4 @@ use Rattle.wanted_door.proofs.Goings.{Upward}
 use Rattle.wanted_door.proofs.pick.Search.candidates.Given as goal
 
 abbrev pub invariant-loop-w : goal.invariant-loop-w
-invariant-loop-w l = Upward (graph l.fn.self) (slots l.fn.self) l.fn.self.wanted.now l.initial.queue (upward (graph l.fn.self) (slots l.fn.self) l.fn.self.wanted.now (going_in l.initial.queue)) l.queue l.w-index
+invariant-loop-w l = Upward (graph l.self) (slots l.self) l.self.wanted.now l.initial.queue (upward (graph l.self) (slots l.self) l.self.wanted.now (going_in l.initial.queue)) l.queue l.w-index

@@ -8,4 +8,4 @@ use Rattle.wanted_door.proofs.Goings.{Downward}
 use Rattle.wanted_door.proofs.pick.Search.choose.Given as goal
 
 abbrev pub invariant-loop-w : goal.invariant-loop-w
-invariant-loop-w l = Downward (graph l.fn.self) (slots l.fn.self) l.fn.self.wanted.now l.initial.queue (downward (graph l.fn.self) (slots l.fn.self) l.fn.self.wanted.now (length l.fn.self.wanted.now) (going_in l.initial.queue)) l.queue (length l.fn.self.wanted.now - length l.yielded)
+invariant-loop-w l = Downward (graph l.self) (slots l.self) l.self.wanted.now l.initial.queue (downward (graph l.self) (slots l.self) l.self.wanted.now (length l.self.wanted.now) (going_in l.initial.queue)) l.queue (length l.self.wanted.now - length l.yielded)
