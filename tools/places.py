@@ -1,5 +1,5 @@
 #!/usr/bin/env python3
-"""Counts the places where the code is written in an older form than Rattle has today, by the points of docs/DESIGN-PASS.md.
+"""Counts the places of sources that a trait, a generic function, an iterator or a struct of loans might shorten. The points are those of docs/DESIGN-PASS.md.
 
     python3 tools/places.py [-v] [TOP]
 
