@@ -1,10 +1,11 @@
 -- What is said of a function that is lent, of its parts and of a plan: a function that passed its test, what is asked of it, and the shape of the scratch.
 use Rattle.std.specs.Prelude.{Bool, List, ℕ, ◌+◌, ◌*◌, ◌≤◌, length}
 use Rattle.flow.specs.Function.{Function}
-use Rattle.roots.specs.Columns.{wanted, seen}
+use Rattle.roots.specs.Columns.{wanted, seen, Chains, Begun, Built}
 use Rattle.roots.specs.Calls.{Lent}
 use Rattle.roots.specs.declared.Code.{Code}
 use Rattle.roots.specs.declared.Registers.{Registers}
+use Rattle.roots.specs.declared.Blocks.{Blocks}
 use Rattle.roots.specs.declared.Flow.{Flow}
 use Rattle.roots.specs.declared.Plan.{Plan}
 
@@ -40,3 +41,17 @@ out_row f = f.blocks.count * (3 * f.words)
 -- there is room for the rows of the blocks and two more
 abbrev pub Room : Flow → List ℕ → Type 0
 Room f s = out_row f + 2 * f.words ≤ length s
+
+-- the chains of the blocks by their start
+abbrev pub StartChains : Blocks → (heads links : List ℕ) → Type 0
+StartChains bs = Chains bs.bounds.now 0 bs.count 0
+
+-- the rows of block b of a plan are begun, in words that were zero
+abbrev pub BegunIn : Plan → (s s' : List ℕ) (b : ℕ) → Type 0
+BegunIn p s s' =
+    Begun (wanted p.flow.registers.which) p.flow.registers.ends.now p.flow.registers.refs.now p.flow.blocks.bounds.now p.flow.registers.classes.now s s' p.flow.blocks.count p.flow.words
+
+-- those of every block
+abbrev pub BuiltIn : Plan → (s s' : List ℕ) → Type 0
+BuiltIn p s s' =
+    Built (wanted p.flow.registers.which) p.flow.registers.ends.now p.flow.registers.refs.now p.flow.blocks.bounds.now p.flow.registers.classes.now s s' p.flow.blocks.count p.flow.words

@@ -4,8 +4,8 @@
 ghost use Rattle.std.specs.Prelude.{◌≡◌, Bool, true, false, ◌||◌, List, ℕ, ◌+◌, ◌-◌, ◌*◌, ◌≤◌, ◌<◌, length, get_or};
 ghost use Rattle.flow.specs.Function.{existing};
 ghost use Rattle.flow.specs.Dataflow.{back, killed, any_of, out};
-ghost use Rattle.roots.specs.Columns.{wanted, Outside, cell, live_at, Linked, Chains, Begun, Built, Pass, Solved, Fixed};
-ghost use Rattle.roots.specs.Plans.{part_seen, all_seen, tested, out_row, Room};
+ghost use Rattle.roots.specs.Columns.{Outside, cell, live_at, Linked, Pass, Solved, Fixed};
+ghost use Rattle.roots.specs.Plans.{part_seen, all_seen, tested, out_row, Room, StartChains, BegunIn, BuiltIn};
 
 use crate::chains::{BlockChains, NO_BLOCK};
 use crate::row::{back_row, kill_row};
@@ -173,9 +173,9 @@ fn solve(s: &mut [u64], flow: &Flow)
 
 // The rows of block b, in words that are zero: gen, kill, and the block that it falls through to.
 fn start_block(s: &mut [u64], plan: &Plan, b: usize, starts: &BlockChains)
-    requires nb_value { (b < plan.now.flow.blocks.count) × Room plan.now.flow s.old × (0 < plan.now.flow.words) × Chains plan.now.flow.blocks.bounds.now 0 plan.now.flow.blocks.count 0 starts.now.heads starts.now.links }
+    requires nb_value { (b < plan.now.flow.blocks.count) × Room plan.now.flow s.old × (0 < plan.now.flow.words) × StartChains plan.now.flow.blocks starts.now.heads starts.now.links }
     requires by_index { (i : ℕ) → b * (3 * plan.now.flow.words) ≤ i → get_or s.old i 0 ≡ 0 }
-    ensures { Begun (wanted plan.now.flow.registers.which) plan.now.flow.registers.ends.now plan.now.flow.registers.refs.now plan.now.flow.blocks.bounds.now plan.now.flow.registers.classes.now s.old s.new plan.now.flow.blocks.count plan.now.flow.words b }
+    ensures { BegunIn plan.now s.old s.new b }
 {
     let Flow {
         registers,
@@ -197,9 +197,9 @@ fn start_block(s: &mut [u64], plan: &Plan, b: usize, starts: &BlockChains)
 
 // The rows of every block, in a scratch of zeros, from the chains of the blocks by their start.
 fn start_blocks(s: &mut [u64], plan: &Plan, starts: &BlockChains)
-    requires nb_value { Room plan.now.flow s.old × (0 < plan.now.flow.words) × Chains plan.now.flow.blocks.bounds.now 0 plan.now.flow.blocks.count 0 starts.now.heads starts.now.links }
+    requires nb_value { Room plan.now.flow s.old × (0 < plan.now.flow.words) × StartChains plan.now.flow.blocks starts.now.heads starts.now.links }
     requires by_index_2 { (i : ℕ) → get_or s.old i 0 ≡ 0 }
-    ensures { Built (wanted plan.now.flow.registers.which) plan.now.flow.registers.ends.now plan.now.flow.registers.refs.now plan.now.flow.blocks.bounds.now plan.now.flow.registers.classes.now s.old s.new plan.now.flow.blocks.count plan.now.flow.words }
+    ensures { BuiltIn plan.now s.old s.new }
 {
     for b in 0..plan.flow.blocks.count {
         start_block(s, plan, b, starts);
@@ -210,7 +210,7 @@ fn start_blocks(s: &mut [u64], plan: &Plan, starts: &BlockChains)
 fn build(s: &mut [u64], plan: &Plan)
     requires nb_value { Room plan.now.flow s.old × (0 < plan.now.flow.words) }
     requires by_index_2 { (i : ℕ) → get_or s.old i 0 ≡ 0 }
-    ensures { Built (wanted plan.now.flow.registers.which) plan.now.flow.registers.ends.now plan.now.flow.registers.refs.now plan.now.flow.blocks.bounds.now plan.now.flow.registers.classes.now s.old s.new plan.now.flow.blocks.count plan.now.flow.words }
+    ensures { BuiltIn plan.now s.old s.new }
 {
     let mut starts = BlockChains {
         heads: [NO_BLOCK; 4096],
