@@ -10,7 +10,7 @@ use native.Mathlib.Omega.{arith}
 use Rattle.std.specs.Prelude.{Some, None}
 use Rattle.word.specs.Result.{Result, ok, refused}
 use Rattle.ty.specs.Types.{Table}
-use Rattle.layout.proofs.LayLaws.{rest}
+use Rattle.word.proofs.ListLaws.{rest}
 use Rattle.trace.specs.Places.{both, handle_at, value_handles}
 use Rattle.trace.specs.Emit.{Answer, Raw, raw_of, Into, emitted, emit_all, emitting, told}
 use Rattle.trace.proofs.Emits.{then-words, fail-words, told-traced, told-untraceable}

@@ -44,7 +44,7 @@ times-in p b (suc n) x h l =
       | no ne ↦ one-low (p b) b x (passing p (suc b) n) ne ∙ times-in p (suc b) n x (omega arith) (omega arith)
     ]
 
-bit-positive : (t : Bool) → ltb 0 (bit t) ≡ t
+pub bit-positive : (t : Bool) → ltb 0 (bit t) ≡ t
 bit-positive true = refl
 bit-positive false = refl
 

@@ -23,12 +23,8 @@ use Rattle.ty.proofs.WalkLaws.{fields-first, fields-last, fields-next}
 use Rattle.layout.specs.Layout.{Lay, Dims, dims_of, on_bytes, under, used_by, array_laid, array_of, end_of, placed, record_of, scalar_laid, scalar_layout, layout_by, layout_at}
 use Rattle.layout.specs.Lent.{scalar_part}
 use Rattle.layout.specs.declared.Layout.{Layout}
-use lib.Seq.{take_all}
+use Rattle.word.proofs.ListLaws.{rest}
 use Rattle.layout.proofs.Within.{used-within, dims-within}
-
--- the part of a descriptor from a on, as the code lends it
-pub rest : (a : ℕ) (d : List ℕ) → take (length d - a) (drop a d) ≡ drop a d
-rest a d = take_all (length d - a) (drop a d) (omega (arith, length-drop a d))
 
 -- what an element or a field uses of that part
 pub rest-used : (T : Table) (n e c a : ℕ) (d : List ℕ) (l : Lay) → l ≡ under T (layout_at T n) e c (take (length d - a) (drop a d)) → (v : Layout) → l ≡ Ok v → (u' : ℕ) → u' ≡ used_by c v.used → a ≤ length d → a + u' ≤ length d

@@ -22,7 +22,7 @@ use Rattle.ty.proofs.WalkLaws.{fields-first, fields-last, fields-next}
 use Rattle.layout.specs.Layout.{Lay, under, used_by, layout_at, layout_of}
 use Rattle.layout.specs.Offsets.{if_laid, offsets_from, offsets_of, fields_of, told, layout_call}
 use Rattle.layout.specs.declared.Layout.{Layout}
-use Rattle.layout.proofs.LayLaws.{rest}
+use Rattle.word.proofs.ListLaws.{rest}
 
 module _ (T : Table) (next : ℕ → List ℕ → Lay) (fs : List ℕ) (f n i : ℕ) (d : List ℕ) (off used : ℕ) where
   pub off-last : n ≤ i → offsets_from T next (fields_from fs (f + i) (n - i)) d off used ≡ []

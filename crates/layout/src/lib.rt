@@ -2,7 +2,7 @@
 #![tactic(auto)]
 
 ghost use Rattle.std.specs.Prelude.{◌≡◌, true, length, Ok, Some};
-ghost use Prim.Native.Nat.{ℕ, ◌+◌, ◌-◌, ◌*◌, ◌/◌, ◌≤◌, max};
+ghost use Prim.Native.Nat.{◌+◌, ◌-◌, ◌*◌, ◌/◌, ◌≤◌, max};
 ghost use Rattle.word.specs.Put.{put};
 ghost use Rattle.ty.specs.Types.{type_at};
 ghost use Rattle.ty.specs.Words.{word_of, round_up};

@@ -8,7 +8,6 @@ use lib.ListN.{length, get_or, take, drop, replicate, length-map, get_or-map}
 use lib.Seq.{length-take-le, get_or-take}
 use lib.Dec.{ltb}
 use borrow.Author.Tests.{lt-ltb, le-ltb}
-use native.Mathlib.Nat.{sub-zero}
 use native.Mathlib.Numerals.{add-one}
 use native.Mathlib.Omega.{arith}
 use Rattle.trace.specs.Emit.{Answer}
@@ -24,7 +23,7 @@ use Rattle.mark.specs.Graph.{leads_to, shown_in, graph_in}
 use Rattle.mark.specs.Scratch.{low, state_of, Noted, NotedBy, Scratch, following, Traces, seeded_from}
 use Rattle.mark.specs.Told.{marks_in, starts_of, Ready}
 use Rattle.mark.specs.declared.queue.Queue.{Queue}
-use Rattle.mark.specs.Queues.{state, IsReady, SameLoans, Becomes, counted, Reaches}
+use Rattle.mark.specs.Queues.{state, IsReady, SameLoans, counted, Reaches}
 use Rattle.mark.proofs.States.{scratch-start, same-again, then-same}
 use Rattle.reach.proofs.Grown.{∈-get_or, good-room}
 
@@ -179,18 +178,6 @@ drained-live G L (suc f) s k =
     (fun_ext (λ (hs : List ℕ). drained-live G L f (follow_all G.resolve s hs) (suc k)))
 
 -- ---- the whole
-
-pub from-done : (G : Graph) (slots : ℕ) (q q₁ q₂ : Queue) (s : State) → Becomes slots q q₁ s → (r : Maybe Unit) → Reaches slots q₁ q₂ r (drained G (slots - 0) (state q₁) 0) → Reaches slots q q₂ r (drained G slots s 0)
-from-done G slots q q₁ q₂ s h r t =
-    record {
-      loans = then-same h.loans t.loans;
-      traces = subst (λ (f : ℕ). Traces (counted r q₂) slots q₂.marks.now q₂.work.now (drained G f s 0)) (sub-zero slots) (subst (λ (x : State). Traces (counted r q₂) slots q₂.marks.now q₂.work.now (drained G (slots - 0) x 0)) h.holds.state t.traces);
-      noted = from-noted q.work.now q₁.work.now q₂.work.now (counted r q₂) h.noted t.noted;
-    }
-  where
-    from-noted : (a b c : List ℕ) (x : Answer) → Noted a b → NotedBy x b c → NotedBy x a c
-    from-noted a b c (Some n) f g = g ∙ f
-    from-noted a b c None f g = tt
 
 module _ (slots : ℕ) (marks work : List ℕ) (ready : Ready slots marks work) where
   pub first-clear : take slots marks ≡ replicate slots 0

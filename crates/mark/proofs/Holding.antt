@@ -10,7 +10,7 @@ use borrow.Author.Tests.{lt-ltb, le-ltb, le-leb, lt-leb, eq-eqb, ne_eqb}
 use native.Mathlib.Omega.{arith}
 use Rattle.std.specs.Prelude.{if◌then◌else◌}
 use Rattle.word.proofs.ListLaws.{drop-cons-one}
-use Rattle.layout.proofs.LayLaws.{rest}
+use Rattle.word.proofs.ListLaws.{rest}
 use Rattle.trace.specs.Places.{handle_at}
 use Rattle.addresses.specs.Listed.{slot_of, slots_of}
 use Rattle.addresses.specs.Told.{told}

@@ -1,3 +1,2 @@
 -- What the proofs and other crates' proofs cite.
-pub mod Cases
 pub mod Numbers

@@ -16,6 +16,7 @@ use native.Mathlib.Nat.{zero-add}
 use borrow.Author.Tests.{le-leb, lt-leb, eq-eqb, ne_eqb, leb-true, leb-false, ltb-true}
 use Rattle.std.proofs.lemmas.List.{get_or_read}
 use Rattle.word.proofs.ListLaws.{drop-cons-one}
+use Rattle.word.proofs.Bools.{and_both}
 use Rattle.text.specs.Text.{◌>>=◌, give, decimal, hex, newline, Bytes, digit_of, Stops, ends, scan, capped, after, read_decimal, read_literal, hex_digit_of, byte_of, read_hex, read_field}
 use Rattle.text.specs.Format.{Format, Right, either, number}
 use Rattle.std.specs.Prelude.{Option, Some, None, MatchOption, MatchBool, is_some}
@@ -237,10 +238,6 @@ module _ (s : List ℕ) (n i : ℕ) where
               (rw (both_some (get_or s i 0) (get_or s (i + 1) 0) first-is.0 y.0 (drop (i + 2) s) inside-line first-is.1 (ap hex_digit_of (sym second) ∙ y.1))
               (one_more (length s) n (first-is.0 * 16 + y.0) (read_hex (drop (i + 2) s))))
 
-and-both : (a b : Bool) → (a && b) ≡ true → (a ≡ true) × (b ≡ true)
-and-both true b e = (refl, e)
-and-both false b e = absurd (true≢false (sym e))
-
 -- which bytes are hexadecimal digits, and which are none
 pub not-hex : (b : ℕ) → b < 48 → hex_digit_of b ≡ none
 unfolding hex_digit_of
@@ -310,7 +307,7 @@ looking-next {s} {at} {j} {all} {r} v less d =
     record {
       room = v.room;
       few = omega arith;
-      each = λ z k h. let w = and-both all r z in elim (ℕ_discrete k j) [
+      each = λ z k h. let w = and_both all r z in elim (ℕ_discrete k j) [
         | yes e ↦ subst (λ (x : ℕ). HexDigit (get_or s (at + x) 0)) (sym e) (d w.1)
         | no n ↦ v.each w.0 k (omega (arith, n))
       ];
@@ -326,9 +323,6 @@ looking-on {s} {at} {n} {j} true v e h d =
     let q : get_or (take n (drop at s)) j 0 ≡ get_or s (at + j) 0 = get_or-take n (drop at s) j 0 (omega (arith, h, block-long v e)) ∙ get_or-drop at s j 0 in
     looking-next v (omega (arith, e, h, block-long v e)) (λ z. subst HexDigit q d)
 looking-on false v e h d = looking-next v (omega (arith, e, h, block-long v e)) (λ z. absurd (true≢false (sym z)))
-
-pub looking-last : {s : List ℕ} {at j : ℕ} {all : Bool} → Looking s at j all → 32 ≤ j → all ≡ true → HexDigits s at 32
-looking-last {s} {at} {j} v most e = record { within = v.room; each = λ k h. v.each e k (omega arith) }
 
 -- a digit is no line's end
 digit-inside : (b : ℕ) → HexDigit b → b ≡ 10 → ⊥

@@ -543,6 +543,10 @@ decimal-length (suc k) n h = go (λ l. decimal-length k (n / 10) ((div-lt_iff_lt
     go ih true e = omega (arith, decimal-length-one n (ltb-true n 10 e))
     go ih false e = omega (arith, decimal-length-more n (ltb-false n 10 e), ih (ltb-false n 10 e))
 
+-- a number of 64 bits
+pub digits-few : (n : ℕ) → n < 2 ^ 64 → length (decimal n) ≤ 20
+digits-few n h = decimal-length 19 n (omega arith)
+
 pub hex-length : (bs : List ℕ) → length (hex bs) ≡ 2 * length bs
 unfolding hex
 hex-length [] = refl

@@ -1,7 +1,7 @@
 // Text as bytes: decimal numbers without spare zeros, lowercase hexadecimal, literals.
 #![tactic(auto)]
 
-ghost use Rattle.std.specs.Prelude.{◌≡◌, ℕ, ◌+◌, ◌-◌, ◌/◌, ◌≤◌, ◌<◌, length, take, drop, get_or, true, MatchOption, MatchBool};
+ghost use Rattle.std.specs.Prelude.{◌≡◌, ◌+◌, ◌-◌, ◌/◌, ◌≤◌, ◌<◌, length, drop, get_or, true, MatchOption, MatchBool};
 ghost use Rattle.text.specs.Text.{decimal, hex, hex_digit, Stops, scan, capped, read_decimal, read_literal, hex_digit_of, read_hex, read_field};
 ghost use Rattle.text.specs.Answer.{value_answer, literal_answer, hex_answer, hex_more, DigitAt};
 ghost use Rattle.text.specs.Format.{either};

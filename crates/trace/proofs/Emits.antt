@@ -85,9 +85,6 @@ turns-none st n e z = rw (eq-eqb st 0 e) (omega arith)
 pub turns-one : (st n : ℕ) → st ≡ 0 → (n ≡ 0 → ⊥) → 1 ≡ turns st n
 turns-one st n e z = rw (eq-eqb st 0 e) (omega arith)
 
-pub turns-all : (st n : ℕ) → (st ≡ 0 → ⊥) → n ≡ turns st n
-turns-all st n e = rw (ne_eqb st 0 e) refl
-
 -- ---- a place
 
 pub hand-even : (v : List ℕ) (g : Goal) (x : Met) (o : _) → g ≡ Beside x o → length (other_of g v) ≡ length v → length v ≡ length o.now

@@ -6,7 +6,7 @@ use lib.ListN.{length, take, drop}
 use borrow.Author.Tests.{le-leb, lt-leb, eq-eqb, ne_eqb}
 use Rattle.word.specs.Result.{Result, ok}
 use Rattle.ty.specs.Types.{Table}
-use Rattle.layout.proofs.LayLaws.{rest}
+use Rattle.word.proofs.ListLaws.{rest}
 use Rattle.trace.specs.Places.{object_places, handles_places, kind_places, handle_at, words_at, object_handles, handles_of}
 use Rattle.trace.specs.Emit.{Answer, Raw, Into, emit_all, emitting, told}
 

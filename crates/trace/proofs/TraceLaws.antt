@@ -25,7 +25,8 @@ use Rattle.ty.specs.declared.Table.{Table as Lent}
 use Rattle.ty.proofs.Lookup.{type-at, const-at}
 use Rattle.layout.proofs.Within.{used-within, dims-within}
 use Rattle.ty.proofs.WalkLaws.{fields-first, fields-last, fields-next}
-use Rattle.layout.proofs.LayLaws.{rest, below-scalar, in_array as lay-array, in-record as lay-record}
+use Rattle.word.proofs.ListLaws.{rest}
+use Rattle.layout.proofs.LayLaws.{below-scalar, in_array as lay-array, in-record as lay-record}
 use Rattle.trace.specs.Places.{Places, Below, only_if, both, many, turns, if_laid, if_bytes, part_places, places_by, places_at}
 use Rattle.trace.specs.Walk.{leaf_of, part_leaf, placed_after, field_at, if_placed, walk, Looked}
 use Rattle.trace.specs.declared.tracer.Leaf.{Leaf}

@@ -7,7 +7,7 @@ use Rattle.handle.specs.declared.Slots.{Slots}
 use Rattle.beside.specs.declared.Met.{Met}
 use Rattle.beside.specs.Inner.Ranks.{place_in}
 use Rattle.beside.specs.Inner.Found.{found_at}
-use Rattle.trace.specs.Places.{Places, handle_at, words_at}
+use Rattle.trace.specs.Places.{Places, handle_at}
 use Rattle.trace.specs.declared.Sink.{Sink}
 use Rattle.trace.specs.declared.Sink.TheVariants.{Check, List as ToList, Work}
 use Rattle.trace.specs.declared.Goal.{Goal}
@@ -100,10 +100,6 @@ handed_all k v s (a ∷ ps) = handed_all k v (handed k v s a) ps
 unfoldable pub handing_at : Aim → List ℕ → Raw → Places → Result Raw
 handing_at k v s none = refused 13
 handing_at k v s (some ps) = ok (handed_all k v s ps)
-
--- the handles at places of the data v
-abbrev pub emitting_at : Into → List ℕ → Raw → Places → Result Raw
-emitting_at k v s o = emitting k s (words_at v o)
 
 -- how many words are in use after a trace, none where the value cannot be traced
 abbrev pub Answer : Type 0
