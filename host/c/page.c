@@ -1,6 +1,6 @@
 /*
- * A first heap from C: it places an object, asks how long the heap's page is, writes it, reads the page back, compares the heap with one that holds the same under another slot number, takes the object out again and runs a
- * script of calls.
+ * A first heap from C: it places an object, asks how long the heap's page is, writes it, reads the page back, compares the heap with one that holds the same under another slot number, takes the object out again, runs a
+ * script of calls, and lays out a record.
  *
  *     cc -std=c11 -Wall -Wextra -I host/include host/c/page.c target/staticlib/libyexwalu.a -o target/c-page
  *
@@ -32,6 +32,14 @@ static const uint64_t none_64[1] = {0};
 static const uint32_t none_32[1] = {0};
 static const uint8_t none_8[1] = {0};
 #define NO_TYPES none_64, 0, none_32, 0, none_64, 0, none_8, 0
+
+/* a type table: an Int from 0 to 7, an Access, and a Record of both */
+static const uint64_t types[] = {
+    YEXWALU_CLASS_INT, 0, 7, 0,
+    YEXWALU_CLASS_ACCESS, 0, 0, 0,
+    YEXWALU_CLASS_RECORD, 0, 2, 0
+};
+static const uint32_t fields[] = {0, YEXWALU_NO_CONSTANT, 1, YEXWALU_NO_CONSTANT};
 
 static int failed(const char *call, yexwalu_answer a) {
     fprintf(stderr, "%s: %llu\n", call, (unsigned long long)a.number);
@@ -83,5 +91,10 @@ int main(void) {
     static const char script[] = "recycle,0,0,\nalloc,0,2,4344\nseal,0,0,\n";
     yexwalu_done ran = yexwalu_run(taken.heap, YEXWALU_LISTS(memory), (const uint8_t *)script, sizeof script - 1, room, sizeof room, YEXWALU_MARKS(memory));
     if (ran.answer.number != YEXWALU_OK || ran.heap.sealed != 1 || memcmp(pool, "CD", 2) != 0) return failed("run", ran.answer);
+
+    uint64_t offsets[2];
+    yexwalu_layout_answer laid = yexwalu_layout(types, 12, fields, 4, none_64, 0, none_8, 0, 2, none_8, 0, offsets, 2);
+    yexwalu_answer told = {laid.number, 0, 0};
+    if (told.number != YEXWALU_OK || laid.size != 16 || laid.offsets != 2 || offsets[0] != 0 || offsets[1] != 8) return failed("layout", told);
     return 0;
 }

@@ -62,6 +62,51 @@ enum {
     YEXWALU_HANDLES = 3
 };
 
+/* The classes of types, and what an Enum has as logic. */
+enum {
+    YEXWALU_CLASS_INT = 0,
+    YEXWALU_CLASS_PHYSICAL = 1,
+    YEXWALU_CLASS_ENUM = 2,
+    YEXWALU_CLASS_REAL = 3,
+    YEXWALU_CLASS_ARRAY = 4,
+    YEXWALU_CLASS_RECORD = 5,
+    YEXWALU_CLASS_ACCESS = 6,
+    YEXWALU_CLASS_FILE = 7,
+    YEXWALU_CLASS_PROTECTED = 8
+};
+enum {
+    YEXWALU_LOGIC_NONE = 0,
+    YEXWALU_LOGIC_STD_ULOGIC = 1,
+    YEXWALU_LOGIC_BIT = 2,
+    YEXWALU_LOGIC_BOOLEAN = 3
+};
+
+/* Stands where an element or a field lies under no constant. */
+#define YEXWALU_NO_CONSTANT UINT32_C(4294967295)
+
+/* The kinds of a frame map's entries, of instructions, and the classes of registers. */
+enum {
+    YEXWALU_ENTRY_HANDLE = 0,
+    YEXWALU_ENTRY_ADDRESS = 1,
+    YEXWALU_ENTRY_COMPOSITE = 2
+};
+enum {
+    YEXWALU_PLAIN = 0,
+    YEXWALU_SAFEPOINT = 1,
+    YEXWALU_BRANCH = 2,
+    YEXWALU_CONDITIONAL = 3,
+    YEXWALU_CASE = 4,
+    YEXWALU_RETURN = 5,
+    YEXWALU_UNREACHABLE = 6
+};
+enum {
+    YEXWALU_REGISTER_I64 = 0,
+    YEXWALU_REGISTER_F64 = 1,
+    YEXWALU_REGISTER_PTR = 2,
+    YEXWALU_REGISTER_SIG = 3,
+    YEXWALU_REGISTER_HANDLE = 4
+};
+
 /* The answers of order: the heap named first comes before the other, is equal to it, or comes after it. */
 enum {
     YEXWALU_LESS = 0,
