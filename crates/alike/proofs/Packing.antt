@@ -1,9 +1,9 @@
 -- Queue and turns in one word a slot. Assumes nothing.
-use Prim.Native.Nat.{ℕ, suc, ◌+◌, ◌*◌, ◌/◌, ◌%◌, ◌≤◌, ◌<◌}
+use Prim.Native.Nat.{ℕ, suc, ◌+◌, ◌*◌, ◌/◌, ◌%◌, ◌<◌}
 use mathlib.Core.Path.{◌≡◌, sym, ap, ◌∙◌}
 use mathlib.Core.List.{List}
-use lib.ListN.{length, get_or, take}
-use lib.Seq.{get_or-set_same, get_or-set_other, get_or-take}
+use lib.ListN.{length, get_or}
+use lib.Seq.{get_or-set_same, get_or-set_other}
 use native.Mathlib.Omega.{arith}
 use native.Mathlib.Decide.{ℕ_discrete}
 use Rattle.reach.specs.Reach.{◌∈◌}

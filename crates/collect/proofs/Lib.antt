@@ -1,3 +1,3 @@
 -- What the proofs of several functions use.
 pub mod Collecting
-pub mod Looking
+pub mod RootRows

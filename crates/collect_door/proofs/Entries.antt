@@ -30,7 +30,7 @@ use Rattle.collect.specs.Safepoint.{at_safepoint, CanLook}
 use Rattle.door.specs.HeapCalls.{Test, test, admitted, enough, zeros, scratch_after, Entered, outcome, outcome_of}
 use Rattle.door.specs.HeapCalls.{Entry}
 use Rattle.door.specs.HeapCalls.{ready}
-use Rattle.door.proofs.Entering.{fails, passes, passed, few-marks, few_words, is-enough, and-holds, and-fails, and-more, cleared-in, holding, call-refused, call-cleared, marks-zero, work-zero, rows-zero, zeros-again, zeros-room}
+use Rattle.door.proofs.Entering.{fails, passes, more-ready, few-marks, few_words, is-enough, and-holds, and-fails, and-more, cleared-in, holding, call-refused, call-cleared, marks-zero, work-zero, rows-zero, zeros-again, zeros-room}
 use Rattle.collect_door.specs.Calls.{Given, table_in, given_tests, tests, collect_call, Asked, table, frame, pinning, coded, roomy, row_tests, input_tests, joining, joined_call}
 use Rattle.collect_door.specs.Demand.{RightlyCollected, Demand}
 use Rattle.collect_door.proofs.Theorem.{collect-rightly, demand}
@@ -53,11 +53,6 @@ module _ (types fields consts bytes pins : List ℕ) where
       pub good-given : p ≡ true → ready ≡ admitted (given_tests types fields consts bytes pins)
       good-given k = passes _ _ _ (sym eg ∙ h) (passes _ _ _ (sym ep ∙ k) none_left)
 
--- where none of the first tests fails, the others decide
-later : (ts us : List Test) → ready ≡ admitted ts → admitted us ≡ admitted (ts ++ us)
-later [] us e = refl
-later (t ∷ ts) us e = let p = passed t.holds t.why ts (sym e) in passes t.holds t.why (ts ++ us) p.0 (later ts us (sym p.1))
-
 -- after other tests
 module _ {scratch scratch' : List (List ℕ)} {ts : List Test} {e : Entry} (s : Entered scratch ts e scratch') (types fields consts bytes pins : List ℕ) where
   pub given-not : {why : Refusal} → e ≡ Err why → Entered scratch (ts ++ given_tests types fields consts bytes pins) (Err why) scratch'
@@ -72,7 +67,7 @@ module _ {scratch scratch' : List (List ℕ)} {ts : List Test} {e : Entry} (s : 
   unfolding admitted
   given-entered i f q =
       record {
-        found = q ∙ later ts (given_tests types fields consts bytes pins) (sym i ∙ s.found);
+        found = q ∙ more-ready ts (given_tests types fields consts bytes pins) (sym i ∙ s.found);
         left = cleared-in s i ∙ (given-zero (table_good types fields consts bytes) (rising pins) ∙ ap (λ (x : Entry). scratch_after x scratch) (sym q));
       }
 
@@ -190,7 +185,7 @@ module _ {scratch scratch' : List (List ℕ)} {ts : List Test} {e : Entry} (s : 
   unfolding admitted
   inputs-entered i f q =
       record {
-        found = q ∙ later ts (input_tests types fields consts bytes c values pins addresses) (sym i ∙ s.found);
+        found = q ∙ more-ready ts (input_tests types fields consts bytes c values pins addresses) (sym i ∙ s.found);
         left = cleared-in s i ∙ (inputs-zero (table_good types fields consts bytes) (coded c values) (rising pins) (paired addresses) ∙ ap (λ (x : Entry). scratch_after x scratch) (sym q));
       }
 

@@ -19,7 +19,7 @@ use Rattle.flow.specs.Function.{Function, valid}
 use Rattle.flow.proofs.Validity.{parts-valid}
 use Rattle.roots.specs.Calls.{Lent as Code, function, right}
 use Rattle.roots.proofs.Forms.{formed-parts}
-use Rattle.reach.specs.Reach.{Graph, Starts, Stuck}
+use Rattle.reach.specs.Reach.{Graph, Starts, UntraceableFrom}
 use Rattle.collection.specs.Swept.{swept}
 use Rattle.collection.specs.Shown.{shown}
 use Rattle.collection.specs.Collected.{graph}
@@ -40,10 +40,10 @@ use Rattle.collect_door.proofs.Refusing.{Two, succeeded, refuses-rightly}
 collects-rightly : (l l' : Lent) (handles : ℕ → Option (List ℕ)) (S : Starts) (r : Changed Unit)
     → well_formed l ≡ true → Collects (graph (view l) handles) S (view l) r → r.answer ≡ ok tt → l' ≡ stored (slot_count l) (pool_size l) r.heap
     → Sound (slot_count l) (pool_size l) r.heap
-    → ((Stuck (graph (view l) handles) S → ⊥) → (marks : List ℕ) → Marks (graph (view l) handles) S l marks → r ≡ finished tt (swept (view l) marks S.pins))
+    → ((UntraceableFrom (graph (view l) handles) S → ⊥) → (marks : List ℕ) → Marks (graph (view l) handles) S l marks → r ≡ finished tt (swept (view l) marks S.pins))
     → Collected (graph (view l) handles) S l l'
 collects-rightly l l' handles S r w all p e sound by =
-    let free : Stuck (graph (view l) handles) S → ⊥ = λ s. not-both r.answer 13 p (all.untraceable.1 s) in
+    let free : UntraceableFrom (graph (view l) handles) S → ⊥ = λ s. not-both r.answer 13 p (all.untraceable.1 s) in
     let h : view l' ≡ r.heap = ap view e ∙ view-stored (slot_count l) (pool_size l) r.heap in
     record {
       survived = subst (Survived (graph (view l) handles) S (view l)) (sym h) (all.survived p);
@@ -64,7 +64,7 @@ module _ (g : Given) (marks work : List ℕ) (l : Lent) (o : Outcome) (e : o ≡
   all : Collects G S (view l) (collecting (table_in g) g.roots g.pins (view l))
   all = collect-demand (view l) (shown (table_in g) (view l)) g.roots g.pins
 
-  two : Two (tests g marks work l) l (collecting (table_in g) g.roots g.pins) (Stuck G S)
+  two : Two (tests g marks work l) l (collecting (table_in g) g.roots g.pins) (UntraceableFrom G S)
   two =
       record {
         formed = λ i. all_hold (tests g marks work l) 1 i;
@@ -78,9 +78,9 @@ module _ (g : Given) (marks work : List ℕ) (l : Lent) (o : Outcome) (e : o ≡
   pub collect-rightly : RightlyCollected g marks work l o
   collect-rightly =
       record {
-        refusals = refuses-rightly (marks ∷ work ∷ []) (tests g marks work l) l (collecting (table_in g) g.roots g.pins) (Stuck G S) two o e;
+        refusals = refuses-rightly (marks ∷ work ∷ []) (tests g marks work l) l (collecting (table_in g) g.roots g.pins) (UntraceableFrom G S) two o e;
         collected = λ q.
-            let k = succeeded (marks ∷ work ∷ []) (tests g marks work l) l (collecting (table_in g) g.roots g.pins) (Stuck G S) two o e q in
+            let k = succeeded (marks ∷ work ∷ []) (tests g marks work l) l (collecting (table_in g) g.roots g.pins) (UntraceableFrom G S) two o e q in
             let w = two.formed k.0 in
             collects-rightly l o.heap (shown (table_in g) (view l)) S (collecting (table_in g) g.roots g.pins (view l)) w all k.1 k.2
             (collected-sound (slot_count l) (pool_size l) G S (view l) (formed-tested l w).sound)

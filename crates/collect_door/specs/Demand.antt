@@ -9,7 +9,7 @@ use Rattle.std.specs.Prelude.{Ok, Err}
 use Rattle.refusal.specs.declared.Answer.{Answer}
 use Rattle.heap.specs.Lent.{Lent, stored, view, slot_count, pool_size}
 use Rattle.heap.specs.WellFormed.{well_formed}
-use Rattle.reach.specs.Reach.{Graph, Starts, Reached, Stuck}
+use Rattle.reach.specs.Reach.{Graph, Starts, Reached, UntraceableFrom}
 use Rattle.roots.specs.Calls.{function}
 use Rattle.collection.specs.Swept.{swept}
 use Rattle.collection.specs.Shown.{shown}
@@ -65,7 +65,7 @@ starts_in g l = starts (view l) g.roots g.pins
 
 pub record RightlyCollected (g : Given) (marks work : List ℕ) (l : Lent) (o : Outcome) : Type 0 where
   -- untraceable (13) exactly when an object that a chain leads to can't be traced
-  pub refusals : Refusals (marks ∷ work ∷ []) (tests g marks work l) (Stuck (objects_in g l) (starts_in g l)) l o
+  pub refusals : Refusals (marks ∷ work ∷ []) (tests g marks work l) (UntraceableFrom (objects_in g l) (starts_in g l)) l o
   pub collected : o.answer ≡ done → Collected (objects_in g l) (starts_in g l) l o.heap
 
 -- ---- collect_joined

@@ -1,5 +1,5 @@
 // The joined collection as a host calls it: all is tested, then the heap is collected from the frame and the registers that are live at the safepoint.
-ghost use Rattle.std.specs.Prelude.{◌≡◌, [], ◌∷◌, ◌++◌, ◌+◌, ◌*◌, ◌/◌, length, leb};
+ghost use Rattle.std.specs.Prelude.{◌≡◌, [], ◌∷◌, ◌++◌, ◌+◌, ◌/◌};
 ghost use Rattle.heap.specs.Lent.{lent};
 ghost use Rattle.roots.specs.Calls.{need};
 ghost use Rattle.roots.specs.Plans.{lent as code_lent};

@@ -16,7 +16,7 @@ use Rattle.word.proofs.Bools.{bool-ext}
 use Rattle.heap.specs.State.{State, slot_at, live}
 use Rattle.heap.specs.Calls.{refuse, done, resolve}
 use Rattle.heap.proofs.Sound.{Sound}
-use Rattle.reach.specs.Reach.{Graph, Starts, Reached, Stuck}
+use Rattle.reach.specs.Reach.{Graph, Starts, Reached, UntraceableFrom}
 use Rattle.reach.specs.Marking.{State as Marks, marking}
 use Rattle.reach.proofs.Sound.{Sized, Marked, Answer, marking-answer, reached-ind, reached-below, refused as stuck-exactly, kept as marked-exactly, lost as lost-exactly}
 use Rattle.collection.specs.Swept.{swept}
@@ -77,7 +77,7 @@ module _ (h : State) (handles : ℕ → Option (List ℕ)) where
     unfolding collected
     demand = go (marking (graph h handles) S (length h.slots)) refl
       where
-        exactly : (marking (graph h handles) S (length h.slots) ≡ none) ↔ Stuck (graph h handles) S
+        exactly : (marking (graph h handles) S (length h.slots) ≡ none) ↔ UntraceableFrom (graph h handles) S
         exactly = stuck-exactly (graph h handles) S (length h.slots) sized
 
         go : (r : Option Marks) → marking (graph h handles) S (length h.slots) ≡ r → Collects (graph h handles) S h (swept_by h S.pins r)
@@ -96,16 +96,16 @@ module _ (h : State) (handles : ℕ → Option (List ℕ)) where
               survived = λ q. survived-sweep m e;
             }
           where
-            free : Stuck (graph h handles) S → ⊥
+            free : UntraceableFrom (graph h handles) S → ⊥
             free x = let w : marking (graph h handles) S (length h.slots) ≡ none = exactly.1 x in let z : ◌≡◌ {A = ℕ} 0 1 = cc in omega arith
 
     -- untraceable: 13, and the heap unchanged
-    pub stuck-collected : Stuck (graph h handles) S → collected (graph h handles) S h ≡ refuse 13 h
+    pub stuck-collected : UntraceableFrom (graph h handles) S → collected (graph h handles) S h ≡ refuse 13 h
     unfolding collected
     stuck-collected x = ap (swept_by h S.pins) ((stuck-exactly (graph h handles) S (length h.slots) sized).1 x)
 
     -- the heap after it is decided by what is reached: any marks that mark just that give the same
-    pub collected-by : (marks : List ℕ) → (Stuck (graph h handles) S → ⊥) → ((o : ℕ) → o < length h.slots → (0 < get_or marks o 0) ↔ Reached (graph h handles) S o)
+    pub collected-by : (marks : List ℕ) → (UntraceableFrom (graph h handles) S → ⊥) → ((o : ℕ) → o < length h.slots → (0 < get_or marks o 0) ↔ Reached (graph h handles) S o)
         → collected (graph h handles) S h ≡ done tt (swept h marks S.pins)
     unfolding collected
     collected-by marks free keeps = go (marking (graph h handles) S (length h.slots)) refl
@@ -125,7 +125,7 @@ module _ (h : State) (handles : ℕ → Option (List ℕ)) where
         go (some m) e = ap (λ (x : State). done tt x) (swept_same h m.marks marks S.pins (same m e))
 
     -- and there are such marks
-    pub marks-there : (Stuck (graph h handles) S → ⊥) → (marks : List ℕ) × ((o : ℕ) → o < length h.slots → (0 < get_or marks o 0) ↔ Reached (graph h handles) S o)
+    pub marks-there : (UntraceableFrom (graph h handles) S → ⊥) → (marks : List ℕ) × ((o : ℕ) → o < length h.slots → (0 < get_or marks o 0) ↔ Reached (graph h handles) S o)
     marks-there free = go (marking (graph h handles) S (length h.slots)) refl
       where
         go : (r : Option Marks) → marking (graph h handles) S (length h.slots) ≡ r

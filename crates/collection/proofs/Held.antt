@@ -4,10 +4,10 @@ use mathlib.Core.Bool.{Bool, true, false, not}
 use mathlib.Core.List.{List, []}
 use mathlib.Core.Logic.{◌⊎◌, inl, inr, ⊎_elim, ◌↔◌}
 use mathlib.Core.Option.{Option, none, some}
-use Prim.Native.Nat.{ℕ, suc, ◌+◌, ◌≤◌, ◌<◌}
+use Prim.Native.Nat.{ℕ, ◌≤◌, ◌<◌}
 use native.Mathlib.Omega.{arith}
 use native.Mathlib.Decide.{dec_lt}
-use lib.ListN.{length, get_or, drop}
+use lib.ListN.{length, get_or}
 use lib.Dec.{ltb, eqb, leb}
 use borrow.Author.Tests.{lt-ltb, ltb-true, ltb-false, eq-eqb, ne_eqb, eqb-true}
 use Rattle.std.specs.Prelude.{if◌then◌else◌}
@@ -15,16 +15,16 @@ use Rattle.word.proofs.Bools.{bool-ext}
 use Rattle.ty.specs.Types.{Table}
 use Rattle.trace.specs.Places.{words_at, kind_places, handles_of}
 use Rattle.heap.specs.State.{State, slot_at, live, bit, times}
-use Rattle.heap.specs.Calls.{member, done, resolve}
+use Rattle.heap.specs.Calls.{member, done}
 use Rattle.heap.proofs.Sound.{Sound}
 use Rattle.heap_calls.specs.Pins.{marked_slots}
 use Rattle.heap_calls.proofs.Marked.{mark-there}
-use Rattle.reach.specs.Reach.{Graph, Starts, First, Next, Reached, Stuck, ◌∈◌}
+use Rattle.reach.specs.Reach.{Graph, Starts, First, Next, Reached, UntraceableFrom, ◌∈◌}
 use Rattle.reach.specs.Marking.{State as Marks, marking}
 use Rattle.reach.proofs.Sound.{Sized, Marked, Answer, marking-answer, reached-first, reached-next, reached-ind, refused as stuck-exactly}
 use Rattle.collection.specs.Swept.{swept}
 use Rattle.collection.specs.Shown.{shown}
-use Rattle.collection.specs.Collected.{found, graph, collected}
+use Rattle.collection.specs.Collected.{graph, collected}
 use Rattle.collection.specs.Held.{held_graph}
 use Rattle.heap.proofs.Keeping.{live_inside}
 use Rattle.collection.proofs.Pinned.{in-member, member-in}
@@ -80,14 +80,14 @@ module _ (h : State) (handles : ℕ → Option (List ℕ)) (dead : (i : ℕ) →
           let empty : hs ≡ [] = cc in
           absurd (subst (λ (l : List ℕ). x ∈ l) empty m)
 
-  held-stuck : Stuck H S ↔ Stuck G S
+  held-stuck : UntraceableFrom H S ↔ UntraceableFrom G S
   held-stuck = (
     λ (o, r, e). ⊎_elim (λ q. (o, q, e)) (λ d. let c : none ≡ some [] = sym e ∙ dead o d.1 in let z : ◌≡◌ {A = ℕ} 0 1 = cc in absurd (omega arith)) (reached-held o r),
     λ (o, r, e). (o, held-reached o r, e),
   )
 
   -- untraceable exactly where the collection is
-  pub held-refused : (marking (held_graph h handles) S (length h.slots) ≡ none) ↔ Stuck (graph h handles) S
+  pub held-refused : (marking (held_graph h handles) S (length h.slots) ≡ none) ↔ UntraceableFrom (graph h handles) S
   held-refused =
       let e = stuck-exactly H S n held-sized in (λ w. held-stuck.0 (e.0 w), λ x. e.1 (held-stuck.1 x))
 
@@ -103,7 +103,7 @@ module _ (h : State) (handles : ℕ → Option (List ℕ)) (dead : (i : ℕ) →
     marked-held : (o : ℕ) → o < n → 0 < get_or m.marks o 0 → Reached H S o
     marked-held o less some-mark = ⊎_elim (λ z. absurd (omega arith)) (λ q. answer.sound o q.1) (answer.good.bits o less)
 
-    free : Stuck G S → ⊥
+    free : UntraceableFrom G S → ⊥
     free x = answer.free (held-stuck.1 x)
 
     not-both : (b : Bool) → b ≡ true → b ≡ false → ⊥

@@ -15,7 +15,7 @@ use Rattle.heap.specs.Calls.{Changed, done}
 use Rattle.heap.proofs.Sound.{Sound}
 use Rattle.flow.specs.Function.{Function, valid, safepoint}
 use Rattle.addresses.specs.Listed.{paired}
-use Rattle.reach.specs.Reach.{Graph, Starts, First, Chain, Reached, Stuck, ◌∈◌}
+use Rattle.reach.specs.Reach.{Graph, Starts, First, Chain, Reached, UntraceableFrom, ◌∈◌}
 use Rattle.collection.specs.Swept.{swept}
 use Rattle.collection.specs.Collected.{graph, starts, collected}
 use Rattle.collection.specs.Demand.{Survived, Collects}
@@ -42,7 +42,7 @@ module _ (G : Graph) (S S' : Starts) (pins : (i : ℕ) → i ∈ S.pins → i �
       go [] z = z
       go (p ∷ ps) z = (first-other p z.0, z.1)
 
-  stuck-other : Stuck G S → Stuck G S'
+  stuck-other : UntraceableFrom G S → UntraceableFrom G S'
   stuck-other (o, r, e) = (o, reached-other o r, e)
 
 module _ (h : State) (G : Graph) (S S' : Starts) (pins : (i : ℕ) → (i ∈ S.pins) ↔ (i ∈ S'.pins)) (roots : (x : ℕ) → (x ∈ S.roots) ↔ (x ∈ S'.roots)) where
@@ -119,7 +119,7 @@ module _ (T : Table) (f : Function) (pc : ℕ) (good : valid f ≡ true) (at : s
   -- ---- the heap after it is decided by what is reached: any marks that mark just that give the same
 
   pub joined_by : (handles : List ℕ) → frame ≡ some handles → (S : Starts) → JoinedStarts f pc values handles h.sealed pins S
-      → (Stuck (graph h (shown T h)) S → ⊥)
+      → (UntraceableFrom (graph h (shown T h)) S → ⊥)
       → (marks : List ℕ) → ((o : ℕ) → o < length h.slots → (0 < get_or marks o 0) ↔ Reached (graph h (shown T h)) S o)
       → joined T f pc values frame pins h ≡ done tt (swept h marks S.pins)
   unfolding joined

@@ -17,9 +17,8 @@ use Rattle.handle.specs.Handle.{index_of, resolve_by}
 use Rattle.handle.proofs.ResolveLaws.{Resolves, resolve-ok, resolve_same}
 use Rattle.heap.specs.State.{Slot, State, no_slot, slot_at, live, worn, times, with_since, with_live}
 use Rattle.heap.specs.Calls.{resolve, changed, release, released, member, recycle}
-use Rattle.heap.specs.WellFormed.{sound, fits}
+use Rattle.heap.specs.WellFormed.{sound}
 use Rattle.heap.proofs.Sound.{Sound}
-use Rattle.heap.proofs.Testing.{sound-tested, sound-test}
 use Rattle.heap.proofs.Recycled.{filter-append, recycle-sound}
 use Rattle.heap.proofs.Keeping.{at_same}
 use Rattle.collection.specs.Swept.{goes, dropped, drop_slot, drop_slots, live_size, all_dropped, drop_unmarked, swept}
@@ -47,10 +46,6 @@ survivor h marks pins j m =
     neither true = refl
     neither false = refl
 
--- a slot that is dropped is dead, one generation on
-pub dropped-dead : (h : State) (marks pins : List ℕ) (j : ℕ) → goes marks j (slot_at h j) ≡ true → slot_at (swept h marks pins) j ≡ released (slot_at h j)
-dropped-dead h marks pins j g = swept-slot h marks pins j ∙ ap (λ (b : Bool). if b then released (slot_at h j) else slot_at h j) g
-
 -- nothing else is live afterwards
 pub only-marked : (h : State) (marks pins : List ℕ) (j : ℕ) → live (slot_at (swept h marks pins) j) ≡ true → (live (slot_at h j) ≡ true) × (0 < get_or marks j 0)
 only-marked h marks pins j alive = go (live (slot_at h j)) (eqb (get_or marks j 0) 0) refl refl (sym (ap live (swept-slot h marks pins j)) ∙ alive)
@@ -67,9 +62,6 @@ only-marked h marks pins j alive = go (live (slot_at h j)) (eqb (get_or marks j 
 pub swept-sound : (S P : ℕ) (h : State) (marks pins : List ℕ) → Sound S P h → Sound S P (swept h marks pins)
 unfolding swept
 swept-sound S P h marks pins fine = recycle-sound S P (drop_unmarked h marks) pins (unmarked-sound S P marks h fine)
-
-pub swept-formed : (S P : ℕ) (h : State) (marks pins : List ℕ) → fits S P h ≡ true → sound h ≡ true → (fits S P (swept h marks pins) && sound (swept h marks pins)) ≡ true
-swept-formed S P h marks pins f s = sound-test S P (swept h marks pins) (swept-sound S P h marks pins (sound-tested S P h f s))
 
 -- ---- handles
 

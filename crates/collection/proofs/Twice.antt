@@ -2,7 +2,7 @@
 use mathlib.Core.Path.{◌≡◌, refl, sym, ap, ◌∙◌, subst}
 use mathlib.Core.Bool.{Bool, true, false, not, ◌&&◌}
 use mathlib.Core.List.{List, [], ◌∷◌, ◌++◌, append-nil, map}
-use mathlib.Core.Logic.{◌↔◌, inl, inr, ⊎_elim}
+use mathlib.Core.Logic.{inl, inr, ⊎_elim}
 use mathlib.Core.Option.{Option, none, some}
 use Prim.Native.Nat.{ℕ, ◌+◌, ◌*◌, ◌<◌, max}
 use native.Mathlib.Omega.{arith}
@@ -10,20 +10,20 @@ use lib.ListN.{length, get_or, get_or-map}
 use lib.Dec.{eqb, ltb}
 use borrow.Author.Tests.{ne_eqb, ltb-true, lt-ltb}
 use Rattle.std.specs.Prelude.{if◌then◌else◌}
-use Rattle.word.specs.Result.{Result, ok, refused}
+use Rattle.word.specs.Result.{ok}
 use Rattle.word.specs.Lists.{filter}
 use Rattle.ty.specs.Types.{Table}
 use Rattle.heap.specs.State.{Slot, State, no_slot, slot_at, live, worn, with_since, with_live}
 use Rattle.heap.specs.Calls.{Changed, done, resolve, member, recycle}
 use Rattle.flow.specs.Function.{Function}
 use Rattle.trace.specs.Places.{handles_of}
-use Rattle.reach.specs.Reach.{Graph, Starts, First, Next, Reached, Stuck}
+use Rattle.reach.specs.Reach.{Graph, Starts, First, Reached, UntraceableFrom}
 use Rattle.reach.specs.Marking.{State as Marks, marking}
 use Rattle.reach.proofs.Sound.{reached-first, reached-next, reached-ind}
 use Rattle.collection.specs.Swept.{goes, dropped, drop_slots, live_size, drop_unmarked, swept}
 use Rattle.collection.specs.Shown.{shown}
 use Rattle.collection.specs.Collected.{found, graph, starts, swept_by, collected}
-use Rattle.collection.specs.Joined.{values_of, root_registers, joined_by, Pinning, pins_at, joined}
+use Rattle.collection.specs.Joined.{values_of, root_registers, Pinning, pins_at, joined}
 use Rattle.collection.specs.Demand.{Survived, Collects}
 use Rattle.collection.proofs.Answers.{not-both}
 use Rattle.collection.proofs.Dropping.{dropped-none}
@@ -118,7 +118,7 @@ module _ (H : Slot → Option (List ℕ)) (h : State) (S : Starts) (h' : State) 
     backward : (o : ℕ) → Reached G' S o → Reached G S o
     backward o r = (s.alive o).0 (alive-now o r)
 
-    free-again : (Stuck G S → ⊥) → Stuck G' S → ⊥
+    free-again : (UntraceableFrom G S → ⊥) → UntraceableFrom G' S → ⊥
     free-again clear (o, r, e) = let b = backward o r in clear (o, b, ap H (sym (s.same o b)) ∙ e)
 
 -- ---- a collection from the same starts

@@ -3,7 +3,7 @@ use Rattle.std.specs.Prelude.{◌≡◌, true, ◌↔◌, ℕ}
 use Rattle.word.specs.Result.{ok, refused}
 use Rattle.heap.specs.State.{State, slot_at, live}
 use Rattle.heap.specs.Calls.{Changed, resolve}
-use Rattle.reach.specs.Reach.{Graph, Starts, Reached, Stuck}
+use Rattle.reach.specs.Reach.{Graph, Starts, Reached, UntraceableFrom}
 
 -- h before a collection that succeeds, h' after it
 pub record Survived (G : Graph) (S : Starts) (h h' : State) : Type 0 where
@@ -18,8 +18,8 @@ pub record Survived (G : Graph) (S : Starts) (h h' : State) : Type 0 where
 -- what a collection of h has to answer and leave
 pub record Collects (G : Graph) (S : Starts) (h : State) (r : Changed Unit) : Type 0 where
   -- refused exactly when a reached object can't be traced, and then the heap is unchanged
-  pub untraceable : (r.answer ≡ refused 13) ↔ Stuck G S
+  pub untraceable : (r.answer ≡ refused 13) ↔ UntraceableFrom G S
   pub unchanged : r.answer ≡ refused 13 → r.heap ≡ h
   -- otherwise it succeeds
-  pub succeeds : (Stuck G S → ⊥) → r.answer ≡ ok tt
+  pub succeeds : (UntraceableFrom G S → ⊥) → r.answer ≡ ok tt
   pub survived : r.answer ≡ ok tt → Survived G S h r.heap

@@ -8,7 +8,7 @@ use Rattle.heap.specs.State.{State}
 use Rattle.heap.specs.Calls.{Changed}
 use Rattle.flow.specs.Function.{Function, Live}
 use Rattle.addresses.specs.Listed.{Listed}
-use Rattle.reach.specs.Reach.{Starts, Stuck, ◌∈◌}
+use Rattle.reach.specs.Reach.{Starts, UntraceableFrom, ◌∈◌}
 use Rattle.collection.specs.Collected.{graph}
 use Rattle.collection.specs.Demand.{Collects}
 use Rattle.collection.specs.Shown.{shown}
@@ -34,14 +34,14 @@ pub record JoinedStarts (f : Function) (pc : ℕ) (values handles sealed : List 
   pub rooted : (x : ℕ) → (x ∈ S.roots) ↔ ((x ∈ handles) ⊎ (LiveValue 4 f pc values x ⊎ (x ∈ sealed)))
 
 -- an object that such a chain leads to can't be traced
-pub record StuckAt (T : Table) (f : Function) (pc : ℕ) (values handles : List ℕ) (pins : Pinning) (h : State) : Type 0 where
+pub record UntraceableAt (T : Table) (f : Function) (pc : ℕ) (values handles : List ℕ) (pins : Pinning) (h : State) : Type 0 where
   pub from : Starts
   pub starts : JoinedStarts f pc values handles h.sealed pins from
-  pub stuck : Stuck (graph h (shown T h)) from
+  pub stuck : UntraceableFrom (graph h (shown T h)) from
 
 -- the frame map can't be traced, or an object that such a chain leads to; `frame` are the frame's handles, none where the frame map can't be traced
 abbrev pub Untraceable : Table → Function → (pc : ℕ) (values : List ℕ) (frame : Option (List ℕ)) (pins : Pinning) → State → Type 0
-Untraceable T f pc values frame pins h = (frame ≡ none) ⊎ ((handles : List ℕ) × (frame ≡ some handles) × StuckAt T f pc values handles pins h)
+Untraceable T f pc values frame pins h = (frame ≡ none) ⊎ ((handles : List ℕ) × (frame ≡ some handles) × UntraceableAt T f pc values handles pins h)
 
 -- what the joined collection of h at pc has to answer and leave
 pub record Joins (T : Table) (f : Function) (pc : ℕ) (values : List ℕ) (frame : Option (List ℕ)) (pins : Pinning) (h : State) (r : Changed Unit) : Type 0 where
@@ -51,5 +51,5 @@ pub record Joins (T : Table) (f : Function) (pc : ℕ) (values : List ℕ) (fram
   -- there is such a start for chains wherever the frame map can be traced
   pub begins : (handles : List ℕ) → frame ≡ some handles → (S : Starts) × JoinedStarts f pc values handles h.sealed pins S
   -- otherwise it succeeds, an object outlives it exactly if it was reached, nothing else is live afterwards, and survivors are as they were
-  pub succeeds : (frame ≡ none → ⊥) → ((handles : List ℕ) → frame ≡ some handles → StuckAt T f pc values handles pins h → ⊥) → r.answer ≡ ok tt
+  pub succeeds : (frame ≡ none → ⊥) → ((handles : List ℕ) → frame ≡ some handles → UntraceableAt T f pc values handles pins h → ⊥) → r.answer ≡ ok tt
   pub collects : (handles : List ℕ) → frame ≡ some handles → (S : Starts) → JoinedStarts f pc values handles h.sealed pins S → Collects (graph h (shown T h)) S h r

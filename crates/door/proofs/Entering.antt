@@ -20,10 +20,9 @@ use Rattle.refusal.specs.declared.Refusal.TheVariants.{BrokenHeap, Scratch}
 use Rattle.refusal.specs.declared.Answer.{Answer}
 use Rattle.refusal.specs.Told.{Reply}
 use Rattle.std.specs.Prelude.{Err}
-use Rattle.door.specs.HeapCalls.{Test, test, admitted, whether, enough, heap_tests, zeros, scratch_after, Entered, Outcome, outcome_of, calling, Asked, asked_of, asking}
+use Rattle.door.specs.HeapCalls.{Test, test, admitted, whether, enough, heap_tests, zeros, scratch_after, Entered, outcome_of, calling, asked_of, asking}
 use Rattle.door.specs.HeapCalls.{Entry, entry_of}
 use Rattle.std.specs.Prelude.{Result as Outcomes, Ok, IfOk, MatchResult}
-use Rattle.std.proofs.lemmas.Result.{IfOk-at_ok}
 use Rattle.heap.specs.Seen.{seen, state}
 use Rattle.heap.specs.declared.view.View.{View}
 use Rattle.door.specs.HeapCalls.{ready}
@@ -70,7 +69,7 @@ if-ready : (b : Bool) (e f g : Entry) (why : Refusal) → ready ≡ (if b then e
 if-ready true e f g why i k = k i
 if-ready false e f g why i k = apart (sym i)
 
-more-ready : (ts us : List Test) → ready ≡ admitted ts → admitted us ≡ admitted (ts ++ us)
+pub more-ready : (ts us : List Test) → ready ≡ admitted ts → admitted us ≡ admitted (ts ++ us)
 unfolding admitted
 more-ready [] us e = refl
 more-ready (t ∷ ts) us e = if-ready t.holds (admitted ts) (admitted (ts ++ us)) (admitted us) t.why e (λ i. more-ready ts us i)
@@ -184,12 +183,6 @@ module _ {scratch scratch' : List (List ℕ)} {tests : List Test} {e : Entry} (s
 
       pub ask-ready : {a : Answer} → e ≡ ready → a ≡ answered first second (question (view l)) → r ≡ a → asked_of r scratch' ≡ asking first second scratch tests l question
       ask-ready i d t = (λ j. asked_of ((t ∙ d) j) (cleared-in i j)) ∙ sym (asking-ready first second scratch tests l question (sym s.found ∙ i))
-
--- what a view answers, for a call
-pub ask-seen : (l : Lent) {scratch scratch' : List (List ℕ)} {tests : List Test} {x : Outcomes View Refusal} {v : View} → Entered scratch tests (entry_of x) scratch' → x ≡ Ok v → IfOk x (λ u. seen u ≡ l)
-    → {A : Type 0} (first second : A → ℕ) (question : State → Result A) {r a : Answer} → a ≡ answered first second (question (state v)) → r ≡ a → asked_of r scratch' ≡ asking first second scratch tests l question
-ask-seen l s i e first second question d t =
-    ask-ready s first second l question (ap entry_of i) (d ∙ ap (λ (k : Lent). answered first second (question (view k))) (IfOk-at_ok (λ (u : View). seen u ≡ l) i e)) t
 
 -- what a question that is asked of the view answers, for a call
 pub ask-through : (l : Lent) {scratch scratch' : List (List ℕ)} {tests : List Test} (x : Outcomes View Refusal) (y : Reply) (Q : View → Type 0) {r : Answer}

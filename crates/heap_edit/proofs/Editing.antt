@@ -1,9 +1,8 @@
 -- `edit` by its ways out. Assumes nothing.
-use Rattle.std.proofs.Common.{◌≡◌, ℕ, ◌+◌, ◌-◌, ◌*◌, ◌/◌, ◌%◌, ◌^◌, ◌<◌, ◌≤◌, Bool, true, false, leb, List, [], ◌∷◌, length, get_or, sym, refl, ap, ◌∙◌, subst, arith, leb-false, leb-true}
-use Rattle.word.specs.Result.{Result, ok, refused}
+use Rattle.std.proofs.Common.{◌≡◌, ℕ, ◌+◌, ◌-◌, ◌*◌, ◌/◌, ◌%◌, ◌^◌, ◌<◌, ◌≤◌, Bool, true, false, leb, List, length, get_or, sym, refl, ap, ◌∙◌, subst, arith, leb-false, leb-true}
+use Rattle.word.specs.Result.{ok, refused}
 use Rattle.refusal.specs.Told.{number_of, here, nothing}
 use Rattle.refusal.specs.declared.Refusal.TheVariants.{NoRoom}
-use Rattle.refusal.specs.Told.{Reply}
 use Rattle.std.specs.Prelude.{Ok, Err}
 use Rattle.refusal.specs.declared.Refusal.{Refusal}
 use Rattle.heap.specs.State.{Slot, slot_at, data_size}

@@ -7,8 +7,8 @@ use Rattle.word.specs.Put.{put}
 use Rattle.word.proofs.PutLaws.{Filling, fill_start, fill-next}
 use Rattle.handle.specs.Handle.{packed}
 use Rattle.heap.specs.Packing.{pad}
-use Rattle.heap.specs.State.{Slot, State, no_slot, slot_at, live, bit}
-use Rattle.heap.specs.Calls.{live_count, live_handles}
+use Rattle.heap.specs.State.{Slot, State, no_slot, slot_at, live}
+use Rattle.heap.specs.Calls.{live_handles}
 use Rattle.heap_edit.specs.Inner.Handles.{Listing, Listed, AllListed}
 use Rattle.heap.specs.Lent.{lent, view}
 use Rattle.heap.specs.WellFormed.{well_formed}

@@ -1,7 +1,6 @@
 -- Each call keeps a heap sound and within its lent memory: one law a call, on states. Assumes nothing.
-use Rattle.std.proofs.Common.{◌≡◌, ℕ, zero, suc, ◌+◌, ◌-◌, ◌^◌, ◌<◌, ◌≤◌, Bool, true, false, List, [], ◌∷◌, length, get_or, sym, refl, ap, ◌∙◌, subst, ⊎_elim, arith, ltb-true}
+use Rattle.std.proofs.Common.{◌≡◌, ℕ, zero, suc, ◌+◌, ◌-◌, ◌^◌, ◌<◌, ◌≤◌, Bool, true, false, List, [], ◌∷◌, length, get_or, sym, refl, ◌∙◌, subst, ⊎_elim, arith, ltb-true}
 use native.Mathlib.Decide.{dec_lt, ℕ_discrete}
-use lib.ListN.{get_or-eq_default}
 use Rattle.std.specs.Prelude.{if◌then◌else◌}
 use Rattle.word.proofs.Bools.{either}
 use Rattle.word.specs.Put.{put}

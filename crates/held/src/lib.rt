@@ -3,12 +3,11 @@
 #![tactic(auto)]
 
 ghost use Rattle.std.specs.Prelude.{◌≡◌, true, ◌/◌, length};
-ghost use Rattle.refusal.specs.Told.{told, answered, here, nothing};
+ghost use Rattle.refusal.specs.Told.{here, nothing};
 ghost use Rattle.heap.specs.Lent.{lent, view};
 ghost use Rattle.heap.specs.Seen.{seen};
 ghost use Rattle.heap.specs.WellFormed.{well_formed};
 ghost use Rattle.heap.specs.Calls.{take_into};
-ghost use Rattle.heap.specs.Done.{Tells};
 ghost use Rattle.heap_calls.specs.Objects.{size_of, start_of, handed_out};
 ghost use Rattle.object_door.specs.ObjectCalls.{allocating, recycling};
 ghost use Rattle.held.specs.Held.{head_in, in_place, Held};

@@ -22,7 +22,7 @@ use Rattle.pages.specs.Form.{written}
 use Rattle.pages.specs.Page.{page_text}
 use Rattle.pages.specs.Answer.{PageWritten, text_answer, text_out}
 use Rattle.slot_door.specs.SlotHandles.{slot_handles}
-use Rattle.held_reads.specs.Slot.{table_tests, slot_call, slot_out}
+use Rattle.held_reads.specs.Slot.{table_tests, held_slot_call, slot_out}
 
 -- ---- slot_handles
 
@@ -30,7 +30,7 @@ module _ (types fields consts bytes : List ℕ) (l : Lent) (slot : ℕ) (out : L
   abbrev T : Table
   T = table_of types fields consts bytes
 
-  pub no-table : {r : Answer} → g ≡ false → r ≡ told (Err TypeTable) → (asked_of r [] ≡ slot_call types fields consts bytes l slot out) × (out ≡ slot_out types fields consts bytes l slot out)
+  pub no-table : {r : Answer} → g ≡ false → r ≡ told (Err TypeTable) → (asked_of r [] ≡ held_slot_call types fields consts bytes l slot out) × (out ≡ slot_out types fields consts bytes l slot out)
   no-table f t =
       let s : Entered [] (table_tests types fields consts bytes) (Err TypeTable) [] = record { found = fails _ _ _ (sym e ∙ f); left = refl } in
       (ask-refused s length nothing l (slot_handles T slot (length out)) refl t, sym (whether-not s (λ why. out) (written_to out (slot_handles T slot (length out) (view l))) refl))
@@ -40,7 +40,7 @@ module _ (types fields consts bytes : List ℕ) (l : Lent) (slot : ℕ) (out : L
   is-good f = record { found = passes (table_good types fields consts bytes) TypeTable [] (sym e ∙ f) refl; left = refl }
 
   pub listed : {reply : Reply} {r : Answer} {out' : List ℕ} → g ≡ true → (v : View) → seen v ≡ l → Lists (slot_handles T slot (length out) (state v)) reply out out' → r ≡ told reply
-      → (asked_of r [] ≡ slot_call types fields consts bytes l slot out) × (out' ≡ slot_out types fields consts bytes l slot out)
+      → (asked_of r [] ≡ held_slot_call types fields consts bytes l slot out) × (out' ≡ slot_out types fields consts bytes l slot out)
   listed {reply} {out' = out'} f v q d t =
       let s = is-good f in
       let p : Lists (slot_handles T slot (length out) (view l)) reply out out' = subst (λ (k : Lent). Lists (slot_handles T slot (length out) (view k)) reply out out') q d in

@@ -17,8 +17,8 @@ module _ (w fs cs b : List ℕ) where
 
   module _ (l : Lent) (slot : ℕ) (out : List ℕ) where
     -- the answer, how many they are
-    abbrev pub slot_call : Asked
-    slot_call = asking length nothing [] table_tests l (slot_handles (table_of w fs cs b) slot (length out))
+    abbrev pub held_slot_call : Asked
+    held_slot_call = asking length nothing [] table_tests l (slot_handles (table_of w fs cs b) slot (length out))
 
     -- the handles stand at the front of the list, which stays as it was past them, and whole after a refusal
     abbrev pub slot_out : List ℕ

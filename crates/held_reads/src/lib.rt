@@ -11,7 +11,7 @@ ghost use Rattle.pages.specs.Form.{written};
 ghost use Rattle.pages.specs.Page.{page_text};
 ghost use Rattle.pages.specs.Answer.{text_answer, text_out};
 ghost use Rattle.held.specs.Held.{in_place};
-ghost use Rattle.held_reads.specs.Slot.{slot_call, slot_out};
+ghost use Rattle.held_reads.specs.Slot.{held_slot_call, slot_out};
 
 use held::see;
 use refusal::{Answer, Refusal};
@@ -35,7 +35,7 @@ pub fn yexwalu_held_slot_handles(
     out: &mut [u64],
 ) -> Answer
     requires { well_formed (in_place tag.now numbers.now log.now lengths.now narrow.now wide.now pool.now) ≡ true }
-    ensures answer { asked_of result [] ≡ slot_call types.now fields.now consts.now bytes.now
+    ensures answer { asked_of result [] ≡ held_slot_call types.now fields.now consts.now bytes.now
         (in_place tag.now numbers.now log.now lengths.now narrow.now wide.now pool.now) slot out.old }
     ensures out_after { out.new ≡ slot_out types.now fields.now consts.now bytes.now
         (in_place tag.now numbers.now log.now lengths.now narrow.now wide.now pool.now) slot out.old }

@@ -1,5 +1,4 @@
 -- A layout in numbers, zeros after a refusal.
-use Rattle.std.specs.Prelude.{ℕ}
 use Rattle.word.specs.Result.{Result, ok, refused}
 use Rattle.layout.specs.Offsets.{Values}
 use Rattle.held_types.specs.declared.Laying.{Laying}

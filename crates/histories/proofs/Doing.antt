@@ -24,7 +24,6 @@ use Rattle.door.specs.HeapCalls.{Test, admitted, whether, heap_tests, zeros, scr
 use Rattle.door.specs.HeapCalls.{Entry}
 use Rattle.std.specs.Prelude.{Err}
 use Rattle.std.specs.Prelude.{Ok}
-use Rattle.door.specs.HeapCalls.{ready}
 use Rattle.object_door.specs.ObjectCalls.{allocating, recycling, take_call}
 use Rattle.heap_door.specs.Sealing.{sealing}
 use Rattle.collect_door.specs.Calls.{table_in, tests, Asked, table, frame, pinning, joined_tests, joining}

@@ -10,11 +10,11 @@ use Rattle.heap.specs.Lent.{Lent, stored, view, slot_count, pool_size}
 use Rattle.heap.specs.WellFormed.{well_formed}
 use Rattle.heap.specs.Calls.{new, live_count}
 use Rattle.heap.proofs.Sound.{Sound}
-use Rattle.heap.proofs.Packing.{length-pad}
 use Rattle.heap.proofs.Storing.{view-stored}
 use Rattle.heap.proofs.Testing.{formed-tested}
 use Rattle.object_door.specs.Making.{new_call}
 use Rattle.object_door.proofs.Made.{new-formed}
+use Rattle.heap.proofs.Storing.{stored-count, stored-room}
 use Rattle.histories.specs.Steps.{Step}
 use Rattle.histories.specs.History.{after, Resolves}
 use Rattle.histories.specs.Calls.{Scratch, Call, contract, steps, Made, left, all_steps}
@@ -29,14 +29,6 @@ pub record Lies (l l' : Lent) (cs : List Step) : Type 0 where
   pub count : slot_count l' ≡ slot_count l
   pub room : pool_size l' ≡ pool_size l
   pub heap : view l' ≡ after (slot_count l) (pool_size l) cs (view l)
-
-stored-count : (S P : ℕ) (h : State) → slot_count (stored S P h) ≡ S
-unfolding stored
-stored-count S P h = refl
-
-stored-room : (S P : ℕ) (h : State) → Sound S P h → pool_size (stored S P h) ≡ P
-unfolding stored
-stored-room S P h k = length-pad P _ k.data-fit
 
 call_lies : (s : Scratch) (c : Call) (l : Lent) → well_formed l ≡ true → Lies l (contract s c l).heap (steps s c l)
 call_lies s c l wf =

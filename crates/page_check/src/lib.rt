@@ -1,7 +1,7 @@
 // The first pass over a page: what stands in the text, without touching the lent heap.
 #![tactic(auto)]
 
-ghost use Rattle.std.specs.Prelude.{◌≡◌, List, [], ◌∷◌, ◌++◌, ℕ, ◌+◌, ◌-◌, ◌*◌, ◌^◌, ◌≤◌, ◌<◌, length, take, drop, replicate, ◌&&◌, eqb, leb, ltb, ◌%◌, true, false, MatchOption};
+ghost use Rattle.std.specs.Prelude.{◌≡◌, [], ◌∷◌, ℕ, ◌+◌, ◌-◌, ◌*◌, ◌^◌, ◌≤◌, ◌<◌, length, drop, replicate, ◌&&◌, leb, ltb, ◌%◌, true, false, MatchOption};
 ghost use Rattle.text.specs.Text.{give};
 ghost use Rattle.text.specs.Answer.{value_answer};
 ghost use Rattle.pages.specs.Form.{writes_width, names, sealed_name};

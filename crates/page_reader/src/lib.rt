@@ -1,7 +1,7 @@
 // The second pass over a page: fills the lent heap, once the first pass has accepted the text.
 #![tactic(auto)]
 
-ghost use Rattle.std.specs.Prelude.{◌≡◌, List, [], ◌∷◌, ◌++◌, map, ℕ, ◌+◌, ◌-◌, ◌*◌, ◌/◌, ◌^◌, ◌≤◌, ◌<◌, length, take, drop, replicate, if◌then◌else◌};
+ghost use Rattle.std.specs.Prelude.{◌≡◌, map, ◌+◌, ◌-◌, ◌*◌, ◌/◌, ◌^◌, ◌≤◌, ◌<◌, length, replicate, if◌then◌else◌};
 ghost use Rattle.text.specs.Put.{put_text, Puts};
 ghost use Rattle.text.specs.Answer.{hex_at};
 ghost use Rattle.pages.specs.Form.{writes_width, from_column};

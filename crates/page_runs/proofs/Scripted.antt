@@ -18,7 +18,6 @@ use Rattle.heap.specs.Lent.{Lent, stored, view, slot_count, pool_size}
 use Rattle.heap.specs.WellFormed.{well_formed}
 use Rattle.heap.specs.Calls.{Changed, refuse, done, resolve, on_slot, take_slot, free}
 use Rattle.heap.proofs.Sound.{Sound}
-use Rattle.heap.proofs.Packing.{length-pad}
 use Rattle.heap.proofs.Storing.{view-stored, well-stored}
 use Rattle.heap.proofs.Testing.{formed-tested, formed-test}
 use Rattle.heap.proofs.Keeping.{take-sound}
@@ -34,6 +33,7 @@ use Rattle.object_door.specs.ObjectCalls.{is_kind, allocating, recycling}
 use Rattle.script.specs.Script.{Call, alloc, take, seal, recycle, call_of, lines, is_call, first_is_call, begins_call, silent, doing, line_does, unless, run_lines, run_script}
 use Rattle.script.proofs.Refusing.{Numbered, alloc-numbered, free-numbered}
 use Rattle.run_door.specs.Run.{run_tests, run_call}
+use Rattle.heap.proofs.Storing.{stored-count, stored-room}
 use Rattle.page_runs.specs.declared.Run.{Run}
 use Rattle.page_runs.specs.Inner.Steps.{Lies, Good, Ran}
 
@@ -131,14 +131,6 @@ pub record Told (l l' : Lent) (script : List ℕ) (number : ℕ) : Type 0 where
   pub heap : Lies l'
   pub done : number ≡ 0 → run_script 64 4096 script (view l) ≡ done tt (view l')
   pub refused : (number ≡ 0 → ⊥) → (run_script 64 4096 script (view l)).answer ≡ refused number
-
-stored-count : (S P : ℕ) (h : State) → slot_count (stored S P h) ≡ S
-unfolding stored
-stored-count S P h = refl
-
-stored-room : (S P : ℕ) (h : State) → Sound S P h → pool_size (stored S P h) ≡ P
-unfolding stored
-stored-room S P h k = length-pad P _ k.data-fit
 
 module _ (l : Lent) (lies : Lies l) where
   lies-there : (h : State) (l' : Lent) → Sound (slot_count l) (pool_size l) h → l' ≡ stored (slot_count l) (pool_size l) h → Lies l'

@@ -17,7 +17,7 @@ use Rattle.heap.specs.Calls.{done}
 use Rattle.word.proofs.PutLaws.{take_put}
 use Rattle.text.specs.Text.{newline, decimal, line}
 use Rattle.text.specs.Put.{put_text, Puts}
-use Rattle.text.proofs.Laws.{decimal-length}
+use Rattle.text.proofs.Laws.{digits-few}
 use Rattle.text.proofs.Putting.{puts-puts}
 use Rattle.refusal.specs.Told.{answered, here, nothing}
 use Rattle.refusal.specs.declared.Answer.{Answer}
@@ -48,9 +48,6 @@ taken_back out t = ap (λ (n : ℕ). take n (put_text out 0 t)) (sym (zero-add (
 -- a text at the start of the output
 pub ends-put : (a : List ℕ) {b : List ℕ} {r : ℕ} (t : List ℕ) → length t ≤ 14592 → r ≡ length t → b ≡ put_text a 0 t → Ends t b r
 ends-put a {b} {r} t h e p = record { room = omega arith; same = ap (take r) p ∙ ap (λ (n : ℕ). take n (put_text a 0 t)) e ∙ taken_back a t }
-
-pub digits-few : (n : ℕ) → n < 2 ^ 64 → length (decimal n) ≤ 20
-digits-few n h = decimal-length 19 n (omega arith)
 
 pub number_put : {a b c : List ℕ} {k r : ℕ} (n : ℕ) → n < 2 ^ 64 → Puts a b 0 k (decimal n) → Puts b c k r (newline ∷ []) → Ends (value_line n) c r
 unfolding value_line line

@@ -9,7 +9,7 @@ use lib.Dec.{eqb, leb}
 use borrow.Author.Tests.{lt-ltb, le-ltb, leb-true}
 use Rattle.text.specs.Text.{ascii, decimal, line}
 use Rattle.text.specs.Format.{All}
-use Rattle.text.proofs.Laws.{decimal-length, decimal-length-one}
+use Rattle.text.proofs.Laws.{decimal-length, decimal-length-one, digits-few}
 use Rattle.word.specs.Lists.{all}
 use Rattle.word.proofs.Bools.{and_both}
 use Rattle.heap.proofs.Counting.{sum, sum-add, sum_same, sum_ones, sum_first, times-append, times-length}
@@ -31,11 +31,8 @@ short n h = decimal-length 2 n (omega arith)
 middle : (n : ℕ) → n < 2 ^ 32 → length (decimal n) ≤ 10
 middle n h = decimal-length 9 n (omega arith)
 
-long : (n : ℕ) → n < 2 ^ 64 → length (decimal n) ≤ 20
-long n h = decimal-length 19 n (omega arith)
-
 writes-long : (w : Bool) (n : ℕ) → n < 2 ^ writes_width w → length (decimal n) ≤ 20
-writes-long true n h = long n h
+writes-long true n h = digits-few n h
 writes-long false n h = omega (arith, middle n h)
 
 digit : (n : ℕ) → n ≤ 3 → length (decimal n) ≡ 1
@@ -45,7 +42,7 @@ live-line : (p w : Bool) (s : Slot) → SlotWithin w s → s.kind ≤ 3 → leng
 unfolding slot_line line
 live-line p w s g k =
     simp length-append
-    (omega (arith, middle s.generation g.generation, digit s.kind k, middle s.type g.type, long s.start g.start, writes-long w s.writes g.writes, column-hex p s.bytes))
+    (omega (arith, middle s.generation g.generation, digit s.kind k, middle s.type g.type, digits-few s.start g.start, writes-long w s.writes g.writes, column-hex p s.bytes))
 
 dead-line : (p w : Bool) (s : Slot) → SlotWithin w s → s.kind ≡ 0 → s.type ≡ 0 → s.start ≡ 0 → s.writes ≡ 0 → length (slot_line p s) ≤ 20 + 2 * length s.bytes
 unfolding slot_line line
@@ -82,7 +79,7 @@ middle-lines (n ∷ l) h = rw (length-append (value_line n) (flat_map value_line
 long-lines : (l : List ℕ) → All (λ i. i < 2 ^ 64) l → length (flat_map value_line l) ≤ 21 * length l
 unfolding flat_map
 long-lines [] h = omega arith
-long-lines (n ∷ l) h = rw (length-append (value_line n) (flat_map value_line l)) (omega (arith, value-length n 20 (long n h.0), long-lines l h.1))
+long-lines (n ∷ l) h = rw (length-append (value_line n) (flat_map value_line l)) (omega (arith, value-length n 20 (digits-few n h.0), long-lines l h.1))
 
 retired-lines : (r : Bool) (l : List ℕ) → RetiredWithin r l → length (retired_part r l) ≤ 8 + 11 * length l
 unfolding retired_part retired_name ascii

@@ -10,23 +10,21 @@ use native.Mathlib.Decide.{ℕ_discrete}
 use native.Mathlib.Nat.{mul-pos}
 use lib.ListN.{length, drop, length-drop}
 use lib.Dec.{leb, eqb, ltb}
-use borrow.Author.Tests.{le-leb, eq-eqb, ne_eqb}
-use Rattle.std.specs.Prelude.{Result, Option as Maybe, Some, None, Ok, Err, unwrap_or, if◌then◌else◌}
-use Rattle.word.specs.Num.{align_up}
+use borrow.Author.Tests.{le-leb}
+use Rattle.std.specs.Prelude.{Option as Maybe, Some, None, Ok, Err, unwrap_or, if◌then◌else◌}
 use Rattle.word.proofs.NumLaws.{align_same, align-next}
 use Rattle.ty.specs.Types.{Ty, Ty.missing, Ty.int, Ty.physical, Ty.enum, Ty.real, Ty.array, Ty.fields, Ty.access, Ty.file, Ty.protected, Field, Field.field, Const, Const.plain, Const.other, Table, type_at, const_at, none as no_const}
 use Rattle.ty.specs.Words.{word_of, on_word, round_up, Word}
-use Rattle.ty.specs.Scalars.{scalar_size, elem_size, narrow, leaf_by, logic_leaf}
+use Rattle.ty.specs.Scalars.{elem_size, narrow, leaf_by, logic_leaf}
 use Rattle.ty.specs.Walks.{handles_by, handles_at, has_handles}
-use Rattle.layout.specs.Layout.{Lay, Dims, laid, on_ok, on_bytes, dims_of, under, used_by, placed, end_of, array_laid, array_of, record_of, scalar_laid, layout_by, layout_at, layout_of}
-use Rattle.layout.specs.Offsets.{if_laid as offsets_if, offsets_from, offsets_of, fields_of}
-use Rattle.refusal.specs.declared.Refusal.{Refusal}
-use Rattle.refusal.specs.declared.Refusal.TheVariants.{Malformed, TooLarge}
+use Rattle.layout.specs.Layout.{Lay, Dims, laid, on_ok, on_bytes, dims_of, under, used_by, placed, end_of, array_laid, array_of, record_of, layout_by, layout_at, layout_of}
+use Rattle.layout.specs.Offsets.{offsets_from, offsets_of, fields_of}
+use Rattle.refusal.specs.declared.Refusal.TheVariants.{TooLarge}
 use Rattle.layout.specs.declared.Layout.{Layout}
 use Rattle.layout.proofs.Levels.{Keeps, levels}
-use Rattle.trace.specs.Places.{Places, Below, only_if, both, many, turns, if_laid, if_bytes, part_places, field_desc, field_places, places_by, places_at, places_of}
+use Rattle.trace.specs.Places.{Places, only_if, both, many, turns, if_laid, if_bytes, part_places, field_desc, field_places, places_by, places_at, places_of}
 use Rattle.trace.proofs.DescLaws.{used-is-at}
-use Rattle.trace.proofs.Emits.{many-end, many-one, turns-none, turns-one}
+use Rattle.trace.proofs.Emits.{many-end, many-one, turns-one}
 
 -- ---- what a layout was made from
 

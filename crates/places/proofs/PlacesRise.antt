@@ -19,9 +19,7 @@ use Rattle.ty.specs.Scalars.{scalar_size, narrow, elem_size, logic_leaf}
 use Rattle.ty.specs.Walks.{desc_size, handles_at, has_handles}
 use Rattle.layout.specs.Layout.{Lay, laid, on_bytes, dims_of, under, used_by, placed, end_of, array_laid, array_of, record_of, scalar_laid, layout_by, layout_at, layout_of}
 use Rattle.layout.specs.Offsets.{offsets_from, offsets_of, fields_of}
-use Rattle.refusal.specs.declared.Refusal.{Refusal}
-use Rattle.refusal.specs.declared.Refusal.TheVariants.{Malformed, TooLarge}
-use Rattle.layout.specs.declared.Layout.{Layout}
+use Rattle.refusal.specs.declared.Refusal.TheVariants.{TooLarge}
 use Rattle.trace.specs.Places.{Places, Below, only_if, both, many, turns, if_laid, if_bytes, part_places, field_places, places_by, places_at, object_places, rising, handles_places, kind_places, handle_at, words_at, handles_of}
 use Rattle.trace.specs.Walk.{if_placed, walk}
 use Rattle.trace.specs.declared.tracer.Placed.{Placed}

@@ -1,5 +1,5 @@
 -- The loops that go back from a column: plane bytes put into their places, then running sums in place. Assumes nothing.
-use Rattle.std.proofs.Common.{◌≡◌, ℕ, zero, suc, ◌+◌, ◌-◌, ◌*◌, ◌/◌, ◌%◌, ◌<◌, ◌≤◌, List, [], ◌++◌, length, get_or, take, drop, set, sym, refl, ap, ◌∙◌, ap₂, append_assoc, mul-le-mul_right, suc-mul, zero-mul, arith, length-set, take-append-drop, take_all, get_or-set_other, get_or-set_same, drop-drop}
+use Rattle.std.proofs.Common.{◌≡◌, ℕ, zero, suc, ◌+◌, ◌-◌, ◌*◌, ◌/◌, ◌%◌, ◌<◌, ◌≤◌, List, ◌++◌, length, get_or, take, drop, set, sym, refl, ap, ◌∙◌, ap₂, append_assoc, mul-le-mul_right, suc-mul, zero-mul, arith, length-set, take-append-drop, take_all, get_or-set_other, get_or-set_same, drop-drop}
 use native.Mathlib.Decide.{dec_lt}
 use lib.Arith.{digits_lt, digits_div, digits_mod}
 use Rattle.word.specs.Le.{bytes}

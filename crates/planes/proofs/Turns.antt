@@ -1,7 +1,7 @@
 -- One law for each turn of the loops. Assumes nothing.
 use Rattle.std.specs.Int.{to_le_bytes}
 use borrow.Rule.Slice.PartMut.{put_mid}
-use Rattle.std.proofs.Common.{w64, ◌≡◌, ℕ, zero, suc, ◌+◌, ◌-◌, ◌*◌, ◌/◌, ◌%◌, ◌^◌, ◌<◌, ◌≤◌, List, [], ◌∷◌, ◌++◌, length, get_or, take, drop, set, sym, refl, ap, ◌∙◌, ap₂, mul-le-mul_right, suc-mul, zero-mul, div-mul-le_self, add-one, arith, length-drop, take_all}
+use Rattle.std.proofs.Common.{w64, ◌≡◌, ℕ, zero, suc, ◌+◌, ◌-◌, ◌*◌, ◌/◌, ◌%◌, ◌^◌, ◌<◌, ◌≤◌, List, [], ◌∷◌, ◌++◌, length, get_or, take, drop, set, sym, refl, ap, ◌∙◌, ap₂, mul-le-mul_right, suc-mul, zero-mul, div-mul-le_self, add-one, arith, length-drop}
 use Rattle.word.specs.Le.{le, bytes}
 use Rattle.word.specs.Lists.{tabulate}
 use Rattle.word.specs.Put.{put}
@@ -10,6 +10,7 @@ use Rattle.text.specs.Text.{hex}
 use Rattle.text.specs.Put.{Puts}
 use Rattle.text.proofs.Putting.{puts_none, puts-puts, puts-at, hex-append, puts-length, put-mid-put}
 use Rattle.text.proofs.Laws.{hex-length}
+use Rattle.word.proofs.ListLaws.{rest}
 use Rattle.planes.specs.Planes.{count, less, plus, rows, planes, turned, summed, restored}
 use Rattle.planes.specs.Inner.Words.{word_at, before, plane_byte, plane}
 use Rattle.planes.specs.Inner.Steps.{Scattering, Summing}
@@ -105,10 +106,6 @@ column-room {out₀} {out} {at} {k} {n} {l} {j} p h e room =
     let low : j * n + n ≤ 8 * n = omega (arith, suc-mul j n, mul-le-mul_right n h) in
     omega (arith, p.far, p.size)
 
--- the bytes after the words, as a part of a slice that is lent
-tail : (a : ℕ) (l : List ℕ) → take (length l - a) (drop a l) ≡ drop a l
-tail a l = take_all (length l - a) (drop a l) (omega (arith, length-drop a l))
-
 pub rest-room : {out₀ out : List ℕ} {at k : ℕ} {l : List ℕ} {j : ℕ} → Column out₀ out at k (count 8 l) l j → 8 ≤ j → at + 2 * length l ≤ length out₀ →
     k + length (hex (take (length l - count 8 l * 8) (drop (count 8 l * 8) l))) ≤ length out
 rest-room {out₀} {out} {at} {k} {l} {j} p h room =
@@ -116,7 +113,7 @@ rest-room {out₀} {out} {at} {k} {l} {j} p h room =
     let s : j ≡ 8 = omega (arith, p.within) in
     let f : j * n ≡ 8 * n = ap (λ (x : ℕ). x * n) s in
     let low : n * 8 ≤ length l = div-mul-le_self (length l) 8 in
-    rw (tail (n * 8) l) (omega (arith, hex-length (drop (n * 8) l), length-drop (n * 8) l, p.far, p.size))
+    rw (rest (n * 8) l) (omega (arith, hex-length (drop (n * 8) l), length-drop (n * 8) l, p.far, p.size))
 
 pub column-stop : {out₀ out to : List ℕ} {at k : ℕ} {l : List ℕ} {j : ℕ} (r : ℕ) → Column out₀ out at k (count 8 l) l j → 8 ≤ j → at + 2 * length l ≤ length out₀ →
     Puts out to k r (hex (take (length l - count 8 l * 8) (drop (count 8 l * 8) l))) → Puts out₀ to at r (hex (planes 8 l))
@@ -124,7 +121,7 @@ column-stop {out₀} {out} {to} {at} {k} {l} {j} r p h room q =
     let n : ℕ = count 8 l in
     let s : j ≡ 8 = omega (arith, p.within) in
     puts-at (puts-puts p.puts q (omega arith)) refl
-    (ap (λ (x : List ℕ). hex (rows j (plane 8 l)) ++ hex x) (tail (n * 8) l)
+    (ap (λ (x : List ℕ). hex (rows j (plane 8 l)) ++ hex x) (rest (n * 8) l)
     ∙ sym (hex-append (rows j (plane 8 l)) (drop (n * 8) l)) ∙ ap hex (ap (λ (x : ℕ). rows x (plane 8 l) ++ drop (n * 8) l) s ∙ sym (planes-parts 8 l)))
 
 -- planes into their places

@@ -1,14 +1,14 @@
 // Byte planes of eight-byte words: an object's column written in hexadecimal, and the object restored from it in place.
 #![tactic(auto)]
 
-ghost use Rattle.std.specs.Prelude.{◌≡◌, ℕ, ◌+◌, ◌-◌, ◌*◌, ◌/◌, ◌%◌, ◌^◌, ◌<◌, ◌≤◌, [], ◌∷◌, ◌++◌, length};
-ghost use Rattle.word.specs.Le.{le, bytes};
+ghost use Rattle.std.specs.Prelude.{◌≡◌, ◌+◌, ◌-◌, ◌*◌, ◌/◌, ◌%◌, ◌<◌, ◌≤◌, length};
+ghost use Rattle.word.specs.Le.{bytes};
 ghost use Rattle.word.specs.Put.{put};
 ghost use Rattle.text.specs.Text.{hex};
 ghost use Rattle.text.specs.Answer.{hex_at};
 ghost use Rattle.text.specs.Put.{Puts};
 ghost use Rattle.planes.specs.Planes.{count, planes, turned, summed, restored};
-ghost use Rattle.planes.specs.Inner.Words.{word_at, before, difference, plane_byte, plane};
+ghost use Rattle.planes.specs.Inner.Words.{before, plane_byte, plane};
 ghost use Rattle.planes.specs.Inner.Steps.{Scattering};
 
 use text::hex::Hex;

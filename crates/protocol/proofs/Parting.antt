@@ -6,7 +6,6 @@ use mathlib.Core.Option.{none, some}
 use Prim.Native.Nat.{ℕ, zero, suc, ◌+◌, ◌-◌, ◌≤◌, ◌<◌}
 use native.Mathlib.Omega.{arith}
 use lib.ListN.{length, take, drop, length-drop}
-use Rattle.std.proofs.Math.Seq.{take-length}
 use lib.Dec.{eqb}
 use borrow.Author.Tests.{eq-eqb}
 use Rattle.std.proofs.lemmas.Bool.{ne_eqb}
@@ -69,10 +68,6 @@ module _ (s : List ℕ) (most : ℕ) {r : Option (ℕ × ℕ)} (answer : r ≡ v
   pub number-none : r ≡ None → Err Bad ≡ or_bad {A = ℕ} (decimal_of most s)
   unfolding decimal_of
   number-none e = rw (answer-none s (read_decimal most s) answer e) refl
-
--- what `&s[k..]` is, and nothing of it at the end
-pub rest-from : (s : List ℕ) (k : ℕ) → take (length s - k) (drop k s) ≡ drop k s
-rest-from s k = ap (λ (n : ℕ). take n (drop k s)) (sym (length-drop k s)) ∙ take-length (drop k s)
 
 pub rest-front : (s : List ℕ) (k : ℕ) → k ≡ length s → take (length s - k) (drop k s) ≡ []
 rest-front s k e = ap (λ (n : ℕ). take n (drop k s)) (let z : length s - k ≡ 0 = omega arith in z)

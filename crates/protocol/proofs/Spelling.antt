@@ -17,20 +17,13 @@ use Rattle.std.specs.Prelude.{Option, Some, None, Result, Ok, Err, MatchOption, 
 use Rattle.std.specs.Result.{IsErrAnd}
 use Rattle.std.proofs.lemmas.Bool.{true≢false}
 use Rattle.text.specs.Text.{hex_digit_of, byte_of, read_decimal}
+use Rattle.word.proofs.Bools.{and-true, and-false}
 use Rattle.protocol.specs.declared.Fault.{Fault}
 use Rattle.protocol.specs.declared.Fault.TheVariants.{Bad}
-use Rattle.protocol.specs.Lines.{decimal_of, or_bad, signed_of, negated, dashed, joined, all_of, found, hex_of, bytes_of, parts, cut, listed, limited, list_of, single_of, pair_of, typed, lying, slot_of}
+use Rattle.protocol.specs.Lines.{decimal_of, or_bad, signed_of, negated, dashed, followed, all_of, option_of, hex_of, bytes_of, parts, cut, listed, limited, list_of, single_of, pair_of, typed, lying, slot_of}
 use Rattle.protocol.proofs.Parting.{parted-at, parted-nowhere, number-bound}
 
 -- ---- `-` alone
-
-and-true : (b : Bool) → (b && true) ≡ b
-and-true true = refl
-and-true false = refl
-
-and-false : (b : Bool) → (b && false) ≡ false
-and-false true = refl
-and-false false = refl
 
 pub dash-eq : (s : List ℕ) → pointwise eqb s (45 ∷ []) ≡ dashed s
 unfolding dashed
@@ -85,22 +78,22 @@ parts-at b (x ∷ xs) (suc i) l e h =
 
 -- ---- numbers one after the other
 
-joined-assoc : (xs : List ℕ) (o p : Option (List ℕ)) → joined (Some xs) (joined o p) ≡ joined (joined (Some xs) o) p
+joined-assoc : (xs : List ℕ) (o p : Option (List ℕ)) → followed (Some xs) (followed o p) ≡ followed (followed (Some xs) o) p
 joined-assoc xs None p = refl
 joined-assoc xs (Some ys) None = refl
 joined-assoc xs (Some ys) (Some zs) = ap Some (sym (append_assoc xs ys zs))
 
-joined-end : (xs : List ℕ) → joined (Some xs) (Some []) ≡ Some xs
+joined-end : (xs : List ℕ) → followed (Some xs) (Some []) ≡ Some xs
 joined-end xs = ap Some (append-nil xs)
 
-limited-over : (room : ℕ) (xs : List ℕ) (o : Option (List ℕ)) → room < length xs → limited room (joined (Some xs) o) ≡ None
+limited-over : (room : ℕ) (xs : List ℕ) (o : Option (List ℕ)) → room < length xs → limited room (followed (Some xs) o) ≡ None
 limited-over room xs None l = refl
 limited-over room xs (Some ys) l = let t : leb (length (xs ++ ys)) room ≡ false = lt-leb _ _ (omega (arith, length-append xs ys)) in rw t refl
 
 -- entries are left, and those before them gave these numbers
 pub record Left (read : List ℕ → Option (List ℕ)) (field items : List ℕ) (left : List (List ℕ)) : Type 0 where
   pub plain : false ≡ dashed field
-  pub all : joined (Some items) (listed read left) ≡ listed read (parts 44 field)
+  pub all : followed (Some items) (listed read left) ≡ listed read (parts 44 field)
 
 pub list-dash : (read : List ℕ → Option (List ℕ)) (room : ℕ) (field : List ℕ) → true ≡ dashed field → list_of read room field ≡ Some []
 unfolding list_of
@@ -110,23 +103,23 @@ module _ {read : List ℕ → Option (List ℕ)} {field : List ℕ} where
   pub left-all : false ≡ dashed field → Left read field [] (parts 44 field)
   left-all e = record { plain = e; all = nil-joined (listed read (parts 44 field)) }
     where
-      nil-joined : (o : Option (List ℕ)) → joined (Some []) o ≡ o
+      nil-joined : (o : Option (List ℕ)) → followed (Some []) o ≡ o
       nil-joined None = refl
       nil-joined (Some xs) = refl
 
   module _ {items : List ℕ} {left : List (List ℕ)} (h : Left read field items left) where
-    known : (room : ℕ) → list_of read room field ≡ limited room (joined (Some items) (listed read left))
+    known : (room : ℕ) → list_of read room field ≡ limited room (followed (Some items) (listed read left))
     unfolding list_of
     known room = rw (sym h.plain) (ap (limited room) (sym h.all))
 
-    pub left-next : (e : List ℕ) (es : List (List ℕ)) (more : List ℕ) → left ≡ e ∷ es → joined (Some items) (read e) ≡ Some more → Left read field more es
+    pub left-next : (e : List ℕ) (es : List (List ℕ)) (more : List ℕ) → left ≡ e ∷ es → followed (Some items) (read e) ≡ Some more → Left read field more es
     unfolding listed
     left-next e es more l r =
-        record { plain = h.plain; all = ap (λ (o : Option (List ℕ)). joined o (listed read es)) (sym r) ∙ sym (joined-assoc items (read e) (listed read es)) ∙ ap (λ (s : List (List ℕ)). joined (Some items) (listed read s)) (sym l) ∙ h.all }
+        record { plain = h.plain; all = ap (λ (o : Option (List ℕ)). followed o (listed read es)) (sym r) ∙ sym (joined-assoc items (read e) (listed read es)) ∙ ap (λ (s : List (List ℕ)). followed (Some items) (listed read s)) (sym l) ∙ h.all }
 
     pub left-none : (room : ℕ) (e : List ℕ) (es : List (List ℕ)) → left ≡ e ∷ es → read e ≡ None → list_of read room field ≡ None
     unfolding listed
-    left-none room e es l r = known room ∙ ap (λ (s : List (List ℕ)). limited room (joined (Some items) (listed read s))) l ∙ ap (λ (o : Option (List ℕ)). limited room (joined (Some items) (joined o (listed read es)))) r
+    left-none room e es l r = known room ∙ ap (λ (s : List (List ℕ)). limited room (followed (Some items) (listed read s))) l ∙ ap (λ (o : Option (List ℕ)). limited room (followed (Some items) (followed o (listed read es)))) r
 
     pub left-over : (room : ℕ) → room < length items → list_of read room field ≡ None
     left-over room l = known room ∙ limited-over room items _ l
@@ -135,7 +128,7 @@ module _ {read : List ℕ → Option (List ℕ)} {field : List ℕ} where
     unfolding listed
     left-end room e l =
         let t : leb (length items) room ≡ true = le-leb _ _ l in
-        known room ∙ ap (λ (s : List (List ℕ)). limited room (joined (Some items) (listed read s))) e ∙ ap (limited room) (joined-end items) ∙ rw t refl
+        known room ∙ ap (λ (s : List (List ℕ)). limited room (followed (Some items) (listed read s))) e ∙ ap (limited room) (joined-end items) ∙ rw t refl
 
 -- what is left grows smaller
 abbrev pub left_size : Option (Bor (List ℕ)) → ℕ
@@ -166,20 +159,13 @@ words-over most room {field} {items} h e es l full = go (decimal_of most e) refl
 
 -- digits are left, and those before them gave these bytes
 pub record Digits (field items left : List ℕ) : Type 0 where
-  pub all : joined (Some items) (hex_of left) ≡ hex_of field
+  pub all : followed (Some items) (hex_of left) ≡ hex_of field
 
-pub digits-all : (field : List ℕ) → Digits field [] field
-digits-all field = record { all = nil-joined (hex_of field) }
-  where
-    nil-joined : (o : Option (List ℕ)) → joined (Some []) o ≡ o
-    nil-joined None = refl
-    nil-joined (Some xs) = refl
-
-found-some : {A : Type 0} (o : maybe.Option A) (x : A) → found o ≡ Some x → o ≡ some x
+found-some : {A : Type 0} (o : maybe.Option A) (x : A) → option_of o ≡ Some x → o ≡ some x
 found-some none x e = let z : ◌≡◌ {A = ℕ} 0 1 = cc in absurd (omega arith)
 found-some (some y) x e = let z : y ≡ x = cc in ap some z
 
-found-none : {A : Type 0} (o : maybe.Option A) → found o ≡ None → o ≡ none
+found-none : {A : Type 0} (o : maybe.Option A) → option_of o ≡ None → o ≡ none
 found-none none e = refl
 found-none (some y) e = let z : ◌≡◌ {A = ℕ} 0 1 = cc in absurd (omega arith)
 
@@ -210,37 +196,37 @@ hex-odd (x ∷ []) l n = refl
 hex-odd (x ∷ y ∷ s) l n = absurd (omega arith)
 
 module _ {field items left : List ℕ} (h : Digits field items left) where
-  pub digits-next : (a b : ℕ) (t : List ℕ) (x y : ℕ) (more : List ℕ) → left ≡ a ∷ b ∷ t → found (hex_digit_of a) ≡ Some x → found (hex_digit_of b) ≡ Some y
+  pub digits-next : (a b : ℕ) (t : List ℕ) (x y : ℕ) (more : List ℕ) → left ≡ a ∷ b ∷ t → option_of (hex_digit_of a) ≡ Some x → option_of (hex_digit_of b) ≡ Some y
       → more ≡ items ++ ((x * 16 + y) ∷ []) → Digits field more t
   unfolding hex_of
   digits-next a b t x y more l p q m =
       let v : byte_of a b ≡ some (x * 16 + y) = byte-some a b x y (found-some _ x p) (found-some _ y q) in
       record {
         all =
-            ap (λ (s : List ℕ). joined (Some s) (hex_of t)) m
+            ap (λ (s : List ℕ). followed (Some s) (hex_of t)) m
             ∙ sym (joined-assoc items (Some ((x * 16 + y) ∷ [])) (hex_of t))
-            ∙ ap (λ (o : maybe.Option ℕ). joined (Some items) (joined (all_of (found o ∷ [])) (hex_of t))) (sym v)
-            ∙ ap (λ (s : List ℕ). joined (Some items) (hex_of s)) (sym l)
+            ∙ ap (λ (o : maybe.Option ℕ). followed (Some items) (followed (all_of (option_of o ∷ [])) (hex_of t))) (sym v)
+            ∙ ap (λ (s : List ℕ). followed (Some items) (hex_of s)) (sym l)
             ∙ h.all;
       }
 
   digits-bad : (a b : ℕ) (t : List ℕ) → left ≡ a ∷ b ∷ t → byte_of a b ≡ none → hex_of field ≡ None
   unfolding hex_of
   digits-bad a b t l v =
-      sym h.all ∙ ap (λ (s : List ℕ). joined (Some items) (hex_of s)) l ∙ ap (λ (o : maybe.Option ℕ). joined (Some items) (joined (all_of (found o ∷ [])) (hex_of t))) v
+      sym h.all ∙ ap (λ (s : List ℕ). followed (Some items) (hex_of s)) l ∙ ap (λ (o : maybe.Option ℕ). followed (Some items) (followed (all_of (option_of o ∷ [])) (hex_of t))) v
 
-  pub digits-high : (a b : ℕ) (t : List ℕ) → left ≡ a ∷ b ∷ t → found (hex_digit_of a) ≡ None → hex_of field ≡ None
+  pub digits-high : (a b : ℕ) (t : List ℕ) → left ≡ a ∷ b ∷ t → option_of (hex_digit_of a) ≡ None → hex_of field ≡ None
   digits-high a b t l p = digits-bad a b t l (byte-high a b (found-none _ p))
 
-  pub digits-low : (a b : ℕ) (t : List ℕ) → left ≡ a ∷ b ∷ t → found (hex_digit_of b) ≡ None → hex_of field ≡ None
+  pub digits-low : (a b : ℕ) (t : List ℕ) → left ≡ a ∷ b ∷ t → option_of (hex_digit_of b) ≡ None → hex_of field ≡ None
   digits-low a b t l p = digits-bad a b t l (byte-low a b (found-none _ p))
 
   pub digits-end : length left ≡ 0 → hex_of field ≡ Some items
   unfolding hex_of
-  digits-end e = sym h.all ∙ ap (λ (s : List ℕ). joined (Some items) (hex_of s)) (empty left e) ∙ joined-end items
+  digits-end e = sym h.all ∙ ap (λ (s : List ℕ). followed (Some items) (hex_of s)) (empty left e) ∙ joined-end items
 
   pub digits-odd : length left < 2 → (length left ≡ 0 → ⊥) → hex_of field ≡ None
-  digits-odd l n = sym h.all ∙ ap (joined (Some items)) (hex-odd left l n)
+  digits-odd l n = sym h.all ∙ ap (followed (Some items)) (hex-odd left l n)
 
 module _ (field : List ℕ) where
   pub bytes-dash : true ≡ dashed field → bytes_of field ≡ Some []
@@ -261,11 +247,11 @@ module _ (field : List ℕ) where
     bytes-plain n l = rw (sym e) (rw (ne_eqb (length field) 0 n) (rw (lt-leb (2 * 65536 + 1) (length field) (omega arith)) refl))
 
 -- a digit
-pub digit-low : (b : ℕ) → 48 ≤ b → b ≤ 57 → Ok (b - 48) ≡ or_bad (found (hex_digit_of b))
+pub digit-low : (b : ℕ) → 48 ≤ b → b ≤ 57 → Ok (b - 48) ≡ or_bad (option_of (hex_digit_of b))
 unfolding hex_digit_of
 digit-low b l m = rw (le-leb 48 b l, le-leb b 57 m) refl
 
-pub digit-high : (b n : ℕ) → 97 ≤ b → b ≤ 102 → n ≡ b - 87 → Ok n ≡ or_bad (found (hex_digit_of b))
+pub digit-high : (b n : ℕ) → 97 ≤ b → b ≤ 102 → n ≡ b - 87 → Ok n ≡ or_bad (option_of (hex_digit_of b))
 unfolding hex_digit_of
 digit-high b n l m e = rw (e, lt-leb b 57 (omega arith), le-leb 48 b (omega arith), le-leb 97 b l, le-leb b 102 m) refl
 
@@ -277,7 +263,7 @@ outside b i j n = go (leb i b) (leb b j) refl refl
     go true false p q = refl
     go true true p q = absurd (n (leb-true i b p) (leb-true b j q))
 
-pub digit-none : (b : ℕ) → (48 ≤ b → b ≤ 57 → ⊥) → (97 ≤ b → b ≤ 102 → ⊥) → Err Bad ≡ or_bad {A = ℕ} (found (hex_digit_of b))
+pub digit-none : (b : ℕ) → (48 ≤ b → b ≤ 57 → ⊥) → (97 ≤ b → b ≤ 102 → ⊥) → Err Bad ≡ or_bad {A = ℕ} (option_of (hex_digit_of b))
 unfolding hex_digit_of
 digit-none b h k = rw (outside b 48 57 h, outside b 97 102 k) refl
 
@@ -346,8 +332,8 @@ passed (Err e) why h k = λ b. k (sym h ∙ b)
 
 -- ---- entries
 
-pub put-on : (l xs new : List ℕ) (o : Option (List ℕ)) → o ≡ Some xs → new ≡ l ++ xs → joined (Some l) o ≡ Some new
-put-on l xs new o e m = ap (joined (Some l)) e ∙ ap Some (sym m)
+pub put-on : (l xs new : List ℕ) (o : Option (List ℕ)) → o ≡ Some xs → new ≡ l ++ xs → followed (Some l) o ≡ Some new
+put-on l xs new o e m = ap (followed (Some l)) e ∙ ap Some (sym m)
 
 pub pair-none : (e : List ℕ) → cut 58 e ≡ None → pair_of e ≡ None
 unfolding pair_of

@@ -76,27 +76,28 @@ abbrev pub script_of : List ℕ → List ℕ
 script_of field = if dashed field then [] else map unfolded field
 
 -- numbers and those that follow them, if there are both
-abbrev pub joined : Option (List ℕ) → Option (List ℕ) → Option (List ℕ)
-joined None o = None
-joined (Some xs) None = None
-joined (Some xs) (Some ys) = Some (xs ++ ys)
+abbrev pub followed : Option (List ℕ) → Option (List ℕ) → Option (List ℕ)
+followed None o = None
+followed (Some xs) None = None
+followed (Some xs) (Some ys) = Some (xs ++ ys)
 
 -- some numbers, if there is each
 abbrev pub all_of : List (Option ℕ) → Option (List ℕ)
 all_of [] = Some []
 all_of (None ∷ os) = None
-all_of (Some x ∷ os) = joined (Some (x ∷ [])) (all_of os)
+all_of (Some x ∷ os) = followed (Some (x ∷ [])) (all_of os)
 
 -- BYTES in hexadecimal, two digits each, up to 65536 of them
 
-abbrev pub found : {A : Type 0} → maybe.Option A → Option A
-found none = None
-found (some x) = Some x
+-- what a reader of text found, as std's Option
+abbrev pub option_of : {A : Type 0} → maybe.Option A → Option A
+option_of none = None
+option_of (some x) = Some x
 
 unfoldable pub hex_of : List ℕ → Option (List ℕ)
 hex_of [] = Some []
 hex_of (a ∷ []) = None
-hex_of (a ∷ b ∷ t) = joined (all_of (found (byte_of a b) ∷ [])) (hex_of t)
+hex_of (a ∷ b ∷ t) = followed (all_of (option_of (byte_of a b) ∷ [])) (hex_of t)
 
 unfoldable pub bytes_of : List ℕ → Option (List ℕ)
 bytes_of field =
@@ -123,7 +124,7 @@ cut b text = if leb (length text) (length (before b text)) then None else Some (
 -- the numbers of all entries, if each spells some
 unfoldable pub listed : (read : List ℕ → Option (List ℕ)) → List (List ℕ) → Option (List ℕ)
 listed read [] = Some []
-listed read (e ∷ es) = joined (read e) (listed read es)
+listed read (e ∷ es) = followed (read e) (listed read es)
 
 -- no more than `room` of them
 abbrev pub limited : (room : ℕ) → Option (List ℕ) → Option (List ℕ)

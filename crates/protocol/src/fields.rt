@@ -1,10 +1,10 @@
 // The fields of a line. The clause `value` of a function says which value the field spells (specs/Lines.antt), and `refused` when it is `Bad`: memory that runs out is another fault.
-ghost use Rattle.std.specs.Prelude.{◌≡◌, ◌≢◌, ◌↔◌, ℕ, List, Option, Some, None, true, false, ◌*◌, ◌<◌, ◌≤◌, ◌^◌, ◌-◌, ◌∷◌, [], length, map, IfOk, IfErr, IfSome, MatchOption, if◌then◌else◌};
+ghost use Rattle.std.specs.Prelude.{◌≡◌, ◌≢◌, ◌↔◌, ℕ, List, Option, Some, None, true, ◌*◌, ◌<◌, ◌≤◌, ◌^◌, ◌-◌, ◌∷◌, [], length, map, IfOk, IfErr, IfSome, MatchOption};
 ghost use Rattle.std.specs.List.{All};
 ghost use Rattle.std.specs.Str.{IsUtf8};
 ghost use Rattle.text.specs.Text.{hex_digit_of};
 ghost use Rattle.protocol.specs.declared.Fault.TheVariants.{Bad};
-ghost use Rattle.protocol.specs.Lines.{field_of, rest_of, decimal_of, given_or, unfolded, or_bad, signed_of, dashed, script_of, found, bytes_of, joined, parts, rest_parts, cut, list_of, single_of, pair_of, typed, slot_of};
+ghost use Rattle.protocol.specs.Lines.{field_of, rest_of, decimal_of, given_or, unfolded, or_bad, signed_of, dashed, script_of, option_of, bytes_of, followed, parts, rest_parts, cut, list_of, single_of, pair_of, typed, slot_of};
 
 use crate::{Fault, find};
 use std::alloc::Global;
@@ -87,7 +87,7 @@ trait Entry {
 
     // Puts them behind the list's.
     fn put(entry: &[u8], list: &mut Vec<u32>) -> Result<(), Fault>
-        ensures value { IfOk result (λ u. joined (Some list.old.items) (numbers entry.now) ≡ Some list.new.items) }
+        ensures value { IfOk result (λ u. followed (Some list.old.items) (numbers entry.now) ≡ Some list.new.items) }
         ensures refused { IfErr result (λ e. e ≡ Bad → numbers entry.now ≡ None) };
 }
 
@@ -132,7 +132,7 @@ impl Entry for Slot {
 
 // The value of a lowercase hexadecimal digit.
 fn digit(b: u8) -> Result<u8, Fault>
-    ensures value { result ≡ or_bad (found (hex_digit_of b)) }
+    ensures value { result ≡ or_bad (option_of (hex_digit_of b)) }
     ensures small { IfOk result (λ d. d < 16) }
 {
     match b {

@@ -1,19 +1,18 @@
 -- Visiting keeps the state good, and only adds to the queue. Assumes nothing.
 use Prim.Native.Nat.{ℕ, zero, suc, ◌+◌, ◌≤◌, ◌<◌}
 use mathlib.Core.Path.{◌≡◌, refl, sym, ap, ◌∙◌, subst}
-use mathlib.Core.Logic.{◌⊎◌, inl, inr, ⊎_elim, ◌≢◌}
+use mathlib.Core.Logic.{◌⊎◌, inl, inr, ⊎_elim}
 use mathlib.Core.Bool.{Bool, true, false}
-use mathlib.Core.Option.{Option, none, some}
 use mathlib.Core.List.{List, [], ◌∷◌, ◌++◌, append_assoc, append-nil}
 use lib.ListN.{length, get_or, set, replicate, length-set, length-append, length-replicate, get_or-replicate, get_or-append}
 use lib.Seq.{get_or-set_same, get_or-set_other}
-use lib.Dec.{ltb, eqb}
-use borrow.Author.Tests.{eqb-true, eqb-false, eq-eqb, ne_eqb, ltb-true, ltb-false, lt-ltb, le-ltb}
-use native.Mathlib.Nat.{le_of_suc-le-suc, not-suc-le-zero, zero-add, suc-add}
+use lib.Dec.{eqb}
+use borrow.Author.Tests.{eqb-true, eqb-false}
+use native.Mathlib.Nat.{le_of_suc-le-suc, not-suc-le-zero, zero-add}
 use native.Mathlib.Decide.{ℕ_discrete}
 use native.Mathlib.Omega.{arith}
-use Rattle.reach.specs.Reach.{Graph, Starts, ◌∈◌, First, Next, Linked, Chain, last_of, LeadsTo, Reached, Stuck}
-use Rattle.reach.specs.Marking.{State, sum, Good, nothing, met, visit, visit_maybe, follow, follow_all, pin_if, pin_all, seeded, drained, marking, or_done, or_stuck}
+use Rattle.reach.specs.Reach.{◌∈◌}
+use Rattle.reach.specs.Marking.{State, sum, Good, nothing, met, visit}
 
 -- ---- membership
 

@@ -1,18 +1,18 @@
 -- The marking marks exactly what is reached, and fails exactly where a reached object can't be traced. Assumes nothing.
 use Prim.Native.Nat.{ℕ, zero, suc, ◌+◌, ◌≤◌, ◌<◌}
 use mathlib.Core.Path.{◌≡◌, refl, sym, ap, ◌∙◌, subst}
-use mathlib.Core.Logic.{◌⊎◌, inl, inr, ⊎_elim, ◌≢◌, ◌↔◌}
+use mathlib.Core.Logic.{◌⊎◌, inl, inr, ⊎_elim, ◌↔◌}
 use mathlib.Core.Bool.{Bool, true, false}
 use mathlib.Core.Option.{Option, none, some}
-use mathlib.Core.List.{List, [], ◌∷◌, ◌++◌, append_assoc, append-nil}
+use mathlib.Core.List.{List, [], ◌∷◌, ◌++◌}
 use lib.ListN.{length, get_or}
-use lib.Dec.{ltb, eqb}
-use borrow.Author.Tests.{ltb-true, ltb-false, lt-ltb, le-ltb}
+use lib.Dec.{ltb}
+use borrow.Author.Tests.{ltb-true, ltb-false}
 use native.Mathlib.Omega.{arith}
 use native.Mathlib.Decide.{dec_lt}
-use Rattle.reach.specs.Reach.{Graph, Starts, ◌∈◌, First, Next, Linked, Chain, last_of, LeadsTo, Reached, Stuck}
-use Rattle.reach.specs.Marking.{State, Good, nothing, met, visit, visit_maybe, follow, follow_all, pin_if, pin_all, seeded, drained, marking, or_done, or_stuck}
-use Rattle.reach.proofs.Grown.{Grown, ∈-left, ∈-right, ∈-cases, ∈-one, ∈-get_or, ∈-index, good-nothing, good-room, grown-same, grown-then, grown-in, grown-all, grown-at, grown-length, visit-grown, visit-in}
+use Rattle.reach.specs.Reach.{Graph, Starts, ◌∈◌, First, Next, Linked, Chain, last_of, LeadsTo, Reached, UntraceableFrom}
+use Rattle.reach.specs.Marking.{State, Good, nothing, visit, visit_maybe, follow, follow_all, pin_if, pin_all, seeded, drained, marking, or_done, or_stuck}
+use Rattle.reach.proofs.Grown.{Grown, ∈-get_or, ∈-index, good-nothing, good-room, grown-same, grown-then, grown-in, grown-all, grown-at, grown-length, visit-grown, visit-in}
 
 -- objects have slots below n
 pub record Sized (G : Graph) (n : ℕ) : Type 0 where
@@ -133,10 +133,10 @@ pub record Marked (G : Graph) (S : Starts) (n : ℕ) (s : State) : Type 0 where
   pub sound : (i : ℕ) → i ∈ s.queue → Reached G S i
   pub whole : (i : ℕ) → Reached G S i → i ∈ s.queue
   -- and each has been traced
-  pub free : Stuck G S → ⊥
+  pub free : UntraceableFrom G S → ⊥
 
 abbrev pub Answer : Graph → Starts → ℕ → Option State → Type 0
-Answer G S n none = Stuck G S
+Answer G S n none = UntraceableFrom G S
 Answer G S n (some s) = Marked G S n s
 
 module _ (G : Graph) (S : Starts) (n : ℕ) (z : Sized G n) where
@@ -206,7 +206,7 @@ module _ (G : Graph) (S : Starts) (n : ℕ) (z : Sized G n) where
           (hs, ap G.handles (grown-at n (Reached G S) s (follow_all G.resolve s hs) a j (omega arith) ∙ ap (λ (y : ℕ). get_or s.queue y 0) v) ∙ e, c)
 
   -- the object at k can't be traced
-  pub going-stuck : (s : State) (k : ℕ) → Going G S n s k → k < length s.queue → G.handles (get_or s.queue k 0) ≡ none → Stuck G S
+  pub going-stuck : (s : State) (k : ℕ) → Going G S n s k → k < length s.queue → G.handles (get_or s.queue k 0) ≡ none → UntraceableFrom G S
   going-stuck s k g h e = (get_or s.queue k 0, g.sound (get_or s.queue k 0) (∈-get_or s.queue k h), e)
 
   -- one turn of the marking, whatever the turns after it give
@@ -236,10 +236,10 @@ module _ (G : Graph) (S : Starts) (n : ℕ) (z : Sized G n) where
   -- ---- THE THEOREM
 
   -- the marking fails exactly where a reached object can't be traced
-  pub refused : (marking G S n ≡ none) ↔ Stuck G S
+  pub refused : (marking G S n ≡ none) ↔ UntraceableFrom G S
   refused = (λ e. subst (Answer G S n) e marking-answer, λ x. back x (marking G S n) refl)
     where
-      back : Stuck G S → (r : Option State) → marking G S n ≡ r → marking G S n ≡ none
+      back : UntraceableFrom G S → (r : Option State) → marking G S n ≡ r → marking G S n ≡ none
       back x none e = e
       back x (some s) e = absurd ((subst (Answer G S n) e marking-answer).free x)
 

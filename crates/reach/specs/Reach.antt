@@ -1,5 +1,5 @@
 -- What a collection keeps (01, "Frame map and joined collection"; demand 3): chains of objects, and what is reached. No worklist is named here.
-use Rattle.std.specs.Prelude.{ℕ, ◌<◌, ◌≡◌, ◌⊎◌, Bool, true, List, [], ◌∷◌}
+use Rattle.std.specs.Prelude.{ℕ, ◌≡◌, ◌⊎◌, Bool, true, List, [], ◌∷◌}
 use Rattle.std.proofs.Math.Option.{Option, none, some}
 
 infix 20 ◌∈◌
@@ -55,5 +55,5 @@ abbrev pub Reached : Graph → Starts → ℕ → Type 0
 Reached G S o = (c : List ℕ) × Chain G S c × LeadsTo c o
 
 -- a reached object can't be traced
-abbrev pub Stuck : Graph → Starts → Type 0
-Stuck G S = (o : ℕ) × Reached G S o × (G.handles o ≡ none)
+abbrev pub UntraceableFrom : Graph → Starts → Type 0
+UntraceableFrom G S = (o : ℕ) × Reached G S o × (G.handles o ≡ none)

@@ -2,23 +2,22 @@
 use Prim.Native.Nat.{ℕ, zero, suc, ◌+◌, ◌-◌, ◌^◌, ◌≤◌, ◌<◌}
 use native.Mathlib.Omega.{arith}
 use native.Mathlib.Decide.{dec_lt, ℕ_discrete}
-use mathlib.Core.Bool.{Bool, true, false, ◌&&◌}
+use mathlib.Core.Bool.{Bool, true, false}
 use mathlib.Core.List.{List, [], ◌∷◌, ◌++◌, map, map-append}
 use mathlib.Core.Path.{◌≡◌, refl, sym, ap, ◌∙◌, subst}
-use lib.Dec.{eqb, ltb, leb}
-use lib.ListN.{length, get_or, set, length-append, length-map, length-set, get_or-map}
-use lib.Seq.{get_or-set_same, get_or-set_other, set_out, get_or_at}
+use lib.Dec.{ltb, leb}
+use lib.ListN.{length, get_or, set, length-append, length-map, get_or-map}
+use lib.Seq.{get_or_at}
 use borrow.Author.Tests.{le-leb, lt-leb, lt-ltb, le-ltb, leb-true}
 use Rattle.std.specs.Prelude.{if◌then◌else◌}
 use Rattle.word.specs.Num.{saturating}
-use Rattle.word.specs.Result.{Result, ok, refused}
+use Rattle.word.specs.Result.{ok, refused}
 use Rattle.word.proofs.Bools.{either, and_both}
 use mathlib.Core.Logic.{⊎_elim}
 use Rattle.handle.specs.Handle.{packed}
 use Rattle.heap.specs.Packing.{flat}
-use Rattle.heap.specs.State.{Slot, State, no_slot, slot_at, live, data_of, bit, times, with_free, with_slots}
+use Rattle.heap.specs.State.{Slot, State, no_slot, slot_at, live, data_of, bit, times, with_free}
 use Rattle.heap.specs.Calls.{Changed, refuse, alloc_from, charged, placed, grown, last, but_last, allocated, with_slot, step, type_for}
-use Rattle.heap.proofs.Sound.{Sound, live_bit}
 use Rattle.heap.proofs.Counting.{free-inside, inside, times-member}
 use Rattle.heap.proofs.Keeping.{step-most, at_same, at_other, since-sound}
 use Rattle.heap.proofs.Storing.{map-set}
@@ -29,7 +28,7 @@ use Rattle.rehearsal.specs.Machine.{Object, Machine, lengths, inserted, paid, is
 use Rattle.rehearsal.specs.OnHeap.{told}
 use Rattle.rehearsal.proofs.Simulation.{Tells}
 use Rattle.rehearsal.proofs.Objects.{object_of, objects, objects-lengths, Young, inserted-objects, objects-grown}
-use Rattle.rehearsal.proofs.Relation.{ages, machine_of, Good, Stands, few, bare}
+use Rattle.rehearsal.proofs.Relation.{ages, machine_of, Good, Stands, bare}
 
 -- ---- the machine's call by its ways out
 
@@ -118,7 +117,7 @@ grown-all Q [] z h (suc i) = z
 grown-all Q (s ∷ ss) z h zero = h 0
 grown-all Q (s ∷ ss) z h (suc i) = grown-all Q ss z (λ k. h (suc k)) i
 
-no-bit : (b : Bool) → bit b ≡ 0 → b ≡ false
+pub no-bit : (b : Bool) → bit b ≡ 0 → b ≡ false
 no-bit true e = absurd (omega arith)
 no-bit false e = refl
 

@@ -1,10 +1,10 @@
 -- A line of figures has at most 67 bytes, so 80 are room enough. Assumes nothing.
-use Prim.Native.Nat.{ℕ, zero, suc, ◌+◌, ◌*◌, ◌^◌, ◌≤◌, ◌<◌, max}
+use Prim.Native.Nat.{ℕ, suc, ◌+◌, ◌*◌, ◌^◌, ◌≤◌, ◌<◌}
 use native.Mathlib.Omega.{arith}
 use mathlib.Core.Bool.{Bool, true, false}
 use mathlib.Core.List.{List, [], ◌∷◌, ◌++◌}
 use mathlib.Core.Option.{Option, none, some}
-use mathlib.Core.Path.{◌≡◌, refl, sym, ap, ◌∙◌, subst}
+use mathlib.Core.Path.{◌≡◌, refl, subst}
 use lib.Dec.{eqb, ltb, leb}
 use lib.ListN.{length, length-append}
 use Rattle.std.specs.Prelude.{if◌then◌else◌}
@@ -19,10 +19,10 @@ use Rattle.heap.specs.Calls.{Changed, refuse, charged, grown, last, but_last, pl
 use Rattle.collection.specs.Swept.{live_size}
 use Rattle.object_door.specs.ObjectCalls.{is_kind, allocating}
 use Rattle.rehearsal.specs.Lines.{Line, alloc, store, drop}
-use Rattle.rehearsal.specs.Runs.{Told, World, Held, held_at, handles, Run, ends, unless, swept, collecting, placed, allocating as allocs, wrote, storing, dropping, does, after, starting, Figures, figures_of, rehearsed, figures_line, figures_text}
-use Rattle.rehearsal.specs.Machine.{Machine, collects, stores, allocs as allocs_plain}
-use Rattle.rehearsal.specs.OnHeap.{told, collects_heap, stores_heap, heaped, fresh}
-use Rattle.rehearsal.proofs.Simulation.{Both, Tells}
+use Rattle.rehearsal.specs.Runs.{World, held_at, handles, Run, ends, unless, swept, collecting, placed, allocating as allocs, wrote, storing, dropping, does, after, starting, rehearsed, figures_line, figures_text}
+use Rattle.rehearsal.specs.Machine.{Machine, collects, stores}
+use Rattle.rehearsal.specs.OnHeap.{collects_heap, stores_heap, heaped, fresh}
+use Rattle.rehearsal.proofs.Simulation.{Both}
 use Rattle.rehearsal.proofs.Relation.{machine_of, Good, Stands, stands-new}
 use Rattle.rehearsal.proofs.Allocating.{alloc-alike}
 use Rattle.rehearsal.proofs.Storing.{store-alike}

@@ -1,8 +1,8 @@
 -- A collection of the machine is that of the heap. Assumes nothing.
-use Prim.Native.Nat.{ℕ, ◌+◌, ◌^◌, ◌≤◌, ◌<◌}
+use Prim.Native.Nat.{ℕ, ◌+◌, ◌^◌, ◌<◌}
 use native.Mathlib.Omega.{arith}
 use mathlib.Core.Bool.{Bool, true, false, not}
-use mathlib.Core.List.{List, [], ◌∷◌, ◌++◌, append-nil}
+use mathlib.Core.List.{List, [], ◌++◌, append-nil}
 use mathlib.Core.Logic.{◌↔◌, ⊎_elim, inr}
 use mathlib.Core.Option.{Option, none, some}
 use mathlib.Core.Path.{◌≡◌, refl, sym, ap, ◌∙◌, subst}
@@ -11,7 +11,7 @@ use lib.ListN.{length, get_or, get_or-map}
 use lib.Seq.{ext_get_or}
 use borrow.Author.Tests.{eqb-true, eq-eqb}
 use Rattle.std.specs.Prelude.{if◌then◌else◌}
-use Rattle.word.specs.Result.{Result, ok, refused}
+use Rattle.word.specs.Result.{Result, ok}
 use Rattle.word.proofs.Bools.{bool-ext, true-false}
 use Rattle.word.specs.Lists.{filter}
 use Rattle.text.proofs.Laws.{none-not-some, some_inj}
@@ -19,9 +19,8 @@ use Rattle.handle.specs.Handle.{packed}
 use Rattle.ty.specs.Types.{Table}
 use Rattle.trace.specs.Places.{handles_of}
 use Rattle.heap.specs.State.{Slot, State, no_slot, slot_at, live, last_generation, worn}
-use Rattle.heap.specs.Calls.{Changed, resolve, member, released}
-use Rattle.heap.proofs.Sound.{Sound}
-use Rattle.reach.specs.Reach.{Graph, Starts, Reached, Stuck, First, Next, ◌∈◌}
+use Rattle.heap.specs.Calls.{resolve, member, released}
+use Rattle.reach.specs.Reach.{Graph, Starts, Reached, UntraceableFrom, ◌∈◌}
 use Rattle.reach.specs.Marking.{State as Marks, marking}
 use Rattle.reach.proofs.Grown.{∈-left, ∈-cases}
 use Rattle.reach.proofs.Sound.{reached-first, reached-next, reached-ind, refused as stuck-exactly, lost as lost-exactly}
@@ -30,19 +29,15 @@ use Rattle.heap.proofs.Keeping.{live_inside}
 use Rattle.collection.proofs.Dropping.{swept_slot}
 use Rattle.collection.proofs.SweptLaws.{swept-slot, swept-count, swept-sound, swept-tag, swept-free, swept-quarantine, swept-sealed, swept-since, swept-live}
 use Rattle.collection.specs.Collected.{found, graph, starts, swept_by, collected}
-use Rattle.collection.proofs.Demand.{sized}
+use Rattle.collection.proofs.Demand.{sized, found_ok}
 use Rattle.collection.specs.Shown.{shown}
-use Rattle.rehearsal.specs.Machine.{Object, Machine, sizes, look, shows, handle_of, shown_by, chains, from, Tells, Right, those, stuck, numbers, older, left, collects}
+use Rattle.rehearsal.specs.Machine.{Object, sizes, look, shows, handle_of, shown_by, chains, from, Tells, Right, those, stuck, numbers, older, left, collects}
 use Rattle.rehearsal.specs.OnHeap.{collects_heap, left as left_heap}
 use Rattle.rehearsal.proofs.Simulation.{Both}
-use Rattle.rehearsal.proofs.Objects.{object_of, objects, objects-sizes, Young, swept_from, swept-length, swept_at, Agree, kept-objects, gone-objects, gone-ages, Blocked, stuck-found, stuck_there}
-use Rattle.rehearsal.proofs.Relation.{ages, machine_of, Good, Stands, few, resolved-handle, handle-resolves, looks, resolved-look, Seen, look-seen}
+use Rattle.rehearsal.proofs.Objects.{object_of, objects, objects-sizes, swept_from, swept-length, swept_at, Agree, kept-objects, gone-objects, gone-ages, Blocked, stuck-found, stuck_there}
+use Rattle.rehearsal.proofs.Relation.{ages, machine_of, Good, Stands, few, resolved-handle, handle-resolves, looks, resolved-look, look-seen}
 use Rattle.rehearsal.proofs.Allocating.{step_small}
 use Rattle.rehearsal.proofs.Storing.{both_by}
-
-found_ok : (r : Result ℕ) (i : ℕ) → found r ≡ some i → r ≡ ok i
-found_ok (ok j) i e = ap ok (some_inj e)
-found_ok (refused n) i e = absurd (none-not-some e)
 
 same_ok : (r : Result ℕ) (i j : ℕ) → r ≡ ok i → r ≡ ok j → i ≡ j
 same_ok r i j p q = cc
@@ -125,7 +120,7 @@ module _ (T : Table) {S P : ℕ} {h : State} (g : Good S P h) (roots : List ℕ)
     zero-plus : (i : ℕ) → 0 + i ≡ i
     zero-plus i = omega arith
 
-    stuck-machine : Stuck Gh Sh → stuck T keep os ≡ true
+    stuck-machine : UntraceableFrom Gh Sh → stuck T keep os ≡ true
     stuck-machine s =
         let i : ℕ = s.0 in
         let f = from-heap i s.1 in
@@ -133,7 +128,7 @@ module _ (T : Table) {S P : ℕ} {h : State} (g : Good S P h) (roots : List ℕ)
         (subst (λ (k : ℕ). keep (packed 1 k (slot_at h i).generation) ≡ true) (sym (zero-plus i)) (reached-keep i s.1))
         (shows_same i ∙ s.2)
 
-    stuck-heap : stuck T keep os ≡ true → Stuck Gh Sh
+    stuck-heap : stuck T keep os ≡ true → UntraceableFrom Gh Sh
     stuck-heap e =
         let b : Blocked T keep 0 h.slots = stuck-found T keep 0 h.slots e in
         (b.at, keep-reached b.at b.alive (subst (λ (k : ℕ). keep (packed 1 k (slot_at h b.at).generation) ≡ true) (zero-plus b.at) b.kept), sym (shows_same b.at) ∙ b.hidden)
@@ -206,7 +201,7 @@ module _ (T : Table) {S P : ℕ} {h : State} (g : Good S P h) (roots : List ℕ)
     unfolding collects collects_heap collected
     collect-alike = go (marking Gh Sh (length h.slots)) refl
       where
-        exactly : (marking Gh Sh (length h.slots) ≡ none) ↔ Stuck Gh Sh
+        exactly : (marking Gh Sh (length h.slots) ≡ none) ↔ UntraceableFrom Gh Sh
         exactly = stuck-exactly Gh Sh (length h.slots) (sized h (shown T h))
 
         go : (r : Option Marks) → marking Gh Sh (length h.slots) ≡ r → Both (Stands S P) (if stuck T keep os then none else some (left keep (machine_of h))) (left_heap (swept_by h [] (marking Gh Sh (length h.slots))))

@@ -1,7 +1,6 @@
 -- Rehearsals by computation. Assumes nothing.
 use Prim.Native.Nat.{ℕ, ◌+◌}
 use mathlib.Core.List.{List, [], ◌∷◌, ◌++◌, map, flat_map}
-use mathlib.Core.Option.{some}
 use mathlib.Core.Path.{◌≡◌, refl}
 use lib.ListN.{replicate}
 use Rattle.word.specs.Le.{le, bytes}
@@ -10,7 +9,7 @@ use Rattle.handle.specs.Handle.{packed, tag_of, index_of, generation_of, resolve
 use Rattle.ty.specs.Types.{Table}
 use Rattle.text.specs.Text.{ascii, decimal, digits, hex, hex_digit, line}
 use Rattle.heap.specs.Packing.{flat}
-use Rattle.heap.specs.State.{State, times}
+use Rattle.heap.specs.State.{times}
 use Rattle.heap.specs.Calls.{new, alloc_from, resolve, write, recycle}
 use Rattle.object_door.specs.ObjectCalls.{allocating}
 use Rattle.reach.specs.Marking.{marking, drained, visit, follow}

@@ -1,5 +1,5 @@
 -- The live slots of a heap as the plain machine's objects. Assumes nothing.
-use Prim.Native.Nat.{ℕ, zero, suc, ◌+◌, ◌*◌, ◌^◌, ◌≤◌, ◌<◌}
+use Prim.Native.Nat.{ℕ, zero, suc, ◌+◌, ◌^◌, ◌≤◌, ◌<◌}
 use native.Mathlib.Omega.{arith}
 use mathlib.Core.Bool.{Bool, true, false, not, ◌&&◌, ◌||◌}
 use mathlib.Core.List.{List, [], ◌∷◌, ◌++◌, map}
@@ -9,8 +9,6 @@ use lib.Dec.{eqb, ltb}
 use lib.ListN.{length, get_or, set, length-append}
 use borrow.Author.Tests.{ne_eqb, eq-eqb, eqb-true, lt-ltb, le-ltb}
 use Rattle.std.specs.Prelude.{if◌then◌else◌}
-use Rattle.word.specs.Le.{bytes as bytes_of}
-use Rattle.word.specs.Put.{put}
 use Rattle.handle.specs.Handle.{packed, index_of}
 use Rattle.handle.proofs.HandleLaws.{index-packed}
 use Rattle.text.proofs.Laws.{none-not-some, some_inj}
@@ -22,6 +20,7 @@ use Rattle.heap.specs.State.{Slot, no_slot, live, data_size, data_of, bit, times
 use Rattle.heap.specs.Calls.{step, member, released}
 use Rattle.collection.specs.Swept.{goes, dropped, live_size}
 use Rattle.collection.proofs.Dropping.{swept_slot}
+use Rattle.heap_calls.proofs.Marked.{bit-positive}
 use Rattle.rehearsal.specs.Machine.{Object, sizes, lengths, look, inserted, stored, stored_at, those, numbers, older, shows, untraceable, stuck}
 
 abbrev pub object_of : ℕ → Slot → Object
@@ -283,10 +282,6 @@ member-dropped marks i (s ∷ ss) (suc j) h =
     go true e = rw (ne_eqb i (suc i + j) (λ q. omega arith)) (omega arith)
     go false e = e
 
-above-bit : (b : Bool) → ltb 0 (bit b) ≡ b
-above-bit true = refl
-above-bit false = refl
-
 older-ages : (marks gone : List ℕ) (i : ℕ) (ss : List Slot) → ((j : ℕ) → j < length ss → member (i + j) gone ≡ goes marks (i + j) (get_or ss j no_slot))
     → older gone i (map (λ (s : Slot). s.generation) ss) ≡ map (λ (s : Slot). s.generation) (swept_from marks i ss)
 unfolding older swept_from
@@ -303,7 +298,7 @@ older-ages marks gone i (s ∷ ss) h =
     pick false = refl
 
 pub gone-ages : (marks : List ℕ) (ss : List Slot) → older (dropped marks 0 ss) 0 (map (λ (s : Slot). s.generation) ss) ≡ map (λ (s : Slot). s.generation) (swept_from marks 0 ss)
-gone-ages marks ss = older-ages marks (dropped marks 0 ss) 0 ss (λ j less. ap (ltb 0) (member-dropped marks 0 ss j less) ∙ above-bit (goes marks (0 + j) (get_or ss j no_slot)))
+gone-ages marks ss = older-ages marks (dropped marks 0 ss) 0 ss (λ j less. ap (ltb 0) (member-dropped marks 0 ss j less) ∙ bit-positive (goes marks (0 + j) (get_or ss j no_slot)))
 
 -- ---- what can't be traced
 

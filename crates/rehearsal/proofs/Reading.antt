@@ -4,13 +4,14 @@ use native.Mathlib.Omega.{arith}
 use mathlib.Core.Bool.{true, false}
 use mathlib.Core.List.{List, [], ◌∷◌, ◌++◌, append_assoc, flat_map}
 use mathlib.Core.Option.{Option, none, some}
-use mathlib.Core.Path.{◌≡◌, refl, sym, ap, ◌∙◌}
+use mathlib.Core.Path.{◌≡◌, refl, ap, ◌∙◌}
 use mathlib.Core.Logic.{◌↔◌}
 use lib.ListN.{length, length-append}
-use Rattle.text.specs.Text.{Reader, give, ◌>>=◌, ascii, comma, newline, decimal, digits, line, Bytes, digit_of, read_literal}
+use Rattle.text.specs.Text.{Reader, give, ◌>>=◌, ascii, comma, newline, line, digit_of, read_literal}
 use Rattle.text.specs.Format.{Right, All, number, bytes_line, pair}
-use Rattle.text.proofs.Laws.{none-not-some, bind-some, some_inj, literal-forth, literal-back, number-right, bytes-line-right, pair-right}
+use Rattle.text.proofs.Laws.{none-not-some, bind-some, some_inj, literal-forth, literal-back, number-right, pair-right}
 use Rattle.script.specs.Script.{alloc_format}
+use Rattle.script.proofs.Reading.{alloc-right}
 use Rattle.rehearsal.specs.Lines.{Line, alloc, store, drop, line_text, lines_text, Within, store_format, read_alloc, read_store, read_drop, named, read_line, read_most, read_lines, is_read, is_text}
 
 no-comma : digit_of comma ≡ none
@@ -26,10 +27,6 @@ Fields = ℕ × (ℕ × List ℕ)
 
 abbrev Names : Type 0
 Names = ℕ × (ℕ × ℕ)
-
-alloc-right : Right alloc_format (λ r. (r.0 < 2 ^ 32) × ((r.1.0 < 2 ^ 8) × Bytes r.1.1))
-unfolding alloc_format
-alloc-right = pair-right (number-right 32 comma no-comma) λ _. pair-right (number-right 8 comma no-comma) λ _. bytes-line-right
 
 store-right : Right store_format (λ r. (r.0 < 2 ^ 64) × ((r.1.0 < 2 ^ 64) × (r.1.1 < 2 ^ 64)))
 unfolding store_format

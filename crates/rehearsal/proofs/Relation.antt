@@ -1,28 +1,28 @@
 -- The relation: the machine is what a heap's live slots and lists say. Assumes nothing.
-use Prim.Native.Nat.{ℕ, zero, suc, ◌+◌, ◌^◌, ◌≤◌, ◌<◌, max}
+use Prim.Native.Nat.{ℕ, ◌+◌, ◌≤◌, ◌<◌, max}
 use native.Mathlib.Omega.{arith}
 use native.Mathlib.Decide.{dec_lt}
-use mathlib.Core.Bool.{Bool, true, false}
-use mathlib.Core.List.{List, [], ◌∷◌, map}
-use mathlib.Core.Option.{Option, none, some}
+use mathlib.Core.Bool.{true, false}
+use mathlib.Core.List.{List, [], map}
+use mathlib.Core.Option.{some}
 use mathlib.Core.Path.{◌≡◌, refl, sym, ap, ◌∙◌, subst}
 use lib.Dec.{ltb}
 use lib.ListN.{length, get_or, get_or-eq_default}
-use borrow.Author.Tests.{ltb-false, ltb-true, le-leb}
+use borrow.Author.Tests.{ltb-false, le-leb}
 use Rattle.word.specs.Lists.{all, all_below}
-use Rattle.word.specs.Result.{Result, ok}
-use Rattle.handle.specs.Handle.{packed, tag_of, index_of, generation_of}
+use Rattle.word.specs.Result.{ok}
+use Rattle.handle.specs.Handle.{packed}
 use Rattle.handle.proofs.HandleLaws.{packed-fields}
 use Rattle.handle.proofs.ResolveLaws.{Resolves, resolve-ok, resolve-packed}
 use Rattle.heap.specs.Packing.{flat}
-use Rattle.heap.specs.State.{Slot, State, no_slot, slot_at, live, bit, times}
+use Rattle.heap.specs.State.{Slot, State, no_slot, slot_at, live}
 use Rattle.heap.specs.Calls.{resolve, gc_due, new}
-use Rattle.heap.proofs.Sound.{Sound, SlotSound}
+use Rattle.heap.proofs.Sound.{Sound}
 use Rattle.heap.specs.WellFormed.{partitioned, retired_rightly, sound_seals, sound_reclaim, sound, fits}
 use Rattle.heap.proofs.Testing.{sound-tested}
 use Rattle.collection.specs.Swept.{live_size}
 use Rattle.heap.proofs.Keeping.{live_inside}
-use Rattle.rehearsal.specs.Machine.{Object, Machine, empty, sizes, lengths, look}
+use Rattle.rehearsal.specs.Machine.{Object, Machine, empty, sizes, look}
 use Rattle.rehearsal.proofs.Objects.{object_of, objects, objects-sizes, Bare, Young, Found, look-there, look-found}
 
 abbrev pub ages : List Slot → List ℕ

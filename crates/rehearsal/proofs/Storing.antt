@@ -2,12 +2,11 @@
 use Prim.Native.Nat.{ℕ, ◌+◌, ◌^◌, ◌≤◌, ◌<◌}
 use native.Mathlib.Omega.{arith}
 use native.Mathlib.Decide.{dec_lt, ℕ_discrete}
-use mathlib.Core.Bool.{Bool, true, false}
-use mathlib.Core.List.{List, [], ◌∷◌}
+use mathlib.Core.Bool.{Bool, true}
 use mathlib.Core.Option.{Option, none, some}
 use mathlib.Core.Path.{◌≡◌, refl, sym, ap, ◌∙◌, subst}
 use lib.Dec.{leb}
-use lib.ListN.{length, get_or, set}
+use lib.ListN.{length, set}
 use lib.Seq.{map-set_same}
 use borrow.Author.Tests.{le-leb, lt-leb}
 use Rattle.std.specs.Prelude.{if◌then◌else◌}
@@ -17,7 +16,7 @@ use Rattle.word.specs.Result.{Result, ok, refused}
 use Rattle.word.proofs.LeLaws.{length-bytes}
 use Rattle.handle.specs.Handle.{packed}
 use Rattle.heap.specs.State.{Slot, State, no_slot, slot_at, live}
-use Rattle.heap.specs.Calls.{Changed, refuse, done, on_slot, write, resolve, rewritten, with_slot}
+use Rattle.heap.specs.Calls.{Changed, done, on_slot, write, resolve, rewritten, with_slot}
 use Rattle.heap.proofs.Sound.{Sound}
 use Rattle.heap.proofs.Keeping.{at_same, at_other}
 use Rattle.heap_edit.proofs.Cases.{write-beyond, write_done}
@@ -26,7 +25,7 @@ use Rattle.heap.proofs.Keeping.{live_inside}
 use Rattle.rehearsal.specs.Machine.{Object, Machine, look, stored, stored_at, with_objects, stores_into, stores}
 use Rattle.rehearsal.specs.OnHeap.{left, stores_heap}
 use Rattle.rehearsal.proofs.Simulation.{Both}
-use Rattle.rehearsal.proofs.Objects.{object_of, objects, Young, stored-objects}
+use Rattle.rehearsal.proofs.Objects.{object_of, objects, stored-objects}
 use Rattle.rehearsal.proofs.Relation.{ages, machine_of, Good, Stands, resolved-handle, resolved-look, look-seen}
 
 pub both_by : (S P : ℕ) {a a' : Option Machine} {b b' : Option State} → a ≡ a' → b ≡ b' → Both (Stands S P) a' b' → Both (Stands S P) a b

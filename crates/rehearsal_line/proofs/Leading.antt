@@ -1,10 +1,9 @@
 -- What is known of a rehearsal to which lines have led: all data is visible, and there is room for one more name after an allocation. Assumes nothing.
-use Prim.Native.Nat.{ℕ, zero, suc, ◌+◌, ◌≤◌, ◌<◌}
+use Prim.Native.Nat.{ℕ, ◌+◌, ◌≤◌, ◌<◌}
 use native.Mathlib.Omega.{arith}
 use native.Mathlib.Decide.{dec_lt}
-use mathlib.Core.Bool.{Bool, true, false}
 use mathlib.Core.List.{List, [], ◌∷◌, ◌++◌, map, map-append}
-use mathlib.Core.Path.{◌≡◌, refl, sym, ap, ◌∙◌, subst}
+use mathlib.Core.Path.{◌≡◌, sym, ap, ◌∙◌}
 use lib.Dec.{eqb}
 use lib.ListN.{length, length-append}
 use borrow.Author.Tests.{eq-eqb}
@@ -13,13 +12,12 @@ use Rattle.word.specs.Result.{Result, ok}
 use Rattle.ty.specs.Types.{Table}
 use Rattle.heap.specs.State.{State, slot_at, bit, times}
 use Rattle.heap.specs.Lent.{Lent, view, slot_count, pool_size}
-use Rattle.heap.specs.WellFormed.{well_formed}
 use Rattle.heap.proofs.Counting.{times-append}
 use Rattle.heap.proofs.Sound.{Sound}
 use Rattle.heap.proofs.Testing.{formed-tested}
 use Rattle.object_door.specs.ObjectCalls.{allocating as alloc_call}
 use Rattle.rehearsal.specs.Lines.{Line, alloc}
-use Rattle.rehearsal.specs.Runs.{Held as Name, handles, Run, World, unless, placed, collecting, allocating, does, after, starting}
+use Rattle.rehearsal.specs.Runs.{Held as Name, handles, Run, World, unless, placed, allocating, does, after, starting}
 use Rattle.rehearsal.specs.OnHeap.{heaped, fresh}
 use Rattle.rehearsal.proofs.Holding.{held-few, led-good, led-real, after_one, unless-open}
 use Rattle.rehearsal_names.specs.Names.{name, named}

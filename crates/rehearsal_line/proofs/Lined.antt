@@ -1,12 +1,11 @@
 -- A line as its parts: what a due collection and an allocation, a store or a drop do together. Assumes nothing.
-use Prim.Native.Nat.{ℕ, ◌+◌, ◌≤◌, ◌<◌}
+use Prim.Native.Nat.{ℕ, ◌+◌}
 use native.Mathlib.Omega.{arith}
 use mathlib.Core.Bool.{Bool, true, false}
 use mathlib.Core.List.{List, [], ◌∷◌, ◌++◌}
 use mathlib.Core.Option.{Option, none, some}
 use mathlib.Core.Path.{◌≡◌, refl, sym, ap, ◌∙◌, subst}
 use lib.ListN.{length}
-use Rattle.word.specs.Run.{run}
 use Rattle.ty.specs.Types.{Table}
 use Rattle.heap.specs.State.{State}
 use Rattle.heap.specs.Lent.{Lent, view, slot_count, pool_size}
@@ -20,12 +19,11 @@ use Rattle.heap.specs.Calls.{gc_due}
 use Rattle.rehearsal.specs.Runs.{Run, held_at, handles, swept, collecting, allocating, storing, dropping, does, unless}
 use Rattle.rehearsal.specs.OnHeap.{heaped, collects_heap}
 use Rattle.rehearsal.proofs.Holding.{unless-ended}
-use Rattle.rehearsal_lines.specs.Found.{store_of, DataIn}
+use Rattle.rehearsal_lines.specs.Found.{DataIn}
 use Rattle.rehearsal_lines.specs.declared.Line.{Line}
 use Rattle.rehearsal_lines.specs.declared.Line.TheVariants.{Alloc}
 use Rattle.script.specs.declared.AllocLine.{AllocLine}
-use Rattle.rehearsal_lines.specs.declared.StoreLine.{StoreLine}
-use Rattle.rehearsal_names.specs.Names.{named, Names, LetGo}
+use Rattle.rehearsal_names.specs.Names.{LetGo}
 use Rattle.rehearsal_steps.specs.declared.Going.{Going}
 use Rattle.rehearsal_steps.specs.Going.{ended, going_on, ended_by, InOrder, Goes}
 use Rattle.rehearsal_steps.specs.Steps.{no_types, Dropped, after_drop, collecting_in, allocating_in, storing_in, doing_in}

@@ -31,13 +31,13 @@ no-newline = refl
 
 -- ---- `alloc`: the line of its fields
 
-pub alloc-lost : (t : List ℕ) → alloc_format.read t ≡ none → read_alloc t ≡ none
+pub no-alloc-step : (t : List ℕ) → alloc_format.read t ≡ none → read_alloc t ≡ none
 unfolding read_alloc
-alloc-lost t e = rw e
+no-alloc-step t e = rw e
 
-pub alloc-line : (t s : List ℕ) (a : AllocLine) (next : ℕ) → AllocReads (alloc_format.read t) s a next → Reads (read_alloc t) s (Alloc a) next
+pub alloc-step : (t s : List ℕ) (a : AllocLine) (next : ℕ) → AllocReads (alloc_format.read t) s a next → Reads (read_alloc t) s (Alloc a) next
 unfolding read_alloc
-alloc-line t s a next d = record { step = rw d.fields; there = d.there; inside = d.inside }
+alloc-step t s a next d = record { step = rw d.fields; there = d.there; inside = d.inside }
 
 -- ---- `store`: two turns, an offset
 

@@ -1,9 +1,9 @@
 -- Names found, dropped and added in lent words. Assumes nothing.
-use Prim.Native.Nat.{ℕ, zero, suc, ◌+◌, ◌≤◌, ◌<◌}
+use Prim.Native.Nat.{ℕ, suc, ◌+◌, ◌≤◌, ◌<◌}
 use native.Mathlib.Omega.{arith}
 use native.Mathlib.Decide.{dec_lt}
-use mathlib.Core.Bool.{Bool, true, false, ◌&&◌}
-use mathlib.Core.List.{List, [], ◌∷◌, ◌++◌, map}
+use mathlib.Core.Bool.{Bool, true, false}
+use mathlib.Core.List.{List, [], ◌∷◌, ◌++◌}
 use mathlib.Core.Option.{Option, none, some}
 use mathlib.Core.Path.{◌≡◌, refl, sym, ap, ◌∙◌, subst}
 use lib.Dec.{eqb, leb}
@@ -15,7 +15,7 @@ use Rattle.word.proofs.Bools.{and_both}
 use Rattle.word.proofs.RunLaws.{run-get, length_run, run-set, run-below}
 use Rattle.heap_calls.specs.Pins.{rising_from}
 use Rattle.rehearsal.specs.Runs.{Held as Name, held_at, without, handles}
-use Rattle.rehearsal_names.specs.Names.{name, entries, kept, entries_in, named, answer_of, Names, Gone, Absent, LetGo}
+use Rattle.rehearsal_names.specs.Names.{name, entries, kept, entries_in, named, answer_of, Names, Gone, Absent}
 use Rattle.rehearsal_names.specs.Moves.{index_in, FoundAt, turns_of}
 use Rattle.std.specs.Prelude as found
 

@@ -1,5 +1,5 @@
 -- The names held in a rehearsal, as they lie in lent words: turns in the first S words, handles in the next S. An entry whose handle is 0 was dropped.
-use Rattle.std.specs.Prelude.{ℕ, ◌+◌, ◌≤◌, ◌<◌, Bool, true, false, List, [], ◌∷◌, ◌++◌, map, ◌≡◌, eqb, length, if◌then◌else◌}
+use Rattle.std.specs.Prelude.{ℕ, ◌+◌, ◌≤◌, ◌<◌, Bool, true, false, List, [], ◌∷◌, ◌++◌, ◌≡◌, eqb, length, if◌then◌else◌}
 use Rattle.std.proofs.Math.Option.{Option, none, some}
 use Rattle.word.specs.Run.{run}
 use Rattle.heap_calls.specs.Pins.{rising_from}

@@ -1,11 +1,9 @@
 -- The ways out of the placing of an object whose data a text spells. Assumes nothing.
-use Prim.Native.Nat.{ℕ, ◌+◌, ◌-◌, ◌*◌, ◌/◌, ◌≤◌, ◌<◌}
+use Prim.Native.Nat.{ℕ, ◌+◌, ◌-◌, ◌*◌, ◌/◌, ◌≤◌}
 use native.Mathlib.Omega.{arith}
-use mathlib.Core.Bool.{Bool, true, false}
-use mathlib.Core.List.{List, [], ◌∷◌}
-use mathlib.Core.Path.{◌≡◌, refl, sym, ap, ◌∙◌, subst}
-use denote.Enum.Declared.{tag_of}
-use types.Run.{OneOf, miss}
+use mathlib.Core.Bool.{Bool, true}
+use mathlib.Core.List.{List}
+use mathlib.Core.Path.{◌≡◌, sym, ap, ◌∙◌, subst}
 use lib.ListN.{length, take, drop}
 use Rattle.std.specs.Prelude.{if◌then◌else◌}
 use Rattle.word.specs.Result.{Result, ok, refused}
@@ -14,7 +12,6 @@ use Rattle.text.specs.Answer.{hex_at}
 use Rattle.refusal.specs.Told.{number_of, told, answered, here, nothing}
 use Rattle.refusal.specs.declared.Answer.{Answer}
 use Rattle.refusal.specs.declared.Refusal.{Refusal}
-use Rattle.refusal.specs.declared.Refusal.TheVariants.{Kind}
 use Rattle.refusal.specs.Told.{Reply}
 use Rattle.std.specs.Prelude.{Result as Outcome, Ok, Err, is_err}
 use Rattle.refusal.proofs.Numbers.{told-once}
@@ -26,15 +23,14 @@ use Rattle.text.specs.Put.{Puts}
 use Rattle.word.specs.Run.{run}
 use Rattle.heap.specs.WellFormed.{well_formed}
 use Rattle.heap.specs.Calls.{Changed, refuse, alloc_from}
-use Rattle.heap.specs.Done.{Leaves, Tells}
-use Rattle.heap.proofs.Sound.{Sound}
+use Rattle.heap.specs.Done.{Tells}
 use Rattle.heap.proofs.Storing.{view-stored}
 use Rattle.heap.proofs.Testing.{formed-tested}
 use Rattle.heap.proofs.Carrying.{kept-sizes}
 use Rattle.heap_calls.proofs.Allocating.{alloc-sound}
 use Rattle.heap_calls.specs.Kinds.{kind_number, kind_of}
 use Rattle.heap_calls.specs.declared.kind.ObjectKind.{ObjectKind}
-use Rattle.object_door.specs.ObjectCalls.{is_kind, allocating}
+use Rattle.object_door.specs.ObjectCalls.{allocating}
 use Rattle.object_door.proofs.Objects.{kind-good, found-kind, missing-kind, of-kind, no_kind}
 use Rattle.script.specs.Found.{DataThere}
 use Rattle.script.specs.declared.AllocLine.{AllocLine}

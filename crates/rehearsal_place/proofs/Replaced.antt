@@ -3,7 +3,7 @@ use Prim.Native.Nat.{ℕ, ◌+◌, ◌-◌, ◌^◌, ◌≤◌, ◌<◌}
 use native.Mathlib.Omega.{arith}
 use native.Mathlib.Decide.{dec_lt}
 use mathlib.Core.Bool.{true}
-use mathlib.Core.List.{List, [], ◌∷◌, ◌++◌}
+use mathlib.Core.List.{List, [], ◌∷◌}
 use mathlib.Core.Path.{◌≡◌, refl, sym, ap, ◌∙◌, subst}
 use borrow.Author.Tests.{lt-ltb}
 use lib.ListN.{length, set, length-append}
@@ -55,10 +55,10 @@ module _ (st : State) (j k t : ℕ) (bytes bytes' : List ℕ) (inside : j < leng
         data-there = ap (λ (s : Slot). s.bytes) there;
       }
 
-not-refused : {X : Type 0} {n x : ℕ} → ◌≡◌ {A = Result ℕ} (refused n) (ok x) → X
+pub not-refused : {X : Type 0} {n x : ℕ} → ◌≡◌ {A = Result ℕ} (refused n) (ok x) → X
 not-refused e = let z : ◌≡◌ {A = ℕ} 0 1 = cc in absurd (omega arith)
 
-not-ok : {X : Type 0} {n x : ℕ} → ◌≡◌ {A = Result ℕ} (ok x) (refused n) → X
+pub not-ok : {X : Type 0} {n x : ℕ} → ◌≡◌ {A = Result ℕ} (ok x) (refused n) → X
 not-ok e = let z : ◌≡◌ {A = ℕ} 0 1 = cc in absurd (omega arith)
 
 module _ (S P : ℕ) (h : State) (fine : Sound S P h) (k t : ℕ) (bytes bytes' : List ℕ) (same : length bytes' ≡ length bytes) (low : 1 ≤ k) where

@@ -2,28 +2,26 @@
 use Prim.Native.Nat.{ℕ, ◌+◌, ◌-◌, ◌*◌, ◌/◌, ◌≤◌, ◌<◌}
 use native.Mathlib.Omega.{arith}
 use mathlib.Core.Bool.{true}
-use mathlib.Core.List.{List, [], ◌∷◌, ◌++◌}
+use mathlib.Core.List.{List, ◌∷◌}
 use mathlib.Core.Path.{◌≡◌, refl, sym, ap, ◌∙◌, subst}
 use lib.ListN.{length, take, drop, length-append, length-drop}
 use lib.Seq.{length-take-le}
 use borrow.Author.Tests.{ltb-true}
 use Rattle.word.specs.Put.{put}
 use Rattle.word.specs.Run.{run}
-use Rattle.word.proofs.PutLaws.{put_whole, length-put}
+use Rattle.word.proofs.PutLaws.{put_whole}
 use Rattle.text.specs.Text.{hex, newline}
-use Rattle.text.specs.Put.{Puts, put_text}
-use Rattle.text.specs.Answer.{hex_at, HexParsed}
+use Rattle.text.specs.Put.{Puts}
+use Rattle.text.specs.Answer.{hex_at}
 use Rattle.text.proofs.Laws.{hex-back, hex-length}
 use Rattle.heap.specs.Packing.{start_of}
-use Rattle.heap.specs.State.{Slot, State, slot_at, live, data_size}
-use Rattle.heap.specs.Lent.{Lent, lent, columns, stored, view, slot_count, pool_size}
+use Rattle.heap.specs.State.{Slot, State, slot_at, live}
+use Rattle.heap.specs.Lent.{Lent, lent, view, slot_count, pool_size}
 use Rattle.heap.specs.WellFormed.{well_formed}
-use Rattle.heap.specs.Done.{Leaves}
 use Rattle.heap.specs.declared.Heap.{Heap}
-use Rattle.heap.specs.Calls.{with_slot}
 use Rattle.heap.proofs.Sound.{Sound, SlotSound}
 use Rattle.heap.proofs.Keeping.{live_inside, slot-sound, leaves}
-use Rattle.heap.proofs.Columns.{formed, knows, sizes, reads, generation-is, kind-is, type-is, start_is, writes-is, from_is, data-upto}
+use Rattle.heap.proofs.Columns.{formed, sizes, reads, generation-is, kind-is, type-is, start_is, writes-is}
 use Rattle.heap_edit.proofs.Replacing.{stays, SlotData, slot-lies, written-data}
 use Rattle.rehearsal_place.specs.Decoding.{Spelled, with_bytes, with_data, CanDecode, Decoded}
 

@@ -1,11 +1,10 @@
 -- A new heap to begin with, and the loop over the thresholds. Assumes nothing.
-use Prim.Native.Nat.{ℕ, zero, suc, ◌+◌, ◌*◌, ◌/◌, ◌^◌, ◌≤◌, ◌<◌}
+use Prim.Native.Nat.{ℕ, zero, ◌+◌, ◌*◌, ◌/◌, ◌^◌, ◌≤◌, ◌<◌}
 use native.Mathlib.Omega.{arith}
 use mathlib.Core.Bool.{true}
 use mathlib.Core.List.{List, [], ◌∷◌, ◌++◌, append_assoc, append-nil}
-use mathlib.Core.Option.{some}
-use mathlib.Core.Path.{◌≡◌, refl, sym, ap, ◌∙◌, subst}
-use lib.ListN.{length, get_or, drop, length-append, length-drop, drop_of_length-le}
+use mathlib.Core.Path.{◌≡◌, refl, sym, ap, ◌∙◌}
+use lib.ListN.{length, get_or, drop, length-append, drop_of_length-le}
 use Rattle.std.specs.Prelude.{None}
 use Rattle.word.specs.Run.{run}
 use Rattle.word.proofs.ListLaws.{drop-cons-one}
@@ -17,14 +16,13 @@ use Rattle.heap.specs.State.{State}
 use Rattle.heap.specs.Lent.{Lent, stored, view, slot_count, pool_size}
 use Rattle.heap.specs.WellFormed.{well_formed}
 use Rattle.heap.specs.Calls.{new}
-use Rattle.heap.proofs.Sizes.{Sizes}
 use Rattle.heap.proofs.Storing.{view-stored}
 use Rattle.heap.proofs.Testing.{formed-tested}
 use Rattle.object_door.proofs.Making.{made-formed}
 use Rattle.heap_calls.specs.Pins.{rising_from}
 use Rattle.collection.specs.Swept.{live_size}
 use Rattle.rehearsal.specs.Lines.{Line}
-use Rattle.rehearsal.specs.Runs.{Run, Figures, after, starting, rehearsed, figures_line, figures_text}
+use Rattle.rehearsal.specs.Runs.{Run, Figures, starting, rehearsed, figures_line, figures_text}
 use Rattle.rehearsal.specs.OnHeap.{heaped, fresh}
 use Rattle.text.proofs.Laws.{decimal-length}
 use Rattle.rehearsal.proofs.Bound.{Fits, fits_after, live-most, heap-keeps}
@@ -32,7 +30,7 @@ use Rattle.rehearsal.proofs.Relation.{Good, stands-new}
 use Rattle.rehearsal_runs.proofs.Printing.{line-long}
 use Rattle.rehearsal_names.specs.Names.{entries, kept, named}
 use Rattle.rehearsal_steps.specs.declared.Going.{Going}
-use Rattle.rehearsal_steps.specs.Going.{ended, going_on, InOrder, Goes}
+use Rattle.rehearsal_steps.specs.Going.{ended, InOrder, Goes}
 use Rattle.rehearsal_runs.specs.Runs.{lines_of, run_of, Begun, LentRoom, figures_in, CanPut, memory_after, Rehearses}
 use Rattle.rehearsal_runs.proofs.Running.{Sizes as Same}
 

@@ -1,14 +1,14 @@
 -- The loop over a text's lines: those done have led to where the rehearsal is, and the rest is left. Assumes nothing.
-use Prim.Native.Nat.{ℕ, zero, suc, ◌+◌, ◌*◌, ◌/◌, ◌^◌, ◌≤◌, ◌<◌}
+use Prim.Native.Nat.{ℕ, ◌+◌, ◌*◌, ◌/◌, ◌^◌, ◌≤◌, ◌<◌}
 use native.Mathlib.Omega.{arith}
-use mathlib.Core.Bool.{Bool, true, false}
+use mathlib.Core.Bool.{true, false}
 use mathlib.Core.List.{List, [], ◌∷◌, ◌++◌, append_assoc, append-nil}
 use mathlib.Core.Option.{Option, none, some}
 use mathlib.Core.Path.{◌≡◌, refl, sym, ap, ◌∙◌, subst}
 use lib.ListN.{length, drop, length-append, length-drop}
 use Rattle.std.specs.Prelude as found
 use Rattle.word.proofs.Bools.{true-false}
-use Rattle.text.specs.Text.{give, ◌>>=◌, ascii, line}
+use Rattle.text.specs.Text.{ascii, line}
 use Rattle.text.proofs.Laws.{none-not-some, some_inj, bind-some}
 use Rattle.ty.specs.Types.{Table}
 use Rattle.heap.specs.State.{State}
@@ -17,7 +17,7 @@ use Rattle.rehearsal.specs.Lines.{Line as Step, alloc, store, drop as drops, lin
 use Rattle.rehearsal.specs.Runs.{Run, World, unless, does, after, starting}
 use Rattle.rehearsal.specs.OnHeap.{heaped, fresh}
 use Rattle.rehearsal.proofs.Reading.{line-back, read-nothing, read-bad, read_more}
-use Rattle.rehearsal.proofs.Holding.{after_one, after-ended, counted-after}
+use Rattle.rehearsal.proofs.Holding.{after-ended, counted-after}
 use Rattle.rehearsal_lines.specs.Found.{Reads, LineRead, step_in}
 use Rattle.rehearsal_lines.specs.declared.Line.{Line}
 use Rattle.rehearsal_steps.specs.declared.Going.{Going}

@@ -1,9 +1,8 @@
 -- Rehearsals in lent memory, one threshold after another.
-use Rattle.std.specs.Prelude.{ℕ, ◌+◌, ◌*◌, ◌/◌, ◌^◌, ◌≤◌, ◌<◌, true, List, [], ◌∷◌, ◌≡◌, length}
+use Rattle.std.specs.Prelude.{ℕ, ◌+◌, ◌*◌, ◌/◌, ◌≤◌, true, List, [], ◌∷◌, ◌≡◌, length}
 use Rattle.std.specs.Prelude.{None}
 use Rattle.std.proofs.Math.Option.{Option, none, some}
 use Rattle.text.specs.Put.{put_text}
-use Rattle.text.specs.Text.{decimal}
 use Rattle.ty.specs.Types.{Table}
 use Rattle.heap.specs.State.{State}
 use Rattle.heap.specs.Lent.{Lent, stored, slot_count, pool_size}

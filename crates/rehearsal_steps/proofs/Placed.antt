@@ -1,38 +1,33 @@
 -- The ways out of an allocation. Assumes nothing.
-use Prim.Native.Nat.{ℕ, ◌+◌, ◌*◌, ◌^◌, ◌≤◌, ◌<◌, max}
+use Prim.Native.Nat.{ℕ, ◌+◌, ◌^◌, ◌<◌, max}
 use native.Mathlib.Omega.{arith}
-use native.Mathlib.Decide.{dec_lt}
-use mathlib.Core.Bool.{Bool, true, false}
-use mathlib.Core.List.{List, [], ◌∷◌, ◌++◌}
+use mathlib.Core.Bool.{true, false}
+use mathlib.Core.List.{List}
 use mathlib.Core.Path.{◌≡◌, refl, sym, ap, ◌∙◌, subst}
 use lib.ListN.{length}
 use Rattle.word.specs.Result.{Result, ok, refused}
 use Rattle.word.specs.Run.{run}
-use Rattle.text.specs.Answer.{hex_at}
 use Rattle.std.specs.Prelude.{Option, Some, None, Ok, Err, is_some}
 use Rattle.refusal.specs.Told.{number_of, told, here, nothing}
 use Rattle.refusal.specs.declared.Refusal.{Refusal}
 use Rattle.refusal.specs.Told.{Reply}
-use Rattle.heap.specs.Packing.{flat}
-use Rattle.heap.specs.State.{State, data_of}
+use Rattle.heap.specs.State.{State}
 use Rattle.heap.specs.Lent.{Lent, stored, view, slot_count, pool_size}
-use Rattle.heap.specs.WellFormed.{well_formed}
 use Rattle.heap.specs.Calls.{Changed}
-use Rattle.heap.specs.Done.{Leaves, Tells}
+use Rattle.heap.specs.Done.{Tells}
 use Rattle.heap.proofs.Storing.{view-stored}
 use Rattle.heap.proofs.Sound.{Sound}
 use Rattle.heap.proofs.Testing.{formed-tested}
 use Rattle.heap.proofs.Carrying.{kept-sizes}
-use Rattle.heap_calls.specs.Pins.{rising_from}
 use Rattle.object_door.specs.ObjectCalls.{allocating as alloc_call}
 use Rattle.object_door.proofs.Objects.{allocating-sound}
 use Rattle.script.proofs.Refusing.{alloc-numbered}
 use Rattle.rehearsal_place.proofs.Answering.{apart, is_ok, is-refused}
 use Rattle.collection.specs.Swept.{live_size}
-use Rattle.rehearsal.specs.Runs.{Run, placed, allocating}
+use Rattle.rehearsal.specs.Runs.{placed, allocating}
 use Rattle.rehearsal.specs.OnHeap.{heaped}
 use Rattle.rehearsal.proofs.Bound.{live-most}
-use Rattle.rehearsal_names.specs.Names.{name, named, CanHold, Held}
+use Rattle.rehearsal_names.specs.Names.{named, CanHold, Held}
 use Rattle.rehearsal_steps.specs.declared.Going.{Going}
 use Rattle.rehearsal_steps.specs.Going.{ended, going_on, ended_by, InOrder, Goes}
 use Rattle.rehearsal_steps.specs.Steps.{no_types, CanHoldMore, allocating_in}

@@ -2,18 +2,16 @@
 use Prim.Native.Nat.{ℕ}
 use mathlib.Core.Bool.{Bool, true, false}
 use mathlib.Core.List.{List, [], ◌∷◌, ◌++◌}
-use mathlib.Core.Option.{Option, none, some}
-use mathlib.Core.Path.{◌≡◌, refl, sym, ap, ◌∙◌}
+use mathlib.Core.Option.{Option, none}
+use mathlib.Core.Path.{◌≡◌, refl, ap, ◌∙◌}
 use lib.Dec.{eqb}
 use lib.ListN.{length}
 use borrow.Author.Tests.{eqb-true}
 use Rattle.std.specs.Prelude.{if◌then◌else◌}
-use Rattle.word.specs.Result.{refused}
 use Rattle.handle.proofs.ResolveLaws.{resolve-null}
 use Rattle.heap.specs.State.{State, slot_at, live}
-use Rattle.heap.specs.Calls.{Changed, resolve}
-use Rattle.reach.specs.Reach.{Graph, Starts}
-use Rattle.reach.specs.Marking.{State as Marks, nothing, visit_maybe, follow, follow_all, pin_all, drained, marking}
+use Rattle.heap.specs.Calls.{resolve}
+use Rattle.reach.specs.Marking.{State as Marks, nothing, visit_maybe, follow, follow_all, drained, marking}
 use Rattle.collection.specs.Collected.{found, graph, starts, swept_by, collected}
 use Rattle.rehearsal.specs.Runs.{Held as Name, handles}
 use Rattle.rehearsal_names.specs.Names.{kept}

@@ -4,22 +4,23 @@ use native.Mathlib.Omega.{arith}
 use native.Mathlib.Decide.{dec_lt}
 use mathlib.Core.Bool.{Bool, true, false}
 use mathlib.Core.List.{List, [], ◌∷◌, ◌++◌}
-use mathlib.Core.Path.{◌≡◌, refl, sym, ap, ◌∙◌, subst}
-use lib.Dec.{leb}
+use mathlib.Core.Path.{◌≡◌, refl, sym, ap, subst}
 use lib.ListN.{length, get_or, set, length-append}
 use borrow.Author.Tests.{lt-ltb}
 use lib.Seq.{get_or_at}
 use Rattle.std.specs.Prelude.{if◌then◌else◌}
-use Rattle.word.specs.Result.{Result, ok, refused}
+use Rattle.word.specs.Result.{ok, refused}
 use Rattle.heap.specs.Packing.{flat}
 use Rattle.heap.specs.State.{Slot, State, no_slot, slot_at, live, data_of, bit, times, with_free}
-use Rattle.heap.specs.Calls.{Changed, refuse, charged, placed, grown, last, but_last, allocated, alloc_from, with_slot}
-use Rattle.heap.proofs.Sound.{Sound, live_bit}
+use Rattle.heap.specs.Calls.{Changed, refuse, charged, placed, grown, last, but_last, allocated, alloc_from}
+use Rattle.heap.proofs.Sound.{Sound}
 use Rattle.heap.proofs.Counting.{free-inside, inside, times-member}
 use Rattle.heap_calls.proofs.Allocating.{alloc-none, alloc-free, alloc-grow, alloc-full}
 use Rattle.object_door.specs.ObjectCalls.{is_kind, allocating}
 use Rattle.object_door.proofs.Objects.{kind-range}
 use Rattle.collection.specs.Swept.{live_size}
+use Rattle.rehearsal.proofs.Allocating.{no-bit}
+use Rattle.rehearsal_place.proofs.Replaced.{not-refused, not-ok}
 
 -- a slot counted
 abbrev counts : Slot → ℕ
@@ -50,10 +51,6 @@ size_same ss j s h a b =
 
 -- ---- alloc
 
-no-bit : (b : Bool) → bit b ≡ 0 → b ≡ false
-no-bit true e = absurd (omega arith)
-no-bit false e = refl
-
 placed-size : (st : State) (j k t : ℕ) (bytes : List ℕ) → j < length st.slots → live (slot_at st j) ≡ false → 1 ≤ k → live_size (placed st j k t 0 bytes).heap.slots ≡ live_size st.slots + (length bytes + 32)
 placed-size st j k t bytes h dead low =
     let new : Slot = allocated (slot_at st j) k t 0 bytes in
@@ -62,12 +59,6 @@ placed-size st j k t bytes h dead low =
 -- what an allocation does to the sum
 abbrev pub Sums : State → List ℕ → Changed ℕ → Type 0
 Sums h bytes c = ((x : ℕ) → c.answer ≡ ok x → live_size c.heap.slots ≡ live_size h.slots + (length bytes + 32)) × ((n : ℕ) → c.answer ≡ refused n → live_size c.heap.slots ≡ live_size h.slots)
-
-not-refused : {X : Type 0} {n x : ℕ} → ◌≡◌ {A = Result ℕ} (refused n) (ok x) → X
-not-refused e = let z : ◌≡◌ {A = ℕ} 0 1 = cc in absurd (omega arith)
-
-not-ok : {X : Type 0} {n x : ℕ} → ◌≡◌ {A = Result ℕ} (ok x) (refused n) → X
-not-ok e = let z : ◌≡◌ {A = ℕ} 0 1 = cc in absurd (omega arith)
 
 module _ (S P : ℕ) (h : State) (fine : Sound S P h) (k t : ℕ) (bytes : List ℕ) where
   sums_by : (a b : Changed ℕ) → a ≡ b → Sums h bytes b → Sums h bytes a

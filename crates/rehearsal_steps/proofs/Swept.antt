@@ -2,38 +2,34 @@
 use Prim.Native.Nat.{ℕ, ◌+◌, ◌-◌, ◌≤◌, ◌<◌}
 use native.Mathlib.Omega.{arith}
 use mathlib.Core.Bool.{Bool, true, false}
-use mathlib.Core.List.{List, [], ◌∷◌, ◌++◌}
+use mathlib.Core.List.{List, []}
 use mathlib.Core.Option.{Option, none, some}
 use mathlib.Core.Path.{◌≡◌, refl, sym, ap, ◌∙◌, subst}
-use denote.Enum.Declared.{tag_of}
-use types.Run.{OneOf, miss}
 use lib.ListN.{length, take, drop}
 use Rattle.std.specs.Prelude.{if◌then◌else◌}
 use Rattle.word.specs.Result.{Result, ok, refused}
 use Rattle.word.specs.Run.{run}
 use Rattle.word.proofs.RunLaws.{run-part, length_run}
-use Rattle.refusal.specs.Told.{number_of, told, answered, here, nothing}
+use Rattle.refusal.specs.Told.{told, answered, nothing}
 use Rattle.refusal.specs.declared.Answer.{Answer}
 use Rattle.refusal.specs.declared.Refusal.TheVariants.{Untraceable}
 use Rattle.refusal.specs.Told.{Reply}
 use Rattle.std.specs.Prelude.{Ok, Err, is_err, IsOk}
 use Rattle.ty.specs.Types.{Table}
-use Rattle.heap.specs.State.{State, bit}
+use Rattle.heap.specs.State.{State}
 use Rattle.heap.specs.Lent.{Lent, stored, view, slot_count, pool_size}
-use Rattle.heap.specs.WellFormed.{well_formed}
 use Rattle.heap.specs.Calls.{Changed, gc_due}
-use Rattle.heap.specs.Done.{Leaves, Tells}
-use Rattle.heap.specs.declared.Heap.{Heap}
+use Rattle.heap.specs.Done.{Tells}
 use Rattle.heap.proofs.Storing.{view-stored, slots-stored}
 use Rattle.heap.proofs.Testing.{formed-tested}
-use Rattle.heap_calls.specs.Pins.{rising_from, rising}
+use Rattle.heap_calls.specs.Pins.{rising_from}
 use Rattle.reach.specs.Marking.{State as Marks, marking}
 use Rattle.collection.specs.Swept.{live_size, swept}
 use Rattle.collection.specs.Shown.{shown}
 use Rattle.collection.specs.Collected.{graph, starts, swept_by, collected}
 use Rattle.collection.proofs.SweptLaws.{swept-live}
 use Rattle.collect.specs.Collect.{collecting as collect_call, CanCollect}
-use Rattle.rehearsal.specs.Runs.{handles, Run, World, collecting, swept as swept_run, ends}
+use Rattle.rehearsal.specs.Runs.{handles, Run, World, collecting, swept as swept_run}
 use Rattle.rehearsal.specs.OnHeap.{heaped, collects_heap, left}
 use Rattle.rehearsal_names.specs.Names.{entries_in, named}
 use Rattle.rehearsal_names.proofs.Naming.{entries-handles}

@@ -1,34 +1,30 @@
 -- The ways out of a store. Assumes nothing.
-use Prim.Native.Nat.{ℕ, ◌+◌, ◌≤◌, ◌<◌}
+use Prim.Native.Nat.{ℕ, ◌+◌}
 use native.Mathlib.Omega.{arith}
 use native.Mathlib.Decide.{dec_lt}
 use mathlib.Core.Bool.{Bool, true, false}
-use mathlib.Core.List.{List, [], ◌∷◌, ◌++◌}
+use mathlib.Core.List.{List, [], ◌∷◌}
 use mathlib.Core.Option.{Option, none, some}
 use mathlib.Core.Path.{◌≡◌, refl, sym, ap, ◌∙◌, subst}
-use denote.Enum.Declared.{tag_of}
-use types.Run.{OneOf, miss}
-use lib.ListN.{length, set}
+use lib.ListN.{length}
 use Rattle.word.specs.Le.{bytes as bytes_of}
 use Rattle.word.specs.Put.{put}
 use Rattle.word.specs.Result.{Result, ok, refused}
 use Rattle.word.specs.Run.{run}
 use Rattle.word.proofs.PutLaws.{length-put}
-use Rattle.refusal.specs.Told.{number_of, told, answered, here, nothing}
-use Rattle.refusal.specs.declared.Answer.{Answer}
+use Rattle.refusal.specs.Told.{told, answered, here, nothing}
 use Rattle.refusal.specs.declared.Refusal.TheVariants.{NothingThere}
 use Rattle.refusal.specs.Told.{Reply}
 use Rattle.std.specs.Prelude.{Ok, Err, is_err, is_ok, IsOk, is_some}
 use Rattle.std.specs.Prelude as code
-use Rattle.heap.specs.State.{Slot, State, no_slot, slot_at, live}
+use Rattle.heap.specs.State.{Slot, State, slot_at, live}
 use Rattle.heap.specs.Lent.{Lent, lent, stored, view, slot_count, pool_size}
 use Rattle.heap.specs.WellFormed.{well_formed}
-use Rattle.heap.specs.Calls.{Changed, refuse, done, on_slot, resolve, rewritten, with_slot, write, take_slot, free}
-use Rattle.heap.specs.Done.{Leaves, Tells}
+use Rattle.heap.specs.Calls.{Changed, done, on_slot, resolve, rewritten, write, take_slot, free}
+use Rattle.heap.specs.Done.{Tells}
 use Rattle.heap.proofs.Storing.{view-stored}
 use Rattle.heap.proofs.Testing.{formed-tested}
 use Rattle.heap.proofs.Keeping.{live_inside}
-use Rattle.heap_calls.specs.Pins.{rising_from}
 use Rattle.heap_edit.proofs.Soundness.{resolved_live}
 use Rattle.heap_edit.proofs.Cases.{write-beyond, write_done}
 use Rattle.collection.specs.Swept.{live_size}

@@ -1,8 +1,8 @@
 -- The tests before a rehearsal, and the ways out of the public call. Assumes nothing.
-use mathlib.Core.Path.{◌≡◌, refl, sym, ap, ◌∙◌, subst}
+use mathlib.Core.Path.{◌≡◌, refl, sym, ap, ◌∙◌}
 use mathlib.Core.Bool.{Bool, true, false, ◌&&◌}
 use mathlib.Core.List.{List, [], ◌∷◌, map}
-use Prim.Native.Nat.{ℕ, ◌+◌, ◌*◌, ◌/◌, ◌≤◌, ◌<◌}
+use Prim.Native.Nat.{ℕ, ◌/◌, ◌≤◌, ◌<◌}
 use native.Mathlib.Omega.{arith}
 use lib.Dec.{leb}
 use lib.ListN.{length, get_or, replicate, length-replicate}
@@ -20,18 +20,16 @@ use Rattle.heap.specs.Lent.{Lent, lent, slot_count, pool_size}
 use Rattle.heap.specs.Sizes.{sizes_fit}
 use Rattle.heap.specs.declared.Heap.{Heap}
 use Rattle.heap.proofs.Sizes.{Sizes, sizes-tested}
-use Rattle.door.specs.HeapCalls.{Test, test, admitted, whether, zeros, scratch_after, Entered, outcome_of}
+use Rattle.door.specs.HeapCalls.{Test, admitted, whether, zeros, scratch_after, Entered, outcome_of}
 use Rattle.door.specs.HeapCalls.{Entry}
 use Rattle.door.specs.HeapCalls.{ready}
 use Rattle.door.proofs.Entering.{fails, passes, cleared-in, holding, whether-not, whether-ready}
-use Rattle.object_door.specs.ObjectCalls.{Handed, handed}
+use Rattle.object_door.specs.ObjectCalls.{handed}
 use Rattle.rehearsal.specs.Lines.{is_text}
-use Rattle.rehearsal.specs.Runs.{figures_text}
-use Rattle.rehearsal.specs.Machine.{Tells, Right, plain, empty}
-use Rattle.rehearsal.specs.OnHeap.{heaped, fresh}
+use Rattle.rehearsal.specs.Machine.{plain}
 use Rattle.rehearsal.proofs.Theorem.{text-theorem}
 use Rattle.rehearsal_place.proofs.Answering.{apart}
-use Rattle.rehearsal_runs.specs.Runs.{lines_of, LentRoom, CanRehearse, memory_after, Rehearses}
+use Rattle.rehearsal_runs.specs.Runs.{lines_of, CanRehearse, memory_after, Rehearses}
 use Rattle.rehearse_door.specs.Rehearse.{Given, table_in, plenty, roomy, rehearse_tests, figures_by, rehearse_call, PlainLines}
 
 -- ---- scratch

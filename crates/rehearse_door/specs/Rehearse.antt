@@ -1,5 +1,5 @@
 -- The public call that rehearses collection thresholds (request [12]).
-use Rattle.std.specs.Prelude.{Bool, ◌&&◌, List, [], ◌∷◌, map, ◌≡◌, ℕ, ◌*◌, ◌/◌, leb, length}
+use Rattle.std.specs.Prelude.{Bool, ◌&&◌, List, [], ◌∷◌, map, ◌≡◌, ℕ, ◌/◌, leb, length}
 use Rattle.word.specs.Result.{ok}
 use Rattle.text.specs.Put.{put_text}
 use Rattle.refusal.specs.Told.{number_of, refused_by, answered, here, nothing}

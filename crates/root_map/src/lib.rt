@@ -1,7 +1,7 @@
 // The map of all safepoints of a function: which registers are live before each. Inner functions: the front door is crate `yexwalu`.
 #![tactic(auto)]
 
-ghost use Rattle.std.specs.Prelude.{◌≡◌, true, ◌||◌, ℕ, ◌+◌, ◌-◌, ◌*◌, ◌/◌, ◌≤◌, ◌<◌, ltb, length, set};
+ghost use Rattle.std.specs.Prelude.{◌≡◌, true, ◌||◌, ℕ, ◌+◌, ◌-◌, ◌*◌, ◌≤◌, ◌<◌, ltb, length, set};
 ghost use Rattle.rows.specs.Row.{listed};
 ghost use Rattle.flow.specs.Dataflow.{live_before};
 ghost use Rattle.word.specs.Put.{put};

@@ -1,11 +1,9 @@
 -- The loop over a script's lines: what is left of the script gives what the whole gives. Assumes nothing.
 use mathlib.Core.Path.{◌≡◌, refl, sym, ap, ◌∙◌, subst}
 use mathlib.Core.Bool.{true}
-use mathlib.Core.List.{List, [], ◌∷◌}
+use mathlib.Core.List.{List}
 use Prim.Native.Nat.{ℕ, ◌≤◌}
 use native.Mathlib.Omega.{arith}
-use denote.Enum.Declared.{tag_of}
-use types.Run.{OneOf, miss}
 use lib.ListN.{length, drop, drop_of_length-le}
 use Rattle.word.specs.Result.{Result, ok}
 use Rattle.refusal.specs.Told.{nothing}

@@ -2,7 +2,7 @@
 // first, in document 01's order and of both heaps each time: scratch (18), the heap (1); then the type table (10), then whether all that is reached can be traced (13).
 #![tactic(auto)]
 
-ghost use Rattle.std.specs.Prelude.{◌≡◌, ◌&&◌, [], ◌∷◌, ◌/◌, length, leb, IfOk};
+ghost use Rattle.std.specs.Prelude.{◌≡◌, [], ◌∷◌, IfOk};
 ghost use Rattle.heap.specs.Lent.{lent};
 ghost use Rattle.heap.specs.Seen.{seen};
 ghost use Rattle.door.specs.HeapCalls.{Entered, entry_of, asked_of};

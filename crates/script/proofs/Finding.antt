@@ -1,6 +1,5 @@
 -- What the code's readers say of a line: one law for each way out. Assumes nothing.
 use Prim.Native.Nat.{ℕ, ◌≤◌, ◌<◌, ◌^◌}
-use mathlib.Core.Bool.{true, false}
 use mathlib.Core.List.{List, [], ◌∷◌}
 use mathlib.Core.Option as maybe
 use mathlib.Core.Option.{none}

@@ -16,7 +16,7 @@ no-comma = refl
 abbrev Fields : Type 0
 Fields = ℕ × (ℕ × List ℕ)
 
-alloc-right : Right alloc_format (λ r. (r.0 < 2 ^ 32) × ((r.1.0 < 2 ^ 8) × Bytes r.1.1))
+pub alloc-right : Right alloc_format (λ r. (r.0 < 2 ^ 32) × ((r.1.0 < 2 ^ 8) × Bytes r.1.1))
 unfolding alloc_format
 alloc-right = pair-right (number-right 32 comma no-comma) λ _. pair-right (number-right 8 comma no-comma) λ _. bytes-line-right
 

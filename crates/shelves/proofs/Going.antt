@@ -1,13 +1,12 @@
 -- A step, and steps one after another: what was printed and what is left are together what was left before. Assumes nothing.
 use Prim.Native.Nat.{ℕ, ◌+◌, ◌-◌, ◌≤◌, ◌<◌}
 use mathlib.Core.Bool.{Bool}
-use mathlib.Core.List.{List, [], ◌∷◌, ◌++◌}
-use mathlib.Core.Path.{◌≡◌, refl, sym, ap, ◌∙◌, subst}
+use mathlib.Core.List.{List, ◌++◌}
+use mathlib.Core.Path.{◌≡◌, refl, ap, ◌∙◌, subst}
 use native.Mathlib.Omega.{arith}
 use lib.ListN.{length, take, drop, length-take, length-drop}
-use lib.Seq.{drop-drop, take_all}
+use lib.Seq.{drop-drop}
 use borrow.Author.Tests.{le-ltb}
-use Rattle.std.specs.Prelude.{if◌then◌else◌}
 use Rattle.word.specs.Result.{Result, refused}
 use Rattle.word.proofs.Bools.{positive}
 use Rattle.figures.specs.declared.Figures.{Figures}
@@ -19,7 +18,7 @@ use Rattle.shelves.specs.declared.Next.{Next}
 use Rattle.shelves.specs.declared.Next.TheVariants.{Still, Whole, Passed}
 use Rattle.shelves.specs.declared.Shelf.{Shelf}
 use Rattle.shelves.specs.Shelf.{whole, shown}
-use Rattle.shelves.specs.Inner.Steps.{left_at, left_next, printed, text_left, Good, GoodNext, most_at, most_next, Takes, Answers, Goes}
+use Rattle.shelves.specs.Inner.Steps.{left_next, printed, text_left, Good, GoodNext, most_next, Takes, Answers, Goes}
 
 shown-page : (n : ℕ) (held : List ℕ) → n ≤ 32768 → page_figures (take n held) ≡ shown (whole (take n held))
 unfolding shown
@@ -84,10 +83,6 @@ module _ (s : Shelf) (good : Good s) (held input out held' : List ℕ) (used to 
     pub goes-passed : next ≡ Passed → sh ≡ shown_as (refused 17) → Goes s held input out to s' held' out' used to'
     unfolding left_next
     goes-passed e z = goes-answer Passed e (λ failed rest. a.same (refused 17) z failed held' rest)
-
--- a part of the input that runs to its end
-pub rest_of : (l : List ℕ) (a : ℕ) → take (length l - a) (drop a l) ≡ drop a l
-rest_of l a = take_all (length l - a) (drop a l) (omega (arith, length-drop a l))
 
 -- ---- steps one after another
 

@@ -4,15 +4,13 @@ use mathlib.Core.Bool.{Bool, true, false, ◌&&◌, ◌||◌}
 use mathlib.Core.List.{List, [], ◌∷◌, ◌++◌, append_assoc}
 use mathlib.Core.Path.{◌≡◌, refl, sym, ap, ◌∙◌}
 use native.Mathlib.Omega.{arith}
-use native.Mathlib.Numerals.{add-one}
 use lib.Dec.{eqb, ltb, leb}
-use lib.ListN.{length, length-append}
-use borrow.Author.Tests.{lt-ltb, le-ltb, le-leb, lt-leb, eq-eqb, ne_eqb, ltb-true, ltb-false, leb-true, eqb-true}
-use Rattle.std.specs.Prelude.{if◌then◌else◌}
+use lib.ListN.{length}
+use borrow.Author.Tests.{lt-ltb, le-ltb, le-leb, lt-leb, ne_eqb, ltb-true, ltb-false, leb-true, eqb-true}
 use Rattle.word.proofs.Bools.{and_both, or_right}
 use Rattle.text.specs.Text.{newline, decimal}
 use Rattle.text.proofs.Laws.{decimal-one, decimal-more, decimal-snoc, decimal-length-one, decimal-length-more}
-use Rattle.shelves.specs.Shelf.{LengthLine, length_of, unfinished, no_length, is_digit, length_line}
+use Rattle.shelves.specs.Shelf.{LengthLine, length_of, no_length, is_digit, length_line}
 
 -- ---- one byte, by the tests of the code
 

@@ -1,5 +1,5 @@
 -- What each way of taking in some input leaves to be answered. Assumes nothing.
-use Prim.Native.Nat.{ℕ, zero, suc, ◌+◌, ◌-◌, ◌*◌, ◌^◌, ◌≤◌, ◌<◌, min}
+use Prim.Native.Nat.{ℕ, suc, ◌+◌, ◌-◌, ◌*◌, ◌^◌, ◌≤◌, ◌<◌, min}
 use mathlib.Core.Bool.{Bool, true, false, ◌||◌}
 use mathlib.Core.List.{List, [], ◌∷◌, ◌++◌, append_assoc, map}
 use mathlib.Core.Path.{◌≡◌, refl, sym, ap, ◌∙◌, subst}
@@ -7,12 +7,11 @@ use native.Mathlib.Omega.{arith}
 use native.Mathlib.Numerals.{add-one}
 use native.Mathlib.Nat.{pow-suc, pow-le-pow_right}
 use lib.Dec.{eqb, ltb}
-use lib.ListN.{length, get_or, take, drop, length-append, take-append-drop, drop_of_length-le}
-use lib.Seq.{length-take-le, take_at, drop_at, take-length, drop-cons, drop-append-le, drop-append-add, drop-length, take_all}
-use borrow.Author.Tests.{lt-ltb, le-ltb, ltb-true, ltb-false}
-use Rattle.std.specs.Prelude.{if◌then◌else◌}
+use lib.ListN.{length, get_or, take, drop, length-append, take-append-drop}
+use lib.Seq.{length-take-le, take_at, drop_at, drop-cons, drop-append-le, drop-append-add, drop-length, take_all}
+use borrow.Author.Tests.{lt-ltb, le-ltb}
 use Rattle.word.specs.Put.{put}
-use Rattle.word.specs.Result.{Result, ok, refused}
+use Rattle.word.specs.Result.{Result, refused}
 use Rattle.word.proofs.PutLaws.{take_put}
 use Rattle.word.proofs.Bools.{by_size}
 use Rattle.figures.specs.declared.Figures.{Figures}
@@ -20,8 +19,8 @@ use Rattle.shelves.specs.declared.At.{At}
 use Rattle.shelves.specs.declared.At.TheVariants.{Line, Page as InPage, Passing, Over}
 use Rattle.shelves.specs.declared.Next.{Next}
 use Rattle.shelves.specs.declared.Next.TheVariants.{Still, Whole, Passed}
-use Rattle.shelves.specs.Shelf.{LengthLine, length_of, unfinished, no_length, length_line, Page, whole, cut_off, by_bytes, by_line, pages_in, shown, answers_in}
-use Rattle.shelves.specs.Inner.Steps.{passed_over, left_at, left_next, GoodAt, GoodNext, most_at, most_next, Begins, Reads, Takes, Due}
+use Rattle.shelves.specs.Shelf.{LengthLine, no_length, length_line, Page, whole, cut_off, by_bytes, by_line, pages_in, shown, answers_in}
+use Rattle.shelves.specs.Inner.Steps.{passed_over, left_at, left_next, GoodAt, Begins, Reads, Takes, Due}
 use Rattle.shelves.proofs.Lengths.{line-none, line-end, line_low, line-high, line-long, line-spare, line-digit}
 
 abbrev answers : List Page → List (Result Figures)

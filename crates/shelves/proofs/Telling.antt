@@ -1,5 +1,5 @@
 -- Lines and totals: what is printed when a page is answered, at the start and at the end. Assumes nothing.
-use Prim.Native.Nat.{ℕ, suc, ◌+◌, ◌-◌, ◌*◌, ◌≤◌, ◌<◌}
+use Prim.Native.Nat.{ℕ, suc, ◌+◌, ◌-◌, ◌*◌, ◌≤◌}
 use mathlib.Core.Bool.{Bool, true, false}
 use mathlib.Core.List.{List, [], ◌∷◌, ◌++◌, append_assoc, append-nil, map}
 use mathlib.Core.Path.{◌≡◌, refl, sym, ap, ◌∙◌, subst}
@@ -12,10 +12,10 @@ use Rattle.std.specs.Prelude.{if◌then◌else◌}
 use Rattle.word.specs.Result.{Result, ok, refused}
 use Rattle.word.proofs.PutLaws.{take_put}
 use Rattle.text.specs.Text.{ascii}
-use Rattle.text.specs.Put.{put_text, Puts}
+use Rattle.text.specs.Put.{Puts}
 use Rattle.text.specs.Wrote.{Wrote}
 use Rattle.text.specs.declared.output.Out.{Out}
-use Rattle.text.proofs.Putting.{puts-puts, puts-at}
+use Rattle.text.proofs.Putting.{puts-puts}
 use Rattle.figures.specs.declared.Figures.{Figures}
 use Rattle.std.specs.Prelude.{Result as Outcome}
 use Rattle.figures.specs.Figures.{no_figures, merge, total, figures_line}
@@ -24,8 +24,8 @@ use Rattle.figures.proofs.Totals.{merge_none, none-merge, merge-assoc}
 use Rattle.shelves.specs.declared.At.{At}
 use Rattle.shelves.specs.declared.At.TheVariants.{Line, Page as InPage, Passing, Over}
 use Rattle.shelves.specs.declared.Shelf.{Shelf}
-use Rattle.shelves.specs.Shelf.{LengthLine, length_line, Page, cut_off, by_bytes, by_line, pages_in, shown, answers_in, answers_of, answer_line, answer_lines, accepted, names_line, last_line, shelf_text}
-use Rattle.shelves.specs.Inner.Steps.{passed_over, left_at, printed, text_left, GoodAt, Good, most_at, Due, After, Answers, Begun, Ends, is_cut_off}
+use Rattle.shelves.specs.Shelf.{length_line, cut_off, by_line, pages_in, shown, answers_in, answers_of, answer_line, answer_lines, accepted, names_line, last_line, shelf_text}
+use Rattle.shelves.specs.Inner.Steps.{left_at, printed, text_left, GoodAt, Good, most_at, Due, After, Answers, Begun, Ends, is_cut_off}
 use Rattle.shelves.proofs.Taking.{bytes-short, over-short}
 
 -- one page more: a refused one adds zeros

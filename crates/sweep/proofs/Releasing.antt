@@ -1,5 +1,5 @@
 -- Slots released in the runs are slots dropped in the heap. Assumes nothing.
-use mathlib.Core.Path.{◌≡◌, refl, sym, ap, ◌∙◌, subst}
+use mathlib.Core.Path.{◌≡◌, refl, sym, ap, ◌∙◌}
 use mathlib.Core.Bool.{Bool, true, false, not, ◌&&◌}
 use mathlib.Core.List.{List, [], ◌∷◌, ◌++◌, map, append-nil}
 use Prim.Native.Nat.{ℕ, suc, ◌+◌, ◌*◌, ◌/◌, ◌≤◌, ◌<◌}
@@ -18,7 +18,7 @@ use Rattle.heap.specs.Header.{set_free, set_retired, set_slots, set_changed}
 use Rattle.heap.specs.declared.Heap.{Heap}
 use Rattle.heap.proofs.Sound.{Sound, WellFormed, live_bit}
 use Rattle.heap.proofs.Storing.{column-set, column-at, pad-push}
-use Rattle.heap.proofs.Changing.{Known, known}
+use Rattle.heap.proofs.Changing.{known}
 use Rattle.heap.proofs.Counting.{sum_one, all_slots}
 use Rattle.heap.proofs.Runs.{with-header, with-generation, with-kind, with-type, with-writes, with-free, with-retired, set-generation, set-kind, set-type, set-start, set-writes, set-free, set-retired, wide_room}
 use Rattle.heap.proofs.Keeping.{at_same}

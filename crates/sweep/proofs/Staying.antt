@@ -6,13 +6,8 @@ use Prim.Native.Nat.{ℕ, zero, suc, ◌+◌, ◌≤◌, ◌<◌}
 use native.Mathlib.Decide.{ℕ_discrete}
 use native.Mathlib.Numerals.{add-one}
 use native.Mathlib.Omega.{arith}
-use lib.Bits.{bit_or}
-use lib.Dec.{eqb, ltb}
-use lib.ListN.{length, get_or}
-use borrow.Author.Tests.{le-ltb, lt-ltb, ne_eqb, eq-eqb}
-use Rattle.word.proofs.BitLaws.{or-eqb}
-use Rattle.word.proofs.Bools.{and_both, and-false}
-use Rattle.heap.specs.State.{bit}
+use lib.ListN.{get_or}
+use Rattle.word.proofs.Bools.{and_both}
 use Rattle.sweep.specs.Columns.{is_going, all_stay}
 
 -- the loop: all that were looked at stay

@@ -1,12 +1,12 @@
 -- The sweep put together: slots released, pool packed, survivors counted. Assumes nothing.
 use mathlib.Core.Path.{◌≡◌, refl, sym, ap, ◌∙◌, subst}
-use mathlib.Core.Bool.{Bool, true, false, ◌&&◌}
+use mathlib.Core.Bool.{Bool, true, false}
 use mathlib.Core.List.{List, []}
 use Prim.Native.Nat.{ℕ, ◌+◌, ◌-◌, ◌*◌, ◌/◌, ◌≤◌, ◌<◌}
 use native.Mathlib.Omega.{arith}
 use lib.ListN.{length, get_or, take, drop, length-map, get_or-map}
 use lib.Seq.{ext_get_or}
-use lib.Dec.{eqb, ltb}
+use lib.Dec.{ltb}
 use borrow.Author.Tests.{ltb-false}
 use borrow.Rule.Slice.PartMut.{put_mid, same_len_mid}
 use Rattle.std.specs.Prelude.{if◌then◌else◌}
@@ -23,7 +23,7 @@ use Rattle.heap.specs.Loans.{lies}
 use Rattle.heap.specs.declared.view_mut.ViewMut.{ViewMut}
 use Rattle.heap.specs.declared.Heap.{Heap}
 use Rattle.heap.proofs.Sound.{Sound, WellFormed}
-use Rattle.heap.proofs.Changing.{column-size, Known, known}
+use Rattle.heap.proofs.Changing.{column-size, known}
 use Rattle.heap.proofs.Placing.{lies-packed, end-long}
 use Rattle.heap.proofs.Runs.{with-header, with-end, recount, lent-end, wide_room}
 use Rattle.heap.proofs.Storing.{view-stored, slots-stored, pool-stored}

@@ -1,30 +1,29 @@
 -- The whole of a table's text, section by section as the first pass reads it. Assumes nothing.
-use Prim.Native.Nat.{ℕ, suc, ◌+◌, ◌-◌, ◌*◌, ◌≤◌, ◌<◌}
-use mathlib.Core.List.{List, [], ◌∷◌, ◌++◌, append_assoc, flat_map}
+use Prim.Native.Nat.{ℕ, ◌+◌, ◌-◌, ◌*◌, ◌≤◌, ◌<◌}
+use mathlib.Core.List.{List, ◌++◌, append_assoc}
 use mathlib.Core.Bool.{Bool}
-use mathlib.Core.Option.{Option, none, some}
+use mathlib.Core.Option.{none, some}
 use mathlib.Core.Logic.{◌⊎◌, ⊎_elim}
 use mathlib.Core.Path.{◌≡◌, refl, sym, ap, ◌∙◌, subst}
 use Rattle.std.specs.Prelude.{Some, None}
-use lib.ListN.{length, take, drop, length-append, length-take, length-drop, drop_of_length-le}
+use lib.ListN.{length, take, drop}
 use lib.Seq.{drop-cons, take-append-le, take-take, length-take-le, take_all}
 use native.Mathlib.Omega.{arith}
-use native.Mathlib.Nat.{mul-suc, zero-add}
+use native.Mathlib.Nat.{zero-add}
 use Rattle.word.proofs.PutLaws.{put_all, take_put, mid-put, length-put}
-use Rattle.text.specs.Text.{give, ◌>>=◌}
-use Rattle.text.specs.Format.{Format, Right, read_all, pair, times, after_literal, All}
+use Rattle.text.specs.Text.{give}
+use Rattle.text.specs.Format.{read_all, pair, times, after_literal}
 use Rattle.text.specs.Put.{put_text}
 use Rattle.text.specs.Answer.{hex_at}
 use Rattle.text.proofs.Laws.{times-right}
 use Rattle.ty.specs.Check.{table_good}
-use Rattle.tables.specs.Table.{Row, Named, RowWithin, most64, most32, type_names, field_names, constant_names, row_format, rows_format, Counts, counts_format, bytes_format, table_format, named_of, read_table}
-use Rattle.tables.specs.Lists.{numbers_in, names_in, good}
-use Rattle.tables.specs.Answer.{GotAll}
+use Rattle.tables.specs.Table.{Row, Named, most64, most32, type_names, field_names, constant_names, row_format, rows_format, counts_format, bytes_format, table_format, read_table}
+use Rattle.tables.specs.Lists.{numbers_in, good}
 use Rattle.tables.proofs.Laws.{row-right}
 use Rattle.tables.proofs.Rowing.{numbers-size}
-use Rattle.table_check.specs.Inner.Found.{Listed, SectionFound}
-use Rattle.table_check.specs.Inner.Edges.{counts_of, CountsFound, BytesFound}
-use Rattle.table_check.specs.Inner.Parsing.{table_of, RowsStand, SectionedAs, Sectioned, HoldingAs, Holding, ParsedAs}
+use Rattle.table_check.specs.Inner.Found.{SectionFound}
+use Rattle.table_check.specs.Inner.Edges.{CountsFound, BytesFound}
+use Rattle.table_check.specs.Inner.Parsing.{table_of, SectionedAs, Sectioned, HoldingAs, Holding, ParsedAs}
 use Rattle.table_check.specs.declared.CountsRead.{CountsRead}
 use Rattle.table_check.specs.declared.found.Sections.{Sections}
 

@@ -1,21 +1,21 @@
 -- The first lines and the last ones of a table's text. Assumes nothing.
 use Prim.Native.Nat.{ℕ, ◌+◌, ◌-◌, ◌≤◌, ◌<◌}
-use mathlib.Core.List.{List, [], ◌∷◌, ◌++◌, append_assoc}
+use mathlib.Core.List.{List, ◌∷◌, ◌++◌}
 use mathlib.Core.Option as maybe
 use mathlib.Core.Option.{none, some}
 use mathlib.Core.Logic.{◌⊎◌, inl, inr}
-use mathlib.Core.Path.{◌≡◌, refl, sym, ap, ◌∙◌, subst}
+use mathlib.Core.Path.{◌≡◌, sym, ap, ◌∙◌, subst}
 use lib.ListN.{length, drop, length-append, length-drop, drop_of_length-le}
 use native.Mathlib.Omega.{arith}
-use Rattle.text.specs.Text.{give, ◌>>=◌, read_field, read_literal, read_hex, hex, newline, Bytes}
-use Rattle.text.specs.Format.{Format, Right, pair, after_literal, bytes_line}
-use Rattle.text.specs.Answer.{value_answer, hex_answer, hex_at, HexParsed}
+use Rattle.text.specs.Text.{give, read_field, read_literal, read_hex, hex, newline, Bytes}
+use Rattle.text.specs.Format.{Right, pair, after_literal, bytes_line}
+use Rattle.text.specs.Answer.{value_answer, hex_answer, hex_at}
 use Rattle.std.specs.Prelude.{Option, Some, None}
 use Rattle.text.proofs.Laws.{hex-back, hex-length}
 use Rattle.text.proofs.Getting.{suffix, answer-some, answer-none, hex-found, hex-missing}
 use Rattle.tables.specs.Table.{up_to, count_names, bytes_name, Counts, counts_format, bytes_format}
-use Rattle.tables.proofs.Laws.{up-to-right, num, last}
-use Rattle.table_check.specs.Inner.Edges.{counts_of, CountsFound, CountsGot, BytesFound, BytesGot}
+use Rattle.tables.proofs.Laws.{num, last}
+use Rattle.table_check.specs.Inner.Edges.{CountsFound, CountsGot, BytesFound, BytesGot}
 use Rattle.table_check.specs.declared.CountsRead.{CountsRead}
 use Rattle.table_check.specs.declared.BytesRead.{BytesRead}
 

@@ -1,31 +1,29 @@
 -- Lines of a table, read number by number and name by name. Assumes nothing.
-use Prim.Native.Nat.{ℕ, zero, suc, ◌+◌, ◌-◌, ◌*◌, ◌^◌, ◌≤◌, ◌<◌}
-use mathlib.Core.List.{List, [], ◌∷◌, ◌++◌, append_assoc, append-nil, flat_map}
+use Prim.Native.Nat.{ℕ, suc, ◌+◌, ◌-◌, ◌*◌, ◌^◌, ◌≤◌, ◌<◌}
+use mathlib.Core.List.{List, [], ◌∷◌, ◌++◌, flat_map}
 use mathlib.Core.Option as maybe
 use mathlib.Core.Option.{none, some}
 use mathlib.Core.Path.{◌≡◌, refl, sym, ap, ◌∙◌, subst}
-use lib.ListN.{length, take, drop, get_or, set, length-append, length-drop, length-set}
-use lib.Seq.{drop-cons}
+use lib.ListN.{length, drop, set, length-append, length-drop, length-set}
 use native.Mathlib.Omega.{arith}
 use Rattle.std.proofs.lemmas.Nat.{pow_pos}
 use native.Mathlib.Numerals.{add-one}
 use native.Mathlib.Nat.{mul-le-mul_left, mul-suc}
-use Rattle.word.proofs.PutLaws.{put_whole}
-use Rattle.text.specs.Text.{give, ◌>>=◌, read_field, read_literal, comma, digit_of}
-use Rattle.text.specs.Format.{Format, Right, read_all, pair, times, after_literal, All}
+use Rattle.text.specs.Text.{give, read_field, read_literal}
+use Rattle.text.specs.Format.{read_all, pair, times, after_literal, All}
 use Rattle.text.specs.Answer.{value_answer}
 use Rattle.text.specs.Put.{put_text, Puts}
 use Rattle.std.specs.Prelude.{Option, Some, None}
 use Rattle.text.proofs.Laws.{none-not-some, some_inj, times-right}
 use Rattle.text.proofs.Getting.{suffix, answer-some, answer-none}
-use Rattle.text.proofs.Putting.{puts-puts, puts-byte, puts-at, puts_none, puts-length}
-use Rattle.tables.specs.Table.{Row, RowWithin, name_text, up_to, read_name, name_format, row_format, rows_format}
+use Rattle.text.proofs.Putting.{puts-puts, puts-byte, puts-at, puts_none}
+use Rattle.tables.specs.Table.{Row, name_text, up_to, read_name, name_format, row_format, rows_format}
 use Rattle.tables.specs.Lists.{numbers_in, names_in}
 use Rattle.tables.specs.Answer.{GotAll, Got}
-use Rattle.tables.proofs.Laws.{num, row-right}
-use Rattle.tables.proofs.Endings.{Gathering, gather-begin, gather-next, gather-lost, gather-done, gather-prefix, got-there, got-missing}
-use Rattle.tables.proofs.Naming.{NameFound, name-found, name-long, name-part}
-use Rattle.tables.proofs.Rowing.{flat_append, flat-snoc}
+use Rattle.tables.proofs.Laws.{num}
+use Rattle.tables.proofs.Endings.{Gathering, gather-begin, gather-next, gather-lost, gather-done, got-there, got-missing}
+use Rattle.tables.proofs.Naming.{NameFound, name-long}
+use Rattle.tables.proofs.Rowing.{flat-snoc}
 use Rattle.table_check.specs.declared.Rows.{Rows}
 use Rattle.table_check.specs.declared.Section.{Section}
 use Rattle.table_check.specs.Inner.Found.{Listed, RowsGot, SectionFound, SectionGot}

@@ -1,7 +1,7 @@
 // The first pass over a type table's text: what it is refused for, and where its parts stand.
 #![tactic(auto)]
 
-ghost use Rattle.std.specs.Prelude.{◌≡◌, List, [], ◌∷◌, ◌++◌, ℕ, ◌+◌, ◌-◌, ◌*◌, ◌/◌, ◌^◌, ◌≤◌, ◌<◌, length, take, drop, replicate};
+ghost use Rattle.std.specs.Prelude.{◌≡◌, ◌+◌, ◌-◌, ◌*◌, ◌^◌, ◌≤◌, ◌<◌, length, replicate};
 ghost use Rattle.text.specs.Text.{read_field};
 ghost use Rattle.text.specs.Put.{put_text};
 ghost use Rattle.tables.specs.Answer.{Got};

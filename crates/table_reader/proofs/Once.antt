@@ -12,7 +12,7 @@ use Rattle.tables.specs.Lists.{good}
 use Rattle.table_check.specs.Verdict.{verdict}
 use Rattle.table_reader.specs.declared.TableRead.{TableRead}
 use Rattle.table_reader.specs.Reading.{fits, enough, roomy, table_read, table_told}
-use Rattle.table_reader.specs.Once.{ReadNumbered, ToldZero, ToldOnce, Takes, taken}
+use Rattle.table_reader.specs.Once.{ReadNumbered, ToldZero, ToldOnce, Takes}
 
 done-numbered : {A : Type 0} (a : A) → ok a ≢ refused 0
 done-numbered a e = let z : ◌≡◌ {A = ℕ} 0 1 = cc in omega (arith, z)

@@ -7,7 +7,7 @@ use mathlib.Core.Option.{none, some}
 use Rattle.std.specs.Prelude.{Option, Some, None}
 use mathlib.Core.Path.{◌≡◌, refl, sym, ap, ◌∙◌, subst}
 use lib.Dec.{leb, eqb}
-use lib.ListN.{length, take, drop, set, length-append, length-drop, drop_of_length-le, take-append-drop}
+use lib.ListN.{length, take, drop, length-append, length-drop, drop_of_length-le, take-append-drop}
 use lib.Seq.{drop-cons}
 use native.Mathlib.Omega.{arith}
 use native.Mathlib.Nat.{mul-suc, zero-add}
@@ -16,7 +16,6 @@ use Rattle.text.specs.Text.{give, ◌>>=◌, decimal, hex, line, newline, comma}
 use Rattle.text.specs.Format.{read_all, pair, times}
 use Rattle.text.specs.Put.{Puts}
 use Rattle.text.proofs.Laws.{times-right, hex-length}
-use Rattle.text.proofs.Putting.{puts-puts, puts-byte, puts-at}
 use Rattle.pages.specs.Page.{whole}
 use Rattle.tables.specs.Table.{read_name, field, name_text, name_format, row_line, count_names, type_names, field_names, constant_names, bytes_name, counts_line, table_text}
 use Rattle.word.specs.Result.{ok}

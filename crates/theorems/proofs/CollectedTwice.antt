@@ -1,8 +1,7 @@
 -- Collecting twice over the public call. Assumes nothing.
-use mathlib.Core.Path.{◌≡◌, refl, sym, ap, ◌∙◌, subst}
-use mathlib.Core.Bool.{Bool, true, false, ◌&&◌}
+use mathlib.Core.Path.{◌≡◌, refl, sym, ap, ◌∙◌}
+use mathlib.Core.Bool.{true}
 use mathlib.Core.List.{List, [], ◌∷◌, ◌++◌, map}
-use mathlib.Core.Logic.{inl, inr}
 use Prim.Native.Nat.{ℕ, ◌+◌, ◌*◌, ◌/◌, ◌≤◌}
 use native.Mathlib.Omega.{arith}
 use lib.ListN.{length, take, drop, take-append-drop}
@@ -10,30 +9,23 @@ use lib.Seq.{drop-drop}
 use lib.Dec.{leb}
 use borrow.Author.Tests.{leb-true, le-leb}
 use Rattle.word.specs.Run.{run}
-use Rattle.word.specs.Result.{ok}
 use Rattle.word.proofs.Bools.{and_both, both-and}
 use Rattle.refusal.specs.Told.{answered, nothing}
-use Rattle.refusal.specs.declared.Refusal.TheVariants.{BrokenHeap, NoMap, Scratch as TooLittle}
-use Rattle.refusal.specs.declared.Answer.{Answer}
-use Rattle.heap.specs.State.{State}
 use Rattle.heap.specs.Lent.{Lent, lent, stored, view, slot_count, pool_size}
 use Rattle.heap.specs.WellFormed.{well_formed}
 use Rattle.heap.specs.Calls.{Changed}
 use Rattle.heap.specs.declared.Heap.{Heap}
 use Rattle.heap.proofs.Testing.{formed-tested}
 use Rattle.heap.proofs.Storing.{view-stored}
-use Rattle.flow.specs.Function.{safepoint}
 use Rattle.roots.specs.Calls.{function, need}
 use Rattle.collection.proofs.Twice.{joined-twice}
-use Rattle.door.specs.HeapCalls.{Test, test, admitted, enough, zeros, Outcome, outcome_of, calling}
-use Rattle.door.specs.HeapCalls.{Entry}
-use Rattle.std.specs.Prelude.{Err}
+use Rattle.door.specs.HeapCalls.{admitted, enough, zeros, Outcome, outcome_of, calling}
 use Rattle.door.specs.HeapCalls.{ready}
-use Rattle.door.proofs.Entering.{passes, all_hold, calling-ready}
-use Rattle.collect_door.specs.Calls.{Asked, table, frame, pinning, roomy, row_tests, input_tests, joined_tests, joining, joined_call}
+use Rattle.door.proofs.Entering.{all_hold, calling-ready}
+use Rattle.collect_door.specs.Calls.{Asked, table, frame, pinning, roomy, joined_tests, joining}
 use Rattle.collect_door.specs.Demand.{done, Demand}
 use Rattle.collect_door.proofs.Theorem.{has_done, demand}
-use Rattle.theorems.specs.CollectedTwice.{Memory, heap_in, Scratch, NoShorter, lists, Joined, CollectedTwice}
+use Rattle.theorems.specs.CollectedTwice.{Memory, heap_in, Scratch, NoShorter, lists, CollectedTwice}
 
 -- ---- lent memory and what lies there determine each other
 

@@ -1,6 +1,5 @@
 -- THE FIRST ROUND TRIP: heap, page, heap. Assumes nothing.
 use Prim.Native.Nat.{ℕ}
-use mathlib.Core.List.{List}
 use mathlib.Core.Path.{◌≡◌, sym, ap, ◌∙◌}
 use lib.ListN.{take}
 use Rattle.text.specs.Put.{put_text}

@@ -1,5 +1,4 @@
 -- THE BOUND of a page. Assumes nothing.
-use mathlib.Core.Path.{◌≡◌}
 use native.Mathlib.Omega.{arith}
 use Rattle.heap.specs.Lent.{view}
 use Rattle.pages.specs.Form.{written}

@@ -4,21 +4,17 @@ use mathlib.Core.Bool.{Bool, true, false}
 use mathlib.Core.List.{List, [], ◌++◌, append_assoc, append-nil, flat_map}
 use mathlib.Core.Option.{Option, none, some}
 use mathlib.Core.Path.{◌≡◌, refl, sym, ap, subst, ◌∙◌}
-use lib.ListN.{length}
 use native.Mathlib.Omega.{arith}
 use Rattle.std.specs.Prelude.{if◌then◌else◌}
 use Rattle.refusal.specs.declared.Answer.{Answer}
-use Rattle.word.specs.Result.{refused}
 use Rattle.word.proofs.Bools.{true-false}
 use Rattle.text.specs.Text.{give, ◌>>=◌, ascii, newline}
 use Rattle.text.specs.Format.{Right, number, always, after_literal, pair, times}
-use Rattle.text.proofs.Laws.{none-not-some, bind-some, some_inj, always-right, after-literal-right, pair-right, times-right}
-use Rattle.heap.specs.State.{Slot, State}
-use Rattle.heap.specs.Lent.{Lent, view, slot_count, pool_size}
+use Rattle.text.proofs.Laws.{bind-some, some_inj, always-right, after-literal-right, pair-right, times-right}
+use Rattle.heap.specs.State.{State}
 use Rattle.pages.specs.Form.{Form, form_of, writes_width, written, earlier, heap_front, no_retired, heap_names, slot_front, narrow_writes, data_name, slot_names, free_name, quarantine_name, sealed_name}
-use Rattle.pages.specs.Page.{slot_line, value_line, heap_line, retired_part, page_text, Within, Unsaved, slot_format, Head, head_format, Body, state_of, head_of, body_of, whole, read_page}
+use Rattle.pages.specs.Page.{slot_line, value_line, retired_part, page_text, Within, Unsaved, slot_format, Head, Body, state_of, head_of, body_of, whole, read_page}
 use Rattle.pages.proofs.Laws.{Head-good, Body-good, head-right, slot-right, last, head-prints, slot-prints, value-prints, flat_map-same, good-saved, within-read, whole-some, same-unsaved, read-written, written_read, read-exactly}
-use Rattle.page_reader.specs.Reading.{Left, left, in_range}
 use Rattle.theorems.specs.EarlierPage.{earlier_heap_names, earlier_slot_names, earlier_body, earlier_format, earlier_read, earlier_verdict, earlier_into}
 use Rattle.theorems.specs.PageForms.{EveryFormRead, EarlierStillRead, EarlierRefuses, EarlierRewritten, FormTold, FormsTold}
 use Rattle.theorems.proofs.PageReading.{page-taken}

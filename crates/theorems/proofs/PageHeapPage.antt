@@ -1,11 +1,11 @@
 -- THE SECOND ROUND TRIP: page, heap, page. Assumes nothing.
-use Prim.Native.Nat.{ℕ, ◌≤◌}
+use Prim.Native.Nat.{ℕ}
 use mathlib.Core.Bool.{Bool, true, false}
 use mathlib.Core.List.{List}
 use mathlib.Core.Path.{◌≡◌, refl, sym, ap, ◌∙◌}
 use lib.ListN.{length}
 use native.Mathlib.Omega.{arith}
-use Rattle.word.specs.Result.{Result, ok, refused}
+use Rattle.word.specs.Result.{ok}
 use Rattle.text.specs.Put.{put_text}
 use Rattle.refusal.specs.Told.{answered}
 use Rattle.refusal.specs.declared.Answer.{Answer}
@@ -19,7 +19,6 @@ use Rattle.pages.proofs.Laws as pages
 use Rattle.page_check.specs.Sections.{form_in, heap_in}
 use Rattle.page_check.proofs.Assembly.{form-is, heap_is}
 use Rattle.page_reader.specs.Reading.{bits_met, names_met, read_into}
-use Rattle.page_reader.proofs.Loaded.{not-ok}
 use Rattle.door.specs.HeapCalls.{enough}
 use Rattle.theorems.specs.PageCalls.{Writes, Scratch, WroteText, done, met}
 use Rattle.theorems.specs.PageHeapPage.{TextRead, ReadFormed, ReadWritten}

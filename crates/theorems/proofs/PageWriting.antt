@@ -9,14 +9,13 @@ use lib.Seq.{take_all}
 use native.Mathlib.Omega.{arith}
 use native.Mathlib.Nat.{zero-add}
 use borrow.Author.Tests.{le-leb, lt-leb, leb-true}
-use Rattle.word.specs.Result.{ok, refused}
+use Rattle.word.specs.Result.{refused}
 use Rattle.word.proofs.PutLaws.{take_put, put_all}
 use Rattle.text.specs.Put.{put_text}
 use Rattle.refusal.specs.Told.{number_of, refused_by, answered, here, nothing}
 use Rattle.refusal.specs.declared.Refusal.{Refusal}
 use Rattle.refusal.specs.declared.Answer.{Answer}
 use Rattle.refusal.specs.declared.Refusal.TheVariants.{Scratch as ScratchShort, BrokenHeap}
-use Rattle.heap.specs.State.{State}
 use Rattle.heap.specs.Lent.{Lent, view}
 use Rattle.heap.specs.WellFormed.{well_formed}
 use Rattle.pages.specs.Form.{written}

@@ -1,6 +1,6 @@
 -- The proved table of 01 holds of the definitions, by computation: one statement over the table. Assumes nothing.
 use mathlib.Core.Path.{◌≡◌, refl}
-use mathlib.Core.Bool.{Bool, true}
+use mathlib.Core.Bool.{true}
 use Rattle.word.specs.Lists.{all, same_list}
 use Rattle.word.specs.Num.{align_up}
 use Rattle.word.specs.Le.{le, bytes}

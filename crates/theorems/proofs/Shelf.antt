@@ -4,28 +4,25 @@ use mathlib.Core.Bool.{Bool, true, false}
 use mathlib.Core.List.{List, [], ◌∷◌, ◌++◌, append_assoc, append-nil, map, map-append}
 use mathlib.Core.Path.{◌≡◌, refl, sym, ap, ◌∙◌, subst}
 use native.Mathlib.Omega.{arith}
-use lib.Dec.{ltb}
-use lib.ListN.{length, take, drop, length-append, take-append-drop, length-take}
+use lib.ListN.{length, take, drop, length-append, take-append-drop}
 use lib.Seq.{take_at, drop_at, length-take-le}
-use borrow.Author.Tests.{ltb-true, ltb-false}
 use Rattle.std.specs.Prelude.{if◌then◌else◌}
 use Rattle.word.specs.Result.{Result, ok, refused}
 use Rattle.word.proofs.Bools.{by_size}
 use Rattle.text.specs.Text.{decimal, newline}
-use Rattle.text.specs.Format.{All}
 use Rattle.text.proofs.Laws.{decimal-length}
 use Rattle.figures.specs.declared.Figures.{Figures}
-use Rattle.figures.specs.Figures.{no_figures, merge, total, figures_line}
+use Rattle.figures.specs.Figures.{merge, total, figures_line}
 use Rattle.figures.specs.Inner.Counting.{shown_as, line_of}
 use Rattle.figures.proofs.Totals.{none-merge, merge-assoc, merge-comm, total-append}
 use Rattle.shelves.specs.declared.At.{At}
 use Rattle.shelves.specs.declared.At.TheVariants.{Over}
 use Rattle.shelves.specs.declared.Shelf.{Shelf}
-use Rattle.shelves.specs.Shelf.{LengthLine, length_of, unfinished, no_length, length_line, Page, whole, cut_off, by_bytes, by_line, pages_in, shown, answers_of, accepted, last_line, shelf_text}
-use Rattle.shelves.specs.Inner.Steps.{left_at, printed, text_left, Goes, Begun, Ends}
+use Rattle.shelves.specs.Shelf.{LengthLine, length_of, unfinished, no_length, length_line, Page, whole, cut_off, by_line, pages_in, shown, answers_of, accepted, last_line, shelf_text}
+use Rattle.shelves.specs.Inner.Steps.{left_at, printed, text_left}
 use Rattle.shelves.proofs.Lengths.{line-forth, line-back}
 use Rattle.shelves.proofs.Taking.{bytes-there, bytes-short}
-use Rattle.theorems.specs.Shelf.{last_figures, Sums, Summed, LastLineSums, shelf_of, Measurable, IsShelf, NoneCutOff, Reordered, AnyOrder, Together, Run, ended, over, goes, RunPrints}
+use Rattle.theorems.specs.Shelf.{last_figures, Sums, LastLineSums, shelf_of, Measurable, IsShelf, NoneCutOff, Reordered, AnyOrder, Together, Run, ended, over, goes, RunPrints}
 
 -- ---- the last line
 

@@ -1,13 +1,13 @@
 -- THE ROUND TRIPS OF A TYPE TABLE'S TEXT. Assumes nothing.
-use Prim.Native.Nat.{ℕ, suc, ◌+◌, ◌^◌, ◌≤◌, ◌<◌}
+use Prim.Native.Nat.{ℕ, suc, ◌+◌, ◌^◌, ◌≤◌}
 use mathlib.Core.Bool.{Bool, true, false, ◌&&◌}
-use mathlib.Core.List.{List, [], ◌∷◌, ◌++◌}
+use mathlib.Core.List.{List, [], ◌∷◌}
 use mathlib.Core.Option.{Option, none, some}
 use mathlib.Core.Path.{◌≡◌, refl, sym, ap, ◌∙◌}
 use lib.Dec.{leb}
-use lib.ListN.{length, take, drop, get_or}
+use lib.ListN.{length, take}
 use native.Mathlib.Omega.{arith}
-use borrow.Author.Tests.{le-leb, lt-leb, leb-true}
+use borrow.Author.Tests.{le-leb, lt-leb}
 use Rattle.word.specs.Result.{Result, ok, refused}
 use Rattle.text.specs.Text.{Bytes}
 use Rattle.text.specs.Format.{All}
@@ -20,9 +20,9 @@ use Rattle.tables.specs.Table.{Named, most64, most32, table_text, read_table}
 use Rattle.tables.specs.Lists.{numbers_in, all_names, good, named_in}
 use Rattle.tables.proofs.Laws as tables
 use Rattle.table_writer.specs.Writing.{table_in, writing, leaving}
-use Rattle.table_writer.proofs.Trips.{lists-hold, Lying, lying}
+use Rattle.table_writer.proofs.TablesInLists.{lists-hold, Lying, lying}
 use Rattle.table_check.specs.Verdict.{verdict}
-use Rattle.table_reader.specs.Reading.{Lists, lists, filled, fits, enough, roomy, table_read, table_told, lists_left, Outcome, outcome, read_into, reading}
+use Rattle.table_reader.specs.Reading.{Lists, lists, filled, fits, enough, roomy, table_read, table_told, lists_left, Outcome, read_into, reading}
 use Rattle.table_reader.specs.declared.TableRead.{TableRead}
 use Rattle.widths.specs.Words.{Entries}
 use Rattle.theorems.specs.PageCalls.{WroteText}

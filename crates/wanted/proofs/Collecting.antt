@@ -3,11 +3,11 @@
 use mathlib.Core.Path.{◌≡◌, ap, subst}
 use mathlib.Core.List.{List, [], map}
 use mathlib.Core.Logic.{◌↔◌}
-use mathlib.Core.Option.{Option, some}
+use mathlib.Core.Option.{Option}
 use Prim.Native.Nat.{ℕ}
 use native.Mathlib.Omega.{arith}
 use lib.ListN.{length}
-use Rattle.word.specs.Result.{Result, ok, refused}
+use Rattle.word.specs.Result.{ok, refused}
 use Rattle.handle.proofs.ResolveLaws.{resolve-packed}
 use Rattle.heap.specs.State.{State, slot_at, live}
 use Rattle.heap.specs.Calls.{resolve}

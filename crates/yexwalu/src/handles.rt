@@ -1,5 +1,5 @@
 // Calls that list handles, in the order in which they are traced: 10, then 13, then 7. After a refusal the lent lists are as they were. Those on a heap and a type table stand in `slot_door`.
-ghost use Rattle.std.specs.Prelude.{◌≡◌, length};
+ghost use Rattle.std.specs.Prelude.{length};
 ghost use Rattle.ty.specs.View.{table_of};
 ghost use Rattle.trace.specs.Places.{value_handles, object_handles};
 ghost use Rattle.trace.specs.Listing.{listing};

@@ -1,5 +1,5 @@
 -- What a heap must be for its objects to be counted, and a page's answer as it lies in the code.
-use Rattle.std.specs.Prelude.{ℕ, ◌≤◌, List, ◌≡◌, length}
+use Rattle.std.specs.Prelude.{ℕ, ◌≤◌, ◌≡◌, length}
 use Rattle.std.specs.Prelude.{Result as Outcome, Ok, Err}
 use Rattle.word.specs.Result.{Result, ok, refused}
 use Rattle.heap.specs.State.{data_size}

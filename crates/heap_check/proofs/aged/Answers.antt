@@ -1,5 +1,5 @@
 use native.Mathlib.Omega.{arith}
-use Rattle.heap_check.proofs.Looking.{aged-first, aged-next, aged-low, aged-high, aged-end}
+use Rattle.heap_check.proofs.CheckLoops.{aged-first, aged-next, aged-low, aged-high, aged-end}
 use Rattle.heap_check.proofs.aged.Goals as goal
 
 pub loop-entry-init : goal.loop-entry-init

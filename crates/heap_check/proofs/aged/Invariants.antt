@@ -1,5 +1,5 @@
 -- `heap_check::aged` meets its contract. The invariant: the slots passed have such generations.
-use Rattle.heap_check.proofs.Looking.{Ageing}
+use Rattle.heap_check.proofs.CheckLoops.{Ageing}
 use Rattle.heap_check.proofs.aged.Given as goal
 
 abbrev pub invariant-loop-entry : goal.invariant-loop-entry

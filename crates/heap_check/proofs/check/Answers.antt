@@ -1,6 +1,6 @@
 -- `heap_check::check` meets its contract: what is checked is what well formed means, and the marks are cleared before and after.
 use lib.ListN.{length}
-use Rattle.heap_check.proofs.Looking.{zeros-cleared, zeros-as}
+use Rattle.heap_check.proofs.CheckLoops.{zeros-cleared, zeros-as}
 use Rattle.heap_check.proofs.Formed.{says-formed}
 use borrow.Author.Rules.{rules}
 use Rattle.heap_check.proofs.check.Goals as goal

@@ -3,7 +3,7 @@ use mathlib.Core.Path.{sym}
 use lib.ListN.{length}
 use native.Mathlib.Omega.{arith}
 use lib.Seq.{length-take-le}
-use Rattle.heap_check.proofs.Looking.{no_more, holds}
+use Rattle.heap_check.proofs.CheckLoops.{no_more, holds}
 use Rattle.heap_check.proofs.Formed.{lent-header, lent-sizes, lent-marks, says-in}
 use Rattle.heap_check.proofs.checked.Goals as goal
 

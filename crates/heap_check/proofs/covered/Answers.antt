@@ -1,4 +1,4 @@
-use Rattle.heap_check.proofs.Looking.{covering-first, covering-next, covering-end}
+use Rattle.heap_check.proofs.CheckLoops.{covering-first, covering-next, covering-end}
 use Rattle.heap_check.proofs.covered.Goals as goal
 
 pub loop-i-init : goal.loop-i-init

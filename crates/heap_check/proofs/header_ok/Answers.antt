@@ -1,6 +1,6 @@
 -- `heap_check::header_ok` meets its contract: each test refuses what one field asks.
 use native.Mathlib.Omega.{arith}
-use Rattle.heap_check.proofs.Looking.{says-no}
+use Rattle.heap_check.proofs.CheckLoops.{says-no}
 use Rattle.heap_check.proofs.header_ok.Goals as goal
 
 pub returns-then-all-lt1 : goal.returns-then-all-lt1

@@ -1,6 +1,6 @@
 -- `heap_check::lists_ok` meets its contract: each part that fails is a field that does not hold.
 use native.Mathlib.Omega.{arith}
-use Rattle.heap_check.proofs.Looking.{says-yes, no_more, holds, entries-inside}
+use Rattle.heap_check.proofs.CheckLoops.{says-yes, no_more, holds, entries-inside}
 use Rattle.heap_check.proofs.lists_ok.Goals as goal
 
 pub returns-then-not-partition_ok : goal.returns-then-not-partition_ok

@@ -1,5 +1,5 @@
 use native.Mathlib.Omega.{arith}
-use Rattle.heap_check.proofs.Looking.{mark-first, mark-turn, mark-outside, mark-live, mark-twice, mark-end}
+use Rattle.heap_check.proofs.CheckLoops.{mark-first, mark-turn, mark-outside, mark-live, mark-twice, mark-end}
 use Rattle.heap_check.proofs.mark.Goals as goal
 
 pub loop-entry-init : goal.loop-entry-init

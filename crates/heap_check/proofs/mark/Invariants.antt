@@ -1,5 +1,5 @@
 -- `heap_check::mark` meets its contract. The invariant: the entries passed are marked, each once.
-use Rattle.heap_check.proofs.Looking.{Marking}
+use Rattle.heap_check.proofs.CheckLoops.{Marking}
 use Rattle.heap_check.proofs.mark.Given as goal
 
 abbrev pub invariant-loop-entry : goal.invariant-loop-entry

@@ -1,5 +1,5 @@
 -- `heap_check::partition_ok` meets its contract: the three lists marked once and nothing left out.
-use Rattle.heap_check.proofs.Looking.{single-first, single-next, free-twice, quarantine-twice, retired-twice, slot-missing, each-once}
+use Rattle.heap_check.proofs.CheckLoops.{single-first, single-next, free-twice, quarantine-twice, retired-twice, slot-missing, each-once}
 use borrow.Author.Rules.{rules}
 use Rattle.heap_check.proofs.partition_ok.Goals as goal
 

@@ -2,7 +2,7 @@
 use mathlib.Core.Path.{sym, ◌∙◌}
 use native.Mathlib.Omega.{arith}
 use lib.Seq.{length-take-le}
-use Rattle.heap_check.proofs.Looking.{says-no, says-last, false-true, no_more, no-more-zeros, holds, holds-zeros}
+use Rattle.heap_check.proofs.CheckLoops.{says-no, says-last, false-true, no_more, no-more-zeros, holds, holds-zeros}
 use Rattle.heap_check.proofs.runs_ok.Goals as goal
 
 pub returns-then-not-unused_ok : goal.returns-then-not-unused_ok

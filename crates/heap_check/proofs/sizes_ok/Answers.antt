@@ -1,5 +1,5 @@
 -- `heap_check::sizes_ok` meets its contract: each test refuses what one field asks.
-use Rattle.heap_check.proofs.Looking.{says-no}
+use Rattle.heap_check.proofs.CheckLoops.{says-no}
 use Rattle.heap_check.proofs.sizes_ok.Goals as goal
 
 pub returns-then-narrow-all : goal.returns-then-narrow-all

@@ -5,7 +5,7 @@ use lib.ListN.{get_or}
 use Rattle.heap.specs.Packing.{start_of}
 use Rattle.heap_check.specs.Checks.{SlotOk}
 use Rattle.heap.proofs.Packing.{start-next}
-use Rattle.heap_check.proofs.Looking.{says-no, says_le, false-true, below-one-more, start_first}
+use Rattle.heap_check.proofs.CheckLoops.{says-no, says_le, false-true, below-one-more, start_first}
 use borrow.Author.Rules.{rules}
 use Rattle.heap_check.proofs.slots_ok.Goals as goal
 

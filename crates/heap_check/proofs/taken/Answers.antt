@@ -1,6 +1,6 @@
 -- `heap_check::taken` meets its contract.
 use Rattle.std.proofs.Common.{not, ap, ne_eqb}
-use Rattle.heap_check.proofs.Looking.{taken-live}
+use Rattle.heap_check.proofs.CheckLoops.{taken-live}
 use Rattle.heap_check.proofs.taken.Goals as goal
 
 pub returns-then-k-ne0 : goal.returns-then-k-ne0

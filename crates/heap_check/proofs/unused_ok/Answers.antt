@@ -1,5 +1,5 @@
 -- `heap_check::unused_ok` meets its contract: a column that is not zero is refused.
-use Rattle.heap_check.proofs.Looking.{says-yes, no-more-zeros, holds-zeros}
+use Rattle.heap_check.proofs.CheckLoops.{says-yes, no-more-zeros, holds-zeros}
 use Rattle.heap_check.proofs.unused_ok.Goals as goal
 
 pub returns-then-not-all_are : goal.returns-then-not-all_are

@@ -1,5 +1,5 @@
 -- `heap_edit::edit` meets its contract.
-use Rattle.std.proofs.Common.{refl, arith}
+use Rattle.std.proofs.Common.{refl}
 use Rattle.std.proofs.lemmas.Result.{err_from_is_err_and}
 use Rattle.heap.specs.Seen.{seen}
 use Rattle.heap.specs.Loans.{lies}

@@ -1,6 +1,7 @@
 -- `page_runs::put_number` meets its contract.
 use native.Mathlib.Omega.{arith}
-use Rattle.page_runs.proofs.Telling.{digits-few, number_put}
+use Rattle.text.proofs.Laws.{digits-few}
+use Rattle.page_runs.proofs.Telling.{number_put}
 use Rattle.page_runs.proofs.put_number.Goals as goal
 
 pub put_decimal-k-requires : goal.put_decimal-k-requires

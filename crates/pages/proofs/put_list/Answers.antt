@@ -1,7 +1,6 @@
 use Prim.Native.Nat.{ℕ}
 use mathlib.Core.List.{List, [], ◌++◌, append-nil, flat_map}
 use mathlib.Core.Path.{refl, ap}
-use lib.ListN.{take}
 use Rattle.pages.specs.Page.{value_line}
 use Rattle.text.proofs.Wrote.{writes-begin, writes-room, writes-more, writes-end}
 use Rattle.pages.proofs.put_list.Goals as goal

@@ -1,4 +1,4 @@
-use Prim.Native.Nat.{ℕ, ◌-◌, ◌*◌, ◌/◌}
+use Prim.Native.Nat.{◌-◌, ◌*◌, ◌/◌}
 use mathlib.Core.List.{[], ◌++◌, flat_map}
 use lib.ListN.{length, take, drop}
 use mathlib.Core.Path.{sym}

@@ -7,7 +7,7 @@ use lib.Seq.{take-length, take_all}
 use native.Mathlib.Omega.{arith}
 use mathlib.Core.List.{[], ◌∷◌, ◌++◌, flat_map}
 use mathlib.Core.Path.{◌≡◌, refl, ap, ◌∙◌}
-use Prim.Native.Nat.{ℕ, ◌+◌, ◌≤◌}
+use Prim.Native.Nat.{◌+◌, ◌≤◌}
 use Rattle.text.specs.Text.{decimal}
 use Rattle.pages.proofs.put_values.Goals as goal
 

@@ -6,7 +6,6 @@ use lib.Seq.{take_all}
 use native.Mathlib.Omega.{arith}
 use mathlib.Core.List.{flat_map}
 use mathlib.Core.Path.{◌≡◌, refl, ap, ◌∙◌}
-use Prim.Native.Nat.{ℕ}
 use Rattle.pages.proofs.values_len.Goals as goal
 
 pub loop-x-init : goal.loop-x-init

@@ -1,16 +1,16 @@
 -- `rehearsal_lines::read_line` meets its contract.
 use Rattle.std.specs.Prelude.{Some, None}
 use Rattle.rehearsal_lines.specs.declared.Line.TheVariants.{Alloc}
-use Rattle.rehearsal_lines.proofs.Finding.{alloc-lost, alloc-line, by-alloc, by-store, by-drop, no_name}
+use Rattle.rehearsal_lines.proofs.Finding.{no-alloc-step, alloc-step, by-alloc, by-store, by-drop, no_name}
 use Rattle.rehearsal_lines.proofs.read_line.Goals as goal
 
 pub returns-in_err-line : goal.returns-in_err-line
 returns-in_err-line c =
-    rw c.from_residual.ensures (by-alloc c.args.s.now c.args.at c.expect.result c.expect.ensures c.in-Some.a c.in-Some.is None (alloc-lost _ c.in_err-line.ensures))
+    rw c.from_residual.ensures (by-alloc c.args.s.now c.args.at c.expect.result c.expect.ensures c.in-Some.a c.in-Some.is None (no-alloc-step _ c.in_err-line.ensures))
 
 pub returns-in-Some : goal.returns-in-Some
 returns-in-Some c =
-    by-alloc c.args.s.now c.args.at c.expect.result c.expect.ensures c.in-Some.a c.in-Some.is (Some (Alloc c.in_ok-line.line, c.in_ok-line.next)) (alloc-line _ _ _ _ c.in_ok-line.ensures)
+    by-alloc c.args.s.now c.args.at c.expect.result c.expect.ensures c.in-Some.a c.in-Some.is (Some (Alloc c.in_ok-line.line, c.in_ok-line.next)) (alloc-step _ _ _ _ c.in_ok-line.ensures)
 
 pub returns-in-Some-expect : goal.returns-in-Some-expect
 returns-in-Some-expect c =

@@ -1,4 +1,3 @@
-use native.Mathlib.Omega.{arith}
 use Rattle.rehearsal_names.proofs.Squeezing.{squeeze-begin, squeeze-can, squeeze-next, squeeze-end}
 use Rattle.rehearsal_names.proofs.squeeze.Goals as goal
 

@@ -1,6 +1,5 @@
 -- `rehearsal_runs::rehearse_all` meets its contract. The invariant: what is left to print and to leave.
 use Prim.Native.Nat.{◌-◌}
-use lib.ListN.{length}
 use mathlib.Core.Path.{◌≡◌}
 use Rattle.ty.specs.View.{lent as tabled}
 use Rattle.heap.specs.Lent.{lent}

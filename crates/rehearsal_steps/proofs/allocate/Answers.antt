@@ -1,7 +1,7 @@
 -- `rehearsal_steps::allocate` meets its contract.
 use native.Mathlib.Omega.{arith}
-use mathlib.Core.Path.{refl, ap}
-use Prim.Native.Nat.{ℕ, ◌/◌}
+use mathlib.Core.Path.{refl}
+use Prim.Native.Nat.{◌/◌}
 use Rattle.std.proofs.Common.{length, rules}
 use Rattle.text.specs.Answer.{hex_at}
 use Rattle.refusal.specs.Told.{here, nothing}

@@ -1,5 +1,5 @@
 -- `script::begins_call` meets its contract.
-use Rattle.std.proofs.Common.{◌≡◌, rules, sym, ◌∙◌}
+use Rattle.std.proofs.Common.{rules, ◌∙◌}
 use Rattle.script.proofs.Scripts.{begins-nothing}
 use Rattle.script.proofs.Finding.{first-begins}
 use Rattle.script.proofs.begins_call.Goals as goal

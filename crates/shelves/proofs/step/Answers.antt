@@ -3,7 +3,7 @@ use mathlib.Core.Path.{refl, sym, subst}
 use Rattle.figures.proofs.Showing.{small-line, small-none}
 use Rattle.figures.specs.Inner.Counting.{line_of, Small}
 use Rattle.shelves.specs.declared.Next.TheVariants.{Whole, Passed}
-use Rattle.shelves.proofs.Going.{goes-still, before_last, whole-small, goes-whole, goes-passed}
+use Rattle.shelves.proofs.Going.{goes-still, before_last, goes-whole, goes-passed}
 use Rattle.shelves.proofs.step.Goals as goal
 
 pub take_in-taken-requires : goal.take_in-taken-requires

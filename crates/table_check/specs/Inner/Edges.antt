@@ -1,7 +1,7 @@
 -- The first lines and the last ones of a table's text, as the first pass finds them.
 use Rattle.std.specs.Prelude.{ℕ, ◌≤◌, ◌<◌, List, [], ◌⊎◌, ◌≡◌, length, drop, Option, Some, None}
 use mathlib.Core.Option as maybe
-use mathlib.Core.Option.{none, some}
+use mathlib.Core.Option.{none}
 use Rattle.text.specs.Text.{give}
 use Rattle.text.specs.Answer.{hex_at, HexParsed}
 use Rattle.tables.specs.Table.{Counts, counts_format, bytes_format}

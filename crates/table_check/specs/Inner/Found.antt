@@ -1,8 +1,8 @@
 -- What the passes over a table's text find, by the cases of what the code answers.
-use Rattle.std.specs.Prelude.{ℕ, ◌+◌, ◌≤◌, List, [], ◌≡◌, length, drop, Option, Some, None}
+use Rattle.std.specs.Prelude.{ℕ, ◌≤◌, List, ◌≡◌, length, drop, Option, Some, None}
 use mathlib.Core.Option as maybe
 use mathlib.Core.Option.{none, some}
-use Rattle.text.specs.Text.{give, read_literal}
+use Rattle.text.specs.Text.{read_literal}
 use Rattle.text.specs.Format.{read_all}
 use Rattle.text.specs.Put.{put_text}
 use Rattle.tables.specs.Table.{Row, row_format, rows_format}

@@ -1,7 +1,7 @@
 use Prim.Native.Nat.{ℕ, ◌+◌, ◌-◌}
 use mathlib.Core.List.{List, flat_map}
 use Rattle.text.proofs.Wrote.{wrote-length}
-use mathlib.Core.Path.{refl, ap, sym, ◌∙◌}
+use mathlib.Core.Path.{refl, ap, ◌∙◌}
 use Rattle.tables.specs.Table.{field}
 use Rattle.pages.proofs.Numbers.{numbers-length, numbers-part}
 use native.Mathlib.Omega.{arith}

@@ -3,7 +3,7 @@ use mathlib.Core.Path.{refl, sym}
 use Rattle.ty.specs.View.{lent as table_lent}
 use Rattle.frame.specs.Frame.{frame_handles, addresses_in}
 use Rattle.roots.specs.Plans.{lent}
-use Rattle.collect.proofs.Looking.{small, row-past, rows-again, at_none, at_row}
+use Rattle.collect.proofs.RootRows.{small, row-past, rows-again, at_none, at_row}
 use Rattle.collect.proofs.joined.collect_at.Goals as goal
 
 pub returns-then-not-root_row : goal.returns-then-not-root_row

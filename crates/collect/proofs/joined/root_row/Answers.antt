@@ -7,7 +7,7 @@ use Rattle.roots.specs.Calls.{Lent, need}
 use Rattle.roots.specs.Plans.{planned}
 use Rattle.roots.proofs.Asking.{need-rows}
 use Rattle.collect.specs.Safepoint.{RootRow}
-use Rattle.collect.proofs.Looking.{look-none, plan-found}
+use Rattle.collect.proofs.RootRows.{look-none, plan-found}
 use Rattle.collect.proofs.joined.root_row.Goals as goal
 
 pub returns-in_default : goal.returns-in_default

@@ -1,5 +1,4 @@
 -- `collect_door::joined::yexwalu_collect_joined` meets its contract.
-use mathlib.Core.Path.{◌∙◌}
 use Rattle.std.proofs.Common.{rules}
 use Rattle.heap.specs.Lent.{lent}
 use Rattle.collect_door.proofs.Entries.{can-join, join-refused, join-done}

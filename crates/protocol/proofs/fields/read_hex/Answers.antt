@@ -2,7 +2,7 @@
 use native.Mathlib.Omega.{arith}
 use mathlib.Core.Path.{sym, ap, ◌∙◌, subst}
 use Rattle.std.specs.Prelude.{Some}
-use Rattle.protocol.proofs.Parting.{rest-from}
+use Rattle.word.proofs.ListLaws.{rest}
 use Rattle.protocol.proofs.Spelling.{Digits, digits-next, digits-high, digits-low, digits-end, digits-odd, bytes-dash, bytes-empty, bytes-long, bytes-plain, bad-none, ok-found, is-zero, not-zero, two, told}
 use Rattle.protocol.proofs.fields.read_hex.Goals as goal
 use Rattle.protocol.proofs.fields.read_hex.Goals.{then-is_empty-via-then-is_empty, then-is_empty-via-else-is_empty+then-field}
@@ -31,7 +31,7 @@ returns-in_err-digit-2-clause-refused c =
 
 pub loop-left-preserved : goal.loop-left-preserved
 loop-left-preserved c =
-    subst (Digits c.args.field.now c.push.new.self.items) (sym (rest-from c.loop-left.left.now 2))
+    subst (Digits c.args.field.now c.push.new.self.items) (sym (rest 2 c.loop-left.left.now))
     (digits-next c.loop-left.invariant _ _ _ _ _ _ (two c.loop-left.left.now c.in-len2-up.len_at_least) (ok-found _ _ (sym c.in_ok-digit.was ∙ c.digit.ensures.value))
     (ok-found _ _ (sym c.in_ok-digit-2.was ∙ c.digit-in-len2-up.ensures.value)) c.in_ok-push.ensures.items)
 

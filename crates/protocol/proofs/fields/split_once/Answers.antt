@@ -3,7 +3,7 @@ use mathlib.Core.Path.{refl}
 use Prim.Native.Nat.{◌+◌}
 use native.Mathlib.Omega.{arith}
 use lib.ListN.{length-drop}
-use Rattle.protocol.proofs.Parting.{rest-from}
+use Rattle.word.proofs.ListLaws.{rest}
 use Rattle.protocol.proofs.Spelling.{cut-nowhere, cut-at, parts-nowhere, parts-at}
 use Rattle.protocol.proofs.fields.split_once.Goals as goal
 
@@ -17,7 +17,7 @@ returns-in_err-i c =
 
 pub returns : goal.returns
 returns c =
-    rw (rest-from c.args.text.now (c.in_ok-i.i + 1)) (record {
+    rw (rest (c.in_ok-i.i + 1) c.args.text.now) (record {
       value = cut-at c.args.b c.args.text.now c.in_ok-i.i c.in_ok-i.ensures.within c.in_ok-i.ensures.found c.in_ok-i.ensures.before;
       parts = parts-at c.args.b c.args.text.now c.in_ok-i.i c.in_ok-i.ensures.within c.in_ok-i.ensures.found c.in_ok-i.ensures.before;
       shorter = omega (arith, length-drop (c.in_ok-i.i + 1) c.args.text.now, c.in_ok-i.ensures.within);

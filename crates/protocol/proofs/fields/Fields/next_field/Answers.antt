@@ -1,7 +1,8 @@
 -- `protocol::fields::Fields::next_field` meets its contract.
 use mathlib.Core.Path.{refl, sym, ◌∙◌}
 use Prim.Native.Nat.{◌+◌}
-use Rattle.protocol.proofs.Parting.{parted-nowhere, parted-at, rest-front, rest-from}
+use Rattle.protocol.proofs.Parting.{parted-nowhere, parted-at, rest-front}
+use Rattle.word.proofs.ListLaws.{rest}
 use Rattle.protocol.proofs.fields.Fields.next_field.Goals as goal
 
 pub returns-in_default-clause-field : goal.returns-in_default-clause-field
@@ -14,4 +15,4 @@ pub returns-clause-field : goal.returns-clause-field
 returns-clause-field c = sym (parted-at 32 _ c.in-Some.end c.in-Some.ensures.within c.in-Some.ensures.found c.in-Some.ensures.before).0
 
 pub returns-clause-rest : goal.returns-clause-rest
-returns-clause-rest c = rest-from c.args.self.now.rest.now (c.in-Some.end + 1) ∙ sym (parted-at 32 _ c.in-Some.end c.in-Some.ensures.within c.in-Some.ensures.found c.in-Some.ensures.before).1
+returns-clause-rest c = rest (c.in-Some.end + 1) c.args.self.now.rest.now ∙ sym (parted-at 32 _ c.in-Some.end c.in-Some.ensures.within c.in-Some.ensures.found c.in-Some.ensures.before).1
