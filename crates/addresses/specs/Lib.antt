@@ -1,3 +1,3 @@
 -- The definitions that the contracts cite.
 pub mod Listed
-pub mod Told
+pub mod Inner

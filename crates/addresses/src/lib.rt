@@ -4,7 +4,7 @@
 
 ghost use Rattle.std.specs.Prelude.{◌≡◌, true};
 ghost use Rattle.addresses.specs.Listed.{paired, slot_of};
-ghost use Rattle.addresses.specs.Told.{told};
+ghost use Rattle.addresses.specs.Inner.Told.{told};
 
 // Is the list one of pairs whose addresses rise strictly?
 pub fn rise(list: &[u64]) -> bool

@@ -30,13 +30,13 @@ use Rattle.reach.proofs.Sound.{marks-length}
 use Rattle.collection.specs.Swept.{swept}
 use Rattle.collection.specs.Shown.{shown}
 use Rattle.collection.specs.Collected.{graph, starts, swept_by, collected}
-use Rattle.collection.specs.Held.{held_graph}
+use Rattle.collection.specs.Inner.Held.{held_graph}
 use Rattle.collection.specs.Joined.{joined_by}
 use Rattle.collection.proofs.SweptLaws.{swept_same}
 use Rattle.collection.proofs.Demand.{sized, stuck-collected}
 use Rattle.collection.proofs.Held.{dead-shows, held-sized, held-refused, held-collected}
-use Rattle.mark.specs.Told.{told, marks_in, heap_marks, Ready}
-use Rattle.mark.specs.Joining.{joined_marks}
+use Rattle.mark.specs.Inner.Told.{told, marks_in, heap_marks, Ready}
+use Rattle.mark.specs.Inner.Joining.{joined_marks}
 use Rattle.collect.specs.Collect.{collecting, finished, CanCollect}
 
 -- ---- what follows a marking

@@ -8,7 +8,7 @@ use native.Mathlib.Nat.{mul-le-mul_right}
 use native.Mathlib.Omega.{arith}
 use lib.ListN.{length, replicate}
 use Rattle.word.specs.Ones.{passing}
-use Rattle.rows.specs.Row.{bit_in, part}
+use Rattle.rows.specs.Inner.Row.{bit_in, part}
 use Rattle.refusal.specs.Told.{nothing}
 use Rattle.refusal.specs.declared.Refusal.TheVariants.{NoMap}
 use Rattle.refusal.specs.Told.{Reply}
@@ -23,8 +23,8 @@ use Rattle.flow.specs.Dataflow.{live_before, live_row, holder, track}
 use Rattle.flow.proofs.Lists.{passing-same}
 use Rattle.roots.specs.View.{view as function_in}
 use Rattle.roots.specs.Calls.{Lent, function, right, need}
-use Rattle.roots.specs.Columns.{wanted, seen, cell, In}
-use Rattle.roots.specs.Plans.{planned, all_seen, out_row}
+use Rattle.roots.specs.Inner.Columns.{wanted, seen, cell, In}
+use Rattle.roots.specs.Inner.Plans.{planned, all_seen, out_row}
 use Rattle.roots.specs.declared.Tracked.{Tracked}
 use Rattle.roots.specs.declared.Tracked.TheVariants.{References}
 use Rattle.roots.specs.declared.Plan.{Plan}
@@ -33,8 +33,8 @@ use Rattle.roots.proofs.Steps.{part-cell}
 use Rattle.roots.proofs.Answers.{need-is, found-holder, seen-holder}
 use Rattle.collection.specs.Joined.{is_reference, live_references, of_class, registers_of, values_of, joined_by, pins_at, joined}
 use Rattle.addresses.specs.Listed.{slots_of}
-use Rattle.mark.specs.Joining.{row_values}
-use Rattle.collect.specs.Safepoint.{at_safepoint, row_words, row_start, row_in, CanLook, RootRow}
+use Rattle.mark.specs.Inner.Joining.{row_values}
+use Rattle.collect.specs.Inner.Safepoint.{at_safepoint, row_words, row_start, row_in, CanLook, RootRow}
 
 -- ---- places in the rows are words
 

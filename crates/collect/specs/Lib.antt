@@ -1,2 +1,2 @@
 pub mod Collect
-pub mod Safepoint
+pub mod Inner

@@ -1,15 +1,15 @@
 // The joined collection at a safepoint: the registers that are live there are worked out, then the heap is collected from them and the frame.
 ghost use Rattle.std.specs.Prelude.{◌≡◌, true, ◌≤◌, length};
 ghost use Rattle.refusal.specs.Told.{nothing};
-ghost use Rattle.heap.specs.Loans.{lies, state, Replies};
+ghost use Rattle.heap.specs.Inner.Loans.{lies, state, Replies};
 ghost use Rattle.ty.specs.View.{lent as table_lent};
 ghost use Rattle.frame.specs.Frame.{frame_handles, addresses_in};
 ghost use Rattle.roots.specs.Calls.{function, right, need};
-ghost use Rattle.roots.specs.Plans.{lent as lent_code};
-ghost use Rattle.mark.specs.Safepoints.{live_values, handles_in, pinned_in};
+ghost use Rattle.roots.specs.Inner.Plans.{lent as lent_code};
+ghost use Rattle.mark.specs.Inner.Safepoints.{live_values, handles_in, pinned_in};
 ghost use Rattle.collection.specs.Joined.{joined_by};
 ghost use Rattle.collect.specs.Collect.{CanCollect};
-ghost use Rattle.collect.specs.Safepoint.{at_safepoint, CanLook, RootRow};
+ghost use Rattle.collect.specs.Inner.Safepoint.{at_safepoint, CanLook, RootRow};
 
 use crate::sweep_after;
 use addresses::Pairs;

@@ -25,7 +25,7 @@ use Rattle.reach.proofs.Sound.{Sized, Marked, Answer, marking-answer, reached-fi
 use Rattle.collection.specs.Swept.{swept}
 use Rattle.collection.specs.Shown.{shown}
 use Rattle.collection.specs.Collected.{graph, collected}
-use Rattle.collection.specs.Held.{held_graph}
+use Rattle.collection.specs.Inner.Held.{held_graph}
 use Rattle.heap.proofs.Keeping.{live_inside}
 use Rattle.collection.proofs.Pinned.{in-member, member-in}
 use Rattle.collection.proofs.SweptLaws.{swept-pins, swept-alive}

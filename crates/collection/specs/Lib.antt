@@ -4,4 +4,4 @@ pub mod Collected
 pub mod Demand
 pub mod Joined
 pub mod JoinedDemand
-pub mod Held
+pub mod Inner

@@ -6,18 +6,18 @@ use mathlib.Core.List.{List, [], map}
 use lib.ListN.{length, get_or, take}
 use lib.Seq.{ext_get_or}
 use native.Mathlib.Omega.{arith}
-use Rattle.trace.specs.Emit.{Answer}
+use Rattle.trace.specs.Inner.Emit.{Answer}
 use Rattle.std.specs.Prelude.{Some, None}
 use Rattle.std.specs.Prelude.{Option as Option'}
 use Rattle.word.specs.Run.{run}
-use Rattle.handle.specs.Columns.{live_in}
+use Rattle.handle.specs.Inner.Columns.{live_in}
 use Rattle.ty.specs.Types.{Table}
 use Rattle.trace.specs.Places.{Places, shown_places}
 use Rattle.reach.specs.Reach.{◌∈◌}
 use Rattle.reach.specs.Marking.{State, drained}
 use Rattle.reach.proofs.Grown.{∈-get_or}
-use Rattle.mark.specs.Graph.{leads_to, graph_in}
-use Rattle.mark.specs.Scratch.{low, state_of, Scratch, Traces, seeded_from}
+use Rattle.mark.specs.Inner.Graph.{leads_to, graph_in}
+use Rattle.mark.specs.Inner.Scratch.{low, state_of, Scratch, Traces, seeded_from}
 use Rattle.mark.proofs.States.{scratch-start}
 use Rattle.mark.proofs.Draining.{queue-length, queue-slots, queue-at, queue-below}
 use Rattle.alike.specs.Same.{Object, Model, Traceable}

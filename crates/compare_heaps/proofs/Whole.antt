@@ -18,7 +18,7 @@ use Rattle.word.proofs.ListLaws.{take-zeros}
 use Rattle.heap.specs.Packing.{start_of, data_at}
 use Rattle.heap.specs.declared.Heap.{Heap}
 use Rattle.heap.specs.Lent.{lent, view}
-use Rattle.heap.specs.Seen.{seen, state}
+use Rattle.heap.specs.Inner.Seen.{seen, state}
 use Rattle.heap.specs.declared.view.View.{View}
 use Rattle.ty.specs.Types.{Table}
 use Rattle.places.specs.StrideZero.{ShortConstants}
@@ -26,8 +26,8 @@ use Rattle.trace.specs.Places.{Places}
 use Rattle.reach.specs.Reach.{◌∈◌}
 use Rattle.reach.proofs.Grown.{∈-index}
 use Rattle.collection.specs.Collected.{found}
-use Rattle.mark.specs.Graph.{Fit}
-use Rattle.mark.specs.Objects.{Laid, laid, laid_in}
+use Rattle.mark.specs.Inner.Graph.{Fit}
+use Rattle.mark.specs.Inner.Objects.{Laid, laid, laid_in}
 use Rattle.mark.specs.declared.objects.Objects.{Objects}
 use Rattle.mark.proofs.Formed.{formed-fit, formed-few}
 use Rattle.mark.proofs.Inside.{resolves-in}
@@ -45,7 +45,7 @@ use Rattle.compare.proofs.Turning.{lows-length, lows-at}
 use Rattle.saves.specs.Saves.{ordering}
 use Rattle.saves.specs.Inner.Columns.{columns_model}
 use Rattle.saves.proofs.TwoLent.{lent-first, lent-second, lent-turns}
-use Rattle.compare_heaps.specs.Compared.{compared_by, CanMark}
+use Rattle.compare_heaps.specs.Inner.Compared.{compared_by, CanMark}
 use Rattle.compare_objects.specs.Inner.Sides.{head_of, data_beside, places_in, slots_beside, Queued}
 use Rattle.compare_objects.specs.Inner.Lent.{sides_order, QueuedIn}
 use Rattle.compare_heaps.specs.Inner.Marked.{Clear, MetIn, Meets, side_model}

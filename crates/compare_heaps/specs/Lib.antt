@@ -1,3 +1,2 @@
 -- What the contract of the comparison cites, and what only inner contracts do.
-pub mod Compared
 pub mod Inner

@@ -5,13 +5,13 @@
 ghost use Rattle.std.specs.Prelude.{◌≡◌, length};
 ghost use Rattle.std.specs.Ordering.{nat_cmp};
 ghost use Rattle.std.specs.Cmp.Lexicographic.{slice_cmp};
-ghost use Rattle.heap.specs.Seen.{seen, state};
+ghost use Rattle.heap.specs.Inner.Seen.{seen, state};
 ghost use Rattle.ty.specs.View.{lent};
 ghost use Rattle.alike.specs.Inner.ByTurns.{◌and_then◌};
 ghost use Rattle.beside.specs.Inner.Ranks.{slots_resolve, place_in};
 ghost use Rattle.compare.specs.Inner.Turns.{lows};
 ghost use Rattle.saves.specs.Saves.{ordering};
-ghost use Rattle.compare_heaps.specs.Compared.{compared_by, CanMark};
+ghost use Rattle.compare_heaps.specs.Inner.Compared.{compared_by, CanMark};
 ghost use Rattle.compare_objects.specs.Inner.Lent.{sides_order, QueuedIn};
 
 use beside::Met;

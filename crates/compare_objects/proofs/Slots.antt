@@ -17,7 +17,7 @@ use Rattle.word.proofs.RunLaws.{run-get, first-get}
 use Rattle.heap.specs.Packing.{start_of, data_at}
 use Rattle.ty.specs.Types.{Table}
 use Rattle.trace.specs.Places.{shown_places}
-use Rattle.mark.specs.Graph.{Fit}
+use Rattle.mark.specs.Inner.Graph.{Fit}
 use Rattle.alike.specs.Inner.ByTurns.{◌and_then◌}
 use Rattle.compare.proofs.Going.{first-decides, second-decides, is-equal}
 use Rattle.compare_objects.specs.declared.head.Head.{Head}

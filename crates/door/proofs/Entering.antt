@@ -23,7 +23,7 @@ use Rattle.std.specs.Prelude.{Err}
 use Rattle.door.specs.HeapCalls.{Test, test, admitted, whether, enough, heap_tests, zeros, scratch_after, Entered, outcome_of, calling, asked_of, asking}
 use Rattle.door.specs.HeapCalls.{Entry, entry_of}
 use Rattle.std.specs.Prelude.{Result as Outcomes, Ok, IfOk, MatchResult}
-use Rattle.heap.specs.Seen.{seen, state}
+use Rattle.heap.specs.Inner.Seen.{seen, state}
 use Rattle.heap.specs.declared.view.View.{View}
 use Rattle.door.specs.HeapCalls.{ready}
 

@@ -3,7 +3,7 @@
 
 ghost use Rattle.std.specs.Prelude.{◌≡◌, [], ◌∷◌, ◌&&◌, ◌/◌, length, leb, IfOk};
 ghost use Rattle.heap.specs.Lent.{lent};
-ghost use Rattle.heap.specs.Seen.{seen};
+ghost use Rattle.heap.specs.Inner.Seen.{seen};
 ghost use Rattle.door.specs.HeapCalls.{Entered, heap_tests, entry_of};
 
 use heap::Heap;

@@ -3,7 +3,7 @@
 
 ghost use Rattle.std.specs.Prelude.{◌≡◌, ◌+◌, ◌^◌, ◌≤◌, ◌<◌, max, ltb, length, if◌then◌else◌, IfOk};
 ghost use Rattle.word.specs.Result.{refused};
-ghost use Rattle.text.specs.Wrote.{Wrote};
+ghost use Rattle.text.specs.Inner.Wrote.{Wrote};
 ghost use Rattle.heap.specs.Lent.{lent, view};
 ghost use Rattle.figures.specs.Figures.{no_figures, merge, figures_of, mean_of, rest_of, page_figures, figures_line};
 ghost use Rattle.figures.specs.Inner.Counting.{one, shown_as, Lies, Small};

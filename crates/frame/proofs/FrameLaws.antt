@@ -12,7 +12,7 @@ use Rattle.word.specs.Result.{Result, ok, refused}
 use Rattle.ty.specs.Types.{Table}
 use Rattle.word.proofs.ListLaws.{rest}
 use Rattle.trace.specs.Places.{both, handle_at, value_handles}
-use Rattle.trace.specs.Emit.{Answer, Raw, raw_of, Into, emitted, emit_all, emitting, told}
+use Rattle.trace.specs.Inner.Emit.{Answer, Raw, raw_of, Into, emitted, emit_all, emitting, told}
 use Rattle.trace.proofs.Emits.{then-words, fail-words, told-traced, told-untraceable}
 use Rattle.std.specs.Simd.{first_chunks}
 use Rattle.word.proofs.ChunkLaws.{row-part}

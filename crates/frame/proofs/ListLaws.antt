@@ -10,7 +10,7 @@ use Rattle.std.specs.Prelude.{Some, None}
 use Rattle.word.specs.Result.{Result, ok, refused}
 use Rattle.std.specs.Prelude.{Ok, Err}
 use Rattle.refusal.specs.declared.Refusal.TheVariants.{Untraceable as Failed, ShortList}
-use Rattle.trace.specs.Emit.{Answer, Raw, raw_of, Into, into, emit_all, emitting, told}
+use Rattle.trace.specs.Inner.Emit.{Answer, Raw, raw_of, Into, into, emit_all, emitting, told}
 use Rattle.trace.specs.declared.Sink.TheVariants.{Check, List as ToList}
 use Rattle.trace.proofs.Emits.{ok-inj, told-traced, told-untraceable}
 use Rattle.trace.proofs.ListLaws.{checked-short, checked-fits, listed}

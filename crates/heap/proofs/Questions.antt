@@ -10,7 +10,7 @@ use Rattle.refusal.specs.declared.Refusal.{Refusal}
 use Rattle.refusal.specs.declared.Refusal.TheVariants.{NothingThere}
 use Rattle.std.specs.Prelude.{Result, Ok, Err, Option, Some, None}
 use Rattle.handle.specs.Handle.{index_of, resolve_by}
-use Rattle.handle.specs.Columns.{live_in}
+use Rattle.handle.specs.Inner.Columns.{live_in}
 use Rattle.handle.proofs.ResolveLaws.{resolve_same, live-beyond, live-not, live-there}
 use Rattle.word.specs.Run.{run}
 use Rattle.word.proofs.RunLaws.{run-get}
@@ -20,7 +20,7 @@ use Rattle.heap.specs.Lent.{Lent, lent, view, header_of, slot_count, pool_size}
 use Rattle.heap.specs.WellFormed.{well_formed}
 use Rattle.heap.specs.Calls.{Place, Kind, Stamp, place_at, kind_at, stamp_at, resolve}
 use Rattle.heap.specs.declared.Heap.{Heap}
-use Rattle.heap.specs.Seen.{seen_at}
+use Rattle.heap.specs.Inner.Seen.{seen_at}
 use Rattle.heap.proofs.Packing.{data-at}
 use Rattle.heap.proofs.Keeping.{live_inside}
 use Rattle.heap.proofs.Columns.{knows, generation-is, kind-is, sizes}

@@ -5,7 +5,7 @@ ghost use Rattle.handle.specs.Handle.{told as found};
 ghost use Rattle.heap.specs.State.{slot_at, live as alive, data_size};
 ghost use Rattle.heap.specs.Calls.{gc_due, reclaim_due, has_quarantine, is_plain};
 ghost use Rattle.heap.specs.Calls.{live_count, Place, place_at, Kind, kind_at, Stamp, stamp_at, resolve as resolved};
-ghost use Rattle.heap.specs.Seen.{state, seen_at};
+ghost use Rattle.heap.specs.Inner.Seen.{state, seen_at};
 
 use crate::view::View;
 use refusal::{Refusal, Reply};

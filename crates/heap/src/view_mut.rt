@@ -17,8 +17,8 @@ pub struct ViewMut<'a> {
 }
 
 impl ViewMut<'_> {
-    ghost use Rattle.heap.specs.Seen.{seen};
-    ghost use Rattle.heap.specs.Loans.{lies};
+    ghost use Rattle.heap.specs.Inner.Seen.{seen};
+    ghost use Rattle.heap.specs.Inner.Loans.{lies};
 
     // The heap, to be read.
     pub fn view(&self) -> View<'_>

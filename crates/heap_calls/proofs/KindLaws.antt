@@ -4,7 +4,7 @@ use native.Mathlib.Decide.{ℕ_discrete}
 use borrow.Author.Tests.{eq-eqb, ne_eqb}
 use Rattle.refusal.specs.declared.Refusal.{Refusal}
 use Rattle.refusal.specs.declared.Refusal.TheVariants.{Kind}
-use Rattle.heap_calls.specs.Kinds.{kind_number, kind_of}
+use Rattle.heap_calls.specs.Inner.Kinds.{kind_number, kind_of}
 use Rattle.heap_calls.specs.declared.kind.ObjectKind.{ObjectKind}
 use Rattle.heap_calls.specs.declared.kind.ObjectKind.TheVariants.{Typed, Bytes, Handles}
 

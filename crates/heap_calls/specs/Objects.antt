@@ -7,7 +7,7 @@ use Rattle.refusal.specs.Told.{Reply}
 use Rattle.heap.specs.Lent.{Lent, view}
 use Rattle.heap.specs.Calls.{Object, take_into}
 use Rattle.heap.specs.Done.{Leaves}
-use Rattle.heap.specs.Loans.{lies, SameLoans}
+use Rattle.heap.specs.Inner.Loans.{lies, SameLoans}
 use Rattle.heap.specs.declared.view_mut.ViewMut.{ViewMut}
 
 -- the numbers of an object whose bytes are in the output: its length and its start

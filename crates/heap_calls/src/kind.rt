@@ -1,6 +1,6 @@
 // The kinds of objects, each by its number.
 ghost use Rattle.std.specs.Prelude.{◌≡◌};
-ghost use Rattle.heap_calls.specs.Kinds.{kind_number, kind_of};
+ghost use Rattle.heap_calls.specs.Inner.Kinds.{kind_number, kind_of};
 
 use refusal::Refusal;
 

@@ -8,7 +8,7 @@ use Rattle.heap.specs.Packing.{pad, flat, ends, start_of}
 use Rattle.heap.specs.State.{Slot, State, no_slot, slot_at, data_of, data_size}
 use Rattle.heap.specs.Lent.{Lent, columns, stored, view, slot_count, pool_size}
 use Rattle.heap.specs.WellFormed.{well_formed}
-use Rattle.heap.specs.Columns.{CanSplice}
+use Rattle.heap.specs.Inner.Columns.{CanSplice}
 use Rattle.heap.specs.declared.Heap.{Heap}
 use Rattle.heap.specs.Calls.{with_slot, rewritten}
 use Rattle.heap.proofs.Packing.{flat-set, flat-split, start-of}

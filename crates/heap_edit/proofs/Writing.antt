@@ -19,7 +19,7 @@ use Rattle.heap.specs.declared.Heap.{Heap}
 use Rattle.heap.proofs.Keeping.{live_inside, leaves}
 use Rattle.heap.proofs.Telling.{tells_is, tells-not}
 use Rattle.heap.proofs.Runs.{set-writes}
-use Rattle.heap.specs.Seen.{seen_at}
+use Rattle.heap.specs.Inner.Seen.{seen_at}
 use Rattle.heap.proofs.Columns.{formed, knows, generation-is, kind-is, type-is, start_is, writes-is, from_is, data-upto, sizes}
 use Rattle.heap_edit.proofs.Cases.{write-dead, write-hidden, write-beyond, write_done}
 use Rattle.heap_edit.proofs.Soundness.{write-sound}

@@ -8,10 +8,10 @@ ghost use Rattle.heap.specs.State.{bit};
 ghost use Rattle.heap.specs.Lent.{lent, stored, view};
 ghost use Rattle.heap.specs.WellFormed.{well_formed};
 ghost use Rattle.heap.specs.Calls.{resolve as resolved, edit as edited, write as written, reissue as reissued, seal as sealed_by, new as new_heap};
-ghost use Rattle.heap.specs.Columns.{CanPlace, PlacedIn};
+ghost use Rattle.heap.specs.Inner.Columns.{CanPlace, PlacedIn};
 ghost use Rattle.heap.specs.Done.{Leaves, Tells};
-ghost use Rattle.heap.specs.Loans.{state, Replies};
-ghost use Rattle.heap.specs.Seen.{state as seen_state};
+ghost use Rattle.heap.specs.Inner.Loans.{state, Replies};
+ghost use Rattle.heap.specs.Inner.Seen.{state as seen_state};
 ghost use Rattle.heap_edit.specs.Inner.Handles.{CanList, Listing, Listed, AllListed};
 
 use heap::view::View;

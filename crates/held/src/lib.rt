@@ -5,7 +5,7 @@
 ghost use Rattle.std.specs.Prelude.{◌≡◌, true, ◌/◌, length};
 ghost use Rattle.refusal.specs.Told.{here, nothing};
 ghost use Rattle.heap.specs.Lent.{lent, view};
-ghost use Rattle.heap.specs.Seen.{seen};
+ghost use Rattle.heap.specs.Inner.Seen.{seen};
 ghost use Rattle.heap.specs.WellFormed.{well_formed};
 ghost use Rattle.heap.specs.Calls.{take_into};
 ghost use Rattle.heap_calls.specs.Objects.{size_of, start_of, handed_out};

@@ -9,7 +9,7 @@ use Rattle.heap.specs.State.{State}
 use Rattle.heap.specs.Lent.{Lent, view}
 use Rattle.heap.specs.Calls.{seal}
 use Rattle.heap.specs.Done.{Leaves, Tells}
-use Rattle.heap.specs.Seen.{seen, state}
+use Rattle.heap.specs.Inner.Seen.{seen, state}
 use Rattle.heap.specs.declared.view.View.{View}
 use Rattle.heap_door.specs.Sealing.{sealing}
 

@@ -14,7 +14,7 @@ use Rattle.ty.specs.View.{table_of}
 use Rattle.ty.specs.Check.{table_good}
 use Rattle.trace.specs.Listing.{Lists, written_to}
 use Rattle.heap.specs.Lent.{Lent, view}
-use Rattle.heap.specs.Seen.{seen, state}
+use Rattle.heap.specs.Inner.Seen.{seen, state}
 use Rattle.heap.specs.declared.view.View.{View}
 use Rattle.door.specs.HeapCalls.{admitted, ready, Entered, asked_of}
 use Rattle.door.proofs.Entering.{fails, passes, ask-refused, ask-ready, whether-not, whether-ready}

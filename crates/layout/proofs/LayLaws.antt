@@ -21,7 +21,7 @@ use Rattle.ty.proofs.Lookup.{type-at, const-at}
 use Rattle.ty.proofs.Ranges.{elem-bare}
 use Rattle.ty.proofs.WalkLaws.{fields-first, fields-last, fields-next}
 use Rattle.layout.specs.Layout.{Lay, Dims, dims_of, on_bytes, under, used_by, array_laid, array_of, end_of, placed, record_of, scalar_laid, scalar_layout, layout_by, layout_at}
-use Rattle.layout.specs.Lent.{scalar_part}
+use Rattle.layout.specs.Inner.Lent.{scalar_part}
 use Rattle.layout.specs.declared.Layout.{Layout}
 use Rattle.word.proofs.ListLaws.{rest}
 use Rattle.layout.proofs.Within.{used-within, dims-within}

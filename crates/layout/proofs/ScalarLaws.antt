@@ -20,7 +20,7 @@ use Rattle.ty.proofs.Laws.{word-is}
 use Rattle.ty.proofs.Ranges.{record-within}
 use Rattle.layout.specs.Layout.{placed, record_of, end_of, scalar_layout, layout_at, layout_of}
 use Rattle.layout.specs.Offsets.{offsets_of, told, layout_call, written_by}
-use Rattle.layout.specs.Lent.{scalar_part, record_in, ScalarFields, ScalarRow, ScalarRecord, ScalarsLaid}
+use Rattle.layout.specs.Inner.Lent.{scalar_part, record_in, ScalarFields, ScalarRow, ScalarRecord, ScalarsLaid}
 use Rattle.layout.specs.declared.Layout.{Layout}
 use Rattle.layout.proofs.LayLaws.{below-scalar, in-record, record-first, record-last, record-more}
 use Rattle.layout.proofs.OffsetLaws.{Writing, writing_start, writing-same, writing-place, writing-stop, writing-next, off-last, off-more, fields-are, length_fields}

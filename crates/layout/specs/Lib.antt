@@ -1,4 +1,4 @@
 -- The definitions that the contracts cite.
 pub mod Layout
 pub mod Offsets
-pub mod Lent
+pub mod Inner

@@ -16,19 +16,19 @@ use Rattle.word.specs.Result.{Result, ok, refused}
 use Rattle.word.specs.Run.{run}
 use Rattle.word.proofs.RunLaws.{run-get, first-get}
 use Rattle.word.proofs.ListLaws.{drop-cons-one}
-use Rattle.handle.specs.Columns.{live_in}
+use Rattle.handle.specs.Inner.Columns.{live_in}
 use Rattle.heap.specs.Packing.{start_of, data_at}
 use Rattle.ty.specs.Types.{Table}
 use Rattle.trace.specs.Places.{handles_of}
-use Rattle.trace.specs.Emit.{Answer, Raw, raw_of, into, resolve_in, over, queued, queued_if, emitted_by, emitted, emit_all, emitting, told}
+use Rattle.trace.specs.Inner.Emit.{Answer, Raw, raw_of, into, resolve_in, over, queued, queued_if, emitted_by, emitted, emit_all, emitting, told}
 use Rattle.trace.specs.declared.Sink.TheVariants.{Work}
 use Rattle.trace.proofs.Emits.{queue-marked, queue-room, ok-inj}
 use Rattle.reach.specs.Marking.{State, visit, visit_maybe, follow, follow_all, pin_if, pin_all}
 use Rattle.collection.specs.Collected.{found}
-use Rattle.mark.specs.Scratch.{low, high, state_of, Scratch, Holds, following, Traces, Noted, NotedBy, seeded_from}
-use Rattle.mark.specs.Graph.{leads_to, shown_in, Fit}
+use Rattle.mark.specs.Inner.Scratch.{low, high, state_of, Scratch, Holds, following, Traces, Noted, NotedBy, seeded_from}
+use Rattle.mark.specs.Inner.Graph.{leads_to, shown_in, Fit}
 use Rattle.mark.specs.declared.queue.Queue.{Queue}
-use Rattle.mark.specs.Queues.{state, SameLoans, Becomes}
+use Rattle.mark.specs.Inner.Queues.{state, SameLoans, Becomes}
 use Rattle.mark.proofs.States.{high-over, unmarked-room, meet-marked, meet-new, then-same, Pushing, pushing-next, pushing-end}
 use Rattle.mark.proofs.Inside.{resolves-in}
 

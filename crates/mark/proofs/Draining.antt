@@ -10,7 +10,7 @@ use lib.Dec.{ltb}
 use borrow.Author.Tests.{lt-ltb, le-ltb}
 use native.Mathlib.Numerals.{add-one}
 use native.Mathlib.Omega.{arith}
-use Rattle.trace.specs.Emit.{Answer}
+use Rattle.trace.specs.Inner.Emit.{Answer}
 use Rattle.std.specs.Prelude.{Option as Maybe, Some, None}
 use Rattle.word.specs.Result.{ok, refused}
 use Rattle.word.proofs.ListLaws.{take-zeros}
@@ -19,11 +19,11 @@ use Rattle.reach.specs.Marking.{State, follow_all, drained, marking, or_done, or
 use Rattle.heap.specs.Packing.{pad}
 use Rattle.heap.proofs.Packing.{drop-replicate}
 use Rattle.ty.specs.Types.{Table}
-use Rattle.mark.specs.Graph.{leads_to, shown_in, graph_in}
-use Rattle.mark.specs.Scratch.{low, state_of, Noted, NotedBy, Scratch, following, Traces, seeded_from}
-use Rattle.mark.specs.Told.{marks_in, starts_of, Ready}
+use Rattle.mark.specs.Inner.Graph.{leads_to, shown_in, graph_in}
+use Rattle.mark.specs.Inner.Scratch.{low, state_of, Noted, NotedBy, Scratch, following, Traces, seeded_from}
+use Rattle.mark.specs.Inner.Told.{marks_in, starts_of, Ready}
 use Rattle.mark.specs.declared.queue.Queue.{Queue}
-use Rattle.mark.specs.Queues.{state, IsReady, SameLoans, counted, Reaches}
+use Rattle.mark.specs.Inner.Queues.{state, IsReady, SameLoans, counted, Reaches}
 use Rattle.mark.proofs.States.{scratch-start, same-again, then-same}
 use Rattle.reach.proofs.Grown.{∈-get_or, good-room}
 

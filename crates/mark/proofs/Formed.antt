@@ -12,7 +12,7 @@ use native.Mathlib.Decide.{dec_lt}
 use native.Mathlib.Omega.{arith}
 use Rattle.word.specs.Run.{run}
 use Rattle.handle.specs.Handle.{index_of}
-use Rattle.handle.specs.Columns.{live_in}
+use Rattle.handle.specs.Inner.Columns.{live_in}
 use Rattle.handle.proofs.ResolveLaws.{resolve_same}
 use Rattle.heap.specs.Packing.{flat, ends, start_of, data_at}
 use Rattle.heap.specs.State.{Slot, no_slot, slot_at, data_of, live}
@@ -29,13 +29,13 @@ use Rattle.heap.proofs.Testing.{formed-tested}
 use Rattle.heap.proofs.Runs.{wide_room}
 use Rattle.ty.specs.Types.{Table}
 use Rattle.trace.specs.Places.{handles_of}
-use Rattle.trace.specs.Emit.{resolve_in}
+use Rattle.trace.specs.Inner.Emit.{resolve_in}
 use Rattle.reach.specs.Marking.{marking}
 use Rattle.collection.specs.Collected.{found, graph}
 use Rattle.collection.specs.Shown.{shown}
-use Rattle.mark.specs.Graph.{shown_in, graph_in, held_in, leads_to, Fit}
-use Rattle.mark.specs.Told.{starts_of, heap_marks}
-use Rattle.mark.specs.Joining.{held_marks}
+use Rattle.mark.specs.Inner.Graph.{shown_in, graph_in, held_in, leads_to, Fit}
+use Rattle.mark.specs.Inner.Told.{starts_of, heap_marks}
+use Rattle.mark.specs.Inner.Joining.{held_marks}
 
 positive : (m : ℕ) → not (eqb m 0) ≡ ltb 0 m
 positive zero = refl

@@ -13,7 +13,7 @@ use Rattle.word.proofs.ListLaws.{drop-cons-one}
 use Rattle.word.proofs.ListLaws.{rest}
 use Rattle.trace.specs.Places.{handle_at}
 use Rattle.addresses.specs.Listed.{slot_of, slots_of}
-use Rattle.addresses.specs.Told.{told}
+use Rattle.addresses.specs.Inner.Told.{told}
 use Rattle.std.specs.Prelude.{Option as MaybeSlot, Some, None}
 use Rattle.addresses.proofs.Listing.{slots-append}
 use Rattle.std.specs.Simd.{first_chunks}
@@ -21,10 +21,10 @@ use Rattle.word.proofs.ChunkLaws.{row-part}
 use Rattle.frame.specs.Frame.{Entry, entry, entries_of, first_word, entry_words, entries_words}
 use Rattle.frame.proofs.FrameLaws.{entries_next}
 use Rattle.reach.specs.Marking.{State, visit, follow_all, pin_if, pin_all}
-use Rattle.mark.specs.Scratch.{state_of, Scratch, Holds}
-use Rattle.mark.specs.Joining.{in_use, taking}
+use Rattle.mark.specs.Inner.Scratch.{state_of, Scratch, Holds}
+use Rattle.mark.specs.Inner.Joining.{in_use, taking}
 use Rattle.mark.specs.declared.queue.Queue.{Queue}
-use Rattle.mark.specs.Queues.{state, Becomes}
+use Rattle.mark.specs.Inner.Queues.{state, Becomes}
 use Rattle.mark.proofs.Bridge.{follows-append}
 use Rattle.mark.proofs.States.{Pushing, pushing-next, pushing-part, pushing-end}
 

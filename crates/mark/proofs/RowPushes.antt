@@ -15,23 +15,23 @@ use Rattle.std.specs.Prelude.{if◌then◌else◌}
 use Rattle.word.specs.Ones.{passing}
 use Rattle.word.proofs.OnesLaws.{trailing_lt}
 use Rattle.word.proofs.Bools.{positive}
-use Rattle.rows.specs.Row.{bit_in, listed}
+use Rattle.rows.specs.Inner.Row.{bit_in, listed}
 use Rattle.rows.proofs.Listing.{leftover, pass-word, take-bit, all_left, less-word, passing-most}
 use Rattle.rows.proofs.Below.{below, below_in, below_out, below_none, below-listed}
-use Rattle.trace.specs.Emit.{raw_of, into, resolve_in, emitted}
+use Rattle.trace.specs.Inner.Emit.{raw_of, into, resolve_in, emitted}
 use Rattle.trace.specs.declared.Sink.TheVariants.{Work}
 use Rattle.addresses.specs.Listed.{slot_of, slots_of}
 use Rattle.reach.specs.Marking.{State, pin_all}
-use Rattle.mark.specs.Graph.{leads_to}
-use Rattle.mark.specs.Scratch.{state_of, Scratch, Holds}
+use Rattle.mark.specs.Inner.Graph.{leads_to}
+use Rattle.mark.specs.Inner.Scratch.{state_of, Scratch, Holds}
 use Rattle.mark.specs.declared.queue.Queue.{Queue}
-use Rattle.mark.specs.Queues.{state, IsReady, Becomes}
+use Rattle.mark.specs.Inner.Queues.{state, IsReady, Becomes}
 use Rattle.mark.proofs.States.{same-again, Pushing, pushing-part, pushing-end}
 use Rattle.mark.proofs.Holding.{taking-none, taking-append}
 use Rattle.mark.proofs.Bridge.{emit-met}
 use Rattle.mark.proofs.Inside.{resolves-in}
 use Rattle.collection.specs.Joined.{of_class, values_of}
-use Rattle.mark.specs.Joining.{in_use, taking, value_of, row_values}
+use Rattle.mark.specs.Inner.Joining.{in_use, taking, value_of, row_values}
 
 -- ---- one register
 

@@ -11,14 +11,14 @@ use native.Mathlib.Decide.{ℕ_discrete}
 use native.Mathlib.Omega.{arith}
 use Rattle.word.specs.Run.{run}
 use Rattle.word.proofs.RunLaws.{run-get}
-use Rattle.handle.specs.Columns.{live_in}
+use Rattle.handle.specs.Inner.Columns.{live_in}
 use Rattle.handle.proofs.ResolveLaws.{live-beyond, live-not, live-there}
 use Rattle.reach.specs.Marking.{State, Good, visit, pin_if}
 use Rattle.reach.proofs.Grown.{sum-set, sum-le, visit-grown, good-nothing}
-use Rattle.trace.specs.Emit.{over}
-use Rattle.mark.specs.Scratch.{low, high, state_of, Holds, Scratch, Noted}
+use Rattle.trace.specs.Inner.Emit.{over}
+use Rattle.mark.specs.Inner.Scratch.{low, high, state_of, Holds, Scratch, Noted}
 use Rattle.mark.specs.declared.queue.Queue.{Queue}
-use Rattle.mark.specs.Queues.{state, IsReady, SameLoans, Becomes}
+use Rattle.mark.specs.Inner.Queues.{state, IsReady, SameLoans, Becomes}
 
 -- an unmarked slot leaves room in the queue
 pub unmarked-room : (n : ℕ) (s : State) → Good n s → (i : ℕ) → i < n → get_or s.marks i 0 ≡ 0 → length s.queue < n

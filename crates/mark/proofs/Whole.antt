@@ -6,23 +6,23 @@ use mathlib.Core.Option.{Option, none, some}
 use mathlib.Core.List.{List, ◌++◌}
 use lib.ListN.{length, take, drop}
 use native.Mathlib.Omega.{arith}
-use Rattle.trace.specs.Emit.{Answer}
+use Rattle.trace.specs.Inner.Emit.{Answer}
 use Rattle.std.specs.Prelude.{Some, None}
 use Rattle.word.specs.Result.{ok, refused}
 use Rattle.word.specs.Run.{run}
-use Rattle.handle.specs.Columns.{live_in}
+use Rattle.handle.specs.Inner.Columns.{live_in}
 use Rattle.heap.specs.declared.Heap.{Heap}
 use Rattle.heap.specs.Lent.{lent, view}
 use Rattle.heap.specs.WellFormed.{well_formed}
-use Rattle.heap.specs.Seen.{state}
+use Rattle.heap.specs.Inner.Seen.{state}
 use Rattle.heap.specs.declared.view.View.{View}
 use Rattle.ty.specs.Types.{Table}
 use Rattle.reach.specs.Marking.{State, drained}
-use Rattle.mark.specs.Graph.{leads_to, graph_in, held_in}
-use Rattle.mark.specs.Objects.{Laid, laid_in}
-use Rattle.mark.specs.Scratch.{state_of, Scratch, Traces, seeded_from}
-use Rattle.mark.specs.Told.{marks_in, heap_marks, Ready}
-use Rattle.mark.specs.Joining.{joined_from, joined_marks}
+use Rattle.mark.specs.Inner.Graph.{leads_to, graph_in, held_in}
+use Rattle.mark.specs.Inner.Objects.{Laid, laid_in}
+use Rattle.mark.specs.Inner.Scratch.{state_of, Scratch, Traces, seeded_from}
+use Rattle.mark.specs.Inner.Told.{marks_in, heap_marks, Ready}
+use Rattle.mark.specs.Inner.Joining.{joined_from, joined_marks}
 use Rattle.mark.proofs.Draining.{ready-scratch, whole-stuck, whole-marked}
 use Rattle.mark.proofs.Formed.{formed-few, formed-marks, formed-held}
 

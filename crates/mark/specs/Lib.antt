@@ -1,7 +1,1 @@
-pub mod Graph
-pub mod Scratch
-pub mod Told
-pub mod Joining
-pub mod Objects
-pub mod Safepoints
-pub mod Queues
+pub mod Inner

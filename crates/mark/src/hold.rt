@@ -3,8 +3,8 @@
 ghost use Rattle.addresses.specs.Listed.{slot_of, slots_of};
 ghost use Rattle.frame.specs.Frame.{entry, entries_of, first_word, entry_words, entries_words};
 ghost use Rattle.reach.specs.Marking.{pin_if, pin_all};
-ghost use Rattle.mark.specs.Queues.{state, IsReady, Becomes};
-ghost use Rattle.mark.specs.Joining.{in_use};
+ghost use Rattle.mark.specs.Inner.Queues.{state, IsReady, Becomes};
+ghost use Rattle.mark.specs.Inner.Joining.{in_use};
 
 use crate::queue::Queue;
 use crate::registers::Frame;

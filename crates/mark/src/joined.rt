@@ -1,17 +1,17 @@
 // The marking of a joined collection: chains start at the frame's handles and at the values of the registers of a bit row, beside the seals, the pins and the slots
 // of the addresses that the frame and the registers have.
 ghost use Rattle.std.specs.Prelude.{◌≡◌, ◌++◌, ◌+◌, ◌/◌, length};
-ghost use Rattle.heap.specs.Seen.{state as heap_state};
+ghost use Rattle.heap.specs.Inner.Seen.{state as heap_state};
 ghost use Rattle.ty.specs.View.{lent};
-ghost use Rattle.rows.specs.Row.{listed};
+ghost use Rattle.rows.specs.Inner.Row.{listed};
 ghost use Rattle.frame.specs.Frame.{entries_of, entries_words};
 ghost use Rattle.addresses.specs.Listed.{slots_of};
-ghost use Rattle.mark.specs.Objects.{leads, held_of};
-ghost use Rattle.mark.specs.Scratch.{state_of, Scratch, Traces, seeded_from};
-ghost use Rattle.mark.specs.Queues.{state, IsReady, Becomes};
-ghost use Rattle.mark.specs.Told.{told, marks_in, Ready};
-ghost use Rattle.mark.specs.Joining.{in_use, taking, value_of, joined_from, joined_marks};
-ghost use Rattle.mark.specs.Safepoints.{live_values, handles_in, pinned_in};
+ghost use Rattle.mark.specs.Inner.Objects.{leads, held_of};
+ghost use Rattle.mark.specs.Inner.Scratch.{state_of, Scratch, Traces, seeded_from};
+ghost use Rattle.mark.specs.Inner.Queues.{state, IsReady, Becomes};
+ghost use Rattle.mark.specs.Inner.Told.{told, marks_in, Ready};
+ghost use Rattle.mark.specs.Inner.Joining.{in_use, taking, value_of, joined_from, joined_marks};
+ghost use Rattle.mark.specs.Inner.Safepoints.{live_values, handles_in, pinned_in};
 
 use crate::objects::{Objects, seals};
 use crate::queue::Queue;

@@ -3,14 +3,14 @@
 #![tactic(auto)]
 
 ghost use Rattle.std.specs.Prelude.{◌≡◌, ◌-◌, ◌<◌, length};
-ghost use Rattle.heap.specs.Seen.{state as heap_state};
+ghost use Rattle.heap.specs.Inner.Seen.{state as heap_state};
 ghost use Rattle.ty.specs.View.{lent};
 ghost use Rattle.reach.specs.Marking.{drained};
-ghost use Rattle.mark.specs.Graph.{shown_in};
-ghost use Rattle.mark.specs.Objects.{leads, lives, graph_of};
-ghost use Rattle.mark.specs.Scratch.{state_of, Scratch, following, Traces, NotedBy, seeded_from};
-ghost use Rattle.mark.specs.Queues.{state, IsReady, Reaches};
-ghost use Rattle.mark.specs.Told.{told, marks_in, heap_marks, Ready};
+ghost use Rattle.mark.specs.Inner.Graph.{shown_in};
+ghost use Rattle.mark.specs.Inner.Objects.{leads, lives, graph_of};
+ghost use Rattle.mark.specs.Inner.Scratch.{state_of, Scratch, following, Traces, NotedBy, seeded_from};
+ghost use Rattle.mark.specs.Inner.Queues.{state, IsReady, Reaches};
+ghost use Rattle.mark.specs.Inner.Told.{told, marks_in, heap_marks, Ready};
 
 use crate::queue::Queue;
 use handle::Slots;

@@ -1,7 +1,7 @@
 // What of a lent heap is traced: the slots with their kinds and types, where the data of each starts and ends, and the pool in which it lies.
 ghost use Rattle.std.specs.Prelude.{◌≡◌};
-ghost use Rattle.heap.specs.Seen.{state};
-ghost use Rattle.mark.specs.Graph.{Fit};
+ghost use Rattle.heap.specs.Inner.Seen.{state};
+ghost use Rattle.mark.specs.Inner.Graph.{Fit};
 
 use handle::Slots;
 use heap::view::View;
@@ -19,7 +19,7 @@ impl<'a> Objects<'a> {
     ghost use Rattle.std.specs.Prelude.{◌<◌};
     ghost use Rattle.word.specs.Run.{run};
     ghost use Rattle.heap.specs.Packing.{data_at};
-    ghost use Rattle.mark.specs.Objects.{laid, laid_in};
+    ghost use Rattle.mark.specs.Inner.Objects.{laid, laid_in};
 
     // What of a well formed heap is traced.
     pub fn of(view: View<'a>) -> Objects<'a>

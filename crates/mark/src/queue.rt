@@ -12,9 +12,9 @@ pub struct Queue<'a> {
 
 impl Queue<'_> {
     ghost use Rattle.reach.specs.Marking.{follow_all, pin_if, pin_all};
-    ghost use Rattle.mark.specs.Objects.{leads, lives};
-    ghost use Rattle.mark.specs.Scratch.{seeded_from};
-    ghost use Rattle.mark.specs.Queues.{state, IsReady, Becomes};
+    ghost use Rattle.mark.specs.Inner.Objects.{leads, lives};
+    ghost use Rattle.mark.specs.Inner.Scratch.{seeded_from};
+    ghost use Rattle.mark.specs.Inner.Queues.{state, IsReady, Becomes};
 
     // What each handle of a list leads to is marked and queued.
     pub fn push_all(&mut self, here: Slots, list: &[u64])

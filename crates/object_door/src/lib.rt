@@ -7,7 +7,7 @@ ghost use Rattle.refusal.specs.Told.{here, nothing};
 ghost use Rattle.heap.specs.Lent.{lent, view};
 ghost use Rattle.heap.specs.WellFormed.{well_formed};
 ghost use Rattle.heap.specs.Done.{Tells};
-ghost use Rattle.heap.specs.Loans.{state, Replies};
+ghost use Rattle.heap.specs.Inner.Loans.{state, Replies};
 ghost use Rattle.heap.specs.Calls.{free as freed};
 ghost use Rattle.door.specs.HeapCalls.{Entered, outcome, heap_call};
 ghost use Rattle.object_door.specs.ObjectCalls.{allocating, recycling, handed, take_call};

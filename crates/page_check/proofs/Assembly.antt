@@ -21,11 +21,11 @@ use Rattle.heap.specs.WellFormed.{sound_slot, sound_seals, sound_reclaim}
 use Rattle.pages.specs.Form.{Form, form_of, slot_named, free_name, quarantine_name, sealed_name}
 use Rattle.pages.specs.Page.{Head, head_format, body_format, slot_format, out_of_column, slots_format, retired_format, page_format, read_page, state_of}
 use Rattle.pages.proofs.Laws.{slot-right, slots-wider, head-right}
-use Rattle.page_check.specs.Answer.{head_answer, slots_answer, lines_of, values_of, indices_more, seals_more}
-use Rattle.page_check.specs.Partition.{values_at, past_values, ValuesParsed}
-use Rattle.page_check.specs.Parts.{numbers_of, heap_named, sections_of, ListRead, ListSectioned}
+use Rattle.page_check.specs.Inner.Answer.{head_answer, slots_answer, lines_of, values_of, indices_more, seals_more}
+use Rattle.page_check.specs.Inner.Partition.{values_at, past_values, ValuesParsed}
+use Rattle.page_check.specs.Inner.Parts.{numbers_of, heap_named, sections_of, ListRead, ListSectioned}
 use Rattle.page_check.specs.Sections.{heap_in, form_in, sound_but, Sectioned}
-use Rattle.page_check.specs.Filling.{SlotsParsed}
+use Rattle.page_check.specs.Inner.Filling.{SlotsParsed}
 use Rattle.page_check.proofs.Columned.{same-sound, same_size}
 use Rattle.page_check.proofs.Once.{slots-are, past-slots-are, read_count}
 use Rattle.page_check.specs.declared.SlotLines.{SlotLines}

@@ -11,7 +11,7 @@ use Rattle.heap.specs.WellFormed.{sound_slot}
 use Rattle.pages.specs.Form.{from_column}
 use Rattle.pages.specs.Page.{out_of_column}
 use Rattle.pages.proofs.Writing.{back-length}
-use Rattle.page_check.specs.Partition.{right, each}
+use Rattle.page_check.specs.Inner.Partition.{right, each}
 use Rattle.page_check.specs.declared.Rule.{Rule}
 
 pub same-sound : (p : Bool) (l : List Slot) → all sound_slot (map (out_of_column p) l) ≡ all sound_slot l

@@ -12,16 +12,16 @@ use native.Mathlib.Omega.{arith}
 use native.Mathlib.Numerals.{add-one}
 use borrow.Author.Tests.{eq-eqb, ne_eqb, eqb-true, eqb-false}
 use Rattle.word.proofs.Bools.{true-false}
-use Rattle.rows.specs.Row.{bit_in}
+use Rattle.rows.specs.Inner.Row.{bit_in}
 use Rattle.text.specs.Text.{give, Reader, ◌>>=◌, digit_of, read_field}
 use Rattle.text.specs.Format.{number, read_all}
-use Rattle.text.specs.Answer.{value_answer}
+use Rattle.text.specs.Inner.Answer.{value_answer}
 use Rattle.std.specs.Prelude.{Option, Some, None}
 use Rattle.text.proofs.Laws.{bind-some, some_inj, none-not-some}
 use Rattle.text.proofs.Getting.{answer-none, field_found}
 use Rattle.heap.specs.State.{bit, times}
 use Rattle.heap.proofs.Counting.{times-append}
-use Rattle.page_check.specs.Partition.{marked, Marked}
+use Rattle.page_check.specs.Inner.Partition.{marked, Marked}
 
 -- ONE VALUE
 

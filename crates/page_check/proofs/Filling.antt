@@ -5,7 +5,7 @@ use mathlib.Core.Option.{Option, none, some}
 use mathlib.Core.Path.{◌≡◌, sym, ap, ◌∙◌, subst}
 use mathlib.Core.Bool.{Bool, ◌&&◌}
 use Rattle.word.proofs.Bools.{and-true, and_assoc}
-use Rattle.page_check.specs.Partition.{marked, right, agree}
+use Rattle.page_check.specs.Inner.Partition.{marked, right, agree}
 use Rattle.page_check.specs.declared.Rule.{Rule}
 use lib.ListN.{length, drop, get_or, length-drop, drop_of_length-le, replicate}
 use lib.Seq.{drop-cons}

@@ -13,12 +13,12 @@ use Rattle.word.specs.Lists.{all}
 use Rattle.word.proofs.Bools.{and-true, and_assoc}
 use Rattle.text.specs.Text.{give, ◌>>=◌, digit_of, read_field}
 use Rattle.text.specs.Format.{number, read_all}
-use Rattle.text.specs.Answer.{value_answer}
+use Rattle.text.specs.Inner.Answer.{value_answer}
 use Rattle.std.specs.Prelude.{Option, Some, None}
 use Rattle.text.proofs.Getting.{answer-none, field_found}
 use Rattle.heap.specs.WellFormed.{sound_seals}
 use Rattle.handle.specs.Handle.{index_of}
-use Rattle.page_check.specs.Answer.{indices_more, values_of, seals_more, seal_test}
+use Rattle.page_check.specs.Inner.Answer.{indices_more, values_of, seals_more, seal_test}
 use Rattle.page_check.specs.declared.Values.{Values}
 use Rattle.page_check.proofs.Reading.{all_none, all-some, all_done}
 

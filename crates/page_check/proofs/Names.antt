@@ -7,12 +7,12 @@ use mathlib.Core.Path.{◌≡◌, subst}
 use lib.ListN.{length, drop}
 use Rattle.text.specs.Text.{read_literal}
 use Rattle.text.specs.Format.{after_literal, either, pair}
-use Rattle.text.specs.Answer.{literal_answer, value_answer}
+use Rattle.text.specs.Inner.Answer.{literal_answer, value_answer}
 use Rattle.std.specs.Prelude.{Option, Some, None}
 use Rattle.text.proofs.Getting.{literal-found, literal-lost, value-found, answer-none}
 use Rattle.pages.specs.Form.{names, slot_front, wide_writes, narrow_writes, planes_name, data_name, slot_named}
 use Rattle.pages.proofs.Laws.{writes-right, columns-right}
-use Rattle.page_check.specs.Parts.{NamesFound, NamesRead}
+use Rattle.page_check.specs.Inner.Parts.{NamesFound, NamesRead}
 use Rattle.page_check.specs.declared.SlotNames.{SlotNames}
 
 module _ (front c d s : List ℕ) (at : ℕ) {q : Option ℕ} (e : q ≡ literal_answer (length s) (read_literal front (drop at s))) where

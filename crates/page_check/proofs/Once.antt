@@ -15,7 +15,7 @@ use Rattle.word.specs.Bit as word
 use Rattle.word.proofs.Bools.{and-false, and_assoc}
 use Rattle.word.proofs.BitLaws.{bit-of-zero}
 use Rattle.word.proofs.ListLaws.{get_or-zeros}
-use Rattle.rows.specs.Row.{bit_in}
+use Rattle.rows.specs.Inner.Row.{bit_in}
 use Rattle.text.specs.Text.{give, Reader, ◌>>=◌}
 use Rattle.text.specs.Format.{read_all, times}
 use Rattle.text.proofs.Laws.{bind-some, some_inj, times-right}
@@ -23,8 +23,8 @@ use Rattle.heap.specs.State.{Slot, bit}
 use Rattle.pages.specs.Page.{slot_format}
 use Rattle.heap.specs.State as wf
 use Rattle.pages.proofs.Laws.{slot-right}
-use Rattle.page_check.specs.Partition.{values_at, marked, Marked, expected, right, agree, each}
-use Rattle.page_check.specs.Filling.{slots_at, past_slots, SlotsParsed, RunChecked}
+use Rattle.page_check.specs.Inner.Partition.{values_at, marked, Marked, expected, right, agree, each}
+use Rattle.page_check.specs.Inner.Filling.{slots_at, past_slots, SlotsParsed, RunChecked}
 use Rattle.page_check.proofs.Columned.{same-each}
 use Rattle.page_check.specs.Sections.{heap_in, listed, obeyed, Sectioned}
 use Rattle.page_check.specs.declared.Sections.{Sections}

@@ -16,8 +16,8 @@ use Rattle.heap.specs.WellFormed.{sound_seals, sound_reclaim}
 use Rattle.pages.specs.Form.{free_name, quarantine_name, sealed_name, retired_name}
 use Rattle.pages.specs.Page.{head_format, retired_format, read_page}
 use Rattle.pages.proofs.Laws.{head-right, Count-good}
-use Rattle.page_check.specs.Answer.{head_answer}
-use Rattle.page_check.specs.Parts.{numbers_of, heap_named, HeadFound, HeadSectioned, SlotsFound, SlotSectioned, ListFound, ListSectioned, RetiredFound, RetiredSectioned, sections_of}
+use Rattle.page_check.specs.Inner.Answer.{head_answer}
+use Rattle.page_check.specs.Inner.Parts.{numbers_of, heap_named, HeadFound, HeadSectioned, SlotsFound, SlotSectioned, ListFound, ListSectioned, RetiredFound, RetiredSectioned, sections_of}
 use Rattle.page_check.specs.Sections.{Sectioned}
 use Rattle.page_check.specs.declared.HeadRead.{HeadRead}
 use Rattle.page_check.specs.declared.SlotSection.{SlotSection}

@@ -14,7 +14,7 @@ use Rattle.word.specs.Lists.{all}
 use Rattle.word.proofs.Bools.{and-true, and_assoc}
 use Rattle.text.specs.Text.{give, Reader, decimal, ◌>>=◌, digit_of, read_field, read_hex}
 use Rattle.text.specs.Format.{number, bytes_line, pair, mapped, read_all}
-use Rattle.text.specs.Answer.{value_answer}
+use Rattle.text.specs.Inner.Answer.{value_answer}
 use Rattle.std.specs.Prelude.{Option, Some, None}
 use Rattle.text.proofs.Getting.{answer-none, field_found, suffix}
 use Rattle.pages.proofs.Laws.{slot-right, slot-prints, Fields-good}
@@ -25,9 +25,9 @@ use Rattle.heap.specs.State.{Slot, last_generation, data_of, data_size}
 use Rattle.heap.specs.Packing.{flat}
 use Rattle.pages.specs.Form.{writes_width}
 use Rattle.pages.specs.Page.{slot_format, fields_of}
-use Rattle.pages.specs.Columns.{slot}
+use Rattle.pages.specs.Inner.Columns.{slot}
 use Rattle.page_check.specs.declared.SlotLines.{SlotLines}
-use Rattle.page_check.specs.Answer.{slot_answer, slots_answer, slots_more, lines_of, sound_numbers}
+use Rattle.page_check.specs.Inner.Answer.{slot_answer, slots_answer, slots_more, lines_of, sound_numbers}
 
 -- a field that was read, as the format reads it
 pub comma-found : (s : List ℕ) (width at : ℕ) {r : Option (ℕ × ℕ)} (n k : ℕ) → r ≡ value_answer (length s) (read_field (2 ^ width - 1) 44 (drop at s)) → r ≡ Some (n, k) →

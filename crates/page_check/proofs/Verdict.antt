@@ -22,7 +22,7 @@ use Rattle.pages.specs.Page.{read_page, moved, sound_before}
 use Rattle.pages.proofs.Moving.{moved-sound}
 use Rattle.heap.proofs.Counting.{times-append, times-member}
 use Rattle.heap.proofs.Testing.{parts-tested, all-times}
-use Rattle.page_check.specs.Partition.{expected, right, each}
+use Rattle.page_check.specs.Inner.Partition.{expected, right, each}
 use Rattle.page_check.specs.Sections.{heap_in, form_in, brought_in, sound_but, listed, obeyed, parted, Sectioned, Parsing, verdict, Accepted}
 use Rattle.page_check.specs.declared.Sections.{Sections}
 use Rattle.page_check.specs.declared.Rule.{Rule}

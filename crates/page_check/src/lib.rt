@@ -3,19 +3,19 @@
 
 ghost use Rattle.std.specs.Prelude.{◌≡◌, [], ◌∷◌, ℕ, ◌+◌, ◌-◌, ◌*◌, ◌^◌, ◌≤◌, ◌<◌, length, drop, replicate, ◌&&◌, leb, ltb, ◌%◌, true, false, MatchOption};
 ghost use Rattle.text.specs.Text.{give};
-ghost use Rattle.text.specs.Answer.{value_answer};
+ghost use Rattle.text.specs.Inner.Answer.{value_answer};
 ghost use Rattle.pages.specs.Form.{writes_width, names, sealed_name};
 ghost use Rattle.pages.specs.Page.{slot_format, sealed_end, retired_count, head_format, read_page};
 ghost use Rattle.text.specs.Format.{read_all, number};
-ghost use Rattle.page_check.specs.Partition.{values_at, ValuesParsed, Marked, right, agree};
-ghost use Rattle.page_check.specs.Filling.{slots_at};
-ghost use Rattle.page_check.specs.Answer.{slot_answer, slots_answer, sound_numbers, indices_more, seals_more, seal_test, head_answer};
+ghost use Rattle.page_check.specs.Inner.Partition.{values_at, ValuesParsed, Marked, right, agree};
+ghost use Rattle.page_check.specs.Inner.Filling.{slots_at};
+ghost use Rattle.page_check.specs.Inner.Answer.{slot_answer, slots_answer, sound_numbers, indices_more, seals_more, seal_test, head_answer};
 ghost use Rattle.heap.specs.State.{bit};
 ghost use Rattle.handle.specs.Handle.{tag_of, index_of, generation_of};
 ghost use Rattle.heap.specs.WellFormed.{sound_seals, sound_reclaim};
 ghost use Rattle.page_check.specs.Sections.{Parsing, verdict};
-ghost use Rattle.page_check.specs.Accepting.{Checking};
-ghost use Rattle.page_check.specs.Parts.{sections_of, HeadSectioned, NamesRead, SlotSectioned, ListRead, ListSectioned, RetiredSectioned};
+ghost use Rattle.page_check.specs.Inner.Accepting.{Checking};
+ghost use Rattle.page_check.specs.Inner.Parts.{sections_of, HeadSectioned, NamesRead, SlotSectioned, ListRead, ListSectioned, RetiredSectioned};
 ghost use Rattle.word.specs.Lists.{all};
 
 pub mod lines;

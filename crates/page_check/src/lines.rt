@@ -1,6 +1,6 @@
 // Lines of slots that stand in a text.
 ghost use Rattle.std.specs.Prelude.{◌≤◌, length};
-ghost use Rattle.page_check.specs.Filling.{SlotsParsed};
+ghost use Rattle.page_check.specs.Inner.Filling.{SlotsParsed};
 
 // The text, where the lines begin, and how many they are.
 #[derive(Clone, Copy)]

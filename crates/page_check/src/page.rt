@@ -1,7 +1,7 @@
 // A text that is a page, with what the first pass found in it: is each of its slots where it belongs?
 ghost use Rattle.std.specs.Prelude.{◌≡◌, ◌*◌, ◌≤◌, ◌++◌, length, true, false, MatchOption};
-ghost use Rattle.page_check.specs.Partition.{Marked, each};
-ghost use Rattle.page_check.specs.Filling.{slots_at, SlotsParsed, RunChecked};
+ghost use Rattle.page_check.specs.Inner.Partition.{Marked, each};
+ghost use Rattle.page_check.specs.Inner.Filling.{slots_at, SlotsParsed, RunChecked};
 ghost use Rattle.page_check.specs.Sections.{heap_in, form_in, listed, obeyed, parted, Sectioned};
 
 use crate::lines::Lines;

@@ -14,7 +14,7 @@ use Rattle.refusal.specs.declared.Refusal.TheVariants.{Scratch}
 use Rattle.refusal.specs.Told.{Reply}
 use Rattle.std.specs.Prelude.{Result as Outcomes, Ok, Err, IfOk}
 use Rattle.std.proofs.lemmas.Result.{IfOk-at_ok}
-use Rattle.heap.specs.Seen.{seen, state}
+use Rattle.heap.specs.Inner.Seen.{seen, state}
 use Rattle.heap.specs.declared.view.View.{View}
 use Rattle.heap.specs.Lent.{Lent, view, slot_count}
 use Rattle.door.specs.HeapCalls.{Entered, heap_tests, asked, enough, outcome, zeros}

@@ -21,7 +21,7 @@ use Rattle.heap.proofs.Packing.{get_or-pad}
 use Rattle.heap.proofs.Storing.{get_or-pad-past}
 use Rattle.pages.specs.Page.{moved}
 use Rattle.pages.proofs.Moving.{same-partition}
-use Rattle.page_reader.specs.Columns.{worn_in, stay_free, retire, Below}
+use Rattle.page_reader.specs.Inner.Columns.{worn_in, stay_free, retire, Below}
 
 -- ---- a list parted by a test
 

@@ -11,7 +11,7 @@ use Rattle.text.specs.Put.{put_text}
 use Rattle.heap.specs.Lent.{Lent, columns, cut}
 use Rattle.heap.specs.declared.Heap.{Heap}
 use Rattle.heap.proofs.Runs.{recount, with-quarantine, with-retired, with-sealed}
-use Rattle.page_reader.specs.Columns.{ListsFilled}
+use Rattle.page_reader.specs.Inner.Columns.{ListsFilled}
 
 -- a run lent and returned
 module _ (h : Heap) (S : ℕ) (narrow wide pool ys : List ℕ) (long : length ys ≡ S) where

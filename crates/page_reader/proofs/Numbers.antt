@@ -21,12 +21,12 @@ use Rattle.heap.specs.declared.Heap.{Heap}
 use Rattle.heap.proofs.Runs.{recount, with-generation, with-kind, with-type, with-end, with-writes, set-generation, set-kind, set-type, set-start, set-end, set-writes}
 use Rattle.pages.specs.Page.{slot_format}
 use Rattle.pages.proofs.Writing.{blank}
-use Rattle.page_check.specs.Filling.{slots_at, past_slots, SlotsParsed}
-use Rattle.page_check.specs.Answer.{slot_answer}
+use Rattle.page_check.specs.Inner.Filling.{slots_at, past_slots, SlotsParsed}
+use Rattle.page_check.specs.Inner.Answer.{slot_answer}
 use Rattle.page_check.specs.declared.SlotRead.{SlotRead}
 use Rattle.page_check.proofs.Reading.{Found, line-found, line-lost}
 use Rattle.page_check.proofs.Filling.{read_next, read_some, read-end}
-use Rattle.page_reader.specs.Columns.{with_numbers, NumbersFilled}
+use Rattle.page_reader.specs.Inner.Columns.{with_numbers, NumbersFilled}
 use Rattle.page_reader.proofs.Filled.{column-next, end-next, data-next}
 
 -- the six numbers of slot i stored: an entry of six columns is set, and the others stay

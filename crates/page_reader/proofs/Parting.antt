@@ -15,7 +15,7 @@ use Rattle.word.proofs.RunLaws.{length_run, first-get}
 use Rattle.word.specs.Lists.{filter}
 use Rattle.text.specs.Text.{give, read_field}
 use Rattle.text.specs.Format.{number, read_all}
-use Rattle.text.specs.Answer.{value_answer}
+use Rattle.text.specs.Inner.Answer.{value_answer}
 use Rattle.text.specs.Put.{put_text}
 use Rattle.std.specs.Prelude.{Option, Some, None}
 use Rattle.text.proofs.Putting.{put-nothing}
@@ -24,10 +24,10 @@ use Rattle.heap.specs.Lent.{Lent, columns, cut}
 use Rattle.heap.specs.declared.Heap.{Heap}
 use Rattle.heap.proofs.Recycled.{filter-append}
 use Rattle.heap.proofs.Runs.{recount, set-free, set-retired}
-use Rattle.page_check.specs.Partition.{values_at, past_values, ValuesParsed}
+use Rattle.page_check.specs.Inner.Partition.{values_at, past_values, ValuesParsed}
 use Rattle.page_check.proofs.Lists.{value_found, value_none}
 use Rattle.page_check.proofs.Filling.{read_next, read_some, read-end}
-use Rattle.page_reader.specs.Columns.{worn_in, stay_free, retire, with_parted, Below, PutIn, ages, FreeParted}
+use Rattle.page_reader.specs.Inner.Columns.{worn_in, stay_free, retire, with_parted, Below, PutIn, ages, FreeParted}
 use Rattle.page_reader.proofs.Filled.{col-next}
 
 -- i of the slots are in their runs, f of them free and r retired, and the others stand in the text from k on

@@ -10,7 +10,7 @@ use native.Mathlib.Omega.{arith}
 use native.Mathlib.Nat.{sub-zero}
 use Rattle.text.specs.Text.{give, hex, newline, read_hex}
 use Rattle.text.specs.Format.{read_all}
-use Rattle.text.specs.Answer.{hex_at, HexParsed}
+use Rattle.text.specs.Inner.Answer.{hex_at, HexParsed}
 use Rattle.text.specs.Put.{put_text, Puts}
 use Rattle.text.proofs.Laws.{hex-forth, hex-length}
 use Rattle.text.proofs.Putting.{puts-puts, puts-at, puts_none}
@@ -18,11 +18,11 @@ use Rattle.heap.specs.State.{Slot, data_of, data_size}
 use Rattle.heap.specs.Packing.{flat}
 use Rattle.pages.specs.Form.{from_column}
 use Rattle.pages.specs.Page.{slot_format, out_of_column}
-use Rattle.pages.specs.Columns.{field}
+use Rattle.pages.specs.Inner.Columns.{field}
 use Rattle.pages.proofs.Laws.{slot-right, slot-prints}
 use Rattle.pages.proofs.Writing.{blank, slot-parts}
-use Rattle.page_check.specs.Filling.{slots_at, past_slots, SlotsParsed}
-use Rattle.page_check.specs.Answer.{slot_answer}
+use Rattle.page_check.specs.Inner.Filling.{slots_at, past_slots, SlotsParsed}
+use Rattle.page_check.specs.Inner.Answer.{slot_answer}
 use Rattle.page_check.specs.declared.SlotRead.{SlotRead}
 use Rattle.page_check.proofs.Columned.{same_size}
 use Rattle.page_check.proofs.Reading.{Found, line-found, line-lost}

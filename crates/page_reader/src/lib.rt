@@ -3,16 +3,16 @@
 
 ghost use Rattle.std.specs.Prelude.{◌≡◌, map, ◌+◌, ◌-◌, ◌*◌, ◌/◌, ◌^◌, ◌≤◌, ◌<◌, length, replicate, if◌then◌else◌};
 ghost use Rattle.text.specs.Put.{put_text, Puts};
-ghost use Rattle.text.specs.Answer.{hex_at};
+ghost use Rattle.text.specs.Inner.Answer.{hex_at};
 ghost use Rattle.pages.specs.Form.{writes_width, from_column};
 ghost use Rattle.pages.specs.Page.{out_of_column};
 ghost use Rattle.heap.specs.State.{data_of, data_size};
 ghost use Rattle.heap.specs.Packing.{flat};
-ghost use Rattle.page_check.specs.Partition.{values_at, ValuesParsed};
-ghost use Rattle.page_check.specs.Filling.{slots_at};
+ghost use Rattle.page_check.specs.Inner.Partition.{values_at, ValuesParsed};
+ghost use Rattle.page_check.specs.Inner.Filling.{slots_at};
 ghost use Rattle.heap.specs.Lent.{lent, header_of, stored};
 ghost use Rattle.page_check.specs.Sections.{heap_in, brought_in};
-ghost use Rattle.page_reader.specs.Columns.{NumbersFilled, Below, PutIn, FreeParted, ListsFilled, Roomy};
+ghost use Rattle.page_reader.specs.Inner.Columns.{NumbersFilled, Below, PutIn, FreeParted, ListsFilled, Roomy};
 ghost use Rattle.page_reader.specs.Reading.{PageRead};
 
 use heap::{Changed, Heap};

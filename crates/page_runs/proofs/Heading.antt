@@ -13,7 +13,7 @@ use Rattle.word.specs.Put.{put}
 use Rattle.word.proofs.PutLaws.{take_put}
 use Rattle.text.specs.Text.{give, ascii, comma, digit_of, read_literal, read_field}
 use Rattle.text.specs.Format.{number}
-use Rattle.text.specs.Answer.{value_answer, literal_answer}
+use Rattle.text.specs.Inner.Answer.{value_answer, literal_answer}
 use Rattle.std.specs.Prelude.{◌↔◌, Option, Some, None}
 use Rattle.text.proofs.Laws.{literal-back, number-right}
 use Rattle.text.proofs.Getting.{answer-none, field_found, literal-found, literal-lost}

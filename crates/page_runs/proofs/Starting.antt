@@ -9,7 +9,7 @@ use native.Mathlib.Omega.{arith}
 use lib.ListN.{length, take, drop}
 use lib.Seq.{take-add, length-take-le, drop_at}
 use Rattle.text.specs.Text.{ascii, read_literal}
-use Rattle.text.specs.Answer.{literal_answer}
+use Rattle.text.specs.Inner.Answer.{literal_answer}
 use Rattle.std.specs.Prelude.{Option, is_some}
 use Rattle.text.proofs.Laws.{literal-back}
 use Rattle.refusal.specs.declared.Answer.{Answer}

@@ -15,7 +15,7 @@ use Rattle.heap.proofs.Testing.{formed-tested}
 use Rattle.heap.proofs.Counting.{all_slots}
 use Rattle.heap.proofs.Seals.{seals-few}
 use Rattle.heap.proofs.Packing.{flat-split, start-of, end_of}
-use Rattle.pages.specs.Columns.{Ready}
+use Rattle.pages.specs.Inner.Columns.{Ready}
 
 -- the data of the slots lies in order, inside the pool
 module _ (S : ℕ) (end : List ℕ) (ds : List (List ℕ)) (e : end ≡ pad S (ends 0 ds)) (i : ℕ) (h : i < length ds) where

@@ -14,7 +14,7 @@ use Rattle.heap.specs.Lent.{Lent, lent, slot_in}
 use Rattle.heap.specs.declared.Heap.{Heap}
 use Rattle.heap.proofs.Packing.{start-next}
 use Rattle.pages.specs.Page.{slot_line}
-use Rattle.pages.specs.Columns.{slot, slots_in, Ready}
+use Rattle.pages.specs.Inner.Columns.{slot, slots_in, Ready}
 use Rattle.pages.proofs.Writing.{lines, lines-all, line-more-length, line-room, puts-line}
 
 -- the lines of i slots are n bytes long, and their data ends at `from`

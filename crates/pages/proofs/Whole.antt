@@ -12,7 +12,7 @@ use Rattle.text.specs.Put.{Puts}
 use Rattle.pages.specs.Form.{written, heap_names, slot_names, free_name, quarantine_name, sealed_name, retired_name}
 use Rattle.pages.specs.Page.{value_line, slot_line, numbers_line, heap_line, retired_part, page_text}
 use Rattle.heap.specs.Lent.{Lent, lent, view}
-use Rattle.pages.specs.Columns.{slots_in, Ready}
+use Rattle.pages.specs.Inner.Columns.{slots_in, Ready}
 use Rattle.pages.specs.Answer.{PageWritten}
 use Rattle.heap.specs.declared.Heap.{Heap}
 use Rattle.word.specs.Result.{ok}

@@ -18,7 +18,7 @@ use Rattle.planes.proofs.Laws.{length-planes, length-restored}
 use Rattle.pages.specs.Form.{column, from_column}
 use Rattle.pages.specs.Page.{value_line, slot_line, numbers_line}
 use Rattle.heap.specs.Lent.{Lent, slot_in}
-use Rattle.pages.specs.Columns.{slot, slots_in, field, head_fields}
+use Rattle.pages.specs.Inner.Columns.{slot, slots_in, field, head_fields}
 
 module _ {A : Type 0} (f : A → List ℕ) where
   flat_append : (xs ys : List A) → flat_map f (xs ++ ys) ≡ flat_map f xs ++ flat_map f ys

@@ -4,11 +4,11 @@
 ghost use Rattle.std.specs.Prelude.{◌≡◌, ℕ, ◌+◌, ◌-◌, ◌*◌, ◌/◌, ◌^◌, ◌≤◌, ◌<◌, length, map, true, false};
 ghost use mathlib.Core.List.{List, ◌++◌, flat_map};
 ghost use Rattle.text.specs.Text.{hex};
-ghost use Rattle.text.specs.Wrote.{Wrote};
-ghost use Rattle.heap.specs.Seen.{seen, state};
+ghost use Rattle.text.specs.Inner.Wrote.{Wrote};
+ghost use Rattle.heap.specs.Inner.Seen.{seen, state};
 ghost use Rattle.pages.specs.Form.{written, column, heap_names, slot_names, free_name, quarantine_name, sealed_name, retired_name};
 ghost use Rattle.pages.specs.Page.{value_line, slot_line, numbers_line, page_text};
-ghost use Rattle.pages.specs.Columns.{slot, slots_in, head_fields};
+ghost use Rattle.pages.specs.Inner.Columns.{slot, slots_in, head_fields};
 ghost use Rattle.word.specs.Result.{ok};
 ghost use Rattle.refusal.specs.Told.{told, answered, here, nothing};
 ghost use Rattle.pages.specs.Answer.{PageWritten};

@@ -21,7 +21,7 @@ use Rattle.layout.specs.Layout.{Lay, laid, on_bytes, dims_of, under, used_by, pl
 use Rattle.layout.specs.Offsets.{offsets_from, offsets_of, fields_of}
 use Rattle.refusal.specs.declared.Refusal.TheVariants.{TooLarge}
 use Rattle.trace.specs.Places.{Places, Below, only_if, both, many, turns, if_laid, if_bytes, part_places, field_places, places_by, places_at, object_places, rising, handles_places, kind_places, handle_at, words_at, handles_of}
-use Rattle.trace.specs.Walk.{if_placed, walk}
+use Rattle.trace.specs.Inner.Walk.{if_placed, walk}
 use Rattle.trace.specs.declared.tracer.Placed.{Placed}
 use Rattle.trace.proofs.Walks.{walk_is}
 use Rattle.places.specs.StrideZero.{ShortConstants}

@@ -13,12 +13,12 @@ use Rattle.std.specs.Prelude.{Option, Some, None, Result, Ok, Err, true, false, 
 use Rattle.std.specs.List.{All}
 use Rattle.std.proofs.lemmas.List.Elements.{All-append}
 use Rattle.text.specs.Text.{read_decimal}
-use Rattle.text.specs.Answer.{value_answer}
+use Rattle.text.specs.Inner.Answer.{value_answer}
 use Rattle.text.proofs.Laws.{decimal-back}
 use Rattle.text.proofs.Getting.{answer-none, decimal-found}
 use Rattle.protocol.specs.declared.Fault.{Fault}
 use Rattle.protocol.specs.declared.Fault.TheVariants.{Bad}
-use Rattle.protocol.specs.Lines.{before, after, whole, decimal_of, given_or, or_bad}
+use Rattle.protocol.specs.Inner.Lines.{before, after, whole, decimal_of, given_or, or_bad}
 
 -- where the byte does not stand
 pub parted-nowhere : (b : ℕ) (s : List ℕ) → ((k : ℕ) → k < length s → slice_index_or s k 0 ≡ b → ⊥) → (before b s ≡ s) × (after b s ≡ [])

@@ -20,7 +20,7 @@ use Rattle.text.specs.Text.{hex_digit_of, byte_of, read_decimal}
 use Rattle.word.proofs.Bools.{and-true, and-false}
 use Rattle.protocol.specs.declared.Fault.{Fault}
 use Rattle.protocol.specs.declared.Fault.TheVariants.{Bad}
-use Rattle.protocol.specs.Lines.{decimal_of, or_bad, signed_of, negated, dashed, followed, all_of, option_of, hex_of, bytes_of, parts, cut, listed, limited, list_of, single_of, pair_of, typed, lying, slot_of}
+use Rattle.protocol.specs.Inner.Lines.{decimal_of, or_bad, signed_of, negated, dashed, followed, all_of, option_of, hex_of, bytes_of, parts, cut, listed, limited, list_of, single_of, pair_of, typed, lying, slot_of}
 use Rattle.protocol.proofs.Parting.{parted-at, parted-nowhere, number-bound}
 
 -- ---- `-` alone

@@ -1,2 +1,2 @@
 -- What the lines of a script say.
-pub mod Lines
+pub mod Inner

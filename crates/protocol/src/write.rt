@@ -1,6 +1,6 @@
 // Answers, each written to standard output.
 ghost use Rattle.std.specs.Prelude.{◌≡◌, map, take, OnOk, Ok};
-ghost use Rattle.protocol.specs.Lines.{folded};
+ghost use Rattle.protocol.specs.Inner.Lines.{folded};
 
 use refusal::Answer;
 use std::fmt::{self, Display};

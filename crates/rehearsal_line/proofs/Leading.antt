@@ -20,10 +20,10 @@ use Rattle.rehearsal.specs.Lines.{Line, alloc}
 use Rattle.rehearsal.specs.Runs.{Held as Name, handles, Run, World, unless, placed, allocating, does, after, starting}
 use Rattle.rehearsal.specs.OnHeap.{heaped, fresh}
 use Rattle.rehearsal.proofs.Holding.{held-few, led-good, led-real, after_one, unless-open}
-use Rattle.rehearsal_names.specs.Names.{name, named}
+use Rattle.rehearsal_names.specs.Inner.Names.{name, named}
 use Rattle.rehearsal_steps.specs.declared.Going.{Going}
-use Rattle.rehearsal_steps.specs.Going.{ended, going_on, InOrder, Whole, Led, Goes}
-use Rattle.rehearsal_steps.specs.Steps.{CanHoldMore, collecting_in, doing_in}
+use Rattle.rehearsal_steps.specs.Inner.Going.{ended, going_on, InOrder, Whole, Led, Goes}
+use Rattle.rehearsal_steps.specs.Inner.Steps.{CanHoldMore, collecting_in, doing_in}
 
 -- an allocation that succeeds holds one name more
 placed-held : {W : Type 0} (G : World W) (n : ℕ) (r : Run W) (a : Result ℕ) (w : W) (x : ℕ) → a ≡ ok x → (placed G n r a w).held ≡ r.held ++ name (r.turns + 1) x ∷ []

@@ -10,7 +10,7 @@ use Rattle.ty.specs.Types.{Table}
 use Rattle.heap.specs.State.{State}
 use Rattle.heap.specs.Lent.{Lent, view, slot_count, pool_size}
 use Rattle.heap_calls.specs.Pins.{rising_from}
-use Rattle.script.specs.Found.{DataThere}
+use Rattle.script.specs.Inner.Found.{DataThere}
 use Rattle.rehearsal.specs.Lines.{Line as Step, alloc, store, drop}
 use Rattle.std.specs.Prelude.{if◌then◌else◌, is_some}
 use Rattle.refusal.specs.declared.Refusal.TheVariants.{NothingThere}
@@ -19,14 +19,14 @@ use Rattle.heap.specs.Calls.{gc_due}
 use Rattle.rehearsal.specs.Runs.{Run, held_at, handles, swept, collecting, allocating, storing, dropping, does, unless}
 use Rattle.rehearsal.specs.OnHeap.{heaped, collects_heap}
 use Rattle.rehearsal.proofs.Holding.{unless-ended}
-use Rattle.rehearsal_lines.specs.Found.{DataIn}
+use Rattle.rehearsal_lines.specs.Inner.Found.{DataIn}
 use Rattle.rehearsal_lines.specs.declared.Line.{Line}
 use Rattle.rehearsal_lines.specs.declared.Line.TheVariants.{Alloc}
 use Rattle.script.specs.declared.AllocLine.{AllocLine}
-use Rattle.rehearsal_names.specs.Names.{LetGo}
+use Rattle.rehearsal_names.specs.Inner.Names.{LetGo}
 use Rattle.rehearsal_steps.specs.declared.Going.{Going}
-use Rattle.rehearsal_steps.specs.Going.{ended, going_on, ended_by, InOrder, Goes}
-use Rattle.rehearsal_steps.specs.Steps.{no_types, Dropped, after_drop, collecting_in, allocating_in, storing_in, doing_in}
+use Rattle.rehearsal_steps.specs.Inner.Going.{ended, going_on, ended_by, InOrder, Goes}
+use Rattle.rehearsal_steps.specs.Inner.Steps.{no_types, Dropped, after_drop, collecting_in, allocating_in, storing_in, doing_in}
 
 -- no type and no threshold matters to an allocation or a store
 alloc-any : (T : Table) (S P n t k : ℕ) (bs : List ℕ) (r : Run State) → allocating (heaped no_types S P) 0 t k bs r ≡ allocating (heaped T S P) n t k bs r

@@ -4,10 +4,10 @@
 ghost use Rattle.std.specs.Prelude.{◌≡◌, ◌/◌, length};
 ghost use Rattle.ty.specs.View.{lent as tabled};
 ghost use Rattle.heap.specs.Lent.{lent};
-ghost use Rattle.script.specs.Found.{DataThere};
-ghost use Rattle.rehearsal_lines.specs.Found.{alloc_at, DataIn, step_in};
-ghost use Rattle.rehearsal_steps.specs.Going.{InOrder, Short, Cleared, Led, Goes};
-ghost use Rattle.rehearsal_steps.specs.Steps.{doing_in};
+ghost use Rattle.script.specs.Inner.Found.{DataThere};
+ghost use Rattle.rehearsal_lines.specs.Inner.Found.{alloc_at, DataIn, step_in};
+ghost use Rattle.rehearsal_steps.specs.Inner.Going.{InOrder, Short, Cleared, Led, Goes};
+ghost use Rattle.rehearsal_steps.specs.Inner.Steps.{doing_in};
 
 use rehearsal_lines::Line;
 use rehearsal_steps::{Going, allocate, collect_due};

@@ -3,7 +3,7 @@
 
 ghost use Rattle.std.specs.Prelude.{◌≡◌, ◌≤◌, length, drop};
 ghost use Rattle.rehearsal.specs.Lines.{read_store, read_drop, read_line, is_text};
-ghost use Rattle.rehearsal_lines.specs.Found.{LineRead};
+ghost use Rattle.rehearsal_lines.specs.Inner.Found.{LineRead};
 
 use script::AllocLine;
 

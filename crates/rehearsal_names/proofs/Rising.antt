@@ -17,8 +17,8 @@ use Rattle.std.proofs.lemmas.List.Sorted.{searched}
 use Rattle.word.proofs.Bools.{and_both, both-and}
 use Rattle.heap_calls.specs.Pins.{rising_from}
 use Rattle.rehearsal.specs.Runs.{Held as Name}
-use Rattle.rehearsal_names.specs.Names.{kept}
-use Rattle.rehearsal_names.specs.Moves.{index_in, FoundAt, turns_of}
+use Rattle.rehearsal_names.specs.Inner.Names.{kept}
+use Rattle.rehearsal_names.specs.Inner.Moves.{index_in, FoundAt, turns_of}
 
 pub rising-lower : (lo lo' : ℕ) (xs : List ℕ) → lo ≤ lo' → rising_from lo' xs ≡ true → rising_from lo xs ≡ true
 unfolding rising_from

@@ -14,8 +14,8 @@ use Rattle.word.specs.Run.{run}
 use Rattle.word.proofs.RunLaws.{run-get, length_run}
 use Rattle.heap_calls.specs.Pins.{rising_from}
 use Rattle.rehearsal.specs.Runs.{Held as Name, handles}
-use Rattle.rehearsal_names.specs.Names.{name, entries, kept, entries_in, named, CanHold, Held}
-use Rattle.rehearsal_names.specs.Moves.{turns_of, CanMove, moved_to, moved_words, InRoom, Squeezed, Roomy}
+use Rattle.rehearsal_names.specs.Inner.Names.{name, entries, kept, entries_in, named, CanHold, Held}
+use Rattle.rehearsal_names.specs.Inner.Moves.{turns_of, CanMove, moved_to, moved_words, InRoom, Squeezed, Roomy}
 use Rattle.rehearsal_names.proofs.Rising.{rising-more, rising-kept}
 use Rattle.rehearsal_names.proofs.Naming.{kept_append, kept-kept, entries-again, entries-append, entries-turns}
 

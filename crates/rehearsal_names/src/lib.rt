@@ -5,8 +5,8 @@
 ghost use Rattle.std.specs.Prelude.{◌≡◌, ◌<◌, true, length, IfSome};
 ghost use Rattle.heap_calls.specs.Pins.{rising_from};
 ghost use Rattle.rehearsal.specs.Runs.{held_at};
-ghost use Rattle.rehearsal_names.specs.Names.{answer_of, named, Names, LetGo, CanHold, Held};
-ghost use Rattle.rehearsal_names.specs.Moves.{FoundAt, CanMove, moved_to, moved_words, InRoom, Squeezed, Roomy};
+ghost use Rattle.rehearsal_names.specs.Inner.Names.{answer_of, named, Names, LetGo, CanHold, Held};
+ghost use Rattle.rehearsal_names.specs.Inner.Moves.{FoundAt, CanMove, moved_to, moved_words, InRoom, Squeezed, Roomy};
 
 // Where `x` is among turns that rise.
 fn find(turns: &[u64], x: u64) -> Option<usize>

@@ -8,7 +8,7 @@ use lib.ListN.{length, take, drop}
 use Rattle.std.specs.Prelude.{if◌then◌else◌}
 use Rattle.word.specs.Result.{Result, ok, refused}
 use Rattle.handle.specs.Handle.{index_of}
-use Rattle.text.specs.Answer.{hex_at}
+use Rattle.text.specs.Inner.Answer.{hex_at}
 use Rattle.refusal.specs.Told.{number_of, told, answered, here, nothing}
 use Rattle.refusal.specs.declared.Answer.{Answer}
 use Rattle.refusal.specs.declared.Refusal.{Refusal}
@@ -28,14 +28,14 @@ use Rattle.heap.proofs.Storing.{view-stored}
 use Rattle.heap.proofs.Testing.{formed-tested}
 use Rattle.heap.proofs.Carrying.{kept-sizes}
 use Rattle.heap_calls.proofs.Allocating.{alloc-sound}
-use Rattle.heap_calls.specs.Kinds.{kind_number, kind_of}
+use Rattle.heap_calls.specs.Inner.Kinds.{kind_number, kind_of}
 use Rattle.heap_calls.specs.declared.kind.ObjectKind.{ObjectKind}
 use Rattle.object_door.specs.ObjectCalls.{allocating}
 use Rattle.object_door.proofs.Objects.{kind-good, found-kind, missing-kind, of-kind, no_kind}
-use Rattle.script.specs.Found.{DataThere}
+use Rattle.script.specs.Inner.Found.{DataThere}
 use Rattle.script.specs.declared.AllocLine.{AllocLine}
 use Rattle.script.proofs.Refusing.{Numbered, alloc-numbered}
-use Rattle.rehearsal_place.specs.Decoding.{Spelled, with_data, CanDecode, Decoded, PlaceDoes}
+use Rattle.rehearsal_place.specs.Inner.Decoding.{Spelled, with_data, CanDecode, Decoded, PlaceDoes}
 use Rattle.rehearsal_place.proofs.Replaced.{Instead, alloc-instead}
 use Rattle.rehearsal_place.proofs.Spelling.{part-long, start-can, decode-room, decode-done}
 

@@ -18,7 +18,7 @@ use Rattle.heap.proofs.Sound.{Sound}
 use Rattle.heap.proofs.Counting.{free-inside}
 use Rattle.heap.proofs.Keeping.{step-most, at_same}
 use Rattle.heap_calls.proofs.Allocating.{alloc-none, alloc-free, alloc-grow, alloc-full}
-use Rattle.rehearsal_place.specs.Decoding.{with_bytes, with_data}
+use Rattle.rehearsal_place.specs.Inner.Decoding.{with_bytes, with_data}
 
 -- what the one allocation tells of the other
 pub record Instead (a b : Changed ℕ) (x : ℕ) (bytes bytes' : List ℕ) : Type 0 where

@@ -12,7 +12,7 @@ use Rattle.word.specs.Run.{run}
 use Rattle.word.proofs.PutLaws.{put_whole}
 use Rattle.text.specs.Text.{hex, newline}
 use Rattle.text.specs.Put.{Puts}
-use Rattle.text.specs.Answer.{hex_at}
+use Rattle.text.specs.Inner.Answer.{hex_at}
 use Rattle.text.proofs.Laws.{hex-back, hex-length}
 use Rattle.heap.specs.Packing.{start_of}
 use Rattle.heap.specs.State.{Slot, State, slot_at, live}
@@ -23,7 +23,7 @@ use Rattle.heap.proofs.Sound.{Sound, SlotSound}
 use Rattle.heap.proofs.Keeping.{live_inside, slot-sound, leaves}
 use Rattle.heap.proofs.Columns.{formed, sizes, reads, generation-is, kind-is, type-is, start_is, writes-is}
 use Rattle.heap_edit.proofs.Replacing.{stays, SlotData, slot-lies, written-data}
-use Rattle.rehearsal_place.specs.Decoding.{Spelled, with_bytes, with_data, CanDecode, Decoded}
+use Rattle.rehearsal_place.specs.Inner.Decoding.{Spelled, with_bytes, with_data, CanDecode, Decoded}
 
 -- ---- a text that spells n bytes has 2 n + 1
 

@@ -3,13 +3,13 @@
 #![tactic(auto)]
 
 ghost use Rattle.std.specs.Prelude.{◌/◌, length};
-ghost use Rattle.text.specs.Answer.{hex_at};
-ghost use Rattle.heap.specs.Loans.{state, Replies};
+ghost use Rattle.text.specs.Inner.Answer.{hex_at};
+ghost use Rattle.heap.specs.Inner.Loans.{state, Replies};
 ghost use Rattle.refusal.specs.Told.{here, nothing};
-ghost use Rattle.heap_calls.specs.Kinds.{kind_number};
-ghost use Rattle.script.specs.Found.{DataThere};
+ghost use Rattle.heap_calls.specs.Inner.Kinds.{kind_number};
+ghost use Rattle.script.specs.Inner.Found.{DataThere};
 ghost use Rattle.object_door.specs.ObjectCalls.{allocating};
-ghost use Rattle.rehearsal_place.specs.Decoding.{Spelled, PlacesSpelled};
+ghost use Rattle.rehearsal_place.specs.Inner.Decoding.{Spelled, PlacesSpelled};
 
 use heap::view_mut::ViewMut;
 use heap_calls::NewObject;

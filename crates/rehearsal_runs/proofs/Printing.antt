@@ -5,12 +5,12 @@ use mathlib.Core.List.{List, [], ◌∷◌, ◌++◌, append_assoc, append-nil}
 use mathlib.Core.Path.{◌≡◌, ap, ◌∙◌}
 use lib.ListN.{length, length-append}
 use Rattle.text.specs.Text.{decimal, line}
-use Rattle.text.specs.Wrote.{Wrote}
+use Rattle.text.specs.Inner.Wrote.{Wrote}
 use Rattle.text.specs.declared.output.Out.{Out}
 use Rattle.text.proofs.Wrote.{Writes, writes-begin, writes-end}
 use Rattle.rehearsal.specs.Runs.{Figures, figures_line}
 use Rattle.rehearsal_steps.specs.declared.Going.{Going}
-use Rattle.rehearsal_steps.specs.Going.{ended}
+use Rattle.rehearsal_steps.specs.Inner.Going.{ended}
 use Rattle.rehearsal_runs.specs.Runs.{figures_in, CanPut}
 
 abbrev pub field : (n end : ℕ) → List ℕ

@@ -28,9 +28,9 @@ use Rattle.text.proofs.Laws.{decimal-length}
 use Rattle.rehearsal.proofs.Bound.{Fits, fits_after, live-most, heap-keeps}
 use Rattle.rehearsal.proofs.Relation.{Good, stands-new}
 use Rattle.rehearsal_runs.proofs.Printing.{line-long}
-use Rattle.rehearsal_names.specs.Names.{entries, kept, named}
+use Rattle.rehearsal_names.specs.Inner.Names.{entries, kept, named}
 use Rattle.rehearsal_steps.specs.declared.Going.{Going}
-use Rattle.rehearsal_steps.specs.Going.{ended, InOrder, Goes}
+use Rattle.rehearsal_steps.specs.Inner.Going.{ended, InOrder, Goes}
 use Rattle.rehearsal_runs.specs.Runs.{lines_of, run_of, Begun, LentRoom, figures_in, CanPut, memory_after, Rehearses}
 use Rattle.rehearsal_runs.proofs.Running.{Sizes as Same}
 

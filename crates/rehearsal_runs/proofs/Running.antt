@@ -18,11 +18,11 @@ use Rattle.rehearsal.specs.Runs.{Run, World, unless, does, after, starting}
 use Rattle.rehearsal.specs.OnHeap.{heaped, fresh}
 use Rattle.rehearsal.proofs.Reading.{line-back, read-nothing, read-bad, read_more}
 use Rattle.rehearsal.proofs.Holding.{after-ended, counted-after}
-use Rattle.rehearsal_lines.specs.Found.{Reads, LineRead, step_in}
+use Rattle.rehearsal_lines.specs.Inner.Found.{Reads, LineRead, step_in}
 use Rattle.rehearsal_lines.specs.declared.Line.{Line}
 use Rattle.rehearsal_steps.specs.declared.Going.{Going}
-use Rattle.rehearsal_steps.specs.Going.{going_on, InOrder, Short, Cleared, Led, Goes}
-use Rattle.rehearsal_steps.specs.Steps.{doing_in}
+use Rattle.rehearsal_steps.specs.Inner.Going.{going_on, InOrder, Short, Cleared, Led, Goes}
+use Rattle.rehearsal_steps.specs.Inner.Steps.{doing_in}
 use Rattle.rehearsal_steps.proofs.Placed.{not-ended}
 use Rattle.rehearsal_line.proofs.Leading.{led-line}
 use Rattle.rehearsal_runs.specs.Runs.{or_none, lines_of, run_of, Begun}

@@ -10,7 +10,7 @@ use Rattle.rehearsal.specs.Lines.{Line, read_lines, is_text}
 use Rattle.rehearsal.specs.Runs.{Run, after, starting, Figures, figures_line, figures_text}
 use Rattle.rehearsal.specs.OnHeap.{heaped, fresh}
 use Rattle.rehearsal_steps.specs.declared.Going.{Going}
-use Rattle.rehearsal_steps.specs.Going.{ended, going_on, Cleared}
+use Rattle.rehearsal_steps.specs.Inner.Going.{ended, going_on, Cleared}
 
 -- the lines of a text; none where it is no text of lines
 abbrev pub or_none : Option (List Line) → List Line

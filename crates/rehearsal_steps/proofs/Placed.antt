@@ -27,10 +27,10 @@ use Rattle.collection.specs.Swept.{live_size}
 use Rattle.rehearsal.specs.Runs.{placed, allocating}
 use Rattle.rehearsal.specs.OnHeap.{heaped}
 use Rattle.rehearsal.proofs.Bound.{live-most}
-use Rattle.rehearsal_names.specs.Names.{named, CanHold, Held}
+use Rattle.rehearsal_names.specs.Inner.Names.{named, CanHold, Held}
 use Rattle.rehearsal_steps.specs.declared.Going.{Going}
-use Rattle.rehearsal_steps.specs.Going.{ended, going_on, ended_by, InOrder, Goes}
-use Rattle.rehearsal_steps.specs.Steps.{no_types, CanHoldMore, allocating_in}
+use Rattle.rehearsal_steps.specs.Inner.Going.{ended, going_on, ended_by, InOrder, Goes}
+use Rattle.rehearsal_steps.specs.Inner.Steps.{no_types, CanHoldMore, allocating_in}
 use Rattle.rehearsal_steps.proofs.Sums.{Sums, alloc-sums}
 
 -- what has ended it, and its number

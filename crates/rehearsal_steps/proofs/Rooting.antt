@@ -14,7 +14,7 @@ use Rattle.heap.specs.Calls.{resolve}
 use Rattle.reach.specs.Marking.{State as Marks, nothing, visit_maybe, follow, follow_all, drained, marking}
 use Rattle.collection.specs.Collected.{found, graph, starts, swept_by, collected}
 use Rattle.rehearsal.specs.Runs.{Held as Name, handles}
-use Rattle.rehearsal_names.specs.Names.{kept}
+use Rattle.rehearsal_names.specs.Inner.Names.{kept}
 
 -- 0 leads nowhere
 null-leads : (h : State) → found (resolve h 0) ≡ none

@@ -31,11 +31,11 @@ use Rattle.collection.proofs.SweptLaws.{swept-live}
 use Rattle.collect.specs.Collect.{collecting as collect_call, CanCollect}
 use Rattle.rehearsal.specs.Runs.{handles, Run, World, collecting, swept as swept_run}
 use Rattle.rehearsal.specs.OnHeap.{heaped, collects_heap, left}
-use Rattle.rehearsal_names.specs.Names.{entries_in, named}
+use Rattle.rehearsal_names.specs.Inner.Names.{entries_in, named}
 use Rattle.rehearsal_names.proofs.Naming.{entries-handles}
 use Rattle.rehearsal_steps.specs.declared.Going.{Going}
-use Rattle.rehearsal_steps.specs.Going.{ended, going_on, ended_by, InOrder, Cleared, Goes}
-use Rattle.rehearsal_steps.specs.Steps.{collecting_in}
+use Rattle.rehearsal_steps.specs.Inner.Going.{ended, going_on, ended_by, InOrder, Cleared, Goes}
+use Rattle.rehearsal_steps.specs.Inner.Steps.{collecting_in}
 use Rattle.rehearsal_place.proofs.Answering.{apart}
 use Rattle.rehearsal_steps.proofs.Rooting.{collected-kept}
 

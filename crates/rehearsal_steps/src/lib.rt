@@ -2,12 +2,12 @@
 #![tactic(auto)]
 
 ghost use Rattle.std.specs.Prelude.{◌≡◌, ◌+◌, ◌/◌, ◌^◌, ◌<◌, length};
-ghost use Rattle.text.specs.Answer.{hex_at};
+ghost use Rattle.text.specs.Inner.Answer.{hex_at};
 ghost use Rattle.ty.specs.View.{lent as tabled};
 ghost use Rattle.heap.specs.Lent.{lent};
-ghost use Rattle.script.specs.Found.{DataThere};
-ghost use Rattle.rehearsal_steps.specs.Going.{InOrder, Short, Cleared, Goes};
-ghost use Rattle.rehearsal_steps.specs.Steps.{CanHoldMore, collecting_in, allocating_in};
+ghost use Rattle.script.specs.Inner.Found.{DataThere};
+ghost use Rattle.rehearsal_steps.specs.Inner.Going.{InOrder, Short, Cleared, Goes};
+ghost use Rattle.rehearsal_steps.specs.Inner.Steps.{CanHoldMore, collecting_in, allocating_in};
 
 use heap::Heap;
 use heap::view::View;

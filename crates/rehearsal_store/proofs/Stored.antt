@@ -30,13 +30,13 @@ use Rattle.heap_edit.proofs.Cases.{write-beyond, write_done}
 use Rattle.collection.specs.Swept.{live_size}
 use Rattle.rehearsal.specs.Runs.{Run, held_at, storing, wrote, ends}
 use Rattle.rehearsal.specs.OnHeap.{heaped, stores_heap, left}
-use Rattle.rehearsal_names.specs.Names.{named, answer_of, Names, LetGo}
+use Rattle.rehearsal_names.specs.Inner.Names.{named, answer_of, Names, LetGo}
 use Rattle.rehearsal_names.proofs.Rising.{rising-front}
 use Rattle.rehearsal_place.proofs.Answering.{is_ok as handle-is, is-refused}
 use Rattle.script.proofs.Refusing.{Numbered, free-numbered}
 use Rattle.rehearsal_steps.specs.declared.Going.{Going}
-use Rattle.rehearsal_steps.specs.Going.{ended, going_on, ended_by, InOrder, Whole, Goes}
-use Rattle.rehearsal_steps.specs.Steps.{no_types, StoresInto, after_drop, Dropped, storing_in}
+use Rattle.rehearsal_steps.specs.Inner.Going.{ended, going_on, ended_by, InOrder, Whole, Goes}
+use Rattle.rehearsal_steps.specs.Inner.Steps.{no_types, StoresInto, after_drop, Dropped, storing_in}
 use Rattle.rehearsal_steps.proofs.Sums.{size_same}
 use Rattle.rehearsal_steps.proofs.Swept.{same_number, not_done, was-done, says-refused, says-ok}
 

@@ -4,9 +4,9 @@
 ghost use Rattle.std.specs.Prelude.{◌≡◌, true};
 ghost use Rattle.heap.specs.Lent.{lent, view};
 ghost use Rattle.heap.specs.WellFormed.{well_formed};
-ghost use Rattle.rehearsal_names.specs.Names.{Names};
-ghost use Rattle.rehearsal_steps.specs.Going.{InOrder, Whole, Goes};
-ghost use Rattle.rehearsal_steps.specs.Steps.{after_drop, StoresInto, Dropped, storing_in};
+ghost use Rattle.rehearsal_names.specs.Inner.Names.{Names};
+ghost use Rattle.rehearsal_steps.specs.Inner.Going.{InOrder, Whole, Goes};
+ghost use Rattle.rehearsal_steps.specs.Inner.Steps.{after_drop, StoresInto, Dropped, storing_in};
 
 use heap::Heap;
 use heap::view::View;

@@ -1,2 +1,2 @@
 -- What a line leaves of a type table and a function.
-pub mod Kept
+pub mod Inner

@@ -56,7 +56,7 @@ fn place(x: usize) -> Result<u32, Fault> {
 }
 
 impl Function {
-    ghost use Rattle.replay_kept.specs.Kept.{SameFunction};
+    ghost use Rattle.replay_kept.specs.Inner.Kept.{SameFunction};
 
     /// A function without registers, blocks and instructions.
     pub fn new(alloc: Global) -> Function

@@ -47,7 +47,7 @@ impl FromStr for Command {
 }
 
 impl Table {
-    ghost use Rattle.replay_kept.specs.Kept.{SameTable};
+    ghost use Rattle.replay_kept.specs.Inner.Kept.{SameTable};
 
     /// A table without types.
     pub fn new(alloc: Global) -> Table

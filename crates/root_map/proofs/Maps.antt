@@ -13,12 +13,12 @@ use Rattle.word.specs.Ones.{keep, passing}
 use Rattle.word.specs.Put.{put}
 use Rattle.word.proofs.OnesLaws.{passing-append}
 use Rattle.word.proofs.PutLaws.{put-none, put_all, put_front, put_whole, length-put}
-use Rattle.rows.specs.Row.{listed}
+use Rattle.rows.specs.Inner.Row.{listed}
 use Rattle.flow.specs.Function.{safepoint}
 use Rattle.roots.specs.View.{view, formed}
 use Rattle.root_map.specs.Calls.{limits}
-use Rattle.roots.specs.Columns.{Outside, Found}
-use Rattle.root_map.specs.Columns.{row_at, points_to, live_of, Standing, Pointed, Counted, Fits, Written}
+use Rattle.roots.specs.Inner.Columns.{Outside, Found}
+use Rattle.root_map.specs.Inner.Columns.{row_at, points_to, live_of, Standing, Pointed, Counted, Fits, Written}
 use Rattle.roots.proofs.Checks.{formed-fit}
 use Rattle.roots.proofs.Scratch.{mid-length, outside_refl, outside_trans}
 use Rattle.root_map.proofs.Pointing.{found-end, standing-none, standing-next}

@@ -11,11 +11,11 @@ use lib.ListN.{length, get_or}
 use Rattle.flow.specs.Function.{Function, safepoint, end, reads, writes}
 use Rattle.flow.specs.Dataflow.{turn, back, out, live_in, live_before}
 use Rattle.roots.specs.View.{view, formed}
-use Rattle.roots.specs.Columns.{seen, cell, live_at, Outside, Fixed, Found, First, Keyed, Separate, Inside}
+use Rattle.roots.specs.Inner.Columns.{seen, cell, live_at, Outside, Fixed, Found, First, Keyed, Separate, Inside}
 use Rattle.roots.proofs.Scratch.{end-view, outside_refl, live-frame}
 use Rattle.roots.proofs.Passes.{linked-out}
 use Rattle.roots.proofs.Answers.{live-row-cells, row_listed, row-registers, found-held, found-holder, seen-holder, is-safepoint, not-safepoint, not-held}
-use Rattle.root_map.specs.Columns.{Standing, Pointed}
+use Rattle.root_map.specs.Inner.Columns.{Standing, Pointed}
 
 -- the fixpoint lies before the row that is gathered
 pub fixed_out : {f : Function} {bs s s₁ : List ℕ} {W nb : ℕ} → Fixed f bs s W nb → Outside s s₁ (nb * (3 * W)) W → Fixed f bs s₁ W nb

@@ -2,14 +2,14 @@
 #![tactic(auto)]
 
 ghost use Rattle.std.specs.Prelude.{◌≡◌, true, ◌||◌, ℕ, ◌+◌, ◌-◌, ◌*◌, ◌≤◌, ◌<◌, ltb, length, set};
-ghost use Rattle.rows.specs.Row.{listed};
+ghost use Rattle.rows.specs.Inner.Row.{listed};
 ghost use Rattle.flow.specs.Dataflow.{live_before};
 ghost use Rattle.word.specs.Put.{put};
 ghost use Rattle.refusal.specs.Told.{told};
 ghost use Rattle.root_map.specs.Calls.{LiveRefsCall};
-ghost use Rattle.roots.specs.Columns.{wanted, cell, Outside, Fixed, Found, In, Chains};
-ghost use Rattle.roots.specs.Plans.{lent, all_seen, out_row, Room};
-ghost use Rattle.root_map.specs.Plans.{StandingAt, PointedAt, CountedAt, FitsAt, WrittenAt};
+ghost use Rattle.roots.specs.Inner.Columns.{wanted, cell, Outside, Fixed, Found, In, Chains};
+ghost use Rattle.roots.specs.Inner.Plans.{lent, all_seen, out_row, Room};
+ghost use Rattle.root_map.specs.Inner.Plans.{StandingAt, PointedAt, CountedAt, FitsAt, WrittenAt};
 
 use refusal::{Refusal, Reply};
 use roots::chains::{BlockChains, NO_BLOCK};

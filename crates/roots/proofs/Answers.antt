@@ -21,8 +21,8 @@ use Rattle.word.specs.Put.{put}
 use Rattle.word.specs.Ones.{passing}
 use Rattle.refusal.specs.Told.{answered, refused_by, here, nothing}
 use Rattle.refusal.specs.declared.Answer.{Answer}
-use Rattle.rows.specs.Row.{bit_in, part, listed}
-use Rattle.rows.specs.Listing.{listing, listed_into}
+use Rattle.rows.specs.Inner.Row.{bit_in, part, listed}
+use Rattle.rows.specs.Inner.Listing.{listing, listed_into}
 use Rattle.flow.specs.Function.{Function, Block, Instruction, LiveList, holds, inst, start, end, safepoint}
 use Rattle.flow.specs.Dataflow.{back, out, live_before, holder, live_row, track}
 use Rattle.word.proofs.Bools.{either, and_both, both-and}
@@ -31,7 +31,7 @@ use Rattle.flow.proofs.Lists.{passing-same, some_at, at_some}
 use Rattle.flow.proofs.Validity.{held, holder-is, holds_parts, parts-holds, safepoint-held, row_list, map-unique}
 use Rattle.roots.specs.View.{view, formed}
 use Rattle.roots.specs.Calls.{Lent, function, right, need, after, scratch_after, registers_at, live_at_answer, LiveAtCall}
-use Rattle.roots.specs.Columns.{seen, cell, live_at, Fixed, Found}
+use Rattle.roots.specs.Inner.Columns.{seen, cell, live_at, Fixed, Found}
 use Rattle.roots.proofs.Turns.{inst-view}
 use Rattle.roots.proofs.Steps.{part-cell}
 use Rattle.roots.proofs.Forms.{formed-columns, formed-disjoint, blocks-count, block-at}

@@ -10,8 +10,8 @@ use Rattle.flow.specs.Function.{safepoint}
 use Rattle.flow.specs.Dataflow.{holder}
 use Rattle.refusal.specs.declared.Answer.{Answer}
 use Rattle.roots.specs.Calls.{Lent, need, function, LiveAtCall}
-use Rattle.roots.specs.Columns.{wanted, Found, In}
-use Rattle.roots.specs.Plans.{lent, planned, all_seen, Room}
+use Rattle.roots.specs.Inner.Columns.{wanted, Found, In}
+use Rattle.roots.specs.Inner.Plans.{lent, planned, all_seen, Room}
 use Rattle.roots.specs.declared.Code.{Code}
 use Rattle.roots.specs.declared.Tracked.{Tracked}
 use Rattle.roots.specs.declared.Plan.{Plan}

@@ -18,7 +18,7 @@ use Rattle.word.proofs.Bools.{or_left}
 use Rattle.word.specs.Lists.{tabulate}
 use Rattle.flow.proofs.Laws.{step-sound}
 use Rattle.roots.specs.View.{block_at}
-use Rattle.roots.specs.Columns.{seen, Outside, cell, live_at, one_below, Begun, Built}
+use Rattle.roots.specs.Inner.Columns.{seen, Outside, cell, live_at, one_below, Begun, Built}
 use Rattle.roots.proofs.Scratch.{block-fits, cell-before, cell-after, live_of, live-not, start-view, end-view, or-false}
 
 pub zero-cell : (s : List ℕ) (a q : ℕ) → ((i : ℕ) → a ≤ i → get_or s i 0 ≡ 0) → cell s a q ≡ false

@@ -14,7 +14,7 @@ use Rattle.std.specs.Prelude.{if◌then◌else◌}
 use Rattle.word.specs.Lists.{tabulate}
 use Rattle.flow.specs.Function.{first_at}
 use Rattle.roots.specs.View.{block_at}
-use Rattle.roots.specs.Columns.{one_below, First, Keyed, Bucketed, Chains}
+use Rattle.roots.specs.Inner.Columns.{one_below, First, Keyed, Bucketed, Chains}
 use Rattle.roots.proofs.Scratch.{Firsts, firsts-none, firsts-found, firsts-empty, firsts-other, firsts-end}
 
 bucket : (x : ℕ) → x % 4096 < 4096

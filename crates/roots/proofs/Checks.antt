@@ -21,7 +21,7 @@ use Rattle.word.proofs.ListLaws.{all-at, at_all, get_d_tabulate, below_at, at-be
 use Rattle.word.proofs.ChunkLaws.{every-at, pair-parts}
 use Rattle.flow.proofs.Validity.{apart-one, one_apart}
 use Rattle.roots.specs.View.{start_of, inst_at, view, formed}
-use Rattle.roots.specs.Columns.{Lists, In, Separate, AtMost, Inside}
+use Rattle.roots.specs.Inner.Columns.{Lists, In, Separate, AtMost, Inside}
 use Rattle.roots.proofs.Forms.{formed-parts, parts-formed, blocks-count, code-count, block-at, all-inside, inside-all}
 
 pub holds : {Q : Type 0} → Q → (true ≡ true) ↔ Q

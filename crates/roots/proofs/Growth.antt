@@ -12,7 +12,7 @@ use borrow.Rule.Slice.PartMut.{mid_len}
 use Rattle.word.specs.Ones.{keep, passing}
 use Rattle.word.proofs.BitLaws.{order}
 use Rattle.word.proofs.Bools.{or_left}
-use Rattle.rows.specs.Row.{bit_in, part, Part, Stepped, listed}
+use Rattle.rows.specs.Inner.Row.{bit_in, part, Part, Stepped, listed}
 use Rattle.rows.proofs.RowLaws.{from-word}
 use Rattle.rows.proofs.PartLaws.{bit_in-within, part-inside, part-outside}
 

@@ -12,8 +12,8 @@ use borrow.Author.Tests.{eq-eqb, eqb-true}
 use Rattle.word.specs.Bit.{bit}
 use Rattle.word.proofs.BitLaws.{bit-of-zero}
 use Rattle.word.proofs.Bools.{or_cases, or_left, or_right}
-use Rattle.rows.specs.Row.{bit_in}
-use Rattle.roots.specs.Columns.{In, Marked, Separate}
+use Rattle.rows.specs.Inner.Row.{bit_in}
+use Rattle.roots.specs.Inner.Columns.{In, Marked, Separate}
 use Rattle.roots.proofs.Passes.{zeros-at}
 use Rattle.roots.proofs.Checks.{ClearBelow, apart_of, clear-below}
 

@@ -14,7 +14,7 @@ use Rattle.word.specs.Lists.{tabulate}
 use Rattle.flow.proofs.Laws.{step-sound, Disjoint}
 use Rattle.flow.proofs.Fixpoint.{fixpoint-is}
 use Rattle.roots.specs.View.{block_at}
-use Rattle.roots.specs.Columns.{seen, Outside, cell, live_at, one_below, set_bits, Rows, Linked, Pass, Solved, Fixed}
+use Rattle.roots.specs.Inner.Columns.{seen, Outside, cell, live_at, one_below, set_bits, Rows, Linked, Pass, Solved, Fixed}
 use Rattle.roots.proofs.Scratch.{block-fits, cell-before, cell-after, live_of, live-not, live-frame}
 use Rattle.roots.proofs.Steps.{Met, bits-kept}
 

@@ -20,12 +20,12 @@ use Rattle.word.proofs.BitLaws.{bit-or, bit-of-zero}
 use Rattle.word.specs.Lists.{tabulate}
 use Rattle.word.proofs.ListLaws.{length-tabulate, get_d_tabulate}
 use Rattle.word.proofs.Bools.{both-and}
-use Rattle.rows.specs.Row.{bit_in}
+use Rattle.rows.specs.Inner.Row.{bit_in}
 use Rattle.rows.proofs.RowLaws.{or_swap as or_comm}
 use Rattle.flow.specs.Function.{Function, Instruction, Block, inst, block, start, end, existing, first_at, exits, successors}
 use Rattle.flow.specs.Dataflow.{any_of, out, track}
 use Rattle.roots.specs.View.{list_at, block_at, view}
-use Rattle.roots.specs.Columns.{seen, Columns, Outside, cell, live_at, one_below}
+use Rattle.roots.specs.Inner.Columns.{seen, Columns, Outside, cell, live_at, one_below}
 use Rattle.roots.proofs.Turns.{inst-seen, list-next}
 
 -- ---- joining rows

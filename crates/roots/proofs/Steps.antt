@@ -9,9 +9,9 @@ use native.Mathlib.Decide.{dec_lt}
 use lib.ListN.{length, get_or, take, drop, length-drop, length-take}
 use lib.Seq.{take-take, get_or-take, get_or-drop, ext_get_or}
 use Rattle.word.specs.Bit.{bit}
-use Rattle.rows.specs.Row.{bit_in, part, Part, Stepped, listed}
+use Rattle.rows.specs.Inner.Row.{bit_in, part, Part, Stepped, listed}
 use Rattle.roots.proofs.Growth.{stepped-more}
-use Rattle.roots.specs.Columns.{Outside, cell, set_bits}
+use Rattle.roots.specs.Inner.Columns.{Outside, cell, set_bits}
 
 -- bits of a part
 pub part-cell : (a W : ℕ) (s : List ℕ) (q : ℕ) → q < 64 * W → bit_in 64 (part a (a + W) s) q ≡ cell s a q

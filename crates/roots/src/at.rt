@@ -1,12 +1,12 @@
 // The registers that are live before one safepoint.
 ghost use Rattle.std.specs.Prelude.{◌≡◌, ℕ, ◌+◌, ◌-◌, ◌*◌, ◌≤◌, ◌<◌, length, get_or, take, drop, replicate, is_some, unwrap_or, IfSome};
-ghost use Rattle.rows.specs.Listing.{listing, listed_into};
+ghost use Rattle.rows.specs.Inner.Listing.{listing, listed_into};
 ghost use Rattle.flow.specs.Function.{safepoint};
 ghost use Rattle.flow.specs.Dataflow.{live_before};
 ghost use Rattle.refusal.specs.Told.{told, answered, here, nothing};
 ghost use Rattle.roots.specs.Calls.{LiveAtCall, function};
-ghost use Rattle.roots.specs.Columns.{wanted, cell, Found};
-ghost use Rattle.roots.specs.Plans.{lent, planned, all_seen, out_row, Room};
+ghost use Rattle.roots.specs.Inner.Columns.{wanted, cell, Found};
+ghost use Rattle.roots.specs.Inner.Plans.{lent, planned, all_seen, out_row, Room};
 
 use crate::check::{check_function, rows_fit};
 use crate::fixpoint::{analyse, back_at, gather};

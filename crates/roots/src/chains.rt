@@ -1,7 +1,7 @@
 // Which block starts, or ends, at an instruction: chains of the nonempty blocks by the remainder of one of their two words by 4,096. Word 0 is a block's
 // start and word 1 its end. Blocks that share no instruction of 65,536 have at most 16 starts, and 16 ends, of one remainder.
 ghost use Rattle.std.specs.Prelude.{◌+◌, ◌*◌, ◌≤◌, ◌<◌};
-ghost use Rattle.roots.specs.Columns.{First, Keyed, Chains};
+ghost use Rattle.roots.specs.Inner.Columns.{First, Keyed, Chains};
 
 use crate::Blocks;
 

@@ -2,8 +2,8 @@
 ghost use Rattle.std.specs.Prelude.{◌≡◌, true, false, ◌↔◌, ◌*◌, ◌/◌, ◌≤◌, ◌<◌, length};
 ghost use Rattle.roots.specs.View.{formed};
 ghost use Rattle.roots.specs.Calls.{need};
-ghost use Rattle.roots.specs.Plans.{lent};
-ghost use Rattle.roots.specs.Columns.{Lists, Separate, AtMost, Inside, Marked};
+ghost use Rattle.roots.specs.Inner.Plans.{lent};
+ghost use Rattle.roots.specs.Inner.Columns.{Lists, Separate, AtMost, Inside, Marked};
 
 use crate::Code;
 use crate::row::list_start;

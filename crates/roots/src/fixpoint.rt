@@ -4,8 +4,8 @@
 ghost use Rattle.std.specs.Prelude.{◌≡◌, Bool, true, false, ◌||◌, List, ℕ, ◌+◌, ◌-◌, ◌*◌, ◌≤◌, ◌<◌, length, get_or};
 ghost use Rattle.flow.specs.Function.{existing};
 ghost use Rattle.flow.specs.Dataflow.{back, killed, any_of, out};
-ghost use Rattle.roots.specs.Columns.{Outside, cell, live_at, Linked, Pass, Solved, Fixed};
-ghost use Rattle.roots.specs.Plans.{part_seen, all_seen, tested, out_row, Room, StartChains, BegunIn, BuiltIn};
+ghost use Rattle.roots.specs.Inner.Columns.{Outside, cell, live_at, Linked, Pass, Solved, Fixed};
+ghost use Rattle.roots.specs.Inner.Plans.{part_seen, all_seen, tested, out_row, Room, StartChains, BegunIn, BuiltIn};
 
 use crate::chains::{BlockChains, NO_BLOCK};
 use crate::row::{back_row, kill_row};

@@ -3,7 +3,7 @@
 
 ghost use Rattle.std.specs.Prelude.{◌≡◌, true, ◌+◌, ◌*◌, ◌/◌, ◌≤◌, length};
 ghost use Rattle.roots.specs.View.{formed};
-ghost use Rattle.roots.specs.Columns.{Lists, Columns};
+ghost use Rattle.roots.specs.Inner.Columns.{Lists, Columns};
 
 pub mod at;
 pub mod chains;
@@ -84,7 +84,7 @@ pub struct Plan<'a> {
 }
 
 impl<'a> Plan<'a> {
-    ghost use Rattle.roots.specs.Plans.{lent, planned};
+    ghost use Rattle.roots.specs.Inner.Plans.{lent, planned};
 
     // Each row has as few words as hold its bits.
     pub fn new(code: Code<'a>, which: Tracked) -> Plan<'a>

@@ -13,7 +13,7 @@ use Rattle.word.specs.Bit.{bit}
 use Rattle.word.specs.Ones.{keep, passing, ones_from}
 use Rattle.word.proofs.BitLaws.{bit-of-zero}
 use Rattle.word.proofs.OnesLaws.{passing-append}
-use Rattle.rows.specs.Row.{bit_in, listed}
+use Rattle.rows.specs.Inner.Row.{bit_in, listed}
 use Rattle.rows.proofs.Listing.{after, leftover}
 
 -- those below n

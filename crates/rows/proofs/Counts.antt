@@ -6,7 +6,7 @@ use Rattle.std.proofs.Math.Seq.{take-length}
 use Rattle.std.proofs.lemmas.List.Sums.{sum_by_more}
 use Rattle.word.specs.Ones.{passing, ones_from}
 use Rattle.word.proofs.OnesLaws.{length-ones}
-use Rattle.rows.specs.Row.{bit_in, listed}
+use Rattle.rows.specs.Inner.Row.{bit_in, listed}
 use Rattle.rows.proofs.RowLaws.{passing-word}
 
 -- the counts of the words add up to the length of the listing

@@ -14,7 +14,7 @@ use Rattle.word.specs.Ones.{keep, passing, ones_from}
 use Rattle.word.specs.Put.{put}
 use Rattle.word.proofs.OnesLaws.{passing-append, passing-ones, ones_none, ones-next, less-one-digit}
 use Rattle.word.proofs.PutLaws.{put-none, copy-turn}
-use Rattle.rows.specs.Row.{bit_in, listed}
+use Rattle.rows.specs.Inner.Row.{bit_in, listed}
 use Rattle.rows.proofs.RowLaws.{bit_in-word}
 
 -- the set bits of the words from i on

@@ -8,7 +8,7 @@ use native.Mathlib.Nat.{zero-add, suc-add, add-sub_cancel_left}
 use native.Mathlib.Omega.{arith}
 use lib.ListN.{take, drop, take-append-drop}
 use lib.Seq.{take-take, drop-drop, take-nil}
-use Rattle.rows.specs.Row.{Stepped, Part, part, Apart}
+use Rattle.rows.specs.Inner.Row.{Stepped, Part, part, Apart}
 
 drop-take : (m n : ℕ) (l : List ℕ) → drop m (take (m + n) l) ≡ take n (drop m l)
 drop-take zero n l = ap (λ (k : ℕ). take k l) (zero-add n)

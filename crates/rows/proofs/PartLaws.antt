@@ -9,7 +9,7 @@ use lib.ListN.{length, get_or, get_or-eq_default}
 use lib.Seq.{get_or-take, get_or-drop}
 use Rattle.word.specs.Bit.{bit}
 use Rattle.word.proofs.BitLaws.{bit-of-zero, order}
-use Rattle.rows.specs.Row.{bit_in, part, Part}
+use Rattle.rows.specs.Inner.Row.{bit_in, part, Part}
 use Rattle.rows.proofs.RowLaws.{bit_in-mid}
 
 -- a bit that is set is in the row

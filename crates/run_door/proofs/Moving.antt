@@ -30,7 +30,7 @@ use Rattle.heap_edit.proofs.Soundness.{resolved_live, seal-sound}
 use Rattle.object_door.specs.ObjectCalls.{recycling}
 use Rattle.object_door.proofs.Objects.{allocating-sound}
 use Rattle.script.specs.Script.{Call, alloc, take, seal, recycle as recycles, line_does, read_call, doing, and_then, run_script}
-use Rattle.script.specs.Found.{call_at, DataThere, Reads, LineRead, call_in, DataIn}
+use Rattle.script.specs.Inner.Found.{call_at, DataThere, Reads, LineRead, call_in, DataIn}
 use Rattle.script.specs.declared.AllocLine.{AllocLine}
 use Rattle.script.specs.declared.Line.{Line}
 use Rattle.script.specs.declared.Line.TheVariants.{Alloc, Take, Seal, Recycle}

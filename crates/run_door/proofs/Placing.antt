@@ -8,7 +8,7 @@ use lib.ListN.{length, take}
 use lib.Seq.{take-length}
 use Rattle.word.proofs.PutLaws.{mid-put}
 use Rattle.text.specs.Put.{Puts, put_text}
-use Rattle.text.specs.Answer.{hex_at}
+use Rattle.text.specs.Inner.Answer.{hex_at}
 use Rattle.refusal.specs.Told.{here, nothing}
 use Rattle.refusal.specs.declared.Refusal.{Refusal}
 use Rattle.refusal.specs.declared.Refusal.TheVariants.{Kind, NoRoom}
@@ -18,12 +18,12 @@ use Rattle.heap.specs.Lent.{Lent, view, slot_count, pool_size}
 use Rattle.heap.specs.Calls.{refuse, alloc_from}
 use Rattle.heap.specs.Done.{Tells}
 use Rattle.heap_calls.proofs.Allocating.{alloc-none}
-use Rattle.heap_calls.specs.Kinds.{kind_number, kind_of}
+use Rattle.heap_calls.specs.Inner.Kinds.{kind_number, kind_of}
 use Rattle.heap_calls.specs.declared.kind.ObjectKind.{ObjectKind}
 use Rattle.object_door.specs.ObjectCalls.{allocating}
 use Rattle.object_door.proofs.Objects.{refuses, found-kind, missing-kind, of-kind, no_kind}
 use Rattle.script.specs.Script.{doing}
-use Rattle.script.specs.Found.{DataThere, call_at}
+use Rattle.script.specs.Inner.Found.{DataThere, call_at}
 use Rattle.script.specs.declared.AllocLine.{AllocLine}
 use Rattle.script.proofs.Refusing.{alloc-numbered}
 use Rattle.run_door.specs.Inner.Steps.{LineEnds}

@@ -5,12 +5,12 @@
 ghost use Rattle.std.specs.Prelude.{[], ◌∷◌, ◌≡◌, ◌≤◌, ◌/◌, length};
 ghost use Rattle.std.proofs.Math.Option.{some};
 ghost use Rattle.heap.specs.Lent.{lent};
-ghost use Rattle.heap.specs.Loans.{state, Becomes, Replies};
+ghost use Rattle.heap.specs.Inner.Loans.{state, Becomes, Replies};
 ghost use Rattle.heap.specs.Calls.{seal as sealed, recycle as recycled};
 ghost use Rattle.refusal.specs.Told.{nothing};
 ghost use Rattle.door.specs.HeapCalls.{Entered, outcome_of};
 ghost use Rattle.script.specs.Script.{run_script};
-ghost use Rattle.script.specs.Found.{DataThere, call_at, DataIn, call_in};
+ghost use Rattle.script.specs.Inner.Found.{DataThere, call_at, DataIn, call_in};
 ghost use Rattle.run_door.specs.Run.{run_tests, run_call};
 ghost use Rattle.run_door.specs.Inner.Steps.{Ends};
 

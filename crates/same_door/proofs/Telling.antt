@@ -24,7 +24,7 @@ use Rattle.door.specs.HeapCalls.{test, enough, zeros, Entered, asked_of}
 use Rattle.door.specs.HeapCalls.{Entry}
 use Rattle.door.specs.HeapCalls.{ready}
 use Rattle.door.proofs.Entering.{and-holds, and-fails, and-more, holding, cleared-in, ask-refused, ask-ready, zeros-again, zeros-room}
-use Rattle.compare_heaps.specs.Compared.{compared_by, CanMark}
+use Rattle.compare_heaps.specs.Inner.Compared.{compared_by, CanMark}
 use Rattle.saves.specs.Saves.{Words, table_in, Save, save_of, words_of, save_tests, scratch_of, ordering, same_number, order_number, comparing, same_call, order_call}
 use Rattle.saves.specs.Right.{RightSame, RightOrder}
 use Rattle.saves.proofs.Turning.{ordered, by_ordering}

@@ -17,7 +17,7 @@ pub struct Given<'a> {
 
 impl<'a> Given<'a> {
     ghost use Rattle.std.specs.Prelude.{[], ◌∷◌, IfOk};
-    ghost use Rattle.heap.specs.Seen.{seen};
+    ghost use Rattle.heap.specs.Inner.Seen.{seen};
     ghost use Rattle.door.specs.HeapCalls.{Entered, heap_tests, entry_of};
     ghost use Rattle.same_door.specs.Inner.Given.{memory_of};
 

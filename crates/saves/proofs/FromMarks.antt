@@ -6,14 +6,14 @@ use mathlib.Core.List.{List, [], map, append-nil}
 use lib.ListN.{get_or, take, replicate}
 use Rattle.std.specs.Prelude.{Some, None}
 use Rattle.word.specs.Run.{run}
-use Rattle.handle.specs.Columns.{live_in}
+use Rattle.handle.specs.Inner.Columns.{live_in}
 use Rattle.heap.specs.Packing.{data_at}
 use Rattle.ty.specs.Types.{Table}
-use Rattle.trace.specs.Emit.{resolve_in}
+use Rattle.trace.specs.Inner.Emit.{resolve_in}
 use Rattle.reach.specs.Marking.{State, nothing, follow_all, drained}
 use Rattle.collection.proofs.Demand.{found_ok}
-use Rattle.mark.specs.Graph.{leads_to, shown_in, graph_in}
-use Rattle.mark.specs.Scratch.{low, state_of, Traces, seeded_from}
+use Rattle.mark.specs.Inner.Graph.{leads_to, shown_in, graph_in}
+use Rattle.mark.specs.Inner.Scratch.{low, state_of, Traces, seeded_from}
 use Rattle.mark.proofs.Inside.{resolves-in}
 use Rattle.alike.specs.Same.{Model, shown, Traceable, Slots}
 use Rattle.alike.specs.Same.{Untraceable as Stops}

@@ -3,7 +3,7 @@
 
 ghost use Rattle.std.specs.Prelude.{◌≡◌, ◌≤◌, length, drop};
 ghost use Rattle.script.specs.Script.{alloc_format, read_take, read_call, begins_call};
-ghost use Rattle.script.specs.Found.{LineRead, AllocRead};
+ghost use Rattle.script.specs.Inner.Found.{LineRead, AllocRead};
 
 // A line `alloc`: type, kind, and data that stands in hexadecimal from `from` on.
 // Kept: a line tells places in a text that goes beside it, since the calls that lines stand for are told of the text; with the text in it (`text::hex::Hex`) they would be told of each line's own.

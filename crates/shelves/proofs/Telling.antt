@@ -13,7 +13,7 @@ use Rattle.word.specs.Result.{Result, ok, refused}
 use Rattle.word.proofs.PutLaws.{take_put}
 use Rattle.text.specs.Text.{ascii}
 use Rattle.text.specs.Put.{Puts}
-use Rattle.text.specs.Wrote.{Wrote}
+use Rattle.text.specs.Inner.Wrote.{Wrote}
 use Rattle.text.specs.declared.output.Out.{Out}
 use Rattle.text.proofs.Putting.{puts-puts}
 use Rattle.figures.specs.declared.Figures.{Figures}

@@ -13,7 +13,7 @@ use Rattle.refusal.specs.declared.Refusal.{Refusal}
 use Rattle.refusal.specs.declared.Refusal.TheVariants.{NothingThere, TypeTable}
 use Rattle.refusal.specs.Told.{Reply}
 use Rattle.std.specs.Prelude.{Err}
-use Rattle.handle.specs.Columns.{live_in}
+use Rattle.handle.specs.Inner.Columns.{live_in}
 use Rattle.handle.proofs.ResolveLaws.{live-beyond, live-not, live-there}
 use Rattle.ty.specs.Types.{Table}
 use Rattle.ty.specs.View.{table_of}
@@ -21,15 +21,15 @@ use Rattle.ty.specs.Check.{table_good}
 use Rattle.heap.specs.Packing.{data_at}
 use Rattle.heap.specs.State.{slot_at, live}
 use Rattle.heap.specs.Lent.{Lent, view}
-use Rattle.heap.specs.Seen.{seen, state}
+use Rattle.heap.specs.Inner.Seen.{seen, state}
 use Rattle.heap.specs.declared.view.View.{View}
 use Rattle.trace.specs.Places.{handles_of}
 use Rattle.trace.specs.Listing.{listing, Lists, written_to}
 use Rattle.reach.specs.Reach.{Graph}
 use Rattle.collection.specs.Shown.{shown}
 use Rattle.collection.specs.Collected.{graph}
-use Rattle.mark.specs.Graph.{Fit, graph_in, shown_in}
-use Rattle.mark.specs.Objects.{Laid, laid, laid_in}
+use Rattle.mark.specs.Inner.Graph.{Fit, graph_in, shown_in}
+use Rattle.mark.specs.Inner.Objects.{Laid, laid, laid_in}
 use Rattle.mark.specs.declared.objects.Objects.{Objects}
 use Rattle.mark.proofs.Formed.{formed-fit, formed-graph}
 use Rattle.door.specs.HeapCalls.{test, heap_tests, Entered, asked}

@@ -25,7 +25,7 @@ use Rattle.ty.specs.declared.Table.{Table as Columns}
 use Rattle.ty.proofs.CountLaws.{length_types}
 use Rattle.heap.specs.State.{Slot, no_slot, slot_at}
 use Rattle.heap.specs.Lent.{Lent, slot_in, view}
-use Rattle.heap.specs.Seen.{seen, state}
+use Rattle.heap.specs.Inner.Seen.{seen, state}
 use Rattle.heap.specs.declared.view.View.{View}
 use Rattle.trace.specs.Listing.{listing, Lists}
 use Rattle.collection.specs.Shown.{shown}

@@ -6,7 +6,7 @@ ghost use Rattle.std.specs.Prelude.{◌≡◌, [], ◌∷◌, ◌<◌, length, I
 ghost use Rattle.ty.specs.View.{lent as table_in};
 ghost use Rattle.trace.specs.Listing.{listing, Lists};
 ghost use Rattle.heap.specs.Lent.{lent};
-ghost use Rattle.heap.specs.Seen.{seen, state};
+ghost use Rattle.heap.specs.Inner.Seen.{seen, state};
 ghost use Rattle.door.specs.HeapCalls.{Entered, entry_of, asked};
 ghost use Rattle.slot_door.specs.SlotHandles.{slot_handles, slot_tests, slot_call, slot_out};
 ghost use Rattle.slot_door.specs.Traceable.{fits_table, misfit, trace_call};

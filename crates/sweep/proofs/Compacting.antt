@@ -15,10 +15,10 @@ use Rattle.std.specs.Prelude.{if◌then◌else◌}
 use Rattle.word.proofs.ListLaws.{length-tabulate}
 use Rattle.word.proofs.PutLaws.{put-none, length-put, take_put, drop-put}
 use Rattle.heap.specs.Packing.{pad, flat, ends, data_at, start_of}
-use Rattle.heap.specs.Columns.{datas}
+use Rattle.heap.specs.Inner.Columns.{datas}
 use Rattle.heap.proofs.Packing.{flat-suc, length-ends, get_or-ends, start-of, end-at, data-at}
 use Rattle.heap.proofs.Splicing.{flat-mono}
-use Rattle.sweep.specs.Columns.{kept, CanCompact, Compacted, kept_size, CanSettle, Settled}
+use Rattle.sweep.specs.Inner.Columns.{kept, CanCompact, Compacted, kept_size, CanSettle, Settled}
 
 -- ---- one slot's data
 

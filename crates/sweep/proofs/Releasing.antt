@@ -25,7 +25,7 @@ use Rattle.heap.proofs.Keeping.{at_same}
 use Rattle.heap.proofs.Testing.{formed-tested}
 use Rattle.collection.specs.Swept.{goes, dropped, drop_slot, drop_slots, all_dropped}
 use Rattle.collection.proofs.Dropping.{after, after_next, after-all, after-sound, Dropping, dropping, goes-live}
-use Rattle.sweep.specs.Columns.{columns_of, dead_in, freed_in, retired_in, released_in, is_going, visited_in, CanRelease, CanVisit, CanSweep}
+use Rattle.sweep.specs.Inner.Columns.{columns_of, dead_in, freed_in, retired_in, released_in, is_going, visited_in, CanRelease, CanVisit, CanSweep}
 
 -- ---- the ways out of `release`: five entries set, and one of a list
 

@@ -18,7 +18,7 @@ use Rattle.heap.proofs.Splicing.{flat-mono}
 use Rattle.heap.proofs.Storing.{column-at}
 use Rattle.heap.proofs.Changing.{column-size}
 use Rattle.collection.specs.Swept.{live_size}
-use Rattle.sweep.specs.Columns.{one_size, sizes_in, CanSize}
+use Rattle.sweep.specs.Inner.Columns.{one_size, sizes_in, CanSize}
 
 -- ---- one slot
 

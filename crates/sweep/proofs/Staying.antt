@@ -8,7 +8,7 @@ use native.Mathlib.Numerals.{add-one}
 use native.Mathlib.Omega.{arith}
 use lib.ListN.{get_or}
 use Rattle.word.proofs.Bools.{and_both}
-use Rattle.sweep.specs.Columns.{is_going, all_stay}
+use Rattle.sweep.specs.Inner.Columns.{is_going, all_stay}
 
 -- the loop: all that were looked at stay
 pub record Staying (n : ℕ) (ks ms : List ℕ) (i : ℕ) (all : Bool) : Type 0 where

@@ -13,13 +13,13 @@ use Rattle.std.specs.Prelude.{if◌then◌else◌}
 use Rattle.word.specs.Run.{run}
 use Rattle.word.proofs.RunLaws.{run-part, lent-run, length_run}
 use Rattle.heap.specs.Packing.{pad, flat, ends}
-use Rattle.heap.specs.Columns.{datas, Packed}
+use Rattle.heap.specs.Inner.Columns.{datas, Packed}
 use Rattle.heap.specs.State.{Slot, State, no_slot, slot_at, data_of, live}
 use Rattle.heap.specs.Calls.{released, recycle}
 use Rattle.heap.specs.Lent.{Lent, columns, column, cut, lent, stored, view, header_of, slot_count, pool_size}
 use Rattle.heap.specs.Header.{set_since, set_live}
 use Rattle.heap.specs.Done.{Leaves}
-use Rattle.heap.specs.Loans.{lies}
+use Rattle.heap.specs.Inner.Loans.{lies}
 use Rattle.heap.specs.declared.view_mut.ViewMut.{ViewMut}
 use Rattle.heap.specs.declared.Heap.{Heap}
 use Rattle.heap.proofs.Sound.{Sound, WellFormed}
@@ -31,7 +31,7 @@ use Rattle.heap.proofs.Testing.{formed-tested}
 use Rattle.heap.proofs.Keeping.{leaves}
 use Rattle.collection.specs.Swept.{goes, drop_slots, all_dropped, live_size, drop_unmarked, swept}
 use Rattle.collection.proofs.Dropping.{swept_slot, dropped-none, Dropping, all-dropped, dropped-slot, all_sound, unmarked-sound}
-use Rattle.sweep.specs.Columns.{kept, CanCompact, Compacted, columns_of, CanSize, sizes_in, is_going, all_stay, CanSweep}
+use Rattle.sweep.specs.Inner.Columns.{kept, CanCompact, Compacted, columns_of, CanSize, sizes_in, is_going, all_stay, CanSweep}
 use Rattle.sweep.proofs.Compacting.{length-kept, kept_at}
 use Rattle.sweep.proofs.Sizing.{can-size, sizes-are}
 use Rattle.sweep.proofs.Staying.{stays_at}

@@ -6,9 +6,9 @@ ghost use Rattle.std.specs.Prelude.{◌≡◌, [], ◌≤◌, ◌+◌, ◌/◌, 
 ghost use Rattle.word.specs.Put.{put};
 ghost use Rattle.heap.specs.Lent.{lent, cut, view, slot_count};
 ghost use Rattle.heap.specs.Done.{Leaves};
-ghost use Rattle.heap.specs.Loans.{lies, state, Becomes};
+ghost use Rattle.heap.specs.Inner.Loans.{lies, state, Becomes};
 ghost use Rattle.collection.specs.Swept.{all_dropped, drop_unmarked, swept};
-ghost use Rattle.sweep.specs.Columns.{CanCompact, Compacted, CanSettle, Settled, columns_of, released_in, visited_in, CanRelease, CanVisit, CanSize, sizes_in, one_size, is_going, all_stay, CanSweep};
+ghost use Rattle.sweep.specs.Inner.Columns.{CanCompact, Compacted, CanSettle, Settled, columns_of, released_in, visited_in, CanRelease, CanVisit, CanSize, sizes_in, one_size, is_going, all_stay, CanSweep};
 
 use heap::Heap;
 use heap::view_mut::ViewMut;

@@ -11,7 +11,7 @@ use native.Mathlib.Numerals.{add-one}
 use native.Mathlib.Nat.{mul-le-mul_left, mul-suc}
 use Rattle.text.specs.Text.{give, read_field, read_literal}
 use Rattle.text.specs.Format.{read_all, pair, times, after_literal, All}
-use Rattle.text.specs.Answer.{value_answer}
+use Rattle.text.specs.Inner.Answer.{value_answer}
 use Rattle.text.specs.Put.{put_text, Puts}
 use Rattle.std.specs.Prelude.{Option, Some, None}
 use Rattle.text.proofs.Laws.{none-not-some, some_inj, times-right}
@@ -19,7 +19,7 @@ use Rattle.text.proofs.Getting.{suffix, answer-some, answer-none}
 use Rattle.text.proofs.Putting.{puts-puts, puts-byte, puts-at, puts_none}
 use Rattle.tables.specs.Table.{Row, name_text, up_to, read_name, name_format, row_format, rows_format}
 use Rattle.tables.specs.Lists.{numbers_in, names_in}
-use Rattle.tables.specs.Answer.{GotAll, Got}
+use Rattle.tables.specs.Inner.Answer.{GotAll, Got}
 use Rattle.tables.proofs.Laws.{num}
 use Rattle.tables.proofs.Endings.{Gathering, gather-begin, gather-next, gather-lost, gather-done, got-there, got-missing}
 use Rattle.tables.proofs.Naming.{NameFound, name-long}

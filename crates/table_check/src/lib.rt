@@ -4,7 +4,7 @@
 ghost use Rattle.std.specs.Prelude.{◌≡◌, ◌+◌, ◌-◌, ◌*◌, ◌^◌, ◌≤◌, ◌<◌, length, replicate};
 ghost use Rattle.text.specs.Text.{read_field};
 ghost use Rattle.text.specs.Put.{put_text};
-ghost use Rattle.tables.specs.Answer.{Got};
+ghost use Rattle.tables.specs.Inner.Answer.{Got};
 ghost use Rattle.tables.specs.Lists.{good};
 ghost use Rattle.table_check.specs.Inner.Found.{RowsGot, SectionGot};
 ghost use Rattle.table_check.specs.Inner.Edges.{CountsGot, BytesGot};

@@ -11,7 +11,7 @@ use Rattle.std.specs.Prelude.{if◌then◌else◌}
 use Rattle.word.specs.Result.{ok, refused}
 use Rattle.word.proofs.Bools.{and_both}
 use Rattle.text.specs.Put.{put_text}
-use Rattle.text.specs.Answer.{hex_at}
+use Rattle.text.specs.Inner.Answer.{hex_at}
 use Rattle.refusal.specs.Told.{number_of, refused_by, told}
 use Rattle.refusal.specs.declared.Answer.{Answer}
 use Rattle.std.specs.Prelude.{Ok, Err}

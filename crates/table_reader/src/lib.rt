@@ -5,7 +5,7 @@ ghost use Rattle.std.specs.Prelude.{◌≡◌, ◌+◌, ◌-◌, ◌*◌, ◌≤
 ghost use Rattle.refusal.specs.declared.Refusal.TheVariants.{ShortList};
 ghost use Rattle.text.specs.Text.{read_field};
 ghost use Rattle.text.specs.Put.{put_text};
-ghost use Rattle.tables.specs.Answer.{Got};
+ghost use Rattle.tables.specs.Inner.Answer.{Got};
 ghost use Rattle.tables.specs.Lists.{numbers_in, names_in, all_names};
 ghost use Rattle.table_check.specs.Inner.Parsing.{table_of, Sectioned};
 ghost use Rattle.table_reader.specs.Inner.Ready.{rows_at, NamesReady};

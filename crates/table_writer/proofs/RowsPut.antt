@@ -14,7 +14,7 @@ use Rattle.text.proofs.Laws.{none-not-some}
 use Rattle.text.proofs.Putting.{puts-puts, puts-at, puts_none}
 use Rattle.tables.specs.Table.{read_name, field, row_line}
 use Rattle.tables.specs.Lists.{rows_of}
-use Rattle.tables.specs.Answer.{names_at, RowsReady}
+use Rattle.tables.specs.Inner.Answer.{names_at, RowsReady}
 use Rattle.tables.proofs.Endings.{Gathering, gather-begin, gather-next, gather-lost, gather-done, gather-prefix}
 use Rattle.tables.proofs.Naming.{NameFound, name-part}
 use Rattle.tables.proofs.Rowing.{rows_snoc, rows-room}

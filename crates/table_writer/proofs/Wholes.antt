@@ -25,10 +25,10 @@ use Rattle.refusal.specs.Told.{told}
 use Rattle.refusal.specs.declared.Refusal.TheVariants.{ShortList, TypeTable, Page}
 use Rattle.std.specs.Prelude.{Ok, Err}
 use Rattle.tables.specs.Lists.{Names, names_format, rows_of, with_names, named_in}
-use Rattle.tables.specs.Answer.{GotAll, names_at}
+use Rattle.tables.specs.Inner.Answer.{GotAll, names_at}
 use Rattle.tables.proofs.Laws.{name-right}
 use Rattle.tables.proofs.Rowing.{flat_append}
-use Rattle.table_writer.specs.Parts.{NamesFound, NamesGot, named, rest_length, Ready}
+use Rattle.table_writer.specs.Inner.Parts.{NamesFound, NamesGot, named, rest_length, Ready}
 use Rattle.table_writer.specs.Writing.{table_in, writing, leaving, TableWritten}
 use Rattle.table_writer.specs.declared.NamesRead.{NamesRead}
 use Rattle.table_writer.proofs.RowsPut.{names-are}

@@ -1,3 +1,3 @@
 -- The definitions that the writer's contracts cite.
 pub mod Writing
-pub mod Parts
+pub mod Inner

@@ -3,12 +3,12 @@
 
 ghost use Rattle.std.specs.Prelude.{◌≡◌, ◌+◌, ◌-◌, ◌*◌, ◌/◌, ◌≤◌, ◌<◌, length, leb};
 ghost use mathlib.Core.List.{[], ◌∷◌, ◌++◌, flat_map};
-ghost use Rattle.text.specs.Wrote.{Wrote};
+ghost use Rattle.text.specs.Inner.Wrote.{Wrote};
 ghost use Rattle.text.specs.Text.{decimal, hex};
 ghost use Rattle.tables.specs.Table.{field, row_line, counts_line, count_names, bytes_name, table_text};
 ghost use Rattle.tables.specs.Lists.{rows_of};
-ghost use Rattle.tables.specs.Answer.{names_at, RowsReady};
-ghost use Rattle.table_writer.specs.Parts.{NamesGot, named, rest_length, Ready};
+ghost use Rattle.tables.specs.Inner.Answer.{names_at, RowsReady};
+ghost use Rattle.table_writer.specs.Inner.Parts.{NamesGot, named, rest_length, Ready};
 ghost use Rattle.table_writer.specs.Writing.{table_in, TableWritten};
 
 use pages::Listed;

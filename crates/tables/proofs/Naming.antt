@@ -14,7 +14,7 @@ use Rattle.std.specs.Prelude.{Option, Some, None}
 use Rattle.tables.specs.Table.{plain, Plain, name_text, name_format, read_name}
 use Rattle.tables.proofs.Laws.{name-right}
 use Rattle.tables.proofs.Endings.{found}
-use Rattle.tables.specs.Answer.{ending}
+use Rattle.tables.specs.Inner.Answer.{ending}
 
 name-step-ending : (len b : ℕ) (o : maybe.Option (List ℕ × List ℕ)) → ending len (o >>= λ r. give (b ∷ r.0) r.1) ≡ ending len o
 name-step-ending len b none = refl

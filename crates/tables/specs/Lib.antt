@@ -1,4 +1,4 @@
 -- A type table as text.
 pub mod Table
 pub mod Lists
-pub mod Answer
+pub mod Inner

@@ -3,7 +3,7 @@
 
 ghost use Rattle.std.specs.Prelude.{◌≡◌, ◌+◌, ◌-◌, ◌≤◌, ◌<◌, length, drop};
 ghost use Rattle.tables.specs.Table.{read_name};
-ghost use Rattle.tables.specs.Answer.{ending, Got};
+ghost use Rattle.tables.specs.Inner.Answer.{ending, Got};
 
 // Where a name and the line's end after it end, from `at` on.
 pub fn get_name(s: &[u8], at: usize) -> Option<usize>

@@ -7,7 +7,7 @@ use lib.Seq.{get_or-drop}
 use native.Mathlib.Omega.{arith}
 use Rattle.text.specs.Text.{Bytes, hex, hex_digit, hex_digit_of, newline, read_hex, give}
 use mathlib.Core.Option.{Option, none, some}
-use Rattle.text.specs.Answer.{hex_at, HexParsed, HexDigit}
+use Rattle.text.specs.Inner.Answer.{hex_at, HexParsed, HexDigit}
 use Rattle.text.proofs.Laws.{none-not-some, some_inj, hex-digit-forth, hex-back, hex-length}
 
 byte_at : (bs : List ℕ) (i : ℕ) → Bytes bs → i < length bs → get_or bs i 0 < 256

@@ -6,7 +6,7 @@ use lib.ListN.{length, length-append}
 use native.Mathlib.Omega.{arith}
 use Rattle.text.specs.Put.{Puts}
 use Rattle.text.proofs.Putting.{puts-puts, puts-at, puts_none, puts-length}
-use Rattle.text.specs.Wrote.{Wrote}
+use Rattle.text.specs.Inner.Wrote.{Wrote}
 use Rattle.text.specs.declared.output.Out.{Out}
 
 -- x is written, and there is room for the rest

@@ -2,7 +2,7 @@
 ghost use Rattle.std.specs.Prelude.{◌≡◌, ◌≢◌, ◌+◌, ◌≤◌, ◌<◌, length, drop, get_or};
 ghost use Rattle.std.proofs.Math.Option.{none};
 ghost use Rattle.text.specs.Text.{read_hex};
-ghost use Rattle.text.specs.Answer.{hex_at};
+ghost use Rattle.text.specs.Inner.Answer.{hex_at};
 ghost use Rattle.text.specs.Put.{Puts};
 
 // A text, where it begins to spell bytes, and how many they are.

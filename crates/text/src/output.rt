@@ -2,7 +2,7 @@
 ghost use Rattle.std.specs.Prelude.{◌+◌, ◌≤◌, length};
 ghost use mathlib.Core.List.{[], ◌∷◌, ◌++◌};
 ghost use Rattle.text.specs.Text.{decimal, hex};
-ghost use Rattle.text.specs.Wrote.{Wrote};
+ghost use Rattle.text.specs.Inner.Wrote.{Wrote};
 
 // The page, and how far it is written.
 #[derive(Drop)]

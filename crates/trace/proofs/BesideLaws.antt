@@ -12,7 +12,7 @@ use Rattle.beside.specs.Inner.Ranks.{place_in}
 use Rattle.beside.specs.Inner.Found.{codes_of}
 use Rattle.beside.proofs.Codings.{beside-found}
 use Rattle.trace.specs.Places.{Places}
-use Rattle.trace.specs.Emit.{Answer, Raw, raw_of, compared, handed, handed_all, handing_at, told}
+use Rattle.trace.specs.Inner.Emit.{Answer, Raw, raw_of, compared, handed, handed_all, handing_at, told}
 use Rattle.trace.proofs.Emits.{ok-inj}
 
 module _ (R R' : ℕ → Result ℕ) (ow other v work : List ℕ) where

@@ -16,11 +16,11 @@ use Rattle.handle.specs.Handle.{told as resolved}
 use Rattle.std.specs.Prelude.{Result as Outcome, Ok, Err}
 use Rattle.refusal.specs.declared.Refusal.{Refusal}
 use Rattle.trace.specs.Places.{Places, only_if, both, many, turns, handle_at, words_at}
-use Rattle.trace.specs.Walk.{Stepped}
+use Rattle.trace.specs.Inner.Walk.{Stepped}
 use Rattle.beside.specs.declared.Met.{Met}
 use Rattle.beside.specs.Inner.Ranks.{place_in}
 use Rattle.beside.specs.Inner.Found.{found_at}
-use Rattle.trace.specs.Emit.{Answer, Raw, raw_of, Into, into, slots_resolve, over, queued, queued_if, emitted_by, emitted, emit_all, emitting, Aim, words_to, aim, other_of, handed, handed_all, handing_at, told}
+use Rattle.trace.specs.Inner.Emit.{Answer, Raw, raw_of, Into, into, slots_resolve, over, queued, queued_if, emitted_by, emitted, emit_all, emitting, Aim, words_to, aim, other_of, handed, handed_all, handing_at, told}
 use Rattle.trace.specs.declared.Sink.{Sink}
 use Rattle.trace.specs.declared.Sink.TheVariants.{Check, List as ToList, Work}
 use Rattle.trace.specs.declared.Goal.{Goal}

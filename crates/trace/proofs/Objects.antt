@@ -15,7 +15,7 @@ use Rattle.ty.specs.declared.Table.{Table as Lent}
 use Rattle.ty.specs.View.{lent, types_of}
 use Rattle.word.proofs.ListLaws.{rest}
 use Rattle.trace.specs.Places.{places_at, object_places, rising, handles_places, kind_places, shown_places, value_handles, object_handles}
-use Rattle.trace.specs.Emit.{Answer, Raw, Into, emitting, Aim, words_to, compared, handed, handed_all, handing_at, told}
+use Rattle.trace.specs.Inner.Emit.{Answer, Raw, Into, emitting, Aim, words_to, compared, handed, handed_all, handing_at, told}
 use Rattle.trace.proofs.Emits.{emit-none, emit-nil, words-at}
 
 -- ---- a part of the data, and as much of the data beside

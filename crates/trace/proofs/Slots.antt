@@ -8,7 +8,7 @@ use Rattle.word.specs.Result.{Result, ok}
 use Rattle.ty.specs.Types.{Table}
 use Rattle.word.proofs.ListLaws.{rest}
 use Rattle.trace.specs.Places.{object_places, handles_places, kind_places, handle_at, words_at, object_handles, handles_of}
-use Rattle.trace.specs.Emit.{Answer, Raw, Into, emit_all, emitting, told}
+use Rattle.trace.specs.Inner.Emit.{Answer, Raw, Into, emit_all, emitting, told}
 
 -- ---- a slot
 

@@ -15,7 +15,7 @@ use Rattle.ty.specs.Words.{word_of, on_word, round_up, Word}
 use Rattle.layout.specs.Layout.{Lay, Dims, on_ok, dims_of, under, used_by, end_of, array_of, record_of, layout_at, layout_of}
 use Rattle.ty.specs.Walks.{has_handles, handles_by, handles_at}
 use Rattle.ty.specs.View.{read_ty, read_entry, entry_at, fields_from, part_at, read_part, types_of, consts_of, lent}
-use Rattle.layout.specs.Lent.{scalar_part}
+use Rattle.layout.specs.Inner.Lent.{scalar_part}
 use Rattle.layout.specs.Offsets.{offsets_from, offsets_of, fields_of}
 use Rattle.refusal.specs.declared.Refusal.{Refusal}
 use Rattle.layout.specs.declared.Layout.{Layout}
@@ -28,12 +28,12 @@ use Rattle.ty.proofs.WalkLaws.{fields-first, fields-last, fields-next}
 use Rattle.word.proofs.ListLaws.{rest}
 use Rattle.layout.proofs.LayLaws.{below-scalar, in_array as lay-array, in-record as lay-record}
 use Rattle.trace.specs.Places.{Places, Below, only_if, both, many, turns, if_laid, if_bytes, part_places, places_by, places_at}
-use Rattle.trace.specs.Walk.{leaf_of, part_leaf, placed_after, field_at, if_placed, walk, Looked}
+use Rattle.trace.specs.Inner.Walk.{leaf_of, part_leaf, placed_after, field_at, if_placed, walk, Looked}
 use Rattle.trace.specs.declared.tracer.Leaf.{Leaf}
 use Rattle.trace.specs.declared.tracer.Leaf.TheVariants.{Own, Free, Deep}
 use Rattle.word.specs.Result.{Result, ok, refused}
 use Rattle.std.proofs.lemmas.Bool.{false≢true}
-use Rattle.trace.specs.Emit.{Answer, Raw, raw_of, Aim, handing_at, told}
+use Rattle.trace.specs.Inner.Emit.{Answer, Raw, raw_of, Aim, handing_at, told}
 use Rattle.trace.specs.declared.tracer.Placed.{Placed}
 use Rattle.trace.proofs.Emits.{then_some, then-none, emit-none, emit-nil, told-traced, told-untraceable, many-end, many-ext, many-none, many-one}
 use Rattle.trace.proofs.Walks.{walk_is}

@@ -15,7 +15,7 @@ use Rattle.layout.specs.Offsets.{if_laid as offsets_if, offsets_from}
 use Rattle.refusal.specs.declared.Refusal.TheVariants.{TooLarge}
 use Rattle.layout.specs.declared.Layout.{Layout}
 use Rattle.trace.specs.Places.{Places, Below, only_if, both, if_laid, part_places, field_desc, field_places}
-use Rattle.trace.specs.Walk.{field_at, if_placed, walk}
+use Rattle.trace.specs.Inner.Walk.{field_at, if_placed, walk}
 use Rattle.trace.specs.declared.tracer.Placed.{Placed}
 use Rattle.trace.proofs.DescLaws.{used-is}
 

@@ -3,7 +3,7 @@ ghost use Rattle.std.specs.Prelude.{◌≡◌, ℕ, List, length};
 ghost use Rattle.std.proofs.Math.Option.{Option};
 ghost use Rattle.ty.specs.View.{lent};
 ghost use Rattle.trace.specs.Places.{value_handles, object_handles, handles_of};
-ghost use Rattle.trace.specs.Emit.{raw_of, into, slots_resolve, emitting, told};
+ghost use Rattle.trace.specs.Inner.Emit.{raw_of, into, slots_resolve, emitting, told};
 ghost use Rattle.trace.specs.Listing.{listing, Lists};
 
 use crate::{Sink, trace_object, trace_slot, trace_value};

@@ -3,10 +3,10 @@ ghost use Rattle.std.specs.Prelude.{ℕ, Some, ◌≡◌, ◌≤◌, ◌+◌, �
 ghost use Rattle.std.proofs.Math.Option.{some};
 ghost use Rattle.ty.specs.View.{lent};
 ghost use Rattle.ty.specs.Walks.{has_handles};
-ghost use Rattle.layout.specs.Lent.{part_laid};
+ghost use Rattle.layout.specs.Inner.Lent.{part_laid};
 ghost use Rattle.trace.specs.Places.{only_if, turns, object_places, handles_places, kind_places};
-ghost use Rattle.trace.specs.Walk.{Stepped, Looked, part_leaf, placed_after, field_at, type_places, below_places, elem_places, parts_places, array_places, record_places, records_places};
-ghost use Rattle.trace.specs.Emit.{raw_of, other_of, handed, handed_all, handing_at, told};
+ghost use Rattle.trace.specs.Inner.Walk.{Stepped, Looked, part_leaf, placed_after, field_at, type_places, below_places, elem_places, parts_places, array_places, record_places, records_places};
+ghost use Rattle.trace.specs.Inner.Emit.{raw_of, other_of, handed, handed_all, handing_at, told};
 
 use crate::{Goal, emit};
 use beside::Met;
@@ -113,7 +113,7 @@ pub struct Tracer<'t, 's, 'd> {
 }
 
 impl Tracer<'_, '_, '_> {
-    ghost use Rattle.trace.specs.Traced.{aimed};
+    ghost use Rattle.trace.specs.Inner.Traced.{aimed};
 
     // The eight bytes at a place, to the goal.
     fn hand(&self, at: usize, marks: &mut [u8], to: &mut [u64], n: usize) -> usize

@@ -12,7 +12,7 @@ use Rattle.std.specs.Prelude.{Some, None}
 use Rattle.ty.specs.Types.{Ty, Ty.missing, Ty.int, Ty.physical, Ty.enum, Ty.real, Ty.array, Ty.fields, Ty.access, Ty.file, Ty.protected, Field, Field.field, type_at}
 use Rattle.ty.specs.Walks.{unfold_fields, unfold_by, unfold_at}
 use Rattle.ty.specs.View.{read_entry, read_ty, entry_at, fields_from, types_of}
-use Rattle.ty.specs.Bounds.{bound_in, bound_fields, bound_by}
+use Rattle.ty.specs.Inner.Bounds.{bound_in, bound_fields, bound_by}
 use Rattle.ty.specs.declared.Entry.{Entry}
 use Rattle.ty.specs.declared.Entry.TheVariants.{Int, Physical, Enum, Real, Array, Record, Access, File, Protected}
 use Rattle.ty.proofs.Lookup.{le-or-lt, type-at}

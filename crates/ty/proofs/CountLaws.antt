@@ -20,7 +20,7 @@ use Rattle.ty.specs.Types.{Ty, Ty.missing, Ty.int, Ty.physical, Ty.enum, Ty.real
 use Rattle.ty.specs.Walks.{unfold_fields, unfold_by, unfold_at}
 use Rattle.ty.specs.View.{read_entry, read_ty, entry_at, fields_from, types_of}
 use Rattle.ty.specs.Check.{small_at}
-use Rattle.ty.specs.Counts.{count_in, Capped, field_sum, field_sums, next_count, next_counts, counts_at, small_in, Small}
+use Rattle.ty.specs.Inner.Counts.{count_in, Capped, field_sum, field_sums, next_count, next_counts, counts_at, small_in, Small}
 use Rattle.ty.specs.declared.Entry.{Entry}
 use Rattle.ty.specs.declared.Entry.TheVariants.{Int, Physical, Enum, Real, Array, Record, Access, File, Protected}
 use Rattle.ty.proofs.Lookup.{le-or-lt, type-at}

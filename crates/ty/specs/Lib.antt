@@ -5,5 +5,4 @@ pub mod Scalars
 pub mod View
 pub mod Walks
 pub mod Check
-pub mod Counts
-pub mod Bounds
+pub mod Inner

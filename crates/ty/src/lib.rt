@@ -9,8 +9,8 @@ ghost use Rattle.ty.specs.Scalars.{scalar_size, elem_size, logic_leaf};
 ghost use Rattle.ty.specs.Walks.{desc_array, desc_fields, desc_at, desc_size, any_field, handles_at, has_handles};
 ghost use Rattle.word.specs.Lists.{all_below};
 ghost use Rattle.ty.specs.Check.{good_type, good_type_at, good_const, good_const_at, small_at, table_good};
-ghost use Rattle.ty.specs.Bounds.{bound_in, bound_fields, bound_by};
-ghost use Rattle.ty.specs.Counts.{count_in, Capped, Fitting, Scratch, Small, field_sums, next_count, next_counts, counts_at};
+ghost use Rattle.ty.specs.Inner.Bounds.{bound_in, bound_fields, bound_by};
+ghost use Rattle.ty.specs.Inner.Counts.{count_in, Capped, Fitting, Scratch, Small, field_sums, next_count, next_counts, counts_at};
 ghost use Rattle.ty.specs.View.{entry_at, entry_of, fields_of, part_at, fields_from, types_of, bare};
 
 // A type table as it is lent: four words a type, two a field, three a constant, and the constants' plain bytes.

@@ -11,7 +11,7 @@ use Rattle.std.specs.Prelude.{Option as Maybe, Some, None}
 use Rattle.word.proofs.ListLaws.{drop-cons-one}
 use Rattle.reach.specs.Reach.{Graph}
 use Rattle.mark.specs.declared.queue.Queue.{Queue}
-use Rattle.mark.specs.Queues.{IsReady, SameLoans, counted}
+use Rattle.mark.specs.Inner.Queues.{IsReady, SameLoans, counted}
 use Rattle.mark.proofs.States.{same-again, then-same}
 use Rattle.wanted.specs.Search.{Going, and_then, meeting, upward, again, downward}
 use Rattle.wanted_door.specs.Inner.Picking.{going_in, Goes, GoesTo}

@@ -13,12 +13,12 @@ use Rattle.std.specs.Prelude.{Some, None}
 use Rattle.word.specs.Run.{run}
 use Rattle.word.proofs.Bools.{and_both}
 use Rattle.word.proofs.RunLaws.{run-get}
-use Rattle.handle.specs.Columns.{live_in}
+use Rattle.handle.specs.Inner.Columns.{live_in}
 use Rattle.heap.proofs.Storing.{map-set}
-use Rattle.trace.specs.Emit.{Answer, raw_of, queued}
+use Rattle.trace.specs.Inner.Emit.{Answer, raw_of, queued}
 use Rattle.reach.specs.Reach.{Graph}
 use Rattle.reach.specs.Marking.{State, Good, visit, drained}
-use Rattle.mark.specs.Scratch.{low, high, state_of, Scratch, Holds, Traces, NotedBy}
+use Rattle.mark.specs.Inner.Scratch.{low, high, state_of, Scratch, Holds, Traces, NotedBy}
 use Rattle.mark.proofs.Bridge.{queue-met, pin-noted}
 use Rattle.mark.proofs.Draining.{queue-length}
 use Rattle.wanted.specs.Search.{Going, noted, meeting, again}

@@ -27,9 +27,9 @@ use Rattle.reach.specs.Reach.{Graph, Starts, ◌∈◌}
 use Rattle.reach.proofs.Grown.{∈-index}
 use Rattle.collection.specs.Shown.{shown}
 use Rattle.collection.specs.Collected.{graph, starts}
-use Rattle.mark.specs.Graph.{Fit, graph_in}
-use Rattle.mark.specs.Scratch.{high}
-use Rattle.mark.specs.Told.{starts_of, Ready}
+use Rattle.mark.specs.Inner.Graph.{Fit, graph_in}
+use Rattle.mark.specs.Inner.Scratch.{high}
+use Rattle.mark.specs.Inner.Told.{starts_of, Ready}
 use Rattle.mark.proofs.Draining.{first-clear}
 use Rattle.mark.proofs.Formed.{formed-fit, formed-few, formed-count, formed-graph, generation-same}
 use Rattle.wanted.specs.Way.{those}

@@ -7,15 +7,15 @@ use mathlib.Core.List.{List, [], map}
 use lib.ListN.{length, get_or, replicate, length-replicate}
 use lib.Dec.{eqb}
 use native.Mathlib.Omega.{arith}
-use Rattle.trace.specs.Emit.{Answer}
+use Rattle.trace.specs.Inner.Emit.{Answer}
 use Rattle.std.specs.Prelude.{Option as Maybe, Some, None, if◌then◌else◌}
 use Rattle.std.specs.Prelude.{is_some}
 use Rattle.reach.specs.Reach.{Graph}
 use Rattle.reach.specs.Marking.{State, drained, marking}
-use Rattle.mark.specs.Scratch.{high, state_of, Scratch, Traces, NotedBy, seeded_from}
+use Rattle.mark.specs.Inner.Scratch.{high, state_of, Scratch, Traces, NotedBy, seeded_from}
 use Rattle.mark.specs.declared.queue.Queue.{Queue}
-use Rattle.mark.specs.Queues.{counted}
-use Rattle.mark.specs.Told.{starts_of}
+use Rattle.mark.specs.Inner.Queues.{counted}
+use Rattle.mark.specs.Inner.Told.{starts_of}
 use Rattle.mark.proofs.States.{scratch-start}
 use Rattle.mark.proofs.Draining.{queue-length}
 use Rattle.wanted.specs.Search.{Going, going, noting, and_then, upward, downward, as_many, firstly, secondly, notes_of, searched_by, searched}

@@ -5,10 +5,10 @@
 ghost use Rattle.std.specs.Prelude.{◌≡◌, [], ◌∷◌, map, length, IfOk};
 ghost use Rattle.ty.specs.View.{lent as table_in};
 ghost use Rattle.heap.specs.Lent.{lent};
-ghost use Rattle.heap.specs.Seen.{seen, state};
+ghost use Rattle.heap.specs.Inner.Seen.{seen, state};
 ghost use Rattle.trace.specs.Listing.{Lists};
 ghost use Rattle.door.specs.HeapCalls.{Entered, entry_of, asked};
-ghost use Rattle.mark.specs.Scratch.{high};
+ghost use Rattle.mark.specs.Inner.Scratch.{high};
 ghost use Rattle.wanted.specs.Search.{noted};
 ghost use Rattle.wanted.specs.Way.{those};
 ghost use Rattle.wanted_door.specs.Inner.Listing.{CanName, CanSearch, named_in};

@@ -1,6 +1,6 @@
 // The roots that were picked: counted, and their handles written.
 ghost use Rattle.std.specs.Prelude.{◌≡◌, map, ◌≤◌, ◌<◌, length};
-ghost use Rattle.mark.specs.Scratch.{high};
+ghost use Rattle.mark.specs.Inner.Scratch.{high};
 ghost use Rattle.word.specs.Put.{put};
 ghost use Rattle.wanted.specs.Search.{noted};
 ghost use Rattle.wanted.specs.Way.{those};

@@ -18,11 +18,11 @@ pub struct Search<'a> {
 
 impl Search<'_> {
     ghost use Rattle.std.specs.Prelude.{◌≡◌, true, map, ◌<◌, length};
-    ghost use Rattle.mark.specs.Objects.{lives};
-    ghost use Rattle.mark.specs.Scratch.{high};
+    ghost use Rattle.mark.specs.Inner.Objects.{lives};
+    ghost use Rattle.mark.specs.Inner.Scratch.{high};
     ghost use Rattle.wanted.specs.Search as search;
     ghost use Rattle.wanted.specs.Search.{meeting, upward, downward, firstly, secondly, notes_of, searched};
-    ghost use Rattle.mark.specs.Queues.{IsReady};
+    ghost use Rattle.mark.specs.Inner.Queues.{IsReady};
     ghost use Rattle.wanted_door.specs.Inner.Picking.{going_in, GoesTo, notes_if, Inside, Room, Clear};
     ghost use Rattle.wanted_door.specs.Inner.Searching.{graph, held, slots};
 

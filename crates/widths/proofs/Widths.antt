@@ -19,7 +19,7 @@ use Rattle.heap.specs.Lent.{Lent, slot_in, stored, view, slot_count, pool_size}
 use Rattle.heap.specs.WellFormed.{sound, fits, same_lent, well_formed}
 use Rattle.pages.specs.Form.{written}
 use Rattle.pages.specs.Page.{SlotWithin, Within, page_text}
-use Rattle.pages.specs.Columns.{Ready}
+use Rattle.pages.specs.Inner.Columns.{Ready}
 use Rattle.pages.proofs.Ready.{ready}
 use Rattle.pages.proofs.Bound.{page-length}
 use Rattle.widths.specs.Words.{Entries, Words}

@@ -2,7 +2,7 @@
 // read and its target blocks end in `refs`; `blocks`, start and end of each; `classes`, one a register.
 ghost use Rattle.std.specs.Prelude.{◌≡◌};
 ghost use Rattle.roots.specs.Calls.{LiveAtCall};
-ghost use Rattle.roots.specs.Columns.{wanted};
+ghost use Rattle.roots.specs.Inner.Columns.{wanted};
 ghost use Rattle.root_map.specs.Calls.{LiveRefsCall};
 ghost use Rattle.yexwalu.specs.Live.{asked};
 

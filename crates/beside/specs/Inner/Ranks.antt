@@ -9,8 +9,8 @@ use Rattle.alike.specs.Inner.ByTurns.{◌and_then◌}
 use Rattle.beside.specs.declared.Met.{Met}
 use Rattle.beside.specs.declared.Place.{Place}
 use Rattle.beside.specs.declared.Place.TheVariants.{Unresolved, Turn}
-unfoldable pub use Rattle.handle.specs.Columns.{resolve_in}
-pub use Rattle.handle.specs.Columns.{Runs}
+unfoldable pub use Rattle.handle.specs.Inner.Columns.{resolve_in}
+pub use Rattle.handle.specs.Inner.Columns.{Runs}
 
 -- a handle by what it resolves to, as two numbers: whether it resolves, and the turn of the slot or the 64 bits
 abbrev pub rank_of : Result ℕ → ℕ

@@ -1,6 +1,6 @@
 -- `collect::sweep_after` meets its contract.
 use mathlib.Core.Path.{refl}
-use Rattle.heap.specs.Loans.{lies}
+use Rattle.heap.specs.Inner.Loans.{lies}
 use Rattle.collect.proofs.Collecting.{finish-stuck, finish-done}
 use Rattle.collect.proofs.sweep_after.Goals as goal
 

@@ -1,6 +1,6 @@
 -- `heap::splice` meets its contract: what the move, the copy, the zeros and the shifted ends come to is the pool packed again.
 use Rattle.std.proofs.Common.{length, get_or, arith}
-use Rattle.heap.specs.Columns.{datas}
+use Rattle.heap.specs.Inner.Columns.{datas}
 use Rattle.heap.proofs.Splicing.{Marks, marks, splice-whole}
 use Rattle.heap.proofs.splice.Goals as goal
 use Rattle.heap.proofs.splice.Goals.{After-begins-e}

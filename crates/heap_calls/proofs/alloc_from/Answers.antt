@@ -1,9 +1,9 @@
 -- `heap_calls::alloc_from` meets its contract: by its four ways out.
 use Rattle.std.proofs.Common.{refl}
-use Rattle.heap.specs.Loans.{lies}
+use Rattle.heap.specs.Inner.Loans.{lies}
 use Rattle.heap.proofs.Carrying.{room-there}
 use Rattle.heap_calls.proofs.Allocating.{none-does, alloc-can, free-does, grow-does, full-does}
-use Rattle.heap_calls.specs.Kinds.{kind_number}
+use Rattle.heap_calls.specs.Inner.Kinds.{kind_number}
 use Rattle.heap_calls.proofs.KindLaws.{kind-low, kind-high}
 use Rattle.heap_calls.proofs.alloc_from.Goals as goal
 

@@ -1,7 +1,7 @@
 -- `heap_calls::free` meets its contract: by what the handle resolves to.
 use Rattle.std.proofs.Common.{refl}
 use Rattle.std.proofs.lemmas.Result.{err_from_is_err_and}
-use Rattle.heap.specs.Loans.{lies}
+use Rattle.heap.specs.Inner.Loans.{lies}
 use Rattle.heap.proofs.Carrying.{resolved-there}
 use Rattle.heap_calls.proofs.Taking.{resolved-alive, free-unfound, free-at}
 use Rattle.heap_calls.proofs.free.Goals as goal

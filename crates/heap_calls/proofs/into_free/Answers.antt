@@ -2,7 +2,7 @@
 use native.Mathlib.Omega.{arith}
 use mathlib.Core.Path.{refl}
 use Rattle.heap_calls.proofs.Lending.{lengths, into-free-can, into-free-out}
-use Rattle.heap_calls.specs.Kinds.{kind_number}
+use Rattle.heap_calls.specs.Inner.Kinds.{kind_number}
 use Rattle.heap_calls.proofs.into_free.Goals as goal
 
 pub overflow_add-at : goal.overflow_add-at

@@ -2,7 +2,7 @@
 use native.Mathlib.Omega.{arith}
 use mathlib.Core.Path.{refl}
 use Rattle.heap_calls.proofs.Lending.{lengths, into-new-can, into-new-out}
-use Rattle.heap_calls.specs.Kinds.{kind_number}
+use Rattle.heap_calls.specs.Inner.Kinds.{kind_number}
 use Rattle.heap_calls.proofs.into_new.Goals as goal
 
 pub start_of-used-requires : goal.start_of-used-requires

@@ -1,6 +1,6 @@
 -- `heap_calls::put_away` meets its contract: the change is logged, the index pushed and the slot emptied.
 use native.Mathlib.Omega.{arith}
-use Rattle.heap.specs.Loans.{lies}
+use Rattle.heap.specs.Inner.Loans.{lies}
 use mathlib.Core.Path.{refl}
 use Rattle.heap_calls.proofs.Taking.{there}
 use Rattle.heap_calls.proofs.Lending.{put-away-can, put-away-out}

@@ -1,6 +1,6 @@
 -- `heap_calls::take_slot` meets its contract: by its two ways out.
 use Rattle.std.proofs.Common.{length, refl, ap, arith}
-use Rattle.heap.specs.Loans.{lies}
+use Rattle.heap.specs.Inner.Loans.{lies}
 use Rattle.heap.proofs.Carrying.{alive-there, bytes-there, start-there}
 use Rattle.heap_calls.proofs.Taking.{slot-short, slot-taken}
 use Rattle.heap_calls.proofs.take_slot.Goals as goal

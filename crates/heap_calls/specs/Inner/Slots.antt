@@ -7,9 +7,9 @@ use Rattle.heap.specs.State.{State, slot_at, data_size, with_free}
 use Rattle.heap.specs.Lent.{Lent, view, pool_size}
 use Rattle.heap.specs.WellFormed.{well_formed}
 use Rattle.heap.specs.Calls.{Changed, refuse, Object, step, type_for, placed, grown, last, but_last, take_slot}
-use Rattle.heap.specs.Columns.{CanPlace, PlacedIn}
+use Rattle.heap.specs.Inner.Columns.{CanPlace, PlacedIn}
 use Rattle.heap.specs.Done.{Leaves}
-use Rattle.heap.specs.Loans.{lies, SameLoans}
+use Rattle.heap.specs.Inner.Loans.{lies, SameLoans}
 use Rattle.heap.specs.declared.view_mut.ViewMut.{ViewMut}
 use Rattle.heap_calls.specs.Objects.{size_of, start_of, handed_out}
 

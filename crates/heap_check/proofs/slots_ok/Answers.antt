@@ -3,7 +3,7 @@ use Prim.Native.Nat.{ℕ, ◌-◌}
 use native.Mathlib.Omega.{arith}
 use lib.ListN.{get_or}
 use Rattle.heap.specs.Packing.{start_of}
-use Rattle.heap_check.specs.Checks.{SlotOk}
+use Rattle.heap_check.specs.Inner.Checks.{SlotOk}
 use Rattle.heap.proofs.Packing.{start-next}
 use Rattle.heap_check.proofs.CheckLoops.{says-no, says_le, false-true, below-one-more, start_first}
 use borrow.Author.Rules.{rules}

@@ -1,8 +1,8 @@
 -- `heap_edit::edit` meets its contract.
 use Rattle.std.proofs.Common.{refl}
 use Rattle.std.proofs.lemmas.Result.{err_from_is_err_and}
-use Rattle.heap.specs.Seen.{seen}
-use Rattle.heap.specs.Loans.{lies}
+use Rattle.heap.specs.Inner.Seen.{seen}
+use Rattle.heap.specs.Inner.Loans.{lies}
 use Rattle.heap.proofs.Carrying.{resolved-there, fit-there}
 use Rattle.heap_edit.proofs.Editing.{edit-unfound, edit-inside, edit-not, edit-can, edit-yes}
 use Rattle.heap_edit.proofs.edit.Goals as goal

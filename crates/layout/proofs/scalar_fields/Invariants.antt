@@ -1,5 +1,5 @@
 -- `layout::scalar_fields` meets its contract. The loop's invariant: the fields passed are scalars.
-use Rattle.layout.specs.Lent.{ScalarFields}
+use Rattle.layout.specs.Inner.Lent.{ScalarFields}
 use Rattle.layout.proofs.scalar_fields.Given as goal
 
 abbrev pub invariant-loop-i : goal.invariant-loop-i

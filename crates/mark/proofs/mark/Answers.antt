@@ -1,6 +1,6 @@
 -- `mark::mark` meets its contract.
 use Rattle.ty.specs.View.{lent}
-use Rattle.mark.specs.Objects.{laid}
+use Rattle.mark.specs.Inner.Objects.{laid}
 use Rattle.mark.proofs.Whole.{laid-scratch, laid-stuck, laid-marked}
 use Rattle.mark.proofs.mark.Goals as goal
 

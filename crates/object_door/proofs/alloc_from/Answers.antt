@@ -1,7 +1,7 @@
 -- `object_door::alloc_from` meets its contract: by what the number is as a kind.
 use Rattle.std.proofs.Common.{refl}
 use Rattle.std.proofs.lemmas.Result.{err_from_is_err_and}
-use Rattle.heap.specs.Loans.{lies}
+use Rattle.heap.specs.Inner.Loans.{lies}
 use Rattle.object_door.proofs.Objects.{found-kind, missing-kind, of-kind, no_kind}
 use Rattle.object_door.proofs.alloc_from.Goals as goal
 

@@ -2,7 +2,7 @@ use mathlib.Core.Bool.{◌&&◌}
 use lib.Dec.{ltb}
 use mathlib.Core.Path.{◌∙◌, refl}
 use Rattle.page_check.proofs.Lists.{value_found, value_none, indices-lost, indices-next, indices-done}
-use Rattle.page_check.specs.Answer.{indices_more}
+use Rattle.page_check.specs.Inner.Answer.{indices_more}
 use Rattle.text.specs.Format.{read_all, number}
 use lib.ListN.{length, drop}
 use native.Mathlib.Nat.{sub-zero}

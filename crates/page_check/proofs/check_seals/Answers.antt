@@ -1,7 +1,7 @@
 use mathlib.Core.Bool.{◌&&◌}
 use mathlib.Core.Path.{◌∙◌, refl}
 use Rattle.page_check.proofs.Lists.{value_found, value_none, seals-lost, seals-next, seals-done}
-use Rattle.page_check.specs.Answer.{seals_more}
+use Rattle.page_check.specs.Inner.Answer.{seals_more}
 use Rattle.text.specs.Format.{read_all, number}
 use lib.ListN.{length, drop}
 use native.Mathlib.Nat.{sub-zero}

@@ -1,5 +1,5 @@
 use Rattle.page_check.proofs.Lists.{left}
-use Rattle.page_check.specs.Answer.{seals_more}
+use Rattle.page_check.specs.Inner.Answer.{seals_more}
 use Rattle.text.specs.Format.{read_all, number}
 use lib.ListN.{length, drop}
 use mathlib.Core.Path.{◌≡◌}

@@ -2,7 +2,7 @@ use mathlib.Core.Path.{refl}
 use Rattle.page_check.proofs.Reading.{slots-begin, slots-lost, slots_next, slots-done, line-found, line-lost}
 use native.Mathlib.Nat.{sub-zero}
 use mathlib.Core.Bool.{true}
-use Rattle.page_check.specs.Answer.{slots_more}
+use Rattle.page_check.specs.Inner.Answer.{slots_more}
 use Rattle.pages.specs.Page.{slot_format}
 use Rattle.text.specs.Format.{read_all}
 use lib.ListN.{length, drop}

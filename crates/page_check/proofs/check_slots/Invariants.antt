@@ -1,4 +1,4 @@
-use Rattle.page_check.specs.Answer.{slots_answer, slots_more}
+use Rattle.page_check.specs.Inner.Answer.{slots_answer, slots_more}
 use Rattle.pages.specs.Page.{slot_format}
 use Rattle.text.specs.Format.{read_all}
 use lib.ListN.{length, drop}

@@ -3,7 +3,7 @@ use Rattle.pages.specs.Form.{heap_front, retired_too, no_retired}
 use Rattle.text.specs.Text.{ascii}
 use Rattle.text.proofs.Getting.{value-found, answer-none}
 use Rattle.pages.proofs.Laws.{heap-names-right}
-use Rattle.page_check.specs.Parts.{heap_named}
+use Rattle.page_check.specs.Inner.Parts.{heap_named}
 use Rattle.page_check.proofs.Parts.{head-told}
 use native.Mathlib.Omega.{arith}
 use lib.ListN.{drop}

@@ -1,6 +1,6 @@
 use mathlib.Core.Logic.{inl, inr}
 use Rattle.text.proofs.Getting.{literal-found, literal-lost}
-use Rattle.page_check.specs.Parts.{ListRead}
+use Rattle.page_check.specs.Inner.Parts.{ListRead}
 use Rattle.page_check.proofs.list_section.Goals as goal
 
 pub returns-in_err-begin : goal.returns-in_err-begin

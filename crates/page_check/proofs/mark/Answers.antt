@@ -1,5 +1,5 @@
 use Rattle.page_check.proofs.Counting.{mark-nothing, mark-next, mark-stop, mark-all, next-value, not_none, done-length, line-value, line-none}
-use Rattle.page_check.specs.Partition.{values_at}
+use Rattle.page_check.specs.Inner.Partition.{values_at}
 use Rattle.text.specs.Format.{number, read_all}
 use lib.ListN.{drop}
 use native.Mathlib.Nat.{sub-zero}

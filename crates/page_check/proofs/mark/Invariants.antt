@@ -1,4 +1,4 @@
-use Rattle.page_check.specs.Partition.{values_at, Marked}
+use Rattle.page_check.specs.Inner.Partition.{values_at, Marked}
 use Rattle.text.specs.Format.{number, read_all}
 use Rattle.text.specs.Text.{give}
 use lib.ListN.{length, drop, take}

@@ -1,6 +1,6 @@
 use Rattle.std.proofs.Common.{arith}
 use Rattle.std.proofs.lemmas.Bool.Decides.{nat_tests}
-use Rattle.page_check.specs.Answer.{sound_numbers}
+use Rattle.page_check.specs.Inner.Answer.{sound_numbers}
 use Rattle.page_check.proofs.sound.Goals as goal
 
 pub returns-then-x-gt0 : goal.returns-then-x-gt0

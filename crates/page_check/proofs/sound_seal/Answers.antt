@@ -1,6 +1,6 @@
 use Rattle.std.proofs.Common.{arith}
 use Rattle.std.proofs.lemmas.Bool.Decides.{nat_tests}
-use Rattle.page_check.specs.Answer.{seal_test}
+use Rattle.page_check.specs.Inner.Answer.{seal_test}
 use Rattle.page_check.proofs.sound_seal.Goals as goal
 
 pub returns-then-i-n : goal.returns-then-i-n

@@ -1,4 +1,4 @@
-use Rattle.text.specs.Answer.{hex_at}
+use Rattle.text.specs.Inner.Answer.{hex_at}
 use Rattle.page_reader.proofs.Restoring.{lent-column, column-start, column-end, puts-restored, puts_plain}
 use Rattle.page_reader.proofs.fill_column.Goals as goal
 

@@ -4,7 +4,7 @@ use mathlib.Core.Path.{sym, ap, subst, ◌∙◌}
 use lib.ListN.{length}
 use Rattle.heap.specs.Lent.{stored}
 use Rattle.page_check.specs.Sections.{heap_in, brought_in}
-use Rattle.page_reader.specs.Columns.{Roomy}
+use Rattle.page_reader.specs.Inner.Columns.{Roomy}
 use Rattle.heap.specs.Lent.{lent}
 use Rattle.page_reader.proofs.Loaded.{in-range, sizes-some, is-page, roomy, read_done, read-refused}
 use Rattle.page_reader.proofs.read.Goals as goal

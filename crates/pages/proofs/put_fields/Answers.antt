@@ -1,6 +1,6 @@
 use mathlib.Core.List.{[], ◌++◌, append_assoc, append-nil}
 use mathlib.Core.Path.{◌∙◌}
-use Rattle.pages.specs.Columns.{field, head_fields}
+use Rattle.pages.specs.Inner.Columns.{field, head_fields}
 use Rattle.pages.proofs.Writing.{head-parts}
 use Rattle.text.proofs.Wrote.{writes-begin, writes-room, writes-more, writes-end}
 use Rattle.pages.proofs.put_fields.Goals as goal

@@ -2,7 +2,7 @@ use mathlib.Core.Bool.{true}
 use mathlib.Core.List.{[], ◌++◌, append-nil}
 use mathlib.Core.Path.{◌∙◌}
 use Rattle.pages.specs.Page.{numbers_line}
-use Rattle.pages.specs.Columns.{field, head_fields}
+use Rattle.pages.specs.Inner.Columns.{field, head_fields}
 use Rattle.pages.proofs.Writing.{line-parts}
 use Rattle.text.proofs.Wrote.{writes-begin, writes-room, writes-more, writes-end}
 use Rattle.pages.proofs.put_head.Goals as goal

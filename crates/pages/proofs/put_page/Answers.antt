@@ -9,7 +9,7 @@ use Rattle.heap.proofs.Testing.{formed-tested}
 use Rattle.heap.proofs.Runs.{wide_room}
 use Rattle.pages.specs.Form.{written, heap_front, retired_too, heap_names, slot_names, free_name, quarantine_name, sealed_name, retired_name}
 use Rattle.pages.specs.Page.{value_line, slot_line, page_text}
-use Rattle.pages.specs.Columns.{slots_in}
+use Rattle.pages.specs.Inner.Columns.{slots_in}
 use Rattle.pages.proofs.Ready.{ready}
 use Rattle.pages.proofs.Whole.{numbers, page-parts, page-split, free-count, quarantine-count, sealed-count, retired-count}
 use Rattle.text.proofs.Wrote.{writes-begin, writes-room, writes-more, writes-end}

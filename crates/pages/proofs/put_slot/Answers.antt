@@ -4,7 +4,7 @@ use native.Mathlib.Omega.{arith}
 use Rattle.text.specs.Text.{hex}
 use Rattle.pages.specs.Form.{column}
 use Rattle.pages.specs.Page.{slot_line}
-use Rattle.pages.specs.Columns.{slot, field}
+use Rattle.pages.specs.Inner.Columns.{slot, field}
 use Rattle.pages.proofs.Writing.{column-hex, slot-parts}
 use Rattle.text.proofs.Wrote.{writes-begin, writes-room, writes-more, writes-end}
 use Rattle.pages.proofs.put_slot.Goals as goal

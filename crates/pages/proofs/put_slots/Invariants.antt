@@ -1,4 +1,4 @@
-use Rattle.heap.specs.Seen.{seen}
+use Rattle.heap.specs.Inner.Seen.{seen}
 use Rattle.pages.proofs.Slots.{Putting}
 use mathlib.Core.Path.{◌≡◌}
 use Rattle.pages.proofs.put_slots.Given as goal

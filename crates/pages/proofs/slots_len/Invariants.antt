@@ -1,4 +1,4 @@
-use Rattle.heap.specs.Seen.{seen}
+use Rattle.heap.specs.Inner.Seen.{seen}
 use Rattle.pages.proofs.Slots.{Summed}
 use Rattle.pages.proofs.slots_len.Given as goal
 

@@ -1,4 +1,4 @@
-use Rattle.text.specs.Answer.{hex_at}
+use Rattle.text.specs.Inner.Answer.{hex_at}
 use Rattle.planes.proofs.Turns.{Scattered}
 use Rattle.planes.proofs.scatter.Given as goal
 

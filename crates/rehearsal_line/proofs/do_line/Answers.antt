@@ -3,7 +3,7 @@ use Rattle.heap.specs.Lent.{lent}
 use Rattle.ty.specs.View.{lent as tabled}
 use mathlib.Core.Path.{refl, ap}
 use Rattle.heap.specs.declared.Heap.{Heap}
-use Rattle.rehearsal_lines.specs.Found.{step_in}
+use Rattle.rehearsal_lines.specs.Inner.Found.{step_in}
 use Rattle.rehearsal_store.proofs.Stored.{names-there}
 use Rattle.rehearsal_line.proofs.Leading.{led-whole}
 use Rattle.rehearsal_line.proofs.Lined.{store_line, drop-line, drop-header, as_line, alloc-data}

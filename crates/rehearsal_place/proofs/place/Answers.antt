@@ -1,7 +1,7 @@
 -- `rehearsal_place::place` meets its contract.
 use Rattle.std.proofs.Common.{refl}
 use Rattle.std.proofs.lemmas.Result.{err_from_is_err_and}
-use Rattle.heap.specs.Loans.{lies}
+use Rattle.heap.specs.Inner.Loans.{lies}
 use Rattle.rehearsal_place.proofs.Answering.{data-spelled, place-other, place-good}
 use Rattle.rehearsal_place.proofs.place.Goals as goal
 

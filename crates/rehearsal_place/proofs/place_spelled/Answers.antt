@@ -2,10 +2,10 @@
 use native.Mathlib.Omega.{arith}
 use Rattle.std.proofs.Common.{refl}
 use Rattle.std.proofs.lemmas.Result.{err_from_is_err_and}
-use Rattle.heap.specs.Loans.{lies}
+use Rattle.heap.specs.Inner.Loans.{lies}
 use Rattle.rehearsal_place.proofs.Spelling.{spelled-room}
 use Rattle.rehearsal_place.proofs.Answering.{spelled-refused, spelled-start, spelled-fits, spelled-done}
-use Rattle.heap_calls.specs.Kinds.{kind_number}
+use Rattle.heap_calls.specs.Inner.Kinds.{kind_number}
 use Rattle.heap_calls.proofs.KindLaws.{kind-low, kind-high}
 use Rattle.rehearsal_place.proofs.place_spelled.Goals as goal
 

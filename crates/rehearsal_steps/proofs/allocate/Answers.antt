@@ -3,7 +3,7 @@ use native.Mathlib.Omega.{arith}
 use mathlib.Core.Path.{refl}
 use Prim.Native.Nat.{◌/◌}
 use Rattle.std.proofs.Common.{length, rules}
-use Rattle.text.specs.Answer.{hex_at}
+use Rattle.text.specs.Inner.Answer.{hex_at}
 use Rattle.refusal.specs.Told.{here, nothing}
 use Rattle.heap.specs.Lent.{Lent, lent, view}
 use Rattle.heap.specs.Done.{Tells}

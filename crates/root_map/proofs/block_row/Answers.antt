@@ -1,7 +1,7 @@
 -- `root_map::block_row` meets its contract.
 use mathlib.Core.Path.{refl}
 use native.Mathlib.Omega.{arith}
-use Rattle.roots.specs.Columns.{wanted}
+use Rattle.roots.specs.Inner.Columns.{wanted}
 use Rattle.roots.proofs.Forms.{ends-inside}
 use Rattle.roots.proofs.Plans.{few-blocks}
 use Rattle.roots.proofs.Scratch.{outside_trans}

@@ -3,8 +3,8 @@ use native.Mathlib.Omega.{arith}
 use mathlib.Core.Path.{refl, sym, ◌∙◌, ap}
 use Prim.Native.Nat.{ℕ}
 use lib.ListN.{replicate}
-use Rattle.roots.specs.Columns.{wanted}
-use Rattle.roots.specs.Plans.{lent, planned}
+use Rattle.roots.specs.Inner.Columns.{wanted}
+use Rattle.roots.specs.Inner.Plans.{lent, planned}
 use Rattle.roots.proofs.Chaining.{chains-none}
 use Rattle.roots.proofs.Checks.{refuted, above}
 use Rattle.roots.proofs.Plans.{few-blocks}

@@ -3,7 +3,7 @@ use Rattle.std.specs.List.{sum_by}
 use Rattle.std.specs.Int.Count.{ones}
 use Rattle.std.proofs.lemmas.Iterator.{YieldsList-from_slice, YieldsList-from_map}
 use Rattle.std.proofs.lemmas.Iterator.Consumers.{sum_by_from_yields_List, fits_by_from_yields_list}
-use Rattle.rows.specs.Row.{listed}
+use Rattle.rows.specs.Inner.Row.{listed}
 use Rattle.rows.proofs.Listing.{listed_le}
 use Rattle.rows.proofs.Counts.{sum-ones-listed}
 use Rattle.rows.proofs.count.Goals as goal

@@ -2,8 +2,8 @@
 use Prim.Native.Nat.{◌≤◌, ◌<◌}
 use lib.ListN.{length}
 use borrow.Author.Tests.{lt-ltb, le-ltb}
-use Rattle.rows.specs.Row.{listed}
-use Rattle.rows.specs.Listing.{listing, listed_into}
+use Rattle.rows.specs.Inner.Row.{listed}
+use Rattle.rows.specs.Inner.Listing.{listing, listed_into}
 use Rattle.rows.proofs.list.Goals as goal
 
 pub returns-then-out-count : goal.returns-then-out-count

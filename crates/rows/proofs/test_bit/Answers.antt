@@ -1,7 +1,7 @@
 use Rattle.std.proofs.Common.{ℕ, ◌/◌, ◌%◌, ◌^◌, eqb, ap, ◌∙◌}
 use lib.Bits.{and_mask}
 use Rattle.word.specs.Bit.{bit}
-use Rattle.rows.specs.Row.{bit_in}
+use Rattle.rows.specs.Inner.Row.{bit_in}
 use Rattle.rows.proofs.test_bit.Goals as goal
 
 pub returns : goal.returns

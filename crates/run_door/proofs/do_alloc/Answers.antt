@@ -1,7 +1,7 @@
 -- `run_door::do_alloc` meets its contract.
 use Rattle.std.proofs.Common.{refl, arith}
 use Rattle.std.proofs.lemmas.Result.{err_from_is_err_and}
-use Rattle.heap.specs.Loans.{lies}
+use Rattle.heap.specs.Inner.Loans.{lies}
 use Rattle.run_door.proofs.Placing.{decoded, placed-other, placed-none, placed-done}
 use Rattle.run_door.proofs.do_alloc.Goals as goal
 

@@ -1,6 +1,6 @@
 -- `run_door::do_line` meets its contract.
 use Rattle.std.proofs.Common.{refl}
-use Rattle.heap.specs.Loans.{lies}
+use Rattle.heap.specs.Inner.Loans.{lies}
 use Rattle.run_door.proofs.Moving.{alloc-data, does-alloc, does-take, does-seal, does-recycle}
 use Rattle.run_door.proofs.do_line.Goals as goal
 

@@ -2,7 +2,7 @@
 use Prim.Native.Nat.{◌-◌}
 use lib.ListN.{length}
 use Rattle.std.proofs.Common.{◌≡◌}
-use Rattle.heap.specs.Loans.{lies, SameLoans}
+use Rattle.heap.specs.Inner.Loans.{lies, SameLoans}
 use Rattle.run_door.proofs.Looping.{Running}
 use Rattle.run_door.proofs.run_lines.Given as goal
 

@@ -7,7 +7,7 @@ use Rattle.refusal.specs.Told.{Reply}
 use Rattle.std.specs.Prelude.{Ok, Err}
 use Rattle.heap.specs.Lent.{Lent, view, slot_count, pool_size}
 use Rattle.heap.specs.Done.{Leaves}
-use Rattle.heap.specs.Loans.{lies, SameLoans}
+use Rattle.heap.specs.Inner.Loans.{lies, SameLoans}
 use Rattle.heap.specs.declared.view_mut.ViewMut.{ViewMut}
 use Rattle.script.specs.Script.{Call, line_does}
 

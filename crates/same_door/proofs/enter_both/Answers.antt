@@ -1,7 +1,7 @@
 -- `same_door::enter_both` meets its contract.
 use Rattle.std.proofs.Common.{◌≡◌, ap}
 use Rattle.std.proofs.lemmas.Result.{err_from_is_err_and, IfOk-at_ok}
-use Rattle.heap.specs.Seen.{seen}
+use Rattle.heap.specs.Inner.Seen.{seen}
 use Rattle.door.specs.HeapCalls.{entry_of}
 use Rattle.same_door.specs.Inner.Given.{memory_of}
 use Rattle.same_door.proofs.Entering.{found-as, first_short, other-short, first-broken, both-entered}

@@ -4,7 +4,7 @@ use Rattle.word.specs.Run.{run}
 use Rattle.heap.specs.Packing.{data_at}
 use Rattle.heap.specs.declared.Heap.{Heap}
 use Rattle.ty.specs.Types.{Table}
-use Rattle.mark.specs.Graph.{leads_to}
+use Rattle.mark.specs.Inner.Graph.{leads_to}
 use Rattle.alike.specs.Same.{Model}
 use Rattle.models.specs.Objects.{model_of}
 

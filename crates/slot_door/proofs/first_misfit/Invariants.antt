@@ -1,6 +1,6 @@
 -- `slot_door::first_misfit` meets its contract.
 use Rattle.ty.specs.View.{lent}
-use Rattle.heap.specs.Seen.{state}
+use Rattle.heap.specs.Inner.Seen.{state}
 use Rattle.slot_door.specs.Traceable.{fits_table}
 use Rattle.slot_door.proofs.TraceCalls.{Passed}
 use Rattle.slot_door.proofs.first_misfit.Given as goal

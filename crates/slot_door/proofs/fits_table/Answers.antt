@@ -2,7 +2,7 @@
 use mathlib.Core.Path.{sym, ap, ◌∙◌, subst}
 use Prim.Native.Nat.{◌<◌}
 use Rattle.ty.specs.View.{lent}
-use Rattle.mark.specs.Objects.{Laid}
+use Rattle.mark.specs.Inner.Objects.{Laid}
 use Rattle.std.specs.Prelude.{Err}
 use native.Mathlib.Omega.{arith}
 use Rattle.slot_door.proofs.SlotCalls.{fit-of, at_listed}

@@ -2,7 +2,7 @@
 use mathlib.Core.Path.{sym, subst}
 use Prim.Native.Nat.{◌<◌}
 use Rattle.ty.specs.View.{lent}
-use Rattle.mark.specs.Objects.{Laid}
+use Rattle.mark.specs.Inner.Objects.{Laid}
 use native.Mathlib.Omega.{arith}
 use Rattle.slot_door.proofs.SlotCalls.{fit-of, at_listed, slot-missing, slot-dead, slot-listed}
 use Rattle.slot_door.proofs.list_slot.Goals as goal

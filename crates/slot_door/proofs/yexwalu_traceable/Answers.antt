@@ -2,7 +2,7 @@
 use Rattle.std.proofs.Common.{◌≡◌, ap, sym, ◌∙◌}
 use Rattle.std.proofs.lemmas.Result.{IfOk-at_ok}
 use Rattle.heap.specs.Lent.{lent}
-use Rattle.heap.specs.Seen.{seen}
+use Rattle.heap.specs.Inner.Seen.{seen}
 use Rattle.door.specs.HeapCalls.{entry_of}
 use Rattle.refusal.specs.declared.Answer.{Answer}
 use Rattle.slot_door.specs.Traceable.{misfit_told}

@@ -2,7 +2,7 @@
 use Rattle.std.specs.Prelude.{ℕ, List}
 use Rattle.std.proofs.Math.Option.{Option}
 use Rattle.ty.specs.Types.{Table}
-use Rattle.mark.specs.Graph.{shown_in}
+use Rattle.mark.specs.Inner.Graph.{shown_in}
 use Rattle.mark.specs.declared.objects.Objects.{Objects}
 
 abbrev pub shown_of : Table → Objects → ℕ → Option (List ℕ)

@@ -7,7 +7,7 @@ use Rattle.text.specs.Format.{read_all}
 use Rattle.text.specs.Put.{put_text}
 use Rattle.tables.specs.Table.{Row, row_format, rows_format}
 use Rattle.tables.specs.Lists.{numbers_in, names_in}
-use Rattle.tables.specs.Answer.{GotAll}
+use Rattle.tables.specs.Inner.Answer.{GotAll}
 use Rattle.table_check.specs.declared.Rows.{Rows}
 use Rattle.table_check.specs.declared.Section.{Section}
 

@@ -6,8 +6,8 @@ use native.Mathlib.Omega.{arith}
 use Rattle.text.specs.Text.{hex, ascii}
 use Rattle.tables.specs.Table.{count_names, counts_line, type_names, field_names, constant_names, bytes_name, row_line, table_text}
 use Rattle.tables.specs.Lists.{rows_of}
-use Rattle.tables.specs.Answer.{names_at}
-use Rattle.table_writer.specs.Parts.{named}
+use Rattle.tables.specs.Inner.Answer.{names_at}
+use Rattle.table_writer.specs.Inner.Parts.{named}
 use Rattle.table_writer.proofs.Wholes.{table-parts}
 use Rattle.text.proofs.Wrote.{writes-begin, writes-room, writes-more, writes-all}
 use Rattle.table_writer.proofs.put_table.Goals as goal

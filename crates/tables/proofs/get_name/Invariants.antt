@@ -1,7 +1,7 @@
 use mathlib.Core.Path.{◌≡◌}
 use lib.ListN.{length, drop}
 use Rattle.tables.specs.Table.{read_name}
-use Rattle.tables.specs.Answer.{ending}
+use Rattle.tables.specs.Inner.Answer.{ending}
 use Rattle.tables.proofs.get_name.Given as goal
 
 abbrev pub invariant-loop-i : goal.invariant-loop-i

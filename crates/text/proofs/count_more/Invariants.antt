@@ -1,4 +1,4 @@
-use Rattle.text.specs.Answer.{hex_more}
+use Rattle.text.specs.Inner.Answer.{hex_more}
 use Rattle.text.specs.Text.{read_hex}
 use lib.ListN.{length, drop}
 use mathlib.Core.Path.{◌≡◌}

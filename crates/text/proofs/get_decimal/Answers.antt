@@ -1,5 +1,5 @@
 use Rattle.text.proofs.Getting.{no-digit-there, spare-zero, no-spare, first-digit, too_large, is-some}
-use Rattle.text.specs.Answer.{value_answer}
+use Rattle.text.specs.Inner.Answer.{value_answer}
 use Rattle.text.specs.Text.{scan, capped, read_decimal}
 use lib.ListN.{length, drop}
 use mathlib.Core.Path.{◌≡◌, sym, ap, ◌∙◌}

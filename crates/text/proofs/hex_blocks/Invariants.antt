@@ -1,7 +1,7 @@
 -- `text::hex_blocks` meets its contract. The invariant: up to i there are digits alone.
 use Prim.Native.Nat.{◌-◌, ◌/◌}
 use lib.ListN.{length}
-use Rattle.text.specs.Answer.{HexRun}
+use Rattle.text.specs.Inner.Answer.{HexRun}
 use Rattle.text.proofs.hex_blocks.Given as goal
 
 abbrev pub invariant-loop-i : goal.invariant-loop-i

@@ -1,6 +1,6 @@
 use mathlib.Core.Path.{ap, ◌∙◌}
 use native.Mathlib.Omega.{arith}
-use Rattle.trace.specs.Emit.{into, emitted, handed}
+use Rattle.trace.specs.Inner.Emit.{into, emitted, handed}
 use Rattle.trace.proofs.Emits.{words-all}
 use Rattle.trace.proofs.Objects.{handles-first, handles-end, handles-next}
 use Rattle.trace.proofs.trace_handles.Goals as goal

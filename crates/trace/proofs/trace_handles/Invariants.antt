@@ -3,7 +3,7 @@ use Prim.Native.Nat.{◌+◌, ◌-◌, ◌*◌, ◌/◌}
 use mathlib.Core.Path.{◌≡◌}
 use lib.ListN.{length}
 use Rattle.trace.specs.Places.{rising, handles_places}
-use Rattle.trace.specs.Emit.{raw_of, handed_all, words_to, into, slots_resolve}
+use Rattle.trace.specs.Inner.Emit.{raw_of, handed_all, words_to, into, slots_resolve}
 use Rattle.trace.proofs.trace_handles.Given as goal
 
 abbrev pub invariant-loop-i : goal.invariant-loop-i

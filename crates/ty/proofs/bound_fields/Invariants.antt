@@ -2,7 +2,7 @@
 use Prim.Native.Nat.{◌+◌, ◌-◌}
 use mathlib.Core.Path.{◌≡◌}
 use Rattle.ty.specs.View.{fields_from}
-use Rattle.ty.specs.Bounds.{bound_in, bound_fields}
+use Rattle.ty.specs.Inner.Bounds.{bound_in, bound_fields}
 use Rattle.ty.proofs.bound_fields.Given as goal
 
 abbrev pub invariant-loop-j : goal.invariant-loop-j

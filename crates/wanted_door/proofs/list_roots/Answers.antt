@@ -3,10 +3,10 @@ use mathlib.Core.Path.{◌≡◌, sym, subst}
 use mathlib.Core.List.{[], map}
 use lib.ListN.{take}
 use Rattle.ty.specs.View.{lent}
-use Rattle.mark.specs.Graph.{graph_in}
-use Rattle.mark.specs.Objects.{Laid}
-use Rattle.mark.specs.Scratch.{high}
-use Rattle.mark.specs.Told.{starts_of}
+use Rattle.mark.specs.Inner.Graph.{graph_in}
+use Rattle.mark.specs.Inner.Objects.{Laid}
+use Rattle.mark.specs.Inner.Scratch.{high}
+use Rattle.mark.specs.Inner.Told.{starts_of}
 use Rattle.wanted.specs.Search.{searched}
 use Rattle.wanted_door.specs.Inner.Picking.{notes_if, Inside, Clear}
 use Rattle.wanted_door.proofs.Naming.{search-part, search-long, search-clear, can-name, none_found, roots-found}

@@ -1,6 +1,6 @@
 -- `wanted_door::name_roots` meets its contract.
 use mathlib.Core.List.{map}
-use Rattle.mark.specs.Scratch.{high}
+use Rattle.mark.specs.Inner.Scratch.{high}
 use Rattle.wanted.specs.Search.{noted}
 use Rattle.wanted.specs.Way.{those}
 use Rattle.wanted_door.proofs.Naming.{name-short, name-wrote}

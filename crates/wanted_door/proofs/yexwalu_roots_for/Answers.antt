@@ -4,7 +4,7 @@ use lib.ListN.{length}
 use Rattle.std.proofs.lemmas.Result.{IfOk-at_ok}
 use Rattle.ty.specs.View.{table_of}
 use Rattle.heap.specs.Lent.{Lent, lent, view}
-use Rattle.heap.specs.Seen.{seen}
+use Rattle.heap.specs.Inner.Seen.{seen}
 use Rattle.trace.specs.Listing.{Lists}
 use Rattle.door.specs.HeapCalls.{entry_of}
 use Rattle.wanted_door.specs.Inner.Listing.{CanSearch}

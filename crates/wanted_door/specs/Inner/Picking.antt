@@ -1,10 +1,10 @@
 -- What the inner functions of the search for roots say of marks and work: the marking as crate `mark` has it, the notes in the upper halves of the words.
-use Rattle.trace.specs.Emit.{Answer}
+use Rattle.trace.specs.Inner.Emit.{Answer}
 use Rattle.std.specs.Prelude.{Option as Maybe, Some, None, ◌≡◌, Bool, true, false, List, map, ℕ, ◌≤◌, ◌<◌, length, get_or, replicate}
 use Rattle.std.proofs.Math.Option.{Option, none, some}
-use Rattle.mark.specs.Scratch.{high, state_of, Scratch}
+use Rattle.mark.specs.Inner.Scratch.{high, state_of, Scratch}
 use Rattle.mark.specs.declared.queue.Queue.{Queue}
-use Rattle.mark.specs.Queues.{SameLoans, counted}
+use Rattle.mark.specs.Inner.Queues.{SameLoans, counted}
 use Rattle.wanted.specs.Search.{Going, going}
 
 -- the marking and the notes that marks and work hold

@@ -2,8 +2,8 @@
 use Rattle.std.specs.Prelude.{[], ℕ}
 use Rattle.ty.specs.View.{lent}
 use Rattle.reach.specs.Reach.{Graph, Starts}
-use Rattle.mark.specs.Objects.{graph_of}
-use Rattle.mark.specs.Told.{starts_of}
+use Rattle.mark.specs.Inner.Objects.{graph_of}
+use Rattle.mark.specs.Inner.Told.{starts_of}
 use Rattle.wanted_door.specs.declared.pick.Search.{Search}
 
 abbrev pub graph : Search → Graph

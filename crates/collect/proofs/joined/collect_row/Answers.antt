@@ -2,11 +2,11 @@
 use mathlib.Core.Path.{sym, subst, ◌≡◌}
 use lib.ListN.{length}
 use Rattle.heap.specs.Lent.{Lent, view}
-use Rattle.heap.specs.Loans.{lies}
+use Rattle.heap.specs.Inner.Loans.{lies}
 use Rattle.ty.specs.View.{lent}
-use Rattle.mark.specs.Joining.{joined_marks}
-use Rattle.mark.specs.Safepoints.{live_values, handles_in, pinned_in}
-use Rattle.mark.specs.Told.{told, marks_in, Ready}
+use Rattle.mark.specs.Inner.Joining.{joined_marks}
+use Rattle.mark.specs.Inner.Safepoints.{live_values, handles_in, pinned_in}
+use Rattle.mark.specs.Inner.Told.{told, marks_in, Ready}
 use Rattle.collect.proofs.Collecting.{collect-ready, collect-room, marks-again, work-again, joined-done}
 use Rattle.collect.proofs.joined.collect_row.Goals as goal
 

@@ -4,9 +4,9 @@ use mathlib.Core.Bool.{true, false}
 use Prim.Native.Nat.{◌≤◌}
 use lib.ListN.{length}
 use Rattle.roots.specs.Calls.{Lent, need}
-use Rattle.roots.specs.Plans.{planned}
+use Rattle.roots.specs.Inner.Plans.{planned}
 use Rattle.roots.proofs.Asking.{need-rows}
-use Rattle.collect.specs.Safepoint.{RootRow}
+use Rattle.collect.specs.Inner.Safepoint.{RootRow}
 use Rattle.collect.proofs.RootRows.{look-none, plan-found}
 use Rattle.collect.proofs.joined.root_row.Goals as goal
 

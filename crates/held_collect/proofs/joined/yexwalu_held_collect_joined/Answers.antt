@@ -4,7 +4,7 @@ use Rattle.refusal.specs.Told.{nothing}
 use Rattle.heap.specs.Lent.{Lent, lent, view}
 use Rattle.heap.specs.Done.{Tells}
 use Rattle.roots.specs.Calls.{function}
-use Rattle.collect.specs.Safepoint.{at_safepoint}
+use Rattle.collect.specs.Inner.Safepoint.{at_safepoint}
 use Rattle.collect_door.specs.Calls.{Asked, table, frame, pinning}
 use Rattle.held.specs.Held.{in_place}
 use Rattle.held.proofs.Holding.{formed}

@@ -1,7 +1,7 @@
 -- `mark::joined::mark_joined` meets its contract.
 use Rattle.ty.specs.View.{lent}
-use Rattle.mark.specs.Objects.{laid}
-use Rattle.mark.specs.Safepoints.{live_values, handles_in, pinned_in}
+use Rattle.mark.specs.Inner.Objects.{laid}
+use Rattle.mark.specs.Inner.Safepoints.{live_values, handles_in, pinned_in}
 use Rattle.mark.proofs.Whole.{laid-scratch, laid-joined-stuck, laid-joined-marked}
 use Rattle.mark.proofs.joined.mark_joined.Goals as goal
 

@@ -1,7 +1,7 @@
 -- `protocol::write::put_page` meets its contract.
 use Rattle.std.proofs.Common.{rules}
 use Rattle.std.proofs.lemmas.List.Edits.{map_over_more}
-use Rattle.protocol.specs.Lines.{folded}
+use Rattle.protocol.specs.Inner.Lines.{folded}
 use Rattle.protocol.proofs.write.put_page.Goals as goal
 
 pub loop-b-preserved : goal.loop-b-preserved

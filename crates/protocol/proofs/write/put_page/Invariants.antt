@@ -2,7 +2,7 @@
 use mathlib.Core.Path.{◌≡◌}
 use mathlib.Core.List.{◌++◌, map}
 use lib.ListN.{take, drop}
-use Rattle.protocol.specs.Lines.{folded}
+use Rattle.protocol.specs.Inner.Lines.{folded}
 use Rattle.protocol.proofs.write.put_page.Given as goal
 
 abbrev pub invariant-loop-b : goal.invariant-loop-b

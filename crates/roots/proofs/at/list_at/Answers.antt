@@ -1,7 +1,7 @@
 -- `roots::at::list_at` meets its contract.
 use mathlib.Core.Path.{sym, ◌∙◌, ap}
 use Rattle.refusal.specs.Told.{answered, here, nothing}
-use Rattle.rows.specs.Listing.{told}
+use Rattle.rows.specs.Inner.Listing.{told}
 use Rattle.roots.proofs.at.list_at.Goals as goal
 
 pub returns-in-Some : goal.returns-in-Some

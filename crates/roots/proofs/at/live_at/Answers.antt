@@ -3,10 +3,10 @@ use native.Mathlib.Omega.{arith}
 use mathlib.Core.Path.{◌≡◌, sym, ◌∙◌, ap, subst}
 use Prim.Native.Nat.{ℕ, ◌+◌, ◌-◌, ◌*◌}
 use lib.ListN.{replicate, take, drop}
-use Rattle.rows.specs.Row.{listed}
+use Rattle.rows.specs.Inner.Row.{listed}
 use Rattle.flow.specs.Dataflow.{live_row}
-use Rattle.roots.specs.Columns.{wanted}
-use Rattle.roots.specs.Plans.{lent, planned, all_seen, out_row}
+use Rattle.roots.specs.Inner.Columns.{wanted}
+use Rattle.roots.specs.Inner.Plans.{lent, planned, all_seen, out_row}
 use Rattle.roots.proofs.Checks.{refuted, above}
 use Rattle.roots.proofs.Answers.{row_listed, at-scratch, at-function, at-no-map, at_listed}
 use Rattle.roots.proofs.Asking.{asked-room, few-words, asked-plan, need-rows, held-by}

@@ -3,7 +3,7 @@ use native.Mathlib.Omega.{arith}
 use mathlib.Core.Path.{refl, sym, ◌∙◌, subst}
 use Prim.Native.Nat.{ℕ, ◌*◌, ◌≤◌}
 use lib.ListN.{length}
-use Rattle.roots.specs.Columns.{wanted, seen}
+use Rattle.roots.specs.Inner.Columns.{wanted, seen}
 use Rattle.roots.proofs.Scratch.{end-view}
 use Rattle.roots.proofs.Plans.{few-blocks, block-inside}
 use Rattle.roots.proofs.Answers.{live-row-cells}

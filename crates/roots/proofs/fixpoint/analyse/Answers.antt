@@ -1,7 +1,7 @@
 -- `roots::fixpoint::analyse` meets its contract.
 use native.Mathlib.Omega.{arith}
 use mathlib.Core.Path.{sym, ◌∙◌}
-use Rattle.roots.specs.Columns.{wanted}
+use Rattle.roots.specs.Inner.Columns.{wanted}
 use Rattle.roots.proofs.Passes.{zeros-at, solved-fixed}
 use Rattle.roots.proofs.Forms.{seen-disjoint, seen-count}
 use Rattle.roots.proofs.fixpoint.analyse.Goals as goal

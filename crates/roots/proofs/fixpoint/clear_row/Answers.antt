@@ -4,7 +4,7 @@ use mathlib.Core.Path.{◌∙◌, ap}
 use mathlib.Core.List.{List}
 use Prim.Native.Nat.{ℕ, ◌+◌, ◌-◌}
 use lib.ListN.{length, take, drop}
-use Rattle.rows.specs.Row.{bit_in}
+use Rattle.rows.specs.Inner.Row.{bit_in}
 use Rattle.roots.proofs.Scratch.{mid-frame, mid-cell, mid-length, zero_bit}
 use Rattle.roots.proofs.fixpoint.clear_row.Goals as goal
 

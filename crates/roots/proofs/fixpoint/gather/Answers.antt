@@ -1,6 +1,6 @@
 -- `roots::fixpoint::gather` meets its contract.
 use native.Mathlib.Omega.{arith}
-use Rattle.roots.specs.Columns.{seen}
+use Rattle.roots.specs.Inner.Columns.{seen}
 use Rattle.roots.proofs.Scratch.{outside_trans, gathered}
 use Rattle.roots.proofs.Passes.{linked-out}
 use Rattle.roots.proofs.fixpoint.gather.Goals as goal

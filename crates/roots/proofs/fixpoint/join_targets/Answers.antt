@@ -2,8 +2,8 @@ use native.Mathlib.Omega.{arith}
 use mathlib.Core.Path.{refl, sym, ◌∙◌, ap, subst}
 use mathlib.Core.List.{List}
 use Prim.Native.Nat.{ℕ, ◌*◌}
-use Rattle.roots.specs.Columns.{Outside, cell}
-use Rattle.roots.specs.Plans.{out_row}
+use Rattle.roots.specs.Inner.Columns.{Outside, cell}
+use Rattle.roots.specs.Inner.Plans.{out_row}
 use Rattle.roots.proofs.Plans.{slice-all}
 use Rattle.roots.proofs.Scratch.{block-fits, targets-none, targets-on, targets-skip, targets-end}
 use Rattle.roots.proofs.fixpoint.join_targets.Goals as goal

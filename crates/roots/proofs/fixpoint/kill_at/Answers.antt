@@ -4,7 +4,7 @@ use mathlib.Core.Path.{◌∙◌, ap}
 use mathlib.Core.Bool.{Bool, ◌||◌}
 use Prim.Native.Nat.{◌-◌}
 use Rattle.flow.specs.Dataflow.{killed}
-use Rattle.roots.specs.Columns.{wanted, seen}
+use Rattle.roots.specs.Inner.Columns.{wanted, seen}
 use Rattle.roots.proofs.Scratch.{mid-frame, mid-cell, mid-bit, mid-length}
 use Rattle.roots.proofs.fixpoint.kill_at.Goals as goal
 

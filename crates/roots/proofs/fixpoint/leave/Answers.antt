@@ -5,7 +5,7 @@ use mathlib.Core.Path.{refl, sym, ◌∙◌, ap}
 use mathlib.Core.Logic.{inl, inr}
 use mathlib.Core.Bool.{Bool, ◌||◌}
 use Prim.Native.Nat.{◌+◌, ◌-◌, ◌*◌}
-use Rattle.roots.specs.Columns.{cell, live_at}
+use Rattle.roots.specs.Inner.Columns.{cell, live_at}
 use Rattle.roots.proofs.Turns.{next_fits}
 use Rattle.roots.proofs.Scratch.{outside_refl, leave_none, leave-targets, leave-stop, leave-next, last-inside, joined-one, joined-none}
 use Rattle.roots.proofs.Passes.{linked-next}

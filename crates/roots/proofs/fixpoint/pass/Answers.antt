@@ -2,7 +2,7 @@ use native.Mathlib.Omega.{arith}
 use mathlib.Core.Path.{◌≡◌, subst}
 use mathlib.Core.Logic.{inl}
 use Prim.Native.Nat.{ℕ, ◌+◌, ◌-◌, ◌*◌}
-use Rattle.roots.specs.Columns.{Pass}
+use Rattle.roots.specs.Inner.Columns.{Pass}
 use Rattle.roots.proofs.Scratch.{block-fits}
 use Rattle.roots.proofs.Steps.{met_of}
 use Rattle.roots.proofs.Passes.{below-high, linked-out, passes_none, pass-grown, pass-still}

@@ -1,5 +1,5 @@
 -- `roots::fixpoint::pass` meets its contract.
-use Rattle.roots.specs.Columns.{Pass}
+use Rattle.roots.specs.Inner.Columns.{Pass}
 use Rattle.roots.proofs.fixpoint.pass.Given as goal
 
 abbrev pub invariant-loop-b : goal.invariant-loop-b

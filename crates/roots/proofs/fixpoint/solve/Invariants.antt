@@ -1,6 +1,6 @@
 -- `roots::fixpoint::solve` meets its contract.
 use Prim.Native.Nat.{◌-◌, ◌*◌}
-use Rattle.roots.specs.Columns.{set_bits}
+use Rattle.roots.specs.Inner.Columns.{set_bits}
 use Rattle.roots.proofs.Passes.{Solving}
 use Rattle.roots.proofs.fixpoint.solve.Given as goal
 

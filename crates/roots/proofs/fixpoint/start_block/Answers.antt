@@ -3,7 +3,7 @@ use native.Mathlib.Omega.{arith}
 use mathlib.Core.Path.{refl, ◌∙◌, subst}
 use Prim.Native.Nat.{ℕ, ◌*◌, ◌≤◌}
 use lib.ListN.{length, length-set}
-use Rattle.roots.specs.Columns.{wanted}
+use Rattle.roots.specs.Inner.Columns.{wanted}
 use Rattle.roots.proofs.Scratch.{block-fits}
 use Rattle.roots.proofs.Plans.{block-inside}
 use Rattle.roots.proofs.Chaining.{first-start}

@@ -1,5 +1,5 @@
 -- `roots::fixpoint::start_blocks` meets its contract.
-use Rattle.roots.specs.Columns.{wanted}
+use Rattle.roots.specs.Inner.Columns.{wanted}
 use Rattle.roots.proofs.Builds.{Builds}
 use Rattle.roots.proofs.fixpoint.start_blocks.Given as goal
 

@@ -1,5 +1,5 @@
 -- `roots::row::back_row` meets its contract.
-use Rattle.roots.specs.Columns.{wanted}
+use Rattle.roots.specs.Inner.Columns.{wanted}
 use Rattle.roots.proofs.Turns.{Backs}
 use Rattle.roots.proofs.row.back_row.Given as goal
 

@@ -3,8 +3,8 @@ use mathlib.Core.Path.{refl, sym, ◌∙◌, ap}
 use mathlib.Core.List.{List}
 use Prim.Native.Nat.{ℕ}
 use lib.ListN.{length}
-use Rattle.rows.specs.Row.{bit_in}
-use Rattle.roots.specs.Columns.{wanted}
+use Rattle.rows.specs.Inner.Row.{bit_in}
+use Rattle.roots.specs.Inner.Columns.{wanted}
 use Rattle.roots.proofs.Turns.{asked-known, clears-on, clears-skip, clears-end}
 use Rattle.roots.proofs.Plans.{slice-all}
 use Rattle.roots.proofs.row.clear_all.Goals as goal

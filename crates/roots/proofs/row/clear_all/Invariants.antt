@@ -1,6 +1,6 @@
 use lib.ListN.{length}
 use Rattle.flow.specs.Dataflow.{asked}
-use Rattle.roots.specs.Columns.{wanted}
+use Rattle.roots.specs.Inner.Columns.{wanted}
 use Rattle.roots.proofs.Turns.{Clears}
 use Rattle.roots.proofs.row.clear_all.Given as goal
 

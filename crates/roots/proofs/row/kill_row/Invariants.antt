@@ -1,5 +1,5 @@
 -- `roots::row::kill_row` meets its contract.
-use Rattle.roots.specs.Columns.{wanted}
+use Rattle.roots.specs.Inner.Columns.{wanted}
 use Rattle.roots.proofs.Turns.{Kills}
 use Rattle.roots.proofs.row.kill_row.Given as goal
 

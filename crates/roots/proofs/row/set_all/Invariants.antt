@@ -1,6 +1,6 @@
 use lib.ListN.{length}
 use Rattle.flow.specs.Dataflow.{asked}
-use Rattle.roots.specs.Columns.{wanted}
+use Rattle.roots.specs.Inner.Columns.{wanted}
 use Rattle.roots.proofs.Turns.{Sets}
 use Rattle.roots.proofs.row.set_all.Given as goal
 

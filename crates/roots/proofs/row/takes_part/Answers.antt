@@ -1,6 +1,6 @@
 -- `roots::row::takes_part` meets its contract.
 use Rattle.std.proofs.Common.{◌≡◌, ℕ, Bool, true, sym, ◌&&◌, get_or, eqb, ap, ◌∙◌}
-use Rattle.roots.specs.Columns.{wanted}
+use Rattle.roots.specs.Inner.Columns.{wanted}
 use Rattle.roots.proofs.Turns.{asked-class, want-pointer}
 use Rattle.roots.proofs.row.takes_part.Goals as goal
 

@@ -3,7 +3,7 @@ use mathlib.Core.Path.{sym, ◌∙◌, subst}
 use Prim.Native.Nat.{ℕ, ◌-◌}
 use native.Mathlib.Omega.{arith}
 use borrow.Rule.Slice.PartMut.{mid_len}
-use Rattle.rows.specs.Row.{Apart}
+use Rattle.rows.specs.Inner.Row.{Apart}
 use Rattle.rows.proofs.RowLaws.{put-part}
 use Rattle.rows.proofs.Nested.{moved_apart, stepped-first}
 use Rattle.rows.proofs.Step.run_before.Goals as goal

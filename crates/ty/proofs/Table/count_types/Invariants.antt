@@ -1,7 +1,7 @@
 -- `ty::count_types` meets its contract.
 use Rattle.word.proofs.InPlace.{Mapped}
 use Rattle.ty.specs.View.{types_of}
-use Rattle.ty.specs.Counts.{next_count}
+use Rattle.ty.specs.Inner.Counts.{next_count}
 use Rattle.ty.proofs.Table.count_types.Given as goal
 
 abbrev pub invariant-loop-i : goal.invariant-loop-i

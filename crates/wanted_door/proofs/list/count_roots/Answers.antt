@@ -7,7 +7,7 @@ use Rattle.std.proofs.lemmas.Iterator.Consumers.{YieldsList-from_filter, count_f
 use Rattle.std.proofs.lemmas.Iterator.Adapters.{serves_from_places}
 use Rattle.std.proofs.lemmas.List.{get_or_default}
 use Rattle.std.specs.Prelude.{◌<◌, map, length}
-use Rattle.mark.specs.Scratch.{high}
+use Rattle.mark.specs.Inner.Scratch.{high}
 use Rattle.wanted.specs.Search.{noted}
 use Rattle.wanted_door.proofs.Roots.{those-length}
 use Rattle.wanted_door.proofs.list.count_roots.Goals as goal

@@ -1,6 +1,6 @@
 -- `wanted_door::list::write_roots` meets its contract.
 use mathlib.Core.List.{map}
-use Rattle.mark.specs.Scratch.{high}
+use Rattle.mark.specs.Inner.Scratch.{high}
 use Rattle.wanted.specs.Search.{noted}
 use Rattle.wanted_door.proofs.Roots.{Writes}
 use Rattle.wanted_door.proofs.list.write_roots.Given as goal

@@ -1,6 +1,6 @@
 -- `View::bytes` meets its contract.
 use Rattle.std.proofs.Common.{arith}
-use Rattle.heap.specs.Seen.{seen}
+use Rattle.heap.specs.Inner.Seen.{seen}
 use Rattle.heap.proofs.Questions.{within, bytes-are}
 use Rattle.heap.proofs.Columns.{Sizes, Reads, sizes, reads}
 use Rattle.heap.proofs.view.View.bytes.Goals as goal

@@ -1,7 +1,7 @@
 -- `View::data` meets its contract.
 use Rattle.std.proofs.lemmas.Result.{err_from_is_err_and}
 use Rattle.std.proofs.Common.{Ok, ap, ◌∙◌}
-use Rattle.heap.specs.Seen.{state}
+use Rattle.heap.specs.Inner.Seen.{state}
 use Rattle.heap.proofs.Questions.{place-told}
 use Rattle.heap.proofs.view.View.data.Goals as goal
 

@@ -1,6 +1,6 @@
 -- `View::has_quarantine` meets its contract.
 use Rattle.std.proofs.Common.{refl}
-use Rattle.heap.specs.Seen.{seen}
+use Rattle.heap.specs.Inner.Seen.{seen}
 use Rattle.heap.proofs.view.View.has_quarantine.Goals as goal
 
 pub returns : goal.returns

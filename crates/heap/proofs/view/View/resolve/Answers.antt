@@ -2,7 +2,7 @@
 use Rattle.std.proofs.Common.{◌∙◌, arith}
 use Rattle.heap.proofs.Columns.{sizes}
 use Rattle.heap.proofs.Questions.{resolves}
-use Rattle.heap.specs.Seen.{seen}
+use Rattle.heap.specs.Inner.Seen.{seen}
 use Rattle.heap.proofs.view.View.resolve.Goals as goal
 
 pub resolve-requires : goal.resolve-requires

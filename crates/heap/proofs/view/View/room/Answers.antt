@@ -1,7 +1,7 @@
 -- `View::room` meets its contract.
 use Rattle.std.proofs.Common.{◌-◌, length, ap, ◌∙◌, arith}
 use Prim.Native.Nat.{ℕ}
-use Rattle.heap.specs.Seen.{seen}
+use Rattle.heap.specs.Inner.Seen.{seen}
 use Rattle.heap.proofs.Columns.{sizes, knows, used-is}
 use Rattle.heap.proofs.view.View.room.Goals as goal
 

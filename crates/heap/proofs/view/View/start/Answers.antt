@@ -1,6 +1,6 @@
 -- `View::start` meets its contract.
 use Rattle.std.proofs.Common.{arith}
-use Rattle.heap.specs.Seen.{seen}
+use Rattle.heap.specs.Inner.Seen.{seen}
 use Rattle.heap.proofs.Questions.{within}
 use Rattle.heap.proofs.Columns.{sizes, reads}
 use Rattle.heap.proofs.view.View.start.Goals as goal

@@ -2,8 +2,8 @@
 use Prim.Native.Nat.{◌-◌}
 use Rattle.ty.specs.View.{lent}
 use Rattle.reach.specs.Marking.{drained}
-use Rattle.mark.specs.Objects.{graph_of}
-use Rattle.mark.specs.Queues.{state}
+use Rattle.mark.specs.Inner.Objects.{graph_of}
+use Rattle.mark.specs.Inner.Queues.{state}
 use Rattle.mark.proofs.Draining.{Draining}
 use Rattle.mark.proofs.queue.Queue.drain.Given as goal
 

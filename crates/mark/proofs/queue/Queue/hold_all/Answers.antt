@@ -1,5 +1,5 @@
 use Rattle.reach.specs.Marking.{pin_all}
-use Rattle.mark.specs.Joining.{in_use}
+use Rattle.mark.specs.Inner.Joining.{in_use}
 use Rattle.mark.proofs.States.{pushing-start}
 use Rattle.mark.proofs.Holding.{held_next, held-end}
 use Rattle.mark.proofs.queue.Queue.hold_all.Goals as goal

@@ -1,7 +1,7 @@
 -- `Queue::hold_all` meets its contract.
 use Rattle.reach.specs.Marking.{pin_all}
-use Rattle.mark.specs.Queues.{state}
-use Rattle.mark.specs.Joining.{in_use}
+use Rattle.mark.specs.Inner.Queues.{state}
+use Rattle.mark.specs.Inner.Joining.{in_use}
 use Rattle.mark.proofs.Holding.{HoldsAll}
 use Rattle.mark.proofs.queue.Queue.hold_all.Given as goal
 

@@ -2,8 +2,8 @@
 use Rattle.addresses.specs.Listed.{slots_of}
 use Rattle.frame.specs.Frame.{entries_of, entries_words}
 use Rattle.reach.specs.Marking.{pin_all}
-use Rattle.mark.specs.Queues.{state}
-use Rattle.mark.specs.Joining.{in_use}
+use Rattle.mark.specs.Inner.Queues.{state}
+use Rattle.mark.specs.Inner.Joining.{in_use}
 use Rattle.mark.proofs.Holding.{HoldsFrame}
 use Rattle.mark.proofs.queue.Queue.hold_frame.Given as goal
 

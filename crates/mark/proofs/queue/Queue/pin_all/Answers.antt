@@ -1,5 +1,5 @@
 use Rattle.reach.specs.Marking.{pin_all}
-use Rattle.mark.specs.Objects.{lives}
+use Rattle.mark.specs.Inner.Objects.{lives}
 use Rattle.mark.proofs.States.{pushing-start}
 use Rattle.mark.proofs.Bridge.{pins-next, pins-end}
 use Rattle.mark.proofs.queue.Queue.pin_all.Goals as goal

@@ -1,7 +1,7 @@
 -- `Queue::pin_all` meets its contract.
 use Rattle.reach.specs.Marking.{pin_all}
-use Rattle.mark.specs.Objects.{lives}
-use Rattle.mark.specs.Queues.{state}
+use Rattle.mark.specs.Inner.Objects.{lives}
+use Rattle.mark.specs.Inner.Queues.{state}
 use Rattle.mark.proofs.Bridge.{Pins}
 use Rattle.mark.proofs.queue.Queue.pin_all.Given as goal
 

@@ -1,6 +1,6 @@
 use mathlib.Core.Path.{refl}
 use Rattle.reach.specs.Marking.{follow_all}
-use Rattle.mark.specs.Objects.{leads}
+use Rattle.mark.specs.Inner.Objects.{leads}
 use Rattle.mark.proofs.States.{pushing-start}
 use Rattle.mark.proofs.Bridge.{pushes-next, pushes-end}
 use Rattle.mark.proofs.queue.Queue.push_all.Goals as goal

@@ -1,7 +1,7 @@
 -- `Queue::push_all` meets its contract.
 use Rattle.reach.specs.Marking.{follow_all}
-use Rattle.mark.specs.Objects.{leads}
-use Rattle.mark.specs.Queues.{state}
+use Rattle.mark.specs.Inner.Objects.{leads}
+use Rattle.mark.specs.Inner.Queues.{state}
 use Rattle.mark.proofs.Bridge.{Pushes}
 use Rattle.mark.proofs.queue.Queue.push_all.Given as goal
 

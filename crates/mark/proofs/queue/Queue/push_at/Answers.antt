@@ -1,6 +1,6 @@
 -- `Queue::push_at` meets its contract.
 use mathlib.Core.Path.{refl}
-use Rattle.trace.specs.Emit.{resolve_in}
+use Rattle.trace.specs.Inner.Emit.{resolve_in}
 use Rattle.mark.proofs.States.{same-again}
 use Rattle.mark.proofs.Inside.{resolves-in}
 use Rattle.mark.proofs.Bridge.{emit-noted}

@@ -1,9 +1,9 @@
 -- `mark::queue::Queue::push_row` meets its contract.
 use Prim.Native.Nat.{◌+◌, ◌-◌}
-use Rattle.mark.specs.Objects.{leads}
-use Rattle.mark.specs.Safepoints.{live_values}
-use Rattle.mark.specs.Queues.{state}
-use Rattle.mark.specs.Joining.{taking}
+use Rattle.mark.specs.Inner.Objects.{leads}
+use Rattle.mark.specs.Inner.Safepoints.{live_values}
+use Rattle.mark.specs.Inner.Queues.{state}
+use Rattle.mark.specs.Inner.Joining.{taking}
 use Rattle.mark.proofs.RowPushes.{RowPushes, words_of, bits_left}
 use Rattle.mark.proofs.queue.Queue.push_row.Given as goal
 

@@ -1,7 +1,7 @@
 -- `mark::queue::Queue::seed_joined` meets its contract: step by step.
 use Rattle.frame.specs.Frame.{entries_of, entries_words}
-use Rattle.mark.specs.Objects.{leads}
-use Rattle.mark.specs.Safepoints.{live_values}
+use Rattle.mark.specs.Inner.Objects.{leads}
+use Rattle.mark.specs.Inner.Safepoints.{live_values}
 use Rattle.mark.proofs.FrameMarks.{joined-seeds}
 use Rattle.mark.proofs.queue.Queue.seed_joined.Goals as goal
 

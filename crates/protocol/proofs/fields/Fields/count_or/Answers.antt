@@ -1,7 +1,7 @@
 -- `protocol::fields::Fields::count_or` meets its contract.
 use mathlib.Core.Path.{sym, ◌∙◌, ap}
 use Rattle.std.proofs.lemmas.Bool.{true≢false}
-use Rattle.protocol.specs.Lines.{or_bad}
+use Rattle.protocol.specs.Inner.Lines.{or_bad}
 use Rattle.protocol.proofs.Parting.{given-none, given-some}
 use Rattle.protocol.proofs.fields.Fields.count_or.Goals as goal
 

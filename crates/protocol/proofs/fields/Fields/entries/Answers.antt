@@ -2,7 +2,7 @@
 use native.Mathlib.Omega.{arith}
 use mathlib.Core.Path.{sym, ap, ◌∙◌}
 use Rattle.std.specs.Prelude.{Some}
-use Rattle.protocol.specs.Lines.{dashed, rest_parts}
+use Rattle.protocol.specs.Inner.Lines.{dashed, rest_parts}
 use Rattle.protocol.proofs.Spelling.{list-dash, left-none, left-over, left-next, left-end, passed}
 use Rattle.protocol.proofs.fields.Fields.entries.Goals as goal
 

@@ -1,7 +1,7 @@
 -- `protocol::fields::Fields::entries` meets its contract.
 use Prim.Native.Nat.{◌≤◌}
 use lib.ListN.{length}
-use Rattle.protocol.specs.Lines.{field_of, rest_parts}
+use Rattle.protocol.specs.Inner.Lines.{field_of, rest_parts}
 use Rattle.protocol.proofs.Spelling.{Left, left_size}
 use Rattle.protocol.proofs.fields.Fields.entries.Given as goal
 

@@ -3,7 +3,7 @@ use native.Mathlib.Omega.{arith}
 use mathlib.Core.Path.{sym, ap, ◌∙◌}
 use mathlib.Core.List.{List}
 use Prim.Native.Nat.{ℕ}
-use Rattle.protocol.specs.Lines.{or_bad, signed_of}
+use Rattle.protocol.specs.Inner.Lines.{or_bad, signed_of}
 use Rattle.protocol.proofs.Spelling.{signed-plain, signed-bad, signed-ok}
 use Rattle.protocol.proofs.fields.Fields.signed.Goals as goal
 

@@ -2,7 +2,7 @@
 use Prim.Native.Nat.{ℕ, ◌≤◌}
 use lib.ListN.{length}
 use Rattle.std.specs.List.{All}
-use Rattle.protocol.specs.Lines.{field_of, rest_parts, single_of}
+use Rattle.protocol.specs.Inner.Lines.{field_of, rest_parts, single_of}
 use Rattle.protocol.proofs.Spelling.{Left, left_size}
 use Rattle.protocol.proofs.fields.Fields.words.Given as goal
 

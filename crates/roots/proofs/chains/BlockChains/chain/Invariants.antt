@@ -1,6 +1,6 @@
 -- `roots::chains::chain` meets its contract.
 use Prim.Native.Nat.{◌≤◌}
-use Rattle.roots.specs.Columns.{Chains}
+use Rattle.roots.specs.Inner.Columns.{Chains}
 use Rattle.roots.proofs.chains.BlockChains.chain.Given as goal
 
 abbrev pub invariant-loop-b : goal.invariant-loop-b

@@ -1,4 +1,4 @@
-use Rattle.text.specs.Answer.{hex_at}
+use Rattle.text.specs.Inner.Answer.{hex_at}
 use Rattle.text.proofs.Putting.{Copies}
 use Rattle.text.proofs.hex.Hex.copy.Given as goal
 

@@ -2,10 +2,10 @@ use Prim.Native.Nat.{◌+◌, ◌-◌, ◌*◌, ◌≤◌}
 use mathlib.Core.Path.{◌≡◌}
 use lib.ListN.{length}
 use Rattle.ty.specs.View.{lent, fields_from}
-use Rattle.trace.specs.Emit.{raw_of, handing_at}
-use Rattle.trace.specs.Walk.{walk, elem_places, record_places, records_places}
+use Rattle.trace.specs.Inner.Emit.{raw_of, handing_at}
+use Rattle.trace.specs.Inner.Walk.{walk, elem_places, record_places, records_places}
 use Rattle.trace.specs.Places.{places_at}
-use Rattle.trace.specs.Traced.{aimed}
+use Rattle.trace.specs.Inner.Traced.{aimed}
 use Rattle.trace.proofs.tracer.Tracer.+trace_array_trace_each_trace_elems_trace_field_trace_in_trace_parts_trace_record_trace_records.Given as goal
 
 abbrev pub decreases-trace_array : goal.decreases-trace_array

@@ -3,8 +3,8 @@ use Prim.Native.Nat.{◌+◌, ◌-◌, ◌*◌, ◌/◌}
 use mathlib.Core.Path.{◌≡◌}
 use lib.ListN.{length}
 use Rattle.trace.specs.Places.{rising, handles_places}
-use Rattle.trace.specs.Emit.{raw_of, handed_all}
-use Rattle.trace.specs.Traced.{aimed}
+use Rattle.trace.specs.Inner.Emit.{raw_of, handed_all}
+use Rattle.trace.specs.Inner.Traced.{aimed}
 use Rattle.trace.proofs.tracer.Tracer.hand_handles.Given as goal
 
 abbrev pub invariant-loop-i : goal.invariant-loop-i

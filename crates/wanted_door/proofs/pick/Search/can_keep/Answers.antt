@@ -1,7 +1,7 @@
 -- `wanted_door::pick::Search::can_keep` meets its contract.
 use mathlib.Core.Path.{sym, ap}
 use Rattle.std.specs.Prelude.{Option as Maybe}
-use Rattle.mark.specs.Queues.{counted}
+use Rattle.mark.specs.Inner.Queues.{counted}
 use Rattle.word.proofs.Bools.{true-false}
 use Rattle.wanted_door.specs.Inner.Searching.{graph, slots}
 use Rattle.wanted_door.proofs.Meeting.{live_below}

@@ -1,6 +1,6 @@
 -- `wanted_door::pick::Search::choose_roots` meets its contract.
 use mathlib.Core.Path.{sym, ap, ◌∙◌}
-use Rattle.mark.specs.Queues.{counted}
+use Rattle.mark.specs.Inner.Queues.{counted}
 use mathlib.Core.Bool.{Bool}
 use Rattle.wanted_door.specs.Inner.Picking.{notes_if}
 use Rattle.wanted_door.specs.Inner.Searching.{graph, slots}

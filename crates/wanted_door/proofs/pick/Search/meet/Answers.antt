@@ -2,7 +2,7 @@
 use mathlib.Core.Path.{ap}
 use native.Mathlib.Omega.{arith}
 use Rattle.std.specs.Prelude.{Option as Maybe}
-use Rattle.mark.specs.Queues.{counted}
+use Rattle.mark.specs.Inner.Queues.{counted}
 use Rattle.mark.proofs.States.{same-again}
 use Rattle.wanted_door.proofs.Meeting.{stopped, met-old, met-scratch, met-stuck, met-new}
 use Rattle.wanted_door.proofs.pick.Search.meet.Goals as goal
