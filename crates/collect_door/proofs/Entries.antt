@@ -1,9 +1,9 @@
 -- What the tests of the public collections find, and what follows for the calls. Assumes nothing.
 use mathlib.Core.Path.{◌≡◌, refl, sym, ap, ◌∙◌}
-use mathlib.Core.Bool.{Bool, true, false}
+use mathlib.Core.Bool.{Bool, true, false, ◌&&◌}
 use mathlib.Core.List.{List, [], ◌∷◌, ◌++◌, map}
 use mathlib.Core.Logic.{◌↔◌}
-use Prim.Native.Nat.{ℕ, ◌≤◌, ◌<◌}
+use Prim.Native.Nat.{ℕ, ◌≤◌}
 use lib.ListN.{length}
 use lib.Dec.{leb, eqb}
 use borrow.Author.Tests.{le-leb, leb-true, eq-eqb, ne_eqb, eqb-true}
@@ -30,7 +30,7 @@ use Rattle.collect.specs.Inner.Safepoint.{at_safepoint, CanLook}
 use Rattle.door.specs.HeapCalls.{Test, test, admitted, enough, zeros, scratch_after, Entered, outcome, outcome_of}
 use Rattle.door.specs.HeapCalls.{Entry}
 use Rattle.door.specs.HeapCalls.{ready}
-use Rattle.door.proofs.Entering.{fails, passes, more-ready, few-marks, few_words, is-enough, and-holds, and-fails, and-more, cleared-in, holding, call-refused, call-cleared, marks-zero, work-zero, rows-zero, zeros-again, zeros-room}
+use Rattle.door.proofs.Entering.{fails, passes, more-ready, and-holds, and-fails, and-more, cleared-in, holding, call-refused, call-cleared, marks-zero, work-zero, rows-zero, zeros-again, zeros-room}
 use Rattle.collect_door.specs.Calls.{Given, table_in, given_tests, tests, collect_call, Asked, table, frame, pinning, coded, roomy, row_tests, input_tests, joining, joined_call}
 use Rattle.collect_door.specs.Demand.{RightlyCollected, Demand}
 use Rattle.collect_door.proofs.Theorem.{collect-rightly, demand}
@@ -104,34 +104,35 @@ pub by-leb : (b : Bool) (n k : ℕ) → (b ≡ true) ↔ (n ≤ k) → b ≡ leb
 by-leb b n k e = bool-ext b (leb n k) (λ h. le-leb n k (e.0 h)) (λ h. e.1 (leb-true n k h))
 
 module _ (n : ℕ) (m w r : List ℕ) (l : Lent) where
-  pub no-marks : length m < slot_count l → Entered (m ∷ w ∷ r ∷ []) (row_tests n m w r l) (Err Scratch) (m ∷ w ∷ r ∷ [])
-  unfolding roomy
-  no-marks h = record { found = fails _ _ _ (simp (few-marks m w l h)); left = refl }
+  module _ {u : Bool} (v : u ≡ (leb (slot_count l) (length m) && leb (slot_count l) (length w))) where
+    fits-is : u ≡ enough m w l
+    unfolding enough
+    fits-is = v
 
-  pub no_words : slot_count l ≤ length m → length w < slot_count l → Entered (m ∷ w ∷ r ∷ []) (row_tests n m w r l) (Err Scratch) (m ∷ w ∷ r ∷ [])
-  unfolding roomy
-  no_words h k = record { found = fails _ _ _ (simp (few_words m w l h k)); left = refl }
-
-  module _ (h : slot_count l ≤ length m) (k : slot_count l ≤ length w) (q : Bool) (e : q ≡ leb n (length r)) where
-    pub no_rows : q ≡ false → Entered (m ∷ w ∷ r ∷ []) (row_tests n m w r l) (Err Scratch) (m ∷ w ∷ r ∷ [])
+    pub no-scratch : u ≡ false → Entered (m ∷ w ∷ r ∷ []) (row_tests n m w r l) (Err Scratch) (m ∷ w ∷ r ∷ [])
     unfolding roomy
-    no_rows j = record { found = fails _ _ _ (simp (is-enough m w l h k, sym e ∙ j)); left = refl }
+    no-scratch h = record { found = fails _ _ _ (simp (sym fits-is ∙ h)); left = refl }
 
-    module _ (j : q ≡ true) (b : Bool) (m' w' r' : List ℕ) (f : (b ≡ well_formed l) × (m' ≡ zeros m)) (z : w' ≡ zeros w) (y : r' ≡ zeros r) where
-      cleared : m' ∷ w' ∷ r' ∷ [] ≡ zeros m ∷ zeros w ∷ zeros r ∷ []
-      cleared = λ i. f.1 i ∷ z i ∷ y i ∷ []
-
-      is-roomy : roomy n m w r l ≡ true
+    module _ (h : u ≡ true) (q : Bool) (e : q ≡ leb n (length r)) where
+      pub no_rows : q ≡ false → Entered (m ∷ w ∷ r ∷ []) (row_tests n m w r l) (Err Scratch) (m ∷ w ∷ r ∷ [])
       unfolding roomy
-      is-roomy = simp (is-enough m w l h k, sym e ∙ j)
+      no_rows j = record { found = fails _ _ _ (simp (sym fits-is ∙ h, sym e ∙ j)); left = refl }
 
-      pub not-formed : b ≡ false → Entered (m ∷ w ∷ r ∷ []) (row_tests n m w r l) (Err BrokenHeap) (m' ∷ w' ∷ r' ∷ [])
-      not-formed x = record { found = passes _ _ _ is-roomy (fails _ _ _ (sym f.0 ∙ x)); left = cleared }
+      module _ (j : q ≡ true) (b : Bool) (m' w' r' : List ℕ) (f : (b ≡ well_formed l) × (m' ≡ zeros m)) (z : w' ≡ zeros w) (y : r' ≡ zeros r) where
+        cleared : m' ∷ w' ∷ r' ∷ [] ≡ zeros m ∷ zeros w ∷ zeros r ∷ []
+        cleared = λ i. f.1 i ∷ z i ∷ y i ∷ []
 
-      pub is-formed : b ≡ true → Entered (m ∷ w ∷ r ∷ []) (row_tests n m w r l) ready (m' ∷ w' ∷ r' ∷ [])
-      unfolding admitted
-      is-formed x =
-          record { found = passes (roomy n m w r l) Scratch (test (well_formed l) BrokenHeap ∷ []) is-roomy (passes (well_formed l) BrokenHeap [] (sym f.0 ∙ x) refl); left = cleared }
+        is-roomy : roomy n m w r l ≡ true
+        unfolding roomy
+        is-roomy = simp (sym fits-is ∙ h, sym e ∙ j)
+
+        pub not-formed : b ≡ false → Entered (m ∷ w ∷ r ∷ []) (row_tests n m w r l) (Err BrokenHeap) (m' ∷ w' ∷ r' ∷ [])
+        not-formed x = record { found = passes _ _ _ is-roomy (fails _ _ _ (sym f.0 ∙ x)); left = cleared }
+
+        pub is-formed : b ≡ true → Entered (m ∷ w ∷ r ∷ []) (row_tests n m w r l) ready (m' ∷ w' ∷ r' ∷ [])
+        unfolding admitted
+        is-formed x =
+            record { found = passes (roomy n m w r l) Scratch (test (well_formed l) BrokenHeap ∷ []) is-roomy (passes (well_formed l) BrokenHeap [] (sym f.0 ∙ x) refl); left = cleared }
 
 -- ---- the inputs
 

@@ -32,11 +32,7 @@ fn enter_rows(
         (row_tests (need (code_lent code.now)) marks.old work.old rows.old (lent heap narrow.now wide.now pool.now))
         result (marks.new ∷ work.new ∷ rows.new ∷ []) }
 {
-    let slots = narrow.len() / 6;
-    if marks.len() < slots {
-        return Err(Refusal::Scratch);
-    }
-    if work.len() < slots {
+    if !door::scratch_fits(narrow, marks, work) {
         return Err(Refusal::Scratch);
     }
     if !rows_fit(code, rows.len()) {

@@ -2,7 +2,7 @@
 use mathlib.Core.Path.{◌≡◌, refl, sym, ap, ◌∙◌}
 use mathlib.Core.Bool.{Bool, true, false}
 use mathlib.Core.List.{List, [], ◌∷◌}
-use Prim.Native.Nat.{ℕ, ◌/◌, ◌≤◌, ◌<◌}
+use Prim.Native.Nat.{ℕ, ◌/◌}
 use native.Mathlib.Omega.{arith}
 use lib.ListN.{length}
 use lib.Dec.{leb}
@@ -20,10 +20,10 @@ use Rattle.heap.specs.Calls.{new}
 use Rattle.heap.specs.Done.{Tells}
 use Rattle.heap.specs.declared.Heap.{Heap}
 use Rattle.heap.proofs.Testing.{stored-formed}
-use Rattle.door.specs.HeapCalls.{test, admitted, zeros, Entered, outcome}
+use Rattle.door.specs.HeapCalls.{test, admitted, enough, zeros, Entered, outcome}
 use Rattle.door.specs.HeapCalls.{Entry}
 use Rattle.door.specs.HeapCalls.{ready}
-use Rattle.door.proofs.Entering.{fails, passes, passed, few-marks, few_words, is-enough, call-refused, call-ready}
+use Rattle.door.proofs.Entering.{fails, passes, passed, call-refused, call-ready}
 use Rattle.heap.specs.Sizes.{sizes_fit}
 use Rattle.heap.proofs.Sizes.{Sizes, sizes-tested}
 use Rattle.object_door.specs.Making.{no_header, new_tests, making, new_call}
@@ -54,23 +54,25 @@ module _ (m w narrow wide pool : List ℕ) where
   abbrev l : Lent
   l = lent no_header narrow wide pool
 
-  pub new-no-marks : length m < length narrow / 6 → Entered (m ∷ w ∷ []) (new_tests m w narrow wide pool) (Err Scratch) (m ∷ w ∷ [])
-  new-no-marks h = record { found = fails _ _ _ (few-marks m w l h); left = refl }
+  module _ {u : Bool} (v : u ≡ (leb (length narrow / 6) (length m) && leb (length narrow / 6) (length w))) where
+    fits-is : u ≡ enough m w l
+    unfolding enough
+    fits-is = v
 
-  pub new-no-words : length narrow / 6 ≤ length m → length w < length narrow / 6 → Entered (m ∷ w ∷ []) (new_tests m w narrow wide pool) (Err Scratch) (m ∷ w ∷ [])
-  new-no-words h k = record { found = fails _ _ _ (few_words m w l h k); left = refl }
+    pub new-no-scratch : u ≡ false → Entered (m ∷ w ∷ []) (new_tests m w narrow wide pool) (Err Scratch) (m ∷ w ∷ [])
+    new-no-scratch h = record { found = fails _ _ _ (sym fits-is ∙ h); left = refl }
 
-  module _ (h : length narrow / 6 ≤ length m) (k : length narrow / 6 ≤ length w) (r : Bool) (m' w' : List ℕ) (f : r ≡ sizes_fit (length narrow) (length wide) (length pool)) (z : m' ≡ zeros m) (y : w' ≡ zeros w) where
-    pub new-no-sizes : r ≡ false → Entered (m ∷ w ∷ []) (new_tests m w narrow wide pool) (Err BrokenHeap) (m' ∷ w' ∷ [])
-    new-no-sizes b = record { found = passes _ _ _ (is-enough m w l h k) (fails _ _ _ (sym f ∙ b)); left = λ j. z j ∷ y j ∷ [] }
+    module _ (h : u ≡ true) (r : Bool) (m' w' : List ℕ) (f : r ≡ sizes_fit (length narrow) (length wide) (length pool)) (z : m' ≡ zeros m) (y : w' ≡ zeros w) where
+      pub new-no-sizes : r ≡ false → Entered (m ∷ w ∷ []) (new_tests m w narrow wide pool) (Err BrokenHeap) (m' ∷ w' ∷ [])
+      new-no-sizes b = record { found = passes _ _ _ (sym fits-is ∙ h) (fails _ _ _ (sym f ∙ b)); left = λ j. z j ∷ y j ∷ [] }
 
-    pub new-sizes : r ≡ true → Entered (m ∷ w ∷ []) (new_tests m w narrow wide pool) ready (m' ∷ w' ∷ [])
-    unfolding admitted
-    new-sizes b =
-        record {
-          found = passes _ _ (test (sizes_fit (length narrow) (length wide) (length pool)) BrokenHeap ∷ []) (is-enough m w l h k) (passes (sizes_fit (length narrow) (length wide) (length pool)) BrokenHeap [] (sym f ∙ b) refl);
-          left = λ j. z j ∷ y j ∷ [];
-        }
+      pub new-sizes : r ≡ true → Entered (m ∷ w ∷ []) (new_tests m w narrow wide pool) ready (m' ∷ w' ∷ [])
+      unfolding admitted
+      new-sizes b =
+          record {
+            found = passes _ _ (test (sizes_fit (length narrow) (length wide) (length pool)) BrokenHeap ∷ []) (sym fits-is ∙ h) (passes (sizes_fit (length narrow) (length wide) (length pool)) BrokenHeap [] (sym f ∙ b) refl);
+            left = λ j. z j ∷ y j ∷ [];
+          }
 
 -- ---- the call
 

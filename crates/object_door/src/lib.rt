@@ -33,11 +33,7 @@ fn enter_new(
         (new_tests marks.old work.old narrow.now wide.now pool.now)
         result (marks.new ∷ work.new ∷ []) }
 {
-    let slots = narrow.len() / 6;
-    if marks.len() < slots {
-        return Err(Refusal::Scratch);
-    }
-    if work.len() < slots {
+    if !door::scratch_fits(narrow, marks, work) {
         return Err(Refusal::Scratch);
     }
     marks.fill(0);

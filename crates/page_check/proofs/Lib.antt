@@ -8,4 +8,5 @@ pub mod Names
 pub mod Heads
 pub mod Assembly
 pub mod Verdict
+pub mod Unlisted
 pub mod Parts

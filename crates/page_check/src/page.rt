@@ -1,6 +1,6 @@
 // A text that is a page, with what the first pass found in it: is each of its slots where it belongs?
-ghost use Rattle.std.specs.Prelude.{◌≡◌, ◌*◌, ◌≤◌, ◌++◌, length, true, false, MatchOption};
-ghost use Rattle.page_check.specs.Inner.Partition.{Marked, each};
+ghost use Rattle.std.specs.Prelude.{ℕ, ◌≡◌, ◌*◌, ◌≤◌, ◌++◌, length, true, false, MatchOption};
+ghost use Rattle.page_check.specs.Inner.Partition.{Marked, right, each};
 ghost use Rattle.page_check.specs.Inner.Filling.{slots_at, SlotsParsed, RunChecked};
 ghost use Rattle.page_check.specs.Sections.{heap_in, form_in, listed, obeyed, parted, Sectioned};
 
@@ -98,6 +98,18 @@ impl Page<'_> {
         true
     }
 
+    // The same of a rule on the slots that stand in a list of `count` values: where there are none, no line is read.
+    fn check_listed(self, rule: Rule, count: usize, row: &mut [u64]) -> bool
+        requires room { 1 ≤ length row.old }
+        requires asked { (count ≡ length (listed rule (heap_in self.text.now))) × ((g k : ℕ) → right rule g k 0 ≡ true) }
+        ensures { result ≡ obeyed rule (heap_in self.entry.text.now) }
+    {
+        if count == 0 {
+            return true;
+        }
+        self.check_rule(rule, row)
+    }
+
     // Is each slot of a page in exactly one place: live, or once in one of the lists? And, in a page with `retired`, is no free slot worn out and each retired one?
     pub fn partition(self, row: &mut [u64]) -> bool
         requires { 1 ≤ length row.old }
@@ -109,9 +121,9 @@ impl Page<'_> {
         if !self.sections.retiring {
             return true;
         }
-        if !self.check_rule(Rule::Young, row) {
+        if !self.check_listed(Rule::Young, self.sections.free, row) {
             return false;
         }
-        self.check_rule(Rule::Worn, row)
+        self.check_listed(Rule::Worn, self.sections.retired, row)
     }
 }

@@ -21,31 +21,6 @@ use page_check::page::Page;
 use pages::Listed;
 use text::hex::Hex;
 
-// Puts the numbers of slots into their runs.
-fn fill_slots(lines: Lines, narrow: &mut [u32], wide: &mut [u64])
-    requires { (lines.count ≤ length narrow.old / 6) × (4 * (length narrow.old / 6) ≤ length wide.old) }
-    ensures { NumbersFilled narrow.old wide.old narrow.new wide.new (slots_at lines.entry.text.now lines.entry.at lines.entry.count) }
-{
-    let Lines { text: s, at, count } = lines;
-    let all = narrow.len() / 6;
-    let two = 2 * all;
-    let mut k = at;
-    let mut from = 0;
-    for i in 0..count {
-        let Some(x) = page_check::get_slot(s, k, true) else {
-            return;
-        };
-        narrow[i] = x.generation as u32;
-        narrow[all + i] = x.kind as u32;
-        narrow[two + i] = x.ty as u32;
-        wide[i] = x.start;
-        wide[two + i] = x.writes;
-        from += x.bytes;
-        wide[all + i] = from as u64;
-        k = x.next;
-    }
-}
-
 // Puts an object's bytes, whose column a text spells, into the pool from `to` on, and answers where they end. Planes are restored in place.
 fn fill_column(hex: Hex, planar: bool, pool: &mut [u8], to: usize) -> usize
     requires { to + hex.count ≤ length pool.old }
@@ -59,18 +34,29 @@ fn fill_column(hex: Hex, planar: bool, pool: &mut [u8], to: usize) -> usize
     end
 }
 
-// Puts the data of slots into the pool, one after the other.
-fn fill_data(lines: Lines, planar: bool, pool: &mut [u8])
-    requires { data_size (slots_at lines.text.now lines.at lines.count) ≤ length pool.old }
-    ensures { pool.new ≡ put_text pool.old 0 (flat (data_of (map (out_of_column planar) (slots_at lines.entry.text.now lines.entry.at lines.entry.count)))) }
+// Puts the numbers of slots into their runs and their data into the pool, one after the other.
+fn fill_slots(lines: Lines, planar: bool, narrow: &mut [u32], wide: &mut [u64], pool: &mut [u8])
+    requires { (lines.count ≤ length narrow.old / 6) × (4 * (length narrow.old / 6) ≤ length wide.old) × (data_size (slots_at lines.text.now lines.at lines.count) ≤ length pool.old) }
+    ensures numbers { NumbersFilled narrow.old wide.old narrow.new wide.new (slots_at lines.entry.text.now lines.entry.at lines.entry.count) }
+    ensures bytes { pool.new ≡ put_text pool.old 0 (flat (data_of (map (out_of_column planar) (slots_at lines.entry.text.now lines.entry.at lines.entry.count)))) }
 {
     let Lines { text: s, at, count } = lines;
+    let all = narrow.len() / 6;
+    let two = 2 * all;
     let mut k = at;
+    let mut from = 0;
     let mut to = 0;
     for i in 0..count {
         let Some(x) = page_check::get_slot(s, k, true) else {
             return;
         };
+        narrow[i] = x.generation as u32;
+        narrow[all + i] = x.kind as u32;
+        narrow[two + i] = x.ty as u32;
+        wide[i] = x.start;
+        wide[two + i] = x.writes;
+        from += x.bytes;
+        wide[all + i] = from as u64;
         let hex = Hex {
             text: s,
             at: x.next - 1 - x.bytes - x.bytes,
@@ -212,8 +198,7 @@ fn load(page: Page, narrow: &mut [u32], wide: &mut [u64], pool: &mut [u8]) -> He
         at: x.slots_at,
         count: x.slots,
     };
-    fill_slots(lines, narrow, wide);
-    fill_data(lines, x.planar, pool);
+    fill_slots(lines, x.planar, narrow, wide, pool);
     let c = part_free(s, x.free_at, x.free, narrow);
     fill_lists(page, narrow, wide);
     header(page, c.free, c.retired)

@@ -38,17 +38,9 @@ plenty-words : (S w m k : ℕ) → w / 2 < S → plenty S w m k ≡ false
 unfolding plenty
 plenty-words S w m k h = simp (lt-leb S (w / 2) h)
 
-plenty-marks : (S w m k : ℕ) → S ≤ w / 2 → m < S → plenty S w m k ≡ false
+plenty-rest : (S w m k : ℕ) → S ≤ w / 2 → plenty S w m k ≡ (leb S m && leb S k)
 unfolding plenty
-plenty-marks S w m k a h = simp (le-leb S (w / 2) a, lt-leb S m h)
-
-plenty-work : (S w m k : ℕ) → S ≤ w / 2 → S ≤ m → k < S → plenty S w m k ≡ false
-unfolding plenty
-plenty-work S w m k a b h = simp (le-leb S (w / 2) a, le-leb S m b, lt-leb S k h)
-
-is-plenty : (S w m k : ℕ) → S ≤ w / 2 → S ≤ m → S ≤ k → plenty S w m k ≡ true
-unfolding plenty
-is-plenty S w m k a b c = simp (le-leb S (w / 2) a, le-leb S m b, le-leb S k c)
+plenty-rest S w m k a = rw (le-leb S (w / 2) a) refl
 
 plenty-tested : (S w m k : ℕ) → plenty S w m k ≡ true → (S ≤ w / 2) × ((S ≤ m) × (S ≤ k))
 unfolding plenty
@@ -85,43 +77,42 @@ module _ (g : Given) (narrow wide pool out : ℕ) (w m k : List ℕ) where
   pub few_words : length w / 2 < narrow / 6 → Entered (w ∷ m ∷ k ∷ []) tests (Err Scratch) (w ∷ m ∷ k ∷ [])
   few_words h = record { found = fails _ _ _ (plenty-words S (length w) (length m) (length k) h); left = refl }
 
-  module _ (a : narrow / 6 ≤ length w / 2) where
-    pub few-marks : length m < narrow / 6 → Entered (w ∷ m ∷ k ∷ []) tests (Err Scratch) (w ∷ m ∷ k ∷ [])
-    few-marks h = record { found = fails _ _ _ (plenty-marks S (length w) (length m) (length k) a h); left = refl }
+  module _ (a : narrow / 6 ≤ length w / 2) {u : Bool} (v : u ≡ (leb (narrow / 6) (length m) && leb (narrow / 6) (length k))) where
+    fits-is : plenty S (length w) (length m) (length k) ≡ u
+    fits-is = plenty-rest S (length w) (length m) (length k) a ∙ sym v
 
-    module _ (b : narrow / 6 ≤ length m) where
-      pub few-work : length k < narrow / 6 → Entered (w ∷ m ∷ k ∷ []) tests (Err Scratch) (w ∷ m ∷ k ∷ [])
-      few-work h = record { found = fails _ _ _ (plenty-work S (length w) (length m) (length k) a b h); left = refl }
+    pub few-scratch : u ≡ false → Entered (w ∷ m ∷ k ∷ []) tests (Err Scratch) (w ∷ m ∷ k ∷ [])
+    few-scratch e = record { found = fails _ _ _ (fits-is ∙ e); left = refl }
 
-      module _ (c : narrow / 6 ≤ length k) {w' m' k' : List ℕ} (zw : w' ≡ replicate (length w) 0) (zm : m' ≡ replicate (length m) 0) (zk : k' ≡ replicate (length k) 0) where
-        cleared : w' ∷ m' ∷ k' ∷ [] ≡ zeros w ∷ zeros m ∷ zeros k ∷ []
-        cleared = λ j. zw j ∷ zm j ∷ zk j ∷ []
+    module _ (c : u ≡ true) {w' m' k' : List ℕ} (zw : w' ≡ replicate (length w) 0) (zm : m' ≡ replicate (length m) 0) (zk : k' ≡ replicate (length k) 0) where
+      cleared : w' ∷ m' ∷ k' ∷ [] ≡ zeros w ∷ zeros m ∷ zeros k ∷ []
+      cleared = λ j. zw j ∷ zm j ∷ zk j ∷ []
 
-        enough : plenty S (length w) (length m) (length k) ≡ true
-        enough = is-plenty S (length w) (length m) (length k) a b c
+      enough : plenty S (length w) (length m) (length k) ≡ true
+      enough = fits-is ∙ c
 
-        module _ {t : Bool} (et : t ≡ is_text g.text) where
-          pub no_text : t ≡ false → Entered (w ∷ m ∷ k ∷ []) tests (Err Page) (w' ∷ m' ∷ k' ∷ [])
-          no_text f = record { found = passes _ _ _ enough (fails _ _ _ (sym et ∙ f)); left = cleared }
+      module _ {t : Bool} (et : t ≡ is_text g.text) where
+        pub no_text : t ≡ false → Entered (w ∷ m ∷ k ∷ []) tests (Err Page) (w' ∷ m' ∷ k' ∷ [])
+        no_text f = record { found = passes _ _ _ enough (fails _ _ _ (sym et ∙ f)); left = cleared }
 
-          module _ (yt : t ≡ true) {z : Bool} (ez : z ≡ sizes_fit narrow wide pool) where
-            pub no-sizes : z ≡ false → Entered (w ∷ m ∷ k ∷ []) tests (Err BrokenHeap) (w' ∷ m' ∷ k' ∷ [])
-            no-sizes f = record { found = passes _ _ _ enough (passes _ _ _ (sym et ∙ yt) (fails _ _ _ (sym ez ∙ f))); left = cleared }
+        module _ (yt : t ≡ true) {z : Bool} (ez : z ≡ sizes_fit narrow wide pool) where
+          pub no-sizes : z ≡ false → Entered (w ∷ m ∷ k ∷ []) tests (Err BrokenHeap) (w' ∷ m' ∷ k' ∷ [])
+          no-sizes f = record { found = passes _ _ _ enough (passes _ _ _ (sym et ∙ yt) (fails _ _ _ (sym ez ∙ f))); left = cleared }
 
-            module _ (yz : z ≡ true) {y : Bool} (ey : y ≡ table_good g.types g.fields g.consts g.bytes) where
-              pub no_table : y ≡ false → Entered (w ∷ m ∷ k ∷ []) tests (Err TypeTable) (w' ∷ m' ∷ k' ∷ [])
-              no_table f = record { found = passes _ _ _ enough (passes _ _ _ (sym et ∙ yt) (passes _ _ _ (sym ez ∙ yz) (fails _ _ _ (sym ey ∙ f)))); left = cleared }
+          module _ (yz : z ≡ true) {y : Bool} (ey : y ≡ table_good g.types g.fields g.consts g.bytes) where
+            pub no_table : y ≡ false → Entered (w ∷ m ∷ k ∷ []) tests (Err TypeTable) (w' ∷ m' ∷ k' ∷ [])
+            no_table f = record { found = passes _ _ _ enough (passes _ _ _ (sym et ∙ yt) (passes _ _ _ (sym ez ∙ yz) (fails _ _ _ (sym ey ∙ f)))); left = cleared }
 
-              module _ (yy : y ≡ true) where
-                pub no_output : out / 80 < length g.thresholds → Entered (w ∷ m ∷ k ∷ []) tests (Err ShortList) (w' ∷ m' ∷ k' ∷ [])
-                no_output h = record { found = passes _ _ _ enough (passes _ _ _ (sym et ∙ yt) (passes _ _ _ (sym ez ∙ yz) (passes _ _ _ (sym ey ∙ yy) (fails _ _ _ (not-roomy (length g.thresholds) out h))))); left = cleared }
+            module _ (yy : y ≡ true) where
+              pub no_output : out / 80 < length g.thresholds → Entered (w ∷ m ∷ k ∷ []) tests (Err ShortList) (w' ∷ m' ∷ k' ∷ [])
+              no_output h = record { found = passes _ _ _ enough (passes _ _ _ (sym et ∙ yt) (passes _ _ _ (sym ez ∙ yz) (passes _ _ _ (sym ey ∙ yy) (fails _ _ _ (not-roomy (length g.thresholds) out h))))); left = cleared }
 
-                pub all_there : length g.thresholds ≤ out / 80 → Entered (w ∷ m ∷ k ∷ []) tests ready (w' ∷ m' ∷ k' ∷ [])
-                all_there h =
-                    record {
-                      found = passes _ _ _ enough (passes _ _ _ (sym et ∙ yt) (passes _ _ _ (sym ez ∙ yz) (passes _ _ _ (sym ey ∙ yy) (passes (roomy (length g.thresholds) out) ShortList [] (is-roomy (length g.thresholds) out h) none_left))));
-                      left = cleared;
-                    }
+              pub all_there : length g.thresholds ≤ out / 80 → Entered (w ∷ m ∷ k ∷ []) tests ready (w' ∷ m' ∷ k' ∷ [])
+              all_there h =
+                  record {
+                    found = passes _ _ _ enough (passes _ _ _ (sym et ∙ yt) (passes _ _ _ (sym ez ∙ yz) (passes _ _ _ (sym ey ∙ yy) (passes (roomy (length g.thresholds) out) ShortList [] (is-roomy (length g.thresholds) out h) none_left))));
+                    left = cleared;
+                  }
 
 -- ---- the call
 

@@ -35,10 +35,7 @@ fn admit(
     if words.len() / 2 < slots {
         return Err(Refusal::Scratch);
     }
-    if marks.len() < slots {
-        return Err(Refusal::Scratch);
-    }
-    if work.len() < slots {
+    if !door::scratch_fits(narrow, marks, work) {
         return Err(Refusal::Scratch);
     }
     words.fill(0);

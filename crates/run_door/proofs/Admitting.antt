@@ -19,7 +19,7 @@ use Rattle.door.specs.HeapCalls.{test, admitted, enough, heap_tests, zeros, scra
 use Rattle.door.specs.HeapCalls.{Entry}
 use Rattle.std.specs.Prelude.{Err}
 use Rattle.door.specs.HeapCalls.{ready}
-use Rattle.door.proofs.Entering.{fails, passes, few-marks, few_words, is-enough, holding, cleared-in, call-cleared}
+use Rattle.door.proofs.Entering.{fails, passes, holding, cleared-in, call-cleared}
 use Rattle.script.specs.Script.{begins_call, run_script}
 use Rattle.run_door.specs.Run.{run_tests, run_call}
 use Rattle.run_door.proofs.Answering.{CanRun}
@@ -38,27 +38,33 @@ module _ (room m w : List ℕ) (l : Lent) (t : List ℕ) where
   pub no_room : length room < pool_size l → Entered (room ∷ m ∷ w ∷ []) (run_tests room m w l t) (Err Scratch) (room ∷ m ∷ w ∷ [])
   no_room h = record { found = fails _ _ _ (and-false (enough m w l) (leb (pool_size l) (length room)) (lt-leb (pool_size l) (length room) h)); left = refl }
 
-  pub no-marks : length m < slot_count l → Entered (room ∷ m ∷ w ∷ []) (run_tests room m w l t) (Err Scratch) (room ∷ m ∷ w ∷ [])
-  no-marks h = record { found = fails _ _ _ (ap (λ (b : Bool). b && leb (pool_size l) (length room)) (few-marks m w l h)); left = refl }
+  module _ {u : Bool} (v : u ≡ (leb (slot_count l) (length m) && leb (slot_count l) (length w))) where
+    fits-is : u ≡ enough m w l
+    unfolding enough
+    fits-is = v
 
-  pub no_words : slot_count l ≤ length m → length w < slot_count l → Entered (room ∷ m ∷ w ∷ []) (run_tests room m w l t) (Err Scratch) (room ∷ m ∷ w ∷ [])
-  no_words h k = record { found = fails _ _ _ (ap (λ (b : Bool). b && leb (pool_size l) (length room)) (few_words m w l h k)); left = refl }
+    pub no-scratch : u ≡ false → Entered (room ∷ m ∷ w ∷ []) (run_tests room m w l t) (Err Scratch) (room ∷ m ∷ w ∷ [])
+    no-scratch e = record { found = fails _ _ _ (ap (λ (b : Bool). b && leb (pool_size l) (length room)) (sym fits-is ∙ e)); left = refl }
 
-  all_there : pool_size l ≤ length room → slot_count l ≤ length m → slot_count l ≤ length w → (enough m w l && leb (pool_size l) (length room)) ≡ true
-  all_there h i k = simp (is-enough m w l i k, le-leb (pool_size l) (length room) h)
+    module _ (h : pool_size l ≤ length room) (i : u ≡ true) where
+      is-enough : enough m w l ≡ true
+      is-enough = sym fits-is ∙ i
 
-  module _ (h : pool_size l ≤ length room) (i : slot_count l ≤ length m) (k : slot_count l ≤ length w) {room' m' w' : List ℕ} (z : room' ≡ replicate (length room) 0) where
-    pub bad-line : {b : Bool} → b ≡ begins_call t → b ≡ false → m' ≡ replicate (length m) 0 → w' ≡ replicate (length w) 0
-        → Entered (room ∷ m ∷ w ∷ []) (run_tests room m w l t) (Err Page) (room' ∷ m' ∷ w' ∷ [])
-    bad-line p q y x = record { found = passes _ _ _ (all_there h i k) (fails _ _ _ (sym p ∙ q)); left = λ j. z j ∷ y j ∷ x j ∷ [] }
+      all_there : (enough m w l && leb (pool_size l) (length room)) ≡ true
+      all_there = simp (is-enough, le-leb (pool_size l) (length room) h)
 
-    pub by-heap : {b : Bool} {e : Entry} → b ≡ begins_call t → b ≡ true → Entered (m ∷ w ∷ []) (heap_tests m w l) e (m' ∷ w' ∷ [])
-        → Entered (room ∷ m ∷ w ∷ []) (run_tests room m w l t) e (room' ∷ m' ∷ w' ∷ [])
-    by-heap {e = e} p q s =
-        let f : e ≡ admitted (test (well_formed l) BrokenHeap ∷ []) = s.found ∙ sym (passes (enough m w l) Scratch (test (well_formed l) BrokenHeap ∷ []) (is-enough m w l i k) refl) in
-        let r : m' ∷ w' ∷ [] ≡ zeros m ∷ zeros w ∷ [] = s.left ∙ not-scratch (well_formed l) e (m ∷ w ∷ []) f in
-        let a : room' ∷ m' ∷ w' ∷ [] ≡ zeros room ∷ zeros m ∷ zeros w ∷ [] = λ j. z j ∷ r j in
-        record { found = passes _ _ _ (all_there h i k) (passes _ _ _ (sym p ∙ q) f); left = a ∙ sym (not-scratch (well_formed l) e (room ∷ m ∷ w ∷ []) f) }
+      module _ {room' m' w' : List ℕ} (z : room' ≡ replicate (length room) 0) where
+        pub bad-line : {b : Bool} → b ≡ begins_call t → b ≡ false → m' ≡ replicate (length m) 0 → w' ≡ replicate (length w) 0
+            → Entered (room ∷ m ∷ w ∷ []) (run_tests room m w l t) (Err Page) (room' ∷ m' ∷ w' ∷ [])
+        bad-line p q y x = record { found = passes _ _ _ all_there (fails _ _ _ (sym p ∙ q)); left = λ j. z j ∷ y j ∷ x j ∷ [] }
+
+        pub by-heap : {b : Bool} {e : Entry} → b ≡ begins_call t → b ≡ true → Entered (m ∷ w ∷ []) (heap_tests m w l) e (m' ∷ w' ∷ [])
+            → Entered (room ∷ m ∷ w ∷ []) (run_tests room m w l t) e (room' ∷ m' ∷ w' ∷ [])
+        by-heap {e = e} p q s =
+            let f : e ≡ admitted (test (well_formed l) BrokenHeap ∷ []) = s.found ∙ sym (passes (enough m w l) Scratch (test (well_formed l) BrokenHeap ∷ []) is-enough refl) in
+            let r : m' ∷ w' ∷ [] ≡ zeros m ∷ zeros w ∷ [] = s.left ∙ not-scratch (well_formed l) e (m ∷ w ∷ []) f in
+            let a : room' ∷ m' ∷ w' ∷ [] ≡ zeros room ∷ zeros m ∷ zeros w ∷ [] = λ j. z j ∷ r j in
+            record { found = passes _ _ _ all_there (passes _ _ _ (sym p ∙ q) f); left = a ∙ sym (not-scratch (well_formed l) e (room ∷ m ∷ w ∷ []) f) }
 
   module _ {room' m' w' : List ℕ} {e : Entry} (s : Entered (room ∷ m ∷ w ∷ []) (run_tests room m w l t) e (room' ∷ m' ∷ w' ∷ [])) (i : e ≡ ready) where
     pub run-ready : length room' ≡ length room → CanRun l room'

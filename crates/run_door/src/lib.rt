@@ -121,14 +121,10 @@ fn admit(
         (lent heap narrow.now wide.now pool.now) script.now)
         result (room.new ∷ marks.new ∷ work.new ∷ []) }
 {
-    let slots = narrow.len() / 6;
     if room.len() < pool.len() {
         return Err(Refusal::Scratch);
     }
-    if marks.len() < slots {
-        return Err(Refusal::Scratch);
-    }
-    if work.len() < slots {
+    if !door::scratch_fits(narrow, marks, work) {
         return Err(Refusal::Scratch);
     }
     room.fill(0);

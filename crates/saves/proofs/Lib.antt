@@ -5,3 +5,4 @@ pub mod TwoLent
 pub mod Theorem
 pub mod Orders
 pub mod Cases
+pub mod Once

@@ -1,4 +1,5 @@
 -- The definitions that the public contracts cite.
 pub mod SlotHandles
 pub mod Traceable
+pub mod Once
 pub mod Inner

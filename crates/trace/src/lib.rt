@@ -36,6 +36,8 @@ pub enum Goal<'a> {
 }
 
 // An object is met: unless it is marked, it is marked and queued. The upper half of each word is left as it is, for what a call notes of a slot.
+// Kept: `inline(always)` here and at `emit`, `trace_handles` and `trace_slot`, which a marking goes through for each object. They have callers with other sinks too, so in an archive `trace_slot` was else a call with a dozen arguments.
+#[inline(always)]
 pub fn queue(marks: &mut [u8], to: &mut [u64], n: usize, i: u32) -> usize
     ensures { raw_of marks.new to.new result ≡ queued (raw_of marks.old to.old n) i }
 {
@@ -57,6 +59,7 @@ pub fn queue(marks: &mut [u8], to: &mut [u64], n: usize, i: u32) -> usize
 
 // One handle goes to the sink.
 // Kept: the marks, the words and their count are three parameters, here and in the tracer: each sink means another thing by them (a limit that is counted up to, a list, a queue, what was found beside), so that a struct's names would be true of one sink alone. What a marking means by them is `mark::queue::Queue`.
+#[inline(always)]
 pub fn emit(here: Slots, sink: Sink, marks: &mut [u8], to: &mut [u64], n: usize, h: u64) -> usize
     ensures { raw_of marks.new to.new result ≡
         emitted (into sink (slots_resolve here.entry)) (raw_of marks.old to.old n) h }
@@ -137,6 +140,7 @@ pub fn trace_object(
 }
 
 // The handles of a Handles object's visible data to a sink: at 24, 32, .. while eight bytes fit. It stands beside Tracer::hand_handles, for which a collection would make a tracer for nothing.
+#[inline(always)]
 pub fn trace_handles(
     here: Slots,
     data: &[u8],
@@ -180,6 +184,7 @@ fn trace_typed(
 
 // The handles that a slot of a heap shows, to a sink: bytes before start are never traced.
 // Kept: kind, type and start are read from the slot's columns for this call alone, so that a struct of them would be made and taken apart at once; the kind is the column's number, which shows nothing where it is neither 1 nor 3.
+#[inline(always)]
 pub fn trace_slot(
     table: &Table,
     here: Slots,

@@ -1,4 +1,3 @@
-use Prim.Native.Nat.{◌-◌}
 use Rattle.page_reader.proofs.Listing.{Listing}
 use Rattle.page_reader.proofs.fill_values.Given as goal
 

@@ -1,4 +1,3 @@
-use Prim.Native.Nat.{◌-◌}
 use Rattle.page_reader.proofs.Parting.{Parting}
 use Rattle.page_reader.proofs.part_free.Given as goal
 
