@@ -35,6 +35,7 @@ FILES = [
     ("held_collections", "held_collect/src/lib.rt"),
     ("held_collections_joined", "held_collect/src/joined.rt"),
     ("held_readings", "held_reads/src/lib.rt"),
+    ("held_countings", "held_figures/src/lib.rt"),
 ]
 WORDS = "requires ensures result record old new now entry exit λ if then else true false u8 u32 u64 usize bool mut".split()
 

@@ -366,9 +366,9 @@ fn roots_found(table: &mut Table, shape: &str, n: usize, count: usize, edges: im
     let (port, mut rust, _) = graph(n, edges);
     let (types, prog) = (TypeTable::new(), Program::default());
     let wanted: Vec<Slot> = (0..n as u32).map(Slot).collect();
-    let mut out = vec![0; n];
+    let mut out = vec![Handle::NULL; n];
     let a = time(|| assert_eq!(port.roots_for_into(&types, &[], &wanted, &mut out), Ok(count)));
-    let b = time(|| assert!(rust.collect(&prog, &out[..count], &[])));
+    let b = time(|| assert!(rust.collect(&prog, Handle::numbers(&out[..count]), &[])));
     assert!(rust.live() == n);
     table.row(&format!("roots_for, {shape} (ns), by slots"), n, NONE, a, b);
 }

@@ -1,7 +1,7 @@
 //! The page's text (docs/FORMAT.md) in plain Rust, over the memory that the port has: what the port's writer and reader are measured against. The reader takes a good page for granted
 //! beyond what it must parse: it does not see whether the heap is well formed.
 use std::fmt::Write;
-use yexwalu::{Heap, Header, Memory};
+use yexwalu::{Handle, Heap, Header, Memory, Slot};
 
 const NAMES: &str = "tag,since_gc,reclaim_at,live_bytes,slots,free,quarantine,sealed,retired";
 const COLUMNS: &str = "generation,kind,type,start,writes64,data";
@@ -65,13 +65,13 @@ pub fn write(heap: &Heap, planar: bool, out: &mut String) {
         from = end[i] as usize;
     }
     out.push_str("free\n");
-    lines(&m.free()[..h.free], out);
+    lines(Slot::numbers(&m.free()[..h.free]), out);
     out.push_str("quarantine\n");
-    lines(&m.quarantine()[..h.quarantine], out);
+    lines(Slot::numbers(&m.quarantine()[..h.quarantine]), out);
     out.push_str("sealed\n");
-    lines(&m.sealed()[..h.sealed], out);
+    lines(Handle::numbers(&m.sealed()[..h.sealed]), out);
     out.push_str("retired\n");
-    lines(&m.retired()[..h.retired], out);
+    lines(Slot::numbers(&m.retired()[..h.retired]), out);
 }
 
 fn digit(b: u8) -> Option<u8> {

@@ -85,13 +85,13 @@ fn layout(rows: &mut Table, what: &str, size: usize, target: Target, types: Type
 // The handles of one object, of which there are so many.
 fn handles(rows: &mut Table, what: &str, size: usize, target: Target, types: Types, (ty, data, count): (u32, &[u8], usize), once: bool) {
     let Types { table, prog } = types;
-    let mut out = vec![0; count];
+    let mut out = vec![Handle::NULL; count];
     let mut there = Vec::new();
     assert!(heap::object_handles(&prog, TyId(ty), data, &mut there));
-    assert!(table.object_handles_into(ty, data, &mut out) == Ok(count) && out == there);
+    assert!(table.object_handles_into(ty, data, &mut out) == Ok(count) && Handle::numbers(&out) == there);
     let a = if once {
         let table = table.checked().unwrap();
-        assert!(table.object_handles_into(ty, data, &mut out) == Ok(count) && out == there);
+        assert!(table.object_handles_into(ty, data, &mut out) == Ok(count) && Handle::numbers(&out) == there);
         time(|| {
             black_box(table.object_handles_into(ty, data, &mut out).unwrap());
         })

@@ -144,9 +144,9 @@ impl CheckedTable {
     }
 
     /// As [`TypeTable::object_handles_into`], which also refuses too short a list (7).
-    pub fn object_handles_into(&self, ty: TypeId, data: &[u8], out: &mut [u64]) -> Result<usize, Refusal> {
+    pub fn object_handles_into(&self, ty: TypeId, data: &[u8], out: &mut [Handle]) -> Result<usize, Refusal> {
         let (c, b) = (&self.0.consts, &self.0.bytes);
-        let answer = on_checked!(self, yexwalu_held_object_handles(c.as_ptr(), c.len(), b.as_ptr(), b.len(), ty.into(), data.as_ptr(), data.len(), out.as_mut_ptr(), out.len()));
+        let answer = on_checked!(self, yexwalu_held_object_handles(c.as_ptr(), c.len(), b.as_ptr(), b.len(), ty.into(), data.as_ptr(), data.len(), out.as_mut_ptr().cast(), out.len()));
         Refusal::check(answer.number)?;
         Ok(answer.first as usize)
     }
@@ -157,9 +157,9 @@ impl CheckedTable {
     }
 
     /// As [`TypeTable::value_handles_into`], which also refuses too short a list (7).
-    pub fn value_handles_into(&self, ty: TypeId, data: &[u8], out: &mut [u64]) -> Result<usize, Refusal> {
+    pub fn value_handles_into(&self, ty: TypeId, data: &[u8], out: &mut [Handle]) -> Result<usize, Refusal> {
         let (c, b) = (&self.0.consts, &self.0.bytes);
-        let answer = on_checked!(self, yexwalu_held_value_handles(c.as_ptr(), c.len(), b.as_ptr(), b.len(), ty.into(), data.as_ptr(), data.len(), out.as_mut_ptr(), out.len()));
+        let answer = on_checked!(self, yexwalu_held_value_handles(c.as_ptr(), c.len(), b.as_ptr(), b.len(), ty.into(), data.as_ptr(), data.len(), out.as_mut_ptr().cast(), out.len()));
         Refusal::check(answer.number)?;
         Ok(answer.first as usize)
     }

@@ -32,6 +32,19 @@ pub struct Header {
     pub sealed: usize,
 }
 
+/// What a heap shows on a shelf of pages (docs/FORMAT.md, section 16): see [`Heap::figures`](crate::Heap::figures). It may get more fields.
+#[repr(C)]
+#[derive(Clone, Copy, Debug, Default, PartialEq, Eq)]
+#[non_exhaustive]
+pub struct Figures {
+    /// How many objects there are.
+    pub objects: u64,
+    /// How many bytes of data they have together, those before their starts too.
+    pub bytes: u64,
+    /// The most that one of them has, 0 where there is none.
+    pub largest: u64,
+}
+
 /// Document 01's number, 0 for success, and the values, zeros after a refusal but 13 of `traceable`, which has the slot.
 #[repr(C)]
 #[derive(Clone, Copy, Debug, PartialEq, Eq)]

@@ -111,10 +111,10 @@ pub struct Memory {
 }
 
 macro_rules! runs {
-    ($($(#[$doc:meta])* $name:ident, $list:ident, $number:ty, $run:expr;)*) => {
+    ($($(#[$doc:meta])* $name:ident, $list:ident, $number:ty, $run:expr $(, $of:expr)?;)*) => {
         $($(#[$doc])* pub fn $name(&self) -> &[$number] {
             let from = $run * self.slots();
-            self.$list.get(from..from + self.slots()).unwrap_or(&[])
+            $($of)? (self.$list.get(from..from + self.slots()).unwrap_or(&[]))
         })*
     };
 }
@@ -152,11 +152,11 @@ impl Memory {
         /// Each slot's type, 0 where the kind is not 1.
         ty, narrow, u32, 2;
         /// The dead slots that may be given out; the last one in use is next.
-        free, narrow, u32, 3;
+        free, narrow, Slot, 3, Slot::list;
         /// The dead slots that wait for `Heap::recycle`.
-        quarantine, narrow, u32, 4;
+        quarantine, narrow, Slot, 4, Slot::list;
         /// The dead slots that have their last generation, 4,294,967,295, and are given out no more.
-        retired, narrow, u32, 5;
+        retired, narrow, Slot, 5, Slot::list;
         /// From which byte of its data on a slot's object is visible.
         start, wide, u64, 0;
         /// Where each slot's data ends in the pool; it begins where that of the slot before ends.
@@ -164,7 +164,7 @@ impl Memory {
         /// How often each slot's object was written.
         writes, wide, u64, 2;
         /// The handles that were sealed, in slot order.
-        sealed, wide, u64, 3;
+        sealed, wide, Handle, 3, Handle::list;
     }
 }
 
@@ -689,17 +689,17 @@ impl Heap {
     /// ```
     pub fn roots_for(&self, types: &TypeTable, pins: &[Slot], wanted: &[Slot]) -> Result<Vec<Handle>, Refusal> {
         let mut out = vec![0; wanted.len()];
-        let n = self.roots_for_into(types, pins, wanted, &mut out)?;
+        let n = self.roots_for_into(types, pins, wanted, Handle::list_mut(&mut out))?;
         out.truncate(n);
         Ok(out.into_iter().map(Handle).collect())
     }
 
     /// As `roots_for`, with the handles written to the front of a lent list (7). The answer is how many.
-    pub fn roots_for_into(&self, types: &TypeTable, pins: &[Slot], wanted: &[Slot], out: &mut [u64]) -> Result<usize, Refusal> {
+    pub fn roots_for_into(&self, types: &TypeTable, pins: &[Slot], wanted: &[Slot], out: &mut [Handle]) -> Result<usize, Refusal> {
         let answer = ask!(self, yexwalu_roots_for(
             types.types.as_ptr(), types.types.len(), types.fields.as_ptr(), types.fields.len(),
             types.consts.as_ptr(), types.consts.len(), types.bytes.as_ptr(), types.bytes.len())
-            (pins.as_ptr().cast(), pins.len(), wanted.as_ptr().cast(), wanted.len(), out.as_mut_ptr(), out.len()));
+            (pins.as_ptr().cast(), pins.len(), wanted.as_ptr().cast(), wanted.len(), out.as_mut_ptr().cast(), out.len()));
         Ok(Heap::pair(answer)?.0 as usize)
     }
 
@@ -1014,18 +1014,18 @@ impl Heap {
     pub fn slot_handles(&self, types: &TypeTable, slot: impl Into<Slot>) -> Result<Vec<Handle>, Refusal> {
         let slot = slot.into();
         let mut out = vec![0; self.size_of(slot.at()) / 8];
-        let n = self.slot_handles_into(types, slot, &mut out)?;
+        let n = self.slot_handles_into(types, slot, Handle::list_mut(&mut out))?;
         out.truncate(n);
         Ok(out.into_iter().map(Handle).collect())
     }
 
     /// As `slot_handles`, with the handles written to the front of a lent list (7). The answer is how many.
-    pub fn slot_handles_into(&self, types: &TypeTable, slot: impl Into<Slot>, out: &mut [u64]) -> Result<usize, Refusal> {
+    pub fn slot_handles_into(&self, types: &TypeTable, slot: impl Into<Slot>, out: &mut [Handle]) -> Result<usize, Refusal> {
         let slot = slot.into().at();
         let told = ask_known!(self, yexwalu_held_slot_handles, yexwalu_slot_handles(
             types.types.as_ptr(), types.types.len(), types.fields.as_ptr(), types.fields.len(),
             types.consts.as_ptr(), types.consts.len(), types.bytes.as_ptr(), types.bytes.len())
-            (slot, out.as_mut_ptr(), out.len()));
+            (slot, out.as_mut_ptr().cast(), out.len()));
         Ok(told?.0 as usize)
     }
 

@@ -12,9 +12,10 @@
 //!   crates/histories/specs; a page that is not read leaves what was there.
 //!
 //! The calls on a type table have no `requires`: on every table they answer what their contracts say, which is what the public calls do where the table is in order. `CheckedTable` has such a one in a private field.
+//! Nor has that which puts a line of figures: its output is an array, of which Rust knows the length.
 //!
 //! The header lies in `Header` as four parts: the tag; since_gc, reclaim_at, live_bytes and epoch; the log; the five lengths. `Parts` points to them, and is held to the struct below.
-use crate::ffi::{Answer, Header, RawLayout};
+use crate::ffi::{Answer, Figures, Header, RawLayout};
 use std::mem::{offset_of, size_of};
 use std::ptr::addr_of_mut;
 
@@ -62,83 +63,87 @@ impl Parts {
     }
 }
 
+// One call: its name, what it begins with, what is given after that, its answer.
+macro_rules! held_call {
+    ($name:ident [$($first:ident : $f:ty),*] ($($given:ident : $g:ty),*) $r:ty) => {
+        extern "C" {
+            pub fn $name($($first: $f,)* $($given: $g),*) -> $r;
+        }
+    };
+}
+
+// Calls that begin with the same.
 macro_rules! held_calls {
-    ($($name:ident ( $($given:ident : $g:ty),* );)*) => {
-        extern "C" {
-            $(pub fn $name(
+    ($first:tt $($name:ident $given:tt -> $r:ty;)*) => {
+        $(held_call! { $name $first $given $r })*
+    };
+}
+
+// Calls on a heap, after what stands before it.
+macro_rules! held_heap_calls {
+    ([$($before:tt)*] $($calls:tt)*) => {
+        held_calls! {
+            [
+                $($before)*
                 tag: *mut u8, numbers: *mut u64, log: *mut u32, lengths: *mut u64,
                 narrow: *mut u32, narrow_len: usize,
                 wide: *mut u64, wide_len: usize,
-                pool: *mut u8, pool_len: usize,
-                $($given: $g),*
-            ) -> Answer;)*
+                pool: *mut u8, pool_len: usize
+            ]
+            $($calls)*
         }
     };
 }
 
-held_calls! {
-    yexwalu_held_alloc_from(kind: u8, ty: u32, start: usize, bytes: *const u8, bytes_len: usize);
-    yexwalu_held_take(handle: u64, out: *mut u8, out_len: usize);
-    yexwalu_held_free(handle: u64);
-    yexwalu_held_recycle(pins: *const u32, pins_len: usize);
-    yexwalu_held_edit(handle: u64, bytes: *const u8, bytes_len: usize, start: usize);
-    yexwalu_held_reissue(i: usize, grown: u64);
-    yexwalu_held_seal();
-    yexwalu_held_write(i: usize, at: usize, bytes: *const u8, bytes_len: usize);
-    yexwalu_held_resolve(handle: u64);
-    yexwalu_held_data(i: usize);
-    yexwalu_held_kind(i: usize);
-    yexwalu_held_stamp(i: usize);
-    yexwalu_held_live();
-    yexwalu_held_slots();
-    yexwalu_held_gc_due(threshold: u64);
-    yexwalu_held_reclaim_due();
-    yexwalu_held_has_quarantine();
-    yexwalu_held_is_plain(wanted: u8);
-    yexwalu_held_page_length(planar: bool);
-    yexwalu_held_write_page(planar: bool, out: *mut u8, out_len: usize);
-}
-
-macro_rules! held_traced_calls {
-    ($($name:ident ( $($given:ident : $g:ty),* );)*) => {
-        extern "C" {
-            $(pub fn $name(
-                types: *const u64, types_len: usize,
-                fields: *const u32, fields_len: usize,
-                consts: *const u64, consts_len: usize,
-                bytes: *const u8, bytes_len: usize,
-                tag: *mut u8, numbers: *mut u64, log: *mut u32, lengths: *mut u64,
-                narrow: *mut u32, narrow_len: usize,
-                wide: *mut u64, wide_len: usize,
-                pool: *mut u8, pool_len: usize,
-                $($given: $g),*
-            ) -> Answer;)*
-        }
-    };
+held_heap_calls! {
+    []
+    yexwalu_held_alloc_from(kind: u8, ty: u32, start: usize, bytes: *const u8, bytes_len: usize) -> Answer;
+    yexwalu_held_take(handle: u64, out: *mut u8, out_len: usize) -> Answer;
+    yexwalu_held_free(handle: u64) -> Answer;
+    yexwalu_held_recycle(pins: *const u32, pins_len: usize) -> Answer;
+    yexwalu_held_edit(handle: u64, bytes: *const u8, bytes_len: usize, start: usize) -> Answer;
+    yexwalu_held_reissue(i: usize, grown: u64) -> Answer;
+    yexwalu_held_seal() -> Answer;
+    yexwalu_held_write(i: usize, at: usize, bytes: *const u8, bytes_len: usize) -> Answer;
+    yexwalu_held_resolve(handle: u64) -> Answer;
+    yexwalu_held_data(i: usize) -> Answer;
+    yexwalu_held_kind(i: usize) -> Answer;
+    yexwalu_held_stamp(i: usize) -> Answer;
+    yexwalu_held_live() -> Answer;
+    yexwalu_held_slots() -> Answer;
+    yexwalu_held_gc_due(threshold: u64) -> Answer;
+    yexwalu_held_reclaim_due() -> Answer;
+    yexwalu_held_has_quarantine() -> Answer;
+    yexwalu_held_is_plain(wanted: u8) -> Answer;
+    yexwalu_held_page_length(planar: bool) -> Answer;
+    yexwalu_held_write_page(planar: bool, out: *mut u8, out_len: usize) -> Answer;
+    yexwalu_held_figures() -> Figures;
 }
 
 // These ask about the type table each time, and the collections about their other inputs too.
-held_traced_calls! {
-    yexwalu_held_collect(roots: *const u64, roots_len: usize, pins: *const u32, pins_len: usize, marks: *mut u8, marks_len: usize, work: *mut u64, work_len: usize);
-    yexwalu_held_collect_joined(kinds: *const u8, kinds_len: usize, ends: *const u32, ends_len: usize, refs: *const u32, refs_len: usize, blocks: *const u32, blocks_len: usize, classes: *const u8, classes_len: usize, pc: usize, values: *const u64, values_len: usize, map: *const u32, map_len: usize, memory: *const u8, memory_len: usize, pins: *const u32, pins_len: usize, addresses: *const u64, addresses_len: usize, marks: *mut u8, marks_len: usize, work: *mut u64, work_len: usize, rows: *mut u64, rows_len: usize);
-    yexwalu_held_slot_handles(slot: usize, out: *mut u64, out_len: usize);
+held_heap_calls! {
+    [
+        types: *const u64, types_len: usize,
+        fields: *const u32, fields_len: usize,
+        consts: *const u64, consts_len: usize,
+        bytes: *const u8, bytes_len: usize,
+    ]
+    yexwalu_held_collect(roots: *const u64, roots_len: usize, pins: *const u32, pins_len: usize, marks: *mut u8, marks_len: usize, work: *mut u64, work_len: usize) -> Answer;
+    yexwalu_held_collect_joined(kinds: *const u8, kinds_len: usize, ends: *const u32, ends_len: usize, refs: *const u32, refs_len: usize, blocks: *const u32, blocks_len: usize, classes: *const u8, classes_len: usize, pc: usize, values: *const u64, values_len: usize, map: *const u32, map_len: usize, memory: *const u8, memory_len: usize, pins: *const u32, pins_len: usize, addresses: *const u64, addresses_len: usize, marks: *mut u8, marks_len: usize, work: *mut u64, work_len: usize, rows: *mut u64, rows_len: usize) -> Answer;
+    yexwalu_held_slot_handles(slot: usize, out: *mut u64, out_len: usize) -> Answer;
 }
 
-macro_rules! held_table_calls {
-    ($($name:ident ( $($given:ident : $g:ty),* ) -> $r:ty;)*) => {
-        extern "C" {
-            $(pub fn $name(
-                types: *const u64, types_len: usize,
-                fields: *const u32, fields_len: usize,
-                $($given: $g),*
-            ) -> $r;)*
-        }
-    };
-}
-
-held_table_calls! {
+// On a type table alone.
+held_calls! {
+    [types: *const u64, types_len: usize, fields: *const u32, fields_len: usize]
     yexwalu_held_layout(consts: *const u64, consts_len: usize, bytes: *const u8, bytes_len: usize, t: u64, desc: *const u8, desc_len: usize, out: *mut u64, out_len: usize) -> RawLayout;
     yexwalu_held_has_handles(t: u64) -> Answer;
     yexwalu_held_object_handles(consts: *const u64, consts_len: usize, bytes: *const u8, bytes_len: usize, t: u64, data: *const u8, data_len: usize, out: *mut u64, out_len: usize) -> Answer;
     yexwalu_held_value_handles(consts: *const u64, consts_len: usize, bytes: *const u8, bytes_len: usize, t: u64, data: *const u8, data_len: usize, out: *mut u64, out_len: usize) -> Answer;
+}
+
+// On neither: figures by value, and an output of 160 bytes.
+held_calls! {
+    []
+    yexwalu_held_figures_line(page: u64, answer: u64, shown: Figures, out: *mut u8) -> Answer;
 }

@@ -27,10 +27,12 @@
 
 mod checked;
 pub mod ffi;
+mod figures;
 mod function;
 mod handle;
 mod heap;
 mod held;
+mod lists;
 mod open;
 mod place;
 mod refusal;
@@ -39,7 +41,7 @@ mod types;
 mod view;
 
 pub use checked::{AnyTable, CheckedTable};
-pub use ffi::Header;
+pub use ffi::{Figures, Header};
 pub use function::{Class, Function, InstKind, Wanted};
 pub use handle::Handle;
 pub use heap::{Column, Form, Heap, Kind, Memory, Object, Scratch, Stamp};

@@ -1,3 +1,4 @@
+use crate::lists::lists;
 use std::fmt;
 
 /// The index of a slot in its heap. A heap has its slots from 0 on; an index may be of no slot, and a call says so (9).
@@ -9,6 +10,9 @@ use std::fmt;
 /// assert_eq!(heap.resolve(hall)?, Slot(0));
 /// assert_eq!(heap.data(Slot(0))?, heap.data(0)?);
 /// assert_eq!(heap.data(1), Err(Refusal::NothingThere));
+/// // a list of indices is one of slots, and the other way
+/// heap.recycle(Slot::list(&[0, 3]))?;
+/// assert_eq!(Slot::numbers(&[Slot(0), Slot(3)]), [0, 3]);
 /// # Ok::<(), Refusal>(())
 /// ```
 #[derive(Clone, Copy, Debug, Default, PartialEq, Eq, PartialOrd, Ord, Hash)]
@@ -21,6 +25,8 @@ impl Slot {
         self.0 as usize
     }
 }
+
+lists!(Slot, u32, "slots");
 
 impl From<u32> for Slot {
     fn from(index: u32) -> Slot {

@@ -290,10 +290,10 @@ impl TypeTable {
     }
 
     // A handle takes eight bytes, but composites of a frame may overlap: where the first try is too short, the room is doubled.
-    pub(crate) fn listed(mut room: usize, mut call: impl FnMut(&mut [u64]) -> Result<usize, Refusal>) -> Result<Vec<Handle>, Refusal> {
+    pub(crate) fn listed(mut room: usize, mut call: impl FnMut(&mut [Handle]) -> Result<usize, Refusal>) -> Result<Vec<Handle>, Refusal> {
         loop {
             let mut out = vec![0; room];
-            match call(&mut out) {
+            match call(Handle::list_mut(&mut out)) {
                 Err(Refusal::ShortList) => room = 2 * room + 1,
                 Err(why) => return Err(why),
                 Ok(n) => {
@@ -322,8 +322,8 @@ impl TypeTable {
     }
 
     /// As `object_handles`, with the handles written to the front of a lent list (7). The answer is how many.
-    pub fn object_handles_into(&self, ty: TypeId, data: &[u8], out: &mut [u64]) -> Result<usize, Refusal> {
-        let answer = on_table!(self, yexwalu_object_handles(ty.into(), data.as_ptr(), data.len(), out.as_mut_ptr(), out.len()));
+    pub fn object_handles_into(&self, ty: TypeId, data: &[u8], out: &mut [Handle]) -> Result<usize, Refusal> {
+        let answer = on_table!(self, yexwalu_object_handles(ty.into(), data.as_ptr(), data.len(), out.as_mut_ptr().cast(), out.len()));
         Refusal::check(answer.number)?;
         Ok(answer.first as usize)
     }
@@ -343,8 +343,8 @@ impl TypeTable {
     }
 
     /// As `value_handles`, with the handles written to the front of a lent list (7). The answer is how many.
-    pub fn value_handles_into(&self, ty: TypeId, data: &[u8], out: &mut [u64]) -> Result<usize, Refusal> {
-        let answer = on_table!(self, yexwalu_value_handles(ty.into(), data.as_ptr(), data.len(), out.as_mut_ptr(), out.len()));
+    pub fn value_handles_into(&self, ty: TypeId, data: &[u8], out: &mut [Handle]) -> Result<usize, Refusal> {
+        let answer = on_table!(self, yexwalu_value_handles(ty.into(), data.as_ptr(), data.len(), out.as_mut_ptr().cast(), out.len()));
         Refusal::check(answer.number)?;
         Ok(answer.first as usize)
     }
@@ -375,10 +375,10 @@ impl TypeTable {
     }
 
     /// As `slot_roots`, with the handles and the addresses written to the front of lent lists (7). The answer is how many of each.
-    pub fn slot_roots_into(&self, map: &[FrameSlot], memory: &[u8], handles: &mut [u64], addresses: &mut [u64]) -> Result<(usize, usize), Refusal> {
+    pub fn slot_roots_into(&self, map: &[FrameSlot], memory: &[u8], handles: &mut [Handle], addresses: &mut [u64]) -> Result<(usize, usize), Refusal> {
         let map = FrameSlot::words(map);
         let answer = on_table!(self, yexwalu_slot_roots(
-            map.as_ptr(), map.len(), memory.as_ptr(), memory.len(), handles.as_mut_ptr(), handles.len(), addresses.as_mut_ptr(), addresses.len()));
+            map.as_ptr(), map.len(), memory.as_ptr(), memory.len(), handles.as_mut_ptr().cast(), handles.len(), addresses.as_mut_ptr(), addresses.len()));
         Refusal::check(answer.number)?;
         Ok((answer.first as usize, answer.second as usize))
     }

@@ -42,10 +42,10 @@ pub struct View<'a> {
     writes: &'a [u64],
     pool: &'a [u8],
     // what is in use of each list
-    free: &'a [u32],
-    quarantine: &'a [u32],
-    retired: &'a [u32],
-    sealed: &'a [u64],
+    free: &'a [Slot],
+    quarantine: &'a [Slot],
+    retired: &'a [Slot],
+    sealed: &'a [Handle],
 }
 
 impl Heap {
@@ -120,23 +120,23 @@ impl<'a> View<'a> {
     }
 
     /// The dead slots that may be given out; the last one is next.
-    pub fn free(&self) -> impl ExactSizeIterator<Item = Slot> + 'a {
-        self.free.iter().map(|i| Slot(*i))
+    pub fn free(&self) -> &'a [Slot] {
+        self.free
     }
 
     /// The dead slots that wait for `Heap::recycle`.
-    pub fn quarantine(&self) -> impl ExactSizeIterator<Item = Slot> + 'a {
-        self.quarantine.iter().map(|i| Slot(*i))
+    pub fn quarantine(&self) -> &'a [Slot] {
+        self.quarantine
     }
 
     /// The dead slots that are given out no more.
-    pub fn retired(&self) -> impl ExactSizeIterator<Item = Slot> + 'a {
-        self.retired.iter().map(|i| Slot(*i))
+    pub fn retired(&self) -> &'a [Slot] {
+        self.retired
     }
 
     /// The handles that were sealed, in slot order.
-    pub fn sealed(&self) -> impl ExactSizeIterator<Item = Handle> + 'a {
-        self.sealed.iter().map(|h| Handle(*h))
+    pub fn sealed(&self) -> &'a [Handle] {
+        self.sealed
     }
 }
 

@@ -1,6 +1,6 @@
 //! The command `yexwalu`, run as a person runs it: what it prints, where, and its exit status.
 mod common;
-use common::sample;
+use common::{sample, Random};
 use std::io::{self, Write};
 use std::path::PathBuf;
 use std::process::{Command, Stdio};
@@ -236,8 +236,17 @@ fn show_goes_by_a_type_table() {
     for line in ["slot 0, handle 72057594037927937: type 3 node, generation 1, ", "    0 leads to nowhere: null\n", "    72057594037927937 leads to slot 0\n"] {
         assert!(ran.out.contains(line), "{line:?} in {}", ran.out);
     }
-    // without the table they are not found
-    assert!(!run(&["show", &page]).out.contains("leads to"));
+    // without the table they are not looked for
+    let bare = run(&["show", &page]).out;
+    assert!(!bare.contains("leads to") && !bare.contains("can't be found"), "{bare}");
+    assert!(!run(&["show", "--dot", &page]).out.contains("xlabel"));
+    // nor those of an object of which nothing is visible
+    let mut heap = Heap::new(1, 4, 64).unwrap();
+    heap.alloc_from(Kind::Typed(99), 9, &[0; 8]).unwrap();
+    let hidden = file("hidden.page", &heap.write_page().unwrap());
+    let ran = run(&["show", "--types", &table, &hidden]);
+    assert!(ran.status == 0 && ran.out.ends_with(", visible from byte 9 on\n    nothing visible\n"), "{}", ran.out);
+    fs::remove_file(hidden).unwrap();
     let drawn = run(&["show", "--types", &table, "--dot", &page]);
     assert!(drawn.status == 0 && drawn.out.contains("    s1 -> s0;\n"), "{}", drawn.out);
     // another run's table: its types are not those of the objects
@@ -499,6 +508,15 @@ fn shelf_prints_what_the_proved_program_prints() {
     }
     let mut names: Vec<PathBuf> = fs::read_dir(samples("")).unwrap().map(|f| f.unwrap().path()).filter(|p| p.extension().is_some_and(|e| e == "page")).collect();
     names.sort();
+    // heaps of every kind, and the longest pages that the program takes
+    let (mut made, mut random) = (Vec::new(), Random::new(16));
+    for i in 0..40 {
+        made.push(file(&format!("shelf-{i}.page"), &any_heap(&mut random).write_page().unwrap()));
+    }
+    for bytes in 32_767..=32_768 {
+        made.push(file(&format!("shelf-{bytes}.page"), &page_of(bytes)));
+    }
+    names.extend(made.iter().map(PathBuf::from));
     let mut shelf = Vec::new();
     for name in &names {
         let text = fs::read(name).unwrap();
@@ -510,6 +528,41 @@ fn shelf_prints_what_the_proved_program_prints() {
     let here = run(&[&["shelf"], &names.iter().map(|n| n.to_str().unwrap()).collect::<Vec<_>>()[..]].concat());
     assert_eq!(here.out, String::from_utf8(proved.stdout).unwrap());
     fs::remove_file(input).unwrap();
+    made.iter().for_each(|name| fs::remove_file(name).unwrap());
+}
+
+// A heap with dead slots, objects of every kind, and some of which nothing is visible.
+fn any_heap(random: &mut Random) -> Heap {
+    let mut heap = Heap::new(1, 60, 8192).unwrap();
+    for _ in 0..random.below(60) {
+        let bytes = random.bytes(100);
+        let handle = heap.alloc_raw(1 + random.below(3) as u8, random.below(5) as u32, random.below(120) as usize, &bytes).unwrap();
+        if random.below(3) == 0 {
+            heap.free(handle).unwrap();
+        }
+    }
+    heap
+}
+
+// A page of so many bytes, of one object: a start of two digits where they are odd otherwise.
+fn page_of(bytes: usize) -> Vec<u8> {
+    let heap = |size: usize, start: usize| {
+        let mut heap = Heap::new(1, 2, 16384).unwrap();
+        heap.alloc_from(Kind::Bytes, start, &vec![0x5a; size]).unwrap();
+        heap
+    };
+    let mut sizes = (0..bytes / 2).rev().flat_map(|size| [heap(size, 0), heap(size, 10)]);
+    sizes.find(|heap| heap.page_length() == Ok(bytes)).unwrap().write_page().unwrap()
+}
+
+// The figures of a page that the program `shelf` does not take, for its length.
+#[test]
+fn shelf_takes_large_pages() {
+    let (path, _) = large("shelf-large.page");
+    let ran = run(&["shelf", &path, &samples("bytes.page")]);
+    let expected = "page,answer,objects,bytes,largest,mean,rest\n1,0,100000,3200000,32,32,0\n2,0,1,2,2,2,0\n0,0,100001,3200002,32,31,99971\n";
+    assert_eq!((ran.status, ran.out.as_str(), ran.err.as_str()), (0, expected, ""));
+    fs::remove_file(path).unwrap();
 }
 
 // A page of more than 4 MB, in a file of this test's own.

@@ -73,6 +73,7 @@ fn c_type(ty: &str) -> &str {
         "Done" => "yexwalu_done",
         "LayoutAnswer" | "Laying" | "RawLayout" => "yexwalu_layout_answer",
         "TableRead" => "yexwalu_table_read",
+        "Figures" => "yexwalu_figures",
         other => other,
     }
 }
@@ -171,17 +172,19 @@ fn declared(answer: &str, parameters: &str) -> Vec<String> {
     types
 }
 
-// Of `held`: its three macros write what all calls on a heap, on a heap and a table, and on a table begin with.
+// Of `held`: each of its blocks says in brackets what its calls begin with. On a heap that is what stands before the heap; the macro has the heap.
 fn in_held() -> Signatures {
     let source = text("host/src/held.rs");
+    let heap = source.split_once("$($before)*\n").unwrap().1.split_once(']').unwrap().0;
     let mut all = Signatures::new();
-    for part in source.split("pub fn $name(").skip(1) {
-        let (first, rest) = part.split_once("$($given: $g),*").unwrap();
-        for call in rest.split("\n    yexwalu_held_").skip(1) {
+    for block in source.split("\nheld_").skip(1) {
+        let (kind, block) = block.split_once("calls! {\n    [").unwrap();
+        let (first, calls) = block.split_once(']').unwrap();
+        for call in calls.split("\n    yexwalu_held_").skip(1) {
             let (name, rest) = call.split_once('(').unwrap();
-            let (given, rest) = rest.split_once(')').unwrap();
-            let answer = rest.split(';').next().unwrap().strip_prefix(" -> ").unwrap_or("Answer");
-            all.insert(format!("yexwalu_held_{name}"), declared(answer, &[first, given].join(",")));
+            let (given, rest) = rest.split_once(") -> ").unwrap();
+            let parameters = [first, if kind == "heap_" { heap } else { "" }, given].join(",");
+            all.insert(format!("yexwalu_held_{name}"), declared(rest.split(';').next().unwrap(), &parameters));
         }
     }
     all
@@ -242,14 +245,14 @@ fn ffi_has_the_exported_calls() {
     same_calls(&in_ffi(), &exported());
 }
 
-// C gets none of them, and no module but `heap` and `checked` names one.
+// C gets none of them, and no module but `heap`, `checked` and `figures` names one.
 #[test]
 fn the_calls_without_a_check_are_for_rust_alone() {
     same_calls(&in_held(), &exported_held());
     assert!(!header().contains("yexwalu_held_") && !ffi().contains("yexwalu_held_"));
     for file in fs::read_dir(top().join("host/src")).unwrap().map(|f| f.unwrap().path()).filter(|f| f.is_file()) {
         let name = file.file_name().unwrap().to_str().unwrap();
-        assert!(["held.rs", "heap.rs", "checked.rs"].contains(&name) || !fs::read_to_string(&file).unwrap().contains("yexwalu_held_"), "{name}");
+        assert!(["held.rs", "heap.rs", "checked.rs", "figures.rs"].contains(&name) || !fs::read_to_string(&file).unwrap().contains("yexwalu_held_"), "{name}");
     }
     assert!(text("host/src/lib.rs").contains("\nmod held;\n"));
 }
@@ -279,8 +282,10 @@ fn structs_are_the_same_everywhere() {
     for (name, fields) in crates.filter(|c| top().join(format!("crates/{c}/src")).is_dir()).flat_map(|c| structs(&source_of(&c))) {
         assert!(exported.insert(name.clone(), fields).is_none(), "{name} stands twice");
     }
-    assert_eq!(exported.len(), 5);
+    assert_eq!(exported.len(), 6);
     assert_eq!(structs(&ffi()), exported);
+    // only calls without a check take it
+    assert!(exported.remove("yexwalu_figures").is_some());
     let mut header_has = Structs::new();
     for item in header().split("typedef struct {").skip(1) {
         let (fields, rest) = item.split_once("\n}").unwrap();

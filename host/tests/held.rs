@@ -61,7 +61,7 @@ fn make(heap: &mut Heap, c: &Call) -> (String, u64) {
         30 => told(heap.slot_handles(&accesses(c.room), c.slot)),
         31 => {
             let mut out = vec![9; c.pins.len()];
-            let (text, why) = told(heap.slot_handles_into(&accesses(c.room), c.slot, &mut out));
+            let (text, why) = told(heap.slot_handles_into(&accesses(c.room), c.slot, Handle::list_mut(&mut out)));
             (format!("{text} {out:?}"), why)
         }
         32 => told(heap.page_length_with(column(c))),
@@ -253,7 +253,7 @@ fn a_checked_table_answers_as_the_table() {
             assert_eq!(checked.value_handles(ty, &data), table.value_handles(ty, &data));
             let (mut a, mut b) = (vec![9; random.below(4) as usize], Vec::new());
             b.clone_from(&a);
-            assert_eq!(checked.object_handles_into(ty, &data, &mut a), table.object_handles_into(ty, &data, &mut b));
+            assert_eq!(checked.object_handles_into(ty, &data, Handle::list_mut(&mut a)), table.object_handles_into(ty, &data, Handle::list_mut(&mut b)));
             assert_eq!(a, b);
             assert_eq!(checked.layout_into(ty, &desc, &mut a), table.layout_into(ty, &desc, &mut b));
             assert_eq!(a, b);

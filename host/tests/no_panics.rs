@@ -116,7 +116,7 @@ fn calls(random: &mut Random, heap: &mut Heap, told: &mut Answers) {
     let (handle, slot, ty) = (Handle(number(random)), number(random) as u32, number(random) as u32);
     let (bytes, pins, roots) = (random.bytes(40), slots(random), words::<u64>(random, 3).into_iter().map(Handle).collect::<Vec<_>>());
     let (table, function, map) = (any_table(random), any_function(random), any_map(random));
-    match random.below(31) {
+    match random.below(32) {
         0 => drop(told.take(heap.alloc(Kind::Typed(ty), &bytes))),
         1 => drop(told.take(heap.alloc_raw(slot as u8, ty, number(random) as usize, &bytes))),
         2 => drop(told.take(heap.take(handle))),
@@ -144,7 +144,7 @@ fn calls(random: &mut Random, heap: &mut Heap, told: &mut Answers) {
                 told.take(object.handles(&table));
             }
         }
-        18 => drop(told.take(heap.view()).map(|v| (v.object(slot), v.resolve(handle).is_ok(), v.free().count() + v.quarantine().count() + v.retired().count(), v.sealed().count()))),
+        18 => drop(told.take(heap.view()).map(|v| (v.object(slot), v.resolve(handle).is_ok(), v.free().len() + v.quarantine().len() + v.retired().len(), v.sealed().len()))),
         19 => {
             let column = if random.below(2) == 0 { Column::Data } else { Column::Planes };
             let page = told.take(heap.page_with(column)).unwrap_or_default();
@@ -172,6 +172,13 @@ fn calls(random: &mut Random, heap: &mut Heap, told: &mut Answers) {
             told.take(other.order(&table, &others, heap, &roots));
         }
         29 => drop(told.take(heap.same(&table, &roots, heap, &roots)).zip(told.take(heap.order(&table, &roots, heap, &[])))),
+        30 => {
+            // figures of any size: a line has its seven numbers, whatever they are
+            let mut figures = told.take(heap.figures()).unwrap_or_default();
+            (figures.bytes, figures.largest) = (number(random), number(random));
+            let line = figures.and(figures).line(number(random), number(random));
+            assert!(line.ends_with(b"\n") && line.iter().filter(|b| **b == b',').count() == 6);
+        }
         _ => drop(told.take(Heap::read_page(number(random) as usize % 1000, number(random) as usize % 1000, &bytes)).or(told.take(Heap::new(1, number(random) as usize | 1 << 40, 4)))),
     }
 }

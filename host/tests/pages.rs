@@ -1,7 +1,7 @@
 //! A page has the length that is told before. Damaged pages: a page that is read gives back its very text; one that is refused leaves what was lent.
 mod common;
 use common::{narrow, sample, without_retired, Random};
-use yexwalu::{Column, Heap, Kind, Refusal, Scratch};
+use yexwalu::{Column, Heap, Kind, Refusal, Scratch, Slot};
 
 // Reads a text into memory that held something else: five slots and 56 bytes, for which it must have room.
 fn read(slots: usize, pool: usize, text: &[u8]) -> Result<Heap, Refusal> {
@@ -251,7 +251,7 @@ fn worn_out_slots_of_an_earlier_page_retire_in_free_order() {
     read(8, 64, page.as_bytes()).unwrap();
     let mut heap = Heap::read_page(3, 8, page.as_bytes()).unwrap();
     assert_eq!(Heap::read_page(3, 8, dead(&[2, 1, 0], None).as_bytes()).unwrap().write_page().unwrap(), page.as_bytes());
-    assert_eq!((heap.memory().free()[..1].to_vec(), heap.memory().retired()[..2].to_vec()), (vec![1], vec![2, 0]));
+    assert_eq!((heap.memory().free()[..1].to_vec(), heap.memory().retired()[..2].to_vec()), ([1].map(Slot).to_vec(), [2, 0].map(Slot).to_vec()));
     assert_eq!(heap.page_length().unwrap(), page.len());
     heap.alloc(Kind::Bytes, b"a").unwrap();
     assert_eq!(heap.alloc(Kind::Bytes, b"b").err(), Some(Refusal::Full));

@@ -329,20 +329,20 @@ fn the_handles_of_a_slot() {
         let told: Vec<u64> = heap.slot_handles(&table, slot as u32).unwrap().into_iter().map(|h| h.0).collect();
         assert_eq!(told, *wanted, "slot {slot}");
         let mut out = vec![77; wanted.len() + 2];
-        assert_eq!(heap.slot_handles_into(&table, slot as u32, &mut out), Ok(wanted.len()));
+        assert_eq!(heap.slot_handles_into(&table, slot as u32, Handle::list_mut(&mut out)), Ok(wanted.len()));
         assert!(out[..wanted.len()] == **wanted && out[wanted.len()..] == [77; 2]);
         if !wanted.is_empty() {
             let mut out = vec![77; wanted.len() - 1];
-            assert_eq!(heap.slot_handles_into(&table, slot as u32, &mut out), Err(Refusal::ShortList));
+            assert_eq!(heap.slot_handles_into(&table, slot as u32, Handle::list_mut(&mut out)), Err(Refusal::ShortList));
             assert!(out.iter().all(|x| *x == 77));
         }
     }
     // 9 before 13 before 7
     let mut out = [77; 1];
     for slot in [7, 8, 9, u32::MAX] {
-        assert_eq!(heap.slot_handles_into(&table, slot, &mut out), Err(Refusal::NothingThere));
+        assert_eq!(heap.slot_handles_into(&table, slot, Handle::list_mut(&mut out)), Err(Refusal::NothingThere));
     }
-    assert_eq!(heap.slot_handles_into(&table, 6, &mut out[..0]), Err(Refusal::Untraceable));
+    assert_eq!(heap.slot_handles_into(&table, 6, &mut []), Err(Refusal::Untraceable));
     assert!(heap == before && out == [77] && heap.scratch() == Scratch::zeros(8));
     heap.free(slots[3].unwrap()).unwrap();
     assert_eq!(heap.slot_handles(&table, 3), Err(Refusal::NothingThere));
@@ -447,7 +447,7 @@ fn worn_out_slots_retire() {
     assert_eq!(counts(&heap), (1, 1, 1));
     heap.recycle(&[]).unwrap();
     assert_eq!(counts(&heap), (1, 0, 2));
-    assert_eq!((heap.memory().free()[..1].to_vec(), heap.memory().retired()[..2].to_vec()), (vec![2], vec![0, 1]));
+    assert_eq!((heap.memory().free()[..1].to_vec(), heap.memory().retired()[..2].to_vec()), ([2].map(Slot).to_vec(), [0, 1].map(Slot).to_vec()));
     // only the slot at 2 and the one that was never used are given out
     assert_eq!(heap.alloc(Kind::Bytes, b"d"), Ok(Handle(1 << 56 | 2 << 32 | 3)));
     assert_eq!(heap.alloc(Kind::Bytes, b"e"), Ok(Handle(1 << 56 | 3 << 32 | 1)));
@@ -460,7 +460,7 @@ fn worn_out_slots_retire() {
     let (mut heap, _) = old();
     heap.collect(&plain(), &[], &[]).unwrap();
     assert_eq!(counts(&heap), (1, 0, 2));
-    assert_eq!((heap.memory().free()[..1].to_vec(), heap.memory().retired()[..2].to_vec()), (vec![2], vec![0, 1]));
+    assert_eq!((heap.memory().free()[..1].to_vec(), heap.memory().retired()[..2].to_vec()), ([2].map(Slot).to_vec(), [0, 1].map(Slot).to_vec()));
     assert_eq!(heap.memory().generation()[..3], [u32::MAX, u32::MAX, 2]);
 }
 
@@ -512,10 +512,10 @@ fn types_and_their_outputs() {
     let mut object = two.clone();
     object.extend(words(1..5));
     let mut out = [9; 5];
-    assert_eq!(table.object_handles_into(list, &object, &mut out[..3]), Err(Refusal::ShortList));
-    assert_eq!(table.value_handles_into(pair, &object[24..], &mut out[..1]), Err(Refusal::ShortList));
+    assert_eq!(table.object_handles_into(list, &object, Handle::list_mut(&mut out[..3])), Err(Refusal::ShortList));
+    assert_eq!(table.value_handles_into(pair, &object[24..], Handle::list_mut(&mut out[..1])), Err(Refusal::ShortList));
     assert_eq!(out, [9; 5]);
-    assert_eq!(table.object_handles_into(list, &object, &mut out), Ok(4));
+    assert_eq!(table.object_handles_into(list, &object, Handle::list_mut(&mut out)), Ok(4));
     assert_eq!(out, [1, 2, 3, 4, 9]);
     assert_eq!(table.object_handles(list, &object[..object.len() - 1]), Err(Refusal::Untraceable));
     assert_eq!(table.object_handles(list, &two[..23]), Err(Refusal::Untraceable));
@@ -538,10 +538,10 @@ fn frames_and_their_outputs() {
     let memory = words(1..6);
     let map = [FrameSlot::handle(0), FrameSlot::address(8), FrameSlot::composite(16, pair), FrameSlot::address(32)];
     let (mut found, mut addresses) = ([9; 4], [9; 3]);
-    assert_eq!(table.slot_roots_into(&map, &memory, &mut found[..2], &mut addresses), Err(Refusal::ShortList));
-    assert_eq!(table.slot_roots_into(&map, &memory, &mut found, &mut addresses[..1]), Err(Refusal::ShortList));
+    assert_eq!(table.slot_roots_into(&map, &memory, Handle::list_mut(&mut found[..2]), &mut addresses), Err(Refusal::ShortList));
+    assert_eq!(table.slot_roots_into(&map, &memory, Handle::list_mut(&mut found), &mut addresses[..1]), Err(Refusal::ShortList));
     assert!(found == [9; 4] && addresses == [9; 3]);
-    assert_eq!(table.slot_roots_into(&map, &memory, &mut found, &mut addresses), Ok((3, 2)));
+    assert_eq!(table.slot_roots_into(&map, &memory, Handle::list_mut(&mut found), &mut addresses), Ok((3, 2)));
     assert!(found == [1, 3, 4, 9] && addresses == [2, 5, 9]);
     // seven bytes are no handle and no address, but the composite is cut short
     assert_eq!(table.slot_roots(&map, &memory[..39]).unwrap().1, [2]);
@@ -580,13 +580,13 @@ fn a_table_one_short_is_10() {
         assert_eq!(table.layout_into(0, &[], &mut out), Err(Refusal::TypeTable));
         assert_eq!(table.desc_size(0), Err(Refusal::TypeTable));
         assert_eq!(table.has_handles(0), Err(Refusal::TypeTable));
-        assert_eq!(table.object_handles_into(0, &words(1..2), &mut out), Err(Refusal::TypeTable));
-        assert_eq!(table.value_handles_into(0, &words(1..2), &mut out), Err(Refusal::TypeTable));
-        assert_eq!(table.slot_roots_into(&[], &[], &mut out, &mut [9; 2]), Err(Refusal::TypeTable));
+        assert_eq!(table.object_handles_into(0, &words(1..2), Handle::list_mut(&mut out)), Err(Refusal::TypeTable));
+        assert_eq!(table.value_handles_into(0, &words(1..2), Handle::list_mut(&mut out)), Err(Refusal::TypeTable));
+        assert_eq!(table.slot_roots_into(&[], &[], Handle::list_mut(&mut out), &mut [9; 2]), Err(Refusal::TypeTable));
         assert_eq!(out, [9; 4]);
         let (mut heap, _) = sample(8, 64);
         let before = heap.clone();
-        assert_eq!(heap.slot_handles_into(&table, 99, &mut out), Err(Refusal::TypeTable));
+        assert_eq!(heap.slot_handles_into(&table, 99, Handle::list_mut(&mut out)), Err(Refusal::TypeTable));
         assert_eq!(heap.collect(&table, &[], &[]), Err(Refusal::TypeTable));
         assert_eq!(heap.same(&table, &[], &before, &[]), Err(Refusal::TypeTable));
         assert_eq!(heap.order(&table, &[], &before, &[]), Err(Refusal::TypeTable));

@@ -1,4 +1,4 @@
-//! A view says of every slot and every handle what the calls say, and all objects of a large heap are read with one check.
+//! A view says of every slot, every handle and every list what the calls say, and all objects of a large heap are read with one check.
 mod common;
 use common::{sample, Random};
 use yexwalu::{CheckedTable, Handle, Header, Heap, Kind, Memory, Refusal, Scratch, Slot, TypeTable};
@@ -77,8 +77,21 @@ fn compare(heap: &Heap, handles: &[Handle], table: &TypeTable, checked: &Checked
     }
     let (lists, h) = ([view.free().len(), view.quarantine().len(), view.retired().len(), view.sealed().len()], heap.header());
     assert_eq!(lists, [h.free, h.quarantine, h.retired, h.sealed]);
-    assert!(view.free().chain(view.quarantine()).chain(view.retired()).all(|slot| view.object(slot).is_none()));
+    assert!([view.free(), view.quarantine(), view.retired()].concat().into_iter().all(|slot| view.object(slot).is_none()));
     assert_eq!(view.free().len() + view.quarantine().len() + view.retired().len() + live, slots as usize);
+    // what stands in the lists, as the page has it
+    let page = String::from_utf8(heap.write_page().unwrap()).unwrap();
+    let listed = |name: &str| -> Vec<u64> {
+        let rest = page.split_once(&format!("\n{name}\n")).unwrap().1;
+        rest.lines().map_while(|line| line.parse().ok()).collect()
+    };
+    let slots_of = |list: &[Slot]| list.iter().map(|s| u64::from(*s)).collect::<Vec<_>>();
+    assert_eq!([view.free(), view.quarantine(), view.retired()].map(slots_of), ["free", "quarantine", "retired"].map(listed));
+    assert_eq!(Handle::numbers(view.sealed()), listed("sealed"));
+    // the figures that are counted in the library
+    let sizes: Vec<u64> = view.objects().map(|o| o.bytes().len() as u64).collect();
+    let figures = heap.figures().unwrap();
+    assert_eq!((figures.objects, figures.bytes, figures.largest), (live as u64, sizes.iter().sum(), sizes.iter().copied().max().unwrap_or(0)));
     live
 }
 
@@ -128,8 +141,13 @@ fn what_is_no_heap_has_no_view() {
     let (header, memory, scratch) = heap.into_parts();
     let mut broken = memory.clone();
     broken.narrow[8] = 4;
-    assert_eq!(Heap::from_parts(header, broken, scratch.clone()).view().err(), Some(Refusal::BrokenHeap));
-    assert_eq!(Heap::from_parts(header, memory, Scratch::zeros(7)).view().err(), Some(Refusal::Scratch));
+    let broken = Heap::from_parts(header, broken, scratch.clone());
+    assert_eq!((broken.view().err(), broken.figures()), (Some(Refusal::BrokenHeap), Err(Refusal::BrokenHeap)));
+    let short = Heap::from_parts(header, memory.clone(), Scratch::zeros(7));
+    assert_eq!((short.view().err(), short.figures()), (Some(Refusal::Scratch), Err(Refusal::Scratch)));
+    // parts of which nothing is known are checked first
+    let heap = Heap::from_parts(header, memory, scratch.clone());
+    assert_eq!(heap.figures().unwrap().objects as usize, heap.live().unwrap());
     assert_eq!(Heap::from_parts(Header::default(), Memory::zeros(0, 0), scratch).view().err(), Some(Refusal::BrokenHeap));
 }
 

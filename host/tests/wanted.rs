@@ -97,11 +97,11 @@ fn a_ring_needs_one_root_and_the_lowest() {
 fn a_list_one_short_is_7_and_stays() {
     let table = TypeTable::new();
     let heap = graph(&[vec![], vec![], vec![]], &[]);
-    let mut out = [9; 3];
+    let mut out = [Handle(9); 3];
     assert_eq!(heap.roots_for_into(&table, &[], &[0, 1, 2].map(Slot), &mut out[..2]), Err(Refusal::ShortList));
-    assert_eq!(out, [9; 3]);
+    assert_eq!(out, [Handle(9); 3]);
     assert_eq!(heap.roots_for_into(&table, &[], &[0, 2].map(Slot), &mut out), Ok(2));
-    assert_eq!(out, [handle(0).0, handle(2).0, 9]);
+    assert_eq!(out, [handle(0), handle(2), Handle(9)]);
     // 21 comes before 7
     assert_eq!(heap.roots_for_into(&table, &[], &[0, 3].map(Slot), &mut out[..0]), Err(Refusal::NoRoots));
 }

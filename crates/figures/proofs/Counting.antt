@@ -1,25 +1,33 @@
 -- Counting the slots of a heap that lies in lent memory: what is counted and what is left give the figures of all. Assumes nothing.
-use Prim.Native.Nat.{ℕ, suc, ◌+◌, ◌-◌, ◌/◌, ◌≤◌, ◌<◌}
+use Prim.Native.Nat.{ℕ, suc, ◌+◌, ◌-◌, ◌*◌, ◌/◌, ◌≤◌, ◌<◌}
 use mathlib.Core.Bool.{Bool, true, false}
 use mathlib.Core.List.{List, [], ◌∷◌, ◌++◌}
 use mathlib.Core.Path.{◌≡◌, refl, sym, ap, ◌∙◌}
 use native.Mathlib.Omega.{arith}
 use native.Mathlib.Numerals.{add-one}
 use lib.Dec.{ltb}
-use lib.ListN.{length, get_or, take, drop, length-append, length-map, get_or-map, drop_of_length-le}
+use lib.ListN.{length, get_or, take, drop, length-append, length-map, length-replicate, get_or-map, drop_of_length-le}
 use lib.Seq.{drop-cons, take_all}
 use Rattle.std.specs.Prelude.{if◌then◌else◌}
-use Rattle.word.proofs.RunLaws.{run-get}
+use Rattle.word.specs.Run.{run}
+use Rattle.word.proofs.RunLaws.{run-get, run_long}
 use Rattle.heap.specs.State.{Slot, no_slot, live, data_of}
-use Rattle.heap.specs.Packing.{flat}
+use Rattle.heap.specs.Packing.{pad, flat, ends}
 use Rattle.heap.specs.Lent.{Lent, lent, header_of, stored, view}
+use Rattle.heap.specs.WellFormed.{well_formed}
 use Rattle.heap.specs.declared.Heap.{Heap}
 use Rattle.heap.proofs.Packing.{flat-split, flat-suc, end_of}
+use Rattle.heap.proofs.Sound.{WellFormed}
 use Rattle.heap.proofs.Storing.{column-at}
+use Rattle.heap.proofs.Testing.{formed-tested}
 use Rattle.figures.specs.declared.Figures.{Figures}
 use Rattle.figures.specs.Figures.{no_figures, merge, live_sizes, figures_of}
-use Rattle.figures.specs.Inner.Counting.{one, Lies, Small}
+use Rattle.figures.specs.Inner.Counting.{one, Lies}
 use Rattle.figures.proofs.Totals.{figures-same, merge_none, none-merge}
+
+pad-long : (S : ℕ) (xs : List ℕ) → S ≤ length (pad S xs)
+unfolding pad
+pad-long S xs = simp (length-append, length-replicate) (omega arith)
 
 -- ---- one slot more
 
@@ -73,46 +81,49 @@ unfolding flat
 counted-first slots = record { inside = omega arith; ends = refl; objects = omega arith; bytes = omega arith; left = none-merge (figures_of slots) }
 
 module _ (h : Heap) (narrow wide pool : List ℕ) (l : Lies (lent h narrow wide pool)) where
+  -- S: the number of lent slots
+  abbrev S : ℕ
+  S = length narrow / 6
+
   abbrev slots : List Slot
   slots = (view (lent h narrow wide pool)).slots
-
-  six : length narrow / 6 ≡ 4096
-  unfolding stored
-  six = ap (λ (x : Lent). x.count) l.lies
 
   pub slots-are : h.slots ≡ length slots
   unfolding stored header_of
   slots-are = ap (λ (x : Lent). x.header.slots) l.lies
 
-  kind_at : (i : ℕ) → i < length slots → get_or narrow (4096 + i) 0 ≡ (get_or slots i no_slot).kind
+  -- the ends have their run
+  wide-room : 2 * S ≤ length wide
   unfolding stored
-  kind_at i k =
-      ap (λ (n : ℕ). get_or narrow (n + i) 0) (sym six)
-      ∙ sym (run-get (length narrow / 6) (length narrow / 6) narrow i (omega (arith, l.slots, six)))
-      ∙ ap (λ (x : Lent). get_or x.kind i 0) l.lies
-      ∙ column-at 4096 (λ s. s.kind) slots i k
+  wide-room =
+      let e : run S S wide ≡ pad S (ends 0 (data_of slots)) = ap (λ (x : Lent). x.end) l.lies in
+      omega (arith, run_long S S wide l.sizes.0 (omega (arith, ap length e, pad-long S (ends 0 (data_of slots)))))
 
-  end-at : (i : ℕ) → i < length slots → get_or wide (4096 + i) 0 ≡ length (flat (take i (data_of slots))) + length (get_or slots i no_slot).bytes
+  kind_at : (i : ℕ) → i < length slots → get_or narrow (S + i) 0 ≡ (get_or slots i no_slot).kind
+  unfolding stored
+  kind_at i k = sym (run-get S S narrow i (omega (arith, l.slots))) ∙ ap (λ (x : Lent). get_or x.kind i 0) l.lies ∙ column-at S (λ s. s.kind) slots i k
+
+  end-at : (i : ℕ) → i < length slots → get_or wide (S + i) 0 ≡ length (flat (take i (data_of slots))) + length (get_or slots i no_slot).bytes
   unfolding stored
   end-at i k =
-      ap (λ (n : ℕ). get_or wide (n + i) 0) (sym six)
-      ∙ sym (run-get (length narrow / 6) (length narrow / 6) wide i (omega (arith, l.slots, six)))
+      sym (run-get S S wide i (omega (arith, l.slots)))
       ∙ ap (λ (x : Lent). get_or x.end i 0) l.lies
-      ∙ end_of 4096 (data_of slots) i (omega (arith, length-map slots (λ (s : Slot). s.bytes)))
+      ∙ end_of S (data_of slots) i (omega (arith, length-map slots (λ (s : Slot). s.bytes)))
       ∙ ap (λ (b : List ℕ). length (flat (take i (data_of slots))) + length b) (get_or-map (λ (s : Slot). s.bytes) slots i no_slot)
 
   module _ (from i : ℕ) (f : Figures) (c : Counted slots from i f) (k : i < h.slots) where
     abbrev end : ℕ
-    end = get_or wide (4096 + i) 0
+    end = get_or wide (S + i) 0
 
     abbrev kind : ℕ
-    kind = get_or narrow (4096 + i) 0
+    kind = get_or narrow (S + i) 0
 
     at : i < length slots
     at = omega (arith, slots-are)
 
-    pub place : i < 4096
-    place = omega (arith, at, l.slots)
+    -- slot i has its places in both lists
+    pub place : (S + i < length narrow) × (S + i < length wide) × (S + i < 33554432)
+    place = (omega (arith, at, l.slots), omega (arith, at, l.slots, wide-room), omega (arith, at, l.slots, l.sizes.1))
 
     -- the data of slot i
     ended : end ≡ from + length (get_or slots i no_slot).bytes
@@ -122,11 +133,11 @@ module _ (h : Heap) (narrow wide pool : List ℕ) (l : Lies (lent h narrow wide 
     starts = omega (arith, ended)
 
     -- it ends within the pool
-    within : end ≤ 16384
+    within : end ≤ length pool
     within = omega (arith, ended, c.ends, flat-front (data_of slots) i (omega (arith, at, length-map slots (λ (x : Slot). x.bytes))), ap length (get_or-map (λ (x : Slot). x.bytes) slots i no_slot), l.bytes)
 
-    pub few : (f.objects + 1 ≤ 4097) × (f.bytes + (end - from) ≤ 16384)
-    few = (omega (arith, c.objects, place), omega (arith, c.bytes, starts, within))
+    pub few : (f.objects + 1 ≤ 16777217) × (f.bytes + (end - from) ≤ 1073741824)
+    few = (omega (arith, c.objects, at, l.slots, l.sizes.1), omega (arith, c.bytes, starts, within, l.sizes.2))
 
     pub counted-more : Counted slots end (i + 1) (if ltb 0 kind then merge f (one (end - from)) else f)
     counted-more =
@@ -151,10 +162,22 @@ module _ (h : Heap) (narrow wide pool : List ℕ) (l : Lies (lent h narrow wide 
               ∙ c.left;
         }
 
-  pub counted-all : (from i : ℕ) (f : Figures) → Counted slots from i f → h.slots ≤ i → (f ≡ figures_of slots) × Small f
+  pub counted-all : (from i : ℕ) (f : Figures) → Counted slots from i f → h.slots ≤ i → (f ≡ figures_of slots) × (f.objects ≤ S) × (f.bytes ≤ length pool)
   counted-all from i f c k =
       let e : length slots ≤ i = omega (arith, slots-are) in
       let z : flat (take i (data_of slots)) ≡ flat (data_of slots) = ap flat (take_all i (data_of slots) (omega (arith, e, length-map slots (λ (x : Slot). x.bytes)))) in (
         sym (merge_none f) ∙ ap (merge f) (sym (none_left (drop i slots) (drop_of_length-le slots {i = i} e))) ∙ c.left,
-        record { objects = omega (arith, c.objects, c.inside, l.slots); bytes = omega (arith, c.bytes, c.ends, ap length z, l.bytes) },
+        omega (arith, c.objects, c.inside, l.slots),
+        omega (arith, c.bytes, c.ends, ap length z, l.bytes),
       )
+
+-- well-formed memory is such
+pub formed-lies : {l : Lent} → well_formed l ≡ true → Lies l
+formed-lies {l} e =
+    let w : WellFormed l = formed-tested l e in
+    record {
+      sizes = (w.sound.slot-range.0, w.sound.slot-range.1, w.sound.pool-range);
+      lies = w.lies;
+      slots = w.sound.slots-fit;
+      bytes = w.sound.data-fit;
+    }

@@ -12,6 +12,7 @@ use Rattle.heap.specs.State.{State, data_size}
 use Rattle.heap.specs.Lent.{Lent, lent, stored, view, slot_count}
 use Rattle.heap.specs.Sizes.{sizes_fit}
 use Rattle.heap.specs.declared.Heap.{Heap}
+use Rattle.heap.proofs.Placing.{count-is, pool-long}
 use Rattle.heap.proofs.Storing.{view-stored}
 use Rattle.door.specs.HeapCalls.{Outcome, outcome, enough}
 use Rattle.door.proofs.Entering.{is-enough}
@@ -96,12 +97,15 @@ module _ (h : Heap) (narrow wide pool marks work text : List ℕ) (n : length na
     lies-as : (s : State) → v ≡ ok s → l' ≡ stored 4096 16384 s → (view l' ≡ s) × Lies l'
     lies-as s e r =
         let q = passed true 4096 16384 (read_page text) s e in
-        let u : view l' ≡ s = ap view r ∙ view-stored 4096 16384 s in (
+        let u : view l' ≡ s = ap view r ∙ view-stored 4096 16384 s in
+        let count-is : slot_count l' ≡ 4096 = count-is 4096 16384 s l' r q.slots q.room in
+        let pool-is : pool_size l' ≡ 16384 = pool-long 4096 16384 s l' r q.slots q.room in (
           u,
           record {
-            lies = r ∙ ap (stored 4096 16384) (sym u);
-            slots = omega (arith, q.slots, ap (λ (x : State). length x.slots) u);
-            bytes = omega (arith, q.room, ap (λ (x : State). data_size x.slots) u);
+            sizes = (omega (arith, count-is), omega (arith, count-is), omega (arith, pool-is));
+            lies = r ∙ (λ j. stored (sym count-is j) (sym pool-is j) (sym u j));
+            slots = omega (arith, q.slots, ap (λ (x : State). length x.slots) u, count-is);
+            bytes = omega (arith, q.room, ap (λ (x : State). data_size x.slots) u, pool-is);
           },
         )
 

@@ -1,7 +1,7 @@
 // Figures of a page: how many objects it has, the bytes of their data and the largest of them; and the line that is printed of it.
 #![tactic(auto)]
 
-ghost use Rattle.std.specs.Prelude.{◌≡◌, ◌+◌, ◌^◌, ◌≤◌, ◌<◌, max, ltb, length, if◌then◌else◌, IfOk};
+ghost use Rattle.std.specs.Prelude.{◌≡◌, ◌+◌, ◌^◌, ◌/◌, ◌≤◌, ◌<◌, max, ltb, length, if◌then◌else◌, IfOk};
 ghost use Rattle.word.specs.Result.{refused};
 ghost use Rattle.text.specs.Inner.Wrote.{Wrote};
 ghost use Rattle.heap.specs.Lent.{lent, view};
@@ -12,6 +12,7 @@ use heap::Heap;
 use text::output::Out;
 
 // How many objects, the bytes of their data, and the most that one of them has.
+#[repr(C)]
 #[derive(Clone, Copy)]
 pub struct Figures {
     pub objects: u64,
@@ -72,18 +73,18 @@ impl Figures {
     }
 }
 
-// The figures of a heap in lent memory, by the kinds and the ends of its slots.
-fn count(heap: Heap, narrow: &[u32; 24576], wide: &[u64; 16384], pool: &[u8; 16384]) -> Figures
+// The figures of a heap in lent memory of any size, by the kinds and the ends of its slots.
+pub fn count(heap: Heap, narrow: &[u32], wide: &[u64], pool: &[u8]) -> Figures
     requires { Lies (lent heap narrow.now wide.now pool.now) }
     ensures value { result ≡ figures_of (view (lent heap narrow.now wide.now pool.now)).slots }
-    ensures small { Small result }
+    ensures within { (result.objects ≤ length narrow.now / 6) × (result.bytes ≤ length pool.now) }
 {
-    let n = heap.slots;
+    let s = narrow.len() / 6;
     let mut figures = Figures::none();
     let mut from = 0;
-    for i in 0..n {
-        let end = wide[4096 + i];
-        figures = figures.with_slot(narrow[4096 + i], end - from);
+    for i in 0..heap.slots {
+        let end = wide[s + i];
+        figures = figures.with_slot(narrow[s + i], end - from);
         from = end;
     }
     figures

@@ -28,7 +28,7 @@ module _ (r : Layout) where
     by-laid off (Ok k) q = by-start k.size k.align k.used (word_of (round_up off k.align)) q
     by-laid off (Err x) q = let z : ◌≡◌ {A = ℕ} 0 1 = cc in absurd (omega arith)
 
-  all_placed : (T : Table) (next : ℕ → List ℕ → Lay) (fs : List Field) (d : List ℕ) (off al used : ℕ) → record_of T next fs d off al used ≡ Ok r → length (offsets_from T next fs d off used) ≡ length fs
+  pub all_placed : (T : Table) (next : ℕ → List ℕ → Lay) (fs : List Field) (d : List ℕ) (off al used : ℕ) → record_of T next fs d off al used ≡ Ok r → length (offsets_from T next fs d off used) ≡ length fs
   unfolding record_of offsets_from
   all_placed T next [] d off al used q = refl
   all_placed T next (field t c ∷ fs) d off al used q =

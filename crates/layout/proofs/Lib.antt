@@ -6,4 +6,5 @@ pub mod OffsetLaws
 pub mod Levels
 pub mod Complete
 pub mod ScalarLaws
+pub mod Few
 pub mod Stops

@@ -9,8 +9,8 @@ ghost use Rattle.ty.specs.Words.{word_of, round_up};
 ghost use Rattle.ty.specs.Scalars.{scalar_size, elem_size};
 ghost use Rattle.ty.specs.View.{lent, bare};
 ghost use Rattle.layout.specs.Layout.{dim_len, dims_of, used_by, array_laid, placed, end_of, scalar_laid, scalar_layout};
-ghost use Rattle.layout.specs.Offsets.{offsets_of, told, layout_call, written_by};
-ghost use Rattle.layout.specs.Inner.Lent.{scalar_part, type_laid, part_laid, array_in, record_in, offsets_in, ScalarFields, ScalarRecord, ScalarsLaid};
+ghost use Rattle.layout.specs.Offsets.{offsets_of, told, listed_in, layout_call, written_by};
+ghost use Rattle.layout.specs.Inner.Lent.{scalar_part, type_laid, part_laid, array_in, record_in, offsets_in, ScalarFields, ScalarRecord, ScalarsLaid, FewFields, FieldsListed};
 
 use refusal::Refusal;
 use ty::{Entry, NO_CONST, Table};
@@ -390,6 +390,79 @@ fn layout_any(
     Ok((l, count))
 }
 
+// The layout of count fields from the first on, with their offsets from the front of `out` on: where there is none, of some of them.
+fn layout_listed(
+    table: &Table,
+    first: usize,
+    count: usize,
+    desc: &[u8],
+    out: &mut [u64],
+) -> Result<Layout, Refusal>
+    requires { (first + count ≤ length table.now.fields.now / 2) × (count ≤ length out.old) }
+    ensures { FieldsListed table.now first count desc.now out.old out.new result }
+{
+    let mut end: u64 = 0;
+    let mut align: u64 = 1;
+    let mut used: usize = 0;
+    for i in 0..count {
+        let k = 2 * (first + i);
+        let t = table.fields[k] as u64;
+        let c = table.fields[k + 1] as u64;
+        let l = layout_field(table, t, c, &desc[used..], 64)?;
+        let o = ty::align_up(end, l.align).ok_or(Refusal::TooLarge)?;
+        out[i] = o;
+        end = ty::sum(o, l.size).ok_or(Refusal::TooLarge)?;
+        align = align.max(l.align);
+        used += used_by(c, l.used);
+    }
+    record_end(end, align, used)
+}
+
+// The fields of type t, the first and how many, if it is a record of at most 16 and a list of so many places has room for their offsets.
+fn few_fields(table: &Table, t: u64, places: usize) -> Option<(usize, usize)>
+    ensures { FewFields table.now t places result }
+{
+    let (first, count) = table.fields_at(t)?;
+    if places < count || 16 < count {
+        return None;
+    }
+    Some((first, count))
+}
+
+// The layout of such fields, with their offsets in the lent list. One walk finds both: the offsets go to a list of its own, and to the lent one when nothing can be refused any more.
+fn layout_few(
+    table: &Table,
+    first: usize,
+    count: usize,
+    desc: &[u8],
+    out: &mut [u64],
+) -> Result<(Layout, usize), Refusal>
+    requires { (first + count ≤ length table.now.fields.now / 2) × (count ≤ length out.old) × (count ≤ 16) }
+    ensures answer { told result ≡ listed_in (record_in table.now first count desc.now 64) count (length out.old) }
+    ensures written { out.new ≡ written_by (told result) (offsets_in table.now first count desc.now) out.old }
+{
+    let mut offsets = [0u64; 16];
+    let l = layout_listed(table, first, count, desc, &mut offsets)?;
+    memory::copy(out, 0, &offsets[..count]);
+    Ok((l, count))
+}
+
+// The layout of type t under the descriptor, with the offsets of its fields in the lent list: in one walk where they are few.
+fn layout_mixed(
+    table: &Table,
+    t: u64,
+    desc: &[u8],
+    out: &mut [u64],
+) -> Result<(Layout, usize), Refusal>
+    ensures answer { told result ≡ layout_call (lent table.now) t desc.now (length out.old) }
+    ensures written { out.new ≡ written_by (told result) (offsets_of (lent table.now) t desc.now) out.old }
+{
+    let Some((first, count)) = few_fields(table, t, out.len()) else {
+        return layout_any(table, t, desc, out);
+    };
+    layout_few(table, first, count, desc, out)
+}
+
 // The layout of type t under the descriptor, with the offsets of its fields in the lent list, and how many they are.
 pub fn lay_out(
     table: &Table,
@@ -401,7 +474,7 @@ pub fn lay_out(
     ensures written { out.new ≡ written_by (told result) (offsets_of (lent table.now) t desc.now) out.old }
 {
     let Some((first, count)) = scalar_record(table, t, out.len()) else {
-        return layout_any(table, t, desc, out);
+        return layout_mixed(table, t, desc, out);
     };
     Ok((layout_scalars(table, first, count, out), count))
 }

@@ -171,7 +171,7 @@ module _ (T : Table) (end : ℕ) (small : ShortConstants T) where
         last : (s' a' st' q' u' : ℕ) → under T (layout_at T 64) t c (drop used d) ≡ laid s' a' st' q' u' → (g : Bool)
             → on_word (Err TooLarge) (if g then Some (round_up off a' + s') else None) (λ o. record_of T (layout_at T 64) fs d o (max al a') (used + used_by c u')) ≡ laid s a st q u
             → (record_of T (layout_at T 64) fs d (round_up off a' + s') (max al a') (used + used_by c u') ≡ laid s a st q u → Sits (at + (round_up off a' + s')) (at + s) (walk T (places_at T end n) end at fs d (round_up off a' + s') (max al a') (used + used_by c u')))
-            → Sits (at + off) (at + s) (if_placed (on_word None (if g then Some (round_up off a' + s') else None) (λ e. Some (record { offset = round_up off a'; end = e; align = a'; used = u' }))) rest)
+            → Sits (at + off) (at + s) (if_placed (on_word None (if g then Some (round_up off a' + s') else None) (λ e. Some (record { offset = round_up off a'; end = e; align = a'; count = q'; used = u' }))) rest)
         last s' a' st' q' u' eu false e r = tt
         last s' a' st' q' u' eu true e r =
             let o = round_up off a' in
@@ -184,7 +184,7 @@ module _ (T : Table) (end : ℕ) (small : ShortConstants T) where
         go : (s' a' st' q' u' : ℕ) → under T (layout_at T 64) t c (drop used d) ≡ laid s' a' st' q' u' → (b : Bool)
             → on_word (Err TooLarge) (on_word None (if b then Some (round_up off a') else None) (λ o. word_of (o + s'))) (λ o. record_of T (layout_at T 64) fs d o (max al a') (used + used_by c u')) ≡ laid s a st q u
             → (record_of T (layout_at T 64) fs d (round_up off a' + s') (max al a') (used + used_by c u') ≡ laid s a st q u → Sits (at + (round_up off a' + s')) (at + s) (walk T (places_at T end n) end at fs d (round_up off a' + s') (max al a') (used + used_by c u')))
-            → Sits (at + off) (at + s) (if_placed (on_word None (if b then Some (round_up off a') else None) (λ o. on_word None (word_of (o + s')) (λ e. Some (record { offset = o; end = e; align = a'; used = u' })))) rest)
+            → Sits (at + off) (at + s) (if_placed (on_word None (if b then Some (round_up off a') else None) (λ o. on_word None (word_of (o + s')) (λ e. Some (record { offset = o; end = e; align = a'; count = q'; used = u' })))) rest)
         go s' a' st' q' u' eu false e r = tt
         go s' a' st' q' u' eu true e r = last s' a' st' q' u' eu (ltb (round_up off a' + s') (2 ^ 64)) e r
 

@@ -39,7 +39,7 @@ either-numbered (Err why) r n = never-0 why
 
 either-told : (numbered : Ordering → ℕ) (e : Entry) (r : Result Ordering) (scratch cleared : List (List ℕ))
     → (whether e (λ why. asked_of (refused_by (number_of why)) (scratch_after (Err why) scratch)) (asked_of (answered numbered nothing r) cleared)).answer
-      ≡ answered numbered nothing (whether e (λ why. refused (number_of why)) r)
+    ≡ answered numbered nothing (whether e (λ why. refused (number_of why)) r)
 either-told numbered (Ok _) r scratch cleared = refl
 either-told numbered (Err why) r scratch cleared = refl
 
@@ -48,7 +48,7 @@ unfolding asking ordering
 comparing-told numbered w s t = (
   either-told numbered (admitted (save_tests w s t)) (ordering (table_in w) (view s.heap) (view t.heap) s.roots t.roots) _ _,
   either-numbered (admitted (save_tests w s t)) (ordering (table_in w) (view s.heap) (view t.heap) s.roots t.roots)
-    (traced-numbered (marked (table_in w) (view s.heap) s.roots) (marked (table_in w) (view t.heap) t.roots) _),
+      (traced-numbered (marked (table_in w) (view s.heap) s.roots) (marked (table_in w) (view t.heap) t.roots) _),
 )
 
 -- the number of what is told

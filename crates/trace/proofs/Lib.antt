@@ -3,6 +3,7 @@ pub mod Emits
 pub mod DescLaws
 pub mod Walks
 pub mod TraceLaws
+pub mod Vacant
 pub mod Levels
 pub mod Objects
 pub mod Slots

@@ -112,6 +112,14 @@ module _ (R : ℕ → Result ℕ) (ms u out : List ℕ) where
           written = rw (le-leb (length ws) (length out) q) (listed Q ps out ws ps' out' m q (ok-inj s));
         }
 
+  none_by : (ms' u' : List ℕ) (n : ℕ) (o : Option (List ℕ)) → length out < 2 ^ 64 - 1 → ok (raw_of ms' u' n) ≡ emitting (into (Check (length out)) R) (raw_of ms u 0) o → n ≡ 0 → Lists (listing o (length out)) (Ok (0, 0)) out out
+  unfolding emitting emit_all
+  none_by ms' u' n none b e z = let x : ◌≡◌ {A = ℕ} 0 1 = cc in absurd (omega arith)
+  none_by ms' u' n (some (w ∷ ws)) b e z =
+      let g = checked-fits R ms (length out) u (w ∷ ws) ms' u' n b (ok-inj e) (omega arith) in
+      absurd (omega arith)
+  none_by ms' u' n (some []) b e z = subst (λ (m : ℕ). Lists (listing (some []) (length out)) (Ok (m, 0)) out out) z (wrote_by R [] ms' u' n (some []) b e (omega arith) (Some 0) [] out refl)
+
 module _ (R : ℕ → Result ℕ) (ms u ms' u' out : List ℕ) (o : Option (List ℕ)) (r : Answer) (er : told r ms' u' ≡ emitting (into (Check (length out)) R) (raw_of ms u 0) o) where
   pub list-failed : r ≡ None → Lists (listing o (length out)) (Err Failed) out out
   list-failed e = failed-by R ms u out o (told-untraceable r ms' u' _ er e)
@@ -119,6 +127,9 @@ module _ (R : ℕ → Result ℕ) (ms u ms' u' out : List ℕ) (o : Option (List
   module _ (n : ℕ) (e : r ≡ Some n) where
     pub list-short : length out < n → Lists (listing o (length out)) (Err ShortList) out out
     list-short l = short-by R ms u out ms' u' n o (told-traced r ms' u' _ n er e) l
+
+    pub list-none : length out < 2 ^ 64 - 1 → n ≡ 0 → Lists (listing o (length out)) (Ok (0, 0)) out out
+    list-none b z = none_by R ms u out ms' u' n o b (told-traced r ms' u' _ n er e) z
 
     pub list_wrote : length out < 2 ^ 64 - 1 → n ≤ length out → (Q : ℕ → Result ℕ) (ps : List ℕ) (q : Answer) (ps' out' : List ℕ) → told q ps' out' ≡ emitting (into ToList Q) (raw_of ps out 0) o → Lists (listing o (length out)) (Ok (n, 0)) out out'
     list_wrote b l Q ps q ps' out' s = wrote_by R ms u out Q ps ms' u' n o b (told-traced r ms' u' _ n er e) l q ps' out' s

@@ -28,7 +28,7 @@ use Rattle.ty.proofs.WalkLaws.{fields-first, fields-last, fields-next}
 use Rattle.word.proofs.ListLaws.{rest}
 use Rattle.layout.proofs.LayLaws.{below-scalar, in_array as lay-array, in-record as lay-record}
 use Rattle.trace.specs.Places.{Places, Below, only_if, both, many, turns, if_laid, if_bytes, part_places, places_by, places_at}
-use Rattle.trace.specs.Inner.Walk.{leaf_of, part_leaf, placed_after, field_at, if_placed, walk, Looked}
+use Rattle.trace.specs.Inner.Walk.{leaf_of, part_leaf, placed_after, field_at, if_placed, walk, Looked, Counts}
 use Rattle.trace.specs.declared.tracer.Leaf.{Leaf}
 use Rattle.trace.specs.declared.tracer.Leaf.TheVariants.{Own, Free, Deep}
 use Rattle.word.specs.Result.{Result, ok, refused}
@@ -321,47 +321,51 @@ module _ (T : Table) (lay : ℕ → List ℕ → Lay) (next : Below) (t el c j :
 
 -- ---- place_after
 
-module _ (off s a u : ℕ) (p : Word) (ep : p ≡ word_of (round_up off a)) where
-  pub place-over : p ≡ None → None ≡ placed_after off s a u
+module _ (off s a n u : ℕ) (p : Word) (ep : p ≡ word_of (round_up off a)) where
+  pub place-over : p ≡ None → None ≡ placed_after off s a n u
   place-over h = rw (← ep, h) refl
 
   module _ (x : ℕ) (h : p ≡ Some x) (q : Word) (eq : q ≡ word_of (x + s)) where
-    pub place-past : q ≡ None → None ≡ placed_after off s a u
+    pub place-past : q ≡ None → None ≡ placed_after off s a n u
     place-past g = rw (← ep, h, ← eq, g) refl
 
-    pub place-some : (e : ℕ) → q ≡ Some e → Some (record { offset = x; end = e; align = a; used = u }) ≡ placed_after off s a u
+    pub place-some : (e : ℕ) → q ≡ Some e → Some (record { offset = x; end = e; align = a; count = n; used = u }) ≡ placed_after off s a n u
     place-some e g = rw (← ep, h, ← eq, g) refl
 
 -- ---- place_field
 
 module _ (T : Lent) (t c used : ℕ) (d : List ℕ) (off : ℕ) where
-  pub place-scalar : (n : ℕ) → scalar_part T t c ≡ Some n → (r : Maybe Placed) → r ≡ placed_after off n n 0 → r ≡ field_at (under (lent T) (layout_at (lent T) 64) t c (drop used d)) off
+  pub place-scalar : (n : ℕ) → scalar_part T t c ≡ Some n → (r : Maybe Placed) → r ≡ placed_after off n n 1 0 → r ≡ field_at (under (lent T) (layout_at (lent T) 64) t c (drop used d)) off
   place-scalar n e r er = er ∙ ap (λ (x : Lay). field_at x off) (below-scalar T 64 t c (drop used d) (λ z. omega arith) n e)
 
   module _ (l : Lay) (el : l ≡ under (lent T) (layout_at (lent T) 64) t c (take (length d - used) (drop used d))) where
     pub place_none : (why : Refusal) → l ≡ Err why → None ≡ field_at (under (lent T) (layout_at (lent T) 64) t c (drop used d)) off
     place_none why h = rw (← rest used d, ← el, h) refl
 
-    pub place-laid : (z : Layout) → l ≡ Ok z → (r : Maybe Placed) → r ≡ placed_after off z.size z.align z.used → r ≡ field_at (under (lent T) (layout_at (lent T) 64) t c (drop used d)) off
+    pub place-laid : (z : Layout) → l ≡ Ok z → (r : Maybe Placed) → r ≡ placed_after off z.size z.align z.count z.used → r ≡ field_at (under (lent T) (layout_at (lent T) 64) t c (drop used d)) off
     place-laid z o r er = rw (← rest used d, ← el, o) er
 
--- a field that is placed has a layout
+-- a field that is placed has a layout, with the elements and the use of the descriptor that are told
 module _ (r : Placed) where
-  placed_end : (s a' u' o' : ℕ) (q : Word) → on_word None q (λ e'. Some (record { offset = o'; end = e'; align = a'; used = u' })) ≡ Some r → u' ≡ r.used
-  placed_end s a' u' o' None h = let z : ◌≡◌ {A = ℕ} 0 1 = cc in absurd (omega arith)
-  placed_end s a' u' o' (Some e') h =
-      let z : ◌≡◌ {A = Placed} (record { offset = o'; end = e'; align = a'; used = u' }) r = cc in
-      ap (λ (x : Placed). x.used) z
+  placed_end : (s a' n' u' o' : ℕ) (q : Word) → on_word None q (λ e'. Some (record { offset = o'; end = e'; align = a'; count = n'; used = u' })) ≡ Some r → (u' ≡ r.used) × (n' ≡ r.count)
+  placed_end s a' n' u' o' None h = let z : ◌≡◌ {A = ℕ} 0 1 = cc in absurd (omega arith)
+  placed_end s a' n' u' o' (Some e') h =
+      let z : ◌≡◌ {A = Placed} (record { offset = o'; end = e'; align = a'; count = n'; used = u' }) r = cc in
+      (ap (λ (x : Placed). x.used) z, ap (λ (x : Placed). x.count) z)
 
-  placed_at : (s a' u' : ℕ) (p : Word) → on_word None p (λ o'. on_word None (word_of (o' + s)) (λ e'. Some (record { offset = o'; end = e'; align = a'; used = u' }))) ≡ Some r → u' ≡ r.used
-  placed_at s a' u' None h = let z : ◌≡◌ {A = ℕ} 0 1 = cc in absurd (omega arith)
-  placed_at s a' u' (Some o') h = placed_end s a' u' o' (word_of (o' + s)) h
+  placed_at : (s a' n' u' : ℕ) (p : Word) → on_word None p (λ o'. on_word None (word_of (o' + s)) (λ e'. Some (record { offset = o'; end = e'; align = a'; count = n'; used = u' }))) ≡ Some r → (u' ≡ r.used) × (n' ≡ r.count)
+  placed_at s a' n' u' None h = let z : ◌≡◌ {A = ℕ} 0 1 = cc in absurd (omega arith)
+  placed_at s a' n' u' (Some o') h = placed_end s a' n' u' o' (word_of (o' + s)) h
 
   placed-within : (T : Table) (n t c : ℕ) (d : List ℕ) (off : ℕ) (l : Lay) → under T (layout_at T n) t c d ≡ l → field_at l off ≡ Some r → used_by c r.used ≤ length d
   placed-within T n t c d off (Ok z) el h =
-      let g : z.used ≡ r.used = placed_at z.size z.align z.used (word_of (round_up off z.align)) h in
+      let g : z.used ≡ r.used = (placed_at z.size z.align z.count z.used (word_of (round_up off z.align)) h).0 in
       subst (λ (y : ℕ). used_by c y ≤ length d) g (used-within T n t c d z el)
   placed-within T n t c d off (Err w) el h = let z : ◌≡◌ {A = ℕ} 0 1 = cc in absurd (omega arith)
+
+  pub placed-counts : (off : ℕ) (l : Lay) → field_at l off ≡ Some r → (n : ℕ) → r.count ≡ n → Counts l n
+  placed-counts off (Ok z) h n e = (placed_at z.size z.align z.count z.used (word_of (round_up off z.align)) h).1 ∙ e
+  placed-counts off (Err w) h n e = let z : ◌≡◌ {A = ℕ} 0 1 = cc in absurd (omega arith)
 
 -- ---- trace_record: the turn at field i of n, from field f on. G is what all the fields leave.
 

@@ -30,12 +30,12 @@ after-field (Ok r) g x f = refl
 after-field (Err e) true x f = both-none x
 after-field (Err e) false x f = refl
 
-module _ (a u : ℕ) (A : Placed → Places) (R : ℕ → Lay) (O : ℕ → List ℕ) (G : List ℕ → Places) (same : (o e : ℕ) → A (record { offset = o; end = e; align = a; used = u }) ≡ if_laid (R e) (λ st n. G (o ∷ O e))) where
-  by_end : (o : ℕ) (q : Word) → if_placed (on_word None q (λ e. Some (record { offset = o; end = e; align = a; used = u }))) A ≡ if_laid (on_word (Err TooLarge) q R) (λ st n. G (on_word [] q (λ e. o ∷ O e)))
+module _ (a m u : ℕ) (A : Placed → Places) (R : ℕ → Lay) (O : ℕ → List ℕ) (G : List ℕ → Places) (same : (o e : ℕ) → A (record { offset = o; end = e; align = a; count = m; used = u }) ≡ if_laid (R e) (λ st n. G (o ∷ O e))) where
+  by_end : (o : ℕ) (q : Word) → if_placed (on_word None q (λ e. Some (record { offset = o; end = e; align = a; count = m; used = u }))) A ≡ if_laid (on_word (Err TooLarge) q R) (λ st n. G (on_word [] q (λ e. o ∷ O e)))
   by_end o None = refl
   by_end o (Some e) = same o e
 
-  by-offset : (s : ℕ) (p : Word) → if_placed (on_word None p (λ o. on_word None (word_of (o + s)) (λ e. Some (record { offset = o; end = e; align = a; used = u })))) A ≡ if_laid (on_word (Err TooLarge) (on_word None p (λ o. word_of (o + s))) R) (λ st n. G (on_word [] p (λ o. on_word [] (word_of (o + s)) (λ e. o ∷ O e))))
+  by-offset : (s : ℕ) (p : Word) → if_placed (on_word None p (λ o. on_word None (word_of (o + s)) (λ e. Some (record { offset = o; end = e; align = a; count = m; used = u })))) A ≡ if_laid (on_word (Err TooLarge) (on_word None p (λ o. word_of (o + s))) R) (λ st n. G (on_word [] p (λ o. on_word [] (word_of (o + s)) (λ e. o ∷ O e))))
   by-offset s None = refl
   by-offset s (Some o) = by_end o (word_of (o + s))
 
@@ -46,7 +46,7 @@ one_field : (T : Table) (next : Below) (end at t c : ℕ) (fs : List Field) (d :
     (λ st n. field_places T next end at (field t c ∷ fs) (on_word [] (word_of (round_up off v.align)) (λ o. on_word [] (word_of (o + v.size)) (λ e. o ∷ offsets_from T (layout_at T 64) fs d e (used + used_by c v.used)))) d used)
 unfolding placed field_places
 one_field T next end at t c fs d off al used v l eu later =
-    by-offset v.align v.used (λ p. only_if (leb (at + p.offset) end) (both (part_places T next t c (drop used d) (at + p.offset)) (walk T next end at fs d p.end (max al p.align) (used + used_by c p.used))))
+    by-offset v.align v.count v.used (λ p. only_if (leb (at + p.offset) end) (both (part_places T next t c (drop used d) (at + p.offset)) (walk T next end at fs d p.end (max al p.align) (used + used_by c p.used))))
     (λ e. record_of T (layout_at T 64) fs d e (max al v.align) (used + used_by c v.used)) (λ e. offsets_from T (layout_at T 64) fs d e (used + used_by c v.used))
     (λ os. field_places T next end at (field t c ∷ fs) os d used) same v.size (word_of (round_up off v.align))
   where

@@ -98,6 +98,10 @@ fn list<T: Traced>(of: &T, out: &mut [u64]) -> Reply
     if limit < n {
         return Err(Refusal::ShortList);
     }
+    // No handles: nothing is to be written, so that the second walk is left out.
+    if n == 0 {
+        return Ok((0, 0));
+    }
     of.trace(none, Sink::List, &mut [], out);
     Ok((n as u64, 0))
 }

@@ -1,11 +1,11 @@
 // The tracer of one object or value: its places, as the layout of its type says, go to a goal.
-ghost use Rattle.std.specs.Prelude.{ℕ, Some, ◌≡◌, ◌≤◌, ◌+◌, ◌*◌, ◌/◌, [], ◌∷◌, length, drop, leb};
+ghost use Rattle.std.specs.Prelude.{ℕ, Some, true, ◌≡◌, ◌≤◌, ◌+◌, ◌*◌, ◌/◌, [], ◌∷◌, length, drop, leb};
 ghost use Rattle.std.proofs.Math.Option.{some};
 ghost use Rattle.ty.specs.View.{lent};
 ghost use Rattle.ty.specs.Walks.{has_handles};
 ghost use Rattle.layout.specs.Inner.Lent.{part_laid};
 ghost use Rattle.trace.specs.Places.{only_if, turns, object_places, handles_places, kind_places};
-ghost use Rattle.trace.specs.Inner.Walk.{Stepped, Looked, part_leaf, placed_after, field_at, type_places, below_places, elem_places, parts_places, array_places, record_places, records_places};
+ghost use Rattle.trace.specs.Inner.Walk.{Stepped, Looked, Counts, part_leaf, placed_after, field_at, type_places, below_places, elem_places, parts_places, array_places, record_places, records_places};
 ghost use Rattle.trace.specs.Inner.Emit.{raw_of, other_of, handed, handed_all, handing_at, told};
 
 use crate::{Goal, emit};
@@ -13,12 +13,13 @@ use beside::Met;
 use handle::Slots;
 use ty::{Entry, NO_CONST, Table};
 
-// Where a field of a record lies and ends, its alignment, and what it used of the descriptor.
+// Where a field of a record lies and ends, its alignment, how many elements it has as an array, and what it used of the descriptor.
 #[derive(Clone, Copy)]
 pub struct Placed {
     pub offset: u64,
     pub end: u64,
     pub align: u64,
+    pub count: u64,
     pub used: usize,
 }
 
@@ -60,8 +61,8 @@ fn fields_at(table: &Table, t: u64, left: u64, holds: bool) -> Option<(usize, us
 }
 
 // Where a field of a size and an alignment lies that comes after off.
-fn place_after(off: u64, size: u64, align: u64, used: usize) -> Option<Placed>
-    ensures { result ≡ placed_after off size align used }
+fn place_after(off: u64, size: u64, align: u64, count: u64, used: usize) -> Option<Placed>
+    ensures { result ≡ placed_after off size align count used }
 {
     let offset = ty::align_up(off, align)?;
     let end = ty::sum(offset, size)?;
@@ -69,6 +70,7 @@ fn place_after(off: u64, size: u64, align: u64, used: usize) -> Option<Placed>
         offset,
         end,
         align,
+        count,
         used,
     })
 }
@@ -79,10 +81,10 @@ fn place_field(table: &Table, t: u64, c: u64, desc: &[u8], used: usize, off: u64
     ensures { result ≡ field_at (part_laid table.now t c (drop used desc.now) 64) off }
 {
     if let Some(n) = layout::scalar_bytes(table, t, c) {
-        return place_after(off, n, n, 0);
+        return place_after(off, n, n, 1, 0);
     }
     let l = layout::layout_below(table, t, c, &desc[used..], 64).ok()?;
-    place_after(off, l.size, l.align, l.used)
+    place_after(off, l.size, l.align, l.count, l.used)
 }
 
 // What a field of type t with the constant c is to a tracer.
@@ -341,7 +343,7 @@ impl Tracer<'_, '_, '_> {
         )
     }
 
-    // A field: a handle or a scalar without looking further, anything else as one element would be.
+    // A field: an array without elements, a handle or a scalar without looking further, anything else as one element would be.
     // Kept: a type, its descriptor and the levels left are other ones at each step down, so that a struct of them would be put together anew for each call.
     #[cycle(trace_array_trace_each_trace_elems_trace_field_trace_in_trace_parts_trace_record_trace_records)]
     fn trace_field(
@@ -351,18 +353,22 @@ impl Tracer<'_, '_, '_> {
         desc: &[u8],
         used: usize,
         left: u64,
+        empty: bool,
         at: usize,
         marks: &mut [u8],
         to: &mut [u64],
         n: usize,
     ) -> Option<usize>
-        requires { (used ≤ length desc.now) × (at ≤ length self.now.object.now) }
+        requires { (used ≤ length desc.now) × (at ≤ length self.now.object.now) × (empty ≡ true → Counts (part_laid self.now.table t c (drop used desc.now) 64) 0) }
         ensures { told result marks.new to.new ≡
             handing_at (aimed self.now) self.now.object.now (raw_of marks.old to.old n)
             (below_places self.now.table (length self.now.object.now) t c (drop used desc.now) left at) }
     {
         if left == 0 {
             return None;
+        }
+        if empty {
+            return Some(n);
         }
         let l = leaf_at(&self.table, t, c);
         match l {
@@ -406,7 +412,8 @@ impl Tracer<'_, '_, '_> {
             if self.object.len() - at < o {
                 return None;
             }
-            m = self.trace_field(t, c, desc, used, left, at + o, marks, to, m)?;
+            let empty = l.count == 0;
+            m = self.trace_field(t, c, desc, used, left, empty, at + o, marks, to, m)?;
             off = l.end;
             align = align.max(l.align);
             used += layout::used_by(c, l.used);

@@ -9,6 +9,7 @@ pub mod heaps;
 pub mod held_changes;
 pub mod held_collections;
 pub mod held_collections_joined;
+pub mod held_countings;
 pub mod held_objects;
 pub mod held_readings;
 pub mod held_tables;

@@ -3,7 +3,7 @@ use Rattle.std.specs.Prelude.{ℕ, ◌≤◌, ◌≡◌, length}
 use Rattle.std.specs.Prelude.{Result as Outcome, Ok, Err}
 use Rattle.word.specs.Result.{Result, ok, refused}
 use Rattle.heap.specs.State.{data_size}
-use Rattle.heap.specs.Lent.{Lent, stored, view}
+use Rattle.heap.specs.Lent.{Lent, stored, view, slot_count, pool_size}
 use Rattle.figures.specs.declared.Figures.{Figures}
 use Rattle.figures.specs.Figures.{no_figures}
 
@@ -11,11 +11,12 @@ use Rattle.figures.specs.Figures.{no_figures}
 abbrev pub one : ℕ → Figures
 one n = record { objects = 1; bytes = n; largest = n }
 
--- lent memory in which a heap lies that fits there
+-- lent memory of a size that a heap may have, in which one lies that fits there
 pub record Lies (l : Lent) : Type 0 where
-  pub lies : l ≡ stored 4096 16384 (view l)
-  pub slots : length (view l).slots ≤ 4096
-  pub bytes : data_size (view l).slots ≤ 16384
+  pub sizes : (1 ≤ slot_count l) × (slot_count l ≤ 16777216) × (pool_size l ≤ 1073741824)
+  pub lies : l ≡ stored (slot_count l) (pool_size l) (view l)
+  pub slots : length (view l).slots ≤ slot_count l
+  pub bytes : data_size (view l).slots ≤ pool_size l
 
 -- a page's figures are within its heap
 pub record Small (f : Figures) : Type 0 where

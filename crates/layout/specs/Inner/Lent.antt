@@ -1,5 +1,6 @@
 -- What the contracts of the layout's functions cite: the definitions, at the lists of the four lent slices.
 use Rattle.std.specs.Prelude.{ℕ, suc, ◌+◌, ◌*◌, ◌/◌, ◌≤◌, ◌<◌, ◌≡◌, List, eqb, length, get_or, Option, Some, None, IsSome, Ok, if◌then◌else◌}
+use Rattle.word.specs.Put.{put}
 use Rattle.ty.specs.Types.{type_at, none}
 use Rattle.ty.specs.Scalars.{scalar_size}
 use Rattle.ty.specs.View.{entry_at, lent, fields_from}
@@ -49,3 +50,17 @@ ScalarRecord T t places r = (i n : ℕ) → r ≡ Some (i, n) → ScalarRow T t 
 pub record ScalarsLaid (T : Table) (i n : ℕ) (out out' : List ℕ) (l : Layout) : Type 0 where
   pub answer : (d : List ℕ) → told (Ok (l, n)) ≡ listed_in (record_in T i n d 64) n (length out)
   pub written : (d : List ℕ) → out' ≡ written_by (told (Ok (l, n))) (offsets_in T i n d) out
+
+-- type t is a record of n fields from i on, few enough for one walk and for a list of so many places
+pub record FewRow (T : Table) (t places i n : ℕ) : Type 0 where
+  pub row : entry_at T.types.now (length T.fields.now / 2) t ≡ Some (Record i n)
+  pub room : n ≤ places
+  pub few : n ≤ 16
+
+abbrev pub FewFields : Table → ℕ → ℕ → Option (ℕ × ℕ) → Type 0
+FewFields T t places r = (i n : ℕ) → r ≡ Some (i, n) → FewRow T t places i n
+
+-- the layout of n fields from i on, and where there is one their offsets
+pub record FieldsListed (T : Table) (i n : ℕ) (d out out' : List ℕ) (r : Lay) : Type 0 where
+  pub answer : r ≡ record_in T i n d 64
+  pub written : (l : Layout) → r ≡ Ok l → out' ≡ put out 0 (offsets_in T i n d) (length (offsets_in T i n d))

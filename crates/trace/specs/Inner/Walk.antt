@@ -29,14 +29,19 @@ leaf_of protected = Own
 unfoldable pub part_leaf : Lent → ℕ → ℕ → Leaf
 part_leaf T t c = if eqb c no_const then leaf_of (type_at (lent T).types t) else Deep
 
--- where a field of size s and alignment a lies that comes after off and uses u of the descriptor
-abbrev pub placed_after : ℕ → ℕ → ℕ → ℕ → Maybe Placed
-placed_after off s a u = on_word None (word_of (round_up off a)) (λ o. on_word None (word_of (o + s)) (λ e. Some (record { offset = o; end = e; align = a; used = u })))
+-- where a field of size s and alignment a lies that comes after off, has n elements and uses u of the descriptor
+abbrev pub placed_after : ℕ → ℕ → ℕ → ℕ → ℕ → Maybe Placed
+placed_after off s a n u = on_word None (word_of (round_up off a)) (λ o. on_word None (word_of (o + s)) (λ e. Some (record { offset = o; end = e; align = a; count = n; used = u })))
 
 -- the same of a layout
 abbrev pub field_at : Lay → ℕ → Maybe Placed
-field_at (Ok l) off = placed_after off l.size l.align l.used
+field_at (Ok l) off = placed_after off l.size l.align l.count l.used
 field_at (Err e) off = None
+
+-- a layout of n elements; what is no array has one
+abbrev pub Counts : Lay → ℕ → Type 0
+Counts (Ok l) n = l.count ≡ n
+Counts (Err e) n = ⊥
 
 abbrev pub if_placed : Maybe Placed → (Placed → Places) → Places
 if_placed (Some p) f = f p

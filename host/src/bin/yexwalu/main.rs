@@ -2,16 +2,18 @@
 mod dot;
 mod input;
 mod same;
+mod seen;
 mod show;
 mod types;
 
 use input::Text;
+use seen::Seen;
 use std::ffi::{OsStr, OsString};
 use std::fs::{self, File};
 use std::io::{self, BufWriter, ErrorKind, Write};
 use std::process::ExitCode;
 use types::Types;
-use yexwalu::{page_stops, Column, Form, Handle, Heap, ObjectRef, Refusal};
+use yexwalu::{page_stops, Column, Figures, Form, Handle, Heap, Refusal};
 
 const HELP: &str = "\
 Questions about pages: the heaps of saved VHDL runs as text (docs/FORMAT.md).
@@ -143,45 +145,12 @@ fn check(files: &[&OsStr], out: &mut Out) -> io::Result<u8> {
     Ok(status)
 }
 
-// Objects, bytes of their data, and the most that one of them has.
-#[derive(Clone, Copy, Default)]
-struct Figures {
-    objects: u64,
-    bytes: u64,
-    largest: u64,
-}
-
-impl Figures {
-    fn of(objects: impl Iterator<Item = u64>) -> Figures {
-        objects.fold(Figures::default(), |f, size| f.and(Figures { objects: 1, bytes: size, largest: size }))
-    }
-
-    // no sum of files that were read is past 64 bits
-    fn and(self, other: Figures) -> Figures {
-        Figures {
-            objects: self.objects + other.objects,
-            bytes: self.bytes + other.bytes,
-            largest: self.largest.max(other.largest),
-        }
-    }
-
-    fn line(self, page: usize, answer: u64) -> String {
-        let (mean, rest) = (self.bytes.checked_div(self.objects).unwrap_or(0), self.bytes.checked_rem(self.objects).unwrap_or(0));
-        format!("{page},{answer},{},{},{},{mean},{rest}", self.objects, self.bytes, self.largest)
-    }
-}
-
-fn figures(heap: &Heap) -> Result<Figures, Refusal> {
-    let size = |object: ObjectRef| object.bytes().len() as u64;
-    Ok(Figures::of(heap.view()?.objects().map(size)))
-}
-
 fn shelf(files: &[&OsStr], out: &mut Out) -> io::Result<u8> {
     let (mut status, mut all) = (0, Figures::default());
     heard(writeln!(out, "page,answer,objects,bytes,largest,mean,rest"))?;
     for (name, page) in files.iter().zip(1..) {
         let answer = match opened(name) {
-            Some((_, opened)) => opened.and_then(|(heap, _)| figures(&heap)),
+            Some((_, opened)) => opened.and_then(|(heap, _)| heap.figures()),
             None => {
                 status = USAGE;
                 Err(Refusal::Page)
@@ -190,15 +159,15 @@ fn shelf(files: &[&OsStr], out: &mut Out) -> io::Result<u8> {
         match answer {
             Ok(figures) => {
                 all = all.and(figures);
-                heard(writeln!(out, "{}", figures.line(page, 0)))?;
+                heard(out.write_all(&figures.line(page, 0)))?;
             }
             Err(why) => {
                 status = status.max(NO);
-                heard(writeln!(out, "{}", Figures::default().line(page, why.number())))?;
+                heard(out.write_all(&Figures::default().line(page, why.number())))?;
             }
         }
     }
-    heard(writeln!(out, "{}", all.line(0, 0)))?;
+    heard(out.write_all(&all.line(0, 0)))?;
     Ok(status)
 }
 
@@ -235,7 +204,12 @@ fn types_of(name: Option<&OsStr>) -> Result<Types, u8> {
 }
 
 fn show(name: &OsStr, dot: bool, table: Option<&OsStr>, out: &mut Out) -> io::Result<u8> {
-    let print = |types: Types| asked(name, |heap| Ok(if dot { dot::print(heap.view()?, &types, out) } else { show::print(heap.view()?, &types, out) }));
+    let print = |types: Types| {
+        asked(name, |heap| {
+            let seen = Seen::of(heap, &types)?;
+            Ok(if dot { dot::print(&seen, out) } else { show::print(&seen, out) })
+        })
+    };
     ended(types_of(table).and_then(print))
 }
 

@@ -15,8 +15,8 @@ pub fn roots(heap: &Heap, given: Option<&[Handle]>) -> Result<Option<Vec<Handle>
     if let Some(given) = given {
         return Ok(Some(given.to_vec()));
     }
-    let sealed: Vec<Handle> = heap.view()?.sealed().collect();
-    Ok((!sealed.is_empty()).then_some(sealed))
+    let sealed = heap.view()?.sealed();
+    Ok((!sealed.is_empty()).then(|| sealed.to_vec()))
 }
 
 /// A page: its heap, and where the comparison starts.

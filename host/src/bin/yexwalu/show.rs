@@ -1,7 +1,7 @@
 //! A heap as text for people.
+use crate::seen::{Object, Seen};
 use std::io::{self, Write};
-use crate::types::Types;
-use yexwalu::{Handle, Kind, ObjectRef, Refusal, Slot, View};
+use yexwalu::{Handle, Kind, Refusal, Slot};
 
 // So many bytes of an object are shown.
 const BYTES: usize = 32;
@@ -15,25 +15,25 @@ pub fn kind(kind: Kind) -> String {
     }
 }
 
-/// Where a handle leads.
-pub fn leads(view: View, handle: Handle) -> String {
-    match view.resolve(handle) {
-        Ok(object) => format!("slot {}", object.slot()),
+// Where a handle leads.
+fn leads(seen: &Seen, handle: Handle) -> String {
+    match seen.resolve(handle) {
+        Ok(slot) => format!("slot {slot}"),
         Err(Refusal::WrongHeap) => format!("nowhere here: the heap of tag {}", handle.tag()),
         Err(why) => format!("nowhere: {}", why.word()),
     }
 }
 
-fn list(slots: impl ExactSizeIterator<Item = Slot>) -> String {
-    let words: Vec<String> = slots.map(|s| s.to_string()).collect();
+fn list(slots: &[Slot]) -> String {
+    let words: Vec<String> = slots.iter().map(Slot::to_string).collect();
     if words.is_empty() {
         return "none".into();
     }
     words.join(" ")
 }
 
-fn data(object: &ObjectRef) -> String {
-    let Some(data) = object.data() else {
+fn data(data: Option<&[u8]>) -> String {
+    let Some(data) = data else {
         return "nothing visible".into();
     };
     let front = &data[..data.len().min(BYTES)];
@@ -43,32 +43,27 @@ fn data(object: &ObjectRef) -> String {
     format!("{}  |{text}|{more}", hex.join(" "))
 }
 
-fn object(view: View, types: &Types, o: ObjectRef, out: &mut impl Write) -> io::Result<()> {
-    let (stamp, size) = (o.stamp(), o.bytes().len());
-    write!(out, "slot {}, handle {}: {}", o.slot(), o.handle(), kind(o.kind()))?;
-    if let Kind::Typed(ty) = o.kind() {
-        // a name may have its literals after a colon
-        let name = types.name(ty).split(':').next().unwrap_or_default();
-        write!(out, "{}{name}", if name.is_empty() { "" } else { " " })?;
-    }
-    write!(out, ", generation {}, {} writes, {size} bytes", stamp.generation, stamp.writes)?;
-    if o.start() != 0 {
-        write!(out, ", visible from byte {} on", o.start())?;
+fn object(seen: &Seen, o: &Object, out: &mut impl Write) -> io::Result<()> {
+    let name = seen.name(o.kind);
+    write!(out, "slot {}, handle {}: {}", o.slot, o.whole.handle(), kind(o.kind))?;
+    write!(out, "{}{name}", if name.is_empty() { "" } else { " " })?;
+    write!(out, ", generation {}, {} writes, {} bytes", o.stamp.generation, o.stamp.writes, o.whole.bytes().len())?;
+    if o.whole.start() != 0 {
+        write!(out, ", visible from byte {} on", o.whole.start())?;
     }
     writeln!(out)?;
-    if o.data() != Some(&[]) {
-        writeln!(out, "    {}", data(&o))?;
+    if o.data != Some(&[]) {
+        writeln!(out, "    {}", data(o.data))?;
     }
-    match types.handles(&o) {
-        Ok(handles) => handles.iter().try_for_each(|h| writeln!(out, "    {h} leads to {}", leads(view, *h))),
+    match seen.handles(o) {
+        Ok(handles) => handles.iter().try_for_each(|h| writeln!(out, "    {h} leads to {}", leads(seen, *h))),
         Err(why) => writeln!(out, "    its handles can't be found: {}", why.word()),
     }
 }
 
-pub fn print(view: View, types: &Types, out: &mut impl Write) -> io::Result<()> {
-    let h = view.header();
-    let (count, bytes) = view.objects().fold((0, 0), |(n, size), o| (n + 1, size + o.bytes().len()));
-    writeln!(out, "heap of tag {}: {} slots, {count} objects, {bytes} bytes of data", h.tag, h.slots)?;
+pub fn print(seen: &Seen, out: &mut impl Write) -> io::Result<()> {
+    let (h, view) = (seen.view.header(), seen.view);
+    writeln!(out, "heap of tag {}: {} slots, {} objects, {} bytes of data", h.tag, h.slots, seen.figures.objects, seen.figures.bytes)?;
     writeln!(out, "since_gc {}, reclaim_at {}, live_bytes {}", h.since_gc, h.reclaim_at, h.live_bytes)?;
     writeln!(out, "free slots: {}", list(view.free()))?;
     writeln!(out, "slots in quarantine: {}", list(view.quarantine()))?;
@@ -77,7 +72,7 @@ pub fn print(view: View, types: &Types, out: &mut impl Write) -> io::Result<()> 
     }
     writeln!(out, "sealed handles: {}", h.sealed)?;
     for handle in view.sealed() {
-        writeln!(out, "    {handle} leads to {}", leads(view, handle))?;
+        writeln!(out, "    {handle} leads to {}", leads(seen, *handle))?;
     }
-    view.objects().try_for_each(|o| object(view, types, o, out))
+    seen.objects().try_for_each(|o| object(seen, &o, out))
 }

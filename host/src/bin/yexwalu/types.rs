@@ -1,5 +1,6 @@
 //! The type table that objects are shown by, where one is given.
-use yexwalu::{CheckedTable, Handle, Kind, ObjectRef, Refusal, TypeId, TypeTable};
+use crate::seen::Object;
+use yexwalu::{CheckedTable, Handle, Heap, Kind, Refusal, TypeId, TypeTable};
 
 /// A type table and the names of its types.
 #[derive(Default)]
@@ -25,12 +26,13 @@ impl Types {
         self.table.as_deref()
     }
 
-    /// The handles that an object shows. Those of an object of a type are found by the table alone.
-    pub fn handles(&self, object: &ObjectRef) -> Result<Vec<Handle>, Refusal> {
-        match (object.kind(), &self.table) {
-            (Kind::Typed(_), None) => Ok(Vec::new()),
-            (_, Some(table)) => object.handles(table),
-            _ => object.handles(&TypeTable::new()),
+    /// The handles that an object shows. Those of an object of a type are found by the table alone, and where it shows nothing there are none.
+    pub fn handles(&self, heap: &Heap, object: &Object) -> Result<Vec<Handle>, Refusal> {
+        match (object.kind, &self.table, object.data) {
+            (Kind::Typed(ty), Some(table), Some(data)) => table.object_handles(ty, data),
+            (Kind::Typed(_), ..) => Ok(Vec::new()),
+            // no type is looked at
+            _ => heap.slot_handles(&TypeTable::new(), object.slot),
         }
     }
 

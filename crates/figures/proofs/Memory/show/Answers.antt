@@ -9,4 +9,4 @@ pub count-requires : goal.count-requires
 count-requires c = show-lies c.new.result c.args.self.now.narrow c.args.self.now.wide c.args.self.now.pool c.args.self.now.marks c.args.self.now.work _ (omega arith) (omega arith) (omega arith) (omega arith) (omega arith) c.yexwalu_read_page-done.ensures c.if-number-ne0.false
 
 pub returns : goal.returns
-returns c = record { value = show-done c.new.result c.args.self.now.narrow c.args.self.now.wide c.args.self.now.pool c.args.self.now.marks c.args.self.now.work _ (omega arith) (omega arith) (omega arith) (omega arith) (omega arith) c.yexwalu_read_page-done.ensures c.if-number-ne0.false _ c.count.ensures.value; small = c.count.ensures.small }
+returns c = record { value = show-done c.new.result c.args.self.now.narrow c.args.self.now.wide c.args.self.now.pool c.args.self.now.marks c.args.self.now.work _ (omega arith) (omega arith) (omega arith) (omega arith) (omega arith) c.yexwalu_read_page-done.ensures c.if-number-ne0.false _ c.count.ensures.value; small = record { objects = omega (arith, c.count.ensures.within.0); bytes = omega (arith, c.count.ensures.within.1) } }

@@ -3,9 +3,11 @@ use mathlib.Core.Logic.{⊎_elim}
 use native.Mathlib.Omega.{arith}
 use borrow.Author.Rules.{rules}
 use Rattle.std.specs.Prelude.{is_err}
+use borrow.Author.Tests.{eqb-true}
 use Rattle.ty.proofs.Ranges.{record-within, part-start, part_end}
 use Rattle.trace.proofs.Emits.{elems-end, elems-beyond, elems-fail, elems-next, elems-first}
-use Rattle.trace.proofs.TraceLaws.{no-layout, a-layout, array-none, array-fits, array-some, looked-records, part-zero, part-own, part_free, part-one}
+use Rattle.trace.proofs.TraceLaws.{no-layout, a-layout, array-none, array-fits, array-some, looked-records, part-zero, part-own, part_free, part-one, placed-counts}
+use Rattle.trace.proofs.Vacant.{part-vacant}
 use Rattle.trace.proofs.TraceLaws.{in-zero, in-plain, in-missing, in-access, in-protected, in_array, in-record, in-other}
 use Rattle.trace.proofs.TraceLaws.{parts-rest, parts-end, parts-nowhere, parts-const}
 use Rattle.trace.proofs.TraceLaws.{walk_first, fields-end, fields-over, field-unplaced, field-used, field-beyond, field-fail, field_next}
@@ -64,6 +66,9 @@ trace_elems-returns t c = looked-records c.args.self.now.table _ _ _ _ _ _ _ c.r
 
 pub trace_field-returns-then-left-eq0 : goal.trace_field-returns-then-left-eq0
 trace_field-returns-then-left-eq0 t c = part-zero c.args.self.now.table _ _ _ _ _ _ _ _ c.if-left-eq0.true
+
+pub trace_field-returns-then-empty : goal.trace_field-returns-then-empty
+trace_field-returns-then-empty t c = part-vacant c.args.self.now.table _ _ _ _ _ _ _ _ c.if-left-eq0.false (c.requires.2 c.if-empty.true)
 
 pub trace_field-trace_parts-requires : goal.trace_field-trace_parts-requires
 trace_field-trace_parts-requires t c = (omega arith, c.has_handles-holds.ensures)
@@ -151,7 +156,8 @@ pub trace_record-overflow_add-at : goal.trace_record-overflow_add-at
 trace_record-overflow_add-at t c = omega (arith, c.if-self-at.false, c.requires.1, c.well_formed)
 
 pub trace_record-trace_field-requires : goal.trace_record-trace_field-requires
-trace_record-trace_field-requires t c = (omega arith, (c.loop-i.invariant.0, omega (arith, c.if-self-at.false, c.requires.1)))
+trace_record-trace_field-requires t c =
+    (omega arith, (c.loop-i.invariant.0, omega (arith, c.if-self-at.false, c.requires.1), λ h. placed-counts _ _ _ (sym c.place_field.ensures ∙ c.in_ok-l.was) 0 (eqb-true _ _ h)))
 
 pub trace_record-returns-in_err-m : goal.trace_record-returns-in_err-m
 trace_record-returns-in_err-m t c = rw c.from_residual-in_err-m.ensures (field-fail _ _ _ _ _ _ _ _ _ _ _ _ _ _ _ _ _ c.loop-i.invariant.1 c.loop-i-test.true _ c.place_field.ensures _ c.in_ok-l.was c.requires.1 c.if-self-at.false c.trace_field.result c.trace_field.new.marks c.trace_field.new.to c.trace_field.ensures c.in_err-m.was)
