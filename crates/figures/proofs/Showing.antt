@@ -9,7 +9,7 @@ use Rattle.word.specs.Result.{Result, ok, refused}
 use Rattle.refusal.specs.Told.{answered}
 use Rattle.refusal.specs.declared.Answer.{Answer}
 use Rattle.heap.specs.State.{State, data_size}
-use Rattle.heap.specs.Lent.{Lent, lent, stored, view, slot_count}
+use Rattle.heap.specs.Lent.{Lent, lent, stored, view, slot_count, pool_size}
 use Rattle.heap.specs.Sizes.{sizes_fit}
 use Rattle.heap.specs.declared.Heap.{Heap}
 use Rattle.heap.proofs.Placing.{count-is, pool-long}

@@ -96,9 +96,9 @@ head-length true h a b c d e f g i j =
     (omega (
       arith,
       short h.tag a,
-      long h.since_gc b,
+      digits-few h.since_gc b,
       decimal-length 7 h.reclaim_at (omega arith),
-      long h.live_bytes d,
+      digits-few h.live_bytes d,
       middle (length h.slots) e,
       middle (length h.free) f,
       middle (length h.quarantine) g,
@@ -110,9 +110,9 @@ head-length false h a b c d e f g i j =
     (omega (
       arith,
       short h.tag a,
-      long h.since_gc b,
+      digits-few h.since_gc b,
       decimal-length 7 h.reclaim_at (omega arith),
-      long h.live_bytes d,
+      digits-few h.live_bytes d,
       middle (length h.slots) e,
       middle (length h.free) f,
       middle (length h.quarantine) g,
