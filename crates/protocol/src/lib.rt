@@ -1,11 +1,10 @@
-// A script of calls as text, for the program `replay`: the fields of a line, and answers. Nothing here calls the front door.
+// A script of calls as text, for the program `replay`: the fields of a line. Nothing here calls the front door.
 #![tactic(auto)]
 
 ghost use Rattle.std.specs.Prelude.{◌≡◌, ℕ, ◌<◌, ◌≢◌, length, slice_index, All, IsNone, IfSome};
 ghost use Rattle.protocol.specs.declared.Fault.TheVariants.{Bad, Io};
 
 pub mod fields;
-pub mod write;
 
 use std::alloc::{AllocError, AllocFailed};
 use std::io;

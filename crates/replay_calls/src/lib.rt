@@ -1,15 +1,14 @@
 // The commands of the program `replay` that ask a heap.
 #![tactic(auto)]
 
-use heap::Heap;
+use answers::{Hex, List, front, put_answer, put_told};
 use protocol::fields::Fields;
-use protocol::write::{Hex, List, front, put_answer, put_page, put_told};
 use protocol::{Fault, NoCommand};
 use refusal::Answer;
-use replay_kept::{Kept, Scratch};
+use replay_kept::{Kept, ask};
 use std::io;
 use std::str::FromStr;
-use yexwalu::{heaps, page};
+use yexwalu::heaps;
 
 #[derive(Clone, Copy, Debug, PartialEq, Eq)]
 pub enum Question {
@@ -22,8 +21,6 @@ pub enum Question {
     Kind,
     Stamp,
     Slots,
-    Page,
-    PageLength,
     Epoch,
 }
 
@@ -41,42 +38,10 @@ impl FromStr for Question {
             "kind" => Ok(Question::Kind),
             "stamp" => Ok(Question::Stamp),
             "slots" => Ok(Question::Slots),
-            "page" => Ok(Question::Page),
-            "pagelen" => Ok(Question::PageLength),
             "epoch" => Ok(Question::Epoch),
             _ => Err(NoCommand),
         }
     }
-}
-
-// Has a page planes? Data also where nothing is said.
-fn read_planar(line: &mut Fields) -> Result<bool, Fault> {
-    if line.is_empty() {
-        return Ok(false);
-    }
-    match line.name() {
-        "data" => Ok(false),
-        "planes" => Ok(true),
-        _ => Err(Fault::Bad),
-    }
-}
-
-// What a call answers that is lent the heap and scratch.
-fn ask<F: FnOnce(Heap, &[u32], &[u64], &[u8], &mut [u8], &mut [u64]) -> Answer>(
-    kept: &Kept,
-    call: F,
-) -> Answer
-    requires { F.IsAlwaysCallable call }
-{
-    let mut s = Scratch::new();
-    call(
-        kept.heap,
-        &kept.narrow,
-        &kept.wide,
-        &kept.pool,
-        &mut s.marks,
-        &mut s.work,
-    )
 }
 
 // The slots and the live ones as one answer.
@@ -90,15 +55,6 @@ fn put_counts(rt: &impl Print, kept: &Kept) -> io::Result<()> {
         ask(kept, heaps::live),
         |live, _| print!(rt; " {} {live}", slots.first),
     )
-}
-
-// The page, on one line.
-fn show_page(rt: &impl Print, kept: &Kept, planar: bool) -> io::Result<()> {
-    let mut text = [0u8; 262144];
-    let a = ask(kept, |heap, narrow, wide, pool, marks, work| {
-        page::write_page(heap, narrow, wide, pool, planar, &mut text, marks, work)
-    });
-    put_told(rt, a, |length, _| put_page(rt, &mut text, length))
 }
 
 // Visible data, which lies in the pool.
@@ -148,12 +104,6 @@ fn stamp(kept: &Kept, i: usize) -> Answer {
     })
 }
 
-fn page_length(kept: &Kept, planar: bool) -> Answer {
-    ask(kept, |heap, narrow, wide, pool, marks, work| {
-        page::page_length(heap, narrow, wide, pool, planar, marks, work)
-    })
-}
-
 /// Answers a question.
 // Kept: a `match` on the question, since each has fields of its own to read.
 pub fn answer(
@@ -172,8 +122,6 @@ pub fn answer(
         Question::Kind => put_answer(rt, kind(kept, line.slot()?), 2)?,
         Question::Stamp => put_answer(rt, stamp(kept, line.slot()?), 2)?,
         Question::Slots => put_counts(rt, kept)?,
-        Question::Page => show_page(rt, kept, read_planar(line)?)?,
-        Question::PageLength => put_answer(rt, page_length(kept, read_planar(line)?), 1)?,
         Question::Epoch => show_epoch(rt, kept)?,
     }
     Ok(())

@@ -4,11 +4,11 @@
 ghost use Rattle.std.specs.Prelude.{◌≡◌, IfErr};
 ghost use Rattle.protocol.specs.declared.Fault.TheVariants.{Bad};
 
+use answers::put_answer;
 use door::Done;
 use protocol::fields::{Fields, HALF, WORD};
-use protocol::write::put_answer;
 use protocol::{Fault, NoCommand};
-use replay_kept::code::Function;
+use replay_code::Function;
 use replay_kept::table::Table;
 use replay_kept::{Kept, Scratch};
 use std::str::FromStr;

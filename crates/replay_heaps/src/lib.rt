@@ -4,9 +4,9 @@
 ghost use Rattle.std.specs.Prelude.{◌≡◌, IfErr};
 ghost use Rattle.protocol.specs.declared.Fault.TheVariants.{Bad};
 
+use answers::{put_answer, put_told};
 use door::Done;
 use protocol::fields::Fields;
-use protocol::write::{put_answer, put_told};
 use protocol::{Fault, NoCommand};
 use refusal::Answer;
 use replay_kept::{Kept, MOST_POOL, MOST_SLOTS, Scratch};

@@ -1,2 +1,1 @@
--- What a line leaves of a type table and a function.
 pub mod Inner

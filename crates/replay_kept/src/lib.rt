@@ -1,14 +1,15 @@
-// What the program `replay` keeps from line to line: a heap, the type table and the function that lines make; and the scratch that a call is lent.
+// What the program `replay` keeps from line to line: a heap, and the type table that lines make; and how a call is lent a heap and scratch.
 #![tactic(auto)]
 
 ghost use Rattle.std.specs.Prelude.{◌≡◌, [], length, replicate, IfOk};
 ghost use Rattle.heap.specs.Lent.{header_of};
 ghost use Rattle.heap.specs.Calls.{new as new_heap};
 
+use door::Done;
 use heap::Heap;
+use refusal::Answer;
 use std::alloc::{AllocError, Global};
 
-pub mod code;
 pub mod table;
 
 /// The most slots and bytes of a heap.
@@ -69,4 +70,42 @@ impl Scratch {
             work: [7; 8192],
         }
     }
+}
+
+/// What a call answers that is lent the heap and scratch.
+pub fn ask<F: FnOnce(Heap, &[u32], &[u64], &[u8], &mut [u8], &mut [u64]) -> Answer>(
+    kept: &Kept,
+    call: F,
+) -> Answer
+    requires { F.IsAlwaysCallable call }
+{
+    let mut s = Scratch::new();
+    call(
+        kept.heap,
+        &kept.narrow,
+        &kept.wide,
+        &kept.pool,
+        &mut s.marks,
+        &mut s.work,
+    )
+}
+
+/// The answer of a call that is lent the heap and scratch, and whose header is the heap's from now on.
+pub fn settle<F: FnOnce(Heap, &mut [u32], &mut [u64], &mut [u8], &mut [u8], &mut [u64]) -> Done>(
+    kept: &mut Kept,
+    call: F,
+) -> Answer
+    requires { F.IsAlwaysCallable call }
+{
+    let mut s = Scratch::new();
+    let done = call(
+        kept.heap,
+        &mut kept.narrow,
+        &mut kept.wide,
+        &mut kept.pool,
+        &mut s.marks,
+        &mut s.work,
+    );
+    kept.heap = done.heap;
+    done.answer
 }

@@ -6,8 +6,8 @@ ghost use Rattle.std.specs.Prelude.{◌≡◌, true, [], length, IfOk};
 use protocol::Fault;
 use protocol::fields::Fields;
 use replay_changes::Change;
+use replay_code::Function;
 use replay_collections::Collection;
-use replay_kept::code::{self, Function};
 use replay_kept::table::{self, Table};
 use replay_kept::{Kept, MOST_POOL, MOST_SLOTS};
 use std::alloc::{AllocError, Global};
@@ -62,8 +62,14 @@ impl State {
         if let Ok(command) = name.parse::<replay_heaps::Command>() {
             return replay_heaps::answer(rt, command, line, &mut self.kept);
         }
+        if let Ok(change) = name.parse::<replay_objects::Change>() {
+            return replay_objects::answer(rt, change, line, &mut self.kept);
+        }
         if let Ok(change) = name.parse::<Change>() {
             return replay_changes::answer(rt, change, line, &mut self.kept);
+        }
+        if let Ok(question) = name.parse::<replay_pages::Question>() {
+            return replay_pages::answer(rt, question, line, &self.kept);
         }
         if let Ok(question) = name.parse::<replay_calls::Question>() {
             return replay_calls::answer(rt, question, line, &self.kept);
@@ -90,7 +96,7 @@ impl State {
         if let Ok(command) = name.parse::<table::Command>() {
             return self.table.run(rt, command, line);
         }
-        if let Ok(command) = name.parse::<code::Command>() {
+        if let Ok(command) = name.parse::<replay_code::Command>() {
             return self.code.run(rt, command, line);
         }
         if let Ok(command) = name.parse::<replay_tables::Command>() {

@@ -1,10 +1,10 @@
 // The commands of the program `replay` that ask about the function: the registers that are live at a safepoint, or at all of them.
 #![tactic(auto)]
 
+use answers::{List, front, put_told};
 use protocol::fields::{BYTE, Fields, HALF};
-use protocol::write::{List, front, put_told};
 use protocol::{Fault, NoCommand};
-use replay_kept::code::Function;
+use replay_code::Function;
 use std::io;
 use std::str::FromStr;
 use yexwalu::live;

@@ -1,9 +1,9 @@
 // The command of the program `replay` that rehearses collection thresholds, in memory of its own: the heap of the script stays as it is.
 #![tactic(auto)]
 
+use answers::{put_page, put_told};
 use protocol::Fault;
 use protocol::fields::{Fields, WORD};
-use protocol::write::{put_page, put_told};
 use refusal::Answer;
 use replay_kept::Kept;
 use replay_kept::table::Table;

@@ -4,8 +4,8 @@
 ghost use Rattle.std.specs.Prelude.{◌≡◌, ◌≢◌};
 ghost use Rattle.replay_saves.specs.declared.Command.TheVariants.{Swap};
 
+use answers::{put_answer, put_told};
 use protocol::fields::{Fields, WORD};
-use protocol::write::{put_answer, put_told};
 use protocol::{Fault, NoCommand};
 use refusal::Answer;
 use replay_kept::table::Table;

@@ -5,8 +5,8 @@ ghost use Rattle.std.specs.Prelude.{◌≡◌, ◌≢◌, IfErr};
 ghost use Rattle.protocol.specs.declared.Fault.TheVariants.{Bad};
 ghost use Rattle.replay_tables.specs.declared.Command.TheVariants.{Write};
 
+use answers::{put_page, put_told};
 use protocol::fields::Fields;
-use protocol::write::{put_page, put_told};
 use protocol::{Fault, NoCommand};
 use replay_kept::table::{MOST_BYTES, MOST_CONSTS, MOST_FIELDS, MOST_TYPES, Table};
 use std::alloc::{AllocError, Global};

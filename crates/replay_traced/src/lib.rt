@@ -1,8 +1,8 @@
 // The commands of the program `replay` that trace a heap by the type table and leave it as it is: the handles of a slot, the roots for wanted slots, and whether all slots can be traced.
 #![tactic(auto)]
 
+use answers::{List, front, put_told};
 use protocol::fields::Fields;
-use protocol::write::{List, front, put_told};
 use protocol::{Fault, NoCommand};
 use refusal::Answer;
 use replay_kept::table::Table;

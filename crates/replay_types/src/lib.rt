@@ -1,8 +1,8 @@
 // The commands of the program `replay` that ask about the type table: about a type, or about a frame by its map.
 #![tactic(auto)]
 
+use answers::{List, front, put_answer, put_told};
 use protocol::fields::{Fields, HALF};
-use protocol::write::{List, front, put_answer, put_told};
 use protocol::{Fault, NoCommand};
 use refusal::Answer;
 use replay_kept::table::Table;

@@ -43,10 +43,6 @@ given_or most (x ∷ xs) = decimal_of most (field_of (x ∷ xs))
 abbrev pub unfolded : ℕ → ℕ
 unfolded b = if b == 59 then 10 else b
 
--- and back
-abbrev pub folded : ℕ → ℕ
-folded b = if b == 10 then 59 else b
-
 -- what is answered where a text may spell a value
 abbrev pub or_bad : {A : Type 0} → Option A → Result A Fault
 or_bad None = Err Bad

@@ -1,9 +1,9 @@
--- `protocol::write::put_page` meets its contract.
+-- `answers::put_page` meets its contract.
 use mathlib.Core.Path.{◌≡◌}
 use mathlib.Core.List.{◌++◌, map}
 use lib.ListN.{take, drop}
-use Rattle.protocol.specs.Inner.Lines.{folded}
-use Rattle.protocol.proofs.write.put_page.Given as goal
+use Rattle.answers.specs.Inner.Folding.{folded}
+use Rattle.answers.proofs.put_page.Given as goal
 
 abbrev pub invariant-loop-b : goal.invariant-loop-b
 invariant-loop-b g l = l.page ≡ map folded (take l.b-index l.fn.page) ++ drop l.b-index l.fn.page

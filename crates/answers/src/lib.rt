@@ -1,6 +1,8 @@
-// Answers, each written to standard output.
+// Answers of a script's lines, for the program `replay`, each written to standard output.
+#![tactic(auto)]
+
 ghost use Rattle.std.specs.Prelude.{◌≡◌, map, take, OnOk, Ok};
-ghost use Rattle.protocol.specs.Inner.Lines.{folded};
+ghost use Rattle.answers.specs.Inner.Folding.{folded};
 
 use refusal::Answer;
 use std::fmt::{self, Display};

@@ -1,4 +1,6 @@
-// The function, which grows line by line.
+// The function that the program `replay` keeps, which grows line by line.
+#![tactic(auto)]
+
 ghost use Rattle.std.specs.Prelude.{◌≡◌, [], IfErr};
 ghost use Rattle.protocol.specs.declared.Fault.TheVariants.{Bad};
 
@@ -56,7 +58,7 @@ fn place(x: usize) -> Result<u32, Fault> {
 }
 
 impl Function {
-    ghost use Rattle.replay_kept.specs.Inner.Kept.{SameFunction};
+    ghost use Rattle.replay_code.specs.Inner.Kept.{SameFunction};
 
     /// A function without registers, blocks and instructions.
     pub fn new(alloc: Global) -> Function
