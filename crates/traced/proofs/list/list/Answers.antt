@@ -1,7 +1,7 @@
--- `trace::list::list` meets its contract.
+-- `traced::list::list` meets its contract.
 use native.Mathlib.Omega.{arith}
-use Rattle.trace.proofs.ListLaws.{list-failed, list-short, list-none, list_wrote}
-use Rattle.trace.proofs.list.list.Goals as goal
+use Rattle.traced.proofs.ListLaws.{list-failed, list-short, list-none, list_wrote}
+use Rattle.traced.proofs.list.list.Goals as goal
 
 pub returns-in_default : goal.returns-in_default
 returns-in_default g c = list-failed _ _ _ c.trace.new.marks c.trace.new.to _ _ c.trace.result c.trace.ensures c.in_default.is

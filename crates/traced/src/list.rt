@@ -4,11 +4,12 @@ ghost use Rattle.std.proofs.Math.Option.{Option};
 ghost use Rattle.ty.specs.View.{lent};
 ghost use Rattle.trace.specs.Places.{value_handles, object_handles, handles_of};
 ghost use Rattle.trace.specs.Inner.Emit.{raw_of, into, slots_resolve, emitting, told};
-ghost use Rattle.trace.specs.Listing.{listing, Lists};
+ghost use Rattle.traced.specs.Listing.{listing, Lists};
 
-use crate::{Sink, trace_object, trace_slot, trace_value};
+use crate::{trace_object, trace_slot, trace_value};
 use handle::Slots;
 use refusal::{Refusal, Reply};
+use trace::Sink;
 use ty::Table;
 
 // What has handles that can be traced.

@@ -1,7 +1,7 @@
--- `trace::trace_value` meets its contract.
+-- `traced::trace_value` meets its contract.
 use native.Mathlib.Omega.{arith}
-use Rattle.trace.proofs.Objects.{value-whole}
-use Rattle.trace.proofs.trace_value.Goals as goal
+use Rattle.traced.proofs.Slots.{value-whole}
+use Rattle.traced.proofs.trace_value.Goals as goal
 
 pub trace_in-requires : goal.trace_in-requires
 trace_in-requires c = (c.has_handles-holds.ensures, omega arith)

@@ -3,7 +3,7 @@ use native.Mathlib.Omega.{arith}
 use Rattle.trace.specs.Inner.Emit.{into, emitted, handed}
 use Rattle.trace.proofs.Emits.{words-all}
 use Rattle.trace.proofs.Objects.{handles-first, handles-end, handles-next}
-use Rattle.trace.proofs.trace_handles.Goals as goal
+use Rattle.traced.proofs.trace_handles.Goals as goal
 
 pub loop-i-init : goal.loop-i-init
 loop-i-init c = let e = c.saturating_sub-count.ensures in (handles-first _ _ _ _ (omega arith), omega arith)

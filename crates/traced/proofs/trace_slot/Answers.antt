@@ -1,6 +1,6 @@
--- `trace::trace_slot` meets its contract.
-use Rattle.trace.proofs.Slots.{slot-hidden, slot-one, slot-handles, slot-bytes}
-use Rattle.trace.proofs.trace_slot.Goals as goal
+-- `traced::trace_slot` meets its contract.
+use Rattle.traced.proofs.Slots.{slot-hidden, slot-one, slot-handles, slot-bytes}
+use Rattle.traced.proofs.trace_slot.Goals as goal
 
 pub returns-then-data-start : goal.returns-then-data-start
 returns-then-data-start c = search slot-hidden

@@ -1,6 +1,6 @@
--- `trace::trace_beside` meets its contract.
-use Rattle.trace.proofs.Objects.{rest-even, shown-hidden, shown_rest}
-use Rattle.trace.proofs.trace_beside.Goals as goal
+-- `traced::trace_beside` meets its contract.
+use Rattle.traced.proofs.Slots.{rest-even, shown-hidden, shown_rest}
+use Rattle.traced.proofs.trace_beside.Goals as goal
 
 pub returns-then-data-start : goal.returns-then-data-start
 returns-then-data-start c = shown-hidden _ _ _ _ _ _ _ c.if-data-start.true
