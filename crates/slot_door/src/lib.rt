@@ -4,7 +4,8 @@
 
 ghost use Rattle.std.specs.Prelude.{◌≡◌, [], ◌∷◌, ◌<◌, length, IfOk};
 ghost use Rattle.ty.specs.View.{lent as table_in};
-ghost use Rattle.traced.specs.Listing.{listing, Lists};
+ghost use Rattle.traced.specs.Listing.{listing};
+ghost use Rattle.traced.specs.Inner.Lists.{Lists};
 ghost use Rattle.heap.specs.Lent.{lent};
 ghost use Rattle.heap.specs.Inner.Seen.{seen, state};
 ghost use Rattle.door.specs.HeapCalls.{Entered, entry_of, asked};

@@ -18,7 +18,8 @@ use Rattle.refusal.specs.declared.Answer.{Answer as Numbers}
 use Rattle.std.specs.Prelude.{Ok, Err}
 use Rattle.refusal.specs.declared.Refusal.TheVariants.{Untraceable as Failed, ShortList}
 use Rattle.trace.specs.Inner.Emit.{Answer, Raw, raw_of, into, emitted, emit_all, emitting, told}
-use Rattle.traced.specs.Listing.{listing, Lists}
+use Rattle.traced.specs.Listing.{listing}
+use Rattle.traced.specs.Inner.Lists.{Lists}
 use Rattle.trace.specs.declared.Sink.TheVariants.{Check, List as ToList}
 use Rattle.trace.proofs.Emits.{check-room, check-full, list-room, ok-inj, told-traced, told-untraceable}
 

@@ -4,7 +4,8 @@ ghost use Rattle.std.proofs.Math.Option.{Option};
 ghost use Rattle.ty.specs.View.{lent};
 ghost use Rattle.trace.specs.Places.{value_handles, object_handles, handles_of};
 ghost use Rattle.trace.specs.Inner.Emit.{raw_of, into, slots_resolve, emitting, told};
-ghost use Rattle.traced.specs.Listing.{listing, Lists};
+ghost use Rattle.traced.specs.Listing.{listing};
+ghost use Rattle.traced.specs.Inner.Lists.{Lists};
 
 use crate::{trace_object, trace_slot, trace_value};
 use handle::Slots;
